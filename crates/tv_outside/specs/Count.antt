@@ -1,0 +1,14 @@
+-- Counts that stand still at the last value of a u64.
+use Rattle.std.specs.Prelude.{ℕ, ◌+◌, ◌-◌, ◌^◌, ◌<◌, min}
+
+-- the last value of a count
+abbrev pub count_max : ℕ
+count_max = 2 ^ 64 - 1
+
+-- the count n later, or its last value
+abbrev pub counted : ℕ → ℕ → ℕ
+counted old n = min (old + n) count_max
+
+-- the count rose; one that stands at its last value is taken to have risen
+abbrev pub Rose : ℕ → ℕ → Type 0
+Rose old new = new < count_max → old < new

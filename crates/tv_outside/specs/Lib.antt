@@ -1,0 +1,4 @@
+pub mod Count
+pub mod Told
+pub mod Memory
+pub mod Outcome
