@@ -1,0 +1,10 @@
+pub mod Form
+pub mod Heap
+pub mod Path
+pub mod Program
+pub mod Rules
+pub mod Run
+pub mod Spelling
+pub mod Step
+pub mod Truth
+pub mod Valid

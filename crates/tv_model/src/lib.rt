@@ -1,0 +1,23 @@
+//! The model: vocabularies, formulas, programs, and what they mean over concrete heaps.
+//!
+//! The types here are what the front end answers and what the analysis reads. The definitions of
+//! heap, truth, step and run stand in `specs/`, in classical two-valued logic alone.
+#![tactic(auto)]
+
+mod formula;
+mod items;
+mod laws;
+mod program;
+mod walk;
+
+pub use formula::{Formula, Formulas, PredId, Terms, Var, Vars};
+pub use items::{Bytes, Items, Names};
+pub use laws::{Cover, runs_stay_covered};
+pub use program::{
+    Action, Actions, Change, Edge, Edges, Head, Kind, Message, Messages, Mode, Pred, Preds,
+    Program, Props, Retain, Rule, Rules, Update, Updates, Vocab,
+};
+pub use walk::{copy, depth, free, mentions};
+
+#[cfg(test)]
+mod tests;
