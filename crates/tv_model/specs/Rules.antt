@@ -13,7 +13,8 @@ pub record IsHeap (p : ProgramForm) (h : Heap) : Type 0 where
   pub tuples_fit : (q : ℕ) (d : PredForm) → slice_get p.preds q ≡ Some d → All (IsTuple h d.arity) (extent h q)
   pub no_mark : h.fresh ≡ None
 
--- the assignment of nothing in particular: what it gives to a variable that isn't put is never read
+-- the assignment of nothing in particular: in a valid program, what it gives to a variable that isn't put is
+-- never read
 abbrev pub blank : Assignment
 blank v = 0
 

@@ -38,6 +38,7 @@ FollowsUpdate q middle picked (Some w) tuple new = AllowsChange middle picked w.
 
 -- an action takes an old heap to a new one through a middle heap, by an assignment of its picked variables
 pub record StepsThrough (p : ProgramForm) (action : ActionForm) (picked : Assignment) (old middle new : Heap) : Type 0 where
+  pub old_heap : IsHeap p old
   pub picks_individuals : All (λ v. Contains old.individuals (picked v)) action.picks
   pub precondition : IfSome action.pre (Truth old picked)
   pub is_middle : IsMiddle action.fresh old middle
@@ -47,8 +48,8 @@ pub record StepsThrough (p : ProgramForm) (action : ActionForm) (picked : Assign
   pub new_heap : IsHeap p new
   pub concrete : IsConcrete p new
 
--- each update that is given for a defined predicate is true in the middle heap exactly of the tuples
--- of kept individuals of which the predicate holds in the new, concrete heap
+-- of a tuple of kept individuals, each update that is given for a defined predicate is true in the middle
+-- heap exactly where the predicate holds in the new, concrete heap
 abbrev pub AgreesWithGiven : ProgramForm → Mode → ActionForm → Assignment → (middle new : Heap) → Type 0
 AgreesWithGiven p Recompute action picked middle new = Unit {0}
 AgreesWithGiven p Given action picked middle new =

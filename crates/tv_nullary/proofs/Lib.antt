@@ -1,0 +1,13 @@
+pub mod Shapes
+pub mod Soundness
+pub mod Truths
+pub mod Updating
+pub mod Distribution
+pub mod Exploring
+pub mod Beginning
+pub mod Following
+pub mod Growing
+pub mod KeySet
+pub mod Meeting
+pub mod Same
+pub mod Texts
