@@ -44,7 +44,8 @@ pub(crate) fn distribute(
     let mut lists = empty_lists(alloc, nodes)?;
     for configuration in found {
         let Configuration { node, state } = configuration;
-        lists[node as usize].push(state)?;
+        let list = &mut lists[node as usize];
+        list.push(state)?;
     }
     Ok(Items::from_vec(lists))
 }

@@ -24,7 +24,8 @@ abbrev pub IsWithin : List (List ℕ) → Option Place → Type 0
 IsWithin contents None = Unit {0}
 IsWithin contents (Some place) = (place.file < length contents) × (place.at ≤ length (get_or contents place.file []))
 
--- a sink in memory, with the room that is left in it
+-- a sink in memory, with the room that is left in it, how many of its calls have failed, and how many have
+-- succeeded since
 pub record SinkState : Type 0 where
   pub taken : List ℕ
   pub room : ℕ
@@ -32,3 +33,5 @@ pub record SinkState : Type 0 where
   pub fail : List ℕ
   pub calls : ℕ
   pub faults : ℕ
+  pub failures : ℕ
+  pub since : ℕ

@@ -15,6 +15,8 @@ pub struct MemSink {
     room: usize,
     step: usize,
     plan: Plan,
+    failures: u64,
+    since: u64,
 }
 
 impl Model for MemSink {
@@ -31,6 +33,8 @@ impl Model for MemSink {
       fail = s.plan.fail.items;
       calls = s.plan.calls;
       faults = s.plan.faults;
+      failures = s.failures;
+      since = s.since;
     } };
 
     ghost invariant = { λ s. (1 ≤ s.step) × (vec_len s.taken + s.room ≤ vec_capacity s.taken) };
@@ -55,6 +59,8 @@ impl MemSink {
           fail = fail.items;
           calls = 0;
           faults = 0;
+          failures = 0;
+          since = 0;
         }) }
     {
         Ok(MemSink {
@@ -62,6 +68,8 @@ impl MemSink {
             room,
             step,
             plan: Plan::new(fail),
+            failures: 0,
+            since: 0,
         })
     }
 
@@ -78,6 +86,10 @@ impl Sink for MemSink {
 
     ghost faults = { λ s. s.faults };
 
+    ghost failures = { λ s. s.failures };
+
+    ghost since = { λ s. s.since };
+
     fn put(&mut self, bytes: &[u8]) -> Result<usize, Failed>
         ensures fails { IsErr result ↔ (Contains self.old.fail (counted self.old.calls 1)
             ⊎ ((0 < length bytes.now) × (self.old.room ≡ 0))) }
@@ -86,10 +98,13 @@ impl Sink for MemSink {
           taken = self.old.taken ++ take n bytes.now;
           room = self.old.room - n;
           calls = counted self.old.calls 1;
+          since = counted self.old.since 1;
         }) }
         ensures err { OnErr result (self.new ≡ record self.old {
           calls = counted self.old.calls 1;
           faults = counted self.old.faults 1;
+          failures = counted self.old.failures 1;
+          since = 0;
         }) }
         ensures count { self.old.faults ≤ self.new.faults }
         ensures some { IfOk result (λ n. 0 < length bytes.now → 0 < n) }
@@ -97,11 +112,14 @@ impl Sink for MemSink {
         let listed = self.plan.count_call();
         if listed || (self.room == 0 && !bytes.is_empty()) {
             self.plan.count_fault();
+            self.failures = self.failures.saturating_add(1);
+            self.since = 0;
             return Err(Failed);
         }
         let count = bytes.len().min(self.step).min(self.room);
         self.taken.extend_from_slice(&bytes[..count]).unwrap();
         self.room -= count;
+        self.since = self.since.saturating_add(1);
         Ok(count)
     }
 }

@@ -12,8 +12,8 @@ use Rattle.tv_nullary.proofs.KeySet.{here}
 use Rattle.tv_nullary.proofs.Distribution.{put, at_node, length-from_empty, exact_from_empty, sum_by-from_empty, sorted_from_empty}
 use Rattle.tv_nullary.proofs.listing.distribute.Goals as goal
 
-pub index_mut-requires : goal.index_mut-requires
-index_mut-requires c =
+pub index_mut-list-requires : goal.index_mut-list-requires
+index_mut-list-requires c =
     let x = c.in-Some.configuration
     in let keys = c.args.found.keys
     in let split : keys ≡ map (λ z. z) c.loop-configuration.yielded ++ c.loop-configuration.configuration-iterator =

@@ -7,3 +7,4 @@ abbrev pub invariant-loop-part : goal.invariant-loop-part
 invariant-loop-part g l =
     (g.S.Sink.taken l.sink ≡ appended (g.S.Sink.taken l.fn.sink) (flat_map (λ part. part.now) (take l.part-index l.parts)))
     × (g.S.Sink.faults l.fn.sink ≤ g.S.Sink.faults l.sink)
+    × (g.S.Sink.failures l.sink ≡ g.S.Sink.failures l.fn.sink)

@@ -1,0 +1,10 @@
+pub mod Loops
+pub mod Lists
+pub mod Fronts
+pub mod TokenLaws
+pub mod GrammarLaws
+pub mod NameLaws
+pub mod ProgramLaws
+pub mod NullaryLaws
+pub mod ReadingLaws
+pub mod StateLaws

@@ -1,0 +1,75 @@
+//! The whole program as one call over the outside.
+#![tactic(auto)]
+
+ghost use Rattle.std.specs.Prelude.{◌≡◌, ◌⊎◌, ◌≤◌};
+ghost use Rattle.tv_outside.specs.Count.{Rose};
+ghost use Rattle.tv_top.specs.Words.{words_of, SpellsNothing};
+ghost use Rattle.tv_top.specs.Meaning.{IsReport};
+ghost use Rattle.tv_top.specs.Call.{IsCause, EndsFor, EndsDuly, IsExcuse, HoldsOperands};
+ghost use Rattle.tv_top.specs.Delivery.{OutTook, ErrTook, StopsAtFailure};
+
+mod delivery;
+mod limits;
+mod outcome;
+mod words;
+mod work;
+
+pub use outcome::{FileKind, Role, Status};
+use std::alloc::Global;
+use tv_outside::{Files, Sink};
+
+/// Does all that the program does: `words` are the words after its name.
+///
+/// The work is done in this order: the words are read; PROGRAM is read and understood; INITIAL is read and
+/// understood; the analysis runs; its report is given to `out` whole. The first fault ends the call, and its text
+/// is given to `err`.
+pub fn tvla<F: Files, O: Sink, E: Sink>(
+    alloc: Global,
+    words: &[String],
+    files: &mut F,
+    out: &mut O,
+    err: &mut E,
+) -> Status
+    // Why the call ended so.
+    ensures cause { EndsFor
+        (IsCause (words_of words.now) (F.holds files.old) (Rose (F.faults files.old) (F.faults files.new)) (F.steady files.old))
+        (Rose (O.faults out.old) (O.faults out.new) ⊎ Rose (E.faults err.old) (E.faults err.new))
+        result }
+
+    // What was written.
+    ensures out { OutTook result
+        (IsReport (words_of words.now) (F.holds files.old))
+        (Rose (O.faults out.old) (O.faults out.new)) (Rose (E.faults err.old) (E.faults err.new))
+        (O.taken out.old) (O.taken out.new) }
+    ensures err { ErrTook result
+        (IsCause (words_of words.now) (F.holds files.old) (Rose (F.faults files.old) (F.faults files.new)) (F.steady files.old))
+        (Rose (O.faults out.old) (O.faults out.new)) (Rose (E.faults err.old) (E.faults err.new))
+        (E.taken err.old) (E.taken err.new) }
+
+    // A sink that has failed is given nothing more.
+    ensures out_stops { StopsAtFailure (O.failures out.old) (O.failures out.new) (O.since out.new) }
+    ensures err_stops { StopsAtFailure (E.failures err.old) (E.failures err.new) (E.since err.new) }
+
+    // What was read: nothing without a command, and steady files that hold the operands don't fail.
+    ensures unread { SpellsNothing (words_of words.now) → files.new ≡ files.old }
+    ensures held { F.steady files.old → HoldsOperands (words_of words.now) (F.holds files.old) → F.faults files.new ≡ F.faults files.old }
+
+    // No call changes what a name holds, and no count of faults falls.
+    ensures holds { F.holds files.new ≡ F.holds files.old }
+    ensures files_count { F.faults files.old ≤ F.faults files.new }
+    ensures out_count { O.faults out.old ≤ O.faults out.new }
+    ensures err_count { E.faults err.old ≤ E.faults err.new }
+
+    // Each ending comes wherever it is called for, unless a call outside failed or memory ran out; where no count
+    // of faults rose, unless memory ran out.
+    ensures exact { EndsDuly (words_of words.now) (F.holds files.old) result (IsExcuse result) }
+    ensures complete { (¬ Rose (F.faults files.old) (F.faults files.new)) → (¬ Rose (O.faults out.old) (O.faults out.new))
+        → (¬ Rose (E.faults err.old) (E.faults err.new))
+        → EndsDuly (words_of words.now) (F.holds files.old) result (result ≡ Status.Memory) }
+{
+    let found = work::perform(alloc, words, files);
+    delivery::deliver(found, out, err)
+}
+
+#[cfg(test)]
+mod tests;
