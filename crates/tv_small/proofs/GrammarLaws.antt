@@ -9,13 +9,13 @@ use Rattle.std.proofs.lemmas.Bool.{cases_Bool, and_parts, and_from, both_ways, e
 use Rattle.std.proofs.lemmas.Option.{same_Some}
 use Rattle.std.proofs.lemmas.List.{append-nil, drop_at, length-replicate}
 use Rattle.std.proofs.lemmas.Slice.Eq.{bytes_eq-Decides}
-use Rattle.tv_small.specs.declared.token.Mark.{Mark}
-use Rattle.tv_small.specs.declared.token.Mark.TheVariants.{Parts, Open, Close, OpenBrace, CloseBrace, Equals, Not}
-use Rattle.tv_small.specs.Layout.{TokenForm, TWord, TDirective, THalf, TPunct}
+use Rattle.tv_small_tokens.specs.declared.token.Mark.{Mark}
+use Rattle.tv_small_tokens.specs.declared.token.Mark.TheVariants.{Parts, Open, Close, OpenBrace, CloseBrace, Equals, Not}
+use Rattle.tv_small_tokens.specs.Layout.{TokenForm, TWord, TDirective, THalf, TPunct}
 use Rattle.tv_small.specs.Grammar.{BaseTree, BZero, BOne, BNamed, UpdateTree, ActionTree, EdgeTree, ProgramTree, EntryTree, spell_call, spell_pred, spell_base, spell_update, spell_block, spell_action, spell_edge, spell_program, spell_value, spell_entry, spell_structure, is_ident, base_is_proper, update_is_proper, updates_of, action_is_proper, edge_is_proper, program_is_proper, entry_is_proper}
-use Rattle.tv_small.specs.Reading.{◌>>=◌, many}
+use Rattle.tv_small_tokens.specs.Reading.{◌>>=◌, many}
 use Rattle.tv_small.specs.Parsing.{mark_number, same_mark, is_mark, begins_mark, begins_directive, after, after_directive, word_of, word_front, begins_word, ident_front, parens_front, call_front, pred_front, preds_front, base_behind, base_front, negations, update_front, updates_front, block_front, action_front, actions_front, edge_front, edges_front, is_some_left, program_tree, value_of, value_front, entry_front, entries_front, list_front, structure_front, structures_front}
-use Rattle.tv_small.proofs.TokenLaws.{chosen, bind_some, some_left}
+use Rattle.tv_small_tokens.proofs.TokenLaws.{chosen, bind_some, some_left}
 
 -- the tokens are the spelling of the tree, which is proper, and those behind it
 pub record Spelled {A B : Type 0} (spell : A → List B) (proper : A → Bool) (ts : List B) (x : A × List B) : Type 0 where
@@ -37,9 +37,9 @@ module _ {A B : Type 0} (begin : List B → Bool) (item : List B → Option (A �
             let one = found ts b.0 b.1 in
             let others = many_found found n b.0.1 d.0 d.1 in
             let whole : Spelled (flat_map spell) (list_all proper) ts (b.0.0 ∷ d.0.0, d.0.1) = record {
-                parts = one.parts ∙ ap (λ (us : List B). spell b.0.0 ++ us) others.0.parts ∙ sym (append_assoc (spell b.0.0) (flat_map spell d.0.0) d.0.1);
-                right = and_from (proper b.0.0) (list_all proper d.0.0) one.right others.0.right
-              } in
+              parts = one.parts ∙ ap (λ (us : List B). spell b.0.0 ++ us) others.0.parts ∙ sym (append_assoc (spell b.0.0) (flat_map spell d.0.0) d.0.1);
+              right = and_from (proper b.0.0) (list_all proper d.0.0) one.right others.0.right;
+            } in
             subst (λ (y : List A × List B). Spelled (flat_map spell) (list_all proper) ts y × (begin y.1 ≡ false)) (same_Some (b.0.0 ∷ d.0.0, d.0.1) x d.2) (whole, others.1)
         | inr h ↦ subst (λ (y : List A × List B). Spelled (flat_map spell) (list_all proper) ts y × (begin y.1 ≡ false)) (same_Some ([], ts) x h.1) (record { parts = refl; right = refl }, h.0)
       ]
@@ -248,9 +248,9 @@ update_found ts x e =
     let nots = replicate (negations us) (TPunct Not) in
     let tail : us ≡ (nots ++ spell_base d.0.0) ++ d.0.1 = nots_found us ∙ ap (λ (vs : List TokenForm). nots ++ vs) f.parts ∙ sym (append_assoc nots (spell_base d.0.0) d.0.1) in
     let whole : Spelled spell_update update_is_proper ts (tree, d.0.1) = record {
-        parts = c.parts ∙ ap (λ (vs : List TokenForm). spell_call a.0.0 ++ vs) (after_found Equals a.0.1 us b.1 ∙ ap (λ (vs : List TokenForm). TPunct Equals ∷ vs) tail);
-        right = and_from (is_ident a.0.0) (base_is_proper d.0.0) c.right f.right
-      } in
+      parts = c.parts ∙ ap (λ (vs : List TokenForm). spell_call a.0.0 ++ vs) (after_found Equals a.0.1 us b.1 ∙ ap (λ (vs : List TokenForm). TPunct Equals ∷ vs) tail);
+      right = and_from (is_ident a.0.0) (base_is_proper d.0.0) c.right f.right;
+    } in
     subst (Spelled spell_update update_is_proper ts) (same_Some (tree, d.0.1) x d.2) whole
 
 update_again : (u : UpdateTree) (rest : List TokenForm) → update_is_proper u ≡ true → update_front (spell_update u ++ rest) ≡ Some (u, rest)
@@ -286,9 +286,9 @@ block_found ts x e =
           let c = bind_some (after CloseBrace b.0.1) (λ vs. Some (Some b.0.0, vs)) x b.2 in
           let u = updates_found a.0 b.0 b.1 in
           let whole : Spelled spell_block block_is_proper ts (Some b.0.0, c.0) = record {
-              parts = after_found OpenBrace ts a.0 a.1 ∙ ap (λ (vs : List TokenForm). TPunct OpenBrace ∷ vs) (u.parts ∙ ap (λ (vs : List TokenForm). flat_map spell_update b.0.0 ++ vs) (after_found CloseBrace b.0.1 c.0 c.1) ∙ sym (append_assoc (flat_map spell_update b.0.0) (TPunct CloseBrace ∷ []) c.0));
-              right = u.right
-            } in
+            parts = after_found OpenBrace ts a.0 a.1 ∙ ap (λ (vs : List TokenForm). TPunct OpenBrace ∷ vs) (u.parts ∙ ap (λ (vs : List TokenForm). flat_map spell_update b.0.0 ++ vs) (after_found CloseBrace b.0.1 c.0 c.1) ∙ sym (append_assoc (flat_map spell_update b.0.0) (TPunct CloseBrace ∷ []) c.0));
+            right = u.right;
+          } in
           subst (Spelled spell_block block_is_proper ts) (same_Some (Some b.0.0, c.0) x c.2) whole
       | inr h ↦ subst (Spelled spell_block block_is_proper ts) (same_Some (None, ts) x h.1) (record { parts = refl; right = refl })
     ]
@@ -312,9 +312,9 @@ action_found ts x e =
     let block = block_found c.0 d.0 d.1 in
     let tail : c.0 ≡ (spell_block d.0.0 ++ TPunct CloseBrace ∷ []) ++ f.0 = block.parts ∙ ap (λ (vs : List TokenForm). spell_block d.0.0 ++ vs) (after_found CloseBrace d.0.1 f.0 f.1) ∙ sym (append_assoc (spell_block d.0.0) (TPunct CloseBrace ∷ []) f.0) in
     let whole : Spelled spell_action action_is_proper ts (action_tree b.0.0 d.0.0, f.0) = record {
-        parts = directive_found (codes "action") ts a.0 a.1 ∙ ap (λ (vs : List TokenForm). TDirective (codes "action") ∷ vs) (name.parts ∙ ap (λ (vs : List TokenForm). spell_call b.0.0 ++ vs) (after_found OpenBrace b.0.1 c.0 c.1 ∙ ap (λ (vs : List TokenForm). TPunct OpenBrace ∷ vs) tail));
-        right = proper_block b.0.0 d.0.0 name.right block.right
-      } in
+      parts = directive_found (codes "action") ts a.0 a.1 ∙ ap (λ (vs : List TokenForm). TDirective (codes "action") ∷ vs) (name.parts ∙ ap (λ (vs : List TokenForm). spell_call b.0.0 ++ vs) (after_found OpenBrace b.0.1 c.0 c.1 ∙ ap (λ (vs : List TokenForm). TPunct OpenBrace ∷ vs) tail));
+      right = proper_block b.0.0 d.0.0 name.right block.right;
+    } in
     subst (Spelled spell_action action_is_proper ts) (same_Some (action_tree b.0.0 d.0.0, f.0) x f.2) whole
 
 -- what is left is at least as long as its front
@@ -366,9 +366,9 @@ edge_found ts x e =
     let n = call_found a.0.1 b.0 b.1 in
     let g = word_found b.0.1 c.0 c.1 in
     let whole : Spelled spell_edge edge_is_proper ts (edge_tree a.0.0 b.0.0 c.0.0, c.0.1) = record {
-        parts = f.parts ∙ ap (λ (vs : List TokenForm). TWord a.0.0 ∷ vs) (n.parts ∙ ap (λ (vs : List TokenForm). spell_call b.0.0 ++ vs) g.parts);
-        right = n.right
-      } in
+      parts = f.parts ∙ ap (λ (vs : List TokenForm). TWord a.0.0 ∷ vs) (n.parts ∙ ap (λ (vs : List TokenForm). spell_call b.0.0 ++ vs) g.parts);
+      right = n.right;
+    } in
     subst (Spelled spell_edge edge_is_proper ts) (same_Some (edge_tree a.0.0 b.0.0 c.0.0, c.0.1) x c.2) whole
 
 edge_again : (g : EdgeTree) (rest : List TokenForm) → edge_is_proper g ≡ true → edge_front (spell_edge g ++ rest) ≡ Some (g, rest)
@@ -464,9 +464,9 @@ entry_found ts x e =
     let n = ident_found ts a.0 a.1 in
     let v = value_found b.0 c.0 c.1 in
     let whole : Spelled spell_entry entry_is_proper ts (entry_tree a.0.0 c.0.0, c.0.1) = record {
-        parts = n.parts ∙ ap (λ (vs : List TokenForm). TWord a.0.0 ∷ vs) (after_found Equals a.0.1 b.0 b.1 ∙ ap (λ (vs : List TokenForm). TPunct Equals ∷ vs) v.parts);
-        right = n.right
-      } in
+      parts = n.parts ∙ ap (λ (vs : List TokenForm). TWord a.0.0 ∷ vs) (after_found Equals a.0.1 b.0 b.1 ∙ ap (λ (vs : List TokenForm). TPunct Equals ∷ vs) v.parts);
+      right = n.right;
+    } in
     subst (Spelled spell_entry entry_is_proper ts) (same_Some (entry_tree a.0.0 c.0.0, c.0.1) x c.2) whole
 
 entry_again : (g : EntryTree) (rest : List TokenForm) → entry_is_proper g ≡ true → entry_front (spell_entry g ++ rest) ≡ Some (g, rest)
@@ -491,9 +491,9 @@ structure_found ts x e =
     let entries = (many_found begins_word entry_front spell_entry entry_is_proper entry_found (length c.0 + 1) c.0 d.0 d.1).0 in
     let tail : c.0 ≡ (flat_map spell_entry d.0.0 ++ TPunct CloseBrace ∷ []) ++ f.0 = entries.parts ∙ ap (λ (vs : List TokenForm). flat_map spell_entry d.0.0 ++ vs) (after_found CloseBrace d.0.1 f.0 f.1) ∙ sym (append_assoc (flat_map spell_entry d.0.0) (TPunct CloseBrace ∷ []) f.0) in
     let whole : Spelled spell_structure (list_all entry_is_proper) ts (d.0.0, f.0) = record {
-        parts = list_found (codes "n") ts a.0 a.1 ∙ ap (λ (vs : List TokenForm). TDirective (codes "n") ∷ TPunct Equals ∷ TPunct OpenBrace ∷ vs) (after_found CloseBrace a.0 b.0 b.1 ∙ ap (λ (vs : List TokenForm). TPunct CloseBrace ∷ vs) (list_found (codes "p") b.0 c.0 c.1 ∙ ap (λ (vs : List TokenForm). TDirective (codes "p") ∷ TPunct Equals ∷ TPunct OpenBrace ∷ vs) tail));
-        right = entries.right
-      } in
+      parts = list_found (codes "n") ts a.0 a.1 ∙ ap (λ (vs : List TokenForm). TDirective (codes "n") ∷ TPunct Equals ∷ TPunct OpenBrace ∷ vs) (after_found CloseBrace a.0 b.0 b.1 ∙ ap (λ (vs : List TokenForm). TPunct CloseBrace ∷ vs) (list_found (codes "p") b.0 c.0 c.1 ∙ ap (λ (vs : List TokenForm). TDirective (codes "p") ∷ TPunct Equals ∷ TPunct OpenBrace ∷ vs) tail));
+      right = entries.right;
+    } in
     subst (Spelled spell_structure (list_all entry_is_proper) ts) (same_Some (d.0.0, f.0) x f.2) whole
 
 list_again_n : (us : List TokenForm) → list_front (codes "n") (TDirective (codes "n") ∷ TPunct Equals ∷ TPunct OpenBrace ∷ us) ≡ Some us

@@ -1,7 +1,4 @@
-pub mod Loops
 pub mod Lists
-pub mod Fronts
-pub mod TokenLaws
 pub mod GrammarLaws
 pub mod NameLaws
 pub mod ProgramLaws

@@ -145,9 +145,9 @@ position_none p f xs e =
     let n = position_or_len (λ x. p (f x)) xs in
     let within : n ≤ length xs = prefix_len-le-length (λ x. not (p (f x))) xs in
     let past : length xs ≤ n = elim (cases_lt n (length xs)) [
-        | inl lt ↦ absurd (none-some n (e ∙ cond-true (ltb n (length xs)) (Some n) None (lt-ltb n (length xs) lt)))
-        | inr le ↦ le
-      ] in
+      | inl lt ↦ absurd (none-some n (e ∙ cond-true (ltb n (length xs)) (Some n) None (lt-ltb n (length xs) lt)))
+      | inr le ↦ le
+    ] in
     let same : length xs ≡ n = omega arith in
     same ∙ sym (position_or_len-map f p xs)
 

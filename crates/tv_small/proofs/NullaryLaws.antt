@@ -65,6 +65,7 @@ is_known-sight seen (x ∷ xs) y h =
     seen_already true b c h f = refl
     seen_already false true c h f = absurd (both_ways false refl (f refl))
     seen_already false false c h f = h
+
     by : (a b c : Bool) → (a || (b || c)) ≡ true → ((a || b) || c) ≡ true
     by true b c h = refl
     by false b c h = h
@@ -108,8 +109,8 @@ nullary_updates preds (u ∷ us) h =
     let both = and_parts (update_is_known preds u) (list_all (update_is_known preds) us) h in
     let one = and_parts (is_known preds u.target) (base_is_known preds u.base) both.0 in
     All-cons (IsNullaryUpdate (length preds)) (update_form preds u) (map (update_form preds) us)
-      (record { known = known_number preds u.target one.0; no_vars = refl; change = nullary_negated preds u.base u.negations one.1 })
-      (nullary_updates preds us both.1)
+    (record { known = known_number preds u.target one.0; no_vars = refl; change = nullary_negated preds u.base u.negations one.1 })
+    (nullary_updates preds us both.1)
 
 abbrev targets : List UpdateTree → List (List ℕ)
 targets us = map (λ (u : UpdateTree). u.target) us
@@ -126,16 +127,21 @@ once_updated preds (u ∷ us) h k =
     let one = and_parts (is_known preds u.target) (base_is_known preds u.base) both.0 in
     let apart = and_parts (not (is_known (targets us) u.target)) (are_distinct (targets us)) k in
     pairs_cons (λ u v. u.pred ≢ v.pred) (update_form preds u) (map (update_form preds) us)
-      (λ j d lt e. other_target preds u.target us j d one.0 (not-true (is_known (targets us) u.target) apart.0) lt e)
-      (once_updated preds us both.1 apart.1)
+    (λ j d lt e. other_target preds u.target us j d one.0 (not-true (is_known (targets us) u.target) apart.0) lt e)
+    (once_updated preds us both.1 apart.1)
 
 nullary_action : (preds : List (List ℕ)) (us : List UpdateTree) → updates_are_known preds us ≡ true → IsNullaryAction (length preds) (action_form preds us)
 nullary_action preds us h =
     let both = and_parts (list_all (update_is_known preds) us) (are_distinct (targets us)) h in
     record {
-      no_condition = refl; no_picks = refl; no_focus = refl; no_messages = refl; not_fresh = refl; keeps_all = refl;
+      no_condition = refl;
+      no_picks = refl;
+      no_focus = refl;
+      no_messages = refl;
+      not_fresh = refl;
+      keeps_all = refl;
       updates = nullary_updates preds us both.0;
-      once = once_updated preds us both.0 both.1
+      once = once_updated preds us both.0 both.1;
     }
 
 named_known : (preds : List (List ℕ)) (ts : List ActionTree) (name : List ℕ) → list_all (action_is_sound preds) ts ≡ true → updates_are_known preds (updates_named ts name) ≡ true
@@ -163,14 +169,14 @@ edges_within : (nodes actions : List (List ℕ)) (es : List EdgeTree) → ((y : 
 edges_within nodes actions [] f g = All-nil (IsEdgeWithin (length actions) (length nodes))
 edges_within nodes actions (e ∷ es) f g =
     All-cons (IsEdgeWithin (length actions) (length nodes)) (edge_form nodes actions e) (map (edge_form nodes actions) es)
-      (record {
-        from = known_number nodes e.from (f e.from (or_left (bytes_eq e.from e.from) (bytes_eq e.from e.to || is_known (ends es) e.from) (self_known e.from)));
-        action = known_number actions e.action (g e.action (or_left (bytes_eq e.action e.action) (is_known (takes es) e.action) (self_known e.action)));
-        to = known_number nodes e.to (f e.to (or_right (bytes_eq e.to e.from) (bytes_eq e.to e.to || is_known (ends es) e.to) (or_left (bytes_eq e.to e.to) (is_known (ends es) e.to) (self_known e.to))))
-      })
-      (edges_within nodes actions es
-        (λ y h. f y (or_right (bytes_eq y e.from) (bytes_eq y e.to || is_known (ends es) y) (or_right (bytes_eq y e.to) (is_known (ends es) y) h)))
-        (λ y h. g y (or_right (bytes_eq y e.action) (is_known (takes es) y) h)))
+    (record {
+      from = known_number nodes e.from (f e.from (or_left (bytes_eq e.from e.from) (bytes_eq e.from e.to || is_known (ends es) e.from) (self_known e.from)));
+      action = known_number actions e.action (g e.action (or_left (bytes_eq e.action e.action) (is_known (takes es) e.action) (self_known e.action)));
+      to = known_number nodes e.to (f e.to (or_right (bytes_eq e.to e.from) (bytes_eq e.to e.to || is_known (ends es) e.to) (or_left (bytes_eq e.to e.to) (is_known (ends es) e.to) (self_known e.to))));
+    })
+    (edges_within nodes actions es
+    (λ y h. f y (or_right (bytes_eq y e.from) (bytes_eq y e.to || is_known (ends es) y) (or_right (bytes_eq y e.to) (is_known (ends es) y) h)))
+    (λ y h. g y (or_right (bytes_eq y e.action) (is_known (takes es) y) h)))
 
 -- ---- programs
 
@@ -197,5 +203,5 @@ nullary_program t h =
       some_edge = omega (arith, edges-len, some-edge);
       pred_limit = omega (arith, preds-len, limits.preds);
       node_limit = limits.nodes;
-      edge_limit = omega (arith, edges-len, limits.edges)
+      edge_limit = omega (arith, edges-len, limits.edges);
     }

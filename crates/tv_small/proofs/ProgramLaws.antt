@@ -11,11 +11,11 @@ use Rattle.tv_small.specs.declared.tree.ActionText.{ActionText}
 use Rattle.std.proofs.lemmas.Option.{cond_some}
 use Rattle.tv_small.specs.Views.{action_of, names_of}
 use Rattle.tv_small.specs.Grammar.{UpdateTree, ActionTree, EdgeTree, ProgramTree, updates_of}
-use Rattle.tv_small.specs.declared.error.SmallError.{SmallError}
-use Rattle.tv_small.specs.Layout.{TokenForm}
-use Rattle.tv_small.specs.Reading.{◌>>=◌, Fails, tokens_at}
+use Rattle.tv_small_tokens.specs.declared.error.SmallError.{SmallError}
+use Rattle.tv_small_tokens.specs.Layout.{TokenForm}
+use Rattle.tv_small_tokens.specs.Reading.{◌>>=◌, Fails, tokens_at}
 use Rattle.tv_small.specs.Parsing.{program_tree}
-use Rattle.tv_small.proofs.Loops.{Fails-then}
+use Rattle.tv_small_tokens.proofs.Loops.{Fails-then}
 use Rattle.tv_small.proofs.NameLaws.{fold-sight-short}
 use Rattle.tv_small.specs.Programs.{is_known, number_in, action_names, action_is_sound, edges_are_known, is_within_limits, is_small, are_declarable, updates_named, action_form, edge_form, nodes_of, taken_of, program_form}
 use Rattle.tv_small.specs.Resolving.{updates_at, declared_names, uses_are_sound, uses_resolved, resolved, program_read}

@@ -6,28 +6,18 @@ use Rattle.std.proofs.lemmas.Option.{same_Some, cond_some}
 use Rattle.tv_model.specs.Program.{ProgramForm, program_of}
 use Rattle.tv_model.specs.declared.program.Program.{Program}
 use Rattle.tv_nullary.specs.Nullary.{IsNullaryProgram}
-use Rattle.tv_small.specs.declared.error.SmallError.{SmallError}
-use Rattle.tv_small.specs.declared.error.SmallError.TheVariants.{Unbuilt, Memory}
-use Rattle.tv_small.specs.Layout.{TokenForm, LaidOut}
+use Rattle.tv_small_tokens.specs.declared.error.SmallError.{SmallError}
+use Rattle.tv_small_tokens.specs.declared.error.SmallError.TheVariants.{Unbuilt, Memory}
+use Rattle.tv_small_tokens.specs.Layout.{TokenForm, LaidOut}
 use Rattle.tv_small.specs.Grammar.{ProgramTree, spell_program}
-use Rattle.tv_small.specs.Reading.{◌>>=◌, Gives, many, goes_on, token_behind_blanks, tokens_at}
+use Rattle.tv_small_tokens.specs.Reading.{◌>>=◌, Gives, many, goes_on, token_behind_blanks, tokens_at}
 use Rattle.tv_small.specs.Parsing.{program_tree}
 use Rattle.tv_small.specs.Programs.{MeansProgram, is_small, program_form}
 use Rattle.tv_small.specs.Resolving.{resolved, program_read}
-use Rattle.tv_small.proofs.TokenLaws.{bind_some, tokens_found, tokens_read}
+use Rattle.tv_small_tokens.proofs.TokenLaws.{bind_some, laid_out, tokens_again}
 use Rattle.tv_small.proofs.GrammarLaws.{program_found, program_again}
 use Rattle.tv_small.proofs.ProgramLaws.{resolved_is}
 use Rattle.tv_small.proofs.NullaryLaws.{nullary_program}
-
--- ---- tokens
-
-pub laid_out : (n : ℕ) (text : List ℕ) (ts : List TokenForm) → tokens_at n text ≡ Some ts → LaidOut ts text × (length ts < n)
-laid_out n text ts e =
-    let a = bind_some (many goes_on token_behind_blanks n text) (λ x. Some x.0) ts e in
-    subst (λ (us : List TokenForm). LaidOut us text × (length us < n)) (same_Some a.0.0 ts a.2) (tokens_found n text a.0.0 a.0.1 a.1)
-
-pub tokens_again : (n : ℕ) (text : List ℕ) (ts : List TokenForm) → LaidOut ts text → length ts < n → tokens_at n text ≡ Some ts
-tokens_again n text ts h lt = let r = tokens_read ts text n h lt in rw r.1 refl
 
 -- ---- programs
 
@@ -45,7 +35,7 @@ program_means bytes p e =
       token_limit = le-leb (length (spell_program b.0)) 65536 (omega (arith, ap length spelled.0, out.1));
       proper = spelled.1;
       small = last.0;
-      meaning = sym last.1
+      meaning = sym last.1;
     }
 
 pub program_complete : (bytes : List ℕ) (p : ProgramForm) → MeansProgram bytes p → program_read bytes ≡ Some p

@@ -9,19 +9,18 @@ use Rattle.std.proofs.lemmas.List.Elements.{All-nil, All-cons}
 use Rattle.tv_kleene.specs.declared.K3.{K3}
 use Rattle.tv_kleene.specs.declared.K3.TheVariants.{No}
 use Rattle.tv_model.specs.Program.{ProgramForm, PredForm}
-use Rattle.tv_small.specs.declared.error.SmallError.{SmallError}
-use Rattle.tv_small.specs.declared.error.SmallError.TheVariants.{Unbuilt, Memory}
-use Rattle.tv_small.specs.Layout.{TokenForm, LaidOut, token_text}
+use Rattle.tv_small_tokens.specs.declared.error.SmallError.{SmallError}
+use Rattle.tv_small_tokens.specs.declared.error.SmallError.TheVariants.{Unbuilt, Memory}
+use Rattle.tv_small_tokens.specs.Layout.{TokenForm, LaidOut, token_text}
 use Rattle.tv_small.specs.Grammar.{EntryTree, spell_structure, entry_is_proper}
-use Rattle.tv_small.specs.Reading.{◌>>=◌, Fails, Gives, tokens_at}
+use Rattle.tv_small_tokens.specs.Reading.{◌>>=◌, Fails, Gives, tokens_at}
 use Rattle.tv_small.specs.Parsing.{structures_front}
 use Rattle.tv_small.specs.Programs.{number_in, are_distinct}
 use Rattle.tv_small.specs.Initials.{pred_names, entries_are_known, with_entry, state_of, MeansInitial}
 use Rattle.tv_small.specs.Resolving.{states_resolved, states_read}
-use Rattle.tv_small.proofs.Loops.{Fails-then}
-use Rattle.tv_small.proofs.TokenLaws.{bind_some, first_byte}
+use Rattle.tv_small_tokens.proofs.Loops.{Fails-then}
+use Rattle.tv_small_tokens.proofs.TokenLaws.{bind_some, first_byte, laid_out, tokens_again}
 use Rattle.tv_small.proofs.GrammarLaws.{structures_found, structures_again}
-use Rattle.tv_small.proofs.ReadingLaws.{laid_out, tokens_again}
 
 -- ---- the steps of the work
 
@@ -100,7 +99,7 @@ states_mean p bytes s e =
       proper = spelled.1;
       distinct = both.0;
       known = both.1;
-      meaning = sym last.1
+      meaning = sym last.1;
     }
 
 pub states_complete : (p : ProgramForm) (bytes : List ℕ) (s : List (List K3)) → MeansInitial p bytes s → states_read (pred_names p) bytes ≡ Some s

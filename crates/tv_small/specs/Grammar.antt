@@ -4,8 +4,8 @@ use Rattle.std.specs.List.{flat_map, list_all}
 use Rattle.std.specs.Str.{bytes_eq}
 use Rattle.tv_kleene.specs.declared.K3.{K3}
 use Rattle.tv_kleene.specs.declared.K3.TheVariants.{No, Half, Yes}
-use Rattle.tv_small.specs.declared.token.Mark.TheVariants.{Parts, Open, Close, OpenBrace, CloseBrace, Equals, Not}
-use Rattle.tv_small.specs.Layout.{TokenForm, TWord, TDirective, THalf, TPunct, is_letter, begins}
+use Rattle.tv_small_tokens.specs.declared.token.Mark.TheVariants.{Parts, Open, Close, OpenBrace, CloseBrace, Equals, Not}
+use Rattle.tv_small_tokens.specs.Layout.{TokenForm, TWord, TDirective, THalf, TPunct, is_letter, begins}
 
 -- what stands behind the `!` of a formula: `0`, `1`, or a predicate
 pub data BaseTree : Type 0 where

@@ -4,7 +4,7 @@ use Rattle.std.specs.List.{flat_map, list_all}
 use Rattle.tv_kleene.specs.declared.K3.{K3}
 use Rattle.tv_kleene.specs.declared.K3.TheVariants.{No}
 use Rattle.tv_model.specs.Program.{ProgramForm, PredForm}
-use Rattle.tv_small.specs.Layout.{LaidOut}
+use Rattle.tv_small_tokens.specs.Layout.{LaidOut}
 use Rattle.tv_small.specs.Grammar.{EntryTree, spell_structure, entry_is_proper}
 use Rattle.tv_small.specs.Programs.{is_known, number_in, are_distinct}
 

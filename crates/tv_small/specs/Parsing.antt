@@ -4,11 +4,11 @@ use Rattle.std.specs.List.{prefix_len}
 use Rattle.std.specs.Str.{bytes_eq}
 use Rattle.tv_kleene.specs.declared.K3.{K3}
 use Rattle.tv_kleene.specs.declared.K3.TheVariants.{No, Half, Yes}
-use Rattle.tv_small.specs.declared.token.Mark.{Mark}
-use Rattle.tv_small.specs.declared.token.Mark.TheVariants.{Parts, Open, Close, OpenBrace, CloseBrace, Equals, Not}
-use Rattle.tv_small.specs.Layout.{TokenForm, TWord, TDirective, THalf, TPunct}
+use Rattle.tv_small_tokens.specs.declared.token.Mark.{Mark}
+use Rattle.tv_small_tokens.specs.declared.token.Mark.TheVariants.{Parts, Open, Close, OpenBrace, CloseBrace, Equals, Not}
+use Rattle.tv_small_tokens.specs.Layout.{TokenForm, TWord, TDirective, THalf, TPunct}
 use Rattle.tv_small.specs.Grammar.{BaseTree, BZero, BOne, BNamed, UpdateTree, ActionTree, EdgeTree, ProgramTree, EntryTree, is_ident}
-use Rattle.tv_small.specs.Reading.{◌>>=◌, many}
+use Rattle.tv_small_tokens.specs.Reading.{◌>>=◌, many}
 
 abbrev pub mark_number : Mark → ℕ
 mark_number Parts = 0

@@ -5,7 +5,7 @@ use Rattle.std.specs.Str.{bytes_eq}
 use Rattle.tv_model.specs.Form.{Form, FZero, FOne, FAtom, FNot}
 use Rattle.tv_model.specs.Program.{ProgramForm, PredForm, ActionForm, UpdateForm, CTo, KCore}
 use Rattle.tv_model.specs.declared.program.Edge.{Edge}
-use Rattle.tv_small.specs.Layout.{LaidOut}
+use Rattle.tv_small_tokens.specs.Layout.{LaidOut}
 use Rattle.tv_small.specs.Grammar.{BaseTree, BZero, BOne, BNamed, UpdateTree, ActionTree, EdgeTree, ProgramTree, updates_of, spell_program, program_is_proper}
 
 -- ---- names and their numbers
@@ -111,21 +111,21 @@ base_form preds (BNamed name) = FAtom (number_in preds name) []
 
 abbrev pub update_form : List (List ℕ) → UpdateTree → UpdateForm
 update_form preds u = record {
-    pred = number_in preds u.target;
-    vars = [];
-    change = CTo (negated u.negations (base_form preds u.base))
-  }
+  pred = number_in preds u.target;
+  vars = [];
+  change = CTo (negated u.negations (base_form preds u.base));
+}
 
 abbrev pub action_form : List (List ℕ) → List UpdateTree → ActionForm
 action_form preds us = record {
-    pre = None;
-    picks = [];
-    focus = [];
-    messages = [];
-    fresh = false;
-    retain = None;
-    updates = map (update_form preds) us
-  }
+  pre = None;
+  picks = [];
+  focus = [];
+  messages = [];
+  fresh = false;
+  retain = None;
+  updates = map (update_form preds) us;
+}
 
 -- the updates of the action of this name
 abbrev pub updates_named : List ActionTree → List ℕ → List UpdateTree
@@ -135,33 +135,37 @@ updates_named (a ∷ as') name = if bytes_eq name a.name then updates_of a else 
 -- a core predicate of no arguments and no properties
 abbrev pub pred_form : List ℕ → PredForm
 pred_form name = record {
-    name = name;
-    arity = 0;
-    kind = KCore;
-    abs = true;
-    props = record {
-        unique = false; function = false; invfunction = false;
-        transitive = false; reflexive = false; symmetric = false
-      }
-  }
+  name = name;
+  arity = 0;
+  kind = KCore;
+  abs = true;
+  props = record {
+    unique = false;
+    function = false;
+    invfunction = false;
+    transitive = false;
+    reflexive = false;
+    symmetric = false;
+  };
+}
 
 abbrev pub edge_form : (nodes actions : List (List ℕ)) → EdgeTree → Edge
 edge_form nodes actions e = record {
-    from = number_in nodes e.from;
-    action = number_in actions e.action;
-    to = number_in nodes e.to
-  }
+  from = number_in nodes e.from;
+  action = number_in actions e.action;
+  to = number_in nodes e.to;
+}
 
 -- Predicates are numbered in declaration order; there is an action for each declared one that an edge
 -- takes, numbered by the first such edge.
 abbrev pub program_form : ProgramTree → ProgramForm
 program_form t = record {
-    preds = map pred_form t.preds;
-    rules = [];
-    actions = map (λ name. action_form t.preds (updates_named t.actions name)) (taken_of t);
-    edges = map (edge_form (nodes_of t) (taken_of t)) t.edges;
-    nodes = nodes_of t
-  }
+  preds = map pred_form t.preds;
+  rules = [];
+  actions = map (λ name. action_form t.preds (updates_named t.actions name)) (taken_of t);
+  edges = map (edge_form (nodes_of t) (taken_of t)) t.edges;
+  nodes = nodes_of t;
+}
 
 -- the bytes are those of a small text, and mean this program
 pub record MeansProgram (bytes : List ℕ) (program : ProgramForm) : Type 0 where

@@ -5,7 +5,7 @@ use Rattle.tv_kleene.specs.declared.K3.{K3}
 use Rattle.tv_model.specs.Program.{ProgramForm}
 use Rattle.tv_small.specs.Initials.{entries_are_known, state_of}
 use Rattle.tv_small.specs.Grammar.{UpdateTree, ActionTree, ProgramTree, EntryTree, updates_of}
-use Rattle.tv_small.specs.Reading.{◌>>=◌, tokens_at}
+use Rattle.tv_small_tokens.specs.Reading.{◌>>=◌, tokens_at}
 use Rattle.tv_small.specs.Parsing.{program_tree, structures_front}
 use Rattle.tv_small.specs.Programs.{are_distinct, are_declarable, action_names, action_is_sound, edges_are_known, is_within_limits, program_form}
 

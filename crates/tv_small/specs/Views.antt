@@ -1,6 +1,6 @@
 -- What the readers' trees say, without where their bytes lie in memory.
 use Rattle.std.specs.Prelude.{ℕ, List, map, Option, Some, None}
-use Rattle.tv_small.specs.declared.token.Token.{Token}
+use Rattle.tv_small_tokens.specs.declared.token.Token.{Token}
 use Rattle.tv_small.specs.declared.tree.BaseText.{BaseText}
 use Rattle.tv_small.specs.declared.tree.BaseText.TheVariants.{Zero, One, Named}
 use Rattle.tv_small.specs.declared.tree.UpdateText.{UpdateText}
@@ -10,7 +10,7 @@ use Rattle.tv_small.specs.declared.tree.ProgramText.{ProgramText}
 use Rattle.tv_small.specs.declared.tree.EntryText.{EntryText}
 use Rattle.std.specs.Borrow.{Bor}
 use Rattle.std.specs.Global.{Vec}
-use Rattle.tv_small.specs.Layout.{TokenForm, token_of}
+use Rattle.tv_small_tokens.specs.Layout.{TokenForm, token_of}
 use Rattle.tv_small.specs.Grammar.{BaseTree, BZero, BOne, BNamed, UpdateTree, ActionTree, EdgeTree, ProgramTree, EntryTree}
 
 abbrev pub tokens_of : List Token → List TokenForm
@@ -39,10 +39,10 @@ edge_of e = record { from = e.from.now; action = e.action.now; to = e.to.now }
 
 abbrev pub tree_of : ProgramText → ProgramTree
 tree_of t = record {
-    preds = names_of t.preds.items;
-    actions = map action_of t.actions.items;
-    edges = map edge_of t.edges.items
-  }
+  preds = names_of t.preds.items;
+  actions = map action_of t.actions.items;
+  edges = map edge_of t.edges.items;
+}
 
 abbrev pub entry_of : EntryText → EntryTree
 entry_of e = record { name = e.name.now; value = e.value }

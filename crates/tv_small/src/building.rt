@@ -148,7 +148,11 @@ fn action(
 fn updates_at<'t, 'a>(texts: &'t [ActionText<'a>], number: usize) -> &'t [UpdateText<'a>]
     ensures { map update_of result.now ≡ updates_at (map action_of texts.now) number }
 {
-    if number < texts.len() { updates_of(&texts[number]) } else { &[] }
+    if number < texts.len() {
+        updates_of(&texts[number])
+    } else {
+        &[]
+    }
 }
 
 /// The actions of the names in `taken`, each with the updates of the text that is declared under its
@@ -179,7 +183,11 @@ fn edge(nodes: &Numbering<'_>, taken: &Numbering<'_>, text: &EdgeText<'_>) -> Ed
     let from = number_in(nodes, text.from);
     let action = number_in(taken, text.action);
     let to = number_in(nodes, text.to);
-    Edge { from: from as u32, action: action as u32, to: to as u32 }
+    Edge {
+        from: from as u32,
+        action: action as u32,
+        to: to as u32,
+    }
 }
 
 /// The edges, with the numbers of their nodes and actions.
@@ -201,10 +209,7 @@ pub fn edges(
 }
 
 /// The nodes of the edges, `from` before `to`, edge by edge.
-pub fn node_words<'a>(
-    alloc: Global,
-    edges: &[EdgeText<'a>],
-) -> Result<Vec<&'a [u8]>, AllocError>
+pub fn node_words<'a>(alloc: Global, edges: &[EdgeText<'a>]) -> Result<Vec<&'a [u8]>, AllocError>
     ensures { IfOk result (λ v. names_of v.items ≡ flat_map (λ (e : EdgeTree). e.from ∷ e.to ∷ []) (map edge_of edges.now)) }
 {
     let mut words = Vec::new(alloc);
@@ -216,10 +221,7 @@ pub fn node_words<'a>(
 }
 
 /// The actions of the edges, edge by edge.
-pub fn taken_names<'a>(
-    alloc: Global,
-    edges: &[EdgeText<'a>],
-) -> Result<Vec<&'a [u8]>, AllocError>
+pub fn taken_names<'a>(alloc: Global, edges: &[EdgeText<'a>]) -> Result<Vec<&'a [u8]>, AllocError>
     ensures { IfOk result (λ v. names_of v.items ≡ map (λ (e : EdgeTree). e.action) (map edge_of edges.now)) }
 {
     let mut names = Vec::new(alloc);

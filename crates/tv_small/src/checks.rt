@@ -37,10 +37,7 @@ fn all_known(preds: &Numbering<'_>, updates: &[UpdateText<'_>]) -> bool
     true
 }
 
-fn targets_of<'a>(
-    alloc: Global,
-    updates: &[UpdateText<'a>],
-) -> Result<Vec<&'a [u8]>, AllocError>
+fn targets_of<'a>(alloc: Global, updates: &[UpdateText<'a>]) -> Result<Vec<&'a [u8]>, AllocError>
     ensures { IfOk result (λ v. names_of v.items ≡ map (λ (u : UpdateTree). u.target) (map update_of updates.now)) }
 {
     let mut targets = Vec::new(alloc);
@@ -74,7 +71,11 @@ fn base_height(base: &BaseText<'_>) -> usize
 fn update_is_low(update: &UpdateText<'_>, behind: &[UpdateText<'_>]) -> bool
     ensures { result ≡ nat_le (2 + (update_of update.now).negations + open_behind (update_of update.now) (map update_of behind.now)) 200 }
 {
-    let open = if behind.is_empty() { base_height(&update.base) } else { 1 };
+    let open = if behind.is_empty() {
+        base_height(&update.base)
+    } else {
+        1
+    };
     update.negations <= 198 && update.negations + open <= 198
 }
 

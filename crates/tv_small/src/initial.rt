@@ -6,12 +6,10 @@ ghost use Rattle.tv_kleene.specs.declared.K3.{K3};
 ghost use Rattle.tv_model.specs.Program.{PredForm, pred_of, program_of};
 ghost use Rattle.tv_small.specs.Views.{names_of, entry_of, structures_of};
 ghost use Rattle.tv_small.specs.Grammar.{EntryTree};
-ghost use Rattle.tv_small.specs.Reading.{Gives};
+ghost use Rattle.tv_small_tokens.specs.Reading.{Gives};
 ghost use Rattle.tv_small.specs.Initials.{MeansInitial, pred_names, entries_are_known, state_of};
 ghost use Rattle.tv_small.specs.Resolving.{states_resolved, states_read};
 
-use crate::error::SmallError;
-use crate::lexing::tokens_of;
 use crate::names::{Numbering, are_distinct, by_first_sight, is_known, number_in};
 use crate::parsing::Parser;
 use crate::tree::EntryText;
@@ -19,6 +17,7 @@ use std::alloc::{AllocError, Global};
 use tv_kleene::K3;
 use tv_model::{Items, Pred, Program};
 use tv_nullary::{State, States};
+use tv_small_tokens::{SmallError, tokens_of};
 
 fn pred_names(alloc: Global, program: &Program) -> Result<Vec<&[u8]>, AllocError>
     ensures { IfOk result (λ v. names_of v.items ≡ pred_names (program_of program.now)) }
@@ -117,7 +116,9 @@ fn read(alloc: Global, names: &[&[u8]], bytes: &[u8]) -> Result<States, SmallErr
     ensures { Gives (λ (s : List (List K3)). s) result (states_read (names_of names.now) bytes.now) }
 {
     let tokens = tokens_of(alloc, bytes.len() + 1, bytes)?;
-    let mut parser = Parser { rest: tokens.as_slice() };
+    let mut parser = Parser {
+        rest: tokens.as_slice(),
+    };
     let structures = parser.structures(alloc)?;
     resolve_states(alloc, names, structures.as_slice())
 }

@@ -7,18 +7,15 @@
 
 mod building;
 mod checks;
-mod error;
 mod initial;
-mod lexing;
 mod names;
 mod parsing;
 mod program;
-mod token;
 mod tree;
 
-pub use error::SmallError;
 pub use initial::read_initial;
 pub use program::read_program;
+pub use tv_small_tokens::SmallError;
 
 #[cfg(test)]
 mod tests;

@@ -3,24 +3,20 @@
 ghost use Rattle.std.specs.Prelude.{◌≡◌, ◌≤◌, not, length, map, Bool, IfOk, if◌then◌else◌, Some, None};
 ghost use Rattle.std.specs.List.{list_all};
 ghost use Rattle.tv_small.specs.Views.{names_of};
-ghost use Rattle.tv_small.specs.Reading.{Gives};
+ghost use Rattle.tv_small_tokens.specs.Reading.{Gives};
 ghost use Rattle.tv_small.specs.Programs.{is_known, number_in, by_first_sight, is_reserved, are_distinct, are_declarable};
-
 ghost use Rattle.tv_small.specs.Resolving.{declared_names};
 
-use crate::error::SmallError;
 use crate::parsing::is_text;
 use indexmap::IndexSet;
 use std::alloc::{AllocError, Global};
+use tv_small_tokens::SmallError;
 
 /// Names, each once; the number of a name is its index.
 pub type Numbering<'a> = IndexSet<&'a [u8]>;
 
 /// The names, each once, in order of first sight.
-pub fn by_first_sight<'a>(
-    alloc: Global,
-    names: &[&'a [u8]],
-) -> Result<Numbering<'a>, AllocError>
+pub fn by_first_sight<'a>(alloc: Global, names: &[&'a [u8]]) -> Result<Numbering<'a>, AllocError>
     ensures { IfOk result (λ seen. names_of seen.keys ≡ by_first_sight (names_of names.now)) }
 {
     let mut seen = IndexSet::new(alloc);

@@ -4,18 +4,16 @@ ghost use Rattle.std.specs.Prelude.{◌≡◌, ◌≤◌, ◌+◌, ◌==◌, len
 ghost use Rattle.std.specs.List.{prefix_len};
 ghost use Rattle.std.specs.Str.{bytes_eq};
 ghost use Rattle.tv_small.specs.Views.{tokens_of, names_of, base_of, update_of, block_of, action_of, edge_of, tree_of, entry_of, structures_of};
-ghost use Rattle.tv_small.specs.declared.token.Mark.TheVariants.{Not};
-ghost use Rattle.tv_small.specs.Layout.{token_of};
+ghost use Rattle.tv_small_tokens.specs.declared.token.Mark.TheVariants.{Not};
+ghost use Rattle.tv_small_tokens.specs.Layout.{token_of};
 ghost use Rattle.tv_small.specs.Grammar.{is_ident, is_keyword};
-ghost use Rattle.tv_small.specs.Reading.{Gives};
+ghost use Rattle.tv_small_tokens.specs.Reading.{Gives};
 ghost use Rattle.tv_small.specs.Parsing.{same_mark, is_mark, begins_mark, begins_directive, after, after_directive, word_front, begins_word, ident_front, parens_front, call_front, pred_front, preds_front, base_front, negations, update_front, updates_front, block_front, action_front, actions_front, edge_front, edges_front, is_some_left, program_tree, value_front, entry_front, entries_front, list_front, structure_front, structures_front};
 
-use crate::error::SmallError;
-use crate::lexing::begins_identifier;
-use crate::token::{Mark, Token};
 use crate::tree::{ActionText, BaseText, EdgeText, EntryText, ProgramText, UpdateText};
 use std::alloc::Global;
 use tv_kleene::K3;
+use tv_small_tokens::{Mark, SmallError, Token, begins_identifier};
 
 pub fn is_text(word: &[u8], text: &[u8]) -> bool
     ensures { result ≡ bytes_eq word.now text.now }
@@ -153,7 +151,11 @@ impl<'a> Parser<'a> {
         ensures { Gives (λ x. (x.now, tokens_of self.new.rest.now)) result (ident_front (tokens_of self.old.rest.now)) }
     {
         let name = self.word()?;
-        if is_ident(name) { Ok(name) } else { Err(SmallError::Unbuilt) }
+        if is_ident(name) {
+            Ok(name)
+        } else {
+            Err(SmallError::Unbuilt)
+        }
     }
 
     // The parentheses of no arguments.
@@ -231,7 +233,11 @@ impl<'a> Parser<'a> {
         self.mark(Mark::Equals)?;
         let negations = self.negations();
         let base = self.base()?;
-        Ok(UpdateText { target, negations, base })
+        Ok(UpdateText {
+            target,
+            negations,
+            base,
+        })
     }
 
     fn updates(&mut self, alloc: Global) -> Result<Vec<UpdateText<'a>>, SmallError>
@@ -321,7 +327,11 @@ impl<'a> Parser<'a> {
         let actions = self.actions(alloc)?;
         self.mark(Mark::Parts)?;
         let edges = self.edges(alloc)?;
-        Ok(ProgramText { preds, actions, edges })
+        Ok(ProgramText {
+            preds,
+            actions,
+            edges,
+        })
     }
 
     #[tactic(auto, unfolding(crate::specs::Parsing::value_front))]
@@ -393,5 +403,4 @@ impl<'a> Parser<'a> {
         }
         Err(SmallError::Unbuilt)
     }
-
 }

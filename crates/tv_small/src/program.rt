@@ -4,7 +4,7 @@ ghost use Rattle.std.specs.Prelude.{◌≡◌, ◌≤◌, length, IfOk, IsErrOf,
 ghost use Rattle.tv_model.specs.Program.{ProgramForm, program_of};
 ghost use Rattle.tv_nullary.specs.Nullary.{IsNullaryProgram};
 ghost use Rattle.tv_small.specs.Views.{names_of, tree_of};
-ghost use Rattle.tv_small.specs.Reading.{Gives};
+ghost use Rattle.tv_small_tokens.specs.Reading.{Gives};
 ghost use Rattle.tv_small.specs.Programs.{MeansProgram, action_names, nodes_of, is_within_limits, program_form};
 ghost use Rattle.tv_small.specs.Resolving.{uses_resolved, resolved, program_read};
 
@@ -12,13 +12,12 @@ use crate::building::{
     action_names, actions, edges, node_words, own_names, predicates, taken_names,
 };
 use crate::checks::uses_are_sound;
-use crate::error::SmallError;
-use crate::lexing::tokens_of;
 use crate::names::{Numbering, by_first_sight, declared};
 use crate::parsing::Parser;
 use crate::tree::ProgramText;
 use std::alloc::{AllocError, Global};
 use tv_model::{Items, Program, Vocab};
+use tv_small_tokens::{SmallError, tokens_of};
 
 // The most tokens that a program has.
 const TOKENS_MAX: usize = 65_536;
@@ -47,9 +46,17 @@ fn assemble(
     let names = taken_names(alloc, tree.edges.as_slice())?;
     let taken = by_first_sight(alloc, names.as_slice())?;
     Ok(Program {
-        vocab: Vocab { preds: predicates(alloc, tree.preds.as_slice())? },
+        vocab: Vocab {
+            preds: predicates(alloc, tree.preds.as_slice())?,
+        },
         rules: Items::new(alloc),
-        actions: actions(alloc, preds, declared, tree.actions.as_slice(), taken.as_slice())?,
+        actions: actions(
+            alloc,
+            preds,
+            declared,
+            tree.actions.as_slice(),
+            taken.as_slice(),
+        )?,
         edges: edges(alloc, nodes, &taken, tree.edges.as_slice())?,
         nodes: own_names(alloc, nodes.as_slice())?,
     })
@@ -90,7 +97,9 @@ fn read(alloc: Global, bytes: &[u8]) -> Result<Program, SmallError>
     ensures { Gives program_of result (program_read bytes.now) }
 {
     let tokens = tokens_of(alloc, TOKENS_MAX + 1, bytes)?;
-    let mut parser = Parser { rest: tokens.as_slice() };
+    let mut parser = Parser {
+        rest: tokens.as_slice(),
+    };
     let tree = parser.program(alloc)?;
     resolve(alloc, &tree)
 }

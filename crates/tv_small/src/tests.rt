@@ -16,7 +16,9 @@ fn accepts_initial(alloc: Global, program: &Program, text: &[u8]) -> bool {
 
 #[test]
 fn flip_program(rt: HostRuntime) -> Result<(), Fail> {
-    let program = read_program(rt.alloc(), FLIP).ok().ok_or("the text is small")?;
+    let program = read_program(rt.alloc(), FLIP)
+        .ok()
+        .ok_or("the text is small")?;
     assert_eq!(rt; program.vocab.preds.len(), 1);
     assert_eq!(rt; program.actions.len(), 1);
     assert_eq!(rt; program.nodes.len(), 2);
@@ -24,7 +26,9 @@ fn flip_program(rt: HostRuntime) -> Result<(), Fail> {
         assert_eq!(rt; (edge.from, edge.action, edge.to), (0, 0, 1));
     }
     let initial: &[u8] = b"%n = {} %p = { b = 1 }";
-    let states = read_initial(rt.alloc(), &program, initial).ok().ok_or("the text is small")?;
+    let states = read_initial(rt.alloc(), &program, initial)
+        .ok()
+        .ok_or("the text is small")?;
     assert_eq!(rt; states.len(), 1);
     Ok(())
 }
@@ -33,7 +37,9 @@ fn flip_program(rt: HostRuntime) -> Result<(), Fail> {
 #[test]
 fn numbers(rt: HostRuntime) -> Result<(), Fail> {
     let text: &[u8] = b"%%%action A1(){}%action B1(){}%action C1(){}%%n2 C1()n1 n1 A1()n3";
-    let program = read_program(rt.alloc(), text).ok().ok_or("the text is small")?;
+    let program = read_program(rt.alloc(), text)
+        .ok()
+        .ok_or("the text is small")?;
     assert_eq!(rt; program.actions.len(), 2);
     assert_eq!(rt; program.edges.len(), 2);
     let edges = program.edges.as_slice();
@@ -49,9 +55,15 @@ fn small_programs(rt: HostRuntime) {
         (b"%p b()%%%action F(){{b()=!b()}}%%L0 F()L1", true),
         (b"%% %action F() {} %% 0 F() 0x_", true),
         (b"%%%action F(){}%%E F()in", true),
-        (b"%p b() %p c() %% %action F() {{ b() = c() c() = !!0 }} %% a F() a", true),
+        (
+            b"%p b() %p c() %% %action F() {{ b() = c() c() = !!0 }} %% a F() a",
+            true,
+        ),
         (b"", false),
-        (b"%p b() unique %% %action Flip() { { b() = !b() } } %% L0 Flip() L1", false),
+        (
+            b"%p b() unique %% %action Flip() { { b() = !b() } } %% L0 Flip() L1",
+            false,
+        ),
         (b"%p b() %p b() %% %action F() {} %% a F() a", false),
         (b"%p sm() %% %action F() {} %% a F() a", false),
         (b"%p isNew() %% %action F() {} %% a F() a", false),
@@ -70,7 +82,10 @@ fn small_programs(rt: HostRuntime) {
         (b"%% %action F() {} a F() a", false),
         (b"%p b() %% %action F() {{ b() = d() }} %% a F() a", false),
         (b"%p b() %% %action F() {{ d() = 1 }} %% a F() a", false),
-        (b"%p b() %% %action F() {{ b() = 1 b() = 0 }} %% a F() a", false),
+        (
+            b"%p b() %% %action F() {{ b() = 1 b() = 0 }} %% a F() a",
+            false,
+        ),
         (b"%p b() %% %action F() {{ b() = 1/2 }} %% a F() a", false),
         (b"%p b() %% %action F() {{ b() == 1 }} %% a F() a", false),
         (b"%p b() %% %action F() {{ b() = = 1 }} %% a F() a", false),
@@ -149,7 +164,9 @@ fn token_limit(rt: HostRuntime) -> Result<(), Fail> {
 
 #[test]
 fn small_initials(rt: HostRuntime) -> Result<(), Fail> {
-    let program = read_program(rt.alloc(), FLIP).ok().ok_or("the text is small")?;
+    let program = read_program(rt.alloc(), FLIP)
+        .ok()
+        .ok_or("the text is small")?;
     let rows: [(&[u8], bool); 16] = [
         (b"", true),
         (b" \t\r\n", true),
@@ -178,9 +195,13 @@ fn small_initials(rt: HostRuntime) -> Result<(), Fail> {
 #[test]
 fn last_value(rt: HostRuntime) -> Result<(), Fail> {
     let text: &[u8] = b"%p a() %p b() %p c() %% %action F() {} %% n F() n";
-    let program = read_program(rt.alloc(), text).ok().ok_or("the text is small")?;
+    let program = read_program(rt.alloc(), text)
+        .ok()
+        .ok_or("the text is small")?;
     let initial: &[u8] = b"%n = {} %p = { c = 1 b = 1 c = 1/2 }";
-    let states = read_initial(rt.alloc(), &program, initial).ok().ok_or("the text is small")?;
+    let states = read_initial(rt.alloc(), &program, initial)
+        .ok()
+        .ok_or("the text is small")?;
     assert_eq!(rt; states.len(), 1);
     for state in states.as_slice() {
         assert!(rt; state.as_slice() == [K3::No, K3::Yes, K3::Half].as_slice());

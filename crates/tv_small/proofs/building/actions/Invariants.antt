@@ -8,4 +8,4 @@ use Rattle.tv_small.proofs.building.actions.Given as goal
 abbrev pub invariant-loop-name : goal.invariant-loop-name
 invariant-loop-name l =
     map built_action l.actions.items
-      ≡ map (λ name. action_form (names_of l.preds.keys) (updates_at (map action_of l.texts) (number_in (names_of l.declared.keys) name))) (names_of (take l.name-index l.taken))
+    ≡ map (λ name. action_form (names_of l.preds.keys) (updates_at (map action_of l.texts) (number_in (names_of l.declared.keys) name))) (names_of (take l.name-index l.taken))

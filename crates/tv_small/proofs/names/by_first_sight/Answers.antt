@@ -8,4 +8,4 @@ pub loop-name-preserved : goal.loop-name-preserved
 loop-name-preserved c =
     let name = get_or c.args.names.now c.loop-name.name-index record { ref_ptr = (0, 0); now = [] } in
     rw c.in_ok-insert.ensures.keys
-      (sight-names _ (λ a b. refl) c.loop-name.seen.keys name ∙ ap (λ seen. sight seen name.now) c.loop-name.invariant ∙ sym (fold-sight-more c.args.names.now c.loop-name.name-index _ c.loop-name-test.true))
+    (sight-names _ (λ a b. refl) c.loop-name.seen.keys name ∙ ap (λ seen. sight seen name.now) c.loop-name.invariant ∙ sym (fold-sight-more c.args.names.now c.loop-name.name-index _ c.loop-name-test.true))

@@ -1,7 +1,7 @@
 use Rattle.std.proofs.Common.{◌≡◌, ◌+◌, drop}
 use Rattle.std.specs.List.{prefix_len}
-use Rattle.tv_small.specs.declared.token.Mark.TheVariants.{Not}
-use Rattle.tv_small.specs.Layout.{token_of}
+use Rattle.tv_small_tokens.specs.declared.token.Mark.TheVariants.{Not}
+use Rattle.tv_small_tokens.specs.Layout.{token_of}
 use Rattle.tv_small.specs.Parsing.{is_mark}
 use Rattle.tv_small.proofs.parsing.negations_len.Given as goal
 

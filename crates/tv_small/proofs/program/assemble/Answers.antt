@@ -37,8 +37,8 @@ returns c =
     let rules = ap (map rule_of) c.new.ensures in
     let slice = ap names_of c.as_slice-5.ensures.keys ∙ taken in
     let actions = c.in_ok-actions.ensures ∙ ap (λ texts. map (λ name. action_form (names_of c.args.preds.now.keys) (updates_at (map action_of texts) (number_in (names_of c.args.declared.now.keys) name))) (names_of c.as_slice-5.result.now)) c.as_slice-4.ensures.value
-        ∙ actions_are t (names_of c.args.preds.now.keys) (names_of c.args.declared.now.keys) (names_of c.as_slice-5.result.now) c.requires.preds c.requires.declared slice in
+    ∙ actions_are t (names_of c.args.preds.now.keys) (names_of c.args.declared.now.keys) (names_of c.as_slice-5.result.now) c.requires.preds c.requires.declared slice in
     let edges = c.in_ok-edges.ensures ∙ ap (λ texts. map (edge_form (names_of c.args.nodes.now.keys) (names_of c.in_ok-taken.taken.keys)) (map edge_of texts)) c.as_slice-6.ensures.value
-        ∙ edges_are t (names_of c.args.nodes.now.keys) (names_of c.in_ok-taken.taken.keys) c.requires.nodes taken in
+    ∙ edges_are t (names_of c.args.nodes.now.keys) (names_of c.in_ok-taken.taken.keys) c.requires.nodes taken in
     let nodes = c.in_ok-own_names.ensures ∙ ap names_of c.as_slice-7.ensures.keys ∙ c.requires.nodes in
     program_is _ (program_form t) preds rules actions edges nodes

@@ -1,7 +1,7 @@
 use Rattle.std.specs.Prelude.{◌+◌, length, codes, map}
 use Rattle.tv_small.specs.Views.{tokens_of, action_of}
 use Rattle.tv_small.specs.Parsing.{begins_directive, action_front, actions_front}
-use Rattle.tv_small.proofs.Loops.{SoFar}
+use Rattle.tv_small_tokens.proofs.Loops.{SoFar}
 use Rattle.tv_small.proofs.parsing.Parser.actions.Given as goal
 
 abbrev pub invariant-loop : goal.invariant-loop

@@ -1,7 +1,7 @@
 use Rattle.std.specs.Prelude.{◌+◌, length, map}
 use Rattle.tv_small.specs.Views.{tokens_of, edge_of}
 use Rattle.tv_small.specs.Parsing.{is_some_left, edge_front, edges_front}
-use Rattle.tv_small.proofs.Loops.{SoFar}
+use Rattle.tv_small_tokens.proofs.Loops.{SoFar}
 use Rattle.tv_small.proofs.parsing.Parser.edges.Given as goal
 
 abbrev pub invariant-loop : goal.invariant-loop

@@ -1,7 +1,7 @@
 use Rattle.std.specs.Prelude.{◌+◌, length, map}
 use Rattle.tv_small.specs.Views.{tokens_of, entry_of}
 use Rattle.tv_small.specs.Parsing.{begins_word, entry_front, entries_front}
-use Rattle.tv_small.proofs.Loops.{SoFar}
+use Rattle.tv_small_tokens.proofs.Loops.{SoFar}
 use Rattle.tv_small.proofs.parsing.Parser.entries.Given as goal
 
 abbrev pub invariant-loop : goal.invariant-loop

@@ -1,7 +1,7 @@
 use Rattle.std.proofs.Common.{sym, ap, map, ◌∙◌}
 use Rattle.std.proofs.lemmas.List.{drop-map}
-use Rattle.tv_small.specs.declared.token.Mark.TheVariants.{Not}
-use Rattle.tv_small.specs.Layout.{token_of}
+use Rattle.tv_small_tokens.specs.declared.token.Mark.TheVariants.{Not}
+use Rattle.tv_small_tokens.specs.Layout.{token_of}
 use Rattle.tv_small.specs.Parsing.{is_mark}
 use Rattle.tv_small.proofs.Lists.{prefix_len-map, take_rest}
 use Rattle.tv_small.proofs.parsing.Parser.negations.Goals as goal

@@ -1,9 +1,9 @@
 use Rattle.std.proofs.Common.{◌≡◌, ◌∷◌, ◌++◌, [], arith, Bor, List, ℕ}
 use Rattle.std.proofs.lemmas.Result.{err_from_is_err_and}
 use Rattle.std.proofs.lemmas.List.{map_push, length-map}
-use Rattle.tv_small.specs.Layout.{token_of}
+use Rattle.tv_small_tokens.specs.Layout.{token_of}
 use Rattle.tv_small.specs.Views.{names_of}
-use Rattle.tv_small.proofs.Loops.{many_more, many_fails, many_ends, many_runs_out}
+use Rattle.tv_small_tokens.proofs.Loops.{many_more, many_fails, many_ends, many_runs_out}
 use Rattle.tv_small.proofs.parsing.Parser.preds.Goals as goal
 
 pub returns-then-not-begins_directive : goal.returns-then-not-begins_directive

@@ -1,7 +1,7 @@
 use Rattle.std.specs.Prelude.{◌+◌, length, codes}
 use Rattle.tv_small.specs.Views.{tokens_of, names_of}
 use Rattle.tv_small.specs.Parsing.{begins_directive, pred_front, preds_front}
-use Rattle.tv_small.proofs.Loops.{SoFar}
+use Rattle.tv_small_tokens.proofs.Loops.{SoFar}
 use Rattle.tv_small.proofs.parsing.Parser.preds.Given as goal
 
 abbrev pub invariant-loop : goal.invariant-loop

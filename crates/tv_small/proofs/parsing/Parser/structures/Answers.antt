@@ -3,9 +3,9 @@ use Rattle.std.specs.Global.{Vec}
 use Rattle.tv_small.specs.declared.tree.EntryText.{EntryText}
 use Rattle.std.proofs.lemmas.Result.{err_from_is_err_and}
 use Rattle.std.proofs.lemmas.List.{map_push, length-map}
-use Rattle.tv_small.specs.Layout.{token_of}
+use Rattle.tv_small_tokens.specs.Layout.{token_of}
 use Rattle.tv_small.specs.Views.{structures_of, entry_of}
-use Rattle.tv_small.proofs.Loops.{many_more, many_fails, many_ends, many_runs_out}
+use Rattle.tv_small_tokens.proofs.Loops.{many_more, many_fails, many_ends, many_runs_out}
 use Rattle.tv_small.proofs.parsing.Parser.structures.Goals as goal
 
 pub returns-then-not-is_some_left : goal.returns-then-not-is_some_left

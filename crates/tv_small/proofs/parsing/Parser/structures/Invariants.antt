@@ -1,7 +1,7 @@
 use Rattle.std.specs.Prelude.{◌+◌, length}
 use Rattle.tv_small.specs.Views.{tokens_of, structures_of}
 use Rattle.tv_small.specs.Parsing.{is_some_left, structure_front, structures_front}
-use Rattle.tv_small.proofs.Loops.{SoFar}
+use Rattle.tv_small_tokens.proofs.Loops.{SoFar}
 use Rattle.tv_small.proofs.parsing.Parser.structures.Given as goal
 
 abbrev pub invariant-loop : goal.invariant-loop

@@ -1,9 +1,9 @@
 use Rattle.std.proofs.Common.{◌≡◌, ◌∷◌, ◌++◌, [], arith, map}
 use Rattle.std.proofs.lemmas.Result.{err_from_is_err_and}
 use Rattle.std.proofs.lemmas.List.{map_push, length-map}
-use Rattle.tv_small.specs.Layout.{token_of}
+use Rattle.tv_small_tokens.specs.Layout.{token_of}
 use Rattle.tv_small.specs.Views.{update_of}
-use Rattle.tv_small.proofs.Loops.{many_more, many_fails, many_ends, many_runs_out}
+use Rattle.tv_small_tokens.proofs.Loops.{many_more, many_fails, many_ends, many_runs_out}
 use Rattle.tv_small.proofs.parsing.Parser.updates.Goals as goal
 
 pub returns-then-not-begins_word : goal.returns-then-not-begins_word

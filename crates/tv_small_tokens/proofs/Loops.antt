@@ -1,9 +1,9 @@
 -- Items read one after the other, as a loop does.
-use Rattle.std.proofs.Common.{◌≡◌, ℕ, suc, ◌+◌, ◌-◌, ◌<◌, ◌≤◌, Bool, true, false, cond, List, [], ◌∷◌, ◌++◌, Option, Some, None, refl, sym, ap, ◌∙◌, append_assoc, arith}
+use Rattle.std.proofs.Common.{◌≡◌, ℕ, suc, ◌+◌, ◌-◌, ◌<◌, ◌≤◌, Bool, true, false, List, [], ◌∷◌, ◌++◌, Option, Some, None, refl, sym, ap, ◌∙◌, append_assoc, arith}
 use Rattle.std.proofs.lemmas.List.{append-nil}
-use Rattle.tv_small.specs.declared.error.SmallError.{SmallError}
-use Rattle.tv_small.specs.declared.error.SmallError.TheVariants.{Unbuilt, Memory}
-use Rattle.tv_small.specs.Reading.{◌>>=◌, Fails, many}
+use Rattle.tv_small_tokens.specs.declared.error.SmallError.{SmallError}
+use Rattle.tv_small_tokens.specs.declared.error.SmallError.TheVariants.{Unbuilt, Memory}
+use Rattle.tv_small_tokens.specs.Reading.{◌>>=◌, Fails, many}
 
 -- what was read before, and what is still read
 abbrev pub with_front : {A B : Type 0} → List A → Option (List A × List B) → Option (List A × List B)

@@ -1,9 +1,9 @@
 use Rattle.std.proofs.Common.{◌≡◌, ◌∷◌, ◌++◌, [], map, Some, refl}
 use Rattle.std.proofs.lemmas.Result.{err_from_is_err_and}
 use Rattle.std.proofs.lemmas.List.{map_push}
-use Rattle.tv_small.specs.Layout.{token_of}
-use Rattle.tv_small.proofs.Loops.{many_more, many_fails, many_ends, many_runs_out, Fails-then}
-use Rattle.tv_small.proofs.lexing.tokens_of.Goals as goal
+use Rattle.tv_small_tokens.specs.Layout.{token_of}
+use Rattle.tv_small_tokens.proofs.Loops.{many_more, many_fails, many_ends, many_runs_out, Fails-then}
+use Rattle.tv_small_tokens.proofs.lexing.scanned.Goals as goal
 
 pub returns-then-not-goes_on : goal.returns-then-not-goes_on
 returns-then-not-goes_on c = rw (many_ends c.loop.invariant c.loop-test.true (cc)) refl

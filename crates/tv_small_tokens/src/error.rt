@@ -1,7 +1,7 @@
 //! Why a small text was not read.
 
 ghost use Rattle.std.specs.Prelude.{◌≡◌};
-ghost use Rattle.tv_small.specs.declared.error.SmallError.TheVariants.{Memory};
+ghost use Rattle.tv_small_tokens.specs.declared.error.SmallError.TheVariants.{Memory};
 
 use std::alloc::{AllocError, AllocFailed};
 

@@ -1,10 +1,10 @@
 //! Cuts a small text into its tokens.
 
-ghost use Rattle.std.specs.Prelude.{◌≡◌, ◌≤◌, ◌==◌, ◌-◌, ◌||◌, length, map, drop, IfOk};
+ghost use Rattle.std.specs.Prelude.{◌≡◌, ◌≤◌, ◌==◌, ◌-◌, ◌||◌, length, map, drop, List, ◌<◌, IfOk, IsErrOf};
 ghost use Rattle.std.specs.List.{prefix_len};
 ghost use Rattle.std.specs.Option.{option_map};
-ghost use Rattle.tv_small.specs.Layout.{token_of, has_class, is_letter, is_blank, begins};
-ghost use Rattle.tv_small.specs.Reading.{Gives, behind, begins_half, word_at, percent_at, mark_at, token_at, goes_on, token_behind_blanks, tokens_at};
+ghost use Rattle.tv_small_tokens.specs.Layout.{TokenForm, LaidOut, token_of, has_class, is_letter, is_blank, begins};
+ghost use Rattle.tv_small_tokens.specs.Reading.{Gives, behind, begins_half, word_at, percent_at, mark_at, token_at, goes_on, token_behind_blanks, tokens_at};
 
 use crate::error::SmallError;
 use crate::token::{Mark, Token};
@@ -151,8 +151,21 @@ fn goes_on(text: &[u8]) -> bool
     !behind_blanks(text).is_empty()
 }
 
-/// The tokens of a text that has fewer than `limit`; they borrow their bytes.
+/// The tokens of a text that has fewer than `limit`, in order; they borrow their bytes.
+///
+/// Answers `Unbuilt` where the text has that many tokens or more, or is no sequence of tokens.
 pub fn tokens_of(alloc: Global, limit: usize, text: &[u8]) -> Result<Vec<Token<'_>>, SmallError>
+    ensures found { IfOk result (λ v. LaidOut (map token_of v.items) text.now × (length (map token_of v.items) < limit)) }
+    // The text is laid out as no other tokens.
+    ensures only { IfOk result (λ v. (others : List TokenForm) → LaidOut others text.now → length others < limit → others ≡ map token_of v.items) }
+    ensures unbuilt { IsErrOf result SmallError.Unbuilt → (others : List TokenForm) → LaidOut others text.now → length others < limit → ⊥ }
+    // What reading from the left gives.
+    ensures exact { Gives (λ v. map token_of v.items) result (tokens_at limit text.now) }
+{
+    scanned(alloc, limit, text)
+}
+
+fn scanned(alloc: Global, limit: usize, text: &[u8]) -> Result<Vec<Token<'_>>, SmallError>
     ensures { Gives (λ v. map token_of v.items) result (tokens_at limit text.now) }
 {
     let mut tokens = Vec::new(alloc);

@@ -1,10 +1,10 @@
 -- Reading from left to right, as functions on lists.
 use Rattle.std.specs.Prelude.{◌≡◌, ℕ, zero, suc, Bool, not, ◌&&◌, ◌==◌, List, [], ◌∷◌, length, take, drop, Option, Some, None, Result, Ok, Err, nat_eq, option_and_then, if◌then◌else◌}
 use Rattle.std.specs.List.{prefix_len, starts_with}
-use Rattle.tv_small.specs.declared.error.SmallError.{SmallError}
-use Rattle.tv_small.specs.declared.error.SmallError.TheVariants.{Unbuilt, Memory}
-use Rattle.tv_small.specs.declared.token.Mark.TheVariants.{Parts, Open, Close, OpenBrace, CloseBrace, Equals, Not}
-use Rattle.tv_small.specs.Layout.{TokenForm, TWord, TDirective, THalf, TPunct, is_letter, is_word_byte, is_blank, begins}
+use Rattle.tv_small_tokens.specs.declared.error.SmallError.{SmallError}
+use Rattle.tv_small_tokens.specs.declared.error.SmallError.TheVariants.{Unbuilt, Memory}
+use Rattle.tv_small_tokens.specs.declared.token.Mark.TheVariants.{Parts, Open, Close, OpenBrace, CloseBrace, Equals, Not}
+use Rattle.tv_small_tokens.specs.Layout.{TokenForm, TWord, TDirective, THalf, TPunct, is_letter, is_word_byte, is_blank, begins}
 
 infixl 10 ◌>>=◌
 abbrev pub ◌>>=◌ : {A B : Type 0} → Option A → (A → Option B) → Option B

@@ -1,8 +1,8 @@
 use Rattle.std.proofs.Common.{map}
-use Rattle.tv_small.specs.Layout.{token_of}
-use Rattle.tv_small.specs.Reading.{many, goes_on, token_behind_blanks}
-use Rattle.tv_small.proofs.Loops.{SoFar}
-use Rattle.tv_small.proofs.lexing.tokens_of.Given as goal
+use Rattle.tv_small_tokens.specs.Layout.{token_of}
+use Rattle.tv_small_tokens.specs.Reading.{many, goes_on, token_behind_blanks}
+use Rattle.tv_small_tokens.proofs.Loops.{SoFar}
+use Rattle.tv_small_tokens.proofs.lexing.scanned.Given as goal
 
 abbrev pub invariant-loop : goal.invariant-loop
 invariant-loop l =

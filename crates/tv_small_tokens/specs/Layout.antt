@@ -1,12 +1,12 @@
 -- Small texts as tokens: a text is its tokens spelled out one after the other, with blanks between.
-use Rattle.std.specs.Prelude.{◌≡◌, ◌≢◌, ℕ, Bool, true, false, not, ◌||◌, ◌&&◌, ◌==◌, nat_le, List, [], ◌∷◌, ◌++◌, IsTrue}
+use Rattle.std.specs.Prelude.{◌≡◌, ◌≢◌, ℕ, Bool, false, ◌||◌, ◌&&◌, ◌==◌, nat_le, List, [], ◌∷◌, ◌++◌, IsTrue}
 use Rattle.std.specs.List.{list_all}
-use Rattle.tv_small.specs.declared.token.Mark.{Mark}
-use Rattle.tv_small.specs.declared.token.Mark.TheVariants.{Parts, Open, Close, OpenBrace, CloseBrace, Equals, Not}
-use Rattle.tv_small.specs.declared.lexing.Class.{Class}
-use Rattle.tv_small.specs.declared.lexing.Class.TheVariants.{Blank, Letter, WordByte}
-use Rattle.tv_small.specs.declared.token.Token.{Token}
-use Rattle.tv_small.specs.declared.token.Token.TheVariants.{Word, Directive, Half, Punct}
+use Rattle.tv_small_tokens.specs.declared.token.Mark.{Mark}
+use Rattle.tv_small_tokens.specs.declared.token.Mark.TheVariants.{Parts, Open, Close, OpenBrace, CloseBrace, Equals, Not}
+use Rattle.tv_small_tokens.specs.declared.lexing.Class.{Class}
+use Rattle.tv_small_tokens.specs.declared.lexing.Class.TheVariants.{Blank, Letter, WordByte}
+use Rattle.tv_small_tokens.specs.declared.token.Token.{Token}
+use Rattle.tv_small_tokens.specs.declared.token.Token.TheVariants.{Word, Directive, Half, Punct}
 
 -- a token, with the bytes of a word or those of a directive behind its `%`
 pub data TokenForm : Type 0 where

@@ -1,10 +1,10 @@
 -- The longest front of a text whose bytes pass, and what is behind it.
-use Rattle.std.proofs.Common.{◌≡◌, ◌≢◌, ℕ, suc, ◌+◌, Bool, true, false, List, [], ◌∷◌, ◌++◌, refl, sym, ap, subst, inl, inr, arith, eqb}
+use Rattle.std.proofs.Common.{◌≡◌, ℕ, suc, ◌+◌, Bool, true, false, List, [], ◌∷◌, ◌++◌, refl, sym, ap, subst, inl, inr, arith, eqb}
 use Rattle.std.specs.List.{prefix_len, list_all}
 use Rattle.std.proofs.lemmas.Bool.{cases_Bool, and_parts, and_from, both_ways, ne_eqb}
 use Rattle.std.proofs.lemmas.List.{take-append-drop}
-use Rattle.tv_small.specs.Layout.{begins}
-use Rattle.tv_small.specs.Reading.{front, behind}
+use Rattle.tv_small_tokens.specs.Layout.{begins}
+use Rattle.tv_small_tokens.specs.Reading.{front, behind}
 
 module _ (p : ℕ → Bool) where
   pub front_yes : (b : ℕ) (bs : List ℕ) → p b ≡ true → front p (b ∷ bs) ≡ b ∷ front p bs

@@ -1,16 +1,21 @@
 -- The tokens that are read are those that the text is laid out as.
-use Rattle.std.proofs.Common.{◌≡◌, ◌≢◌, ℕ, zero, suc, ◌+◌, ◌<◌, ◌≤◌, Bool, true, false, not, ◌&&◌, ◌||◌, cond, eqb, List, [], ◌∷◌, ◌++◌, length, take, drop, Option, Some, None, refl, sym, ap, subst, ◌∙◌, inl, inr, ◌⊎◌, arith, append_assoc, nat_eq}
+use Rattle.std.proofs.Common.{◌≡◌, ◌≢◌, ℕ, zero, suc, ◌<◌, Bool, true, false, not, ◌&&◌, ◌||◌, cond, eqb, List, [], ◌∷◌, ◌++◌, length, map, drop, Option, Some, None, Result, Ok, Err, refl, sym, ap, subst, ◌∙◌, inl, inr, ◌⊎◌, arith, append_assoc, nat_eq}
 use Rattle.std.specs.List.{list_all, starts_with}
-use Rattle.std.proofs.lemmas.Bool.{cases_Bool, and_parts, and_from, both_ways, eqb-true, not-true, not-false, not_from_false, false_from_ne_true, and_left, or_from, eqb-false, ne_eqb}
+use Rattle.std.proofs.lemmas.Bool.{cases_Bool, and_parts, eqb-true, not-true, not-false, false_from_ne_true, and_left, or_from, eqb-false, ne_eqb}
 use Rattle.std.proofs.lemmas.Bool.Decides.{Decides-eqb}
-use Rattle.std.proofs.lemmas.Option.{some_pair_parts, same_Some}
+use Rattle.std.proofs.lemmas.Option.{same_Some}
 use Rattle.std.proofs.lemmas.List.{append-nil}
 use Rattle.std.proofs.lemmas.Slice.Eq.{starts_is}
-use Rattle.tv_small.specs.declared.token.Mark.{Mark}
-use Rattle.tv_small.specs.declared.token.Mark.TheVariants.{Parts, Open, Close, OpenBrace, CloseBrace, Equals, Not}
-use Rattle.tv_small.specs.Layout.{TokenForm, TWord, TDirective, THalf, TPunct, IsToken, FirstToken, LaidOut, token_text, mark_text, continues, begins, is_blank, is_letter, is_word_byte}
-use Rattle.tv_small.specs.Reading.{◌>>=◌, front, behind, begins_half, word_at, percent_at, mark_at, token_at, many, goes_on, token_behind_blanks}
-use Rattle.tv_small.proofs.Fronts.{front_yes, front_parts, front_passes, behind_stops, front_is, behind_is, differs, begins_never}
+use Rattle.tv_small_tokens.specs.declared.token.Mark.{Mark}
+use Rattle.tv_small_tokens.specs.declared.token.Mark.TheVariants.{Parts, Open, Close, OpenBrace, CloseBrace, Equals, Not}
+use Rattle.std.specs.Prelude.{IfOk, IsErrOf}
+use Rattle.std.specs.Global.{Vec}
+use Rattle.tv_small_tokens.specs.declared.error.SmallError.{SmallError}
+use Rattle.tv_small_tokens.specs.declared.error.SmallError.TheVariants.{Unbuilt, Memory}
+use Rattle.tv_small_tokens.specs.declared.token.Token.{Token}
+use Rattle.tv_small_tokens.specs.Layout.{TokenForm, token_of, TWord, TDirective, THalf, TPunct, IsToken, FirstToken, LaidOut, token_text, mark_text, continues, begins, is_blank, is_letter, is_word_byte}
+use Rattle.tv_small_tokens.specs.Reading.{◌>>=◌, front, behind, begins_half, word_at, percent_at, mark_at, token_at, many, goes_on, token_behind_blanks, tokens_at, Gives}
+use Rattle.tv_small_tokens.proofs.Fronts.{front_yes, front_parts, front_passes, behind_stops, front_is, behind_is, differs, begins_never}
 
 -- ---- tools
 
@@ -136,12 +141,12 @@ tokens_found (suc n) text ts rest e =
           let f = token_found (behind is_blank text) b.0.0 b.0.1 b.1 in
           let others = tokens_found n b.0.1 d.0.0 d.0.1 d.1 in
           let first : FirstToken b.0.0 text b.0.1 = record {
-              gap = front is_blank text;
-              blank = front_passes is_blank text;
-              proper = f.proper;
-              parts = front_parts is_blank text ∙ ap (λ (x : List ℕ). front is_blank text ++ x) f.parts ∙ sym (append_assoc (front is_blank text) (token_text b.0.0) b.0.1);
-              longest = f.longest
-            } in
+            gap = front is_blank text;
+            blank = front_passes is_blank text;
+            proper = f.proper;
+            parts = front_parts is_blank text ∙ ap (λ (x : List ℕ). front is_blank text ++ x) f.parts ∙ sym (append_assoc (front is_blank text) (token_text b.0.0) b.0.1);
+            longest = f.longest;
+          } in
           let both : LaidOut (b.0.0 ∷ d.0.0) text × (length (b.0.0 ∷ d.0.0) < suc n) = ((b.0.1, first, others.0), omega (arith, others.1)) in
           subst (λ (x : List TokenForm × List ℕ). LaidOut x.0 text × (length x.0 < suc n)) (same_Some (b.0.0 ∷ d.0.0, d.0.1) (ts, rest) d.2) both
       | inr h ↦
@@ -278,3 +283,29 @@ tokens_read (t ∷ ts) text (suc n) h lt =
     let some : goes_on text ≡ true = rw (begun, f.2) (some_left f.0 f.1) in
     let one : token_behind_blanks text ≡ Some (t, h.0) = rw begun (token_read t h.0 first.proper first.longest (no_slash ts h.0 h.2)) in
     (others.0, rw (some, one, others.1) refl)
+
+-- ---- what the reader answers
+
+pub laid_out : (n : ℕ) (text : List ℕ) (ts : List TokenForm) → tokens_at n text ≡ Some ts → LaidOut ts text × (length ts < n)
+laid_out n text ts e =
+    let a = bind_some (many goes_on token_behind_blanks n text) (λ x. Some x.0) ts e in
+    subst (λ (us : List TokenForm). LaidOut us text × (length us < n)) (same_Some a.0.0 ts a.2) (tokens_found n text a.0.0 a.0.1 a.1)
+
+pub tokens_again : (n : ℕ) (text : List ℕ) (ts : List TokenForm) → LaidOut ts text → length ts < n → tokens_at n text ≡ Some ts
+tokens_again n text ts h lt = let r = tokens_read ts text n h lt in rw r.1 refl
+
+abbrev tokens_in : Vec Token → List TokenForm
+tokens_in v = map token_of v.items
+
+pub found_from : (n : ℕ) (text : List ℕ) (r : Result (Vec Token) SmallError) → Gives tokens_in r (tokens_at n text) → IfOk r (λ v. LaidOut (map token_of v.items) text × (length (map token_of v.items) < n))
+found_from n text (Ok v) h = laid_out n text (map token_of v.items) h
+found_from n text (Err e) h = tt
+
+pub only_from : (n : ℕ) (text : List ℕ) (r : Result (Vec Token) SmallError) → Gives tokens_in r (tokens_at n text) → IfOk r (λ v. (others : List TokenForm) → LaidOut others text → length others < n → others ≡ map token_of v.items)
+only_from n text (Ok v) h = λ others out few. same_Some others (map token_of v.items) (sym (tokens_again n text others out few) ∙ h)
+only_from n text (Err e) h = tt
+
+pub unbuilt_from : (n : ℕ) (text : List ℕ) (r : Result (Vec Token) SmallError) → Gives tokens_in r (tokens_at n text) → IsErrOf r Unbuilt → (others : List TokenForm) → LaidOut others text → length others < n → ⊥
+unbuilt_from n text (Ok v) h e others out few = absurd cc
+unbuilt_from n text (Err Memory) h e others out few = absurd cc
+unbuilt_from n text (Err Unbuilt) h e others out few = let k = tokens_again n text others out few in absurd cc
