@@ -1,0 +1,302 @@
+-- Steps of gathering a text.
+use Rattle.std.proofs.Common.{◌≡◌, ℕ, zero, suc, ◌+◌, ◌-◌, ◌<◌, ◌≤◌, List, [], ◌∷◌, ◌++◌, Option, Some, None, Result, Ok, Err, Bool, true, false, eqb, is_some, length, take, drop, min, ap, sym, refl, ◌∙◌, subst, inl, inr, zero-add, arith, append_assoc, length-append}
+use Rattle.std.specs.List.{prefix_len}
+use Rattle.std.proofs.lemmas.Bool.{cases_Bool, cond-true, cond-false, lt-ltb, le-ltb, eqb-true, not_from_true, not_from_false}
+use Rattle.std.proofs.lemmas.List.{append-nil}
+use Rattle.tv_outside.specs.Told.{Held, content_of, HoldsName, IsContent}
+use Rattle.tv_outside.specs.Count.{count_max, counted}
+use Rattle.tv_outside.specs.Outcome.{ReadCause}
+use Rattle.tv_outside.specs.declared.read.ReadError.{ReadError}
+use Rattle.tv_outside.specs.declared.read.ReadError.TheVariants.{Failed as ReadFailed, TooLong as ReadTooLong, Memory as ReadMemory}
+use Rattle.tv_lex.specs.Bytes.{stays_on_line}
+use Rattle.tv_lex.specs.Include.{lines_of, onto, includes, include_name, inner_name}
+use Rattle.tv_lex.specs.Gather.{Event, Begin, Give, Refuse, begun, BeginsEach, gathered, GivesBytes, BytesCause, Puts, PutCause, Gathers, GatherCause, file_events, content_events, line_events, one_line, opens, named_events, included, below, gather_error}
+use Rattle.tv_lex.specs.declared.gatherer.TheConstants.{MAX_TEXT, MAX_DEPTH}
+use Rattle.tv_lex.specs.declared.gatherer.GatherError.{GatherError}
+use Rattle.tv_lex.specs.declared.gatherer.GatherError.TheVariants.{Failed, TooLong, Unended, IncludeForm, IncludeDepth, Memory}
+
+pub gives_bytes : (old bytes new : List ℕ) → new ≡ old ++ bytes → length old + length bytes ≤ MAX_TEXT → GivesBytes old bytes (Ok new)
+gives_bytes old bytes new e fits after =
+    let len : length (old ++ bytes) ≡ length old + length bytes = length-append old bytes in
+    cond-false _ (Err TooLong) (gathered (old ++ bytes) after) (le-ltb MAX_TEXT (length (old ++ bytes)) (omega arith)) ∙ ap (λ text. gathered text after) (sym e)
+
+pub gives_too_long : (old bytes : List ℕ) → MAX_TEXT < length old + length bytes → GivesBytes old bytes (Err TooLong)
+gives_too_long old bytes long after =
+    let len : length (old ++ bytes) ≡ length old + length bytes = length-append old bytes in
+    cond-true _ (Err TooLong) (gathered (old ++ bytes) after) (lt-ltb MAX_TEXT (length (old ++ bytes)) (omega arith))
+
+-- ---- causes
+
+pub cause_within : (e : GatherError) (told : Option Held) (inner outer : Held → List Event) (mid old : List ℕ) (steady_mid steady : Type 0) (before between now : ℕ) → PutCause e told inner mid steady_mid between now → (steady → steady_mid) → before ≤ between → ((fault : GatherError) → Puts told inner mid (Err fault) → Puts told outer old (Err fault)) → PutCause e told outer old steady before now
+cause_within Failed told inner outer mid old steady_mid steady before between now cause stays le step = ((λ fresh. let rose : between < now = cause.0 fresh in omega arith), λ s. step Failed (cause.1 (stays s)))
+cause_within TooLong told inner outer mid old steady_mid steady before between now cause stays le step = step TooLong cause
+cause_within Unended told inner outer mid old steady_mid steady before between now cause stays le step = step Unended cause
+cause_within IncludeForm told inner outer mid old steady_mid steady before between now cause stays le step = step IncludeForm cause
+cause_within IncludeDepth told inner outer mid old steady_mid steady before between now cause stays le step = step IncludeDepth cause
+cause_within Memory told inner outer mid old steady_mid steady before between now cause stays le step = tt
+
+pub bytes_cause : (e : GatherError) (told : Option Held) (outer : Held → List Event) (mid bytes old : List ℕ) (steady : Type 0) (before now : ℕ) → BytesCause e mid bytes → ((fault : GatherError) → GivesBytes mid bytes (Err fault) → Puts told outer old (Err fault)) → PutCause e told outer old steady before now
+bytes_cause Failed told outer mid bytes old steady before now cause step = absurd cause
+bytes_cause TooLong told outer mid bytes old steady before now cause step = step TooLong cause
+bytes_cause Unended told outer mid bytes old steady before now cause step = absurd cause
+bytes_cause IncludeForm told outer mid bytes old steady before now cause step = absurd cause
+bytes_cause IncludeDepth told outer mid bytes old steady before now cause step = absurd cause
+bytes_cause Memory told outer mid bytes old steady before now cause step = tt
+
+-- ---- one line
+
+pub line_include : (told : Option Held) (name line old : List ℕ) (left : ℕ) (inside : Bool) (r : Result (List ℕ) GatherError) → includes inside line ≡ true → Puts told (λ held. included (below held left) name line) old r → Puts told (λ held. one_line (included (below held left) name) inside line) old r
+line_include None name line old left inside r is puts = tt
+line_include (Some held) name line old left inside r is puts = λ after.
+    ap (λ es. gathered old (es ++ after)) (cond-true (includes inside line) (included (below held left) name line) (Give line ∷ []) is) ∙ puts after
+
+pub line_plain : (told : Option Held) (name line old : List ℕ) (left : ℕ) (inside : Bool) (r : Result (List ℕ) GatherError) → includes inside line ≡ false → GivesBytes old line r → Puts told (λ held. one_line (included (below held left) name) inside line) old r
+line_plain None name line old left inside r is gives = tt
+line_plain (Some held) name line old left inside r is gives = λ after.
+    ap (λ es. gathered old (es ++ after)) (cond-false (includes inside line) (included (below held left) name line) (Give line ∷ []) is) ∙ gives after
+
+-- ---- one include
+
+pub include_form : (told : Option Held) (name line old : List ℕ) (left : ℕ) → include_name line ≡ None → Puts told (λ held. included (below held left) name line) old (Err IncludeForm)
+include_form None name line old left is = tt
+include_form (Some held) name line old left is = λ after. ap (λ o. gathered old (named_events (below held left) name o ++ after)) is
+
+pub include_depth : (told : Option Held) (name line old written : List ℕ) (left : ℕ) → include_name line ≡ Some written → left ≡ 0 → Puts told (λ held. included (below held left) name line) old (Err IncludeDepth)
+include_depth None name line old written left is none = tt
+include_depth (Some held) name line old written left is none = λ after.
+    ap (λ o. gathered old (named_events (below held left) name o ++ after)) is ∙ ap (λ n. gathered old (named_events (below held n) name (Some written) ++ after)) none
+
+below-positive : (held : Held) (left : ℕ) (inner : List ℕ) → 0 < left → below held left inner ≡ file_events held (left - 1) inner
+below-positive held zero inner h = absurd (omega arith)
+below-positive held (suc left) inner h = let e : left ≡ suc left - 1 = omega arith in ap (λ n. file_events held n inner) e
+
+-- an include line gives what the named file gives, and a line feed
+include_events : (held : Held) (name line old written inner : List ℕ) (left : ℕ) (after : List Event) → include_name line ≡ Some written → 0 < left → inner ≡ inner_name name written → gathered old (included (below held left) name line ++ after) ≡ gathered old (file_events held (left - 1) inner ++ (Give (10 ∷ []) ∷ after))
+include_events held name line old written inner left after is some named =
+    ap (λ o. gathered old (named_events (below held left) name o ++ after)) is
+    ∙ ap (gathered old) (append_assoc (below held left (inner_name name written)) (Give (10 ∷ []) ∷ []) after)
+    ∙ ap (λ n. gathered old (below held left n ++ (Give (10 ∷ []) ∷ after))) (sym named)
+    ∙ ap (λ es. gathered old (es ++ (Give (10 ∷ []) ∷ after))) (below-positive held left inner some)
+
+pub include_put : (told : Option Held) (name line old mid written inner : List ℕ) (left : ℕ) (r : Result (List ℕ) GatherError) → include_name line ≡ Some written → 0 < left → inner ≡ inner_name name written → Puts told (λ held. file_events held (left - 1) inner) old (Ok mid) → GivesBytes mid (10 ∷ []) r → Puts told (λ held. included (below held left) name line) old r
+include_put None name line old mid written inner left r is some named puts gives = tt
+include_put (Some held) name line old mid written inner left r is some named puts gives = λ after.
+    include_events held name line old written inner left after is some named ∙ puts (Give (10 ∷ []) ∷ after) ∙ gives after
+
+pub include_refused : (told : Option Held) (name line old written inner : List ℕ) (left : ℕ) (fault : GatherError) → include_name line ≡ Some written → 0 < left → inner ≡ inner_name name written → Puts told (λ held. file_events held (left - 1) inner) old (Err fault) → Puts told (λ held. included (below held left) name line) old (Err fault)
+include_refused None name line old written inner left fault is some named puts = tt
+include_refused (Some held) name line old written inner left fault is some named puts = λ after.
+    include_events held name line old written inner left after is some named ∙ puts (Give (10 ∷ []) ∷ after)
+
+-- ---- one file
+
+file_events-is : (held : Held) (left : ℕ) (name : List ℕ) → file_events held left name ≡ Begin ∷ content_events (included (below held left) name) (content_of held name)
+unfolding file_events
+file_events-is held zero name = refl
+file_events-is held (suc left) name = refl
+
+missing : (held : Held) (left : ℕ) (name old : List ℕ) (content : Option (List ℕ)) → content_of held name ≡ content → (content ≡ None) → (after : List Event) → gathered old (file_events held left name ++ after) ≡ Err Failed
+missing held left name old content is none after = ap (λ es. gathered old (es ++ after)) (file_events-is held left name ∙ ap (λ o. Begin ∷ content_events (included (below held left) name) o) (is ∙ none))
+
+pub read_cause : (e : ReadError) (told : Option Held) (name old : List ℕ) (left : ℕ) (steady : Type 0) (before now : ℕ) → ReadCause e told name MAX_TEXT steady before now → PutCause (gather_error e) told (λ held. file_events held left name) old steady before now
+read_cause ReadFailed told name old left steady before now cause = (cause.0, λ s. not_held told (cause.1 s))
+  where
+    not_held : (told : Option Held) → ¬ HoldsName told name → Puts told (λ held. file_events held left name) old (Err Failed)
+    not_held None never = tt
+    not_held (Some held) never = λ after. go held (content_of held name) refl never after
+      where
+        go : (held : Held) (content : Option (List ℕ)) → content_of held name ≡ content → ¬ HoldsName (Some held) name → (after : List Event) → gathered old (file_events held left name ++ after) ≡ Err Failed
+        go held None is never after = missing held left name old None is refl after
+        go held (Some content) is never after = absurd (never (ap (λ (o : Option (List ℕ)). is_some o) is))
+read_cause ReadTooLong None name old left steady before now cause = tt
+read_cause ReadTooLong (Some held) name old left steady before now cause = λ after.
+    ap (λ es. gathered old (es ++ after)) (file_events-is held left name ∙ ap (λ es. Begin ∷ es) (ap (content_events (included (below held left) name)) cause.1 ∙ cond-true _ (Refuse TooLong ∷ []) (line_events (included (below held left) name) false (lines_of cause.0)) (lt-ltb MAX_TEXT (length cause.0) cause.2)))
+read_cause ReadMemory told name old left steady before now cause = tt
+
+-- a file that is short enough gives what its lines give
+file_events-content : (held : Held) (left : ℕ) (name content : List ℕ) → content_of held name ≡ Some content → length content ≤ MAX_TEXT → file_events held left name ≡ Begin ∷ line_events (included (below held left) name) false (lines_of content)
+file_events-content held left name content is fits =
+    file_events-is held left name
+    ∙ ap (λ es. Begin ∷ es) (ap (content_events (included (below held left) name)) is ∙ cond-false _ (Refuse TooLong ∷ []) (line_events (included (below held left) name) false (lines_of content)) (le-ltb MAX_TEXT (length content) fits))
+
+-- the file up to a place gave this text, and these lines are left
+abbrev pub Putting : Option Held → List ℕ → ℕ → List ℕ → Bool → List ℕ → List ℕ → Type 0
+Putting None name left old inside rest out = Unit {0}
+Putting (Some held) name left old inside rest out = (after : List Event) → gathered old (file_events held left name ++ after) ≡ gathered out (line_events (included (below held left) name) inside (lines_of rest) ++ after)
+
+pub putting_start : (told : Option Held) (name old content : List ℕ) (left : ℕ) → IsContent told name content → length content ≤ MAX_TEXT → Putting told name left old false content old
+putting_start None name old content left is fits = tt
+putting_start (Some held) name old content left is fits = λ after.
+    ap (λ es. gathered old (es ++ after)) (file_events-content held left name content is fits)
+
+-- the first line, and the others
+first_line : (b : ℕ) (xs : List ℕ) (n : ℕ) → n ≡ min (prefix_len stays_on_line (b ∷ xs) + 1) (length (b ∷ xs)) → lines_of (b ∷ xs) ≡ take n (b ∷ xs) ∷ lines_of (drop n (b ∷ xs))
+first_line b [] n is =
+    let one : n ≡ 1 = min_one n (prefix_len stays_on_line (b ∷ [])) 0 is refl in
+    subst (λ k. lines_of (b ∷ []) ≡ take k (b ∷ []) ∷ lines_of (drop k (b ∷ []))) (sym one) (elim (cases_Bool (eqb b 10)) [
+      | inl e ↦ cond-true (eqb b 10) _ _ e ∙ ap (λ d. (d ∷ []) ∷ []) (sym (eqb-true b 10 e))
+      | inr e ↦ cond-false (eqb b 10) _ _ e
+    ])
+  where
+    min_one : (n m k : ℕ) → n ≡ min (m + 1) (suc k) → k ≡ 0 → n ≡ 1
+    min_one n m k is none = omega arith
+first_line b (c ∷ cs) n is = elim (cases_Bool (eqb b 10)) [
+  | inl e ↦
+      let none : prefix_len stays_on_line (b ∷ c ∷ cs) ≡ 0 = cond-false (stays_on_line b) _ _ (not_from_true _ e) in
+      let one : n ≡ 1 = omega arith in
+      subst (λ k. lines_of (b ∷ c ∷ cs) ≡ take k (b ∷ c ∷ cs) ∷ lines_of (drop k (b ∷ c ∷ cs))) (sym one) (cond-true (eqb b 10) _ _ e ∙ ap (λ d. (d ∷ []) ∷ lines_of (c ∷ cs)) (sym (eqb-true b 10 e)))
+  | inr e ↦
+      let more : prefix_len stays_on_line (b ∷ c ∷ cs) ≡ 1 + prefix_len stays_on_line (c ∷ cs) = cond-true (stays_on_line b) _ _ (not_from_false _ e) in
+      let m = min (prefix_len stays_on_line (c ∷ cs) + 1) (length (c ∷ cs)) in
+      let longer : n ≡ suc m = omega arith in
+      let inner = first_line c cs m refl in
+      subst (λ k. lines_of (b ∷ c ∷ cs) ≡ take k (b ∷ c ∷ cs) ∷ lines_of (drop k (b ∷ c ∷ cs))) (sym longer) (cond-false (eqb b 10) _ _ e ∙ ap (onto b) inner)
+]
+
+pub line_cut : (rest line behind : List ℕ) (n : ℕ) → 0 < length rest → n ≡ min (prefix_len stays_on_line rest + 1) (length rest) → line ≡ take n rest → behind ≡ drop n rest → lines_of rest ≡ line ∷ lines_of behind
+line_cut [] line behind n some len is_line is_behind = absurd (omega arith)
+line_cut (b ∷ xs) line behind n some len is_line is_behind = first_line b xs n len ∙ (λ i. sym is_line i ∷ lines_of (sym is_behind i))
+
+-- the line at hand, and then those behind it
+line_events-first : (held : Held) (name rest line behind out : List ℕ) (left : ℕ) (inside : Bool) (after : List Event) → lines_of rest ≡ line ∷ lines_of behind → gathered out (line_events (included (below held left) name) inside (lines_of rest) ++ after) ≡ gathered out (one_line (included (below held left) name) inside line ++ (line_events (included (below held left) name) (opens inside line) (lines_of behind) ++ after))
+line_events-first held name rest line behind out left inside after cut =
+    ap (λ ls. gathered out (line_events (included (below held left) name) inside ls ++ after)) cut
+    ∙ ap (gathered out) (append_assoc (one_line (included (below held left) name) inside line) (line_events (included (below held left) name) (opens inside line) (lines_of behind)) after)
+
+pub putting_more : (told : Option Held) (name old rest out line behind more : List ℕ) (left : ℕ) (inside next : Bool) → Putting told name left old inside rest out → lines_of rest ≡ line ∷ lines_of behind → next ≡ opens inside line → Puts told (λ held. one_line (included (below held left) name) inside line) out (Ok more) → Putting told name left old next behind more
+putting_more None name old rest out line behind more left inside next putting cut is_next puts = tt
+putting_more (Some held) name old rest out line behind more left inside next putting cut is_next puts = λ after.
+    putting after ∙ line_events-first held name rest line behind out left inside after cut
+    ∙ puts (line_events (included (below held left) name) (opens inside line) (lines_of behind) ++ after)
+    ∙ ap (λ b. gathered more (line_events (included (below held left) name) b (lines_of behind) ++ after)) (sym is_next)
+
+pub putting_refused : (told : Option Held) (name old rest out line behind : List ℕ) (left : ℕ) (inside : Bool) (fault : GatherError) → Putting told name left old inside rest out → lines_of rest ≡ line ∷ lines_of behind → Puts told (λ held. one_line (included (below held left) name) inside line) out (Err fault) → Puts told (λ held. file_events held left name) old (Err fault)
+putting_refused None name old rest out line behind left inside fault putting cut puts = tt
+putting_refused (Some held) name old rest out line behind left inside fault putting cut puts = λ after.
+    putting after ∙ line_events-first held name rest line behind out left inside after cut
+    ∙ puts (line_events (included (below held left) name) (opens inside line) (lines_of behind) ++ after)
+
+pub line_cause : (e : GatherError) (told mid_told : Option Held) (name old rest out line behind : List ℕ) (left : ℕ) (inside : Bool) (steady_mid steady : Type 0) (before between now : ℕ) → mid_told ≡ told → Putting told name left old inside rest out → lines_of rest ≡ line ∷ lines_of behind → PutCause e mid_told (λ held. one_line (included (below held left) name) inside line) out steady_mid between now → (steady → steady_mid) → before ≤ between → PutCause e told (λ held. file_events held left name) old steady before now
+line_cause e told mid_told name old rest out line behind left inside steady_mid steady before between now same putting cut cause stays le =
+    cause_within e told (λ held. one_line (included (below held left) name) inside line) (λ held. file_events held left name) out old steady_mid steady before between now
+    (subst (λ t. PutCause e t (λ held. one_line (included (below held left) name) inside line) out steady_mid between now) same cause) stays le
+    (λ fault puts. putting_refused told name old rest out line behind left inside fault putting cut puts)
+
+pub line_more : (told mid_told : Option Held) (name old rest out line behind more : List ℕ) (left : ℕ) (inside next : Bool) → mid_told ≡ told → Putting told name left old inside rest out → lines_of rest ≡ line ∷ lines_of behind → next ≡ opens inside line → Puts mid_told (λ held. one_line (included (below held left) name) inside line) out (Ok more) → Putting told name left old next behind more
+line_more told mid_told name old rest out line behind more left inside next same putting cut is_next puts =
+    putting_more told name old rest out line behind more left inside next putting cut is_next (subst (λ t. Puts t (λ held. one_line (included (below held left) name) inside line) out (Ok more)) same puts)
+
+pub putting_end : (told : Option Held) (name old rest out : List ℕ) (left : ℕ) (inside : Bool) → Putting told name left old inside rest out → length rest ≡ 0 → inside ≡ false → Puts told (λ held. file_events held left name) old (Ok out)
+putting_end told name old (b ∷ bs) out left inside putting none is = absurd (omega arith)
+putting_end None name old [] out left inside putting none is = tt
+putting_end (Some held) name old [] out left inside putting none is = λ after.
+    putting after ∙ ap (λ b. gathered out (line_events (included (below held left) name) b [] ++ after)) is
+
+pub putting_unended : (told : Option Held) (name old rest out : List ℕ) (left : ℕ) (inside : Bool) → Putting told name left old inside rest out → length rest ≡ 0 → inside ≡ true → Puts told (λ held. file_events held left name) old (Err Unended)
+putting_unended told name old (b ∷ bs) out left inside putting none is = absurd (omega arith)
+putting_unended None name old [] out left inside putting none is = tt
+putting_unended (Some held) name old [] out left inside putting none is = λ after.
+    putting after ∙ ap (λ b. gathered out (line_events (included (below held left) name) b [] ++ after)) is
+
+-- ---- how often files are begun
+
+begun-append : (a b : List Event) → begun (a ++ b) ≡ begun a + begun b
+begun-append [] b = sym (zero-add (begun b))
+begun-append (Begin ∷ a) b = let e : begun (a ++ b) ≡ begun a + begun b = begun-append a b in omega arith
+begun-append (Refuse fault ∷ a) b = begun-append a b
+begun-append (Give bytes ∷ a) b = begun-append a b
+
+counted-counted : (a m n : ℕ) → counted (counted a m) n ≡ counted a (m + n)
+counted-counted a m n = capped a m n count_max
+  where
+    capped : (a m n top : ℕ) → min (min (a + m) top + n) top ≡ min (a + (m + n)) top
+    capped a m n top = omega arith
+
+counted-none : (a : ℕ) → a ≤ count_max → a ≡ counted a 0
+counted-none a fits = capped a count_max fits
+  where
+    capped : (a top : ℕ) → a ≤ top → a ≡ min (a + 0) top
+    capped a top fits = omega arith
+
+pub line_include_begins : (told : Option Held) (name line : List ℕ) (left : ℕ) (inside : Bool) (old now : ℕ) → includes inside line ≡ true → BeginsEach told (λ held. included (below held left) name line) old now → BeginsEach told (λ held. one_line (included (below held left) name) inside line) old now
+line_include_begins None name line left inside old now is begins = tt
+line_include_begins (Some held) name line left inside old now is begins = λ fits.
+    begins fits ∙ ap (λ es. counted old (begun es)) (sym (cond-true (includes inside line) (included (below held left) name line) (Give line ∷ []) is))
+
+pub line_plain_begins : (told : Option Held) (name line : List ℕ) (left : ℕ) (inside : Bool) (old now : ℕ) → includes inside line ≡ false → now ≡ old → BeginsEach told (λ held. one_line (included (below held left) name) inside line) old now
+line_plain_begins None name line left inside old now is same = tt
+line_plain_begins (Some held) name line left inside old now is same = λ fits.
+    same ∙ counted-none old fits ∙ ap (λ es. counted old (begun es)) (sym (cond-false (includes inside line) (included (below held left) name line) (Give line ∷ []) is))
+
+pub include_begins : (told : Option Held) (name line written inner : List ℕ) (left old now : ℕ) → include_name line ≡ Some written → 0 < left → inner ≡ inner_name name written → BeginsEach told (λ held. file_events held (left - 1) inner) old now → BeginsEach told (λ held. included (below held left) name line) old now
+include_begins None name line written inner left old now is some named begins = tt
+include_begins (Some held) name line written inner left old now is some named begins = λ fits.
+    let file = below held left (inner_name name written) in
+    let more : begun (file ++ Give (10 ∷ []) ∷ []) ≡ begun file + 0 = begun-append file (Give (10 ∷ []) ∷ []) in
+    let all : begun (file ++ Give (10 ∷ []) ∷ []) ≡ begun file = omega arith in
+    begins fits
+    ∙ ap (λ es. counted old (begun es)) (sym (below-positive held left inner some) ∙ ap (below held left) named)
+    ∙ ap (counted old) (sym all)
+    ∙ ap (λ o. counted old (begun (named_events (below held left) name o))) (sym is)
+
+-- the lines that are left begin as many files as the count is to rise
+abbrev pub Beginning : Option Held → List ℕ → ℕ → Bool → List ℕ → ℕ → ℕ → Type 0
+Beginning None name left inside rest old now = Unit {0}
+Beginning (Some held) name left inside rest old now = old ≤ count_max → (now ≤ count_max) × (counted now (begun (line_events (included (below held left) name) inside (lines_of rest))) ≡ counted old (begun (file_events held left name)))
+
+counted-le : (a n : ℕ) → counted a n ≤ count_max
+counted-le a n = capped a n count_max
+  where
+    capped : (a n top : ℕ) → min (a + n) top ≤ top
+    capped a n top = omega arith
+
+pub beginning_start : (told : Option Held) (name content : List ℕ) (left old now : ℕ) → IsContent told name content → length content ≤ MAX_TEXT → now ≡ counted old 1 → Beginning told name left false content old now
+beginning_start None name content left old now is fits one = tt
+beginning_start (Some held) name content left old now is fits one = λ below_top.
+    let lines = line_events (included (below held left) name) false (lines_of content) in (
+      subst (λ k. k ≤ count_max) (sym one) (counted-le old 1),
+      ap (λ k. counted k (begun lines)) one ∙ counted-counted old 1 (begun lines) ∙ ap (λ es. counted old (begun es)) (sym (file_events-content held left name content is fits)),
+    )
+
+pub beginning_more : (told mid_told : Option Held) (name rest line behind : List ℕ) (left : ℕ) (inside next : Bool) (old now later : ℕ) → mid_told ≡ told → Beginning told name left inside rest old now → lines_of rest ≡ line ∷ lines_of behind → next ≡ opens inside line → BeginsEach mid_told (λ held. one_line (included (below held left) name) inside line) now later → Beginning told name left next behind old later
+beginning_more told mid_told name rest line behind left inside next old now later same beginning cut is_next begins = go told beginning (subst (λ t. BeginsEach t (λ held. one_line (included (below held left) name) inside line) now later) same begins)
+  where
+    go : (told : Option Held) → Beginning told name left inside rest old now → BeginsEach told (λ held. one_line (included (below held left) name) inside line) now later → Beginning told name left next behind old later
+    go None beginning begins = tt
+    go (Some held) beginning begins = λ below_top.
+        let here = beginning below_top in
+        let first = one_line (included (below held left) name) inside line in
+        let others = line_events (included (below held left) name) (opens inside line) (lines_of behind) in (
+          subst (λ k. k ≤ count_max) (sym (begins here.0)) (counted-le now (begun first)),
+          ap (λ b. counted later (begun (line_events (included (below held left) name) b (lines_of behind)))) is_next
+              ∙ ap (λ k. counted k (begun others)) (begins here.0)
+              ∙ counted-counted now (begun first) (begun others)
+              ∙ ap (counted now) (sym (begun-append first others))
+              ∙ ap (λ ls. counted now (begun (line_events (included (below held left) name) inside ls))) (sym cut)
+              ∙ here.1,
+        )
+
+pub beginning_end : (told : Option Held) (name rest : List ℕ) (left : ℕ) (inside : Bool) (old now : ℕ) → Beginning told name left inside rest old now → length rest ≡ 0 → inside ≡ false → BeginsEach told (λ held. file_events held left name) old now
+beginning_end told name (b ∷ bs) left inside old now beginning none is = absurd (omega arith)
+beginning_end None name [] left inside old now beginning none is = tt
+beginning_end (Some held) name [] left inside old now beginning none is = λ below_top.
+    let here = beginning below_top in
+    counted-none now here.0 ∙ ap (λ b. counted now (begun (line_events (included (below held left) name) b []))) (sym is) ∙ here.1
+
+-- ---- the whole text
+
+pub gathers_text : (told : Option Held) (name text : List ℕ) → Puts told (λ held. file_events held MAX_DEPTH name) [] (Ok text) → Gathers told name (Ok text)
+gathers_text None name text puts = tt
+gathers_text (Some held) name text puts = ap (gathered []) (sym (append-nil (file_events held MAX_DEPTH name))) ∙ puts []
+
+gathers_fault : (told : Option Held) (name : List ℕ) (fault : GatherError) → Puts told (λ held. file_events held MAX_DEPTH name) [] (Err fault) → Gathers told name (Err fault)
+gathers_fault None name fault puts = tt
+gathers_fault (Some held) name fault puts = ap (gathered []) (sym (append-nil (file_events held MAX_DEPTH name))) ∙ puts []
+
+pub gather_cause : (e : GatherError) (told : Option Held) (name : List ℕ) (steady : Type 0) (before now : ℕ) → PutCause e told (λ held. file_events held MAX_DEPTH name) [] steady before now → GatherCause e told name steady before now
+gather_cause Failed told name steady before now cause = (cause.0, λ s. gathers_fault told name Failed (cause.1 s))
+gather_cause TooLong told name steady before now cause = gathers_fault told name TooLong cause
+gather_cause Unended told name steady before now cause = gathers_fault told name Unended cause
+gather_cause IncludeForm told name steady before now cause = gathers_fault told name IncludeForm cause
+gather_cause IncludeDepth told name steady before now cause = gathers_fault told name IncludeDepth cause
+gather_cause Memory told name steady before now cause = tt

@@ -1,0 +1,10 @@
+pub mod Closes
+pub mod Runs
+pub mod Taken
+pub mod Good
+pub mod Cut
+pub mod OneReading
+pub mod Names
+pub mod Gathering
+pub mod SpacedTexts
+pub mod IncludeForm

@@ -1,0 +1,183 @@
+-- A text of tokens with a blank behind each is read as these tokens.
+use Rattle.std.proofs.Common.{◌≡◌, ℕ, suc, ◌+◌, ◌-◌, List, [], ◌∷◌, ◌++◌, Option, Some, None, Ok, true, false, eqb, length, get_or, take, drop, ap, sym, refl, ◌∙◌, subst, inl, inr, arith, append_assoc, length-append}
+use Rattle.std.specs.List.{prefix_len, list_all, AllByRecursion}
+use Rattle.std.proofs.lemmas.Bool.{and_parts, and_left, and_right, or_cases, false≢true, cond-true, cond-false, eqb-true, ne_eqb}
+use Rattle.std.proofs.lemmas.List.{append-nil, get_or_at, map-append, take_at, drop_at}
+use Rattle.tv_lex.specs.Bytes.{is_blank, is_word_byte, is_letter, is_text_byte}
+use Rattle.tv_lex.specs.Token.{SpecToken, spec_token, spec_tokens}
+use Rattle.tv_lex.specs.Pieces.{Piece, Fits, AllFit, Stands, IsOneOf, IsRunOf, punctuations, joined, placed, placed_one, Reads}
+use Rattle.tv_lex.specs.Spaced.{Spaced, spaced_text, spaced_tokens}
+use Rattle.tv_lex.specs.Front.{front, token, is_half, word_front, string_front}
+use Rattle.tv_lex.specs.declared.token.Token.{Token}
+use Rattle.tv_lex.specs.declared.token.TokenKind.{TokenKind}
+use Rattle.tv_lex.specs.declared.token.TokenKind.TheVariants.{Word, Half, Text, Directive, Parts, Punct}
+use Rattle.tv_lex.proofs.Runs.{prefix_len-append-stop}
+use Rattle.tv_lex.proofs.Taken.{Takes, front_takes, front-blank, front-word, front-quote, front-percent, letter_not_percent}
+
+-- ---- what the reader takes in front of a blank
+
+each_blank : (P : ℕ → Type 0) → P 32 → P 9 → P 13 → P 10 → (b : ℕ) → is_blank b ≡ true → P b
+each_blank P space tab return feed b h = elim (or_cases (eqb b 32) _ h) [
+  | inl e ↦ subst P (sym (eqb-true b 32 e)) space
+  | inr h ↦ elim (or_cases (eqb b 9) _ h) [
+    | inl e ↦ subst P (sym (eqb-true b 9 e)) tab
+    | inr h ↦ elim (or_cases (eqb b 13) _ h) [
+      | inl e ↦ subst P (sym (eqb-true b 13 e)) return
+      | inr e ↦ subst P (sym (eqb-true b 10 e)) feed
+    ]
+  ]
+]
+
+blank_not_word : (b : ℕ) → is_blank b ≡ true → is_word_byte b ≡ false
+blank_not_word = each_blank (λ b. is_word_byte b ≡ false) refl refl refl refl
+
+blank_not_letter : (b : ℕ) → is_blank b ≡ true → is_letter b ≡ false
+blank_not_letter = each_blank (λ b. is_letter b ≡ false) refl refl refl refl
+
+not_slash : (bs rest : List ℕ) (b : ℕ) → is_blank b ≡ true → list_all is_word_byte bs ≡ true → eqb (get_or (bs ++ b ∷ rest) 0 0) 47 ≡ false
+not_slash [] rest b blank all = each_blank (λ c. eqb c 47 ≡ false) refl refl refl refl b blank
+not_slash (c ∷ cs) rest b blank all = ne_eqb c 47 (λ e. false≢true (subst (λ d. is_word_byte d ≡ true) e (and_parts _ _ all).0))
+
+word-spaced : (c : ℕ) (cs rest : List ℕ) (b : ℕ) → is_blank b ≡ true → list_all is_word_byte (c ∷ cs) ≡ true → word_front (c ∷ cs ++ b ∷ rest) ≡ token Word (suc (length cs))
+word-spaced c cs rest b blank all =
+    let text = c ∷ cs ++ b ∷ rest in
+    let slash : eqb (get_or (cs ++ b ∷ rest) 0 0) 47 ≡ false = not_slash cs rest b blank (and_parts _ _ all).1 in
+    let no_half : is_half text ≡ false = and_left _ _ (and_right (eqb c 49) _ (and_left _ _ slash)) in
+    let none : prefix_len is_word_byte (b ∷ rest) ≡ 0 = cond-false (is_word_byte b) _ _ (blank_not_word b blank) in
+    cond-false (is_half text) _ _ no_half ∙ ap (token Word) (prefix_len-append-stop is_word_byte (c ∷ cs) (b ∷ rest) all none)
+
+half-spaced : (rest : List ℕ) (b : ℕ) → is_blank b ≡ true → front (49 ∷ 47 ∷ 50 ∷ b ∷ rest) ≡ token Half 3
+unfolding front
+half-spaced rest b blank = rw (blank_not_word b blank) refl
+
+string-spaced : (inside rest : List ℕ) → list_all is_text_byte inside ≡ true → string_front (inside ++ 34 ∷ rest) ≡ token Text (length inside + 2)
+string-spaced inside rest all =
+    let stop : prefix_len is_text_byte (inside ++ 34 ∷ rest) ≡ length inside = prefix_len-append-stop is_text_byte inside (34 ∷ rest) all refl in
+    let quote : get_or (inside ++ 34 ∷ rest) (prefix_len is_text_byte (inside ++ 34 ∷ rest)) 0 ≡ 34 = get_or_at inside 34 rest 0 _ (sym stop) in
+    cond-true (eqb (get_or (inside ++ 34 ∷ rest) (prefix_len is_text_byte (inside ++ 34 ∷ rest)) 0) 34) _ _ (ap (λ d. eqb d 34) quote) ∙ ap (λ n. token Text (n + 2)) stop
+
+directive-spaced : (name rest : List ℕ) (b : ℕ) → is_blank b ≡ true → IsRunOf is_letter name → front (37 ∷ name ++ b ∷ rest) ≡ token Directive (suc (length name))
+directive-spaced [] rest b blank run = absurd (omega (arith, run.0))
+directive-spaced (c ∷ cs) rest b blank run =
+    let letter : is_letter c ≡ true = (and_parts _ _ run.1).0 in
+    let none : prefix_len is_letter (b ∷ rest) ≡ 0 = cond-false (is_letter b) _ _ (blank_not_letter b blank) in
+    let stop : prefix_len is_letter (c ∷ cs ++ b ∷ rest) ≡ suc (length cs) = prefix_len-append-stop is_letter (c ∷ cs) (b ∷ rest) run.1 none in
+    let more : prefix_len is_letter (c ∷ cs ++ b ∷ rest) + 1 ≡ suc (suc (length cs)) = omega arith in
+    front-percent (c ∷ cs ++ b ∷ rest) ∙ cond-false (eqb c 37) _ _ (letter_not_percent c letter) ∙ cond-true (is_letter c) _ _ letter ∙ ap (token Directive) more
+
+-- a punctuation in front of this blank
+abbrev PunctAlone : ℕ → List ℕ → Type 0
+PunctAlone b m = (rest : List ℕ) → front (m ++ b ∷ rest) ≡ token Punct (length m)
+
+alone : (b : ℕ) (ms : List (List ℕ)) (bytes : List ℕ) → AllByRecursion (PunctAlone b) ms → IsOneOf ms bytes → PunctAlone b bytes
+alone b [] bytes all one = absurd one
+alone b (m ∷ ms) bytes all one = elim one [
+  | inl e ↦ subst (PunctAlone b) (sym e) all.0
+  | inr later ↦ alone b ms bytes all.1 later
+]
+
+punctuations_alone : (b : ℕ) → is_blank b ≡ true → AllByRecursion (PunctAlone b) punctuations
+unfolding front
+punctuations_alone = each_blank (λ b. AllByRecursion (PunctAlone b) punctuations)
+    (λ r. refl, (λ r. refl, (λ r. refl, (λ r. refl, (λ r. refl, (λ r. refl, (λ r. refl, (λ r. refl, (λ r. refl, (λ r. refl, (λ r. refl, (λ r. refl, (λ r. refl, (λ r. refl, (λ r. refl, (λ r. refl, (λ r. refl, (λ r. refl, (λ r. refl, (λ r. refl, (λ r. refl, tt)))))))))))))))))))))
+    (λ r. refl, (λ r. refl, (λ r. refl, (λ r. refl, (λ r. refl, (λ r. refl, (λ r. refl, (λ r. refl, (λ r. refl, (λ r. refl, (λ r. refl, (λ r. refl, (λ r. refl, (λ r. refl, (λ r. refl, (λ r. refl, (λ r. refl, (λ r. refl, (λ r. refl, (λ r. refl, (λ r. refl, tt)))))))))))))))))))))
+    (λ r. refl, (λ r. refl, (λ r. refl, (λ r. refl, (λ r. refl, (λ r. refl, (λ r. refl, (λ r. refl, (λ r. refl, (λ r. refl, (λ r. refl, (λ r. refl, (λ r. refl, (λ r. refl, (λ r. refl, (λ r. refl, (λ r. refl, (λ r. refl, (λ r. refl, (λ r. refl, (λ r. refl, tt)))))))))))))))))))))
+    (λ r. refl, (λ r. refl, (λ r. refl, (λ r. refl, (λ r. refl, (λ r. refl, (λ r. refl, (λ r. refl, (λ r. refl, (λ r. refl, (λ r. refl, (λ r. refl, (λ r. refl, (λ r. refl, (λ r. refl, (λ r. refl, (λ r. refl, (λ r. refl, (λ r. refl, (λ r. refl, (λ r. refl, tt)))))))))))))))))))))
+
+front-spaced : (kind : TokenKind) (bytes rest : List ℕ) (b : ℕ) → is_blank b ≡ true → Stands (Some kind) bytes [] → front (bytes ++ b ∷ rest) ≡ token kind (length bytes)
+front-spaced Word [] rest b blank stands = absurd (omega (arith, stands.0))
+front-spaced Word (c ∷ cs) rest b blank stands = front-word c (cs ++ b ∷ rest) (and_parts _ _ stands.1).0 ∙ word-spaced c cs rest b blank stands.1
+front-spaced Half bytes rest b blank stands =
+    let P : List ℕ → Type 0 = λ bs. front (bs ++ b ∷ rest) ≡ token Half (length bs) in
+    subst P (sym stands.0) (half-spaced rest b blank)
+front-spaced Text bytes rest b blank stands =
+    let P : List ℕ → Type 0 = λ bs. front (bs ++ b ∷ rest) ≡ token Text (length bs) in
+    let len : length stands.0 + 2 ≡ suc (length (stands.0 ++ 34 ∷ [])) = omega (arith, length-append stands.0 (34 ∷ [])) in
+    subst P (sym stands.1)
+    (front-quote (stands.0 ++ 34 ∷ [] ++ b ∷ rest) ∙ ap string_front (append_assoc stands.0 (34 ∷ []) (b ∷ rest)) ∙ string-spaced stands.0 (b ∷ rest) stands.2 ∙ ap (token Text) len)
+front-spaced Directive bytes rest b blank stands =
+    let P : List ℕ → Type 0 = λ bs. front (bs ++ b ∷ rest) ≡ token Directive (length bs) in
+    subst P (sym stands.1) (directive-spaced stands.0 rest b blank stands.2)
+front-spaced Parts bytes rest b blank stands =
+    let P : List ℕ → Type 0 = λ bs. front (bs ++ b ∷ rest) ≡ token Parts (length bs) in
+    subst P (sym stands) (front-percent (37 ∷ b ∷ rest))
+front-spaced Punct bytes rest b blank stands = alone b punctuations bytes (punctuations_alone b blank) stands rest
+
+stands-spaced : (kind : TokenKind) (bytes rest : List ℕ) (b : ℕ) → is_blank b ≡ true → Stands (Some kind) bytes [] → Stands (Some kind) bytes (b ∷ rest)
+stands-spaced Word bytes rest b blank stands = stands
+stands-spaced Half bytes rest b blank stands = (stands.0, blank_not_word b blank)
+stands-spaced Text bytes rest b blank stands = stands
+stands-spaced Directive bytes rest b blank stands = stands
+stands-spaced Parts bytes rest b blank stands = stands
+stands-spaced Punct bytes rest b blank stands = stands
+
+-- ---- the pieces of such a text
+
+-- the piece that the reader takes fits
+fits_as_taken : (kind : Option TokenKind) (bytes rest : List ℕ) → Stands kind bytes rest → front (bytes ++ rest) ≡ Ok (record { kind = kind; len = length bytes }) → Fits (record { kind = kind; bytes = bytes }) rest
+fits_as_taken kind bytes rest stands is = record {
+  stands = stands;
+  longest = λ other more behind same stands.
+      let takes : Takes (Ok (record { kind = kind; len = length bytes })) other (length more) = subst (λ r. Takes r other (length more)) (ap front same ∙ is) (front_takes other more behind stands) in
+      takes.0;
+}
+
+abbrev pub spaced_pieces : List Spaced → List Piece
+spaced_pieces [] = []
+spaced_pieces (s ∷ ss) = record { kind = Some s.token.kind; bytes = s.token.bytes } ∷ record { kind = None; bytes = s.blank ∷ [] } ∷ spaced_pieces ss
+
+spaced_fit : (ss : List Spaced) → AllFit (spaced_pieces ss) []
+spaced_fit [] = tt
+spaced_fit (s ∷ ss) =
+    let after = joined (spaced_pieces ss) ++ [] in (
+      fits_as_taken (Some s.token.kind) s.token.bytes (s.blank ∷ after) (stands-spaced s.token.kind s.token.bytes after s.blank s.is_blank s.is_token) (front-spaced s.token.kind s.token.bytes after s.blank s.is_blank s.is_token),
+      (
+        fits_as_taken None (s.blank ∷ []) after (inl (s.blank, refl, s.is_blank)) (front-blank s.blank after s.is_blank),
+        spaced_fit ss,
+      ),
+    )
+
+joined-spaced : (ss : List Spaced) → joined (spaced_pieces ss) ≡ spaced_text ss
+joined-spaced [] = refl
+joined-spaced (s ∷ ss) = ap (λ l. s.token.bytes ++ s.blank ∷ l) (joined-spaced ss) ∙ sym (append_assoc s.token.bytes (s.blank ∷ []) (spaced_text ss))
+
+-- the tokens among pieces
+abbrev token_of : Option TokenKind → List ℕ → List SpecToken
+token_of None bytes = []
+token_of (Some kind) bytes = record { kind = kind; bytes = bytes } ∷ []
+
+abbrev tokens_of : List Piece → List SpecToken
+tokens_of [] = []
+tokens_of (p ∷ ps) = token_of p.kind p.bytes ++ tokens_of ps
+
+text_there : (before bytes after : List ℕ) → take (length before + length bytes - length before) (drop (length before) (before ++ (bytes ++ after))) ≡ bytes
+text_there before bytes after =
+    let n : length before + length bytes - length before ≡ length bytes = omega arith in
+    ap (λ k. take k (drop (length before) (before ++ (bytes ++ after)))) n ∙ ap (take (length bytes)) (drop_at before (bytes ++ after) (length before) refl) ∙ take_at bytes after (length bytes) refl
+
+one_placed : (kind : Option TokenKind) (before bytes after text : List ℕ) → text ≡ before ++ (bytes ++ after) → spec_tokens text (placed_one kind (length before) (length before + length bytes)) ≡ token_of kind bytes
+one_placed None before bytes after text is = refl
+one_placed (Some kind) before bytes after text is =
+    let there : take (length before + length bytes - length before) (drop (length before) text) ≡ bytes = ap (λ l. take (length before + length bytes - length before) (drop (length before) l)) is ∙ text_there before bytes after in
+    λ i. record { kind = kind; bytes = there i } ∷ []
+
+-- the tokens of a text have the bytes of its pieces
+pub spec_tokens-placed : (before after text : List ℕ) (at : ℕ) (ps : List Piece) → at ≡ length before → text ≡ before ++ (joined ps ++ after) → spec_tokens text (placed at ps) ≡ tokens_of ps
+spec_tokens-placed before after text at [] here is = refl
+spec_tokens-placed before after text at (p ∷ ps) here is =
+    let whole : text ≡ before ++ (p.bytes ++ (joined ps ++ after)) = is ∙ ap (λ l. before ++ l) (append_assoc p.bytes (joined ps) after) in
+    let further : text ≡ before ++ p.bytes ++ (joined ps ++ after) = whole ∙ sym (append_assoc before p.bytes (joined ps ++ after)) in
+    let next : at + length p.bytes ≡ length (before ++ p.bytes) = omega (arith, here, length-append before p.bytes) in
+    map-append (spec_token text) (placed_one p.kind at (at + length p.bytes)) (placed (at + length p.bytes) ps)
+    ∙ (λ i. (ap (λ a. spec_tokens text (placed_one p.kind a (a + length p.bytes))) here ∙ one_placed p.kind before p.bytes (joined ps ++ after) text whole) i
+    ++ spec_tokens-placed (before ++ p.bytes) after text (at + length p.bytes) ps next further i)
+
+tokens_of-spaced : (ss : List Spaced) → tokens_of (spaced_pieces ss) ≡ spaced_tokens ss
+tokens_of-spaced [] = refl
+tokens_of-spaced (s ∷ ss) = ap (λ l. s.token ∷ l) (tokens_of-spaced ss)
+
+pub spaced_reads : (ss : List Spaced) → (tokens : List Token) × Reads (spaced_text ss) (Ok tokens) × (spec_tokens (spaced_text ss) tokens ≡ spaced_tokens ss)
+spaced_reads ss =
+    let pieces = spaced_pieces ss in
+    let whole : spaced_text ss ≡ [] ++ (joined pieces ++ []) = sym (joined-spaced ss) ∙ sym (append-nil (joined pieces)) in
+    (placed 0 pieces, (pieces, spaced_fit ss, joined-spaced ss, refl), spec_tokens-placed [] [] (spaced_text ss) 0 pieces refl whole ∙ tokens_of-spaced ss)

@@ -1,0 +1,88 @@
+use Rattle.std.proofs.Common.{◌≡◌, ◌<◌, ◌≤◌, ◌-◌, Ok, sym, ◌∙◌, arith, length, false-eqb}
+use Rattle.std.proofs.lemmas.Result.{err_from_is_err_and, on_ok_weaker}
+use Rattle.tv_lex.specs.Include.{inner_name}
+use Rattle.tv_lex.specs.Gather.{file_events, included, below}
+use Rattle.tv_lex.proofs.Gathering.{read_cause, putting_start, beginning_start, beginning_more, line_cause, line_more, line_cut, cause_within, include_put, include_begins, include_refused}
+use Rattle.tv_lex.proofs.gatherer.+gathering.Goals as goal
+
+pub put_file-returns-in_err-content-clause-cause :
+    goal.put_file-returns-in_err-content-clause-cause
+put_file-returns-in_err-content-clause-cause g t c =
+    let p = err_from_is_err_and c.from_residual.result c.from_residual.ensures.1 in
+    let f = g.F.Files in
+    rw (p.1, p.2) (read_cause c.in_err-content.field-0.0 (f.holds c.args.files.now) c.args.name.now c.args.out.now.items c.args.left (f.steady c.args.files.now) (f.faults c.args.files.now) _ c.in_err-content.ensures.cause)
+
+pub put_file-loop-rest-init : goal.put_file-loop-rest-init
+put_file-loop-rest-init g t c =
+    let f = g.F.Files in
+    let told = c.in_ok-content.ensures in
+    let fits : length c.in_ok-content.content.items ≤ 4194304 = omega (arith, told.given) in (
+      rw c.as_slice-rest.ensures.value (putting_start (f.holds c.args.files.now) c.args.name.now c.args.out.now.items c.in_ok-content.content.items c.args.left told.content fits),
+      beginning_start (f.holds c.args.files.now) c.args.name.now c.as_slice-rest.result.now c.args.left (f.begins c.args.files.now) (f.begins c.read_all.new.files) (rw c.as_slice-rest.ensures.value told.content) (rw c.as_slice-rest.ensures.value fits) told.begins_once,
+      told.count,
+      told.holds,
+      told.steady,
+    )
+
+pub put_file-returns-in_err-inside-clause-cause : goal.put_file-returns-in_err-inside-clause-cause
+put_file-returns-in_err-inside-clause-cause g t c =
+    let p = err_from_is_err_and c.from_residual-in_err-inside.result c.from_residual-in_err-inside.ensures.1 in
+    let f = g.F.Files in
+    let inv = c.loop-rest.invariant in
+    let rest = c.loop-rest.rest.now in
+    let some : 0 < length rest = omega (arith, false-eqb (length rest) 0 c.loop-rest-test.ensures) in
+    let cut = line_cut rest c.split_at.result.0.now c.split_at.result.1.now c.line_len.result some c.line_len.ensures c.split_at.ensures.front c.split_at.ensures.back in
+    rw (p.1, p.2) (line_cause c.in_err-inside.field-0.0 (f.holds c.args.files.now) (f.holds c.loop-rest.files) c.args.name.now c.args.out.now.items rest c.loop-rest.out.items c.split_at.result.0.now c.split_at.result.1.now c.args.left c.loop-rest.inside (f.steady c.loop-rest.files) (f.steady c.args.files.now) (f.faults c.args.files.now) (f.faults c.loop-rest.files) _ inv.3 inv.0 cut c.in_err-inside.ensures.cause (λ s. (inv.4 s).0) inv.2)
+
+pub put_file-loop-rest-preserved : goal.put_file-loop-rest-preserved
+put_file-loop-rest-preserved g t c =
+    let f = g.F.Files in
+    let inv = c.loop-rest.invariant in
+    let said = c.in_ok-inside.ensures in
+    let rest = c.loop-rest.rest.now in
+    let some : 0 < length rest = omega (arith, false-eqb (length rest) 0 c.loop-rest-test.ensures) in
+    let cut = line_cut rest c.split_at.result.0.now c.split_at.result.1.now c.line_len.result some c.line_len.ensures c.split_at.ensures.front c.split_at.ensures.back in (
+      line_more (f.holds c.args.files.now) (f.holds c.loop-rest.files) c.args.name.now c.args.out.now.items rest c.loop-rest.out.items c.split_at.result.0.now c.split_at.result.1.now c.put_line.new.out.items c.args.left c.loop-rest.inside c.in_ok-inside.inside inv.3 inv.0 cut said.next said.put,
+      beginning_more (f.holds c.args.files.now) (f.holds c.loop-rest.files) c.args.name.now rest c.split_at.result.0.now c.split_at.result.1.now c.args.left c.loop-rest.inside c.in_ok-inside.inside (f.begins c.args.files.now) (f.begins c.loop-rest.files) (f.begins c.put_line.new.files) inv.3 inv.1 cut said.next said.begins,
+      omega (arith, inv.2, said.count),
+      said.holds ∙ inv.3,
+      λ s. let before = inv.4 s in let now = said.steady before.0 in (now.0, now.1 ∙ before.1),
+    )
+
+pub put_include-returns-in_err-put_file-clause-cause :
+    goal.put_include-returns-in_err-put_file-clause-cause
+put_include-returns-in_err-put_file-clause-cause g t c =
+    let p = err_from_is_err_and c.from_residual-in_err-put_file.result c.from_residual-in_err-put_file.ensures.1 in
+    let f = g.F.Files in
+    let told = f.holds c.args.files.now in
+    let name = c.args.name.now in
+    let line = c.args.line.now in
+    let old = c.args.out.now.items in
+    let left = c.args.left in
+    let written = c.in-Some.written.now in
+    let inner = c.as_str.result.now in
+    let some : 0 < left = omega (arith, c.if-left-eq0.false) in
+    let named : c.as_str.result.now ≡ inner_name c.args.name.now c.in-Some.written.now = ◌∙◌ {c = inner_name c.args.name.now c.in-Some.written.now} c.as_str.ensures.value c.in_ok-inner.ensures in
+    let same : f.faults c.args.files.now ≤ f.faults c.args.files.now = omega arith in
+    rw (p.1, p.2) (cause_within c.in_err-put_file.field-0.0 told (λ held. file_events held (left - 1) inner) (λ held. included (below held left) name line) old old (f.steady c.args.files.now) (f.steady c.args.files.now) (f.faults c.args.files.now) (f.faults c.args.files.now) _ c.in_err-put_file.ensures.cause (λ s. s) same
+    (λ fault puts. include_refused told name line old written inner left fault (sym c.in-Some.ensures) some named puts))
+
+pub put_include-returns-clause-put : goal.put_include-returns-clause-put
+put_include-returns-clause-put g t c =
+    let f = g.F.Files in
+    let told = f.holds c.args.files.now in
+    let some : 0 < c.args.left = omega (arith, c.if-left-eq0.false) in
+    let named : c.as_str.result.now ≡ inner_name c.args.name.now c.in-Some.written.now = ◌∙◌ {c = inner_name c.args.name.now c.in-Some.written.now} c.as_str.ensures.value c.in_ok-inner.ensures in
+    on_ok_weaker c.put_bytes.result
+    (λ gives. include_put told c.args.name.now c.args.line.now c.args.out.now.items c.put_file.new.out.items c.in-Some.written.now c.as_str.result.now c.args.left (Ok c.put_bytes.new.out.items) (sym c.in-Some.ensures) some named c.in_ok-put_file.ensures.put gives)
+    c.put_bytes.ensures.put
+
+pub put_include-returns-clause-begins : goal.put_include-returns-clause-begins
+put_include-returns-clause-begins g t c =
+    let f = g.F.Files in
+    let told = f.holds c.args.files.now in
+    let some : 0 < c.args.left = omega (arith, c.if-left-eq0.false) in
+    let named : c.as_str.result.now ≡ inner_name c.args.name.now c.in-Some.written.now = ◌∙◌ {c = inner_name c.args.name.now c.in-Some.written.now} c.as_str.ensures.value c.in_ok-inner.ensures in
+    on_ok_weaker c.put_bytes.result
+    (λ gives. include_begins told c.args.name.now c.args.line.now c.in-Some.written.now c.as_str.result.now c.args.left (f.begins c.args.files.now) (f.begins c.put_file.new.files) (sym c.in-Some.ensures) some named c.in_ok-put_file.ensures.begins)
+    c.put_bytes.ensures.put

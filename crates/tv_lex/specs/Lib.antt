@@ -1,0 +1,7 @@
+pub mod Bytes
+pub mod Token
+pub mod Pieces
+pub mod Front
+pub mod Include
+pub mod Gather
+pub mod Spaced

@@ -1,0 +1,26 @@
+//! Laws about texts and their tokens. Each function does nothing: its clause is what it shows.
+ghost use Rattle.std.specs.Prelude.{◌≡◌, ◌↔◌, ℕ, List, Result};
+ghost use Rattle.tv_lex.specs.Include.{include_name, IsIncludeLine};
+ghost use Rattle.tv_lex.specs.Token.{spec_tokens};
+ghost use Rattle.tv_lex.specs.Spaced.{Spaced, spaced_text, spaced_tokens};
+ghost use Rattle.tv_lex.specs.Pieces.{Reads};
+ghost use Rattle.tv_lex.specs.declared.token.Token.{Token};
+ghost use Rattle.tv_lex.specs.declared.token.LexError.{LexError};
+
+/// A text has at most one list of tokens, and none where it is refused, which it is for one reason.
+#[tactic(auto, using(crate::proofs::OneReading::one_reading))]
+pub fn one_reading()
+    ensures { (text : List ℕ) (a b : Result (List Token) LexError) → Reads text a → Reads text b → a ≡ b }
+{}
+
+/// A text of tokens with a blank behind each is read as these tokens.
+pub fn spaced_texts()
+    ensures { (parts : List Spaced) → (tokens : List Token)
+        × Reads (spaced_text parts) (Ok tokens)
+        × (spec_tokens (spaced_text parts) tokens ≡ spaced_tokens parts) }
+{}
+
+/// The name that a line includes is read exactly from lines of the form of an include line.
+pub fn include_lines()
+    ensures { (line name : List ℕ) → (include_name line ≡ Some name) ↔ IsIncludeLine line name }
+{}

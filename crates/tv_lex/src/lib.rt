@@ -1,0 +1,21 @@
+//! Texts with their includes put in, the tokens of a text, and places in it.
+#![tactic(auto)]
+
+mod front;
+mod gatherer;
+mod include;
+mod laws;
+mod places;
+mod reader;
+mod token;
+
+pub use gatherer::{GatherError, Gathered, MAX_DEPTH, MAX_TEXT, gather};
+pub use laws::{include_lines, one_reading, spaced_texts};
+pub use places::place;
+pub use reader::lex;
+pub use token::{LexError, Place, Token, TokenKind, Tokens, text};
+
+#[cfg(test)]
+mod gather_tests;
+#[cfg(test)]
+mod tests;
