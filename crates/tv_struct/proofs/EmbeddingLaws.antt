@@ -1,0 +1,143 @@
+-- Laws of embeddings.
+use Rattle.std.proofs.Common.{ℕ, ◌≡◌, ◌≢◌, ◌<◌, ◌⊎◌, inl, inr, Bool, true, false, List, [], ◌∷◌, length, get_or, map, Option, Some, None, refl, sym, ap, subst, ◌∙◌, ◌↔◌, true≢false}
+use Rattle.std.specs.Prelude.{All, Any, Contains, IsTrue, if◌then◌else◌, nat_eq}
+use Rattle.std.specs.List.{list_any}
+use Rattle.std.specs.Cmp.Lexicographic.{pointwise, bytes_decides}
+use Rattle.std.proofs.lemmas.Bool.{cases_eq}
+use Rattle.std.proofs.lemmas.List.{map-id}
+use Rattle.std.proofs.lemmas.List.Elements.{All-map}
+use Rattle.std.proofs.lemmas.List.Folds.{Any-from_list_any, list_any-from_Any}
+use Rattle.tv_kleene.specs.declared.K3.{K3}
+use Rattle.tv_kleene.specs.declared.K3.TheVariants.{No, Half, Yes}
+use Rattle.tv_kleene.specs.Kleene.{LiesUnder}
+use Rattle.tv_model.specs.Heap.{Heap, Holds, extent}
+use Rattle.tv_struct.specs.LogicalStructure.{LogicalStructure, ReadsHeap, heap_structure, holds}
+use Rattle.tv_struct.specs.Embedding.{EmbedsOn, Embeds, KeepsMark, EmbedsWithMarks, IsBelow, IsBelowByValues}
+
+pub LiesUnder-trans : (x y z : K3) → LiesUnder x y → LiesUnder y z → LiesUnder x z
+LiesUnder-trans x y z (inl a) (inl b) = inl (a ∙ b)
+LiesUnder-trans x y z (inl a) (inr b) = inr b
+LiesUnder-trans x y z (inr a) (inl b) = inr (sym b ∙ a)
+LiesUnder-trans x y z (inr a) (inr b) = inr b
+
+map-compose : (f g : ℕ → ℕ) (xs : List ℕ) → map g (map f xs) ≡ map (λ u. g (f u)) xs
+map-compose f g [] = refl
+map-compose f g (x ∷ xs) = ap (λ rest. g (f x) ∷ rest) (map-compose f g xs)
+
+-- ---- identity and composition
+
+pub EmbedsOn-id : (P : ℕ → Type 0) (s : LogicalStructure) → EmbedsOn P (λ u. u) s s
+EmbedsOn-id P s = record {
+  into = λ u h. h;
+  onto = λ w h. (w, h, refl);
+  values = λ pred p tuple all. inl (sym (ap (s.value pred) (map-id tuple)));
+  summaries = λ u h sm. sm;
+  several = λ u w hu hw differ same. absurd (differ same);
+}
+
+pub EmbedsOn-compose : (P : ℕ → Type 0) (f g : ℕ → ℕ) (r s t : LogicalStructure) → EmbedsOn P f r s → EmbedsOn P g s t
+    → EmbedsOn P (λ u. g (f u)) r t
+EmbedsOn-compose P f g r s t a b = record {
+  into = λ u h. b.into (f u) (a.into u h);
+  onto = λ w h. through w (b.onto w h);
+  values = λ pred p tuple all.
+      LiesUnder-trans (r.value pred tuple) (s.value pred (map f tuple)) (t.value pred (map (λ u. g (f u)) tuple))
+      (a.values pred p tuple all)
+      (subst (λ image. LiesUnder (s.value pred (map f tuple)) (t.value pred image)) (map-compose f g tuple)
+      (b.values pred p (map f tuple)
+      (All-map (Contains s.individuals) f tuple (λ k d lt. a.into (get_or tuple k d) (all k d lt)))));
+  summaries = λ u h sm. b.summaries (f u) (a.into u h) (a.summaries u h sm);
+  several = λ u w hu hw differ same. either u w hu hw differ same (cases_eq (f u) (f w));
+}
+  where
+    through : (w : ℕ) → (x : ℕ) × Contains s.individuals x × (g x ≡ w) → (u : ℕ) × Contains r.individuals u × (g (f u) ≡ w)
+    through w (x, has, e) = again w x e (a.onto x has)
+      where
+        again : (w x : ℕ) → g x ≡ w → (u : ℕ) × Contains r.individuals u × (f u ≡ x)
+            → (u : ℕ) × Contains r.individuals u × (g (f u) ≡ w)
+        again w x e (u, has, d) = (u, has, ap g d ∙ e)
+
+    either : (u w : ℕ) → Contains r.individuals u → Contains r.individuals w → u ≢ w → g (f u) ≡ g (f w)
+        → (f u ≡ f w) ⊎ (f u ≢ f w) → IsTrue (t.is_summary (g (f u)))
+    either u w hu hw differ same (inl one) = b.summaries (f u) (a.into u hu) (a.several u w hu hw differ one)
+    either u w hu hw differ same (inr two) = b.several (f u) (f w) (a.into u hu) (a.into w hw) two same
+
+pub KeepsMark-id : (s : LogicalStructure) → KeepsMark (λ u. u) s s
+KeepsMark-id s = record {
+  marked = λ u h. (λ e. e, λ e. e);
+  both = (λ e. e, λ e. e);
+}
+
+pub KeepsMark-compose : (f g : ℕ → ℕ) (r s t : LogicalStructure) → Embeds f r s → KeepsMark f r s → KeepsMark g s t
+    → KeepsMark (λ u. g (f u)) r t
+KeepsMark-compose f g r s t a m n = record {
+  marked = λ u h. (
+    λ e. (n.marked (f u) (a.into u h)).0 ((m.marked u h).0 e),
+    λ e. (m.marked u h).1 ((n.marked (f u) (a.into u h)).1 e),
+  );
+  both = (λ e. n.both.0 (m.both.0 e), λ e. m.both.1 (n.both.1 e));
+}
+
+-- ---- below
+
+pub IsBelow-values : (s t : LogicalStructure) → IsBelow s t ↔ IsBelowByValues s t
+IsBelow-values s t = (to, from)
+  where
+    to : IsBelow s t → IsBelowByValues s t
+    to (same, e) = record {
+      individuals = same;
+      values = λ pred tuple all.
+          subst (λ image. LiesUnder (s.value pred tuple) (t.value pred image)) (map-id tuple) (e.values pred tt tuple all);
+      summaries = e.summaries;
+    }
+
+    from : IsBelowByValues s t → IsBelow s t
+    from v = (
+      v.individuals,
+      record {
+        into = λ u h. subst (λ us. Contains us u) v.individuals h;
+        onto = λ w h. (w, subst (λ us. Contains us w) (sym v.individuals) h, refl);
+        values = λ pred p tuple all.
+            subst (λ image. LiesUnder (s.value pred tuple) (t.value pred image)) (sym (map-id tuple)) (v.values pred tuple all);
+        summaries = v.summaries;
+        several = λ u w hu hw differ same. absurd (differ same);
+      },
+    )
+
+-- ---- heaps
+
+holds-Holds : (h : Heap) (pred : ℕ) (tuple : List ℕ) → (holds h pred tuple ≡ true) ↔ Holds h pred tuple
+holds-Holds h pred tuple = (to, from)
+  where
+    to : holds h pred tuple ≡ true → Holds h pred tuple
+    to e =
+        let hit : Any (λ member. pointwise nat_eq member tuple ≡ true) (extent h pred)
+        = Any-from_list_any (λ member. pointwise nat_eq member tuple) (extent h pred) e
+        in let same : hit.1 ≡ tuple = (bytes_decides hit.1 tuple).0 hit.4
+        in let At : List ℕ → Type 0 = λ member. get_or (extent h pred) hit.0 member ≡ member
+        in (hit.0, hit.2, subst At same hit.3)
+
+    from : Holds h pred tuple → holds h pred tuple ≡ true
+    from has =
+        list_any-from_Any (λ member. pointwise nat_eq member tuple) (extent h pred)
+        (has.0, tuple, has.1, has.2, (bytes_decides tuple tuple).1 refl)
+
+value-true : (b : Bool) → ((if b then Yes else No) ≡ Yes) ↔ (b ≡ true)
+value-true true = (λ e. refl, λ e. refl)
+value-true false = (λ e. cc, λ e. cc)
+
+value-false : (b : Bool) → ((if b then Yes else No) ≡ No) ↔ (b ≡ true → ⊥)
+value-false true = (λ e. cc, λ e. absurd (e refl))
+value-false false = (λ e. λ d. true≢false (sym d), λ e. refl)
+
+pub reads_heap : (h : Heap) → ReadsHeap h
+reads_heap h = record {
+  yes = λ pred tuple. (
+    λ e. (holds-Holds h pred tuple).0 ((value-true (holds h pred tuple)).0 e),
+    λ has. (value-true (holds h pred tuple)).1 ((holds-Holds h pred tuple).1 has),
+  );
+  no = λ pred tuple. (
+    λ e. λ has. (value-false (holds h pred tuple)).0 e ((holds-Holds h pred tuple).1 has),
+    λ never. (value-false (holds h pred tuple)).1 (λ d. never ((holds-Holds h pred tuple).0 d)),
+  );
+}

@@ -1,0 +1,8 @@
+pub mod TableLaws
+pub mod OrderLaws
+pub mod OriginLaws
+pub mod DrawnLaws
+pub mod ListingLaws
+pub mod EmbeddingLaws
+pub mod StructureLaws
+pub mod ListLaws

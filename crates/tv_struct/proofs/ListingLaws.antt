@@ -1,0 +1,109 @@
+-- Looking up a structure by its signature.
+use Rattle.std.proofs.Common.{ℕ, ◌≡◌, ◌≢◌, ◌<◌, ◌≤◌, ◌+◌, ◌⊎◌, inl, inr, Bool, true, false, List, [], ◌∷◌, ◌++◌, length, get_or, map, Option, Some, None, MatchBool, true≢false, Result, Ok, Err, set, refl, sym, ap, subst, ◌∙◌, arith, ◌==◌, if◌then◌else◌, eq-eqb}
+use Rattle.std.specs.Prelude.{Any, Contains, slice_get}
+use Rattle.std.specs.List.{list_any}
+use Rattle.std.specs.declared.alloc.AllocError.{AllocError}
+use Rattle.std.specs.Ordering.{is_eq}
+use Rattle.std.specs.Cmp.{Equal-is}
+use Rattle.std.proofs.lemmas.List.{get_or-map, length-map, get_or_append_left, get_or_at, length-append, set-get_or}
+use Rattle.std.proofs.lemmas.List.Folds.{Any-from_list_any, list_any_at}
+use Rattle.std.proofs.lemmas.Bool.{cases_lt}
+use Rattle.std.proofs.lemmas.Option.{slice_get_within, get_or_from_slice_get, slice_get-get_or}
+use Rattle.tv_struct.specs.ListingForm.{HasEqual, AreNoted, Adds, AddsAt, at_node, equals, is_equal_at}
+use Rattle.tv_struct.specs.Order.{structure_cmp}
+use Rattle.tv_struct.specs.Signature.{signature_of}
+use Rattle.tv_struct.specs.StructureForm.{StructureForm, unmarked}
+use Rattle.tv_struct.proofs.OrderLaws.{structure_cmp-Equal, Equal-from_unmarked}
+
+Contains-append : (xs : List ℕ) (x y : ℕ) → Contains xs x → Contains (xs ++ y ∷ []) x
+Contains-append xs x y (k, lt, at) =
+    (k, rw (length-append xs (y ∷ [])) (omega arith), get_or_append_left xs (y ∷ []) x k lt ∙ at)
+
+Contains-last : (xs : List ℕ) (x : ℕ) → Contains (xs ++ x ∷ []) x
+Contains-last xs x = (length xs, rw (length-append xs (x ∷ [])) (omega arith), get_or_at xs x [] x (length xs) refl)
+
+-- nothing is lost where a place is noted
+Contains-noted : (b : Bool) (xs : List ℕ) (x y : ℕ) → Contains xs x → Contains (if b then xs ++ y ∷ [] else xs) x
+Contains-noted true xs x y has = Contains-append xs x y has
+Contains-noted false xs x y has = has
+
+pub AreNoted-same : (noted later : ℕ → List ℕ) (signatures : List ℕ) → AreNoted noted signatures
+    → ((g : ℕ) → later g ≡ noted g) → AreNoted later signatures
+AreNoted-same noted later signatures all same place lt =
+    let P : List ℕ → Type 0 = λ places. Contains places place
+    in subst P (sym (same (get_or signatures place 0))) (all place lt)
+
+-- a place is noted that no structure takes
+pub AreNoted-kept : (noted later : ℕ → List ℕ) (signatures : List ℕ) (signature n : ℕ) → AreNoted noted signatures
+    → ((g : ℕ) → later g ≡ (if g == signature then noted g ++ n ∷ [] else noted g)) → AreNoted later signatures
+AreNoted-kept noted later signatures signature n all new place lt =
+    let P : List ℕ → Type 0 = λ places. Contains places place
+    in let g : ℕ = get_or signatures place 0
+    in subst P (sym (new g)) (Contains-noted (g == signature) (noted g) place n (all place lt))
+
+-- the next structure's place is noted for its signature
+pub AreNoted-append : (noted later : ℕ → List ℕ) (signatures : List ℕ) (signature n : ℕ) → AreNoted noted signatures
+    → n ≡ length signatures → ((g : ℕ) → later g ≡ (if g == signature then noted g ++ n ∷ [] else noted g))
+    → AreNoted later (signatures ++ signature ∷ [])
+AreNoted-append noted later signatures signature n all count new place lt =
+    at (cases_lt place (length signatures))
+  where
+    at : (place < length signatures) ⊎ (length signatures ≤ place)
+        → Contains (later (get_or (signatures ++ signature ∷ []) place 0)) place
+    at (inl before) =
+        rw (get_or_append_left signatures (signature ∷ []) 0 place before)
+        (AreNoted-kept noted later signatures signature n all new place before)
+    at (inr last) =
+        let here : length signatures ≡ place
+        = omega (arith, length-append signatures (signature ∷ []))
+        in let full : later signature ≡ noted signature ++ place ∷ []
+        = new signature ∙ (rw (eq-eqb signature signature refl, count, here) refl)
+        in rw (get_or_at signatures signature [] 0 place here, full) (Contains-last (noted signature) place)
+
+-- what is found among the noted places is an equal structure
+found : (structures : List StructureForm) (s : StructureForm) (places : List ℕ)
+    → list_any (is_equal_at structures s) places ≡ true → HasEqual structures s
+found structures s places e =
+    let hit : Any (λ place. is_equal_at structures s place ≡ true) places = Any-from_list_any (is_equal_at structures s) places e
+    in from hit.1 (slice_get structures hit.1) refl hit.4
+  where
+    from : (place : ℕ) (o : Option StructureForm) → slice_get structures place ≡ o → equals o s ≡ true → HasEqual structures s
+    from place None is e = absurd (true≢false (sym e))
+    from place (Some t) is e = (
+      place,
+      t,
+      slice_get_within structures place t is,
+      get_or_from_slice_get structures place t t is,
+      structure_cmp-Equal t s ((Equal-is (structure_cmp t s)).0 e),
+    )
+
+-- and an equal structure is found
+not_missed : (structures : List StructureForm) (s : StructureForm) (noted : ℕ → List ℕ)
+    → AreNoted noted (map signature_of structures) → HasEqual structures s
+    → list_any (is_equal_at structures s) (noted (signature_of s)) ≡ true
+not_missed structures s noted all (k, t, lt, at, same) =
+    let P : ℕ → Type 0 = λ signature. Contains (noted signature) k
+    in let read : get_or (map signature_of structures) k 0 ≡ signature_of s
+    = get_or-map signature_of structures k t 0 lt ∙ ap signature_of at ∙ ap signature_of same
+    in let here : Contains (noted (signature_of s)) k
+    = subst P read (all k (rw (length-map structures signature_of) lt))
+    in let equal : is_equal_at structures s k ≡ true
+    = ap (λ o. equals o s) (slice_get-get_or structures k t lt)
+    ∙ ap (λ x. is_eq (structure_cmp x s)) at ∙ ap is_eq (Equal-from_unmarked t s same)
+    in list_any_at (is_equal_at structures s) (noted (signature_of s)) here.0 k here.1 (rw here.2 equal)
+
+pub HasEqual-found : (structures : List StructureForm) (s : StructureForm) (noted : ℕ → List ℕ)
+    → AreNoted noted (map signature_of structures) → (r : Bool)
+    → r ≡ list_any (is_equal_at structures s) (noted (signature_of s))
+    → MatchBool r (HasEqual structures s) (¬ HasEqual structures s)
+HasEqual-found structures s noted all true e = found structures s (noted (signature_of s)) (sym e)
+HasEqual-found structures s noted all false e = λ has. true≢false (sym (not_missed structures s noted all has) ∙ sym e)
+
+-- from the list at the node to the listing
+pub AddsAt-from_list : (old : List (List StructureForm)) (node : ℕ) (list new : List StructureForm) (s : StructureForm)
+    (r : Result Bool AllocError) → list ≡ at_node old node → Adds list new s r → AddsAt old (set old node new) node s r
+AddsAt-from_list old node list new s (Ok true) e h =
+    (rw (← e) h.0, ap (set old node) h.1 ∙ ap (λ xs. set old node (xs ++ s ∷ [])) e)
+AddsAt-from_list old node list new s (Ok false) e h =
+    (rw (← e) h.0, ap (set old node) (h.1 ∙ e) ∙ set-get_or old node [])
+AddsAt-from_list old node list new s (Err x) e h = ap (set old node) (h ∙ e) ∙ set-get_or old node []

@@ -1,0 +1,103 @@
+-- What the derived comparisons compute.
+use Rattle.std.proofs.Common.{◌≡◌, ◌∙◌, Bool, true, false, List, [], ◌∷◌, None, refl, sym, subst, Less, Equal, Greater}
+use Rattle.std.specs.Prelude.{◌↔◌}
+use Rattle.std.specs.declared.cmp.Ordering.{Ordering}
+use Rattle.std.specs.Ordering.{nat_cmp, bool_cmp, ordering_then}
+use Rattle.std.proofs.lemmas.Cmp.{ranked, tied_itself}
+use Rattle.std.specs.Cmp.Lexicographic.{slice_cmp}
+use Rattle.tv_kleene.specs.declared.K3.{K3}
+use Rattle.tv_kleene.specs.declared.K3.TheVariants.{No, Half, Yes}
+use Rattle.tv_kleene.specs.contracts.K3Ord.TheImpl.{cmp-value}
+use Rattle.tv_struct.specs.contracts.plane.PlaneOrd.TheImpl.{cmp-value as plane_cmp-value}
+use Rattle.tv_struct.specs.Order.{value_cmp, plane_cmp, planes_cmp, structure_cmp, structure_cmp_total}
+use Rattle.tv_struct.specs.StructureForm.{StructureForm, unmarked}
+use Rattle.tv_struct.specs.TableForm.{PlaneForm}
+
+pub derived-value_cmp : (x y : K3) → cmp-value.it x y ≡ value_cmp x y
+derived-value_cmp No No = refl
+derived-value_cmp No Half = refl
+derived-value_cmp No Yes = refl
+derived-value_cmp Half No = refl
+derived-value_cmp Half Half = refl
+derived-value_cmp Half Yes = refl
+derived-value_cmp Yes No = refl
+derived-value_cmp Yes Half = refl
+derived-value_cmp Yes Yes = refl
+
+pub derived-plane_cmp : (x y : PlaneForm) → plane_cmp-value.it x y ≡ plane_cmp x y
+derived-plane_cmp x y =
+    λ i. ordering_then (nat_cmp x.arity y.arity) (slice_cmp (slice_cmp (λ a b. derived-value_cmp a b i)) x.rows y.rows)
+
+pub derived-planes_cmp : (xs ys : List PlaneForm) → slice_cmp plane_cmp-value.it xs ys ≡ planes_cmp xs ys
+derived-planes_cmp xs ys = λ i. slice_cmp (λ x y. derived-plane_cmp x y i) xs ys
+
+-- ---- what compares as equal is equal
+
+then-Equal : (a b : Ordering) → ordering_then a b ≡ Equal → (a ≡ Equal) × (b ≡ Equal)
+then-Equal Less b e = (e, cc)
+then-Equal Equal b e = (refl, e)
+then-Equal Greater b e = (e, cc)
+
+abbrev IsExact : {X : Type 0} → (X → X → Ordering) → Type 0
+IsExact {X} R = (x y : X) → R x y ≡ Equal → x ≡ y
+
+nat_exact : IsExact nat_cmp
+nat_exact x y e = ranked x y Equal (sym e)
+
+bool_exact : IsExact bool_cmp
+bool_exact false false e = refl
+bool_exact false true e = cc
+bool_exact true false e = cc
+bool_exact true true e = refl
+
+value_exact : IsExact value_cmp
+value_exact No No e = refl
+value_exact No Half e = cc
+value_exact No Yes e = cc
+value_exact Half No e = cc
+value_exact Half Half e = refl
+value_exact Half Yes e = cc
+value_exact Yes No e = cc
+value_exact Yes Half e = cc
+value_exact Yes Yes e = refl
+
+lists_exact : {X : Type 0} (R : X → X → Ordering) → IsExact R → IsExact (slice_cmp R)
+lists_exact R exact [] [] e = refl
+lists_exact R exact [] (y ∷ ys) e = cc
+lists_exact R exact (x ∷ xs) [] e = cc
+lists_exact R exact (x ∷ xs) (y ∷ ys) e =
+    let both : (R x y ≡ Equal) × (slice_cmp R xs ys ≡ Equal) = then-Equal (R x y) (slice_cmp R xs ys) e
+    in let head : x ≡ y = exact x y both.0
+    in let tail : xs ≡ ys = lists_exact R exact xs ys both.1
+    in λ i. head i ∷ tail i
+
+plane_exact : IsExact plane_cmp
+plane_exact p q e =
+    let both : (nat_cmp p.arity q.arity ≡ Equal) × (slice_cmp (slice_cmp value_cmp) p.rows q.rows ≡ Equal) = then-Equal _ _ e
+    in let arity : p.arity ≡ q.arity = nat_exact _ _ both.0
+    in let rows : p.rows ≡ q.rows
+    = lists_exact (slice_cmp value_cmp) (lists_exact value_cmp value_exact) p.rows q.rows both.1
+    in λ i. record { arity = arity i; rows = rows i }
+
+pub structure_cmp-Equal : (a b : StructureForm) → structure_cmp a b ≡ Equal → unmarked a ≡ unmarked b
+structure_cmp-Equal a b e =
+    let both : (nat_cmp a.size b.size ≡ Equal)
+    × (ordering_then (slice_cmp bool_cmp a.summaries b.summaries) (planes_cmp a.planes b.planes) ≡ Equal)
+    = then-Equal _ _ e
+    in let later : (slice_cmp bool_cmp a.summaries b.summaries ≡ Equal) × (planes_cmp a.planes b.planes ≡ Equal)
+    = then-Equal _ _ both.1
+    in let size : a.size ≡ b.size = nat_exact _ _ both.0
+    in let summaries : a.summaries ≡ b.summaries = lists_exact bool_cmp bool_exact a.summaries b.summaries later.0
+    in let planes : a.planes ≡ b.planes = lists_exact plane_cmp plane_exact a.planes b.planes later.1
+    in λ i. record { size = size i; summaries = summaries i; planes = planes i; fresh = None }
+
+pub Equal-from_unmarked : (a b : StructureForm) → unmarked a ≡ unmarked b → structure_cmp a b ≡ Equal
+Equal-from_unmarked a b e =
+    let P : StructureForm → Type 0 = λ s. structure_cmp (unmarked a) s ≡ Equal
+    in subst P e (tied_itself structure_cmp_total (unmarked a))
+
+-- an answer of `compare` tells whether two structures are the same
+pub same_from_order : (a b : StructureForm) (r : Ordering) → r ≡ structure_cmp a b
+    → (r ≡ Equal) ↔ (unmarked a ≡ unmarked b)
+same_from_order a b r e =
+    (λ equal. structure_cmp-Equal a b (sym e ∙ equal), λ same. e ∙ Equal-from_unmarked a b same)

@@ -1,0 +1,6 @@
+use Rattle.std.proofs.Common.{◌≡◌, take}
+use Rattle.tv_struct.specs.StructureForm.{kept_from}
+use Rattle.tv_struct.proofs.origins.kept.Given as goal
+
+abbrev pub invariant-loop-u : goal.invariant-loop-u
+invariant-loop-u l = l.origins.items ≡ kept_from 0 (take l.u l.keep)

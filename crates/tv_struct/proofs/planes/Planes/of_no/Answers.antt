@@ -1,0 +1,11 @@
+use Rattle.std.proofs.Common.{map, take, ◌≤◌}
+use Rattle.std.proofs.lemmas.List.{take_all}
+use Rattle.std.proofs.lemmas.List.Elements.{All-map}
+use Rattle.tv_struct.proofs.TableLaws.{IsTable-of_no}
+use Rattle.tv_struct.proofs.planes.Planes.of_no.Goals as goal
+
+pub invariant_of-result : goal.invariant_of-result
+invariant_of-result c =
+    rw (c.loop-pred.invariant, take_all c.loop-pred.pred-index c.args.preds.now c.loop-pred-test.false)
+    (IsTable-of_no c.args.size (map (λ pred. pred.arity) c.args.preds.now) c.requires.size
+    (All-map (λ arity. arity ≤ 2) (λ pred. pred.arity) c.args.preds.now c.requires.arities))

@@ -1,0 +1,10 @@
+use Rattle.std.proofs.Common.{◌∙◌, ap}
+use Rattle.tv_struct.specs.TableForm.{TableForm, arities_in}
+use Rattle.tv_struct.proofs.StructureLaws.{arities_in-drawn}
+use Rattle.tv_struct.proofs.structure.Structure.drawn.Goals as goal
+
+pub returns-clause-over : goal.returns-clause-over
+returns-clause-over c =
+    rw (← c.self.view_is)
+    (ap (λ (t : TableForm). arities_in t.planes) c.in_ok-drawn.ensures
+    ∙ arities_in-drawn c.args.origins.now c.self.inside.table.planes)

@@ -1,0 +1,10 @@
+pub mod Embedding
+pub mod Laws
+pub mod ListingForm
+pub mod Lists
+pub mod LogicalStructure
+pub mod Order
+pub mod Signature
+pub mod StructureForm
+pub mod TableForm
+pub mod TupleForm

@@ -1,0 +1,44 @@
+-- Lists of structures, one for each node.
+use Rattle.std.specs.Prelude.{ℕ, ◌≡◌, ◌<◌, Bool, true, false, List, [], ◌∷◌, ◌++◌, length, Any, Contains, Option, None, Some, Result, Ok, Err, slice_get, slice_index_or, slice_set}
+use Rattle.std.specs.declared.alloc.AllocError.{AllocError}
+use Rattle.std.specs.Ordering.{is_eq}
+use Rattle.tv_struct.specs.Order.{structure_cmp}
+use Rattle.tv_struct.specs.StructureForm.{StructureForm, unmarked}
+
+-- the structures that stand at a node
+abbrev pub at_node : List (List StructureForm) → ℕ → List StructureForm
+at_node listing node = slice_index_or listing node []
+
+-- the listing with the structure behind those of the node
+abbrev pub appended : List (List StructureForm) → ℕ → StructureForm → List (List StructureForm)
+appended listing node s = slice_set listing node (at_node listing node ++ s ∷ [])
+
+-- one of the structures is equal to s, marks aside
+abbrev pub HasEqual : List StructureForm → StructureForm → Type 0
+HasEqual structures s = Any (λ t. unmarked t ≡ unmarked s) structures
+
+-- what adding a structure does: it is put behind the others exactly where none of them is equal to it
+abbrev pub Adds : (old new : List StructureForm) → StructureForm → Result Bool AllocError → Type 0
+Adds old new s (Ok true) = (¬ HasEqual old s) × (new ≡ old ++ s ∷ [])
+Adds old new s (Ok false) = HasEqual old s × (new ≡ old)
+Adds old new s (Err e) = new ≡ old
+
+-- and what adding it at a node does
+abbrev pub AddsAt : (old new : List (List StructureForm)) → ℕ → StructureForm → Result Bool AllocError → Type 0
+AddsAt old new node s (Ok true) = (¬ HasEqual (at_node old node) s) × (new ≡ appended old node s)
+AddsAt old new node s (Ok false) = HasEqual (at_node old node) s × (new ≡ old)
+AddsAt old new node s (Err e) = new ≡ old
+
+-- each structure's place is among those that are noted for its signature
+abbrev pub AreNoted : (noted : ℕ → List ℕ) → (signatures : List ℕ) → Type 0
+AreNoted noted signatures =
+    (place : ℕ) → place < length signatures → Contains (noted (slice_index_or signatures place 0)) place
+
+-- whether a structure is equal to s, marks aside
+abbrev pub equals : Option StructureForm → StructureForm → Bool
+equals None s = false
+equals (Some t) s = is_eq (structure_cmp t s)
+
+-- whether the structure at the place is equal to s
+abbrev pub is_equal_at : List StructureForm → StructureForm → ℕ → Bool
+is_equal_at structures s place = equals (slice_get structures place) s

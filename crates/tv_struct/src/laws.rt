@@ -1,0 +1,48 @@
+//! Laws of structures and embeddings: functions that do nothing, and whose contracts are the laws.
+
+ghost use Rattle.tv_struct.specs.Laws.{EmbeddingsCompose, BelowIsByValues, HeapsReadAsStructures, EntriesAreSeparate, NewStructuresAreNo, EntriesDetermineStructures, DrawnStructuresRead};
+ghost use Rattle.tv_struct.specs.Lists.{ListsEmbed};
+
+/// The map that moves nothing embeds a structure in itself, and two embeddings compose.
+pub fn embeddings_compose()
+    ensures { EmbeddingsCompose }
+{}
+
+/// A structure lies below another exactly where each of its values, its summaries included, lies
+/// under the other's.
+pub fn below_is_by_values()
+    ensures { BelowIsByValues }
+{}
+
+/// A heap of any size, read as a structure, has Yes exactly where a predicate holds, and No exactly
+/// where it doesn't.
+pub fn heaps_read_as_structures()
+    ensures { HeapsReadAsStructures }
+{}
+
+/// Writing an entry of a structure, or a summary, gives it the value, and changes no other.
+pub fn entries_are_separate()
+    ensures { EntriesAreSeparate }
+{}
+
+/// The entries, the summaries and the mark determine a structure of given size and arities.
+pub fn entries_determine_structures()
+    ensures { EntriesDetermineStructures }
+{}
+
+/// A structure drawn from another has the values and the summaries of the origins, a structure with a
+/// new individual keeps the values of the others, and past the end every value is `No`.
+pub fn drawn_structures_read()
+    ensures { DrawnStructuresRead }
+{}
+
+/// A new structure has the given arities, No everywhere and no summary.
+pub fn new_structures_are_no()
+    ensures { NewStructuresAreNo }
+{}
+
+/// The heap of a linked list of any length, two cells or three hundred, embeds in the structure of one
+/// summary and in that of a first cell and one summary for all others.
+pub fn lists_embed()
+    ensures { ListsEmbed }
+{}

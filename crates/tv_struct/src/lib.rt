@@ -1,0 +1,28 @@
+//! Three-valued logical structures, the table that keeps their values, and lists of structures.
+#![tactic(auto)]
+
+mod analysis;
+mod laws;
+mod line;
+mod listing;
+mod node;
+mod origins;
+mod plane;
+mod planes;
+mod signature;
+mod structure;
+mod table;
+
+pub use analysis::{
+    Analysis, Item, MapLine, MapLines, MessageLine, MessageLines, Numbers, StageError,
+};
+pub use laws::{
+    below_is_by_values, drawn_structures_read, embeddings_compose, entries_are_separate,
+    entries_determine_structures, heaps_read_as_structures, lists_embed, new_structures_are_no,
+};
+pub use listing::Listing;
+pub use structure::{Structure, Structures};
+pub use table::{Table, Tuple};
+
+#[cfg(test)]
+mod tests;

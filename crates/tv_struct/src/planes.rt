@@ -1,0 +1,122 @@
+//! A table with the values of each predicate beside each other.
+
+ghost use Rattle.std.specs.Prelude.{◌≡◌, ◌<◌, ◌≤◌, ℕ, [], ◌∷◌, length, map, All, IfOk, slice_index_or};
+ghost use Rattle.tv_struct.specs.TableForm.{TableForm, IsTable, HasEntry, entry, with_entry, table_of_no, table_drawn, row_of, column_of, no_plane};
+ghost use Rattle.tv_struct.specs.Order.{planes_cmp};
+ghost use Rattle.tv_struct.specs.Signature.{planes_mixed};
+ghost use Rattle.tv_struct.specs.TupleForm.{tuple_of};
+
+use crate::plane::Plane;
+use crate::table::{Table, Tuple};
+use std::alloc::{AllocError, Global};
+use std::cmp::Ordering;
+use std::marker::Model;
+use tv_kleene::K3;
+use tv_model::{Pred, PredId};
+
+/// A table that keeps a plane of values for each predicate.
+#[derive(Debug, Drop)]
+pub struct Planes {
+    size: u32,
+    planes: Vec<Plane>,
+}
+
+impl Model for Planes {
+    ghost use Rattle.tv_struct.specs.TableForm.{TableForm, IsTable};
+
+    ghost Value = { TableForm };
+
+    ghost view = { λ t. record { size = t.size; planes = t.planes.items } };
+
+    ghost invariant = { λ t. IsTable (record { size = t.size; planes = t.planes.items }) };
+}
+
+impl Planes {
+    /// The table over `size` individuals that has `No` everywhere.
+    pub fn of_no(alloc: Global, preds: &[Pred], size: u32) -> Result<Planes, AllocError>
+        requires size { size ≤ 256 }
+        requires arities { All (λ pred. pred.arity ≤ 2) preds.now }
+        ensures { IfOk result (λ t. t ≡ table_of_no size (map (λ pred. pred.arity) preds.now)) }
+    {
+        let mut planes = Vec::with_capacity(alloc, preds.len())?;
+        for pred in preds {
+            planes.push(Plane::of_no(alloc, pred.arity, size)?)?;
+        }
+        Ok(Planes { size, planes })
+    }
+
+    /// An equal table in memory of its own.
+    pub fn copied(&self, alloc: Global) -> Result<Planes, AllocError>
+        ensures { IfOk result (λ t. t ≡ self.now) }
+    {
+        let mut planes = Vec::with_capacity(alloc, self.planes.len())?;
+        for plane in &self.planes {
+            planes.push(plane.copied(alloc)?)?;
+        }
+        Ok(Planes {
+            size: self.size,
+            planes,
+        })
+    }
+
+    /// The table over one individual for each of the origins, with the origins' values, and `No` for
+    /// an origin past the end.
+    pub fn drawn(&self, alloc: Global, origins: &[u32]) -> Result<Planes, AllocError>
+        requires { length origins.now ≤ 256 }
+        ensures { IfOk result (λ t. t ≡ table_drawn origins.now self.now) }
+    {
+        let mut planes = Vec::with_capacity(alloc, self.planes.len())?;
+        for plane in &self.planes {
+            planes.push(plane.drawn(alloc, origins)?)?;
+        }
+        Ok(Planes {
+            size: origins.len() as u32,
+            planes,
+        })
+    }
+
+    /// The number with the values mixed in, predicate by predicate.
+    pub fn mix(&self, hash: u64) -> u64
+        ensures { result ≡ planes_mixed hash self.now.planes }
+    {
+        self.planes.iter().fold(hash, |h, plane| plane.mix(h))
+    }
+
+    /// Compares the values, predicate by predicate, each tuple by tuple.
+    pub fn compare_values(&self, other: &Planes) -> Ordering
+        ensures { result ≡ planes_cmp self.now.planes other.now.planes }
+    {
+        self.planes.cmp(&other.planes)
+    }
+}
+
+/// The row of a tuple's value and its column.
+fn place(t: Tuple) -> (usize, usize)
+    ensures row { result.0 ≡ row_of (tuple_of t) }
+    ensures column { result.1 ≡ column_of (tuple_of t) }
+{
+    match t {
+        Tuple::Zero => (0, 0),
+        Tuple::One(u) => (0, u as usize),
+        Tuple::Two(u, w) => (u as usize, w as usize),
+    }
+}
+
+impl Table for Planes {
+    ghost table = { λ t. t };
+
+    fn size(&self) -> u32 {
+        self.size
+    }
+
+    fn get(&self, p: PredId, t: Tuple) -> K3 {
+        let (row, column) = place(t);
+        self.planes[p.0 as usize].get(row, column)
+    }
+
+    fn set(&mut self, p: PredId, t: Tuple, k: K3) {
+        let (row, column) = place(t);
+        let plane = &mut self.planes[p.0 as usize];
+        plane.put(row, column, k);
+    }
+}

@@ -1,0 +1,239 @@
+//! Three-valued structures of at most 256 individuals.
+
+ghost use Rattle.std.specs.Prelude.{◌≡◌, ◌<◌, ◌≤◌, ◌↔◌, ℕ, [], ◌∷◌, length, map, All, IfOk, IsTrue, IfSome, sum, slice_index, refl};
+ghost use Rattle.std.specs.Cmp.{partial_equiv_from_equiv, eq_by_cmp_equiv, po};
+ghost use Rattle.std.specs.Ordering.{eq_by_cmp, as_partial_cmp};
+ghost use Rattle.tv_struct.specs.Order.{structure_cmp, structure_cmp_total};
+ghost use Rattle.tv_struct.specs.Signature.{signature_of};
+ghost use Rattle.tv_struct.specs.StructureForm.{StructureForm, IsStructure, IsMark, IsOver, arities_of, table_of, value_at, summary_at, structure_of_no, with_value, with_summary, with_new, without, split, drawn, unmarked};
+ghost use Rattle.tv_struct.specs.TableForm.{HasEntry};
+ghost use Rattle.tv_struct.specs.TupleForm.{tuple_of};
+
+use crate::line::Line;
+use crate::origins;
+use crate::planes::Planes;
+use crate::signature::mix_flags;
+use crate::table::{Table, Tuple};
+use std::alloc::{AllocError, Global};
+use std::cmp::Ordering;
+use std::marker::Model;
+use tv_kleene::K3;
+use tv_model::{Items, PredId, Vocab};
+
+/// A three-valued logical structure (Sagiv, Reps and Wilhelm 2002, section 4) over the individuals 0
+/// to `size - 1`: the value of each predicate at each tuple, and which individuals are summaries,
+/// that is, may stand for several cells. At most one individual is marked as fresh; it is no summary.
+#[derive(Debug, Drop)]
+pub struct Structure {
+    table: Planes,
+    summaries: Line<bool>,
+    fresh: Option<u32>,
+}
+
+/// A list of structures.
+pub type Structures = Items<Structure>;
+
+impl Model for Structure {
+    ghost use Rattle.tv_struct.specs.StructureForm.{StructureForm, IsStructure};
+
+    ghost Value = { StructureForm };
+
+    ghost view = { λ s. record { size = s.table.size; summaries = s.summaries; planes = s.table.planes; fresh = s.fresh } };
+
+    ghost invariant = { λ s. IsStructure (record { size = s.table.size; summaries = s.summaries; planes = s.table.planes; fresh = s.fresh }) };
+}
+
+impl Structure {
+    /// The structure over `size` individuals that has `No` everywhere and no summary.
+    #[tactic(auto, using(crate::proofs::StructureLaws::arities_of_no))]
+    pub fn new(alloc: Global, vocab: &Vocab, size: u32) -> Result<Structure, AllocError>
+        requires size { size ≤ 256 }
+        requires arities { All (λ pred. pred.arity ≤ 2) vocab.now.preds }
+        ensures value { IfOk result (λ s. s ≡ structure_of_no size (map (λ pred. pred.arity) vocab.now.preds)) }
+        ensures over { IfOk result (IsOver vocab.now) }
+    {
+        Ok(Structure {
+            table: Planes::of_no(alloc, vocab.preds.as_slice(), size)?,
+            summaries: Line::from_vec(vec![in alloc; false; size as usize]?),
+            fresh: None,
+        })
+    }
+
+    /// The number of individuals, at most 256.
+    pub fn size(&self) -> u32
+        ensures size { result ≡ self.now.size }
+        ensures kept { IsStructure self.now }
+    {
+        self.table.size()
+    }
+
+    /// The value of the predicate `p` at the tuple `t`.
+    pub fn get(&self, p: PredId, t: Tuple) -> K3
+        requires { HasEntry (table_of self.now) p.0 (tuple_of t) }
+        ensures { result ≡ value_at self.now p.0 (tuple_of t) }
+    {
+        self.table.get(p, t)
+    }
+
+    /// Puts `k` at the entry of the predicate `p` at the tuple `t`, and changes no other.
+    #[tactic(auto, using(crate::proofs::StructureLaws::arities_of_written))]
+    pub fn set(&mut self, p: PredId, t: Tuple, k: K3)
+        requires { HasEntry (table_of self.old) p.0 (tuple_of t) }
+        ensures value { self.new ≡ with_value self.old p.0 (tuple_of t) k }
+        ensures over { arities_of self.new ≡ arities_of self.old }
+    {
+        self.table.set(p, t, k);
+    }
+
+    /// Whether the individual `u` is a summary.
+    pub fn summary(&self, u: u32) -> bool
+        requires { u < self.now.size }
+        ensures { result ≡ summary_at self.now u }
+    {
+        self.summaries.as_slice()[u as usize]
+    }
+
+    /// Makes the individual `u` a summary or an ordinary individual. The fresh individual can't be a
+    /// summary.
+    pub fn set_summary(&mut self, u: u32, on: bool)
+        requires individual { u < self.old.size }
+        requires not_fresh { IsTrue on → ¬ (self.old.fresh ≡ Some u) }
+        ensures { self.new ≡ with_summary self.old u on }
+    {
+        self.summaries.put(u as usize, on);
+    }
+
+    /// The individual of which `isNew` holds, if there is one.
+    pub fn fresh(&self) -> Option<u32>
+        ensures { result ≡ self.now.fresh }
+    {
+        self.fresh
+    }
+
+    /// An equal structure in memory of its own.
+    pub fn copy(&self, alloc: Global) -> Result<Structure, AllocError>
+        ensures { IfOk result (λ s. s ≡ self.now) }
+    {
+        Ok(Structure {
+            table: self.table.copied(alloc)?,
+            summaries: self.summaries.copied(alloc)?,
+            fresh: self.fresh,
+        })
+    }
+
+    /// The structure and one further, last individual, which is `No` everywhere, no summary, and
+    /// alone marked as fresh.
+    pub fn with_new(&self, alloc: Global) -> Result<Structure, AllocError>
+        requires { self.now.size ≤ 255 }
+        ensures value { IfOk result (λ s. s ≡ with_new self.now) }
+        ensures over { IfOk result (λ s. arities_of s ≡ arities_of self.now) }
+    {
+        let size = self.size();
+        let origins = origins::all_and_next(alloc, size)?;
+        self.drawn(alloc, &origins, Some(size))
+    }
+
+    /// The individuals whose flag is true, in order, with their values, none of them marked as fresh.
+    pub fn without(&self, alloc: Global, keep: &[bool]) -> Result<Structure, AllocError>
+        requires { length keep.now ≡ self.now.size }
+        ensures value { IfOk result (λ s. s ≡ without self.now keep.now) }
+        ensures over { IfOk result (λ s. arities_of s ≡ arities_of self.now) }
+    {
+        let _ = self.size();
+        let kept = origins::kept(alloc, keep)?;
+        self.drawn(alloc, &kept, None)
+    }
+
+    /// Each individual `u` as `parts[u]` copies beside each other, and every value that of the
+    /// originals.
+    pub fn split(&self, alloc: Global, parts: &[u32]) -> Result<Structure, AllocError>
+        requires individuals { length parts.now ≡ self.now.size }
+        requires each { All (λ part. 1 ≤ part) parts.now }
+        requires total { sum parts.now ≤ 256 }
+        requires fresh_once { IfSome self.now.fresh (λ u. slice_index parts.now u ≡ 1) }
+        ensures value { IfOk result (λ s. s ≡ split self.now parts.now) }
+        ensures over { IfOk result (λ s. arities_of s ≡ arities_of self.now) }
+    {
+        let _ = self.size();
+        let origins = origins::copies(alloc, parts)?;
+        match self.fresh {
+            None => self.drawn(alloc, &origins, None),
+            Some(u) => self.drawn(alloc, &origins, Some(origins::first_copy(parts, u))),
+        }
+    }
+
+    fn drawn(
+        &self,
+        alloc: Global,
+        origins: &[u32],
+        fresh: Option<u32>,
+    ) -> Result<Structure, AllocError>
+        requires size { length origins.now ≤ 256 }
+        requires mark { IsMark (drawn origins.now fresh self.now) fresh }
+        ensures value { IfOk result (λ s. s ≡ drawn origins.now fresh self.now) }
+        ensures over { IfOk result (λ s. arities_of s ≡ arities_of self.now) }
+    {
+        Ok(Structure {
+            table: self.table.drawn(alloc, origins)?,
+            summaries: self.summaries.selected(alloc, origins, false)?,
+            fresh,
+        })
+    }
+
+    /// Orders by size, then by summaries, individual by individual, then by values, predicate by
+    /// predicate and tuple by tuple in lexicographic order, with No < Half < Yes. Marks don't count.
+    pub fn compare(&self, other: &Structure) -> Ordering
+        ensures order { result ≡ structure_cmp self.now other.now }
+        ensures equal { (result ≡ Ordering.Equal) ↔ (unmarked self.now ≡ unmarked other.now) }
+    {
+        self.size()
+            .cmp(&other.size())
+            .then_with(|| self.summaries.cmp(&other.summaries))
+            .then_with(|| self.table.compare_values(&other.table))
+    }
+
+    /// A number that equal structures share.
+    pub(crate) fn signature(&self) -> u64
+        ensures { result ≡ signature_of self.now }
+    {
+        self.table.mix(mix_flags(u64::from(self.size()), self.summaries.as_slice()))
+    }
+}
+
+impl PartialEq for Structure {
+    ghost eq = { eq_by_cmp structure_cmp };
+
+    ghost laws = { partial_equiv_from_equiv (eq_by_cmp_equiv structure_cmp_total) };
+
+    fn eq(&self, other: &Self) -> bool {
+        self.compare(other) == Ordering::Equal
+    }
+}
+
+impl Eq for Structure {
+    ghost laws = { eq_by_cmp_equiv structure_cmp_total };
+}
+
+impl PartialOrd for Structure {
+    ghost partial_cmp = { as_partial_cmp structure_cmp };
+
+    ghost laws = { po structure_cmp_total (λ x y. refl) };
+
+    fn partial_cmp(&self, other: &Self) -> Option<Ordering> {
+        Some(self.compare(other))
+    }
+}
+
+impl Ord for Structure {
+    ghost cmp = { structure_cmp };
+
+    ghost total = { structure_cmp_total };
+
+    ghost matches_partial_cmp = { λ x y. refl };
+
+    ghost matches_eq = { λ x y. refl };
+
+    fn cmp(&self, other: &Self) -> Ordering {
+        self.compare(other)
+    }
+}
