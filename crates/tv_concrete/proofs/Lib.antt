@@ -1,0 +1,12 @@
+pub mod Concretes
+pub mod Decided
+pub mod EachPreds
+pub mod Every
+pub mod Lists
+pub mod PropertyLemmas
+pub mod Renames
+pub mod Rounds
+pub mod RuleLemmas
+pub mod StepLemmas
+pub mod TupleLists
+pub mod Walks

@@ -1,0 +1,31 @@
+//! Plain programs and laws for the definitions of the model: evidence that they say what they should.
+#![tactic(auto)]
+
+mod enumerate;
+mod fair;
+mod heap_list;
+mod laws;
+mod properties;
+#[cfg(test)]
+mod reader;
+mod rules;
+mod shape;
+mod step;
+#[cfg(test)]
+mod step_tests;
+mod truth;
+#[cfg(test)]
+mod truth_tests;
+
+pub use enumerate::{put_tuple, tuples};
+pub use fair::is_fair_through;
+pub use heap_list::{HeapList, Tuple, Values, same};
+pub use laws::{
+    at_least_one_is_concrete, at_most_one_is_concrete, fair_steps_have_middles, truth_is_decided,
+    truth_is_kept, truth_is_local,
+};
+pub use properties::meets_all_properties;
+pub use rules::{meets_program, meets_rule};
+pub use shape::{is_concrete, is_heap};
+pub use step::{allows_change, find_update, is_core, steps_through};
+pub use truth::holds;

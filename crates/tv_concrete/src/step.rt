@@ -1,0 +1,321 @@
+//! Whether an action takes one plain heap to another, through a given middle heap.
+
+ghost use Rattle.std.specs.Prelude.{ℕ, ◌≡◌, ◌↔◌, ◌≤◌, ◌∷◌, [], ◌++◌, List, IsTrue, IfOk, IfSome, Some, All, Contains, length, map, option_copied, option_map, true};
+ghost use Rattle.tv_model.specs.Form.{form_of, vars_of};
+ghost use Rattle.tv_model.specs.Heap.{Holds, IsTuple};
+ghost use Rattle.tv_model.specs.Program.{KCore, PredForm, action_of, change_of, kind_of, picks_of, pre_of, pred_of, program_of, retain_of, update_of};
+ghost use Rattle.tv_model.specs.Rules.{IsHeap};
+ghost use Rattle.tv_model.specs.Step.{AllowsChange, FollowsUpdate, IsMiddle, Keeps, StepsThrough, update_for};
+ghost use Rattle.tv_model.specs.Truth.{Truth};
+ghost use Rattle.tv_concrete.specs.Lists.{assignment_of, heap_of};
+ghost use Rattle.tv_concrete.specs.Preds.{EachPred};
+
+use crate::{HeapList, Tuple, Values, holds, is_concrete, is_heap, put_tuple, same, tuples};
+use std::alloc::{AllocError, Global};
+use tv_model::{Action, Change, Formula, Items, Kind, Pred, Program, Retain, Terms, Update, Var};
+
+/// Whether the action takes the old heap to the new one through the middle one, by the picked
+/// individuals.
+pub fn steps_through(
+    alloc: Global,
+    program: &Program,
+    action: &Action,
+    picked: Values,
+    old: &HeapList,
+    middle: &HeapList,
+    new: &HeapList,
+) -> Result<bool, AllocError>
+    ensures { IfOk result (λ b. IsTrue b ↔ StepsThrough (program_of program.now) (action_of action.now) (assignment_of picked)
+        (heap_of old.now) (heap_of middle.now) (heap_of new.now)) }
+{
+    if !picks_individuals(old, &picked, action.picks.as_slice()) {
+        return Ok(false);
+    }
+    if !meets_precondition(old, picked, &action.pre) {
+        return Ok(false);
+    }
+    if !is_middle(action.fresh, old, middle) {
+        return Ok(false);
+    }
+    if !has_only_kept(picked, &action.retain, middle, new) {
+        return Ok(false);
+    }
+    if !has_all_kept(picked, &action.retain, middle, new) {
+        return Ok(false);
+    }
+    if !updates_all(
+        alloc,
+        program.vocab.preds.as_slice(),
+        picked,
+        action.updates.as_slice(),
+        middle,
+        new,
+    )? {
+        return Ok(false);
+    }
+    if !are_heaps(program, old, new) {
+        return Ok(false);
+    }
+    is_concrete(alloc, program, new)
+}
+
+fn are_heaps(program: &Program, old: &HeapList, new: &HeapList) -> bool
+    ensures { IsTrue result ↔ (IsHeap (program_of program.now) (heap_of old.now) × IsHeap (program_of program.now) (heap_of new.now)) }
+{
+    is_heap(program, old) && is_heap(program, new)
+}
+
+fn picks_individuals(old: &HeapList, picked: &Values, picks: &[Var]) -> bool
+    ensures { IsTrue result ↔ All (λ v. Contains (heap_of old.now).individuals (assignment_of picked.now v)) (picks_of picks.now) }
+{
+    for v in picks {
+        if !old.has(picked.at(*v)) {
+            return false;
+        }
+    }
+    true
+}
+
+fn meets_precondition(old: &HeapList, picked: Values, pre: &Option<Formula>) -> bool
+    ensures { IsTrue result ↔ IfSome (pre_of pre.now) (Truth (heap_of old.now) (assignment_of picked)) }
+{
+    match pre {
+        None => true,
+        Some(f) => holds(old, picked, f),
+    }
+}
+
+/// Whether the middle heap is the old one, or the old one with a new individual that is marked.
+fn is_middle(fresh: bool, old: &HeapList, middle: &HeapList) -> bool
+    ensures { IsTrue result ↔ IsMiddle fresh (heap_of old.now) (heap_of middle.now) }
+{
+    if fresh {
+        return is_with_new(old, middle);
+    }
+    is_same(old, middle)
+}
+
+fn is_same(old: &HeapList, middle: &HeapList) -> bool
+    ensures { IsTrue result ↔ (heap_of middle.now ≡ heap_of old.now) }
+{
+    if !same(middle.individuals.as_slice(), old.individuals.as_slice()) {
+        return false;
+    }
+    if !same_extents(&middle.extents, &old.extents) {
+        return false;
+    }
+    middle.fresh == old.fresh
+}
+
+fn is_with_new(old: &HeapList, middle: &HeapList) -> bool
+    ensures { IsTrue result ↔ IsMiddle true (heap_of old.now) (heap_of middle.now) }
+{
+    match middle.fresh {
+        None => false,
+        Some(u) => is_with(old, middle, u),
+    }
+}
+
+/// Whether the middle heap, in which `u` is marked, is the old one with `u`.
+fn is_with(old: &HeapList, middle: &HeapList, u: u32) -> bool
+    requires { middle.now.fresh ≡ Some u }
+    ensures { IsTrue result ↔ IsMiddle true (heap_of old.now) (heap_of middle.now) }
+{
+    if old.has(u) {
+        return false;
+    }
+    if !same_extents(&middle.extents, &old.extents) {
+        return false;
+    }
+    is_pushed(old.individuals.as_slice(), u, middle.individuals.as_slice())
+}
+
+/// Whether `longer` is `shorter` with `u` behind it.
+fn is_pushed(shorter: &[u32], u: u32, longer: &[u32]) -> bool
+    ensures { IsTrue result ↔ (longer.now ≡ shorter.now ++ u ∷ []) }
+{
+    if longer.len() == 0 {
+        return false;
+    }
+    let last = longer.len() - 1;
+    longer[last] == u && same(&longer[..last], shorter)
+}
+
+fn same_extents(xs: &Items<Items<Tuple>>, ys: &Items<Items<Tuple>>) -> bool
+    ensures { IsTrue result ↔ (xs.now ≡ ys.now) }
+{
+    xs == ys
+}
+
+/// Whether each individual of the new heap is one of the middle heap that is kept.
+fn has_only_kept(picked: Values, retain: &Option<Retain>, middle: &HeapList, new: &HeapList) -> bool
+    ensures { IsTrue result ↔ All (λ u. Contains (heap_of middle.now).individuals u
+        × Keeps (heap_of middle.now) (assignment_of picked) (retain_of retain.now) u) (heap_of new.now).individuals }
+{
+    for u in new.individuals.as_slice() {
+        if !is_kept(picked, retain, middle, *u) {
+            return false;
+        }
+    }
+    true
+}
+
+fn is_kept(picked: Values, retain: &Option<Retain>, middle: &HeapList, u: u32) -> bool
+    ensures { IsTrue result ↔ (Contains (heap_of middle.now).individuals u
+        × Keeps (heap_of middle.now) (assignment_of picked) (retain_of retain.now) u) }
+{
+    middle.has(u) && keeps(picked, retain, middle, u)
+}
+
+/// Whether each individual of the middle heap that is kept is one of the new heap.
+fn has_all_kept(picked: Values, retain: &Option<Retain>, middle: &HeapList, new: &HeapList) -> bool
+    ensures { IsTrue result ↔ All (λ u. Keeps (heap_of middle.now) (assignment_of picked) (retain_of retain.now) u
+        → Contains (heap_of new.now).individuals u) (heap_of middle.now).individuals }
+{
+    for u in middle.individuals.as_slice() {
+        if !is_there_if_kept(picked, retain, middle, new, *u) {
+            return false;
+        }
+    }
+    true
+}
+
+fn is_there_if_kept(
+    picked: Values,
+    retain: &Option<Retain>,
+    middle: &HeapList,
+    new: &HeapList,
+    u: u32,
+) -> bool
+    ensures { IsTrue result ↔ (Keeps (heap_of middle.now) (assignment_of picked) (retain_of retain.now) u
+        → Contains (heap_of new.now).individuals u) }
+{
+    !keeps(picked, retain, middle, u) || new.has(u)
+}
+
+/// Whether the retain formula is true of the individual.
+fn keeps(picked: Values, retain: &Option<Retain>, middle: &HeapList, u: u32) -> bool
+    ensures { IsTrue result ↔ Keeps (heap_of middle.now) (assignment_of picked) (retain_of retain.now) u }
+{
+    match retain {
+        None => true,
+        Some(retain) => holds(middle, picked.with(retain.var, u), &retain.keep),
+    }
+}
+
+/// Whether each core predicate follows its update, or else stays as it was.
+fn updates_all(
+    alloc: Global,
+    preds: &[Pred],
+    picked: Values,
+    updates: &[Update],
+    middle: &HeapList,
+    new: &HeapList,
+) -> Result<bool, AllocError>
+    ensures { IfOk result (λ b. IsTrue b ↔ EachPred (map pred_of preds.now) (λ q d. d.kind ≡ KCore → (tuple : List ℕ) → IsTuple (heap_of new.now) d.arity tuple
+        → FollowsUpdate q (heap_of middle.now) (assignment_of picked) (update_for q (map update_of updates.now)) tuple (heap_of new.now))) }
+{
+    for (q, pred) in preds.iter().enumerate() {
+        if !updates_one(alloc, q, pred, picked, updates, middle, new)? {
+            return Ok(false);
+        }
+    }
+    Ok(true)
+}
+
+fn updates_one(
+    alloc: Global,
+    q: usize,
+    pred: &Pred,
+    picked: Values,
+    updates: &[Update],
+    middle: &HeapList,
+    new: &HeapList,
+) -> Result<bool, AllocError>
+    ensures { IfOk result (λ b. IsTrue b ↔ (kind_of pred.now.kind ≡ KCore → (tuple : List ℕ) → IsTuple (heap_of new.now) pred.now.arity tuple
+        → FollowsUpdate q (heap_of middle.now) (assignment_of picked) (update_for q (map update_of updates.now)) tuple (heap_of new.now))) }
+{
+    if !is_core(&pred.kind) {
+        return Ok(true);
+    }
+    let all = tuples(alloc, new.individuals.as_slice(), pred.arity)?;
+    Ok(follows_update_at_all(q, picked, updates, middle, new, all.as_slice()))
+}
+
+/// Whether the predicate has no definition.
+pub fn is_core(kind: &Kind) -> bool
+    ensures { IsTrue result ↔ (kind_of kind.now ≡ KCore) }
+{
+    match kind {
+        Kind::Core => true,
+        Kind::Defined { .. } => false,
+    }
+}
+
+fn follows_update_at_all(
+    q: usize,
+    picked: Values,
+    updates: &[Update],
+    middle: &HeapList,
+    new: &HeapList,
+    all: &[Tuple],
+) -> bool
+    ensures { IsTrue result ↔ All (λ tuple. FollowsUpdate q (heap_of middle.now) (assignment_of picked) (update_for q (map update_of updates.now)) tuple (heap_of new.now)) all.now }
+{
+    for tuple in all {
+        if !follows_update(q, picked, updates, middle, new, tuple) {
+            return false;
+        }
+    }
+    true
+}
+
+/// Whether the predicate holds of the tuple in the new heap as its update says, or else as before.
+fn follows_update(
+    q: usize,
+    picked: Values,
+    updates: &[Update],
+    middle: &HeapList,
+    new: &HeapList,
+    tuple: &Tuple,
+) -> bool
+    ensures { IsTrue result ↔ FollowsUpdate q (heap_of middle.now) (assignment_of picked) (update_for q (map update_of updates.now)) tuple.now (heap_of new.now) }
+{
+    match find_update(q, updates) {
+        None => new.holds_of(q, tuple.as_slice()) == middle.holds_of(q, tuple.as_slice()),
+        Some(update) => allows_change(q, picked, &update.vars, &update.change, middle, new, tuple),
+    }
+}
+
+/// The first update of the predicate.
+pub fn find_update(q: usize, updates: &[Update]) -> Option<&Update>
+    ensures { option_map update_of (option_copied result) ≡ update_for q (map update_of updates.now) }
+{
+    for update in updates {
+        if update.pred.0 as usize == q {
+            return Some(update);
+        }
+    }
+    None
+}
+
+/// Whether the predicate holds of the tuple in the new heap as the change says.
+pub fn allows_change(
+    q: usize,
+    picked: Values,
+    vars: &Terms,
+    change: &Change,
+    middle: &HeapList,
+    new: &HeapList,
+    tuple: &Tuple,
+) -> bool
+    ensures { IsTrue result ↔ AllowsChange (heap_of middle.now) (assignment_of picked) (vars_of vars.now) (change_of change.now) tuple.now (Holds (heap_of new.now) q tuple.now) }
+{
+    match change {
+        Change::Free => true,
+        Change::To(f) => {
+            let tuple = tuple.as_slice();
+            new.holds_of(q, tuple) == holds(middle, put_tuple(picked, vars, tuple), f)
+        }
+    }
+}
