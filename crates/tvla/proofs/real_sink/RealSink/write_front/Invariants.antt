@@ -6,7 +6,7 @@ invariant-loop-taken g l = record {
   within : l.taken ≤ length l.bytes;
   faults : l.initial.self.faults ≤ l.self.faults;
   failures : l.self.failures ≡ l.initial.self.failures;
-  since : l.self.since ≡ l.initial.self.since
+  since : l.self.since ≡ l.initial.self.since;
 }
 
 abbrev pub decreases-loop-taken : goal.decreases-loop-taken
