@@ -1,8 +1,9 @@
 //! Steps between small heaps, with verdicts that were worked out by hand.
 
+ghost use Rattle.std.specs.Prelude.{◌<◌};
+
 use crate::reader::formula;
-use crate::truth_tests::tuple;
-use crate::{HeapList, Values, is_fair_through};
+use crate::{HeapList, Tuple, Values, is_fair_through};
 use std::alloc::{AllocError, Global};
 use std::process::Abort;
 use std::test::Fail;
@@ -11,234 +12,204 @@ use tv_model::{
     Update, Updates, Var, Vocab,
 };
 
-/// Individuals, then where `x`, `n` and `e` hold, then the marked individual. `x` is unique, and `e(v)` is
-/// defined as `E(w) n(v, w)`.
-type HeapRow = (
-    &'static [u32],
-    &'static [u32],
-    &'static [(u32, u32)],
-    &'static [u32],
-    Option<u32>,
-);
-
-/// An action: its precondition and picked variables, whether it has a new individual, its retain part, and
-/// one update: the predicate, its own variable and the formula. An empty formula stands for none, and for a
-/// free update.
-type ActionRow = (
-    &'static str,
-    &'static [u8],
-    bool,
-    &'static str,
-    Option<(u32, u8, &'static str)>,
-);
-
-/// What is tried, the action, the picked individuals, the three heaps, and whether the step is fair in the
-/// modes Given and Recompute.
+/// What is tried; an action; the picked individuals; the old, middle and new heap; and whether the step is
+/// fair in the modes Given and Recompute.
+///
+/// An action is its precondition, its picked variables, `+` for a new individual, its retain formula, and
+/// one update as predicate, own variable and formula, where no formula is a free update. A heap is its
+/// individuals, those with `x`, the pairs of `n`, those with `e`, and the marked one. `x` is unique, and `e(v)`
+/// is defined as `E(w) n(v, w)`.
 type StepRow = (
     &'static str,
-    ActionRow,
-    (u32, u32),
-    (HeapRow, HeapRow, HeapRow),
+    &'static str,
+    &'static str,
+    &'static str,
     bool,
     bool,
 );
-
-const S: HeapRow = (&[1, 2], &[1], &[(1, 2)], &[1], None);
-
-const MOVED: HeapRow = (&[1, 2], &[2], &[(1, 2)], &[1], None);
-
-const NONE: HeapRow = (&[1, 2], &[], &[(1, 2)], &[1], None);
-
-const BOTH: HeapRow = (&[1, 2], &[1, 2], &[(1, 2)], &[1], None);
-
-const GROWN: HeapRow = (&[1, 2, 9], &[1], &[(1, 2)], &[1], Some(9));
 
 static STEPS: [StepRow; 23] = [
     (
         "an update",
-        ("", &[], false, "", Some((1, 0, "E1&x1n10"))),
-        (0, 0),
-        (S, S, MOVED),
+        ";;;;10E1&x1n10",
+        "",
+        "12/1/12/1/ 12/1/12/1/ 12/2/12/1/",
         true,
         true,
     ),
     (
         "an update passed over",
-        ("", &[], false, "", Some((1, 0, "E1&x1n10"))),
-        (0, 0),
-        (S, S, S),
+        ";;;;10E1&x1n10",
+        "",
+        "12/1/12/1/ 12/1/12/1/ 12/1/12/1/",
         false,
         false,
     ),
     (
         "no update",
-        ("", &[], false, "", None),
-        (0, 0),
-        (S, S, S),
+        ";;;;",
+        "",
+        "12/1/12/1/ 12/1/12/1/ 12/1/12/1/",
         true,
         true,
     ),
     (
         "a change without update",
-        ("", &[], false, "", None),
-        (0, 0),
-        (S, S, MOVED),
+        ";;;;",
+        "",
+        "12/1/12/1/ 12/1/12/1/ 12/2/12/1/",
         false,
         false,
     ),
     (
         "a free update",
-        ("", &[], false, "", Some((1, 0, ""))),
-        (0, 0),
-        (S, S, NONE),
+        ";;;;10",
+        "",
+        "12/1/12/1/ 12/1/12/1/ 12//12/1/",
         true,
         true,
     ),
     (
         "another free update",
-        ("", &[], false, "", Some((1, 0, ""))),
-        (0, 0),
-        (S, S, MOVED),
+        ";;;;10",
+        "",
+        "12/1/12/1/ 12/1/12/1/ 12/2/12/1/",
         true,
         true,
     ),
     (
         "a new heap that breaks a property",
-        ("", &[], false, "", Some((1, 0, ""))),
-        (0, 0),
-        (S, S, BOTH),
+        ";;;;10",
+        "",
+        "12/1/12/1/ 12/1/12/1/ 12/12/12/1/",
         false,
         false,
     ),
     (
         "an old heap that breaks a property",
-        ("", &[], false, "", Some((1, 0, ""))),
-        (0, 0),
-        (BOTH, BOTH, NONE),
+        ";;;;10",
+        "",
+        "12/12/12/1/ 12/12/12/1/ 12//12/1/",
         false,
         false,
     ),
     (
         "a new individual",
-        ("", &[], true, "", Some((1, 0, "#0"))),
-        (0, 0),
-        (S, GROWN, (&[1, 2, 9], &[9], &[(1, 2)], &[1], None)),
+        ";;+;;10#0",
+        "",
+        "12/1/12/1/ 129/1/12/1/9 129/9/12/1/",
         true,
         true,
     ),
     (
         "a new individual without mark",
-        ("", &[], true, "", Some((1, 0, "#0"))),
-        (0, 0),
-        (
-            S,
-            (&[1, 2, 9], &[1], &[(1, 2)], &[1], None),
-            (&[1, 2, 9], &[], &[(1, 2)], &[1], None),
-        ),
+        ";;+;;10#0",
+        "",
+        "12/1/12/1/ 129/1/12/1/ 129//12/1/",
         false,
         false,
     ),
     (
         "an old individual as new",
-        ("", &[], true, "", Some((1, 0, "#0"))),
-        (0, 0),
-        (S, (&[1, 2, 2], &[1], &[(1, 2)], &[1], Some(2)), MOVED),
+        ";;+;;10#0",
+        "",
+        "12/1/12/1/ 122/1/12/1/2 12/2/12/1/",
         false,
         false,
     ),
     (
         "no new individual where one is due",
-        ("", &[], true, "", None),
-        (0, 0),
-        (S, S, S),
+        ";;+;;",
+        "",
+        "12/1/12/1/ 12/1/12/1/ 12/1/12/1/",
         false,
         false,
     ),
     (
         "a retain part",
-        ("", &[], false, "x0", None),
-        (0, 0),
-        (S, S, (&[1], &[1], &[], &[], None)),
+        ";;;x0;",
+        "",
+        "12/1/12/1/ 12/1/12/1/ 1/1///",
         true,
         true,
     ),
     (
         "a retain part passed over",
-        ("", &[], false, "x0", None),
-        (0, 0),
-        (S, S, S),
+        ";;;x0;",
+        "",
+        "12/1/12/1/ 12/1/12/1/ 12/1/12/1/",
         false,
         false,
     ),
     (
         "a new individual that alone is kept",
-        ("", &[], true, "#0", None),
-        (0, 0),
-        (S, GROWN, (&[9], &[], &[], &[], None)),
+        ";;+;#0;",
+        "",
+        "12/1/12/1/ 129/1/12/1/9 9////",
         true,
         true,
     ),
     (
         "a picked pair",
-        ("n01", &[0, 1], false, "", Some((1, 2, "=21"))),
-        (1, 2),
-        (S, S, MOVED),
+        "n01;01;;;12=21",
+        "12",
+        "12/1/12/1/ 12/1/12/1/ 12/2/12/1/",
         true,
         true,
     ),
     (
-        "a picked pair against the precondition",
-        ("n01", &[0, 1], false, "", Some((1, 2, "=21"))),
-        (2, 1),
-        (S, S, S),
+        "a pair against the precondition",
+        "n01;01;;;12=21",
+        "21",
+        "12/1/12/1/ 12/1/12/1/ 12/1/12/1/",
         false,
         false,
     ),
     (
         "a picked number that is no individual",
-        ("=00", &[0], false, "", None),
-        (5, 0),
-        (S, S, S),
+        "=00;0;;;",
+        "5",
+        "12/1/12/1/ 12/1/12/1/ 12/1/12/1/",
         false,
         false,
     ),
     (
-        "an own variable that hides a picked one",
-        ("x0", &[0], false, "", Some((1, 0, "!x0"))),
-        (1, 0),
-        (S, S, MOVED),
+        "a variable that hides a picked one",
+        "x0;0;;;10!x0",
+        "1",
+        "12/1/12/1/ 12/1/12/1/ 12/2/12/1/",
         true,
         true,
     ),
     (
-        "an own variable that hides nothing",
-        ("x0", &[0], false, "", Some((1, 0, "!x0"))),
-        (1, 0),
-        (S, S, NONE),
+        "a variable that hides nothing",
+        "x0;0;;;10!x0",
+        "1",
+        "12/1/12/1/ 12/1/12/1/ 12//12/1/",
         false,
         false,
     ),
     (
         "a given update that disagrees",
-        ("", &[], false, "", Some((3, 0, "0"))),
-        (0, 0),
-        (S, S, S),
+        ";;;;300",
+        "",
+        "12/1/12/1/ 12/1/12/1/ 12/1/12/1/",
         false,
         true,
     ),
     (
         "a given update that agrees",
-        ("", &[], false, "", Some((3, 0, "E1n01"))),
-        (0, 0),
-        (S, S, S),
+        ";;;;30E1n01",
+        "",
+        "12/1/12/1/ 12/1/12/1/ 12/1/12/1/",
         true,
         true,
     ),
     (
         "a new heap that isn't concrete",
-        ("", &[], false, "", None),
-        (0, 0),
-        (S, S, (&[1, 2], &[1], &[(1, 2)], &[], None)),
+        ";;;;",
+        "",
+        "12/1/12/1/ 12/1/12/1/ 12/1/12//",
         false,
         false,
     ),
@@ -259,38 +230,32 @@ fn check_step(
     program: &Program,
     row: &StepRow,
 ) -> Result<(), Fail> {
-    let (name, action_row, picks, heaps, given, recompute) = row;
-    let action = action(alloc, action_row)?;
-    let picked = Values::blank().with(Var(0), picks.0).with(Var(1), picks.1);
-    let old = heap_list(alloc, &heaps.0)?;
-    let middle = heap_list(alloc, &heaps.1)?;
-    let new = heap_list(alloc, &heaps.2)?;
+    let (name, action, picked, heaps, given, recompute) = row;
+    let action = read_action(alloc, action)?;
+    let picked = read_picked(picked);
+    let found = verdict(alloc, program, Mode::Given, &action, picked, heaps)?;
+    assert_eq!(rt; found, *given, "{name}, given");
+    let found = verdict(alloc, program, Mode::Recompute, &action, picked, heaps)?;
+    assert_eq!(rt; found, *recompute, "{name}, recomputed");
+    Ok(())
+}
+
+fn verdict(
+    alloc: Global,
+    program: &Program,
+    mode: Mode,
+    action: &Action,
+    picked: Values,
+    heaps: &str,
+) -> Result<bool, Fail> {
+    let mut parts = heaps.split(' ');
+    let old = read_heap(alloc, parts.next().ok_or("no old heap")?)?;
+    let middle = read_heap(alloc, parts.next().ok_or("no middle heap")?)?;
+    let new = read_heap(alloc, parts.next().ok_or("no new heap")?)?;
     if program.vocab.preds.len() > 512 {
         return Err(Fail::new("too many predicates"));
     }
-    let found = is_fair_through(
-        alloc,
-        program,
-        Mode::Given,
-        &action,
-        picked,
-        &old,
-        &middle,
-        &new,
-    )?;
-    assert_eq!(rt; found, *given, "{name}, given");
-    let found = is_fair_through(
-        alloc,
-        program,
-        Mode::Recompute,
-        &action,
-        picked,
-        &old,
-        &middle,
-        &new,
-    )?;
-    assert_eq!(rt; found, *recompute, "{name}, recomputed");
-    Ok(())
+    Ok(is_fair_through(alloc, program, mode, action, picked, &old, &middle, &new)?)
 }
 
 fn program(alloc: Global) -> Result<Program, Fail> {
@@ -335,41 +300,72 @@ fn pred(alloc: Global, arity: u8, unique: bool, kind: Kind) -> Pred {
     }
 }
 
-fn action(alloc: Global, row: &ActionRow) -> Result<Action, Fail> {
-    let (pre, picks, fresh, retain, update) = row;
-    let mut picked = Items::new(alloc);
-    for v in picks.iter() {
-        picked.push(Var(*v))?;
+fn digit(byte: u8) -> u32 {
+    byte.saturating_sub(b'0') as u32
+}
+
+fn read_picked(text: &str) -> Values {
+    match text.as_bytes() {
+        [] => Values::blank(),
+        [u] => Values::blank().with(Var(0), digit(*u)),
+        [u, w, ..] => Values::blank()
+            .with(Var(0), digit(*u))
+            .with(Var(1), digit(*w)),
     }
-    let retain = match optional(alloc, retain)? {
-        None => None,
-        Some(keep) => Some(Retain { var: Var(0), keep }),
-    };
+}
+
+fn read_action(alloc: Global, text: &str) -> Result<Action, Fail> {
+    let mut parts = text.split(';');
+    let pre = optional(alloc, parts.next().ok_or("no precondition")?)?;
+    let picks = read_variables(alloc, parts.next().ok_or("no picked variables")?)?;
+    let fresh = !parts.next().ok_or("no flag")?.is_empty();
+    let retain = read_retain(alloc, parts.next().ok_or("no retain part")?)?;
+    let updates = read_updates(alloc, parts.next().ok_or("no update")?)?;
     Ok(Action {
-        pre: optional(alloc, pre)?,
-        picks: picked,
+        pre,
+        picks,
         focus: Items::new(alloc),
         messages: Items::new(alloc),
-        fresh: *fresh,
+        fresh,
         retain,
-        updates: updates(alloc, update)?,
+        updates,
     })
 }
 
-fn updates(alloc: Global, row: &Option<(u32, u8, &'static str)>) -> Result<Updates, Fail> {
+fn read_variables(alloc: Global, text: &str) -> Result<Items<Var>, AllocError> {
+    let mut vars = Items::new(alloc);
+    for b in text.as_bytes() {
+        vars.push(Var(b.saturating_sub(b'0')))?;
+    }
+    Ok(vars)
+}
+
+fn read_retain(alloc: Global, text: &str) -> Result<Option<Retain>, Fail> {
+    match optional(alloc, text)? {
+        None => Ok(None),
+        Some(keep) => Ok(Some(Retain { var: Var(0), keep })),
+    }
+}
+
+fn read_updates(alloc: Global, text: &str) -> Result<Updates, Fail> {
     let mut updates = Items::new(alloc);
-    if let Some((pred, var, text)) = row {
-        let change = match optional(alloc, text)? {
-            None => Change::Free,
-            Some(f) => Change::To(f),
-        };
+    if let [pred, var, rest @ ..] = text.as_bytes() {
+        let vars = Terms::One(Var(var.saturating_sub(b'0')));
+        let change = read_change(alloc, str::from_utf8(rest)?)?;
         updates.push(Update {
-            pred: PredId(*pred),
-            vars: Terms::One(Var(*var)),
+            pred: PredId(digit(*pred)),
+            vars,
             change,
         })?;
     }
     Ok(updates)
+}
+
+fn read_change(alloc: Global, text: &str) -> Result<Change, Fail> {
+    match optional(alloc, text)? {
+        None => Ok(Change::Free),
+        Some(f) => Ok(Change::To(f)),
+    }
 }
 
 fn optional(alloc: Global, text: &str) -> Result<Option<Formula>, Fail> {
@@ -380,27 +376,48 @@ fn optional(alloc: Global, text: &str) -> Result<Option<Formula>, Fail> {
     }
 }
 
-fn heap_list(alloc: Global, row: &HeapRow) -> Result<HeapList, AllocError> {
-    let mut x = Items::new(alloc);
-    for u in row.1 {
-        x.push(tuple(alloc, &[*u])?)?;
-    }
-    let mut n = Items::new(alloc);
-    for (u, w) in row.2 {
-        n.push(tuple(alloc, &[*u, *w])?)?;
-    }
-    let mut e = Items::new(alloc);
-    for u in row.3 {
-        e.push(tuple(alloc, &[*u])?)?;
-    }
+fn read_heap(alloc: Global, text: &str) -> Result<HeapList, Fail> {
+    let mut parts = text.split('/');
+    let individuals = read_tuple(alloc, parts.next().ok_or("no individuals")?)?;
+    let x = read_tuples(alloc, parts.next().ok_or("no unary predicate")?, 1)?;
+    let n = read_tuples(alloc, parts.next().ok_or("no binary predicate")?, 2)?;
+    let e = read_tuples(alloc, parts.next().ok_or("no defined predicate")?, 1)?;
+    let fresh = parts
+        .next()
+        .ok_or("no mark")?
+        .as_bytes()
+        .first()
+        .map(|b| digit(*b));
     let mut extents = Items::new(alloc);
     extents.push(Items::new(alloc))?;
     extents.push(x)?;
     extents.push(n)?;
     extents.push(e)?;
     Ok(HeapList {
-        individuals: tuple(alloc, row.0)?,
+        individuals,
         extents,
-        fresh: row.4,
+        fresh,
     })
+}
+
+fn read_tuple(alloc: Global, text: &str) -> Result<Tuple, AllocError> {
+    let mut items = Items::new(alloc);
+    for b in text.as_bytes() {
+        items.push(digit(*b))?;
+    }
+    Ok(items)
+}
+
+fn read_tuples(alloc: Global, text: &str, arity: usize) -> Result<Items<Tuple>, AllocError>
+    requires { 0 < arity }
+{
+    let mut tuples = Items::new(alloc);
+    for part in text.as_bytes().chunks(arity) {
+        let mut items = Items::new(alloc);
+        for b in part {
+            items.push(digit(*b))?;
+        }
+        tuples.push(items)?;
+    }
+    Ok(tuples)
 }

@@ -159,7 +159,6 @@ fn heap_list(alloc: Global, row: &Row) -> Result<HeapList, AllocError> {
     })
 }
 
-/// The items as a tuple.
-pub fn tuple(alloc: Global, items: &[u32]) -> Result<Tuple, AllocError> {
+fn tuple(alloc: Global, items: &[u32]) -> Result<Tuple, AllocError> {
     Ok(Items::from_vec(items.to_vec(alloc)?))
 }
