@@ -3,6 +3,5 @@ pub mod OrderLaws
 pub mod OriginLaws
 pub mod DrawnLaws
 pub mod ListingLaws
-pub mod EmbeddingLaws
 pub mod StructureLaws
 pub mod ListLaws

@@ -8,12 +8,12 @@ use Rattle.tv_kleene.specs.declared.K3.{K3}
 use Rattle.tv_kleene.specs.declared.K3.TheVariants.{No, Half, Yes}
 use Rattle.tv_kleene.specs.Kleene.{LiesUnder}
 use Rattle.tv_model.specs.Heap.{Heap, Holds, extent}
-use Rattle.tv_struct.specs.LogicalStructure.{LogicalStructure, heap_structure}
-use Rattle.tv_struct.specs.Embedding.{Embeds, EmbedsOn}
+use Rattle.tv_frame.specs.LogicalStructure.{LogicalStructure, heap_structure}
+use Rattle.tv_frame.specs.Embedding.{Embeds, EmbedsOn}
 use Rattle.tv_struct.specs.TableForm.{PlaneForm, value_in, cell, row_of, column_of}
 use Rattle.tv_struct.specs.StructureForm.{StructureForm, structure_of, value_at, summary_at}
 use Rattle.tv_struct.specs.Lists.{list_heap, one_summary, head_and_rest, head_or_rest, ListsEmbed}
-use Rattle.tv_struct.proofs.EmbeddingLaws.{reads_heap}
+use Rattle.tv_frame.proofs.EmbeddingLaws.{reads_heap}
 use Rattle.tv_struct.proofs.StructureLaws.{value_in-no_plane}
 
 -- a range has exactly the numbers below its end

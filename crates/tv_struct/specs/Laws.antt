@@ -1,27 +1,9 @@
--- Laws of structures and embeddings, as statements.
-use Rattle.std.specs.Prelude.{ℕ, ◌≡◌, ◌≢◌, ◌<◌, ◌+◌, ◌↔◌, Bool, false, List, length, map, Option, slice_index}
+-- Laws of structures, as statements.
+use Rattle.std.specs.Prelude.{ℕ, ◌≡◌, ◌≢◌, ◌<◌, ◌+◌, Bool, false, List, length, map, Option, slice_index}
 use Rattle.tv_kleene.specs.declared.K3.{K3}
 use Rattle.tv_kleene.specs.declared.K3.TheVariants.{No}
-use Rattle.tv_model.specs.Heap.{Heap}
-use Rattle.tv_struct.specs.LogicalStructure.{LogicalStructure, ReadsHeap}
 use Rattle.tv_struct.specs.TableForm.{HasEntry, AreIndividuals}
 use Rattle.tv_struct.specs.StructureForm.{StructureForm, IsStructure, table_of, value_at, summary_at, with_value, with_summary, with_new, drawn, arities_of, structure_of_no}
-use Rattle.tv_struct.specs.Embedding.{Embeds, EmbedsWithMarks, IsBelow, IsBelowByValues}
-
--- the map that moves nothing embeds a structure in itself, and two embeddings compose, with marks too
-pub record EmbeddingsCompose : Type 0 where
-  pub identity : (s : LogicalStructure) → EmbedsWithMarks (λ u. u) s s
-  pub composed : (f g : ℕ → ℕ) (r s t : LogicalStructure) → Embeds f r s → Embeds g s t → Embeds (λ u. g (f u)) r t
-  pub composed_with_marks : (f g : ℕ → ℕ) (r s t : LogicalStructure) → EmbedsWithMarks f r s → EmbedsWithMarks g s t
-      → EmbedsWithMarks (λ u. g (f u)) r t
-
--- a structure lies below another exactly where it does value by value
-abbrev pub BelowIsByValues : Type 0
-BelowIsByValues = (s t : LogicalStructure) → IsBelow s t ↔ IsBelowByValues s t
-
--- heaps of any size, read as structures, say what holds in them
-abbrev pub HeapsReadAsStructures : Type 0
-HeapsReadAsStructures = (h : Heap) → ReadsHeap h
 
 -- writing an entry gives it the value, and changes no other; the arities stay
 pub record WritesOneEntry (s : StructureForm) (pred : ℕ) (tuple : List ℕ) (k : K3) : Type 0 where

@@ -1,8 +1,6 @@
-pub mod Embedding
 pub mod Laws
 pub mod ListingForm
 pub mod Lists
-pub mod LogicalStructure
 pub mod Order
 pub mod Signature
 pub mod StructureForm

@@ -3,8 +3,8 @@ use Rattle.std.specs.Prelude.{ℕ, ◌≡◌, ◌<◌, ◌≤◌, ◌+◌, ◌-�
 use Rattle.std.specs.List.{range_with_len}
 use Rattle.tv_kleene.specs.declared.K3.TheVariants.{No, Half, Yes}
 use Rattle.tv_model.specs.Heap.{Heap}
-use Rattle.tv_struct.specs.LogicalStructure.{heap_structure}
-use Rattle.tv_struct.specs.Embedding.{Embeds}
+use Rattle.tv_frame.specs.LogicalStructure.{heap_structure}
+use Rattle.tv_frame.specs.Embedding.{Embeds}
 use Rattle.tv_struct.specs.StructureForm.{StructureForm, structure_of}
 
 -- the heap of a list of that many cells: predicate 0 holds of the first cell, and predicate 1 of each cell

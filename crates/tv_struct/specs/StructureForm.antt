@@ -4,7 +4,7 @@ use Rattle.std.specs.List.{range_with_len}
 use Rattle.std.specs.Option.{option_map}
 use Rattle.tv_kleene.specs.declared.K3.{K3}
 use Rattle.tv_model.specs.declared.program.Vocab.{Vocab}
-use Rattle.tv_struct.specs.LogicalStructure.{LogicalStructure}
+use Rattle.tv_frame.specs.LogicalStructure.{LogicalStructure}
 use Rattle.tv_struct.specs.TableForm.{PlaneForm, TableForm, IsTable, HasEntry, arities_in, entry, with_entry, table_of_no, plane_drawn, selected}
 
 -- a structure over the individuals 0 to size - 1: whether each is a summary, the values of each

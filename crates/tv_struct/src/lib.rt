@@ -17,8 +17,8 @@ pub use analysis::{
     Analysis, Item, MapLine, MapLines, MessageLine, MessageLines, Numbers, StageError,
 };
 pub use laws::{
-    below_is_by_values, drawn_structures_read, embeddings_compose, entries_are_separate,
-    entries_determine_structures, heaps_read_as_structures, lists_embed, new_structures_are_no,
+    drawn_structures_read, entries_are_separate, entries_determine_structures, lists_embed,
+    new_structures_are_no,
 };
 pub use listing::Listing;
 pub use structure::{Structure, Structures};

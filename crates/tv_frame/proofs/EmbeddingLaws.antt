@@ -1,18 +1,17 @@
 -- Laws of embeddings.
-use Rattle.std.proofs.Common.{ℕ, ◌≡◌, ◌≢◌, ◌<◌, ◌⊎◌, inl, inr, Bool, true, false, List, [], ◌∷◌, length, get_or, map, Option, Some, None, refl, sym, ap, subst, ◌∙◌, ◌↔◌, true≢false}
+use Rattle.std.proofs.Common.{ℕ, ◌≡◌, ◌≢◌, ◌⊎◌, inl, inr, Bool, true, false, List, [], ◌∷◌, get_or, map, refl, sym, ap, subst, ◌∙◌, ◌↔◌, true≢false}
 use Rattle.std.specs.Prelude.{All, Any, Contains, IsTrue, if◌then◌else◌, nat_eq}
-use Rattle.std.specs.List.{list_any}
 use Rattle.std.specs.Cmp.Lexicographic.{pointwise, bytes_decides}
 use Rattle.std.proofs.lemmas.Bool.{cases_eq}
 use Rattle.std.proofs.lemmas.List.{map-id}
 use Rattle.std.proofs.lemmas.List.Elements.{All-map}
 use Rattle.std.proofs.lemmas.List.Folds.{Any-from_list_any, list_any-from_Any}
 use Rattle.tv_kleene.specs.declared.K3.{K3}
-use Rattle.tv_kleene.specs.declared.K3.TheVariants.{No, Half, Yes}
+use Rattle.tv_kleene.specs.declared.K3.TheVariants.{No, Yes}
 use Rattle.tv_kleene.specs.Kleene.{LiesUnder}
 use Rattle.tv_model.specs.Heap.{Heap, Holds, extent}
-use Rattle.tv_struct.specs.LogicalStructure.{LogicalStructure, ReadsHeap, heap_structure, holds}
-use Rattle.tv_struct.specs.Embedding.{EmbedsOn, Embeds, KeepsMark, EmbedsWithMarks, IsBelow, IsBelowByValues}
+use Rattle.tv_frame.specs.LogicalStructure.{LogicalStructure, ReadsHeap, holds}
+use Rattle.tv_frame.specs.Embedding.{EmbedsOn, Embeds, KeepsMark, IsBelow, IsBelowByValues}
 
 pub LiesUnder-trans : (x y z : K3) → LiesUnder x y → LiesUnder y z → LiesUnder x z
 LiesUnder-trans x y z (inl a) (inl b) = inl (a ∙ b)
@@ -61,6 +60,37 @@ EmbedsOn-compose P f g r s t a b = record {
         → (f u ≡ f w) ⊎ (f u ≢ f w) → IsTrue (t.is_summary (g (f u)))
     either u w hu hw differ same (inl one) = b.summaries (f u) (a.into u hu) (a.several u w hu hw differ one)
     either u w hu hw differ same (inr two) = b.several (f u) (f w) (a.into u hu) (a.into w hw) two same
+
+-- an embedding for some predicates is one for each that is among them
+pub EmbedsOn-weaken : (P Q : ℕ → Type 0) (f : ℕ → ℕ) (s t : LogicalStructure) → ((pred : ℕ) → Q pred → P pred)
+    → EmbedsOn P f s t → EmbedsOn Q f s t
+EmbedsOn-weaken P Q f s t among e = record {
+  into = e.into;
+  onto = e.onto;
+  values = λ pred q tuple all. e.values pred (among pred q) tuple all;
+  summaries = e.summaries;
+  several = e.several;
+}
+
+-- an embedding is one for any predicates
+pub EmbedsOn-any : (P : ℕ → Type 0) (f : ℕ → ℕ) (s t : LogicalStructure) → Embeds f s t → EmbedsOn P f s t
+EmbedsOn-any P f s t e = EmbedsOn-weaken (λ pred. Unit {0}) P f s t (λ pred p. tt) e
+
+-- a map that embeds for some predicates, and for others, embeds for all of them
+pub EmbedsOn-both : (P Q : ℕ → Type 0) (f : ℕ → ℕ) (s t : LogicalStructure) → EmbedsOn P f s t → EmbedsOn Q f s t
+    → EmbedsOn (λ pred. P pred ⊎ Q pred) f s t
+EmbedsOn-both P Q f s t a b = record {
+  into = a.into;
+  onto = a.onto;
+  values = λ pred either tuple all. on pred either tuple all;
+  summaries = a.summaries;
+  several = a.several;
+}
+  where
+    on : (pred : ℕ) → P pred ⊎ Q pred → (tuple : List ℕ) → All (Contains s.individuals) tuple
+        → LiesUnder (s.value pred tuple) (t.value pred (map f tuple))
+    on pred (inl p) tuple all = a.values pred p tuple all
+    on pred (inr q) tuple all = b.values pred q tuple all
 
 pub KeepsMark-id : (s : LogicalStructure) → KeepsMark (λ u. u) s s
 KeepsMark-id s = record {

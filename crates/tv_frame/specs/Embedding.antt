@@ -3,7 +3,7 @@
 use Rattle.std.specs.Prelude.{ℕ, ◌≡◌, ◌≢◌, ◌↔◌, List, map, Some, All, Contains, IsTrue, IsSome}
 use Rattle.tv_kleene.specs.Kleene.{LiesUnder}
 use Rattle.tv_model.specs.Heap.{Heap}
-use Rattle.tv_struct.specs.LogicalStructure.{LogicalStructure, heap_structure}
+use Rattle.tv_frame.specs.LogicalStructure.{LogicalStructure, heap_structure}
 
 -- f embeds s in t as far as the predicates of P go: it is onto, each value of these predicates lies
 -- under that of the tuple's image, a summary goes to a summary, and so do several individuals that go

@@ -1,5 +1,5 @@
-use Rattle.tv_struct.proofs.EmbeddingLaws.{EmbedsOn-id, EmbedsOn-compose, KeepsMark-id, KeepsMark-compose}
-use Rattle.tv_struct.proofs.laws.embeddings_compose.Goals as goal
+use Rattle.tv_frame.proofs.EmbeddingLaws.{EmbedsOn-id, EmbedsOn-compose, KeepsMark-id, KeepsMark-compose}
+use Rattle.tv_frame.proofs.laws.embeddings_compose.Goals as goal
 
 pub returns : goal.returns
 returns c = record {

@@ -1,0 +1,3 @@
+pub mod Embedding
+pub mod Laws
+pub mod LogicalStructure
