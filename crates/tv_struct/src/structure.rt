@@ -200,6 +200,22 @@ impl Structure {
     }
 }
 
+impl Table for Structure {
+    ghost table = { table_of };
+
+    fn size(&self) -> u32 {
+        self.table.size()
+    }
+
+    fn get(&self, p: PredId, t: Tuple) -> K3 {
+        self.table.get(p, t)
+    }
+
+    fn set(&mut self, p: PredId, t: Tuple, k: K3) {
+        self.table.set(p, t, k);
+    }
+}
+
 impl PartialEq for Structure {
     ghost eq = { eq_by_cmp structure_cmp };
 

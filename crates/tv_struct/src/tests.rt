@@ -1,4 +1,4 @@
-ghost use Rattle.std.specs.Prelude.{◌≡◌, ◌<◌, ◌≤◌, ◌+◌, [], ◌∷◌, map, IfOk, None};
+ghost use Rattle.std.specs.Prelude.{◌≡◌, ◌<◌, ◌≤◌, ◌+◌, [], ◌∷◌, map, IfOk, None, Some};
 ghost use Rattle.tv_struct.specs.StructureForm.{arities_of};
 
 use super::*;
@@ -7,6 +7,8 @@ use std::cmp::Ordering;
 use std::test::Fail;
 use tv_kleene::K3;
 use tv_model::{Items, Kind, Pred, PredId, Preds, Props, Vocab};
+
+mod model;
 
 const NO_PROPS: Props = Props {
     unique: false,
@@ -73,84 +75,176 @@ fn set_n(s: &mut Structure, u: u32, w: u32, k: K3)
     s.set(PredId(1), Tuple::Two(u, w), k);
 }
 
-/// The individuals `head` and `u`, `u` a summary, with `n(head, u)` and `n(u, u)` unknown.
-fn head_and_rest(alloc: Global) -> Result<Structure, AllocError>
+/// The value that the word shows at a place: `1`, `?` for unknown, or anything else for false.
+fn value_in(word: &[u8], place: usize) -> K3 {
+    match word.get(place) {
+        Some(b'1') => K3::Yes,
+        Some(b'?') => K3::Half,
+        _ => K3::No,
+    }
+}
+
+/// Makes an individual as the word shows it: `s` for a summary, or `-`, then the value of `x`, and
+/// then those of `n` to each individual in turn.
+fn put_word(s: &mut Structure, u: u32, word: &[u8])
+    requires over { arities_of s.old ≡ 1 ∷ 2 ∷ [] }
+    requires individual { u < s.old.size }
+    requires fresh { s.old.fresh ≡ None }
+    ensures over { arities_of s.new ≡ 1 ∷ 2 ∷ [] }
+    ensures size { s.new.size ≡ s.old.size }
+    ensures fresh { s.new.fresh ≡ None }
+{
+    s.set_summary(u, word.first() == Some(&b's'));
+    set_x(s, u, value_in(word, 1));
+    for w in 0..s.size() {
+        set_n(s, u, w, value_in(word, w as usize + 2));
+    }
+}
+
+/// The structure that the text shows, a word for each individual.
+fn shown(alloc: Global, size: u32, text: &str) -> Result<Structure, AllocError>
+    requires { size ≤ 256 }
     ensures over { IfOk result (λ s. arities_of s ≡ 1 ∷ 2 ∷ []) }
-    ensures size { IfOk result (λ s. s.size ≡ 2) }
+    ensures size { IfOk result (λ s. s.size ≡ size) }
     ensures fresh { IfOk result (λ s. s.fresh ≡ None) }
 {
-    let mut s = blank(alloc, 2)?;
-    set_n(&mut s, 0, 1, K3::Half);
-    set_n(&mut s, 1, 1, K3::Half);
-    s.set_summary(1, true);
+    let mut s = blank(alloc, size)?;
+    let mut rest = text.as_bytes();
+    for u in 0..size {
+        put_word(&mut s, u, rest);
+        rest = rest.get(size as usize + 3..).unwrap_or(&[]);
+    }
     Ok(s)
 }
 
+/// Whether the structure is the one that the text shows, with that mark.
+fn is_shown(
+    alloc: Global,
+    s: &Structure,
+    text: &str,
+    mark: Option<u32>,
+) -> Result<bool, AllocError> {
+    let wanted = shown(alloc, s.size(), text)?;
+    Ok(s.compare(&wanted) == Ordering::Equal && s.fresh() == mark)
+}
+
 #[test]
-fn a_copy_is_found_again(rt: HostRuntime) -> Result<(), Fail> {
+fn copies_are_found_again(rt: HostRuntime) -> Result<(), Fail> {
     let alloc = rt.alloc();
-    let s = head_and_rest(alloc)?;
+    let s = shown(alloc, 2, "-00? s00?")?;
     let mut listing = Listing::new(alloc, 1)?;
     listing.push(0, s.copy(alloc)?)?;
     assert!(rt; !listing.add(0, s.copy(alloc)?)?);
     assert_eq!(rt; listing.count(0), 1);
     assert_eq!(rt; listing.at(0, 0).compare(&s), Ordering::Equal);
-    let mut other = s.copy(alloc)?;
-    set_n(&mut other, 0, 1, K3::Yes);
-    assert!(rt; listing.add(0, other)?);
+    assert!(rt; listing.add(0, shown(alloc, 2, "-001 s00?")?)?);
     assert_eq!(rt; listing.count(0), 2);
     Ok(())
 }
 
-fn with_x(alloc: Global, u: u32, k: K3) -> Result<Structure, AllocError>
-    requires { u < 2 }
+/// The individuals `head`, `u` and a marked one: `x(head)`, `u` a summary, `n(head, u)` and
+/// `n(u, u)` unknown.
+fn marked(alloc: Global) -> Result<Structure, AllocError>
+    ensures size { IfOk result (λ s. s.size ≡ 3) }
+    ensures fresh { IfOk result (λ s. s.fresh ≡ Some 2) }
 {
-    let mut s = blank(alloc, 2)?;
-    set_x(&mut s, u, k);
-    Ok(s)
-}
-
-fn with_n(alloc: Global, u: u32, w: u32, k: K3) -> Result<Structure, AllocError>
-    requires source { u < 2 }
-    requires target { w < 2 }
-{
-    let mut s = blank(alloc, 2)?;
-    set_n(&mut s, u, w, k);
-    Ok(s)
-}
-
-fn with_summary(alloc: Global, u: u32) -> Result<Structure, AllocError>
-    requires { u < 2 }
-{
-    let mut s = blank(alloc, 2)?;
-    s.set_summary(u, true);
-    Ok(s)
-}
-
-/// Structures in ascending order.
-fn ascending(alloc: Global, number: u8) -> Result<Structure, AllocError> {
-    match number {
-        0 => blank(alloc, 1),
-        1 => blank(alloc, 2),
-        2 => with_n(alloc, 1, 1, K3::Half),
-        3 => with_n(alloc, 1, 1, K3::Yes),
-        4 => with_n(alloc, 0, 1, K3::Half),
-        5 => with_x(alloc, 1, K3::Half),
-        6 => with_x(alloc, 0, K3::Half),
-        7 => with_x(alloc, 0, K3::Yes),
-        8 => with_summary(alloc, 1),
-        9 => with_summary(alloc, 0),
-        _ => blank(alloc, 3),
-    }
+    shown(alloc, 2, "-10? s00?")?.with_new(alloc)
 }
 
 #[test]
+fn marks_make_no_difference_to_add(rt: HostRuntime) -> Result<(), Fail> {
+    let alloc = rt.alloc();
+    let mut listing = Listing::new(alloc, 1)?;
+    listing.push(0, shown(alloc, 3, "-10?0 s00?0 -0000")?)?;
+    assert!(rt; !listing.add(0, marked(alloc)?)?);
+    listing.push(0, marked(alloc)?)?;
+    assert_eq!(rt; listing.count(0), 2);
+    assert_eq!(rt; listing.at(0, 1).fresh(), Some(2));
+    Ok(())
+}
+
+/// What is done to the marked structure.
+#[derive(Clone, Copy)]
+enum Change {
+    Copy,
+    AddOne,
+    SplitHead,
+    SplitSummary,
+    KeepAll,
+    KeepEnds,
+    KeepNone,
+}
+
+fn changed(alloc: Global, s: &Structure, change: Change) -> Result<Structure, AllocError>
+    requires size { s.now.size ≡ 3 }
+    requires fresh { s.now.fresh ≡ Some 2 }
+{
+    match change {
+        Change::Copy => s.copy(alloc),
+        Change::AddOne => s.with_new(alloc),
+        Change::SplitHead => s.split(alloc, &[2, 1, 1]),
+        Change::SplitSummary => s.split(alloc, &[1, 3, 1]),
+        Change::KeepAll => s.without(alloc, &[true, true, true]),
+        Change::KeepEnds => s.without(alloc, &[true, false, true]),
+        Change::KeepNone => s.without(alloc, &[false, false, false]),
+    }
+}
+
+/// Each change with what it makes, and the mark.
+const CHANGES: [(Change, &str, Option<u32>); 7] = [
+    (Change::Copy, "-10?0 s00?0 -0000", Some(2)),
+    (Change::AddOne, "-10?00 s00?00 -00000 -00000", Some(3)),
+    (Change::SplitHead, "-100?0 -100?0 s000?0 -00000", Some(3)),
+    (
+        Change::SplitSummary,
+        "-10???0 s00???0 s00???0 s00???0 -000000",
+        Some(4),
+    ),
+    (Change::KeepAll, "-10?0 s00?0 -0000", None),
+    (Change::KeepEnds, "-100 -000", None),
+    (Change::KeepNone, "", None),
+];
+
+#[test]
+fn marks_follow_their_individual(rt: HostRuntime) -> Result<(), Fail> {
+    let alloc = rt.alloc();
+    let s = marked(alloc)?;
+    for (change, text, mark) in CHANGES {
+        assert!(rt;
+            is_shown(alloc, &changed(alloc, &s, change)?, text, mark)?,
+            "{text}"
+        );
+    }
+    Ok(())
+}
+
+/// Structures in ascending order: of each two neighbours one thing differs.
+const ASCENDING: [(u32, &str); 15] = [
+    (0, ""),
+    (1, "-00"),
+    (1, "s00"),
+    (2, "-000 -000"),
+    (2, "-000 -00?"),
+    (2, "-000 -001"),
+    (2, "-000 -010"),
+    (2, "-00? -000"),
+    (2, "-0?0 -000"),
+    (2, "-000 -?00"),
+    (2, "-?00 -000"),
+    (2, "-100 -000"),
+    (2, "-000 s000"),
+    (2, "s000 -000"),
+    (3, "-0000 -0000 -0000"),
+];
+
+#[test]
 fn the_order_goes_by_size_summaries_and_values(rt: HostRuntime) -> Result<(), Fail> {
-    for i in 0..11 {
-        let left = ascending(rt.alloc(), i)?;
-        for j in 0..11 {
-            let right = ascending(rt.alloc(), j)?;
-            assert_eq!(rt; left.compare(&right), i.cmp(&j), "at {i} and {j}");
+    let alloc = rt.alloc();
+    for (i, (size, text)) in ASCENDING.iter().enumerate() {
+        let left = shown(alloc, (*size).min(3), text)?;
+        for (j, (other_size, other_text)) in ASCENDING.iter().enumerate() {
+            let right = shown(alloc, (*other_size).min(3), other_text)?;
+            assert_eq!(rt; left.compare(&right), i.cmp(&j), "{text} and {other_text}");
         }
     }
     Ok(())
