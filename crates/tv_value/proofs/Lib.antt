@@ -1,0 +1,13 @@
+pub mod Agreed
+pub mod ByThresholds
+pub mod Embedded
+pub mod Entries
+pub mod Folds
+pub mod InHeaps
+pub mod Lattice
+pub mod Lists
+pub mod Matched
+pub mod Preimages
+pub mod Rounds
+pub mod Thresholds
+pub mod Walks

@@ -1,0 +1,223 @@
+-- Walks through allowed stops, and the best of them.
+use Rattle.std.proofs.Common.{ℕ, ◌≡◌, ◌⊎◌, ◌↔◌, List, [], ◌∷◌, ◌++◌, inl, inr, ⊎_elim, refl, sym, subst, All, Contains}
+use Rattle.std.proofs.lemmas.List.Elements.{All-nil, All-cons, All-head, All-tail, All-append, All-weaker}
+use Rattle.tv_kleene.specs.declared.K3.{K3}
+use Rattle.tv_kleene.specs.declared.K3.TheVariants.{No, Half, Yes}
+use Rattle.tv_kleene.specs.Kleene.{smaller_of, larger_of}
+use Rattle.tv_model.specs.Truth.{IsWalk, put}
+use Rattle.tv_value.specs.Value.{value, least_along, best_walk}
+use Rattle.tv_value.specs.Laws.{IsAtMost, IsGreatestOverWalks, ClosuresAreGreatest}
+use Rattle.tv_value.proofs.Lists.{Contains-here, Contains-there, Contains-none, Contains-cases}
+use Rattle.tv_value.proofs.Thresholds.{IsThreshold, Must, May, must_threshold, may_threshold, Under, IsAtMost-by_thresholds, thresholds_determine, May-from_Must}
+use Rattle.tv_value.proofs.Folds.{IsTotal}
+
+-- there is a walk through allowed stops
+abbrev pub WalksWithin : (ℕ → ℕ → Type 0) → List ℕ → ℕ → ℕ → Type 0
+WalksWithin R allowed u w = (stops : List ℕ) × All (Contains allowed) stops × IsWalk R u stops w
+
+pub IsWalk-join : (R : ℕ → ℕ → Type 0) (u m w : ℕ) (xs ys : List ℕ) → IsWalk R u xs m → IsWalk R m ys w
+    → IsWalk R u (xs ++ m ∷ ys) w
+IsWalk-join R u m w [] ys first second = (first, second)
+IsWalk-join R u m w (x ∷ xs) ys first second = (first.0, IsWalk-join R x m w xs ys first.1 second)
+
+pub WalksWithin-more : (R : ℕ → ℕ → Type 0) (x : ℕ) (allowed : List ℕ) (u w : ℕ)
+    → WalksWithin R allowed u w → WalksWithin R (x ∷ allowed) u w
+WalksWithin-more R x allowed u w (stops, within, walk) =
+    (stops, All-weaker (Contains allowed) (Contains (x ∷ allowed)) (λ y at. Contains-there x y allowed at) stops within, walk)
+
+pub WalksWithin-join : (R : ℕ → ℕ → Type 0) (x : ℕ) (allowed : List ℕ) (u w : ℕ)
+    → WalksWithin R (x ∷ allowed) u x → WalksWithin R (x ∷ allowed) x w → WalksWithin R (x ∷ allowed) u w
+WalksWithin-join R x allowed u w (first, in_first, first_walk) (second, in_second, second_walk) = (
+  first ++ x ∷ second,
+  All-append (Contains (x ∷ allowed)) first (x ∷ second) in_first
+      (All-cons (Contains (x ∷ allowed)) x second (Contains-here x allowed) in_second),
+  IsWalk-join R u x w first second first_walk second_walk,
+)
+
+-- a walk avoids the first allowed stop, or is cut at it
+pub WalksWithin-split : (R : ℕ → ℕ → Type 0) (x : ℕ) (allowed : List ℕ) (u : ℕ) (stops : List ℕ) (w : ℕ)
+    → All (Contains (x ∷ allowed)) stops → IsWalk R u stops w
+    → WalksWithin R allowed u w ⊎ (WalksWithin R allowed u x × WalksWithin R allowed x w)
+WalksWithin-split R x allowed u [] w within edge = inl ([], All-nil (Contains allowed), edge)
+WalksWithin-split R x allowed u (stop ∷ stops) w within walk =
+    go (Contains-cases x stop allowed (All-head (Contains (x ∷ allowed)) stop stops within))
+    (WalksWithin-split R x allowed stop stops w (All-tail (Contains (x ∷ allowed)) stop stops within) walk.1)
+  where
+    with_front : (y : ℕ) → Contains allowed stop → WalksWithin R allowed stop y → WalksWithin R allowed u y
+    with_front y at (rest, within, later) =
+        (stop ∷ rest, All-cons (Contains allowed) stop rest at within, (walk.0, later))
+
+    go : (x ≡ stop) ⊎ Contains allowed stop
+        → WalksWithin R allowed stop w ⊎ (WalksWithin R allowed stop x × WalksWithin R allowed x w)
+        → WalksWithin R allowed u w ⊎ (WalksWithin R allowed u x × WalksWithin R allowed x w)
+    go (inl e) (inl rest) =
+        let Edge : ℕ → Type 0 = λ y. R u y
+        in let Rest : ℕ → Type 0 = λ y. WalksWithin R allowed y w
+        in inr (([], All-nil (Contains allowed), subst Edge (sym e) walk.0), subst Rest (sym e) rest)
+    go (inl e) (inr cut) =
+        let Edge : ℕ → Type 0 = λ y. R u y
+        in inr (([], All-nil (Contains allowed), subst Edge (sym e) walk.0), cut.1)
+    go (inr at) (inl rest) = inl (with_front w at rest)
+    go (inr at) (inr cut) = inr (with_front x at cut.0, cut.1)
+
+-- the least value along a walk meets a threshold exactly where each edge does
+pub least_along-threshold : (T : K3 → Type 0) → IsThreshold T → (edge : ℕ → ℕ → K3) (u : ℕ) (stops : List ℕ) (w : ℕ)
+    → T (least_along edge u stops w) ↔ IsWalk (λ x y. T (edge x y)) u stops w
+least_along-threshold T is edge u [] w = (λ h. h, λ h. h)
+least_along-threshold T is edge u (stop ∷ stops) w =
+    (to (least_along-threshold T is edge stop stops w), from (least_along-threshold T is edge stop stops w))
+  where
+    to : T (least_along edge stop stops w) ↔ IsWalk (λ x y. T (edge x y)) stop stops w
+        → T (smaller_of (edge u stop) (least_along edge stop stops w))
+        → T (edge u stop) × IsWalk (λ x y. T (edge x y)) stop stops w
+    to later h =
+        let both : T (edge u stop) × T (least_along edge stop stops w)
+        = (is.smaller (edge u stop) (least_along edge stop stops w)).0 h
+        in (both.0, later.0 both.1)
+
+    from : T (least_along edge stop stops w) ↔ IsWalk (λ x y. T (edge x y)) stop stops w
+        → T (edge u stop) × IsWalk (λ x y. T (edge x y)) stop stops w
+        → T (smaller_of (edge u stop) (least_along edge stop stops w))
+    from later h = (is.smaller (edge u stop) (least_along edge stop stops w)).1 (h.0, later.1 h.1)
+
+-- the best walk meets a threshold exactly where there is a walk of which each edge does
+pub best_walk-threshold : (T : K3 → Type 0) → IsThreshold T → (edge : ℕ → ℕ → K3) (allowed : List ℕ) (u w : ℕ)
+    → T (best_walk edge allowed u w) ↔ WalksWithin (λ x y. T (edge x y)) allowed u w
+best_walk-threshold T is edge [] u w = (λ h. ([], All-nil (Contains []), h), from)
+  where
+    from : WalksWithin (λ x y. T (edge x y)) [] u w → T (edge u w)
+    from ([], within, walk) = walk
+    from (stop ∷ stops, within, walk) = absurd (Contains-none stop (All-head (Contains []) stop stops within))
+best_walk-threshold T is edge (x ∷ allowed) u w =
+    (to (best_walk-threshold T is edge allowed), from (best_walk-threshold T is edge allowed))
+  where
+    to : ((u w : ℕ) → T (best_walk edge allowed u w) ↔ WalksWithin (λ x y. T (edge x y)) allowed u w)
+        → T (larger_of (best_walk edge allowed u w) (smaller_of (best_walk edge allowed u x) (best_walk edge allowed x w)))
+        → WalksWithin (λ x y. T (edge x y)) (x ∷ allowed) u w
+    to later h = ⊎_elim
+        (λ past. WalksWithin-more (λ x y. T (edge x y)) x allowed u w ((later u w).0 past))
+        (λ met. let both : T (best_walk edge allowed u x) × T (best_walk edge allowed x w)
+        = (is.smaller (best_walk edge allowed u x) (best_walk edge allowed x w)).0 met
+        in WalksWithin-join (λ x y. T (edge x y)) x allowed u w
+        (WalksWithin-more (λ x y. T (edge x y)) x allowed u x ((later u x).0 both.0))
+        (WalksWithin-more (λ x y. T (edge x y)) x allowed x w ((later x w).0 both.1)))
+        ((is.larger (best_walk edge allowed u w) (smaller_of (best_walk edge allowed u x) (best_walk edge allowed x w))).0 h)
+
+    from : ((u w : ℕ) → T (best_walk edge allowed u w) ↔ WalksWithin (λ x y. T (edge x y)) allowed u w)
+        → WalksWithin (λ x y. T (edge x y)) (x ∷ allowed) u w
+        → T (larger_of (best_walk edge allowed u w) (smaller_of (best_walk edge allowed u x) (best_walk edge allowed x w)))
+    from later (stops, within, walk) =
+        (is.larger (best_walk edge allowed u w) (smaller_of (best_walk edge allowed u x) (best_walk edge allowed x w))).1
+        (⊎_elim
+        (λ past. inl ((later u w).1 past))
+        (λ cut. inr ((is.smaller (best_walk edge allowed u x) (best_walk edge allowed x w)).1 ((later u x).1 cut.0, (later x w).1 cut.1)))
+        (WalksWithin-split (λ x y. T (edge x y)) x allowed u stops w within walk))
+
+-- ---- the best walk is the greatest over all walks
+
+walk-at_most : (edge : ℕ → ℕ → K3) (allowed : List ℕ) (u w : ℕ) (stops : List ℕ) → All (Contains allowed) stops
+    → IsAtMost (least_along edge u stops w) (best_walk edge allowed u w)
+walk-at_most edge allowed u w stops within =
+    IsAtMost-by_thresholds (least_along edge u stops w) (best_walk edge allowed u w)
+    (λ m. (best_walk-threshold Must must_threshold edge allowed u w).1
+    (stops, within, (least_along-threshold Must must_threshold edge u stops w).0 m))
+    (λ m. (best_walk-threshold May may_threshold edge allowed u w).1
+    (stops, within, (least_along-threshold May may_threshold edge u stops w).0 m))
+
+walk-reached : (edge : ℕ → ℕ → K3) (allowed : List ℕ) (u w : ℕ)
+    → (stops : List ℕ) × All (Contains allowed) stops × (least_along edge u stops w ≡ best_walk edge allowed u w)
+walk-reached edge allowed u w = go (best_walk edge allowed u w) refl
+  where
+    must : (stops : List ℕ) → All (Contains allowed) stops → Must (least_along edge u stops w) → Must (best_walk edge allowed u w)
+    must stops within m =
+        (best_walk-threshold Must must_threshold edge allowed u w).1
+        (stops, within, (least_along-threshold Must must_threshold edge u stops w).0 m)
+
+    may : (stops : List ℕ) → All (Contains allowed) stops → May (least_along edge u stops w) → May (best_walk edge allowed u w)
+    may stops within m =
+        (best_walk-threshold May may_threshold edge allowed u w).1
+        (stops, within, (least_along-threshold May may_threshold edge u stops w).0 m)
+
+    go : (x : K3) → best_walk edge allowed u w ≡ x
+        → (stops : List ℕ) × All (Contains allowed) stops × (least_along edge u stops w ≡ best_walk edge allowed u w)
+    go No e = (
+      [],
+      All-nil (Contains allowed),
+      thresholds_determine (edge u w) (best_walk edge allowed u w)
+          (must [] (All-nil (Contains allowed)))
+          (may [] (All-nil (Contains allowed)))
+          (λ m. absurd (subst Must e m))
+          (λ m. absurd (subst May e m)),
+    )
+    go Half e =
+        let d : WalksWithin (λ x y. May (edge x y)) allowed u w
+        = (best_walk-threshold May may_threshold edge allowed u w).0 (subst May (sym e) tt)
+        in (
+          d.0,
+          d.1,
+          thresholds_determine (least_along edge u d.0 w) (best_walk edge allowed u w)
+              (must d.0 d.1)
+              (may d.0 d.1)
+              (λ m. absurd (subst Must e m))
+              (λ m. (least_along-threshold May may_threshold edge u d.0 w).1 d.2),
+        )
+    go Yes e =
+        let d : WalksWithin (λ x y. Must (edge x y)) allowed u w
+        = (best_walk-threshold Must must_threshold edge allowed u w).0 (subst Must (sym e) tt)
+        in let holds : Must (least_along edge u d.0 w) = (least_along-threshold Must must_threshold edge u d.0 w).1 d.2
+        in (
+          d.0,
+          d.1,
+          thresholds_determine (least_along edge u d.0 w) (best_walk edge allowed u w)
+              (must d.0 d.1)
+              (may d.0 d.1)
+              (λ m. holds)
+              (λ m. May-from_Must (least_along edge u d.0 w) holds),
+        )
+
+pub best_walk-greatest : (edge : ℕ → ℕ → K3) (allowed : List ℕ) (u w : ℕ)
+    → IsGreatestOverWalks edge allowed u w (best_walk edge allowed u w)
+best_walk-greatest edge allowed u w =
+    record { above = walk-at_most edge allowed u w; reached = walk-reached edge allowed u w }
+
+-- ---- walks go along a matching of individuals
+
+pub WalksWithin-matched : (M : ℕ → ℕ → Type 0) (xs ys : List ℕ) → IsTotal M xs ys → (R S : ℕ → ℕ → Type 0)
+    → ((u v x y : ℕ) → M u x → M v y → R u v → S x y)
+    → (u v x y : ℕ) → M u x → M v y → (stops : List ℕ) → All (Contains xs) stops → IsWalk R u stops v → WalksWithin S ys x y
+WalksWithin-matched M xs ys there R S keeps u v x y begin end [] within walk =
+    ([], All-nil (Contains ys), keeps u v x y begin end walk)
+WalksWithin-matched M xs ys there R S keeps u v x y begin end (stop ∷ stops) within walk =
+    let image : (w : ℕ) × Contains ys w × M stop w = there stop (All-head (Contains xs) stop stops within)
+    in let rest : WalksWithin S ys image.0 y
+    = WalksWithin-matched M xs ys there R S keeps stop v image.0 y image.2 end stops
+    (All-tail (Contains xs) stop stops within) walk.1
+    in (image.0 ∷ rest.0, All-cons (Contains ys) image.0 rest.0 image.1 rest.1, (keeps u stop x image.0 begin image.2 walk.0, rest.2))
+
+-- where matched pairs have values under one another, so have the best walks between matched ends
+pub Under-best_walk : (M : ℕ → ℕ → Type 0) (xs ys : List ℕ) → IsTotal M xs ys → IsTotal (λ w u. M u w) ys xs
+    → (edge other : ℕ → ℕ → K3) → ((u v x y : ℕ) → M u x → M v y → Under (edge u v) (other x y))
+    → (u v x y : ℕ) → M u x → M v y → Under (best_walk edge xs u v) (best_walk other ys x y)
+Under-best_walk M xs ys there back edge other under u v x y begin end = (must, may)
+  where
+    must : Must (best_walk other ys x y) → Must (best_walk edge xs u v)
+    must m =
+        let d : WalksWithin (λ p q. Must (other p q)) ys x y = (best_walk-threshold Must must_threshold other ys x y).0 m
+        in (best_walk-threshold Must must_threshold edge xs u v).1
+        (WalksWithin-matched (λ w u. M u w) ys xs back (λ p q. Must (other p q)) (λ p q. Must (edge p q))
+        (λ p q r s mp mq h. (under r s p q mp mq).0 h)
+        x y u v begin end d.0 d.1 d.2)
+
+    may : May (best_walk edge xs u v) → May (best_walk other ys x y)
+    may m =
+        let d : WalksWithin (λ p q. May (edge p q)) xs u v = (best_walk-threshold May may_threshold edge xs u v).0 m
+        in (best_walk-threshold May may_threshold other ys x y).1
+        (WalksWithin-matched M xs ys there (λ p q. May (edge p q)) (λ p q. May (other p q))
+        (λ p q r s mp mq h. (under p q r s mp mq).1 h)
+        u v x y begin end d.0 d.1 d.2)
+
+-- ---- closures
+
+pub closures_are_greatest : ClosuresAreGreatest
+closures_are_greatest s a from to left right f =
+    best_walk-greatest (λ u w. value s (put (put a left u) right w) f) s.individuals (a from) (a to)

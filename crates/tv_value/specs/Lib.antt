@@ -1,0 +1,4 @@
+pub mod Laws
+pub mod ListValues
+pub mod Thresholds
+pub mod Value
