@@ -1,5 +1,5 @@
 -- Looking up a structure by its signature.
-use Rattle.std.proofs.Common.{ℕ, ◌≡◌, ◌≢◌, ◌<◌, ◌≤◌, ◌+◌, ◌⊎◌, inl, inr, Bool, true, false, List, [], ◌∷◌, ◌++◌, length, get_or, map, Option, Some, None, MatchBool, true≢false, Result, Ok, Err, set, refl, sym, ap, subst, ◌∙◌, arith, ◌==◌, if◌then◌else◌, eq-eqb}
+use Rattle.std.proofs.Common.{ℕ, ◌≡◌, ◌<◌, ◌≤◌, ◌⊎◌, inl, inr, Bool, true, false, List, [], ◌∷◌, ◌++◌, length, get_or, map, Option, Some, None, MatchBool, true≢false, Result, Ok, Err, set, refl, sym, ap, subst, ◌∙◌, arith, ◌==◌, if◌then◌else◌, eq-eqb}
 use Rattle.std.specs.Prelude.{Any, Contains, slice_get}
 use Rattle.std.specs.List.{list_any}
 use Rattle.std.specs.declared.alloc.AllocError.{AllocError}
@@ -12,7 +12,7 @@ use Rattle.std.proofs.lemmas.Option.{slice_get_within, get_or_from_slice_get, sl
 use Rattle.tv_struct.specs.ListingForm.{HasEqual, AreNoted, Adds, AddsAt, at_node, equals, is_equal_at}
 use Rattle.tv_struct.specs.Order.{structure_cmp}
 use Rattle.tv_struct.specs.Signature.{signature_of}
-use Rattle.tv_struct.specs.StructureForm.{StructureForm, unmarked}
+use Rattle.tv_struct.specs.StructureForm.{StructureForm}
 use Rattle.tv_struct.proofs.OrderLaws.{structure_cmp-Equal, Equal-from_unmarked}
 
 Contains-append : (xs : List ℕ) (x y : ℕ) → Contains xs x → Contains (xs ++ y ∷ []) x

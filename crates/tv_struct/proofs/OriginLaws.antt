@@ -1,6 +1,6 @@
 -- The lists of origins.
-use Rattle.std.proofs.Common.{ℕ, ◌≡◌, ◌<◌, ◌≤◌, ◌+◌, Bool, true, false, List, [], ◌∷◌, ◌++◌, length, get_or, map, replicate, take, refl, sym, ap, subst, ◌∙◌, arith, append_assoc, append-nil, add-zero, zero, suc}
-use Rattle.std.specs.Prelude.{All, sum, if◌then◌else◌}
+use Rattle.std.proofs.Common.{ℕ, ◌≡◌, ◌<◌, ◌≤◌, ◌+◌, Bool, true, false, List, [], ◌∷◌, ◌++◌, length, get_or, replicate, take, refl, sym, ap, ◌∙◌, arith, append_assoc, append-nil, add-zero, zero, suc}
+use Rattle.std.specs.Prelude.{sum, if◌then◌else◌}
 use Rattle.std.specs.List.{range_with_len}
 use Rattle.std.proofs.lemmas.List.{length-append, length-replicate, length-take-le, take_more, map-id, get_or_append_left, get_or-replicate, get_or-append-add}
 use Rattle.std.proofs.lemmas.List.Sums.{sum_by-cons}

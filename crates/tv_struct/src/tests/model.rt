@@ -1,6 +1,6 @@
 //! Each implementation of a table against a plain finite map.
 
-ghost use Rattle.std.specs.Prelude.{◌≡◌, ◌<◌, ◌≤◌, [], ◌∷◌, map, IfOk, IfSome};
+ghost use Rattle.std.specs.Prelude.{◌≡◌, ◌<◌, ◌≤◌, [], ◌∷◌, map, All, IfOk, IfSome};
 ghost use Rattle.tv_struct.specs.TableForm.{arities_in};
 
 use crate::planes::Planes;
@@ -107,20 +107,39 @@ fn follows_a_map<T: Table>(alloc: Global, table: &mut T) -> Result<bool, AllocEr
     Ok(follows)
 }
 
+fn vocab_of_each_arity(alloc: Global) -> Result<Vocab, AllocError>
+    ensures arities { IfOk result (λ vocab. map (λ pred. pred.arity) vocab.preds ≡ 0 ∷ 1 ∷ 2 ∷ []) }
+    ensures each { IfOk result (λ vocab. All (λ pred. pred.arity ≤ 2) vocab.preds) }
+{
+    Ok(Vocab {
+        preds: preds_of_each_arity(alloc)?,
+    })
+}
+
+/// Whether a structure of that size follows a map.
+fn structure_follows(alloc: Global, size: u32) -> Result<bool, AllocError>
+    requires { size ≤ 256 }
+{
+    let vocab = vocab_of_each_arity(alloc)?;
+    let mut structure = Structure::new(alloc, &vocab, size)?;
+    follows_a_map(alloc, &mut structure)
+}
+
+/// Whether the private table of that size follows a map.
+#[tactic(auto, using(crate::proofs::StructureLaws::arities_of_no))]
+fn planes_follow(alloc: Global, size: u32) -> Result<bool, AllocError>
+    requires { size ≤ 256 }
+{
+    let vocab = vocab_of_each_arity(alloc)?;
+    let mut planes = Planes::of_no(alloc, vocab.preds.as_slice(), size)?;
+    follows_a_map(alloc, &mut planes)
+}
+
 #[test]
 fn tables_are_finite_maps(rt: HostRuntime) -> Result<(), Fail> {
-    let alloc = rt.alloc();
     for size in [0, 1, 2, 255, 256] {
-        let vocab = Vocab {
-            preds: preds_of_each_arity(alloc)?,
-        };
-        let mut structure = Structure::new(alloc, &vocab, size)?;
-        assert!(rt;
-            follows_a_map(alloc, &mut structure)?,
-            "structure of {size}"
-        );
-        let mut planes = Planes::of_no(alloc, vocab.preds.as_slice(), size)?;
-        assert!(rt; follows_a_map(alloc, &mut planes)?, "planes of {size}");
+        assert!(rt; structure_follows(rt.alloc(), size)?, "structure of {size}");
+        assert!(rt; planes_follow(rt.alloc(), size)?, "planes of {size}");
     }
     Ok(())
 }

@@ -1,4 +1,4 @@
-use Rattle.std.proofs.Common.{ℕ, [], map, unwrap_or, arith}
+use Rattle.std.proofs.Common.{[], map, unwrap_or, arith}
 use Rattle.std.proofs.lemmas.List.{map-append, length-map}
 use Rattle.std.specs.Ordering.{nat_cmp}
 use Rattle.std.specs.BTreeMap.{get}

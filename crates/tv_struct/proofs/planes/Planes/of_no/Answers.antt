@@ -1,4 +1,4 @@
-use Rattle.std.proofs.Common.{map, take, ◌≤◌}
+use Rattle.std.proofs.Common.{map, ◌≤◌}
 use Rattle.std.proofs.lemmas.List.{take_all}
 use Rattle.std.proofs.lemmas.List.Elements.{All-map}
 use Rattle.tv_struct.proofs.TableLaws.{IsTable-of_no}

@@ -1,4 +1,4 @@
-use Rattle.std.proofs.Common.{◌≡◌, ◌<◌, ◌+◌, ◌∙◌, get_or, length, ap, arith}
+use Rattle.std.proofs.Common.{◌+◌, ◌∙◌, arith}
 use Rattle.std.proofs.lemmas.List.FromFn.{get_or-range_with_len}
 use Rattle.tv_struct.proofs.DrawnLaws.{IsMark-drawn, summary_at-past}
 use Rattle.tv_struct.proofs.structure.Structure.with_new.Goals as goal
