@@ -1,0 +1,147 @@
+-- What can be evaluated can be evaluated part by part.
+use Rattle.std.proofs.Common.{ℕ, ◌≡◌, ◌≢◌, ◌<◌, ◌≤◌, ◌+◌, ◌==◌, ◌⊎◌, inl, inr, ⊎_elim, zero, suc, List, [], ◌∷◌, ◌++◌, length, get_or, max, Option, Some, None, refl, sym, subst, ◌∙◌, arith, if◌then◌else◌, eqb, eq-eqb, ne_eqb}
+use Rattle.std.specs.Prelude.{IsSomeAnd, unwrap_or, All, Contains}
+use Rattle.std.proofs.lemmas.Bool.{cases_eq, cond-true, cond-false}
+use Rattle.tv_kleene.specs.declared.K3.{K3}
+use Rattle.tv_model.specs.Form.{Form, FZero, FOne, FAtom, FIsNew, FSame, FNot, FAnd, FOr, FIff, FCond, FExists, FForall, FClosure, IsFree}
+use Rattle.tv_value.proofs.Lists.{Contains-here, Contains-there}
+use Rattle.tv_struct.specs.TableForm.{HasEntry}
+use Rattle.tv_struct.specs.StructureForm.{StructureForm, table_of, arities_of}
+use Rattle.tv_eval.specs.AssignmentForm.{place_of, assignment_of, IsAssigned}
+use Rattle.tv_eval.specs.Formulas.{IsFormulaOver, AreAssigned, HasRooms, nesting, sizes_of}
+use Rattle.tv_eval.specs.CanEvaluate.{CanEvaluate}
+
+-- what an assigned variable stands for is an individual
+some-below : (n : ℕ) (o : Option ℕ) → IsSomeAnd o (λ u. u < n) → unwrap_or o 0 < n
+some-below n None h = absurd h
+some-below n (Some u) h = h
+
+pub individual_of : (n : ℕ) (places : List (Option ℕ)) (v : ℕ) → IsAssigned n places v → assignment_of places v < n
+individual_of n places v h = some-below n (place_of places v) h
+
+pub fewer_levels : (size few many : ℕ) (sizes : List ℕ) → few ≤ many → HasRooms size many sizes → HasRooms size few sizes
+fewer_levels size few many sizes le h = let l : many ≤ length sizes = h.count in record { count = omega arith; each = h.each }
+
+pub can-not : (s : StructureForm) (places : List (Option ℕ)) (sizes : List ℕ) (f : Form)
+    → CanEvaluate s places sizes (FNot f) → CanEvaluate s places sizes f
+can-not s places sizes f h = record { formula = h.formula; assigned = h.assigned; rooms = h.rooms }
+
+pub can-and : (s : StructureForm) (places : List (Option ℕ)) (sizes : List ℕ) (f g : Form)
+    → CanEvaluate s places sizes (FAnd f g) → CanEvaluate s places sizes f × CanEvaluate s places sizes g
+can-and s places sizes f g h = (
+  record {
+    formula = h.formula.0;
+    assigned = λ v free. h.assigned v (inl free);
+    rooms = fewer_levels s.size (nesting f) (max (nesting f) (nesting g)) sizes (omega arith) h.rooms;
+  },
+  record {
+    formula = h.formula.1;
+    assigned = λ v free. h.assigned v (inr free);
+    rooms = fewer_levels s.size (nesting g) (max (nesting f) (nesting g)) sizes (omega arith) h.rooms;
+  },
+)
+
+pub can-or : (s : StructureForm) (places : List (Option ℕ)) (sizes : List ℕ) (f g : Form)
+    → CanEvaluate s places sizes (FOr f g) → CanEvaluate s places sizes f × CanEvaluate s places sizes g
+can-or s places sizes f g h =
+    can-and s places sizes f g (record { formula = h.formula; assigned = h.assigned; rooms = h.rooms })
+
+pub can-iff : (s : StructureForm) (places : List (Option ℕ)) (sizes : List ℕ) (f g : Form)
+    → CanEvaluate s places sizes (FIff f g) → CanEvaluate s places sizes f × CanEvaluate s places sizes g
+can-iff s places sizes f g h =
+    can-and s places sizes f g (record { formula = h.formula; assigned = h.assigned; rooms = h.rooms })
+
+-- one part of a formula of several parts
+can-part : (s : StructureForm) (places : List (Option ℕ)) (sizes : List ℕ) (whole part : Form)
+    → IsFormulaOver (arities_of s) part → ((v : ℕ) → IsFree v part → IsFree v whole) → nesting part ≤ nesting whole
+    → CanEvaluate s places sizes whole → CanEvaluate s places sizes part
+can-part s places sizes whole part over free le h = record {
+  formula = over;
+  assigned = λ v fv. h.assigned v (free v fv);
+  rooms = fewer_levels s.size (nesting part) (nesting whole) sizes le h.rooms;
+}
+
+pub can-cond : (s : StructureForm) (places : List (Option ℕ)) (sizes : List ℕ) (c f g : Form)
+    → CanEvaluate s places sizes (FCond c f g)
+    → CanEvaluate s places sizes c × CanEvaluate s places sizes f × CanEvaluate s places sizes g
+can-cond s places sizes c f g h = (
+  can-part s places sizes (FCond c f g) c h.formula.0 (λ v free. inl free) (omega arith) h,
+  can-part s places sizes (FCond c f g) f h.formula.1 (λ v free. inr (inl free)) (omega arith) h,
+  can-part s places sizes (FCond c f g) g h.formula.2 (λ v free. inr (inr free)) (omega arith) h,
+)
+
+-- b is a with the individual u put for v
+pub record IsPut (a : List (Option ℕ)) (v u : ℕ) (b : List (Option ℕ)) : Type 0 where
+  pub places : (w : ℕ) → place_of b w ≡ (if w == v then Some u else place_of a w)
+
+assigned-put : (n : ℕ) (a b : List (Option ℕ)) (v u w : ℕ) → IsPut a v u b → u < n
+    → (w ≢ v → IsAssigned n a w) → IsAssigned n b w
+assigned-put n a b v u w put lt h =
+    let At : Option ℕ → Type 0 = λ o. IsSomeAnd o (λ x. x < n)
+    in ⊎_elim
+    (λ e. subst At (sym (put.places w ∙ cond-true (eqb w v) (Some u) (place_of a w) (eq-eqb w v e))) lt)
+    (λ ne. subst At (sym (put.places w ∙ cond-false (eqb w v) (Some u) (place_of a w) (ne_eqb w v ne))) (h ne))
+    (cases_eq w v)
+
+pub can-put : (s : StructureForm) (a b : List (Option ℕ)) (sizes : List ℕ) (v u : ℕ) (f : Form)
+    → CanEvaluate s a sizes (FExists v f) → u < s.size → IsPut a v u b → CanEvaluate s b sizes f
+can-put s a b sizes v u f h lt put = record {
+  formula = h.formula.1;
+  assigned = λ w free. assigned-put s.size a b v u w put lt (λ ne. h.assigned w (ne, free));
+  rooms = h.rooms;
+}
+
+pub can-forall : (s : StructureForm) (a : List (Option ℕ)) (sizes : List ℕ) (v : ℕ) (f : Form)
+    → CanEvaluate s a sizes (FForall v f) → CanEvaluate s a sizes (FExists v f)
+can-forall s a sizes v f h = record { formula = h.formula; assigned = h.assigned; rooms = h.rooms }
+
+-- what a closure's body needs, in the rooms behind the first
+pub can-fill : (s : StructureForm) (a : List (Option ℕ)) (sizes inner : List ℕ) (from to left right : ℕ) (f : Form)
+    → CanEvaluate s a sizes (FClosure from to left right f) → HasRooms s.size (nesting f) inner
+    → CanEvaluate s a inner (FExists left (FExists right f))
+can-fill s a sizes inner from to left right f h rooms = record {
+  formula = (h.formula.2, (h.formula.3, h.formula.5));
+  assigned = λ w free. h.assigned w (inr (inr (free.0, free.1.0, free.1.1)));
+  rooms = rooms;
+}
+
+-- the first room and those behind it
+pub record SplitsRooms (size levels : ℕ) (front back : List (List (List K3))) : Type 0 where
+  pub first : (d : List (List K3)) → size ≤ length (get_or front 0 d)
+  pub behind : HasRooms size levels (sizes_of back)
+
+pub rooms-split : (size levels : ℕ) (rooms front back : List (List (List K3))) → rooms ≡ front ++ back → length front ≡ 1
+    → HasRooms size (levels + 1) (sizes_of rooms) → SplitsRooms size levels front back
+rooms-split size levels rooms [] back e one h = absurd (omega (arith, one))
+rooms-split size levels rooms (room ∷ []) back e one h = parts (subst (λ rs. HasRooms size (levels + 1) (sizes_of rs)) e h)
+  where
+    parts : HasRooms size (levels + 1) (length room ∷ sizes_of back) → SplitsRooms size levels (room ∷ []) back
+    parts own =
+        let l : levels + 1 ≤ suc (length (sizes_of back)) = own.count
+        in record {
+          first = λ d. own.each 0 0 (omega arith);
+          behind = record { count = omega arith; each = λ k d lt. own.each (suc k) d (omega arith) };
+        }
+rooms-split size levels rooms (room ∷ other ∷ rooms') back e one h = absurd (omega (arith, one))
+
+-- the entry of an atom
+pub entry_of_none : (s : StructureForm) (a : List (Option ℕ)) (sizes : List ℕ) (pred : ℕ)
+    → CanEvaluate s a sizes (FAtom pred []) → HasEntry (table_of s) pred []
+entry_of_none s a sizes pred h = record { arity = h.formula.0; individuals = tt }
+
+pub entry_of_one : (s : StructureForm) (a : List (Option ℕ)) (sizes : List ℕ) (pred v : ℕ)
+    → CanEvaluate s a sizes (FAtom pred (v ∷ [])) → HasEntry (table_of s) pred (assignment_of a v ∷ [])
+entry_of_one s a sizes pred v h = record {
+  arity = h.formula.0;
+  individuals = (individual_of s.size a v (h.assigned v (Contains-here v [])), tt);
+}
+
+pub entry_of_two : (s : StructureForm) (a : List (Option ℕ)) (sizes : List ℕ) (pred v w : ℕ)
+    → CanEvaluate s a sizes (FAtom pred (v ∷ w ∷ [])) → HasEntry (table_of s) pred (assignment_of a v ∷ assignment_of a w ∷ [])
+entry_of_two s a sizes pred v w h = record {
+  arity = h.formula.0;
+  individuals = (
+    individual_of s.size a v (h.assigned v (Contains-here v (w ∷ []))),
+    (individual_of s.size a w (h.assigned w (Contains-there v w (w ∷ []) (Contains-here w []))), tt),
+  );
+}

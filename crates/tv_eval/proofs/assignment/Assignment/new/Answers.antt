@@ -1,0 +1,5 @@
+use Rattle.tv_eval.proofs.RowLaws.{nones}
+use Rattle.tv_eval.proofs.assignment.Assignment.new.Goals as goal
+
+pub returns : goal.returns
+returns c = λ v. nones 32 v

@@ -1,0 +1,53 @@
+-- What a formula has to be for a structure, and what its evaluation needs.
+use Rattle.std.specs.Prelude.{ℕ, ◌≡◌, ◌≢◌, ◌≤◌, ◌<◌, ◌+◌, List, length, map, max, Option, Some, All, slice_get}
+use Rattle.tv_kleene.specs.declared.K3.{K3}
+use Rattle.tv_model.specs.Form.{Form, FZero, FOne, FAtom, FIsNew, FSame, FNot, FAnd, FOr, FIff, FCond, FExists, FForall, FClosure, IsFree}
+use Rattle.tv_model.specs.Valid.{IsVariable}
+use Rattle.tv_eval.specs.AssignmentForm.{IsAssigned}
+
+-- a formula over predicates of these arities: each atom has a predicate of its arity, variables are in
+-- range, and the two own variables of a closure differ
+abbrev pub IsFormulaOver : (arities : List ℕ) → Form → Type 0
+IsFormulaOver arities FZero = Unit {0}
+IsFormulaOver arities FOne = Unit {0}
+IsFormulaOver arities (FAtom q vars) = (slice_get arities q ≡ Some (length vars)) × All IsVariable vars
+IsFormulaOver arities (FIsNew v) = IsVariable v
+IsFormulaOver arities (FSame v w) = IsVariable v × IsVariable w
+IsFormulaOver arities (FNot f) = IsFormulaOver arities f
+IsFormulaOver arities (FAnd f g) = IsFormulaOver arities f × IsFormulaOver arities g
+IsFormulaOver arities (FOr f g) = IsFormulaOver arities f × IsFormulaOver arities g
+IsFormulaOver arities (FIff f g) = IsFormulaOver arities f × IsFormulaOver arities g
+IsFormulaOver arities (FCond c f g) = IsFormulaOver arities c × IsFormulaOver arities f × IsFormulaOver arities g
+IsFormulaOver arities (FExists v f) = IsVariable v × IsFormulaOver arities f
+IsFormulaOver arities (FForall v f) = IsVariable v × IsFormulaOver arities f
+IsFormulaOver arities (FClosure from to left right f) =
+    IsVariable from × IsVariable to × IsVariable left × IsVariable right × (left ≢ right) × IsFormulaOver arities f
+
+-- the free variables of the formula stand for individuals of a structure of that size
+abbrev pub AreAssigned : (size : ℕ) → List (Option ℕ) → Form → Type 0
+AreAssigned size places f = (v : ℕ) → IsFree v f → IsAssigned size places v
+
+-- how many closures stand inside one another, at most
+abbrev pub nesting : Form → ℕ
+nesting FZero = 0
+nesting FOne = 0
+nesting (FAtom q vars) = 0
+nesting (FIsNew v) = 0
+nesting (FSame v w) = 0
+nesting (FNot f) = nesting f
+nesting (FAnd f g) = max (nesting f) (nesting g)
+nesting (FOr f g) = max (nesting f) (nesting g)
+nesting (FIff f g) = max (nesting f) (nesting g)
+nesting (FCond c f g) = max (nesting c) (max (nesting f) (nesting g))
+nesting (FExists v f) = nesting f
+nesting (FForall v f) = nesting f
+nesting (FClosure from to left right f) = nesting f + 1
+
+-- the sizes of some relations
+abbrev pub sizes_of : List (List (List K3)) → List ℕ
+sizes_of rooms = map length rooms
+
+-- room for closures nested so deep, in structures of that size
+pub record HasRooms (size levels : ℕ) (sizes : List ℕ) : Type 0 where
+  pub count : levels ≤ length sizes
+  pub each : All (λ room. size ≤ room) sizes

@@ -1,0 +1,59 @@
+//! What the variables of a formula stand for.
+
+ghost use Rattle.std.specs.Prelude.{ℕ, ◌≡◌, ◌<◌, ◌==◌, Some, None, if◌then◌else◌};
+ghost use Rattle.tv_model.specs.Truth.{put};
+ghost use Rattle.tv_eval.specs.AssignmentForm.{place_of, assignment_of};
+
+use std::marker::Model;
+use tv_model::Var;
+
+/// A finite map from the 32 variables of formulas to individuals.
+#[derive(Clone, Copy, Debug)]
+pub struct Assignment {
+    places: [Option<u32>; 32],
+}
+
+impl Model for Assignment {
+    ghost use Rattle.std.specs.Prelude.{ℕ, List, Option};
+
+    ghost Value = { List (Option ℕ) };
+
+    ghost view = { λ a. a.places };
+
+    ghost inverse = { λ a. record { places = a } };
+}
+
+impl Assignment {
+    /// The assignment of no variable.
+    pub fn new() -> Assignment
+        ensures { (v : ℕ) → place_of result v ≡ None }
+    {
+        Assignment { places: [None; 32] }
+    }
+
+    /// The assignment with the individual `u` put for the variable `v`, whether or not it stood for
+    /// one before.
+    pub fn with(self, v: Var, u: u32) -> Assignment
+        requires { v.0 < 32 }
+        ensures places { (w : ℕ) → place_of result w ≡ (if w == v.0 then Some u else place_of self w) }
+        ensures total { assignment_of result ≡ put (assignment_of self) v.0 u }
+    {
+        let mut places = self.places;
+        places[v.0 as usize] = Some(u);
+        Assignment { places }
+    }
+
+    /// The individual that the variable stands for, if there is one.
+    pub fn get(&self, v: Var) -> Option<u32>
+        ensures { result ≡ place_of self.now v.0 }
+    {
+        self.places.get(v.0 as usize).copied().flatten()
+    }
+
+    /// The individual that the variable stands for, and 0 where there is none.
+    pub(crate) fn at(&self, v: Var) -> u32
+        ensures { result ≡ assignment_of self.now v.0 }
+    {
+        self.get(v).unwrap_or(0)
+    }
+}

@@ -1,0 +1,20 @@
+//! The value of a formula with transitive closure in a three-valued structure.
+#![tactic(auto)]
+
+mod assignment;
+mod laws;
+mod nesting;
+mod relation;
+mod scratch;
+mod values;
+
+pub use assignment::Assignment;
+pub use laws::{made_scratches_fit, program_formulas_are_over};
+pub use scratch::{Scratch, eval};
+
+#[cfg(test)]
+mod checked;
+#[cfg(test)]
+mod reader;
+#[cfg(test)]
+mod tests;

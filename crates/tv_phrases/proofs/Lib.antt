@@ -1,0 +1,4 @@
+pub mod Values
+pub mod CommaLists
+pub mod Facts
+pub mod WordTests

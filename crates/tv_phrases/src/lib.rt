@@ -1,0 +1,18 @@
+//! Phrases that the readers of programs, structures and reports share.
+#![tactic(auto)]
+
+mod error;
+mod kinds;
+mod laws;
+mod lists;
+mod tokens;
+
+pub use error::PhraseError;
+pub use kinds::{Brackets, Item};
+pub use laws::identifiers;
+pub use lists::{
+    NamePhrase, comma_list, list_in, name, optional_list, optional_list_in, pair, params, variables,
+};
+pub use tokens::{
+    after, begins_item, begins_string, expect, identifier, item, string, unquoted, word,
+};

@@ -1,0 +1,89 @@
+-- What is written of a predicate, tuple by tuple.
+use Rattle.std.proofs.Common.{ℕ, ◌≡◌, ◌<◌, ◌+◌, ◌-◌, suc, List, [], ◌∷◌, ◌++◌, length, map, take, get_or, Option, Some, None, refl, sym, ap, ◌∙◌, arith}
+use Rattle.std.specs.Prelude.{codes}
+use Rattle.std.specs.List.{flat_map, filter_map, cons_option, range_with_len}
+use Rattle.std.proofs.lemmas.List.{flat_map_more, map-id, take_more}
+use Rattle.std.proofs.lemmas.List.FromFn.{map-range_with_len_more}
+use Rattle.std.proofs.lemmas.List.Elements.{filter_map-append}
+use Rattle.tv_kleene.specs.declared.K3.{K3}
+use Rattle.tv_kleene.specs.declared.K3.TheVariants.{No, Half, Yes}
+use Rattle.tv_tvs.specs.Canonical.{individual, written_item, written_items, written_one, row_items, tuples, comma_text, individuals}
+
+pub range_more : (a n : ℕ) → range_with_len a (n + 1) ≡ range_with_len a n ++ (a + n) ∷ []
+range_more a n =
+    sym (map-id _) ∙ map-range_with_len_more (λ u. u) a n (a + n) refl ∙ ap (λ us. us ++ (a + n) ∷ []) (map-id _)
+
+-- one turn of a loop over individuals that puts what f gives behind the others
+pub turn : {X : Type 0} (f : ℕ → List X) (before list : List X) (a n u : ℕ) → a + n ≡ u
+    → list ≡ before ++ flat_map f (range_with_len a n) → list ++ f u ≡ before ++ flat_map f (range_with_len a (n + 1))
+turn f before list a n u at so_far =
+    ap (λ t. t ++ f u) so_far ∙ flat_map_more f before (range_with_len a n) u
+    ∙ ap (λ us. before ++ flat_map f us) (ap (λ v. range_with_len a n ++ v ∷ []) (sym at) ∙ sym (range_more a n))
+
+-- one turn of a loop over a list
+pub list_turn : {X Y : Type 0} (f : X → List Y) (xs : List X) (i : ℕ) (x : X) (before out : List Y) → i < length xs
+    → x ≡ get_or xs i x → out ≡ before ++ flat_map f (take i xs) → out ++ f x ≡ before ++ flat_map f (take (i + 1) xs)
+list_turn f xs i x before out within at_x so_far =
+    let more : take (i + 1) xs ≡ take i xs ++ x ∷ [] = take_more xs i x within ∙ ap (λ p. take i xs ++ p ∷ []) (sym at_x)
+    in ap (λ t. t ++ f x) so_far ∙ flat_map_more f before (take i xs) x ∙ ap (λ t. before ++ flat_map f t) (sym more)
+
+filter_map-flat_map : {X Y Z : Type 0} (h : Y → Option Z) (g : X → List Y) (xs : List X)
+    → filter_map h (flat_map g xs) ≡ flat_map (λ x. filter_map h (g x)) xs
+filter_map-flat_map h g [] = refl
+filter_map-flat_map h g (x ∷ xs) =
+    filter_map-append h (g x) (flat_map g xs) ∙ ap (λ zs. filter_map h (g x) ++ zs) (filter_map-flat_map h g xs)
+
+map-flat_map : {X Y Z : Type 0} (h : Y → Z) (g : X → Y) (xs : List X)
+    → map h (flat_map (λ x. g x ∷ []) xs) ≡ flat_map (λ x. h (g x) ∷ []) xs
+map-flat_map h g [] = refl
+map-flat_map h g (x ∷ xs) = ap (λ zs. h (g x) ∷ zs) (map-flat_map h g xs)
+
+flat_map-same : {X Y : Type 0} (f g : X → List Y) → ((x : X) → f x ≡ g x) → (xs : List X) → flat_map f xs ≡ flat_map g xs
+flat_map-same f g same [] = refl
+flat_map-same f g same (x ∷ xs) = λ i. same x i ++ flat_map-same f g same xs i
+
+single_item : (u : ℕ) (k : K3) → cons_option (written_item (u ∷ []) k) [] ≡ written_one u None k
+single_item u No = refl
+single_item u Half = refl
+single_item u Yes = refl
+
+pair_item : (u w : ℕ) (k : K3) → cons_option (written_item (u ∷ w ∷ []) k) [] ≡ written_one u (Some w) k
+pair_item u w No = refl
+pair_item u w Half = refl
+pair_item u w Yes = refl
+
+-- the items of a unary predicate
+pub singles_written : (value : List ℕ → K3) (size : ℕ)
+    → flat_map (λ u. written_one u None (value (u ∷ []))) (range_with_len 0 size) ≡ written_items value (tuples 1 size)
+singles_written value size =
+    sym (filter_map-flat_map (λ tuple. written_item tuple (value tuple)) (λ u. (u ∷ []) ∷ []) (range_with_len 0 size)
+    ∙ flat_map-same _ _ (λ u. single_item u (value (u ∷ []))) (range_with_len 0 size))
+
+-- the items of a row of a binary one
+pub row_written : (value : List ℕ → K3) (size u : ℕ)
+    → flat_map (λ w. written_one u (Some w) (value (u ∷ w ∷ []))) (range_with_len 0 size) ≡ row_items value size u
+row_written value size u =
+    sym (ap (filter_map (λ tuple. written_item tuple (value tuple))) (map-flat_map (λ tuple. u ∷ tuple) (λ w. w ∷ []) (range_with_len 0 size))
+    ∙ filter_map-flat_map (λ tuple. written_item tuple (value tuple)) (λ w. (u ∷ w ∷ []) ∷ []) (range_with_len 0 size)
+    ∙ flat_map-same _ _ (λ w. pair_item u w (value (u ∷ w ∷ []))) (range_with_len 0 size))
+
+-- and of its rows
+pub rows_written : (value : List ℕ → K3) (size : ℕ)
+    → flat_map (row_items value size) (range_with_len 0 size) ≡ written_items value (tuples 2 size)
+rows_written value size =
+    sym (filter_map-flat_map (λ tuple. written_item tuple (value tuple)) (λ u. map (λ tuple. u ∷ tuple) (tuples 1 size)) (range_with_len 0 size))
+
+-- items, each behind a comma and a blank
+pub flat_map-map : {X Y : Type 0} (g : X → Y) (f : Y → List ℕ) (xs : List X) → flat_map f (map g xs) ≡ flat_map (λ x. f (g x)) xs
+flat_map-map g f [] = refl
+flat_map-map g f (x ∷ xs) = ap (λ t. f (g x) ++ t) (flat_map-map g f xs)
+
+map-range : (f : ℕ → List ℕ) (a n : ℕ) → flat_map (λ u. codes ", " ++ f u) (range_with_len a n) ≡ flat_map (λ t. codes ", " ++ t) (map f (range_with_len a n))
+map-range f a n = sym (flat_map-map f (λ t. codes ", " ++ t) (range_with_len a n))
+
+-- the names of one individual or more
+pub individuals_written : (size : ℕ) → 0 < size
+    → individual 0 ++ flat_map (λ u. codes ", " ++ individual u) (range_with_len 1 (size - 1)) ≡ comma_text (individuals size)
+individuals_written size some =
+    let e : size ≡ suc (size - 1) = omega arith
+    in ap (λ t. individual 0 ++ t) (map-range individual 1 (size - 1)) ∙ ap (λ n. comma_text (individuals n)) (sym e)

@@ -1,0 +1,18 @@
+use Rattle.std.proofs.Common.{◌≡◌, ◌∷◌, [], ◌++◌, ◌∙◌, ap, None, arith}
+use Rattle.std.specs.List.{flat_map, range_with_len}
+use Rattle.tv_tvs.specs.Canonical.{written_one, summary_value}
+use Rattle.tv_tvs.specs.Views.{written_list}
+use Rattle.tv_tvs.proofs.Written.{turn, singles_written}
+use Rattle.tv_tvs.proofs.write.summaries.Goals as goal
+
+pub loop-u-preserved : goal.loop-u-preserved
+loop-u-preserved c =
+    c.in_ok-push_written.ensures ∙ ap (λ k. written_list c.loop-u.list.items ++ written_one c.loop-u.u None k) c.summary_of.ensures
+    ∙ turn (λ u. written_one u None (summary_value c.args.s.now (u ∷ []))) [] (written_list c.loop-u.list.items) 0 c.loop-u.u c.loop-u.u (omega arith) c.loop-u.invariant
+
+pub returns : goal.returns
+returns c =
+    let all : c.loop-u.u ≡ c.args.s.now.size = omega (arith, c.loop-u-test.false, c.loop-u.auto.u-end, c.size-u-end.ensures.size)
+    in c.loop-u.invariant
+    ∙ ap (λ n. flat_map (λ u. written_one u None (summary_value c.args.s.now (u ∷ []))) (range_with_len 0 n)) all
+    ∙ singles_written (summary_value c.args.s.now) c.args.s.now.size

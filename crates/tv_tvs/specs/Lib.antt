@@ -1,0 +1,8 @@
+pub mod Tree
+pub mod Grammar
+pub mod Meaning
+pub mod Canonical
+pub mod Laws
+pub mod Reading
+pub mod Views
+pub mod Targets

@@ -1,0 +1,18 @@
+//! Texts of three-valued structures.
+#![tactic(auto)]
+
+mod build;
+mod error;
+mod laws;
+mod names;
+mod read;
+mod syntax;
+mod write;
+
+pub use error::TvsError;
+pub use laws::{one_reading, structures_are_read_again, valid_programs_fit};
+pub use read::{OneRead, read_one, read_tvs};
+pub use write::write_tvs;
+
+#[cfg(test)]
+mod tests;

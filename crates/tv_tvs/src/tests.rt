@@ -1,0 +1,341 @@
+//! Texts of structures, by example.
+ghost use Rattle.std.specs.Prelude.{◌≡◌, ◌∷◌, ◌++◌, [], None, All, map, IfOk, OnOk};
+ghost use Rattle.tv_struct.specs.StructureForm.{IsOver};
+ghost use Rattle.tv_tvs.specs.Meaning.{IsVocabulary};
+
+use super::*;
+use itoa::Buffer;
+use std::alloc::{AllocError, Global};
+use std::test::Fail;
+use tv_lex::{Place, lex};
+use tv_model::{Bytes, Items, Kind, Pred, Preds, Props, Vocab};
+use tv_struct::Structure;
+
+/// A text, and what is written of its structures, or why it is refused. Line feeds are shown as `;`.
+static TEXTS: [(&[u8], &[u8]); 62] = [
+    (b"", b""),
+    (b" // nothing\n", b""),
+    (b"%n = {} %p = {}", b"%n = {};%p = {;};"),
+    (
+        b"%n={}%p={}%n={u}%p={}",
+        b"%n = {};%p = {;};%n = {i0};%p = {;};",
+    ),
+    (b"%n = {} %p = { b = 1 }", b"%n = {};%p = {;  b = 1;};"),
+    (b"%n = {} %p = { b = 1/2 }", b"%n = {};%p = {;  b = 1/2;};"),
+    (b"%n = {} %p = { b = 0 }", b"%n = {};%p = {;};"),
+    (b"%n = {} %p = { b = 1 b = 0 }", b"%n = {};%p = {;};"),
+    (
+        b"%n = {} %p = { b = 0 b = 1/2 }",
+        b"%n = {};%p = {;  b = 1/2;};",
+    ),
+    (
+        b"%n = {u} %p = { x = {} n = {} sm = {} }",
+        b"%n = {i0};%p = {;};",
+    ),
+    (
+        b"%n = {u} %p = { x = {u:1/2} sm = {u:1/2} }",
+        b"%n = {i0};%p = {;  x = {i0:1/2};  sm = {i0:1/2};};",
+    ),
+    (
+        b"%n = {u, v} %p = { sm = {v:1/2} x = {v, u:1/2} }",
+        b"%n = {i0, i1};%p = {;  x = {i0:1/2, i1};  sm = {i1:1/2};};",
+    ),
+    (
+        b"%n = {u} %p = { sm = {u:1/2, u:0} }",
+        b"%n = {i0};%p = {;};",
+    ),
+    (b"%n = {u} %p = { x = {u, u:0} }", b"%n = {i0};%p = {;};"),
+    (
+        b"%n = {u} %p = { x = {u:0, u:1, u:1/2} x = {u:1} }",
+        b"%n = {i0};%p = {;  x = {i0};};",
+    ),
+    (
+        b"%n = {a, b} %p = { n = {b->a, a->b:1/2, b->b:0} }",
+        b"%n = {i0, i1};%p = {;  n = {i0->i1:1/2, i1->i0};};",
+    ),
+    (
+        b"%n = {a, b} %p = { n = {a->b} n = {b->a} n = {a->b:0} }",
+        b"%n = {i0, i1};%p = {;  n = {i1->i0};};",
+    ),
+    (
+        b"%n = {0, 1, E, in, 007} %p = { x = {0, 1:1/2, E, in:0, 007} }",
+        b"%n = {i0, i1, i2, i3, i4};%p = {;  x = {i0, i1:1/2, i2, i4};};",
+    ),
+    (
+        b"%n = {i1, i0} %p = { n = {i1->i0} }",
+        b"%n = {i0, i1};%p = {;  n = {i0->i1};};",
+    ),
+    (
+        b"%n = {u} %p = { t [ n ] = {u -> u} r[n , x] = {u} }",
+        b"%n = {i0};%p = {;  t[n] = {i0->i0};  r[n,x] = {i0};};",
+    ),
+    (
+        b"%n = {h, u} %p = { x = {h} n = {h->u:1/2, u->u:1/2} t[n] = {h->h, h->u, u->u:1/2} r[n,x] = {h, u} sm = {u:1/2} }",
+        b"%n = {i0, i1};%p = {;  x = {i0};  n = {i0->i1:1/2, i1->i1:1/2};  t[n] = {i0->i0, i0->i1, i1->i1:1/2};  r[n,x] = {i0, i1};  sm = {i1:1/2};};",
+    ),
+    (
+        b"/* a */ %n = { u /* b */ } // c\n %p = { }",
+        b"%n = {i0};%p = {;};",
+    ),
+    // What no structure goes on with.
+    (b"x", b"Syntax 1:1"),
+    (b"%p", b"Syntax 1:1"),
+    (b"%n", b"Syntax 1:3"),
+    (b"%n {", b"Syntax 1:4"),
+    (b"%n = {u", b"Syntax 1:8"),
+    (b"%n = {u,} %p = {}", b"Syntax 1:9"),
+    (b"%n = {u v} %p = {}", b"Syntax 1:9"),
+    (b"%n = {} %p = {", b"Syntax 1:15"),
+    (b"%n = {}\n%p = { 0 = 1 }", b"Syntax 2:8"),
+    (b"%n = {}\n%p = { E = 1 }", b"Syntax 2:8"),
+    (b"%n = {} %p = { b }", b"Syntax 1:18"),
+    (b"%n = {} %p = { b = 2 }", b"Syntax 1:20"),
+    (b"%n = {} %p = { b = 1 } }", b"Syntax 1:24"),
+    (b"%n = {} %p = { x = {u->} }", b"Syntax 1:24"),
+    (b"%n = {} %p = { x = {u:} }", b"Syntax 1:23"),
+    (b"%n = {} %p = { x = {u:x} }", b"Syntax 1:23"),
+    (b"%n = {} %p = { x = {u:1->u} }", b"Syntax 1:24"),
+    (b"%n = {} %p = { x = {u,} }", b"Syntax 1:23"),
+    (b"%n = {} %p = { r[] = {} }", b"Syntax 1:18"),
+    (b"%n = {} %p = { r[n = {} }", b"Syntax 1:20"),
+    (
+        b"%n = {u, u} %p = {} %n = {} %p = { x = 2 }",
+        b"Syntax 1:40",
+    ),
+    // One refusal alone.
+    (b"%n = {u, u} %p = {}", b"IndividualTwice"),
+    (b"%n = {u} %p = { x = {w} }", b"IndividualUnknown"),
+    (b"%n = {u} %p = { n = {u->w} }", b"IndividualUnknown"),
+    (b"%n = {u} %p = { y = {u} }", b"NameUnknown"),
+    (b"%n = {u} %p = { r[x,n] = {u} }", b"NameUnknown"),
+    (b"%n = {u} %p = { isNew = {u} }", b"NameUnknown"),
+    (b"%n = {u} %p = { x = 1 }", b"ArityWrong"),
+    (b"%n = {u} %p = { b = {} }", b"ArityWrong"),
+    (b"%n = {u} %p = { sm = 0 }", b"ArityWrong"),
+    (b"%n = {u} %p = { sm = {u:1} }", b"BadSm"),
+    (b"%n = {u} %p = { sm = {u} }", b"BadSm"),
+    // The first of two.
+    (b"%n = {u, u} %p = { y = {u} }", b"IndividualTwice"),
+    (b"%n = {u} %p = { y = {u->w} }", b"NameUnknown"),
+    (b"%n = {u} %p = { x = {w, u->u} }", b"ArityWrong"),
+    (b"%n = {u} %p = { x = {w} y = {u} }", b"IndividualUnknown"),
+    (b"%n = {u} %p = { sm = {w} }", b"IndividualUnknown"),
+    (b"%n = {u} %p = { sm = {u, w:0} }", b"BadSm"),
+    (b"%n = {u} %p = { sm = {u->u} }", b"ArityWrong"),
+    (b"%n = {u} %p = { sm = {u} } %n = {u, u} %p = {}", b"BadSm"),
+];
+
+const NO_PROPS: Props = Props {
+    unique: false,
+    function: false,
+    invfunction: false,
+    transitive: false,
+    reflexive: false,
+    symmetric: false,
+};
+
+fn name_of(alloc: Global, name: &[u8]) -> Result<Bytes, AllocError>
+    ensures { IfOk result (λ n. n ≡ name.now) }
+{
+    Ok(Items::from_vec(Vec::from_slice(alloc, name)?))
+}
+
+fn push_pred(preds: &mut Preds, alloc: Global, name: &[u8], arity: u8) -> Result<(), AllocError>
+    ensures names { OnOk result (map (λ p. p.name) preds.new ≡ map (λ p. p.name) preds.old ++ name.now ∷ []) }
+    ensures arities { OnOk result (map (λ p. p.arity) preds.new ≡ map (λ p. p.arity) preds.old ++ arity ∷ []) }
+{
+    preds.push(Pred {
+        name: name_of(alloc, name)?,
+        arity,
+        kind: Kind::Core,
+        abs: true,
+        props: NO_PROPS,
+    })
+}
+
+/// The predicates `b()`, `x(v)`, `n(v, w)`, `t[n](v, w)` and `r[n,x](v)`.
+#[tactic(auto, using(crate::proofs::TestVocabulary::is_vocabulary))]
+fn vocabulary(alloc: Global) -> Result<Vocab, AllocError>
+    ensures { IfOk result IsVocabulary }
+{
+    let mut preds = Items::new(alloc);
+    push_pred(&mut preds, alloc, b"b", 0)?;
+    push_pred(&mut preds, alloc, b"x", 1)?;
+    push_pred(&mut preds, alloc, b"n", 2)?;
+    push_pred(&mut preds, alloc, b"t[n]", 2)?;
+    push_pred(&mut preds, alloc, b"r[n,x]", 1)?;
+    Ok(Vocab { preds })
+}
+
+/// Puts a text behind the others, with `;` for each line feed.
+fn show(out: &mut Vec<u8>, text: &[u8]) -> Result<(), AllocError> {
+    for b in text {
+        out.push(if *b == b'\n' { b';' } else { *b })?;
+    }
+    Ok(())
+}
+
+fn put_number(out: &mut Vec<u8>, n: u32) -> Result<(), AllocError> {
+    let mut digits = Buffer::new();
+    out.extend_from_slice(digits.format(n).as_bytes())
+}
+
+fn put_place(out: &mut Vec<u8>, place: Place) -> Result<(), AllocError> {
+    out.extend_from_slice(b"Syntax ")?;
+    put_number(out, place.line)?;
+    out.push(b':')?;
+    put_number(out, place.column)
+}
+
+fn put_fault(out: &mut Vec<u8>, fault: TvsError) -> Result<(), AllocError> {
+    match fault {
+        TvsError::Syntax(place) => put_place(out, place),
+        TvsError::IndividualUnknown => out.extend_from_slice(b"IndividualUnknown"),
+        TvsError::IndividualTwice => out.extend_from_slice(b"IndividualTwice"),
+        TvsError::NameUnknown => out.extend_from_slice(b"NameUnknown"),
+        TvsError::ArityWrong => out.extend_from_slice(b"ArityWrong"),
+        TvsError::BadSm => out.extend_from_slice(b"BadSm"),
+        TvsError::TooManyIndividuals => out.extend_from_slice(b"TooManyIndividuals"),
+        TvsError::Memory => out.extend_from_slice(b"Memory"),
+    }
+}
+
+fn put_structure(
+    alloc: Global,
+    out: &mut Vec<u8>,
+    vocab: &Vocab,
+    s: &Structure,
+) -> Result<(), AllocError>
+    requires vocabulary { IsVocabulary vocab.now }
+    requires over { IsOver vocab.now s.now }
+{
+    show(out, write_tvs(alloc, vocab, s)?.as_slice())
+}
+
+fn put_structures(
+    alloc: Global,
+    out: &mut Vec<u8>,
+    vocab: &Vocab,
+    list: &[Structure],
+) -> Result<(), AllocError>
+    requires vocabulary { IsVocabulary vocab.now }
+    requires over { All (λ s. IsOver vocab.now s × (s.fresh ≡ None)) list.now }
+{
+    for s in list {
+        put_structure(alloc, out, vocab, s)?;
+    }
+    Ok(())
+}
+
+/// What is written of the structures of a text, or why it is refused.
+fn outcome(alloc: Global, vocab: &Vocab, text: &[u8]) -> Result<Vec<u8>, AllocError>
+    requires { IsVocabulary vocab.now }
+{
+    let mut out = Vec::new(alloc);
+    if text.len() > 10000 {
+        return Ok(out);
+    }
+    match lex(alloc, text) {
+        Err(_) => out.extend_from_slice(b"no tokens")?,
+        Ok(tokens) => match read_tvs(alloc, vocab, text, &tokens) {
+            Ok(list) => put_structures(alloc, &mut out, vocab, list.as_slice())?,
+            Err(fault) => put_fault(&mut out, fault)?,
+        },
+    }
+    Ok(out)
+}
+
+#[test]
+fn texts_by_example(rt: HostRuntime) -> Result<(), Fail> {
+    let vocab = vocabulary(rt.alloc())?;
+    for (text, want) in TEXTS.iter() {
+        let got = outcome(rt.alloc(), &vocab, text)?;
+        assert_eq!(rt; got.as_slice(), *want, "at {text:?}");
+    }
+    Ok(())
+}
+
+/// Texts, a number of a token, and what `read_one` answers there: the number of the token behind, and
+/// what is written of the structure, or the refusal.
+static PLACES: [(&[u8], u32, &[u8]); 8] = [
+    (
+        b"tvla %n = {} %p = { b = 1 } %x",
+        1,
+        b"12 %n = {};%p = {;  b = 1;};",
+    ),
+    (b"tvla %n = {} %p = { b = 1 } %x", 0, b"Syntax 1:1"),
+    (b"tvla %n = {} %p = { b = 1 } %x", 12, b"Syntax 1:29"),
+    (b"tvla %n = {} %p = { b = 1 } %x", 13, b"Syntax 1:31"),
+    (
+        b"tvla %n = {} %p = { b = 1 } %x",
+        4294967295,
+        b"Syntax 1:31",
+    ),
+    (b"%n = {u}\n%p = { sm = {u} } )", 0, b"BadSm"),
+    (
+        b"%n = {} %p = {} %n = {u} %p = {}",
+        8,
+        b"17 %n = {i0};%p = {;};",
+    ),
+    (
+        b"%n = {} %p = {} %n = {u} %p = {",
+        0,
+        b"8 %n = {};%p = {;};",
+    ),
+];
+
+fn outcome_at(alloc: Global, vocab: &Vocab, text: &[u8], at: u32) -> Result<Vec<u8>, AllocError>
+    requires { IsVocabulary vocab.now }
+{
+    let mut out = Vec::new(alloc);
+    if text.len() > 10000 {
+        return Ok(out);
+    }
+    match lex(alloc, text) {
+        Err(_) => out.extend_from_slice(b"no tokens")?,
+        Ok(tokens) => match read_one(alloc, vocab, text, &tokens, at) {
+            Ok(one) => {
+                put_number(&mut out, one.next)?;
+                out.push(b' ')?;
+                put_structure(alloc, &mut out, vocab, &one.found)?;
+            }
+            Err(fault) => put_fault(&mut out, fault)?,
+        },
+    }
+    Ok(out)
+}
+
+#[test]
+fn one_by_example(rt: HostRuntime) -> Result<(), Fail> {
+    let vocab = vocabulary(rt.alloc())?;
+    for (text, at, want) in PLACES.iter() {
+        let got = outcome_at(rt.alloc(), &vocab, text, *at)?;
+        assert_eq!(rt; got.as_slice(), *want, "at {text:?}");
+    }
+    Ok(())
+}
+
+/// The text of a structure of that many individuals.
+fn many(alloc: Global, size: u32) -> Result<Vec<u8>, AllocError> {
+    let mut text = Vec::from_slice(alloc, b"%n = {i0")?;
+    for u in 1..size {
+        text.extend_from_slice(b", i")?;
+        put_number(&mut text, u)?;
+    }
+    text.extend_from_slice(b"}\n%p = {\n}\n")?;
+    Ok(text)
+}
+
+#[test]
+fn individuals_to_the_limit(rt: HostRuntime) -> Result<(), Fail> {
+    let vocab = vocabulary(rt.alloc())?;
+    let most = many(rt.alloc(), 256)?;
+    let mut shown = Vec::new(rt.alloc());
+    show(&mut shown, most.as_slice())?;
+    let got = outcome(rt.alloc(), &vocab, most.as_slice())?;
+    assert_eq!(rt; got.as_slice(), shown.as_slice());
+    let more = many(rt.alloc(), 257)?;
+    let got = outcome(rt.alloc(), &vocab, more.as_slice())?;
+    assert_eq!(rt; got.as_slice(), b"TooManyIndividuals".as_slice());
+    Ok(())
+}
