@@ -12,7 +12,7 @@ use tv_model::{Bytes, Items, Kind, Pred, Preds, Props, Vocab};
 use tv_struct::Structure;
 
 /// A text, and what is written of its structures, or why it is refused. Line feeds are shown as `;`.
-static TEXTS: [(&[u8], &[u8]); 62] = [
+static TEXTS: [(&[u8], &[u8]); 80] = [
     (b"", b""),
     (b" // nothing\n", b""),
     (b"%n = {} %p = {}", b"%n = {};%p = {;};"),
@@ -77,6 +77,19 @@ static TEXTS: [(&[u8], &[u8]); 62] = [
         b"/* a */ %n = { u /* b */ } // c\n %p = { }",
         b"%n = {i0};%p = {;};",
     ),
+    // Written texts are read again.
+    (
+        b"%n = {}\n%p = {\n  b = 1\n}\n%n = {}\n%p = {\n}\n",
+        b"%n = {};%p = {;  b = 1;};%n = {};%p = {;};",
+    ),
+    (
+        b"%n = {i0, i1}\n%p = {\n  x = {i1}\n  sm = {i0:1/2, i1:1/2}\n}\n",
+        b"%n = {i0, i1};%p = {;  x = {i1};  sm = {i0:1/2, i1:1/2};};",
+    ),
+    (
+        b"%n = {i0, i1}\n%p = {\n  x = {i1}\n  n = {i0->i0:1/2, i1->i0:1/2}\n  t[n] = {i0->i0:1/2, i1->i0, i1->i1}\n  r[n,x] = {i0, i1}\n  sm = {i0:1/2}\n}\n",
+        b"%n = {i0, i1};%p = {;  x = {i1};  n = {i0->i0:1/2, i1->i0:1/2};  t[n] = {i0->i0:1/2, i1->i0, i1->i1};  r[n,x] = {i0, i1};  sm = {i0:1/2};};",
+    ),
     // What no structure goes on with.
     (b"x", b"Syntax 1:1"),
     (b"%p", b"Syntax 1:1"),
@@ -123,6 +136,21 @@ static TEXTS: [(&[u8], &[u8]); 62] = [
     (b"%n = {u} %p = { sm = {u, w:0} }", b"BadSm"),
     (b"%n = {u} %p = { sm = {u->u} }", b"ArityWrong"),
     (b"%n = {u} %p = { sm = {u} } %n = {u, u} %p = {}", b"BadSm"),
+    (b"%n = {u, u} %p = { x = 1 }", b"IndividualTwice"),
+    (b"%n = {u, u} %p = { x = {w} }", b"IndividualTwice"),
+    (b"%n = {u, u} %p = { sm = {u} }", b"IndividualTwice"),
+    (b"%n = {u} %p = { y = {u} x = 1 }", b"NameUnknown"),
+    (b"%n = {u} %p = { x = 1 y = {u} }", b"ArityWrong"),
+    (b"%n = {u} %p = { y = {u} x = {w} }", b"NameUnknown"),
+    (b"%n = {u} %p = { y = {u} sm = {u} }", b"NameUnknown"),
+    (b"%n = {u} %p = { sm = {u} y = {u} }", b"BadSm"),
+    (b"%n = {u} %p = { x = 1 n = {u->w} }", b"ArityWrong"),
+    (b"%n = {u} %p = { n = {u->w} x = 1 }", b"IndividualUnknown"),
+    (b"%n = {u} %p = { x = 1 sm = {u} }", b"ArityWrong"),
+    (b"%n = {u} %p = { sm = {u} x = 1 }", b"BadSm"),
+    (b"%n = {u} %p = { sm = {u, u->u} }", b"ArityWrong"),
+    (b"%n = {u} %p = { sm = {w:0, u} }", b"IndividualUnknown"),
+    (b"%n = {u} %p = { x = {w} } %n = {", b"Syntax 1:33"),
 ];
 
 const NO_PROPS: Props = Props {
@@ -315,12 +343,12 @@ fn one_by_example(rt: HostRuntime) -> Result<(), Fail> {
     Ok(())
 }
 
-/// The text of a structure of that many individuals.
-fn many(alloc: Global, size: u32) -> Result<Vec<u8>, AllocError> {
+/// The text of a structure of that many individuals, numbered in steps of `step`.
+fn many(alloc: Global, size: u32, step: u32) -> Result<Vec<u8>, AllocError> {
     let mut text = Vec::from_slice(alloc, b"%n = {i0")?;
     for u in 1..size {
         text.extend_from_slice(b", i")?;
-        put_number(&mut text, u)?;
+        put_number(&mut text, u.saturating_mul(step))?;
     }
     text.extend_from_slice(b"}\n%p = {\n}\n")?;
     Ok(text)
@@ -329,13 +357,16 @@ fn many(alloc: Global, size: u32) -> Result<Vec<u8>, AllocError> {
 #[test]
 fn individuals_to_the_limit(rt: HostRuntime) -> Result<(), Fail> {
     let vocab = vocabulary(rt.alloc())?;
-    let most = many(rt.alloc(), 256)?;
+    let most = many(rt.alloc(), 256, 1)?;
     let mut shown = Vec::new(rt.alloc());
     show(&mut shown, most.as_slice())?;
     let got = outcome(rt.alloc(), &vocab, most.as_slice())?;
     assert_eq!(rt; got.as_slice(), shown.as_slice());
-    let more = many(rt.alloc(), 257)?;
+    let more = many(rt.alloc(), 257, 1)?;
     let got = outcome(rt.alloc(), &vocab, more.as_slice())?;
+    assert_eq!(rt; got.as_slice(), b"TooManyIndividuals".as_slice());
+    let same = many(rt.alloc(), 257, 0)?;
+    let got = outcome(rt.alloc(), &vocab, same.as_slice())?;
     assert_eq!(rt; got.as_slice(), b"TooManyIndividuals".as_slice());
     Ok(())
 }
