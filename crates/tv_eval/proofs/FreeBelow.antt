@@ -1,5 +1,5 @@
 -- The free variables of a formula are in range.
-use Rattle.std.proofs.Common.{ℕ, ◌≡◌, ◌<◌, ◌⊎◌, inl, inr, ⊎_elim, List, sym, subst, arith}
+use Rattle.std.proofs.Common.{ℕ, ◌<◌, ⊎_elim, List, sym, subst}
 use Rattle.std.proofs.lemmas.List.Elements.{All-contains}
 use Rattle.tv_model.specs.Form.{Form, FZero, FOne, FAtom, FIsNew, FSame, FNot, FAnd, FOr, FIff, FCond, FExists, FForall, FClosure, IsFree}
 use Rattle.tv_model.specs.Valid.{IsVariable}

@@ -1,14 +1,14 @@
 -- What can be evaluated can be evaluated part by part.
-use Rattle.std.proofs.Common.{ℕ, ◌≡◌, ◌≢◌, ◌<◌, ◌≤◌, ◌+◌, ◌==◌, ◌⊎◌, inl, inr, ⊎_elim, zero, suc, List, [], ◌∷◌, ◌++◌, length, get_or, max, Option, Some, None, refl, sym, subst, ◌∙◌, arith, if◌then◌else◌, eqb, eq-eqb, ne_eqb}
-use Rattle.std.specs.Prelude.{IsSomeAnd, unwrap_or, All, Contains}
+use Rattle.std.proofs.Common.{ℕ, ◌≡◌, ◌≢◌, ◌<◌, ◌≤◌, ◌+◌, ◌==◌, inl, inr, ⊎_elim, suc, List, [], ◌∷◌, ◌++◌, length, get_or, max, Option, Some, None, sym, subst, ◌∙◌, arith, if◌then◌else◌, eqb, eq-eqb, ne_eqb}
+use Rattle.std.specs.Prelude.{IsSomeAnd, unwrap_or}
 use Rattle.std.proofs.lemmas.Bool.{cases_eq, cond-true, cond-false}
 use Rattle.tv_kleene.specs.declared.K3.{K3}
-use Rattle.tv_model.specs.Form.{Form, FZero, FOne, FAtom, FIsNew, FSame, FNot, FAnd, FOr, FIff, FCond, FExists, FForall, FClosure, IsFree}
+use Rattle.tv_model.specs.Form.{Form, FAtom, FNot, FAnd, FOr, FIff, FCond, FExists, FForall, FClosure, IsFree}
 use Rattle.tv_value.proofs.Lists.{Contains-here, Contains-there}
 use Rattle.tv_struct.specs.TableForm.{HasEntry}
 use Rattle.tv_struct.specs.StructureForm.{StructureForm, table_of, arities_of}
 use Rattle.tv_eval.specs.AssignmentForm.{place_of, assignment_of, IsAssigned}
-use Rattle.tv_eval.specs.Formulas.{IsFormulaOver, AreAssigned, HasRooms, nesting, sizes_of}
+use Rattle.tv_eval.specs.Formulas.{IsFormulaOver, HasRooms, nesting, sizes_of}
 use Rattle.tv_eval.specs.CanEvaluate.{CanEvaluate}
 
 -- what an assigned variable stands for is an individual

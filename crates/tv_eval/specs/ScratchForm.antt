@@ -1,7 +1,7 @@
 -- What a scratch has room for.
 use Rattle.std.specs.Prelude.{ℕ, ◌≡◌, ◌≤◌, ◌+◌, List, [], ◌∷◌, max, Option, Some, None}
-use Rattle.tv_model.specs.Form.{Form}
-use Rattle.tv_model.specs.Program.{ProgramForm, PredForm, KindForm, KCore, KDefined, RuleForm, ChangeForm, CFree, CTo, UpdateForm, RetainForm, MessageForm, ActionForm}
+use Rattle.tv_model.specs.Form.{Form, height}
+use Rattle.tv_model.specs.Program.{ProgramForm, KindForm, KCore, KDefined, ChangeForm, CFree, CTo, RetainForm, ActionForm}
 use Rattle.tv_eval.specs.Formulas.{nesting}
 
 -- a scratch: how deep closures may be nested, and how many individuals a structure may have
@@ -19,35 +19,36 @@ abbrev pub deepest : {X : Type 0} → (X → ℕ) → List X → ℕ
 deepest g [] = 0
 deepest g (x ∷ xs) = max (g x) (deepest g xs)
 
--- how many closures stand inside one another, at most, in the formulas of a part of a program
-abbrev pub kind_nesting : KindForm → ℕ
-kind_nesting KCore = 0
-kind_nesting (KDefined vars body) = nesting body
+-- the height of the highest formula of a part of a program, 0 where it has none
+abbrev pub kind_height : KindForm → ℕ
+kind_height KCore = 0
+kind_height (KDefined vars body) = height body
 
-abbrev pub change_nesting : ChangeForm → ℕ
-change_nesting CFree = 0
-change_nesting (CTo f) = nesting f
+abbrev pub change_height : ChangeForm → ℕ
+change_height CFree = 0
+change_height (CTo f) = height f
 
-abbrev pub pre_nesting : Option Form → ℕ
-pre_nesting None = 0
-pre_nesting (Some f) = nesting f
+abbrev pub pre_height : Option Form → ℕ
+pre_height None = 0
+pre_height (Some f) = height f
 
-abbrev pub retain_nesting : Option RetainForm → ℕ
-retain_nesting None = 0
-retain_nesting (Some r) = nesting r.keep
+abbrev pub retain_height : Option RetainForm → ℕ
+retain_height None = 0
+retain_height (Some r) = height r.keep
 
-abbrev pub action_nesting : ActionForm → ℕ
-action_nesting a =
-    max (pre_nesting a.pre) (max (deepest nesting a.focus) (max (deepest (λ m. nesting m.cond) a.messages)
-    (max (retain_nesting a.retain) (deepest (λ w. change_nesting w.change) a.updates))))
+abbrev pub action_height : ActionForm → ℕ
+action_height a =
+    max (pre_height a.pre) (max (deepest height a.focus) (max (deepest (λ m. height m.cond) a.messages)
+    (max (retain_height a.retain) (deepest (λ w. change_height w.change) a.updates))))
 
--- and in all formulas of the program
-abbrev pub closure_nesting : ProgramForm → ℕ
-closure_nesting p =
-    max (deepest (λ d. kind_nesting d.kind) p.preds)
-    (max (deepest (λ rule. nesting rule.body) p.rules) (deepest action_nesting p.actions))
+-- the height of the highest formula of a program, 0 where it has none
+abbrev pub program_height : ProgramForm → ℕ
+program_height p =
+    max (deepest (λ d. kind_height d.kind) p.preds)
+    (max (deepest (λ rule. height rule.body) p.rules) (deepest action_height p.actions))
 
--- a scratch made for the program: closures may be nested by four deeper than in the program's formulas
+-- a scratch made for the program: closures may be nested as deep as its highest formula is high, and four
+-- deeper
 pub record IsMadeFor (p : ProgramForm) (n : ℕ) (scratch : ScratchForm) : Type 0 where
-  pub closures : scratch.levels ≡ closure_nesting p + 4
+  pub closures : scratch.levels ≡ program_height p + 4
   pub individuals : scratch.size ≡ n

@@ -1,13 +1,12 @@
 //! Evaluation that tests its conditions first, for tests alone.
 
-ghost use Rattle.std.specs.Prelude.{ℕ, ◌≡◌, ◌<◌, ◌≤◌, [], ◌∷◌, length, IsTrue, IfOk};
+ghost use Rattle.std.specs.Prelude.{ℕ, ◌≡◌, ◌+◌, ◌<◌, ◌≤◌, [], ◌∷◌, length, min, IsTrue, IfOk};
 ghost use Rattle.tv_model.specs.Form.{form_of, vars_of, FAtom, IsFree};
 ghost use Rattle.tv_model.specs.Valid.{IsVariable};
 ghost use Rattle.tv_struct.specs.StructureForm.{arities_of};
 ghost use Rattle.tv_eval.specs.AssignmentForm.{IsAssigned};
-ghost use Rattle.tv_eval.specs.Formulas.{IsFormulaOver, AreAssigned};
+ghost use Rattle.tv_eval.specs.Formulas.{IsFormulaOver, AreAssigned, nesting};
 
-use crate::nesting::nesting;
 use crate::{Assignment, Scratch, eval};
 use tv_kleene::K3;
 use tv_model::{Formula, Terms, Var, free};
@@ -92,4 +91,27 @@ fn is_assigned(a: &Assignment, v: Var, size: u32) -> bool
         None => false,
         Some(u) => u < size,
     }
+}
+
+/// How many closures stand inside one another, at most; a number past `usize::MAX` counts as that.
+fn nesting(f: &Formula) -> usize
+    ensures { result ≡ min (nesting (form_of f.now)) usize.MAX }
+{
+    match f {
+        Formula::Zero
+        | Formula::One
+        | Formula::Atom(_, _)
+        | Formula::IsNew(_)
+        | Formula::Same(_, _) => 0,
+        Formula::Not(g) | Formula::Exists(_, g) | Formula::Forall(_, g) => nesting(g),
+        Formula::And(g, h) | Formula::Or(g, h) | Formula::Iff(g, h) => nesting(g).max(nesting(h)),
+        Formula::Cond(c, g, h) => nesting(c).max(nesting(g).max(nesting(h))),
+        Formula::Closure { body, .. } => inside(nesting(body)),
+    }
+}
+
+fn inside(nesting: usize) -> usize
+    ensures { result ≡ min (nesting + 1) usize.MAX }
+{
+    nesting.saturating_add(1)
 }

@@ -2,8 +2,8 @@
 #![tactic(auto)]
 
 mod assignment;
+mod height;
 mod laws;
-mod nesting;
 mod relation;
 mod scratch;
 mod values;

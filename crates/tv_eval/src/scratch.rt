@@ -11,7 +11,7 @@ ghost use Rattle.tv_eval.specs.ScratchForm.{Fits, IsMadeFor};
 ghost use Rattle.tv_eval.specs.Sound.{CoversValues};
 
 use crate::Assignment;
-use crate::nesting::nesting_in_program;
+use crate::height::program_height;
 use crate::relation::Relation;
 use crate::values::value_of;
 use std::alloc::{AllocError, Global};
@@ -20,7 +20,8 @@ use tv_kleene::K3;
 use tv_model::{Formula, Program};
 use tv_struct::Structure;
 
-/// How much deeper than in the program's formulas closures may be nested.
+/// How much higher than the program's highest formula a formula may be. Fewer closures stand inside one
+/// another than a formula is high.
 const SPARE_LEVELS: usize = 4;
 
 /// Room for evaluation: a relation for each closure of those that stand inside one another.
@@ -43,16 +44,16 @@ impl Model for Scratch {
 }
 
 impl Scratch {
-    /// Room for structures of up to `size` individuals, and for formulas in which closures are nested
-    /// at most four deeper than in the formulas of the program.
+    /// Room for structures of up to `size` individuals, and for every formula that is at most four higher
+    /// than the highest of the program.
     pub fn new(alloc: Global, program: &Program, size: u32) -> Result<Scratch, AllocError>
         ensures { IfOk result (IsMadeFor (program_of program.now) size) }
     {
-        let nesting = nesting_in_program(program);
-        if nesting > usize::MAX - SPARE_LEVELS {
+        let height = program_height(program);
+        if height > usize::MAX - SPARE_LEVELS {
             return Err(AllocError);
         }
-        Scratch::with_levels(alloc, nesting + SPARE_LEVELS, size)
+        Scratch::with_levels(alloc, height + SPARE_LEVELS, size)
     }
 
     fn with_levels(alloc: Global, levels: usize, size: u32) -> Result<Scratch, AllocError>

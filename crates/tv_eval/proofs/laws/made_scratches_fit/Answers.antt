@@ -1,5 +1,8 @@
-use Rattle.tv_eval.proofs.Programs.{made_scratches_fit}
+use Rattle.tv_eval.proofs.Programs.{made_scratches_fit, within_height}
 use Rattle.tv_eval.proofs.laws.made_scratches_fit.Goals as goal
 
-pub returns : goal.returns
-returns c = λ p n scratch made. made_scratches_fit p n scratch made
+pub returns-clause-fit : goal.returns-clause-fit
+returns-clause-fit c = λ p n m scratch f made high le. made_scratches_fit p n m scratch f made high le
+
+pub returns-clause-heights : goal.returns-clause-heights
+returns-clause-heights c = λ p. within_height p
