@@ -6,8 +6,13 @@ use Rattle.std.proofs.lemmas.List.{drop_more, drop_all}
 use Rattle.std.proofs.lemmas.List.Concat.{flat_map-cons}
 use Rattle.std.proofs.Math.Seq.{take-append-add}
 use Rattle.std.proofs.lemmas.Grind.{common_steps}
-use Rattle.tv_tree.specs.Printed.{spaced, ended, line_text, text_of_lines, more_tokens, joined_tokens, one_token, prop_token, formula_tokens, piece_tokens, nest_lines, nests_lines, decl_tokens, update_tokens, part_lines, action_lines, edge_lines}
-use Rattle.tv_tree.specs.Copies.{form_of, piece_of, decl_of, nests, update_of, part_of, action_of, edge_of}
+use Rattle.tv_tree.specs.Printed.{sign_token, set_tokens, steps_tokens, spaced, ended, line_text, text_of_lines, more_tokens, joined_tokens, one_token, prop_token, formula_tokens, piece_tokens, nest_lines, nests_lines, decl_tokens, update_tokens, part_lines, action_lines, edge_lines}
+use Rattle.tv_tree.specs.Copies.{joined_set, term_of, step_of, set_of, form_of, piece_of, decl_of, nests, update_of, part_of, action_of, edge_of}
+use Rattle.tv_tree.specs.Forms.{SetForm, SPlus, SMinus}
+use Rattle.tv_tree.specs.declared.trees.SetSign.{SetSign}
+use Rattle.tv_tree.specs.declared.trees.SetSign.TheVariants as sign
+use Rattle.tv_tree.specs.declared.trees.SetStep.{SetStep}
+use Rattle.tv_tree.specs.declared.trees.SetTree.{SetTree, out-SetTree}
 use Rattle.tv_tree.specs.declared.trees.PropWord.{PropWord}
 use Rattle.tv_tree.specs.declared.trees.FormulaTree.{FormulaTree}
 use Rattle.tv_tree.specs.declared.trees.Piece.{Piece}
@@ -16,6 +21,7 @@ use Rattle.tv_tree.specs.declared.trees.ActionTree.{ActionTree}
 use Rattle.tv_tree.specs.declared.trees.EdgeTree.{EdgeTree}
 use Rattle.tv_tree.specs.declared.trees.Decl.{Decl}
 use Rattle.tv_tree.specs.declared.trees.UpdateTree.{UpdateTree}
+use Rattle.tv_tree.proofs.Unfolds.{set_of_steps, step_of_parts}
 
 pub spaced_append : (xs ys : List (List ℕ)) → spaced (xs ++ ys) ≡ spaced xs ++ spaced ys
 unfolding spaced
@@ -148,3 +154,21 @@ formulas_none out (x ∷ xs) none = absurd (omega arith)
 pub pieces_none : (out : List ℕ) (xs : List Piece) → length xs ≡ 0 → out ++ spaced (joined_tokens (codes "+") piece_tokens (map piece_of xs)) ≡ out
 pieces_none out [] none = spaced_none out
 pieces_none out (x ∷ xs) none = absurd (omega arith)
+
+-- the tokens of an expression are those of its sets, with their signs between them
+joined_tokens_of : (s : SetForm) (more : List (SetSign × SetForm)) → set_tokens (joined_set s more) ≡ set_tokens s ++ steps_tokens more
+joined_tokens_of s [] = sym (append_nil (set_tokens s))
+joined_tokens_of s ((sign.Plus, t) ∷ more) = rw (joined_tokens_of (SPlus s t) more) (simp append_assoc)
+joined_tokens_of s ((sign.Minus, t) ∷ more) = rw (joined_tokens_of (SMinus s t) more) (simp append_assoc)
+
+pub steps_start : (out : List ℕ) (s : SetTree) → (out ++ spaced (set_tokens (term_of (out-SetTree s).first))) ++ spaced (steps_tokens (map step_of (out-SetTree s).more.items)) ≡ out ++ spaced (set_tokens (set_of s))
+steps_start out s = rw (set_of_steps s, joined_tokens_of (term_of (out-SetTree s).first) (map step_of (out-SetTree s).more.items), spaced_push) refl
+
+pub steps_step : (out : List ℕ) (xs : List SetStep) (i : ℕ) (x : SetStep) → i < length xs → x ≡ get_or xs i x → ((out ++ spaced (sign_token x.sign ∷ [])) ++ spaced (set_tokens (term_of x.term))) ++ spaced (steps_tokens (map step_of (drop (i + 1) xs))) ≡ out ++ spaced (steps_tokens (map step_of (drop i xs)))
+steps_step out xs i x below is = rw (rest_at xs i x below is, step_of_parts x) (rw (spaced_push, spaced_push) refl)
+
+pub steps_done : (out : List ℕ) (xs : List SetStep) (i : ℕ) → length xs ≤ i → out ++ spaced (steps_tokens (map step_of (drop i xs))) ≡ out
+steps_done out xs i past = rw (drop_all i xs past) (spaced_none out)
+
+pub closure_parts : (out : List ℕ) (ws vs us : List (List ℕ)) → (out ++ spaced (codes "TC" ∷ (ws ++ vs))) ++ spaced us ≡ out ++ spaced (codes "TC" ∷ (ws ++ (vs ++ us)))
+closure_parts out ws vs us = rw (spaced_push, append_assoc) refl

@@ -1,10 +1,18 @@
 -- What the plain data of each declaration and update is.
 use Rattle.std.proofs.Common.{◌≡◌, List, map, sym, ◌∙◌, ap}
-use Rattle.tv_tree.specs.Forms.{Nest, Single, Foreach, Nests, DeclForm, DSet, DPred, DRule, UpdateForm}
-use Rattle.tv_tree.specs.Copies.{name_of, set_of, form_of, pred_of, nests, decl_of, decls_of, decl_step, decls_step, single_of, update_of, updates_of, update_step, updates_step}
+use Rattle.tv_tree.specs.Forms.{SetForm, SNamed, SMembers, SParen, Nest, Single, Foreach, Nests, DeclForm, DSet, DPred, DRule, UpdateForm}
+use Rattle.tv_tree.specs.Copies.{name_of, joined_set, term_of, step_of, set_of, term_step, further_step, set_step, form_of, pred_of, nests, decl_of, decls_of, decl_step, decls_step, single_of, update_of, updates_of, update_step, updates_step}
 use Rattle.tv_tree.specs.declared.trees.Name.{Name}
 use Rattle.std.specs.Prelude.{ℕ}
-use Rattle.tv_tree.specs.declared.trees.SetTree.{SetTree}
+use Rattle.std.specs.declared.boxed.Box.{Box}
+use Rattle.std.specs.declared.alloc.Global.{Global}
+use Rattle.tv_tree.specs.declared.trees.SetSign.{SetSign}
+use Rattle.tv_tree.specs.declared.trees.SetTerm.{SetTerm}
+use Rattle.tv_tree.specs.declared.trees.SetTerm.TheVariants as one
+use Rattle.tv_tree.specs.declared.trees.SetTerm.TheOpen as set
+use Rattle.tv_tree.specs.declared.trees.SetTerm.TheFolds.{fold-roll-SetTerm, fold_out-SetStep, fold_out-SetTree}
+use Rattle.tv_tree.specs.declared.trees.SetStep.{SetStep}
+use Rattle.tv_tree.specs.declared.trees.SetTree.{SetTree, out-SetTree}
 use Rattle.tv_tree.specs.declared.trees.FormulaTree.{FormulaTree}
 use Rattle.tv_tree.specs.declared.trees.PredDecl.{PredDecl}
 use Rattle.tv_tree.specs.declared.trees.RuleDecl.{RuleDecl}
@@ -42,3 +50,20 @@ update_of_foreach var members body = ap update_of (sym (to.rolls-Foreach var mem
 
 pub updates_of_items : (us : UpdateTrees) → updates_of us ≡ nests (map update_of us.items.items)
 updates_of_items = fold_out-UpdateTrees (Nest UpdateForm) (Nests UpdateForm) update_step updates_step
+
+pub term_of_named : (s : List ℕ) → term_of (one.Named s) ≡ SNamed s
+term_of_named s = ap term_of (sym (one.rolls-Named s)) ∙ fold-roll-SetTerm SetForm (SetSign × SetForm) SetForm term_step further_step set_step (set.Named s)
+
+pub term_of_members : (xs : List (List ℕ)) → term_of (one.Members xs) ≡ SMembers xs
+term_of_members xs = ap term_of (sym (one.rolls-Members xs)) ∙ fold-roll-SetTerm SetForm (SetSign × SetForm) SetForm term_step further_step set_step (set.Members xs)
+
+pub term_of_paren : (p : Box (Unit {0}) Global) (s : SetTree) → term_of (one.Paren' p s) ≡ SParen (set_of s)
+term_of_paren p s =
+    let b : Box SetTree Global = record { ptr = p.ptr; alloc = p.alloc; value = s } in
+    ap term_of (sym (one.rolls-Paren b)) ∙ fold-roll-SetTerm SetForm (SetSign × SetForm) SetForm term_step further_step set_step (set.Paren b)
+
+pub step_of_parts : (s : SetStep) → step_of s ≡ (s.sign, term_of s.term)
+step_of_parts = fold_out-SetStep SetForm (SetSign × SetForm) SetForm term_step further_step set_step
+
+pub set_of_steps : (s : SetTree) → set_of s ≡ joined_set (term_of (out-SetTree s).first) (map step_of (out-SetTree s).more.items)
+set_of_steps = fold_out-SetTree SetForm (SetSign × SetForm) SetForm term_step further_step set_step

@@ -2,8 +2,13 @@
 use Rattle.std.specs.Prelude.{ℕ, List, [], ◌∷◌, Option, Some, None, map}
 use Rattle.tv_tree.specs.Forms.{NameForm, SetForm, SNamed, SMembers, SParen, SPlus, SMinus, Form, FZero, FOne, FHalf, FSame, FDiffer, FAtom, FStar, FPlus, FParen, FNot, FAnd, FOr, FImp, FIff, FCond, FExists, FForall, FTc, PredForm, Nest, Single, Foreach, Nests, no_nest, with_nest, DeclForm, DSet, DPred, DRule, PieceForm, Quoted, Spelled, UpdateForm, PartForm, PCaption, PFocus, PPre, PMessage, PNew, PRetain, PBlock, ActionForm, EdgeForm, ProgramForm}
 use Rattle.tv_tree.specs.declared.trees.Name.{Name}
+use Rattle.tv_tree.specs.declared.trees.SetSign.{SetSign}
+use Rattle.tv_tree.specs.declared.trees.SetSign.TheVariants as sign
+use Rattle.tv_tree.specs.declared.trees.SetTerm.{SetTerm}
+use Rattle.tv_tree.specs.declared.trees.SetTerm.TheOpen as set
+use Rattle.tv_tree.specs.declared.trees.SetTerm.TheFolds.{fold-SetTerm, fold-SetStep, fold-SetTree}
+use Rattle.tv_tree.specs.declared.trees.SetStep.{SetStep}
 use Rattle.tv_tree.specs.declared.trees.SetTree.{SetTree}
-use Rattle.tv_tree.specs.declared.trees.SetTree.TheVariants as set
 use Rattle.tv_tree.specs.declared.trees.FormulaTree.{FormulaTree}
 use Rattle.tv_tree.specs.declared.trees.FormulaTree.TheVariants.{Zero, One, Half, Same, Differ, Atom, Star, Plus, Paren', Not', And', Or', Imp', Iff', Cond', Exists', Forall', Tc'}
 use Rattle.tv_tree.specs.declared.trees.PredDecl.{PredDecl}
@@ -27,12 +32,31 @@ use Rattle.tv_tree.specs.declared.trees.Tree.{Tree}
 abbrev pub name_of : Name → NameForm
 name_of n = record { first = n.first; brackets = n.brackets }
 
+-- a set, put together with others from left to right
+abbrev pub joined_set : SetForm → List (SetSign × SetForm) → SetForm
+joined_set s [] = s
+joined_set s ((sign.Plus, t) ∷ more) = joined_set (SPlus s t) more
+joined_set s ((sign.Minus, t) ∷ more) = joined_set (SMinus s t) more
+
+abbrev pub term_step : set.SetTerm-F SetForm (SetSign × SetForm) SetForm → SetForm
+term_step (set.Named s) = SNamed s
+term_step (set.Members xs) = SMembers xs
+term_step (set.Paren s) = SParen s.value
+
+abbrev pub further_step : set.SetStep-F SetForm (SetSign × SetForm) SetForm → SetSign × SetForm
+further_step s = (s.sign, s.term)
+
+abbrev pub set_step : set.SetTree-F SetForm (SetSign × SetForm) SetForm → SetForm
+set_step s = joined_set s.first s.more.items
+
+abbrev pub term_of : SetTerm → SetForm
+term_of = fold-SetTerm SetForm (SetSign × SetForm) SetForm term_step further_step set_step
+
+abbrev pub step_of : SetStep → SetSign × SetForm
+step_of = fold-SetStep SetForm (SetSign × SetForm) SetForm term_step further_step set_step
+
 abbrev pub set_of : SetTree → SetForm
-set_of (set.Named s) = SNamed s
-set_of (set.Members xs) = SMembers xs
-set_of (set.Paren' p s) = SParen (set_of s)
-set_of (set.Plus' p s q t) = SPlus (set_of s) (set_of t)
-set_of (set.Minus' p s q t) = SMinus (set_of s) (set_of t)
+set_of = fold-SetTree SetForm (SetSign × SetForm) SetForm term_step further_step set_step
 
 abbrev pub form_of : FormulaTree → Form
 form_of Zero = FZero

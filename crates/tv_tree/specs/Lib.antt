@@ -1,3 +1,4 @@
 pub mod Forms
 pub mod Copies
 pub mod Printed
+pub mod Spelled

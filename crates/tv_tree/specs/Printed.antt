@@ -2,6 +2,8 @@
 use Rattle.std.specs.Prelude.{ℕ, ◌-◌, List, [], ◌∷◌, ◌++◌, Option, Some, None, take, length, codes, map}
 use Rattle.std.specs.List.{flat_map}
 use Rattle.tv_tree.specs.Forms.{NameForm, SetForm, SNamed, SMembers, SParen, SPlus, SMinus, Form, FZero, FOne, FHalf, FSame, FDiffer, FAtom, FStar, FPlus, FParen, FNot, FAnd, FOr, FImp, FIff, FCond, FExists, FForall, FTc, PredForm, Nest, Single, Foreach, Nests, no_nest, with_nest, DeclForm, DSet, DPred, DRule, PieceForm, Quoted, Spelled, UpdateForm, PartForm, PCaption, PFocus, PPre, PMessage, PNew, PRetain, PBlock, ActionForm, EdgeForm, ProgramForm}
+use Rattle.tv_tree.specs.declared.trees.SetSign.{SetSign}
+use Rattle.tv_tree.specs.declared.trees.SetSign.TheVariants as sign
 use Rattle.tv_tree.specs.declared.trees.PropWord.{PropWord}
 use Rattle.tv_tree.specs.declared.trees.PropWord.TheVariants.{Unique, Function, Invfunction, Abs, Nonabs, Transitive, Reflexive, Symmetric, Boxed, Pointer}
 
@@ -32,12 +34,21 @@ brackets_tokens (x ∷ xs) = codes "[" ∷ (words_tokens (x ∷ xs) ++ codes "]"
 abbrev pub name_tokens : NameForm → List (List ℕ)
 name_tokens n = n.first ∷ brackets_tokens n.brackets
 
+abbrev pub sign_token : SetSign → List ℕ
+sign_token sign.Plus = codes "+"
+sign_token sign.Minus = codes "-"
+
 abbrev pub set_tokens : SetForm → List (List ℕ)
 set_tokens (SNamed s) = s ∷ []
 set_tokens (SMembers xs) = codes "{" ∷ (words_tokens xs ++ codes "}" ∷ [])
 set_tokens (SParen s) = codes "(" ∷ (set_tokens s ++ codes ")" ∷ [])
 set_tokens (SPlus s t) = set_tokens s ++ codes "+" ∷ set_tokens t
 set_tokens (SMinus s t) = set_tokens s ++ codes "-" ∷ set_tokens t
+
+-- the further sets of an expression, each behind its sign
+abbrev pub steps_tokens : List (SetSign × SetForm) → List (List ℕ)
+steps_tokens [] = []
+steps_tokens ((s, t) ∷ more) = sign_token s ∷ (set_tokens t ++ steps_tokens more)
 
 abbrev pub pair_tokens : List ℕ → List ℕ → List (List ℕ)
 pair_tokens v w = codes "(" ∷ v ∷ codes "," ∷ w ∷ codes ")" ∷ []

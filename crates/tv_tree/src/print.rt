@@ -2,10 +2,10 @@
 
 ghost use Rattle.std.specs.Prelude.{◌≡◌, ◌++◌, ◌∷◌, [], OnOk, map, codes};
 ghost use Rattle.std.specs.List.{flat_map};
-ghost use Rattle.tv_tree.specs.Copies.{name_of, set_of, form_of, pred_of, decl_of, decls_of, piece_of, update_of, updates_of, part_of, action_of, edge_of, program_of};
-ghost use Rattle.tv_tree.specs.Printed.{spaced, ended, words_tokens, more_tokens, one_token, params_tokens, brackets_tokens, name_tokens, set_tokens, pair_tokens, formula_tokens};
+ghost use Rattle.tv_tree.specs.Copies.{name_of, set_of, term_of, form_of, pred_of, decl_of, decls_of, piece_of, update_of, updates_of, part_of, action_of, edge_of, program_of};
+ghost use Rattle.tv_tree.specs.Printed.{spaced, ended, words_tokens, more_tokens, one_token, params_tokens, brackets_tokens, name_tokens, sign_token, set_tokens, pair_tokens, formula_tokens};
 
-use crate::trees::{FormulaTree, Name, SetTree, Spelling, Spellings};
+use crate::trees::{FormulaTree, Name, SetSign, SetTerm, SetTree, Spelling};
 use std::alloc::AllocError;
 
 #[tactic(auto, unfolding(crate::specs::Printed::spaced))]
@@ -83,36 +83,169 @@ pub fn print_name(out: &mut Vec<u8>, name: &Name) -> Result<(), AllocError>
     Ok(())
 }
 
-#[tactic(auto, using(crate::proofs::Texts::spaced_push, crate::proofs::Texts::spaced_between))]
-pub fn print_set(out: &mut Vec<u8>, set: &SetTree) -> Result<(), AllocError>
-    ensures { OnOk result (out.new.items ≡ out.old.items ++ spaced (set_tokens (set_of set.now))) }
+fn sign_text(sign: SetSign) -> &'static [u8]
+    ensures { result.now ≡ sign_token sign }
 {
-    match set {
-        SetTree::Named(name) => print_token(out, &name.0),
-        SetTree::Members(members) => {
+    match sign {
+        SetSign::Plus => b"+",
+        SetSign::Minus => b"-",
+    }
+}
+
+#[cycle(set)]
+#[tactic(auto, using(crate::proofs::Texts::spaced_push, crate::proofs::Texts::spaced_between, crate::proofs::Unfolds::term_of_named, crate::proofs::Unfolds::term_of_members, crate::proofs::Unfolds::term_of_paren))]
+fn print_term(out: &mut Vec<u8>, term: &SetTerm) -> Result<(), AllocError>
+    ensures { OnOk result (out.new.items ≡ out.old.items ++ spaced (set_tokens (term_of term.now))) }
+{
+    match term {
+        SetTerm::Named(name) => print_token(out, &name.0),
+        SetTerm::Members(members) => {
             print_token(out, b"{")?;
             print_words(out, members.as_slice())?;
             print_token(out, b"}")
         }
-        SetTree::Paren(inner) => {
+        SetTerm::Paren(inner) => {
             print_token(out, b"(")?;
             print_set(out, inner)?;
             print_token(out, b")")
         }
-        SetTree::Plus(left, right) => {
-            print_set(out, left)?;
-            print_token(out, b"+")?;
-            print_set(out, right)
-        }
-        SetTree::Minus(left, right) => {
-            print_set(out, left)?;
-            print_token(out, b"-")?;
-            print_set(out, right)
-        }
     }
 }
 
+#[cycle(set)]
+#[tactic(auto, using(crate::proofs::Texts::steps_start, crate::proofs::Texts::steps_step, crate::proofs::Texts::steps_done, crate::proofs::Unfolds::set_of_steps))]
+pub fn print_set(out: &mut Vec<u8>, set: &SetTree) -> Result<(), AllocError>
+    ensures { OnOk result (out.new.items ≡ out.old.items ++ spaced (set_tokens (set_of set.now))) }
+{
+    print_term(out, &set.first)?;
+    for step in &set.more {
+        print_token(out, sign_text(step.sign))?;
+        print_term(out, &step.term)?;
+    }
+    Ok(())
+}
+
+#[cycle(formula)]
 #[tactic(auto, using(crate::proofs::Texts::spaced_push, crate::proofs::Texts::spaced_between))]
+fn print_between(
+    out: &mut Vec<u8>,
+    left: &FormulaTree,
+    mark: &[u8],
+    right: &FormulaTree,
+) -> Result<(), AllocError>
+    ensures { OnOk result (out.new.items ≡ out.old.items ++ spaced (formula_tokens (form_of left.now) ++ mark.now ∷ formula_tokens (form_of right.now))) }
+{
+    print_formula(out, left)?;
+    print_token(out, mark)?;
+    print_formula(out, right)
+}
+
+#[cycle(formula)]
+#[tactic(auto, using(crate::proofs::Texts::spaced_push, crate::proofs::Texts::spaced_between))]
+fn print_conditional(
+    out: &mut Vec<u8>,
+    test: &FormulaTree,
+    yes: &FormulaTree,
+    no: &FormulaTree,
+) -> Result<(), AllocError>
+    ensures { OnOk result (out.new.items ≡ out.old.items ++ spaced (formula_tokens (form_of test.now) ++ codes "?" ∷ (formula_tokens (form_of yes.now) ++ codes ":" ∷ formula_tokens (form_of no.now)))) }
+{
+    print_formula(out, test)?;
+    print_token(out, b"?")?;
+    print_formula(out, yes)?;
+    print_token(out, b":")?;
+    print_formula(out, no)
+}
+
+#[tactic(auto, using(crate::proofs::Texts::spaced_push))]
+fn print_words_between(
+    out: &mut Vec<u8>,
+    left: &Spelling,
+    mark: &[u8],
+    right: &Spelling,
+) -> Result<(), AllocError>
+    ensures { OnOk result (out.new.items ≡ out.old.items ++ spaced (left.now ∷ mark.now ∷ right.now ∷ [])) }
+{
+    print_token(out, &left.0)?;
+    print_token(out, mark)?;
+    print_token(out, &right.0)
+}
+
+#[tactic(auto, using(crate::proofs::Texts::spaced_push))]
+fn print_atom(out: &mut Vec<u8>, name: &Name, arguments: &[Spelling]) -> Result<(), AllocError>
+    ensures { OnOk result (out.new.items ≡ out.old.items ++ spaced (name_tokens (name_of name.now) ++ params_tokens arguments.now)) }
+{
+    print_name(out, name)?;
+    print_params(out, arguments)
+}
+
+#[tactic(auto, using(crate::proofs::Texts::spaced_push, crate::proofs::Texts::spaced_between))]
+fn print_closed(
+    out: &mut Vec<u8>,
+    name: &Name,
+    mark: &[u8],
+    from: &Spelling,
+    to: &Spelling,
+) -> Result<(), AllocError>
+    ensures { OnOk result (out.new.items ≡ out.old.items ++ spaced (name_tokens (name_of name.now) ++ mark.now ∷ pair_tokens from.now to.now)) }
+{
+    print_name(out, name)?;
+    print_token(out, mark)?;
+    print_pair(out, from, to)
+}
+
+// What stands before the body of a closure.
+#[tactic(auto, using(crate::proofs::Texts::spaced_push))]
+fn print_closure_head(
+    out: &mut Vec<u8>,
+    from: &Spelling,
+    to: &Spelling,
+    left: &Spelling,
+    right: &Spelling,
+) -> Result<(), AllocError>
+    ensures { OnOk result (out.new.items ≡ out.old.items ++ spaced (codes "TC" ∷ (pair_tokens from.now to.now ++ pair_tokens left.now right.now))) }
+{
+    print_token(out, b"TC")?;
+    print_pair(out, from, to)?;
+    print_pair(out, left, right)
+}
+
+#[cycle(formula)]
+#[tactic(auto, using(crate::proofs::Texts::spaced_push))]
+fn print_quantified(
+    out: &mut Vec<u8>,
+    word: &[u8],
+    vars: &[Spelling],
+    body: &FormulaTree,
+) -> Result<(), AllocError>
+    ensures { OnOk result (out.new.items ≡ out.old.items ++ spaced (word.now ∷ (params_tokens vars.now ++ formula_tokens (form_of body.now)))) }
+{
+    print_token(out, word)?;
+    print_params(out, vars)?;
+    print_formula(out, body)
+}
+
+#[cycle(formula)]
+#[tactic(auto, using(crate::proofs::Texts::spaced_push, crate::proofs::Texts::spaced_between))]
+fn print_in_parentheses(out: &mut Vec<u8>, inner: &FormulaTree) -> Result<(), AllocError>
+    ensures { OnOk result (out.new.items ≡ out.old.items ++ spaced (codes "(" ∷ (formula_tokens (form_of inner.now) ++ codes ")" ∷ []))) }
+{
+    print_token(out, b"(")?;
+    print_formula(out, inner)?;
+    print_token(out, b")")
+}
+
+#[cycle(formula)]
+#[tactic(auto, using(crate::proofs::Texts::spaced_push))]
+fn print_negation(out: &mut Vec<u8>, inner: &FormulaTree) -> Result<(), AllocError>
+    ensures { OnOk result (out.new.items ≡ out.old.items ++ spaced (codes "!" ∷ formula_tokens (form_of inner.now))) }
+{
+    print_token(out, b"!")?;
+    print_formula(out, inner)
+}
+
+#[cycle(formula)]
+#[tactic(auto, using(crate::proofs::Texts::spaced_push, crate::proofs::Texts::spaced_between, crate::proofs::Texts::closure_parts))]
 pub fn print_formula(out: &mut Vec<u8>, formula: &FormulaTree) -> Result<(), AllocError>
     ensures { OnOk result (out.new.items ≡ out.old.items ++ spaced (formula_tokens (form_of formula.now))) }
 {
@@ -120,76 +253,20 @@ pub fn print_formula(out: &mut Vec<u8>, formula: &FormulaTree) -> Result<(), All
         FormulaTree::Zero => print_token(out, b"0"),
         FormulaTree::One => print_token(out, b"1"),
         FormulaTree::Half => print_token(out, b"1/2"),
-        FormulaTree::Same(left, right) => {
-            print_token(out, &left.0)?;
-            print_token(out, b"==")?;
-            print_token(out, &right.0)
-        }
-        FormulaTree::Differ(left, right) => {
-            print_token(out, &left.0)?;
-            print_token(out, b"!=")?;
-            print_token(out, &right.0)
-        }
-        FormulaTree::Atom(name, arguments) => {
-            print_name(out, name)?;
-            print_params(out, arguments.as_slice())
-        }
-        FormulaTree::Star(name, left, right) => {
-            print_name(out, name)?;
-            print_token(out, b"*")?;
-            print_pair(out, left, right)
-        }
-        FormulaTree::Plus(name, left, right) => {
-            print_name(out, name)?;
-            print_token(out, b"+")?;
-            print_pair(out, left, right)
-        }
-        FormulaTree::Paren(inner) => {
-            print_token(out, b"(")?;
-            print_formula(out, inner)?;
-            print_token(out, b")")
-        }
-        FormulaTree::Not(inner) => {
-            print_token(out, b"!")?;
-            print_formula(out, inner)
-        }
-        FormulaTree::And(left, right) => {
-            print_formula(out, left)?;
-            print_token(out, b"&")?;
-            print_formula(out, right)
-        }
-        FormulaTree::Or(left, right) => {
-            print_formula(out, left)?;
-            print_token(out, b"|")?;
-            print_formula(out, right)
-        }
-        FormulaTree::Imp(left, right) => {
-            print_formula(out, left)?;
-            print_token(out, b"->")?;
-            print_formula(out, right)
-        }
-        FormulaTree::Iff(left, right) => {
-            print_formula(out, left)?;
-            print_token(out, b"<->")?;
-            print_formula(out, right)
-        }
-        FormulaTree::Cond(test, yes, no) => {
-            print_formula(out, test)?;
-            print_token(out, b"?")?;
-            print_formula(out, yes)?;
-            print_token(out, b":")?;
-            print_formula(out, no)
-        }
-        FormulaTree::Exists(variables, body) => {
-            print_token(out, b"E")?;
-            print_params(out, variables.as_slice())?;
-            print_formula(out, body)
-        }
-        FormulaTree::Forall(variables, body) => {
-            print_token(out, b"A")?;
-            print_params(out, variables.as_slice())?;
-            print_formula(out, body)
-        }
+        FormulaTree::Same(left, right) => print_words_between(out, left, b"==", right),
+        FormulaTree::Differ(left, right) => print_words_between(out, left, b"!=", right),
+        FormulaTree::Atom(name, arguments) => print_atom(out, name, arguments.as_slice()),
+        FormulaTree::Star(name, from, to) => print_closed(out, name, b"*", from, to),
+        FormulaTree::Plus(name, from, to) => print_closed(out, name, b"+", from, to),
+        FormulaTree::Paren(inner) => print_in_parentheses(out, inner),
+        FormulaTree::Not(inner) => print_negation(out, inner),
+        FormulaTree::And(left, right) => print_between(out, left, b"&", right),
+        FormulaTree::Or(left, right) => print_between(out, left, b"|", right),
+        FormulaTree::Imp(left, right) => print_between(out, left, b"->", right),
+        FormulaTree::Iff(left, right) => print_between(out, left, b"<->", right),
+        FormulaTree::Cond(test, yes, no) => print_conditional(out, test, yes, no),
+        FormulaTree::Exists(vars, body) => print_quantified(out, b"E", vars.as_slice(), body),
+        FormulaTree::Forall(vars, body) => print_quantified(out, b"A", vars.as_slice(), body),
         FormulaTree::Tc {
             from,
             to,
@@ -197,9 +274,7 @@ pub fn print_formula(out: &mut Vec<u8>, formula: &FormulaTree) -> Result<(), All
             right,
             body,
         } => {
-            print_token(out, b"TC")?;
-            print_pair(out, from, to)?;
-            print_pair(out, left, right)?;
+            print_closure_head(out, from, to, left, right)?;
             print_formula(out, body)
         }
     }

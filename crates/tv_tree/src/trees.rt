@@ -1,7 +1,7 @@
 //! The tree of a program: its terminals are dropped, and its parentheses are kept.
 
-use crate::items::Items;
 use std::marker::Model;
+use tv_model::Items;
 
 /// The bytes of an identifier or a word, or those of a text without its quotes.
 #[derive(Drop, Debug)]
@@ -25,14 +25,39 @@ pub struct Name {
     pub brackets: Spellings,
 }
 
-/// An expression for a set of identifiers.
+/// What is done with a further set of an expression.
+#[derive(Clone, Copy, Debug, PartialEq, Eq)]
+pub enum SetSign {
+    /// Its members are put in.
+    Plus,
+    /// Its members are taken out.
+    Minus,
+}
+
+/// A set by itself.
+#[cycle(set)]
 #[derive(Drop, Debug)]
-pub enum SetTree {
+pub enum SetTerm {
     Named(Spelling),
     Members(Spellings),
     Paren(Box<SetTree>),
-    Plus(Box<SetTree>, Box<SetTree>),
-    Minus(Box<SetTree>, Box<SetTree>),
+}
+
+/// A further set of an expression, and its sign.
+#[cycle(set)]
+#[derive(Drop, Debug)]
+pub struct SetStep {
+    pub sign: SetSign,
+    pub term: SetTerm,
+}
+
+/// An expression for a set of identifiers: its first set, and the others from left to right. These are a list, since a
+/// text may have millions of them, and each walk along them is a loop.
+#[cycle(set)]
+#[derive(Drop, Debug)]
+pub struct SetTree {
+    pub first: SetTerm,
+    pub more: Vec<SetStep>,
 }
 
 /// A formula as it is written.

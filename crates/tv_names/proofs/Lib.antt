@@ -1,0 +1,5 @@
+pub mod SlotLaws
+pub mod SymbolLaws
+pub mod Weights
+pub mod PickLaws
+pub mod Loops

@@ -1,0 +1,67 @@
+-- The predicate of a name, as the map finds it.
+use Rattle.std.proofs.Common.{◌≡◌, ℕ, zero, suc, ◌+◌, ◌<◌, ◌≤◌, Bool, true, false, get_or, List, [], ◌∷◌, ◌++◌, length, map, Option, Some, None, refl, ap, sym, ◌∙◌, cond, arith, append_assoc, drop, add-one, drop-cons}
+use Rattle.std.specs.List.{slice_get}
+use Rattle.std.proofs.lemmas.List.{append-nil, drop_all, length-map, get_or-map}
+use Rattle.std.proofs.lemmas.Option.{get_or_from_slice_get}
+use Rattle.std.specs.Option.{option_map}
+use Rattle.std.specs.Str.{bytes_eq}
+use Rattle.std.specs.Global.{Vec}
+use Rattle.std.specs.Map.{lookup, keys_of}
+use Rattle.std.specs.List.{position}
+use Rattle.std.proofs.lemmas.List.Quantifiers.{position-Some}
+use Rattle.tv_names.specs.Symbols.{SymbolForm, KnownForm, symbol_of, behind_commas, brackets_text}
+use Rattle.tv_names.specs.Copies.{symbol_form}
+
+-- the entry at i is the first of this name
+pub symbol_first : (name : List ℕ) (es : List (Vec ℕ × ℕ)) (i : ℕ) (e : Vec ℕ × ℕ) → slice_get es i ≡ Some e → bytes_eq name e.0.items ≡ true → ((k : ℕ) → k < i → (d : Vec ℕ × ℕ) → bytes_eq name (get_or es k d).0.items ≡ false) → symbol_of name (map symbol_form es) ≡ Some (record { pred = i; arity = e.1 })
+symbol_first name [] i e at same_name before = absurd cc
+symbol_first name (x ∷ es) zero e at same_name before =
+    let same : x ≡ e = cc in
+    let h : bytes_eq name x.0.items ≡ true = ap (λ (y : Vec ℕ × ℕ). bytes_eq name y.0.items) same ∙ same_name in
+    rw h (ap (λ (y : Vec ℕ × ℕ). Some (record { pred = 0; arity = y.1 })) same)
+symbol_first name (x ∷ es) (suc i) e at same_name before =
+    let h : bytes_eq name x.0.items ≡ false = before 0 (omega arith) x in
+    let rest = symbol_first name es i e at same_name (λ k lt d. before (suc k) (omega arith) d) in
+    let g : i + 1 ≡ suc i = omega arith in
+    rw (h, rest) (ap (λ (n : ℕ). Some (record { pred = n; arity = e.1 })) g)
+
+absent_by : (name : List ℕ) (x : Vec ℕ × ℕ) (es : List (Vec ℕ × ℕ)) → (lookup (λ (k : Vec ℕ). bytes_eq name k.items) es ≡ None → symbol_of name (map symbol_form es) ≡ None) → (b : Bool) → bytes_eq name x.0.items ≡ b → lookup (λ (k : Vec ℕ). bytes_eq name k.items) (x ∷ es) ≡ None → symbol_of name (map symbol_form (x ∷ es)) ≡ None
+absent_by name x es rest true h none = absurd (let k = rw h at none in cc)
+absent_by name x es rest false h none = let k = rw h at none in rw (h, rest k) refl
+
+pub symbol_absent : (name : List ℕ) (es : List (Vec ℕ × ℕ)) → lookup (λ (k : Vec ℕ). bytes_eq name k.items) es ≡ None → symbol_of name (map symbol_form es) ≡ None
+symbol_absent name [] none = refl
+symbol_absent name (x ∷ es) none = absent_by name x es (symbol_absent name es) (bytes_eq name x.0.items) refl none
+
+new_by : (name : List ℕ) (x : Vec ℕ × ℕ) (es : List (Vec ℕ × ℕ)) → (symbol_of name (map symbol_form es) ≡ None → lookup (λ (k : Vec ℕ). bytes_eq name k.items) es ≡ None) → (b : Bool) → bytes_eq name x.0.items ≡ b → (r : Option KnownForm) → symbol_of name (map symbol_form es) ≡ r → symbol_of name (map symbol_form (x ∷ es)) ≡ None → lookup (λ (k : Vec ℕ). bytes_eq name k.items) (x ∷ es) ≡ None
+new_by name x es rest true h r e none = absurd (let k = rw h at none in cc)
+new_by name x es rest false h None e none = rw h (rest e)
+new_by name x es rest false h (Some y) e none = absurd (let k = rw (h, e) at none in cc)
+
+pub symbol_new : (name : List ℕ) (es : List (Vec ℕ × ℕ)) → symbol_of name (map symbol_form es) ≡ None → lookup (λ (k : Vec ℕ). bytes_eq name k.items) es ≡ None
+symbol_new name [] none = refl
+symbol_new name (x ∷ es) none = new_by name x es (symbol_new name es) (bytes_eq name x.0.items) refl (symbol_of name (map symbol_form es)) refl none
+
+drop_more : (xs : List (List ℕ)) (i : ℕ) (x : List ℕ) → i < length xs → x ≡ get_or xs i x → drop i xs ≡ x ∷ drop (i + 1) xs
+drop_more xs i x lt is = rw add-one (drop-cons xs i x lt ∙ ap (λ (y : List ℕ). y ∷ drop (suc i) xs) (sym is))
+
+pub words_step : (text : List ℕ) (xs : List (List ℕ)) (i : ℕ) (x : List ℕ) → i < length xs → x ≡ get_or xs i x → ((text ++ 44 ∷ []) ++ x) ++ behind_commas (drop (i + 1) xs) ≡ text ++ behind_commas (drop i xs)
+words_step text xs i x lt is =
+    rw (drop_more xs i x lt is) (append_assoc (text ++ 44 ∷ []) x (behind_commas (drop (i + 1) xs)) ∙ append_assoc text (44 ∷ []) (x ++ behind_commas (drop (i + 1) xs)))
+
+pub words_done : (text : List ℕ) (xs : List (List ℕ)) (i : ℕ) → length xs ≤ i → text ++ behind_commas (drop i xs) ≡ text
+words_done text xs i past = rw (drop_all i xs past) (append-nil text)
+
+pub brackets_done : (text x : List ℕ) (xs : List (List ℕ)) → (((text ++ 91 ∷ []) ++ x) ++ behind_commas xs) ++ 93 ∷ [] ≡ text ++ brackets_text (x ∷ xs)
+brackets_done text x xs = simp append_assoc
+
+-- the entry at the place of this name
+pub symbol_found : (name : List ℕ) (es : List (Vec ℕ × ℕ)) (i : ℕ) (e : Vec ℕ × ℕ) → Some i ≡ position (λ (k : Vec ℕ). bytes_eq name k.items) (keys_of es) → slice_get es i ≡ Some e → symbol_of name (map symbol_form es) ≡ Some (record { pred = i; arity = e.1 })
+symbol_found name es i e at is =
+    let p = position-Some (λ (k : Vec ℕ). bytes_eq name k.items) (keys_of es) i e.0 (sym at) in
+    let lt : i < length es = omega (arith, length-map es (λ (q : Vec ℕ × ℕ). q.0), p.0) in
+    let here : get_or es i e ≡ e = get_or_from_slice_get es i e e is in
+    let key : get_or (keys_of es) i e.0 ≡ e.0 = get_or-map (λ (q : Vec ℕ × ℕ). q.0) es i e e.0 lt ∙ ap (λ (q : Vec ℕ × ℕ). q.0) here in
+    symbol_first name es i e is
+    (ap (λ (k : Vec ℕ). bytes_eq name k.items) (sym key) ∙ p.1)
+    (λ k below d. ap (λ (q : Vec ℕ). bytes_eq name q.items) (sym (get_or-map (λ (q : Vec ℕ × ℕ). q.0) es k d e.0 (omega arith))) ∙ p.2 k below)

@@ -1,0 +1,43 @@
+-- Steps that may be refused, one after the other: the first refusal decides.
+use Rattle.std.specs.Prelude.{◌≡◌, List, [], ◌∷◌, ◌++◌, Bool, Result, Ok, Err, Option, Some, None, if◌then◌else◌}
+use Rattle.tv_names.specs.declared.refusal.ResolveError.{ResolveError}
+use Rattle.tv_names.specs.declared.refusal.ResolveError.TheVariants.{Memory}
+
+-- what a step gives, or why it is refused
+abbrev pub OrRefused : Type 0 → Type 0
+OrRefused A = Result A ResolveError
+
+infixl 10 ◌>>=◌
+abbrev pub ◌>>=◌ : {A B : Type 0} → OrRefused A → (A → OrRefused B) → OrRefused B
+◌>>=◌ (Ok x) f = f x
+◌>>=◌ (Err e) f = Err e
+
+-- goes on only where the flag is false
+abbrev pub refused_if : Bool → ResolveError → OrRefused (Unit {0})
+refused_if wrong e = if wrong then Err e else Ok tt
+
+abbrev pub or_refused : {A : Type 0} → Option A → ResolveError → OrRefused A
+or_refused None e = Err e
+or_refused (Some x) e = Ok x
+
+-- the refusal is the one that is defined; of want of memory nothing is said
+abbrev pub Refuses : {Y : Type 0} → ResolveError → OrRefused Y → Type 0
+Refuses Memory defined = Unit {0}
+Refuses e defined = defined ≡ Err e
+
+-- what a function returned, seen by view, is what is defined, unless memory ran out
+abbrev pub Gives : {X Y : Type 0} → (X → Y) → OrRefused X → OrRefused Y → Type 0
+Gives view (Ok x) defined = defined ≡ Ok (view x)
+Gives view (Err e) defined = Refuses e defined
+
+-- each in its order, up to the first refusal
+abbrev pub one_by_one : {S A : Type 0} → (S → A → OrRefused S) → S → List A → OrRefused S
+one_by_one step s [] = Ok s
+one_by_one step s (x ∷ xs) = step s x >>= λ t. one_by_one step t xs
+
+abbrev pub put_behind : {A B : Type 0} → (A → OrRefused B) → List B → A → OrRefused (List B)
+put_behind step done x = step x >>= λ y. Ok (done ++ y ∷ [])
+
+-- what each gives, in their order, up to the first refusal
+abbrev pub each : {A B : Type 0} → (A → OrRefused B) → List A → OrRefused (List B)
+each step xs = one_by_one (put_behind step) [] xs

@@ -1,0 +1,48 @@
+-- The names of predicates: how they are spelled, and the numbers that they have.
+use Rattle.std.specs.Prelude.{ℕ, ◌+◌, Bool, ◌||◌, List, [], ◌∷◌, ◌++◌, Option, Some, None, codes, if◌then◌else◌}
+use Rattle.std.specs.Option.{option_map}
+use Rattle.std.specs.Str.{bytes_eq}
+use Rattle.tv_tree.specs.Forms.{NameForm}
+
+-- words, each behind a comma
+abbrev pub behind_commas : List (List ℕ) → List ℕ
+behind_commas [] = []
+behind_commas (x ∷ xs) = (44 ∷ x) ++ behind_commas xs
+
+abbrev pub brackets_text : List (List ℕ) → List ℕ
+brackets_text [] = []
+brackets_text (x ∷ xs) = 91 ∷ ((x ++ behind_commas xs) ++ 93 ∷ [])
+
+-- the text of a name: its identifier, and those in brackets behind it, parted by commas
+abbrev pub name_text : NameForm → List ℕ
+name_text name = name.first ++ brackets_text name.brackets
+
+abbrev pub is_sm : List ℕ → Bool
+is_sm name = bytes_eq name (codes "sm")
+
+abbrev pub is_new_word : List ℕ → Bool
+is_new_word name = bytes_eq name (codes "isNew")
+
+-- the names that no predicate may have
+abbrev pub is_reserved : List ℕ → Bool
+is_reserved name = is_sm name || is_new_word name
+
+-- a predicate that is declared
+pub record SymbolForm : Type 0 where
+  pub name : List ℕ
+  pub arity : ℕ
+
+-- the number of a predicate, and its arity
+pub record KnownForm : Type 0 where
+  pub pred : ℕ
+  pub arity : ℕ
+
+abbrev pub behind_one : KnownForm → KnownForm
+behind_one known = record { pred = known.pred + 1; arity = known.arity }
+
+-- the predicate of this name; its number is its place
+abbrev pub symbol_of : List ℕ → List SymbolForm → Option KnownForm
+symbol_of name [] = None
+symbol_of name (s ∷ symbols) =
+    if bytes_eq name s.name then Some (record { pred = 0; arity = s.arity })
+    else option_map behind_one (symbol_of name symbols)

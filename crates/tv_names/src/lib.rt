@@ -1,0 +1,19 @@
+//! The numbers of predicates and of variables, and the resolution of one formula.
+#![tactic(auto)]
+
+mod formula;
+mod naming;
+mod picks;
+mod place;
+mod refusal;
+mod symbols;
+
+pub use formula::resolve_formula;
+pub use naming::{Naming, Slot};
+pub use picks::picks_in;
+pub use place::{Known, Others, Place};
+pub use refusal::ResolveError;
+pub use symbols::{KnownSymbol, Symbols, is_among, is_new_word, is_reserved, is_sm, name_text};
+
+#[cfg(test)]
+mod tests;
