@@ -1,0 +1,50 @@
+-- What the working values of the code stand for, without where their words lie in memory.
+use Rattle.std.specs.Prelude.{ℕ, List, map}
+use Rattle.std.specs.Borrow.{Bor}
+use Rattle.std.specs.Global.{Vec}
+use Rattle.std.specs.declared.hash.FoldHasher.{FoldHasher}
+use Rattle.std.specs.declared.hash.BuildHasherDefault.{BuildHasherDefault}
+use Rattle.indexmap.specs.IndexSet.{IndexSet}
+use Rattle.tv_tree.specs.declared.trees.ActionTree.{ActionTree}
+use Rattle.tv_tree.specs.declared.trees.SetSign.{SetSign}
+use Rattle.tv_tree.specs.declared.trees.SetSign.TheVariants as sign
+use Rattle.tv_tree.specs.Forms.{ActionForm}
+use Rattle.tv_tree.specs.Copies.{action_of}
+use Rattle.tv_expand.specs.declared.words.Bound.{Bound}
+use Rattle.tv_expand.specs.Expansion.{Actions}
+use Rattle.tv_expand.specs.Sets.{Binding, Sets, with_members, without_members}
+
+abbrev pub names_of : List (Bor (List ℕ)) → List (List ℕ)
+names_of names = map (λ name. name.now) names
+
+abbrev pub pair_of : Bound → List ℕ × List ℕ
+pair_of b = (b.word.now, b.by.now)
+
+abbrev pub binding_of : List Bound → Binding
+binding_of bs = map pair_of bs
+
+abbrev pub WordSet : Type 0
+WordSet = IndexSet (Bor (List ℕ)) (BuildHasherDefault FoldHasher)
+
+abbrev pub entry_of : Bor (List ℕ) × WordSet → List ℕ × List (List ℕ)
+entry_of e = (e.0.now, names_of e.1.keys)
+
+abbrev pub sets_of : List (Bor (List ℕ) × WordSet) → Sets
+sets_of entries = map entry_of entries
+
+-- a set, with a further one put in or taken out
+abbrev pub signed : SetSign → List (List ℕ) → List (List ℕ) → List (List ℕ)
+signed sign.Plus xs ys = with_members xs ys
+signed sign.Minus xs ys = without_members xs ys
+
+abbrev pub action_entry_of : Bor (List ℕ) × Bor ActionTree → List ℕ × ActionForm
+action_entry_of e = (e.0.now, action_of e.1.now)
+
+abbrev pub actions_of : List (Bor (List ℕ) × Bor ActionTree) → Actions
+actions_of entries = map action_entry_of entries
+
+abbrev pub call_of : Vec (Bor (List ℕ)) → List (List ℕ)
+call_of words = names_of words.items
+
+abbrev pub calls_of : List (Vec (Bor (List ℕ))) → List (List (List ℕ))
+calls_of calls = map call_of calls

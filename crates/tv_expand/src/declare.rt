@@ -1,0 +1,167 @@
+//! Declarations, one after the other.
+
+ghost use Rattle.std.specs.Prelude.{◌≡◌, [], ◌∷◌, ◌++◌};
+ghost use Rattle.tv_tree.specs.Forms.{DSet, DPred, DRule};
+ghost use Rattle.tv_tree.specs.Copies.{set_of, form_of, pred_of, decl_of, decls_of};
+ghost use Rattle.tv_expand.specs.Outcome.{Gives, each};
+ghost use Rattle.tv_expand.specs.Expansion.{nothing_declared, declared, sets_in, unrolled_nest, all_declared};
+ghost use Rattle.tv_expand.specs.Views.{names_of, binding_of};
+ghost use Rattle.tv_expand.specs.States.{declared_of};
+
+use crate::copies::{flat_formula, flat_pred};
+use crate::error::ExpandError;
+use crate::room::{MAX_ITEMS, MAX_NODES, Room};
+use crate::sets::{Sets, add_set, is_declared, members};
+use crate::words::{Bound, bind};
+use indexmap::IndexMap;
+use std::alloc::Global;
+use tv_tree::trees::{Decl, Decls, PredDecl, RuleDecl, SetTree, Spelling};
+
+/// What is declared so far.
+#[derive(Drop)]
+pub struct Declared<'a> {
+    pub sets: Sets<'a>,
+    pub preds: Vec<PredDecl>,
+    pub rules: Vec<RuleDecl>,
+    pub room: Room,
+}
+
+/// A state in which nothing is declared.
+pub fn nothing_declared<'a>(alloc: Global) -> Declared<'a>
+    ensures { declared_of result ≡ nothing_declared }
+{
+    Declared {
+        sets: IndexMap::new(alloc),
+        preds: Vec::new(alloc),
+        rules: Vec::new(alloc),
+        room: Room {
+            items: MAX_ITEMS,
+            nodes: MAX_NODES,
+        },
+    }
+}
+
+fn declare_set<'a>(
+    alloc: Global,
+    state: &mut Declared<'a>,
+    binding: &[Bound<'a>],
+    name: &'a Spelling,
+    set: &'a SetTree,
+) -> Result<(), ExpandError>
+    ensures { Gives (λ _. declared_of state.new) result (declared (binding_of binding.now) (DSet name.now (set_of set.now)) (declared_of state.old)) }
+{
+    if is_declared(&state.sets, &name.0) {
+        return Err(ExpandError::NameTwice);
+    }
+    let found = members(alloc, &state.sets, binding, set)?;
+    add_set(&mut state.sets, &name.0, found)?;
+    Ok(())
+}
+
+fn declare_pred<'a>(
+    alloc: Global,
+    state: &mut Declared<'a>,
+    binding: &[Bound<'a>],
+    pred: &PredDecl,
+) -> Result<(), ExpandError>
+    ensures { Gives (λ _. declared_of state.new) result (declared (binding_of binding.now) (DPred (pred_of pred.now)) (declared_of state.old)) }
+{
+    let room = state.room.count_pred(pred)?;
+    let flat = flat_pred(alloc, binding, pred)?;
+    state.preds.push(flat)?;
+    state.room = room;
+    Ok(())
+}
+
+fn declare_rule<'a>(
+    alloc: Global,
+    state: &mut Declared<'a>,
+    binding: &[Bound<'a>],
+    rule: &RuleDecl,
+) -> Result<(), ExpandError>
+    ensures { Gives (λ _. declared_of state.new) result (declared (binding_of binding.now) (DRule (form_of rule.now.body) (form_of rule.now.head)) (declared_of state.old)) }
+{
+    let room = state.room.count_rule(&rule.body, &rule.head)?;
+    let body = flat_formula(alloc, binding, &rule.body)?;
+    let head = flat_formula(alloc, binding, &rule.head)?;
+    state.rules.push(RuleDecl { body, head })?;
+    state.room = room;
+    Ok(())
+}
+
+// The body of a foreach, for one member.
+#[cycle(declare)]
+fn declare_for<'a>(
+    alloc: Global,
+    state: &mut Declared<'a>,
+    binding: &[Bound<'a>],
+    var: &'a Spelling,
+    word: &'a [u8],
+    body: &'a Decls,
+) -> Result<(), ExpandError>
+    ensures { Gives (λ _. declared_of state.new) result (all_declared (binding_of binding.now ++ (var.now, word.now) ∷ []) (decls_of body.now) (declared_of state.old)) }
+{
+    let inner = bind(alloc, binding, &var.0, word)?;
+    declare_all(alloc, state, inner.as_slice(), body)
+}
+
+#[cycle(declare)]
+fn declare_each<'a>(
+    alloc: Global,
+    state: &mut Declared<'a>,
+    binding: &[Bound<'a>],
+    var: &'a Spelling,
+    words: &[&'a [u8]],
+    body: &'a Decls,
+) -> Result<(), ExpandError>
+    ensures { Gives (λ _. declared_of state.new) result (each (λ x. all_declared (binding_of binding.now ++ (var.now, x) ∷ []) (decls_of body.now)) (names_of words.now) (declared_of state.old)) }
+{
+    for word in words {
+        declare_for(alloc, state, binding, var, *word, body)?;
+    }
+    Ok(())
+}
+
+#[cycle(declare)]
+#[tactic(auto, using(tv_tree::proofs::Unfolds::decl_of_set, tv_tree::proofs::Unfolds::decl_of_pred, tv_tree::proofs::Unfolds::decl_of_rule, tv_tree::proofs::Unfolds::decl_of_foreach))]
+fn declare<'a>(
+    alloc: Global,
+    state: &mut Declared<'a>,
+    binding: &[Bound<'a>],
+    decl: &'a Decl,
+) -> Result<(), ExpandError>
+    ensures { Gives (λ _. declared_of state.new) result (unrolled_nest sets_in declared (binding_of binding.now) (decl_of decl.now) (declared_of state.old)) }
+{
+    match decl {
+        Decl::SetDecl { name, members: set } => declare_set(alloc, state, binding, name, set),
+        Decl::Pred(pred) => declare_pred(alloc, state, binding, pred),
+        Decl::Rule(rule) => declare_rule(alloc, state, binding, rule),
+        Decl::Foreach {
+            var,
+            members: set,
+            body,
+        } => {
+            let words = members(alloc, &state.sets, binding, set)?;
+            declare_each(alloc, state, binding, var, words.as_slice(), body)
+        }
+    }
+}
+
+/// Takes up the declarations in order.
+///
+/// # Errors
+/// The first refusal.
+#[cycle(declare)]
+pub fn declare_all<'a>(
+    alloc: Global,
+    state: &mut Declared<'a>,
+    binding: &[Bound<'a>],
+    decls: &'a Decls,
+) -> Result<(), ExpandError>
+    ensures { Gives (λ _. declared_of state.new) result (all_declared (binding_of binding.now) (decls_of decls.now) (declared_of state.old)) }
+{
+    for decl in &decls.items {
+        declare(alloc, state, binding, decl)?;
+    }
+    Ok(())
+}

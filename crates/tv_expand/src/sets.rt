@@ -1,0 +1,91 @@
+//! The members of expressions for sets.
+
+ghost use Rattle.std.specs.Prelude.{◌≡◌, [], ◌∷◌, ◌++◌, map, false, is_some, Ok, OnOk};
+ghost use Rattle.tv_tree.specs.Copies.{term_of, set_of};
+ghost use Rattle.tv_expand.specs.Outcome.{Gives};
+ghost use Rattle.tv_expand.specs.Sets.{find_set, known, members_of, with_members, replaced};
+ghost use Rattle.tv_expand.specs.Views.{names_of, binding_of, sets_of};
+
+use crate::error::ExpandError;
+use crate::words::{Bound, Words, add_replaced, signed};
+use indexmap::{IndexMap, IndexSet};
+use std::alloc::{AllocError, Global};
+use tv_tree::trees::{SetTerm, SetTree, Spelling};
+
+/// The sets that are declared so far, each with its members.
+pub type Sets<'a> = IndexMap<&'a [u8], Words<'a>>;
+
+fn known_members<'a>(sets: &Sets<'a>, name: &[u8]) -> Result<Words<'a>, ExpandError>
+    ensures { Gives (λ found. names_of found.keys) result (known (find_set (sets_of sets.now.entries) name.now)) }
+{
+    match sets.get(name) {
+        Some(words) => Ok(words.clone()?),
+        None => Err(ExpandError::NameUnknown),
+    }
+}
+
+fn replaced_members<'a>(
+    alloc: Global,
+    binding: &[Bound<'a>],
+    words: &'a [Spelling],
+) -> Result<Words<'a>, ExpandError>
+    ensures { Gives (λ found. names_of found.keys) result (Ok (with_members [] (map (replaced (binding_of binding.now)) words.now))) }
+{
+    let mut found = IndexSet::new(alloc);
+    add_replaced(&mut found, binding, words)?;
+    Ok(found)
+}
+
+#[cycle(set)]
+#[tactic(auto, using(tv_tree::proofs::Unfolds::term_of_named, tv_tree::proofs::Unfolds::term_of_members, tv_tree::proofs::Unfolds::term_of_paren))]
+fn term_members<'a>(
+    alloc: Global,
+    sets: &Sets<'a>,
+    binding: &[Bound<'a>],
+    term: &'a SetTerm,
+) -> Result<Words<'a>, ExpandError>
+    ensures { Gives (λ found. names_of found.keys) result (members_of (sets_of sets.now.entries) (binding_of binding.now) (term_of term.now)) }
+{
+    match term {
+        SetTerm::Named(name) => known_members(sets, &name.0),
+        SetTerm::Members(words) => replaced_members(alloc, binding, words.as_slice()),
+        SetTerm::Paren(set) => members(alloc, sets, binding, set),
+    }
+}
+
+/// The members of an expression for a set, in order of first sight.
+///
+/// # Errors
+/// `NameUnknown` exactly where it names a set that isn't declared.
+#[cycle(set)]
+pub fn members<'a>(
+    alloc: Global,
+    sets: &Sets<'a>,
+    binding: &[Bound<'a>],
+    set: &'a SetTree,
+) -> Result<Words<'a>, ExpandError>
+    ensures { Gives (λ found. names_of found.keys) result (members_of (sets_of sets.now.entries) (binding_of binding.now) (set_of set.now)) }
+{
+    let mut found = term_members(alloc, sets, binding, &set.first)?;
+    for step in &set.more {
+        let other = term_members(alloc, sets, binding, &step.term)?;
+        found = signed(alloc, found, step.sign, &other)?;
+    }
+    Ok(found)
+}
+
+/// Whether a set of this name is declared.
+pub fn is_declared(sets: &Sets<'_>, name: &[u8]) -> bool
+    ensures { result ≡ is_some (find_set (sets_of sets.now.entries) name.now) }
+{
+    sets.contains_key(name)
+}
+
+/// Declares a set of a new name.
+pub fn add_set<'a>(sets: &mut Sets<'a>, name: &'a [u8], words: Words<'a>) -> Result<(), AllocError>
+    requires { is_some (find_set (sets_of sets.old.entries) name.now) ≡ false }
+    ensures { OnOk result (sets_of sets.new.entries ≡ sets_of sets.old.entries ++ (name.now, names_of words.entry.keys) ∷ []) }
+{
+    sets.insert(name, words)?;
+    Ok(())
+}

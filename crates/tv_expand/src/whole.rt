@@ -1,0 +1,44 @@
+//! A whole program.
+
+ghost use Rattle.std.specs.Prelude.{IfOk};
+ghost use Rattle.tv_tree.specs.Copies.{program_of};
+ghost use Rattle.tv_tree.specs.Spelled.{IsSpelled};
+ghost use Rattle.tv_expand.specs.Outcome.{Gives};
+ghost use Rattle.tv_expand.specs.FlatForm.{flat_of, IsFlat};
+ghost use Rattle.tv_expand.specs.Expansion.{expansion};
+
+use crate::declare::{Declared, declare_all, nothing_declared};
+use crate::error::ExpandError;
+use crate::flat::Flat;
+use crate::wiring::{declare_actions, wire_all};
+use std::alloc::Global;
+use tv_tree::Items;
+use tv_tree::trees::Tree;
+
+/// The flat form of a program: sets, `foreach` and the parameters of actions are put in. Where the tree
+/// is well spelled, the flat form is within the limits and well spelled, and its edges take actions
+/// that are there.
+///
+/// # Errors
+/// The first condition that is met, in the order of declarations, actions and edges.
+pub fn expand(alloc: Global, t: &Tree) -> Result<Flat, ExpandError>
+    ensures exact { Gives flat_of result (expansion (program_of t.now)) }
+    ensures flat { IfOk result (λ f. IsSpelled (program_of t.now) → IsFlat (flat_of f)) }
+{
+    let mut declared = nothing_declared(alloc);
+    declare_all(alloc, &mut declared, &[], &t.decls)?;
+    let actions = declare_actions(alloc, t.actions.as_slice())?;
+    let Declared {
+        sets,
+        preds,
+        rules,
+        room,
+    } = declared;
+    let wired = wire_all(alloc, &sets, &actions, room, t.edges.as_slice())?;
+    Ok(Flat {
+        preds: Items::from_vec(preds),
+        rules: Items::from_vec(rules),
+        actions: Items::from_vec(wired.actions),
+        edges: Items::from_vec(wired.edges),
+    })
+}

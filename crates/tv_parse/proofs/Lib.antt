@@ -1,0 +1,14 @@
+pub mod Lists
+pub mod SetSteps
+pub mod Heights
+pub mod Phrases
+pub mod SetLaws
+pub mod RowLaws
+pub mod SetsRead
+pub mod GrammarLaws
+pub mod RowsRead
+pub mod GrammarRead
+pub mod ProgramLaws
+pub mod SpelledPhrases
+pub mod SpelledForms
+pub mod SpelledPrograms

@@ -1,0 +1,148 @@
+-- Phrases of words take tokens.
+use Rattle.std.proofs.Common.{◌≡◌, ℕ, suc, ◌+◌, ◌<◌, ◌≤◌, List, [], ◌∷◌, ◌++◌, Bool, true, false, cond, length, Option, Some, None, refl, sym, ◌∙◌, ap, subst, ◌⊎◌, inl, inr, arith}
+use Rattle.std.specs.Prelude.{codes, is_some, ◌&&◌}
+use Rattle.std.proofs.lemmas.Slice.Eq.{bytes_eq-Decides}
+use Rattle.std.specs.Str.{bytes_eq}
+use Rattle.tv_lex.specs.Token.{SpecToken}
+use Rattle.tv_phrases.specs.Reading.{Reading, taken, ◌>>=◌, choose}
+use Rattle.tv_phrases.specs.Tokens.{after, first, is_word, is_identifier, identifier_item}
+use Rattle.tv_phrases.specs.Lists.{with_front, items_from, comma_list, optional_list, between, params, name, optional_brackets, optional_list_in}
+use Rattle.tv_phrases.specs.declared.kinds.Brackets.TheVariants as brackets
+use Rattle.tv_phrases.specs.declared.kinds.Item.TheVariants as kind
+
+pub some_same : {A : Type 0} (x y : A) → Some x ≡ Some y → x ≡ y
+some_same x y e = cc
+
+pub same_value : {X : Type 0} (x y : X) (ts us : List SpecToken) → taken x ts ≡ taken y us → x ≡ y
+same_value {X} x y ts us e = ap (λ (p : X × List SpecToken). p.0) (some_same (x, ts) (y, us) e)
+
+pub same_rest : {X : Type 0} (x y : X) (ts us : List SpecToken) → taken x ts ≡ taken y us → ts ≡ us
+same_rest {X} x y ts us e = ap (λ (p : X × List SpecToken). p.1) (some_same (x, ts) (y, us) e)
+
+-- the value of a step that did not fail
+pub bind_some : {A B : Type 0} (o : Option A) (f : A → Option B) (y : B) → (o >>= f) ≡ Some y → (x : A) × (o ≡ Some x) × (f x ≡ Some y)
+bind_some (Some x) f y e = (x, refl, e)
+bind_some None f y e = absurd cc
+
+-- which way a choice went
+pub chosen : {A B : Type 0} (o : Option A) (none : B) (some : A → B) (y : B) → choose o none some ≡ y → ((o ≡ None) × (none ≡ y)) ⊎ ((x : A) × (o ≡ Some x) × (some x ≡ y))
+chosen None none some y e = inl (refl, e)
+chosen (Some x) none some y e = inr (x, refl, e)
+
+pub tested : {A : Type 0} (b : Bool) (x y z : A) → cond b x y ≡ z → ((b ≡ true) × (x ≡ z)) ⊎ ((b ≡ false) × (y ≡ z))
+tested true x y z e = inl (refl, e)
+tested false x y z e = inr (refl, e)
+
+if_true : {B : Type 0} (b : Bool) (x : B) (y : B) → cond b (Some x) None ≡ Some y → b ≡ true
+if_true true x y e = refl
+if_true false x y e = cc
+
+and_right : (a b : Bool) → (a && b) ≡ true → b ≡ true
+and_right true b e = e
+and_right false b e = cc
+
+item_true : (b : Bool) (w : List ℕ) (ts us : List SpecToken) (x : List ℕ) → (cond b (Some w) None >>= λ y. taken y ts) ≡ taken x us → b ≡ true
+item_true true w ts us x e = refl
+item_true false w ts us x e = cc
+
+false_unless : (b : Bool) → (b ≡ true → ⊥) → b ≡ false
+false_unless true h = absurd (h refl)
+false_unless false h = refl
+
+kept : (b : Bool) (ts us : List SpecToken) → cond b (Some ts) None ≡ Some us → ts ≡ us
+kept true ts us e = cc
+kept false ts us e = cc
+
+pub after_takes : (mark : List ℕ) (ts us : List SpecToken) → after mark ts ≡ Some us → length us < length ts
+unfolding after
+after_takes mark [] us e = absurd cc
+after_takes mark (t ∷ ts) us e = rw (← kept (bytes_eq t.bytes mark) ts us e) (omega arith)
+
+taken_item : {X : Type 0} (o : Option X) (x : X) (ts us : List SpecToken) → (o >>= λ y. taken y ts) ≡ taken x us → ts ≡ us
+taken_item (Some y) x ts us e = same_rest y x ts us e
+taken_item None x ts us e = absurd cc
+
+pub first_takes : {X : Type 0} (item : SpecToken → Option X) (ts us : List SpecToken) (x : X) → first item ts ≡ taken x us → length us < length ts
+unfolding first
+first_takes item [] us x e = absurd cc
+first_takes item (t ∷ ts) us x e = rw (← taken_item (item t) x ts us e) (omega arith)
+
+-- the list behind an item
+front_taken : {X : Type 0} (xs ys : List X) (read : Reading (List X)) (us : List SpecToken) → with_front xs read ≡ taken ys us → (zs : List X) × (read ≡ taken zs us)
+unfolding with_front
+front_taken xs ys None us e = absurd cc
+front_taken xs ys (Some more) us e = (more.0, ap (λ vs. Some (more.0, vs)) (same_rest (xs ++ more.0) ys more.1 us e))
+
+items_take : {X : Type 0} (item : SpecToken → Option X) (begin : Bool) (ts us : List SpecToken) (xs : List X) → items_from item begin ts ≡ taken xs us → length us ≤ length ts
+unfolding items_from
+items_take item true [] us xs e = absurd cc
+items_take item true (t ∷ ts) us xs e =
+    let a = bind_some (item t) (λ x. with_front (x ∷ []) (items_from item false ts)) (xs, us) e in
+    let b = front_taken (a.0 ∷ []) xs (items_from item false ts) us a.2 in
+    let h = items_take item false ts us b.0 b.1 in
+    omega arith
+items_take item false [] us xs e = rw (← same_rest [] xs [] us e) (omega arith)
+items_take item false (t ∷ ts) us xs e =
+    elim (chosen (after (codes ",") (t ∷ ts)) (Some ([], t ∷ ts)) (λ vs. items_from item true ts) (taken xs us) e) [
+      | inl h ↦ rw (← same_rest [] xs (t ∷ ts) us h.1) (omega arith)
+      | inr h ↦ let k = items_take item true ts us xs h.2 in omega arith
+    ]
+
+pub optional_takes : {X : Type 0} (item : SpecToken → Option X) (ts us : List SpecToken) (xs : List X) → optional_list item ts ≡ taken xs us → length us ≤ length ts
+unfolding optional_list
+optional_takes item ts us xs e =
+    elim (tested (is_some (first item ts)) (comma_list item ts) (Some ([], ts)) (taken xs us) e) [
+      | inl h ↦ items_take item true ts us xs h.1
+      | inr h ↦ rw (← same_rest [] xs ts us h.1) (omega arith)
+    ]
+
+pub between_takes : {X : Type 0} (a b : List ℕ) (read : List SpecToken → Reading X) → ((us vs : List SpecToken) (x : X) → read us ≡ taken x vs → length vs ≤ length us) → (ts us : List SpecToken) (x : X) → between a b read ts ≡ taken x us → length us < length ts
+unfolding between
+between_takes a b read inner ts us x e =
+    let p = bind_some (after a ts) (λ us. read us >>= λ x. after b x.1 >>= λ rest. Some (x.0, rest)) (x, us) e in
+    let q = bind_some (read p.0) (λ x. after b x.1 >>= λ rest. Some (x.0, rest)) (x, us) p.2 in
+    let r = bind_some (after b q.0.1) (λ rest. Some (q.0.0, rest)) (x, us) q.2 in
+    let h = after_takes a ts p.0 p.1 in
+    let i = inner p.0 q.0.1 q.0.0 q.1 in
+    let j = after_takes b q.0.1 r.0 r.1 in
+    rw (← same_rest q.0.0 x r.0 us r.2) (omega arith)
+
+pub params_take : (ts us : List SpecToken) (xs : List (List ℕ)) → params ts ≡ taken xs us → length us < length ts
+params_take ts us xs e = between_takes (codes "(") (codes ")") (optional_list identifier_item) (optional_takes identifier_item) ts us xs e
+
+pub members_take : (ts us : List SpecToken) (xs : List (List ℕ)) → optional_list_in brackets.Curly kind.Identifier ts ≡ taken xs us → length us < length ts
+members_take ts us xs e = between_takes (codes "{") (codes "}") (optional_list identifier_item) (optional_takes identifier_item) ts us xs e
+
+brackets_take : (ts us : List SpecToken) (xs : List (List ℕ)) → optional_brackets ts ≡ taken xs us → length us ≤ length ts
+unfolding optional_brackets
+brackets_take ts us xs e =
+    elim (chosen (after (codes "[") ts) (Some ([], ts)) (λ us. between (codes "[") (codes "]") (comma_list identifier_item) ts) (taken xs us) e) [
+      | inl h ↦ rw (← same_rest [] xs ts us h.1) (omega arith)
+      | inr h ↦ let k = between_takes (codes "[") (codes "]") (comma_list identifier_item) (items_take identifier_item true) ts us xs h.2 in omega arith
+    ]
+
+pub name_takes : (ts us : List SpecToken) (n : List ℕ × List (List ℕ)) → name ts ≡ taken n us → length us < length ts
+unfolding name
+name_takes ts us n e =
+    let p = bind_some (first identifier_item ts) (λ word. optional_brackets word.1 >>= λ brackets. Some ((word.0, brackets.0), brackets.1)) (n, us) e in
+    let q = bind_some (optional_brackets p.0.1) (λ brackets. Some ((p.0.0, brackets.0), brackets.1)) (n, us) p.2 in
+    let h = first_takes identifier_item ts p.0.1 p.0.0 p.1 in
+    let i = brackets_take p.0.1 q.0.1 q.0.0 q.1 in
+    rw (← same_rest (p.0.0, q.0.0) n q.0.1 us q.2) (omega arith)
+
+-- a token is spelled like one mark at most
+pub other_mark : (m k : List ℕ) (ts us : List SpecToken) → bytes_eq m k ≡ false → after m ts ≡ Some us → after k ts ≡ None
+unfolding after
+other_mark m k [] us differ begins = refl
+other_mark m k (t ∷ ts) us differ begins =
+    let same : t.bytes ≡ m = (bytes_eq-Decides t.bytes m).0 (if_true (bytes_eq t.bytes m) ts us begins) in
+    rw (same, differ) refl
+
+-- an identifier is spelled like no mark that isn't an identifier
+pub not_identifier : (k : List ℕ) (w : List ℕ) (ts us : List SpecToken) → is_identifier k ≡ false → first identifier_item ts ≡ taken w us → after k ts ≡ None
+unfolding after first
+not_identifier k w [] us unlike is = refl
+not_identifier k w (t ∷ ts) us unlike is =
+    let named : is_identifier t.bytes ≡ true = and_right (is_word t.kind) (is_identifier t.bytes) (item_true (is_word t.kind && is_identifier t.bytes) t.bytes ts us w is) in
+    let other : bytes_eq t.bytes k ≡ false = false_unless (bytes_eq t.bytes k) (λ e. let same : t.bytes ≡ k = (bytes_eq-Decides t.bytes k).0 e in let both : is_identifier k ≡ true = subst (λ (z : List ℕ). is_identifier z ≡ true) same named in cc) in
+    rw other refl

@@ -1,0 +1,5 @@
+pub mod Kinds
+pub mod Grammar
+pub mod Reading
+pub mod Height
+pub mod Outcome

@@ -1,0 +1,162 @@
+//! Programs: declarations, actions, edges and the words behind them.
+
+ghost use Rattle.std.specs.Prelude.{◌≡◌, ◌≤◌, length, map, Ok, IfOk, IfErr};
+ghost use Rattle.tv_lex.specs.Token.{spec_tokens};
+ghost use Rattle.tv_lex.specs.Pieces.{Reads};
+ghost use Rattle.tv_phrases.specs.Reading.{Gives};
+ghost use Rattle.tv_tree.specs.Copies.{action_of, edge_of, program_of};
+ghost use Rattle.tv_parse.specs.Reading.{edge_reading, actions_reading, edges_reading, tail_reading, program_reading};
+ghost use Rattle.tv_parse.specs.Height.{IsTooDeep};
+ghost use Rattle.tv_parse.specs.Grammar.{IsProgram};
+ghost use Rattle.tv_parse.specs.Outcome.{Cause};
+
+use crate::actions::action;
+use crate::decls::{decls, end_in_formula};
+use crate::error::ParseError;
+use crate::height::is_too_deep;
+use crate::kinds::{begins_with, below, expect_behind};
+use std::alloc::Global;
+use tv_formula::{spelling, spellings};
+use tv_lex::{Token, Tokens, place};
+use tv_phrases::{
+    Item, PhraseError, after, begins_item, expect, identifier, optional_list, params, word,
+};
+use tv_tree::trees::{ActionTrees, EdgeTree, EdgeTrees, Spellings, Tree};
+
+#[tactic(auto, unfolding(crate::specs::Reading::edge_reading))]
+fn edge<'a>(
+    alloc: Global,
+    bytes: &[u8],
+    tokens: &'a [Token],
+) -> Result<(EdgeTree, &'a [Token]), PhraseError<'a>>
+    ensures { Gives (λ x. (edge_of x.0, spec_tokens bytes.now x.1.now)) result (edge_reading (spec_tokens bytes.now tokens.now)) }
+{
+    let (source, next) = word(bytes, tokens)?;
+    let (name, behind) = identifier(bytes, next)?;
+    let (words, end) = params(alloc, bytes, behind)?;
+    let (target, rest) = word(bytes, end)?;
+    let edge = EdgeTree {
+        from: spelling(alloc, bytes, &source)?,
+        action: spelling(alloc, bytes, &name)?,
+        arguments: spellings(alloc, bytes, &words)?,
+        to: spelling(alloc, bytes, &target)?,
+    };
+    Ok((edge, rest))
+}
+
+#[tactic(auto, using(crate::proofs::Lists::many_end, crate::proofs::Lists::many_break, crate::proofs::Lists::many_out))]
+fn actions<'a>(
+    alloc: Global,
+    bytes: &[u8],
+    tokens: &'a [Token],
+) -> Result<(ActionTrees, &'a [Token]), PhraseError<'a>>
+    ensures { Gives (λ x. (map action_of x.0, spec_tokens bytes.now x.1.now)) result (actions_reading (spec_tokens bytes.now tokens.now)) }
+{
+    let mut list = Vec::new(alloc);
+    let mut left = tokens.len() + 1;
+    let mut rest = tokens;
+    'actions: loop {
+        left = below(left, rest)?;
+        if !begins_with(bytes, rest, b"%action") {
+            return Ok((ActionTrees::from_vec(list), rest));
+        }
+        let (one, behind) = action(alloc, bytes, rest)?;
+        list.push(one)?;
+        rest = behind;
+    }
+}
+
+#[tactic(auto, using(crate::proofs::Lists::many_end, crate::proofs::Lists::many_break, crate::proofs::Lists::many_out))]
+fn edges<'a>(
+    alloc: Global,
+    bytes: &[u8],
+    tokens: &'a [Token],
+) -> Result<(EdgeTrees, &'a [Token]), PhraseError<'a>>
+    ensures { Gives (λ x. (map edge_of x.0, spec_tokens bytes.now x.1.now)) result (edges_reading (spec_tokens bytes.now tokens.now)) }
+{
+    let mut list = Vec::new(alloc);
+    let mut left = tokens.len() + 1;
+    let mut rest = tokens;
+    'edges: loop {
+        left = below(left, rest)?;
+        if !begins_item(bytes, rest, Item::Word) {
+            return Ok((EdgeTrees::from_vec(list), rest));
+        }
+        let (one, behind) = edge(alloc, bytes, rest)?;
+        list.push(one)?;
+        rest = behind;
+    }
+}
+
+// A third `%%` and the words behind it, up to the end.
+#[tactic(auto, unfolding(crate::specs::Reading::tail_reading))]
+fn tail<'a>(
+    alloc: Global,
+    bytes: &[u8],
+    tokens: &'a [Token],
+) -> Result<Option<Spellings>, PhraseError<'a>>
+    ensures { Gives (λ x. x) result (tail_reading (spec_tokens bytes.now tokens.now)) }
+{
+    let Some(behind) = after(bytes, tokens, b"%%") else {
+        return if tokens.is_empty() {
+            Ok(None)
+        } else {
+            Err(PhraseError::Unexpected(tokens))
+        };
+    };
+    let (words, rest) = optional_list(alloc, bytes, behind, Item::Word)?;
+    if rest.is_empty() {
+        Ok(Some(spellings(alloc, bytes, &words)?))
+    } else {
+        Err(PhraseError::Unexpected(rest))
+    }
+}
+
+#[tactic(auto, using(tv_tree::proofs::Unfolds::decls_of_items), unfolding(crate::specs::Reading::program_reading))]
+fn program<'a>(alloc: Global, bytes: &[u8], tokens: &'a [Token]) -> Result<Tree, PhraseError<'a>>
+    ensures { Gives program_of result (program_reading (spec_tokens bytes.now tokens.now)) }
+{
+    let (list, end) = decls(alloc, bytes, tokens)?;
+    let behind = expect_behind(bytes, end, b"%%", end_in_formula(&list))?;
+    let (actions, last) = actions(alloc, bytes, behind)?;
+    let next = expect(bytes, last, b"%%")?;
+    let (edges, rest) = edges(alloc, bytes, next)?;
+    let tail = tail(alloc, bytes, rest)?;
+    Ok(Tree {
+        decls: list,
+        actions,
+        edges,
+        tail,
+    })
+}
+
+// Where the first of the tokens begins, or the text ends.
+fn start(bytes: &[u8], tokens: &[Token]) -> usize
+    ensures { result ≤ length bytes.now }
+{
+    match tokens.first() {
+        Some(token) => bytes.len().min(token.start as usize),
+        None => bytes.len(),
+    }
+}
+
+/// The tree of a program's tokens, which are those of `bytes`. Over 200 constructs that are open at one place are
+/// refused first. The place of a refusal is that of the first token that no continuation of the grammar allows, or of
+/// the end of the text. Calls nest as deep as constructs are open.
+#[tactic(auto, using(crate::proofs::ProgramLaws::read_is_program, crate::proofs::ProgramLaws::unread_is_none))]
+pub fn parse_program(alloc: Global, bytes: &[u8], tokens: &Tokens) -> Result<Tree, ParseError>
+    requires size { length bytes.now ≤ 67108864 }
+    requires read { Reads bytes.now (Ok tokens.now.list.items) }
+    ensures tree { IfOk result (λ t. IsProgram (spec_tokens bytes.now tokens.now.list.items) (program_of t)) }
+    ensures low { IfOk result (λ t. ¬ IsTooDeep (spec_tokens bytes.now tokens.now.list.items)) }
+    ensures fault { IfErr result (Cause (spec_tokens bytes.now tokens.now.list.items)) }
+{
+    if is_too_deep(alloc, bytes, &tokens.list)? {
+        return Err(ParseError::TooDeep);
+    }
+    match program(alloc, bytes, &tokens.list) {
+        Ok(tree) => Ok(tree),
+        Err(PhraseError::Unexpected(at)) => Err(ParseError::Syntax(place(bytes, start(bytes, at)))),
+        Err(PhraseError::Memory) => Err(ParseError::Memory),
+    }
+}

@@ -1,0 +1,20 @@
+//! Resolution: the program that a flat tree stands for, or the first reason why it stands for none.
+#![tactic(auto)]
+
+mod actions;
+mod cycles;
+mod draw;
+mod graph;
+mod laws;
+mod parts;
+mod resolution;
+mod rules;
+mod updates;
+mod vocabulary;
+
+pub use laws::acyclic_definitions_have_ranks;
+pub use resolution::resolve;
+pub use tv_names::ResolveError;
+
+#[cfg(test)]
+mod tests;

@@ -1,0 +1,40 @@
+//! The whole of resolution.
+
+ghost use Rattle.std.specs.Prelude.{◌≡◌, map};
+ghost use Rattle.tv_model.specs.Program.{program_of};
+ghost use Rattle.tv_expand.specs.FlatForm.{flat_of};
+ghost use Rattle.tv_names.specs.Refusal.{Gives};
+ghost use Rattle.tv_vocab.specs.Resolution.{program};
+
+use crate::actions::actions;
+use crate::draw::draw;
+use crate::rules::rules;
+use crate::vocabulary::{Declared, vocabulary};
+use std::alloc::Global;
+use tv_expand::Flat;
+use tv_model::{Items, Program, Vocab};
+use tv_names::ResolveError;
+
+/// The program that a flat tree stands for, or the refusal that is met first: predicates and their
+/// definitions come first, then rules, then actions, then nodes and edges. Each refusal but
+/// `Memory` comes exactly where the definition of the program gives it.
+#[tactic(auto, unfolding(crate::specs::Resolution::program))]
+pub fn resolve(alloc: Global, flat: &Flat) -> Result<Program, ResolveError>
+    ensures { Gives program_of result (program (flat_of flat.now)) }
+{
+    let declared = vocabulary(alloc, flat.preds.as_slice())?;
+    let rules = rules(alloc, &declared.symbols, flat.rules.as_slice())?;
+    let flat_actions = flat.actions.as_slice();
+    let actions = actions(alloc, &declared.symbols, &declared.preds, flat_actions)?;
+    let drawn = draw(alloc, flat.edges.as_slice())?;
+    let Declared { symbols: _, preds } = declared;
+    Ok(Program {
+        vocab: Vocab {
+            preds: Items::from_vec(preds),
+        },
+        rules: Items::from_vec(rules),
+        actions: Items::from_vec(actions),
+        edges: drawn.edges,
+        nodes: drawn.nodes,
+    })
+}
