@@ -17,6 +17,3 @@ pub use error::ExpandError;
 pub use flat::{Flat, FlatAction, FlatActions, FlatEdge, FlatEdges, FlatPreds, FlatRules};
 pub use room::{MAX_ITEMS, MAX_NODES};
 pub use whole::expand;
-
-#[cfg(test)]
-mod tests;
