@@ -12,6 +12,3 @@ mod words;
 pub use laws::{formulas_are_read, one_formula, printed_formulas, read_formulas};
 pub use parser::formula;
 pub use words::{arrow, behind_arrow, name_of_phrase, spelling, spellings};
-
-#[cfg(test)]
-mod tests;
