@@ -15,6 +15,3 @@ mod vocabulary;
 pub use laws::acyclic_definitions_have_ranks;
 pub use resolution::resolve;
 pub use tv_names::ResolveError;
-
-#[cfg(test)]
-mod tests;
