@@ -11,13 +11,14 @@ use Rattle.tv_tree.specs.Copies.{nests}
 use Rattle.tv_tree.specs.Spelled.{AreIdentifiers, IsSpelledPart, IsSpelledPred, IsSpelledDecl, PartKind, CaptionPart, FocusPart, PrePart, RetainPart, BlockPart, one_of_kind, count_of_kind, HasPartsOnce, IsSpelledAction, IsSpelledEdge, IsSpelled}
 use Rattle.tv_expand.specs.declared.error.ExpandError.{ExpandError}
 use Rattle.tv_expand.specs.declared.error.ExpandError.TheVariants.{NameTwice, ArgumentCount}
-use Rattle.tv_expand.specs.declared.flat.Flat.{Flat}
-use Rattle.tv_expand.specs.FlatForm.{FlatEdgeForm, FlatForm, flat_of, nodes, part_items, part_nodes, IsFlatPart, IsFlatAction, IsFlatEdge, IsFlat, IsSpelledRule}
+use Rattle.tv_flat.specs.declared.flat.Flat.{Flat}
+use Rattle.tv_flat.specs.FlatForm.{FlatEdgeForm, FlatForm, flat_of, nodes, part_items, part_nodes, IsFlatPart, IsFlatAction, IsFlatEdge, IsFlat, IsSpelledRule}
 use Rattle.tv_expand.specs.Outcome.{◌>>=◌, each, Gives}
-use Rattle.tv_expand.specs.Sets.{Binding, Sets, known, once}
-use Rattle.tv_expand.specs.Replaced.{flat_form, one_text}
+use Rattle.tv_flat.specs.Replaced.{Binding, flat_form, one_text}
+use Rattle.tv_expand.specs.Sets.{Sets, known, once}
 use Rattle.tv_expand.specs.Expansion.{Room, counted, Declared, declared, sets_in, all_declared, nothing_declared, all_updated, Gathered, with_part, with_block, gathered, Actions, find_action, with_action, same_call, Wired, made, with_call, called, with_edge, wired_to, wired, nothing_wired, flat_form_of, expansion}
-use Rattle.tv_expand.proofs.KeepLaws.{bind_ok, IsGoodBinding, AreGoodSets, lookup_good, each_keeps, nests_keep}
+use Rattle.tv_flat.proofs.SpellLaws.{IsGoodBinding}
+use Rattle.tv_expand.proofs.KeepLaws.{bind_ok, AreGoodSets, lookup_good, each_keeps, nests_keep}
 use Rattle.tv_expand.proofs.StepKeeps.{counted_ok, DeclaredGood, declared_keeps, GatheredGood, gathered_keeps}
 
 -- ---- kinds of parts

@@ -9,34 +9,15 @@ use Rattle.tv_tree.specs.Forms.{SetForm, SNamed, SMembers, SParen, SPlus, SMinus
 use Rattle.tv_tree.specs.Spelled.{AreIdentifiers, IsSpelledSet, IsSpelledNest, AreSpelledNests}
 use Rattle.tv_expand.specs.declared.error.ExpandError.{ExpandError}
 use Rattle.tv_expand.specs.Outcome.{◌>>=◌, each}
-use Rattle.tv_expand.specs.Sets.{Binding, Sets, replaced, is_among, sight, with_members, without_members, known, members_of}
+use Rattle.tv_flat.specs.Replaced.{Binding, replaced}
+use Rattle.tv_flat.proofs.SpellLaws.{case_of, IsGoodBinding, replaced_all}
+use Rattle.tv_expand.specs.Sets.{Sets, is_among, sight, with_members, without_members, known, members_of}
 use Rattle.tv_expand.specs.Expansion.{unrolled, unrolled_nest}
-use Rattle.tv_expand.proofs.WordLaws.{further}
 
 -- a step that went on
 pub bind_ok : {A B : Type 0} (out : Result A ExpandError) (f : A → Result B ExpandError) (y : B) → (out >>= f) ≡ Ok y → (x : A) × (out ≡ Ok x) × (f x ≡ Ok y)
 bind_ok (Ok x) f y h = (x, refl, h)
 bind_ok (Err e) f y h = cc
-
-case_of : {A : Type 0} (P : A → Type 0) (t : Bool) (x y : A) → P x → P y → P (cond t x y)
-case_of P true x y p q = p
-case_of P false x y p q = q
-
--- what stands for words is an identifier
-abbrev pub IsGoodBinding : Binding → Type 0
-IsGoodBinding b = All (λ (p : List ℕ × List ℕ). IsIdentifier p.1) b
-
-further_good : (word found : List ℕ) (b : Binding) → IsGoodBinding b → IsIdentifier found → IsIdentifier (fold (further word) found b)
-further_good word found [] good ok = ok
-further_good word found (p ∷ b) good ok =
-    further_good word (further word found p) b (All-tail (λ (q : List ℕ × List ℕ). IsIdentifier q.1) p b good)
-    (case_of IsIdentifier (bytes_eq p.0 word) p.1 found (All-head (λ (q : List ℕ × List ℕ). IsIdentifier q.1) p b good) ok)
-
-pub replaced_good : (b : Binding) (word : List ℕ) → IsGoodBinding b → IsIdentifier word → IsIdentifier (replaced b word)
-replaced_good b word good ok = further_good word word b good ok
-
-pub replaced_all : (b : Binding) (words : List (List ℕ)) → IsGoodBinding b → AreIdentifiers words → AreIdentifiers (map (replaced b) words)
-replaced_all b words good ok = All-map IsIdentifier (replaced b) words (All-weaker IsIdentifier (λ w. IsIdentifier (replaced b w)) (λ w h. replaced_good b w good h) words ok)
 
 with_members_good : (xs ys : List (List ℕ)) → AreIdentifiers xs → AreIdentifiers ys → AreIdentifiers (with_members xs ys)
 with_members_good xs [] p q = p

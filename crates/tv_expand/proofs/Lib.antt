@@ -1,10 +1,8 @@
 pub mod WordLaws
-pub mod CopyLaws
 pub mod SetLaws
 pub mod RoomLaws
 pub mod StepLaws
 pub mod WiringLaws
 pub mod KeepLaws
-pub mod SpellLaws
 pub mod StepKeeps
 pub mod FlatLaws

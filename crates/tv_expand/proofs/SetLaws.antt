@@ -18,7 +18,8 @@ use Rattle.indexmap.specs.IndexMap.{insert_entry}
 use Rattle.tv_expand.specs.declared.error.ExpandError.{ExpandError}
 use Rattle.tv_expand.specs.declared.error.ExpandError.TheVariants.{NameUnknown, NameTwice, ArgumentCount, TooManyItems, Memory}
 use Rattle.tv_expand.specs.Outcome.{◌>>=◌, Fails}
-use Rattle.tv_expand.specs.Sets.{Binding, Sets, find_set, known, members_of}
+use Rattle.tv_flat.specs.Replaced.{Binding}
+use Rattle.tv_expand.specs.Sets.{Sets, find_set, known, members_of}
 use Rattle.tv_expand.specs.Views.{names_of, WordSet, entry_of, sets_of, signed}
 
 -- a refusal stays one, whatever would come behind it

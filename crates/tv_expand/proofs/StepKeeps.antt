@@ -10,13 +10,13 @@ use Rattle.tv_tree.specs.Copies.{nests}
 use Rattle.tv_tree.specs.Spelled.{IsSpelledPred, IsSpelledDecl, IsSpelledUpdate, IsSpelledPart}
 use Rattle.tv_expand.specs.declared.error.ExpandError.{ExpandError}
 use Rattle.tv_expand.specs.declared.error.ExpandError.TheVariants.{NameTwice, TooManyItems}
-use Rattle.tv_expand.specs.FlatForm.{nodes, pred_nodes, rule_nodes, block_sum, part_items, part_nodes, max_items, max_nodes, IsSpelledRule, IsFlatBlock, IsFlatPart}
+use Rattle.tv_flat.specs.FlatForm.{nodes, pred_nodes, rule_nodes, block_sum, part_items, part_nodes, max_items, max_nodes, IsSpelledRule, IsFlatBlock, IsFlatPart}
 use Rattle.tv_expand.specs.Outcome.{◌>>=◌}
-use Rattle.tv_expand.specs.Sets.{Binding, Sets, find_set, members_of}
-use Rattle.tv_expand.specs.Replaced.{flat_form, flat_pred, flat_rule, flat_update, one_text}
+use Rattle.tv_flat.specs.Replaced.{Binding, flat_form, flat_pred, flat_rule, flat_update, one_text}
+use Rattle.tv_expand.specs.Sets.{Sets, find_set, members_of}
 use Rattle.tv_expand.specs.Expansion.{Room, counted, Declared, with_set, with_pred, with_rule, declared, Block, updated, sets_for, all_updated, Gathered, with_part, with_block, gathered}
-use Rattle.tv_expand.proofs.KeepLaws.{bind_ok, IsGoodBinding, AreGoodSets, members_good, nests_keep}
-use Rattle.tv_expand.proofs.SpellLaws.{form_good, forms_good, pred_good, update_good, nodes_same, sum_same, body_same, joined_good}
+use Rattle.tv_flat.proofs.SpellLaws.{IsGoodBinding, form_good, forms_good, pred_good, update_good, nodes_same, sum_same, body_same, joined_good}
+use Rattle.tv_expand.proofs.KeepLaws.{bind_ok, AreGoodSets, members_good, nests_keep}
 
 pub counted_ok : (n : ℕ) (room left : Room) → counted n room ≡ Ok left → (left.items + 1 ≤ room.items) × (left.nodes + n ≤ room.nodes)
 counted_ok n room left h =

@@ -5,7 +5,8 @@ use Rattle.tv_tree.specs.Forms.{Nest}
 use Rattle.tv_tree.specs.Copies.{nests, decl_of, decls_of, update_of, updates_of}
 use Rattle.tv_expand.specs.declared.error.ExpandError.{ExpandError}
 use Rattle.tv_expand.specs.Outcome.{◌>>=◌, each, Fails}
-use Rattle.tv_expand.specs.Sets.{Binding, Sets}
+use Rattle.tv_flat.specs.Replaced.{Binding}
+use Rattle.tv_expand.specs.Sets.{Sets}
 use Rattle.tv_expand.specs.Expansion.{unrolled, unrolled_nest, Declared, declared, sets_in, all_declared, Block, updated, sets_for, all_updated}
 use Rattle.tv_tree.specs.declared.trees.Decls.{Decls}
 use Rattle.tv_tree.specs.declared.trees.UpdateTrees.{UpdateTrees}

@@ -1,26 +1,15 @@
 -- Lists of words, step by step.
-use Rattle.std.proofs.Common.{◌≡◌, ℕ, ◌+◌, ◌<◌, ◌≤◌, Bool, false, not, get_or, List, [], ◌∷◌, ◌++◌, length, map, fold, drop, refl, sym, ap, inl, inr, Bor, ◌||◌}
+use Rattle.std.proofs.Common.{◌≡◌, ℕ, ◌+◌, ◌<◌, ◌≤◌, Bool, false, not, get_or, List, [], ◌∷◌, ◌++◌, length, map, drop, refl, sym, ap, inl, inr, Bor, ◌||◌}
 use Rattle.std.specs.Prelude.{filter, if◌then◌else◌, Ok}
 use Rattle.std.specs.List.{list_any}
 use Rattle.std.specs.Str.{bytes_eq}
 use Rattle.std.proofs.lemmas.Bool.{cases_Bool}
 use Rattle.std.proofs.lemmas.List.{drop_more, drop_all, map_push}
-use Rattle.tv_expand.specs.declared.words.Bound.{Bound}
-use Rattle.tv_expand.specs.Sets.{replaced, is_among, sight, with_members, once}
-use Rattle.tv_expand.specs.Views.{names_of, pair_of, binding_of}
-
--- one pair further
-abbrev pub further : List ℕ → List ℕ → List ℕ × List ℕ → List ℕ
-further word found p = if bytes_eq p.0 word then p.1 else found
-
-pub replaced_more : (word found : List ℕ) (bs : List Bound) (i : ℕ) (d : Bound) → i < length bs → fold (further word) (if bytes_eq ((get_or bs i d).word.now) word then (get_or bs i d).by.now else found) (binding_of (drop (i + 1) bs)) ≡ fold (further word) found (binding_of (drop i bs))
-replaced_more word found bs i d below = rw (drop_more bs i d below) refl
-
-pub replaced_done : (word found : List ℕ) (bs : List Bound) (i : ℕ) → length bs ≤ i → fold (further word) found (binding_of (drop i bs)) ≡ found
-replaced_done word found bs i past = rw (drop_all i bs past) refl
-
-pub pushed_pair : (bs : List Bound) (b : Bound) → binding_of (bs ++ b ∷ []) ≡ binding_of bs ++ (b.word.now, b.by.now) ∷ []
-pushed_pair bs b = map_push pair_of bs b
+use Rattle.tv_flat.specs.declared.binding.Bound.{Bound}
+use Rattle.tv_flat.specs.Replaced.{replaced}
+use Rattle.tv_flat.specs.Views.{binding_of}
+use Rattle.tv_expand.specs.Sets.{is_among, sight, with_members, once}
+use Rattle.tv_expand.specs.Views.{names_of}
 
 -- whether a word is among words that are borrowed
 pub among_names : (ks : List (Bor (List ℕ))) (word : List ℕ) → list_any (λ k. bytes_eq word k.now) ks ≡ is_among (names_of ks) word

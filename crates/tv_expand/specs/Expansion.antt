@@ -10,9 +10,9 @@ use Rattle.tv_tree.specs.Copies.{nests}
 use Rattle.tv_expand.specs.declared.error.ExpandError.{ExpandError}
 use Rattle.tv_expand.specs.declared.error.ExpandError.TheVariants.{NameTwice, ArgumentCount, TooManyItems}
 use Rattle.tv_expand.specs.Outcome.{◌>>=◌, each}
-use Rattle.tv_expand.specs.FlatForm.{RuleForm, FlatEdgeForm, FlatForm, nodes, pred_nodes, max_items, max_nodes}
-use Rattle.tv_expand.specs.Sets.{Binding, Sets, find_set, known, members_of, once}
-use Rattle.tv_expand.specs.Replaced.{flat_form, flat_pred, flat_rule, flat_update, one_text}
+use Rattle.tv_flat.specs.FlatForm.{RuleForm, FlatEdgeForm, FlatForm, nodes, pred_nodes, max_items, max_nodes}
+use Rattle.tv_flat.specs.Replaced.{Binding, flat_form, flat_pred, flat_rule, flat_update, one_text}
+use Rattle.tv_expand.specs.Sets.{Sets, find_set, known, members_of, once}
 
 -- ---- the limits
 

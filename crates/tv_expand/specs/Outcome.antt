@@ -1,13 +1,8 @@
 -- Steps that may be refused, one after the other.
 use Rattle.std.specs.Prelude.{◌≡◌, List, [], ◌∷◌, Result, Ok, Err}
+pub use Rattle.tv_tree.specs.Steps.{◌>>=◌}
 use Rattle.tv_expand.specs.declared.error.ExpandError.{ExpandError}
 use Rattle.tv_expand.specs.declared.error.ExpandError.TheVariants.{NameUnknown, NameTwice, ArgumentCount, TooManyItems, Memory}
-
--- the next step, where nothing was refused so far
-infixl 10 ◌>>=◌
-abbrev pub ◌>>=◌ : {A B : Type 0} → Result A ExpandError → (A → Result B ExpandError) → Result B ExpandError
-Ok x >>= f = f x
-Err e >>= f = Err e
 
 -- a step for each item of a list, in order, up to the first that is refused
 abbrev pub each : {A S : Type 0} → (A → S → Result S ExpandError) → List A → S → Result S ExpandError

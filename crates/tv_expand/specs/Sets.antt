@@ -4,17 +4,10 @@ use Rattle.std.specs.List.{list_any}
 use Rattle.std.specs.Str.{bytes_eq}
 use Rattle.std.specs.Map.{lookup}
 use Rattle.tv_tree.specs.Forms.{SetForm, SNamed, SMembers, SParen, SPlus, SMinus}
+use Rattle.tv_flat.specs.Replaced.{Binding, replaced}
 use Rattle.tv_expand.specs.declared.error.ExpandError.{ExpandError}
 use Rattle.tv_expand.specs.declared.error.ExpandError.TheVariants.{NameUnknown, NameTwice}
 use Rattle.tv_expand.specs.Outcome.{◌>>=◌}
-
--- what words stand for: pairs of a word and what stands for it, the outermost first
-abbrev pub Binding : Type 0
-Binding = List (List ℕ × List ℕ)
-
--- What stands for a word. The innermost pair with this word counts; what it gives isn't replaced again.
-abbrev pub replaced : Binding → List ℕ → List ℕ
-replaced binding word = fold (λ found p. if bytes_eq p.0 word then p.1 else found) word binding
 
 abbrev pub is_among : List (List ℕ) → List ℕ → Bool
 is_among xs x = list_any (bytes_eq x) xs

@@ -1,7 +1,7 @@
 -- What the states of the code stand for.
 use Rattle.std.specs.Prelude.{map}
 use Rattle.tv_tree.specs.Copies.{pred_of, update_of, part_of}
-use Rattle.tv_expand.specs.FlatForm.{rule_of, parts_of, flat_edge_of}
+use Rattle.tv_flat.specs.FlatForm.{rule_of, parts_of, flat_edge_of}
 use Rattle.tv_expand.specs.declared.room.Room.{Room as RoomLeft}
 use Rattle.tv_expand.specs.declared.declare.Declared.{Declared as DeclaredSoFar}
 use Rattle.tv_expand.specs.declared.block.Block.{Block as BlockSoFar}

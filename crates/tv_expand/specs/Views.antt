@@ -10,18 +10,11 @@ use Rattle.tv_tree.specs.declared.trees.SetSign.{SetSign}
 use Rattle.tv_tree.specs.declared.trees.SetSign.TheVariants as sign
 use Rattle.tv_tree.specs.Forms.{ActionForm}
 use Rattle.tv_tree.specs.Copies.{action_of}
-use Rattle.tv_expand.specs.declared.words.Bound.{Bound}
 use Rattle.tv_expand.specs.Expansion.{Actions}
-use Rattle.tv_expand.specs.Sets.{Binding, Sets, with_members, without_members}
+use Rattle.tv_expand.specs.Sets.{Sets, with_members, without_members}
 
 abbrev pub names_of : List (Bor (List ℕ)) → List (List ℕ)
 names_of names = map (λ name. name.now) names
-
-abbrev pub pair_of : Bound → List ℕ × List ℕ
-pair_of b = (b.word.now, b.by.now)
-
-abbrev pub binding_of : List Bound → Binding
-binding_of bs = map pair_of bs
 
 abbrev pub WordSet : Type 0
 WordSet = IndexSet (Bor (List ℕ)) (BuildHasherDefault FoldHasher)

@@ -4,15 +4,15 @@ ghost use Rattle.std.specs.Prelude.{◌≡◌, [], ◌∷◌, ◌++◌};
 ghost use Rattle.tv_tree.specs.Copies.{single_of, update_of, updates_of};
 ghost use Rattle.tv_expand.specs.Outcome.{Gives, each};
 ghost use Rattle.tv_expand.specs.Expansion.{updated, sets_for, unrolled_nest, all_updated};
-ghost use Rattle.tv_expand.specs.Views.{names_of, binding_of, sets_of};
+ghost use Rattle.tv_flat.specs.Views.{binding_of};
+ghost use Rattle.tv_expand.specs.Views.{names_of, sets_of};
 ghost use Rattle.tv_expand.specs.States.{block_of};
 
-use crate::copies::flat_update;
 use crate::error::ExpandError;
 use crate::room::Room;
 use crate::sets::{Sets, members};
-use crate::words::{Bound, bind};
 use std::alloc::Global;
+use tv_flat::{Bound, bind, flat_update};
 use tv_tree::trees::{FormulaTree, Name, Spelling, UpdateTree, UpdateTrees};
 
 /// The updates of a block so far.

@@ -5,16 +5,16 @@ ghost use Rattle.tv_tree.specs.Forms.{DSet, DPred, DRule};
 ghost use Rattle.tv_tree.specs.Copies.{set_of, form_of, pred_of, decl_of, decls_of};
 ghost use Rattle.tv_expand.specs.Outcome.{Gives, each};
 ghost use Rattle.tv_expand.specs.Expansion.{nothing_declared, declared, sets_in, unrolled_nest, all_declared};
-ghost use Rattle.tv_expand.specs.Views.{names_of, binding_of};
+ghost use Rattle.tv_flat.specs.Views.{binding_of};
+ghost use Rattle.tv_expand.specs.Views.{names_of};
 ghost use Rattle.tv_expand.specs.States.{declared_of};
 
-use crate::copies::{flat_formula, flat_pred};
 use crate::error::ExpandError;
-use crate::room::{MAX_ITEMS, MAX_NODES, Room};
+use crate::room::Room;
 use crate::sets::{Sets, add_set, is_declared, members};
-use crate::words::{Bound, bind};
 use indexmap::IndexMap;
 use std::alloc::Global;
+use tv_flat::{Bound, MAX_ITEMS, MAX_NODES, bind, flat_pred, flat_rule};
 use tv_tree::trees::{Decl, Decls, PredDecl, RuleDecl, SetTree, Spelling};
 
 /// What is declared so far.
@@ -82,9 +82,8 @@ fn declare_rule<'a>(
     ensures { Gives (λ _. declared_of state.new) result (declared (binding_of binding.now) (DRule (form_of rule.now.body) (form_of rule.now.head)) (declared_of state.old)) }
 {
     let room = state.room.count_rule(&rule.body, &rule.head)?;
-    let body = flat_formula(alloc, binding, &rule.body)?;
-    let head = flat_formula(alloc, binding, &rule.head)?;
-    state.rules.push(RuleDecl { body, head })?;
+    let flat = flat_rule(alloc, binding, &rule.body, &rule.head)?;
+    state.rules.push(flat)?;
     state.room = room;
     Ok(())
 }

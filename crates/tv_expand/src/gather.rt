@@ -4,19 +4,19 @@ ghost use Rattle.std.specs.Prelude.{◌≡◌, map, sum_by};
 ghost use Rattle.tv_tree.specs.Forms.{PCaption, PFocus, PPre, PMessage, PNew, PRetain, PBlock};
 ghost use Rattle.tv_tree.specs.Copies.{form_of, piece_of, updates_of, part_of};
 ghost use Rattle.tv_expand.specs.Outcome.{Gives, each};
-ghost use Rattle.tv_expand.specs.FlatForm.{nodes};
-ghost use Rattle.tv_expand.specs.Replaced.{flat_form, one_text};
+ghost use Rattle.tv_flat.specs.FlatForm.{nodes};
+ghost use Rattle.tv_flat.specs.Replaced.{flat_form, one_text};
 ghost use Rattle.tv_expand.specs.Expansion.{with_part, gathered};
-ghost use Rattle.tv_expand.specs.Views.{binding_of, sets_of};
+ghost use Rattle.tv_flat.specs.Views.{binding_of};
+ghost use Rattle.tv_expand.specs.Views.{sets_of};
 ghost use Rattle.tv_expand.specs.States.{gathered_of};
 
 use crate::block::{Block, put_updates};
-use crate::copies::{flat_formula, flat_formulas, one_text};
 use crate::error::ExpandError;
 use crate::room::Room;
 use crate::sets::Sets;
-use crate::words::Bound;
 use std::alloc::Global;
+use tv_flat::{Bound, flat_formula, flat_formulas, one_text};
 use tv_tree::trees::{FormulaTree, Part, Piece, UpdateTrees};
 
 /// The parts of a flat action so far.

@@ -2,10 +2,8 @@
 #![tactic(auto)]
 
 mod block;
-mod copies;
 mod declare;
 mod error;
-mod flat;
 mod gather;
 mod room;
 mod sets;
@@ -14,6 +12,4 @@ mod wiring;
 mod words;
 
 pub use error::ExpandError;
-pub use flat::{Flat, FlatAction, FlatActions, FlatEdge, FlatEdges, FlatPreds, FlatRules};
-pub use room::{MAX_ITEMS, MAX_NODES};
 pub use whole::expand;

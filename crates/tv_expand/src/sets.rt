@@ -3,13 +3,16 @@
 ghost use Rattle.std.specs.Prelude.{◌≡◌, [], ◌∷◌, ◌++◌, map, false, is_some, Ok, OnOk};
 ghost use Rattle.tv_tree.specs.Copies.{term_of, set_of};
 ghost use Rattle.tv_expand.specs.Outcome.{Gives};
-ghost use Rattle.tv_expand.specs.Sets.{find_set, known, members_of, with_members, replaced};
-ghost use Rattle.tv_expand.specs.Views.{names_of, binding_of, sets_of};
+ghost use Rattle.tv_flat.specs.Replaced.{replaced};
+ghost use Rattle.tv_expand.specs.Sets.{find_set, known, members_of, with_members};
+ghost use Rattle.tv_flat.specs.Views.{binding_of};
+ghost use Rattle.tv_expand.specs.Views.{names_of, sets_of};
 
 use crate::error::ExpandError;
-use crate::words::{Bound, Words, add_replaced, signed};
+use crate::words::{Words, add_replaced, signed};
 use indexmap::{IndexMap, IndexSet};
 use std::alloc::{AllocError, Global};
+use tv_flat::Bound;
 use tv_tree::trees::{SetTerm, SetTree, Spelling};
 
 /// The sets that are declared so far, each with its members.

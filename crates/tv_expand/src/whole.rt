@@ -4,14 +4,14 @@ ghost use Rattle.std.specs.Prelude.{IfOk};
 ghost use Rattle.tv_tree.specs.Copies.{program_of};
 ghost use Rattle.tv_tree.specs.Spelled.{IsSpelled};
 ghost use Rattle.tv_expand.specs.Outcome.{Gives};
-ghost use Rattle.tv_expand.specs.FlatForm.{flat_of, IsFlat};
+ghost use Rattle.tv_flat.specs.FlatForm.{flat_of, IsFlat};
 ghost use Rattle.tv_expand.specs.Expansion.{expansion};
 
 use crate::declare::{Declared, declare_all, nothing_declared};
 use crate::error::ExpandError;
-use crate::flat::Flat;
 use crate::wiring::{declare_actions, wire_all};
 use std::alloc::Global;
+use tv_flat::Flat;
 use tv_tree::Items;
 use tv_tree::trees::Tree;
 

@@ -6,18 +6,18 @@ ghost use Rattle.tv_tree.specs.Copies.{part_of, action_of, edge_of};
 ghost use Rattle.tv_expand.specs.Outcome.{Gives, each};
 ghost use Rattle.tv_expand.specs.Sets.{once, known};
 ghost use Rattle.tv_expand.specs.Expansion.{with_action, find_action, same_call, made, called, with_edge, wired_to, wired, gathered, nothing_wired};
-ghost use Rattle.tv_expand.specs.Views.{names_of, binding_of, sets_of, actions_of, calls_of};
+ghost use Rattle.tv_flat.specs.Views.{binding_of};
+ghost use Rattle.tv_expand.specs.Views.{names_of, sets_of, actions_of, calls_of};
 ghost use Rattle.tv_expand.specs.States.{room_of, gathered_of, wired_of};
 
-use crate::copies::spelling;
 use crate::error::ExpandError;
-use crate::flat::{FlatAction, FlatEdge};
 use crate::gather::{Gathered, put_parts};
 use crate::room::Room;
 use crate::sets::Sets;
-use crate::words::{Bound, Words, once};
+use crate::words::{Words, once};
 use indexmap::{IndexMap, IndexSet};
 use std::alloc::{AllocError, Global};
+use tv_flat::{Bound, FlatAction, FlatEdge, spelling};
 use tv_tree::Items;
 use tv_tree::trees::{ActionTree, EdgeTree, Spelling};
 

@@ -1,58 +1,20 @@
-//! Words: what stands for them, and lists of them in order of first sight.
+//! Lists of words, each once, in order of first sight.
 
 ghost use Rattle.std.specs.Prelude.{◌≡◌, ◌++◌, ◌∷◌, [], not, map, if◌then◌else◌, IfOk, OnOk};
-ghost use Rattle.std.specs.Str.{bytes_eq};
 ghost use Rattle.tv_expand.specs.Outcome.{Gives};
-ghost use Rattle.tv_expand.specs.Sets.{replaced, is_among, sight, with_members, without_members, once};
-ghost use Rattle.tv_expand.specs.Views.{names_of, pair_of, binding_of, signed};
+ghost use Rattle.tv_flat.specs.Replaced.{replaced};
+ghost use Rattle.tv_expand.specs.Sets.{is_among, sight, with_members, without_members, once};
+ghost use Rattle.tv_flat.specs.Views.{binding_of};
+ghost use Rattle.tv_expand.specs.Views.{names_of, signed};
 
 use crate::error::ExpandError;
 use indexmap::IndexSet;
 use std::alloc::{AllocError, Global};
+use tv_flat::{Bound, replaced};
 use tv_tree::trees::{SetSign, Spelling};
 
 /// Words, each once, in order of first sight.
 pub type Words<'a> = IndexSet<&'a [u8]>;
-
-/// A word, and what stands for it.
-#[derive(Clone, Copy, Debug)]
-pub struct Bound<'a> {
-    pub word: &'a [u8],
-    pub by: &'a [u8],
-}
-
-fn further<'a>(bound: &Bound<'a>, word: &[u8], found: &'a [u8]) -> &'a [u8]
-    ensures { result.now ≡ (if bytes_eq bound.now.word.now word.now then bound.now.by.now else found.now) }
-{
-    if bound.word == word { bound.by } else { found }
-}
-
-/// What stands for a word. The last pair with this word is the innermost one, and counts.
-#[tactic(auto, using(crate::proofs::WordLaws::replaced_more, crate::proofs::WordLaws::replaced_done))]
-pub fn replaced<'a>(binding: &[Bound<'a>], word: &'a [u8]) -> &'a [u8]
-    ensures { result.now ≡ replaced (binding_of binding.now) word.now }
-{
-    let mut found = word;
-    for bound in binding {
-        found = further(bound, word, found);
-    }
-    found
-}
-
-/// The pairs, with a further one as the innermost.
-#[tactic(auto, using(crate::proofs::WordLaws::pushed_pair))]
-pub fn bind<'a>(
-    alloc: Global,
-    binding: &[Bound<'a>],
-    word: &'a [u8],
-    by: &'a [u8],
-) -> Result<Vec<Bound<'a>>, AllocError>
-    ensures { IfOk result (λ inner. binding_of inner.items ≡ binding_of binding.now ++ (word.now, by.now) ∷ []) }
-{
-    let mut inner = binding.to_vec(alloc)?;
-    inner.push(Bound { word, by })?;
-    Ok(inner)
-}
 
 /// Puts a word behind those that were seen, where it is new. Gives whether it is.
 pub fn sight<'a>(seen: &mut Words<'a>, word: &'a [u8]) -> Result<bool, AllocError>

@@ -9,7 +9,7 @@ use Rattle.std.specs.Global.{Vec}
 use Rattle.std.specs.Map.{lookup, keys_of}
 use Rattle.std.specs.List.{position}
 use Rattle.std.proofs.lemmas.List.Quantifiers.{position-Some}
-use Rattle.tv_names.specs.Symbols.{SymbolForm, KnownForm, symbol_of, behind_commas, brackets_text}
+use Rattle.tv_names.specs.Symbols.{SymbolForm, KnownForm, symbol_of}
 use Rattle.tv_names.specs.Copies.{symbol_form}
 
 -- the entry at i is the first of this name
@@ -41,19 +41,6 @@ new_by name x es rest false h (Some y) e none = absurd (let k = rw (h, e) at non
 pub symbol_new : (name : List ℕ) (es : List (Vec ℕ × ℕ)) → symbol_of name (map symbol_form es) ≡ None → lookup (λ (k : Vec ℕ). bytes_eq name k.items) es ≡ None
 symbol_new name [] none = refl
 symbol_new name (x ∷ es) none = new_by name x es (symbol_new name es) (bytes_eq name x.0.items) refl (symbol_of name (map symbol_form es)) refl none
-
-drop_more : (xs : List (List ℕ)) (i : ℕ) (x : List ℕ) → i < length xs → x ≡ get_or xs i x → drop i xs ≡ x ∷ drop (i + 1) xs
-drop_more xs i x lt is = rw add-one (drop-cons xs i x lt ∙ ap (λ (y : List ℕ). y ∷ drop (suc i) xs) (sym is))
-
-pub words_step : (text : List ℕ) (xs : List (List ℕ)) (i : ℕ) (x : List ℕ) → i < length xs → x ≡ get_or xs i x → ((text ++ 44 ∷ []) ++ x) ++ behind_commas (drop (i + 1) xs) ≡ text ++ behind_commas (drop i xs)
-words_step text xs i x lt is =
-    rw (drop_more xs i x lt is) (append_assoc (text ++ 44 ∷ []) x (behind_commas (drop (i + 1) xs)) ∙ append_assoc text (44 ∷ []) (x ++ behind_commas (drop (i + 1) xs)))
-
-pub words_done : (text : List ℕ) (xs : List (List ℕ)) (i : ℕ) → length xs ≤ i → text ++ behind_commas (drop i xs) ≡ text
-words_done text xs i past = rw (drop_all i xs past) (append-nil text)
-
-pub brackets_done : (text x : List ℕ) (xs : List (List ℕ)) → (((text ++ 91 ∷ []) ++ x) ++ behind_commas xs) ++ 93 ∷ [] ≡ text ++ brackets_text (x ∷ xs)
-brackets_done text x xs = simp append_assoc
 
 -- the entry at the place of this name
 pub symbol_found : (name : List ℕ) (es : List (Vec ℕ × ℕ)) (i : ℕ) (e : Vec ℕ × ℕ) → Some i ≡ position (λ (k : Vec ℕ). bytes_eq name k.items) (keys_of es) → slice_get es i ≡ Some e → symbol_of name (map symbol_form es) ≡ Some (record { pred = i; arity = e.1 })

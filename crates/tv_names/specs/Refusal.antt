@@ -1,24 +1,12 @@
 -- Steps that may be refused, one after the other: the first refusal decides.
-use Rattle.std.specs.Prelude.{◌≡◌, List, [], ◌∷◌, ◌++◌, Bool, Result, Ok, Err, Option, Some, None, if◌then◌else◌}
+use Rattle.std.specs.Prelude.{◌≡◌, List, [], ◌∷◌, ◌++◌, Result, Ok, Err}
+pub use Rattle.tv_tree.specs.Steps.{◌>>=◌, refused_if, or_refused}
 use Rattle.tv_names.specs.declared.refusal.ResolveError.{ResolveError}
 use Rattle.tv_names.specs.declared.refusal.ResolveError.TheVariants.{Memory}
 
 -- what a step gives, or why it is refused
 abbrev pub OrRefused : Type 0 → Type 0
 OrRefused A = Result A ResolveError
-
-infixl 10 ◌>>=◌
-abbrev pub ◌>>=◌ : {A B : Type 0} → OrRefused A → (A → OrRefused B) → OrRefused B
-◌>>=◌ (Ok x) f = f x
-◌>>=◌ (Err e) f = Err e
-
--- goes on only where the flag is false
-abbrev pub refused_if : Bool → ResolveError → OrRefused (Unit {0})
-refused_if wrong e = if wrong then Err e else Ok tt
-
-abbrev pub or_refused : {A : Type 0} → Option A → ResolveError → OrRefused A
-or_refused None e = Err e
-or_refused (Some x) e = Ok x
 
 -- the refusal is the one that is defined; of want of memory nothing is said
 abbrev pub Refuses : {Y : Type 0} → ResolveError → OrRefused Y → Type 0

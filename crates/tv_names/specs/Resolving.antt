@@ -4,12 +4,13 @@ use Rattle.std.specs.List.{list_any}
 use Rattle.std.specs.Str.{bytes_eq}
 use Rattle.tv_tree.specs.Forms as tree
 use Rattle.tv_tree.specs.Forms.{NameForm}
+use Rattle.tv_tree.specs.Names.{name_text}
 use Rattle.tv_model.specs.Form.{Form, FZero, FOne, FAtom, FIsNew, FSame, FNot, FAnd, FOr, FIff, FCond, FExists, FForall, FClosure}
 use Rattle.tv_names.specs.declared.refusal.ResolveError.TheVariants.{NameUnknown, NameTwice, ArityWrong, Reserved, VariableUnbound, HalfLiteral}
 use Rattle.tv_names.specs.declared.place.Others.{Others}
 use Rattle.tv_names.specs.declared.place.Others.TheVariants.{Any, Never, Once}
 use Rattle.tv_names.specs.Refusal.{◌>>=◌, OrRefused, refused_if, or_refused}
-use Rattle.tv_names.specs.Symbols.{SymbolForm, KnownForm, name_text, is_sm, is_new_word, symbol_of}
+use Rattle.tv_names.specs.Symbols.{SymbolForm, KnownForm, is_sm, is_new_word, symbol_of}
 use Rattle.tv_names.specs.Naming.{NamingForm, number_of, sighted, own_pair}
 
 -- Where a formula stands: the predicates, whether `isNew` is allowed, which variables are known, by number, since a

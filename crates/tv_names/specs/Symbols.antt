@@ -1,21 +1,7 @@
--- The names of predicates: how they are spelled, and the numbers that they have.
-use Rattle.std.specs.Prelude.{ℕ, ◌+◌, Bool, ◌||◌, List, [], ◌∷◌, ◌++◌, Option, Some, None, codes, if◌then◌else◌}
+-- The names of predicates, and the numbers that they have.
+use Rattle.std.specs.Prelude.{ℕ, ◌+◌, Bool, ◌||◌, List, [], ◌∷◌, Option, Some, None, codes, if◌then◌else◌}
 use Rattle.std.specs.Option.{option_map}
 use Rattle.std.specs.Str.{bytes_eq}
-use Rattle.tv_tree.specs.Forms.{NameForm}
-
--- words, each behind a comma
-abbrev pub behind_commas : List (List ℕ) → List ℕ
-behind_commas [] = []
-behind_commas (x ∷ xs) = (44 ∷ x) ++ behind_commas xs
-
-abbrev pub brackets_text : List (List ℕ) → List ℕ
-brackets_text [] = []
-brackets_text (x ∷ xs) = 91 ∷ ((x ++ behind_commas xs) ++ 93 ∷ [])
-
--- the text of a name: its identifier, and those in brackets behind it, parted by commas
-abbrev pub name_text : NameForm → List ℕ
-name_text name = name.first ++ brackets_text name.brackets
 
 abbrev pub is_sm : List ℕ → Bool
 is_sm name = bytes_eq name (codes "sm")

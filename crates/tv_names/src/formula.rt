@@ -7,7 +7,7 @@ ghost use Rattle.tv_model.specs.Form.{Form, form_of, vars_of, FExists, FForall};
 ghost use Rattle.tv_names.specs.declared.place.Others.TheVariants.{Once};
 ghost use Rattle.tv_names.specs.Refusal.{Gives};
 ghost use Rattle.tv_names.specs.Quantifiers.{quantifier_of};
-ghost use Rattle.tv_names.specs.Symbols.{name_text};
+ghost use Rattle.tv_tree.specs.Names.{name_text};
 ghost use Rattle.tv_names.specs.Naming.{number_of};
 ghost use Rattle.tv_names.specs.Copies.{naming_of, place_of};
 ghost use Rattle.tv_names.specs.Resolving.{is_known_at, is_the_further, other_variable, occurrence, two_occurrences, terms, pred_at, new_atom, pred_atom, atom, closable, star, star_of, closure_of, under, quantified, two_bound, resolved};
@@ -15,9 +15,10 @@ ghost use Rattle.tv_names.specs.Resolving.{is_known_at, is_the_further, other_va
 use crate::naming::Naming;
 use crate::place::{Others, Place};
 use crate::refusal::ResolveError;
-use crate::symbols::{is_among, is_new_word, is_sm, name_text};
+use crate::symbols::{is_among, is_new_word, is_sm};
 use std::alloc::{AllocError, Global};
 use tv_model::{Formula, PredId, Terms, Var};
+use tv_tree::name_text;
 use tv_tree::trees::{FormulaTree, Name, Spelling};
 
 fn is_known(place: &Place<'_>, number: Option<u8>) -> bool

@@ -1,52 +1,14 @@
-//! The names of predicates: their texts, and the numbers that they have.
+//! The names of predicates, and the numbers that they have.
 
 ghost use Rattle.std.specs.Prelude.{ℕ, ◌≡◌, ◌+◌, ◌<◌, ◌≤◌, ◌++◌, ◌∷◌, [], length, Option, Some, None, IfOk, OnOk, MatchOption, codes};
 ghost use Rattle.std.specs.Option.{option_map};
 ghost use Rattle.std.specs.Str.{bytes_eq};
-ghost use Rattle.tv_tree.specs.Copies.{name_of};
-ghost use Rattle.tv_names.specs.Symbols.{name_text, behind_commas, brackets_text, is_sm, is_new_word, is_reserved, symbol_of, KnownForm};
+ghost use Rattle.tv_names.specs.Symbols.{is_sm, is_new_word, is_reserved, symbol_of, KnownForm};
 ghost use Rattle.tv_names.specs.Resolving.{is_among};
 
 use indexmap::IndexMap;
 use std::alloc::{AllocError, Global};
-use tv_tree::trees::{Name, Spelling};
-
-#[tactic(auto, using(crate::proofs::SymbolLaws::words_step, crate::proofs::SymbolLaws::words_done))]
-fn push_words(text: &mut Vec<u8>, words: &[Spelling]) -> Result<(), AllocError>
-    ensures { OnOk result (text.new.items ≡ text.old.items ++ behind_commas words.now) }
-{
-    for word in words {
-        text.push(b',')?;
-        text.extend_from_slice(&word.0)?;
-    }
-    Ok(())
-}
-
-#[tactic(auto, using(crate::proofs::SymbolLaws::brackets_done))]
-fn push_brackets(
-    text: &mut Vec<u8>,
-    first: &Spelling,
-    others: &[Spelling],
-) -> Result<(), AllocError>
-    ensures { OnOk result (text.new.items ≡ text.old.items ++ brackets_text (first.now ∷ others.now)) }
-{
-    text.push(b'[')?;
-    text.extend_from_slice(&first.0)?;
-    push_words(text, others)?;
-    text.push(b']')?;
-    Ok(())
-}
-
-/// The text of a name: its identifier, and those in brackets behind it, parted by commas.
-pub fn name_text(alloc: Global, name: &Name) -> Result<Vec<u8>, AllocError>
-    ensures { IfOk result (λ text. text.items ≡ name_text (name_of name.now)) }
-{
-    let mut text = Vec::from_slice(alloc, &name.first.0)?;
-    if let Some((first, others)) = name.brackets.as_slice().split_first() {
-        push_brackets(&mut text, first, others)?;
-    }
-    Ok(text)
-}
+use tv_tree::trees::Spelling;
 
 fn is_text(name: &[u8], text: &[u8]) -> bool
     ensures { result ≡ bytes_eq name.now text.now }

@@ -2,6 +2,7 @@
 use Rattle.std.specs.Prelude.{ℕ, ◌+◌, Bool, true, false, not, ◌&&◌, ◌||◌, ◌==◌, List, [], ◌∷◌, ◌++◌, length, map, Option, Some, None, Ok, Err, slice_get, if◌then◌else◌}
 use Rattle.std.specs.List.{list_any, flat_map}
 use Rattle.tv_tree.specs.Forms as tree
+use Rattle.tv_tree.specs.Names.{name_text}
 use Rattle.tv_tree.specs.Forms.{Nest, Nests, no_nest, with_nest, Single, Foreach, UpdateForm, PieceForm, Quoted, Spelled, PartForm, PCaption, PFocus, PPre, PMessage, PNew, PRetain, PBlock}
 use Rattle.tv_model.specs.Form.{Form}
 use Rattle.tv_model.specs.Program as model
@@ -9,7 +10,7 @@ use Rattle.tv_model.specs.Program.{PredForm, KindForm, KCore, KDefined, ChangeFo
 use Rattle.tv_names.specs.declared.refusal.ResolveError.TheVariants.{NameUnknown, NameTwice, ArityWrong, Reserved, UpdateTwice}
 use Rattle.tv_names.specs.declared.place.Others.TheVariants.{Never, Once}
 use Rattle.tv_names.specs.Refusal.{◌>>=◌, OrRefused, refused_if, or_refused, one_by_one}
-use Rattle.tv_names.specs.Symbols.{SymbolForm, KnownForm, name_text, is_reserved, symbol_of}
+use Rattle.tv_names.specs.Symbols.{SymbolForm, KnownForm, is_reserved, symbol_of}
 use Rattle.tv_names.specs.Naming.{NamingForm, Nameless, filled, declared_all, no_names, kept_from}
 use Rattle.tv_names.specs.Picks.{picks_in, flags_of, flagged}
 use Rattle.tv_names.specs.Resolving.{PlaceForm, Numbered, resolved}

@@ -2,7 +2,7 @@
 use Rattle.std.specs.Prelude.{ℕ, Bool, nat_le, List, [], ◌∷◌, ◌++◌, length, Ok, Err, if◌then◌else◌}
 use Rattle.std.specs.List.{position_or_len}
 use Rattle.std.specs.Str.{bytes_eq}
-use Rattle.tv_expand.specs.FlatForm.{FlatEdgeForm}
+use Rattle.tv_flat.specs.FlatForm.{FlatEdgeForm}
 use Rattle.tv_model.specs.declared.program.Edge.{Edge}
 use Rattle.tv_names.specs.declared.refusal.ResolveError.TheVariants.{TooMany, NoEdge}
 use Rattle.tv_names.specs.Refusal.{◌>>=◌, OrRefused, refused_if, one_by_one}

@@ -1,6 +1,6 @@
 -- The program of a flat tree, or the first refusal.
 use Rattle.std.specs.Prelude.{List, Ok}
-use Rattle.tv_expand.specs.FlatForm.{FlatForm}
+use Rattle.tv_flat.specs.FlatForm.{FlatForm}
 use Rattle.tv_model.specs.Program.{ProgramForm}
 use Rattle.tv_names.specs.Refusal.{◌>>=◌, OrRefused, each}
 use Rattle.tv_vocab.specs.Vocabulary.{vocabulary, rule}

@@ -3,6 +3,7 @@ use Rattle.std.specs.Prelude.{ℕ, zero, suc, ◌+◌, Bool, true, false, not, �
 use Rattle.std.specs.List.{list_any, list_all}
 use Rattle.std.specs.Option.{option_map}
 use Rattle.tv_tree.specs.Forms as tree
+use Rattle.tv_tree.specs.Names.{name_text}
 use Rattle.tv_tree.specs.declared.trees.PropWord.{PropWord}
 use Rattle.tv_tree.specs.declared.trees.PropWord.TheVariants.{Unique, Function, Invfunction, Abs, Nonabs, Transitive, Reflexive, Symmetric, Boxed, Pointer}
 use Rattle.tv_model.specs.declared.program.Props.{Props}
@@ -12,7 +13,7 @@ use Rattle.tv_names.specs.declared.refusal.ResolveError.{ResolveError}
 use Rattle.tv_names.specs.declared.refusal.ResolveError.TheVariants.{DefinitionCycle, NameTwice, ArityWrong, ArityTooLarge, Reserved, TooMany, HeadForm as BadHead}
 use Rattle.tv_names.specs.declared.place.Others.TheVariants.{Any, Never}
 use Rattle.tv_names.specs.Refusal.{◌>>=◌, OrRefused, refused_if, one_by_one, each}
-use Rattle.tv_names.specs.Symbols.{SymbolForm, name_text, is_reserved, symbol_of}
+use Rattle.tv_names.specs.Symbols.{SymbolForm, is_reserved, symbol_of}
 use Rattle.tv_names.specs.Naming.{NamingForm, declared_all, no_names}
 use Rattle.tv_names.specs.Picks.{flags_of}
 use Rattle.tv_names.specs.Resolving.{PlaceForm, resolved, is_among}

@@ -9,7 +9,7 @@ ghost use Rattle.tv_model.specs.Program.{pred_of, message_of, retain_of, action_
 ghost use Rattle.tv_names.specs.Refusal.{Gives, one_by_one, each};
 ghost use Rattle.tv_names.specs.Copies.{symbols_of, place_of, naming_of};
 ghost use Rattle.tv_names.specs.Naming.{no_names};
-ghost use Rattle.tv_expand.specs.FlatForm.{parts_of};
+ghost use Rattle.tv_flat.specs.FlatForm.{parts_of};
 ghost use Rattle.tv_vocab.specs.Copies.{picking_of};
 ghost use Rattle.tv_vocab.specs.Vocabulary.{over};
 ghost use Rattle.tv_vocab.specs.Actions.{with_formula, resolved_all, focused, picking, precondition, piece_text, message, with_part, messages, further_number, retaining, retain, action};
@@ -18,7 +18,7 @@ use crate::parts::{adds_new, block_in, focus_in, pre_in, retain_in};
 use crate::rules::anywhere;
 use crate::updates::{Updating, updates};
 use std::alloc::{AllocError, Global};
-use tv_expand::FlatAction;
+use tv_flat::FlatAction;
 use tv_model::{Action, Formula, Items, Message, Pred, Retain, Var};
 use tv_names::{
     Known, Naming, Others, Place, ResolveError, Slot, Symbols, picks_in, resolve_formula,

@@ -2,13 +2,13 @@
 
 ghost use Rattle.std.specs.Prelude.{◌≡◌, map};
 ghost use Rattle.tv_names.specs.Refusal.{Gives, one_by_one};
-ghost use Rattle.tv_expand.specs.FlatForm.{flat_edge_of};
+ghost use Rattle.tv_flat.specs.FlatForm.{flat_edge_of};
 ghost use Rattle.tv_vocab.specs.Views.{drawn_of};
 ghost use Rattle.tv_vocab.specs.Graph.{with_edge, no_graph, graph};
 
 use crate::graph::Graph;
 use std::alloc::Global;
-use tv_expand::FlatEdge;
+use tv_flat::FlatEdge;
 use tv_model::{Edges, Items, Names};
 use tv_names::ResolveError;
 

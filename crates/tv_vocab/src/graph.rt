@@ -4,12 +4,12 @@ ghost use Rattle.std.specs.Prelude.{ℕ, ◌≡◌, ◌≤◌, ◌<◌, ◌++◌
 ghost use Rattle.std.specs.List.{position_or_len};
 ghost use Rattle.tv_names.specs.Refusal.{Gives, one_by_one};
 ghost use Rattle.tv_names.specs.Resolving.{is_among};
-ghost use Rattle.tv_expand.specs.FlatForm.{flat_edge_of};
+ghost use Rattle.tv_flat.specs.FlatForm.{flat_edge_of};
 ghost use Rattle.tv_vocab.specs.Graph.{with_node, node_number, with_edge, no_graph};
 
 use indexmap::IndexSet;
 use std::alloc::{AllocError, Global};
-use tv_expand::FlatEdge;
+use tv_flat::FlatEdge;
 use tv_model::{Bytes, Edge, Items};
 use tv_names::ResolveError;
 

@@ -2,7 +2,7 @@
 
 ghost use Rattle.std.specs.Prelude.{◌≡◌, map};
 ghost use Rattle.tv_model.specs.Program.{program_of};
-ghost use Rattle.tv_expand.specs.FlatForm.{flat_of};
+ghost use Rattle.tv_flat.specs.FlatForm.{flat_of};
 ghost use Rattle.tv_names.specs.Refusal.{Gives};
 ghost use Rattle.tv_vocab.specs.Resolution.{program};
 
@@ -11,7 +11,7 @@ use crate::draw::draw;
 use crate::rules::rules;
 use crate::vocabulary::{Declared, vocabulary};
 use std::alloc::Global;
-use tv_expand::Flat;
+use tv_flat::Flat;
 use tv_model::{Items, Program, Vocab};
 use tv_names::ResolveError;
 

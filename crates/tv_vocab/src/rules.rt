@@ -6,7 +6,7 @@ ghost use Rattle.tv_model.specs.Form.{form_of};
 ghost use Rattle.tv_model.specs.Program.{head_of as head_form, rule_of};
 ghost use Rattle.tv_names.specs.Refusal.{Gives, each};
 ghost use Rattle.tv_names.specs.Copies.{symbols_of, place_of};
-ghost use Rattle.tv_expand.specs.FlatForm.{rule_of as decl_of};
+ghost use Rattle.tv_flat.specs.FlatForm.{rule_of as decl_of};
 ghost use Rattle.tv_vocab.specs.Vocabulary.{anywhere, negated_head, head_of, rule};
 
 use std::alloc::Global;

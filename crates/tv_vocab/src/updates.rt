@@ -16,9 +16,9 @@ use crate::vocabulary::twice;
 use std::alloc::Global;
 use tv_model::{Change, Formula, Kind, Pred, PredId, Terms, Update, Var};
 use tv_names::{
-    Known, KnownSymbol, Naming, Others, Place, ResolveError, Symbols, is_reserved, name_text,
-    resolve_formula,
+    Known, KnownSymbol, Naming, Others, Place, ResolveError, Symbols, is_reserved, resolve_formula,
 };
+use tv_tree::name_text;
 use tv_tree::trees::{FormulaTree, Name, Spelling, UpdateTree};
 
 /// What all updates of an action share.

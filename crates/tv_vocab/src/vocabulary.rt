@@ -14,9 +14,9 @@ use crate::cycles::has_cycle;
 use std::alloc::Global;
 use tv_model::{Items, Kind, Pred, Props};
 use tv_names::{
-    Known, Naming, Others, Place, ResolveError, Symbols, is_among, is_reserved, name_text,
-    resolve_formula,
+    Known, Naming, Others, Place, ResolveError, Symbols, is_among, is_reserved, resolve_formula,
 };
+use tv_tree::name_text;
 use tv_tree::trees::{FormulaTree, PredDecl, PropWord, Spelling};
 
 fn fits(arity: usize, word: PropWord) -> bool

@@ -1,6 +1,7 @@
 use Rattle.std.proofs.Common.{sym}
 use Rattle.tv_tree.proofs.Unfolds.{update_of_foreach}
-use Rattle.tv_expand.specs.Views.{binding_of, sets_of}
+use Rattle.tv_flat.specs.Views.{binding_of}
+use Rattle.tv_expand.specs.Views.{sets_of}
 use Rattle.tv_expand.specs.States.{block_of}
 use Rattle.tv_expand.proofs.StepLaws.{updates_each}
 use Rattle.tv_expand.proofs.block.+update.Goals as goal

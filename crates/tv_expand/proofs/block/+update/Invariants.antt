@@ -2,7 +2,8 @@ use Rattle.std.proofs.Common.{◌≡◌, ◌++◌, ◌∷◌, [], drop}
 use Rattle.tv_tree.specs.Copies.{update_of, updates_of}
 use Rattle.tv_expand.specs.Outcome.{each}
 use Rattle.tv_expand.specs.Expansion.{sets_for, updated, unrolled_nest, all_updated}
-use Rattle.tv_expand.specs.Views.{names_of, binding_of, sets_of}
+use Rattle.tv_flat.specs.Views.{binding_of}
+use Rattle.tv_expand.specs.Views.{names_of, sets_of}
 use Rattle.tv_expand.specs.States.{block_of}
 use Rattle.tv_expand.proofs.block.+update.Given as goal
 

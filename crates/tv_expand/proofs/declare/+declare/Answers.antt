@@ -1,6 +1,6 @@
 use Rattle.std.proofs.Common.{sym}
 use Rattle.tv_tree.proofs.Unfolds.{decl_of_foreach}
-use Rattle.tv_expand.specs.Views.{binding_of}
+use Rattle.tv_flat.specs.Views.{binding_of}
 use Rattle.tv_expand.specs.States.{declared_of}
 use Rattle.tv_expand.proofs.StepLaws.{decls_each}
 use Rattle.tv_expand.proofs.declare.+declare.Goals as goal

@@ -2,7 +2,8 @@ use Rattle.std.proofs.Common.{◌≡◌, ◌++◌, ◌∷◌, [], drop}
 use Rattle.tv_tree.specs.Copies.{decl_of, decls_of}
 use Rattle.tv_expand.specs.Outcome.{each}
 use Rattle.tv_expand.specs.Expansion.{sets_in, declared, unrolled_nest, all_declared}
-use Rattle.tv_expand.specs.Views.{names_of, binding_of}
+use Rattle.tv_flat.specs.Views.{binding_of}
+use Rattle.tv_expand.specs.Views.{names_of}
 use Rattle.tv_expand.specs.States.{declared_of}
 use Rattle.tv_expand.proofs.declare.+declare.Given as goal
 

@@ -1,7 +1,8 @@
 use Rattle.std.proofs.Common.{sym}
 use Rattle.tv_tree.specs.Copies.{part_of}
 use Rattle.tv_expand.specs.Expansion.{gathered}
-use Rattle.tv_expand.specs.Views.{binding_of, sets_of}
+use Rattle.tv_flat.specs.Views.{binding_of}
+use Rattle.tv_expand.specs.Views.{sets_of}
 use Rattle.tv_expand.specs.States.{gathered_of}
 use Rattle.tv_expand.proofs.StepLaws.{each_map}
 use Rattle.tv_expand.proofs.gather.put_parts.Goals as goal

@@ -1,6 +1,7 @@
 use Rattle.std.proofs.Common.{◌∙◌, refl}
 use Rattle.std.proofs.lemmas.Result.{err_from_is_err_and}
-use Rattle.tv_expand.specs.Views.{names_of, binding_of, sets_of}
+use Rattle.tv_flat.specs.Views.{binding_of}
+use Rattle.tv_expand.specs.Views.{names_of, sets_of}
 use Rattle.tv_expand.proofs.SetLaws.{set_members, fails_then, fails_same, further_fails, further_step}
 use Rattle.tv_expand.proofs.sets.+set.Goals as goal
 

@@ -1,7 +1,8 @@
 use Rattle.std.proofs.Common.{◌≡◌, drop, map}
 use Rattle.tv_tree.specs.Copies.{set_of, step_of}
 use Rattle.tv_expand.specs.Sets.{members_of}
-use Rattle.tv_expand.specs.Views.{names_of, binding_of, sets_of}
+use Rattle.tv_flat.specs.Views.{binding_of}
+use Rattle.tv_expand.specs.Views.{names_of, sets_of}
 use Rattle.tv_expand.proofs.SetLaws.{further_sets}
 use Rattle.tv_expand.proofs.sets.+set.Given as goal
 

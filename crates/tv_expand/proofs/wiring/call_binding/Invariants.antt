@@ -1,6 +1,6 @@
 use Rattle.std.proofs.Common.{◌≡◌, ◌++◌, drop}
 use Rattle.std.specs.List.{zip}
-use Rattle.tv_expand.specs.Views.{binding_of}
+use Rattle.tv_flat.specs.Views.{binding_of}
 use Rattle.tv_expand.proofs.wiring.call_binding.Given as goal
 
 -- the pairs so far and those that are left are all

@@ -1,6 +1,8 @@
 use Rattle.std.proofs.Common.{◌≡◌, drop, map}
-use Rattle.tv_expand.specs.Sets.{replaced, with_members}
-use Rattle.tv_expand.specs.Views.{names_of, binding_of}
+use Rattle.tv_flat.specs.Replaced.{replaced}
+use Rattle.tv_expand.specs.Sets.{with_members}
+use Rattle.tv_flat.specs.Views.{binding_of}
+use Rattle.tv_expand.specs.Views.{names_of}
 use Rattle.tv_expand.proofs.words.add_replaced.Given as goal
 
 -- the words so far and those that are left are all of them

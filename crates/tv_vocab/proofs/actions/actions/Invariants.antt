@@ -1,5 +1,5 @@
 use Rattle.tv_names.specs.Copies.{symbols_of, place_of, naming_of}
-use Rattle.tv_expand.specs.FlatForm.{parts_of}
+use Rattle.tv_flat.specs.FlatForm.{parts_of}
 use Rattle.tv_model.specs.Program.{pred_of, action_of}
 use Rattle.tv_vocab.specs.Actions.{action}
 use Rattle.std.proofs.Common.{◌≡◌, map, [], drop}

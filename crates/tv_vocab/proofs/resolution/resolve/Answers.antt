@@ -5,9 +5,9 @@ use Rattle.tv_tree.specs.declared.trees.PredDecl.{PredDecl}
 use Rattle.tv_tree.specs.declared.trees.RuleDecl.{RuleDecl}
 use Rattle.tv_model.specs.Program.{pred_of, rule_of as ruled_of, action_of}
 use Rattle.tv_model.specs.declared.program.Pred.{Pred}
-use Rattle.tv_expand.specs.FlatForm.{flat_of, rule_of, parts_of, flat_edge_of}
-use Rattle.tv_expand.specs.declared.flat.FlatAction.{FlatAction}
-use Rattle.tv_expand.specs.declared.flat.FlatEdge.{FlatEdge}
+use Rattle.tv_flat.specs.FlatForm.{flat_of, rule_of, parts_of, flat_edge_of}
+use Rattle.tv_flat.specs.declared.flat.FlatAction.{FlatAction}
+use Rattle.tv_flat.specs.declared.flat.FlatEdge.{FlatEdge}
 use Rattle.tv_names.specs.Refusal.{Refuses, each}
 use Rattle.tv_names.specs.Copies.{symbols_of}
 use Rattle.tv_vocab.specs.Views.{declared_of, drawn_of}

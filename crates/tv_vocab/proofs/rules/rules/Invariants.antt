@@ -1,5 +1,5 @@
 use Rattle.tv_names.specs.Copies.{symbols_of, place_of, naming_of}
-use Rattle.tv_expand.specs.FlatForm.{rule_of}
+use Rattle.tv_flat.specs.FlatForm.{rule_of}
 use Rattle.tv_model.specs.Program.{rule_of as model_of}
 use Rattle.tv_vocab.specs.Vocabulary.{rule}
 use Rattle.std.proofs.Common.{◌≡◌, map, [], drop}

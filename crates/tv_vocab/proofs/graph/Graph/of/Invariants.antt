@@ -1,4 +1,4 @@
-use Rattle.tv_expand.specs.FlatForm.{flat_edge_of}
+use Rattle.tv_flat.specs.FlatForm.{flat_edge_of}
 use Rattle.tv_vocab.specs.Views.{graph_of}
 use Rattle.tv_vocab.specs.Graph.{with_edge, no_graph}
 use Rattle.std.proofs.Common.{◌≡◌, map, [], drop}

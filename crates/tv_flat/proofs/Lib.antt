@@ -1,0 +1,4 @@
+pub mod BindingLaws
+pub mod CopyLaws
+pub mod NodeLaws
+pub mod SpellLaws

@@ -1,0 +1,3 @@
+pub mod FlatForm
+pub mod Replaced
+pub mod Views

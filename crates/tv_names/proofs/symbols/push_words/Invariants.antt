@@ -1,7 +1,0 @@
-use Rattle.std.proofs.Common.{◌≡◌, ◌++◌, drop}
-use Rattle.tv_names.specs.Symbols.{behind_commas}
-use Rattle.tv_names.proofs.symbols.push_words.Given as goal
-
--- the words so far and those that are left are all of them
-abbrev pub invariant-loop-word : goal.invariant-loop-word
-invariant-loop-word l = l.text.items ++ behind_commas (drop l.word-index l.words) ≡ l.initial.text.items ++ behind_commas l.words

@@ -1,0 +1,13 @@
+-- The final texts of names.
+use Rattle.std.specs.Prelude.{ℕ, List, [], ◌∷◌, ◌++◌, codes}
+use Rattle.std.specs.List.{join_with_byte}
+use Rattle.tv_tree.specs.Forms.{NameForm}
+
+-- the identifiers in brackets behind a name, with commas between them
+abbrev pub brackets_text : List (List ℕ) → List ℕ
+brackets_text [] = []
+brackets_text (x ∷ xs) = codes "[" ++ (join_with_byte 44 (x ∷ xs) ++ codes "]")
+
+-- the text of a name, without blanks: its identifier, and those in brackets behind it
+abbrev pub name_text : NameForm → List ℕ
+name_text name = name.first ++ brackets_text name.brackets
