@@ -24,7 +24,7 @@ use Rattle.tv_parse.proofs.Phrases.{after_takes, first_takes, params_take, name_
 use Rattle.tv_parse.proofs.SetsRead.{set_read}
 use Rattle.tv_parse.proofs.RowsRead.{IsRead, many_read, joined_read, listed, nests_listed, rows_read}
 
-signature_read : (ts rest : List SpecToken) (n : NameForm) (xs : List (List ℕ)) → IsSignature ts n xs rest → (signature ts ≡ taken (n, xs) rest) × (length rest < length ts)
+pub signature_read : (ts rest : List SpecToken) (n : NameForm) (xs : List (List ℕ)) → IsSignature ts n xs rest → (signature ts ≡ taken (n, xs) rest) × (length rest < length ts)
 unfolding signature
 signature_read ts rest n xs h =
     let l : length h.0 < length ts = name_takes ts h.0 h.1 h.2 in
@@ -34,7 +34,7 @@ signature_read ts rest n xs h =
 prop_read : (ts us : List SpecToken) (p : PropWord) → IsProp ts p us → (first prop_item ts ≡ taken p us) × (length us < length ts)
 prop_read ts us p h = (h, first_takes prop_item ts us p h)
 
-props_read : (ts rest : List SpecToken) (ps : List PropWord) → AreProps ts ps rest → (props_reading ts ≡ taken ps rest) × (length rest ≤ length ts)
+pub props_read : (ts rest : List SpecToken) (ps : List PropWord) → AreProps ts ps rest → (props_reading ts ≡ taken ps rest) × (length rest ≤ length ts)
 props_read ts rest ps h = many_read begins_prop (first prop_item) IsProp prop_read ps ts rest h (length ts + 1) (omega arith)
 
 skip_read : (mark : List ℕ) (ts us : List SpecToken) → IsOptional mark ts us → (skip mark ts ≡ us) × (length us ≤ length ts)
@@ -61,15 +61,15 @@ unfolding first
 text_not_first [] us w e = refl
 text_not_first (t ∷ ts) us w e = no_string t.kind t.bytes ts us w e
 
-piece_read : IsRead piece_reading IsPiece
+pub piece_read : IsRead piece_reading IsPiece
 unfolding piece_reading
 piece_read ts us (Quoted s) h = (rw h refl, first_takes text_item ts us s h)
 piece_read ts us (Spelled s) h = (rw (text_not_first ts us s h, h) refl, first_takes identifier_item ts us s h)
 
-pieces_read : (ts rest : List SpecToken) (ps : List PieceForm) → ArePieces ts ps rest → (pieces_reading ts ≡ taken ps rest) × (length rest ≤ length ts)
+pub pieces_read : (ts rest : List SpecToken) (ps : List PieceForm) → ArePieces ts ps rest → (pieces_reading ts ≡ taken ps rest) × (length rest ≤ length ts)
 pieces_read ts rest ps h = joined_read (codes "+") piece_reading IsPiece (λ vs us x i. let a = piece_read vs us x i in let l : length us < length vs = a.1 in (a.0, omega arith)) ps ts rest h
 
-edge_read : IsRead edge_reading IsEdge
+pub edge_read : IsRead edge_reading IsEdge
 unfolding edge_reading
 edge_read ts us x h =
     let la : length h.0 < length ts = first_takes word_item ts h.0 x.from h.3 in
@@ -104,7 +104,7 @@ module _ (formula_read : (ts rest : List SpecToken) (f : Form) → IsFormula ts 
       let le : length rest ≤ length d.1 = c.1 in
       (rw (h.2, s.0, d.2, formula_read d.0 d.1 f d.3, c.0) refl, omega arith)
 
-  decl_read : IsRead decl_reading IsDecl
+  pub decl_read : IsRead decl_reading IsDecl
   unfolding decl_reading set_decl rule_decl
   decl_read ts rest (DSet w s) h =
       let o = skip_read (codes "=") h.1 h.2 h.5 in
@@ -122,7 +122,7 @@ module _ (formula_read : (ts rest : List SpecToken) (f : Form) → IsFormula ts 
       let ld : length rest ≤ length h.2 = formula_takes h.2 rest g h.6 in
       (rw (h.3, formula_read h.0 h.1 f h.4, h.5, formula_read h.2 rest g h.6) refl, omega arith)
 
-  update_read : IsRead update_reading IsUpdate
+  pub update_read : IsRead update_reading IsUpdate
   unfolding update_reading
   update_read ts rest u h =
       let s = signature_read ts h.0 u.name u.params h.2 in
@@ -134,7 +134,7 @@ module _ (formula_read : (ts rest : List SpecToken) (f : Form) → IsFormula ts 
   one_formula : (ts us : List SpecToken) (f : Form) → IsFormula ts f us → (formula_reading ts ≡ taken f us) × (length us ≤ length ts)
   one_formula ts us f h = (formula_read ts us f h, formula_takes ts us f h)
 
-  formulas_read : (ts rest : List SpecToken) (fs : List Form) → AreFormulas ts fs rest → (formulas_reading ts ≡ taken fs rest) × (length rest ≤ length ts)
+  pub formulas_read : (ts rest : List SpecToken) (fs : List Form) → AreFormulas ts fs rest → (formulas_reading ts ≡ taken fs rest) × (length rest ≤ length ts)
   unfolding formulas_reading
   formulas_read ts rest [] h = (rw (h.0, h.1) refl, rw h.1 (omega arith))
   formulas_read ts rest (f ∷ fs) h =
@@ -142,7 +142,7 @@ module _ (formula_read : (ts rest : List SpecToken) (f : Form) → IsFormula ts 
       (rw h.0 a.0, a.1)
 
   -- a part is read by its kind
-  part_read : (p : PartForm) (ts rest : List SpecToken) → IsPart ts p rest → (part_behind (kind_of p) ts ≡ taken p rest) × (length rest ≤ length ts)
+  pub part_read : (p : PartForm) (ts rest : List SpecToken) → IsPart ts p rest → (part_behind (kind_of p) ts ≡ taken p rest) × (length rest ≤ length ts)
   unfolding caption_part focus_part formula_part message_part block_part
   part_read (PCaption ps) ts rest h = let a = pieces_read ts rest ps h in (rw a.0 refl, a.1)
   part_read (PFocus fs) ts rest h =
@@ -167,7 +167,7 @@ module _ (formula_read : (ts rest : List SpecToken) (f : Form) → IsFormula ts 
       let lb : length rest < length h.0 = after_takes (codes "}") h.0 rest h.2 in
       (rw (a.0, h.2, nests_listed us) refl, omega arith)
 
-  parts_read : (ps before : List PartForm) (ts rest : List SpecToken) → AreParts before ts ps rest → (n : ℕ) → length ts < n → (parts n before ts ≡ taken ps rest) × (length rest ≤ length ts)
+  pub parts_read : (ps before : List PartForm) (ts rest : List SpecToken) → AreParts before ts ps rest → (n : ℕ) → length ts < n → (parts n before ts ≡ taken ps rest) × (length rest ≤ length ts)
   unfolding parts part_turn with_first
   parts_read ps before ts rest h zero lt = absurd (omega arith)
   parts_read [] before ts rest h (suc n) lt = (rw (h.0, h.1) refl, rw h.1 (omega arith))
@@ -179,7 +179,7 @@ module _ (formula_read : (ts rest : List SpecToken) (f : Form) → IsFormula ts 
       let lc : length rest ≤ length h.1 = b.1 in
       (rw (h.2, h.3, a.0, b.0) refl, omega arith)
 
-  action_read : IsRead action_reading IsAction
+  pub action_read : IsRead action_reading IsAction
   unfolding action_reading
   action_read ts rest x h =
       let ps = parts_read x.parts [] h.3 h.4 h.9 (length h.3 + 1) (omega arith) in

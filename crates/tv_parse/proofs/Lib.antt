@@ -12,3 +12,5 @@ pub mod ProgramLaws
 pub mod SpelledPhrases
 pub mod SpelledForms
 pub mod SpelledPrograms
+pub mod LexTokens
+pub mod UniquePhrases

@@ -59,7 +59,7 @@ module _ {X : Type 0} (begins : List SpecToken → Bool) (single : List SpecToke
   mutual
     unfolding nest lone foreach_nest rows turn with_first
 
-    nest_read : (d : Nest X) (ts rest : List SpecToken) → IsNest begins IsSingle ts d rest → (n : ℕ) → length ts ≤ n → (nest single (rows begins single n) ts ≡ taken d rest) × (length rest < length ts)
+    pub nest_read : (d : Nest X) (ts rest : List SpecToken) → IsNest begins IsSingle ts d rest → (n : ℕ) → length ts ≤ n → (nest single (rows begins single n) ts ≡ taken d rest) × (length rest < length ts)
     nest_read (Single x) ts rest h n le =
         let a = one ts rest x h.1 in
         (rw (h.0, a.0) refl, a.1)

@@ -146,6 +146,10 @@ all_read (SParen s) =
 all_read (SPlus s t) = (plus_front s t (all_read s).0 (all_read t).1, no_plus_term s t)
 all_read (SMinus s t) = (minus_front s t (all_read s).0 (all_read t).1, no_minus_term s t)
 
+pub term_read : (ts rest : List SpecToken) (t : SetForm) → IsSetTerm ts t rest → set_term (sets (length ts)) ts ≡ taken t rest
+unfolding TermRead
+term_read ts rest t h = ((all_read t).1 ts rest h (length ts) (omega arith)).0
+
 pub set_read : (ts rest : List SpecToken) (s : SetForm) → IsSet ts s rest → (set_reading ts ≡ taken s rest) × (length rest < length ts)
 unfolding set_reading FrontRead
 set_read ts rest s h =

@@ -34,6 +34,10 @@ use Rattle.tv_parse.specs.declared.kinds.DeclKind.{DeclKind}
 use Rattle.tv_parse.specs.declared.kinds.DeclKind.TheVariants as decl
 use Rattle.tv_parse.specs.Kinds.{decl_kind, part_kind, prop_item, begins_with, begins_decl, begins_update, begins_formula, kind_of, may_follow}
 
+-- from any place there is one such phrase at most: one tree and one end
+abbrev pub HasOne : {X : Type 0} → (List SpecToken → X → List SpecToken → Type 0) → Type 0
+HasOne {X} Item = (ts us vs : List SpecToken) (x y : X) → Item ts x us → Item ts y vs → (x ≡ y) × (us ≡ vs)
+
 -- any number of items: a further one is taken exactly where the first token can begin it
 abbrev pub Repeated : {X : Type 0} → (List SpecToken → Bool) → (List SpecToken → X → List SpecToken → Type 0) → List SpecToken → List X → List SpecToken → Type 0
 Repeated begins Item ts [] rest = IsFalse (begins ts) × (rest ≡ ts)

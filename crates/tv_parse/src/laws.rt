@@ -1,10 +1,11 @@
 //! Laws about programs and their tokens. Each function does nothing: its clause is what it shows.
-ghost use Rattle.std.specs.Prelude.{◌≡◌, ◌↔◌, List, Some, All};
+ghost use Rattle.std.specs.Prelude.{◌≡◌, ◌↔◌, ℕ, List, Some, All, codes};
 ghost use Rattle.tv_lex.specs.Token.{SpecToken};
 ghost use Rattle.tv_lex.specs.Spaced.{IsToken};
-ghost use Rattle.tv_tree.specs.Forms.{ProgramForm};
+ghost use Rattle.tv_tree.specs.Forms.{NameForm, PartForm, ProgramForm, SetForm};
 ghost use Rattle.tv_tree.specs.Spelled.{IsSpelled};
-ghost use Rattle.tv_parse.specs.Grammar.{IsProgram};
+ghost use Rattle.tv_parse.specs.Grammar.{IsProgram, HasOne, Repeated, IsSetTerm, IsSet, IsHead, IsNest, IsSignature, AreProps, IsDecl, AreDecls, IsUpdate, AreUpdates, IsPiece, ArePieces, AreFormulas, IsPart, AreParts, IsAction, IsEdge, begins_edge};
+ghost use Rattle.tv_parse.specs.Kinds.{begins_with, begins_decl, begins_update, kind_of};
 ghost use Rattle.tv_parse.specs.Reading.{program_reading};
 
 /// The reading of tokens gives exactly the program that the grammar says.
@@ -20,4 +21,42 @@ pub fn one_tree()
 /// The words of a program are spelled as words of a text are, and each kind of part stands once in an action.
 pub fn programs_are_spelled()
     ensures { (ts : List SpecToken) (t : ProgramForm) → IsProgram ts t → All IsToken ts → IsSpelled t }
+{}
+
+/// From any place there is one set at most: one tree and one end.
+pub fn one_set()
+    ensures whole { HasOne IsSet }
+    ensures term { HasOne IsSetTerm }
+    ensures head { HasOne (λ ts (x : List ℕ × SetForm) rest. IsHead ts x.0 x.1 rest) }
+{}
+
+/// The same of declarations, and of their parts.
+pub fn one_declaration()
+    ensures signature { HasOne (λ ts (x : NameForm × List (List ℕ)) rest. IsSignature ts x.0 x.1 rest) }
+    ensures properties { HasOne AreProps }
+    ensures single { HasOne (IsNest begins_decl IsDecl) }
+    ensures row { HasOne AreDecls }
+{}
+
+/// The same of updates.
+pub fn one_update()
+    ensures single { HasOne (IsNest begins_update IsUpdate) }
+    ensures row { HasOne AreUpdates }
+{}
+
+/// The same of actions and their parts. The token in front of a part tells its kind.
+pub fn one_action()
+    ensures piece { HasOne IsPiece }
+    ensures pieces { HasOne ArePieces }
+    ensures formulas { HasOne AreFormulas }
+    ensures part { (ts us vs : List SpecToken) (p q : PartForm) → kind_of p ≡ kind_of q → IsPart ts p us → IsPart ts q vs → (p ≡ q) × (us ≡ vs) }
+    ensures parts { (before : List PartForm) → HasOne (AreParts before) }
+    ensures action { HasOne IsAction }
+    ensures row { HasOne (Repeated (begins_with (codes "%action")) IsAction) }
+{}
+
+/// The same of edges.
+pub fn one_edge()
+    ensures single { HasOne IsEdge }
+    ensures row { HasOne (Repeated begins_edge IsEdge) }
 {}

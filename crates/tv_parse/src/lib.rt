@@ -12,7 +12,10 @@ mod sets;
 mod updates;
 
 pub use error::ParseError;
-pub use laws::{one_tree, programs_are_read, programs_are_spelled};
+pub use laws::{
+    one_action, one_declaration, one_edge, one_set, one_tree, one_update, programs_are_read,
+    programs_are_spelled,
+};
 pub use program::parse_program;
 
 #[cfg(test)]

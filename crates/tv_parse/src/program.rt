@@ -5,6 +5,7 @@ ghost use Rattle.tv_lex.specs.Token.{spec_tokens};
 ghost use Rattle.tv_lex.specs.Pieces.{Reads};
 ghost use Rattle.tv_phrases.specs.Reading.{Gives};
 ghost use Rattle.tv_tree.specs.Copies.{action_of, edge_of, program_of};
+ghost use Rattle.tv_tree.specs.Spelled.{IsSpelled};
 ghost use Rattle.tv_parse.specs.Reading.{edge_reading, actions_reading, edges_reading, tail_reading, program_reading};
 ghost use Rattle.tv_parse.specs.Height.{IsTooDeep};
 ghost use Rattle.tv_parse.specs.Grammar.{IsProgram};
@@ -148,6 +149,7 @@ pub fn parse_program(alloc: Global, bytes: &[u8], tokens: &Tokens) -> Result<Tre
     requires size { length bytes.now ≤ 67108864 }
     requires read { Reads bytes.now (Ok tokens.now.list.items) }
     ensures tree { IfOk result (λ t. IsProgram (spec_tokens bytes.now tokens.now.list.items) (program_of t)) }
+    ensures spelled { IfOk result (λ t. IsSpelled (program_of t)) }
     ensures low { IfOk result (λ t. ¬ IsTooDeep (spec_tokens bytes.now tokens.now.list.items)) }
     ensures fault { IfErr result (Cause (spec_tokens bytes.now tokens.now.list.items)) }
 {
