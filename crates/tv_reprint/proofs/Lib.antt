@@ -1,0 +1,11 @@
+pub mod Spelling
+pub mod Exact
+pub mod FormulaExact
+pub mod PartExact
+pub mod Kept
+pub mod SetsAgain
+pub mod DeclsAgain
+pub mod LaidOut
+pub mod Height
+pub mod Widths
+pub mod Programs
