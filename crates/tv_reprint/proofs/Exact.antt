@@ -1,5 +1,5 @@
 -- Tokens off whose front a phrase was read are the printed tokens of the phrase, and those behind it.
-use Rattle.std.proofs.Common.{◌≡◌, ℕ, List, [], ◌∷◌, ◌++◌, Bool, true, false, Option, Some, None, ◌+◌, ◌-◌, length, take, length-append, arith, refl, sym, ◌∙◌, ap, subst, map}
+use Rattle.std.proofs.Common.{◌≡◌, ℕ, List, [], ◌∷◌, ◌++◌, Bool, true, false, Option, Some, None, ◌-◌, length, take, length-append, arith, refl, sym, ◌∙◌, ap, subst}
 use lib.Seq.{take-append_seam}
 use Rattle.std.specs.Prelude.{codes, IfSome, if◌then◌else◌, ◌&&◌, is_some}
 use Rattle.std.specs.List.{AllByRecursion}
@@ -11,7 +11,7 @@ use Rattle.tv_lex.specs.Pieces.{Stands}
 use Rattle.tv_lex.specs.Spaced.{IsToken}
 use Rattle.tv_lex.specs.declared.token.TokenKind.{TokenKind}
 use Rattle.tv_lex.specs.declared.token.TokenKind.TheVariants as kind
-use Rattle.tv_phrases.specs.Reading.{Reading, taken, ◌>>=◌, choose}
+use Rattle.tv_phrases.specs.Reading.{Reading, taken}
 use Rattle.tv_phrases.specs.Tokens.{after, first, is_word, is_text, is_identifier, identifier_item, word_item, text_item, unquoted}
 use Rattle.tv_phrases.specs.Lists.{with_front, items_from, comma_list, optional_list, optional_list_in, between, optional_brackets, variables, params, name, two_items, pair}
 use Rattle.tv_phrases.specs.declared.kinds.Brackets.TheVariants as brackets

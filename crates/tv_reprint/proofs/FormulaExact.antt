@@ -1,18 +1,17 @@
 -- Tokens off whose front a formula was read are the printed tokens of the formula, and those behind it.
-use Rattle.std.proofs.Common.{◌≡◌, ℕ, List, [], ◌∷◌, ◌++◌, Option, Some, None, refl, sym, ◌∙◌, ap, subst, append_assoc}
+use Rattle.std.proofs.Common.{◌≡◌, ℕ, List, [], ◌∷◌, ◌++◌, Some, refl, sym, ◌∙◌, ap, subst, append_assoc}
 use Rattle.std.specs.Prelude.{codes}
 use Rattle.tv_lex.specs.Token.{SpecToken}
-use Rattle.tv_phrases.specs.Reading.{◌>>=◌, choose}
 use Rattle.tv_phrases.specs.Tokens.{after, first, text_item}
 use Rattle.tv_phrases.proofs.Facts.{on_bind, on_choose, at_some}
-use Rattle.tv_tree.specs.Forms.{Form, FZero, FOne, FHalf, FSame, FDiffer, FAtom, FStar, FPlus, FParen, FNot, FAnd, FOr, FImp, FIff, FCond, FExists, FForall, FTc}
+use Rattle.tv_tree.specs.Forms.{Form}
 use Rattle.tv_tree.specs.Printed.{formula_tokens, params_tokens, name_tokens, pair_tokens}
 use Rattle.tv_formula.specs.declared.binder.Binder.{Binder}
 use Rattle.tv_formula.specs.declared.binder.Binder.TheVariants.{Exists, Forall, Closure}
 use Rattle.tv_formula.specs.declared.link.Link.{Link}
 use Rattle.tv_formula.specs.declared.link.Link.TheVariants.{Iff, Or, And}
 use Rattle.tv_formula.specs.Grammar.{Production, Whole, Imp, Unary, Joined, Behind, mark_of, join, operand, name_form, arrow, over, Leaf, zero_leaf, one_leaf, half_leaf, same_leaf, differ_leaf, atom_leaf, star_leaf, plus_leaf, Binds, binds_some, binds_all, binds_pairs, Reads, cond, no_cond, joined, further, no_further, imp, no_imp, negation, binding, parentheses, leaf, IsFormula}
-use Rattle.tv_reprint.proofs.Exact.{Tokens, Exact, exact_then, none_exact, after_exact, word_exact, params_exact, variables_exact, pair_exact, name_exact}
+use Rattle.tv_reprint.proofs.Exact.{Tokens, Exact, exact_then, after_exact, word_exact, params_exact, variables_exact, pair_exact, name_exact}
 
 leaf_exact : (ts rest : List SpecToken) (f : Form) → Leaf ts f rest → Tokens ts → Exact ts (formula_tokens f) rest
 leaf_exact _ _ _ (zero_leaf ts rest a) are = after_exact (codes "0") ts rest a are

@@ -1,7 +1,7 @@
 -- As many constructs are open in the printed tokens as in the text.
-use Rattle.std.proofs.Common.{◌≡◌, ℕ, List, [], ◌∷◌, Bool, true, false, Option, Some, None, length, refl, sym, ◌∙◌, ap, subst}
+use Rattle.std.proofs.Common.{◌≡◌, ℕ, List, [], ◌∷◌, Bool, true, false, Some, None, length, refl, sym, ◌∙◌, ap}
 use Rattle.std.specs.Prelude.{codes, ◌||◌, ◌&&◌, nat_lt, if◌then◌else◌}
-use Rattle.std.specs.List.{list_any, AllByRecursion}
+use Rattle.std.specs.List.{AllByRecursion}
 use Rattle.std.specs.Str.{bytes_eq}
 use Rattle.std.proofs.lemmas.Bool.{false_from_ne_true, false≢true}
 use Rattle.std.proofs.lemmas.Slice.Eq.{bytes_eq-Decides}
@@ -9,7 +9,7 @@ use Rattle.tv_lex.specs.Token.{SpecToken}
 use Rattle.tv_lex.specs.declared.token.TokenKind.{TokenKind}
 use Rattle.tv_lex.specs.declared.token.TokenKind.TheVariants as kind
 use Rattle.tv_phrases.specs.Reading.{taken, ◌>>=◌}
-use Rattle.tv_phrases.specs.Tokens.{first, is_word, is_identifier, identifier_item}
+use Rattle.tv_phrases.specs.Tokens.{first, is_word, is_identifier}
 use Rattle.tv_formula.specs.Spelled.{kind_of, spell}
 use Rattle.tv_formula.proofs.Again.{ident_again}
 use Rattle.tv_parse.specs.declared.height.Open.{Open}
@@ -18,7 +18,8 @@ use Rattle.tv_parse.specs.declared.height.Effect.{Effect}
 use Rattle.tv_parse.specs.declared.height.Effect.TheVariants.{OpensBracket, OpensMark, ClosesBracket, ClosesMarks, Nothing}
 use Rattle.tv_parse.specs.Kinds.{begins_with}
 use Rattle.tv_parse.specs.Height.{is_one_of, opening_brackets, closing_brackets, connectives, quantifiers, separators, is_directive, effect, without_marks, changed, passes_height}
-use Rattle.tv_reprint.proofs.Kept.{Kept, all_kept, one_kept, mark_left, SameHead, kept_head, begins_head}
+use Rattle.tv_reprint.specs.ReadAgain.{Kept, all_kept, one_kept, mark_left}
+use Rattle.tv_reprint.proofs.Kept.{SameHead, kept_head, begins_head}
 
 effect_alike : (t : SpecToken) (ts us : List SpecToken) → SameHead ts us → effect t ts ≡ effect t us
 effect_alike t ts us same =

@@ -1,21 +1,16 @@
 -- The printed tokens are those of the text, but for the `=` that may stand behind the name of a set.
-use Rattle.std.proofs.Common.{◌≡◌, ℕ, List, [], ◌∷◌, ◌++◌, Bool, true, false, Option, Some, None, refl, sym, ◌∙◌, ap, subst}
+use Rattle.std.proofs.Common.{◌≡◌, ℕ, List, [], ◌∷◌, Bool, true, false, Option, Some, None, refl, sym, ◌∙◌, ap, subst}
 use Rattle.std.specs.Prelude.{codes, is_some, if◌then◌else◌, ◌||◌}
 use Rattle.std.specs.Str.{bytes_eq}
 use Rattle.tv_lex.specs.Token.{SpecToken}
 use Rattle.tv_phrases.specs.Reading.{taken, ◌>>=◌, choose}
-use Rattle.tv_phrases.specs.Tokens.{after, first, is_identifier, text_item}
+use Rattle.tv_phrases.specs.Tokens.{after, first, text_item}
 use Rattle.tv_formula.specs.Grammar.{arrow}
 use Rattle.tv_formula.specs.Spelled.{spell, spelled, EndsAlike}
 use Rattle.tv_parse.specs.Kinds.{decl_kind, prop_item, begins_with, begins_decl}
 use Rattle.tv_parse.specs.Grammar.{begins_prop}
+use Rattle.tv_reprint.specs.ReadAgain.{Kept, all_kept, one_kept, mark_left}
 use Rattle.tv_reprint.proofs.Exact.{Tokens, Exact}
-
--- the same tokens, without the `=` behind some names of sets
-pub data Kept : List SpecToken → List SpecToken → Type 0 where
-  all_kept : (ts : List SpecToken) → Kept ts ts
-  one_kept : (t : SpecToken) (ts us : List SpecToken) → Kept ts us → Kept (t ∷ ts) (t ∷ us)
-  mark_left : (w : List ℕ) (ts us : List SpecToken) → is_identifier w ≡ true → Kept ts us → Kept (spell (codes "%s") ∷ spell w ∷ spell (codes "=") ∷ ts) (spell (codes "%s") ∷ spell w ∷ us)
 
 pub kept_spelled : (ws : List (List ℕ)) (ts us : List SpecToken) → Kept ts us → Kept (spelled ws ts) (spelled ws us)
 kept_spelled [] ts us kept = kept

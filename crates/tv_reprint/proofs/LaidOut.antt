@@ -1,5 +1,5 @@
 -- The printed text is its tokens in a row, each with a blank behind it.
-use Rattle.std.proofs.Common.{◌≡◌, ℕ, suc, ◌+◌, ◌-◌, ◌<◌, ◌≤◌, List, [], ◌∷◌, ◌++◌, Option, Some, None, length, take, refl, sym, ◌∙◌, ap, subst, append_assoc, arith, length-append, map}
+use Rattle.std.proofs.Common.{◌≡◌, ℕ, suc, ◌+◌, ◌-◌, ◌<◌, List, [], ◌∷◌, ◌++◌, Option, Some, None, length, take, refl, sym, ◌∙◌, ap, subst, append_assoc, arith, length-append}
 use lib.Seq.{take-append_seam}
 use Rattle.std.specs.Prelude.{codes, IsTrue, ⊤}
 use Rattle.std.specs.List.{AllByRecursion, flat_map}
@@ -7,7 +7,7 @@ use Rattle.std.proofs.Math.Seq.{take-append-add}
 use Rattle.tv_lex.specs.Bytes.{is_blank}
 use Rattle.tv_lex.specs.Token.{SpecToken}
 use Rattle.tv_lex.specs.Spaced.{IsToken, Spaced, spaced_text, spaced_tokens}
-use Rattle.tv_tree.specs.Forms.{Form, Nest, Single, Foreach, Nests, no_nest, with_nest, DeclForm, DSet, DPred, DRule, UpdateForm, PartForm, PCaption, PFocus, PPre, PMessage, PNew, PRetain, PBlock, ActionForm, EdgeForm, ProgramForm}
+use Rattle.tv_tree.specs.Forms.{Nest, Single, Foreach, Nests, no_nest, with_nest, DeclForm, DSet, DPred, DRule, PartForm, PCaption, PFocus, PPre, PMessage, PNew, PRetain, PBlock, ActionForm, ProgramForm}
 use Rattle.tv_tree.specs.Printed.{lone, nest_lines, nests_lines, decl_tokens, update_tokens, part_lines, action_lines, edge_lines, tail_words, tail_lines, program_lines, spaced, ended, line_text, text_of_lines}
 use Rattle.tv_formula.specs.Spelled.{spell, spelled}
 use Rattle.tv_reprint.proofs.Exact.{Tokens}

@@ -5,20 +5,16 @@ use Rattle.std.specs.List.{AllByRecursion, flat_map}
 use Rattle.std.specs.Str.{bytes_eq}
 use Rattle.std.proofs.lemmas.Slice.Eq.{bytes_eq-Decides}
 use Rattle.tv_lex.specs.Token.{SpecToken}
-use Rattle.tv_lex.specs.Pieces.{Stands}
-use Rattle.tv_lex.specs.Spaced.{IsToken}
-use Rattle.tv_phrases.specs.Reading.{taken}
-use Rattle.tv_phrases.specs.Tokens.{after, first, identifier_item, word_item, text_item}
-use Rattle.tv_phrases.specs.Lists.{params, name}
-use Rattle.tv_tree.specs.Forms.{NameForm, SetForm, SNamed, SMembers, SParen, SPlus, SMinus, Form, Nest, Single, Foreach, Nests, no_nest, with_nest, PieceForm, Quoted, Spelled, UpdateForm, PartForm, PCaption, PFocus, PPre, PMessage, PNew, PRetain, PBlock, ActionForm, EdgeForm}
-use Rattle.tv_tree.specs.Printed.{more_tokens, joined_tokens, words_tokens, params_tokens, name_tokens, set_tokens, formula_tokens, foreach_tokens, lone, nest_lines, nests_lines, piece_tokens, pieces_tokens, update_tokens, part_lines, action_tokens, action_lines, edge_tokens, edge_lines, tail_words, tail_lines}
-use Rattle.tv_formula.specs.Grammar.{Begins, IsFormula, name_form}
-use Rattle.tv_formula.specs.Spelled.{spell, spelled}
+use Rattle.tv_phrases.specs.Tokens.{after, word_item, text_item}
+use Rattle.tv_tree.specs.Forms.{NameForm, SetForm, SNamed, SMembers, SParen, SPlus, SMinus, Form, Nest, Single, Foreach, Nests, no_nest, with_nest, PieceForm, Quoted, Spelled, PartForm, PCaption, PFocus, PPre, PMessage, PNew, PRetain, PBlock, ActionForm, EdgeForm}
+use Rattle.tv_tree.specs.Printed.{more_tokens, joined_tokens, words_tokens, params_tokens, name_tokens, set_tokens, formula_tokens, foreach_tokens, lone, nest_lines, nests_lines, piece_tokens, pieces_tokens, update_tokens, part_lines, action_tokens, action_lines, edge_lines, tail_words, tail_lines}
+use Rattle.tv_formula.specs.Grammar.{IsFormula, name_form}
+use Rattle.tv_formula.specs.Spelled.{spelled}
 use Rattle.tv_parse.specs.declared.kinds.PartKind.{PartKind}
 use Rattle.tv_parse.specs.declared.kinds.PartKind.TheVariants as part
 use Rattle.tv_parse.specs.Kinds.{looked_up, part_marks, part_kind, begins_with, begins_update, kind_of}
 use Rattle.tv_parse.specs.Grammar.{Repeated, Behind, Joined, IsSetTerm, IsSetFront, IsSet, IsHead, IsNest, AreNests, IsSignature, IsUpdate, IsPiece, ArePieces, AreFormulas, IsPart, AreParts, IsAction, IsEdge, IsTail}
-use Rattle.tv_reprint.proofs.Exact.{Tokens, Exact, Tells, spelled_append, exact_then, none_exact, after_exact, first_exact, tells_word, tells_text, itself, quoted, word_exact, optional_exact, params_exact, members_exact, name_exact}
+use Rattle.tv_reprint.proofs.Exact.{Tokens, Exact, Tells, exact_then, none_exact, after_exact, first_exact, tells_word, tells_text, itself, quoted, word_exact, optional_exact, params_exact, members_exact, name_exact}
 use Rattle.tv_reprint.proofs.FormulaExact.{formula_exact}
 
 -- ---- sets

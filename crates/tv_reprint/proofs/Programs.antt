@@ -1,6 +1,6 @@
 -- A printed program is read as the same program.
-use Rattle.std.proofs.Common.{◌≡◌, ℕ, ◌*◌, ◌≤◌, List, [], ◌∷◌, ◌++◌, Ok, length, refl, sym, ◌∙◌, ap, subst}
-use Rattle.std.specs.Prelude.{codes, IsTrue}
+use Rattle.std.proofs.Common.{◌≡◌, ℕ, List, [], ◌++◌, Ok, sym, ◌∙◌, ap, subst}
+use Rattle.std.specs.Prelude.{codes}
 use Rattle.std.specs.List.{flat_map}
 use Rattle.tv_lex.specs.Token.{SpecToken, spec_tokens}
 use Rattle.tv_lex.specs.Pieces.{Reads}
@@ -8,12 +8,12 @@ use Rattle.tv_lex.specs.declared.token.Token.{Token}
 use Rattle.tv_lex.proofs.SpacedTexts.{spaced_reads}
 use Rattle.tv_tree.specs.Forms.{ProgramForm}
 use Rattle.tv_tree.specs.Printed.{lone, nests_lines, decl_tokens, action_lines, edge_lines, tail_lines, program_lines, program_text}
-use Rattle.tv_parse.specs.Grammar.{begins_edge, AreDecls, IsProgram}
+use Rattle.tv_parse.specs.Grammar.{begins_edge, IsProgram}
 use Rattle.tv_parse.specs.Height.{IsTooDeep}
-use Rattle.tv_reprint.specs.ReadAgain.{IsReadAgain, ProgramsAreReadAgain}
 use Rattle.tv_reprint.proofs.Exact.{Tokens, after_exact}
 use Rattle.tv_reprint.proofs.PartExact.{laid, laid_append, actions_exact, edges_exact, tail_exact}
-use Rattle.tv_reprint.proofs.Kept.{Kept, all_kept, kept_tokens}
+use Rattle.tv_reprint.specs.ReadAgain.{Kept, all_kept, ProgramsAreReadAgain}
+use Rattle.tv_reprint.proofs.Kept.{kept_tokens}
 use Rattle.tv_reprint.proofs.DeclsAgain.{nests_survive}
 use Rattle.tv_reprint.proofs.LaidOut.{IsLaidOut, lines_out, program_are}
 use Rattle.tv_reprint.proofs.Height.{kept_height}
@@ -57,20 +57,19 @@ text_again text ts l =
       ap (λ (x : List ℕ). spec_tokens x read.0) (sym l.text_is) ∙ read.2 ∙ l.tokens_are,
     )
 
-read_again : (t : ProgramForm) (ts : List SpecToken) → Kept ts (laid (program_lines t) []) → IsProgram (laid (program_lines t) []) t → ¬ IsTooDeep ts → IsLaidOut (program_text t) (laid (program_lines t) []) → IsReadAgain t
-read_again t ts kept is small l =
-    let again = text_again (program_text t) (laid (program_lines t) []) l in
-    record {
-      tokens = again.0;
-      reads = again.1;
-      program = subst (λ (us : List SpecToken). IsProgram us t) (sym again.2) is;
-      low = λ deep. small (kept_height ts (laid (program_lines t) []) kept [] ∙ subst (λ (us : List SpecToken). IsTooDeep us) again.2 deep);
-    }
-
 pub programs_again : ProgramsAreReadAgain
 programs_again bytes tokens t reads is low =
-    let ts = spec_tokens bytes tokens in
+    let old = spec_tokens bytes tokens in
+    let new = laid (program_lines t) [] in
     let are = text_tokens bytes tokens reads in
-    let new = program_again ts t is are.0 in
-    let l = lines_out (program_lines t) (program_are t) (kept_tokens ts (laid (program_lines t) []) new.0 are.0) in
-    (read_again t ts new.0 new.1 low l, shorter bytes (program_text t) ts (laid (program_lines t) []) are.1 new.0 l)
+    let again = program_again old t is are.0 in
+    let out = lines_out (program_lines t) (program_are t) (kept_tokens old new again.0 are.0) in
+    let read = text_again (program_text t) new out in
+    record {
+      short = shorter bytes (program_text t) old new are.1 again.0 out;
+      tokens = read.0;
+      reads = read.1;
+      kept = subst (λ (us : List SpecToken). Kept old us) (sym read.2) again.0;
+      program = subst (λ (us : List SpecToken). IsProgram us t) (sym read.2) again.1;
+      low = λ deep. low (kept_height old new again.0 [] ∙ subst (λ (us : List SpecToken). IsTooDeep us) read.2 deep);
+    }

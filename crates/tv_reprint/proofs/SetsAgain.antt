@@ -1,17 +1,17 @@
 -- The printed tokens of sets, of names with parameters, and of properties are read again.
 use Rattle.std.proofs.Common.{◌≡◌, ℕ, List, [], ◌∷◌, ◌++◌, Bool, true, false, Option, Some, None, refl, sym, ◌∙◌, ap, subst}
-use Rattle.std.specs.Prelude.{codes, IfSome, if◌then◌else◌, ◌&&◌, is_some, ⊤}
+use Rattle.std.specs.Prelude.{codes, IfSome, ◌&&◌, is_some, ⊤}
 use Rattle.std.specs.Str.{bytes_eq}
 use Rattle.std.proofs.lemmas.Slice.Eq.{bytes_eq-Decides}
 use Rattle.tv_lex.specs.Token.{SpecToken}
-use Rattle.tv_phrases.specs.Reading.{Reading, taken, ◌>>=◌, choose}
+use Rattle.tv_phrases.specs.Reading.{taken, ◌>>=◌}
 use Rattle.tv_phrases.specs.Tokens.{after, first, is_word, is_identifier, identifier_item}
-use Rattle.tv_phrases.specs.Lists.{with_front, items_from, comma_list, optional_list, optional_list_in, between, params, name}
+use Rattle.tv_phrases.specs.Lists.{with_front, items_from, comma_list, optional_list, optional_list_in, between}
 use Rattle.tv_phrases.specs.declared.kinds.Brackets.TheVariants as brackets
 use Rattle.tv_phrases.specs.declared.kinds.Item.TheVariants as item
-use Rattle.tv_phrases.proofs.Facts.{on_bind, on_read, on_choose, on_if, on_all, at_some, other_mark, not_identifier}
+use Rattle.tv_phrases.proofs.Facts.{on_bind, on_read, on_choose, on_if, at_some, other_mark, not_identifier}
 use Rattle.tv_phrases.proofs.Values.{same_value}
-use Rattle.tv_tree.specs.Forms.{NameForm, SetForm, SNamed, SMembers, SParen, SPlus, SMinus, Form, FZero, FOne, FHalf, FSame, FDiffer, FAtom, FStar, FPlus, FParen, FNot, FAnd, FOr, FImp, FIff, FCond, FExists, FForall, FTc}
+use Rattle.tv_tree.specs.Forms.{NameForm, SetForm, SNamed, SMembers, SParen, SPlus, SMinus, Form, FAtom}
 use Rattle.tv_tree.specs.Printed.{words_tokens, more_tokens, one_token, params_tokens, name_tokens, set_tokens}
 use Rattle.tv_formula.specs.declared.binder.Binder.{Binder}
 use Rattle.tv_formula.specs.declared.binder.Binder.TheVariants.{Exists, Forall, Closure}

@@ -1,18 +1,16 @@
 -- A printed text is at most twice as long as the text: no token is empty, and each has one blank behind it.
 use Rattle.std.proofs.Common.{◌≡◌, ℕ, ◌+◌, ◌*◌, ◌<◌, ◌≤◌, List, [], ◌∷◌, ◌++◌, Option, Some, None, Ok, length, refl, sym, ◌∙◌, ap, subst, inl, inr, arith, length-append}
-use Rattle.std.specs.Prelude.{codes}
 use Rattle.std.specs.List.{AllByRecursion}
 use Rattle.std.proofs.lemmas.List.{append-nil}
 use Rattle.tv_lex.specs.Token.{SpecToken, spec_tokens}
-use Rattle.tv_lex.specs.Pieces.{Piece, AllFit, Stands, IsOneOf, punctuations, joined, placed, Reads}
-use Rattle.tv_lex.specs.Spaced.{IsToken, Spaced, spaced_text, spaced_tokens}
+use Rattle.tv_lex.specs.Pieces.{Piece, AllFit, Stands, IsOneOf, punctuations, joined, Reads}
+use Rattle.tv_lex.specs.Spaced.{Spaced, spaced_text, spaced_tokens}
 use Rattle.tv_lex.specs.declared.token.Token.{Token}
 use Rattle.tv_lex.specs.declared.token.TokenKind.{TokenKind}
 use Rattle.tv_lex.specs.declared.token.TokenKind.TheVariants as kind
 use Rattle.tv_lex.proofs.SpacedTexts.{spec_tokens-placed}
-use Rattle.tv_formula.specs.Spelled.{spell}
 use Rattle.tv_reprint.proofs.Exact.{Tokens}
-use Rattle.tv_reprint.proofs.Kept.{Kept, all_kept, one_kept, mark_left}
+use Rattle.tv_reprint.specs.ReadAgain.{Kept, all_kept, one_kept, mark_left}
 use Rattle.tv_reprint.proofs.LaidOut.{IsLaidOut}
 
 -- how long these tokens are, with a blank behind each
