@@ -37,7 +37,7 @@ and_right true b e = e
 and_right false b e = cc
 
 -- each of them
-abbrev AreIdent : List (List ℕ) → Type 0
+abbrev pub AreIdent : List (List ℕ) → Type 0
 AreIdent [] = Unit {0}
 AreIdent (w ∷ ws) = IsIdent w × AreIdent ws
 
@@ -70,7 +70,7 @@ false_unless : (b : Bool) → (b ≡ true → ⊥) → b ≡ false
 false_unless true h = absurd (h refl)
 false_unless false h = refl
 
-ident_kind : (w : List ℕ) → IsIdent w → is_word (kind_of w) ≡ true
+pub ident_kind : (w : List ℕ) → IsIdent w → is_word (kind_of w) ≡ true
 ident_kind w is = word_kind (bytes_eq w (codes "1/2")) (begins_name w) w refl refl (false_unless (bytes_eq w (codes "1/2")) (half_no w is)) (and_left (begins_name w) _ is)
 
 -- an identifier is read where it is spelled
@@ -92,11 +92,11 @@ not_text w end is = no_text_kind (kind_of w) w end (ident_kind w is)
 
 -- ---- lists, names and pairs
 
-mark_again : (m : List ℕ) (end : List SpecToken) → after m (spell m ∷ end) ≡ Some end
+pub mark_again : (m : List ℕ) (end : List SpecToken) → after m (spell m ∷ end) ≡ Some end
 unfolding after
 mark_again m end = rw ((bytes_eq-Decides m m).1 refl) refl
 
-other_again : (m k : List ℕ) (end : List SpecToken) → bytes_eq m k ≡ false → after k (spell m ∷ end) ≡ None
+pub other_again : (m k : List ℕ) (end : List SpecToken) → bytes_eq m k ≡ false → after k (spell m ∷ end) ≡ None
 unfolding after
 other_again m k end differ = rw differ refl
 
@@ -104,7 +104,7 @@ map_append : {A B : Type 0} (f : A → B) (xs ys : List A) → map f (xs ++ ys) 
 map_append f [] ys = refl
 map_append f (x ∷ xs) ys = ap (λ zs. f x ∷ zs) (map_append f xs ys)
 
-spelled_append : (vs ws : List (List ℕ)) (end : List SpecToken) → spelled (vs ++ ws) end ≡ spelled vs (spelled ws end)
+pub spelled_append : (vs ws : List (List ℕ)) (end : List SpecToken) → spelled (vs ++ ws) end ≡ spelled vs (spelled ws end)
 spelled_append vs ws end = ap (λ ts. ts ++ end) (map_append spell vs ws) ∙ append_assoc (map spell vs) (map spell ws) end
 
 ident_item : (w : List ℕ) → IsIdent w → identifier_item (spell w) ≡ Some w
@@ -132,7 +132,7 @@ more_again (w ∷ ws) end are lacks =
 items_again : (w : List ℕ) (ws : List (List ℕ)) (end : List SpecToken) → AreIdent (w ∷ ws) → after (codes ",") end ≡ None → items_from identifier_item true (spelled (words_tokens (w ∷ ws)) end) ≡ taken (w ∷ ws) end
 items_again w ws end are lacks = item_more w ws (spelled (more_tokens (codes ",") one_token ws) end) end are.0 (more_again ws end are.1 lacks)
 
-between_again : {X : Type 0} (o c : List ℕ) (read : List SpecToken → Reading X) (x : X) (ts end : List SpecToken) → read ts ≡ taken x (spell c ∷ end) → between o c read (spell o ∷ ts) ≡ taken x end
+pub between_again : {X : Type 0} (o c : List ℕ) (read : List SpecToken → Reading X) (x : X) (ts end : List SpecToken) → read ts ≡ taken x (spell c ∷ end) → between o c read (spell o ∷ ts) ≡ taken x end
 unfolding between
 between_again o c read x ts end is = rw (mark_again o ts, is, mark_again c end) refl
 
@@ -145,7 +145,7 @@ no_items : (end : List SpecToken) → optional_list identifier_item (spell (code
 unfolding optional_list first kind_of
 no_items end = refl
 
-some_items : (w : List ℕ) (ws : List (List ℕ)) (end : List SpecToken) → AreIdent (w ∷ ws) → after (codes ",") end ≡ None → optional_list identifier_item (spelled (words_tokens (w ∷ ws)) end) ≡ taken (w ∷ ws) end
+pub some_items : (w : List ℕ) (ws : List (List ℕ)) (end : List SpecToken) → AreIdent (w ∷ ws) → after (codes ",") end ≡ None → optional_list identifier_item (spelled (words_tokens (w ∷ ws)) end) ≡ taken (w ∷ ws) end
 unfolding optional_list
 some_items w ws end are lacks = rw (ident_again w (spelled (more_tokens (codes ",") one_token ws) end) are.0) (items_again w ws end are lacks)
 
@@ -183,7 +183,7 @@ pair_again x end are = between_again (codes "(") (codes ")") two_items x (spell 
 
 -- ---- what was read is made of identifiers
 
-optional_ident : (ts : List SpecToken) → IfSome (optional_list identifier_item ts) (λ x. AreIdent x.0)
+pub optional_ident : (ts : List SpecToken) → IfSome (optional_list identifier_item ts) (λ x. AreIdent x.0)
 unfolding optional_list
 optional_ident ts = on_if (is_some (first identifier_item ts)) (comma_list identifier_item ts) (taken [] ts) (λ (x : List (List ℕ) × List SpecToken). AreIdent x.0) (λ e. items_ident true ts) (λ e. tt)
 

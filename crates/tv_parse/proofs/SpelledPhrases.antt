@@ -53,7 +53,7 @@ text_bytes w all k d below = elim (cases_Bool (is_text_byte (slice_index_or w k 
 length_inside : (inside : List ℕ) → (length (34 ∷ inside ++ 34 ∷ []) - 1) - 1 ≡ length inside
 length_inside inside = omega (arith, length-append inside (34 ∷ []))
 
-without_quotes : (inside : List ℕ) → unquoted (34 ∷ inside ++ 34 ∷ []) ≡ inside
+pub without_quotes : (inside : List ℕ) → unquoted (34 ∷ inside ++ 34 ∷ []) ≡ inside
 without_quotes inside = ap (λ n. take n (inside ++ 34 ∷ [])) (length_inside inside) ∙ take-append_seam inside (34 ∷ [])
 
 text_of_kind : (k : TokenKind) (b : List ℕ) → Stands (Some k) b [] → is_text k ≡ true → IsText (unquoted b)

@@ -10,17 +10,17 @@ use Rattle.tv_tree.specs.declared.trees.PropWord.{PropWord}
 use Rattle.tv_tree.specs.declared.trees.PropWord.TheVariants.{Unique, Function, Invfunction, Abs, Nonabs, Transitive, Reflexive, Symmetric, Boxed, Pointer}
 use Rattle.tv_formula.specs.Grammar.{Begins, IsFormula}
 use Rattle.tv_formula.specs.Spelled.{spell, spelled, formula_front}
-use Rattle.tv_formula.proofs.Again.{word_ident, ident_again, formula_again}
+use Rattle.tv_formula.proofs.Again.{word_ident, ident_again, mark_again, spelled_append, formula_again}
 use Rattle.tv_parse.specs.declared.kinds.DeclKind.{DeclKind}
 use Rattle.tv_parse.specs.declared.kinds.DeclKind.TheVariants as decl
 use Rattle.tv_parse.specs.Kinds.{decl_marks, decl_kind, prop_words, prop_item, begins_decl}
 use Rattle.tv_parse.specs.Grammar.{IsSet, IsHead, IsNest, IsSignature, begins_prop, AreProps, IsOptional, IsPredEnd, pred_kind, IsDecl, AreDecls}
-use Rattle.tv_reprint.proofs.Exact.{Tokens, Exact, Tells, spelled_append, exact_then, none_exact, after_exact, first_exact, word_exact}
+use Rattle.tv_reprint.proofs.Exact.{Tokens, Exact, Tells, exact_then, none_exact, after_exact, first_exact, word_exact}
 use Rattle.tv_reprint.proofs.FormulaExact.{formula_exact}
 use Rattle.tv_reprint.proofs.PartExact.{laid, laid_append, set_exact, head_tokens, head_exact, signature_exact, signed_exact, marked_formula, table_spelling}
 use Rattle.tv_reprint.specs.ReadAgain.{Kept, mark_left}
 use Rattle.tv_reprint.proofs.Kept.{kept_exact, SameHead, kept_head, lacks_head, prop_head, decl_head, kept_ends}
-use Rattle.tv_reprint.proofs.SetsAgain.{mark_again, set_again, set_lacks, head_again, signature_again}
+use Rattle.tv_reprint.proofs.SetsAgain.{set_again, set_lacks, head_again, signature_again}
 
 -- ---- directives and properties
 

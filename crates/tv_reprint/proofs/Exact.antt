@@ -1,6 +1,5 @@
 -- Tokens off whose front a phrase was read are the printed tokens of the phrase, and those behind it.
-use Rattle.std.proofs.Common.{◌≡◌, ℕ, List, [], ◌∷◌, ◌++◌, Bool, true, false, Option, Some, None, ◌-◌, length, take, length-append, arith, refl, sym, ◌∙◌, ap, subst}
-use lib.Seq.{take-append_seam}
+use Rattle.std.proofs.Common.{◌≡◌, ℕ, List, [], ◌∷◌, ◌++◌, Bool, true, false, Option, Some, None, refl, sym, ◌∙◌, ap, subst}
 use Rattle.std.specs.Prelude.{codes, IfSome, if◌then◌else◌, ◌&&◌, is_some}
 use Rattle.std.specs.List.{AllByRecursion}
 use Rattle.std.specs.Str.{bytes_eq}
@@ -20,6 +19,8 @@ use Rattle.tv_phrases.proofs.Facts.{on_bind, on_read, on_choose, on_if, on_more,
 use Rattle.tv_tree.specs.Printed.{words_tokens, more_tokens, one_token, params_tokens, brackets_tokens, name_tokens, pair_tokens}
 use Rattle.tv_formula.specs.Grammar.{name_form}
 use Rattle.tv_formula.specs.Spelled.{spell, spelled}
+use Rattle.tv_formula.proofs.Again.{spelled_append}
+use Rattle.tv_parse.proofs.SpelledPhrases.{without_quotes}
 use Rattle.tv_reprint.proofs.Spelling.{spell_is}
 
 abbrev pub Tokens : List SpecToken → Type 0
@@ -28,10 +29,6 @@ Tokens ts = AllByRecursion IsToken ts
 -- the tokens are these, in front of the rest
 abbrev pub Exact : List SpecToken → List (List ℕ) → List SpecToken → Type 0
 Exact ts ws rest = (ts ≡ spelled ws rest) × Tokens rest
-
-pub spelled_append : (vs ws : List (List ℕ)) (end : List SpecToken) → spelled (vs ++ ws) end ≡ spelled vs (spelled ws end)
-spelled_append [] ws end = refl
-spelled_append (v ∷ vs) ws end = ap (λ ts. spell v ∷ ts) (spelled_append vs ws end)
 
 pub exact_then : (ts us rest : List SpecToken) (vs ws : List (List ℕ)) → Exact ts vs us → Exact us ws rest → Exact ts (vs ++ ws) rest
 exact_then ts us rest vs ws a b = (a.0 ∙ ap (λ xs. spelled vs xs) b.0 ∙ sym (spelled_append vs ws rest), b.1)
@@ -72,12 +69,6 @@ tells_identifier t is = on_if (is_word t.kind && is_identifier t.bytes) (Some t.
 
 pub tells_word : Tells word_item itself
 tells_word t is = on_if (is_word t.kind) (Some t.bytes) None (λ w. t.bytes ≡ w) (λ e. refl) (λ e. tt)
-
-length_inside : (inside : List ℕ) → (length (34 ∷ inside ++ 34 ∷ []) - 1) - 1 ≡ length inside
-length_inside inside = omega (arith, length-append inside (34 ∷ []))
-
-without_quotes : (inside : List ℕ) → unquoted (34 ∷ inside ++ 34 ∷ []) ≡ inside
-without_quotes inside = ap (λ n. take n (inside ++ 34 ∷ [])) (length_inside inside) ∙ take-append_seam inside (34 ∷ [])
 
 string_is : (k : TokenKind) (b : List ℕ) → Stands (Some k) b [] → is_text k ≡ true → b ≡ quoted (unquoted b)
 string_is kind.Word b s e = absurd (false≢true e)
@@ -188,9 +179,6 @@ pair_exact ts us x is are =
     (exact_between (codes "(") (codes ")") two_items two_tokens exact_two ts are) is
 
 -- ---- names
-
-abbrev in_brackets : List (List ℕ) → List (List ℕ)
-in_brackets ws = codes "[" ∷ (words_tokens ws ++ codes "]" ∷ [])
 
 brackets_some : (ts us vs rest : List SpecToken) (ws : List (List ℕ)) → Exact ts (codes "[" ∷ []) us → FromWord us ws vs → Exact vs (codes "]" ∷ []) rest → Exact ts (brackets_tokens ws) rest
 brackets_some ts us vs rest [] a h c = absurd h

@@ -1,6 +1,6 @@
 -- As many constructs are open in the printed tokens as in the text.
-use Rattle.std.proofs.Common.{◌≡◌, ℕ, List, [], ◌∷◌, Bool, true, false, Some, None, length, refl, sym, ◌∙◌, ap}
-use Rattle.std.specs.Prelude.{codes, ◌||◌, ◌&&◌, nat_lt, if◌then◌else◌}
+use Rattle.std.proofs.Common.{◌≡◌, ℕ, List, [], ◌∷◌, Bool, true, false, length, refl, sym, ◌∙◌, ap}
+use Rattle.std.specs.Prelude.{codes, ◌||◌, nat_lt, if◌then◌else◌}
 use Rattle.std.specs.List.{AllByRecursion}
 use Rattle.std.specs.Str.{bytes_eq}
 use Rattle.std.proofs.lemmas.Bool.{false_from_ne_true, false≢true}
@@ -8,10 +8,9 @@ use Rattle.std.proofs.lemmas.Slice.Eq.{bytes_eq-Decides}
 use Rattle.tv_lex.specs.Token.{SpecToken}
 use Rattle.tv_lex.specs.declared.token.TokenKind.{TokenKind}
 use Rattle.tv_lex.specs.declared.token.TokenKind.TheVariants as kind
-use Rattle.tv_phrases.specs.Reading.{taken, ◌>>=◌}
-use Rattle.tv_phrases.specs.Tokens.{first, is_word, is_identifier}
+use Rattle.tv_phrases.specs.Tokens.{is_word, is_identifier}
 use Rattle.tv_formula.specs.Spelled.{kind_of, spell}
-use Rattle.tv_formula.proofs.Again.{ident_again}
+use Rattle.tv_formula.proofs.Again.{ident_kind}
 use Rattle.tv_parse.specs.declared.height.Open.{Open}
 use Rattle.tv_parse.specs.declared.height.Open.TheVariants.{Bracket, Mark}
 use Rattle.tv_parse.specs.declared.height.Effect.{Effect}
@@ -39,14 +38,6 @@ none_of (m ∷ marks) w all is =
     let other : bytes_eq w m ≡ false = false_from_ne_true (bytes_eq w m) (λ e. false≢true (sym all.0 ∙ ap (λ v. is_identifier v) (sym ((bytes_eq-Decides w m).0 e)) ∙ is)) in
     rw other (none_of marks w all.1 is)
 
-first_true : (a b : Bool) (w : List ℕ) → ((if a && b then Some w else None) >>= λ x. Some (x, [])) ≡ taken w [] → a ≡ true
-first_true true b w e = refl
-first_true false b w e = absurd cc
-
-identifier_word : (w : List ℕ) → is_identifier w ≡ true → is_word (kind_of w) ≡ true
-unfolding first
-identifier_word w is = first_true (is_word (kind_of w)) (is_identifier w) w (ident_again w [] is)
-
 no_directive : (k : TokenKind) → is_word k ≡ true → is_directive k ≡ false
 no_directive kind.Word e = refl
 no_directive kind.Half e = refl
@@ -62,7 +53,7 @@ identifier_quiet w ts is =
     let c : is_one_of quantifiers w ≡ false = none_of quantifiers w (refl, (refl, (refl, tt))) is in
     let d : is_one_of closing_brackets w ≡ false = none_of closing_brackets w (refl, (refl, (refl, tt))) is in
     let e : is_one_of separators w ≡ false = none_of separators w (refl, (refl, (refl, (refl, tt)))) is in
-    let f : is_directive (kind_of w) ≡ false = no_directive (kind_of w) (identifier_word w is) in
+    let f : is_directive (kind_of w) ≡ false = no_directive (kind_of w) (ident_kind w is) in
     quiet (is_one_of opening_brackets w) (is_one_of connectives w) (is_one_of quantifiers w) (is_one_of closing_brackets w) (is_one_of separators w) (is_directive (kind_of w)) (begins_with (codes "(") ts) a b c d e f
   where
     quiet : (a b c d e f g : Bool) → a ≡ false → b ≡ false → c ≡ false → d ≡ false → e ≡ false → f ≡ false

@@ -1,56 +1,24 @@
 -- The printed tokens of sets, of names with parameters, and of properties are read again.
-use Rattle.std.proofs.Common.{◌≡◌, ℕ, List, [], ◌∷◌, ◌++◌, Bool, true, false, Option, Some, None, refl, sym, ◌∙◌, ap, subst}
-use Rattle.std.specs.Prelude.{codes, IfSome, ◌&&◌, is_some, ⊤}
-use Rattle.std.specs.Str.{bytes_eq}
-use Rattle.std.proofs.lemmas.Slice.Eq.{bytes_eq-Decides}
+use Rattle.std.proofs.Common.{◌≡◌, ℕ, List, [], ◌∷◌, ◌++◌, true, None, refl, sym, ◌∙◌, ap, subst}
+use Rattle.std.specs.Prelude.{codes, IfSome, ⊤}
 use Rattle.tv_lex.specs.Token.{SpecToken}
-use Rattle.tv_phrases.specs.Reading.{taken, ◌>>=◌}
-use Rattle.tv_phrases.specs.Tokens.{after, first, is_word, is_identifier, identifier_item}
-use Rattle.tv_phrases.specs.Lists.{with_front, items_from, comma_list, optional_list, optional_list_in, between}
+use Rattle.tv_phrases.specs.Reading.{taken}
+use Rattle.tv_phrases.specs.Tokens.{after, first, is_identifier, identifier_item}
+use Rattle.tv_phrases.specs.Lists.{optional_list, optional_list_in, between}
 use Rattle.tv_phrases.specs.declared.kinds.Brackets.TheVariants as brackets
 use Rattle.tv_phrases.specs.declared.kinds.Item.TheVariants as item
-use Rattle.tv_phrases.proofs.Facts.{on_bind, on_read, on_choose, on_if, at_some, other_mark, not_identifier}
-use Rattle.tv_phrases.proofs.Values.{same_value}
+use Rattle.tv_phrases.proofs.Facts.{on_bind, on_read, at_some, other_mark, not_identifier}
 use Rattle.tv_tree.specs.Forms.{NameForm, SetForm, SNamed, SMembers, SParen, SPlus, SMinus, Form, FAtom}
-use Rattle.tv_tree.specs.Printed.{words_tokens, more_tokens, one_token, params_tokens, name_tokens, set_tokens}
+use Rattle.tv_tree.specs.Printed.{words_tokens, params_tokens, name_tokens, set_tokens}
 use Rattle.tv_formula.specs.declared.binder.Binder.{Binder}
 use Rattle.tv_formula.specs.declared.binder.Binder.TheVariants.{Exists, Forall, Closure}
 use Rattle.tv_formula.specs.Grammar.{Begins, Lacks, Production, Whole, Imp, Unary, Joined, Behind, name_form, over, Leaf, zero_leaf, one_leaf, half_leaf, same_leaf, differ_leaf, atom_leaf, star_leaf, plus_leaf, Reads, cond, no_cond, joined, further, no_further, imp, no_imp, negation, binding, parentheses, leaf}
 use Rattle.tv_formula.specs.Spelled.{kind_of, spell, spelled, EndsAlike}
-use Rattle.tv_formula.proofs.Again.{word_ident, ident_again, again}
+use Rattle.tv_formula.proofs.Again.{AreIdent, optional_ident, word_ident, ident_again, mark_again, other_again, spelled_append, between_again, some_items, again}
 use Rattle.tv_parse.specs.Grammar.{IsSetTerm, IsSetFront, IsSet, IsHead, IsSignature}
-use Rattle.tv_reprint.proofs.Exact.{spelled_append}
 use Rattle.tv_reprint.proofs.PartExact.{head_tokens}
 
-pub mark_again : (m : List ℕ) (end : List SpecToken) → after m (spell m ∷ end) ≡ Some end
-unfolding after
-mark_again m end = rw ((bytes_eq-Decides m m).1 refl) refl
-
-pub other_again : (m k : List ℕ) (end : List SpecToken) → bytes_eq m k ≡ false → after k (spell m ∷ end) ≡ None
-unfolding after
-other_again m k end differ = rw differ refl
-
 -- ---- members of a set
-
--- each of them is an identifier
-abbrev AreIdent : List (List ℕ) → Type 0
-AreIdent [] = ⊤
-AreIdent (w ∷ ws) = (is_identifier w ≡ true) × AreIdent ws
-
-and_right : (a b : Bool) → (a && b) ≡ true → b ≡ true
-and_right true b e = e
-and_right false b e = absurd cc
-
-items_ident : (flag : Bool) (ts : List SpecToken) → IfSome (items_from identifier_item flag ts) (λ x. AreIdent x.0)
-unfolding items_from with_front
-items_ident true [] = tt
-items_ident true (t ∷ ts) = on_read (identifier_item t) _ (λ w. is_identifier w ≡ true) _ (on_if (is_word t.kind && is_identifier t.bytes) (Some t.bytes) None (λ w. is_identifier w ≡ true) (λ e. and_right (is_word t.kind) (is_identifier t.bytes) e) (λ e. tt)) (λ w h. on_read (items_from identifier_item false ts) _ _ _ (items_ident false ts) (λ x k. (h, k)))
-items_ident false [] = tt
-items_ident false (t ∷ ts) = on_choose (after (codes ",") (t ∷ ts)) _ _ _ (λ e. tt) (λ us e. items_ident true ts)
-
-optional_ident : (ts : List SpecToken) → IfSome (optional_list identifier_item ts) (λ x. AreIdent x.0)
-unfolding optional_list
-optional_ident ts = on_if (is_some (first identifier_item ts)) (comma_list identifier_item ts) (taken [] ts) (λ (x : List (List ℕ) × List SpecToken). AreIdent x.0) (λ e. items_ident true ts) (λ e. tt)
 
 -- what a list of members in braces tells
 abbrev AreMembers : List SpecToken → List (List ℕ) × List SpecToken → Type 0
@@ -63,43 +31,17 @@ are_members ts = on_bind (after (codes "{") ts) _ _ (λ us e. on_read (optional_
 members_tell : (ts us : List SpecToken) (xs : List (List ℕ)) → optional_list_in brackets.Curly item.Identifier ts ≡ taken xs us → AreMembers ts (xs, us)
 members_tell ts us xs is = at_some (optional_list_in brackets.Curly item.Identifier ts) (λ x. AreMembers ts x) (xs, us) (are_members ts) is
 
-item_more : (w : List ℕ) (ws : List (List ℕ)) (o : Option (List ℕ)) (ts end : List SpecToken) → o ≡ Some w → items_from identifier_item false ts ≡ taken ws end → (o >>= λ x. with_front (x ∷ []) (items_from identifier_item false ts)) ≡ taken (w ∷ ws) end
-unfolding with_front
-item_more w ws o ts end is more = rw (is, more) refl
-
-one_word : (o : Option (List ℕ)) (w : List ℕ) → (o >>= λ x. taken x []) ≡ taken w [] → o ≡ Some w
-one_word None w e = absurd cc
-one_word (Some v) w e = ap (λ x. Some x) (same_value v w [] [] e)
-
-identifier_of : (w : List ℕ) → is_identifier w ≡ true → identifier_item (spell w) ≡ Some w
-unfolding first
-identifier_of w is = one_word (identifier_item (spell w)) w (ident_again w [] is)
-
-more_again : (ws : List (List ℕ)) (end : List SpecToken) → AreIdent ws → after (codes ",") end ≡ None → items_from identifier_item false (spelled (more_tokens (codes ",") one_token ws) end) ≡ taken ws end
-unfolding items_from
-more_again [] [] are lacks = refl
-more_again [] (t ∷ ts) are lacks = rw lacks refl
-more_again (w ∷ ws) end are lacks = rw (mark_again (codes ",") (spelled (one_token w ++ more_tokens (codes ",") one_token ws) end)) (item_more w ws (identifier_item (spell w)) (spelled (more_tokens (codes ",") one_token ws) end) end (identifier_of w are.0) (more_again ws end are.1 lacks))
-
-first_again : (w : List ℕ) (ws : List (List ℕ)) (end : List SpecToken) → AreIdent (w ∷ ws) → after (codes ",") end ≡ None → optional_list identifier_item (spelled (words_tokens (w ∷ ws)) end) ≡ taken (w ∷ ws) end
-unfolding optional_list items_from
-first_again w ws end are lacks = rw (ident_again w (spelled (more_tokens (codes ",") one_token ws) end) are.0) (item_more w ws (identifier_item (spell w)) (spelled (more_tokens (codes ",") one_token ws) end) end (identifier_of w are.0) (more_again ws end are.1 lacks))
-
 no_members : (end : List SpecToken) → optional_list identifier_item (spell (codes "}") ∷ end) ≡ taken [] (spell (codes "}") ∷ end)
 unfolding optional_list first kind_of
 no_members end = refl
 
 inside_again : (ws : List (List ℕ)) (end : List SpecToken) → AreIdent ws → optional_list identifier_item (spelled (words_tokens ws) (spell (codes "}") ∷ end)) ≡ taken ws (spell (codes "}") ∷ end)
 inside_again [] end are = no_members end
-inside_again (w ∷ ws) end are = first_again w ws (spell (codes "}") ∷ end) are (other_again (codes "}") (codes ",") end refl)
-
-braces_again : (ws : List (List ℕ)) (ts end : List SpecToken) → optional_list identifier_item ts ≡ taken ws (spell (codes "}") ∷ end) → optional_list_in brackets.Curly item.Identifier (spell (codes "{") ∷ ts) ≡ taken ws end
-unfolding between
-braces_again ws ts end is = rw (mark_again (codes "{") ts, is, mark_again (codes "}") end) refl
+inside_again (w ∷ ws) end are = some_items w ws (spell (codes "}") ∷ end) are (other_again (codes "}") (codes ",") end refl)
 
 members_again : (ws : List (List ℕ)) (end : List SpecToken) → AreIdent ws → optional_list_in brackets.Curly item.Identifier (spelled (codes "{" ∷ (words_tokens ws ++ codes "}" ∷ [])) end) ≡ taken ws end
 members_again ws end are =
-    braces_again ws (spelled (words_tokens ws ++ codes "}" ∷ []) end) end
+    between_again (codes "{") (codes "}") (optional_list identifier_item) ws (spelled (words_tokens ws ++ codes "}" ∷ []) end) end
     (ap (λ ts. optional_list identifier_item ts) (spelled_append (words_tokens ws) (codes "}" ∷ []) end) ∙ inside_again ws end are)
 
 -- ---- sets
