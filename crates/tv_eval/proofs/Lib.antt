@@ -1,6 +1,7 @@
 pub mod Covers
 pub mod Deepest
 pub mod FreeBelow
+pub mod Keeping
 pub mod Loops
 pub mod Parts
 pub mod Programs

@@ -1,6 +1,8 @@
 pub mod AssignmentForm
 pub mod CanEvaluate
 pub mod Formulas
+pub mod HoldsClosure
+pub mod Keeps
 pub mod Laws
 pub mod Rows
 pub mod ScratchForm

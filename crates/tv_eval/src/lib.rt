@@ -3,6 +3,7 @@
 
 mod assignment;
 mod height;
+mod kept;
 mod laws;
 mod relation;
 mod scratch;

@@ -1,17 +1,18 @@
 //! The room that evaluation needs.
 
-ghost use Rattle.std.specs.Prelude.{◌≡◌, ◌≤◌, IfOk};
+ghost use Rattle.std.specs.Prelude.{◌≡◌, ◌≤◌, IfOk, replicate};
 ghost use Rattle.tv_model.specs.Form.{form_of};
 ghost use Rattle.tv_model.specs.Program.{program_of};
 ghost use Rattle.tv_struct.specs.StructureForm.{structure_of, arities_of};
 ghost use Rattle.tv_value.specs.Value.{value};
 ghost use Rattle.tv_eval.specs.AssignmentForm.{assignment_of};
-ghost use Rattle.tv_eval.specs.Formulas.{IsFormulaOver, AreAssigned};
+ghost use Rattle.tv_eval.specs.Formulas.{IsFormulaOver, AreAssigned, sizes_of};
 ghost use Rattle.tv_eval.specs.ScratchForm.{Fits, IsMadeFor};
 ghost use Rattle.tv_eval.specs.Sound.{CoversValues};
 
 use crate::Assignment;
 use crate::height::program_height;
+use crate::kept::{Kept, PLACES};
 use crate::relation::Relation;
 use crate::values::value_of;
 use std::alloc::{AllocError, Global};
@@ -24,10 +25,12 @@ use tv_struct::Structure;
 /// another than a formula is high.
 const SPARE_LEVELS: usize = 4;
 
-/// Room for evaluation: a relation for each closure of those that stand inside one another.
+/// Room for evaluation: a relation for each closure of those that stand inside one another, and some for
+/// closures that are kept while a formula is evaluated.
 #[derive(Drop)]
 pub struct Scratch {
     rooms: Vec<Relation>,
+    shared: Vec<Relation>,
     size: u32,
 }
 
@@ -59,11 +62,13 @@ impl Scratch {
     fn with_levels(alloc: Global, levels: usize, size: u32) -> Result<Scratch, AllocError>
         ensures { IfOk result (λ s. s ≡ record { levels = levels; size = size }) }
     {
-        let mut rooms = Vec::new(alloc);
-        for _ in 0..levels {
-            rooms.push(Relation::new(alloc, size as usize)?)?;
-        }
-        Ok(Scratch { rooms, size })
+        let rooms = relations(alloc, levels, size)?;
+        let shared = relations(alloc, PLACES, size)?;
+        Ok(Scratch {
+            rooms,
+            shared,
+            size,
+        })
     }
 
     fn value_of(&mut self, f: &Formula, s: &Structure, a: Assignment) -> K3
@@ -73,8 +78,20 @@ impl Scratch {
         ensures exact { result ≡ value (structure_of s.now) (assignment_of a) (form_of f.now) }
         ensures scratch { self.new ≡ self.old }
     {
-        value_of(f, s, a, self.rooms.as_mut_slice())
+        let rooms = self.rooms.as_mut_slice();
+        value_of(f, s, a, rooms, &mut Kept::new(), self.shared.as_mut_slice())
     }
+}
+
+/// So many relations of that size.
+fn relations(alloc: Global, count: usize, size: u32) -> Result<Vec<Relation>, AllocError>
+    ensures { IfOk result (λ rooms. sizes_of rooms.items ≡ replicate count size) }
+{
+    let mut rooms = Vec::new(alloc);
+    for _ in 0..count {
+        rooms.push(Relation::new(alloc, size as usize)?)?;
+    }
+    Ok(rooms)
 }
 
 /// The value of the formula in the structure under the assignment. It lies above the formula's value in

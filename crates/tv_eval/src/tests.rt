@@ -118,7 +118,7 @@ const QUANTIFIERS: [(&str, &str, &str); 10] = [
     ("E0#0", "0 +", "y"),
 ];
 
-const CLOSURES: [(&str, &str, &str); 11] = [
+const CLOSURES: [(&str, &str, &str); 14] = [
     ("|=01T0123n23", LIST, "yh/nh"),
     ("T0123n23", LIST, "nh/nh"),
     ("T0123n23", MIXED, "hyh/hhh/yyh"),
@@ -134,6 +134,9 @@ const CLOSURES: [(&str, &str, &str); 11] = [
     ),
     ("A0A1~T0123n23T0145n45", MIXED, "h"),
     ("E0E1&T0123n23T1045m54", MIXED, "h"),
+    ("E0E1&T0123n23!T0123m23", PLAIN, "y"),
+    ("E0E1&T0123n23!T0132n23", PLAIN, "y"),
+    ("E4T0123&n23=34", PLAIN, "nyn/nny/nnn"),
 ];
 
 fn expect_values(alloc: Global, rows: &[(&str, &str, &str)], rt: &impl Abort) -> Result<(), Fail> {

@@ -1,0 +1,23 @@
+-- Closures that are kept once closed.
+use Rattle.std.specs.Prelude.{ℕ, ◌≡◌, List, [], Some, slice_get, slice_index_or}
+use Rattle.tv_kleene.specs.declared.K3.{K3}
+use Rattle.tv_model.specs.Form.{Form, form_of}
+use Rattle.tv_model.specs.Truth.{Assignment}
+use Rattle.tv_struct.specs.StructureForm.{StructureForm}
+use Rattle.tv_eval.specs.declared.kept.Edges.{Edges}
+use Rattle.tv_eval.specs.declared.kept.Kept.{Kept}
+use Rattle.tv_eval.specs.HoldsClosure.{HoldsClosure}
+
+-- the relation at the place of a kept closure holds its values in the structure, whatever the variables
+-- stand for
+pub record Keeps (s : StructureForm) (kept : Kept) (rooms : List (List (List K3))) : Type 0 where
+  pub each : (k : ℕ) (e : Edges) (a : Assignment) → slice_get kept.closures k ≡ Some (Some e)
+      → HoldsClosure s a e.left.0 e.right.0 (form_of e.body.now) (slice_index_or rooms k [])
+
+-- the closure of the body is kept at the place k
+pub record StandsAt (kept : Kept) (k left right : ℕ) (body : Form) : Type 0 where
+  pub edges : Edges
+  pub there : slice_get kept.closures k ≡ Some (Some edges)
+  pub same_left : edges.left.0 ≡ left
+  pub same_right : edges.right.0 ≡ right
+  pub same_body : form_of edges.body.now ≡ body

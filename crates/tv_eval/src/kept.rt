@@ -1,0 +1,174 @@
+//! Closures that depend on the structure alone: one is closed when it is first met, and read from then on.
+
+ghost use Rattle.std.specs.Prelude.{ℕ, ◌≡◌, ◌<◌, ◌⊎◌, false, List, length, IsTrue, IfSome};
+ghost use Rattle.tv_kleene.specs.declared.K3.{K3};
+ghost use Rattle.tv_model.specs.Form.{form_of, vars_of, IsFree};
+ghost use Rattle.tv_model.specs.Truth.{Assignment};
+ghost use Rattle.tv_struct.specs.StructureForm.{StructureForm, arities_of};
+ghost use Rattle.tv_eval.specs.Formulas.{IsFormulaOver};
+ghost use Rattle.tv_eval.specs.HoldsClosure.{HoldsClosure};
+ghost use Rattle.tv_eval.specs.Keeps.{Keeps, StandsAt};
+
+use crate::relation::Relation;
+use std::mem;
+use tv_model::{Formula, Terms, Var, free};
+
+/// How many closures are kept, at most.
+pub const PLACES: usize = 8;
+
+/// The edges of a closure: the body, read as a relation from `left` to `right`.
+#[derive(Clone, Copy)]
+pub struct Edges<'f> {
+    pub left: Var,
+    pub right: Var,
+    pub body: &'f Formula,
+}
+
+/// Whose closed edges are kept: the relation at a place holds those of the closure there.
+#[derive(Drop)]
+pub struct Kept<'f> {
+    closures: [Option<Edges<'f>>; 8],
+    count: usize,
+}
+
+impl<'f> Kept<'f> {
+    /// Nothing is kept.
+    pub fn new() -> Kept<'f>
+        ensures { (s : StructureForm) (rooms : List (List (List K3))) → Keeps s result rooms }
+    {
+        Kept {
+            closures: [None; 8],
+            count: 0,
+        }
+    }
+
+    /// The closed edges, if they are kept.
+    pub fn find<'r>(&self, edges: Edges<'_>, rooms: &'r [Relation]) -> Option<&'r Relation>
+        ensures { (s : StructureForm) (a : Assignment) → Keeps s self.now rooms.now
+            → IfSome result (λ r. HoldsClosure s a edges.entry.left.0 edges.entry.right.0 (form_of edges.entry.body.now) r.now) }
+    {
+        for k in 0..PLACES {
+            if k < rooms.len() && self.stands_at(k, edges) {
+                return Some(&rooms[k]);
+            }
+        }
+        None
+    }
+
+    fn stands_at(&self, k: usize, edges: Edges<'_>) -> bool
+        requires { k < 8 }
+        ensures { IsTrue result → StandsAt self.now k edges.entry.left.0 edges.entry.right.0 (form_of edges.entry.body.now) }
+    {
+        let places = &self.closures[..];
+        match places[k] {
+            None => false,
+            Some(other) => are_same(other, edges),
+        }
+    }
+
+    /// Keeps the closed edges where only the closure's own variables are free in its body, and a place of
+    /// their size is left: they change places with the relation there.
+    pub fn offer(&mut self, edges: Edges<'f>, closed: &mut Relation, rooms: &mut [Relation])
+        ensures kept { (s : StructureForm) (a : Assignment) → Keeps s self.old rooms.old
+            → IsFormulaOver (arities_of s) (form_of edges.entry.body.now)
+            → HoldsClosure s a edges.entry.left.0 edges.entry.right.0 (form_of edges.entry.body.now) closed.old
+            → Keeps s self.new rooms.new }
+        ensures size { length closed.new ≡ length closed.old }
+    {
+        let place = self.count;
+        if place >= PLACES || place >= rooms.len() || !is_closed(edges) {
+            return;
+        }
+        let room = &mut rooms[place];
+        if room.size() != closed.size() {
+            return;
+        }
+        mem::swap(room, closed);
+        let places = &mut self.closures[..];
+        places[place] = Some(edges);
+        self.count = place + 1;
+    }
+}
+
+/// Whether no variable but the closure's own two stands free in its body.
+fn is_closed(edges: Edges<'_>) -> bool
+    ensures { IsTrue result → (v : ℕ) → v < 32 → IsFree v (form_of edges.entry.body.now)
+        → (v ≡ edges.entry.left.0) ⊎ (v ≡ edges.entry.right.0) }
+{
+    for v in 0..32 {
+        if has_outer(edges, v) {
+            return false;
+        }
+    }
+    true
+}
+
+/// Whether the variable stands free in the body and isn't one of the closure's own.
+fn has_outer(edges: Edges<'_>, v: u8) -> bool
+    ensures { result ≡ false → IsFree v (form_of edges.entry.body.now)
+        → (v ≡ edges.entry.left.0) ⊎ (v ≡ edges.entry.right.0) }
+{
+    if v == edges.left.0 {
+        return false;
+    }
+    if v == edges.right.0 {
+        return false;
+    }
+    free(edges.body, Var(v))
+}
+
+fn are_same(one: Edges<'_>, other: Edges<'_>) -> bool
+    ensures left { IsTrue result → one.entry.left.0 ≡ other.entry.left.0 }
+    ensures right { IsTrue result → one.entry.right.0 ≡ other.entry.right.0 }
+    ensures body { IsTrue result → form_of one.entry.body.now ≡ form_of other.entry.body.now }
+{
+    one.left.0 == other.left.0 && one.right.0 == other.right.0 && is_same(one.body, other.body)
+}
+
+fn is_same(f: &Formula, g: &Formula) -> bool
+    ensures { IsTrue result → form_of f.now ≡ form_of g.now }
+{
+    match (f, g) {
+        (Formula::Zero, Formula::Zero) | (Formula::One, Formula::One) => true,
+        (Formula::Atom(p, ts), Formula::Atom(q, us)) => p.0 == q.0 && are_same_terms(ts, us),
+        (Formula::IsNew(v), Formula::IsNew(w)) => v.0 == w.0,
+        (Formula::Same(v, w), Formula::Same(x, y)) => v.0 == x.0 && w.0 == y.0,
+        (Formula::Not(a), Formula::Not(b)) => is_same(a, b),
+        (Formula::And(a, b), Formula::And(c, d)) => is_same(a, c) && is_same(b, d),
+        (Formula::Or(a, b), Formula::Or(c, d)) => is_same(a, c) && is_same(b, d),
+        (Formula::Iff(a, b), Formula::Iff(c, d)) => is_same(a, c) && is_same(b, d),
+        (Formula::Cond(a, b, c), Formula::Cond(d, e, g)) => {
+            is_same(a, d) && is_same(b, e) && is_same(c, g)
+        }
+        (Formula::Exists(v, a), Formula::Exists(w, b)) => v.0 == w.0 && is_same(a, b),
+        (Formula::Forall(v, a), Formula::Forall(w, b)) => v.0 == w.0 && is_same(a, b),
+        (
+            Formula::Closure {
+                from: a,
+                to: b,
+                left: c,
+                right: d,
+                body: g,
+            },
+            Formula::Closure {
+                from: v,
+                to: w,
+                left: x,
+                right: y,
+                body: h,
+            },
+        ) => a.0 == v.0 && b.0 == w.0 && c.0 == x.0 && d.0 == y.0 && is_same(g, h),
+        _ => false,
+    }
+}
+
+fn are_same_terms(ts: &Terms, us: &Terms) -> bool
+    ensures { IsTrue result → vars_of ts.now ≡ vars_of us.now }
+{
+    match (ts, us) {
+        (Terms::Zero, Terms::Zero) => true,
+        (Terms::One(v), Terms::One(w)) => v.0 == w.0,
+        (Terms::Two(v, x), Terms::Two(w, y)) => v.0 == w.0 && x.0 == y.0,
+        _ => false,
+    }
+}
