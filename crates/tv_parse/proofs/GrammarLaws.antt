@@ -1,6 +1,7 @@
 -- What is read is a phrase of the grammar, where formulas are.
 use Rattle.std.proofs.Common.{◌≡◌, ℕ, zero, suc, ◌+◌, List, [], ◌∷◌, ◌++◌, Bool, true, false, cond, length, Option, Some, None, refl, sym, ◌∙◌, ap, subst, inl, inr}
 use Rattle.std.specs.Prelude.{codes, is_some, IsTrue, IsFalse}
+use Rattle.std.proofs.lemmas.Option.{same_Some}
 use Rattle.tv_lex.specs.Token.{SpecToken}
 use Rattle.tv_phrases.specs.Reading.{Reading, taken, ◌>>=◌, choose}
 use Rattle.tv_phrases.specs.Tokens.{after, first, identifier_item, word_item, text_item}
@@ -17,7 +18,7 @@ use Rattle.tv_parse.specs.declared.kinds.PartKind.TheVariants as part
 use Rattle.tv_parse.specs.Kinds.{decl_kind, part_kind, prop_item, begins_with, begins_decl, begins_update, begins_formula, kind_of, may_follow}
 use Rattle.tv_parse.specs.Grammar.{Repeated, IsSignature, begins_prop, begins_edge, IsProp, AreProps, Joined, IsOptional, IsPredEnd, pred_kind, IsDecl, AreDecls, IsUpdate, AreUpdates, IsPiece, ArePieces, AreFormulas, IsPart, AreParts, IsAction, IsEdge, IsTail, IsProgram}
 use Rattle.tv_parse.specs.Reading.{many, with_first, signature, props_reading, skip, set_reading, set_decl, core_decl, defined_decl, rule_decl, decl_behind, decl_reading, decl_rows, update_reading, update_rows, piece_reading, pieces_reading, joined, formulas_reading, caption_part, focus_part, formula_part, message_part, block_part, part_behind, part_turn, parts, action_reading, edge_reading, actions_reading, edges_reading, at_end, tail_reading, program_reading}
-use Rattle.tv_parse.proofs.Phrases.{some_same, bind_some, chosen, tested}
+use Rattle.tv_parse.proofs.Phrases.{bind_some, chosen, tested}
 use Rattle.tv_parse.proofs.SetLaws.{set_sound}
 use Rattle.tv_parse.proofs.RowLaws.{held, first_sound, many_sound, joined_sound, rows_sound}
 
@@ -61,7 +62,7 @@ edge_sound ts rest x e =
     held P (record { from = a.0.0; action = b.0.0; arguments = c.0.0; to = d.0.0 }) x d.0.1 rest d.2 (a.0.1, b.0.1, c.0.1, a.1, b.1, c.1, d.1)
 
 ended : {X : Type 0} (x y : X) (ts : List SpecToken) → at_end x ts ≡ Some y → (x ≡ y) × (ts ≡ [])
-ended x y [] e = (some_same x y e, refl)
+ended x y [] e = (same_Some x y e, refl)
 ended x y (t ∷ ts) e = absurd cc
 
 tail_sound : (ts : List SpecToken) (x : Option (List (List ℕ))) → tail_reading ts ≡ Some x → IsTail ts x
@@ -242,4 +243,4 @@ module _ (formula_sound : (ts rest : List SpecToken) (f : Form) → formula_read
       let ds = rows_sound begins_decl decl_reading IsDecl (λ vs us y i. decl_sound vs us y i) (length ts + 1) ts a.0.1 a.0.0 a.1 in
       let actions = many_sound (begins_with (codes "%action")) action_reading IsAction (λ vs us y i. action_sound vs us y i) (length b.0 + 1) b.0 c.0.1 c.0.0 c.1 in
       let edges = many_sound begins_edge edge_reading IsEdge edge_sound (length d.0 + 1) d.0 f.0.1 f.0.0 f.1 in
-      subst (λ (y : ProgramForm). IsProgram ts y) (some_same (record { decls = nests a.0.0; actions = c.0.0; edges = f.0.0; tail = g.0 }) x g.2) (a.0.1, b.0, c.0.1, d.0, f.0.1, ds, b.1, actions, d.1, edges, tail_sound f.0.1 g.0 g.1)
+      subst (λ (y : ProgramForm). IsProgram ts y) (same_Some (record { decls = nests a.0.0; actions = c.0.0; edges = f.0.0; tail = g.0 }) x g.2) (a.0.1, b.0, c.0.1, d.0, f.0.1, ds, b.1, actions, d.1, edges, tail_sound f.0.1 g.0 g.1)

@@ -1,23 +1,14 @@
 -- Phrases of words take tokens.
-use Rattle.std.proofs.Common.{◌≡◌, ℕ, suc, ◌+◌, ◌<◌, ◌≤◌, List, [], ◌∷◌, ◌++◌, Bool, true, false, cond, length, Option, Some, None, refl, sym, ◌∙◌, ap, subst, ◌⊎◌, inl, inr, arith}
-use Rattle.std.specs.Prelude.{codes, is_some, ◌&&◌}
-use Rattle.std.proofs.lemmas.Slice.Eq.{bytes_eq-Decides}
+use Rattle.std.proofs.Common.{◌≡◌, ℕ, suc, ◌+◌, ◌<◌, ◌≤◌, List, [], ◌∷◌, ◌++◌, Bool, true, false, cond, length, Option, Some, None, refl, ap, ◌⊎◌, inl, inr, arith}
+use Rattle.std.specs.Prelude.{codes, is_some}
 use Rattle.std.specs.Str.{bytes_eq}
 use Rattle.tv_lex.specs.Token.{SpecToken}
 use Rattle.tv_phrases.specs.Reading.{Reading, taken, ◌>>=◌, choose}
-use Rattle.tv_phrases.specs.Tokens.{after, first, is_word, is_identifier, identifier_item}
+use Rattle.tv_phrases.specs.Tokens.{after, first, identifier_item}
 use Rattle.tv_phrases.specs.Lists.{with_front, items_from, comma_list, optional_list, between, params, name, optional_brackets, optional_list_in}
 use Rattle.tv_phrases.specs.declared.kinds.Brackets.TheVariants as brackets
 use Rattle.tv_phrases.specs.declared.kinds.Item.TheVariants as kind
-
-pub some_same : {A : Type 0} (x y : A) → Some x ≡ Some y → x ≡ y
-some_same x y e = cc
-
-pub same_value : {X : Type 0} (x y : X) (ts us : List SpecToken) → taken x ts ≡ taken y us → x ≡ y
-same_value {X} x y ts us e = ap (λ (p : X × List SpecToken). p.0) (some_same (x, ts) (y, us) e)
-
-pub same_rest : {X : Type 0} (x y : X) (ts us : List SpecToken) → taken x ts ≡ taken y us → ts ≡ us
-same_rest {X} x y ts us e = ap (λ (p : X × List SpecToken). p.1) (some_same (x, ts) (y, us) e)
+use Rattle.tv_phrases.proofs.Values.{same_rest}
 
 -- the value of a step that did not fail
 pub bind_some : {A B : Type 0} (o : Option A) (f : A → Option B) (y : B) → (o >>= f) ≡ Some y → (x : A) × (o ≡ Some x) × (f x ≡ Some y)
@@ -32,22 +23,6 @@ chosen (Some x) none some y e = inr (x, refl, e)
 pub tested : {A : Type 0} (b : Bool) (x y z : A) → cond b x y ≡ z → ((b ≡ true) × (x ≡ z)) ⊎ ((b ≡ false) × (y ≡ z))
 tested true x y z e = inl (refl, e)
 tested false x y z e = inr (refl, e)
-
-if_true : {B : Type 0} (b : Bool) (x : B) (y : B) → cond b (Some x) None ≡ Some y → b ≡ true
-if_true true x y e = refl
-if_true false x y e = cc
-
-and_right : (a b : Bool) → (a && b) ≡ true → b ≡ true
-and_right true b e = e
-and_right false b e = cc
-
-item_true : (b : Bool) (w : List ℕ) (ts us : List SpecToken) (x : List ℕ) → (cond b (Some w) None >>= λ y. taken y ts) ≡ taken x us → b ≡ true
-item_true true w ts us x e = refl
-item_true false w ts us x e = cc
-
-false_unless : (b : Bool) → (b ≡ true → ⊥) → b ≡ false
-false_unless true h = absurd (h refl)
-false_unless false h = refl
 
 kept : (b : Bool) (ts us : List SpecToken) → cond b (Some ts) None ≡ Some us → ts ≡ us
 kept true ts us e = cc
@@ -129,20 +104,3 @@ name_takes ts us n e =
     let h = first_takes identifier_item ts p.0.1 p.0.0 p.1 in
     let i = brackets_take p.0.1 q.0.1 q.0.0 q.1 in
     rw (← same_rest (p.0.0, q.0.0) n q.0.1 us q.2) (omega arith)
-
--- a token is spelled like one mark at most
-pub other_mark : (m k : List ℕ) (ts us : List SpecToken) → bytes_eq m k ≡ false → after m ts ≡ Some us → after k ts ≡ None
-unfolding after
-other_mark m k [] us differ begins = refl
-other_mark m k (t ∷ ts) us differ begins =
-    let same : t.bytes ≡ m = (bytes_eq-Decides t.bytes m).0 (if_true (bytes_eq t.bytes m) ts us begins) in
-    rw (same, differ) refl
-
--- an identifier is spelled like no mark that isn't an identifier
-pub not_identifier : (k : List ℕ) (w : List ℕ) (ts us : List SpecToken) → is_identifier k ≡ false → first identifier_item ts ≡ taken w us → after k ts ≡ None
-unfolding after first
-not_identifier k w [] us unlike is = refl
-not_identifier k w (t ∷ ts) us unlike is =
-    let named : is_identifier t.bytes ≡ true = and_right (is_word t.kind) (is_identifier t.bytes) (item_true (is_word t.kind && is_identifier t.bytes) t.bytes ts us w is) in
-    let other : bytes_eq t.bytes k ≡ false = false_unless (bytes_eq t.bytes k) (λ e. let same : t.bytes ≡ k = (bytes_eq-Decides t.bytes k).0 e in let both : is_identifier k ≡ true = subst (λ (z : List ℕ). is_identifier z ≡ true) same named in cc) in
-    rw other refl

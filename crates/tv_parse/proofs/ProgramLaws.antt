@@ -1,5 +1,6 @@
 -- Programs are read as the grammar says.
 use Rattle.std.proofs.Common.{◌≡◌, List, Option, Some, None, sym, ◌∙◌}
+use Rattle.std.proofs.lemmas.Option.{same_Some}
 use Rattle.tv_lex.specs.Token.{SpecToken}
 use Rattle.tv_tree.specs.Forms.{ProgramForm}
 use Rattle.tv_formula.specs.Grammar.{Whole}
@@ -7,7 +8,6 @@ use Rattle.tv_formula.proofs.FormulaLaws.{formula_is_read, read_is_formula}
 use Rattle.tv_formula.proofs.Complete.{shorter}
 use Rattle.tv_parse.specs.Grammar.{IsProgram}
 use Rattle.tv_parse.specs.Reading.{program_reading}
-use Rattle.tv_parse.proofs.Phrases.{some_same}
 use Rattle.tv_parse.proofs.GrammarLaws.{program_sound}
 use Rattle.tv_parse.proofs.GrammarRead.{program_read}
 
@@ -21,4 +21,4 @@ pub unread_is_none : (ts : List SpecToken) → program_reading ts ≡ None → (
 unread_is_none ts none t h = let e : None ≡ Some t = sym none ∙ program_is_read ts t h in absurd cc
 
 pub one_tree : (ts : List SpecToken) (t u : ProgramForm) → IsProgram ts t → IsProgram ts u → t ≡ u
-one_tree ts t u a b = some_same t u (sym (program_is_read ts t a) ∙ program_is_read ts u b)
+one_tree ts t u a b = same_Some t u (sym (program_is_read ts t a) ∙ program_is_read ts u b)

@@ -1,6 +1,7 @@
 -- Lists of items are read as the grammar says.
 use Rattle.std.proofs.Common.{◌≡◌, ℕ, zero, suc, ◌+◌, ◌<◌, ◌≤◌, List, [], ◌∷◌, Bool, true, false, cond, length, Option, Some, None, refl, sym, ◌∙◌, ap, subst, inl, inr, arith}
 use Rattle.std.specs.Prelude.{codes, is_some, IsTrue, IsFalse}
+use Rattle.std.proofs.lemmas.Option.{same_Some}
 use Rattle.tv_lex.specs.Token.{SpecToken}
 use Rattle.tv_phrases.specs.Reading.{Reading, taken, ◌>>=◌, choose}
 use Rattle.tv_phrases.specs.Tokens.{after, first, identifier_item}
@@ -10,12 +11,13 @@ use Rattle.tv_formula.specs.Grammar.{Begins, Lacks}
 use Rattle.tv_parse.specs.Kinds.{begins_with}
 use Rattle.tv_parse.specs.Grammar.{Repeated, Behind, Joined, IsSet, IsHead, IsNest, AreNests}
 use Rattle.tv_parse.specs.Reading.{with_first, turn, many, all_of, behind, joined, set_reading, head_reading, lone, foreach_nest, nest, rows}
-use Rattle.tv_parse.proofs.Phrases.{same_value, same_rest, some_same, bind_some, chosen, tested, after_takes, first_takes}
+use Rattle.tv_phrases.proofs.Values.{same_value, same_rest}
+use Rattle.tv_parse.proofs.Phrases.{bind_some, chosen, tested, after_takes, first_takes}
 use Rattle.tv_parse.proofs.SetLaws.{set_sound}
 
 -- a fact about what was read
 pub held : {X : Type 0} (P : X → List SpecToken → Type 0) (x y : X) (us vs : List SpecToken) → taken x us ≡ taken y vs → P x us → P y vs
-held {X} P x y us vs e h = subst (λ (z : X × List SpecToken). P z.0 z.1) (some_same (x, us) (y, vs) e) h
+held {X} P x y us vs e h = subst (λ (z : X × List SpecToken). P z.0 z.1) (same_Some (x, us) (y, vs) e) h
 
 pub first_sound : {X : Type 0} (P : List X → List SpecToken → Type 0) (x : X) (read : Reading (List X)) (xs : List X) (rest : List SpecToken) → with_first x read ≡ taken xs rest → ((ys : List X) (us : List SpecToken) → read ≡ taken ys us → P (x ∷ ys) us) → P xs rest
 unfolding with_first

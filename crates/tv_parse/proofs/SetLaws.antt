@@ -1,6 +1,7 @@
 -- The reading of sets is that of the grammar.
 use Rattle.std.proofs.Common.{◌≡◌, ℕ, zero, suc, ◌+◌, ◌<◌, ◌≤◌, List, Bool, true, false, cond, length, Option, Some, None, refl, sym, ◌∙◌, ap, subst, inl, inr, arith}
 use Rattle.std.specs.Prelude.{codes}
+use Rattle.std.proofs.lemmas.Option.{same_Some}
 use Rattle.tv_lex.specs.Token.{SpecToken}
 use Rattle.tv_phrases.specs.Reading.{Reading, taken, ◌>>=◌, choose}
 use Rattle.tv_phrases.specs.Tokens.{after, first, identifier_item}
@@ -14,11 +15,12 @@ use Rattle.tv_formula.specs.Grammar.{Begins, Lacks}
 use Rattle.tv_parse.specs.Kinds.{begins_with}
 use Rattle.tv_parse.specs.Grammar.{IsSetTerm, IsSetFront, IsSet, IsHead}
 use Rattle.tv_parse.specs.Reading.{SetPart, AllSets, Further, SetReader, signed, set_name, set_members, set_plain, set_paren, set_term, set_sign, set_start, set_behind, set_step, sets, set_reading, head_reading}
-use Rattle.tv_parse.proofs.Phrases.{same_value, same_rest, some_same, bind_some, chosen, tested, after_takes, first_takes, members_take}
+use Rattle.tv_phrases.proofs.Values.{same_value, same_rest}
+use Rattle.tv_parse.proofs.Phrases.{bind_some, chosen, tested, after_takes, first_takes, members_take}
 
 -- a fact about what was read
 along : (P : SetForm → List SpecToken → Type 0) (s t : SetForm) (us vs : List SpecToken) → taken s us ≡ taken t vs → P s us → P t vs
-along P s t us vs e h = subst (λ (y : SetForm × List SpecToken). P y.0 y.1) (some_same (s, us) (t, vs) e) h
+along P s t us vs e h = subst (λ (y : SetForm × List SpecToken). P y.0 y.1) (same_Some (s, us) (t, vs) e) h
 
 name_sound : (ts rest : List SpecToken) (t : SetForm) → set_name ts ≡ taken t rest → IsSetTerm ts t rest
 unfolding set_name
@@ -70,12 +72,12 @@ signed_front k s t ts us vs rest front e term =
       | inl h ↦ elim (chosen (after (codes "-") us) None (taken sign.Minus) (Some (k, vs)) h.1) [
         | inl i ↦ absurd cc
         | inr i ↦
-            let p = some_same (sign.Minus, i.0) (k, vs) i.2 in
+            let p = same_Some (sign.Minus, i.0) (k, vs) i.2 in
             let whole : IsSetFront ts (signed sign.Minus s t) rest = (us, i.0, front, i.1, rw (ap (λ (y : SetSign × List SpecToken). y.1) p) term) in
             subst (λ (y : SetSign × List SpecToken). IsSetFront ts (signed y.0 s t) rest) p whole
       ]
       | inr h ↦
-          let p = some_same (sign.Plus, h.0) (k, vs) h.2 in
+          let p = same_Some (sign.Plus, h.0) (k, vs) h.2 in
           let whole : IsSetFront ts (signed sign.Plus s t) rest = (us, h.0, front, h.1, rw (ap (λ (y : SetSign × List SpecToken). y.1) p) term) in
           subst (λ (y : SetSign × List SpecToken). IsSetFront ts (signed y.0 s t) rest) p whole
     ]
