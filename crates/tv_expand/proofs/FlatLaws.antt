@@ -19,6 +19,7 @@ use Rattle.tv_expand.specs.Sets.{Sets, known, once}
 use Rattle.tv_expand.specs.Expansion.{Room, counted, Declared, declared, sets_in, all_declared, nothing_declared, all_updated, Gathered, with_part, with_block, gathered, Actions, find_action, with_action, same_call, Wired, made, with_call, called, with_edge, wired_to, wired, nothing_wired, flat_form_of, expansion}
 use Rattle.tv_flat.proofs.SpellLaws.{IsGoodBinding}
 use Rattle.tv_expand.proofs.KeepLaws.{bind_ok, AreGoodSets, lookup_good, each_keeps, nests_keep}
+use Rattle.tv_expand.proofs.CallLaws.{place_within}
 use Rattle.tv_expand.proofs.StepKeeps.{counted_ok, DeclaredGood, declared_keeps, GatheredGood, gathered_keeps}
 
 -- ---- kinds of parts
@@ -100,14 +101,6 @@ place_there {X} test (x ∷ xs) h = by (test x) (place_there test xs) h
     by : (t : Bool) → (list_any test xs ≡ true → position_or_len test xs < length xs) → (t || list_any test xs) ≡ true → cond (not t) (1 + position_or_len test xs) 0 < length (x ∷ xs)
     by true rest k = omega arith
     by false rest k = let r = rest k in omega arith
-
-place_within : {X : Type 0} (test : X → Bool) (xs : List X) → position_or_len test xs ≤ length xs
-place_within test [] = omega arith
-place_within {X} test (x ∷ xs) = by (test x) (place_within test xs)
-  where
-    by : (t : Bool) → position_or_len test xs ≤ length xs → cond (not t) (1 + position_or_len test xs) 0 ≤ length (x ∷ xs)
-    by true rest = omega arith
-    by false rest = omega arith
 
 -- one more flat action
 action_keeps : (items most : ℕ) (sets : Sets) (a : ActionForm) (arguments call : List (List ℕ)) (w : Wired) (s : Gathered) → AreGoodSets sets → IsSpelledAction a → AreIdentifiers arguments → WiredGood items most w → each (gathered sets (zip a.params arguments)) a.parts (record { parts = []; room = w.room }) ≡ Ok s → WiredGood items most (record { calls = w.calls ++ call ∷ []; actions = w.actions ++ s.parts ∷ []; edges = w.edges; room = s.room })

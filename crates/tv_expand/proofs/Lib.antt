@@ -6,3 +6,5 @@ pub mod WiringLaws
 pub mod KeepLaws
 pub mod StepKeeps
 pub mod FlatLaws
+pub mod IdleLaws
+pub mod CallLaws

@@ -1,5 +1,6 @@
 pub mod Outcome
 pub mod Sets
+pub mod Idle
 pub mod Expansion
 pub mod Views
 pub mod States

@@ -9,6 +9,7 @@ ghost use Rattle.tv_expand.specs.Views.{names_of, sets_of};
 ghost use Rattle.tv_expand.specs.States.{block_of};
 
 use crate::error::ExpandError;
+use crate::idle::are_idle_updates;
 use crate::room::Room;
 use crate::sets::{Sets, members};
 use std::alloc::Global;
@@ -56,6 +57,7 @@ fn put_for<'a>(
     put_updates(alloc, sets, state, inner.as_slice(), body)
 }
 
+// The body of a foreach, for each member, where it gives anything.
 #[cycle(update)]
 fn put_each<'a>(
     alloc: Global,
@@ -68,6 +70,9 @@ fn put_each<'a>(
 ) -> Result<(), ExpandError>
     ensures { Gives (λ _. block_of state.new) result (each (λ x. all_updated (sets_of sets.now.entries) (binding_of binding.now ++ (var.now, x) ∷ []) (updates_of body.now)) (names_of words.now) (block_of state.old)) }
 {
+    if are_idle_updates(sets, body) {
+        return Ok(());
+    }
     for word in words {
         put_for(alloc, sets, state, binding, var, *word, body)?;
     }

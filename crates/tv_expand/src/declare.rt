@@ -10,6 +10,7 @@ ghost use Rattle.tv_expand.specs.Views.{names_of};
 ghost use Rattle.tv_expand.specs.States.{declared_of};
 
 use crate::error::ExpandError;
+use crate::idle::are_idle_decls;
 use crate::room::Room;
 use crate::sets::{Sets, add_set, is_declared, members};
 use indexmap::IndexMap;
@@ -104,6 +105,8 @@ fn declare_for<'a>(
     declare_all(alloc, state, inner.as_slice(), body)
 }
 
+// The body of a foreach, for each member. A body that gives nothing isn't gone through again for each
+// of them: a few foreach over large sets would else take for ever.
 #[cycle(declare)]
 fn declare_each<'a>(
     alloc: Global,
@@ -115,6 +118,9 @@ fn declare_each<'a>(
 ) -> Result<(), ExpandError>
     ensures { Gives (λ _. declared_of state.new) result (each (λ x. all_declared (binding_of binding.now ++ (var.now, x) ∷ []) (decls_of body.now)) (names_of words.now) (declared_of state.old)) }
 {
+    if are_idle_decls(&state.sets, body) {
+        return Ok(());
+    }
     for word in words {
         declare_for(alloc, state, binding, var, *word, body)?;
     }

@@ -5,6 +5,7 @@ mod block;
 mod declare;
 mod error;
 mod gather;
+mod idle;
 mod room;
 mod sets;
 mod whole;

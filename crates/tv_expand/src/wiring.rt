@@ -1,6 +1,6 @@
 //! Actions by their names, and edges with the flat actions that they take.
 
-ghost use Rattle.std.specs.Prelude.{◌≡◌, ◌++◌, ◌∷◌, [], map, length, not, false, if◌then◌else◌, is_some, IfOk, OnOk};
+ghost use Rattle.std.specs.Prelude.{◌≡◌, ◌≤◌, ◌++◌, ◌∷◌, [], map, length, not, false, if◌then◌else◌, is_some, IfOk, OnOk};
 ghost use Rattle.std.specs.List.{zip, list_any, position_or_len};
 ghost use Rattle.tv_tree.specs.Copies.{part_of, action_of, edge_of};
 ghost use Rattle.tv_expand.specs.Outcome.{Gives, each};
@@ -20,9 +20,6 @@ use std::alloc::{AllocError, Global};
 use tv_flat::{Bound, FlatAction, FlatEdge, spelling};
 use tv_tree::Items;
 use tv_tree::trees::{ActionTree, EdgeTree, Spelling};
-
-// The limit on items keeps the numbers of flat actions far below this.
-const MAX_NUMBER: usize = 0xffff_ffff;
 
 /// The actions that are declared, each by its name.
 pub type Actions<'a> = IndexMap<&'a [u8], &'a ActionTree>;
@@ -193,7 +190,9 @@ fn make_action<'a>(
     Ok(())
 }
 
-/// The flat action of a call is made at its first edge. Gives its number.
+// The flat action of a call is made at its first edge. Gives its number, which is small: each call is made
+// at an edge, and edges are items.
+#[tactic(auto, using(crate::proofs::CallLaws::call_within))]
 fn call<'a>(
     alloc: Global,
     sets: &Sets<'a>,
@@ -201,14 +200,12 @@ fn call<'a>(
     action: &'a ActionTree,
     arguments: &'a [Spelling],
 ) -> Result<u32, ExpandError>
-    requires { length action.now.params ≡ length arguments.now }
+    requires arity { length action.now.params ≡ length arguments.now }
+    requires few { length state.old.calls.keys ≤ 4294967295 }
     ensures made { Gives (λ _. wired_of state.new) result (called (sets_of sets.now.entries) (action_of action.now) arguments.now (wired_of state.old)) }
     ensures number { IfOk result (λ number. number ≡ position_or_len (same_call (action.now.name ∷ arguments.now)) (calls_of state.old.calls.keys)) }
 {
     let (index, is_new) = enter(alloc, &mut state.calls, &action.name, arguments)?;
-    if index > MAX_NUMBER {
-        return Err(ExpandError::Memory);
-    }
     if is_new {
         make_action(alloc, sets, state, action, arguments)?;
     }
@@ -251,6 +248,7 @@ fn wire_to<'a>(
     action: &'a ActionTree,
     edge: &'a EdgeTree,
 ) -> Result<(), ExpandError>
+    requires few { length state.old.calls.keys ≤ 4294967295 }
     ensures { Gives (λ _. wired_of state.new) result (wired_to (sets_of sets.now.entries) (action_of action.now) (edge_of edge.now) (wired_of state.old)) }
 {
     if edge.arguments.len() != action.params.len() {
@@ -267,6 +265,7 @@ fn wire<'a>(
     state: &mut Wired<'a>,
     edge: &'a EdgeTree,
 ) -> Result<(), ExpandError>
+    requires few { length state.old.calls.keys ≤ 4294967295 }
     ensures { Gives (λ _. wired_of state.new) result (wired (sets_of sets.now.entries) (actions_of actions.now.entries) (edge_of edge.now) (wired_of state.old)) }
 {
     let action = find(actions, edge.action.0.as_slice())?;
