@@ -41,7 +41,7 @@ pieces_tokens : (ps : List Piece) (rest : List ℕ) → AllFit ps rest → All I
 pieces_tokens [] rest fit = All-nil IsToken
 pieces_tokens (p ∷ ps) rest fit = in_front p.kind p.bytes (joined ps ++ rest) (tokens_of ps) fit.0.stands (pieces_tokens ps rest fit.1)
 
-lexed_tokens : (text : List ℕ) (tokens : List Token) → Reads text (Ok tokens) → All IsToken (spec_tokens text tokens)
+pub lexed_tokens : (text : List ℕ) (tokens : List Token) → Reads text (Ok tokens) → All IsToken (spec_tokens text tokens)
 lexed_tokens text tokens reads =
     let pieces = reads.0 in
     let whole : text ≡ [] ++ (joined pieces ++ []) = sym reads.2 ∙ sym (append-nil (joined pieces)) in

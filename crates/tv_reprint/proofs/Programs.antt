@@ -2,14 +2,17 @@
 use Rattle.std.proofs.Common.{◌≡◌, ℕ, List, [], ◌++◌, Ok, sym, ◌∙◌, ap, subst}
 use Rattle.std.specs.Prelude.{codes}
 use Rattle.std.specs.List.{flat_map}
+use Rattle.std.proofs.lemmas.List.Elements.{recursion_from_All}
 use Rattle.tv_lex.specs.Token.{SpecToken, spec_tokens}
 use Rattle.tv_lex.specs.Pieces.{Reads}
 use Rattle.tv_lex.specs.declared.token.Token.{Token}
+use Rattle.tv_lex.specs.Spaced.{IsToken}
 use Rattle.tv_lex.proofs.SpacedTexts.{spaced_reads}
 use Rattle.tv_tree.specs.Forms.{ProgramForm}
 use Rattle.tv_tree.specs.Printed.{lone, nests_lines, decl_tokens, action_lines, edge_lines, tail_lines, program_lines, program_text}
 use Rattle.tv_parse.specs.Grammar.{begins_edge, IsProgram}
 use Rattle.tv_parse.specs.Height.{IsTooDeep}
+use Rattle.tv_parse.proofs.LexTokens.{lexed_tokens}
 use Rattle.tv_reprint.proofs.Exact.{Tokens, after_exact}
 use Rattle.tv_reprint.proofs.PartExact.{laid, laid_append, actions_exact, edges_exact, tail_exact}
 use Rattle.tv_reprint.specs.ReadAgain.{Kept, all_kept, ProgramsAreReadAgain}
@@ -17,7 +20,7 @@ use Rattle.tv_reprint.proofs.Kept.{kept_tokens}
 use Rattle.tv_reprint.proofs.DeclsAgain.{nests_survive}
 use Rattle.tv_reprint.proofs.LaidOut.{IsLaidOut, lines_out, program_are}
 use Rattle.tv_reprint.proofs.Height.{kept_height}
-use Rattle.tv_reprint.proofs.Widths.{text_tokens, shorter}
+use Rattle.tv_reprint.proofs.Widths.{text_width, shorter}
 
 six_laid : (a b c d e f : List (List (List ℕ))) → laid (a ++ b ++ c ++ d ++ e ++ f) [] ≡ laid a (laid b (laid c (laid d (laid e (laid f [])))))
 six_laid a b c d e f =
@@ -61,12 +64,12 @@ pub programs_again : ProgramsAreReadAgain
 programs_again bytes tokens t reads is low =
     let old = spec_tokens bytes tokens in
     let new = laid (program_lines t) [] in
-    let are = text_tokens bytes tokens reads in
-    let again = program_again old t is are.0 in
-    let out = lines_out (program_lines t) (program_are t) (kept_tokens old new again.0 are.0) in
+    let are : Tokens old = recursion_from_All IsToken old (lexed_tokens bytes tokens reads) in
+    let again = program_again old t is are in
+    let out = lines_out (program_lines t) (program_are t) (kept_tokens old new again.0 are) in
     let read = text_again (program_text t) new out in
     record {
-      short = shorter bytes (program_text t) old new are.1 again.0 out;
+      short = shorter bytes (program_text t) old new (text_width bytes tokens reads) again.0 out;
       tokens = read.0;
       reads = read.1;
       kept = subst (λ (us : List SpecToken). Kept old us) (sym read.2) again.0;

@@ -9,7 +9,6 @@ use Rattle.tv_lex.specs.declared.token.Token.{Token}
 use Rattle.tv_lex.specs.declared.token.TokenKind.{TokenKind}
 use Rattle.tv_lex.specs.declared.token.TokenKind.TheVariants as kind
 use Rattle.tv_lex.proofs.SpacedTexts.{spec_tokens-placed}
-use Rattle.tv_reprint.proofs.Exact.{Tokens}
 use Rattle.tv_reprint.specs.ReadAgain.{Kept, all_kept, one_kept, mark_left}
 use Rattle.tv_reprint.proofs.LaidOut.{IsLaidOut}
 
@@ -59,36 +58,23 @@ token_some kind.Directive b behind s = subst (λ (v : List ℕ). 0 < length v) (
 token_some kind.Parts b behind s = subst (λ (v : List ℕ). 0 < length v) (sym s) (omega arith)
 token_some kind.Punct b behind s = one_some punctuations b marks_some s
 
--- a token stands at the end of a text too
-at_end : (k : TokenKind) (b behind : List ℕ) → Stands (Some k) b behind → Stands (Some k) b []
-at_end kind.Word b behind s = s
-at_end kind.Half b behind s = (s.0, refl)
-at_end kind.Text b behind s = s
-at_end kind.Directive b behind s = s
-at_end kind.Parts b behind s = s
-at_end kind.Punct b behind s = s
+piece_width : (k : Option TokenKind) (b behind : List ℕ) (ts : List SpecToken) (n : ℕ) → Stands k b behind → width ts ≤ 2 * n → width (piece_token k b ++ ts) ≤ 2 * (length b + n)
+piece_width None b behind ts n s le = omega (arith, le)
+piece_width (Some k) b behind ts n s le = omega (arith, le, token_some k b behind s)
 
--- the tokens are such, and not much longer than their bytes
-abbrev AreOf : List SpecToken → ℕ → Type 0
-AreOf ts n = Tokens ts × (width ts ≤ 2 * n)
-
-in_front : (k : Option TokenKind) (b behind : List ℕ) (ts : List SpecToken) (n : ℕ) → Stands k b behind → AreOf ts n → AreOf (piece_token k b ++ ts) (length b + n)
-in_front None b behind ts n s are = (are.0, omega (arith, are.1))
-in_front (Some k) b behind ts n s are = ((at_end k b behind s, are.0), omega (arith, are.1, token_some k b behind s))
-
-pieces_are : (ps : List Piece) (rest : List ℕ) → AllFit ps rest → AreOf (piece_tokens ps) (length (joined ps))
-pieces_are [] rest fit = (tt, omega arith)
-pieces_are (p ∷ ps) rest fit =
+pieces_width : (ps : List Piece) (rest : List ℕ) → AllFit ps rest → width (piece_tokens ps) ≤ 2 * length (joined ps)
+pieces_width [] rest fit = omega arith
+pieces_width (p ∷ ps) rest fit =
     let n : length (p.bytes ++ joined ps) ≡ length p.bytes + length (joined ps) = length-append p.bytes (joined ps) in
-    subst (λ (m : ℕ). AreOf (piece_token p.kind p.bytes ++ piece_tokens ps) m) (sym n)
-    (in_front p.kind p.bytes (joined ps ++ rest) (piece_tokens ps) (length (joined ps)) fit.0.stands (pieces_are ps rest fit.1))
+    subst (λ (m : ℕ). width (piece_token p.kind p.bytes ++ piece_tokens ps) ≤ 2 * m) (sym n)
+    (piece_width p.kind p.bytes (joined ps ++ rest) (piece_tokens ps) (length (joined ps)) fit.0.stands (pieces_width ps rest fit.1))
 
-pub text_tokens : (text : List ℕ) (tokens : List Token) → Reads text (Ok tokens) → Tokens (spec_tokens text tokens) × (width (spec_tokens text tokens) ≤ 2 * length text)
-text_tokens text tokens reads =
+pub text_width : (text : List ℕ) (tokens : List Token) → Reads text (Ok tokens) → width (spec_tokens text tokens) ≤ 2 * length text
+text_width text tokens reads =
     let whole : text ≡ [] ++ (joined reads.0 ++ []) = sym reads.2 ∙ sym (append-nil (joined reads.0)) in
     let same : spec_tokens text tokens ≡ piece_tokens reads.0 = ap (spec_tokens text) reads.3 ∙ spec_tokens-placed [] [] text 0 reads.0 refl whole in
-    let are : AreOf (piece_tokens reads.0) (length text) = subst (λ (t : List ℕ). AreOf (piece_tokens reads.0) (length t)) reads.2 (pieces_are reads.0 [] reads.1) in
-    subst (λ (ts : List SpecToken). AreOf ts (length text)) (sym same) are
+    let le : width (piece_tokens reads.0) ≤ 2 * length text = subst (λ (t : List ℕ). width (piece_tokens reads.0) ≤ 2 * length t) reads.2 (pieces_width reads.0 [] reads.1) in
+    subst (λ (ts : List SpecToken). width ts ≤ 2 * length text) (sym same) le
 
 -- the bound on the length
 pub shorter : (bytes text : List ℕ) (ts us : List SpecToken) → width ts ≤ 2 * length bytes → Kept ts us → IsLaidOut text us → length text ≤ 2 * length bytes
