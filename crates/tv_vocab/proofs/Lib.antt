@@ -1,5 +1,7 @@
 pub mod Texts
 pub mod NodeLaws
-pub mod Ranks
+pub mod CycleLaws
+pub mod WalkLaws
 pub mod Eaches
 pub mod Phases
+pub mod valid

@@ -4,10 +4,8 @@ use Rattle.std.specs.List.{flat_map}
 use Rattle.std.proofs.lemmas.List.{drop_all, append-nil}
 use Rattle.tv_tree.specs.declared.trees.Piece.{Piece}
 use Rattle.tv_tree.specs.Copies.{piece_of}
-use Rattle.std.specs.List.{list_any, list_all}
-use Rattle.std.specs.Global.{Vec}
-use Rattle.std.proofs.Common.{suc, Bool, false, ◌||◌, ◌==◌, take}
-use Rattle.std.proofs.lemmas.List.{map_push, take_more}
+use Rattle.std.specs.List.{list_any}
+use Rattle.std.proofs.Common.{suc, Bool, ◌||◌, ◌==◌}
 use Rattle.tv_tree.specs.Forms.{Nest}
 use Rattle.tv_tree.specs.Copies.{nests, part_of, update_of as nest_of}
 use Rattle.tv_tree.specs.declared.trees.Part.{Part}
@@ -16,7 +14,6 @@ use Rattle.tv_tree.specs.declared.trees.UpdateTrees.{UpdateTrees}
 use Rattle.tv_tree.proofs.Unfolds.{updates_of_items}
 use Rattle.tv_model.specs.Program.{update_of}
 use Rattle.tv_model.specs.declared.program.Update.{Update}
-use Rattle.tv_vocab.specs.Vocabulary.{next_settled}
 use Rattle.tv_vocab.specs.Actions.{piece_text, is_updated, nest_list, updates_in}
 
 pub pieces_step : (total text : List ℕ) (xs : List Piece) (i : ℕ) (x : Piece) → i < length xs → x ≡ get_or xs i x → total ≡ text ++ flat_map piece_text (map piece_of (drop i xs)) → total ≡ (text ++ piece_text (piece_of x)) ++ flat_map piece_text (map piece_of (drop (i + 1) xs))
@@ -35,14 +32,6 @@ updated_over (w ∷ done) pred = ap (λ (b : Bool). (w.pred.0 == pred) || b) (up
 pub nest_list_nests : {X : Type 0} (ds : List (Nest X)) → nest_list (nests ds) ≡ ds
 nest_list_nests [] = refl
 nest_list_nests (d ∷ ds) = ap (λ es. d ∷ es) (nest_list_nests ds)
-
--- one predicate more in a round
-pub next_more : (flags : List Bool) (uses : List (Vec ℕ)) (i : ℕ) (x : Vec ℕ) (next : List Bool) → i < length uses → x ≡ get_or uses i x → next ≡ next_settled (map (λ one. one.items) (take i uses)) flags → next ++ list_all (λ q. get_or flags q false) x.items ∷ [] ≡ next_settled (map (λ one. one.items) (take (i + 1) uses)) flags
-next_more flags uses i x next lt is so_far =
-    let round = list_all (λ q. get_or flags q false) in
-    let taken : take (i + 1) uses ≡ take i uses ++ x ∷ [] = take_more uses i x lt ∙ ap (λ (y : Vec ℕ). take i uses ++ y ∷ []) (sym is) in
-    let lists : map (λ one. one.items) (take (i + 1) uses) ≡ map (λ one. one.items) (take i uses) ++ x.items ∷ [] = ap (map (λ (one : Vec ℕ). one.items)) taken ∙ map_push (λ (one : Vec ℕ). one.items) (take i uses) x in
-    ap (λ (ys : List Bool). ys ++ round x.items ∷ []) so_far ∙ sym (ap (map round) lists ∙ map_push round (map (λ (one : Vec ℕ). one.items) (take i uses)) x.items)
 
 -- the block of the part at i
 pub block_here : (parts : List Part) (i : ℕ) (p : Part) (us : UpdateTrees) → i < length parts → p ≡ get_or parts i p → p ≡ part.Block us → updates_in (map part_of (drop i parts)) ≡ map nest_of us.items.items

@@ -4,4 +4,5 @@ pub mod Graph
 pub mod Resolution
 pub mod Copies
 pub mod Views
-pub mod Ranks
+pub mod Cycles
+pub mod Walk

@@ -1,5 +1,5 @@
 -- The predicates of a flat program, their definitions, and its rules.
-use Rattle.std.specs.Prelude.{ℕ, zero, suc, ◌+◌, Bool, true, false, not, ◌&&◌, ◌||◌, ◌==◌, nat_lt, nat_le, List, [], ◌∷◌, ◌++◌, length, map, fold, Option, Some, None, Ok, Err, is_some, slice_get, get_or, if◌then◌else◌}
+use Rattle.std.specs.Prelude.{ℕ, ◌+◌, Bool, true, false, not, ◌||◌, ◌==◌, nat_lt, nat_le, List, [], ◌∷◌, ◌++◌, length, map, fold, Option, Some, None, Ok, Err, is_some, if◌then◌else◌}
 use Rattle.std.specs.List.{list_any, list_all}
 use Rattle.std.specs.Option.{option_map}
 use Rattle.tv_tree.specs.Forms as tree
@@ -17,6 +17,7 @@ use Rattle.tv_names.specs.Symbols.{SymbolForm, is_reserved, symbol_of}
 use Rattle.tv_names.specs.Naming.{NamingForm, declared_all, no_names}
 use Rattle.tv_names.specs.Picks.{flags_of}
 use Rattle.tv_names.specs.Resolving.{PlaceForm, resolved, is_among}
+use Rattle.tv_vocab.specs.Cycles.{has_cycle}
 
 abbrev pub twice : List (List ℕ) → Bool
 twice [] = false
@@ -146,30 +147,12 @@ mentioned (FForall v f) = mentioned f
 mentioned (FClosure from to left right f) = mentioned f
 
 -- the predicates that a predicate's definition mentions
-abbrev pub rests_on : KindForm → List ℕ
-rests_on KCore = []
-rests_on (KDefined vars body) = mentioned body
+abbrev pub mentioned_by : KindForm → List ℕ
+mentioned_by KCore = []
+mentioned_by (KDefined vars body) = mentioned body
 
 abbrev pub uses_of : List PredForm → List (List ℕ)
-uses_of preds = map (λ d. rests_on d.kind) preds
-
--- those of the predicates whose definitions mention flagged ones alone
-abbrev pub next_settled : List (List ℕ) → List Bool → List Bool
-next_settled uses flags = map (list_all (λ q. get_or flags q false)) uses
-
--- By number, whether the predicate is settled after n rounds: in each round those are settled whose definitions mention
--- only predicates that were settled before it.
-abbrev pub settled : List (List ℕ) → ℕ → List Bool
-settled uses zero = []
-settled uses (suc n) = next_settled uses (settled uses n)
-
-abbrev pub all_true : List Bool → Bool
-all_true flags = list_all (λ flag. flag) flags
-
--- Some predicate isn't settled after as many rounds as there are predicates: then its definition rests on itself, or on
--- such a predicate.
-unfoldable pub has_cycle : List (List ℕ) → Bool
-has_cycle uses = not (all_true (settled uses (length uses)))
+uses_of preds = map (λ d. mentioned_by d.kind) preds
 
 -- the predicates with their definitions, where no definition rests on itself
 unfoldable pub vocabulary : List tree.PredForm → OrRefused (List SymbolForm × List PredForm)

@@ -1,11 +1,12 @@
 //! Whether a definition rests on itself.
 
-ghost use Rattle.std.specs.Prelude.{ℕ, ◌≡◌, ◌++◌, Bool, true, false, List, map, length, get_or, IfOk, OnOk};
-ghost use Rattle.std.specs.List.{list_all};
+ghost use Rattle.std.specs.Prelude.{◌≡◌, ◌++◌, map, IfOk, OnOk};
 ghost use Rattle.tv_model.specs.Form.{form_of};
 ghost use Rattle.tv_model.specs.Program.{pred_of, kind_of};
-ghost use Rattle.tv_vocab.specs.Vocabulary.{mentioned, rests_on, uses_of, next_settled, settled, all_true, has_cycle};
+ghost use Rattle.tv_vocab.specs.Vocabulary.{mentioned, mentioned_by, uses_of};
+ghost use Rattle.tv_vocab.specs.Cycles.{has_cycle};
 
+use crate::walk::finds_cycle;
 use std::alloc::{AllocError, Global};
 use tv_model::{Formula, Kind, Pred};
 
@@ -33,7 +34,7 @@ fn push_mentioned(f: &Formula, found: &mut Vec<u32>) -> Result<(), AllocError>
 }
 
 fn uses_of(alloc: Global, kind: &Kind) -> Result<Vec<u32>, AllocError>
-    ensures { IfOk result (λ uses. uses.items ≡ rests_on (kind_of kind.now)) }
+    ensures { IfOk result (λ uses. uses.items ≡ mentioned_by (kind_of kind.now)) }
 {
     let mut uses = Vec::new(alloc);
     if let Kind::Defined { body, .. } = kind {
@@ -52,55 +53,10 @@ fn all_uses(alloc: Global, preds: &[Pred]) -> Result<Vec<Vec<u32>>, AllocError>
     Ok(uses)
 }
 
-fn is_flagged(flags: &[bool], pred: u32) -> bool
-    ensures { result ≡ get_or flags.now pred false }
-{
-    let pred = pred as usize;
-    if pred < flags.len() {
-        flags[pred]
-    } else {
-        false
-    }
-}
-
-fn all_flagged(flags: &[bool], preds: &[u32]) -> bool
-    ensures { result ≡ list_all (λ q. get_or flags.now q false) preds.now }
-{
-    preds.iter().all(|pred| is_flagged(flags, *pred))
-}
-
-fn next_settled(alloc: Global, uses: &[Vec<u32>], flags: &[bool]) -> Result<Vec<bool>, AllocError>
-    ensures { IfOk result (λ next. next.items ≡ next_settled (map (λ one. one.items) uses.now) flags.now) }
-{
-    let mut next = Vec::new(alloc);
-    for one in uses {
-        next.push(all_flagged(flags, one))?;
-    }
-    Ok(next)
-}
-
-fn settled(alloc: Global, uses: &[Vec<u32>]) -> Result<Vec<bool>, AllocError>
-    ensures { IfOk result (λ flags. flags.items ≡ settled (map (λ one. one.items) uses.now) (length uses.now)) }
-{
-    let mut flags = Vec::new(alloc);
-    for _ in 0..uses.len() {
-        flags = next_settled(alloc, uses, &flags)?;
-    }
-    Ok(flags)
-}
-
-fn all_true(flags: &[bool]) -> bool
-    ensures { result ≡ all_true flags.now }
-{
-    flags.iter().all(|flag| *flag)
-}
-
 /// Whether some definition rests on itself, directly or through others.
-#[tactic(auto, unfolding(crate::specs::Vocabulary::has_cycle))]
 pub fn has_cycle(alloc: Global, preds: &[Pred]) -> Result<bool, AllocError>
     ensures { IfOk result (λ found. found ≡ has_cycle (uses_of (map pred_of preds.now))) }
 {
     let uses = all_uses(alloc, preds)?;
-    let flags = settled(alloc, &uses)?;
-    Ok(!all_true(&flags))
+    finds_cycle(alloc, &uses)
 }

@@ -1,11 +1,15 @@
 //! Laws of the definitions: functions that do nothing, and whose contracts are the laws.
 
-ghost use Rattle.std.specs.Prelude.{ℕ, ◌≡◌, List, false};
-ghost use Rattle.tv_vocab.specs.Ranks.{HasRanks};
-ghost use Rattle.tv_vocab.specs.Vocabulary.{has_cycle};
+ghost use Rattle.tv_vocab.specs.Cycles.{CyclesAreFound, AcyclicHasRanks};
 
-/// Where no cycle of definitions is found, predicates have ranks that fall from each one to those
-/// that its definition mentions: no definition rests on itself.
+/// A cycle of definitions is found exactly where a predicate rests on itself, over one or more
+/// steps from a predicate to one that its definition mentions.
+pub fn cycles_are_found()
+    ensures { CyclesAreFound }
+{}
+
+/// No predicate rests on itself exactly where predicates have ranks that fall from each one to
+/// those that its definition mentions.
 pub fn acyclic_definitions_have_ranks()
-    ensures { (uses : List (List ℕ)) → has_cycle uses ≡ false → HasRanks uses }
+    ensures { AcyclicHasRanks }
 {}

@@ -11,7 +11,8 @@ mod resolution;
 mod rules;
 mod updates;
 mod vocabulary;
+mod walk;
 
-pub use laws::acyclic_definitions_have_ranks;
+pub use laws::{acyclic_definitions_have_ranks, cycles_are_found};
 pub use resolution::resolve;
 pub use tv_names::ResolveError;

@@ -1,8 +1,9 @@
 //! The whole of resolution.
 
-ghost use Rattle.std.specs.Prelude.{◌≡◌, map};
+ghost use Rattle.std.specs.Prelude.{◌≡◌, map, IfOk};
 ghost use Rattle.tv_model.specs.Program.{program_of};
-ghost use Rattle.tv_flat.specs.FlatForm.{flat_of};
+ghost use Rattle.tv_model.specs.Valid.{IsValid};
+ghost use Rattle.tv_flat.specs.FlatForm.{flat_of, IsFlat};
 ghost use Rattle.tv_names.specs.Refusal.{Gives};
 ghost use Rattle.tv_vocab.specs.Resolution.{program};
 
@@ -15,11 +16,8 @@ use tv_flat::Flat;
 use tv_model::{Items, Program, Vocab};
 use tv_names::ResolveError;
 
-/// The program that a flat tree stands for, or the refusal that is met first: predicates and their
-/// definitions come first, then rules, then actions, then nodes and edges. Each refusal but
-/// `Memory` comes exactly where the definition of the program gives it.
 #[tactic(auto, unfolding(crate::specs::Resolution::program))]
-pub fn resolve(alloc: Global, flat: &Flat) -> Result<Program, ResolveError>
+fn flat_program(alloc: Global, flat: &Flat) -> Result<Program, ResolveError>
     ensures { Gives program_of result (program (flat_of flat.now)) }
 {
     let declared = vocabulary(alloc, flat.preds.as_slice())?;
@@ -37,4 +35,15 @@ pub fn resolve(alloc: Global, flat: &Flat) -> Result<Program, ResolveError>
         edges: drawn.edges,
         nodes: drawn.nodes,
     })
+}
+
+/// The program that a flat tree stands for, or the refusal that is met first: predicates and their
+/// definitions come first, then rules, then actions, then nodes and edges. Each refusal but
+/// `Memory` comes exactly where the definition of the program gives it. The program is valid where
+/// the tree is flat, as what expansion gives of a tree that was read is.
+pub fn resolve(alloc: Global, flat: &Flat) -> Result<Program, ResolveError>
+    ensures program { Gives program_of result (program (flat_of flat.now)) }
+    ensures valid { IsFlat (flat_of flat.now) → IfOk result (λ p. IsValid (program_of p)) }
+{
+    flat_program(alloc, flat)
 }

@@ -1,0 +1,17 @@
+pub mod Refusals
+pub mod Numbers
+pub mod Parts
+pub mod Occurrences
+pub mod Atoms
+pub mod Formulas
+pub mod Flags
+pub mod Zips
+pub mod Symbols
+pub mod Predicates
+pub mod Rules
+pub mod Graphs
+pub mod Picked
+pub mod Messages
+pub mod Updates
+pub mod Actions
+pub mod Programs
