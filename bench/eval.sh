@@ -1,6 +1,6 @@
 #!/usr/bin/env bash
 # How long "each two individuals are linked by a walk, one way or the other" takes in a chain: with twice the individuals
-# about eight times as long, since its closure is closed once, and not once for each of the pairs.
+# at most about eight times as long, since its closure is closed once; closed once for each pair, it would be 32 times.
 # The program runs unproved, by rt try, in a folder of its own that goes when the script ends.
 set -euo pipefail
 cd "$(dirname "$0")/.."
@@ -10,7 +10,9 @@ mkdir -p "$scratch/crates/measure/src"
 for crate in tv_kleene tv_model tv_frame tv_value tv_struct tv_eval; do
   mkdir "$scratch/crates/$crate"
   for part in src specs proofs; do
-    cp -r "crates/$crate/$part" "$scratch/crates/$crate/"
+    if [ -d "crates/$crate/$part" ]; then
+      cp -r "crates/$crate/$part" "$scratch/crates/$crate/"
+    fi
   done
   grep "^$crate:" crates.txt >>"$scratch/crates.txt"
 done
@@ -101,7 +103,9 @@ fn main(rt: HostRuntime) -> io::Result<()> {
     let once = measure(&rt, 100)?;
     let twice = measure(&rt, 200)?;
     let tenths = twice.saturating_mul(10) / once.max(1);
-    println!(rt; "ratio in tenths: {tenths}")
+    let whole = tenths / 10;
+    let part = tenths % 10;
+    println!(rt; "ratio {whole}.{part}")
 }
 MAIN
 cd "$scratch/crates/measure"
