@@ -1,5 +1,5 @@
-use Rattle.std.proofs.Common.{ℕ, ◌≡◌, ◌<◌, ◌⊎◌, arith}
-use Rattle.tv_model.specs.Form.{form_of, IsFree}
+use Rattle.std.proofs.Common.{arith}
+use Rattle.tv_model.specs.Form.{form_of}
 use Rattle.tv_eval.proofs.Keeping.{own-next}
 use Rattle.tv_eval.proofs.kept.is_closed.Goals as goal
 

@@ -1,4 +1,4 @@
-use Rattle.std.proofs.Common.{ℕ, ◌<◌, length, arith}
+use Rattle.std.proofs.Common.{arith}
 use Rattle.tv_model.specs.Form.{form_of}
 use Rattle.tv_eval.proofs.Keeping.{found_is_held}
 use Rattle.tv_eval.proofs.kept.Kept.find.Goals as goal

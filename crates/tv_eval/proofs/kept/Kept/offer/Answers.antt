@@ -1,4 +1,4 @@
-use Rattle.std.proofs.Common.{ℕ, ◌<◌, ◌+◌, length, arith}
+use Rattle.std.proofs.Common.{◌+◌, arith}
 use Rattle.tv_eval.proofs.Keeping.{keeps_one_more}
 use Rattle.tv_eval.proofs.kept.Kept.offer.Goals as goal
 
