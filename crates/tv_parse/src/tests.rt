@@ -19,7 +19,13 @@ foreach (z in S) { %p p[z](v) foreach (y in T + S) { %r 0 ==> p[z, y]() } } %%%%
 %r (A(v, w) x(v) & !(0)) ==> 1 %%%%\t%r ( A ( v , w ) x ( v ) & ! ( 0 ) ) ==> 1;%%;%%;
 %% %action Go(z) { %t \"a b\" + z %f { 0, x(v) } %p 1 %message E(v) x(v) -> y(v) -> \"t\" %new %retain 1 { x(v) = 1/2 } } %%%%\t%%;%action Go ( z ) {;%t \"a b\" + z;%f { 0 , x ( v ) };%p 1;%message E ( v ) x ( v ) -> y ( v ) -> \"t\";%new;%retain 1;{;x ( v ) = 1/2;};};%%;%%;
 %% %action Go() { %message a() -> b() -> \"t\" + z + \"u\" %message 0 -> \"x\" } %action H() { } %%%%\t%%;%action Go ( ) {;%message a ( ) -> b ( ) -> \"t\" + z + \"u\";%message 0 -> \"x\";};%action H ( ) {;};%%;%%;
-%% %action Go() { { foreach (z in {f}) { x[z]() = 0 y() = 1 } } %f {} } %% 0 Go(a, b) L1 L1 Go() 0 %%\t%%;%action Go ( ) {;{;foreach ( z in { f } ) {;x [ z ] ( ) = 0;y ( ) = 1;};};%f { };};%%;0 Go ( a , b ) L1;L1 Go ( ) 0;%%;";
+%% %action Go() { { foreach (z in {f}) { x[z]() = 0 y() = 1 } } %f {} } %% 0 Go(a, b) L1 L1 Go() 0 %%\t%%;%action Go ( ) {;{;foreach ( z in { f } ) {;x [ z ] ( ) = 0;y ( ) = 1;};};%f { };};%%;0 Go ( a , b ) L1;L1 Go ( ) 0;%%;
+%r !!!a() ==> !0 %%%%\t%r ! ! ! a ( ) ==> ! 0;%%;%%;
+%r a() ? b() ? c() : d() : e() ==> 0 %%%%\t%r a ( ) ? b ( ) ? c ( ) : d ( ) : e ( ) ==> 0;%%;%%;
+%r a() <-> b() -> c() | d() & !e() ==> 0 %%%%\t%r a ( ) <-> b ( ) -> c ( ) | d ( ) & ! e ( ) ==> 0;%%;%%;
+%i d() = E(v) a() & b() unique function %%%%\t%i d ( ) = E ( v ) a ( ) & b ( ) unique function;%%;%%;
+%%%% E go() foreach %% in, TC\t%%;%%;E go ( ) foreach;%%;in , TC;
+%% %action a() { %message 0 -> \"t\" %p 1 %message 1 -> \"u\" + v } %% /* c */ 1 a() 2 // d\t%%;%action a ( ) {;%message 0 -> \"t\";%p 1;%message 1 -> \"u\" + v;};%%;1 a ( ) 2;";
 
 // Texts and the places of their faults.
 static FAULTS: &[u8] = b"%%\t1:3
@@ -67,7 +73,19 @@ foreach (z in S) { %p x() %%%%\t1:27
 %% %action a() { { x() = 1 -> \"x\" } } %%%%\t1:31
 %% %action a() { %new -> \"x\" } %%%%\t1:23
 %% %action a() { %message 0 -> \"t\" -> \"x\" } %%%%\t1:36
-%s S a -> \"x\" %%%%\t1:8";
+%s S a -> \"x\" %%%%\t1:8
+%r E(v) E ==> 0 %%%%\t1:11
+%r (a() ==> 0 %%%%\t1:9
+%r a() ? b() ==> 0 %%%%\t1:14
+%p x(v) unique = 1 %%%%\t1:16
+%% %action a() { %retain 1 %retain 1 } %%%%\t1:28
+%% %action a() { %f { } %f { } } %%%%\t1:25
+%%%% L E() M\t1:8
+%%%% L a(in) M\t1:10
+%s S {a + b} %%%%\t1:9
+%s S (a %%%%\t1:9
+%r ((((((((((((((((((((((((((((((((((((((((((((((((((((((((((((((((((((((((((((((((((((((((((((((((((((((((((((((((((((((((((((((((((((((((((((((((((((((((((((((((((((((((((((((((((((((((((((((((((((((((\t1:204
+%r (((((((((((((((((((((((((((((((((((((((((((((((((((((((((((((((((((((((((((((((((((((((((((((((((((((((((((((((((((((((((((((((((((((((((((((((((((((((((((((((((((((((((((((((((((((((((((((((((((((((((\tTooDeep";
 
 // The printed tree of a text, or the place where it is no program.
 fn shown(alloc: Global, text: &[u8]) -> Result<Vec<u8>, Fail> {
@@ -137,6 +155,8 @@ fn nested(alloc: Global, pairs: usize) -> Result<Vec<u8>, Fail> {
 #[test]
 fn heights(rt: HostRuntime) -> Result<(), Fail> {
     let alloc = rt.alloc();
+    let lower = shown(alloc, &nested(alloc, 199)?)?;
+    assert_eq!(rt; lower.len(), 813);
     let low = shown(alloc, &nested(alloc, 200)?)?;
     assert_eq!(rt; low.len(), 817);
     let high = shown(alloc, &nested(alloc, 201)?)?;
