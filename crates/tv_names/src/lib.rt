@@ -14,6 +14,3 @@ pub use picks::picks_in;
 pub use place::{Known, Others, Place};
 pub use refusal::ResolveError;
 pub use symbols::{KnownSymbol, Symbols, is_among, is_new_word, is_reserved, is_sm};
-
-#[cfg(test)]
-mod tests;

@@ -17,6 +17,3 @@ pub use laws::{
     programs_are_spelled,
 };
 pub use program::parse_program;
-
-#[cfg(test)]
-mod tests;

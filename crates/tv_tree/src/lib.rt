@@ -9,6 +9,3 @@ pub mod trees;
 pub use lines::print_program;
 pub use names::name_text;
 pub use tv_model::Items;
-
-#[cfg(test)]
-mod tests;
