@@ -1,0 +1,60 @@
+//! A program's text, stage by stage.
+
+ghost use Rattle.std.specs.Prelude.{◌≤◌, length, IfOk, IfErr};
+ghost use Rattle.tv_tree.specs.Copies.{program_of as tree_of};
+ghost use Rattle.tv_tree.specs.Spelled.{IsSpelled};
+ghost use Rattle.tv_flat.specs.FlatForm.{flat_of, IsFlat};
+ghost use Rattle.tv_model.specs.Program.{program_of};
+ghost use Rattle.tv_model.specs.Valid.{IsValid};
+ghost use Rattle.tv_front.specs.Meaning.{HasTree, HasFlatForm, Means, IsCause};
+
+use crate::fault::ProgramFault;
+use std::alloc::Global;
+use tv_expand::expand;
+use tv_flat::Flat;
+use tv_lex::lex;
+use tv_model::Program;
+use tv_parse::parse_program;
+use tv_tree::trees::Tree;
+use tv_vocab::resolve;
+
+/// The tree of a text.
+#[tactic(auto, using(crate::proofs::Stages::lexing_refused, crate::proofs::Stages::parsing_refused, crate::proofs::Stages::tree_read))]
+fn tree(alloc: Global, bytes: &[u8]) -> Result<Tree, ProgramFault>
+    requires { length bytes.now ≤ 67108864 }
+    ensures tree { IfOk result (λ t. HasTree bytes.now (tree_of t)) }
+    ensures spelled { IfOk result (λ t. IsSpelled (tree_of t)) }
+    ensures cause { IfErr result (IsCause bytes.now) }
+{
+    let tokens = lex(alloc, bytes)?;
+    Ok(parse_program(alloc, bytes, &tokens)?)
+}
+
+/// The flat form of a text.
+#[tactic(auto, using(crate::proofs::Stages::expansion_refused, crate::proofs::Stages::flat_form_given))]
+pub fn flat_form(alloc: Global, bytes: &[u8]) -> Result<Flat, ProgramFault>
+    requires { length bytes.now ≤ 67108864 }
+    ensures flat_form { IfOk result (λ f. HasFlatForm bytes.now (flat_of f)) }
+    ensures flat { IfOk result (λ f. IsFlat (flat_of f)) }
+    ensures cause { IfErr result (IsCause bytes.now) }
+{
+    let tree = tree(alloc, bytes)?;
+    Ok(expand(alloc, &tree)?)
+}
+
+/// The program that a text means, which is valid. The text has its includes put in already, and at most 67,108,864 bytes.
+///
+/// # Errors
+/// The first stage that refuses the text says why: its bytes make no tokens; over 200 constructs are open at one place;
+/// its tokens are no program; its tree has no flat form; its flat form has no meaning. Each of these comes exactly where
+/// it stands; only want of memory may come anywhere.
+#[tactic(auto, using(crate::proofs::Stages::resolution_refused, crate::proofs::Stages::program_given))]
+pub fn read_program(alloc: Global, bytes: &[u8]) -> Result<Program, ProgramFault>
+    requires { length bytes.now ≤ 67108864 }
+    ensures means { IfOk result (λ p. Means bytes.now (program_of p)) }
+    ensures valid { IfOk result (λ p. IsValid (program_of p)) }
+    ensures cause { IfErr result (IsCause bytes.now) }
+{
+    let flat = flat_form(alloc, bytes)?;
+    Ok(resolve(alloc, &flat)?)
+}
