@@ -6,3 +6,4 @@ mod limits;
 mod resolution;
 mod rows;
 mod show;
+mod trees;
