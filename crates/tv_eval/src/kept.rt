@@ -1,6 +1,6 @@
 //! Closures that depend on the structure alone: one is closed when it is first met, and read from then on.
 
-ghost use Rattle.std.specs.Prelude.{ℕ, ◌≡◌, ◌<◌, ◌⊎◌, false, List, length, IsTrue, IfSome};
+ghost use Rattle.std.specs.Prelude.{ℕ, ◌≡◌, ◌<◌, ◌⊎◌, ◌↔◌, ◌≢◌, List, length, IsTrue, IfSome};
 ghost use Rattle.tv_kleene.specs.declared.K3.{K3};
 ghost use Rattle.tv_model.specs.Form.{form_of, vars_of, IsFree};
 ghost use Rattle.tv_model.specs.Truth.{Assignment};
@@ -57,7 +57,7 @@ impl<'f> Kept<'f> {
 
     fn stands_at(&self, k: usize, edges: Edges<'_>) -> bool
         requires { k < 8 }
-        ensures { IsTrue result → StandsAt self.now k edges.entry.left.0 edges.entry.right.0 (form_of edges.entry.body.now) }
+        ensures { IsTrue result ↔ StandsAt self.now k edges.entry.left.0 edges.entry.right.0 (form_of edges.entry.body.now) }
     {
         let places = &self.closures[..];
         match places[k] {
@@ -105,8 +105,7 @@ fn is_closed(edges: Edges<'_>) -> bool
 
 /// Whether the variable stands free in the body and isn't one of the closure's own.
 fn has_outer(edges: Edges<'_>, v: u8) -> bool
-    ensures { result ≡ false → IsFree v (form_of edges.entry.body.now)
-        → (v ≡ edges.entry.left.0) ⊎ (v ≡ edges.entry.right.0) }
+    ensures { IsTrue result ↔ ((v ≢ edges.entry.left.0) × (v ≢ edges.entry.right.0) × IsFree v (form_of edges.entry.body.now)) }
 {
     if v == edges.left.0 {
         return false;
@@ -118,15 +117,14 @@ fn has_outer(edges: Edges<'_>, v: u8) -> bool
 }
 
 fn are_same(one: Edges<'_>, other: Edges<'_>) -> bool
-    ensures left { IsTrue result → one.entry.left.0 ≡ other.entry.left.0 }
-    ensures right { IsTrue result → one.entry.right.0 ≡ other.entry.right.0 }
-    ensures body { IsTrue result → form_of one.entry.body.now ≡ form_of other.entry.body.now }
+    ensures { IsTrue result ↔ ((one.entry.left.0 ≡ other.entry.left.0) × (one.entry.right.0 ≡ other.entry.right.0)
+        × (form_of one.entry.body.now ≡ form_of other.entry.body.now)) }
 {
     one.left.0 == other.left.0 && one.right.0 == other.right.0 && is_same(one.body, other.body)
 }
 
 fn is_same(f: &Formula, g: &Formula) -> bool
-    ensures { IsTrue result → form_of f.now ≡ form_of g.now }
+    ensures { IsTrue result ↔ (form_of f.now ≡ form_of g.now) }
 {
     match (f, g) {
         (Formula::Zero, Formula::Zero) | (Formula::One, Formula::One) => true,
@@ -163,7 +161,7 @@ fn is_same(f: &Formula, g: &Formula) -> bool
 }
 
 fn are_same_terms(ts: &Terms, us: &Terms) -> bool
-    ensures { IsTrue result → vars_of ts.now ≡ vars_of us.now }
+    ensures { IsTrue result ↔ (vars_of ts.now ≡ vars_of us.now) }
 {
     match (ts, us) {
         (Terms::Zero, Terms::Zero) => true,
