@@ -72,17 +72,24 @@ closed_are_held s a left right f filled closed size fills closes = record {
 
 -- one more variable was looked at
 pub own-next : (body : Form) (left right k : ℕ) → ((v : ℕ) → v < k → IsFree v body → (v ≡ left) ⊎ (v ≡ right))
-    → (IsFree k body → (k ≡ left) ⊎ (k ≡ right))
+    → (¬ ((k ≢ left) × (k ≢ right) × IsFree k body))
     → (v : ℕ) → v < k + 1 → IsFree v body → (v ≡ left) ⊎ (v ≡ right)
 own-next body left right k before here v lt free =
     ⊎_elim
-    (λ e. subst (λ n. (n ≡ left) ⊎ (n ≡ right)) (sym e) (here (subst (λ n. IsFree n body) e free)))
+    (λ e. subst (λ n. (n ≡ left) ⊎ (n ≡ right)) (sym e) (own (subst (λ n. IsFree n body) e free)))
     (λ ne. before v (omega arith) free)
     (cases_eq v k)
+  where
+    own : IsFree k body → (k ≡ left) ⊎ (k ≡ right)
+    own is =
+        ⊎_elim inl
+        (λ l. ⊎_elim inr (λ r. absurd (here (l, r, is))) (cases_eq k right))
+        (cases_eq k left)
 
 -- ---- places
 
-any-default : {X : Type 0} (xs : List X) (i : ℕ) (d e : X) → i < length xs → get_or xs i d ≡ get_or xs i e
+-- what is read at a place below the length is the same with any default
+pub any-default : {X : Type 0} (xs : List X) (i : ℕ) (d e : X) → i < length xs → get_or xs i d ≡ get_or xs i e
 any-default [] i d e lt = absurd (omega arith)
 any-default (x ∷ xs) zero d e lt = refl
 any-default (x ∷ xs) (suc i) d e lt = any-default xs i d e (omega arith)

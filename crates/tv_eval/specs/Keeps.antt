@@ -1,8 +1,9 @@
 -- Closures that are kept once closed.
-use Rattle.std.specs.Prelude.{ℕ, ◌≡◌, List, [], Some, slice_get, slice_index_or}
+use Rattle.std.specs.Prelude.{ℕ, ◌≡◌, ◌<◌, ◌⊎◌, List, [], length, Some, slice_get, slice_index_or}
 use Rattle.tv_kleene.specs.declared.K3.{K3}
-use Rattle.tv_model.specs.Form.{Form, form_of}
+use Rattle.tv_model.specs.Form.{Form, form_of, IsFree}
 use Rattle.tv_model.specs.Truth.{Assignment}
+use Rattle.tv_model.specs.Valid.{IsVariable}
 use Rattle.tv_struct.specs.StructureForm.{StructureForm}
 use Rattle.tv_eval.specs.declared.kept.Edges.{Edges}
 use Rattle.tv_eval.specs.declared.kept.Kept.{Kept}
@@ -21,3 +22,15 @@ pub record StandsAt (kept : Kept) (k left right : ℕ) (body : Form) : Type 0 wh
   pub same_left : edges.left.0 ≡ left
   pub same_right : edges.right.0 ≡ right
   pub same_body : form_of edges.body.now ≡ body
+
+-- no variable but the closure's own two stands free in its body
+abbrev pub HasOnlyOwn : (left right : ℕ) → (body : Form) → Type 0
+HasOnlyOwn left right body = (v : ℕ) → IsVariable v → IsFree v body → (v ≡ left) ⊎ (v ≡ right)
+
+-- there is a place for the closure: not all are taken, the room of the next is as large as the closed
+-- edges, and no variable but the closure's own two stands free in its body
+pub record HasPlace (kept : Kept) (edges : Edges) (closed : List (List K3)) (rooms : List (List (List K3))) : Type 0 where
+  pub place : kept.count < 8
+  pub room : kept.count < length rooms
+  pub size : length (slice_index_or rooms kept.count []) ≡ length closed
+  pub own : HasOnlyOwn edges.left.0 edges.right.0 (form_of edges.body.now)

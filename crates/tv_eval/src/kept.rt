@@ -1,13 +1,13 @@
 //! Closures that depend on the structure alone: one is closed when it is first met, and read from then on.
 
-ghost use Rattle.std.specs.Prelude.{ℕ, ◌≡◌, ◌<◌, ◌⊎◌, ◌↔◌, ◌≢◌, List, length, IsTrue, IfSome};
+ghost use Rattle.std.specs.Prelude.{ℕ, ◌≡◌, ◌≢◌, ◌<◌, ◌+◌, ◌↔◌, List, [], length, IsTrue, IfSome, IfNone, Some, slice_index_or, slice_set};
 ghost use Rattle.tv_kleene.specs.declared.K3.{K3};
 ghost use Rattle.tv_model.specs.Form.{form_of, vars_of, IsFree};
 ghost use Rattle.tv_model.specs.Truth.{Assignment};
 ghost use Rattle.tv_struct.specs.StructureForm.{StructureForm, arities_of};
 ghost use Rattle.tv_eval.specs.Formulas.{IsFormulaOver};
 ghost use Rattle.tv_eval.specs.HoldsClosure.{HoldsClosure};
-ghost use Rattle.tv_eval.specs.Keeps.{Keeps, StandsAt};
+ghost use Rattle.tv_eval.specs.Keeps.{Keeps, StandsAt, HasOnlyOwn, HasPlace};
 
 use crate::relation::Relation;
 use std::mem;
@@ -34,7 +34,8 @@ pub struct Kept<'f> {
 impl<'f> Kept<'f> {
     /// Nothing is kept.
     pub fn new() -> Kept<'f>
-        ensures { (s : StructureForm) (rooms : List (List (List K3))) → Keeps s result rooms }
+        ensures kept { (s : StructureForm) (rooms : List (List (List K3))) → Keeps s result rooms }
+        ensures count { result.count ≡ 0 }
     {
         Kept {
             closures: [None; 8],
@@ -44,8 +45,10 @@ impl<'f> Kept<'f> {
 
     /// The closed edges, if they are kept.
     pub fn find<'r>(&self, edges: Edges<'_>, rooms: &'r [Relation]) -> Option<&'r Relation>
-        ensures { (s : StructureForm) (a : Assignment) → Keeps s self.now rooms.now
+        ensures held { (s : StructureForm) (a : Assignment) → Keeps s self.now rooms.now
             → IfSome result (λ r. HoldsClosure s a edges.entry.left.0 edges.entry.right.0 (form_of edges.entry.body.now) r.now) }
+        ensures none { IfNone result ((k : ℕ) → k < 8 → k < length rooms.now
+            → ¬ StandsAt self.now k edges.entry.left.0 edges.entry.right.0 (form_of edges.entry.body.now)) }
     {
         for k in 0..PLACES {
             if k < rooms.len() && self.stands_at(k, edges) {
@@ -74,6 +77,14 @@ impl<'f> Kept<'f> {
             → HoldsClosure s a edges.entry.left.0 edges.entry.right.0 (form_of edges.entry.body.now) closed.old
             → Keeps s self.new rooms.new }
         ensures size { length closed.new ≡ length closed.old }
+        ensures closures { HasPlace self.old edges.entry closed.old rooms.old
+            → self.new.closures ≡ slice_set self.old.closures self.old.count (Some edges.entry) }
+        ensures count { HasPlace self.old edges.entry closed.old rooms.old → self.new.count ≡ self.old.count + 1 }
+        ensures swapped { HasPlace self.old edges.entry closed.old rooms.old
+            → (closed.new ≡ slice_index_or rooms.old self.old.count [])
+            × (rooms.new ≡ slice_set rooms.old self.old.count closed.old) }
+        ensures unchanged { ¬ HasPlace self.old edges.entry closed.old rooms.old
+            → (self.new ≡ self.old) × (closed.new ≡ closed.old) × (rooms.new ≡ rooms.old) }
     {
         let place = self.count;
         if place >= PLACES || place >= rooms.len() || !is_closed(edges) {
@@ -92,8 +103,7 @@ impl<'f> Kept<'f> {
 
 /// Whether no variable but the closure's own two stands free in its body.
 fn is_closed(edges: Edges<'_>) -> bool
-    ensures { IsTrue result → (v : ℕ) → v < 32 → IsFree v (form_of edges.entry.body.now)
-        → (v ≡ edges.entry.left.0) ⊎ (v ≡ edges.entry.right.0) }
+    ensures { IsTrue result ↔ HasOnlyOwn edges.entry.left.0 edges.entry.right.0 (form_of edges.entry.body.now) }
 {
     for v in 0..32 {
         if has_outer(edges, v) {

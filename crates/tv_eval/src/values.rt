@@ -1,6 +1,6 @@
 //! The value of a formula, part by part.
 
-ghost use Rattle.std.specs.Prelude.{ℕ, ◌≡◌, ◌≢◌, ◌<◌, ◌≤◌, [], length, map, IfSome};
+ghost use Rattle.std.specs.Prelude.{ℕ, ◌≡◌, ◌≢◌, ◌<◌, ◌≤◌, [], length, map, IfSome, IfNone};
 ghost use Rattle.tv_model.specs.Form.{form_of, vars_of, FAtom, FAnd, FOr, FIff, FCond, FExists, FForall, FClosure};
 ghost use Rattle.tv_model.specs.Truth.{put};
 ghost use Rattle.tv_struct.specs.StructureForm.{structure_of, value_at};
@@ -8,7 +8,7 @@ ghost use Rattle.tv_value.specs.Value.{value, mark_value, same_value};
 ghost use Rattle.tv_eval.specs.AssignmentForm.{assignment_of, IsAssigned};
 ghost use Rattle.tv_eval.specs.CanEvaluate.{CanEvaluate};
 ghost use Rattle.tv_eval.specs.Formulas.{sizes_of};
-ghost use Rattle.tv_eval.specs.Keeps.{Keeps};
+ghost use Rattle.tv_eval.specs.Keeps.{Keeps, StandsAt};
 ghost use Rattle.tv_eval.specs.Rows.{entry_in};
 
 use crate::Assignment;
@@ -285,8 +285,10 @@ fn kept_value(
     requires from { IsAssigned s.now.size a.now from.0 }
     requires to { IsAssigned s.now.size a.now to.0 }
     requires kept { Keeps s.now kept.now shared.now }
-    ensures { IfSome result (λ k. k ≡ value (structure_of s.now) (assignment_of a.now)
+    ensures exact { IfSome result (λ k. k ≡ value (structure_of s.now) (assignment_of a.now)
         (FClosure from.0 to.0 edges.entry.left.0 edges.entry.right.0 (form_of edges.entry.body.now))) }
+    ensures none { IfNone result ((k : ℕ) → k < 8 → k < length shared.now
+        → ¬ StandsAt kept.now k edges.entry.left.0 edges.entry.right.0 (form_of edges.entry.body.now)) }
 {
     match kept.find(edges, shared) {
         None => None,

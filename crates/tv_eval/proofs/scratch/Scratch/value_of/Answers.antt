@@ -16,7 +16,7 @@ value_of-requires c =
             (rooms_for c.args.self.now c.self.inside.rooms.items c.self.inside.size (form_of c.args.f.now) c.args.s.now.size
             (sym c.self.view_is) c.self.invariant c.requires.fits);
       };
-      kept = c.new.ensures c.args.s.now _;
+      kept = c.new.ensures.kept c.args.s.now _;
     }
 
 pub invariant_of-self : goal.invariant_of-self
