@@ -6,7 +6,7 @@ use Rattle.std.specs.Global.{Vec}
 use Rattle.std.proofs.lemmas.List.{length_push, length-map}
 use Rattle.tv_tree.specs.Forms.{Nest, Single, Foreach, Nests, no_nest, with_nest, UpdateForm, PartForm, PCaption, PFocus, PPre, PMessage, PNew, PRetain, PBlock, ActionForm, EdgeForm}
 use Rattle.tv_flat.specs.FlatForm.{FlatEdgeForm, nodes}
-use Rattle.tv_flat.specs.Replaced.{Binding, flat_form, flat_update, one_text}
+use Rattle.tv_flat.specs.Replaced.{Binding, bound, all_bound, flat_form, flat_update, one_text}
 use Rattle.tv_expand.specs.declared.error.ExpandError.{ExpandError}
 use Rattle.tv_expand.specs.declared.error.ExpandError.TheVariants.{ArgumentCount}
 use Rattle.tv_expand.specs.Outcome.{◌>>=◌, each}
@@ -31,8 +31,8 @@ module _ {X S : Type 0} (sets : S → Sets) (single : Binding → X → S → Re
     nest_holds : (b : Binding) (d : Nest X) (s t : S) → P s → unrolled_nest sets single b d s ≡ Ok t → P t
     nest_holds b (Single x) s t p h = keeps b x s t p h
     nest_holds b (Foreach var members body) s t p h =
-        let found = bind_ok (members_of (sets s) b members) (λ xs. each (λ x. unrolled sets single (b ++ (var, x) ∷ []) body) xs s) t h in
-        each_holds (λ x. unrolled sets single (b ++ (var, x) ∷ []) body) P (λ x s1 t1 p1 h1. nests_hold (b ++ (var, x) ∷ []) body s1 t1 p1 h1) found.0 s t p found.2
+        let found = bind_ok (members_of (sets s) b members) (λ xs. each (λ x. unrolled sets single (bound b var x) body) xs s) t h in
+        each_holds (λ x. unrolled sets single (bound b var x) body) P (λ x s1 t1 p1 h1. nests_hold (bound b var x) body s1 t1 p1 h1) found.0 s t p found.2
 
     nests_hold : (b : Binding) (ds : Nests X) (s t : S) → P s → unrolled sets single b ds s ≡ Ok t → P t
     nests_hold b no_nest s t p h = let same : s ≡ t = cc in subst P same p
@@ -81,9 +81,9 @@ called_less sets a arguments w t h = by (list_any (same_call (a.name ∷ argumen
     by false k =
         let start : Gathered = record { parts = []; room = w.room } in
         let after : Gathered → Wired = λ s. record { calls = w.calls ++ (a.name ∷ arguments) ∷ []; actions = w.actions ++ s.parts ∷ []; edges = w.edges; room = s.room } in
-        let got = bind_ok (each (gathered sets (zip a.params arguments)) a.parts start) (λ s. Ok (after s)) t k in
+        let got = bind_ok (each (gathered sets (all_bound [] (zip a.params arguments))) a.parts start) (λ s. Ok (after s)) t k in
         let same : after got.0 ≡ t = cc (got.2) in
-        let less = each_holds (gathered sets (zip a.params arguments)) (λ (v : Gathered). v.room.items ≤ w.room.items) (gathered_less w.room.items sets (zip a.params arguments)) a.parts start got.0 (omega arith) got.1 in
+        let less = each_holds (gathered sets (all_bound [] (zip a.params arguments))) (λ (v : Gathered). v.room.items ≤ w.room.items) (gathered_less w.room.items sets (all_bound [] (zip a.params arguments))) a.parts start got.0 (omega arith) got.1 in
         let long = length_push w.calls (a.name ∷ arguments) in
         subst (λ (v : Wired). length v.calls + v.room.items ≤ length w.calls + w.room.items + 1) same (omega arith)
 

@@ -14,10 +14,10 @@ use Rattle.tv_expand.specs.declared.error.ExpandError.TheVariants.{NameTwice, Ar
 use Rattle.tv_flat.specs.declared.flat.Flat.{Flat}
 use Rattle.tv_flat.specs.FlatForm.{FlatEdgeForm, FlatForm, flat_of, nodes, part_items, part_nodes, IsFlatPart, IsFlatAction, IsFlatEdge, IsFlat, IsSpelledRule}
 use Rattle.tv_expand.specs.Outcome.{◌>>=◌, each, Gives}
-use Rattle.tv_flat.specs.Replaced.{Binding, flat_form, one_text}
+use Rattle.tv_flat.specs.Replaced.{Binding, all_bound, flat_form, one_text}
 use Rattle.tv_expand.specs.Sets.{Sets, known, once}
 use Rattle.tv_expand.specs.Expansion.{Room, counted, Declared, declared, sets_in, all_declared, nothing_declared, all_updated, Gathered, with_part, with_block, gathered, Actions, find_action, with_action, same_call, Wired, made, with_call, called, with_edge, wired_to, wired, nothing_wired, flat_form_of, expansion}
-use Rattle.tv_flat.proofs.SpellLaws.{IsGoodBinding}
+use Rattle.tv_flat.proofs.SpellLaws.{IsGoodBinding, all_bound_good}
 use Rattle.tv_expand.proofs.KeepLaws.{bind_ok, AreGoodSets, lookup_good, each_keeps, nests_keep}
 use Rattle.tv_expand.proofs.CallLaws.{place_within}
 use Rattle.tv_expand.proofs.StepKeeps.{counted_ok, DeclaredGood, declared_keeps, GatheredGood, gathered_keeps}
@@ -88,7 +88,7 @@ pub record WiredGood (items nodes : ℕ) (w : Wired) : Type 0 where
   pub within : sum_by (sum_by part_items) w.actions + length w.edges + w.room.items ≤ items
   pub small : sum_by (sum_by part_nodes) w.actions + w.room.nodes ≤ nodes
 
-arguments_good : (params arguments : List (List ℕ)) → AreIdentifiers arguments → IsGoodBinding (zip params arguments)
+arguments_good : (params arguments : List (List ℕ)) → AreIdentifiers arguments → All (λ (p : List ℕ × List ℕ). IsIdentifier p.1) (zip params arguments)
 arguments_good [] arguments ok = All-nil (λ (p : List ℕ × List ℕ). IsIdentifier p.1)
 arguments_good (x ∷ params) [] ok = All-nil (λ (p : List ℕ × List ℕ). IsIdentifier p.1)
 arguments_good (x ∷ params) (y ∷ arguments) ok =
@@ -103,12 +103,12 @@ place_there {X} test (x ∷ xs) h = by (test x) (place_there test xs) h
     by false rest k = let r = rest k in omega arith
 
 -- one more flat action
-action_keeps : (items most : ℕ) (sets : Sets) (a : ActionForm) (arguments call : List (List ℕ)) (w : Wired) (s : Gathered) → AreGoodSets sets → IsSpelledAction a → AreIdentifiers arguments → WiredGood items most w → each (gathered sets (zip a.params arguments)) a.parts (record { parts = []; room = w.room }) ≡ Ok s → WiredGood items most (record { calls = w.calls ++ call ∷ []; actions = w.actions ++ s.parts ∷ []; edges = w.edges; room = s.room })
+action_keeps : (items most : ℕ) (sets : Sets) (a : ActionForm) (arguments call : List (List ℕ)) (w : Wired) (s : Gathered) → AreGoodSets sets → IsSpelledAction a → AreIdentifiers arguments → WiredGood items most w → each (gathered sets (all_bound [] (zip a.params arguments))) a.parts (record { parts = []; room = w.room }) ≡ Ok s → WiredGood items most (record { calls = w.calls ++ call ∷ []; actions = w.actions ++ s.parts ∷ []; edges = w.edges; room = s.room })
 action_keeps items most sets a arguments call w s good ok fine p h =
-    let b = zip a.params arguments in
+    let b = all_bound [] (zip a.params arguments) in
     let start : Gathered = record { parts = []; room = w.room } in
     let begun : GatheredGood w.room.items w.room.nodes start = record { flat = All-nil IsFlatPart; within = omega arith; small = omega arith } in
-    let kept = each_keeps (gathered sets b) (GatheredGood w.room.items w.room.nodes) IsSpelledPart (λ x s1 t1 q p1 h1. gathered_keeps w.room.items w.room.nodes sets b x s1 t1 good (arguments_good a.params arguments fine) q p1 h1) a.parts start s ok.parts begun h in
+    let kept = each_keeps (gathered sets b) (GatheredGood w.room.items w.room.nodes) IsSpelledPart (λ x s1 t1 q p1 h1. gathered_keeps w.room.items w.room.nodes sets b x s1 t1 good (all_bound_good [] (zip a.params arguments) (All-nil (λ (p : List ℕ × List ℕ). IsIdentifier p.1)) (arguments_good a.params arguments fine)) q p1 h1) a.parts start s ok.parts begun h in
     let kinds : HasPartsOnce s.parts = λ kind. (let e = each_counts kind sets b a.parts start s h in let o = ok.once kind in omega arith) in
     let calls_long = length_push w.calls call in
     let actions_long = length_push w.actions s.parts in
@@ -134,7 +134,7 @@ called_keeps items most sets a arguments w t good ok fine p h =
         subst (λ (v : Wired). WiredGood items most v × (position_or_len (same_call (a.name ∷ arguments)) w.calls < length v.actions)) same (p, omega arith)
     by false there k =
         let after : Gathered → Wired = λ s. record { calls = w.calls ++ (a.name ∷ arguments) ∷ []; actions = w.actions ++ s.parts ∷ []; edges = w.edges; room = s.room } in
-        let got = bind_ok (each (gathered sets (zip a.params arguments)) a.parts (record { parts = []; room = w.room })) (λ s. Ok (after s)) t k in
+        let got = bind_ok (each (gathered sets (all_bound [] (zip a.params arguments))) a.parts (record { parts = []; room = w.room })) (λ s. Ok (after s)) t k in
         let same : after got.0 ≡ t = cc (got.2) in
         let place = place_within (same_call (a.name ∷ arguments)) w.calls in
         let alike = p.same in

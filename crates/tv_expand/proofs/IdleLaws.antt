@@ -9,7 +9,7 @@ use Rattle.tv_tree.specs.declared.trees.SetSign.TheVariants as sign
 use Rattle.tv_tree.specs.declared.trees.SetStep.{SetStep}
 use Rattle.tv_tree.specs.declared.trees.SetTree.{SetTree, out-SetTree}
 use Rattle.tv_tree.proofs.Unfolds.{step_of_parts, set_of_steps}
-use Rattle.tv_flat.specs.Replaced.{Binding, replaced}
+use Rattle.tv_flat.specs.Replaced.{Binding, bound, replaced}
 use Rattle.tv_expand.specs.declared.error.ExpandError.{ExpandError}
 use Rattle.tv_expand.specs.Outcome.{each}
 use Rattle.tv_expand.specs.Sets.{Sets, find_set, known, with_members, without_members, members_of}
@@ -52,7 +52,7 @@ module _ {X S : Type 0} (sets : S → Sets) (single : Binding → X → S → Re
     nest_idle b (Foreach var members body) s h =
         let p = both (is_declared_set (sets s) members) (is_idle (sets s) body) h in
         let found = has_members (sets s) b members p.0 in
-        rw (found.1) (each_idle (λ x. unrolled sets single (b ++ (var, x) ∷ []) body) found.0 s (λ x. nests_idle (b ++ (var, x) ∷ []) body s p.1))
+        rw (found.1) (each_idle (λ x. unrolled sets single (bound b var x) body) found.0 s (λ x. nests_idle (bound b var x) body s p.1))
 
     nests_idle : (b : Binding) (ds : Nests X) (s : S) → is_idle (sets s) ds ≡ true → unrolled sets single b ds s ≡ Ok s
     nests_idle b no_nest s h = refl
@@ -61,8 +61,8 @@ module _ {X S : Type 0} (sets : S → Sets) (single : Binding → X → S → Re
         rw (nest_idle b d s p.0) (nests_idle b ds s p.1)
 
   -- what an idle body gives for all members of a set
-  pub body_idle : (b : Binding) (var : List ℕ) (body : Nests X) (words : List (List ℕ)) (s : S) → is_idle (sets s) body ≡ true → each (λ x. unrolled sets single (b ++ (var, x) ∷ []) body) words s ≡ Ok s
-  body_idle b var body words s h = each_idle (λ x. unrolled sets single (b ++ (var, x) ∷ []) body) words s (λ x. nests_idle (b ++ (var, x) ∷ []) body s h)
+  pub body_idle : (b : Binding) (var : List ℕ) (body : Nests X) (words : List (List ℕ)) (s : S) → is_idle (sets s) body ≡ true → each (λ x. unrolled sets single (bound b var x) body) words s ≡ Ok s
+  body_idle b var body words s h = each_idle (λ x. unrolled sets single (bound b var x) body) words s (λ x. nests_idle (bound b var x) body s h)
 
 -- ---- the tests, step by step
 

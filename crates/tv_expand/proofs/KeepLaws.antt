@@ -9,8 +9,8 @@ use Rattle.tv_tree.specs.Forms.{SetForm, SNamed, SMembers, SParen, SPlus, SMinus
 use Rattle.tv_tree.specs.Spelled.{AreIdentifiers, IsSpelledSet, IsSpelledNest, AreSpelledNests}
 use Rattle.tv_expand.specs.declared.error.ExpandError.{ExpandError}
 use Rattle.tv_expand.specs.Outcome.{◌>>=◌, each}
-use Rattle.tv_flat.specs.Replaced.{Binding, replaced}
-use Rattle.tv_flat.proofs.SpellLaws.{case_of, IsGoodBinding, replaced_all}
+use Rattle.tv_flat.specs.Replaced.{Binding, bound, replaced}
+use Rattle.tv_flat.proofs.SpellLaws.{case_of, IsGoodBinding, bound_good, replaced_all}
 use Rattle.tv_expand.specs.Sets.{Sets, is_among, sight, with_members, without_members, known, members_of}
 use Rattle.tv_expand.specs.Expansion.{unrolled, unrolled_nest}
 
@@ -71,9 +71,9 @@ module _ {X S : Type 0} (sets : S → Sets) (single : Binding → X → S → Re
     nest_keeps : (b : Binding) (d : Nest X) (s t : S) → IsGoodBinding b → IsSpelledNest Q d → P s → unrolled_nest sets single b d s ≡ Ok t → P t
     nest_keeps b (Single x) s t ok q p h = keeps b x s t ok q p h
     nest_keeps b (Foreach var members body) s t ok q p h =
-        let found = bind_ok (members_of (sets s) b members) (λ xs. each (λ x. unrolled sets single (b ++ (var, x) ∷ []) body) xs s) t h in
-        each_keeps (λ x. unrolled sets single (b ++ (var, x) ∷ []) body) P IsIdentifier
-        (λ x s1 t1 is p1 h1. nests_keep (b ++ (var, x) ∷ []) body s1 t1 (All-push (λ (r : List ℕ × List ℕ). IsIdentifier r.1) b (var, x) ok is) q.2 p1 h1)
+        let found = bind_ok (members_of (sets s) b members) (λ xs. each (λ x. unrolled sets single (bound b var x) body) xs s) t h in
+        each_keeps (λ x. unrolled sets single (bound b var x) body) P IsIdentifier
+        (λ x s1 t1 is p1 h1. nests_keep (bound b var x) body s1 t1 (bound_good b var x ok is) q.2 p1 h1)
         found.0 s t (members_good (sets s) b members found.0 (good s p) ok q.1 found.1) p found.2
 
     pub nests_keep : (b : Binding) (ds : Nests X) (s t : S) → IsGoodBinding b → AreSpelledNests Q ds → P s → unrolled sets single b ds s ≡ Ok t → P t

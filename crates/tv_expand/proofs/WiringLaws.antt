@@ -1,5 +1,5 @@
 -- Actions by their names, and calls told apart by their words.
-use Rattle.std.proofs.Common.{◌≡◌, ℕ, ◌+◌, ◌<◌, ◌≤◌, Bool, true, false, cond, ◌&&◌, get_or, List, [], ◌∷◌, ◌++◌, length, drop, refl, ap, Option, Some, None, Ok, Err, Bor, append_assoc}
+use Rattle.std.proofs.Common.{◌≡◌, ℕ, ◌+◌, ◌<◌, ◌≤◌, Bool, true, false, cond, ◌&&◌, get_or, List, [], ◌∷◌, ◌++◌, length, drop, refl, ap, Option, Some, None, Ok, Err, Bor}
 use Rattle.std.specs.Prelude.{is_some, if◌then◌else◌}
 use Rattle.std.specs.Option.{option_map}
 use Rattle.std.specs.Str.{bytes_eq}
@@ -7,10 +7,11 @@ use Rattle.std.specs.Map.{lookup}
 use Rattle.std.specs.List.{list_any, position_or_len, zip}
 use Rattle.std.specs.Cmp.Lexicographic.{pointwise}
 use Rattle.std.specs.Global.{Vec}
-use Rattle.std.proofs.lemmas.List.{drop_more, drop_all, map_push, append-nil}
+use Rattle.std.proofs.lemmas.List.{drop_more, drop_all, map_push}
 use Rattle.tv_tree.specs.declared.trees.ActionTree.{ActionTree}
 use Rattle.tv_tree.specs.Copies.{action_of}
 use Rattle.tv_expand.specs.declared.error.ExpandError.TheVariants.{NameUnknown}
+use Rattle.tv_flat.specs.Replaced.{Binding, bound, all_bound}
 use Rattle.tv_expand.specs.Sets.{known}
 use Rattle.indexmap.specs.IndexMap.{insert_entry}
 use Rattle.tv_expand.specs.Expansion.{find_action, same_call}
@@ -62,11 +63,11 @@ pub call_place : (words : List (Bor (List ℕ))) (ks : List (Vec (Bor (List ℕ)
 call_place words [] = refl
 call_place words (k ∷ ks) = rw (same_words words k.items, call_place words ks) refl
 
-pub pairs_more : (bs : List (List ℕ × List ℕ)) (xs ys : List (List ℕ)) (i : ℕ) (x y : List ℕ) → i < length xs → i < length ys → x ≡ get_or xs i x → y ≡ get_or ys i y → (bs ++ (x, y) ∷ []) ++ zip (drop (i + 1) xs) (drop (i + 1) ys) ≡ bs ++ zip (drop i xs) (drop i ys)
-pairs_more bs xs ys i x y below within is are = rw (drop_more xs i x below, drop_more ys i y within, append_assoc, ← is, ← are) refl
+pub pairs_more : (b : Binding) (xs ys : List (List ℕ)) (i : ℕ) (x y : List ℕ) → i < length xs → i < length ys → x ≡ get_or xs i x → y ≡ get_or ys i y → all_bound (bound b x y) (zip (drop (i + 1) xs) (drop (i + 1) ys)) ≡ all_bound b (zip (drop i xs) (drop i ys))
+pairs_more b xs ys i x y below within is are = rw (drop_more xs i x below, drop_more ys i y within, ← is, ← are) refl
 
-pub pairs_done : (bs : List (List ℕ × List ℕ)) (xs ys : List (List ℕ)) (i : ℕ) → length xs ≤ i → bs ++ zip (drop i xs) (drop i ys) ≡ bs
-pairs_done bs xs ys i past = rw (drop_all i xs past) (append-nil bs)
+pub pairs_done : (b : Binding) (xs ys : List (List ℕ)) (i : ℕ) → length xs ≤ i → all_bound b (zip (drop i xs) (drop i ys)) ≡ b
+pairs_done b xs ys i past = rw (drop_all i xs past) refl
 
 pub calls_with : (words : Vec (Bor (List ℕ))) (ks : List (Vec (Bor (List ℕ)))) → calls_of (if list_any (λ (k : Vec (Bor (List ℕ))). pointwise (λ (a : Bor (List ℕ)) (b : Bor (List ℕ)). bytes_eq a.now b.now) words.items k.items) ks then ks else ks ++ words ∷ []) ≡ (if list_any (same_call (call_of words)) (calls_of ks) then calls_of ks else calls_of ks ++ call_of words ∷ [])
 calls_with words ks = rw (any_call words.items ks) (by (list_any (same_call (call_of words)) (calls_of ks)))

@@ -5,7 +5,7 @@ use Rattle.std.specs.List.{list_any}
 use Rattle.std.specs.Str.{bytes_eq}
 use Rattle.std.proofs.lemmas.Bool.{cases_Bool}
 use Rattle.std.proofs.lemmas.List.{drop_more, drop_all, map_push}
-use Rattle.tv_flat.specs.declared.binding.Bound.{Bound}
+use Rattle.tv_flat.specs.declared.binding.Scope.{Scope}
 use Rattle.tv_flat.specs.Replaced.{replaced}
 use Rattle.tv_flat.specs.Views.{binding_of}
 use Rattle.tv_expand.specs.Sets.{is_among, sight, with_members, once}
@@ -36,10 +36,10 @@ members_more seen words i d below = rw (drop_more words i d below) refl
 pub members_done : (seen : List (List ℕ)) (words : List (Bor (List ℕ))) (i : ℕ) → length words ≤ i → with_members seen (names_of (drop i words)) ≡ seen
 members_done seen words i past = rw (drop_all i words past) refl
 
-pub replaced_members_more : (bs : List Bound) (seen words : List (List ℕ)) (i : ℕ) (x : List ℕ) → i < length words → x ≡ get_or words i x → with_members (sight seen (replaced (binding_of bs) x)) (map (replaced (binding_of bs)) (drop (i + 1) words)) ≡ with_members seen (map (replaced (binding_of bs)) (drop i words))
+pub replaced_members_more : (bs : Scope) (seen words : List (List ℕ)) (i : ℕ) (x : List ℕ) → i < length words → x ≡ get_or words i x → with_members (sight seen (replaced (binding_of bs) x)) (map (replaced (binding_of bs)) (drop (i + 1) words)) ≡ with_members seen (map (replaced (binding_of bs)) (drop i words))
 replaced_members_more bs seen words i x below is = rw (drop_more words i x below) (rw (sym is) refl)
 
-pub replaced_members_done : (bs : List Bound) (seen words : List (List ℕ)) (i : ℕ) → length words ≤ i → with_members seen (map (replaced (binding_of bs)) (drop i words)) ≡ seen
+pub replaced_members_done : (bs : Scope) (seen words : List (List ℕ)) (i : ℕ) → length words ≤ i → with_members seen (map (replaced (binding_of bs)) (drop i words)) ≡ seen
 replaced_members_done bs seen words i past = rw (drop_all i words past) refl
 
 -- the words that aren't taken

@@ -11,7 +11,7 @@ use Rattle.tv_expand.specs.declared.error.ExpandError.{ExpandError}
 use Rattle.tv_expand.specs.declared.error.ExpandError.TheVariants.{NameTwice, ArgumentCount, TooManyItems}
 use Rattle.tv_expand.specs.Outcome.{◌>>=◌, each}
 use Rattle.tv_flat.specs.FlatForm.{RuleForm, FlatEdgeForm, FlatForm, nodes, pred_nodes, max_items, max_nodes}
-use Rattle.tv_flat.specs.Replaced.{Binding, flat_form, flat_pred, flat_rule, flat_update, one_text}
+use Rattle.tv_flat.specs.Replaced.{Binding, bound, all_bound, flat_form, flat_pred, flat_rule, flat_update, one_text}
 use Rattle.tv_expand.specs.Sets.{Sets, find_set, known, members_of, once}
 
 -- ---- the limits
@@ -36,7 +36,7 @@ module _ {X S : Type 0} (sets : S → Sets) (single : Binding → X → S → Re
     pub unrolled_nest : Binding → Nest X → S → Result S ExpandError
     unrolled_nest b (Single x) s = single b x s
     unrolled_nest b (Foreach var members body) s =
-        members_of (sets s) b members >>= λ xs. each (λ x. unrolled (b ++ (var, x) ∷ []) body) xs s
+        members_of (sets s) b members >>= λ xs. each (λ x. unrolled (bound b var x) body) xs s
 
     pub unrolled : Binding → Nests X → S → Result S ExpandError
     unrolled b no_nest s = Ok s
@@ -136,7 +136,7 @@ pub record Wired : Type 0 where
 -- a new flat action, with arguments for the parameters
 abbrev pub made : Sets → ActionForm → List (List ℕ) → Wired → Result Wired ExpandError
 made sets a arguments w =
-    each (gathered sets (zip a.params arguments)) a.parts (record { parts = []; room = w.room }) >>= λ s.
+    each (gathered sets (all_bound [] (zip a.params arguments))) a.parts (record { parts = []; room = w.room }) >>= λ s.
     Ok (record { calls = w.calls; actions = w.actions ++ s.parts ∷ []; edges = w.edges; room = s.room })
 
 abbrev pub with_call : List (List ℕ) → Wired → Wired

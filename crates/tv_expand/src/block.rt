@@ -1,9 +1,10 @@
 //! The updates of a block, one after the other.
 
-ghost use Rattle.std.specs.Prelude.{◌≡◌, [], ◌∷◌, ◌++◌};
+ghost use Rattle.std.specs.Prelude.{◌≡◌};
 ghost use Rattle.tv_tree.specs.Copies.{single_of, update_of, updates_of};
 ghost use Rattle.tv_expand.specs.Outcome.{Gives, each};
 ghost use Rattle.tv_expand.specs.Expansion.{updated, sets_for, unrolled_nest, all_updated};
+ghost use Rattle.tv_flat.specs.Replaced.{bound};
 ghost use Rattle.tv_flat.specs.Views.{binding_of};
 ghost use Rattle.tv_expand.specs.Views.{names_of, sets_of};
 ghost use Rattle.tv_expand.specs.States.{block_of};
@@ -13,7 +14,7 @@ use crate::idle::are_idle_updates;
 use crate::room::Room;
 use crate::sets::{Sets, members};
 use std::alloc::Global;
-use tv_flat::{Bound, bind, flat_update};
+use tv_flat::{Scope, bind, flat_update};
 use tv_tree::trees::{FormulaTree, Name, Spelling, UpdateTree, UpdateTrees};
 
 /// The updates of a block so far.
@@ -26,7 +27,7 @@ pub struct Block {
 fn put_single(
     alloc: Global,
     state: &mut Block,
-    binding: &[Bound<'_>],
+    binding: &Scope<'_, '_>,
     name: &Name,
     params: &[Spelling],
     body: &FormulaTree,
@@ -46,15 +47,15 @@ fn put_for<'a>(
     alloc: Global,
     sets: &Sets<'a>,
     state: &mut Block,
-    binding: &[Bound<'a>],
+    binding: &Scope<'_, 'a>,
     var: &'a Spelling,
     word: &'a [u8],
     body: &'a UpdateTrees,
 ) -> Result<(), ExpandError>
-    ensures { Gives (λ _. block_of state.new) result (all_updated (sets_of sets.now.entries) (binding_of binding.now ++ (var.now, word.now) ∷ []) (updates_of body.now) (block_of state.old)) }
+    ensures { Gives (λ _. block_of state.new) result (all_updated (sets_of sets.now.entries) (bound (binding_of binding.now) var.now word.now) (updates_of body.now) (block_of state.old)) }
 {
     let inner = bind(alloc, binding, &var.0, word)?;
-    put_updates(alloc, sets, state, inner.as_slice(), body)
+    put_updates(alloc, sets, state, &inner, body)
 }
 
 // The body of a foreach, for each member, where it gives anything.
@@ -63,12 +64,12 @@ fn put_each<'a>(
     alloc: Global,
     sets: &Sets<'a>,
     state: &mut Block,
-    binding: &[Bound<'a>],
+    binding: &Scope<'_, 'a>,
     var: &'a Spelling,
     words: &[&'a [u8]],
     body: &'a UpdateTrees,
 ) -> Result<(), ExpandError>
-    ensures { Gives (λ _. block_of state.new) result (each (λ x. all_updated (sets_of sets.now.entries) (binding_of binding.now ++ (var.now, x) ∷ []) (updates_of body.now)) (names_of words.now) (block_of state.old)) }
+    ensures { Gives (λ _. block_of state.new) result (each (λ x. all_updated (sets_of sets.now.entries) (bound (binding_of binding.now) var.now x) (updates_of body.now)) (names_of words.now) (block_of state.old)) }
 {
     if are_idle_updates(sets, body) {
         return Ok(());
@@ -85,7 +86,7 @@ fn put_update<'a>(
     alloc: Global,
     sets: &Sets<'a>,
     state: &mut Block,
-    binding: &[Bound<'a>],
+    binding: &Scope<'_, 'a>,
     update: &'a UpdateTree,
 ) -> Result<(), ExpandError>
     ensures { Gives (λ _. block_of state.new) result (unrolled_nest (sets_for (sets_of sets.now.entries)) updated (binding_of binding.now) (update_of update.now) (block_of state.old)) }
@@ -114,7 +115,7 @@ pub fn put_updates<'a>(
     alloc: Global,
     sets: &Sets<'a>,
     state: &mut Block,
-    binding: &[Bound<'a>],
+    binding: &Scope<'_, 'a>,
     updates: &'a UpdateTrees,
 ) -> Result<(), ExpandError>
     ensures { Gives (λ _. block_of state.new) result (all_updated (sets_of sets.now.entries) (binding_of binding.now) (updates_of updates.now) (block_of state.old)) }

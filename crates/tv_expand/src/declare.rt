@@ -1,10 +1,11 @@
 //! Declarations, one after the other.
 
-ghost use Rattle.std.specs.Prelude.{◌≡◌, [], ◌∷◌, ◌++◌};
+ghost use Rattle.std.specs.Prelude.{◌≡◌, []};
 ghost use Rattle.tv_tree.specs.Forms.{DSet, DPred, DRule};
 ghost use Rattle.tv_tree.specs.Copies.{set_of, form_of, pred_of, decl_of, decls_of};
 ghost use Rattle.tv_expand.specs.Outcome.{Gives, each};
 ghost use Rattle.tv_expand.specs.Expansion.{nothing_declared, declared, sets_in, unrolled_nest, all_declared};
+ghost use Rattle.tv_flat.specs.Replaced.{bound};
 ghost use Rattle.tv_flat.specs.Views.{binding_of};
 ghost use Rattle.tv_expand.specs.Views.{names_of};
 ghost use Rattle.tv_expand.specs.States.{declared_of};
@@ -15,7 +16,7 @@ use crate::room::Room;
 use crate::sets::{Sets, add_set, is_declared, members};
 use indexmap::IndexMap;
 use std::alloc::Global;
-use tv_flat::{Bound, MAX_ITEMS, MAX_NODES, bind, flat_pred, flat_rule};
+use tv_flat::{MAX_ITEMS, MAX_NODES, Scope, bind, flat_pred, flat_rule, with_params};
 use tv_tree::trees::{Decl, Decls, PredDecl, RuleDecl, SetTree, Spelling};
 
 /// What is declared so far.
@@ -27,8 +28,8 @@ pub struct Declared<'a> {
     pub room: Room,
 }
 
-/// A state in which nothing is declared.
-pub fn nothing_declared<'a>(alloc: Global) -> Declared<'a>
+// A state in which nothing is declared.
+fn nothing_declared<'a>(alloc: Global) -> Declared<'a>
     ensures { declared_of result ≡ nothing_declared }
 {
     Declared {
@@ -45,7 +46,7 @@ pub fn nothing_declared<'a>(alloc: Global) -> Declared<'a>
 fn declare_set<'a>(
     alloc: Global,
     state: &mut Declared<'a>,
-    binding: &[Bound<'a>],
+    binding: &Scope<'_, 'a>,
     name: &'a Spelling,
     set: &'a SetTree,
 ) -> Result<(), ExpandError>
@@ -62,7 +63,7 @@ fn declare_set<'a>(
 fn declare_pred<'a>(
     alloc: Global,
     state: &mut Declared<'a>,
-    binding: &[Bound<'a>],
+    binding: &Scope<'_, 'a>,
     pred: &PredDecl,
 ) -> Result<(), ExpandError>
     ensures { Gives (λ _. declared_of state.new) result (declared (binding_of binding.now) (DPred (pred_of pred.now)) (declared_of state.old)) }
@@ -77,7 +78,7 @@ fn declare_pred<'a>(
 fn declare_rule<'a>(
     alloc: Global,
     state: &mut Declared<'a>,
-    binding: &[Bound<'a>],
+    binding: &Scope<'_, 'a>,
     rule: &RuleDecl,
 ) -> Result<(), ExpandError>
     ensures { Gives (λ _. declared_of state.new) result (declared (binding_of binding.now) (DRule (form_of rule.now.body) (form_of rule.now.head)) (declared_of state.old)) }
@@ -94,15 +95,15 @@ fn declare_rule<'a>(
 fn declare_for<'a>(
     alloc: Global,
     state: &mut Declared<'a>,
-    binding: &[Bound<'a>],
+    binding: &Scope<'_, 'a>,
     var: &'a Spelling,
     word: &'a [u8],
     body: &'a Decls,
 ) -> Result<(), ExpandError>
-    ensures { Gives (λ _. declared_of state.new) result (all_declared (binding_of binding.now ++ (var.now, word.now) ∷ []) (decls_of body.now) (declared_of state.old)) }
+    ensures { Gives (λ _. declared_of state.new) result (all_declared (bound (binding_of binding.now) var.now word.now) (decls_of body.now) (declared_of state.old)) }
 {
     let inner = bind(alloc, binding, &var.0, word)?;
-    declare_all(alloc, state, inner.as_slice(), body)
+    declare_all(alloc, state, &inner, body)
 }
 
 // The body of a foreach, for each member. A body that gives nothing isn't gone through again for each
@@ -111,12 +112,12 @@ fn declare_for<'a>(
 fn declare_each<'a>(
     alloc: Global,
     state: &mut Declared<'a>,
-    binding: &[Bound<'a>],
+    binding: &Scope<'_, 'a>,
     var: &'a Spelling,
     words: &[&'a [u8]],
     body: &'a Decls,
 ) -> Result<(), ExpandError>
-    ensures { Gives (λ _. declared_of state.new) result (each (λ x. all_declared (binding_of binding.now ++ (var.now, x) ∷ []) (decls_of body.now)) (names_of words.now) (declared_of state.old)) }
+    ensures { Gives (λ _. declared_of state.new) result (each (λ x. all_declared (bound (binding_of binding.now) var.now x) (decls_of body.now)) (names_of words.now) (declared_of state.old)) }
 {
     if are_idle_decls(&state.sets, body) {
         return Ok(());
@@ -132,7 +133,7 @@ fn declare_each<'a>(
 fn declare<'a>(
     alloc: Global,
     state: &mut Declared<'a>,
-    binding: &[Bound<'a>],
+    binding: &Scope<'_, 'a>,
     decl: &'a Decl,
 ) -> Result<(), ExpandError>
     ensures { Gives (λ _. declared_of state.new) result (unrolled_nest sets_in declared (binding_of binding.now) (decl_of decl.now) (declared_of state.old)) }
@@ -152,15 +153,12 @@ fn declare<'a>(
     }
 }
 
-/// Takes up the declarations in order.
-///
-/// # Errors
-/// The first refusal.
+// Takes up the declarations in order.
 #[cycle(declare)]
-pub fn declare_all<'a>(
+fn declare_all<'a>(
     alloc: Global,
     state: &mut Declared<'a>,
-    binding: &[Bound<'a>],
+    binding: &Scope<'_, 'a>,
     decls: &'a Decls,
 ) -> Result<(), ExpandError>
     ensures { Gives (λ _. declared_of state.new) result (all_declared (binding_of binding.now) (decls_of decls.now) (declared_of state.old)) }
@@ -169,4 +167,18 @@ pub fn declare_all<'a>(
         declare(alloc, state, binding, decl)?;
     }
     Ok(())
+}
+
+/// What the declarations of a program declare, in order.
+///
+/// # Errors
+/// The first refusal.
+pub fn declare_program<'a>(alloc: Global, decls: &'a Decls) -> Result<Declared<'a>, ExpandError>
+    ensures { Gives declared_of result (all_declared [] (decls_of decls.now) nothing_declared) }
+{
+    let params = IndexMap::new(alloc);
+    let unbound = with_params(alloc, &params);
+    let mut declared = nothing_declared(alloc);
+    declare_all(alloc, &mut declared, &unbound, decls)?;
+    Ok(declared)
 }

@@ -16,7 +16,7 @@ use crate::error::ExpandError;
 use crate::room::Room;
 use crate::sets::Sets;
 use std::alloc::Global;
-use tv_flat::{Bound, flat_formula, flat_formulas, one_text};
+use tv_flat::{Scope, flat_formula, flat_formulas, one_text};
 use tv_tree::trees::{FormulaTree, Part, Piece, UpdateTrees};
 
 /// The parts of a flat action so far.
@@ -29,7 +29,7 @@ pub struct Gathered {
 fn put_caption(
     alloc: Global,
     state: &mut Gathered,
-    binding: &[Bound<'_>],
+    binding: &Scope<'_, '_>,
     pieces: &[Piece],
 ) -> Result<(), ExpandError>
     ensures { Gives (λ _. gathered_of state.new) result (with_part 0 (PCaption (one_text (binding_of binding.now) (map piece_of pieces.now))) (gathered_of state.old)) }
@@ -44,7 +44,7 @@ fn put_caption(
 fn put_focus(
     alloc: Global,
     state: &mut Gathered,
-    binding: &[Bound<'_>],
+    binding: &Scope<'_, '_>,
     formulas: &[FormulaTree],
 ) -> Result<(), ExpandError>
     ensures { Gives (λ _. gathered_of state.new) result (with_part (sum_by nodes (map form_of formulas.now)) (PFocus (map (flat_form (binding_of binding.now)) (map form_of formulas.now))) (gathered_of state.old)) }
@@ -59,7 +59,7 @@ fn put_focus(
 fn put_pre(
     alloc: Global,
     state: &mut Gathered,
-    binding: &[Bound<'_>],
+    binding: &Scope<'_, '_>,
     f: &FormulaTree,
 ) -> Result<(), ExpandError>
     ensures { Gives (λ _. gathered_of state.new) result (with_part (nodes (form_of f.now)) (PPre (flat_form (binding_of binding.now) (form_of f.now))) (gathered_of state.old)) }
@@ -74,7 +74,7 @@ fn put_pre(
 fn put_message(
     alloc: Global,
     state: &mut Gathered,
-    binding: &[Bound<'_>],
+    binding: &Scope<'_, '_>,
     f: &FormulaTree,
     pieces: &[Piece],
 ) -> Result<(), ExpandError>
@@ -100,7 +100,7 @@ fn put_new(state: &mut Gathered) -> Result<(), ExpandError>
 fn put_retain(
     alloc: Global,
     state: &mut Gathered,
-    binding: &[Bound<'_>],
+    binding: &Scope<'_, '_>,
     f: &FormulaTree,
 ) -> Result<(), ExpandError>
     ensures { Gives (λ _. gathered_of state.new) result (with_part (nodes (form_of f.now)) (PRetain (flat_form (binding_of binding.now) (form_of f.now))) (gathered_of state.old)) }
@@ -116,7 +116,7 @@ fn put_block<'a>(
     alloc: Global,
     sets: &Sets<'a>,
     state: &mut Gathered,
-    binding: &[Bound<'a>],
+    binding: &Scope<'_, 'a>,
     updates: &'a UpdateTrees,
 ) -> Result<(), ExpandError>
     ensures { Gives (λ _. gathered_of state.new) result (gathered (sets_of sets.now.entries) (binding_of binding.now) (PBlock (updates_of updates.now)) (gathered_of state.old)) }
@@ -139,7 +139,7 @@ fn put_part<'a>(
     alloc: Global,
     sets: &Sets<'a>,
     state: &mut Gathered,
-    binding: &[Bound<'a>],
+    binding: &Scope<'_, 'a>,
     part: &'a Part,
 ) -> Result<(), ExpandError>
     ensures { Gives (λ _. gathered_of state.new) result (gathered (sets_of sets.now.entries) (binding_of binding.now) (part_of part.now) (gathered_of state.old)) }
@@ -163,7 +163,7 @@ pub fn put_parts<'a>(
     alloc: Global,
     sets: &Sets<'a>,
     state: &mut Gathered,
-    binding: &[Bound<'a>],
+    binding: &Scope<'_, 'a>,
     parts: &'a [Part],
 ) -> Result<(), ExpandError>
     ensures { Gives (λ _. gathered_of state.new) result (each (gathered (sets_of sets.now.entries) (binding_of binding.now)) (map part_of parts.now) (gathered_of state.old)) }

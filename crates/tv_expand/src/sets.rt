@@ -12,7 +12,7 @@ use crate::error::ExpandError;
 use crate::words::{Words, add_replaced, signed};
 use indexmap::{IndexMap, IndexSet};
 use std::alloc::{AllocError, Global};
-use tv_flat::Bound;
+use tv_flat::Scope;
 use tv_tree::trees::{SetTerm, SetTree, Spelling};
 
 /// The sets that are declared so far, each with its members.
@@ -29,7 +29,7 @@ fn known_members<'a>(sets: &Sets<'a>, name: &[u8]) -> Result<Words<'a>, ExpandEr
 
 fn replaced_members<'a>(
     alloc: Global,
-    binding: &[Bound<'a>],
+    binding: &Scope<'_, 'a>,
     words: &'a [Spelling],
 ) -> Result<Words<'a>, ExpandError>
     ensures { Gives (λ found. names_of found.keys) result (Ok (with_members [] (map (replaced (binding_of binding.now)) words.now))) }
@@ -44,7 +44,7 @@ fn replaced_members<'a>(
 fn term_members<'a>(
     alloc: Global,
     sets: &Sets<'a>,
-    binding: &[Bound<'a>],
+    binding: &Scope<'_, 'a>,
     term: &'a SetTerm,
 ) -> Result<Words<'a>, ExpandError>
     ensures { Gives (λ found. names_of found.keys) result (members_of (sets_of sets.now.entries) (binding_of binding.now) (term_of term.now)) }
@@ -64,7 +64,7 @@ fn term_members<'a>(
 pub fn members<'a>(
     alloc: Global,
     sets: &Sets<'a>,
-    binding: &[Bound<'a>],
+    binding: &Scope<'_, 'a>,
     set: &'a SetTree,
 ) -> Result<Words<'a>, ExpandError>
     ensures { Gives (λ found. names_of found.keys) result (members_of (sets_of sets.now.entries) (binding_of binding.now) (set_of set.now)) }

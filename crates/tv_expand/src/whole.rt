@@ -7,7 +7,7 @@ ghost use Rattle.tv_expand.specs.Outcome.{Gives};
 ghost use Rattle.tv_flat.specs.FlatForm.{flat_of, IsFlat};
 ghost use Rattle.tv_expand.specs.Expansion.{expansion};
 
-use crate::declare::{Declared, declare_all, nothing_declared};
+use crate::declare::{Declared, declare_program};
 use crate::error::ExpandError;
 use crate::wiring::{declare_actions, wire_all};
 use std::alloc::Global;
@@ -25,8 +25,7 @@ pub fn expand(alloc: Global, t: &Tree) -> Result<Flat, ExpandError>
     ensures exact { Gives flat_of result (expansion (program_of t.now)) }
     ensures flat { IfOk result (λ f. IsSpelled (program_of t.now) → IsFlat (flat_of f)) }
 {
-    let mut declared = nothing_declared(alloc);
-    declare_all(alloc, &mut declared, &[], &t.decls)?;
+    let declared = declare_program(alloc, &t.decls)?;
     let actions = declare_actions(alloc, t.actions.as_slice())?;
     let Declared {
         sets,

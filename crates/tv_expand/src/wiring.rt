@@ -6,7 +6,8 @@ ghost use Rattle.tv_tree.specs.Copies.{part_of, action_of, edge_of};
 ghost use Rattle.tv_expand.specs.Outcome.{Gives, each};
 ghost use Rattle.tv_expand.specs.Sets.{once, known};
 ghost use Rattle.tv_expand.specs.Expansion.{with_action, find_action, same_call, made, called, with_edge, wired_to, wired, gathered, nothing_wired};
-ghost use Rattle.tv_flat.specs.Views.{binding_of};
+ghost use Rattle.tv_flat.specs.Replaced.{all_bound};
+ghost use Rattle.tv_flat.specs.Views.{params_of, binding_of};
 ghost use Rattle.tv_expand.specs.Views.{names_of, sets_of, actions_of, calls_of};
 ghost use Rattle.tv_expand.specs.States.{room_of, gathered_of, wired_of};
 
@@ -17,9 +18,9 @@ use crate::sets::Sets;
 use crate::words::{Words, once};
 use indexmap::{IndexMap, IndexSet};
 use std::alloc::{AllocError, Global};
-use tv_flat::{Bound, FlatAction, FlatEdge, spelling};
+use tv_flat::{FlatAction, FlatEdge, Params, Scope, put_param, spelling, with_params};
 use tv_tree::Items;
-use tv_tree::trees::{ActionTree, EdgeTree, Spelling};
+use tv_tree::trees::{ActionTree, EdgeTree, Part, Spelling};
 
 /// The actions that are declared, each by its name.
 pub type Actions<'a> = IndexMap<&'a [u8], &'a ActionTree>;
@@ -97,24 +98,21 @@ pub fn declare_actions<'a>(
 }
 
 #[tactic(auto, using(crate::proofs::WiringLaws::pairs_more, crate::proofs::WiringLaws::pairs_done))]
-fn call_binding<'a>(
+fn call_params<'a>(
     alloc: Global,
     params: &'a [Spelling],
     arguments: &'a [Spelling],
-) -> Result<Vec<Bound<'a>>, AllocError>
+) -> Result<Params<'a>, AllocError>
     requires { length params.now ≡ length arguments.now }
-    ensures { IfOk result (λ binding. binding_of binding.items ≡ zip params.now arguments.now) }
+    ensures { IfOk result (λ bound. params_of bound.entries ≡ all_bound [] (zip params.now arguments.now)) }
 {
-    let mut binding = Vec::new(alloc);
+    let mut bound = IndexMap::new(alloc);
     for i in 0..params.len() {
         let param = &params[i];
         let argument = &arguments[i];
-        binding.push(Bound {
-            word: param.0.as_slice(),
-            by: argument.0.as_slice(),
-        })?;
+        put_param(&mut bound, &param.0, &argument.0)?;
     }
-    Ok(binding)
+    Ok(bound)
 }
 
 fn call_words<'a>(
@@ -132,6 +130,23 @@ fn call_words<'a>(
     Ok(words)
 }
 
+fn bound_parts<'a>(
+    alloc: Global,
+    sets: &Sets<'a>,
+    binding: &Scope<'_, 'a>,
+    parts: &'a [Part],
+    room: Room,
+) -> Result<Gathered, ExpandError>
+    ensures { Gives gathered_of result (each (gathered (sets_of sets.now.entries) (binding_of binding.now)) (map part_of parts.now) (record { parts = []; room = room_of room })) }
+{
+    let mut state = Gathered {
+        parts: Vec::new(alloc),
+        room,
+    };
+    put_parts(alloc, sets, &mut state, binding, parts)?;
+    Ok(state)
+}
+
 fn flat_parts<'a>(
     alloc: Global,
     sets: &Sets<'a>,
@@ -140,21 +155,11 @@ fn flat_parts<'a>(
     room: Room,
 ) -> Result<Gathered, ExpandError>
     requires { length action.now.params ≡ length arguments.now }
-    ensures { Gives gathered_of result (each (gathered (sets_of sets.now.entries) (zip action.now.params arguments.now)) (map part_of action.now.parts) (record { parts = []; room = room_of room })) }
+    ensures { Gives gathered_of result (each (gathered (sets_of sets.now.entries) (all_bound [] (zip action.now.params arguments.now))) (map part_of action.now.parts) (record { parts = []; room = room_of room })) }
 {
-    let binding = call_binding(alloc, action.params.as_slice(), arguments)?;
-    let mut state = Gathered {
-        parts: Vec::new(alloc),
-        room,
-    };
-    put_parts(
-        alloc,
-        sets,
-        &mut state,
-        binding.as_slice(),
-        action.parts.as_slice(),
-    )?;
-    Ok(state)
+    let params = call_params(alloc, action.params.as_slice(), arguments)?;
+    let binding = with_params(alloc, &params);
+    bound_parts(alloc, sets, &binding, action.parts.as_slice(), room)
 }
 
 // Takes up a call. Gives its place, and whether it is new.

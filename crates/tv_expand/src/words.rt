@@ -10,7 +10,7 @@ ghost use Rattle.tv_expand.specs.Views.{names_of, signed};
 use crate::error::ExpandError;
 use indexmap::IndexSet;
 use std::alloc::{AllocError, Global};
-use tv_flat::{Bound, replaced};
+use tv_flat::{Scope, replaced};
 use tv_tree::trees::{SetSign, Spelling};
 
 /// Words, each once, in order of first sight.
@@ -54,7 +54,7 @@ pub fn add_all<'a>(seen: &mut Words<'a>, words: &[&'a [u8]]) -> Result<(), Alloc
 #[tactic(auto, using(crate::proofs::WordLaws::replaced_members_more, crate::proofs::WordLaws::replaced_members_done))]
 pub fn add_replaced<'a>(
     seen: &mut Words<'a>,
-    binding: &[Bound<'a>],
+    binding: &Scope<'_, 'a>,
     words: &'a [Spelling],
 ) -> Result<(), AllocError>
     ensures { OnOk result (names_of seen.new.keys ≡ with_members (names_of seen.old.keys) (map (replaced (binding_of binding.now)) words.now)) }

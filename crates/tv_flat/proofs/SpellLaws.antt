@@ -1,6 +1,8 @@
 -- What is put in keeps names spelled, texts printable, and formulas as large as they were.
-use Rattle.std.proofs.Common.{◌≡◌, ◌≢◌, ℕ, ◌+◌, ◌≤◌, Bool, true, false, cond, List, [], ◌∷◌, map, fold, refl, ap, Option, Some, None, arith}
+use Rattle.std.proofs.Common.{◌≡◌, ◌≢◌, ℕ, ◌+◌, ◌≤◌, Bool, true, false, cond, List, [], ◌∷◌, map, refl, ap, Option, Some, None, arith}
 use Rattle.std.specs.Prelude.{All, ◌⊎◌, sum_by}
+use Rattle.std.specs.Map.{lookup}
+use Rattle.std.specs.Option.{unwrap_or}
 use Rattle.std.specs.Str.{bytes_eq}
 use Rattle.std.proofs.lemmas.List.Elements.{All-nil, All-cons, All-head, All-tail, All-append, All-map, All-weaker}
 use Rattle.std.proofs.lemmas.List.Sums.{sum_by-cons}
@@ -8,8 +10,7 @@ use Rattle.tv_model.specs.Spelling.{IsDigit, IsLetter, IsIdentifier, IsText}
 use Rattle.tv_tree.specs.Forms.{NameForm, Form, FZero, FOne, FHalf, FSame, FDiffer, FAtom, FStar, FPlus, FParen, FNot, FAnd, FOr, FImp, FIff, FCond, FExists, FForall, FTc, PredForm, UpdateForm, PieceForm, Quoted, Spelled}
 use Rattle.tv_tree.specs.Spelled.{AreIdentifiers, IsSpelledName, IsSpelledForm, IsSpelledBody, IsSpelledPred, IsSpelledPiece, IsSpelledUpdate}
 use Rattle.tv_flat.specs.FlatForm.{nodes, body_nodes}
-use Rattle.tv_flat.specs.Replaced.{Binding, replaced, flat_name, flat_form, flat_body, flat_pred, flat_update, piece_text, joined}
-use Rattle.tv_flat.proofs.BindingLaws.{further}
+use Rattle.tv_flat.specs.Replaced.{Binding, bound, all_bound, replaced, flat_name, flat_form, flat_body, flat_pred, flat_update, piece_text, joined}
 
 pub case_of : {A : Type 0} (P : A → Type 0) (t : Bool) (x y : A) → P x → P y → P (cond t x y)
 case_of P true x y p q = p
@@ -19,14 +20,29 @@ case_of P false x y p q = q
 abbrev pub IsGoodBinding : Binding → Type 0
 IsGoodBinding b = All (λ (p : List ℕ × List ℕ). IsIdentifier p.1) b
 
-further_good : (word found : List ℕ) (b : Binding) → IsGoodBinding b → IsIdentifier found → IsIdentifier (fold (further word) found b)
-further_good word found [] good ok = ok
-further_good word found (p ∷ b) good ok =
-    further_good word (further word found p) b (All-tail (λ (q : List ℕ × List ℕ). IsIdentifier q.1) p b good)
-    (case_of IsIdentifier (bytes_eq p.0 word) p.1 found (All-head (λ (q : List ℕ × List ℕ). IsIdentifier q.1) p b good) ok)
+found_good : (b : Binding) (word other : List ℕ) → IsGoodBinding b → IsIdentifier other → IsIdentifier (unwrap_or (lookup (bytes_eq word) b) other)
+found_good [] word other good ok = ok
+found_good (p ∷ b) word other good ok =
+    by (bytes_eq word p.0) (All-head (λ (q : List ℕ × List ℕ). IsIdentifier q.1) p b good) (found_good b word other (All-tail (λ (q : List ℕ × List ℕ). IsIdentifier q.1) p b good) ok)
+  where
+    by : (t : Bool) → IsIdentifier p.1 → IsIdentifier (unwrap_or (lookup (bytes_eq word) b) other) → IsIdentifier (unwrap_or (cond t (Some p.1) (lookup (bytes_eq word) b)) other)
+    by true first rest = first
+    by false first rest = rest
 
 pub replaced_good : (b : Binding) (word : List ℕ) → IsGoodBinding b → IsIdentifier word → IsIdentifier (replaced b word)
-replaced_good b word good ok = further_good word word b good ok
+replaced_good b word good ok = found_good b word word good ok
+
+pub bound_good : (b : Binding) (word by : List ℕ) → IsGoodBinding b → IsIdentifier by → IsGoodBinding (bound b word by)
+bound_good [] word by good ok = All-cons (λ (q : List ℕ × List ℕ). IsIdentifier q.1) (word, by) [] ok good
+bound_good (p ∷ b) word by good ok =
+    case_of IsGoodBinding (bytes_eq word p.0) ((p.0, by) ∷ b) (p ∷ bound b word by)
+    (All-cons (λ (q : List ℕ × List ℕ). IsIdentifier q.1) (p.0, by) b ok (All-tail (λ (q : List ℕ × List ℕ). IsIdentifier q.1) p b good))
+    (All-cons (λ (q : List ℕ × List ℕ). IsIdentifier q.1) p (bound b word by) (All-head (λ (q : List ℕ × List ℕ). IsIdentifier q.1) p b good) (bound_good b word by (All-tail (λ (q : List ℕ × List ℕ). IsIdentifier q.1) p b good) ok))
+
+pub all_bound_good : (b : Binding) (ps : List (List ℕ × List ℕ)) → IsGoodBinding b → All (λ (q : List ℕ × List ℕ). IsIdentifier q.1) ps → IsGoodBinding (all_bound b ps)
+all_bound_good b [] good ok = good
+all_bound_good b (p ∷ ps) good ok =
+    all_bound_good (bound b p.0 p.1) ps (bound_good b p.0 p.1 good (All-head (λ (q : List ℕ × List ℕ). IsIdentifier q.1) p ps ok)) (All-tail (λ (q : List ℕ × List ℕ). IsIdentifier q.1) p ps ok)
 
 pub replaced_all : (b : Binding) (words : List (List ℕ)) → IsGoodBinding b → AreIdentifiers words → AreIdentifiers (map (replaced b) words)
 replaced_all b words good ok = All-map IsIdentifier (replaced b) words (All-weaker IsIdentifier (λ w. IsIdentifier (replaced b w)) (λ w h. replaced_good b w good h) words ok)

@@ -1,17 +1,28 @@
 -- What is replaced where: the identifiers of a name, also in formulas, and pieces of texts. Variables never are.
-use Rattle.std.specs.Prelude.{ℕ, List, [], ◌∷◌, Option, Some, None, map, fold, if◌then◌else◌}
+use Rattle.std.specs.Prelude.{ℕ, List, [], ◌∷◌, Option, Some, None, map}
 use Rattle.std.specs.List.{flat_map}
+use Rattle.std.specs.Map.{lookup}
+use Rattle.std.specs.Option.{unwrap_or}
 use Rattle.std.specs.Str.{bytes_eq}
+use Rattle.indexmap.specs.IndexMap.{insert_entry, insert_all}
 use Rattle.tv_tree.specs.Forms.{NameForm, Form, FZero, FOne, FHalf, FSame, FDiffer, FAtom, FStar, FPlus, FParen, FNot, FAnd, FOr, FImp, FIff, FCond, FExists, FForall, FTc, PredForm, UpdateForm, PieceForm, Quoted, Spelled}
 use Rattle.tv_flat.specs.FlatForm.{RuleForm}
 
--- what words stand for: pairs of a word and what stands for it, the outermost first
+-- what words stand for: each word that is bound, with what stands for it
 abbrev pub Binding : Type 0
 Binding = List (List ℕ × List ℕ)
 
--- What stands for a word. The innermost pair with this word counts; what it gives isn't replaced again.
+-- with a word bound; what stood for it so far is hidden
+abbrev pub bound : Binding → List ℕ → List ℕ → Binding
+bound = insert_entry bytes_eq
+
+-- with the words of pairs bound, one after the other
+abbrev pub all_bound : Binding → List (List ℕ × List ℕ) → Binding
+all_bound = insert_all bytes_eq
+
+-- what stands for a word, else the word itself; what is put in isn't replaced again
 abbrev pub replaced : Binding → List ℕ → List ℕ
-replaced binding word = fold (λ found p. if bytes_eq p.0 word then p.1 else found) word binding
+replaced binding word = unwrap_or (lookup (bytes_eq word) binding) word
 
 abbrev pub flat_name : Binding → NameForm → NameForm
 flat_name b n = record { first = replaced b n.first; brackets = map (replaced b) n.brackets }

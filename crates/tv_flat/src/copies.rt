@@ -7,7 +7,7 @@ ghost use Rattle.tv_flat.specs.FlatForm.{rule_of};
 ghost use Rattle.tv_flat.specs.Replaced.{replaced, flat_name, flat_form, flat_body, flat_pred, flat_rule, flat_update, piece_text, joined, one_text};
 ghost use Rattle.tv_flat.specs.Views.{binding_of};
 
-use crate::binding::{Bound, replaced};
+use crate::binding::{Scope, replaced};
 use std::alloc::{AllocError, Global};
 use tv_tree::Items;
 use tv_tree::trees::{
@@ -34,7 +34,11 @@ fn copy_words(alloc: Global, words: &[Spelling]) -> Result<Spellings, AllocError
     Ok(Items::from_vec(copy))
 }
 
-fn flat_word(alloc: Global, binding: &[Bound<'_>], word: &Spelling) -> Result<Spelling, AllocError>
+fn flat_word(
+    alloc: Global,
+    binding: &Scope<'_, '_>,
+    word: &Spelling,
+) -> Result<Spelling, AllocError>
     ensures { IfOk result (λ s. s ≡ replaced (binding_of binding.now) word.now) }
 {
     spelling(alloc, replaced(binding, &word.0))
@@ -43,7 +47,7 @@ fn flat_word(alloc: Global, binding: &[Bound<'_>], word: &Spelling) -> Result<Sp
 #[tactic(auto, using(crate::proofs::CopyLaws::flat_words_more, crate::proofs::CopyLaws::flat_words_done))]
 fn flat_words(
     alloc: Global,
-    binding: &[Bound<'_>],
+    binding: &Scope<'_, '_>,
     words: &[Spelling],
 ) -> Result<Spellings, AllocError>
     ensures { IfOk result (λ copy. copy ≡ map (replaced (binding_of binding.now)) words.now) }
@@ -55,7 +59,7 @@ fn flat_words(
     Ok(Items::from_vec(copy))
 }
 
-fn flat_name(alloc: Global, binding: &[Bound<'_>], name: &Name) -> Result<Name, AllocError>
+fn flat_name(alloc: Global, binding: &Scope<'_, '_>, name: &Name) -> Result<Name, AllocError>
     ensures { IfOk result (λ n. name_of n ≡ flat_name (binding_of binding.now) (name_of name.now)) }
 {
     Ok(Name {
@@ -82,7 +86,7 @@ fn differ(alloc: Global, v: &Spelling, w: &Spelling) -> Result<FormulaTree, Allo
 
 fn flat_atom(
     alloc: Global,
-    binding: &[Bound<'_>],
+    binding: &Scope<'_, '_>,
     name: &Name,
     vars: &[Spelling],
 ) -> Result<FormulaTree, AllocError>
@@ -95,7 +99,7 @@ fn flat_atom(
 
 fn flat_star(
     alloc: Global,
-    binding: &[Bound<'_>],
+    binding: &Scope<'_, '_>,
     name: &Name,
     v: &Spelling,
     w: &Spelling,
@@ -110,7 +114,7 @@ fn flat_star(
 
 fn flat_plus(
     alloc: Global,
-    binding: &[Bound<'_>],
+    binding: &Scope<'_, '_>,
     name: &Name,
     v: &Spelling,
     w: &Spelling,
@@ -171,7 +175,7 @@ fn closure(
 #[cycle(flat)]
 fn flat_boxed(
     alloc: Global,
-    binding: &[Bound<'_>],
+    binding: &Scope<'_, '_>,
     f: &FormulaTree,
 ) -> Result<Box<FormulaTree>, AllocError>
     ensures { IfOk result (λ g. form_of g.value ≡ flat_form (binding_of binding.now) (form_of f.now)) }
@@ -184,7 +188,7 @@ fn flat_boxed(
 #[cycle(flat)]
 pub fn flat_formula(
     alloc: Global,
-    binding: &[Bound<'_>],
+    binding: &Scope<'_, '_>,
     f: &FormulaTree,
 ) -> Result<FormulaTree, AllocError>
     ensures { IfOk result (λ g. form_of g ≡ flat_form (binding_of binding.now) (form_of f.now)) }
@@ -249,7 +253,7 @@ pub fn flat_formula(
 #[tactic(auto, using(crate::proofs::CopyLaws::flat_forms_more, crate::proofs::CopyLaws::flat_forms_done))]
 pub fn flat_formulas(
     alloc: Global,
-    binding: &[Bound<'_>],
+    binding: &Scope<'_, '_>,
     formulas: &[FormulaTree],
 ) -> Result<FormulaTrees, AllocError>
     ensures { IfOk result (λ copy. map form_of copy ≡ map (flat_form (binding_of binding.now)) (map form_of formulas.now)) }
@@ -263,7 +267,7 @@ pub fn flat_formulas(
 
 fn flat_body(
     alloc: Global,
-    binding: &[Bound<'_>],
+    binding: &Scope<'_, '_>,
     body: &Option<FormulaTree>,
 ) -> Result<Option<FormulaTree>, AllocError>
     ensures { IfOk result (λ copy. pred_of_body copy ≡ flat_body (binding_of binding.now) (pred_of_body body.now)) }
@@ -288,7 +292,7 @@ fn copy_props(alloc: Global, props: &[PropWord]) -> Result<PropWords, AllocError
 /// The declaration with the identifiers of its name and its definition replaced.
 pub fn flat_pred(
     alloc: Global,
-    binding: &[Bound<'_>],
+    binding: &Scope<'_, '_>,
     pred: &PredDecl,
 ) -> Result<PredDecl, AllocError>
     ensures { IfOk result (λ copy. pred_of copy ≡ flat_pred (binding_of binding.now) (pred_of pred.now)) }
@@ -304,7 +308,7 @@ pub fn flat_pred(
 /// The rule with the identifiers of its names replaced.
 pub fn flat_rule(
     alloc: Global,
-    binding: &[Bound<'_>],
+    binding: &Scope<'_, '_>,
     body: &FormulaTree,
     head: &FormulaTree,
 ) -> Result<RuleDecl, AllocError>
@@ -320,7 +324,7 @@ pub fn flat_rule(
 #[tactic(auto, using(tv_tree::proofs::Unfolds::update_of_single))]
 pub fn flat_update(
     alloc: Global,
-    binding: &[Bound<'_>],
+    binding: &Scope<'_, '_>,
     name: &Name,
     params: &[Spelling],
     body: &FormulaTree,
@@ -334,7 +338,7 @@ pub fn flat_update(
     })
 }
 
-fn piece_text<'a>(binding: &[Bound<'a>], piece: &'a Piece) -> &'a [u8]
+fn piece_text<'a>(binding: &Scope<'_, 'a>, piece: &'a Piece) -> &'a [u8]
     ensures { result.now ≡ piece_text (binding_of binding.now) (piece_of piece.now) }
 {
     match piece {
@@ -344,7 +348,7 @@ fn piece_text<'a>(binding: &[Bound<'a>], piece: &'a Piece) -> &'a [u8]
 }
 
 #[tactic(auto, using(crate::proofs::CopyLaws::joined_more, crate::proofs::CopyLaws::joined_done))]
-fn joined(alloc: Global, binding: &[Bound<'_>], pieces: &[Piece]) -> Result<Spelling, AllocError>
+fn joined(alloc: Global, binding: &Scope<'_, '_>, pieces: &[Piece]) -> Result<Spelling, AllocError>
     ensures { IfOk result (λ text. text ≡ joined (binding_of binding.now) (map piece_of pieces.now)) }
 {
     let mut text = Vec::new(alloc);
@@ -357,7 +361,7 @@ fn joined(alloc: Global, binding: &[Bound<'_>], pieces: &[Piece]) -> Result<Spel
 /// The pieces of a caption or a message, joined to one text.
 pub fn one_text(
     alloc: Global,
-    binding: &[Bound<'_>],
+    binding: &Scope<'_, '_>,
     pieces: &[Piece],
 ) -> Result<Pieces, AllocError>
     ensures { IfOk result (λ text. map piece_of text ≡ one_text (binding_of binding.now) (map piece_of pieces.now)) }

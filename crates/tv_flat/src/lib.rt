@@ -6,7 +6,7 @@ mod copies;
 mod flat;
 mod nodes;
 
-pub use binding::{Bound, bind, replaced};
+pub use binding::{Bound, Params, Scope, bind, put_param, replaced, with_params};
 pub use copies::{
     flat_formula, flat_formulas, flat_pred, flat_rule, flat_update, one_text, spelling,
 };
