@@ -2,20 +2,8 @@
 # How long "each two individuals are linked by a walk, one way or the other" takes in a chain: with twice the individuals
 # at most about eight times as long, since its closure is closed once; closed once for each pair, it would be 32 times.
 # The program runs unproved, by rt try, in a folder of its own that goes when the script ends.
-set -euo pipefail
-cd "$(dirname "$0")/.."
-scratch=$(mktemp -d)
-trap 'rm -rf "$scratch"' EXIT
-mkdir -p "$scratch/crates/measure/src"
-for crate in tv_kleene tv_model tv_frame tv_value tv_struct tv_eval; do
-  mkdir "$scratch/crates/$crate"
-  for part in src specs proofs; do
-    if [ -d "crates/$crate/$part" ]; then
-      cp -r "crates/$crate/$part" "$scratch/crates/$crate/"
-    fi
-  done
-  grep "^$crate:" crates.txt >>"$scratch/crates.txt"
-done
+source "$(dirname "$0")/scratch.sh"
+copy_crates tv_kleene tv_model tv_frame tv_value tv_struct tv_eval
 echo 'measure: tv_eval tv_kleene tv_model tv_struct' >>"$scratch/crates.txt"
 cat >"$scratch/crates/measure/src/main.rt" <<'MAIN'
 // How long a closure under two quantifiers takes.

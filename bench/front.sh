@@ -2,20 +2,8 @@
 # How long the front end takes from a text to its program: with ten times the items about ten times as long, up to the
 # limits on rules, predicates, nodes, edges and actions. Nested `foreach` round nothing take no time.
 # The texts are generated. The program runs unproved, by rt try, in a folder of its own that goes when the script ends.
-set -euo pipefail
-cd "$(dirname "$0")/.."
-scratch=$(mktemp -d)
-trap 'rm -rf "$scratch"' EXIT
-mkdir -p "$scratch/crates/measure/src"
-for crate in tv_outside tv_lex tv_model tv_tree tv_phrases tv_formula tv_parse tv_names tv_flat tv_expand tv_vocab tv_front; do
-  mkdir "$scratch/crates/$crate"
-  for part in src specs proofs; do
-    if [ -d "crates/$crate/$part" ]; then
-      cp -r "crates/$crate/$part" "$scratch/crates/$crate/"
-    fi
-  done
-  grep "^$crate:" crates.txt >>"$scratch/crates.txt"
-done
+source "$(dirname "$0")/scratch.sh"
+copy_crates tv_outside tv_lex tv_model tv_tree tv_phrases tv_formula tv_parse tv_names tv_flat tv_expand tv_vocab tv_front
 echo 'measure: tv_front' >>"$scratch/crates.txt"
 cat >"$scratch/crates/measure/src/main.rt" <<'MAIN'
 // How long a program's text takes.

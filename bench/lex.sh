@@ -1,18 +1,9 @@
 #!/usr/bin/env bash
 # How long the tokens of a text take: ten times the text is to take about ten times as long.
 # The text is generated. The program stands in a folder of its own that goes when the script ends.
-set -euo pipefail
-cd "$(dirname "$0")/.."
-scratch=$(mktemp -d)
-trap 'rm -rf "$scratch"' EXIT
-mkdir -p "$scratch/crates/measure/src"
-for crate in tv_outside tv_lex; do
-  mkdir "$scratch/crates/$crate"
-  for part in src specs proofs; do
-    cp -r "crates/$crate/$part" "$scratch/crates/$crate/"
-  done
-done
-printf 'tv_outside:\ntv_lex: tv_outside\nmeasure: tv_lex\n' >"$scratch/crates.txt"
+source "$(dirname "$0")/scratch.sh"
+copy_crates tv_outside tv_lex
+echo 'measure: tv_lex' >>"$scratch/crates.txt"
 cat >"$scratch/crates/measure/src/main.rt" <<'MAIN'
 // How long a text of a given length takes.
 #![tactic(auto)]

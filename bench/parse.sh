@@ -2,18 +2,8 @@
 # How long the tree of a program takes: ten times the text is to take about ten times as long, 200 nested implications
 # are read at once, and 4 MiB of what opens constructs is refused at once.
 # The texts are generated. The program stands in a folder of its own that goes when the script ends.
-set -euo pipefail
-cd "$(dirname "$0")/.."
-scratch=$(mktemp -d)
-trap 'rm -rf "$scratch"' EXIT
-mkdir -p "$scratch/crates/measure/src"
-for crate in tv_outside tv_lex tv_model tv_tree tv_phrases tv_formula tv_parse; do
-  mkdir "$scratch/crates/$crate"
-  for part in src specs proofs; do
-    cp -r "crates/$crate/$part" "$scratch/crates/$crate/"
-  done
-  grep "^$crate:" crates.txt >>"$scratch/crates.txt"
-done
+source "$(dirname "$0")/scratch.sh"
+copy_crates tv_outside tv_lex tv_model tv_tree tv_phrases tv_formula tv_parse
 echo 'measure: tv_lex tv_parse' >>"$scratch/crates.txt"
 cat >"$scratch/crates/measure/src/main.rt" <<'MAIN'
 // How long a program's tree takes.
