@@ -1,0 +1,10 @@
+pub mod TruthBits
+pub mod WordOps
+pub mod WordMore
+pub mod PlaceLaws
+pub mod Compare
+pub mod CompareRows
+pub mod DrawLaws
+pub mod Extremes
+pub mod Greatest
+pub mod RowOps

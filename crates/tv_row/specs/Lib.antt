@@ -1,0 +1,6 @@
+pub mod Bits
+pub mod BitLaws
+pub mod WordLaws
+pub mod Places
+pub mod RowForm
+pub mod RowLaws

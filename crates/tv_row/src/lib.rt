@@ -1,0 +1,15 @@
+//! Truth values side by side, kept as two bits a value: whether it isn't `No`, and whether it is `Yes`.
+//!
+//! A [`Word`] has 64 values, a [`Row`] up to 256 by value, and [`Words`] are a list of words, which hold
+//! the rows of a table. Contracts see lists of values, and nothing of bits.
+#![tactic(auto)]
+
+mod bits;
+mod row;
+mod slices;
+mod word;
+mod words;
+
+pub use row::Row;
+pub use word::Word;
+pub use words::Words;

@@ -1,0 +1,294 @@
+//! Up to 256 truth values by value: those of the individuals of a structure.
+
+ghost use Rattle.std.specs.Prelude.{◌≡◌, ◌≢◌, ℕ, ◌<◌, ◌≤◌, ◌↔◌, ◌⊎◌, ◌+◌, ◌-◌, ◌*◌, ◌/◌, ◌%◌, min, length, map, replicate, take, slice_index_or, slice_set, All, Any, IsTrue, MatchOption};
+ghost use Rattle.tv_kleene.specs.declared.K3.TheVariants.{No, Yes};
+ghost use Rattle.tv_kleene.specs.Kleene.{smaller_of, larger_of, join_of, negation_of};
+ghost use Rattle.tv_row.specs.Bits.{paired, greatest_in, least_in};
+ghost use Rattle.tv_row.specs.Places.{AreWords, word_at, value_in, row_of};
+
+use crate::slices;
+use crate::word::Word;
+use std::marker::Model;
+use tv_kleene::K3;
+
+/// Up to 256 truth values, seen by contracts as their list.
+#[derive(Clone, Copy, Debug)]
+pub struct Row {
+    words: [Word; 4],
+    size: u32,
+}
+
+impl Model for Row {
+    ghost use Rattle.std.specs.Prelude.{List, length};
+    ghost use Rattle.tv_kleene.specs.declared.K3.{K3};
+    ghost use Rattle.tv_row.specs.Places.{row_of};
+    ghost use Rattle.tv_row.specs.RowForm.{HoldsRow, row_words};
+
+    ghost Value = { List K3 };
+
+    ghost view = { λ r. row_of r.words r.size 0 };
+
+    ghost invariant = { λ r. HoldsRow r.words r.size };
+
+    ghost inverse = { λ values. record { words = row_words values; size = length values } };
+
+    ghost use Rattle.tv_row.specs.RowLaws.{row_back};
+
+    ghost inverse_ok = { row_back };
+}
+
+/// How many of the first `size` places lie in the word `p`.
+fn places_in(size: u32, p: u32) -> u32
+    requires { p < 4 }
+    ensures { result ≡ min 64 (size - 64 * p) }
+{
+    size.saturating_sub(64 * p).min(64)
+}
+
+fn is_same(x: K3, k: K3) -> bool
+    ensures { IsTrue result ↔ (x ≡ k) }
+{
+    x == k
+}
+
+impl Row {
+    /// `size` values, each of them `k`.
+    pub fn of(size: u32, k: K3) -> Row
+        requires { size ≤ 256 }
+        ensures { result ≡ replicate size k }
+    {
+        let mut words = [Word::of(0, K3::No); 4];
+        for p in 0..size.div_ceil(64) {
+            words[p as usize] = Word::of(places_in(size, p), k);
+        }
+        Row { words, size }
+    }
+
+    /// The row of `size` values that begins at word `start`.
+    pub(crate) fn read(words: &[Word], start: usize, size: u32) -> Row
+        requires long { AreWords words.now }
+        requires size { size ≤ 256 }
+        requires words { start + (size / 64 + min 1 (size % 64)) ≤ length words.now }
+        requires unused { (c : ℕ) → size ≤ c → c < 64 * (size / 64 + min 1 (size % 64)) → value_in words.now start c ≡ No }
+        ensures { result ≡ row_of words.now size start }
+    {
+        let mut held = [Word::of(0, K3::No); 4];
+        for p in 0..size.div_ceil(64) as usize {
+            held[p] = words[start + p];
+        }
+        Row { words: held, size }
+    }
+
+    /// Puts the values into the words from `start` on, and `No` behind them in the last.
+    pub(crate) fn write(&self, words: &mut [Word], start: usize)
+        requires { start + (length self.now / 64 + min 1 (length self.now % 64)) ≤ length words.old }
+        ensures values { (c : ℕ) → c < 64 * (length self.now / 64 + min 1 (length self.now % 64))
+            → value_in words.new start c ≡ slice_index_or self.now c No }
+        ensures others { (p : ℕ) → (p < start) ⊎ (start + (length self.now / 64 + min 1 (length self.now % 64)) ≤ p)
+            → word_at words.new p ≡ word_at words.old p }
+        ensures long { AreWords words.old → AreWords words.new }
+        ensures length { length words.new ≡ length words.old }
+    {
+        let size = self.size();
+        for p in 0..size.div_ceil(64) as usize {
+            words[start + p] = self.words[p];
+        }
+    }
+
+    /// The number of values, at most 256.
+    pub fn size(&self) -> u32
+        ensures size { result ≡ length self.now }
+        ensures bound { length self.now ≤ 256 }
+    {
+        self.size
+    }
+
+    /// The value at the place `u`.
+    pub fn get(&self, u: u32) -> K3
+        requires { u < length self.now }
+        ensures { result ≡ slice_index_or self.now u No }
+    {
+        slices::get(&self.words[..], 0, u as usize)
+    }
+
+    /// Puts `k` at the place `u`, and changes nothing else.
+    pub fn set(&mut self, u: u32, k: K3)
+        requires { u < length self.old }
+        ensures { self.new ≡ slice_set self.old u k }
+    {
+        slices::put(&mut self.words[..], 0, u as usize, k);
+    }
+
+    /// The values at the first `size` places.
+    pub fn first(&self, size: u32) -> Row
+        requires { size ≤ length self.now }
+        ensures { result ≡ take size self.now }
+    {
+        if size >= self.size {
+            return *self;
+        }
+        let mut words = [Word::of(0, K3::No); 4];
+        for p in 0..size.div_ceil(64) {
+            words[p as usize] = self.words[p as usize].first(places_in(size, p));
+        }
+        Row { words, size }
+    }
+
+    /// Each value negated.
+    pub fn not(&self) -> Row
+        ensures { result ≡ map negation_of self.now }
+    {
+        let mut words = [Word::of(0, K3::No); 4];
+        for p in 0..self.size.div_ceil(64) {
+            words[p as usize] = self.words[p as usize].not(places_in(self.size, p));
+        }
+        Row {
+            words,
+            size: self.size,
+        }
+    }
+
+    /// The smaller of each value and `k`.
+    pub fn capped(&self, k: K3) -> Row
+        ensures { result ≡ map (smaller_of k) self.now }
+    {
+        let mut words = [Word::of(0, K3::No); 4];
+        for p in 0..self.size.div_ceil(64) {
+            words[p as usize] = self.words[p as usize].capped(k);
+        }
+        Row {
+            words,
+            size: self.size,
+        }
+    }
+
+    /// The conjunction, place by place.
+    pub fn and(&self, other: &Row) -> Row
+        requires { length self.now ≡ length other.now }
+        ensures { result ≡ paired smaller_of self.now other.now }
+    {
+        let mut words = [Word::of(0, K3::No); 4];
+        for p in 0..self.size.div_ceil(64) {
+            words[p as usize] = self.words[p as usize].and(other.words[p as usize]);
+        }
+        Row {
+            words,
+            size: self.size,
+        }
+    }
+
+    /// The disjunction, place by place.
+    pub fn or(&self, other: &Row) -> Row
+        requires { length self.now ≡ length other.now }
+        ensures { result ≡ paired larger_of self.now other.now }
+    {
+        let mut words = [Word::of(0, K3::No); 4];
+        for p in 0..self.size.div_ceil(64) {
+            words[p as usize] = self.words[p as usize].or(other.words[p as usize]);
+        }
+        Row {
+            words,
+            size: self.size,
+        }
+    }
+
+    /// The join in the order of information, place by place.
+    pub fn join(&self, other: &Row) -> Row
+        requires { length self.now ≡ length other.now }
+        ensures { result ≡ paired join_of self.now other.now }
+    {
+        let mut words = [Word::of(0, K3::No); 4];
+        for p in 0..self.size.div_ceil(64) {
+            words[p as usize] = self.words[p as usize].join(other.words[p as usize]);
+        }
+        Row {
+            words,
+            size: self.size,
+        }
+    }
+
+    /// The greatest value in the order of truth, `No` where there is none.
+    pub fn greatest(&self) -> K3
+        ensures { result ≡ greatest_in self.now }
+    {
+        slices::greatest(&self.words[..], self.size.div_ceil(64) as usize, 0)
+    }
+
+    /// The least value in the order of truth, `Yes` where there is none.
+    pub fn least(&self) -> K3
+        ensures { result ≡ least_in self.now }
+    {
+        self.not().greatest().not()
+    }
+
+    /// Whether each value is `k`.
+    pub fn are_all(&self, k: K3) -> bool
+        ensures { IsTrue result ↔ All (λ x. x ≡ k) self.now }
+    {
+        is_same(self.least().and(k), k) && is_same(self.greatest().or(k), k)
+    }
+
+    /// Whether some value is `Yes`.
+    pub fn has_yes(&self) -> bool
+        ensures { IsTrue result ↔ Any (λ x. x ≡ Yes) self.now }
+    {
+        is_same(self.greatest(), K3::Yes)
+    }
+
+    /// Whether some value isn't `No`.
+    pub fn has_possible(&self) -> bool
+        ensures { IsTrue result ↔ Any (λ x. x ≢ No) self.now }
+    {
+        match self.greatest() {
+            K3::No => false,
+            _ => true,
+        }
+    }
+
+    /// Whether each value is `Yes`.
+    pub fn are_yes(&self) -> bool
+        ensures { IsTrue result ↔ All (λ x. x ≡ Yes) self.now }
+    {
+        is_same(self.least(), K3::Yes)
+    }
+
+    /// Whether no value is `No`.
+    pub fn are_possible(&self) -> bool
+        ensures { IsTrue result ↔ All (λ x. x ≢ No) self.now }
+    {
+        match self.least() {
+            K3::No => false,
+            _ => true,
+        }
+    }
+
+    /// The first place at or after `from` whose value is `Yes`.
+    pub fn next_yes(&self, from: u32) -> Option<u32>
+        requires { from ≤ length self.now }
+        ensures { MatchOption result
+            ((u : ℕ) → from ≤ u → u < length self.now → slice_index_or self.now u No ≢ Yes)
+            (λ u. (from ≤ u) × (u < length self.now) × (slice_index_or self.now u No ≡ Yes)
+            × ((v : ℕ) → from ≤ v → v < u → slice_index_or self.now v No ≢ Yes)) }
+    {
+        let width = self.size.div_ceil(64) as usize;
+        match slices::next_yes(&self.words[..], width, 0, from as usize) {
+            Some(u) => Some(u as u32),
+            None => None,
+        }
+    }
+
+    /// The first place at or after `from` whose value isn't `No`.
+    pub fn next_possible(&self, from: u32) -> Option<u32>
+        requires { from ≤ length self.now }
+        ensures { MatchOption result
+            ((u : ℕ) → from ≤ u → u < length self.now → slice_index_or self.now u No ≡ No)
+            (λ u. (from ≤ u) × (u < length self.now) × (slice_index_or self.now u No ≢ No)
+            × ((v : ℕ) → from ≤ v → v < u → slice_index_or self.now v No ≡ No)) }
+    {
+        let width = self.size.div_ceil(64) as usize;
+        match slices::next_possible(&self.words[..], width, 0, from as usize) {
+            Some(u) => Some(u as u32),
+            None => None,
+        }
+    }
+}

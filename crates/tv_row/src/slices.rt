@@ -1,0 +1,133 @@
+//! Rows of truth values in a slice of words.
+
+ghost use Rattle.std.specs.Prelude.{◌≡◌, ◌≢◌, ℕ, ◌+◌, ◌*◌, ◌/◌, ◌<◌, ◌≤◌, ◌⊎◌, length, map, MatchOption};
+ghost use Rattle.std.specs.List.{range_with_len};
+ghost use Rattle.tv_kleene.specs.declared.K3.TheVariants.{No, Yes};
+ghost use Rattle.std.specs.Cmp.Lexicographic.{slice_cmp};
+ghost use Rattle.tv_row.specs.Bits.{value_cmp, greatest_in};
+ghost use Rattle.tv_row.specs.Places.{AreWords, AreApart, word_at, value_in, with_value, raised, row_of};
+
+use crate::row::Row;
+use crate::word::Word;
+use std::cmp::Ordering;
+use tv_kleene::K3;
+
+/// The value in a column of the row that begins at word `start`.
+pub fn get(words: &[Word], start: usize, column: usize) -> K3
+    requires { start + column / 64 < length words.now }
+    ensures { result ≡ value_in words.now start column }
+{
+    words[start + column / 64].get((column % 64) as u32)
+}
+
+/// Puts `k` into a column of the row that begins at word `start`.
+pub fn put(words: &mut [Word], start: usize, column: usize, k: K3)
+    requires { start + column / 64 < length words.old }
+    ensures { words.new ≡ with_value words.old start column k }
+{
+    let at = start + column / 64;
+    words[at] = words[at].with((column % 64) as u32, k);
+}
+
+/// Or's each value of the row of `width` words that begins at `to` with the lesser of `k` and the
+/// value in that column of the row that begins at `from`.
+pub fn raise(words: &mut [Word], width: usize, to: usize, from: usize, k: K3)
+    requires words { AreWords words.old }
+    requires to { to + width ≤ length words.old }
+    requires from { from + width ≤ length words.old }
+    requires apart { AreApart width to from }
+    ensures row { (v : ℕ) → v < width
+        → word_at words.new (to + v) ≡ raised k (word_at words.old (to + v)) (word_at words.old (from + v)) }
+    ensures words { AreWords words.new }
+    ensures others { (p : ℕ) → (p < to) ⊎ (to + width ≤ p) → word_at words.new p ≡ word_at words.old p }
+{
+    if k == K3::No {
+        return;
+    }
+    for w in 0..width {
+        let past = words[from + w].capped(k);
+        words[to + w] = words[to + w].or(past);
+    }
+}
+
+/// Compares word by word.
+pub fn compare(words: &[Word], others: &[Word]) -> Ordering
+    requires { length words.now ≡ length others.now }
+    ensures { result ≡ slice_cmp (slice_cmp value_cmp) words.now others.now }
+{
+    for i in 0..words.len() {
+        let order = words[i].compare(others[i]);
+        if order != Ordering::Equal {
+            return order;
+        }
+    }
+    Ordering::Equal
+}
+
+/// The greatest value of the row of `width` words that begins at `start`.
+pub fn greatest(words: &[Word], width: usize, start: usize) -> K3
+    requires words { AreWords words.now }
+    requires row { start + width ≤ length words.now }
+    ensures { result ≡ greatest_in (row_of words.now (64 * width) start) }
+{
+    let mut k = K3::No;
+    for w in 0..width {
+        k = k.or(words[start + w].greatest());
+    }
+    k
+}
+
+/// The first column at or after `from` of the row of `width` words at `start` that is `Yes`.
+pub fn next_yes(words: &[Word], width: usize, start: usize, from: usize) -> Option<usize>
+    requires words { start + width ≤ length words.now }
+    requires width { width ≤ 4 }
+    requires from { from ≤ 64 * width }
+    ensures { MatchOption result
+        ((c : ℕ) → from ≤ c → c < 64 * width → value_in words.now start c ≢ Yes)
+        (λ i. (from ≤ i) × (i < 64 * width) × (value_in words.now start i ≡ Yes)
+        × ((c : ℕ) → from ≤ c → c < i → value_in words.now start c ≢ Yes)) }
+{
+    let mut at = from;
+    while at < 64 * width {
+        match words[start + at / 64].first_yes((at % 64) as u32) {
+            Some(bit) => return Some(at / 64 * 64 + bit as usize),
+            None => at = (at / 64 + 1) * 64,
+        }
+    }
+    None
+}
+
+/// The first column at or after `from` of the row of `width` words at `start` that isn't `No`.
+pub fn next_possible(words: &[Word], width: usize, start: usize, from: usize) -> Option<usize>
+    requires words { start + width ≤ length words.now }
+    requires width { width ≤ 4 }
+    requires from { from ≤ 64 * width }
+    ensures { MatchOption result
+        ((c : ℕ) → from ≤ c → c < 64 * width → value_in words.now start c ≡ No)
+        (λ i. (from ≤ i) × (i < 64 * width) × (value_in words.now start i ≢ No)
+        × ((c : ℕ) → from ≤ c → c < i → value_in words.now start c ≡ No)) }
+{
+    let mut at = from;
+    while at < 64 * width {
+        match words[start + at / 64].first_possible((at % 64) as u32) {
+            Some(bit) => return Some(at / 64 * 64 + bit as usize),
+            None => at = (at / 64 + 1) * 64,
+        }
+    }
+    None
+}
+
+/// The values in a column of that many rows of `width` words, the first of which begins at `start`.
+pub fn column(words: &[Word], width: usize, start: usize, rows: u32, column: usize) -> Row
+    requires rows { rows ≤ 256 }
+    requires width { width ≤ 4 }
+    requires words { start + rows * width ≤ length words.now }
+    requires column { column < 64 * width }
+    ensures { result ≡ map (λ u. value_in words.now (start + u * width) column) (range_with_len 0 rows) }
+{
+    let mut values = Row::of(rows, K3::No);
+    for u in 0..rows {
+        values.set(u, get(words, start + u as usize * width, column));
+    }
+    values
+}

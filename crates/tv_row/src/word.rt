@@ -1,0 +1,243 @@
+//! Sixty-four truth values in two words.
+
+ghost use Rattle.std.specs.Prelude.{◌≡◌, ◌≢◌, ℕ, ◌<◌, ◌≤◌, slice_index_or, slice_set, map, replicate, MatchOption, take, IsTrue, ◌↔◌};
+ghost use Rattle.tv_kleene.specs.declared.K3.TheVariants.{No, Yes};
+ghost use Rattle.tv_kleene.specs.Kleene.{smaller_of, larger_of, join_of, negation_of};
+ghost use Rattle.std.specs.Cmp.Lexicographic.{slice_cmp};
+ghost use Rattle.tv_row.specs.Bits.{value_cmp, value_of, paired, padded, greatest_in, least_in, is_possible, is_certain, number_of};
+
+use crate::bits::{first_from, has, ones_below, when, with};
+use std::cmp::Ordering;
+use std::marker::Model;
+use tv_kleene::K3;
+
+/// Sixty-four truth values.
+#[derive(Clone, Copy, PartialEq, Eq, Debug)]
+#[tactic(auto, using(crate::specs::BitLaws::may_back, crate::specs::BitLaws::must_back))]
+pub struct Word {
+    may: u64,
+    must: u64,
+}
+
+impl Model for Word {
+    ghost use Rattle.std.specs.Prelude.{List};
+    ghost use Rattle.tv_kleene.specs.declared.K3.{K3};
+    ghost use Rattle.tv_row.specs.Bits.{values_of, number_of, is_possible, is_certain, IsWord};
+
+    ghost Value = { List K3 };
+
+    ghost view = { λ w. values_of w.may w.must };
+
+    ghost invariant = { λ w. IsWord w.may w.must };
+
+    ghost inverse = { λ values. record { may = number_of is_possible values; must = number_of is_certain values } };
+
+    ghost use Rattle.tv_row.specs.WordLaws.{back};
+
+    ghost inverse_ok = { back };
+}
+
+/// The value whose bits are given.
+pub fn value(may: bool, must: bool) -> K3
+    ensures { result ≡ value_of may must }
+{
+    if !may {
+        K3::No
+    } else if must {
+        K3::Yes
+    } else {
+        K3::Half
+    }
+}
+
+pub fn is_possible(k: K3) -> bool
+    ensures { result ≡ is_possible k }
+{
+    k != K3::No
+}
+
+pub fn is_certain(k: K3) -> bool
+    ensures { result ≡ is_certain k }
+{
+    k == K3::Yes
+}
+
+impl Word {
+    /// The first `n` values `k`, and `No` behind them.
+    pub fn of(n: u32, k: K3) -> Word
+        requires { n ≤ 64 }
+        ensures { result ≡ padded n (replicate 64 k) }
+    {
+        let ones = ones_below(n);
+        Word {
+            may: when(is_possible(k), ones),
+            must: when(is_certain(k), ones),
+        }
+    }
+
+    /// The first `n` values negated, and `No` behind them.
+    pub fn not(self, n: u32) -> Word
+        requires { n ≤ 64 }
+        ensures { result ≡ padded n (map negation_of self) }
+    {
+        let ones = ones_below(n);
+        Word {
+            may: !self.must & ones,
+            must: !self.may & ones,
+        }
+    }
+
+    /// The first `n` values, and `No` behind them.
+    pub fn first(self, n: u32) -> Word
+        requires { n ≤ 64 }
+        ensures { result ≡ padded n self }
+    {
+        let ones = ones_below(n);
+        Word {
+            may: self.may & ones,
+            must: self.must & ones,
+        }
+    }
+
+    /// The lesser of each value and `k`.
+    pub fn capped(self, k: K3) -> Word
+        ensures { result ≡ map (smaller_of k) self }
+    {
+        match k {
+            K3::No => Word { may: 0, must: 0 },
+            K3::Half => Word {
+                may: self.may,
+                must: 0,
+            },
+            K3::Yes => self,
+        }
+    }
+
+    /// The greatest value.
+    pub fn greatest(self) -> K3
+        ensures { result ≡ greatest_in self }
+    {
+        if self.must != 0 {
+            K3::Yes
+        } else if self.may != 0 {
+            K3::Half
+        } else {
+            K3::No
+        }
+    }
+
+    /// The least of the first `n` values.
+    pub fn least(self, n: u32) -> K3
+        requires { n ≤ 64 }
+        ensures { result ≡ least_in (take n self) }
+    {
+        self.not(n).greatest().not()
+    }
+
+    /// The place of the first `Yes` at or after `from`.
+    pub fn first_yes(self, from: u32) -> Option<u32>
+        requires { from ≤ 64 }
+        ensures { MatchOption result
+            ((j : ℕ) → from ≤ j → j < 64 → slice_index_or self j No ≢ Yes)
+            (λ i. (from ≤ i) × (i < 64) × (slice_index_or self i No ≡ Yes)
+            × ((j : ℕ) → from ≤ j → j < i → slice_index_or self j No ≢ Yes)) }
+    {
+        first_from(self.must, from)
+    }
+
+    /// The place of the first value at or after `from` that isn't `No`.
+    pub fn first_possible(self, from: u32) -> Option<u32>
+        requires { from ≤ 64 }
+        ensures { MatchOption result
+            ((j : ℕ) → from ≤ j → j < 64 → slice_index_or self j No ≡ No)
+            (λ i. (from ≤ i) × (i < 64) × (slice_index_or self i No ≢ No)
+            × ((j : ℕ) → from ≤ j → j < i → slice_index_or self j No ≡ No)) }
+    {
+        first_from(self.may, from)
+    }
+
+    /// The number whose bits say which values aren't `No`, the first value's lowest.
+    #[tactic(auto, using(crate::specs::BitLaws::may_back))]
+    pub fn possible_bits(self) -> u64
+        ensures { result ≡ number_of is_possible self }
+    {
+        self.may
+    }
+
+    /// The number whose bits say which values are `Yes`, the first value's lowest.
+    #[tactic(auto, using(crate::specs::BitLaws::must_back))]
+    pub fn certain_bits(self) -> u64
+        ensures { result ≡ number_of is_certain self }
+    {
+        self.must
+    }
+
+    /// The value at `i`.
+    pub fn get(self, i: u32) -> K3
+        requires { i < 64 }
+        ensures { result ≡ slice_index_or self i No }
+    {
+        value(has(self.may, i), has(self.must, i))
+    }
+
+    /// The word with `k` at `i`.
+    pub fn with(self, i: u32, k: K3) -> Word
+        requires { i < 64 }
+        ensures { result ≡ slice_set self i k }
+    {
+        Word {
+            may: with(self.may, i, is_possible(k)),
+            must: with(self.must, i, is_certain(k)),
+        }
+    }
+
+    /// The lesser values.
+    pub fn and(self, other: Word) -> Word
+        ensures { result ≡ paired smaller_of self other }
+    {
+        Word {
+            may: self.may & other.may,
+            must: self.must & other.must,
+        }
+    }
+
+    /// The greater values.
+    pub fn or(self, other: Word) -> Word
+        ensures { result ≡ paired larger_of self other }
+    {
+        Word {
+            may: self.may | other.may,
+            must: self.must | other.must,
+        }
+    }
+
+    /// The joined values.
+    pub fn join(self, other: Word) -> Word
+        ensures { result ≡ paired join_of self other }
+    {
+        Word {
+            may: self.may | other.may,
+            must: self.must & other.must,
+        }
+    }
+
+    /// Compares the values, the first that differ.
+    pub fn compare(self, other: Word) -> Ordering
+        ensures { result ≡ slice_cmp value_cmp self other }
+    {
+        let apart = (self.may ^ other.may) | (self.must ^ other.must);
+        if apart == 0 {
+            return Ordering::Equal;
+        }
+        let at = apart.trailing_zeros();
+        self.get(at).cmp(&other.get(at))
+    }
+
+    /// Whether the values are equal.
+    #[tactic(auto, using(crate::specs::BitLaws::may_back, crate::specs::BitLaws::must_back))]
+    pub fn equals(self, other: Word) -> bool
+        ensures { IsTrue result ↔ (self ≡ other) }
+    {
+        self.may == other.may && self.must == other.must
+    }
+}

@@ -1,0 +1,217 @@
+//! A list of words of truth values.
+
+ghost use Rattle.std.specs.List.{range_with_len};
+ghost use Rattle.std.specs.Prelude.{◌≡◌, ℕ, ◌+◌, ◌*◌, ◌/◌, ◌%◌, min, map, ◌<◌, ◌≤◌, ◌⊎◌, ◌≢◌, length, slice_index, slice_index_or, replicate, IfOk, IsTrue, ◌↔◌, MatchOption};
+ghost use Rattle.tv_kleene.specs.declared.K3.TheVariants.{No, Yes};
+ghost use Rattle.std.specs.Cmp.Lexicographic.{slice_cmp};
+ghost use Rattle.tv_row.specs.Bits.{value_cmp, greatest_in};
+ghost use Rattle.tv_row.specs.Places.{AreWords, AreApart, word_at, value_in, with_value, raised, drawn_value, row_of};
+
+use crate::row::Row;
+use crate::slices;
+use crate::word::Word;
+use std::alloc::{AllocError, Global};
+use std::cmp::Ordering;
+use std::marker::Model;
+use tv_kleene::K3;
+
+/// A list of words.
+#[derive(Drop)]
+pub struct Words {
+    items: Vec<Word>,
+}
+
+impl Model for Words {
+    ghost use Rattle.std.specs.Prelude.{List};
+    ghost use Rattle.tv_kleene.specs.declared.K3.{K3};
+
+    ghost Value = { List (List K3) };
+
+    ghost use Rattle.tv_row.specs.Places.{AreWords};
+
+    ghost view = { λ w. w.items.items };
+
+    ghost invariant = { λ w. AreWords w.items.items };
+}
+
+impl Words {
+    /// That many words that are `No` everywhere.
+    #[tactic(auto, unfolding(crate::specs::Bits::padded))]
+    pub fn of_no(alloc: Global, count: usize) -> Result<Words, AllocError>
+        ensures { IfOk result (λ w. w ≡ replicate count (replicate 64 No)) }
+    {
+        let mut items = Vec::with_capacity(alloc, count)?;
+        for _ in 0..count {
+            items.push(Word::of(0, K3::No))?;
+        }
+        Ok(Words { items })
+    }
+
+    /// Equal words in memory of their own.
+    pub fn copied(&self, alloc: Global) -> Result<Words, AllocError>
+        ensures { IfOk result (λ w. w ≡ self.now) }
+    {
+        Ok(Words {
+            items: Vec::from_slice(alloc, self.items.as_slice())?,
+        })
+    }
+
+    /// The greatest value of the row of `width` words that begins at `start`.
+    pub fn greatest(&self, width: usize, start: usize) -> K3
+        requires { start + width ≤ length self.now }
+        ensures { result ≡ greatest_in (row_of self.now (64 * width) start) }
+    {
+        slices::greatest(&self.items, width, start)
+    }
+
+    /// Compares word by word.
+    pub fn compare(&self, other: &Words) -> Ordering
+        requires { length self.now ≡ length other.now }
+        ensures { result ≡ slice_cmp (slice_cmp value_cmp) self.now other.now }
+    {
+        slices::compare(&self.items, &other.items)
+    }
+
+    /// Whether the words are equal.
+    pub fn equals(&self, other: &Words) -> bool
+        ensures { IsTrue result ↔ (self.now ≡ other.now) }
+    {
+        self.items == other.items
+    }
+
+    /// The first column at or after `from` of the row of `width` words at `start` that is `Yes`.
+    pub fn next_yes(&self, width: usize, start: usize, from: usize) -> Option<usize>
+        requires words { start + width ≤ length self.now }
+        requires width { width ≤ 4 }
+        requires from { from ≤ 64 * width }
+        ensures { MatchOption result
+            ((c : ℕ) → from ≤ c → c < 64 * width → value_in self.now start c ≢ Yes)
+            (λ i. (from ≤ i) × (i < 64 * width) × (value_in self.now start i ≡ Yes)
+            × ((c : ℕ) → from ≤ c → c < i → value_in self.now start c ≢ Yes)) }
+    {
+        slices::next_yes(&self.items, width, start, from)
+    }
+
+    /// The first column at or after `from` of the row of `width` words at `start` that isn't `No`.
+    pub fn next_possible(&self, width: usize, start: usize, from: usize) -> Option<usize>
+        requires words { start + width ≤ length self.now }
+        requires width { width ≤ 4 }
+        requires from { from ≤ 64 * width }
+        ensures { MatchOption result
+            ((c : ℕ) → from ≤ c → c < 64 * width → value_in self.now start c ≡ No)
+            (λ i. (from ≤ i) × (i < 64 * width) × (value_in self.now start i ≢ No)
+            × ((c : ℕ) → from ≤ c → c < i → value_in self.now start c ≡ No)) }
+    {
+        slices::next_possible(&self.items, width, start, from)
+    }
+
+    /// The value in a column of the row that begins at word `start`.
+    pub fn get(&self, start: usize, column: usize) -> K3
+        requires { start + column / 64 < length self.now }
+        ensures { result ≡ value_in self.now start column }
+    {
+        slices::get(&self.items, start, column)
+    }
+
+    /// Puts `k` into a column of the row that begins at word `start`.
+    pub fn put(&mut self, start: usize, column: usize, k: K3)
+        requires { start + column / 64 < length self.old }
+        ensures { self.new ≡ with_value self.old start column k }
+    {
+        slices::put(&mut self.items, start, column, k);
+    }
+
+    /// The word at a place.
+    pub fn word(&self, place: usize) -> Word
+        requires { place < length self.now }
+        ensures { result ≡ word_at self.now place }
+    {
+        self.items[place]
+    }
+
+    /// The row of `size` values that begins at word `start`.
+    pub fn row(&self, start: usize, size: u32) -> Row
+        requires size { size ≤ 256 }
+        requires words { start + (size / 64 + min 1 (size % 64)) ≤ length self.now }
+        requires unused { (c : ℕ) → size ≤ c → c < 64 * (size / 64 + min 1 (size % 64)) → value_in self.now start c ≡ No }
+        ensures { result ≡ row_of self.now size start }
+    {
+        Row::read(&self.items, start, size)
+    }
+
+    /// Puts the row's values into the words from `start` on, and `No` behind them in the last.
+    pub fn put_row(&mut self, start: usize, row: &Row)
+        requires { start + (length row.now / 64 + min 1 (length row.now % 64)) ≤ length self.old }
+        ensures values { (c : ℕ) → c < 64 * (length row.now / 64 + min 1 (length row.now % 64))
+            → value_in self.new start c ≡ slice_index_or row.now c No }
+        ensures others { (p : ℕ) → (p < start) ⊎ (start + (length row.now / 64 + min 1 (length row.now % 64)) ≤ p)
+            → word_at self.new p ≡ word_at self.old p }
+        ensures length { length self.new ≡ length self.old }
+    {
+        row.write(&mut self.items, start);
+    }
+
+    /// The values in a column of that many rows of `width` words, the first of which begins at `start`.
+    pub fn column(&self, width: usize, start: usize, rows: u32, column: usize) -> Row
+        requires rows { rows ≤ 256 }
+        requires width { width ≤ 4 }
+        requires words { start + rows * width ≤ length self.now }
+        requires column { column < 64 * width }
+        ensures { result ≡ map (λ u. value_in self.now (start + u * width) column) (range_with_len 0 rows) }
+    {
+        slices::column(&self.items, width, start, rows, column)
+    }
+
+    /// The value in a column of a row that has that many, and `No` past the end.
+    fn value_or_no(&self, start: usize, columns: usize, column: usize) -> K3
+        requires { (c : ℕ) → c < columns → start + c / 64 < length self.now }
+        ensures { result ≡ drawn_value self.now start columns column }
+    {
+        if column < columns {
+            self.get(start, column)
+        } else {
+            K3::No
+        }
+    }
+
+    /// Makes the row of `width` words that begins at `at` the values of another list's row, at the
+    /// origins.
+    pub fn draw(
+        &mut self,
+        width: usize,
+        at: usize,
+        source: &Words,
+        from: usize,
+        columns: usize,
+        origins: &[u32],
+    )
+        requires words { AreWords self.old }
+        requires row { at + width ≤ length self.old }
+        requires room { length origins.now ≤ 64 * width }
+        requires from { (c : ℕ) → c < columns → from + c / 64 < length source.now }
+        ensures drawn { (c : ℕ) → c < length origins.now
+            → value_in self.new at c ≡ drawn_value source.now from columns (slice_index origins.now c) }
+        ensures rest { (c : ℕ) → length origins.now ≤ c → c < 64 * width → value_in self.new at c ≡ value_in self.old at c }
+        ensures others { (p : ℕ) → (p < at) ⊎ (at + width ≤ p) → word_at self.new p ≡ word_at self.old p }
+        ensures words { AreWords self.new }
+        ensures length { length self.new ≡ length self.old }
+    {
+        for c in 0..origins.len() {
+            let k = source.value_or_no(from, columns, origins[c] as usize);
+            self.put(at, c, k);
+        }
+    }
+
+    /// Or's a row with another that is capped.
+    pub fn raise(&mut self, width: usize, to: usize, from: usize, k: K3)
+        requires to { to + width ≤ length self.old }
+        requires from { from + width ≤ length self.old }
+        requires apart { AreApart width to from }
+        ensures row { (v : ℕ) → v < width
+            → word_at self.new (to + v) ≡ raised k (word_at self.old (to + v)) (word_at self.old (from + v)) }
+        ensures others { (p : ℕ) → (p < to) ⊎ (to + width ≤ p) → word_at self.new p ≡ word_at self.old p }
+        ensures length { length self.new ≡ length self.old }
+    {
+        slices::raise(&mut self.items, width, to, from, k);
+    }
+}
