@@ -1,10 +1,9 @@
 -- A loop over the predicates that answers false at the first that fails, and else true.
-use Rattle.std.proofs.Common.{ℕ, ◌≡◌, ◌<◌, ◌≤◌, ◌+◌, ◌↔◌, List, [], ◌∷◌, length, get_or, map, IsTrue, true, false, refl, arith, subst, sym, ap, suc, zero, Option, Some, None, slice_get, ⊎_elim, ◌⊎◌, inl, inr, ◌∙◌}
+use Rattle.std.proofs.Common.{ℕ, ◌≡◌, ◌<◌, ◌≤◌, ◌+◌, ◌↔◌, List, [], ◌∷◌, length, get_or, map, IsTrue, true, false, refl, arith, subst, sym, suc, zero, Some, None, slice_get, ◌⊎◌, inl, inr, ◌∙◌}
 use Rattle.std.proofs.lemmas.Bool.{false≢true}
 use Rattle.std.proofs.lemmas.List.{get_or_default}
 use Rattle.tv_model.specs.declared.program.Pred.{Pred}
-use Rattle.tv_model.specs.Program.{PredForm, pred_of}
-use Rattle.tv_concrete.specs.Preds.{EachPred}
+use Rattle.tv_model.specs.Program.{PredForm, pred_of, EachPred}
 
 -- P holds of each of the first i predicates, by its number
 abbrev pub FirstPreds : (ℕ → PredForm → Type 0) → List Pred → ℕ → Type 0

@@ -1,12 +1,11 @@
-pub mod Concretes
-pub mod Decided
-pub mod EachPreds
-pub mod Every
-pub mod Lists
-pub mod PropertyLemmas
-pub mod Renames
-pub mod Rounds
-pub mod RuleLemmas
-pub mod StepLemmas
-pub mod TupleLists
-pub mod Walks
+mod Concretes
+mod Decided
+mod EachPreds
+mod Every
+mod Lists
+mod PropertyLemmas
+mod Rounds
+mod RuleLemmas
+mod StepLemmas
+mod TupleLists
+mod Walks

@@ -1,29 +1,8 @@
--- Membership in a list, and facts that a list decides.
-use Rattle.std.proofs.Common.{ℕ, ◌≡◌, ◌≢◌, ◌<◌, zero, suc, List, [], ◌∷◌, ◌⊎◌, inl, inr, length, map, sym, refl, ap, subst, arith, Contains, eqb, cond, true, false}
+-- Lists of tuples and of values, as the programs make them.
+use Rattle.std.proofs.Common.{ℕ, ◌≡◌, ◌<◌, zero, suc, List, [], ◌∷◌, length, map, sym, refl, ap, arith}
 use Rattle.std.proofs.Common.{slice_index, replicate, ◌≤◌, ◌-◌, ◌+◌, ◌++◌, ◌∙◌, flat_map, take, take_all, drop, get_or, append-nil, append_assoc, add-one}
 use Rattle.tv_concrete.specs.Tuples.{tuples_of}
 use Rattle.tv_model.specs.Truth.{Assignment, put, put_all}
-
-pub Contains-here : {X : Type 0} (x : X) (xs : List X) → Contains (x ∷ xs) x
-Contains-here x xs = (0, omega arith, refl)
-
-pub Contains-there : {X : Type 0} (y x : X) (xs : List X) → Contains xs x → Contains (y ∷ xs) x
-Contains-there y x xs at = (suc at.0, omega (arith, at.1), at.2)
-
-pub Contains-none : {X : Type 0} (x : X) → Contains [] x → ⊥
-Contains-none x at = omega (arith, at.1)
-
-pub Contains-cases : {X : Type 0} (y x : X) (xs : List X) → Contains (y ∷ xs) x → (y ≡ x) ⊎ Contains xs x
-Contains-cases y x xs (zero, below, is) = inl is
-Contains-cases y x xs (suc k, below, is) = inr (k, omega (arith, below), is)
-
-pub Contains-map : {X Y : Type 0} (f : X → Y) (x : X) (xs : List X) → Contains xs x → Contains (map f xs) (f x)
-Contains-map f x [] at = absurd (Contains-none x at)
-Contains-map {X} {Y} f x (y ∷ xs) at = go (Contains-cases y x xs at) (Contains-map f x xs)
-  where
-    go : (y ≡ x) ⊎ Contains xs x → (Contains xs x → Contains (map f xs) (f x)) → Contains (map f (y ∷ xs)) (f x)
-    go (inl e) later = let P : X → Type 0 = λ z. Contains (f y ∷ map f xs) (f z) in subst P e (Contains-here (f y) (map f xs))
-    go (inr there) later = Contains-there (f y) (f x) (map f xs) (later there)
 
 -- a list of zeros is read as 0 everywhere
 pub get_or-replicate_zero : (n v : ℕ) → slice_index (replicate n 0) v ≡ 0

@@ -1,5 +1,5 @@
 -- The rules of the properties, one by one.
-use Rattle.std.proofs.Common.{ℕ, ◌≡◌, ◌↔◌, ◌++◌, List, [], ◌∷◌, All, Bool, true, false, IsTrue, refl, sym, subst, Result, Ok, Err, IfOk}
+use Rattle.std.proofs.Common.{ℕ, ◌≡◌, ◌↔◌, ◌++◌, List, [], ◌∷◌, All, Bool, true, false, IsTrue, sym, subst, Result, Ok, Err, IfOk}
 use Rattle.std.proofs.lemmas.Bool.{false≢true}
 use Rattle.std.proofs.lemmas.List.Elements.{All-nil, All-cons, All-head, All-tail, All-append}
 use Rattle.tv_model.specs.declared.program.Props.{Props}

@@ -1,19 +1,21 @@
 -- A concrete heap for each choice of core predicates: definitions are evaluated again and again.
-use Rattle.std.proofs.Common.{ℕ, ◌≡◌, ◌<◌, ◌≤◌, ◌+◌, ◌⊎◌, ◌↔◌, ◌∙◌, List, [], ◌∷◌, length, filter, max, Option, Some, None, unwrap_or, slice_get, inl, inr, ⊎_elim, refl, sym, ap, subst, All, Contains, Bool, true, false, cond, arith, zero, suc}
-use Rattle.std.proofs.lemmas.Bool.{cases_lt, cases_Bool, cond-true, cond-false, false≢true}
+use Rattle.std.proofs.Common.{ℕ, ◌≡◌, ◌<◌, ◌+◌, ◌⊎◌, ◌↔◌, ◌∙◌, List, [], ◌∷◌, length, filter, max, Some, None, unwrap_or, slice_get, inl, inr, ⊎_elim, refl, sym, ap, subst, All, Contains, Bool, true, false, arith, zero, suc}
+use Rattle.std.proofs.lemmas.Bool.{cases_lt, false≢true}
 use Rattle.tv_model.specs.Form.{Form, Mentions}
 use Rattle.tv_model.specs.Heap.{Heap, Holds, IsTuple, extent}
 use Rattle.tv_model.specs.Program.{ProgramForm, PredForm, KindForm, KCore, KDefined}
 use Rattle.tv_model.specs.Rules.{IsHeap, IsConcrete, MeetsDefinition, blank}
 use Rattle.tv_model.specs.Truth.{Truth, put_all}
 use Rattle.tv_model.specs.Valid.{IsValid, IsRank}
-use Rattle.tv_concrete.specs.Laws.{SameIndividuals, SameCore}
+use Rattle.tv_model.proofs.Programs.{pred-cases, holds-nothing, kind-cases}
+use Rattle.tv_model.proofs.Lists.{slice_get-past, Contains-filter, Contains-filter_back, All-from_contains}
+use Rattle.tv_model.specs.Laws.{LooksAlike}
+use Rattle.tv_model.proofs.Decided.{IsDecided}
+use Rattle.tv_model.proofs.Truths.{Truth-local}
+use Rattle.tv_concrete.specs.Laws.{SameCore}
 use Rattle.tv_concrete.specs.Tuples.{tuples_of}
-use Rattle.tv_concrete.proofs.Concretes.{pred-cases, holds-nothing, kind-cases, slice_get-past}
-use Rattle.tv_concrete.proofs.Decided.{IsDecided, Truth-decided}
-use Rattle.tv_concrete.proofs.Lists.{Contains-here, Contains-there, Contains-cases, Contains-none}
-use Rattle.tv_concrete.proofs.Renames.{Truth-local}
-use Rattle.tv_concrete.proofs.TupleLists.{All-from_contains, tuple-fits, tuple-found}
+use Rattle.tv_concrete.proofs.Decided.{Truth-decided}
+use Rattle.tv_concrete.proofs.TupleLists.{tuple-fits, tuple-found}
 
 -- whether a decided fact holds
 abbrev pub answer_of : (P : Type 0) → IsDecided P → Bool
@@ -27,35 +29,6 @@ answer-right P (inr n) e = absurd (false≢true e)
 answer-given : (P : Type 0) (d : IsDecided P) → P → answer_of P d ≡ true
 answer-given P (inl t) p = refl
 answer-given P (inr n) p = absurd (n p)
-
--- what a filter keeps
-pub Contains-filter : {X : Type 0} (test : X → Bool) (xs : List X) (x : X) → Contains xs x → test x ≡ true → Contains (filter test xs) x
-Contains-filter test [] x at passes = absurd (Contains-none x at)
-Contains-filter {X} test (y ∷ xs) x at passes = go (cases_Bool (test y)) (Contains-cases y x xs at) (λ there. Contains-filter test xs x there passes)
-  where
-    go : (test y ≡ true) ⊎ (test y ≡ false) → (y ≡ x) ⊎ Contains xs x → (Contains xs x → Contains (filter test xs) x) → Contains (filter test (y ∷ xs)) x
-    go (inl yes_) (inl e) later =
-        let In : X → Type 0 = λ z. Contains (y ∷ filter test xs) z
-        in rw (cond-true (test y) (y ∷ filter test xs) (filter test xs) yes_) (subst In e (Contains-here y (filter test xs)))
-    go (inl yes_) (inr there) later =
-        rw (cond-true (test y) (y ∷ filter test xs) (filter test xs) yes_) (Contains-there y x (filter test xs) (later there))
-    go (inr no_) (inl e) later = let Of : X → Type 0 = λ z. test z ≡ true in absurd (false≢true (sym no_ ∙ subst Of (sym e) passes))
-    go (inr no_) (inr there) later = rw (cond-false (test y) (y ∷ filter test xs) (filter test xs) no_) (later there)
-
-pub Contains-filter_back : {X : Type 0} (test : X → Bool) (xs : List X) (x : X) → Contains (filter test xs) x → Contains xs x × (test x ≡ true)
-Contains-filter_back test [] x at = absurd (Contains-none x at)
-Contains-filter_back {X} test (y ∷ xs) x at = go (cases_Bool (test y)) (λ there. Contains-filter_back test xs x there)
-  where
-    go : (test y ≡ true) ⊎ (test y ≡ false) → (Contains (filter test xs) x → Contains xs x × (test x ≡ true)) → Contains (y ∷ xs) x × (test x ≡ true)
-    go (inl yes_) later =
-        let In : List X → Type 0 = λ zs. Contains zs x
-        in let Of : X → Type 0 = λ z. Contains (y ∷ xs) z × (test z ≡ true)
-        in ⊎_elim (λ e. subst Of e (Contains-here y xs, yes_)) (λ there. (Contains-there y x xs (later there).0, (later there).1))
-        (Contains-cases y x (filter test xs) (subst In (cond-true (test y) (y ∷ filter test xs) (filter test xs) yes_) at))
-    go (inr no_) later =
-        let In : List X → Type 0 = λ zs. Contains zs x
-        in let rest : Contains xs x × (test x ≡ true) = later (subst In (cond-false (test y) (y ∷ filter test xs) (filter test xs) no_) at)
-        in (Contains-there y x xs rest.0, rest.1)
 
 -- the tuples of a predicate after one evaluation of the definitions
 abbrev pub extent_by : Heap → ℕ → (arity : ℕ) → KindForm → List (List ℕ)
@@ -142,22 +115,24 @@ rounds-heap p h is (suc n) = refreshed-heap p (rounds p h n) (rounds-heap p h is
 
 pub rounds-same : (p : ProgramForm) (h : Heap) (n : ℕ) → SameCore p h (rounds p h n)
 rounds-same p h zero = record {
-  individuals = record { members = λ u. (λ t. t, λ t. t); mark = refl };
+  individuals = λ u. (λ t. t, λ t. t);
   core = λ q d found core us. (λ t. t, λ t. t);
 }
 rounds-same p h (suc n) =
     let before : SameCore p h (rounds p h n) = rounds-same p h n
     in record {
-      individuals = record { members = before.individuals.members; mark = before.individuals.mark };
+      individuals = before.individuals;
       core = λ q d found core us.
           let is : extent (refresh p (rounds p h n)) q ≡ extent (rounds p h n) q = refreshed-core p (rounds p h n) q d found core
           in let In : List (List ℕ) → Type 0 = λ ts. Contains ts us
           in (λ t. subst In (sym is) ((before.core q d found core us).0 t), λ t. (before.core q d found core us).1 (subst In is t));
     }
 
--- one more round keeps individuals
-next-same : (p : ProgramForm) (h : Heap) (n : ℕ) → SameIndividuals (rounds p h (suc n)) (rounds p h n)
-next-same p h n = record { members = λ u. (λ t. t, λ t. t); mark = refl }
+-- one more round looks alike to a formula if the predicates that it mentions stay
+next-alike : (p : ProgramForm) (h : Heap) (n : ℕ) (f : Form)
+    → ((q : ℕ) → Mentions q f → (us : List ℕ) → Holds (rounds p h (suc n)) q us ↔ Holds (rounds p h n) q us)
+    → LooksAlike f (rounds p h (suc n)) (rounds p h n)
+next-alike p h n f stays = record { individuals = λ u. (λ t. t, λ t. t); holds = stays; marks = λ named. refl }
 
 -- after n rounds the predicates of rank below n stay
 pub rounds-stable : (p : ProgramForm) (rank : ℕ → ℕ) → IsRank p rank → (h : Heap) → IsHeap p h → (n q : ℕ) → rank q < n → (us : List ℕ)
@@ -186,8 +161,8 @@ rounds-stable p rank ranks h is (suc n) q below us =
         refreshed-defined p (rounds p h n) q d found defined.0 defined.1 defined.2 us
         in let less : (r : ℕ) → Mentions r defined.1 → rank r < n = λ r m. omega (arith, below, ranks.falls q d found defined.0 defined.1 defined.2 r m)
         in let same : Truth (rounds p h (suc n)) (put_all blank defined.0 us) defined.1 ↔ Truth (rounds p h n) (put_all blank defined.0 us) defined.1 =
-        Truth-local (rounds p h (suc n)) (rounds p h n) (put_all blank defined.0 us) (put_all blank defined.0 us) defined.1 (next-same p h n)
-        (λ r m ts. earlier r (less r m) ts) (λ v m. refl)
+        Truth-local defined.1 (rounds p h (suc n)) (rounds p h n) (put_all blank defined.0 us) (put_all blank defined.0 us)
+        (next-alike p h n defined.1 (λ r m ts. earlier r (less r m) ts)) (λ v m. refl)
         in (λ t. before.1 ((later.0 t).0, same.0 (later.0 t).1), λ t. later.1 ((before.0 t).0, same.1 (before.0 t).1))
 
 -- above the ranks of the first n predicates
@@ -235,6 +210,6 @@ concrete-exists p valid h is = (
         in let later : Holds (rounds p h (suc n)) q us ↔ (IsTuple (rounds p h n) d.arity us × Truth (rounds p h n) (put_all blank defined.0 us) defined.1) =
         refreshed-defined p (rounds p h n) q d found defined.0 defined.1 defined.2 us
         in let same : Truth (rounds p h (suc n)) (put_all blank defined.0 us) defined.1 ↔ Truth (rounds p h n) (put_all blank defined.0 us) defined.1 =
-        Truth-local (rounds p h (suc n)) (rounds p h n) (put_all blank defined.0 us) (put_all blank defined.0 us) defined.1 (next-same p h n)
-        (λ r m ts. stays r ts) (λ v m. refl)
+        Truth-local defined.1 (rounds p h (suc n)) (rounds p h n) (put_all blank defined.0 us) (put_all blank defined.0 us)
+        (next-alike p h n defined.1 (λ r m ts. stays r ts)) (λ v m. refl)
         in subst Of (sym defined.2) (λ t. same.1 (later.0 t).1, λ t. later.1 (fits, same.0 t))

@@ -1,45 +1,31 @@
 -- Rules by all choices of individuals for their variables.
-use Rattle.std.proofs.Common.{ℕ, ◌≡◌, ◌≢◌, ◌⊎◌, ◌↔◌, ◌<◌, ◌+◌, ◌++◌, List, [], ◌∷◌, length, map, take, take_all, Result, Ok, Err, IfOk, get_or, ◌≤◌, inl, inr, ⊎_elim, refl, sym, ap, subst, ◌∙◌, Contains, Bool, IsTrue, true, false, arith, zero, suc, add-one}
-use Rattle.std.proofs.lemmas.Bool.{cases_eq, false≢true}
-use Rattle.std.proofs.lemmas.List.{get_or_default}
-use Rattle.std.proofs.lemmas.List.Elements.{Contains-append_left, Contains-append_right, Contains-append_cases}
+use Rattle.std.proofs.Common.{ℕ, ◌≡◌, ◌⊎◌, ◌↔◌, ◌<◌, ◌+◌, ◌++◌, List, [], ◌∷◌, length, take, take_all, Result, Ok, Err, IfOk, get_or, ◌≤◌, inl, inr, ⊎_elim, refl, sym, ap, subst, ◌∙◌, Contains, Bool, IsTrue, arith, zero, suc, add-one}
+use Rattle.std.proofs.lemmas.Bool.{cases_eq}
+use Rattle.std.proofs.lemmas.List.Elements.{Contains-append_left, Contains-append_right}
 use Rattle.tv_model.specs.Form.{Form, FZero, FOne, FAtom, FIsNew, FSame, FNot, FAnd, FOr, FIff, FCond, FExists, FForall, FClosure, IsFree}
-use Rattle.tv_model.specs.Heap.{Heap, Holds}
+use Rattle.tv_model.specs.Heap.{Heap}
 use Rattle.tv_model.specs.Program.{RuleForm, HeadForm, HNever, HAtom, HSame}
-use Rattle.tv_model.specs.Rules.{MeetsRule, HeadTruth, IsInHead, Signed, blank}
+use Rattle.tv_model.specs.Rules.{MeetsRule, IsInHead, IsFreeInRule, blank, head_formula}
 use Rattle.tv_model.specs.Truth.{Assignment, Truth, put}
-use Rattle.tv_concrete.specs.Assignments.{EachPut, RuleTruth, IsFreeInRule, variables_in, head_variables}
-use Rattle.tv_concrete.specs.Laws.{SameIndividuals}
-use Rattle.tv_concrete.proofs.Lists.{Contains-here, Contains-there, Contains-cases, Contains-none}
-use Rattle.tv_concrete.proofs.Renames.{Truth-local, map-renamed, put-same, put-other}
+use Rattle.tv_model.proofs.Lists.{Contains-here, Contains-there, Contains-cases, Contains-none}
+use Rattle.tv_model.proofs.Assignments.{put-same, put-other}
+use Rattle.tv_model.proofs.Heads.{free-in_head}
+use Rattle.tv_model.proofs.Truths.{Truth-local}
+use Rattle.tv_concrete.specs.Assignments.{EachPut, RuleTruth, variables_in, head_variables}
 
-pub map-same : (a b : Assignment) (vars : List ℕ) → ((v : ℕ) → Contains vars v → a v ≡ b v) → map a vars ≡ map b vars
-map-same a b [] agrees = refl
-map-same a b (v ∷ vars) agrees =
-    ap (λ y. y ∷ map a vars) (agrees v (Contains-here v vars))
-    ∙ ap (λ ys. b v ∷ ys) (map-same a b vars (λ w at. agrees w (Contains-there v w vars at)))
-
--- a head's truth depends only on its own variables
-pub HeadTruth-local : (h : Heap) (a b : Assignment) (head : HeadForm) → ((v : ℕ) → IsInHead v head → a v ≡ b v)
-    → HeadTruth h a head → HeadTruth h b head
-HeadTruth-local h a b HNever agrees t = t
-HeadTruth-local h a b (HAtom flag q vars) agrees t =
-    let Of : List ℕ → Type 0 = λ us. Signed flag (Holds h q us)
-    in subst Of (map-same a b vars agrees) t
-HeadTruth-local h a b (HSame flag v w) agrees t =
-    let Left : ℕ → Type 0 = λ u. Signed flag (u ≡ a w)
-    in let Right : ℕ → Type 0 = λ u. Signed flag (b v ≡ u)
-    in subst Right (agrees w (inr refl)) (subst Left (agrees v (inl refl)) t)
-
-pub same-individuals : (h : Heap) → SameIndividuals h h
-same-individuals h = record { members = λ u. (λ t. t, λ t. t); mark = refl }
+-- truth in one heap depends only on the free variables
+truth-agreed : (h : Heap) (a b : Assignment) (f : Form) → ((v : ℕ) → IsFree v f → a v ≡ b v) → Truth h a f ↔ Truth h b f
+truth-agreed h a b f agrees =
+    Truth-local f h h a b
+    (record { individuals = λ u. (λ t. t, λ t. t); holds = λ q m us. (λ t. t, λ t. t); marks = λ named. refl })
+    agrees
 
 -- a rule's truth depends only on its free variables
 pub RuleTruth-local : (h : Heap) (rule : RuleForm) (a b : Assignment) → ((v : ℕ) → IsFreeInRule v rule → a v ≡ b v)
     → RuleTruth h rule a → RuleTruth h rule b
 RuleTruth-local h rule a b agrees t body =
-    HeadTruth-local h a b rule.head (λ v at. agrees v (inr at))
-    (t ((Truth-local h h a b rule.body (same-individuals h) (λ q m us. (λ x. x, λ x. x)) (λ v at. agrees v (inl at))).1 body))
+    (truth-agreed h a b (head_formula rule.head) (λ v free. agrees v (inr (free-in_head v rule.head free)))).0
+    (t ((truth-agreed h a b rule.body (λ v at. agrees v (inl at))).1 body))
 
 -- what is true however individuals are put is true at an assignment of individuals, up to other variables
 pub EachPut-at : (h : Heap) (vars : List ℕ) (a b : Assignment) (P : Assignment → Type 0) → ((v : ℕ) → Contains vars v → Contains h.individuals (b v))

@@ -1,12 +1,11 @@
 -- Updates found in a list, and heaps compared.
-use Rattle.std.proofs.Common.{ℕ, ◌≡◌, ◌<◌, ◌≤◌, ◌+◌, ◌↔◌, ◌∙◌, List, [], ◌∷◌, ◌++◌, length, get_or, map, Option, Some, None, refl, sym, ap, subst, arith, suc, zero, eqb, eq-eqb, ne_eqb, All, Contains, Bool, IsTrue, true, false}
+use Rattle.std.proofs.Common.{ℕ, ◌≡◌, ◌<◌, ◌≤◌, ◌↔◌, ◌∙◌, List, [], ◌∷◌, length, get_or, map, Option, Some, None, refl, sym, ap, subst, arith, suc, zero, eqb, eq-eqb, ne_eqb, All, Contains, Bool, IsTrue, false}
 use Rattle.std.proofs.lemmas.Bool.{cond-true, cond-false, false≢true}
-use Rattle.std.proofs.lemmas.List.{get_or_default}
 use Rattle.std.proofs.lemmas.List.Elements.{All-contains}
-use Rattle.tv_concrete.proofs.TupleLists.{All-from_contains, tuple-fits, tuple-found}
+use Rattle.tv_model.proofs.Lists.{All-from_contains}
+use Rattle.tv_concrete.proofs.TupleLists.{tuple-fits, tuple-found}
 use Rattle.tv_concrete.specs.Tuples.{tuples_of}
 use Rattle.tv_model.specs.declared.program.Update.{Update}
-use Rattle.tv_model.specs.Heap.{Heap}
 use Rattle.tv_model.specs.Program.{UpdateForm, update_of}
 use Rattle.tv_model.specs.Step.{update_for}
 

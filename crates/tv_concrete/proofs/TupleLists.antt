@@ -1,37 +1,8 @@
 -- All tuples of individuals are exactly the lists of that length.
-use Rattle.std.proofs.Common.{ℕ, ◌≡◌, ◌<◌, ◌+◌, ◌↔◌, ◌⊎◌, List, [], ◌∷◌, ◌++◌, length, map, flat_map, All, Contains, IsTrue, Bool, refl, arith, subst, sym, ap, suc, zero, inl, inr, ⊎_elim}
-use Rattle.std.proofs.lemmas.List.Elements.{All-nil, All-cons, All-head, All-tail, All-contains, Contains-append_left, Contains-append_right, Contains-append_cases}
+use Rattle.std.proofs.Common.{ℕ, ◌≡◌, ◌↔◌, List, [], ◌∷◌, length, map, All, Contains, IsTrue, Bool, refl, arith, subst, ap, suc, zero, ⊎_elim}
+use Rattle.std.proofs.lemmas.List.Elements.{All-nil, All-cons, All-head, All-tail, All-contains}
+use Rattle.tv_model.proofs.Lists.{Contains-here, Contains-cases, Contains-none, Contains-map, Contains-map_back, Contains-flat_map, Contains-flat_map_back, All-from_contains}
 use Rattle.tv_concrete.specs.Tuples.{tuples_of}
-use Rattle.tv_concrete.proofs.Lists.{Contains-here, Contains-there, Contains-cases, Contains-none, Contains-map}
-
--- an element of a mapped list comes from one of the list
-pub Contains-map_back : {X Y : Type 0} (f : X → Y) (xs : List X) (y : Y) → Contains (map f xs) y → (x : X) × Contains xs x × (f x ≡ y)
-Contains-map_back f [] y at = absurd (Contains-none y at)
-Contains-map_back {X} {Y} f (x ∷ xs) y at =
-    ⊎_elim
-    (λ e. (x, Contains-here x xs, e))
-    (λ there. let rest : (z : X) × Contains xs z × (f z ≡ y) = Contains-map_back f xs y there
-    in (rest.0, Contains-there x rest.0 xs rest.1, rest.2))
-    (Contains-cases (f x) y (map f xs) at)
-
-pub Contains-flat_map_back : {X Y : Type 0} (f : X → List Y) (xs : List X) (y : Y) → Contains (flat_map f xs) y
-    → (x : X) × Contains xs x × Contains (f x) y
-Contains-flat_map_back f [] y at = absurd (Contains-none y at)
-Contains-flat_map_back {X} {Y} f (x ∷ xs) y at =
-    ⊎_elim
-    (λ here. (x, Contains-here x xs, here))
-    (λ there. let rest : (z : X) × Contains xs z × Contains (f z) y = Contains-flat_map_back f xs y there
-    in (rest.0, Contains-there x rest.0 xs rest.1, rest.2))
-    (Contains-append_cases (f x) (flat_map f xs) y at)
-
-pub Contains-flat_map : {X Y : Type 0} (f : X → List Y) (xs : List X) (x : X) (y : Y) → Contains xs x → Contains (f x) y
-    → Contains (flat_map f xs) y
-Contains-flat_map f [] x y at part = absurd (Contains-none x at)
-Contains-flat_map {X} {Y} f (z ∷ xs) x y at part =
-    ⊎_elim
-    (λ e. let In : X → Type 0 = λ w. Contains (f w) y in Contains-append_left (f z) (flat_map f xs) y (subst In (sym e) part))
-    (λ there. Contains-append_right (f z) (flat_map f xs) y (Contains-flat_map f xs x y there part))
-    (Contains-cases z x xs at)
 
 pub tuple-fits : (xs : List ℕ) (n : ℕ) (us : List ℕ) → Contains (tuples_of xs n) us → (length us ≡ n) × All (Contains xs) us
 tuple-fits xs zero us at =
@@ -55,11 +26,6 @@ tuple-found xs (suc n) (u ∷ us) long all =
     Contains-flat_map (λ tuple. map (λ w. w ∷ tuple) xs) (tuples_of xs n) us (u ∷ us)
     (tuple-found xs n us (omega (arith, long)) (All-tail (Contains xs) u us all))
     (Contains-map (λ w. w ∷ us) u xs (All-head (Contains xs) u us all))
-
-pub All-from_contains : {X : Type 0} (P : X → Type 0) (xs : List X) → ((x : X) → Contains xs x → P x) → All P xs
-All-from_contains P [] each = All-nil P
-All-from_contains P (x ∷ xs) each =
-    All-cons P x xs (each x (Contains-here x xs)) (All-from_contains P xs (λ y at. each y (Contains-there x y xs at)))
 
 -- an answer on the list of tuples is one on all tuples
 pub tuples-answer : (P : List ℕ → Type 0) (xs : List ℕ) (n : ℕ) (all : List (List ℕ)) (b : Bool) → all ≡ tuples_of xs n

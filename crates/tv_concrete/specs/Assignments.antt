@@ -1,9 +1,9 @@
 -- Rules by all choices of individuals for their variables.
-use Rattle.std.specs.Prelude.{ℕ, ◌⊎◌, List, [], ◌∷◌, ◌++◌, Contains}
-use Rattle.tv_model.specs.Form.{Form, FZero, FOne, FAtom, FIsNew, FSame, FNot, FAnd, FOr, FIff, FCond, FExists, FForall, FClosure, IsFree}
+use Rattle.std.specs.Prelude.{ℕ, List, [], ◌∷◌, ◌++◌, Contains}
+use Rattle.tv_model.specs.Form.{Form, FZero, FOne, FAtom, FIsNew, FSame, FNot, FAnd, FOr, FIff, FCond, FExists, FForall, FClosure}
 use Rattle.tv_model.specs.Heap.{Heap}
 use Rattle.tv_model.specs.Program.{RuleForm, HeadForm, HNever, HAtom, HSame}
-use Rattle.tv_model.specs.Rules.{HeadTruth, IsInHead}
+use Rattle.tv_model.specs.Rules.{head_formula}
 use Rattle.tv_model.specs.Truth.{Assignment, Truth, put}
 
 -- P holds of the assignment however individuals are put for the variables
@@ -13,10 +13,7 @@ EachPut h (v ∷ vars) a P = (u : ℕ) → Contains h.individuals u → EachPut 
 
 -- the rule is true under the assignment
 abbrev pub RuleTruth : Heap → RuleForm → Assignment → Type 0
-RuleTruth h rule a = Truth h a rule.body → HeadTruth h a rule.head
-
-abbrev pub IsFreeInRule : ℕ → RuleForm → Type 0
-IsFreeInRule v rule = IsFree v rule.body ⊎ IsInHead v rule.head
+RuleTruth h rule a = Truth h a rule.body → Truth h a (head_formula rule.head)
 
 -- the variables of the formula, but for those that are only bound
 abbrev pub variables_in : Form → List ℕ

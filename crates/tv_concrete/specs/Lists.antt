@@ -1,5 +1,5 @@
 -- What the lists of a plain heap and of plain values say.
-use Rattle.std.specs.Prelude.{ℕ, slice_index}
+use Rattle.std.specs.Prelude.{slice_index}
 use Rattle.tv_model.specs.Heap.{Heap}
 use Rattle.tv_model.specs.Truth.{Assignment}
 use Rattle.tv_concrete.specs.declared.heap_list.HeapList.{HeapList}

@@ -2,11 +2,9 @@
 
 ghost use Rattle.std.specs.Prelude.{ℕ, ◌≡◌, ◌↔◌, ◌≤◌, List, IsTrue, IfOk, All, Some, length, map, option_copied, option_map};
 ghost use Rattle.tv_model.specs.Heap.{Holds, IsTuple};
-ghost use Rattle.tv_model.specs.Program.{KCore, UpdateForm, action_of, kind_of, pred_of, program_of, update_of};
-ghost use Rattle.tv_model.specs.Step.{AgreesWithGiven, AllowsChange, update_for};
-ghost use Rattle.tv_concrete.specs.Fair.{IsFairThrough};
+ghost use Rattle.tv_model.specs.Program.{KCore, UpdateForm, action_of, kind_of, pred_of, program_of, update_of, EachPred};
+ghost use Rattle.tv_model.specs.Step.{AgreesWithGiven, AllowsChange, update_for, IsFairThrough};
 ghost use Rattle.tv_concrete.specs.Lists.{assignment_of, heap_of};
-ghost use Rattle.tv_concrete.specs.Preds.{EachPred};
 
 use crate::{
     HeapList, Tuple, Values, allows_change, find_update, is_core, meets_program, steps_through,

@@ -1,20 +1,10 @@
 //! Laws of the definitions: functions that do nothing, and whose contracts are the laws.
 
-ghost use Rattle.tv_concrete.specs.Laws.{AtLeastOneConcrete, AtMostOneConcrete, FairStepsHaveMiddles, TruthIsDecided, TruthIsLocal, TruthIsKept};
+ghost use Rattle.tv_concrete.specs.Laws.{AtLeastOneConcrete, AtMostOneConcrete, TruthIsDecided};
 
 /// A formula is true or false in a heap.
 pub fn truth_is_decided()
     ensures { TruthIsDecided }
-{}
-
-/// Truth depends only on the predicates that the formula mentions and on its free variables.
-pub fn truth_is_local()
-    ensures { TruthIsLocal }
-{}
-
-/// Renaming the individuals of a heap keeps truth.
-pub fn truth_is_kept()
-    ensures { TruthIsKept }
 {}
 
 /// Concrete heaps of a valid program that agree on the core predicates agree on all predicates.
@@ -25,9 +15,4 @@ pub fn at_most_one_is_concrete()
 /// For each heap of a valid program there is a concrete one with the same core.
 pub fn at_least_one_is_concrete()
     ensures { AtLeastOneConcrete }
-{}
-
-/// A fair step is one through some middle heap.
-pub fn fair_steps_have_middles()
-    ensures { FairStepsHaveMiddles }
 {}

@@ -20,10 +20,7 @@ mod truth_tests;
 pub use enumerate::{put_tuple, tuples};
 pub use fair::is_fair_through;
 pub use heap_list::{HeapList, Tuple, Values, same};
-pub use laws::{
-    at_least_one_is_concrete, at_most_one_is_concrete, fair_steps_have_middles, truth_is_decided,
-    truth_is_kept, truth_is_local,
-};
+pub use laws::{at_least_one_is_concrete, at_most_one_is_concrete, truth_is_decided};
 pub use properties::meets_all_properties;
 pub use rules::{meets_program, meets_rule};
 pub use shape::{is_concrete, is_heap};

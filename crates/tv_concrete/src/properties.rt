@@ -2,11 +2,10 @@
 
 ghost use Rattle.std.specs.Prelude.{◌≡◌, ◌↔◌, ◌≤◌, IsTrue, IfOk, All, length, map};
 ghost use Rattle.tv_model.specs.Form.{form_of, vars_of, FAnd, FAtom};
-ghost use Rattle.tv_model.specs.Program.{pred_of, rule_of};
+ghost use Rattle.tv_model.specs.Program.{pred_of, rule_of, EachPred};
 ghost use Rattle.tv_model.specs.Rules.{MeetsRule, declared_rule, property_rules};
 ghost use Rattle.tv_model.specs.Rules.{unique_rule, function_rule, invfunction_rule, transitive_rule, reflexive_rule, symmetric_rule};
 ghost use Rattle.tv_concrete.specs.Lists.{heap_of};
-ghost use Rattle.tv_concrete.specs.Preds.{EachPred};
 
 use crate::{HeapList, meets_rule};
 use std::alloc::{AllocError, Global};

@@ -2,11 +2,11 @@
 
 ghost use Rattle.std.specs.Prelude.{ℕ, ◌≡◌, ◌↔◌, ◌⊎◌, ◌≤◌, ◌∷◌, ◌++◌, IsTrue, IfOk, OnOk, All, Contains, length, map};
 ghost use Rattle.tv_model.specs.Form.{form_of, vars_of};
-ghost use Rattle.tv_model.specs.Truth.{put};
+ghost use Rattle.tv_model.specs.Truth.{Truth, put};
 ghost use Rattle.tv_model.specs.Program.{head_of, program_of, rule_of};
-ghost use Rattle.tv_model.specs.Rules.{HeadTruth, IsInHead, MeetsProgram, MeetsRule};
+ghost use Rattle.tv_model.specs.Rules.{IsFreeInRule, IsInHead, MeetsProgram, MeetsRule, head_formula};
 ghost use Rattle.tv_concrete.specs.Lists.{heap_of, assignment_of};
-ghost use Rattle.tv_concrete.specs.Assignments.{EachPut, IsFreeInRule, RuleTruth, variables_in, head_variables};
+ghost use Rattle.tv_concrete.specs.Assignments.{EachPut, RuleTruth, variables_in, head_variables};
 
 use crate::{HeapList, Values, holds, meets_all_properties};
 use std::alloc::{AllocError, Global};
@@ -73,7 +73,7 @@ fn meets_with(heap: &HeapList, rule: &Rule, v: Var, u: u32, rest: &[u8], values:
 }
 
 fn head_holds(heap: &HeapList, head: &Head, values: &Values) -> bool
-    ensures { IsTrue result ↔ HeadTruth (heap_of heap.now) (assignment_of values.now) (head_of head.now) }
+    ensures { IsTrue result ↔ Truth (heap_of heap.now) (assignment_of values.now) (head_formula (head_of head.now)) }
 {
     match head {
         Head::Never => false,

@@ -2,10 +2,9 @@
 
 ghost use Rattle.std.specs.Prelude.{ℕ, ◌≡◌, ◌≢◌, ◌↔◌, ◌<◌, length, slice_index, List, IsTrue, IfOk, All, AllPairs, Contains, map};
 ghost use Rattle.tv_model.specs.Heap.{Holds, IsTuple, extent};
-ghost use Rattle.tv_model.specs.Program.{kind_of, pred_of, program_of};
+ghost use Rattle.tv_model.specs.Program.{kind_of, pred_of, program_of, EachPred};
 ghost use Rattle.tv_model.specs.Rules.{IsConcrete, IsHeap, MeetsDefinition};
 ghost use Rattle.tv_concrete.specs.Lists.{heap_of};
-ghost use Rattle.tv_concrete.specs.Preds.{EachPred};
 
 use crate::{HeapList, Tuple, Values, holds, put_tuple, tuples};
 use std::alloc::{AllocError, Global};

@@ -3,12 +3,11 @@
 ghost use Rattle.std.specs.Prelude.{ℕ, ◌≡◌, ◌↔◌, ◌≤◌, ◌∷◌, [], ◌++◌, List, IsTrue, IfOk, IfSome, Some, All, Contains, length, map, option_copied, option_map, true};
 ghost use Rattle.tv_model.specs.Form.{form_of, vars_of};
 ghost use Rattle.tv_model.specs.Heap.{Holds, IsTuple};
-ghost use Rattle.tv_model.specs.Program.{KCore, PredForm, action_of, change_of, kind_of, picks_of, pre_of, pred_of, program_of, retain_of, update_of};
+ghost use Rattle.tv_model.specs.Program.{KCore, PredForm, action_of, change_of, kind_of, picks_of, pre_of, pred_of, program_of, retain_of, update_of, EachPred};
 ghost use Rattle.tv_model.specs.Rules.{IsHeap};
 ghost use Rattle.tv_model.specs.Step.{AllowsChange, FollowsUpdate, IsMiddle, Keeps, StepsThrough, update_for};
 ghost use Rattle.tv_model.specs.Truth.{Truth};
 ghost use Rattle.tv_concrete.specs.Lists.{assignment_of, heap_of};
-ghost use Rattle.tv_concrete.specs.Preds.{EachPred};
 
 use crate::{HeapList, Tuple, Values, holds, is_concrete, is_heap, put_tuple, same, tuples};
 use std::alloc::{AllocError, Global};

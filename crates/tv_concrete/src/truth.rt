@@ -2,9 +2,9 @@
 
 ghost use Rattle.std.specs.Prelude.{ℕ, ◌≡◌, ◌↔◌, IsTrue, Contains};
 ghost use Rattle.tv_model.specs.Form.{form_of};
-ghost use Rattle.tv_model.specs.Truth.{Truth, put};
+ghost use Rattle.tv_model.specs.Truth.{Truth, put, ClosureEdge};
 ghost use Rattle.tv_concrete.specs.Lists.{heap_of, assignment_of};
-ghost use Rattle.tv_concrete.specs.Reach.{ClosureEdge, Reaches};
+ghost use Rattle.tv_concrete.specs.Reach.{Reaches};
 
 use crate::{HeapList, Values};
 use tv_model::{Formula, Var};

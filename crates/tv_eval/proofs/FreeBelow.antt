@@ -2,8 +2,7 @@
 use Rattle.std.proofs.Common.{ℕ, ◌<◌, ⊎_elim, List, sym, subst}
 use Rattle.std.proofs.lemmas.List.Elements.{All-contains}
 use Rattle.tv_model.specs.Form.{Form, FZero, FOne, FAtom, FIsNew, FSame, FNot, FAnd, FOr, FIff, FCond, FExists, FForall, FClosure, IsFree}
-use Rattle.tv_model.specs.Valid.{IsVariable}
-use Rattle.tv_eval.specs.Formulas.{IsFormulaOver}
+use Rattle.tv_model.specs.Valid.{IsVariable, IsFormulaOver}
 
 pub free-below : (arities : List ℕ) (f : Form) (v : ℕ) → IsFormulaOver arities f → IsFree v f → v < 32
 free-below arities FZero v over free = absurd free

@@ -11,7 +11,7 @@ use Rattle.tv_struct.specs.StructureForm.{StructureForm, structure_of, arities_o
 use Rattle.tv_value.specs.Value.{value, best_walk}
 use Rattle.tv_value.proofs.Agreed.{only_free_variables_matter}
 use Rattle.tv_value.proofs.Rounds.{best_walk-same}
-use Rattle.tv_eval.specs.Formulas.{IsFormulaOver}
+use Rattle.tv_model.specs.Valid.{IsFormulaOver}
 use Rattle.tv_eval.specs.declared.kept.Edges.{Edges}
 use Rattle.tv_eval.specs.declared.kept.Kept.{Kept}
 use Rattle.tv_eval.specs.HoldsClosure.{HoldsClosure}

@@ -8,7 +8,8 @@ use Rattle.tv_value.proofs.Lists.{Contains-here, Contains-there}
 use Rattle.tv_struct.specs.TableForm.{HasEntry}
 use Rattle.tv_struct.specs.StructureForm.{StructureForm, table_of, arities_of}
 use Rattle.tv_eval.specs.AssignmentForm.{place_of, assignment_of, IsAssigned}
-use Rattle.tv_eval.specs.Formulas.{IsFormulaOver, HasRooms, nesting, sizes_of}
+use Rattle.tv_eval.specs.Formulas.{HasRooms, nesting, sizes_of}
+use Rattle.tv_model.specs.Valid.{IsFormulaOver}
 use Rattle.tv_eval.specs.CanEvaluate.{CanEvaluate}
 
 -- what an assigned variable stands for is an individual

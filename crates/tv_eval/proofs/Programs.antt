@@ -1,13 +1,11 @@
 -- The formulas of a program, and what a scratch that was made for it has room for.
 use Rattle.std.proofs.Common.{ℕ, ◌≡◌, ◌≤◌, ◌+◌, List, [], ◌∷◌, length, map, max, Some, Contains, refl, sym, ap, subst, ◌∙◌, arith}
-use Rattle.std.specs.Prelude.{slice_get}
-use Rattle.std.proofs.lemmas.Option.{slice_get-map}
 use Rattle.tv_model.specs.declared.program.Pred.{Pred}
 use Rattle.tv_model.specs.Form.{Form, FZero, FOne, FAtom, FIsNew, FSame, FNot, FAnd, FOr, FIff, FCond, FExists, FForall, FClosure, height}
 use Rattle.tv_model.specs.Program.{ProgramForm, PredForm, RuleForm, UpdateForm, MessageForm, ActionForm, program_of, pred_of}
-use Rattle.tv_model.specs.Valid.{IsFormula, arity_of}
+use Rattle.tv_model.specs.Valid.{IsFormulaOver}
 use Rattle.tv_struct.specs.StructureForm.{arities_of}
-use Rattle.tv_eval.specs.Formulas.{IsFormulaOver, nesting}
+use Rattle.tv_eval.specs.Formulas.{nesting}
 use Rattle.tv_eval.specs.ScratchForm.{deepest, kind_height, change_height, pre_height, retain_height, action_height, program_height}
 use Rattle.tv_eval.specs.Laws.{FormulasAreWithinHeight, MadeScratchesFit, ProgramFormulasAreOver}
 use Rattle.tv_eval.proofs.Deepest.{deepest-above}
@@ -86,27 +84,8 @@ same_arities : (preds : List Pred) → map (λ d. d.arity) (map pred_of preds) �
 same_arities [] = refl
 same_arities (pred ∷ preds) = ap (λ ns. pred.arity ∷ ns) (same_arities preds)
 
-over : (p : ProgramForm) (arities : List ℕ) → ((q n : ℕ) → arity_of p q ≡ Some n → slice_get arities q ≡ Some n)
-    → (f : Form) → IsFormula p f → IsFormulaOver arities f
-over p arities same FZero h = tt
-over p arities same FOne h = tt
-over p arities same (FAtom q vars) h = (same q (length vars) h.0, h.1)
-over p arities same (FIsNew v) h = h
-over p arities same (FSame v w) h = h
-over p arities same (FNot f) h = over p arities same f h
-over p arities same (FAnd f g) h = (over p arities same f h.0, over p arities same g h.1)
-over p arities same (FOr f g) h = (over p arities same f h.0, over p arities same g h.1)
-over p arities same (FIff f g) h = (over p arities same f h.0, over p arities same g h.1)
-over p arities same (FCond c f g) h = (over p arities same c h.0, over p arities same f h.1, over p arities same g h.2)
-over p arities same (FExists v f) h = (h.0, over p arities same f h.1)
-over p arities same (FForall v f) h = (h.0, over p arities same f h.1)
-over p arities same (FClosure from to left right f) h = (h.0, h.1, h.2, h.3, h.4, over p arities same f h.5)
-
 pub program_formulas_are_over : ProgramFormulasAreOver
 program_formulas_are_over program s f is h =
     let p : ProgramForm = program_of program
     in let arities : map (λ d. d.arity) p.preds ≡ arities_of s = same_arities program.vocab.preds ∙ sym is
-    in over p (arities_of s)
-    (λ q n e.
-    subst (λ ns. slice_get ns q ≡ Some n) arities (slice_get-map (λ (d : PredForm). d.arity) p.preds q ∙ e))
-    f h
+    in subst (λ ns. IsFormulaOver ns f) arities h

@@ -2,7 +2,8 @@
 use Rattle.std.specs.Prelude.{ℕ, List, Option}
 use Rattle.tv_model.specs.Form.{Form}
 use Rattle.tv_struct.specs.StructureForm.{StructureForm, arities_of}
-use Rattle.tv_eval.specs.Formulas.{IsFormulaOver, AreAssigned, HasRooms, nesting}
+use Rattle.tv_eval.specs.Formulas.{AreAssigned, HasRooms, nesting}
+use Rattle.tv_model.specs.Valid.{IsFormulaOver}
 
 -- the formula is one over the structure's predicates, its free variables stand for individuals, and
 -- there is room for its closures

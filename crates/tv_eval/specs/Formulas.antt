@@ -5,24 +5,6 @@ use Rattle.tv_model.specs.Form.{Form, FZero, FOne, FAtom, FIsNew, FSame, FNot, F
 use Rattle.tv_model.specs.Valid.{IsVariable}
 use Rattle.tv_eval.specs.AssignmentForm.{IsAssigned}
 
--- a formula over predicates of these arities: each atom has a predicate of its arity, variables are in
--- range, and the two own variables of a closure differ
-abbrev pub IsFormulaOver : (arities : List ℕ) → Form → Type 0
-IsFormulaOver arities FZero = Unit {0}
-IsFormulaOver arities FOne = Unit {0}
-IsFormulaOver arities (FAtom q vars) = (slice_get arities q ≡ Some (length vars)) × All IsVariable vars
-IsFormulaOver arities (FIsNew v) = IsVariable v
-IsFormulaOver arities (FSame v w) = IsVariable v × IsVariable w
-IsFormulaOver arities (FNot f) = IsFormulaOver arities f
-IsFormulaOver arities (FAnd f g) = IsFormulaOver arities f × IsFormulaOver arities g
-IsFormulaOver arities (FOr f g) = IsFormulaOver arities f × IsFormulaOver arities g
-IsFormulaOver arities (FIff f g) = IsFormulaOver arities f × IsFormulaOver arities g
-IsFormulaOver arities (FCond c f g) = IsFormulaOver arities c × IsFormulaOver arities f × IsFormulaOver arities g
-IsFormulaOver arities (FExists v f) = IsVariable v × IsFormulaOver arities f
-IsFormulaOver arities (FForall v f) = IsVariable v × IsFormulaOver arities f
-IsFormulaOver arities (FClosure from to left right f) =
-    IsVariable from × IsVariable to × IsVariable left × IsVariable right × (left ≢ right) × IsFormulaOver arities f
-
 -- the free variables of the formula stand for individuals of a structure of that size
 abbrev pub AreAssigned : (size : ℕ) → List (Option ℕ) → Form → Type 0
 AreAssigned size places f = (v : ℕ) → IsFree v f → IsAssigned size places v

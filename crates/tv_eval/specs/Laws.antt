@@ -3,9 +3,8 @@ use Rattle.std.specs.Prelude.{ℕ, ◌≡◌, ◌≤◌, ◌+◌, List, Some, Co
 use Rattle.tv_model.specs.declared.program.Program.{Program}
 use Rattle.tv_model.specs.Form.{Form, height}
 use Rattle.tv_model.specs.Program.{ProgramForm, PredForm, KDefined, RuleForm, CTo, UpdateForm, RetainForm, MessageForm, ActionForm, program_of}
-use Rattle.tv_model.specs.Valid.{IsFormula}
+use Rattle.tv_model.specs.Valid.{IsFormula, IsFormulaOver}
 use Rattle.tv_struct.specs.StructureForm.{StructureForm, IsOver, arities_of}
-use Rattle.tv_eval.specs.Formulas.{IsFormulaOver}
 use Rattle.tv_eval.specs.ScratchForm.{ScratchForm, Fits, IsMadeFor, program_height}
 
 -- no formula of the program is higher than n

@@ -2,10 +2,10 @@
 
 ghost use Rattle.std.specs.Prelude.{ℕ, ◌≡◌, ◌+◌, ◌<◌, ◌≤◌, [], ◌∷◌, length, min, IsTrue, IfOk};
 ghost use Rattle.tv_model.specs.Form.{form_of, vars_of, FAtom, IsFree};
-ghost use Rattle.tv_model.specs.Valid.{IsVariable};
+ghost use Rattle.tv_model.specs.Valid.{IsVariable, IsFormulaOver};
 ghost use Rattle.tv_struct.specs.StructureForm.{arities_of};
 ghost use Rattle.tv_eval.specs.AssignmentForm.{IsAssigned};
-ghost use Rattle.tv_eval.specs.Formulas.{IsFormulaOver, AreAssigned, nesting};
+ghost use Rattle.tv_eval.specs.Formulas.{AreAssigned, nesting};
 
 use crate::{Assignment, Scratch, eval};
 use tv_kleene::K3;

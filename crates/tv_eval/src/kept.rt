@@ -5,7 +5,7 @@ ghost use Rattle.tv_kleene.specs.declared.K3.{K3};
 ghost use Rattle.tv_model.specs.Form.{form_of, vars_of, IsFree};
 ghost use Rattle.tv_model.specs.Truth.{Assignment};
 ghost use Rattle.tv_struct.specs.StructureForm.{StructureForm, arities_of};
-ghost use Rattle.tv_eval.specs.Formulas.{IsFormulaOver};
+ghost use Rattle.tv_model.specs.Valid.{IsFormulaOver};
 ghost use Rattle.tv_eval.specs.HoldsClosure.{HoldsClosure};
 ghost use Rattle.tv_eval.specs.Keeps.{Keeps, StandsAt, HasOnlyOwn, HasPlace};
 

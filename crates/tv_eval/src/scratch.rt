@@ -6,7 +6,8 @@ ghost use Rattle.tv_model.specs.Program.{program_of};
 ghost use Rattle.tv_struct.specs.StructureForm.{structure_of, arities_of};
 ghost use Rattle.tv_value.specs.Value.{value};
 ghost use Rattle.tv_eval.specs.AssignmentForm.{assignment_of};
-ghost use Rattle.tv_eval.specs.Formulas.{IsFormulaOver, AreAssigned, sizes_of};
+ghost use Rattle.tv_eval.specs.Formulas.{AreAssigned, sizes_of};
+ghost use Rattle.tv_model.specs.Valid.{IsFormulaOver};
 ghost use Rattle.tv_eval.specs.ScratchForm.{Fits, IsMadeFor};
 ghost use Rattle.tv_eval.specs.Sound.{CoversValues};
 

@@ -16,6 +16,10 @@ smaller_of Half Half = Half
 smaller_of Half Yes = Half
 smaller_of Yes y = y
 
+-- x isn't above y in the order of truth
+abbrev pub IsAtMost : K3 → K3 → Type 0
+IsAtMost x y = smaller_of x y ≡ x
+
 -- the larger of two values in the order of truth
 abbrev pub larger_of : K3 → K3 → K3
 larger_of No y = y

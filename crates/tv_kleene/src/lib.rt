@@ -59,9 +59,11 @@ impl K3 {
 
     /// The least value that both values lie under: the common value where they are equal, else
     /// `Half`.
+    #[tactic(auto, using(crate::proofs::Lattice::join_least))]
     pub fn join(self, other: K3) -> K3
         ensures value { result ≡ join_of self other }
         ensures above { LiesUnder self result × LiesUnder other result }
+        ensures least { (k : K3) → LiesUnder self k → LiesUnder other k → LiesUnder result k }
     {
         if self == other { self } else { K3::Half }
     }

@@ -1,6 +1,6 @@
 pub mod Form
 pub mod Heap
-pub mod Path
+pub mod Laws
 pub mod Program
 pub mod Rules
 pub mod Run

@@ -1,5 +1,5 @@
 -- Programs as mathematical values: what a `Program` says, without its boxes and vectors.
-use Rattle.std.specs.Prelude.{ℕ, Bool, List, map, Option, None, Some}
+use Rattle.std.specs.Prelude.{ℕ, ◌≡◌, Bool, List, map, Option, None, Some, slice_get}
 use Rattle.tv_model.specs.Form.{Form, form_of, vars_of}
 use Rattle.tv_model.specs.declared.formula.Formula.{Formula}
 use Rattle.tv_model.specs.declared.formula.Var.{Var}
@@ -78,6 +78,10 @@ pub record ProgramForm : Type 0 where
   pub actions : List ActionForm
   pub edges : List Edge
   pub nodes : List (List ℕ)
+
+-- P holds of each predicate, by its number
+abbrev pub EachPred : List PredForm → (ℕ → PredForm → Type 0) → Type 0
+EachPred preds P = (q : ℕ) (d : PredForm) → slice_get preds q ≡ Some d → P q d
 
 abbrev pub kind_of : Kind → KindForm
 kind_of Core = KCore

@@ -1,16 +1,16 @@
 -- Heaps over a program: their shape, their defined predicates, and the rules that they meet.
-use Rattle.std.specs.Prelude.{ℕ, ◌≡◌, ◌≢◌, ◌⊎◌, ◌↔◌, Bool, true, false, List, [], ◌∷◌, ◌++◌, length, map, Some, None, All, AllPairs, Contains, slice_get, if◌then◌else◌}
+use Rattle.std.specs.Prelude.{ℕ, ◌≡◌, ◌≢◌, ◌⊎◌, ◌↔◌, Bool, true, false, List, [], ◌∷◌, ◌++◌, length, None, All, AllPairs, Contains, if◌then◌else◌}
 use Rattle.tv_model.specs.declared.program.Props.{Props}
-use Rattle.tv_model.specs.Form.{FOne, FAtom, FAnd, IsFree}
+use Rattle.tv_model.specs.Form.{Form, FZero, FOne, FAtom, FSame, FNot, FAnd, IsFree}
 use Rattle.tv_model.specs.Heap.{Heap, Holds, IsTuple, extent}
-use Rattle.tv_model.specs.Program.{ProgramForm, PredForm, KindForm, KCore, KDefined, HeadForm, HNever, HAtom, HSame, RuleForm}
+use Rattle.tv_model.specs.Program.{ProgramForm, EachPred, KindForm, KCore, KDefined, HeadForm, HNever, HAtom, HSame, RuleForm}
 use Rattle.tv_model.specs.Truth.{Assignment, Truth, put_all}
 
 -- a heap over the program's vocabulary, with no individual marked as fresh
 pub record IsHeap (p : ProgramForm) (h : Heap) : Type 0 where
   pub individuals_differ : AllPairs ◌≢◌ h.individuals
   pub one_extent_each : length h.extents ≡ length p.preds
-  pub tuples_fit : (q : ℕ) (d : PredForm) → slice_get p.preds q ≡ Some d → All (IsTuple h d.arity) (extent h q)
+  pub tuples_fit : EachPred p.preds (λ q d. All (IsTuple h d.arity) (extent h q))
   pub no_mark : h.fresh ≡ None
 
 -- the assignment of nothing in particular: in a valid program, what it gives to a variable that isn't put is
@@ -25,20 +25,18 @@ MeetsDefinition h q (KDefined vars body) tuple = Holds h q tuple ↔ Truth h (pu
 
 -- each defined predicate holds exactly of the tuples of individuals of which its definition is true
 abbrev pub IsConcrete : ProgramForm → Heap → Type 0
-IsConcrete p h =
-    (q : ℕ) (d : PredForm) → slice_get p.preds q ≡ Some d
-    → (tuple : List ℕ) → IsTuple h d.arity tuple → MeetsDefinition h q d.kind tuple
+IsConcrete p h = EachPred p.preds (λ q d. (tuple : List ℕ) → IsTuple h d.arity tuple → MeetsDefinition h q d.kind tuple)
 
--- the fact where the flag is true, else its negation
-abbrev pub Signed : Bool → Type 0 → Type 0
-Signed true fact = fact
-Signed false fact = ¬ fact
+-- the formula where the flag is true, else its negation
+abbrev pub signed_form : Bool → Form → Form
+signed_form true f = f
+signed_form false f = FNot f
 
--- the head of a rule is true under the assignment
-abbrev pub HeadTruth : Heap → Assignment → HeadForm → Type 0
-HeadTruth h a HNever = ⊥
-HeadTruth h a (HAtom flag pred vars) = Signed flag (Holds h pred (map a vars))
-HeadTruth h a (HSame flag v w) = Signed flag (a v ≡ a w)
+-- the head of a rule as a formula
+abbrev pub head_formula : HeadForm → Form
+head_formula HNever = FZero
+head_formula (HAtom flag pred vars) = signed_form flag (FAtom pred vars)
+head_formula (HSame flag v w) = signed_form flag (FSame v w)
 
 -- the variable v stands in the head
 abbrev pub IsInHead : ℕ → HeadForm → Type 0
@@ -46,13 +44,18 @@ IsInHead v HNever = ⊥
 IsInHead v (HAtom flag pred vars) = Contains vars v
 IsInHead v (HSame flag w u) = (v ≡ w) ⊎ (v ≡ u)
 
--- the assignment gives individuals of the heap to the variables that are free in the rule
-abbrev pub IsOfIndividuals : Heap → RuleForm → Assignment → Type 0
-IsOfIndividuals h rule a = (v : ℕ) → IsFree v rule.body ⊎ IsInHead v rule.head → Contains h.individuals (a v)
+-- the variable v is free in the rule: in its body or in its head
+abbrev pub IsFreeInRule : ℕ → RuleForm → Type 0
+IsFreeInRule v rule = IsFree v rule.body ⊎ IsInHead v rule.head
+
+-- the assignment gives individuals to the free variables of the rule
+abbrev pub IsOfIndividuals : (individuals : List ℕ) → RuleForm → Assignment → Type 0
+IsOfIndividuals individuals rule a = (v : ℕ) → IsFreeInRule v rule → Contains individuals (a v)
 
 -- wherever the body is true, so is the head
 abbrev pub MeetsRule : Heap → RuleForm → Type 0
-MeetsRule h rule = (a : Assignment) → IsOfIndividuals h rule a → Truth h a rule.body → HeadTruth h a rule.head
+MeetsRule h rule =
+    (a : Assignment) → IsOfIndividuals h.individuals rule a → Truth h a rule.body → Truth h a (head_formula rule.head)
 
 -- the rules that the properties of the predicate p stand for, over the variables 0, 1 and 2
 abbrev pub unique_rule : ℕ → RuleForm
@@ -90,4 +93,4 @@ property_rules p props =
 -- the heap meets every declared rule and the rule of every property
 pub record MeetsProgram (p : ProgramForm) (h : Heap) : Type 0 where
   pub rules : All (MeetsRule h) p.rules
-  pub properties : (q : ℕ) (d : PredForm) → slice_get p.preds q ≡ Some d → All (MeetsRule h) (property_rules q d.props)
+  pub properties : EachPred p.preds (λ q d. All (MeetsRule h) (property_rules q d.props))

@@ -4,7 +4,7 @@ use Rattle.tv_model.specs.declared.program.Edge.{Edge}
 use Rattle.tv_model.specs.declared.program.Mode.{Mode}
 use Rattle.tv_model.specs.declared.program.Mode.TheVariants.{Given, Recompute}
 use Rattle.tv_model.specs.Heap.{Heap, Holds, IsTuple}
-use Rattle.tv_model.specs.Program.{ProgramForm, PredForm, KCore, ActionForm, RetainForm, UpdateForm, ChangeForm, CFree, CTo}
+use Rattle.tv_model.specs.Program.{ProgramForm, EachPred, KCore, ActionForm, RetainForm, UpdateForm, ChangeForm, CFree, CTo}
 use Rattle.tv_model.specs.Rules.{IsHeap, IsConcrete, MeetsProgram}
 use Rattle.tv_model.specs.Truth.{Assignment, Truth, put, put_all}
 
@@ -43,8 +43,8 @@ pub record StepsThrough (p : ProgramForm) (action : ActionForm) (picked : Assign
   pub precondition : IfSome action.pre (Truth old picked)
   pub is_middle : IsMiddle action.fresh old middle
   pub keeps : (u : ℕ) → Contains new.individuals u ↔ (Contains middle.individuals u × Keeps middle picked action.retain u)
-  pub core : (q : ℕ) (d : PredForm) → slice_get p.preds q ≡ Some d → d.kind ≡ KCore
-      → (tuple : List ℕ) → IsTuple new d.arity tuple → FollowsUpdate q middle picked (update_for q action.updates) tuple new
+  pub core : EachPred p.preds (λ q d. d.kind ≡ KCore → (tuple : List ℕ) → IsTuple new d.arity tuple
+      → FollowsUpdate q middle picked (update_for q action.updates) tuple new)
   pub new_heap : IsHeap p new
   pub concrete : IsConcrete p new
 
@@ -53,18 +53,19 @@ pub record StepsThrough (p : ProgramForm) (action : ActionForm) (picked : Assign
 abbrev pub AgreesWithGiven : ProgramForm → Mode → ActionForm → Assignment → (middle new : Heap) → Type 0
 AgreesWithGiven p Recompute action picked middle new = Unit {0}
 AgreesWithGiven p Given action picked middle new =
-    (q : ℕ) (d : PredForm) → slice_get p.preds q ≡ Some d → ¬ (d.kind ≡ KCore)
-    → (w : UpdateForm) → update_for q action.updates ≡ Some w
-    → (tuple : List ℕ) → IsTuple new d.arity tuple → AllowsChange middle picked w.vars w.change tuple (Holds new q tuple)
+    EachPred p.preds (λ q d. ¬ (d.kind ≡ KCore) → (w : UpdateForm) → update_for q action.updates ≡ Some w
+    → (tuple : List ℕ) → IsTuple new d.arity tuple → AllowsChange middle picked w.vars w.change tuple (Holds new q tuple))
 
--- a step by the action and the picked individuals that is fair: both heaps meet the program's rules, and
--- the given updates agree
-pub record FairlySteps (p : ProgramForm) (mode : Mode) (action : ActionForm) (picked : Assignment) (old new : Heap) : Type 0 where
-  pub middle : Heap
+-- a fair step through the middle heap: both ends meet the program's rules, and the given updates agree
+pub record IsFairThrough (p : ProgramForm) (mode : Mode) (action : ActionForm) (picked : Assignment) (old middle new : Heap) : Type 0 where
   pub step : StepsThrough p action picked old middle new
   pub given : AgreesWithGiven p mode action picked middle new
   pub old_meets : MeetsProgram p old
   pub new_meets : MeetsProgram p new
+
+-- a fair step by the action and the picked individuals, through some middle heap
+abbrev pub FairlySteps : ProgramForm → Mode → ActionForm → (picked : Assignment) → (old new : Heap) → Type 0
+FairlySteps p mode action picked old new = (middle : Heap) × IsFairThrough p mode action picked old middle new
 
 -- a fair step along an edge of the program, by some picked individuals
 pub record FairStep (p : ProgramForm) (mode : Mode) (edge : Edge) (old new : Heap) : Type 0 where

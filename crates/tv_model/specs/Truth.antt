@@ -41,3 +41,8 @@ Truth h a (FClosure from to left right f) =
     (stops : List ℕ) × IsWalk
     (λ u w. Contains h.individuals u × Contains h.individuals w × Truth h (put (put a left u) right w) f)
     (a from) stops (a to)
+
+-- an edge of a closure: a pair of individuals that makes the body true
+abbrev pub ClosureEdge : Heap → Assignment → (left right : ℕ) → Form → ℕ → ℕ → Type 0
+ClosureEdge h a left right f u w =
+    Contains h.individuals u × Contains h.individuals w × Truth h (put (put a left u) right w) f

@@ -1,37 +1,44 @@
 -- Which programs are valid: what the front end promises of a program that it answers.
 use Rattle.std.specs.Prelude.{ℕ, ◌≡◌, ◌≢◌, ◌≤◌, ◌<◌, ◌⊎◌, Bool, not, ◌==◌, IsTrue, List, [], ◌∷◌, ◌++◌, length, map, filter, Option, Some, None, All, AllPairs, Contains, slice_get, codes}
-use Rattle.std.specs.Option.{option_map}
 use Rattle.tv_model.specs.declared.program.Edge.{Edge}
 use Rattle.tv_model.specs.declared.program.Props.{Props}
 use Rattle.tv_model.specs.Form.{Form, FZero, FOne, FAtom, FIsNew, FSame, FNot, FAnd, FOr, FIff, FCond, FExists, FForall, FClosure, IsFree, Mentions}
-use Rattle.tv_model.specs.Program.{ProgramForm, PredForm, KindForm, KCore, KDefined, HeadForm, HNever, HAtom, HSame, RuleForm, ChangeForm, CFree, CTo, UpdateForm, RetainForm, MessageForm, ActionForm}
+use Rattle.tv_model.specs.Program.{ProgramForm, PredForm, EachPred, KindForm, KCore, KDefined, HeadForm, HNever, HAtom, HSame, RuleForm, ChangeForm, CFree, CTo, UpdateForm, RetainForm, MessageForm, ActionForm}
 use Rattle.tv_model.specs.Spelling.{IsName, IsText, IsWord}
 
 -- a variable's number
 abbrev pub IsVariable : ℕ → Type 0
 IsVariable v = v < 32
 
+-- the arities of the program's predicates, by number
+abbrev pub program_arities : ProgramForm → List ℕ
+program_arities p = map (λ d. d.arity) p.preds
+
 -- the arity of a predicate of the vocabulary
 abbrev pub arity_of : ProgramForm → ℕ → Option ℕ
-arity_of p q = option_map (λ d. d.arity) (slice_get p.preds q)
+arity_of p q = slice_get (program_arities p) q
 
--- a formula over the vocabulary: each atom has a predicate of its arity, variables are in range, and the
--- two own variables of a closure differ
+-- a formula over predicates of these arities: each atom has a predicate of its arity, variables are in
+-- range, and the two own variables of a closure differ
+abbrev pub IsFormulaOver : (arities : List ℕ) → Form → Type 0
+IsFormulaOver arities FZero = Unit {0}
+IsFormulaOver arities FOne = Unit {0}
+IsFormulaOver arities (FAtom q vars) = (slice_get arities q ≡ Some (length vars)) × All IsVariable vars
+IsFormulaOver arities (FIsNew v) = IsVariable v
+IsFormulaOver arities (FSame v w) = IsVariable v × IsVariable w
+IsFormulaOver arities (FNot f) = IsFormulaOver arities f
+IsFormulaOver arities (FAnd f g) = IsFormulaOver arities f × IsFormulaOver arities g
+IsFormulaOver arities (FOr f g) = IsFormulaOver arities f × IsFormulaOver arities g
+IsFormulaOver arities (FIff f g) = IsFormulaOver arities f × IsFormulaOver arities g
+IsFormulaOver arities (FCond c f g) = IsFormulaOver arities c × IsFormulaOver arities f × IsFormulaOver arities g
+IsFormulaOver arities (FExists v f) = IsVariable v × IsFormulaOver arities f
+IsFormulaOver arities (FForall v f) = IsVariable v × IsFormulaOver arities f
+IsFormulaOver arities (FClosure from to left right f) =
+    IsVariable from × IsVariable to × IsVariable left × IsVariable right × (left ≢ right) × IsFormulaOver arities f
+
+-- a formula over the program's vocabulary
 abbrev pub IsFormula : ProgramForm → Form → Type 0
-IsFormula p FZero = Unit {0}
-IsFormula p FOne = Unit {0}
-IsFormula p (FAtom q vars) = (arity_of p q ≡ Some (length vars)) × All IsVariable vars
-IsFormula p (FIsNew v) = IsVariable v
-IsFormula p (FSame v w) = IsVariable v × IsVariable w
-IsFormula p (FNot f) = IsFormula p f
-IsFormula p (FAnd f g) = IsFormula p f × IsFormula p g
-IsFormula p (FOr f g) = IsFormula p f × IsFormula p g
-IsFormula p (FIff f g) = IsFormula p f × IsFormula p g
-IsFormula p (FCond c f g) = IsFormula p c × IsFormula p f × IsFormula p g
-IsFormula p (FExists v f) = IsVariable v × IsFormula p f
-IsFormula p (FForall v f) = IsVariable v × IsFormula p f
-IsFormula p (FClosure from to left right f) =
-    IsVariable from × IsVariable to × IsVariable left × IsVariable right × (left ≢ right) × IsFormula p f
+IsFormula p f = IsFormulaOver (program_arities p) f
 
 -- the formula speaks of the fresh individual
 abbrev pub NamesNew : Form → Type 0
@@ -161,9 +168,8 @@ IsEdge p edge =
 
 -- no definition rests on itself, directly or through others: there are ranks that fall along mentions
 pub record IsRank (p : ProgramForm) (rank : ℕ → ℕ) : Type 0 where
-  pub falls : (q : ℕ) (d : PredForm) → slice_get p.preds q ≡ Some d
-      → (vars : List ℕ) (body : Form) → d.kind ≡ KDefined vars body
-      → (r : ℕ) → Mentions r body → rank r < rank q
+  pub falls : EachPred p.preds (λ q d. (vars : List ℕ) (body : Form) → d.kind ≡ KDefined vars body
+      → (r : ℕ) → Mentions r body → rank r < rank q)
 
 pub record IsValid (p : ProgramForm) : Type 0 where
   pub preds : All (IsPred p) p.preds

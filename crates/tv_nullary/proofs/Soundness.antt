@@ -7,7 +7,7 @@ use Rattle.std.proofs.lemmas.List.Elements.{All-contains}
 use Rattle.std.proofs.lemmas.Option.{get_or_from_slice_get}
 use Rattle.tv_kleene.specs.declared.K3.{K3}
 use Rattle.tv_kleene.specs.declared.K3.TheVariants.{Half}
-use Rattle.tv_model.proofs.PathLaws.{PathBrings-covered}
+use Rattle.tv_model.proofs.Runs.{brought-covered}
 use Rattle.tv_model.specs.Heap.{Heap, Holds}
 use Rattle.tv_model.specs.Program.{ProgramForm, PredForm, ActionForm, UpdateForm, ChangeForm, CFree, CTo}
 use Rattle.tv_model.specs.Step.{IsMiddle, StepsThrough, FairStep, FollowsUpdate, AllowsChange, update_for}
@@ -139,7 +139,7 @@ edge_agrees program nullary mode edge old new fair state agrees =
     in subst P (get_or_from_slice_get program.actions edge.action action action fair.its_action)
     (nullary.actions edge.action action (within_from_get program.actions edge.action action fair.its_action)))
     in let P : Option ActionForm → Type 0 = λ o. Agrees program new (state_after (updates_of o) state)
-    in subst P (sym fair.its_action) (step_agrees program nullary action shape fair.picked old fair.fair.middle new fair.fair.step state agrees)
+    in subst P (sym fair.its_action) (step_agrees program nullary action shape fair.picked old fair.fair.0 new fair.fair.1.step state agrees)
 
 -- a list without elements is empty
 empty : (xs : List ℕ) → ((u : ℕ) → Contains xs u → ⊥) → xs ≡ []
@@ -163,7 +163,7 @@ step_adds_none count program action shape picked old middle new step none = empt
 edge_embeds : (program : ProgramForm) → IsNullaryProgram program → (mode : Mode) (edge : Edge) (old new : Heap) → FairStep program mode edge old new
     → (state : List K3) → Embeds program old state → Embeds program new (result_along program edge state)
 edge_embeds program nullary mode edge old new fair state embeds = record {
-  no_individuals = step_adds_none (length program.preds) program fair.action shape fair.picked old fair.fair.middle new fair.fair.step embeds.no_individuals;
+  no_individuals = step_adds_none (length program.preds) program fair.action shape fair.picked old fair.fair.0 new fair.fair.1.step embeds.no_individuals;
   agrees = edge_agrees program nullary mode edge old new fair state embeds.agrees;
 }
   where
@@ -190,7 +190,7 @@ carries_over : (StandsTo : Heap → List K3 → Type 0) (program : ProgramForm) 
     → StandsTo new (result_along program edge state))
     → CarriesOver StandsTo program initial listing
 carries_over StandsTo program initial listing exact carries mode start stages run starts node h brings =
-    PathBrings-covered program.edges (FairStep program mode) (IsCovered StandsTo listing) closed 0 start stages run.path (begun starts) node h brings
+    brought-covered program mode (IsCovered StandsTo listing) closed 0 start stages run.goes_on (begun starts) node h brings
   where
     begun : Any (StandsTo start) initial → IsCovered StandsTo listing 0 start
     begun (k, state, within, at, stands) =

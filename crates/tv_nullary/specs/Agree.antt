@@ -4,9 +4,8 @@ use Rattle.std.specs.List.{slice_index_or}
 use Rattle.tv_kleene.specs.declared.K3.{K3}
 use Rattle.tv_kleene.specs.declared.K3.TheVariants.{No, Half, Yes}
 use Rattle.tv_model.specs.Heap.{Heap, Holds}
-use Rattle.tv_model.specs.Path.{Stage}
 use Rattle.tv_model.specs.Program.{ProgramForm}
-use Rattle.tv_model.specs.Run.{IsRun, Brings}
+use Rattle.tv_model.specs.Run.{IsRun, Stage, Brings}
 use Rattle.tv_model.specs.declared.program.Mode.{Mode}
 use Rattle.tv_nullary.specs.Reach.{states_at}
 
@@ -31,7 +30,7 @@ pub record Embeds (program : ProgramForm) (h : Heap) (state : List K3) : Type 0 
 -- stands so to a state that is listed there
 abbrev pub CarriesOver : (StandsTo : Heap → List K3 → Type 0) → ProgramForm → (initial : List (List K3)) → (listing : List (List (List K3))) → Type 0
 CarriesOver StandsTo program initial listing =
-    (mode : Mode) (start : Heap) (stages : List (Stage Heap)) → IsRun program mode start stages
+    (mode : Mode) (start : Heap) (stages : List Stage) → IsRun program mode start stages
     → Any (StandsTo start) initial
     → (node : ℕ) (h : Heap) → Brings start stages node h → Any (StandsTo h) (states_at listing node)
 

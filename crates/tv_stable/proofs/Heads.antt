@@ -4,37 +4,14 @@ use Rattle.std.proofs.lemmas.Bool.{cases_eq}
 use Rattle.tv_kleene.specs.declared.K3.{K3}
 use Rattle.tv_kleene.specs.declared.K3.TheVariants.{No, Half, Yes}
 use Rattle.tv_kleene.specs.Kleene.{LiesUnder, negation_of}
-use Rattle.tv_model.specs.Form.{Form, IsFree}
-use Rattle.tv_model.specs.Heap.{Heap}
-use Rattle.tv_model.specs.Program.{HeadForm, HNever, HAtom, HSame}
-use Rattle.tv_model.specs.Rules.{HeadTruth, IsInHead}
-use Rattle.tv_model.specs.Truth.{Assignment, Truth}
-use Rattle.tv_model.specs.Valid.{NamesNew}
+use Rattle.tv_model.specs.Form.{Form}
+use Rattle.tv_model.specs.Program.{HeadForm}
+use Rattle.tv_model.specs.Rules.{signed_form, head_formula}
+use Rattle.tv_model.specs.Truth.{Assignment}
 use Rattle.tv_frame.specs.LogicalStructure.{LogicalStructure}
 use Rattle.tv_value.specs.Value.{value, same_value}
 use Rattle.tv_value.proofs.Entries.{own_value, same-here, same-apart}
-use Rattle.tv_stable.specs.Stable.{signed_form, head_formula, IsHeadMet}
-
-pub free-in_head : (v : ℕ) (head : HeadForm) → IsFree v (head_formula head) → IsInHead v head
-free-in_head v HNever free = free
-free-in_head v (HAtom true pred vars) free = free
-free-in_head v (HAtom false pred vars) free = free
-free-in_head v (HSame true w u) free = free
-free-in_head v (HSame false w u) free = free
-
-pub head-unmarked : (head : HeadForm) → ¬ NamesNew (head_formula head)
-head-unmarked HNever n = n
-head-unmarked (HAtom true pred vars) n = n
-head-unmarked (HAtom false pred vars) n = n
-head-unmarked (HSame true w u) n = n
-head-unmarked (HSame false w u) n = n
-
-pub head-truth : (h : Heap) (a : Assignment) (head : HeadForm) → Truth h a (head_formula head) ↔ HeadTruth h a head
-head-truth h a HNever = (λ t. t, λ t. t)
-head-truth h a (HAtom true pred vars) = (λ t. t, λ t. t)
-head-truth h a (HAtom false pred vars) = (λ t. t, λ t. t)
-head-truth h a (HSame true w u) = (λ t. t, λ t. t)
-head-truth h a (HSame false w u) = (λ t. t, λ t. t)
+use Rattle.tv_stable.specs.Stable.{IsHeadMet}
 
 -- the value of an atom that makes a signed head Yes
 abbrev pub wanted : Bool → K3

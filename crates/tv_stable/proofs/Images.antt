@@ -6,8 +6,9 @@ use Rattle.tv_kleene.specs.declared.K3.TheVariants.{No, Yes}
 use Rattle.tv_kleene.specs.Kleene.{LiesUnder, negation_of}
 use Rattle.tv_model.specs.Form.{FAtom, FSame}
 use Rattle.tv_model.specs.Program.{HeadForm, HNever, HAtom, HSame, RuleForm}
-use Rattle.tv_model.specs.Rules.{IsInHead}
+use Rattle.tv_model.specs.Rules.{IsInHead, signed_form, head_formula, IsFreeInRule}
 use Rattle.tv_model.specs.Truth.{Assignment, put}
+use Rattle.tv_model.proofs.Heads.{free-in_head, head-unmarked}
 use Rattle.tv_frame.specs.LogicalStructure.{LogicalStructure}
 use Rattle.tv_frame.specs.Embedding.{Embeds}
 use Rattle.tv_value.specs.Value.{value, same_value}
@@ -16,9 +17,9 @@ use Rattle.tv_value.proofs.Entries.{own_value, same-here, same-apart}
 use Rattle.tv_value.proofs.Matched.{put-same, put-other}
 use Rattle.tv_value.proofs.Embedded.{embedding_theorem, embeds-for}
 use Rattle.tv_value.proofs.Preimages.{IsPreimage, preimages, preimages-put, definite_values_come_down}
-use Rattle.tv_stable.specs.Stable.{signed_form, head_formula, IsHeadMet, IsFreeInRule, IsStableUnder}
+use Rattle.tv_stable.specs.Stable.{IsHeadMet, IsStableUnder}
 use Rattle.tv_stable.specs.Laws.{IsImage, IsShort, IsPlainRule, ImagesAreStable}
-use Rattle.tv_stable.proofs.Heads.{free-in_head, head-unmarked, wanted, wanted-definite, signed-wanted, signed-half, not_no-above, met-value, same-yes, same-no, same-half}
+use Rattle.tv_stable.proofs.Heads.{wanted, wanted-definite, signed-wanted, signed-half, not_no-above, met-value, same-yes, same-no, same-half}
 
 -- the variables that matter stand under a for preimages of what they stand for under b
 abbrev pub Takes : (ℕ → Type 0) → (ℕ → ℕ) → LogicalStructure → Assignment → Assignment → Type 0

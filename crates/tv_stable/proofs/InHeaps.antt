@@ -4,14 +4,14 @@ use Rattle.std.proofs.lemmas.Bool.{false≢true}
 use Rattle.std.proofs.lemmas.List.Elements.{All-weaker}
 use Rattle.tv_model.specs.Heap.{Heap}
 use Rattle.tv_model.specs.Program.{RuleForm}
-use Rattle.tv_model.specs.Rules.{MeetsRule}
+use Rattle.tv_model.specs.Rules.{MeetsRule, head_formula}
+use Rattle.tv_model.proofs.Heads.{free-in_head}
 use Rattle.tv_frame.specs.LogicalStructure.{heap_structure}
 use Rattle.tv_value.specs.Laws.{TellsTruth}
 use Rattle.tv_value.proofs.InHeaps.{heaps_tell_truth}
-use Rattle.tv_stable.specs.Stable.{IsStableUnder, head_formula}
+use Rattle.tv_stable.specs.Stable.{IsStableUnder}
 use Rattle.tv_stable.specs.Laws.{StableHeapsMeetRules, SharpeningLosesNoHeap}
 use Rattle.tv_stable.proofs.Joined.{sharpening_loses_no_stable}
-use Rattle.tv_stable.proofs.Heads.{free-in_head, head-truth}
 
 meets-from_stable : (h : Heap) (rule : RuleForm) → IsStableUnder (heap_structure h) rule → MeetsRule h rule
 meets-from_stable h rule stable a inside true_body =
@@ -19,7 +19,7 @@ meets-from_stable h rule stable a inside true_body =
     in let head : TellsTruth h a (head_formula rule.head)
     = heaps_tell_truth h a (head_formula rule.head) (λ v free. inside v (inr (free-in_head v rule.head free)))
     in ⊎_elim
-    (λ e. (head-truth h a rule.head).0 (head.yes.0 e))
+    (λ e. head.yes.0 e)
     (λ may. absurd (false≢true may.summary))
     (stable a inside (body.yes.1 true_body))
 
@@ -28,7 +28,7 @@ stable-from_meets h rule meets a inside held =
     let body : TellsTruth h a rule.body = heaps_tell_truth h a rule.body (λ v free. inside v (inl free))
     in let head : TellsTruth h a (head_formula rule.head)
     = heaps_tell_truth h a (head_formula rule.head) (λ v free. inside v (inr (free-in_head v rule.head free)))
-    in inl (head.yes.1 ((head-truth h a rule.head).1 (meets a inside (body.yes.0 held))))
+    in inl (head.yes.1 (meets a inside (body.yes.0 held)))
 
 pub stable_heaps_meet_rules : StableHeapsMeetRules
 stable_heaps_meet_rules h rules = (

@@ -5,6 +5,7 @@ use Rattle.tv_kleene.specs.declared.K3.TheVariants.{No, Half, Yes}
 use Rattle.tv_kleene.specs.Kleene.{LiesUnder, join_of, negation_of}
 use Rattle.tv_model.specs.Form.{Form, FAtom, FSame}
 use Rattle.tv_model.specs.Program.{HeadForm, HNever, HAtom, HSame, RuleForm}
+use Rattle.tv_model.specs.Rules.{signed_form, IsFreeInRule}
 use Rattle.tv_model.specs.Truth.{Assignment}
 use Rattle.tv_frame.specs.LogicalStructure.{LogicalStructure}
 use Rattle.tv_frame.specs.Embedding.{IsBelow}
@@ -13,7 +14,7 @@ use Rattle.tv_value.specs.Value.{value, same_value}
 use Rattle.tv_value.proofs.Thresholds.{Yes-below}
 use Rattle.tv_value.proofs.Entries.{own_value, same-here, same-apart}
 use Rattle.tv_value.proofs.Embedded.{values_are_monotone}
-use Rattle.tv_stable.specs.Stable.{signed_form, IsHeadMet, IsFreeInRule, IsStableUnder}
+use Rattle.tv_stable.specs.Stable.{IsHeadMet, IsStableUnder}
 use Rattle.tv_stable.specs.Laws.{joined, IsPlainRule, JoinsAreStable}
 use Rattle.tv_stable.proofs.Heads.{wanted, signed-wanted, signed-half, same-yes, same-no}
 

@@ -1,25 +1,13 @@
 -- Stable structures: those that meet rules as far as a three-valued structure can (compare Sagiv, Reps
 -- and Wilhelm 2002, section 6.4).
-use Rattle.std.specs.Prelude.{ℕ, ◌≡◌, ◌⊎◌, Bool, true, false, IsTrue, List, [], ◌∷◌, All, Contains}
+use Rattle.std.specs.Prelude.{ℕ, ◌≡◌, ◌⊎◌, IsTrue, List, [], ◌∷◌, All}
 use Rattle.tv_kleene.specs.declared.K3.TheVariants.{Half, Yes}
-use Rattle.tv_model.specs.Form.{Form, FZero, FAtom, FSame, FNot, IsFree}
 use Rattle.tv_model.specs.Program.{HeadForm, HNever, HAtom, HSame, RuleForm}
-use Rattle.tv_model.specs.Rules.{IsInHead}
+use Rattle.tv_model.specs.Rules.{head_formula, IsOfIndividuals}
 use Rattle.tv_model.specs.Truth.{Assignment}
 use Rattle.tv_frame.specs.LogicalStructure.{LogicalStructure}
 use Rattle.tv_frame.specs.Embedding.{IsBelow}
 use Rattle.tv_value.specs.Value.{value}
-
--- the formula where the flag is true, else its negation
-abbrev pub signed_form : Bool → Form → Form
-signed_form true f = f
-signed_form false f = FNot f
-
--- the head as a formula
-abbrev pub head_formula : HeadForm → Form
-head_formula HNever = FZero
-head_formula (HAtom flag pred vars) = signed_form flag (FAtom pred vars)
-head_formula (HSame flag v w) = signed_form flag (FSame v w)
 
 -- both places of the head are the variable v
 abbrev pub IsTwice : ℕ → HeadForm → Type 0
@@ -39,16 +27,11 @@ pub record MayStayHalf (s : LogicalStructure) (a : Assignment) (head : HeadForm)
 abbrev pub IsHeadMet : LogicalStructure → Assignment → HeadForm → Type 0
 IsHeadMet s a head = (value s a (head_formula head) ≡ Yes) ⊎ MayStayHalf s a head
 
--- the variable v stands free in the rule
-abbrev pub IsFreeInRule : ℕ → RuleForm → Type 0
-IsFreeInRule v rule = IsFree v rule.body ⊎ IsInHead v rule.head
-
 -- wherever the body is Yes, under an assignment of individuals to the rule's free variables, the head
 -- is met
 abbrev pub IsStableUnder : LogicalStructure → RuleForm → Type 0
 IsStableUnder s rule =
-    (a : Assignment) → ((v : ℕ) → IsFreeInRule v rule → Contains s.individuals (a v))
-    → value s a rule.body ≡ Yes → IsHeadMet s a rule.head
+    (a : Assignment) → IsOfIndividuals s.individuals rule a → value s a rule.body ≡ Yes → IsHeadMet s a rule.head
 
 -- the structure is stable under the rules
 abbrev pub IsStable : List RuleForm → LogicalStructure → Type 0

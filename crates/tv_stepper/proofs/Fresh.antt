@@ -1,21 +1,21 @@
 -- A further individual that is dropped may be any number that stands nowhere.
-use Rattle.std.proofs.Common.{ℕ, ◌≡◌, ◌≢◌, ◌⊎◌, ◌↔◌, List, [], ◌∷◌, ◌++◌, map, Option, Some, None, Bool, true, false, All, Contains, IsTrue, inl, inr, ⊎_elim, refl, sym, ap, subst, ◌∙◌, length, get_or, ◌<◌, ◌≤◌, ◌+◌, zero, suc, slice_index, Result, Ok, Err, IfOk, arith}
+use Rattle.std.proofs.Common.{ℕ, ◌≡◌, ◌≢◌, ◌⊎◌, ◌↔◌, List, [], ◌∷◌, ◌++◌, map, Option, Some, None, Bool, true, false, All, Contains, IsTrue, inl, inr, ⊎_elim, refl, sym, ap, subst, ◌∙◌, length, ◌<◌, ◌≤◌, ◌+◌, zero, suc, slice_index, Result, Ok, Err, IfOk, arith}
 use Rattle.std.proofs.lemmas.Bool.{cases_eq, cases_lt, false≢true}
-use Rattle.std.proofs.lemmas.List.Elements.{All-contains, All-head, All-tail, Contains-append_left, Contains-append_right, Contains-append_cases}
+use Rattle.std.proofs.lemmas.List.Elements.{All-head, All-tail, Contains-append_left, Contains-append_right}
 use Rattle.tv_model.specs.declared.program.Mode.{Mode}
 use Rattle.tv_model.specs.declared.program.Mode.TheVariants.{Given, Recompute}
 use Rattle.tv_model.specs.Form.{Form}
-use Rattle.tv_model.specs.Heap.{Heap, Holds, IsTuple}
-use Rattle.tv_model.specs.Program.{ProgramForm, PredForm, KCore, ActionForm, RetainForm, UpdateForm, ChangeForm, CFree, CTo}
+use Rattle.tv_model.specs.Heap.{Heap, Holds}
+use Rattle.tv_model.specs.Program.{ProgramForm, ActionForm, RetainForm, UpdateForm, ChangeForm, CFree, CTo}
 use Rattle.tv_model.specs.Rules.{IsHeap}
-use Rattle.tv_model.specs.Step.{with_new, IsMiddle, Keeps, update_for, AllowsChange, FollowsUpdate, StepsThrough, AgreesWithGiven, FairlySteps}
+use Rattle.tv_model.specs.Step.{with_new, IsMiddle, Keeps, update_for, AllowsChange, FollowsUpdate, StepsThrough, AgreesWithGiven, FairlySteps, IsFairThrough}
 use Rattle.tv_model.specs.Truth.{Assignment, Truth, put, put_all}
-use Rattle.tv_concrete.specs.Fair.{IsFairThrough}
-use Rattle.tv_concrete.specs.Laws.{Renames}
+use Rattle.tv_model.proofs.Assignments.{put-same, put-other, put-holds, put-matched, map-renamed}
+use Rattle.tv_model.proofs.Decided.{Contains-decided}
+use Rattle.tv_model.proofs.Lists.{pushed-cases, pushed-old, pushed-last}
+use Rattle.tv_model.proofs.Programs.{holds-individuals}
+use Rattle.tv_model.proofs.Truths.{Matched, Truth-matched}
 use Rattle.tv_stepper.specs.Candidates.{Suffice}
-use Rattle.tv_concrete.proofs.Concretes.{pred-cases, holds-nothing, holds-fits}
-use Rattle.tv_concrete.proofs.Lists.{Contains-here, Contains-there, Contains-cases, Contains-none}
-use Rattle.tv_concrete.proofs.Renames.{put-same, put-other, put-renamed, Truth-renamed}
 
 -- u and m are exchanged
 abbrev pub swap : ℕ → ℕ → ℕ → ℕ
@@ -50,22 +50,6 @@ differs xs u w out at e = let In : ℕ → Type 0 = λ x. Contains xs x in out (
 pub fixed : (xs : List ℕ) (u m w : ℕ) → ¬ Contains xs u → ¬ Contains xs m → Contains xs w → swap u m w ≡ w
 fixed xs u m w nu nm at = swap-rest u m w (differs xs u w nu at) (differs xs m w nm at)
 
--- what a list with one more element has
-pub pushed-cases : (xs : List ℕ) (x w : ℕ) → Contains (xs ++ x ∷ []) w → Contains xs w ⊎ (w ≡ x)
-pushed-cases xs x w at =
-    ⊎_elim
-    (λ old. inl old)
-    (λ last. ⊎_elim (λ e. inr (sym e)) (λ none. absurd (Contains-none w none)) (Contains-cases x w [] last))
-    (Contains-append_cases xs (x ∷ []) w at)
-
-pub pushed-old : (xs : List ℕ) (x w : ℕ) → Contains xs w → Contains (xs ++ x ∷ []) w
-pushed-old xs x w at = Contains-append_left xs (x ∷ []) w at
-
-pub pushed-last : (xs : List ℕ) (x w : ℕ) → w ≡ x → Contains (xs ++ x ∷ []) w
-pushed-last xs x w e =
-    let In : ℕ → Type 0 = λ y. Contains (xs ++ x ∷ []) y
-    in subst In (sym e) (Contains-append_right xs (x ∷ []) x (Contains-here x []))
-
 pub swapped-there : (xs : List ℕ) (u m w : ℕ) → ¬ Contains xs u → ¬ Contains xs m
     → Contains (xs ++ u ∷ []) w → Contains (xs ++ m ∷ []) (swap u m w)
 swapped-there xs u m w nu nm at =
@@ -86,19 +70,6 @@ swapped-back xs u m w nu nm at =
 some-same : (x w : ℕ) → Some x ≡ Some w → x ≡ w
 some-same x w e = cc e
 
--- the swap renames the one middle heap to the other
-pub swap-renames : (old : Heap) (u m : ℕ) → ¬ Contains old.individuals u → ¬ Contains old.individuals m
-    → Renames (swap u m) (with_new old u) (with_new old m)
-swap-renames old u m nu nm = record {
-  injective = λ x w e. sym (swap-twice u m x) ∙ ap (swap u m) e ∙ swap-twice u m w;
-  members = λ w. (swapped-there old.individuals u m w nu nm, swapped-back old.individuals u m w nu nm);
-  onto = λ w at. (swap u m w, sym (swap-twice u m w));
-  mark = λ w. (
-    λ t. ap (λ (y : ℕ). Some y) (sym (swap-first u m w (sym (some-same u w t)))),
-    λ t. ap (λ (y : ℕ). Some y) (sym (sym (swap-twice u m w) ∙ swap-second u m (swap u m w) (sym (some-same m (swap u m w) t)))),
-  );
-}
-
 pub fixed-tuple : (xs : List ℕ) (u m : ℕ) → ¬ Contains xs u → ¬ Contains xs m → (us : List ℕ) → All (Contains xs) us → map (swap u m) us ≡ us
 fixed-tuple xs u m nu nm [] all = refl
 fixed-tuple xs u m nu nm (w ∷ us) all =
@@ -110,14 +81,6 @@ pub swap-tuple_twice : (u m : ℕ) (us : List ℕ) → map (swap u m) (map (swap
 swap-tuple_twice u m [] = refl
 swap-tuple_twice u m (w ∷ us) =
     ap (λ y. y ∷ map (swap u m) (map (swap u m) us)) (swap-twice u m w) ∙ ap (λ ys. w ∷ ys) (swap-tuple_twice u m us)
-
--- what a predicate holds of is individuals of the heap
-pub holds-individuals : (p : ProgramForm) (h : Heap) → IsHeap p h → (q : ℕ) (us : List ℕ) → Holds h q us → All (Contains h.individuals) us
-holds-individuals p h is q us at =
-    ⊎_elim
-    (λ found. (holds-fits p h is q found.0 found.1 us at).1)
-    (λ none. absurd (holds-nothing p h is q us none at))
-    (pred-cases p q)
 
 pub holds-alike : (p : ProgramForm) (old : Heap) → IsHeap p old → (u m : ℕ) → ¬ Contains old.individuals u → ¬ Contains old.individuals m
     → (q : ℕ) (us : List ℕ) → Holds (with_new old u) q us ↔ Holds (with_new old m) q (map (swap u m) us)
@@ -135,7 +98,7 @@ abbrev pub IsFixed : (ℕ → ℕ) → Assignment → Type 0
 IsFixed r a = (v : ℕ) → a v ≡ r (a v)
 
 pub put-fixed : (r : ℕ → ℕ) (a : Assignment) (v u : ℕ) → IsFixed r a → u ≡ r u → IsFixed r (put a v u)
-put-fixed r a v u is e x = put-renamed (λ y. Unit {0}) r a a v u u e (λ y s. is y) x tt
+put-fixed r a v u is e = put-holds (λ x y. y ≡ r y) a v u e (λ x ne. is x)
 
 pub put_all-fixed : (r : ℕ → ℕ) (vars us : List ℕ) (a : Assignment) → IsFixed r a → map r us ≡ us → IsFixed r (put_all a vars us)
 put_all-fixed r [] us a is e = is
@@ -152,12 +115,42 @@ pub record Exchange (p : ProgramForm) (old new : Heap) (picked : Assignment) (u 
   pub m_not_new : ¬ Contains new.individuals m
   pub picked_stays : IsFixed (swap u m) picked
 
+-- the swap matches the individuals of the one middle heap with those of the other
+pub swap-matches : (p : ProgramForm) (old new : Heap) (picked : Assignment) (u m : ℕ) → Exchange p old new picked u m
+    → Matched (λ q. Unit {0}) (Unit {0}) (λ x y. y ≡ swap u m x) (with_new old u) (with_new old m)
+swap-matches p old new picked u m x = record {
+  there = λ w at. (swap u m w, swapped-there old.individuals u m w x.u_not_old x.m_not_old at, refl);
+  back = λ w at. (
+    swap u m w,
+    swapped-back old.individuals u m (swap u m w) x.u_not_old x.m_not_old
+        (subst (Contains (old.individuals ++ m ∷ [])) (sym (swap-twice u m w)) at),
+    sym (swap-twice u m w),
+  );
+  members = λ w y e. (
+    λ at. subst (Contains (old.individuals ++ m ∷ [])) (sym e)
+        (swapped-there old.individuals u m w x.u_not_old x.m_not_old at),
+    λ at. swapped-back old.individuals u m w x.u_not_old x.m_not_old
+        (subst (Contains (old.individuals ++ m ∷ [])) e at),
+  );
+  atoms = λ q s vars a b agrees.
+      subst (λ us. Holds old q (map a vars) ↔ Holds old q us) (sym (map-renamed (swap u m) a b vars agrees))
+      (holds-alike p old x.is u m x.u_not_old x.m_not_old q (map a vars));
+  same = λ v w y z e d. (
+    λ s. e ∙ ap (swap u m) s ∙ sym d,
+    λ s. sym (swap-twice u m v) ∙ ap (swap u m) (sym e ∙ s ∙ d) ∙ swap-twice u m w,
+  );
+  marks = λ s w y e. (
+    λ t. ap (λ (z : ℕ). Some z) (sym (e ∙ swap-first u m w (sym (some-same u w t)))),
+    λ t. ap (λ (z : ℕ). Some z) (sym (sym (swap-twice u m w) ∙ swap-second u m (swap u m w) (sym e ∙ sym (some-same m y t)))),
+  );
+}
+
 pub exchanged-truth : (p : ProgramForm) (old new : Heap) (picked : Assignment) (u m : ℕ) → Exchange p old new picked u m
     → (a b : Assignment) (f : Form) → ((v : ℕ) → b v ≡ swap u m (a v))
     → Truth (with_new old u) a f ↔ Truth (with_new old m) b f
 exchanged-truth p old new picked u m x a b f agrees =
-    Truth-renamed (swap u m) (with_new old u) (with_new old m) (swap-renames old u m x.u_not_old x.m_not_old) a b f
-    (λ q _ us. holds-alike p old x.is u m x.u_not_old x.m_not_old q us) (λ v _. agrees v)
+    Truth-matched (λ q. Unit {0}) (Unit {0}) (λ y z. z ≡ swap u m y) (with_new old u) (with_new old m)
+    (swap-matches p old new picked u m x) a b f (λ q s. tt) (λ s. tt) (λ v s. agrees v)
 
 pub exchanged-keeps : (p : ProgramForm) (old new : Heap) (picked : Assignment) (u m : ℕ) → Exchange p old new picked u m
     → (retain : Option RetainForm) (w : ℕ)
@@ -165,7 +158,8 @@ pub exchanged-keeps : (p : ProgramForm) (old new : Heap) (picked : Assignment) (
 exchanged-keeps p old new picked u m x None w = (λ t. t, λ t. t)
 exchanged-keeps p old new picked u m x (Some retain) w =
     exchanged-truth p old new picked u m x (put picked retain.var w) (put picked retain.var (swap u m w)) retain.keep
-    (λ v. put-renamed (λ y. Unit {0}) (swap u m) picked picked retain.var w (swap u m w) refl (λ y s. x.picked_stays y) v tt)
+    (λ v. put-matched (λ y. Unit {0}) (λ y z. z ≡ swap u m y) picked picked retain.var w (swap u m w) refl
+    (λ y s. x.picked_stays y) v tt)
 
 pub exchanged-change : (p : ProgramForm) (old new : Heap) (picked : Assignment) (u m : ℕ) → Exchange p old new picked u m
     → (vars : List ℕ) (change : ChangeForm) (us : List ℕ) (holds : Type 0) → All (Contains new.individuals) us
@@ -269,17 +263,6 @@ values-all xs places n long so_far v =
     (λ past. subst In (sym (read-past places v (omega (arith, past, long)))) so_far.0)
     (cases_lt v n)
 
-pub contains-decided : (xs : List ℕ) (u : ℕ) → Contains xs u ⊎ (¬ Contains xs u)
-contains-decided [] u = inr (λ at. Contains-none u at)
-contains-decided (x ∷ xs) u =
-    ⊎_elim
-    (λ e. let In : ℕ → Type 0 = λ y. Contains (x ∷ xs) y in inl (subst In e (Contains-here x xs)))
-    (λ ne. ⊎_elim
-    (λ at. inl (Contains-there x u xs at))
-    (λ out. inr (λ at. ⊎_elim ne out (Contains-cases x u xs at)))
-    (contains-decided xs u))
-    (cases_eq x u)
-
 pub middle-of : (fresh : Bool) (old middle : Heap) → fresh ≡ true → IsMiddle fresh old middle
     → (u : ℕ) × (¬ Contains old.individuals u) × (middle ≡ with_new old u)
 middle-of true old middle e is = is
@@ -289,24 +272,14 @@ pub middle-is_old : (fresh : Bool) (old middle : Heap) → fresh ≡ false → I
 middle-is_old true old middle e is = absurd (false≢true (sym e))
 middle-is_old false old middle e is = is
 
-pub fair-from : (p : ProgramForm) (mode : Mode) (action : ActionForm) (picked : Assignment) (old middle new : Heap)
-    → IsFairThrough p mode action picked old middle new → FairlySteps p mode action picked old new
-fair-from p mode action picked old middle new fair =
-    record { middle = middle; step = fair.step; given = fair.given; old_meets = fair.old_meets; new_meets = fair.new_meets }
-
-pub fair-through : (p : ProgramForm) (mode : Mode) (action : ActionForm) (picked : Assignment) (old new : Heap)
-    → (fair : FairlySteps p mode action picked old new) → IsFairThrough p mode action picked old fair.middle new
-fair-through p mode action picked old new fair =
-    record { step = fair.step; given = fair.given; old_meets = fair.old_meets; new_meets = fair.new_meets }
-
 -- without a further individual the old heap is the middle
 pub fair-by_old : (p : ProgramForm) (mode : Mode) (action : ActionForm) (picked : Assignment) (old new : Heap) → action.fresh ≡ false
     → IsFairThrough p mode action picked old old new ↔ FairlySteps p mode action picked old new
 fair-by_old p mode action picked old new fresh =
     let Through : Heap → Type 0 = λ middle. IsFairThrough p mode action picked old middle new
     in (
-      λ t. fair-from p mode action picked old old new t,
-      λ fair. subst Through (middle-is_old action.fresh old fair.middle fresh fair.step.is_middle) (fair-through p mode action picked old new fair),
+      λ t. (old, t),
+      λ fair. subst Through (middle-is_old action.fresh old fair.0 fresh fair.1.step.is_middle) fair.1,
     )
 
 -- with one, some number to try makes the middle
@@ -314,7 +287,7 @@ pub fair-by_candidates : (p : ProgramForm) (mode : Mode) (action : ActionForm) (
     → action.fresh ≡ true → Suffice us old new picked
     → ((u : ℕ) × Contains us u × IsFairThrough p mode action picked old (with_new old u) new) ↔ FairlySteps p mode action picked old new
 fair-by_candidates p mode action picked old new us fresh enough =
-    (λ some. fair-from p mode action picked old (with_new old some.0) new some.2, λ fair. found fair)
+    (λ some. (with_new old some.0, some.2), λ fair. found fair)
   where
     Through : Heap → Type 0
     Through middle = IsFairThrough p mode action picked old middle new
@@ -335,8 +308,8 @@ fair-by_candidates p mode action picked old new us fresh enough =
 
     found : FairlySteps p mode action picked old new → (w : ℕ) × Contains us w × Through (with_new old w)
     found fair =
-        let middle : (u : ℕ) × (¬ Contains old.individuals u) × (fair.middle ≡ with_new old u) = middle-of action.fresh old fair.middle fresh fair.step.is_middle
-        in at-one middle.0 middle.1 (subst Through middle.2 (fair-through p mode action picked old new fair)) (contains-decided us middle.0)
+        let middle : (u : ℕ) × (¬ Contains old.individuals u) × (fair.0 ≡ with_new old u) = middle-of action.fresh old fair.0 fresh fair.1.step.is_middle
+        in at-one middle.0 middle.1 (subst Through middle.2 fair.1) (Contains-decided us middle.0)
 
 pub old-answer : {E : Type 0} (p : ProgramForm) (mode : Mode) (action : ActionForm) (picked : Assignment) (old new : Heap) → action.fresh ≡ false
     → (r : Result Bool E) → IfOk r (λ b. IsTrue b ↔ IsFairThrough p mode action picked old old new)

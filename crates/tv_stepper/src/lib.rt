@@ -4,8 +4,7 @@
 ghost use Rattle.std.specs.Prelude.{ℕ, ◌≡◌, ◌≢◌, ◌↔◌, ◌≤◌, ◌∷◌, [], ◌++◌, IsTrue, IfOk, Contains, Some, length, map, true};
 ghost use Rattle.tv_model.specs.Heap.{Heap};
 ghost use Rattle.tv_model.specs.Program.{action_of, program_of};
-ghost use Rattle.tv_model.specs.Step.{FairlySteps, with_new};
-ghost use Rattle.tv_concrete.specs.Fair.{IsFairThrough};
+ghost use Rattle.tv_model.specs.Step.{FairlySteps, with_new, IsFairThrough};
 ghost use Rattle.tv_concrete.specs.Lists.{assignment_of, heap_of};
 ghost use Rattle.tv_stepper.specs.Candidates.{Suffice};
 

@@ -1,8 +1,7 @@
 -- None of the candidates so far fits.
 use Rattle.std.proofs.Common.{ℕ, ◌<◌, get_or}
 use Rattle.tv_model.specs.Program.{action_of, program_of}
-use Rattle.tv_model.specs.Step.{with_new}
-use Rattle.tv_concrete.specs.Fair.{IsFairThrough}
+use Rattle.tv_model.specs.Step.{with_new, IsFairThrough}
 use Rattle.tv_concrete.specs.Lists.{assignment_of, heap_of}
 use Rattle.tv_stepper.proofs.fits_some.Given as goal
 

@@ -181,16 +181,16 @@ symbols_given ds known h = gathered ds [] known (λ i j d less lt. absurd (omega
 
 -- ---- arities
 
-arity_by : (name : List ℕ) (s : SymbolForm) (y : PredForm) (ys : List PredForm) (k : KnownForm) (b : Bool) (o : Option KnownForm) → y.arity ≡ s.arity → ((j : KnownForm) → o ≡ Some j → option_map (λ d. d.arity) (slice_get ys j.pred) ≡ Some j.arity) → cond b (Some (record { pred = 0; arity = s.arity })) (option_map behind_one o) ≡ Some k → option_map (λ d. d.arity) (slice_get (y ∷ ys) k.pred) ≡ Some k.arity
+arity_by : (name : List ℕ) (s : SymbolForm) (y : PredForm) (ys : List PredForm) (k : KnownForm) (b : Bool) (o : Option KnownForm) → y.arity ≡ s.arity → ((j : KnownForm) → o ≡ Some j → slice_get (map (λ d. d.arity) ys) j.pred ≡ Some j.arity) → cond b (Some (record { pred = 0; arity = s.arity })) (option_map behind_one o) ≡ Some k → slice_get (map (λ d. d.arity) (y ∷ ys)) k.pred ≡ Some k.arity
 arity_by name s y ys k true o same rest h =
-    subst (λ (j : KnownForm). option_map (λ (d : PredForm). d.arity) (slice_get (y ∷ ys) j.pred) ≡ Some j.arity) (some_is (record { pred = 0; arity = s.arity }) k h) (ap Some same)
+    subst (λ (j : KnownForm). slice_get (map (λ (d : PredForm). d.arity) (y ∷ ys)) j.pred ≡ Some j.arity) (some_is (record { pred = 0; arity = s.arity }) k h) (ap Some same)
 arity_by name s y ys k false None same rest h = absurd (not_none k h)
 arity_by name s y ys k false (Some j) same rest h =
     let g : j.pred + 1 ≡ suc j.pred = omega arith in
-    subst (λ (i : KnownForm). option_map (λ (d : PredForm). d.arity) (slice_get (y ∷ ys) i.pred) ≡ Some i.arity) (some_is (behind_one j) k h)
-    (ap (λ (n : ℕ). option_map (λ (d : PredForm). d.arity) (slice_get (y ∷ ys) n)) g ∙ rest j refl)
+    subst (λ (i : KnownForm). slice_get (map (λ (d : PredForm). d.arity) (y ∷ ys)) i.pred ≡ Some i.arity) (some_is (behind_one j) k h)
+    (ap (λ (n : ℕ). slice_get (map (λ (d : PredForm). d.arity) (y ∷ ys)) n) g ∙ rest j refl)
 
-pub arities_given : (ds : List tree.PredForm) (preds : List PredForm) → AllZip (λ d y. y.arity ≡ length d.params) ds preds → (name : List ℕ) (k : KnownForm) → symbol_of name (map symbol_for ds) ≡ Some k → option_map (λ d. d.arity) (slice_get preds k.pred) ≡ Some k.arity
+pub arities_given : (ds : List tree.PredForm) (preds : List PredForm) → AllZip (λ d y. y.arity ≡ length d.params) ds preds → (name : List ℕ) (k : KnownForm) → symbol_of name (map symbol_for ds) ≡ Some k → slice_get (map (λ d. d.arity) preds) k.pred ≡ Some k.arity
 arities_given [] [] z name k h = absurd (not_none k h)
 arities_given [] (y ∷ ys) z name k h = absurd z
 arities_given (d ∷ ds) [] z name k h = absurd z

@@ -4,6 +4,7 @@ use Rattle.std.specs.Prelude.{All, AllPairs, Contains, slice_get}
 use Rattle.std.specs.Option.{option_map}
 use Rattle.std.proofs.lemmas.Bool.{eqb-true, eq-eqb, true≢false, false≢true, and_parts, or_parts, not-false}
 use Rattle.std.proofs.lemmas.List.{map_push}
+use Rattle.std.proofs.lemmas.Option.{slice_get-map}
 use Rattle.std.proofs.lemmas.List.Elements.{All-nil, All-push, Contains-append_cases}
 use Rattle.std.proofs.lemmas.List.Quantifiers.{all_pairs_push}
 use Rattle.tv_tree.specs.Forms as tree
@@ -81,7 +82,7 @@ changed p symbols act picking done known params body w are arity is same h =
         | inr m ↦ vars.after.held v (is.held v m)
       ];
     } in
-    let d = of_arity (slice_get p.preds known.pred) known.arity arity in
+    let d = of_arity (slice_get p.preds known.pred) known.arity (sym (slice_get-map (λ (e : PredForm). e.arity) p.preds known.pred) ∙ arity) in
     let as_long : length params ≡ known.arity = eqb-true (length params) known.arity (not-false (length params == known.arity) (not_refused (not (length params == known.arity)) ArityWrong a.x a.gave)) in
     let to = change_by p symbols act d.0 e.x.0 picking.picks body e.x.1 (is_half body && core) g.x
     (λ k. core_kind d.0.kind (ap is_core_pred (sym d.1) ∙ (and_parts (is_half body) core k).1)) st same g.gave in

@@ -1,5 +1,5 @@
 -- One more shorter tuple gives one more part.
-use Rattle.std.proofs.Common.{ℕ, ◌≡◌, List, ◌∷◌, ◌++◌, map, ap, sym, ◌∙◌, flat_map, take}
+use Rattle.std.proofs.Common.{ℕ, List, ◌∷◌, ◌++◌, map, ap, sym, ◌∙◌}
 use Rattle.tv_concrete.proofs.Lists.{flat_map-take_more}
 use Rattle.tv_concrete.proofs.enumerate.longer.Goals as goal
 

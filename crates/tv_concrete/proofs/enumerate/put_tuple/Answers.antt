@@ -1,6 +1,5 @@
 -- Two variables read the first two individuals.
-use Rattle.std.proofs.Common.{ℕ, ◌≡◌, sym, ◌∙◌, refl}
-use Rattle.tv_model.specs.Truth.{Assignment, put, put_all}
+use Rattle.std.proofs.Common.{refl}
 use Rattle.tv_concrete.specs.Lists.{assignment_of}
 use Rattle.tv_concrete.proofs.Lists.{put_all-two}
 use Rattle.tv_concrete.proofs.enumerate.put_tuple.Goals as goal

@@ -1,7 +1,7 @@
 -- The updates of each predicate so far agree.
-use Rattle.std.proofs.Common.{ℕ, ◌≡◌, ◌↔◌, List, Bool, IsTrue, Some, map, subst}
+use Rattle.std.proofs.Common.{ℕ, ◌≡◌, List, Some, map}
 use Rattle.tv_model.specs.Heap.{Holds, IsTuple}
-use Rattle.tv_model.specs.Program.{KCore, PredForm, UpdateForm, pred_of, update_of}
+use Rattle.tv_model.specs.Program.{KCore, UpdateForm, update_of}
 use Rattle.tv_model.specs.Step.{AllowsChange, update_for}
 use Rattle.tv_concrete.specs.Lists.{assignment_of, heap_of}
 use Rattle.tv_concrete.proofs.EachPreds.{FirstPreds}

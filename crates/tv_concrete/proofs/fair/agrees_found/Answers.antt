@@ -1,5 +1,5 @@
 -- Only the update that was found is asked.
-use Rattle.std.proofs.Common.{ℕ, List, All, Option}
+use Rattle.std.proofs.Common.{All}
 use Rattle.tv_model.specs.Heap.{Holds}
 use Rattle.tv_model.specs.Program.{UpdateForm, update_of}
 use Rattle.tv_model.specs.Step.{AllowsChange}

@@ -3,10 +3,9 @@ use Rattle.std.proofs.Common.{ℕ, ◌≡◌, ◌↔◌, List, IsTrue, IfOk, Som
 use Rattle.tv_model.specs.declared.program.Pred.{Pred}
 use Rattle.tv_model.specs.declared.program.Update.{Update}
 use Rattle.tv_model.specs.Heap.{Holds, IsTuple}
-use Rattle.tv_model.specs.Program.{KCore, UpdateForm, pred_of, update_of}
+use Rattle.tv_model.specs.Program.{KCore, UpdateForm, pred_of, update_of, EachPred}
 use Rattle.tv_model.specs.Step.{AllowsChange, update_for}
 use Rattle.tv_concrete.specs.Lists.{assignment_of, heap_of}
-use Rattle.tv_concrete.specs.Preds.{EachPred}
 use Rattle.tv_concrete.proofs.fair.agrees_with_given.Goals as goal
 
 pub returns-in-Given : goal.returns-in-Given

@@ -1,6 +1,4 @@
 -- Each tuple so far is as the change says.
-use Rattle.std.proofs.Common.{sym, get_or}
-use Rattle.std.proofs.lemmas.List.{get_or_default}
 use Rattle.tv_concrete.proofs.Every.{every-more, every-false, every-true}
 use Rattle.tv_model.specs.Heap.{Holds}
 use Rattle.tv_model.specs.Program.{update_of}

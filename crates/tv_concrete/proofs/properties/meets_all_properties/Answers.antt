@@ -1,5 +1,5 @@
 -- The properties of each predicate so far are met.
-use Rattle.std.proofs.Common.{ℕ, ◌↔◌, All, Bool, IsTrue, subst}
+use Rattle.std.proofs.Common.{◌↔◌, All, Bool, IsTrue, subst}
 use Rattle.tv_model.specs.Rules.{MeetsRule, property_rules}
 use Rattle.tv_concrete.specs.Lists.{heap_of}
 use Rattle.tv_concrete.proofs.EachPreds.{preds-more, preds-false, preds-true}

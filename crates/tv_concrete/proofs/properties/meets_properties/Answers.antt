@@ -2,7 +2,7 @@
 use Rattle.std.proofs.Common.{All}
 use Rattle.tv_model.specs.Rules.{MeetsRule, declared_rule, property_rules, unique_rule, function_rule, invfunction_rule, transitive_rule, reflexive_rule, symmetric_rule}
 use Rattle.tv_concrete.specs.Lists.{heap_of}
-use Rattle.tv_concrete.proofs.PropertyLemmas.{MeetsEach, each-of_all, all-of_each, part-fails, part-holds, result-answer}
+use Rattle.tv_concrete.proofs.PropertyLemmas.{each-of_all, all-of_each, part-fails, part-holds, result-answer}
 use Rattle.tv_concrete.proofs.properties.meets_properties.Goals as goal
 
 pub returns-then-not-branch : goal.returns-then-not-branch

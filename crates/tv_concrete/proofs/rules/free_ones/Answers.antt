@@ -1,8 +1,6 @@
 -- One more variable, and all of them.
-use Rattle.std.proofs.Common.{ℕ, ◌≡◌, ◌↔◌, ◌∙◌, List, Contains, take, subst, take_all, get_or}
-use Rattle.std.proofs.lemmas.List.{get_or_default}
 use Rattle.tv_model.specs.Program.{rule_of}
-use Rattle.tv_concrete.specs.Assignments.{IsFreeInRule}
+use Rattle.tv_model.specs.Rules.{IsFreeInRule}
 use Rattle.tv_concrete.proofs.RuleLemmas.{free-more, free-all}
 use Rattle.tv_concrete.proofs.rules.free_ones.Goals as goal
 

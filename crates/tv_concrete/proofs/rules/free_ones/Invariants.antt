@@ -1,7 +1,7 @@
 -- The list has the free ones of the variables so far.
 use Rattle.std.proofs.Common.{ℕ, ◌↔◌, Contains, take}
 use Rattle.tv_model.specs.Program.{rule_of}
-use Rattle.tv_concrete.specs.Assignments.{IsFreeInRule}
+use Rattle.tv_model.specs.Rules.{IsFreeInRule}
 use Rattle.tv_concrete.proofs.rules.free_ones.Given as goal
 
 abbrev pub invariant-loop-v : goal.invariant-loop-v

@@ -1,11 +1,10 @@
 -- The program's rules and those of its properties.
-use Rattle.std.proofs.Common.{◌↔◌, All, Bool, IsTrue, IfOk, List, map, subst, ap, sym, false}
+use Rattle.std.proofs.Common.{◌↔◌, All, IsTrue, IfOk, List, map, subst}
 use Rattle.tv_model.specs.declared.program.Pred.{Pred}
 use Rattle.tv_model.specs.declared.program.Rule.{Rule}
-use Rattle.tv_model.specs.Program.{pred_of, rule_of, program_of}
+use Rattle.tv_model.specs.Program.{pred_of, rule_of, program_of, EachPred}
 use Rattle.tv_model.specs.Rules.{MeetsProgram, MeetsRule, property_rules}
 use Rattle.tv_concrete.specs.Lists.{heap_of}
-use Rattle.tv_concrete.specs.Preds.{EachPred}
 use Rattle.tv_concrete.proofs.PropertyLemmas.{part-fails, part-holds, result-answer}
 use Rattle.tv_concrete.proofs.rules.meets_program.Goals as goal
 

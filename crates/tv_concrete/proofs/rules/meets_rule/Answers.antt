@@ -4,7 +4,7 @@ use Rattle.tv_model.specs.Program.{rule_of}
 use Rattle.tv_model.specs.Rules.{blank}
 use Rattle.tv_model.specs.Truth.{Assignment}
 use Rattle.tv_concrete.specs.Assignments.{EachPut, RuleTruth}
-use Rattle.tv_concrete.specs.Lists.{heap_of, assignment_of}
+use Rattle.tv_concrete.specs.Lists.{heap_of}
 use Rattle.tv_concrete.proofs.RuleLemmas.{rule-answer}
 use Rattle.tv_concrete.proofs.rules.meets_rule.Goals as goal
 

@@ -1,5 +1,5 @@
 -- Each rule so far is met.
-use Rattle.std.proofs.Common.{◌↔◌, All, Bool, IsTrue, subst, map, List, true, false}
+use Rattle.std.proofs.Common.{◌↔◌, Bool, IsTrue, subst, true, false}
 use Rattle.tv_model.specs.declared.program.Rule.{Rule}
 use Rattle.tv_model.specs.Program.{rule_of}
 use Rattle.tv_model.specs.Rules.{MeetsRule}

@@ -1,6 +1,5 @@
 -- Each rule so far is met.
 use Rattle.std.specs.List.{AllWithin}
-use Rattle.std.proofs.Common.{map}
 use Rattle.tv_model.specs.declared.program.Rule.{Rule}
 use Rattle.tv_model.specs.Program.{rule_of}
 use Rattle.tv_model.specs.Rules.{MeetsRule}

@@ -1,8 +1,8 @@
 -- The list of all variables is the one that the lemma asks for.
-use Rattle.std.proofs.Common.{◌≡◌, ◌∙◌, ◌++◌, ap, List, ℕ}
+use Rattle.std.proofs.Common.{◌≡◌, ◌∙◌, ◌++◌, ap}
 use Rattle.tv_model.specs.Program.{rule_of}
 use Rattle.tv_concrete.specs.Assignments.{variables_in, head_variables}
-use Rattle.tv_concrete.proofs.RuleLemmas.{free-of_all, free-of_result}
+use Rattle.tv_concrete.proofs.RuleLemmas.{free-of_result}
 use Rattle.tv_concrete.proofs.rules.rule_variables.Goals as goal
 
 pub returns : goal.returns

@@ -1,6 +1,4 @@
 -- Each tuple so far fits.
-use Rattle.std.proofs.Common.{sym, get_or}
-use Rattle.std.proofs.lemmas.List.{get_or_default}
 use Rattle.tv_concrete.proofs.Every.{every-more, every-false, every-true}
 use Rattle.tv_model.specs.Heap.{IsTuple}
 use Rattle.tv_concrete.specs.Lists.{heap_of}

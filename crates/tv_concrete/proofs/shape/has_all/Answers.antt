@@ -1,5 +1,5 @@
 -- Each element so far is an individual.
-use Rattle.std.proofs.Common.{sym, get_or}
+use Rattle.std.proofs.Common.{get_or}
 use Rattle.std.proofs.lemmas.List.{get_or_default}
 use Rattle.tv_concrete.proofs.Every.{every-more, every-false, every-true}
 use Rattle.std.proofs.Common.{Contains}

@@ -1,11 +1,10 @@
 -- Each predicate so far is as defined.
-use Rattle.std.proofs.Common.{ℕ, ◌≡◌, ◌↔◌, List, Bool, IsTrue, map, false, true, subst}
+use Rattle.std.proofs.Common.{ℕ, ◌↔◌, List, Bool, IsTrue, map, false, true, subst}
 use Rattle.tv_model.specs.declared.program.Pred.{Pred}
 use Rattle.tv_model.specs.Heap.{IsTuple}
-use Rattle.tv_model.specs.Program.{PredForm, pred_of}
+use Rattle.tv_model.specs.Program.{PredForm, pred_of, EachPred}
 use Rattle.tv_model.specs.Rules.{MeetsDefinition}
 use Rattle.tv_concrete.specs.Lists.{heap_of}
-use Rattle.tv_concrete.specs.Preds.{EachPred}
 use Rattle.tv_concrete.proofs.EachPreds.{preds-false, preds-true}
 use Rattle.tv_concrete.proofs.shape.is_concrete.Goals as goal
 

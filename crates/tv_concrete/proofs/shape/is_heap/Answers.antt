@@ -3,9 +3,8 @@ use Rattle.std.proofs.Common.{List, All, ◌↔◌, IsTrue, false, subst, map}
 use Rattle.std.proofs.lemmas.Bool.{false≢true}
 use Rattle.tv_model.specs.declared.program.Pred.{Pred}
 use Rattle.tv_model.specs.Heap.{IsTuple, extent}
-use Rattle.tv_model.specs.Program.{pred_of}
+use Rattle.tv_model.specs.Program.{pred_of, EachPred}
 use Rattle.tv_concrete.specs.Lists.{heap_of}
-use Rattle.tv_concrete.specs.Preds.{EachPred}
 use Rattle.tv_concrete.proofs.shape.is_heap.Goals as goal
 
 pub returns-then-not-tuples_fit : goal.returns-then-not-tuples_fit

@@ -1,6 +1,4 @@
 -- Each tuple so far follows the update.
-use Rattle.std.proofs.Common.{sym, get_or}
-use Rattle.std.proofs.lemmas.List.{get_or_default}
 use Rattle.tv_concrete.proofs.Every.{every-more, every-false, every-true}
 use Rattle.std.proofs.Common.{map}
 use Rattle.tv_model.specs.Program.{update_of}

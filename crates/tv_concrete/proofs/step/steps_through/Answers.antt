@@ -1,14 +1,13 @@
 -- Each part's answer is a part of the whole.
-use Rattle.std.proofs.Common.{ℕ, ◌≡◌, ◌↔◌, List, All, Bool, IsTrue, Contains, map, subst, true}
+use Rattle.std.proofs.Common.{ℕ, ◌≡◌, ◌↔◌, List, All, IsTrue, Contains, map, subst}
 use Rattle.tv_model.specs.declared.formula.Var.{Var}
 use Rattle.tv_model.specs.declared.program.Pred.{Pred}
 use Rattle.tv_model.specs.declared.program.Update.{Update}
 use Rattle.tv_model.specs.Heap.{IsTuple}
-use Rattle.tv_model.specs.Program.{KCore, action_of, picks_of, pred_of, program_of, retain_of, update_of}
-use Rattle.tv_model.specs.Rules.{IsConcrete, IsHeap}
+use Rattle.tv_model.specs.Program.{KCore, action_of, picks_of, pred_of, program_of, retain_of, update_of, EachPred}
+use Rattle.tv_model.specs.Rules.{IsConcrete}
 use Rattle.tv_model.specs.Step.{FollowsUpdate, Keeps, StepsThrough, update_for}
 use Rattle.tv_concrete.specs.Lists.{assignment_of, heap_of}
-use Rattle.tv_concrete.specs.Preds.{EachPred}
 use Rattle.tv_concrete.proofs.PropertyLemmas.{part-fails, part-holds, result-answer}
 use Rattle.tv_concrete.proofs.StepLemmas.{all-kept, exactly-kept, only-kept}
 use Rattle.tv_concrete.proofs.step.steps_through.Goals as goal

@@ -1,5 +1,5 @@
 -- What holds of the enumerated tuples holds of all.
-use Rattle.std.proofs.Common.{ℕ, ◌≡◌, ◌↔◌, ◌∙◌, List, All, IsTrue, ap, map, subst}
+use Rattle.std.proofs.Common.{ℕ, ◌≡◌, ◌∙◌, List, ap, map}
 use Rattle.tv_model.specs.Heap.{IsTuple}
 use Rattle.tv_model.specs.Program.{KCore, kind_of, update_of}
 use Rattle.tv_model.specs.Step.{FollowsUpdate, update_for}

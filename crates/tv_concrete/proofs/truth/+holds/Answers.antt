@@ -1,9 +1,9 @@
 -- What the loops over the individuals found, and the closure by allowed stops.
-use Rattle.std.proofs.Common.{ℕ, ◌≡◌, ◌<◌, ◌↔◌, IsTrue, Contains, refl, get_or, length, List, subst}
+use Rattle.std.proofs.Common.{ℕ, ◌↔◌, IsTrue, Contains, get_or, List, subst}
 use Rattle.std.proofs.lemmas.Bool.{false≢true}
 use Rattle.std.proofs.lemmas.List.Elements.{Contains-get_or}
 use Rattle.tv_model.specs.Form.{form_of}
-use Rattle.tv_model.specs.Truth.{Assignment, Truth, put}
+use Rattle.tv_model.specs.Truth.{Assignment, Truth}
 use Rattle.tv_concrete.specs.Lists.{heap_of, assignment_of}
 use Rattle.tv_concrete.proofs.Walks.{Closure-from_reaches}
 use Rattle.tv_concrete.proofs.truth.+holds.Goals as goal

@@ -1,5 +1,5 @@
 -- Each function goes down the formula; `reaches` also goes down the allowed stops, which are fewer than 2 ^ 64.
-use Rattle.std.proofs.Common.{ℕ, ◌≡◌, ◌+◌, ◌*◌, ◌<◌, length, get_or}
+use Rattle.std.proofs.Common.{ℕ, ◌+◌, ◌*◌, ◌<◌, length, get_or}
 use Rattle.tv_model.specs.Form.{form_of, height}
 use Rattle.tv_model.specs.Truth.{Truth, put}
 use Rattle.tv_concrete.specs.Lists.{heap_of, assignment_of}

@@ -1,5 +1,4 @@
 -- The array holds 0 everywhere, and 0 is read past its end.
-use Rattle.std.proofs.Common.{ℕ, ◌≡◌, get_or, replicate}
 use mathlib.Core.Path.{fun_ext}
 use Rattle.tv_concrete.proofs.Lists.{get_or-replicate_zero}
 use Rattle.tv_concrete.proofs.heap_list.Values.blank.Goals as goal

@@ -1,0 +1,145 @@
+-- Laws of the operations on truth values, for the crates above: the order of truth is a lattice with
+-- negation, and in the order of information a join is the least value above.
+use Rattle.std.proofs.Common.{◌≡◌, ◌⊎◌, inl, inr, refl, sym, ◌∙◌}
+use Rattle.tv_kleene.specs.declared.K3.{K3}
+use Rattle.tv_kleene.specs.declared.K3.TheVariants.{No, Half, Yes}
+use Rattle.tv_kleene.specs.Kleene.{LiesUnder, smaller_of, larger_of, negation_of, join_of}
+
+-- ---- the order of truth
+
+pub larger-assoc : (x y z : K3) → larger_of (larger_of x y) z ≡ larger_of x (larger_of y z)
+larger-assoc No y z = refl
+larger-assoc Half No z = refl
+larger-assoc Half Half No = refl
+larger-assoc Half Half Half = refl
+larger-assoc Half Half Yes = refl
+larger-assoc Half Yes z = refl
+larger-assoc Yes y z = refl
+
+pub smaller-assoc : (x y z : K3) → smaller_of (smaller_of x y) z ≡ smaller_of x (smaller_of y z)
+smaller-assoc No y z = refl
+smaller-assoc Half No z = refl
+smaller-assoc Half Half No = refl
+smaller-assoc Half Half Half = refl
+smaller-assoc Half Half Yes = refl
+smaller-assoc Half Yes z = refl
+smaller-assoc Yes y z = refl
+
+pub larger-no : (x : K3) → larger_of x No ≡ x
+larger-no No = refl
+larger-no Half = refl
+larger-no Yes = refl
+
+pub smaller-yes : (x : K3) → smaller_of x Yes ≡ x
+smaller-yes No = refl
+smaller-yes Half = refl
+smaller-yes Yes = refl
+
+pub larger-comm : (x y : K3) → larger_of x y ≡ larger_of y x
+larger-comm No No = refl
+larger-comm No Half = refl
+larger-comm No Yes = refl
+larger-comm Half No = refl
+larger-comm Half Half = refl
+larger-comm Half Yes = refl
+larger-comm Yes No = refl
+larger-comm Yes Half = refl
+larger-comm Yes Yes = refl
+
+pub smaller-comm : (x y : K3) → smaller_of x y ≡ smaller_of y x
+smaller-comm No No = refl
+smaller-comm No Half = refl
+smaller-comm No Yes = refl
+smaller-comm Half No = refl
+smaller-comm Half Half = refl
+smaller-comm Half Yes = refl
+smaller-comm Yes No = refl
+smaller-comm Yes Half = refl
+smaller-comm Yes Yes = refl
+
+-- a detour adds nothing
+pub larger-absorbs : (x y : K3) → larger_of x (smaller_of x y) ≡ x
+larger-absorbs No y = refl
+larger-absorbs Half No = refl
+larger-absorbs Half Half = refl
+larger-absorbs Half Yes = refl
+larger-absorbs Yes y = refl
+
+pub larger-absorbs_right : (x y : K3) → larger_of x (smaller_of y x) ≡ x
+larger-absorbs_right No No = refl
+larger-absorbs_right No Half = refl
+larger-absorbs_right No Yes = refl
+larger-absorbs_right Half No = refl
+larger-absorbs_right Half Half = refl
+larger-absorbs_right Half Yes = refl
+larger-absorbs_right Yes y = refl
+
+pub negation-twice : (x : K3) → negation_of (negation_of x) ≡ x
+negation-twice No = refl
+negation-twice Half = refl
+negation-twice Yes = refl
+
+-- a value is one of the three
+pub value-decided : (x y : K3) → (x ≡ y) ⊎ (¬ (x ≡ y))
+value-decided No No = inl refl
+value-decided No Half = inr (λ e. cc)
+value-decided No Yes = inr (λ e. cc)
+value-decided Half No = inr (λ e. cc)
+value-decided Half Half = inl refl
+value-decided Half Yes = inr (λ e. cc)
+value-decided Yes No = inr (λ e. cc)
+value-decided Yes Half = inr (λ e. cc)
+value-decided Yes Yes = inl refl
+
+-- ---- the order of information
+
+pub LiesUnder-trans : (x y z : K3) → LiesUnder x y → LiesUnder y z → LiesUnder x z
+LiesUnder-trans x y z (inl a) (inl b) = inl (a ∙ b)
+LiesUnder-trans x y z (inl a) (inr b) = inr b
+LiesUnder-trans x y z (inr a) (inl b) = inr (sym b ∙ a)
+LiesUnder-trans x y z (inr a) (inr b) = inr b
+
+pub LiesUnder-antisym : (x y : K3) → LiesUnder x y → LiesUnder y x → x ≡ y
+LiesUnder-antisym x y (inl e) h = e
+LiesUnder-antisym x y (inr e) (inl d) = sym d
+LiesUnder-antisym x y (inr e) (inr d) = d ∙ sym e
+
+pub join-left : (x y : K3) → LiesUnder x (join_of x y)
+join-left No No = inl refl
+join-left No Half = inr refl
+join-left No Yes = inr refl
+join-left Half y = inr refl
+join-left Yes No = inr refl
+join-left Yes Half = inr refl
+join-left Yes Yes = inl refl
+
+pub join-comm : (x y : K3) → join_of x y ≡ join_of y x
+join-comm No No = refl
+join-comm No Half = refl
+join-comm No Yes = refl
+join-comm Half No = refl
+join-comm Half Half = refl
+join-comm Half Yes = refl
+join-comm Yes No = refl
+join-comm Yes Half = refl
+join-comm Yes Yes = refl
+
+pub join-right : (x y : K3) → LiesUnder y (join_of x y)
+join-right No No = inl refl
+join-right No Half = inr refl
+join-right No Yes = inr refl
+join-right Half y = inr refl
+join-right Yes No = inr refl
+join-right Yes Half = inr refl
+join-right Yes Yes = inl refl
+
+pub join-same : (x : K3) → join_of x x ≡ x
+join-same No = refl
+join-same Half = refl
+join-same Yes = refl
+
+-- what both values lie under, their join lies under
+pub join_least : (x y z : K3) → LiesUnder x z → LiesUnder y z → LiesUnder (join_of x y) z
+join_least x y z (inr half) other = inr half
+join_least x y z (inl e) (inr half) = inr half
+join_least x y z (inl e) (inl d) = inl (rw (e, d) (join-same z))

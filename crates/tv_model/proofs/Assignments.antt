@@ -1,0 +1,48 @@
+-- Lemmas on assignments, for the crates above: what an assignment gives once an individual is put for a
+-- variable.
+use Rattle.std.proofs.Common.{ℕ, ◌≡◌, ◌≢◌, List, [], ◌∷◌, map, ⊎_elim, refl, sym, ap, subst, ◌∙◌, Contains, eqb, eq-eqb, ne_eqb}
+use Rattle.std.proofs.lemmas.Bool.{cases_eq, cond-true, cond-false}
+use Rattle.tv_model.specs.Truth.{Assignment, put}
+use Rattle.tv_model.proofs.Lists.{Contains-here, Contains-there}
+
+pub put-same : (a : Assignment) (v u x : ℕ) → x ≡ v → put a v u x ≡ u
+put-same a v u x e = cond-true (eqb x v) u (a x) (eq-eqb x v e)
+
+pub put-other : (a : Assignment) (v u x : ℕ) → x ≢ v → put a v u x ≡ a x
+put-other a v u x ne = cond-false (eqb x v) u (a x) (ne_eqb x v ne)
+
+-- what holds at the other variables holds at all once it holds of what is put for v
+pub put-holds : (P : ℕ → ℕ → Type 0) (a : Assignment) (v u : ℕ) → P v u → ((x : ℕ) → x ≢ v → P x (a x))
+    → (x : ℕ) → P x (put a v u x)
+put-holds P a v u new old x =
+    ⊎_elim
+    (λ e. let At : ℕ → Type 0 = λ w. P w u in subst (P x) (sym (put-same a v u x e)) (subst At (sym e) new))
+    (λ ne. subst (P x) (sym (put-other a v u x ne)) (old x ne))
+    (cases_eq x v)
+
+-- individuals at the other variables that matter, and one put for v, are individuals at all that matter
+pub put-inside : (xs : List ℕ) (matters : ℕ → Type 0) (a : Assignment) (v u : ℕ) → Contains xs u
+    → ((x : ℕ) → (x ≢ v) × matters x → Contains xs (a x)) → (x : ℕ) → matters x → Contains xs (put a v u x)
+put-inside xs matters a v u new old x =
+    put-holds (λ w y. matters w → Contains xs y) a v u (λ m. new) (λ w ne m. old w (ne, m)) x
+
+-- what is matched at the other variables is matched at all once matched individuals are put for v
+pub put-matched : (matters : ℕ → Type 0) (M : ℕ → ℕ → Type 0) (a b : Assignment) (v u w : ℕ) → M u w
+    → ((x : ℕ) → (x ≢ v) × matters x → M (a x) (b x))
+    → (x : ℕ) → matters x → M (put a v u x) (put b v w x)
+put-matched matters M a b v u w new old x m =
+    let Left : ℕ → Type 0 = λ y. M y (put b v w x)
+    in ⊎_elim
+    (λ e. let Right : ℕ → Type 0 = λ y. M u y
+    in subst Left (sym (put-same a v u x e)) (subst Right (sym (put-same b v w x e)) new))
+    (λ ne. let Right : ℕ → Type 0 = λ y. M (a x) y
+    in subst Left (sym (put-other a v u x ne)) (subst Right (sym (put-other b v w x ne)) (old x (ne, m))))
+    (cases_eq x v)
+
+-- the values of an atom's variables are renamed one by one
+pub map-renamed : (r : ℕ → ℕ) (a b : Assignment) (vars : List ℕ) → ((v : ℕ) → Contains vars v → b v ≡ r (a v))
+    → map b vars ≡ map r (map a vars)
+map-renamed r a b [] agrees = refl
+map-renamed r a b (v ∷ vars) agrees =
+    ap (λ y. y ∷ map b vars) (agrees v (Contains-here v vars))
+    ∙ ap (λ ys. r (a v) ∷ ys) (map-renamed r a b vars (λ x at. agrees x (Contains-there v x vars at)))
