@@ -1,7 +1,10 @@
-pub mod TableLaws
+pub mod DrawnLaws
+pub mod HalfLaws
+pub mod ListLaws
+pub mod ListingLaws
 pub mod OrderLaws
 pub mod OriginLaws
-pub mod DrawnLaws
-pub mod ListingLaws
 pub mod StructureLaws
-pub mod ListLaws
+pub mod TableLaws
+-- the library of lemmas for the crates above: its statements stay as they are
+pub mod Library

@@ -14,12 +14,8 @@ use Rattle.tv_struct.specs.TableForm.{PlaneForm, value_in, cell, row_of, column_
 use Rattle.tv_struct.specs.StructureForm.{structure_of, value_at, summary_at}
 use Rattle.tv_struct.specs.Lists.{list_heap, one_summary, head_and_rest, head_or_rest}
 use Rattle.tv_frame.proofs.EmbeddingLaws.{reads_heap}
+use Rattle.tv_struct.proofs.Library.{Contains-range, below-range}
 use Rattle.tv_struct.proofs.StructureLaws.{value_in-no_plane}
-
--- a range has exactly the numbers below its end
-Contains-range : (n u : ℕ) → u < n → Contains (range_with_len 0 n) u
-Contains-range n u lt =
-    (u, rw (length-range_with_len 0 n) lt, get_or-range_with_len 0 n u u lt ∙ omega arith)
 
 -- a predicate's value is No at a tuple of another length than those of which it holds
 value-other_length : (h : Heap) (pred n : ℕ) → ((member : List ℕ) → Holds h pred member → length member ≡ n)
@@ -47,12 +43,6 @@ value_in-misfit plane tuple misfit = at (length tuple == plane.arity) refl
         → (if b then cell plane.rows (row_of tuple) (column_of tuple) else No) ≡ No
     at false e = refl
     at true e = absurd (misfit (eqb-true _ _ e))
-
-below-range : (n u : ℕ) → Contains (range_with_len 0 n) u → u < n
-below-range n u (k, lt, at) =
-    let within : k < n = rw (← length-range_with_len 0 n) lt
-    in let same : u ≡ k = sym at ∙ get_or-range_with_len 0 n k u within ∙ omega arith
-    in omega arith
 
 -- two values that are No
 both_no : (x y : K3) → x ≡ No → y ≡ No → LiesUnder x y

@@ -1,15 +1,15 @@
 -- Looking up a structure by its signature.
-use Rattle.std.proofs.Common.{ℕ, ◌≡◌, ◌<◌, ◌≤◌, ◌⊎◌, inl, inr, Bool, true, false, List, [], ◌∷◌, ◌++◌, length, get_or, map, Option, Some, None, MatchBool, true≢false, Result, Ok, Err, set, refl, sym, ap, subst, ◌∙◌, arith, ◌==◌, if◌then◌else◌, eq-eqb}
+use Rattle.std.proofs.Common.{ℕ, ◌≡◌, ◌<◌, ◌≤◌, ◌+◌, ◌⊎◌, inl, inr, Bool, true, false, List, [], ◌∷◌, ◌++◌, length, get_or, map, take, Option, Some, None, MatchBool, true≢false, Result, Ok, Err, set, refl, sym, ap, subst, ◌∙◌, arith, ◌==◌, if◌then◌else◌, eq-eqb}
 use Rattle.std.specs.Prelude.{Any, Contains, slice_get}
 use Rattle.std.specs.List.{list_any}
 use Rattle.std.specs.declared.alloc.AllocError.{AllocError}
 use Rattle.std.specs.Ordering.{is_eq}
 use Rattle.std.specs.Cmp.{Equal-is}
-use Rattle.std.proofs.lemmas.List.{get_or-map, length-map, get_or_append_left, get_or_at, length-append, set-get_or}
+use Rattle.std.proofs.lemmas.List.{get_or-map, length-map, get_or_append_left, get_or_at, length-append, length-take-le, map-append, take_more, set-get_or}
 use Rattle.std.proofs.lemmas.List.Folds.{Any-from_list_any, list_any_at}
 use Rattle.std.proofs.lemmas.Bool.{cases_lt}
 use Rattle.std.proofs.lemmas.Option.{slice_get_within, get_or_from_slice_get, slice_get-get_or}
-use Rattle.tv_struct.specs.ListingForm.{HasEqual, AreNoted, Adds, AddsAt, at_node, equals, is_equal_at}
+use Rattle.tv_struct.specs.ListingForm.{HasEqual, AreNoted, Adds, AddsAt, IsSortedFrom, at_node, equals, is_equal_at}
 use Rattle.tv_struct.specs.Order.{structure_cmp}
 use Rattle.tv_struct.specs.Signature.{signature_of}
 use Rattle.tv_struct.specs.StructureForm.{StructureForm}
@@ -60,6 +60,21 @@ AreNoted-append noted later signatures signature n all count new place lt =
         = new signature ∙ (rw (eq-eqb signature signature refl, count, here) refl)
         in rw (get_or_at signatures signature [] 0 place here, full) (Contains-last (noted signature) place)
 
+-- the places of one more structure are noted
+pub AreNoted-more : (noted later : ℕ → List ℕ) (structures : List StructureForm) (place signature : ℕ) (d : StructureForm)
+    → place < length structures → signature ≡ signature_of (get_or structures place d)
+    → AreNoted noted (map signature_of (take place structures))
+    → ((g : ℕ) → later g ≡ (if g == signature then noted g ++ place ∷ [] else noted g))
+    → AreNoted later (map signature_of (take (place + 1) structures))
+AreNoted-more noted later structures place signature d lt is all new =
+    let step : map signature_of (take (place + 1) structures) ≡ map signature_of (take place structures) ++ signature ∷ []
+    = ap (map signature_of) (take_more structures place d lt)
+    ∙ map-append signature_of (take place structures) (get_or structures place d ∷ [])
+    ∙ ap (λ x. map signature_of (take place structures) ++ x ∷ []) (sym is)
+    in rw step
+    (AreNoted-append noted later (map signature_of (take place structures)) signature place all
+    (rw (length-map (take place structures) signature_of) (omega (arith, length-take-le place structures))) new)
+
 -- what is found among the noted places is an equal structure
 found : (structures : List StructureForm) (s : StructureForm) (places : List ℕ)
     → list_any (is_equal_at structures s) places ≡ true → HasEqual structures s
@@ -107,3 +122,22 @@ AddsAt-from_list old node list new s (Ok true) e h =
 AddsAt-from_list old node list new s (Ok false) e h =
     (rw (← e) h.0, ap (set old node) (h.1 ∙ e) ∙ set-get_or old node [])
 AddsAt-from_list old node list new s (Err x) e h = ap (set old node) (h ∙ e) ∙ set-get_or old node []
+
+-- ---- sorted lists
+
+-- one more node's list is sorted
+pub IsSortedFrom-push : (olds news : List (List StructureForm)) (old new : List StructureForm) → length news ≡ length olds
+    → ((node : ℕ) → node < length olds → IsSortedFrom (at_node olds node) (at_node news node)) → IsSortedFrom old new
+    → (node : ℕ) → node < length (olds ++ old ∷ []) → IsSortedFrom (at_node (olds ++ old ∷ []) node) (at_node (news ++ new ∷ []) node)
+IsSortedFrom-push olds news old new count each one node lt = at (cases_lt node (length olds))
+  where
+    at : (node < length olds) ⊎ (length olds ≤ node) → IsSortedFrom (at_node (olds ++ old ∷ []) node) (at_node (news ++ new ∷ []) node)
+    at (inl before) =
+        rw (
+          get_or_append_left olds (old ∷ []) [] node before,
+          get_or_append_left news (new ∷ []) [] node (omega (arith, count, before)),
+        )
+        (each node before)
+    at (inr last) =
+        let here : length olds ≡ node = omega (arith, length-append olds (old ∷ []))
+        in rw (get_or_at olds old [] [] node here, get_or_at news new [] [] node (count ∙ here)) one

@@ -130,7 +130,7 @@ abbrev SameValues : ℕ → PlaneForm → PlaneForm → Type 0
 SameValues size p q =
     (tuple : List ℕ) → length tuple ≡ p.arity → AreIndividuals size tuple → value_in p tuple ≡ value_in q tuple
 
-value_in-fits : (plane : PlaneForm) (tuple : List ℕ) → length tuple ≡ plane.arity
+pub value_in-fits : (plane : PlaneForm) (tuple : List ℕ) → length tuple ≡ plane.arity
     → value_in plane tuple ≡ cell plane.rows (row_of tuple) (column_of tuple)
 value_in-fits plane tuple e = rw (eq-eqb _ _ e) refl
 

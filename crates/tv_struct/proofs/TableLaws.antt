@@ -49,6 +49,9 @@ entry_column-lt t pred tuple is has =
     column_of-lt t.size (plane_at t pred) tuple (is.planes pred no_plane (HasEntry-lt t pred tuple has))
     (HasEntry-arity t pred tuple has) has.individuals
 
+pub arity_count : (planes : List PlaneForm) → length (arities_in planes) ≡ length planes
+arity_count planes = length-map planes (λ plane. plane.arity)
+
 -- ---- what is kept
 
 pub IsPlane-of_no : (size arity : ℕ) → arity ≤ 2 → IsPlane size (plane_of_no size arity)
@@ -58,10 +61,11 @@ IsPlane-of_no size arity h = record {
   columns = All-replicate (λ row. length row ≡ column_count size arity) _ _ (length-replicate _ _);
 }
 
-pub IsTable-of_no : (size : ℕ) (arities : List ℕ) → size ≤ 256 → All (λ arity. arity ≤ 2) arities
-    → IsTable (table_of_no size arities)
-IsTable-of_no size arities small known = record {
+pub IsTable-of_no : (size : ℕ) (arities : List ℕ) → size ≤ 256 → length arities ≤ 4294967295
+    → All (λ arity. arity ≤ 2) arities → IsTable (table_of_no size arities)
+IsTable-of_no size arities small few known = record {
   size = small;
+  predicates = rw (length-map arities (plane_of_no size)) few;
   planes = All-map (IsPlane size) (plane_of_no size) arities (λ k d lt. IsPlane-of_no size _ (known k d lt));
 }
 
@@ -81,6 +85,8 @@ IsTable-with_entry t pred tuple k is has =
     in let p : IsPlane t.size plane = is.planes pred no_plane (HasEntry-lt t pred tuple has)
     in record {
       size = is.size;
+      predicates = rw (length-set t.planes pred (record plane { rows = with_cell plane.rows (row_of tuple) (column_of tuple) k }))
+          is.predicates;
       planes = All-set (IsPlane t.size) t.planes pred _
           (IsPlane-with_cell t.size plane (row_of tuple) (column_of tuple) k p
           (row_of-lt t.size plane tuple p (HasEntry-arity t pred tuple has) has.individuals))
@@ -185,6 +191,7 @@ IsPlane-drawn size origins plane p = record {
 pub IsTable-drawn : (origins : List ℕ) (t : TableForm) → IsTable t → length origins ≤ 256 → IsTable (table_drawn origins t)
 IsTable-drawn origins t is small = record {
   size = small;
+  predicates = rw (length-map t.planes (plane_drawn origins)) is.predicates;
   planes = All-map (IsPlane (length origins)) (plane_drawn origins) t.planes
       (λ k d lt. IsPlane-drawn t.size origins _ (is.planes k d lt));
 }

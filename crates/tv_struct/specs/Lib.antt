@@ -1,7 +1,9 @@
+pub mod Halves
 pub mod Laws
 pub mod ListingForm
 pub mod Lists
 pub mod Order
+pub mod Origins
 pub mod Signature
 pub mod StructureForm
 pub mod TableForm

@@ -1,6 +1,7 @@
 -- Lists of structures, one for each node.
-use Rattle.std.specs.Prelude.{ℕ, ◌≡◌, ◌<◌, Bool, true, false, List, [], ◌∷◌, ◌++◌, length, Any, Contains, Option, None, Some, Result, Ok, Err, slice_get, slice_index_or, slice_set}
+use Rattle.std.specs.Prelude.{ℕ, ◌≡◌, ◌<◌, Bool, true, false, List, [], ◌∷◌, ◌++◌, length, Any, Contains, IsPermutation, Option, None, Some, Result, Ok, Err, slice_get, slice_index_or, slice_set}
 use Rattle.std.specs.declared.alloc.AllocError.{AllocError}
+use Rattle.std.specs.List.Sorted.{IsSorted}
 use Rattle.std.specs.Ordering.{is_eq}
 use Rattle.tv_struct.specs.Order.{structure_cmp}
 use Rattle.tv_struct.specs.StructureForm.{StructureForm, unmarked}
@@ -28,6 +29,16 @@ abbrev pub AddsAt : (old new : List (List StructureForm)) → ℕ → StructureF
 AddsAt old new node s (Ok true) = (¬ HasEqual (at_node old node) s) × (new ≡ appended old node s)
 AddsAt old new node s (Ok false) = HasEqual (at_node old node) s × (new ≡ old)
 AddsAt old new node s (Err e) = new ≡ old
+
+-- the structures in ascending order, each of them and no other
+pub record IsSortedFrom (old new : List StructureForm) : Type 0 where
+  pub same : IsPermutation old new
+  pub ascending : IsSorted structure_cmp new
+
+-- at each node
+pub record AreSorted (old new : List (List StructureForm)) : Type 0 where
+  pub nodes : length new ≡ length old
+  pub each : (node : ℕ) → node < length old → IsSortedFrom (at_node old node) (at_node new node)
 
 -- each structure's place is among those that are noted for its signature
 abbrev pub AreNoted : (noted : ℕ → List ℕ) → (signatures : List ℕ) → Type 0

@@ -80,9 +80,11 @@ pub record IsPlane (size : ℕ) (plane : PlaneForm) : Type 0 where
   pub rows : length plane.rows ≡ row_count size plane.arity
   pub columns : All (λ row. length row ≡ column_count size plane.arity) plane.rows
 
--- what every table keeps: at most 256 individuals, and one value for each tuple
+-- what every table keeps: at most 256 individuals, at most 4,294,967,295 predicates, and one value for
+-- each tuple
 pub record IsTable (t : TableForm) : Type 0 where
   pub size : t.size ≤ 256
+  pub predicates : length t.planes ≤ 4294967295
   pub planes : All (IsPlane t.size) t.planes
 
 -- the table of that size that has No everywhere

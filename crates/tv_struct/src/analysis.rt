@@ -1,6 +1,11 @@
 //! What an analysis answers: its listing, its messages, and the maps that a report names.
 
+ghost use Rattle.std.specs.Prelude.{◌≡◌};
+ghost use Rattle.tv_struct.specs.declared.analysis.StageError.TheVariants.{Memory};
+
 use crate::listing::Listing;
+use std::alloc::{AllocError, AllocFailed};
+use thiserror::Error;
 use tv_kleene::K3;
 use tv_model::Items;
 
@@ -18,7 +23,7 @@ pub type MessageLines = Items<MessageLine>;
 
 /// What has to be covered: the opening of an initial structure, or a result of a listed structure
 /// along an edge.
-#[derive(Clone, Copy, Debug, PartialEq, Eq)]
+#[derive(Clone, Copy, Debug, PartialEq, Eq, PartialOrd, Ord, Hash)]
 pub enum Item {
     Initial(u32),
     Result {
@@ -51,12 +56,31 @@ pub struct Analysis {
 }
 
 /// Why a stage of a step has no answer.
-#[derive(Clone, Copy, Debug, PartialEq, Eq)]
+#[derive(Clone, Copy, Debug, PartialEq, Eq, Error)]
 pub enum StageError {
     /// The stage has over 4,096 choices.
+    #[error("over 4,096 choices at one stage")]
     Splits,
     /// A structure of the stage has over 256 individuals.
+    #[error("over 256 individuals in one structure")]
     Individuals,
     /// There isn't enough memory.
+    #[error("not enough memory")]
     Memory,
+}
+
+impl From<AllocError> for StageError {
+    ghost from_gives = { λ _ e. e ≡ Memory };
+
+    fn from(_e: AllocError) -> StageError {
+        StageError::Memory
+    }
+}
+
+impl<T: Drop> From<AllocFailed<T>> for StageError {
+    ghost from_gives = { λ _ e. e ≡ Memory };
+
+    fn from(_e: AllocFailed<T>) -> StageError {
+        StageError::Memory
+    }
 }

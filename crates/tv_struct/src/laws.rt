@@ -2,6 +2,8 @@
 
 ghost use Rattle.tv_struct.specs.Laws.{EntriesAreSeparate, NewStructuresAreNo, EntriesDetermineStructures, DrawnStructuresRead};
 ghost use Rattle.tv_struct.specs.Lists.{ListsEmbed};
+ghost use Rattle.tv_struct.specs.Halves.{HalvesAreCounted, LoweringGoesBelow};
+ghost use Rattle.tv_struct.specs.Origins.{KeptIndividualsAreFlagged, PlacesAreCopies};
 
 /// Writing an entry of a structure, or a summary, gives it the value, and changes no other.
 pub fn entries_are_separate()
@@ -28,4 +30,25 @@ pub fn new_structures_are_no()
 /// summary and in that of a first cell and one summary for all others.
 pub fn lists_embed()
     ensures { ListsEmbed }
+{}
+
+/// A write changes the number of unknown entries, summaries among them, by what it writes and what
+/// stood there.
+pub fn halves_are_counted()
+    ensures { HalvesAreCounted }
+{}
+
+/// Lowering an entry, or making a summary an ordinary individual, gives a structure below.
+pub fn lowering_goes_below()
+    ensures { LoweringGoesBelow }
+{}
+
+/// The individuals that `without` keeps are those with a true flag, in increasing order.
+pub fn kept_individuals_are_flagged()
+    ensures { KeptIndividualsAreFlagged }
+{}
+
+/// The individuals of a split structure are the copies, each of one individual.
+pub fn places_are_copies()
+    ensures { PlacesAreCopies }
 {}

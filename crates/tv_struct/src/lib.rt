@@ -17,8 +17,9 @@ pub use analysis::{
     Analysis, Item, MapLine, MapLines, MessageLine, MessageLines, Numbers, StageError,
 };
 pub use laws::{
-    drawn_structures_read, entries_are_separate, entries_determine_structures, lists_embed,
-    new_structures_are_no,
+    drawn_structures_read, entries_are_separate, entries_determine_structures, halves_are_counted,
+    kept_individuals_are_flagged, lists_embed, lowering_goes_below, new_structures_are_no,
+    places_are_copies,
 };
 pub use listing::Listing;
 pub use structure::{Structure, Structures};

@@ -1,7 +1,8 @@
 //! Lists of structures, one for each node of a program.
 
 ghost use Rattle.std.specs.Prelude.{◌≡◌, ◌<◌, [], length, replicate, is_ok, if◌then◌else◌, slice_get, IfOk, Some};
-ghost use Rattle.tv_struct.specs.ListingForm.{at_node, appended, AddsAt};
+ghost use Rattle.tv_struct.specs.StructureForm.{IsStructure};
+ghost use Rattle.tv_struct.specs.ListingForm.{at_node, appended, AddsAt, AreSorted};
 
 use crate::node::Node;
 use crate::structure::Structure;
@@ -51,9 +52,12 @@ impl Listing {
     pub fn at(&self, node: u32, i: usize) -> &Structure
         requires node { node < length self.now }
         requires place { i < length (at_node self.now node) }
-        ensures { slice_get (at_node self.now node) i ≡ Some result.now }
+        ensures value { slice_get (at_node self.now node) i ≡ Some result.now }
+        ensures kept { IsStructure result.now }
     {
-        &self.nodes[node as usize].as_slice()[i]
+        let s = &self.nodes[node as usize].as_slice()[i];
+        let _ = s.size();
+        s
     }
 
     /// Puts the structure behind those of the node. At an error the listing is as before, and the
@@ -76,5 +80,19 @@ impl Listing {
         let alloc = self.alloc;
         let list = &mut self.nodes[node as usize];
         list.add(alloc, s)
+    }
+
+    /// The listing with each node's structures in ascending order. No structure is copied.
+    pub fn sorted(self) -> Result<Listing, AllocError>
+        ensures { IfOk result (AreSorted self) }
+    {
+        let mut sorted = Vec::with_capacity(self.alloc, self.nodes.len())?;
+        for node in self.nodes {
+            sorted.push(node.sorted(self.alloc)?)?;
+        }
+        Ok(Listing {
+            alloc: self.alloc,
+            nodes: sorted,
+        })
     }
 }

@@ -1,10 +1,10 @@
 //! The structures at one node of a listing.
 
-ghost use Rattle.std.specs.Prelude.{◌≡◌, ◌<◌, ◌≤◌, ℕ, [], ◌∷◌, ◌++◌, length, Contains, OnOk, OnErr, MatchBool, is_ok, if◌then◌else◌, unwrap_or, IsTrue, ◌↔◌, ◌==◌};
+ghost use Rattle.std.specs.Prelude.{◌≡◌, ◌<◌, ◌≤◌, ℕ, [], ◌∷◌, ◌++◌, length, Contains, OnOk, OnErr, MatchBool, is_ok, if◌then◌else◌, unwrap_or, map, IfOk, IsTrue, ◌↔◌, ◌==◌};
 ghost use Rattle.std.specs.List.{list_any};
 ghost use Rattle.std.specs.Ordering.{nat_cmp};
 ghost use Rattle.std.specs.BTreeMap.{get};
-ghost use Rattle.tv_struct.specs.ListingForm.{HasEqual, Adds, AreNoted, is_equal_at};
+ghost use Rattle.tv_struct.specs.ListingForm.{HasEqual, Adds, AreNoted, IsSortedFrom, is_equal_at};
 ghost use Rattle.tv_struct.specs.Signature.{signature_of};
 ghost use Rattle.tv_struct.specs.StructureForm.{StructureForm, unmarked};
 
@@ -89,6 +89,27 @@ impl Node {
         self.push(alloc, s)?;
         Ok(true)
     }
+
+    /// The same structures in ascending order.
+    pub fn sorted(self, alloc: Global) -> Result<Node, AllocError>
+        ensures { IfOk result (IsSortedFrom self) }
+    {
+        let mut structures = self.structures;
+        structures.sort()?;
+        let noted = all_noted(alloc, &structures)?;
+        Ok(Node { structures, noted })
+    }
+}
+
+/// The place of each structure, noted for its signature.
+fn all_noted(alloc: Global, structures: &[Structure]) -> Result<Noted, AllocError>
+    ensures { IfOk result (λ noted. AreNoted (λ signature. unwrap_or (get nat_cmp noted signature) []) (map signature_of structures.now)) }
+{
+    let mut noted = BTreeMap::new(alloc);
+    for (place, s) in structures.iter().enumerate() {
+        note(alloc, &mut noted, s.signature(), place)?;
+    }
+    Ok(noted)
 }
 
 /// The places that are noted for the signature.

@@ -47,6 +47,13 @@ impl Plane {
         })
     }
 
+    /// The arity of the predicate.
+    pub fn arity(&self) -> u8
+        ensures { result ≡ self.now.arity }
+    {
+        self.arity
+    }
+
     /// The value in that row and column.
     pub fn get(&self, row: usize, column: usize) -> K3
         requires row { row < length self.now.rows }

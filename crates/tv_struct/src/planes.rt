@@ -1,7 +1,7 @@
 //! A table with the values of each predicate beside each other.
 
-ghost use Rattle.std.specs.Prelude.{◌≡◌, ◌<◌, ◌≤◌, ℕ, [], ◌∷◌, length, map, All, IfOk, slice_index_or};
-ghost use Rattle.tv_struct.specs.TableForm.{TableForm, IsTable, HasEntry, entry, with_entry, table_of_no, table_drawn, row_of, column_of, no_plane};
+ghost use Rattle.std.specs.Prelude.{◌≡◌, ◌<◌, ◌≤◌, ℕ, [], ◌∷◌, length, map, All, IfOk, Some, slice_get, slice_index_or};
+ghost use Rattle.tv_struct.specs.TableForm.{TableForm, IsTable, HasEntry, entry, with_entry, table_of_no, table_drawn, row_of, column_of, no_plane, arities_in};
 ghost use Rattle.tv_struct.specs.Order.{planes_cmp};
 ghost use Rattle.tv_struct.specs.Signature.{planes_mixed};
 ghost use Rattle.tv_struct.specs.TupleForm.{tuple_of};
@@ -32,17 +32,50 @@ impl Model for Planes {
 }
 
 impl Planes {
-    /// The table over `size` individuals that has `No` everywhere.
+    /// The table over `size` individuals that has `No` everywhere. More predicates than a number
+    /// counts take more memory than there is.
     pub fn of_no(alloc: Global, preds: &[Pred], size: u32) -> Result<Planes, AllocError>
         requires size { size ≤ 256 }
         requires arities { All (λ pred. pred.arity ≤ 2) preds.now }
         ensures { IfOk result (λ t. t ≡ table_of_no size (map (λ pred. pred.arity) preds.now)) }
     {
+        if preds.len() > u32::MAX as usize {
+            return Err(AllocError);
+        }
         let mut planes = Vec::with_capacity(alloc, preds.len())?;
         for pred in preds {
             planes.push(Plane::of_no(alloc, pred.arity, size)?)?;
         }
         Ok(Planes { size, planes })
+    }
+
+    /// The table over `size` individuals and the same predicates that has `No` everywhere.
+    pub fn emptied(&self, alloc: Global, size: u32) -> Result<Planes, AllocError>
+        requires { size ≤ 256 }
+        ensures { IfOk result (λ t. t ≡ table_of_no size (arities_in self.now.planes)) }
+    {
+        let mut planes = Vec::with_capacity(alloc, self.planes.len())?;
+        for plane in &self.planes {
+            planes.push(Plane::of_no(alloc, plane.arity(), size)?)?;
+        }
+        Ok(Planes { size, planes })
+    }
+
+    /// The number of predicates.
+    #[tactic(auto, using(crate::proofs::TableLaws::arity_count))]
+    pub fn pred_count(&self) -> u32
+        ensures { result ≡ length (arities_in self.now.planes) }
+    {
+        self.planes.len() as u32
+    }
+
+    /// The arity of the predicate `p`.
+    pub fn arity(&self, p: PredId) -> u8
+        requires { p.0 < length (arities_in self.now.planes) }
+        ensures value { slice_get (arities_in self.now.planes) p.0 ≡ Some result }
+        ensures known { result ≤ 2 }
+    {
+        self.planes[p.0 as usize].arity()
     }
 
     /// An equal table in memory of its own.

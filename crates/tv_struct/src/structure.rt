@@ -1,6 +1,6 @@
 //! Three-valued structures of at most 256 individuals.
 
-ghost use Rattle.std.specs.Prelude.{◌≡◌, ◌<◌, ◌≤◌, ◌↔◌, ℕ, [], ◌∷◌, length, map, All, IfOk, IsTrue, IfSome, sum, slice_index, refl};
+ghost use Rattle.std.specs.Prelude.{◌≡◌, ◌<◌, ◌≤◌, ◌↔◌, ℕ, [], ◌∷◌, length, map, All, IfOk, IsTrue, IfSome, sum, slice_get, slice_index, refl};
 ghost use Rattle.std.specs.Cmp.{partial_equiv_from_equiv, eq_by_cmp_equiv, po};
 ghost use Rattle.std.specs.Ordering.{eq_by_cmp, as_partial_cmp};
 ghost use Rattle.tv_struct.specs.Order.{structure_cmp, structure_cmp_total};
@@ -44,16 +44,34 @@ impl Model for Structure {
 }
 
 impl Structure {
-    /// The structure over `size` individuals that has `No` everywhere and no summary.
+    /// The structure over `size` individuals that has `No` everywhere and no summary. The number of
+    /// predicates is a `u32`: for a longer vocabulary there isn't enough memory.
     #[tactic(auto, using(crate::proofs::StructureLaws::arities_of_no))]
     pub fn new(alloc: Global, vocab: &Vocab, size: u32) -> Result<Structure, AllocError>
         requires size { size ≤ 256 }
         requires arities { All (λ pred. pred.arity ≤ 2) vocab.now.preds }
         ensures value { IfOk result (λ s. s ≡ structure_of_no size (map (λ pred. pred.arity) vocab.now.preds)) }
         ensures over { IfOk result (IsOver vocab.now) }
+        ensures kept { IfOk result IsStructure }
     {
         Ok(Structure {
             table: Planes::of_no(alloc, vocab.preds.as_slice(), size)?,
+            summaries: Line::from_vec(vec![in alloc; false; size as usize]?),
+            fresh: None,
+        })
+    }
+
+    /// The structure over `size` individuals and the predicates of `like` that has `No` everywhere and
+    /// no summary.
+    #[tactic(auto, using(crate::proofs::StructureLaws::arities_of_no))]
+    pub fn of_no(alloc: Global, like: &Structure, size: u32) -> Result<Structure, AllocError>
+        requires { size ≤ 256 }
+        ensures value { IfOk result (λ s. s ≡ structure_of_no size (arities_of like.now)) }
+        ensures over { IfOk result (λ s. arities_of s ≡ arities_of like.now) }
+        ensures kept { IfOk result IsStructure }
+    {
+        Ok(Structure {
+            table: like.table.emptied(alloc, size)?,
             summaries: Line::from_vec(vec![in alloc; false; size as usize]?),
             fresh: None,
         })
@@ -65,6 +83,22 @@ impl Structure {
         ensures kept { IsStructure self.now }
     {
         self.table.size()
+    }
+
+    /// The number of predicates.
+    pub fn pred_count(&self) -> u32
+        ensures { result ≡ length (arities_of self.now) }
+    {
+        self.table.pred_count()
+    }
+
+    /// The arity of the predicate `p`, at most 2.
+    pub fn arity(&self, p: PredId) -> u8
+        requires { p.0 < length (arities_of self.now) }
+        ensures value { slice_get (arities_of self.now) p.0 ≡ Some result }
+        ensures known { result ≤ 2 }
+    {
+        self.table.arity(p)
     }
 
     /// The value of the predicate `p` at the tuple `t`.
@@ -81,6 +115,7 @@ impl Structure {
         requires { HasEntry (table_of self.old) p.0 (tuple_of t) }
         ensures value { self.new ≡ with_value self.old p.0 (tuple_of t) k }
         ensures over { arities_of self.new ≡ arities_of self.old }
+        ensures kept { IsStructure self.new }
     {
         self.table.set(p, t, k);
     }
@@ -98,7 +133,8 @@ impl Structure {
     pub fn set_summary(&mut self, u: u32, on: bool)
         requires individual { u < self.old.size }
         requires not_fresh { IsTrue on → ¬ (self.old.fresh ≡ Some u) }
-        ensures { self.new ≡ with_summary self.old u on }
+        ensures value { self.new ≡ with_summary self.old u on }
+        ensures kept { IsStructure self.new }
     {
         self.summaries.put(u as usize, on);
     }
@@ -112,7 +148,8 @@ impl Structure {
 
     /// An equal structure in memory of its own.
     pub fn copy(&self, alloc: Global) -> Result<Structure, AllocError>
-        ensures { IfOk result (λ s. s ≡ self.now) }
+        ensures value { IfOk result (λ s. s ≡ self.now) }
+        ensures kept { IfOk result IsStructure }
     {
         Ok(Structure {
             table: self.table.copied(alloc)?,
@@ -127,6 +164,7 @@ impl Structure {
         requires { self.now.size ≤ 255 }
         ensures value { IfOk result (λ s. s ≡ with_new self.now) }
         ensures over { IfOk result (λ s. arities_of s ≡ arities_of self.now) }
+        ensures kept { IfOk result IsStructure }
     {
         let size = self.size();
         let origins = origins::all_and_next(alloc, size)?;
@@ -138,6 +176,7 @@ impl Structure {
         requires { length keep.now ≡ self.now.size }
         ensures value { IfOk result (λ s. s ≡ without self.now keep.now) }
         ensures over { IfOk result (λ s. arities_of s ≡ arities_of self.now) }
+        ensures kept { IfOk result IsStructure }
     {
         let _ = self.size();
         let kept = origins::kept(alloc, keep)?;
@@ -153,6 +192,7 @@ impl Structure {
         requires fresh_once { IfSome self.now.fresh (λ u. slice_index parts.now u ≡ 1) }
         ensures value { IfOk result (λ s. s ≡ split self.now parts.now) }
         ensures over { IfOk result (λ s. arities_of s ≡ arities_of self.now) }
+        ensures kept { IfOk result IsStructure }
     {
         let _ = self.size();
         let origins = origins::copies(alloc, parts)?;
@@ -172,6 +212,7 @@ impl Structure {
         requires mark { IsMark (drawn origins.now fresh self.now) fresh }
         ensures value { IfOk result (λ s. s ≡ drawn origins.now fresh self.now) }
         ensures over { IfOk result (λ s. arities_of s ≡ arities_of self.now) }
+        ensures kept { IfOk result IsStructure }
     {
         Ok(Structure {
             table: self.table.drawn(alloc, origins)?,

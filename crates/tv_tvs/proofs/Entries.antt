@@ -10,7 +10,7 @@ use Rattle.std.proofs.lemmas.Option.{slice_get-get_or, slice_get_within, get_or_
 use Rattle.tv_kleene.specs.declared.K3.{K3}
 use Rattle.tv_kleene.specs.declared.K3.TheVariants.{No, Half, Yes}
 use Rattle.tv_model.specs.declared.program.Pred.{Pred}
-use Rattle.tv_struct.specs.TableForm.{HasEntry, AreIndividuals}
+use Rattle.tv_struct.specs.TableForm.{PlaneForm, HasEntry, AreIndividuals}
 use Rattle.tv_struct.specs.StructureForm.{StructureForm, IsStructure, table_of, arities_of, value_at, summary_at, with_value, unmarked}
 use Rattle.tv_struct.proofs.TableLaws.{IsTable-of_no}
 use Rattle.tv_struct.proofs.StructureLaws.{new_is_no}
@@ -225,10 +225,12 @@ blank_part : (s : StructureForm) (all : List Pred) → IsStructure s → All (λ
     → IsPart (blank all (individuals s.size)) s
 blank_part s all is high over =
     let count : length (individuals s.size) ≡ s.size = length-map-range_with_len individual 0 s.size
+    in let few : length (map (λ (pred : Pred). pred.arity) all) ≤ 4294967295
+    = omega (arith, is.table.predicates, ap length over, length-map s.planes (λ (plane : PlaneForm). plane.arity))
     in let no = new_is_no (length (individuals s.size)) (map (λ pred. pred.arity) all)
     in record {
       is = record {
-        table = IsTable-of_no (length (individuals s.size)) (map (λ pred. pred.arity) all) (rw count is.table.size) (mapped all high);
+        table = IsTable-of_no (length (individuals s.size)) (map (λ pred. pred.arity) all) (rw count is.table.size) few (mapped all high);
         summaries = length-replicate (length (individuals s.size)) false;
         fresh = tt;
       };

@@ -1,0 +1,21 @@
+use Rattle.std.proofs.Common.{◌∙◌, List, [], map, unwrap_or, ap, subst}
+use Rattle.std.proofs.lemmas.List.{take_all}
+use Rattle.std.specs.Ordering.{nat_cmp}
+use Rattle.std.specs.BTreeMap.{get}
+use Rattle.tv_struct.specs.ListingForm.{AreNoted}
+use Rattle.tv_struct.specs.Signature.{signature_of}
+use Rattle.tv_struct.specs.StructureForm.{StructureForm}
+use Rattle.tv_struct.proofs.ListingLaws.{AreNoted-more}
+use Rattle.tv_struct.proofs.node.all_noted.Goals as goal
+
+pub loop-place-preserved : goal.loop-place-preserved
+loop-place-preserved c =
+    AreNoted-more (λ g. unwrap_or (get nat_cmp c.loop-place.noted g) []) (λ g. unwrap_or (get nat_cmp c.note.new.noted g) [])
+    c.args.structures.now c.loop-place.place c.signature.result c.index-structures-place.result c.loop-place-test.true
+    (c.signature.ensures ∙ ap signature_of c.index-structures-place.is) c.loop-place.invariant c.in_ok-note.ensures.ok
+
+pub returns : goal.returns
+returns c =
+    let Of : List StructureForm → Type 0
+    = λ structures. AreNoted (λ g. unwrap_or (get nat_cmp c.loop-place.noted g) []) (map signature_of structures)
+    in subst Of (take_all c.loop-place.place c.args.structures.now c.loop-place-test.false) c.loop-place.invariant
