@@ -4,6 +4,7 @@ pub mod ListLaws
 pub mod ListingLaws
 pub mod OrderLaws
 pub mod OriginLaws
+pub mod RowLaws
 pub mod StructureLaws
 pub mod TableLaws
 -- the library of lemmas for the crates above: its statements stay as they are

@@ -1,16 +1,16 @@
 -- Lemmas for the crates above: what is kept where structures are written and drawn, and how entries read.
-use Rattle.std.proofs.Common.{ℕ, ◌≡◌, ◌≢◌, ◌<◌, ◌≤◌, ◌+◌, ◌==◌, ◌⊎◌, inl, inr, Bool, true, false, List, [], ◌∷◌, length, get_or, set, map, Option, Some, None, refl, sym, ap, subst, ◌∙◌, arith, ne_eqb, if◌then◌else◌}
-use Rattle.std.specs.Prelude.{All, Contains, slice_get, slice_index, sum, take, fold, IfSome, IsTrue}
+use Rattle.std.proofs.Common.{ℕ, ◌≡◌, ◌≢◌, ◌<◌, ◌≤◌, ◌+◌, ◌⊎◌, inl, inr, ⊎_elim, Bool, true, false, List, [], ◌∷◌, length, get_or, Option, Some, None, refl, sym, ap, subst, ◌∙◌, arith, ne_eqb}
+use Rattle.std.specs.Prelude.{All, Contains, slice_get, sum, take, fold, IsTrue}
 use Rattle.std.specs.List.{range_with_len}
 use Rattle.std.specs.Option.{option_map}
 use Rattle.std.proofs.lemmas.Bool.{cases_eq, cases_lt}
 use Rattle.std.proofs.lemmas.List.{length-set, length-map, get_or-map, get_or_past}
-use Rattle.std.proofs.lemmas.List.Elements.{All-head, All-tail, recursion_from_All}
+use Rattle.std.proofs.lemmas.List.Elements.{All-head, All-tail, recursion_from_All, All-from_recursion}
 use Rattle.std.proofs.lemmas.List.FromFn.{length-range_with_len, get_or-range_with_len}
-use Rattle.std.proofs.lemmas.Option.{slice_get-get_or}
+use Rattle.std.proofs.lemmas.Option.{slice_get-get_or, slice_get_within, get_or_from_slice_get}
 use Rattle.tv_kleene.specs.declared.K3.{K3}
 use Rattle.tv_kleene.specs.declared.K3.TheVariants.{No}
-use Rattle.tv_struct.specs.TableForm.{PlaneForm, HasEntry, AreIndividuals, no_plane, value_in, cell, row_of, column_of}
+use Rattle.tv_struct.specs.TableForm.{PlaneForm, HasEntry, AreIndividuals, no_plane, value_in}
 use Rattle.tv_struct.specs.StructureForm.{StructureForm, IsStructure, IsMark, table_of, value_at, summary_at, arities_of, with_value, with_summary, drawn, with_new, without, split, kept_from, copies_from}
 use Rattle.tv_struct.specs.Laws.{WritesOneEntry, WritesOneSummary}
 use Rattle.tv_struct.proofs.TableLaws.{IsTable-with_entry, IsTable-drawn}
@@ -33,6 +33,9 @@ below-range n u (k, lt, at) =
 
 pub AreIndividuals-range : (n : ℕ) (tuple : List ℕ) → All (Contains (range_with_len 0 n)) tuple → AreIndividuals n tuple
 AreIndividuals-range n tuple all = recursion_from_All (λ u. u < n) tuple (λ k d lt. below-range n _ (all k d lt))
+
+pub All-individuals : (n : ℕ) (tuple : List ℕ) → AreIndividuals n tuple → All (Contains (range_with_len 0 n)) tuple
+All-individuals n tuple within k d lt = Contains-range n (get_or tuple k d) (All-from_recursion (λ u. u < n) tuple within k d lt)
 
 -- ---- one write
 
@@ -101,6 +104,18 @@ fits_or_No s pred tuple = at (cases_lt pred (length s.planes))
             → (slice_get (arities_of s) pred ≡ Some (length tuple)) ⊎ (value_at s pred tuple ≡ No)
         fits known (inl e) = inl (known ∙ ap Some (sym e))
         fits known (inr ne) = inr (rw (ne_eqb (length tuple) plane.arity ne) refl)
+
+pub value_at-misfit : (s : StructureForm) (pred : ℕ) (tuple : List ℕ)
+    → ¬ (slice_get (arities_of s) pred ≡ Some (length tuple)) → value_at s pred tuple ≡ No
+value_at-misfit s pred tuple misfit = ⊎_elim (λ fits. absurd (misfit fits)) (λ none. none) (fits_or_No s pred tuple)
+
+-- no predicate has more than two places
+pub arity_small : (s : StructureForm) (pred arity : ℕ) → IsStructure s → slice_get (arities_of s) pred ≡ Some arity → arity ≤ 2
+arity_small s pred arity is has =
+    let lt : pred < length s.planes = rw (← length-map s.planes (λ p. p.arity)) (slice_get_within (arities_of s) pred arity has)
+    in let same : (get_or s.planes pred no_plane).arity ≡ arity
+    = sym (get_or-map (λ p. p.arity) s.planes pred no_plane 0 lt) ∙ get_or_from_slice_get (arities_of s) pred arity 0 has
+    in omega (arith, same, (is.table.planes pred no_plane lt).arity)
 
 -- ---- several writes of one predicate
 

@@ -6,5 +6,6 @@ pub mod Order
 pub mod Origins
 pub mod Signature
 pub mod StructureForm
+pub mod StructureRows
 pub mod TableForm
 pub mod TupleForm

@@ -1,6 +1,6 @@
 -- Tables of truth values: for each predicate a value at each tuple of its arity over the individuals.
 use Rattle.std.specs.Prelude.{ℕ, ◌≡◌, ◌<◌, ◌≤◌, ◌==◌, List, [], ◌∷◌, length, map, Some, All, slice_get, if◌then◌else◌, slice_index_or, slice_set, replicate}
-use Rattle.std.specs.List.{AllByRecursion}
+use Rattle.std.specs.List.{AllByRecursion, range_with_len}
 use Rattle.tv_kleene.specs.declared.K3.{K3}
 use Rattle.tv_kleene.specs.declared.K3.TheVariants.{No}
 
@@ -67,6 +67,20 @@ with_entry t pred tuple k = record t {
   planes = slice_set t.planes pred
       (record (plane_at t pred) { rows = with_cell (plane_at t pred).rows (row_of tuple) (column_of tuple) k });
 }
+
+-- the table with the values put into a row of a predicate
+abbrev pub table_with_row : TableForm → (pred row : ℕ) → (values : List K3) → TableForm
+table_with_row t pred row values = record t {
+  planes = slice_set t.planes pred (record (plane_at t pred) { rows = slice_set (plane_at t pred).rows row values });
+}
+
+-- the values in a row of a plane
+abbrev pub row_in : PlaneForm → (row : ℕ) → List K3
+row_in plane row = slice_index_or plane.rows row []
+
+-- the values in a column of a plane, row by row
+abbrev pub column_in : (rows : ℕ) → PlaneForm → (column : ℕ) → List K3
+column_in rows plane column = map (λ row. cell plane.rows row column) (range_with_len 0 rows)
 
 abbrev pub row_count : (size arity : ℕ) → ℕ
 row_count size arity = if arity == 2 then size else 1

@@ -1,15 +1,16 @@
 //! The values of one predicate.
 
-ghost use Rattle.std.specs.Prelude.{◌≡◌, ◌<◌, ◌≤◌, ℕ, [], ◌∷◌, length, IfOk, slice_index_or};
+ghost use Rattle.std.specs.Prelude.{◌≡◌, ◌<◌, ◌≤◌, ℕ, [], ◌∷◌, length, IfOk, slice_index_or, slice_set};
 ghost use Rattle.tv_kleene.specs.declared.K3.TheVariants.{No};
 ghost use Rattle.tv_struct.specs.Signature.{plane_mixed};
-ghost use Rattle.tv_struct.specs.TableForm.{PlaneForm, IsPlane, cell, with_cell, plane_of_no, plane_drawn, selected, row_count, column_count};
+ghost use Rattle.tv_struct.specs.TableForm.{PlaneForm, IsPlane, cell, with_cell, row_in, column_in, plane_of_no, plane_drawn, selected, row_count, column_count};
 
 use crate::line::Line;
 use crate::signature::mix_row;
 use std::alloc::{AllocError, Global};
 use std::marker::Model;
 use tv_kleene::K3;
+use tv_row::Row;
 
 /// The values of a predicate by row and column: one value for a nullary predicate, one row for a
 /// unary one, and a row for each individual for a binary one.
@@ -27,6 +28,18 @@ impl Model for Plane {
     ghost view = { λ p. record { arity = p.arity; rows = p.rows } };
 
     ghost inverse = { λ p. record { arity = p.arity; rows = p.rows } };
+}
+
+/// The values as a row.
+fn row_of_values(values: &[K3]) -> Row
+    requires { length values.now ≤ 256 }
+    ensures { result ≡ values.now }
+{
+    let mut row = Row::of(values.len() as u32, K3::No);
+    for u in 0..values.len() {
+        row.set(u as u32, values[u]);
+    }
+    row
 }
 
 impl Plane {
@@ -70,6 +83,40 @@ impl Plane {
         ensures { self.new ≡ record self.old { rows = with_cell self.old.rows row column k } }
     {
         self.rows.put_cell(row, column, k);
+    }
+
+    /// The values of a row.
+    pub fn row(&self, row: usize) -> Row
+        requires row { row < length self.now.rows }
+        requires columns { length (row_in self.now row) ≤ 256 }
+        ensures { result ≡ row_in self.now row }
+    {
+        row_of_values(self.rows.as_slice()[row].as_slice())
+    }
+
+    /// The values of a column in the first `rows` rows.
+    pub fn column(&self, rows: u32, column: usize) -> Row
+        requires rows { rows ≤ length self.now.rows }
+        requires bound { rows ≤ 256 }
+        requires columns { (row : ℕ) → row < rows → column < length (row_in self.now row) }
+        ensures { result ≡ column_in rows self.now column }
+    {
+        let mut values = Row::of(rows, K3::No);
+        for row in 0..rows {
+            values.set(row, self.get(row as usize, column));
+        }
+        values
+    }
+
+    /// Puts the values into a row.
+    pub fn put_row(&mut self, row: usize, values: &Row)
+        requires row { row < length self.old.rows }
+        requires columns { length values.now ≡ length (row_in self.old row) }
+        ensures { self.new ≡ record self.old { rows = slice_set self.old.rows row values.now } }
+    {
+        for column in 0..values.size() {
+            self.put(row, column as usize, values.get(column));
+        }
     }
 
     /// An equal plane in memory of its own.

@@ -1,7 +1,7 @@
 //! A table with the values of each predicate beside each other.
 
 ghost use Rattle.std.specs.Prelude.{◌≡◌, ◌<◌, ◌≤◌, ℕ, [], ◌∷◌, length, map, All, IfOk, Some, slice_get, slice_index_or};
-ghost use Rattle.tv_struct.specs.TableForm.{TableForm, IsTable, HasEntry, entry, with_entry, table_of_no, table_drawn, row_of, column_of, no_plane, arities_in};
+ghost use Rattle.tv_struct.specs.TableForm.{TableForm, IsTable, HasEntry, entry, with_entry, table_of_no, table_drawn, row_of, column_of, no_plane, arities_in, plane_at, row_in, column_in, column_count, table_with_row};
 ghost use Rattle.tv_struct.specs.Order.{planes_cmp};
 ghost use Rattle.tv_struct.specs.Signature.{planes_mixed};
 ghost use Rattle.tv_struct.specs.TupleForm.{tuple_of};
@@ -13,6 +13,7 @@ use std::cmp::Ordering;
 use std::marker::Model;
 use tv_kleene::K3;
 use tv_model::{Pred, PredId};
+use tv_row::Row;
 
 /// A table that keeps a plane of values for each predicate.
 #[derive(Debug, Drop)]
@@ -76,6 +77,38 @@ impl Planes {
         ensures known { result ≤ 2 }
     {
         self.planes[p.0 as usize].arity()
+    }
+
+    /// The values in a row of the predicate `p`.
+    #[tactic(auto, using(crate::proofs::RowLaws::row_small))]
+    pub fn row(&self, p: PredId, row: u32) -> Row
+        requires predicate { p.0 < length self.now.planes }
+        requires row { row < length (plane_at self.now p.0).rows }
+        ensures { result ≡ row_in (plane_at self.now p.0) row }
+    {
+        self.planes[p.0 as usize].row(row as usize)
+    }
+
+    /// The values in a column of the binary predicate `p`.
+    pub fn column(&self, p: PredId, column: u32) -> Row
+        requires predicate { p.0 < length self.now.planes }
+        requires arity { (plane_at self.now p.0).arity ≡ 2 }
+        requires column { column < self.now.size }
+        ensures { result ≡ column_in self.now.size (plane_at self.now p.0) column }
+    {
+        self.planes[p.0 as usize].column(self.size, column as usize)
+    }
+
+    /// Puts the values into a row of the predicate `p`, and changes nothing else.
+    pub fn put_row(&mut self, p: PredId, row: u32, values: &Row)
+        requires predicate { p.0 < length self.old.planes }
+        requires row { row < length (plane_at self.old p.0).rows }
+        requires columns { length values.now ≡ column_count self.old.size (plane_at self.old p.0).arity }
+        ensures value { self.new ≡ table_with_row self.old p.0 row values.now }
+        ensures kept { IsTable self.new }
+    {
+        let plane = &mut self.planes[p.0 as usize];
+        plane.put_row(row as usize, values);
     }
 
     /// An equal table in memory of its own.

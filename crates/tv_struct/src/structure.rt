@@ -1,12 +1,14 @@
 //! Three-valued structures of at most 256 individuals.
 
-ghost use Rattle.std.specs.Prelude.{◌≡◌, ◌<◌, ◌≤◌, ◌↔◌, ℕ, [], ◌∷◌, length, map, All, IfOk, IsTrue, IfSome, sum, slice_get, slice_index, refl};
+ghost use Rattle.std.specs.Prelude.{◌≡◌, ◌≢◌, ◌<◌, ◌≤◌, ◌↔◌, ℕ, List, [], ◌∷◌, length, map, All, IfOk, IsTrue, IfSome, sum, slice_get, slice_index, if◌then◌else◌, refl};
 ghost use Rattle.std.specs.Cmp.{partial_equiv_from_equiv, eq_by_cmp_equiv, po};
 ghost use Rattle.std.specs.Ordering.{eq_by_cmp, as_partial_cmp};
+ghost use Rattle.tv_kleene.specs.declared.K3.TheVariants.{No, Half};
 ghost use Rattle.tv_struct.specs.Order.{structure_cmp, structure_cmp_total};
 ghost use Rattle.tv_struct.specs.Signature.{signature_of};
 ghost use Rattle.tv_struct.specs.StructureForm.{StructureForm, IsStructure, IsMark, IsOver, arities_of, table_of, value_at, summary_at, structure_of_no, with_value, with_summary, with_new, without, split, drawn, unmarked};
-ghost use Rattle.tv_struct.specs.TableForm.{HasEntry};
+ghost use Rattle.tv_struct.specs.StructureRows.{HasArity, unary_row, row_at, column_at, summary_row, with_row};
+ghost use Rattle.tv_struct.specs.TableForm.{HasEntry, row_of};
 ghost use Rattle.tv_struct.specs.TupleForm.{tuple_of};
 
 use crate::line::Line;
@@ -19,6 +21,7 @@ use std::cmp::Ordering;
 use std::marker::Model;
 use tv_kleene::K3;
 use tv_model::{Items, PredId, Vocab};
+use tv_row::Row;
 
 /// A three-valued logical structure (Sagiv, Reps and Wilhelm 2002, section 4) over the individuals 0
 /// to `size - 1`: the value of each predicate at each tuple, and which individuals are summaries,
@@ -41,6 +44,13 @@ impl Model for Structure {
     ghost view = { λ s. record { size = s.table.size; summaries = s.summaries; planes = s.table.planes; fresh = s.fresh } };
 
     ghost invariant = { λ s. IsStructure (record { size = s.table.size; summaries = s.summaries; planes = s.table.planes; fresh = s.fresh }) };
+}
+
+/// `Half` for a true flag, else `No`.
+fn flag_value(on: bool) -> K3
+    ensures { result ≡ (if on then Half else No) }
+{
+    if on { K3::Half } else { K3::No }
 }
 
 impl Structure {
@@ -118,6 +128,74 @@ impl Structure {
         ensures kept { IsStructure self.new }
     {
         self.table.set(p, t, k);
+    }
+
+    /// The values of the unary predicate `p`, individual by individual.
+    pub fn unary_row(&self, p: PredId) -> Row
+        requires { HasArity self.now p.0 1 }
+        ensures { result ≡ unary_row self.now p.0 }
+    {
+        self.table.row(p, 0)
+    }
+
+    /// The values of the binary predicate `p` at the pairs with first member `u`, by the second.
+    pub fn row(&self, p: PredId, u: u32) -> Row
+        requires arity { HasArity self.now p.0 2 }
+        requires individual { u < self.now.size }
+        ensures { result ≡ row_at self.now p.0 u }
+    {
+        self.table.row(p, u)
+    }
+
+    /// The values of the binary predicate `p` at the pairs with second member `w`, by the first.
+    pub fn column(&self, p: PredId, w: u32) -> Row
+        requires arity { HasArity self.now p.0 2 }
+        requires individual { w < self.now.size }
+        ensures { result ≡ column_at self.now p.0 w }
+    {
+        self.table.column(p, w)
+    }
+
+    /// Puts the values into the unary predicate `p`, individual by individual, and changes no other
+    /// entry.
+    pub fn set_unary_row(&mut self, p: PredId, values: &Row)
+        requires arity { HasArity self.old p.0 1 }
+        requires size { length values.now ≡ self.old.size }
+        ensures value { self.new ≡ with_row self.old p.0 0 values.now }
+        ensures row { unary_row self.new p.0 ≡ values.now }
+        ensures others { (q : ℕ) (tuple : List ℕ) → q ≢ p.0 → value_at self.new q tuple ≡ value_at self.old q tuple }
+        ensures over { arities_of self.new ≡ arities_of self.old }
+        ensures kept { IsStructure self.new }
+    {
+        self.table.put_row(p, 0, values);
+    }
+
+    /// Puts the values into the binary predicate `p` at the pairs with first member `u`, by the second,
+    /// and changes no other entry.
+    pub fn set_row(&mut self, p: PredId, u: u32, values: &Row)
+        requires arity { HasArity self.old p.0 2 }
+        requires individual { u < self.old.size }
+        requires size { length values.now ≡ self.old.size }
+        ensures value { self.new ≡ with_row self.old p.0 u values.now }
+        ensures row { row_at self.new p.0 u ≡ values.now }
+        ensures others { (q : ℕ) (tuple : List ℕ) → ¬ ((q ≡ p.0) × (row_of tuple ≡ u))
+            → value_at self.new q tuple ≡ value_at self.old q tuple }
+        ensures over { arities_of self.new ≡ arities_of self.old }
+        ensures kept { IsStructure self.new }
+    {
+        self.table.put_row(p, u, values);
+    }
+
+    /// Of each individual `Half` where it is a summary, else `No`.
+    pub fn summary_row(&self) -> Row
+        ensures { result ≡ summary_row self.now }
+    {
+        let size = self.size();
+        let mut row = Row::of(size, K3::No);
+        for u in 0..size {
+            row.set(u, flag_value(self.summary(u)));
+        }
+        row
     }
 
     /// Whether the individual `u` is a summary.

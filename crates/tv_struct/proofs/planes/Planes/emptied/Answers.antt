@@ -1,4 +1,4 @@
-use Rattle.std.proofs.Common.{map, ◌≤◌, arith}
+use Rattle.std.proofs.Common.{map, ◌≤◌}
 use Rattle.std.proofs.lemmas.List.{take_all, length-map}
 use Rattle.std.proofs.lemmas.List.Elements.{All-map}
 use Rattle.tv_struct.specs.TableForm.{PlaneForm}

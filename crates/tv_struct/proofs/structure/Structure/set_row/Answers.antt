@@ -1,0 +1,30 @@
+use Rattle.std.proofs.Common.{subst, ap, ◌∙◌}
+use Rattle.tv_struct.specs.TableForm.{TableForm}
+use Rattle.tv_struct.specs.StructureForm.{StructureForm, IsStructure}
+use Rattle.tv_struct.specs.StructureRows.{with_row}
+use Rattle.tv_struct.proofs.RowLaws.{writes_row}
+use Rattle.tv_struct.proofs.structure.Structure.set_row.Goals as goal
+
+pub returns-clause-row : goal.returns-clause-row
+returns-clause-row c =
+    (writes_row c.args.self.now _ c.args.p.0 c.args.u c.args.values.now (subst IsStructure c.self.view_is c.self.invariant) c.requires.arity
+    c.requires.individual c.requires.size
+    (ap (λ (t : TableForm). record { size = t.size; summaries = c.self.inside.summaries; planes = t.planes; fresh = c.self.inside.fresh })
+    c.put_row.ensures.value
+    ∙ ap (λ (s : StructureForm). with_row s c.args.p.0 c.args.u c.args.values.now) c.self.view_is)).1
+
+pub returns-clause-others : goal.returns-clause-others
+returns-clause-others c =
+    (writes_row c.args.self.now _ c.args.p.0 c.args.u c.args.values.now (subst IsStructure c.self.view_is c.self.invariant) c.requires.arity
+    c.requires.individual c.requires.size
+    (ap (λ (t : TableForm). record { size = t.size; summaries = c.self.inside.summaries; planes = t.planes; fresh = c.self.inside.fresh })
+    c.put_row.ensures.value
+    ∙ ap (λ (s : StructureForm). with_row s c.args.p.0 c.args.u c.args.values.now) c.self.view_is)).0.others
+
+pub returns-clause-over : goal.returns-clause-over
+returns-clause-over c =
+    (writes_row c.args.self.now _ c.args.p.0 c.args.u c.args.values.now (subst IsStructure c.self.view_is c.self.invariant) c.requires.arity
+    c.requires.individual c.requires.size
+    (ap (λ (t : TableForm). record { size = t.size; summaries = c.self.inside.summaries; planes = t.planes; fresh = c.self.inside.fresh })
+    c.put_row.ensures.value
+    ∙ ap (λ (s : StructureForm). with_row s c.args.p.0 c.args.u c.args.values.now) c.self.view_is)).0.over
