@@ -14,8 +14,3 @@ pub use laws::{include_lines, one_reading, spaced_texts};
 pub use places::place;
 pub use reader::lex;
 pub use token::{LexError, Place, Token, TokenKind, Tokens, text};
-
-#[cfg(test)]
-mod gather_tests;
-#[cfg(test)]
-mod tests;

@@ -15,6 +15,3 @@ pub use mem_sink::MemSink;
 pub use read::{ReadError, read_all};
 pub use sink::Sink;
 pub use write::{write_all, write_parts};
-
-#[cfg(test)]
-mod tests;

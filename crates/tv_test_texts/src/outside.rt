@@ -1,9 +1,9 @@
 //! Rows of reading and writing over the versions in memory.
 ghost use Rattle.std.specs.Prelude.{◌≤◌};
 
-use super::*;
 use std::alloc::{AllocError, Global};
 use std::test::Fail;
+use tv_outside::{Failed, MemFiles, MemSink, ReadError, read_all, write_all, write_parts};
 
 /// A file with nothing in it, and one with the five bytes `hello`.
 fn sample(alloc: Global, step: usize, fail: &[u64]) -> Result<MemFiles, AllocError>

@@ -1,7 +1,7 @@
 //! Texts and their tokens, by example.
-use super::*;
 use std::alloc::{AllocError, Global};
 use std::test::Fail;
+use tv_lex::{LexError, Place, Token, TokenKind, lex, place, text};
 
 /// A text, and its tokens: a letter for each kind and the token's bytes.
 static TEXTS: [(&[u8], &str); 67] = [

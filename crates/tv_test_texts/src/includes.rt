@@ -1,7 +1,7 @@
 //! Files and their gathered texts, by example.
-use super::*;
 use std::alloc::{AllocError, Global};
 use std::test::Fail;
+use tv_lex::{GatherError, Gathered, MAX_TEXT, gather};
 use tv_outside::MemFiles;
 
 /// Files, divided by `~`, each with its name in front of `=`. The first is gathered. Then its text, or the refusal.
