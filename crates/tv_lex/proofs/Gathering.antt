@@ -10,20 +10,19 @@ use Rattle.tv_outside.specs.declared.read.ReadError.{ReadError}
 use Rattle.tv_outside.specs.declared.read.ReadError.TheVariants.{Failed as ReadFailed, TooLong as ReadTooLong, Memory as ReadMemory}
 use Rattle.tv_lex.specs.Bytes.{stays_on_line}
 use Rattle.tv_lex.specs.Include.{lines_of, onto, includes, include_name, inner_name}
-use Rattle.tv_lex.specs.Gather.{Event, Begin, Give, Refuse, begun, BeginsEach, gathered, GivesBytes, BytesCause, Puts, PutCause, Gathers, GatherCause, file_events, content_events, line_events, one_line, opens, named_events, included, below, gather_error}
-use Rattle.tv_lex.specs.declared.gatherer.TheConstants.{MAX_TEXT, MAX_DEPTH}
+use Rattle.tv_lex.specs.Gather.{longest_gathered, deepest_include, Event, Begin, Give, Refuse, begun, BeginsEach, gathered, GivesBytes, BytesCause, Puts, PutCause, Gathers, GatherCause, file_events, content_events, line_events, one_line, opens, named_events, included, below, gather_error}
 use Rattle.tv_lex.specs.declared.gatherer.GatherError.{GatherError}
 use Rattle.tv_lex.specs.declared.gatherer.GatherError.TheVariants.{Failed, TooLong, Unended, IncludeForm, IncludeDepth, Memory}
 
-pub gives_bytes : (old bytes new : List ℕ) → new ≡ old ++ bytes → length old + length bytes ≤ MAX_TEXT → GivesBytes old bytes (Ok new)
+pub gives_bytes : (old bytes new : List ℕ) → new ≡ old ++ bytes → length old + length bytes ≤ longest_gathered → GivesBytes old bytes (Ok new)
 gives_bytes old bytes new e fits after =
     let len : length (old ++ bytes) ≡ length old + length bytes = length-append old bytes in
-    cond-false _ (Err TooLong) (gathered (old ++ bytes) after) (le-ltb MAX_TEXT (length (old ++ bytes)) (omega arith)) ∙ ap (λ text. gathered text after) (sym e)
+    cond-false _ (Err TooLong) (gathered (old ++ bytes) after) (le-ltb longest_gathered (length (old ++ bytes)) (omega arith)) ∙ ap (λ text. gathered text after) (sym e)
 
-pub gives_too_long : (old bytes : List ℕ) → MAX_TEXT < length old + length bytes → GivesBytes old bytes (Err TooLong)
+pub gives_too_long : (old bytes : List ℕ) → longest_gathered < length old + length bytes → GivesBytes old bytes (Err TooLong)
 gives_too_long old bytes long after =
     let len : length (old ++ bytes) ≡ length old + length bytes = length-append old bytes in
-    cond-true _ (Err TooLong) (gathered (old ++ bytes) after) (lt-ltb MAX_TEXT (length (old ++ bytes)) (omega arith))
+    cond-true _ (Err TooLong) (gathered (old ++ bytes) after) (lt-ltb longest_gathered (length (old ++ bytes)) (omega arith))
 
 -- ---- causes
 
@@ -98,7 +97,7 @@ file_events-is held (suc left) name = refl
 missing : (held : Held) (left : ℕ) (name old : List ℕ) (content : Option (List ℕ)) → content_of held name ≡ content → (content ≡ None) → (after : List Event) → gathered old (file_events held left name ++ after) ≡ Err Failed
 missing held left name old content is none after = ap (λ es. gathered old (es ++ after)) (file_events-is held left name ∙ ap (λ o. Begin ∷ content_events (included (below held left) name) o) (is ∙ none))
 
-pub read_cause : (e : ReadError) (told : Option Held) (name old : List ℕ) (left : ℕ) (steady : Type 0) (before now : ℕ) → ReadCause e told name MAX_TEXT steady before now → PutCause (gather_error e) told (λ held. file_events held left name) old steady before now
+pub read_cause : (e : ReadError) (told : Option Held) (name old : List ℕ) (left : ℕ) (steady : Type 0) (before now : ℕ) → ReadCause e told name longest_gathered steady before now → PutCause (gather_error e) told (λ held. file_events held left name) old steady before now
 read_cause ReadFailed told name old left steady before now cause = (cause.0, λ s. not_held told (cause.1 s))
   where
     not_held : (told : Option Held) → ¬ HoldsName told name → Puts told (λ held. file_events held left name) old (Err Failed)
@@ -110,21 +109,21 @@ read_cause ReadFailed told name old left steady before now cause = (cause.0, λ 
         go held (Some content) is never after = absurd (never (ap (λ (o : Option (List ℕ)). is_some o) is))
 read_cause ReadTooLong None name old left steady before now cause = tt
 read_cause ReadTooLong (Some held) name old left steady before now cause = λ after.
-    ap (λ es. gathered old (es ++ after)) (file_events-is held left name ∙ ap (λ es. Begin ∷ es) (ap (content_events (included (below held left) name)) cause.1 ∙ cond-true _ (Refuse TooLong ∷ []) (line_events (included (below held left) name) false (lines_of cause.0)) (lt-ltb MAX_TEXT (length cause.0) cause.2)))
+    ap (λ es. gathered old (es ++ after)) (file_events-is held left name ∙ ap (λ es. Begin ∷ es) (ap (content_events (included (below held left) name)) cause.1 ∙ cond-true _ (Refuse TooLong ∷ []) (line_events (included (below held left) name) false (lines_of cause.0)) (lt-ltb longest_gathered (length cause.0) cause.2)))
 read_cause ReadMemory told name old left steady before now cause = tt
 
 -- a file that is short enough gives what its lines give
-file_events-content : (held : Held) (left : ℕ) (name content : List ℕ) → content_of held name ≡ Some content → length content ≤ MAX_TEXT → file_events held left name ≡ Begin ∷ line_events (included (below held left) name) false (lines_of content)
+file_events-content : (held : Held) (left : ℕ) (name content : List ℕ) → content_of held name ≡ Some content → length content ≤ longest_gathered → file_events held left name ≡ Begin ∷ line_events (included (below held left) name) false (lines_of content)
 file_events-content held left name content is fits =
     file_events-is held left name
-    ∙ ap (λ es. Begin ∷ es) (ap (content_events (included (below held left) name)) is ∙ cond-false _ (Refuse TooLong ∷ []) (line_events (included (below held left) name) false (lines_of content)) (le-ltb MAX_TEXT (length content) fits))
+    ∙ ap (λ es. Begin ∷ es) (ap (content_events (included (below held left) name)) is ∙ cond-false _ (Refuse TooLong ∷ []) (line_events (included (below held left) name) false (lines_of content)) (le-ltb longest_gathered (length content) fits))
 
 -- the file up to a place gave this text, and these lines are left
 abbrev pub Putting : Option Held → List ℕ → ℕ → List ℕ → Bool → List ℕ → List ℕ → Type 0
 Putting None name left old inside rest out = Unit {0}
 Putting (Some held) name left old inside rest out = (after : List Event) → gathered old (file_events held left name ++ after) ≡ gathered out (line_events (included (below held left) name) inside (lines_of rest) ++ after)
 
-pub putting_start : (told : Option Held) (name old content : List ℕ) (left : ℕ) → IsContent told name content → length content ≤ MAX_TEXT → Putting told name left old false content old
+pub putting_start : (told : Option Held) (name old content : List ℕ) (left : ℕ) → IsContent told name content → length content ≤ longest_gathered → Putting told name left old false content old
 putting_start None name old content left is fits = tt
 putting_start (Some held) name old content left is fits = λ after.
     ap (λ es. gathered old (es ++ after)) (file_events-content held left name content is fits)
@@ -250,7 +249,7 @@ counted-le a n = capped a n count_max
     capped : (a n top : ℕ) → min (a + n) top ≤ top
     capped a n top = omega arith
 
-pub beginning_start : (told : Option Held) (name content : List ℕ) (left old now : ℕ) → IsContent told name content → length content ≤ MAX_TEXT → now ≡ counted old 1 → Beginning told name left false content old now
+pub beginning_start : (told : Option Held) (name content : List ℕ) (left old now : ℕ) → IsContent told name content → length content ≤ longest_gathered → now ≡ counted old 1 → Beginning told name left false content old now
 beginning_start None name content left old now is fits one = tt
 beginning_start (Some held) name content left old now is fits one = λ below_top.
     let lines = line_events (included (below held left) name) false (lines_of content) in (
@@ -285,15 +284,15 @@ beginning_end (Some held) name [] left inside old now beginning none is = λ bel
 
 -- ---- the whole text
 
-pub gathers_text : (told : Option Held) (name text : List ℕ) → Puts told (λ held. file_events held MAX_DEPTH name) [] (Ok text) → Gathers told name (Ok text)
+pub gathers_text : (told : Option Held) (name text : List ℕ) → Puts told (λ held. file_events held deepest_include name) [] (Ok text) → Gathers told name (Ok text)
 gathers_text None name text puts = tt
-gathers_text (Some held) name text puts = ap (gathered []) (sym (append-nil (file_events held MAX_DEPTH name))) ∙ puts []
+gathers_text (Some held) name text puts = ap (gathered []) (sym (append-nil (file_events held deepest_include name))) ∙ puts []
 
-gathers_fault : (told : Option Held) (name : List ℕ) (fault : GatherError) → Puts told (λ held. file_events held MAX_DEPTH name) [] (Err fault) → Gathers told name (Err fault)
+gathers_fault : (told : Option Held) (name : List ℕ) (fault : GatherError) → Puts told (λ held. file_events held deepest_include name) [] (Err fault) → Gathers told name (Err fault)
 gathers_fault None name fault puts = tt
-gathers_fault (Some held) name fault puts = ap (gathered []) (sym (append-nil (file_events held MAX_DEPTH name))) ∙ puts []
+gathers_fault (Some held) name fault puts = ap (gathered []) (sym (append-nil (file_events held deepest_include name))) ∙ puts []
 
-pub gather_cause : (e : GatherError) (told : Option Held) (name : List ℕ) (steady : Type 0) (before now : ℕ) → PutCause e told (λ held. file_events held MAX_DEPTH name) [] steady before now → GatherCause e told name steady before now
+pub gather_cause : (e : GatherError) (told : Option Held) (name : List ℕ) (steady : Type 0) (before now : ℕ) → PutCause e told (λ held. file_events held deepest_include name) [] steady before now → GatherCause e told name steady before now
 gather_cause Failed told name steady before now cause = (cause.0, λ s. gathers_fault told name Failed (cause.1 s))
 gather_cause TooLong told name steady before now cause = gathers_fault told name TooLong cause
 gather_cause Unended told name steady before now cause = gathers_fault told name Unended cause

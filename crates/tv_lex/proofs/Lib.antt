@@ -8,3 +8,4 @@ pub mod Names
 pub mod Gathering
 pub mod SpacedTexts
 pub mod IncludeForm
+pub mod PlaceLemmas

@@ -1,6 +1,10 @@
--- Classes of bytes.
+-- Texts: how long one may be, and classes of its bytes.
 use Rattle.std.specs.Prelude.{ℕ, Bool, ◌&&◌, ◌||◌, not, ◌==◌, nat_le}
 use Rattle.std.specs.Char.{is_ascii_alphabetic, is_ascii_alphanumeric}
+
+-- the greatest number of bytes of a text that is cut into tokens
+abbrev pub longest_text : ℕ
+longest_text = 67108864
 
 -- space, tab, carriage return, line feed
 abbrev pub is_blank : ℕ → Bool

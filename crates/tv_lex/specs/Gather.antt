@@ -5,9 +5,16 @@ use Rattle.tv_outside.specs.Count.{count_max, counted, Rose}
 use Rattle.tv_outside.specs.declared.read.ReadError.{ReadError}
 use Rattle.tv_outside.specs.declared.read.ReadError.TheVariants.{Failed as ReadFailed, TooLong as ReadTooLong, Memory as ReadMemory}
 use Rattle.tv_lex.specs.Include.{lines_of, is_open_after, includes, include_name, inner_name}
-use Rattle.tv_lex.specs.declared.gatherer.TheConstants.{MAX_TEXT, MAX_DEPTH}
 use Rattle.tv_lex.specs.declared.gatherer.GatherError.{GatherError}
 use Rattle.tv_lex.specs.declared.gatherer.GatherError.TheVariants.{Failed, TooLong, Unended, IncludeForm, IncludeDepth, Memory}
+
+-- the greatest number of bytes of a file and of a gathered text
+abbrev pub longest_gathered : ℕ
+longest_gathered = 4194304
+
+-- how many includes deep a file may be
+abbrev pub deepest_include : ℕ
+deepest_include = 16
 
 -- In reading order: the begin of a file, bytes of the text, or a place at which it is refused.
 pub data Event : Type 0 where
@@ -39,7 +46,7 @@ included file name line = named_events file name (include_name line)
 -- what a file gives that holds this; Failed stands for a name that holds nothing
 abbrev pub content_events : (List ℕ → List Event) → Option (List ℕ) → List Event
 content_events include None = Refuse Failed ∷ []
-content_events include (Some content) = if nat_lt MAX_TEXT (length content) then Refuse TooLong ∷ [] else line_events include false (lines_of content)
+content_events include (Some content) = if nat_lt longest_gathered (length content) then Refuse TooLong ∷ [] else line_events include false (lines_of content)
 
 -- what a file gives that may be this many includes above the deepest file
 unfoldable pub file_events : Held → ℕ → List ℕ → List Event
@@ -51,7 +58,7 @@ abbrev pub gathered : List ℕ → List Event → Result (List ℕ) GatherError
 gathered text [] = Ok text
 gathered text (Begin ∷ events) = gathered text events
 gathered text (Refuse fault ∷ events) = Err fault
-gathered text (Give bytes ∷ events) = if nat_lt MAX_TEXT (length (text ++ bytes)) then Err TooLong else gathered (text ++ bytes) events
+gathered text (Give bytes ∷ events) = if nat_lt longest_gathered (length (text ++ bytes)) then Err TooLong else gathered (text ++ bytes) events
 
 -- how many times a file is begun
 abbrev pub begun : List Event → ℕ
@@ -68,7 +75,7 @@ BeginsEach (Some held) events old new = old ≤ count_max → new ≡ counted ol
 -- the gathered text of a file is this, or it is refused so, where it is told what the files hold
 abbrev pub Gathers : Option Held → List ℕ → Result (List ℕ) GatherError → Type 0
 Gathers None name answer = Unit {0}
-Gathers (Some held) name answer = gathered [] (file_events held MAX_DEPTH name) ≡ answer
+Gathers (Some held) name answer = gathered [] (file_events held deepest_include name) ≡ answer
 
 -- Why a text wasn't gathered. At Failed a fault was counted, and on steady files a name that the text comes to, before
 -- any other refusal, holds nothing. Of want of memory nothing is said.
@@ -79,6 +86,16 @@ GatherCause Unended told name steady old new = Gathers told name (Err Unended)
 GatherCause IncludeForm told name steady old new = Gathers told name (Err IncludeForm)
 GatherCause IncludeDepth told name steady old new = Gathers told name (Err IncludeDepth)
 GatherCause Memory told name steady old new = Unit {0}
+
+-- this holds at any answer but `Failed`
+abbrev pub UnlessFilesFail : {T : Type 0} → Result T GatherError → Type 0 → Type 0
+UnlessFilesFail (Ok value) P = P
+UnlessFilesFail (Err Failed) P = Unit {0}
+UnlessFilesFail (Err TooLong) P = P
+UnlessFilesFail (Err Unended) P = P
+UnlessFilesFail (Err IncludeForm) P = P
+UnlessFilesFail (Err IncludeDepth) P = P
+UnlessFilesFail (Err Memory) P = P
 
 -- ---- parts of a text
 

@@ -1,7 +1,7 @@
 //! A text with its includes put in.
-ghost use Rattle.std.specs.Prelude.{◌≡◌, ◌≤◌, ◌∷◌, [], ◌++◌, length, IfOk, IfErr, OnOk};
+ghost use Rattle.std.specs.Prelude.{◌≡◌, ◌≤◌, ◌∷◌, [], ◌++◌, length, vec_len, IfOk, IfErr, OnOk};
 ghost use Rattle.tv_lex.specs.Include.{include_name as name_in};
-ghost use Rattle.tv_lex.specs.Gather.{Give, Gathers, BeginsEach, GatherCause, Puts, PutCause, GivesBytes, BytesCause, file_events, included, below, one_line, opens, gather_error};
+ghost use Rattle.tv_lex.specs.Gather.{longest_gathered, deepest_include, UnlessFilesFail, Give, Gathers, BeginsEach, GatherCause, Puts, PutCause, GivesBytes, BytesCause, file_events, included, below, one_line, opens, gather_error};
 ghost use Rattle.tv_lex.specs.declared.gatherer.GatherError.TheVariants.{Memory};
 
 use crate::include::{include_name, includes, inner_name, is_open_after, line_len};
@@ -59,6 +59,7 @@ pub struct Gathered {
 
 #[tactic(auto, using(crate::proofs::Gathering::gives_bytes, crate::proofs::Gathering::gives_too_long))]
 fn put_bytes(out: &mut Vec<u8>, bytes: &[u8]) -> Result<(), GatherError>
+    ensures fits { OnOk result (vec_len out.new ≤ longest_gathered) }
     ensures put { OnOk result (GivesBytes out.old.items bytes.now (Ok out.new.items)) }
     ensures cause { IfErr result (λ e. BytesCause e out.old.items bytes.now) }
 {
@@ -78,12 +79,15 @@ fn put_include<F: Files>(
     left: u32,
     out: &mut Vec<u8>,
 ) -> Result<(), GatherError>
+    requires { vec_len out.old ≤ longest_gathered }
+    ensures fits { OnOk result (vec_len out.new ≤ longest_gathered) }
     ensures count { F.faults files.old ≤ F.faults files.new }
     ensures holds { F.holds files.new ≡ F.holds files.old }
     ensures begins { OnOk result (BeginsEach (F.holds files.old) (λ held. included (below held left) name.now line.now) (F.begins files.old) (F.begins files.new)) }
     ensures put { OnOk result (Puts (F.holds files.old) (λ held. included (below held left) name.now line.now) out.old.items (Ok out.new.items)) }
     ensures cause { IfErr result (λ e. PutCause e (F.holds files.old) (λ held. included (below held left) name.now line.now) out.old.items (F.steady files.old) (F.faults files.old) (F.faults files.new)) }
-    ensures steady { F.steady files.old → OnOk result (F.steady files.new × (F.faults files.new ≡ F.faults files.old)) }
+    ensures steady { F.steady files.old
+        → UnlessFilesFail result (F.steady files.new × (F.faults files.new ≡ F.faults files.old)) }
 {
     let Some(written) = include_name(line) else {
         return Err(GatherError::IncludeForm);
@@ -107,13 +111,16 @@ fn put_line<F: Files>(
     left: u32,
     out: &mut Vec<u8>,
 ) -> Result<bool, GatherError>
+    requires { vec_len out.old ≤ longest_gathered }
+    ensures fits { OnOk result (vec_len out.new ≤ longest_gathered) }
     ensures count { F.faults files.old ≤ F.faults files.new }
     ensures holds { F.holds files.new ≡ F.holds files.old }
     ensures next { IfOk result (λ next. next ≡ opens inside line.now) }
     ensures begins { OnOk result (BeginsEach (F.holds files.old) (λ held. one_line (included (below held left) name.now) inside line.now) (F.begins files.old) (F.begins files.new)) }
     ensures put { OnOk result (Puts (F.holds files.old) (λ held. one_line (included (below held left) name.now) inside line.now) out.old.items (Ok out.new.items)) }
     ensures cause { IfErr result (λ e. PutCause e (F.holds files.old) (λ held. one_line (included (below held left) name.now) inside line.now) out.old.items (F.steady files.old) (F.faults files.old) (F.faults files.new)) }
-    ensures steady { F.steady files.old → OnOk result (F.steady files.new × (F.faults files.new ≡ F.faults files.old)) }
+    ensures steady { F.steady files.old
+        → UnlessFilesFail result (F.steady files.new × (F.faults files.new ≡ F.faults files.old)) }
 {
     if includes(inside, line) {
         put_include(alloc, files, name, line, left, out)?;
@@ -132,12 +139,15 @@ fn put_file<F: Files>(
     left: u32,
     out: &mut Vec<u8>,
 ) -> Result<(), GatherError>
+    requires { vec_len out.old ≤ longest_gathered }
+    ensures fits { OnOk result (vec_len out.new ≤ longest_gathered) }
     ensures count { F.faults files.old ≤ F.faults files.new }
     ensures holds { F.holds files.new ≡ F.holds files.old }
     ensures begins { OnOk result (BeginsEach (F.holds files.old) (λ held. file_events held left name.now) (F.begins files.old) (F.begins files.new)) }
     ensures put { OnOk result (Puts (F.holds files.old) (λ held. file_events held left name.now) out.old.items (Ok out.new.items)) }
     ensures cause { IfErr result (λ e. PutCause e (F.holds files.old) (λ held. file_events held left name.now) out.old.items (F.steady files.old) (F.faults files.old) (F.faults files.new)) }
-    ensures steady { F.steady files.old → OnOk result (F.steady files.new × (F.faults files.new ≡ F.faults files.old)) }
+    ensures steady { F.steady files.old
+        → UnlessFilesFail result (F.steady files.new × (F.faults files.new ≡ F.faults files.old)) }
 {
     let content = read_all(alloc, files, name, MAX_TEXT)?;
     let mut rest = content.as_slice();
@@ -157,19 +167,21 @@ fn put_file<F: Files>(
 ///
 /// A line whose first byte other than a space or a tab is `#`, and that doesn't begin inside a block comment, is an
 /// include line. The text of the file that it names and a line feed stand in its place. Each file is begun once for
-/// each place that includes it.
+/// each place that includes it. The text has at most 4,194,304 bytes, whatever the files tell.
 ///
 /// # Errors
 /// `Failed` comes only where a call of `files` failed, and on steady files only where they don't hold this name, or
 /// that of an included file which is come to before any other refusal. The others come at the first place, in reading
-/// order, at which they stand.
+/// order, at which they stand. At any answer but `Failed` steady files are steady, with the same count of faults.
 pub fn gather<F: Files>(alloc: Global, files: &mut F, name: &str) -> Result<Gathered, GatherError>
     ensures count { F.faults files.old ≤ F.faults files.new }
     ensures holds { F.holds files.new ≡ F.holds files.old }
-    ensures begins { OnOk result (BeginsEach (F.holds files.old) (λ held. file_events held MAX_DEPTH name.now) (F.begins files.old) (F.begins files.new)) }
+    ensures begins { OnOk result (BeginsEach (F.holds files.old) (λ held. file_events held deepest_include name.now) (F.begins files.old) (F.begins files.new)) }
     ensures text { IfOk result (λ g. Gathers (F.holds files.old) name.now (Ok g.bytes.items)) }
     ensures cause { IfErr result (λ e. GatherCause e (F.holds files.old) name.now (F.steady files.old) (F.faults files.old) (F.faults files.new)) }
-    ensures steady { F.steady files.old → OnOk result (F.steady files.new × (F.faults files.new ≡ F.faults files.old)) }
+    ensures size { IfOk result (λ g. vec_len g.bytes ≤ longest_gathered) }
+    ensures steady { F.steady files.old
+        → UnlessFilesFail result (F.steady files.new × (F.faults files.new ≡ F.faults files.old)) }
 {
     let mut bytes = Vec::new(alloc);
     put_file(alloc, files, name, MAX_DEPTH, &mut bytes)?;

@@ -1,9 +1,9 @@
 //! Laws about texts and their tokens. Each function does nothing: its clause is what it shows.
-ghost use Rattle.std.specs.Prelude.{◌≡◌, ◌↔◌, ℕ, List, Result};
+ghost use Rattle.std.specs.Prelude.{◌≡◌, ◌↔◌, ℕ, List, Result, length, Ok};
 ghost use Rattle.tv_lex.specs.Include.{include_name, IsIncludeLine};
 ghost use Rattle.tv_lex.specs.Token.{spec_tokens};
 ghost use Rattle.tv_lex.specs.Spaced.{Spaced, spaced_text, spaced_tokens};
-ghost use Rattle.tv_lex.specs.Pieces.{Reads};
+ghost use Rattle.tv_lex.specs.Pieces.{Reads, AreInOrder};
 ghost use Rattle.tv_lex.specs.declared.token.Token.{Token};
 ghost use Rattle.tv_lex.specs.declared.token.LexError.{LexError};
 
@@ -11,6 +11,12 @@ ghost use Rattle.tv_lex.specs.declared.token.LexError.{LexError};
 #[tactic(auto, using(crate::proofs::OneReading::one_reading))]
 pub fn one_reading()
     ensures { (text : List ℕ) (a b : Result (List Token) LexError) → Reads text a → Reads text b → a ≡ b }
+{}
+
+/// The tokens of a text stand in it in order, and none is empty.
+#[tactic(auto, using(crate::proofs::PlaceLemmas::reads_order))]
+pub fn tokens_in_order()
+    ensures { (text : List ℕ) (tokens : List Token) → Reads text (Ok tokens) → AreInOrder 0 tokens (length text) }
 {}
 
 /// A text of tokens with a blank behind each is read as these tokens.

@@ -1,5 +1,6 @@
 //! Texts to tokens.
 ghost use Rattle.std.specs.Prelude.{◌≡◌, ℕ, ◌+◌, ◌<◌, ◌≤◌, ◌++◌, ◌^◌, length, drop, IfOk, IfErr, OnOk};
+ghost use Rattle.tv_lex.specs.Bytes.{longest_text};
 ghost use Rattle.tv_lex.specs.Pieces.{Reads, Cause, AreInOrder, placed_one};
 
 use crate::front::{Front, behind, first_piece};
@@ -23,7 +24,7 @@ fn push_token(list: &mut Vec<Token>, found: Front, at: usize) -> Result<(), LexE
 
 /// The tokens of a text of at most 67,108,864 bytes. A place where no token, blank or comment stands ends the reading.
 pub fn lex(alloc: Global, bytes: &[u8]) -> Result<Tokens, LexError>
-    requires { length bytes.now ≤ 67108864 }
+    requires { length bytes.now ≤ longest_text }
     ensures tokens { IfOk result (λ t. Reads bytes.now (Ok t.list.items)) }
     ensures order { IfOk result (λ t. AreInOrder 0 t.list.items (length bytes.now)) }
     ensures fault { IfErr result (Cause bytes.now) }

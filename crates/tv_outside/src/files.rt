@@ -43,7 +43,7 @@ pub trait Files {
             → IsOk result × (faults self.new ≡ faults self.old) };
 
     /// Fills a front of `buf` with the next bytes of the current file and gives their number. For a `buf` that
-    /// isn't empty, 0 means the end of the file.
+    /// isn't empty, 0 means the end of the file. Before the first `begin` nothing is left.
     fn piece(&mut self, buf: &mut [u8]) -> Result<usize, Failed>
         ensures count { faults self.old ≤ faults self.new }
         ensures failed { OnErr result (Rose (faults self.old) (faults self.new)) }
@@ -53,6 +53,7 @@ pub trait Files {
         ensures fits { IfOk result (λ n. n ≤ length buf.old) }
         ensures bytes { IfOk result (λ n. GaveFront (left self.old) (left self.new) (take n buf.new)) }
         ensures end { IfOk result (λ n. 0 < length buf.old → n ≡ 0 → AtEnd (left self.old)) }
+        ensures unbegun { begins self.old ≡ 0 → AtEnd (left self.old) × IfOk result (λ n. n ≡ 0) }
         ensures given { IfOk result (λ n. given self.new ≡ counted (given self.old) n) }
         ensures none_given { OnErr result (given self.new ≡ given self.old) }
 

@@ -32,7 +32,7 @@ pub struct MemFiles {
 }
 
 impl Model for MemFiles {
-    ghost use Rattle.std.specs.Prelude.{◌≡◌, ◌≤◌, ◌<◌, map, length};
+    ghost use Rattle.std.specs.Prelude.{◌≡◌, ◌≤◌, ◌<◌, map, length, IsNone};
     ghost use Rattle.std.specs.List.{zip};
     ghost use Rattle.std.specs.String.{string_bytes};
     ghost use Rattle.tv_outside.specs.Memory.{FilesState, left_of, IsWithin};
@@ -53,7 +53,8 @@ impl Model for MemFiles {
     ghost invariant = { λ f.
         (1 ≤ f.step)
         × (length f.names.items ≡ length f.contents.items)
-        × IsWithin (map (λ c. c.items) f.contents.items) f.place };
+        × IsWithin (map (λ c. c.items) f.contents.items) f.place
+        × (f.begins ≡ 0 → IsNone f.place) };
 }
 
 impl MemFiles {
@@ -90,6 +91,7 @@ impl MemFiles {
 
     /// Makes the named file the current one, and says whether there is one.
     fn open(&mut self, name: &str) -> bool
+        requires { 0 < self.old.begins }
         ensures found { IsTrue result ↔ IsSome (content_of self.old.held name.now) }
         ensures opened { IfSome (content_of self.old.held name.now)
             (λ bytes. self.new ≡ record self.old { left = bytes; given = 0 }) }
@@ -163,6 +165,7 @@ impl Files for MemFiles {
         ensures same { OnErr result (buf.new ≡ buf.old) }
         ensures count { self.old.faults ≤ self.new.faults }
         ensures end { IfOk result (λ n. 0 < length buf.old → n ≡ 0 → self.old.left ≡ []) }
+        ensures unbegun { self.old.begins ≡ 0 → (self.old.left ≡ []) × IfOk result (λ n. n ≡ 0) }
     {
         if self.plan.count_call() {
             self.plan.count_fault();

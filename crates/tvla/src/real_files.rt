@@ -1,5 +1,5 @@
 //! Real files, of whose content nothing is told.
-ghost use Rattle.std.specs.Prelude.{◌≡◌, ℕ, ◌≤◌, None, length, IfOk};
+ghost use Rattle.std.specs.Prelude.{◌≡◌, ℕ, ◌≤◌, None, length, IfOk, IsNone};
 
 use std::io::Read;
 use std::{fs, io};
@@ -13,6 +13,7 @@ pub struct RealFiles<'a, R: std::rt::Files> {
     begins: u64,
     given: u64,
     faults: u64,
+    ghost unbegun: { begins ≡ 0 → IsNone current },
 }
 
 impl<'a, R: std::rt::Files> RealFiles<'a, R> {

@@ -1,4 +1,4 @@
-use Rattle.std.proofs.Common.{◌≡◌, ◌<◌, ◌≤◌, ◌-◌, Ok, sym, ◌∙◌, arith, length, false-eqb}
+use Rattle.std.proofs.Common.{rules, ◌≡◌, ◌<◌, ◌≤◌, ◌-◌, Ok, sym, ◌∙◌, arith, length, false-eqb}
 use Rattle.std.proofs.lemmas.Result.{err_from_is_err_and, on_ok_weaker}
 use Rattle.tv_lex.specs.Include.{inner_name}
 use Rattle.tv_lex.specs.Gather.{file_events, included, below}
@@ -22,6 +22,7 @@ put_file-loop-rest-init g t c =
       told.count,
       told.holds,
       told.steady,
+      search rules,
     )
 
 pub put_file-returns-in_err-inside-clause-cause : goal.put_file-returns-in_err-inside-clause-cause
@@ -47,6 +48,7 @@ put_file-loop-rest-preserved g t c =
       omega (arith, inv.2, said.count),
       said.holds ∙ inv.3,
       λ s. let before = inv.4 s in let now = said.steady before.0 in (now.0, now.1 ∙ before.1),
+      said.fits,
     )
 
 pub put_include-returns-in_err-put_file-clause-cause :

@@ -1,4 +1,5 @@
-use Rattle.std.proofs.Common.{◌≡◌, ◌+◌, ◌*◌, ◌≤◌, length}
+use Rattle.std.proofs.Common.{◌≡◌, ◌+◌, ◌*◌, ◌≤◌, length, vec_len}
+use Rattle.tv_lex.specs.Gather.{longest_gathered}
 use Rattle.tv_lex.proofs.Gathering.{Putting, Beginning}
 use Rattle.tv_lex.proofs.gatherer.+gathering.Given as goal
 
@@ -20,6 +21,7 @@ invariant-put_file-loop-rest g l =
     × (f.faults l.fn.files ≤ f.faults l.files)
     × (f.holds l.files ≡ f.holds l.fn.files)
     × (f.steady l.fn.files → f.steady l.files × (f.faults l.files ≡ f.faults l.fn.files))
+    × (vec_len l.out ≤ longest_gathered)
 
 abbrev pub decreases-put_file-loop-rest : goal.decreases-put_file-loop-rest
 decreases-put_file-loop-rest g l = length l.rest

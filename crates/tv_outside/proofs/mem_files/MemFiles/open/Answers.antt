@@ -19,7 +19,8 @@ pub invariant_of-self : goal.invariant_of-self
 invariant_of-self c =
     let place = rw c.deref.ensures.value at c.file_of.ensures in
     let held = content_of_found string_bytes (λ c. c.items) _ c.self.inside.contents.items _ _ c.in-Some.file c.self.invariant.1 place c.in-Some.is in
-    (c.self.invariant.0, c.self.invariant.1, (held.0, omega arith))
+    let begun = rw (← c.self.view_is) at c.requires in
+    (c.self.invariant.0, c.self.invariant.1, (held.0, omega arith), λ none. absurd (omega (arith, begun, none)))
 
 pub returns-clause-found : goal.returns-clause-found
 returns-clause-found c =
