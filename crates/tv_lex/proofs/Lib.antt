@@ -1,11 +1,14 @@
-pub mod Closes
+-- Library of lemmas for the crates above: pieces and the tokens among them, where tokens start, longest fronts.
+pub mod PieceTokens
+pub mod SpacedTexts
+pub mod PlaceLemmas
 pub mod Runs
 pub mod Taken
-pub mod Good
-pub mod Cut
-pub mod OneReading
-pub mod Names
-pub mod Gathering
-pub mod SpacedTexts
-pub mod IncludeForm
-pub mod PlaceLemmas
+-- Lemmas of this crate's own.
+mod Closes
+mod Good
+mod Cut
+mod OneReading
+mod Names
+mod Gathering
+mod IncludeForm

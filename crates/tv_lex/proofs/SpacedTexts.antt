@@ -1,18 +1,20 @@
 -- A text of tokens with a blank behind each is read as these tokens.
-use Rattle.std.proofs.Common.{◌≡◌, ℕ, suc, ◌+◌, ◌-◌, List, [], ◌∷◌, ◌++◌, Option, Some, None, Ok, true, false, eqb, length, get_or, take, drop, ap, sym, refl, ◌∙◌, subst, inl, inr, arith, append_assoc, length-append}
+use Rattle.std.proofs.Common.{◌≡◌, ℕ, suc, ◌+◌, List, [], ◌∷◌, ◌++◌, Some, None, Ok, true, false, eqb, length, get_or, ap, sym, refl, ◌∙◌, subst, inl, inr, arith, append_assoc, length-append}
 use Rattle.std.specs.List.{prefix_len, list_all, AllByRecursion}
 use Rattle.std.proofs.lemmas.Bool.{and_parts, and_left, and_right, or_cases, false≢true, cond-true, cond-false, eqb-true, ne_eqb}
-use Rattle.std.proofs.lemmas.List.{append-nil, get_or_at, map-append, take_at, drop_at}
+use Rattle.std.proofs.lemmas.List.{append-nil, get_or_at}
 use Rattle.tv_lex.specs.Bytes.{is_blank, is_word_byte, is_letter, is_text_byte}
-use Rattle.tv_lex.specs.Token.{SpecToken, spec_token, spec_tokens}
-use Rattle.tv_lex.specs.Pieces.{Piece, Fits, AllFit, Stands, IsOneOf, IsRunOf, punctuations, joined, placed, placed_one, Reads}
+use Rattle.tv_lex.specs.Token.{spec_tokens}
+use Rattle.tv_lex.specs.Pieces.{Piece, AllFit, Stands, IsOneOf, IsRunOf, punctuations, joined, placed, Reads}
 use Rattle.tv_lex.specs.Spaced.{Spaced, spaced_text, spaced_tokens}
 use Rattle.tv_lex.specs.Front.{front, token, is_half, word_front, string_front}
 use Rattle.tv_lex.specs.declared.token.Token.{Token}
 use Rattle.tv_lex.specs.declared.token.TokenKind.{TokenKind}
 use Rattle.tv_lex.specs.declared.token.TokenKind.TheVariants.{Word, Half, Text, Directive, Parts, Punct}
+use Rattle.tv_lex.proofs.PieceTokens.{tokens_of, fits_as_taken}
+pub use Rattle.tv_lex.proofs.PieceTokens.{spec_tokens-placed}
 use Rattle.tv_lex.proofs.Runs.{prefix_len-append-stop}
-use Rattle.tv_lex.proofs.Taken.{Takes, front_takes, front-blank, front-word, front-quote, front-percent, letter_not_percent}
+use Rattle.tv_lex.proofs.Taken.{front-blank, front-word, front-quote, front-percent, letter_not_percent}
 
 -- ---- what the reader takes in front of a blank
 
@@ -113,15 +115,6 @@ stands-spaced Punct bytes rest b blank stands = stands
 
 -- ---- the pieces of such a text
 
--- the piece that the reader takes fits
-fits_as_taken : (kind : Option TokenKind) (bytes rest : List ℕ) → Stands kind bytes rest → front (bytes ++ rest) ≡ Ok (record { kind = kind; len = length bytes }) → Fits (record { kind = kind; bytes = bytes }) rest
-fits_as_taken kind bytes rest stands is = record {
-  stands = stands;
-  longest = λ other more behind same stands.
-      let takes : Takes (Ok (record { kind = kind; len = length bytes })) other (length more) = subst (λ r. Takes r other (length more)) (ap front same ∙ is) (front_takes other more behind stands) in
-      takes.0;
-}
-
 abbrev pub spaced_pieces : List Spaced → List Piece
 spaced_pieces [] = []
 spaced_pieces (s ∷ ss) = record { kind = Some s.token.kind; bytes = s.token.bytes } ∷ record { kind = None; bytes = s.blank ∷ [] } ∷ spaced_pieces ss
@@ -140,37 +133,6 @@ spaced_fit (s ∷ ss) =
 joined-spaced : (ss : List Spaced) → joined (spaced_pieces ss) ≡ spaced_text ss
 joined-spaced [] = refl
 joined-spaced (s ∷ ss) = ap (λ l. s.token.bytes ++ s.blank ∷ l) (joined-spaced ss) ∙ sym (append_assoc s.token.bytes (s.blank ∷ []) (spaced_text ss))
-
--- the tokens among pieces
-abbrev token_of : Option TokenKind → List ℕ → List SpecToken
-token_of None bytes = []
-token_of (Some kind) bytes = record { kind = kind; bytes = bytes } ∷ []
-
-abbrev tokens_of : List Piece → List SpecToken
-tokens_of [] = []
-tokens_of (p ∷ ps) = token_of p.kind p.bytes ++ tokens_of ps
-
-text_there : (before bytes after : List ℕ) → take (length before + length bytes - length before) (drop (length before) (before ++ (bytes ++ after))) ≡ bytes
-text_there before bytes after =
-    let n : length before + length bytes - length before ≡ length bytes = omega arith in
-    ap (λ k. take k (drop (length before) (before ++ (bytes ++ after)))) n ∙ ap (take (length bytes)) (drop_at before (bytes ++ after) (length before) refl) ∙ take_at bytes after (length bytes) refl
-
-one_placed : (kind : Option TokenKind) (before bytes after text : List ℕ) → text ≡ before ++ (bytes ++ after) → spec_tokens text (placed_one kind (length before) (length before + length bytes)) ≡ token_of kind bytes
-one_placed None before bytes after text is = refl
-one_placed (Some kind) before bytes after text is =
-    let there : take (length before + length bytes - length before) (drop (length before) text) ≡ bytes = ap (λ l. take (length before + length bytes - length before) (drop (length before) l)) is ∙ text_there before bytes after in
-    λ i. record { kind = kind; bytes = there i } ∷ []
-
--- the tokens of a text have the bytes of its pieces
-pub spec_tokens-placed : (before after text : List ℕ) (at : ℕ) (ps : List Piece) → at ≡ length before → text ≡ before ++ (joined ps ++ after) → spec_tokens text (placed at ps) ≡ tokens_of ps
-spec_tokens-placed before after text at [] here is = refl
-spec_tokens-placed before after text at (p ∷ ps) here is =
-    let whole : text ≡ before ++ (p.bytes ++ (joined ps ++ after)) = is ∙ ap (λ l. before ++ l) (append_assoc p.bytes (joined ps) after) in
-    let further : text ≡ before ++ p.bytes ++ (joined ps ++ after) = whole ∙ sym (append_assoc before p.bytes (joined ps ++ after)) in
-    let next : at + length p.bytes ≡ length (before ++ p.bytes) = omega (arith, here, length-append before p.bytes) in
-    map-append (spec_token text) (placed_one p.kind at (at + length p.bytes)) (placed (at + length p.bytes) ps)
-    ∙ (λ i. (ap (λ a. spec_tokens text (placed_one p.kind a (a + length p.bytes))) here ∙ one_placed p.kind before p.bytes (joined ps ++ after) text whole) i
-    ++ spec_tokens-placed (before ++ p.bytes) after text (at + length p.bytes) ps next further i)
 
 tokens_of-spaced : (ss : List Spaced) → tokens_of (spaced_pieces ss) ≡ spaced_tokens ss
 tokens_of-spaced [] = refl

@@ -1,8 +1,8 @@
 //! Laws about texts and their tokens. Each function does nothing: its clause is what it shows.
-ghost use Rattle.std.specs.Prelude.{◌≡◌, ◌↔◌, ℕ, List, Result, length, Ok};
+ghost use Rattle.std.specs.Prelude.{◌≡◌, ◌↔◌, ℕ, List, Result, length, Ok, All};
 ghost use Rattle.tv_lex.specs.Include.{include_name, IsIncludeLine};
 ghost use Rattle.tv_lex.specs.Token.{spec_tokens};
-ghost use Rattle.tv_lex.specs.Spaced.{Spaced, spaced_text, spaced_tokens};
+ghost use Rattle.tv_lex.specs.Spaced.{IsToken, Spaced, spaced_text, spaced_tokens};
 ghost use Rattle.tv_lex.specs.Pieces.{Reads, AreInOrder};
 ghost use Rattle.tv_lex.specs.declared.token.Token.{Token};
 ghost use Rattle.tv_lex.specs.declared.token.LexError.{LexError};
@@ -17,6 +17,12 @@ pub fn one_reading()
 #[tactic(auto, using(crate::proofs::PlaceLemmas::reads_order))]
 pub fn tokens_in_order()
     ensures { (text : List ℕ) (tokens : List Token) → Reads text (Ok tokens) → AreInOrder 0 tokens (length text) }
+{}
+
+/// The tokens of a text are tokens of their kinds.
+#[tactic(auto, using(crate::proofs::PieceTokens::lexed_tokens))]
+pub fn tokens_of_their_kinds()
+    ensures { (text : List ℕ) (tokens : List Token) → Reads text (Ok tokens) → All IsToken (spec_tokens text tokens) }
 {}
 
 /// A text of tokens with a blank behind each is read as these tokens.
