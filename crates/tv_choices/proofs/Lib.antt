@@ -1,0 +1,18 @@
+-- Library: lemmas that the crates above may cite, on membership in lists, lists without repeats, numbers of choices,
+-- and tables that are written.
+pub mod Membership
+pub mod Distinct
+pub mod Counts
+pub mod Writes
+pub mod ChosenTables
+pub mod StageTables
+-- Proofs of this crate's own laws.
+mod Listed
+mod Places
+mod Embedded
+mod HeapChoices
+mod Stages
+mod Tables
+mod Exact
+mod Splits
+mod ExactLists
