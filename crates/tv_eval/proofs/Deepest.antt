@@ -1,8 +1,8 @@
 -- How deep the formulas of a list go.
 use Rattle.std.proofs.Common.{ℕ, ◌≡◌, ◌≤◌, List, [], ◌∷◌, map, min, max, Contains, refl, sym, ap, subst, ◌∙◌, arith}
 use Rattle.std.specs.List.{fold}
-use Rattle.tv_value.proofs.Lists.{Contains-none, Contains-cases}
 use Rattle.std.proofs.Common.{⊎_elim}
+use Rattle.tv_model.proofs.Lists.{Contains-none, Contains-cases}
 use Rattle.tv_eval.specs.ScratchForm.{deepest}
 
 -- a fold by numbers that are cut off at m gives the deepest, cut off at m

@@ -4,7 +4,7 @@ use Rattle.std.specs.Prelude.{IsSomeAnd, unwrap_or}
 use Rattle.std.proofs.lemmas.Bool.{cases_eq, cond-true, cond-false}
 use Rattle.tv_kleene.specs.declared.K3.{K3}
 use Rattle.tv_model.specs.Form.{Form, FAtom, FNot, FAnd, FOr, FIff, FCond, FExists, FForall, FClosure, IsFree}
-use Rattle.tv_value.proofs.Lists.{Contains-here, Contains-there}
+use Rattle.tv_model.proofs.Lists.{Contains-here, Contains-there}
 use Rattle.tv_struct.specs.TableForm.{HasEntry}
 use Rattle.tv_struct.specs.StructureForm.{StructureForm, table_of, arities_of}
 use Rattle.tv_eval.specs.AssignmentForm.{place_of, assignment_of, IsAssigned}

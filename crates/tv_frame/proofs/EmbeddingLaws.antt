@@ -1,27 +1,19 @@
--- Laws of embeddings.
-use Rattle.std.proofs.Common.{ℕ, ◌≡◌, ◌≢◌, ◌⊎◌, inl, inr, Bool, true, false, List, [], ◌∷◌, get_or, map, refl, sym, ap, subst, ◌∙◌, ◌↔◌, true≢false}
+-- Lemmas on embeddings, for the crates above: identity, composition, predicates added up, what lies below,
+-- and heaps read as structures.
+use Rattle.std.proofs.Common.{ℕ, ◌≡◌, ◌≢◌, ◌⊎◌, inl, inr, Bool, true, false, List, get_or, map, refl, sym, ap, subst, ◌∙◌, ◌↔◌, true≢false}
 use Rattle.std.specs.Prelude.{All, Any, Contains, IsTrue, if◌then◌else◌, nat_eq}
 use Rattle.std.specs.Cmp.Lexicographic.{pointwise, bytes_decides}
 use Rattle.std.proofs.lemmas.Bool.{cases_eq}
 use Rattle.std.proofs.lemmas.List.{map-id}
 use Rattle.std.proofs.lemmas.List.Elements.{All-map}
 use Rattle.std.proofs.lemmas.List.Folds.{Any-from_list_any, list_any-from_Any}
-use Rattle.tv_kleene.specs.declared.K3.{K3}
 use Rattle.tv_kleene.specs.declared.K3.TheVariants.{No, Yes}
 use Rattle.tv_kleene.specs.Kleene.{LiesUnder}
 use Rattle.tv_model.specs.Heap.{Heap, Holds, extent}
+use Rattle.tv_kleene.proofs.Lattice.{LiesUnder-trans}
+use Rattle.tv_model.proofs.Lists.{map-compose}
 use Rattle.tv_frame.specs.LogicalStructure.{LogicalStructure, ReadsHeap, holds}
 use Rattle.tv_frame.specs.Embedding.{EmbedsOn, Embeds, KeepsMark, IsBelow, IsBelowByValues}
-
-pub LiesUnder-trans : (x y z : K3) → LiesUnder x y → LiesUnder y z → LiesUnder x z
-LiesUnder-trans x y z (inl a) (inl b) = inl (a ∙ b)
-LiesUnder-trans x y z (inl a) (inr b) = inr b
-LiesUnder-trans x y z (inr a) (inl b) = inr (sym b ∙ a)
-LiesUnder-trans x y z (inr a) (inr b) = inr b
-
-map-compose : (f g : ℕ → ℕ) (xs : List ℕ) → map g (map f xs) ≡ map (λ u. g (f u)) xs
-map-compose f g [] = refl
-map-compose f g (x ∷ xs) = ap (λ rest. g (f x) ∷ rest) (map-compose f g xs)
 
 -- ---- identity and composition
 

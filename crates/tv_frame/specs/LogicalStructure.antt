@@ -7,8 +7,8 @@ use Rattle.tv_kleene.specs.declared.K3.TheVariants.{No, Yes}
 use Rattle.tv_model.specs.Heap.{Heap, Holds, extent}
 
 -- a structure: its individuals, the value of each predicate, by number, at each tuple of individuals,
--- which individuals may stand for several cells, and the individual that a step has just added. A
--- predicate knows its arity: at a tuple of another length its value is No
+-- which individuals may stand for several cells, and the individual that a step has just added. It knows
+-- no arities: that a value is No at a tuple of another length is so of tables and of heaps of a program
 pub record LogicalStructure : Type 0 where
   pub individuals : List ℕ
   pub value : (pred : ℕ) → (tuple : List ℕ) → K3

@@ -5,4 +5,7 @@
 
 mod laws;
 
-pub use laws::{below_is_by_values, embeddings_compose, heaps_read_as_structures};
+pub use laws::{
+    Pick, below_is_by_values, embeddings_add_up, embeddings_compose, embeddings_for_some_compose,
+    heaps_read_as_structures,
+};

@@ -1,9 +1,10 @@
 -- Lemmas on assignments, for the crates above: what an assignment gives once an individual is put for a
 -- variable.
-use Rattle.std.proofs.Common.{ℕ, ◌≡◌, ◌≢◌, List, [], ◌∷◌, map, ⊎_elim, refl, sym, ap, subst, ◌∙◌, Contains, eqb, eq-eqb, ne_eqb}
+use Rattle.std.proofs.Common.{ℕ, ◌≡◌, ◌≢◌, List, map, get_or, ⊎_elim, sym, subst, ◌∙◌, All, Contains, eqb, eq-eqb, ne_eqb}
 use Rattle.std.proofs.lemmas.Bool.{cases_eq, cond-true, cond-false}
+use Rattle.std.proofs.lemmas.List.Elements.{All-map, Contains-get_or}
 use Rattle.tv_model.specs.Truth.{Assignment, put}
-use Rattle.tv_model.proofs.Lists.{Contains-here, Contains-there}
+use Rattle.tv_model.proofs.Lists.{map-compose, map-agreed}
 
 pub put-same : (a : Assignment) (v u x : ℕ) → x ≡ v → put a v u x ≡ u
 put-same a v u x e = cond-true (eqb x v) u (a x) (eq-eqb x v e)
@@ -39,10 +40,11 @@ put-matched matters M a b v u w new old x m =
     in subst Left (sym (put-other a v u x ne)) (subst Right (sym (put-other b v w x ne)) (old x (ne, m))))
     (cases_eq x v)
 
--- the values of an atom's variables are renamed one by one
-pub map-renamed : (r : ℕ → ℕ) (a b : Assignment) (vars : List ℕ) → ((v : ℕ) → Contains vars v → b v ≡ r (a v))
-    → map b vars ≡ map r (map a vars)
-map-renamed r a b [] agrees = refl
-map-renamed r a b (v ∷ vars) agrees =
-    ap (λ y. y ∷ map b vars) (agrees v (Contains-here v vars))
-    ∙ ap (λ ys. r (a v) ∷ ys) (map-renamed r a b vars (λ x at. agrees x (Contains-there v x vars at)))
+-- a tuple that variables stand for consists of what they stand for
+pub All-values : (P : ℕ → Type 0) (a : Assignment) (vars : List ℕ) → ((v : ℕ) → Contains vars v → P (a v)) → All P (map a vars)
+All-values P a vars each = All-map P a vars (λ k d below. each (get_or vars k d) (Contains-get_or vars k d below))
+
+-- the images of a tuple that variables stand for
+pub map-images : (m : ℕ → ℕ) (a b : Assignment) (vars : List ℕ) → ((v : ℕ) → Contains vars v → m (a v) ≡ b v)
+    → map m (map a vars) ≡ map b vars
+map-images m a b vars same = map-compose a m vars ∙ map-agreed (λ v. m (a v)) b vars same

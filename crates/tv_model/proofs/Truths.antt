@@ -1,14 +1,13 @@
 -- Lemmas on truth, for the crates above: it goes along a matching of individuals, and so depends only on
 -- what the formula sees.
-use Rattle.std.proofs.Common.{ℕ, ◌≡◌, ◌≢◌, ◌↔◌, List, [], ◌∷◌, map, Some, inl, inr, ⊎_elim, refl, sym, ap, subst, ◌∙◌, All, Contains}
-use Rattle.std.proofs.lemmas.List.Elements.{All-nil, All-cons}
+use Rattle.std.proofs.Common.{ℕ, ◌≡◌, ◌≢◌, ◌↔◌, List, map, Some, inl, inr, ⊎_elim, refl, sym, ap, subst, ◌∙◌, Contains}
 use Rattle.tv_model.specs.Form.{Form, FZero, FOne, FAtom, FIsNew, FSame, FNot, FAnd, FOr, FIff, FCond, FExists, FForall, FClosure, IsFree, Mentions}
 use Rattle.tv_model.specs.Heap.{Heap, Holds}
 use Rattle.tv_model.specs.Laws.{TruthIsLocal, TruthIsKept}
 use Rattle.tv_model.specs.Truth.{Assignment, Truth, ClosureEdge, put}
 use Rattle.tv_model.specs.Valid.{NamesNew}
-use Rattle.tv_model.proofs.Assignments.{put-matched, map-renamed}
-use Rattle.tv_model.proofs.Lists.{Contains-here, Contains-there, map-agreed}
+use Rattle.tv_model.proofs.Assignments.{put-matched, map-images, All-values}
+use Rattle.tv_model.proofs.Lists.{map-agreed}
 use Rattle.tv_model.proofs.Walks.{IsTotal, Walks-matched}
 
 -- ---- truth
@@ -127,14 +126,6 @@ Truth-local f h k a b alike agrees =
 abbrev pub IsRenamed : (ℕ → ℕ) → Heap → ℕ → ℕ → Type 0
 IsRenamed r h u w = Contains h.individuals u × (r u ≡ w)
 
--- the variables of an atom stand for individuals
-atom-inside : (h : Heap) (r : ℕ → ℕ) (vars : List ℕ) (a b : Assignment) → ((v : ℕ) → Contains vars v → IsRenamed r h (a v) (b v))
-    → All (Contains h.individuals) (map a vars)
-atom-inside h r [] a b each = All-nil (Contains h.individuals)
-atom-inside h r (v ∷ vars) a b each =
-    All-cons (Contains h.individuals) (a v) (map a vars) (each v (Contains-here v vars)).0
-    (atom-inside h r vars a b (λ w at. each w (Contains-there v w vars at)))
-
 pub Truth-kept : TruthIsKept
 Truth-kept f r h k a b is agrees =
     Truth-matched (λ q. Mentions q f) (NamesNew f) (IsRenamed r h) h k
@@ -144,8 +135,8 @@ Truth-kept f r h k a b is agrees =
       members = λ u w m. (λ at. subst (Contains k.individuals) m.1 (is.into u at), λ at. m.0);
       atoms = λ q m vars c d each.
           subst (λ us. Holds h q (map c vars) ↔ Holds k q us)
-          (sym (map-renamed r c d vars (λ v at. sym (each v at).1)))
-          (is.holds q m (map c vars) (atom-inside h r vars c d each));
+          (map-images r c d vars (λ v at. (each v at).1))
+          (is.holds q m (map c vars) (All-values (Contains h.individuals) c vars (λ v at. (each v at).0)));
       same = λ u v x y m n. (λ e. sym m.1 ∙ ap r e ∙ n.1, λ e. is.injective u v m.0 n.0 (m.1 ∙ e ∙ sym n.1));
       marks = λ named u w m. subst (λ x. (h.fresh ≡ Some u) ↔ (k.fresh ≡ Some x)) m.1 (is.marks named u m.0);
     })

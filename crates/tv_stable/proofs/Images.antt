@@ -1,4 +1,4 @@
--- The image of a stable structure is stable.
+-- Lemmas on images, for the crates above: the image of a stable structure is stable.
 use Rattle.std.proofs.Common.{ℕ, ◌≡◌, ◌≢◌, ◌⊎◌, Bool, true, false, List, [], ◌∷◌, map, inl, inr, ⊎_elim, refl, sym, ap, subst, ◌∙◌, arith, All, Contains, IsTrue}
 use Rattle.std.proofs.lemmas.Bool.{cases_eq, false≢true}
 use Rattle.std.proofs.lemmas.List.Elements.{All-nil, All-cons, All-head, All-tail}
@@ -9,12 +9,12 @@ use Rattle.tv_model.specs.Program.{HeadForm, HNever, HAtom, HSame, RuleForm}
 use Rattle.tv_model.specs.Rules.{IsInHead, signed_form, head_formula, IsFreeInRule}
 use Rattle.tv_model.specs.Truth.{Assignment, put}
 use Rattle.tv_model.proofs.Heads.{free-in_head, head-unmarked}
+use Rattle.tv_model.proofs.Lists.{Contains-here, Contains-there}
+use Rattle.tv_model.proofs.Assignments.{put-same, put-other}
 use Rattle.tv_frame.specs.LogicalStructure.{LogicalStructure}
 use Rattle.tv_frame.specs.Embedding.{Embeds}
 use Rattle.tv_value.specs.Value.{value, same_value}
-use Rattle.tv_value.proofs.Lists.{Contains-here, Contains-there}
 use Rattle.tv_value.proofs.Entries.{own_value, same-here, same-apart}
-use Rattle.tv_value.proofs.Matched.{put-same, put-other}
 use Rattle.tv_value.proofs.Embedded.{embedding_theorem, embeds-for}
 use Rattle.tv_value.proofs.Preimages.{IsPreimage, preimages, preimages-put, definite_values_come_down}
 use Rattle.tv_stable.specs.Stable.{IsHeadMet, IsStableUnder}

@@ -1,4 +1,5 @@
--- Heaps read as structures are stable exactly where they meet the rules.
+-- Lemmas on heaps, for the crates above: read as structures they are stable exactly where they meet the
+-- rules, and sharpening loses none of them.
 use Rattle.std.proofs.Common.{inl, inr, ⊎_elim}
 use Rattle.std.proofs.lemmas.Bool.{false≢true}
 use Rattle.std.proofs.lemmas.List.Elements.{All-weaker}

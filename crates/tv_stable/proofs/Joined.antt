@@ -1,18 +1,21 @@
--- The image of a structure under an embedding, below the structure in which it embeds.
+-- Lemmas on sharpening, for the crates above: the image of a structure under an embedding lies below the
+-- structure in which it embeds, so that the greatest stable structure loses no stable one.
 use Rattle.std.proofs.Common.{ℕ, ◌≡◌, ◌≢◌, ◌⊎◌, ◌↔◌, Option, Some, IsSome, Bool, true, false, List, [], ◌∷◌, map, inl, inr, refl, sym, ap, subst, ◌∙◌, All, Contains, IsTrue}
 use Rattle.std.proofs.lemmas.Bool.{cases_eq, false≢true}
 use Rattle.std.proofs.lemmas.List.Elements.{All-nil, All-cons, All-head, All-tail}
 use Rattle.tv_kleene.specs.declared.K3.{K3}
 use Rattle.tv_kleene.specs.declared.K3.TheVariants.{No, Half, Yes}
 use Rattle.tv_kleene.specs.Kleene.{LiesUnder}
+use Rattle.tv_kleene.proofs.Thresholds.{Yes-below, No-below}
+use Rattle.tv_kleene.proofs.Lattice.{value-decided}
 use Rattle.tv_model.specs.Program.{RuleForm}
+use Rattle.tv_model.proofs.Decided.{IsDecided, forall-decided, implies-decided}
 use Rattle.tv_frame.specs.LogicalStructure.{LogicalStructure}
 use Rattle.tv_frame.specs.Embedding.{Embeds, KeepsMark, IsBelow}
 use Rattle.tv_frame.proofs.EmbeddingLaws.{IsBelow-values, EmbedsOn-compose}
-use Rattle.tv_value.proofs.Thresholds.{Yes-below, No-below}
 use Rattle.tv_stable.specs.Stable.{IsGreatestStable}
 use Rattle.tv_stable.specs.Laws.{IsImage, IsStableBetween, StableStructuresStay, SharpeningLosesNoStable}
-use Rattle.tv_stable.proofs.Decided.{IsDecided, EachBelow, below-decided, each-decided, implies-decided, value-decided}
+use Rattle.tv_stable.proofs.Decided.{EachBelow, below-decided}
 use Rattle.tv_stable.proofs.Images.{one-preimage, plain-preimage, images_are_stable}
 
 -- Yes or No where all values below are this, else Half
@@ -40,11 +43,11 @@ flag-decided false = inl refl
 
 plain-decided : (m : ℕ → ℕ) (s : LogicalStructure) (w : ℕ) → IsDecided (IsPlain m s w)
 plain-decided m s w =
-    go (each-decided (λ u. m u ≡ w → s.is_summary u ≡ false)
+    go (forall-decided (λ u. m u ≡ w → s.is_summary u ≡ false)
     (λ u. implies-decided (m u ≡ w) (s.is_summary u ≡ false) (cases_eq (m u) w) (flag-decided (s.is_summary u)))
     s.individuals)
-    (each-decided (λ u. (x : ℕ) → Contains s.individuals x → m u ≡ w → m x ≡ w → u ≡ x)
-    (λ u. each-decided (λ x. m u ≡ w → m x ≡ w → u ≡ x)
+    (forall-decided (λ u. (x : ℕ) → Contains s.individuals x → m u ≡ w → m x ≡ w → u ≡ x)
+    (λ u. forall-decided (λ x. m u ≡ w → m x ≡ w → u ≡ x)
     (λ x. implies-decided (m u ≡ w) (m x ≡ w → u ≡ x) (cases_eq (m u) w)
     (implies-decided (m x ≡ w) (u ≡ x) (cases_eq (m x) w) (cases_eq u x)))
     s.individuals)

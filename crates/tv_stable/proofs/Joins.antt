@@ -1,8 +1,10 @@
--- The join of two stable structures is stable.
+-- Lemmas on joins, for the crates above: the join of two stable structures is stable.
 use Rattle.std.proofs.Common.{ℕ, ◌≡◌, ◌||◌, Bool, true, false, List, map, inl, inr, ⊎_elim, refl, sym, ap, subst, ◌∙◌, Contains, IsTrue}
 use Rattle.tv_kleene.specs.declared.K3.{K3}
 use Rattle.tv_kleene.specs.declared.K3.TheVariants.{No, Half, Yes}
-use Rattle.tv_kleene.specs.Kleene.{LiesUnder, join_of, negation_of}
+use Rattle.tv_kleene.specs.Kleene.{join_of, negation_of}
+use Rattle.tv_kleene.proofs.Thresholds.{Yes-below}
+use Rattle.tv_kleene.proofs.Lattice.{join-left, join-right}
 use Rattle.tv_model.specs.Form.{Form, FAtom, FSame}
 use Rattle.tv_model.specs.Program.{HeadForm, HNever, HAtom, HSame, RuleForm}
 use Rattle.tv_model.specs.Rules.{signed_form, IsFreeInRule}
@@ -11,30 +13,11 @@ use Rattle.tv_frame.specs.LogicalStructure.{LogicalStructure}
 use Rattle.tv_frame.specs.Embedding.{IsBelow}
 use Rattle.tv_frame.proofs.EmbeddingLaws.{IsBelow-values}
 use Rattle.tv_value.specs.Value.{value, same_value}
-use Rattle.tv_value.proofs.Thresholds.{Yes-below}
 use Rattle.tv_value.proofs.Entries.{own_value, same-here, same-apart}
 use Rattle.tv_value.proofs.Embedded.{values_are_monotone}
 use Rattle.tv_stable.specs.Stable.{IsHeadMet, IsStableUnder}
 use Rattle.tv_stable.specs.Laws.{joined, IsPlainRule, JoinsAreStable}
 use Rattle.tv_stable.proofs.Heads.{wanted, signed-wanted, signed-half, same-yes, same-no}
-
-join-left : (x y : K3) → LiesUnder x (join_of x y)
-join-left No No = inl refl
-join-left No Half = inr refl
-join-left No Yes = inr refl
-join-left Half y = inr refl
-join-left Yes No = inr refl
-join-left Yes Half = inr refl
-join-left Yes Yes = inl refl
-
-join-right : (x y : K3) → LiesUnder y (join_of x y)
-join-right No No = inl refl
-join-right No Half = inr refl
-join-right No Yes = inr refl
-join-right Half y = inr refl
-join-right Yes No = inr refl
-join-right Yes Half = inr refl
-join-right Yes Yes = inl refl
 
 join-both : (flag : Bool) (x y : K3) → x ≡ wanted flag → y ≡ wanted flag → join_of x y ≡ wanted flag
 join-both true x y p q = ap (λ k. join_of k y) p ∙ ap (λ k. join_of Yes k) q

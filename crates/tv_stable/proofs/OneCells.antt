@@ -5,7 +5,7 @@ use Rattle.std.proofs.lemmas.List.Elements.{All-nil, All-cons, All-head}
 use Rattle.tv_kleene.specs.declared.K3.TheVariants.{Half, Yes}
 use Rattle.tv_model.specs.Rules.{unique_rule, reflexive_rule}
 use Rattle.tv_model.specs.Truth.{Assignment}
-use Rattle.tv_value.proofs.Lists.{Contains-here, Contains-none, Contains-cases}
+use Rattle.tv_model.proofs.Lists.{Contains-here, Contains-none, Contains-cases}
 use Rattle.tv_value.proofs.Entries.{same-here}
 use Rattle.tv_stable.specs.Stable.{IsStableUnder}
 use Rattle.tv_stable.specs.OneCell.{one_individual, OneCellLaws}

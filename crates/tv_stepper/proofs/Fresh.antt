@@ -10,7 +10,7 @@ use Rattle.tv_model.specs.Program.{ProgramForm, ActionForm, RetainForm, UpdateFo
 use Rattle.tv_model.specs.Rules.{IsHeap}
 use Rattle.tv_model.specs.Step.{with_new, IsMiddle, Keeps, update_for, AllowsChange, FollowsUpdate, StepsThrough, AgreesWithGiven, FairlySteps, IsFairThrough}
 use Rattle.tv_model.specs.Truth.{Assignment, Truth, put, put_all}
-use Rattle.tv_model.proofs.Assignments.{put-same, put-other, put-holds, put-matched, map-renamed}
+use Rattle.tv_model.proofs.Assignments.{put-same, put-other, put-holds, put-matched, map-images}
 use Rattle.tv_model.proofs.Decided.{Contains-decided}
 use Rattle.tv_model.proofs.Lists.{pushed-cases, pushed-old, pushed-last}
 use Rattle.tv_model.proofs.Programs.{holds-individuals}
@@ -133,7 +133,7 @@ swap-matches p old new picked u m x = record {
         (subst (Contains (old.individuals ++ m ∷ [])) e at),
   );
   atoms = λ q s vars a b agrees.
-      subst (λ us. Holds old q (map a vars) ↔ Holds old q us) (sym (map-renamed (swap u m) a b vars agrees))
+      subst (λ us. Holds old q (map a vars) ↔ Holds old q us) (map-images (swap u m) a b vars (λ v at. sym (agrees v at)))
       (holds-alike p old x.is u m x.u_not_old x.m_not_old q (map a vars));
   same = λ v w y z e d. (
     λ s. e ∙ ap (swap u m) s ∙ sym d,

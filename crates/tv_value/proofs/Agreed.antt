@@ -1,18 +1,12 @@
--- In one structure a value depends only on what the free variables stand for, individuals or not.
-use Rattle.std.proofs.Common.{ℕ, ◌≡◌, List, [], ◌∷◌, map, inl, refl, sym, ap, ◌∙◌, Contains}
-use Rattle.tv_model.specs.Truth.{Assignment}
+-- Lemmas on one structure, for the crates above: a value depends only on what the free variables stand
+-- for, individuals or not.
+use Rattle.std.proofs.Common.{◌≡◌, inl, refl, sym, ap, ◌∙◌}
+use Rattle.tv_kleene.proofs.Lattice.{LiesUnder-antisym}
+use Rattle.tv_model.proofs.Lists.{map-agreed}
 use Rattle.tv_frame.specs.LogicalStructure.{LogicalStructure}
 use Rattle.tv_value.specs.Value.{value, mark_value, same_value}
 use Rattle.tv_value.specs.Laws.{OnlyFreeVariablesMatter}
-use Rattle.tv_value.proofs.Lists.{Contains-here, Contains-there}
-use Rattle.tv_value.proofs.Thresholds.{LiesUnder-antisym}
 use Rattle.tv_value.proofs.Matched.{Matched, value-lies_under}
-
-map-agreed : (a b : Assignment) (vars : List ℕ) → ((v : ℕ) → Contains vars v → a v ≡ b v) → map a vars ≡ map b vars
-map-agreed a b [] same = refl
-map-agreed a b (v ∷ vars) same =
-    ap (λ x. x ∷ map a vars) (same v (Contains-here v vars))
-    ∙ ap (λ xs. b v ∷ xs) (map-agreed a b vars (λ w at. same w (Contains-there v w vars at)))
 
 matched-itself : (s : LogicalStructure) → Matched (λ q. Unit {0}) (Unit {0}) (λ u w. u ≡ w) s s
 matched-itself s = record {

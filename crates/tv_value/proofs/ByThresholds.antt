@@ -3,14 +3,15 @@ use Rattle.std.proofs.Common.{ℕ, ◌≡◌, ◌⊎◌, ◌↔◌, Bool, true, 
 use Rattle.std.proofs.lemmas.Bool.{cases_eq, false≢true}
 use Rattle.tv_kleene.specs.declared.K3.{K3}
 use Rattle.tv_kleene.specs.Kleene.{smaller_of, larger_of, negation_of}
+use Rattle.tv_kleene.proofs.Thresholds.{Must, May, IsThreshold, must_threshold, may_threshold, Must-is, May-is, May-decided, May-from_Must, Must-negation, May-negation}
 use Rattle.tv_model.specs.Form.{Form, FZero, FOne, FAtom, FIsNew, FSame, FNot, FAnd, FOr, FIff, FCond, FExists, FForall, FClosure}
 use Rattle.tv_model.specs.Truth.{Assignment, put, IsWalk}
+use Rattle.tv_model.proofs.Walks.{WalksWithin}
 use Rattle.tv_frame.specs.LogicalStructure.{LogicalStructure}
 use Rattle.tv_value.specs.Value.{value, mark_value, same_value, greatest_of, least_of, best_walk}
 use Rattle.tv_value.specs.Thresholds.{Meets, IsTrueIn, ValuesMeetThresholds}
-use Rattle.tv_value.proofs.Thresholds.{Must, May, IsThreshold, must_threshold, may_threshold, Must-is, May-is, May-decided, May-from_Must, Must-negation, May-negation}
 use Rattle.tv_value.proofs.Folds.{greatest-threshold, least-threshold}
-use Rattle.tv_value.proofs.Walks.{WalksWithin, best_walk-threshold}
+use Rattle.tv_value.proofs.Walks.{best_walk-threshold}
 use Rattle.tv_value.proofs.Entries.{mark-May, mark-Must, own_value, same-here, same-apart}
 
 -- the threshold as a predicate of values

@@ -1,21 +1,21 @@
--- The embedding theorem, and what follows from it.
-use Rattle.std.proofs.Common.{ℕ, ◌≡◌, ◌≢◌, ◌⊎◌, ◌↔◌, Bool, true, false, List, [], ◌∷◌, map, get_or, Some, inl, inr, ⊎_elim, refl, sym, ap, subst, ◌∙◌, All, Contains}
+-- Lemmas on embedded structures, for the crates above: the embedding theorem, and what follows from it.
+use Rattle.std.proofs.Common.{ℕ, ◌≡◌, ◌≢◌, ◌⊎◌, ◌↔◌, Bool, true, false, List, map, Some, inl, inr, ⊎_elim, refl, sym, ap, subst, ◌∙◌, Contains}
 use Rattle.std.proofs.lemmas.Bool.{cases_eq, false≢true}
 use Rattle.std.proofs.lemmas.List.{map-id}
-use Rattle.std.proofs.lemmas.List.Elements.{All-map, Contains-get_or}
 use Rattle.tv_kleene.specs.declared.K3.{K3}
 use Rattle.tv_kleene.specs.declared.K3.TheVariants.{No}
 use Rattle.tv_kleene.specs.Kleene.{LiesUnder}
+use Rattle.tv_kleene.proofs.Thresholds.{LiesUnder-from_Under}
+use Rattle.tv_kleene.proofs.Lattice.{LiesUnder-antisym}
 use Rattle.tv_model.specs.Form.{Form, Mentions}
 use Rattle.tv_model.specs.Truth.{Assignment}
 use Rattle.tv_model.specs.Valid.{NamesNew}
+use Rattle.tv_model.proofs.Assignments.{map-images, All-values}
 use Rattle.tv_frame.specs.LogicalStructure.{LogicalStructure}
 use Rattle.tv_frame.specs.Embedding.{EmbedsOn, Embeds, EmbedsWithMarks, KeepsMark}
 use Rattle.tv_frame.proofs.EmbeddingLaws.{EmbedsOn-any}
 use Rattle.tv_value.specs.Value.{value, mark_value, same_value}
 use Rattle.tv_value.specs.Laws.{TakesAlong, EmbedsFor, EmbeddingTheorem, Renames, ValuesAreKept, LooksAlike, ValuesAreLocal, ValuesAreMonotone}
-use Rattle.tv_value.proofs.Lists.{Contains-here, Contains-there}
-use Rattle.tv_value.proofs.Thresholds.{LiesUnder-from_Under, LiesUnder-antisym}
 use Rattle.tv_value.proofs.Entries.{Under-mark, own_value, same-here, same-apart}
 use Rattle.tv_value.proofs.Matched.{Matched, value-lies_under}
 
@@ -26,18 +26,6 @@ GoesTo m s u w = Contains s.individuals u × (m u ≡ w)
 -- an individual is the fresh one exactly where its image is
 abbrev pub MarksAlike : (ℕ → ℕ) → LogicalStructure → LogicalStructure → Type 0
 MarksAlike m s t = (u : ℕ) → Contains s.individuals u → (s.fresh ≡ Some u) ↔ (t.fresh ≡ Some (m u))
-
--- the images of a tuple that variables stand for
-pub map-images : (m : ℕ → ℕ) (a b : Assignment) (vars : List ℕ) → ((v : ℕ) → Contains vars v → m (a v) ≡ b v)
-    → map m (map a vars) ≡ map b vars
-map-images m a b [] same = refl
-map-images m a b (v ∷ vars) same =
-    ap (λ x. x ∷ map m (map a vars)) (same v (Contains-here v vars))
-    ∙ ap (λ xs. b v ∷ xs) (map-images m a b vars (λ w at. same w (Contains-there v w vars at)))
-
--- a tuple that variables stand for consists of what they stand for
-pub All-values : (P : ℕ → Type 0) (a : Assignment) (vars : List ℕ) → ((v : ℕ) → Contains vars v → P (a v)) → All P (map a vars)
-All-values P a vars each = All-map P a vars (λ k d below. each (get_or vars k d) (Contains-get_or vars k d below))
 
 -- ---- embeddings
 

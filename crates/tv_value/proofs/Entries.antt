@@ -1,11 +1,11 @@
--- The values of an equality and of a mark.
+-- Lemmas on the values of an equality and of a mark, for the crates above.
 use Rattle.std.proofs.Common.{ℕ, ◌≡◌, ◌≢◌, ◌↔◌, Bool, Option, Some, None, ⊎_elim, refl, sym, ap, subst, cond, eqb, eq-eqb, ne_eqb}
 use Rattle.std.proofs.lemmas.Bool.{cases_eq, cond-true, cond-false}
 use Rattle.tv_kleene.specs.declared.K3.{K3}
 use Rattle.tv_kleene.specs.declared.K3.TheVariants.{No, Half, Yes}
+use Rattle.tv_kleene.proofs.Thresholds.{Must, May, May-from_Must, Under}
 use Rattle.tv_frame.specs.LogicalStructure.{LogicalStructure}
 use Rattle.tv_value.specs.Value.{mark_value, same_value}
-use Rattle.tv_value.proofs.Thresholds.{Must, May, May-from_Must, Under}
 
 -- ---- marks
 

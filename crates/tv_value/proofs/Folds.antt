@@ -1,10 +1,12 @@
--- The greatest and the least value over individuals, by thresholds.
+-- Lemmas on the greatest and the least value over individuals, for the crates above: by thresholds, and
+-- along a matching.
 use Rattle.std.proofs.Common.{ℕ, ◌↔◌, List, [], ◌∷◌, inl, inr, ⊎_elim, sym, subst, Contains}
 use Rattle.tv_kleene.specs.declared.K3.{K3}
 use Rattle.tv_kleene.specs.Kleene.{smaller_of, larger_of}
+use Rattle.tv_kleene.proofs.Thresholds.{IsThreshold, Must, May, must_threshold, may_threshold, Under}
+use Rattle.tv_model.proofs.Lists.{Contains-here, Contains-there, Contains-none, Contains-cases}
+use Rattle.tv_model.proofs.Walks.{IsTotal}
 use Rattle.tv_value.specs.Value.{greatest_of, least_of}
-use Rattle.tv_value.proofs.Lists.{Contains-here, Contains-there, Contains-none, Contains-cases}
-use Rattle.tv_value.proofs.Thresholds.{IsThreshold, Must, May, must_threshold, may_threshold, Under}
 
 -- the greatest value meets a threshold exactly where some value does
 pub greatest-threshold : (T : K3 → Type 0) → IsThreshold T → (g : ℕ → K3) (xs : List ℕ)
@@ -42,10 +44,6 @@ least-threshold T is g (x ∷ xs) = (to (least-threshold T is g xs), from (least
         → ((u : ℕ) → Contains (x ∷ xs) u → T (g u)) → T (smaller_of (g x) (least_of g xs))
     from later h = (is.smaller (g x) (least_of g xs)).1
         (h x (Contains-here x xs), later.1 (λ u there. h u (Contains-there x u xs there)))
-
--- each element of one list is matched with one of the other
-abbrev pub IsTotal : (ℕ → ℕ → Type 0) → List ℕ → List ℕ → Type 0
-IsTotal M xs ys = (u : ℕ) → Contains xs u → (w : ℕ) × Contains ys w × M u w
 
 -- where matched individuals have values under one another, so do the greatest and the least
 pub Under-greatest : (M : ℕ → ℕ → Type 0) (xs ys : List ℕ) → IsTotal M xs ys → IsTotal (λ w u. M u w) ys xs

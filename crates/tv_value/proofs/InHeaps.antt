@@ -1,22 +1,24 @@
--- Values in a heap read as a structure, and what they say of heaps that embed.
+-- Lemmas on heaps read as structures, for the crates above: their values tell the truth, and definite values
+-- above tell it of heaps that embed.
 use Rattle.std.proofs.Common.{ℕ, ◌≡◌, ◌≢◌, ◌⊎◌, ◌↔◌, Bool, true, false, List, [], ◌∷◌, map, Option, Some, inl, inr, ⊎_elim, refl, sym, subst, All, Contains, cond}
 use Rattle.std.proofs.lemmas.Bool.{cases_eq}
 use Rattle.std.proofs.lemmas.List.Elements.{All-nil, All-cons, All-head, All-tail}
 use Rattle.tv_kleene.specs.declared.K3.{K3}
 use Rattle.tv_kleene.specs.declared.K3.TheVariants.{No, Yes}
 use Rattle.tv_kleene.specs.Kleene.{LiesUnder, smaller_of, larger_of, negation_of}
+use Rattle.tv_kleene.proofs.Thresholds.{Must, May, must_threshold, may_threshold, Must-is, May-is, Must-negation, May-negation, May-from_Must, May-decided, Yes-below, No-below}
 use Rattle.tv_model.specs.Form.{Form, FZero, FOne, FAtom, FIsNew, FSame, FNot, FAnd, FOr, FIff, FCond, FExists, FForall, FClosure, IsFree}
 use Rattle.tv_model.specs.Heap.{Heap, Holds}
 use Rattle.tv_model.specs.Truth.{Assignment, Truth, put, IsWalk}
+use Rattle.tv_model.proofs.Walks.{WalksWithin}
+use Rattle.tv_model.proofs.Assignments.{put-inside}
 use Rattle.tv_frame.specs.LogicalStructure.{ReadsHeap, heap_structure, holds}
 use Rattle.tv_frame.proofs.EmbeddingLaws.{reads_heap}
 use Rattle.tv_value.specs.Value.{value, mark_value, same_value, greatest_of, least_of, best_walk}
 use Rattle.tv_value.specs.Laws.{GivesIndividuals, TellsTruth, HeapsTellTruth, DefiniteValuesAreSound}
-use Rattle.tv_value.proofs.Thresholds.{Must, May, must_threshold, may_threshold, Must-is, May-is, Must-negation, May-negation, May-from_Must, May-decided, Yes-below, No-below}
 use Rattle.tv_value.proofs.Folds.{greatest-threshold, least-threshold}
-use Rattle.tv_value.proofs.Walks.{WalksWithin, best_walk-threshold}
+use Rattle.tv_value.proofs.Walks.{best_walk-threshold}
 use Rattle.tv_value.proofs.Entries.{mark-May, mark-Must, same-here, same-apart}
-use Rattle.tv_value.proofs.Matched.{put-same, put-other}
 use Rattle.tv_value.proofs.Embedded.{embedding_theorem}
 
 -- the value tells whether the fact holds: it is Yes where it does, and No where it doesn't
@@ -114,11 +116,11 @@ tells-walk edge R xs each u w hu hw = record {
 
 -- ---- what a heap's structure says of atoms
 
-definite : (b : Bool) → May (cond b Yes No) → cond b Yes No ≡ Yes
+pub definite : (b : Bool) → May (cond b Yes No) → cond b Yes No ≡ Yes
 definite true m = refl
 definite false m = absurd m
 
-tells-atom : (h : Heap) (pred : ℕ) (tuple : List ℕ) → Tells ((heap_structure h).value pred tuple) (Holds h pred tuple)
+pub tells-atom : (h : Heap) (pred : ℕ) (tuple : List ℕ) → Tells ((heap_structure h).value pred tuple) (Holds h pred tuple)
 tells-atom h pred tuple =
     let reads : ReadsHeap h = reads_heap h
     in record {
@@ -126,25 +128,16 @@ tells-atom h pred tuple =
       holds = λ m. (reads.yes pred tuple).0 (definite (holds h pred tuple) m);
     }
 
-tells-mark : (fresh : Option ℕ) (u : ℕ) → Tells (mark_value fresh u) (fresh ≡ Some u)
+pub tells-mark : (fresh : Option ℕ) (u : ℕ) → Tells (mark_value fresh u) (fresh ≡ Some u)
 tells-mark fresh u = record { yes = mark-Must fresh u; holds = mark-May fresh u }
 
-tells-equality : (h : Heap) (u w : ℕ) → Tells (same_value (heap_structure h) u w) (u ≡ w)
+pub tells-equality : (h : Heap) (u w : ℕ) → Tells (same_value (heap_structure h) u w) (u ≡ w)
 tells-equality h u w = record {
   yes = λ e. subst Must (sym (same-here (heap_structure h) u w e)) tt;
   holds = λ m. ⊎_elim (λ e. e) (λ ne. absurd (subst May (same-apart (heap_structure h) u w ne) m)) (cases_eq u w);
 }
 
 -- ---- truth
-
-put-inside : (xs : List ℕ) (matters : ℕ → Type 0) (a : Assignment) (v u : ℕ) → Contains xs u
-    → ((x : ℕ) → (x ≢ v) × matters x → Contains xs (a x)) → (x : ℕ) → matters x → Contains xs (put a v u x)
-put-inside xs matters a v u new old x m =
-    let At : ℕ → Type 0 = λ y. Contains xs y
-    in ⊎_elim
-    (λ e. subst At (sym (put-same a v u x e)) new)
-    (λ ne. subst At (sym (put-other a v u x ne)) (old x (ne, m)))
-    (cases_eq x v)
 
 pub tells-truth : (h : Heap) (a : Assignment) (f : Form) → GivesIndividuals h.individuals f a
     → Tells (value (heap_structure h) a f) (Truth h a f)

@@ -1,13 +1,12 @@
+-- The library of lemmas on values, for the crates above.
 pub mod Agreed
-pub mod ByThresholds
 pub mod Embedded
 pub mod Entries
 pub mod Folds
 pub mod InHeaps
-pub mod Lattice
-pub mod Lists
 pub mod Matched
 pub mod Preimages
 pub mod Rounds
-pub mod Thresholds
 pub mod Walks
+-- What only the laws of this crate cite.
+mod ByThresholds

@@ -1,36 +1,18 @@
--- Structures whose individuals are matched, so that values lie under one another.
-use Rattle.std.proofs.Common.{ℕ, ◌≡◌, ◌≢◌, List, map, inl, inr, ⊎_elim, refl, sym, subst, Contains, eqb, eq-eqb, ne_eqb}
-use Rattle.std.proofs.lemmas.Bool.{cases_eq, cond-true, cond-false}
+-- Lemmas on structures whose individuals are matched, for the crates above: values lie under one another.
+use Rattle.std.proofs.Common.{ℕ, ◌≢◌, List, map, inl, inr, refl, Contains}
 use Rattle.tv_kleene.specs.declared.K3.{K3}
 use Rattle.tv_kleene.specs.declared.K3.TheVariants.{No, Yes}
 use Rattle.tv_kleene.specs.Kleene.{LiesUnder, smaller_of, larger_of, negation_of}
+use Rattle.tv_kleene.proofs.Thresholds.{Under, Under-refl, Under-from_LiesUnder, LiesUnder-from_Under, Under-negation, Under-smaller, Under-larger}
 use Rattle.tv_model.specs.Form.{Form, FZero, FOne, FAtom, FIsNew, FSame, FNot, FAnd, FOr, FIff, FCond, FExists, FForall, FClosure, IsFree, Mentions}
 use Rattle.tv_model.specs.Truth.{Assignment, put}
 use Rattle.tv_model.specs.Valid.{NamesNew}
+use Rattle.tv_model.proofs.Walks.{IsTotal}
+use Rattle.tv_model.proofs.Assignments.{put-matched}
 use Rattle.tv_frame.specs.LogicalStructure.{LogicalStructure}
 use Rattle.tv_value.specs.Value.{value, mark_value, same_value}
-use Rattle.tv_value.proofs.Thresholds.{Under, Under-refl, Under-from_LiesUnder, LiesUnder-from_Under, Under-negation, Under-smaller, Under-larger}
-use Rattle.tv_value.proofs.Folds.{IsTotal, Under-greatest, Under-least}
+use Rattle.tv_value.proofs.Folds.{Under-greatest, Under-least}
 use Rattle.tv_value.proofs.Walks.{Under-best_walk}
-
-pub put-same : (a : Assignment) (v u x : ℕ) → x ≡ v → put a v u x ≡ u
-put-same a v u x e = cond-true (eqb x v) u (a x) (eq-eqb x v e)
-
-pub put-other : (a : Assignment) (v u x : ℕ) → x ≢ v → put a v u x ≡ a x
-put-other a v u x ne = cond-false (eqb x v) u (a x) (ne_eqb x v ne)
-
--- what is matched at the other variables is matched at all once matched individuals are put for v
-pub put-matched : (matters : ℕ → Type 0) (M : ℕ → ℕ → Type 0) (a b : Assignment) (v u w : ℕ) → M u w
-    → ((x : ℕ) → (x ≢ v) × matters x → M (a x) (b x))
-    → (x : ℕ) → matters x → M (put a v u x) (put b v w x)
-put-matched matters M a b v u w new old x m =
-    let Left : ℕ → Type 0 = λ y. M y (put b v w x)
-    in ⊎_elim
-    (λ e. let Right : ℕ → Type 0 = λ y. M u y
-    in subst Left (sym (put-same a v u x e)) (subst Right (sym (put-same b v w x e)) new))
-    (λ ne. let Right : ℕ → Type 0 = λ y. M (a x) y
-    in subst Left (sym (put-other a v u x ne)) (subst Right (sym (put-other b v w x ne)) (old x (ne, m))))
-    (cases_eq x v)
 
 -- the individuals of s and of t are matched, so that what P and Marked ask for has in s values that lie
 -- under those in t

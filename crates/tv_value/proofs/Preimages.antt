@@ -1,15 +1,16 @@
--- Assignments below an embedding: chosen preimages of individuals, with some of them prescribed.
+-- Lemmas on assignments below an embedding, for the crates above: chosen preimages of individuals, with
+-- some of them prescribed.
 use Rattle.std.proofs.Common.{ℕ, ◌≡◌, ⊎_elim, sym, ap, subst, ◌∙◌, Contains}
 use Rattle.std.proofs.lemmas.Bool.{cases_eq}
+use Rattle.tv_kleene.proofs.Thresholds.{Yes-below, No-below}
 use Rattle.tv_model.specs.Form.{Form, IsFree}
 use Rattle.tv_model.specs.Truth.{Assignment, put}
+use Rattle.tv_model.proofs.Decided.{Contains-decided}
+use Rattle.tv_model.proofs.Assignments.{put-same, put-other}
 use Rattle.tv_frame.specs.LogicalStructure.{LogicalStructure}
 use Rattle.tv_frame.specs.Embedding.{EmbedsOn}
 use Rattle.tv_value.specs.Value.{value}
 use Rattle.tv_value.specs.Laws.{TakesAlong, GivesIndividuals, DefiniteValuesComeDown}
-use Rattle.tv_value.proofs.Lists.{Contains-decided}
-use Rattle.tv_value.proofs.Thresholds.{Yes-below, No-below}
-use Rattle.tv_value.proofs.Matched.{put-same, put-other}
 use Rattle.tv_value.proofs.Embedded.{embedding_theorem}
 
 -- u is an individual of s that m takes to w

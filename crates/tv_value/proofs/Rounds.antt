@@ -1,5 +1,5 @@
--- How the greatest, the least and the best walk grow by one more individual, for programs that take
--- the individuals one after the other.
+-- Lemmas on rounds, for the crates above: how the greatest, the least and the best walk grow by one more
+-- individual, for programs that take the individuals one after the other.
 use Rattle.std.proofs.Common.{ℕ, ◌+◌, zero-add, ◌≡◌, List, [], ◌∷◌, ◌++◌, ⊎_elim, refl, sym, ap, subst, ◌∙◌, All, Contains}
 use Rattle.std.specs.List.{range_with_len}
 use Rattle.std.proofs.lemmas.List.{map-id}
@@ -7,11 +7,12 @@ use Rattle.std.proofs.lemmas.List.FromFn.{map-range_with_len_more}
 use Rattle.std.proofs.lemmas.List.Elements.{All-head, All-tail, All-weaker, Contains-push, Contains-push_cases, Contains-append_left}
 use Rattle.tv_kleene.specs.declared.K3.{K3}
 use Rattle.tv_kleene.specs.Kleene.{smaller_of, larger_of}
+use Rattle.tv_kleene.proofs.Thresholds.{Must, May, must_threshold, may_threshold, IsThreshold, thresholds_determine}
+use Rattle.tv_kleene.proofs.Lattice.{larger-assoc, smaller-assoc, larger-no, smaller-yes}
+use Rattle.tv_model.proofs.Lists.{Contains-here, Contains-there, Contains-cases}
+use Rattle.tv_model.proofs.Walks.{WalksWithin}
 use Rattle.tv_value.specs.Value.{greatest_of, least_of, best_walk}
-use Rattle.tv_value.proofs.Lists.{Contains-here, Contains-there, Contains-cases}
-use Rattle.tv_value.proofs.Thresholds.{Must, May, must_threshold, may_threshold, IsThreshold, thresholds_determine}
-use Rattle.tv_value.proofs.Lattice.{larger-assoc, smaller-assoc, larger-no, smaller-yes}
-use Rattle.tv_value.proofs.Walks.{WalksWithin, best_walk-threshold}
+use Rattle.tv_value.proofs.Walks.{best_walk-threshold}
 
 -- ---- the greatest and the least
 

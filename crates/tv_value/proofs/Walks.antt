@@ -1,64 +1,16 @@
--- Walks through allowed stops, and the best of them.
-use Rattle.std.proofs.Common.{ℕ, ◌≡◌, ◌⊎◌, ◌↔◌, List, [], ◌∷◌, ◌++◌, inl, inr, ⊎_elim, refl, sym, subst, All, Contains}
-use Rattle.std.proofs.lemmas.List.Elements.{All-nil, All-cons, All-head, All-tail, All-append, All-weaker}
+-- Lemmas on best walks, for the crates above: the best walk by thresholds, as the greatest over all walks,
+-- and along a matching.
+use Rattle.std.proofs.Common.{ℕ, ◌≡◌, ◌↔◌, List, [], ◌∷◌, inl, inr, ⊎_elim, refl, sym, subst, All, Contains}
+use Rattle.std.proofs.lemmas.List.Elements.{All-nil, All-head}
 use Rattle.tv_kleene.specs.declared.K3.{K3}
 use Rattle.tv_kleene.specs.declared.K3.TheVariants.{No, Half, Yes}
-use Rattle.tv_kleene.specs.Kleene.{smaller_of, larger_of}
+use Rattle.tv_kleene.specs.Kleene.{smaller_of, larger_of, IsAtMost}
+use Rattle.tv_kleene.proofs.Thresholds.{IsThreshold, Must, May, must_threshold, may_threshold, Under, IsAtMost-by_thresholds, thresholds_determine, May-from_Must}
 use Rattle.tv_model.specs.Truth.{IsWalk, put}
+use Rattle.tv_model.proofs.Lists.{Contains-none}
+use Rattle.tv_model.proofs.Walks.{IsTotal, WalksWithin, WalksWithin-more, WalksWithin-join, WalksWithin-split, WalksWithin-matched}
 use Rattle.tv_value.specs.Value.{value, least_along, best_walk}
-use Rattle.tv_value.specs.Laws.{IsAtMost, IsGreatestOverWalks, ClosuresAreGreatest}
-use Rattle.tv_value.proofs.Lists.{Contains-here, Contains-there, Contains-none, Contains-cases}
-use Rattle.tv_value.proofs.Thresholds.{IsThreshold, Must, May, must_threshold, may_threshold, Under, IsAtMost-by_thresholds, thresholds_determine, May-from_Must}
-use Rattle.tv_value.proofs.Folds.{IsTotal}
-
--- there is a walk through allowed stops
-abbrev pub WalksWithin : (ℕ → ℕ → Type 0) → List ℕ → ℕ → ℕ → Type 0
-WalksWithin R allowed u w = (stops : List ℕ) × All (Contains allowed) stops × IsWalk R u stops w
-
-pub IsWalk-join : (R : ℕ → ℕ → Type 0) (u m w : ℕ) (xs ys : List ℕ) → IsWalk R u xs m → IsWalk R m ys w
-    → IsWalk R u (xs ++ m ∷ ys) w
-IsWalk-join R u m w [] ys first second = (first, second)
-IsWalk-join R u m w (x ∷ xs) ys first second = (first.0, IsWalk-join R x m w xs ys first.1 second)
-
-pub WalksWithin-more : (R : ℕ → ℕ → Type 0) (x : ℕ) (allowed : List ℕ) (u w : ℕ)
-    → WalksWithin R allowed u w → WalksWithin R (x ∷ allowed) u w
-WalksWithin-more R x allowed u w (stops, within, walk) =
-    (stops, All-weaker (Contains allowed) (Contains (x ∷ allowed)) (λ y at. Contains-there x y allowed at) stops within, walk)
-
-pub WalksWithin-join : (R : ℕ → ℕ → Type 0) (x : ℕ) (allowed : List ℕ) (u w : ℕ)
-    → WalksWithin R (x ∷ allowed) u x → WalksWithin R (x ∷ allowed) x w → WalksWithin R (x ∷ allowed) u w
-WalksWithin-join R x allowed u w (first, in_first, first_walk) (second, in_second, second_walk) = (
-  first ++ x ∷ second,
-  All-append (Contains (x ∷ allowed)) first (x ∷ second) in_first
-      (All-cons (Contains (x ∷ allowed)) x second (Contains-here x allowed) in_second),
-  IsWalk-join R u x w first second first_walk second_walk,
-)
-
--- a walk avoids the first allowed stop, or is cut at it
-pub WalksWithin-split : (R : ℕ → ℕ → Type 0) (x : ℕ) (allowed : List ℕ) (u : ℕ) (stops : List ℕ) (w : ℕ)
-    → All (Contains (x ∷ allowed)) stops → IsWalk R u stops w
-    → WalksWithin R allowed u w ⊎ (WalksWithin R allowed u x × WalksWithin R allowed x w)
-WalksWithin-split R x allowed u [] w within edge = inl ([], All-nil (Contains allowed), edge)
-WalksWithin-split R x allowed u (stop ∷ stops) w within walk =
-    go (Contains-cases x stop allowed (All-head (Contains (x ∷ allowed)) stop stops within))
-    (WalksWithin-split R x allowed stop stops w (All-tail (Contains (x ∷ allowed)) stop stops within) walk.1)
-  where
-    with_front : (y : ℕ) → Contains allowed stop → WalksWithin R allowed stop y → WalksWithin R allowed u y
-    with_front y at (rest, within, later) =
-        (stop ∷ rest, All-cons (Contains allowed) stop rest at within, (walk.0, later))
-
-    go : (x ≡ stop) ⊎ Contains allowed stop
-        → WalksWithin R allowed stop w ⊎ (WalksWithin R allowed stop x × WalksWithin R allowed x w)
-        → WalksWithin R allowed u w ⊎ (WalksWithin R allowed u x × WalksWithin R allowed x w)
-    go (inl e) (inl rest) =
-        let Edge : ℕ → Type 0 = λ y. R u y
-        in let Rest : ℕ → Type 0 = λ y. WalksWithin R allowed y w
-        in inr (([], All-nil (Contains allowed), subst Edge (sym e) walk.0), subst Rest (sym e) rest)
-    go (inl e) (inr cut) =
-        let Edge : ℕ → Type 0 = λ y. R u y
-        in inr (([], All-nil (Contains allowed), subst Edge (sym e) walk.0), cut.1)
-    go (inr at) (inl rest) = inl (with_front w at rest)
-    go (inr at) (inr cut) = inr (with_front x at cut.0, cut.1)
+use Rattle.tv_value.specs.Laws.{IsGreatestOverWalks, ClosuresAreGreatest}
 
 -- the least value along a walk meets a threshold exactly where each edge does
 pub least_along-threshold : (T : K3 → Type 0) → IsThreshold T → (edge : ℕ → ℕ → K3) (u : ℕ) (stops : List ℕ) (w : ℕ)
@@ -181,18 +133,6 @@ best_walk-greatest edge allowed u w =
     record { above = walk-at_most edge allowed u w; reached = walk-reached edge allowed u w }
 
 -- ---- walks go along a matching of individuals
-
-pub WalksWithin-matched : (M : ℕ → ℕ → Type 0) (xs ys : List ℕ) → IsTotal M xs ys → (R S : ℕ → ℕ → Type 0)
-    → ((u v x y : ℕ) → M u x → M v y → R u v → S x y)
-    → (u v x y : ℕ) → M u x → M v y → (stops : List ℕ) → All (Contains xs) stops → IsWalk R u stops v → WalksWithin S ys x y
-WalksWithin-matched M xs ys there R S keeps u v x y begin end [] within walk =
-    ([], All-nil (Contains ys), keeps u v x y begin end walk)
-WalksWithin-matched M xs ys there R S keeps u v x y begin end (stop ∷ stops) within walk =
-    let image : (w : ℕ) × Contains ys w × M stop w = there stop (All-head (Contains xs) stop stops within)
-    in let rest : WalksWithin S ys image.0 y
-    = WalksWithin-matched M xs ys there R S keeps stop v image.0 y image.2 end stops
-    (All-tail (Contains xs) stop stops within) walk.1
-    in (image.0 ∷ rest.0, All-cons (Contains ys) image.0 rest.0 image.1 rest.1, (keeps u stop x image.0 begin image.2 walk.0, rest.2))
 
 -- where matched pairs have values under one another, so have the best walks between matched ends
 pub Under-best_walk : (M : ℕ → ℕ → Type 0) (xs ys : List ℕ) → IsTotal M xs ys → IsTotal (λ w u. M u w) ys xs

@@ -2,7 +2,7 @@
 use Rattle.std.specs.Prelude.{ℕ, ◌≡◌, ◌⊎◌, ◌↔◌, List, map, Some, All, Contains}
 use Rattle.tv_kleene.specs.declared.K3.{K3}
 use Rattle.tv_kleene.specs.declared.K3.TheVariants.{No, Yes}
-use Rattle.tv_kleene.specs.Kleene.{LiesUnder, smaller_of}
+use Rattle.tv_kleene.specs.Kleene.{IsAtMost, LiesUnder}
 use Rattle.tv_model.specs.Form.{Form, FClosure, IsFree, Mentions}
 use Rattle.tv_model.specs.Heap.{Heap}
 use Rattle.tv_model.specs.Truth.{Assignment, Truth, put}
@@ -10,10 +10,6 @@ use Rattle.tv_model.specs.Valid.{NamesNew}
 use Rattle.tv_frame.specs.LogicalStructure.{LogicalStructure, heap_structure}
 use Rattle.tv_frame.specs.Embedding.{EmbedsOn, KeepsMark, IsBelow}
 use Rattle.tv_value.specs.Value.{value, least_along}
-
--- x isn't above y in the order of truth
-abbrev pub IsAtMost : K3 → K3 → Type 0
-IsAtMost x y = smaller_of x y ≡ x
 
 -- x is the greatest, over all walks from u to w through the individuals, of the least value of an edge
 pub record IsGreatestOverWalks (edge : ℕ → ℕ → K3) (individuals : List ℕ) (u w : ℕ) (x : K3) : Type 0 where
