@@ -6,7 +6,7 @@ use Rattle.tv_model.specs.Program.{ProgramForm, PredForm, KindForm, KCore, KDefi
 use Rattle.tv_model.specs.Rules.{IsHeap, IsConcrete, MeetsDefinition, blank}
 use Rattle.tv_model.specs.Truth.{Truth, put_all}
 use Rattle.tv_model.specs.Valid.{IsValid, IsRank}
-use Rattle.tv_model.specs.Laws.{LooksAlike}
+use Rattle.tv_model.specs.Laws.{HeapsLookAlike}
 use Rattle.tv_model.proofs.Programs.{pred-cases, kind-cases, holds-fits, holds-nothing}
 use Rattle.tv_model.proofs.Truths.{Truth-local}
 use Rattle.tv_concrete.specs.Laws.{SameCore}
@@ -46,7 +46,7 @@ agree-below p rank ranks h k hh kh hc kc same (suc n) q below tuple at =
         subst (At k) defined.2 (kc q d found tuple (same-tuples h k same.individuals d.arity tuple fits))
         in let less : (r : ℕ) → Mentions r defined.1 → rank r < n =
         λ r m. omega (arith, below, ranks.falls q d found defined.0 defined.1 defined.2 r m)
-        in let alike : LooksAlike defined.1 h k = record {
+        in let alike : HeapsLookAlike defined.1 h k = record {
           individuals = same.individuals;
           holds = λ r m us. (there r (less r m) us, back r (less r m) us);
           marks = λ named. hh.no_mark ∙ sym kh.no_mark;

@@ -9,7 +9,7 @@ use Rattle.tv_model.specs.Truth.{Truth, put_all}
 use Rattle.tv_model.specs.Valid.{IsValid, IsRank}
 use Rattle.tv_model.proofs.Programs.{pred-cases, holds-nothing, kind-cases}
 use Rattle.tv_model.proofs.Lists.{slice_get-past, Contains-filter, Contains-filter_back, All-from_contains}
-use Rattle.tv_model.specs.Laws.{LooksAlike}
+use Rattle.tv_model.specs.Laws.{HeapsLookAlike}
 use Rattle.tv_model.proofs.Decided.{IsDecided}
 use Rattle.tv_model.proofs.Truths.{Truth-local}
 use Rattle.tv_concrete.specs.Laws.{SameCore}
@@ -131,7 +131,7 @@ rounds-same p h (suc n) =
 -- one more round looks alike to a formula if the predicates that it mentions stay
 next-alike : (p : ProgramForm) (h : Heap) (n : ℕ) (f : Form)
     → ((q : ℕ) → Mentions q f → (us : List ℕ) → Holds (rounds p h (suc n)) q us ↔ Holds (rounds p h n) q us)
-    → LooksAlike f (rounds p h (suc n)) (rounds p h n)
+    → HeapsLookAlike f (rounds p h (suc n)) (rounds p h n)
 next-alike p h n f stays = record { individuals = λ u. (λ t. t, λ t. t); holds = stays; marks = λ named. refl }
 
 -- after n rounds the predicates of rank below n stay

@@ -19,7 +19,8 @@ pub record SameCore (p : ProgramForm) (h k : Heap) : Type 0 where
 -- concrete heaps of a valid program that agree on the core predicates agree on all
 abbrev pub AtMostOneConcrete : Type 0
 AtMostOneConcrete =
-    (p : ProgramForm) → IsValid p → (h k : Heap) → IsHeap p h → IsHeap p k → IsConcrete p h → IsConcrete p k → SameCore p h k
+    (p : ProgramForm) → IsValid p → (h k : Heap) → IsHeap p h → IsHeap p k → IsConcrete p h → IsConcrete p k
+    → SameCore p h k
     → (q : ℕ) (tuple : List ℕ) → Holds h q tuple ↔ Holds k q tuple
 
 -- for each heap of a valid program there is a concrete one with the same core

@@ -27,7 +27,8 @@ pub fn is_fair_through(
     new: &HeapList,
 ) -> Result<bool, AllocError>
     requires { length program.now.vocab.preds ≤ 512 }
-    ensures { IfOk result (λ b. IsTrue b ↔ IsFairThrough (program_of program.now) mode (action_of action.now) (assignment_of picked)
+    ensures { IfOk result (λ b. IsTrue b ↔ IsFairThrough (program_of program.now) mode (action_of action.now)
+        (assignment_of picked)
         (heap_of old.now) (heap_of middle.now) (heap_of new.now)) }
 {
     if !steps_through(alloc, program, action, picked, old, middle, new)? {
@@ -52,7 +53,8 @@ fn agrees_with_given(
     middle: &HeapList,
     new: &HeapList,
 ) -> Result<bool, AllocError>
-    ensures { IfOk result (λ b. IsTrue b ↔ AgreesWithGiven (program_of program.now) mode (action_of action.now) (assignment_of picked) (heap_of middle.now) (heap_of new.now)) }
+    ensures { IfOk result (λ b. IsTrue b ↔ AgreesWithGiven (program_of program.now) mode (action_of action.now)
+        (assignment_of picked) (heap_of middle.now) (heap_of new.now)) }
 {
     match mode {
         Mode::Recompute => Ok(true),
@@ -71,9 +73,11 @@ fn agree_all(
     middle: &HeapList,
     new: &HeapList,
 ) -> Result<bool, AllocError>
-    ensures { IfOk result (λ b. IsTrue b ↔ EachPred (map pred_of preds.now) (λ q d. ¬ (d.kind ≡ KCore) → (w : UpdateForm)
+    ensures { IfOk result (λ b. IsTrue b ↔ EachPred (map pred_of preds.now)
+        (λ q d. ¬ (d.kind ≡ KCore) → (w : UpdateForm)
         → update_for q (map update_of updates.now) ≡ Some w → (tuple : List ℕ) → IsTuple (heap_of new.now) d.arity tuple
-        → AllowsChange (heap_of middle.now) (assignment_of picked) w.vars w.change tuple (Holds (heap_of new.now) q tuple))) }
+        → AllowsChange (heap_of middle.now) (assignment_of picked) w.vars w.change tuple
+        (Holds (heap_of new.now) q tuple))) }
 {
     for (q, pred) in preds.iter().enumerate() {
         if !agrees_one(alloc, q, pred, picked, updates, middle, new)? {
@@ -93,8 +97,10 @@ fn agrees_one(
     new: &HeapList,
 ) -> Result<bool, AllocError>
     ensures { IfOk result (λ b. IsTrue b ↔ (¬ (kind_of pred.now.kind ≡ KCore) → (w : UpdateForm)
-        → update_for q (map update_of updates.now) ≡ Some w → (tuple : List ℕ) → IsTuple (heap_of new.now) pred.now.arity tuple
-        → AllowsChange (heap_of middle.now) (assignment_of picked) w.vars w.change tuple (Holds (heap_of new.now) q tuple))) }
+        → update_for q (map update_of updates.now) ≡ Some w → (tuple : List ℕ)
+        → IsTuple (heap_of new.now) pred.now.arity tuple
+        → AllowsChange (heap_of middle.now) (assignment_of picked) w.vars w.change tuple
+        (Holds (heap_of new.now) q tuple))) }
 {
     if is_core(&pred.kind) {
         return Ok(true);
@@ -119,7 +125,8 @@ fn agrees_found(
     all: &[Tuple],
 ) -> bool
     ensures { IsTrue result ↔ ((w : UpdateForm) → option_map update_of (option_copied found.entry) ≡ Some w
-        → All (λ tuple. AllowsChange (heap_of middle.now) (assignment_of picked) w.vars w.change tuple (Holds (heap_of new.now) q tuple)) all.now) }
+        → All (λ tuple. AllowsChange (heap_of middle.now) (assignment_of picked) w.vars w.change tuple
+        (Holds (heap_of new.now) q tuple)) all.now) }
 {
     match found {
         None => true,
@@ -135,7 +142,9 @@ fn allows_at_all(
     new: &HeapList,
     all: &[Tuple],
 ) -> bool
-    ensures { IsTrue result ↔ All (λ tuple. AllowsChange (heap_of middle.now) (assignment_of picked) (update_of update.now).vars (update_of update.now).change tuple (Holds (heap_of new.now) q tuple)) all.now }
+    ensures { IsTrue result ↔ All (λ tuple. AllowsChange (heap_of middle.now) (assignment_of picked)
+        (update_of update.now).vars (update_of update.now).change tuple
+        (Holds (heap_of new.now) q tuple)) all.now }
 {
     for tuple in all {
         if !allows_change(q, picked, &update.vars, &update.change, middle, new, tuple) {

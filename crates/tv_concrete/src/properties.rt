@@ -67,7 +67,8 @@ fn meets_unique(
     p: PredId,
     declared: bool,
 ) -> Result<bool, AllocError>
-    ensures { IfOk result (λ b. IsTrue b ↔ All (MeetsRule (heap_of heap.now)) (declared_rule declared (unique_rule p.0))) }
+    ensures { IfOk result (λ b. IsTrue b ↔ All (MeetsRule (heap_of heap.now))
+        (declared_rule declared (unique_rule p.0))) }
 {
     let rule = unique(alloc, p)?;
     meets_declared(alloc, heap, declared, &rule)
@@ -79,7 +80,8 @@ fn meets_function(
     p: PredId,
     declared: bool,
 ) -> Result<bool, AllocError>
-    ensures { IfOk result (λ b. IsTrue b ↔ All (MeetsRule (heap_of heap.now)) (declared_rule declared (function_rule p.0))) }
+    ensures { IfOk result (λ b. IsTrue b ↔ All (MeetsRule (heap_of heap.now))
+        (declared_rule declared (function_rule p.0))) }
 {
     let rule = function(alloc, p)?;
     meets_declared(alloc, heap, declared, &rule)
@@ -91,7 +93,8 @@ fn meets_invfunction(
     p: PredId,
     declared: bool,
 ) -> Result<bool, AllocError>
-    ensures { IfOk result (λ b. IsTrue b ↔ All (MeetsRule (heap_of heap.now)) (declared_rule declared (invfunction_rule p.0))) }
+    ensures { IfOk result (λ b. IsTrue b ↔ All (MeetsRule (heap_of heap.now))
+        (declared_rule declared (invfunction_rule p.0))) }
 {
     let rule = invfunction(alloc, p)?;
     meets_declared(alloc, heap, declared, &rule)
@@ -103,7 +106,8 @@ fn meets_transitive(
     p: PredId,
     declared: bool,
 ) -> Result<bool, AllocError>
-    ensures { IfOk result (λ b. IsTrue b ↔ All (MeetsRule (heap_of heap.now)) (declared_rule declared (transitive_rule p.0))) }
+    ensures { IfOk result (λ b. IsTrue b ↔ All (MeetsRule (heap_of heap.now))
+        (declared_rule declared (transitive_rule p.0))) }
 {
     let rule = transitive(alloc, p)?;
     meets_declared(alloc, heap, declared, &rule)
@@ -115,7 +119,8 @@ fn meets_reflexive(
     p: PredId,
     declared: bool,
 ) -> Result<bool, AllocError>
-    ensures { IfOk result (λ b. IsTrue b ↔ All (MeetsRule (heap_of heap.now)) (declared_rule declared (reflexive_rule p.0))) }
+    ensures { IfOk result (λ b. IsTrue b ↔ All (MeetsRule (heap_of heap.now))
+        (declared_rule declared (reflexive_rule p.0))) }
 {
     let rule = reflexive(p);
     meets_declared(alloc, heap, declared, &rule)
@@ -127,7 +132,8 @@ fn meets_symmetric(
     p: PredId,
     declared: bool,
 ) -> Result<bool, AllocError>
-    ensures { IfOk result (λ b. IsTrue b ↔ All (MeetsRule (heap_of heap.now)) (declared_rule declared (symmetric_rule p.0))) }
+    ensures { IfOk result (λ b. IsTrue b ↔ All (MeetsRule (heap_of heap.now))
+        (declared_rule declared (symmetric_rule p.0))) }
 {
     let rule = symmetric(p);
     meets_declared(alloc, heap, declared, &rule)
@@ -139,7 +145,8 @@ fn meets_declared(
     declared: bool,
     rule: &Rule,
 ) -> Result<bool, AllocError>
-    ensures { IfOk result (λ b. IsTrue b ↔ All (MeetsRule (heap_of heap.now)) (declared_rule declared (rule_of rule.now))) }
+    ensures { IfOk result (λ b. IsTrue b ↔ All (MeetsRule (heap_of heap.now))
+        (declared_rule declared (rule_of rule.now))) }
 {
     if declared {
         return meets_rule(alloc, heap, rule);

@@ -45,7 +45,8 @@ pub fn meets_rule(alloc: Global, heap: &HeapList, rule: &Rule) -> Result<bool, A
 /// Whether the rule is true for each choice of individuals for the variables.
 #[cycle(meets)]
 fn meets_for_each(heap: &HeapList, rule: &Rule, vars: &[u8], values: Values) -> bool
-    ensures { IsTrue result ↔ EachPut (heap_of heap.now) vars.now (assignment_of values) (RuleTruth (heap_of heap.now) (rule_of rule.now)) }
+    ensures { IsTrue result ↔ EachPut (heap_of heap.now) vars.now (assignment_of values)
+        (RuleTruth (heap_of heap.now) (rule_of rule.now)) }
 {
     match vars {
         [] => !holds(heap, values, &rule.body) || head_holds(heap, &rule.head, &values),
@@ -55,7 +56,8 @@ fn meets_for_each(heap: &HeapList, rule: &Rule, vars: &[u8], values: Values) -> 
 
 #[cycle(meets)]
 fn meets_for_each_of(heap: &HeapList, rule: &Rule, v: Var, rest: &[u8], values: Values) -> bool
-    ensures { IsTrue result ↔ EachPut (heap_of heap.now) (v.0 ∷ rest.now) (assignment_of values) (RuleTruth (heap_of heap.now) (rule_of rule.now)) }
+    ensures { IsTrue result ↔ EachPut (heap_of heap.now) (v.0 ∷ rest.now) (assignment_of values)
+        (RuleTruth (heap_of heap.now) (rule_of rule.now)) }
 {
     for u in heap.individuals.as_slice() {
         if !meets_with(heap, rule, v, *u, rest, values) {
@@ -67,7 +69,8 @@ fn meets_for_each_of(heap: &HeapList, rule: &Rule, v: Var, rest: &[u8], values: 
 
 #[cycle(meets)]
 fn meets_with(heap: &HeapList, rule: &Rule, v: Var, u: u32, rest: &[u8], values: Values) -> bool
-    ensures { IsTrue result ↔ EachPut (heap_of heap.now) rest.now (put (assignment_of values) v.0 u) (RuleTruth (heap_of heap.now) (rule_of rule.now)) }
+    ensures { IsTrue result ↔ EachPut (heap_of heap.now) rest.now (put (assignment_of values) v.0 u)
+        (RuleTruth (heap_of heap.now) (rule_of rule.now)) }
 {
     meets_for_each(heap, rule, rest, values.with(v, u))
 }
@@ -93,7 +96,8 @@ fn rule_variables(alloc: Global, rule: &Rule) -> Result<Items<u8>, AllocError>
 }
 
 fn free_ones(alloc: Global, rule: &Rule, all: &[u8]) -> Result<Items<u8>, AllocError>
-    ensures { IfOk result (λ vars. (v : ℕ) → Contains vars v ↔ (Contains all.now v × IsFreeInRule v (rule_of rule.now))) }
+    ensures { IfOk result (λ vars. (v : ℕ) → Contains vars v ↔
+        (Contains all.now v × IsFreeInRule v (rule_of rule.now))) }
 {
     let mut vars = Items::new(alloc);
     for v in all {
@@ -104,7 +108,8 @@ fn free_ones(alloc: Global, rule: &Rule, all: &[u8]) -> Result<Items<u8>, AllocE
 
 /// Puts the variable into the list, if it is free in the rule.
 fn note(rule: &Rule, v: u8, vars: &mut Items<u8>) -> Result<(), AllocError>
-    ensures { OnOk result ((w : ℕ) → Contains vars.new w ↔ (Contains vars.old w ⊎ ((w ≡ v) × IsFreeInRule w (rule_of rule.now)))) }
+    ensures { OnOk result ((w : ℕ) → Contains vars.new w ↔ (Contains vars.old w
+        ⊎ ((w ≡ v) × IsFreeInRule w (rule_of rule.now)))) }
 {
     if !is_free_in_rule(rule, Var(v)) {
         return Ok(());

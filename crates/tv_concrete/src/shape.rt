@@ -52,7 +52,8 @@ fn differs_before(individuals: &[u32], j: usize) -> bool
 }
 
 fn tuples_fit(heap: &HeapList, preds: &[Pred]) -> bool
-    ensures { IsTrue result ↔ EachPred (map pred_of preds.now) (λ q d. All (IsTuple (heap_of heap.now) d.arity) (extent (heap_of heap.now) q)) }
+    ensures { IsTrue result ↔ EachPred (map pred_of preds.now)
+        (λ q d. All (IsTuple (heap_of heap.now) d.arity) (extent (heap_of heap.now) q)) }
 {
     for (q, pred) in preds.iter().enumerate() {
         if !extent_fits(heap, q, pred.arity) {
@@ -105,7 +106,8 @@ pub fn is_concrete(alloc: Global, program: &Program, heap: &HeapList) -> Result<
 
 fn is_as_defined(alloc: Global, heap: &HeapList, q: usize, pred: &Pred) -> Result<bool, AllocError>
     ensures { IfOk result (λ b. IsTrue b
-        ↔ ((tuple : List ℕ) → IsTuple (heap_of heap.now) pred.now.arity tuple → MeetsDefinition (heap_of heap.now) q (kind_of pred.now.kind) tuple)) }
+        ↔ ((tuple : List ℕ) → IsTuple (heap_of heap.now) pred.now.arity tuple
+        → MeetsDefinition (heap_of heap.now) q (kind_of pred.now.kind) tuple)) }
 {
     let all = tuples(alloc, heap.individuals.as_slice(), pred.arity)?;
     for tuple in all.as_slice() {

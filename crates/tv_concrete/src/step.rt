@@ -24,7 +24,8 @@ pub fn steps_through(
     middle: &HeapList,
     new: &HeapList,
 ) -> Result<bool, AllocError>
-    ensures { IfOk result (λ b. IsTrue b ↔ StepsThrough (program_of program.now) (action_of action.now) (assignment_of picked)
+    ensures { IfOk result (λ b. IsTrue b ↔ StepsThrough (program_of program.now) (action_of action.now)
+        (assignment_of picked)
         (heap_of old.now) (heap_of middle.now) (heap_of new.now)) }
 {
     if !picks_individuals(old, &picked, action.picks.as_slice()) {
@@ -59,13 +60,15 @@ pub fn steps_through(
 }
 
 fn are_heaps(program: &Program, old: &HeapList, new: &HeapList) -> bool
-    ensures { IsTrue result ↔ (IsHeap (program_of program.now) (heap_of old.now) × IsHeap (program_of program.now) (heap_of new.now)) }
+    ensures { IsTrue result ↔ (IsHeap (program_of program.now) (heap_of old.now)
+        × IsHeap (program_of program.now) (heap_of new.now)) }
 {
     is_heap(program, old) && is_heap(program, new)
 }
 
 fn picks_individuals(old: &HeapList, picked: &Values, picks: &[Var]) -> bool
-    ensures { IsTrue result ↔ All (λ v. Contains (heap_of old.now).individuals (assignment_of picked.now v)) (picks_of picks.now) }
+    ensures { IsTrue result ↔ All (λ v. Contains (heap_of old.now).individuals (assignment_of picked.now v))
+        (picks_of picks.now) }
 {
     for v in picks {
         if !old.has(picked.at(*v)) {
@@ -211,8 +214,10 @@ fn updates_all(
     middle: &HeapList,
     new: &HeapList,
 ) -> Result<bool, AllocError>
-    ensures { IfOk result (λ b. IsTrue b ↔ EachPred (map pred_of preds.now) (λ q d. d.kind ≡ KCore → (tuple : List ℕ) → IsTuple (heap_of new.now) d.arity tuple
-        → FollowsUpdate q (heap_of middle.now) (assignment_of picked) (update_for q (map update_of updates.now)) tuple (heap_of new.now))) }
+    ensures { IfOk result (λ b. IsTrue b ↔ EachPred (map pred_of preds.now)
+        (λ q d. d.kind ≡ KCore → (tuple : List ℕ) → IsTuple (heap_of new.now) d.arity tuple
+        → FollowsUpdate q (heap_of middle.now) (assignment_of picked)
+        (update_for q (map update_of updates.now)) tuple (heap_of new.now))) }
 {
     for (q, pred) in preds.iter().enumerate() {
         if !updates_one(alloc, q, pred, picked, updates, middle, new)? {
@@ -231,8 +236,10 @@ fn updates_one(
     middle: &HeapList,
     new: &HeapList,
 ) -> Result<bool, AllocError>
-    ensures { IfOk result (λ b. IsTrue b ↔ (kind_of pred.now.kind ≡ KCore → (tuple : List ℕ) → IsTuple (heap_of new.now) pred.now.arity tuple
-        → FollowsUpdate q (heap_of middle.now) (assignment_of picked) (update_for q (map update_of updates.now)) tuple (heap_of new.now))) }
+    ensures { IfOk result (λ b. IsTrue b ↔ (kind_of pred.now.kind ≡ KCore → (tuple : List ℕ)
+        → IsTuple (heap_of new.now) pred.now.arity tuple
+        → FollowsUpdate q (heap_of middle.now) (assignment_of picked)
+        (update_for q (map update_of updates.now)) tuple (heap_of new.now))) }
 {
     if !is_core(&pred.kind) {
         return Ok(true);
@@ -259,7 +266,8 @@ fn follows_update_at_all(
     new: &HeapList,
     all: &[Tuple],
 ) -> bool
-    ensures { IsTrue result ↔ All (λ tuple. FollowsUpdate q (heap_of middle.now) (assignment_of picked) (update_for q (map update_of updates.now)) tuple (heap_of new.now)) all.now }
+    ensures { IsTrue result ↔ All (λ tuple. FollowsUpdate q (heap_of middle.now) (assignment_of picked)
+        (update_for q (map update_of updates.now)) tuple (heap_of new.now)) all.now }
 {
     for tuple in all {
         if !follows_update(q, picked, updates, middle, new, tuple) {
@@ -278,7 +286,8 @@ fn follows_update(
     new: &HeapList,
     tuple: &Tuple,
 ) -> bool
-    ensures { IsTrue result ↔ FollowsUpdate q (heap_of middle.now) (assignment_of picked) (update_for q (map update_of updates.now)) tuple.now (heap_of new.now) }
+    ensures { IsTrue result ↔ FollowsUpdate q (heap_of middle.now) (assignment_of picked)
+        (update_for q (map update_of updates.now)) tuple.now (heap_of new.now) }
 {
     match find_update(q, updates) {
         None => new.holds_of(q, tuple.as_slice()) == middle.holds_of(q, tuple.as_slice()),
@@ -308,7 +317,8 @@ pub fn allows_change(
     new: &HeapList,
     tuple: &Tuple,
 ) -> bool
-    ensures { IsTrue result ↔ AllowsChange (heap_of middle.now) (assignment_of picked) (vars_of vars.now) (change_of change.now) tuple.now (Holds (heap_of new.now) q tuple.now) }
+    ensures { IsTrue result ↔ AllowsChange (heap_of middle.now) (assignment_of picked) (vars_of vars.now)
+        (change_of change.now) tuple.now (Holds (heap_of new.now) q tuple.now) }
 {
     match change {
         Change::Free => true,

@@ -103,7 +103,8 @@ fn is_edge(
     u: u32,
     w: u32,
 ) -> bool
-    ensures { IsTrue result ↔ ClosureEdge (heap_of heap.now) (assignment_of values) left.0 right.0 (form_of body.now) u w }
+    ensures { IsTrue result ↔ ClosureEdge (heap_of heap.now) (assignment_of values) left.0 right.0
+        (form_of body.now) u w }
 {
     heap.has(u) && heap.has(w) && holds_with(heap, values.with(left, u), right, w, body)
 }
@@ -121,7 +122,8 @@ fn reaches(
     u: u32,
     w: u32,
 ) -> bool
-    ensures { IsTrue result ↔ Reaches (ClosureEdge (heap_of heap.now) (assignment_of values) left.0 right.0 (form_of body.now)) allowed.now u w }
+    ensures { IsTrue result ↔ Reaches (ClosureEdge (heap_of heap.now) (assignment_of values) left.0 right.0
+        (form_of body.now)) allowed.now u w }
 {
     match allowed {
         [] => is_edge(heap, values, left, right, body, u, w),

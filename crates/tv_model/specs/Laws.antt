@@ -9,7 +9,7 @@ use Rattle.tv_model.specs.Valid.{IsValid, IsFormula, NamesNew}
 
 -- two heaps look alike to the formula: they have the same individuals, the predicates that it mentions hold
 -- alike, and the mark is the same where it speaks of the fresh individual
-pub record LooksAlike (f : Form) (h k : Heap) : Type 0 where
+pub record HeapsLookAlike (f : Form) (h k : Heap) : Type 0 where
   pub individuals : (u : ℕ) → Contains h.individuals u ↔ Contains k.individuals u
   pub holds : (q : ℕ) → Mentions q f → (tuple : List ℕ) → Holds h q tuple ↔ Holds k q tuple
   pub marks : NamesNew f → h.fresh ≡ k.fresh
@@ -17,11 +17,11 @@ pub record LooksAlike (f : Form) (h k : Heap) : Type 0 where
 -- truth depends only on what the formula sees of a heap, and on what its free variables stand for
 abbrev pub TruthIsLocal : Type 0
 TruthIsLocal =
-    (f : Form) (h k : Heap) (a b : Assignment) → LooksAlike f h k → ((v : ℕ) → IsFree v f → a v ≡ b v)
+    (f : Form) (h k : Heap) (a b : Assignment) → HeapsLookAlike f h k → ((v : ℕ) → IsFree v f → a v ≡ b v)
     → Truth h a f ↔ Truth k b f
 
 -- the map r renames individuals of h to those of k as far as the formula sees
-pub record Renames (f : Form) (r : ℕ → ℕ) (h k : Heap) : Type 0 where
+pub record RenamesHeap (f : Form) (r : ℕ → ℕ) (h k : Heap) : Type 0 where
   pub into : (u : ℕ) → Contains h.individuals u → Contains k.individuals (r u)
   pub onto : (w : ℕ) → Contains k.individuals w → (u : ℕ) × Contains h.individuals u × (r u ≡ w)
   pub injective : (u w : ℕ) → Contains h.individuals u → Contains h.individuals w → r u ≡ r w → u ≡ w
@@ -33,13 +33,14 @@ pub record Renames (f : Form) (r : ℕ → ℕ) (h k : Heap) : Type 0 where
 -- formula is true alike
 abbrev pub TruthIsKept : Type 0
 TruthIsKept =
-    (f : Form) (r : ℕ → ℕ) (h k : Heap) (a b : Assignment) → Renames f r h k
+    (f : Form) (r : ℕ → ℕ) (h k : Heap) (a b : Assignment) → RenamesHeap f r h k
     → ((v : ℕ) → IsFree v f → Contains h.individuals (a v) × (r (a v) ≡ b v))
     → Truth h a f ↔ Truth k b f
 
 -- P holds of each formula that stands in the program
 pub record EachFormula (P : Form → Type 0) (p : ProgramForm) : Type 0 where
-  pub definitions : (d : PredForm) (vars : List ℕ) (body : Form) → Contains p.preds d → d.kind ≡ KDefined vars body → P body
+  pub definitions : (d : PredForm) (vars : List ℕ) (body : Form) → Contains p.preds d → d.kind ≡ KDefined vars body
+      → P body
   pub rules : (rule : RuleForm) → Contains p.rules rule → P rule.body
   pub preconditions : (a : ActionForm) (f : Form) → Contains p.actions a → a.pre ≡ Some f → P f
   pub focus : (a : ActionForm) (f : Form) → Contains p.actions a → Contains a.focus f → P f

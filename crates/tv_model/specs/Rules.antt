@@ -68,7 +68,8 @@ abbrev pub invfunction_rule : ℕ → RuleForm
 invfunction_rule p = record { body = FAnd (FAtom p (1 ∷ 0 ∷ [])) (FAtom p (2 ∷ 0 ∷ [])); head = HSame true 1 2 }
 
 abbrev pub transitive_rule : ℕ → RuleForm
-transitive_rule p = record { body = FAnd (FAtom p (0 ∷ 1 ∷ [])) (FAtom p (1 ∷ 2 ∷ [])); head = HAtom true p (0 ∷ 2 ∷ []) }
+transitive_rule p =
+    record { body = FAnd (FAtom p (0 ∷ 1 ∷ [])) (FAtom p (1 ∷ 2 ∷ [])); head = HAtom true p (0 ∷ 2 ∷ []) }
 
 abbrev pub reflexive_rule : ℕ → RuleForm
 reflexive_rule p = record { body = FOne; head = HAtom true p (0 ∷ 0 ∷ []) }

@@ -37,12 +37,14 @@ FollowsUpdate q middle picked None tuple new = Holds new q tuple ↔ Holds middl
 FollowsUpdate q middle picked (Some w) tuple new = AllowsChange middle picked w.vars w.change tuple (Holds new q tuple)
 
 -- an action takes an old heap to a new one through a middle heap, by an assignment of its picked variables
-pub record StepsThrough (p : ProgramForm) (action : ActionForm) (picked : Assignment) (old middle new : Heap) : Type 0 where
+pub record StepsThrough (p : ProgramForm) (action : ActionForm) (picked : Assignment) (old middle new : Heap)
+    : Type 0 where
   pub old_heap : IsHeap p old
   pub picks_individuals : All (λ v. Contains old.individuals (picked v)) action.picks
   pub precondition : IfSome action.pre (Truth old picked)
   pub is_middle : IsMiddle action.fresh old middle
-  pub keeps : (u : ℕ) → Contains new.individuals u ↔ (Contains middle.individuals u × Keeps middle picked action.retain u)
+  pub keeps : (u : ℕ)
+      → Contains new.individuals u ↔ (Contains middle.individuals u × Keeps middle picked action.retain u)
   pub core : EachPred p.preds (λ q d. d.kind ≡ KCore → (tuple : List ℕ) → IsTuple new d.arity tuple
       → FollowsUpdate q middle picked (update_for q action.updates) tuple new)
   pub new_heap : IsHeap p new
@@ -54,10 +56,12 @@ abbrev pub AgreesWithGiven : ProgramForm → Mode → ActionForm → Assignment 
 AgreesWithGiven p Recompute action picked middle new = Unit {0}
 AgreesWithGiven p Given action picked middle new =
     EachPred p.preds (λ q d. ¬ (d.kind ≡ KCore) → (w : UpdateForm) → update_for q action.updates ≡ Some w
-    → (tuple : List ℕ) → IsTuple new d.arity tuple → AllowsChange middle picked w.vars w.change tuple (Holds new q tuple))
+    → (tuple : List ℕ) → IsTuple new d.arity tuple
+    → AllowsChange middle picked w.vars w.change tuple (Holds new q tuple))
 
 -- a fair step through the middle heap: both ends meet the program's rules, and the given updates agree
-pub record IsFairThrough (p : ProgramForm) (mode : Mode) (action : ActionForm) (picked : Assignment) (old middle new : Heap) : Type 0 where
+pub record IsFairThrough (p : ProgramForm) (mode : Mode) (action : ActionForm) (picked : Assignment)
+    (old middle new : Heap) : Type 0 where
   pub step : StepsThrough p action picked old middle new
   pub given : AgreesWithGiven p mode action picked middle new
   pub old_meets : MeetsProgram p old

@@ -42,7 +42,8 @@ ImagesAreStable =
     → IsStable rules s → IsStable rules t
 
 -- the structure is stable and lies below t, has its mark, and m embeds s in it
-pub record IsStableBetween (m : ℕ → ℕ) (s t : LogicalStructure) (rules : List RuleForm) (r : LogicalStructure) : Type 0 where
+pub record IsStableBetween (m : ℕ → ℕ) (s t : LogicalStructure) (rules : List RuleForm) (r : LogicalStructure)
+    : Type 0 where
   pub embeds : Embeds m s r
   pub below : IsBelow r t
   pub mark : r.fresh ≡ t.fresh
@@ -52,7 +53,8 @@ pub record IsStableBetween (m : ℕ → ℕ) (s t : LogicalStructure) (rules : L
 -- stable structure below t loses none of them
 abbrev pub StableStructuresStay : Type 0
 StableStructuresStay =
-    (m : ℕ → ℕ) (s t : LogicalStructure) (rules : List RuleForm) → Embeds m s t → All IsPlainRule rules → IsStable rules s
+    (m : ℕ → ℕ) (s t : LogicalStructure) (rules : List RuleForm) → Embeds m s t → All IsPlainRule rules
+    → IsStable rules s
     → (r : LogicalStructure) × IsStableBetween m s t rules r
 
 -- a stable structure that embeds in t embeds in the greatest stable structure below t, with marks too
@@ -65,7 +67,8 @@ pub record SharpeningLosesNone (m : ℕ → ℕ) (s t : LogicalStructure) (rules
 
 abbrev pub SharpeningLosesNoStable : Type 0
 SharpeningLosesNoStable =
-    (m : ℕ → ℕ) (s t : LogicalStructure) (rules : List RuleForm) → Embeds m s t → All IsPlainRule rules → IsStable rules s
+    (m : ℕ → ℕ) (s t : LogicalStructure) (rules : List RuleForm) → Embeds m s t → All IsPlainRule rules
+    → IsStable rules s
     → SharpeningLosesNone m s t rules
 
 -- the same of a heap that meets the rules

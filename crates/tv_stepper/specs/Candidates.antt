@@ -8,4 +8,5 @@ use Rattle.tv_model.specs.Truth.{Assignment}
 pub record Suffice (us : List ℕ) (old new : Heap) (picked : Assignment) : Type 0 where
   pub of_new : (u : ℕ) → Contains new.individuals u → Contains us u
   pub of_picked : (v : ℕ) → Contains us (picked v)
-  pub further : (m : ℕ) × Contains us m × (¬ Contains old.individuals m) × (¬ Contains new.individuals m) × ((v : ℕ) → picked v ≢ m)
+  pub further : (m : ℕ) × Contains us m × (¬ Contains old.individuals m) × (¬ Contains new.individuals m)
+      × ((v : ℕ) → picked v ≢ m)

@@ -28,7 +28,8 @@ pub fn fairly_steps(
     new: &HeapList,
 ) -> Result<bool, AllocError>
     requires { length program.now.vocab.preds ≤ 512 }
-    ensures { IfOk result (λ b. IsTrue b ↔ FairlySteps (program_of program.now) mode (action_of action.now) (assignment_of picked)
+    ensures { IfOk result (λ b. IsTrue b ↔ FairlySteps (program_of program.now) mode (action_of action.now)
+        (assignment_of picked)
         (heap_of old.now) (heap_of new.now)) }
 {
     if !action.fresh {
@@ -59,7 +60,8 @@ fn fits_some(
     candidates: &[u32],
 ) -> Result<bool, AllocError>
     requires { length program.now.vocab.preds ≤ 512 }
-    ensures { IfOk result (λ b. IsTrue b ↔ ((u : ℕ) × Contains candidates.now u × IsFairThrough (program_of program.now) mode (action_of action.now)
+    ensures { IfOk result (λ b. IsTrue b ↔ ((u : ℕ) × Contains candidates.now u
+        × IsFairThrough (program_of program.now) mode (action_of action.now)
         (assignment_of picked) (heap_of old.now) (with_new (heap_of old.now) u) (heap_of new.now))) }
 {
     for u in candidates {

@@ -85,12 +85,14 @@ AgreesOn s f a b = (v : ℕ) → IsFree v f → Contains s.individuals (a v) × 
 -- a value depends only on the predicates that the formula mentions and on its free variables
 abbrev pub ValuesAreLocal : Type 0
 ValuesAreLocal =
-    (f : Form) (s t : LogicalStructure) (a b : Assignment) → LooksAlike f s t → AgreesOn s f a b → value s a f ≡ value t b f
+    (f : Form) (s t : LogicalStructure) (a b : Assignment) → LooksAlike f s t → AgreesOn s f a b
+    → value s a f ≡ value t b f
 
 -- in one structure a value depends only on the formula's free variables, whatever they stand for
 abbrev pub OnlyFreeVariablesMatter : Type 0
 OnlyFreeVariablesMatter =
-    (s : LogicalStructure) (f : Form) (a b : Assignment) → ((v : ℕ) → IsFree v f → a v ≡ b v) → value s a f ≡ value s b f
+    (s : LogicalStructure) (f : Form) (a b : Assignment) → ((v : ℕ) → IsFree v f → a v ≡ b v)
+    → value s a f ≡ value s b f
 
 -- the free variables of the formula stand for individuals
 abbrev pub GivesIndividuals : List ℕ → Form → Assignment → Type 0

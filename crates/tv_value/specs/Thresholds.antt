@@ -25,7 +25,8 @@ IsTrueIn certain s a (FNot f) = ¬ IsTrueIn (not certain) s a f
 IsTrueIn certain s a (FAnd f g) = IsTrueIn certain s a f × IsTrueIn certain s a g
 IsTrueIn certain s a (FOr f g) = IsTrueIn certain s a f ⊎ IsTrueIn certain s a g
 IsTrueIn certain s a (FIff f g) =
-    ((¬ IsTrueIn (not certain) s a f) ⊎ IsTrueIn certain s a g) × ((¬ IsTrueIn (not certain) s a g) ⊎ IsTrueIn certain s a f)
+    ((¬ IsTrueIn (not certain) s a f) ⊎ IsTrueIn certain s a g)
+    × ((¬ IsTrueIn (not certain) s a g) ⊎ IsTrueIn certain s a f)
 IsTrueIn certain s a (FCond c f g) =
     (IsTrueIn certain s a c × IsTrueIn certain s a f) ⊎ ((¬ IsTrueIn (not certain) s a c) × IsTrueIn certain s a g)
 IsTrueIn certain s a (FExists v f) = (u : ℕ) × Contains s.individuals u × IsTrueIn certain s (put a v u) f
@@ -37,4 +38,5 @@ IsTrueIn certain s a (FClosure from to left right f) =
 -- the value meets a threshold exactly where the formula is true in this way
 abbrev pub ValuesMeetThresholds : Type 0
 ValuesMeetThresholds =
-    (certain : Bool) (s : LogicalStructure) (a : Assignment) (f : Form) → Meets certain (value s a f) ↔ IsTrueIn certain s a f
+    (certain : Bool) (s : LogicalStructure) (a : Assignment) (f : Form)
+    → Meets certain (value s a f) ↔ IsTrueIn certain s a f

@@ -52,7 +52,8 @@ value s a (FNot f) = negation_of (value s a f)
 value s a (FAnd f g) = smaller_of (value s a f) (value s a g)
 value s a (FOr f g) = larger_of (value s a f) (value s a g)
 value s a (FIff f g) =
-    smaller_of (larger_of (negation_of (value s a f)) (value s a g)) (larger_of (negation_of (value s a g)) (value s a f))
+    smaller_of (larger_of (negation_of (value s a f)) (value s a g))
+    (larger_of (negation_of (value s a g)) (value s a f))
 value s a (FCond c f g) =
     larger_of (smaller_of (value s a c) (value s a f)) (smaller_of (negation_of (value s a c)) (value s a g))
 value s a (FExists v f) = greatest_of (λ u. value s (put a v u) f) s.individuals
