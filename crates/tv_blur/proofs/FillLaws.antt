@@ -1,0 +1,225 @@
+-- Writing merged values predicate by predicate.
+use Rattle.std.proofs.Common.{ℕ, ◌≡◌, ◌≢◌, ◌⊎◌, ◌<◌, ◌≤◌, ◌+◌, inl, inr, Bool, false, List, [], ◌∷◌, get_or, length, Some, None, refl, sym, ap, subst, ◌∙◌, arith}
+use Rattle.std.specs.Prelude.{slice_get}
+use Rattle.std.proofs.lemmas.Bool.{cases_eq, cases_lt}
+use Rattle.std.proofs.lemmas.List.Elements.{All-contains}
+use Rattle.tv_kleene.specs.declared.K3.{K3}
+use Rattle.tv_kleene.specs.declared.K3.TheVariants.{No}
+use Rattle.tv_struct.specs.TableForm.{HasEntry, row_of}
+use Rattle.tv_struct.specs.StructureForm.{StructureForm, IsStructure, table_of, value_at, summary_at, arities_of, with_value, with_summary}
+use Rattle.tv_struct.specs.StructureRows.{HasArity, row_at, unary_row, with_row}
+use Rattle.tv_struct.specs.Laws.{WritesOneEntry, WritesOneSummary}
+use Rattle.tv_struct.proofs.StructureLaws.{writes_one_entry, writes_one_summary}
+use Rattle.tv_blur.specs.Merged.{IsJoin}
+use Rattle.tv_blur.specs.Classes.{ChangesOnly, HasMergedValues, HasMerged, AreClasses, IsMergedValue, IsAmongMembers, class_at, is_merged_summary}
+use Rattle.tv_blur.proofs.JoinLaws.{join_is, join_joins, merged_none, merged_one, merged_two}
+use Rattle.tv_blur.proofs.RowLaws.{get_or-row_at, get_or-unary_row}
+
+-- the arity of an entry's tuple
+entry-arity : (t : StructureForm) (pred n : ℕ) (tuple : List ℕ) → HasArity t pred n → HasEntry (table_of t) pred tuple
+    → length tuple ≡ n
+entry-arity t pred n tuple arity has = let e : Some n ≡ Some (length tuple) = sym arity ∙ has.arity in cc
+
+-- ---- nullary predicates
+
+pub value_changes : (t : StructureForm) (pred : ℕ) (k : K3) (new : StructureForm) → IsStructure t → HasArity t pred 0
+    → new ≡ with_value t pred [] k → ChangesOnly pred t new
+value_changes t pred k new is arity e =
+    let one : WritesOneEntry t pred [] k = writes_one_entry t pred [] k is (record { arity = arity; individuals = tt })
+    in let P : StructureForm → Type 0 = λ x. ChangesOnly pred t x
+    in subst P (sym e) (record {
+      size = refl;
+      over = one.arities;
+      summaries = refl;
+      fresh = refl;
+      others = λ q tuple differ. one.others q tuple (λ same. differ same.0);
+    })
+
+pub value_merged : (classes : List (List ℕ)) (s t : StructureForm) (pred : ℕ) (k : K3) (new : StructureForm) → IsStructure t
+    → HasArity t pred 0 → new ≡ with_value t pred [] k → k ≡ value_at s pred [] → HasMergedValues classes s pred new
+value_merged classes s t pred k new is arity e value tuple has =
+    let one : WritesOneEntry t pred [] k = writes_one_entry t pred [] k is (record { arity = arity; individuals = tt })
+    in let arity_new : HasArity new pred 0 = ap (λ x. slice_get x pred) (ap arities_of e ∙ one.arities) ∙ arity
+    in let read : value_at new pred [] ≡ value_at s pred [] = ap (λ x. value_at x pred []) e ∙ one.written ∙ value
+    in at tuple (entry-arity new pred 0 tuple arity_new has) read
+  where
+    at : (tuple : List ℕ) → length tuple ≡ 0 → value_at new pred [] ≡ value_at s pred []
+        → IsMergedValue classes s pred tuple (value_at new pred tuple)
+    at [] none read = let P : K3 → Type 0 = λ x. IsMergedValue classes s pred [] x in subst P (sym read) (merged_none classes s pred)
+    at (u ∷ us) none read = absurd (omega arith)
+
+-- ---- unary predicates
+
+pub row_changes : (t : StructureForm) (pred row : ℕ) (values : List K3) (new : StructureForm) → new ≡ with_row t pred row values
+    → arities_of new ≡ arities_of t
+    → ((q : ℕ) (tuple : List ℕ) → q ≢ pred → value_at new q tuple ≡ value_at t q tuple) → ChangesOnly pred t new
+row_changes t pred row values new e over others = record {
+  size = ap (λ (x : StructureForm). x.size) e;
+  over = over;
+  summaries = ap (λ (x : StructureForm). x.summaries) e;
+  fresh = ap (λ (x : StructureForm). x.fresh) e;
+  others = others;
+}
+
+pub row_merged : (classes : List (List ℕ)) (s new : StructureForm) (pred : ℕ) (merged : List K3) → AreClasses s classes
+    → new.size ≡ length classes → HasArity new pred 1 → unary_row new pred ≡ merged
+    → ((w : ℕ) → w < length classes
+    → IsJoin (IsAmongMembers (λ u j. get_or (unary_row s pred) u No ≡ j) (class_at classes w)) (get_or merged w No))
+    → HasMergedValues classes s pred new
+row_merged classes s new pred merged are size arity row joins tuple has =
+    at tuple (entry-arity new pred 1 tuple arity has) has
+  where
+    at : (tuple : List ℕ) → length tuple ≡ 1 → HasEntry (table_of new) pred tuple
+        → IsMergedValue classes s pred tuple (value_at new pred tuple)
+    at [] one has = absurd (omega arith)
+    at (w ∷ u ∷ us) one has = absurd (omega arith)
+    at (w ∷ []) one has =
+        let in_new : w < new.size = has.individuals.0
+        in let within : w < length classes = omega arith
+        in let read : get_or merged w No ≡ value_at new pred (w ∷ [])
+        = sym (ap (λ r. get_or r w No) row) ∙ get_or-unary_row new pred w in_new
+        in let P : K3 → Type 0 = λ x. IsMergedValue classes s pred (w ∷ []) x
+        in subst P read
+        (merged_one classes s pred w (get_or merged w No)
+        (join_joins (λ u j. value_at s pred (u ∷ []) ≡ j) (λ u. get_or (unary_row s pred) u No) (class_at classes w)
+        (get_or merged w No)
+        (λ u at. join_is (value_at s pred (u ∷ [])) (get_or (unary_row s pred) u No)
+        (get_or-unary_row s pred u (All-contains (λ x. x < s.size) (class_at classes w) u (are.within w [] within) at)))
+        (joins w within)))
+
+-- ---- binary predicates, row by row
+
+pub record HasRows (classes : List (List ℕ)) (s : StructureForm) (pred n : ℕ) (old t : StructureForm) : Type 0 where
+  pub changes : ChangesOnly pred old t
+  pub rows : (w x : ℕ) → w < n → x < length classes → IsMergedValue classes s pred (w ∷ x ∷ []) (value_at t pred (w ∷ x ∷ []))
+
+pub rows_none : (classes : List (List ℕ)) (s : StructureForm) (pred : ℕ) (t : StructureForm) → HasRows classes s pred 0 t t
+rows_none classes s pred t = record {
+  changes = record { size = refl; over = refl; summaries = refl; fresh = refl; others = λ q tuple differ. refl };
+  rows = λ w x lt within. absurd (omega arith);
+}
+
+pub rows_more : (classes : List (List ℕ)) (s : StructureForm) (pred n : ℕ) (old t new : StructureForm) (joined merged : List K3)
+    → AreClasses s classes → old.size ≡ length classes → n < length classes
+    → HasRows classes s pred n old t → new ≡ with_row t pred n merged → arities_of new ≡ arities_of t
+    → row_at new pred n ≡ merged
+    → ((q : ℕ) (tuple : List ℕ) → ¬ ((q ≡ pred) × (row_of tuple ≡ n)) → value_at new q tuple ≡ value_at t q tuple)
+    → ((v : ℕ) → v < s.size → IsJoin (IsAmongMembers (λ u j. value_at s pred (u ∷ v ∷ []) ≡ j) (class_at classes n)) (get_or joined v No))
+    → ((x : ℕ) → x < length classes → IsJoin (IsAmongMembers (λ v j. get_or joined v No ≡ j) (class_at classes x)) (get_or merged x No))
+    → HasRows classes s pred (n + 1) old new
+rows_more classes s pred n old t new joined merged are size lt have e over row others inner outer = record {
+  changes = record {
+    size = ap (λ (x : StructureForm). x.size) e ∙ have.changes.size;
+    over = over ∙ have.changes.over;
+    summaries = ap (λ (x : StructureForm). x.summaries) e ∙ have.changes.summaries;
+    fresh = ap (λ (x : StructureForm). x.fresh) e ∙ have.changes.fresh;
+    others = λ q tuple differ. others q tuple (λ same. differ same.0) ∙ have.changes.others q tuple differ;
+  };
+  rows = λ w x below within. at w x below within (cases_lt w n);
+}
+  where
+    at : (w x : ℕ) → w < n + 1 → x < length classes → (w < n) ⊎ (n ≤ w)
+        → IsMergedValue classes s pred (w ∷ x ∷ []) (value_at new pred (w ∷ x ∷ []))
+    at w x below within (inl before) =
+        let P : K3 → Type 0 = λ k. IsMergedValue classes s pred (w ∷ x ∷ []) k
+        in subst P (sym (others pred (w ∷ x ∷ []) (λ same. let is : w ≡ n = same.1 in omega arith))) (have.rows w x before within)
+    at w x below within (inr after) =
+        let last : n ≡ w = omega arith
+        in let new_size : new.size ≡ length classes = ap (λ (y : StructureForm). y.size) e ∙ have.changes.size ∙ size
+        in let read : get_or merged x No ≡ value_at new pred (n ∷ x ∷ [])
+        = sym (ap (λ r. get_or r x No) row) ∙ get_or-row_at new pred n x (omega arith)
+        in let P : K3 → Type 0 = λ k. IsMergedValue classes s pred (n ∷ x ∷ []) k
+        in let Q : ℕ → Type 0 = λ y. IsMergedValue classes s pred (y ∷ x ∷ []) (value_at new pred (y ∷ x ∷ []))
+        in subst Q last (subst P read
+        (merged_two classes s pred n x (get_or merged x No)
+        (join_joins (λ v. IsAmongMembers (λ u j. value_at s pred (u ∷ v ∷ []) ≡ j) (class_at classes n)) (λ v. get_or joined v No)
+        (class_at classes x) (get_or merged x No)
+        (λ v has. inner v (All-contains (λ y. y < s.size) (class_at classes x) v (are.within x [] within) has))
+        (outer x within))))
+
+pub rows_all : (classes : List (List ℕ)) (s : StructureForm) (pred n : ℕ) (old t : StructureForm) → old.size ≡ length classes
+    → HasArity t pred 2 → HasRows classes s pred n old t → length classes ≤ n → HasMergedValues classes s pred t
+rows_all classes s pred n old t size arity have all tuple has = at tuple (entry-arity t pred 2 tuple arity has) has
+  where
+    at : (tuple : List ℕ) → length tuple ≡ 2 → HasEntry (table_of t) pred tuple
+        → IsMergedValue classes s pred tuple (value_at t pred tuple)
+    at [] two has = absurd (omega arith)
+    at (w ∷ []) two has = absurd (omega arith)
+    at (w ∷ x ∷ []) two has =
+        let same : t.size ≡ length classes = have.changes.size ∙ size
+        in let w_in : w < t.size = has.individuals.0
+        in let x_in : x < t.size = has.individuals.1.0
+        in have.rows w x (omega arith) (omega arith)
+    at (w ∷ x ∷ y ∷ more) two has = absurd (omega arith)
+
+-- ---- all predicates
+
+pub merged_more : (classes : List (List ℕ)) (s : StructureForm) (n : ℕ) (t new : StructureForm) → HasMerged classes s n t
+    → ChangesOnly n t new → HasMergedValues classes s n new → HasMerged classes s (n + 1) new
+merged_more classes s n t new have changes values = record {
+  size = changes.size ∙ have.size;
+  over = changes.over ∙ have.over;
+  fresh = changes.fresh ∙ have.fresh;
+  summaries = λ w lt. ap (λ flags. get_or flags w false) changes.summaries ∙ have.summaries w lt;
+  values = λ pred lt. at pred lt (cases_eq pred n);
+}
+  where
+    at : (pred : ℕ) → pred < n + 1 → (pred ≡ n) ⊎ (pred ≢ n) → HasMergedValues classes s pred new
+    at pred lt (inl same) = let P : ℕ → Type 0 = λ q. HasMergedValues classes s q new in subst P (sym same) values
+    at pred lt (inr differ) =
+        λ tuple has.
+        let P : K3 → Type 0 = λ k. IsMergedValue classes s pred tuple k
+        in subst P (sym (changes.others pred tuple differ))
+        (have.values pred (omega arith) tuple (record {
+          arity = ap (λ x. slice_get x pred) (sym changes.over) ∙ has.arity;
+          individuals = rw (← changes.size) has.individuals;
+        }))
+
+-- ---- summaries
+
+pub record HasSummaries (classes : List (List ℕ)) (s : StructureForm) (n : ℕ) (t : StructureForm) : Type 0 where
+  pub is : IsStructure t
+  pub size : t.size ≡ length classes
+  pub over : arities_of t ≡ arities_of s
+  pub fresh : t.fresh ≡ None
+  pub flags : (w : ℕ) → w < n → summary_at t w ≡ is_merged_summary s (class_at classes w)
+
+pub summaries_none : (classes : List (List ℕ)) (s t : StructureForm) → IsStructure t → t.size ≡ length classes
+    → arities_of t ≡ arities_of s → t.fresh ≡ None → HasSummaries classes s 0 t
+summaries_none classes s t is size over fresh = record {
+  is = is;
+  size = size;
+  over = over;
+  fresh = fresh;
+  flags = λ w lt. absurd (omega arith);
+}
+
+pub summaries_more : (classes : List (List ℕ)) (s : StructureForm) (n : ℕ) (t new : StructureForm) (on : Bool)
+    → HasSummaries classes s n t → n < length classes → new ≡ with_summary t n on → IsStructure new
+    → on ≡ is_merged_summary s (class_at classes n) → HasSummaries classes s (n + 1) new
+summaries_more classes s n t new on have lt e is is_on = record {
+  is = is;
+  size = ap (λ (x : StructureForm). x.size) e ∙ have.size;
+  over = ap arities_of e ∙ have.over;
+  fresh = ap (λ (x : StructureForm). x.fresh) e ∙ have.fresh;
+  flags = λ w below. at w below (cases_eq w n);
+}
+  where
+    one : WritesOneSummary t n on
+    one = writes_one_summary t n on have.is (omega (arith, have.size))
+
+    at : (w : ℕ) → w < n + 1 → (w ≡ n) ⊎ (w ≢ n) → summary_at new w ≡ is_merged_summary s (class_at classes w)
+    at w below (inl same) =
+        let P : ℕ → Type 0 = λ x. summary_at new x ≡ is_merged_summary s (class_at classes x)
+        in subst P (sym same) (ap (λ x. summary_at x n) e ∙ one.written ∙ is_on)
+    at w below (inr differ) = ap (λ x. summary_at x w) e ∙ one.others w differ ∙ have.flags w (omega arith)
+
+pub summaries_all : (classes : List (List ℕ)) (s : StructureForm) (n : ℕ) (t : StructureForm) → HasSummaries classes s n t
+    → length classes ≤ n → HasMerged classes s 0 t
+summaries_all classes s n t have all = record {
+  size = have.size;
+  over = have.over;
+  fresh = have.fresh;
+  summaries = λ w lt. have.flags w (omega arith);
+  values = λ pred lt. absurd (omega arith);
+}

@@ -1,0 +1,105 @@
+-- Rows of joined values, one row or one class after the other.
+use Rattle.std.proofs.Common.{ℕ, ◌≡◌, ◌⊎◌, ◌<◌, ◌≤◌, ◌+◌, inl, inr, List, [], ◌∷◌, get_or, set, length, sym, ap, subst, ◌∙◌, arith}
+use Rattle.std.proofs.lemmas.Bool.{cases_lt}
+use Rattle.std.proofs.lemmas.List.{length-set, get_or-set_same, get_or-set_other}
+use Rattle.std.proofs.lemmas.List.FromFn.{length-map-range_with_len, get_or-map-range_with_len}
+use Rattle.tv_kleene.specs.declared.K3.{K3}
+use Rattle.tv_kleene.specs.declared.K3.TheVariants.{No}
+use Rattle.tv_kleene.specs.Kleene.{join_of}
+use Rattle.tv_row.specs.Bits.{paired}
+use Rattle.tv_row.proofs.WordOps.{length-paired, get_or-paired}
+use Rattle.tv_struct.specs.StructureForm.{StructureForm, value_at}
+use Rattle.tv_struct.specs.StructureRows.{row_at, unary_row}
+use Rattle.tv_blur.specs.Merged.{IsJoin}
+use Rattle.tv_blur.specs.Classes.{IsAmongFirst, IsAmongMembers, class_at}
+use Rattle.tv_blur.proofs.JoinLaws.{join_is, join_first, join_next, join_members}
+
+pub length-row_at : (s : StructureForm) (pred u : ℕ) → length (row_at s pred u) ≡ s.size
+length-row_at s pred u = length-map-range_with_len (λ w. value_at s pred (u ∷ w ∷ [])) 0 s.size
+
+pub get_or-row_at : (s : StructureForm) (pred u v : ℕ) → v < s.size → get_or (row_at s pred u) v No ≡ value_at s pred (u ∷ v ∷ [])
+get_or-row_at s pred u v lt =
+    get_or-map-range_with_len (λ w. value_at s pred (u ∷ w ∷ [])) 0 s.size v v No lt (omega arith)
+
+pub length-unary_row : (s : StructureForm) (pred : ℕ) → length (unary_row s pred) ≡ s.size
+length-unary_row s pred = length-map-range_with_len (λ u. value_at s pred (u ∷ [])) 0 s.size
+
+pub get_or-unary_row : (s : StructureForm) (pred u : ℕ) → u < s.size → get_or (unary_row s pred) u No ≡ value_at s pred (u ∷ [])
+get_or-unary_row s pred u lt =
+    get_or-map-range_with_len (λ w. value_at s pred (w ∷ [])) 0 s.size u u No lt (omega arith)
+
+-- the row has the joins of the rows of the first n members
+pub record AreJoined (s : StructureForm) (pred : ℕ) (members : List ℕ) (n : ℕ) (row : List K3) : Type 0 where
+  pub long : length row ≡ s.size
+  pub joins : (v : ℕ) → v < s.size
+      → IsJoin (IsAmongFirst (λ i j. value_at s pred (get_or members i 0 ∷ v ∷ []) ≡ j) n) (get_or row v No)
+
+pub joined_start : (s : StructureForm) (pred : ℕ) (members : List ℕ) (row : List K3) → row ≡ row_at s pred (get_or members 0 0)
+    → AreJoined s pred members 1 row
+joined_start s pred members row is = record {
+  long = ap length is ∙ length-row_at s pred (get_or members 0 0);
+  joins = λ v lt.
+      join_first (λ i j. value_at s pred (get_or members i 0 ∷ v ∷ []) ≡ j) (get_or row v No)
+      (join_is (value_at s pred (get_or members 0 0 ∷ v ∷ [])) (get_or row v No)
+      (ap (λ r. get_or r v No) is ∙ get_or-row_at s pred (get_or members 0 0) v lt));
+}
+
+pub joined_step : (s : StructureForm) (pred : ℕ) (members : List ℕ) (n : ℕ) (joined row next : List K3)
+    → AreJoined s pred members n joined → row ≡ row_at s pred (get_or members n 0) → next ≡ paired join_of joined row
+    → AreJoined s pred members (n + 1) next
+joined_step s pred members n joined row next are is next_is = record {
+  long = ap length next_is ∙ length-paired join_of joined row same ∙ are.long;
+  joins = λ v lt. at v lt;
+}
+  where
+    same : length joined ≡ length row
+    same = are.long ∙ sym (ap length is ∙ length-row_at s pred (get_or members n 0))
+
+    at : (v : ℕ) → v < s.size
+        → IsJoin (IsAmongFirst (λ i j. value_at s pred (get_or members i 0 ∷ v ∷ []) ≡ j) (n + 1)) (get_or next v No)
+    at v lt =
+        let P : K3 → Type 0
+        = λ k. IsJoin (IsAmongFirst (λ i j. value_at s pred (get_or members i 0 ∷ v ∷ []) ≡ j) (n + 1)) k
+        in let read : get_or next v No ≡ join_of (get_or joined v No) (get_or row v No)
+        = ap (λ r. get_or r v No) next_is
+        ∙ get_or-paired join_of joined row v (omega (arith, are.long)) (omega (arith, are.long, same))
+        in subst P (sym read)
+        (join_next (λ i j. value_at s pred (get_or members i 0 ∷ v ∷ []) ≡ j) n (get_or joined v No) (get_or row v No)
+        (are.joins v lt)
+        (join_is (value_at s pred (get_or members n 0 ∷ v ∷ [])) (get_or row v No)
+        (ap (λ r. get_or r v No) is ∙ get_or-row_at s pred (get_or members n 0) v lt)))
+
+pub joined_end : (s : StructureForm) (pred : ℕ) (members : List ℕ) (n : ℕ) (row : List K3) → AreJoined s pred members n row
+    → n ≡ length members → (v : ℕ) → v < s.size
+    → IsJoin (IsAmongMembers (λ u j. value_at s pred (u ∷ v ∷ []) ≡ j) members) (get_or row v No)
+joined_end s pred members n row are all v lt =
+    join_members (λ u j. value_at s pred (u ∷ v ∷ []) ≡ j) members (get_or row v No)
+    (let P : ℕ → Type 0
+    = λ m. IsJoin (IsAmongFirst (λ i j. value_at s pred (get_or members i 0 ∷ v ∷ []) ≡ j) m) (get_or row v No)
+    in subst P all (are.joins v lt))
+
+-- the first n values are the joins over the first n classes
+pub record AreMerged (row : List K3) (classes : List (List ℕ)) (n : ℕ) (merged : List K3) : Type 0 where
+  pub long : length merged ≡ length classes
+  pub joins : (x : ℕ) → x < n → IsJoin (IsAmongMembers (λ u j. get_or row u No ≡ j) (class_at classes x)) (get_or merged x No)
+
+pub merged_step : (row : List K3) (classes : List (List ℕ)) (n : ℕ) (merged next : List K3) (k : K3)
+    → AreMerged row classes n merged → n < length classes → next ≡ set merged n k
+    → IsJoin (IsAmongMembers (λ u j. get_or row u No ≡ j) (class_at classes n)) k
+    → AreMerged row classes (n + 1) next
+merged_step row classes n merged next k are within is join = record {
+  long = ap length is ∙ length-set merged n k ∙ are.long;
+  joins = λ x lt. at x lt (cases_lt x n);
+}
+  where
+    at : (x : ℕ) → x < n + 1 → (x < n) ⊎ (n ≤ x)
+        → IsJoin (IsAmongMembers (λ u j. get_or row u No ≡ j) (class_at classes x)) (get_or next x No)
+    at x lt (inl before) =
+        let P : K3 → Type 0 = λ j. IsJoin (IsAmongMembers (λ u j. get_or row u No ≡ j) (class_at classes x)) j
+        in subst P (sym (ap (λ r. get_or r x No) is ∙ get_or-set_other merged n x k No (λ e. omega arith))) (are.joins x before)
+    at x lt (inr after) =
+        let last : n ≡ x = omega arith
+        in let P : K3 → Type 0 = λ j. IsJoin (IsAmongMembers (λ u j. get_or row u No ≡ j) (class_at classes n)) j
+        in let Q : ℕ → Type 0
+        = λ y. IsJoin (IsAmongMembers (λ u j. get_or row u No ≡ j) (class_at classes y)) (get_or next y No)
+        in subst Q last (subst P (sym (ap (λ r. get_or r n No) is ∙ get_or-set_same merged n k No (omega (arith, are.long)))) join)

@@ -1,0 +1,82 @@
+-- The classes of individuals that have one name, and the values that are merged.
+use Rattle.std.specs.Prelude.{ℕ, ◌≡◌, ◌≢◌, ◌<◌, ◌≤◌, None, ◌==◌, ◌||◌, Bool, nat_lt, List, [], length, map, All, Contains, slice_index, slice_index_or}
+use Rattle.std.specs.List.{AllZip}
+use Rattle.tv_kleene.specs.declared.K3.{K3}
+use Rattle.tv_frame.specs.LogicalStructure.{LogicalStructure}
+use Rattle.tv_struct.specs.TableForm.{HasEntry}
+use Rattle.tv_struct.specs.StructureForm.{StructureForm, table_of, value_at, summary_at, arities_of, kept_from}
+use Rattle.tv_blur.specs.Merged.{IsJoin}
+use Rattle.tv_blur.specs.Names.{name_of}
+
+-- the place that a list of places gives an individual
+abbrev pub place_in : List ℕ → ℕ → ℕ
+place_in places u = slice_index places u
+
+-- the members of the class at a place
+abbrev pub class_at : List (List ℕ) → ℕ → List ℕ
+class_at classes w = slice_index_or classes w []
+
+-- the names of the first n individuals in strictly ascending order, each once
+pub record AreNames (preds : List ℕ) (s : LogicalStructure) (n : ℕ) (names : List (List K3)) : Type 0 where
+  pub each : (u : ℕ) → u < n → Contains names (name_of preds s u)
+  pub only : All (λ name. (u : ℕ) × (u < n) × (name_of preds s u ≡ name)) names
+
+-- the place of each of the first n individuals is that of its name
+pub record ArePlaces
+    (preds : List ℕ) (s : LogicalStructure) (n : ℕ) (names : List (List K3)) (places : List ℕ) : Type 0 where
+  pub count : length places ≡ n
+  pub within : All (λ w. w < length names) places
+  pub named : (u : ℕ) → u < n → slice_index_or names (place_in places u) [] ≡ name_of preds s u
+
+-- the individuals at a place, in order
+abbrev pub class_of : (places : List ℕ) → ℕ → List ℕ
+class_of places w = kept_from 0 (map (λ place. place == w) places)
+
+-- k is the value of the predicate at some tuple of members of the classes of these places
+abbrev pub IsValueAmong : (classes : List (List ℕ)) → StructureForm → (pred : ℕ) → (tuple : List ℕ) → K3 → Type 0
+IsValueAmong classes s pred tuple k =
+    (below : List ℕ) × AllZip (λ u w. Contains (class_at classes w) u) below tuple × (value_at s pred below ≡ k)
+
+-- k is the join of these values
+abbrev pub IsMergedValue : (classes : List (List ℕ)) → StructureForm → (pred : ℕ) → (tuple : List ℕ) → K3 → Type 0
+IsMergedValue classes s pred tuple k = IsJoin (IsValueAmong classes s pred tuple) k
+
+-- new is old but for the values of one predicate
+pub record ChangesOnly (pred : ℕ) (old new : StructureForm) : Type 0 where
+  pub size : new.size ≡ old.size
+  pub over : arities_of new ≡ arities_of old
+  pub summaries : new.summaries ≡ old.summaries
+  pub fresh : new.fresh ≡ old.fresh
+  pub others : (q : ℕ) (tuple : List ℕ) → q ≢ pred → value_at new q tuple ≡ value_at old q tuple
+
+-- the predicate has merged values in t
+abbrev pub HasMergedValues : (classes : List (List ℕ)) → (s : StructureForm) → (pred : ℕ) → (t : StructureForm) → Type 0
+HasMergedValues classes s pred t =
+    (tuple : List ℕ) → HasEntry (table_of t) pred tuple → IsMergedValue classes s pred tuple (value_at t pred tuple)
+
+-- the classes are of individuals of s, and none is empty
+pub record AreClasses (s : StructureForm) (classes : List (List ℕ)) : Type 0 where
+  pub few : length classes ≤ 256
+  pub some : All (λ members. 0 < length members) classes
+  pub within : All (λ members. All (λ u. u < s.size) members) classes
+
+-- an individual that is made of these is a summary: there are several, or the one is a summary
+abbrev pub is_merged_summary : StructureForm → (members : List ℕ) → Bool
+is_merged_summary s members = nat_lt 1 (length members) || summary_at s (slice_index members 0)
+
+-- t has one individual for each class, a summary where it is made of several or of a summary, no mark, and
+-- merged values of the first n predicates
+pub record HasMerged (classes : List (List ℕ)) (s : StructureForm) (n : ℕ) (t : StructureForm) : Type 0 where
+  pub size : t.size ≡ length classes
+  pub over : arities_of t ≡ arities_of s
+  pub fresh : t.fresh ≡ None
+  pub summaries : (w : ℕ) → w < length classes → summary_at t w ≡ is_merged_summary s (class_at classes w)
+  pub values : (pred : ℕ) → pred < n → HasMergedValues classes s pred t
+
+-- the values of the first n of a family
+abbrev pub IsAmongFirst : (ℕ → K3 → Type 0) → ℕ → K3 → Type 0
+IsAmongFirst values n k = (i : ℕ) × (i < n) × values i k
+
+-- the values at the members
+abbrev pub IsAmongMembers : (ℕ → K3 → Type 0) → List ℕ → K3 → Type 0
+IsAmongMembers values members k = (u : ℕ) × Contains members u × values u k

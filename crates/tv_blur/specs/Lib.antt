@@ -1,0 +1,5 @@
+pub mod Blur
+pub mod Classes
+pub mod Laws
+pub mod Merged
+pub mod Names

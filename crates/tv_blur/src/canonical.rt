@@ -1,0 +1,45 @@
+//! Blur: the structure in which individuals of equal name are one.
+
+ghost use Rattle.std.specs.Prelude.{◌≡◌, All, IfOk, Some, slice_get};
+ghost use Rattle.tv_frame.specs.Embedding.{IsEmbedded};
+ghost use Rattle.tv_struct.specs.StructureForm.{IsOver, IsStructure, arities_of, structure_of};
+ghost use Rattle.tv_blur.specs.Names.{abstraction_preds};
+ghost use Rattle.tv_blur.specs.Blur.{IsBlur, IsBlurred};
+
+use crate::classes::{abstraction_preds, classes, names, places};
+use crate::merge::merged;
+use std::alloc::{AllocError, Global};
+use tv_model::Vocab;
+use tv_struct::Structure;
+
+/// The blur of `s`: individuals of equal name, that is, of equal values of the unary abstraction
+/// predicates, are one. A value is the join of the values at all tuples that become the tuple; an
+/// individual is a summary where it is made of several, or of a summary. Individuals stand in the
+/// lexicographic order of their names, with `No < Half < Yes`, and none is marked.
+///
+/// `s` embeds in its blur, and the blur of a blurred structure is the structure itself. The only error
+/// is want of memory.
+pub fn blur(alloc: Global, vocab: &Vocab, s: &Structure) -> Result<Structure, AllocError>
+    requires { IsOver vocab.now s.now }
+    ensures exact { IfOk result (IsBlur (abstraction_preds vocab.now) s.now) }
+    ensures above { IfOk result (λ t. IsEmbedded (structure_of s.now) (structure_of t)) }
+    ensures blurred { IfOk result (IsBlurred (abstraction_preds vocab.now)) }
+    ensures again { IsBlurred (abstraction_preds vocab.now) s.now → IfOk result (λ t. t ≡ s.now) }
+    ensures kept { IfOk result IsStructure }
+{
+    let _ = s.size();
+    let preds = abstraction_preds(alloc, vocab, s)?;
+    blurred(alloc, &preds, s)
+}
+
+fn blurred(alloc: Global, preds: &[u32], s: &Structure) -> Result<Structure, AllocError>
+    requires { All (λ p. slice_get (arities_of s.now) p ≡ Some 1) preds.now }
+    ensures exact { IfOk result (IsBlur preds.now s.now) }
+    ensures kept { IfOk result IsStructure }
+{
+    let _ = s.size();
+    let names = names(alloc, preds, s)?;
+    let places = places(alloc, preds, s, &names)?;
+    let classes = classes(alloc, &places, names.len() as u32)?;
+    merged(alloc, s, &classes)
+}

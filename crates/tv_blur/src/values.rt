@@ -1,0 +1,60 @@
+//! Joined rows of merged individuals.
+
+ghost use Rattle.std.specs.Prelude.{◌≡◌, ◌<◌, ◌≤◌, ℕ, [], ◌∷◌, length, All, slice_index_or};
+ghost use Rattle.tv_kleene.specs.declared.K3.TheVariants.{No};
+ghost use Rattle.tv_struct.specs.StructureForm.{value_at};
+ghost use Rattle.tv_struct.specs.StructureRows.{HasArity};
+ghost use Rattle.tv_blur.specs.Classes.{IsAmongMembers, class_at};
+ghost use Rattle.tv_blur.specs.Merged.{IsJoin};
+
+use tv_kleene::K3;
+use tv_model::PredId;
+use tv_row::Row;
+use tv_struct::{Numbers, Structure};
+
+/// For each individual, the join of the values of the binary predicate `p` at the pairs of a member and
+/// that individual.
+pub fn joined_rows(s: &Structure, p: PredId, members: &[u32]) -> Row
+    requires arity { HasArity s.now p.0 2 }
+    requires some { 0 < length members.now }
+    requires within { All (λ u. u < s.now.size) members.now }
+    ensures length { length result ≡ s.now.size }
+    ensures values { (v : ℕ) → v < s.now.size
+        → IsJoin (IsAmongMembers (λ u j. value_at s.now p.0 (u ∷ v ∷ []) ≡ j) members.now)
+        (slice_index_or result v No) }
+{
+    let mut joined = s.row(p, members[0]);
+    for i in 1..members.len() {
+        joined = joined.join(&s.row(p, members[i]));
+    }
+    joined
+}
+
+/// For each class, the join of the row's values at its members.
+pub fn merged_row(row: &Row, classes: &[Numbers]) -> Row
+    requires few { length classes.now ≤ 256 }
+    requires some { All (λ members. 0 < length members) classes.now }
+    requires within { All (λ members. All (λ u. u < length row.now) members) classes.now }
+    ensures length { length result ≡ length classes.now }
+    ensures values { (w : ℕ) → w < length classes.now
+        → IsJoin (IsAmongMembers (λ u j. slice_index_or row.now u No ≡ j) (class_at classes.now w))
+        (slice_index_or result w No) }
+{
+    let mut merged = Row::of(classes.len() as u32, K3::No);
+    for (w, members) in classes.iter().enumerate() {
+        merged.set(w as u32, joined_at(row, members.as_slice()));
+    }
+    merged
+}
+
+fn joined_at(row: &Row, members: &[u32]) -> K3
+    requires some { 0 < length members.now }
+    requires within { All (λ u. u < length row.now) members.now }
+    ensures { IsJoin (IsAmongMembers (λ u j. slice_index_or row.now u No ≡ j) members.now) result }
+{
+    let mut k = row.get(members[0]);
+    for i in 1..members.len() {
+        k = k.join(row.get(members[i]));
+    }
+    k
+}

@@ -1,0 +1,109 @@
+-- Maps of the first individuals, one individual after the other.
+use Rattle.std.proofs.Common.{ℕ, ◌≡◌, ◌<◌, ◌≤◌, ◌+◌, ◌⊎◌, inl, inr, List, [], ◌∷◌, ◌++◌, length, take, refl, sym, subst, arith}
+use Rattle.std.proofs.lemmas.Bool.{cases_lt}
+use Rattle.std.proofs.lemmas.List.{get_or_append_left, get_or_push, length_push, get_or-take, length-take-le}
+use Rattle.std.proofs.lemmas.Option.{slice_get_within}
+use Rattle.tv_struct.specs.StructureForm.{StructureForm, arities_of}
+use Rattle.tv_embed.specs.Maps.{image_of}
+use Rattle.tv_embed.specs.Fits.{ValueFits, TupleFits, IsCandidate, PairFits, JoinsUp, FitsSoFar}
+
+-- each predicate's values fit where those of the structure's predicates do
+pub TupleFits-all : (small large : StructureForm) (below above : List ℕ) (n : ℕ) → length (arities_of small) ≤ n
+    → ((pred : ℕ) → pred < n → ValueFits small large pred below above) → TupleFits small large below above
+TupleFits-all small large below above n all each pred arity =
+    each pred (let lt : pred < length (arities_of small) = slice_get_within (arities_of small) pred (length below) arity
+    in omega arith) arity
+
+pub FitsSoFar-none : (small large : StructureForm) → TupleFits small large [] [] → FitsSoFar small large []
+FitsSoFar-none small large nullary = record {
+  nullary = nullary;
+  within = λ u lt. absurd (omega arith);
+  candidates = λ u lt. absurd (omega arith);
+  pairs = λ u x lt before. absurd (omega arith);
+}
+
+image-before : (images : List ℕ) (w u : ℕ) → u < length images → image_of images u ≡ image_of (images ++ w ∷ []) u
+image-before images w u lt = sym (get_or_append_left images (w ∷ []) 0 u lt)
+
+image-last : (images : List ℕ) (w u : ℕ) → u ≡ length images → w ≡ image_of (images ++ w ∷ []) u
+image-last images w u e = sym (get_or_push images w 0 u (sym e))
+
+-- one individual more
+pub FitsSoFar-push : (small large : StructureForm) (images : List ℕ) (w : ℕ) → FitsSoFar small large images → w < large.size
+    → IsCandidate small large (length images) w → JoinsUp small large images w
+    → FitsSoFar small large (images ++ w ∷ [])
+FitsSoFar-push small large images w fits lt candidate joins = record {
+  nullary = fits.nullary;
+  within = λ u below. within u (last_or_before u below);
+  candidates = λ u below. candidates u (last_or_before u below);
+  pairs = λ u x below before. pairs u x before (last_or_before u below);
+}
+  where
+    last_or_before : (u : ℕ) → u < length (images ++ w ∷ []) → (u < length images) ⊎ (u ≡ length images)
+    last_or_before u below =
+        let count : length (images ++ w ∷ []) ≡ length images + 1 = length_push images w
+        in elim (cases_lt u (length images)) [ inl before ↦ inl before | inr after ↦ inr (omega arith) ]
+
+    within : (u : ℕ) → (u < length images) ⊎ (u ≡ length images) → image_of (images ++ w ∷ []) u < large.size
+    within u (inl before) = let P : ℕ → Type 0 = λ y. y < large.size in subst P (image-before images w u before) (fits.within u before)
+    within u (inr last) = let P : ℕ → Type 0 = λ y. y < large.size in subst P (image-last images w u last) lt
+
+    candidates : (u : ℕ) → (u < length images) ⊎ (u ≡ length images) → IsCandidate small large u (image_of (images ++ w ∷ []) u)
+    candidates u (inl before) =
+        let P : ℕ → Type 0 = λ y. IsCandidate small large u y in subst P (image-before images w u before) (fits.candidates u before)
+    candidates u (inr last) =
+        let P : ℕ → Type 0 = λ y. IsCandidate small large u y
+        in let Q : ℕ → Type 0 = λ x. IsCandidate small large x w
+        in subst P (image-last images w u last) (subst Q (sym last) candidate)
+
+    pairs : (u x : ℕ) → x < u → (u < length images) ⊎ (u ≡ length images)
+        → PairFits small large u (image_of (images ++ w ∷ []) u) x (image_of (images ++ w ∷ []) x)
+    pairs u x before (inl old) =
+        let P : ℕ → Type 0 = λ y. PairFits small large u y x (image_of (images ++ w ∷ []) x)
+        in let Q : ℕ → Type 0 = λ y. PairFits small large u (image_of images u) x y
+        in subst P (image-before images w u old) (subst Q (image-before images w x (omega arith)) (fits.pairs u x old before))
+    pairs u x before (inr last) =
+        let P : ℕ → Type 0 = λ y. PairFits small large u y x (image_of (images ++ w ∷ []) x)
+        in let Q : ℕ → Type 0 = λ y. PairFits small large u w x y
+        in let R : ℕ → Type 0 = λ y. PairFits small large y w x (image_of images x)
+        in subst P (image-last images w u last)
+        (subst Q (image-before images w x (omega arith)) (subst R (sym last) (joins x (omega arith))))
+
+-- and back: what fits with one individual more fits without it, and that one fits
+pub FitsSoFar-candidate : (small large : StructureForm) (images : List ℕ) (w : ℕ) → FitsSoFar small large (images ++ w ∷ [])
+    → IsCandidate small large (length images) w
+FitsSoFar-candidate small large images w fits =
+    let P : ℕ → Type 0 = λ y. IsCandidate small large (length images) y
+    in subst P (sym (image-last images w (length images) refl))
+    (fits.candidates (length images) (rw (length_push images w) (omega arith)))
+
+pub FitsSoFar-joins : (small large : StructureForm) (images : List ℕ) (w : ℕ) → FitsSoFar small large (images ++ w ∷ [])
+    → JoinsUp small large images w
+FitsSoFar-joins small large images w fits x lt =
+    let P : ℕ → Type 0 = λ y. PairFits small large (length images) y x (image_of images x)
+    in let Q : ℕ → Type 0 = λ y. PairFits small large (length images) (image_of (images ++ w ∷ []) (length images)) x y
+    in subst P (sym (image-last images w (length images) refl))
+    (subst Q (sym (image-before images w x lt))
+    (fits.pairs (length images) x (rw (length_push images w) (omega arith)) lt))
+
+-- what fits, fits in front
+pub FitsSoFar-take : (small large : StructureForm) (images : List ℕ) (n : ℕ) → n ≤ length images → FitsSoFar small large images
+    → FitsSoFar small large (take n images)
+FitsSoFar-take small large images n le fits = record {
+  nullary = fits.nullary;
+  within = λ u lt. let P : ℕ → Type 0 = λ y. y < large.size in subst P (same u (below u lt)) (fits.within u (omega (arith, below u lt)));
+  candidates = λ u lt.
+      let P : ℕ → Type 0 = λ y. IsCandidate small large u y
+      in subst P (same u (below u lt)) (fits.candidates u (omega (arith, below u lt)));
+  pairs = λ u x lt before.
+      let P : ℕ → Type 0 = λ y. PairFits small large u y x (image_of (take n images) x)
+      in let Q : ℕ → Type 0 = λ y. PairFits small large u (image_of images u) x y
+      in subst P (same u (below u lt))
+      (subst Q (same x (omega (arith, below u lt))) (fits.pairs u x (omega (arith, below u lt)) before));
+}
+  where
+    below : (u : ℕ) → u < length (take n images) → u < n
+    below u lt = let count : length (take n images) ≡ n = length-take-le n images le in omega arith
+
+    same : (u : ℕ) → u < n → image_of images u ≡ image_of (take n images) u
+    same u lt = sym (get_or-take n images u 0 lt)

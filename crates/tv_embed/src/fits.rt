@@ -1,0 +1,94 @@
+//! Whether individuals may go to individuals: what an embedding asks of one and of two of them.
+
+ghost use Rattle.std.specs.Prelude.{◌≡◌, ◌<◌, ◌↔◌, ℕ, List, [], ◌∷◌, length, Some, slice_get, IsTrue};
+ghost use Rattle.tv_struct.specs.StructureForm.{StructureForm, arities_of, summary_at};
+ghost use Rattle.tv_struct.specs.TableForm.{AreIndividuals};
+ghost use Rattle.tv_struct.specs.TupleForm.{tuple_of};
+ghost use Rattle.tv_embed.specs.Fits.{ValueFits, TupleFits, IsCandidate, PairFits, JoinsUp};
+ghost use Rattle.tv_embed.specs.Maps.{image_of};
+
+use tv_model::PredId;
+use tv_struct::{Structure, Tuple};
+
+fn arity_of(t: Tuple) -> u8
+    ensures { result ≡ length (tuple_of t) }
+{
+    match t {
+        Tuple::Zero => 0,
+        Tuple::One(_) => 1,
+        Tuple::Two(_, _) => 2,
+    }
+}
+
+fn value_fits(small: &Structure, large: &Structure, p: PredId, below: Tuple, above: Tuple) -> bool
+    requires vocabulary { arities_of small.now ≡ arities_of large.now }
+    requires pred { p.0 < length (arities_of small.now) }
+    requires same { length (tuple_of below) ≡ length (tuple_of above) }
+    requires in_small { AreIndividuals small.now.size (tuple_of below) }
+    requires in_large { AreIndividuals large.now.size (tuple_of above) }
+    ensures { IsTrue result ↔ ValueFits small.now large.now p.0 (tuple_of below) (tuple_of above) }
+{
+    if small.arity(p) != arity_of(below) {
+        return true;
+    }
+    small.get(p, below).under(large.get(p, above))
+}
+
+/// Whether each predicate of the tuples' arity has a value at `below` that lies under that at `above`.
+pub fn tuple_fits(small: &Structure, large: &Structure, below: Tuple, above: Tuple) -> bool
+    requires vocabulary { arities_of small.now ≡ arities_of large.now }
+    requires same { length (tuple_of below) ≡ length (tuple_of above) }
+    requires in_small { AreIndividuals small.now.size (tuple_of below) }
+    requires in_large { AreIndividuals large.now.size (tuple_of above) }
+    ensures { IsTrue result ↔ TupleFits small.now large.now (tuple_of below) (tuple_of above) }
+{
+    for p in 0..small.pred_count() {
+        if !value_fits(small, large, PredId(p), below, above) {
+            return false;
+        }
+    }
+    true
+}
+
+/// Whether the individual `u` may go to `w`, as far as `u` alone is concerned.
+pub fn is_candidate(small: &Structure, large: &Structure, u: u32, w: u32) -> bool
+    requires vocabulary { arities_of small.now ≡ arities_of large.now }
+    requires in_small { u < small.now.size }
+    requires in_large { w < large.now.size }
+    ensures { IsTrue result ↔ IsCandidate small.now large.now u w }
+{
+    (!small.summary(u) || large.summary(w))
+        && tuple_fits(small, large, Tuple::One(u), Tuple::One(w))
+        && tuple_fits(small, large, Tuple::Two(u, u), Tuple::Two(w, w))
+}
+
+fn pair_fits(small: &Structure, large: &Structure, u: u32, w: u32, x: u32, y: u32) -> bool
+    requires vocabulary { arities_of small.now ≡ arities_of large.now }
+    requires u { u < small.now.size }
+    requires w { w < large.now.size }
+    requires x { x < small.now.size }
+    requires y { y < large.now.size }
+    ensures { IsTrue result ↔ PairFits small.now large.now u w x y }
+{
+    (w != y || large.summary(w))
+        && tuple_fits(small, large, Tuple::Two(u, x), Tuple::Two(w, y))
+        && tuple_fits(small, large, Tuple::Two(x, u), Tuple::Two(y, w))
+}
+
+/// Whether the next individual may go to `w` while those before it go to their images.
+pub fn joins_up(small: &Structure, large: &Structure, images: &[u32], w: u32) -> bool
+    requires vocabulary { arities_of small.now ≡ arities_of large.now }
+    requires next { length images.now < small.now.size }
+    requires within { (u : ℕ) → u < length images.now → image_of images.now u < large.now.size }
+    requires in_large { w < large.now.size }
+    ensures { IsTrue result ↔ JoinsUp small.now large.now images.now w }
+{
+    let _ = small.size();
+    let u = images.len() as u32;
+    for (x, y) in images.iter().enumerate() {
+        if !pair_fits(small, large, u, w, x as u32, *y) {
+            return false;
+        }
+    }
+    true
+}

@@ -1,0 +1,12 @@
+//! Embeddings of structures in structures: whether a given map is one, and whether there is any.
+//!
+//! A structure that embeds in another stands for no heap that the other doesn't stand for (Sagiv, Reps
+//! and Wilhelm 2002, section 4.3).
+#![tactic(auto)]
+
+mod fits;
+mod laws;
+mod maps;
+
+pub use laws::structures_embed_in_themselves;
+pub use maps::check_map;
