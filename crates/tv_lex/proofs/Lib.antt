@@ -12,3 +12,4 @@ mod OneReading
 mod Names
 mod Gathering
 mod IncludeForm
+mod OpenComments

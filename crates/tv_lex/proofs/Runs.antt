@@ -32,7 +32,7 @@ list_all-take-prefix_len p (x ∷ xs) = elim (cases_Bool (p x)) [
 ]
 
 -- one place further on
-option_map-suc : (o : Option ℕ) (n : ℕ) → option_map (λ m. m + 1) o ≡ Some n → (m : ℕ) × (o ≡ Some m) × (m + 1 ≡ n)
+pub option_map-suc : (o : Option ℕ) (n : ℕ) → option_map (λ m. m + 1) o ≡ Some n → (m : ℕ) × (o ≡ Some m) × (m + 1 ≡ n)
 option_map-suc None n h = cc
 option_map-suc (Some m) n h = (m, refl, cc)
 

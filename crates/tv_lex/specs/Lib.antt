@@ -4,5 +4,6 @@ pub mod Pieces
 pub mod Places
 pub mod Front
 pub mod Include
+pub mod Comments
 pub mod Gather
 pub mod Spaced

@@ -6,6 +6,7 @@ ghost use Rattle.tv_lex.specs.declared.gatherer.GatherError.TheVariants.{Memory}
 
 use crate::include::{include_name, includes, inner_name, is_open_after, line_len};
 use std::alloc::{AllocError, Global};
+use thiserror::Error;
 use tv_outside::{Files, ReadError, read_all};
 
 /// The greatest number of bytes of a file and of a gathered text.
@@ -15,19 +16,25 @@ pub const MAX_TEXT: usize = 4_194_304;
 pub const MAX_DEPTH: u32 = 16;
 
 /// Why a text wasn't gathered.
-#[derive(Clone, Copy, Debug, PartialEq, Eq)]
+#[derive(Clone, Copy, Debug, PartialEq, Eq, Error)]
 pub enum GatherError {
     /// A call of the files failed.
+    #[error("a call of the files failed")]
     Failed,
     /// A file, or the gathered text, has more than 4,194,304 bytes.
+    #[error("the text is too long")]
     TooLong,
     /// A file ends inside a block comment.
+    #[error("a block comment doesn't end in its file")]
     Unended,
     /// A line that begins with `#` is no `#include "NAME"`.
+    #[error("a line that begins with # is no include line")]
     IncludeForm,
     /// A file is included from a file that is 16 includes deep.
+    #[error("files include one another too deep")]
     IncludeDepth,
     /// Want of memory.
+    #[error("out of memory")]
     Memory,
 }
 

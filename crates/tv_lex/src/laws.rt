@@ -1,6 +1,7 @@
 //! Laws about texts and their tokens. Each function does nothing: its clause is what it shows.
 ghost use Rattle.std.specs.Prelude.{◌≡◌, ◌↔◌, ℕ, List, Result, length, Ok, All};
 ghost use Rattle.tv_lex.specs.Include.{include_name, IsIncludeLine};
+ghost use Rattle.tv_lex.specs.Comments.{CommentsAgree};
 ghost use Rattle.tv_lex.specs.Token.{spec_tokens};
 ghost use Rattle.tv_lex.specs.Spaced.{IsToken, Spaced, spaced_text, spaced_tokens};
 ghost use Rattle.tv_lex.specs.Pieces.{Reads, AreInOrder};
@@ -35,4 +36,10 @@ pub fn spaced_texts()
 /// The name that a line includes is read exactly from lines of the form of an include line.
 pub fn include_lines()
     ensures { (line name : List ℕ) → (include_name line ≡ Some name) ↔ IsIncludeLine line name }
+{}
+
+/// Where a line of a file begins inside a block comment, as includes are looked for, is told by the pieces of its text,
+/// on texts that have tokens.
+pub fn comments_over_lines()
+    ensures { CommentsAgree }
 {}

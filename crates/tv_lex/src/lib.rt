@@ -10,7 +10,10 @@ mod reader;
 mod token;
 
 pub use gatherer::{GatherError, Gathered, MAX_DEPTH, MAX_TEXT, gather};
-pub use laws::{include_lines, one_reading, spaced_texts, tokens_in_order, tokens_of_their_kinds};
+pub use laws::{
+    comments_over_lines, include_lines, one_reading, spaced_texts, tokens_in_order,
+    tokens_of_their_kinds,
+};
 pub use places::{place, stop_place};
 pub use reader::lex;
 pub use token::{LexError, Place, Token, TokenKind, Tokens, text};

@@ -5,12 +5,11 @@ ghost use Rattle.tv_lex.specs.Pieces.{Reads, Cause, AreInOrder, placed_one};
 
 use crate::front::{Front, behind, first_piece};
 use crate::token::{LexError, Token, Tokens};
-use std::alloc::Global;
+use std::alloc::{AllocError, Global};
 
-fn push_token(list: &mut Vec<Token>, found: Front, at: usize) -> Result<(), LexError>
+fn push_token(list: &mut Vec<Token>, found: Front, at: usize) -> Result<(), AllocError>
     requires { at + found.len < 2 ^ 32 }
-    ensures ok { OnOk result (list.new.items ≡ list.old.items ++ placed_one found.kind at (at + found.len)) }
-    ensures err { IfErr result (λ e. e ≡ LexError.Memory) }
+    ensures { OnOk result (list.new.items ≡ list.old.items ++ placed_one found.kind at (at + found.len)) }
 {
     if let Some(kind) = found.kind {
         list.push(Token {

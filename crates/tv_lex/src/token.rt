@@ -3,7 +3,8 @@ ghost use Rattle.std.specs.Prelude.{◌≡◌};
 ghost use Rattle.tv_lex.specs.Token.{text_of};
 ghost use Rattle.tv_lex.specs.declared.token.LexError.TheVariants.{Memory};
 
-use std::alloc::AllocFailed;
+use std::alloc::AllocError;
+use thiserror::Error;
 
 /// What a token is.
 #[derive(Clone, Copy, Debug, PartialEq, Eq)]
@@ -39,20 +40,23 @@ pub struct Tokens {
 }
 
 /// Why a text has no tokens.
-#[derive(Clone, Copy, Debug, PartialEq, Eq)]
+#[derive(Clone, Copy, Debug, PartialEq, Eq, Error)]
 pub enum LexError {
     /// A byte that begins no token, blank or comment, or that may not stand in a string.
+    #[error("a byte that begins no token")]
     BadByte,
     /// A string that doesn't end on its line, or a block comment that doesn't end.
+    #[error("a string or a block comment doesn't end")]
     Unended,
     /// There was no memory for the tokens.
+    #[error("out of memory")]
     Memory,
 }
 
-impl<T: Drop> From<AllocFailed<T>> for LexError {
+impl From<AllocError> for LexError {
     ghost from_gives = { λ _ e. e ≡ Memory };
 
-    fn from(_failed: AllocFailed<T>) -> LexError {
+    fn from(_failed: AllocError) -> LexError {
         LexError::Memory
     }
 }

@@ -3,8 +3,11 @@ ghost use Rattle.std.specs.Prelude.{◌≡◌, ℕ, ◌<◌, ◌≤◌, List, le
 ghost use Rattle.tv_outside.specs.Count.{count_max, counted, Rose};
 ghost use Rattle.tv_outside.specs.Told.{Held, HoldsName, BeginsAt, GaveFront, AtEnd};
 
+use thiserror::Error;
+
 /// A call of the outside failed. The object that failed counts it.
-#[derive(Clone, Copy, Debug, PartialEq, Eq)]
+#[derive(Clone, Copy, Debug, PartialEq, Eq, Error)]
+#[error("a call of the outside failed")]
 pub struct Failed;
 
 /// Files by name, of which one at a time is read from its first byte on.

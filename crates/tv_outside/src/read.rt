@@ -6,16 +6,20 @@ ghost use Rattle.tv_outside.specs.Outcome.{ReadCause, ReadsAtMost, UnlessFailed}
 ghost use Rattle.tv_outside.specs.declared.read.ReadError.TheVariants.{Failed, Memory};
 
 use crate::files::{self, Files};
-use std::alloc::{AllocError, AllocFailed, Global};
+use std::alloc::{AllocError, Global};
+use thiserror::Error;
 
 /// Why a file wasn't read.
-#[derive(Clone, Copy, Debug, PartialEq, Eq)]
+#[derive(Clone, Copy, Debug, PartialEq, Eq, Error)]
 pub enum ReadError {
     /// A call of the files failed.
+    #[error("a call of the files failed")]
     Failed,
     /// The file has more bytes than the limit allows.
+    #[error("the file is too long")]
     TooLong,
     /// Want of memory.
+    #[error("out of memory")]
     Memory,
 }
 

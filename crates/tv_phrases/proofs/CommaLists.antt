@@ -1,10 +1,10 @@
 -- Comma lists, item by item.
-use Rattle.std.proofs.Common.{◌≡◌, ℕ, List, [], ◌∷◌, ◌++◌, Bool, true, false, if◌then◌else◌, Option, Some, None, refl, sym, ◌∙◌, ap, append_assoc, map}
+use Rattle.std.proofs.Common.{◌≡◌, List, [], ◌∷◌, ◌++◌, Bool, true, false, if◌then◌else◌, Option, Some, None, refl, sym, ◌∙◌, ap, append_assoc, map}
 use Rattle.std.specs.Prelude.{codes}
 use Rattle.std.specs.Str.{bytes_eq}
 use Rattle.tv_lex.specs.Token.{SpecToken}
 use Rattle.tv_phrases.proofs.Values.{same_value, same_rest}
-use Rattle.tv_phrases.specs.Reading.{Reading, ◌>>=◌, choose, taken}
+use Rattle.tv_phrases.specs.Reading.{Reading, ◌>>=◌, taken}
 use Rattle.tv_phrases.specs.Tokens.{after, first}
 use Rattle.tv_phrases.specs.Lists.{with_front, items_from}
 

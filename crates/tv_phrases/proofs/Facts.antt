@@ -1,13 +1,14 @@
 -- What one reading says of another at the same place, and of the tokens that are left.
-use Rattle.std.proofs.Common.{◌≡◌, ℕ, ◌+◌, ◌<◌, ◌≤◌, List, [], ◌∷◌, ◌++◌, Bool, true, false, Option, Some, None, length, refl, sym, ◌∙◌, ap, subst, arith}
-use Rattle.std.specs.Prelude.{codes, if◌then◌else◌, ◌&&◌, IfSome, is_some}
+use Rattle.std.proofs.Common.{◌≡◌, ℕ, ◌<◌, ◌≤◌, List, [], ◌∷◌, Bool, true, false, Option, Some, None, length, refl, sym, ◌∙◌, ap, subst, arith}
+use Rattle.std.specs.Prelude.{codes, if◌then◌else◌, ◌&&◌, IfSome}
 use Rattle.std.specs.Str.{bytes_eq}
 use Rattle.std.proofs.lemmas.Slice.Eq.{bytes_eq-Decides}
 use Rattle.tv_lex.specs.Token.{SpecToken}
-use Rattle.tv_lex.specs.declared.token.TokenKind.{TokenKind}
-use Rattle.tv_phrases.specs.Reading.{Reading, ◌>>=◌, choose, taken}
+use Rattle.tv_phrases.specs.Reading.{◌>>=◌, choose, taken}
 use Rattle.tv_phrases.specs.Tokens.{after, first, is_word, is_identifier, identifier_item}
-use Rattle.tv_phrases.specs.Lists.{with_front, items_from, comma_list, optional_list, between, params, variables, optional_brackets, name, two_items, pair}
+use Rattle.tv_phrases.specs.Lists.{comma_list, between, params, variables, optional_brackets, name, pair}
+use Rattle.tv_phrases.proofs.Values.{some_same}
+use Rattle.tv_phrases.proofs.Takes.{after_takes, first_takes, params_take, variables_take, pair_takes, name_takes}
 
 -- ---- tools over readings
 
@@ -35,9 +36,6 @@ on_more (Some x) P Q p h = h x p
 pub on_all : {A : Type 0} (o : Option A) (Q : A → Type 0) → ((x : A) → Q x) → IfSome o Q
 on_all None Q h = tt
 on_all (Some x) Q h = h x
-
-some_same : {A : Type 0} (x y : A) → Some x ≡ Some y → x ≡ y
-some_same x y e = cc
 
 -- what holds of the value of a reading
 pub at_some : {A : Type 0} (o : Option A) (P : A → Type 0) (x : A) → IfSome o P → o ≡ Some x → P x
@@ -103,55 +101,20 @@ brackets_lack k ts us ws differ is lacks =
 
 -- ---- the tokens that are left
 
-shorter_after : (m : List ℕ) (ts : List SpecToken) → IfSome (after m ts) (λ vs. length vs < length ts)
-unfolding after
-shorter_after m [] = tt
-shorter_after m (t ∷ ts) = on_if (bytes_eq t.bytes m) _ _ _ (λ e. omega arith) (λ e. tt)
-
 pub after_shorter : (m : List ℕ) (ts us : List SpecToken) → after m ts ≡ Some us → length us < length ts
-unfolding after
-after_shorter m ts us is = at_some (after m ts) (λ vs. length vs < length ts) us (shorter_after m ts) is
-
-shorter_first : {X : Type 0} (item : SpecToken → Option X) (ts : List SpecToken) → IfSome (first item ts) (λ x. length x.1 < length ts)
-unfolding first
-shorter_first item [] = tt
-shorter_first item (t ∷ ts) = on_bind (item t) _ _ (λ x e. omega arith)
-
-shorter_items : {X : Type 0} (item : SpecToken → Option X) (flag : Bool) (ts : List SpecToken) → IfSome (items_from item flag ts) (λ x. length x.1 ≤ length ts)
-unfolding items_from with_front
-shorter_items item true [] = tt
-shorter_items item true (t ∷ ts) = on_bind (item t) _ _ (λ x e. on_read (items_from item false ts) _ _ _ (shorter_items item false ts) (λ y l. omega arith))
-shorter_items item false [] = omega arith
-shorter_items item false (t ∷ ts) = on_choose (after (codes ",") (t ∷ ts)) _ _ _ (λ e. omega arith) (λ us e. on_more (items_from item true ts) _ _ (shorter_items item true ts) (λ y l. omega arith))
-
-shorter_optional : {X : Type 0} (item : SpecToken → Option X) (ts : List SpecToken) → IfSome (optional_list item ts) (λ x. length x.1 ≤ length ts)
-unfolding optional_list
-shorter_optional {X} item ts = on_if (is_some (first item ts)) (comma_list item ts) (taken [] ts) (λ (x : List X × List SpecToken). length x.1 ≤ length ts) (λ e. shorter_items item true ts) (λ e. omega arith)
-
-shorter_between : {X : Type 0} (o c : List ℕ) (read : List SpecToken → Reading X) (ts : List SpecToken) → ((us : List SpecToken) → IfSome (read us) (λ x. length x.1 ≤ length us)) → IfSome (between o c read ts) (λ x. length x.1 ≤ length ts)
-unfolding between
-shorter_between o c read ts h =
-    on_read (after o ts) _ _ _ (shorter_after o ts) (λ us l. on_read (read us) _ _ _ (h us) (λ x k. on_read (after c x.1) _ _ _ (shorter_after c x.1) (λ rest j. omega arith)))
+after_shorter m ts us is = after_takes m ts us is
 
 pub params_shorter : (ts us : List SpecToken) (xs : List (List ℕ)) → params ts ≡ taken xs us → length us ≤ length ts
-params_shorter ts us xs is = at_some (params ts) (λ x. length x.1 ≤ length ts) (xs, us) (shorter_between (codes "(") (codes ")") (optional_list identifier_item) ts (shorter_optional identifier_item)) is
+params_shorter ts us xs is = let l = params_take ts us xs is in omega arith
 
 pub variables_shorter : (ts us : List SpecToken) (xs : List (List ℕ)) → variables ts ≡ taken xs us → length us ≤ length ts
-variables_shorter ts us xs is = at_some (variables ts) (λ x. length x.1 ≤ length ts) (xs, us) (shorter_between (codes "(") (codes ")") (comma_list identifier_item) ts (shorter_items identifier_item true)) is
-
-shorter_two : (ts : List SpecToken) → IfSome (two_items ts) (λ x. length x.1 ≤ length ts)
-unfolding two_items
-shorter_two ts =
-    on_read (first identifier_item ts) _ _ _ (shorter_first identifier_item ts) (λ v l. on_read (after (codes ",") v.1) _ _ _ (shorter_after (codes ",") v.1) (λ us k. on_read (first identifier_item us) _ _ _ (shorter_first identifier_item us) (λ w j. omega arith)))
+variables_shorter ts us xs is = let l = variables_take ts us xs is in omega arith
 
 pub pair_shorter : (ts us : List SpecToken) (x : List ℕ × List ℕ) → pair ts ≡ taken x us → length us ≤ length ts
-pair_shorter ts us x is = at_some (pair ts) (λ y. length y.1 ≤ length ts) (x, us) (shorter_between (codes "(") (codes ")") two_items ts shorter_two) is
+pair_shorter ts us x is = let l = pair_takes ts us x is in omega arith
 
 pub identifier_shorter : (ts us : List SpecToken) (w : List ℕ) → first identifier_item ts ≡ taken w us → length us ≤ length ts
-identifier_shorter ts us w is = at_some (first identifier_item ts) (λ x. length x.1 ≤ length ts) (w, us) (on_more (first identifier_item ts) _ _ (shorter_first identifier_item ts) (λ x l. omega arith)) is
+identifier_shorter ts us w is = let l = first_takes identifier_item ts us w is in omega arith
 
 pub name_shorter : (ts us : List SpecToken) (n : List ℕ × List (List ℕ)) → name ts ≡ taken n us → length us ≤ length ts
-unfolding name optional_brackets
-name_shorter ts us n is =
-    at_some (name ts) (λ x. length x.1 ≤ length ts) (n, us)
-    (on_read (first identifier_item ts) _ _ _ (shorter_first identifier_item ts) (λ w l. on_read (optional_brackets w.1) _ (λ b. length b.1 ≤ length w.1) _ (on_choose (after (codes "[") w.1) _ _ _ (λ e. omega arith) (λ vs e. shorter_between (codes "[") (codes "]") (comma_list identifier_item) w.1 (shorter_items identifier_item true))) (λ b k. omega arith))) is
+name_shorter ts us n is = let l = name_takes ts us n is in omega arith

@@ -1,5 +1,5 @@
 -- Phrases of one token.
-use Rattle.std.specs.Prelude.{◌≡◌, ℕ, List, [], ◌∷◌, Bool, true, false, not, ◌&&◌, ◌||◌, ◌==◌, Option, Some, None, if◌then◌else◌, ◌-◌, length, slice_index, slice_range, codes}
+use Rattle.std.specs.Prelude.{ℕ, List, [], ◌∷◌, Bool, true, false, not, ◌&&◌, ◌||◌, ◌==◌, Option, Some, None, if◌then◌else◌, ◌-◌, length, slice_index, slice_range, codes}
 use Rattle.std.specs.Str.{bytes_eq}
 use Rattle.tv_lex.specs.Bytes.{is_letter}
 use Rattle.tv_lex.specs.Token.{SpecToken}

@@ -4,15 +4,18 @@ ghost use Rattle.std.specs.Prelude.{◌≡◌};
 ghost use Rattle.tv_phrases.specs.declared.error.PhraseError.TheVariants.{Memory};
 
 use std::alloc::{AllocError, AllocFailed};
+use thiserror::Error;
 use tv_lex::Token;
 
 /// Why a phrase wasn't read off the front of the tokens.
-#[derive(Clone, Copy, Debug)]
+#[derive(Clone, Copy, Debug, Error)]
 pub enum PhraseError<'a> {
     /// They don't begin with the phrase. These are the tokens from the first one on that no
     /// continuation of the phrase allows.
+    #[error("a token that can't stand here")]
     Unexpected(&'a [Token]),
     /// There was no memory for its value.
+    #[error("out of memory")]
     Memory,
 }
 

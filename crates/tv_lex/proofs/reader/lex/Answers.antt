@@ -27,4 +27,4 @@ loop-at-smaller c =
 pub loop-at-preserved : goal.loop-at-preserved
 loop-at-preserved c =
     let more = cut_more c.args.bytes.now c.loop-at.at c.loop-at.list.items c.in_ok-found.found c.loop-at.invariant c.loop-at-test.true (ap front (sym c.behind.ensures) ∙ sym c.in_ok-found.ensures) in
-    subst (CutBefore c.args.bytes.now (c.loop-at.at + c.in_ok-found.found.len)) (sym c.in_ok-push_token.ensures.ok) more
+    subst (CutBefore c.args.bytes.now (c.loop-at.at + c.in_ok-found.found.len)) (sym c.in_ok-push_token.ensures) more

@@ -1,4 +1,4 @@
-use Rattle.std.proofs.Common.{◌≡◌, ℕ, length, map}
+use Rattle.std.proofs.Common.{◌≡◌, length, map}
 use Rattle.std.specs.Prelude.{false}
 use Rattle.tv_lex.specs.Token.{text_of, spec_tokens}
 use Rattle.tv_phrases.specs.Tokens.{item_of}
