@@ -11,7 +11,8 @@ use Rattle.tv_expand.specs.declared.error.ExpandError.{ExpandError}
 use Rattle.tv_expand.specs.Outcome.{◌>>=◌, each}
 use Rattle.tv_flat.specs.Replaced.{Binding, bound, replaced}
 use Rattle.tv_flat.proofs.SpellLaws.{case_of, IsGoodBinding, bound_good, replaced_all}
-use Rattle.tv_expand.specs.Sets.{Sets, is_among, sight, with_members, without_members, known, members_of}
+use Rattle.tv_tree.specs.Names.{is_among}
+use Rattle.tv_expand.specs.Sets.{Sets, sight, with_members, without_members, known, members_of}
 use Rattle.tv_expand.specs.Expansion.{unrolled, unrolled_nest}
 
 -- a step that went on

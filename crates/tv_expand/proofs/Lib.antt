@@ -6,5 +6,7 @@ pub mod WiringLaws
 pub mod KeepLaws
 pub mod StepKeeps
 pub mod FlatLaws
+pub mod SetTests
 pub mod IdleLaws
+pub mod ApartLaws
 pub mod CallLaws

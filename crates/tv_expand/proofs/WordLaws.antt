@@ -8,7 +8,8 @@ use Rattle.std.proofs.lemmas.List.{drop_more, drop_all, map_push}
 use Rattle.tv_flat.specs.declared.binding.Scope.{Scope}
 use Rattle.tv_flat.specs.Replaced.{replaced}
 use Rattle.tv_flat.specs.Views.{binding_of}
-use Rattle.tv_expand.specs.Sets.{is_among, sight, with_members, once}
+use Rattle.tv_tree.specs.Names.{is_among}
+use Rattle.tv_expand.specs.Sets.{sight, with_members, once}
 use Rattle.tv_expand.specs.Views.{names_of}
 
 -- whether a word is among words that are borrowed

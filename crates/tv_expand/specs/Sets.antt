@@ -1,16 +1,13 @@
 -- Sets of identifiers, as lists in order of first sight.
 use Rattle.std.specs.Prelude.{ℕ, Bool, not, List, [], ◌∷◌, ◌++◌, Option, Some, None, Result, Ok, Err, if◌then◌else◌, fold, filter, map}
-use Rattle.std.specs.List.{list_any}
 use Rattle.std.specs.Str.{bytes_eq}
 use Rattle.std.specs.Map.{lookup}
 use Rattle.tv_tree.specs.Forms.{SetForm, SNamed, SMembers, SParen, SPlus, SMinus}
+use Rattle.tv_tree.specs.Names.{is_among}
 use Rattle.tv_flat.specs.Replaced.{Binding, replaced}
 use Rattle.tv_expand.specs.declared.error.ExpandError.{ExpandError}
 use Rattle.tv_expand.specs.declared.error.ExpandError.TheVariants.{NameUnknown, NameTwice}
 use Rattle.tv_expand.specs.Outcome.{◌>>=◌}
-
-abbrev pub is_among : List (List ℕ) → List ℕ → Bool
-is_among xs x = list_any (bytes_eq x) xs
 
 -- a word stands once in the list, where it was first seen
 abbrev pub sight : List (List ℕ) → List ℕ → List (List ℕ)

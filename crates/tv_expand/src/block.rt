@@ -9,8 +9,9 @@ ghost use Rattle.tv_flat.specs.Views.{binding_of};
 ghost use Rattle.tv_expand.specs.Views.{names_of, sets_of};
 ghost use Rattle.tv_expand.specs.States.{block_of};
 
+use crate::apart::are_apart_updates;
 use crate::error::ExpandError;
-use crate::idle::are_idle_updates;
+use crate::idle::is_idle_update;
 use crate::room::Room;
 use crate::sets::{Sets, members};
 use std::alloc::Global;
@@ -58,7 +59,8 @@ fn put_for<'a>(
     put_updates(alloc, sets, state, &inner, body)
 }
 
-// The body of a foreach, for each member, where it gives anything.
+// The body of a foreach, for each member. Where it gave nothing for one of them, and its own sets don't mention the
+// variable, it gives nothing for the others: a few foreach over large sets would else take for ever.
 #[cycle(update)]
 fn put_each<'a>(
     alloc: Global,
@@ -71,11 +73,13 @@ fn put_each<'a>(
 ) -> Result<(), ExpandError>
     ensures { Gives (λ _. block_of state.new) result (each (λ x. all_updated (sets_of sets.now.entries) (bound (binding_of binding.now) var.now x) (updates_of body.now)) (names_of words.now) (block_of state.old)) }
 {
-    if are_idle_updates(sets, body) {
-        return Ok(());
-    }
+    let alike = are_apart_updates(&var.0, body);
     for word in words {
+        let before = state.updates.len();
         put_for(alloc, sets, state, binding, var, *word, body)?;
+        if alike && state.updates.len() == before {
+            return Ok(());
+        }
     }
     Ok(())
 }
@@ -91,6 +95,9 @@ fn put_update<'a>(
 ) -> Result<(), ExpandError>
     ensures { Gives (λ _. block_of state.new) result (unrolled_nest (sets_for (sets_of sets.now.entries)) updated (binding_of binding.now) (update_of update.now) (block_of state.old)) }
 {
+    if is_idle_update(sets, update) {
+        return Ok(());
+    }
     match update {
         UpdateTree::Single { name, params, body } => {
             put_single(alloc, state, binding, name, params.as_slice(), body)

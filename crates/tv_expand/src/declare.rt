@@ -1,6 +1,6 @@
 //! Declarations, one after the other.
 
-ghost use Rattle.std.specs.Prelude.{◌≡◌, []};
+ghost use Rattle.std.specs.Prelude.{◌≡◌, ◌+◌, []};
 ghost use Rattle.tv_tree.specs.Forms.{DSet, DPred, DRule};
 ghost use Rattle.tv_tree.specs.Copies.{set_of, form_of, pred_of, decl_of, decls_of};
 ghost use Rattle.tv_expand.specs.Outcome.{Gives, each};
@@ -9,9 +9,11 @@ ghost use Rattle.tv_flat.specs.Replaced.{bound};
 ghost use Rattle.tv_flat.specs.Views.{binding_of};
 ghost use Rattle.tv_expand.specs.Views.{names_of};
 ghost use Rattle.tv_expand.specs.States.{declared_of};
+ghost use Rattle.tv_expand.specs.Idle.{declared_count};
 
+use crate::apart::are_apart_decls;
 use crate::error::ExpandError;
-use crate::idle::are_idle_decls;
+use crate::idle::is_idle_decl;
 use crate::room::Room;
 use crate::sets::{Sets, add_set, is_declared, members};
 use indexmap::IndexMap;
@@ -26,6 +28,24 @@ pub struct Declared<'a> {
     pub preds: Vec<PredDecl>,
     pub rules: Vec<RuleDecl>,
     pub room: Room,
+}
+
+// How much is declared.
+#[derive(Clone, Copy, Debug, PartialEq, Eq)]
+struct Sizes {
+    sets: usize,
+    preds: usize,
+    rules: usize,
+}
+
+fn count_declared(state: &Declared<'_>) -> Sizes
+    ensures { result.sets + result.preds + result.rules ≡ declared_count (declared_of state.now) }
+{
+    Sizes {
+        sets: state.sets.len(),
+        preds: state.preds.len(),
+        rules: state.rules.len(),
+    }
 }
 
 // A state in which nothing is declared.
@@ -106,8 +126,8 @@ fn declare_for<'a>(
     declare_all(alloc, state, &inner, body)
 }
 
-// The body of a foreach, for each member. A body that gives nothing isn't gone through again for each
-// of them: a few foreach over large sets would else take for ever.
+// The body of a foreach, for each member. Where it gave nothing for one of them, and its own sets don't mention the
+// variable, it gives nothing for the others: a few foreach over large sets would else take for ever.
 #[cycle(declare)]
 fn declare_each<'a>(
     alloc: Global,
@@ -119,11 +139,13 @@ fn declare_each<'a>(
 ) -> Result<(), ExpandError>
     ensures { Gives (λ _. declared_of state.new) result (each (λ x. all_declared (bound (binding_of binding.now) var.now x) (decls_of body.now)) (names_of words.now) (declared_of state.old)) }
 {
-    if are_idle_decls(&state.sets, body) {
-        return Ok(());
-    }
+    let alike = are_apart_decls(&var.0, body);
     for word in words {
+        let before = count_declared(state);
         declare_for(alloc, state, binding, var, *word, body)?;
+        if alike && count_declared(state) == before {
+            return Ok(());
+        }
     }
     Ok(())
 }
@@ -138,6 +160,9 @@ fn declare<'a>(
 ) -> Result<(), ExpandError>
     ensures { Gives (λ _. declared_of state.new) result (unrolled_nest sets_in declared (binding_of binding.now) (decl_of decl.now) (declared_of state.old)) }
 {
+    if is_idle_decl(&state.sets, decl) {
+        return Ok(());
+    }
     match decl {
         Decl::SetDecl { name, members: set } => declare_set(alloc, state, binding, name, set),
         Decl::Pred(pred) => declare_pred(alloc, state, binding, pred),

@@ -1,6 +1,7 @@
 //! Programs without sets, `foreach` and parameters: what a tree stands for.
 #![tactic(auto)]
 
+mod apart;
 mod block;
 mod declare;
 mod error;
@@ -13,4 +14,5 @@ mod wiring;
 mod words;
 
 pub use error::ExpandError;
+pub use tv_flat::{Flat, FlatAction, FlatEdge};
 pub use whole::expand;

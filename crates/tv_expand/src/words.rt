@@ -3,7 +3,8 @@
 ghost use Rattle.std.specs.Prelude.{◌≡◌, ◌++◌, ◌∷◌, [], not, map, if◌then◌else◌, IfOk, OnOk};
 ghost use Rattle.tv_expand.specs.Outcome.{Gives};
 ghost use Rattle.tv_flat.specs.Replaced.{replaced};
-ghost use Rattle.tv_expand.specs.Sets.{is_among, sight, with_members, without_members, once};
+ghost use Rattle.tv_tree.specs.Names.{is_among};
+ghost use Rattle.tv_expand.specs.Sets.{sight, with_members, without_members, once};
 ghost use Rattle.tv_flat.specs.Views.{binding_of};
 ghost use Rattle.tv_expand.specs.Views.{names_of, signed};
 

@@ -76,7 +76,7 @@ bound_other (e ∷ b) k v w apart =
     ]
 
 -- what is bound last counts
-replaced_bound : (b : Binding) (word : List ℕ) (p : List ℕ × List ℕ) → further word (replaced b word) p ≡ replaced (bound b p.0 p.1) word
+pub replaced_bound : (b : Binding) (word : List ℕ) (p : List ℕ × List ℕ) → further word (replaced b word) p ≡ replaced (bound b p.0 p.1) word
 replaced_bound b word p =
     elim (cases_Bool (bytes_eq p.0 word)) [
       | inl h ↦

@@ -1,7 +1,12 @@
--- The final texts of names.
-use Rattle.std.specs.Prelude.{ℕ, List, [], ◌∷◌, ◌++◌, codes}
-use Rattle.std.specs.List.{join_with_byte}
+-- Words among others, and the final texts of names.
+use Rattle.std.specs.Prelude.{ℕ, Bool, List, [], ◌∷◌, ◌++◌, codes}
+use Rattle.std.specs.List.{list_any, join_with_byte}
+use Rattle.std.specs.Str.{bytes_eq}
 use Rattle.tv_tree.specs.Forms.{NameForm}
+
+-- whether a word is one of these
+abbrev pub is_among : List (List ℕ) → List ℕ → Bool
+is_among words word = list_any (bytes_eq word) words
 
 -- the identifiers in brackets behind a name, with commas between them
 abbrev pub brackets_text : List (List ℕ) → List ℕ

@@ -1,12 +1,26 @@
-//! The final texts of names.
+//! Words among others, and the final texts of names.
 
 ghost use Rattle.std.specs.Prelude.{◌≡◌, ◌++◌, ◌∷◌, IfOk, OnOk};
 ghost use Rattle.std.specs.List.{flat_map};
+ghost use Rattle.std.specs.Str.{bytes_eq};
 ghost use Rattle.tv_tree.specs.Copies.{name_of};
-ghost use Rattle.tv_tree.specs.Names.{brackets_text, name_text};
+ghost use Rattle.tv_tree.specs.Names.{is_among, brackets_text, name_text};
 
 use crate::trees::{Name, Spelling};
 use std::alloc::{AllocError, Global};
+
+fn is_word(other: &Spelling, word: &[u8]) -> bool
+    ensures { result ≡ bytes_eq word.now other.now }
+{
+    word == other.0.as_slice()
+}
+
+/// Whether a word is one of these.
+pub fn is_among(words: &[Spelling], word: &[u8]) -> bool
+    ensures { result ≡ is_among words.now word.now }
+{
+    words.iter().any(|other| is_word(other, word))
+}
 
 #[tactic(auto, using(crate::proofs::NameTexts::words_more, crate::proofs::NameTexts::words_done))]
 fn push_words(text: &mut Vec<u8>, words: &[Spelling]) -> Result<(), AllocError>
