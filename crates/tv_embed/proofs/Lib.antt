@@ -1,2 +1,4 @@
 pub mod FitLaws
 pub mod MapLaws
+pub mod CandidateLaws
+pub mod SearchLaws

@@ -1,3 +1,4 @@
 pub mod Fits
 pub mod Laws
 pub mod Maps
+pub mod Search

@@ -4,9 +4,13 @@
 //! and Wilhelm 2002, section 4.3).
 #![tactic(auto)]
 
+mod candidates;
 mod fits;
 mod laws;
+mod least;
 mod maps;
+mod search;
 
 pub use laws::structures_embed_in_themselves;
+pub use least::find;
 pub use maps::check_map;

@@ -1,6 +1,7 @@
 //! Whether a given map is an embedding.
 
-ghost use Rattle.std.specs.Prelude.{◌≡◌, ◌<◌, ◌↔◌, ◌+◌, ◌++◌, ◌∷◌, [], length, take, IsTrue, Contains};
+ghost use Rattle.std.specs.Prelude.{◌≡◌, ◌<◌, ◌↔◌, ◌+◌, ◌++◌, ◌==◌, ◌∷◌, [], length, take, IsTrue, Contains};
+ghost use Rattle.std.specs.List.{list_any};
 ghost use Rattle.tv_struct.specs.StructureForm.{arities_of};
 ghost use Rattle.tv_embed.specs.Fits.{FitsSoFar, IsOnto};
 ghost use Rattle.tv_embed.specs.Maps.{image_of, IsEmbedding, HeapsStay};
@@ -71,7 +72,8 @@ pub fn fits_next(small: &Structure, large: &Structure, images: &[u32], w: u32) -
     is_candidate(small, large, images.len() as u32, w) && joins_up(small, large, images, w)
 }
 
-fn is_onto(large: &Structure, images: &[u32]) -> bool
+/// Whether each individual of `large` is an image.
+pub fn is_onto(large: &Structure, images: &[u32]) -> bool
     ensures { IsTrue result ↔ IsOnto large.now images.now }
 {
     for w in 0..large.size() {
@@ -82,8 +84,10 @@ fn is_onto(large: &Structure, images: &[u32]) -> bool
     true
 }
 
-fn is_image(images: &[u32], w: u32) -> bool
-    ensures { IsTrue result ↔ Contains images.now w }
+/// Whether `w` is an image.
+pub fn is_image(images: &[u32], w: u32) -> bool
+    ensures image { IsTrue result ↔ Contains images.now w }
+    ensures test { result ≡ list_any (λ y. y == w) images.now }
 {
     images.contains(&w)
 }

@@ -1,0 +1,101 @@
+//! The search for the least embedding, individual by individual.
+
+ghost use Rattle.std.specs.Prelude.{◌≡◌, ◌<◌, ◌≤◌, ◌+◌, ◌++◌, [], ◌∷◌, length, IfOk};
+ghost use Rattle.std.specs.Bool.{OnFalse};
+ghost use Rattle.tv_struct.specs.StructureForm.{arities_of};
+ghost use Rattle.tv_embed.specs.Fits.{FitsSoFar, IsCandidate};
+ghost use Rattle.tv_embed.specs.Search.{IsSearched, HasNoneWith, AreAllCandidates, missing_below};
+
+use crate::fits::joins_up;
+use crate::maps::{is_image, is_onto};
+use std::alloc::AllocError;
+use tv_struct::{Numbers, Structure};
+
+/// Extends the images of the first individuals to the least embedding that begins with them, and leaves
+/// them as they were where there is none.
+#[cycle(search)]
+pub fn search(
+    small: &Structure,
+    large: &Structure,
+    candidates: &[Numbers],
+    images: &mut Vec<u32>,
+) -> Result<bool, AllocError>
+    requires vocabulary { arities_of small.now ≡ arities_of large.now }
+    requires candidates { AreAllCandidates small.now large.now small.now.size candidates.now }
+    requires few { length images.old.items ≤ small.now.size }
+    requires so_far { FitsSoFar small.now large.now images.old.items }
+    ensures { IfOk result
+        (λ found. IsSearched small.now large.now images.old.items images.old.items found images.new.items) }
+{
+    let u = images.len();
+    if u == candidates.len() {
+        return Ok(is_whole(small, large, images));
+    }
+    for w in candidates[u].as_slice() {
+        if try_image(small, large, candidates, images, *w)? {
+            return Ok(true);
+        }
+    }
+    Ok(false)
+}
+
+/// The same with `w` as the next image.
+#[cycle(search)]
+fn try_image(
+    small: &Structure,
+    large: &Structure,
+    candidates: &[Numbers],
+    images: &mut Vec<u32>,
+    w: u32,
+) -> Result<bool, AllocError>
+    requires vocabulary { arities_of small.now ≡ arities_of large.now }
+    requires candidates { AreAllCandidates small.now large.now small.now.size candidates.now }
+    requires few { length images.old.items < small.now.size }
+    requires so_far { FitsSoFar small.now large.now images.old.items }
+    requires image { w < large.now.size }
+    requires candidate { IsCandidate small.now large.now (length images.old.items) w }
+    ensures { IfOk result
+        (λ found. IsSearched small.now large.now (images.old.items ++ w ∷ []) images.old.items found images.new.items) }
+{
+    if !joins_up(small, large, images, w) {
+        return Ok(false);
+    }
+    images.push(w)?;
+    if !may_reach_all(small, large, images) {
+        images.pop();
+        return Ok(false);
+    }
+    if search(small, large, candidates, images)? {
+        return Ok(true);
+    }
+    images.pop();
+    Ok(false)
+}
+
+fn is_whole(small: &Structure, large: &Structure, images: &[u32]) -> bool
+    requires vocabulary { arities_of small.now ≡ arities_of large.now }
+    requires whole { length images.now ≡ small.now.size }
+    requires so_far { FitsSoFar small.now large.now images.now }
+    ensures { IsSearched small.now large.now images.now images.now result images.now }
+{
+    let _ = small.size();
+    is_onto(large, images)
+}
+
+/// Whether there are enough individuals left for those of `large` that are no images yet.
+pub fn may_reach_all(small: &Structure, large: &Structure, images: &[u32]) -> bool
+    requires { length images.now ≤ small.now.size }
+    ensures { OnFalse result (HasNoneWith small.now large.now images.now) }
+{
+    missing(large, images) as usize <= small.size() as usize - images.len()
+}
+
+fn missing(large: &Structure, images: &[u32]) -> u32
+    ensures { result ≡ missing_below images.now large.now.size }
+{
+    let mut missing = 0;
+    for w in 0..large.size() {
+        missing += u32::from(!is_image(images, w));
+    }
+    missing
+}
