@@ -1,0 +1,244 @@
+-- The lists that stand beside the base rules.
+use Rattle.std.proofs.Common.{ℕ, zero, suc, ◌≡◌, ◌<◌, ◌+◌, ◌⊎◌, ◌↔◌, ◌∙◌, true, false, List, [], ◌∷◌, ◌++◌, length, map, Option, None, Some, IfSome, slice_get, slice_set, unwrap_or, inl, inr, ⊎_elim, refl, sym, ap, subst, Contains, arith}
+use Rattle.std.specs.List.{AllZip}
+use Rattle.std.specs.Option.{option_map}
+use Rattle.std.specs.Borrow.{Bor}
+use Rattle.std.proofs.lemmas.List.{length-append, length-map}
+use Rattle.std.proofs.lemmas.Option.{slice_get-map, slice_get_within}
+use Rattle.tv_model.proofs.Lists.{Contains-none}
+use Rattle.tv_model.specs.declared.formula.Formula.{Formula}
+use Rattle.tv_model.specs.declared.formula.Var.{Var}
+use Rattle.tv_model.specs.declared.program.Rule.{Rule}
+use Rattle.tv_model.specs.Form.{Form, form_of}
+use Rattle.tv_model.specs.Program.{HeadForm, HNever, HAtom, HSame, RuleForm, head_of, rule_of}
+use Rattle.tv_model.specs.Rules.{IsFreeInRule}
+use Rattle.tv_rules.specs.declared.entries.Entry.{Entry}
+use Rattle.tv_rules.specs.Closing.{Swap, swaps, puttings, conjuncts, closed_set, negated_head}
+use Rattle.tv_rules.specs.Decoded.{IsRuleAbout, IsEntry}
+use Rattle.tv_rules.specs.EntryForms.{EntryForm, forms_of, swapped_at, AreFreeIn, AreWatched, AreKept, entry_of, closed_entries, rules_of}
+use Rattle.tv_rules.specs.Standing.{AreNumbersOf, StandsIn, SeesSummaries}
+use Rattle.tv_rules.proofs.EntryLemmas.{entries-kept}
+use Rattle.tv_rules.proofs.Family.{zip-at, zip-length, bases-below, free-alike}
+use Rattle.tv_rules.proofs.MetByHeaps.{All-found}
+use Rattle.tv_rules.proofs.Written.{swaps_are_of_conjuncts}
+
+pushed-at : (lists : List (List ℕ)) (ns : List ℕ) (k : ℕ) (xs : List ℕ) → slice_get (lists ++ ns ∷ []) k ≡ Some xs
+    → (slice_get lists k ≡ Some xs) ⊎ ((k ≡ length lists) × (ns ≡ xs))
+pushed-at [] ns zero xs at = inr (refl, cc at)
+pushed-at [] ns (suc k) xs at = absurd (cc at)
+pushed-at (l ∷ lists) ns zero xs at = inl at
+pushed-at (l ∷ lists) ns (suc k) xs at =
+    ⊎_elim (λ before. inl before) (λ new. inr (ap suc new.0, new.1)) (pushed-at lists ns k xs at)
+
+-- the numbers of one predicate more
+pub watched-more : (rules : List RuleForm) (q : ℕ) (lists new : List (List ℕ)) (ns : List ℕ)
+    → (length lists ≡ q) × ((k : ℕ) (xs : List ℕ) → slice_get lists k ≡ Some xs → AreNumbersOf (StandsIn k) rules xs)
+    → AreNumbersOf (StandsIn q) rules ns → new ≡ lists ++ ns ∷ []
+    → (length new ≡ q + 1) × ((k : ℕ) (xs : List ℕ) → slice_get new k ≡ Some xs → AreNumbersOf (StandsIn k) rules xs)
+watched-more rules q lists new ns before here put = (
+  ap length put ∙ length-append lists (ns ∷ []) ∙ ap (λ n. n + 1) before.0,
+  λ k xs at. each k xs (pushed-at lists ns k xs (subst (λ (ls : List (List ℕ)). slice_get ls k ≡ Some xs) put at)),
+)
+  where
+    each : (k : ℕ) (xs : List ℕ) → (slice_get lists k ≡ Some xs) ⊎ ((k ≡ length lists) × (ns ≡ xs)) → AreNumbersOf (StandsIn k) rules xs
+    each k xs (inl was) = before.1 k xs was
+    each k xs (inr is) =
+        let same : q ≡ k = sym (is.0 ∙ before.0)
+        in let At : ℕ → Type 0 = λ r. AreNumbersOf (StandsIn r) rules ns in let Of : List ℕ → Type 0 = λ zs. AreNumbersOf (StandsIn k) rules zs
+        in subst Of is.1 (subst At same here)
+
+-- what was found of the rules as they were read, five times
+pub are-kept : (bases : List Rule) (negations : List Formula) (variables : List (List Var)) (entries : List Entry) (by_pred : List (List ℕ)) (by_sm : List ℕ)
+    → (n v e p s : List Rule) → n ≡ bases → v ≡ bases → e ≡ bases → p ≡ bases → s ≡ bases
+    → map form_of negations ≡ map (λ (rule : RuleForm). negated_head rule.head) (map rule_of n)
+    → AllZip AreFreeIn (map rule_of v) variables
+    → map entry_of entries ≡ closed_entries (map rule_of e)
+    → ((q : ℕ) (ns : List ℕ) → slice_get by_pred q ≡ Some ns → AreNumbersOf (StandsIn q) (closed_set (map rule_of p)) ns)
+    → ((q k : ℕ) (rule : RuleForm) → slice_get (rules_of bases) k ≡ Some rule → StandsIn q rule → q < length by_pred)
+    → AreNumbersOf SeesSummaries (closed_set (map rule_of s)) by_sm
+    → AreKept bases negations variables entries by_pred by_sm
+are-kept bases negations variables entries by_pred by_sm n v e p s en ev ee ep es negated free kept numbers places seeing = record {
+  negated = subst (λ (rs : List Rule). map form_of negations ≡ map (λ (rule : RuleForm). negated_head rule.head) (map rule_of rs)) en negated;
+  free = subst (λ (rs : List Rule). AllZip AreFreeIn (map rule_of rs) variables) ev free;
+  kept = subst (λ (rs : List Rule). map entry_of entries ≡ closed_entries (map rule_of rs)) ee kept;
+  watched = record {
+    numbers = subst (λ (rs : List Rule). (q : ℕ) (ns : List ℕ) → slice_get by_pred q ≡ Some ns → AreNumbersOf (StandsIn q) (closed_set (map rule_of rs)) ns) ep numbers;
+    places = places;
+  };
+  seeing = subst (λ (rs : List Rule). AreNumbersOf SeesSummaries (closed_set (map rule_of rs)) by_sm) es seeing;
+}
+
+pub below-count : (rules : List RuleForm) (lists : List (List ℕ)) (n : ℕ) → length lists ≡ n
+    → ((q k : ℕ) (rule : RuleForm) → slice_get rules k ≡ Some rule → StandsIn q rule → q < n)
+    → (q k : ℕ) (rule : RuleForm) → slice_get rules k ≡ Some rule → StandsIn q rule → q < length lists
+below-count rules lists n count below q k rule at stands = omega (arith, below q k rule at stands, count)
+
+pub range-of : (bases read : List Rule) → read ≡ bases
+    → ((v : ℕ) (rule : RuleForm) → Contains (map rule_of bases) rule → IsFreeInRule v rule → v < 32)
+    → (v : ℕ) (rule : RuleForm) → Contains (map rule_of read) rule → IsFreeInRule v rule → v < 32
+range-of bases read same range =
+    subst (λ (rs : List Rule). (v : ℕ) (rule : RuleForm) → Contains (map rule_of rs) rule → IsFreeInRule v rule → v < 32) (sym same) range
+
+-- there is a rule at each number below their count
+some-at : {X : Type 0} (xs : List X) (n : ℕ) → n < length xs → (x : X) × (slice_get xs n ≡ Some x)
+some-at [] n below = absurd (omega (arith, below))
+some-at (x ∷ xs) zero below = (x, refl)
+some-at (x ∷ xs) (suc n) below = some-at xs n (omega (arith, below))
+
+-- the numbers of a predicate's rules, also where it has no place
+pub watched-at : (rules : List RuleForm) (by_pred : List (List ℕ)) → AreWatched rules by_pred → (q : ℕ) (found : List ℕ)
+    → found ≡ unwrap_or (slice_get by_pred q) [] → AreNumbersOf (StandsIn q) rules found
+watched-at rules by_pred watched q found is = go (slice_get by_pred q) refl is
+  where
+    none : slice_get by_pred q ≡ None → AreNumbersOf (StandsIn q) rules []
+    none past = record {
+      exact = λ n. (
+        λ at. absurd (Contains-none n at),
+        λ k. let below : q < length by_pred = watched.places q n k.0 k.1 k.2
+            in let there : (ns : List ℕ) × (slice_get by_pred q ≡ Some ns) = some-at by_pred q below
+            in absurd (cc (past, there.1)),
+      );
+      increasing = λ k less. absurd (omega (arith, less));
+    }
+
+    go : (o : Option (List ℕ)) → slice_get by_pred q ≡ o → found ≡ unwrap_or o [] → AreNumbersOf (StandsIn q) rules found
+    go None past e = let Of : List ℕ → Type 0 = λ ns. AreNumbersOf (StandsIn q) rules ns in subst Of (sym e) (none past)
+    go (Some ns) there e = let Of : List ℕ → Type 0 = λ zs. AreNumbersOf (StandsIn q) rules zs in subst Of (sym e) (watched.numbers q ns there)
+
+-- a literal at a negated head's place is one conjunct
+negated_head-whole : (head : HeadForm) → conjuncts (negated_head head) ≡ negated_head head ∷ []
+negated_head-whole HNever = refl
+negated_head-whole (HAtom true p vars) = refl
+negated_head-whole (HAtom false p vars) = refl
+negated_head-whole (HSame true v w) = refl
+negated_head-whole (HSame false v w) = refl
+
+puttings-at : (x : Form) (fs : List Form) (k : ℕ) (gs : List Form) → slice_get (puttings x fs) k ≡ Some gs → slice_set fs k x ≡ gs
+puttings-at x [] k gs at = absurd (cc at)
+puttings-at x (f ∷ fs) zero gs at = cc at
+puttings-at x (f ∷ fs) (suc k) gs at =
+    go (slice_get (puttings x fs) k) (λ hs there. puttings-at x fs k hs there) (sym (slice_get-map (λ hs. f ∷ hs) (puttings x fs) k) ∙ at)
+  where
+    go : (o : Option (List Form)) → ((hs : List Form) → o ≡ Some hs → slice_set fs k x ≡ hs)
+        → option_map (λ hs. f ∷ hs) o ≡ Some gs → f ∷ slice_set fs k x ≡ gs
+    go None later none = absurd (cc none)
+    go (Some hs) later same = let last : f ∷ hs ≡ gs = cc same in ap (λ zs. f ∷ zs) (later hs refl) ∙ last
+
+about-below : (o : Option ℕ) (base rule : RuleForm) (fs : List Form) → IsRuleAbout o base rule → fs ≡ conjuncts base.body
+    → IfSome o (λ k. k < length fs)
+about-below None base rule fs is are = tt
+about-below (Some k) base rule fs is are =
+    let below : k < length (swaps (negated_head base.head) base.body)
+    = slice_get_within (swaps (negated_head base.head) base.body) k is.0 is.1
+    in let count : length (swaps (negated_head base.head) base.body) ≡ length (conjuncts base.body)
+    = sym (length-map (swaps (negated_head base.head) base.body) (λ (s : Swap). s.conjunct))
+    ∙ ap length ((swaps_are_of_conjuncts (negated_head base.head) base.body).each)
+    in let same : length fs ≡ length (conjuncts base.body) = ap length are
+    in omega (arith, below, count, same)
+
+about-conjuncts : (o : Option ℕ) (base rule : RuleForm) → IsRuleAbout o base rule
+    → swapped_at o (negated_head base.head) (conjuncts base.body) ≡ conjuncts rule.body
+about-conjuncts None base rule is = ap (λ (r : RuleForm). conjuncts r.body) (sym is)
+about-conjuncts (Some k) base rule is =
+    let x : Form = negated_head base.head
+    in let C : Swap → List Form = λ s. conjuncts s.body
+    in let mapped : slice_get (map C (swaps x base.body)) k ≡ Some (conjuncts is.0.body)
+    = slice_get-map C (swaps x base.body) k ∙ ap (option_map C) is.1
+    in let put : slice_get (puttings x (conjuncts base.body)) k ≡ Some (conjuncts is.0.body)
+    = ap (λ ls. slice_get ls k) (sym ((swaps_are_of_conjuncts x base.body).bodies (negated_head-whole base.head))) ∙ mapped
+    in puttings-at x (conjuncts base.body) k (conjuncts is.0.body) put ∙ ap conjuncts (sym is.2)
+
+forms-set : (fs : List (Bor Formula)) (k : ℕ) (x : Bor Formula) → forms_of (slice_set fs k x) ≡ slice_set (forms_of fs) k (form_of x.now)
+forms-set [] k x = refl
+forms-set (f ∷ fs) zero x = refl
+forms-set (f ∷ fs) (suc k) x = ap (λ gs. form_of f.now ∷ gs) (forms-set fs k x)
+
+pub forms-swapped : (fs : List (Bor Formula)) (k : ℕ) (x : Bor Formula) (o : Option ℕ) → o ≡ Some k
+    → forms_of (slice_set fs k x) ≡ swapped_at o (form_of x.now) (forms_of fs)
+forms-swapped fs k x o is = forms-set fs k x ∙ ap (λ p. swapped_at p (form_of x.now) (forms_of fs)) (sym is)
+
+module _ (bases : List Rule) (negations : List Formula) (variables : List (List Var)) (entries : List Entry) (by_pred : List (List ℕ)) (by_sm : List ℕ)
+    (is : AreKept bases negations variables entries by_pred by_sm) where
+  zipped : AllZip (IsEntry (map rule_of bases)) (rules_of bases) (map entry_of entries)
+  zipped =
+      let Of : List EntryForm → Type 0 = λ es. AllZip (IsEntry (map rule_of bases)) (rules_of bases) es
+      in subst Of (sym is.kept) (entries-kept (map rule_of bases))
+
+  pub count-of : length (rules_of bases) ≡ length entries
+  count-of = zip-length (IsEntry (map rule_of bases)) (rules_of bases) (map entry_of entries) zipped ∙ length-map entries entry_of
+
+  pub entry-is : (n : ℕ) (rule : RuleForm) (e : Entry) → slice_get (rules_of bases) n ≡ Some rule → slice_get entries n ≡ Some e
+      → IsEntry (map rule_of bases) rule (entry_of e)
+  entry-is n rule e there at =
+      zip-at (IsEntry (map rule_of bases)) (rules_of bases) (map entry_of entries) zipped n rule (entry_of e) there
+      (slice_get-map entry_of entries n ∙ ap (option_map entry_of) at)
+
+  pub head-is : (n : ℕ) (rule : RuleForm) (e : Entry) → slice_get (rules_of bases) n ≡ Some rule → slice_get entries n ≡ Some e
+      → head_of e.head ≡ rule.head
+  head-is n rule e there at = (entry-is n rule e there at).head
+
+  -- each entry's base rule has its place
+  base-below : {Y : Type 0} (R : RuleForm → Y → Type 0) (ys : List Y) → AllZip R (map rule_of bases) ys
+      → (n : ℕ) (e : Entry) → slice_get entries n ≡ Some e → e.base < length ys
+  base-below R ys all n e at =
+      All-found (λ (x : Entry). x.base < length ys) entries n e
+      (bases-below R (map rule_of bases) ys entries ys refl is.kept all) at
+
+  pub variables-below : (n : ℕ) (e : Entry) → slice_get entries n ≡ Some e → e.base < length variables
+  variables-below n e at = base-below AreFreeIn variables is.free n e at
+
+  same-length : length bases ≡ length variables
+  same-length = sym (length-map bases rule_of) ∙ zip-length AreFreeIn (map rule_of bases) variables is.free
+
+  pub bases-below_count : (n : ℕ) (e : Entry) → slice_get entries n ≡ Some e → e.base < length bases
+  bases-below_count n e at = omega (arith, variables-below n e at, same-length)
+
+  pub negations-below : (n : ℕ) (e : Entry) → slice_get entries n ≡ Some e → e.base < length negations
+  negations-below n e at =
+      let count : length negations ≡ length bases
+      = sym (length-map negations form_of) ∙ ap length is.negated
+      ∙ length-map (map rule_of bases) (λ (rule : RuleForm). negated_head rule.head) ∙ length-map bases rule_of
+      in omega (arith, bases-below_count n e at, count)
+
+  pub variables-are : (n : ℕ) (rule : RuleForm) (e : Entry) (vars : List Var) → slice_get (rules_of bases) n ≡ Some rule
+      → slice_get entries n ≡ Some e → slice_get variables e.base ≡ Some vars → AreFreeIn rule vars
+  variables-are n rule e vars there at found v =
+      let entry : IsEntry (map rule_of bases) rule (entry_of e) = entry-is n rule e there at
+      in let free : AreFreeIn entry.base vars = zip-at AreFreeIn (map rule_of bases) variables is.free e.base entry.base vars entry.there found
+      in let same : IsFreeInRule v rule ↔ IsFreeInRule v entry.base = free-alike v e.conjunct entry.base rule entry.about
+      in (λ k. same.1 ((free v).0 k), λ k. (free v).1 (same.0 k))
+
+  -- a base rule and the negation of its head
+  base-is : (n : ℕ) (rule : RuleForm) (e : Entry) (base : Rule) → slice_get (rules_of bases) n ≡ Some rule
+      → slice_get entries n ≡ Some e → slice_get bases e.base ≡ Some base → IsRuleAbout e.conjunct (rule_of base) rule
+  base-is n rule e base there at found =
+      let entry : IsEntry (map rule_of bases) rule (entry_of e) = entry-is n rule e there at
+      in let read : slice_get (map rule_of bases) e.base ≡ Some (rule_of base) = slice_get-map rule_of bases e.base ∙ ap (option_map rule_of) found
+      in let same : entry.base ≡ rule_of base = cc (read, entry.there)
+      in let Of : RuleForm → Type 0 = λ r. IsRuleAbout e.conjunct r rule in subst Of same entry.about
+
+  negation-is : (k : ℕ) (base : Rule) (f : Formula) → slice_get bases k ≡ Some base → slice_get negations k ≡ Some f
+      → form_of f ≡ negated_head (head_of base.head)
+  negation-is k base f there at =
+      let N : RuleForm → Form = λ rule. negated_head rule.head
+      in let left : slice_get (map form_of negations) k ≡ Some (form_of f) = slice_get-map form_of negations k ∙ ap (option_map form_of) at
+      in let right : slice_get (map N (map rule_of bases)) k ≡ Some (N (rule_of base))
+      = slice_get-map N (map rule_of bases) k ∙ ap (option_map N) (slice_get-map rule_of bases k ∙ ap (option_map rule_of) there)
+      in let same : slice_get (map form_of negations) k ≡ slice_get (map N (map rule_of bases)) k = ap (λ fs. slice_get fs k) is.negated
+      in cc (left, right, same)
+
+  -- the place of a swapped conjunct is one of the base rule's
+  pub place-below : (n : ℕ) (e : Entry) (base : Rule) (fs : List Form) → n < length (rules_of bases) → slice_get entries n ≡ Some e
+      → slice_get bases e.base ≡ Some base → fs ≡ conjuncts (form_of base.body) → IfSome e.conjunct (λ k. k < length fs)
+  place-below n e base fs below at found are =
+      let rule : (r : RuleForm) × (slice_get (rules_of bases) n ≡ Some r) = some-at (rules_of bases) n below
+      in about-below e.conjunct (rule_of base) rule.0 fs (base-is n rule.0 e base rule.1 at found) are
+
+  pub conjuncts-are : (n : ℕ) (rule : RuleForm) (e : Entry) (base : Rule) (negation : Formula) (fs : List Form)
+      → slice_get (rules_of bases) n ≡ Some rule → slice_get entries n ≡ Some e → slice_get bases e.base ≡ Some base
+      → slice_get negations e.base ≡ Some negation → fs ≡ conjuncts (form_of base.body)
+      → swapped_at e.conjunct (form_of negation) fs ≡ conjuncts rule.body
+  conjuncts-are n rule e base negation fs there at found negated are =
+      ap (λ gs. swapped_at e.conjunct (form_of negation) gs) are
+      ∙ ap (λ x. swapped_at e.conjunct x (conjuncts (form_of base.body))) (negation-is e.base base negation found negated)
+      ∙ about-conjuncts e.conjunct (rule_of base) rule (base-is n rule e base there at found)

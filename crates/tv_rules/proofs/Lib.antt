@@ -1,0 +1,14 @@
+pub mod MetByHeaps
+pub mod Dropping
+pub mod EntryLemmas
+pub mod Family
+pub mod FlagLemmas
+pub mod Free
+pub mod Further
+pub mod Heights
+pub mod KeptLemmas
+pub mod Loops
+pub mod Plain
+pub mod Ranges
+pub mod RuleTests
+pub mod Written

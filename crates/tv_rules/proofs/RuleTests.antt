@@ -1,0 +1,84 @@
+-- Tests of rules: whether a variable is free, whether a head has one variable twice.
+use Rattle.std.proofs.Common.{ℕ, ◌≡◌, ◌<◌, ◌+◌, ◌↔◌, ◌⊎◌, ◌∙◌, ◌==◌, Bool, true, false, IsTrue, List, [], ◌∷◌, ◌++◌, inl, inr, ⊎_elim, refl, sym, ap, subst, Contains, arith}
+use Rattle.std.proofs.lemmas.Bool.{false≢true, eqb-true, eq-eqb, cases_lt}
+use Rattle.std.proofs.lemmas.List.{map-append}
+use Rattle.std.proofs.lemmas.List.Elements.{Contains-push, Contains-push_cases, Contains-append_left}
+use Rattle.tv_model.specs.declared.formula.Var.{Var}
+use Rattle.tv_model.specs.Form.{Form, IsFree}
+use Rattle.tv_model.specs.Program.{HeadForm, HNever, HAtom, HSame, RuleForm}
+use Rattle.tv_model.specs.Rules.{IsFreeInRule}
+use Rattle.tv_rules.specs.Closing.{is_free, is_in_head}
+use Rattle.tv_rules.specs.EntryForms.{numbers_of, AreFreeIn}
+use Rattle.tv_rules.specs.Flags.{has_twice}
+use Rattle.tv_rules.specs.Standing.{HasTwice}
+use Rattle.tv_rules.proofs.Free.{free-from, from-free, in_head-from, from-in_head}
+
+pub is_free-answer : (v : ℕ) (f : Form) (b : Bool) → IsTrue b ↔ IsFree v f → b ≡ is_free v f
+is_free-answer v f b answer = same b (is_free v f) (λ t. from-free v f (answer.0 t)) (λ t. answer.1 (free-from v f t))
+  where
+    same : (b c : Bool) → (b ≡ true → c ≡ true) → (c ≡ true → b ≡ true) → b ≡ c
+    same true c to back = sym (to refl)
+    same false true to back = back refl
+    same false false to back = refl
+
+pub free_in_rule-then : (v : ℕ) (rule : RuleForm) (b : Bool) → b ≡ is_free v rule.body → b ≡ true → IsTrue b ↔ IsFreeInRule v rule
+free_in_rule-then v rule b is t = (λ _. inl (free-from v rule.body (sym is ∙ t)), λ _. t)
+
+pub free_in_rule-else : (v : ℕ) (rule : RuleForm) (b d : Bool) → b ≡ is_free v rule.body → b ≡ false → d ≡ is_in_head v rule.head
+    → IsTrue d ↔ IsFreeInRule v rule
+free_in_rule-else v rule b d is t there = (
+  λ k. inr (in_head-from v rule.head (sym there ∙ k)),
+  λ k. ⊎_elim (λ free. absurd (false≢true (sym t ∙ is ∙ from-free v rule.body free)))
+      (λ head. there ∙ from-in_head v rule.head head) k,
+)
+
+-- a variable that is put behind the list
+pub noted : (F : ℕ → Type 0) (old new : List Var) (v : Var) → new ≡ old ++ v ∷ [] → F v.0
+    → (w : ℕ) → Contains (numbers_of new) w ↔ (Contains (numbers_of old) w ⊎ ((w ≡ v.0) × F w))
+noted F old new v put here w =
+    let e : numbers_of new ≡ numbers_of old ++ v.0 ∷ [] = ap numbers_of put ∙ map-append (λ (x : Var). x.0) old (v ∷ [])
+    in let Has : List ℕ → Type 0 = λ ns. Contains ns w
+    in (
+      λ at. ⊎_elim (λ before. inl before) (λ same. inr (sym same, subst F same here))
+          (Contains-push_cases (numbers_of old) v.0 w (subst Has e at)),
+      λ at. subst Has (sym e) (⊎_elim (λ before. Contains-append_left (numbers_of old) (v.0 ∷ []) w before)
+          (λ same. let Here : ℕ → Type 0 = λ x. Contains (numbers_of old ++ v.0 ∷ []) x in subst Here (sym same.0) (Contains-push (numbers_of old) v.0)) at),
+    )
+
+-- the free ones of one variable more
+pub free-more : (F : ℕ → Type 0) (old new : List ℕ) (v : ℕ)
+    → ((w : ℕ) → Contains old w ↔ ((w < v) × F w))
+    → ((w : ℕ) → Contains new w ↔ (Contains old w ⊎ ((w ≡ v) × F w)))
+    → (w : ℕ) → Contains new w ↔ ((w < v + 1) × F w)
+free-more F old new v before put = λ w. (
+  λ at. ⊎_elim (λ l. let was : (w < v) × F w = (before w).0 l in (omega (arith, was.0), was.1))
+      (λ r. (omega (arith, r.0), r.1)) ((put w).0 at),
+  λ k. (put w).1 (⊎_elim (λ less. inl ((before w).1 (less, k.1))) (λ same. inr (same, k.1)) (split w k.0)),
+)
+  where
+    split : (w : ℕ) → w < v + 1 → (w < v) ⊎ (w ≡ v)
+    split w less = ⊎_elim (λ below. inl below) (λ above. inr (omega (arith, less, above))) (cases_lt w v)
+
+pub free-all : (F : ℕ → Type 0) (vars : List ℕ) (v n : ℕ) → v ≡ n
+    → ((w : ℕ) → Contains vars w ↔ ((w < v) × F w)) → (w : ℕ) → Contains vars w ↔ ((w < n) × F w)
+free-all F vars v n e before = let Of : ℕ → Type 0 = λ m. (w : ℕ) → Contains vars w ↔ ((w < m) × F w) in subst Of e before
+
+-- where free variables are in range, the free ones in range are all
+pub free-in_range : (rule : RuleForm) (vars : List Var)
+    → ((v : ℕ) → Contains (numbers_of vars) v ↔ ((v < 32) × IsFreeInRule v rule))
+    → ((v : ℕ) → IsFreeInRule v rule → v < 32) → AreFreeIn rule vars
+free-in_range rule vars free range v = (λ at. ((free v).0 at).1, λ k. (free v).1 (range v k, k))
+
+same-answer : (v w : ℕ) → IsTrue (v == w) ↔ ((x : ℕ) × (v ∷ w ∷ [] ≡ x ∷ x ∷ []))
+same-answer v w = (
+  λ t. (w, ap (λ x. x ∷ w ∷ []) (eqb-true v w t)),
+  λ k. let p : v ≡ k.0 = cc (k.1) in let q : w ≡ k.0 = cc (k.1) in eq-eqb v w (p ∙ sym q),
+)
+
+pub twice-answer : (head : HeadForm) → IsTrue (has_twice head) ↔ HasTwice head
+twice-answer HNever = (λ t. absurd (false≢true t), λ k. absurd k.1)
+twice-answer (HAtom flag pred []) = (λ t. absurd (false≢true t), λ k. absurd (cc (k.1)))
+twice-answer (HAtom flag pred (v ∷ [])) = (λ t. absurd (false≢true t), λ k. absurd (cc (k.1)))
+twice-answer (HAtom flag pred (v ∷ w ∷ [])) = same-answer v w
+twice-answer (HAtom flag pred (v ∷ w ∷ u ∷ vars)) = (λ t. absurd (false≢true t), λ k. absurd (cc (k.1)))
+twice-answer (HSame flag v w) = (λ t. (w, (eqb-true v w t, refl)), λ k. eq-eqb v w (k.1.0 ∙ sym k.1.1))

@@ -1,0 +1,82 @@
+-- How the closed rules are kept: the base rules with their formulas, and for each closed rule the number
+-- of its base rule, the place of the conjunct whose place the negated head takes, and its head.
+use Rattle.std.specs.Prelude.{ℕ, suc, ◌≡◌, ◌↔◌, ◌<◌, List, [], ◌∷◌, ◌++◌, length, map, Option, None, Some, Contains, slice_get, slice_set}
+use Rattle.std.specs.List.{AllZip, cons_option}
+use Rattle.std.specs.Borrow.{Bor}
+use Rattle.tv_model.specs.declared.formula.Formula.{Formula}
+use Rattle.tv_model.specs.declared.formula.Var.{Var}
+use Rattle.tv_model.specs.declared.program.Rule.{Rule}
+use Rattle.tv_rules.specs.declared.entries.Entry.{Entry}
+use Rattle.tv_model.specs.Form.{Form, form_of}
+use Rattle.tv_model.specs.Program.{HeadForm, RuleForm, head_of, rule_of}
+use Rattle.tv_model.specs.Rules.{IsFreeInRule}
+use Rattle.tv_rules.specs.Closing.{conjuncts, negated as negation, negated_head, closed_set}
+use Rattle.tv_rules.specs.Standing.{AreNumbersOf, StandsIn, SeesSummaries}
+
+-- the closed set of these base rules
+abbrev pub rules_of : List Rule → List RuleForm
+rules_of bases = closed_set (map rule_of bases)
+
+-- what formulas behind references say
+abbrev pub forms_of : List (Bor Formula) → List Form
+forms_of fs = map (λ f. form_of f.now) fs
+
+-- the formulas, with x in the place k, if there is one
+abbrev pub swapped_at : Option ℕ → Form → List Form → List Form
+swapped_at None x fs = fs
+swapped_at (Some k) x fs = slice_set fs k x
+
+-- the numbers of variables
+abbrev pub numbers_of : List Var → List ℕ
+numbers_of vars = map (λ v. v.0) vars
+
+-- how a closed rule is kept
+pub record EntryForm : Type 0 where
+  pub base : ℕ
+  pub conjunct : Option ℕ
+  pub head : HeadForm
+
+abbrev pub entry_of : Entry → EntryForm
+entry_of e = record { base = e.base; conjunct = e.conjunct; head = head_of e.head }
+
+-- the base rules, numbered from n on
+abbrev pub base_entries : ℕ → List RuleForm → List EntryForm
+base_entries n [] = []
+base_entries n (rule ∷ rules) = record { base = n; conjunct = None; head = rule.head } ∷ base_entries (suc n) rules
+
+-- the further rule of the base rule b about its conjunct k, whose negation is the head, if there is one
+abbrev pub literal_entry : (b k : ℕ) → Option HeadForm → Option EntryForm
+literal_entry b k None = None
+literal_entry b k (Some head) = Some (record { base = b; conjunct = Some k; head = head })
+
+-- the further rules of the base rule b about these conjuncts, numbered from k on
+abbrev pub literal_entries : (b k : ℕ) → List Form → List EntryForm
+literal_entries b k [] = []
+literal_entries b k (f ∷ fs) = cons_option (literal_entry b k (negation f)) (literal_entries b (suc k) fs)
+
+-- the further rules of the base rules, numbered from b on
+abbrev pub further_entries : (b : ℕ) → List RuleForm → List EntryForm
+further_entries b [] = []
+further_entries b (rule ∷ rules) = literal_entries b 0 (conjuncts rule.body) ++ further_entries (suc b) rules
+
+-- the closed rules of these base rules, as they are kept
+abbrev pub closed_entries : List RuleForm → List EntryForm
+closed_entries rules = base_entries 0 rules ++ further_entries 0 rules
+
+-- the variables are those that are free in the rule
+abbrev pub AreFreeIn : RuleForm → List Var → Type 0
+AreFreeIn rule vars = (v : ℕ) → Contains (numbers_of vars) v ↔ IsFreeInRule v rule
+
+-- each predicate that stands in a rule has a place in the lists, and there the numbers of its rules
+pub record AreWatched (rules : List RuleForm) (by_pred : List (List ℕ)) : Type 0 where
+  pub numbers : (q : ℕ) (ns : List ℕ) → slice_get by_pred q ≡ Some ns → AreNumbersOf (StandsIn q) rules ns
+  pub places : (q n : ℕ) (rule : RuleForm) → slice_get rules n ≡ Some rule → StandsIn q rule → q < length by_pred
+
+-- the lists that stand beside the base rules are right
+pub record AreKept (bases : List Rule) (negations : List Formula) (variables : List (List Var))
+    (entries : List Entry) (by_pred : List (List ℕ)) (by_sm : List ℕ) : Type 0 where
+  pub negated : map form_of negations ≡ map (λ rule. negated_head rule.head) (map rule_of bases)
+  pub free : AllZip AreFreeIn (map rule_of bases) variables
+  pub kept : map entry_of entries ≡ closed_entries (map rule_of bases)
+  pub watched : AreWatched (rules_of bases) by_pred
+  pub seeing : AreNumbersOf SeesSummaries (rules_of bases) by_sm

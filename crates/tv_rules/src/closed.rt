@@ -1,0 +1,267 @@
+//! The closed rules of a program, kept by their base rules.
+
+ghost use Rattle.std.specs.Prelude.{ℕ, List, [], unwrap_or, IfSome, ◌≡◌, ◌<◌, ◌≤◌, ◌+◌, ◌↔◌, length, map, ◌⊎◌, IfOk, OnOk, All, Some, slice_get, Contains};
+ghost use Rattle.std.specs.List.{AllZip};
+ghost use Rattle.tv_model.specs.Form.{form_of, height};
+ghost use Rattle.tv_model.specs.Heap.{Heap};
+ghost use Rattle.tv_model.specs.Program.{RuleForm, head_of, rule_of, program_of};
+ghost use Rattle.tv_model.specs.Rules.{IsConcrete, MeetsProgram, MeetsRule};
+ghost use Rattle.tv_model.specs.Valid.{IsValid, IsRule};
+ghost use Rattle.tv_stable.specs.Laws.{IsPlainRule};
+ghost use Rattle.tv_model.specs.Rules.{IsFreeInRule};
+ghost use Rattle.tv_rules.specs.Closing.{closed_rules, closed_set, conjuncts, negated_head};
+ghost use Rattle.tv_rules.specs.Standing.{AreNumbersOf, StandsIn, SeesSummaries};
+ghost use Rattle.tv_rules.specs.EntryForms.{AreFreeIn, AreWatched, AreKept, entry_of, closed_entries, forms_of, numbers_of, rules_of, swapped_at};
+ghost use Rattle.tv_rules.specs.Laws.{IsNoHigher};
+
+use crate::base::base_rules;
+use crate::conjuncts::{conjuncts, is_free_in_rule, negated_head};
+use crate::entries::{Entries, Entry, closed_entries};
+use crate::watch::{Numbers, seeing_summaries, standing};
+use std::alloc::{AllocError, Global};
+use std::marker::Model;
+use tv_model::{Formula, Formulas, Head, Items, PredId, Program, Rule, Rules, Var, Vars};
+
+/// The closed rules of a program, and for each predicate the numbers of the rules in which it stands. A
+/// further rule is kept by the number of its base rule and the place of its conjunct, so that many rules
+/// about one long body take no copies of it.
+#[derive(Debug, Drop)]
+pub struct Closed {
+    bases: Rules,
+    /// For each base rule the negation of its head.
+    negations: Formulas,
+    /// For each base rule its free variables.
+    variables: Items<Vars>,
+    entries: Entries,
+    by_pred: Items<Numbers>,
+    by_sm: Numbers,
+}
+
+impl Model for Closed {
+    ghost use Rattle.std.specs.Prelude.{List};
+    ghost use Rattle.tv_model.specs.declared.program.Rule.{Rule};
+
+    ghost Value = { List Rule };
+
+    ghost use Rattle.tv_model.specs.contracts.formula.Formula as formula;
+    ghost use Rattle.std.specs.Coded.{codes};
+
+    ghost coded = { Prim.hlevel (codes, formula.the_row.coded) };
+
+    ghost use Rattle.tv_rules.specs.EntryForms.{AreKept};
+
+    ghost view = { λ c. c.bases };
+
+    ghost invariant = { λ c. AreKept c.bases c.negations c.variables c.entries c.by_pred c.by_sm };
+}
+
+/// The closed rules of a valid program, base rules first.
+pub fn close_rules(alloc: Global, program: &Program) -> Result<Closed, AllocError>
+    requires { IsValid (program_of program.now) }
+    ensures rules { IfOk result (λ c. rules_of c ≡ closed_rules (program_of program.now)) }
+    // each rule holds in every concrete heap that meets the program
+    ensures met { IfOk result (λ c. (h : Heap) → IsConcrete (program_of program.now) h
+        → MeetsProgram (program_of program.now) h → All (MeetsRule h) (rules_of c)) }
+    // over the vocabulary, with variables in range, and nothing about a fresh individual
+    ensures valid { IfOk result (λ c. All (IsRule (program_of program.now)) (rules_of c)) }
+    ensures plain { IfOk result (λ c. All IsPlainRule (rules_of c)) }
+    ensures heights { IfOk result (λ c. (n : ℕ) → IsNoHigher (program_of program.now) n
+        → All (λ rule. height rule.body ≤ n + 4) (rules_of c)) }
+{
+    let bases = base_rules(alloc, program)?;
+    closed_of(alloc, bases, program.vocab.preds.len())
+}
+
+/// The closed set of base rules over so many predicates.
+fn closed_of(alloc: Global, bases: Rules, preds: usize) -> Result<Closed, AllocError>
+    requires count { preds ≤ 512 }
+    requires preds { (q n : ℕ) (rule : RuleForm) → slice_get (rules_of bases) n ≡ Some rule → StandsIn q rule
+        → q < preds }
+    requires variables { (v : ℕ) (rule : RuleForm) → Contains (map rule_of bases) rule → IsFreeInRule v rule → v < 32 }
+    ensures { IfOk result (λ c. c ≡ bases) }
+{
+    let negations = negations(alloc, bases.as_slice())?;
+    let variables = variables(alloc, bases.as_slice())?;
+    let entries = closed_entries(alloc, bases.as_slice())?;
+    let by_pred = watch_lists(alloc, bases.as_slice(), entries.as_slice(), preds)?;
+    let by_sm = seeing_summaries(alloc, bases.as_slice(), entries.as_slice())?;
+    Ok(Closed {
+        bases,
+        negations,
+        variables,
+        entries,
+        by_pred,
+        by_sm,
+    })
+}
+
+fn negations(alloc: Global, bases: &[Rule]) -> Result<Formulas, AllocError>
+    ensures { IfOk result (λ fs. map form_of fs
+        ≡ map (λ (rule : RuleForm). negated_head rule.head) (map rule_of bases.now)) }
+{
+    let mut list = Items::new(alloc);
+    for rule in bases {
+        list.push(negated_head(alloc, rule.head)?)?;
+    }
+    Ok(list)
+}
+
+fn variables(alloc: Global, bases: &[Rule]) -> Result<Items<Vars>, AllocError>
+    requires { (v : ℕ) (rule : RuleForm) → Contains (map rule_of bases.now) rule → IsFreeInRule v rule → v < 32 }
+    ensures { IfOk result (λ lists. AllZip AreFreeIn (map rule_of bases.now) lists) }
+{
+    let mut lists = Items::new(alloc);
+    for rule in bases {
+        lists.push(rule_variables(alloc, rule)?)?;
+    }
+    Ok(lists)
+}
+
+/// The variables of the rule, of the 32 that there are.
+fn rule_variables(alloc: Global, rule: &Rule) -> Result<Vars, AllocError>
+    ensures { IfOk result (λ vars. (v : ℕ) → Contains (numbers_of vars) v
+        ↔ ((v < 32) × IsFreeInRule v (rule_of rule.now))) }
+{
+    let mut vars = Items::new(alloc);
+    for v in 0..32 {
+        note(rule, Var(v), &mut vars)?;
+    }
+    Ok(vars)
+}
+
+/// Puts the variable behind the list, if it is free in the rule.
+fn note(rule: &Rule, v: Var, vars: &mut Vars) -> Result<(), AllocError>
+    ensures { OnOk result ((w : ℕ) → Contains (numbers_of vars.new) w
+        ↔ (Contains (numbers_of vars.old) w ⊎ ((w ≡ v.0) × IsFreeInRule w (rule_of rule.now)))) }
+{
+    if is_free_in_rule(rule, v) {
+        vars.push(v)?;
+    }
+    Ok(())
+}
+
+fn watch_lists(
+    alloc: Global,
+    bases: &[Rule],
+    entries: &[Entry],
+    preds: usize,
+) -> Result<Items<Numbers>, AllocError>
+    requires count { preds ≤ 512 }
+    requires entries { map entry_of entries.now ≡ closed_entries (map rule_of bases.now) }
+    ensures count { IfOk result (λ lists. length lists ≡ preds) }
+    ensures lists { IfOk result (λ lists. (q : ℕ) (ns : List ℕ) → slice_get lists q ≡ Some ns
+        → AreNumbersOf (StandsIn q) (closed_set (map rule_of bases.now)) ns) }
+{
+    let mut lists = Items::new(alloc);
+    for q in 0..preds {
+        lists.push(standing(alloc, bases, entries, PredId(q as u32))?)?;
+    }
+    Ok(lists)
+}
+
+impl Closed {
+    /// The number of rules.
+    pub fn count(&self) -> usize
+        ensures { result ≡ length (rules_of self.now) }
+    {
+        self.entries.len()
+    }
+
+    /// The head of a rule.
+    pub fn head(&self, number: usize) -> Head
+        requires { number < length (rules_of self.now) }
+        ensures { (rule : RuleForm) → slice_get (rules_of self.now) number ≡ Some rule → head_of result ≡ rule.head }
+    {
+        entry_at(self.entries.as_slice(), number).head
+    }
+
+    /// The variables that are free in a rule, in its body or in its head.
+    pub fn variables(&self, number: usize) -> &[Var]
+        requires { number < length (rules_of self.now) }
+        ensures { (rule : RuleForm) → slice_get (rules_of self.now) number ≡ Some rule → AreFreeIn rule result.now }
+    {
+        let entry = entry_at(self.entries.as_slice(), number);
+        variables_at(self.variables.as_slice(), entry.base)
+    }
+
+    /// The conjuncts of a rule's body, in order.
+    pub fn conjuncts(&self, alloc: Global, number: usize) -> Result<Vec<&Formula>, AllocError>
+        requires { number < length (rules_of self.now) }
+        ensures { IfOk result (λ fs. (rule : RuleForm) → slice_get (rules_of self.now) number ≡ Some rule
+            → forms_of fs.items ≡ conjuncts rule.body) }
+    {
+        let entry = entry_at(self.entries.as_slice(), number);
+        let base = base_at(self.bases.as_slice(), entry.base);
+        let negation = negation_at(self.negations.as_slice(), entry.base);
+        let list = conjuncts(alloc, &base.body)?;
+        Ok(swapped(list, entry.conjunct, negation))
+    }
+
+    /// The numbers of the rules in whose body or head the predicate stands, in rising order.
+    pub fn by_pred(&self, p: PredId) -> &[usize]
+        ensures { AreNumbersOf (StandsIn p.0) (rules_of self.now) result.now }
+    {
+        numbers_at(self.by_pred.as_slice(), p.0 as usize)
+    }
+
+    /// The numbers of the rules in which an equality stands or whose head has one variable twice, in
+    /// rising order: whether a structure is stable under these may turn on what is a summary.
+    pub fn by_sm(&self) -> &[usize]
+        ensures { AreNumbersOf SeesSummaries (rules_of self.now) result.now }
+    {
+        self.by_sm.as_slice()
+    }
+}
+
+fn entry_at(entries: &[Entry], number: usize) -> &Entry
+    requires { number < length entries.now }
+    ensures { slice_get entries.now number ≡ Some result.now }
+{
+    &entries[number]
+}
+
+fn base_at(bases: &[Rule], number: usize) -> &Rule
+    requires { number < length bases.now }
+    ensures { slice_get bases.now number ≡ Some result.now }
+{
+    &bases[number]
+}
+
+fn negation_at(negations: &[Formula], number: usize) -> &Formula
+    requires { number < length negations.now }
+    ensures { slice_get negations.now number ≡ Some result.now }
+{
+    &negations[number]
+}
+
+fn variables_at(lists: &[Vars], number: usize) -> &[Var]
+    requires { number < length lists.now }
+    ensures { slice_get lists.now number ≡ Some result.now }
+{
+    lists[number].as_slice()
+}
+
+fn numbers_at(lists: &[Numbers], place: usize) -> &[usize]
+    ensures { result.now ≡ unwrap_or (slice_get lists.now place) [] }
+{
+    if place < lists.len() {
+        lists[place].as_slice()
+    } else {
+        &[]
+    }
+}
+
+/// The conjuncts of a further rule: those of its base rule, with the negated head in one place.
+fn swapped<'a>(
+    mut list: Vec<&'a Formula>,
+    place: Option<usize>,
+    negation: &'a Formula,
+) -> Vec<&'a Formula>
+    requires { IfSome place (λ k. k < length list.items) }
+    ensures { forms_of result.items ≡ swapped_at place (form_of negation.now) (forms_of list.entry.items) }
+{
+    if let Some(k) = place {
+        list[k] = negation;
+    }
+    list
+}
