@@ -1,9 +1,10 @@
 -- Maps of the first individuals, one individual after the other.
-use Rattle.std.proofs.Common.{ℕ, ◌≡◌, ◌<◌, ◌≤◌, ◌+◌, ◌⊎◌, inl, inr, List, [], ◌∷◌, ◌++◌, length, take, refl, sym, subst, arith}
+use Rattle.std.proofs.Common.{ℕ, ◌≡◌, ◌<◌, ◌≤◌, ◌+◌, ◌⊎◌, inl, inr, List, [], ◌∷◌, ◌++◌, length, take, refl, sym, subst, ◌∙◌, arith}
+use Rattle.std.specs.Prelude.{Contains, IsTrue}
 use Rattle.std.proofs.lemmas.Bool.{cases_lt}
-use Rattle.std.proofs.lemmas.List.{get_or_append_left, get_or_push, length_push, get_or-take, length-take-le}
+use Rattle.std.proofs.lemmas.List.{get_or_append_left, get_or_push, length_push, get_or-take, get_or_default, length-take-le}
 use Rattle.std.proofs.lemmas.Option.{slice_get_within}
-use Rattle.tv_struct.specs.StructureForm.{StructureForm, arities_of}
+use Rattle.tv_struct.specs.StructureForm.{StructureForm, arities_of, summary_at}
 use Rattle.tv_embed.specs.Maps.{image_of}
 use Rattle.tv_embed.specs.Fits.{ValueFits, TupleFits, IsCandidate, PairFits, JoinsUp, FitsSoFar}
 
@@ -107,3 +108,9 @@ FitsSoFar-take small large images n le fits = record {
 
     same : (u : ℕ) → u < n → image_of images u ≡ image_of (take n images) u
     same u lt = sym (get_or-take n images u 0 lt)
+
+-- nothing joins up with an ordinary individual that is an image already
+pub joins-taken : (small large : StructureForm) (images : List ℕ) (w : ℕ) → Contains images w → ¬ IsTrue (summary_at large w)
+    → JoinsUp small large images w → ⊥
+joins-taken small large images w (x, lt, at) ordinary joins =
+    ordinary ((joins x lt).several (sym (get_or_default images x 0 w lt ∙ at)))

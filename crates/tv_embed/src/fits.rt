@@ -1,12 +1,13 @@
 //! Whether individuals may go to individuals: what an embedding asks of one and of two of them.
 
-ghost use Rattle.std.specs.Prelude.{◌≡◌, ◌<◌, ◌↔◌, ℕ, List, [], ◌∷◌, length, Some, slice_get, IsTrue};
+ghost use Rattle.std.specs.Prelude.{◌≡◌, ◌<◌, ◌↔◌, ℕ, List, [], ◌∷◌, length, Some, slice_get, IsTrue, Contains};
 ghost use Rattle.tv_struct.specs.StructureForm.{StructureForm, arities_of, summary_at};
 ghost use Rattle.tv_struct.specs.TableForm.{AreIndividuals};
 ghost use Rattle.tv_struct.specs.TupleForm.{tuple_of};
 ghost use Rattle.tv_embed.specs.Fits.{ValueFits, TupleFits, IsCandidate, PairFits, JoinsUp};
 ghost use Rattle.tv_embed.specs.Maps.{image_of};
 
+use crate::maps::is_image;
 use tv_model::PredId;
 use tv_struct::{Structure, Tuple};
 
@@ -83,6 +84,9 @@ pub fn joins_up(small: &Structure, large: &Structure, images: &[u32], w: u32) ->
     requires in_large { w < large.now.size }
     ensures { IsTrue result ↔ JoinsUp small.now large.now images.now w }
 {
+    if is_taken(large, images, w) {
+        return false;
+    }
     let _ = small.size();
     let u = images.len() as u32;
     for (x, y) in images.iter().enumerate() {
@@ -91,4 +95,13 @@ pub fn joins_up(small: &Structure, large: &Structure, images: &[u32], w: u32) ->
         }
     }
     true
+}
+
+/// Whether `w` is an image and stands for one cell alone.
+fn is_taken(large: &Structure, images: &[u32], w: u32) -> bool
+    requires { w < large.now.size }
+    ensures image { IsTrue result → Contains images.now w }
+    ensures ordinary { IsTrue result → ¬ IsTrue (summary_at large.now w) }
+{
+    !large.summary(w) && is_image(images, w)
 }
