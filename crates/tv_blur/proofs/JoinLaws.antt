@@ -1,50 +1,15 @@
 -- Joins of values, one value after the other.
-use Rattle.std.proofs.Common.{ℕ, ◌≡◌, ◌⊎◌, ◌<◌, ◌≤◌, ◌+◌, inl, inr, List, [], ◌∷◌, get_or, length, refl, sym, ap, subst, ◌∙◌, arith}
+use Rattle.std.proofs.Common.{ℕ, ◌≡◌, ◌⊎◌, ◌<◌, ◌≤◌, ◌+◌, inl, inr, List, [], ◌∷◌, get_or, length, refl, sym, subst, ◌∙◌, arith}
 use Rattle.std.specs.Prelude.{Contains}
 use Rattle.std.proofs.lemmas.Bool.{cases_lt}
 use Rattle.std.proofs.lemmas.List.{get_or_default}
 use Rattle.tv_kleene.specs.declared.K3.{K3}
-use Rattle.tv_kleene.specs.declared.K3.TheVariants.{No, Half, Yes}
 use Rattle.tv_kleene.specs.Kleene.{LiesUnder, join_of}
-use Rattle.tv_frame.proofs.EmbeddingLaws.{LiesUnder-trans}
+use Rattle.tv_kleene.proofs.Lattice.{LiesUnder-trans, join-left, join-right, join_least}
 use Rattle.tv_struct.specs.StructureForm.{StructureForm, value_at}
 use Rattle.tv_blur.specs.Merged.{IsJoin}
 use Rattle.tv_blur.specs.Classes.{IsAmongFirst, IsAmongMembers, IsValueAmong, IsMergedValue, class_at}
 use Rattle.tv_blur.proofs.MergedLaws.{IsJoin-like}
-
--- ---- two values
-
-under-left : (x y : K3) → LiesUnder x (join_of x y)
-under-left No No = inl refl
-under-left No Half = inr refl
-under-left No Yes = inr refl
-under-left Half No = inl refl
-under-left Half Half = inl refl
-under-left Half Yes = inl refl
-under-left Yes No = inr refl
-under-left Yes Half = inr refl
-under-left Yes Yes = inl refl
-
-under-right : (x y : K3) → LiesUnder y (join_of x y)
-under-right No No = inl refl
-under-right No Half = inl refl
-under-right No Yes = inr refl
-under-right Half No = inr refl
-under-right Half Half = inr refl
-under-right Half Yes = inr refl
-under-right Yes No = inr refl
-under-right Yes Half = inl refl
-under-right Yes Yes = inl refl
-
-join-twice : (x : K3) → join_of x x ≡ x
-join-twice No = refl
-join-twice Half = refl
-join-twice Yes = refl
-
-join-least : (x y l : K3) → LiesUnder x l → LiesUnder y l → LiesUnder (join_of x y) l
-join-least x y l (inr half) other = inr half
-join-least x y l (inl e) (inr half) = inr half
-join-least x y l (inl e) (inl f) = inl (ap (λ z. join_of z y) (e ∙ sym f) ∙ join-twice y ∙ f)
 
 -- ---- values one after the other
 
@@ -62,16 +27,16 @@ pub join_next : (values : ℕ → K3 → Type 0) (n : ℕ) (k x : K3) → IsJoin
 join_next values n k x join more = record {
   above = λ j (i, lt, v). above j i lt v (cases_lt i n);
   least = λ l each.
-      join-least k x l (join.least l (λ j (i, lt, v). each j (i, omega arith, v)))
+      join_least k x l (join.least l (λ j (i, lt, v). each j (i, omega arith, v)))
       (more.least l (λ j v. each j (n, omega arith, v)));
 }
   where
     above : (j : K3) (i : ℕ) → i < n + 1 → values i j → (i < n) ⊎ (n ≤ i) → LiesUnder j (join_of k x)
-    above j i lt v (inl before) = LiesUnder-trans j k (join_of k x) (join.above j (i, before, v)) (under-left k x)
+    above j i lt v (inl before) = LiesUnder-trans j k (join_of k x) (join.above j (i, before, v)) (join-left k x)
     above j i lt v (inr after) =
         let P : ℕ → Type 0 = λ m. values m j
         in let last : i ≡ n = omega arith
-        in LiesUnder-trans j x (join_of k x) (more.above j (subst P last v)) (under-right k x)
+        in LiesUnder-trans j x (join_of k x) (more.above j (subst P last v)) (join-right k x)
 
 -- all members were joined
 pub join_members : (values : ℕ → K3 → Type 0) (members : List ℕ) (k : K3)

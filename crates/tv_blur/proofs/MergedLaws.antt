@@ -5,6 +5,7 @@ use Rattle.std.proofs.lemmas.List.Elements.{All-map}
 use Rattle.tv_kleene.specs.declared.K3.{K3}
 use Rattle.tv_kleene.specs.declared.K3.TheVariants.{Half}
 use Rattle.tv_kleene.specs.Kleene.{LiesUnder}
+use Rattle.tv_kleene.proofs.Lattice.{LiesUnder-antisym}
 use Rattle.tv_frame.specs.LogicalStructure.{LogicalStructure}
 use Rattle.tv_stable.specs.Laws.{IsImage}
 use Rattle.tv_stable.proofs.Images.{images_are_stable}
@@ -12,12 +13,6 @@ use Rattle.tv_blur.specs.Merged.{IsJoin, IsMember, HasSummary, HasSeveral, IsMer
 use Rattle.tv_blur.specs.Laws.{MergingCovers, MergingKeepsStable}
 
 -- ---- joins
-
--- values that lie under each other are equal
-LiesUnder-antisym : (x y : K3) → LiesUnder x y → LiesUnder y x → x ≡ y
-LiesUnder-antisym x y (inl e) back = e
-LiesUnder-antisym x y (inr half) (inl e) = sym e
-LiesUnder-antisym x y (inr half) (inr other) = other ∙ sym half
 
 -- the join of values that are all one value is that value
 pub IsJoin-one : (values : K3 → Type 0) (k x : K3) → IsJoin values x → values k → ((j : K3) → values j → j ≡ k) → x ≡ k
