@@ -14,7 +14,8 @@ use Rattle.tv_value.proofs.Embedded.{embedding_theorem}
 use Rattle.tv_value.proofs.InHeaps.{definite_values_are_sound}
 use Rattle.tv_eval.specs.Sound.{CoversValues}
 
-on_mentioned : (f : Form) (m : ℕ → ℕ) (s t : LogicalStructure) → Embeds m s t → EmbedsOn (λ pred. Mentions pred f) m s t
+on_mentioned : (f : Form) (m : ℕ → ℕ) (s t : LogicalStructure) → Embeds m s t → EmbedsOn
+    (λ pred. Mentions pred f) m s t
 on_mentioned f m s t e = record {
   into = e.into;
   onto = e.onto;

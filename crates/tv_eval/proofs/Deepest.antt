@@ -11,7 +11,8 @@ pub fold-capped : {X : Type 0} (g : X → ℕ) (m n : ℕ) (xs : List X)
 fold-capped g m n [] = omega arith
 fold-capped g m n (x ∷ xs) = fold-capped g m (max n (min (g x) m)) xs ∙ omega arith
 
-pub deepest-map : {X Y : Type 0} (g : Y → ℕ) (f : X → Y) (xs : List X) → deepest g (map f xs) ≡ deepest (λ x. g (f x)) xs
+pub deepest-map : {X Y : Type 0} (g : Y → ℕ) (f : X → Y) (xs : List X) → deepest g (map f xs) ≡ deepest
+    (λ x. g (f x)) xs
 deepest-map g f [] = refl
 deepest-map g f (x ∷ xs) = ap (λ n. max (g (f x)) n) (deepest-map g f xs)
 

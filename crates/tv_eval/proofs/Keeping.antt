@@ -1,5 +1,5 @@
 -- A closure whose body has no free variables but its own two has the same values under every assignment.
-use Rattle.std.proofs.Common.{ℕ, ◌≡◌, ◌≢◌, ◌<◌, ◌≤◌, ◌+◌, ◌⊎◌, inl, inr, ⊎_elim, zero, suc, List, [], ◌∷◌, length, set, get_or, Some, refl, sym, ap, subst, arith, ◌∙◌, eqb, eq-eqb, ne_eqb}
+use Rattle.std.proofs.Common.{ℕ, ◌≡◌, ◌≢◌, ◌<◌, ◌+◌, ◌⊎◌, inl, inr, ⊎_elim, zero, suc, List, [], ◌∷◌, length, set, get_or, Some, refl, sym, ap, subst, arith, ◌∙◌, eqb, eq-eqb, ne_eqb}
 use Rattle.std.specs.Prelude.{slice_get, unwrap_or}
 use Rattle.std.specs.List.{range_with_len}
 use Rattle.std.proofs.lemmas.Bool.{cases_eq, cond-true, cond-false}
@@ -16,7 +16,12 @@ use Rattle.tv_eval.specs.declared.kept.Edges.{Edges}
 use Rattle.tv_eval.specs.declared.kept.Kept.{Kept}
 use Rattle.tv_eval.specs.HoldsClosure.{HoldsClosure}
 use Rattle.tv_eval.specs.Keeps.{Keeps, StandsAt}
-use Rattle.tv_eval.specs.Rows.{entry_in}
+use Rattle.tv_row.specs.Places.{entry_in}
+use Rattle.tv_eval.specs.Rows.{IsSquare, IsPart, part_at, part_of}
+use Rattle.tv_eval.specs.declared.relation.Part.{Part}
+use Rattle.tv_eval.specs.declared.relation.Part.TheVariants.{From, To, Diagonal}
+use Rattle.tv_kleene.specs.declared.K3.TheVariants.{No}
+use Rattle.std.proofs.lemmas.List.FromFn.{fill_by_all, length-map-range_with_len, get_or-map-range_with_len}
 use Rattle.tv_eval.proofs.FreeBelow.{free-below}
 use Rattle.tv_eval.proofs.Loops.{closed-value}
 
@@ -43,7 +48,7 @@ pub holds_under_each : (s : StructureForm) (a b : Assignment) (left right : ℕ)
     → ((v : ℕ) → v < 32 → IsFree v f → (v ≡ left) ⊎ (v ≡ right))
     → HoldsClosure s a left right f rows → HoldsClosure s b left right f rows
 holds_under_each s a b left right f rows over own h = record {
-  size = h.size;
+  square = h.square;
   entries = λ u w lu lw. h.entries u w lu lw
       ∙ best_walk-same (λ x. Unit {0})
       (λ x y. value (structure_of s) (put (put a left x) right y) f)
@@ -52,23 +57,51 @@ holds_under_each s a b left right f rows over own h = record {
 }
   where
     same : (x y : ℕ)
-        → value (structure_of s) (put (put a left x) right y) f ≡ value (structure_of s) (put (put b left x) right y) f
+        → value (structure_of s) (put (put a left x) right y) f ≡ value (structure_of s)
+        (put (put b left x) right y) f
     same x y =
         only_free_variables_matter (structure_of s) f (put (put a left x) right y) (put (put b left x) right y)
         (λ v free. put-agrees a b left right x y v (own v (free-below (arities_of s) f v over free) free))
 
 -- edges that were filled in and closed are held
-pub closed_are_held : (s : StructureForm) (a : Assignment) (left right : ℕ) (f : Form) (filled closed : List (List K3))
-    → s.size ≤ length closed
-    → ((u w : ℕ) → u < s.size → w < s.size → entry_in filled u w ≡ value (structure_of s) (put (put a left u) right w) f)
-    → ((u w : ℕ) → u < s.size → w < s.size → entry_in closed u w ≡ best_walk (entry_in filled) (range_with_len 0 s.size) u w)
+pub closed_are_held : (s : StructureForm) (a : Assignment) (left right : ℕ) (f : Form)
+    (filled closed : List (List K3))
+    → IsSquare s.size closed
+    → ((u w : ℕ) → u < s.size → w < s.size → entry_in filled u w ≡ value (structure_of s)
+    (put (put a left u) right w) f)
+    → ((u w : ℕ) → u < s.size → w < s.size → entry_in closed u w ≡ best_walk (entry_in filled)
+    (range_with_len 0 s.size) u w)
     → HoldsClosure s a left right f closed
-closed_are_held s a left right f filled closed size fills closes = record {
-  size = size;
+closed_are_held s a left right f filled closed square fills closes = record {
+  square = square;
   entries = λ u w lu lw.
-      closed-value (λ x y. value (structure_of s) (put (put a left x) right y) f) (entry_in filled) (entry_in closed) s.size
+      closed-value (λ x y. value (structure_of s) (put (put a left x) right y) f) (entry_in filled)
+      (entry_in closed) s.size
       fills closes u w lu lw;
 }
+
+-- what is read of held edges are the closure's values
+pub part_held : (s : StructureForm) (a : Assignment) (left right : ℕ) (f : Form) (rows : List (List K3)) (n : ℕ)
+    (part : Part)
+    → n ≡ s.size → IsPart s.size part → HoldsClosure s a left right f rows
+    → part_of n part (entry_in rows)
+    ≡ part_of s.size part (best_walk (λ x y. value (structure_of s) (put (put a left x) right y) f)
+    (range_with_len 0 s.size))
+part_held s a left right f rows n part e is h =
+    ap (λ m. part_of m part (entry_in rows)) e
+    ∙ fill_by_all (part_at part closed) (part_of s.size part (entry_in rows)) s.size No
+    (length-map-range_with_len (part_at part (entry_in rows)) 0 s.size)
+    (λ u lt. get_or-map-range_with_len (part_at part (entry_in rows)) 0 s.size u u No lt (omega arith) ∙ each
+    part is u lt)
+  where
+    closed : ℕ → ℕ → K3
+    closed = best_walk (λ x y. value (structure_of s) (put (put a left x) right y) f) (range_with_len 0 s.size)
+
+    each : (part : Part) → IsPart s.size part → (u : ℕ) → u < s.size → part_at part (entry_in rows) u ≡ part_at
+        part closed u
+    each (From x) is u lt = h.entries x u is lt
+    each (To x) is u lt = h.entries u x lt is
+    each Diagonal is u lt = h.entries u u lt lt
 
 -- one more variable was looked at
 pub own-next : (body : Form) (left right k : ℕ) → ((v : ℕ) → v < k → IsFree v body → (v ≡ left) ⊎ (v ≡ right))
@@ -107,7 +140,8 @@ put-elsewhere (y ∷ xs) (suc i) zero x ne = refl
 put-elsewhere (y ∷ xs) (suc i) (suc j) x ne = put-elsewhere xs i j x (λ e. ne (ap suc e))
 
 -- what stands at a place of the closure is held
-pub found_is_held : (s : StructureForm) (a : Assignment) (kept : Kept) (rooms : List (List (List K3))) (k left right : ℕ) (body : Form)
+pub found_is_held : (s : StructureForm) (a : Assignment) (kept : Kept) (rooms : List (List (List K3)))
+    (k left right : ℕ) (body : Form)
     (room : List (List K3)) → Keeps s kept rooms → StandsAt kept k left right body → k < length rooms
     → room ≡ get_or rooms k room → HoldsClosure s a left right body room
 found_is_held s a kept rooms k left right body room keeps stands lt is =
@@ -116,13 +150,15 @@ found_is_held s a kept rooms k left right body room keeps stands lt is =
     in subst (λ n. HoldsClosure s a n right body room) stands.same_left
     (subst (λ n. HoldsClosure s a e.left.0 n body room) stands.same_right
     (subst (λ f. HoldsClosure s a e.left.0 e.right.0 f room) stands.same_body
-    (subst (λ rows. HoldsClosure s a e.left.0 e.right.0 (form_of e.body.now) rows) read (keeps.each k e a stands.there))))
+    (subst (λ rows. HoldsClosure s a e.left.0 e.right.0 (form_of e.body.now) rows) read
+    (keeps.each k e a stands.there))))
 
 same-edges : (e other : Edges) → Some (Some e) ≡ Some (Some other) → e ≡ other
 same-edges e other is = ap (λ o. unwrap_or (unwrap_or o (Some e)) e) is
 
 -- one more closure is kept
-pub keeps_one_more : (s : StructureForm) (a : Assignment) (kept : Kept) (rooms : List (List (List K3))) (place count : ℕ) (e : Edges)
+pub keeps_one_more : (s : StructureForm) (a : Assignment) (kept : Kept) (rooms : List (List (List K3)))
+    (place count : ℕ) (e : Edges)
     (rows : List (List K3)) → Keeps s kept rooms → place < length kept.closures → place < length rooms
     → ((v : ℕ) → v < 32 → IsFree v (form_of e.body.now) → (v ≡ e.left.0) ⊎ (v ≡ e.right.0))
     → IsFormulaOver (arities_of s) (form_of e.body.now)
@@ -132,7 +168,8 @@ keeps_one_more s a kept rooms place count e rows keeps among within own over hel
   each = λ k other b at. ⊎_elim (λ here. new k other b at here) (λ apart. old k other b at apart) (cases_eq k place);
 }
   where
-    new : (k : ℕ) (other : Edges) (b : Assignment) → slice_get (set kept.closures place (Some e)) k ≡ Some (Some other) → k ≡ place
+    new : (k : ℕ) (other : Edges) (b : Assignment) → slice_get (set kept.closures place (Some e)) k ≡ Some
+        (Some other) → k ≡ place
         → HoldsClosure s b other.left.0 other.right.0 (form_of other.body.now) (get_or (set rooms place rows) k [])
     new k other b at here =
         let there : slice_get (set kept.closures place (Some e)) place ≡ Some (Some other) =
@@ -140,13 +177,16 @@ keeps_one_more s a kept rooms place count e rows keeps among within own over hel
         in let is : e ≡ other = same-edges e other (sym (put-here kept.closures place (Some e) among) ∙ there)
         in let read : rows ≡ get_or (set rooms place rows) k [] =
         sym (ap (λ n. get_or (set rooms place rows) n []) here ∙ get_or-set_same rooms place rows [] within)
-        in subst (λ x. HoldsClosure s b x.left.0 x.right.0 (form_of x.body.now) (get_or (set rooms place rows) k [])) is
+        in subst (λ x. HoldsClosure s b x.left.0 x.right.0 (form_of x.body.now)
+        (get_or (set rooms place rows) k [])) is
         (subst (λ r. HoldsClosure s b e.left.0 e.right.0 (form_of e.body.now) r) read
         (holds_under_each s a b e.left.0 e.right.0 (form_of e.body.now) rows over own held))
 
-    old : (k : ℕ) (other : Edges) (b : Assignment) → slice_get (set kept.closures place (Some e)) k ≡ Some (Some other) → k ≢ place
+    old : (k : ℕ) (other : Edges) (b : Assignment) → slice_get (set kept.closures place (Some e)) k ≡ Some
+        (Some other) → k ≢ place
         → HoldsClosure s b other.left.0 other.right.0 (form_of other.body.now) (get_or (set rooms place rows) k [])
     old k other b at apart =
-        let there : slice_get kept.closures k ≡ Some (Some other) = sym (put-elsewhere kept.closures place k (Some e) apart) ∙ at
+        let there : slice_get kept.closures k ≡ Some (Some other) = sym
+        (put-elsewhere kept.closures place k (Some e) apart) ∙ at
         in subst (λ r. HoldsClosure s b other.left.0 other.right.0 (form_of other.body.now) r)
         (sym (get_or-set_other rooms place k rows [] apart)) (keeps.each k other b there)

@@ -1,3 +1,4 @@
+pub mod AlongLaws
 pub mod Covers
 pub mod Deepest
 pub mod FreeBelow

@@ -74,12 +74,14 @@ least-end g n u found whole le before =
     in sym (smaller-Yes found) ∙ subst At none before
 
 -- Yes is the greatest, and No the least
-pub greatest-yes : (g : ℕ → K3) (us : List ℕ) (next whole : K3) → larger_of next (greatest_of g us) ≡ whole → next ≡ Yes → next ≡ whole
+pub greatest-yes : (g : ℕ → K3) (us : List ℕ) (next whole : K3) → larger_of next (greatest_of g us) ≡ whole →
+    next ≡ Yes → next ≡ whole
 greatest-yes g us next whole before is =
     let At : K3 → Type 0 = λ k. larger_of k (greatest_of g us) ≡ whole
     in is ∙ subst At is before
 
-pub least-no : (g : ℕ → K3) (us : List ℕ) (next whole : K3) → smaller_of next (least_of g us) ≡ whole → next ≡ No → next ≡ whole
+pub least-no : (g : ℕ → K3) (us : List ℕ) (next whole : K3) → smaller_of next (least_of g us) ≡ whole → next ≡
+    No → next ≡ whole
 least-no g us next whole before is =
     let At : K3 → Type 0 = λ k. smaller_of k (least_of g us) ≡ whole
     in is ∙ subst At is before

@@ -20,8 +20,10 @@ some-below n (Some u) h = h
 pub individual_of : (n : ℕ) (places : List (Option ℕ)) (v : ℕ) → IsAssigned n places v → assignment_of places v < n
 individual_of n places v h = some-below n (place_of places v) h
 
-pub fewer_levels : (size few many : ℕ) (sizes : List ℕ) → few ≤ many → HasRooms size many sizes → HasRooms size few sizes
-fewer_levels size few many sizes le h = let l : many ≤ length sizes = h.count in record { count = omega arith; each = h.each }
+pub fewer_levels : (size few many : ℕ) (sizes : List ℕ) → few ≤ many → HasRooms size many sizes → HasRooms size
+    few sizes
+fewer_levels size few many sizes le h = let l : many ≤ length sizes = h.count in record
+    { count = omega arith; each = h.each }
 
 pub can-not : (s : StructureForm) (places : List (Option ℕ)) (sizes : List ℕ) (f : Form)
     → CanEvaluate s places sizes (FNot f) → CanEvaluate s places sizes f
@@ -111,10 +113,12 @@ pub record SplitsRooms (size levels : ℕ) (front back : List (List (List K3))) 
   pub first : (d : List (List K3)) → size ≤ length (get_or front 0 d)
   pub behind : HasRooms size levels (sizes_of back)
 
-pub rooms-split : (size levels : ℕ) (rooms front back : List (List (List K3))) → rooms ≡ front ++ back → length front ≡ 1
+pub rooms-split : (size levels : ℕ) (rooms front back : List (List (List K3))) → rooms ≡ front ++ back → length
+    front ≡ 1
     → HasRooms size (levels + 1) (sizes_of rooms) → SplitsRooms size levels front back
 rooms-split size levels rooms [] back e one h = absurd (omega (arith, one))
-rooms-split size levels rooms (room ∷ []) back e one h = parts (subst (λ rs. HasRooms size (levels + 1) (sizes_of rs)) e h)
+rooms-split size levels rooms (room ∷ []) back e one h = parts
+    (subst (λ rs. HasRooms size (levels + 1) (sizes_of rs)) e h)
   where
     parts : HasRooms size (levels + 1) (length room ∷ sizes_of back) → SplitsRooms size levels (room ∷ []) back
     parts own =
@@ -138,11 +142,88 @@ entry_of_one s a sizes pred v h = record {
 }
 
 pub entry_of_two : (s : StructureForm) (a : List (Option ℕ)) (sizes : List ℕ) (pred v w : ℕ)
-    → CanEvaluate s a sizes (FAtom pred (v ∷ w ∷ [])) → HasEntry (table_of s) pred (assignment_of a v ∷ assignment_of a w ∷ [])
+    → CanEvaluate s a sizes (FAtom pred (v ∷ w ∷ [])) → HasEntry (table_of s) pred
+    (assignment_of a v ∷ assignment_of a w ∷ [])
 entry_of_two s a sizes pred v w h = record {
   arity = h.formula.0;
   individuals = (
     individual_of s.size a v (h.assigned v (Contains-here v (w ∷ []))),
     (individual_of s.size a w (h.assigned w (Contains-there v w (w ∷ []) (Contains-here w []))), tt),
   );
+}
+
+-- ---- rows: a variable is put for all individuals
+
+pub row-and : (s : StructureForm) (a : List (Option ℕ)) (sizes : List ℕ) (v : ℕ) (f g : Form)
+    → CanEvaluate s a sizes (FExists v (FAnd f g)) → CanEvaluate s a sizes (FExists v f) × CanEvaluate s a sizes
+    (FExists v g)
+row-and s a sizes v f g h = (
+  record {
+    formula = (h.formula.0, h.formula.1.0);
+    assigned = λ w free. h.assigned w (free.0, inl free.1);
+    rooms = fewer_levels s.size (nesting f) (max (nesting f) (nesting g)) sizes (omega arith) h.rooms;
+  },
+  record {
+    formula = (h.formula.0, h.formula.1.1);
+    assigned = λ w free. h.assigned w (free.0, inr free.1);
+    rooms = fewer_levels s.size (nesting g) (max (nesting f) (nesting g)) sizes (omega arith) h.rooms;
+  },
+)
+
+pub row-or : (s : StructureForm) (a : List (Option ℕ)) (sizes : List ℕ) (v : ℕ) (f g : Form)
+    → CanEvaluate s a sizes (FExists v (FOr f g)) → CanEvaluate s a sizes (FExists v f) × CanEvaluate s a sizes
+    (FExists v g)
+row-or s a sizes v f g h = row-and s a sizes v f g
+    (record { formula = h.formula; assigned = h.assigned; rooms = h.rooms })
+
+pub row-iff : (s : StructureForm) (a : List (Option ℕ)) (sizes : List ℕ) (v : ℕ) (f g : Form)
+    → CanEvaluate s a sizes (FExists v (FIff f g)) → CanEvaluate s a sizes (FExists v f) × CanEvaluate s a sizes
+    (FExists v g)
+row-iff s a sizes v f g h = row-and s a sizes v f g
+    (record { formula = h.formula; assigned = h.assigned; rooms = h.rooms })
+
+pub row-cond : (s : StructureForm) (a : List (Option ℕ)) (sizes : List ℕ) (v : ℕ) (c f g : Form)
+    → CanEvaluate s a sizes (FExists v (FCond c f g))
+    → CanEvaluate s a sizes (FExists v c) × CanEvaluate s a sizes (FExists v f) × CanEvaluate s a sizes (FExists v g)
+row-cond s a sizes v c f g h =
+    let deepest : ℕ = max (nesting c) (max (nesting f) (nesting g))
+    in (
+      record {
+        formula = (h.formula.0, h.formula.1.0);
+        assigned = λ w free. h.assigned w (free.0, inl free.1);
+        rooms = fewer_levels s.size (nesting c) deepest sizes (omega arith) h.rooms;
+      },
+      record {
+        formula = (h.formula.0, h.formula.1.1);
+        assigned = λ w free. h.assigned w (free.0, inr (inl free.1));
+        rooms = fewer_levels s.size (nesting f) deepest sizes (omega arith) h.rooms;
+      },
+      record {
+        formula = (h.formula.0, h.formula.1.2);
+        assigned = λ w free. h.assigned w (free.0, inr (inr free.1));
+        rooms = fewer_levels s.size (nesting g) deepest sizes (omega arith) h.rooms;
+      },
+    )
+
+-- the body under a quantifier, with an individual put for its variable
+pub row-put : (s : StructureForm) (a b : List (Option ℕ)) (sizes : List ℕ) (v w x : ℕ) (f : Form)
+    → CanEvaluate s a sizes (FExists v (FExists w f)) → x < s.size → IsPut a w x b → CanEvaluate s b sizes
+    (FExists v f)
+row-put s a b sizes v w x f h lt put = record {
+  formula = (h.formula.0, h.formula.1.1);
+  assigned = λ y free. assigned-put s.size a b w x y put lt (λ ne. h.assigned y (free.0, (ne, free.1)));
+  rooms = h.rooms;
+}
+
+-- what a closure's body needs where its edges don't depend on the variable
+pub row-close : (s : StructureForm) (a : List (Option ℕ)) (sizes : List ℕ) (v from to left right : ℕ) (f : Form)
+    → CanEvaluate s a sizes (FExists v (FClosure from to left right f)) → (¬ ((v ≢ left) × (v ≢ right) × IsFree v f))
+    → CanEvaluate s a sizes (FExists left (FExists right f))
+row-close s a sizes v from to left right f h steady = record {
+  formula = (h.formula.1.2, (h.formula.1.3, h.formula.1.5));
+  assigned = λ w free. h.assigned w (
+    λ e. steady (λ l. free.0 (e ∙ l), λ r. free.1.0 (e ∙ r), subst (λ n. IsFree n f) e free.1.1),
+    inr (inr (free.0, free.1.0, free.1.1)),
+  );
+  rooms = fewer_levels s.size (nesting f) (nesting f + 1) sizes (omega arith) h.rooms;
 }

@@ -1,5 +1,5 @@
 -- The formulas of a program, and what a scratch that was made for it has room for.
-use Rattle.std.proofs.Common.{ℕ, ◌≡◌, ◌≤◌, ◌+◌, List, [], ◌∷◌, length, map, max, Some, Contains, refl, sym, ap, subst, ◌∙◌, arith}
+use Rattle.std.proofs.Common.{ℕ, ◌≡◌, ◌≤◌, ◌+◌, List, [], ◌∷◌, map, max, Contains, refl, sym, ap, subst, ◌∙◌, arith}
 use Rattle.tv_model.specs.declared.program.Pred.{Pred}
 use Rattle.tv_model.specs.Form.{Form, FZero, FOne, FAtom, FIsNew, FSame, FNot, FAnd, FOr, FIff, FCond, FExists, FForall, FClosure, height}
 use Rattle.tv_model.specs.Program.{ProgramForm, PredForm, RuleForm, UpdateForm, MessageForm, ActionForm, program_of, pred_of}
@@ -12,7 +12,8 @@ use Rattle.tv_eval.proofs.Deepest.{deepest-above}
 
 -- no action is higher than the program
 in_action : (p : ProgramForm) (a : ActionForm) → Contains p.actions a → action_height a ≤ program_height p
-in_action p a at = let below : action_height a ≤ deepest action_height p.actions = deepest-above action_height p.actions a at in omega arith
+in_action p a at = let below : action_height a ≤ deepest action_height p.actions = deepest-above action_height
+    p.actions a at in omega arith
 
 pub within_height : FormulasAreWithinHeight
 within_height p = record {
@@ -28,13 +29,15 @@ within_height p = record {
   preconditions = λ a f at is.
       let own : pre_height a.pre ≡ height f = ap pre_height is in within a (height f) at (omega arith);
   focus = λ a f at of.
-      let below : height f ≤ deepest height a.focus = deepest-above height a.focus f of in within a (height f) at (omega arith);
+      let below : height f ≤ deepest height a.focus = deepest-above height a.focus f of in within a (height f)
+      at (omega arith);
   messages = λ a m at of.
       let below : height m.cond ≤ deepest (λ k. height k.cond) a.messages =
       deepest-above (λ (k : MessageForm). height k.cond) a.messages m of
       in within a (height m.cond) at (omega arith);
   retains = λ a r at is.
-      let own : retain_height a.retain ≡ height r.keep = ap retain_height is in within a (height r.keep) at (omega arith);
+      let own : retain_height a.retain ≡ height r.keep = ap retain_height is in within a (height r.keep) at
+      (omega arith);
   updates = λ a w f at of is.
       let below : change_height w.change ≤ deepest (λ k. change_height k.change) a.updates =
       deepest-above (λ (k : UpdateForm). change_height k.change) a.updates w of

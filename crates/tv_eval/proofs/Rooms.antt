@@ -22,11 +22,16 @@ rooms_for scratch rooms size f n is each fits =
       each = λ k d lt. let own : get_or (sizes_of rooms) k d ≡ size = each k d lt in omega arith;
     }
 
-written : {X : Type 0} (new items : List X) → length new ≡ length items → take (length items) (new ++ drop (length new) items) ≡ new
+written : {X : Type 0} (new items : List X) → length new ≡ length items → take (length items)
+    (new ++ drop (length new) items) ≡ new
 written [] [] e = refl
 written [] (y ∷ items) e = absurd (omega arith)
 written (x ∷ new) [] e = absurd (omega arith)
 written (x ∷ new) (y ∷ items) e = ap (λ xs. x ∷ xs) (written new items (omega arith))
+
+pub written_items : {X : Type 0} (n : ℕ) (new items : List X) → n ≡ length items → length new ≡ length items
+    → take n (new ++ drop (length new) items) ≡ new
+written_items n new items e len = rw e (written new items len)
 
 -- rooms of the same sizes, written back, have the sizes that they had
 pub written_back : (size n : ℕ) (new items : List (List (List K3))) → n ≡ length items → sizes_of new ≡ sizes_of items

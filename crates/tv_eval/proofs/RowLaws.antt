@@ -1,14 +1,16 @@
 -- How the entries of a relation read, and how walks grow by one stop after the other.
-use Rattle.std.proofs.Common.{ℕ, ◌≡◌, ◌≢◌, ◌<◌, ◌≤◌, ◌+◌, ◌-◌, ◌⊎◌, inl, inr, ⊎_elim, zero, suc, List, [], ◌∷◌, length, get_or, set, replicate, Option, None, refl, sym, ap, ◌∙◌, arith}
+use Rattle.std.proofs.Common.{ℕ, ◌≡◌, ◌≢◌, ◌<◌, ◌≤◌, ◌+◌, ◌-◌, ⊎_elim, zero, suc, List, [], ◌∷◌, length, map, get_or, set, replicate, Option, None, refl, sym, ap, ◌∙◌, arith}
 use Rattle.std.specs.List.{range_with_len}
 use Rattle.std.proofs.lemmas.Bool.{cases_eq, cases_lt}
-use Rattle.std.proofs.lemmas.List.{length-replicate, get_or-set_same, get_or-set_other}
-use Rattle.std.proofs.lemmas.List.Elements.{All-replicate}
+use Rattle.std.proofs.lemmas.List.{length-set, length-map, get_or-map, get_or-set_same, get_or-set_other}
 use Rattle.tv_kleene.specs.declared.K3.{K3}
 use Rattle.tv_kleene.specs.declared.K3.TheVariants.{No, Half, Yes}
 use Rattle.tv_kleene.specs.Kleene.{smaller_of, larger_of}
 use Rattle.tv_value.specs.Value.{best_walk}
-use Rattle.tv_eval.specs.Rows.{entry_in, with_entry, IsSquare, through}
+use Rattle.tv_row.specs.Bits.{paired}
+use Rattle.tv_row.specs.Places.{entry_in}
+use Rattle.tv_row.proofs.WordOps.{length-paired, get_or-paired}
+use Rattle.tv_eval.specs.Rows.{IsSquare, through}
 
 -- a list of None has None at each place
 pub nones : (n v : ℕ) → get_or {A = Option ℕ} (replicate n None) v None ≡ None
@@ -16,31 +18,47 @@ nones zero v = refl
 nones (suc n) zero = refl
 nones (suc n) (suc v) = nones n v
 
-pub square_of_no : (n : ℕ) → IsSquare (replicate n (replicate n No))
-square_of_no n =
-    All-replicate (λ row. length row ≡ length (replicate n (replicate n No))) n (replicate n No)
-    (length-replicate n No ∙ sym (length-replicate n (replicate n No)))
+-- one row put into a square
+module _ (rows : List (List K3)) (n u : ℕ) (row : List K3) (square : IsSquare n rows) (lu : u < n)
+    (len : length row ≡ n) where
+  pub put_square : IsSquare n (set rows u row)
+  put_square = record {
+    rows_are = omega (arith, square.rows_are, length-set rows u row);
+    columns = λ v lv.
+        ⊎_elim
+        (λ e. ap (λ i. length (get_or (set rows u row) i [])) e ∙ ap length
+        (get_or-set_same rows u row [] (omega (arith, square.rows_are))) ∙ len)
+        (λ ne. ap length (get_or-set_other rows u v row [] ne) ∙ square.columns v lv)
+        (cases_eq v u);
+  }
 
--- what was put is read
-pub entry_put : (rows : List (List K3)) (u w : ℕ) (k : K3) → IsSquare rows → u < length rows → w < length rows
-    → entry_in (with_entry rows u w k) u w ≡ k
-entry_put rows u w k square lu lw =
-    let row : List K3 = set (get_or rows u []) w k
-    in let in_row : w < length (get_or rows u []) = rw (square u [] lu) lw
-    in ap (λ r. get_or r w No) (get_or-set_same rows u row [] lu) ∙ get_or-set_same (get_or rows u []) w k No in_row
+  pub put_here : (w : ℕ) → entry_in (set rows u row) u w ≡ get_or row w No
+  put_here w = ap (λ r. get_or r w No) (get_or-set_same rows u row [] (omega (arith, square.rows_are)))
 
--- and no other entry changes
-pub entry_kept : (rows : List (List K3)) (u w : ℕ) (k : K3) (v x : ℕ) → u < length rows → (v ≢ u) ⊎ (x ≢ w)
-    → entry_in (with_entry rows u w k) v x ≡ entry_in rows v x
-entry_kept rows u w k v x lu (inl other) =
-    ap (λ r. get_or r x No) (get_or-set_other rows u v (set (get_or rows u []) w k) [] other)
-entry_kept rows u w k v x lu (inr other) =
-    ⊎_elim
-    (λ e. rw e
-    (ap (λ r. get_or r x No) (get_or-set_same rows u (set (get_or rows u []) w k) [] lu)
-    ∙ get_or-set_other (get_or rows u []) w x k No other))
-    (λ ne. ap (λ r. get_or r x No) (get_or-set_other rows u v (set (get_or rows u []) w k) [] ne))
-    (cases_eq v u)
+  pub put_there : (v w : ℕ) → v ≢ u → entry_in (set rows u row) v w ≡ entry_in rows v w
+  put_there v w ne = ap (λ r. get_or r w No) (get_or-set_other rows u v row [] ne)
+
+pub extended_long : (rows : List (List K3)) (n u stop : ℕ) (k : K3) → IsSquare n rows → u < n → stop < n
+    → length (paired larger_of (get_or rows u []) (map (smaller_of k) (get_or rows stop []))) ≡ n
+extended_long rows n u stop k square lu ls =
+    length-paired larger_of (get_or rows u []) (map (smaller_of k) (get_or rows stop []))
+    (square.columns u lu ∙ sym (length-map (get_or rows stop []) (smaller_of k) ∙ square.columns stop ls))
+    ∙ square.columns u lu
+
+-- a row or'ed with the capped row of the stop
+pub extended_row : (rows : List (List K3)) (n u stop w : ℕ) (k : K3) → IsSquare n rows → u < n → stop < n → w < n
+    → k ≡ entry_in rows u stop
+    → get_or (paired larger_of (get_or rows u []) (map (smaller_of k) (get_or rows stop []))) w No
+    ≡ through (entry_in rows) stop u w
+extended_row rows n u stop w k square lu ls lw e =
+    let row : List K3 = get_or rows u []
+    in let other : List K3 = get_or rows stop []
+    in let a : length row ≡ n = square.columns u lu
+    in let b : length other ≡ n = square.columns stop ls
+    in get_or-paired larger_of row (map (smaller_of k) other) w (omega arith)
+    (omega (arith, length-map other (smaller_of k)))
+    ∙ ap (larger_of (get_or row w No)) (get_or-map (smaller_of k) other w No No (omega arith) ∙ ap
+    (λ x. smaller_of x (get_or other w No)) e)
 
 -- ---- the order of truth
 
@@ -48,6 +66,11 @@ pub larger-No : (x : K3) → larger_of x No ≡ x
 larger-No No = refl
 larger-No Half = refl
 larger-No Yes = refl
+
+-- no edge to the stop: nothing is gained by it
+pub through-none : (edge : ℕ → ℕ → K3) (stop u w : ℕ) → edge u stop ≡ No → edge u w ≡ through edge stop u w
+through-none edge stop u w e = sym (ap (λ x. larger_of (edge u w) (smaller_of x (edge stop w))) e ∙ larger-No
+    (edge u w))
 
 pub larger-absorbs : (x y : K3) → larger_of y (smaller_of x y) ≡ y
 larger-absorbs No No = refl
@@ -91,7 +114,8 @@ pub best-further : (edge old new : ℕ → ℕ → K3) (n k j : ℕ) → j ≡ k
     → (u w : ℕ) → u < n → w < n → new u w ≡ best_walk edge (range_with_len k (n - k)) u w
 best-further edge old new n k j e lt before grown u w lu lw =
     let at : ℕ → ℕ → K3 = best_walk edge (range_with_len j (n - j))
-    in let step : through old k u w ≡ through at k u w = rw (before u w lu lw, before u k lu lt, before k w lt lw) refl
+    in let step : through old k u w ≡ through at k u w = rw
+    (before u w lu lw, before u k lu lt, before k w lt lw) refl
     in let front : range_with_len k (n - k) ≡ k ∷ range_with_len j (n - j) = rw e (range-front k n lt)
     in grown u w lu lw ∙ step ∙ ap (λ stops. best_walk edge stops u w) (sym front)
 
@@ -112,27 +136,6 @@ best-agrees edge other n (stop ∷ stops) agree below u w lu lw =
     refl
 
 -- ---- the loops that let walks pass through a stop
-
--- the next value of a row, put in its place
-pub extended-next : (old now new : ℕ → ℕ → K3) (u stop w : ℕ)
-    → ((x : ℕ) → x < w → now u x ≡ through old stop u x)
-    → ((x : ℕ) → w ≤ x → now u x ≡ old u x)
-    → ((v x : ℕ) → v ≢ u → now v x ≡ old v x)
-    → new u w ≡ larger_of (now u w) (smaller_of (old u stop) (now stop w))
-    → ((v x : ℕ) → (v ≢ u) ⊎ (x ≢ w) → new v x ≡ now v x)
-    → ((x : ℕ) → x < w + 1 → new u x ≡ through old stop u x)
-    × ((x : ℕ) → w + 1 ≤ x → new u x ≡ old u x)
-    × ((v x : ℕ) → v ≢ u → new v x ≡ old v x)
-extended-next old now new u stop w done left others written kept =
-    let from_stop : now stop w ≡ old stop w =
-    ⊎_elim (λ e. rw e (left w (omega arith))) (λ ne. others stop w ne) (cases_eq stop u)
-    in let here : new u w ≡ through old stop u w =
-    written ∙ (rw (left w (omega arith), from_stop) refl)
-    in (
-      λ x lx. ⊎_elim (λ e. rw e here) (λ ne. kept u x (inr ne) ∙ done x (omega arith)) (cases_eq x w),
-      λ x lx. kept u x (inr (λ e. omega arith)) ∙ left x (omega arith),
-      λ v x ne. kept v x (inl ne) ∙ others v x ne,
-    )
 
 -- the next row
 pub allowed-next : (old now new : ℕ → ℕ → K3) (n u stop : ℕ) → stop < n

@@ -29,7 +29,8 @@ HasOnlyOwn left right body = (v : ℕ) → IsVariable v → IsFree v body → (v
 
 -- there is a place for the closure: not all are taken, the room of the next is as large as the closed
 -- edges, and no variable but the closure's own two stands free in its body
-pub record HasPlace (kept : Kept) (edges : Edges) (closed : List (List K3)) (rooms : List (List (List K3))) : Type 0 where
+pub record HasPlace (kept : Kept) (edges : Edges) (closed : List (List K3)) (rooms : List (List (List K3))) :
+    Type 0 where
   pub place : kept.count < 8
   pub room : kept.count < length rooms
   pub size : length (slice_index_or rooms kept.count []) ≡ length closed

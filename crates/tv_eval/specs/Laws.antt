@@ -27,7 +27,8 @@ FormulasAreWithinHeight = (p : ProgramForm) → HasHeightsUpTo (program_height p
 -- than the program, in structures of up to that size
 abbrev pub MadeScratchesFit : Type 0
 MadeScratchesFit =
-    (p : ProgramForm) (n m : ℕ) (scratch : ScratchForm) (f : Form) → IsMadeFor p n scratch → height f ≤ program_height p + 4
+    (p : ProgramForm) (n m : ℕ) (scratch : ScratchForm) (f : Form) → IsMadeFor p n scratch → height f ≤
+    program_height p + 4
     → m ≤ n → Fits scratch f m
 
 -- a formula of a program can be evaluated in structures over the program's vocabulary

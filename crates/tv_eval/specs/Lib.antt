@@ -1,4 +1,6 @@
+pub mod Along
 pub mod AssignmentForm
+pub mod Bound
 pub mod CanEvaluate
 pub mod Formulas
 pub mod HoldsClosure

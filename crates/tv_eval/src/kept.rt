@@ -46,7 +46,8 @@ impl<'f> Kept<'f> {
     /// The closed edges, if they are kept.
     pub fn find<'r>(&self, edges: Edges<'_>, rooms: &'r [Relation]) -> Option<&'r Relation>
         ensures held { (s : StructureForm) (a : Assignment) → Keeps s self.now rooms.now
-            → IfSome result (λ r. HoldsClosure s a edges.entry.left.0 edges.entry.right.0 (form_of edges.entry.body.now) r.now) }
+            → IfSome result (λ r. HoldsClosure s a edges.entry.left.0 edges.entry.right.0
+            (form_of edges.entry.body.now) r.now) }
         ensures none { IfNone result ((k : ℕ) → k < 8 → k < length rooms.now
             → ¬ StandsAt self.now k edges.entry.left.0 edges.entry.right.0 (form_of edges.entry.body.now)) }
     {
@@ -60,7 +61,8 @@ impl<'f> Kept<'f> {
 
     fn stands_at(&self, k: usize, edges: Edges<'_>) -> bool
         requires { k < 8 }
-        ensures { IsTrue result ↔ StandsAt self.now k edges.entry.left.0 edges.entry.right.0 (form_of edges.entry.body.now) }
+        ensures { IsTrue result ↔ StandsAt self.now k edges.entry.left.0 edges.entry.right.0
+            (form_of edges.entry.body.now) }
     {
         let places = &self.closures[..];
         match places[k] {
@@ -114,8 +116,9 @@ fn is_closed(edges: Edges<'_>) -> bool
 }
 
 /// Whether the variable stands free in the body and isn't one of the closure's own.
-fn has_outer(edges: Edges<'_>, v: u8) -> bool
-    ensures { IsTrue result ↔ ((v ≢ edges.entry.left.0) × (v ≢ edges.entry.right.0) × IsFree v (form_of edges.entry.body.now)) }
+pub fn has_outer(edges: Edges<'_>, v: u8) -> bool
+    ensures { IsTrue result ↔ ((v ≢ edges.entry.left.0) × (v ≢ edges.entry.right.0) × IsFree v
+        (form_of edges.entry.body.now)) }
 {
     if v == edges.left.0 {
         return false;

@@ -2,16 +2,20 @@
 #![tactic(auto)]
 
 mod assignment;
+mod evaluator;
 mod height;
 mod kept;
 mod laws;
+mod leaf_rows;
+mod leaves;
 mod relation;
 mod scratch;
 mod values;
 
 pub use assignment::Assignment;
+pub use evaluator::{Evaluator, eval};
 pub use laws::{made_scratches_fit, program_formulas_are_over};
-pub use scratch::{Scratch, eval};
+pub use scratch::Scratch;
 
 #[cfg(test)]
 mod checked;

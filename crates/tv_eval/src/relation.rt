@@ -1,45 +1,17 @@
 //! A relation of individuals with three truth values, and its transitive closure.
 
-ghost use Rattle.std.specs.Prelude.{ℕ, ◌≡◌, ◌≢◌, ◌<◌, ◌≤◌, ◌⊎◌, length, IfOk, slice_set};
+ghost use Rattle.std.specs.Prelude.{ℕ, ◌≡◌, ◌≢◌, ◌<◌, ◌≤◌, [], length, map, IfOk, slice_index_or, slice_set};
 ghost use Rattle.std.specs.List.{range_with_len};
+ghost use Rattle.tv_row.specs.Places.{entry_in};
 ghost use Rattle.tv_value.specs.Value.{best_walk};
-ghost use Rattle.tv_eval.specs.Rows.{entry_in, through};
+ghost use Rattle.tv_eval.specs.Rows.{IsSquare, IsPart, through, part_of};
 
 use std::alloc::{AllocError, Global};
 use std::marker::Model;
 use tv_kleene::K3;
+use tv_row::Row;
 
-/// The values from one individual to each.
-#[derive(Debug, Drop)]
-struct Row {
-    values: Vec<K3>,
-}
-
-impl Model for Row {
-    ghost use Rattle.std.specs.Prelude.{List};
-    ghost use Rattle.tv_kleene.specs.declared.K3.{K3};
-
-    ghost Value = { List K3 };
-
-    ghost view = { λ a. a.values.items };
-}
-
-impl Row {
-    fn as_slice(&self) -> &[K3]
-        ensures { result.now ≡ self.now }
-    {
-        self.values.as_slice()
-    }
-
-    fn put(&mut self, w: usize, k: K3)
-        requires { w < length self.old }
-        ensures { self.new ≡ slice_set self.old w k }
-    {
-        self.values[w] = k;
-    }
-}
-
-/// A value for each pair of individuals below a size.
+/// A row of values for each of some individuals: those of the pairs that it is the first of.
 #[derive(Debug, Drop)]
 pub struct Relation {
     rows: Vec<Row>,
@@ -48,62 +20,111 @@ pub struct Relation {
 impl Model for Relation {
     ghost use Rattle.std.specs.Prelude.{List};
     ghost use Rattle.tv_kleene.specs.declared.K3.{K3};
-    ghost use Rattle.tv_eval.specs.Rows.{IsSquare};
 
     ghost Value = { List (List K3) };
 
     ghost view = { λ r. r.rows.items };
+}
 
-    ghost invariant = { λ r. IsSquare r.rows.items };
+/// Some of a relation's values, one for each individual.
+#[derive(Clone, Copy, Debug)]
+pub enum Part {
+    /// Those of the pairs with this first individual.
+    From(u32),
+    /// Those of the pairs with this second individual.
+    To(u32),
+    /// Those of the pairs of an individual with itself.
+    Diagonal,
 }
 
 impl Relation {
-    /// The relation that is `No` everywhere.
+    /// Room for a relation of up to `size` individuals.
     pub fn new(alloc: Global, size: usize) -> Result<Relation, AllocError>
         ensures { IfOk result (λ r. length r ≡ size) }
     {
-        let mut rows = Vec::with_capacity(alloc, size)?;
-        for _ in 0..size {
-            let values = vec![in alloc; K3::No; size]?;
-            rows.push(Row { values })?;
-        }
+        let rows = vec![in alloc; Row::of(0, K3::No); size]?;
         Ok(Relation { rows })
     }
 
-    /// The number of individuals.
+    /// The number of individuals that there is room for.
     pub fn size(&self) -> usize
         ensures { result ≡ length self.now }
     {
         self.rows.len()
     }
 
-    /// The value from `u` to `w`.
-    pub fn get(&self, u: usize, w: usize) -> K3
-        requires from { u < length self.now }
-        requires to { w < length self.now }
-        ensures { result ≡ entry_in self.now u w }
+    /// Puts the row of `u` in its place.
+    pub fn put_row(&mut self, u: u32, row: &Row)
+        requires { u < length self.old }
+        ensures { self.new ≡ slice_set self.old u row.now }
     {
-        self.rows[u].as_slice()[w]
+        self.rows[u as usize] = *row;
     }
 
-    /// Puts `k` from `u` to `w`, and changes nothing else.
-    pub fn put(&mut self, u: usize, w: usize, k: K3)
-        requires from { u < length self.old }
-        requires to { w < length self.old }
-        ensures written { entry_in self.new u w ≡ k }
-        ensures others { (v x : ℕ) → (v ≢ u) ⊎ (x ≢ w) → entry_in self.new v x ≡ entry_in self.old v x }
-        ensures size { length self.new ≡ length self.old }
+    /// The values from `u` to each individual.
+    fn row(&self, u: u32) -> Row
+        requires { u < length self.now }
+        ensures { result ≡ slice_index_or self.now u [] }
     {
-        let row = &mut self.rows[u];
-        row.put(w, k);
+        self.rows[u as usize]
+    }
+
+    /// The value from `u` to `w`.
+    fn get(&self, u: u32, w: u32) -> K3
+        requires from { u < length self.now }
+        requires to { w < length (slice_index_or self.now u []) }
+        ensures { result ≡ entry_in self.now u w }
+    {
+        let row = self.rows[u as usize];
+        row.get(w)
+    }
+
+    /// The part's values among the first `size` individuals.
+    pub fn part(&self, part: Part, size: u32) -> Row
+        requires square { IsSquare size self.now }
+        requires size { size ≤ 256 }
+        requires part { IsPart size part }
+        ensures { result ≡ part_of size part (entry_in self.now) }
+    {
+        match part {
+            Part::From(u) => self.row(u),
+            Part::To(w) => self.column(w, size),
+            Part::Diagonal => self.diagonal(size),
+        }
+    }
+
+    fn column(&self, w: u32, size: u32) -> Row
+        requires square { IsSquare size self.now }
+        requires size { size ≤ 256 }
+        requires to { w < size }
+        ensures { result ≡ map (λ u. entry_in self.now u w) (range_with_len 0 size) }
+    {
+        let mut values = Row::of(size, K3::No);
+        for u in 0..size {
+            values.set(u, self.get(u, w));
+        }
+        values
+    }
+
+    fn diagonal(&self, size: u32) -> Row
+        requires square { IsSquare size self.now }
+        requires size { size ≤ 256 }
+        ensures { result ≡ map (λ u. entry_in self.now u u) (range_with_len 0 size) }
+    {
+        let mut values = Row::of(size, K3::No);
+        for u in 0..size {
+            values.set(u, self.get(u, u));
+        }
+        values
     }
 
     /// Makes each value of the first `size` individuals that of a best walk past them: the greatest,
     /// over all walks of one edge or more, of the least value of an edge.
-    pub fn close(&mut self, size: usize)
-        requires { size ≤ length self.old }
+    pub fn close(&mut self, size: u32)
+        requires { IsSquare size self.old }
         ensures closed { (u w : ℕ) → u < size → w < size
             → entry_in self.new u w ≡ best_walk (entry_in self.old) (range_with_len 0 size) u w }
+        ensures square { IsSquare size self.new }
         ensures size { length self.new ≡ length self.old }
     {
         let mut first = size;
@@ -114,11 +135,12 @@ impl Relation {
     }
 
     /// Lets all walks among the first `size` individuals pass through `stop` too.
-    fn allow(&mut self, stop: usize, size: usize)
+    fn allow(&mut self, stop: u32, size: u32)
         requires stop { stop < size }
-        requires size { size ≤ length self.old }
+        requires square { IsSquare size self.old }
         ensures value { (u w : ℕ) → u < size → w < size
             → entry_in self.new u w ≡ through (entry_in self.old) stop u w }
+        ensures square { IsSquare size self.new }
         ensures size { length self.new ≡ length self.old }
     {
         for u in 0..size {
@@ -126,23 +148,22 @@ impl Relation {
         }
     }
 
-    /// Lets the walks from `u` to the first `size` individuals pass through `stop` too.
-    fn extend(&mut self, u: usize, stop: usize, size: usize)
+    /// Lets the walks from `u` pass through `stop` too.
+    fn extend(&mut self, u: u32, stop: u32, size: u32)
         requires from { u < size }
         requires stop { stop < size }
-        requires size { size ≤ length self.old }
+        requires square { IsSquare size self.old }
         ensures row { (w : ℕ) → w < size → entry_in self.new u w ≡ through (entry_in self.old) stop u w }
         ensures others { (v w : ℕ) → v ≢ u → entry_in self.new v w ≡ entry_in self.old v w }
+        ensures square { IsSquare size self.new }
         ensures size { length self.new ≡ length self.old }
     {
-        let before = self.get(u, stop);
-        if before == K3::No {
+        let row = self.row(u);
+        let k = row.get(stop);
+        if k == K3::No {
             return;
         }
-        for w in 0..size {
-            let past = before.and(self.get(stop, w));
-            let value = self.get(u, w).or(past);
-            self.put(u, w, value);
-        }
+        let past = self.row(stop).capped(k);
+        self.put_row(u, &row.or(&past));
     }
 }

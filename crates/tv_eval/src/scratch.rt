@@ -1,26 +1,17 @@
 //! The room that evaluation needs.
 
-ghost use Rattle.std.specs.Prelude.{◌≡◌, ◌≤◌, IfOk, replicate};
-ghost use Rattle.tv_model.specs.Form.{form_of};
+ghost use Rattle.std.specs.Prelude.{◌≡◌, All, IfOk, length, replicate};
 ghost use Rattle.tv_model.specs.Program.{program_of};
-ghost use Rattle.tv_struct.specs.StructureForm.{structure_of, arities_of};
-ghost use Rattle.tv_value.specs.Value.{value};
-ghost use Rattle.tv_eval.specs.AssignmentForm.{assignment_of};
-ghost use Rattle.tv_eval.specs.Formulas.{AreAssigned, sizes_of};
-ghost use Rattle.tv_model.specs.Valid.{IsFormulaOver};
-ghost use Rattle.tv_eval.specs.ScratchForm.{Fits, IsMadeFor};
-ghost use Rattle.tv_eval.specs.Sound.{CoversValues};
+ghost use Rattle.tv_eval.specs.Formulas.{sizes_of};
+ghost use Rattle.tv_eval.specs.ScratchForm.{IsMadeFor};
 
-use crate::Assignment;
 use crate::height::program_height;
-use crate::kept::{Kept, PLACES};
+use crate::kept::PLACES;
 use crate::relation::Relation;
-use crate::values::value_of;
 use std::alloc::{AllocError, Global};
 use std::marker::Model;
-use tv_kleene::K3;
-use tv_model::{Formula, Program};
-use tv_struct::Structure;
+use std::mem;
+use tv_model::Program;
 
 /// How much higher than the program's highest formula a formula may be. Fewer closures stand inside one
 /// another than a formula is high.
@@ -30,6 +21,7 @@ const SPARE_LEVELS: usize = 4;
 /// closures that are kept while a formula is evaluated.
 #[derive(Drop)]
 pub struct Scratch {
+    alloc: Global,
     rooms: Vec<Relation>,
     shared: Vec<Relation>,
     size: u32,
@@ -66,21 +58,31 @@ impl Scratch {
         let rooms = relations(alloc, levels, size)?;
         let shared = relations(alloc, PLACES, size)?;
         Ok(Scratch {
+            alloc,
             rooms,
             shared,
             size,
         })
     }
 
-    fn value_of(&mut self, f: &Formula, s: &Structure, a: Assignment) -> K3
-        requires formula { IsFormulaOver (arities_of s.now) (form_of f.now) }
-        requires assigned { AreAssigned s.now.size a (form_of f.now) }
-        requires fits { Fits self.old (form_of f.now) s.now.size }
-        ensures exact { result ≡ value (structure_of s.now) (assignment_of a) (form_of f.now) }
-        ensures scratch { self.new ≡ self.old }
+    /// The rooms, the relations for closures that are kept, and their size; none are left here.
+    pub(crate) fn take(&mut self) -> (Vec<Relation>, Vec<Relation>, u32)
+        ensures form { record { levels = length result.0.items; size = result.2 } ≡ self.old }
+        ensures sizes { All (λ room. room ≡ result.2) (sizes_of result.0.items) }
     {
-        let rooms = self.rooms.as_mut_slice();
-        value_of(f, s, a, rooms, &mut Kept::new(), self.shared.as_mut_slice())
+        let rooms = mem::replace(&mut self.rooms, Vec::new(self.alloc));
+        let shared = mem::replace(&mut self.shared, Vec::new(self.alloc));
+        (rooms, shared, self.size)
+    }
+
+    /// Has these relations instead of its own.
+    pub(crate) fn give(&mut self, rooms: Vec<Relation>, shared: Vec<Relation>, size: u32)
+        requires { All (λ room. room ≡ size) (sizes_of rooms.items) }
+        ensures { self.new ≡ record { levels = length rooms.items; size = size } }
+    {
+        self.rooms = rooms;
+        self.shared = shared;
+        self.size = size;
     }
 }
 
@@ -93,18 +95,4 @@ fn relations(alloc: Global, count: usize, size: u32) -> Result<Vec<Relation>, Al
         rooms.push(Relation::new(alloc, size as usize)?)?;
     }
     Ok(rooms)
-}
-
-/// The value of the formula in the structure under the assignment. It lies above the formula's value in
-/// every structure that embeds in this one; so `Yes` means true in every heap that embeds, and `No`
-/// means false. Takes no memory.
-pub fn eval(f: &Formula, s: &Structure, a: &Assignment, scratch: &mut Scratch) -> K3
-    requires formula { IsFormulaOver (arities_of s.now) (form_of f.now) }
-    requires assigned { AreAssigned s.now.size a.now (form_of f.now) }
-    requires fits { Fits scratch.old (form_of f.now) s.now.size }
-    ensures exact { result ≡ value (structure_of s.now) (assignment_of a.now) (form_of f.now) }
-    ensures covers { CoversValues (form_of f.now) (structure_of s.now) (assignment_of a.now) result }
-    ensures scratch { scratch.new ≡ scratch.old }
-{
-    scratch.value_of(f, s, *a)
 }

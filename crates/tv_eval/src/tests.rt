@@ -3,7 +3,6 @@ ghost use Rattle.tv_struct.specs.StructureForm.{arities_of};
 
 use crate::checked::checked;
 use crate::reader::{blank, formula, program, put_two, structure};
-use crate::relation::Relation;
 use crate::{Assignment, Scratch};
 use std::alloc::{AllocError, Global};
 use std::process::Abort;
@@ -180,31 +179,5 @@ fn a_long_chain_has_its_ends(rt: HostRuntime) -> Result<(), Fail> {
     assert_eq!(rt; from_first.as_str().find('h'), Some(69));
     assert!(rt; !from_first.as_str().contains('n'));
     assert!(rt; !from_last.as_str().contains('y') && !from_last.as_str().contains('h'));
-    Ok(())
-}
-
-/// How many pairs of the relation have the value.
-fn count(relation: &Relation, k: K3) -> usize {
-    let mut pairs: usize = 0;
-    for u in 0..relation.size() {
-        for w in 0..relation.size() {
-            if relation.get(u, w) == k {
-                pairs = pairs.saturating_add(1);
-            }
-        }
-    }
-    pairs
-}
-
-#[test]
-fn a_long_chain_closes(rt: HostRuntime) -> Result<(), Fail> {
-    let mut relation = Relation::new(rt.alloc(), 70)?;
-    for u in 0..68 {
-        relation.put(u, u + 1, K3::Yes);
-    }
-    relation.put(68, 69, K3::Half);
-    relation.close(70);
-    assert_eq!(rt; count(&relation, K3::Yes), 2346);
-    assert_eq!(rt; count(&relation, K3::Half), 69);
     Ok(())
 }

@@ -1,45 +1,50 @@
 //! The value of a formula, part by part.
 
-ghost use Rattle.std.specs.Prelude.{ℕ, ◌≡◌, ◌≢◌, ◌<◌, ◌≤◌, [], length, map, IfSome, IfNone};
-ghost use Rattle.tv_model.specs.Form.{form_of, vars_of, FAtom, FAnd, FOr, FIff, FCond, FExists, FForall, FClosure};
+ghost use Rattle.std.specs.Prelude.{ℕ, ◌≡◌, ◌≢◌, ◌<◌, ◌≤◌, ◌+◌, [], length, map, replicate, IfSome, IfNone};
+ghost use Rattle.std.specs.List.{range_with_len};
+ghost use Rattle.tv_model.specs.Form.{form_of, FAnd, FOr, FIff, FCond, FExists, FForall, FClosure, IsFree};
 ghost use Rattle.tv_model.specs.Truth.{put};
-ghost use Rattle.tv_struct.specs.StructureForm.{structure_of, value_at};
-ghost use Rattle.tv_value.specs.Value.{value, mark_value, same_value};
-ghost use Rattle.tv_eval.specs.AssignmentForm.{assignment_of, IsAssigned};
+ghost use Rattle.tv_row.specs.Places.{entry_in};
+ghost use Rattle.tv_struct.specs.StructureForm.{structure_of};
+ghost use Rattle.tv_value.specs.Value.{value, best_walk};
+ghost use Rattle.tv_eval.specs.Along.{values_along};
+ghost use Rattle.tv_eval.specs.AssignmentForm.{assignment_of};
 ghost use Rattle.tv_eval.specs.CanEvaluate.{CanEvaluate};
-ghost use Rattle.tv_eval.specs.Formulas.{sizes_of};
+ghost use Rattle.tv_eval.specs.Formulas.{HasRooms, nesting, sizes_of};
 ghost use Rattle.tv_eval.specs.Keeps.{Keeps, StandsAt};
-ghost use Rattle.tv_eval.specs.Rows.{entry_in};
+ghost use Rattle.tv_eval.specs.Rows.{IsPart, IsSquare, part_of};
 
 use crate::Assignment;
-use crate::kept::{Edges, Kept};
-use crate::relation::Relation;
+use crate::kept::{Edges, Kept, has_outer};
+use crate::leaf_rows::{atom_row, new_row, same_row};
+use crate::leaves::{atom, is_new, same};
+use crate::relation::{Part, Relation};
 use tv_kleene::K3;
-use tv_model::{Formula, PredId, Terms, Var};
-use tv_struct::{Structure, Tuple};
+use tv_model::{Formula, Var};
+use tv_row::Row;
+use tv_struct::Structure;
 
 /// The value of the formula in the structure. The rooms are for closures: the first for one that
-/// stands in no other, the next for one inside it, and so on. In the shared ones stand closures that are
-/// kept.
+/// stands in no other, the next for one inside it, and so on.
 #[cycle(values)]
 pub fn value_of<'f>(
     f: &'f Formula,
     s: &Structure,
-    a: Assignment,
+    a: &Assignment,
     rooms: &mut [Relation],
     kept: &mut Kept<'f>,
     shared: &mut [Relation],
 ) -> K3
-    requires parts { CanEvaluate s.now a (sizes_of rooms.old) (form_of f.now) }
+    requires parts { CanEvaluate s.now a.now (sizes_of rooms.old) (form_of f.now) }
     requires kept { Keeps s.now kept.old shared.old }
-    ensures exact { result ≡ value (structure_of s.now) (assignment_of a) (form_of f.now) }
+    ensures exact { result ≡ value (structure_of s.now) (assignment_of a.now) (form_of f.now) }
     ensures rooms { sizes_of rooms.new ≡ sizes_of rooms.old }
     ensures kept { Keeps s.now kept.new shared.new }
 {
     match f {
         Formula::Zero => K3::No,
         Formula::One => K3::Yes,
-        Formula::Atom(pred, terms) => atom(*pred, terms, s, &a),
+        Formula::Atom(pred, terms) => atom(*pred, terms, s, a),
         Formula::IsNew(v) => is_new(s, a.at(*v)),
         Formula::Same(v, w) => same(s, a.at(*v), a.at(*w)),
         Formula::Not(g) => value_of(g, s, a, rooms, kept, shared).not(),
@@ -47,8 +52,8 @@ pub fn value_of<'f>(
         Formula::Or(g, h) => either(g, h, s, a, rooms, kept, shared),
         Formula::Iff(g, h) => alike(g, h, s, a, rooms, kept, shared),
         Formula::Cond(c, g, h) => choice(c, g, h, s, a, rooms, kept, shared),
-        Formula::Exists(v, g) => greatest(*v, g, s, a, rooms, kept, shared),
-        Formula::Forall(v, g) => least(*v, g, s, a, rooms, kept, shared),
+        Formula::Exists(v, g) => row_of(g, *v, s, a, rooms, kept, shared).greatest(),
+        Formula::Forall(v, g) => row_of(g, *v, s, a, rooms, kept, shared).least(),
         Formula::Closure {
             from,
             to,
@@ -66,55 +71,19 @@ pub fn value_of<'f>(
     }
 }
 
-/// The value of the predicate at the tuple that the terms stand for.
-fn atom(pred: PredId, terms: &Terms, s: &Structure, a: &Assignment) -> K3
-    requires { CanEvaluate s.now a.now [] (FAtom pred.0 (vars_of terms.now)) }
-    ensures { result ≡ value_at s.now pred.0 (map (assignment_of a.now) (vars_of terms.now)) }
-{
-    match terms {
-        Terms::Zero => s.get(pred, Tuple::Zero),
-        Terms::One(v) => s.get(pred, Tuple::One(a.at(*v))),
-        Terms::Two(v, w) => s.get(pred, Tuple::Two(a.at(*v), a.at(*w))),
-    }
-}
-
-/// Whether `u` is the fresh individual.
-fn is_new(s: &Structure, u: u32) -> K3
-    ensures { result ≡ mark_value s.now.fresh u }
-{
-    match s.fresh() {
-        None => K3::No,
-        Some(w) => { if w == u { K3::Yes } else { K3::No } }
-    }
-}
-
-/// Whether `u` and `w` are one cell.
-fn same(s: &Structure, u: u32, w: u32) -> K3
-    requires { u < s.now.size }
-    ensures { result ≡ same_value (structure_of s.now) u w }
-{
-    if u != w {
-        K3::No
-    } else if s.summary(u) {
-        K3::Half
-    } else {
-        K3::Yes
-    }
-}
-
 #[cycle(values)]
 fn both<'f>(
     g: &'f Formula,
     h: &'f Formula,
     s: &Structure,
-    a: Assignment,
+    a: &Assignment,
     rooms: &mut [Relation],
     kept: &mut Kept<'f>,
     shared: &mut [Relation],
 ) -> K3
-    requires parts { CanEvaluate s.now a (sizes_of rooms.old) (FAnd (form_of g.now) (form_of h.now)) }
+    requires parts { CanEvaluate s.now a.now (sizes_of rooms.old) (FAnd (form_of g.now) (form_of h.now)) }
     requires kept { Keeps s.now kept.old shared.old }
-    ensures exact { result ≡ value (structure_of s.now) (assignment_of a) (FAnd (form_of g.now) (form_of h.now)) }
+    ensures exact { result ≡ value (structure_of s.now) (assignment_of a.now) (FAnd (form_of g.now) (form_of h.now)) }
     ensures rooms { sizes_of rooms.new ≡ sizes_of rooms.old }
     ensures kept { Keeps s.now kept.new shared.new }
 {
@@ -130,14 +99,14 @@ fn either<'f>(
     g: &'f Formula,
     h: &'f Formula,
     s: &Structure,
-    a: Assignment,
+    a: &Assignment,
     rooms: &mut [Relation],
     kept: &mut Kept<'f>,
     shared: &mut [Relation],
 ) -> K3
-    requires parts { CanEvaluate s.now a (sizes_of rooms.old) (FOr (form_of g.now) (form_of h.now)) }
+    requires parts { CanEvaluate s.now a.now (sizes_of rooms.old) (FOr (form_of g.now) (form_of h.now)) }
     requires kept { Keeps s.now kept.old shared.old }
-    ensures exact { result ≡ value (structure_of s.now) (assignment_of a) (FOr (form_of g.now) (form_of h.now)) }
+    ensures exact { result ≡ value (structure_of s.now) (assignment_of a.now) (FOr (form_of g.now) (form_of h.now)) }
     ensures rooms { sizes_of rooms.new ≡ sizes_of rooms.old }
     ensures kept { Keeps s.now kept.new shared.new }
 {
@@ -153,14 +122,14 @@ fn alike<'f>(
     g: &'f Formula,
     h: &'f Formula,
     s: &Structure,
-    a: Assignment,
+    a: &Assignment,
     rooms: &mut [Relation],
     kept: &mut Kept<'f>,
     shared: &mut [Relation],
 ) -> K3
-    requires parts { CanEvaluate s.now a (sizes_of rooms.old) (FIff (form_of g.now) (form_of h.now)) }
+    requires parts { CanEvaluate s.now a.now (sizes_of rooms.old) (FIff (form_of g.now) (form_of h.now)) }
     requires kept { Keeps s.now kept.old shared.old }
-    ensures exact { result ≡ value (structure_of s.now) (assignment_of a) (FIff (form_of g.now) (form_of h.now)) }
+    ensures exact { result ≡ value (structure_of s.now) (assignment_of a.now) (FIff (form_of g.now) (form_of h.now)) }
     ensures rooms { sizes_of rooms.new ≡ sizes_of rooms.old }
     ensures kept { Keeps s.now kept.new shared.new }
 {
@@ -175,152 +144,139 @@ fn choice<'f>(
     g: &'f Formula,
     h: &'f Formula,
     s: &Structure,
-    a: Assignment,
+    a: &Assignment,
     rooms: &mut [Relation],
     kept: &mut Kept<'f>,
     shared: &mut [Relation],
 ) -> K3
-    requires parts { CanEvaluate s.now a (sizes_of rooms.old) (FCond (form_of c.now) (form_of g.now) (form_of h.now)) }
+    requires parts { CanEvaluate s.now a.now (sizes_of rooms.old)
+        (FCond (form_of c.now) (form_of g.now) (form_of h.now)) }
     requires kept { Keeps s.now kept.old shared.old }
-    ensures exact { result ≡ value (structure_of s.now) (assignment_of a) (FCond (form_of c.now) (form_of g.now) (form_of h.now)) }
+    ensures exact { result ≡ value (structure_of s.now) (assignment_of a.now)
+        (FCond (form_of c.now) (form_of g.now) (form_of h.now)) }
     ensures rooms { sizes_of rooms.new ≡ sizes_of rooms.old }
     ensures kept { Keeps s.now kept.new shared.new }
 {
-    let condition = value_of(c, s, a, rooms, kept, shared);
-    let first = value_of(g, s, a, rooms, kept, shared);
-    let second = value_of(h, s, a, rooms, kept, shared);
-    condition.and(first).or(condition.not().and(second))
-}
-
-/// The greatest value of the body over all individuals, put for the variable.
-#[cycle(values)]
-fn greatest<'f>(
-    v: Var,
-    body: &'f Formula,
-    s: &Structure,
-    a: Assignment,
-    rooms: &mut [Relation],
-    kept: &mut Kept<'f>,
-    shared: &mut [Relation],
-) -> K3
-    requires parts { CanEvaluate s.now a (sizes_of rooms.old) (FExists v.0 (form_of body.now)) }
-    requires kept { Keeps s.now kept.old shared.old }
-    ensures exact { result ≡ value (structure_of s.now) (assignment_of a) (FExists v.0 (form_of body.now)) }
-    ensures rooms { sizes_of rooms.new ≡ sizes_of rooms.old }
-    ensures kept { Keeps s.now kept.new shared.new }
-{
-    let mut found = K3::No;
-    for u in 0..s.size() {
-        let here = value_of(body, s, a.with(v, u), rooms, kept, shared);
-        found = found.or(here);
-        if found == K3::Yes {
-            return found;
+    match value_of(c, s, a, rooms, kept, shared) {
+        K3::Yes => value_of(g, s, a, rooms, kept, shared),
+        K3::No => value_of(h, s, a, rooms, kept, shared),
+        K3::Half => {
+            let first = value_of(g, s, a, rooms, kept, shared);
+            let second = value_of(h, s, a, rooms, kept, shared);
+            K3::Half.and(first).or(K3::Half.and(second))
         }
     }
-    found
 }
 
-/// The least value of the body over all individuals, put for the variable.
-#[cycle(values)]
-fn least<'f>(
-    v: Var,
-    body: &'f Formula,
-    s: &Structure,
-    a: Assignment,
-    rooms: &mut [Relation],
-    kept: &mut Kept<'f>,
-    shared: &mut [Relation],
-) -> K3
-    requires parts { CanEvaluate s.now a (sizes_of rooms.old) (FForall v.0 (form_of body.now)) }
-    requires kept { Keeps s.now kept.old shared.old }
-    ensures exact { result ≡ value (structure_of s.now) (assignment_of a) (FForall v.0 (form_of body.now)) }
-    ensures rooms { sizes_of rooms.new ≡ sizes_of rooms.old }
-    ensures kept { Keeps s.now kept.new shared.new }
-{
-    let mut found = K3::Yes;
-    for u in 0..s.size() {
-        let here = value_of(body, s, a.with(v, u), rooms, kept, shared);
-        found = found.and(here);
-        if found == K3::No {
-            return found;
-        }
-    }
-    found
-}
-
-/// The value of a transitive closure: it is read where it is kept, and else closed.
+/// The value of a transitive closure.
 #[cycle(values)]
 fn closure<'f>(
     from: Var,
     to: Var,
     edges: Edges<'f>,
     s: &Structure,
-    a: Assignment,
+    a: &Assignment,
     rooms: &mut [Relation],
     kept: &mut Kept<'f>,
     shared: &mut [Relation],
 ) -> K3
-    requires parts { CanEvaluate s.now a (sizes_of rooms.old) (FClosure from.0 to.0 edges.left.0 edges.right.0 (form_of edges.body.now)) }
+    requires parts { CanEvaluate s.now a.now (sizes_of rooms.old)
+        (FClosure from.0 to.0 edges.left.0 edges.right.0 (form_of edges.body.now)) }
     requires kept { Keeps s.now kept.old shared.old }
-    ensures exact { result ≡ value (structure_of s.now) (assignment_of a) (FClosure from.0 to.0 edges.entry.left.0 edges.entry.right.0 (form_of edges.entry.body.now)) }
+    ensures exact { result ≡ value (structure_of s.now) (assignment_of a.now)
+        (FClosure from.0 to.0 edges.entry.left.0 edges.entry.right.0 (form_of edges.entry.body.now)) }
     ensures rooms { sizes_of rooms.new ≡ sizes_of rooms.old }
     ensures kept { Keeps s.now kept.new shared.new }
 {
-    match kept_value(from, to, edges, s, &a, kept, shared) {
-        Some(k) => k,
-        None => closed_value(from, to, edges, s, a, rooms, kept, shared),
+    let row = closed_part(Part::From(a.at(from)), edges, s, a, rooms, kept, shared);
+    row.get(a.at(to))
+}
+
+/// A part of the closed edges: they are read where they are kept, and else closed in the first room.
+#[cycle(values)]
+fn closed_part<'f>(
+    part: Part,
+    edges: Edges<'f>,
+    s: &Structure,
+    a: &Assignment,
+    rooms: &mut [Relation],
+    kept: &mut Kept<'f>,
+    shared: &mut [Relation],
+) -> Row
+    requires part { IsPart s.now.size part }
+    requires body { CanEvaluate s.now a.now (sizes_of rooms.old)
+        (FExists edges.left.0 (FExists edges.right.0 (form_of edges.body.now))) }
+    requires room { HasRooms s.now.size (nesting (form_of edges.body.now) + 1) (sizes_of rooms.old) }
+    requires own { edges.left.0 ≢ edges.right.0 }
+    requires kept { Keeps s.now kept.old shared.old }
+    ensures exact { result ≡ part_of s.now.size part (best_walk
+        (λ x y. value (structure_of s.now) (put (put (assignment_of a.now) edges.entry.left.0 x)
+        edges.entry.right.0 y) (form_of edges.entry.body.now))
+        (range_with_len 0 s.now.size)) }
+    ensures rooms { sizes_of rooms.new ≡ sizes_of rooms.old }
+    ensures kept { Keeps s.now kept.new shared.new }
+{
+    match kept_part(part, edges, s, a, kept, shared) {
+        Some(values) => values,
+        None => close_part(part, edges, s, a, rooms, kept, shared),
     }
 }
 
-/// The value of a transitive closure that is kept, else nothing.
-fn kept_value(
-    from: Var,
-    to: Var,
+/// A part of the closed edges that are kept, else nothing.
+fn kept_part(
+    part: Part,
     edges: Edges<'_>,
     s: &Structure,
     a: &Assignment,
     kept: &Kept<'_>,
     shared: &[Relation],
-) -> Option<K3>
-    requires from { IsAssigned s.now.size a.now from.0 }
-    requires to { IsAssigned s.now.size a.now to.0 }
+) -> Option<Row>
+    requires part { IsPart s.now.size part }
     requires kept { Keeps s.now kept.now shared.now }
-    ensures exact { IfSome result (λ k. k ≡ value (structure_of s.now) (assignment_of a.now)
-        (FClosure from.0 to.0 edges.entry.left.0 edges.entry.right.0 (form_of edges.entry.body.now))) }
+    ensures exact { IfSome result (λ values. values ≡ part_of s.now.size part (best_walk
+        (λ x y. value (structure_of s.now) (put (put (assignment_of a.now) edges.entry.left.0 x)
+        edges.entry.right.0 y) (form_of edges.entry.body.now))
+        (range_with_len 0 s.now.size))) }
     ensures none { IfNone result ((k : ℕ) → k < 8 → k < length shared.now
         → ¬ StandsAt kept.now k edges.entry.left.0 edges.entry.right.0 (form_of edges.entry.body.now)) }
 {
     match kept.find(edges, shared) {
         None => None,
-        Some(closed) => Some(closed.get(a.at(from) as usize, a.at(to) as usize)),
+        Some(closed) => Some(closed.part(part, s.size())),
     }
 }
 
-/// The value of a transitive closure: all edges are evaluated once, and closed in the first room.
+/// A part of the closed edges: all edges are evaluated once, and closed in the first room.
 #[cycle(values)]
-fn closed_value<'f>(
-    from: Var,
-    to: Var,
+fn close_part<'f>(
+    part: Part,
     edges: Edges<'f>,
     s: &Structure,
-    a: Assignment,
+    a: &Assignment,
     rooms: &mut [Relation],
     kept: &mut Kept<'f>,
     shared: &mut [Relation],
-) -> K3
-    requires parts { CanEvaluate s.now a (sizes_of rooms.old) (FClosure from.0 to.0 edges.left.0 edges.right.0 (form_of edges.body.now)) }
+) -> Row
+    requires part { IsPart s.now.size part }
+    requires body { CanEvaluate s.now a.now (sizes_of rooms.old)
+        (FExists edges.left.0 (FExists edges.right.0 (form_of edges.body.now))) }
+    requires room { HasRooms s.now.size (nesting (form_of edges.body.now) + 1) (sizes_of rooms.old) }
+    requires own { edges.left.0 ≢ edges.right.0 }
     requires kept { Keeps s.now kept.old shared.old }
-    ensures exact { result ≡ value (structure_of s.now) (assignment_of a) (FClosure from.0 to.0 edges.entry.left.0 edges.entry.right.0 (form_of edges.entry.body.now)) }
+    ensures exact { result ≡ part_of s.now.size part (best_walk
+        (λ x y. value (structure_of s.now) (put (put (assignment_of a.now) edges.entry.left.0 x)
+        edges.entry.right.0 y) (form_of edges.entry.body.now))
+        (range_with_len 0 s.now.size)) }
     ensures rooms { sizes_of rooms.new ≡ sizes_of rooms.old }
     ensures kept { Keeps s.now kept.new shared.new }
 {
     let (own, inner) = rooms.split_at_mut(1);
     let relation = &mut own[0];
     fill(edges, s, a, relation, inner, kept, shared);
-    relation.close(s.size() as usize);
-    let found = relation.get(a.at(from) as usize, a.at(to) as usize);
+    relation.close(s.size());
+    let values = relation.part(part, s.size());
     kept.offer(edges, relation, shared);
-    found
+    values
 }
 
 /// Evaluates the body for all pairs of individuals, put for the closure's own variables.
@@ -328,60 +284,316 @@ fn closed_value<'f>(
 fn fill<'f>(
     edges: Edges<'f>,
     s: &Structure,
-    a: Assignment,
+    a: &Assignment,
     relation: &mut Relation,
     rooms: &mut [Relation],
     kept: &mut Kept<'f>,
     shared: &mut [Relation],
 )
-    requires body { CanEvaluate s.now a (sizes_of rooms.old) (FExists edges.left.0 (FExists edges.right.0 (form_of edges.body.now))) }
+    requires body { CanEvaluate s.now a.now (sizes_of rooms.old)
+        (FExists edges.left.0 (FExists edges.right.0 (form_of edges.body.now))) }
     requires size { s.now.size ≤ length relation.old }
     requires kept { Keeps s.now kept.old shared.old }
     ensures edges { (u w : ℕ) → u < s.now.size → w < s.now.size
-        → entry_in relation.new u w ≡ value (structure_of s.now) (put (put (assignment_of a) edges.entry.left.0 u) edges.entry.right.0 w) (form_of edges.entry.body.now) }
+        → entry_in relation.new u w ≡ value (structure_of s.now)
+        (put (put (assignment_of a.now) edges.entry.left.0 u) edges.entry.right.0 w)
+        (form_of edges.entry.body.now) }
+    ensures square { IsSquare s.now.size relation.new }
     ensures size { length relation.new ≡ length relation.old }
     ensures rooms { sizes_of rooms.new ≡ sizes_of rooms.old }
     ensures kept { Keeps s.now kept.new shared.new }
 {
     for u in 0..s.size() {
-        fill_row(
-            u,
-            edges,
-            s,
-            a.with(edges.left, u),
-            relation,
-            rooms,
-            kept,
-            shared,
-        );
+        let here = (*a).with(edges.left, u);
+        let row = row_of(edges.body, edges.right, s, &here, rooms, kept, shared);
+        relation.put_row(u, &row);
     }
 }
 
-/// Evaluates the body for all individuals, put for `right`, into the row of `u`.
+/// The values of the formula for all individuals, put for `v`.
 #[cycle(values)]
-fn fill_row<'f>(
-    u: u32,
-    edges: Edges<'f>,
+pub fn row_of<'f>(
+    f: &'f Formula,
+    v: Var,
     s: &Structure,
-    a: Assignment,
-    relation: &mut Relation,
+    a: &Assignment,
     rooms: &mut [Relation],
     kept: &mut Kept<'f>,
     shared: &mut [Relation],
-)
-    requires body { CanEvaluate s.now a (sizes_of rooms.old) (FExists edges.right.0 (form_of edges.body.now)) }
-    requires from { u < s.now.size }
-    requires size { s.now.size ≤ length relation.old }
+) -> Row
+    requires parts { CanEvaluate s.now a.now (sizes_of rooms.old) (FExists v.0 (form_of f.now)) }
     requires kept { Keeps s.now kept.old shared.old }
-    ensures row { (w : ℕ) → w < s.now.size
-        → entry_in relation.new u w ≡ value (structure_of s.now) (put (assignment_of a) edges.entry.right.0 w) (form_of edges.entry.body.now) }
-    ensures others { (v w : ℕ) → v ≢ u → entry_in relation.new v w ≡ entry_in relation.old v w }
-    ensures size { length relation.new ≡ length relation.old }
+    ensures exact { result ≡ values_along s.now (assignment_of a.now) v.0 (form_of f.now) }
     ensures rooms { sizes_of rooms.new ≡ sizes_of rooms.old }
     ensures kept { Keeps s.now kept.new shared.new }
 {
-    for w in 0..s.size() {
-        let edge = value_of(edges.body, s, a.with(edges.right, w), rooms, kept, shared);
-        relation.put(u as usize, w as usize, edge);
+    match f {
+        Formula::Zero => Row::of(s.size(), K3::No),
+        Formula::One => Row::of(s.size(), K3::Yes),
+        Formula::Atom(pred, terms) => atom_row(*pred, terms, v, s, a),
+        Formula::IsNew(w) => new_row(*w, v, s, a),
+        Formula::Same(x, y) => same_row(*x, *y, v, s, a),
+        Formula::Not(g) => row_of(g, v, s, a, rooms, kept, shared).not(),
+        Formula::And(g, h) => rows_both(g, h, v, s, a, rooms, kept, shared),
+        Formula::Or(g, h) => rows_either(g, h, v, s, a, rooms, kept, shared),
+        Formula::Iff(g, h) => rows_alike(g, h, v, s, a, rooms, kept, shared),
+        Formula::Cond(c, g, h) => rows_choice(c, g, h, v, s, a, rooms, kept, shared),
+        Formula::Exists(w, g) => {
+            if w.0 == v.0 {
+                return by_values(f, v, s, a, rooms, kept, shared);
+            }
+            rows_greatest(*w, g, v, s, a, rooms, kept, shared)
+        }
+        Formula::Forall(w, g) => {
+            if w.0 == v.0 {
+                return by_values(f, v, s, a, rooms, kept, shared);
+            }
+            rows_least(*w, g, v, s, a, rooms, kept, shared)
+        }
+        Formula::Closure {
+            from,
+            to,
+            left,
+            right,
+            body,
+        } => {
+            let edges = Edges {
+                left: *left,
+                right: *right,
+                body,
+            };
+            if has_outer(edges, v.0) {
+                return by_values(f, v, s, a, rooms, kept, shared);
+            }
+            closure_row(*from, *to, edges, v, s, a, rooms, kept, shared)
+        }
     }
+}
+
+/// The values of the formula for all individuals, put for `v`, one after the other.
+#[cycle(values)]
+fn by_values<'f>(
+    f: &'f Formula,
+    v: Var,
+    s: &Structure,
+    a: &Assignment,
+    rooms: &mut [Relation],
+    kept: &mut Kept<'f>,
+    shared: &mut [Relation],
+) -> Row
+    requires parts { CanEvaluate s.now a.now (sizes_of rooms.old) (FExists v.0 (form_of f.now)) }
+    requires kept { Keeps s.now kept.old shared.old }
+    ensures exact { result ≡ values_along s.now (assignment_of a.now) v.0 (form_of f.now) }
+    ensures rooms { sizes_of rooms.new ≡ sizes_of rooms.old }
+    ensures kept { Keeps s.now kept.new shared.new }
+{
+    let mut values = Row::of(s.size(), K3::No);
+    for u in 0..s.size() {
+        let here = (*a).with(v, u);
+        values.set(u, value_of(f, s, &here, rooms, kept, shared));
+    }
+    values
+}
+
+#[cycle(values)]
+fn rows_both<'f>(
+    g: &'f Formula,
+    h: &'f Formula,
+    v: Var,
+    s: &Structure,
+    a: &Assignment,
+    rooms: &mut [Relation],
+    kept: &mut Kept<'f>,
+    shared: &mut [Relation],
+) -> Row
+    requires parts { CanEvaluate s.now a.now (sizes_of rooms.old)
+        (FExists v.0 (FAnd (form_of g.now) (form_of h.now))) }
+    requires kept { Keeps s.now kept.old shared.old }
+    ensures exact { result ≡ values_along s.now (assignment_of a.now) v.0 (FAnd (form_of g.now) (form_of h.now)) }
+    ensures rooms { sizes_of rooms.new ≡ sizes_of rooms.old }
+    ensures kept { Keeps s.now kept.new shared.new }
+{
+    let first = row_of(g, v, s, a, rooms, kept, shared);
+    if first.are_all(K3::No) {
+        return first;
+    }
+    let second = row_of(h, v, s, a, rooms, kept, shared);
+    first.and(&second)
+}
+
+#[cycle(values)]
+fn rows_either<'f>(
+    g: &'f Formula,
+    h: &'f Formula,
+    v: Var,
+    s: &Structure,
+    a: &Assignment,
+    rooms: &mut [Relation],
+    kept: &mut Kept<'f>,
+    shared: &mut [Relation],
+) -> Row
+    requires parts { CanEvaluate s.now a.now (sizes_of rooms.old)
+        (FExists v.0 (FOr (form_of g.now) (form_of h.now))) }
+    requires kept { Keeps s.now kept.old shared.old }
+    ensures exact { result ≡ values_along s.now (assignment_of a.now) v.0 (FOr (form_of g.now) (form_of h.now)) }
+    ensures rooms { sizes_of rooms.new ≡ sizes_of rooms.old }
+    ensures kept { Keeps s.now kept.new shared.new }
+{
+    let first = row_of(g, v, s, a, rooms, kept, shared);
+    if first.are_yes() {
+        return first;
+    }
+    let second = row_of(h, v, s, a, rooms, kept, shared);
+    first.or(&second)
+}
+
+#[cycle(values)]
+fn rows_alike<'f>(
+    g: &'f Formula,
+    h: &'f Formula,
+    v: Var,
+    s: &Structure,
+    a: &Assignment,
+    rooms: &mut [Relation],
+    kept: &mut Kept<'f>,
+    shared: &mut [Relation],
+) -> Row
+    requires parts { CanEvaluate s.now a.now (sizes_of rooms.old)
+        (FExists v.0 (FIff (form_of g.now) (form_of h.now))) }
+    requires kept { Keeps s.now kept.old shared.old }
+    ensures exact { result ≡ values_along s.now (assignment_of a.now) v.0 (FIff (form_of g.now) (form_of h.now)) }
+    ensures rooms { sizes_of rooms.new ≡ sizes_of rooms.old }
+    ensures kept { Keeps s.now kept.new shared.new }
+{
+    let first = row_of(g, v, s, a, rooms, kept, shared);
+    let second = row_of(h, v, s, a, rooms, kept, shared);
+    let forth = first.not().or(&second);
+    let back = second.not().or(&first);
+    forth.and(&back)
+}
+
+#[cycle(values)]
+fn rows_choice<'f>(
+    c: &'f Formula,
+    g: &'f Formula,
+    h: &'f Formula,
+    v: Var,
+    s: &Structure,
+    a: &Assignment,
+    rooms: &mut [Relation],
+    kept: &mut Kept<'f>,
+    shared: &mut [Relation],
+) -> Row
+    requires parts { CanEvaluate s.now a.now (sizes_of rooms.old)
+        (FExists v.0 (FCond (form_of c.now) (form_of g.now) (form_of h.now))) }
+    requires kept { Keeps s.now kept.old shared.old }
+    ensures exact { result ≡ values_along s.now (assignment_of a.now) v.0
+        (FCond (form_of c.now) (form_of g.now) (form_of h.now)) }
+    ensures rooms { sizes_of rooms.new ≡ sizes_of rooms.old }
+    ensures kept { Keeps s.now kept.new shared.new }
+{
+    let condition = row_of(c, v, s, a, rooms, kept, shared);
+    if condition.are_yes() {
+        return row_of(g, v, s, a, rooms, kept, shared);
+    }
+    if condition.are_all(K3::No) {
+        return row_of(h, v, s, a, rooms, kept, shared);
+    }
+    let first = row_of(g, v, s, a, rooms, kept, shared);
+    let second = row_of(h, v, s, a, rooms, kept, shared);
+    let then = condition.and(&first);
+    let otherwise = condition.not().and(&second);
+    then.or(&otherwise)
+}
+
+/// For each individual put for `v` the greatest value of the body over all individuals, put for `w`: the
+/// rows of all individuals joined by "or".
+#[cycle(values)]
+fn rows_greatest<'f>(
+    w: Var,
+    body: &'f Formula,
+    v: Var,
+    s: &Structure,
+    a: &Assignment,
+    rooms: &mut [Relation],
+    kept: &mut Kept<'f>,
+    shared: &mut [Relation],
+) -> Row
+    requires parts { CanEvaluate s.now a.now (sizes_of rooms.old) (FExists v.0 (FExists w.0 (form_of body.now))) }
+    requires kept { Keeps s.now kept.old shared.old }
+    requires apart { w.0 ≢ v.0 }
+    ensures exact { result ≡ values_along s.now (assignment_of a.now) v.0 (FExists w.0 (form_of body.now)) }
+    ensures rooms { sizes_of rooms.new ≡ sizes_of rooms.old }
+    ensures kept { Keeps s.now kept.new shared.new }
+{
+    let mut found = Row::of(s.size(), K3::No);
+    for x in 0..s.size() {
+        let here = (*a).with(w, x);
+        let row = row_of(body, v, s, &here, rooms, kept, shared);
+        found = found.or(&row);
+    }
+    found
+}
+
+/// For each individual put for `v` the least value of the body over all individuals, put for `w`.
+#[cycle(values)]
+fn rows_least<'f>(
+    w: Var,
+    body: &'f Formula,
+    v: Var,
+    s: &Structure,
+    a: &Assignment,
+    rooms: &mut [Relation],
+    kept: &mut Kept<'f>,
+    shared: &mut [Relation],
+) -> Row
+    requires parts { CanEvaluate s.now a.now (sizes_of rooms.old) (FExists v.0 (FForall w.0 (form_of body.now))) }
+    requires kept { Keeps s.now kept.old shared.old }
+    requires apart { w.0 ≢ v.0 }
+    ensures exact { result ≡ values_along s.now (assignment_of a.now) v.0 (FForall w.0 (form_of body.now)) }
+    ensures rooms { sizes_of rooms.new ≡ sizes_of rooms.old }
+    ensures kept { Keeps s.now kept.new shared.new }
+{
+    let mut found = Row::of(s.size(), K3::Yes);
+    for x in 0..s.size() {
+        let here = (*a).with(w, x);
+        let row = row_of(body, v, s, &here, rooms, kept, shared);
+        found = found.and(&row);
+    }
+    found
+}
+
+/// The values of a transitive closure whose edges don't depend on what `v` stands for.
+#[cycle(values)]
+fn closure_row<'f>(
+    from: Var,
+    to: Var,
+    edges: Edges<'f>,
+    v: Var,
+    s: &Structure,
+    a: &Assignment,
+    rooms: &mut [Relation],
+    kept: &mut Kept<'f>,
+    shared: &mut [Relation],
+) -> Row
+    requires parts { CanEvaluate s.now a.now (sizes_of rooms.old)
+        (FExists v.0 (FClosure from.0 to.0 edges.left.0 edges.right.0 (form_of edges.body.now))) }
+    requires kept { Keeps s.now kept.old shared.old }
+    requires steady { ¬ ((v.0 ≢ edges.left.0) × (v.0 ≢ edges.right.0) × IsFree v.0 (form_of edges.body.now)) }
+    ensures exact { result ≡ values_along s.now (assignment_of a.now) v.0
+        (FClosure from.0 to.0 edges.entry.left.0 edges.entry.right.0 (form_of edges.entry.body.now)) }
+    ensures rooms { sizes_of rooms.new ≡ sizes_of rooms.old }
+    ensures kept { Keeps s.now kept.new shared.new }
+{
+    if from.0 == v.0 {
+        if to.0 == v.0 {
+            return closed_part(Part::Diagonal, edges, s, a, rooms, kept, shared);
+        }
+        return closed_part(Part::To(a.at(to)), edges, s, a, rooms, kept, shared);
+    }
+    let row = closed_part(Part::From(a.at(from)), edges, s, a, rooms, kept, shared);
+    if to.0 == v.0 {
+        return row;
+    }
+    Row::of(s.size(), row.get(a.at(to)))
 }

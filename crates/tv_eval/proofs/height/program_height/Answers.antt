@@ -9,7 +9,8 @@ pub returns : goal.returns
 returns c =
     let p : ProgramForm = program_of c.args.program.now
     in let preds : c.in_preds.result ≡ min (deepest (λ d. kind_height d.kind) p.preds) 18446744073709551615 =
-    fold-of_parts (λ d. kind_height d.kind) pred_of 18446744073709551615 c.in_preds.result c.args.program.now.vocab.preds
+    fold-of_parts (λ d. kind_height d.kind) pred_of 18446744073709551615 c.in_preds.result
+    c.args.program.now.vocab.preds
     (c.in_preds.ensures ∙ (rw c.as_slice.ensures refl))
     in let rules : c.in_rules.result ≡ min (deepest (λ rule. height rule.body) p.rules) 18446744073709551615 =
     fold-of_parts (λ rule. height rule.body) rule_of 18446744073709551615 c.in_rules.result c.args.program.now.rules

@@ -4,4 +4,5 @@ use Rattle.tv_eval.proofs.kept.is_closed.Given as goal
 
 -- of the variables so far only the closure's own are free in the body
 abbrev pub invariant-loop-v : goal.invariant-loop-v
-invariant-loop-v l = (v : ℕ) → v < l.v → IsFree v (form_of l.edges.body.now) → (v ≡ l.edges.left.0) ⊎ (v ≡ l.edges.right.0)
+invariant-loop-v l = (v : ℕ) → v < l.v → IsFree v (form_of l.edges.body.now) → (v ≡ l.edges.left.0) ⊎
+    (v ≡ l.edges.right.0)

@@ -12,5 +12,6 @@ small (suc (suc (suc (suc k)))) = omega arith
 pub new-requires-clause-arities : goal.new-requires-clause-arities
 new-requires-clause-arities c = λ k d lt.
     subst (λ n. n ≤ 2)
-    (sym (ap (λ ns. get_or ns k 0) c.in_ok-preds.ensures) ∙ get_or-map (λ pred. pred.arity) c.in_ok-preds.preds k d 0 lt)
+    (sym (ap (λ ns. get_or ns k 0) c.in_ok-preds.ensures) ∙ get_or-map (λ pred. pred.arity) c.in_ok-preds.preds
+    k d 0 lt)
     (small k)

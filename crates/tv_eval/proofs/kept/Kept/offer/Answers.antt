@@ -10,7 +10,8 @@ returns-clause-kept c = λ s a keeps over held.
 
 pub returns-clause-unchanged : goal.returns-clause-unchanged
 returns-clause-unchanged c = λ none.
-    let read : get_or c.args.rooms.now c.args.self.now.count [] ≡ get_or c.args.rooms.now c.args.self.now.count c.index-rooms-place.result =
+    let read : get_or c.args.rooms.now c.args.self.now.count [] ≡ get_or c.args.rooms.now c.args.self.now.count
+    c.index-rooms-place.result =
     any-default c.args.rooms.now c.args.self.now.count [] c.index-rooms-place.result (omega arith)
     in absurd (none (record {
       place = omega arith;

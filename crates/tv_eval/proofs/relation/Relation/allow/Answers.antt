@@ -1,6 +1,7 @@
 use Rattle.std.proofs.Common.{ℕ, ◌≡◌, ◌<◌, ◌≤◌, ◌+◌, ◌∙◌}
 use Rattle.tv_kleene.specs.declared.K3.{K3}
-use Rattle.tv_eval.specs.Rows.{entry_in, through}
+use Rattle.tv_row.specs.Places.{entry_in}
+use Rattle.tv_eval.specs.Rows.{through}
 use Rattle.tv_eval.proofs.RowLaws.{allowed-next}
 use Rattle.tv_eval.proofs.relation.Relation.allow.Goals as goal
 
@@ -16,4 +17,4 @@ loop-u-preserved c =
     × ((v x : ℕ) → u + 1 ≤ v → new v x ≡ old v x) =
     allowed-next old now new n u stop c.requires.stop c.loop-u.invariant.1 c.loop-u.invariant.2
     c.extend.ensures.row c.extend.ensures.others
-    in (c.extend.ensures.size ∙ c.loop-u.invariant.0, rows.0, rows.1)
+    in (c.extend.ensures.size ∙ c.loop-u.invariant.0, rows.0, rows.1, c.extend.ensures.square)

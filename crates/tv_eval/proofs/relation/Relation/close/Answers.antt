@@ -1,6 +1,6 @@
 use Rattle.std.proofs.Common.{ℕ, ◌-◌, ◌∙◌, arith}
 use Rattle.tv_kleene.specs.declared.K3.{K3}
-use Rattle.tv_eval.specs.Rows.{entry_in}
+use Rattle.tv_row.specs.Places.{entry_in}
 use Rattle.tv_eval.proofs.RowLaws.{best-further}
 use Rattle.tv_eval.proofs.relation.Relation.close.Goals as goal
 
@@ -14,4 +14,5 @@ loop-first-preserved c =
       omega arith,
       best-further edge old new c.args.size (c.loop-first.first - 1) c.loop-first.first (omega arith) (omega arith)
           c.loop-first.invariant.2 c.allow.ensures.value,
+      c.allow.ensures.square,
     )

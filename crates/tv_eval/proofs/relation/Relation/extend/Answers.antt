@@ -1,24 +1,34 @@
-use Rattle.std.proofs.Common.{ℕ, ◌≡◌, ◌<◌, ◌≤◌, ◌≢◌, ◌+◌, ◌∙◌, refl}
+use Rattle.std.proofs.Common.{◌≡◌, ◌∙◌, length, map, get_or, [], ap, refl, List}
 use Rattle.tv_kleene.specs.declared.K3.{K3}
+use Rattle.tv_kleene.specs.declared.K3.TheVariants.{No}
 use Rattle.tv_kleene.specs.Kleene.{smaller_of, larger_of}
-use Rattle.tv_eval.specs.Rows.{entry_in, through}
-use Rattle.tv_eval.proofs.RowLaws.{extended-next}
+use Rattle.tv_row.specs.Bits.{paired}
+use Rattle.tv_row.specs.Places.{entry_in}
+use Rattle.tv_eval.proofs.RowLaws.{put_square, put_here, extended_row, extended_long}
 use Rattle.tv_eval.proofs.relation.Relation.extend.Goals as goal
 
-pub loop-w-preserved : goal.loop-w-preserved
-loop-w-preserved c =
-    let old : ℕ → ℕ → K3 = entry_in c.args.self.now
-    in let now : ℕ → ℕ → K3 = entry_in c.loop-w.self
-    in let new : ℕ → ℕ → K3 = entry_in c.put.new.self
-    in let u : ℕ = c.args.u
-    in let stop : ℕ = c.args.stop
-    in let w : ℕ = c.loop-w.w
-    in let written : new u w ≡ larger_of (now u w) (smaller_of (old u stop) (now stop w)) =
-    c.put.ensures.written ∙ c.or-value.ensures
-    ∙ (rw (c.get-in-loop-w.ensures, c.and-past.ensures, c.get-before.ensures, c.get.ensures) refl)
-    in let rows : ((x : ℕ) → x < w + 1 → new u x ≡ through old stop u x)
-    × ((x : ℕ) → w + 1 ≤ x → new u x ≡ old u x)
-    × ((v x : ℕ) → v ≢ u → new v x ≡ old v x) =
-    extended-next old now new u stop w c.loop-w.invariant.1 c.loop-w.invariant.2 c.loop-w.invariant.3 written
-    c.put.ensures.others
-    in (c.put.ensures.size ∙ c.loop-w.invariant.0, rows.0, rows.1, rows.2)
+pub returns-clause-row : goal.returns-clause-row
+returns-clause-row c = λ w lt.
+    let row : List K3 = get_or c.args.self.now c.args.u []
+    in let is : c.or.result ≡ paired larger_of row
+    (map (smaller_of c.get-k.result) (get_or c.args.self.now c.args.stop [])) =
+    c.or.ensures ∙ (rw (c.row-row.ensures, c.capped-past.ensures, c.row.ensures) refl)
+    in let long : length c.or.result ≡ c.args.size = ap length is
+    ∙ extended_long c.args.self.now c.args.size c.args.u c.args.stop c.get-k.result c.requires.square
+    c.requires.from c.requires.stop
+    in ap (λ rows. entry_in rows c.args.u w) c.put_row.ensures
+    ∙ put_here c.args.self.now c.args.size c.args.u c.or.result c.requires.square c.requires.from long w
+    ∙ ap (λ r. get_or r w No) is
+    ∙ extended_row c.args.self.now c.args.size c.args.u c.args.stop w c.get-k.result c.requires.square c.requires.from
+    c.requires.stop lt (c.get-k.ensures ∙ ap (λ r. get_or r c.args.stop No) c.row-row.ensures)
+
+pub returns-clause-square : goal.returns-clause-square
+returns-clause-square c =
+    let row : List K3 = get_or c.args.self.now c.args.u []
+    in let is : c.or.result ≡ paired larger_of row
+    (map (smaller_of c.get-k.result) (get_or c.args.self.now c.args.stop [])) =
+    c.or.ensures ∙ (rw (c.row-row.ensures, c.capped-past.ensures, c.row.ensures) refl)
+    in rw c.put_row.ensures
+    (put_square c.args.self.now c.args.size c.args.u c.or.result c.requires.square c.requires.from
+    (ap length is ∙ extended_long c.args.self.now c.args.size c.args.u c.args.stop c.get-k.result
+    c.requires.square c.requires.from c.requires.stop))

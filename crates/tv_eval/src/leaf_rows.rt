@@ -1,0 +1,99 @@
+//! The values of a formula without parts for all individuals that one variable may stand for.
+
+ghost use Rattle.std.specs.Prelude.{ℕ, ◌≡◌, ◌≢◌, ◌<◌, [], ◌∷◌, length, map, replicate};
+ghost use Rattle.std.specs.List.{range_with_len};
+ghost use Rattle.tv_model.specs.Form.{vars_of, FAtom, FExists, FIsNew, FSame};
+ghost use Rattle.tv_model.specs.Truth.{put};
+ghost use Rattle.tv_struct.specs.StructureForm.{structure_of, value_at};
+ghost use Rattle.tv_struct.specs.StructureRows.{HasArity};
+ghost use Rattle.tv_value.specs.Value.{mark_value, same_value};
+ghost use Rattle.tv_eval.specs.Along.{values_along};
+ghost use Rattle.tv_eval.specs.AssignmentForm.{assignment_of};
+ghost use Rattle.tv_eval.specs.CanEvaluate.{CanEvaluate};
+
+use crate::Assignment;
+use crate::leaves::{atom, is_new, same};
+use tv_kleene::K3;
+use tv_model::{PredId, Terms, Var};
+use tv_row::Row;
+use tv_struct::{Structure, Tuple};
+
+/// The predicate's values for all individuals, put for `v` in its terms.
+pub fn atom_row(pred: PredId, terms: &Terms, v: Var, s: &Structure, a: &Assignment) -> Row
+    requires { CanEvaluate s.now a.now [] (FExists v.0 (FAtom pred.0 (vars_of terms.now))) }
+    ensures { result ≡ values_along s.now (assignment_of a.now) v.0 (FAtom pred.0 (vars_of terms.now)) }
+{
+    match terms {
+        Terms::Zero => Row::of(s.size(), s.get(pred, Tuple::Zero)),
+        Terms::One(x) => one_row(pred, *x, v, s, a),
+        Terms::Two(x, y) => two_row(pred, *x, *y, v, s, a),
+    }
+}
+
+fn one_row(pred: PredId, x: Var, v: Var, s: &Structure, a: &Assignment) -> Row
+    requires { CanEvaluate s.now a.now [] (FExists v.0 (FAtom pred.0 (x.0 ∷ []))) }
+    ensures { result ≡ values_along s.now (assignment_of a.now) v.0 (FAtom pred.0 (x.0 ∷ [])) }
+{
+    if x.0 == v.0 {
+        return s.unary_row(pred);
+    }
+    Row::of(s.size(), s.get(pred, Tuple::One(a.at(x))))
+}
+
+fn two_row(pred: PredId, x: Var, y: Var, v: Var, s: &Structure, a: &Assignment) -> Row
+    requires { CanEvaluate s.now a.now [] (FExists v.0 (FAtom pred.0 (x.0 ∷ y.0 ∷ []))) }
+    ensures { result ≡ values_along s.now (assignment_of a.now) v.0 (FAtom pred.0 (x.0 ∷ y.0 ∷ [])) }
+{
+    if x.0 == v.0 {
+        if y.0 == v.0 {
+            return diagonal(pred, s);
+        }
+        return s.column(pred, a.at(y));
+    }
+    if y.0 == v.0 {
+        return s.row(pred, a.at(x));
+    }
+    Row::of(s.size(), s.get(pred, Tuple::Two(a.at(x), a.at(y))))
+}
+
+/// The binary predicate's values at the pairs of an individual with itself.
+fn diagonal(pred: PredId, s: &Structure) -> Row
+    requires { HasArity s.now pred.0 2 }
+    ensures { result ≡ map (λ u. value_at s.now pred.0 (u ∷ u ∷ [])) (range_with_len 0 s.now.size) }
+{
+    let mut values = Row::of(s.size(), K3::No);
+    for u in 0..s.size() {
+        values.set(u, s.get(pred, Tuple::Two(u, u)));
+    }
+    values
+}
+
+/// Whether `w` stands for the fresh individual, for all individuals put for `v`.
+pub fn new_row(w: Var, v: Var, s: &Structure, a: &Assignment) -> Row
+    ensures { result ≡ values_along s.now (assignment_of a.now) v.0 (FIsNew w.0) }
+{
+    let mut values = Row::of(s.size(), K3::No);
+    for u in 0..s.size() {
+        values.set(u, is_new(s, placed(w, v, u, a)));
+    }
+    values
+}
+
+/// Whether `x` and `y` stand for one cell, for all individuals put for `v`.
+pub fn same_row(x: Var, y: Var, v: Var, s: &Structure, a: &Assignment) -> Row
+    requires { CanEvaluate s.now a.now [] (FExists v.0 (FSame x.0 y.0)) }
+    ensures { result ≡ values_along s.now (assignment_of a.now) v.0 (FSame x.0 y.0) }
+{
+    let mut values = Row::of(s.size(), K3::No);
+    for u in 0..s.size() {
+        values.set(u, same(s, placed(x, v, u, a), placed(y, v, u, a)));
+    }
+    values
+}
+
+/// What `x` stands for where `u` is put for `v`.
+fn placed(x: Var, v: Var, u: u32, a: &Assignment) -> u32
+    ensures { result ≡ put (assignment_of a.now) v.0 u x.0 }
+{
+    if x.0 == v.0 { u } else { a.at(x) }
+}
