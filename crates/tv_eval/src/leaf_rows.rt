@@ -14,7 +14,7 @@ ghost use Rattle.tv_eval.specs.CanEvaluate.{CanEvaluate};
 use crate::Assignment;
 use crate::leaves::{atom, is_new, same};
 use tv_kleene::K3;
-use tv_model::{PredId, Terms, Var};
+use tv_model::{Formula, PredId, Terms, Var};
 use tv_row::Row;
 use tv_struct::{Structure, Tuple};
 
@@ -89,6 +89,22 @@ pub fn same_row(x: Var, y: Var, v: Var, s: &Structure, a: &Assignment) -> Row
         values.set(u, same(s, placed(x, v, u, a), placed(y, v, u, a)));
     }
     values
+}
+
+/// How many atoms are read as columns where the variable is put for all individuals: they have it first
+/// and another variable second. A column takes longer than a row.
+pub fn columns(f: &Formula, v: Var) -> usize {
+    match f {
+        Formula::Atom(_, Terms::Two(x, y)) => usize::from(x.0 == v.0 && y.0 != v.0),
+        Formula::Not(g) | Formula::Exists(_, g) | Formula::Forall(_, g) => columns(g, v),
+        Formula::And(g, h) | Formula::Or(g, h) | Formula::Iff(g, h) => {
+            columns(g, v).saturating_add(columns(h, v))
+        }
+        Formula::Cond(c, g, h) => columns(c, v).saturating_add(columns(g, v).saturating_add(columns(
+            h, v,
+        ))),
+        _ => 0,
+    }
 }
 
 /// What `x` stands for where `u` is put for `v`.

@@ -16,7 +16,7 @@ ghost use Rattle.tv_eval.specs.Rows.{IsPart, IsSquare, part_of};
 
 use crate::Assignment;
 use crate::kept::{Edges, Kept, has_outer};
-use crate::leaf_rows::{atom_row, new_row, same_row};
+use crate::leaf_rows::{atom_row, columns, new_row, same_row};
 use crate::leaves::{atom, is_new, same};
 use crate::relation::{Part, Relation};
 use tv_kleene::K3;
@@ -342,10 +342,16 @@ pub fn row_of<'f>(
             if w.0 == v.0 {
                 return by_values(f, v, s, a, rooms, kept, shared);
             }
+            if columns(g, v) > columns(g, *w) {
+                return by_values(f, v, s, a, rooms, kept, shared);
+            }
             rows_greatest(*w, g, v, s, a, rooms, kept, shared)
         }
         Formula::Forall(w, g) => {
             if w.0 == v.0 {
+                return by_values(f, v, s, a, rooms, kept, shared);
+            }
+            if columns(g, v) > columns(g, *w) {
                 return by_values(f, v, s, a, rooms, kept, shared);
             }
             rows_least(*w, g, v, s, a, rooms, kept, shared)
