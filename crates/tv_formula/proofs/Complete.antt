@@ -12,7 +12,8 @@ use Rattle.tv_formula.specs.declared.binder.Binder.{Binder}
 use Rattle.tv_formula.specs.declared.link.Link.{Link}
 use Rattle.tv_formula.specs.declared.link.Link.TheVariants.{Iff, Or, And}
 use Rattle.tv_formula.specs.Grammar.{Production, Whole, Imp, Unary, Joined, Behind, mark_of, join, operand, name_form, arrow, over, Leaf, zero_leaf, one_leaf, half_leaf, same_leaf, differ_leaf, atom_leaf, star_leaf, plus_leaf, Binds, binds_some, binds_all, binds_pairs, Reads, cond, no_cond, joined, further, no_further, imp, no_imp, negation, binding, parentheses, leaf}
-use Rattle.tv_formula.specs.Reading.{Reader, compared, applied, closed, behind_name, predicate, named, leaf_reading, negated, begins_binder, existence, universality, transitive, binder, bound, grouped, unary_step, imp_step, joined_step, behind_step, chosen, whole_step, step, reading, below}
+use Rattle.tv_formula.specs.Reading.{Reader, compared, applied, closed, behind_name, predicate, named, leaf_reading, negated, begins_binder, existence, universality, transitive, binder, bound, grouped, unary_step, imp_step, joined_step, behind_step, chosen, whole_step, step, reading}
+use Rattle.tv_phrases.specs.Repeated.{below}
 use Rattle.tv_formula.proofs.Steps.{reading_steps}
 
 -- how many levels of the grammar stand below a production at the same place

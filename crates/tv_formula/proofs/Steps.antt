@@ -11,7 +11,8 @@ use Rattle.tv_formula.specs.declared.binder.Binder.{Binder}
 use Rattle.tv_formula.specs.declared.link.Link.{Link}
 use Rattle.tv_formula.specs.declared.link.Link.TheVariants.{Iff, Or, And}
 use Rattle.tv_formula.specs.Grammar.{Production, Whole, Imp, Unary, Joined, Behind, mark_of, join, operand, arrow, over}
-use Rattle.tv_formula.specs.Reading.{Reader, below, step, reading, binder, joined_step, behind_step, unary_step, imp_step, whole_step, negated, grouped, begins_binder, bound, leaf_reading, chosen}
+use Rattle.tv_formula.specs.Reading.{Reader, step, reading, binder, joined_step, behind_step, unary_step, imp_step, whole_step, negated, grouped, begins_binder, bound, leaf_reading, chosen}
+use Rattle.tv_phrases.specs.Repeated.{below}
 
 pub reading_steps : (n : ℕ) (p : Production) (ts : List SpecToken) → reading n p ts ≡ (below n >>= λ m. step (reading m) p ts)
 unfolding reading

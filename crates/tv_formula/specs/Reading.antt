@@ -14,11 +14,6 @@ use Rattle.tv_formula.specs.Grammar.{Production, Whole, Imp, Unary, Joined, Behi
 abbrev pub Reader : Type 0
 Reader = Production → List SpecToken → Reading Form
 
--- one level of depth less, if there is one
-abbrev pub below : ℕ → Option ℕ
-below zero = None
-below (suc n) = Some n
-
 -- the right side of an equality or inequality
 unfoldable pub compared : (List ℕ → List ℕ → Form) → List ℕ → List SpecToken → Reading Form
 compared make v ts = first identifier_item ts >>= λ w. taken (make v w.0) w.1

@@ -7,7 +7,8 @@ ghost use Rattle.tv_phrases.specs.Reading.{Gives, Takes, Told};
 ghost use Rattle.tv_phrases.specs.Tokens.{after};
 ghost use Rattle.tv_tree.specs.Copies.{form_of};
 ghost use Rattle.tv_formula.specs.Grammar.{Whole, Imp, Unary, Joined, operand, IsFormula, NoFormula};
-ghost use Rattle.tv_formula.specs.Reading.{below, reading, bound, grouped, negated, chosen, formula_reading};
+ghost use Rattle.tv_formula.specs.Reading.{reading, bound, grouped, negated, chosen, formula_reading};
+ghost use Rattle.tv_phrases.specs.Repeated.{below};
 
 use crate::binder::{begins_binder, binder_at};
 use crate::build::{closed, conditional, expect_behind, implication, negation};

@@ -1,3 +1,4 @@
-pub mod Reading
-pub mod Stores
-pub mod Writing
+-- Lemmas of this crate's own.
+mod Reading
+mod Stores
+mod Writing

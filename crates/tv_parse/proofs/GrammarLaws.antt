@@ -15,12 +15,14 @@ use Rattle.tv_parse.specs.declared.kinds.DeclKind.{DeclKind}
 use Rattle.tv_parse.specs.declared.kinds.DeclKind.TheVariants as decl
 use Rattle.tv_parse.specs.declared.kinds.PartKind.{PartKind}
 use Rattle.tv_parse.specs.declared.kinds.PartKind.TheVariants as part
-use Rattle.tv_parse.specs.Kinds.{decl_kind, part_kind, prop_item, begins_with, begins_decl, begins_update, begins_formula, kind_of, may_follow}
-use Rattle.tv_parse.specs.Grammar.{Repeated, IsSignature, begins_prop, begins_edge, IsProp, AreProps, Joined, IsOptional, IsPredEnd, pred_kind, IsDecl, AreDecls, IsUpdate, AreUpdates, IsPiece, ArePieces, AreFormulas, IsPart, AreParts, IsAction, IsEdge, IsTail, IsProgram}
-use Rattle.tv_parse.specs.Reading.{many, with_first, signature, props_reading, skip, set_reading, set_decl, core_decl, defined_decl, rule_decl, decl_behind, decl_reading, decl_rows, update_reading, update_rows, piece_reading, pieces_reading, joined, formulas_reading, caption_part, focus_part, formula_part, message_part, block_part, part_behind, part_turn, parts, action_reading, edge_reading, actions_reading, edges_reading, at_end, tail_reading, program_reading}
-use Rattle.tv_parse.proofs.Phrases.{bind_some, chosen, tested}
+use Rattle.tv_parse.specs.Kinds.{decl_kind, part_kind, prop_item, begins_decl, begins_update, begins_formula, kind_of, may_follow}
+use Rattle.tv_parse.specs.Grammar.{IsSignature, begins_prop, begins_edge, IsProp, AreProps, IsOptional, IsPredEnd, pred_kind, IsDecl, AreDecls, IsUpdate, AreUpdates, IsPiece, ArePieces, AreFormulas, IsPart, AreParts, IsAction, IsEdge, IsTail, IsProgram}
+use Rattle.tv_parse.specs.Reading.{signature, props_reading, skip, set_reading, set_decl, core_decl, defined_decl, rule_decl, decl_behind, decl_reading, decl_rows, update_reading, update_rows, piece_reading, pieces_reading, formulas_reading, caption_part, focus_part, formula_part, message_part, block_part, part_behind, part_turn, parts, action_reading, edge_reading, actions_reading, edges_reading, at_end, tail_reading, program_reading}
+use Rattle.tv_phrases.proofs.Values.{bind_some, chosen, tested}
 use Rattle.tv_parse.proofs.SetLaws.{set_sound}
-use Rattle.tv_parse.proofs.RowLaws.{held, first_sound, many_sound, joined_sound, rows_sound}
+use Rattle.tv_parse.proofs.RowLaws.{rows_sound}
+use Rattle.tv_phrases.specs.Repeated.{begins_with, Repeated, Joined, many, with_first, joined}
+use Rattle.tv_phrases.proofs.Repeats.{held, first_sound, many_sound, joined_sound}
 
 signature_sound : (ts rest : List SpecToken) (x : NameForm × List (List ℕ)) → signature ts ≡ taken x rest → IsSignature ts x.0 x.1 rest
 unfolding signature

@@ -17,12 +17,14 @@ use Rattle.tv_parse.specs.declared.kinds.DeclKind.{DeclKind}
 use Rattle.tv_parse.specs.declared.kinds.DeclKind.TheVariants as decl
 use Rattle.tv_parse.specs.declared.kinds.PartKind.{PartKind}
 use Rattle.tv_parse.specs.declared.kinds.PartKind.TheVariants as part
-use Rattle.tv_parse.specs.Kinds.{decl_kind, part_kind, prop_item, begins_with, begins_decl, begins_update, begins_formula, kind_of, may_follow}
-use Rattle.tv_parse.specs.Grammar.{Repeated, Joined, IsSignature, begins_prop, begins_edge, IsProp, AreProps, IsOptional, IsPredEnd, pred_kind, IsDecl, AreDecls, IsUpdate, AreUpdates, IsPiece, ArePieces, AreFormulas, IsPart, AreParts, IsAction, IsEdge, IsTail, IsProgram}
-use Rattle.tv_parse.specs.Reading.{many, with_first, signature, props_reading, skip, set_reading, set_decl, core_decl, defined_decl, rule_decl, decl_behind, decl_reading, decl_rows, update_reading, update_rows, piece_reading, pieces_reading, joined, formulas_reading, caption_part, focus_part, formula_part, message_part, block_part, part_behind, part_turn, parts, action_reading, edge_reading, actions_reading, edges_reading, at_end, tail_reading, program_reading}
-use Rattle.tv_parse.proofs.Phrases.{after_takes, first_takes, params_take, name_takes}
+use Rattle.tv_parse.specs.Kinds.{decl_kind, part_kind, prop_item, begins_decl, begins_update, begins_formula, kind_of, may_follow}
+use Rattle.tv_parse.specs.Grammar.{IsSignature, begins_prop, begins_edge, IsProp, AreProps, IsOptional, IsPredEnd, pred_kind, IsDecl, AreDecls, IsUpdate, AreUpdates, IsPiece, ArePieces, AreFormulas, IsPart, AreParts, IsAction, IsEdge, IsTail, IsProgram}
+use Rattle.tv_parse.specs.Reading.{signature, props_reading, skip, set_reading, set_decl, core_decl, defined_decl, rule_decl, decl_behind, decl_reading, decl_rows, update_reading, update_rows, piece_reading, pieces_reading, formulas_reading, caption_part, focus_part, formula_part, message_part, block_part, part_behind, part_turn, parts, action_reading, edge_reading, actions_reading, edges_reading, at_end, tail_reading, program_reading}
+use Rattle.tv_phrases.proofs.Takes.{after_takes, first_takes, params_take, name_takes}
 use Rattle.tv_parse.proofs.SetsRead.{set_read}
-use Rattle.tv_parse.proofs.RowsRead.{IsRead, many_read, joined_read, listed, nests_listed, rows_read}
+use Rattle.tv_parse.proofs.RowsRead.{listed, nests_listed, rows_read}
+use Rattle.tv_phrases.specs.Repeated.{begins_with, Repeated, Joined, many, with_first, joined}
+use Rattle.tv_phrases.proofs.Repeats.{IsRead, many_read, joined_read}
 
 pub signature_read : (ts rest : List SpecToken) (n : NameForm) (xs : List (List ℕ)) → IsSignature ts n xs rest → (signature ts ≡ taken (n, xs) rest) × (length rest < length ts)
 unfolding signature

@@ -1,16 +1,19 @@
-pub mod Lists
-pub mod SetSteps
-pub mod Heights
-pub mod Phrases
-pub mod SetLaws
-pub mod RowLaws
-pub mod SetsRead
-pub mod GrammarLaws
-pub mod RowsRead
-pub mod GrammarRead
-pub mod ProgramLaws
+-- Library of lemmas for the crates above: how what is read is spelled.
 pub mod SpelledPhrases
-pub mod SpelledForms
-pub mod SpelledPrograms
-pub mod LexTokens
-pub mod UniquePhrases
+
+-- Lemmas of this crate's own.
+mod Lists
+mod SetSteps
+mod Heights
+mod SetLaws
+mod RowLaws
+mod SetsRead
+mod GrammarLaws
+mod RowsRead
+mod GrammarRead
+mod ProgramLaws
+mod FormulaFronts
+mod SpelledForms
+mod SpelledPrograms
+mod LexTokens
+mod UniquePhrases

@@ -6,69 +6,16 @@ use Rattle.tv_lex.specs.Token.{SpecToken}
 use Rattle.tv_phrases.specs.Reading.{Reading, taken, ◌>>=◌, choose}
 use Rattle.tv_phrases.specs.Tokens.{after, first}
 use Rattle.tv_phrases.specs.Lists.{with_front}
-use Rattle.tv_formula.specs.Reading.{below}
 use Rattle.tv_tree.specs.Forms.{Nest, PartForm}
 use Rattle.tv_tree.specs.Copies.{part_of}
 use Rattle.tv_tree.specs.declared.trees.Part.{Part}
 use Rattle.tv_tree.specs.declared.trees.PropWord.{PropWord}
 use Rattle.tv_parse.specs.declared.kinds.PartKind.{PartKind}
-use Rattle.tv_parse.specs.Kinds.{part_kind, prop_item, begins_with, kind_of, same_kind, has_kind, may_follow}
+use Rattle.tv_parse.specs.Kinds.{part_kind, prop_item, kind_of, same_kind, has_kind, may_follow}
 use Rattle.tv_parse.specs.Grammar.{begins_prop}
-use Rattle.tv_parse.specs.Reading.{with_first, turn, many, all_of, behind, joined, nest, rows, part_turn, part_behind, parts}
-
-front_first : {X : Type 0} (xs : List X) (x : X) (read : Reading (List X)) → with_front xs (with_first x read) ≡ with_front (xs ++ x ∷ []) read
-unfolding with_front with_first
-front_first xs x None = refl
-front_first xs x (Some more) = ap (λ ys. Some (ys, more.1)) (sym (append_assoc xs (x ∷ []) more.0))
-
-front_none : {X : Type 0} (xs : List X) (read : Reading (List X)) → read ≡ None → with_front xs read ≡ None
-unfolding with_front
-front_none xs read e = rw e refl
-
-front_end : {X : Type 0} (xs : List X) (ts : List SpecToken) (read : Reading (List X)) → read ≡ taken [] ts → with_front xs read ≡ taken xs ts
-unfolding with_front
-front_end xs ts read e = rw e (ap (λ ys. Some (ys, ts)) (append-nil xs))
-
-pub front_start : {X : Type 0} (read : Reading (List X)) → read ≡ with_front [] read
-unfolding with_front
-front_start None = refl
-front_start (Some more) = refl
-
--- what a list is that an item was put behind
-pushed : {A X : Type 0} (f : A → X) (old new : List A) (a : A) (read : Reading (List X)) → new ≡ old ++ a ∷ [] → with_front (map f old) (with_first (f a) read) ≡ with_front (map f new) read
-pushed f old new a read e = front_first (map f old) (f a) read ∙ ap (λ xs. with_front xs read) (sym (ap (map f) e ∙ map_push f old a))
-
-turn_more : {X : Type 0} (begins : List SpecToken → Bool) (item : List SpecToken → Reading X) (read : List SpecToken → Reading (List X)) (ts us : List SpecToken) (x : X) → begins ts ≡ true → item ts ≡ taken x us → turn begins item read ts ≡ with_first x (read us)
-unfolding turn
-turn_more begins item read ts us x b e = rw (b, e) refl
-
-turn_end : {X : Type 0} (begins : List SpecToken → Bool) (item : List SpecToken → Reading X) (read : List SpecToken → Reading (List X)) (ts : List SpecToken) → begins ts ≡ false → turn begins item read ts ≡ taken [] ts
-unfolding turn
-turn_end begins item read ts b = rw b refl
-
-turn_break : {X : Type 0} (begins : List SpecToken → Bool) (item : List SpecToken → Reading X) (read : List SpecToken → Reading (List X)) (ts : List SpecToken) → begins ts ≡ true → item ts ≡ None → turn begins item read ts ≡ None
-unfolding turn
-turn_break begins item read ts b e = rw (b, e) refl
-
-many_steps : {X : Type 0} (begins : List SpecToken → Bool) (item : List SpecToken → Reading X) (n : ℕ) (ts : List SpecToken) → many begins item n ts ≡ (below n >>= λ m. turn begins item (many begins item m) ts)
-unfolding many
-many_steps begins item zero ts = refl
-many_steps begins item (suc n) ts = refl
-
-many_step : {X : Type 0} (begins : List SpecToken → Bool) (item : List SpecToken → Reading X) (n m : ℕ) (ts : List SpecToken) → below n ≡ Some m → many begins item n ts ≡ turn begins item (many begins item m) ts
-many_step begins item n m ts e = rw (many_steps begins item n ts, e) refl
-
-pub many_more : {A X : Type 0} (f : A → X) (old new : List A) (a : A) (begins : List SpecToken → Bool) (item : List SpecToken → Reading X) (n m : ℕ) (ts us : List SpecToken) → new ≡ old ++ a ∷ [] → below n ≡ Some m → begins ts ≡ true → item ts ≡ taken (f a) us → with_front (map f old) (many begins item n ts) ≡ with_front (map f new) (many begins item m us)
-many_more f old new a begins item n m ts us p e b i = ap (with_front (map f old)) (many_step begins item n m ts e ∙ turn_more begins item (many begins item m) ts us (f a) b i) ∙ pushed f old new a (many begins item m us) p
-
-pub many_end : {X : Type 0} (xs : List X) (begins : List SpecToken → Bool) (item : List SpecToken → Reading X) (n m : ℕ) (ts : List SpecToken) → below n ≡ Some m → begins ts ≡ false → with_front xs (many begins item n ts) ≡ taken xs ts
-many_end xs begins item n m ts e b = front_end xs ts (many begins item n ts) (many_step begins item n m ts e ∙ turn_end begins item (many begins item m) ts b)
-
-pub many_break : {X : Type 0} (xs : List X) (begins : List SpecToken → Bool) (item : List SpecToken → Reading X) (n m : ℕ) (ts : List SpecToken) → below n ≡ Some m → begins ts ≡ true → item ts ≡ None → with_front xs (many begins item n ts) ≡ None
-many_break xs begins item n m ts e b i = front_none xs (many begins item n ts) (many_step begins item n m ts e ∙ turn_break begins item (many begins item m) ts b i)
-
-pub many_out : {X : Type 0} (xs : List X) (begins : List SpecToken → Bool) (item : List SpecToken → Reading X) (n : ℕ) (ts : List SpecToken) → below n ≡ None → with_front xs (many begins item n ts) ≡ None
-many_out xs begins item n ts e = front_none xs (many begins item n ts) (rw (many_steps begins item n ts, e) refl)
+use Rattle.tv_parse.specs.Reading.{nest, rows, part_turn, part_behind, parts}
+use Rattle.tv_phrases.specs.Repeated.{below, begins_with, with_first, turn, many, all_of, behind, joined}
+use Rattle.tv_phrases.proofs.Repeats.{front_first, front_none, front_end, front_start, pushed, turn_more, turn_end, turn_break, many_step, many_end, begun}
 
 -- rows of nests
 rows_steps : {X : Type 0} (begins : List SpecToken → Bool) (single : List SpecToken → Reading X) (n : ℕ) (ts : List SpecToken) → rows begins single n ts ≡ (below n >>= λ m. turn begins (nest single (rows begins single m)) (rows begins single m) ts)
@@ -90,36 +37,6 @@ rows_break xs begins single n m ts e b i = front_none xs (rows begins single n t
 
 pub rows_out : {X : Type 0} (xs : List (Nest X)) (begins : List SpecToken → Bool) (single : List SpecToken → Reading X) (n : ℕ) (ts : List SpecToken) → below n ≡ None → with_front xs (rows begins single n ts) ≡ None
 rows_out xs begins single n ts e = front_none xs (rows begins single n ts) (rw (rows_steps begins single n ts, e) refl)
-
--- items behind a first one
-pub joined_start : {A X : Type 0} (f : A → X) (none list : List A) (a : A) (mark : List ℕ) (item : List SpecToken → Reading X) (k : ℕ) (ts us : List SpecToken) → none ≡ [] → list ≡ none ++ a ∷ [] → k ≡ length us + 1 → item ts ≡ taken (f a) us → joined mark item ts ≡ with_front (map f list) (many (begins_with mark) (behind mark item) k us)
-unfolding joined
-joined_start f none list a mark item k ts us n p e i =
-    let single : list ≡ [] ++ a ∷ [] = p ∙ ap (λ (xs : List _). xs ++ a ∷ []) n in
-    rw (i, e) (front_start (with_first (f a) (many (begins_with mark) (behind mark item) (length us + 1) us)) ∙ pushed f [] list a (many (begins_with mark) (behind mark item) (length us + 1) us) single)
-
-pub no_joined : {X : Type 0} (mark : List ℕ) (item : List SpecToken → Reading X) (ts : List SpecToken) → item ts ≡ None → joined mark item ts ≡ None
-unfolding joined
-no_joined mark item ts i = rw i refl
-
-begun : (mark : List ℕ) (ts us : List SpecToken) → after mark ts ≡ Some us → begins_with mark ts ≡ true
-begun mark ts us e = rw e refl
-
-not_begun : (mark : List ℕ) (ts : List SpecToken) → after mark ts ≡ None → begins_with mark ts ≡ false
-not_begun mark ts e = rw e refl
-
-behind_mark : {X : Type 0} (mark : List ℕ) (item : List SpecToken → Reading X) (ts us : List SpecToken) → after mark ts ≡ Some us → behind mark item ts ≡ item us
-unfolding behind
-behind_mark mark item ts us e = rw e refl
-
-pub joined_more : {A X : Type 0} (f : A → X) (old new : List A) (a : A) (mark : List ℕ) (item : List SpecToken → Reading X) (n m : ℕ) (ts us vs : List SpecToken) → new ≡ old ++ a ∷ [] → below n ≡ Some m → after mark ts ≡ Some us → item us ≡ taken (f a) vs → with_front (map f old) (many (begins_with mark) (behind mark item) n ts) ≡ with_front (map f new) (many (begins_with mark) (behind mark item) m vs)
-joined_more f old new a mark item n m ts us vs p e b i = many_more f old new a (begins_with mark) (behind mark item) n m ts vs p e (begun mark ts us b) (behind_mark mark item ts us b ∙ i)
-
-pub joined_end : {X : Type 0} (xs : List X) (mark : List ℕ) (item : List SpecToken → Reading X) (n m : ℕ) (ts : List SpecToken) → below n ≡ Some m → after mark ts ≡ None → with_front xs (many (begins_with mark) (behind mark item) n ts) ≡ taken xs ts
-joined_end xs mark item n m ts e b = many_end xs (begins_with mark) (behind mark item) n m ts e (not_begun mark ts b)
-
-pub joined_break : {X : Type 0} (xs : List X) (mark : List ℕ) (item : List SpecToken → Reading X) (n m : ℕ) (ts us : List SpecToken) → below n ≡ Some m → after mark ts ≡ Some us → item us ≡ None → with_front xs (many (begins_with mark) (behind mark item) n ts) ≡ None
-joined_break xs mark item n m ts us e b i = many_break xs (begins_with mark) (behind mark item) n m ts e (begun mark ts us b) (behind_mark mark item ts us b ∙ i)
 
 -- properties
 pub props_more : (old new : List PropWord) (p : PropWord) (n m : ℕ) (ts us : List SpecToken) → new ≡ old ++ p ∷ [] → below n ≡ Some m → first prop_item ts ≡ taken p us → with_front old (many begins_prop (first prop_item) n ts) ≡ with_front new (many begins_prop (first prop_item) m us)

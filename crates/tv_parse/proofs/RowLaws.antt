@@ -8,47 +8,14 @@ use Rattle.tv_phrases.specs.Tokens.{after, first, identifier_item}
 use Rattle.tv_tree.specs.Forms.{SetForm, Nest, Single, Foreach, Nests, no_nest, with_nest}
 use Rattle.tv_tree.specs.Copies.{nests}
 use Rattle.tv_formula.specs.Grammar.{Begins, Lacks}
-use Rattle.tv_parse.specs.Kinds.{begins_with}
-use Rattle.tv_parse.specs.Grammar.{Repeated, Behind, Joined, IsSet, IsHead, IsNest, AreNests}
-use Rattle.tv_parse.specs.Reading.{with_first, turn, many, all_of, behind, joined, set_reading, head_reading, lone, foreach_nest, nest, rows}
+use Rattle.tv_parse.specs.Grammar.{IsSet, IsHead, IsNest, AreNests}
+use Rattle.tv_parse.specs.Reading.{set_reading, head_reading, lone, foreach_nest, nest, rows}
+use Rattle.tv_phrases.specs.Repeated.{begins_with, Repeated, Behind, Joined, with_first, turn, many, all_of, behind, joined}
 use Rattle.tv_phrases.proofs.Values.{same_value, same_rest}
-use Rattle.tv_parse.proofs.Phrases.{bind_some, chosen, tested, after_takes, first_takes}
+use Rattle.tv_phrases.proofs.Values.{bind_some, chosen, tested}
+use Rattle.tv_phrases.proofs.Takes.{after_takes, first_takes}
 use Rattle.tv_parse.proofs.SetLaws.{set_sound}
-
--- a fact about what was read
-pub held : {X : Type 0} (P : X → List SpecToken → Type 0) (x y : X) (us vs : List SpecToken) → taken x us ≡ taken y vs → P x us → P y vs
-held {X} P x y us vs e h = subst (λ (z : X × List SpecToken). P z.0 z.1) (same_Some (x, us) (y, vs) e) h
-
-pub first_sound : {X : Type 0} (P : List X → List SpecToken → Type 0) (x : X) (read : Reading (List X)) (xs : List X) (rest : List SpecToken) → with_first x read ≡ taken xs rest → ((ys : List X) (us : List SpecToken) → read ≡ taken ys us → P (x ∷ ys) us) → P xs rest
-unfolding with_first
-first_sound P x read xs rest e all =
-    let a = bind_some read (λ more. taken (x ∷ more.0) more.1) (xs, rest) e in
-    held P (x ∷ a.0.0) xs a.0.1 rest a.2 (all a.0.0 a.0.1 a.1)
-
-pub many_sound : {X : Type 0} (begins : List SpecToken → Bool) (item : List SpecToken → Reading X) (Item : List SpecToken → X → List SpecToken → Type 0) → ((ts us : List SpecToken) (x : X) → item ts ≡ taken x us → Item ts x us) → (n : ℕ) (ts rest : List SpecToken) (xs : List X) → many begins item n ts ≡ taken xs rest → Repeated begins Item ts xs rest
-unfolding many turn
-many_sound begins item Item one zero ts rest xs e = absurd cc
-many_sound {X} begins item Item one (suc n) ts rest xs e =
-    elim (tested (begins ts) (item ts >>= λ x. with_first x.0 (many begins item n x.1)) (taken [] ts) (taken xs rest) e) [
-      | inl h ↦
-          let a = bind_some (item ts) (λ x. with_first x.0 (many begins item n x.1)) (xs, rest) h.1 in
-          let P : List X → List SpecToken → Type 0 = λ ys us. Repeated begins Item ts ys us in
-          first_sound P a.0.0 (many begins item n a.0.1) xs rest a.2 (λ ys us i. (a.0.1, h.0, one ts a.0.1 a.0.0 a.1, many_sound begins item Item one n a.0.1 us ys i))
-      | inr h ↦ let P : List X → List SpecToken → Type 0 = λ ys us. Repeated begins Item ts ys us in held P [] xs ts rest h.1 (h.0, refl)
-    ]
-
-pub behind_sound : {X : Type 0} (mark : List ℕ) (item : List SpecToken → Reading X) (Item : List SpecToken → X → List SpecToken → Type 0) → ((ts us : List SpecToken) (x : X) → item ts ≡ taken x us → Item ts x us) → (ts us : List SpecToken) (x : X) → behind mark item ts ≡ taken x us → Behind mark Item ts x us
-unfolding behind
-behind_sound mark item Item one ts us x e =
-    let a = bind_some (after mark ts) item (x, us) e in
-    (a.0, a.1, one a.0 us x a.2)
-
-pub joined_sound : {X : Type 0} (mark : List ℕ) (item : List SpecToken → Reading X) (Item : List SpecToken → X → List SpecToken → Type 0) → ((ts us : List SpecToken) (x : X) → item ts ≡ taken x us → Item ts x us) → (ts rest : List SpecToken) (xs : List X) → joined mark item ts ≡ taken xs rest → Joined mark Item ts xs rest
-unfolding joined
-joined_sound {X} mark item Item one ts rest xs e =
-    let a = bind_some (item ts) (λ x. with_first x.0 (all_of (begins_with mark) (behind mark item) x.1)) (xs, rest) e in
-    let P : List X → List SpecToken → Type 0 = λ ys us. Joined mark Item ts ys us in
-    first_sound P a.0.0 (all_of (begins_with mark) (behind mark item) a.0.1) xs rest a.2 (λ ys us i. (a.0.1, one ts a.0.1 a.0.0 a.1, many_sound (begins_with mark) (behind mark item) (Behind mark Item) (behind_sound mark item Item one) (length a.0.1 + 1) a.0.1 us ys i))
+use Rattle.tv_phrases.proofs.Repeats.{held, first_sound}
 
 pub head_sound : (ts rest : List SpecToken) (x : List ℕ × SetForm) → head_reading ts ≡ taken x rest → IsHead ts x.0 x.1 rest
 unfolding head_reading

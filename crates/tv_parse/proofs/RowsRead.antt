@@ -7,44 +7,12 @@ use Rattle.tv_phrases.specs.Tokens.{after, first}
 use Rattle.tv_tree.specs.Forms.{Nest, Single, Foreach, Nests, no_nest, with_nest}
 use Rattle.tv_tree.specs.Copies.{nests}
 use Rattle.tv_formula.specs.Grammar.{Begins, Lacks}
-use Rattle.tv_parse.specs.Kinds.{begins_with}
-use Rattle.tv_parse.specs.Grammar.{Repeated, Behind, Joined, IsHead, IsNest, AreNests}
-use Rattle.tv_parse.specs.Reading.{with_first, turn, many, all_of, behind, joined, head_reading, lone, foreach_nest, nest, rows}
-use Rattle.tv_parse.proofs.Phrases.{after_takes}
+use Rattle.tv_parse.specs.Grammar.{IsHead, IsNest, AreNests}
+use Rattle.tv_parse.specs.Reading.{head_reading, lone, foreach_nest, nest, rows}
+use Rattle.tv_phrases.specs.Repeated.{begins_with, Repeated, Behind, Joined, with_first, turn, many, all_of, behind, joined}
+use Rattle.tv_phrases.proofs.Takes.{after_takes}
 use Rattle.tv_parse.proofs.SetsRead.{head_read}
-
--- a phrase is read, and takes tokens
-abbrev pub IsRead : {X : Type 0} → (List SpecToken → Reading X) → (List SpecToken → X → List SpecToken → Type 0) → Type 0
-IsRead {X} item Item = (ts us : List SpecToken) (x : X) → Item ts x us → (item ts ≡ taken x us) × (length us < length ts)
-
-pub many_read : {X : Type 0} (begins : List SpecToken → Bool) (item : List SpecToken → Reading X) (Item : List SpecToken → X → List SpecToken → Type 0) → IsRead item Item → (xs : List X) (ts rest : List SpecToken) → Repeated begins Item ts xs rest → (n : ℕ) → length ts < n → (many begins item n ts ≡ taken xs rest) × (length rest ≤ length ts)
-unfolding many turn with_first
-many_read begins item Item one xs ts rest h zero lt = absurd (omega arith)
-many_read begins item Item one [] ts rest h (suc n) lt = (rw (h.0, h.1) refl, rw h.1 (omega arith))
-many_read begins item Item one (x ∷ xs) ts rest h (suc n) lt =
-    let a = one ts h.0 x h.2 in
-    let l : length h.0 < length ts = a.1 in
-    let b = many_read begins item Item one xs h.0 rest h.3 n (omega arith) in
-    let k : length rest ≤ length h.0 = b.1 in
-    (rw (h.1, a.0, b.0) refl, omega arith)
-
-pub behind_read : {X : Type 0} (mark : List ℕ) (item : List SpecToken → Reading X) (Item : List SpecToken → X → List SpecToken → Type 0) → ((ts us : List SpecToken) (x : X) → Item ts x us → (item ts ≡ taken x us) × (length us ≤ length ts)) → IsRead (behind mark item) (Behind mark Item)
-unfolding behind
-behind_read mark item Item one ts us x h =
-    let a = one h.0 us x h.2 in
-    let l : length h.0 < length ts = after_takes mark ts h.0 h.1 in
-    let k : length us ≤ length h.0 = a.1 in
-    (rw h.1 a.0, omega arith)
-
-pub joined_read : {X : Type 0} (mark : List ℕ) (item : List SpecToken → Reading X) (Item : List SpecToken → X → List SpecToken → Type 0) → ((ts us : List SpecToken) (x : X) → Item ts x us → (item ts ≡ taken x us) × (length us ≤ length ts)) → (xs : List X) (ts rest : List SpecToken) → Joined mark Item ts xs rest → (joined mark item ts ≡ taken xs rest) × (length rest ≤ length ts)
-unfolding joined with_first
-joined_read mark item Item one [] ts rest h = elim h [ ]
-joined_read mark item Item one (x ∷ xs) ts rest h =
-    let a = one ts h.0 x h.1 in
-    let b = many_read (begins_with mark) (behind mark item) (Behind mark Item) (behind_read mark item Item one) xs h.0 rest h.2 (length h.0 + 1) (omega arith) in
-    let l : length h.0 ≤ length ts = a.1 in
-    let k : length rest ≤ length h.0 = b.1 in
-    (rw (a.0, b.0) refl, omega arith)
+use Rattle.tv_phrases.proofs.Repeats.{IsRead}
 
 -- the list of what stands in a row
 abbrev pub listed : {X : Type 0} → Nests X → List (Nest X)

@@ -3,7 +3,7 @@ use Rattle.std.proofs.Common.{◌≡◌, ℕ, zero, suc, List, [], ◌∷◌, �
 use Rattle.std.proofs.lemmas.List.{map_push}
 use Rattle.tv_lex.specs.Token.{SpecToken}
 use Rattle.tv_phrases.specs.Reading.{Reading, taken, ◌>>=◌, choose}
-use Rattle.tv_formula.specs.Reading.{below}
+use Rattle.tv_phrases.specs.Repeated.{below}
 use Rattle.tv_tree.specs.Forms.{SetForm, SPlus, SMinus}
 use Rattle.tv_tree.specs.Copies.{joined_set, term_of, step_of, set_of, term_step, further_step, set_step as tree_step}
 use Rattle.tv_tree.specs.declared.trees.SetSign.{SetSign}

@@ -12,11 +12,12 @@ use Rattle.tv_tree.specs.Forms.{SetForm, SNamed, SMembers, SParen, SPlus, SMinus
 use Rattle.tv_tree.specs.declared.trees.SetSign.{SetSign}
 use Rattle.tv_tree.specs.declared.trees.SetSign.TheVariants as sign
 use Rattle.tv_formula.specs.Grammar.{Begins, Lacks}
-use Rattle.tv_parse.specs.Kinds.{begins_with}
+use Rattle.tv_phrases.specs.Repeated.{begins_with}
 use Rattle.tv_parse.specs.Grammar.{IsSetTerm, IsSetFront, IsSet, IsHead}
 use Rattle.tv_parse.specs.Reading.{AllSets, Further, signed, set_name, set_members, set_plain, set_paren, set_term, set_sign, set_start, set_behind, sets, set_reading, head_reading}
 use Rattle.tv_phrases.proofs.Facts.{other_mark, not_identifier}
-use Rattle.tv_parse.proofs.Phrases.{bind_some, after_takes, first_takes, members_take}
+use Rattle.tv_phrases.proofs.Values.{bind_some}
+use Rattle.tv_phrases.proofs.Takes.{after_takes, first_takes, members_take}
 
 -- a set by itself is read at each depth that suffices
 TermRead : SetForm → Type 0

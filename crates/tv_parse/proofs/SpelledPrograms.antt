@@ -16,8 +16,9 @@ use Rattle.tv_tree.specs.declared.trees.PropWord.{PropWord}
 use Rattle.tv_formula.specs.Grammar.{Begins, IsFormula, name_form}
 use Rattle.tv_parse.specs.declared.kinds.PartKind.{PartKind}
 use Rattle.tv_parse.specs.declared.kinds.PartKind.TheVariants as part
-use Rattle.tv_parse.specs.Kinds.{decl_kind, part_kind, prop_item, begins_with, begins_decl, begins_update, kind_of, same_kind, has_kind, may_follow}
-use Rattle.tv_parse.specs.Grammar.{Repeated, Behind, Joined, IsSetTerm, IsSetFront, IsSet, IsHead, IsNest, AreNests, IsSignature, begins_prop, IsProp, AreProps, IsOptional, IsPredEnd, pred_kind, IsDecl, IsUpdate, IsPiece, ArePieces, AreFormulas, IsPart, AreParts, IsAction, IsEdge, begins_edge, IsTail, IsProgram}
+use Rattle.tv_parse.specs.Kinds.{decl_kind, part_kind, prop_item, begins_decl, begins_update, kind_of, same_kind, has_kind, may_follow}
+use Rattle.tv_parse.specs.Grammar.{IsSetTerm, IsSetFront, IsSet, IsHead, IsNest, AreNests, IsSignature, begins_prop, IsProp, AreProps, IsOptional, IsPredEnd, pred_kind, IsDecl, IsUpdate, IsPiece, ArePieces, AreFormulas, IsPart, AreParts, IsAction, IsEdge, begins_edge, IsTail, IsProgram}
+use Rattle.tv_phrases.specs.Repeated.{begins_with, Repeated, Behind, Joined}
 use Rattle.tv_parse.proofs.SpelledPhrases.{Tokens, says_identifier, says_word, says_text, says_nothing, after_leaves, first_leaves, optional_leaves, params_leave, members_leave, name_leaves}
 use Rattle.tv_parse.proofs.SpelledForms.{word_leaves, formula_spelled}
 

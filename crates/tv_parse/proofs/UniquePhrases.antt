@@ -9,17 +9,16 @@ use Rattle.tv_tree.specs.declared.trees.PropWord.{PropWord}
 use Rattle.tv_formula.specs.Grammar.{Whole, IsFormula}
 use Rattle.tv_formula.proofs.Complete.{shorter}
 use Rattle.tv_formula.proofs.FormulaLaws.{formula_is_read}
-use Rattle.tv_parse.specs.Kinds.{begins_with, begins_decl, begins_update, kind_of}
-use Rattle.tv_parse.specs.Grammar.{HasOne, Repeated, IsSetTerm, IsSet, IsHead, IsNest, AreNests, IsSignature, AreProps, IsDecl, AreDecls, IsUpdate, AreUpdates, IsPiece, ArePieces, AreFormulas, IsPart, AreParts, IsAction, IsEdge, begins_prop, begins_edge}
-use Rattle.tv_parse.specs.Reading.{many, set_term, sets, set_reading, head_reading, nest, rows, signature, props_reading, decl_reading, update_reading, piece_reading, pieces_reading, formulas_reading, part_behind, parts, action_reading, edge_reading, actions_reading, edges_reading}
+use Rattle.tv_parse.specs.Kinds.{begins_decl, begins_update, kind_of}
+use Rattle.tv_parse.specs.Grammar.{IsSetTerm, IsSet, IsHead, IsNest, AreNests, IsSignature, AreProps, IsDecl, AreDecls, IsUpdate, AreUpdates, IsPiece, ArePieces, AreFormulas, IsPart, AreParts, IsAction, IsEdge, begins_prop, begins_edge}
+use Rattle.tv_parse.specs.Reading.{set_term, sets, set_reading, head_reading, nest, rows, signature, props_reading, decl_reading, update_reading, piece_reading, pieces_reading, formulas_reading, part_behind, parts, action_reading, edge_reading, actions_reading, edges_reading}
 use Rattle.tv_phrases.proofs.Values.{same_value, same_rest}
 use Rattle.tv_parse.proofs.SetsRead.{set_read, term_read, head_read}
-use Rattle.tv_parse.proofs.RowsRead.{IsRead, many_read, listed, nests_listed, nest_read, rows_read}
+use Rattle.tv_parse.proofs.RowsRead.{listed, nests_listed, nest_read, rows_read}
+use Rattle.tv_phrases.specs.Repeated.{begins_with, HasOne, Repeated, many}
+use Rattle.tv_phrases.proofs.Repeats.{IsRead, many_read}
 use Rattle.tv_parse.proofs.GrammarRead.{signature_read, props_read, piece_read, pieces_read, edge_read, decl_read, update_read, formulas_read, part_read, parts_read, action_read}
-
--- what one reading gives is one tree and one end
-one_of : {X : Type 0} (read : Reading X) (us vs : List SpecToken) (x y : X) → read ≡ taken x us → read ≡ taken y vs → (x ≡ y) × (us ≡ vs)
-one_of read us vs x y a b = let same = sym a ∙ b in (same_value x y us vs same, same_rest x y us vs same)
+use Rattle.tv_phrases.proofs.Repeats.{one_of, one_list}
 
 formula_shorter : (ts rest : List SpecToken) (f : Form) → IsFormula ts f rest → length rest ≤ length ts
 formula_shorter ts rest f is = shorter Whole ts rest f is
@@ -71,13 +70,6 @@ one_row begins single IsSingle one ts us vs x y a b =
     (rows_read begins single IsSingle one x ts us a (length ts + 1) (omega arith)).0
     (rows_read begins single IsSingle one y ts vs b (length ts + 1) (omega arith)).0
     in (sym (nests_listed x) ∙ ap nests same.0 ∙ nests_listed y, same.1)
-
--- any number of items
-one_list : {X : Type 0} (begins : List SpecToken → Bool) (item : List SpecToken → Reading X) (Item : List SpecToken → X → List SpecToken → Type 0) → IsRead item Item → HasOne (Repeated begins Item)
-one_list begins item Item one ts us vs x y a b =
-    one_of (many begins item (length ts + 1) ts) us vs x y
-    (many_read begins item Item one x ts us a (length ts + 1) (omega arith)).0
-    (many_read begins item Item one y ts vs b (length ts + 1) (omega arith)).0
 
 pub one_decl : HasOne (IsNest begins_decl IsDecl)
 one_decl = one_nest begins_decl decl_reading IsDecl is_decl

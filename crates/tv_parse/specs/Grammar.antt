@@ -32,25 +32,9 @@ use Rattle.tv_tree.specs.Forms.{NameForm, SetForm, SNamed, SMembers, SParen, SPl
 use Rattle.tv_tree.specs.declared.trees.PropWord.{PropWord}
 use Rattle.tv_parse.specs.declared.kinds.DeclKind.{DeclKind}
 use Rattle.tv_parse.specs.declared.kinds.DeclKind.TheVariants as decl
-use Rattle.tv_parse.specs.Kinds.{decl_kind, part_kind, prop_item, begins_with, begins_decl, begins_update, begins_formula, kind_of, may_follow}
-
--- from any place there is one such phrase at most: one tree and one end
-abbrev pub HasOne : {X : Type 0} → (List SpecToken → X → List SpecToken → Type 0) → Type 0
-HasOne {X} Item = (ts us vs : List SpecToken) (x y : X) → Item ts x us → Item ts y vs → (x ≡ y) × (us ≡ vs)
-
--- any number of items: a further one is taken exactly where the first token can begin it
-abbrev pub Repeated : {X : Type 0} → (List SpecToken → Bool) → (List SpecToken → X → List SpecToken → Type 0) → List SpecToken → List X → List SpecToken → Type 0
-Repeated begins Item ts [] rest = IsFalse (begins ts) × (rest ≡ ts)
-Repeated begins Item ts (x ∷ xs) rest = (us : List SpecToken) × IsTrue (begins ts) × Item ts x us × Repeated begins Item us xs rest
-
--- an item behind a mark
-abbrev pub Behind : {X : Type 0} → List ℕ → (List SpecToken → X → List SpecToken → Type 0) → List SpecToken → X → List SpecToken → Type 0
-Behind mark Item ts x rest = (us : List SpecToken) × Begins mark ts us × Item us x rest
-
--- items with a mark between them
-abbrev pub Joined : {X : Type 0} → List ℕ → (List SpecToken → X → List SpecToken → Type 0) → List SpecToken → List X → List SpecToken → Type 0
-Joined mark Item ts [] rest = ⊥
-Joined mark Item ts (x ∷ xs) rest = (us : List SpecToken) × Item ts x us × Repeated (begins_with mark) (Behind mark Item) us xs rest
+use Rattle.tv_parse.specs.Kinds.{decl_kind, part_kind, prop_item, begins_decl, begins_update, begins_formula, kind_of, may_follow}
+use Rattle.tv_phrases.specs.Repeated.{begins_with}
+use Rattle.tv_phrases.specs.Repeated.{Repeated, Joined}
 
 -- sets; a front may have further sets behind it
 abbrev mutual

@@ -9,7 +9,7 @@ use Rattle.tv_parse.specs.declared.height.Open.{Open}
 use Rattle.tv_parse.specs.declared.height.Open.TheVariants.{Bracket, Mark}
 use Rattle.tv_parse.specs.declared.height.Effect.{Effect}
 use Rattle.tv_parse.specs.declared.height.Effect.TheVariants.{OpensBracket, OpensMark, ClosesBracket, ClosesMarks, Nothing}
-use Rattle.tv_parse.specs.Kinds.{begins_with}
+use Rattle.tv_phrases.specs.Repeated.{begins_with}
 
 abbrev pub is_one_of : List (List ℕ) → List ℕ → Bool
 is_one_of marks w = list_any (bytes_eq w) marks

@@ -10,6 +10,7 @@ use Rattle.tv_parse.specs.declared.kinds.DeclKind.{DeclKind}
 use Rattle.tv_parse.specs.declared.kinds.DeclKind.TheVariants as decl
 use Rattle.tv_parse.specs.declared.kinds.PartKind.{PartKind}
 use Rattle.tv_parse.specs.declared.kinds.PartKind.TheVariants as part
+use Rattle.tv_phrases.specs.Repeated.{begins_with}
 
 -- the value beside a spelling in a table
 abbrev pub looked_up : {X : Type 0} → List (List ℕ × X) → List ℕ → Option X
@@ -36,10 +37,6 @@ prop_words = (codes "unique", Unique) ∷ (codes "function", Function) ∷ (code
 
 abbrev pub prop_item : SpecToken → Option PropWord
 prop_item t = looked_up prop_words t.bytes
-
--- the first token is spelled like the mark
-abbrev pub begins_with : List ℕ → List SpecToken → Bool
-begins_with mark ts = is_some (after mark ts)
 
 -- the first token can begin such a phrase
 abbrev pub begins_decl : List SpecToken → Bool

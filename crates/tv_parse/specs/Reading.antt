@@ -8,7 +8,7 @@ use Rattle.tv_phrases.specs.Lists.{params, name, optional_list, optional_list_in
 use Rattle.tv_phrases.specs.declared.kinds.Brackets.TheVariants as brackets
 use Rattle.tv_phrases.specs.declared.kinds.Item.TheVariants as item
 use Rattle.tv_formula.specs.Grammar.{name_form}
-use Rattle.tv_formula.specs.Reading.{below, formula_reading}
+use Rattle.tv_formula.specs.Reading.{formula_reading}
 use Rattle.tv_tree.specs.Forms.{NameForm, SetForm, SNamed, SMembers, SParen, SPlus, SMinus, Form, PredForm, Nest, Single, Foreach, Nests, DeclForm, DSet, DPred, DRule, PieceForm, Quoted, Spelled, UpdateForm, PartForm, PCaption, PFocus, PPre, PMessage, PNew, PRetain, PBlock, ActionForm, EdgeForm, ProgramForm}
 use Rattle.tv_tree.specs.Copies.{nests}
 use Rattle.tv_tree.specs.declared.trees.PropWord.{PropWord}
@@ -18,32 +18,10 @@ use Rattle.tv_parse.specs.declared.kinds.DeclKind.{DeclKind}
 use Rattle.tv_parse.specs.declared.kinds.DeclKind.TheVariants as decl
 use Rattle.tv_parse.specs.declared.kinds.PartKind.{PartKind}
 use Rattle.tv_parse.specs.declared.kinds.PartKind.TheVariants as part
-use Rattle.tv_parse.specs.Kinds.{decl_kind, part_kind, prop_item, begins_with, begins_decl, begins_update, begins_formula, kind_of, may_follow}
+use Rattle.tv_parse.specs.Kinds.{decl_kind, part_kind, prop_item, begins_decl, begins_update, begins_formula, kind_of, may_follow}
+use Rattle.tv_phrases.specs.Repeated.{below, begins_with}
 use Rattle.tv_parse.specs.Grammar.{begins_prop, begins_edge}
-
--- an item in front of those that are read behind it
-unfoldable pub with_first : {X : Type 0} → X → Reading (List X) → Reading (List X)
-with_first x read = read >>= λ more. taken (x ∷ more.0) more.1
-
--- one turn: an item where one begins, and what the reader gives behind it
-unfoldable pub turn : {X : Type 0} → (List SpecToken → Bool) → (List SpecToken → Reading X) → (List SpecToken → Reading (List X)) → List SpecToken → Reading (List X)
-turn begins item read ts = if begins ts then (item ts >>= λ x. with_first x.0 (read x.1)) else taken [] ts
-
--- items, for as long as one begins
-unfoldable pub many : {X : Type 0} → (List SpecToken → Bool) → (List SpecToken → Reading X) → ℕ → List SpecToken → Reading (List X)
-many begins item zero ts = None
-many begins item (suc n) ts = turn begins item (many begins item n) ts
-
--- as many turns as suffice
-abbrev pub all_of : {X : Type 0} → (List SpecToken → Bool) → (List SpecToken → Reading X) → List SpecToken → Reading (List X)
-all_of begins item ts = many begins item (length ts + 1) ts
-
-unfoldable pub behind : {X : Type 0} → List ℕ → (List SpecToken → Reading X) → List SpecToken → Reading X
-behind mark item ts = after mark ts >>= item
-
--- items with a mark between them
-unfoldable pub joined : {X : Type 0} → List ℕ → (List SpecToken → Reading X) → List SpecToken → Reading (List X)
-joined mark item ts = item ts >>= λ x. with_first x.0 (all_of (begins_with mark) (behind mark item) x.1)
+use Rattle.tv_phrases.specs.Repeated.{with_first, turn, all_of, joined}
 
 -- a whole set, or what may stand behind this one
 pub data SetPart : Type 0 where

@@ -6,7 +6,8 @@ ghost use Rattle.tv_phrases.specs.Reading.{Gives};
 ghost use Rattle.tv_tree.specs.Copies.{form_of, piece_of, part_of, action_of};
 ghost use Rattle.tv_tree.specs.Forms.{PPre, PRetain};
 ghost use Rattle.tv_parse.specs.Kinds.{kind_of, same_kind, has_kind, may_follow};
-ghost use Rattle.tv_parse.specs.Reading.{behind, joined, piece_reading, pieces_reading, formulas_reading, caption_part, focus_part, formula_part, message_part, block_part, part_behind, parts, action_reading};
+ghost use Rattle.tv_parse.specs.Reading.{piece_reading, pieces_reading, formulas_reading, caption_part, focus_part, formula_part, message_part, block_part, part_behind, parts, action_reading};
+ghost use Rattle.tv_phrases.specs.Repeated.{behind, joined};
 ghost use Rattle.tv_formula.specs.Reading.{formula_reading};
 
 use crate::kinds::{PartKind, begins_formula, below, expect_behind, part_kind};
@@ -35,7 +36,7 @@ fn piece<'a>(
 }
 
 // Pieces with `+` between them.
-#[tactic(auto, using(crate::proofs::Lists::joined_start, crate::proofs::Lists::no_joined, crate::proofs::Lists::joined_end, crate::proofs::Lists::joined_break, crate::proofs::Lists::many_out))]
+#[tactic(auto, using(tv_phrases::proofs::Repeats::joined_start, tv_phrases::proofs::Repeats::no_joined, tv_phrases::proofs::Repeats::joined_end, tv_phrases::proofs::Repeats::joined_break, tv_phrases::proofs::Repeats::many_out))]
 fn pieces<'a>(
     alloc: Global,
     bytes: &[u8],
@@ -59,7 +60,7 @@ fn pieces<'a>(
 }
 
 // Formulas with `,` between them.
-#[tactic(auto, using(crate::proofs::Lists::joined_start, crate::proofs::Lists::no_joined, crate::proofs::Lists::joined_end, crate::proofs::Lists::joined_break, crate::proofs::Lists::many_out))]
+#[tactic(auto, using(tv_phrases::proofs::Repeats::joined_start, tv_phrases::proofs::Repeats::no_joined, tv_phrases::proofs::Repeats::joined_end, tv_phrases::proofs::Repeats::joined_break, tv_phrases::proofs::Repeats::many_out))]
 fn some_formulas<'a>(
     alloc: Global,
     bytes: &[u8],

@@ -42,7 +42,7 @@ pub fn signature_at<'a>(
 }
 
 // The properties of a predicate: as many as stand there.
-#[tactic(auto, using(crate::proofs::Lists::props_end, crate::proofs::Lists::many_out))]
+#[tactic(auto, using(crate::proofs::Lists::props_end, tv_phrases::proofs::Repeats::many_out))]
 fn props_at<'a>(
     alloc: Global,
     bytes: &[u8],

@@ -5,9 +5,9 @@ ghost use Rattle.std.specs.Option.{option_map};
 ghost use Rattle.std.specs.Str.{bytes_eq};
 ghost use Rattle.tv_lex.specs.Token.{spec_tokens};
 ghost use Rattle.tv_phrases.specs.Tokens.{after, first, identifier_item};
-ghost use Rattle.tv_formula.specs.Reading.{below};
 ghost use Rattle.tv_phrases.specs.Reading.{Takes};
-ghost use Rattle.tv_parse.specs.Kinds.{looked_up, decl_marks, part_marks, prop_words, decl_kind, part_kind, prop_item, begins_with, begins_decl, begins_update, begins_formula, same_kind};
+ghost use Rattle.tv_parse.specs.Kinds.{looked_up, decl_marks, part_marks, prop_words, decl_kind, part_kind, prop_item, begins_decl, begins_update, begins_formula, same_kind};
+ghost use Rattle.tv_phrases.specs.Repeated.{below, begins_with};
 
 use tv_formula::behind_arrow;
 use tv_lex::{Token, text};

@@ -1,11 +1,13 @@
 //! Laws about programs and their tokens. Each function does nothing: its clause is what it shows.
-ghost use Rattle.std.specs.Prelude.{◌≡◌, ◌↔◌, ℕ, List, Some, All, codes};
+ghost use Rattle.std.specs.Prelude.{◌≡◌, ◌↔◌, ℕ, List, Some, All, codes, true};
 ghost use Rattle.tv_lex.specs.Token.{SpecToken};
 ghost use Rattle.tv_lex.specs.Spaced.{IsToken};
-ghost use Rattle.tv_tree.specs.Forms.{NameForm, PartForm, ProgramForm, SetForm};
+ghost use Rattle.tv_tree.specs.Forms.{Form, NameForm, PartForm, ProgramForm, SetForm};
 ghost use Rattle.tv_tree.specs.Spelled.{IsSpelled};
-ghost use Rattle.tv_parse.specs.Grammar.{IsProgram, HasOne, Repeated, IsSetTerm, IsSet, IsHead, IsNest, IsSignature, AreProps, IsDecl, AreDecls, IsUpdate, AreUpdates, IsPiece, ArePieces, AreFormulas, IsPart, AreParts, IsAction, IsEdge, begins_edge};
-ghost use Rattle.tv_parse.specs.Kinds.{begins_with, begins_decl, begins_update, kind_of};
+ghost use Rattle.tv_formula.specs.Grammar.{IsFormula};
+ghost use Rattle.tv_parse.specs.Grammar.{IsProgram, IsSetTerm, IsSet, IsHead, IsNest, IsSignature, AreProps, IsDecl, AreDecls, IsUpdate, AreUpdates, IsPiece, ArePieces, AreFormulas, IsPart, AreParts, IsAction, IsEdge, begins_edge};
+ghost use Rattle.tv_parse.specs.Kinds.{begins_formula, begins_decl, begins_update, kind_of};
+ghost use Rattle.tv_phrases.specs.Repeated.{HasOne, Repeated, begins_with};
 ghost use Rattle.tv_parse.specs.Reading.{program_reading};
 
 /// The reading of tokens gives exactly the program that the grammar says.
@@ -21,6 +23,12 @@ pub fn one_tree()
 /// The words of a program are spelled as words of a text are, and each kind of part stands once in an action.
 pub fn programs_are_spelled()
     ensures { (ts : List SpecToken) (t : ProgramForm) → IsProgram ts t → All IsToken ts → IsSpelled t }
+{}
+
+/// Each formula begins with a token that is listed among those that can begin one.
+#[tactic(auto, using(crate::proofs::FormulaFronts::formula_begins))]
+pub fn formulas_begin()
+    ensures { (ts rest : List SpecToken) (f : Form) → IsFormula ts f rest → begins_formula ts ≡ true }
 {}
 
 /// From any place there is one set at most: one tree and one end.

@@ -1,6 +1,7 @@
 //! Programs: declarations, actions, edges and the words behind them.
 
 ghost use Rattle.std.specs.Prelude.{◌≡◌, ◌≤◌, length, map, Ok, IfOk, IfErr};
+ghost use Rattle.tv_lex.specs.Bytes.{longest_text};
 ghost use Rattle.tv_lex.specs.Token.{spec_tokens};
 ghost use Rattle.tv_lex.specs.Pieces.{Reads};
 ghost use Rattle.tv_phrases.specs.Reading.{Gives};
@@ -9,7 +10,7 @@ ghost use Rattle.tv_tree.specs.Spelled.{IsSpelled};
 ghost use Rattle.tv_parse.specs.Reading.{edge_reading, actions_reading, edges_reading, tail_reading, program_reading};
 ghost use Rattle.tv_parse.specs.Height.{IsTooDeep};
 ghost use Rattle.tv_parse.specs.Grammar.{IsProgram};
-ghost use Rattle.tv_parse.specs.Outcome.{Cause};
+ghost use Rattle.tv_parse.specs.Outcome.{Cause, StopsAtToken};
 
 use crate::actions::action;
 use crate::decls::{decls, end_in_formula};
@@ -18,7 +19,7 @@ use crate::height::is_too_deep;
 use crate::kinds::{begins_with, below, expect_behind};
 use std::alloc::Global;
 use tv_formula::{spelling, spellings};
-use tv_lex::{Token, Tokens, place};
+use tv_lex::{Token, Tokens, stop_place};
 use tv_phrases::{
     Item, PhraseError, after, begins_item, expect, identifier, optional_list, params, word,
 };
@@ -45,7 +46,7 @@ fn edge<'a>(
     Ok((edge, rest))
 }
 
-#[tactic(auto, using(crate::proofs::Lists::many_end, crate::proofs::Lists::many_break, crate::proofs::Lists::many_out))]
+#[tactic(auto, using(tv_phrases::proofs::Repeats::many_end, tv_phrases::proofs::Repeats::many_break, tv_phrases::proofs::Repeats::many_out))]
 fn actions<'a>(
     alloc: Global,
     bytes: &[u8],
@@ -67,7 +68,7 @@ fn actions<'a>(
     }
 }
 
-#[tactic(auto, using(crate::proofs::Lists::many_end, crate::proofs::Lists::many_break, crate::proofs::Lists::many_out))]
+#[tactic(auto, using(tv_phrases::proofs::Repeats::many_end, tv_phrases::proofs::Repeats::many_break, tv_phrases::proofs::Repeats::many_out))]
 fn edges<'a>(
     alloc: Global,
     bytes: &[u8],
@@ -131,34 +132,27 @@ fn program<'a>(alloc: Global, bytes: &[u8], tokens: &'a [Token]) -> Result<Tree,
     })
 }
 
-// Where the first of the tokens begins, or the text ends.
-fn start(bytes: &[u8], tokens: &[Token]) -> usize
-    ensures { result ≤ length bytes.now }
-{
-    match tokens.first() {
-        Some(token) => bytes.len().min(token.start as usize),
-        None => bytes.len(),
-    }
-}
-
 /// The tree of a program's tokens, which are those of `bytes`. Over 200 constructs that are open at one place are
 /// refused first. The place of a refusal is that of the first token that no continuation of the grammar allows, or of
 /// the end of the text. Calls nest as deep as constructs are open.
-#[tactic(auto, using(crate::proofs::ProgramLaws::read_is_program, crate::proofs::ProgramLaws::unread_is_none))]
+#[tactic(auto, using(tv_lex::proofs::PlaceLemmas::reads_order, crate::proofs::ProgramLaws::read_is_program, crate::proofs::ProgramLaws::unread_is_none))]
 pub fn parse_program(alloc: Global, bytes: &[u8], tokens: &Tokens) -> Result<Tree, ParseError>
-    requires size { length bytes.now ≤ 67108864 }
+    requires size { length bytes.now ≤ longest_text }
     requires read { Reads bytes.now (Ok tokens.now.list.items) }
     ensures tree { IfOk result (λ t. IsProgram (spec_tokens bytes.now tokens.now.list.items) (program_of t)) }
     ensures spelled { IfOk result (λ t. IsSpelled (program_of t)) }
     ensures low { IfOk result (λ t. ¬ IsTooDeep (spec_tokens bytes.now tokens.now.list.items)) }
     ensures fault { IfErr result (Cause (spec_tokens bytes.now tokens.now.list.items)) }
+    ensures place { IfErr result (StopsAtToken bytes.now tokens.now.list.items) }
 {
     if is_too_deep(alloc, bytes, &tokens.list)? {
         return Err(ParseError::TooDeep);
     }
     match program(alloc, bytes, &tokens.list) {
         Ok(tree) => Ok(tree),
-        Err(PhraseError::Unexpected(at)) => Err(ParseError::Syntax(place(bytes, start(bytes, at)))),
+        Err(PhraseError::Unexpected(at)) => {
+            Err(ParseError::Syntax(stop_place(bytes, &tokens.list, at)))
+        }
         Err(PhraseError::Memory) => Err(ParseError::Memory),
     }
 }

@@ -15,7 +15,7 @@ use Rattle.tv_parse.specs.declared.height.Open.{Open}
 use Rattle.tv_parse.specs.declared.height.Open.TheVariants.{Bracket, Mark}
 use Rattle.tv_parse.specs.declared.height.Effect.{Effect}
 use Rattle.tv_parse.specs.declared.height.Effect.TheVariants.{OpensBracket, OpensMark, ClosesBracket, ClosesMarks, Nothing}
-use Rattle.tv_parse.specs.Kinds.{begins_with}
+use Rattle.tv_phrases.specs.Repeated.{begins_with}
 use Rattle.tv_parse.specs.Height.{is_one_of, opening_brackets, closing_brackets, connectives, quantifiers, separators, is_directive, effect, without_marks, changed, passes_height}
 use Rattle.tv_reprint.specs.ReadAgain.{Kept, all_kept, one_kept, mark_left}
 use Rattle.tv_reprint.proofs.Kept.{SameHead, kept_head, begins_head}

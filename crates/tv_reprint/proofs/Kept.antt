@@ -7,7 +7,8 @@ use Rattle.tv_phrases.specs.Reading.{taken, ◌>>=◌, choose}
 use Rattle.tv_phrases.specs.Tokens.{after, first, text_item}
 use Rattle.tv_formula.specs.Grammar.{arrow}
 use Rattle.tv_formula.specs.Spelled.{spell, spelled, EndsAlike}
-use Rattle.tv_parse.specs.Kinds.{decl_kind, prop_item, begins_with, begins_decl}
+use Rattle.tv_parse.specs.Kinds.{decl_kind, prop_item, begins_decl}
+use Rattle.tv_phrases.specs.Repeated.{begins_with}
 use Rattle.tv_parse.specs.Grammar.{begins_prop}
 use Rattle.tv_reprint.specs.ReadAgain.{Kept, all_kept, one_kept, mark_left}
 use Rattle.tv_reprint.proofs.Exact.{Tokens, Exact}

@@ -1,11 +1,12 @@
-pub mod Spelling
-pub mod Exact
-pub mod FormulaExact
-pub mod PartExact
-pub mod Kept
-pub mod SetsAgain
-pub mod DeclsAgain
-pub mod LaidOut
-pub mod Height
-pub mod Widths
-pub mod Programs
+-- Lemmas of this crate's own.
+mod Spelling
+mod Exact
+mod FormulaExact
+mod PartExact
+mod Kept
+mod SetsAgain
+mod DeclsAgain
+mod LaidOut
+mod Height
+mod Widths
+mod Programs

@@ -12,8 +12,9 @@ use Rattle.tv_formula.specs.Grammar.{IsFormula, name_form}
 use Rattle.tv_formula.specs.Spelled.{spelled}
 use Rattle.tv_parse.specs.declared.kinds.PartKind.{PartKind}
 use Rattle.tv_parse.specs.declared.kinds.PartKind.TheVariants as part
-use Rattle.tv_parse.specs.Kinds.{looked_up, part_marks, part_kind, begins_with, begins_update, kind_of}
-use Rattle.tv_parse.specs.Grammar.{Repeated, Behind, Joined, IsSetTerm, IsSetFront, IsSet, IsHead, IsNest, AreNests, IsSignature, IsUpdate, IsPiece, ArePieces, AreFormulas, IsPart, AreParts, IsAction, IsEdge, IsTail}
+use Rattle.tv_parse.specs.Kinds.{looked_up, part_marks, part_kind, begins_update, kind_of}
+use Rattle.tv_parse.specs.Grammar.{IsSetTerm, IsSetFront, IsSet, IsHead, IsNest, AreNests, IsSignature, IsUpdate, IsPiece, ArePieces, AreFormulas, IsPart, AreParts, IsAction, IsEdge, IsTail}
+use Rattle.tv_phrases.specs.Repeated.{begins_with, Repeated, Behind, Joined}
 use Rattle.tv_reprint.proofs.Exact.{Tokens, Exact, Tells, exact_then, none_exact, after_exact, first_exact, tells_word, tells_text, itself, quoted, word_exact, optional_exact, params_exact, members_exact, name_exact}
 use Rattle.tv_reprint.proofs.FormulaExact.{formula_exact}
 

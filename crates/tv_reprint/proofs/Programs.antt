@@ -12,7 +12,7 @@ use Rattle.tv_tree.specs.Forms.{ProgramForm}
 use Rattle.tv_tree.specs.Printed.{lone, nests_lines, decl_tokens, action_lines, edge_lines, tail_lines, program_lines, program_text}
 use Rattle.tv_parse.specs.Grammar.{begins_edge, IsProgram}
 use Rattle.tv_parse.specs.Height.{IsTooDeep}
-use Rattle.tv_parse.proofs.LexTokens.{lexed_tokens}
+use Rattle.tv_lex.proofs.PieceTokens.{lexed_tokens}
 use Rattle.tv_reprint.proofs.Exact.{Tokens, after_exact}
 use Rattle.tv_reprint.proofs.PartExact.{laid, laid_append, actions_exact, edges_exact, tail_exact}
 use Rattle.tv_reprint.specs.ReadAgain.{Kept, all_kept, ProgramsAreReadAgain}

@@ -8,7 +8,7 @@ use Rattle.tv_lex.specs.Spaced.{Spaced, spaced_text, spaced_tokens}
 use Rattle.tv_lex.specs.declared.token.Token.{Token}
 use Rattle.tv_lex.specs.declared.token.TokenKind.{TokenKind}
 use Rattle.tv_lex.specs.declared.token.TokenKind.TheVariants as kind
-use Rattle.tv_lex.proofs.SpacedTexts.{spec_tokens-placed}
+use Rattle.tv_lex.proofs.PieceTokens.{spec_tokens-placed}
 use Rattle.tv_reprint.specs.ReadAgain.{Kept, all_kept, one_kept, mark_left}
 use Rattle.tv_reprint.proofs.LaidOut.{IsLaidOut}
 

@@ -4,7 +4,7 @@ use Rattle.std.proofs.lemmas.List.{length-map}
 use Rattle.tv_lex.specs.Token.{spec_token, spec_tokens}
 use Rattle.tv_tree.specs.Copies.{piece_of}
 use Rattle.tv_parse.specs.Reading.{piece_reading}
-use Rattle.tv_parse.proofs.Lists.{joined_start, joined_more}
+use Rattle.tv_phrases.proofs.Repeats.{joined_start, joined_more}
 use Rattle.tv_parse.proofs.actions.pieces.Goals as goal
 
 pub pieces-init : goal.pieces-init

@@ -4,7 +4,7 @@ use Rattle.std.proofs.lemmas.List.{length-map}
 use Rattle.tv_lex.specs.Token.{spec_token, spec_tokens}
 use Rattle.tv_tree.specs.Copies.{form_of}
 use Rattle.tv_formula.specs.Reading.{formula_reading}
-use Rattle.tv_parse.proofs.Lists.{joined_start, joined_more}
+use Rattle.tv_phrases.proofs.Repeats.{joined_start, joined_more}
 use Rattle.tv_parse.proofs.actions.some_formulas.Goals as goal
 
 pub formulas-init : goal.formulas-init

@@ -4,8 +4,7 @@ use Rattle.tv_lex.specs.Token.{spec_tokens}
 use Rattle.tv_phrases.specs.Lists.{with_front}
 use Rattle.tv_formula.specs.Reading.{formula_reading}
 use Rattle.tv_tree.specs.Copies.{form_of}
-use Rattle.tv_parse.specs.Kinds.{begins_with}
-use Rattle.tv_parse.specs.Reading.{joined, behind, many}
+use Rattle.tv_phrases.specs.Repeated.{begins_with, joined, behind, many}
 use Rattle.tv_parse.proofs.actions.some_formulas.Given as goal
 
 -- those so far and those that are left are all of them

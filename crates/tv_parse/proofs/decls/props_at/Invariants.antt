@@ -5,7 +5,8 @@ use Rattle.tv_phrases.specs.Lists.{with_front}
 use Rattle.tv_phrases.specs.Tokens.{first}
 use Rattle.tv_parse.specs.Kinds.{prop_item}
 use Rattle.tv_parse.specs.Grammar.{begins_prop}
-use Rattle.tv_parse.specs.Reading.{props_reading, many}
+use Rattle.tv_parse.specs.Reading.{props_reading}
+use Rattle.tv_phrases.specs.Repeated.{many}
 use Rattle.tv_parse.proofs.decls.props_at.Given as goal
 
 -- those so far and those that are left are all of them

@@ -3,9 +3,10 @@ use Rattle.std.proofs.lemmas.List.{length-map}
 use Rattle.tv_lex.specs.Token.{spec_token, spec_tokens}
 use Rattle.tv_tree.specs.Copies.{action_of}
 use Rattle.std.specs.Prelude.{codes}
-use Rattle.tv_parse.specs.Kinds.{begins_with}
 use Rattle.tv_parse.specs.Reading.{action_reading}
-use Rattle.tv_parse.proofs.Lists.{many_more, many_start}
+use Rattle.tv_parse.proofs.Lists.{many_start}
+use Rattle.tv_phrases.specs.Repeated.{begins_with}
+use Rattle.tv_phrases.proofs.Repeats.{many_more}
 use Rattle.tv_parse.proofs.program.actions.Goals as goal
 
 pub actions-preserved : goal.actions-preserved

@@ -3,8 +3,8 @@ use Rattle.std.specs.Prelude.{codes}
 use Rattle.tv_lex.specs.Token.{spec_tokens}
 use Rattle.tv_phrases.specs.Lists.{with_front}
 use Rattle.tv_tree.specs.Copies.{action_of}
-use Rattle.tv_parse.specs.Kinds.{begins_with}
-use Rattle.tv_parse.specs.Reading.{action_reading, actions_reading, many}
+use Rattle.tv_parse.specs.Reading.{action_reading, actions_reading}
+use Rattle.tv_phrases.specs.Repeated.{begins_with, many}
 use Rattle.tv_parse.proofs.program.actions.Given as goal
 
 -- those so far and those that are left are all of them

@@ -4,7 +4,8 @@ use Rattle.tv_lex.specs.Token.{spec_token, spec_tokens}
 use Rattle.tv_tree.specs.Copies.{edge_of}
 use Rattle.tv_parse.specs.Grammar.{begins_edge}
 use Rattle.tv_parse.specs.Reading.{edge_reading}
-use Rattle.tv_parse.proofs.Lists.{many_more, many_start}
+use Rattle.tv_parse.proofs.Lists.{many_start}
+use Rattle.tv_phrases.proofs.Repeats.{many_more}
 use Rattle.tv_parse.proofs.program.edges.Goals as goal
 
 pub edges-preserved : goal.edges-preserved
