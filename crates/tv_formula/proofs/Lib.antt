@@ -3,7 +3,6 @@
 pub mod Complete
 pub mod FormulaLaws
 pub mod Again
-
 -- Lemmas of this crate's own.
 mod Steps
 mod WordLists

@@ -3,7 +3,7 @@ use Rattle.std.proofs.Common.{◌≡◌, ℕ, List, Bool, true, false, Option, S
 use Rattle.std.specs.Prelude.{codes, ◌||◌, is_some}
 use Rattle.tv_lex.specs.Token.{SpecToken}
 use Rattle.tv_phrases.specs.Reading.{taken, ◌>>=◌}
-use Rattle.tv_phrases.specs.Tokens.{after, first, identifier_item}
+use Rattle.tv_phrases.specs.Tokens.{first, identifier_item}
 use Rattle.tv_phrases.specs.Lists.{name, optional_brackets}
 use Rattle.tv_phrases.specs.Repeated.{begins_with}
 use Rattle.tv_phrases.proofs.Values.{bind_some}

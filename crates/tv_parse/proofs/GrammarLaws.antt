@@ -1,27 +1,27 @@
 -- What is read is a phrase of the grammar, where formulas are.
-use Rattle.std.proofs.Common.{◌≡◌, ℕ, zero, suc, ◌+◌, List, [], ◌∷◌, ◌++◌, Bool, true, false, cond, length, Option, Some, None, refl, sym, ◌∙◌, ap, subst, inl, inr}
-use Rattle.std.specs.Prelude.{codes, is_some, IsTrue, IsFalse}
+use Rattle.std.proofs.Common.{◌≡◌, ℕ, zero, suc, ◌+◌, List, [], ◌∷◌, ◌++◌, cond, length, Option, Some, None, refl, ◌∙◌, ap, subst, inl, inr}
+use Rattle.std.specs.Prelude.{codes, IsTrue}
 use Rattle.std.proofs.lemmas.Option.{same_Some}
 use Rattle.tv_lex.specs.Token.{SpecToken}
-use Rattle.tv_phrases.specs.Reading.{Reading, taken, ◌>>=◌, choose}
+use Rattle.tv_phrases.specs.Reading.{taken, ◌>>=◌, choose}
 use Rattle.tv_phrases.specs.Tokens.{after, first, identifier_item, word_item, text_item}
 use Rattle.tv_phrases.specs.Lists.{params, name, optional_list}
-use Rattle.tv_tree.specs.Forms.{NameForm, SetForm, Form, PredForm, Nest, Nests, DeclForm, DSet, DPred, DRule, PieceForm, Quoted, Spelled, UpdateForm, PartForm, PCaption, PFocus, PPre, PMessage, PNew, PRetain, PBlock, ActionForm, EdgeForm, ProgramForm}
+use Rattle.tv_tree.specs.Forms.{NameForm, Form, DeclForm, DSet, DPred, DRule, PieceForm, Quoted, Spelled, UpdateForm, PartForm, PCaption, PFocus, PPre, PMessage, PNew, PRetain, PBlock, ActionForm, EdgeForm, ProgramForm}
 use Rattle.tv_tree.specs.Copies.{nests}
 use Rattle.tv_tree.specs.declared.trees.PropWord.{PropWord}
-use Rattle.tv_formula.specs.Grammar.{Begins, Lacks, IsFormula, name_form}
+use Rattle.tv_formula.specs.Grammar.{IsFormula, name_form}
 use Rattle.tv_formula.specs.Reading.{formula_reading}
 use Rattle.tv_parse.specs.declared.kinds.DeclKind.{DeclKind}
 use Rattle.tv_parse.specs.declared.kinds.DeclKind.TheVariants as decl
 use Rattle.tv_parse.specs.declared.kinds.PartKind.{PartKind}
 use Rattle.tv_parse.specs.declared.kinds.PartKind.TheVariants as part
 use Rattle.tv_parse.specs.Kinds.{decl_kind, part_kind, prop_item, begins_decl, begins_update, begins_formula, kind_of, may_follow}
-use Rattle.tv_parse.specs.Grammar.{IsSignature, begins_prop, begins_edge, IsProp, AreProps, IsOptional, IsPredEnd, pred_kind, IsDecl, AreDecls, IsUpdate, AreUpdates, IsPiece, ArePieces, AreFormulas, IsPart, AreParts, IsAction, IsEdge, IsTail, IsProgram}
+use Rattle.tv_parse.specs.Grammar.{IsSignature, begins_prop, begins_edge, IsProp, AreProps, IsOptional, IsDecl, IsUpdate, IsPiece, ArePieces, AreFormulas, IsPart, AreParts, IsAction, IsEdge, IsTail, IsProgram}
 use Rattle.tv_parse.specs.Reading.{signature, props_reading, skip, set_reading, set_decl, core_decl, defined_decl, rule_decl, decl_behind, decl_reading, decl_rows, update_reading, update_rows, piece_reading, pieces_reading, formulas_reading, caption_part, focus_part, formula_part, message_part, block_part, part_behind, part_turn, parts, action_reading, edge_reading, actions_reading, edges_reading, at_end, tail_reading, program_reading}
 use Rattle.tv_phrases.proofs.Values.{bind_some, chosen, tested}
 use Rattle.tv_parse.proofs.SetLaws.{set_sound}
 use Rattle.tv_parse.proofs.RowLaws.{rows_sound}
-use Rattle.tv_phrases.specs.Repeated.{begins_with, Repeated, Joined, many, with_first, joined}
+use Rattle.tv_phrases.specs.Repeated.{begins_with, Joined, with_first, joined}
 use Rattle.tv_phrases.proofs.Repeats.{held, first_sound, many_sound, joined_sound}
 
 signature_sound : (ts rest : List SpecToken) (x : NameForm × List (List ℕ)) → signature ts ≡ taken x rest → IsSignature ts x.0 x.1 rest

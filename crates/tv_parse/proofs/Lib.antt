@@ -1,6 +1,5 @@
 -- Library of lemmas for the crates above: how what is read is spelled.
 pub mod SpelledPhrases
-
 -- Lemmas of this crate's own.
 mod Lists
 mod SetSteps

@@ -1,5 +1,5 @@
 -- Programs are read as the grammar says.
-use Rattle.std.proofs.Common.{◌≡◌, List, Option, Some, None, sym, ◌∙◌}
+use Rattle.std.proofs.Common.{◌≡◌, List, Some, None, sym, ◌∙◌}
 use Rattle.std.proofs.lemmas.Option.{same_Some}
 use Rattle.tv_lex.specs.Token.{SpecToken}
 use Rattle.tv_tree.specs.Forms.{ProgramForm}

@@ -1,19 +1,15 @@
 -- Lists of items are read as the grammar says.
-use Rattle.std.proofs.Common.{◌≡◌, ℕ, zero, suc, ◌+◌, ◌<◌, ◌≤◌, List, [], ◌∷◌, Bool, true, false, cond, length, Option, Some, None, refl, sym, ◌∙◌, ap, subst, inl, inr, arith}
-use Rattle.std.specs.Prelude.{codes, is_some, IsTrue, IsFalse}
-use Rattle.std.proofs.lemmas.Option.{same_Some}
+use Rattle.std.proofs.Common.{◌≡◌, ℕ, zero, suc, List, [], Bool, refl, inl, inr}
+use Rattle.std.specs.Prelude.{codes}
 use Rattle.tv_lex.specs.Token.{SpecToken}
-use Rattle.tv_phrases.specs.Reading.{Reading, taken, ◌>>=◌, choose}
+use Rattle.tv_phrases.specs.Reading.{Reading, taken, ◌>>=◌}
 use Rattle.tv_phrases.specs.Tokens.{after, first, identifier_item}
-use Rattle.tv_tree.specs.Forms.{SetForm, Nest, Single, Foreach, Nests, no_nest, with_nest}
+use Rattle.tv_tree.specs.Forms.{SetForm, Nest, Single, Foreach}
 use Rattle.tv_tree.specs.Copies.{nests}
-use Rattle.tv_formula.specs.Grammar.{Begins, Lacks}
-use Rattle.tv_parse.specs.Grammar.{IsSet, IsHead, IsNest, AreNests}
+use Rattle.tv_parse.specs.Grammar.{IsHead, IsNest, AreNests}
 use Rattle.tv_parse.specs.Reading.{set_reading, head_reading, lone, foreach_nest, nest, rows}
-use Rattle.tv_phrases.specs.Repeated.{begins_with, Repeated, Behind, Joined, with_first, turn, many, all_of, behind, joined}
-use Rattle.tv_phrases.proofs.Values.{same_value, same_rest}
+use Rattle.tv_phrases.specs.Repeated.{with_first, turn}
 use Rattle.tv_phrases.proofs.Values.{bind_some, chosen, tested}
-use Rattle.tv_phrases.proofs.Takes.{after_takes, first_takes}
 use Rattle.tv_parse.proofs.SetLaws.{set_sound}
 use Rattle.tv_phrases.proofs.Repeats.{held, first_sound}
 

@@ -1,15 +1,13 @@
 -- What the grammar says is a list of items is read as that list.
-use Rattle.std.proofs.Common.{◌≡◌, ℕ, zero, suc, ◌+◌, ◌<◌, ◌≤◌, List, [], ◌∷◌, Bool, true, false, length, Option, Some, None, refl, sym, ◌∙◌, ap, arith}
-use Rattle.std.specs.Prelude.{codes, IsTrue, IsFalse}
+use Rattle.std.proofs.Common.{◌≡◌, ℕ, zero, suc, ◌<◌, ◌≤◌, List, [], ◌∷◌, Bool, length, refl, ap, arith}
+use Rattle.std.specs.Prelude.{codes}
 use Rattle.tv_lex.specs.Token.{SpecToken}
-use Rattle.tv_phrases.specs.Reading.{Reading, taken, ◌>>=◌, choose}
-use Rattle.tv_phrases.specs.Tokens.{after, first}
+use Rattle.tv_phrases.specs.Reading.{Reading, taken}
 use Rattle.tv_tree.specs.Forms.{Nest, Single, Foreach, Nests, no_nest, with_nest}
 use Rattle.tv_tree.specs.Copies.{nests}
-use Rattle.tv_formula.specs.Grammar.{Begins, Lacks}
-use Rattle.tv_parse.specs.Grammar.{IsHead, IsNest, AreNests}
-use Rattle.tv_parse.specs.Reading.{head_reading, lone, foreach_nest, nest, rows}
-use Rattle.tv_phrases.specs.Repeated.{begins_with, Repeated, Behind, Joined, with_first, turn, many, all_of, behind, joined}
+use Rattle.tv_parse.specs.Grammar.{IsNest, AreNests}
+use Rattle.tv_parse.specs.Reading.{lone, foreach_nest, nest, rows}
+use Rattle.tv_phrases.specs.Repeated.{with_first, turn}
 use Rattle.tv_phrases.proofs.Takes.{after_takes}
 use Rattle.tv_parse.proofs.SetsRead.{head_read}
 use Rattle.tv_phrases.proofs.Repeats.{IsRead}

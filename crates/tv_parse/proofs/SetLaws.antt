@@ -1,9 +1,9 @@
 -- The reading of sets is that of the grammar.
-use Rattle.std.proofs.Common.{◌≡◌, ℕ, zero, suc, ◌+◌, ◌<◌, ◌≤◌, List, Bool, true, false, cond, length, Option, Some, None, refl, sym, ◌∙◌, ap, subst, inl, inr, arith}
+use Rattle.std.proofs.Common.{◌≡◌, ℕ, zero, suc, ◌+◌, List, length, Some, None, ap, subst, inl, inr}
 use Rattle.std.specs.Prelude.{codes}
 use Rattle.std.proofs.lemmas.Option.{same_Some}
 use Rattle.tv_lex.specs.Token.{SpecToken}
-use Rattle.tv_phrases.specs.Reading.{Reading, taken, ◌>>=◌, choose}
+use Rattle.tv_phrases.specs.Reading.{taken, ◌>>=◌, choose}
 use Rattle.tv_phrases.specs.Tokens.{after, first, identifier_item}
 use Rattle.tv_phrases.specs.Lists.{optional_list_in}
 use Rattle.tv_phrases.specs.declared.kinds.Brackets.TheVariants as brackets
@@ -11,13 +11,11 @@ use Rattle.tv_phrases.specs.declared.kinds.Item.TheVariants as kind
 use Rattle.tv_tree.specs.Forms.{SetForm, SNamed, SMembers, SParen, SPlus, SMinus}
 use Rattle.tv_tree.specs.declared.trees.SetSign.{SetSign}
 use Rattle.tv_tree.specs.declared.trees.SetSign.TheVariants as sign
-use Rattle.tv_formula.specs.Grammar.{Begins, Lacks}
+use Rattle.tv_formula.specs.Grammar.{Lacks}
 use Rattle.tv_phrases.specs.Repeated.{begins_with}
-use Rattle.tv_parse.specs.Grammar.{IsSetTerm, IsSetFront, IsSet, IsHead}
-use Rattle.tv_parse.specs.Reading.{SetPart, AllSets, Further, SetReader, signed, set_name, set_members, set_plain, set_paren, set_term, set_sign, set_start, set_behind, set_step, sets, set_reading, head_reading}
-use Rattle.tv_phrases.proofs.Values.{same_value, same_rest}
+use Rattle.tv_parse.specs.Grammar.{IsSetTerm, IsSetFront, IsSet}
+use Rattle.tv_parse.specs.Reading.{SetPart, AllSets, Further, SetReader, signed, set_name, set_members, set_plain, set_paren, set_term, set_sign, set_start, set_behind, sets, set_reading}
 use Rattle.tv_phrases.proofs.Values.{bind_some, chosen, tested}
-use Rattle.tv_phrases.proofs.Takes.{after_takes, first_takes, members_take}
 
 -- a fact about what was read
 along : (P : SetForm → List SpecToken → Type 0) (s t : SetForm) (us vs : List SpecToken) → taken s us ≡ taken t vs → P s us → P t vs

@@ -1,16 +1,16 @@
 -- The words of the grammar's formulas are spelled as tokens spell them.
-use Rattle.std.proofs.Common.{◌≡◌, ℕ, List, Option, Some, None, refl, sym, subst}
+use Rattle.std.proofs.Common.{◌≡◌, ℕ, List, Some, subst}
 use Rattle.std.specs.Prelude.{codes, ⊤}
 use Rattle.tv_lex.specs.Token.{SpecToken}
 use Rattle.tv_model.specs.Spelling.{IsIdentifier}
-use Rattle.tv_phrases.specs.Tokens.{after, first, identifier_item}
-use Rattle.tv_tree.specs.Forms.{Form, FZero, FOne, FHalf, FSame, FDiffer, FAtom, FStar, FPlus, FParen, FNot, FAnd, FOr, FImp, FIff, FCond, FExists, FForall, FTc}
+use Rattle.tv_phrases.specs.Tokens.{first, identifier_item}
+use Rattle.tv_tree.specs.Forms.{Form}
 use Rattle.tv_tree.specs.Spelled.{AreIdentifiers, IsSpelledForm}
 use Rattle.tv_formula.specs.declared.binder.Binder.{Binder}
 use Rattle.tv_formula.specs.declared.binder.Binder.TheVariants.{Exists, Forall, Closure}
 use Rattle.tv_formula.specs.declared.link.Link.{Link}
 use Rattle.tv_formula.specs.declared.link.Link.TheVariants.{Iff, Or, And}
-use Rattle.tv_formula.specs.Grammar.{Production, Whole, Imp, Unary, Joined, Behind, mark_of, join, operand, arrow, over, Leaf, zero_leaf, one_leaf, half_leaf, same_leaf, differ_leaf, atom_leaf, star_leaf, plus_leaf, Binds, binds_some, binds_all, binds_pairs, Reads, cond, no_cond, joined, further, no_further, imp, no_imp, negation, binding, parentheses, leaf, IsFormula}
+use Rattle.tv_formula.specs.Grammar.{Production, Whole, Imp, Unary, Joined, Behind, mark_of, join, operand, over, Leaf, zero_leaf, one_leaf, half_leaf, same_leaf, differ_leaf, atom_leaf, star_leaf, plus_leaf, Binds, binds_some, binds_all, binds_pairs, Reads, cond, no_cond, joined, further, no_further, imp, no_imp, negation, binding, parentheses, leaf, IsFormula}
 use Rattle.tv_parse.proofs.SpelledPhrases.{Tokens, says_identifier, after_leaves, first_leaves, params_leave, variables_leave, pair_leaves, name_leaves, arrow_leaves}
 
 pub word_leaves : (ts us : List SpecToken) (w : List ℕ) → first identifier_item ts ≡ Some (w, us) → Tokens ts → IsIdentifier w × Tokens us

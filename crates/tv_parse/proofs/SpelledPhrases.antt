@@ -1,7 +1,7 @@
 -- The words of phrases are spelled as tokens spell them, and tokens are left behind the phrases.
-use Rattle.std.proofs.Common.{◌≡◌, ℕ, ◌+◌, ◌-◌, ◌<◌, ◌≤◌, ◌≢◌, List, [], ◌∷◌, ◌++◌, Bool, true, false, Option, Some, None, length, take, length-append, ◌⊎◌, inl, inr, refl, sym, ◌∙◌, ap, subst, arith}
+use Rattle.std.proofs.Common.{◌≡◌, ℕ, ◌-◌, ◌≤◌, ◌≢◌, List, [], ◌∷◌, ◌++◌, Bool, true, false, Option, Some, None, length, take, length-append, ◌⊎◌, inl, inr, refl, sym, ◌∙◌, ap, subst, arith}
 use lib.Seq.{take-append_seam}
-use Rattle.std.specs.Prelude.{codes, if◌then◌else◌, ◌&&◌, ◌==◌, IfSome, is_some, All, IsTrue, nat_le, not, ⊤}
+use Rattle.std.specs.Prelude.{codes, ◌&&◌, ◌==◌, IfSome, is_some, All, IsTrue, nat_le, not, ⊤}
 use Rattle.std.specs.List.{list_all, slice_index_or}
 use Rattle.std.proofs.lemmas.Bool.{and_parts, cases_Bool, leb-true, eq-eqb, both_ways, not-true}
 use Rattle.std.proofs.lemmas.List.Folds.{list_all_at}
@@ -14,10 +14,10 @@ use Rattle.tv_lex.specs.Spaced.{IsToken}
 use Rattle.tv_lex.specs.declared.token.TokenKind.{TokenKind}
 use Rattle.tv_lex.specs.declared.token.TokenKind.TheVariants as kind
 use Rattle.tv_model.specs.Spelling.{IsLetter, IsDigit, IsIdentifier, IsWord, IsText}
-use Rattle.tv_phrases.specs.Reading.{Reading, ◌>>=◌, choose, taken}
+use Rattle.tv_phrases.specs.Reading.{Reading, taken}
 use Rattle.tv_phrases.specs.Tokens.{after, first, is_word, is_text, is_identifier, word_item, identifier_item, text_item, unquoted}
 use Rattle.tv_phrases.specs.Lists.{with_front, items_from, comma_list, optional_list, between, params, variables, optional_brackets, name, two_items, pair}
-use Rattle.tv_phrases.proofs.Facts.{on_bind, on_read, on_choose, on_if, at_some}
+use Rattle.tv_phrases.proofs.Facts.{on_read, on_choose, on_if, at_some}
 use Rattle.tv_phrases.proofs.WordTests.{identifier_is}
 use Rattle.tv_tree.specs.Spelled.{AreIdentifiers, IsSpelledName}
 use Rattle.tv_formula.specs.Grammar.{name_form, arrow}

@@ -1,22 +1,20 @@
 -- From any place a phrase has one tree and one end at most: those that its reading gives.
-use Rattle.std.proofs.Common.{◌≡◌, ℕ, ◌+◌, ◌<◌, ◌≤◌, List, Bool, length, sym, ◌∙◌, ap, arith}
+use Rattle.std.proofs.Common.{◌≡◌, ℕ, ◌+◌, ◌≤◌, List, Bool, length, sym, ◌∙◌, ap, arith}
 use Rattle.std.specs.Prelude.{codes}
 use Rattle.tv_lex.specs.Token.{SpecToken}
-use Rattle.tv_phrases.specs.Reading.{Reading, taken}
-use Rattle.tv_tree.specs.Forms.{NameForm, SetForm, Form, Nest, Nests, DeclForm, UpdateForm, PieceForm, PartForm, ActionForm, EdgeForm}
+use Rattle.tv_phrases.specs.Reading.{Reading}
+use Rattle.tv_tree.specs.Forms.{NameForm, SetForm, Form, PartForm}
 use Rattle.tv_tree.specs.Copies.{nests}
-use Rattle.tv_tree.specs.declared.trees.PropWord.{PropWord}
 use Rattle.tv_formula.specs.Grammar.{Whole, IsFormula}
 use Rattle.tv_formula.proofs.Complete.{shorter}
 use Rattle.tv_formula.proofs.FormulaLaws.{formula_is_read}
 use Rattle.tv_parse.specs.Kinds.{begins_decl, begins_update, kind_of}
-use Rattle.tv_parse.specs.Grammar.{IsSetTerm, IsSet, IsHead, IsNest, AreNests, IsSignature, AreProps, IsDecl, AreDecls, IsUpdate, AreUpdates, IsPiece, ArePieces, AreFormulas, IsPart, AreParts, IsAction, IsEdge, begins_prop, begins_edge}
-use Rattle.tv_parse.specs.Reading.{set_term, sets, set_reading, head_reading, nest, rows, signature, props_reading, decl_reading, update_reading, piece_reading, pieces_reading, formulas_reading, part_behind, parts, action_reading, edge_reading, actions_reading, edges_reading}
-use Rattle.tv_phrases.proofs.Values.{same_value, same_rest}
+use Rattle.tv_parse.specs.Grammar.{IsSetTerm, IsSet, IsHead, IsNest, AreNests, IsSignature, AreProps, IsDecl, AreDecls, IsUpdate, AreUpdates, IsPiece, ArePieces, AreFormulas, IsPart, AreParts, IsAction, IsEdge, begins_edge}
+use Rattle.tv_parse.specs.Reading.{set_term, sets, set_reading, head_reading, nest, rows, signature, props_reading, decl_reading, update_reading, piece_reading, pieces_reading, formulas_reading, part_behind, parts, action_reading, edge_reading}
 use Rattle.tv_parse.proofs.SetsRead.{set_read, term_read, head_read}
 use Rattle.tv_parse.proofs.RowsRead.{listed, nests_listed, nest_read, rows_read}
-use Rattle.tv_phrases.specs.Repeated.{begins_with, HasOne, Repeated, many}
-use Rattle.tv_phrases.proofs.Repeats.{IsRead, many_read}
+use Rattle.tv_phrases.specs.Repeated.{begins_with, HasOne, Repeated}
+use Rattle.tv_phrases.proofs.Repeats.{IsRead}
 use Rattle.tv_parse.proofs.GrammarRead.{signature_read, props_read, piece_read, pieces_read, edge_read, decl_read, update_read, formulas_read, part_read, parts_read, action_read}
 use Rattle.tv_phrases.proofs.Repeats.{one_of, one_list}
 

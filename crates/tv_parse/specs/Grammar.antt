@@ -28,7 +28,7 @@ use Rattle.tv_phrases.specs.Lists.{params, name, optional_list, optional_list_in
 use Rattle.tv_phrases.specs.declared.kinds.Brackets.TheVariants as brackets
 use Rattle.tv_phrases.specs.declared.kinds.Item.TheVariants as item
 use Rattle.tv_formula.specs.Grammar.{Begins, Lacks, IsFormula, name_form}
-use Rattle.tv_tree.specs.Forms.{NameForm, SetForm, SNamed, SMembers, SParen, SPlus, SMinus, Form, PredForm, Nest, Single, Foreach, Nests, no_nest, with_nest, DeclForm, DSet, DPred, DRule, PieceForm, Quoted, Spelled, UpdateForm, PartForm, PCaption, PFocus, PPre, PMessage, PNew, PRetain, PBlock, ActionForm, EdgeForm, ProgramForm}
+use Rattle.tv_tree.specs.Forms.{NameForm, SetForm, SNamed, SMembers, SParen, SPlus, SMinus, Form, Nest, Single, Foreach, Nests, no_nest, with_nest, DeclForm, DSet, DPred, DRule, PieceForm, Quoted, Spelled, UpdateForm, PartForm, PCaption, PFocus, PPre, PMessage, PNew, PRetain, PBlock, ActionForm, EdgeForm, ProgramForm}
 use Rattle.tv_tree.specs.declared.trees.PropWord.{PropWord}
 use Rattle.tv_parse.specs.declared.kinds.DeclKind.{DeclKind}
 use Rattle.tv_parse.specs.declared.kinds.DeclKind.TheVariants as decl

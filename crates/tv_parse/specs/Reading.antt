@@ -1,6 +1,6 @@
 -- How programs are read, as functions on lists of tokens, with bounds on the turns and the depth. That they read the
 -- grammar is proved.
-use Rattle.std.specs.Prelude.{◌≡◌, ℕ, zero, suc, ◌+◌, List, [], ◌∷◌, ◌++◌, Bool, length, Option, Some, None, is_some, if◌then◌else◌, codes}
+use Rattle.std.specs.Prelude.{ℕ, zero, suc, ◌+◌, List, [], ◌∷◌, ◌++◌, Bool, length, Option, Some, None, if◌then◌else◌, codes}
 use Rattle.tv_lex.specs.Token.{SpecToken}
 use Rattle.tv_phrases.specs.Reading.{Reading, taken, ◌>>=◌, choose}
 use Rattle.tv_phrases.specs.Tokens.{after, first, identifier_item, word_item, text_item}
@@ -9,7 +9,7 @@ use Rattle.tv_phrases.specs.declared.kinds.Brackets.TheVariants as brackets
 use Rattle.tv_phrases.specs.declared.kinds.Item.TheVariants as item
 use Rattle.tv_formula.specs.Grammar.{name_form}
 use Rattle.tv_formula.specs.Reading.{formula_reading}
-use Rattle.tv_tree.specs.Forms.{NameForm, SetForm, SNamed, SMembers, SParen, SPlus, SMinus, Form, PredForm, Nest, Single, Foreach, Nests, DeclForm, DSet, DPred, DRule, PieceForm, Quoted, Spelled, UpdateForm, PartForm, PCaption, PFocus, PPre, PMessage, PNew, PRetain, PBlock, ActionForm, EdgeForm, ProgramForm}
+use Rattle.tv_tree.specs.Forms.{NameForm, SetForm, SNamed, SMembers, SParen, SPlus, SMinus, Form, Nest, Single, Foreach, DeclForm, DSet, DPred, DRule, PieceForm, Quoted, Spelled, UpdateForm, PartForm, PCaption, PFocus, PPre, PMessage, PNew, PRetain, PBlock, ActionForm, EdgeForm, ProgramForm}
 use Rattle.tv_tree.specs.Copies.{nests}
 use Rattle.tv_tree.specs.declared.trees.PropWord.{PropWord}
 use Rattle.tv_tree.specs.declared.trees.SetSign.{SetSign}
@@ -18,8 +18,8 @@ use Rattle.tv_parse.specs.declared.kinds.DeclKind.{DeclKind}
 use Rattle.tv_parse.specs.declared.kinds.DeclKind.TheVariants as decl
 use Rattle.tv_parse.specs.declared.kinds.PartKind.{PartKind}
 use Rattle.tv_parse.specs.declared.kinds.PartKind.TheVariants as part
-use Rattle.tv_parse.specs.Kinds.{decl_kind, part_kind, prop_item, begins_decl, begins_update, begins_formula, kind_of, may_follow}
-use Rattle.tv_phrases.specs.Repeated.{below, begins_with}
+use Rattle.tv_parse.specs.Kinds.{decl_kind, part_kind, prop_item, begins_decl, begins_update, begins_formula, may_follow}
+use Rattle.tv_phrases.specs.Repeated.{begins_with}
 use Rattle.tv_parse.specs.Grammar.{begins_prop, begins_edge}
 use Rattle.tv_phrases.specs.Repeated.{with_first, turn, all_of, joined}
 

@@ -13,7 +13,7 @@ mod updates;
 
 pub use error::ParseError;
 pub use laws::{
-    formulas_begin, one_action, one_declaration, one_edge, one_set, one_tree, one_update, programs_are_read,
-    programs_are_spelled,
+    formulas_begin, one_action, one_declaration, one_edge, one_set, one_tree, one_update,
+    programs_are_read, programs_are_spelled,
 };
 pub use program::parse_program;

@@ -1,5 +1,4 @@
-use Rattle.std.proofs.Common.{◌≡◌, ◌+◌, [], length, map}
-use Rattle.std.specs.Prelude.{codes}
+use Rattle.std.proofs.Common.{◌≡◌}
 use Rattle.tv_lex.specs.Token.{spec_tokens}
 use Rattle.tv_phrases.specs.Lists.{with_front}
 use Rattle.tv_phrases.specs.Tokens.{first}

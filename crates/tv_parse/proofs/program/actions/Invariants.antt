@@ -1,4 +1,4 @@
-use Rattle.std.proofs.Common.{◌≡◌, ◌+◌, [], length, map}
+use Rattle.std.proofs.Common.{◌≡◌, map}
 use Rattle.std.specs.Prelude.{codes}
 use Rattle.tv_lex.specs.Token.{spec_tokens}
 use Rattle.tv_phrases.specs.Lists.{with_front}

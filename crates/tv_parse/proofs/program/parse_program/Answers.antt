@@ -1,4 +1,4 @@
-use Rattle.std.proofs.Common.{◌≡◌, Some, None, sym, ap, ◌∙◌, arith}
+use Rattle.std.proofs.Common.{◌≡◌, Some, None, arith}
 use Rattle.tv_lex.specs.Token.{spec_tokens}
 use Rattle.tv_parse.specs.Height.{IsTooDeep}
 use Rattle.tv_parse.specs.Reading.{program_reading}

@@ -1,4 +1,4 @@
-use Rattle.std.proofs.Common.{◌≡◌, ◌∙◌, sym, arith, None, List}
+use Rattle.std.proofs.Common.{◌≡◌, ◌∙◌, sym, arith, None}
 use Rattle.tv_lex.specs.Token.{spec_tokens}
 use Rattle.tv_tree.specs.Copies.{term_of}
 use Rattle.tv_parse.specs.Reading.{set_sign}
