@@ -87,7 +87,7 @@ pub fails_along : {A : Type 0} (e : TvsError) (q r : Result A TvsError) → q �
 fails_along e q r same h = subst (Fails e) (sym same) h
 
 pub keeps_then : (r s t : StructureForm) → Keeps r s → Keeps s t → Keeps r t
-keeps_then r s t a b = record { size = b.size ∙ a.size; arities = b.arities ∙ a.arities; fresh = b.fresh ∙ a.fresh }
+keeps_then r s t a b = record { size = b.size ∙ a.size; arities = b.arities ∙ a.arities; fresh = b.fresh ∙ a.fresh; structure = λ is. b.structure (a.structure is) }
 
 -- ---- items and entries
 

@@ -12,6 +12,7 @@ pub mod Numbers
 pub mod RoundTrip
 pub mod Sound
 pub mod Spelled
+pub mod Stops
 pub mod TestVocabulary
 pub mod Twice
 pub mod Valid

@@ -8,7 +8,9 @@ use Rattle.tv_model.specs.declared.program.Pred.{Pred}
 use Rattle.tv_model.specs.declared.program.Vocab.{Vocab}
 use Rattle.tv_struct.specs.StructureForm.{StructureForm, structure_of_no, with_value, with_summary}
 use Rattle.tv_lex.specs.Token.{SpecToken}
+use Rattle.tv_lex.specs.Places.{IsTokenPlace}
 use Rattle.tv_lex.specs.declared.token.Place.{Place}
+use Rattle.tv_lex.specs.declared.token.Token.{Token}
 use Rattle.tv_phrases.specs.declared.error.PhraseError.{PhraseError}
 use Rattle.tv_phrases.specs.declared.error.PhraseError.TheVariants as phrase
 use Rattle.tv_tvs.specs.declared.error.TvsError.{TvsError}
@@ -165,6 +167,17 @@ IsCause vocab tokens ArityWrong = MeansStructs vocab tokens (Err ArityWrong)
 IsCause vocab tokens BadSm = MeansStructs vocab tokens (Err BadSm)
 IsCause vocab tokens TooManyIndividuals = MeansStructs vocab tokens (Err TooManyIndividuals)
 IsCause vocab tokens Memory = Unit {0}
+
+-- the place that is told is that of the start of one of the tokens, or of the end of the text
+abbrev pub StopsAtToken : List ℕ → List Token → TvsError → Type 0
+StopsAtToken text tokens (Syntax place) = IsTokenPlace text tokens place
+StopsAtToken text tokens IndividualUnknown = Unit {0}
+StopsAtToken text tokens IndividualTwice = Unit {0}
+StopsAtToken text tokens NameUnknown = Unit {0}
+StopsAtToken text tokens ArityWrong = Unit {0}
+StopsAtToken text tokens BadSm = Unit {0}
+StopsAtToken text tokens TooManyIndividuals = Unit {0}
+StopsAtToken text tokens Memory = Unit {0}
 
 -- the tokens begin with a structure with these behind it, and this is what it means
 pub record MeansStruct (vocab : Vocab) (tokens rest : List SpecToken) (meaning : Result StructureForm TvsError) : Type 0 where

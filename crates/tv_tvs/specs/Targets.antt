@@ -1,6 +1,7 @@
 -- What entries speak of, as the builder of structures sees it.
 use Rattle.std.specs.Prelude.{ℕ, ◌≡◌, ◌<◌, List, Some, None, slice_get, slice_index}
-use Rattle.tv_struct.specs.StructureForm.{StructureForm, arities_of, table_of}
+use Rattle.tv_model.specs.declared.program.Vocab.{Vocab}
+use Rattle.tv_struct.specs.StructureForm.{StructureForm, IsStructure, IsOver, arities_of, table_of}
 use Rattle.tv_struct.specs.TableForm.{HasEntry}
 use Rattle.tv_tvs.specs.declared.build.Target.{Target}
 use Rattle.tv_tvs.specs.declared.build.Target.TheVariants.{Marks, Values}
@@ -20,8 +21,15 @@ abbrev pub HasPlace : Subject → StructureForm → List ℕ → Type 0
 HasPlace Summaries s tuple = (slice_index tuple 0 < s.size) × (s.fresh ≡ None)
 HasPlace (Predicate p arity) s tuple = HasEntry (table_of s) p tuple
 
--- individuals, arities and mark stay
+-- a structure over the vocabulary without a mark
+pub record IsRead (vocab : Vocab) (s : StructureForm) : Type 0 where
+  pub over : IsOver vocab s
+  pub fresh : s.fresh ≡ None
+  pub structure : IsStructure s
+
+-- individuals, arities and mark stay, and what was a structure is one
 pub record Keeps (s t : StructureForm) : Type 0 where
   pub size : t.size ≡ s.size
   pub arities : arities_of t ≡ arities_of s
   pub fresh : t.fresh ≡ s.fresh
+  pub structure : IsStructure s → IsStructure t

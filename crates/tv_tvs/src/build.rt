@@ -5,12 +5,12 @@ ghost use Rattle.std.specs.List.{list_all};
 ghost use Rattle.std.specs.Option.{option_map};
 ghost use Rattle.std.specs.Str.{bytes_eq};
 ghost use Rattle.tv_kleene.specs.declared.K3.TheVariants.{Yes};
-ghost use Rattle.tv_struct.specs.StructureForm.{StructureForm, IsOver, arities_of};
+ghost use Rattle.tv_struct.specs.StructureForm.{StructureForm, arities_of};
 ghost use Rattle.tv_struct.specs.TableForm.{AreIndividuals};
 ghost use Rattle.tv_struct.specs.TupleForm.{tuple_of};
 ghost use Rattle.tv_tvs.specs.Meaning.{Answers, Summaries, or_refused, number_of, subject_of, subject_arity, item_arity, fits, tuple_of_item, value_put, item_put, items_put, fitting_put, entry_put, entries_put, struct_meant, structs_meant};
 ghost use Rattle.tv_tvs.specs.Views.{names_of, text_arity, item_tree, item_trees, content_tree, entry_tree, entry_trees, struct_tree, struct_trees};
-ghost use Rattle.tv_tvs.specs.Targets.{subject_form, Has, HasPlace, Keeps};
+ghost use Rattle.tv_tvs.specs.Targets.{subject_form, Has, HasPlace, IsRead, Keeps};
 
 use crate::error::TvsError;
 use crate::names::{Names, individual_names, name_text, number_of};
@@ -278,7 +278,7 @@ pub(crate) fn structure(
     requires count { length vocab.now.preds ≤ 512 }
     requires arities { All (λ pred. pred.arity ≤ 2) vocab.now.preds }
     ensures meant { Answers (λ s. s) result (struct_meant vocab.now.preds (struct_tree bytes.now tree.now)) }
-    ensures over { IfOk result (λ s. IsOver vocab.now s × (s.fresh ≡ None)) }
+    ensures over { IfOk result (IsRead vocab.now) }
 {
     if tree.individuals.len() > 256 {
         return Err(TvsError::TooManyIndividuals);
@@ -309,7 +309,7 @@ pub(crate) fn structures(
     requires count { length vocab.now.preds ≤ 512 }
     requires arities { All (λ pred. pred.arity ≤ 2) vocab.now.preds }
     ensures meant { Answers (λ (ss : List StructureForm). ss) result (structs_meant vocab.now.preds (struct_trees bytes.now trees.now)) }
-    ensures over { IfOk result (λ ss. All (λ s. IsOver vocab.now s × (s.fresh ≡ None)) ss) }
+    ensures over { IfOk result (λ ss. All (IsRead vocab.now) ss) }
 {
     let mut list = Vec::new(alloc);
     for tree in trees {
