@@ -6,16 +6,10 @@ mod fair;
 mod heap_list;
 mod laws;
 mod properties;
-#[cfg(test)]
-mod reader;
 mod rules;
 mod shape;
 mod step;
-#[cfg(test)]
-mod step_tests;
 mod truth;
-#[cfg(test)]
-mod truth_tests;
 
 pub use enumerate::{put_tuple, tuples};
 pub use fair::is_fair_through;

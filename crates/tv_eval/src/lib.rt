@@ -16,10 +16,3 @@ pub use assignment::Assignment;
 pub use evaluator::{Evaluator, eval};
 pub use laws::{made_scratches_fit, program_formulas_are_over};
 pub use scratch::Scratch;
-
-#[cfg(test)]
-mod checked;
-#[cfg(test)]
-mod reader;
-#[cfg(test)]
-mod tests;

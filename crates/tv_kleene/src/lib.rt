@@ -76,6 +76,3 @@ impl K3 {
         self == other || other == K3::Half
     }
 }
-
-#[cfg(test)]
-mod tests;

@@ -18,6 +18,3 @@ pub use program::{
     Program, Props, Retain, Rule, Rules, Update, Updates, Vocab,
 };
 pub use walk::{copy, depth, free, mentions};
-
-#[cfg(test)]
-mod tests;

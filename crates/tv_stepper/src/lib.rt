@@ -8,9 +8,6 @@ ghost use Rattle.tv_model.specs.Step.{FairlySteps, with_new, IsFairThrough};
 ghost use Rattle.tv_concrete.specs.Lists.{assignment_of, heap_of};
 ghost use Rattle.tv_stepper.specs.Candidates.{Suffice};
 
-#[cfg(test)]
-mod tests;
-
 use std::alloc::{AllocError, Global};
 use tv_concrete::{HeapList, Tuple, Values, is_fair_through};
 use tv_model::{Action, Items, Mode, Program, Var};

@@ -24,6 +24,3 @@ pub use laws::{
 pub use listing::Listing;
 pub use structure::{Structure, Structures};
 pub use table::{Table, Tuple};
-
-#[cfg(test)]
-mod tests;

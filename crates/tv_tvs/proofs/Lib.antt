@@ -13,7 +13,6 @@ pub mod RoundTrip
 pub mod Sound
 pub mod Spelled
 pub mod Stops
-pub mod TestVocabulary
 pub mod Twice
 pub mod Valid
 pub mod Written

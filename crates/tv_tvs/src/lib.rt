@@ -14,6 +14,3 @@ pub use laws::{one_reading, structures_are_read_again, valid_programs_fit};
 pub use read::{OneRead, StructureReader, read_one, read_tvs};
 pub use tv_struct::Structures;
 pub use write::write_tvs;
-
-#[cfg(test)]
-mod tests;
