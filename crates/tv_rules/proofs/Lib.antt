@@ -1,14 +1,17 @@
-pub mod MetByHeaps
-pub mod Dropping
-pub mod EntryLemmas
+-- The library of lemmas on closed rules, for the crates above.
+pub mod Carried
 pub mod Family
-pub mod FlagLemmas
-pub mod Free
-pub mod Further
-pub mod Heights
-pub mod KeptLemmas
-pub mod Loops
-pub mod Plain
-pub mod Ranges
-pub mod RuleTests
 pub mod Written
+-- What only this crate cites.
+mod Dropping
+mod EntryLemmas
+mod FlagLemmas
+mod Free
+mod Further
+mod Heights
+mod KeptLemmas
+mod Loops
+mod MetByHeaps
+mod Plain
+mod Ranges
+mod RuleTests

@@ -31,7 +31,7 @@ All-mapped P f [] all = All-nil (λ x. P (f x))
 All-mapped P f (x ∷ xs) all =
     All-cons (λ y. P (f y)) x xs (All-head P (f x) (map f xs) all) (All-mapped P f xs (All-tail P (f x) (map f xs) all))
 
-All-first : {X : Type 0} (P : X → Type 0) (xs ys : List X) → All P (xs ++ ys) → All P xs
+pub All-first : {X : Type 0} (P : X → Type 0) (xs ys : List X) → All P (xs ++ ys) → All P xs
 All-first P [] ys all = All-nil P
 All-first P (x ∷ xs) ys all =
     All-cons P x xs (All-head P x (xs ++ ys) all) (All-first P xs ys (All-tail P x (xs ++ ys) all))

@@ -1,11 +1,15 @@
 -- Laws of the closed rules, as statements.
-use Rattle.std.specs.Prelude.{ℕ, ◌≡◌, ◌≤◌, ◌↔◌, IsTrue, [], ◌∷◌, map, All}
+use Rattle.std.specs.Prelude.{ℕ, ◌≡◌, ◌≤◌, ◌↔◌, IsTrue, [], ◌∷◌, map, All, List}
 use Rattle.tv_model.specs.Form.{Form, IsFree, height}
 use Rattle.tv_model.specs.Heap.{Heap}
 use Rattle.tv_model.specs.Program.{ProgramForm, HeadForm, RuleForm}
 use Rattle.tv_model.specs.Rules.{IsInHead, MeetsRule, MeetsProgram, IsConcrete}
 use Rattle.tv_model.specs.Laws.{EachFormula}
-use Rattle.tv_model.specs.Valid.{IsValid, IsRule}
+use Rattle.tv_model.specs.Truth.{Assignment}
+use Rattle.tv_model.specs.Valid.{IsValid, IsRule, IsFormulaOver}
+use Rattle.tv_kleene.specs.declared.K3.TheVariants.{Yes}
+use Rattle.tv_frame.specs.LogicalStructure.{LogicalStructure}
+use Rattle.tv_value.specs.Value.{value}
 use Rattle.tv_rules.specs.Closing.{is_free, is_in_head, conjuncts, puttings, swaps, base_rules, dropped_rule, further_rules, closed_rules}
 
 -- a concrete heap that meets the program meets each of its closed rules
@@ -55,3 +59,14 @@ ClosedRulesAreRules = (p : ProgramForm) → IsValid p → All (IsRule p) (closed
 -- no formula of the program is higher than n
 abbrev pub IsNoHigher : ProgramForm → (n : ℕ) → Type 0
 IsNoHigher p n = EachFormula (λ f. height f ≤ n) p
+
+-- a formula's conjuncts carry it: its value is Yes exactly where those of all conjuncts are, and no conjunct
+-- has a free variable, a predicate or a height that the formula hasn't
+pub record CarryFormula (f : Form) : Type 0 where
+  pub yes : (s : LogicalStructure) (a : Assignment) → (value s a f ≡ Yes) ↔ All (λ g. value s a g ≡ Yes) (conjuncts f)
+  pub free : All (λ g. (v : ℕ) → IsFree v g → IsFree v f) (conjuncts f)
+  pub formulas : (arities : List ℕ) → IsFormulaOver arities f → All (IsFormulaOver arities) (conjuncts f)
+  pub heights : All (λ g. height g ≤ height f) (conjuncts f)
+
+abbrev pub ConjunctsCarryFormulas : Type 0
+ConjunctsCarryFormulas = (f : Form) → CarryFormula f

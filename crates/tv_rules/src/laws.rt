@@ -1,6 +1,6 @@
 //! Laws of the closed rules: functions that do nothing, and whose contracts are the laws.
 
-ghost use Rattle.tv_rules.specs.Laws.{BaseRulesAreMet, ClosingKeepsMeaning, ClosedRulesAreMet, FurtherRulesFollow, DroppingKeepsMeaning, TestsAreRight, SwapsAreOfConjuncts, ClosedRulesAreRules};
+ghost use Rattle.tv_rules.specs.Laws.{BaseRulesAreMet, ClosingKeepsMeaning, ClosedRulesAreMet, FurtherRulesFollow, DroppingKeepsMeaning, TestsAreRight, SwapsAreOfConjuncts, ClosedRulesAreRules, ConjunctsCarryFormulas};
 ghost use Rattle.tv_rules.specs.Samples.{Samples};
 
 /// Each further rule holds in every heap in which its base rule holds.
@@ -46,4 +46,10 @@ pub fn swaps_are_of_conjuncts()
 /// The closed rules of a valid program are valid rules over its vocabulary.
 pub fn closed_rules_are_rules()
     ensures { ClosedRulesAreRules }
+{}
+
+/// The value of a formula is Yes exactly where those of its conjuncts are, and its conjuncts ask for no more
+/// than it does.
+pub fn conjuncts_carry_formulas()
+    ensures { ConjunctsCarryFormulas }
 {}

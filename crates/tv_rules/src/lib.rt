@@ -12,6 +12,6 @@ mod watch;
 pub use closed::{Closed, close_rules};
 pub use laws::{
     base_rules_are_met, closed_rules_are_met, closed_rules_are_rules, closing_keeps_meaning,
-    dropping_keeps_meaning, further_rules_follow, samples_are_closed, swaps_are_of_conjuncts,
-    tests_are_right,
+    conjuncts_carry_formulas, dropping_keeps_meaning, further_rules_follow, samples_are_closed,
+    swaps_are_of_conjuncts, tests_are_right,
 };
