@@ -1,24 +1,23 @@
 -- A text means one program at most, and none that is refused.
-use Rattle.std.proofs.Common.{◌≡◌, ℕ, List, Result, Ok, Err, sym, ap, ◌∙◌, subst, inl, inr, ◌⊎◌}
+use Rattle.std.proofs.Common.{◌≡◌, ℕ, List, Result, Ok, Err, sym, ap, ◌∙◌, subst}
 use Rattle.tv_lex.specs.Token.{SpecToken, spec_tokens}
 use Rattle.tv_lex.specs.Pieces.{Reads}
 use Rattle.tv_lex.specs.declared.token.Token.{Token}
 use Rattle.tv_lex.specs.declared.token.LexError.{LexError}
-use Rattle.tv_lex.specs.declared.token.LexError.TheVariants as lexing
+use Rattle.tv_parse.specs.declared.error.ParseError.{ParseError}
+use Rattle.tv_parse.specs.declared.error.ParseError.TheVariants as parsing
 use Rattle.tv_parse.specs.Height.{IsTooDeep}
 use Rattle.tv_parse.specs.Grammar.{IsProgram}
 use Rattle.tv_tree.specs.Forms.{ProgramForm as TreeForm}
 use Rattle.tv_flat.specs.FlatForm.{FlatForm}
 use Rattle.tv_expand.specs.Expansion.{expansion}
 use Rattle.tv_expand.specs.declared.error.ExpandError.{ExpandError}
-use Rattle.tv_expand.specs.declared.error.ExpandError.TheVariants as expanding
 use Rattle.tv_model.specs.Program.{ProgramForm}
 use Rattle.tv_names.specs.declared.refusal.ResolveError.{ResolveError}
-use Rattle.tv_names.specs.declared.refusal.ResolveError.TheVariants as resolving
 use Rattle.tv_vocab.specs.Resolution.{program}
-use Rattle.tv_front.specs.Meaning.{HasTokens, HasTree, HasFlatForm, Means, IsRefusedExpansion, IsRefusedResolution, IsRefused}
+use Rattle.tv_front.specs.Meaning.{HasTokens, HasTree, HasFlatForm, Means, IsRefusedParsing, IsRefusedExpansion, IsRefusedResolution, IsRefused}
 use Rattle.tv_front.specs.declared.fault.ProgramFault.{ProgramFault}
-use Rattle.tv_front.specs.declared.fault.ProgramFault.TheVariants.{BadByte, Unended, TooDeep, Syntax, NameUnknown, NameTwice, ArgumentCount, TooManyItems, ArityWrong, ArityTooLarge, Reserved, VariableUnbound, TooManyVariables, UpdateTwice, DefinitionCycle, HeadForm, HalfLiteral, TooMany, NoEdge, Memory}
+use Rattle.tv_front.specs.declared.fault.ProgramFault.TheVariants.{Lexing, Parsing, Expansion, Resolution}
 
 given : {A E : Type 0} → A → Result A E → A
 given a (Ok x) = x
@@ -64,36 +63,15 @@ module _
     resolution_unrefused : (text : List ℕ) (p : ProgramForm) (e : ResolveError) → Means text p → IsRefusedResolution text e → ⊥
     resolution_unrefused text p e (f, is, d) (g, are, h) = not_refused p e (sym d ∙ ap program (one_flat_form text f g is are) ∙ h)
 
-    not_deep : (text : List ℕ) (p : ProgramForm) → Means text p → IsRefused text TooDeep → ⊥
-    not_deep text p m (us, have, deep) =
+    parsing_unrefused : (text : List ℕ) (p : ProgramForm) (e : ParseError) → Means text p → IsRefusedParsing text e → ⊥
+    parsing_unrefused text p parsing.TooDeep m (us, have, deep) =
         let h = has_tokens text p m in h.2 (subst IsTooDeep (one_tokens text us h.0 have h.1) deep)
-
-    not_unread : (text : List ℕ) (p : ProgramForm) → Means text p → ((us : List SpecToken) × HasTokens text us × (¬ IsTooDeep us) × ((t : TreeForm) → ¬ IsProgram us t)) → ⊥
-    not_unread text p m (us, have, low, none) =
+    parsing_unrefused text p (parsing.Syntax place) m (us, have, low, none) =
         let h = has_tokens text p m in none h.3.0 (subst (λ xs. IsProgram xs h.3.0) (one_tokens text h.0 us h.1 have) h.3.1)
-
-    either : {A B : Type 0} → (A → ⊥) → (B → ⊥) → A ⊎ B → ⊥
-    either f g (inl a) = f a
-    either f g (inr b) = g b
+    parsing_unrefused text p parsing.Memory m h = h
 
     pub unrefused : (text : List ℕ) (p : ProgramForm) (fault : ProgramFault) → Means text p → ¬ IsRefused text fault
-    unrefused text p BadByte m = lexing_unrefused text p lexing.BadByte m
-    unrefused text p Unended m = lexing_unrefused text p lexing.Unended m
-    unrefused text p TooDeep m = not_deep text p m
-    unrefused text p (Syntax place) m = not_unread text p m
-    unrefused text p NameUnknown m = either (expansion_unrefused text p expanding.NameUnknown m) (resolution_unrefused text p resolving.NameUnknown m)
-    unrefused text p NameTwice m = either (expansion_unrefused text p expanding.NameTwice m) (resolution_unrefused text p resolving.NameTwice m)
-    unrefused text p ArgumentCount m = expansion_unrefused text p expanding.ArgumentCount m
-    unrefused text p TooManyItems m = expansion_unrefused text p expanding.TooManyItems m
-    unrefused text p ArityWrong m = resolution_unrefused text p resolving.ArityWrong m
-    unrefused text p ArityTooLarge m = resolution_unrefused text p resolving.ArityTooLarge m
-    unrefused text p Reserved m = resolution_unrefused text p resolving.Reserved m
-    unrefused text p VariableUnbound m = resolution_unrefused text p resolving.VariableUnbound m
-    unrefused text p TooManyVariables m = resolution_unrefused text p resolving.TooManyVariables m
-    unrefused text p UpdateTwice m = resolution_unrefused text p resolving.UpdateTwice m
-    unrefused text p DefinitionCycle m = resolution_unrefused text p resolving.DefinitionCycle m
-    unrefused text p HeadForm m = resolution_unrefused text p resolving.HeadForm m
-    unrefused text p HalfLiteral m = resolution_unrefused text p resolving.HalfLiteral m
-    unrefused text p TooMany m = resolution_unrefused text p resolving.TooMany m
-    unrefused text p NoEdge m = resolution_unrefused text p resolving.NoEdge m
-    unrefused text p Memory m = λ h. h
+    unrefused text p (Lexing e) m = lexing_unrefused text p e m
+    unrefused text p (Parsing e) m = parsing_unrefused text p e m
+    unrefused text p (Expansion e) m = expansion_unrefused text p e m
+    unrefused text p (Resolution e) m = resolution_unrefused text p e m

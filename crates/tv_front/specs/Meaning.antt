@@ -1,25 +1,29 @@
 -- What the text of a program means. It is cut into tokens; these are the tokens of a tree; the tree has a flat form, in which
 -- sets, foreach and parameters are put in; and the flat form says a program, in which names are numbers. The first of these
 -- steps that can't be taken refuses the text.
-use Rattle.std.specs.Prelude.{◌≡◌, ℕ, List, Ok, Err, ◌⊎◌, ⊤}
+use Rattle.std.specs.Prelude.{◌≡◌, ℕ, Bool, true, false, List, Ok, Err}
+use Rattle.tv_tree.specs.Steps.{Unless}
+use Rattle.tv_expand.specs.Outcome.{is_memory as expansion_memory}
+use Rattle.tv_names.specs.Refusal.{is_memory as resolution_memory}
 use Rattle.tv_lex.specs.Token.{SpecToken, spec_tokens}
 use Rattle.tv_lex.specs.Pieces.{Reads}
 use Rattle.tv_lex.specs.declared.token.Token.{Token}
 use Rattle.tv_lex.specs.declared.token.Place.{Place}
+use Rattle.tv_lex.specs.declared.token.LexError.{LexError}
 use Rattle.tv_lex.specs.declared.token.LexError.TheVariants as lexing
+use Rattle.tv_parse.specs.declared.error.ParseError.{ParseError}
+use Rattle.tv_parse.specs.declared.error.ParseError.TheVariants as parsing
 use Rattle.tv_parse.specs.Height.{IsTooDeep}
 use Rattle.tv_parse.specs.Grammar.{IsProgram}
 use Rattle.tv_tree.specs.Forms.{ProgramForm as TreeForm}
 use Rattle.tv_flat.specs.FlatForm.{FlatForm}
 use Rattle.tv_expand.specs.Expansion.{expansion}
 use Rattle.tv_expand.specs.declared.error.ExpandError.{ExpandError}
-use Rattle.tv_expand.specs.declared.error.ExpandError.TheVariants as expanding
 use Rattle.tv_model.specs.Program.{ProgramForm}
 use Rattle.tv_names.specs.declared.refusal.ResolveError.{ResolveError}
-use Rattle.tv_names.specs.declared.refusal.ResolveError.TheVariants as resolving
 use Rattle.tv_vocab.specs.Resolution.{program}
 use Rattle.tv_front.specs.declared.fault.ProgramFault.{ProgramFault}
-use Rattle.tv_front.specs.declared.fault.ProgramFault.TheVariants.{BadByte, Unended, TooDeep, Syntax, NameUnknown, NameTwice, ArgumentCount, TooManyItems, ArityWrong, ArityTooLarge, Reserved, VariableUnbound, TooManyVariables, UpdateTwice, DefinitionCycle, HeadForm, HalfLiteral, TooMany, NoEdge, Memory}
+use Rattle.tv_front.specs.declared.fault.ProgramFault.TheVariants.{Lexing, Parsing, Expansion, Resolution}
 
 -- the text is cut into these tokens
 abbrev pub HasTokens : List ℕ → List SpecToken → Type 0
@@ -37,6 +41,13 @@ HasFlatForm text f = (t : TreeForm) × HasTree text t × (expansion t ≡ Ok f)
 abbrev pub Means : List ℕ → ProgramForm → Type 0
 Means text p = (f : FlatForm) × HasFlatForm text f × (program f ≡ Ok p)
 
+-- The text has tokens, and they have no tree for this: over 200 constructs are open at one place, else they are those of no
+-- program.
+abbrev pub IsRefusedParsing : List ℕ → ParseError → Type 0
+IsRefusedParsing text parsing.TooDeep = (ts : List SpecToken) × HasTokens text ts × IsTooDeep ts
+IsRefusedParsing text (parsing.Syntax place) = (ts : List SpecToken) × HasTokens text ts × (¬ IsTooDeep ts) × ((t : TreeForm) → ¬ IsProgram ts t)
+IsRefusedParsing text parsing.Memory = ⊥
+
 -- the text has a tree, and its expansion is refused for this
 abbrev pub IsRefusedExpansion : List ℕ → ExpandError → Type 0
 IsRefusedExpansion text e = (t : TreeForm) × HasTree text t × (expansion t ≡ Err e)
@@ -45,38 +56,43 @@ IsRefusedExpansion text e = (t : TreeForm) × HasTree text t × (expansion t ≡
 abbrev pub IsRefusedResolution : List ℕ → ResolveError → Type 0
 IsRefusedResolution text e = (f : FlatForm) × HasFlatForm text f × (program f ≡ Err e)
 
+abbrev pub is_memory_of_lexing : LexError → Bool
+is_memory_of_lexing lexing.Memory = true
+is_memory_of_lexing e = false
+
+abbrev pub is_memory_of_parsing : ParseError → Bool
+is_memory_of_parsing parsing.Memory = true
+is_memory_of_parsing e = false
+
 -- the text means no program, and this is why
 abbrev pub IsRefused : List ℕ → ProgramFault → Type 0
-IsRefused text BadByte = Reads text (Err lexing.BadByte)
-IsRefused text Unended = Reads text (Err lexing.Unended)
-IsRefused text TooDeep = (ts : List SpecToken) × HasTokens text ts × IsTooDeep ts
-IsRefused text (Syntax place) = (ts : List SpecToken) × HasTokens text ts × (¬ IsTooDeep ts) × ((t : TreeForm) → ¬ IsProgram ts t)
-IsRefused text NameUnknown = IsRefusedExpansion text expanding.NameUnknown ⊎ IsRefusedResolution text resolving.NameUnknown
-IsRefused text NameTwice = IsRefusedExpansion text expanding.NameTwice ⊎ IsRefusedResolution text resolving.NameTwice
-IsRefused text ArgumentCount = IsRefusedExpansion text expanding.ArgumentCount
-IsRefused text TooManyItems = IsRefusedExpansion text expanding.TooManyItems
-IsRefused text ArityWrong = IsRefusedResolution text resolving.ArityWrong
-IsRefused text ArityTooLarge = IsRefusedResolution text resolving.ArityTooLarge
-IsRefused text Reserved = IsRefusedResolution text resolving.Reserved
-IsRefused text VariableUnbound = IsRefusedResolution text resolving.VariableUnbound
-IsRefused text TooManyVariables = IsRefusedResolution text resolving.TooManyVariables
-IsRefused text UpdateTwice = IsRefusedResolution text resolving.UpdateTwice
-IsRefused text DefinitionCycle = IsRefusedResolution text resolving.DefinitionCycle
-IsRefused text HeadForm = IsRefusedResolution text resolving.HeadForm
-IsRefused text HalfLiteral = IsRefusedResolution text resolving.HalfLiteral
-IsRefused text TooMany = IsRefusedResolution text resolving.TooMany
-IsRefused text NoEdge = IsRefusedResolution text resolving.NoEdge
-IsRefused text Memory = ⊥
+IsRefused text (Lexing e) = Reads text (Err e)
+IsRefused text (Parsing e) = IsRefusedParsing text e
+IsRefused text (Expansion e) = IsRefusedExpansion text e
+IsRefused text (Resolution e) = IsRefusedResolution text e
+
+-- memory ran out in a stage
+abbrev pub is_memory : ProgramFault → Bool
+is_memory (Lexing e) = is_memory_of_lexing e
+is_memory (Parsing e) = is_memory_of_parsing e
+is_memory (Expansion e) = expansion_memory e
+is_memory (Resolution e) = resolution_memory e
 
 -- why a call gives no program: the text is refused for this, or memory ran out
 abbrev pub IsCause : List ℕ → ProgramFault → Type 0
-IsCause text Memory = ⊤
-IsCause text fault = IsRefused text fault
+IsCause text fault = Unless (is_memory fault) (IsRefused text fault)
 
 abbrev pub start_of_text : Place
 start_of_text = record { line = 1; column = 1 }
 
+abbrev pub at_start : ParseError → ParseError
+at_start (parsing.Syntax place) = parsing.Syntax start_of_text
+at_start parsing.TooDeep = parsing.TooDeep
+at_start parsing.Memory = parsing.Memory
+
 -- the refusal, wherever it stands
 abbrev pub without_place : ProgramFault → ProgramFault
-without_place (Syntax place) = Syntax start_of_text
-without_place fault = fault
+without_place (Lexing e) = Lexing e
+without_place (Parsing e) = Parsing (at_start e)
+without_place (Expansion e) = Expansion e
+without_place (Resolution e) = Resolution e

@@ -15,8 +15,8 @@ use tv_flat::Flat;
 use tv_lex::lex;
 use tv_model::Program;
 use tv_parse::parse_program;
-use tv_tree::trees::Tree;
-use tv_vocab::resolve;
+use tv_tree::Tree;
+use tv_vocab::{flat_forms_are_resolvable, resolve};
 
 /// The tree of a text.
 #[tactic(auto, using(crate::proofs::Stages::lexing_refused, crate::proofs::Stages::parsing_refused, crate::proofs::Stages::tree_read))]
@@ -55,6 +55,7 @@ pub fn read_program(alloc: Global, bytes: &[u8]) -> Result<Program, ProgramFault
     ensures valid { IfOk result (λ p. IsValid (program_of p)) }
     ensures cause { IfErr result (IsCause bytes.now) }
 {
+    flat_forms_are_resolvable();
     let flat = flat_form(alloc, bytes)?;
     Ok(resolve(alloc, &flat)?)
 }

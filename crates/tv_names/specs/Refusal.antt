@@ -1,5 +1,6 @@
 -- Steps that may be refused, one after the other: the first refusal decides.
-use Rattle.std.specs.Prelude.{◌≡◌, List, [], ◌∷◌, ◌++◌, Result, Ok, Err}
+use Rattle.std.specs.Prelude.{Bool, true, false, List, [], ◌∷◌, ◌++◌, Result, Ok}
+use Rattle.tv_tree.specs.Steps as steps
 pub use Rattle.tv_tree.specs.Steps.{◌>>=◌, refused_if, or_refused}
 use Rattle.tv_names.specs.declared.refusal.ResolveError.{ResolveError}
 use Rattle.tv_names.specs.declared.refusal.ResolveError.TheVariants.{Memory}
@@ -8,15 +9,18 @@ use Rattle.tv_names.specs.declared.refusal.ResolveError.TheVariants.{Memory}
 abbrev pub OrRefused : Type 0 → Type 0
 OrRefused A = Result A ResolveError
 
--- the refusal is the one that is defined; of want of memory nothing is said
+-- want of memory, of which the definition says nothing
+abbrev pub is_memory : ResolveError → Bool
+is_memory Memory = true
+is_memory e = false
+
+-- the refusal is the one that is defined, unless memory ran out
 abbrev pub Refuses : {Y : Type 0} → ResolveError → OrRefused Y → Type 0
-Refuses Memory defined = Unit {0}
-Refuses e defined = defined ≡ Err e
+Refuses e defined = steps.Fails is_memory e defined
 
 -- what a function returned, seen by view, is what is defined, unless memory ran out
 abbrev pub Gives : {X Y : Type 0} → (X → Y) → OrRefused X → OrRefused Y → Type 0
-Gives view (Ok x) defined = defined ≡ Ok (view x)
-Gives view (Err e) defined = Refuses e defined
+Gives view answer defined = steps.Gives is_memory view answer defined
 
 -- each in its order, up to the first refusal
 abbrev pub one_by_one : {S A : Type 0} → (S → A → OrRefused S) → S → List A → OrRefused S

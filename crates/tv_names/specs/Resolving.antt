@@ -1,10 +1,9 @@
 -- Resolution of one formula: names become numbers, in reading order, and the first refusal decides.
 use Rattle.std.specs.Prelude.{ℕ, ◌≡◌, Bool, true, false, ◌&&◌, not, ◌==◌, List, [], ◌∷◌, ◌++◌, length, Option, Some, None, Result, Ok, Err, get_or, slice_set, if◌then◌else◌}
-use Rattle.std.specs.List.{list_any}
 use Rattle.std.specs.Str.{bytes_eq}
 use Rattle.tv_tree.specs.Forms as tree
 use Rattle.tv_tree.specs.Forms.{NameForm}
-use Rattle.tv_tree.specs.Names.{name_text}
+use Rattle.tv_tree.specs.Names.{is_among, name_text}
 use Rattle.tv_model.specs.Form.{Form, FZero, FOne, FAtom, FIsNew, FSame, FNot, FAnd, FOr, FIff, FCond, FExists, FForall, FClosure}
 use Rattle.tv_names.specs.declared.refusal.ResolveError.TheVariants.{NameUnknown, NameTwice, ArityWrong, Reserved, VariableUnbound, HalfLiteral}
 use Rattle.tv_names.specs.declared.place.Others.{Others}
@@ -112,10 +111,6 @@ star at reflexive name v w s = do
 -- the place under a quantifier of this variable
 abbrev pub under : PlaceForm → ℕ → PlaceForm
 under at n = record at { known = slice_set at.known n true }
-
--- the name is among those before
-abbrev pub is_among : List (List ℕ) → List ℕ → Bool
-is_among names name = list_any (bytes_eq name) names
 
 -- a body under quantifiers of these names, where the quantifiers before them have the earlier names
 abbrev pub quantified : (ℕ → Form → Form) → (PlaceForm → NamingForm → Numbered Form) → PlaceForm → (earlier names : List (List ℕ)) → NamingForm → Numbered Form

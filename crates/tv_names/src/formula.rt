@@ -15,11 +15,10 @@ ghost use Rattle.tv_names.specs.Resolving.{is_known_at, is_the_further, other_va
 use crate::naming::Naming;
 use crate::place::{Others, Place};
 use crate::refusal::ResolveError;
-use crate::symbols::{is_among, is_new_word, is_sm};
+use crate::symbols::{is_new_word, is_sm};
 use std::alloc::{AllocError, Global};
 use tv_model::{Formula, PredId, Terms, Var};
-use tv_tree::name_text;
-use tv_tree::trees::{FormulaTree, Name, Spelling};
+use tv_tree::{FormulaTree, Name, Spelling, is_among, name_text};
 
 fn is_known(place: &Place<'_>, number: Option<u8>) -> bool
     ensures { result ≡ is_known_at (place_of place.now).known number }

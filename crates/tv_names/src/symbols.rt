@@ -4,11 +4,9 @@ ghost use Rattle.std.specs.Prelude.{ℕ, ◌≡◌, ◌+◌, ◌<◌, ◌≤◌,
 ghost use Rattle.std.specs.Option.{option_map};
 ghost use Rattle.std.specs.Str.{bytes_eq};
 ghost use Rattle.tv_names.specs.Symbols.{is_sm, is_new_word, is_reserved, symbol_of, KnownForm};
-ghost use Rattle.tv_names.specs.Resolving.{is_among};
 
 use indexmap::IndexMap;
 use std::alloc::{AllocError, Global};
-use tv_tree::trees::Spelling;
 
 fn is_text(name: &[u8], text: &[u8]) -> bool
     ensures { result ≡ bytes_eq name.now text.now }
@@ -35,19 +33,6 @@ pub fn is_reserved(name: &[u8]) -> bool
     ensures { result ≡ is_reserved name.now }
 {
     is_sm(name) || is_new_word(name)
-}
-
-fn is_spelled(word: &Spelling, name: &[u8]) -> bool
-    ensures { result ≡ bytes_eq name.now word.now }
-{
-    is_text(name, &word.0)
-}
-
-/// Whether the name is one of these.
-pub fn is_among(names: &[Spelling], name: &[u8]) -> bool
-    ensures { result ≡ is_among names.now name.now }
-{
-    names.iter().any(|word| is_spelled(word, name))
 }
 
 /// A predicate that is declared: its number and its arity.
@@ -96,7 +81,7 @@ impl Symbols {
         }
     }
 
-    /// Declares a predicate behind the others. After want of memory the predicates are as before.
+    /// Declares a predicate behind the others.
     pub fn declare(&mut self, name: Vec<u8>, arity: u8) -> Result<(), AllocError>
         requires new { symbol_of name.items (symbols_of self.old) ≡ None }
         requires room { length (symbols_of self.old) < 512 }

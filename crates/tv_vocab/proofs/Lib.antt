@@ -4,4 +4,5 @@ pub mod CycleLaws
 pub mod WalkLaws
 pub mod Eaches
 pub mod Phases
+pub mod Premises
 pub mod valid

@@ -6,7 +6,7 @@ use Rattle.tv_flat.specs.FlatForm.{FlatEdgeForm}
 use Rattle.tv_model.specs.declared.program.Edge.{Edge}
 use Rattle.tv_names.specs.declared.refusal.ResolveError.TheVariants.{TooMany, NoEdge}
 use Rattle.tv_names.specs.Refusal.{◌>>=◌, OrRefused, refused_if, one_by_one}
-use Rattle.tv_names.specs.Resolving.{is_among}
+use Rattle.tv_tree.specs.Names.{is_among}
 
 -- nodes in order of first sight, and edges
 pub record GraphForm : Type 0 where

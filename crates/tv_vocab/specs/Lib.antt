@@ -1,5 +1,6 @@
 pub mod Vocabulary
 pub mod Actions
+pub mod Premise
 pub mod Graph
 pub mod Resolution
 pub mod Copies

@@ -3,7 +3,7 @@ use Rattle.std.specs.Prelude.{ℕ, ◌+◌, Bool, true, false, not, ◌||◌, �
 use Rattle.std.specs.List.{list_any, list_all}
 use Rattle.std.specs.Option.{option_map}
 use Rattle.tv_tree.specs.Forms as tree
-use Rattle.tv_tree.specs.Names.{name_text}
+use Rattle.tv_tree.specs.Names.{is_among, name_text}
 use Rattle.tv_tree.specs.declared.trees.PropWord.{PropWord}
 use Rattle.tv_tree.specs.declared.trees.PropWord.TheVariants.{Unique, Function, Invfunction, Abs, Nonabs, Transitive, Reflexive, Symmetric, Boxed, Pointer}
 use Rattle.tv_model.specs.declared.program.Props.{Props}
@@ -16,7 +16,7 @@ use Rattle.tv_names.specs.Refusal.{◌>>=◌, OrRefused, refused_if, one_by_one,
 use Rattle.tv_names.specs.Symbols.{SymbolForm, is_reserved, symbol_of}
 use Rattle.tv_names.specs.Naming.{NamingForm, declared_all, no_names}
 use Rattle.tv_names.specs.Picks.{flags_of}
-use Rattle.tv_names.specs.Resolving.{PlaceForm, resolved, is_among}
+use Rattle.tv_names.specs.Resolving.{PlaceForm, resolved}
 use Rattle.tv_vocab.specs.Cycles.{has_cycle}
 
 abbrev pub twice : List (List ℕ) → Bool

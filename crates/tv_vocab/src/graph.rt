@@ -3,7 +3,7 @@
 ghost use Rattle.std.specs.Prelude.{ℕ, ◌≡◌, ◌≤◌, ◌<◌, ◌++◌, ◌∷◌, [], false, map, length, IfOk, OnOk};
 ghost use Rattle.std.specs.List.{position_or_len};
 ghost use Rattle.tv_names.specs.Refusal.{Gives, one_by_one};
-ghost use Rattle.tv_names.specs.Resolving.{is_among};
+ghost use Rattle.tv_tree.specs.Names.{is_among};
 ghost use Rattle.tv_flat.specs.FlatForm.{flat_edge_of};
 ghost use Rattle.tv_vocab.specs.Graph.{with_node, node_number, with_edge, no_graph};
 

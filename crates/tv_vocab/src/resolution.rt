@@ -3,8 +3,9 @@
 ghost use Rattle.std.specs.Prelude.{◌≡◌, map, IfOk};
 ghost use Rattle.tv_model.specs.Program.{program_of};
 ghost use Rattle.tv_model.specs.Valid.{IsValid};
-ghost use Rattle.tv_flat.specs.FlatForm.{flat_of, IsFlat};
+ghost use Rattle.tv_flat.specs.FlatForm.{flat_of};
 ghost use Rattle.tv_names.specs.Refusal.{Gives};
+ghost use Rattle.tv_vocab.specs.Premise.{IsResolvable};
 ghost use Rattle.tv_vocab.specs.Resolution.{program};
 
 use crate::actions::actions;
@@ -40,10 +41,11 @@ fn flat_program(alloc: Global, flat: &Flat) -> Result<Program, ResolveError>
 /// The program that a flat tree stands for, or the refusal that is met first: predicates and their
 /// definitions come first, then rules, then actions, then nodes and edges. Each refusal but
 /// `Memory` comes exactly where the definition of the program gives it. The program is valid where
-/// the tree is flat, as what expansion gives of a tree that was read is.
+/// there are at most 65,536 items, names, node words and texts are well spelled, and each edge's action is
+/// there, as in what expansion gives of a tree that was read.
 pub fn resolve(alloc: Global, flat: &Flat) -> Result<Program, ResolveError>
     ensures program { Gives program_of result (program (flat_of flat.now)) }
-    ensures valid { IsFlat (flat_of flat.now) → IfOk result (λ p. IsValid (program_of p)) }
+    ensures valid { IsResolvable (flat_of flat.now) → IfOk result (λ p. IsValid (program_of p)) }
 {
     flat_program(alloc, flat)
 }

@@ -13,11 +13,8 @@ ghost use Rattle.tv_vocab.specs.Views.{declared_of};
 use crate::cycles::has_cycle;
 use std::alloc::Global;
 use tv_model::{Items, Kind, Pred, Props};
-use tv_names::{
-    Known, Naming, Others, Place, ResolveError, Symbols, is_among, is_reserved, resolve_formula,
-};
-use tv_tree::name_text;
-use tv_tree::trees::{FormulaTree, PredDecl, PropWord, Spelling};
+use tv_names::{Known, Naming, Others, Place, ResolveError, Symbols, is_reserved, resolve_formula};
+use tv_tree::{FormulaTree, PredDecl, PropWord, Spelling, is_among, name_text};
 
 fn fits(arity: usize, word: PropWord) -> bool
     ensures { result ≡ fits arity word }

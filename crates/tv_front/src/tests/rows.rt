@@ -25,8 +25,15 @@ pub struct Frame {
     pub view: View,
 }
 
+// The refusal as its stage tells it.
 fn put_fault(alloc: Global, out: &mut Shown, fault: ProgramFault) {
-    match format!(in alloc; "{fault:?}") {
+    let told = match fault {
+        ProgramFault::Lexing(e) => format!(in alloc; "{e:?}"),
+        ProgramFault::Parsing(e) => format!(in alloc; "{e:?}"),
+        ProgramFault::Expansion(e) => format!(in alloc; "{e:?}"),
+        ProgramFault::Resolution(e) => format!(in alloc; "{e:?}"),
+    };
+    match told {
         Ok(text) => put(out, text.as_bytes()),
         Err(_) => put(out, b"lost"),
     }

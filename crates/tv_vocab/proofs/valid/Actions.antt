@@ -7,7 +7,8 @@ use Rattle.tv_tree.specs.Forms.{PartForm}
 use Rattle.tv_model.specs.Form.{Form}
 use Rattle.tv_model.specs.Program.{ProgramForm, PredForm, MessageForm, RetainForm, UpdateForm, ActionForm}
 use Rattle.tv_model.specs.Valid.{IsAction}
-use Rattle.tv_flat.specs.FlatForm.{IsFlatPart, IsFlatAction, part_items}
+use Rattle.tv_flat.specs.FlatForm.{part_items}
+use Rattle.tv_vocab.specs.Premise.{HasTexts}
 use Rattle.tv_names.specs.Refusal.{◌>>=◌, OrRefused, one_by_one, each}
 use Rattle.tv_names.specs.Symbols.{SymbolForm}
 use Rattle.tv_vocab.specs.Actions.{PickingForm, focus_in, pre_in, retain_in, adds_new, updates_in, focused, precondition, messages, retain, with_update, action}
@@ -43,7 +44,7 @@ from_picking symbols preds parts focus picking = messages symbols parts >>= λ s
 abbrev from_focus : List SymbolForm → List PredForm → List PartForm → List Form → OrRefused ActionForm
 from_focus symbols preds parts focus = precondition symbols (pre_in parts) >>= λ picking. from_picking symbols preds parts focus picking
 
-action_given : (p : ProgramForm) (symbols : List SymbolForm) (parts : List PartForm) (act : ActionForm) → AreSymbols p symbols → All IsFlatPart parts → sum_by part_items parts ≤ 65536 → action symbols p.preds parts ≡ Ok act → IsAction p act
+action_given : (p : ProgramForm) (symbols : List SymbolForm) (parts : List PartForm) (act : ActionForm) → AreSymbols p symbols → All HasTexts parts → sum_by part_items parts ≤ 65536 → action symbols p.preds parts ≡ Ok act → IsAction p act
 unfolding action
 action_given p symbols parts act are flat few h =
     let a = went (focused symbols (focus_in parts)) (λ focus. from_focus symbols p.preds parts focus) act h in
@@ -72,8 +73,8 @@ within_sum f (x ∷ xs) n h =
     let sum = sum_by-cons f x xs in
     All-cons (λ y. f y ≤ n) x xs (omega (arith, sum, h)) (within_sum f xs n (omega (arith, sum, h)))
 
-pub actions_valid : (p : ProgramForm) (symbols : List SymbolForm) (xs : List (List PartForm)) (ys : List ActionForm) → AreSymbols p symbols → All IsFlatAction xs → sum_by (sum_by part_items) xs ≤ 65536 → each (action symbols p.preds) xs ≡ Ok ys → All (IsAction p) ys
+pub actions_valid : (p : ProgramForm) (symbols : List SymbolForm) (xs : List (List PartForm)) (ys : List ActionForm) → AreSymbols p symbols → All (All HasTexts) xs → sum_by (sum_by part_items) xs ≤ 65536 → each (action symbols p.preds) xs ≡ Ok ys → All (IsAction p) ys
 actions_valid p symbols xs ys are flat few h =
     let fits = within_sum (sum_by part_items) xs 65536 few in
-    zip_all (λ x y. action symbols p.preds x ≡ Ok y) (λ x. IsFlatAction x × (sum_by part_items x ≤ 65536)) (IsAction p) (λ x y q e. action_given p symbols x y are q.0.0 q.1 e) xs ys
+    zip_all (λ x y. action symbols p.preds x ≡ Ok y) (λ x. All HasTexts x × (sum_by part_items x ≤ 65536)) (IsAction p) (λ x y q e. action_given p symbols x y are q.0 q.1 e) xs ys
     (each_zip (action symbols p.preds) xs ys h) (λ k d lt. (flat k d lt, fits k d lt))

@@ -10,7 +10,8 @@ use Rattle.tv_names.specs.declared.refusal.ResolveError.TheVariants.{NameTwice, 
 use Rattle.tv_names.specs.Refusal.{◌>>=◌, refused_if}
 use Rattle.tv_tree.specs.Names.{name_text}
 use Rattle.tv_names.specs.Naming.{Vacant, is_named, NamingForm, sighted}
-use Rattle.tv_names.specs.Resolving.{PlaceForm, Numbered, two_occurrences, under, is_among, quantified, two_bound, resolved}
+use Rattle.tv_tree.specs.Names.{is_among}
+use Rattle.tv_names.specs.Resolving.{PlaceForm, Numbered, two_occurrences, under, quantified, two_bound, resolved}
 use Rattle.std.proofs.lemmas.List.Quantifiers.{position-Some}
 use Rattle.tv_vocab.proofs.valid.Refusals.{ok_is, not_given, went, not_refused}
 use Rattle.tv_vocab.proofs.valid.Numbers.{IsHeld, IsAfter, after_then, IsSighted, sighted_is, named_same, not_held}

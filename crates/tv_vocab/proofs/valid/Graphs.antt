@@ -11,7 +11,7 @@ use Rattle.tv_model.specs.Spelling.{IsWord}
 use Rattle.tv_flat.specs.FlatForm.{FlatEdgeForm, IsFlatEdge}
 use Rattle.tv_names.specs.declared.refusal.ResolveError.TheVariants.{TooMany, NoEdge}
 use Rattle.tv_names.specs.Refusal.{◌>>=◌, refused_if, one_by_one}
-use Rattle.tv_names.specs.Resolving.{is_among}
+use Rattle.tv_tree.specs.Names.{is_among}
 use Rattle.tv_vocab.specs.Graph.{GraphForm, with_node, node_number, with_edge, no_graph, graph}
 use Rattle.tv_vocab.proofs.valid.Refusals.{ok_is, not_given, went, not_refused, after_each}
 

@@ -1,10 +1,10 @@
 -- The focus formulas, messages and retain formulas that resolution gives.
-use Rattle.std.proofs.Common.{◌≡◌, ℕ, ◌+◌, ◌<◌, ◌≤◌, Bool, false, get_or, List, [], ◌∷◌, ◌++◌, length, refl, ap, sym, subst, ◌∙◌, arith, length-append, inl, inr, ◌⊎◌, Ok, Option, Some, None}
+use Rattle.std.proofs.Common.{◌≡◌, ℕ, ◌+◌, ◌<◌, ◌≤◌, Bool, false, get_or, List, [], ◌∷◌, ◌++◌, length, refl, ap, sym, subst, ◌∙◌, arith, length-append, inl, inr, ◌⊎◌, Ok, Option, Some, None, ◌≢◌}
 use Rattle.std.specs.Prelude.{All, Contains, sum_by}
 use Rattle.std.specs.List.{flat_map}
 use Rattle.std.proofs.lemmas.Bool.{true≢false}
 use Rattle.std.proofs.lemmas.List.{append-nil}
-use Rattle.std.proofs.lemmas.List.Elements.{All-nil, All-push}
+use Rattle.std.proofs.lemmas.List.Elements.{All-nil, All-head, All-tail, All-append, All-push}
 use Rattle.std.proofs.lemmas.List.Sums.{sum_by-cons}
 use Rattle.tv_tree.specs.Forms as tree
 use Rattle.tv_tree.specs.Forms.{PieceForm, Quoted, Spelled, PartForm, PCaption, PFocus, PPre, PMessage, PNew, PRetain, PBlock}
@@ -12,7 +12,8 @@ use Rattle.tv_model.specs.Form.{Form}
 use Rattle.tv_model.specs.Spelling.{IsText}
 use Rattle.tv_model.specs.Program.{ProgramForm, MessageForm, RetainForm, ActionForm}
 use Rattle.tv_model.specs.Valid.{IsPlainFormula, IsMessage, IsRetain}
-use Rattle.tv_flat.specs.FlatForm.{IsOneText, IsFlatPart, part_items}
+use Rattle.tv_flat.specs.FlatForm.{part_items}
+use Rattle.tv_vocab.specs.Premise.{IsTextPiece, HasTexts}
 use Rattle.tv_names.specs.declared.place.Others.TheVariants.{Any, Once}
 use Rattle.tv_names.specs.Refusal.{◌>>=◌, one_by_one}
 use Rattle.tv_names.specs.Symbols.{SymbolForm}
@@ -57,23 +58,22 @@ focus_given p symbols fs ys are h =
 
 -- ---- messages
 
-text_given : (pieces : List PieceForm) → IsOneText pieces → IsText (flat_map piece_text pieces)
-text_given [] one = absurd one
-text_given (Quoted s ∷ []) one = subst IsText (sym (append-nil s)) one
-text_given (Quoted s ∷ x ∷ xs) one = absurd one
-text_given (Spelled s ∷ xs) one = absurd one
+text_given : (pieces : List PieceForm) → All IsTextPiece pieces → IsText (flat_map piece_text pieces)
+text_given [] all = All-nil (λ b. (32 ≤ b) × (b ≤ 126) × (b ≢ 34))
+text_given (x ∷ xs) all =
+    All-append (λ b. (32 ≤ b) × (b ≤ 126) × (b ≢ 34)) (piece_text x) (flat_map piece_text xs) (All-head IsTextPiece x xs all) (text_given xs (All-tail IsTextPiece x xs all))
 
-message_given : (p : ProgramForm) (symbols : List SymbolForm) (f : tree.Form) (pieces : List PieceForm) (m : MessageForm) → AreSymbols p symbols → IsOneText pieces → message symbols f pieces ≡ Ok m → IsMessage p m
+message_given : (p : ProgramForm) (symbols : List SymbolForm) (f : tree.Form) (pieces : List PieceForm) (m : MessageForm) → AreSymbols p symbols → All IsTextPiece pieces → message symbols f pieces ≡ Ok m → IsMessage p m
 unfolding message
 message_given p symbols f pieces m are one h =
     let a = went (resolved (over symbols []) f no_names) (λ x. Ok (record { cond = x.0; text = flat_map piece_text pieces })) m h in
     let formula = over_given p symbols [] f no_names a.x are no_names_sound (λ v k. absurd (contains_none v k)) a.gave in
     subst (IsMessage p) (ok_is (record { cond = a.x.0; text = flat_map piece_text pieces }) m a.rest) (formula.0, formula.1, text_given pieces one)
 
-message_more : (p : ProgramForm) (symbols : List SymbolForm) (done more : List MessageForm) (part : PartForm) → AreSymbols p symbols → IsFlatPart part → All (IsMessage p) done → with_part symbols done part ≡ Ok more → All (IsMessage p) more
+message_more : (p : ProgramForm) (symbols : List SymbolForm) (done more : List MessageForm) (part : PartForm) → AreSymbols p symbols → HasTexts part → All (IsMessage p) done → with_part symbols done part ≡ Ok more → All (IsMessage p) more
 message_more p symbols done more (PMessage f ps) are flat all h =
     let a = went (message symbols f ps) (λ m. Ok (done ++ m ∷ [])) more h in
-    subst (All (IsMessage p)) (ok_is (done ++ a.x ∷ []) more a.rest) (All-push (IsMessage p) done a.x all (message_given p symbols f ps a.x are flat.1 a.gave))
+    subst (All (IsMessage p)) (ok_is (done ++ a.x ∷ []) more a.rest) (All-push (IsMessage p) done a.x all (message_given p symbols f ps a.x are flat a.gave))
 message_more p symbols done more (PCaption ps) are flat all h = subst (All (IsMessage p)) (ok_is done more h) all
 message_more p symbols done more (PFocus fs) are flat all h = subst (All (IsMessage p)) (ok_is done more h) all
 message_more p symbols done more (PPre f) are flat all h = subst (All (IsMessage p)) (ok_is done more h) all
@@ -81,9 +81,9 @@ message_more p symbols done more PNew are flat all h = subst (All (IsMessage p))
 message_more p symbols done more (PRetain f) are flat all h = subst (All (IsMessage p)) (ok_is done more h) all
 message_more p symbols done more (PBlock us) are flat all h = subst (All (IsMessage p)) (ok_is done more h) all
 
-pub messages_given : (p : ProgramForm) (symbols : List SymbolForm) (parts : List PartForm) (ys : List MessageForm) → AreSymbols p symbols → All IsFlatPart parts → messages symbols parts ≡ Ok ys → All (IsMessage p) ys
+pub messages_given : (p : ProgramForm) (symbols : List SymbolForm) (parts : List PartForm) (ys : List MessageForm) → AreSymbols p symbols → All HasTexts parts → messages symbols parts ≡ Ok ys → All (IsMessage p) ys
 messages_given p symbols parts ys are flat h =
-    after_each (with_part symbols) (All (IsMessage p)) IsFlatPart (λ s t x q here given. message_more p symbols s t x are q here given) parts [] ys flat (All-nil (IsMessage p)) h
+    after_each (with_part symbols) (All (IsMessage p)) HasTexts (λ s t x q here given. message_more p symbols s t x are q here given) parts [] ys flat (All-nil (IsMessage p)) h
 
 kept_length : (done more : List MessageForm) (n : ℕ) → done ≡ more → length more ≤ length done + n
 kept_length done more n e = let g = ap length e in omega arith

@@ -10,7 +10,7 @@ use Rattle.tv_tree.specs.Forms as tree
 use Rattle.tv_model.specs.Form.{Form, FZero, FOne, FAtom, FIsNew, FSame, FNot, FAnd, FOr, FIff, FCond, FExists, FForall, FClosure, Mentions}
 use Rattle.tv_model.specs.Program.{ProgramForm, PredForm, KindForm, KCore, KDefined}
 use Rattle.tv_model.specs.Valid.{IsPlainFormula, IsOver, AreVariables, IsKind, IsPred, IsRank, AreProperties}
-use Rattle.tv_tree.specs.Spelled.{IsSpelledPred}
+use Rattle.tv_tree.specs.Spelled.{IsSpelledName}
 use Rattle.tv_names.specs.declared.place.Others.TheVariants.{Any, Never, Once}
 use Rattle.tv_names.specs.Refusal.{◌>>=◌, each}
 use Rattle.tv_tree.specs.Names.{name_text}
@@ -96,7 +96,7 @@ predicate_arity symbols d y declared h =
 predicate_name : (symbols : List SymbolForm) (d : tree.PredForm) (y : PredForm) → predicate symbols d ≡ Ok y → name_of (symbol_for d) ≡ y.name
 predicate_name symbols d y h = ap (λ (e : PredForm). e.name) (bare symbols d y h).is
 
-predicate_given : (p : ProgramForm) (symbols : List SymbolForm) (d : tree.PredForm) (y : PredForm) → AreSymbols p symbols → IsDeclared d → IsSpelledPred d → predicate symbols d ≡ Ok y → IsPred p y
+predicate_given : (p : ProgramForm) (symbols : List SymbolForm) (d : tree.PredForm) (y : PredForm) → AreSymbols p symbols → IsDeclared d → IsSpelledName d.name → predicate symbols d ≡ Ok y → IsPred p y
 predicate_given p symbols d y are declared spelled h =
     let b = bare symbols d y h in
     let same = sym (arity_is d.params declared.arity) in
@@ -104,7 +104,7 @@ predicate_given p symbols d y are declared spelled h =
     let words = not_reserved (name_text d.name) declared.free_name in
     subst (IsPred p) b.is
     (record {
-      name = (name_given d.name spelled.name, words.0, words.1);
+      name = (name_given d.name spelled, words.0, words.1);
       arity = subst (λ (n : ℕ). n ≤ 2) same le;
       kind = subst (λ (n : ℕ). IsKind p n b.kind) same (kind_given p symbols d.params d.body b.kind are b.gave);
       props = subst (λ (n : ℕ). AreProperties n (props_of d.props)) same (properties_given (length d.params) d.props declared.fit);
@@ -154,14 +154,14 @@ pub record AreValid (p : ProgramForm) (known : List SymbolForm) : Type 0 where
   pub rank : ℕ → ℕ
   pub no_cycle : IsRank p rank
 
-pub vocabulary_valid : (p : ProgramForm) (ds : List tree.PredForm) (known : List SymbolForm) → All IsSpelledPred ds → symbols ds ≡ Ok known → each (predicate known) ds ≡ Ok p.preds → has_cycle (uses_of p.preds) ≡ false → AreValid p known
+pub vocabulary_valid : (p : ProgramForm) (ds : List tree.PredForm) (known : List SymbolForm) → All (λ (d : tree.PredForm). IsSpelledName d.name) ds → symbols ds ≡ Ok known → each (predicate known) ds ≡ Ok p.preds → has_cycle (uses_of p.preds) ≡ false → AreValid p known
 vocabulary_valid p ds known spelled given defined none =
     let all = symbols_given ds known given in
     let zip = each_zip (predicate known) ds p.preds defined in
     let named = zip_map (λ x y. predicate known x ≡ Ok y) (λ d. name_of (symbol_for d)) (λ y. y.name) (λ d y h. predicate_name known d y h) ds p.preds zip in
     let arities = zip_also (λ x y. predicate known x ≡ Ok y) IsDeclared (λ d y. y.arity ≡ length d.params) (λ d y declared h. predicate_arity known d y declared h) ds p.preds zip all.declared in
     let are : AreSymbols p known = record { arities = λ name k h. arities_given ds p.preds arities name k (ap (symbol_of name) (sym all.is) ∙ h) } in
-    let spelled_declared : All (λ d. IsDeclared d × IsSpelledPred d) ds = λ k d lt. (all.declared k d lt, spelled k d lt) in
+    let spelled_declared : All (λ d. IsDeclared d × IsSpelledName d.name) ds = λ k d lt. (all.declared k d lt, spelled k d lt) in
     let falling = ranks_unless_found (uses_of p.preds) none in
     let names : map name_of known ≡ map (λ d. d.name) p.preds = ap (map name_of) all.is ∙ map_twice ds ∙ named in
     let long = length-map p.preds (λ (d : PredForm). d.name) in
@@ -169,7 +169,7 @@ vocabulary_valid p ds known spelled given defined none =
     let same_length = ap length names in
     record {
       symbols = are;
-      preds = zip_all (λ x y. predicate known x ≡ Ok y) (λ d. IsDeclared d × IsSpelledPred d) (IsPred p) (λ d y q h. predicate_given p known d y are q.0 q.1 h) ds p.preds zip spelled_declared;
+      preds = zip_all (λ x y. predicate known x ≡ Ok y) (λ d. IsDeclared d × IsSpelledName d.name) (IsPred p) (λ d y q h. predicate_given p known d y are q.0 q.1 h) ds p.preds zip spelled_declared;
       differ = subst (AllPairs ◌≢◌) names all.differ;
       count = omega (arith, long, same_length, length-map known name_of, few);
       rank = falling.0;

@@ -6,7 +6,8 @@ use Rattle.tv_model.specs.declared.program.Edge.{Edge}
 use Rattle.tv_model.specs.declared.program.Program.{Program}
 use Rattle.tv_model.specs.Program.{ProgramForm, PredForm, RuleForm, ActionForm, program_of}
 use Rattle.tv_model.specs.Valid.{IsValid}
-use Rattle.tv_flat.specs.FlatForm.{FlatForm, IsFlat, part_items}
+use Rattle.tv_flat.specs.FlatForm.{FlatForm, part_items}
+use Rattle.tv_vocab.specs.Premise.{IsResolvable}
 use Rattle.tv_names.specs.declared.refusal.ResolveError.TheVariants.{DefinitionCycle}
 use Rattle.tv_names.specs.Refusal.{◌>>=◌, OrRefused, Gives, refused_if, each}
 use Rattle.tv_names.specs.Symbols.{SymbolForm}
@@ -47,7 +48,7 @@ from_rules flat declared rules = each (action declared.0 declared.1) flat.action
 abbrev from_preds : FlatForm → List SymbolForm × List PredForm → OrRefused ProgramForm
 from_preds flat declared = each (λ r. rule declared.0 r.body r.head) flat.rules >>= λ rules. from_rules flat declared rules
 
-pub program_valid : (flat : FlatForm) (p : ProgramForm) → IsFlat flat → program flat ≡ Ok p → IsValid p
+pub program_valid : (flat : FlatForm) (p : ProgramForm) → IsResolvable flat → program flat ≡ Ok p → IsValid p
 unfolding program
 program_valid flat p is h =
     let a = went (vocabulary flat.preds) (λ declared. from_preds flat declared) p h in
@@ -56,7 +57,7 @@ program_valid flat p is h =
     let e = went (graph flat.edges) (λ drawn. Ok (made a.x.1 b.x c.x drawn)) p c.rest in
     let q = made a.x.1 b.x c.x e.x in
     let words = vocabulary_is flat.preds a.x a.gave in
-    let known = vocabulary_valid q flat.preds a.x.0 is.preds words.known words.preds words.sound in
+    let known = vocabulary_valid q flat.preds a.x.0 is.names words.known words.preds words.sound in
     let items : length flat.preds + length flat.rules + sum_by (sum_by part_items) flat.actions + length flat.edges ≤ 65536 = is.items in
     let few : sum_by (sum_by part_items) flat.actions ≤ 65536 = omega (arith, items) in
     let many_rules = as_many (λ r. rule a.x.0 r.body r.head) flat.rules b.x b.gave in
@@ -71,7 +72,7 @@ program_valid flat p is h =
       no_cycle = known.no_cycle;
       rules = rules_valid q a.x.0 flat.rules b.x known.symbols b.gave;
       rule_count = omega (arith, items, many_rules);
-      actions = actions_valid q a.x.0 flat.actions c.x known.symbols is.actions few c.gave;
+      actions = actions_valid q a.x.0 flat.actions c.x known.symbols is.texts few c.gave;
       edges = subst (λ (n : ℕ). All (λ (edge : Edge). (edge.from < length e.x.nodes) × (edge.to < length e.x.nodes) × (edge.action < n)) e.x.edges) many_actions drawn.edges;
       some_edge = some_edge flat.edges e.x e.gave;
       edge_count = drawn.count;
@@ -81,6 +82,6 @@ program_valid flat p is h =
     })
 
 -- what a call answers where it gives what is defined
-pub valid_given : (flat : FlatForm) (r : OrRefused Program) → Gives program_of r (program flat) → IsFlat flat → IfOk r (λ p. IsValid (program_of p))
+pub valid_given : (flat : FlatForm) (r : OrRefused Program) → Gives program_of r (program flat) → IsResolvable flat → IfOk r (λ p. IsValid (program_of p))
 valid_given flat (Ok p) given is = program_valid flat (program_of p) is given
 valid_given flat (Err e) given is = tt
