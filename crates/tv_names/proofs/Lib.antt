@@ -1,5 +1,10 @@
-pub mod SlotLaws
-pub mod SymbolLaws
-pub mod Weights
-pub mod PickLaws
+-- The library of lemmas on steps one after the other, for the crates above.
 pub mod Loops
+-- What only this crate cites.
+mod SlotLaws
+mod SymbolLaws
+mod Weights
+mod PickLaws
+mod SlotFills
+mod Sightings
+mod SightLaws

@@ -5,3 +5,4 @@ pub mod Resolving
 pub mod Picks
 pub mod Copies
 pub mod Quantifiers
+pub mod Numbers

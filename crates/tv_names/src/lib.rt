@@ -2,6 +2,7 @@
 #![tactic(auto)]
 
 mod formula;
+mod laws;
 mod naming;
 mod picks;
 mod place;
@@ -9,6 +10,7 @@ mod refusal;
 mod symbols;
 
 pub use formula::resolve_formula;
+pub use laws::{items_have_32_numbers, numbers_follow_sights, too_many_have_no_room};
 pub use naming::{Naming, Slot};
 pub use picks::picks_in;
 pub use place::{Known, Others, Place};
