@@ -8,3 +8,4 @@ pub mod DrawLaws
 pub mod Extremes
 pub mod Greatest
 pub mod RowOps
+pub mod RowOrder

@@ -4,3 +4,4 @@ pub mod WordLaws
 pub mod Places
 pub mod RowForm
 pub mod RowLaws
+pub mod Mixed

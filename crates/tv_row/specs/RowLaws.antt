@@ -28,7 +28,7 @@ read_held words size c h low =
     get_or_past (row_of words size 0) c No (omega (arith, length-row words size)) ∙ sym (h.unused c past low))
     (cases_lt c size)
 
-words_back : (words : List (List K3)) (size : ℕ) → HoldsRow words size → row_words (row_of words size 0) ≡ words
+pub words_back : (words : List (List K3)) (size : ℕ) → HoldsRow words size → row_words (row_of words size 0) ≡ words
 words_back words size h =
     let values : List K3 = row_of words size 0
     in let column : ℕ → ℕ → K3 = λ p c. get_or values (64 * p + c) No

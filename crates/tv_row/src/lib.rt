@@ -5,11 +5,13 @@
 #![tactic(auto)]
 
 mod bits;
+mod mixed;
 mod row;
 mod slices;
 mod word;
 mod words;
 
+pub use mixed::mix;
 pub use row::Row;
 pub use word::Word;
 pub use words::Words;

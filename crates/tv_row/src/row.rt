@@ -3,11 +3,15 @@
 ghost use Rattle.std.specs.Prelude.{◌≡◌, ◌≢◌, ℕ, ◌<◌, ◌≤◌, ◌↔◌, ◌⊎◌, ◌+◌, ◌-◌, ◌*◌, ◌/◌, ◌%◌, min, length, map, replicate, take, slice_index_or, slice_set, All, Any, IsTrue, MatchOption};
 ghost use Rattle.tv_kleene.specs.declared.K3.TheVariants.{No, Yes};
 ghost use Rattle.tv_kleene.specs.Kleene.{smaller_of, larger_of, join_of, negation_of};
-ghost use Rattle.tv_row.specs.Bits.{paired, greatest_in, least_in};
+ghost use Rattle.std.specs.Cmp.Lexicographic.{slice_cmp};
+ghost use Rattle.tv_row.specs.Bits.{paired, greatest_in, least_in, value_cmp};
+ghost use Rattle.tv_row.specs.Mixed.{row_mixed};
 ghost use Rattle.tv_row.specs.Places.{AreWords, word_at, value_in, row_of};
 
+use crate::mixed::mix_words;
 use crate::slices;
 use crate::word::Word;
+use std::cmp::Ordering;
 use std::marker::Model;
 use tv_kleene::K3;
 
@@ -290,5 +294,21 @@ impl Row {
             Some(u) => Some(u as u32),
             None => None,
         }
+    }
+
+    /// Compares the values, place by place, with No < Half < Yes.
+    pub fn compare(&self, other: &Row) -> Ordering
+        requires { length self.now ≡ length other.now }
+        ensures { result ≡ slice_cmp value_cmp self.now other.now }
+    {
+        slices::compare(&self.words[..], &other.words[..])
+    }
+
+    /// The number with the values mixed in, word by word.
+    pub fn mix(&self, hash: u64) -> u64
+        ensures { result ≡ row_mixed hash self.now }
+    {
+        let used = self.size.div_ceil(64) as usize;
+        mix_words(hash, &self.words[..used])
     }
 }

@@ -16,7 +16,7 @@ use std::marker::Model;
 use tv_kleene::K3;
 
 /// A list of words.
-#[derive(Drop)]
+#[derive(Debug, Drop)]
 pub struct Words {
     items: Vec<Word>,
 }
