@@ -1,9 +1,11 @@
 pub mod DrawnLaws
 pub mod HalfLaws
+pub mod HeldLaws
 pub mod ListLaws
 pub mod ListingLaws
 pub mod OrderLaws
 pub mod OriginLaws
+pub mod PlaneDraws
 pub mod RowLaws
 pub mod StructureLaws
 pub mod TableLaws

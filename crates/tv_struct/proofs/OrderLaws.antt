@@ -1,35 +1,18 @@
--- What the derived comparisons compute.
-use Rattle.std.proofs.Common.{◌≡◌, ◌∙◌, true, false, List, [], ◌∷◌, None, refl, sym, subst, Less, Equal, Greater}
+-- What compares as equal is equal.
+use Rattle.std.proofs.Common.{ℕ, ◌≡◌, ◌<◌, ◌≤◌, ◌⊎◌, inl, inr, ◌∙◌, length, drop, min, arith, ne_eqb, true, false, List, [], ◌∷◌, None, refl, sym, subst, Less, Equal, Greater}
 use Rattle.std.specs.Prelude.{◌↔◌}
 use Rattle.std.specs.declared.cmp.Ordering.{Ordering}
 use Rattle.std.specs.Ordering.{nat_cmp, bool_cmp, ordering_then}
 use Rattle.std.proofs.lemmas.Cmp.{ranked, tied_itself}
+use Rattle.std.specs.Cmp.{nat_cmp_total}
 use Rattle.std.specs.Cmp.Lexicographic.{slice_cmp}
-use Rattle.tv_kleene.specs.declared.K3.{K3}
+use Rattle.std.proofs.lemmas.Bool.{cases_lt, lt-ltb, le-ltb}
+use Rattle.std.proofs.lemmas.List.{drop_all, drop_more}
 use Rattle.tv_kleene.specs.declared.K3.TheVariants.{No, Half, Yes}
-use Rattle.tv_kleene.specs.contracts.K3Ord.TheImpl.{cmp-value}
-use Rattle.tv_struct.specs.contracts.plane.PlaneOrd.TheImpl.{cmp-value as plane_cmp-value}
-use Rattle.tv_struct.specs.Order.{value_cmp, plane_cmp, planes_cmp, structure_cmp, structure_cmp_total}
+use Rattle.tv_row.specs.Bits.{value_cmp}
+use Rattle.tv_struct.specs.Order.{plane_cmp, planes_cmp, structure_cmp, structure_cmp_total}
 use Rattle.tv_struct.specs.StructureForm.{StructureForm, unmarked}
-use Rattle.tv_struct.specs.TableForm.{PlaneForm}
-
-pub derived-value_cmp : (x y : K3) → cmp-value.it x y ≡ value_cmp x y
-derived-value_cmp No No = refl
-derived-value_cmp No Half = refl
-derived-value_cmp No Yes = refl
-derived-value_cmp Half No = refl
-derived-value_cmp Half Half = refl
-derived-value_cmp Half Yes = refl
-derived-value_cmp Yes No = refl
-derived-value_cmp Yes Half = refl
-derived-value_cmp Yes Yes = refl
-
-pub derived-plane_cmp : (x y : PlaneForm) → plane_cmp-value.it x y ≡ plane_cmp x y
-derived-plane_cmp x y =
-    λ i. ordering_then (nat_cmp x.arity y.arity) (slice_cmp (slice_cmp (λ a b. derived-value_cmp a b i)) x.rows y.rows)
-
-pub derived-planes_cmp : (xs ys : List PlaneForm) → slice_cmp plane_cmp-value.it xs ys ≡ planes_cmp xs ys
-derived-planes_cmp xs ys = λ i. slice_cmp (λ x y. derived-plane_cmp x y i) xs ys
+use Rattle.tv_struct.specs.TableForm.{PlaneForm, no_plane}
 
 -- ---- what compares as equal is equal
 
@@ -101,3 +84,25 @@ pub same_from_order : (a b : StructureForm) (r : Ordering) → r ≡ structure_c
     → (r ≡ Equal) ↔ (unmarked a ≡ unmarked b)
 same_from_order a b r e =
     (λ equal. structure_cmp-Equal a b (sym e ∙ equal), λ same. e ∙ Equal-from_unmarked a b same)
+
+-- ---- what is left to compare at the end of the shorter list
+
+lt_less : (m n : ℕ) → m < n → nat_cmp m n ≡ Less
+lt_less m n lt = rw (lt-ltb m n lt) refl
+
+lt_greater : (m n : ℕ) → n < m → nat_cmp m n ≡ Greater
+lt_greater m n lt = rw (le-ltb m n (omega arith), ne_eqb m n (λ e. omega arith)) refl
+
+pub planes_cmp-rest : (xs ys : List PlaneForm) (i : ℕ) → i ≡ min (length xs) (length ys)
+    → planes_cmp (drop i xs) (drop i ys) ≡ nat_cmp (length xs) (length ys)
+planes_cmp-rest xs ys i e = at (cases_lt (length xs) (length ys)) (cases_lt (length ys) (length xs))
+  where
+    at : (length xs < length ys) ⊎ (length ys ≤ length xs) → (length ys < length xs) ⊎ (length xs ≤ length ys)
+        → planes_cmp (drop i xs) (drop i ys) ≡ nat_cmp (length xs) (length ys)
+    at (inl shorter) other =
+        rw (drop_all i xs (omega (arith, e)), drop_more ys i no_plane (omega (arith, e))) (sym (lt_less (length xs) (length ys) shorter))
+    at (inr le) (inl longer) =
+        rw (drop_more xs i no_plane (omega (arith, e)), drop_all i ys (omega (arith, e))) (sym (lt_greater (length xs) (length ys) longer))
+    at (inr le) (inr ge) =
+        let same : length xs ≡ length ys = omega arith
+        in rw (drop_all i xs (omega (arith, e)), drop_all i ys (omega (arith, e)), same) (sym (tied_itself nat_cmp_total (length ys)))

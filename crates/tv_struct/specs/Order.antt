@@ -1,22 +1,12 @@
 -- The order of structures.
-use Rattle.std.specs.Prelude.{ℕ, List}
+use Rattle.std.specs.Prelude.{List}
 use Rattle.std.specs.declared.cmp.Ordering.{Ordering}
 use Rattle.std.specs.Ordering.{nat_cmp, bool_cmp, on, then_cmp}
 use Rattle.std.specs.Cmp.{IsTotalOrder, nat_cmp_total, bool_cmp_total, on_total, then_total}
 use Rattle.std.specs.Cmp.Lexicographic.{slice_cmp, lists_total}
-use Rattle.tv_kleene.specs.declared.K3.{K3}
-use Rattle.tv_kleene.specs.declared.K3.TheVariants.{No, Half, Yes}
+use Rattle.tv_row.specs.Bits.{rank, value_cmp}
 use Rattle.tv_struct.specs.TableForm.{PlaneForm}
 use Rattle.tv_struct.specs.StructureForm.{StructureForm}
-
--- where a value stands in the order of truth
-abbrev pub rank : K3 → ℕ
-rank No = 0
-rank Half = 1
-rank Yes = 2
-
-abbrev pub value_cmp : K3 → K3 → Ordering
-value_cmp = on rank nat_cmp
 
 -- by arity, then tuple by tuple in lexicographic order: row by row, and from column to column
 abbrev pub plane_cmp : PlaneForm → PlaneForm → Ordering

@@ -1,13 +1,8 @@
 -- The signature of a structure: a number that equal structures share.
-use Rattle.std.specs.Prelude.{ℕ, ◌+◌, ◌*◌, ◌%◌, ◌^◌, Bool, true, false, List, fold}
-use Rattle.tv_kleene.specs.declared.K3.{K3}
-use Rattle.tv_struct.specs.Order.{rank}
+use Rattle.std.specs.Prelude.{ℕ, Bool, true, false, List, fold}
+use Rattle.tv_row.specs.Mixed.{mixed, row_mixed}
 use Rattle.tv_struct.specs.TableForm.{PlaneForm}
 use Rattle.tv_struct.specs.StructureForm.{StructureForm}
-
--- one more number mixed in, as the hash of Fowler, Noll and Vo does, with a sum for the exclusive or
-abbrev pub mixed : ℕ → ℕ → ℕ
-mixed hash n = (hash * 1099511628211 % 2 ^ 64 + n) % 2 ^ 64
 
 abbrev pub flag_number : Bool → ℕ
 flag_number false = 0
@@ -15,9 +10,6 @@ flag_number true = 1
 
 abbrev pub flags_mixed : ℕ → List Bool → ℕ
 flags_mixed hash flags = fold (λ h flag. mixed h (flag_number flag)) hash flags
-
-abbrev pub row_mixed : ℕ → List K3 → ℕ
-row_mixed hash row = fold (λ h k. mixed h (rank k)) hash row
 
 abbrev pub plane_mixed : ℕ → PlaneForm → ℕ
 plane_mixed hash plane = fold row_mixed hash plane.rows

@@ -2,12 +2,14 @@
 #![tactic(auto)]
 
 mod analysis;
+mod compared;
+mod drawn;
 mod laws;
+mod layout;
 mod line;
 mod listing;
 mod node;
 mod origins;
-mod plane;
 mod planes;
 mod signature;
 mod structure;

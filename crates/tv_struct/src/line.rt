@@ -79,18 +79,6 @@ impl<T: Copy> Line<T> {
     }
 }
 
-impl<T: Drop> Line<Line<T>> {
-    /// Puts `value` in the place of the element in that row and column.
-    pub fn put_cell(&mut self, row: usize, column: usize, value: T)
-        requires row { row < length self.old }
-        requires column { column < length (slice_index_or self.old row []) }
-        ensures { self.new ≡ slice_set self.old row (slice_set (slice_index_or self.old row []) column value) }
-    {
-        let line = &mut self.items[row];
-        line.put(column, value);
-    }
-}
-
 impl<T: PartialEq> PartialEq for Line<T> {
     ghost eq = { pointwise T.eq };
 

@@ -1,35 +1,61 @@
-//! A table with the values of each predicate beside each other.
+//! A table in planes of bits: one list of words for the values of all predicates.
 
-ghost use Rattle.std.specs.Prelude.{◌≡◌, ◌<◌, ◌≤◌, ℕ, [], ◌∷◌, length, map, All, IfOk, Some, slice_get, slice_index_or};
-ghost use Rattle.tv_struct.specs.TableForm.{TableForm, IsTable, HasEntry, entry, with_entry, table_of_no, table_drawn, row_of, column_of, no_plane, arities_in, plane_at, row_in, column_in, column_count, table_with_row};
-ghost use Rattle.tv_struct.specs.Order.{planes_cmp};
-ghost use Rattle.tv_struct.specs.Signature.{planes_mixed};
+ghost use Rattle.std.specs.Prelude.{◌≡◌, ◌<◌, ◌≤◌, ◌+◌, ℕ, [], ◌∷◌, length, map, All, IfOk, Some, slice_get, slice_index, slice_index_or};
+ghost use Rattle.tv_struct.specs.LayoutForm.{IsLayout};
+ghost use Rattle.tv_struct.specs.TableForm.{TableForm, IsTable, HasEntry, entry, with_entry, table_of_no, table_drawn, table_with_row, plane_at, plane_drawn, row_in, column_in, row_of, column_of, arities_in, row_count, column_count, selected};
+ghost use Rattle.tv_kleene.specs.declared.K3.TheVariants.{No};
+ghost use Rattle.tv_struct.specs.Order.{planes_cmp, plane_cmp};
+ghost use Rattle.tv_struct.specs.Signature.{planes_mixed, plane_mixed};
 ghost use Rattle.tv_struct.specs.TupleForm.{tuple_of};
 
-use crate::plane::Plane;
+use crate::layout::{Layout, column_count, row_count};
 use crate::table::{Table, Tuple};
 use std::alloc::{AllocError, Global};
 use std::cmp::Ordering;
 use std::marker::Model;
 use tv_kleene::K3;
 use tv_model::{Pred, PredId};
-use tv_row::Row;
+use tv_row::{Row, Words};
 
-/// A table that keeps a plane of values for each predicate.
+/// A table whose values stand in one list of words: one row for a predicate of arity 0 or 1, and a row
+/// for each individual for a binary one.
 #[derive(Debug, Drop)]
 pub struct Planes {
-    size: u32,
-    planes: Vec<Plane>,
+    layout: Layout,
+    words: Words,
 }
 
 impl Model for Planes {
-    ghost use Rattle.tv_struct.specs.TableForm.{TableForm, IsTable};
+    ghost use Rattle.tv_struct.specs.TableForm.{TableForm};
+    ghost use Rattle.tv_struct.specs.LayoutForm.{HoldsTable, table_held};
 
     ghost Value = { TableForm };
 
-    ghost view = { λ t. record { size = t.size; planes = t.planes.items } };
+    ghost view = { λ t. table_held t.layout t.words };
 
-    ghost invariant = { λ t. IsTable (record { size = t.size; planes = t.planes.items }) };
+    ghost invariant = { λ t. HoldsTable t.layout t.words };
+}
+
+/// The arity of each of the predicates.
+fn arities(alloc: Global, preds: &[Pred]) -> Result<Vec<u8>, AllocError>
+    ensures { IfOk result (λ arities. arities.items ≡ map (λ pred. pred.arity) preds.now) }
+{
+    let mut arities = Vec::with_capacity(alloc, preds.len())?;
+    for pred in preds {
+        arities.push(pred.arity)?;
+    }
+    Ok(arities)
+}
+
+/// The table over `size` individuals with predicates of these arities that has `No` everywhere.
+fn over(alloc: Global, arities: &[u8], size: u32) -> Result<Planes, AllocError>
+    requires { IsLayout (record { size = size; arities = arities.now }) }
+    ensures value { IfOk result (λ t. t ≡ table_of_no size arities.now) }
+    ensures kept { IfOk result IsTable }
+{
+    let layout = Layout::new(alloc, arities, size)?;
+    let words = Words::of_no(alloc, layout.word_count())?;
+    Ok(Planes { layout, words })
 }
 
 impl Planes {
@@ -38,36 +64,31 @@ impl Planes {
     pub fn of_no(alloc: Global, preds: &[Pred], size: u32) -> Result<Planes, AllocError>
         requires size { size ≤ 256 }
         requires arities { All (λ pred. pred.arity ≤ 2) preds.now }
-        ensures { IfOk result (λ t. t ≡ table_of_no size (map (λ pred. pred.arity) preds.now)) }
+        ensures value { IfOk result (λ t. t ≡ table_of_no size (map (λ pred. pred.arity) preds.now)) }
+        ensures kept { IfOk result IsTable }
     {
         if preds.len() > u32::MAX as usize {
             return Err(AllocError);
         }
-        let mut planes = Vec::with_capacity(alloc, preds.len())?;
-        for pred in preds {
-            planes.push(Plane::of_no(alloc, pred.arity, size)?)?;
-        }
-        Ok(Planes { size, planes })
+        let arities = arities(alloc, preds)?;
+        over(alloc, &arities, size)
     }
 
     /// The table over `size` individuals and the same predicates that has `No` everywhere.
     pub fn emptied(&self, alloc: Global, size: u32) -> Result<Planes, AllocError>
         requires { size ≤ 256 }
-        ensures { IfOk result (λ t. t ≡ table_of_no size (arities_in self.now.planes)) }
+        ensures value { IfOk result (λ t. t ≡ table_of_no size (arities_in self.now.planes)) }
+        ensures kept { IfOk result IsTable }
     {
-        let mut planes = Vec::with_capacity(alloc, self.planes.len())?;
-        for plane in &self.planes {
-            planes.push(Plane::of_no(alloc, plane.arity(), size)?)?;
-        }
-        Ok(Planes { size, planes })
+        let arities = self.layout.arities(alloc)?;
+        over(alloc, &arities, size)
     }
 
     /// The number of predicates.
-    #[tactic(auto, using(crate::proofs::TableLaws::arity_count))]
     pub fn pred_count(&self) -> u32
         ensures { result ≡ length (arities_in self.now.planes) }
     {
-        self.planes.len() as u32
+        self.layout.pred_count()
     }
 
     /// The arity of the predicate `p`.
@@ -76,17 +97,40 @@ impl Planes {
         ensures value { slice_get (arities_in self.now.planes) p.0 ≡ Some result }
         ensures known { result ≤ 2 }
     {
-        self.planes[p.0 as usize].arity()
+        self.layout.arity(p.0 as usize)
+    }
+
+    /// The number of rows of the predicate `p`.
+    pub fn row_total(&self, p: PredId) -> u32
+        requires { p.0 < length self.now.planes }
+        ensures value { result ≡ length (plane_at self.now p.0).rows }
+        ensures count { result ≡ row_count self.now.size (plane_at self.now p.0).arity }
+    {
+        row_count(self.layout.size(), self.layout.arity(p.0 as usize))
+    }
+
+    /// The value in a row and a column of the predicate `p`.
+    fn cell(&self, p: PredId, row: u32, column: u32) -> K3
+        requires predicate { p.0 < length self.now.planes }
+        requires row { row < length (plane_at self.now p.0).rows }
+        requires column { column < length (row_in (plane_at self.now p.0) row) }
+        ensures { result ≡ slice_index_or (row_in (plane_at self.now p.0) row) column No }
+    {
+        let start = self.layout.start(p.0 as usize, row as usize);
+        self.words.get(start, column as usize)
     }
 
     /// The values in a row of the predicate `p`.
-    #[tactic(auto, using(crate::proofs::RowLaws::row_small))]
     pub fn row(&self, p: PredId, row: u32) -> Row
         requires predicate { p.0 < length self.now.planes }
         requires row { row < length (plane_at self.now p.0).rows }
-        ensures { result ≡ row_in (plane_at self.now p.0) row }
+        ensures value { result ≡ row_in (plane_at self.now p.0) row }
+        ensures columns { length result ≡ column_count self.now.size (plane_at self.now p.0).arity }
     {
-        self.planes[p.0 as usize].row(row as usize)
+        let pred = p.0 as usize;
+        let columns = column_count(self.layout.size(), self.layout.arity(pred));
+        self.words
+            .row(self.layout.start(pred, row as usize), columns)
     }
 
     /// The values in a column of the binary predicate `p`.
@@ -96,7 +140,10 @@ impl Planes {
         requires column { column < self.now.size }
         ensures { result ≡ column_in self.now.size (plane_at self.now p.0) column }
     {
-        self.planes[p.0 as usize].column(self.size, column as usize)
+        let start = self.layout.start(p.0 as usize, 0);
+        let size = self.layout.size();
+        self.words
+            .column(self.layout.width(), start, size, column as usize)
     }
 
     /// Puts the values into a row of the predicate `p`, and changes nothing else.
@@ -107,64 +154,31 @@ impl Planes {
         ensures value { self.new ≡ table_with_row self.old p.0 row values.now }
         ensures kept { IsTable self.new }
     {
-        let plane = &mut self.planes[p.0 as usize];
-        plane.put_row(row as usize, values);
+        let start = self.layout.start(p.0 as usize, row as usize);
+        self.words.put_row(start, values);
     }
 
     /// An equal table in memory of its own.
     pub fn copied(&self, alloc: Global) -> Result<Planes, AllocError>
-        ensures { IfOk result (λ t. t ≡ self.now) }
+        ensures value { IfOk result (λ t. t ≡ self.now) }
+        ensures kept { IfOk result IsTable }
     {
-        let mut planes = Vec::with_capacity(alloc, self.planes.len())?;
-        for plane in &self.planes {
-            planes.push(plane.copied(alloc)?)?;
-        }
         Ok(Planes {
-            size: self.size,
-            planes,
+            layout: self.layout.copied(alloc)?,
+            words: self.words.copied(alloc)?,
         })
-    }
-
-    /// The table over one individual for each of the origins, with the origins' values, and `No` for
-    /// an origin past the end.
-    pub fn drawn(&self, alloc: Global, origins: &[u32]) -> Result<Planes, AllocError>
-        requires { length origins.now ≤ 256 }
-        ensures { IfOk result (λ t. t ≡ table_drawn origins.now self.now) }
-    {
-        let mut planes = Vec::with_capacity(alloc, self.planes.len())?;
-        for plane in &self.planes {
-            planes.push(plane.drawn(alloc, origins)?)?;
-        }
-        Ok(Planes {
-            size: origins.len() as u32,
-            planes,
-        })
-    }
-
-    /// The number with the values mixed in, predicate by predicate.
-    pub fn mix(&self, hash: u64) -> u64
-        ensures { result ≡ planes_mixed hash self.now.planes }
-    {
-        self.planes.iter().fold(hash, |h, plane| plane.mix(h))
-    }
-
-    /// Compares the values, predicate by predicate, each tuple by tuple.
-    pub fn compare_values(&self, other: &Planes) -> Ordering
-        ensures { result ≡ planes_cmp self.now.planes other.now.planes }
-    {
-        self.planes.cmp(&other.planes)
     }
 }
 
 /// The row of a tuple's value and its column.
-fn place(t: Tuple) -> (usize, usize)
+fn place(t: Tuple) -> (u32, u32)
     ensures row { result.0 ≡ row_of (tuple_of t) }
     ensures column { result.1 ≡ column_of (tuple_of t) }
 {
     match t {
         Tuple::Zero => (0, 0),
-        Tuple::One(u) => (0, u as usize),
-        Tuple::Two(u, w) => (u as usize, w as usize),
+        Tuple::One(u) => (0, u),
+        Tuple::Two(u, w) => (u, w),
     }
 }
 
@@ -172,17 +186,20 @@ impl Table for Planes {
     ghost table = { λ t. t };
 
     fn size(&self) -> u32 {
-        self.size
+        self.layout.size()
     }
 
     fn get(&self, p: PredId, t: Tuple) -> K3 {
+        let _ = self.size();
         let (row, column) = place(t);
-        self.planes[p.0 as usize].get(row, column)
+        self.cell(p, row, column)
     }
 
     fn set(&mut self, p: PredId, t: Tuple, k: K3) {
+        let _ = self.size();
         let (row, column) = place(t);
-        let plane = &mut self.planes[p.0 as usize];
-        plane.put(row, column, k);
+        let mut values = self.row(p, row);
+        values.set(column, k);
+        self.put_row(p, row, &values);
     }
 }

@@ -305,10 +305,21 @@ impl Structure {
         ensures order { result ≡ structure_cmp self.now other.now }
         ensures equal { (result ≡ Ordering.Equal) ↔ (unmarked self.now ≡ unmarked other.now) }
     {
-        self.size()
-            .cmp(&other.size())
-            .then_with(|| self.summaries.cmp(&other.summaries))
-            .then_with(|| self.table.compare_values(&other.table))
+        self.order_to(other)
+    }
+
+    fn order_to(&self, other: &Structure) -> Ordering
+        ensures { result ≡ structure_cmp self.now other.now }
+    {
+        let order = self.size().cmp(&other.size());
+        if order != Ordering::Equal {
+            return order;
+        }
+        let order = self.summaries.cmp(&other.summaries);
+        if order != Ordering::Equal {
+            return order;
+        }
+        self.table.compare_values(&other.table)
     }
 
     /// A number that equal structures share.

@@ -1,9 +1,25 @@
-use Rattle.std.proofs.lemmas.List.{take_all}
-use Rattle.tv_struct.proofs.TableLaws.{IsTable-drawn}
+use Rattle.std.proofs.Common.{◌<◌, ◌∙◌, List, length, set, ap, arith}
+use Rattle.std.proofs.lemmas.List.{length-map}
+use Rattle.tv_struct.specs.TableForm.{PlaneForm, TableForm, plane_at, plane_drawn}
+use Rattle.tv_struct.proofs.PlaneDraws.{planes_arity, planes_step}
 use Rattle.tv_struct.proofs.planes.Planes.drawn.Goals as goal
 
-pub invariant_of-result : goal.invariant_of-result
-invariant_of-result c =
-    rw (c.loop-plane.invariant, take_all c.loop-plane.plane-index _ c.loop-plane-test.false, c.deref-plane-items.ensures.value)
-    (IsTable-drawn c.args.origins.now (record { size = c.self.inside.size; planes = c.self.inside.planes.items })
-    c.self.invariant c.requires)
+pub draw_plane-requires-clause-arity : goal.draw_plane-requires-clause-arity
+draw_plane-requires-clause-arity c =
+    let lt : c.loop-pred.pred < length c.args.self.now.planes
+    = omega (arith, c.loop-pred-test.true, c.pred_count-pred-end.ensures, length-map c.args.self.now.planes (λ (p : PlaneForm). p.arity))
+    in ap (λ (t : TableForm). (plane_at t c.loop-pred.pred).arity) c.loop-pred.invariant.so_far
+    ∙ planes_arity c.args.self.now c.args.origins.now c.loop-pred.pred lt
+
+pub loop-pred-preserved : goal.loop-pred-preserved
+loop-pred-preserved c =
+    let lt : c.loop-pred.pred < length c.args.self.now.planes
+    = omega (arith, c.loop-pred-test.true, c.pred_count-pred-end.ensures, length-map c.args.self.now.planes (λ (p : PlaneForm). p.arity))
+    in record {
+      so_far = c.draw_plane.ensures.value
+          ∙ ap (λ (t : TableForm). record t { planes = set t.planes c.loop-pred.pred (plane_drawn c.args.origins.now (plane_at c.args.self.now c.loop-pred.pred)) })
+          c.loop-pred.invariant.so_far
+          ∙ ap (λ (planes : List PlaneForm). record { size = length c.args.origins.now; planes = planes })
+          (planes_step c.args.self.now c.args.origins.now c.loop-pred.pred lt);
+      kept = c.draw_plane.ensures.kept;
+    }

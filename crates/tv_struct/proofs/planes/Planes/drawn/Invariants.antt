@@ -1,6 +1,10 @@
-use Rattle.std.proofs.Common.{◌≡◌, take, map}
-use Rattle.tv_struct.specs.TableForm.{plane_drawn}
+use Rattle.std.proofs.Common.{◌≡◌, length}
+use Rattle.tv_struct.specs.TableForm.{IsTable}
+use Rattle.tv_struct.proofs.PlaneDraws.{planes_so_far}
 use Rattle.tv_struct.proofs.planes.Planes.drawn.Given as goal
 
-abbrev pub invariant-loop-plane : goal.invariant-loop-plane
-invariant-loop-plane l = l.planes.items ≡ map (plane_drawn l.origins) (take l.plane-index l.plane-items)
+abbrev pub invariant-loop-pred : goal.invariant-loop-pred
+invariant-loop-pred l = record {
+  so_far : l.drawn ≡ record { size = length l.origins; planes = planes_so_far l.self l.origins l.pred };
+  kept : IsTable l.drawn;
+}

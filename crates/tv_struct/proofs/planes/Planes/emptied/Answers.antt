@@ -1,14 +1,20 @@
-use Rattle.std.proofs.Common.{map, ◌≤◌}
-use Rattle.std.proofs.lemmas.List.{take_all, length-map}
-use Rattle.std.proofs.lemmas.List.Elements.{All-map}
-use Rattle.tv_struct.specs.TableForm.{PlaneForm}
-use Rattle.tv_struct.proofs.TableLaws.{IsTable-of_no}
+use Rattle.std.proofs.Common.{◌≡◌, ◌∙◌, List, ℕ, IfOk, subst, sym}
+use Rattle.tv_struct.specs.TableForm.{arities_in, table_of_no}
+use Rattle.tv_struct.proofs.HeldLaws.{now_arities}
 use Rattle.tv_struct.proofs.planes.Planes.emptied.Goals as goal
 
-pub invariant_of-result : goal.invariant_of-result
-invariant_of-result c =
-    rw (c.loop-plane.invariant, take_all c.loop-plane.plane-index _ c.loop-plane-test.false, c.deref-plane-items.ensures.value)
-    (IsTable-of_no c.args.size (map (λ (plane : PlaneForm). plane.arity) c.self.inside.planes.items) c.requires
-    (rw (length-map c.self.inside.planes.items (λ (plane : PlaneForm). plane.arity)) c.self.invariant.predicates)
-    (All-map (λ arity. arity ≤ 2) (λ (plane : PlaneForm). plane.arity) c.self.inside.planes.items
-    (λ k d lt. (c.self.invariant.planes k d lt).arity)))
+pub over-requires : goal.over-requires
+over-requires c =
+    rw (c.deref.ensures.value, c.in_ok-arities.ensures) (record {
+      size = c.requires;
+      predicates = c.self.invariant.layout.predicates;
+      arities = c.self.invariant.layout.arities;
+    })
+
+pub returns-clause-value : goal.returns-clause-value
+returns-clause-value c =
+    let Gives : List ℕ → Type 0 = λ arities. IfOk c.over.result (λ t. t ≡ table_of_no c.args.size arities)
+    in let e : c.deref.result.now ≡ arities_in c.args.self.now.planes
+    = c.deref.ensures.value ∙ c.in_ok-arities.ensures
+    ∙ sym (now_arities c.self.inside.layout c.self.inside.words c.args.self.now c.self.view_is)
+    in subst Gives e c.over.ensures.value

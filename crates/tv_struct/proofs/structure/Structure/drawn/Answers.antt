@@ -6,5 +6,5 @@ use Rattle.tv_struct.proofs.structure.Structure.drawn.Goals as goal
 pub returns-clause-over : goal.returns-clause-over
 returns-clause-over c =
     rw (← c.self.view_is)
-    (ap (λ (t : TableForm). arities_in t.planes) c.in_ok-drawn.ensures
+    (ap (λ (t : TableForm). arities_in t.planes) c.in_ok-drawn.ensures.value
     ∙ arities_in-drawn c.args.origins.now c.self.inside.table.planes)
