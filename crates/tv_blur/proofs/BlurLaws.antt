@@ -9,7 +9,7 @@ use Rattle.std.proofs.lemmas.List.Elements.{All-head, All-tail, All-nil, All-con
 use Rattle.tv_kleene.specs.declared.K3.{K3}
 use Rattle.tv_kleene.specs.declared.K3.TheVariants.{No, Half, Yes}
 use Rattle.tv_frame.specs.LogicalStructure.{LogicalStructure}
-use Rattle.tv_struct.specs.Order.{value_cmp}
+use Rattle.tv_row.specs.Bits.{value_cmp}
 use Rattle.tv_struct.specs.TableForm.{HasEntry, AreIndividuals}
 use Rattle.tv_struct.specs.StructureForm.{StructureForm, IsStructure, structure_of, table_of, value_at, summary_at}
 use Rattle.tv_struct.proofs.StructureLaws.{same_structure}

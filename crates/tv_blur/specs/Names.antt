@@ -7,7 +7,7 @@ use Rattle.tv_kleene.specs.declared.K3.{K3}
 use Rattle.tv_model.specs.declared.program.Pred.{Pred}
 use Rattle.tv_model.specs.declared.program.Vocab.{Vocab}
 use Rattle.tv_frame.specs.LogicalStructure.{LogicalStructure}
-use Rattle.tv_struct.specs.Order.{rank, value_cmp}
+use Rattle.tv_row.specs.Bits.{rank, value_cmp}
 use Rattle.tv_struct.specs.StructureForm.{kept_from}
 
 -- the abstraction tells individuals apart by this predicate

@@ -96,7 +96,7 @@ zip-at (xs ∷ xss) [] k d e zip lt = absurd zip
 zip-at (xs ∷ xss) (y ∷ ys) zero d e zip lt = zip.0
 zip-at (xs ∷ xss) (y ∷ ys) (suc k) d e zip lt = zip-at xss ys k d e zip.1 (omega (arith, lt))
 
-choice-one : (s : LogicalStructure) (pred : ℕ) (aim : AimForm) (choice : List (List (List K3))) → Contains (choices s pred aim) choice
+pub choice-one : (s : LogicalStructure) (pred : ℕ) (aim : AimForm) (choice : List (List (List K3))) → Contains (choices s pred aim) choice
     → (k : ℕ) → k < length s.individuals → s.is_summary (get_or s.individuals k 0) ≡ false → length (get_or choice k []) ≡ 1
 choice-one s pred aim choice at k lt plain =
     let all : ℕ → List (List (List K3)) = λ u. sets_of (s.is_summary u) (map (s.value pred) (aimed aim u))
@@ -109,7 +109,7 @@ choice-one s pred aim choice at k lt plain =
     (omega (arith, length-map s.individuals all, lt)))
     in picks-length 1 (vectors (map (s.value pred) (aimed aim u))) (get_or choice k []) (subst Of plain listed)
 
-copies-are : (s : StructureForm) (pred : ℕ) (aim : AimForm) (choice : List (List (List K3)))
+pub copies-are : (s : StructureForm) (pred : ℕ) (aim : AimForm) (choice : List (List (List K3)))
     → Contains (choices (structure_of s) pred aim) choice → Copies s (members (structure_of s).individuals choice)
 copies-are s pred aim choice at = record {
   inside = λ u lt. omega (arith, (first u lt).0, copies-size, place u lt);

@@ -3,16 +3,16 @@
 pub mod Membership
 pub mod Distinct
 pub mod Counts
+pub mod Splits
+pub mod Stages
 pub mod Writes
 pub mod ChosenTables
 pub mod StageTables
+pub mod Tables
 -- Proofs of this crate's own laws.
 mod Listed
 mod Places
 mod Embedded
 mod HeapChoices
-mod Stages
-mod Tables
 mod Exact
-mod Splits
 mod ExactLists

@@ -54,7 +54,7 @@ by-places (one ∷ given) v w =
     (HasPlaces 2) (λ e. refl)
     (λ e. cond_both (eqb one.var w) (Each (Before one.anchors)) (split_by given v w) (HasPlaces 2) (λ d. refl) (λ d. later))
 
-split-places : (given : List AnchorsForm) (vars : List ℕ) → HasPlaces (length vars) (split_of given vars)
+pub split-places : (given : List AnchorsForm) (vars : List ℕ) → HasPlaces (length vars) (split_of given vars)
 split-places given [] = refl
 split-places given (v ∷ []) = refl
 split-places given (v ∷ w ∷ []) =

@@ -42,7 +42,7 @@ given-are : (P : AnchorsForm → Type 0) (s : LogicalStructure) → HoldsOfOrdin
     → All P (and_given given v (ordinary s test))
 given-are P s each given v test all = All-push P given (record { var = v; anchors = ordinary s test }) all (each v test)
 
-unary-are : (P : AnchorsForm → Type 0) (s : LogicalStructure) → HoldsOfOrdinary s P → (given : List AnchorsForm) (pred : ℕ) (vars : List ℕ) → All P given
+pub unary-are : (P : AnchorsForm → Type 0) (s : LogicalStructure) → HoldsOfOrdinary s P → (given : List AnchorsForm) (pred : ℕ) (vars : List ℕ) → All P given
     → All P (by_unary s given pred vars)
 unary-are P s each given pred [] all = all
 unary-are P s each given pred (v ∷ []) all =
@@ -50,7 +50,7 @@ unary-are P s each given pred (v ∷ []) all =
     (λ out. All P out) (λ e. all) (λ e. given-are P s each given v (λ u. is_yes (s.value pred (u ∷ []))) all)
 unary-are P s each given pred (v ∷ w ∷ more) all = all
 
-binary-are : (P : AnchorsForm → Type 0) (s : LogicalStructure) → HoldsOfOrdinary s P → (given : List AnchorsForm) (pred : ℕ) (vars : List ℕ) → All P given
+pub binary-are : (P : AnchorsForm → Type 0) (s : LogicalStructure) → HoldsOfOrdinary s P → (given : List AnchorsForm) (pred : ℕ) (vars : List ℕ) → All P given
     → All P (by_binary s given pred vars)
 binary-are P s each given pred [] all = all
 binary-are P s each given pred (v ∷ []) all = all
@@ -67,7 +67,7 @@ binary-are P s each given pred (v ∷ w ∷ []) all =
     (λ d. given-are P s each given v Ahead all) (λ d. all))
 binary-are P s each given pred (v ∷ w ∷ x ∷ more) all = all
 
-folded-are : (P : AnchorsForm → Type 0) (step : List AnchorsForm → AtomForm → List AnchorsForm)
+pub folded-are : (P : AnchorsForm → Type 0) (step : List AnchorsForm → AtomForm → List AnchorsForm)
     → ((given : List AnchorsForm) (atom : AtomForm) → All P given → All P (step given atom))
     → (given : List AnchorsForm) (atoms : List AtomForm) → All P given → All P (fold step given atoms)
 folded-are P step each given [] all = all

@@ -1,0 +1,11 @@
+mod Aims
+mod AllWrites
+mod ChosenTables
+mod Few
+mod Filters
+mod Folds
+mod Given
+mod Limits
+mod Parts
+mod Picks
+mod Puts

@@ -1,0 +1,4 @@
+pub mod Seen
+pub mod Anchored
+pub mod Puts
+pub mod Stage

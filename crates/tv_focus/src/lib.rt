@@ -1,0 +1,16 @@
+//! Focus: a structure is split, so that an atom of a formula becomes definite (Sagiv, Reps and Wilhelm 2002,
+//! section 6.3). What the choices are is defined in `tv_choices`.
+#![tactic(auto)]
+
+mod aim;
+mod anchors;
+mod atoms;
+mod chosen;
+mod count;
+mod put;
+mod sets;
+mod stage;
+mod vector;
+
+pub use atoms::atom_count;
+pub use stage::focus_stage;

@@ -1,0 +1,199 @@
+//! The vectors of an individual, and the sets of them that a choice may give it.
+
+ghost use Rattle.std.specs.Prelude.{◌≡◌, ◌<◌, ◌≤◌, ◌++◌, [], ◌∷◌, length, map, Some, All, IfOk, OnOk, slice_get};
+ghost use Rattle.tv_choices.specs.Choices.{vectors, picks, picks_to, sets_of};
+ghost use Rattle.tv_focus.specs.Puts.{begun_with};
+
+use crate::vector::Vector;
+use std::alloc::{AllocError, Global};
+use tv_kleene::K3;
+use tv_model::Items;
+
+/// The vectors that an individual is given, in order.
+pub type VectorSet = Items<Vector>;
+
+/// The sets of vectors that an individual may be given, in order.
+pub type Sets = Items<VectorSet>;
+
+/// Puts behind the others each vector of `rest` with `first` in front.
+fn push_prefixed(
+    alloc: Global,
+    out: &mut VectorSet,
+    first: K3,
+    rest: &[Vector],
+) -> Result<(), AllocError>
+    ensures { OnOk result (out.new ≡ out.old ++ map (λ v. first ∷ v) rest.now) }
+{
+    match rest {
+        [] => Ok(()),
+        [v, later @ ..] => {
+            out.push(Vector::prefixed(alloc, first, v.as_slice())?)?;
+            push_prefixed(alloc, out, first, later)
+        }
+    }
+}
+
+/// Each vector of `rest` with `first` in front.
+fn prefixed(alloc: Global, first: K3, rest: &[Vector]) -> Result<VectorSet, AllocError>
+    ensures { IfOk result (λ set. set ≡ map (λ v. first ∷ v) rest.now) }
+{
+    let mut out = VectorSet::new(alloc);
+    push_prefixed(alloc, &mut out, first, rest)?;
+    Ok(out)
+}
+
+/// The vectors that begin with a definite value for which `first` stands, and go on with one of `rest`.
+#[tactic(auto, using(crate::proofs::Picks::begun_no, crate::proofs::Picks::begun_half, crate::proofs::Picks::begun_yes))]
+fn begun(alloc: Global, first: K3, rest: &[Vector]) -> Result<VectorSet, AllocError>
+    ensures { IfOk result (λ set. set ≡ begun_with first rest.now) }
+{
+    match first {
+        K3::No => prefixed(alloc, K3::No, rest),
+        K3::Half => {
+            let mut out = prefixed(alloc, K3::No, rest)?;
+            push_prefixed(alloc, &mut out, K3::Yes, rest)?;
+            Ok(out)
+        }
+        K3::Yes => prefixed(alloc, K3::Yes, rest),
+    }
+}
+
+/// The set of the empty vector alone.
+fn no_values(alloc: Global) -> Result<VectorSet, AllocError>
+    ensures { IfOk result (λ set. set ≡ [] ∷ []) }
+{
+    let mut out = VectorSet::new(alloc);
+    out.push(Vector::empty(alloc))?;
+    Ok(out)
+}
+
+/// The vectors of definite values that agree with these values, in lexicographic order, `No` before `Yes`.
+pub fn vectors(alloc: Global, values: &[K3]) -> Result<VectorSet, AllocError>
+    ensures { IfOk result (λ set. set ≡ vectors values.now) }
+{
+    match values {
+        [] => no_values(alloc),
+        [k, rest @ ..] => {
+            let later = vectors(alloc, rest)?;
+            begun(alloc, *k, later.as_slice())
+        }
+    }
+}
+
+/// Puts copies of the vectors behind the others.
+fn push_copies(alloc: Global, out: &mut VectorSet, set: &[Vector]) -> Result<(), AllocError>
+    ensures { OnOk result (out.new ≡ out.old ++ set.now) }
+{
+    match set {
+        [] => Ok(()),
+        [v, later @ ..] => {
+            out.push(Vector::of(alloc, v.as_slice())?)?;
+            push_copies(alloc, out, later)
+        }
+    }
+}
+
+/// An equal set in memory of its own.
+pub fn copied(alloc: Global, set: &[Vector]) -> Result<VectorSet, AllocError>
+    ensures { IfOk result (λ copy. copy ≡ set.now) }
+{
+    let mut out = VectorSet::new(alloc);
+    push_copies(alloc, &mut out, set)?;
+    Ok(out)
+}
+
+/// The set that begins with this vector and goes on with these.
+fn set_prefixed(alloc: Global, first: &Vector, rest: &[Vector]) -> Result<VectorSet, AllocError>
+    ensures { IfOk result (λ set. set ≡ first.now ∷ rest.now) }
+{
+    let mut out = VectorSet::new(alloc);
+    out.push(Vector::of(alloc, first.as_slice())?)?;
+    push_copies(alloc, &mut out, rest)?;
+    Ok(out)
+}
+
+/// Puts behind the others each set of `rest` with `first` in front.
+fn push_sets_prefixed(
+    alloc: Global,
+    out: &mut Sets,
+    first: &Vector,
+    rest: &[VectorSet],
+) -> Result<(), AllocError>
+    ensures { OnOk result (out.new ≡ out.old ++ map (λ set. first.now ∷ set) rest.now) }
+{
+    match rest {
+        [] => Ok(()),
+        [set, later @ ..] => {
+            out.push(set_prefixed(alloc, first, set.as_slice())?)?;
+            push_sets_prefixed(alloc, out, first, later)
+        }
+    }
+}
+
+/// Puts the sets of `count` of the vectors behind the others, in lexicographic order.
+fn push_picks(
+    alloc: Global,
+    out: &mut Sets,
+    count: usize,
+    vectors: &[Vector],
+) -> Result<(), AllocError>
+    ensures { OnOk result (out.new ≡ out.old ++ picks count vectors.now) }
+{
+    if count == 0 {
+        return Ok(out.push(VectorSet::new(alloc))?);
+    }
+    match vectors {
+        [] => Ok(()),
+        [v, later @ ..] => {
+            let mut fewer = Sets::new(alloc);
+            push_picks(alloc, &mut fewer, count - 1, later)?;
+            push_sets_prefixed(alloc, out, v, fewer.as_slice())?;
+            push_picks(alloc, out, count, later)
+        }
+    }
+}
+
+/// Puts the sets of 1 to `count` of the vectors behind the others, in the order of these numbers.
+fn push_picks_to(
+    alloc: Global,
+    out: &mut Sets,
+    count: usize,
+    vectors: &[Vector],
+) -> Result<(), AllocError>
+    ensures { OnOk result (out.new ≡ out.old ++ picks_to count vectors.now) }
+{
+    if count == 0 {
+        return Ok(());
+    }
+    push_picks_to(alloc, out, count - 1, vectors)?;
+    push_picks(alloc, out, count, vectors)
+}
+
+/// Puts each vector behind the others, as a set of its own.
+fn push_singles(alloc: Global, out: &mut Sets, vectors: &[Vector]) -> Result<(), AllocError>
+    ensures { OnOk result (out.new ≡ out.old ++ map (λ v. v ∷ []) vectors.now) }
+{
+    match vectors {
+        [] => Ok(()),
+        [v, later @ ..] => {
+            out.push(set_prefixed(alloc, v, &[])?)?;
+            push_singles(alloc, out, later)
+        }
+    }
+}
+
+/// The sets of vectors that an individual may be given, where these are its values: one vector, or, where it is a
+/// summary, one or more.
+#[tactic(auto, using(crate::proofs::Picks::picks_one))]
+pub fn sets_of(alloc: Global, summary: bool, values: &[K3]) -> Result<Sets, AllocError>
+    ensures { IfOk result (λ sets. sets ≡ sets_of summary values.now) }
+{
+    let all = vectors(alloc, values)?;
+    let mut out = Sets::new(alloc);
+    if summary {
+        push_picks_to(alloc, &mut out, all.len(), all.as_slice())?;
+    } else {
+        push_singles(alloc, &mut out, all.as_slice())?;
+    }
+    Ok(out)
+}
