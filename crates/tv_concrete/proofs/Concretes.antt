@@ -23,12 +23,15 @@ flip-core p h k same = record {
 }
 
 -- concrete heaps agree on predicates of rank below n
-pub agree-below : (p : ProgramForm) (rank : ℕ → ℕ) → IsRank p rank → (h k : Heap) → IsHeap p h → IsHeap p k → IsConcrete p h → IsConcrete p k
+pub agree-below : (p : ProgramForm) (rank : ℕ → ℕ) → IsRank p rank → (h k : Heap) → IsHeap p h → IsHeap p k
+    → IsConcrete p h → IsConcrete p k
     → SameCore p h k → (n q : ℕ) → rank q < n → (tuple : List ℕ) → Holds h q tuple → Holds k q tuple
 agree-below p rank ranks h k hh kh hc kc same zero q below tuple at = absurd (omega (arith, below))
 agree-below p rank ranks h k hh kh hc kc same (suc n) q below tuple at =
-    let there : (r : ℕ) → rank r < n → (us : List ℕ) → Holds h r us → Holds k r us = agree-below p rank ranks h k hh kh hc kc same n
-    in let back : (r : ℕ) → rank r < n → (us : List ℕ) → Holds k r us → Holds h r us = agree-below p rank ranks k h kh hh kc hc (flip-core p h k same) n
+    let there : (r : ℕ) → rank r < n → (us : List ℕ) → Holds h r us
+    → Holds k r us = agree-below p rank ranks h k hh kh hc kc same n
+    in let back : (r : ℕ) → rank r < n → (us : List ℕ) → Holds k r us
+    → Holds h r us = agree-below p rank ranks k h kh hh kc hc (flip-core p h k same) n
     in ⊎_elim
     (λ at_pred. by_kind there back at_pred.0 at_pred.1 (kind-cases at_pred.0.kind))
     (λ none. absurd (holds-nothing p h hh q tuple none at))
@@ -36,12 +39,14 @@ agree-below p rank ranks h k hh kh hc kc same (suc n) q below tuple at =
   where
     by_kind : ((r : ℕ) → rank r < n → (us : List ℕ) → Holds h r us → Holds k r us)
         → ((r : ℕ) → rank r < n → (us : List ℕ) → Holds k r us → Holds h r us)
-        → (d : PredForm) → slice_get p.preds q ≡ Some d → (d.kind ≡ KCore) ⊎ ((vars : List ℕ) × (body : Form) × (d.kind ≡ KDefined vars body)) → Holds k q tuple
+        → (d : PredForm) → slice_get p.preds q ≡ Some d → (d.kind ≡ KCore)
+        ⊎ ((vars : List ℕ) × (body : Form) × (d.kind ≡ KDefined vars body)) → Holds k q tuple
     by_kind there back d found (inl core) = (same.core q d found core tuple).0 at
     by_kind there back d found (inr defined) =
         let At : Heap → KindForm → Type 0 = λ g kind. MeetsDefinition g q kind tuple
         in let fits : IsTuple h d.arity tuple = holds-fits p h hh q d found tuple at
-        in let first : Holds h q tuple ↔ Truth h (put_all blank defined.0 tuple) defined.1 = subst (At h) defined.2 (hc q d found tuple fits)
+        in let first : Holds h q tuple ↔ Truth h (put_all blank defined.0 tuple) defined.1 = subst (At h) defined.2
+        (hc q d found tuple fits)
         in let second : Holds k q tuple ↔ Truth k (put_all blank defined.0 tuple) defined.1 =
         subst (At k) defined.2 (kc q d found tuple (same-tuples h k same.individuals d.arity tuple fits))
         in let less : (r : ℕ) → Mentions r defined.1 → rank r < n =
@@ -54,9 +59,11 @@ agree-below p rank ranks h k hh kh hc kc same (suc n) q below tuple at =
         in second.1 ((Truth-local defined.1 h k (put_all blank defined.0 tuple) (put_all blank defined.0 tuple) alike
         (λ v m. refl)).0 (first.0 at))
 
-pub concretes-agree : (p : ProgramForm) → IsValid p → (h k : Heap) → IsHeap p h → IsHeap p k → IsConcrete p h → IsConcrete p k → SameCore p h k
+pub concretes-agree : (p : ProgramForm) → IsValid p → (h k : Heap) → IsHeap p h → IsHeap p k → IsConcrete p h
+    → IsConcrete p k → SameCore p h k
     → (q : ℕ) (tuple : List ℕ) → Holds h q tuple ↔ Holds k q tuple
 concretes-agree p valid h k hh kh hc kc same q tuple = (
   agree-below p valid.rank valid.no_cycle h k hh kh hc kc same (suc (valid.rank q)) q (omega arith) tuple,
-  agree-below p valid.rank valid.no_cycle k h kh hh kc hc (flip-core p h k same) (suc (valid.rank q)) q (omega arith) tuple,
+  agree-below p valid.rank valid.no_cycle k h kh hh kc hc (flip-core p h k same) (suc (valid.rank q)) q
+      (omega arith) tuple,
 )

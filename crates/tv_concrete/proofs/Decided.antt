@@ -9,16 +9,20 @@ use Rattle.tv_model.proofs.Walks.{Walks}
 use Rattle.tv_concrete.specs.Reach.{Reaches}
 use Rattle.tv_concrete.proofs.Walks.{Walks-from_Reaches, Reaches-from_Walks}
 
-pub Reaches-decided : (R : ℕ → ℕ → Type 0) → ((u w : ℕ) → IsDecided (R u w)) → (allowed : List ℕ) (u w : ℕ) → IsDecided (Reaches R allowed u w)
+pub Reaches-decided : (R : ℕ → ℕ → Type 0) → ((u w : ℕ) → IsDecided (R u w)) → (allowed : List ℕ) (u w : ℕ)
+    → IsDecided (Reaches R allowed u w)
 Reaches-decided R each [] u w = each u w
 Reaches-decided R each (x ∷ allowed) u w =
     or-decided (Reaches R allowed u w) (Reaches R allowed u x × Reaches R allowed x w)
     (Reaches-decided R each allowed u w)
-    (and-decided (Reaches R allowed u x) (Reaches R allowed x w) (Reaches-decided R each allowed u x) (Reaches-decided R each allowed x w))
+    (and-decided (Reaches R allowed u x) (Reaches R allowed x w) (Reaches-decided R each allowed u x)
+    (Reaches-decided R each allowed x w))
 
-edge-decided : (h : Heap) (u w : ℕ) (P : Type 0) → IsDecided P → IsDecided (Contains h.individuals u × Contains h.individuals w × P)
+edge-decided : (h : Heap) (u w : ℕ) (P : Type 0) → IsDecided P
+    → IsDecided (Contains h.individuals u × Contains h.individuals w × P)
 edge-decided h u w P p =
-    same-decided (Contains h.individuals u × (Contains h.individuals w × P)) (Contains h.individuals u × Contains h.individuals w × P)
+    same-decided (Contains h.individuals u × (Contains h.individuals w × P))
+    (Contains h.individuals u × Contains h.individuals w × P)
     (λ t. (t.0, t.1.0, t.1.1)) (λ t. (t.0, (t.1, t.2)))
     (and-decided (Contains h.individuals u) (Contains h.individuals w × P) (Contains-decided h.individuals u)
     (and-decided (Contains h.individuals w) P (Contains-decided h.individuals w) p))
@@ -37,11 +41,14 @@ Truth-decided h a (FCond c f g) =
     or-decided (Truth h a c × Truth h a f) ((¬ Truth h a c) × Truth h a g)
     (and-decided (Truth h a c) (Truth h a f) (Truth-decided h a c) (Truth-decided h a f))
     (and-decided (¬ Truth h a c) (Truth h a g) (not-decided (Truth h a c) (Truth-decided h a c)) (Truth-decided h a g))
-Truth-decided h a (FExists v f) = exists-decided (λ u. Truth h (put a v u) f) (λ u. Truth-decided h (put a v u) f) h.individuals
-Truth-decided h a (FForall v f) = forall-decided (λ u. Truth h (put a v u) f) (λ u. Truth-decided h (put a v u) f) h.individuals
+Truth-decided h a (FExists v f) = exists-decided (λ u. Truth h (put a v u) f)
+    (λ u. Truth-decided h (put a v u) f) h.individuals
+Truth-decided h a (FForall v f) = forall-decided (λ u. Truth h (put a v u) f)
+    (λ u. Truth-decided h (put a v u) f) h.individuals
 Truth-decided h a (FClosure from to left right f) =
     let R : ℕ → ℕ → Type 0 = ClosureEdge h a left right f
-    in let edge : (u w : ℕ) → IsDecided (R u w) = λ u w. edge-decided h u w (Truth h (put (put a left u) right w) f) (Truth-decided h (put (put a left u) right w) f)
+    in let edge : (u w : ℕ) → IsDecided (R u w) = λ u w. edge-decided h u w (Truth h (put (put a left u) right w) f)
+    (Truth-decided h (put (put a left u) right w) f)
     in same-decided (Reaches R h.individuals (a from) (a to)) (Walks R (a from) (a to))
     (Walks-from_Reaches R h.individuals (a from) (a to))
     (Reaches-from_Walks R h.individuals (λ u w e. e.1) (a from) (a to))

@@ -34,7 +34,8 @@ pred-found (y ∷ preds) (suc q) x below = pred-found preds q x (omega (arith, b
 pub preds-none : (P : ℕ → PredForm → Type 0) (preds : List Pred) → FirstPreds P preds 0
 preds-none P preds k d below = absurd (omega (arith, below))
 
-pub preds-more : (P : ℕ → PredForm → Type 0) (preds : List Pred) (i : ℕ) (x : Pred) → i < length preds → x ≡ get_or preds i x
+pub preds-more : (P : ℕ → PredForm → Type 0) (preds : List Pred) (i : ℕ) (x : Pred) → i < length preds
+    → x ≡ get_or preds i x
     → FirstPreds P preds i → IsTrue true ↔ P i (pred_of x) → FirstPreds P preds (i + 1)
 preds-more P preds i x below is before passes k d less = go (split_last k i less)
   where
@@ -48,7 +49,8 @@ preds-more P preds i x below is before passes k d less = go (split_last k i less
         in let Place : ℕ → Type 0 = λ n. P n (pred_of (get_or preds n d))
         in subst Place e (subst At (is ∙ get_or_default preds i x d below) (passes.0 refl))
 
-pub preds-false : (P : ℕ → PredForm → Type 0) (preds : List Pred) (i : ℕ) (x : Pred) → i < length preds → x ≡ get_or preds i x
+pub preds-false : (P : ℕ → PredForm → Type 0) (preds : List Pred) (i : ℕ) (x : Pred) → i < length preds
+    → x ≡ get_or preds i x
     → IsTrue false ↔ P i (pred_of x) → IsTrue false ↔ EachPred (map pred_of preds) P
 preds-false P preds i x below is fails =
     let At : Pred → Type 0 = λ y. P i (pred_of y)

@@ -17,7 +17,8 @@ pub every-false : {X : Type 0} (P : X → Type 0) (xs : List X) (i : ℕ) (x : X
 every-false P xs i x below is fails =
     (λ f. absurd (false≢true f), λ all. fails.1 (subst P (sym is) (All-get_or P xs i x below all)))
 
-pub every-true : {X : Type 0} (P : X → Type 0) (xs : List X) (i : ℕ) → length xs ≤ i → AllWithin P xs 0 i → IsTrue true ↔ All P xs
+pub every-true : {X : Type 0} (P : X → Type 0) (xs : List X) (i : ℕ) → length xs ≤ i → AllWithin P xs 0 i
+    → IsTrue true ↔ All P xs
 every-true P xs i done before =
     (λ t. All-from_all_within P xs (λ k d low below. before k d low (omega (arith, done, below))), λ all. refl)
 

@@ -34,7 +34,8 @@ flat_map-take_more f (x ∷ xs) zero d below = append-nil (f x)
 flat_map-take_more {X} {A} f (x ∷ xs) (suc i) d below =
     let ih : flat_map f (take (suc i) xs) ≡ flat_map f (take i xs) ++ f (get_or xs i d) =
     rw (add-one i) at (flat_map-take_more f xs i d (omega (arith, below)))
-    in rw (add-one (suc i)) (ap (λ ys. f x ++ ys) ih ∙ sym (append_assoc (f x) (flat_map f (take i xs)) (f (get_or xs i d))))
+    in rw (add-one (suc i)) (ap (λ ys. f x ++ ys) ih
+    ∙ sym (append_assoc (f x) (flat_map f (take i xs)) (f (get_or xs i d))))
 
 -- a list that isn't empty is its first element and the rest
 pub first-and-rest : (xs : List ℕ) → 1 ≤ length xs → slice_index xs 0 ∷ take (length xs - 1) (drop 1 xs) ≡ xs

@@ -9,7 +9,8 @@ use Rattle.tv_model.specs.Rules.{MeetsRule, declared_rule, property_rules, uniqu
 
 pub All-left : {X : Type 0} (P : X → Type 0) (xs ys : List X) → All P (xs ++ ys) → All P xs
 All-left P [] ys all = All-nil P
-All-left P (x ∷ xs) ys all = All-cons P x xs (All-head P x (xs ++ ys) all) (All-left P xs ys (All-tail P x (xs ++ ys) all))
+All-left P (x ∷ xs) ys all = All-cons P x xs (All-head P x (xs ++ ys) all)
+    (All-left P xs ys (All-tail P x (xs ++ ys) all))
 
 pub All-right : {X : Type 0} (P : X → Type 0) (xs ys : List X) → All P (xs ++ ys) → All P ys
 All-right P [] ys all = all
@@ -81,9 +82,12 @@ result-answer Q A to back (Ok b) answer = answer-of Q A b to back answer
 result-answer Q A to back (Err e) answer = answer
 
 -- the rule alone, where its property is declared
-pub declared-answer : {E : Type 0} (h : Heap) (rule : RuleForm) (declared : Bool) → declared ≡ true → (result : Result Bool E)
-    → IfOk result (λ b. IsTrue b ↔ MeetsRule h rule) → IfOk result (λ b. IsTrue b ↔ All (MeetsRule h) (declared_rule declared rule))
+pub declared-answer : {E : Type 0} (h : Heap) (rule : RuleForm) (declared : Bool) → declared ≡ true
+    → (result : Result Bool E)
+    → IfOk result (λ b. IsTrue b ↔ MeetsRule h rule)
+    → IfOk result (λ b. IsTrue b ↔ All (MeetsRule h) (declared_rule declared rule))
 declared-answer {E} h rule declared is result answer =
     let Of : Bool → Type 0 = λ d. IfOk result (λ b. IsTrue b ↔ All (MeetsRule h) (declared_rule d rule))
     in subst Of (sym is) (result-answer (MeetsRule h rule) (All (MeetsRule h) (rule ∷ []))
-    (λ m. All-cons (MeetsRule h) rule [] m (All-nil (MeetsRule h))) (λ all. All-head (MeetsRule h) rule [] all) result answer)
+    (λ m. All-cons (MeetsRule h) rule [] m (All-nil (MeetsRule h)))
+    (λ all. All-head (MeetsRule h) rule [] all) result answer)

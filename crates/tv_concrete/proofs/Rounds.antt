@@ -34,7 +34,8 @@ answer-given P (inr n) p = absurd (n p)
 abbrev pub extent_by : Heap → ℕ → (arity : ℕ) → KindForm → List (List ℕ)
 extent_by h q n KCore = extent h q
 extent_by h q n (KDefined vars body) =
-    filter (λ us. answer_of (Truth h (put_all blank vars us) body) (Truth-decided h (put_all blank vars us) body)) (tuples_of h.individuals n)
+    filter (λ us. answer_of (Truth h (put_all blank vars us) body) (Truth-decided h (put_all blank vars us) body))
+    (tuples_of h.individuals n)
 
 abbrev pub new_extents : Heap → ℕ → List PredForm → List (List (List ℕ))
 new_extents h q [] = []
@@ -74,7 +75,8 @@ pub refreshed-defined : (p : ProgramForm) (h : Heap) (q : ℕ) (d : PredForm) �
     → (vars : List ℕ) (body : Form) → d.kind ≡ KDefined vars body → (us : List ℕ)
     → Holds (refresh p h) q us ↔ (IsTuple h d.arity us × Truth h (put_all blank vars us) body)
 refreshed-defined p h q d found vars body defined us =
-    let test : List ℕ → Bool = λ ts. answer_of (Truth h (put_all blank vars ts) body) (Truth-decided h (put_all blank vars ts) body)
+    let test : List ℕ → Bool = λ ts. answer_of (Truth h (put_all blank vars ts) body)
+    (Truth-decided h (put_all blank vars ts) body)
     in let is : extent (refresh p h) q ≡ filter test (tuples_of h.individuals d.arity) =
     extent-refreshed p h q d found ∙ ap (λ kind. extent_by h q d.arity kind) defined
     in let In : List (List ℕ) → Type 0 = λ ts. Contains ts us
@@ -82,7 +84,11 @@ refreshed-defined p h q d found vars body defined us =
       λ at.
           let kept : Contains (tuples_of h.individuals d.arity) us × (test us ≡ true) =
           Contains-filter_back test (tuples_of h.individuals d.arity) us (subst In is at)
-          in (tuple-fits h.individuals d.arity us kept.0, answer-right (Truth h (put_all blank vars us) body) (Truth-decided h (put_all blank vars us) body) kept.1),
+          in (
+            tuple-fits h.individuals d.arity us kept.0,
+            answer-right (Truth h (put_all blank vars us) body)
+                (Truth-decided h (put_all blank vars us) body) kept.1,
+          ),
       λ both. subst In (sym is) (Contains-filter test (tuples_of h.individuals d.arity) us
           (tuple-found h.individuals d.arity us both.0.0 both.0.1)
           (answer-given (Truth h (put_all blank vars us) body) (Truth-decided h (put_all blank vars us) body) both.1)),
@@ -97,7 +103,8 @@ refreshed-heap p h is = record {
 }
   where
     by_kind : (q : ℕ) (d : PredForm) → slice_get p.preds q ≡ Some d
-        → (d.kind ≡ KCore) ⊎ ((vars : List ℕ) × (body : Form) × (d.kind ≡ KDefined vars body)) → All (IsTuple h d.arity) (extent (refresh p h) q)
+        → (d.kind ≡ KCore) ⊎ ((vars : List ℕ) × (body : Form) × (d.kind ≡ KDefined vars body))
+        → All (IsTuple h d.arity) (extent (refresh p h) q)
     by_kind q d found (inl core) =
         let Of : List (List ℕ) → Type 0 = λ ts. All (IsTuple h d.arity) ts
         in subst Of (sym (refreshed-core p h q d found core)) (is.tuples_fit q d found)
@@ -123,9 +130,14 @@ rounds-same p h (suc n) =
     in record {
       individuals = before.individuals;
       core = λ q d found core us.
-          let is : extent (refresh p (rounds p h n)) q ≡ extent (rounds p h n) q = refreshed-core p (rounds p h n) q d found core
+          let is : extent (refresh p (rounds p h n)) q ≡ extent (rounds p h n) q = refreshed-core p
+          (rounds p h n) q d found core
           in let In : List (List ℕ) → Type 0 = λ ts. Contains ts us
-          in (λ t. subst In (sym is) ((before.core q d found core us).0 t), λ t. (before.core q d found core us).1 (subst In is t));
+          in (
+            λ t. subst In (sym is) ((before.core q d found core us).0 t),
+            λ t. (before.core q d found core us).1
+                (subst In is t),
+          );
     }
 
 -- one more round looks alike to a formula if the predicates that it mentions stay
@@ -135,7 +147,8 @@ next-alike : (p : ProgramForm) (h : Heap) (n : ℕ) (f : Form)
 next-alike p h n f stays = record { individuals = λ u. (λ t. t, λ t. t); holds = stays; marks = λ named. refl }
 
 -- after n rounds the predicates of rank below n stay
-pub rounds-stable : (p : ProgramForm) (rank : ℕ → ℕ) → IsRank p rank → (h : Heap) → IsHeap p h → (n q : ℕ) → rank q < n → (us : List ℕ)
+pub rounds-stable : (p : ProgramForm) (rank : ℕ → ℕ) → IsRank p rank → (h : Heap) → IsHeap p h → (n q : ℕ)
+    → rank q < n → (us : List ℕ)
     → Holds (rounds p h (suc n)) q us ↔ Holds (rounds p h n) q us
 rounds-stable p rank ranks h is zero q below us = absurd (omega (arith, below))
 rounds-stable p rank ranks h is (suc n) q below us =
@@ -148,20 +161,28 @@ rounds-stable p rank ranks h is (suc n) q below us =
     (pred-cases p q)
   where
     by_kind : ((r : ℕ) → rank r < n → (ts : List ℕ) → Holds (rounds p h (suc n)) r ts ↔ Holds (rounds p h n) r ts)
-        → (d : PredForm) → slice_get p.preds q ≡ Some d → (d.kind ≡ KCore) ⊎ ((vars : List ℕ) × (body : Form) × (d.kind ≡ KDefined vars body))
+        → (d : PredForm) → slice_get p.preds q ≡ Some d → (d.kind ≡ KCore)
+        ⊎ ((vars : List ℕ) × (body : Form) × (d.kind ≡ KDefined vars body))
         → Holds (rounds p h (suc (suc n))) q us ↔ Holds (rounds p h (suc n)) q us
     by_kind earlier d found (inl core) =
-        let is_one : extent (refresh p (rounds p h (suc n))) q ≡ extent (rounds p h (suc n)) q = refreshed-core p (rounds p h (suc n)) q d found core
+        let is_one : extent (refresh p (rounds p h (suc n))) q ≡ extent (rounds p h (suc n)) q = refreshed-core p
+        (rounds p h (suc n)) q d found core
         in let In : List (List ℕ) → Type 0 = λ ts. Contains ts us
         in (λ t. subst In is_one t, λ t. subst In (sym is_one) t)
     by_kind earlier d found (inr defined) =
-        let later : Holds (rounds p h (suc (suc n))) q us ↔ (IsTuple (rounds p h (suc n)) d.arity us × Truth (rounds p h (suc n)) (put_all blank defined.0 us) defined.1) =
+        let later : Holds (rounds p h (suc (suc n))) q us
+        ↔ (IsTuple (rounds p h (suc n)) d.arity us
+        × Truth (rounds p h (suc n)) (put_all blank defined.0 us) defined.1) =
         refreshed-defined p (rounds p h (suc n)) q d found defined.0 defined.1 defined.2 us
-        in let before : Holds (rounds p h (suc n)) q us ↔ (IsTuple (rounds p h n) d.arity us × Truth (rounds p h n) (put_all blank defined.0 us) defined.1) =
+        in let before : Holds (rounds p h (suc n)) q us
+        ↔ (IsTuple (rounds p h n) d.arity us × Truth (rounds p h n) (put_all blank defined.0 us) defined.1) =
         refreshed-defined p (rounds p h n) q d found defined.0 defined.1 defined.2 us
-        in let less : (r : ℕ) → Mentions r defined.1 → rank r < n = λ r m. omega (arith, below, ranks.falls q d found defined.0 defined.1 defined.2 r m)
-        in let same : Truth (rounds p h (suc n)) (put_all blank defined.0 us) defined.1 ↔ Truth (rounds p h n) (put_all blank defined.0 us) defined.1 =
-        Truth-local defined.1 (rounds p h (suc n)) (rounds p h n) (put_all blank defined.0 us) (put_all blank defined.0 us)
+        in let less : (r : ℕ) → Mentions r defined.1
+        → rank r < n = λ r m. omega (arith, below, ranks.falls q d found defined.0 defined.1 defined.2 r m)
+        in let same : Truth (rounds p h (suc n)) (put_all blank defined.0 us) defined.1
+        ↔ Truth (rounds p h n) (put_all blank defined.0 us) defined.1 =
+        Truth-local defined.1 (rounds p h (suc n)) (rounds p h n) (put_all blank defined.0 us)
+        (put_all blank defined.0 us)
         (next-alike p h n defined.1 (λ r m ts. earlier r (less r m) ts)) (λ v m. refl)
         in (λ t. before.1 ((later.0 t).0, same.0 (later.0 t).1), λ t. later.1 ((before.0 t).0, same.1 (before.0 t).1))
 
@@ -175,10 +196,12 @@ below-bound rank zero q below = absurd (omega (arith, below))
 below-bound rank (suc n) q below =
     ⊎_elim
     (λ less. let ih : rank q < rank_bound rank n = below-bound rank n q less in omega (arith, ih))
-    (λ above. let e : q ≡ n = omega (arith, below, above) in let Of : ℕ → Type 0 = λ r. rank r < max (rank_bound rank n) (suc (rank n)) in subst Of (sym e) (omega arith))
+    (λ above. let e : q ≡ n = omega (arith, below, above)
+    in let Of : ℕ → Type 0 = λ r. rank r < max (rank_bound rank n) (suc (rank n)) in subst Of (sym e) (omega arith))
     (cases_lt q n)
 
-pub concrete-exists : (p : ProgramForm) → IsValid p → (h : Heap) → IsHeap p h → (k : Heap) × IsHeap p k × IsConcrete p k × SameCore p h k
+pub concrete-exists : (p : ProgramForm) → IsValid p → (h : Heap) → IsHeap p h → (k : Heap) × IsHeap p k
+    × IsConcrete p k × SameCore p h k
 concrete-exists p valid h is = (
   rounds p h (suc (rank_bound valid.rank (length p.preds))),
   rounds-heap p h is (suc (rank_bound valid.rank (length p.preds))),
@@ -186,30 +209,39 @@ concrete-exists p valid h is = (
   rounds-same p h (suc (rank_bound valid.rank (length p.preds))),
 )
   where
-    stays : (r : ℕ) (us : List ℕ) → Holds (rounds p h (suc (rank_bound valid.rank (length p.preds)))) r us ↔ Holds (rounds p h (rank_bound valid.rank (length p.preds))) r us
+    stays : (r : ℕ) (us : List ℕ) → Holds (rounds p h (suc (rank_bound valid.rank (length p.preds)))) r us
+        ↔ Holds (rounds p h (rank_bound valid.rank (length p.preds))) r us
     stays r us =
         ⊎_elim
-        (λ less. rounds-stable p valid.rank valid.no_cycle h is (rank_bound valid.rank (length p.preds)) r (below-bound valid.rank (length p.preds) r less) us)
+        (λ less. rounds-stable p valid.rank valid.no_cycle h is (rank_bound valid.rank (length p.preds)) r
+        (below-bound valid.rank (length p.preds) r less) us)
         (λ past.
         let none : slice_get p.preds r ≡ None = slice_get-past p.preds r past
         in (
-          λ t. absurd (holds-nothing p (rounds p h (suc (rank_bound valid.rank (length p.preds)))) (rounds-heap p h is (suc (rank_bound valid.rank (length p.preds)))) r us none t),
-          λ t. absurd (holds-nothing p (rounds p h (rank_bound valid.rank (length p.preds))) (rounds-heap p h is (rank_bound valid.rank (length p.preds))) r us none t),
+          λ t. absurd (holds-nothing p (rounds p h (suc (rank_bound valid.rank (length p.preds))))
+              (rounds-heap p h is (suc (rank_bound valid.rank (length p.preds)))) r us none t),
+          λ t. absurd (holds-nothing p (rounds p h (rank_bound valid.rank (length p.preds)))
+              (rounds-heap p h is (rank_bound valid.rank (length p.preds))) r us none t),
         ))
         (cases_lt r (length p.preds))
 
-    by_kind : (q : ℕ) (d : PredForm) → slice_get p.preds q ≡ Some d → (us : List ℕ) → IsTuple (rounds p h (suc (rank_bound valid.rank (length p.preds)))) d.arity us
+    by_kind : (q : ℕ) (d : PredForm) → slice_get p.preds q ≡ Some d → (us : List ℕ)
+        → IsTuple (rounds p h (suc (rank_bound valid.rank (length p.preds)))) d.arity us
         → (d.kind ≡ KCore) ⊎ ((vars : List ℕ) × (body : Form) × (d.kind ≡ KDefined vars body))
         → MeetsDefinition (rounds p h (suc (rank_bound valid.rank (length p.preds)))) q d.kind us
     by_kind q d found us fits (inl core) =
-        let Of : KindForm → Type 0 = λ kind. MeetsDefinition (rounds p h (suc (rank_bound valid.rank (length p.preds)))) q kind us
+        let Of : KindForm → Type 0 = λ kind. MeetsDefinition
+        (rounds p h (suc (rank_bound valid.rank (length p.preds)))) q kind us
         in subst Of (sym core) tt
     by_kind q d found us fits (inr defined) =
         let n : ℕ = rank_bound valid.rank (length p.preds)
         in let Of : KindForm → Type 0 = λ kind. MeetsDefinition (rounds p h (suc n)) q kind us
-        in let later : Holds (rounds p h (suc n)) q us ↔ (IsTuple (rounds p h n) d.arity us × Truth (rounds p h n) (put_all blank defined.0 us) defined.1) =
+        in let later : Holds (rounds p h (suc n)) q us
+        ↔ (IsTuple (rounds p h n) d.arity us × Truth (rounds p h n) (put_all blank defined.0 us) defined.1) =
         refreshed-defined p (rounds p h n) q d found defined.0 defined.1 defined.2 us
-        in let same : Truth (rounds p h (suc n)) (put_all blank defined.0 us) defined.1 ↔ Truth (rounds p h n) (put_all blank defined.0 us) defined.1 =
-        Truth-local defined.1 (rounds p h (suc n)) (rounds p h n) (put_all blank defined.0 us) (put_all blank defined.0 us)
+        in let same : Truth (rounds p h (suc n)) (put_all blank defined.0 us) defined.1
+        ↔ Truth (rounds p h n) (put_all blank defined.0 us) defined.1 =
+        Truth-local defined.1 (rounds p h (suc n)) (rounds p h n) (put_all blank defined.0 us)
+        (put_all blank defined.0 us)
         (next-alike p h n defined.1 (λ r m ts. stays r ts)) (λ v m. refl)
         in subst Of (sym defined.2) (λ t. same.1 (later.0 t).1, λ t. later.1 (fits, same.0 t))

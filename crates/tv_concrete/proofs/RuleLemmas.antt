@@ -28,16 +28,19 @@ RuleTruth-local h rule a b agrees t body =
     (t ((truth-agreed h a b rule.body (λ v at. agrees v (inl at))).1 body))
 
 -- what is true however individuals are put is true at an assignment of individuals, up to other variables
-pub EachPut-at : (h : Heap) (vars : List ℕ) (a b : Assignment) (P : Assignment → Type 0) → ((v : ℕ) → Contains vars v → Contains h.individuals (b v))
+pub EachPut-at : (h : Heap) (vars : List ℕ) (a b : Assignment) (P : Assignment → Type 0)
+    → ((v : ℕ) → Contains vars v → Contains h.individuals (b v))
     → EachPut h vars a P
     → (c : Assignment) × P c × ((v : ℕ) → Contains vars v ⊎ (a v ≡ b v) → c v ≡ b v)
 EachPut-at h [] a b P given each = (a, each, λ v. ⊎_elim (λ at. absurd (Contains-none v at)) (λ e. e))
 EachPut-at h (v ∷ vars) a b P given each =
     let rest : (c : Assignment) × P c × ((w : ℕ) → Contains vars w ⊎ (put a v (b v) w ≡ b w) → c w ≡ b w) =
-    EachPut-at h vars (put a v (b v)) b P (λ w at. given w (Contains-there v w vars at)) (each (b v) (given v (Contains-here v vars)))
+    EachPut-at h vars (put a v (b v)) b P (λ w at. given w (Contains-there v w vars at))
+    (each (b v) (given v (Contains-here v vars)))
     in (rest.0, rest.1, λ w which. rest.2 w (moved w which (cases_eq w v)))
   where
-    moved : (w : ℕ) → Contains (v ∷ vars) w ⊎ (a w ≡ b w) → (w ≡ v) ⊎ (w ≡ v → ⊥) → Contains vars w ⊎ (put a v (b v) w ≡ b w)
+    moved : (w : ℕ) → Contains (v ∷ vars) w ⊎ (a w ≡ b w) → (w ≡ v) ⊎ (w ≡ v → ⊥) → Contains vars w
+        ⊎ (put a v (b v) w ≡ b w)
     moved w which (inl e) = inr (put-same a v (b v) w e ∙ ap b (sym e))
     moved w (inl at) (inr ne) =
         ⊎_elim (λ e. absurd (ne (sym e))) (λ there. inl there) (Contains-cases v w vars at)
@@ -47,18 +50,24 @@ EachPut-at h (v ∷ vars) a b P given each =
 pub EachPut-from : (h : Heap) (rule : RuleForm) (vars : List ℕ) (a : Assignment) → MeetsRule h rule
     → ((v : ℕ) → IsFreeInRule v rule → Contains vars v ⊎ Contains h.individuals (a v))
     → EachPut h vars a (RuleTruth h rule)
-EachPut-from h rule [] a meets given = meets a (λ v at. ⊎_elim (λ none. absurd (Contains-none v none)) (λ x. x) (given v at))
+EachPut-from h rule [] a meets given = meets a
+    (λ v at. ⊎_elim (λ none. absurd (Contains-none v none)) (λ x. x) (given v at))
 EachPut-from h rule (v ∷ vars) a meets given =
     λ u is_one. EachPut-from h rule vars (put a v u) meets (λ w at. moved u is_one w (given w at) (cases_eq w v))
   where
-    moved : (u : ℕ) → Contains h.individuals u → (w : ℕ) → Contains (v ∷ vars) w ⊎ Contains h.individuals (a w) → (w ≡ v) ⊎ (w ≡ v → ⊥)
+    moved : (u : ℕ) → Contains h.individuals u → (w : ℕ) → Contains (v ∷ vars) w ⊎ Contains h.individuals (a w)
+        → (w ≡ v) ⊎ (w ≡ v → ⊥)
         → Contains vars w ⊎ Contains h.individuals (put a v u w)
-    moved u is_one w which (inl e) = let In : ℕ → Type 0 = λ x. Contains h.individuals x in inr (subst In (sym (put-same a v u w e)) is_one)
-    moved u is_one w (inl at) (inr ne) = ⊎_elim (λ e. absurd (ne (sym e))) (λ there. inl there) (Contains-cases v w vars at)
-    moved u is_one w (inr at) (inr ne) = let In : ℕ → Type 0 = λ x. Contains h.individuals x in inr (subst In (sym (put-other a v u w ne)) at)
+    moved u is_one w which (inl e) = let In : ℕ → Type 0 = λ x. Contains h.individuals x
+        in inr (subst In (sym (put-same a v u w e)) is_one)
+    moved u is_one w (inl at) (inr ne) = ⊎_elim (λ e. absurd (ne (sym e))) (λ there. inl there)
+        (Contains-cases v w vars at)
+    moved u is_one w (inr at) (inr ne) = let In : ℕ → Type 0 = λ x. Contains h.individuals x
+        in inr (subst In (sym (put-other a v u w ne)) at)
 
 -- an answer on all choices for the free variables answers the rule
-pub rule-answer : (h : Heap) (rule : RuleForm) (vars : List ℕ) (b : Bool) → ((v : ℕ) → Contains vars v ↔ IsFreeInRule v rule)
+pub rule-answer : (h : Heap) (rule : RuleForm) (vars : List ℕ) (b : Bool)
+    → ((v : ℕ) → Contains vars v ↔ IsFreeInRule v rule)
     → IsTrue b ↔ EachPut h vars blank (RuleTruth h rule) → IsTrue b ↔ MeetsRule h rule
 rule-answer h rule vars b free answer = (
   λ t a given.
@@ -82,14 +91,19 @@ IsFree-stands v (FAtom q vars) at = at
 IsFree-stands v (FIsNew w) at = here1 v w at
 IsFree-stands v (FSame w u) at = ⊎_elim (λ e. here2 v w u e) (λ e. Contains-there w v (u ∷ []) (here1 v u e)) at
 IsFree-stands v (FNot f) at = IsFree-stands v f at
-IsFree-stands v (FAnd f g) at = ⊎_elim (λ l. Contains-append_left (variables_in f) (variables_in g) v (IsFree-stands v f l)) (λ r. Contains-append_right (variables_in f) (variables_in g) v (IsFree-stands v g r)) at
-IsFree-stands v (FOr f g) at = ⊎_elim (λ l. Contains-append_left (variables_in f) (variables_in g) v (IsFree-stands v f l)) (λ r. Contains-append_right (variables_in f) (variables_in g) v (IsFree-stands v g r)) at
-IsFree-stands v (FIff f g) at = ⊎_elim (λ l. Contains-append_left (variables_in f) (variables_in g) v (IsFree-stands v f l)) (λ r. Contains-append_right (variables_in f) (variables_in g) v (IsFree-stands v g r)) at
+IsFree-stands v (FAnd f g) at = ⊎_elim (λ l. Contains-append_left (variables_in f) (variables_in g) v
+    (IsFree-stands v f l)) (λ r. Contains-append_right (variables_in f) (variables_in g) v (IsFree-stands v g r)) at
+IsFree-stands v (FOr f g) at = ⊎_elim (λ l. Contains-append_left (variables_in f) (variables_in g) v
+    (IsFree-stands v f l)) (λ r. Contains-append_right (variables_in f) (variables_in g) v (IsFree-stands v g r)) at
+IsFree-stands v (FIff f g) at = ⊎_elim (λ l. Contains-append_left (variables_in f) (variables_in g) v
+    (IsFree-stands v f l)) (λ r. Contains-append_right (variables_in f) (variables_in g) v (IsFree-stands v g r)) at
 IsFree-stands v (FCond c f g) at =
     ⊎_elim
-    (λ l. Contains-append_left (variables_in c ++ variables_in f) (variables_in g) v (Contains-append_left (variables_in c) (variables_in f) v (IsFree-stands v c l)))
+    (λ l. Contains-append_left (variables_in c ++ variables_in f) (variables_in g) v
+    (Contains-append_left (variables_in c) (variables_in f) v (IsFree-stands v c l)))
     (λ r. ⊎_elim
-    (λ m. Contains-append_left (variables_in c ++ variables_in f) (variables_in g) v (Contains-append_right (variables_in c) (variables_in f) v (IsFree-stands v f m)))
+    (λ m. Contains-append_left (variables_in c ++ variables_in f) (variables_in g) v
+    (Contains-append_right (variables_in c) (variables_in f) v (IsFree-stands v f m)))
     (λ n. Contains-append_right (variables_in c ++ variables_in f) (variables_in g) v (IsFree-stands v g n)) r)
     at
 IsFree-stands v (FExists w f) at = IsFree-stands v f at.1
@@ -118,8 +132,10 @@ free-of_all rule all vars is free v =
       λ at. (free v).1 (
         subst In (sym is)
             (⊎_elim
-            (λ b. Contains-append_left (variables_in rule.body) (head_variables rule.head) v (IsFree-stands v rule.body b))
-            (λ d. Contains-append_right (variables_in rule.body) (head_variables rule.head) v (IsInHead-stands v rule.head d)) at),
+            (λ b. Contains-append_left (variables_in rule.body) (head_variables rule.head) v
+            (IsFree-stands v rule.body b))
+            (λ d. Contains-append_right (variables_in rule.body) (head_variables rule.head) v
+            (IsInHead-stands v rule.head d)) at),
         at,
       ),
     )
@@ -136,13 +152,16 @@ Contains-take_more (x ∷ xs) zero w below = (
   λ which. ⊎_elim (λ none. absurd (Contains-none w none)) (λ e. here1 w x e) which,
 )
 Contains-take_more (x ∷ xs) (suc i) w below =
-    let ih : Contains (take (suc i) xs) w ↔ (Contains (take i xs) w ⊎ (w ≡ get_or xs i 0)) = rw (add-one i) at (Contains-take_more xs i w (omega (arith, below)))
+    let ih : Contains (take (suc i) xs) w ↔ (Contains (take i xs) w ⊎ (w ≡ get_or xs i 0)) = rw (add-one i) at
+    (Contains-take_more xs i w (omega (arith, below)))
     in let In : ℕ → Type 0 = λ z. Contains (x ∷ take i xs) z
     in rw (add-one (suc i)) (
       λ at. ⊎_elim (λ e. inl (subst In e (Contains-here x (take i xs))))
-          (λ there. ⊎_elim (λ l. inl (Contains-there x w (take i xs) l)) (λ e. inr e) (ih.0 there)) (Contains-cases x w (take (suc i) xs) at),
+          (λ there. ⊎_elim (λ l. inl (Contains-there x w (take i xs) l)) (λ e. inr e) (ih.0 there))
+          (Contains-cases x w (take (suc i) xs) at),
       λ which. ⊎_elim
-          (λ at. ⊎_elim (λ e. front x w (take (suc i) xs) e) (λ there. Contains-there x w (take (suc i) xs) (ih.1 (inl there))) (Contains-cases x w (take i xs) at))
+          (λ at. ⊎_elim (λ e. front x w (take (suc i) xs) e)
+          (λ there. Contains-there x w (take (suc i) xs) (ih.1 (inl there))) (Contains-cases x w (take i xs) at))
           (λ e. Contains-there x w (take (suc i) xs) (ih.1 (inr e))) which,
     )
 
@@ -152,7 +171,8 @@ pub free-more : (F : ℕ → Type 0) (all : List ℕ) (i : ℕ) (old new : List 
     → ((w : ℕ) → Contains new w ↔ (Contains old w ⊎ ((w ≡ get_or all i 0) × F w)))
     → (w : ℕ) → Contains new w ↔ (Contains (take (i + 1) all) w × F w)
 free-more F all i old new below before noted w =
-    let more : Contains (take (i + 1) all) w ↔ (Contains (take i all) w ⊎ (w ≡ get_or all i 0)) = Contains-take_more all i w below
+    let more : Contains (take (i + 1) all) w ↔
+    (Contains (take i all) w ⊎ (w ≡ get_or all i 0)) = Contains-take_more all i w below
     in (
       λ at. ⊎_elim
           (λ l. let was : Contains (take i all) w × F w = (before w).0 l in (more.1 (inl was.0), was.1))
@@ -169,7 +189,8 @@ free-all F all i vars done before w =
     in subst Of (take_all i all done) (before w)
 
 -- the same of an answer that may be want of memory
-pub free-of_result : {E : Type 0} (rule : RuleForm) (all : List ℕ) → all ≡ variables_in rule.body ++ head_variables rule.head
+pub free-of_result : {E : Type 0} (rule : RuleForm) (all : List ℕ)
+    → all ≡ variables_in rule.body ++ head_variables rule.head
     → (result : Result (List ℕ) E)
     → IfOk result (λ vars. (v : ℕ) → Contains vars v ↔ (Contains all v × IsFreeInRule v rule))
     → IfOk result (λ vars. (v : ℕ) → Contains vars v ↔ IsFreeInRule v rule)

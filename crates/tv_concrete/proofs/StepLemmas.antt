@@ -19,11 +19,13 @@ update-first q [] i x below is before here = absurd (omega (arith, below))
 update-first q (u ∷ updates) zero x below is before here =
     let same : u.pred.0 ≡ q = ap (λ y. y.pred.0) (sym is) ∙ here
     in ap (λ y. Some (update_of y)) is
-    ∙ sym (cond-true (eqb u.pred.0 q) (Some (update_of u)) (update_for q (map update_of updates)) (eq-eqb u.pred.0 q same))
+    ∙ sym (cond-true (eqb u.pred.0 q) (Some (update_of u)) (update_for q (map update_of updates))
+    (eq-eqb u.pred.0 q same))
 update-first q (u ∷ updates) (suc i) x below is before here =
     let other : u.pred.0 ≡ q → ⊥ = before 0 u (omega arith)
     in update-first q updates i x (omega (arith, below)) is (λ k d less. before (suc k) d (omega (arith, less))) here
-    ∙ sym (cond-false (eqb u.pred.0 q) (Some (update_of u)) (update_for q (map update_of updates)) (ne_eqb u.pred.0 q other))
+    ∙ sym (cond-false (eqb u.pred.0 q) (Some (update_of u)) (update_for q (map update_of updates))
+    (ne_eqb u.pred.0 q other))
 
 pub update-none : (q : ℕ) (updates : List Update) (i : ℕ) → length updates ≤ i → NoneOf q updates i
     → None ≡ update_for q (map update_of updates)
@@ -32,7 +34,8 @@ update-none q (u ∷ updates) zero done before = absurd (omega (arith, done))
 update-none q (u ∷ updates) (suc i) done before =
     let other : u.pred.0 ≡ q → ⊥ = before 0 u (omega arith)
     in update-none q updates i (omega (arith, done)) (λ k d less. before (suc k) d (omega (arith, less)))
-    ∙ sym (cond-false (eqb u.pred.0 q) (Some (update_of u)) (update_for q (map update_of updates)) (ne_eqb u.pred.0 q other))
+    ∙ sym (cond-false (eqb u.pred.0 q) (Some (update_of u)) (update_for q (map update_of updates))
+    (ne_eqb u.pred.0 q other))
 
 -- exactly the kept individuals, from both sides
 pub exactly-kept : (new middle : List ℕ) (keeps : ℕ → Type 0)
@@ -49,10 +52,12 @@ only-kept new middle keeps exact = All-from_contains (λ u. Contains middle u ×
 
 pub all-kept : (new middle : List ℕ) (keeps : ℕ → Type 0) → ((u : ℕ) → Contains new u ↔ (Contains middle u × keeps u))
     → All (λ u. keeps u → Contains new u) middle
-all-kept new middle keeps exact = All-from_contains (λ u. keeps u → Contains new u) middle (λ u at kept. (exact u).1 (at, kept))
+all-kept new middle keeps exact = All-from_contains (λ u. keeps u → Contains new u) middle
+    (λ u at kept. (exact u).1 (at, kept))
 
 -- an answer at the update that was found
-pub some-answer : {X : Type 0} (Q : X → Type 0) (x : X) (b : Bool) → IsTrue b ↔ Q x → IsTrue b ↔ ((w : X) → Some x ≡ Some w → Q w)
+pub some-answer : {X : Type 0} (Q : X → Type 0) (x : X) (b : Bool) → IsTrue b ↔ Q x → IsTrue b
+    ↔ ((w : X) → Some x ≡ Some w → Q w)
 some-answer {X} Q x b answer =
     (λ t w e. let Of : X → Type 0 = λ y. Q y in subst Of (some-same x w e) (answer.0 t), λ each. answer.1 (each x refl))
   where
@@ -60,14 +65,17 @@ some-answer {X} Q x b answer =
     some-same x w e = cc e
 
 -- an answer on the enumerated tuples at the update that was found is one on all tuples
-pub found-answer : (K : Type 0) (o : Option UpdateForm) (P : UpdateForm → List ℕ → Type 0) (xs : List ℕ) (n : ℕ) (all : List (List ℕ)) (b : Bool)
+pub found-answer : (K : Type 0) (o : Option UpdateForm) (P : UpdateForm → List ℕ → Type 0) (xs : List ℕ) (n : ℕ)
+    (all : List (List ℕ)) (b : Bool)
     → all ≡ tuples_of xs n → K → IsTrue b ↔ ((w : UpdateForm) → o ≡ Some w → All (P w) all)
     → IsTrue b ↔ (K → (w : UpdateForm) → o ≡ Some w → (us : List ℕ) → (length us ≡ n) × All (Contains xs) us → P w us)
 found-answer K o P xs n all b is k answer =
     let Of : UpdateForm → List (List ℕ) → Type 0 = λ w ts. All (P w) ts
     in (
-      λ t k w found us fits. All-contains (P w) (tuples_of xs n) us (subst (Of w) is (answer.0 t w found)) (tuple-found xs n us fits.0 fits.1),
-      λ each. answer.1 (λ w found. subst (Of w) (sym is) (All-from_contains (P w) (tuples_of xs n) (λ us at. each k w found us (tuple-fits xs n us at)))),
+      λ t k w found us fits. All-contains (P w) (tuples_of xs n) us (subst (Of w) is (answer.0 t w found))
+          (tuple-found xs n us fits.0 fits.1),
+      λ each. answer.1 (λ w found. subst (Of w) (sym is)
+          (All-from_contains (P w) (tuples_of xs n) (λ us at. each k w found us (tuple-fits xs n us at)))),
     )
 
 -- a test that answered false

@@ -4,10 +4,12 @@ use Rattle.std.proofs.lemmas.List.Elements.{All-nil, All-cons, All-head, All-tai
 use Rattle.tv_model.proofs.Lists.{Contains-here, Contains-cases, Contains-none, Contains-map, Contains-map_back, Contains-flat_map, Contains-flat_map_back, All-from_contains}
 use Rattle.tv_concrete.specs.Tuples.{tuples_of}
 
-pub tuple-fits : (xs : List ℕ) (n : ℕ) (us : List ℕ) → Contains (tuples_of xs n) us → (length us ≡ n) × All (Contains xs) us
+pub tuple-fits : (xs : List ℕ) (n : ℕ) (us : List ℕ) → Contains (tuples_of xs n) us → (length us ≡ n)
+    × All (Contains xs) us
 tuple-fits xs zero us at =
     ⊎_elim
-    (λ e. let Fits : List ℕ → Type 0 = λ vs. (length vs ≡ 0) × All (Contains xs) vs in subst Fits e (refl, All-nil (Contains xs)))
+    (λ e. let Fits : List ℕ → Type 0 = λ vs. (length vs ≡ 0) × All (Contains xs) vs
+    in subst Fits e (refl, All-nil (Contains xs)))
     (λ none. absurd (Contains-none us none))
     (Contains-cases [] us [] at)
 tuple-fits xs (suc n) us at =
@@ -18,7 +20,8 @@ tuple-fits xs (suc n) us at =
     in let Fits : List ℕ → Type 0 = λ vs. (length vs ≡ suc n) × All (Contains xs) vs
     in subst Fits front.2 (ap suc rest.0, All-cons (Contains xs) front.0 part.0 front.1 rest.1)
 
-pub tuple-found : (xs : List ℕ) (n : ℕ) (us : List ℕ) → length us ≡ n → All (Contains xs) us → Contains (tuples_of xs n) us
+pub tuple-found : (xs : List ℕ) (n : ℕ) (us : List ℕ) → length us ≡ n → All (Contains xs) us
+    → Contains (tuples_of xs n) us
 tuple-found xs zero [] long all = Contains-here [] []
 tuple-found xs zero (u ∷ us) long all = absurd (omega (arith, long))
 tuple-found xs (suc n) [] long all = absurd (omega (arith, long))

@@ -9,22 +9,31 @@ use Rattle.tv_concrete.proofs.fair.agree_all.Goals as goal
 
 pub returns-then-not-branch : goal.returns-then-not-branch
 returns-then-not-branch c =
-    let P : ℕ → PredForm → Type 0 = (λ q d. ¬ (d.kind ≡ KCore) → (w : UpdateForm) → update_for q (map update_of c.args.updates.now) ≡ Some w → (tuple : List ℕ) → IsTuple (heap_of c.args.new.now) d.arity tuple
-    → AllowsChange (heap_of c.args.middle.now) (assignment_of c.args.picked) w.vars w.change tuple (Holds (heap_of c.args.new.now) q tuple))
+    let P : ℕ → PredForm → Type 0 = (λ q d. ¬ (d.kind ≡ KCore) → (w : UpdateForm)
+    → update_for q (map update_of c.args.updates.now) ≡ Some w → (tuple : List ℕ)
+    → IsTuple (heap_of c.args.new.now) d.arity tuple
+    → AllowsChange (heap_of c.args.middle.now) (assignment_of c.args.picked) w.vars w.change tuple
+    (Holds (heap_of c.args.new.now) q tuple))
     in let Answer : Bool → Type 0 = λ b. IsTrue b ↔ P c.loop-q.q (pred_of c.index-preds-q.result)
     in preds-false P c.args.preds.now c.loop-q.q c.index-preds-q.result c.loop-q-test.true c.index-preds-q.is
     (subst Answer c.if-not-branch.true c.in_ok-agrees_one.ensures)
 
 pub loop-q-preserved : goal.loop-q-preserved
 loop-q-preserved c =
-    let P : ℕ → PredForm → Type 0 = (λ q d. ¬ (d.kind ≡ KCore) → (w : UpdateForm) → update_for q (map update_of c.args.updates.now) ≡ Some w → (tuple : List ℕ) → IsTuple (heap_of c.args.new.now) d.arity tuple
-    → AllowsChange (heap_of c.args.middle.now) (assignment_of c.args.picked) w.vars w.change tuple (Holds (heap_of c.args.new.now) q tuple))
+    let P : ℕ → PredForm → Type 0 = (λ q d. ¬ (d.kind ≡ KCore) → (w : UpdateForm)
+    → update_for q (map update_of c.args.updates.now) ≡ Some w → (tuple : List ℕ)
+    → IsTuple (heap_of c.args.new.now) d.arity tuple
+    → AllowsChange (heap_of c.args.middle.now) (assignment_of c.args.picked) w.vars w.change tuple
+    (Holds (heap_of c.args.new.now) q tuple))
     in let Answer : Bool → Type 0 = λ b. IsTrue b ↔ P c.loop-q.q (pred_of c.index-preds-q.result)
     in preds-more P c.args.preds.now c.loop-q.q c.index-preds-q.result c.loop-q-test.true c.index-preds-q.is c.loop-q.invariant
     (subst Answer c.if-not-branch.false c.in_ok-agrees_one.ensures)
 
 pub returns : goal.returns
 returns c =
-    let P : ℕ → PredForm → Type 0 = (λ q d. ¬ (d.kind ≡ KCore) → (w : UpdateForm) → update_for q (map update_of c.args.updates.now) ≡ Some w → (tuple : List ℕ) → IsTuple (heap_of c.args.new.now) d.arity tuple
-    → AllowsChange (heap_of c.args.middle.now) (assignment_of c.args.picked) w.vars w.change tuple (Holds (heap_of c.args.new.now) q tuple))
+    let P : ℕ → PredForm → Type 0 = (λ q d. ¬ (d.kind ≡ KCore) → (w : UpdateForm)
+    → update_for q (map update_of c.args.updates.now) ≡ Some w → (tuple : List ℕ)
+    → IsTuple (heap_of c.args.new.now) d.arity tuple
+    → AllowsChange (heap_of c.args.middle.now) (assignment_of c.args.picked) w.vars w.change tuple
+    (Holds (heap_of c.args.new.now) q tuple))
     in preds-true P c.args.preds.now c.loop-q.q c.loop-q-test.false c.loop-q.invariant

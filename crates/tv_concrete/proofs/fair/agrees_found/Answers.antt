@@ -9,5 +9,7 @@ use Rattle.tv_concrete.proofs.fair.agrees_found.Goals as goal
 
 pub returns-in-Some : goal.returns-in-Some
 returns-in-Some c =
-    let Q : UpdateForm → Type 0 = λ w. All (λ tuple. AllowsChange (heap_of c.args.middle.now) (assignment_of c.args.picked) w.vars w.change tuple (Holds (heap_of c.args.new.now) c.args.q tuple)) c.args.all.now
+    let Q : UpdateForm → Type 0 = λ w. All (λ tuple. AllowsChange (heap_of c.args.middle.now)
+    (assignment_of c.args.picked) w.vars w.change tuple
+    (Holds (heap_of c.args.new.now) c.args.q tuple)) c.args.all.now
     in rw c.in-Some.is (some-answer Q (update_of c.in-Some.update.now) c.allows_at_all.result c.allows_at_all.ensures)

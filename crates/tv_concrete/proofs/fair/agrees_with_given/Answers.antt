@@ -11,8 +11,12 @@ use Rattle.tv_concrete.proofs.fair.agrees_with_given.Goals as goal
 pub returns-in-Given : goal.returns-in-Given
 returns-in-Given c =
     let Agree : List Pred → List Update → Type 0 = λ preds updates. EachPred (map pred_of preds)
-    (λ q d. ¬ (d.kind ≡ KCore) → (w : UpdateForm) → update_for q (map update_of updates) ≡ Some w → (tuple : List ℕ) → IsTuple (heap_of c.args.new.now) d.arity tuple
-    → AllowsChange (heap_of c.args.middle.now) (assignment_of c.args.picked) w.vars w.change tuple (Holds (heap_of c.args.new.now) q tuple))
-    in let Of : List Pred → Type 0 = λ preds. IfOk c.agree_all.result (λ b. IsTrue b ↔ Agree preds c.as_slice.result.now)
-    in let With : List Update → Type 0 = λ updates. IfOk c.agree_all.result (λ b. IsTrue b ↔ Agree c.args.program.now.vocab.preds updates)
+    (λ q d. ¬ (d.kind ≡ KCore) → (w : UpdateForm) → update_for q (map update_of updates) ≡ Some w → (tuple : List ℕ)
+    → IsTuple (heap_of c.args.new.now) d.arity tuple
+    → AllowsChange (heap_of c.args.middle.now) (assignment_of c.args.picked) w.vars w.change tuple
+    (Holds (heap_of c.args.new.now) q tuple))
+    in let Of : List Pred → Type 0 = λ preds. IfOk c.agree_all.result
+    (λ b. IsTrue b ↔ Agree preds c.as_slice.result.now)
+    in let With : List Update → Type 0 = λ updates. IfOk c.agree_all.result
+    (λ b. IsTrue b ↔ Agree c.args.program.now.vocab.preds updates)
     in rw c.in-Given.is (subst With c.as_slice.ensures (subst Of c.as_slice-preds.ensures c.agree_all.ensures))

@@ -7,4 +7,5 @@ use Rattle.tv_concrete.specs.Lists.{assignment_of, heap_of}
 use Rattle.tv_concrete.proofs.fair.allows_at_all.Given as goal
 
 abbrev pub invariant-loop-tuple : goal.invariant-loop-tuple
-invariant-loop-tuple l = AllWithin (λ tuple. AllowsChange (heap_of l.middle) (assignment_of l.picked) (update_of l.update).vars (update_of l.update).change tuple (Holds (heap_of l.new) l.q tuple)) l.all 0 l.tuple-index
+invariant-loop-tuple l = AllWithin (λ tuple. AllowsChange (heap_of l.middle) (assignment_of l.picked)
+    (update_of l.update).vars (update_of l.update).change tuple (Holds (heap_of l.new) l.q tuple)) l.all 0 l.tuple-index

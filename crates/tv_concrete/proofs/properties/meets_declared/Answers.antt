@@ -6,4 +6,5 @@ use Rattle.tv_concrete.proofs.properties.meets_declared.Goals as goal
 
 pub returns-then-declared : goal.returns-then-declared
 returns-then-declared c =
-    declared-answer (heap_of c.args.heap.now) (rule_of c.args.rule.now) c.args.declared c.if-declared.true c.meets_rule.result c.meets_rule.ensures
+    declared-answer (heap_of c.args.heap.now)
+    (rule_of c.args.rule.now) c.args.declared c.if-declared.true c.meets_rule.result c.meets_rule.ensures

@@ -7,5 +7,6 @@ use Rattle.tv_concrete.proofs.properties.meets_symmetric.Goals as goal
 
 pub returns : goal.returns
 returns c =
-    let Of : RuleForm → Type 0 = λ rule. IfOk c.meets_declared.result (λ b. IsTrue b ↔ All (MeetsRule (heap_of c.args.heap.now)) (declared_rule c.args.declared rule))
+    let Of : RuleForm → Type 0 = λ rule. IfOk c.meets_declared.result
+    (λ b. IsTrue b ↔ All (MeetsRule (heap_of c.args.heap.now)) (declared_rule c.args.declared rule))
     in subst Of c.symmetric-rule.ensures c.meets_declared.ensures

@@ -18,4 +18,5 @@ decreases-meets_with l = 3 * length l.rest.now + 1
 abbrev pub invariant-meets_for_each_of-loop-u : goal.invariant-meets_for_each_of-loop-u
 invariant-meets_for_each_of-loop-u l =
     (k : ℕ) → k < l.u-index
-    → EachPut (heap_of l.heap) l.rest (put (assignment_of l.values) l.v.0 (get_or l.u-items k 0)) (RuleTruth (heap_of l.heap) (rule_of l.rule))
+    → EachPut (heap_of l.heap) l.rest (put (assignment_of l.values) l.v.0 (get_or l.u-items k 0))
+    (RuleTruth (heap_of l.heap) (rule_of l.rule))

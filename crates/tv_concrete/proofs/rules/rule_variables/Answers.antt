@@ -7,7 +7,10 @@ use Rattle.tv_concrete.proofs.rules.rule_variables.Goals as goal
 
 pub returns : goal.returns
 returns c =
-    let all : c.as_slice.result.now ≡ variables_in (rule_of c.args.rule.now).body ++ head_variables (rule_of c.args.rule.now).head =
+    let all : c.as_slice.result.now ≡ variables_in (rule_of c.args.rule.now).body ++ head_variables
+    (rule_of c.args.rule.now).head =
     c.as_slice.ensures ∙ c.in_ok-push_head.ensures
-    ∙ ap (λ xs. xs ++ head_variables (rule_of c.args.rule.now).head) (c.in_ok-push_variables.ensures ∙ ap (λ xs. xs ++ variables_in (rule_of c.args.rule.now).body) c.new-all.ensures)
+    ∙ ap (λ xs. xs ++ head_variables (rule_of c.args.rule.now).head)
+    (c.in_ok-push_variables.ensures ∙ ap (λ xs. xs ++ variables_in
+    (rule_of c.args.rule.now).body) c.new-all.ensures)
     in free-of_result (rule_of c.args.rule.now) c.as_slice.result.now all c.free_ones.result c.free_ones.ensures

@@ -6,7 +6,8 @@ use Rattle.tv_concrete.proofs.shape.extent_fits.Goals as goal
 
 pub returns-then-not-is_tuple : goal.returns-then-not-is_tuple
 returns-then-not-is_tuple c =
-    rw (← c.extent-tuple-items.ensures) (every-false (IsTuple (heap_of c.args.heap.now) c.args.arity) c.extent-tuple-items.result.now c.loop-tuple.tuple-index c.tuple-item.result c.loop-tuple-test.true
+    rw (← c.extent-tuple-items.ensures) (every-false
+    (IsTuple (heap_of c.args.heap.now) c.args.arity) c.extent-tuple-items.result.now c.loop-tuple.tuple-index c.tuple-item.result c.loop-tuple-test.true
     c.tuple-item.is c.if-not-is_tuple.ensures)
 
 pub loop-tuple-preserved : goal.loop-tuple-preserved
@@ -16,4 +17,5 @@ loop-tuple-preserved c =
 
 pub returns : goal.returns
 returns c =
-    rw (← c.extent-tuple-items.ensures) (every-true (IsTuple (heap_of c.args.heap.now) c.args.arity) c.extent-tuple-items.result.now c.loop-tuple.tuple-index c.loop-tuple-test.false c.loop-tuple.invariant)
+    rw (← c.extent-tuple-items.ensures) (every-true
+    (IsTuple (heap_of c.args.heap.now) c.args.arity) c.extent-tuple-items.result.now c.loop-tuple.tuple-index c.loop-tuple-test.false c.loop-tuple.invariant)

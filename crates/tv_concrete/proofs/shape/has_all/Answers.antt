@@ -7,13 +7,17 @@ use Rattle.tv_concrete.proofs.shape.has_all.Goals as goal
 
 pub returns-then-not-has : goal.returns-then-not-has
 returns-then-not-has c =
-    (every-false (Contains c.args.heap.now.individuals) c.args.tuple.now c.loop-u.u-index (get_or c.args.tuple.now c.loop-u.u-index 0) c.loop-u-test.true
-    (get_or_default c.args.tuple.now c.loop-u.u-index 0 (get_or c.args.tuple.now c.loop-u.u-index 0) c.loop-u-test.true) c.if-not-has.ensures)
+    (every-false (Contains c.args.heap.now.individuals) c.args.tuple.now c.loop-u.u-index
+    (get_or c.args.tuple.now c.loop-u.u-index 0) c.loop-u-test.true
+    (get_or_default c.args.tuple.now c.loop-u.u-index 0
+    (get_or c.args.tuple.now c.loop-u.u-index 0) c.loop-u-test.true) c.if-not-has.ensures)
 
 pub loop-u-preserved : goal.loop-u-preserved
 loop-u-preserved c =
-    every-more (Contains c.args.heap.now.individuals) c.args.tuple.now c.loop-u.u-index (get_or c.args.tuple.now c.loop-u.u-index 0) c.loop-u-test.true
-    (get_or_default c.args.tuple.now c.loop-u.u-index 0 (get_or c.args.tuple.now c.loop-u.u-index 0) c.loop-u-test.true) c.loop-u.invariant c.if-not-has.ensures
+    every-more (Contains c.args.heap.now.individuals) c.args.tuple.now c.loop-u.u-index
+    (get_or c.args.tuple.now c.loop-u.u-index 0) c.loop-u-test.true
+    (get_or_default c.args.tuple.now c.loop-u.u-index 0
+    (get_or c.args.tuple.now c.loop-u.u-index 0) c.loop-u-test.true) c.loop-u.invariant c.if-not-has.ensures
 
 pub returns : goal.returns
 returns c =

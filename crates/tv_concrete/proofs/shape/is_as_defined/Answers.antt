@@ -13,7 +13,8 @@ returns-then-not-is_as_defined_at c =
     let P : List ℕ → Type 0 = MeetsDefinition (heap_of c.args.heap.now) c.args.q (kind_of c.args.pred.now.kind)
     in let all : List (List ℕ) = c.as_slice-tuple-items.result.now
     in let is : all ≡ tuples_of c.args.heap.now.individuals c.args.pred.now.arity =
-    c.as_slice-tuple-items.ensures ∙ c.in_ok-all.ensures ∙ ap (λ xs. tuples_of xs c.args.pred.now.arity) c.as_slice.ensures
+    c.as_slice-tuple-items.ensures ∙ c.in_ok-all.ensures
+    ∙ ap (λ xs. tuples_of xs c.args.pred.now.arity) c.as_slice.ensures
     in tuples-answer P c.args.heap.now.individuals c.args.pred.now.arity all false is
     (every-false P all c.loop-tuple.tuple-index c.tuple-item.result c.loop-tuple-test.true c.tuple-item.is c.if-not-is_as_defined_at.ensures)
 
@@ -22,6 +23,7 @@ returns c =
     let P : List ℕ → Type 0 = MeetsDefinition (heap_of c.args.heap.now) c.args.q (kind_of c.args.pred.now.kind)
     in let all : List (List ℕ) = c.as_slice-tuple-items.result.now
     in let is : all ≡ tuples_of c.args.heap.now.individuals c.args.pred.now.arity =
-    c.as_slice-tuple-items.ensures ∙ c.in_ok-all.ensures ∙ ap (λ xs. tuples_of xs c.args.pred.now.arity) c.as_slice.ensures
+    c.as_slice-tuple-items.ensures ∙ c.in_ok-all.ensures
+    ∙ ap (λ xs. tuples_of xs c.args.pred.now.arity) c.as_slice.ensures
     in tuples-answer P c.args.heap.now.individuals c.args.pred.now.arity all true is
     (every-true P all c.loop-tuple.tuple-index c.loop-tuple-test.false c.loop-tuple.invariant)

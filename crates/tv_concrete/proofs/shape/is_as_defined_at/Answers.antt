@@ -12,10 +12,13 @@ pub returns-in-Defined : goal.returns-in-Defined
 returns-in-Defined c =
     let vars : List ℕ = vars_of c.in-Defined.vars
     in let Held : List ℕ → Type 0 = λ us. IsTrue c.holds_of.result ↔ Holds (heap_of c.args.heap.now) c.args.q us
-    in let Defined : Assignment → Type 0 = λ a. IsTrue c.holds.result ↔ Truth (heap_of c.args.heap.now) a (form_of c.in-Defined.body)
+    in let Defined : Assignment → Type 0 = λ a. IsTrue c.holds.result
+    ↔ Truth (heap_of c.args.heap.now) a (form_of c.in-Defined.body)
     in let values : assignment_of c.put_tuple.result ≡ put_all blank vars c.args.tuple.now =
-    c.put_tuple.ensures ∙ ap (λ a. put_all a vars c.as_slice-tuple.result.now) c.blank.ensures ∙ ap (λ us. put_all blank vars us) c.as_slice-tuple.ensures
+    c.put_tuple.ensures ∙ ap (λ a. put_all a vars c.as_slice-tuple.result.now) c.blank.ensures
+    ∙ ap (λ us. put_all blank vars us) c.as_slice-tuple.ensures
     in rw c.in-Defined.is
     (same-answer (Holds (heap_of c.args.heap.now) c.args.q c.args.tuple.now)
     (Truth (heap_of c.args.heap.now) (put_all blank vars c.args.tuple.now) (form_of c.in-Defined.body))
-    c.holds_of.result c.holds.result (subst Held c.as_slice-tuple.ensures c.holds_of.ensures) (subst Defined values c.holds.ensures))
+    c.holds_of.result c.holds.result (subst Held c.as_slice-tuple.ensures c.holds_of.ensures)
+    (subst Defined values c.holds.ensures))

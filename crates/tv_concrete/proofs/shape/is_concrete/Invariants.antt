@@ -8,4 +8,5 @@ use Rattle.tv_concrete.proofs.shape.is_concrete.Given as goal
 
 abbrev pub invariant-loop-q : goal.invariant-loop-q
 invariant-loop-q l =
-    FirstPreds (λ q d. (tuple : List _) → IsTuple (heap_of l.heap) d.arity tuple → MeetsDefinition (heap_of l.heap) q d.kind tuple) l.pred-items l.q
+    FirstPreds (λ q d. (tuple : List _) → IsTuple (heap_of l.heap) d.arity tuple
+    → MeetsDefinition (heap_of l.heap) q d.kind tuple) l.pred-items l.q

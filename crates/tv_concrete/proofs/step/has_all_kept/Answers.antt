@@ -10,16 +10,29 @@ use Rattle.tv_concrete.proofs.step.has_all_kept.Goals as goal
 
 pub returns-then-not-is_there_if_kept : goal.returns-then-not-is_there_if_kept
 returns-then-not-is_there_if_kept c =
-    let Of : List ℕ → Type 0 = λ xs. IsTrue false ↔ All (λ u. Keeps (heap_of c.args.middle.now) (assignment_of c.args.picked) (retain_of c.args.retain.now) u → Contains c.args.new.now.individuals u) xs
-    in subst Of c.as_slice-u-items.ensures (every-false (λ u. Keeps (heap_of c.args.middle.now) (assignment_of c.args.picked) (retain_of c.args.retain.now) u → Contains c.args.new.now.individuals u) c.as_slice-u-items.result.now c.loop-u.u-index (get_or c.as_slice-u-items.result.now c.loop-u.u-index 0) c.loop-u-test.true
-    (get_or_default c.as_slice-u-items.result.now c.loop-u.u-index 0 (get_or c.as_slice-u-items.result.now c.loop-u.u-index 0) c.loop-u-test.true) c.if-not-is_there_if_kept.ensures)
+    let Of : List ℕ → Type 0 = λ xs. IsTrue false
+    ↔ All (λ u. Keeps (heap_of c.args.middle.now) (assignment_of c.args.picked) (retain_of c.args.retain.now) u
+    → Contains c.args.new.now.individuals u) xs
+    in subst Of c.as_slice-u-items.ensures (every-false
+    (λ u. Keeps (heap_of c.args.middle.now) (assignment_of c.args.picked) (retain_of c.args.retain.now) u
+    → Contains c.args.new.now.individuals u) c.as_slice-u-items.result.now c.loop-u.u-index
+    (get_or c.as_slice-u-items.result.now c.loop-u.u-index 0) c.loop-u-test.true
+    (get_or_default c.as_slice-u-items.result.now c.loop-u.u-index 0
+    (get_or c.as_slice-u-items.result.now c.loop-u.u-index 0) c.loop-u-test.true) c.if-not-is_there_if_kept.ensures)
 
 pub loop-u-preserved : goal.loop-u-preserved
 loop-u-preserved c =
-    every-more (λ u. Keeps (heap_of c.args.middle.now) (assignment_of c.args.picked) (retain_of c.args.retain.now) u → Contains c.args.new.now.individuals u) c.as_slice-u-items.result.now c.loop-u.u-index (get_or c.as_slice-u-items.result.now c.loop-u.u-index 0) c.loop-u-test.true
-    (get_or_default c.as_slice-u-items.result.now c.loop-u.u-index 0 (get_or c.as_slice-u-items.result.now c.loop-u.u-index 0) c.loop-u-test.true) c.loop-u.invariant c.if-not-is_there_if_kept.ensures
+    every-more (λ u. Keeps (heap_of c.args.middle.now) (assignment_of c.args.picked) (retain_of c.args.retain.now) u
+    → Contains c.args.new.now.individuals u) c.as_slice-u-items.result.now c.loop-u.u-index
+    (get_or c.as_slice-u-items.result.now c.loop-u.u-index 0) c.loop-u-test.true
+    (get_or_default c.as_slice-u-items.result.now c.loop-u.u-index 0
+    (get_or c.as_slice-u-items.result.now c.loop-u.u-index 0) c.loop-u-test.true) c.loop-u.invariant c.if-not-is_there_if_kept.ensures
 
 pub returns : goal.returns
 returns c =
-    let Of : List ℕ → Type 0 = λ xs. IsTrue true ↔ All (λ u. Keeps (heap_of c.args.middle.now) (assignment_of c.args.picked) (retain_of c.args.retain.now) u → Contains c.args.new.now.individuals u) xs
-    in subst Of c.as_slice-u-items.ensures (every-true (λ u. Keeps (heap_of c.args.middle.now) (assignment_of c.args.picked) (retain_of c.args.retain.now) u → Contains c.args.new.now.individuals u) c.as_slice-u-items.result.now c.loop-u.u-index c.loop-u-test.false c.loop-u.invariant)
+    let Of : List ℕ → Type 0 = λ xs. IsTrue true
+    ↔ All (λ u. Keeps (heap_of c.args.middle.now) (assignment_of c.args.picked) (retain_of c.args.retain.now) u
+    → Contains c.args.new.now.individuals u) xs
+    in subst Of c.as_slice-u-items.ensures (every-true
+    (λ u. Keeps (heap_of c.args.middle.now) (assignment_of c.args.picked) (retain_of c.args.retain.now) u
+    → Contains c.args.new.now.individuals u) c.as_slice-u-items.result.now c.loop-u.u-index c.loop-u-test.false c.loop-u.invariant)

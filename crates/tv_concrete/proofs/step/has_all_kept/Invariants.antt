@@ -7,4 +7,5 @@ use Rattle.tv_concrete.specs.Lists.{assignment_of, heap_of}
 use Rattle.tv_concrete.proofs.step.has_all_kept.Given as goal
 
 abbrev pub invariant-loop-u : goal.invariant-loop-u
-invariant-loop-u l = AllWithin (λ u. Keeps (heap_of l.middle) (assignment_of l.picked) (retain_of l.retain) u → Contains l.new.individuals u) l.u-items 0 l.u-index
+invariant-loop-u l = AllWithin (λ u. Keeps (heap_of l.middle) (assignment_of l.picked) (retain_of l.retain) u
+    → Contains l.new.individuals u) l.u-items 0 l.u-index

@@ -10,14 +10,26 @@ use Rattle.tv_concrete.proofs.step.has_only_kept.Goals as goal
 
 pub returns-then-not-is_kept : goal.returns-then-not-is_kept
 returns-then-not-is_kept c =
-    rw (← c.as_slice-u-items.ensures) (every-false (λ u. Contains c.args.middle.now.individuals u × Keeps (heap_of c.args.middle.now) (assignment_of c.args.picked) (retain_of c.args.retain.now) u) c.as_slice-u-items.result.now c.loop-u.u-index (get_or c.as_slice-u-items.result.now c.loop-u.u-index 0) c.loop-u-test.true
-    (get_or_default c.as_slice-u-items.result.now c.loop-u.u-index 0 (get_or c.as_slice-u-items.result.now c.loop-u.u-index 0) c.loop-u-test.true) c.if-not-is_kept.ensures)
+    rw (← c.as_slice-u-items.ensures) (every-false
+    (λ u. Contains c.args.middle.now.individuals u
+    × Keeps (heap_of c.args.middle.now) (assignment_of c.args.picked)
+    (retain_of c.args.retain.now) u) c.as_slice-u-items.result.now c.loop-u.u-index
+    (get_or c.as_slice-u-items.result.now c.loop-u.u-index 0) c.loop-u-test.true
+    (get_or_default c.as_slice-u-items.result.now c.loop-u.u-index 0
+    (get_or c.as_slice-u-items.result.now c.loop-u.u-index 0) c.loop-u-test.true) c.if-not-is_kept.ensures)
 
 pub loop-u-preserved : goal.loop-u-preserved
 loop-u-preserved c =
-    every-more (λ u. Contains c.args.middle.now.individuals u × Keeps (heap_of c.args.middle.now) (assignment_of c.args.picked) (retain_of c.args.retain.now) u) c.as_slice-u-items.result.now c.loop-u.u-index (get_or c.as_slice-u-items.result.now c.loop-u.u-index 0) c.loop-u-test.true
-    (get_or_default c.as_slice-u-items.result.now c.loop-u.u-index 0 (get_or c.as_slice-u-items.result.now c.loop-u.u-index 0) c.loop-u-test.true) c.loop-u.invariant c.if-not-is_kept.ensures
+    every-more (λ u. Contains c.args.middle.now.individuals u
+    × Keeps (heap_of c.args.middle.now) (assignment_of c.args.picked)
+    (retain_of c.args.retain.now) u) c.as_slice-u-items.result.now c.loop-u.u-index
+    (get_or c.as_slice-u-items.result.now c.loop-u.u-index 0) c.loop-u-test.true
+    (get_or_default c.as_slice-u-items.result.now c.loop-u.u-index 0
+    (get_or c.as_slice-u-items.result.now c.loop-u.u-index 0) c.loop-u-test.true) c.loop-u.invariant c.if-not-is_kept.ensures
 
 pub returns : goal.returns
 returns c =
-    rw (← c.as_slice-u-items.ensures) (every-true (λ u. Contains c.args.middle.now.individuals u × Keeps (heap_of c.args.middle.now) (assignment_of c.args.picked) (retain_of c.args.retain.now) u) c.as_slice-u-items.result.now c.loop-u.u-index c.loop-u-test.false c.loop-u.invariant)
+    rw (← c.as_slice-u-items.ensures) (every-true
+    (λ u. Contains c.args.middle.now.individuals u
+    × Keeps (heap_of c.args.middle.now) (assignment_of c.args.picked)
+    (retain_of c.args.retain.now) u) c.as_slice-u-items.result.now c.loop-u.u-index c.loop-u-test.false c.loop-u.invariant)

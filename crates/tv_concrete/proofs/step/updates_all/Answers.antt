@@ -9,14 +9,18 @@ use Rattle.tv_concrete.proofs.step.updates_all.Goals as goal
 
 pub returns-then-not-branch : goal.returns-then-not-branch
 returns-then-not-branch c =
-    let P : ℕ → PredForm → Type 0 = (λ q d. d.kind ≡ KCore → (tuple : List ℕ) → IsTuple (heap_of c.args.new.now) d.arity tuple
-    → FollowsUpdate q (heap_of c.args.middle.now) (assignment_of c.args.picked) (update_for q (map update_of c.args.updates.now)) tuple (heap_of c.args.new.now))
+    let P : ℕ → PredForm → Type 0 = (λ q d. d.kind ≡ KCore → (tuple : List ℕ)
+    → IsTuple (heap_of c.args.new.now) d.arity tuple
+    → FollowsUpdate q (heap_of c.args.middle.now) (assignment_of c.args.picked)
+    (update_for q (map update_of c.args.updates.now)) tuple (heap_of c.args.new.now))
     in let Answer : Bool → Type 0 = λ b. IsTrue b ↔ P c.loop-q.q (pred_of c.index-preds-q.result)
     in preds-false P c.args.preds.now c.loop-q.q c.index-preds-q.result c.loop-q-test.true c.index-preds-q.is
     (subst Answer c.if-not-branch.true c.in_ok-updates_one.ensures)
 
 pub returns : goal.returns
 returns c =
-    let P : ℕ → PredForm → Type 0 = (λ q d. d.kind ≡ KCore → (tuple : List ℕ) → IsTuple (heap_of c.args.new.now) d.arity tuple
-    → FollowsUpdate q (heap_of c.args.middle.now) (assignment_of c.args.picked) (update_for q (map update_of c.args.updates.now)) tuple (heap_of c.args.new.now))
+    let P : ℕ → PredForm → Type 0 = (λ q d. d.kind ≡ KCore → (tuple : List ℕ)
+    → IsTuple (heap_of c.args.new.now) d.arity tuple
+    → FollowsUpdate q (heap_of c.args.middle.now) (assignment_of c.args.picked)
+    (update_for q (map update_of c.args.updates.now)) tuple (heap_of c.args.new.now))
     in preds-true P c.args.preds.now c.loop-q.q c.loop-q-test.false c.loop-q.invariant

@@ -10,5 +10,6 @@ use Rattle.tv_concrete.proofs.step.updates_all.Given as goal
 abbrev pub invariant-loop-q : goal.invariant-loop-q
 invariant-loop-q l =
     FirstPreds (λ q d. d.kind ≡ KCore → (tuple : List ℕ) → IsTuple (heap_of l.new) d.arity tuple
-    → FollowsUpdate q (heap_of l.middle) (assignment_of l.picked) (update_for q (map update_of l.updates)) tuple (heap_of l.new))
+    → FollowsUpdate q (heap_of l.middle) (assignment_of l.picked) (update_for q (map update_of l.updates)) tuple
+    (heap_of l.new))
     l.preds l.q

@@ -11,10 +11,13 @@ use Rattle.tv_concrete.proofs.step.updates_one.Goals as goal
 
 pub returns : goal.returns
 returns c =
-    let P : List ℕ → Type 0 = (λ tuple. FollowsUpdate c.args.q (heap_of c.args.middle.now) (assignment_of c.args.picked) (update_for c.args.q (map update_of c.args.updates.now)) tuple (heap_of c.args.new.now))
+    let P : List ℕ → Type 0 = (λ tuple. FollowsUpdate c.args.q (heap_of c.args.middle.now)
+    (assignment_of c.args.picked) (update_for c.args.q (map update_of c.args.updates.now)) tuple
+    (heap_of c.args.new.now))
     in let is : c.as_slice-2.result.now ≡ tuples_of c.args.new.now.individuals c.args.pred.now.arity =
     c.as_slice-2.ensures ∙ c.in_ok-all.ensures ∙ ap (λ xs. tuples_of xs c.args.pred.now.arity) c.as_slice.ensures
-    in under-premise (kind_of c.args.pred.now.kind ≡ KCore) ((tuple : List ℕ) → IsTuple (heap_of c.args.new.now) c.args.pred.now.arity tuple → P tuple)
+    in under-premise (kind_of c.args.pred.now.kind ≡ KCore)
+    ((tuple : List ℕ) → IsTuple (heap_of c.args.new.now) c.args.pred.now.arity tuple → P tuple)
     c.follows_update_at_all.result (c.is_core.ensures.0 c.if-not-is_core.false)
     (tuples-answer P c.args.new.now.individuals c.args.pred.now.arity c.as_slice-2.result.now c.follows_update_at_all.result is
     c.follows_update_at_all.ensures)

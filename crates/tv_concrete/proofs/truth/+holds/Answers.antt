@@ -33,5 +33,6 @@ holds-returns-in-Forall t c = rw (c.in-Forall.is, ← c.deref-in-Forall.ensures)
 
 pub holds_with-returns : goal.holds_with-returns
 holds_with-returns t c =
-    let P : Assignment → Type 0 = λ a. IsTrue c.holds.result ↔ Truth (heap_of c.args.heap.now) a (form_of c.args.body.now)
+    let P : Assignment → Type 0 = λ a. IsTrue c.holds.result
+    ↔ Truth (heap_of c.args.heap.now) a (form_of c.args.body.now)
     in subst P c.with.ensures c.holds.ensures
