@@ -41,7 +41,8 @@ EmbedsOn-compose P f g r s t a b = record {
   several = λ u w hu hw differ same. either u w hu hw differ same (cases_eq (f u) (f w));
 }
   where
-    through : (w : ℕ) → (x : ℕ) × Contains s.individuals x × (g x ≡ w) → (u : ℕ) × Contains r.individuals u × (g (f u) ≡ w)
+    through : (w : ℕ) → (x : ℕ) × Contains s.individuals x × (g x ≡ w) → (u : ℕ) × Contains r.individuals u
+        × (g (f u) ≡ w)
     through w (x, has, e) = again w x e (a.onto x has)
       where
         again : (w x : ℕ) → g x ≡ w → (u : ℕ) × Contains r.individuals u × (f u ≡ x)
@@ -109,7 +110,8 @@ IsBelow-values s t = (to, from)
     to (same, e) = record {
       individuals = same;
       values = λ pred tuple all.
-          subst (λ image. LiesUnder (s.value pred tuple) (t.value pred image)) (map-id tuple) (e.values pred tt tuple all);
+          subst (λ image. LiesUnder (s.value pred tuple) (t.value pred image)) (map-id tuple)
+          (e.values pred tt tuple all);
       summaries = e.summaries;
     }
 
@@ -120,7 +122,8 @@ IsBelow-values s t = (to, from)
         into = λ u h. subst (λ us. Contains us u) v.individuals h;
         onto = λ w h. (w, subst (λ us. Contains us w) (sym v.individuals) h, refl);
         values = λ pred p tuple all.
-            subst (λ image. LiesUnder (s.value pred tuple) (t.value pred image)) (sym (map-id tuple)) (v.values pred tuple all);
+            subst (λ image. LiesUnder (s.value pred tuple) (t.value pred image)) (sym (map-id tuple))
+            (v.values pred tuple all);
         summaries = v.summaries;
         several = λ u w hu hw differ same. absurd (differ same);
       },

@@ -98,7 +98,8 @@ May-is x = (to x, λ e. λ m. subst May e m)
     to Yes h = absurd (h tt)
 
 -- values with the same thresholds are equal
-pub thresholds_determine : (x y : K3) → (Must x → Must y) → (May x → May y) → (Must y → Must x) → (May y → May x) → x ≡ y
+pub thresholds_determine : (x y : K3) → (Must x → Must y) → (May x → May y) → (Must y → Must x) → (May y → May x)
+    → x ≡ y
 thresholds_determine No No a b c d = refl
 thresholds_determine No Half a b c d = absurd (d tt)
 thresholds_determine No Yes a b c d = absurd (d tt)

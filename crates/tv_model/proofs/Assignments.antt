@@ -41,7 +41,8 @@ put-matched matters M a b v u w new old x m =
     (cases_eq x v)
 
 -- a tuple that variables stand for consists of what they stand for
-pub All-values : (P : ℕ → Type 0) (a : Assignment) (vars : List ℕ) → ((v : ℕ) → Contains vars v → P (a v)) → All P (map a vars)
+pub All-values : (P : ℕ → Type 0) (a : Assignment) (vars : List ℕ) → ((v : ℕ) → Contains vars v → P (a v))
+    → All P (map a vars)
 All-values P a vars each = All-map P a vars (λ k d below. each (get_or vars k d) (Contains-get_or vars k d below))
 
 -- the images of a tuple that variables stand for

@@ -70,7 +70,8 @@ equal-decided (x ∷ xs) (y ∷ ys) = go (cases_eq x y) (equal-decided xs ys)
     go (inr n) f = inr (λ e. n (cc e))
 
 -- membership is decided where equality is
-pub Contains-decided_by : {X : Type 0} → ((x y : X) → IsDecided (x ≡ y)) → (xs : List X) (u : X) → IsDecided (Contains xs u)
+pub Contains-decided_by : {X : Type 0} → ((x y : X) → IsDecided (x ≡ y)) → (xs : List X) (u : X)
+    → IsDecided (Contains xs u)
 Contains-decided_by same [] u = inr (Contains-none u)
 Contains-decided_by {X} same (x ∷ xs) u = go (same x u) (Contains-decided_by same xs u)
   where

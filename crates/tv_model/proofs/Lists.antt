@@ -44,7 +44,8 @@ Contains-map f x [] at = absurd (Contains-none x at)
 Contains-map {X} {Y} f x (y ∷ xs) at = go (Contains-cases y x xs at) (Contains-map f x xs)
   where
     go : (y ≡ x) ⊎ Contains xs x → (Contains xs x → Contains (map f xs) (f x)) → Contains (map f (y ∷ xs)) (f x)
-    go (inl e) later = let P : X → Type 0 = λ z. Contains (f y ∷ map f xs) (f z) in subst P e (Contains-here (f y) (map f xs))
+    go (inl e) later = let P : X → Type 0 = λ z. Contains (f y ∷ map f xs) (f z)
+        in subst P e (Contains-here (f y) (map f xs))
     go (inr there) later = Contains-there (f y) (f x) (map f xs) (later there)
 
 -- an element of a mapped list comes from one of the list
@@ -63,7 +64,8 @@ pub Contains-flat_map : {X Y : Type 0} (f : X → List Y) (xs : List X) (x : X) 
 Contains-flat_map f [] x y at part = absurd (Contains-none x at)
 Contains-flat_map {X} {Y} f (z ∷ xs) x y at part =
     ⊎_elim
-    (λ e. let In : X → Type 0 = λ w. Contains (f w) y in Contains-append_left (f z) (flat_map f xs) y (subst In (sym e) part))
+    (λ e. let In : X → Type 0 = λ w. Contains (f w) y
+    in Contains-append_left (f z) (flat_map f xs) y (subst In (sym e) part))
     (λ there. Contains-append_right (f z) (flat_map f xs) y (Contains-flat_map f xs x y there part))
     (Contains-cases z x xs at)
 
@@ -82,7 +84,8 @@ map-compose f g [] = refl
 map-compose f g (x ∷ xs) = ap (λ rest. g (f x) ∷ rest) (map-compose f g xs)
 
 -- functions that agree on the elements map them alike
-pub map-agreed : {X Y : Type 0} (f g : X → Y) (xs : List X) → ((x : X) → Contains xs x → f x ≡ g x) → map f xs ≡ map g xs
+pub map-agreed : {X Y : Type 0} (f g : X → Y) (xs : List X) → ((x : X) → Contains xs x → f x ≡ g x)
+    → map f xs ≡ map g xs
 map-agreed f g [] same = refl
 map-agreed f g (x ∷ xs) same =
     rw (same x (Contains-here x xs), map-agreed f g xs (λ y at. same y (Contains-there x y xs at))) refl
@@ -99,9 +102,11 @@ Contains-filter {X} test (y ∷ xs) x at passes =
         → Contains (filter test (y ∷ xs)) x
     go (inl yes_) (inl e) later =
         let In : X → Type 0 = λ z. Contains (y ∷ filter test xs) z
-        in rw (cond-true (test y) (y ∷ filter test xs) (filter test xs) yes_) (subst In e (Contains-here y (filter test xs)))
+        in rw (cond-true (test y) (y ∷ filter test xs) (filter test xs) yes_)
+        (subst In e (Contains-here y (filter test xs)))
     go (inl yes_) (inr there) later =
-        rw (cond-true (test y) (y ∷ filter test xs) (filter test xs) yes_) (Contains-there y x (filter test xs) (later there))
+        rw (cond-true (test y) (y ∷ filter test xs) (filter test xs) yes_)
+        (Contains-there y x (filter test xs) (later there))
     go (inr no_) (inl e) later =
         let Of : X → Type 0 = λ z. test z ≡ true in absurd (false≢true (sym no_ ∙ subst Of (sym e) passes))
     go (inr no_) (inr there) later = rw (cond-false (test y) (y ∷ filter test xs) (filter test xs) no_) (later there)
@@ -116,8 +121,10 @@ Contains-filter_back {X} test (y ∷ xs) x at = go (cases_Bool (test y)) (λ the
     go (inl yes_) later =
         let In : List X → Type 0 = λ zs. Contains zs x
         in let Of : X → Type 0 = λ z. Contains (y ∷ xs) z × (test z ≡ true)
-        in ⊎_elim (λ e. subst Of e (Contains-here y xs, yes_)) (λ there. (Contains-there y x xs (later there).0, (later there).1))
-        (Contains-cases y x (filter test xs) (subst In (cond-true (test y) (y ∷ filter test xs) (filter test xs) yes_) at))
+        in ⊎_elim (λ e. subst Of e (Contains-here y xs, yes_))
+        (λ there. (Contains-there y x xs (later there).0, (later there).1))
+        (Contains-cases y x (filter test xs) (subst In
+        (cond-true (test y) (y ∷ filter test xs) (filter test xs) yes_) at))
     go (inr no_) later =
         let In : List X → Type 0 = λ zs. Contains zs x
         in let rest : Contains xs x × (test x ≡ true)

@@ -45,7 +45,11 @@ Truth-matched P Marked M h k is a b (FOr f g) mentioned named free =
     = Truth-matched P Marked M h k is a b f (λ q m. mentioned q (inl m)) (λ n. named (inl n)) (λ v m. free v (inl m))
     in let two : Truth h a g ↔ Truth k b g
     = Truth-matched P Marked M h k is a b g (λ q m. mentioned q (inr m)) (λ n. named (inr n)) (λ v m. free v (inr m))
-    in (λ t. ⊎_elim (λ s. inl (one.0 s)) (λ s. inr (two.0 s)) t, λ t. ⊎_elim (λ s. inl (one.1 s)) (λ s. inr (two.1 s)) t)
+    in (
+      λ t. ⊎_elim (λ s. inl (one.0 s)) (λ s. inr (two.0 s)) t,
+      λ t. ⊎_elim (λ s. inl (one.1 s))
+          (λ s. inr (two.1 s)) t,
+    )
 Truth-matched P Marked M h k is a b (FIff f g) mentioned named free =
     let one : Truth h a f ↔ Truth k b f
     = Truth-matched P Marked M h k is a b f (λ q m. mentioned q (inl m)) (λ n. named (inl n)) (λ v m. free v (inl m))
@@ -59,9 +63,11 @@ Truth-matched P Marked M h k is a b (FCond c f g) mentioned named free =
     let guard : Truth h a c ↔ Truth k b c
     = Truth-matched P Marked M h k is a b c (λ q m. mentioned q (inl m)) (λ n. named (inl n)) (λ v m. free v (inl m))
     in let one : Truth h a f ↔ Truth k b f
-    = Truth-matched P Marked M h k is a b f (λ q m. mentioned q (inr (inl m))) (λ n. named (inr (inl n))) (λ v m. free v (inr (inl m)))
+    = Truth-matched P Marked M h k is a b f (λ q m. mentioned q (inr (inl m))) (λ n. named (inr (inl n)))
+    (λ v m. free v (inr (inl m)))
     in let two : Truth h a g ↔ Truth k b g
-    = Truth-matched P Marked M h k is a b g (λ q m. mentioned q (inr (inr m))) (λ n. named (inr (inr n))) (λ v m. free v (inr (inr m)))
+    = Truth-matched P Marked M h k is a b g (λ q m. mentioned q (inr (inr m))) (λ n. named (inr (inr n)))
+    (λ v m. free v (inr (inr m)))
     in (
       λ t. ⊎_elim (λ s. inl (guard.0 s.0, one.0 s.1)) (λ s. inr ((λ d. s.0 (guard.1 d)), two.0 s.1)) t,
       λ t. ⊎_elim (λ s. inl (guard.1 s.0, one.1 s.1)) (λ s. inr ((λ d. s.0 (guard.0 d)), two.1 s.1)) t,
@@ -89,8 +95,10 @@ Truth-matched P Marked M h k is a b (FForall v f) mentioned named free =
 Truth-matched P Marked M h k is a b (FClosure from to left right f) mentioned named free =
     let R : ℕ → ℕ → Type 0 = ClosureEdge h a left right f
     in let S : ℕ → ℕ → Type 0 = ClosureEdge k b left right f
-    in let ih : (u v x y : ℕ) → M u x → M v y → Truth h (put (put a left u) right v) f ↔ Truth k (put (put b left x) right y) f
-    = λ u v x y m n. Truth-matched P Marked M h k is (put (put a left u) right v) (put (put b left x) right y) f mentioned named
+    in let ih : (u v x y : ℕ) → M u x → M v y → Truth h (put (put a left u) right v) f
+    ↔ Truth k (put (put b left x) right y) f
+    = λ u v x y m n. Truth-matched P Marked M h k is (put (put a left u) right v)
+    (put (put b left x) right y) f mentioned named
     (put-matched (λ z. IsFree z f) M (put a left u) (put b left x) right v y n
     (put-matched (λ z. (z ≢ right) × IsFree z f) M a b left u x m (λ z d. free z (inr (inr (d.0, d.1.0, d.1.1))))))
     in let there : (u v x y : ℕ) → M u x → M v y → R u v → S x y
@@ -118,7 +126,11 @@ Truth-local f h k a b alike agrees =
       atoms = λ q m vars c d same.
           subst (λ us. Holds h q (map c vars) ↔ Holds k q us) (map-agreed c d vars same) (alike.holds q m (map c vars));
       same = λ u v x y m n. (λ e. sym m ∙ e ∙ n, λ e. m ∙ e ∙ sym n);
-      marks = λ named u w m. (λ t. sym (alike.marks named) ∙ t ∙ ap (λ x. Some x) m, λ t. alike.marks named ∙ t ∙ ap (λ x. Some x) (sym m));
+      marks = λ named u w m. (
+        λ t. sym (alike.marks named) ∙ t ∙ ap (λ x. Some x) m,
+        λ t. alike.marks named ∙ t
+            ∙ ap (λ x. Some x) (sym m),
+      );
     })
     a b f (λ q m. m) (λ n. n) agrees
 
@@ -131,7 +143,8 @@ Truth-kept f r h k a b is agrees =
     Truth-matched (λ q. Mentions q f) (NamesNew f) (IsRenamed r h) h k
     (record {
       there = λ u at. (r u, is.into u at, (at, refl));
-      back = λ w at. let from : (u : ℕ) × Contains h.individuals u × (r u ≡ w) = is.onto w at in (from.0, from.1, (from.1, from.2));
+      back = λ w at. let from : (u : ℕ) × Contains h.individuals u × (r u ≡ w) = is.onto w at
+          in (from.0, from.1, (from.1, from.2));
       members = λ u w m. (λ at. subst (Contains k.individuals) m.1 (is.into u at), λ at. m.0);
       atoms = λ q m vars c d each.
           subst (λ us. Holds h q (map c vars) ↔ Holds k q us)

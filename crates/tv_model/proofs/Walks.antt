@@ -26,8 +26,12 @@ within-from_walk R allowed ends u (stop ∷ stops) w walk =
 
 pub WalksWithin-more : (R : ℕ → ℕ → Type 0) (x : ℕ) (allowed : List ℕ) (u w : ℕ)
     → WalksWithin R allowed u w → WalksWithin R (x ∷ allowed) u w
-WalksWithin-more R x allowed u w (stops, within, walk) =
-    (stops, All-weaker (Contains allowed) (Contains (x ∷ allowed)) (λ y at. Contains-there x y allowed at) stops within, walk)
+WalksWithin-more R x allowed u w (stops, within, walk) = (
+  stops,
+  All-weaker (Contains allowed) (Contains (x ∷ allowed))
+      (λ y at. Contains-there x y allowed at) stops within,
+  walk,
+)
 
 pub WalksWithin-join : (R : ℕ → ℕ → Type 0) (x : ℕ) (allowed : List ℕ) (u w : ℕ)
     → WalksWithin R (x ∷ allowed) u x → WalksWithin R (x ∷ allowed) x w → WalksWithin R (x ∷ allowed) u w
@@ -71,7 +75,8 @@ IsTotal M xs ys = (u : ℕ) → Contains xs u → (w : ℕ) × Contains ys w × 
 -- walks through allowed stops go along a matching that has a partner for each of these
 pub WalksWithin-matched : (M : ℕ → ℕ → Type 0) (xs ys : List ℕ) → IsTotal M xs ys → (R S : ℕ → ℕ → Type 0)
     → ((u v x y : ℕ) → M u x → M v y → R u v → S x y)
-    → (u v x y : ℕ) → M u x → M v y → (stops : List ℕ) → All (Contains xs) stops → IsWalk R u stops v → WalksWithin S ys x y
+    → (u v x y : ℕ) → M u x → M v y → (stops : List ℕ) → All (Contains xs) stops → IsWalk R u stops v
+    → WalksWithin S ys x y
 WalksWithin-matched M xs ys there R S keeps u v x y begin end [] within walk =
     ([], All-nil (Contains ys), keeps u v x y begin end walk)
 WalksWithin-matched M xs ys there R S keeps u v x y begin end (stop ∷ stops) within walk =
@@ -79,7 +84,11 @@ WalksWithin-matched M xs ys there R S keeps u v x y begin end (stop ∷ stops) w
     in let rest : WalksWithin S ys image.0 y
     = WalksWithin-matched M xs ys there R S keeps stop v image.0 y image.2 end stops
     (All-tail (Contains xs) stop stops within) walk.1
-    in (image.0 ∷ rest.0, All-cons (Contains ys) image.0 rest.0 image.1 rest.1, (keeps u stop x image.0 begin image.2 walk.0, rest.2))
+    in (
+      image.0 ∷ rest.0,
+      All-cons (Contains ys) image.0 rest.0 image.1 rest.1,
+      (keeps u stop x image.0 begin image.2 walk.0, rest.2),
+    )
 
 -- and so do walks whose edges end at matched elements
 pub Walks-matched : (M : ℕ → ℕ → Type 0) (xs ys : List ℕ) → IsTotal M xs ys → (R S : ℕ → ℕ → Type 0)
@@ -87,5 +96,6 @@ pub Walks-matched : (M : ℕ → ℕ → Type 0) (xs ys : List ℕ) → IsTotal 
     → (u v x y : ℕ) → M u x → M v y → Walks R u v → Walks S x y
 Walks-matched M xs ys there R S ends keeps u v x y begin end (stops, walk) =
     let image : WalksWithin S ys x y
-    = WalksWithin-matched M xs ys there R S keeps u v x y begin end stops (within-from_walk R xs ends u stops v walk) walk
+    = WalksWithin-matched M xs ys there R S keeps u v x y begin end stops
+    (within-from_walk R xs ends u stops v walk) walk
     in (image.0, image.2)

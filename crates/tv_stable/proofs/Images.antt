@@ -103,7 +103,8 @@ atom-none m s t im flag pred matters b base takes met =
     (im.definite pred [] (All-nil (Contains t.individuals)) (wanted flag) (wanted-definite flag)
     (λ below all e. let At : List ℕ → Type 0 = λ us. s.value pred us ≡ wanted flag
     in subst At (sym (map-nil m below e))
-    (⊎_elim (λ yes. (signed-wanted flag s base (FAtom pred [])).0 yes) (λ may. absurd (cc may.twice)) (met base takes)))))
+    (⊎_elim (λ yes. (signed-wanted flag s base (FAtom pred [])).0 yes) (λ may. absurd (cc may.twice))
+    (met base takes)))))
 
 atom-one : (m : ℕ → ℕ) (s t : LogicalStructure) → IsImage m s t → (flag : Bool) (pred v : ℕ) (matters : ℕ → Type 0)
     → (b base : Assignment) → Takes matters m s b base → Contains t.individuals (b v)
@@ -113,21 +114,25 @@ atom-one m s t im flag pred v matters b base takes at met =
     (im.definite pred (b v ∷ []) (All-cons (Contains t.individuals) (b v) [] at (All-nil (Contains t.individuals)))
     (wanted flag) (wanted-definite flag) each))
   where
-    each : (below : List ℕ) → All (Contains s.individuals) below → map m below ≡ b v ∷ [] → s.value pred below ≡ wanted flag
+    each : (below : List ℕ) → All (Contains s.individuals) below → map m below ≡ b v ∷ []
+        → s.value pred below ≡ wanted flag
     each below all e =
         let one : OneBelow m below (b v) = one-below m below (b v) e
         in let In : List ℕ → Type 0 = λ us. All (Contains s.individuals) us
-        in let has : Contains s.individuals one.first = All-head (Contains s.individuals) one.first [] (subst In one.is all)
+        in let has : Contains s.individuals one.first = All-head (Contains s.individuals) one.first []
+        (subst In one.is all)
         in let value_there : s.value pred (put base v one.first v ∷ []) ≡ wanted flag
         = ⊎_elim
         (λ yes. (signed-wanted flag s (put base v one.first) (FAtom pred (v ∷ []))).0 yes)
         (λ may. absurd (cc may.twice))
         (met (put base v one.first) (preimages-put matters m s base b takes v one.first (has, one.goes)))
-        in ap (s.value pred) one.is ∙ sym (ap (λ u. s.value pred (u ∷ [])) (put-same base v one.first v refl)) ∙ value_there
+        in ap (s.value pred) one.is ∙ sym (ap (λ u. s.value pred (u ∷ [])) (put-same base v one.first v refl))
+        ∙ value_there
 
 -- two different variables may stand for any two preimages
 atom-two : (m : ℕ → ℕ) (s t : LogicalStructure) → IsImage m s t → (flag : Bool) (pred v w : ℕ) (matters : ℕ → Type 0)
-    → (b base : Assignment) → Takes matters m s b base → Contains t.individuals (b v) → Contains t.individuals (b w) → v ≢ w
+    → (b base : Assignment) → Takes matters m s b base → Contains t.individuals (b v) → Contains t.individuals (b w)
+    → v ≢ w
     → IsMetBelow matters m s b (HAtom flag pred (v ∷ w ∷ [])) → IsHeadMet t b (HAtom flag pred (v ∷ w ∷ []))
 atom-two m s t im flag pred v w matters b base takes at_v at_w ne met =
     inl ((signed-wanted flag t b (FAtom pred (v ∷ w ∷ []))).1
@@ -136,7 +141,8 @@ atom-two m s t im flag pred v w matters b base takes at_v at_w ne met =
     (All-cons (Contains t.individuals) (b w) [] at_w (All-nil (Contains t.individuals))))
     (wanted flag) (wanted-definite flag) each))
   where
-    each : (below : List ℕ) → All (Contains s.individuals) below → map m below ≡ b v ∷ b w ∷ [] → s.value pred below ≡ wanted flag
+    each : (below : List ℕ) → All (Contains s.individuals) below → map m below ≡ b v ∷ b w ∷ []
+        → s.value pred below ≡ wanted flag
     each below all e =
         let two : TwoBelow m below (b v) (b w) = two-below m below (b v) (b w) e
         in let In : List ℕ → Type 0 = λ us. All (Contains s.individuals) us
@@ -144,21 +150,24 @@ atom-two m s t im flag pred v w matters b base takes at_v at_w ne met =
         in let has_first : Contains s.individuals two.first
         = All-head (Contains s.individuals) two.first (two.second ∷ []) inside
         in let has_second : Contains s.individuals two.second
-        = All-head (Contains s.individuals) two.second [] (All-tail (Contains s.individuals) two.first (two.second ∷ []) inside)
+        = All-head (Contains s.individuals) two.second []
+        (All-tail (Contains s.individuals) two.first (two.second ∷ []) inside)
         in let a : Assignment = put (put base v two.first) w two.second
         in let value_there : s.value pred (a v ∷ a w ∷ []) ≡ wanted flag
         = ⊎_elim
         (λ yes. (signed-wanted flag s a (FAtom pred (v ∷ w ∷ []))).0 yes)
         (λ may. absurd (ne (cc may.twice)))
         (met a (preimages-put matters m s (put base v two.first) b
-        (preimages-put matters m s base b takes v two.first (has_first, two.goes)) w two.second (has_second, two.other)))
+        (preimages-put matters m s base b takes v two.first (has_first, two.goes)) w two.second
+        (has_second, two.other)))
         in ap (s.value pred) two.is
         ∙ sym (ap (λ u. s.value pred (u ∷ two.second ∷ [])) (put-two-first base v w two.first two.second ne))
         ∙ sym (ap (λ x. s.value pred (a v ∷ x ∷ [])) (put-two-second base v w two.first two.second))
         ∙ value_there
 
 -- one variable twice, on what isn't a summary: it has one preimage
-atom-twice_plain : (m : ℕ → ℕ) (s t : LogicalStructure) → IsImage m s t → (flag : Bool) (pred v : ℕ) (matters : ℕ → Type 0)
+atom-twice_plain : (m : ℕ → ℕ) (s t : LogicalStructure) → IsImage m s t
+    → (flag : Bool) (pred v : ℕ) (matters : ℕ → Type 0)
     → (b base : Assignment) → Takes matters m s b base → Contains t.individuals (b v) → t.is_summary (b v) ≡ false
     → IsMetBelow matters m s b (HAtom flag pred (v ∷ v ∷ [])) → IsHeadMet t b (HAtom flag pred (v ∷ v ∷ []))
 atom-twice_plain m s t im flag pred v matters b base takes at plain met =
@@ -168,7 +177,8 @@ atom-twice_plain m s t im flag pred v matters b base takes at plain met =
     (All-cons (Contains t.individuals) (b v) [] at (All-nil (Contains t.individuals))))
     (wanted flag) (wanted-definite flag) each))
   where
-    each : (below : List ℕ) → All (Contains s.individuals) below → map m below ≡ b v ∷ b v ∷ [] → s.value pred below ≡ wanted flag
+    each : (below : List ℕ) → All (Contains s.individuals) below → map m below ≡ b v ∷ b v ∷ []
+        → s.value pred below ≡ wanted flag
     each below all e =
         let two : TwoBelow m below (b v) (b v) = two-below m below (b v) (b v) e
         in let In : List ℕ → Type 0 = λ us. All (Contains s.individuals) us
@@ -176,7 +186,11 @@ atom-twice_plain m s t im flag pred v matters b base takes at plain met =
         in let first : IsPreimage m s (b v) two.first
         = (All-head (Contains s.individuals) two.first (two.second ∷ []) inside, two.goes)
         in let second : IsPreimage m s (b v) two.second
-        = (All-head (Contains s.individuals) two.second [] (All-tail (Contains s.individuals) two.first (two.second ∷ []) inside), two.other)
+        = (
+          All-head (Contains s.individuals) two.second []
+              (All-tail (Contains s.individuals) two.first (two.second ∷ []) inside),
+          two.other,
+        )
         in let a : Assignment = put base v two.first
         in let here : a v ≡ two.first = put-same base v two.first v refl
         in let Summary : ℕ → Type 0 = λ z. IsTrue (s.is_summary z)
@@ -184,15 +198,18 @@ atom-twice_plain m s t im flag pred v matters b base takes at plain met =
         = ⊎_elim
         (λ yes. (signed-wanted flag s a (FAtom pred (v ∷ v ∷ []))).0 yes)
         (λ may. let same : may.var ≡ v = cc may.twice
-        in absurd (plain-preimage m s t im.embeds (b v) plain two.first first (subst Summary (ap a same ∙ here) may.summary)))
+        in absurd (plain-preimage m s t im.embeds (b v) plain two.first first
+        (subst Summary (ap a same ∙ here) may.summary)))
         (met a (preimages-put matters m s base b takes v two.first first))
         in ap (s.value pred) two.is
-        ∙ ap (λ x. s.value pred (two.first ∷ x ∷ [])) (one-preimage m s t im.embeds (b v) plain two.second two.first second first)
+        ∙ ap (λ x. s.value pred (two.first ∷ x ∷ []))
+        (one-preimage m s t im.embeds (b v) plain two.second two.first second first)
         ∙ sym (ap (λ u. s.value pred (u ∷ u ∷ [])) here)
         ∙ value_there
 
 -- one variable twice, on a summary: the value isn't No
-atom-twice_summary : (m : ℕ → ℕ) (s t : LogicalStructure) → IsImage m s t → (flag : Bool) (pred v : ℕ) (matters : ℕ → Type 0)
+atom-twice_summary : (m : ℕ → ℕ) (s t : LogicalStructure) → IsImage m s t
+    → (flag : Bool) (pred v : ℕ) (matters : ℕ → Type 0)
     → ((x : ℕ) → IsInHead x (HAtom flag pred (v ∷ v ∷ [])) → matters x)
     → (b base : Assignment) → Takes matters m s b base → IsTrue (t.is_summary (b v))
     → IsMetBelow matters m s b (HAtom flag pred (v ∷ v ∷ [])) → IsHeadMet t b (HAtom flag pred (v ∷ v ∷ []))
@@ -200,7 +217,8 @@ atom-twice_summary m s t im flag pred v matters needed b base takes summary met 
     ⊎_elim
     (λ yes. inl yes)
     (λ half. inr (record { var = v; twice = refl; summary = summary; half = half }))
-    (not_no-above (value s base (head_formula (HAtom flag pred (v ∷ v ∷ [])))) (value t b (head_formula (HAtom flag pred (v ∷ v ∷ []))))
+    (not_no-above (value s base (head_formula (HAtom flag pred (v ∷ v ∷ []))))
+    (value t b (head_formula (HAtom flag pred (v ∷ v ∷ []))))
     (head-under m s t im (HAtom flag pred (v ∷ v ∷ [])) matters needed base b takes)
     (met-value s base (HAtom flag pred (v ∷ v ∷ [])) (met base takes)))
 

@@ -33,8 +33,10 @@ stable-from_meets h rule meets a inside held =
 
 pub stable_heaps_meet_rules : StableHeapsMeetRules
 stable_heaps_meet_rules h rules = (
-  λ stable. All-weaker (IsStableUnder (heap_structure h)) (MeetsRule h) (λ rule s. meets-from_stable h rule s) rules stable,
-  λ meets. All-weaker (MeetsRule h) (IsStableUnder (heap_structure h)) (λ rule m. stable-from_meets h rule m) rules meets,
+  λ stable. All-weaker (IsStableUnder (heap_structure h)) (MeetsRule h)
+      (λ rule s. meets-from_stable h rule s) rules stable,
+  λ meets. All-weaker (MeetsRule h) (IsStableUnder (heap_structure h))
+      (λ rule m. stable-from_meets h rule m) rules meets,
 )
 
 pub sharpening_loses_no_heap : SharpeningLosesNoHeap

@@ -27,7 +27,8 @@ common_value (inr some) (inr other) = Half
 abbrev pub all_have : (m : ℕ → ℕ) (s : LogicalStructure) (pred : ℕ) (tuple : List ℕ) (k : K3)
     → IsDecided (EachBelow m s.individuals tuple (λ below. s.value pred below ≡ k))
 all_have m s pred tuple k =
-    below-decided m s.individuals tuple (λ below. s.value pred below ≡ k) (λ below. value-decided (s.value pred below) k)
+    below-decided m s.individuals tuple (λ below. s.value pred below ≡ k)
+    (λ below. value-decided (s.value pred below) k)
 
 pub image_value : (ℕ → ℕ) → LogicalStructure → ℕ → List ℕ → K3
 image_value m s pred tuple = common_value (all_have m s pred tuple Yes) (all_have m s pred tuple No)
@@ -54,7 +55,8 @@ plain-decided m s w =
     s.individuals)
   where
     go : IsDecided ((u : ℕ) → Contains s.individuals u → m u ≡ w → s.is_summary u ≡ false)
-        → IsDecided ((u : ℕ) → Contains s.individuals u → (x : ℕ) → Contains s.individuals x → m u ≡ w → m x ≡ w → u ≡ x)
+        → IsDecided ((u : ℕ) → Contains s.individuals u → (x : ℕ) → Contains s.individuals x → m u ≡ w → m x ≡ w
+        → u ≡ x)
         → IsDecided (IsPlain m s w)
     go (inl none) (inl one) = inl (record { none = none; one = one })
     go (inr n) one = inr (λ p. n p.none)
@@ -96,8 +98,10 @@ some-below : (m : ℕ → ℕ) (s t : LogicalStructure) → Embeds m s t → (tu
     → SomeBelow m s.individuals tuple
 some-below m s t e [] all = record { below = []; all = All-nil (Contains s.individuals); goes = refl }
 some-below m s t e (w ∷ tuple) all =
-    let rest : SomeBelow m s.individuals tuple = some-below m s t e tuple (All-tail (Contains t.individuals) w tuple all)
-    in let first : (u : ℕ) × Contains s.individuals u × (m u ≡ w) = e.onto w (All-head (Contains t.individuals) w tuple all)
+    let rest : SomeBelow m s.individuals tuple = some-below m s t e tuple
+    (All-tail (Contains t.individuals) w tuple all)
+    in let first : (u : ℕ) × Contains s.individuals u
+    × (m u ≡ w) = e.onto w (All-head (Contains t.individuals) w tuple all)
     in record {
       below = first.0 ∷ rest.below;
       all = All-cons (Contains s.individuals) first.0 rest.below first.1 rest.all;
@@ -146,14 +150,16 @@ image-above m s pred below all = go (all_have m s pred (map m below) Yes) (all_h
     go (inr n) (inr d) = inr refl
 
 image-definite : (m : ℕ → ℕ) (s : LogicalStructure) (pred : ℕ) (tuple : List ℕ) → SomeBelow m s.individuals tuple
-    → (k : K3) → k ≢ Half → EachBelow m s.individuals tuple (λ below. s.value pred below ≡ k) → image_value m s pred tuple ≡ k
+    → (k : K3) → k ≢ Half → EachBelow m s.individuals tuple (λ below. s.value pred below ≡ k)
+    → image_value m s pred tuple ≡ k
 image-definite m s pred tuple some No definite each = image-no m s pred tuple some each
 image-definite m s pred tuple some Half definite each = absurd (definite refl)
 image-definite m s pred tuple some Yes definite each = image-yes m s pred tuple each
 
 -- the image's value lies under each that all values below lie under
 image-least : (m : ℕ → ℕ) (s t : LogicalStructure) → Embeds m s t → (pred : ℕ) (tuple : List ℕ)
-    → All (Contains t.individuals) tuple → (k : K3) → t.value pred tuple ≡ k → LiesUnder (image_value m s pred tuple) (t.value pred tuple)
+    → All (Contains t.individuals) tuple → (k : K3) → t.value pred tuple ≡ k
+    → LiesUnder (image_value m s pred tuple) (t.value pred tuple)
 image-least m s t e pred tuple all k is = go k is
   where
     under : (below : List ℕ) → All (Contains s.individuals) below → map m below ≡ tuple
@@ -166,7 +172,8 @@ image-least m s t e pred tuple all k is = go k is
     go Half is = inr is
     go Yes is =
         inl (image-yes m s pred tuple
-        (λ below inside goes. Yes-below (s.value pred below) (t.value pred tuple) (under below inside goes) is) ∙ sym is)
+        (λ below inside goes. Yes-below (s.value pred below) (t.value pred tuple) (under below inside goes) is)
+        ∙ sym is)
     go No is =
         inl (image-no m s pred tuple (some-below m s t e tuple all)
         (λ below inside goes. No-below (s.value pred below) (t.value pred tuple) (under below inside goes) is) ∙ sym is)
@@ -239,7 +246,8 @@ stable_structures_stay m s t rules e plain stable = (
 
 -- ---- sharpening
 
-kept : (m : ℕ → ℕ) (s t : LogicalStructure) (rules : List RuleForm) → (u : LogicalStructure) → IsStableBetween m s t rules u
+kept : (m : ℕ → ℕ) (s t : LogicalStructure) (rules : List RuleForm) → (u : LogicalStructure)
+    → IsStableBetween m s t rules u
     → (r : LogicalStructure) → IsGreatestStable rules t r → Embeds m s r
 kept m s t rules u is r best =
     EmbedsOn-compose (λ pred. Unit {0}) m (λ x. x) s u r is.embeds (best.greatest u is.below is.stable).1

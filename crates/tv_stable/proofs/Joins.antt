@@ -66,7 +66,8 @@ half-signed false s a f e = ap negation_of e
 -- ---- heads
 
 atom-joined : (s t : LogicalStructure) (a : Assignment) (flag : Bool) (pred : ℕ) (vars : List ℕ)
-    → IsHeadMet s a (HAtom flag pred vars) → IsHeadMet t a (HAtom flag pred vars) → IsHeadMet (joined s t) a (HAtom flag pred vars)
+    → IsHeadMet s a (HAtom flag pred vars) → IsHeadMet t a (HAtom flag pred vars)
+    → IsHeadMet (joined s t) a (HAtom flag pred vars)
 atom-joined s t a flag pred vars (inl p) (inl q) =
     inl ((signed-wanted flag (joined s t) a (FAtom pred vars)).1
     (join-both flag (s.value pred (map a vars)) (t.value pred (map a vars))
@@ -77,7 +78,8 @@ atom-joined s t a flag pred vars (inl p) (inr may) =
       twice = may.twice;
       summary = or-right (s.is_summary (a may.var)) (t.is_summary (a may.var)) may.summary;
       half = half-signed flag (joined s t) a (FAtom pred vars)
-          (join-half_right (s.value pred (map a vars)) (t.value pred (map a vars)) (signed-half flag t a (FAtom pred vars) may.half));
+          (join-half_right (s.value pred (map a vars)) (t.value pred (map a vars))
+          (signed-half flag t a (FAtom pred vars) may.half));
     })
 atom-joined s t a flag pred vars (inr may) q =
     inr (record {
@@ -85,11 +87,13 @@ atom-joined s t a flag pred vars (inr may) q =
       twice = may.twice;
       summary = or-left (s.is_summary (a may.var)) (t.is_summary (a may.var)) may.summary;
       half = half-signed flag (joined s t) a (FAtom pred vars)
-          (join-half_left (s.value pred (map a vars)) (t.value pred (map a vars)) (signed-half flag s a (FAtom pred vars) may.half));
+          (join-half_left (s.value pred (map a vars)) (t.value pred (map a vars))
+          (signed-half flag s a (FAtom pred vars) may.half));
     })
 
 -- an equality of one variable on a summary is Half
-same-on_summary : (s : LogicalStructure) (a : Assignment) (flag : Bool) (v w x : ℕ) → v ≡ x → w ≡ x → IsTrue (s.is_summary (a x))
+same-on_summary : (s : LogicalStructure) (a : Assignment) (flag : Bool) (v w x : ℕ) → v ≡ x → w ≡ x
+    → IsTrue (s.is_summary (a x))
     → value s a (signed_form flag (FSame v w)) ≡ Half
 same-on_summary s a flag v w x e d summary =
     half-signed flag s a (FSame v w)
@@ -144,7 +148,8 @@ rule-joined s t same rule plain left right a inside body =
     in head-joined s t a rule.head
     (left a inside
     (Yes-below (value s a rule.body) (value (joined s t) a rule.body)
-    (values_are_monotone rule.body s (joined s t) a (below-left s t) (λ n. absurd (plain.unmarked n)) (λ v free. inside v (inl free)))
+    (values_are_monotone rule.body s (joined s t) a (below-left s t) (λ n. absurd (plain.unmarked n))
+    (λ v free. inside v (inl free)))
     body))
     (right a inside_right
     (Yes-below (value t a rule.body) (value (joined s t) a rule.body)

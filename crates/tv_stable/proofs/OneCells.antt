@@ -43,9 +43,13 @@ reflexive-summary a inside body =
 pub one_cell_laws : OneCellLaws
 one_cell_laws = record {
   unique_on_cell =
-      All-cons (IsStableUnder (one_individual false Yes)) (unique_rule 0) [] unique-cell (All-nil (IsStableUnder (one_individual false Yes)));
-  unique_on_summary = λ stable. unique-summary (All-head (IsStableUnder (one_individual true Yes)) (unique_rule 0) [] stable);
-  reflexive_on_cell = λ stable. reflexive-cell (All-head (IsStableUnder (one_individual false Half)) (reflexive_rule 0) [] stable);
+      All-cons (IsStableUnder (one_individual false Yes)) (unique_rule 0) [] unique-cell
+      (All-nil (IsStableUnder (one_individual false Yes)));
+  unique_on_summary = λ stable. unique-summary
+      (All-head (IsStableUnder (one_individual true Yes)) (unique_rule 0) [] stable);
+  reflexive_on_cell = λ stable. reflexive-cell
+      (All-head (IsStableUnder (one_individual false Half)) (reflexive_rule 0) [] stable);
   reflexive_on_summary =
-      All-cons (IsStableUnder (one_individual true Half)) (reflexive_rule 0) [] reflexive-summary (All-nil (IsStableUnder (one_individual true Half)));
+      All-cons (IsStableUnder (one_individual true Half)) (reflexive_rule 0) [] reflexive-summary
+      (All-nil (IsStableUnder (one_individual true Half)));
 }

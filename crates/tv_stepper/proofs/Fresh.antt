@@ -54,7 +54,8 @@ pub swapped-there : (xs : List ℕ) (u m w : ℕ) → ¬ Contains xs u → ¬ Co
     → Contains (xs ++ u ∷ []) w → Contains (xs ++ m ∷ []) (swap u m w)
 swapped-there xs u m w nu nm at =
     ⊎_elim
-    (λ old. let In : ℕ → Type 0 = λ y. Contains (xs ++ m ∷ []) y in subst In (sym (fixed xs u m w nu nm old)) (pushed-old xs m w old))
+    (λ old. let In : ℕ → Type 0 = λ y. Contains (xs ++ m ∷ []) y
+    in subst In (sym (fixed xs u m w nu nm old)) (pushed-old xs m w old))
     (λ e. pushed-last xs m (swap u m w) (swap-first u m w e))
     (pushed-cases xs u w at)
 
@@ -70,7 +71,8 @@ swapped-back xs u m w nu nm at =
 some-same : (x w : ℕ) → Some x ≡ Some w → x ≡ w
 some-same x w e = cc e
 
-pub fixed-tuple : (xs : List ℕ) (u m : ℕ) → ¬ Contains xs u → ¬ Contains xs m → (us : List ℕ) → All (Contains xs) us → map (swap u m) us ≡ us
+pub fixed-tuple : (xs : List ℕ) (u m : ℕ) → ¬ Contains xs u → ¬ Contains xs m → (us : List ℕ) → All (Contains xs) us
+    → map (swap u m) us ≡ us
 fixed-tuple xs u m nu nm [] all = refl
 fixed-tuple xs u m nu nm (w ∷ us) all =
     let head : swap u m w ≡ w = fixed xs u m w nu nm (All-head (Contains xs) w us all)
@@ -82,7 +84,8 @@ swap-tuple_twice u m [] = refl
 swap-tuple_twice u m (w ∷ us) =
     ap (λ y. y ∷ map (swap u m) (map (swap u m) us)) (swap-twice u m w) ∙ ap (λ ys. w ∷ ys) (swap-tuple_twice u m us)
 
-pub holds-alike : (p : ProgramForm) (old : Heap) → IsHeap p old → (u m : ℕ) → ¬ Contains old.individuals u → ¬ Contains old.individuals m
+pub holds-alike : (p : ProgramForm) (old : Heap) → IsHeap p old → (u m : ℕ) → ¬ Contains old.individuals u
+    → ¬ Contains old.individuals m
     → (q : ℕ) (us : List ℕ) → Holds (with_new old u) q us ↔ Holds (with_new old m) q (map (swap u m) us)
 holds-alike p old is u m nu nm q us =
     let Held : List ℕ → Type 0 = λ ws. Holds old q ws
@@ -100,7 +103,8 @@ IsFixed r a = (v : ℕ) → a v ≡ r (a v)
 pub put-fixed : (r : ℕ → ℕ) (a : Assignment) (v u : ℕ) → IsFixed r a → u ≡ r u → IsFixed r (put a v u)
 put-fixed r a v u is e = put-holds (λ x y. y ≡ r y) a v u e (λ x ne. is x)
 
-pub put_all-fixed : (r : ℕ → ℕ) (vars us : List ℕ) (a : Assignment) → IsFixed r a → map r us ≡ us → IsFixed r (put_all a vars us)
+pub put_all-fixed : (r : ℕ → ℕ) (vars us : List ℕ) (a : Assignment) → IsFixed r a → map r us ≡ us
+    → IsFixed r (put_all a vars us)
 put_all-fixed r [] us a is e = is
 put_all-fixed r (v ∷ vars) [] a is e = is
 put_all-fixed r (v ∷ vars) (u ∷ us) a is e =
@@ -133,7 +137,8 @@ swap-matches p old new picked u m x = record {
         (subst (Contains (old.individuals ++ m ∷ [])) e at),
   );
   atoms = λ q s vars a b agrees.
-      subst (λ us. Holds old q (map a vars) ↔ Holds old q us) (map-images (swap u m) a b vars (λ v at. sym (agrees v at)))
+      subst (λ us. Holds old q (map a vars) ↔ Holds old q us)
+      (map-images (swap u m) a b vars (λ v at. sym (agrees v at)))
       (holds-alike p old x.is u m x.u_not_old x.m_not_old q (map a vars));
   same = λ v w y z e d. (
     λ s. e ∙ ap (swap u m) s ∙ sym d,
@@ -141,7 +146,8 @@ swap-matches p old new picked u m x = record {
   );
   marks = λ s w y e. (
     λ t. ap (λ (z : ℕ). Some z) (sym (e ∙ swap-first u m w (sym (some-same u w t)))),
-    λ t. ap (λ (z : ℕ). Some z) (sym (sym (swap-twice u m w) ∙ swap-second u m (swap u m w) (sym e ∙ sym (some-same m y t)))),
+    λ t. ap (λ (z : ℕ). Some z) (sym (sym (swap-twice u m w)
+        ∙ swap-second u m (swap u m w) (sym e ∙ sym (some-same m y t)))),
   );
 }
 
@@ -161,17 +167,21 @@ exchanged-keeps p old new picked u m x (Some retain) w =
     (λ v. put-matched (λ y. Unit {0}) (λ y z. z ≡ swap u m y) picked picked retain.var w (swap u m w) refl
     (λ y s. x.picked_stays y) v tt)
 
-pub exchanged-change : (p : ProgramForm) (old new : Heap) (picked : Assignment) (u m : ℕ) → Exchange p old new picked u m
+pub exchanged-change : (p : ProgramForm) (old new : Heap) (picked : Assignment) (u m : ℕ)
+    → Exchange p old new picked u m
     → (vars : List ℕ) (change : ChangeForm) (us : List ℕ) (holds : Type 0) → All (Contains new.individuals) us
-    → AllowsChange (with_new old u) picked vars change us holds → AllowsChange (with_new old m) picked vars change us holds
+    → AllowsChange (with_new old u) picked vars change us holds
+    → AllowsChange (with_new old m) picked vars change us holds
 exchanged-change p old new picked u m x vars CFree us holds all allows = allows
 exchanged-change p old new picked u m x vars (CTo f) us holds all allows =
     let same : Truth (with_new old u) (put_all picked vars us) f ↔ Truth (with_new old m) (put_all picked vars us) f =
     exchanged-truth p old new picked u m x (put_all picked vars us) (put_all picked vars us) f
-    (put_all-fixed (swap u m) vars us picked x.picked_stays (fixed-tuple new.individuals u m x.u_not_new x.m_not_new us all))
+    (put_all-fixed (swap u m) vars us picked x.picked_stays
+    (fixed-tuple new.individuals u m x.u_not_new x.m_not_new us all))
     in (λ t. same.0 (allows.0 t), λ t. allows.1 (same.1 t))
 
-pub exchanged-update : (p : ProgramForm) (old new : Heap) (picked : Assignment) (u m : ℕ) → Exchange p old new picked u m
+pub exchanged-update : (p : ProgramForm) (old new : Heap) (picked : Assignment) (u m : ℕ)
+    → Exchange p old new picked u m
     → (q : ℕ) (update : Option UpdateForm) (us : List ℕ) → All (Contains new.individuals) us
     → FollowsUpdate q (with_new old u) picked update us new → FollowsUpdate q (with_new old m) picked update us new
 exchanged-update p old new picked u m x q None us all follows = follows
@@ -181,27 +191,40 @@ exchanged-update p old new picked u m x q (Some w) us all follows =
 -- a kept individual is neither of the two
 pub exchanged-kept : (p : ProgramForm) (old new : Heap) (picked : Assignment) (u m : ℕ) → Exchange p old new picked u m
     → (retain : Option RetainForm)
-    → ((w : ℕ) → Contains new.individuals w ↔ (Contains (with_new old u).individuals w × Keeps (with_new old u) picked retain w))
-    → (w : ℕ) → Contains new.individuals w ↔ (Contains (with_new old m).individuals w × Keeps (with_new old m) picked retain w)
+    → ((w : ℕ) → Contains new.individuals w ↔ (Contains (with_new old u).individuals w
+    × Keeps (with_new old u) picked retain w))
+    → (w : ℕ) → Contains new.individuals w ↔ (Contains (with_new old m).individuals w
+    × Keeps (with_new old m) picked retain w)
 exchanged-kept p old new picked u m x retain keeps w =
-    let stays : (y : ℕ) → Contains new.individuals y → swap u m y ≡ y = λ y at. fixed new.individuals u m y x.u_not_new x.m_not_new at
+    let stays : (y : ℕ) → Contains new.individuals y
+    → swap u m y ≡ y = λ y at. fixed new.individuals u m y x.u_not_new x.m_not_new at
     in let Kept : ℕ → Type 0 = λ y. Contains (with_new old m).individuals y × Keeps (with_new old m) picked retain y
     in let In : ℕ → Type 0 = λ y. Contains new.individuals y
-    in let there : (y : ℕ) → Contains (with_new old u).individuals y × Keeps (with_new old u) picked retain y → Kept (swap u m y) =
-    λ y both. (swapped-there old.individuals u m y x.u_not_old x.m_not_old both.0, (exchanged-keeps p old new picked u m x retain y).0 both.1)
+    in let there : (y : ℕ) → Contains (with_new old u).individuals y × Keeps (with_new old u) picked retain y
+    → Kept (swap u m y) =
+    λ y both. (
+      swapped-there old.individuals u m y x.u_not_old x.m_not_old both.0,
+      (exchanged-keeps p old new picked u m x retain y).0 both.1,
+    )
     in let back : (y : ℕ) → Kept (swap u m y) → Contains new.individuals y =
-    λ y both. (keeps y).1 (swapped-back old.individuals u m y x.u_not_old x.m_not_old both.0, (exchanged-keeps p old new picked u m x retain y).1 both.1)
+    λ y both. (keeps y).1 (
+      swapped-back old.individuals u m y x.u_not_old x.m_not_old both.0,
+      (exchanged-keeps p old new picked u m x retain y).1 both.1,
+    )
     in (
       λ at. subst Kept (stays w at) (there w ((keeps w).0 at)),
-      λ both. let at : Contains new.individuals (swap u m w) = back (swap u m w) (subst Kept (sym (swap-twice u m w)) both)
+      λ both. let at : Contains new.individuals (swap u m w) = back (swap u m w)
+          (subst Kept (sym (swap-twice u m w)) both)
           in subst In (sym (stays (swap u m w) at) ∙ swap-twice u m w) at,
     )
 
-pub is-middle : (fresh : Bool) (old : Heap) (m : ℕ) → fresh ≡ true → ¬ Contains old.individuals m → IsMiddle fresh old (with_new old m)
+pub is-middle : (fresh : Bool) (old : Heap) (m : ℕ) → fresh ≡ true → ¬ Contains old.individuals m
+    → IsMiddle fresh old (with_new old m)
 is-middle true old m e out = (m, out, refl)
 is-middle false old m e out = absurd (false≢true e)
 
-pub exchanged-step : (p : ProgramForm) (action : ActionForm) (old new : Heap) (picked : Assignment) (u m : ℕ) → Exchange p old new picked u m
+pub exchanged-step : (p : ProgramForm) (action : ActionForm) (old new : Heap) (picked : Assignment) (u m : ℕ)
+    → Exchange p old new picked u m
     → action.fresh ≡ true
     → StepsThrough p action picked old (with_new old u) new → StepsThrough p action picked old (with_new old m) new
 exchanged-step p action old new picked u m x fresh step = record {
@@ -210,21 +233,26 @@ exchanged-step p action old new picked u m x fresh step = record {
   precondition = step.precondition;
   is_middle = is-middle action.fresh old m fresh x.m_not_old;
   keeps = exchanged-kept p old new picked u m x action.retain step.keeps;
-  core = λ q d found core us fits. exchanged-update p old new picked u m x q (update_for q action.updates) us fits.1 (step.core q d found core us fits);
+  core = λ q d found core us fits. exchanged-update p old new picked u m x q (update_for q action.updates) us fits.1
+      (step.core q d found core us fits);
   new_heap = step.new_heap;
   concrete = step.concrete;
 }
 
-pub exchanged-given : (p : ProgramForm) (mode : Mode) (action : ActionForm) (old new : Heap) (picked : Assignment) (u m : ℕ) → Exchange p old new picked u m
-    → AgreesWithGiven p mode action picked (with_new old u) new → AgreesWithGiven p mode action picked (with_new old m) new
+pub exchanged-given : (p : ProgramForm) (mode : Mode) (action : ActionForm) (old new : Heap) (picked : Assignment)
+    (u m : ℕ) → Exchange p old new picked u m
+    → AgreesWithGiven p mode action picked (with_new old u) new
+    → AgreesWithGiven p mode action picked (with_new old m) new
 exchanged-given p Recompute action old new picked u m x given = given
 exchanged-given p Given action old new picked u m x given =
     λ q d found defined w is us fits. exchanged-change p old new picked u m x w.vars w.change us (Holds new q us) fits.1
     (given q d found defined w is us fits)
 
-pub exchanged : (p : ProgramForm) (mode : Mode) (action : ActionForm) (picked : Assignment) (old new : Heap) (u m : ℕ) → Exchange p old new picked u m
+pub exchanged : (p : ProgramForm) (mode : Mode) (action : ActionForm) (picked : Assignment) (old new : Heap)
+    (u m : ℕ) → Exchange p old new picked u m
     → action.fresh ≡ true
-    → IsFairThrough p mode action picked old (with_new old u) new → IsFairThrough p mode action picked old (with_new old m) new
+    → IsFairThrough p mode action picked old (with_new old u) new
+    → IsFairThrough p mode action picked old (with_new old m) new
 exchanged p mode action picked old new u m x fresh fair = record {
   step = exchanged-step p action old new picked u m x fresh fair.step;
   given = exchanged-given p mode action old new picked u m x fair.given;
@@ -239,7 +267,8 @@ ValuesSoFar xs a n = Contains xs 0 × ((v : ℕ) → v < n → Contains xs (a v)
 pub values-none : (xs : List ℕ) (a : Assignment) → Contains xs 0 → ValuesSoFar xs a 0
 values-none xs a at = (at, λ v below. absurd (omega (arith, below)))
 
-pub values-more : (xs ys : List ℕ) (a : Assignment) (n x : ℕ) → ys ≡ xs ++ x ∷ [] → x ≡ a n → ValuesSoFar xs a n → ValuesSoFar ys a (n + 1)
+pub values-more : (xs ys : List ℕ) (a : Assignment) (n x : ℕ) → ys ≡ xs ++ x ∷ [] → x ≡ a n → ValuesSoFar xs a n
+    → ValuesSoFar ys a (n + 1)
 values-more xs ys a n x grown is before =
     let Of : List ℕ → Type 0 = λ zs. ValuesSoFar zs a (n + 1)
     in let one : (v : ℕ) → v < n + 1 → (v ≡ n) ⊎ (v ≢ n) → Contains (xs ++ x ∷ []) (a v) =
@@ -273,7 +302,8 @@ middle-is_old true old middle e is = absurd (false≢true (sym e))
 middle-is_old false old middle e is = is
 
 -- without a further individual the old heap is the middle
-pub fair-by_old : (p : ProgramForm) (mode : Mode) (action : ActionForm) (picked : Assignment) (old new : Heap) → action.fresh ≡ false
+pub fair-by_old : (p : ProgramForm) (mode : Mode) (action : ActionForm) (picked : Assignment) (old new : Heap)
+    → action.fresh ≡ false
     → IsFairThrough p mode action picked old old new ↔ FairlySteps p mode action picked old new
 fair-by_old p mode action picked old new fresh =
     let Through : Heap → Type 0 = λ middle. IsFairThrough p mode action picked old middle new
@@ -283,9 +313,11 @@ fair-by_old p mode action picked old new fresh =
     )
 
 -- with one, some number to try makes the middle
-pub fair-by_candidates : (p : ProgramForm) (mode : Mode) (action : ActionForm) (picked : Assignment) (old new : Heap) (us : List ℕ)
+pub fair-by_candidates : (p : ProgramForm) (mode : Mode) (action : ActionForm) (picked : Assignment)
+    (old new : Heap) (us : List ℕ)
     → action.fresh ≡ true → Suffice us old new picked
-    → ((u : ℕ) × Contains us u × IsFairThrough p mode action picked old (with_new old u) new) ↔ FairlySteps p mode action picked old new
+    → ((u : ℕ) × Contains us u × IsFairThrough p mode action picked old (with_new old u) new)
+    ↔ FairlySteps p mode action picked old new
 fair-by_candidates p mode action picked old new us fresh enough =
     (λ some. (with_new old some.0, some.2), λ fair. found fair)
   where
@@ -302,51 +334,65 @@ fair-by_candidates p mode action picked old new us fresh enough =
           m_not_old = enough.further.2;
           u_not_new = λ at. out (enough.of_new u at);
           m_not_new = enough.further.3;
-          picked_stays = λ v. sym (swap-rest u enough.further.0 (picked v) (differs us u (picked v) out (enough.of_picked v)) (enough.further.4 v));
+          picked_stays = λ v. sym (swap-rest u enough.further.0 (picked v)
+              (differs us u (picked v) out (enough.of_picked v)) (enough.further.4 v));
         }
         in (enough.further.0, enough.further.1, exchanged p mode action picked old new u enough.further.0 x fresh fair)
 
     found : FairlySteps p mode action picked old new → (w : ℕ) × Contains us w × Through (with_new old w)
     found fair =
-        let middle : (u : ℕ) × (¬ Contains old.individuals u) × (fair.0 ≡ with_new old u) = middle-of action.fresh old fair.0 fresh fair.1.step.is_middle
+        let middle : (u : ℕ) × (¬ Contains old.individuals u)
+        × (fair.0 ≡ with_new old u) = middle-of action.fresh old fair.0 fresh fair.1.step.is_middle
         in at-one middle.0 middle.1 (subst Through middle.2 fair.1) (Contains-decided us middle.0)
 
-pub old-answer : {E : Type 0} (p : ProgramForm) (mode : Mode) (action : ActionForm) (picked : Assignment) (old new : Heap) → action.fresh ≡ false
+pub old-answer : {E : Type 0} (p : ProgramForm) (mode : Mode) (action : ActionForm) (picked : Assignment)
+    (old new : Heap) → action.fresh ≡ false
     → (r : Result Bool E) → IfOk r (λ b. IsTrue b ↔ IsFairThrough p mode action picked old old new)
     → IfOk r (λ b. IsTrue b ↔ FairlySteps p mode action picked old new)
 old-answer p mode action picked old new fresh (Ok b) is =
-    let same : IsFairThrough p mode action picked old old new ↔ FairlySteps p mode action picked old new = fair-by_old p mode action picked old new fresh
+    let same : IsFairThrough p mode action picked old old new
+    ↔ FairlySteps p mode action picked old new = fair-by_old p mode action picked old new fresh
     in (λ t. same.0 (is.0 t), λ q. is.1 (same.1 q))
 old-answer p mode action picked old new fresh (Err e) is = is
 
-pub candidates-answer : {E : Type 0} (p : ProgramForm) (mode : Mode) (action : ActionForm) (picked : Assignment) (old new : Heap) (us ws : List ℕ)
+pub candidates-answer : {E : Type 0} (p : ProgramForm) (mode : Mode) (action : ActionForm) (picked : Assignment)
+    (old new : Heap) (us ws : List ℕ)
     → action.fresh ≡ true → us ≡ ws → Suffice ws old new picked
-    → (r : Result Bool E) → IfOk r (λ b. IsTrue b ↔ ((u : ℕ) × Contains us u × IsFairThrough p mode action picked old (with_new old u) new))
+    → (r : Result Bool E) → IfOk r (λ b. IsTrue b
+    ↔ ((u : ℕ) × Contains us u × IsFairThrough p mode action picked old (with_new old u) new))
     → IfOk r (λ b. IsTrue b ↔ FairlySteps p mode action picked old new)
 candidates-answer p mode action picked old new us ws fresh eq enough (Ok b) is =
     let Enough : List ℕ → Type 0 = λ xs. Suffice xs old new picked
-    in let same : ((u : ℕ) × Contains us u × IsFairThrough p mode action picked old (with_new old u) new) ↔ FairlySteps p mode action picked old new =
+    in let same : ((u : ℕ) × Contains us u × IsFairThrough p mode action picked old (with_new old u) new)
+    ↔ FairlySteps p mode action picked old new =
     fair-by_candidates p mode action picked old new us fresh (subst Enough (sym eq) enough)
     in (λ t. same.0 (is.0 t), λ q. is.1 (same.1 q))
 candidates-answer p mode action picked old new us ws fresh eq enough (Err e) is = is
 
 -- the values, the individuals of both heaps and a number that is none of them
 pub candidates-suffice : (values with_old with_both taken all : List ℕ) (old new : Heap) (picked : Assignment) (m : ℕ)
-    → with_old ≡ values ++ old.individuals → with_both ≡ with_old ++ new.individuals → taken ≡ with_both → all ≡ with_both ++ m ∷ []
+    → with_old ≡ values ++ old.individuals → with_both ≡ with_old ++ new.individuals → taken ≡ with_both
+    → all ≡ with_both ++ m ∷ []
     → ((v : ℕ) → Contains values (picked v)) → ¬ Contains taken m → Suffice all old new picked
 candidates-suffice values with_old with_both taken all old new picked m eo eb et ea values_in unused =
     let from_both : (u : ℕ) → Contains with_both u → Contains all u =
     λ u at. let Of : List ℕ → Type 0 = λ xs. Contains xs u in subst Of (sym ea) (pushed-old with_both m u at)
     in let from_old : (u : ℕ) → Contains with_old u → Contains with_both u =
-    λ u at. let Of : List ℕ → Type 0 = λ xs. Contains xs u in subst Of (sym eb) (Contains-append_left with_old new.individuals u at)
+    λ u at. let Of : List ℕ → Type 0 = λ xs. Contains xs u
+    in subst Of (sym eb) (Contains-append_left with_old new.individuals u at)
     in let of_new : (u : ℕ) → Contains new.individuals u → Contains with_both u =
-    λ u at. let Of : List ℕ → Type 0 = λ xs. Contains xs u in subst Of (sym eb) (Contains-append_right with_old new.individuals u at)
+    λ u at. let Of : List ℕ → Type 0 = λ xs. Contains xs u
+    in subst Of (sym eb) (Contains-append_right with_old new.individuals u at)
     in let of_old : (u : ℕ) → Contains old.individuals u → Contains with_old u =
-    λ u at. let Of : List ℕ → Type 0 = λ xs. Contains xs u in subst Of (sym eo) (Contains-append_right values old.individuals u at)
+    λ u at. let Of : List ℕ → Type 0 = λ xs. Contains xs u
+    in subst Of (sym eo) (Contains-append_right values old.individuals u at)
     in let of_values : (u : ℕ) → Contains values u → Contains with_old u =
-    λ u at. let Of : List ℕ → Type 0 = λ xs. Contains xs u in subst Of (sym eo) (Contains-append_left values old.individuals u at)
-    in let unused_in_both : ¬ Contains with_both m = let Of : List ℕ → Type 0 = λ xs. ¬ Contains xs m in subst Of et unused
-    in let last : Contains all m = let Of : List ℕ → Type 0 = λ xs. Contains xs m in subst Of (sym ea) (pushed-last with_both m m refl)
+    λ u at. let Of : List ℕ → Type 0 = λ xs. Contains xs u
+    in subst Of (sym eo) (Contains-append_left values old.individuals u at)
+    in let unused_in_both : ¬ Contains with_both m = let Of : List ℕ → Type 0 = λ xs. ¬ Contains xs m
+    in subst Of et unused
+    in let last : Contains all m = let Of : List ℕ → Type 0 = λ xs. Contains xs m
+    in subst Of (sym ea) (pushed-last with_both m m refl)
     in let In : ℕ → Type 0 = λ x. Contains with_both x
     in record {
       of_new = λ u at. from_both u (of_new u at);

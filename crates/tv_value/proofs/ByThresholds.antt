@@ -55,20 +55,24 @@ walk-iff : (R S : ℕ → ℕ → Type 0) → ((u w : ℕ) → R u w ↔ S u w) 
     → IsWalk R u stops w ↔ IsWalk S u stops w
 walk-iff R S same u [] w = same u w
 walk-iff R S same u (stop ∷ stops) w =
-    and-iff (R u stop) (S u stop) (IsWalk R stop stops w) (IsWalk S stop stops w) (same u stop) (walk-iff R S same stop stops w)
+    and-iff (R u stop) (S u stop) (IsWalk R stop stops w) (IsWalk S stop stops w) (same u stop)
+    (walk-iff R S same stop stops w)
 
 -- ---- the operations, by one threshold
 
 negation-iff : (c : Bool) (x : K3) (P : Type 0) → Threshold (not c) x ↔ P → Threshold c (negation_of x) ↔ (¬ P)
 negation-iff c x P p =
-    iff-trans (Threshold c (negation_of x)) (¬ Threshold (not c) x) (¬ P) (threshold-negation c x) (not-iff (Threshold (not c) x) P p)
+    iff-trans (Threshold c (negation_of x)) (¬ Threshold (not c) x) (¬ P) (threshold-negation c x)
+    (not-iff (Threshold (not c) x) P p)
 
-smaller-iff : (c : Bool) (x y : K3) (P Q : Type 0) → Threshold c x ↔ P → Threshold c y ↔ Q → Threshold c (smaller_of x y) ↔ (P × Q)
+smaller-iff : (c : Bool) (x y : K3) (P Q : Type 0) → Threshold c x ↔ P → Threshold c y ↔ Q
+    → Threshold c (smaller_of x y) ↔ (P × Q)
 smaller-iff c x y P Q p q =
     iff-trans (Threshold c (smaller_of x y)) (Threshold c x × Threshold c y) (P × Q) ((is-threshold c).smaller x y)
     (and-iff (Threshold c x) P (Threshold c y) Q p q)
 
-larger-iff : (c : Bool) (x y : K3) (P Q : Type 0) → Threshold c x ↔ P → Threshold c y ↔ Q → Threshold c (larger_of x y) ↔ (P ⊎ Q)
+larger-iff : (c : Bool) (x y : K3) (P Q : Type 0) → Threshold c x ↔ P → Threshold c y ↔ Q
+    → Threshold c (larger_of x y) ↔ (P ⊎ Q)
 larger-iff c x y P Q p q =
     iff-trans (Threshold c (larger_of x y)) (Threshold c x ⊎ Threshold c y) (P ⊎ Q) ((is-threshold c).larger x y)
     (or-iff (Threshold c x) P (Threshold c y) Q p q)
@@ -76,7 +80,8 @@ larger-iff c x y P Q p q =
 greatest-iff : (c : Bool) (g : ℕ → K3) (P : ℕ → Type 0) (xs : List ℕ) → ((u : ℕ) → Threshold c (g u) ↔ P u)
     → Threshold c (greatest_of g xs) ↔ ((u : ℕ) × Contains xs u × P u)
 greatest-iff c g P xs each = (
-  λ m. let d : (u : ℕ) × Contains xs u × Threshold c (g u) = (greatest-threshold (Threshold c) (is-threshold c) g xs).0 m
+  λ m. let d : (u : ℕ) × Contains xs u × Threshold c (g u) =
+      (greatest-threshold (Threshold c) (is-threshold c) g xs).0 m
       in (d.0, d.1, (each d.0).0 d.2),
   λ d. (greatest-threshold (Threshold c) (is-threshold c) g xs).1 (d.0, d.1, (each d.0).1 d.2),
 )
@@ -127,7 +132,8 @@ same-iff c s u w = (
 
 -- ---- formulas
 
-pub threshold-value : (c : Bool) (s : LogicalStructure) (a : Assignment) (f : Form) → Threshold c (value s a f) ↔ IsTrueIn c s a f
+pub threshold-value : (c : Bool) (s : LogicalStructure) (a : Assignment) (f : Form) → Threshold c (value s a f)
+    ↔ IsTrueIn c s a f
 threshold-value c s a FZero = ((is-threshold c).no, λ n. absurd n)
 threshold-value c s a FOne = (λ m. tt, λ n. (is-threshold c).yes)
 threshold-value c s a (FAtom pred vars) = meets-threshold c (s.value pred (map a vars))
@@ -135,11 +141,14 @@ threshold-value c s a (FIsNew v) = mark-iff c s (a v)
 threshold-value c s a (FSame v w) = same-iff c s (a v) (a w)
 threshold-value c s a (FNot f) = negation-iff c (value s a f) (IsTrueIn (not c) s a f) (threshold-value (not c) s a f)
 threshold-value c s a (FAnd f g) =
-    smaller-iff c (value s a f) (value s a g) (IsTrueIn c s a f) (IsTrueIn c s a g) (threshold-value c s a f) (threshold-value c s a g)
+    smaller-iff c (value s a f) (value s a g) (IsTrueIn c s a f) (IsTrueIn c s a g) (threshold-value c s a f)
+    (threshold-value c s a g)
 threshold-value c s a (FOr f g) =
-    larger-iff c (value s a f) (value s a g) (IsTrueIn c s a f) (IsTrueIn c s a g) (threshold-value c s a f) (threshold-value c s a g)
+    larger-iff c (value s a f) (value s a g) (IsTrueIn c s a f) (IsTrueIn c s a g) (threshold-value c s a f)
+    (threshold-value c s a g)
 threshold-value c s a (FIff f g) =
-    smaller-iff c (larger_of (negation_of (value s a f)) (value s a g)) (larger_of (negation_of (value s a g)) (value s a f))
+    smaller-iff c (larger_of (negation_of (value s a f)) (value s a g))
+    (larger_of (negation_of (value s a g)) (value s a f))
     ((¬ IsTrueIn (not c) s a f) ⊎ IsTrueIn c s a g) ((¬ IsTrueIn (not c) s a g) ⊎ IsTrueIn c s a f)
     (larger-iff c (negation_of (value s a f)) (value s a g) (¬ IsTrueIn (not c) s a f) (IsTrueIn c s a g)
     (negation-iff c (value s a f) (IsTrueIn (not c) s a f) (threshold-value (not c) s a f)) (threshold-value c s a g))
@@ -148,7 +157,8 @@ threshold-value c s a (FIff f g) =
 threshold-value c s a (FCond k f g) =
     larger-iff c (smaller_of (value s a k) (value s a f)) (smaller_of (negation_of (value s a k)) (value s a g))
     (IsTrueIn c s a k × IsTrueIn c s a f) ((¬ IsTrueIn (not c) s a k) × IsTrueIn c s a g)
-    (smaller-iff c (value s a k) (value s a f) (IsTrueIn c s a k) (IsTrueIn c s a f) (threshold-value c s a k) (threshold-value c s a f))
+    (smaller-iff c (value s a k) (value s a f) (IsTrueIn c s a k) (IsTrueIn c s a f) (threshold-value c s a k)
+    (threshold-value c s a f))
     (smaller-iff c (negation_of (value s a k)) (value s a g) (¬ IsTrueIn (not c) s a k) (IsTrueIn c s a g)
     (negation-iff c (value s a k) (IsTrueIn (not c) s a k) (threshold-value (not c) s a k)) (threshold-value c s a g))
 threshold-value c s a (FExists v f) =

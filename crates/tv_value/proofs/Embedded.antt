@@ -36,7 +36,8 @@ own-under false true grows = inr refl
 own-under false false grows = inl refl
 
 same-under : (P : ℕ → Type 0) (m : ℕ → ℕ) (s t : LogicalStructure) → EmbedsOn P m s t
-    → (u w : ℕ) → Contains s.individuals u → Contains s.individuals w → LiesUnder (same_value s u w) (same_value t (m u) (m w))
+    → (u w : ℕ) → Contains s.individuals u → Contains s.individuals w
+    → LiesUnder (same_value s u w) (same_value t (m u) (m w))
 same-under P m s t e u w hu hw =
     ⊎_elim
     (λ is. let Below : K3 → Type 0 = λ x. LiesUnder x (same_value t (m u) (m w))
@@ -69,7 +70,8 @@ matched-embedding P m s t e = record {
   marks = λ alike u w p.
       let Image : ℕ → Type 0 = λ z. LiesUnder (mark_value s.fresh u) (mark_value t.fresh z)
       in subst Image p.1
-      (LiesUnder-from_Under (mark_value s.fresh u) (mark_value t.fresh (m u)) (Under-mark s.fresh t.fresh u (m u) (alike u p.0)));
+      (LiesUnder-from_Under (mark_value s.fresh u) (mark_value t.fresh (m u))
+      (Under-mark s.fresh t.fresh u (m u) (alike u p.0)));
 }
 
 -- from an embedding on the predicates of P, which the formula's are among
@@ -84,7 +86,8 @@ embedding_theorem f m s t a b e takes =
     embedded-value (λ q. Mentions q f) m s t e.mentioned f (λ q h. h) (λ n. (e.marks n).marked) a b takes
 
 -- an embedding of all predicates is one for each formula
-pub embeds-for : (f : Form) (m : ℕ → ℕ) (s t : LogicalStructure) → Embeds m s t → (NamesNew f → KeepsMark m s t) → EmbedsFor f m s t
+pub embeds-for : (f : Form) (m : ℕ → ℕ) (s t : LogicalStructure) → Embeds m s t → (NamesNew f → KeepsMark m s t)
+    → EmbedsFor f m s t
 embeds-for f m s t e marks = record {
   mentioned = EmbedsOn-any (λ q. Mentions q f) m s t e;
   marks = marks;
@@ -110,7 +113,8 @@ same-renamed f r s t n u w hu hw =
     (cases_eq u w)
 
 atoms-renamed : (f : Form) (r : ℕ → ℕ) (s t : LogicalStructure) → Renames f r s t
-    → (pred : ℕ) → Mentions pred f → (vars : List ℕ) (a b : Assignment) → ((v : ℕ) → Contains vars v → GoesTo r s (a v) (b v))
+    → (pred : ℕ) → Mentions pred f → (vars : List ℕ) (a b : Assignment)
+    → ((v : ℕ) → Contains vars v → GoesTo r s (a v) (b v))
     → s.value pred (map a vars) ≡ t.value pred (map b vars)
 atoms-renamed f r s t n pred mentioned vars a b goes =
     n.values pred mentioned (map a vars) (All-values (Contains s.individuals) a vars (λ v at. (goes v at).0))
@@ -148,14 +152,17 @@ matched-back f r s t n = record {
   same = λ x y u w p q. inl (sym (same-goes f r s t n u w x y p q));
   marks = λ named w u p.
       let alike : (s.fresh ≡ Some u) ↔ (t.fresh ≡ Some w) = marks-go f r s t n named u w p
-      in LiesUnder-from_Under (mark_value t.fresh w) (mark_value s.fresh u) (Under-mark t.fresh s.fresh w u (alike.1, alike.0));
+      in LiesUnder-from_Under (mark_value t.fresh w) (mark_value s.fresh u)
+      (Under-mark t.fresh s.fresh w u (alike.1, alike.0));
 }
 
 pub values_are_kept : ValuesAreKept
 values_are_kept f r s t a b n takes =
     LiesUnder-antisym (value s a f) (value t b f)
-    (value-lies_under (λ q. Mentions q f) (NamesNew f) (GoesTo r s) s t (matched-renaming f r s t n) a b f (λ q h. h) (λ h. h) takes)
-    (value-lies_under (λ q. Mentions q f) (NamesNew f) (λ w u. GoesTo r s u w) t s (matched-back f r s t n) b a f (λ q h. h) (λ h. h) takes)
+    (value-lies_under (λ q. Mentions q f) (NamesNew f) (GoesTo r s) s t (matched-renaming f r s t n) a b f
+    (λ q h. h) (λ h. h) takes)
+    (value-lies_under (λ q. Mentions q f) (NamesNew f) (λ w u. GoesTo r s u w) t s (matched-back f r s t n) b a f
+    (λ q h. h) (λ h. h) takes)
 
 renames-nothing : (f : Form) (s t : LogicalStructure) → LooksAlike f s t → Renames f (λ u. u) s t
 renames-nothing f s t alike = record {

@@ -90,7 +90,11 @@ walk-inside : (R S : ℕ → ℕ → Type 0) (xs : List ℕ) → ((u w : ℕ) �
 walk-inside R S xs keeps u [] w hu hw within edge = (hu, hw, keeps u w hu hw edge)
 walk-inside R S xs keeps u (stop ∷ stops) w hu hw within walk =
     let at : Contains xs stop = All-head (Contains xs) stop stops within
-    in ((hu, at, keeps u stop hu at walk.0), walk-inside R S xs keeps stop stops w at hw (All-tail (Contains xs) stop stops within) walk.1)
+    in (
+      (hu, at, keeps u stop hu at walk.0),
+      walk-inside R S xs keeps stop stops w at hw
+          (All-tail (Contains xs) stop stops within) walk.1,
+    )
 
 walk-within : (R S : ℕ → ℕ → Type 0) (xs : List ℕ) → ((u w : ℕ) → Contains xs u → Contains xs w → R u w → S u w)
     → (u : ℕ) (stops : List ℕ) (w : ℕ) → IsWalk (λ x y. Contains xs x × Contains xs y × R x y) u stops w
@@ -111,7 +115,11 @@ tells-walk edge R xs each u w hu hw = record {
       in (best_walk-threshold Must must_threshold edge xs u w).1 (h.0, d.0, d.1);
   holds = λ m.
       let d : WalksWithin (λ x y. May (edge x y)) xs u w = (best_walk-threshold May may_threshold edge xs u w).0 m
-      in (d.0, walk-inside (λ x y. May (edge x y)) R xs (λ x y hx hy e. (each x y hx hy).holds e) u d.0 w hu hw d.1 d.2);
+      in (
+        d.0,
+        walk-inside (λ x y. May (edge x y)) R xs
+            (λ x y hx hy e. (each x y hx hy).holds e) u d.0 w hu hw d.1 d.2,
+      );
 }
 
 -- ---- what a heap's structure says of atoms
@@ -120,7 +128,8 @@ pub definite : (b : Bool) → May (cond b Yes No) → cond b Yes No ≡ Yes
 definite true m = refl
 definite false m = absurd m
 
-pub tells-atom : (h : Heap) (pred : ℕ) (tuple : List ℕ) → Tells ((heap_structure h).value pred tuple) (Holds h pred tuple)
+pub tells-atom : (h : Heap) (pred : ℕ) (tuple : List ℕ)
+    → Tells ((heap_structure h).value pred tuple) (Holds h pred tuple)
 tells-atom h pred tuple =
     let reads : ReadsHeap h = reads_heap h
     in record {
@@ -172,11 +181,13 @@ tells-truth h a (FForall v f) inside =
     tells-forall (λ u. value (heap_structure h) (put a v u) f) (λ u. Truth h (put a v u) f) h.individuals
     (λ u at. tells-truth h (put a v u) f (put-inside h.individuals (λ x. IsFree x f) a v u at inside))
 tells-truth h a (FClosure from to left right f) inside =
-    tells-walk (λ u w. value (heap_structure h) (put (put a left u) right w) f) (λ u w. Truth h (put (put a left u) right w) f)
+    tells-walk (λ u w. value (heap_structure h) (put (put a left u) right w) f)
+    (λ u w. Truth h (put (put a left u) right w) f)
     h.individuals
     (λ u w hu hw. tells-truth h (put (put a left u) right w) f
     (put-inside h.individuals (λ x. IsFree x f) (put a left u) right w hw
-    (put-inside h.individuals (λ x. (x ≢ right) × IsFree x f) a left u hu (λ x k. inside x (inr (inr (k.0, k.1.0, k.1.1)))))))
+    (put-inside h.individuals (λ x. (x ≢ right) × IsFree x f) a left u hu
+    (λ x k. inside x (inr (inr (k.0, k.1.0, k.1.1)))))))
     (a from) (a to) (inside from (inl refl)) (inside to (inr (inl refl)))
 
 pub heaps_tell_truth : HeapsTellTruth
@@ -197,7 +208,8 @@ heaps_tell_truth h a f inside =
 -- what the value above says of the heap
 pub definite_values_are_sound : DefiniteValuesAreSound
 definite_values_are_sound f m h t a b e takes =
-    let lies : LiesUnder (value (heap_structure h) a f) (value t b f) = embedding_theorem f m (heap_structure h) t a b e takes
+    let lies : LiesUnder (value (heap_structure h) a f) (value t b f) = embedding_theorem f m
+    (heap_structure h) t a b e takes
     in let tells : TellsTruth h a f = heaps_tell_truth h a f (λ v free. (takes v free).0)
     in record {
       yes = λ x. tells.yes.0 (Yes-below (value (heap_structure h) a f) (value t b f) lies x);

@@ -28,18 +28,21 @@ pub Under-iff : (x y z w : K3) → Under x y → Under z w
     → Under (smaller_of (larger_of (negation_of x) z) (larger_of (negation_of z) x))
     (smaller_of (larger_of (negation_of y) w) (larger_of (negation_of w) y))
 Under-iff x y z w u v =
-    Under-smaller (larger_of (negation_of x) z) (larger_of (negation_of y) w) (larger_of (negation_of z) x) (larger_of (negation_of w) y)
+    Under-smaller (larger_of (negation_of x) z) (larger_of (negation_of y) w) (larger_of (negation_of z) x)
+    (larger_of (negation_of w) y)
     (Under-larger (negation_of x) (negation_of y) z w (Under-negation x y u) v)
     (Under-larger (negation_of z) (negation_of w) x y (Under-negation z w v) u)
 
 pub Under-cond : (c d x y z w : K3) → Under c d → Under x y → Under z w
-    → Under (larger_of (smaller_of c x) (smaller_of (negation_of c) z)) (larger_of (smaller_of d y) (smaller_of (negation_of d) w))
+    → Under (larger_of (smaller_of c x) (smaller_of (negation_of c) z))
+    (larger_of (smaller_of d y) (smaller_of (negation_of d) w))
 Under-cond c d x y z w k u v =
     Under-larger (smaller_of c x) (smaller_of d y) (smaller_of (negation_of c) z) (smaller_of (negation_of d) w)
     (Under-smaller c d x y k u)
     (Under-smaller (negation_of c) (negation_of d) z w (Under-negation c d k) v)
 
-pub value-under : (P : ℕ → Type 0) (Marked : Type 0) (M : ℕ → ℕ → Type 0) (s t : LogicalStructure) → Matched P Marked M s t
+pub value-under : (P : ℕ → Type 0) (Marked : Type 0) (M : ℕ → ℕ → Type 0) (s t : LogicalStructure)
+    → Matched P Marked M s t
     → (a b : Assignment) (f : Form) → ((q : ℕ) → Mentions q f → P q) → (NamesNew f → Marked)
     → ((v : ℕ) → IsFree v f → M (a v) (b v)) → Under (value s a f) (value t b f)
 value-under P Marked M s t is a b FZero mentioned named free = Under-refl No
@@ -47,7 +50,8 @@ value-under P Marked M s t is a b FOne mentioned named free = Under-refl Yes
 value-under P Marked M s t is a b (FAtom q vars) mentioned named free =
     Under-from_LiesUnder (s.value q (map a vars)) (t.value q (map b vars)) (is.atoms q (mentioned q refl) vars a b free)
 value-under P Marked M s t is a b (FIsNew v) mentioned named free =
-    Under-from_LiesUnder (mark_value s.fresh (a v)) (mark_value t.fresh (b v)) (is.marks (named tt) (a v) (b v) (free v refl))
+    Under-from_LiesUnder (mark_value s.fresh (a v)) (mark_value t.fresh (b v))
+    (is.marks (named tt) (a v) (b v) (free v refl))
 value-under P Marked M s t is a b (FSame v w) mentioned named free =
     Under-from_LiesUnder (same_value s (a v) (a w)) (same_value t (b v) (b w))
     (is.same (a v) (a w) (b v) (b w) (free v (inl refl)) (free w (inr refl)))
@@ -68,10 +72,13 @@ value-under P Marked M s t is a b (FIff f g) mentioned named free =
 value-under P Marked M s t is a b (FCond c f g) mentioned named free =
     Under-cond (value s a c) (value t b c) (value s a f) (value t b f) (value s a g) (value t b g)
     (value-under P Marked M s t is a b c (λ q m. mentioned q (inl m)) (λ n. named (inl n)) (λ v m. free v (inl m)))
-    (value-under P Marked M s t is a b f (λ q m. mentioned q (inr (inl m))) (λ n. named (inr (inl n))) (λ v m. free v (inr (inl m))))
-    (value-under P Marked M s t is a b g (λ q m. mentioned q (inr (inr m))) (λ n. named (inr (inr n))) (λ v m. free v (inr (inr m))))
+    (value-under P Marked M s t is a b f (λ q m. mentioned q (inr (inl m))) (λ n. named (inr (inl n)))
+    (λ v m. free v (inr (inl m))))
+    (value-under P Marked M s t is a b g (λ q m. mentioned q (inr (inr m))) (λ n. named (inr (inr n)))
+    (λ v m. free v (inr (inr m))))
 value-under P Marked M s t is a b (FExists v f) mentioned named free =
-    Under-greatest M s.individuals t.individuals is.there is.back (λ u. value s (put a v u) f) (λ w. value t (put b v w) f)
+    Under-greatest M s.individuals t.individuals is.there is.back (λ u. value s (put a v u) f)
+    (λ w. value t (put b v w) f)
     (λ u w m. value-under P Marked M s t is (put a v u) (put b v w) f mentioned named
     (put-matched (λ x. IsFree x f) M a b v u w m free))
 value-under P Marked M s t is a b (FForall v f) mentioned named free =
@@ -81,12 +88,14 @@ value-under P Marked M s t is a b (FForall v f) mentioned named free =
 value-under P Marked M s t is a b (FClosure from to left right f) mentioned named free =
     Under-best_walk M s.individuals t.individuals is.there is.back
     (λ u w. value s (put (put a left u) right w) f) (λ x y. value t (put (put b left x) right y) f)
-    (λ u w x y m n. value-under P Marked M s t is (put (put a left u) right w) (put (put b left x) right y) f mentioned named
+    (λ u w x y m n. value-under P Marked M s t is (put (put a left u) right w)
+    (put (put b left x) right y) f mentioned named
     (put-matched (λ z. IsFree z f) M (put a left u) (put b left x) right w y n
     (put-matched (λ z. (z ≢ right) × IsFree z f) M a b left u x m (λ z k. free z (inr (inr (k.0, k.1.0, k.1.1)))))))
     (a from) (a to) (b from) (b to) (free from (inl refl)) (free to (inr (inl refl)))
 
-pub value-lies_under : (P : ℕ → Type 0) (Marked : Type 0) (M : ℕ → ℕ → Type 0) (s t : LogicalStructure) → Matched P Marked M s t
+pub value-lies_under : (P : ℕ → Type 0) (Marked : Type 0) (M : ℕ → ℕ → Type 0) (s t : LogicalStructure)
+    → Matched P Marked M s t
     → (a b : Assignment) (f : Form) → ((q : ℕ) → Mentions q f → P q) → (NamesNew f → Marked)
     → ((v : ℕ) → IsFree v f → M (a v) (b v)) → LiesUnder (value s a f) (value t b f)
 value-lies_under P Marked M s t is a b f mentioned named free =

@@ -27,10 +27,12 @@ preimages P m s t e = (λ w. (chosen w).0, λ w at. (chosen w).1 at)
     found w (u, at, is) = (u, λ anywhere. (at, is))
 
     chosen : (w : ℕ) → (u : ℕ) × (Contains t.individuals w → IsPreimage m s w u)
-    chosen w = ⊎_elim (λ at. found w (e.onto w at)) (λ none. (0, λ at. absurd (none at))) (Contains-decided t.individuals w)
+    chosen w = ⊎_elim (λ at. found w (e.onto w at)) (λ none. (0, λ at. absurd (none at)))
+        (Contains-decided t.individuals w)
 
 -- an assignment of individuals of t has one of their preimages below it
-pub assignment-below : (P : ℕ → Type 0) (m : ℕ → ℕ) (s t : LogicalStructure) → EmbedsOn P m s t → (f : Form) (b : Assignment)
+pub assignment-below : (P : ℕ → Type 0) (m : ℕ → ℕ) (s t : LogicalStructure) → EmbedsOn P m s t
+    → (f : Form) (b : Assignment)
     → GivesIndividuals t.individuals f b → (a : Assignment) × TakesAlong m s f a b
 assignment-below P m s t e f b inside =
     let chosen : (g : ℕ → ℕ) × ((w : ℕ) → Contains t.individuals w → IsPreimage m s w (g w)) = preimages P m s t e

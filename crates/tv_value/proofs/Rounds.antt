@@ -16,12 +16,15 @@ use Rattle.tv_value.proofs.Walks.{best_walk-threshold}
 
 -- ---- the greatest and the least
 
-pub greatest-append : (g : ℕ → K3) (xs ys : List ℕ) → greatest_of g (xs ++ ys) ≡ larger_of (greatest_of g xs) (greatest_of g ys)
+pub greatest-append : (g : ℕ → K3) (xs ys : List ℕ)
+    → greatest_of g (xs ++ ys) ≡ larger_of (greatest_of g xs) (greatest_of g ys)
 greatest-append g [] ys = refl
 greatest-append g (x ∷ xs) ys =
-    ap (λ k. larger_of (g x) k) (greatest-append g xs ys) ∙ sym (larger-assoc (g x) (greatest_of g xs) (greatest_of g ys))
+    ap (λ k. larger_of (g x) k) (greatest-append g xs ys)
+    ∙ sym (larger-assoc (g x) (greatest_of g xs) (greatest_of g ys))
 
-pub greatest-push : (g : ℕ → K3) (xs : List ℕ) (x : ℕ) → greatest_of g (xs ++ x ∷ []) ≡ larger_of (greatest_of g xs) (g x)
+pub greatest-push : (g : ℕ → K3) (xs : List ℕ) (x : ℕ)
+    → greatest_of g (xs ++ x ∷ []) ≡ larger_of (greatest_of g xs) (g x)
 greatest-push g xs x = greatest-append g xs (x ∷ []) ∙ ap (λ k. larger_of (greatest_of g xs) k) (larger-no (g x))
 
 pub least-append : (g : ℕ → K3) (xs ys : List ℕ) → least_of g (xs ++ ys) ≡ smaller_of (least_of g xs) (least_of g ys)
@@ -32,7 +35,8 @@ least-append g (x ∷ xs) ys =
 pub least-push : (g : ℕ → K3) (xs : List ℕ) (x : ℕ) → least_of g (xs ++ x ∷ []) ≡ smaller_of (least_of g xs) (g x)
 least-push g xs x = least-append g xs (x ∷ []) ∙ ap (λ k. smaller_of (least_of g xs) k) (smaller-yes (g x))
 
-pub greatest-same : (g h : ℕ → K3) (xs : List ℕ) → ((u : ℕ) → Contains xs u → g u ≡ h u) → greatest_of g xs ≡ greatest_of h xs
+pub greatest-same : (g h : ℕ → K3) (xs : List ℕ) → ((u : ℕ) → Contains xs u → g u ≡ h u)
+    → greatest_of g xs ≡ greatest_of h xs
 greatest-same g h [] same = refl
 greatest-same g h (x ∷ xs) same =
     ap (λ k. larger_of k (greatest_of g xs)) (same x (Contains-here x xs))
@@ -64,7 +68,8 @@ least-range g k = ap (least_of g) (range-push k) ∙ least-push g (range_with_le
 
 -- equal edges have equal best walks
 pub best_walk-same : (D : ℕ → Type 0) (edge other : ℕ → ℕ → K3) → ((u w : ℕ) → D u → D w → edge u w ≡ other u w)
-    → (allowed : List ℕ) → All D allowed → (u w : ℕ) → D u → D w → best_walk edge allowed u w ≡ best_walk other allowed u w
+    → (allowed : List ℕ) → All D allowed → (u w : ℕ) → D u → D w
+    → best_walk edge allowed u w ≡ best_walk other allowed u w
 best_walk-same D edge other same [] all u w hu hw = same u w hu hw
 best_walk-same D edge other same (x ∷ allowed) all u w hu hw =
     let hx : D x = All-head D x allowed all
@@ -111,4 +116,5 @@ pub best_walk-range : (edge : ℕ → ℕ → K3) (k u w : ℕ)
     → best_walk edge (range_with_len 0 (k + 1)) u w
     ≡ larger_of (best_walk edge (range_with_len 0 k) u w)
     (smaller_of (best_walk edge (range_with_len 0 k) u k) (best_walk edge (range_with_len 0 k) k w))
-best_walk-range edge k u w = ap (λ xs. best_walk edge xs u w) (range-push k) ∙ best_walk-push edge (range_with_len 0 k) k u w
+best_walk-range edge k u w = ap (λ xs. best_walk edge xs u w) (range-push k)
+    ∙ best_walk-push edge (range_with_len 0 k) k u w

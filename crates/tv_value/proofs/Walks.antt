@@ -44,7 +44,8 @@ best_walk-threshold T is edge (x ∷ allowed) u w =
     (to (best_walk-threshold T is edge allowed), from (best_walk-threshold T is edge allowed))
   where
     to : ((u w : ℕ) → T (best_walk edge allowed u w) ↔ WalksWithin (λ x y. T (edge x y)) allowed u w)
-        → T (larger_of (best_walk edge allowed u w) (smaller_of (best_walk edge allowed u x) (best_walk edge allowed x w)))
+        → T (larger_of (best_walk edge allowed u w)
+        (smaller_of (best_walk edge allowed u x) (best_walk edge allowed x w)))
         → WalksWithin (λ x y. T (edge x y)) (x ∷ allowed) u w
     to later h = ⊎_elim
         (λ past. WalksWithin-more (λ x y. T (edge x y)) x allowed u w ((later u w).0 past))
@@ -53,16 +54,20 @@ best_walk-threshold T is edge (x ∷ allowed) u w =
         in WalksWithin-join (λ x y. T (edge x y)) x allowed u w
         (WalksWithin-more (λ x y. T (edge x y)) x allowed u x ((later u x).0 both.0))
         (WalksWithin-more (λ x y. T (edge x y)) x allowed x w ((later x w).0 both.1)))
-        ((is.larger (best_walk edge allowed u w) (smaller_of (best_walk edge allowed u x) (best_walk edge allowed x w))).0 h)
+        ((is.larger (best_walk edge allowed u w)
+        (smaller_of (best_walk edge allowed u x) (best_walk edge allowed x w))).0 h)
 
     from : ((u w : ℕ) → T (best_walk edge allowed u w) ↔ WalksWithin (λ x y. T (edge x y)) allowed u w)
         → WalksWithin (λ x y. T (edge x y)) (x ∷ allowed) u w
-        → T (larger_of (best_walk edge allowed u w) (smaller_of (best_walk edge allowed u x) (best_walk edge allowed x w)))
+        → T (larger_of (best_walk edge allowed u w)
+        (smaller_of (best_walk edge allowed u x) (best_walk edge allowed x w)))
     from later (stops, within, walk) =
-        (is.larger (best_walk edge allowed u w) (smaller_of (best_walk edge allowed u x) (best_walk edge allowed x w))).1
+        (is.larger (best_walk edge allowed u w)
+        (smaller_of (best_walk edge allowed u x) (best_walk edge allowed x w))).1
         (⊎_elim
         (λ past. inl ((later u w).1 past))
-        (λ cut. inr ((is.smaller (best_walk edge allowed u x) (best_walk edge allowed x w)).1 ((later u x).1 cut.0, (later x w).1 cut.1)))
+        (λ cut. inr ((is.smaller (best_walk edge allowed u x) (best_walk edge allowed x w)).1
+        ((later u x).1 cut.0, (later x w).1 cut.1)))
         (WalksWithin-split (λ x y. T (edge x y)) x allowed u stops w within walk))
 
 -- ---- the best walk is the greatest over all walks
@@ -80,12 +85,14 @@ walk-reached : (edge : ℕ → ℕ → K3) (allowed : List ℕ) (u w : ℕ)
     → (stops : List ℕ) × All (Contains allowed) stops × (least_along edge u stops w ≡ best_walk edge allowed u w)
 walk-reached edge allowed u w = go (best_walk edge allowed u w) refl
   where
-    must : (stops : List ℕ) → All (Contains allowed) stops → Must (least_along edge u stops w) → Must (best_walk edge allowed u w)
+    must : (stops : List ℕ) → All (Contains allowed) stops → Must (least_along edge u stops w)
+        → Must (best_walk edge allowed u w)
     must stops within m =
         (best_walk-threshold Must must_threshold edge allowed u w).1
         (stops, within, (least_along-threshold Must must_threshold edge u stops w).0 m)
 
-    may : (stops : List ℕ) → All (Contains allowed) stops → May (least_along edge u stops w) → May (best_walk edge allowed u w)
+    may : (stops : List ℕ) → All (Contains allowed) stops → May (least_along edge u stops w)
+        → May (best_walk edge allowed u w)
     may stops within m =
         (best_walk-threshold May may_threshold edge allowed u w).1
         (stops, within, (least_along-threshold May may_threshold edge u stops w).0 m)
@@ -142,7 +149,8 @@ Under-best_walk M xs ys there back edge other under u v x y begin end = (must, m
   where
     must : Must (best_walk other ys x y) → Must (best_walk edge xs u v)
     must m =
-        let d : WalksWithin (λ p q. Must (other p q)) ys x y = (best_walk-threshold Must must_threshold other ys x y).0 m
+        let d : WalksWithin (λ p q. Must (other p q)) ys x y =
+        (best_walk-threshold Must must_threshold other ys x y).0 m
         in (best_walk-threshold Must must_threshold edge xs u v).1
         (WalksWithin-matched (λ w u. M u w) ys xs back (λ p q. Must (other p q)) (λ p q. Must (edge p q))
         (λ p q r s mp mq h. (under r s p q mp mq).0 h)
