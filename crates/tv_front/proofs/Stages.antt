@@ -7,7 +7,7 @@ use Rattle.tv_lex.specs.declared.token.LexError.{LexError}
 use Rattle.tv_lex.specs.declared.token.LexError.TheVariants as lexing
 use Rattle.tv_parse.specs.Height.{IsTooDeep}
 use Rattle.tv_parse.specs.Grammar.{IsProgram}
-use Rattle.tv_parse.specs.Outcome.{Cause as ParseCause}
+use Rattle.tv_parse.specs.Outcome.{Cause as ParseCause, StopsAtToken as ParseStopsAtToken}
 use Rattle.tv_parse.specs.declared.error.ParseError.{ParseError}
 use Rattle.tv_parse.specs.declared.error.ParseError.TheVariants as parsing
 use Rattle.tv_tree.specs.Forms.{ProgramForm as TreeForm}
@@ -20,7 +20,7 @@ use Rattle.tv_model.specs.Program.{ProgramForm}
 use Rattle.tv_names.specs.Refusal.{Refuses, is_memory as resolution_memory}
 use Rattle.tv_names.specs.declared.refusal.ResolveError.{ResolveError}
 use Rattle.tv_vocab.specs.Resolution.{program}
-use Rattle.tv_front.specs.Meaning.{HasTree, HasFlatForm, Means, IsCause}
+use Rattle.tv_front.specs.Meaning.{HasTree, HasFlatForm, Means, IsCause, StopsAtToken}
 use Rattle.tv_front.specs.declared.fault.ProgramFault.TheVariants.{Lexing, Parsing, Expansion, Resolution}
 
 pub lexing_refused : (text : List ℕ) (e : LexError) → LexCause text e → IsCause text (Lexing e)
@@ -32,6 +32,12 @@ pub parsing_refused : (text : List ℕ) (tokens : List Token) (e : ParseError) �
 parsing_refused text tokens (parsing.Syntax place) reads h = (spec_tokens text tokens, (tokens, reads, refl), h.0, h.1)
 parsing_refused text tokens parsing.TooDeep reads h = (spec_tokens text tokens, (tokens, reads, refl), h)
 parsing_refused text tokens parsing.Memory reads h = tt
+
+pub parsing_stopped : (text : List ℕ) (tokens : List Token) (e : ParseError) → Reads text (Ok tokens) → ParseStopsAtToken text tokens e
+    → StopsAtToken text (Parsing e)
+parsing_stopped text tokens (parsing.Syntax place) reads h = (tokens, reads, h)
+parsing_stopped text tokens parsing.TooDeep reads h = tt
+parsing_stopped text tokens parsing.Memory reads h = tt
 
 pub tree_read : (text : List ℕ) (tokens : List Token) (t : TreeForm) → Reads text (Ok tokens) → (¬ IsTooDeep (spec_tokens text tokens)) → IsProgram (spec_tokens text tokens) t → HasTree text t
 tree_read text tokens t reads low is = (spec_tokens text tokens, (tokens, reads, refl), low, is)

@@ -7,6 +7,7 @@ use Rattle.tv_expand.specs.Outcome.{is_memory as expansion_memory}
 use Rattle.tv_names.specs.Refusal.{is_memory as resolution_memory}
 use Rattle.tv_lex.specs.Token.{SpecToken, spec_tokens}
 use Rattle.tv_lex.specs.Pieces.{Reads}
+use Rattle.tv_lex.specs.Places.{IsTokenPlace}
 use Rattle.tv_lex.specs.declared.token.Token.{Token}
 use Rattle.tv_lex.specs.declared.token.Place.{Place}
 use Rattle.tv_lex.specs.declared.token.LexError.{LexError}
@@ -96,3 +97,12 @@ without_place (Lexing e) = Lexing e
 without_place (Parsing e) = Parsing (at_start e)
 without_place (Expansion e) = Expansion e
 without_place (Resolution e) = Resolution e
+
+-- the place that a refusal carries is that of the start of one of the text's tokens, or of the end of the text
+abbrev pub StopsAtToken : List ℕ → ProgramFault → Type 0
+StopsAtToken text (Lexing e) = Unit {0}
+StopsAtToken text (Parsing parsing.TooDeep) = Unit {0}
+StopsAtToken text (Parsing (parsing.Syntax place)) = (tokens : List Token) × Reads text (Ok tokens) × IsTokenPlace text tokens place
+StopsAtToken text (Parsing parsing.Memory) = Unit {0}
+StopsAtToken text (Expansion e) = Unit {0}
+StopsAtToken text (Resolution e) = Unit {0}

@@ -63,7 +63,8 @@ fn set_nullary(s: &mut Structure, k: K3)
     s.set(PredId(0), Tuple::Zero, k);
 }
 
-fn set_unary(s: &mut Structure, u: u32, x: K3, y: K3, z: K3)
+/// Puts values at `x(u)`, `y(u)` and `z(u)`.
+pub fn set_unary(s: &mut Structure, u: u32, x: K3, y: K3, z: K3)
     requires over { arities_of s.old ≡ 0 ∷ 1 ∷ 1 ∷ 1 ∷ 2 ∷ [] }
     requires individual { u < s.old.size }
     ensures over { arities_of s.new ≡ 0 ∷ 1 ∷ 1 ∷ 1 ∷ 2 ∷ [] }

@@ -77,9 +77,12 @@ fn digits(alloc: Global) -> Result<Vocab, AllocError>
     ensures { IfOk result (λ v. map (λ pred. pred.arity) v.preds ≡ 1 ∷ 1 ∷ 1 ∷ 1 ∷ 1 ∷ 1 ∷ []) }
 {
     let mut preds = Items::new(alloc);
-    for _ in 0..6 {
-        preds.push(core(alloc, 1, true))?;
-    }
+    preds.push(core(alloc, 1, true))?;
+    preds.push(core(alloc, 1, true))?;
+    preds.push(core(alloc, 1, true))?;
+    preds.push(core(alloc, 1, true))?;
+    preds.push(core(alloc, 1, true))?;
+    preds.push(core(alloc, 1, true))?;
     Ok(Vocab { preds })
 }
 
@@ -111,7 +114,7 @@ fn names_of_many_individuals_ascend(rt: HostRuntime) -> Result<(), Fail> {
     let alloc = rt.alloc();
     let vocab = digits(alloc)?;
     let mut falling = Structure::new(alloc, &vocab, 256)?;
-    let mut rising = Structure::new(alloc, &vocab, 256)?;
+    let mut rising = falling.copy(alloc)?;
     for u in 0..256 {
         put_number(&mut falling, u, 255 - u);
         put_number(&mut rising, u, u);
