@@ -1,4 +1,4 @@
-//! Rows of stages of focus, of embeddings and of blur, through the public calls of `tv_focus`, `tv_embed` and `tv_blur`.
+//! Rows of stages of focus, of embeddings and of blur, through public calls.
 #![tactic(auto)]
 
 #[cfg(test)]
