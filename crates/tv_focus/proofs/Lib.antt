@@ -9,3 +9,4 @@ mod Limits
 mod Parts
 mod Picks
 mod Puts
+mod Sharp

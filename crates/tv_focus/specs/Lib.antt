@@ -2,3 +2,4 @@ pub mod Seen
 pub mod Anchored
 pub mod Puts
 pub mod Stage
+pub mod Laws

@@ -7,10 +7,12 @@ mod anchors;
 mod atoms;
 mod chosen;
 mod count;
+mod laws;
 mod put;
 mod sets;
 mod stage;
 mod vector;
 
 pub use atoms::atom_count;
+pub use laws::sharp_atoms_stay;
 pub use stage::focus_stage;
