@@ -25,7 +25,7 @@ use Rattle.tv_choices.proofs.Splits.{IsWhole, choice-whole}
 use Rattle.tv_choices.proofs.Stages.{split-anchors}
 use Rattle.tv_choices.proofs.StageTables.{HasPlaces, split-places, stage_tables_are_stage}
 use Rattle.tv_choices.proofs.Tables.{tables_lose_no_heap}
-use Rattle.tv_focus.specs.Anchored.{IsAtomOver, IsSplitOver}
+use Rattle.tv_focus.specs.Anchored.{IsAtomOver, AreAtomsOver, IsSplitOver}
 use Rattle.tv_focus.specs.Puts.{copies_in, IsChoiceOf}
 use Rattle.tv_focus.specs.Stage.{AreLimitsKept, AreSplitLimitsKept, IsSplitCause, IsStageCause, IsWithinLimits, KeepsHeaps}
 use Rattle.tv_focus.proofs.Puts.{copies_more}
@@ -195,7 +195,7 @@ split-cause s f k pred (Each aim) Individuals same_pred same_split cause =
 all-append : (P : AtomForm → Type 0) (xs ys : List AtomForm) → All P xs → All P ys → All P (Rattle.std.proofs.Common.◌++◌ xs ys)
 all-append P xs ys = Rattle.std.proofs.lemmas.List.Elements.All-append P xs ys
 
-pub atoms-over : (arities : List ℕ) (f : Form) → IsFormulaOver arities f → All (IsAtomOver arities) (focus_atoms f)
+pub atoms-over : (arities : List ℕ) (f : Form) → IsFormulaOver arities f → AreAtomsOver arities f
 atoms-over arities FZero over = All-nil (IsAtomOver arities)
 atoms-over arities FOne over = All-nil (IsAtomOver arities)
 atoms-over arities (FAtom pred vars) over =
@@ -217,11 +217,11 @@ atoms-over arities (FForall v f) over = atoms-over arities f over.1
 atoms-over arities (FClosure from to left right f) over = All-nil (IsAtomOver arities)
 
 -- what a focus atom's split is over
-pub stage-over : (s : StructureForm) (f : Form) (k : ℕ) → IsFormulaOver (arities_of s) f → k < length (focus_atoms f)
+pub stage-over : (s : StructureForm) (f : Form) (k : ℕ) → AreAtomsOver (arities_of s) f → k < length (focus_atoms f)
     → IsSplitOver s (atom_at f k).pred (split_at (structure_of s) f k)
 stage-over s f k over lt =
     split-over s (atom_at f k).pred (length (atom_at f k).vars) (split_at (structure_of s) f k)
-    (atoms-over (arities_of s) f over k no_atom lt)
+    (over k no_atom lt)
     (split-places (anchors_in (structure_of s) (focus_atoms f)) (atom_at f k).vars) (split-anchors (structure_of s) f k)
 
 -- ---- a stage
@@ -239,13 +239,13 @@ stage-within s f k pred split is same_pred same_split kept =
     }
 
 pub tables-are-stage : (s : StructureForm) (f : Form) (k : ℕ) (pred : ℕ) (split : SplitForm) → IsStructure s
-    → IsFormulaOver (arities_of s) f → k < length (focus_atoms f)
+    → AreAtomsOver (arities_of s) f → k < length (focus_atoms f)
     → pred ≡ (atom_at f k).pred → split ≡ split_at (structure_of s) f k → AreSplitLimitsKept s pred split
     → AreStage s f k (stage_tables s f k)
 tables-are-stage s f k pred split is over lt same_pred same_split kept =
     let Small : ℕ → Type 0 = λ q. AreSmall s q split
     in let Of : SplitForm → Type 0 = λ one. AreSmall s (atom_at f k).pred one
-    in stage_tables_are_stage s f k is (atoms-over (arities_of s) f over k no_atom lt)
+    in stage_tables_are_stage s f k is (over k no_atom lt)
     (subst Of same_split (subst Small same_pred (split-small s pred split kept)))
 
 pub tables-keep-heaps : (s : StructureForm) (f : Form) (k : ℕ) → AreStage s f k (stage_tables s f k)

@@ -1,7 +1,8 @@
 -- Pairs with an anchor, and atoms over a vocabulary.
 use Rattle.std.specs.Prelude.{ℕ, ◌≡◌, ◌<◌, List, [], ◌∷◌, length, Some, All, fold, slice_get}
 use Rattle.tv_frame.specs.LogicalStructure.{LogicalStructure}
-use Rattle.tv_choices.specs.FocusAtoms.{AtomForm, AnchorsForm, by_unary}
+use Rattle.tv_model.specs.Form.{Form}
+use Rattle.tv_choices.specs.FocusAtoms.{AtomForm, AnchorsForm, focus_atoms, by_unary}
 use Rattle.tv_choices.specs.Choices.{AimForm, Alone, Before, Behind, SplitForm, Nothing, Whole, Each}
 use Rattle.tv_struct.specs.StructureForm.{StructureForm, arities_of}
 use Rattle.tv_focus.specs.declared.anchors.Place.{Place}
@@ -15,6 +16,10 @@ pair_of Second a u = u ∷ a ∷ []
 -- the atom has a predicate of its number of places
 abbrev pub IsAtomOver : (arities : List ℕ) → AtomForm → Type 0
 IsAtomOver arities atom = slice_get arities atom.pred ≡ Some (length atom.vars)
+
+-- the focus atoms of the formula are so
+abbrev pub AreAtomsOver : (arities : List ℕ) → Form → Type 0
+AreAtomsOver arities f = All (IsAtomOver arities) (focus_atoms f)
 
 -- the anchors are individuals of a structure of that size
 abbrev pub AreWithin : (size : ℕ) → List AnchorsForm → Type 0

@@ -14,5 +14,5 @@ mod stage;
 mod vector;
 
 pub use atoms::atom_count;
-pub use laws::sharp_atoms_stay;
+pub use laws::{formulas_have_atoms_over, sharp_atoms_stay};
 pub use stage::focus_stage;

@@ -8,8 +8,7 @@ ghost use Rattle.tv_choices.specs.Choices.{aimed, choices, definite, sets_in};
 ghost use Rattle.tv_choices.specs.Stages.{atom_at, split_at};
 ghost use Rattle.tv_choices.specs.Tables.{AreStage};
 ghost use Rattle.tv_choices.specs.Written.{chosen_table, stage_tables, split_tables};
-ghost use Rattle.tv_model.specs.Valid.{IsFormulaOver};
-ghost use Rattle.tv_focus.specs.Anchored.{IsAimOver, IsSplitOver, pair_of};
+ghost use Rattle.tv_focus.specs.Anchored.{AreAtomsOver, IsAimOver, IsSplitOver, pair_of};
 ghost use Rattle.tv_focus.specs.Stage.{IsWithinLimits, IsStageCause, IsEachCause, AreLimitsKept, AreSplitLimitsKept, IsSplitCause, KeepsHeaps};
 ghost use Rattle.tv_focus.specs.Seen.{aim_of, split_form};
 
@@ -206,7 +205,7 @@ struct StagePlan {
 
 /// What focus does with an atom of the formula.
 fn planned(alloc: Global, f: &Formula, atom: usize, s: &Structure) -> Result<StagePlan, AllocError>
-    requires formula { IsFormulaOver (arities_of s.now) (form_of f.now) }
+    requires formula { AreAtomsOver (arities_of s.now) (form_of f.now) }
     requires atom { atom < length (focus_atoms (form_of f.now)) }
     ensures pred { IfOk result (λ plan. plan.pred.0 ≡ (atom_at (form_of f.now) atom).pred) }
     ensures split { IfOk result (λ plan. split_form plan.split ≡ split_at (structure_of s.now) (form_of f.now) atom) }
@@ -236,7 +235,7 @@ pub fn focus_stage(
     s: &Structure,
 ) -> Result<Structures, StageError>
     requires over { IsOver vocab.now s.now }
-    requires formula { IsFormulaOver (arities_of s.now) (form_of f.now) }
+    requires formula { AreAtomsOver (arities_of s.now) (form_of f.now) }
     requires atom { atom < length (focus_atoms (form_of f.now)) }
     ensures exact { IfOk result (λ ts. ts ≡ stage_tables s.now (form_of f.now) atom) }
     ensures stage { IfOk result (AreStage s.now (form_of f.now) atom) }

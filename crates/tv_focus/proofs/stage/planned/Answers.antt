@@ -7,7 +7,6 @@ use Rattle.tv_choices.specs.Stages.{no_atom}
 use Rattle.tv_focus.specs.Seen.{atom_of}
 use Rattle.tv_focus.specs.Anchored.{IsAtomOver}
 use Rattle.tv_focus.specs.declared.atoms.FocusAtom.{FocusAtom}
-use Rattle.tv_focus.proofs.Limits.{atoms-over}
 use Rattle.tv_focus.proofs.stage.planned.Goals as goal
 
 -- the gathered atoms are the formula's
@@ -32,5 +31,5 @@ anchors_in-requires c =
     in record {
       arity = rw (c.as_slice.ensures.value)
           (each-over c.gather.new.atoms.items (arities_of c.args.s.now)
-          (subst Over (sym own) (atoms-over (arities_of c.args.s.now) (form_of c.args.f.now) c.requires.formula)));
+          (subst Over (sym own) c.requires.formula));
     }
