@@ -1,5 +1,7 @@
--- The formula that an update of a valid program sets its predicate to.
-use Rattle.std.proofs.Common.{ℕ, ◌≡◌, ◌<◌, ◌≤◌, ◌⊎◌, inl, inr, zero, suc, List, [], ◌∷◌, ◌++◌, length, map, get_or, All, Contains, arith, refl, sym, ap, subst, ◌∙◌}
+-- The formula that an update of a valid program sets its predicate to, and what its variables stand for.
+use Rattle.std.proofs.Common.{ℕ, ◌≡◌, ◌<◌, ◌≤◌, ◌⊎◌, inl, inr, zero, suc, ◌==◌, Bool, true, false, Option, Some, None, List, [], ◌∷◌, ◌++◌, length, map, get_or, All, Contains, arith, refl, sym, ap, subst, ◌∙◌}
+use Rattle.std.specs.Prelude.{IsSomeAnd, if◌then◌else◌}
+use Rattle.std.proofs.lemmas.Bool.{eq-eqb, false≢true}
 use Rattle.std.proofs.lemmas.List.Elements.{All-contains}
 use Rattle.tv_model.specs.declared.formula.Formula.{Formula}
 use Rattle.tv_model.specs.declared.formula.Terms.{Terms}
@@ -10,11 +12,16 @@ use Rattle.tv_model.specs.declared.program.Change.{Change}
 use Rattle.tv_model.specs.declared.program.Change.TheVariants.{To}
 use Rattle.tv_model.specs.declared.program.Program.{Program}
 use Rattle.tv_model.specs.declared.program.Update.{Update}
-use Rattle.tv_model.specs.Form.{Form, form_of, vars_of}
+use Rattle.tv_model.specs.declared.program.Vocab.{Vocab}
+use Rattle.tv_model.specs.Form.{Form, form_of, vars_of, IsFree}
 use Rattle.tv_model.specs.Program.{ProgramForm, program_of, action_of, update_of, change_of}
 use Rattle.tv_model.specs.Valid.{IsValid, IsVariable, IsAction, IsUpdate, IsChange}
 use Rattle.tv_model.proofs.Lists.{Contains-map}
+use Rattle.tv_eval.specs.AssignmentForm.{place_of, IsAssigned}
+use Rattle.tv_eval.specs.Formulas.{AreAssigned}
 use Rattle.tv_eval.specs.Laws.{FormulasAreWithinHeight}
+use Rattle.tv_tvs.specs.Laws.{ValidProgramsFit}
+use Rattle.tv_tvs.specs.Meaning.{IsVocabulary}
 use Rattle.tv_test_structures.specs.Setting.{IsSetting}
 
 one_of_two : (v w x : ℕ) → Contains (v ∷ w ∷ []) x → (x ≡ v) ⊎ (x ≡ w)
@@ -40,3 +47,60 @@ setting_is program a u v w f heights valid at none among two to =
       variables = (vars 0 0 (omega arith), vars 1 0 (omega arith));
       over = λ x free. one_of_two v.0 w.0 x (subst (λ ps. Contains (v.0 ∷ w.0 ∷ [] ++ map (λ y. y.0) ps) x) none (to_f.1 x free));
     }
+
+-- an element that stands in a list is one of it
+first_of : {X : Type 0} (xs ys : List X) (x : X) → xs ≡ ys → 0 < length xs → x ≡ get_or xs 0 x → Contains ys x
+first_of xs ys x same some is = subst (λ zs. Contains zs x) same (0, some, sym is)
+
+none_of : {X : Type 0} (xs : List X) → length xs ≤ 0 → xs ≡ []
+none_of [] le = refl
+none_of (x ∷ xs) le = absurd (omega (arith, le))
+
+-- the same of the first update of the first action
+pub first_setting : (program : Program) (actions : List Action) (updates : List Update) (a : Action) (u : Update) (v w : Var) (f : Formula)
+    → FormulasAreWithinHeight → IsValid (program_of program) → actions ≡ program.actions → 0 < length actions → a ≡ get_or actions 0 a
+    → length a.picks ≤ 0 → updates ≡ a.updates → 0 < length updates → u ≡ get_or updates 0 u → u.vars ≡ Two v w → u.change ≡ To f
+    → IsSetting program v.0 w.0 (form_of f)
+first_setting program actions updates a u v w f heights valid of_program some is none of_action more among two to =
+    setting_is program a u v w f heights valid (first_of actions program.actions a of_program some is) (none_of a.picks none)
+    (first_of updates a.updates u of_action more among) two to
+
+pub vocabulary_fits : (p : Program) → ValidProgramsFit → IsValid (program_of p) → IsVocabulary p.vocab
+vocabulary_fits p fits valid = (fits p valid).vocabulary
+
+-- a formula over two variables is assigned where both stand for individuals
+pub pair_assigned : (program : Program) (v w : ℕ) (f : Form) → IsSetting program v w f → (size : ℕ) (a : List (Option ℕ))
+    → IsAssigned size a v → IsAssigned size a w → AreAssigned size a f
+pair_assigned program v w f is size a first second y free =
+    elim (is.over y free) [
+      | inl e ↦ subst (IsAssigned size a) (sym e) first
+      | inr e ↦ subst (IsAssigned size a) (sym e) second
+    ]
+
+-- a formula over two variables that speaks of neither is assigned anywhere
+pub closed_assigned : (program : Program) (v w : ℕ) (f : Form) → IsSetting program v w f → (size : ℕ) (a : List (Option ℕ))
+    → ¬ IsFree v f → ¬ IsFree w f → AreAssigned size a f
+closed_assigned program v w f is size a no_first no_second y free =
+    elim (is.over y free) [
+      | inl e ↦ absurd (no_first (subst (λ z. IsFree z f) e free))
+      | inr e ↦ absurd (no_second (subst (λ z. IsFree z f) e free))
+    ]
+
+put_assigned : (size : ℕ) (o p : Option ℕ) (b : Bool) (x : ℕ) → o ≡ (if b then Some x else p) → x < size
+    → IsSomeAnd p (λ n. n < size) → IsSomeAnd o (λ n. n < size)
+put_assigned size o p true x is lt before = subst (λ q. IsSomeAnd q (λ n. n < size)) (sym is) lt
+put_assigned size o p false x is lt before = subst (λ q. IsSomeAnd q (λ n. n < size)) (sym is) before
+
+-- an individual that is put for a variable is what it stands for
+pub put_here : (size : ℕ) (a b : List (Option ℕ)) (v u : ℕ)
+    → ((y : ℕ) → place_of b y ≡ (if y == v then Some u else place_of a y)) → u < size → IsAssigned size b v
+put_here size a b v u placed lt = here (v == v) (placed v) (eq-eqb v v refl)
+  where
+    here : (t : Bool) → place_of b v ≡ (if t then Some u else place_of a v) → t ≡ true → IsAssigned size b v
+    here true is e = subst (λ q. IsSomeAnd q (λ n. n < size)) (sym is) lt
+    here false is e = absurd (false≢true e)
+
+-- and what another variable stood for stays an individual
+pub put_there : (size : ℕ) (a b : List (Option ℕ)) (v w u : ℕ)
+    → ((y : ℕ) → place_of b y ≡ (if y == w then Some u else place_of a y)) → u < size → IsAssigned size a v → IsAssigned size b v
+put_there size a b v w u placed lt before = put_assigned size (place_of b v) (place_of a v) (v == w) u (placed v) lt before

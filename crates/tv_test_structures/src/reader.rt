@@ -10,6 +10,7 @@ ghost use Rattle.tv_test_structures.specs.Setting.{IsSetting};
 
 use std::alloc::Global;
 use std::test::Fail;
+use tv_eval::made_scratches_fit;
 use tv_front::read_program;
 use tv_lex::lex;
 use tv_model::{Change, Formula, Program, Terms, Var, Vocab};
@@ -36,6 +37,7 @@ pub fn program(alloc: Global, formula: &str) -> Result<Program, Fail>
 }
 
 /// The predicates of all rows.
+#[tactic(auto, using(crate::proofs::Settings::vocabulary_fits))]
 pub fn vocabulary(alloc: Global) -> Result<Vocab, Fail>
     ensures { IfOk result IsVocabulary }
 {
@@ -57,11 +59,20 @@ pub fn setting_of(program: &Program) -> Result<Setting<'_>, Fail>
     requires { IsValid (program_of program.now) }
     ensures { IfOk result (λ s. IsSetting program.now s.v.0 s.w.0 (form_of s.formula.now)) }
 {
-    let action = program.actions.as_slice().first().ok_or("no action")?;
+    made_scratches_fit();
+    let actions = program.actions.as_slice();
+    if actions.len() == 0 {
+        return Err(Fail::new("no action"));
+    }
+    let action = &actions[0];
     if action.picks.len() > 0 {
         return Err(Fail::new("something is picked"));
     }
-    let update = action.updates.as_slice().first().ok_or("no update")?;
+    let updates = action.updates.as_slice();
+    if updates.len() == 0 {
+        return Err(Fail::new("no update"));
+    }
+    let update = &updates[0];
     match (&update.vars, &update.change) {
         (Terms::Two(v, w), Change::To(formula)) => Ok(Setting {
             v: *v,
@@ -73,6 +84,7 @@ pub fn setting_of(program: &Program) -> Result<Setting<'_>, Fail>
 }
 
 /// The structure that begins a text.
+#[tactic(auto, using(crate::proofs::Settings::vocabulary_fits))]
 pub fn structure(alloc: Global, program: &Program, text: &str) -> Result<Structure, Fail>
     requires { IsValid (program_of program.now) }
     ensures over { IfOk result (IsOver program.now.vocab) }

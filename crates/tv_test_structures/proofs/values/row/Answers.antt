@@ -1,0 +1,12 @@
+use Rattle.std.proofs.Common.{subst, sym, ◌<◌, ap}
+use Rattle.tv_model.specs.Form.{form_of}
+use Rattle.tv_model.specs.Program.{program_of}
+use Rattle.tv_eval.specs.ScratchForm.{IsMadeFor}
+use Rattle.tv_test_structures.proofs.Settings.{pair_assigned}
+use Rattle.tv_test_structures.proofs.values.row.Goals as goal
+
+pub value-requires-clause-assigned : goal.value-requires-clause-assigned
+value-requires-clause-assigned c =
+    let below = subst (λ n. c.loop-x.x < n) c.size-x-end.ensures.size c.loop-x-test.true
+    in pair_assigned c.args.program.now c.args.found.now.v.0 c.args.found.now.w.0 (form_of c.args.found.now.formula.now) c.requires.setting c.args.s.now.size c.at.result
+    (c.at.ensures.v c.args.s.now.size c.requires.individual below) (c.at.ensures.w c.args.s.now.size below)
