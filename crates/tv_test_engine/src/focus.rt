@@ -9,7 +9,7 @@ use crate::shown::{blank, set_unary, shown, vocabulary};
 use std::alloc::{AllocError, Global};
 use std::cmp::Ordering;
 use std::test::Fail;
-use tv_focus::{atom_count, focus_stage};
+use tv_focus::{atom_count, focus_stage, formulas_have_atoms_over};
 use tv_kleene::K3;
 use tv_model::{Formula, PredId, Terms, Var};
 use tv_struct::{StageError, Structure, Structures};
@@ -29,6 +29,10 @@ enum Focus {
     Both,
     /// `n(v, w)`
     Unanchored,
+    /// `(x(v) & n(v, w)) & n(w, u)`
+    Chain,
+    /// `(n(v, w) & y(w)) & x(w)`
+    First,
     /// `x(v) & n(v, v)`
     Loop,
     /// `x(v) & TC (v, w) (u, t) n(u, t)`
@@ -81,32 +85,42 @@ fn formula(alloc: Global, focus: Focus) -> Result<Formula, AllocError>
         Focus::Behind => both(alloc, unary(1, 0), edge(0, 1)),
         Focus::Before => both(alloc, unary(1, 1), edge(0, 1)),
         Focus::Both => both(alloc, both(alloc, unary(1, 0), unary(2, 1))?, edge(0, 1)),
+        Focus::Chain => both(alloc, both(alloc, unary(1, 0), edge(0, 1))?, edge(1, 2)),
+        Focus::First => both(alloc, both(alloc, edge(0, 1), unary(2, 1))?, unary(1, 1)),
         Focus::Unanchored => Ok(edge(0, 1)),
         Focus::Loop => both(alloc, unary(1, 0), edge(0, 0)),
         Focus::Closed => both(alloc, unary(1, 0), closure(alloc)?),
     }
 }
 
-/// The structures of the formula's last atom.
-fn focused(alloc: Global, focus: Focus, s: &Structure) -> Result<Structures, StageError>
+/// The structures of an atom of the formula; none where it has no such atom.
+fn focused(
+    alloc: Global,
+    focus: Focus,
+    atom: usize,
+    s: &Structure,
+) -> Result<Structures, StageError>
     requires { arities_of s.now ≡ 0 ∷ 1 ∷ 1 ∷ 1 ∷ 2 ∷ [] }
 {
     let f = formula(alloc, focus)?;
     let vocab = vocabulary(alloc)?;
-    match atom_count(&f).checked_sub(1) {
-        Some(atom) => focus_stage(alloc, &vocab, &f, atom, s),
-        None => Ok(Structures::new(alloc)),
+    if atom >= atom_count(&f) {
+        return Ok(Structures::new(alloc));
     }
+    formulas_have_atoms_over();
+    focus_stage(alloc, &vocab, &f, atom, s)
 }
 
 /// A formula, and how many focus atoms it has.
-const COUNTS: [(Focus, usize); 8] = [
+const COUNTS: [(Focus, usize); 10] = [
     (Focus::Nullary, 1),
     (Focus::Unary, 1),
     (Focus::Behind, 2),
     (Focus::Before, 2),
     (Focus::Both, 3),
     (Focus::Unanchored, 1),
+    (Focus::Chain, 3),
+    (Focus::First, 3),
     (Focus::Loop, 2),
     (Focus::Closed, 1),
 ];
@@ -119,25 +133,28 @@ fn atoms_are_counted(rt: HostRuntime) -> Result<(), Fail> {
     Ok(())
 }
 
-/// A formula, a structure with its number of individuals, and the structures of the formula's last atom.
-const ROWS: [(Focus, u32, &str, &[(u32, &str)]); 12] = [
-    (Focus::Nullary, 0, "?", &[(0, "0"), (0, "1")]),
-    (Focus::Nullary, 0, "1", &[(0, "1")]),
+/// A formula, the number of an atom, a structure with its number of individuals, and the atom's structures.
+const ROWS: [(Focus, usize, u32, &str, &[(u32, &str)]); 14] = [
+    (Focus::Nullary, 0, 0, "?", &[(0, "0"), (0, "1")]),
+    (Focus::Nullary, 0, 0, "1", &[(0, "1")]),
     // a summary: all of its cells without x, all with x, or some of each
     (
         Focus::Unary,
+        0,
         1,
         "0 s?00?",
         &[(1, "0 s000?"), (1, "0 s100?"), (2, "0 s000?? s100??")],
     ),
     (
         Focus::Unary,
+        0,
         1,
         "0 -?001",
         &[(1, "0 -0001"), (1, "0 -1001")],
     ),
     (
         Focus::Closed,
+        0,
         1,
         "0 -?00?",
         &[(1, "0 -000?"), (1, "0 -100?")],
@@ -145,6 +162,7 @@ const ROWS: [(Focus, u32, &str, &[(u32, &str)]); 12] = [
     // from the one individual at which v surely stands to all others
     (
         Focus::Behind,
+        1,
         2,
         "0 -1000? s000??",
         &[
@@ -155,6 +173,7 @@ const ROWS: [(Focus, u32, &str, &[(u32, &str)]); 12] = [
     ),
     (
         Focus::Before,
+        1,
         2,
         "0 -10000 s000??",
         &[
@@ -166,6 +185,7 @@ const ROWS: [(Focus, u32, &str, &[(u32, &str)]); 12] = [
     // vectors of two places: from each of two individuals
     (
         Focus::Behind,
+        1,
         3,
         "0 -10000? -10000? -000000",
         &[
@@ -179,18 +199,43 @@ const ROWS: [(Focus, u32, &str, &[(u32, &str)]); 12] = [
     (
         Focus::Both,
         2,
+        2,
         "0 -1000? -0100?",
         &[(2, "0 -10000 -0100?"), (2, "0 -10001 -0100?")],
+    ),
+    // w was given the ordinary one of the two behind x
+    (
+        Focus::Chain,
+        2,
+        3,
+        "0 -100011 -00000? s000000",
+        &[
+            (3, "0 -100011 -000000 s000000"),
+            (3, "0 -100011 -000001 s000000"),
+            (4, "0 -1000111 -0000001 s0000000 s0000000"),
+        ],
+    ),
+    // w has y's ordinary individual, though x comes later and n earlier
+    (
+        Focus::First,
+        0,
+        3,
+        "0 -100010 -0100?0 s010010",
+        &[
+            (3, "0 -100010 -010000 s010010"),
+            (3, "0 -100010 -010010 s010010"),
+        ],
     ),
     // nothing surely has x: v was given no individual
     (
         Focus::Behind,
+        1,
         2,
         "0 -?000? s100??",
         &[(2, "0 -?000? s100??")],
     ),
-    (Focus::Unanchored, 1, "0 s100?", &[(1, "0 s100?")]),
-    (Focus::Loop, 1, "0 -100?", &[(1, "0 -100?")]),
+    (Focus::Unanchored, 0, 1, "0 s100?", &[(1, "0 s100?")]),
+    (Focus::Loop, 1, 1, "0 -100?", &[(1, "0 -100?")]),
 ];
 
 fn are_shown(alloc: Global, found: &[Structure], rows: &[(u32, &str)]) -> Result<bool, AllocError> {
@@ -205,9 +250,9 @@ fn are_shown(alloc: Global, found: &[Structure], rows: &[(u32, &str)]) -> Result
 #[test]
 fn atoms_become_definite(rt: HostRuntime) -> Result<(), Fail> {
     let alloc = rt.alloc();
-    for (focus, size, text, rows) in ROWS {
+    for (focus, atom, size, text, rows) in ROWS {
         let s = shown(alloc, size.min(4), text)?;
-        let found = focused(alloc, focus, &s)?;
+        let found = focused(alloc, focus, atom, &s)?;
         assert!(rt;
             are_shown(alloc, found.as_slice(), rows)?,
             "{focus:?} of {text}"
@@ -239,7 +284,7 @@ fn outcome(
     requires { size ≤ 256 }
 {
     let s = unknown(alloc, size, first, summaries)?;
-    let found = focused(alloc, Focus::Unary, &s)?;
+    let found = focused(alloc, Focus::Unary, 0, &s)?;
     let last = found.as_slice().last().map_or(0, |t| t.size());
     Ok((found.len(), last))
 }
@@ -261,7 +306,7 @@ fn choices_reach_their_limits(rt: HostRuntime) -> Result<(), Fail> {
 fn marks_follow_their_individual(rt: HostRuntime) -> Result<(), Fail> {
     let alloc = rt.alloc();
     let s = unknown(alloc, 1, 1, true)?.with_new(alloc)?;
-    let found = focused(alloc, Focus::Unary, &s)?;
+    let found = focused(alloc, Focus::Unary, 0, &s)?;
     let marks: [Option<u32>; 3] = [Some(1), Some(1), Some(2)];
     assert_eq!(rt; found.len(), 3);
     for (t, mark) in found.as_slice().iter().zip(marks) {
