@@ -1,6 +1,6 @@
 use Rattle.std.proofs.Common.{◌∙◌}
 use Rattle.std.specs.Cmp.Lexicographic.{slice_cmp}
-use Rattle.tv_struct.proofs.OrderLaws.{derived-value_cmp}
+use Rattle.tv_row.proofs.Compare.{derived-value_cmp}
 use Rattle.tv_blur.proofs.name.Name.compare.Goals as goal
 
 pub returns : goal.returns
