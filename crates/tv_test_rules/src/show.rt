@@ -32,31 +32,7 @@ fn put_atom(alloc: Global, out: &mut String, p: PredId, terms: Terms) -> Result<
     put_terms(alloc, out, terms)
 }
 
-#[cycle(formula)]
-fn put_both(
-    alloc: Global,
-    out: &mut String,
-    f: &Formula,
-    mark: &str,
-    g: &Formula,
-) -> Result<(), AllocError> {
-    out.push_str("(")?;
-    put_formula(alloc, out, f)?;
-    out.push_str(mark)?;
-    put_formula(alloc, out, g)?;
-    out.push_str(")")
-}
-
-#[cycle(formula)]
-fn put_exists(alloc: Global, out: &mut String, v: Var, f: &Formula) -> Result<(), AllocError> {
-    out.push_str("E")?;
-    put_var(alloc, out, v)?;
-    out.push_str(" ")?;
-    put_formula(alloc, out, f)
-}
-
 /// A formula: `P2(0,1)` is the predicate of number 2, and variables are numbers. Forms that no row has are `?`.
-#[cycle(formula)]
 fn put_formula(alloc: Global, out: &mut String, f: &Formula) -> Result<(), AllocError> {
     match f {
         Formula::One => out.push_str("1"),
@@ -66,9 +42,26 @@ fn put_formula(alloc: Global, out: &mut String, f: &Formula) -> Result<(), Alloc
             out.push_str("!")?;
             put_formula(alloc, out, g)
         }
-        Formula::And(g, h) => put_both(alloc, out, g, "&", h),
-        Formula::Or(g, h) => put_both(alloc, out, g, "|", h),
-        Formula::Exists(v, g) => put_exists(alloc, out, *v, g),
+        Formula::And(g, h) => {
+            out.push_str("(")?;
+            put_formula(alloc, out, g)?;
+            out.push_str("&")?;
+            put_formula(alloc, out, h)?;
+            out.push_str(")")
+        }
+        Formula::Or(g, h) => {
+            out.push_str("(")?;
+            put_formula(alloc, out, g)?;
+            out.push_str("|")?;
+            put_formula(alloc, out, h)?;
+            out.push_str(")")
+        }
+        Formula::Exists(v, g) => {
+            out.push_str("E")?;
+            put_var(alloc, out, *v)?;
+            out.push_str(" ")?;
+            put_formula(alloc, out, g)
+        }
         Formula::Closure { from, to, .. } => {
             out.push_str("TC")?;
             put_terms(alloc, out, Terms::Two(*from, *to))
