@@ -25,11 +25,13 @@ pub small_five : (preds : List Pred) → map (λ pred. pred.arity) preds ≡ 0 �
     → All (λ pred. pred.arity ≤ 2) preds
 small_five preds is =
     small preds (0 ∷ 1 ∷ 1 ∷ 1 ∷ 2 ∷ []) is
-    (more 0 _ (omega arith) (more 1 _ (omega arith) (more 1 _ (omega arith) (more 1 _ (omega arith) (more 2 [] (omega arith) none)))))
+    (more 0 (1 ∷ 1 ∷ 1 ∷ 2 ∷ []) (omega arith) (more 1 (1 ∷ 1 ∷ 2 ∷ []) (omega arith) (more 1 (1 ∷ 2 ∷ []) (omega arith)
+    (more 1 (2 ∷ []) (omega arith) (more 2 [] (omega arith) none)))))
 
 pub small_six : (preds : List Pred) → map (λ pred. pred.arity) preds ≡ 1 ∷ 1 ∷ 1 ∷ 1 ∷ 1 ∷ 1 ∷ []
     → All (λ pred. pred.arity ≤ 2) preds
 small_six preds is =
     small preds (1 ∷ 1 ∷ 1 ∷ 1 ∷ 1 ∷ 1 ∷ []) is
-    (more 1 _ (omega arith) (more 1 _ (omega arith) (more 1 _ (omega arith) (more 1 _ (omega arith) (more 1 _ (omega arith)
+    (more 1 (1 ∷ 1 ∷ 1 ∷ 1 ∷ 1 ∷ []) (omega arith) (more 1 (1 ∷ 1 ∷ 1 ∷ 1 ∷ []) (omega arith)
+    (more 1 (1 ∷ 1 ∷ 1 ∷ []) (omega arith) (more 1 (1 ∷ 1 ∷ []) (omega arith) (more 1 (1 ∷ []) (omega arith)
     (more 1 [] (omega arith) none))))))
