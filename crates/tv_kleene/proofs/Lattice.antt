@@ -35,50 +35,6 @@ smaller-yes No = refl
 smaller-yes Half = refl
 smaller-yes Yes = refl
 
-pub larger-comm : (x y : K3) → larger_of x y ≡ larger_of y x
-larger-comm No No = refl
-larger-comm No Half = refl
-larger-comm No Yes = refl
-larger-comm Half No = refl
-larger-comm Half Half = refl
-larger-comm Half Yes = refl
-larger-comm Yes No = refl
-larger-comm Yes Half = refl
-larger-comm Yes Yes = refl
-
-pub smaller-comm : (x y : K3) → smaller_of x y ≡ smaller_of y x
-smaller-comm No No = refl
-smaller-comm No Half = refl
-smaller-comm No Yes = refl
-smaller-comm Half No = refl
-smaller-comm Half Half = refl
-smaller-comm Half Yes = refl
-smaller-comm Yes No = refl
-smaller-comm Yes Half = refl
-smaller-comm Yes Yes = refl
-
--- a detour adds nothing
-pub larger-absorbs : (x y : K3) → larger_of x (smaller_of x y) ≡ x
-larger-absorbs No y = refl
-larger-absorbs Half No = refl
-larger-absorbs Half Half = refl
-larger-absorbs Half Yes = refl
-larger-absorbs Yes y = refl
-
-pub larger-absorbs_right : (x y : K3) → larger_of x (smaller_of y x) ≡ x
-larger-absorbs_right No No = refl
-larger-absorbs_right No Half = refl
-larger-absorbs_right No Yes = refl
-larger-absorbs_right Half No = refl
-larger-absorbs_right Half Half = refl
-larger-absorbs_right Half Yes = refl
-larger-absorbs_right Yes y = refl
-
-pub negation-twice : (x : K3) → negation_of (negation_of x) ≡ x
-negation-twice No = refl
-negation-twice Half = refl
-negation-twice Yes = refl
-
 -- a value is one of the three
 pub value-decided : (x y : K3) → (x ≡ y) ⊎ (¬ (x ≡ y))
 value-decided No No = inl refl
@@ -112,17 +68,6 @@ join-left Half y = inr refl
 join-left Yes No = inr refl
 join-left Yes Half = inr refl
 join-left Yes Yes = inl refl
-
-pub join-comm : (x y : K3) → join_of x y ≡ join_of y x
-join-comm No No = refl
-join-comm No Half = refl
-join-comm No Yes = refl
-join-comm Half No = refl
-join-comm Half Half = refl
-join-comm Half Yes = refl
-join-comm Yes No = refl
-join-comm Yes Half = refl
-join-comm Yes Yes = refl
 
 pub join-right : (x y : K3) → LiesUnder y (join_of x y)
 join-right No No = inl refl

@@ -4,7 +4,6 @@ pub mod WordMore
 pub mod PlaceLaws
 pub mod Compare
 pub mod CompareRows
-pub mod DrawLaws
 pub mod Extremes
 pub mod Greatest
 pub mod RowOps

@@ -1,9 +1,8 @@
 -- Places in rows of words.
-use Rattle.std.proofs.Common.{ℕ, ◌≡◌, ◌≢◌, ◌<◌, ◌≤◌, ◌+◌, ◌-◌, ◌*◌, ◌/◌, ◌%◌, ◌^◌, suc, Bool, true, false, eqb, List, [], ◌∷◌, length, map, get_or, set, refl, sym, ap, ◌∙◌, inl, inr, ⊎_elim, ◌⊎◌, arith, replicate, min, subst, ◌&&◌, eq-eqb, eqb-true}
+use Rattle.std.proofs.Common.{ℕ, ◌≡◌, ◌≢◌, ◌<◌, ◌≤◌, ◌+◌, ◌-◌, ◌*◌, ◌/◌, ◌%◌, suc, Bool, true, false, eqb, List, [], ◌∷◌, length, map, get_or, set, refl, sym, ap, ◌∙◌, inl, inr, ⊎_elim, ◌⊎◌, arith, replicate, ◌&&◌, eq-eqb, eqb-true}
 use Rattle.std.proofs.lemmas.Bool.{cases_eq, cases_lt}
-use Rattle.std.proofs.lemmas.Nat.{same_from_place, row_fits, mul-le}
-use Rattle.std.proofs.lemmas.List.Elements.{All-replicate}
-use Rattle.std.proofs.lemmas.List.{length-replicate, get_or-replicate, length-set, length-map, get_or-set_same, get_or-set_other, get_or_past, get_or_default, ext_get_or}
+use Rattle.std.proofs.lemmas.Nat.{same_from_place, row_fits}
+use Rattle.std.proofs.lemmas.List.{length-replicate, get_or-replicate, length-set, length-map, get_or-set_same, get_or-set_other, get_or_past, get_or_default}
 use Rattle.std.proofs.lemmas.List.FromFn.{length-map-range_with_len, get_or-map-range_with_len}
 use Rattle.tv_kleene.specs.declared.K3.{K3}
 use Rattle.tv_kleene.specs.declared.K3.TheVariants.{No, Half, Yes}
@@ -11,7 +10,7 @@ use Rattle.tv_kleene.specs.Kleene.{smaller_of, larger_of}
 use Rattle.std.specs.Cmp.Lexicographic.{pointwise}
 use Rattle.tv_row.specs.Bits.{number_of, is_possible, is_certain}
 use Rattle.tv_row.specs.BitLaws.{same_numbers, numbers_tell}
-use Rattle.tv_row.specs.Places.{AreWords, AreApart, entry_in, word_at, value_in, with_value, raised, row_of, rows_of, HoldsRows}
+use Rattle.tv_row.specs.Places.{AreWords, word_at, value_in, with_value, raised, row_of, rows_of, HoldsRows}
 use Rattle.tv_row.proofs.WordOps.{length-paired}
 
 larger-No : (k : K3) → larger_of k No ≡ k
@@ -106,31 +105,11 @@ unfolding rows_of
 get_or-rows_of words width rows columns u lt =
     get_or-map-range_with_len (λ row. row_of words columns (row * width)) 0 rows u u [] lt (omega arith)
 
-pub entry-rows_of : (words : List (List K3)) (width rows columns u w : ℕ) → u < rows → w < columns
-    → entry_in (rows_of words width rows columns) u w ≡ value_in words (u * width) w
-entry-rows_of words width rows columns u w lu lw =
-    ap (λ row. get_or row w No) (get_or-rows_of words width rows columns u lu) ∙ get_or-row_of words columns (u * width) w lw
-
--- beyond the rows and columns there is No
-pub entry_past : (words : List (List K3)) (width rows columns u w : ℕ) → (rows ≤ u) ⊎ (columns ≤ w) → entry_in (rows_of words width rows columns) u w ≡ No
-entry_past words width rows columns u w (inl past) =
-    ap (λ row. get_or row w No) (get_or_past (rows_of words width rows columns) u [] (omega (arith, length-rows_of words width rows columns)))
-entry_past words width rows columns u w (inr past) =
-    ⊎_elim
-    (λ lu.
-    ap (λ row. get_or row w No) (get_or-rows_of words width rows columns u lu)
-    ∙ get_or_past (row_of words columns (u * width)) w No (omega (arith, length-row_of words columns (u * width))))
-    (λ over. ap (λ row. get_or row w No) (get_or_past (rows_of words width rows columns) u [] (omega (arith, length-rows_of words width rows columns))))
-    (cases_lt u rows)
-
 -- a row's words lie within the words
 pub within_words : (words : List (List K3)) (width rows columns u : ℕ) → HoldsRows words width rows columns → u < rows → u * width + width ≤ length words
 within_words words width rows columns u h lt = omega (arith, row_fits u width rows width lt (omega arith), h.as_many)
 
 module _ (words : List (List K3)) (width rows columns u w : ℕ) (k : K3) (h : HoldsRows words width rows columns) (lu : u < rows) (lw : w < columns) where
-  new : List (List K3)
-  new = with_value words (u * width) w k
-
   inside : u * width + w / 64 < length words
   inside = let r : columns ≤ 64 * width = h.room in omega (arith, within_words words width rows columns u h lu)
 
@@ -139,71 +118,7 @@ module _ (words : List (List K3)) (width rows columns u w : ℕ) (k : K3) (h : H
       let r : columns ≤ 64 * width = h.room
       in put_other words h.words_have (u * width) w (v * width) x k inside (columns_apart width u w v x (omega arith) lx other)
 
-  pub put_holds : HoldsRows (with_value words (u * width) w k) width rows columns
-  put_holds = record {
-    words_have = put_long words h.words_have (u * width) w k inside;
-    fits = omega (arith, h.fits, length-set words (u * width + w / 64) (set (word_at words (u * width + w / 64)) (w % 64) k));
-    as_many = length-set words (u * width + w / 64) (set (word_at words (u * width + w / 64)) (w % 64) k) ∙ h.as_many;
-    room = h.room;
-    least = h.least;
-    unused = λ v x lv past lx. others v x lx (inr (λ e. omega arith)) ∙ h.unused v x lv past lx;
-  }
-
-  same_row : (v : ℕ) → v ≢ u → row_of (with_value words (u * width) w k) columns (v * width) ≡ row_of words columns (v * width)
-  same_row v ne =
-      let r : columns ≤ 64 * width = h.room
-      in let after : List (List K3) = with_value words (u * width) w k
-      in ext_get_or No (row_of after columns (v * width)) (row_of words columns (v * width))
-      (length-row_of after columns (v * width) ∙ sym (length-row_of words columns (v * width)))
-      (λ x l.
-      let lx : x < columns = omega (arith, length-row_of after columns (v * width))
-      in get_or-row_of after columns (v * width) x lx ∙ others v x (omega arith) (inl ne) ∙ sym (get_or-row_of words columns (v * width) x lx))
-
-  changed_row : row_of (with_value words (u * width) w k) columns (u * width) ≡ set (row_of words columns (u * width)) w k
-  changed_row =
-      let r : columns ≤ 64 * width = h.room
-      in let after : List (List K3) = with_value words (u * width) w k
-      in let row : List K3 = row_of words columns (u * width)
-      in let on : w < length row = omega (arith, length-row_of words columns (u * width))
-      in ext_get_or No (row_of after columns (u * width)) (set row w k)
-      (length-row_of after columns (u * width) ∙ sym (length-row_of words columns (u * width)) ∙ sym (length-set row w k))
-      (λ x l.
-      let lx : x < columns = omega (arith, length-row_of after columns (u * width))
-      in get_or-row_of after columns (u * width) x lx
-      ∙ ⊎_elim
-      (λ e. ap (value_in after (u * width)) e ∙ put_same words h.words_have (u * width) w k inside ∙ sym (ap (λ y. get_or (set row w k) y No) e ∙ get_or-set_same row w k No on))
-      (λ ne.
-      others u x (omega arith) (inr ne) ∙ sym (get_or-row_of words columns (u * width) x lx) ∙ sym (get_or-set_other row w x k No ne))
-      (cases_eq x w))
-
-  pub put_rows : rows_of (with_value words (u * width) w k) width rows columns
-      ≡ set (rows_of words width rows columns) u (set (get_or (rows_of words width rows columns) u []) w k)
-  put_rows =
-      let after : List (List K3) = with_value words (u * width) w k
-      in let before : List (List K3) = rows_of words width rows columns
-      in let row : List K3 = set (get_or before u []) w k
-      in let len : length before ≡ rows = length-rows_of words width rows columns
-      in ext_get_or [] (rows_of after width rows columns) (set before u row)
-      (length-rows_of after width rows columns ∙ sym len ∙ sym (length-set before u row))
-      (λ v l.
-      let lv : v < rows = omega (arith, length-rows_of after width rows columns)
-      in get_or-rows_of after width rows columns v lv
-      ∙ ⊎_elim
-      (λ e.
-      ap (λ r. row_of after columns (r * width)) e ∙ changed_row ∙ ap (λ r. set r w k) (sym (get_or-rows_of words width rows columns u lu))
-      ∙ sym (ap (λ r. get_or (set before u row) r []) e ∙ get_or-set_same before u row [] (omega arith)))
-      (λ ne. same_row v ne ∙ sym (get_or-rows_of words width rows columns v lv) ∙ sym (get_or-set_other before u v row [] ne))
-      (cases_eq v u))
-
 -- ---- a row raised by another
-
--- two rows are one, or lie apart
-pub rows_apart : (width u stop : ℕ) → AreApart width (u * width) (stop * width)
-rows_apart width u stop =
-    ⊎_elim
-    (λ lt. inr (inr (row_fits u width stop width lt (omega arith))))
-    (λ le. ⊎_elim (λ e. inl (ap (λ r. r * width) (sym e))) (λ ne. inr (inl (row_fits stop width u width (omega arith) (omega arith)))) (cases_eq u stop))
-    (cases_lt u stop)
 
 pub raised_are_words : (words after : List (List K3)) (width to from : ℕ) (k : K3) → AreWords words → length after ≡ length words
     → to + width ≤ length words → from + width ≤ length words
@@ -230,22 +145,6 @@ raised_are_words words after width to from k long len lt lf row rest i d l =
     (λ past. ap length (rest i (inr past)) ∙ long i [] li)
     (cases_lt i (to + width)))
     (cases_lt i to)
-
--- ---- what the length of the rows says
-
-module _ (words : List (List K3)) (width rows columns u : ℕ) (now : List (List K3)) (view : rows_of words width rows columns ≡ now)
-    (h : HoldsRows words width rows columns) (lt : u < length now) where
-  pub row_below : u < rows
-  row_below = omega (arith, length-rows_of words width rows columns, ap length view)
-
-  pub row_within : u * width + width ≤ length words
-  row_within = within_words words width rows columns u h row_below
-
-  pub row_fits_word : u * width < 2 ^ 64
-  row_fits_word = omega (arith, row_within, h.fits)
-
-  pub place_within : (w : ℕ) → w < columns → u * width + w / 64 < length words
-  place_within w lw = omega (arith, row_within, h.room)
 
 -- ---- equal words
 
@@ -276,9 +175,6 @@ pointwise_self (word ∷ words) = rw (same_self word, pointwise_self words) refl
 
 -- ---- words that are No everywhere
 
-pub no_words : (n : ℕ) → AreWords (replicate n (replicate 64 No))
-no_words n = All-replicate (λ word. length word ≡ 64) n (replicate 64 No) (length-replicate 64 No)
-
 pub no_value : (n start column : ℕ) → value_in (replicate n (replicate 64 No)) start column ≡ No
 no_value n start column =
     ⊎_elim
@@ -289,27 +185,3 @@ no_value n start column =
     ap (λ word. get_or word (column % 64) No)
     (get_or_past (replicate n (replicate 64 No)) (start + column / 64) [] (omega (arith, length-replicate n (replicate 64 No)))))
     (cases_lt (start + column / 64) n)
-
-pub no_rows : (words : List (List K3)) (size width : ℕ) → size ≤ 256 → width ≡ size / 64 + min 1 (size % 64)
-    → words ≡ replicate (size * width) (replicate 64 No) → HoldsRows words width size size
-no_rows words size width small w e =
-    let len : length words ≡ size * width = ap length e ∙ length-replicate (size * width) (replicate 64 No)
-    in record {
-      words_have = subst AreWords (sym e) (no_words (size * width));
-      fits = omega (arith, len, mul-le size width 256 5 small (omega arith));
-      as_many = len;
-      room = omega arith;
-      least = w;
-      unused = λ row column lr past lc. ap (λ v. value_in v (row * width) column) e ∙ no_value (size * width) (row * width) column;
-    }
-
-pub no_entry : (words : List (List K3)) (size width u w : ℕ) → words ≡ replicate (size * width) (replicate 64 No) → entry_in (rows_of words width size size) u w ≡ No
-no_entry words size width u w e =
-    ⊎_elim
-    (λ lu.
-    ⊎_elim
-    (λ lw. entry-rows_of words width size size u w lu lw ∙ ap (λ v. value_in v (u * width) w) e ∙ no_value (size * width) (u * width) w)
-    (λ past. entry_past words width size size u w (inr past))
-    (cases_lt w size))
-    (λ past. entry_past words width size size u w (inl past))
-    (cases_lt u size)

@@ -1,14 +1,12 @@
 -- Rows compare, and are mixed, as their words.
-use Rattle.std.proofs.Common.{ℕ, ◌≡◌, ◌<◌, ◌≤◌, ◌*◌, ◌+◌, List, [], ◌∷◌, length, get_or, take, fold, refl, sym, ap, ◌∙◌, arith, Less, Equal, Greater, min, ◌/◌, ◌%◌}
-use Rattle.std.specs.List.{range_with_len}
+use Rattle.std.proofs.Common.{ℕ, ◌≡◌, ◌*◌, ◌+◌, List, [], ◌∷◌, length, take, fold, refl, sym, ap, ◌∙◌, arith, Less, Equal, Greater, min, ◌/◌, ◌%◌}
 use Rattle.std.specs.declared.cmp.Ordering.{Ordering}
 use Rattle.std.specs.Ordering.{ordering_then}
 use Rattle.std.specs.Cmp.Lexicographic.{slice_cmp}
 use Rattle.tv_kleene.specs.declared.K3.{K3}
-use Rattle.tv_kleene.specs.declared.K3.TheVariants.{No}
 use Rattle.tv_row.specs.Bits.{value_cmp}
 use Rattle.tv_row.specs.Places.{value_in, row_of, rows_of, HoldsCells}
-use Rattle.tv_row.specs.RowForm.{HoldsRow, row_words}
+use Rattle.tv_row.specs.RowForm.{HoldsRow}
 use Rattle.tv_row.specs.RowLaws.{words_back}
 use Rattle.tv_row.specs.Mixed.{word_mixed, row_mixed}
 use Rattle.tv_row.proofs.CompareRows.{words_as_rows}

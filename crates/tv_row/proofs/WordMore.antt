@@ -217,11 +217,6 @@ module _ (n ones : ℕ) (mask : (j : ℕ) → j < 64 → bit ones j ≡ ltb j n)
 
 -- ---- the greatest value
 
-larger-No : (k : K3) → larger_of k No ≡ k
-larger-No No = refl
-larger-No Half = refl
-larger-No Yes = refl
-
 larger-Yes : (k : K3) → larger_of k Yes ≡ Yes
 larger-Yes No = refl
 larger-Yes Half = refl

@@ -20,9 +20,6 @@ use Rattle.tv_struct.specs.LayoutForm.{LayoutForm, IsLayout, words_for, starts_f
 abbrev pub words_of : ℕ → ℕ
 words_of columns = columns / 64 + min 1 (columns % 64)
 
-pub some_words : (size : ℕ) → 0 < words_for size
-some_words size = omega arith
-
 pub few_words : (size : ℕ) → size ≤ 256 → words_for size ≤ 4
 few_words size small = omega arith
 
@@ -82,10 +79,6 @@ arities-planes_held words width size start (arity ∷ arities) =
     in let tail : arities_in (planes_held words width size (start + row_count size arity) arities) ≡ arities
     = arities-planes_held words width size (start + row_count size arity) arities
     in λ i. head i ∷ tail i
-
-pub length-starts_from : (size start : ℕ) (arities : List ℕ) → length (starts_from size start arities) ≡ length arities
-length-starts_from size start [] = refl
-length-starts_from size start (arity ∷ arities) = ap suc (length-starts_from size (start + row_count size arity) arities)
 
 pub end_above : (size start : ℕ) (arities : List ℕ) → start ≤ end_from size start arities
 end_above size start [] = omega arith
@@ -239,16 +232,6 @@ module _ (l : LayoutForm) (words : List (List K3)) (h : HoldsTable l words) (pre
         h.as_many,
       )
 
-  pub plane_here : plane_at (table_held l words) pred
-      ≡ plane_held words (words_for l.size) l.size (get_or (starts_from l.size 0 l.arities) pred 0) (get_or l.arities pred 0)
-  plane_here = plane_is words (words_for l.size) l.size 0 l.arities pred lp
-
-  pub row_here : row_in (plane_at (table_held l words) pred) row
-      ≡ row_of words (column_count l.size (get_or l.arities pred 0)) (row_place l pred row * words_for l.size)
-  row_here =
-      ap (λ (p : PlaneForm). row_in p row) plane_here
-      ∙ row-plane_held words (words_for l.size) l.size (get_or (starts_from l.size 0 l.arities) pred 0) (get_or l.arities pred 0) row lr
-
   pub unused_here : (column : ℕ) → column_count l.size (get_or l.arities pred 0) ≤ column → column < 64 * words_for l.size
       → value_in words (row_place l pred row * words_for l.size) column ≡ No
   unused_here column past low = at 0 l.arities pred lp lr h.unused column past low
@@ -266,19 +249,6 @@ module _ (l : LayoutForm) (words : List (List K3)) (h : HoldsTable l words) (pre
 module _ (l : LayoutForm) (words : List (List K3)) (pred : ℕ) (lp : pred < length (table_held l words).planes) where
   pub pred_listed : pred < length l.arities
   pred_listed = omega (arith, length-planes_held words (words_for l.size) l.size 0 l.arities)
-
-  pub arity_here : (plane_at (table_held l words) pred).arity ≡ get_or l.arities pred 0
-  arity_here =
-      ap (λ (p : PlaneForm). p.arity) (plane_is words (words_for l.size) l.size 0 l.arities pred pred_listed)
-      ∙ arity-plane_held words (words_for l.size) l.size (get_or (starts_from l.size 0 l.arities) pred 0) (get_or l.arities pred 0)
-
-  pub row_listed : (row : ℕ) → row < length (plane_at (table_held l words) pred).rows → row < row_count l.size (get_or l.arities pred 0)
-  row_listed row lr =
-      omega (
-        arith,
-        ap (λ (p : PlaneForm). length p.rows) (plane_is words (words_for l.size) l.size 0 l.arities pred pred_listed),
-        length-plane_held words (words_for l.size) l.size (get_or (starts_from l.size 0 l.arities) pred 0) (get_or l.arities pred 0),
-      )
 
 -- ---- a row of words is changed
 

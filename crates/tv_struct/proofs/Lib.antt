@@ -2,7 +2,6 @@ pub mod DrawnLaws
 pub mod HalfLaws
 pub mod HeldLaws
 pub mod ListLaws
-pub mod ListingLaws
 pub mod OrderLaws
 pub mod OriginLaws
 pub mod PlaneDraws

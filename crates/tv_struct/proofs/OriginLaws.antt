@@ -1,12 +1,12 @@
 -- The lists of origins.
 use Rattle.std.proofs.Common.{ℕ, ◌≡◌, ◌<◌, ◌≤◌, ◌+◌, ◌-◌, ◌⊎◌, inl, inr, Bool, true, false, cond, subst, true≢false, List, [], ◌∷◌, ◌++◌, length, get_or, replicate, take, refl, sym, ap, ◌∙◌, arith, append_assoc, append-nil, add-zero, zero-add, zero, suc}
-use Rattle.std.specs.Prelude.{Contains, sum, count_by, if◌then◌else◌, slice_index}
+use Rattle.std.specs.Prelude.{Contains, sum, count_by, if◌then◌else◌}
 use Rattle.std.specs.List.{range_with_len}
 use Rattle.std.proofs.lemmas.List.{length-append, length-replicate, length-take-le, take_more, map-id, get_or_append_left, get_or-replicate, get_or-append-add, get_or_default}
 use Rattle.std.proofs.lemmas.List.Sums.{sum_by-cons}
 use Rattle.std.proofs.lemmas.List.FromFn.{map-range_with_len_more}
 use Rattle.std.proofs.lemmas.Bool.{cases_lt}
-use Rattle.tv_struct.specs.Origins.{AreKept, IsCopy, HasPlace, AreCopies}
+use Rattle.tv_struct.specs.Origins.{AreKept, IsCopy, AreCopies}
 use Rattle.tv_struct.specs.StructureForm.{kept_from, copies_from}
 
 pub range_with_len_more : (a n : ℕ) → range_with_len a (n + 1) ≡ range_with_len a n ++ (a + n) ∷ []
@@ -200,14 +200,3 @@ are_copies parts = record {
       in record { is_place = found.0; origin = found.1 ∙ zero-add u });
   back = λ place lt. copy_back parts place lt;
 }
-
--- an individual with one copy stands at one place alone
-pub sole_copy : (parts : List ℕ) (place u : ℕ) → place < sum parts → slice_index (copies_from 0 parts) place ≡ u
-    → slice_index parts u ≡ 1 → place ≡ sum (take u parts)
-sole_copy parts place u lt at one =
-    let is : IsCopy parts place = copy_back parts place lt
-    in let there : HasPlace parts is.individual is.copy = (are_copies parts).place is.individual is.copy is.is_individual is.is_copy
-    in let same : is.individual ≡ u = sym there.origin ∙ sym (ap (slice_index (copies_from 0 parts)) is.is_place) ∙ at
-    in let first : is.copy < 1 = rw (← one, ← same) is.is_copy
-    in let before : sum (take is.individual parts) ≡ sum (take u parts) = ap (λ w. sum (take w parts)) same
-    in omega (arith, is.is_place, first, before)

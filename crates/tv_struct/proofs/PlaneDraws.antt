@@ -1,11 +1,11 @@
 -- Tables drawn from others, plane by plane and row by row.
 use Rattle.std.proofs.Common.{ℕ, ◌≡◌, ◌<◌, ◌≤◌, ◌+◌, ◌==◌, Bool, true, false, if◌then◌else◌, List, [], ◌∷◌, ◌++◌, length, map, get_or, set, take, drop, Some, refl, sym, ap, ◌∙◌, zero, suc, arith}
-use Rattle.std.proofs.lemmas.List.{length-set, length-map, length-append, length-take-le, length-drop, get_or-map, get_or-set_same, set-set, set-get_or}
+use Rattle.std.proofs.lemmas.List.{length-map, get_or-map, get_or-set_same, set-set}
 use Rattle.std.specs.Prelude.{slice_get}
 use Rattle.std.proofs.lemmas.Option.{get_or_from_slice_get}
 use Rattle.tv_kleene.specs.declared.K3.{K3}
 use Rattle.tv_kleene.specs.declared.K3.TheVariants.{No}
-use Rattle.tv_struct.specs.TableForm.{PlaneForm, TableForm, IsTable, no_plane, plane_at, row_in, row_count, column_count, plane_of_no, table_with_row, plane_drawn, arities_in, selected}
+use Rattle.tv_struct.specs.TableForm.{PlaneForm, TableForm, IsTable, no_plane, plane_at, row_in, row_count, plane_of_no, table_with_row, plane_drawn, arities_in, selected}
 use Rattle.tv_struct.proofs.RowLaws.{overwritten_more, overwritten_all}
 
 -- the table in which the first i rows of a predicate are these
@@ -13,10 +13,6 @@ abbrev pub drawn_so_far : (old : TableForm) → (pred i : ℕ) → (rows : List 
 drawn_so_far old pred i rows = record old {
   planes = set old.planes pred (record (plane_at old pred) { rows = take i rows ++ drop i (plane_at old pred).rows });
 }
-
-pub drawn_start : (old : TableForm) (pred : ℕ) (rows : List (List K3)) → old ≡ drawn_so_far old pred 0 rows
-drawn_start old pred rows =
-    ap (λ (planes : List PlaneForm). record old { planes = planes }) (sym (set-get_or old.planes pred no_plane))
 
 pub drawn_step : (old : TableForm) (pred i : ℕ) (rows : List (List K3)) (values : List K3) → pred < length old.planes
     → length rows ≡ length (plane_at old pred).rows → i < length rows → values ≡ get_or rows i []
@@ -54,26 +50,6 @@ row_origins-count arity origins = at (arity == 2)
     at true = refl
     at false = refl
 
-pub column_origins-count : (arity : ℕ) (origins : List ℕ) → length (column_origins arity origins) ≡ column_count (length origins) arity
-column_origins-count arity origins = at (arity == 0)
-  where
-    at : (b : Bool) → length (if b then 0 ∷ [] else origins) ≡ (if b then 1 else length origins)
-    at true = refl
-    at false = refl
-
-pub column_origins-small : (arity : ℕ) (origins : List ℕ) → length origins ≤ 256 → length (column_origins arity origins) ≤ 256
-column_origins-small arity origins small = at (arity == 0)
-  where
-    at : (b : Bool) → length (if b then 0 ∷ [] else origins) ≤ 256
-    at true = omega arith
-    at false = small
-
--- a row fits where it is put
-pub record FitsRow (t : TableForm) (pred row : ℕ) (values : List K3) : Type 0 where
-  pub predicate : pred < length t.planes
-  pub row_is : row < length (plane_at t pred).rows
-  pub columns : length values ≡ column_count t.size (plane_at t pred).arity
-
 module _ (old : TableForm) (source : PlaneForm) (origins : List ℕ) (pred : ℕ) (is : IsTable old) (lp : pred < length old.planes)
     (size : old.size ≡ length origins) (arity : (plane_at old pred).arity ≡ source.arity) where
   pub rows_many : length (plane_drawn origins source).rows ≡ length (plane_at old pred).rows
@@ -89,20 +65,6 @@ module _ (old : TableForm) (source : PlaneForm) (origins : List ℕ) (pred : ℕ
       get_or-map (λ row. selected No (get_or source.rows row []) (column_origins source.arity origins)) (row_origins source.arity origins) i 0
       [] lt
 
-  pub so_far_fits : (t : TableForm) (i : ℕ) (values : List K3) → t ≡ drawn_so_far old pred i (plane_drawn origins source).rows
-      → i < length (plane_drawn origins source).rows → length values ≡ column_count (length origins) source.arity → FitsRow t pred i values
-  so_far_fits t i values e lt long =
-      let rows : List (List K3) = (plane_drawn origins source).rows
-      in let plane : PlaneForm = plane_at old pred
-      in let mid : PlaneForm = record plane { rows = take i rows ++ drop i plane.rows }
-      in let here : plane_at (drawn_so_far old pred i rows) pred ≡ mid = get_or-set_same old.planes pred mid no_plane lp
-      in rw e (record {
-        predicate = rw (length-set old.planes pred mid) lp;
-        row_is = rw here
-            (omega (arith, length-append (take i rows) (drop i plane.rows), length-take-le i rows (omega arith), length-drop i plane.rows, rows_many));
-        columns = rw here (long ∙ ap (λ n. column_count n source.arity) (sym size) ∙ ap (column_count old.size) (sym arity));
-      })
-
 -- ---- all planes
 
 pub overwritten_at : {X : Type 0} (xs ys : List X) (i : ℕ) (d : X) → length xs ≡ length ys → i < length xs
@@ -111,11 +73,6 @@ overwritten_at [] ys i d same lt = absurd (omega arith)
 overwritten_at (x ∷ xs) [] i d same lt = absurd (omega arith)
 overwritten_at (x ∷ xs) (y ∷ ys) zero d same lt = refl
 overwritten_at (x ∷ xs) (y ∷ ys) (suc i) d same lt = overwritten_at xs ys i d (omega arith) (omega arith)
-
-pub overwritten_long : {X : Type 0} (xs ys : List X) (i : ℕ) → length xs ≡ length ys → i < length xs
-    → length (take i xs ++ drop i ys) ≡ length xs
-overwritten_long xs ys i same lt =
-    omega (arith, length-append (take i xs) (drop i ys), length-take-le i xs (omega arith), length-drop i ys)
 
 -- the table of which the first i planes are drawn, and the others have No everywhere
 abbrev pub planes_so_far : (source : TableForm) → (origins : List ℕ) → (i : ℕ) → List PlaneForm
@@ -127,16 +84,6 @@ module _ (source : TableForm) (origins : List ℕ) where
   planes_many =
       length-map source.planes (plane_drawn origins)
       ∙ sym (length-map (arities_in source.planes) (plane_of_no (length origins)) ∙ length-map source.planes (λ plane. plane.arity))
-
-  pub planes_room : (i : ℕ) → i < length source.planes → i < length (planes_so_far source origins i)
-  planes_room i lt =
-      let many : length (map (plane_drawn origins) source.planes) ≡ length source.planes = length-map source.planes (plane_drawn origins)
-      in omega (
-        arith,
-        many,
-        overwritten_long (map (plane_drawn origins) source.planes) (map (plane_of_no (length origins)) (arities_in source.planes)) i
-            planes_many (omega (arith, many)),
-      )
 
   pub planes_arity : (i : ℕ) → i < length source.planes
       → (get_or (planes_so_far source origins i) i no_plane).arity ≡ (plane_at source i).arity
@@ -156,12 +103,6 @@ module _ (source : TableForm) (origins : List ℕ) where
       in overwritten_more (map (plane_drawn origins) source.planes) (map (plane_of_no (length origins)) (arities_in source.planes)) i
       (plane_drawn origins (plane_at source i)) no_plane planes_many (omega (arith, many))
       (sym (get_or-map (plane_drawn origins) source.planes i no_plane no_plane lt))
-
-  pub planes_end : (i : ℕ) → length source.planes ≤ i → planes_so_far source origins i ≡ map (plane_drawn origins) source.planes
-  planes_end i past =
-      let many : length (map (plane_drawn origins) source.planes) ≡ length source.planes = length-map source.planes (plane_drawn origins)
-      in overwritten_all (map (plane_drawn origins) source.planes) (map (plane_of_no (length origins)) (arities_in source.planes)) i
-      (omega (arith, many)) (omega (arith, many, planes_many))
 
 -- ---- one row is drawn
 

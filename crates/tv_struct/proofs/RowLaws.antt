@@ -1,18 +1,18 @@
 -- Rows of tables and of structures.
-use Rattle.std.proofs.Common.{ℕ, ◌≡◌, ◌≢◌, ◌<◌, ◌≤◌, ◌+◌, ◌==◌, ◌⊎◌, inl, inr, Bool, true, false, List, [], ◌∷◌, ◌++◌, length, get_or, set, map, take, drop, replicate, Option, Some, None, zero, suc, refl, sym, ap, ◌∙◌, arith, if◌then◌else◌}
+use Rattle.std.proofs.Common.{ℕ, ◌≡◌, ◌≢◌, ◌<◌, ◌≤◌, ◌+◌, ◌==◌, ◌⊎◌, inl, inr, List, [], ◌∷◌, ◌++◌, length, get_or, set, map, take, drop, replicate, Option, Some, None, zero, suc, refl, sym, ap, ◌∙◌, arith, if◌then◌else◌}
 use Rattle.std.specs.Prelude.{slice_get}
 use Rattle.std.specs.List.{range_with_len}
 use Rattle.std.proofs.lemmas.Bool.{cases_eq}
-use Rattle.std.proofs.lemmas.List.{length-set, length-map, get_or-map, ext_get_or, get_or-set_same, get_or-set_other, set-set, length-append, length-take-le, length-drop, length-replicate, take_all, drop_all, append-nil}
+use Rattle.std.proofs.lemmas.List.{length-set, length-map, get_or-map, ext_get_or, get_or-set_same, get_or-set_other, length-append, length-take-le, length-drop, length-replicate, take_all, drop_all, append-nil}
 use Rattle.std.proofs.lemmas.List.Elements.{All-set}
 use Rattle.std.proofs.lemmas.List.FromFn.{length-map-range_with_len, get_or-map-range_with_len}
 use Rattle.std.proofs.lemmas.Option.{slice_get_within, get_or_from_slice_get}
 use Rattle.std.proofs.Math.Seq.{map-set_same}
 use Rattle.tv_kleene.specs.declared.K3.{K3}
 use Rattle.tv_kleene.specs.declared.K3.TheVariants.{No}
-use Rattle.tv_struct.specs.TableForm.{PlaneForm, TableForm, IsPlane, IsTable, row_of, column_of, cell, with_cell, value_in, no_plane, plane_at, row_in, column_in, row_count, column_count, table_with_row}
+use Rattle.tv_struct.specs.TableForm.{PlaneForm, TableForm, IsPlane, IsTable, row_of, column_of, cell, value_in, no_plane, plane_at, row_in, row_count, column_count, table_with_row}
 use Rattle.tv_struct.specs.StructureForm.{StructureForm, IsStructure, IsMark, table_of, value_at, arities_of}
-use Rattle.tv_struct.specs.StructureRows.{HasArity, unary_row, row_at, column_at, with_row}
+use Rattle.tv_struct.specs.StructureRows.{HasArity, unary_row, row_at, with_row}
 use Rattle.tv_struct.proofs.StructureLaws.{value_in-fits}
 
 -- ---- rows of tables
@@ -20,17 +20,6 @@ use Rattle.tv_struct.proofs.StructureLaws.{value_in-fits}
 pub row_long : (t : TableForm) (pred row : ℕ) → IsTable t → pred < length t.planes → row < length (plane_at t pred).rows
     → length (row_in (plane_at t pred) row) ≡ column_count t.size (plane_at t pred).arity
 row_long t pred row is lp lr = (is.planes pred no_plane lp).columns row [] lr
-
-columns_small : (size arity : ℕ) → size ≤ 256 → column_count size arity ≤ 256
-columns_small size arity small = at (arity == 0)
-  where
-    at : (b : Bool) → (if b then 1 else size) ≤ 256
-    at true = omega arith
-    at false = small
-
-pub row_small : (t : TableForm) (pred row : ℕ) → IsTable t → pred < length t.planes → row < length (plane_at t pred).rows
-    → length (row_in (plane_at t pred) row) ≤ 256
-row_small t pred row is lp lr = rw (row_long t pred row is lp lr) (columns_small t.size (plane_at t pred).arity is.size)
 
 pub IsTable-with_row : (t : TableForm) (pred row : ℕ) (values : List K3) → IsTable t → pred < length t.planes
     → length values ≡ column_count t.size (plane_at t pred).arity → IsTable (table_with_row t pred row values)
@@ -94,14 +83,6 @@ unary_row_is s pred is has = row_is s pred 1 0 (λ u. u ∷ []) is has refl (ome
 pub row_at_is : (s : StructureForm) (pred u : ℕ) → IsStructure s → HasArity s pred 2 → u < s.size
     → row_in (plane_at (table_of s) pred) u ≡ row_at s pred u
 row_at_is s pred u is has lt = row_is s pred 2 u (λ w. u ∷ w ∷ []) is has refl lt (λ w. (refl, refl, refl))
-
-pub column_at_is : (s : StructureForm) (pred w : ℕ) → HasArity s pred 2
-    → column_in s.size (plane_at (table_of s) pred) w ≡ column_at s pred w
-column_at_is s pred w has =
-    let plane : PlaneForm = plane_at (table_of s) pred
-    in let each : (u : ℕ) → cell plane.rows u w ≡ value_in plane (u ∷ w ∷ [])
-    = λ u. sym (value_in-fits plane (u ∷ w ∷ []) (sym (HasArity-is s pred 2 has)))
-    in λ i. map (λ u. each u i) (range_with_len 0 s.size)
 
 -- ---- a row is written
 
@@ -167,17 +148,6 @@ overwritten_more (a ∷ xs) (b ∷ ys) (suc i) x d same lt is =
 
 pub overwritten_all : {X : Type 0} (xs ys : List X) (n : ℕ) → length xs ≤ n → length ys ≤ n → take n xs ++ drop n ys ≡ xs
 overwritten_all xs ys n small also = rw (take_all n xs small, drop_all n ys also) (append-nil xs)
-
--- one place of a row of a plane is overwritten
-pub put_overwritten : (rows : List (List K3)) (row column : ℕ) (values : List K3) (k : K3) → row < length rows
-    → length values ≡ length (get_or rows row []) → column < length values → k ≡ get_or values column No
-    → with_cell (set rows row (take column values ++ drop column (get_or rows row []))) row column k
-    ≡ set rows row (take (column + 1) values ++ drop (column + 1) (get_or rows row []))
-put_overwritten rows row column values k lr long lt is =
-    let line : List K3 = take column values ++ drop column (get_or rows row [])
-    in rw (get_or-set_same rows row line [] lr)
-    (set-set rows row line (set line column k)
-    ∙ ap (set rows row) (overwritten_more values (get_or rows row []) column k No long lt is))
 
 -- ---- a row that is built from the front
 

@@ -49,9 +49,6 @@ entry_column-lt t pred tuple is has =
     column_of-lt t.size (plane_at t pred) tuple (is.planes pred no_plane (HasEntry-lt t pred tuple has))
     (HasEntry-arity t pred tuple has) has.individuals
 
-pub arity_count : (planes : List PlaneForm) → length (arities_in planes) ≡ length planes
-arity_count planes = length-map planes (λ plane. plane.arity)
-
 -- ---- what is kept
 
 pub IsPlane-of_no : (size arity : ℕ) → arity ≤ 2 → IsPlane size (plane_of_no size arity)

@@ -1,7 +1,6 @@
 pub mod Halves
 pub mod Laws
 pub mod LayoutForm
-pub mod ListingForm
 pub mod Lists
 pub mod Order
 pub mod Origins

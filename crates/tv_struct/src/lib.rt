@@ -1,4 +1,4 @@
-//! Three-valued logical structures, the table that keeps their values, and lists of structures.
+//! Three-valued logical structures, and the table that keeps their values.
 #![tactic(auto)]
 
 mod analysis;
@@ -7,22 +7,17 @@ mod drawn;
 mod laws;
 mod layout;
 mod line;
-mod listing;
-mod node;
 mod origins;
 mod planes;
 mod signature;
 mod structure;
 mod table;
 
-pub use analysis::{
-    Analysis, Item, MapLine, MapLines, MessageLine, MessageLines, Numbers, StageError,
-};
+pub use analysis::{Numbers, StageError};
 pub use laws::{
     drawn_structures_read, entries_are_separate, entries_determine_structures, halves_are_counted,
     kept_individuals_are_flagged, lists_embed, lowering_goes_below, new_structures_are_no,
     places_are_copies,
 };
-pub use listing::Listing;
 pub use structure::{Structure, Structures};
 pub use table::{Table, Tuple};

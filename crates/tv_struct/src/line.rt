@@ -39,14 +39,6 @@ impl<T> Line<T> {
 }
 
 impl<T: Drop> Line<T> {
-    /// Puts `value` behind the last element. At an error the list is as before.
-    pub fn push(&mut self, value: T) -> Result<(), AllocError>
-        ensures { self.new ≡ (if is_ok result then self.old ++ value ∷ [] else self.old) }
-    {
-        self.items.push(value)?;
-        Ok(())
-    }
-
     /// Puts `value` in the place of the element at `place`.
     pub fn put(&mut self, place: usize, value: T)
         requires { place < length self.old }

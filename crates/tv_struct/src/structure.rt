@@ -322,8 +322,8 @@ impl Structure {
         self.table.compare_values(&other.table)
     }
 
-    /// A number that equal structures share.
-    pub(crate) fn signature(&self) -> u64
+    /// A number that equal structures share, marks aside.
+    pub fn signature(&self) -> u64
         ensures { result ≡ signature_of self.now }
     {
         self.table.mix(mix_flags(u64::from(self.size()), self.summaries.as_slice()))

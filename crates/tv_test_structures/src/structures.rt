@@ -9,8 +9,9 @@ use std::alloc::{AllocError, Global};
 use std::cmp::Ordering;
 use std::process::Abort;
 use std::test::Fail;
+use tv_listing::Listing;
 use tv_model::Program;
-use tv_struct::{Listing, Structure};
+use tv_struct::Structure;
 
 /// A list whose head isn't pointed to, and a summary for the rest.
 const LOOSE: &str = "%n = {h, u} %p = { n = {h->u:1/2, u->u:1/2} sm = {u:1/2} }";

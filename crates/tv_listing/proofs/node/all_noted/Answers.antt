@@ -2,11 +2,11 @@ use Rattle.std.proofs.Common.{◌∙◌, List, [], map, unwrap_or, ap, subst}
 use Rattle.std.proofs.lemmas.List.{take_all}
 use Rattle.std.specs.Ordering.{nat_cmp}
 use Rattle.std.specs.BTreeMap.{get}
-use Rattle.tv_struct.specs.ListingForm.{AreNoted}
+use Rattle.tv_listing.specs.ListingForm.{AreNoted}
 use Rattle.tv_struct.specs.Signature.{signature_of}
 use Rattle.tv_struct.specs.StructureForm.{StructureForm}
-use Rattle.tv_struct.proofs.ListingLaws.{AreNoted-more}
-use Rattle.tv_struct.proofs.node.all_noted.Goals as goal
+use Rattle.tv_listing.proofs.ListingLaws.{AreNoted-more}
+use Rattle.tv_listing.proofs.node.all_noted.Goals as goal
 
 pub loop-place-preserved : goal.loop-place-preserved
 loop-place-preserved c =

@@ -9,7 +9,7 @@ use Rattle.std.proofs.lemmas.List.{get_or-map, length-map, get_or_append_left, g
 use Rattle.std.proofs.lemmas.List.Folds.{Any-from_list_any, list_any_at}
 use Rattle.std.proofs.lemmas.Bool.{cases_lt}
 use Rattle.std.proofs.lemmas.Option.{slice_get_within, get_or_from_slice_get, slice_get-get_or}
-use Rattle.tv_struct.specs.ListingForm.{HasEqual, AreNoted, Adds, AddsAt, IsSortedFrom, at_node, equals, is_equal_at}
+use Rattle.tv_listing.specs.ListingForm.{HasEqual, AreNoted, Adds, AddsAt, IsSortedFrom, at_node, equals, is_equal_at}
 use Rattle.tv_struct.specs.Order.{structure_cmp}
 use Rattle.tv_struct.specs.Signature.{signature_of}
 use Rattle.tv_struct.specs.StructureForm.{StructureForm}

@@ -1,6 +1,6 @@
 use Rattle.std.proofs.Common.{◌≡◌, ◌<◌, ℕ, length}
-use Rattle.tv_struct.specs.ListingForm.{at_node, IsSortedFrom}
-use Rattle.tv_struct.proofs.listing.Listing.sorted.Given as goal
+use Rattle.tv_listing.specs.ListingForm.{at_node, IsSortedFrom}
+use Rattle.tv_listing.proofs.listing.Listing.sorted.Given as goal
 
 abbrev pub invariant-loop-node : goal.invariant-loop-node
 invariant-loop-node l = record {

@@ -1,8 +1,8 @@
 use Rattle.std.proofs.Common.{[], unwrap_or}
 use Rattle.std.specs.Ordering.{nat_cmp}
 use Rattle.std.specs.BTreeMap.{get}
-use Rattle.tv_struct.proofs.ListingLaws.{HasEqual-found}
-use Rattle.tv_struct.proofs.node.Node.has_equal.Goals as goal
+use Rattle.tv_listing.proofs.ListingLaws.{HasEqual-found}
+use Rattle.tv_listing.proofs.node.Node.has_equal.Goals as goal
 
 pub returns : goal.returns
 returns c =

@@ -1,7 +1,7 @@
 use Rattle.std.proofs.Common.{ap, arith, length}
 use Rattle.std.proofs.lemmas.List.{length_push}
-use Rattle.tv_struct.proofs.ListingLaws.{IsSortedFrom-push}
-use Rattle.tv_struct.proofs.listing.Listing.sorted.Goals as goal
+use Rattle.tv_listing.proofs.ListingLaws.{IsSortedFrom-push}
+use Rattle.tv_listing.proofs.listing.Listing.sorted.Goals as goal
 
 pub loop-node-preserved : goal.loop-node-preserved
 loop-node-preserved c = record {

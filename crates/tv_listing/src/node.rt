@@ -4,19 +4,19 @@ ghost use Rattle.std.specs.Prelude.{◌≡◌, ◌<◌, ◌≤◌, ℕ, [], ◌�
 ghost use Rattle.std.specs.List.{list_any};
 ghost use Rattle.std.specs.Ordering.{nat_cmp};
 ghost use Rattle.std.specs.BTreeMap.{get};
-ghost use Rattle.tv_struct.specs.ListingForm.{HasEqual, Adds, AreNoted, IsSortedFrom, is_equal_at};
+ghost use Rattle.tv_listing.specs.ListingForm.{HasEqual, Adds, AreNoted, IsSortedFrom, is_equal_at};
 ghost use Rattle.tv_struct.specs.Signature.{signature_of};
 ghost use Rattle.tv_struct.specs.StructureForm.{StructureForm, unmarked};
 
-use crate::line::Line;
-use crate::structure::Structure;
 use std::alloc::{AllocError, Global};
 use std::cmp::Ordering;
 use std::collections::BTreeMap;
 use std::marker::Model;
+use tv_model::Items;
+use tv_struct::Structure;
 
 /// Places of structures, by signature.
-type Noted = BTreeMap<u64, Line<usize>>;
+type Noted = BTreeMap<u64, Items<usize>>;
 
 /// Structures in the order in which they came. For each signature the places of the structures that
 /// have it are noted, so that an equal structure is found without a walk over all.
@@ -30,7 +30,7 @@ impl Model for Node {
     ghost use Rattle.std.specs.Prelude.{List, [], map, unwrap_or};
     ghost use Rattle.std.specs.Ordering.{nat_cmp};
     ghost use Rattle.std.specs.BTreeMap.{get};
-    ghost use Rattle.tv_struct.specs.ListingForm.{AreNoted};
+    ghost use Rattle.tv_listing.specs.ListingForm.{AreNoted};
     ghost use Rattle.tv_struct.specs.Signature.{signature_of};
     ghost use Rattle.tv_struct.specs.StructureForm.{StructureForm};
 
@@ -130,7 +130,7 @@ fn note(alloc: Global, noted: &mut Noted, signature: u64, place: usize) -> Resul
     if let Some(places) = noted.get_mut(&signature) {
         return places.push(place);
     }
-    let mut places = Line::from_vec(Vec::new(alloc));
+    let mut places = Items::new(alloc);
     places.push(place)?;
     noted.insert(signature, places)?;
     Ok(())

@@ -2,12 +2,12 @@
 
 ghost use Rattle.std.specs.Prelude.{◌≡◌, ◌<◌, [], length, replicate, is_ok, if◌then◌else◌, slice_get, IfOk, Some};
 ghost use Rattle.tv_struct.specs.StructureForm.{IsStructure};
-ghost use Rattle.tv_struct.specs.ListingForm.{at_node, appended, AddsAt, AreSorted};
+ghost use Rattle.tv_listing.specs.ListingForm.{at_node, appended, AddsAt, AreSorted};
 
 use crate::node::Node;
-use crate::structure::Structure;
 use std::alloc::{AllocError, Global};
 use std::marker::Model;
+use tv_struct::Structure;
 
 /// For each node, by number, a list of structures. It keeps the allocator that it was made with.
 #[derive(Drop)]

@@ -1,9 +1,9 @@
 use Rattle.std.proofs.Common.{[], map, take, unwrap_or}
 use Rattle.std.specs.Ordering.{nat_cmp}
 use Rattle.std.specs.BTreeMap.{get}
-use Rattle.tv_struct.specs.ListingForm.{AreNoted}
+use Rattle.tv_listing.specs.ListingForm.{AreNoted}
 use Rattle.tv_struct.specs.Signature.{signature_of}
-use Rattle.tv_struct.proofs.node.all_noted.Given as goal
+use Rattle.tv_listing.proofs.node.all_noted.Given as goal
 
 abbrev pub invariant-loop-place : goal.invariant-loop-place
 invariant-loop-place l =

@@ -3,8 +3,8 @@ use Rattle.std.proofs.lemmas.List.{map-append, length-map}
 use Rattle.std.specs.Ordering.{nat_cmp}
 use Rattle.std.specs.BTreeMap.{get}
 use Rattle.tv_struct.specs.Signature.{signature_of}
-use Rattle.tv_struct.proofs.ListingLaws.{AreNoted-same, AreNoted-kept, AreNoted-append}
-use Rattle.tv_struct.proofs.node.Node.push.Goals as goal
+use Rattle.tv_listing.proofs.ListingLaws.{AreNoted-same, AreNoted-kept, AreNoted-append}
+use Rattle.tv_listing.proofs.node.Node.push.Goals as goal
 
 pub invariant_of-self : goal.invariant_of-self
 invariant_of-self c =
