@@ -1,5 +1,5 @@
 -- How structures read, and that their entries determine them.
-use Rattle.std.proofs.Common.{ℕ, ◌≡◌, ◌<◌, ◌≤◌, ◌+◌, ◌==◌, ◌⊎◌, inl, inr, Bool, true, false, List, [], ◌∷◌, length, get_or, map, replicate, Option, Some, zero, suc, refl, sym, ap, subst, ◌∙◌, arith, eq-eqb, eqb-true, if◌then◌else◌}
+use Rattle.std.proofs.Common.{All, ℕ, ◌≡◌, ◌<◌, ◌≤◌, ◌+◌, ◌==◌, ◌⊎◌, inl, inr, Bool, true, false, List, [], ◌∷◌, length, get_or, map, replicate, Option, Some, zero, suc, refl, sym, ap, subst, ◌∙◌, arith, eq-eqb, eqb-true, if◌then◌else◌}
 use Rattle.std.specs.Prelude.{slice_get}
 use Rattle.std.proofs.lemmas.Option.{slice_get-get_or}
 use Rattle.std.specs.List.{range_with_len}
@@ -173,10 +173,16 @@ same_plane size p q is_p is_q arity same =
         (rw (is_q.columns r [] lt_q, ← arity, ← is_p.columns r [] lt) within)))
         in get_or_default p.rows r d [] lt ∙ cells ∙ sym (get_or_default q.rows r d [] lt_q)
 
-pub same_structure : (s t : StructureForm) → IsStructure s → IsStructure t → s.size ≡ t.size → arities_of s ≡ arities_of t
+-- one value for each tuple, and one flag for each individual, of which there may be any number
+pub record IsFull (s : StructureForm) : Type 0 where
+  pub planes : All (IsPlane s.size) s.planes
+  pub summaries : length s.summaries ≡ s.size
+
+-- so structures of any size are the same where their entries, summaries and marks are
+pub same_full : (s t : StructureForm) → IsFull s → IsFull t → s.size ≡ t.size → arities_of s ≡ arities_of t
     → ((pred : ℕ) (tuple : List ℕ) → HasEntry (table_of s) pred tuple → value_at s pred tuple ≡ value_at t pred tuple)
     → ((u : ℕ) → u < s.size → summary_at s u ≡ summary_at t u) → s.fresh ≡ t.fresh → s ≡ t
-same_structure s t is_s is_t size arities values summaries fresh =
+same_full s t is_s is_t size arities values summaries fresh =
     let count : length s.planes ≡ length t.planes
     = sym (length-map s.planes (λ plane. plane.arity)) ∙ ap length arities ∙ length-map t.planes (λ plane. plane.arity)
     in let marks : s.summaries ≡ t.summaries
@@ -205,11 +211,18 @@ same_structure s t is_s is_t size arities values summaries fresh =
         ∙ get_or-map (λ p. p.arity) t.planes k no_plane 0 lt_t
         in get_or_default s.planes k d no_plane lt
         ∙ same_plane s.size (get_or s.planes k no_plane) (get_or t.planes k no_plane)
-        (is_s.table.planes k no_plane lt)
-        (subst IsOf (sym size) (is_t.table.planes k no_plane lt_t))
+        (is_s.planes k no_plane lt)
+        (subst IsOf (sym size) (is_t.planes k no_plane lt_t))
         arity
         (λ tuple e within. values k tuple (record { arity = known k lt tuple e; individuals = within }))
         ∙ get_or_default t.planes k no_plane d lt_t
+
+pub same_structure : (s t : StructureForm) → IsStructure s → IsStructure t → s.size ≡ t.size → arities_of s ≡ arities_of t
+    → ((pred : ℕ) (tuple : List ℕ) → HasEntry (table_of s) pred tuple → value_at s pred tuple ≡ value_at t pred tuple)
+    → ((u : ℕ) → u < s.size → summary_at s u ≡ summary_at t u) → s.fresh ≡ t.fresh → s ≡ t
+same_structure s t is_s is_t =
+    same_full s t (record { planes = is_s.table.planes; summaries = is_s.summaries })
+    (record { planes = is_t.table.planes; summaries = is_t.summaries })
 
 -- ---- the laws
 
