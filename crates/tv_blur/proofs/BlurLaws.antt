@@ -11,7 +11,7 @@ use Rattle.tv_kleene.specs.declared.K3.TheVariants.{No, Half, Yes}
 use Rattle.tv_frame.specs.LogicalStructure.{LogicalStructure}
 use Rattle.tv_row.specs.Bits.{value_cmp}
 use Rattle.tv_struct.specs.TableForm.{HasEntry, AreIndividuals}
-use Rattle.tv_struct.specs.StructureForm.{StructureForm, IsStructure, structure_of, table_of, value_at, summary_at}
+use Rattle.tv_struct.specs.StructureForm.{StructureForm, IsStructure, structure_of, table_of, value_at, summary_at, arities_of}
 use Rattle.tv_struct.proofs.StructureLaws.{same_structure}
 use Rattle.tv_blur.specs.Merged.{IsMember, IsValueBelow, HasSummary, HasSeveral, IsMerged}
 use Rattle.tv_blur.specs.Names.{name_of, name_cmp, name_cmp_total}
@@ -224,11 +224,22 @@ members-like s p q same w has = at has
     at (inl (u, is, summary)) = inl (u, like u is, summary)
     at (inr (u, x, is, other, differ)) = inr (u, x, like u is, like x other, differ)
 
-pub one_blur : (preds : List ℕ) (s t r : StructureForm) → IsStructure t → IsStructure r → IsBlur preds s t → IsBlur preds s r
-    → t ≡ r
-one_blur preds s t r is_t is_r (p, bp) (q, bq) =
-    same_structure t r is_t is_r size (bp.over ∙ sym bq.over) (λ pred tuple has. values pred tuple has)
-    (λ w lt. summaries w lt) (bp.unmarked ∙ sym bq.unmarked)
+-- two blurs of one structure, of any size, have the same entries
+pub record AreSame (t r : StructureForm) : Type 0 where
+  pub size : t.size ≡ r.size
+  pub over : arities_of t ≡ arities_of r
+  pub values : (pred : ℕ) (tuple : List ℕ) → HasEntry (table_of t) pred tuple → value_at t pred tuple ≡ value_at r pred tuple
+  pub summaries : (w : ℕ) → w < t.size → summary_at t w ≡ summary_at r w
+  pub fresh : t.fresh ≡ r.fresh
+
+pub same_blurs : (preds : List ℕ) (s t r : StructureForm) → IsBlur preds s t → IsBlur preds s r → AreSame t r
+same_blurs preds s t r (p, bp) (q, bq) = record {
+  size = size;
+  over = bp.over ∙ sym bq.over;
+  values = λ pred tuple has. values pred tuple has;
+  summaries = λ w lt. summaries w lt;
+  fresh = bp.unmarked ∙ sym bq.unmarked;
+}
   where
     size : t.size ≡ r.size
     size = same-size t.size r.size (size-below preds s t r p q bp bq) (size-below preds s r t q p bq bp)
@@ -258,6 +269,12 @@ one_blur preds s t r is_t is_r (p, bp) (q, bq) =
         in same_bools (summary_at t w) (summary_at r w)
         (λ yes. (bq.merged.summaries w at_r).1 (members-like s p q same w ((bp.merged.summaries w at_t).0 yes)))
         (λ yes. (bp.merged.summaries w at_t).1 (members-like s q p back w ((bq.merged.summaries w at_r).0 yes)))
+
+pub one_blur : (preds : List ℕ) (s t r : StructureForm) → IsStructure t → IsStructure r → IsBlur preds s t → IsBlur preds s r
+    → t ≡ r
+one_blur preds s t r is_t is_r bt br =
+    let same : AreSame t r = same_blurs preds s t r bt br
+    in same_structure t r is_t is_r same.size same.over same.values same.summaries same.fresh
 
 -- a structure with different names in order is its own blur
 own_blur : (preds : List ℕ) (s : StructureForm) → IsBlurred preds s → IsBlurBy (λ u. u) preds s s
