@@ -1,6 +1,8 @@
 -- The library of lemmas on closed rules, for the crates above.
 pub mod Carried
 pub mod Family
+pub mod MetByHeaps
+pub mod Ranges
 pub mod Written
 -- What only this crate cites.
 mod Dropping
@@ -11,7 +13,5 @@ mod Further
 mod Heights
 mod KeptLemmas
 mod Loops
-mod MetByHeaps
 mod Plain
-mod Ranges
 mod RuleTests
