@@ -5,7 +5,7 @@ mod Few
 mod Filters
 mod Folds
 mod Given
-mod Limits
+pub mod Limits
 mod Parts
 mod Picks
 mod Puts
