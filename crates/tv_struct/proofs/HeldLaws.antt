@@ -6,7 +6,6 @@ use Rattle.std.proofs.lemmas.Bool.{cases_eq, cases_lt}
 use Rattle.std.proofs.lemmas.Nat.{row_fits}
 use Rattle.std.proofs.lemmas.List.{length-set, length-replicate, map-append, get_or-map, get_or-set_same, get_or-set_other, get_or-replicate, get_or_past, get_or_default, take_more, length-take-le, ext_get_or}
 use Rattle.std.proofs.lemmas.List.FromFn.{length-map-range_with_len, get_or-map-range_with_len}
-use Rattle.tv_struct.specs.declared.layout.Place.{Place}
 use Rattle.tv_kleene.specs.declared.K3.{K3}
 use Rattle.tv_kleene.specs.declared.K3.TheVariants.{No}
 use Rattle.tv_row.specs.Places.{word_at, value_in, row_of}
@@ -442,11 +441,6 @@ pub placed_more : {X : Type 0} (f : X → ℕ) (xs : List X) (x : X) (ns : List 
     → map f (xs ++ x ∷ []) ≡ ns ++ n ∷ []
 placed_more f xs x ns n e is =
     map-append f xs (x ∷ []) ∙ ap (λ ys. ys ++ f x ∷ []) e ∙ ap (λ m. ns ++ m ∷ []) is
-
-pub start_read : (places : List Place) (starts : List ℕ) (pred : ℕ) (place : Place) → map (λ (p : Place). p.start) places ≡ starts
-    → pred < length places → place ≡ get_or places pred place → place.start ≡ get_or starts pred 0
-start_read places starts pred place e lt is =
-    ap (λ (p : Place). p.start) is ∙ sym (get_or-map (λ (p : Place). p.start) places pred place 0 lt) ∙ ap (λ xs. get_or xs pred 0) e
 
 -- numbers of rows and of words fit
 pub words_small : (l : LayoutForm) → IsLayout l

@@ -1,6 +1,7 @@
 pub mod DrawnLaws
 pub mod HalfLaws
 pub mod HeldLaws
+pub mod LayoutLaws
 pub mod ListLaws
 pub mod OrderLaws
 pub mod OriginLaws

@@ -65,10 +65,10 @@ pub record HoldsTable (l : LayoutForm) (words : List (List K3)) : Type 0 where
   pub as_many : length words ≡ end_from l.size 0 l.arities * words_for l.size
   pub unused : NoBeyond words (words_for l.size) l.size 0 l.arities
 
--- the layout with what is counted ahead: the words of a row, the first row of each predicate, and the
--- number of all rows
-pub record IsLaid (l : LayoutForm) (wide : ℕ) (firsts : List ℕ) (total : ℕ) : Type 0 where
+-- the layout with what is counted ahead: the words of a row, and how many predicates that have one row
+-- alone stand before each predicate and in all; over no individuals these are all rows
+pub record IsLaid (l : LayoutForm) (wide : ℕ) (before : List ℕ) (all : ℕ) : Type 0 where
   pub layout : IsLayout l
   pub width : wide ≡ words_for l.size
-  pub starts : firsts ≡ starts_from l.size 0 l.arities
-  pub rows : total ≡ end_from l.size 0 l.arities
+  pub singles : before ≡ starts_from 0 0 l.arities
+  pub total : all ≡ end_from 0 0 l.arities

@@ -1,27 +1,35 @@
 //! Where the rows of each predicate of a table lie in its words.
 
-ghost use Rattle.std.specs.Prelude.{◌≡◌, ◌<◌, ◌≤◌, ◌+◌, ◌*◌, length, map, IfOk, slice_index};
+ghost use Rattle.std.specs.Prelude.{◌≡◌, ◌<◌, ◌≤◌, ◌+◌, ◌-◌, ◌*◌, length, map, IfOk, IsTrue, slice_index};
 ghost use Rattle.tv_struct.specs.LayoutForm.{LayoutForm, IsLayout, words_for, starts_from, end_from, row_place};
 ghost use Rattle.tv_struct.specs.TableForm.{row_count, column_count};
 
 use std::alloc::{AllocError, Global};
 use std::marker::Model;
+use std::rc::Rc;
 
-/// A predicate's arity, and the first of its rows among those of all predicates.
+/// A predicate's arity, and how many of the predicates before it have one row alone.
 #[derive(Clone, Copy, Debug, PartialEq, Eq)]
 pub struct Place {
     arity: u8,
-    start: usize,
+    single: usize,
 }
 
-/// The size and the arities of a table, with the place of each predicate and the number of all rows.
-/// Each row has the same number of words.
+/// The place of each predicate, and how many predicates have one row alone: what doesn't depend on the
+/// number of individuals.
+#[derive(Debug, Drop)]
+pub struct Places {
+    items: Vec<Place>,
+    single: usize,
+}
+
+/// The size and the arities of a table. Each row has the same number of words. Tables over the same
+/// predicates share the places, whatever their sizes.
 #[derive(Debug, Drop)]
 pub struct Layout {
     size: u32,
     width: usize,
-    places: Vec<Place>,
-    rows: usize,
+    places: Rc<Places>,
 }
 
 impl Model for Layout {
@@ -30,9 +38,9 @@ impl Model for Layout {
 
     ghost Value = { LayoutForm };
 
-    ghost view = { λ l. record { size = l.size; arities = map (λ place. place.arity) l.places.items } };
+    ghost view = { λ l. record { size = l.size; arities = map (λ place. place.arity) l.places.value.items.items } };
 
-    ghost invariant = { λ l. IsLaid (record { size = l.size; arities = map (λ place. place.arity) l.places.items }) l.width (map (λ place. place.start) l.places.items) l.rows };
+    ghost invariant = { λ l. IsLaid (record { size = l.size; arities = map (λ place. place.arity) l.places.value.items.items }) l.width (map (λ place. place.single) l.places.value.items.items) l.places.value.single };
 }
 
 /// The number of rows of a predicate of that arity over `size` individuals.
@@ -49,36 +57,41 @@ pub fn column_count(size: u32, arity: u8) -> u32
     if arity == 0 { 1 } else { size }
 }
 
-/// The place of each predicate.
-fn laid(alloc: Global, arities: &[u8], size: u32) -> Result<Vec<Place>, AllocError>
-    requires size { size ≤ 256 }
-    requires predicates { length arities.now ≤ 4294967295 }
-    ensures arities { IfOk result (λ places. map (λ place. place.arity) places.items ≡ arities.now) }
-    ensures starts { IfOk result (λ places. map (λ place. place.start) places.items ≡ starts_from size 0 arities.now) }
+/// The place of each predicate, and how many have one row alone.
+fn laid(alloc: Global, arities: &[u8]) -> Result<Places, AllocError>
+    requires { length arities.now ≤ 4294967295 }
+    ensures arities { IfOk result (λ places. map (λ place. place.arity) places.items.items ≡ arities.now) }
+    ensures singles { IfOk result (λ places. map (λ place. place.single) places.items.items ≡ starts_from 0 0 arities.now) }
+    ensures total { IfOk result (λ places. places.single ≡ end_from 0 0 arities.now) }
 {
-    let mut places = Vec::with_capacity(alloc, arities.len())?;
-    let mut start = 0;
+    let mut items = Vec::with_capacity(alloc, arities.len())?;
+    let mut single = 0;
     for arity in arities {
-        places.push(Place {
+        items.push(Place {
             arity: *arity,
-            start,
+            single,
         })?;
-        start += row_count(size, *arity) as usize;
+        single += row_count(0, *arity) as usize;
     }
-    Ok(places)
+    Ok(Places { items, single })
 }
 
-/// The number of all rows.
-fn row_total(arities: &[u8], size: u32) -> usize
+/// The number of rows of that many predicates, so many of which have one row alone, and each of the
+/// others `size` rows.
+fn rows_of(single: usize, preds: usize, size: u32) -> usize
+    requires single { single ≤ preds }
+    requires predicates { preds ≤ 4294967295 }
     requires size { size ≤ 256 }
-    requires predicates { length arities.now ≤ 4294967295 }
-    ensures { result ≡ end_from size 0 arities.now }
+    ensures { result ≡ single + (preds - single) * size }
 {
-    let mut rows = 0;
-    for arity in arities {
-        rows += row_count(size, *arity) as usize;
-    }
-    rows
+    single + (preds - single) * size as usize
+}
+
+/// The number of words of a row over `size` individuals.
+fn width_of(size: u32) -> usize
+    ensures { result ≡ words_for size }
+{
+    (size as usize).div_ceil(64).max(1)
 }
 
 impl Layout {
@@ -87,24 +100,33 @@ impl Layout {
         requires { IsLayout (record { size = size; arities = arities.now }) }
         ensures { IfOk result (λ l. l ≡ record { size = size; arities = arities.now }) }
     {
+        match Rc::new(alloc, laid(alloc, arities)?) {
+            Ok(places) => Ok(Layout {
+                size,
+                width: width_of(size),
+                places,
+            }),
+            Err(_) => Err(AllocError),
+        }
+    }
+
+    /// The layout over `size` individuals and the same predicates; takes no memory.
+    pub fn resized(&self, size: u32) -> Result<Layout, AllocError>
+        requires { size ≤ 256 }
+        ensures { IfOk result (λ l. l ≡ record { size = size; arities = self.now.arities }) }
+    {
         Ok(Layout {
             size,
-            width: (size as usize).div_ceil(64).max(1),
-            places: laid(alloc, arities, size)?,
-            rows: row_total(arities, size),
+            width: width_of(size),
+            places: self.places.clone()?,
         })
     }
 
-    /// An equal layout in memory of its own.
-    pub fn copied(&self, alloc: Global) -> Result<Layout, AllocError>
-        ensures { IfOk result (λ l. l ≡ self.now) }
+    /// Whether the sizes and the arities are equal.
+    pub fn agrees(&self, other: &Layout) -> bool
+        ensures { IsTrue result → self.now ≡ other.now }
     {
-        Ok(Layout {
-            size: self.size,
-            width: self.width,
-            places: Vec::from_slice(alloc, &self.places)?,
-            rows: self.rows,
-        })
+        self.size == other.size && self.places.items == other.places.items
     }
 
     /// The number of individuals.
@@ -119,7 +141,7 @@ impl Layout {
     pub fn pred_count(&self) -> u32
         ensures { result ≡ length self.now.arities }
     {
-        self.places.len() as u32
+        self.places.items.len() as u32
     }
 
     /// The arity of a predicate.
@@ -127,14 +149,7 @@ impl Layout {
         requires { pred < length self.now.arities }
         ensures { result ≡ slice_index self.now.arities pred }
     {
-        self.places[pred].arity
-    }
-
-    /// The arity of each predicate.
-    pub fn arities(&self, alloc: Global) -> Result<Vec<u8>, AllocError>
-        ensures { IfOk result (λ arities. arities.items ≡ self.now.arities) }
-    {
-        self.places.iter().map(|place| place.arity).collect(alloc)
+        self.places.items[pred].arity
     }
 
     /// The number of words of a row.
@@ -148,7 +163,7 @@ impl Layout {
     pub fn word_count(&self) -> usize
         ensures { result ≡ end_from self.now.size 0 self.now.arities * words_for self.now.size }
     {
-        self.rows * self.width
+        rows_of(self.places.single, self.places.items.len(), self.size) * self.width
     }
 
     /// The first word of a predicate's row.
@@ -157,6 +172,6 @@ impl Layout {
         requires row { row < row_count self.now.size (slice_index self.now.arities pred) }
         ensures { result ≡ row_place self.now pred row * words_for self.now.size }
     {
-        (self.places[pred].start + row) * self.width
+        (rows_of(self.places.items[pred].single, pred, self.size) + row) * self.width
     }
 }

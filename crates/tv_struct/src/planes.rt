@@ -47,13 +47,12 @@ fn arities(alloc: Global, preds: &[Pred]) -> Result<Vec<u8>, AllocError>
     Ok(arities)
 }
 
-/// The table over `size` individuals with predicates of these arities that has `No` everywhere.
-fn over(alloc: Global, arities: &[u8], size: u32) -> Result<Planes, AllocError>
-    requires { IsLayout (record { size = size; arities = arities.now }) }
-    ensures value { IfOk result (λ t. t ≡ table_of_no size arities.now) }
+/// The table of that layout that has `No` everywhere.
+fn all_no(alloc: Global, layout: Layout) -> Result<Planes, AllocError>
+    requires { IsLayout layout }
+    ensures value { IfOk result (λ t. t ≡ table_of_no layout.size layout.arities) }
     ensures kept { IfOk result IsTable }
 {
-    let layout = Layout::new(alloc, arities, size)?;
     let words = Words::of_no(alloc, layout.word_count())?;
     Ok(Planes { layout, words })
 }
@@ -71,7 +70,7 @@ impl Planes {
             return Err(AllocError);
         }
         let arities = arities(alloc, preds)?;
-        over(alloc, &arities, size)
+        all_no(alloc, Layout::new(alloc, &arities, size)?)
     }
 
     /// The table over `size` individuals and the same predicates that has `No` everywhere.
@@ -80,8 +79,7 @@ impl Planes {
         ensures value { IfOk result (λ t. t ≡ table_of_no size (arities_in self.now.planes)) }
         ensures kept { IfOk result IsTable }
     {
-        let arities = self.layout.arities(alloc)?;
-        over(alloc, &arities, size)
+        all_no(alloc, self.layout.resized(size)?)
     }
 
     /// The number of predicates.
@@ -164,7 +162,7 @@ impl Planes {
         ensures kept { IfOk result IsTable }
     {
         Ok(Planes {
-            layout: self.layout.copied(alloc)?,
+            layout: self.layout.resized(self.layout.size())?,
             words: self.words.copied(alloc)?,
         })
     }

@@ -4,7 +4,7 @@ use Rattle.tv_struct.proofs.layout.laid.Given as goal
 
 abbrev pub invariant-loop-arity : goal.invariant-loop-arity
 invariant-loop-arity l = record {
-  arities : map (λ place. place.arity) l.places.items ≡ take l.arity-index l.arities;
-  starts : map (λ place. place.start) l.places.items ≡ starts_from l.size 0 (take l.arity-index l.arities);
-  next : l.start ≡ end_from l.size 0 (take l.arity-index l.arities);
+  arities : map (λ place. place.arity) l.items.items ≡ take l.arity-index l.arities;
+  singles : map (λ place. place.single) l.items.items ≡ starts_from 0 0 (take l.arity-index l.arities);
+  next : l.single ≡ end_from 0 0 (take l.arity-index l.arities);
 }

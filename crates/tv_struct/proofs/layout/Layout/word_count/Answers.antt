@@ -1,11 +1,23 @@
-use Rattle.std.proofs.Common.{◌≡◌, ◌*◌, ◌∙◌, map, ap, arith}
-use Rattle.tv_struct.specs.LayoutForm.{words_for, end_from}
-use Rattle.tv_struct.specs.declared.layout.Place.{Place}
-use Rattle.tv_struct.proofs.HeldLaws.{words_small}
+use Rattle.std.proofs.Common.{◌*◌, ◌∙◌, length, ap, arith}
+use Rattle.tv_struct.specs.LayoutForm.{LayoutForm, words_for, end_from}
+use Rattle.tv_struct.specs.declared.layout.Places.{Places}
+use Rattle.tv_struct.proofs.LayoutLaws.{singles_listed, words_counted}
 use Rattle.tv_struct.proofs.layout.Layout.word_count.Goals as goal
+
+pub rows_of-requires-clause-single : goal.rows_of-requires-clause-single
+rows_of-requires-clause-single c =
+    singles_listed c.self.inside.size c.self.inside.width c.self.inside.places.value.items.items c.self.inside.places.value.single c.self.invariant
+    c.deref.result.now.single c.len.result (ap (λ p. p.single) c.deref.ensures) (omega (arith, c.len.ensures, ap (λ (p : Places). length p.items.items) c.deref-2.ensures))
 
 pub overflow_mul-result : goal.overflow_mul-result
 overflow_mul-result c =
-    let e : c.self.inside.rows * c.self.inside.width ≡ end_from c.self.inside.size 0 (map (λ (p : Place). p.arity) c.self.inside.places.items) * words_for c.self.inside.size
-    = ap (λ n. n * c.self.inside.width) c.self.invariant.rows ∙ ap (λ n. end_from c.self.inside.size 0 (map (λ (p : Place). p.arity) c.self.inside.places.items) * n) c.self.invariant.width
-    in omega (arith, e, (words_small _ c.self.invariant.layout).1)
+    omega (arith, (words_counted c.self.inside.size c.self.inside.width c.self.inside.places.value.items.items c.self.inside.places.value.single c.self.invariant
+    c.deref.result.now.single c.len.result c.rows_of.result (ap (λ p. p.single) c.deref.ensures) (omega (arith, c.len.ensures, ap (λ (p : Places). length p.items.items) c.deref-2.ensures))
+    c.rows_of.ensures).0)
+
+pub returns : goal.returns
+returns c =
+    (words_counted c.self.inside.size c.self.inside.width c.self.inside.places.value.items.items c.self.inside.places.value.single c.self.invariant
+    c.deref.result.now.single c.len.result c.rows_of.result (ap (λ p. p.single) c.deref.ensures) (omega (arith, c.len.ensures, ap (λ (p : Places). length p.items.items) c.deref-2.ensures))
+    c.rows_of.ensures).1
+    ∙ ap (λ (l : LayoutForm). end_from l.size 0 l.arities * words_for l.size) c.self.view_is

@@ -3,8 +3,8 @@ use Rattle.std.proofs.lemmas.List.{length-map}
 use Rattle.std.proofs.lemmas.List.Elements.{All-map}
 use Rattle.tv_struct.proofs.planes.Planes.of_no.Goals as goal
 
-pub over-requires : goal.over-requires
-over-requires c =
+pub new-requires : goal.new-requires
+new-requires c =
     rw (c.deref.ensures.value, c.in_ok-arities.ensures) (record {
       size = c.requires.size;
       predicates = rw (length-map c.args.preds.now (λ pred. pred.arity)) (omega arith);

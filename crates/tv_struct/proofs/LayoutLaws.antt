@@ -1,0 +1,137 @@
+-- Where rows lie, counted by predicates that have one row alone.
+use Rattle.std.proofs.Common.{ℕ, ◌≡◌, ◌<◌, ◌≤◌, ◌+◌, ◌-◌, ◌*◌, ◌^◌, ◌==◌, ◌↔◌, ◌&&◌, zero, suc, Bool, true, false, IsTrue, nat_eq, if◌then◌else◌, List, [], ◌∷◌, length, map, get_or, take, refl, sym, ap, ◌∙◌, arith, eqb-true}
+use Rattle.std.specs.Cmp.Lexicographic.{pointwise}
+use Rattle.std.proofs.lemmas.List.{length-map, length-take-le, get_or-map}
+use Rattle.tv_struct.specs.declared.layout.Place.{Place}
+use Rattle.tv_struct.specs.TableForm.{row_count}
+use Rattle.tv_struct.specs.LayoutForm.{LayoutForm, IsLayout, IsLaid, words_for, starts_from, end_from, row_place}
+use Rattle.tv_struct.proofs.HeldLaws.{words_small, place_small}
+
+-- so many of the predicates have one row alone, and each of the others `size` rows
+abbrev Splits : (size n m : ℕ) (arities : List ℕ) → Type 0
+Splits size n m arities =
+    (single pairs : ℕ) × (end_from 0 m arities ≡ m + single) × (length arities ≡ single + pairs)
+    × (end_from size n arities ≡ n + single + pairs * size)
+
+one_more : (size n m : ℕ) (arities : List ℕ) (b : Bool)
+    → Splits size (n + (if b then size else 1)) (m + (if b then 0 else 1)) arities
+    → (single pairs : ℕ) × (end_from 0 (m + (if b then 0 else 1)) arities ≡ m + single) × (suc (length arities) ≡ single + pairs)
+    × (end_from size (n + (if b then size else 1)) arities ≡ n + single + pairs * size)
+one_more size n m arities true rest =
+    let more : n + size + rest.0 + rest.1 * size ≡ n + rest.0 + suc rest.1 * size = grind arith
+    in (rest.0, suc rest.1, omega (arith, rest.2), omega (arith, rest.3), rest.4 ∙ more)
+one_more size n m arities false rest =
+    (suc rest.0, rest.1, omega (arith, rest.2), omega (arith, rest.3), omega (arith, rest.4))
+
+splits : (size n m : ℕ) (arities : List ℕ) → Splits size n m arities
+splits size n m [] = (0, 0, omega arith, refl, omega arith)
+splits size n m (arity ∷ arities) =
+    one_more size n m arities (arity == 2) (splits size (n + row_count size arity) (m + row_count 0 arity) arities)
+
+-- the first row of a predicate is the end of those before
+start_is_end : (size n : ℕ) (arities : List ℕ) (pred : ℕ) → pred < length arities
+    → get_or (starts_from size n arities) pred 0 ≡ end_from size n (take pred arities)
+start_is_end size n [] pred lt = absurd (omega arith)
+start_is_end size n (arity ∷ arities) zero lt = refl
+start_is_end size n (arity ∷ arities) (suc pred) lt = start_is_end size (n + row_count size arity) arities pred (omega arith)
+
+-- the rows of some predicates are told by their number and by how many of them have one row alone
+abbrev Counted : (size single many rows : ℕ) → Type 0
+Counted size single many rows = (single ≤ many) × (rows ≡ single + (many - single) * size)
+
+end_counted : (size : ℕ) (arities : List ℕ) → Counted size (end_from 0 0 arities) (length arities) (end_from size 0 arities)
+end_counted size arities =
+    let h : Splits size 0 0 arities = splits size 0 0 arities
+    in let single : end_from 0 0 arities ≡ h.0 = omega (arith, h.2)
+    in let pairs : length arities - end_from 0 0 arities ≡ h.1 = omega (arith, h.3, single)
+    in let plain : 0 + h.0 + h.1 * size ≡ h.0 + h.1 * size = omega arith
+    in (
+      omega (arith, single, h.3),
+      h.4 ∙ plain ∙ ap (λ s. s + h.1 * size) (sym single) ∙ ap (λ p. end_from 0 0 arities + p * size) (sym pairs),
+    )
+
+start_counted : (size : ℕ) (arities : List ℕ) (pred : ℕ) → pred < length arities
+    → Counted size (get_or (starts_from 0 0 arities) pred 0) pred (get_or (starts_from size 0 arities) pred 0)
+start_counted size arities pred lt =
+    let before : List ℕ = take pred arities
+    in let single : get_or (starts_from 0 0 arities) pred 0 ≡ end_from 0 0 before = start_is_end 0 0 arities pred lt
+    in let many : length before ≡ pred = length-take-le pred arities (omega arith)
+    in let h : Counted size (end_from 0 0 before) (length before) (end_from size 0 before) = end_counted size before
+    in (
+      omega (arith, single, many, h.0),
+      start_is_end size 0 arities pred lt ∙ h.1 ∙ ap (λ n. end_from 0 0 before + (n - end_from 0 0 before) * size) many
+          ∙ ap (λ s. s + (pred - s) * size) (sym single),
+    )
+
+-- ---- the places of predicates
+
+start_read : (places : List Place) (starts : List ℕ) (pred : ℕ) (place : Place) → map (λ (p : Place). p.single) places ≡ starts
+    → pred < length places → place ≡ get_or places pred place → place.single ≡ get_or starts pred 0
+start_read places starts pred place e lt is =
+    ap (λ (p : Place). p.single) is ∙ sym (get_or-map (λ (p : Place). p.single) places pred place 0 lt) ∙ ap (λ xs. get_or xs pred 0) e
+
+module _ (size wide : ℕ) (places : List Place) (all : ℕ)
+    (h : IsLaid (record { size = size; arities = map (λ (p : Place). p.arity) places }) wide (map (λ (p : Place). p.single) places) all) where
+  abbrev arities : List ℕ
+  arities = map (λ (p : Place). p.arity) places
+
+  abbrev layout : LayoutForm
+  layout = record { size = size; arities = arities }
+
+  pub singles_listed : (s n : ℕ) → s ≡ all → n ≡ length places → s ≤ n
+  singles_listed s n e many =
+      omega (arith, e, many, length-map places (λ (p : Place). p.arity), h.total, (end_counted size arities).0)
+
+  pub words_counted : (s n rows : ℕ) → s ≡ all → n ≡ length places → rows ≡ s + (n - s) * size
+      → (rows * wide < 2 ^ 64) × (rows * wide ≡ end_from size 0 arities * words_for size)
+  words_counted s n rows e many is =
+      let single : s ≡ end_from 0 0 arities = e ∙ h.total
+      in let listed : n ≡ length arities = many ∙ sym (length-map places (λ (p : Place). p.arity))
+      in let same : rows ≡ end_from size 0 arities
+      = is ∙ ap (λ m. s + (m - s) * size) listed ∙ ap (λ t. t + (length arities - t) * size) single ∙ sym (end_counted size arities).1
+      in let words : rows * wide ≡ end_from size 0 arities * words_for size
+      = ap (λ r. r * wide) same ∙ ap (λ w. end_from size 0 arities * w) h.width
+      in (omega (arith, words, (words_small layout h.layout).1), words)
+
+  module _ (pred : ℕ) (place : Place) (lp : pred < length arities) (is : place ≡ get_or places pred place) where
+    single_is : place.single ≡ get_or (starts_from 0 0 arities) pred 0
+    single_is =
+        start_read places (starts_from 0 0 arities) pred place h.singles (omega (arith, lp, length-map places (λ (p : Place). p.arity))) is
+
+    pub single_before : place.single ≤ pred
+    single_before = omega (arith, single_is, (start_counted size arities pred lp).0)
+
+    pub start_placed : (row rows : ℕ) → row < row_count size (get_or arities pred 0)
+        → rows ≡ place.single + (pred - place.single) * size
+        → (rows + row < 2 ^ 64) × ((rows + row) * wide < 2 ^ 64) × ((rows + row) * wide ≡ row_place layout pred row * words_for size)
+    start_placed row rows lr counted =
+        let first : rows ≡ get_or (starts_from size 0 arities) pred 0
+        = counted ∙ ap (λ s. s + (pred - s) * size) single_is ∙ sym (start_counted size arities pred lp).1
+        in let small : (row_place layout pred row < 2 ^ 64) × (row_place layout pred row * words_for size < 2 ^ 64)
+        = place_small layout pred row h.layout lp lr
+        in let words : (rows + row) * wide ≡ row_place layout pred row * words_for size
+        = ap (λ r. (r + row) * wide) first ∙ ap (λ w. row_place layout pred row * w) h.width
+        in (omega (arith, first, small.0), omega (arith, words, small.1), words)
+
+-- ---- equal places
+
+both : (x y : Bool) → IsTrue (x && y) → IsTrue x × IsTrue y
+both true true e = (refl, refl)
+both true false e = absurd cc
+both false y e = absurd cc
+
+abbrev same_place : Place → Place → Bool
+same_place a b = nat_eq a.arity b.arity && nat_eq a.single b.single
+
+pub same_places : (xs ys : List Place) → IsTrue (pointwise same_place xs ys) → xs ≡ ys
+same_places [] [] e = refl
+same_places [] (y ∷ ys) e = absurd cc
+same_places (x ∷ xs) [] e = absurd cc
+same_places (x ∷ xs) (y ∷ ys) e =
+    let h : IsTrue (same_place x y) × IsTrue (pointwise same_place xs ys) = both (same_place x y) (pointwise same_place xs ys) e
+    in let k : IsTrue (nat_eq x.arity y.arity) × IsTrue (nat_eq x.single y.single)
+    = both (nat_eq x.arity y.arity) (nat_eq x.single y.single) h.0
+    in let arity : x.arity ≡ y.arity = eqb-true x.arity y.arity k.0
+    in let single : x.single ≡ y.single = eqb-true x.single y.single k.1
+    in let rest : xs ≡ ys = same_places xs ys h.1
+    in λ i. record { arity = arity i; single = single i } ∷ rest i
