@@ -1,12 +1,14 @@
 //! A list of words of truth values.
 
 ghost use Rattle.std.specs.List.{range_with_len};
-ghost use Rattle.std.specs.Prelude.{◌≡◌, ℕ, ◌+◌, ◌*◌, ◌/◌, ◌%◌, min, map, ◌<◌, ◌≤◌, ◌⊎◌, ◌≢◌, length, slice_index, slice_index_or, replicate, IfOk, IsTrue, ◌↔◌, MatchOption};
+ghost use Rattle.std.specs.Prelude.{◌≡◌, ℕ, ◌+◌, ◌*◌, ◌/◌, ◌%◌, min, map, ◌<◌, ◌≤◌, ◌⊎◌, ◌≢◌, length, slice_index, slice_index_or, replicate, fold, IfOk, IsTrue, ◌↔◌, MatchOption};
 ghost use Rattle.tv_kleene.specs.declared.K3.TheVariants.{No, Yes};
 ghost use Rattle.std.specs.Cmp.Lexicographic.{slice_cmp};
 ghost use Rattle.tv_row.specs.Bits.{value_cmp, greatest_in};
+ghost use Rattle.tv_row.specs.Mixed.{word_mixed};
 ghost use Rattle.tv_row.specs.Places.{AreWords, AreApart, word_at, value_in, with_value, raised, drawn_value, row_of};
 
+use crate::mixed::mix_words;
 use crate::row::Row;
 use crate::slices;
 use crate::word::Word;
@@ -67,9 +69,18 @@ impl Words {
     /// Compares word by word.
     pub fn compare(&self, other: &Words) -> Ordering
         requires { length self.now ≡ length other.now }
-        ensures { result ≡ slice_cmp (slice_cmp value_cmp) self.now other.now }
+        ensures value { result ≡ slice_cmp (slice_cmp value_cmp) self.now other.now }
+        ensures words { AreWords self.now × AreWords other.now }
     {
         slices::compare(&self.items, &other.items)
+    }
+
+    /// The number with the words mixed in, one after the other.
+    pub fn mix(&self, hash: u64) -> u64
+        ensures value { result ≡ fold word_mixed hash self.now }
+        ensures words { AreWords self.now }
+    {
+        mix_words(hash, &self.items)
     }
 
     /// Whether the words are equal.

@@ -4,7 +4,7 @@ use Rattle.std.specs.Prelude.{All}
 use Rattle.std.specs.List.{range_with_len}
 use Rattle.std.proofs.lemmas.Bool.{cases_eq, cases_lt}
 use Rattle.std.proofs.lemmas.Nat.{row_fits}
-use Rattle.std.proofs.lemmas.List.{length-set, length-replicate, map-append, get_or-map, get_or-set_same, get_or-set_other, get_or-replicate, get_or_past, get_or_default, take_more, length-take-le, ext_get_or}
+use Rattle.std.proofs.lemmas.List.{length-set, length-replicate, map-append, get_or-set_same, get_or-set_other, get_or-replicate, get_or_past, get_or_default, take_more, length-take-le, ext_get_or}
 use Rattle.std.proofs.lemmas.List.FromFn.{length-map-range_with_len, get_or-map-range_with_len}
 use Rattle.tv_kleene.specs.declared.K3.{K3}
 use Rattle.tv_kleene.specs.declared.K3.TheVariants.{No}

@@ -1,10 +1,10 @@
 -- Where rows lie, counted by predicates that have one row alone.
-use Rattle.std.proofs.Common.{ℕ, ◌≡◌, ◌<◌, ◌≤◌, ◌+◌, ◌-◌, ◌*◌, ◌^◌, ◌==◌, ◌↔◌, ◌&&◌, zero, suc, Bool, true, false, IsTrue, nat_eq, if◌then◌else◌, List, [], ◌∷◌, length, map, get_or, take, refl, sym, ap, ◌∙◌, arith, eqb-true}
+use Rattle.std.proofs.Common.{ℕ, ◌≡◌, ◌<◌, ◌≤◌, ◌+◌, ◌-◌, ◌*◌, ◌^◌, ◌==◌, ◌&&◌, zero, suc, Bool, true, false, IsTrue, nat_eq, if◌then◌else◌, List, [], ◌∷◌, length, map, get_or, take, refl, sym, ap, ◌∙◌, arith, eqb-true}
 use Rattle.std.specs.Cmp.Lexicographic.{pointwise}
 use Rattle.std.proofs.lemmas.List.{length-map, length-take-le, get_or-map}
 use Rattle.tv_struct.specs.declared.layout.Place.{Place}
 use Rattle.tv_struct.specs.TableForm.{row_count}
-use Rattle.tv_struct.specs.LayoutForm.{LayoutForm, IsLayout, IsLaid, words_for, starts_from, end_from, row_place}
+use Rattle.tv_struct.specs.LayoutForm.{LayoutForm, IsLaid, words_for, starts_from, end_from, row_place}
 use Rattle.tv_struct.proofs.HeldLaws.{words_small, place_small}
 
 -- so many of the predicates have one row alone, and each of the others `size` rows

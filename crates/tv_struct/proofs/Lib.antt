@@ -1,4 +1,5 @@
 pub mod DrawnLaws
+pub mod FlagLaws
 pub mod HalfLaws
 pub mod HeldLaws
 pub mod LayoutLaws
@@ -9,5 +10,6 @@ pub mod PlaneDraws
 pub mod RowLaws
 pub mod StructureLaws
 pub mod TableLaws
+pub mod WordsLaws
 -- the library of lemmas for the crates above: its statements stay as they are
 pub mod Library

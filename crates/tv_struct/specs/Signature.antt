@@ -1,21 +1,26 @@
 -- The signature of a structure: a number that equal structures share.
-use Rattle.std.specs.Prelude.{ℕ, Bool, true, false, List, fold}
-use Rattle.tv_row.specs.Mixed.{mixed, row_mixed}
-use Rattle.tv_struct.specs.TableForm.{PlaneForm}
-use Rattle.tv_struct.specs.StructureForm.{StructureForm}
+use Rattle.std.specs.Prelude.{ℕ, List, [], ◌∷◌, ◌++◌, take, fold}
+use Rattle.tv_kleene.specs.declared.K3.{K3}
+use Rattle.tv_row.specs.Mixed.{word_mixed, row_mixed}
+use Rattle.tv_row.specs.RowForm.{row_words}
+use Rattle.tv_struct.specs.LayoutForm.{words_for}
+use Rattle.tv_struct.specs.TableForm.{PlaneForm, TableForm}
+use Rattle.tv_struct.specs.StructureForm.{StructureForm, table_of}
+use Rattle.tv_struct.specs.StructureRows.{summary_row}
 
-abbrev pub flag_number : Bool → ℕ
-flag_number false = 0
-flag_number true = 1
+-- the words of rows, n words a row
+abbrev pub rows_words : (n : ℕ) → List (List K3) → List (List K3)
+rows_words n [] = []
+rows_words n (row ∷ rows) = take n (row_words row) ++ rows_words n rows
 
-abbrev pub flags_mixed : ℕ → List Bool → ℕ
-flags_mixed hash flags = fold (λ h flag. mixed h (flag_number flag)) hash flags
+-- the words of the rows of each predicate
+abbrev pub planes_words : (n : ℕ) → List PlaneForm → List (List K3)
+planes_words n [] = []
+planes_words n (plane ∷ planes) = rows_words n plane.rows ++ planes_words n planes
 
-abbrev pub plane_mixed : ℕ → PlaneForm → ℕ
-plane_mixed hash plane = fold row_mixed hash plane.rows
+abbrev pub table_words : TableForm → List (List K3)
+table_words t = planes_words (words_for t.size) t.planes
 
-abbrev pub planes_mixed : ℕ → List PlaneForm → ℕ
-planes_mixed hash planes = fold plane_mixed hash planes
-
+-- the size, the summaries and all values mixed, word by word
 abbrev pub signature_of : StructureForm → ℕ
-signature_of s = planes_mixed (flags_mixed s.size s.summaries) s.planes
+signature_of s = fold word_mixed (row_mixed s.size (summary_row s)) (table_words (table_of s))

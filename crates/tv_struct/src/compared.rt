@@ -1,11 +1,10 @@
-//! The order of tables, and numbers that equal tables share.
+//! The order of tables, predicate by predicate.
 
 ghost use Rattle.std.specs.Prelude.{◌≡◌, ◌<◌, ◌≤◌, length};
 ghost use Rattle.std.specs.Cmp.Lexicographic.{slice_cmp};
 ghost use Rattle.tv_row.specs.Bits.{value_cmp};
 ghost use Rattle.tv_struct.specs.TableForm.{plane_at};
 ghost use Rattle.tv_struct.specs.Order.{plane_cmp, planes_cmp};
-ghost use Rattle.tv_struct.specs.Signature.{plane_mixed, planes_mixed};
 
 use crate::planes::Planes;
 use std::cmp::Ordering;
@@ -44,8 +43,8 @@ impl Planes {
         self.compare_rows(other, p)
     }
 
-    /// Compares the values of tables of one size, predicate by predicate, each tuple by tuple.
-    pub fn compare_values(&self, other: &Planes) -> Ordering
+    /// Compares the values predicate by predicate, each row by row.
+    pub fn compare_planes(&self, other: &Planes) -> Ordering
         requires { self.now.size ≡ other.now.size }
         ensures { result ≡ planes_cmp self.now.planes other.now.planes }
     {
@@ -57,28 +56,5 @@ impl Planes {
             }
         }
         self.pred_count().cmp(&other.pred_count())
-    }
-
-    /// The number with the values of a predicate mixed in, row by row.
-    fn mix_plane(&self, p: PredId, hash: u64) -> u64
-        requires { p.0 < length self.now.planes }
-        ensures { result ≡ plane_mixed hash (plane_at self.now p.0) }
-    {
-        let mut mixed = hash;
-        for row in 0..self.row_total(p) {
-            mixed = self.row(p, row).mix(mixed);
-        }
-        mixed
-    }
-
-    /// The number with the values mixed in, predicate by predicate.
-    pub fn mix(&self, hash: u64) -> u64
-        ensures { result ≡ planes_mixed hash self.now.planes }
-    {
-        let mut mixed = hash;
-        for pred in 0..self.pred_count() {
-            mixed = self.mix_plane(PredId(pred), mixed);
-        }
-        mixed
     }
 }

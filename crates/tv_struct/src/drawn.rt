@@ -22,7 +22,7 @@ fn value_or_no(row: &Row, place: u32) -> K3
 }
 
 /// The values at the given places, in their order, and `No` for a place past the end.
-fn row_selected(row: &Row, places: &[u32]) -> Row
+pub fn row_selected(row: &Row, places: &[u32]) -> Row
     requires { length places.now ≤ 256 }
     ensures { result ≡ selected No row.now places.now }
 {

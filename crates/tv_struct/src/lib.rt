@@ -4,12 +4,11 @@
 mod analysis;
 mod compared;
 mod drawn;
+mod flags;
 mod laws;
 mod layout;
-mod line;
 mod origins;
 mod planes;
-mod signature;
 mod structure;
 mod table;
 

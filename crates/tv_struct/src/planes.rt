@@ -1,11 +1,12 @@
 //! A table in planes of bits: one list of words for the values of all predicates.
 
-ghost use Rattle.std.specs.Prelude.{◌≡◌, ◌<◌, ◌≤◌, ◌+◌, ℕ, [], ◌∷◌, length, map, All, IfOk, Some, slice_get, slice_index, slice_index_or};
+ghost use Rattle.std.specs.Prelude.{◌≡◌, ◌<◌, ◌≤◌, ◌+◌, ℕ, [], ◌∷◌, length, map, fold, All, IfOk, Some, slice_get, slice_index, slice_index_or};
 ghost use Rattle.tv_struct.specs.LayoutForm.{IsLayout};
 ghost use Rattle.tv_struct.specs.TableForm.{TableForm, IsTable, HasEntry, entry, with_entry, table_of_no, table_drawn, table_with_row, plane_at, plane_drawn, row_in, column_in, row_of, column_of, arities_in, row_count, column_count, selected};
 ghost use Rattle.tv_kleene.specs.declared.K3.TheVariants.{No};
+ghost use Rattle.tv_row.specs.Mixed.{word_mixed};
 ghost use Rattle.tv_struct.specs.Order.{planes_cmp, plane_cmp};
-ghost use Rattle.tv_struct.specs.Signature.{planes_mixed, plane_mixed};
+ghost use Rattle.tv_struct.specs.Signature.{table_words};
 ghost use Rattle.tv_struct.specs.TupleForm.{tuple_of};
 
 use crate::layout::{Layout, column_count, row_count};
@@ -165,6 +166,26 @@ impl Planes {
             layout: self.layout.resized(self.layout.size())?,
             words: self.words.copied(alloc)?,
         })
+    }
+
+    /// Compares the values of tables of one size, predicate by predicate, each tuple by tuple. Tables
+    /// over the same predicates are compared word by word.
+    pub fn compare_values(&self, other: &Planes) -> Ordering
+        requires { self.now.size ≡ other.now.size }
+        ensures { result ≡ planes_cmp self.now.planes other.now.planes }
+    {
+        if self.layout.agrees(&other.layout) {
+            self.words.compare(&other.words)
+        } else {
+            self.compare_planes(other)
+        }
+    }
+
+    /// The number with all words mixed in.
+    pub fn mix(&self, hash: u64) -> u64
+        ensures { result ≡ fold word_mixed hash (table_words self.now) }
+    {
+        self.words.mix(hash)
     }
 }
 

@@ -11,10 +11,9 @@ ghost use Rattle.tv_struct.specs.StructureRows.{HasArity, unary_row, row_at, col
 ghost use Rattle.tv_struct.specs.TableForm.{HasEntry, row_of};
 ghost use Rattle.tv_struct.specs.TupleForm.{tuple_of};
 
-use crate::line::Line;
+use crate::flags::Flags;
 use crate::origins;
 use crate::planes::Planes;
-use crate::signature::mix_flags;
 use crate::table::{Table, Tuple};
 use std::alloc::{AllocError, Global};
 use std::cmp::Ordering;
@@ -29,7 +28,7 @@ use tv_row::Row;
 #[derive(Debug, Drop)]
 pub struct Structure {
     table: Planes,
-    summaries: Line<bool>,
+    summaries: Flags,
     fresh: Option<u32>,
 }
 
@@ -46,13 +45,6 @@ impl Model for Structure {
     ghost invariant = { λ s. IsStructure (record { size = s.table.size; summaries = s.summaries; planes = s.table.planes; fresh = s.fresh }) };
 }
 
-/// `Half` for a true flag, else `No`.
-fn flag_value(on: bool) -> K3
-    ensures { result ≡ (if on then Half else No) }
-{
-    if on { K3::Half } else { K3::No }
-}
-
 impl Structure {
     /// The structure over `size` individuals that has `No` everywhere and no summary. The number of
     /// predicates is a `u32`: for a longer vocabulary there isn't enough memory.
@@ -66,7 +58,7 @@ impl Structure {
     {
         Ok(Structure {
             table: Planes::of_no(alloc, vocab.preds.as_slice(), size)?,
-            summaries: Line::from_vec(vec![in alloc; false; size as usize]?),
+            summaries: Flags::none(size),
             fresh: None,
         })
     }
@@ -82,7 +74,7 @@ impl Structure {
     {
         Ok(Structure {
             table: like.table.emptied(alloc, size)?,
-            summaries: Line::from_vec(vec![in alloc; false; size as usize]?),
+            summaries: Flags::none(size),
             fresh: None,
         })
     }
@@ -190,12 +182,7 @@ impl Structure {
     pub fn summary_row(&self) -> Row
         ensures { result ≡ summary_row self.now }
     {
-        let size = self.size();
-        let mut row = Row::of(size, K3::No);
-        for u in 0..size {
-            row.set(u, flag_value(self.summary(u)));
-        }
-        row
+        self.summaries.as_row()
     }
 
     /// Whether the individual `u` is a summary.
@@ -203,7 +190,7 @@ impl Structure {
         requires { u < self.now.size }
         ensures { result ≡ summary_at self.now u }
     {
-        self.summaries.as_slice()[u as usize]
+        self.summaries.get(u)
     }
 
     /// Makes the individual `u` a summary or an ordinary individual. The fresh individual can't be a
@@ -214,7 +201,7 @@ impl Structure {
         ensures value { self.new ≡ with_summary self.old u on }
         ensures kept { IsStructure self.new }
     {
-        self.summaries.put(u as usize, on);
+        self.summaries.put(u, on);
     }
 
     /// The individual of which `isNew` holds, if there is one.
@@ -231,7 +218,7 @@ impl Structure {
     {
         Ok(Structure {
             table: self.table.copied(alloc)?,
-            summaries: self.summaries.copied(alloc)?,
+            summaries: self.summaries.copied(),
             fresh: self.fresh,
         })
     }
@@ -294,7 +281,7 @@ impl Structure {
     {
         Ok(Structure {
             table: self.table.drawn(alloc, origins)?,
-            summaries: self.summaries.selected(alloc, origins, false)?,
+            summaries: self.summaries.selected(origins),
             fresh,
         })
     }
@@ -315,7 +302,7 @@ impl Structure {
         if order != Ordering::Equal {
             return order;
         }
-        let order = self.summaries.cmp(&other.summaries);
+        let order = self.summaries.compare(&other.summaries);
         if order != Ordering::Equal {
             return order;
         }
@@ -326,7 +313,8 @@ impl Structure {
     pub fn signature(&self) -> u64
         ensures { result ≡ signature_of self.now }
     {
-        self.table.mix(mix_flags(u64::from(self.size()), self.summaries.as_slice()))
+        self.table
+            .mix(self.summary_row().mix(u64::from(self.size())))
     }
 }
 

@@ -1,5 +1,4 @@
-use Rattle.std.proofs.Common.{◌≡◌, ◌∙◌, Bool, List, map, IsTrue, ap, sym}
-use Rattle.tv_struct.specs.LayoutForm.{LayoutForm}
+use Rattle.std.proofs.Common.{◌≡◌, ◌∙◌, List, map, ap, sym}
 use Rattle.tv_struct.specs.declared.layout.Place.{Place}
 use Rattle.tv_struct.specs.declared.layout.Places.{Places}
 use Rattle.tv_struct.proofs.LayoutLaws.{same_places}

@@ -16,19 +16,25 @@ pub overflow_add-result : goal.overflow_add-result
 overflow_add-result c =
     let Listed : LayoutForm → Type 0 = λ l. c.args.pred < length l.arities
     in let Within : LayoutForm → Type 0 = λ l. c.args.row < row_count l.size (get_or l.arities c.args.pred 0)
-    in omega (arith, (start_placed c.self.inside.size c.self.inside.width c.self.inside.places.value.items.items c.self.inside.places.value.single
-    c.self.invariant c.args.pred c.index.result.now (subst Listed (sym c.self.view_is) c.requires.predicate)
-    (c.index.ensures ∙ ap (λ (p : Places). get_or p.items.items c.args.pred c.index.result.now) c.deref.ensures)
-    c.args.row c.rows_of.result (subst Within (sym c.self.view_is) c.requires.row) c.rows_of.ensures).0)
+    in omega (
+      arith,
+      (start_placed c.self.inside.size c.self.inside.width c.self.inside.places.value.items.items c.self.inside.places.value.single
+          c.self.invariant c.args.pred c.index.result.now (subst Listed (sym c.self.view_is) c.requires.predicate)
+          (c.index.ensures ∙ ap (λ (p : Places). get_or p.items.items c.args.pred c.index.result.now) c.deref.ensures)
+          c.args.row c.rows_of.result (subst Within (sym c.self.view_is) c.requires.row) c.rows_of.ensures).0,
+    )
 
 pub overflow_mul-result : goal.overflow_mul-result
 overflow_mul-result c =
     let Listed : LayoutForm → Type 0 = λ l. c.args.pred < length l.arities
     in let Within : LayoutForm → Type 0 = λ l. c.args.row < row_count l.size (get_or l.arities c.args.pred 0)
-    in omega (arith, (start_placed c.self.inside.size c.self.inside.width c.self.inside.places.value.items.items c.self.inside.places.value.single
-    c.self.invariant c.args.pred c.index.result.now (subst Listed (sym c.self.view_is) c.requires.predicate)
-    (c.index.ensures ∙ ap (λ (p : Places). get_or p.items.items c.args.pred c.index.result.now) c.deref.ensures)
-    c.args.row c.rows_of.result (subst Within (sym c.self.view_is) c.requires.row) c.rows_of.ensures).1)
+    in omega (
+      arith,
+      (start_placed c.self.inside.size c.self.inside.width c.self.inside.places.value.items.items c.self.inside.places.value.single
+          c.self.invariant c.args.pred c.index.result.now (subst Listed (sym c.self.view_is) c.requires.predicate)
+          (c.index.ensures ∙ ap (λ (p : Places). get_or p.items.items c.args.pred c.index.result.now) c.deref.ensures)
+          c.args.row c.rows_of.result (subst Within (sym c.self.view_is) c.requires.row) c.rows_of.ensures).1,
+    )
 
 pub returns : goal.returns
 returns c =

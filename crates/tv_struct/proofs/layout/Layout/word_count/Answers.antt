@@ -11,9 +11,12 @@ rows_of-requires-clause-single c =
 
 pub overflow_mul-result : goal.overflow_mul-result
 overflow_mul-result c =
-    omega (arith, (words_counted c.self.inside.size c.self.inside.width c.self.inside.places.value.items.items c.self.inside.places.value.single c.self.invariant
-    c.deref.result.now.single c.len.result c.rows_of.result (ap (λ p. p.single) c.deref.ensures) (omega (arith, c.len.ensures, ap (λ (p : Places). length p.items.items) c.deref-2.ensures))
-    c.rows_of.ensures).0)
+    omega (
+      arith,
+      (words_counted c.self.inside.size c.self.inside.width c.self.inside.places.value.items.items c.self.inside.places.value.single c.self.invariant
+          c.deref.result.now.single c.len.result c.rows_of.result (ap (λ p. p.single) c.deref.ensures) (omega (arith, c.len.ensures, ap (λ (p : Places). length p.items.items) c.deref-2.ensures))
+          c.rows_of.ensures).0,
+    )
 
 pub returns : goal.returns
 returns c =

@@ -1,21 +1,16 @@
-use Rattle.std.proofs.Common.{◌≡◌, ◌∙◌, length, min, sym, ap, arith}
-use Rattle.std.specs.Ordering.{nat_cmp}
-use Rattle.std.proofs.lemmas.List.{length-map}
-use Rattle.tv_struct.specs.TableForm.{PlaneForm}
-use Rattle.tv_struct.proofs.OrderLaws.{planes_cmp-rest}
+use Rattle.std.proofs.Common.{◌∙◌, refl, ap, subst, sym}
+use Rattle.tv_struct.specs.LayoutForm.{LayoutForm, HoldsTable, table_held}
+use Rattle.tv_struct.specs.TableForm.{TableForm}
+use Rattle.tv_struct.specs.Order.{planes_cmp}
+use Rattle.tv_struct.proofs.WordsLaws.{words_compare}
 use Rattle.tv_struct.proofs.planes.Planes.compare_values.Goals as goal
 
-pub returns : goal.returns
-returns c =
-    let mine : c.pred_count.result ≡ length c.args.self.now.planes
-    = c.pred_count.ensures ∙ length-map c.args.self.now.planes (λ (p : PlaneForm). p.arity)
-    in let theirs : c.pred_count-2.result ≡ length c.args.other.now.planes
-    = c.pred_count-2.ensures ∙ length-map c.args.other.now.planes (λ (p : PlaneForm). p.arity)
-    in let mine_too : c.pred_count-3.result ≡ length c.args.self.now.planes
-    = c.pred_count-3.ensures ∙ length-map c.args.self.now.planes (λ (p : PlaneForm). p.arity)
-    in let theirs_too : c.pred_count-4.result ≡ length c.args.other.now.planes
-    = c.pred_count-4.ensures ∙ length-map c.args.other.now.planes (λ (p : PlaneForm). p.arity)
-    in let at_end : c.loop-pred.pred ≡ min (length c.args.self.now.planes) (length c.args.other.now.planes)
-    = omega (arith, c.loop-pred-test.false, c.loop-pred.auto.pred-end, c.min-count.ensures, mine, theirs)
-    in c.cmp.ensures ∙ ap (λ n. nat_cmp n c.pred_count-4.result) mine_too ∙ ap (nat_cmp (length c.args.self.now.planes)) theirs_too
-    ∙ sym (planes_cmp-rest c.args.self.now.planes c.args.other.now.planes c.loop-pred.pred at_end) ∙ c.loop-pred.invariant
+pub returns-then-agrees : goal.returns-then-agrees
+returns-then-agrees c =
+    let Holds : LayoutForm → Type 0 = λ l. HoldsTable l c.other.inside.words
+    in c.compare.ensures.value
+    ∙ words_compare c.self.inside.layout c.self.inside.words c.other.inside.words c.self.invariant
+    (subst Holds (sym (c.if-agrees.ensures refl)) c.other.invariant) c.compare.ensures.words.0 c.compare.ensures.words.1
+    ∙ ap (λ (t : TableForm). planes_cmp t.planes (table_held c.self.inside.layout c.other.inside.words).planes) c.self.view_is
+    ∙ ap (λ (l : LayoutForm). planes_cmp c.args.self.now.planes (table_held l c.other.inside.words).planes) (c.if-agrees.ensures refl)
+    ∙ ap (λ (t : TableForm). planes_cmp c.args.self.now.planes t.planes) c.other.view_is

@@ -1,5 +1,5 @@
 use Rattle.std.proofs.Common.{◌≡◌, ◌∙◌, ap, subst, sym}
-use Rattle.tv_struct.specs.LayoutForm.{LayoutForm, IsLayout}
+use Rattle.tv_struct.specs.LayoutForm.{IsLayout}
 use Rattle.tv_struct.proofs.HeldLaws.{IsTable-held}
 use Rattle.tv_struct.proofs.planes.Planes.copied.Goals as goal
 

@@ -1,0 +1,96 @@
+//! Flags of individuals, kept as a row of truth values.
+
+ghost use Rattle.std.specs.Prelude.{◌≡◌, ◌<◌, ◌≤◌, false, length, map, replicate, if◌then◌else◌, slice_index_or, slice_set};
+ghost use Rattle.std.specs.Cmp.Lexicographic.{slice_cmp};
+ghost use Rattle.std.specs.Ordering.{bool_cmp};
+ghost use Rattle.tv_kleene.specs.declared.K3.TheVariants.{No, Half};
+ghost use Rattle.tv_struct.specs.StructureRows.{flag_value};
+ghost use Rattle.tv_struct.specs.TableForm.{selected};
+
+use crate::drawn::row_selected;
+use std::cmp::Ordering;
+use std::marker::Model;
+use tv_kleene::K3;
+use tv_row::Row;
+
+/// A flag for each of up to 256 individuals: true where the row isn't `No`.
+#[derive(Debug, Drop)]
+pub struct Flags {
+    row: Row,
+}
+
+impl Model for Flags {
+    ghost use Rattle.std.specs.Prelude.{List, Bool};
+    ghost use Rattle.tv_struct.specs.StructureRows.{flags_of};
+
+    ghost Value = { List Bool };
+
+    ghost view = { λ f. flags_of f.row };
+}
+
+/// `Half` for a true flag, else `No`.
+fn value_of(on: bool) -> K3
+    ensures { result ≡ flag_value on }
+{
+    if on { K3::Half } else { K3::No }
+}
+
+impl Flags {
+    /// `size` flags, all false.
+    pub fn none(size: u32) -> Flags
+        requires { size ≤ 256 }
+        ensures { result ≡ replicate size false }
+    {
+        Flags {
+            row: Row::of(size, K3::No),
+        }
+    }
+
+    /// The same flags.
+    pub fn copied(&self) -> Flags
+        ensures { result ≡ self.now }
+    {
+        Flags { row: self.row }
+    }
+
+    /// The flag of the individual `u`.
+    pub fn get(&self, u: u32) -> bool
+        requires { u < length self.now }
+        ensures { result ≡ slice_index_or self.now u false }
+    {
+        self.row.get(u) != K3::No
+    }
+
+    /// Puts the flag of the individual `u`, and changes nothing else.
+    pub fn put(&mut self, u: u32, on: bool)
+        requires { u < length self.old }
+        ensures { self.new ≡ slice_set self.old u on }
+    {
+        self.row.set(u, value_of(on));
+    }
+
+    /// The flags at the given places, in their order, and false for a place past the end.
+    pub fn selected(&self, places: &[u32]) -> Flags
+        requires { length places.now ≤ 256 }
+        ensures { result ≡ selected false self.now places.now }
+    {
+        Flags {
+            row: row_selected(&self.row, places),
+        }
+    }
+
+    /// Of each individual `Half` where its flag is true, else `No`.
+    pub fn as_row(&self) -> Row
+        ensures { result ≡ map flag_value self.now }
+    {
+        self.row.capped(K3::Half)
+    }
+
+    /// Compares flag by flag, with false < true.
+    pub fn compare(&self, other: &Flags) -> Ordering
+        requires { length self.now ≡ length other.now }
+        ensures { result ≡ slice_cmp bool_cmp self.now other.now }
+    {
+        self.as_row().compare(&other.as_row())
+    }
+}
