@@ -1,5 +1,5 @@
 -- Where the readers stop, and what they hand on of structures.
-use Rattle.std.proofs.Common.{ℕ, ◌+◌, ◌==◌, ◌≡◌, List, take, length, get_or, min, Option, Some, Result, Ok, Err, ap, subst, ◌∙◌, inl}
+use Rattle.std.proofs.Common.{ℕ, ◌+◌, ◌==◌, ◌≡◌, List, take, length, get_or, min, Some, Result, Ok, Err, ap, subst, ◌∙◌, inl}
 use Rattle.std.specs.Prelude.{slice_get, IfErr, IfOk, All, None}
 use Rattle.std.proofs.lemmas.List.{take_min}
 use Rattle.std.proofs.lemmas.Option.{slice_get_within, get_or_from_slice_get}

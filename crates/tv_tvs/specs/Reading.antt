@@ -1,11 +1,15 @@
 -- The reader of structures, as functions on lists of tokens. That they read what the grammar says is proved.
 use Rattle.std.specs.Prelude.{ℕ, zero, suc, ◌+◌, List, [], ◌∷◌, Bool, Option, Some, None, length, ◌==◌, if◌then◌else◌, codes}
+use Rattle.std.specs.Result.{result_ok}
 use Rattle.tv_kleene.specs.declared.K3.{K3}
 use Rattle.tv_lex.specs.Token.{SpecToken}
 use Rattle.tv_phrases.specs.Reading.{Reading, ◌>>=◌, choose}
 use Rattle.tv_phrases.specs.Tokens.{after, first, word_item}
 use Rattle.tv_phrases.specs.Lists.{optional_list, name}
 use Rattle.tv_tvs.specs.Tree.{ItemTree, ContentTree, OneValue, Listed, EntryTree, StructTree}
+use Rattle.tv_model.specs.declared.program.Vocab.{Vocab}
+use Rattle.tv_struct.specs.StructureForm.{StructureForm}
+use Rattle.tv_tvs.specs.Meaning.{struct_meant}
 use Rattle.tv_tvs.specs.Grammar.{value_item, begins_comma, begins_word, begins_name, begins_struct}
 
 -- fewer than n parts, for as long as one begins, and what is behind them
@@ -83,6 +87,14 @@ struct_at ts = do
 
 abbrev pub structs_at : List SpecToken → Reading (List StructTree)
 structs_at ts = many begins_struct struct_at (length ts + 1) ts
+
+-- the tokens behind a structure
+unfoldable pub struct_end : List SpecToken → Option (List SpecToken)
+struct_end ts = struct_at ts >>= λ x. Some x.1
+
+-- the structure that the first tokens mean
+unfoldable pub structure_at : Vocab → List SpecToken → Reading StructureForm
+structure_at vocab ts = struct_at ts >>= λ x. result_ok (struct_meant vocab.preds x.0) >>= λ s. Some (s, x.1)
 
 -- all the tokens
 unfoldable pub text_of_structs : List SpecToken → Option (List StructTree)

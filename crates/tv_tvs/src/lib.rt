@@ -11,6 +11,6 @@ mod write;
 
 pub use error::TvsError;
 pub use laws::{one_reading, structures_are_read_again, valid_programs_fit};
-pub use read::{OneRead, StructureReader, read_one, read_tvs};
+pub use read::{OneRead, StructureReader, read_one, read_tvs, skip_structure};
 pub use tv_struct::Structures;
-pub use write::write_tvs;
+pub use write::{append_tvs, write_tvs};

@@ -1,11 +1,17 @@
 //! Texts of structures to structures.
 
-ghost use Rattle.std.specs.Prelude.{◌≡◌, ◌≤◌, All, IfOk, IfErr, Ok, None, drop, length, ◌<◌, ◌-◌};
+ghost use Rattle.std.specs.Prelude.{◌≡◌, ◌≤◌, All, IfOk, IfErr, Result, Ok, None, drop, length, ◌<◌, ◌-◌};
+ghost use Rattle.std.specs.Result.{result_ok};
 ghost use Rattle.tv_lex.specs.Pieces.{AreInOrder};
 ghost use Rattle.tv_lex.specs.Places.{IsTokenPlace};
 ghost use Rattle.tv_lex.specs.Token.{spec_tokens};
-ghost use Rattle.tv_struct.specs.StructureForm.{IsOver, IsStructure};
-ghost use Rattle.tv_tvs.specs.Meaning.{IsVocabulary, MeansStructs, MeansStruct, IsCause, IsCauseOfOne, Refused, StopsAtToken};
+ghost use Rattle.tv_model.specs.declared.program.Vocab.{Vocab};
+ghost use Rattle.tv_phrases.specs.Reading.{Gives};
+ghost use Rattle.tv_struct.specs.StructureForm.{StructureForm, IsOver, IsStructure};
+ghost use Rattle.tv_tvs.specs.Meaning.{IsVocabulary, MeansStructs, MeansStruct, IsCause, IsCauseOfOne, Refused, StopsAtToken, Answers};
+ghost use Rattle.tv_tvs.specs.Reading.{struct_end, structure_at};
+ghost use Rattle.tv_tvs.specs.Targets.{IsRead};
+ghost use Rattle.tv_tvs.specs.declared.error.TvsError.{TvsError};
 
 use crate::error::TvsError;
 use crate::names::{Names, predicate_names};
@@ -66,6 +72,34 @@ fn count_before(tokens: &[Token], rest: &[Token]) -> u32
     (tokens.len() - rest.len()) as u32
 }
 
+/// The tokens behind the structure that begins these. What it means isn't looked at.
+#[tactic(auto, unfolding(crate::specs::Reading::struct_end))]
+pub fn skip_structure<'t>(
+    alloc: Global,
+    bytes: &[u8],
+    tokens: &'t [Token],
+) -> Result<&'t [Token], PhraseError<'t>>
+    ensures { Gives (λ rest. spec_tokens bytes.now rest.now) result (struct_end (spec_tokens bytes.now tokens.now)) }
+{
+    let (_, rest) = syntax::structure(alloc, bytes, tokens)?;
+    Ok(rest)
+}
+
+/// A structure that its text means, or else the tokens where it stands.
+fn or_unexpected<'t>(
+    found: Result<Structure, TvsError>,
+    tokens: &'t [Token],
+) -> Result<Structure, PhraseError<'t>>
+    ensures meant { (meaning : Result StructureForm TvsError) → Answers (λ s. s) found meaning → Gives (λ s. s) result (result_ok meaning) }
+    ensures over { (vocab : Vocab) → IfOk found (IsRead vocab) → IfOk result (IsRead vocab) }
+{
+    match found {
+        Ok(s) => Ok(s),
+        Err(TvsError::Memory) => Err(PhraseError::Memory),
+        Err(_) => Err(PhraseError::Unexpected(tokens)),
+    }
+}
+
 /// A reader of structures over one vocabulary, whose names it has looked up once.
 #[derive(Drop)]
 pub struct StructureReader<'a> {
@@ -121,6 +155,25 @@ impl<'a> StructureReader<'a> {
             Err(fault) => Err(refusal(bytes, tokens.list.as_slice(), fault)),
             Ok(trees) => build::structures(alloc, self.vocab, &self.names, bytes, trees.as_slice()),
         }
+    }
+
+    /// The structure that begins the tokens, read as `read_tvs` reads each, and the tokens behind it. Where one begins
+    /// them but means none, they are what is refused.
+    #[tactic(auto, unfolding(crate::specs::Reading::structure_at))]
+    pub fn take_structure<'t>(
+        &self,
+        alloc: Global,
+        bytes: &[u8],
+        tokens: &'t [Token],
+    ) -> Result<(Structure, &'t [Token]), PhraseError<'t>>
+        ensures value { Gives (λ x. (x.0, spec_tokens bytes.now x.1.now)) result (structure_at self.now (spec_tokens bytes.now tokens.now)) }
+        ensures over { IfOk result (λ x. IsOver self.now x.0 × (x.0.fresh ≡ None)) }
+        ensures kept { IfOk result (λ x. IsStructure x.0) }
+    {
+        let (tree, rest) = syntax::structure(alloc, bytes, tokens)?;
+        let found = build::structure(alloc, self.vocab, &self.names, bytes, &tree);
+        let s = or_unexpected(found, tokens)?;
+        Ok((s, rest))
     }
 
     /// The structure that begins at the token `at`, read as `read_tvs` reads each, and the number of the

@@ -242,9 +242,29 @@ fn write_preds(
     Ok(())
 }
 
-/// The canonical text of a structure: its individuals as `i0`, `i1` and so on, a line for each
+/// Appends the canonical text of a structure: its individuals as `i0`, `i1` and so on, a line for each
 /// predicate that isn't 0 everywhere, in declaration order, and one for the summaries. The mark of a
-/// fresh individual isn't written.
+/// fresh individual isn't written. At an error some of it may stand there.
+pub fn append_tvs(
+    alloc: Global,
+    out: &mut Vec<u8>,
+    vocab: &Vocab,
+    s: &Structure,
+) -> Result<(), AllocError>
+    requires over { IsOver vocab.now s.now }
+    requires arities { All (λ pred. pred.arity ≤ 2) vocab.now.preds }
+    requires count { length vocab.now.preds ≤ 512 }
+    ensures { OnOk result (out.new.items ≡ out.old.items ++ canonical_text vocab.now s.now) }
+{
+    out.extend_from_slice(b"%n = {")?;
+    write_individuals(out, s.size())?;
+    out.extend_from_slice(b"}\n%p = {\n")?;
+    write_preds(alloc, out, s, vocab.preds.as_slice())?;
+    write_items(out, b"sm", summaries(alloc, s)?.as_slice())?;
+    out.extend_from_slice(b"}\n")
+}
+
+/// The canonical text of a structure, as `append_tvs` writes it.
 pub fn write_tvs(alloc: Global, vocab: &Vocab, s: &Structure) -> Result<Vec<u8>, AllocError>
     requires over { IsOver vocab.now s.now }
     requires arities { All (λ pred. pred.arity ≤ 2) vocab.now.preds }
@@ -252,11 +272,6 @@ pub fn write_tvs(alloc: Global, vocab: &Vocab, s: &Structure) -> Result<Vec<u8>,
     ensures { IfOk result (λ text. text.items ≡ canonical_text vocab.now s.now) }
 {
     let mut out = Vec::new(alloc);
-    out.extend_from_slice(b"%n = {")?;
-    write_individuals(&mut out, s.size())?;
-    out.extend_from_slice(b"}\n%p = {\n")?;
-    write_preds(alloc, &mut out, s, vocab.preds.as_slice())?;
-    write_items(&mut out, b"sm", summaries(alloc, s)?.as_slice())?;
-    out.extend_from_slice(b"}\n")?;
+    append_tvs(alloc, &mut out, vocab, s)?;
     Ok(out)
 }

@@ -1,4 +1,4 @@
-use Rattle.std.proofs.Common.{◌≡◌, ◌++◌, List, Ok, None, drop}
+use Rattle.std.proofs.Common.{◌≡◌, ◌++◌, List, Ok, drop}
 use Rattle.std.specs.Prelude.{All}
 use Rattle.tv_struct.specs.StructureForm.{StructureForm}
 use Rattle.tv_tvs.specs.Targets.{IsRead}
