@@ -5,5 +5,6 @@ pub mod Takes
 pub mod Repeats
 pub mod Facts
 pub mod WordTests
+pub mod Numerals
 -- Lemmas of this crate's own.
 mod CommaLists

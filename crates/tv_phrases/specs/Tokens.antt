@@ -1,6 +1,7 @@
 -- Phrases of one token.
-use Rattle.std.specs.Prelude.{ℕ, List, [], ◌∷◌, Bool, true, false, not, ◌&&◌, ◌||◌, ◌==◌, Option, Some, None, if◌then◌else◌, ◌-◌, length, slice_index, slice_range, codes}
+use Rattle.std.specs.Prelude.{ℕ, List, [], ◌∷◌, Bool, true, false, not, ◌&&◌, ◌||◌, ◌==◌, Option, Some, None, if◌then◌else◌, ◌-◌, ◌^◌, nat_lt, length, slice_index, slice_range, codes, decimal}
 use Rattle.std.specs.Str.{bytes_eq}
+use Rattle.std.specs.Str.Parse.{digits_value}
 use Rattle.tv_lex.specs.Bytes.{is_letter}
 use Rattle.tv_lex.specs.Token.{SpecToken}
 use Rattle.tv_lex.specs.declared.token.TokenKind.{TokenKind}
@@ -65,3 +66,11 @@ unquoted string = slice_range string 1 (length string - 1)
 -- what stands between the quotes of a string
 abbrev pub text_item : SpecToken → Option (List ℕ)
 text_item t = if is_text t.kind then Some (unquoted t.bytes) else None
+
+-- the number below 2 ^ 32 that is written so in decimal
+abbrev pub number_in : List ℕ → Option ℕ
+number_in w = if nat_lt (digits_value 10 w) (2 ^ 32) && bytes_eq (decimal (digits_value 10 w)) w then Some (digits_value 10 w) else None
+
+-- the value of a word that is such a number
+abbrev pub number_item : SpecToken → Option ℕ
+number_item t = if is_word t.kind then number_in t.bytes else None

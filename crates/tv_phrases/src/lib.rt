@@ -5,14 +5,16 @@ mod error;
 mod kinds;
 mod laws;
 mod lists;
+mod numbers;
 mod tokens;
 
 pub use error::PhraseError;
 pub use kinds::{Brackets, Item};
-pub use laws::identifiers;
+pub use laws::{decimal_numbers, identifiers};
 pub use lists::{
     NamePhrase, comma_list, list_in, name, optional_list, optional_list_in, pair, params, variables,
 };
+pub use numbers::{begins_number, number, optional_numbers};
 pub use tokens::{
     after, begins_item, begins_string, expect, identifier, item, string, unquoted, word,
 };

@@ -46,7 +46,7 @@ pub fn expect<'a>(
     }
 }
 
-fn is_word(kind: TokenKind) -> bool
+pub(crate) fn is_word(kind: TokenKind) -> bool
     ensures { result ≡ is_word kind }
 {
     matches!(kind, TokenKind::Word)
