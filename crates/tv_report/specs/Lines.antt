@@ -1,0 +1,53 @@
+-- What a report may list and say of a program.
+use Rattle.std.specs.Prelude.{ℕ, ◌≡◌, ◌≢◌, ◌<◌, ◌^◌, List, map, length, Option, Some, All, AllPairs, IsSome, slice_get}
+use Rattle.std.specs.Option.{option_and_then}
+use Rattle.tv_kleene.specs.declared.K3.TheVariants.{No}
+use Rattle.tv_model.specs.Program.{ProgramForm, MessageForm}
+use Rattle.tv_model.specs.declared.program.Edge.{Edge}
+use Rattle.tv_struct.specs.ListingForm.{at_node}
+use Rattle.tv_struct.specs.StructureForm.{StructureForm, IsStructure, IsOver}
+use Rattle.tv_struct.specs.declared.analysis.Item.{Item}
+use Rattle.tv_struct.specs.declared.analysis.Item.TheVariants as item
+use Rattle.tv_struct.specs.declared.analysis.MapLine.{MapLine}
+use Rattle.tv_struct.specs.declared.analysis.MessageLine.{MessageLine}
+use Rattle.tv_model.specs.declared.program.Program.{Program}
+
+-- for each node a list of fewer than 2 ^ 32 structures over the vocabulary
+pub record IsListing (program : Program) (listing : List (List StructureForm)) : Type 0 where
+  pub nodes : length listing ≡ length program.nodes
+  pub counts : All (λ structures. length structures < 2 ^ 32) listing
+  pub structures : All (All (λ s. IsStructure s × IsOver program.vocab s)) listing
+
+-- the message of an edge's action, by both numbers
+abbrev pub message_at : ProgramForm → (edge number : ℕ) → Option MessageForm
+message_at p edge number =
+    option_and_then (λ (e : Edge). option_and_then (λ action. slice_get action.messages number) (slice_get p.actions e.action)) (slice_get p.edges edge)
+
+-- the line names a message of an edge
+abbrev pub NamesMessage : ProgramForm → MessageLine → Type 0
+NamesMessage p line = IsSome (message_at p line.edge line.number)
+
+-- and tells that it may be true
+abbrev pub IsMessageLine : ProgramForm → MessageLine → Type 0
+IsMessageLine p line = NamesMessage p line × (line.value ≢ No)
+
+-- they aren't of one message
+abbrev pub TellApart : MessageLine → MessageLine → Type 0
+TellApart line other = ¬ ((line.edge ≡ other.edge) × (line.number ≡ other.number))
+
+-- the structure that a result comes from is listed at the edge's source, and the target where the item leads to
+abbrev pub LeadsTo : ProgramForm → (listing : List (List StructureForm)) → Item → (target : ℕ) → Type 0
+LeadsTo p listing (item.Initial n) target = target < length (at_node listing 0)
+LeadsTo p listing (item.Result edge structure result) target = (taken : Edge) × (slice_get p.edges edge ≡ Some taken)
+    × (structure < length (at_node listing taken.from)) × (target < length (at_node listing taken.to))
+
+abbrev pub IsMapLine : ProgramForm → (listing : List (List StructureForm)) → MapLine → Type 0
+IsMapLine p listing line = LeadsTo p listing line.item line.target
+
+-- each message in one line at most
+abbrev pub AreMessageLines : ProgramForm → List MessageLine → Type 0
+AreMessageLines p lines = All (NamesMessage p) lines × AllPairs TellApart lines
+
+-- each item in one line at most
+abbrev pub AreMapLines : ProgramForm → (listing : List (List StructureForm)) → List MapLine → Type 0
+AreMapLines p listing lines = All (IsMapLine p listing) lines × AllPairs ◌≢◌ (map (λ line. line.item) lines)
