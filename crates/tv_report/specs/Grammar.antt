@@ -18,10 +18,10 @@ use Rattle.tv_phrases.specs.Reading.{taken}
 use Rattle.tv_phrases.specs.Tokens.{after, first, word_item, text_item, number_item}
 use Rattle.tv_phrases.specs.Lists.{optional_list}
 use Rattle.tv_phrases.specs.Repeated.{Repeated, begins_with}
-use Rattle.tv_struct.specs.declared.analysis.Item.{Item}
-use Rattle.tv_struct.specs.declared.analysis.Item.TheVariants as item
-use Rattle.tv_struct.specs.declared.analysis.MapLine.{MapLine}
-use Rattle.tv_struct.specs.declared.analysis.MessageLine.{MessageLine}
+use Rattle.tv_listing.specs.declared.analysis.Item.{Item}
+use Rattle.tv_listing.specs.declared.analysis.Item.TheVariants as item
+use Rattle.tv_listing.specs.declared.analysis.MapLine.{MapLine}
+use Rattle.tv_listing.specs.declared.analysis.MessageLine.{MessageLine}
 use Rattle.tv_tvs.specs.Grammar.{IsStruct}
 use Rattle.tv_tvs.specs.Tree.{StructTree}
 use Rattle.tv_report.specs.Tree.{NodeTree, ReportTree}

@@ -4,12 +4,12 @@ use Rattle.std.specs.Option.{option_and_then}
 use Rattle.tv_kleene.specs.declared.K3.TheVariants.{No}
 use Rattle.tv_model.specs.Program.{ProgramForm, MessageForm}
 use Rattle.tv_model.specs.declared.program.Edge.{Edge}
-use Rattle.tv_struct.specs.ListingForm.{at_node}
+use Rattle.tv_listing.specs.ListingForm.{at_node}
 use Rattle.tv_struct.specs.StructureForm.{StructureForm, IsStructure, IsOver}
-use Rattle.tv_struct.specs.declared.analysis.Item.{Item}
-use Rattle.tv_struct.specs.declared.analysis.Item.TheVariants as item
-use Rattle.tv_struct.specs.declared.analysis.MapLine.{MapLine}
-use Rattle.tv_struct.specs.declared.analysis.MessageLine.{MessageLine}
+use Rattle.tv_listing.specs.declared.analysis.Item.{Item}
+use Rattle.tv_listing.specs.declared.analysis.Item.TheVariants as item
+use Rattle.tv_listing.specs.declared.analysis.MapLine.{MapLine}
+use Rattle.tv_listing.specs.declared.analysis.MessageLine.{MessageLine}
 use Rattle.tv_model.specs.declared.program.Program.{Program}
 
 -- for each node a list of fewer than 2 ^ 32 structures over the vocabulary

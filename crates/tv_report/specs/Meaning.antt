@@ -5,9 +5,9 @@ use Rattle.tv_lex.specs.Token.{SpecToken}
 use Rattle.tv_lex.specs.declared.token.Token.{Token}
 use Rattle.tv_model.specs.Program.{program_of}
 use Rattle.tv_model.specs.declared.program.Program.{Program}
-use Rattle.tv_struct.specs.ListingForm.{at_node}
+use Rattle.tv_listing.specs.ListingForm.{at_node}
 use Rattle.tv_struct.specs.StructureForm.{StructureForm}
-use Rattle.tv_struct.specs.declared.analysis.Analysis.{Analysis}
+use Rattle.tv_listing.specs.declared.analysis.Analysis.{Analysis}
 use Rattle.tv_tvs.specs.Meaning.{structs_meant}
 use Rattle.tv_report.specs.Tree.{NodeTree, ReportTree}
 use Rattle.tv_report.specs.Grammar.{IsReport}

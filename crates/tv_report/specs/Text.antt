@@ -5,11 +5,11 @@ use Rattle.tv_model.specs.Program.{ProgramForm, MessageForm, program_of}
 use Rattle.tv_model.specs.declared.program.Program.{Program}
 use Rattle.tv_model.specs.declared.program.Vocab.{Vocab}
 use Rattle.tv_struct.specs.StructureForm.{StructureForm}
-use Rattle.tv_struct.specs.declared.analysis.Analysis.{Analysis}
-use Rattle.tv_struct.specs.declared.analysis.Item.{Item}
-use Rattle.tv_struct.specs.declared.analysis.Item.TheVariants as item
-use Rattle.tv_struct.specs.declared.analysis.MapLine.{MapLine}
-use Rattle.tv_struct.specs.declared.analysis.MessageLine.{MessageLine}
+use Rattle.tv_listing.specs.declared.analysis.Analysis.{Analysis}
+use Rattle.tv_listing.specs.declared.analysis.Item.{Item}
+use Rattle.tv_listing.specs.declared.analysis.Item.TheVariants as item
+use Rattle.tv_listing.specs.declared.analysis.MapLine.{MapLine}
+use Rattle.tv_listing.specs.declared.analysis.MessageLine.{MessageLine}
 use Rattle.tv_tvs.specs.Canonical.{canonical_text, comma_text, value_text}
 use Rattle.tv_report.specs.Lines.{message_at}
 

@@ -1,7 +1,7 @@
 -- Reports as they are written.
 use Rattle.std.specs.Prelude.{ℕ, List}
-use Rattle.tv_struct.specs.declared.analysis.MapLine.{MapLine}
-use Rattle.tv_struct.specs.declared.analysis.MessageLine.{MessageLine}
+use Rattle.tv_listing.specs.declared.analysis.MapLine.{MapLine}
+use Rattle.tv_listing.specs.declared.analysis.MessageLine.{MessageLine}
 use Rattle.tv_tvs.specs.Tree.{StructTree}
 
 -- a node's name and its structures

@@ -4,20 +4,20 @@ ghost use Rattle.std.specs.Prelude.{◌≡◌, ◌++◌, ◌<◌, ◌≤◌, ℕ
 ghost use Rattle.std.specs.List.{flat_map};
 ghost use Rattle.tv_model.specs.Program.{program_of};
 ghost use Rattle.tv_model.specs.Valid.{IsValid};
-ghost use Rattle.tv_struct.specs.ListingForm.{at_node};
+ghost use Rattle.tv_listing.specs.ListingForm.{at_node};
 ghost use Rattle.tv_struct.specs.StructureForm.{IsStructure, IsOver};
 ghost use Rattle.tv_tvs.specs.Canonical.{canonical_text, comma_text, more_texts, value_text};
 ghost use Rattle.tv_tvs.specs.Meaning.{IsVocabulary};
 ghost use Rattle.tv_report.specs.Lines.{IsListing, message_at};
 ghost use Rattle.tv_report.specs.Text.{node_line, node_text, nodes_text, message_text, item_text, map_text, report_text, said};
-ghost use Rattle.tv_struct.specs.declared.analysis.Item.TheVariants as item;
+ghost use Rattle.tv_listing.specs.declared.analysis.Item.TheVariants as item;
 
 use crate::program::message;
 use itoa::Buffer;
 use std::alloc::{AllocError, Global};
 use tv_kleene::K3;
 use tv_model::{Program, Vocab};
-use tv_struct::{Analysis, Item, Listing, MapLine, MessageLine};
+use tv_listing::{Analysis, Item, Listing, MapLine, MessageLine};
 use tv_tvs::append_tvs;
 
 fn write_number(out: &mut Vec<u8>, n: u64) -> Result<(), AllocError>

@@ -1,7 +1,7 @@
 use Rattle.std.proofs.Common.{◌∙◌, ◌≡◌, ◌<◌, ◌++◌, ◌+◌, [], Some, ap, sym, subst, drop, length, arith}
 use Rattle.std.specs.Prelude.{slice_get}
 use Rattle.std.specs.List.{flat_map, zip}
-use Rattle.tv_struct.specs.ListingForm.{at_node}
+use Rattle.tv_listing.specs.ListingForm.{at_node}
 use Rattle.tv_report.specs.Text.{node_text}
 use Rattle.tv_report.proofs.Lists.{one_turn, no_turn, zipped_at, zipped_length, at_place}
 use Rattle.tv_report.proofs.write.write_nodes.Goals as goal

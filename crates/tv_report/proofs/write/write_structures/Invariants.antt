@@ -1,6 +1,6 @@
 use Rattle.std.proofs.Common.{◌≡◌, ◌++◌, drop}
 use Rattle.std.specs.List.{flat_map}
-use Rattle.tv_struct.specs.ListingForm.{at_node}
+use Rattle.tv_listing.specs.ListingForm.{at_node}
 use Rattle.tv_tvs.specs.Canonical.{canonical_text}
 use Rattle.tv_report.proofs.write.write_structures.Given as goal
 
