@@ -1,7 +1,9 @@
 -- The library of lemmas on closed rules, for the crates above.
 pub mod Carried
 pub mod Family
+pub mod Heights
 pub mod MetByHeaps
+pub mod Plain
 pub mod Ranges
 pub mod Written
 -- What only this crate cites.
@@ -10,8 +12,6 @@ mod EntryLemmas
 mod FlagLemmas
 mod Free
 mod Further
-mod Heights
 mod KeptLemmas
 mod Loops
-mod Plain
 mod RuleTests

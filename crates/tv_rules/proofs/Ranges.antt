@@ -7,7 +7,7 @@ use Rattle.tv_model.specs.Form.{Form, FZero, FOne, FAtom, FIsNew, FSame, FNot, F
 use Rattle.tv_model.specs.declared.program.Rule.{Rule}
 use Rattle.tv_model.specs.Program.{ProgramForm, PredForm, HeadForm, HNever, HAtom, HSame, RuleForm, rule_of}
 use Rattle.tv_model.specs.Rules.{IsInHead}
-use Rattle.tv_model.specs.Valid.{IsValid, IsPred, IsRule, IsHead, IsFormula, IsVariable, arity_of}
+use Rattle.tv_model.specs.Valid.{IsValid, IsPred, IsRule, IsHead, IsFormula, IsFormulaOver, IsVariable, arity_of, program_arities}
 use Rattle.tv_stable.specs.Laws.{IsPlainRule, IsShort}
 use Rattle.tv_model.specs.Rules.{IsFreeInRule}
 use Rattle.tv_rules.specs.Closing.{base_rules, dropped_rule, closed_set, closed_rules}
@@ -59,25 +59,25 @@ stands-in_range p q rule is k = ⊎_elim (mentions-in_range p q rule.body is.0.0
 one-of : (x v : ℕ) → IsVariable v → x ≡ v → IsVariable x
 one-of x v is e = let Is : ℕ → Type 0 = λ y. IsVariable y in subst Is (sym e) is
 
-free-in_range : (p : ProgramForm) (v : ℕ) (f : Form) → IsFormula p f → IsFree v f → IsVariable v
-free-in_range p v FZero is k = absurd k
-free-in_range p v FOne is k = absurd k
-free-in_range p v (FAtom r vars) is k = All-contains IsVariable vars v is.1 k
-free-in_range p v (FIsNew w) is k = one-of v w is k
-free-in_range p v (FSame w u) is k = ⊎_elim (one-of v w is.0) (one-of v u is.1) k
-free-in_range p v (FNot f) is k = free-in_range p v f is k
-free-in_range p v (FAnd f g) is k = ⊎_elim (free-in_range p v f is.0) (free-in_range p v g is.1) k
-free-in_range p v (FOr f g) is k = ⊎_elim (free-in_range p v f is.0) (free-in_range p v g is.1) k
-free-in_range p v (FIff f g) is k = ⊎_elim (free-in_range p v f is.0) (free-in_range p v g is.1) k
-free-in_range p v (FCond c f g) is k =
-    ⊎_elim (free-in_range p v c is.0) (⊎_elim (free-in_range p v f is.1) (free-in_range p v g is.2)) k
-free-in_range p v (FExists w f) is k = free-in_range p v f is.1 k.1
-free-in_range p v (FForall w f) is k = free-in_range p v f is.1 k.1
-free-in_range p v (FClosure from to left right f) is k =
-    ⊎_elim (one-of v from is.0) (⊎_elim (one-of v to is.1) (λ inner. free-in_range p v f is.5 inner.2)) k
+pub free-in_range : (arities : List ℕ) (v : ℕ) (f : Form) → IsFormulaOver arities f → IsFree v f → IsVariable v
+free-in_range arities v FZero is k = absurd k
+free-in_range arities v FOne is k = absurd k
+free-in_range arities v (FAtom r vars) is k = All-contains IsVariable vars v is.1 k
+free-in_range arities v (FIsNew w) is k = one-of v w is k
+free-in_range arities v (FSame w u) is k = ⊎_elim (one-of v w is.0) (one-of v u is.1) k
+free-in_range arities v (FNot f) is k = free-in_range arities v f is k
+free-in_range arities v (FAnd f g) is k = ⊎_elim (free-in_range arities v f is.0) (free-in_range arities v g is.1) k
+free-in_range arities v (FOr f g) is k = ⊎_elim (free-in_range arities v f is.0) (free-in_range arities v g is.1) k
+free-in_range arities v (FIff f g) is k = ⊎_elim (free-in_range arities v f is.0) (free-in_range arities v g is.1) k
+free-in_range arities v (FCond c f g) is k =
+    ⊎_elim (free-in_range arities v c is.0) (⊎_elim (free-in_range arities v f is.1) (free-in_range arities v g is.2)) k
+free-in_range arities v (FExists w f) is k = free-in_range arities v f is.1 k.1
+free-in_range arities v (FForall w f) is k = free-in_range arities v f is.1 k.1
+free-in_range arities v (FClosure from to left right f) is k =
+    ⊎_elim (one-of v from is.0) (⊎_elim (one-of v to is.1) (λ inner. free-in_range arities v f is.5 inner.2)) k
 
 rule-in_range : (p : ProgramForm) (v : ℕ) (rule : RuleForm) → IsRule p rule → IsFreeInRule v rule → v < 32
-rule-in_range p v rule is k = ⊎_elim (free-in_range p v rule.body is.0.0) (head rule.head is.1) k
+rule-in_range p v rule is k = ⊎_elim (free-in_range (program_arities p) v rule.body is.0.0) (head rule.head is.1) k
   where
     head : (h : HeadForm) → IsHead p h → IsInHead v h → IsVariable v
     head HNever is at = absurd at

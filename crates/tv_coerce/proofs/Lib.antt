@@ -1,0 +1,14 @@
+pub mod Attempting
+pub mod Dues
+pub mod Found
+pub mod Heads
+pub mod Heaps
+pub mod Lowering
+pub mod OnTheWay
+pub mod Once
+pub mod Ready
+pub mod SetLaws
+pub mod Sharpening
+pub mod Testing
+pub mod Touching
+pub mod Walking

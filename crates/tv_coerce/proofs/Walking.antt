@@ -1,0 +1,387 @@
+-- Trying a rule, variable by variable.
+use Rattle.std.proofs.Common.{ℕ, ◌≡◌, ◌≢◌, ◌<◌, ◌≤◌, ◌+◌, ◌-◌, ◌⊎◌, ◌==◌, if◌then◌else◌, inl, inr, zero, suc, List, [], ◌∷◌, length, map, take, drop, get_or, Option, Some, refl, sym, ap, subst, ◌∙◌, arith}
+use Rattle.std.specs.Prelude.{All, Any, Contains, IsSomeAnd, slice_get}
+use Rattle.std.specs.List.{range_with_len}
+use Rattle.std.specs.declared.vec.Vec.{Vec}
+use Rattle.std.specs.declared.alloc.Global.{Global}
+use Rattle.std.proofs.lemmas.Bool.{cases_eq, cond-true, cond-false, eq-eqb, ne_eqb}
+use Rattle.std.proofs.lemmas.List.Elements.{All-cons, All-nil, All-append, All-map, All-push, All-tail, All-contains}
+use Rattle.std.proofs.lemmas.List.{get_or-map, get_or_default, length-append, length-map}
+use Rattle.std.proofs.lemmas.Option.{slice_get-get_or}
+use Rattle.tv_kleene.specs.declared.K3.TheVariants.{Half, Yes}
+use Rattle.tv_kleene.specs.Kleene.{LiesUnder}
+use Rattle.tv_model.specs.Form.{Form, FZero, FOne, FAtom, FIsNew, FSame, FNot, FAnd, FOr, FIff, FCond, FExists, FForall, FClosure, IsFree}
+use Rattle.tv_model.specs.Program.{HeadForm, HNever, HAtom, HSame, RuleForm}
+use Rattle.tv_model.specs.Rules.{IsFreeInRule, IsInHead, IsOfIndividuals, head_formula}
+use Rattle.tv_model.specs.Truth.{Assignment, put}
+use Rattle.tv_model.specs.Valid.{IsFormulaOver}
+use Rattle.tv_model.specs.declared.formula.Var.{Var}
+use Rattle.tv_model.specs.declared.program.Rule.{Rule}
+use Rattle.tv_model.proofs.Assignments.{put-same, put-other}
+use Rattle.tv_model.proofs.Heads.{free-in_head}
+use Rattle.tv_model.proofs.Lists.{Contains-none, Contains-here}
+use Rattle.tv_frame.specs.LogicalStructure.{LogicalStructure}
+use Rattle.tv_frame.specs.Embedding.{IsBelow}
+use Rattle.tv_value.specs.Value.{value}
+use Rattle.tv_value.proofs.Agreed.{only_free_variables_matter}
+use Rattle.tv_value.proofs.Embedded.{values_are_monotone}
+use Rattle.tv_stable.specs.Stable.{IsTwice, IsHeadMet, IsStableUnder}
+use Rattle.tv_rules.specs.Closing.{conjuncts}
+use Rattle.tv_rules.specs.EntryForms.{AreFreeIn, numbers_of, rules_of}
+use Rattle.tv_rules.proofs.Ranges.{free-in_range}
+use Rattle.tv_rules.proofs.Carried.{conjuncts_carry_formulas}
+use Rattle.tv_eval.specs.AssignmentForm.{IsAssigned, assignment_of, place_of}
+use Rattle.tv_eval.specs.Formulas.{AreAssigned, nesting}
+use Rattle.tv_eval.specs.ScratchForm.{ScratchForm}
+use Rattle.tv_eval.specs.declared.evaluator.Evaluator.{Evaluator}
+use Rattle.tv_struct.specs.StructureForm.{StructureForm, arities_of, structure_of}
+use Rattle.tv_struct.proofs.Library.{Contains-range, below-range}
+use Rattle.tv_coerce.specs.Ready.{IsHeadOver, CanCoerce}
+use Rattle.tv_coerce.specs.Trying.{DueForm, IsDue, AreDue, ArePlaced, GoesOn, IsTried, IsForced, IsHopeless, IsNeed, AreYes, CanTry, CanValue, IsWalk, IsNoted, IsTold, IsFound, StaysBound, answer_of, rule_at}
+use Rattle.tv_coerce.specs.declared.trial.Outcome.{Outcome}
+use Rattle.tv_coerce.specs.declared.trial.Outcome.TheVariants.{Possible, Impossible}
+use Rattle.tv_coerce.specs.declared.change.Change.{Change}
+use Rattle.tv_coerce.specs.declared.change.Need.TheVariants.{Never, Put}
+use Rattle.tv_coerce.proofs.Heads.{placed}
+
+-- ---- where all variables are placed
+
+pub rule-found : (closed : List Rule) (n : ℕ) → n < length (rules_of closed) → slice_get (rules_of closed) n ≡ Some (rule_at closed n)
+rule-found closed n within = slice_get-get_or (rules_of closed) n (record { body = FOne; head = HNever }) within
+
+pub placed-individuals : (size : ℕ) (rule : RuleForm) (places : List (Option ℕ)) → ArePlaced size rule [] places
+    → IsOfIndividuals (range_with_len 0 size) rule (assignment_of places)
+placed-individuals size rule places at v free =
+    Contains-range size (assignment_of places v) (placed size (place_of places v) (at v free (Contains-none v)))
+
+met-agreed : (s : LogicalStructure) (a b : Assignment) (head : HeadForm) → ((v : ℕ) → IsInHead v head → b v ≡ a v)
+    → IsHeadMet s a head → IsHeadMet s b head
+met-agreed s a b head same met = at met
+  where
+    values : value s a (head_formula head) ≡ value s b (head_formula head)
+    values = only_free_variables_matter s (head_formula head) a b (λ v free. sym (same v (free-in_head v head free)))
+
+    in-head : (h : HeadForm) (v : ℕ) → IsTwice v h → IsInHead v h
+    in-head HNever v twice = twice
+    in-head (HAtom flag pred vars) v twice = subst (λ vs. Contains vs v) (sym twice) (Contains-here v (v ∷ []))
+    in-head (HSame flag w u) v twice = inl (sym twice.0)
+
+    at : IsHeadMet s a head → IsHeadMet s b head
+    at (inl y) = inl (sym values ∙ y)
+    at (inr may) = inr (record {
+      var = may.var;
+      twice = may.twice;
+      summary = ap s.is_summary (same may.var (in-head head may.var may.twice)) ∙ may.summary;
+      half = sym values ∙ may.half;
+    })
+
+pub tried-here : (s : StructureForm) (rule : RuleForm) (a : Assignment) → IsHeadMet (structure_of s) a rule.head → IsTried s rule [] a
+tried-here s rule a met b goes individuals body =
+    met-agreed (structure_of s) a b rule.head (λ v at. goes v (inr at) (Contains-none v)) met
+
+module _ (s : StructureForm) (rule : RuleForm) (places : List (Option ℕ)) (room : ScratchForm) (can : CanTry rule s room)
+    (at : ArePlaced s.size rule [] places) (body : value (structure_of s) (assignment_of places) rule.body ≡ Yes) where
+  met-below : (u : LogicalStructure) → IsBelow u (structure_of s) → IsStableUnder u rule
+      → IsHeadMet u (assignment_of places) rule.head
+  met-below u below stable =
+      stable (assignment_of places) inside (still (values_are_monotone rule.body u (structure_of s) (assignment_of places) below
+      (λ new. absurd (can.plain.unmarked new)) (λ v free. inside v (inl free))))
+    where
+      inside : IsOfIndividuals u.individuals rule (assignment_of places)
+      inside v free = subst (λ us. Contains us (assignment_of places v)) (sym below.0) (placed-individuals s.size rule places at v free)
+
+      still : LiesUnder (value u (assignment_of places) rule.body) (value (structure_of s) (assignment_of places) rule.body)
+          → value u (assignment_of places) rule.body ≡ Yes
+      still (inl same) = same ∙ body
+      still (inr half) = let clash : Yes ≡ Half = sym body ∙ half in absurd (cc)
+
+  pub hopeless-here : IsNeed s (assignment_of places) rule.head Never → IsHopeless s rule
+  hopeless-here never u below stable = never u below (met-below u below stable)
+
+  pub forced-here : (c : Change) → IsNeed s (assignment_of places) rule.head (Put c) → IsForced s rule c
+  forced-here c need = record {
+    place = need.0;
+    unknown = need.1;
+    of = need.3;
+    forced = λ u below stable. need.2 u below (met-below u below stable);
+  }
+
+-- ---- conjuncts
+
+nesting-one : (f : Form) → All (λ g. nesting g ≤ nesting f) (f ∷ [])
+nesting-one f = All-cons (λ g. nesting g ≤ nesting f) f [] (omega arith) (All-nil (λ g. nesting g ≤ nesting f))
+
+nesting-conjuncts : (f : Form) → All (λ g. nesting g ≤ nesting f) (conjuncts f)
+nesting-conjuncts FZero = nesting-one FZero
+nesting-conjuncts FOne = nesting-one FOne
+nesting-conjuncts (FAtom q vars) = nesting-one (FAtom q vars)
+nesting-conjuncts (FIsNew v) = nesting-one (FIsNew v)
+nesting-conjuncts (FSame v w) = nesting-one (FSame v w)
+nesting-conjuncts (FNot f) = nesting-one (FNot f)
+nesting-conjuncts (FAnd f g) = All-append (λ h. nesting h ≤ nesting (FAnd f g)) (conjuncts f) (conjuncts g)
+    (λ k d within. omega (arith, nesting-conjuncts f k d within)) (λ k d within. omega (arith, nesting-conjuncts g k d within))
+nesting-conjuncts (FOr f g) = nesting-one (FOr f g)
+nesting-conjuncts (FIff f g) = nesting-one (FIff f g)
+nesting-conjuncts (FCond c f g) = nesting-one (FCond c f g)
+nesting-conjuncts (FExists v f) = nesting-one (FExists v f)
+nesting-conjuncts (FForall v f) = nesting-one (FForall v f)
+nesting-conjuncts (FClosure from to left right f) = nesting-one (FClosure from to left right f)
+
+-- none of the variables for which a conjunct doesn't wait is free in it
+not-left : (rest : List ℕ) (d : DueForm) → IsDue rest d → length rest ≤ d.left → (v : ℕ) → Contains rest v → ¬ IsFree v d.form
+not-left [] d due enough v has = absurd (Contains-none v has)
+not-left (w ∷ rest) d due enough v (zero, within, is) =
+    subst (λ x. ¬ IsFree x d.form) is (due.0 (omega (arith, enough)))
+not-left (w ∷ rest) d due enough v (suc k, within, is) =
+    not-left rest d due.1 (omega (arith, enough)) v (k, omega (arith, within), is)
+
+-- what a fact about all conjuncts says of each
+due-formula : (rule : RuleForm) (rest : List ℕ) (ds : List DueForm) → AreDue (conjuncts rule.body) rest ds → (P : Form → Type 0)
+    → All P (conjuncts rule.body) → All (λ d. P d.form) ds
+due-formula rule rest ds due P all =
+    mapped ds (subst (All P) (sym due.are) all)
+  where
+    mapped : (es : List DueForm) → All P (map (λ d. d.form) es) → All (λ d. P d.form) es
+    mapped es each k d within =
+        subst P (get_or-map (λ (e : DueForm). e.form) es k d d.form within) (each k d.form (rw (length-map es (λ (e : DueForm). e.form)) within))
+
+due-assigned : (size : ℕ) (rule : RuleForm) (rest : List ℕ) (places : List (Option ℕ)) (d : DueForm) → IsDue rest d → length rest ≤ d.left
+    → ((v : ℕ) → IsFree v d.form → IsFree v rule.body) → ArePlaced size rule rest places → AreAssigned size places d.form
+due-assigned size rule rest places d due enough free at v is =
+    at v (inl (free v is)) (λ has. not-left rest d due enough v has is)
+
+-- the conjuncts that wait for no more can be valued
+pub walk-values : (s : StructureForm) (rule : RuleForm) (room : ScratchForm) (ds : List DueForm) (rest : List ℕ) (places : List (Option ℕ))
+    → CanTry rule s room → IsWalk rule s ds rest places → All (CanValue s room (length rest) places) ds
+walk-values s rule room ds rest places can walk k d within =
+    let carried = conjuncts_carry_formulas rule.body
+    in record {
+      formula = due-formula rule rest ds walk.due (IsFormulaOver (arities_of s)) (carried.formulas (arities_of s) can.over.body) k d within;
+      fits = record {
+        closures = omega (arith, can.fits.closures, due-formula rule rest ds walk.due (λ g. nesting g ≤ nesting rule.body) (nesting-conjuncts rule.body) k d within);
+        individuals = can.fits.individuals;
+      };
+      assigned = λ here. due-assigned s.size rule rest places (get_or ds k d) (walk.due.due k d within) (omega (arith, here))
+          (due-formula rule rest ds walk.due (λ g. (v : ℕ) → IsFree v g → IsFree v rule.body) carried.free k d within) walk.placed;
+    }
+
+-- ---- a conjunct that isn't Yes gives the assignments up
+module _ (s : StructureForm) (rule : RuleForm) (ds : List DueForm) (rest : List ℕ) (places : List (Option ℕ)) (walk : IsWalk rule s ds rest places) where
+  pub given-up : Any (λ d. (d.left ≡ length rest) × (value (structure_of s) (assignment_of places) d.form ≢ Yes)) ds
+      → IsTried s rule rest (assignment_of places)
+  given-up (k, d, within, is, (here, other)) b goes individuals body =
+      let carried = conjuncts_carry_formulas rule.body
+      in let each : value (structure_of s) b (get_or ds k d).form ≡ Yes
+      = due-formula rule rest ds walk.due (λ g. value (structure_of s) b g ≡ Yes) ((carried.yes (structure_of s) b).0 body) k d within
+      in let free : (v : ℕ) → IsFree v (get_or ds k d).form → IsFree v rule.body
+      = due-formula rule rest ds walk.due (λ g. (v : ℕ) → IsFree v g → IsFree v rule.body) carried.free k d within
+      in absurd (other (only_free_variables_matter (structure_of s) d.form (assignment_of places) b
+      (λ v f. sym (goes v (inl (free v (subst (λ e. IsFree v e.form) (sym is) f)))
+      (λ has. not-left rest d (subst (IsDue rest) is (walk.due.due k d within)) (omega (arith, here)) v has f)))
+      ∙ subst (λ e. value (structure_of s) b e.form ≡ Yes) is each))
+
+-- ---- where all conjuncts are Yes the body is
+pub body-yes : (s : StructureForm) (rule : RuleForm) (ds : List DueForm) (places : List (Option ℕ)) → IsWalk rule s ds [] places
+    → All (λ d. d.left ≡ 0 → value (structure_of s) (assignment_of places) d.form ≡ Yes) ds
+    → value (structure_of s) (assignment_of places) rule.body ≡ Yes
+body-yes s rule ds places walk tests =
+    ((conjuncts_carry_formulas rule.body).yes (structure_of s) (assignment_of places)).1
+    (subst (All P) walk.due.are (All-map P (λ d. d.form) ds (λ k d within. at k d within (get_or ds k d).left refl)))
+  where
+    P : Form → Type 0
+    P g = value (structure_of s) (assignment_of places) g ≡ Yes
+
+    at : (k : ℕ) (d : DueForm) → k < length ds → (n : ℕ) → (get_or ds k d).left ≡ n → P (get_or ds k d).form
+    at k d within zero e = tests k d within e
+    at k d within (suc n) e = walk.tested k d within (omega (arith, e))
+
+-- ---- one variable more
+module _ (s : StructureForm) (rule : RuleForm) (ds : List DueForm) (v : ℕ) (rest : List ℕ) (places new : List (Option ℕ)) (u : ℕ)
+    (walk : IsWalk rule s ds (v ∷ rest) places) (within-size : u < s.size)
+    (placed-new : (w : ℕ) → place_of new w ≡ (if w == v then Some u else place_of places w)) (total : assignment_of new ≡ put (assignment_of places) v u) where
+  pub walk-on : All (λ d. d.left ≡ 1 + length rest → value (structure_of s) (assignment_of places) d.form ≡ Yes) ds
+      → IsWalk rule s ds rest new
+  walk-on tests = record {
+    due = record { are = walk.due.are; due = λ k d within. (walk.due.due k d within).1 };
+    free = All-tail IsFreeInHere v rest walk.free;
+    placed = placed-on;
+    tested = tested-on;
+  }
+    where
+      IsFreeInHere : ℕ → Type 0
+      IsFreeInHere w = IsFreeInRule w rule
+
+      placed-on : ArePlaced s.size rule rest new
+      placed-on w free not-left' = at (cases_eq w v)
+        where
+          there : w ≢ v → Contains (v ∷ rest) w → Contains rest w
+          there ne (zero, within, e) = absurd (ne (sym e))
+          there ne (suc k, within, e) = (k, omega (arith, within), e)
+
+          at : (w ≡ v) ⊎ (w ≢ v) → IsAssigned s.size new w
+          at (inl e) = subst (λ o. IsSomeAnd o (λ x. x < s.size)) (sym (placed-new w ∙ cond-true (w == v) (Some u) (place_of places w) (eq-eqb w v e))) within-size
+          at (inr ne) = subst (λ o. IsSomeAnd o (λ x. x < s.size)) (sym (placed-new w ∙ cond-false (w == v) (Some u) (place_of places w) (ne_eqb w v ne)))
+              (walk.placed w free (λ has. not-left' (there ne has)))
+
+      tested-on : AreYes s (assignment_of new) (1 + length rest) ds
+      tested-on k d within enough = yes-at (cases_eq (get_or ds k d).left (1 + length rest))
+        where
+          same : value (structure_of s) (assignment_of places) (get_or ds k d).form ≡ value (structure_of s) (assignment_of new) (get_or ds k d).form
+          same = only_free_variables_matter (structure_of s) (get_or ds k d).form (assignment_of places) (assignment_of new)
+              (λ w free. sym (ap (λ (a : Assignment). a w) total ∙ put-other (assignment_of places) v u w
+              (λ e. (walk.due.due k d within).0 enough (subst (λ x. IsFree x (get_or ds k d).form) e free))))
+
+          yes-at : ((get_or ds k d).left ≡ 1 + length rest) ⊎ ((get_or ds k d).left ≢ 1 + length rest)
+              → value (structure_of s) (assignment_of new) (get_or ds k d).form ≡ Yes
+          yes-at (inl e) = sym same ∙ tests k d within e
+          yes-at (inr ne) = sym same ∙ walk.tested k d within (omega (arith, enough, ne))
+
+-- what holds for each individual holds for all assignments
+pub tried-each : (s : StructureForm) (rule : RuleForm) (v : ℕ) (rest : List ℕ) (a : Assignment) → IsFreeInRule v rule
+    → ((u : ℕ) → u < s.size → IsTried s rule rest (put a v u)) → IsTried s rule (v ∷ rest) a
+tried-each s rule v rest a free each b goes individuals body =
+    each (b v) (below-range s.size (b v) (individuals v free)) b on individuals body
+  where
+    on : GoesOn rule rest (put a v (b v)) b
+    on w is not-left' = at (cases_eq w v)
+      where
+        at : (w ≡ v) ⊎ (w ≢ v) → b w ≡ put a v (b v) w
+        at (inl e) = ap b e ∙ sym (put-same a v (b v) w e)
+        at (inr ne) = goes w is (λ has. not-left' (there has)) ∙ sym (put-other a v (b v) w ne)
+          where
+            there : Contains (v ∷ rest) w → Contains rest w
+            there (zero, within, e) = absurd (ne (sym e))
+            there (suc k, within, e) = (k, omega (arith, within), e)
+
+-- ---- what a walk tells
+
+none-less : {X : Type 0} (xs ys : List X) → length xs ≤ length ys → ys ≡ [] → xs ≡ []
+none-less [] ys grows none = refl
+none-less (x ∷ xs) ys grows none = absurd (omega (arith, grows, ap length none))
+
+module _ (s : StructureForm) (rule : RuleForm) where
+  pub told-tried : (rest : List ℕ) (a : Assignment) (changes : List Change) → IsTried s rule rest a
+      → IsTold s rule rest a changes changes Possible
+  told-tried rest a changes tried = record { forced = λ all. all; grows = omega arith; tells = λ none. tried }
+
+  pub told-noted : (places : List (Option ℕ)) (room : ScratchForm) (old new : List Change) (outcome : Outcome) → CanTry rule s room
+      → ArePlaced s.size rule [] places → value (structure_of s) (assignment_of places) rule.body ≡ Yes
+      → IsNoted s (assignment_of places) rule.head old new outcome
+      → IsTold s rule [] (assignment_of places) old new outcome
+  told-noted places room old new Possible can at body (inl (same, met)) =
+      subst (λ n. IsTold s rule [] (assignment_of places) old n Possible) (sym same)
+      (told-tried [] (assignment_of places) old (tried-here s rule (assignment_of places) met))
+  told-noted places room old new Possible can at body (inr (c, more, need)) =
+      subst (λ n. IsTold s rule [] (assignment_of places) old n Possible) (sym more) (record {
+        forced = λ all. All-push (IsForced s rule) old c all (forced-here s rule places room can at body c need);
+        grows = rw (length-append old (c ∷ [])) (omega arith);
+        tells = λ none. absurd (omega (arith, ap length none, length-append old (c ∷ [])));
+      })
+  told-noted places room old new Impossible can at body (same, never) = record {
+    forced = subst (All (IsForced s rule)) (sym same);
+    grows = rw same (omega arith);
+    tells = hopeless-here s rule places room can at body never;
+  }
+
+  -- the first individuals were put for the variable
+  pub record IsWalkedUpTo (v : ℕ) (rest : List ℕ) (a : Assignment) (old now : List Change) (count : ℕ) : Type 0 where
+    pub forced : All (IsForced s rule) old → All (IsForced s rule) now
+    pub grows : length old ≤ length now
+    pub tried : now ≡ [] → (u : ℕ) → u < count → IsTried s rule rest (put a v u)
+
+  pub walked-none : (v : ℕ) (rest : List ℕ) (a : Assignment) (old : List Change) → IsWalkedUpTo v rest a old old 0
+  walked-none v rest a old = record { forced = λ all. all; grows = omega arith; tried = λ none u less. absurd (omega (arith, less)) }
+
+  pub walked-more : (v : ℕ) (rest : List ℕ) (a b : Assignment) (old now new : List Change) (count : ℕ) → b ≡ put a v count
+      → IsWalkedUpTo v rest a old now count → IsTold s rule rest b now new Possible → IsWalkedUpTo v rest a old new (count + 1)
+  walked-more v rest a b old now new count is so_far told = record {
+    forced = λ all. told.forced (so_far.forced all);
+    grows = omega (arith, so_far.grows, told.grows);
+    tried = λ none u less. at none u (cases_eq u count) less;
+  }
+    where
+      at : new ≡ [] → (u : ℕ) → (u ≡ count) ⊎ (u ≢ count) → u < count + 1 → IsTried s rule rest (put a v u)
+      at none u (inl e) less = subst (IsTried s rule rest) (is ∙ ap (put a v) (sym e)) (told.tells none)
+      at none u (inr ne) less = so_far.tried (none-less now new told.grows none) u (omega (arith, less, ne))
+
+  pub walked-all : (v : ℕ) (rest : List ℕ) (a : Assignment) (old now : List Change) (count : ℕ) → IsFreeInRule v rule → count ≡ s.size
+      → IsWalkedUpTo v rest a old now count → IsTold s rule (v ∷ rest) a old now Possible
+  walked-all v rest a old now count free whole walked = record {
+    forced = walked.forced;
+    grows = walked.grows;
+    tells = λ none. tried-each s rule v rest a free (λ u less. walked.tried none u (subst (λ n. u < n) (sym whole) less));
+  }
+
+  pub walked-never : (v : ℕ) (rest : List ℕ) (a b : Assignment) (old now new : List Change) (count : ℕ)
+      → IsWalkedUpTo v rest a old now count → IsTold s rule rest b now new Impossible → IsTold s rule (v ∷ rest) a old new Impossible
+  walked-never v rest a b old now new count so_far told = record {
+    forced = λ all. told.forced (so_far.forced all);
+    grows = omega (arith, so_far.grows, told.grows);
+    tells = told.tells;
+  }
+
+take-whole : {X : Type 0} (xs : List X) → take (length xs) xs ≡ xs
+take-whole [] = refl
+take-whole (x ∷ xs) = ap (λ ys. x ∷ ys) (take-whole xs)
+
+-- the first variable and the others
+pub split-vars : (vars : List Var) (d : Var) → 1 ≤ length vars
+    → numbers_of vars ≡ (get_or vars 0 d).0 ∷ numbers_of (take (length vars - 1) (drop 1 vars))
+split-vars [] d some = absurd (omega (arith, some))
+split-vars (v ∷ vars) d some =
+    let same : take (length (v ∷ vars) - 1) vars ≡ vars = ap (λ n. take n vars) (omega arith) ∙ take-whole vars
+    in ap (λ vs. v.0 ∷ numbers_of vs) (sym same)
+
+-- a variable of a rule that can be tried
+pub rule-variable : (rule : RuleForm) (s : StructureForm) (room : ScratchForm) → CanTry rule s room → (v : ℕ) → IsFreeInRule v rule → v < 32
+rule-variable rule s room can v (inl free) = free-in_range (arities_of s) v rule.body can.over.body free
+rule-variable rule s room can v (inr at) = in-head rule.head can.over.head at
+  where
+    in-head : (head : HeadForm) → IsHeadOver (arities_of s) head → IsInHead v head → v < 32
+    in-head HNever over at' = absurd at'
+    in-head (HAtom flag q vars) over at' = All-contains (λ x. x < 32) vars v over.1 at'
+    in-head (HSame flag w u) over (inl e) = subst (λ x. x < 32) (sym e) over.0
+    in-head (HSame flag w u) over (inr e) = subst (λ x. x < 32) (sym e) over.1
+
+pub tail-shorter : (vars : List Var) → 1 ≤ length vars → length (take (length vars - 1) (drop 1 vars)) < length vars
+tail-shorter [] some = absurd (omega (arith, some))
+tail-shorter (v ∷ vars) some =
+    let same : take (length (v ∷ vars) - 1) vars ≡ vars = ap (λ n. take n vars) (omega arith) ∙ take-whole vars
+    in omega (arith, ap length same)
+
+pub none-at : {X : Type 0} (xs : List X) → length xs < 1 → xs ≡ []
+none-at [] few = refl
+none-at (x ∷ xs) few = absurd (omega (arith, few))
+
+pub stays-on : (s : StructureForm) (old now new : Evaluator) → StaysBound s old now → StaysBound s now new → StaysBound s old new
+stays-on s old now new first second = record { bound = second.bound; structure = second.structure; room = second.room ∙ first.room }
+
+-- ---- where the walk begins, and what it tells at the end
+
+pub walk-begins : (s : StructureForm) (rule : RuleForm) (ds : List DueForm) (vars : List Var) (places : List (Option ℕ)) → AreFreeIn rule vars
+    → AreDue (conjuncts rule.body) (numbers_of vars) ds → All (λ d. d.left ≤ length vars) ds → IsWalk rule s ds (numbers_of vars) places
+walk-begins s rule ds vars places free due most = record {
+  due = due;
+  free = λ k d within. (free (get_or (numbers_of vars) k d)).0 (k, within, get_or_default (numbers_of vars) k (get_or (numbers_of vars) k d) d within);
+  placed = λ v is not-left'. absurd (not-left' ((free v).1 is));
+  tested = λ k d within enough. absurd (omega (arith, enough, most k d within, length-map vars (λ (v : Var). v.0)));
+}
+
+pub tried-stable : (s : StructureForm) (rule : RuleForm) (vars : List Var) (a : Assignment) → AreFreeIn rule vars → IsTried s rule (numbers_of vars) a
+    → IsStableUnder (structure_of s) rule
+tried-stable s rule vars a free tried b individuals body =
+    tried b (λ v is not-left'. absurd (not-left' ((free v).1 is))) individuals body
+
+pub can-try : (closed : List Rule) (n : ℕ) (s : StructureForm) (scratch : ScratchForm) → n < length (rules_of closed)
+    → CanCoerce (rules_of closed) s scratch → CanTry (rule_at closed n) s scratch
+can-try closed n s scratch within ready =
+    let none : RuleForm = record { body = FOne; head = HNever }
+    in record { over = ready.over n none within; plain = ready.plain n none within; fits = ready.fits n none within }
+
+pub found-told : (s : StructureForm) (rule : RuleForm) (vars : List Var) (a : Assignment) (old : List Change) (changes : Vec Change Global) (outcome : Outcome)
+    → AreFreeIn rule vars → old ≡ [] → IsTold s rule (numbers_of vars) a old changes.items outcome → IsFound s rule (answer_of outcome changes)
+found-told s rule vars a old changes Impossible free none told = told.tells
+found-told s rule vars a old changes Possible free none told = (
+  told.forced (subst (All (IsForced s rule)) (sym none) (All-nil (IsForced s rule))),
+  λ nothing. tried-stable s rule vars a free (told.tells nothing),
+)

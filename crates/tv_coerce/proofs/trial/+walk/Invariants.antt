@@ -1,0 +1,14 @@
+use Rattle.std.proofs.Common.{length}
+use Rattle.tv_eval.specs.AssignmentForm.{assignment_of}
+use Rattle.tv_rules.specs.EntryForms.{numbers_of}
+use Rattle.tv_coerce.specs.Trying.{StaysBound, trial_rule}
+use Rattle.tv_coerce.proofs.Walking.{IsWalkedUpTo}
+use Rattle.tv_coerce.proofs.trial.+walk.Given as goal
+
+abbrev pub decreases-walk : goal.decreases-walk
+decreases-walk l = length l.rest.now
+
+abbrev pub invariant-loop-u : goal.invariant-loop-u
+invariant-loop-u l =
+    StaysBound l.trial.structure.now l.fn.evaluator l.evaluator
+    × IsWalkedUpTo l.trial.structure.now (trial_rule l.trial) l.v.0 (numbers_of l.rest) (assignment_of l.a) l.fn.changes.items l.changes.items l.u

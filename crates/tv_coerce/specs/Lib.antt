@@ -1,0 +1,9 @@
+pub mod Attempts
+pub mod Changes
+pub mod Coerced
+pub mod Laws
+pub mod Ready
+pub mod RuleSets
+pub mod Sharpened
+pub mod Touched
+pub mod Trying

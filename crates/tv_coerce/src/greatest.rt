@@ -1,0 +1,86 @@
+//! The greatest stable structure below a structure.
+
+ghost use Rattle.std.specs.Prelude.{◌≡◌, Some, length, IfOk};
+ghost use Rattle.tv_stable.specs.Stable.{IsStable};
+ghost use Rattle.tv_struct.specs.StructureForm.{structure_of};
+ghost use Rattle.tv_rules.specs.EntryForms.{rules_of};
+ghost use Rattle.tv_coerce.specs.Attempts.{IsEnd, IsOnTheWay};
+ghost use Rattle.tv_coerce.specs.Coerced.{CoercesTo, CoercesHeaps};
+ghost use Rattle.tv_coerce.specs.Ready.{CanCoerce};
+ghost use Rattle.tv_coerce.specs.RuleSets.{IsStableBut};
+
+use crate::attempt::{Attempt, try_rule};
+use crate::rule_set::RuleSet;
+use std::alloc::{AllocError, Global};
+use tv_eval::Scratch;
+use tv_rules::Closed;
+use tv_struct::Structure;
+
+/// Tries the rules that wait, and those that see what these change, until none waits. False where no stable
+/// structure lies below.
+fn settle(
+    alloc: Global,
+    closed: &Closed,
+    t: &mut Structure,
+    waiting: &mut RuleSet,
+    scratch: &mut Scratch,
+) -> Result<bool, AllocError>
+    requires ready { CanCoerce (rules_of closed.now) t.old scratch.old }
+    requires begun { IsOnTheWay (rules_of closed.now) waiting.old t.old t.old }
+    ensures settled { IfOk result (IsEnd (rules_of closed.now) t.old t.new) }
+    ensures scratch { scratch.new ≡ scratch.old }
+{
+    while let Some(number) = waiting.take() {
+        match try_rule(alloc, closed, number, t, scratch)? {
+            Attempt::Stable => {}
+            Attempt::Sharper => waiting.add_watching(closed, closed.head(number)),
+            Attempt::Hopeless => return Ok(false),
+        }
+    }
+    Ok(true)
+}
+
+/// The greatest structure below `s` that is stable under the closed rules, with the mark of `s`: each stable
+/// structure below `s` lies below it. `None` where no stable structure lies below `s`. Each heap, of any size,
+/// that meets the rules and embeds in `s` embeds in the answer. The only error is want of memory.
+pub fn coerce(
+    alloc: Global,
+    closed: &Closed,
+    s: &Structure,
+    scratch: &mut Scratch,
+) -> Result<Option<Structure>, AllocError>
+    requires { CanCoerce (rules_of closed.now) s.now scratch.old }
+    ensures exact { IfOk result (CoercesTo (rules_of closed.now) s.now) }
+    ensures heaps { IfOk result (CoercesHeaps (rules_of closed.now) s.now) }
+    ensures again { IsStable (rules_of closed.now) (structure_of s.now) → IfOk result (λ found. found ≡ Some s.now) }
+    ensures scratch { scratch.new ≡ scratch.old }
+{
+    let all = RuleSet::of_all(alloc, closed)?;
+    coerce_waiting(alloc, closed, s, &all, scratch)
+}
+
+/// What `coerce` gives, where `s` is known to be stable under each rule whose number isn't waiting: only those
+/// that wait are tried, and those that see what these change.
+pub fn coerce_waiting(
+    alloc: Global,
+    closed: &Closed,
+    s: &Structure,
+    waiting: &RuleSet,
+    scratch: &mut Scratch,
+) -> Result<Option<Structure>, AllocError>
+    requires ready { CanCoerce (rules_of closed.now) s.now scratch.old }
+    requires count { length waiting.now ≡ length (rules_of closed.now) }
+    requires rest { IsStableBut (rules_of closed.now) waiting.now s.now }
+    ensures exact { IfOk result (CoercesTo (rules_of closed.now) s.now) }
+    ensures heaps { IfOk result (CoercesHeaps (rules_of closed.now) s.now) }
+    ensures again { IsStable (rules_of closed.now) (structure_of s.now) → IfOk result (λ found. found ≡ Some s.now) }
+    ensures scratch { scratch.new ≡ scratch.old }
+{
+    let mut waiting = waiting.copy(alloc)?;
+    let mut t = s.copy(alloc)?;
+    if settle(alloc, closed, &mut t, &mut waiting, scratch)? {
+        Ok(Some(t))
+    } else {
+        Ok(None)
+    }
+}

@@ -1,0 +1,19 @@
+//! Coerce: the greatest stable structure below a structure, in which rules have made values definite (Sagiv,
+//! Reps and Wilhelm 2002, section 6.4). What is stable is defined in `tv_stable`.
+#![tactic(auto)]
+
+mod attempt;
+mod change;
+mod due;
+mod finding;
+mod greatest;
+mod laws;
+mod lower;
+mod need;
+mod rule_set;
+mod sharpen;
+mod trial;
+
+pub use greatest::{coerce, coerce_waiting};
+pub use laws::{closed_rules_can_be_tried, coercing_is_determined, coercing_loses_no_heap};
+pub use rule_set::RuleSet;

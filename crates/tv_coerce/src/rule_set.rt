@@ -1,0 +1,154 @@
+//! Sets of numbers of rules.
+
+ghost use Rattle.std.specs.Prelude.{◌≡◌, ◌<◌, ◌≤◌, ◌≢◌, ℕ, false, true, length, replicate, slice_index_or, slice_set, All, Contains, IfOk, IsTrue, ◌↔◌, MatchOption};
+ghost use Rattle.tv_model.specs.Program.{head_of};
+ghost use Rattle.tv_rules.specs.EntryForms.{rules_of};
+ghost use Rattle.tv_rules.specs.Standing.{StandsIn, SeesSummaries};
+ghost use Rattle.tv_coerce.specs.RuleSets.{IsIn, IsRuleThat, HasMore, HasLost};
+ghost use Rattle.tv_coerce.specs.Touched.{Sees};
+
+use std::alloc::{AllocError, Global};
+use std::marker::Model;
+use tv_model::{Head, PredId};
+use tv_rules::Closed;
+
+/// A set of numbers of closed rules, seen by contracts as a flag for each number.
+#[derive(Debug, Drop)]
+pub struct RuleSet {
+    flags: Vec<bool>,
+    /// A number below which none is in the set.
+    first: usize,
+}
+
+impl Model for RuleSet {
+    ghost use Rattle.std.specs.Prelude.{ℕ, List, Bool, ◌<◌, ◌≤◌, length};
+    ghost use Rattle.tv_coerce.specs.RuleSets.{BeginsAt};
+
+    ghost Value = { List Bool };
+
+    ghost view = { λ s. s.flags.items };
+
+    ghost invariant = { λ s. BeginsAt s.first s.flags.items };
+}
+
+/// The first place at or after `from` whose flag is true.
+fn next_true(flags: &[bool], from: usize) -> Option<usize>
+    ensures { MatchOption result
+        ((n : ℕ) → from ≤ n → ¬ IsIn flags.now n)
+        (λ k. (k < length flags.now) × IsIn flags.now k × ((n : ℕ) → from ≤ n → n < k → ¬ IsIn flags.now n)) }
+{
+    for n in from..flags.len() {
+        if flags[n] {
+            return Some(n);
+        }
+    }
+    None
+}
+
+impl RuleSet {
+    /// No rules, of those that are closed.
+    pub fn of_none(alloc: Global, closed: &Closed) -> Result<RuleSet, AllocError>
+        ensures { IfOk result (λ set. set ≡ replicate (length (rules_of closed.now)) false) }
+    {
+        Ok(RuleSet {
+            flags: vec![in alloc; false; closed.count()]?,
+            first: 0,
+        })
+    }
+
+    /// All rules of those that are closed.
+    pub fn of_all(alloc: Global, closed: &Closed) -> Result<RuleSet, AllocError>
+        ensures { IfOk result (λ set. set ≡ replicate (length (rules_of closed.now)) true) }
+    {
+        Ok(RuleSet {
+            flags: vec![in alloc; true; closed.count()]?,
+            first: 0,
+        })
+    }
+
+    /// An equal set in memory of its own.
+    pub fn copy(&self, alloc: Global) -> Result<RuleSet, AllocError>
+        ensures { IfOk result (λ set. set ≡ self.now) }
+    {
+        Ok(RuleSet {
+            flags: Vec::from_slice(alloc, self.flags.as_slice())?,
+            first: self.first,
+        })
+    }
+
+    /// Whether the number is in the set.
+    pub fn contains(&self, number: usize) -> bool
+        ensures { IsTrue result ↔ IsIn self.now number }
+    {
+        number < self.flags.len() && self.flags[number]
+    }
+
+    /// Puts the number into the set.
+    pub fn insert(&mut self, number: usize)
+        requires { number < length self.old }
+        ensures { HasMore (λ n. n ≡ number) self.old self.new }
+    {
+        self.flags[number] = true;
+        self.first = self.first.min(number);
+    }
+
+    /// Puts the numbers into the set.
+    #[tactic(auto, using(crate::proofs::SetLaws::more_none, crate::proofs::SetLaws::more_next))]
+    fn insert_all(&mut self, numbers: &[usize])
+        requires { All (λ n. n < length self.old) numbers.now }
+        ensures { HasMore (Contains numbers.now) self.old self.new }
+    {
+        match numbers {
+            [] => {}
+            [number, rest @ ..] => {
+                self.insert(*number);
+                self.insert_all(rest);
+            }
+        }
+    }
+
+    /// Puts the rules in which the predicate stands into the set: those that a change of its values may make
+    /// unmet.
+    pub fn add_pred(&mut self, closed: &Closed, p: PredId)
+        requires { length self.old ≡ length (rules_of closed.now) }
+        ensures { HasMore (IsRuleThat (StandsIn p.0) (rules_of closed.now)) self.old self.new }
+    {
+        self.insert_all(closed.by_pred(p));
+    }
+
+    /// Puts the rules that see what is a summary into the set.
+    pub fn add_seeing(&mut self, closed: &Closed)
+        requires { length self.old ≡ length (rules_of closed.now) }
+        ensures { HasMore (IsRuleThat SeesSummaries (rules_of closed.now)) self.old self.new }
+    {
+        self.insert_all(closed.by_sm());
+    }
+
+    /// Puts the rules into the set that see what a rule with this head may change.
+    pub(crate) fn add_watching(&mut self, closed: &Closed, head: Head)
+        requires { length self.old ≡ length (rules_of closed.now) }
+        ensures { HasMore (IsRuleThat (Sees (head_of head)) (rules_of closed.now)) self.old self.new }
+    {
+        match head {
+            Head::Never => {}
+            Head::Atom(_, p, _) => self.add_pred(closed, p),
+            Head::Same(_, _, _) => self.add_seeing(closed),
+        }
+    }
+
+    /// Takes the least number out of the set, if there is one.
+    pub(crate) fn take(&mut self) -> Option<usize>
+        ensures { MatchOption result
+            (((n : ℕ) → ¬ IsIn self.old n) × (self.new ≡ self.old))
+            (λ n. (n < length self.old) × HasLost n self.old self.new) }
+    {
+        match next_true(self.flags.as_slice(), self.first) {
+            None => None,
+            Some(n) => {
+                self.flags[n] = false;
+                self.first = n + 1;
+                Some(n)
+            }
+        }
+    }
+}

@@ -1,0 +1,135 @@
+//! A rule is tried on a structure: its variables get individuals one after the other, and what has to change
+//! is noted.
+
+ghost use Rattle.std.specs.Prelude.{◌≡◌, ◌≢◌, ◌<◌, ◌≤◌, ◌+◌, ℕ, [], ◌∷◌, length, map, All, IfOk, MatchBool};
+ghost use Rattle.tv_eval.specs.AssignmentForm.{assignment_of};
+ghost use Rattle.tv_eval.specs.Bound.{IsBound, bound_structure, bound_room};
+ghost use Rattle.tv_rules.specs.EntryForms.{numbers_of, rules_of};
+ghost use Rattle.tv_struct.specs.StructureForm.{arities_of};
+ghost use Rattle.tv_coerce.specs.Ready.{IsRuleOver};
+ghost use Rattle.tv_kleene.specs.declared.K3.TheVariants.{Yes};
+ghost use Rattle.tv_coerce.specs.Trying.{ArePlaced, CanTry, CanValue, FailsAt, IsNoted, IsTold, IsWalk, PassesAt, StaysBound, Tests, due_of, dues_of, trial_rule};
+
+use crate::change::{Change, Need};
+use crate::due::Due;
+use crate::need::need;
+use std::alloc::AllocError;
+use tv_eval::{Assignment, Evaluator};
+use tv_kleene::K3;
+use tv_model::Var;
+use tv_rules::Closed;
+use tv_struct::Structure;
+
+/// A rule, by its number, and the structure that it is tried on.
+#[derive(Clone, Copy)]
+pub(crate) struct Trial<'a> {
+    pub structure: &'a Structure,
+    pub closed: &'a Closed,
+    pub number: usize,
+}
+
+/// Whether a structure below can be stable under the rule.
+#[derive(Clone, Copy, Debug, PartialEq, Eq)]
+pub(crate) enum Outcome {
+    Possible,
+    Impossible,
+}
+
+/// Whether the conjunct is `Yes`, if it waits for all but so many of the variables.
+fn passes<'a>(
+    s: &Structure,
+    evaluator: &mut Evaluator<'a>,
+    due: &Due<'a>,
+    left: usize,
+    a: &Assignment,
+) -> bool
+    requires bound { IsBound evaluator.old }
+    requires structure { bound_structure evaluator.old ≡ s.now }
+    requires value { CanValue s.now (bound_room evaluator.old) left a.now (due_of due.now) }
+    ensures passes { MatchBool result (PassesAt s.now (assignment_of a.now) left (due_of due.now)) (FailsAt s.now (assignment_of a.now) left (due_of due.now)) }
+    ensures stays { StaysBound s.now evaluator.old evaluator.new }
+{
+    due.left != left || is_yes(evaluator.value(due.formula, a))
+}
+
+fn is_yes(k: K3) -> bool
+    ensures { MatchBool result (k ≡ Yes) (k ≢ Yes) }
+{
+    k == K3::Yes
+}
+
+/// Whether all conjuncts are `Yes` that wait for all but so many of the variables.
+fn are_yes<'a>(
+    s: &Structure,
+    evaluator: &mut Evaluator<'a>,
+    conjuncts: &[Due<'a>],
+    left: usize,
+    a: &Assignment,
+) -> bool
+    requires bound { IsBound evaluator.old }
+    requires structure { bound_structure evaluator.old ≡ s.now }
+    requires values { All (CanValue s.now (bound_room evaluator.old) left a.now) (dues_of conjuncts.now) }
+    ensures tests { Tests s.now (assignment_of a.now) left (dues_of conjuncts.now) result }
+    ensures stays { StaysBound s.now evaluator.old evaluator.new }
+{
+    for due in conjuncts {
+        if !passes(s, evaluator, due, left, a) {
+            return false;
+        }
+    }
+    true
+}
+
+/// Notes what the head needs under the assignment, under which the body is `Yes`.
+fn note(trial: &Trial, a: &Assignment, changes: &mut Vec<Change>) -> Result<Outcome, AllocError>
+    requires number { trial.now.number < length (rules_of trial.now.closed.now) }
+    requires head { IsRuleOver (arities_of trial.now.structure.now) (trial_rule trial.now) }
+    requires placed { ArePlaced trial.now.structure.now.size (trial_rule trial.now) [] a.now }
+    ensures noted { IfOk result (IsNoted trial.now.structure.now (assignment_of a.now) (trial_rule trial.now).head
+        changes.old.items changes.new.items) }
+{
+    match need(trial.structure, trial.closed.head(trial.number), a) {
+        Need::Nothing => Ok(Outcome::Possible),
+        Need::Never => Ok(Outcome::Impossible),
+        Need::Put(change) => {
+            changes.push(change)?;
+            Ok(Outcome::Possible)
+        }
+    }
+}
+
+/// Tries the rule under each assignment of the variables that are left, and notes what has to change.
+pub(crate) fn walk<'a>(
+    trial: &Trial<'a>,
+    evaluator: &mut Evaluator<'a>,
+    conjuncts: &[Due<'a>],
+    rest: &[Var],
+    a: &Assignment,
+    changes: &mut Vec<Change>,
+) -> Result<Outcome, AllocError>
+    requires number { trial.now.number < length (rules_of trial.now.closed.now) }
+    requires bound { IsBound evaluator.old }
+    requires structure { bound_structure evaluator.old ≡ trial.now.structure.now }
+    requires ready { CanTry (trial_rule trial.now) trial.now.structure.now (bound_room evaluator.old) }
+    requires walk { IsWalk (trial_rule trial.now) trial.now.structure.now (dues_of conjuncts.now) (numbers_of rest.now) a.now }
+    ensures told { IfOk result (IsTold trial.now.structure.now (trial_rule trial.now) (numbers_of rest.now) (assignment_of a.now)
+        changes.old.items changes.new.items) }
+    ensures stays { StaysBound trial.now.structure.now evaluator.old evaluator.new }
+{
+    if !are_yes(trial.structure, evaluator, conjuncts, rest.len(), a) {
+        return Ok(Outcome::Possible);
+    }
+    match rest {
+        [] => note(trial, a, changes),
+        [v, rest @ ..] => {
+            for u in 0..trial.structure.size() {
+                let with = a.with(*v, u);
+                match walk(trial, evaluator, conjuncts, rest, &with, changes)? {
+                    Outcome::Possible => {}
+                    Outcome::Impossible => return Ok(Outcome::Impossible),
+                }
+            }
+            Ok(Outcome::Possible)
+        }
+    }
+}
