@@ -27,6 +27,11 @@ returns-then-branch-clause-again c stable =
     (end-found (rules_of c.args.closed.now) c.args.s.now c.in_ok-t.t c.settle.new.t c.in_ok-settle.field-0
     c.in_ok-settle.ensures.settled c.in_ok-t.ensures.value c.if-branch.true)
 
+pub returns-clause-exact : goal.returns-clause-exact
+returns-clause-exact c =
+    end-none (rules_of c.args.closed.now) c.args.s.now c.in_ok-t.t c.settle.new.t c.in_ok-settle.field-0
+    c.in_ok-settle.ensures.settled c.in_ok-t.ensures.value c.if-branch.false
+
 pub returns-clause-heaps : goal.returns-clause-heaps
 returns-clause-heaps c =
     coercing_loses_no_heap (rules_of c.args.closed.now) c.args.s.now None c.requires.ready.plain
