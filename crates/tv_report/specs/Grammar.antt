@@ -38,8 +38,11 @@ IsNode ts node rest = (us vs ws xs : List SpecToken)
     × AreStructures xs node.structures rest
 
 -- `1` or `1/2`
+abbrev pub value_spelled : List ℕ → Option K3
+value_spelled w = if bytes_eq w (codes "1") then Some Yes else (if bytes_eq w (codes "1/2") then Some Half else None)
+
 abbrev pub message_value : SpecToken → Option K3
-message_value t = if bytes_eq t.bytes (codes "1") then Some Yes else (if bytes_eq t.bytes (codes "1/2") then Some Half else None)
+message_value t = value_spelled t.bytes
 
 abbrev pub IsMessage : List SpecToken → MessageLine → List SpecToken → Type 0
 IsMessage ts line rest = (us vs ws xs : List SpecToken) × (text : List ℕ)

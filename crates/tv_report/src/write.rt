@@ -16,8 +16,8 @@ use crate::program::message;
 use itoa::Buffer;
 use std::alloc::{AllocError, Global};
 use tv_kleene::K3;
-use tv_model::{Program, Vocab};
 use tv_listing::{Analysis, Item, Listing, MapLine, MessageLine};
+use tv_model::{Program, Vocab};
 use tv_tvs::append_tvs;
 
 fn write_number(out: &mut Vec<u8>, n: u64) -> Result<(), AllocError>
