@@ -7,8 +7,8 @@ source "$(dirname "$0")/scratch.sh"
 last=$(git log -n 1 --diff-filter=D --format=%H -- crates/tv_struct/src/plane.rt)
 [ -n "$last" ] || { echo "the history has no table of nested lists"; exit 1; }
 mkdir "$scratch/old" && git archive "$last^" | tar -x -C "$scratch/old"
-copy_crates tv_kleene tv_row tv_model tv_frame tv_struct
-echo 'measure: tv_kleene tv_model tv_struct' >>"$scratch/crates.txt"
+copy_crates tv_kleene tv_row tv_model tv_frame tv_struct tv_listing
+echo 'measure: tv_kleene tv_listing tv_model tv_struct' >>"$scratch/crates.txt"
 cat >"$scratch/crates/measure/src/main.rt" <<'MAIN'
 // How long copies of structures and their adding to a listing take.
 #![tactic(auto)]
@@ -17,8 +17,9 @@ use std::alloc::{AllocError, Global};
 use std::io;
 use std::time::CpuClock;
 use tv_kleene::K3;
+use tv_listing::Listing;
 use tv_model::{Items, Kind, Pred, PredId, Props, Vocab};
-use tv_struct::{Listing, Structure, Tuple};
+use tv_struct::{Structure, Tuple};
 
 const NO_PROPS: Props = Props {
     unique: false,
@@ -81,7 +82,8 @@ fn main(rt: HostRuntime) -> io::Result<()> {
 }
 MAIN
 mkdir -p "$scratch/old/crates/measure/src"
-cp "$scratch/crates/measure/src/main.rt" "$scratch/old/crates/measure/src/"
+# there the listing stood in tv_struct
+sed -e 's/^use tv_listing::Listing;$/use tv_struct::Listing;/' "$scratch/crates/measure/src/main.rt" >"$scratch/old/crates/measure/src/main.rt"
 echo 'measure: tv_kleene tv_model tv_struct' >>"$scratch/old/crates.txt"
 run() { # run FOLDER: the times, a line each
   (cd "$1/crates/measure" && rt try >"$scratch/log" 2>&1) || { tail -n 20 "$scratch/log"; exit 1; }
