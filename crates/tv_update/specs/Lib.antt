@@ -1,0 +1,4 @@
+pub mod Plan
+pub mod Rows
+pub mod Update
+pub mod Updated

@@ -1,0 +1,113 @@
+//! The updates of an action, made in a structure.
+
+ghost use Rattle.std.specs.Prelude.{◌≡◌, ◌<◌, ◌≤◌, Some, None, length, map, OnOk, IfOk, if◌then◌else◌};
+ghost use Rattle.std.specs.List.{AllByRecursion};
+ghost use Rattle.tv_model.specs.Program.{UpdateForm, program_of, update_of};
+ghost use Rattle.tv_struct.specs.StructureForm.{IsOver};
+ghost use Rattle.tv_eval.specs.AssignmentForm.{assignment_of};
+ghost use Rattle.tv_eval.specs.Bound.{IsBound, bound_structure, bound_room};
+ghost use Rattle.tv_applied.specs.Applied.{used_update, kind_at, updated_value};
+ghost use Rattle.tv_update.specs.Rows.{HasRows, IsLike, change_rows};
+ghost use Rattle.tv_update.specs.Updated.{AreMade, CanMake};
+
+use crate::application::Application;
+use crate::rows::Rows;
+use std::alloc::AllocError;
+use tv_eval::{Assignment, Evaluator};
+use tv_model::{Change, Kind, Mode, PredId, Program, Update};
+use tv_struct::Structure;
+
+/// Whether updates of the predicate count: those of defined predicates don't where these are evaluated anew.
+fn counts(program: &Program, mode: Mode, p: PredId) -> bool
+    requires { p.0 < length program.now.vocab.preds }
+    ensures { (w : UpdateForm) → used_update mode (kind_at (program_of program.now) p.0) (Some w)
+        ≡ (if result then Some w else None) }
+{
+    match mode {
+        Mode::Given => true,
+        Mode::Recompute => matches!(program.vocab.preds.as_slice()[p.0 as usize].kind, Kind::Core),
+    }
+}
+
+/// Holds the values that the update gives in the evaluator's structure.
+fn fill_change<'a>(
+    e: &mut Evaluator<'a>,
+    picks: &Assignment,
+    w: &'a Update,
+    rows: &mut Rows,
+) -> Result<(), AllocError>
+    requires bound { IsBound e.old }
+    requires can { CanMake (bound_structure e.old) picks.now (bound_room e.old) (update_of w.now) }
+    requires size { (rows.old.size ≡ (bound_structure e.old).size) × (rows.old.size ≤ 256) }
+    ensures values { OnOk result (rows.new.rows.items ≡ change_rows (bound_structure e.old) (assignment_of picks.now)
+        (update_of w.now).vars (update_of w.now).change) }
+    ensures size { rows.new.size ≡ rows.old.size }
+    ensures bound { IsBound e.new }
+    ensures structure { bound_structure e.new ≡ bound_structure e.old }
+    ensures room { bound_room e.new ≡ bound_room e.old }
+{
+    match &w.change {
+        Change::Free => rows.fill_half(w.vars),
+        Change::To(f) => rows.fill(e, w.vars, f, picks),
+    }
+}
+
+/// Makes one update in `t`: its predicate gets the values that the evaluator has for it.
+#[tactic(auto, using(crate::proofs::RowLaws::change_rows_are_rows, crate::proofs::RowLaws::few_vars))]
+fn make<'a>(
+    e: &mut Evaluator<'a>,
+    picks: &Assignment,
+    w: &'a Update,
+    t: &mut Structure,
+    rows: &mut Rows,
+) -> Result<(), AllocError>
+    requires bound { IsBound e.old }
+    requires can { CanMake (bound_structure e.old) picks.now (bound_room e.old) (update_of w.now) }
+    requires like { IsLike (bound_structure e.old) t.old }
+    requires size { rows.old.size ≡ t.old.size }
+    ensures made { OnOk result (HasRows t.old t.new w.now.pred.0 (length (update_of w.now).vars)
+        (change_rows (bound_structure e.old) (assignment_of picks.now) (update_of w.now).vars (update_of w.now).change)) }
+    ensures size { rows.new.size ≡ rows.old.size }
+    ensures bound { IsBound e.new }
+    ensures structure { bound_structure e.new ≡ bound_structure e.old }
+    ensures room { bound_room e.new ≡ bound_room e.old }
+{
+    let _ = t.size();
+    fill_change(e, picks, w, rows)?;
+    rows.put(t, w.pred, w.vars);
+    Ok(())
+}
+
+/// Makes the updates that count in `t`, all read in the evaluator's structure.
+#[tactic(auto, using(crate::proofs::RowLaws::few_vars, crate::proofs::Made::none_made, crate::proofs::Made::passed_over, crate::proofs::Made::one_more_made))]
+pub fn make_all<'a>(
+    applied: &Application<'a>,
+    e: &mut Evaluator<'a>,
+    updates: &'a [Update],
+    t: &mut Structure,
+    rows: &mut Rows,
+) -> Result<(), AllocError>
+    requires bound { IsBound e.old }
+    requires over { IsOver applied.now.program.now.vocab (bound_structure e.old) }
+    requires can { AllByRecursion (λ w. CanMake (bound_structure e.old) applied.now.picks.now (bound_room e.old) (update_of w)) updates.now }
+    requires like { IsLike (bound_structure e.old) t.old }
+    requires size { rows.old.size ≡ t.old.size }
+    ensures made { OnOk result (AreMade (program_of applied.now.program.now) applied.now.mode (bound_structure e.old)
+        (assignment_of applied.now.picks.now) (map update_of updates.now) t.old t.new) }
+    ensures size { rows.new.size ≡ rows.old.size }
+    ensures bound { IsBound e.new }
+    ensures structure { bound_structure e.new ≡ bound_structure e.old }
+    ensures room { bound_room e.new ≡ bound_room e.old }
+{
+    match updates {
+        [] => Ok(()),
+        [w, rest @ ..] => {
+            make_all(applied, e, rest, t, rows)?;
+            if counts(applied.program, applied.mode, w.pred) {
+                make(e, applied.picks, w, t, rows)
+            } else {
+                Ok(())
+            }
+        }
+    }
+}
