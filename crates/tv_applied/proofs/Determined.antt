@@ -11,27 +11,17 @@ use Rattle.tv_model.specs.Program.{ProgramForm, PredForm, KindForm, KCore, KDefi
 use Rattle.tv_model.specs.Rules.{blank}
 use Rattle.tv_model.specs.Truth.{Assignment, put_all}
 use Rattle.tv_model.specs.Valid.{IsValid, IsKind, IsRank}
-use Rattle.tv_model.proofs.Programs.{pred-cases}
 use Rattle.tv_model.proofs.Decided.{Contains-decided}
 use Rattle.tv_frame.specs.LogicalStructure.{LogicalStructure}
 use Rattle.tv_value.specs.Value.{value}
 use Rattle.tv_value.specs.Laws.{Renames, TakesAlong}
 use Rattle.tv_value.proofs.Embedded.{GoesTo, values_are_kept}
-use Rattle.tv_applied.specs.Applied.{defined_value, kind_or_core, kind_at, update_at, IsChanged, AreChanged, new_value, IsNew}
+use Rattle.tv_applied.specs.Applied.{defined_value, kind_at, update_at, IsChanged, AreChanged, new_value, IsNew}
 use Rattle.tv_applied.specs.Laws.{NewStructuresAreDetermined}
 use Rattle.tv_applied.proofs.Filters.{kept-origin, kept-new}
 use Rattle.tv_applied.proofs.Facts.{tuple-agreed}
 use Rattle.tv_applied.proofs.Puts.{put_all-goes}
-use Rattle.tv_applied.proofs.Ranks.{kind-found, valid-pred}
-
--- a predicate with a definition is one of the program
-pub defined-found : (p : ProgramForm) (q : ℕ) (vars : List ℕ) (body : Form) → kind_at p q ≡ KDefined vars body
-    → (d : PredForm) × (slice_get p.preds q ≡ Some d) × (d.kind ≡ KDefined vars body)
-defined-found p q vars body kind =
-    ⊎_elim
-    (λ found. (found.0, found.1, sym (kind-found p q found.0 found.1) ∙ kind))
-    (λ none. let clash : KCore ≡ KDefined vars body = sym (ap kind_or_core none) ∙ kind in absurd (cc))
-    (pred-cases p q)
+use Rattle.tv_applied.proofs.Predicates.{valid-pred, defined-found}
 
 -- ---- the changed predicates are determined
 

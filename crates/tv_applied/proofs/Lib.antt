@@ -9,8 +9,8 @@ pub mod OneTables
 pub mod Picked
 pub mod Picks
 pub mod Preconditions
+pub mod Predicates
 pub mod Puts
-pub mod Ranks
 pub mod Tables
 pub mod Updates
 -- Proofs of this crate's own laws.
@@ -21,3 +21,4 @@ mod Made
 mod Middle
 mod News
 mod Passing
+mod Ranks

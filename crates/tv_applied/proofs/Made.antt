@@ -18,8 +18,8 @@ use Rattle.tv_value.proofs.Embedded.{values_are_local}
 use Rattle.tv_applied.specs.Applied.{kind_at, update_at, MovesIndividuals, IsChanged, AreChanged, new_value, IsNew}
 use Rattle.tv_applied.specs.Laws.{EachChoiceHasNewStructure}
 use Rattle.tv_applied.proofs.Puts.{put_all-goes}
-use Rattle.tv_applied.proofs.Ranks.{valid-pred}
-use Rattle.tv_applied.proofs.Determined.{defined-found, same-bools}
+use Rattle.tv_applied.proofs.Predicates.{valid-pred, defined-found}
+use Rattle.tv_applied.proofs.Determined.{same-bools}
 
 -- ---- changed predicates, in stages
 

@@ -33,7 +33,8 @@ use Rattle.tv_applied.proofs.Middle.{Growing, fresh-embeds}
 use Rattle.tv_applied.proofs.Puts.{put_all-goes}
 use Rattle.tv_applied.proofs.Passing.{IsStill, Passing, after, kept_above, kept-image, kept-preimage, choice, kept-lies, misfit-no, updated-lies}
 use Rattle.tv_applied.proofs.Updates.{used-core, UpdateOf, update-of}
-use Rattle.tv_applied.proofs.Ranks.{kind-found, valid-pred, core-kept, Resting, rests}
+use Rattle.tv_applied.proofs.Predicates.{kind-found, valid-pred}
+use Rattle.tv_applied.proofs.Ranks.{core-kept, Resting, rests}
 
 -- the new structure of the choice
 abbrev pub Made : Passing → LogicalStructure → Type 0

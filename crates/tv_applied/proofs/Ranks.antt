@@ -1,25 +1,19 @@
 -- Defined predicates: those that a step doesn't change, and, by induction on ranks, those that it does.
-use Rattle.std.proofs.Common.{ℕ, ◌≡◌, ◌<◌, ◌⊎◌, ◌↔◌, Bool, true, false, List, Option, None, Some, slice_get, inl, inr, ⊎_elim, refl, sym, ap, subst, ◌∙◌, All, Contains, IsTrue, arith, zero, suc}
+use Rattle.std.proofs.Common.{ℕ, ◌≡◌, ◌<◌, ◌⊎◌, ◌↔◌, Bool, true, false, List, Option, None, Some, slice_get, inl, inr, ⊎_elim, refl, sym, subst, ◌∙◌, All, Contains, IsTrue, arith, zero, suc}
 use Rattle.std.proofs.lemmas.Bool.{false≢true}
-use Rattle.std.proofs.lemmas.Option.{slice_get_within, get_or_from_slice_get}
 use Rattle.tv_model.proofs.Truths.{Truth-local}
 use Rattle.tv_model.specs.Form.{Form, Mentions}
 use Rattle.tv_model.specs.Heap.{Heap, Holds, IsTuple}
-use Rattle.tv_model.specs.Program.{ProgramForm, PredForm, KindForm, KCore, KDefined, UpdateForm}
+use Rattle.tv_model.specs.Program.{PredForm, KindForm, KCore, KDefined, UpdateForm}
 use Rattle.tv_model.specs.Rules.{MeetsDefinition, blank}
 use Rattle.tv_model.specs.Step.{update_for, FollowsUpdate}
 use Rattle.tv_model.specs.Truth.{Truth, put_all}
-use Rattle.tv_model.specs.Valid.{IsValid, IsPred, IsKind}
+use Rattle.tv_model.specs.Valid.{IsValid, IsKind}
 use Rattle.tv_model.proofs.Programs.{pred-cases, kind-cases, holds-nothing, holds-fits}
-use Rattle.tv_applied.specs.Applied.{used_update, kind_or_core, kind_at, IsChanged, AreChanged}
+use Rattle.tv_applied.specs.Applied.{used_update, kind_at, IsChanged, AreChanged}
+use Rattle.tv_applied.proofs.Predicates.{kind-found, valid-pred}
 use Rattle.tv_applied.proofs.Passing.{IsStill, Passing}
 use Rattle.tv_applied.proofs.Updates.{used-core}
-
--- ---- what is known of a predicate by its kind
-
-pub kind-found : (p : ProgramForm) (q : ℕ) (d : PredForm) → slice_get p.preds q ≡ Some d
-    → kind_at p q ≡ d.kind
-kind-found p q d found = ap kind_or_core found
 
 changed-as : (c : Passing) (changed : ℕ → Bool) → AreChanged c.p c.mode c.action changed
     → (q : ℕ) (kind : KindForm) → kind_at c.p q ≡ kind
@@ -31,12 +25,6 @@ changed-as c changed are q kind k used u =
     ↔ IsChanged c.action changed (used_update c.mode x (update_for q c.action.updates)) x
     in let With : Option UpdateForm → Type 0 = λ o. IsTrue (changed q) ↔ IsChanged c.action changed o kind
     in subst With u (subst At k (are q))
-
-pub valid-pred : (p : ProgramForm) → IsValid p → (q : ℕ) (d : PredForm) → slice_get p.preds q ≡ Some d
-    → IsPred p d
-valid-pred p valid q d found =
-    subst (IsPred p) (get_or_from_slice_get p.preds q d d found)
-    (valid.preds q d (slice_get_within p.preds q d found))
 
 -- a core predicate without an update holds as before
 pub core-kept : (c : Passing) (q : ℕ) (d : PredForm) → slice_get c.p.preds q ≡ Some d → d.kind ≡ KCore
