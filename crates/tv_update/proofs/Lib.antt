@@ -1,3 +1,5 @@
+mod Defines
 mod Folds
 mod Made
+mod Plans
 mod RowLaws

@@ -21,7 +21,7 @@ use Rattle.tv_update.specs.Rows.{IsLike, HasRows, change_rows}
 use Rattle.tv_update.specs.Updated.{used_in, updated_or, AreMade, CanMake}
 use Rattle.tv_update.proofs.RowLaws.{change_rows_values, few_vars}
 
-none-used : (mode : Mode) (kind : KindForm) → used_update mode kind None ≡ None
+pub none-used : (mode : Mode) (kind : KindForm) → used_update mode kind None ≡ None
 none-used Given kind = refl
 none-used Recompute KCore = refl
 none-used Recompute (KDefined vars body) = refl

@@ -1,3 +1,4 @@
+pub mod Defined
 pub mod Plan
 pub mod Rows
 pub mod Update

@@ -1,8 +1,8 @@
 -- Which defined predicates an action changes, in an order in which they can be evaluated.
-use Rattle.std.specs.Prelude.{ℕ, ◌≡◌, ◌↔◌, Bool, List, [], ◌∷◌, None, Contains, IsTrue}
+use Rattle.std.specs.Prelude.{ℕ, ◌≡◌, ◌↔◌, ◌<◌, ◌||◌, Bool, false, List, [], ◌∷◌, length, None, is_some, Contains, IsTrue, slice_index_or}
 use Rattle.tv_model.specs.declared.program.Mode.{Mode}
 use Rattle.tv_model.specs.Form.{Form, Mentions}
-use Rattle.tv_model.specs.Program.{ProgramForm, KDefined, ActionForm}
+use Rattle.tv_model.specs.Program.{ProgramForm, KindForm, KCore, KDefined, ActionForm}
 use Rattle.tv_applied.specs.Applied.{kind_at, update_at, AreChanged}
 
 -- the definition of q, if it has one, doesn't mention r
@@ -20,3 +20,33 @@ pub record IsPlan (p : ProgramForm) (mode : Mode) (action : ActionForm) (order :
   pub are_changed : AreChanged p mode action changed
   pub members : (q : ℕ) → Contains order q ↔ (IsTrue (changed q) × (update_at p mode action q ≡ None))
   pub ordered : IsOrdered p order
+
+-- ---- as the plan is made
+
+-- the predicate's flag is set
+abbrev pub is_set : List Bool → ℕ → Bool
+is_set flags q = slice_index_or flags q false
+
+-- the predicate has a definition, which mentions a predicate with a set flag
+abbrev pub RestsOn : List Bool → KindForm → Type 0
+RestsOn flags KCore = ⊥
+RestsOn flags (KDefined vars body) = (r : ℕ) × Mentions r body × IsTrue (is_set flags r)
+
+abbrev pub IsDefined : KindForm → Type 0
+IsDefined KCore = ⊥
+IsDefined (KDefined vars body) = Unit {0}
+
+-- individuals may come or go
+abbrev pub moves_individuals : ActionForm → Bool
+moves_individuals action = action.fresh || is_some action.retain
+
+-- the flags of the predicates with an update that counts
+pub record AreUpdated (p : ProgramForm) (mode : Mode) (action : ActionForm) (flags : List Bool) : Type 0 where
+  pub count : length flags ≡ length p.preds
+  pub each : (q : ℕ) → q < length p.preds → is_set flags q ≡ is_some (update_at p mode action q)
+
+-- the flags of the others that have a definition
+pub record AreOpen (p : ProgramForm) (changed flags : List Bool) : Type 0 where
+  pub count : length flags ≡ length p.preds
+  pub each : (q : ℕ) → q < length p.preds
+      → IsTrue (is_set flags q) ↔ (IsDefined (kind_at p q) × (is_set changed q ≡ false))

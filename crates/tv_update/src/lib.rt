@@ -2,5 +2,7 @@
 #![tactic(auto)]
 
 mod application;
+mod define;
+mod plan;
 mod rows;
 mod updates;

@@ -18,7 +18,7 @@ use tv_model::{Change, Kind, Mode, PredId, Program, Update};
 use tv_struct::Structure;
 
 /// Whether updates of the predicate count: those of defined predicates don't where these are evaluated anew.
-fn counts(program: &Program, mode: Mode, p: PredId) -> bool
+pub fn counts(program: &Program, mode: Mode, p: PredId) -> bool
     requires { p.0 < length program.now.vocab.preds }
     ensures { (w : UpdateForm) → used_update mode (kind_at (program_of program.now) p.0) (Some w)
         ≡ (if result then Some w else None) }

@@ -1,0 +1,363 @@
+-- How the plan of an action is made.
+use Rattle.std.proofs.Common.{ℕ, ◌≡◌, ◌≢◌, ◌<◌, ◌≤◌, ◌⊎◌, ◌↔◌, ◌&&◌, ◌||◌, ◌++◌, Bool, true, false, List, [], ◌∷◌, length, get_or, set, map, Option, None, Some, slice_get, inl, inr, ⊎_elim, refl, sym, ap, subst, ◌∙◌, cond, append-nil, arith, zero, suc, Contains, IsTrue}
+use Rattle.std.specs.Prelude.{is_some, IsSome}
+use Rattle.std.proofs.lemmas.Bool.{cases_eq, cases_lt, cases_Bool, false≢true}
+use Rattle.std.proofs.lemmas.List.{get_or-set_same, get_or-set_other, get_or_past, length-set, map-append}
+use Rattle.std.proofs.lemmas.Option.{slice_get_within}
+use Rattle.std.proofs.lemmas.List.Elements.{Contains-append_left, Contains-append_cases}
+use Rattle.tv_model.specs.declared.program.Mode.{Mode}
+use Rattle.tv_model.specs.declared.formula.PredId.{PredId}
+use Rattle.tv_model.specs.Form.{Form, Mentions}
+use Rattle.tv_model.specs.Program.{ProgramForm, PredForm, KindForm, KCore, KDefined, ActionForm, RetainForm, UpdateForm}
+use Rattle.tv_model.specs.Valid.{IsValid, IsAction}
+use Rattle.tv_model.proofs.Lists.{Contains-none, Contains-here, Contains-cases, Contains-there, pushed-cases, pushed-old, pushed-last, slice_get-past}
+use Rattle.tv_applied.specs.Applied.{used_update, kind_or_core, kind_at, update_at, MovesIndividuals, IsChanged}
+use Rattle.tv_applied.proofs.Predicates.{defined-found}
+use Rattle.tv_applied.proofs.Updates.{UpdateOf, used-update-of}
+use Rattle.tv_update.specs.Plan.{IsFreeOf, IsOrdered, IsPlan, is_set, RestsOn, IsDefined, moves_individuals, AreUpdated, AreOpen}
+use Rattle.tv_update.proofs.Made.{none-used}
+
+-- whether there is an update that counts
+pub is_some_used : (mode : Mode) (kind : KindForm) (o : Option UpdateForm) (b c : Bool)
+    → ((w : UpdateForm) → used_update mode kind (Some w) ≡ cond c (Some w) None) → b ≡ is_some o
+    → (b && c) ≡ is_some (used_update mode kind o)
+is_some_used mode kind None b c counts has = ap (λ x. x && c) has ∙ ap is_some (sym (none-used mode kind))
+is_some_used mode kind (Some w) b c counts has = ap (λ x. x && c) has ∙ by_count c ∙ ap is_some (sym (counts w))
+  where
+    by_count : (d : Bool) → d ≡ is_some (cond d (Some w) None)
+    by_count true = refl
+    by_count false = refl
+
+-- ---- flags
+
+set-below : (flags : List Bool) (q : ℕ) → IsTrue (is_set flags q) → q < length flags
+set-below flags q on =
+    ⊎_elim (λ lt. lt) (λ past. absurd (false≢true (sym (get_or_past flags q false past) ∙ on))) (cases_lt q (length flags))
+
+not-set : (b : Bool) → (IsTrue b → ⊥) → b ≡ false
+not-set true never = absurd (never refl)
+not-set false never = refl
+
+-- ---- the plan so far: some predicates are open, and what is known of the others stays so
+
+pub record IsPlanSoFar (p : ProgramForm) (mode : Mode) (action : ActionForm) (open_ changed : List Bool)
+    (order : List ℕ) : Type 0 where
+  pub open_count : length open_ ≡ length p.preds
+  pub changed_count : length changed ≡ length p.preds
+  pub opened : (q : ℕ) → IsTrue (is_set open_ q)
+      → (update_at p mode action q ≡ None) × IsDefined (kind_at p q) × (is_set changed q ≡ false)
+  pub settled : (q : ℕ) → is_set open_ q ≡ false
+      → IsTrue (is_set changed q) ↔ IsChanged action (is_set changed) (update_at p mode action q) (kind_at p q)
+  pub closed : (q : ℕ) → is_set open_ q ≡ false → update_at p mode action q ≡ None → ¬ RestsOn open_ (kind_at p q)
+  pub members : (q : ℕ) → Contains order q ↔ (IsTrue (is_set changed q) × (update_at p mode action q ≡ None))
+  pub ordered : IsOrdered p order
+  pub apart : (q : ℕ) → Contains order q → (r : ℕ) → IsTrue (is_set open_ r) → IsFreeOf p q r
+
+-- ---- the start
+
+past-kind : (p : ProgramForm) (q : ℕ) → length p.preds ≤ q → kind_at p q ≡ KCore
+past-kind p q past = ap kind_or_core (slice_get-past p.preds q past)
+
+past-update : (p : ProgramForm) (mode : Mode) (action : ActionForm) → IsAction p action → (q : ℕ) → length p.preds ≤ q
+    → update_at p mode action q ≡ None
+past-update p mode action valid q past = go (update_at p mode action q) refl
+  where
+    go : (o : Option UpdateForm) → update_at p mode action q ≡ o → o ≡ None
+    go None e = refl
+    go (Some w) e =
+        let of : UpdateOf p action q w = used-update-of p mode action valid q w e
+        in let below : q < length p.preds = slice_get_within p.preds q of.pred of.found
+        in absurd (omega (arith, below, past))
+
+not-some : {X : Type 0} (o : Option X) → is_some o ≡ false → o ≡ None
+not-some None e = refl
+not-some (Some x) e = absurd (false≢true (sym e))
+
+pub plan_start : (p : ProgramForm) (mode : Mode) (action : ActionForm) (open_ changed : List Bool) → IsAction p action
+    → AreUpdated p mode action changed → AreOpen p changed open_ → IsPlanSoFar p mode action open_ changed []
+plan_start p mode action open_ changed valid updated opens = record {
+  open_count = opens.count;
+  changed_count = updated.count;
+  opened = λ q on.
+      let below : q < length p.preds = omega (arith, set-below open_ q on, opens.count)
+      in let both : IsDefined (kind_at p q) × (is_set changed q ≡ false) = (opens.each q below).0 on
+      in (not-some (update_at p mode action q) (sym (updated.each q below) ∙ both.1), both.0, both.1);
+  settled = λ q off. known q off (cases_lt q (length p.preds));
+  closed = λ q off none rests.
+      ⊎_elim (λ below. cores q below off none rests)
+      (λ past. subst (RestsOn open_) (past-kind p q past) rests)
+      (cases_lt q (length p.preds));
+  members = λ q. (λ none. absurd (Contains-none q none), λ both. absurd (unlisted q both (cases_lt q (length p.preds))));
+  ordered = tt;
+  apart = λ q none. absurd (Contains-none q none);
+}
+  where
+    unset : (q : ℕ) → length p.preds ≤ q → is_set changed q ≡ false
+    unset q past = get_or_past changed q false (omega (arith, past, updated.count))
+
+    -- what is neither updated nor open has no definition
+    core-at : (q : ℕ) → q < length p.preds → is_set open_ q ≡ false → update_at p mode action q ≡ None
+        → (kind : KindForm) → kind_at p q ≡ kind → IsDefined kind → ⊥
+    core-at q below off none kind k defined =
+        false≢true (sym off ∙ (opens.each q below).1
+        (subst IsDefined (sym k) defined, updated.each q below ∙ ap is_some none))
+
+    cores : (q : ℕ) → q < length p.preds → is_set open_ q ≡ false → update_at p mode action q ≡ None
+        → RestsOn open_ (kind_at p q) → ⊥
+    cores q below off none rests = by_kind (kind_at p q) refl rests
+      where
+        by_kind : (kind : KindForm) → kind_at p q ≡ kind → RestsOn open_ kind → ⊥
+        by_kind KCore k r = r
+        by_kind (KDefined vars body) k r = core-at q below off none (KDefined vars body) k tt
+
+    by_update : (q : ℕ) → (o : Option UpdateForm) → (kind : KindForm) → (o ≡ None → IsDefined kind → ⊥)
+        → is_set changed q ≡ is_some o → IsTrue (is_set changed q) ↔ IsChanged action (is_set changed) o kind
+    by_update q (Some w) kind never same = (λ on. tt, λ any. same)
+    by_update q None KCore never same = (λ on. false≢true (sym same ∙ on), λ is. absurd is)
+    by_update q None (KDefined vars body) never same = absurd (never refl tt)
+
+    known : (q : ℕ) → is_set open_ q ≡ false → (q < length p.preds) ⊎ (length p.preds ≤ q)
+        → IsTrue (is_set changed q) ↔ IsChanged action (is_set changed) (update_at p mode action q) (kind_at p q)
+    known q off (inl below) =
+        by_update q (update_at p mode action q) (kind_at p q)
+        (λ none defined. core-at q below off none (kind_at p q) refl defined) (updated.each q below)
+    known q off (inr past) =
+        by_update q (update_at p mode action q) (kind_at p q)
+        (λ none defined. subst IsDefined (past-kind p q past) defined)
+        (unset q past ∙ ap is_some (sym (past-update p mode action valid q past)))
+
+    unlisted : (q : ℕ) → IsTrue (is_set changed q) × (update_at p mode action q ≡ None)
+        → (q < length p.preds) ⊎ (length p.preds ≤ q) → ⊥
+    unlisted q both (inl below) = false≢true (sym (updated.each q below ∙ ap is_some both.1) ∙ both.0)
+    unlisted q both (inr past) = false≢true (sym (unset q past) ∙ both.0)
+
+-- ---- one more predicate is settled
+
+or-is : (b c : Bool) → IsTrue (b || c) ↔ (IsTrue b ⊎ IsTrue c)
+or-is true c = (λ on. inl refl, λ either. refl)
+or-is false c = (λ on. inr on, λ either. ⊎_elim (λ never. absurd (false≢true never)) (λ on. on) either)
+
+moves-same : (action : ActionForm) → IsTrue (moves_individuals action) ↔ MovesIndividuals action
+moves-same action = or-is action.fresh (is_some action.retain)
+
+push-ordered : (p : ProgramForm) (order : List ℕ) (q : ℕ) → IsOrdered p order
+    → ((r : ℕ) → Contains order r → IsFreeOf p r q) → IsFreeOf p q q → IsOrdered p (order ++ q ∷ [])
+push-ordered p [] q old free own =
+    (λ r at. ⊎_elim (λ e. subst (IsFreeOf p q) e own) (λ none. absurd (Contains-none r none)) (Contains-cases q r [] at), tt)
+push-ordered p (x ∷ order) q old free own = (
+  λ r at. ⊎_elim (old.0 r) (λ e. subst (IsFreeOf p x) (sym e) (free x (Contains-here x order)))
+      (pushed-cases (x ∷ order) q r at),
+  push-ordered p order q old.1 (λ r at. free r (Contains-there x r order at)) own,
+)
+
+-- the order with one more predicate, if it is changed
+abbrev pub with_changed : List ℕ → Bool → ℕ → List ℕ
+with_changed order on q = order ++ cond on (q ∷ []) []
+
+module _ (p : ProgramForm) (mode : Mode) (action : ActionForm) (open_ changed : List Bool) (order : List ℕ)
+    (so_far : IsPlanSoFar p mode action open_ changed order) (q : ℕ) (is_open : IsTrue (is_set open_ q))
+    (no_rests : ¬ RestsOn open_ (kind_at p q)) (on : Bool)
+    (counts : IsTrue on ↔ (IsTrue (moves_individuals action) ⊎ RestsOn changed (kind_at p q))) where
+  abbrev open_after : List Bool
+  open_after = set open_ q false
+
+  abbrev changed_after : List Bool
+  changed_after = set changed q on
+
+  below : q < length open_
+  below = set-below open_ q is_open
+
+  open-here : is_set open_after q ≡ false
+  open-here = get_or-set_same open_ q false false below
+
+  changed-here : is_set changed_after q ≡ on
+  changed-here = get_or-set_same changed q on false (omega (arith, below, so_far.open_count, so_far.changed_count))
+
+  open-other : (r : ℕ) → r ≢ q → is_set open_after r ≡ is_set open_ r
+  open-other r ne = get_or-set_other open_ q r false false ne
+
+  changed-other : (r : ℕ) → r ≢ q → is_set changed_after r ≡ is_set changed r
+  changed-other r ne = get_or-set_other changed q r on false ne
+
+  -- what is open later is open now, and another
+  still-open : (r : ℕ) → IsTrue (is_set open_after r) → IsTrue (is_set open_ r) × (r ≢ q)
+  still-open r after =
+      let ne : r ≢ q = λ e. false≢true (sym open-here ∙ ap (is_set open_after) (sym e) ∙ after)
+      in (sym (open-other r ne) ∙ after, ne)
+
+  -- the definition that rests on no open predicate doesn't mention one
+  free-of_open : (x : ℕ) → ¬ RestsOn open_ (kind_at p x) → (r : ℕ) → IsTrue (is_set open_ r) → IsFreeOf p x r
+  free-of_open x none r on_r vars body k m =
+      none (subst (RestsOn open_) (sym k) (r, m, on_r))
+
+  -- where a definition doesn't mention q, it is changed as before
+  changed-alike : (used : Option UpdateForm) (kind : KindForm)
+      → (used ≡ None → (vars : List ℕ) (body : Form) → kind ≡ KDefined vars body → ¬ Mentions q body)
+      → IsChanged action (is_set changed) used kind ↔ IsChanged action (is_set changed_after) used kind
+  changed-alike (Some w) kind free = (λ any. tt, λ any. tt)
+  changed-alike None KCore free = (λ never. never, λ never. never)
+  changed-alike None (KDefined vars body) free = (
+    λ is. ⊎_elim (λ moves. inl moves)
+        (λ m. inr (m.0, m.1, changed-other m.0 (apart m.0 m.1) ∙ m.2)) is,
+    λ is. ⊎_elim (λ moves. inl moves)
+        (λ m. inr (m.0, m.1, sym (changed-other m.0 (apart m.0 m.1)) ∙ m.2)) is,
+  )
+    where
+      apart : (r : ℕ) → Mentions r body → r ≢ q
+      apart r m e = free refl vars body refl (subst (λ x. Mentions x body) e m)
+
+  own-settled : (kind : KindForm) → kind_at p q ≡ kind → IsDefined kind
+      → IsTrue on ↔ (IsTrue (moves_individuals action) ⊎ RestsOn changed kind)
+      → IsTrue on ↔ IsChanged action (is_set changed) None kind
+  own-settled KCore k never same = absurd never
+  own-settled (KDefined vars body) k any same = (
+    λ t. ⊎_elim (λ m. inl ((moves-same action).0 m)) (λ r. inr r) (same.0 t),
+    λ is. same.1 (⊎_elim (λ m. inl ((moves-same action).1 m)) (λ r. inr r) is),
+  )
+
+  settled-here : IsTrue (is_set changed_after q) ↔ IsChanged action (is_set changed_after) (update_at p mode action q) (kind_at p q)
+  settled-here =
+      let opened : (update_at p mode action q ≡ None) × IsDefined (kind_at p q) × (is_set changed q ≡ false) = so_far.opened q is_open
+      in let first : IsTrue on ↔ IsChanged action (is_set changed) None (kind_at p q)
+      = own-settled (kind_at p q) refl opened.1 counts
+      in let alike : IsChanged action (is_set changed) None (kind_at p q) ↔ IsChanged action (is_set changed_after) None (kind_at p q)
+      = changed-alike None (kind_at p q) (λ none vars body k. free-of_open q no_rests q is_open vars body k)
+      in let With : Option UpdateForm → Type 0 = λ o. IsTrue (is_set changed_after q) ↔ IsChanged action (is_set changed_after) o (kind_at p q)
+      in subst With (sym opened.0) (
+        λ t. alike.0 (first.0 (sym changed-here ∙ t)),
+        λ is. changed-here ∙ first.1 (alike.1 is),
+      )
+
+  settled-other : (r : ℕ) → r ≢ q → is_set open_after r ≡ false
+      → IsTrue (is_set changed_after r) ↔ IsChanged action (is_set changed_after) (update_at p mode action r) (kind_at p r)
+  settled-other r ne off =
+      let old : is_set open_ r ≡ false = sym (open-other r ne) ∙ off
+      in let first : IsTrue (is_set changed r) ↔ IsChanged action (is_set changed) (update_at p mode action r) (kind_at p r) = so_far.settled r old
+      in let alike : IsChanged action (is_set changed) (update_at p mode action r) (kind_at p r)
+      ↔ IsChanged action (is_set changed_after) (update_at p mode action r) (kind_at p r)
+      = changed-alike (update_at p mode action r) (kind_at p r)
+      (λ none vars body k. free-of_open r (so_far.closed r old none) q is_open vars body k)
+      in (
+        λ t. alike.0 (first.0 (sym (changed-other r ne) ∙ t)),
+        λ is. changed-other r ne ∙ first.1 (alike.1 is),
+      )
+
+  -- what rests on what is open later rests on what is open now
+  rests-before : (kind : KindForm) → RestsOn open_after kind → RestsOn open_ kind
+  rests-before KCore never = never
+  rests-before (KDefined vars body) m = (m.0, m.1, (still-open m.0 m.2).0)
+
+  listed : (r : ℕ) → Contains order r → r ≢ q
+  listed r at e =
+      false≢true (sym (so_far.opened q is_open).2 ∙ subst (λ x. IsTrue (is_set changed x)) e ((so_far.members r).0 at).0)
+
+  old-member : (r : ℕ) → Contains order r → IsTrue (is_set changed_after r) × (update_at p mode action r ≡ None)
+  old-member r at =
+      let both : IsTrue (is_set changed r) × (update_at p mode action r ≡ None) = (so_far.members r).0 at
+      in (changed-other r (listed r at) ∙ both.0, both.1)
+
+  members-by : (b : Bool) → on ≡ b → (r : ℕ)
+      → Contains (with_changed order b q) r ↔ (IsTrue (is_set changed_after r) × (update_at p mode action r ≡ None))
+  members-by true is r = (
+    λ at. ⊎_elim (old-member r)
+        (λ e. subst (λ x. IsTrue (is_set changed_after x) × (update_at p mode action x ≡ None)) (sym e)
+        (changed-here ∙ is, (so_far.opened q is_open).0))
+        (pushed-cases order q r at),
+    λ both. ⊎_elim
+        (λ e. pushed-last order q r e)
+        (λ ne. pushed-old order q r ((so_far.members r).1 (sym (changed-other r ne) ∙ both.0, both.1)))
+        (cases_eq r q),
+  )
+  members-by false is r = (
+    λ at. ⊎_elim (old-member r) (λ none. absurd (Contains-none r none)) (Contains-append_cases order [] r at),
+    λ both. ⊎_elim
+        (λ e. absurd (false≢true (sym (changed-here ∙ is) ∙ ap (is_set changed_after) (sym e) ∙ both.0)))
+        (λ ne. Contains-append_left order [] r ((so_far.members r).1 (sym (changed-other r ne) ∙ both.0, both.1)))
+        (cases_eq r q),
+  )
+
+  ordered-by : (b : Bool) → IsOrdered p (with_changed order b q)
+  ordered-by true =
+      push-ordered p order q so_far.ordered (λ r at. so_far.apart r at q is_open) (free-of_open q no_rests q is_open)
+  ordered-by false = subst (IsOrdered p) (sym (append-nil order)) so_far.ordered
+
+  apart-by : (b : Bool) → (x : ℕ) → Contains (with_changed order b q) x → (r : ℕ) → IsTrue (is_set open_after r) → IsFreeOf p x r
+  apart-by true x at r after =
+      ⊎_elim
+      (λ old. so_far.apart x old r (still-open r after).0)
+      (λ e. subst (λ y. IsFreeOf p y r) (sym e) (free-of_open q no_rests r (still-open r after).0))
+      (pushed-cases order q x at)
+  apart-by false x at r after =
+      ⊎_elim (λ old. so_far.apart x old r (still-open r after).0) (λ none. absurd (Contains-none x none))
+      (Contains-append_cases order [] x at)
+
+  pub plan-more : IsPlanSoFar p mode action open_after changed_after (with_changed order on q)
+  plan-more = record {
+    open_count = length-set open_ q false ∙ so_far.open_count;
+    changed_count = length-set changed q on ∙ so_far.changed_count;
+    opened = λ r after.
+        let old : IsTrue (is_set open_ r) × (r ≢ q) = still-open r after
+        in let was : (update_at p mode action r ≡ None) × IsDefined (kind_at p r) × (is_set changed r ≡ false) = so_far.opened r old.0
+        in (was.0, was.1, changed-other r old.1 ∙ was.2);
+    settled = λ r off.
+        ⊎_elim
+        (λ e. subst (λ x. IsTrue (is_set changed_after x) ↔ IsChanged action (is_set changed_after) (update_at p mode action x) (kind_at p x)) (sym e) settled-here)
+        (λ ne. settled-other r ne off)
+        (cases_eq r q);
+    closed = λ r off none rests.
+        ⊎_elim
+        (λ e. no_rests (subst (λ x. RestsOn open_ (kind_at p x)) e (rests-before (kind_at p r) rests)))
+        (λ ne. so_far.closed r (sym (open-other r ne) ∙ off) none (rests-before (kind_at p r) rests))
+        (cases_eq r q);
+    members = members-by on refl;
+    ordered = ordered-by on;
+    apart = apart-by on;
+  }
+
+pub plan_more : (p : ProgramForm) (mode : Mode) (action : ActionForm) (open_ changed : List Bool) (order : List ℕ) (q : ℕ) (on : Bool)
+    → IsPlanSoFar p mode action open_ changed order → IsTrue (is_set open_ q) → ¬ RestsOn open_ (kind_at p q)
+    → IsTrue on ↔ (IsTrue (moves_individuals action) ⊎ RestsOn changed (kind_at p q))
+    → IsPlanSoFar p mode action (set open_ q false) (set changed q on) (with_changed order on q)
+plan_more p mode action open_ changed order q on so_far is_open none counts =
+    plan-more p mode action open_ changed order so_far q is_open none on counts
+
+-- ---- the end: where each open predicate rests on an open one, none is open
+
+never-open : (p : ProgramForm) (open_ : List Bool)
+    → ((q : ℕ) → IsTrue (is_set open_ q) → RestsOn open_ (kind_at p q))
+    → (valid : IsValid p) → (n q : ℕ) → valid.rank q < n → ¬ IsTrue (is_set open_ q)
+never-open p open_ each valid zero q lt on = absurd (omega (arith, lt))
+never-open p open_ each valid (suc n) q lt on = by_kind (never-open p open_ each valid n) (kind_at p q) refl (each q on)
+  where
+    by_kind : ((r : ℕ) → valid.rank r < n → ¬ IsTrue (is_set open_ r)) → (kind : KindForm) → kind_at p q ≡ kind → RestsOn open_ kind → ⊥
+    by_kind lower KCore k never = never
+    by_kind lower (KDefined vars body) k m =
+        let f : (d : PredForm) × (slice_get p.preds q ≡ Some d) × (d.kind ≡ KDefined vars body) = defined-found p q vars body k
+        in let falls : valid.rank m.0 < valid.rank q = valid.no_cycle.falls q f.0 f.1 vars body f.2 m.0 m.1
+        in lower m.0 (omega (arith, lt, falls)) m.2
+
+pub plan_done : (p : ProgramForm) → IsValid p → (mode : Mode) (action : ActionForm) (open_ changed : List Bool) (order : List ℕ)
+    → IsPlanSoFar p mode action open_ changed order
+    → ((q : ℕ) → IsTrue (is_set open_ q) → RestsOn open_ (kind_at p q)) → IsPlan p mode action order
+plan_done p valid mode action open_ changed order so_far each = record {
+  changed = is_set changed;
+  are_changed = λ q. so_far.settled q (not-set (is_set open_ q) (never-open p open_ each valid (suc (valid.rank q)) q (omega arith)));
+  members = so_far.members;
+  ordered = so_far.ordered;
+}
+
+-- the same with the order as the code has it
+pub settle_one : (p : ProgramForm) (mode : Mode) (action : ActionForm) (open_ changed : List Bool) (olds news : List PredId)
+    (r : PredId) (q : ℕ) (on : Bool) → IsPlanSoFar p mode action open_ changed (map (λ x. x.0) olds)
+    → news ≡ olds ++ cond on (r ∷ []) [] → r.0 ≡ q → IsTrue (is_set open_ q) → ¬ RestsOn open_ (kind_at p q)
+    → IsTrue on ↔ (IsTrue (moves_individuals action) ⊎ RestsOn changed (kind_at p q))
+    → IsPlanSoFar p mode action (set open_ q false) (set changed q on) (map (λ x. x.0) news)
+settle_one p mode action open_ changed olds news r q on so_far pushed same is_open none counts =
+    subst (IsPlanSoFar p mode action (set open_ q false) (set changed q on))
+    (ap (λ xs. map (λ x. x.0) olds ++ xs) (sym (one on)) ∙ sym (map-append (λ x. x.0) olds (cond on (r ∷ []) []))
+    ∙ ap (map (λ x. x.0)) (sym pushed))
+    (plan_more p mode action open_ changed (map (λ x. x.0) olds) q on so_far is_open none counts)
+  where
+    one : (b : Bool) → map (λ (x : PredId). x.0) (cond b (r ∷ []) []) ≡ cond b (q ∷ []) []
+    one true = ap (λ n. n ∷ []) same
+    one false = refl

@@ -1,0 +1,9 @@
+use Rattle.std.proofs.Common.{ℕ, ◌<◌}
+use Rattle.std.specs.Prelude.{IsTrue}
+use Rattle.tv_model.specs.Program.{program_of}
+use Rattle.tv_applied.specs.Applied.{kind_at}
+use Rattle.tv_update.specs.Plan.{is_set, RestsOn}
+use Rattle.tv_update.proofs.plan.ready.Given as goal
+
+abbrev pub invariant-loop-p : goal.invariant-loop-p
+invariant-loop-p l = (q : ℕ) → q < l.p → IsTrue (is_set l.open q) → RestsOn l.open (kind_at (program_of l.program) q)
