@@ -1,5 +1,7 @@
+mod Applies
 mod Defines
 mod Folds
+mod KeptLaws
 mod Made
 mod Plans
 mod RowLaws

@@ -1,4 +1,5 @@
 pub mod Defined
+pub mod Kept
 pub mod Plan
 pub mod Rows
 pub mod Update

@@ -1,16 +1,24 @@
 -- Updates, made one after the other.
-use Rattle.std.specs.Prelude.{ℕ, ◌≡◌, List, length, Option, None, Some}
+use Rattle.std.specs.Prelude.{ℕ, ◌≡◌, ◌<◌, ◌≤◌, List, length, map, Option, None, Some, All, Contains}
+use Rattle.std.specs.List.{range_with_len}
 use Rattle.tv_kleene.specs.declared.K3.{K3}
 use Rattle.tv_model.specs.declared.program.Mode.{Mode}
-use Rattle.tv_model.specs.Program.{ProgramForm, UpdateForm, ChangeForm, CFree, CTo}
+use Rattle.tv_model.specs.declared.program.Action.{Action}
+use Rattle.tv_model.specs.declared.program.Program.{Program}
+use Rattle.tv_model.specs.Program.{ProgramForm, RetainForm, UpdateForm, ChangeForm, CFree, CTo, action_of, program_of}
 use Rattle.tv_model.specs.Step.{update_for}
 use Rattle.tv_model.specs.Truth.{Assignment}
+use Rattle.tv_model.specs.Valid.{IsValid}
 use Rattle.tv_frame.specs.LogicalStructure.{LogicalStructure}
+use Rattle.tv_struct.specs.declared.analysis.StageError.{StageError}
+use Rattle.tv_struct.specs.declared.analysis.StageError.TheVariants.{Splits, Individuals, Memory}
+use Rattle.tv_struct.specs.Halves.{row_halves}
 use Rattle.tv_struct.specs.TableForm.{AreIndividuals}
-use Rattle.tv_struct.specs.StructureForm.{StructureForm, structure_of, value_at}
+use Rattle.tv_struct.specs.StructureForm.{StructureForm, IsOver, structure_of, value_at}
 use Rattle.tv_struct.specs.StructureRows.{HasArity}
-use Rattle.tv_eval.specs.ScratchForm.{ScratchForm}
-use Rattle.tv_applied.specs.Applied.{updated_value, used_update, kind_at}
+use Rattle.tv_eval.specs.AssignmentForm.{IsAssigned}
+use Rattle.tv_eval.specs.ScratchForm.{ScratchForm, IsMadeFor}
+use Rattle.tv_applied.specs.Applied.{keep_value, updated_value, used_update, kind_at}
 use Rattle.tv_update.specs.Rows.{IsLike, CanFill}
 
 -- of these updates, that of the predicate q, if it counts
@@ -39,3 +47,23 @@ CanChange s places vars room (CTo f) = CanFill s places vars room f
 pub record CanMake (s : StructureForm) (places : List (Option ℕ)) (room : ScratchForm) (w : UpdateForm) : Type 0 where
   pub arity : HasArity s w.pred (length w.vars)
   pub change : CanChange s places w.vars room w.change
+
+-- the action of the program can be applied to the structure, with this room
+pub record CanApply (program : Program) (action : Action) (places : List (Option ℕ)) (s : StructureForm)
+    (room : ScratchForm) : Type 0 where
+  pub valid : IsValid (program_of program)
+  pub is_action : Contains (program_of program).actions (action_of action)
+  pub over : IsOver program.vocab s
+  pub small : s.size ≤ 256
+  pub picks : All (IsAssigned s.size places) (action_of action).picks
+  pub made : IsMadeFor (program_of program) 256 room
+
+-- the values of the retain formula, individual by individual
+abbrev pub keep_values : StructureForm → Assignment → Option RetainForm → List K3
+keep_values s picks retain = map (keep_value (structure_of s) picks retain) (range_with_len 0 s.size)
+
+-- why nothing is made of the middle structure: too many unknown values, or want of memory
+abbrev pub IsPrepareCause : List K3 → StageError → Type 0
+IsPrepareCause values Splits = 12 < row_halves values
+IsPrepareCause values Individuals = ⊥
+IsPrepareCause values Memory = Unit {0}

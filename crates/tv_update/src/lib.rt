@@ -3,6 +3,8 @@
 
 mod application;
 mod define;
+mod kept;
 mod plan;
+mod prepare;
 mod rows;
 mod updates;
