@@ -55,7 +55,7 @@ module _ (program : Program) (action : Action) (places : List (Option ℕ)) (s :
         change = change-can is.0 w at is.2 w.change refl is.3;
       }
 
-each-by_recursion : {X : Type 0} (P : X → Type 0) (xs : List X) → ((x : X) → Contains xs x → P x) → AllByRecursion P xs
+pub each-by_recursion : {X : Type 0} (P : X → Type 0) (xs : List X) → ((x : X) → Contains xs x → P x) → AllByRecursion P xs
 each-by_recursion P [] each = tt
 each-by_recursion P (x ∷ xs) each = (each x (Contains-here x xs), each-by_recursion P xs (λ y at. each y (Contains-there x y xs at)))
 

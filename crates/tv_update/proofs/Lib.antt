@@ -1,7 +1,13 @@
+mod Answered
 mod Applies
 mod Defines
+mod Finishes
 mod Folds
+mod Given
 mod KeptLaws
+mod Limits
 mod Made
+mod NewLaws
 mod Plans
 mod RowLaws
+mod Sole

@@ -14,7 +14,7 @@ use Rattle.tv_model.proofs.Lists.{Contains-none, Contains-here, Contains-cases, 
 use Rattle.tv_applied.specs.Applied.{used_update, kind_or_core, kind_at, update_at, MovesIndividuals, IsChanged}
 use Rattle.tv_applied.proofs.Predicates.{defined-found}
 use Rattle.tv_applied.proofs.Updates.{UpdateOf, used-update-of}
-use Rattle.tv_update.specs.Plan.{IsFreeOf, IsOrdered, IsPlan, is_set, RestsOn, IsDefined, moves_individuals, AreUpdated, AreOpen}
+use Rattle.tv_update.specs.Plan.{IsFreeOf, IsOrdered, IsPlan, is_set, RestsOn, IsDefined, moves_individuals, AreUpdated, AreWaiting}
 use Rattle.tv_update.proofs.Made.{none-used}
 
 -- whether there is an update that counts
@@ -38,20 +38,20 @@ not-set : (b : Bool) → (IsTrue b → ⊥) → b ≡ false
 not-set true never = absurd (never refl)
 not-set false never = refl
 
--- ---- the plan so far: some predicates are open, and what is known of the others stays so
+-- ---- the plan so far: some predicates wait, and what is known of the others stays so
 
-pub record IsPlanSoFar (p : ProgramForm) (mode : Mode) (action : ActionForm) (open_ changed : List Bool)
+pub record IsPlanSoFar (p : ProgramForm) (mode : Mode) (action : ActionForm) (waiting changed : List Bool)
     (order : List ℕ) : Type 0 where
-  pub open_count : length open_ ≡ length p.preds
+  pub waiting_count : length waiting ≡ length p.preds
   pub changed_count : length changed ≡ length p.preds
-  pub opened : (q : ℕ) → IsTrue (is_set open_ q)
+  pub opened : (q : ℕ) → IsTrue (is_set waiting q)
       → (update_at p mode action q ≡ None) × IsDefined (kind_at p q) × (is_set changed q ≡ false)
-  pub settled : (q : ℕ) → is_set open_ q ≡ false
+  pub settled : (q : ℕ) → is_set waiting q ≡ false
       → IsTrue (is_set changed q) ↔ IsChanged action (is_set changed) (update_at p mode action q) (kind_at p q)
-  pub closed : (q : ℕ) → is_set open_ q ≡ false → update_at p mode action q ≡ None → ¬ RestsOn open_ (kind_at p q)
+  pub closed : (q : ℕ) → is_set waiting q ≡ false → update_at p mode action q ≡ None → ¬ RestsOn waiting (kind_at p q)
   pub members : (q : ℕ) → Contains order q ↔ (IsTrue (is_set changed q) × (update_at p mode action q ≡ None))
   pub ordered : IsOrdered p order
-  pub apart : (q : ℕ) → Contains order q → (r : ℕ) → IsTrue (is_set open_ r) → IsFreeOf p q r
+  pub apart : (q : ℕ) → Contains order q → (r : ℕ) → IsTrue (is_set waiting r) → IsFreeOf p q r
 
 -- ---- the start
 
@@ -73,19 +73,19 @@ not-some : {X : Type 0} (o : Option X) → is_some o ≡ false → o ≡ None
 not-some None e = refl
 not-some (Some x) e = absurd (false≢true (sym e))
 
-pub plan_start : (p : ProgramForm) (mode : Mode) (action : ActionForm) (open_ changed : List Bool) → IsAction p action
-    → AreUpdated p mode action changed → AreOpen p changed open_ → IsPlanSoFar p mode action open_ changed []
-plan_start p mode action open_ changed valid updated opens = record {
-  open_count = opens.count;
+pub plan_start : (p : ProgramForm) (mode : Mode) (action : ActionForm) (waiting changed : List Bool) → IsAction p action
+    → AreUpdated p mode action changed → AreWaiting p changed waiting → IsPlanSoFar p mode action waiting changed []
+plan_start p mode action waiting changed valid updated opens = record {
+  waiting_count = opens.count;
   changed_count = updated.count;
   opened = λ q on.
-      let below : q < length p.preds = omega (arith, set-below open_ q on, opens.count)
+      let below : q < length p.preds = omega (arith, set-below waiting q on, opens.count)
       in let both : IsDefined (kind_at p q) × (is_set changed q ≡ false) = (opens.each q below).0 on
       in (not-some (update_at p mode action q) (sym (updated.each q below) ∙ both.1), both.0, both.1);
   settled = λ q off. known q off (cases_lt q (length p.preds));
   closed = λ q off none rests.
       ⊎_elim (λ below. cores q below off none rests)
-      (λ past. subst (RestsOn open_) (past-kind p q past) rests)
+      (λ past. subst (RestsOn waiting) (past-kind p q past) rests)
       (cases_lt q (length p.preds));
   members = λ q. (λ none. absurd (Contains-none q none), λ both. absurd (unlisted q both (cases_lt q (length p.preds))));
   ordered = tt;
@@ -96,17 +96,17 @@ plan_start p mode action open_ changed valid updated opens = record {
     unset q past = get_or_past changed q false (omega (arith, past, updated.count))
 
     -- what is neither updated nor open has no definition
-    core-at : (q : ℕ) → q < length p.preds → is_set open_ q ≡ false → update_at p mode action q ≡ None
+    core-at : (q : ℕ) → q < length p.preds → is_set waiting q ≡ false → update_at p mode action q ≡ None
         → (kind : KindForm) → kind_at p q ≡ kind → IsDefined kind → ⊥
     core-at q below off none kind k defined =
         false≢true (sym off ∙ (opens.each q below).1
         (subst IsDefined (sym k) defined, updated.each q below ∙ ap is_some none))
 
-    cores : (q : ℕ) → q < length p.preds → is_set open_ q ≡ false → update_at p mode action q ≡ None
-        → RestsOn open_ (kind_at p q) → ⊥
+    cores : (q : ℕ) → q < length p.preds → is_set waiting q ≡ false → update_at p mode action q ≡ None
+        → RestsOn waiting (kind_at p q) → ⊥
     cores q below off none rests = by_kind (kind_at p q) refl rests
       where
-        by_kind : (kind : KindForm) → kind_at p q ≡ kind → RestsOn open_ kind → ⊥
+        by_kind : (kind : KindForm) → kind_at p q ≡ kind → RestsOn waiting kind → ⊥
         by_kind KCore k r = r
         by_kind (KDefined vars body) k r = core-at q below off none (KDefined vars body) k tt
 
@@ -116,7 +116,7 @@ plan_start p mode action open_ changed valid updated opens = record {
     by_update q None KCore never same = (λ on. false≢true (sym same ∙ on), λ is. absurd is)
     by_update q None (KDefined vars body) never same = absurd (never refl tt)
 
-    known : (q : ℕ) → is_set open_ q ≡ false → (q < length p.preds) ⊎ (length p.preds ≤ q)
+    known : (q : ℕ) → is_set waiting q ≡ false → (q < length p.preds) ⊎ (length p.preds ≤ q)
         → IsTrue (is_set changed q) ↔ IsChanged action (is_set changed) (update_at p mode action q) (kind_at p q)
     known q off (inl below) =
         by_update q (update_at p mode action q) (kind_at p q)
@@ -154,41 +154,41 @@ push-ordered p (x ∷ order) q old free own = (
 abbrev pub with_changed : List ℕ → Bool → ℕ → List ℕ
 with_changed order on q = order ++ cond on (q ∷ []) []
 
-module _ (p : ProgramForm) (mode : Mode) (action : ActionForm) (open_ changed : List Bool) (order : List ℕ)
-    (so_far : IsPlanSoFar p mode action open_ changed order) (q : ℕ) (is_open : IsTrue (is_set open_ q))
-    (no_rests : ¬ RestsOn open_ (kind_at p q)) (on : Bool)
+module _ (p : ProgramForm) (mode : Mode) (action : ActionForm) (waiting changed : List Bool) (order : List ℕ)
+    (so_far : IsPlanSoFar p mode action waiting changed order) (q : ℕ) (is_waiting : IsTrue (is_set waiting q))
+    (no_rests : ¬ RestsOn waiting (kind_at p q)) (on : Bool)
     (counts : IsTrue on ↔ (IsTrue (moves_individuals action) ⊎ RestsOn changed (kind_at p q))) where
-  abbrev open_after : List Bool
-  open_after = set open_ q false
+  abbrev waiting_after : List Bool
+  waiting_after = set waiting q false
 
   abbrev changed_after : List Bool
   changed_after = set changed q on
 
-  below : q < length open_
-  below = set-below open_ q is_open
+  below : q < length waiting
+  below = set-below waiting q is_waiting
 
-  open-here : is_set open_after q ≡ false
-  open-here = get_or-set_same open_ q false false below
+  waits-here : is_set waiting_after q ≡ false
+  waits-here = get_or-set_same waiting q false false below
 
   changed-here : is_set changed_after q ≡ on
-  changed-here = get_or-set_same changed q on false (omega (arith, below, so_far.open_count, so_far.changed_count))
+  changed-here = get_or-set_same changed q on false (omega (arith, below, so_far.waiting_count, so_far.changed_count))
 
-  open-other : (r : ℕ) → r ≢ q → is_set open_after r ≡ is_set open_ r
-  open-other r ne = get_or-set_other open_ q r false false ne
+  waits-other : (r : ℕ) → r ≢ q → is_set waiting_after r ≡ is_set waiting r
+  waits-other r ne = get_or-set_other waiting q r false false ne
 
   changed-other : (r : ℕ) → r ≢ q → is_set changed_after r ≡ is_set changed r
   changed-other r ne = get_or-set_other changed q r on false ne
 
-  -- what is open later is open now, and another
-  still-open : (r : ℕ) → IsTrue (is_set open_after r) → IsTrue (is_set open_ r) × (r ≢ q)
-  still-open r after =
-      let ne : r ≢ q = λ e. false≢true (sym open-here ∙ ap (is_set open_after) (sym e) ∙ after)
-      in (sym (open-other r ne) ∙ after, ne)
+  -- what is waiting later waits now, and another
+  still-waiting : (r : ℕ) → IsTrue (is_set waiting_after r) → IsTrue (is_set waiting r) × (r ≢ q)
+  still-waiting r after =
+      let ne : r ≢ q = λ e. false≢true (sym waits-here ∙ ap (is_set waiting_after) (sym e) ∙ after)
+      in (sym (waits-other r ne) ∙ after, ne)
 
-  -- the definition that rests on no open predicate doesn't mention one
-  free-of_open : (x : ℕ) → ¬ RestsOn open_ (kind_at p x) → (r : ℕ) → IsTrue (is_set open_ r) → IsFreeOf p x r
-  free-of_open x none r on_r vars body k m =
-      none (subst (RestsOn open_) (sym k) (r, m, on_r))
+  -- the definition that rests on no waiting predicate doesn't mention one
+  free-of_waiting : (x : ℕ) → ¬ RestsOn waiting (kind_at p x) → (r : ℕ) → IsTrue (is_set waiting r) → IsFreeOf p x r
+  free-of_waiting x none r on_r vars body k m =
+      none (subst (RestsOn waiting) (sym k) (r, m, on_r))
 
   -- where a definition doesn't mention q, it is changed as before
   changed-alike : (used : Option UpdateForm) (kind : KindForm)
@@ -217,39 +217,39 @@ module _ (p : ProgramForm) (mode : Mode) (action : ActionForm) (open_ changed : 
 
   settled-here : IsTrue (is_set changed_after q) ↔ IsChanged action (is_set changed_after) (update_at p mode action q) (kind_at p q)
   settled-here =
-      let opened : (update_at p mode action q ≡ None) × IsDefined (kind_at p q) × (is_set changed q ≡ false) = so_far.opened q is_open
+      let opened : (update_at p mode action q ≡ None) × IsDefined (kind_at p q) × (is_set changed q ≡ false) = so_far.opened q is_waiting
       in let first : IsTrue on ↔ IsChanged action (is_set changed) None (kind_at p q)
       = own-settled (kind_at p q) refl opened.1 counts
       in let alike : IsChanged action (is_set changed) None (kind_at p q) ↔ IsChanged action (is_set changed_after) None (kind_at p q)
-      = changed-alike None (kind_at p q) (λ none vars body k. free-of_open q no_rests q is_open vars body k)
+      = changed-alike None (kind_at p q) (λ none vars body k. free-of_waiting q no_rests q is_waiting vars body k)
       in let With : Option UpdateForm → Type 0 = λ o. IsTrue (is_set changed_after q) ↔ IsChanged action (is_set changed_after) o (kind_at p q)
       in subst With (sym opened.0) (
         λ t. alike.0 (first.0 (sym changed-here ∙ t)),
         λ is. changed-here ∙ first.1 (alike.1 is),
       )
 
-  settled-other : (r : ℕ) → r ≢ q → is_set open_after r ≡ false
+  settled-other : (r : ℕ) → r ≢ q → is_set waiting_after r ≡ false
       → IsTrue (is_set changed_after r) ↔ IsChanged action (is_set changed_after) (update_at p mode action r) (kind_at p r)
   settled-other r ne off =
-      let old : is_set open_ r ≡ false = sym (open-other r ne) ∙ off
+      let old : is_set waiting r ≡ false = sym (waits-other r ne) ∙ off
       in let first : IsTrue (is_set changed r) ↔ IsChanged action (is_set changed) (update_at p mode action r) (kind_at p r) = so_far.settled r old
       in let alike : IsChanged action (is_set changed) (update_at p mode action r) (kind_at p r)
       ↔ IsChanged action (is_set changed_after) (update_at p mode action r) (kind_at p r)
       = changed-alike (update_at p mode action r) (kind_at p r)
-      (λ none vars body k. free-of_open r (so_far.closed r old none) q is_open vars body k)
+      (λ none vars body k. free-of_waiting r (so_far.closed r old none) q is_waiting vars body k)
       in (
         λ t. alike.0 (first.0 (sym (changed-other r ne) ∙ t)),
         λ is. changed-other r ne ∙ first.1 (alike.1 is),
       )
 
-  -- what rests on what is open later rests on what is open now
-  rests-before : (kind : KindForm) → RestsOn open_after kind → RestsOn open_ kind
+  -- what rests on what is waiting later rests on what waits now
+  rests-before : (kind : KindForm) → RestsOn waiting_after kind → RestsOn waiting kind
   rests-before KCore never = never
-  rests-before (KDefined vars body) m = (m.0, m.1, (still-open m.0 m.2).0)
+  rests-before (KDefined vars body) m = (m.0, m.1, (still-waiting m.0 m.2).0)
 
   listed : (r : ℕ) → Contains order r → r ≢ q
   listed r at e =
-      false≢true (sym (so_far.opened q is_open).2 ∙ subst (λ x. IsTrue (is_set changed x)) e ((so_far.members r).0 at).0)
+      false≢true (sym (so_far.opened q is_waiting).2 ∙ subst (λ x. IsTrue (is_set changed x)) e ((so_far.members r).0 at).0)
 
   old-member : (r : ℕ) → Contains order r → IsTrue (is_set changed_after r) × (update_at p mode action r ≡ None)
   old-member r at =
@@ -261,7 +261,7 @@ module _ (p : ProgramForm) (mode : Mode) (action : ActionForm) (open_ changed : 
   members-by true is r = (
     λ at. ⊎_elim (old-member r)
         (λ e. subst (λ x. IsTrue (is_set changed_after x) × (update_at p mode action x ≡ None)) (sym e)
-        (changed-here ∙ is, (so_far.opened q is_open).0))
+        (changed-here ∙ is, (so_far.opened q is_waiting).0))
         (pushed-cases order q r at),
     λ both. ⊎_elim
         (λ e. pushed-last order q r e)
@@ -278,25 +278,25 @@ module _ (p : ProgramForm) (mode : Mode) (action : ActionForm) (open_ changed : 
 
   ordered-by : (b : Bool) → IsOrdered p (with_changed order b q)
   ordered-by true =
-      push-ordered p order q so_far.ordered (λ r at. so_far.apart r at q is_open) (free-of_open q no_rests q is_open)
+      push-ordered p order q so_far.ordered (λ r at. so_far.apart r at q is_waiting) (free-of_waiting q no_rests q is_waiting)
   ordered-by false = subst (IsOrdered p) (sym (append-nil order)) so_far.ordered
 
-  apart-by : (b : Bool) → (x : ℕ) → Contains (with_changed order b q) x → (r : ℕ) → IsTrue (is_set open_after r) → IsFreeOf p x r
+  apart-by : (b : Bool) → (x : ℕ) → Contains (with_changed order b q) x → (r : ℕ) → IsTrue (is_set waiting_after r) → IsFreeOf p x r
   apart-by true x at r after =
       ⊎_elim
-      (λ old. so_far.apart x old r (still-open r after).0)
-      (λ e. subst (λ y. IsFreeOf p y r) (sym e) (free-of_open q no_rests r (still-open r after).0))
+      (λ old. so_far.apart x old r (still-waiting r after).0)
+      (λ e. subst (λ y. IsFreeOf p y r) (sym e) (free-of_waiting q no_rests r (still-waiting r after).0))
       (pushed-cases order q x at)
   apart-by false x at r after =
-      ⊎_elim (λ old. so_far.apart x old r (still-open r after).0) (λ none. absurd (Contains-none x none))
+      ⊎_elim (λ old. so_far.apart x old r (still-waiting r after).0) (λ none. absurd (Contains-none x none))
       (Contains-append_cases order [] x at)
 
-  pub plan-more : IsPlanSoFar p mode action open_after changed_after (with_changed order on q)
+  pub plan-more : IsPlanSoFar p mode action waiting_after changed_after (with_changed order on q)
   plan-more = record {
-    open_count = length-set open_ q false ∙ so_far.open_count;
+    waiting_count = length-set waiting q false ∙ so_far.waiting_count;
     changed_count = length-set changed q on ∙ so_far.changed_count;
     opened = λ r after.
-        let old : IsTrue (is_set open_ r) × (r ≢ q) = still-open r after
+        let old : IsTrue (is_set waiting r) × (r ≢ q) = still-waiting r after
         in let was : (update_at p mode action r ≡ None) × IsDefined (kind_at p r) × (is_set changed r ≡ false) = so_far.opened r old.0
         in (was.0, was.1, changed-other r old.1 ∙ was.2);
     settled = λ r off.
@@ -306,57 +306,57 @@ module _ (p : ProgramForm) (mode : Mode) (action : ActionForm) (open_ changed : 
         (cases_eq r q);
     closed = λ r off none rests.
         ⊎_elim
-        (λ e. no_rests (subst (λ x. RestsOn open_ (kind_at p x)) e (rests-before (kind_at p r) rests)))
-        (λ ne. so_far.closed r (sym (open-other r ne) ∙ off) none (rests-before (kind_at p r) rests))
+        (λ e. no_rests (subst (λ x. RestsOn waiting (kind_at p x)) e (rests-before (kind_at p r) rests)))
+        (λ ne. so_far.closed r (sym (waits-other r ne) ∙ off) none (rests-before (kind_at p r) rests))
         (cases_eq r q);
     members = members-by on refl;
     ordered = ordered-by on;
     apart = apart-by on;
   }
 
-pub plan_more : (p : ProgramForm) (mode : Mode) (action : ActionForm) (open_ changed : List Bool) (order : List ℕ) (q : ℕ) (on : Bool)
-    → IsPlanSoFar p mode action open_ changed order → IsTrue (is_set open_ q) → ¬ RestsOn open_ (kind_at p q)
+pub plan_more : (p : ProgramForm) (mode : Mode) (action : ActionForm) (waiting changed : List Bool) (order : List ℕ) (q : ℕ) (on : Bool)
+    → IsPlanSoFar p mode action waiting changed order → IsTrue (is_set waiting q) → ¬ RestsOn waiting (kind_at p q)
     → IsTrue on ↔ (IsTrue (moves_individuals action) ⊎ RestsOn changed (kind_at p q))
-    → IsPlanSoFar p mode action (set open_ q false) (set changed q on) (with_changed order on q)
-plan_more p mode action open_ changed order q on so_far is_open none counts =
-    plan-more p mode action open_ changed order so_far q is_open none on counts
+    → IsPlanSoFar p mode action (set waiting q false) (set changed q on) (with_changed order on q)
+plan_more p mode action waiting changed order q on so_far is_waiting none counts =
+    plan-more p mode action waiting changed order so_far q is_waiting none on counts
 
--- ---- the end: where each open predicate rests on an open one, none is open
+-- ---- the end: where each waiting predicate rests on a waiting one, none waits
 
-never-open : (p : ProgramForm) (open_ : List Bool)
-    → ((q : ℕ) → IsTrue (is_set open_ q) → RestsOn open_ (kind_at p q))
-    → (valid : IsValid p) → (n q : ℕ) → valid.rank q < n → ¬ IsTrue (is_set open_ q)
-never-open p open_ each valid zero q lt on = absurd (omega (arith, lt))
-never-open p open_ each valid (suc n) q lt on = by_kind (never-open p open_ each valid n) (kind_at p q) refl (each q on)
+never-waiting : (p : ProgramForm) (waiting : List Bool)
+    → ((q : ℕ) → IsTrue (is_set waiting q) → RestsOn waiting (kind_at p q))
+    → (valid : IsValid p) → (n q : ℕ) → valid.rank q < n → ¬ IsTrue (is_set waiting q)
+never-waiting p waiting each valid zero q lt on = absurd (omega (arith, lt))
+never-waiting p waiting each valid (suc n) q lt on = by_kind (never-waiting p waiting each valid n) (kind_at p q) refl (each q on)
   where
-    by_kind : ((r : ℕ) → valid.rank r < n → ¬ IsTrue (is_set open_ r)) → (kind : KindForm) → kind_at p q ≡ kind → RestsOn open_ kind → ⊥
+    by_kind : ((r : ℕ) → valid.rank r < n → ¬ IsTrue (is_set waiting r)) → (kind : KindForm) → kind_at p q ≡ kind → RestsOn waiting kind → ⊥
     by_kind lower KCore k never = never
     by_kind lower (KDefined vars body) k m =
         let f : (d : PredForm) × (slice_get p.preds q ≡ Some d) × (d.kind ≡ KDefined vars body) = defined-found p q vars body k
         in let falls : valid.rank m.0 < valid.rank q = valid.no_cycle.falls q f.0 f.1 vars body f.2 m.0 m.1
         in lower m.0 (omega (arith, lt, falls)) m.2
 
-pub plan_done : (p : ProgramForm) → IsValid p → (mode : Mode) (action : ActionForm) (open_ changed : List Bool) (order : List ℕ)
-    → IsPlanSoFar p mode action open_ changed order
-    → ((q : ℕ) → IsTrue (is_set open_ q) → RestsOn open_ (kind_at p q)) → IsPlan p mode action order
-plan_done p valid mode action open_ changed order so_far each = record {
+pub plan_done : (p : ProgramForm) → IsValid p → (mode : Mode) (action : ActionForm) (waiting changed : List Bool) (order : List ℕ)
+    → IsPlanSoFar p mode action waiting changed order
+    → ((q : ℕ) → IsTrue (is_set waiting q) → RestsOn waiting (kind_at p q)) → IsPlan p mode action order
+plan_done p valid mode action waiting changed order so_far each = record {
   changed = is_set changed;
-  are_changed = λ q. so_far.settled q (not-set (is_set open_ q) (never-open p open_ each valid (suc (valid.rank q)) q (omega arith)));
+  are_changed = λ q. so_far.settled q (not-set (is_set waiting q) (never-waiting p waiting each valid (suc (valid.rank q)) q (omega arith)));
   members = so_far.members;
   ordered = so_far.ordered;
 }
 
 -- the same with the order as the code has it
-pub settle_one : (p : ProgramForm) (mode : Mode) (action : ActionForm) (open_ changed : List Bool) (olds news : List PredId)
-    (r : PredId) (q : ℕ) (on : Bool) → IsPlanSoFar p mode action open_ changed (map (λ x. x.0) olds)
-    → news ≡ olds ++ cond on (r ∷ []) [] → r.0 ≡ q → IsTrue (is_set open_ q) → ¬ RestsOn open_ (kind_at p q)
+pub settle_one : (p : ProgramForm) (mode : Mode) (action : ActionForm) (waiting changed : List Bool) (olds news : List PredId)
+    (r : PredId) (q : ℕ) (on : Bool) → IsPlanSoFar p mode action waiting changed (map (λ x. x.0) olds)
+    → news ≡ olds ++ cond on (r ∷ []) [] → r.0 ≡ q → IsTrue (is_set waiting q) → ¬ RestsOn waiting (kind_at p q)
     → IsTrue on ↔ (IsTrue (moves_individuals action) ⊎ RestsOn changed (kind_at p q))
-    → IsPlanSoFar p mode action (set open_ q false) (set changed q on) (map (λ x. x.0) news)
-settle_one p mode action open_ changed olds news r q on so_far pushed same is_open none counts =
-    subst (IsPlanSoFar p mode action (set open_ q false) (set changed q on))
+    → IsPlanSoFar p mode action (set waiting q false) (set changed q on) (map (λ x. x.0) news)
+settle_one p mode action waiting changed olds news r q on so_far pushed same is_waiting none counts =
+    subst (IsPlanSoFar p mode action (set waiting q false) (set changed q on))
     (ap (λ xs. map (λ x. x.0) olds ++ xs) (sym (one on)) ∙ sym (map-append (λ x. x.0) olds (cond on (r ∷ []) []))
     ∙ ap (map (λ x. x.0)) (sym pushed))
-    (plan_more p mode action open_ changed (map (λ x. x.0) olds) q on so_far is_open none counts)
+    (plan_more p mode action waiting changed (map (λ x. x.0) olds) q on so_far is_waiting none counts)
   where
     one : (b : Bool) → map (λ (x : PredId). x.0) (cond b (r ∷ []) []) ≡ cond b (q ∷ []) []
     one true = ap (λ n. n ∷ []) same

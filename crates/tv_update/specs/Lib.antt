@@ -1,5 +1,6 @@
 pub mod Defined
 pub mod Kept
+pub mod New
 pub mod Plan
 pub mod Rows
 pub mod Update

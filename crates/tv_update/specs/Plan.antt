@@ -46,7 +46,7 @@ pub record AreUpdated (p : ProgramForm) (mode : Mode) (action : ActionForm) (fla
   pub each : (q : ℕ) → q < length p.preds → is_set flags q ≡ is_some (update_at p mode action q)
 
 -- the flags of the others that have a definition
-pub record AreOpen (p : ProgramForm) (changed flags : List Bool) : Type 0 where
+pub record AreWaiting (p : ProgramForm) (changed flags : List Bool) : Type 0 where
   pub count : length flags ≡ length p.preds
   pub each : (q : ℕ) → q < length p.preds
       → IsTrue (is_set flags q) ↔ (IsDefined (kind_at p q) × (is_set changed q ≡ false))

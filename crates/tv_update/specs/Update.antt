@@ -9,7 +9,7 @@ use Rattle.tv_frame.specs.Embedding.{IsHeapOf}
 use Rattle.tv_struct.specs.StructureForm.{StructureForm, structure_of}
 use Rattle.tv_struct.specs.declared.analysis.StageError.{StageError}
 use Rattle.tv_struct.specs.declared.analysis.StageError.TheVariants.{Splits, Individuals, Memory}
-use Rattle.tv_applied.specs.Choices.{AreGiven}
+use Rattle.tv_applied.specs.Choices.{AreNew, AreGiven}
 use Rattle.tv_applied.specs.Laws.{StepsFrom}
 use Rattle.tv_applied.specs.Tables.{IsGivenOver, IsTooLarge, HasManyChoices}
 
@@ -45,3 +45,23 @@ IsSole p mode action s picks ts =
 abbrev pub KeepsSteps : ProgramForm → Mode → ActionForm → StructureForm → Assignment → List StructureForm → Type 0
 KeepsSteps p mode action s picks ts =
     (new : Heap) → StepsFrom p mode action (structure_of s) picks new → Any (λ t. IsHeapOf new (structure_of t)) ts
+
+-- the action would add an individual to 256
+pub record IsFull (action : ActionForm) (s : StructureForm) : Type 0 where
+  pub adds : IsTrue action.fresh
+  pub full : s.size ≡ 256
+
+-- the tables are what the action gives from the middle structure
+pub record IsGivenOf (p : ProgramForm) (mode : Mode) (action : ActionForm) (picks : Assignment) (m : StructureForm)
+    (ts : List StructureForm) : Type 0 where
+  pub given : AreNew p mode action picks (structure_of m) (map structure_of ts)
+  pub over : All (IsGivenOver m) ts
+
+-- all that is said of the tables
+pub record IsAnswer (p : ProgramForm) (mode : Mode) (action : ActionForm) (s : StructureForm) (picks : Assignment)
+    (ts : List StructureForm) : Type 0 where
+  pub given : AreGiven p mode action (structure_of s) picks (map structure_of ts)
+  pub over : All (IsGivenOver s) ts
+  pub sole : IsSole p mode action s picks ts
+  pub within : IsWithinLimits action s picks
+  pub heaps : KeepsSteps p mode action s picks ts

@@ -1,10 +1,15 @@
-//! What an action does to a three-valued structure.
+//! What an action does to a three-valued structure: it adds an individual, updates predicates, drops
+//! individuals, and evaluates the definitions that are changed.
 #![tactic(auto)]
 
 mod application;
 mod define;
 mod kept;
+mod new;
 mod plan;
 mod prepare;
 mod rows;
+mod stage;
 mod updates;
+
+pub use stage::update;

@@ -6,7 +6,7 @@ ghost use Rattle.tv_model.specs.Program.{program_of, action_of, update_of};
 ghost use Rattle.tv_model.specs.Step.{update_for};
 ghost use Rattle.tv_model.specs.Valid.{IsValid, IsAction};
 ghost use Rattle.tv_applied.specs.Applied.{kind_at, update_at};
-ghost use Rattle.tv_update.specs.Plan.{is_set, RestsOn, IsDefined, moves_individuals, AreUpdated, AreOpen, IsPlan};
+ghost use Rattle.tv_update.specs.Plan.{is_set, RestsOn, IsDefined, moves_individuals, AreUpdated, AreWaiting, IsPlan};
 
 use crate::application::Application;
 use crate::updates::counts;
@@ -49,16 +49,16 @@ fn rests_on(program: &Program, p: usize, flags: &[bool]) -> bool
     }
 }
 
-/// The first open predicate whose definition rests on no open one.
-fn ready(program: &Program, open: &[bool]) -> Option<usize>
-    requires { length open.now ≡ length program.now.vocab.preds }
-    ensures some { IfSome result (λ p. (p < length open.now) × IsTrue (is_set open.now p)
-        × (¬ RestsOn open.now (kind_at (program_of program.now) p))) }
-    ensures none { IfNone result ((p : ℕ) → IsTrue (is_set open.now p)
-        → RestsOn open.now (kind_at (program_of program.now) p)) }
+/// The first waiting predicate whose definition rests on no waiting one.
+fn ready(program: &Program, waiting: &[bool]) -> Option<usize>
+    requires { length waiting.now ≡ length program.now.vocab.preds }
+    ensures some { IfSome result (λ p. (p < length waiting.now) × IsTrue (is_set waiting.now p)
+        × (¬ RestsOn waiting.now (kind_at (program_of program.now) p))) }
+    ensures none { IfNone result ((p : ℕ) → IsTrue (is_set waiting.now p)
+        → RestsOn waiting.now (kind_at (program_of program.now) p)) }
 {
-    for p in 0..open.len() {
-        if open[p] && !rests_on(program, p, open) {
+    for p in 0..waiting.len() {
+        if waiting[p] && !rests_on(program, p, waiting) {
             return Some(p);
         }
     }
@@ -107,13 +107,13 @@ fn is_defined(program: &Program, p: usize) -> bool
 }
 
 /// The flags of those that have a definition and aren't changed yet.
-fn open_flags(
+fn waiting_flags(
     alloc: Global,
     program: &Program,
     changed: &[bool],
 ) -> Result<Vec<bool>, AllocError>
     requires { length changed.now ≡ length program.now.vocab.preds }
-    ensures { IfOk result (λ flags. AreOpen (program_of program.now) changed.now flags.items) }
+    ensures { IfOk result (λ flags. AreWaiting (program_of program.now) changed.now flags.items) }
 {
     let mut flags = Vec::with_capacity(alloc, changed.len())?;
     for p in 0..changed.len() {
@@ -164,11 +164,11 @@ pub fn changed_definitions(
     let program = applied.program;
     let moves = moves(applied.action);
     let mut changed = updated_flags(alloc, applied)?;
-    let mut open = open_flags(alloc, program, changed.as_slice())?;
+    let mut waiting = waiting_flags(alloc, program, changed.as_slice())?;
     let mut order = Vec::new(alloc);
-    while let Some(p) = ready(program, open.as_slice()) {
+    while let Some(p) = ready(program, waiting.as_slice()) {
         let on = is_changed(program, p, moves, changed.as_slice());
-        open[p] = false;
+        waiting[p] = false;
         changed[p] = on;
         push_if(&mut order, PredId(p as u32), on)?;
     }

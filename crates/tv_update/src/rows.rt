@@ -34,6 +34,13 @@ impl Rows {
         }
     }
 
+    /// Holds rows for structures of so many individuals from now on.
+    pub fn resize(&mut self, size: u32)
+        ensures { self.new.size ≡ size }
+    {
+        self.size = size;
+    }
+
     /// Holds the values of the formula at all tuples of individuals, put for the variables.
     pub fn fill<'a>(
         &mut self,

@@ -3,7 +3,7 @@ use Rattle.std.specs.Prelude.{IsTrue}
 use Rattle.tv_model.specs.Program.{program_of}
 use Rattle.tv_applied.specs.Applied.{kind_at}
 use Rattle.tv_update.specs.Plan.{is_set, IsDefined}
-use Rattle.tv_update.proofs.plan.open_flags.Given as goal
+use Rattle.tv_update.proofs.plan.waiting_flags.Given as goal
 
 abbrev pub invariant-loop-p : goal.invariant-loop-p
 invariant-loop-p l = record {

@@ -1,0 +1,175 @@
+//! What an action does to a structure.
+
+ghost use Rattle.std.specs.Prelude.{◌≡◌, ◌<◌, ◌≤◌, length, map, All, IfOk, IfErr, OnOk};
+ghost use Rattle.tv_model.specs.Program.{program_of, action_of};
+ghost use Rattle.tv_model.specs.Valid.{IsValid};
+ghost use Rattle.tv_struct.specs.Halves.{row_halves};
+ghost use Rattle.tv_struct.specs.StructureForm.{IsOver, structure_of};
+ghost use Rattle.tv_eval.specs.AssignmentForm.{IsAssigned, assignment_of};
+ghost use Rattle.tv_eval.specs.ScratchForm.{IsMadeFor};
+ghost use Rattle.tv_applied.specs.Choices.{AreGiven};
+ghost use Rattle.tv_applied.specs.Tables.{middle_table, IsGivenOver};
+ghost use Rattle.tv_update.specs.Update.{action_at, IsWithinLimits, IsUpdateCause, IsSole, KeepsSteps, IsGivenOf, IsAnswer, IsFull};
+ghost use Rattle.tv_update.specs.Updated.{CanApply, IsPrepareCause, AreMade, keep_values};
+
+use crate::application::Application;
+use crate::kept::choices;
+use crate::new::{Recipe, new_structures};
+use crate::plan::changed_definitions;
+use crate::prepare::{Prepared, prepare};
+use std::alloc::{AllocError, Global};
+use tv_eval::{Assignment, Evaluator, Scratch};
+use tv_model::{Mode, Program};
+use tv_struct::{StageError, Structure, Structures};
+
+/// The most individuals of a structure.
+const MAX_INDIVIDUALS: u32 = 256;
+
+/// Reads all that is read in the middle structure, with the room of the scratch.
+fn read(
+    alloc: Global,
+    applied: &Application,
+    middle: &Structure,
+    scratch: &mut Scratch,
+) -> Result<Prepared, StageError>
+    requires can { CanApply applied.now.program.now applied.now.action.now applied.now.picks.now middle.now scratch.old }
+    ensures keep { IfOk result (λ x. x.keep.items ≡ keep_values middle.now (assignment_of applied.now.picks.now)
+        (action_of applied.now.action.now).retain) }
+    ensures few { OnOk result (row_halves (keep_values middle.now (assignment_of applied.now.picks.now)
+        (action_of applied.now.action.now).retain) ≤ 12) }
+    ensures made { IfOk result (λ x. AreMade (program_of applied.now.program.now) applied.now.mode middle.now
+        (assignment_of applied.now.picks.now) (action_of applied.now.action.now).updates middle.now x.updated) }
+    ensures cause { IfErr result (IsPrepareCause (keep_values middle.now (assignment_of applied.now.picks.now)
+        (action_of applied.now.action.now).retain)) }
+    ensures scratch { scratch.new ≡ scratch.old }
+{
+    let mut e = Evaluator::new(middle, scratch);
+    let prepared = prepare(alloc, applied, middle, &mut e);
+    e.finish(scratch);
+    prepared
+}
+
+/// The structures that the action gives of what was read.
+fn finish(
+    alloc: Global,
+    applied: &Application,
+    middle: &Structure,
+    prepared: &Prepared,
+    scratch: &mut Scratch,
+) -> Result<Structures, AllocError>
+    requires can { CanApply applied.now.program.now applied.now.action.now applied.now.picks.now middle.now scratch.old }
+    requires keep { prepared.now.keep.items ≡ keep_values middle.now (assignment_of applied.now.picks.now)
+        (action_of applied.now.action.now).retain }
+    requires made { AreMade (program_of applied.now.program.now) applied.now.mode middle.now
+        (assignment_of applied.now.picks.now) (action_of applied.now.action.now).updates middle.now prepared.now.updated }
+    ensures given { IfOk result (IsGivenOf (program_of applied.now.program.now) applied.now.mode
+        (action_of applied.now.action.now) (assignment_of applied.now.picks.now) middle.now) }
+    ensures scratch { scratch.new ≡ scratch.old }
+{
+    let _ = prepared.updated.size();
+    let choices = choices(alloc, prepared.keep.as_slice())?;
+    let order = changed_definitions(alloc, applied)?;
+    let recipe = Recipe {
+        program: applied.program,
+        order: order.as_slice(),
+        updated: &prepared.updated,
+    };
+    new_structures(alloc, &recipe, choices.as_slice(), scratch)
+}
+
+/// The structures that the action gives, where `middle` is the middle structure of `s`.
+fn answer(
+    alloc: Global,
+    applied: &Application,
+    s: &Structure,
+    middle: &Structure,
+    scratch: &mut Scratch,
+) -> Result<Structures, StageError>
+    requires can { CanApply applied.now.program.now applied.now.action.now applied.now.picks.now s.now scratch.old }
+    requires middle { middle.now ≡ middle_table (action_of applied.now.action.now).fresh s.now }
+    requires room { ¬ IsFull (action_of applied.now.action.now) s.now }
+    ensures answer { IfOk result (IsAnswer (program_of applied.now.program.now) applied.now.mode
+        (action_of applied.now.action.now) s.now (assignment_of applied.now.picks.now)) }
+    ensures cause { IfErr result (IsUpdateCause (action_of applied.now.action.now) s.now
+        (assignment_of applied.now.picks.now)) }
+    ensures scratch { scratch.new ≡ scratch.old }
+{
+    let _ = s.size();
+    let prepared = read(alloc, applied, middle, scratch)?;
+    Ok(finish(alloc, applied, middle, &prepared, scratch)?)
+}
+
+/// The structures that the action gives from `s`.
+fn apply(
+    alloc: Global,
+    applied: &Application,
+    s: &Structure,
+    scratch: &mut Scratch,
+) -> Result<Structures, StageError>
+    requires can { CanApply applied.now.program.now applied.now.action.now applied.now.picks.now s.now scratch.old }
+    ensures answer { IfOk result (IsAnswer (program_of applied.now.program.now) applied.now.mode
+        (action_of applied.now.action.now) s.now (assignment_of applied.now.picks.now)) }
+    ensures cause { IfErr result (IsUpdateCause (action_of applied.now.action.now) s.now
+        (assignment_of applied.now.picks.now)) }
+    ensures scratch { scratch.new ≡ scratch.old }
+{
+    if !applied.action.fresh {
+        return answer(alloc, applied, s, s, scratch);
+    }
+    if s.size() == MAX_INDIVIDUALS {
+        return Err(StageError::Individuals);
+    }
+    let middle = s.with_new(alloc)?;
+    answer(alloc, applied, s, &middle, scratch)
+}
+
+/// The structures that an action of the program gives from `s` under the picked individuals, one for each
+/// choice of the individuals that stay, in order.
+///
+/// A further individual is added where the action says so; the result is the middle structure. Each updated
+/// predicate gets, for each tuple, the value of its formula in the middle structure, where the update's own
+/// variables stand for the tuple and the others for the picked individuals; a free update gives `Half`. The
+/// retain formula keeps an individual at `Yes` and drops it at `No`; at `Half` either is chosen, dropped
+/// before kept. A defined predicate with an update that counts keeps what the update gave; one that is
+/// changed otherwise gets the values of its definition in the new structure. In the mode `Recompute`
+/// updates of defined predicates don't count. No individual is marked as fresh in the end.
+///
+/// Each heap, however large, that a fair step of the action makes of a concrete heap of `s` is a heap of one
+/// of the structures, where the step picks what the map takes to the picked individuals.
+///
+/// `Individuals` comes exactly where the action adds an individual to 256, and `Splits` exactly where it
+/// doesn't and there are over 4,096 choices.
+pub fn update(
+    alloc: Global,
+    program: &Program,
+    action: u32,
+    mode: Mode,
+    s: &Structure,
+    picks: &Assignment,
+    scratch: &mut Scratch,
+) -> Result<Structures, StageError>
+    requires valid { IsValid (program_of program.now) }
+    requires action { action < length program.now.actions }
+    requires over { IsOver program.now.vocab s.now }
+    requires picks { All (IsAssigned s.now.size picks.now) (action_at program.now action).picks }
+    requires scratch { IsMadeFor (program_of program.now) 256 scratch.old }
+    ensures given { IfOk result (λ ts. AreGiven (program_of program.now) mode (action_at program.now action)
+        (structure_of s.now) (assignment_of picks.now) (map structure_of ts)) }
+    ensures over { IfOk result (All (IsGivenOver s.now)) }
+    ensures sole { IfOk result (IsSole (program_of program.now) mode (action_at program.now action) s.now
+        (assignment_of picks.now)) }
+    ensures within { OnOk result (IsWithinLimits (action_at program.now action) s.now (assignment_of picks.now)) }
+    ensures cause { IfErr result (IsUpdateCause (action_at program.now action) s.now (assignment_of picks.now)) }
+    ensures heaps { IfOk result (KeepsSteps (program_of program.now) mode (action_at program.now action) s.now
+        (assignment_of picks.now)) }
+    ensures scratch { scratch.new ≡ scratch.old }
+{
+    let _ = s.size();
+    let applied = Application {
+        program,
+        action: &program.actions.as_slice()[action as usize],
+        mode,
+        picks,
+    };
+    apply(alloc, &applied, s, scratch)
+}
