@@ -1,5 +1,5 @@
 -- What is said of the tables of an update.
-use Rattle.std.proofs.Common.{ℕ, ◌≡◌, ◌≢◌, ◌<◌, ◌≤◌, ◌+◌, ◌⊎◌, inl, inr, Bool, true, false, List, length, get_or, map, Option, Some, None, refl, sym, ap, subst, ◌∙◌, arith, All, Contains, IsTrue}
+use Rattle.std.proofs.Common.{ℕ, ◌≡◌, ◌≢◌, ◌<◌, ◌≤◌, ◌+◌, ◌⊎◌, inl, inr, Bool, true, false, List, length, get_or, map, Option, Some, None, refl, sym, ap, subst, ◌∙◌, arith, All, Contains}
 use Rattle.std.specs.Prelude.{IsSomeAnd}
 use Rattle.std.specs.List.{range_with_len}
 use Rattle.std.proofs.lemmas.Bool.{cases_eq}
@@ -11,7 +11,7 @@ use Rattle.tv_model.specs.declared.program.Program.{Program}
 use Rattle.tv_model.specs.Program.{ProgramForm, ActionForm, action_of, program_of}
 use Rattle.tv_model.specs.Truth.{Assignment}
 use Rattle.tv_model.specs.Valid.{IsValid}
-use Rattle.tv_model.proofs.Lists.{All-from_contains, Contains-map, slice_get-contains}
+use Rattle.tv_model.proofs.Lists.{Contains-map}
 use Rattle.tv_struct.specs.Halves.{row_halves}
 use Rattle.tv_struct.specs.StructureForm.{StructureForm, IsStructure, IsOver, structure_of, arities_of, with_new}
 use Rattle.tv_struct.specs.Laws.{DrawnReads}
@@ -21,9 +21,9 @@ use Rattle.tv_struct.proofs.StructureLaws.{drawn_reads}
 use Rattle.tv_eval.specs.AssignmentForm.{assignment_of, IsAssigned, place_of}
 use Rattle.tv_eval.specs.ScratchForm.{ScratchForm, IsMadeFor}
 use Rattle.tv_applied.specs.Choices.{AreGiven}
-use Rattle.tv_applied.specs.Tables.{middle_table, IsGivenOver, IsTooLarge}
+use Rattle.tv_applied.specs.Tables.{middle_table, IsGivenOver}
 use Rattle.tv_applied.proofs.Tables.{tables_are_middle}
-use Rattle.tv_update.specs.Update.{no_action, action_at, IsFull, IsWithinLimits, IsUpdateCause, IsGivenOf, IsAnswer}
+use Rattle.tv_update.specs.Update.{no_action, action_at, IsFull, IsUpdateCause, IsGivenOf, IsAnswer}
 use Rattle.tv_update.specs.Updated.{CanApply, IsPrepareCause, keep_values}
 use Rattle.tv_update.proofs.Limits.{too_large, picks_inside, few_are_not_many, many_are_many}
 use Rattle.tv_update.proofs.Sole.{is_sole, keeps_steps}
@@ -34,14 +34,23 @@ over-middle false s is = refl
 over-middle true s is =
     let reads : DrawnReads s = drawn_reads s is in reads.arities (range_with_len 0 (s.size + 1)) (Some s.size)
 
-over-of : (s m : StructureForm) → arities_of m ≡ arities_of s → (ts : List StructureForm) → All (IsGivenOver m) ts → All (IsGivenOver s) ts
-over-of s m same ts all = λ k d lt. record { is = (all k d lt).is; over = (all k d lt).over ∙ same; unmarked = (all k d lt).unmarked }
+over-of : (s m : StructureForm) → arities_of m ≡ arities_of s → (ts : List StructureForm)
+    → All (IsGivenOver m) ts → All (IsGivenOver s) ts
+over-of s m same ts all =
+    λ k d lt. record {
+      is = (all k d lt).is;
+      over = (all k d lt).over
+          ∙ same;
+      unmarked = (all k d lt).unmarked;
+    }
 
-pub answered : (program : Program) (action : Action) (mode : Mode) (places : List (Option ℕ)) (s : StructureForm) (room : ScratchForm)
+pub answered : (program : Program) (action : Action) (mode : Mode) (places : List (Option ℕ))
+    (s : StructureForm) (room : ScratchForm)
     → IsStructure s → CanApply program action places s room → ¬ IsFull (action_of action) s
-    → row_halves (keep_values (middle_table (action_of action).fresh s) (assignment_of places) (action_of action).retain) ≤ 12
-    → (ts : List StructureForm)
-    → IsGivenOf (program_of program) mode (action_of action) (assignment_of places) (middle_table (action_of action).fresh s) ts
+    → row_halves (keep_values (middle_table (action_of action).fresh s) (assignment_of places)
+    (action_of action).retain) ≤ 12 → (ts : List StructureForm)
+    → IsGivenOf (program_of program) mode (action_of action) (assignment_of places)
+    (middle_table (action_of action).fresh s) ts
     → IsAnswer (program_of program) mode (action_of action) s (assignment_of places) ts
 answered program action mode places s room is can room_left few ts of = record {
   given = given;
@@ -63,23 +72,35 @@ answered program action mode places s room is can room_left few ts of = record {
     picks : Assignment
     picks = assignment_of places
 
-    inside : All (λ v. Contains (structure_of s).individuals (assignment_of places v)) (action_of action).picks
+    inside : All (λ v. Contains (structure_of s).individuals (assignment_of places v))
+        (action_of action).picks
     inside = picks_inside s places (action_of action) can.picks
 
-    given : AreGiven (program_of program) mode (action_of action) (structure_of s) (assignment_of places) (map structure_of ts)
-    given = (structure_of (middle_table (action_of action).fresh s), tables_are_middle (action_of action).fresh s is, of.given)
+    given : AreGiven (program_of program) mode (action_of action) (structure_of s) (assignment_of places)
+        (map structure_of ts)
+    given = (
+      structure_of (middle_table (action_of action).fresh s),
+      tables_are_middle
+          (action_of action).fresh s is,
+      of.given,
+    )
 
     over : All (IsGivenOver s) ts
-    over = over-of s (middle_table (action_of action).fresh s) (over-middle (action_of action).fresh s is) ts of.over
+    over = over-of s (middle_table (action_of action).fresh s)
+        (over-middle (action_of action).fresh s is) ts of.over
 
-pub refused : (action : ActionForm) (s : StructureForm) (picks : Assignment) → IsStructure s → ¬ IsFull action s → (fault : StageError)
-    → IsPrepareCause (keep_values (middle_table action.fresh s) picks action.retain) fault → IsUpdateCause action s picks fault
-refused action s picks is room_left Splits many = (λ large. room_left (too_large action s is large), many_are_many action s is picks many)
+pub refused : (action : ActionForm) (s : StructureForm) (picks : Assignment) → IsStructure s
+    → ¬ IsFull action s → (fault : StageError)
+    → IsPrepareCause (keep_values (middle_table action.fresh s) picks action.retain) fault
+    → IsUpdateCause action s picks fault
+refused action s picks is room_left Splits many =
+    (λ large. room_left (too_large action s is large), many_are_many action s is picks many)
 refused action s picks is room_left Individuals never = absurd never
 refused action s picks is room_left Memory any = tt
 
 -- the action can be applied to the middle table as well
-pub can_apply_middle : (program : Program) (action : Action) (places : List (Option ℕ)) (s : StructureForm) (room : ScratchForm)
+pub can_apply_middle : (program : Program) (action : Action) (places : List (Option ℕ)) (s : StructureForm)
+    (room : ScratchForm)
     → IsStructure s → CanApply program action places s room → ¬ IsFull (action_of action) s
     → CanApply program action places (middle_table (action_of action).fresh s) room
 can_apply_middle program action places s room is can room_left = record {
@@ -102,22 +123,24 @@ can_apply_middle program action places s room is can room_left = record {
         below (inl full) = absurd (room_left (record { adds = e; full = full }))
         below (inr ne) = omega (arith, grown, can.small, ne)
 
-    wider : (b : Bool) (o : Option ℕ) → IsSomeAnd o (λ u. u < s.size) → IsSomeAnd o (λ u. u < (middle_table b s).size)
+    wider : (b : Bool) (o : Option ℕ) → IsSomeAnd o (λ u. u < s.size)
+        → IsSomeAnd o (λ u. u < (middle_table b s).size)
     wider false o lt = lt
     wider true None never = never
     wider true (Some u) lt = omega (arith, lt, length-range_with_len 0 (s.size + 1))
 
-
 -- ---- the action with a number of the program
 
-pub action_is : (program : Program) (actions : List Action) (n : ℕ) (a : Action) → actions ≡ program.actions → n < length program.actions
-    → a ≡ get_or actions n a → action_of a ≡ action_at program n
+pub action_is : (program : Program) (actions : List Action) (n : ℕ) (a : Action) → actions ≡ program.actions
+    → n < length program.actions → a ≡ get_or actions n a → action_of a ≡ action_at program n
 action_is program actions n a same lt at =
     ap action_of at ∙ ap (λ xs. action_of (get_or xs n a)) same
     ∙ sym (get_or-map action_of program.actions n a no_action lt)
 
-pub can_apply_at : (program : Program) (actions : List Action) (n : ℕ) (a : Action) (places : List (Option ℕ)) (s : StructureForm) (room : ScratchForm)
-    → actions ≡ program.actions → n < length program.actions → a ≡ get_or actions n a → IsValid (program_of program)
+pub can_apply_at : (program : Program) (actions : List Action) (n : ℕ) (a : Action) (places : List (Option ℕ))
+    (s : StructureForm) (room : ScratchForm)
+    → actions ≡ program.actions → n < length program.actions → a ≡ get_or actions n a
+    → IsValid (program_of program)
     → IsOver program.vocab s → s.size ≤ 256 → All (IsAssigned s.size places) (action_at program n).picks
     → IsMadeFor (program_of program) 256 room → CanApply program a places s room
 can_apply_at program actions n a places s room same lt at valid over small picks made = record {
@@ -125,6 +148,7 @@ can_apply_at program actions n a places s room same lt at valid over small picks
   is_action = Contains-map action_of a program.actions (n, lt, ap (λ xs. get_or xs n a) (sym same) ∙ sym at);
   over = over;
   small = small;
-  picks = subst (λ (x : ActionForm). All (IsAssigned s.size places) x.picks) (sym (action_is program actions n a same lt at)) picks;
+  picks = subst (λ (x : ActionForm). All (IsAssigned s.size places) x.picks)
+      (sym (action_is program actions n a same lt at)) picks;
   made = made;
 }

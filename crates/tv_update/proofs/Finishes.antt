@@ -1,5 +1,5 @@
 -- What the making of the new structures asks for.
-use Rattle.std.proofs.Common.{ℕ, ◌≡◌, ◌<◌, List, length, map, Option, None, Some, slice_get, refl, sym, subst, ◌∙◌, arith, Contains}
+use Rattle.std.proofs.Common.{ℕ, ◌≡◌, ◌<◌, List, length, map, Option, None, Some, slice_get, refl, subst, ◌∙◌, arith, Contains}
 use Rattle.std.proofs.lemmas.List.{length-map}
 use Rattle.std.proofs.lemmas.Option.{slice_get_within}
 use Rattle.tv_model.specs.declared.formula.PredId.{PredId}
@@ -12,7 +12,7 @@ use Rattle.tv_model.specs.Truth.{Assignment}
 use Rattle.tv_model.proofs.Lists.{Contains-map}
 use Rattle.tv_struct.specs.StructureForm.{StructureForm}
 use Rattle.tv_eval.specs.ScratchForm.{ScratchForm}
-use Rattle.tv_applied.specs.Applied.{kind_at, update_at, IsChanged}
+use Rattle.tv_applied.specs.Applied.{kind_at, IsChanged}
 use Rattle.tv_applied.proofs.Predicates.{defined-found}
 use Rattle.tv_update.specs.New.{CanFinish}
 use Rattle.tv_update.specs.Plan.{IsPlan}
@@ -20,8 +20,8 @@ use Rattle.tv_update.specs.Updated.{CanApply, AreMade}
 use Rattle.tv_update.proofs.Applies.{each-by_recursion}
 
 -- the planned predicates are some of the program
-planned-below : (p : ProgramForm) (mode : Mode) (action : ActionForm) (order : List ℕ) → IsPlan p mode action order
-    → (q : ℕ) → Contains order q → q < length p.preds
+planned-below : (p : ProgramForm) (mode : Mode) (action : ActionForm) (order : List ℕ)
+    → IsPlan p mode action order → (q : ℕ) → Contains order q → q < length p.preds
 planned-below p mode action order plan q at =
     let At : Option UpdateForm → Type 0 = λ o. IsChanged action plan.changed o (kind_at p q)
     in by_kind (kind_at p q) (λ vars body k. defined-found p q vars body k)
@@ -32,18 +32,25 @@ planned-below p mode action order plan q at =
         → (d : PredForm) × (slice_get p.preds q ≡ Some d) × (d.kind ≡ KDefined vars body))
         → IsChanged action plan.changed None kind → q < length p.preds
     by_kind KCore found never = absurd never
-    by_kind (KDefined vars body) found any = slice_get_within p.preds q (found vars body refl).0 (found vars body refl).1
+    by_kind (KDefined vars body) found any =
+        slice_get_within p.preds q (found vars body refl).0 (found vars body refl).1
 
-pub can_finish : (program : Program) (action : Action) (mode : Mode) (places : List (Option ℕ)) (m updated : StructureForm) (room : ScratchForm)
+pub can_finish : (program : Program) (action : Action) (mode : Mode) (places : List (Option ℕ))
+    (m updated : StructureForm) (room : ScratchForm)
     (picks : Assignment) (order : List PredId) → CanApply program action places m room
     → AreMade (program_of program) mode m picks (action_of action).updates m updated
-    → IsPlan (program_of program) mode (action_of action) (map (λ x. x.0) order) → CanFinish program order updated room
+    → IsPlan (program_of program) mode (action_of action) (map (λ x. x.0) order)
+    → CanFinish program order updated room
 can_finish program action mode places m updated room picks order can made plan = record {
   valid = can.valid;
   over = made.like.over ∙ can.over;
   preds = each-by_recursion (λ (x : PredId). x.0 < length program.vocab.preds) order (λ x at.
-      omega (arith, planned-below (program_of program) mode (action_of action) (map (λ y. y.0) order) plan x.0
-      (Contains-map (λ (y : PredId). y.0) x order at), length-map program.vocab.preds pred_of));
+      omega (
+        arith,
+        planned-below (program_of program) mode (action_of action) (map (λ y. y.0) order) plan x.0
+            (Contains-map (λ (y : PredId). y.0) x order at),
+        length-map program.vocab.preds pred_of,
+      ));
   ordered = plan.ordered;
   made = can.made;
 }

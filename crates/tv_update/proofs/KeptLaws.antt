@@ -1,8 +1,7 @@
 -- Choices as flags, and as lists of those that stay.
-use Rattle.std.proofs.Common.{ℕ, ◌≡◌, ◌+◌, Bool, true, false, List, [], ◌∷◌, ◌++◌, length, map, refl, sym, ap, ◌∙◌, append_assoc}
+use Rattle.std.proofs.Common.{ℕ, ◌≡◌, ◌+◌, Bool, true, false, List, [], ◌∷◌, ◌++◌, map, refl, sym, ap, ◌∙◌, append_assoc}
 use Rattle.std.specs.List.{range_with_len}
-use Rattle.std.proofs.lemmas.List.{length-map, map-append, map-id}
-use Rattle.std.proofs.lemmas.List.Elements.{All-nil, All-cons}
+use Rattle.std.proofs.lemmas.List.{map-append, map-id}
 use Rattle.tv_kleene.specs.declared.K3.{K3}
 use Rattle.tv_kleene.specs.declared.K3.TheVariants.{No, Half, Yes}
 use Rattle.tv_model.proofs.Lists.{map-compose, map-agreed}
@@ -12,7 +11,8 @@ use Rattle.tv_update.specs.Kept.{with_flag, flag_choices}
 
 -- what begins with one more flag
 pub begun_more : (begun : List Bool) (stays : Bool) (later : List (List Bool))
-    → map (λ flags. (begun ++ stays ∷ []) ++ flags) later ≡ map (λ flags. begun ++ flags) (map (λ flags. stays ∷ flags) later)
+    → map (λ flags. (begun ++ stays ∷ []) ++ flags) later ≡ map (λ flags. begun ++ flags)
+    (map (λ flags. stays ∷ flags) later)
 begun_more begun stays later =
     map-agreed (λ flags. (begun ++ stays ∷ []) ++ flags) (λ flags. begun ++ (stays ∷ flags)) later
     (λ flags at. append_assoc begun (stays ∷ []) flags)
@@ -25,9 +25,11 @@ begun_none later = map-id later
 -- ---- flags and lists of those that stay
 
 fronted : (n : ℕ) (later : List (List Bool))
-    → map (kept_from n) (map (λ flags. true ∷ flags) later) ≡ map (λ us. n ∷ us) (map (kept_from (n + 1)) later)
+    → map (kept_from n) (map (λ flags. true ∷ flags) later) ≡ map (λ us. n ∷ us)
+    (map (kept_from (n + 1)) later)
 fronted n later =
-    map-compose (λ flags. true ∷ flags) (kept_from n) later ∙ sym (map-compose (kept_from (n + 1)) (λ us. n ∷ us) later)
+    map-compose (λ flags. true ∷ flags) (kept_from n) later
+    ∙ sym (map-compose (kept_from (n + 1)) (λ us. n ∷ us) later)
 
 passed : (n : ℕ) (later : List (List Bool))
     → map (kept_from n) (map (λ flags. false ∷ flags) later) ≡ map (kept_from (n + 1)) later

@@ -7,6 +7,7 @@ mod Given
 mod KeptLaws
 mod Limits
 mod Made
+mod Misfits
 mod NewLaws
 mod Plans
 mod RowLaws

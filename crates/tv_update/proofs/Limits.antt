@@ -1,13 +1,11 @@
 -- The limits of an update.
-use Rattle.std.proofs.Common.{ℕ, ◌≡◌, ◌<◌, ◌≤◌, ◌+◌, ◌⊎◌, ◌↔◌, ◌++◌, Bool, true, false, List, [], ◌∷◌, length, map, Option, Some, None, unwrap_or, refl, sym, ap, subst, ◌∙◌, arith, All, Contains, IsTrue}
+use Rattle.std.proofs.Common.{ℕ, ◌≡◌, ◌<◌, ◌≤◌, ◌+◌, Bool, true, false, List, [], ◌∷◌, length, Option, Some, None, unwrap_or, refl, sym, ap, subst, ◌∙◌, arith, All, Contains, IsTrue}
 use Rattle.std.specs.Prelude.{◌^◌, IsSomeAnd}
 use Rattle.std.specs.List.{range_with_len}
-use Rattle.std.proofs.lemmas.Bool.{false≢true}
 use Rattle.std.proofs.lemmas.List.{length-append}
 use Rattle.std.proofs.lemmas.List.Elements.{All-contains}
 use Rattle.std.proofs.lemmas.List.FromFn.{length-range_with_len}
 use Rattle.std.proofs.Math.Nat.{pow-le-pow_right}
-use Rattle.tv_kleene.specs.declared.K3.{K3}
 use Rattle.tv_model.specs.Program.{ProgramForm, ActionForm}
 use Rattle.tv_model.specs.Truth.{Assignment}
 use Rattle.tv_model.specs.Valid.{IsValid}
@@ -18,7 +16,6 @@ use Rattle.tv_struct.specs.StructureForm.{StructureForm, IsStructure, structure_
 use Rattle.tv_struct.proofs.Library.{Contains-range}
 use Rattle.tv_eval.specs.AssignmentForm.{assignment_of, IsAssigned, place_of}
 use Rattle.tv_applied.specs.Applied.{keep_value, IsMiddleOf}
-use Rattle.tv_applied.specs.Choices.{choices_of}
 use Rattle.tv_applied.specs.Tables.{middle_table, kept_choices, IsTooLarge, HasManyChoices, MiddlesAreAlike}
 use Rattle.tv_applied.proofs.Counts.{choices_are_counted}
 use Rattle.tv_applied.proofs.Middles.{one_middle_is_as_good}
@@ -28,12 +25,14 @@ use Rattle.tv_update.specs.Updated.{keep_values}
 
 -- ---- individuals
 
-pub too_large : (action : ActionForm) (s : StructureForm) → IsStructure s → IsTooLarge action (structure_of s) → IsFull action s
+pub too_large : (action : ActionForm) (s : StructureForm) → IsStructure s → IsTooLarge action (structure_of s)
+    → IsFull action s
 too_large action s is (m, middle, large) = by_fresh action.fresh refl middle
   where
     by_fresh : (b : Bool) → action.fresh ≡ b → IsMiddleOf b (structure_of s) m → IsFull action s
     by_fresh false e same =
-        let size : length m.individuals ≡ s.size = ap (λ (t : LogicalStructure). length t.individuals) same ∙ length-range_with_len 0 s.size
+        let size : length m.individuals ≡ s.size = ap (λ (t : LogicalStructure). length t.individuals) same
+        ∙ length-range_with_len 0 s.size
         in absurd (omega (arith, large, size, is.table.size))
     by_fresh true e grown =
         let size : length m.individuals ≡ s.size + 1
@@ -41,12 +40,17 @@ too_large action s is (m, middle, large) = by_fresh action.fresh refl middle
         ∙ ap (λ n. n + 1) (length-range_with_len 0 s.size)
         in record { adds = e; full = omega (arith, large, size, is.table.size) }
 
-pub full_is_large : (action : ActionForm) (s : StructureForm) → IsStructure s → IsTrue action.fresh → s.size ≡ 256
-    → IsTooLarge action (structure_of s)
+pub full_is_large : (action : ActionForm) (s : StructureForm) → IsStructure s → IsTrue action.fresh
+    → s.size ≡ 256 → IsTooLarge action (structure_of s)
 full_is_large action s is adds full = (
   structure_of (middle_table action.fresh s),
   tables_are_middle action.fresh s is,
-  omega (arith, subst (λ b. length (structure_of (middle_table b s)).individuals ≡ s.size + 1) (sym adds) grown, full),
+  omega (
+    arith,
+    subst (λ b. length (structure_of (middle_table b s)).individuals ≡ s.size + 1)
+        (sym adds) grown,
+    full,
+  ),
 )
   where
     grown : length (range_with_len 0 (middle_table true s).size) ≡ s.size + 1
@@ -56,7 +60,8 @@ full_is_large action s is adds full = (
 
 choice-count : (m : StructureForm) (picks : Assignment) (action : ActionForm)
     → length (kept_choices action (structure_of m) picks) ≡ 2 ^ row_halves (keep_values m picks action.retain)
-choice-count m picks action = choices_are_counted (keep_value (structure_of m) picks action.retain) (range_with_len 0 m.size)
+choice-count m picks action =
+    choices_are_counted (keep_value (structure_of m) picks action.retain) (range_with_len 0 m.size)
 
 few-choices : (h : ℕ) → h ≤ 12 → 2 ^ h ≤ 4096
 few-choices h le = pow-le-pow_right {n = 2} (omega arith) {i = h} {j = 12} le
@@ -67,30 +72,39 @@ many-choices h lt =
     in omega (arith, more)
 
 -- the variable stands for an individual
-assigned-inside : (size : ℕ) (places : List (Option ℕ)) (v : ℕ) → IsAssigned size places v → assignment_of places v < size
+assigned-inside : (size : ℕ) (places : List (Option ℕ)) (v : ℕ) → IsAssigned size places v
+    → assignment_of places v < size
 assigned-inside size places v is = go (place_of places v) is
   where
     go : (o : Option ℕ) → IsSomeAnd o (λ u. u < size) → unwrap_or o 0 < size
     go (Some u) lt = lt
     go None never = absurd never
 
-pub picks_inside : (s : StructureForm) (places : List (Option ℕ)) (action : ActionForm) → All (IsAssigned s.size places) action.picks
+pub picks_inside : (s : StructureForm) (places : List (Option ℕ)) (action : ActionForm)
+    → All (IsAssigned s.size places) action.picks
     → All (λ v. Contains (structure_of s).individuals (assignment_of places v)) action.picks
 picks_inside s places action all =
     All-from_contains (λ v. Contains (range_with_len 0 s.size) (assignment_of places v)) action.picks (λ v at.
     Contains-range s.size (assignment_of places v)
     (assigned-inside s.size places v (All-contains (IsAssigned s.size places) action.picks v all at)))
 
-pub few_are_not_many : (p : ProgramForm) → IsValid p → (action : ActionForm) → Contains p.actions action → (s : StructureForm) → IsStructure s
+pub few_are_not_many : (p : ProgramForm) → IsValid p → (action : ActionForm) → Contains p.actions action
+    → (s : StructureForm) → IsStructure s
     → (picks : Assignment) → All (λ v. Contains (structure_of s).individuals (picks v)) action.picks
     → row_halves (keep_values (middle_table action.fresh s) picks action.retain) ≤ 12
     → ¬ HasManyChoices action (structure_of s) picks
 few_are_not_many p valid action at s is picks inside few (m, middle, many) =
     let alike : MiddlesAreAlike action picks m (structure_of (middle_table action.fresh s))
-    = one_middle_is_as_good p valid action at (structure_of s) picks inside m (structure_of (middle_table action.fresh s)) middle
+    = one_middle_is_as_good p valid action at (structure_of s) picks inside m
+    (structure_of (middle_table action.fresh s)) middle
     (tables_are_middle action.fresh s is)
-    in omega (arith, many, alike.choices, choice-count (middle_table action.fresh s) picks action,
-    few-choices (row_halves (keep_values (middle_table action.fresh s) picks action.retain)) few)
+    in omega (
+      arith,
+      many,
+      alike.choices,
+      choice-count (middle_table action.fresh s) picks action,
+      few-choices (row_halves (keep_values (middle_table action.fresh s) picks action.retain)) few,
+    )
 
 pub many_are_many : (action : ActionForm) (s : StructureForm) → IsStructure s → (picks : Assignment)
     → 12 < row_halves (keep_values (middle_table action.fresh s) picks action.retain)
@@ -98,6 +112,9 @@ pub many_are_many : (action : ActionForm) (s : StructureForm) → IsStructure s 
 many_are_many action s is picks many = (
   structure_of (middle_table action.fresh s),
   tables_are_middle action.fresh s is,
-  omega (arith, choice-count (middle_table action.fresh s) picks action,
-      many-choices (row_halves (keep_values (middle_table action.fresh s) picks action.retain)) many),
+  omega (
+    arith,
+    choice-count (middle_table action.fresh s) picks action,
+    many-choices (row_halves (keep_values (middle_table action.fresh s) picks action.retain)) many,
+  ),
 )

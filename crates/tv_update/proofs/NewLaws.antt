@@ -6,14 +6,15 @@ use Rattle.tv_model.specs.Program.{ProgramForm}
 use Rattle.tv_struct.specs.StructureForm.{StructureForm}
 use Rattle.tv_update.specs.New.{IsFinished, AreFinished}
 
-zip-push : {A B : Type 0} (R : A → B → Type 0) (xs : List A) (ys : List B) (x : A) (y : B) → AllZip R xs ys → R x y
-    → AllZip R (xs ++ x ∷ []) (ys ++ y ∷ [])
+zip-push : {A B : Type 0} (R : A → B → Type 0) (xs : List A) (ys : List B) (x : A) (y : B) → AllZip R xs ys
+    → R x y → AllZip R (xs ++ x ∷ []) (ys ++ y ∷ [])
 zip-push R [] [] x y zip one = (one, tt)
 zip-push R [] (z ∷ ys) x y zip one = absurd zip
 zip-push R (z ∷ xs) [] x y zip one = absurd zip
 zip-push R (z ∷ xs) (w ∷ ys) x y zip one = (zip.0, zip-push R xs ys x y zip.1 one)
 
-pub finished_more : (p : ProgramForm) (order : List ℕ) (updated : StructureForm) (choices : List (List Bool)) (i : ℕ) (flags : List Bool)
+pub finished_more : (p : ProgramForm) (order : List ℕ) (updated : StructureForm) (choices : List (List Bool))
+    (i : ℕ) (flags : List Bool)
     (ts us : List StructureForm) (t : StructureForm) → i < length choices → flags ≡ get_or choices i flags
     → AreFinished p order updated (take i choices) ts → IsFinished p order updated flags t → us ≡ ts ++ t ∷ []
     → AreFinished p order updated (take (i + 1) choices) us

@@ -1,14 +1,14 @@
 -- How the plan of an action is made.
-use Rattle.std.proofs.Common.{ℕ, ◌≡◌, ◌≢◌, ◌<◌, ◌≤◌, ◌⊎◌, ◌↔◌, ◌&&◌, ◌||◌, ◌++◌, Bool, true, false, List, [], ◌∷◌, length, get_or, set, map, Option, None, Some, slice_get, inl, inr, ⊎_elim, refl, sym, ap, subst, ◌∙◌, cond, append-nil, arith, zero, suc, Contains, IsTrue}
-use Rattle.std.specs.Prelude.{is_some, IsSome}
-use Rattle.std.proofs.lemmas.Bool.{cases_eq, cases_lt, cases_Bool, false≢true}
+use Rattle.std.proofs.Common.{ℕ, ◌≡◌, ◌≢◌, ◌<◌, ◌≤◌, ◌⊎◌, ◌↔◌, ◌&&◌, ◌||◌, ◌++◌, Bool, true, false, List, [], ◌∷◌, length, set, map, Option, None, Some, slice_get, inl, inr, ⊎_elim, refl, sym, ap, subst, ◌∙◌, cond, append-nil, arith, zero, suc, Contains, IsTrue}
+use Rattle.std.specs.Prelude.{is_some}
+use Rattle.std.proofs.lemmas.Bool.{cases_eq, cases_lt, false≢true}
 use Rattle.std.proofs.lemmas.List.{get_or-set_same, get_or-set_other, get_or_past, length-set, map-append}
 use Rattle.std.proofs.lemmas.Option.{slice_get_within}
 use Rattle.std.proofs.lemmas.List.Elements.{Contains-append_left, Contains-append_cases}
 use Rattle.tv_model.specs.declared.program.Mode.{Mode}
 use Rattle.tv_model.specs.declared.formula.PredId.{PredId}
 use Rattle.tv_model.specs.Form.{Form, Mentions}
-use Rattle.tv_model.specs.Program.{ProgramForm, PredForm, KindForm, KCore, KDefined, ActionForm, RetainForm, UpdateForm}
+use Rattle.tv_model.specs.Program.{ProgramForm, PredForm, KindForm, KCore, KDefined, ActionForm, UpdateForm}
 use Rattle.tv_model.specs.Valid.{IsValid, IsAction}
 use Rattle.tv_model.proofs.Lists.{Contains-none, Contains-here, Contains-cases, Contains-there, pushed-cases, pushed-old, pushed-last, slice_get-past}
 use Rattle.tv_applied.specs.Applied.{used_update, kind_or_core, kind_at, update_at, MovesIndividuals, IsChanged}
@@ -22,7 +22,8 @@ pub is_some_used : (mode : Mode) (kind : KindForm) (o : Option UpdateForm) (b c 
     → ((w : UpdateForm) → used_update mode kind (Some w) ≡ cond c (Some w) None) → b ≡ is_some o
     → (b && c) ≡ is_some (used_update mode kind o)
 is_some_used mode kind None b c counts has = ap (λ x. x && c) has ∙ ap is_some (sym (none-used mode kind))
-is_some_used mode kind (Some w) b c counts has = ap (λ x. x && c) has ∙ by_count c ∙ ap is_some (sym (counts w))
+is_some_used mode kind (Some w) b c counts has =
+    ap (λ x. x && c) has ∙ by_count c ∙ ap is_some (sym (counts w))
   where
     by_count : (d : Bool) → d ≡ is_some (cond d (Some w) None)
     by_count true = refl
@@ -32,7 +33,8 @@ is_some_used mode kind (Some w) b c counts has = ap (λ x. x && c) has ∙ by_co
 
 set-below : (flags : List Bool) (q : ℕ) → IsTrue (is_set flags q) → q < length flags
 set-below flags q on =
-    ⊎_elim (λ lt. lt) (λ past. absurd (false≢true (sym (get_or_past flags q false past) ∙ on))) (cases_lt q (length flags))
+    ⊎_elim (λ lt. lt) (λ past. absurd (false≢true (sym (get_or_past flags q false past) ∙ on)))
+    (cases_lt q (length flags))
 
 not-set : (b : Bool) → (IsTrue b → ⊥) → b ≡ false
 not-set true never = absurd (never refl)
@@ -47,8 +49,10 @@ pub record IsPlanSoFar (p : ProgramForm) (mode : Mode) (action : ActionForm) (wa
   pub opened : (q : ℕ) → IsTrue (is_set waiting q)
       → (update_at p mode action q ≡ None) × IsDefined (kind_at p q) × (is_set changed q ≡ false)
   pub settled : (q : ℕ) → is_set waiting q ≡ false
-      → IsTrue (is_set changed q) ↔ IsChanged action (is_set changed) (update_at p mode action q) (kind_at p q)
-  pub closed : (q : ℕ) → is_set waiting q ≡ false → update_at p mode action q ≡ None → ¬ RestsOn waiting (kind_at p q)
+      → IsTrue (is_set changed q)
+      ↔ IsChanged action (is_set changed) (update_at p mode action q) (kind_at p q)
+  pub closed : (q : ℕ) → is_set waiting q ≡ false → update_at p mode action q ≡ None
+      → ¬ RestsOn waiting (kind_at p q)
   pub members : (q : ℕ) → Contains order q ↔ (IsTrue (is_set changed q) × (update_at p mode action q ≡ None))
   pub ordered : IsOrdered p order
   pub apart : (q : ℕ) → Contains order q → (r : ℕ) → IsTrue (is_set waiting r) → IsFreeOf p q r
@@ -58,8 +62,8 @@ pub record IsPlanSoFar (p : ProgramForm) (mode : Mode) (action : ActionForm) (wa
 past-kind : (p : ProgramForm) (q : ℕ) → length p.preds ≤ q → kind_at p q ≡ KCore
 past-kind p q past = ap kind_or_core (slice_get-past p.preds q past)
 
-past-update : (p : ProgramForm) (mode : Mode) (action : ActionForm) → IsAction p action → (q : ℕ) → length p.preds ≤ q
-    → update_at p mode action q ≡ None
+past-update : (p : ProgramForm) (mode : Mode) (action : ActionForm) → IsAction p action → (q : ℕ)
+    → length p.preds ≤ q → update_at p mode action q ≡ None
 past-update p mode action valid q past = go (update_at p mode action q) refl
   where
     go : (o : Option UpdateForm) → update_at p mode action q ≡ o → o ≡ None
@@ -73,8 +77,9 @@ not-some : {X : Type 0} (o : Option X) → is_some o ≡ false → o ≡ None
 not-some None e = refl
 not-some (Some x) e = absurd (false≢true (sym e))
 
-pub plan_start : (p : ProgramForm) (mode : Mode) (action : ActionForm) (waiting changed : List Bool) → IsAction p action
-    → AreUpdated p mode action changed → AreWaiting p changed waiting → IsPlanSoFar p mode action waiting changed []
+pub plan_start : (p : ProgramForm) (mode : Mode) (action : ActionForm) (waiting changed : List Bool)
+    → IsAction p action → AreUpdated p mode action changed → AreWaiting p changed waiting
+    → IsPlanSoFar p mode action waiting changed []
 plan_start p mode action waiting changed valid updated opens = record {
   waiting_count = opens.count;
   changed_count = updated.count;
@@ -87,7 +92,11 @@ plan_start p mode action waiting changed valid updated opens = record {
       ⊎_elim (λ below. cores q below off none rests)
       (λ past. subst (RestsOn waiting) (past-kind p q past) rests)
       (cases_lt q (length p.preds));
-  members = λ q. (λ none. absurd (Contains-none q none), λ both. absurd (unlisted q both (cases_lt q (length p.preds))));
+  members = λ q. (
+    λ none. absurd (Contains-none q none),
+    λ both. absurd
+        (unlisted q both (cases_lt q (length p.preds))),
+  );
   ordered = tt;
   apart = λ q none. absurd (Contains-none q none);
 }
@@ -117,7 +126,8 @@ plan_start p mode action waiting changed valid updated opens = record {
     by_update q None (KDefined vars body) never same = absurd (never refl tt)
 
     known : (q : ℕ) → is_set waiting q ≡ false → (q < length p.preds) ⊎ (length p.preds ≤ q)
-        → IsTrue (is_set changed q) ↔ IsChanged action (is_set changed) (update_at p mode action q) (kind_at p q)
+        → IsTrue (is_set changed q)
+        ↔ IsChanged action (is_set changed) (update_at p mode action q) (kind_at p q)
     known q off (inl below) =
         by_update q (update_at p mode action q) (kind_at p q)
         (λ none defined. core-at q below off none (kind_at p q) refl defined) (updated.each q below)
@@ -142,8 +152,11 @@ moves-same action = or-is action.fresh (is_some action.retain)
 
 push-ordered : (p : ProgramForm) (order : List ℕ) (q : ℕ) → IsOrdered p order
     → ((r : ℕ) → Contains order r → IsFreeOf p r q) → IsFreeOf p q q → IsOrdered p (order ++ q ∷ [])
-push-ordered p [] q old free own =
-    (λ r at. ⊎_elim (λ e. subst (IsFreeOf p q) e own) (λ none. absurd (Contains-none r none)) (Contains-cases q r [] at), tt)
+push-ordered p [] q old free own = (
+  λ r at. ⊎_elim (λ e. subst (IsFreeOf p q) e own) (λ none. absurd (Contains-none r none))
+      (Contains-cases q r [] at),
+  tt,
+)
 push-ordered p (x ∷ order) q old free own = (
   λ r at. ⊎_elim (old.0 r) (λ e. subst (IsFreeOf p x) (sym e) (free x (Contains-here x order)))
       (pushed-cases (x ∷ order) q r at),
@@ -155,8 +168,8 @@ abbrev pub with_changed : List ℕ → Bool → ℕ → List ℕ
 with_changed order on q = order ++ cond on (q ∷ []) []
 
 module _ (p : ProgramForm) (mode : Mode) (action : ActionForm) (waiting changed : List Bool) (order : List ℕ)
-    (so_far : IsPlanSoFar p mode action waiting changed order) (q : ℕ) (is_waiting : IsTrue (is_set waiting q))
-    (no_rests : ¬ RestsOn waiting (kind_at p q)) (on : Bool)
+    (so_far : IsPlanSoFar p mode action waiting changed order) (q : ℕ)
+    (is_waiting : IsTrue (is_set waiting q)) (no_rests : ¬ RestsOn waiting (kind_at p q)) (on : Bool)
     (counts : IsTrue on ↔ (IsTrue (moves_individuals action) ⊎ RestsOn changed (kind_at p q))) where
   abbrev waiting_after : List Bool
   waiting_after = set waiting q false
@@ -171,7 +184,8 @@ module _ (p : ProgramForm) (mode : Mode) (action : ActionForm) (waiting changed 
   waits-here = get_or-set_same waiting q false false below
 
   changed-here : is_set changed_after q ≡ on
-  changed-here = get_or-set_same changed q on false (omega (arith, below, so_far.waiting_count, so_far.changed_count))
+  changed-here = get_or-set_same changed q on false
+      (omega (arith, below, so_far.waiting_count, so_far.changed_count))
 
   waits-other : (r : ℕ) → r ≢ q → is_set waiting_after r ≡ is_set waiting r
   waits-other r ne = get_or-set_other waiting q r false false ne
@@ -186,7 +200,8 @@ module _ (p : ProgramForm) (mode : Mode) (action : ActionForm) (waiting changed 
       in (sym (waits-other r ne) ∙ after, ne)
 
   -- the definition that rests on no waiting predicate doesn't mention one
-  free-of_waiting : (x : ℕ) → ¬ RestsOn waiting (kind_at p x) → (r : ℕ) → IsTrue (is_set waiting r) → IsFreeOf p x r
+  free-of_waiting : (x : ℕ) → ¬ RestsOn waiting (kind_at p x) → (r : ℕ) → IsTrue (is_set waiting r)
+      → IsFreeOf p x r
   free-of_waiting x none r on_r vars body k m =
       none (subst (RestsOn waiting) (sym k) (r, m, on_r))
 
@@ -215,24 +230,31 @@ module _ (p : ProgramForm) (mode : Mode) (action : ActionForm) (waiting changed 
     λ is. same.1 (⊎_elim (λ m. inl ((moves-same action).1 m)) (λ r. inr r) is),
   )
 
-  settled-here : IsTrue (is_set changed_after q) ↔ IsChanged action (is_set changed_after) (update_at p mode action q) (kind_at p q)
+  settled-here : IsTrue (is_set changed_after q)
+      ↔ IsChanged action (is_set changed_after) (update_at p mode action q) (kind_at p q)
   settled-here =
-      let opened : (update_at p mode action q ≡ None) × IsDefined (kind_at p q) × (is_set changed q ≡ false) = so_far.opened q is_waiting
+      let opened : (update_at p mode action q ≡ None) × IsDefined (kind_at p q) × (is_set changed q ≡ false) =
+      so_far.opened q is_waiting
       in let first : IsTrue on ↔ IsChanged action (is_set changed) None (kind_at p q)
       = own-settled (kind_at p q) refl opened.1 counts
-      in let alike : IsChanged action (is_set changed) None (kind_at p q) ↔ IsChanged action (is_set changed_after) None (kind_at p q)
-      = changed-alike None (kind_at p q) (λ none vars body k. free-of_waiting q no_rests q is_waiting vars body k)
-      in let With : Option UpdateForm → Type 0 = λ o. IsTrue (is_set changed_after q) ↔ IsChanged action (is_set changed_after) o (kind_at p q)
+      in let alike : IsChanged action (is_set changed) None (kind_at p q)
+      ↔ IsChanged action (is_set changed_after) None (kind_at p q)
+      = changed-alike None (kind_at p q)
+      (λ none vars body k. free-of_waiting q no_rests q is_waiting vars body k)
+      in let With : Option UpdateForm → Type 0 =
+      λ o. IsTrue (is_set changed_after q) ↔ IsChanged action (is_set changed_after) o (kind_at p q)
       in subst With (sym opened.0) (
         λ t. alike.0 (first.0 (sym changed-here ∙ t)),
         λ is. changed-here ∙ first.1 (alike.1 is),
       )
 
   settled-other : (r : ℕ) → r ≢ q → is_set waiting_after r ≡ false
-      → IsTrue (is_set changed_after r) ↔ IsChanged action (is_set changed_after) (update_at p mode action r) (kind_at p r)
+      → IsTrue (is_set changed_after r)
+      ↔ IsChanged action (is_set changed_after) (update_at p mode action r) (kind_at p r)
   settled-other r ne off =
       let old : is_set waiting r ≡ false = sym (waits-other r ne) ∙ off
-      in let first : IsTrue (is_set changed r) ↔ IsChanged action (is_set changed) (update_at p mode action r) (kind_at p r) = so_far.settled r old
+      in let first : IsTrue (is_set changed r)
+      ↔ IsChanged action (is_set changed) (update_at p mode action r) (kind_at p r) = so_far.settled r old
       in let alike : IsChanged action (is_set changed) (update_at p mode action r) (kind_at p r)
       ↔ IsChanged action (is_set changed_after) (update_at p mode action r) (kind_at p r)
       = changed-alike (update_at p mode action r) (kind_at p r)
@@ -249,15 +271,18 @@ module _ (p : ProgramForm) (mode : Mode) (action : ActionForm) (waiting changed 
 
   listed : (r : ℕ) → Contains order r → r ≢ q
   listed r at e =
-      false≢true (sym (so_far.opened q is_waiting).2 ∙ subst (λ x. IsTrue (is_set changed x)) e ((so_far.members r).0 at).0)
+      false≢true (sym (so_far.opened q is_waiting).2
+      ∙ subst (λ x. IsTrue (is_set changed x)) e ((so_far.members r).0 at).0)
 
-  old-member : (r : ℕ) → Contains order r → IsTrue (is_set changed_after r) × (update_at p mode action r ≡ None)
+  old-member : (r : ℕ) → Contains order r
+      → IsTrue (is_set changed_after r) × (update_at p mode action r ≡ None)
   old-member r at =
       let both : IsTrue (is_set changed r) × (update_at p mode action r ≡ None) = (so_far.members r).0 at
       in (changed-other r (listed r at) ∙ both.0, both.1)
 
   members-by : (b : Bool) → on ≡ b → (r : ℕ)
-      → Contains (with_changed order b q) r ↔ (IsTrue (is_set changed_after r) × (update_at p mode action r ≡ None))
+      → Contains (with_changed order b q) r
+      ↔ (IsTrue (is_set changed_after r) × (update_at p mode action r ≡ None))
   members-by true is r = (
     λ at. ⊎_elim (old-member r)
         (λ e. subst (λ x. IsTrue (is_set changed_after x) × (update_at p mode action x ≡ None)) (sym e)
@@ -272,16 +297,19 @@ module _ (p : ProgramForm) (mode : Mode) (action : ActionForm) (waiting changed 
     λ at. ⊎_elim (old-member r) (λ none. absurd (Contains-none r none)) (Contains-append_cases order [] r at),
     λ both. ⊎_elim
         (λ e. absurd (false≢true (sym (changed-here ∙ is) ∙ ap (is_set changed_after) (sym e) ∙ both.0)))
-        (λ ne. Contains-append_left order [] r ((so_far.members r).1 (sym (changed-other r ne) ∙ both.0, both.1)))
+        (λ ne. Contains-append_left order [] r
+        ((so_far.members r).1 (sym (changed-other r ne) ∙ both.0, both.1)))
         (cases_eq r q),
   )
 
   ordered-by : (b : Bool) → IsOrdered p (with_changed order b q)
   ordered-by true =
-      push-ordered p order q so_far.ordered (λ r at. so_far.apart r at q is_waiting) (free-of_waiting q no_rests q is_waiting)
+      push-ordered p order q so_far.ordered (λ r at. so_far.apart r at q is_waiting)
+      (free-of_waiting q no_rests q is_waiting)
   ordered-by false = subst (IsOrdered p) (sym (append-nil order)) so_far.ordered
 
-  apart-by : (b : Bool) → (x : ℕ) → Contains (with_changed order b q) x → (r : ℕ) → IsTrue (is_set waiting_after r) → IsFreeOf p x r
+  apart-by : (b : Bool) → (x : ℕ) → Contains (with_changed order b q) x → (r : ℕ)
+      → IsTrue (is_set waiting_after r) → IsFreeOf p x r
   apart-by true x at r after =
       ⊎_elim
       (λ old. so_far.apart x old r (still-waiting r after).0)
@@ -297,11 +325,14 @@ module _ (p : ProgramForm) (mode : Mode) (action : ActionForm) (waiting changed 
     changed_count = length-set changed q on ∙ so_far.changed_count;
     opened = λ r after.
         let old : IsTrue (is_set waiting r) × (r ≢ q) = still-waiting r after
-        in let was : (update_at p mode action r ≡ None) × IsDefined (kind_at p r) × (is_set changed r ≡ false) = so_far.opened r old.0
+        in let was : (update_at p mode action r ≡ None) × IsDefined (kind_at p r)
+        × (is_set changed r ≡ false) = so_far.opened r old.0
         in (was.0, was.1, changed-other r old.1 ∙ was.2);
     settled = λ r off.
         ⊎_elim
-        (λ e. subst (λ x. IsTrue (is_set changed_after x) ↔ IsChanged action (is_set changed_after) (update_at p mode action x) (kind_at p x)) (sym e) settled-here)
+        (λ e. subst (λ x. IsTrue (is_set changed_after x)
+        ↔ IsChanged action (is_set changed_after) (update_at p mode action x) (kind_at p x))
+        (sym e) settled-here)
         (λ ne. settled-other r ne off)
         (cases_eq r q);
     closed = λ r off none rests.
@@ -314,8 +345,10 @@ module _ (p : ProgramForm) (mode : Mode) (action : ActionForm) (waiting changed 
     apart = apart-by on;
   }
 
-pub plan_more : (p : ProgramForm) (mode : Mode) (action : ActionForm) (waiting changed : List Bool) (order : List ℕ) (q : ℕ) (on : Bool)
-    → IsPlanSoFar p mode action waiting changed order → IsTrue (is_set waiting q) → ¬ RestsOn waiting (kind_at p q)
+pub plan_more : (p : ProgramForm) (mode : Mode) (action : ActionForm) (waiting changed : List Bool)
+    (order : List ℕ) (q : ℕ) (on : Bool)
+    → IsPlanSoFar p mode action waiting changed order → IsTrue (is_set waiting q)
+    → ¬ RestsOn waiting (kind_at p q)
     → IsTrue on ↔ (IsTrue (moves_individuals action) ⊎ RestsOn changed (kind_at p q))
     → IsPlanSoFar p mode action (set waiting q false) (set changed q on) (with_changed order on q)
 plan_more p mode action waiting changed order q on so_far is_waiting none counts =
@@ -327,34 +360,42 @@ never-waiting : (p : ProgramForm) (waiting : List Bool)
     → ((q : ℕ) → IsTrue (is_set waiting q) → RestsOn waiting (kind_at p q))
     → (valid : IsValid p) → (n q : ℕ) → valid.rank q < n → ¬ IsTrue (is_set waiting q)
 never-waiting p waiting each valid zero q lt on = absurd (omega (arith, lt))
-never-waiting p waiting each valid (suc n) q lt on = by_kind (never-waiting p waiting each valid n) (kind_at p q) refl (each q on)
+never-waiting p waiting each valid (suc n) q lt on =
+    by_kind (never-waiting p waiting each valid n) (kind_at p q) refl (each q on)
   where
-    by_kind : ((r : ℕ) → valid.rank r < n → ¬ IsTrue (is_set waiting r)) → (kind : KindForm) → kind_at p q ≡ kind → RestsOn waiting kind → ⊥
+    by_kind : ((r : ℕ) → valid.rank r < n → ¬ IsTrue (is_set waiting r)) → (kind : KindForm)
+        → kind_at p q ≡ kind → RestsOn waiting kind → ⊥
     by_kind lower KCore k never = never
     by_kind lower (KDefined vars body) k m =
-        let f : (d : PredForm) × (slice_get p.preds q ≡ Some d) × (d.kind ≡ KDefined vars body) = defined-found p q vars body k
+        let f : (d : PredForm) × (slice_get p.preds q ≡ Some d) × (d.kind ≡ KDefined vars body) =
+        defined-found p q vars body k
         in let falls : valid.rank m.0 < valid.rank q = valid.no_cycle.falls q f.0 f.1 vars body f.2 m.0 m.1
         in lower m.0 (omega (arith, lt, falls)) m.2
 
-pub plan_done : (p : ProgramForm) → IsValid p → (mode : Mode) (action : ActionForm) (waiting changed : List Bool) (order : List ℕ)
+pub plan_done : (p : ProgramForm) → IsValid p
+    → (mode : Mode) (action : ActionForm) (waiting changed : List Bool) (order : List ℕ)
     → IsPlanSoFar p mode action waiting changed order
     → ((q : ℕ) → IsTrue (is_set waiting q) → RestsOn waiting (kind_at p q)) → IsPlan p mode action order
 plan_done p valid mode action waiting changed order so_far each = record {
   changed = is_set changed;
-  are_changed = λ q. so_far.settled q (not-set (is_set waiting q) (never-waiting p waiting each valid (suc (valid.rank q)) q (omega arith)));
+  are_changed = λ q. so_far.settled q
+      (not-set (is_set waiting q) (never-waiting p waiting each valid (suc (valid.rank q)) q (omega arith)));
   members = so_far.members;
   ordered = so_far.ordered;
 }
 
 -- the same with the order as the code has it
-pub settle_one : (p : ProgramForm) (mode : Mode) (action : ActionForm) (waiting changed : List Bool) (olds news : List PredId)
+pub settle_one : (p : ProgramForm) (mode : Mode) (action : ActionForm) (waiting changed : List Bool)
+    (olds news : List PredId)
     (r : PredId) (q : ℕ) (on : Bool) → IsPlanSoFar p mode action waiting changed (map (λ x. x.0) olds)
-    → news ≡ olds ++ cond on (r ∷ []) [] → r.0 ≡ q → IsTrue (is_set waiting q) → ¬ RestsOn waiting (kind_at p q)
+    → news ≡ olds ++ cond on (r ∷ []) [] → r.0 ≡ q → IsTrue (is_set waiting q)
+    → ¬ RestsOn waiting (kind_at p q)
     → IsTrue on ↔ (IsTrue (moves_individuals action) ⊎ RestsOn changed (kind_at p q))
     → IsPlanSoFar p mode action (set waiting q false) (set changed q on) (map (λ x. x.0) news)
 settle_one p mode action waiting changed olds news r q on so_far pushed same is_waiting none counts =
     subst (IsPlanSoFar p mode action (set waiting q false) (set changed q on))
-    (ap (λ xs. map (λ x. x.0) olds ++ xs) (sym (one on)) ∙ sym (map-append (λ x. x.0) olds (cond on (r ∷ []) []))
+    (ap (λ xs. map (λ x. x.0) olds ++ xs) (sym (one on))
+    ∙ sym (map-append (λ x. x.0) olds (cond on (r ∷ []) []))
     ∙ ap (map (λ x. x.0)) (sym pushed))
     (plan_more p mode action waiting changed (map (λ x. x.0) olds) q on so_far is_waiting none counts)
   where

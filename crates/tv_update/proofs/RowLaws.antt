@@ -1,5 +1,5 @@
 -- The rows of a change: their shape, and their values.
-use Rattle.std.proofs.Common.{ℕ, ◌≡◌, ◌<◌, ◌≤◌, List, [], ◌∷◌, length, get_or, map, replicate, refl, sym, ap, subst, ◌∙◌, All, arith}
+use Rattle.std.proofs.Common.{ℕ, ◌≡◌, ◌<◌, ◌≤◌, List, [], ◌∷◌, length, get_or, replicate, refl, ap, subst, ◌∙◌, All, arith}
 use Rattle.std.specs.List.{range_with_len}
 use Rattle.std.proofs.lemmas.List.{get_or-replicate, length-replicate}
 use Rattle.std.proofs.lemmas.List.Elements.{All-nil, All-cons, All-map, All-replicate}
@@ -18,7 +18,8 @@ use Rattle.tv_eval.specs.Along.{values_along}
 use Rattle.tv_applied.specs.Applied.{changed_value}
 use Rattle.tv_update.specs.Rows.{AreRows, rows_for, half_rows, change_rows}
 
-along-length : (s : StructureForm) (a : Assignment) (v : ℕ) (f : Form) → length (values_along s a v f) ≡ s.size
+along-length : (s : StructureForm) (a : Assignment) (v : ℕ) (f : Form)
+    → length (values_along s a v f) ≡ s.size
 along-length s a v f = length-map-range_with_len (λ u. value (structure_of s) (put a v u) f) 0 s.size
 
 All-one : (row : List K3) (n : ℕ) → length row ≡ n → All (λ r. length r ≡ n) (row ∷ [])
@@ -36,7 +37,8 @@ rows_for_are_rows s a (v ∷ []) f few = record {
 }
 rows_for_are_rows s a (v ∷ w ∷ []) f few = record {
   count = length-map-range_with_len (λ u. values_along s (put a v u) w f) 0 s.size;
-  columns = All-map (λ row. length row ≡ s.size) (λ u. values_along s (put a v u) w f) (range_with_len 0 s.size)
+  columns = All-map (λ row. length row ≡ s.size) (λ u. values_along s (put a v u) w f)
+      (range_with_len 0 s.size)
       (λ k d lt. along-length s (put a v (get_or (range_with_len 0 s.size) k d)) w f);
 }
 rows_for_are_rows s a (v ∷ w ∷ x ∷ more) f few = absurd (omega (arith, few))
@@ -49,7 +51,8 @@ along-value s a v f u lt =
 -- each value is the formula's, under the assignment with the tuple put for the variables
 pub rows_for_values : (s : StructureForm) (a : Assignment) (vars : List ℕ) (f : Form) (tuple : List ℕ)
     → length vars ≤ 2 → length tuple ≡ length vars → AreIndividuals s.size tuple
-    → cell (rows_for s a vars f) (row_of tuple) (column_of tuple) ≡ value (structure_of s) (put_all a vars tuple) f
+    → cell (rows_for s a vars f) (row_of tuple) (column_of tuple) ≡ value (structure_of s)
+    (put_all a vars tuple) f
 rows_for_values s a [] f [] few fits within = refl
 rows_for_values s a [] f (u ∷ tuple) few fits within = absurd (omega (arith, fits))
 rows_for_values s a (v ∷ []) f [] few fits within = absurd (omega (arith, fits))
@@ -71,8 +74,8 @@ half_rows_are_rows size arity = record {
       (replicate (column_count size arity) Half) (length-replicate (column_count size arity) Half);
 }
 
-half_rows_values : (size arity : ℕ) (tuple : List ℕ) → arity ≤ 2 → length tuple ≡ arity → AreIndividuals size tuple
-    → cell (half_rows size arity) (row_of tuple) (column_of tuple) ≡ Half
+half_rows_values : (size arity : ℕ) (tuple : List ℕ) → arity ≤ 2 → length tuple ≡ arity
+    → AreIndividuals size tuple → cell (half_rows size arity) (row_of tuple) (column_of tuple) ≡ Half
 half_rows_values size arity [] few fits within = subst (λ n. cell (half_rows size n) 0 0 ≡ Half) fits refl
 half_rows_values size arity (u ∷ []) few fits within =
     subst (λ n. cell (half_rows size n) 0 u ≡ Half) fits (get_or-replicate size u Half No within.0)
@@ -88,10 +91,12 @@ change_rows_are_rows s a vars CFree few = half_rows_are_rows s.size (length vars
 change_rows_are_rows s a vars (CTo f) few = rows_for_are_rows s a vars f few
 
 -- the rows of a change have the values that it gives
-pub change_rows_values : (s : StructureForm) (a : Assignment) (vars : List ℕ) (change : ChangeForm) (tuple : List ℕ)
-    → length vars ≤ 2 → length tuple ≡ length vars → AreIndividuals s.size tuple
-    → cell (change_rows s a vars change) (row_of tuple) (column_of tuple) ≡ changed_value (structure_of s) a vars change tuple
-change_rows_values s a vars CFree tuple few fits within = half_rows_values s.size (length vars) tuple few fits within
+pub change_rows_values : (s : StructureForm) (a : Assignment) (vars : List ℕ) (change : ChangeForm)
+    (tuple : List ℕ) → length vars ≤ 2 → length tuple ≡ length vars → AreIndividuals s.size tuple
+    → cell (change_rows s a vars change) (row_of tuple) (column_of tuple) ≡ changed_value
+    (structure_of s) a vars change tuple
+change_rows_values s a vars CFree tuple few fits within =
+    half_rows_values s.size (length vars) tuple few fits within
 change_rows_values s a vars (CTo f) tuple few fits within = rows_for_values s a vars f tuple few fits within
 
 -- a predicate has two places at most

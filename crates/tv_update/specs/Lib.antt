@@ -1,3 +1,4 @@
+pub mod Applying
 pub mod Defined
 pub mod Kept
 pub mod New

@@ -1,5 +1,5 @@
 -- New structures, one for each choice of the individuals that stay.
-use Rattle.std.specs.Prelude.{ℕ, ◌≡◌, ◌<◌, Bool, List, length, map}
+use Rattle.std.specs.Prelude.{ℕ, ◌<◌, Bool, List, length, map}
 use Rattle.std.specs.List.{AllByRecursion, AllZip}
 use Rattle.tv_model.specs.declared.formula.PredId.{PredId}
 use Rattle.tv_model.specs.declared.program.Program.{Program}
@@ -11,7 +11,8 @@ use Rattle.tv_update.specs.Defined.{AreEvaluated}
 use Rattle.tv_update.specs.Plan.{IsOrdered}
 
 -- the definitions can be evaluated in parts of the structure, in this order
-pub record CanFinish (program : Program) (order : List PredId) (updated : StructureForm) (room : ScratchForm) : Type 0 where
+pub record CanFinish (program : Program) (order : List PredId) (updated : StructureForm)
+    (room : ScratchForm) : Type 0 where
   pub valid : IsValid (program_of program)
   pub over : IsOver program.vocab updated
   pub preds : AllByRecursion (λ p. p.0 < length program.vocab.preds) order
@@ -19,7 +20,8 @@ pub record CanFinish (program : Program) (order : List PredId) (updated : Struct
   pub made : IsMadeFor (program_of program) 256 room
 
 -- t has the individuals whose flag is set, and the values of the definitions
-pub record IsFinished (p : ProgramForm) (order : List ℕ) (updated : StructureForm) (flags : List Bool) (t : StructureForm) :
+pub record IsFinished (p : ProgramForm) (order : List ℕ) (updated : StructureForm) (flags : List Bool)
+    (t : StructureForm) :
     Type 0 where
   pub is : IsStructure t
   pub evaluated : AreEvaluated p order (without updated flags) t

@@ -51,7 +51,8 @@ pub record HasRows (s t : StructureForm) (pred arity : ℕ) (rows : List (List K
       → value_at t pred tuple ≡ cell rows (row_of tuple) (column_of tuple)
 
 -- the formula can be evaluated at all tuples of individuals of s, put for the variables
-pub record CanFill (s : StructureForm) (places : List (Option ℕ)) (vars : List ℕ) (room : ScratchForm) (f : Form) :
+pub record CanFill (s : StructureForm) (places : List (Option ℕ)) (vars : List ℕ) (room : ScratchForm)
+    (f : Form) :
     Type 0 where
   pub formula : IsFormulaOver (arities_of s) f
   pub variables : All IsVariable vars

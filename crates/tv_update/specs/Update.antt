@@ -15,7 +15,15 @@ use Rattle.tv_applied.specs.Tables.{IsGivenOver, IsTooLarge, HasManyChoices}
 
 -- what stands for an action that isn't there
 abbrev pub no_action : ActionForm
-no_action = record { pre = None; picks = []; focus = []; messages = []; fresh = false; retain = None; updates = [] }
+no_action = record {
+  pre = None;
+  picks = [];
+  focus = [];
+  messages = [];
+  fresh = false;
+  retain = None;
+  updates = [];
+}
 
 -- the action with that number
 abbrev pub action_at : Program → ℕ → ActionForm
@@ -42,9 +50,11 @@ IsSole p mode action s picks ts =
     → All (IsGivenOver s) us → us ≡ ts
 
 -- each heap that a fair step makes of a heap of s is one of one of the tables
-abbrev pub KeepsSteps : ProgramForm → Mode → ActionForm → StructureForm → Assignment → List StructureForm → Type 0
+abbrev pub KeepsSteps : ProgramForm → Mode → ActionForm → StructureForm → Assignment → List StructureForm
+    → Type 0
 KeepsSteps p mode action s picks ts =
-    (new : Heap) → StepsFrom p mode action (structure_of s) picks new → Any (λ t. IsHeapOf new (structure_of t)) ts
+    (new : Heap) → StepsFrom p mode action (structure_of s) picks new
+    → Any (λ t. IsHeapOf new (structure_of t)) ts
 
 -- the action would add an individual to 256
 pub record IsFull (action : ActionForm) (s : StructureForm) : Type 0 where
@@ -52,14 +62,14 @@ pub record IsFull (action : ActionForm) (s : StructureForm) : Type 0 where
   pub full : s.size ≡ 256
 
 -- the tables are what the action gives from the middle structure
-pub record IsGivenOf (p : ProgramForm) (mode : Mode) (action : ActionForm) (picks : Assignment) (m : StructureForm)
-    (ts : List StructureForm) : Type 0 where
+pub record IsGivenOf (p : ProgramForm) (mode : Mode) (action : ActionForm) (picks : Assignment)
+    (m : StructureForm) (ts : List StructureForm) : Type 0 where
   pub given : AreNew p mode action picks (structure_of m) (map structure_of ts)
   pub over : All (IsGivenOver m) ts
 
 -- all that is said of the tables
-pub record IsAnswer (p : ProgramForm) (mode : Mode) (action : ActionForm) (s : StructureForm) (picks : Assignment)
-    (ts : List StructureForm) : Type 0 where
+pub record IsAnswer (p : ProgramForm) (mode : Mode) (action : ActionForm) (s : StructureForm)
+    (picks : Assignment) (ts : List StructureForm) : Type 0 where
   pub given : AreGiven p mode action (structure_of s) picks (map structure_of ts)
   pub over : All (IsGivenOver s) ts
   pub sole : IsSole p mode action s picks ts

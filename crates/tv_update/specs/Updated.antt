@@ -26,7 +26,8 @@ abbrev pub used_in : ProgramForm → Mode → List UpdateForm → ℕ → Option
 used_in p mode updates q = used_update mode (kind_at p q) (update_for q updates)
 
 -- the value that the update gives at the tuple, or else k
-abbrev pub updated_or : (middle : LogicalStructure) → Assignment → Option UpdateForm → (tuple : List ℕ) → K3 → K3
+abbrev pub updated_or : (middle : LogicalStructure) → Assignment → Option UpdateForm → (tuple : List ℕ) → K3
+    → K3
 updated_or middle picks None tuple k = k
 updated_or middle picks (Some w) tuple k = updated_value middle picks w tuple
 
@@ -44,7 +45,8 @@ CanChange s places vars room CFree = Unit {0}
 CanChange s places vars room (CTo f) = CanFill s places vars room f
 
 -- so can that of the update, which has a variable for each place of its predicate
-pub record CanMake (s : StructureForm) (places : List (Option ℕ)) (room : ScratchForm) (w : UpdateForm) : Type 0 where
+pub record CanMake (s : StructureForm) (places : List (Option ℕ)) (room : ScratchForm)
+    (w : UpdateForm) : Type 0 where
   pub arity : HasArity s w.pred (length w.vars)
   pub change : CanChange s places w.vars room w.change
 

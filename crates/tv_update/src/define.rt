@@ -29,7 +29,8 @@ fn evaluate(
     scratch: &mut Scratch,
 ) -> Result<(), AllocError>
     requires arity { HasArity t.old p.0 (length (vars_of vars)) }
-    requires can { (places : List (Option ℕ)) → CanFill t.old places (vars_of vars) scratch.old (form_of body.now) }
+    requires can { (places : List (Option ℕ)) → CanFill t.old places (vars_of vars) scratch.old
+        (form_of body.now) }
     requires size { rows.old.size ≡ t.old.size }
     ensures rows { OnOk result (HasRows t.old t.new p.0 (length (vars_of vars))
         (rows_for t.old blank (vars_of vars) (form_of body.now))) }
@@ -68,8 +69,8 @@ fn define(
     }
 }
 
-/// Gives these predicates the values of their definitions in the structure that comes of it, where no
-/// definition rests on a predicate behind its own.
+/// Gives these predicates the values of their definitions in the structure that comes of it, where
+/// no definition rests on a predicate behind its own.
 #[tactic(auto, using(crate::proofs::Defines::none_evaluated))]
 pub fn define_all(
     program: &Program,
@@ -84,7 +85,8 @@ pub fn define_all(
     requires over { IsOver program.now.vocab t.old }
     requires size { rows.old.size ≡ t.old.size }
     requires scratch { IsMadeFor (program_of program.now) 256 scratch.old }
-    ensures evaluated { OnOk result (AreEvaluated (program_of program.now) (map (λ p. p.0) order.now) t.old t.new) }
+    ensures evaluated { OnOk result (AreEvaluated (program_of program.now) (map (λ p. p.0) order.now)
+        t.old t.new) }
     ensures size { rows.new.size ≡ rows.old.size }
     ensures scratch { scratch.new ≡ scratch.old }
 {

@@ -1,7 +1,7 @@
 //! Choices of the individuals that stay.
 
 ghost use Rattle.std.specs.Prelude.{◌≡◌, ◌≤◌, ◌++◌, ◌∷◌, [], length, map, IfOk, OnOk};
-ghost use Rattle.tv_struct.specs.Halves.{half_of, row_halves};
+ghost use Rattle.tv_struct.specs.Halves.{row_halves};
 ghost use Rattle.tv_update.specs.Kept.{flag_choices};
 
 use std::alloc::{AllocError, Global};
@@ -59,8 +59,8 @@ fn push_with(
     begun: &mut Vec<bool>,
     out: &mut Vec<Flags>,
 ) -> Result<(), AllocError>
-    ensures out { OnOk result (out.new.items ≡ out.old.items
-        ++ map (λ flags. begun.old.items ++ flags) (map (λ flags. stays ∷ flags) (flag_choices later.now))) }
+    ensures out { OnOk result (out.new.items ≡ out.old.items ++ map (λ flags. begun.old.items ++ flags)
+        (map (λ flags. stays ∷ flags) (flag_choices later.now))) }
     ensures begun { OnOk result (begun.new.items ≡ begun.old.items) }
 {
     begun.push(stays)?;
@@ -69,9 +69,9 @@ fn push_with(
     Ok(())
 }
 
-/// The choices of the individuals that stay, by the values of the retain formula: `Yes` stays and `No` is
-/// dropped; at `Half` either may be, dropped before kept. They come in the lexicographic order of the
-/// individuals.
+/// The choices of the individuals that stay, by the values of the retain formula: `Yes` stays and
+/// `No` is dropped; at `Half` either may be, dropped before kept. They come in the lexicographic
+/// order of the individuals.
 pub fn choices(alloc: Global, values: &[K3]) -> Result<Vec<Flags>, AllocError>
     ensures { IfOk result (λ choices. choices.items ≡ flag_choices values.now) }
 {

@@ -1,5 +1,5 @@
-//! What an action does to a three-valued structure: it adds an individual, updates predicates, drops
-//! individuals, and evaluates the definitions that are changed.
+//! What an action does to a three-valued structure: it adds an individual, updates predicates,
+//! drops individuals, and evaluates the definitions that are changed.
 #![tactic(auto)]
 
 mod application;

@@ -12,8 +12,8 @@ use tv_eval::Scratch;
 use tv_model::{PredId, Program};
 use tv_struct::{Structure, Structures};
 
-/// How the structure of a choice is made: of the updated one, by the definitions that are evaluated anew, in
-/// their order.
+/// How the structure of a choice is made: of the updated one, by the definitions that are evaluated
+/// anew, in their order.
 #[derive(Clone, Copy, Debug)]
 pub struct Recipe<'a> {
     pub program: &'a Program,
@@ -29,10 +29,11 @@ fn new_structure(
     rows: &mut Rows,
     scratch: &mut Scratch,
 ) -> Result<Structure, AllocError>
-    requires can { CanFinish recipe.now.program.now recipe.now.order.now recipe.now.updated.now scratch.old }
+    requires can { CanFinish recipe.now.program.now recipe.now.order.now recipe.now.updated.now
+        scratch.old }
     requires flags { length flags.now ≡ recipe.now.updated.now.size }
-    ensures finished { IfOk result (IsFinished (program_of recipe.now.program.now) (map (λ p. p.0) recipe.now.order.now)
-        recipe.now.updated.now flags.now) }
+    ensures finished { IfOk result (IsFinished (program_of recipe.now.program.now)
+        (map (λ p. p.0) recipe.now.order.now) recipe.now.updated.now flags.now) }
     ensures scratch { scratch.new ≡ scratch.old }
 {
     let mut t = recipe.updated.without(alloc, flags)?;
@@ -49,7 +50,8 @@ pub fn new_structures(
     choices: &[Flags],
     scratch: &mut Scratch,
 ) -> Result<Structures, AllocError>
-    requires can { CanFinish recipe.now.program.now recipe.now.order.now recipe.now.updated.now scratch.old }
+    requires can { CanFinish recipe.now.program.now recipe.now.order.now recipe.now.updated.now
+        scratch.old }
     requires flags { All (λ flags. length flags ≡ recipe.now.updated.now.size) choices.now }
     ensures structures { IfOk result (AreFinished (program_of recipe.now.program.now)
         (map (λ p. p.0) recipe.now.order.now) recipe.now.updated.now choices.now) }
@@ -58,13 +60,7 @@ pub fn new_structures(
     let mut rows = Rows::new(alloc, recipe.updated.size());
     let mut out = Structures::new(alloc);
     for flags in choices {
-        out.push(new_structure(
-            alloc,
-            recipe,
-            flags.as_slice(),
-            &mut rows,
-            scratch,
-        )?)?;
+        out.push(new_structure(alloc, recipe, flags.as_slice(), &mut rows, scratch)?)?;
     }
     Ok(out)
 }

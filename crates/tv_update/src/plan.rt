@@ -6,7 +6,8 @@ ghost use Rattle.tv_model.specs.Program.{program_of, action_of, update_of};
 ghost use Rattle.tv_model.specs.Step.{update_for};
 ghost use Rattle.tv_model.specs.Valid.{IsValid, IsAction};
 ghost use Rattle.tv_applied.specs.Applied.{kind_at, update_at};
-ghost use Rattle.tv_update.specs.Plan.{is_set, RestsOn, IsDefined, moves_individuals, AreUpdated, AreWaiting, IsPlan};
+ghost use Rattle.tv_update.specs.Applying.{IsPlanOf};
+ghost use Rattle.tv_update.specs.Plan.{is_set, RestsOn, IsDefined, moves_individuals, AreUpdated, AreWaiting};
 
 use crate::application::Application;
 use crate::updates::counts;
@@ -140,26 +141,24 @@ fn moves(action: &Action) -> bool
     action.fresh || action.retain.is_some()
 }
 
-/// Whether a predicate without an update that counts is changed: where individuals may come or go, or where
-/// its definition rests on a changed one.
+/// Whether a predicate without an update that counts is changed: where individuals may come or go,
+/// or where its definition rests on a changed one.
 fn is_changed(program: &Program, p: usize, moves: bool, changed: &[bool]) -> bool
     requires { p < length program.now.vocab.preds }
-    ensures { IsTrue result ↔ (IsTrue moves ⊎ RestsOn changed.now (kind_at (program_of program.now) p)) }
+    ensures { IsTrue result
+        ↔ (IsTrue moves ⊎ RestsOn changed.now (kind_at (program_of program.now) p)) }
 {
     moves || rests_on(program, p, changed)
 }
 
-/// The predicates whose definitions are evaluated anew, in an order in which they can be: each rests on
-/// none behind it. They are those without an update that counts whose definition mentions a changed
-/// predicate, or all, where individuals may come or go.
-pub fn changed_definitions(
-    alloc: Global,
-    applied: &Application,
-) -> Result<Vec<PredId>, AllocError>
+/// The predicates whose definitions are evaluated anew, in an order in which they can be: each
+/// rests on none behind it. They are those without an update that counts whose definition mentions
+/// a changed predicate, or all, where individuals may come or go.
+pub fn changed_definitions(alloc: Global, applied: &Application) -> Result<Vec<PredId>, AllocError>
     requires valid { IsValid (program_of applied.now.program.now) }
-    requires action { IsAction (program_of applied.now.program.now) (action_of applied.now.action.now) }
-    ensures { IfOk result (λ order. IsPlan (program_of applied.now.program.now) applied.now.mode
-        (action_of applied.now.action.now) (map (λ p. p.0) order.items)) }
+    requires action { IsAction (program_of applied.now.program.now)
+        (action_of applied.now.action.now) }
+    ensures { IfOk result (λ order. IsPlanOf applied.now order.items) }
 {
     let program = applied.program;
     let moves = moves(applied.action);

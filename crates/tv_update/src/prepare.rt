@@ -1,12 +1,11 @@
 //! What is read in the middle structure.
 
-ghost use Rattle.std.specs.Prelude.{◌≡◌, ◌≤◌, length, map, IfOk, IfErr, OnOk};
-ghost use Rattle.tv_model.specs.Program.{program_of, action_of};
+ghost use Rattle.std.specs.Prelude.{◌≡◌, ◌≤◌, IfOk, IfErr, OnOk};
 ghost use Rattle.tv_struct.specs.Halves.{row_halves};
 ghost use Rattle.tv_struct.specs.StructureForm.{IsStructure};
-ghost use Rattle.tv_eval.specs.AssignmentForm.{assignment_of};
 ghost use Rattle.tv_eval.specs.Bound.{IsBound, bound_structure, bound_room};
-ghost use Rattle.tv_update.specs.Updated.{AreMade, CanApply, IsPrepareCause, keep_values};
+ghost use Rattle.tv_update.specs.Applying.{CanBeApplied, IsUpdated, values_to_keep};
+ghost use Rattle.tv_update.specs.Updated.{IsPrepareCause};
 
 use crate::application::Application;
 use crate::kept::halves;
@@ -21,8 +20,8 @@ use tv_struct::{StageError, Structure};
 /// With more unknown values of the retain formula than these there are over 4,096 choices.
 const MAX_HALVES: u32 = 12;
 
-/// What is read in the middle structure: the updated values, of all its individuals, and the values of the
-/// retain formula.
+/// What is read in the middle structure: the updated values, of all its individuals, and the values
+/// of the retain formula.
 #[derive(Debug, Drop)]
 pub struct Prepared {
     pub updated: Structure,
@@ -44,9 +43,8 @@ fn listed(alloc: Global, row: &Row) -> Result<Vec<K3>, AllocError>
 fn keep_row<'a>(applied: &Application<'a>, middle: &Structure, e: &mut Evaluator<'a>) -> Row
     requires bound { IsBound e.old }
     requires structure { bound_structure e.old ≡ middle.now }
-    requires can { CanApply applied.now.program.now applied.now.action.now applied.now.picks.now middle.now (bound_room e.old) }
-    ensures values { result ≡ keep_values middle.now (assignment_of applied.now.picks.now)
-        (action_of applied.now.action.now).retain }
+    requires can { CanBeApplied applied.now middle.now (bound_room e.old) }
+    ensures values { result ≡ values_to_keep applied.now middle.now }
     ensures bound { IsBound e.new }
     ensures structure { bound_structure e.new ≡ bound_structure e.old }
     ensures room { bound_room e.new ≡ bound_room e.old }
@@ -66,9 +64,8 @@ fn updated<'a>(
 ) -> Result<Structure, AllocError>
     requires bound { IsBound e.old }
     requires structure { bound_structure e.old ≡ middle.now }
-    requires can { CanApply applied.now.program.now applied.now.action.now applied.now.picks.now middle.now (bound_room e.old) }
-    ensures made { IfOk result (AreMade (program_of applied.now.program.now) applied.now.mode middle.now
-        (assignment_of applied.now.picks.now) (action_of applied.now.action.now).updates middle.now) }
+    requires can { CanBeApplied applied.now middle.now (bound_room e.old) }
+    ensures made { IfOk result (IsUpdated applied.now middle.now) }
     ensures kept { IfOk result IsStructure }
     ensures bound { IsBound e.new }
     ensures structure { bound_structure e.new ≡ bound_structure e.old }
@@ -86,7 +83,8 @@ fn updated<'a>(
     Ok(t)
 }
 
-/// Reads all that is read in the middle structure. `Splits` comes where there are over 4,096 choices.
+/// Reads all that is read in the middle structure. `Splits` comes where there are over 4,096
+/// choices.
 pub fn prepare<'a>(
     alloc: Global,
     applied: &Application<'a>,
@@ -95,15 +93,11 @@ pub fn prepare<'a>(
 ) -> Result<Prepared, StageError>
     requires bound { IsBound e.old }
     requires structure { bound_structure e.old ≡ middle.now }
-    requires can { CanApply applied.now.program.now applied.now.action.now applied.now.picks.now middle.now (bound_room e.old) }
-    ensures keep { IfOk result (λ x. x.keep.items ≡ keep_values middle.now (assignment_of applied.now.picks.now)
-        (action_of applied.now.action.now).retain) }
-    ensures few { OnOk result (row_halves (keep_values middle.now (assignment_of applied.now.picks.now)
-        (action_of applied.now.action.now).retain) ≤ 12) }
-    ensures made { IfOk result (λ x. AreMade (program_of applied.now.program.now) applied.now.mode middle.now
-        (assignment_of applied.now.picks.now) (action_of applied.now.action.now).updates middle.now x.updated) }
-    ensures cause { IfErr result (IsPrepareCause (keep_values middle.now (assignment_of applied.now.picks.now)
-        (action_of applied.now.action.now).retain)) }
+    requires can { CanBeApplied applied.now middle.now (bound_room e.old) }
+    ensures keep { IfOk result (λ x. x.keep.items ≡ values_to_keep applied.now middle.now) }
+    ensures few { OnOk result (row_halves (values_to_keep applied.now middle.now) ≤ 12) }
+    ensures made { IfOk result (λ x. IsUpdated applied.now middle.now x.updated) }
+    ensures cause { IfErr result (IsPrepareCause (values_to_keep applied.now middle.now)) }
     ensures bound { IsBound e.new }
     ensures structure { bound_structure e.new ≡ bound_structure e.old }
     ensures room { bound_room e.new ≡ bound_room e.old }

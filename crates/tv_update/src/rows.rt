@@ -2,7 +2,6 @@
 
 ghost use Rattle.std.specs.Prelude.{◌≡◌, ◌≤◌, [], ◌∷◌, length, OnOk};
 ghost use Rattle.tv_model.specs.Form.{form_of, vars_of};
-ghost use Rattle.tv_struct.specs.StructureForm.{arities_of};
 ghost use Rattle.tv_struct.specs.StructureRows.{HasArity};
 ghost use Rattle.tv_eval.specs.AssignmentForm.{assignment_of};
 ghost use Rattle.tv_eval.specs.Bound.{IsBound, bound_structure, bound_room};
@@ -51,9 +50,10 @@ impl Rows {
     ) -> Result<(), AllocError>
         requires bound { IsBound e.old }
         requires size { self.old.size ≡ (bound_structure e.old).size }
-        requires can { CanFill (bound_structure e.old) a.now (vars_of vars) (bound_room e.old) (form_of f.now) }
-        ensures rows { OnOk result (self.new.rows.items
-            ≡ rows_for (bound_structure e.old) (assignment_of a.now) (vars_of vars) (form_of f.now)) }
+        requires can { CanFill (bound_structure e.old) a.now (vars_of vars) (bound_room e.old)
+            (form_of f.now) }
+        ensures rows { OnOk result (self.new.rows.items ≡ rows_for (bound_structure e.old)
+            (assignment_of a.now) (vars_of vars) (form_of f.now)) }
         ensures size { self.new.size ≡ self.old.size }
         ensures bound { IsBound e.new }
         ensures structure { bound_structure e.new ≡ bound_structure e.old }
@@ -86,10 +86,11 @@ impl Rows {
     ) -> Result<(), AllocError>
         requires bound { IsBound e.old }
         requires size { self.old.size ≡ (bound_structure e.old).size }
-        requires can { CanFill (bound_structure e.old) a.now (v.0 ∷ w.0 ∷ []) (bound_room e.old) (form_of f.now) }
+        requires can { CanFill (bound_structure e.old) a.now (v.0 ∷ w.0 ∷ []) (bound_room e.old)
+            (form_of f.now) }
         requires nothing { self.old.rows.items ≡ [] }
-        ensures rows { OnOk result (self.new.rows.items
-            ≡ rows_for (bound_structure e.old) (assignment_of a.now) (v.0 ∷ w.0 ∷ []) (form_of f.now)) }
+        ensures rows { OnOk result (self.new.rows.items ≡ rows_for (bound_structure e.old)
+            (assignment_of a.now) (v.0 ∷ w.0 ∷ []) (form_of f.now)) }
         ensures size { self.new.size ≡ self.old.size }
         ensures bound { IsBound e.new }
         ensures structure { bound_structure e.new ≡ bound_structure e.old }
@@ -105,7 +106,8 @@ impl Rows {
     /// Holds `Half` at all tuples.
     pub fn fill_half(&mut self, vars: Terms) -> Result<(), AllocError>
         requires { self.old.size ≤ 256 }
-        ensures rows { OnOk result (self.new.rows.items ≡ half_rows self.old.size (length (vars_of vars))) }
+        ensures rows { OnOk result (self.new.rows.items
+            ≡ half_rows self.old.size (length (vars_of vars))) }
         ensures size { self.new.size ≡ self.old.size }
     {
         self.rows.clear();
@@ -121,8 +123,8 @@ impl Rows {
         Ok(())
     }
 
-    /// Puts the rows into the predicate `p`, which has as many places as there are variables, and changes
-    /// no other.
+    /// Puts the rows into the predicate `p`, which has as many places as there are variables, and
+    /// changes no other.
     pub fn put(&self, t: &mut Structure, p: PredId, vars: Terms)
         requires arity { HasArity t.old p.0 (length (vars_of vars)) }
         requires rows { AreRows t.old.size (length (vars_of vars)) self.now.rows.items }

@@ -9,8 +9,9 @@ ghost use Rattle.tv_eval.specs.AssignmentForm.{IsAssigned, assignment_of};
 ghost use Rattle.tv_eval.specs.ScratchForm.{IsMadeFor};
 ghost use Rattle.tv_applied.specs.Choices.{AreGiven};
 ghost use Rattle.tv_applied.specs.Tables.{middle_table, IsGivenOver};
-ghost use Rattle.tv_update.specs.Update.{action_at, IsWithinLimits, IsUpdateCause, IsSole, KeepsSteps, IsGivenOf, IsAnswer, IsFull};
-ghost use Rattle.tv_update.specs.Updated.{CanApply, IsPrepareCause, AreMade, keep_values};
+ghost use Rattle.tv_update.specs.Applying.{CanBeApplied, IsUpdated, IsGivenBy, IsAnswerTo, IsCauseFor, values_to_keep};
+ghost use Rattle.tv_update.specs.Update.{action_at, IsWithinLimits, IsUpdateCause, IsSole, KeepsSteps, IsFull};
+ghost use Rattle.tv_update.specs.Updated.{IsPrepareCause};
 
 use crate::application::Application;
 use crate::kept::choices;
@@ -32,15 +33,11 @@ fn read(
     middle: &Structure,
     scratch: &mut Scratch,
 ) -> Result<Prepared, StageError>
-    requires can { CanApply applied.now.program.now applied.now.action.now applied.now.picks.now middle.now scratch.old }
-    ensures keep { IfOk result (λ x. x.keep.items ≡ keep_values middle.now (assignment_of applied.now.picks.now)
-        (action_of applied.now.action.now).retain) }
-    ensures few { OnOk result (row_halves (keep_values middle.now (assignment_of applied.now.picks.now)
-        (action_of applied.now.action.now).retain) ≤ 12) }
-    ensures made { IfOk result (λ x. AreMade (program_of applied.now.program.now) applied.now.mode middle.now
-        (assignment_of applied.now.picks.now) (action_of applied.now.action.now).updates middle.now x.updated) }
-    ensures cause { IfErr result (IsPrepareCause (keep_values middle.now (assignment_of applied.now.picks.now)
-        (action_of applied.now.action.now).retain)) }
+    requires can { CanBeApplied applied.now middle.now scratch.old }
+    ensures keep { IfOk result (λ x. x.keep.items ≡ values_to_keep applied.now middle.now) }
+    ensures few { OnOk result (row_halves (values_to_keep applied.now middle.now) ≤ 12) }
+    ensures made { IfOk result (λ x. IsUpdated applied.now middle.now x.updated) }
+    ensures cause { IfErr result (IsPrepareCause (values_to_keep applied.now middle.now)) }
     ensures scratch { scratch.new ≡ scratch.old }
 {
     let mut e = Evaluator::new(middle, scratch);
@@ -57,13 +54,10 @@ fn finish(
     prepared: &Prepared,
     scratch: &mut Scratch,
 ) -> Result<Structures, AllocError>
-    requires can { CanApply applied.now.program.now applied.now.action.now applied.now.picks.now middle.now scratch.old }
-    requires keep { prepared.now.keep.items ≡ keep_values middle.now (assignment_of applied.now.picks.now)
-        (action_of applied.now.action.now).retain }
-    requires made { AreMade (program_of applied.now.program.now) applied.now.mode middle.now
-        (assignment_of applied.now.picks.now) (action_of applied.now.action.now).updates middle.now prepared.now.updated }
-    ensures given { IfOk result (IsGivenOf (program_of applied.now.program.now) applied.now.mode
-        (action_of applied.now.action.now) (assignment_of applied.now.picks.now) middle.now) }
+    requires can { CanBeApplied applied.now middle.now scratch.old }
+    requires keep { prepared.now.keep.items ≡ values_to_keep applied.now middle.now }
+    requires made { IsUpdated applied.now middle.now prepared.now.updated }
+    ensures given { IfOk result (IsGivenBy applied.now middle.now) }
     ensures scratch { scratch.new ≡ scratch.old }
 {
     let _ = prepared.updated.size();
@@ -85,13 +79,11 @@ fn answer(
     middle: &Structure,
     scratch: &mut Scratch,
 ) -> Result<Structures, StageError>
-    requires can { CanApply applied.now.program.now applied.now.action.now applied.now.picks.now s.now scratch.old }
+    requires can { CanBeApplied applied.now s.now scratch.old }
     requires middle { middle.now ≡ middle_table (action_of applied.now.action.now).fresh s.now }
     requires room { ¬ IsFull (action_of applied.now.action.now) s.now }
-    ensures answer { IfOk result (IsAnswer (program_of applied.now.program.now) applied.now.mode
-        (action_of applied.now.action.now) s.now (assignment_of applied.now.picks.now)) }
-    ensures cause { IfErr result (IsUpdateCause (action_of applied.now.action.now) s.now
-        (assignment_of applied.now.picks.now)) }
+    ensures answer { IfOk result (IsAnswerTo applied.now s.now) }
+    ensures cause { IfErr result (IsCauseFor applied.now s.now) }
     ensures scratch { scratch.new ≡ scratch.old }
 {
     let _ = s.size();
@@ -106,11 +98,9 @@ fn apply(
     s: &Structure,
     scratch: &mut Scratch,
 ) -> Result<Structures, StageError>
-    requires can { CanApply applied.now.program.now applied.now.action.now applied.now.picks.now s.now scratch.old }
-    ensures answer { IfOk result (IsAnswer (program_of applied.now.program.now) applied.now.mode
-        (action_of applied.now.action.now) s.now (assignment_of applied.now.picks.now)) }
-    ensures cause { IfErr result (IsUpdateCause (action_of applied.now.action.now) s.now
-        (assignment_of applied.now.picks.now)) }
+    requires can { CanBeApplied applied.now s.now scratch.old }
+    ensures answer { IfOk result (IsAnswerTo applied.now s.now) }
+    ensures cause { IfErr result (IsCauseFor applied.now s.now) }
     ensures scratch { scratch.new ≡ scratch.old }
 {
     if !applied.action.fresh {
@@ -123,22 +113,24 @@ fn apply(
     answer(alloc, applied, s, &middle, scratch)
 }
 
-/// The structures that an action of the program gives from `s` under the picked individuals, one for each
-/// choice of the individuals that stay, in order.
+/// The structures that an action of the program gives from `s` under the picked individuals, one
+/// for each choice of the individuals that stay, in order.
 ///
-/// A further individual is added where the action says so; the result is the middle structure. Each updated
-/// predicate gets, for each tuple, the value of its formula in the middle structure, where the update's own
-/// variables stand for the tuple and the others for the picked individuals; a free update gives `Half`. The
-/// retain formula keeps an individual at `Yes` and drops it at `No`; at `Half` either is chosen, dropped
-/// before kept. A defined predicate with an update that counts keeps what the update gave; one that is
-/// changed otherwise gets the values of its definition in the new structure. In the mode `Recompute`
-/// updates of defined predicates don't count. No individual is marked as fresh in the end.
+/// A further individual is added where the action says so; the result is the middle structure. Each
+/// updated predicate gets, for each tuple, the value of its formula in the middle structure, where
+/// the update's own variables stand for the tuple and the others for the picked individuals; a free
+/// update gives `Half`. The retain formula keeps an individual at `Yes` and drops it at `No`; at
+/// `Half` either is chosen, dropped before kept. A defined predicate with an update that counts
+/// keeps what the update gave; one that is changed otherwise gets the values of its definition in
+/// the new structure. In the mode `Recompute` updates of defined predicates don't count. No
+/// individual is marked as fresh in the end.
 ///
-/// Each heap, however large, that a fair step of the action makes of a concrete heap of `s` is a heap of one
-/// of the structures, where the step picks what the map takes to the picked individuals.
+/// Each heap, however large, that a fair step of the action makes of a concrete heap of `s` is a
+/// heap of one of the structures, where the step picks what the map takes to the picked
+/// individuals.
 ///
-/// `Individuals` comes exactly where the action adds an individual to 256, and `Splits` exactly where it
-/// doesn't and there are over 4,096 choices.
+/// `Individuals` comes exactly where the action adds an individual to 256, and `Splits` exactly
+/// where it doesn't and there are over 4,096 choices.
 pub fn update(
     alloc: Global,
     program: &Program,
@@ -153,15 +145,18 @@ pub fn update(
     requires over { IsOver program.now.vocab s.now }
     requires picks { All (IsAssigned s.now.size picks.now) (action_at program.now action).picks }
     requires scratch { IsMadeFor (program_of program.now) 256 scratch.old }
-    ensures given { IfOk result (λ ts. AreGiven (program_of program.now) mode (action_at program.now action)
-        (structure_of s.now) (assignment_of picks.now) (map structure_of ts)) }
+    ensures given { IfOk result (λ ts. AreGiven (program_of program.now) mode
+        (action_at program.now action) (structure_of s.now) (assignment_of picks.now)
+        (map structure_of ts)) }
     ensures over { IfOk result (All (IsGivenOver s.now)) }
-    ensures sole { IfOk result (IsSole (program_of program.now) mode (action_at program.now action) s.now
+    ensures sole { IfOk result (IsSole (program_of program.now) mode (action_at program.now action)
+        s.now (assignment_of picks.now)) }
+    ensures within { OnOk result (IsWithinLimits (action_at program.now action) s.now
         (assignment_of picks.now)) }
-    ensures within { OnOk result (IsWithinLimits (action_at program.now action) s.now (assignment_of picks.now)) }
-    ensures cause { IfErr result (IsUpdateCause (action_at program.now action) s.now (assignment_of picks.now)) }
-    ensures heaps { IfOk result (KeepsSteps (program_of program.now) mode (action_at program.now action) s.now
+    ensures cause { IfErr result (IsUpdateCause (action_at program.now action) s.now
         (assignment_of picks.now)) }
+    ensures heaps { IfOk result (KeepsSteps (program_of program.now) mode
+        (action_at program.now action) s.now (assignment_of picks.now)) }
     ensures scratch { scratch.new ≡ scratch.old }
 {
     let _ = s.size();

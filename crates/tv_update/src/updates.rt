@@ -1,14 +1,15 @@
 //! The updates of an action, made in a structure.
 
-ghost use Rattle.std.specs.Prelude.{◌≡◌, ◌<◌, ◌≤◌, Some, None, length, map, OnOk, IfOk, if◌then◌else◌};
+ghost use Rattle.std.specs.Prelude.{◌≡◌, ◌<◌, ◌≤◌, Some, None, length, OnOk, if◌then◌else◌};
 ghost use Rattle.std.specs.List.{AllByRecursion};
 ghost use Rattle.tv_model.specs.Program.{UpdateForm, program_of, update_of};
 ghost use Rattle.tv_struct.specs.StructureForm.{IsOver};
 ghost use Rattle.tv_eval.specs.AssignmentForm.{assignment_of};
 ghost use Rattle.tv_eval.specs.Bound.{IsBound, bound_structure, bound_room};
-ghost use Rattle.tv_applied.specs.Applied.{used_update, kind_at, updated_value};
+ghost use Rattle.tv_applied.specs.Applied.{used_update, kind_at};
+ghost use Rattle.tv_update.specs.Applying.{AreMadeIn};
 ghost use Rattle.tv_update.specs.Rows.{HasRows, IsLike, change_rows};
-ghost use Rattle.tv_update.specs.Updated.{AreMade, CanMake};
+ghost use Rattle.tv_update.specs.Updated.{CanMake};
 
 use crate::application::Application;
 use crate::rows::Rows;
@@ -17,7 +18,8 @@ use tv_eval::{Assignment, Evaluator};
 use tv_model::{Change, Kind, Mode, PredId, Program, Update};
 use tv_struct::Structure;
 
-/// Whether updates of the predicate count: those of defined predicates don't where these are evaluated anew.
+/// Whether updates of the predicate count: those of defined predicates don't where these are
+/// evaluated anew.
 pub fn counts(program: &Program, mode: Mode, p: PredId) -> bool
     requires { p.0 < length program.now.vocab.preds }
     ensures { (w : UpdateForm) → used_update mode (kind_at (program_of program.now) p.0) (Some w)
@@ -25,7 +27,10 @@ pub fn counts(program: &Program, mode: Mode, p: PredId) -> bool
 {
     match mode {
         Mode::Given => true,
-        Mode::Recompute => matches!(program.vocab.preds.as_slice()[p.0 as usize].kind, Kind::Core),
+        Mode::Recompute => matches!(
+            program.vocab.preds.as_slice()[p.0 as usize].kind,
+            Kind::Core
+        ),
     }
 }
 
@@ -39,8 +44,8 @@ fn fill_change<'a>(
     requires bound { IsBound e.old }
     requires can { CanMake (bound_structure e.old) picks.now (bound_room e.old) (update_of w.now) }
     requires size { (rows.old.size ≡ (bound_structure e.old).size) × (rows.old.size ≤ 256) }
-    ensures values { OnOk result (rows.new.rows.items ≡ change_rows (bound_structure e.old) (assignment_of picks.now)
-        (update_of w.now).vars (update_of w.now).change) }
+    ensures values { OnOk result (rows.new.rows.items ≡ change_rows (bound_structure e.old)
+        (assignment_of picks.now) (update_of w.now).vars (update_of w.now).change) }
     ensures size { rows.new.size ≡ rows.old.size }
     ensures bound { IsBound e.new }
     ensures structure { bound_structure e.new ≡ bound_structure e.old }
@@ -66,7 +71,8 @@ fn make<'a>(
     requires like { IsLike (bound_structure e.old) t.old }
     requires size { rows.old.size ≡ t.old.size }
     ensures made { OnOk result (HasRows t.old t.new w.now.pred.0 (length (update_of w.now).vars)
-        (change_rows (bound_structure e.old) (assignment_of picks.now) (update_of w.now).vars (update_of w.now).change)) }
+        (change_rows (bound_structure e.old) (assignment_of picks.now) (update_of w.now).vars
+        (update_of w.now).change)) }
     ensures size { rows.new.size ≡ rows.old.size }
     ensures bound { IsBound e.new }
     ensures structure { bound_structure e.new ≡ bound_structure e.old }
@@ -79,7 +85,7 @@ fn make<'a>(
 }
 
 /// Makes the updates that count in `t`, all read in the evaluator's structure.
-#[tactic(auto, using(crate::proofs::RowLaws::few_vars, crate::proofs::Made::none_made, crate::proofs::Made::passed_over, crate::proofs::Made::one_more_made))]
+#[tactic(auto, using(crate::proofs::Made::none_made, crate::proofs::Made::passed_over))]
 pub fn make_all<'a>(
     applied: &Application<'a>,
     e: &mut Evaluator<'a>,
@@ -89,11 +95,11 @@ pub fn make_all<'a>(
 ) -> Result<(), AllocError>
     requires bound { IsBound e.old }
     requires over { IsOver applied.now.program.now.vocab (bound_structure e.old) }
-    requires can { AllByRecursion (λ w. CanMake (bound_structure e.old) applied.now.picks.now (bound_room e.old) (update_of w)) updates.now }
+    requires can { AllByRecursion (λ w. CanMake (bound_structure e.old) applied.now.picks.now
+        (bound_room e.old) (update_of w)) updates.now }
     requires like { IsLike (bound_structure e.old) t.old }
     requires size { rows.old.size ≡ t.old.size }
-    ensures made { OnOk result (AreMade (program_of applied.now.program.now) applied.now.mode (bound_structure e.old)
-        (assignment_of applied.now.picks.now) (map update_of updates.now) t.old t.new) }
+    ensures made { OnOk result (AreMadeIn applied.now (bound_structure e.old) updates.now t.old t.new) }
     ensures size { rows.new.size ≡ rows.old.size }
     ensures bound { IsBound e.new }
     ensures structure { bound_structure e.new ≡ bound_structure e.old }

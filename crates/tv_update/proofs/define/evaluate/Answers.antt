@@ -3,7 +3,7 @@ use Rattle.tv_kleene.specs.declared.K3.{K3}
 use Rattle.tv_model.specs.Form.{form_of, vars_of}
 use Rattle.tv_struct.specs.StructureForm.{StructureForm}
 use Rattle.tv_eval.specs.AssignmentForm.{assignment_of}
-use Rattle.tv_eval.specs.Bound.{bound_structure, bound_room}
+use Rattle.tv_eval.specs.Bound.{bound_room}
 use Rattle.tv_update.specs.Rows.{AreRows, CanFill, rows_for}
 use Rattle.tv_update.proofs.RowLaws.{rows_for_are_rows, few_vars}
 use Rattle.tv_update.proofs.define.evaluate.Goals as goal
@@ -23,5 +23,6 @@ put-requires-clause-rows c =
     Shaped (rows_for s (assignment_of c.new.result) (vars_of c.args.vars) (form_of c.args.body.now))
     in subst Shaped (sym c.in_ok-filled.ensures.rows)
     (subst In (sym c.new-e.ensures.structure)
-    (rows_for_are_rows c.args.t.now (assignment_of c.new.result) (vars_of c.args.vars) (form_of c.args.body.now)
+    (rows_for_are_rows c.args.t.now (assignment_of c.new.result) (vars_of c.args.vars)
+    (form_of c.args.body.now)
     (few_vars c.args.vars)))

@@ -5,7 +5,8 @@ use Rattle.tv_update.proofs.new.new_structures.Given as goal
 
 abbrev pub invariant-loop-flags : goal.invariant-loop-flags
 invariant-loop-flags l = record {
-  structures : AreFinished (program_of l.recipe.program.now) (map (λ p. p.0) l.recipe.order.now) l.recipe.updated.now
+  structures : AreFinished (program_of l.recipe.program.now)
+      (map (λ p. p.0) l.recipe.order.now) l.recipe.updated.now
       (take l.flags-index l.choices) l.out;
   scratch : l.scratch ≡ l.fn.scratch;
 }

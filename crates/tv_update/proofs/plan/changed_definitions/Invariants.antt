@@ -6,7 +6,8 @@ use Rattle.tv_update.proofs.plan.changed_definitions.Given as goal
 
 abbrev pub invariant-loop-p : goal.invariant-loop-p
 invariant-loop-p l =
-    IsPlanSoFar (program_of l.program) l.applied.mode (action_of l.applied.action.now) l.waiting.items l.changed.items
+    IsPlanSoFar (program_of l.program) l.applied.mode
+    (action_of l.applied.action.now) l.waiting.items l.changed.items
     (map (λ p. p.0) l.order.items)
 
 abbrev pub decreases-loop-p : goal.decreases-loop-p

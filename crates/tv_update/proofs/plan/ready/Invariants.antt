@@ -6,4 +6,5 @@ use Rattle.tv_update.specs.Plan.{is_set, RestsOn}
 use Rattle.tv_update.proofs.plan.ready.Given as goal
 
 abbrev pub invariant-loop-p : goal.invariant-loop-p
-invariant-loop-p l = (q : ℕ) → q < l.p → IsTrue (is_set l.waiting q) → RestsOn l.waiting (kind_at (program_of l.program) q)
+invariant-loop-p l = (q : ℕ) → q < l.p → IsTrue (is_set l.waiting q)
+    → RestsOn l.waiting (kind_at (program_of l.program) q)

@@ -9,5 +9,6 @@ abbrev pub invariant-loop-p : goal.invariant-loop-p
 invariant-loop-p l = record {
   count : length l.flags.items ≡ l.p;
   each : (q : ℕ) → q < l.p
-      → is_set l.flags.items q ≡ is_some (update_at (program_of l.applied.program.now) l.applied.mode (action_of l.applied.action.now) q);
+      → is_set l.flags.items q ≡ is_some
+      (update_at (program_of l.applied.program.now) l.applied.mode (action_of l.applied.action.now) q);
 }

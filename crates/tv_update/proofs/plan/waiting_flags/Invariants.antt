@@ -9,5 +9,6 @@ abbrev pub invariant-loop-p : goal.invariant-loop-p
 invariant-loop-p l = record {
   count : length l.flags.items ≡ l.p;
   each : (q : ℕ) → q < l.p
-      → IsTrue (is_set l.flags.items q) ↔ (IsDefined (kind_at (program_of l.program) q) × (is_set l.changed q ≡ false));
+      → IsTrue (is_set l.flags.items q)
+      ↔ (IsDefined (kind_at (program_of l.program) q) × (is_set l.changed q ≡ false));
 }

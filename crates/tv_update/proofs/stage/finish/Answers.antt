@@ -14,33 +14,51 @@ use Rattle.tv_update.proofs.stage.finish.Goals as goal
 
 pub new_structures-requires-clause-can : goal.new_structures-requires-clause-can
 new_structures-requires-clause-can c =
-    subst (λ order. CanFinish c.args.applied.now.program.now order c.args.prepared.now.updated c.args.scratch.now)
+    subst (λ order. CanFinish c.args.applied.now.program.now order c.args.prepared.now.updated
+    c.args.scratch.now)
     (sym c.as_slice-2.ensures.value)
-    (can_finish c.args.applied.now.program.now c.args.applied.now.action.now c.args.applied.now.mode c.args.applied.now.picks.now
-    c.args.middle.now c.args.prepared.now.updated c.args.scratch.now (assignment_of c.args.applied.now.picks.now) c.in_ok-order.order.items
+    (can_finish c.args.applied.now.program.now c.args.applied.now.action.now c.args.applied.now.mode
+    c.args.applied.now.picks.now
+    c.args.middle.now c.args.prepared.now.updated c.args.scratch.now
+    (assignment_of c.args.applied.now.picks.now) c.in_ok-order.order.items
     c.requires.can c.requires.made c.in_ok-order.ensures)
 
 pub new_structures-requires-clause-flags : goal.new_structures-requires-clause-flags
 new_structures-requires-clause-flags c =
-    let listed : c.as_slice-3.result.now ≡ flag_choices (keep_values c.args.middle.now (assignment_of c.args.applied.now.picks.now) (action_of c.args.applied.now.action.now).retain)
-    = c.as_slice-3.ensures.value ∙ c.in_ok-choices.ensures ∙ ap flag_choices (c.as_slice.ensures.value ∙ c.requires.keep)
+    let listed : c.as_slice-3.result.now ≡ flag_choices
+    (keep_values c.args.middle.now (assignment_of c.args.applied.now.picks.now)
+    (action_of c.args.applied.now.action.now).retain)
+    = c.as_slice-3.ensures.value ∙ c.in_ok-choices.ensures
+    ∙ ap flag_choices (c.as_slice.ensures.value ∙ c.requires.keep)
     in subst (All (λ flags. length flags ≡ c.args.prepared.now.updated.size)) (sym listed)
-    (subst (λ n. All (λ flags. length flags ≡ n) (flag_choices (keep_values c.args.middle.now (assignment_of c.args.applied.now.picks.now) (action_of c.args.applied.now.action.now).retain)))
+    (subst (λ n. All (λ flags. length flags ≡ n)
+    (flag_choices (keep_values c.args.middle.now (assignment_of c.args.applied.now.picks.now)
+    (action_of c.args.applied.now.action.now).retain)))
     (sym c.requires.made.like.size)
-    (flags_fit c.args.middle.now (assignment_of c.args.applied.now.picks.now) (action_of c.args.applied.now.action.now)))
+    (flags_fit c.args.middle.now (assignment_of c.args.applied.now.picks.now)
+    (action_of c.args.applied.now.action.now)))
 
 pub returns-clause-given : goal.returns-clause-given
 returns-clause-given c =
-    let listed : c.as_slice-3.result.now ≡ flag_choices (keep_values c.args.middle.now (assignment_of c.args.applied.now.picks.now) (action_of c.args.applied.now.action.now).retain)
-    = c.as_slice-3.ensures.value ∙ c.in_ok-choices.ensures ∙ ap flag_choices (c.as_slice.ensures.value ∙ c.requires.keep)
+    let listed : c.as_slice-3.result.now ≡ flag_choices
+    (keep_values c.args.middle.now (assignment_of c.args.applied.now.picks.now)
+    (action_of c.args.applied.now.action.now).retain)
+    = c.as_slice-3.ensures.value ∙ c.in_ok-choices.ensures
+    ∙ ap flag_choices (c.as_slice.ensures.value ∙ c.requires.keep)
     in let Finished : List PredId → List (List Bool) → List StructureForm → Type 0
-    = λ order choices ts. AreFinished (program_of c.args.applied.now.program.now) (map (λ p. p.0) order) c.args.prepared.now.updated choices ts
+    = λ order choices ts. AreFinished (program_of c.args.applied.now.program.now)
+    (map (λ p. p.0) order) c.args.prepared.now.updated choices ts
     in IfOk-weaker c.new_structures.result (Finished c.as_slice-2.result.now c.as_slice-3.result.now)
-    (IsGivenOf (program_of c.args.applied.now.program.now) c.args.applied.now.mode (action_of c.args.applied.now.action.now)
+    (IsGivenOf (program_of c.args.applied.now.program.now) c.args.applied.now.mode
+    (action_of c.args.applied.now.action.now)
     (assignment_of c.args.applied.now.picks.now) c.args.middle.now)
-    (λ ts done. finished_are_given (program_of c.args.applied.now.program.now) c.args.applied.now.mode (action_of c.args.applied.now.action.now)
-    (assignment_of c.args.applied.now.picks.now) c.args.middle.now c.args.prepared.now.updated (map (λ p. p.0) c.in_ok-order.order.items) ts
+    (λ ts done. finished_are_given (program_of c.args.applied.now.program.now) c.args.applied.now.mode
+    (action_of c.args.applied.now.action.now)
+    (assignment_of c.args.applied.now.picks.now) c.args.middle.now c.args.prepared.now.updated
+    (map (λ p. p.0) c.in_ok-order.order.items) ts
     c.size.ensures.kept c.requires.made c.in_ok-order.ensures
-    (subst (λ order. Finished order (flag_choices (keep_values c.args.middle.now (assignment_of c.args.applied.now.picks.now) (action_of c.args.applied.now.action.now).retain)) ts)
+    (subst (λ order. Finished order
+    (flag_choices (keep_values c.args.middle.now (assignment_of c.args.applied.now.picks.now)
+    (action_of c.args.applied.now.action.now).retain)) ts)
     c.as_slice-2.ensures.value (subst (λ choices. Finished c.as_slice-2.result.now choices ts) listed done)))
     c.new_structures.ensures.structures

@@ -12,51 +12,72 @@ use Rattle.tv_update.proofs.stage.update.Goals as goal
 
 pub apply-requires : goal.apply-requires
 apply-requires c = record {
-  can = can_apply_at c.args.program.now c.as_slice.result.now c.args.action c.index-as_slice-action.result c.args.picks.now c.args.s.now c.args.scratch.now
-      c.as_slice.ensures c.requires.action c.index-as_slice-action.is c.requires.valid c.requires.over c.size.ensures.kept.table.size
+  can = can_apply_at c.args.program.now c.as_slice.result.now c.args.action c.index-as_slice-action.result
+      c.args.picks.now c.args.s.now c.args.scratch.now
+      c.as_slice.ensures c.requires.action c.index-as_slice-action.is c.requires.valid c.requires.over
+      c.size.ensures.kept.table.size
       c.requires.picks c.requires.scratch;
 }
 
 -- the action is the one with that number
-is-action : (c : goal.After-apply) → action_of c.index-as_slice-action.result ≡ action_at c.args.program.now c.args.action
+is-action : (c : goal.After-apply)
+    → action_of c.index-as_slice-action.result ≡ action_at c.args.program.now c.args.action
 is-action c =
-    action_is c.args.program.now c.as_slice.result.now c.args.action c.index-as_slice-action.result c.as_slice.ensures c.requires.action
+    action_is c.args.program.now c.as_slice.result.now c.args.action c.index-as_slice-action.result
+    c.as_slice.ensures c.requires.action
     c.index-as_slice-action.is
 
 answer : (c : goal.After-apply) → IfOk c.apply.result (IsAnswer (program_of c.args.program.now) c.args.mode
     (action_at c.args.program.now c.args.action) c.args.s.now (assignment_of c.args.picks.now))
 answer c =
-    subst (λ (a : ActionForm). IfOk c.apply.result (IsAnswer (program_of c.args.program.now) c.args.mode a c.args.s.now (assignment_of c.args.picks.now)))
+    subst (λ (a : ActionForm). IfOk c.apply.result
+    (IsAnswer (program_of c.args.program.now) c.args.mode a c.args.s.now
+    (assignment_of c.args.picks.now)))
     (is-action c) c.apply.ensures.answer
 
 pub returns-clause-given : goal.returns-clause-given
 returns-clause-given c =
-    IfOk-weaker c.apply.result (IsAnswer (program_of c.args.program.now) c.args.mode (action_at c.args.program.now c.args.action) c.args.s.now (assignment_of c.args.picks.now))
-    (λ ts. AreGiven (program_of c.args.program.now) c.args.mode (action_at c.args.program.now c.args.action) (structure_of c.args.s.now)
+    IfOk-weaker c.apply.result
+    (IsAnswer (program_of c.args.program.now) c.args.mode
+    (action_at c.args.program.now c.args.action) c.args.s.now (assignment_of c.args.picks.now))
+    (λ ts. AreGiven (program_of c.args.program.now) c.args.mode (action_at c.args.program.now c.args.action)
+    (structure_of c.args.s.now)
     (assignment_of c.args.picks.now) (map structure_of ts)) (λ ts a. a.given) (answer c)
 
 pub returns-clause-over : goal.returns-clause-over
 returns-clause-over c =
-    IfOk-weaker c.apply.result (IsAnswer (program_of c.args.program.now) c.args.mode (action_at c.args.program.now c.args.action) c.args.s.now (assignment_of c.args.picks.now))
+    IfOk-weaker c.apply.result
+    (IsAnswer (program_of c.args.program.now) c.args.mode
+    (action_at c.args.program.now c.args.action) c.args.s.now (assignment_of c.args.picks.now))
     (All (IsGivenOver c.args.s.now)) (λ ts a. a.over) (answer c)
 
 pub returns-clause-sole : goal.returns-clause-sole
 returns-clause-sole c =
-    IfOk-weaker c.apply.result (IsAnswer (program_of c.args.program.now) c.args.mode (action_at c.args.program.now c.args.action) c.args.s.now (assignment_of c.args.picks.now))
-    (IsSole (program_of c.args.program.now) c.args.mode (action_at c.args.program.now c.args.action) c.args.s.now (assignment_of c.args.picks.now))
+    IfOk-weaker c.apply.result
+    (IsAnswer (program_of c.args.program.now) c.args.mode
+    (action_at c.args.program.now c.args.action) c.args.s.now (assignment_of c.args.picks.now))
+    (IsSole (program_of c.args.program.now) c.args.mode
+    (action_at c.args.program.now c.args.action) c.args.s.now (assignment_of c.args.picks.now))
     (λ ts a. a.sole) (answer c)
 
 pub returns-clause-within : goal.returns-clause-within
 returns-clause-within c =
-    IfOk-weaker c.apply.result (IsAnswer (program_of c.args.program.now) c.args.mode (action_at c.args.program.now c.args.action) c.args.s.now (assignment_of c.args.picks.now))
-    (λ ts. IsWithinLimits (action_at c.args.program.now c.args.action) c.args.s.now (assignment_of c.args.picks.now)) (λ ts a. a.within) (answer c)
+    IfOk-weaker c.apply.result
+    (IsAnswer (program_of c.args.program.now) c.args.mode
+    (action_at c.args.program.now c.args.action) c.args.s.now (assignment_of c.args.picks.now))
+    (λ ts. IsWithinLimits (action_at c.args.program.now c.args.action) c.args.s.now
+    (assignment_of c.args.picks.now)) (λ ts a. a.within) (answer c)
 
 pub returns-clause-cause : goal.returns-clause-cause
 returns-clause-cause c =
-    subst (λ (a : ActionForm). IfErr c.apply.result (IsUpdateCause a c.args.s.now (assignment_of c.args.picks.now))) (is-action c) c.apply.ensures.cause
+    subst (λ (a : ActionForm). IfErr c.apply.result
+    (IsUpdateCause a c.args.s.now (assignment_of c.args.picks.now))) (is-action c) c.apply.ensures.cause
 
 pub returns-clause-heaps : goal.returns-clause-heaps
 returns-clause-heaps c =
-    IfOk-weaker c.apply.result (IsAnswer (program_of c.args.program.now) c.args.mode (action_at c.args.program.now c.args.action) c.args.s.now (assignment_of c.args.picks.now))
-    (KeepsSteps (program_of c.args.program.now) c.args.mode (action_at c.args.program.now c.args.action) c.args.s.now (assignment_of c.args.picks.now))
+    IfOk-weaker c.apply.result
+    (IsAnswer (program_of c.args.program.now) c.args.mode
+    (action_at c.args.program.now c.args.action) c.args.s.now (assignment_of c.args.picks.now))
+    (KeepsSteps (program_of c.args.program.now) c.args.mode
+    (action_at c.args.program.now c.args.action) c.args.s.now (assignment_of c.args.picks.now))
     (λ ts a. a.heaps) (answer c)
