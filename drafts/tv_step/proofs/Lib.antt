@@ -1,0 +1,9 @@
+mod Adding
+mod Beginnings
+mod Coercing
+mod Evaluating
+mod Finishing
+mod Picking
+mod Shapes
+mod Turns
+mod Variables

@@ -1,0 +1,4 @@
+pub mod Line
+pub mod Setup
+pub mod Words
+pub mod Status

@@ -1,0 +1,4 @@
+pub mod Reach
+pub mod Analysed
+pub mod Search
+pub mod Told
