@@ -1,9 +1,0 @@
-mod Adding
-mod Beginnings
-mod Coercing
-mod Evaluating
-mod Finishing
-mod Picking
-mod Shapes
-mod Turns
-mod Variables

@@ -1,5 +1,0 @@
-pub mod Job
-pub mod Places
-pub mod Setting
-pub mod Starts
-pub mod Steps

@@ -1,8 +1,0 @@
-mod Reader
-mod Reading
-mod Rows
-mod Shapes
-mod Uses
-mod Walks
-mod Parses
-mod Commands

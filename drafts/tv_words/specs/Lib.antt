@@ -1,4 +1,0 @@
-pub mod Line
-pub mod Setup
-pub mod Words
-pub mod Status

@@ -1,4 +1,0 @@
-pub mod Reach
-pub mod Analysed
-pub mod Search
-pub mod Told
