@@ -1,8 +1,6 @@
 -- A body that gave nothing for one member gives nothing for the others, where its sets don't mention the variable.
-use Rattle.std.proofs.Common.{◌≡◌, ℕ, ◌+◌, ◌<◌, ◌≤◌, Bool, true, false, not, cond, ◌&&◌, ◌||◌, get_or, List, [], ◌∷◌, ◌++◌, length, map, drop, refl, sym, ap, subst, ◌∙◌, Option, Some, None, Result, Ok, Err, Bor, inl, inr, ◌⊎◌, arith, nat_eq, eqb-true}
-use Rattle.std.specs.List.{list_any}
+use Rattle.std.proofs.Common.{◌≡◌, ℕ, ◌+◌, ◌<◌, ◌≤◌, Bool, true, false, not, cond, ◌&&◌, ◌||◌, get_or, List, [], ◌∷◌, ◌++◌, length, map, drop, refl, sym, ap, subst, ◌∙◌, Result, Ok, Err, Bor, inl, inr, ◌⊎◌, arith, nat_eq, eqb-true}
 use Rattle.std.specs.Str.{bytes_eq}
-use Rattle.std.proofs.lemmas.Bool.{cases_Bool}
 use Rattle.std.proofs.lemmas.List.{drop_more, drop_all, length_push}
 use Rattle.tv_tree.specs.Names.{is_among}
 use Rattle.tv_tree.specs.Forms.{SetForm, SNamed, SMembers, SParen, SPlus, SMinus, Nest, Single, Foreach, Nests, no_nest, with_nest, DeclForm, DSet, DPred, DRule, UpdateForm}
@@ -17,7 +15,7 @@ use Rattle.tv_flat.proofs.BindingLaws.{replaced_bound}
 use Rattle.tv_expand.specs.declared.error.ExpandError.{ExpandError}
 use Rattle.tv_expand.specs.declared.error.ExpandError.TheVariants.{NameTwice}
 use Rattle.tv_expand.specs.Outcome.{◌>>=◌, each}
-use Rattle.tv_expand.specs.Sets.{Sets, find_set, members_of, with_members, without_members}
+use Rattle.tv_expand.specs.Sets.{Sets, find_set, members_of, with_members}
 use Rattle.tv_expand.specs.Idle.{is_apart_set, is_apart_nest, is_apart, declared_count, update_count}
 use Rattle.tv_expand.specs.Expansion.{unrolled, unrolled_nest, counted, Declared, with_set, with_pred, with_rule, declared, Block, updated}
 use Rattle.tv_expand.specs.Views.{names_of}

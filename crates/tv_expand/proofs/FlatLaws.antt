@@ -1,26 +1,25 @@
 -- What the edges keep, and that what a spelled program stands for is flat.
-use Rattle.std.proofs.Common.{◌≡◌, ℕ, ◌+◌, ◌<◌, ◌≤◌, Bool, true, false, not, cond, ◌||◌, List, [], ◌∷◌, ◌++◌, length, map, refl, subst, Result, Ok, Err, arith}
-use Rattle.std.specs.Prelude.{All, sum_by, is_some, ◌==◌, IfOk}
+use Rattle.std.proofs.Common.{◌≡◌, ℕ, ◌+◌, ◌<◌, ◌≤◌, Bool, true, false, not, cond, ◌||◌, List, [], ◌∷◌, ◌++◌, length, map, refl, sym, subst, Result, Ok, Err, arith}
+use Rattle.std.specs.Prelude.{All, sum_by, is_some, ◌==◌}
 use Rattle.std.specs.List.{list_any, zip, position_or_len}
 use Rattle.std.proofs.lemmas.List.{length_push}
 use Rattle.std.proofs.lemmas.List.Elements.{All-nil, All-cons, All-head, All-tail, All-push, All-weaker}
-use Rattle.std.proofs.lemmas.List.Sums.{sum_by_push}
 use Rattle.tv_model.specs.Spelling.{IsIdentifier}
 use Rattle.tv_tree.specs.Forms.{UpdateForm, Nests, PieceForm, Form, PartForm, PCaption, PFocus, PPre, PMessage, PNew, PRetain, PBlock, ActionForm, EdgeForm, ProgramForm}
 use Rattle.tv_tree.specs.Copies.{nests}
 use Rattle.tv_tree.specs.Spelled.{AreIdentifiers, IsSpelledPart, IsSpelledPred, IsSpelledDecl, PartKind, CaptionPart, FocusPart, PrePart, RetainPart, BlockPart, one_of_kind, count_of_kind, HasPartsOnce, IsSpelledAction, IsSpelledEdge, IsSpelled}
 use Rattle.tv_expand.specs.declared.error.ExpandError.{ExpandError}
 use Rattle.tv_expand.specs.declared.error.ExpandError.TheVariants.{NameTwice, ArgumentCount}
-use Rattle.tv_flat.specs.declared.flat.Flat.{Flat}
-use Rattle.tv_flat.specs.FlatForm.{FlatEdgeForm, FlatForm, flat_of, nodes, part_items, part_nodes, IsFlatPart, IsFlatAction, IsFlatEdge, IsFlat, IsSpelledRule}
-use Rattle.tv_expand.specs.Outcome.{◌>>=◌, each, Gives}
+use Rattle.tv_flat.specs.FlatForm.{FlatEdgeForm, FlatForm, nodes, IsFlatPart, IsFlatAction, IsFlatEdge, IsFlat, IsSpelledRule, item_count, node_count, max_items, max_nodes}
+use Rattle.tv_expand.specs.Outcome.{◌>>=◌, each}
 use Rattle.tv_flat.specs.Replaced.{Binding, all_bound, flat_form, one_text}
 use Rattle.tv_expand.specs.Sets.{Sets, known, once}
-use Rattle.tv_expand.specs.Expansion.{Room, counted, Declared, declared, sets_in, all_declared, nothing_declared, all_updated, Gathered, with_part, with_block, gathered, Actions, find_action, with_action, same_call, Wired, made, with_call, called, with_edge, wired_to, wired, nothing_wired, flat_form_of, expansion}
+use Rattle.tv_expand.specs.Expansion.{Room, counted, Declared, declared, sets_in, all_declared, nothing_declared, all_updated, Gathered, with_part, with_block, gathered, Actions, find_action, with_action, same_call, Wired, made, with_call, called, with_edge, wired_to, wired, nothing_wired, flat_form_of, limits, expansion}
 use Rattle.tv_flat.proofs.SpellLaws.{IsGoodBinding, all_bound_good}
 use Rattle.tv_expand.proofs.KeepLaws.{bind_ok, AreGoodSets, lookup_good, each_keeps, nests_keep}
 use Rattle.tv_expand.proofs.CallLaws.{place_within}
-use Rattle.tv_expand.proofs.StepKeeps.{counted_ok, DeclaredGood, declared_keeps, GatheredGood, gathered_keeps}
+use Rattle.tv_expand.proofs.StepKeeps.{DeclaredGood, declared_keeps, AreFlatParts, gathered_keeps}
+use Rattle.tv_expand.proofs.LimitLaws.{within_limits}
 
 -- ---- kinds of parts
 
@@ -81,12 +80,10 @@ each_counts kind sets b (p ∷ parts) s t h =
 
 -- ---- flat actions and edges
 
-pub record WiredGood (items nodes : ℕ) (w : Wired) : Type 0 where
+pub record WiredGood (w : Wired) : Type 0 where
   pub same : length w.calls ≡ length w.actions
   pub actions : All IsFlatAction w.actions
   pub edges : All (IsFlatEdge (length w.actions)) w.edges
-  pub within : sum_by (sum_by part_items) w.actions + length w.edges + w.room.items ≤ items
-  pub small : sum_by (sum_by part_nodes) w.actions + w.room.nodes ≤ nodes
 
 arguments_good : (params arguments : List (List ℕ)) → AreIdentifiers arguments → All (λ (p : List ℕ × List ℕ). IsIdentifier p.1) (zip params arguments)
 arguments_good [] arguments ok = All-nil (λ (p : List ℕ × List ℕ). IsIdentifier p.1)
@@ -103,35 +100,31 @@ place_there {X} test (x ∷ xs) h = by (test x) (place_there test xs) h
     by false rest k = let r = rest k in omega arith
 
 -- one more flat action
-action_keeps : (items most : ℕ) (sets : Sets) (a : ActionForm) (arguments call : List (List ℕ)) (w : Wired) (s : Gathered) → AreGoodSets sets → IsSpelledAction a → AreIdentifiers arguments → WiredGood items most w → each (gathered sets (all_bound [] (zip a.params arguments))) a.parts (record { parts = []; room = w.room }) ≡ Ok s → WiredGood items most (record { calls = w.calls ++ call ∷ []; actions = w.actions ++ s.parts ∷ []; edges = w.edges; room = s.room })
-action_keeps items most sets a arguments call w s good ok fine p h =
+action_keeps : (sets : Sets) (a : ActionForm) (arguments call : List (List ℕ)) (w : Wired) (s : Gathered) → AreGoodSets sets → IsSpelledAction a → AreIdentifiers arguments → WiredGood w → each (gathered sets (all_bound [] (zip a.params arguments))) a.parts (record { parts = []; room = w.room }) ≡ Ok s → WiredGood (record { calls = w.calls ++ call ∷ []; actions = w.actions ++ s.parts ∷ []; edges = w.edges; room = s.room })
+action_keeps sets a arguments call w s good ok fine p h =
     let b = all_bound [] (zip a.params arguments) in
     let start : Gathered = record { parts = []; room = w.room } in
-    let begun : GatheredGood w.room.items w.room.nodes start = record { flat = All-nil IsFlatPart; within = omega arith; small = omega arith } in
-    let kept = each_keeps (gathered sets b) (GatheredGood w.room.items w.room.nodes) IsSpelledPart (λ x s1 t1 q p1 h1. gathered_keeps w.room.items w.room.nodes sets b x s1 t1 good (all_bound_good [] (zip a.params arguments) (All-nil (λ (p : List ℕ × List ℕ). IsIdentifier p.1)) (arguments_good a.params arguments fine)) q p1 h1) a.parts start s ok.parts begun h in
+    let begun : AreFlatParts start = All-nil IsFlatPart in
+    let kept = each_keeps (gathered sets b) AreFlatParts IsSpelledPart (λ x s1 t1 q p1 h1. gathered_keeps sets b x s1 t1 good (all_bound_good [] (zip a.params arguments) (All-nil (λ (p : List ℕ × List ℕ). IsIdentifier p.1)) (arguments_good a.params arguments fine)) q p1 h1) a.parts start s ok.parts begun h in
     let kinds : HasPartsOnce s.parts = λ kind. (let e = each_counts kind sets b a.parts start s h in let o = ok.once kind in omega arith) in
     let calls_long = length_push w.calls call in
     let actions_long = length_push w.actions s.parts in
-    let long = sum_by_push (sum_by part_items) w.actions s.parts in
-    let large = sum_by_push (sum_by part_nodes) w.actions s.parts in
     record {
       same = omega arith;
-      actions = All-push IsFlatAction w.actions s.parts p.actions (kept.flat, kinds);
+      actions = All-push IsFlatAction w.actions s.parts p.actions (kept, kinds);
       edges = All-weaker (IsFlatEdge (length w.actions)) (IsFlatEdge (length (w.actions ++ s.parts ∷ []))) (λ e q. (q.0, omega arith, q.2)) w.edges p.edges;
-      within = omega arith;
-      small = omega arith;
     }
 
-called_keeps : (items most : ℕ) (sets : Sets) (a : ActionForm) (arguments : List (List ℕ)) (w t : Wired) → AreGoodSets sets → IsSpelledAction a → AreIdentifiers arguments → WiredGood items most w → called sets a arguments w ≡ Ok t → WiredGood items most t × (position_or_len (same_call (a.name ∷ arguments)) w.calls < length t.actions)
-called_keeps items most sets a arguments w t good ok fine p h =
+called_keeps : (sets : Sets) (a : ActionForm) (arguments : List (List ℕ)) (w t : Wired) → AreGoodSets sets → IsSpelledAction a → AreIdentifiers arguments → WiredGood w → called sets a arguments w ≡ Ok t → WiredGood t × (position_or_len (same_call (a.name ∷ arguments)) w.calls < length t.actions)
+called_keeps sets a arguments w t good ok fine p h =
     by (list_any (same_call (a.name ∷ arguments)) w.calls) (place_there (same_call (a.name ∷ arguments)) w.calls) h
   where
-    by : (seen : Bool) → (seen ≡ true → position_or_len (same_call (a.name ∷ arguments)) w.calls < length w.calls) → cond {A = Result Wired ExpandError} seen (Ok w) (made sets a arguments (with_call (a.name ∷ arguments) w)) ≡ Ok t → WiredGood items most t × (position_or_len (same_call (a.name ∷ arguments)) w.calls < length t.actions)
+    by : (seen : Bool) → (seen ≡ true → position_or_len (same_call (a.name ∷ arguments)) w.calls < length w.calls) → cond {A = Result Wired ExpandError} seen (Ok w) (made sets a arguments (with_call (a.name ∷ arguments) w)) ≡ Ok t → WiredGood t × (position_or_len (same_call (a.name ∷ arguments)) w.calls < length t.actions)
     by true there k =
         let same : w ≡ t = cc in
         let place = there refl in
         let alike = p.same in
-        subst (λ (v : Wired). WiredGood items most v × (position_or_len (same_call (a.name ∷ arguments)) w.calls < length v.actions)) same (p, omega arith)
+        subst (λ (v : Wired). WiredGood v × (position_or_len (same_call (a.name ∷ arguments)) w.calls < length v.actions)) same (p, omega arith)
     by false there k =
         let after : Gathered → Wired = λ s. record { calls = w.calls ++ (a.name ∷ arguments) ∷ []; actions = w.actions ++ s.parts ∷ []; edges = w.edges; room = s.room } in
         let got = bind_ok (each (gathered sets (all_bound [] (zip a.params arguments))) a.parts (record { parts = []; room = w.room })) (λ s. Ok (after s)) t k in
@@ -139,32 +132,30 @@ called_keeps items most sets a arguments w t good ok fine p h =
         let place = place_within (same_call (a.name ∷ arguments)) w.calls in
         let alike = p.same in
         let long = length_push w.actions got.0.parts in
-        subst (λ (v : Wired). WiredGood items most v × (position_or_len (same_call (a.name ∷ arguments)) w.calls < length v.actions)) same
-        (action_keeps items most sets a arguments (a.name ∷ arguments) w got.0 good ok fine p got.1, omega arith)
+        subst (λ (v : Wired). WiredGood v × (position_or_len (same_call (a.name ∷ arguments)) w.calls < length v.actions)) same
+        (action_keeps sets a arguments (a.name ∷ arguments) w got.0 good ok fine p got.1, omega arith)
 
-edge_keeps : (items most number : ℕ) (e : EdgeForm) (w t : Wired) → number < length w.actions → IsSpelledEdge e → WiredGood items most w → with_edge number e w ≡ Ok t → WiredGood items most t
-edge_keeps items most number e w t below ok p h =
+edge_keeps : (number : ℕ) (e : EdgeForm) (w t : Wired) → number < length w.actions → IsSpelledEdge e → WiredGood w → with_edge number e w ≡ Ok t → WiredGood t
+edge_keeps number e w t below ok p h =
     let edge : FlatEdgeForm = record { from = e.from; action = number; to = e.to } in
     let after : Room → Wired = λ room. record { calls = w.calls; actions = w.actions; edges = w.edges ++ edge ∷ []; room = room } in
     let got = bind_ok (counted 0 w.room) (λ room. Ok (after room)) t h in
     let same : after got.0 ≡ t = cc (got.2) in
-    let left = counted_ok 0 w.room got.0 got.1 in
-    let long = length_push w.edges edge in
-    subst (WiredGood items most) same (record { same = p.same; actions = p.actions; edges = All-push (IsFlatEdge (length w.actions)) w.edges edge p.edges (ok.from, below, ok.to); within = omega arith; small = omega arith })
+    subst (WiredGood) same (record { same = p.same; actions = p.actions; edges = All-push (IsFlatEdge (length w.actions)) w.edges edge p.edges (ok.from, below, ok.to) })
 
 abbrev AreGoodActions : Actions → Type 0
 AreGoodActions actions = All (λ (e : List ℕ × ActionForm). IsSpelledAction e.1) actions
 
-wired_keeps : (items most : ℕ) (sets : Sets) (actions : Actions) (e : EdgeForm) (w t : Wired) → AreGoodSets sets → AreGoodActions actions → IsSpelledEdge e → WiredGood items most w → wired sets actions e w ≡ Ok t → WiredGood items most t
-wired_keeps items most sets actions e w t good spelled ok p h =
+wired_keeps : (sets : Sets) (actions : Actions) (e : EdgeForm) (w t : Wired) → AreGoodSets sets → AreGoodActions actions → IsSpelledEdge e → WiredGood w → wired sets actions e w ≡ Ok t → WiredGood t
+wired_keeps sets actions e w t good spelled ok p h =
     let found = bind_ok (known (find_action actions e.action)) (λ a. wired_to sets a e w) t h in
     by found.0 (lookup_good IsSpelledAction actions e.action found.0 spelled found.1) (length e.arguments == length found.0.params) found.2
   where
-    by : (a : ActionForm) → IsSpelledAction a → (fits : Bool) → cond {A = Result Wired ExpandError} fits (called sets a e.arguments w >>= with_edge (position_or_len (same_call (a.name ∷ e.arguments)) w.calls) e) (Err ArgumentCount) ≡ Ok t → WiredGood items most t
+    by : (a : ActionForm) → IsSpelledAction a → (fits : Bool) → cond {A = Result Wired ExpandError} fits (called sets a e.arguments w >>= with_edge (position_or_len (same_call (a.name ∷ e.arguments)) w.calls) e) (Err ArgumentCount) ≡ Ok t → WiredGood t
     by a is true k =
         let got = bind_ok (called sets a e.arguments w) (with_edge (position_or_len (same_call (a.name ∷ e.arguments)) w.calls) e) t k in
-        let kept = called_keeps items most sets a e.arguments w got.0 good is ok.arguments p got.1 in
-        edge_keeps items most (position_or_len (same_call (a.name ∷ e.arguments)) w.calls) e got.0 t kept.1 ok kept.0 got.2
+        let kept = called_keeps sets a e.arguments w got.0 good is ok.arguments p got.1 in
+        edge_keeps (position_or_len (same_call (a.name ∷ e.arguments)) w.calls) e got.0 t kept.1 ok kept.0 got.2
     by a is false k = cc
 
 action_declared : (a : ActionForm) (actions after : Actions) → IsSpelledAction a → AreGoodActions actions → with_action a actions ≡ Ok after → AreGoodActions after
@@ -179,33 +170,29 @@ action_declared a actions after ok p h = by (is_some (find_action actions a.name
 
 -- ---- programs
 
-begun_good : DeclaredGood nothing_declared
-begun_good = record { sets = All-nil (λ (e : List ℕ × List (List ℕ)). AreIdentifiers e.1); preds = All-nil IsSpelledPred; rules = All-nil IsSpelledRule; items = omega arith; nodes = omega arith }
+begun_good : (room : Room) → DeclaredGood (nothing_declared room)
+begun_good room = record { sets = All-nil (λ (e : List ℕ × List (List ℕ)). AreIdentifiers e.1); preds = All-nil IsSpelledPred; rules = All-nil IsSpelledRule }
 
-unwired_good : (room : Room) → WiredGood room.items room.nodes (nothing_wired room)
-unwired_good room = record { same = refl; actions = All-nil IsFlatAction; edges = All-nil (IsFlatEdge 0); within = omega arith; small = omega arith }
+unwired_good : (room : Room) → WiredGood (nothing_wired room)
+unwired_good room = record { same = refl; actions = All-nil IsFlatAction; edges = All-nil (IsFlatEdge 0) }
 
-flat_result : (d : Declared) (w : Wired) → DeclaredGood d → WiredGood d.room.items d.room.nodes w → IsFlat (flat_form_of d w)
-flat_result d w p q =
-    record { items = omega arith; nodes = omega arith; preds = p.preds; rules = p.rules; actions = q.actions; edges = q.edges }
+flat_result : (d : Declared) (w : Wired) → DeclaredGood d → WiredGood w → (item_count (flat_form_of d w) ≤ max_items) × (node_count (flat_form_of d w) ≤ max_nodes) → IsFlat (flat_form_of d w)
+flat_result d w p q within =
+    record { items = within.0; nodes = within.1; preds = p.preds; rules = p.rules; actions = q.actions; edges = q.edges }
 
 -- what a spelled program stands for is flat
 pub expansion_flat : (t : ProgramForm) (f : FlatForm) → IsSpelled t → expansion t ≡ Ok f → IsFlat f
 expansion_flat t f ok h =
     let after_edges : Declared → Wired → Result FlatForm ExpandError = λ d w. Ok (flat_form_of d w) in
     let after_actions : Declared → Actions → Result FlatForm ExpandError = λ d actions. each (wired d.sets actions) t.edges (nothing_wired d.room) >>= after_edges d in
-    let first = bind_ok (all_declared [] t.decls nothing_declared) (λ d. each with_action t.actions [] >>= after_actions d) f h in
+    let first = bind_ok (all_declared [] t.decls (nothing_declared limits)) (λ d. each with_action t.actions [] >>= after_actions d) f h in
     let second = bind_ok (each with_action t.actions []) (after_actions first.0) f first.2 in
     let third = bind_ok (each (wired first.0.sets second.0) t.edges (nothing_wired first.0.room)) (after_edges first.0) f second.2 in
     let same : flat_form_of first.0 third.0 ≡ f = cc (third.2) in
     let unbound : IsGoodBinding [] = All-nil (λ (p : List ℕ × List ℕ). IsIdentifier p.1) in
-    let nothing : DeclaredGood nothing_declared = begun_good in
-    let decls = nests_keep sets_in declared DeclaredGood IsSpelledDecl (λ s p. p.sets) declared_keeps [] t.decls nothing_declared first.0 unbound ok.decls nothing first.1 in
+    let decls = nests_keep sets_in declared DeclaredGood IsSpelledDecl (λ s p. p.sets) declared_keeps [] t.decls (nothing_declared limits) first.0 unbound ok.decls (begun_good limits) first.1 in
     let none : AreGoodActions [] = All-nil (λ (e : List ℕ × ActionForm). IsSpelledAction e.1) in
     let actions = each_keeps with_action AreGoodActions IsSpelledAction action_declared t.actions [] second.0 ok.actions none second.1 in
-    let edges = each_keeps (wired first.0.sets second.0) (WiredGood first.0.room.items first.0.room.nodes) IsSpelledEdge (λ e w v q p k. wired_keeps first.0.room.items first.0.room.nodes first.0.sets second.0 e w v decls.sets actions q p k) t.edges (nothing_wired first.0.room) third.0 ok.edges (unwired_good first.0.room) third.1 in
-    subst IsFlat same (flat_result first.0 third.0 decls edges)
-
-pub expanded_flat : (t : ProgramForm) (result : Result Flat ExpandError) → Gives flat_of result (expansion t) → IfOk result (λ f. IsSpelled t → IsFlat (flat_of f))
-expanded_flat t (Ok f) h = λ ok. expansion_flat t (flat_of f) ok h
-expanded_flat t (Err e) h = tt
+    let edges = each_keeps (wired first.0.sets second.0) WiredGood IsSpelledEdge (λ e w v q p k. wired_keeps first.0.sets second.0 e w v decls.sets actions q p k) t.edges (nothing_wired first.0.room) third.0 ok.edges (unwired_good first.0.room) third.1 in
+    let within = within_limits t f h in
+    subst IsFlat same (flat_result first.0 third.0 decls edges (subst (λ (g : FlatForm). (item_count g ≤ max_items) × (node_count g ≤ max_nodes)) (sym same) within))

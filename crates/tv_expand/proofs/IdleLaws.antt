@@ -1,11 +1,10 @@
 -- What is idle leaves each state as it is, and the tests for it step by step.
-use Rattle.std.proofs.Common.{◌≡◌, ℕ, ◌+◌, ◌<◌, ◌≤◌, Bool, true, false, ◌&&◌, ◌||◌, get_or, List, [], ◌∷◌, ◌++◌, length, map, drop, refl, sym, ap, ◌∙◌, Option, Some, None, Result, Ok, Bor, inl, inr, ◌⊎◌}
+use Rattle.std.proofs.Common.{◌≡◌, ℕ, ◌+◌, ◌<◌, ◌≤◌, Bool, true, false, ◌&&◌, ◌||◌, get_or, List, [], ◌∷◌, length, map, drop, refl, sym, Option, Some, None, Result, Ok, Bor, inl, inr, ◌⊎◌}
 use Rattle.std.specs.Prelude.{is_some, ◌==◌}
 use Rattle.std.proofs.lemmas.List.{drop_more, drop_all}
 use Rattle.tv_tree.specs.Forms.{SetForm, SNamed, SMembers, SParen, SPlus, SMinus, Nest, Single, Foreach, Nests, no_nest, with_nest}
 use Rattle.tv_tree.specs.Copies.{term_of, step_of, set_of, nests}
 use Rattle.tv_tree.specs.declared.trees.SetSign.{SetSign}
-use Rattle.tv_tree.specs.declared.trees.SetSign.TheVariants as sign
 use Rattle.tv_tree.specs.declared.trees.SetStep.{SetStep}
 use Rattle.tv_tree.specs.declared.trees.SetTree.{SetTree, out-SetTree}
 use Rattle.tv_tree.proofs.Unfolds.{step_of_parts}

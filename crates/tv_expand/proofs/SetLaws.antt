@@ -1,10 +1,9 @@
 -- Expressions for sets, from left to right.
-use Rattle.std.proofs.Common.{◌≡◌, ℕ, ◌+◌, ◌<◌, ◌≤◌, Bool, true, false, cond, get_or, List, [], ◌∷◌, ◌++◌, length, map, drop, refl, sym, ap, ◌∙◌, Option, Some, None, Result, Ok, Err, Bor}
+use Rattle.std.proofs.Common.{◌≡◌, ℕ, ◌+◌, ◌<◌, Bool, true, false, cond, get_or, List, [], ◌∷◌, ◌++◌, length, map, drop, refl, sym, ap, ◌∙◌, Option, Some, None, Result, Ok, Err, Bor}
 use Rattle.std.specs.Option.{option_map}
 use Rattle.std.specs.Str.{bytes_eq}
 use Rattle.std.specs.Map.{lookup}
-use Rattle.std.specs.List.{AllZip}
-use Rattle.std.proofs.lemmas.List.{drop_more, drop_all}
+use Rattle.std.proofs.lemmas.List.{drop_more}
 use Rattle.tv_tree.specs.Forms.{SetForm, SPlus, SMinus}
 use Rattle.tv_tree.specs.Copies.{term_of, step_of, set_of, joined_set}
 use Rattle.tv_tree.specs.declared.trees.SetSign.{SetSign}
@@ -12,7 +11,6 @@ use Rattle.tv_tree.specs.declared.trees.SetSign.TheVariants as sign
 use Rattle.tv_tree.specs.declared.trees.SetStep.{SetStep}
 use Rattle.tv_tree.specs.declared.trees.SetTree.{SetTree, out-SetTree}
 use Rattle.tv_tree.proofs.Unfolds.{step_of_parts, set_of_steps}
-use Rattle.std.proofs.lemmas.List.Elements.{same_from_all_zip}
 use Rattle.std.specs.Prelude.{is_some}
 use Rattle.indexmap.specs.IndexMap.{insert_entry}
 use Rattle.tv_expand.specs.declared.error.ExpandError.{ExpandError}
@@ -20,7 +18,7 @@ use Rattle.tv_expand.specs.declared.error.ExpandError.TheVariants.{NameUnknown, 
 use Rattle.tv_expand.specs.Outcome.{◌>>=◌, Fails}
 use Rattle.tv_flat.specs.Replaced.{Binding}
 use Rattle.tv_expand.specs.Sets.{Sets, find_set, known, members_of}
-use Rattle.tv_expand.specs.Views.{names_of, WordSet, entry_of, sets_of, signed}
+use Rattle.tv_expand.specs.Views.{names_of, WordSet, entry_of, sets_of, signed, step_members}
 
 -- a refusal stays one, whatever would come behind it
 pub fails_then : {A B : Type 0} (e : ExpandError) (out : Result A ExpandError) (next : A → Result B ExpandError) → Fails e out → Fails e (out >>= next)
@@ -40,11 +38,7 @@ fails_same Memory out all same h = tt
 -- what the further sets of an expression make of the members so far
 abbrev pub further_sets : Sets → Binding → List (List ℕ) → List (SetSign × SetForm) → Result (List (List ℕ)) ExpandError
 further_sets sets b xs [] = Ok xs
-further_sets sets b xs (s ∷ more) = members_of sets b s.1 >>= λ ys. further_sets sets b (signed s.0 xs ys) more
-
-bind_assoc : {A B C : Type 0} (out : Result A ExpandError) (f : A → Result B ExpandError) (g : B → Result C ExpandError) → ((out >>= f) >>= g) ≡ (out >>= λ x. f x >>= g)
-bind_assoc (Ok x) f g = refl
-bind_assoc (Err e) f g = refl
+further_sets sets b xs (s ∷ more) = step_members sets b xs s >>= λ ys. further_sets sets b ys more
 
 pub joined_members : (sets : Sets) (b : Binding) (s : SetForm) (more : List (SetSign × SetForm)) → members_of sets b (joined_set s more) ≡ (members_of sets b s >>= λ xs. further_sets sets b xs more)
 joined_members sets b s [] = by (members_of sets b s)
@@ -54,28 +48,25 @@ joined_members sets b s [] = by (members_of sets b s)
     by (Err e) = refl
 joined_members sets b s ((sign.Plus, t) ∷ more) = joined_members sets b (SPlus s t) more ∙ by (members_of sets b s) (members_of sets b t)
   where
-    by : (left right : Result (List (List ℕ)) ExpandError) → ((left >>= λ xs. right >>= λ ys. Ok (signed sign.Plus xs ys)) >>= λ xs. further_sets sets b xs more) ≡ (left >>= λ xs. right >>= λ ys. further_sets sets b (signed sign.Plus xs ys) more)
+    by : (left right : Result (List (List ℕ)) ExpandError) → ((left >>= λ xs. right >>= λ ys. Ok (signed sign.Plus xs ys)) >>= λ xs. further_sets sets b xs more) ≡ (left >>= λ xs. (right >>= λ ys. Ok (signed sign.Plus xs ys)) >>= λ ys. further_sets sets b ys more)
     by (Ok xs) (Ok ys) = refl
     by (Ok xs) (Err e) = refl
     by (Err e) right = refl
 joined_members sets b s ((sign.Minus, t) ∷ more) = joined_members sets b (SMinus s t) more ∙ by (members_of sets b s) (members_of sets b t)
   where
-    by : (left right : Result (List (List ℕ)) ExpandError) → ((left >>= λ xs. right >>= λ ys. Ok (signed sign.Minus xs ys)) >>= λ xs. further_sets sets b xs more) ≡ (left >>= λ xs. right >>= λ ys. further_sets sets b (signed sign.Minus xs ys) more)
+    by : (left right : Result (List (List ℕ)) ExpandError) → ((left >>= λ xs. right >>= λ ys. Ok (signed sign.Minus xs ys)) >>= λ xs. further_sets sets b xs more) ≡ (left >>= λ xs. (right >>= λ ys. Ok (signed sign.Minus xs ys)) >>= λ ys. further_sets sets b ys more)
     by (Ok xs) (Ok ys) = refl
     by (Ok xs) (Err e) = refl
     by (Err e) right = refl
 
 -- one further set
-pub further_step : (sets : Sets) (b : Binding) (xs ys : List (List ℕ)) (more : List SetStep) (i : ℕ) (s : SetStep) → i < length more → s ≡ get_or more i s → members_of sets b (term_of s.term) ≡ Ok ys → further_sets sets b (signed s.sign xs ys) (map step_of (drop (i + 1) more)) ≡ further_sets sets b xs (map step_of (drop i more))
+pub further_step : (sets : Sets) (b : Binding) (xs ys : List (List ℕ)) (more : List SetStep) (i : ℕ) (s : SetStep) → i < length more → s ≡ get_or more i s → step_members sets b xs (s.sign, term_of s.term) ≡ Ok ys → further_sets sets b ys (map step_of (drop (i + 1) more)) ≡ further_sets sets b xs (map step_of (drop i more))
 further_step sets b xs ys more i s below is found =
     sym (rw (drop_more more i s below, ← is, step_of_parts s, found) refl)
 
-pub further_fails : (sets : Sets) (b : Binding) (xs : List (List ℕ)) (more : List SetStep) (i : ℕ) (s : SetStep) (e : ExpandError) → i < length more → s ≡ get_or more i s → Fails e (members_of sets b (term_of s.term)) → Fails e (further_sets sets b xs (map step_of (drop i more)))
+pub further_fails : (sets : Sets) (b : Binding) (xs : List (List ℕ)) (more : List SetStep) (i : ℕ) (s : SetStep) (e : ExpandError) → i < length more → s ≡ get_or more i s → Fails e (step_members sets b xs (s.sign, term_of s.term)) → Fails e (further_sets sets b xs (map step_of (drop i more)))
 further_fails sets b xs more i s e below is h =
-    rw (drop_more more i s below, ← is, step_of_parts s) (fails_then e (members_of sets b (term_of s.term)) (λ ys. further_sets sets b (signed s.sign xs ys) (map step_of (drop (i + 1) more))) h)
-
-pub further_all : (sets : Sets) (b : Binding) (xs : List (List ℕ)) (more : List SetStep) (i : ℕ) → length more ≤ i → further_sets sets b xs (map step_of (drop i more)) ≡ Ok xs
-further_all sets b xs more i past = rw (drop_all i more past) refl
+    rw (drop_more more i s below, ← is, step_of_parts s) (fails_then e (step_members sets b xs (s.sign, term_of s.term)) (λ ys. further_sets sets b ys (map step_of (drop (i + 1) more))) h)
 
 -- an expression is its first set, and what the further ones make of it
 pub set_members : (sets : Sets) (b : Binding) (s : SetTree) → members_of sets b (set_of s) ≡ (members_of sets b (term_of (out-SetTree s).first) >>= λ xs. further_sets sets b xs (map step_of (out-SetTree s).more.items))
@@ -97,9 +88,8 @@ is_some_map f (Some x) = refl
 pub set_there : (entries : List (Bor (List ℕ) × WordSet)) (name : List ℕ) → is_some (lookup (λ (k : Bor (List ℕ)). bytes_eq name k.now) entries) ≡ is_some (find_set (sets_of entries) name)
 set_there entries name = rw (found_set entries name) (is_some_map (λ (s : WordSet). names_of s.keys) (lookup (λ (k : Bor (List ℕ)). bytes_eq name k.now) entries))
 
-pub known_found : (entries : List (Bor (List ℕ) × WordSet)) (name : List ℕ) (w : WordSet) (ks : List (Bor (List ℕ))) → ◌≡◌ {A = Option WordSet} (Some w) (lookup (λ (k : Bor (List ℕ)). bytes_eq name k.now) entries) → AllZip (λ (x y : Bor (List ℕ)). y ≡ x) w.keys ks → known (find_set (sets_of entries) name) ≡ Ok (names_of ks)
-known_found entries name w ks is clone =
-    rw (found_set entries name, ← is) (ap (λ xs. Ok (names_of xs)) (sym (same_from_all_zip (λ (x y : Bor (List ℕ)). y ≡ x) w.keys ks clone (λ x y r. r))))
+pub known_found : (entries : List (Bor (List ℕ) × WordSet)) (name : List ℕ) (w : WordSet) → ◌≡◌ {A = Option WordSet} (Some w) (lookup (λ (k : Bor (List ℕ)). bytes_eq name k.now) entries) → known (find_set (sets_of entries) name) ≡ Ok (names_of w.keys)
+known_found entries name w is = rw (found_set entries name, ← is) refl
 
 pub known_none : (entries : List (Bor (List ℕ) × WordSet)) (name : List ℕ) → ◌≡◌ {A = Option WordSet} None (lookup (λ (k : Bor (List ℕ)). bytes_eq name k.now) entries) → known (find_set (sets_of entries) name) ≡ Err NameUnknown
 known_none entries name is = rw (found_set entries name, ← is) refl

@@ -166,8 +166,12 @@ wired sets actions e w = known (find_action actions e.action) >>= λ a. wired_to
 
 -- ---- programs
 
-abbrev pub nothing_declared : Declared
-nothing_declared = record { sets = []; preds = []; rules = []; room = record { items = max_items; nodes = max_nodes } }
+-- the most items and formula nodes of a flat form
+abbrev pub limits : Room
+limits = record { items = max_items; nodes = max_nodes }
+
+abbrev pub nothing_declared : Room → Declared
+nothing_declared room = record { sets = []; preds = []; rules = []; room = room }
 
 abbrev pub nothing_wired : Room → Wired
 nothing_wired room = record { calls = []; actions = []; edges = []; room = room }
@@ -175,10 +179,14 @@ nothing_wired room = record { calls = []; actions = []; edges = []; room = room 
 abbrev pub flat_form_of : Declared → Wired → FlatForm
 flat_form_of d w = record { preds = d.preds; rules = d.rules; actions = w.actions; edges = w.edges }
 
--- the flat form of a program, or the first refusal
-abbrev pub expansion : ProgramForm → Result FlatForm ExpandError
-expansion t =
-    all_declared [] t.decls nothing_declared >>= λ d.
+-- the flat form of a program for which there is this much room, or the first refusal
+abbrev pub expansion_within : Room → ProgramForm → Result FlatForm ExpandError
+expansion_within room t =
+    all_declared [] t.decls (nothing_declared room) >>= λ d.
     each with_action t.actions [] >>= λ actions.
     each (wired d.sets actions) t.edges (nothing_wired d.room) >>= λ w.
     Ok (flat_form_of d w)
+
+-- the flat form of a program within the limits, or the first refusal
+abbrev pub expansion : ProgramForm → Result FlatForm ExpandError
+expansion t = expansion_within limits t

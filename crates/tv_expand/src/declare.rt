@@ -4,7 +4,7 @@ ghost use Rattle.std.specs.Prelude.{◌≡◌, ◌+◌, []};
 ghost use Rattle.tv_tree.specs.Forms.{DSet, DPred, DRule};
 ghost use Rattle.tv_tree.specs.Copies.{set_of, form_of, pred_of, decl_of, decls_of};
 ghost use Rattle.tv_expand.specs.Outcome.{Gives, each};
-ghost use Rattle.tv_expand.specs.Expansion.{nothing_declared, declared, sets_in, unrolled_nest, all_declared};
+ghost use Rattle.tv_expand.specs.Expansion.{limits, nothing_declared, declared, sets_in, unrolled_nest, all_declared};
 ghost use Rattle.tv_flat.specs.Replaced.{bound};
 ghost use Rattle.tv_flat.specs.Views.{binding_of};
 ghost use Rattle.tv_expand.specs.Views.{names_of};
@@ -50,7 +50,7 @@ fn count_declared(state: &Declared<'_>) -> Sizes
 
 // A state in which nothing is declared.
 fn nothing_declared<'a>(alloc: Global) -> Declared<'a>
-    ensures { declared_of result ≡ nothing_declared }
+    ensures { declared_of result ≡ nothing_declared limits }
 {
     Declared {
         sets: IndexMap::new(alloc),
@@ -199,7 +199,7 @@ fn declare_all<'a>(
 /// # Errors
 /// The first refusal.
 pub fn declare_program<'a>(alloc: Global, decls: &'a Decls) -> Result<Declared<'a>, ExpandError>
-    ensures { Gives declared_of result (all_declared [] (decls_of decls.now) nothing_declared) }
+    ensures { Gives declared_of result (all_declared [] (decls_of decls.now) (nothing_declared limits)) }
 {
     let params = IndexMap::new(alloc);
     let unbound = with_params(alloc, &params);

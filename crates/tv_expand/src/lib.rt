@@ -7,6 +7,7 @@ mod declare;
 mod error;
 mod gather;
 mod idle;
+mod laws;
 mod room;
 mod sets;
 mod whole;
@@ -14,5 +15,6 @@ mod wiring;
 mod words;
 
 pub use error::ExpandError;
+pub use laws::limits_are_exact;
 pub use tv_flat::{Flat, FlatAction, FlatEdge};
 pub use whole::expand;

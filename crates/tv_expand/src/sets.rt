@@ -6,25 +6,31 @@ ghost use Rattle.tv_expand.specs.Outcome.{Gives};
 ghost use Rattle.tv_flat.specs.Replaced.{replaced};
 ghost use Rattle.tv_expand.specs.Sets.{find_set, known, members_of, with_members};
 ghost use Rattle.tv_flat.specs.Views.{binding_of};
-ghost use Rattle.tv_expand.specs.Views.{names_of, sets_of};
+ghost use Rattle.tv_expand.specs.Views.{names_of, sets_of, step_members};
 
 use crate::error::ExpandError;
 use crate::words::{Words, add_replaced, signed};
 use indexmap::{IndexMap, IndexSet};
 use std::alloc::{AllocError, Global};
 use tv_flat::Scope;
-use tv_tree::trees::{SetTerm, SetTree, Spelling};
+use tv_tree::trees::{SetStep, SetTerm, SetTree, Spelling};
 
 /// The sets that are declared so far, each with its members.
 pub type Sets<'a> = IndexMap<&'a [u8], Words<'a>>;
 
+fn find_set<'s, 'a>(sets: &'s Sets<'a>, name: &[u8]) -> Result<&'s Words<'a>, ExpandError>
+    ensures { Gives (λ found. names_of found.now.keys) result (known (find_set (sets_of sets.now.entries) name.now)) }
+{
+    match sets.get(name) {
+        Some(words) => Ok(words),
+        None => Err(ExpandError::NameUnknown),
+    }
+}
+
 fn known_members<'a>(sets: &Sets<'a>, name: &[u8]) -> Result<Words<'a>, ExpandError>
     ensures { Gives (λ found. names_of found.keys) result (known (find_set (sets_of sets.now.entries) name.now)) }
 {
-    match sets.get(name) {
-        Some(words) => Ok(words.clone()?),
-        None => Err(ExpandError::NameUnknown),
-    }
+    Ok(find_set(sets, name)?.clone()?)
 }
 
 fn replaced_members<'a>(
@@ -56,6 +62,31 @@ fn term_members<'a>(
     }
 }
 
+// The words so far, with those of one more set put in or taken out. A declared set is only looked at, since it may be
+// large and an expression stands in a foreach.
+#[cycle(set)]
+fn with_step<'a>(
+    alloc: Global,
+    sets: &Sets<'a>,
+    binding: &Scope<'_, 'a>,
+    found: Words<'a>,
+    step: &'a SetStep,
+) -> Result<Words<'a>, ExpandError>
+    ensures { Gives (λ all. names_of all.keys) result (step_members (sets_of sets.now.entries) (binding_of binding.now) (names_of found.entry.keys) (step.now.sign, term_of step.now.term)) }
+{
+    match &step.term {
+        SetTerm::Named(name) => { Ok(signed(alloc, found, step.sign, find_set(sets, &name.0)?)?) }
+        SetTerm::Members(words) => {
+            let other = replaced_members(alloc, binding, words.as_slice())?;
+            Ok(signed(alloc, found, step.sign, &other)?)
+        }
+        SetTerm::Paren(set) => {
+            let other = members(alloc, sets, binding, set)?;
+            Ok(signed(alloc, found, step.sign, &other)?)
+        }
+    }
+}
+
 /// The members of an expression for a set, in order of first sight.
 ///
 /// # Errors
@@ -71,8 +102,7 @@ pub fn members<'a>(
 {
     let mut found = term_members(alloc, sets, binding, &set.first)?;
     for step in &set.more {
-        let other = term_members(alloc, sets, binding, &step.term)?;
-        found = signed(alloc, found, step.sign, &other)?;
+        found = with_step(alloc, sets, binding, found, step)?;
     }
     Ok(found)
 }

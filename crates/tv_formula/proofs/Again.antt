@@ -1,16 +1,16 @@
 -- The tokens of a printed formula are read as that formula.
-use Rattle.std.proofs.Common.{◌≡◌, ℕ, List, [], ◌∷◌, ◌++◌, Option, Some, None, Bool, true, false, refl, sym, ◌∙◌, ap, subst, map, append_assoc}
+use Rattle.std.proofs.Common.{◌≡◌, ℕ, List, [], ◌∷◌, ◌++◌, Some, None, Bool, true, false, refl, sym, ◌∙◌, ap, subst, map, append_assoc}
 use Rattle.std.specs.Prelude.{codes, IfSome, if◌then◌else◌, ◌&&◌, is_some}
 use Rattle.std.specs.Str.{bytes_eq}
 use Rattle.std.proofs.lemmas.Slice.Eq.{bytes_eq-Decides}
 use Rattle.tv_lex.specs.Token.{SpecToken}
 use Rattle.tv_lex.specs.declared.token.TokenKind.{TokenKind}
 use Rattle.tv_lex.specs.declared.token.TokenKind.TheVariants as kind
-use Rattle.tv_phrases.specs.Reading.{Reading, taken, ◌>>=◌, choose}
+use Rattle.tv_phrases.specs.Reading.{Reading, taken}
 use Rattle.tv_phrases.specs.Tokens.{after, first, is_word, is_identifier, begins_name, identifier_item, text_item}
 use Rattle.tv_phrases.specs.Lists.{with_front, items_from, comma_list, optional_list, between, optional_brackets, variables, params, name, two_items, pair}
-use Rattle.tv_phrases.proofs.Facts.{on_bind, on_read, on_choose, on_if, on_more, on_all, at_some, other_mark, name_parts}
-use Rattle.tv_tree.specs.Forms.{NameForm, Form, FZero, FOne, FHalf, FSame, FDiffer, FAtom, FStar, FPlus, FParen, FNot, FAnd, FOr, FImp, FIff, FCond, FExists, FForall, FTc}
+use Rattle.tv_phrases.proofs.Facts.{on_bind, on_read, on_choose, on_if, at_some}
+use Rattle.tv_tree.specs.Forms.{Form, FSame, FDiffer, FAtom, FStar, FPlus, FParen, FNot, FImp, FCond}
 use Rattle.tv_tree.specs.Printed.{formula_tokens, words_tokens, more_tokens, one_token, params_tokens, brackets_tokens, name_tokens, pair_tokens}
 use Rattle.tv_formula.specs.declared.binder.Binder.{Binder}
 use Rattle.tv_formula.specs.declared.binder.Binder.TheVariants.{Exists, Forall, Closure}

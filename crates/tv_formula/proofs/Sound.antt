@@ -1,18 +1,13 @@
 -- What is read is a formula of the grammar.
-use Rattle.std.proofs.Common.{◌≡◌, ℕ, zero, suc, List, Option, Some, None, Bool, true, false, refl, sym}
-use Rattle.std.specs.Prelude.{codes, IfSome, if◌then◌else◌, is_some}
+use Rattle.std.proofs.Common.{ℕ, zero, suc, List, refl}
+use Rattle.std.specs.Prelude.{codes, IfSome}
 use Rattle.tv_lex.specs.Token.{SpecToken}
-use Rattle.tv_phrases.specs.Reading.{Reading, taken, ◌>>=◌, choose}
-use Rattle.tv_phrases.specs.Tokens.{after, first, identifier_item, text_item}
+use Rattle.tv_phrases.specs.Tokens.{after, first, identifier_item}
 use Rattle.tv_phrases.specs.Lists.{variables, params, name, pair}
-use Rattle.tv_phrases.proofs.Facts.{on_bind, on_read, on_choose, on_if, on_more, at_some}
-use Rattle.tv_tree.specs.Forms.{NameForm, Form, FZero, FOne, FHalf, FSame, FDiffer, FStar, FPlus}
-use Rattle.tv_formula.specs.declared.binder.Binder.{Binder}
-use Rattle.tv_formula.specs.declared.binder.Binder.TheVariants.{Exists, Forall, Closure}
-use Rattle.tv_formula.specs.declared.link.Link.{Link}
-use Rattle.tv_formula.specs.declared.link.Link.TheVariants.{Iff, Or, And}
-use Rattle.tv_formula.specs.Grammar.{Production, Whole, Imp, Unary, Joined, Behind, mark_of, join, operand, name_form, arrow, over, Leaf, zero_leaf, one_leaf, half_leaf, same_leaf, differ_leaf, atom_leaf, star_leaf, plus_leaf, Binds, binds_some, binds_all, binds_pairs, Reads, cond, no_cond, joined, further, no_further, imp, no_imp, negation, binding, parentheses, leaf}
-use Rattle.tv_formula.specs.Reading.{compared, applied, closed, behind_name, predicate, named, leaf_reading, negated, begins_binder, existence, universality, transitive, binder, bound, grouped, unary_step, imp_step, joined_step, behind_step, chosen, whole_step, reading, formula_reading, enough}
+use Rattle.tv_phrases.proofs.Facts.{on_bind, on_read, on_choose, on_if, on_more}
+use Rattle.tv_formula.specs.declared.link.Link.TheVariants.{Iff, Or}
+use Rattle.tv_formula.specs.Grammar.{Production, Whole, Imp, Unary, Joined, Behind, mark_of, join, operand, arrow, over, Leaf, zero_leaf, one_leaf, half_leaf, same_leaf, differ_leaf, atom_leaf, star_leaf, plus_leaf, Binds, binds_some, binds_all, binds_pairs, Reads, cond, no_cond, joined, further, no_further, imp, no_imp, negation, binding, parentheses, leaf}
+use Rattle.tv_formula.specs.Reading.{compared, applied, closed, behind_name, predicate, named, leaf_reading, negated, begins_binder, existence, universality, transitive, binder, bound, grouped, unary_step, imp_step, joined_step, behind_step, chosen, whole_step, reading}
 
 predicate_sound : (ts : List SpecToken) → IfSome (predicate ts) (λ x. Leaf ts x.0 x.1)
 unfolding predicate behind_name applied closed

@@ -1,15 +1,15 @@
 -- One step of a reading.
-use Rattle.std.proofs.Common.{◌≡◌, ℕ, zero, suc, List, Option, Some, None, Bool, true, false, refl, sym, ap, ◌∙◌, subst}
-use Rattle.std.specs.Prelude.{codes, Result}
+use Rattle.std.proofs.Common.{◌≡◌, ℕ, zero, suc, List, Option, Some, None, true, false, refl, sym, ap, ◌∙◌}
+use Rattle.std.specs.Prelude.{codes}
 use Rattle.tv_lex.specs.Token.{SpecToken}
 use Rattle.tv_phrases.specs.declared.error.PhraseError.{PhraseError}
 use Rattle.tv_phrases.specs.declared.error.PhraseError.TheVariants.{Unexpected, Memory}
-use Rattle.tv_phrases.specs.Reading.{Reading, taken, ◌>>=◌, choose, Gives, Told, Refuses}
+use Rattle.tv_phrases.specs.Reading.{Reading, taken, ◌>>=◌, choose, Told, Refuses}
 use Rattle.tv_phrases.specs.Tokens.{after}
 use Rattle.tv_tree.specs.Forms.{Form, FImp, FParen, FNot, FCond}
 use Rattle.tv_formula.specs.declared.binder.Binder.{Binder}
 use Rattle.tv_formula.specs.declared.link.Link.{Link}
-use Rattle.tv_formula.specs.declared.link.Link.TheVariants.{Iff, Or, And}
+use Rattle.tv_formula.specs.declared.link.Link.TheVariants.{Iff, Or}
 use Rattle.tv_formula.specs.Grammar.{Production, Whole, Imp, Unary, Joined, Behind, mark_of, join, operand, arrow, over}
 use Rattle.tv_formula.specs.Reading.{Reader, step, reading, binder, joined_step, behind_step, unary_step, imp_step, whole_step, negated, grouped, begins_binder, bound, leaf_reading, chosen}
 use Rattle.tv_phrases.specs.Repeated.{below}
@@ -54,9 +54,6 @@ unfolding behind_step
 behind_ends n m link f ts e lacks = rw (some_below n m (Behind link f) ts e, lacks) refl
 
 -- ---- what answers to one reading say of another
-
-pub gives_same : {R X : Type 0} (view : R → X) (r : Result R PhraseError) (one other : Option X) → one ≡ other → Gives view r other → Gives view r one
-gives_same view r one other e g = subst (Gives view r) (sym e) g
 
 pub refused_told : (e : PhraseError) (P Q : Type 0) → (P → Q) → Refuses e P → Told e Q
 refused_told (Unexpected at) P Q h p = h p

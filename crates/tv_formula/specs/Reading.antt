@@ -1,14 +1,14 @@
 -- How formulas are read, as functions on lists of tokens with a bound on the depth. That they read the grammar is proved.
-use Rattle.std.specs.Prelude.{◌≡◌, ℕ, zero, suc, ◌+◌, ◌*◌, List, length, Bool, ◌||◌, if◌then◌else◌, is_some, Option, Some, None, codes}
+use Rattle.std.specs.Prelude.{ℕ, zero, suc, ◌+◌, ◌*◌, List, length, Bool, ◌||◌, if◌then◌else◌, is_some, None, codes}
 use Rattle.tv_lex.specs.Token.{SpecToken}
 use Rattle.tv_phrases.specs.Reading.{Reading, taken, ◌>>=◌, choose}
-use Rattle.tv_phrases.specs.Tokens.{after, first, identifier_item, text_item}
+use Rattle.tv_phrases.specs.Tokens.{after, first, identifier_item}
 use Rattle.tv_phrases.specs.Lists.{variables, params, name, pair}
-use Rattle.tv_tree.specs.Forms.{NameForm, Form, FZero, FOne, FHalf, FSame, FDiffer, FAtom, FStar, FPlus, FParen, FNot, FAnd, FOr, FImp, FIff, FCond, FExists, FForall, FTc}
+use Rattle.tv_tree.specs.Forms.{NameForm, Form, FZero, FOne, FHalf, FSame, FDiffer, FAtom, FStar, FPlus, FParen, FNot, FImp, FCond}
 use Rattle.tv_formula.specs.declared.binder.Binder.{Binder}
 use Rattle.tv_formula.specs.declared.binder.Binder.TheVariants.{Exists, Forall, Closure}
 use Rattle.tv_formula.specs.declared.link.Link.{Link}
-use Rattle.tv_formula.specs.declared.link.Link.TheVariants.{Iff, Or, And}
+use Rattle.tv_formula.specs.declared.link.Link.TheVariants.{Iff, Or}
 use Rattle.tv_formula.specs.Grammar.{Production, Whole, Imp, Unary, Joined, Behind, mark_of, join, operand, name_form, arrow, over}
 
 abbrev pub Reader : Type 0

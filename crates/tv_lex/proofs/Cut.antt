@@ -1,7 +1,7 @@
 -- A text cut from its front on, piece by piece.
-use Rattle.std.proofs.Common.{◌≡◌, ℕ, ◌+◌, ◌-◌, ◌<◌, ◌≤◌, List, [], ◌∷◌, ◌++◌, Option, Some, None, Ok, Err, length, drop, ap, sym, refl, ◌∙◌, subst, arith, append_assoc, length-append, length-drop, take-append-drop}
-use Rattle.std.proofs.lemmas.List.{append-nil, drop-drop, drop_all, length-take-le}
-use Rattle.tv_lex.specs.Pieces.{Piece, Fits, AllFit, joined, placed, placed_one, Reads, Cause, AreInOrder, IsRefused}
+use Rattle.std.proofs.Common.{◌≡◌, ℕ, ◌+◌, ◌-◌, ◌<◌, ◌≤◌, List, [], ◌∷◌, ◌++◌, Option, Some, None, Ok, Err, length, drop, ap, sym, ◌∙◌, subst, arith, append_assoc, length-append, length-drop, take-append-drop}
+use Rattle.std.proofs.lemmas.List.{append-nil, drop-drop, length-take-le}
+use Rattle.tv_lex.specs.Pieces.{Piece, Fits, AllFit, joined, placed, placed_one, Cause, AreInOrder, IsRefused}
 use Rattle.tv_lex.specs.Front.{front}
 use Rattle.tv_lex.specs.declared.front.Front.{Front}
 use Rattle.tv_lex.specs.declared.token.Token.{Token}
@@ -48,9 +48,6 @@ pub record CutBefore (text : List ℕ) (at : ℕ) (tokens : List Token) : Type 0
   pub order : AreInOrder 0 tokens at
   pub bounded : at ≤ length text
 
-pub cut_none : (text : List ℕ) → CutBefore text 0 []
-cut_none text = record { pieces = []; fit = tt; joins = refl; long = refl; spelled = refl; order = omega arith; bounded = omega arith }
-
 -- what the reader takes next is the next piece
 pub cut_more : (text : List ℕ) (at : ℕ) (tokens : List Token) (f : Front) → CutBefore text at tokens → at < length text → front (drop at text) ≡ Ok f → CutBefore text (at + f.len) (tokens ++ placed_one f.kind at (at + f.len))
 cut_more text at tokens f cut more e =
@@ -76,14 +73,6 @@ cut_more text at tokens f cut more e =
       order = AreInOrder-placed 0 tokens at (at + f.len) f.kind cut.order (omega (arith, first.positive));
       bounded = omega (arith, first.bounded, rest_len);
     }
-
-pub cut_all : (text : List ℕ) (at : ℕ) (tokens : List Token) → CutBefore text at tokens → length text ≤ at → Reads text (Ok tokens)
-cut_all text at tokens cut end =
-    let nothing : drop at text ≡ [] = drop_all at text end in
-    (cut.pieces, subst (AllFit cut.pieces) nothing cut.fit, sym (append-nil (joined cut.pieces)) ∙ ap (λ l. joined cut.pieces ++ l) (sym nothing) ∙ cut.joins, cut.spelled)
-
-pub cut_order : (text : List ℕ) (at : ℕ) (tokens : List Token) → CutBefore text at tokens → AreInOrder 0 tokens (length text)
-cut_order text at tokens cut = AreInOrder-grow 0 tokens at (length text) cut.order cut.bounded
 
 pub cut_refused : (text : List ℕ) (at : ℕ) (tokens : List Token) (fault : LexError) → CutBefore text at tokens → at < length text → front (drop at text) ≡ Err fault → Cause text fault
 cut_refused text at tokens fault cut more e = go fault (refused (drop at text) fault (let rest_len : length (drop at text) ≡ length text - at = length-drop at text in omega arith) e)

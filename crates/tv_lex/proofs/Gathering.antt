@@ -1,5 +1,5 @@
 -- Steps of gathering a text.
-use Rattle.std.proofs.Common.{◌≡◌, ℕ, zero, suc, ◌+◌, ◌-◌, ◌<◌, ◌≤◌, List, [], ◌∷◌, ◌++◌, Option, Some, None, Result, Ok, Err, Bool, true, false, eqb, is_some, length, take, drop, min, ap, sym, refl, ◌∙◌, subst, inl, inr, zero-add, arith, append_assoc, length-append}
+use Rattle.std.proofs.Common.{◌≡◌, ℕ, zero, suc, ◌+◌, ◌-◌, ◌<◌, ◌≤◌, List, [], ◌∷◌, ◌++◌, Option, Some, None, Result, Ok, Err, Bool, false, eqb, is_some, length, take, drop, min, ap, sym, refl, ◌∙◌, subst, inl, inr, zero-add, arith, append_assoc, length-append}
 use Rattle.std.specs.List.{prefix_len}
 use Rattle.std.proofs.lemmas.Bool.{cases_Bool, cond-true, cond-false, lt-ltb, le-ltb, eqb-true, not_from_true, not_from_false}
 use Rattle.std.proofs.lemmas.List.{append-nil}
@@ -9,8 +9,8 @@ use Rattle.tv_outside.specs.Outcome.{ReadCause}
 use Rattle.tv_outside.specs.declared.read.ReadError.{ReadError}
 use Rattle.tv_outside.specs.declared.read.ReadError.TheVariants.{Failed as ReadFailed, TooLong as ReadTooLong, Memory as ReadMemory}
 use Rattle.tv_lex.specs.Bytes.{stays_on_line}
-use Rattle.tv_lex.specs.Include.{lines_of, onto, includes, include_name, inner_name}
-use Rattle.tv_lex.specs.Gather.{longest_gathered, deepest_include, Event, Begin, Give, Refuse, begun, BeginsEach, gathered, GivesBytes, BytesCause, Puts, PutCause, Gathers, GatherCause, file_events, content_events, line_events, one_line, opens, named_events, included, below, gather_error}
+use Rattle.tv_lex.specs.Include.{lines_of, onto, include_name, inner_name}
+use Rattle.tv_lex.specs.Gather.{longest_gathered, deepest_include, Event, Begin, Give, Refuse, begun, BeginsEach, gathered, GivesBytes, Puts, PutCause, Gathers, GatherCause, file_events, content_events, line_events, one_line, opens, named_events, included, below, gather_error}
 use Rattle.tv_lex.specs.declared.gatherer.GatherError.{GatherError}
 use Rattle.tv_lex.specs.declared.gatherer.GatherError.TheVariants.{Failed, TooLong, Unended, IncludeForm, IncludeDepth, Memory}
 
@@ -34,36 +34,13 @@ cause_within IncludeForm told inner outer mid old steady_mid steady before betwe
 cause_within IncludeDepth told inner outer mid old steady_mid steady before between now cause stays le step = step IncludeDepth cause
 cause_within Memory told inner outer mid old steady_mid steady before between now cause stays le step = tt
 
-pub bytes_cause : (e : GatherError) (told : Option Held) (outer : Held → List Event) (mid bytes old : List ℕ) (steady : Type 0) (before now : ℕ) → BytesCause e mid bytes → ((fault : GatherError) → GivesBytes mid bytes (Err fault) → Puts told outer old (Err fault)) → PutCause e told outer old steady before now
-bytes_cause Failed told outer mid bytes old steady before now cause step = absurd cause
-bytes_cause TooLong told outer mid bytes old steady before now cause step = step TooLong cause
-bytes_cause Unended told outer mid bytes old steady before now cause step = absurd cause
-bytes_cause IncludeForm told outer mid bytes old steady before now cause step = absurd cause
-bytes_cause IncludeDepth told outer mid bytes old steady before now cause step = absurd cause
-bytes_cause Memory told outer mid bytes old steady before now cause step = tt
-
 -- ---- one line
-
-pub line_include : (told : Option Held) (name line old : List ℕ) (left : ℕ) (inside : Bool) (r : Result (List ℕ) GatherError) → includes inside line ≡ true → Puts told (λ held. included (below held left) name line) old r → Puts told (λ held. one_line (included (below held left) name) inside line) old r
-line_include None name line old left inside r is puts = tt
-line_include (Some held) name line old left inside r is puts = λ after.
-    ap (λ es. gathered old (es ++ after)) (cond-true (includes inside line) (included (below held left) name line) (Give line ∷ []) is) ∙ puts after
-
-pub line_plain : (told : Option Held) (name line old : List ℕ) (left : ℕ) (inside : Bool) (r : Result (List ℕ) GatherError) → includes inside line ≡ false → GivesBytes old line r → Puts told (λ held. one_line (included (below held left) name) inside line) old r
-line_plain None name line old left inside r is gives = tt
-line_plain (Some held) name line old left inside r is gives = λ after.
-    ap (λ es. gathered old (es ++ after)) (cond-false (includes inside line) (included (below held left) name line) (Give line ∷ []) is) ∙ gives after
 
 -- ---- one include
 
 pub include_form : (told : Option Held) (name line old : List ℕ) (left : ℕ) → include_name line ≡ None → Puts told (λ held. included (below held left) name line) old (Err IncludeForm)
 include_form None name line old left is = tt
 include_form (Some held) name line old left is = λ after. ap (λ o. gathered old (named_events (below held left) name o ++ after)) is
-
-pub include_depth : (told : Option Held) (name line old written : List ℕ) (left : ℕ) → include_name line ≡ Some written → left ≡ 0 → Puts told (λ held. included (below held left) name line) old (Err IncludeDepth)
-include_depth None name line old written left is none = tt
-include_depth (Some held) name line old written left is none = λ after.
-    ap (λ o. gathered old (named_events (below held left) name o ++ after)) is ∙ ap (λ n. gathered old (named_events (below held n) name (Some written) ++ after)) none
 
 below-positive : (held : Held) (left : ℕ) (inner : List ℕ) → 0 < left → below held left inner ≡ file_events held (left - 1) inner
 below-positive held zero inner h = absurd (omega arith)
@@ -185,18 +162,6 @@ pub line_more : (told mid_told : Option Held) (name old rest out line behind mor
 line_more told mid_told name old rest out line behind more left inside next same putting cut is_next puts =
     putting_more told name old rest out line behind more left inside next putting cut is_next (subst (λ t. Puts t (λ held. one_line (included (below held left) name) inside line) out (Ok more)) same puts)
 
-pub putting_end : (told : Option Held) (name old rest out : List ℕ) (left : ℕ) (inside : Bool) → Putting told name left old inside rest out → length rest ≡ 0 → inside ≡ false → Puts told (λ held. file_events held left name) old (Ok out)
-putting_end told name old (b ∷ bs) out left inside putting none is = absurd (omega arith)
-putting_end None name old [] out left inside putting none is = tt
-putting_end (Some held) name old [] out left inside putting none is = λ after.
-    putting after ∙ ap (λ b. gathered out (line_events (included (below held left) name) b [] ++ after)) is
-
-pub putting_unended : (told : Option Held) (name old rest out : List ℕ) (left : ℕ) (inside : Bool) → Putting told name left old inside rest out → length rest ≡ 0 → inside ≡ true → Puts told (λ held. file_events held left name) old (Err Unended)
-putting_unended told name old (b ∷ bs) out left inside putting none is = absurd (omega arith)
-putting_unended None name old [] out left inside putting none is = tt
-putting_unended (Some held) name old [] out left inside putting none is = λ after.
-    putting after ∙ ap (λ b. gathered out (line_events (included (below held left) name) b [] ++ after)) is
-
 -- ---- how often files are begun
 
 begun-append : (a b : List Event) → begun (a ++ b) ≡ begun a + begun b
@@ -210,22 +175,6 @@ counted-counted a m n = capped a m n count_max
   where
     capped : (a m n top : ℕ) → min (min (a + m) top + n) top ≡ min (a + (m + n)) top
     capped a m n top = omega arith
-
-counted-none : (a : ℕ) → a ≤ count_max → a ≡ counted a 0
-counted-none a fits = capped a count_max fits
-  where
-    capped : (a top : ℕ) → a ≤ top → a ≡ min (a + 0) top
-    capped a top fits = omega arith
-
-pub line_include_begins : (told : Option Held) (name line : List ℕ) (left : ℕ) (inside : Bool) (old now : ℕ) → includes inside line ≡ true → BeginsEach told (λ held. included (below held left) name line) old now → BeginsEach told (λ held. one_line (included (below held left) name) inside line) old now
-line_include_begins None name line left inside old now is begins = tt
-line_include_begins (Some held) name line left inside old now is begins = λ fits.
-    begins fits ∙ ap (λ es. counted old (begun es)) (sym (cond-true (includes inside line) (included (below held left) name line) (Give line ∷ []) is))
-
-pub line_plain_begins : (told : Option Held) (name line : List ℕ) (left : ℕ) (inside : Bool) (old now : ℕ) → includes inside line ≡ false → now ≡ old → BeginsEach told (λ held. one_line (included (below held left) name) inside line) old now
-line_plain_begins None name line left inside old now is same = tt
-line_plain_begins (Some held) name line left inside old now is same = λ fits.
-    same ∙ counted-none old fits ∙ ap (λ es. counted old (begun es)) (sym (cond-false (includes inside line) (included (below held left) name line) (Give line ∷ []) is))
 
 pub include_begins : (told : Option Held) (name line written inner : List ℕ) (left old now : ℕ) → include_name line ≡ Some written → 0 < left → inner ≡ inner_name name written → BeginsEach told (λ held. file_events held (left - 1) inner) old now → BeginsEach told (λ held. included (below held left) name line) old now
 include_begins None name line written inner left old now is some named begins = tt
@@ -274,13 +223,6 @@ beginning_more told mid_told name rest line behind left inside next old now late
               ∙ ap (λ ls. counted now (begun (line_events (included (below held left) name) inside ls))) (sym cut)
               ∙ here.1,
         )
-
-pub beginning_end : (told : Option Held) (name rest : List ℕ) (left : ℕ) (inside : Bool) (old now : ℕ) → Beginning told name left inside rest old now → length rest ≡ 0 → inside ≡ false → BeginsEach told (λ held. file_events held left name) old now
-beginning_end told name (b ∷ bs) left inside old now beginning none is = absurd (omega arith)
-beginning_end None name [] left inside old now beginning none is = tt
-beginning_end (Some held) name [] left inside old now beginning none is = λ below_top.
-    let here = beginning below_top in
-    counted-none now here.0 ∙ ap (λ b. counted now (begun (line_events (included (below held left) name) b []))) (sym is) ∙ here.1
 
 -- ---- the whole text
 

@@ -7,7 +7,8 @@ use Rattle.std.proofs.lemmas.Str.{is_utf8-from_IsUtf8, IsUtf8-from_is_utf8}
 use Rattle.std.proofs.lemmas.Bool.{and_parts, and_from, or_cases, cases_Bool, cond-true, cond-false, ltb-true, lt-ltb, eqb-true}
 use Rattle.std.proofs.lemmas.List.{drop_at, take_at}
 use Rattle.tv_lex.specs.Pieces.{IsOneOf}
-use Rattle.tv_lex.specs.Include.{is_gap, without_gaps, behind_mark, is_feed, ends_line, is_not_quote, text_if, checked_name, include_word, include_name, IsIncludeLine, ◌>>=◌}
+use Rattle.tv_lex.specs.Include.{is_gap, without_gaps, behind_mark, is_feed, ends_line, is_not_quote, text_if, checked_name, include_word, include_name, IsIncludeLine}
+use Rattle.tv_lex.specs.Options.{◌>>=◌}
 use Rattle.tv_lex.proofs.Runs.{prefix_len-append-stop, list_all-take-prefix_len}
 
 -- ---- from the form to the name

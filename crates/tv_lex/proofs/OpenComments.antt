@@ -255,9 +255,6 @@ letter_plain = each_passes is_letter is_plain (plain_if is_letter refl refl)
 abbrev Quiet : List ℕ → Type 0
 Quiet bytes = (run Code bytes ≡ Code) × NeverOpen Code bytes
 
-plain_quiet : (bytes : List ℕ) → list_all is_plain bytes ≡ true → Quiet bytes
-plain_quiet bytes all = plain_run bytes all
-
 token_quiet : (kind : TokenKind) (bytes behind : List ℕ) → Stands (Some kind) bytes behind → Quiet bytes
 token_quiet Word bytes behind s = plain_run bytes (word_plain bytes s.1)
 token_quiet Half bytes behind s = subst Quiet (sym s.0) (refl, (refl, (refl, (refl, refl))))

@@ -36,9 +36,6 @@ pub option_map-suc : (o : Option ℕ) (n : ℕ) → option_map (λ m. m + 1) o �
 option_map-suc None n h = cc
 option_map-suc (Some m) n h = (m, refl, cc)
 
-close_at-cons : (x y : ℕ) (xs : List ℕ) → close_at (x ∷ y ∷ xs) ≡ cond (eqb x 42 && eqb y 47) (Some 0) (option_map (λ n. n + 1) (close_at (y ∷ xs)))
-close_at-cons x y xs = refl
-
 -- the first `*/` stays the first, whatever follows it
 pub close_at-append : (xs ys : List ℕ) (n : ℕ) → close_at xs ≡ Some n → close_at (xs ++ ys) ≡ Some n
 close_at-append [] ys n h = cc

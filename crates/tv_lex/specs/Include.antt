@@ -1,11 +1,11 @@
 -- The lines of a file, and the include lines among them.
 use Rattle.std.specs.Prelude.{◌≡◌, ℕ, ◌-◌, ◌<◌, List, [], ◌∷◌, ◌++◌, Bool, true, false, not, if◌then◌else◌, ◌&&◌, ◌||◌, ◌==◌, nat_eq, nat_lt, Option, Some, None, length, take, drop, slice_index, IsTrue}
 use Rattle.std.specs.List.{prefix_len, suffix_len, starts_with, fold, list_all}
-use Rattle.std.specs.Option.{option_and_then}
 use Rattle.std.specs.Str.{is_utf8, IsUtf8}
 use Rattle.tv_lex.specs.Pieces.{IsOneOf}
 use Rattle.tv_lex.specs.declared.include.Scan.{Scan}
 use Rattle.tv_lex.specs.declared.include.Scan.TheVariants.{Code, Slash, LineComment, BlockComment, Star, Quoted}
+use Rattle.tv_lex.specs.Options.{◌>>=◌}
 
 -- the byte in front of a line
 abbrev pub onto : ℕ → List (List ℕ) → List (List ℕ)
@@ -88,10 +88,6 @@ checked_name name rest = if nat_lt 0 (length name) && ends_line (without_gaps re
 -- `include`
 abbrev pub include_word : List ℕ
 include_word = 105 ∷ 110 ∷ 99 ∷ 108 ∷ 117 ∷ 100 ∷ 101 ∷ []
-
-infixl 10 ◌>>=◌
-abbrev pub ◌>>=◌ : {A B : Type 0} → Option A → (A → Option B) → Option B
-o >>= f = option_and_then f o
 
 -- The name in an include line: `#`, `include` and the name in quotes, with spaces and tabs between and around them,
 -- then at most a carriage return. The name has at least one byte and is UTF-8.

@@ -1,3 +1,4 @@
+pub mod Options
 pub mod Bytes
 pub mod Token
 pub mod Pieces

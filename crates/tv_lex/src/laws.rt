@@ -1,5 +1,7 @@
 //! Laws about texts and their tokens. Each function does nothing: its clause is what it shows.
 ghost use Rattle.std.specs.Prelude.{◌≡◌, ◌↔◌, ℕ, List, Result, length, Ok, All};
+ghost use Rattle.tv_lex.specs.Bytes.{longest_text};
+ghost use Rattle.tv_lex.specs.Gather.{longest_gathered, deepest_include};
 ghost use Rattle.tv_lex.specs.Include.{include_name, IsIncludeLine};
 ghost use Rattle.tv_lex.specs.Comments.{CommentsAgree};
 ghost use Rattle.tv_lex.specs.Token.{spec_tokens};
@@ -42,4 +44,12 @@ pub fn include_lines()
 /// on texts that have tokens.
 pub fn comments_over_lines()
     ensures { CommentsAgree }
+{}
+
+/// The limits on texts, in numbers: a file is at most 16 includes deep, a file and a gathered text have at most 4,194,304
+/// bytes, and a text that is cut into tokens has at most 67,108,864.
+pub fn limits_are_told()
+    ensures depth { deepest_include ≡ 16 }
+    ensures gathered { longest_gathered ≡ 4194304 }
+    ensures text { longest_text ≡ 67108864 }
 {}

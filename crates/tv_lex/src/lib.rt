@@ -11,8 +11,8 @@ mod token;
 
 pub use gatherer::{GatherError, Gathered, MAX_DEPTH, MAX_TEXT, gather};
 pub use laws::{
-    comments_over_lines, include_lines, one_reading, spaced_texts, tokens_in_order,
-    tokens_of_their_kinds,
+    comments_over_lines, include_lines, limits_are_told, one_reading, spaced_texts,
+    tokens_in_order, tokens_of_their_kinds,
 };
 pub use places::{place, stop_place};
 pub use reader::lex;

@@ -1,10 +1,10 @@
--- The library of lemmas on steps one after the other, for the crates above.
+-- The library for the crates above: steps one after the other, and what formulas see and which numbers that takes.
 pub mod Loops
+pub mod SlotFills
+pub mod Sightings
+pub mod SightLaws
 -- What only this crate cites.
 mod SlotLaws
 mod SymbolLaws
 mod Weights
 mod PickLaws
-mod SlotFills
-mod Sightings
-mod SightLaws

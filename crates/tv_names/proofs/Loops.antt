@@ -1,5 +1,5 @@
 -- Loops that take each item in its order, up to the first refusal.
-use Rattle.std.proofs.Common.{◌≡◌, ℕ, zero, suc, ◌+◌, ◌<◌, ◌≤◌, get_or, List, [], ◌∷◌, length, map, drop, refl, ap, sym, ◌∙◌, arith, add-one, drop-cons, Ok, Err, Result}
+use Rattle.std.proofs.Common.{◌≡◌, ℕ, suc, ◌+◌, ◌<◌, ◌≤◌, get_or, List, ◌∷◌, length, map, drop, refl, ap, sym, ◌∙◌, add-one, drop-cons, Ok, Err}
 use Rattle.std.proofs.lemmas.List.{drop_all}
 use Rattle.tv_names.specs.declared.refusal.ResolveError.{ResolveError}
 use Rattle.tv_names.specs.declared.refusal.ResolveError.TheVariants.{NameUnknown, NameTwice, ArityWrong, ArityTooLarge, Reserved, VariableUnbound, TooManyVariables, UpdateTwice, DefinitionCycle, HeadForm, HalfLiteral, TooMany, NoEdge, Memory}

@@ -1,18 +1,15 @@
 -- What a step sees, and what it does to the numbers.
-use Rattle.std.proofs.Common.{◌≡◌, ℕ, ◌+◌, ◌<◌, ◌≤◌, Bool, true, false, cond, ◌||◌, get_or, set, List, [], ◌∷◌, ◌++◌, length, refl, ap, sym, subst, ◌∙◌, arith, length-append, append_assoc, Option, Some, None, Ok, Err, inl, inr}
-use Rattle.std.specs.Prelude.{if◌then◌else◌, is_some}
+use Rattle.std.proofs.Common.{◌≡◌, ℕ, ◌+◌, ◌<◌, ◌≤◌, Bool, true, false, ◌||◌, List, [], ◌∷◌, ◌++◌, length, refl, ap, sym, ◌∙◌, arith, length-append, Option, Some, None, Ok, Err, inl, inr}
 use Rattle.std.specs.List.{list_any, flat_map, position}
 use Rattle.std.specs.Str.{bytes_eq}
 use Rattle.std.proofs.lemmas.Bool.{cases_Bool}
 use Rattle.std.proofs.lemmas.Grind.{flat_map-append}
-use Rattle.std.proofs.lemmas.List.{append-nil}
 use Rattle.std.proofs.lemmas.List.Folds.{list_any-append, list_any_at}
 use Rattle.std.proofs.lemmas.List.Quantifiers.{position-Some}
 use Rattle.std.proofs.lemmas.Slice.Eq.{bytes_eq-Decides}
-use Rattle.tv_names.specs.declared.refusal.ResolveError.{ResolveError}
 use Rattle.tv_names.specs.declared.refusal.ResolveError.TheVariants.{TooManyVariables}
 use Rattle.tv_names.specs.Refusal.{◌>>=◌, OrRefused}
-use Rattle.tv_names.specs.Naming.{SlotForm, Vacant, Nameless, Named, NamingForm, is_vacant, is_named, number_of, filled_at, filled, sighted_at, sighted, two_more, own_at, own_pair}
+use Rattle.tv_names.specs.Naming.{SlotForm, Vacant, Named, NamingForm, is_vacant, is_named, number_of, filled_at, filled, sighted_at, sighted}
 use Rattle.tv_names.specs.Numbers.{Sight, OfName, OfPair, is_same_sight, is_numbered, first_sights, variables_of, new_variables, vacant_count, filled_with}
 use Rattle.tv_names.specs.Resolving.{Numbered}
 use Rattle.tv_names.proofs.SlotFills.{fill_append, fill_count, first_vacant, none_passes, no_vacancy, filled_name}
@@ -28,7 +25,7 @@ same_is (OfName v) OfPair h = cc
 same_is OfPair (OfName w) h = cc
 same_is OfPair OfPair h = refl
 
-first_alike : (k l : Sight → Bool) → ((y : Sight) → k y ≡ l y) → (xs : List Sight) → first_sights k xs ≡ first_sights l xs
+pub first_alike : (k l : Sight → Bool) → ((y : Sight) → k y ≡ l y) → (xs : List Sight) → first_sights k xs ≡ first_sights l xs
 first_alike k l h [] = refl
 first_alike k l h (x ∷ xs) =
     rw (h x)
@@ -86,7 +83,7 @@ new_append s t xs ys known =
     ap (flat_map variables_of) (first_append (is_numbered s) xs ys ∙ ap (λ (zs : List Sight). first_sights (is_numbered s) xs ++ zs) (first_alike (λ y. is_seen xs y || is_numbered s y) (is_numbered t) (λ y. sym (known y)) ys))
     ∙ flat_map-append variables_of (first_sights (is_numbered s) xs) (first_sights (is_numbered t) ys)
 
-left_over : (s t : NamingForm) (xs : List Sight) → Follows s xs t → vacant_count t.slots + length (new_variables s xs) ≡ vacant_count s.slots
+pub left_over : (s t : NamingForm) (xs : List Sight) → Follows s xs t → vacant_count t.slots + length (new_variables s xs) ≡ vacant_count s.slots
 left_over s t xs p = rw p.slots (fill_count s.slots (new_variables s xs) (taken (first_sights (is_numbered s) xs)) p.room)
 
 or_turn : (a b c : Bool) → (b || (a || c)) ≡ ((a || b) || c)
@@ -137,7 +134,7 @@ sees_guard s xs (Err e) f never p = λ is. absurd (never (ap Err is))
 
 -- ---- names
 
-some_passes : (name : List ℕ) (slots : List SlotForm) (n : ℕ) → position (is_named name) slots ≡ Some n → list_any (is_named name) slots ≡ true
+pub some_passes : (name : List ℕ) (slots : List SlotForm) (n : ℕ) → position (is_named name) slots ≡ Some n → list_any (is_named name) slots ≡ true
 some_passes name slots n e =
     let p = position-Some (is_named name) slots n Vacant e in
     list_any_at (is_named name) slots n Vacant p.0 p.1

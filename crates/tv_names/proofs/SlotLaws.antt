@@ -1,7 +1,6 @@
 -- Steps over the numbers of an item.
-use Rattle.std.proofs.Common.{◌≡◌, ℕ, zero, suc, ◌+◌, ◌<◌, ◌≤◌, Bool, not, get_or, set, List, [], ◌∷◌, length, map, refl, ap, sym, ◌∙◌, cond, arith, add-one, zero-add}
+use Rattle.std.proofs.Common.{◌≡◌, ℕ, zero, suc, ◌+◌, ◌<◌, ◌≤◌, Bool, not, get_or, set, List, [], ◌∷◌, length, map, refl, ap, sym, ◌∙◌, cond, arith, zero-add}
 use Rattle.std.specs.List.{position_or_len, position}
-use Rattle.std.specs.Prelude.{nat_lt}
 use Rattle.std.proofs.lemmas.List.{length-map, map-set, get_or-map}
 use Rattle.tv_names.specs.declared.naming.Slot.{Slot}
 use Rattle.tv_names.specs.Copies.{slot_of}

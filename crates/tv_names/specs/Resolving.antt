@@ -1,5 +1,5 @@
 -- Resolution of one formula: names become numbers, in reading order, and the first refusal decides.
-use Rattle.std.specs.Prelude.{ℕ, ◌≡◌, Bool, true, false, ◌&&◌, not, ◌==◌, List, [], ◌∷◌, ◌++◌, length, Option, Some, None, Result, Ok, Err, get_or, slice_set, if◌then◌else◌}
+use Rattle.std.specs.Prelude.{ℕ, Bool, true, false, ◌&&◌, not, ◌==◌, List, [], ◌∷◌, ◌++◌, length, Option, Some, None, Ok, Err, get_or, slice_set, if◌then◌else◌}
 use Rattle.std.specs.Str.{bytes_eq}
 use Rattle.tv_tree.specs.Forms as tree
 use Rattle.tv_tree.specs.Forms.{NameForm}
@@ -9,7 +9,7 @@ use Rattle.tv_names.specs.declared.refusal.ResolveError.TheVariants.{NameUnknown
 use Rattle.tv_names.specs.declared.place.Others.{Others}
 use Rattle.tv_names.specs.declared.place.Others.TheVariants.{Any, Never, Once}
 use Rattle.tv_names.specs.Refusal.{◌>>=◌, OrRefused, refused_if, or_refused}
-use Rattle.tv_names.specs.Symbols.{SymbolForm, KnownForm, is_sm, is_new_word, symbol_of}
+use Rattle.tv_names.specs.Symbols.{SymbolForm, is_sm, is_new_word, symbol_of}
 use Rattle.tv_names.specs.Naming.{NamingForm, number_of, sighted, own_pair}
 
 -- Where a formula stands: the predicates, whether `isNew` is allowed, which variables are known, by number, since a

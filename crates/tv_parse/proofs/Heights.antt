@@ -4,7 +4,7 @@ use Rattle.std.specs.Prelude.{nat_lt}
 use Rattle.std.proofs.lemmas.List.{reverse-append}
 use Rattle.tv_lex.specs.Token.{SpecToken}
 use Rattle.tv_parse.specs.declared.height.Open.{Open}
-use Rattle.tv_parse.specs.declared.height.Open.TheVariants.{Bracket, Mark}
+use Rattle.tv_parse.specs.declared.height.Open.TheVariants.{Bracket}
 use Rattle.tv_parse.specs.Height.{effect, changed, without_marks, without_first, passes_height}
 
 pub reverse_push : (old new : List Open) (x : Open) → new ≡ old ++ x ∷ [] → reverse new ≡ x ∷ reverse old
@@ -13,9 +13,6 @@ reverse_push old new x e = ap reverse e ∙ reverse-append old (x ∷ [])
 -- the last one is taken
 pub reverse_pop : (old new : List Open) (x : Open) → old ≡ new ++ x ∷ [] → reverse new ≡ without_first (reverse old)
 reverse_pop old new x e = sym (ap without_first (reverse_push new old x e))
-
-pub mark_popped : (old new : List Open) → old ≡ new ++ Mark ∷ [] → without_marks (reverse new) ≡ without_marks (reverse old)
-mark_popped old new e = sym (ap without_marks (reverse_push new old Mark e))
 
 pub no_mark : (old new : List Open) → old ≡ new ++ Bracket ∷ [] → without_marks (reverse old) ≡ reverse old
 no_mark old new e = ap without_marks (reverse_push new old Bracket e) ∙ sym (reverse_push new old Bracket e)

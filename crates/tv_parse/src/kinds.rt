@@ -2,7 +2,6 @@
 
 ghost use Rattle.std.specs.Prelude.{◌≡◌, ◌<◌, length, is_some, IfOk};
 ghost use Rattle.std.specs.Option.{option_map};
-ghost use Rattle.std.specs.Str.{bytes_eq};
 ghost use Rattle.tv_lex.specs.Token.{spec_tokens};
 ghost use Rattle.tv_phrases.specs.Tokens.{after, first, identifier_item};
 ghost use Rattle.tv_phrases.specs.Reading.{Takes};
@@ -11,7 +10,7 @@ ghost use Rattle.tv_phrases.specs.Repeated.{below, begins_with};
 
 use tv_formula::behind_arrow;
 use tv_lex::{Token, text};
-use tv_phrases::{Item, PhraseError, after, begins_item};
+use tv_phrases::{Item, PhraseError, after, begins_item, is_spelled};
 use tv_tree::trees::PropWord;
 
 /// A declaration, `foreach` aside.
@@ -44,13 +43,6 @@ pub enum PartKind {
     Retain,
     /// `{`
     Block,
-}
-
-/// Whether the bytes are these.
-pub fn is_spelled(word: &[u8], mark: &[u8]) -> bool
-    ensures { result ≡ bytes_eq word.now mark.now }
-{
-    word == mark
 }
 
 fn kind_of_decl(word: &[u8]) -> Option<DeclKind>

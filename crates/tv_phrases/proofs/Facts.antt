@@ -1,5 +1,5 @@
 -- What one reading says of another at the same place, and of the tokens that are left.
-use Rattle.std.proofs.Common.{◌≡◌, ℕ, ◌<◌, ◌≤◌, List, [], ◌∷◌, Bool, true, false, Option, Some, None, length, refl, sym, ◌∙◌, ap, subst, arith}
+use Rattle.std.proofs.Common.{◌≡◌, ℕ, ◌<◌, ◌≤◌, List, [], ◌∷◌, Bool, true, false, Option, Some, None, length, refl, subst, arith}
 use Rattle.std.specs.Prelude.{codes, if◌then◌else◌, ◌&&◌, IfSome}
 use Rattle.std.specs.Str.{bytes_eq}
 use Rattle.std.proofs.lemmas.Slice.Eq.{bytes_eq-Decides}
@@ -85,12 +85,6 @@ unfolding name
 name_parts ts us n is =
     at_some (name ts) (λ x. (vs : List SpecToken) × (first identifier_item ts ≡ taken x.0.0 vs) × (optional_brackets vs ≡ taken x.0.1 x.1)) (n, us)
     (on_bind (first identifier_item ts) _ _ (λ w word. on_bind (optional_brackets w.1) _ _ (λ b brackets. (w.1, word, brackets)))) is
-
-pub name_word : (ts us vs : List SpecToken) (n : List ℕ × List (List ℕ)) (w : List ℕ) → name ts ≡ taken n us → first identifier_item ts ≡ taken w vs → optional_brackets vs ≡ taken n.1 us
-name_word ts us vs n w is word =
-    let parts = name_parts ts us n is in
-    let rest : parts.0 ≡ vs = ap (λ (p : List ℕ × List SpecToken). p.1) (some_same (n.0, parts.0) (w, vs) (sym parts.1 ∙ word)) in
-    subst (λ (z : List SpecToken). optional_brackets z ≡ taken n.1 us) rest parts.2
 
 -- behind a name's identifier stands `[`, or what stands behind the name
 pub brackets_lack : (k : List ℕ) (ts us : List SpecToken) (ws : List (List ℕ)) → bytes_eq (codes "[") k ≡ false → optional_brackets ts ≡ taken ws us → after k us ≡ None → after k ts ≡ None

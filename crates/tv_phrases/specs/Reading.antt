@@ -1,6 +1,6 @@
 -- Readings: functions that take a phrase off the front of the tokens, and give its value and the tokens behind it.
 use Rattle.std.specs.Prelude.{◌≡◌, List, Option, Some, None, Result, Ok, Err}
-use Rattle.std.specs.Option.{option_and_then}
+pub use Rattle.tv_lex.specs.Options.{◌>>=◌}
 use Rattle.tv_lex.specs.Token.{SpecToken}
 use Rattle.tv_phrases.specs.declared.error.PhraseError.{PhraseError}
 use Rattle.tv_phrases.specs.declared.error.PhraseError.TheVariants.{Unexpected, Memory}
@@ -12,10 +12,6 @@ Reading X = Option (X × List SpecToken)
 -- a value, and the tokens behind its phrase
 abbrev pub taken : {X : Type 0} → X → List SpecToken → Reading X
 taken x rest = Some (x, rest)
-
-infixl 10 ◌>>=◌
-abbrev pub ◌>>=◌ : {A B : Type 0} → Option A → (A → Option B) → Option B
-o >>= f = option_and_then f o
 
 -- the value where there is one, else the other answer
 abbrev pub choose : {A B : Type 0} → Option A → B → (A → B) → B

@@ -16,5 +16,5 @@ pub use lists::{
 };
 pub use numbers::{begins_number, number, optional_numbers};
 pub use tokens::{
-    after, begins_item, begins_string, expect, identifier, item, string, unquoted, word,
+    after, begins_item, begins_string, expect, identifier, is_spelled, item, string, unquoted, word,
 };

@@ -11,7 +11,8 @@ use crate::error::PhraseError;
 use crate::kinds::Item;
 use tv_lex::{Token, TokenKind, text};
 
-fn is_spelled(word: &[u8], mark: &[u8]) -> bool
+/// Whether a word is spelled like the mark.
+pub fn is_spelled(word: &[u8], mark: &[u8]) -> bool
     ensures { result ≡ bytes_eq word.now mark.now }
 {
     word == mark

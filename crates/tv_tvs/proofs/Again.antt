@@ -142,9 +142,6 @@ module _ (s : StructureForm) (subject : Subject) (value : List ℕ → K3) (Fit 
 
 -- ---- a predicate's values
 
-value_done : (s : StructureForm) (p : ℕ) → StructureForm → List ℕ → Type 0
-value_done s p d t = value_at d p t ≡ value_at s p t
-
 pub part_no : (d s : StructureForm) (p : ℕ) (t : List ℕ) → IsPart d s → value_at s p t ≡ No → value_at d p t ≡ value_at s p t
 part_no d s p t part e = elim (part.values p t) [ inl is_no ↦ is_no ∙ sym e | inr same ↦ same ]
 

@@ -15,7 +15,8 @@ use Rattle.tv_tvs.specs.declared.syntax.ItemText.{ItemText}
 use Rattle.tv_tvs.specs.declared.syntax.ContentText.{ContentText}
 use Rattle.tv_tvs.specs.declared.syntax.ContentText.TheVariants.{OneValue as OneText}
 use Rattle.tv_tvs.specs.Tree.{ItemTree, EntryTree, StructTree}
-use Rattle.tv_tvs.specs.Meaning.{◌>>=◌, Subject, subject_arity, item_arity, fits, item_put, items_put, entry_put, entries_put, struct_meant, structs_meant, Fails}
+use Rattle.tv_tree.specs.Steps.{◌>>=◌}
+use Rattle.tv_tvs.specs.Meaning.{Subject, subject_arity, item_arity, fits, item_put, items_put, entry_put, entries_put, struct_meant, structs_meant, Fails}
 use Rattle.tv_tvs.specs.Targets.{subject_form, Has, HasPlace, Keeps}
 use Rattle.tv_tvs.specs.Views.{text_arity, item_tree, item_trees, content_tree}
 use Rattle.tv_tvs.proofs.Twice.{drop_next}

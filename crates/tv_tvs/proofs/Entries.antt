@@ -18,7 +18,8 @@ use Rattle.tv_tvs.specs.declared.error.TvsError.{TvsError}
 use Rattle.tv_tvs.specs.declared.error.TvsError.TheVariants.{NameUnknown, ArityWrong}
 use Rattle.tv_tvs.specs.Tree.{NameTree, ItemTree, ContentTree, OneValue, Listed, EntryTree, StructTree, name_text}
 use Rattle.tv_tvs.specs.Canonical.{individual, individuals, tuples, written_items, if_some, value_content, content_of, summary_value}
-use Rattle.tv_tvs.specs.Meaning.{◌>>=◌, Subject, Summaries, Predicate, subject_arity, subject_of, arity_at, item_arity, fits, items_put, fitting_put, entry_put, entries_put, or_refused, number_of, has_twice, blank, struct_meant}
+use Rattle.tv_tree.specs.Steps.{◌>>=◌, or_refused}
+use Rattle.tv_tvs.specs.Meaning.{Subject, Summaries, Predicate, subject_arity, subject_of, arity_at, item_arity, fits, items_put, fitting_put, entry_put, entries_put, number_of, has_twice, blank, struct_meant}
 use Rattle.tv_tvs.proofs.Numbers.{bytes_differ, number_is, not_among, individual_injective}
 use Rattle.tv_tvs.proofs.Filled.{IsPart, Grows-same, Grows-then, Step, value_put_again, filled}
 use Rattle.tv_tvs.proofs.Again.{IsTuple, tuples_all, items_fit, part_no, has_entry, values_again, marks_again, tuples_are}
@@ -68,7 +69,7 @@ listed_put all inds c to n subject arity (item ∷ items) es known is low fit pu
     in let fitting : fits (subject_arity subject) (Listed (item ∷ items)) ≡ true
     = ap (λ a. fits a (Listed (item ∷ items))) is ∙ and_from (not (eqb arity 0)) (list_all (λ i. eqb (item_arity i) arity) (item ∷ items)) (ap not some) fit
     in let one : entry_put all inds c entry ≡ Ok to
-    = ap (λ o. or_refused NameUnknown o >>= λ found. fitting_put inds found c (Listed (item ∷ items))) known
+    = ap (λ o. or_refused o NameUnknown >>= λ found. fitting_put inds found c (Listed (item ∷ items))) known
     ∙ cond-true (fits (subject_arity subject) (Listed (item ∷ items))) (items_put inds subject c (item ∷ items)) (Err ArityWrong) fitting ∙ put
     in ap (λ r. r >>= λ d. entries_put all inds d es) one
 

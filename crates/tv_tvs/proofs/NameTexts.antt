@@ -1,7 +1,7 @@
 -- Names as texts.
 use Rattle.std.proofs.Common.{◌≡◌, ℕ, List, [], ◌∷◌, ◌++◌, refl, sym, ap, ◌∙◌, map, append_assoc}
 use Rattle.std.specs.List.{flat_map, join_with_byte}
-use Rattle.tv_tvs.specs.Tree.{brackets_text}
+use Rattle.tv_tree.specs.Names.{brackets_text}
 
 -- names with commas between them
 pub joined : {X : Type 0} (f : X → List ℕ) (x : X) (xs : List X) → join_with_byte 44 (map f (x ∷ xs)) ≡ f x ++ flat_map (λ y. 44 ∷ f y) xs

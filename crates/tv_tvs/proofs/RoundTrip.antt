@@ -20,7 +20,8 @@ use Rattle.tv_tvs.specs.Tree.{NameTree, name_text, ItemTree, ContentTree, EntryT
 use Rattle.tv_tvs.specs.Canonical.{comma_text, individual, individuals, tuples, tuple_item, written_item, written_items, if_some, value_content, content_of, line_text, summary_value, preds_text, summaries_text, canonical_text}
 use Rattle.tv_tvs.specs.Grammar.{IsStruct, AreStructs}
 use Rattle.tv_phrases.specs.Tokens.{after}
-use Rattle.tv_tvs.specs.Meaning.{IsVocabulary, struct_meant, structs_meant, ◌>>=◌}
+use Rattle.tv_tree.specs.Steps.{◌>>=◌}
+use Rattle.tv_tvs.specs.Meaning.{IsVocabulary, struct_meant, structs_meant}
 use Rattle.tv_tvs.specs.Laws.{HaveOneReading, IsSpelled, StructuresAreReadAgain}
 use Rattle.tv_tvs.proofs.Lexing.{Lexes, lexes_read, read_lexes, Clear, IsWordText, mark, space_first, feed_first, open_brace_first, close_brace_first, equals_first, n_first, p_first, word_first}
 use Rattle.tv_tvs.proofs.LaidOut.{comma_items, more_items, spell_word, spell_entry, spell_struct, spell_opening, IsItemText, IsContentText, IsNameText, comma_lexes, line_lexes}

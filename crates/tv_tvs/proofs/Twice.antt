@@ -9,7 +9,8 @@ use Rattle.std.proofs.lemmas.Slice.Eq.{bytes_eq-Decides}
 use Rattle.indexmap.specs.IndexSet.{insert_key}
 use Rattle.tv_model.specs.declared.program.Pred.{Pred}
 use Rattle.tv_tvs.specs.Views.{names_of}
-use Rattle.tv_tvs.specs.Meaning.{is_among, has_twice}
+use Rattle.tv_tree.specs.Names.{is_among}
+use Rattle.tv_tvs.specs.Meaning.{has_twice}
 
 module _ (same : Bor (List ℕ) → Bor (List ℕ) → Bool) (means : (a b : Bor (List ℕ)) → same a b ≡ bytes_eq a.now b.now) where
   pub among_names : (ks : List (Bor (List ℕ))) (k : Bor (List ℕ)) → list_any (same k) ks ≡ is_among (names_of ks) k.now
@@ -27,15 +28,6 @@ position_or_len-map f p (x ∷ xs) = ap (λ n. cond (not (p (f x))) (1 + n) 0) (
 
 pub position-map : {A B : Type 0} (f : A → B) (p : B → Bool) (xs : List A) → position p (map f xs) ≡ position (λ x. p (f x)) xs
 position-map f p xs = rw (position_or_len-map f p xs, length-map xs f) refl
-
--- one more name was seen
-pub twice_more : (seen names : List (List ℕ)) (name : List ℕ) (rest : List (List ℕ)) → names ≡ name ∷ rest → is_among seen name ≡ false
-    → has_twice seen names ≡ has_twice (seen ++ name ∷ []) rest
-twice_more seen names name rest e new = ap (has_twice seen) e ∙ ap (λ b. b || has_twice (seen ++ name ∷ []) rest) new
-
-pub twice_found : (seen names : List (List ℕ)) (name : List ℕ) (rest : List (List ℕ)) → names ≡ name ∷ rest → is_among seen name ≡ true
-    → has_twice seen names ≡ true
-twice_found seen names name rest e old = ap (has_twice seen) e ∙ ap (λ b. b || has_twice (seen ++ name ∷ []) rest) old
 
 -- a name that none before it has
 pub among_not : (names : List (List ℕ)) (name : List ℕ) → ((k : ℕ) → k < length names → get_or names k [] ≡ name → ⊥) → is_among names name ≡ false

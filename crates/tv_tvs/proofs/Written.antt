@@ -1,8 +1,8 @@
 -- What is written of a predicate, tuple by tuple.
-use Rattle.std.proofs.Common.{ℕ, ◌≡◌, ◌<◌, ◌+◌, ◌-◌, suc, List, [], ◌∷◌, ◌++◌, length, map, take, get_or, Option, Some, None, refl, sym, ap, ◌∙◌, arith}
+use Rattle.std.proofs.Common.{ℕ, ◌≡◌, ◌<◌, ◌+◌, ◌-◌, suc, List, [], ◌∷◌, ◌++◌, map, Option, Some, None, refl, sym, ap, ◌∙◌, arith}
 use Rattle.std.specs.Prelude.{codes}
 use Rattle.std.specs.List.{flat_map, filter_map, cons_option, range_with_len}
-use Rattle.std.proofs.lemmas.List.{flat_map_more, map-id, take_more}
+use Rattle.std.proofs.lemmas.List.{flat_map_more, map-id}
 use Rattle.std.proofs.lemmas.List.FromFn.{map-range_with_len_more}
 use Rattle.std.proofs.lemmas.List.Elements.{filter_map-append}
 use Rattle.tv_kleene.specs.declared.K3.{K3}
@@ -19,13 +19,6 @@ pub turn : {X : Type 0} (f : ℕ → List X) (before list : List X) (a n u : ℕ
 turn f before list a n u at so_far =
     ap (λ t. t ++ f u) so_far ∙ flat_map_more f before (range_with_len a n) u
     ∙ ap (λ us. before ++ flat_map f us) (ap (λ v. range_with_len a n ++ v ∷ []) (sym at) ∙ sym (range_more a n))
-
--- one turn of a loop over a list
-pub list_turn : {X Y : Type 0} (f : X → List Y) (xs : List X) (i : ℕ) (x : X) (before out : List Y) → i < length xs
-    → x ≡ get_or xs i x → out ≡ before ++ flat_map f (take i xs) → out ++ f x ≡ before ++ flat_map f (take (i + 1) xs)
-list_turn f xs i x before out within at_x so_far =
-    let more : take (i + 1) xs ≡ take i xs ++ x ∷ [] = take_more xs i x within ∙ ap (λ p. take i xs ++ p ∷ []) (sym at_x)
-    in ap (λ t. t ++ f x) so_far ∙ flat_map_more f before (take i xs) x ∙ ap (λ t. before ++ flat_map f t) (sym more)
 
 filter_map-flat_map : {X Y Z : Type 0} (h : Y → Option Z) (g : X → List Y) (xs : List X)
     → filter_map h (flat_map g xs) ≡ flat_map (λ x. filter_map h (g x)) xs

@@ -1,11 +1,13 @@
 -- What structures in texts mean: structures over a vocabulary, or the first refusal.
 use Rattle.std.specs.Prelude.{ℕ, ◌≡◌, ◌≢◌, ◌≤◌, List, [], ◌∷◌, ◌++◌, Bool, true, false, not, ◌&&◌, ◌||◌, ◌==◌, nat_lt, Option, Some, None, Result, Ok, Err, length, map, is_some, unwrap_or, slice_index, All, AllPairs, position, if◌then◌else◌, codes}
-use Rattle.std.specs.List.{list_all, list_any}
+use Rattle.std.specs.List.{list_all}
 use Rattle.std.specs.Str.{bytes_eq}
 use Rattle.tv_kleene.specs.declared.K3.{K3}
 use Rattle.tv_kleene.specs.declared.K3.TheVariants.{No, Half, Yes}
 use Rattle.tv_model.specs.declared.program.Pred.{Pred}
 use Rattle.tv_model.specs.declared.program.Vocab.{Vocab}
+use Rattle.tv_tree.specs.Names.{is_among}
+use Rattle.tv_tree.specs.Steps.{◌>>=◌, or_refused}
 use Rattle.tv_struct.specs.StructureForm.{StructureForm, structure_of_no, with_value, with_summary}
 use Rattle.tv_lex.specs.Token.{SpecToken}
 use Rattle.tv_lex.specs.Places.{IsTokenPlace}
@@ -24,24 +26,11 @@ pub record IsVocabulary (vocab : Vocab) : Type 0 where
   pub arities : All (λ pred. pred.arity ≤ 2) vocab.preds
   pub count : length vocab.preds ≤ 512
 
-infixl 10 ◌>>=◌
-abbrev pub ◌>>=◌ : {A B : Type 0} → Result A TvsError → (A → Result B TvsError) → Result B TvsError
-Ok x >>= f = f x
-Err e >>= f = Err e
-
--- the value, or the refusal where there is none
-abbrev pub or_refused : {A : Type 0} → TvsError → Option A → Result A TvsError
-or_refused e None = Err e
-or_refused e (Some x) = Ok x
-
 -- ---- names
 
 -- where a name stands first among others
 abbrev pub number_of : List (List ℕ) → List ℕ → Option ℕ
 number_of names name = position (bytes_eq name) names
-
-abbrev pub is_among : List (List ℕ) → List ℕ → Bool
-is_among names name = list_any (bytes_eq name) names
 
 -- a name stands among those that were seen or twice
 abbrev pub has_twice : (seen names : List (List ℕ)) → Bool
@@ -89,11 +78,11 @@ item_value item = unwrap_or item.value Yes
 
 abbrev pub pair_of : (individuals : List (List ℕ)) → (u : ℕ) → Option (List ℕ) → Result (List ℕ) TvsError
 pair_of individuals u None = Ok (u ∷ [])
-pair_of individuals u (Some w) = or_refused IndividualUnknown (number_of individuals w) >>= λ v. Ok (u ∷ v ∷ [])
+pair_of individuals u (Some w) = or_refused (number_of individuals w) IndividualUnknown >>= λ v. Ok (u ∷ v ∷ [])
 
 -- the individuals of an item, by number
 abbrev pub tuple_of_item : (individuals : List (List ℕ)) → ItemTree → Result (List ℕ) TvsError
-tuple_of_item individuals item = or_refused IndividualUnknown (number_of individuals item.first) >>= λ u. pair_of individuals u item.second
+tuple_of_item individuals item = or_refused (number_of individuals item.first) IndividualUnknown >>= λ u. pair_of individuals u item.second
 
 -- an individual is a summary or isn't, which is 1/2 or 0
 abbrev pub summary_put : StructureForm → ℕ → K3 → Result StructureForm TvsError
@@ -123,7 +112,7 @@ fitting_put individuals subject s content =
 
 abbrev pub entry_put : List Pred → (individuals : List (List ℕ)) → StructureForm → EntryTree → Result StructureForm TvsError
 entry_put preds individuals s entry =
-    or_refused NameUnknown (subject_of preds (name_text entry.name)) >>= λ subject. fitting_put individuals subject s entry.content
+    or_refused (subject_of preds (name_text entry.name)) NameUnknown >>= λ subject. fitting_put individuals subject s entry.content
 
 abbrev pub entries_put : List Pred → (individuals : List (List ℕ)) → StructureForm → List EntryTree → Result StructureForm TvsError
 entries_put preds individuals s [] = Ok s

@@ -1,20 +1,15 @@
 -- Structures as they are written.
-use Rattle.std.specs.Prelude.{ℕ, List, [], ◌∷◌, ◌++◌, Option, codes}
-use Rattle.std.specs.List.{join_with_byte}
+use Rattle.std.specs.Prelude.{ℕ, List, Option}
+use Rattle.tv_tree.specs.Names as names
 use Rattle.tv_kleene.specs.declared.K3.{K3}
 
 -- a predicate's name: an identifier, and those in brackets behind it
 abbrev pub NameTree : Type 0
 NameTree = List ℕ × List (List ℕ)
 
--- the brackets of a name, and the identifiers in them
-abbrev pub brackets_text : List (List ℕ) → List ℕ
-brackets_text [] = []
-brackets_text (name ∷ names) = codes "[" ++ (join_with_byte 44 (name ∷ names) ++ codes "]")
-
--- a name as one text, without blanks
+-- a name as one text, as in programs
 abbrev pub name_text : NameTree → List ℕ
-name_text name = name.0 ++ brackets_text name.1
+name_text name = names.name_text (record { first = name.0; brackets = name.1 })
 
 -- an individual, or a pair of them, and the value that is written behind, if one is
 pub record ItemTree : Type 0 where

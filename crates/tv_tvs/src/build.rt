@@ -3,12 +3,12 @@
 ghost use Rattle.std.specs.Prelude.{◌≡◌, ◌<◌, ◌≤◌, ◌==◌, ℕ, List, None, map, length, All, IfOk, IfSome, unwrap_or};
 ghost use Rattle.std.specs.List.{list_all};
 ghost use Rattle.std.specs.Option.{option_map};
-ghost use Rattle.std.specs.Str.{bytes_eq};
 ghost use Rattle.tv_kleene.specs.declared.K3.TheVariants.{Yes};
 ghost use Rattle.tv_struct.specs.StructureForm.{StructureForm, arities_of};
 ghost use Rattle.tv_struct.specs.TableForm.{AreIndividuals};
 ghost use Rattle.tv_struct.specs.TupleForm.{tuple_of};
-ghost use Rattle.tv_tvs.specs.Meaning.{Answers, Summaries, or_refused, number_of, subject_of, subject_arity, item_arity, fits, tuple_of_item, value_put, item_put, items_put, fitting_put, entry_put, entries_put, struct_meant, structs_meant};
+ghost use Rattle.tv_tree.specs.Steps.{or_refused};
+ghost use Rattle.tv_tvs.specs.Meaning.{Answers, Summaries, number_of, subject_of, subject_arity, item_arity, fits, tuple_of_item, value_put, item_put, items_put, fitting_put, entry_put, entries_put, struct_meant, structs_meant};
 ghost use Rattle.tv_tvs.specs.Views.{names_of, text_arity, item_tree, item_trees, content_tree, entry_tree, entry_trees, struct_tree, struct_trees};
 ghost use Rattle.tv_tvs.specs.Targets.{subject_form, Has, HasPlace, IsRead, Keeps};
 
@@ -19,6 +19,7 @@ use std::alloc::Global;
 use tv_kleene::K3;
 use tv_lex::text;
 use tv_model::{Items, Pred, PredId, Vocab};
+use tv_phrases::is_spelled;
 use tv_struct::{Structure, Structures, Tuple};
 
 /// What an entry speaks of.
@@ -28,12 +29,6 @@ pub(crate) enum Target {
     Marks,
     /// The values of a predicate of that arity.
     Values(PredId, u8),
-}
-
-fn is_spelled(word: &[u8], mark: &[u8]) -> bool
-    ensures { result ≡ bytes_eq word.now mark.now }
-{
-    word == mark
 }
 
 fn target_of(preds: &[Pred], names: &Names<'_>, name: &[u8]) -> Option<Target>
@@ -91,7 +86,7 @@ fn fits(arity: u8, content: &ContentText) -> bool
 
 fn number(individuals: &Names<'_>, word: &[u8]) -> Result<u32, TvsError>
     requires { length individuals.now.keys ≤ 256 }
-    ensures number { Answers (λ (u : ℕ). u) result (or_refused TvsError.IndividualUnknown (number_of (names_of individuals.now.keys) word.now)) }
+    ensures number { Answers (λ (u : ℕ). u) result (or_refused (number_of (names_of individuals.now.keys) word.now) TvsError.IndividualUnknown) }
     ensures within { IfOk result (λ u. u < length individuals.now.keys) }
 {
     match number_of(individuals, word) {

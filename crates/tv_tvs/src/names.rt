@@ -3,8 +3,9 @@
 ghost use Rattle.std.specs.Prelude.{◌≡◌, ◌≢◌, ◌<◌, ◌++◌, ◌∷◌, [], true, not, map, length, AllPairs, IfOk, OnOk, IfSome};
 ghost use Rattle.std.specs.List.{flat_map};
 ghost use Rattle.tv_lex.specs.Token.{text_of};
-ghost use Rattle.tv_tvs.specs.Meaning.{Answers, number_of, is_among, has_twice, all_different};
-ghost use Rattle.tv_tvs.specs.Tree.{name_text, brackets_text};
+ghost use Rattle.tv_tree.specs.Names.{is_among, brackets_text};
+ghost use Rattle.tv_tvs.specs.Meaning.{Answers, number_of, has_twice, all_different};
+ghost use Rattle.tv_tvs.specs.Tree.{name_text};
 ghost use Rattle.tv_tvs.specs.Views.{names_of, name_tree};
 
 use crate::error::TvsError;

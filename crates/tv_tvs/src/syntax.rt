@@ -1,7 +1,6 @@
 //! Tokens to the trees of structures.
 
 ghost use Rattle.std.specs.Prelude.{◌≡◌, ◌+◌, ◌<◌, length, map, IfOk, is_some};
-ghost use Rattle.std.specs.Str.{bytes_eq};
 ghost use Rattle.std.specs.Option.{option_map};
 ghost use Rattle.tv_lex.specs.Token.{text_of, spec_tokens};
 ghost use Rattle.tv_phrases.specs.Reading.{Gives, Takes};
@@ -14,7 +13,8 @@ use std::alloc::Global;
 use tv_kleene::K3;
 use tv_lex::{Token, text};
 use tv_phrases::{
-    Item, NamePhrase, PhraseError, after, begins_item, expect, name, optional_list, word,
+    Item, NamePhrase, PhraseError, after, begins_item, expect, is_spelled, name, optional_list,
+    word,
 };
 
 /// An item of an entry: a word, maybe a second one, and the value that is written behind, if one is.
@@ -50,12 +50,6 @@ pub(crate) struct StructText {
 
 /// A part of the text and the tokens behind it, or why it isn't there.
 type Read<'a, X> = Result<(X, &'a [Token]), PhraseError<'a>>;
-
-fn is_spelled(word: &[u8], mark: &[u8]) -> bool
-    ensures { result ≡ bytes_eq word.now mark.now }
-{
-    word == mark
-}
 
 fn value_in(word: &[u8]) -> Option<K3>
     ensures { result ≡ value_in word.now }

@@ -1,9 +1,9 @@
 -- Loops that gather what each item gives.
-use Rattle.std.proofs.Common.{◌≡◌, ℕ, ◌+◌, ◌<◌, get_or, List, [], ◌∷◌, ◌++◌, length, map, refl, ap, sym, ◌∙◌, Ok}
+use Rattle.std.proofs.Common.{◌≡◌, ℕ, ◌+◌, ◌<◌, get_or, List, [], ◌∷◌, ◌++◌, length, map, ap, Ok}
 use Rattle.std.proofs.lemmas.List.{map_push}
 use Rattle.tv_names.specs.declared.refusal.ResolveError.{ResolveError}
 use Rattle.tv_names.specs.declared.refusal.ResolveError.TheVariants.{NameUnknown, NameTwice, ArityWrong, ArityTooLarge, Reserved, VariableUnbound, TooManyVariables, UpdateTwice, DefinitionCycle, HeadForm, HalfLiteral, TooMany, NoEdge, Memory}
-use Rattle.tv_names.specs.Refusal.{◌>>=◌, OrRefused, Refuses, one_by_one, put_behind}
+use Rattle.tv_names.specs.Refusal.{◌>>=◌, OrRefused, Refuses, put_behind}
 use Rattle.tv_names.proofs.Loops.{left, go_on, stopped}
 
 pub refuses_then : {A B : Type 0} (e : ResolveError) (r : OrRefused A) (f : A → OrRefused B) → Refuses e r → Refuses e (r >>= f)

@@ -6,3 +6,4 @@ pub mod Eaches
 pub mod Phases
 pub mod Premises
 pub mod valid
+pub mod items

@@ -3,7 +3,7 @@ use Rattle.std.proofs.Common.{◌≡◌, List, refl, Ok}
 use Rattle.tv_model.specs.Program.{PredForm, RuleForm, ActionForm}
 use Rattle.tv_flat.specs.FlatForm.{FlatForm}
 use Rattle.tv_names.specs.declared.refusal.ResolveError.{ResolveError}
-use Rattle.tv_names.specs.Refusal.{Refuses, each, ◌>>=◌}
+use Rattle.tv_names.specs.Refusal.{Refuses, each}
 use Rattle.tv_names.specs.Symbols.{SymbolForm}
 use Rattle.tv_vocab.specs.Vocabulary.{vocabulary, rule}
 use Rattle.tv_vocab.specs.Actions.{action}

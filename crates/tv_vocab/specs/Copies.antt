@@ -1,5 +1,4 @@
 -- What the values of the code stand for.
-use Rattle.std.specs.Prelude.{map}
 use Rattle.tv_model.specs.Program.{pre_of, picks_of}
 use Rattle.tv_names.specs.Copies.{naming_of}
 use Rattle.tv_vocab.specs.declared.actions.Picking.{Picking}

@@ -7,3 +7,4 @@ pub mod Copies
 pub mod Views
 pub mod Cycles
 pub mod Walk
+pub mod Variables

@@ -1,6 +1,6 @@
 -- What validity rests on: the limits of a flat form, its names, node words and texts, and the numbers of its actions.
-use Rattle.std.specs.Prelude.{ℕ, ◌≤◌, ◌<◌, List, length, All, ⊤}
-use Rattle.tv_model.specs.Spelling.{IsWord, IsText}
+use Rattle.std.specs.Prelude.{◌≤◌, length, All, ⊤}
+use Rattle.tv_model.specs.Spelling.{IsText}
 use Rattle.tv_tree.specs.Forms.{PieceForm, PartForm, PCaption, PFocus, PPre, PMessage, PNew, PRetain, PBlock}
 use Rattle.tv_tree.specs.Spelled.{IsSpelledName}
 use Rattle.tv_flat.specs.FlatForm.{FlatForm, IsFlatEdge, item_count}

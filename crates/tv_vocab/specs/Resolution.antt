@@ -1,5 +1,5 @@
 -- The program of a flat tree, or the first refusal.
-use Rattle.std.specs.Prelude.{List, Ok}
+use Rattle.std.specs.Prelude.{Ok}
 use Rattle.tv_flat.specs.FlatForm.{FlatForm}
 use Rattle.tv_model.specs.Program.{ProgramForm}
 use Rattle.tv_names.specs.Refusal.{◌>>=◌, OrRefused, each}

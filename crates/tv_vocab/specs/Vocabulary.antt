@@ -1,7 +1,6 @@
 -- The predicates of a flat program, their definitions, and its rules.
-use Rattle.std.specs.Prelude.{ℕ, ◌+◌, Bool, true, false, not, ◌||◌, ◌==◌, nat_lt, nat_le, List, [], ◌∷◌, ◌++◌, length, map, fold, Option, Some, None, Ok, Err, is_some, if◌then◌else◌}
-use Rattle.std.specs.List.{list_any, list_all}
-use Rattle.std.specs.Option.{option_map}
+use Rattle.std.specs.Prelude.{ℕ, Bool, true, false, not, ◌||◌, ◌==◌, nat_lt, nat_le, List, [], ◌∷◌, ◌++◌, length, map, fold, Option, Some, None, Ok, Err, is_some, if◌then◌else◌}
+use Rattle.std.specs.List.{list_all}
 use Rattle.tv_tree.specs.Forms as tree
 use Rattle.tv_tree.specs.Names.{is_among, name_text}
 use Rattle.tv_tree.specs.declared.trees.PropWord.{PropWord}
@@ -9,12 +8,11 @@ use Rattle.tv_tree.specs.declared.trees.PropWord.TheVariants.{Unique, Function, 
 use Rattle.tv_model.specs.declared.program.Props.{Props}
 use Rattle.tv_model.specs.Form.{Form, FZero, FOne, FAtom, FIsNew, FSame, FNot, FAnd, FOr, FIff, FCond, FExists, FForall, FClosure}
 use Rattle.tv_model.specs.Program.{PredForm, KindForm, KCore, KDefined, RuleForm, HeadForm, HNever, HAtom, HSame}
-use Rattle.tv_names.specs.declared.refusal.ResolveError.{ResolveError}
 use Rattle.tv_names.specs.declared.refusal.ResolveError.TheVariants.{DefinitionCycle, NameTwice, ArityWrong, ArityTooLarge, Reserved, TooMany, HeadForm as BadHead}
 use Rattle.tv_names.specs.declared.place.Others.TheVariants.{Any, Never}
 use Rattle.tv_names.specs.Refusal.{◌>>=◌, OrRefused, refused_if, one_by_one, each}
 use Rattle.tv_names.specs.Symbols.{SymbolForm, is_reserved, symbol_of}
-use Rattle.tv_names.specs.Naming.{NamingForm, declared_all, no_names}
+use Rattle.tv_names.specs.Naming.{declared_all, no_names}
 use Rattle.tv_names.specs.Picks.{flags_of}
 use Rattle.tv_names.specs.Resolving.{PlaceForm, resolved}
 use Rattle.tv_vocab.specs.Cycles.{has_cycle}

@@ -13,6 +13,9 @@ mod updates;
 mod vocabulary;
 mod walk;
 
-pub use laws::{acyclic_definitions_have_ranks, cycles_are_found, flat_forms_are_resolvable};
+pub use laws::{
+    acyclic_definitions_have_ranks, cycles_are_found, flat_forms_are_resolvable,
+    items_have_32_variables,
+};
 pub use resolution::resolve;
 pub use tv_names::ResolveError;

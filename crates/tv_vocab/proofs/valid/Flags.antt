@@ -20,7 +20,7 @@ split_at w v vars (suc k) lt e = inr (k, omega arith, e)
 pub contains_split : (w v : ℕ) (vars : List ℕ) → Contains (w ∷ vars) v → (v ≡ w) ⊎ Contains vars v
 contains_split w v vars h = split_at w v vars h.0 h.1 h.2
 
-no_flag : (n v : ℕ) → get_or (repeat n (false ∷ [])) v false ≡ false
+pub no_flag : (n v : ℕ) → get_or (repeat n (false ∷ [])) v false ≡ false
 no_flag zero v = refl
 no_flag (suc n) zero = refl
 no_flag (suc n) (suc v) = no_flag n v

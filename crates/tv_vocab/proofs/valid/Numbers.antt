@@ -81,7 +81,7 @@ filled_slot : (slot : SlotForm) (s : NamingForm) (x : ℕ × NamingForm) → fil
 unfolding filled
 filled_slot slot s x h = slot_by (position is_vacant s.slots) slot s x refl h
 
-named_full : (name : List ℕ) (slot : SlotForm) → is_named name slot ≡ true → is_vacant slot ≡ false
+pub named_full : (name : List ℕ) (slot : SlotForm) → is_named name slot ≡ true → is_vacant slot ≡ false
 named_full name Vacant h = absurd (false≢true h)
 named_full name Nameless h = refl
 named_full name (Named word) h = refl

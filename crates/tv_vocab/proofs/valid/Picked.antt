@@ -79,11 +79,11 @@ picked_free u f h = free_from u f (first_from u (free_occurrences f) h)
 
 -- ---- the numbers that the picked variables keep
 
-kept_length : (n : ℕ) (flags : List Bool) (slots : List SlotForm) → length (kept_from n flags slots) ≡ length slots
+pub kept_length : (n : ℕ) (flags : List Bool) (slots : List SlotForm) → length (kept_from n flags slots) ≡ length slots
 kept_length n flags [] = refl
 kept_length n flags (slot ∷ slots) = let e = kept_length (n + 1) flags slots in omega (arith, e)
 
-kept_at : (n v : ℕ) (flags : List Bool) (slots : List SlotForm) → get_or flags (n + v) false ≡ true → get_or (kept_from n flags slots) v Vacant ≡ get_or slots v Vacant
+pub kept_at : (n v : ℕ) (flags : List Bool) (slots : List SlotForm) → get_or flags (n + v) false ≡ true → get_or (kept_from n flags slots) v Vacant ≡ get_or slots v Vacant
 kept_at n v flags [] h = refl
 kept_at n zero flags (slot ∷ slots) h =
     let e : n + 0 ≡ n = omega arith in

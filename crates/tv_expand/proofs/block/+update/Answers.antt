@@ -1,4 +1,4 @@
-use Rattle.std.proofs.Common.{◌≡◌, ℕ, ◌+◌, List, ap, sym, ◌∙◌, arith, length}
+use Rattle.std.proofs.Common.{◌≡◌, ℕ, List, ap, sym, ◌∙◌, arith}
 use Rattle.std.proofs.lemmas.List.{length-map}
 use Rattle.tv_tree.proofs.Unfolds.{update_of_foreach}
 use Rattle.tv_tree.specs.Copies.{update_of, updates_of}
@@ -7,7 +7,7 @@ use Rattle.tv_expand.proofs.IdleLaws.{nest_idle}
 use Rattle.tv_expand.proofs.ApartLaws.{updated_grows, same_for_all}
 use Rattle.tv_expand.specs.Expansion.{sets_for, updated}
 use Rattle.tv_flat.specs.Views.{binding_of}
-use Rattle.tv_expand.specs.Views.{names_of, sets_of}
+use Rattle.tv_expand.specs.Views.{sets_of}
 use Rattle.tv_expand.specs.States.{block_of}
 use Rattle.tv_expand.proofs.StepLaws.{updates_each}
 use Rattle.tv_expand.proofs.block.+update.Goals as goal

@@ -1,11 +1,10 @@
-use Rattle.std.proofs.Common.{◌≡◌, ℕ, ◌+◌, List, ap, sym, ◌∙◌, arith, length}
+use Rattle.std.proofs.Common.{◌≡◌, ℕ, List, ap, sym, ◌∙◌, arith}
 use Rattle.tv_tree.proofs.Unfolds.{decl_of_foreach}
 use Rattle.tv_tree.specs.Copies.{decl_of, decls_of}
 use Rattle.tv_expand.specs.Idle.{is_apart, declared_count}
 use Rattle.tv_expand.proofs.IdleLaws.{nest_idle}
 use Rattle.tv_expand.proofs.ApartLaws.{declared_grows, same_for_all, three_same}
 use Rattle.tv_expand.specs.Expansion.{sets_in, declared}
-use Rattle.tv_expand.specs.Views.{names_of}
 use Rattle.tv_flat.specs.Views.{binding_of}
 use Rattle.tv_expand.specs.States.{declared_of}
 use Rattle.tv_expand.proofs.StepLaws.{decls_each}

@@ -1,4 +1,4 @@
-use Rattle.std.proofs.Common.{◌≡◌, ℕ, ◌+◌, ◌*◌, ◌<◌}
+use Rattle.std.proofs.Common.{◌≡◌, ◌+◌, ◌*◌, ◌<◌}
 use Rattle.tv_lex.specs.Token.{spec_tokens}
 use Rattle.tv_tree.specs.Copies.{form_of}
 use Rattle.tv_formula.specs.Grammar.{Joined, Behind}

@@ -1,4 +1,3 @@
-use Rattle.std.proofs.Common.{◌≡◌, sym}
 use Rattle.tv_names.specs.Resolving.{resolved}
 use Rattle.tv_names.proofs.formula.+resolve.Goals as goal
 

@@ -1,4 +1,3 @@
-use Rattle.std.proofs.Common.{◌≡◌, sym}
 use Rattle.tv_names.proofs.picks.+pick.Goals as goal
 
 pub pick_under-returns : goal.pick_under-returns

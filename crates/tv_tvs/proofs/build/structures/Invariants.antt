@@ -2,7 +2,8 @@ use Rattle.std.proofs.Common.{◌≡◌, ◌++◌, List, Ok, drop}
 use Rattle.std.specs.Prelude.{All}
 use Rattle.tv_struct.specs.StructureForm.{StructureForm}
 use Rattle.tv_tvs.specs.Targets.{IsRead}
-use Rattle.tv_tvs.specs.Meaning.{◌>>=◌, structs_meant}
+use Rattle.tv_tree.specs.Steps.{◌>>=◌}
+use Rattle.tv_tvs.specs.Meaning.{structs_meant}
 use Rattle.tv_tvs.specs.Views.{struct_trees}
 use Rattle.tv_tvs.proofs.build.structures.Given as goal
 

@@ -1,10 +1,10 @@
-use Rattle.tv_names.specs.Copies.{symbols_of, place_of, naming_of}
+use Rattle.tv_names.specs.Copies.{symbols_of}
 use Rattle.tv_flat.specs.FlatForm.{parts_of}
 use Rattle.tv_model.specs.Program.{pred_of, action_of}
 use Rattle.tv_vocab.specs.Actions.{action}
-use Rattle.std.proofs.Common.{◌≡◌, map, [], drop}
+use Rattle.std.proofs.Common.{◌≡◌, map}
 use Rattle.tv_names.proofs.Loops.{left}
-use Rattle.tv_names.specs.Refusal.{one_by_one, put_behind, each, ◌>>=◌}
+use Rattle.tv_names.specs.Refusal.{put_behind, each}
 use Rattle.tv_vocab.proofs.actions.actions.Given as goal
 
 -- what the items so far gave, and those that are left, give what all give

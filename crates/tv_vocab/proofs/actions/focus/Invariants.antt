@@ -1,12 +1,11 @@
-use Rattle.tv_names.specs.Copies.{symbols_of, place_of, naming_of}
+use Rattle.tv_names.specs.Copies.{symbols_of, naming_of}
 use Rattle.tv_tree.specs.Copies.{form_of as tree_of}
 use Rattle.tv_model.specs.Form.{form_of}
 use Rattle.tv_names.specs.Naming.{no_names}
 use Rattle.tv_vocab.specs.Vocabulary.{anywhere}
 use Rattle.tv_vocab.specs.Actions.{with_formula, resolved_all}
-use Rattle.std.proofs.Common.{◌≡◌, map, [], drop}
+use Rattle.std.proofs.Common.{◌≡◌, map}
 use Rattle.tv_names.proofs.Loops.{left}
-use Rattle.tv_names.specs.Refusal.{one_by_one, put_behind, each, ◌>>=◌}
 use Rattle.tv_vocab.proofs.actions.focus.Given as goal
 
 -- what the items so far gave, and those that are left, give what all give

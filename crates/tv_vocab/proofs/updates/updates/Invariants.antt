@@ -1,11 +1,11 @@
-use Rattle.tv_names.specs.Copies.{symbols_of, place_of, naming_of}
+use Rattle.tv_names.specs.Copies.{symbols_of}
 use Rattle.tv_tree.specs.Copies.{update_of as nest_of}
 use Rattle.tv_model.specs.Program.{pred_of, update_of}
 use Rattle.tv_vocab.specs.Copies.{picking_of}
 use Rattle.tv_vocab.specs.Actions.{with_update}
-use Rattle.std.proofs.Common.{◌≡◌, map, [], drop}
+use Rattle.std.proofs.Common.{◌≡◌, map, []}
 use Rattle.tv_names.proofs.Loops.{left}
-use Rattle.tv_names.specs.Refusal.{one_by_one, put_behind, each, ◌>>=◌}
+use Rattle.tv_names.specs.Refusal.{one_by_one}
 use Rattle.tv_vocab.proofs.updates.updates.Given as goal
 
 -- what the items so far gave, and those that are left, give what all give

@@ -1,9 +1,8 @@
-use Rattle.tv_names.specs.Copies.{symbols_of, place_of, naming_of}
+use Rattle.tv_names.specs.Copies.{symbols_of}
 use Rattle.tv_tree.specs.Copies.{pred_of}
 use Rattle.tv_vocab.specs.Vocabulary.{with_symbol, symbols}
-use Rattle.std.proofs.Common.{◌≡◌, map, [], drop}
+use Rattle.std.proofs.Common.{◌≡◌, map}
 use Rattle.tv_names.proofs.Loops.{left}
-use Rattle.tv_names.specs.Refusal.{one_by_one, put_behind, each, ◌>>=◌}
 use Rattle.tv_vocab.proofs.vocabulary.symbols.Given as goal
 
 -- what the items so far gave, and those that are left, give what all give

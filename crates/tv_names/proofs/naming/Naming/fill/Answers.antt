@@ -1,4 +1,3 @@
-use Rattle.std.proofs.Common.{◌≡◌, map, set}
 use Rattle.std.proofs.lemmas.List.{map-set}
 use Rattle.tv_names.specs.Copies.{slot_of, naming_of}
 use Rattle.tv_names.proofs.SlotLaws.{filled_some}

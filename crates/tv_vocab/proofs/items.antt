@@ -1,0 +1,5 @@
+pub mod Numbered
+pub mod Frees
+pub mod Resolved
+pub mod Kept
+pub mod Rooms
