@@ -47,3 +47,22 @@ pub struct Analysis {
     pub messages: MessageLines,
     pub maps: MapLines,
 }
+
+/// The first demand of a closed report that a report doesn't meet: an item that isn't covered, or a
+/// message that may be true and has no line.
+#[derive(Clone, Copy, Debug, PartialEq, Eq)]
+pub enum Rejection {
+    /// The opening of the initial structure of this number.
+    Initial(u32),
+    /// A result along the edge, by its place among the results of the listed structure of this place.
+    Result {
+        edge: u32,
+        structure: u32,
+        result: u64,
+    },
+    /// The message of the edge.
+    Message {
+        edge: u32,
+        number: u32,
+    },
+}

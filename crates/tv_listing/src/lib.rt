@@ -5,5 +5,5 @@ mod analysis;
 mod listing;
 mod node;
 
-pub use analysis::{Analysis, Item, MapLine, MapLines, MessageLine, MessageLines};
+pub use analysis::{Analysis, Item, MapLine, MapLines, MessageLine, MessageLines, Rejection};
 pub use listing::Listing;

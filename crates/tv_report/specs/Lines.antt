@@ -1,22 +1,15 @@
 -- What a report may list and say of a program.
-use Rattle.std.specs.Prelude.{ℕ, ◌≡◌, ◌≢◌, ◌<◌, ◌^◌, List, map, length, Option, Some, All, AllPairs, IsSome, slice_get}
+use Rattle.std.specs.Prelude.{ℕ, ◌≡◌, ◌≢◌, ◌<◌, List, map, length, Option, Some, All, AllPairs, IsSome, slice_get}
 use Rattle.std.specs.Option.{option_and_then}
 use Rattle.tv_kleene.specs.declared.K3.TheVariants.{No}
 use Rattle.tv_model.specs.Program.{ProgramForm, MessageForm}
 use Rattle.tv_model.specs.declared.program.Edge.{Edge}
 use Rattle.tv_listing.specs.ListingForm.{at_node}
-use Rattle.tv_struct.specs.StructureForm.{StructureForm, IsStructure, IsOver}
+use Rattle.tv_struct.specs.StructureForm.{StructureForm}
 use Rattle.tv_listing.specs.declared.analysis.Item.{Item}
 use Rattle.tv_listing.specs.declared.analysis.Item.TheVariants as item
 use Rattle.tv_listing.specs.declared.analysis.MapLine.{MapLine}
 use Rattle.tv_listing.specs.declared.analysis.MessageLine.{MessageLine}
-use Rattle.tv_model.specs.declared.program.Program.{Program}
-
--- for each node a list of fewer than 2 ^ 32 structures over the vocabulary
-pub record IsListing (program : Program) (listing : List (List StructureForm)) : Type 0 where
-  pub nodes : length listing ≡ length program.nodes
-  pub counts : All (λ structures. length structures < 2 ^ 32) listing
-  pub structures : All (All (λ s. IsStructure s × IsOver program.vocab s)) listing
 
 -- the message of an edge's action, by both numbers
 abbrev pub message_at : ProgramForm → (edge number : ℕ) → Option MessageForm

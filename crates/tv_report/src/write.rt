@@ -4,11 +4,12 @@ ghost use Rattle.std.specs.Prelude.{◌≡◌, ◌++◌, ◌<◌, ◌≤◌, ℕ
 ghost use Rattle.std.specs.List.{flat_map};
 ghost use Rattle.tv_model.specs.Program.{program_of};
 ghost use Rattle.tv_model.specs.Valid.{IsValid};
+ghost use Rattle.tv_listing.specs.Listed.{IsListing};
 ghost use Rattle.tv_listing.specs.ListingForm.{at_node};
 ghost use Rattle.tv_struct.specs.StructureForm.{IsStructure, IsOver};
 ghost use Rattle.tv_tvs.specs.Canonical.{canonical_text, comma_text, more_texts, value_text};
 ghost use Rattle.tv_tvs.specs.Meaning.{IsVocabulary};
-ghost use Rattle.tv_report.specs.Lines.{IsListing, message_at};
+ghost use Rattle.tv_report.specs.Lines.{message_at};
 ghost use Rattle.tv_report.specs.Text.{node_line, node_text, nodes_text, message_text, item_text, map_text, report_text, said};
 ghost use Rattle.tv_listing.specs.declared.analysis.Item.TheVariants as item;
 

@@ -10,7 +10,7 @@ use Rattle.tv_struct.specs.StructureForm.{StructureForm, structure_of}
 use Rattle.tv_listing.specs.declared.analysis.MessageLine.{MessageLine}
 use Rattle.tv_transfer.specs.Transfer.{AreResults, AreMessageValues, IsOpening, HasNoOpening}
 use Rattle.tv_transfer.specs.Closed.{IsClosed, CoversRuns}
-use Rattle.tv_transfer.specs.Sound.{IsStartOf, KeepsSteps, TellsMessages}
+use Rattle.tv_transfer.specs.Sound.{IsStartOf, KeepsNewHeaps, TellsMessages}
 
 -- a structure has one opening at most, one list of results along an edge, and one value for each message
 pub record IsExact (p : ProgramForm) (s : StructureForm) : Type 0 where
@@ -36,7 +36,7 @@ OpeningsLoseNoHeap = (p : ProgramForm) → IsValid p → (s : StructureForm) →
 -- steps lose no heap
 pub record LosesNoHeap (p : ProgramForm) (mode : Mode) (edge : ℕ) (s : StructureForm) : Type 0 where
   pub steps : (results : List StructureForm) → AreResults p mode edge s results
-      → KeepsSteps p mode edge s results
+      → KeepsNewHeaps p mode edge s results
   pub messages : (values : List K3) → AreMessageValues p edge s values → TellsMessages p edge s values
 
 abbrev pub StepsLoseNoHeap : Type 0

@@ -24,8 +24,8 @@ pub record IsStartOf (p : ProgramForm) (s : StructureForm) (h : Heap) : Type 0 w
   pub embeds : IsHeapOf h (structure_of s)
 
 -- the new heap of each fair step along the edge, from a heap of s, embeds in one of these
-abbrev pub KeepsSteps : ProgramForm → Mode → (edge : ℕ) → (s : StructureForm) → List StructureForm → Type 0
-KeepsSteps p mode edge s results =
+abbrev pub KeepsNewHeaps : ProgramForm → Mode → (edge : ℕ) → (s : StructureForm) → List StructureForm → Type 0
+KeepsNewHeaps p mode edge s results =
     (taken : Edge) → slice_get p.edges edge ≡ Some taken → (old new : Heap) → IsStartOf p s old
     → FairStep p mode taken old new
     → IsHeapOfSome results new
