@@ -122,22 +122,6 @@ found names name i sorted (k, lt, at) split = side (cases_lt k i)
     side (inl before) = let less : name_cmp (get_or names k name) name ≡ Less = point.0 k name (omega arith) before in absurd (let f : Less ≡ Equal = sym less ∙ own in cc)
     side (inr after) = let greater : name_cmp (get_or names k name) name ≡ Greater = point.1 k name after lt in absurd (let f : Greater ≡ Equal = sym greater ∙ own in cc)
 
-pub places-push : (preds : List ℕ) (s : LogicalStructure) (n : ℕ) (names : List (List K3)) (places : List ℕ) (w : ℕ)
-    → ArePlaces preds s n names places → w < length names → get_or names w [] ≡ name_of preds s n
-    → ArePlaces preds s (n + 1) names (places ++ w ∷ [])
-places-push preds s n names places w are lt is = record {
-  count = length_push places w ∙ ap (λ k. k + 1) are.count;
-  within = All-push (λ x. x < length names) places w are.within lt;
-  named = λ u below. at u (cases_lt u n) below;
-}
-  where
-    at : (u : ℕ) → (u < n) ⊎ (n ≤ u) → u < n + 1 → get_or names (place_in (places ++ w ∷ []) u) [] ≡ name_of preds s u
-    at u (inl before) below =
-        ap (λ x. get_or names x []) (get_or_append_left places (w ∷ []) 0 u (omega (arith, are.count))) ∙ are.named u before
-    at u (inr after) below =
-        let last : n ≡ u = omega arith
-        in ap (λ x. get_or names x []) (get_or_push places w 0 u (are.count ∙ last)) ∙ is ∙ ap (name_of preds s) last
-
 -- ---- abstraction predicates are unary
 
 abstraction-unary_under : (no_pred : Pred) (preds : List Pred) (arities : List ℕ) → arities ≡ map (λ pred. pred.arity) preds

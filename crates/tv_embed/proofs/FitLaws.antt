@@ -8,21 +8,6 @@ use Rattle.tv_struct.specs.StructureForm.{StructureForm, arities_of, summary_at}
 use Rattle.tv_embed.specs.Maps.{image_of}
 use Rattle.tv_embed.specs.Fits.{ValueFits, TupleFits, IsCandidate, PairFits, JoinsUp, FitsSoFar}
 
--- each predicate's values fit where those of the structure's predicates do
-pub TupleFits-all : (small large : StructureForm) (below above : List ℕ) (n : ℕ) → length (arities_of small) ≤ n
-    → ((pred : ℕ) → pred < n → ValueFits small large pred below above) → TupleFits small large below above
-TupleFits-all small large below above n all each pred arity =
-    each pred (let lt : pred < length (arities_of small) = slice_get_within (arities_of small) pred (length below) arity
-    in omega arith) arity
-
-pub FitsSoFar-none : (small large : StructureForm) → TupleFits small large [] [] → FitsSoFar small large []
-FitsSoFar-none small large nullary = record {
-  nullary = nullary;
-  within = λ u lt. absurd (omega arith);
-  candidates = λ u lt. absurd (omega arith);
-  pairs = λ u x lt before. absurd (omega arith);
-}
-
 image-before : (images : List ℕ) (w u : ℕ) → u < length images → image_of images u ≡ image_of (images ++ w ∷ []) u
 image-before images w u lt = sym (get_or_append_left images (w ∷ []) 0 u lt)
 
@@ -69,14 +54,6 @@ FitsSoFar-push small large images w fits lt candidate joins = record {
         in let R : ℕ → Type 0 = λ y. PairFits small large y w x (image_of images x)
         in subst P (image-last images w u last)
         (subst Q (image-before images w x (omega arith)) (subst R (sym last) (joins x (omega arith))))
-
--- and back: what fits with one individual more fits without it, and that one fits
-pub FitsSoFar-candidate : (small large : StructureForm) (images : List ℕ) (w : ℕ) → FitsSoFar small large (images ++ w ∷ [])
-    → IsCandidate small large (length images) w
-FitsSoFar-candidate small large images w fits =
-    let P : ℕ → Type 0 = λ y. IsCandidate small large (length images) y
-    in subst P (sym (image-last images w (length images) refl))
-    (fits.candidates (length images) (rw (length_push images w) (omega arith)))
 
 pub FitsSoFar-joins : (small large : StructureForm) (images : List ℕ) (w : ℕ) → FitsSoFar small large (images ++ w ∷ [])
     → JoinsUp small large images w

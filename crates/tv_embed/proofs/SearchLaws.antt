@@ -295,10 +295,6 @@ few_left small large images le more other embeds begins =
 
 -- ---- all embeddings
 
-pub least_of_all : (small large : StructureForm) (images : List ℕ) → IsLeastWith small large [] images
-    → IsLeastEmbedding small large images
-least_of_all small large images found = (found.embeds, λ other embeds. found.least other embeds refl)
-
 -- ---- embeddings as lists
 
 maps-agree : (n : ℕ) (f g : ℕ → ℕ) → ((u : ℕ) → Contains (range_with_len 0 n) u → f u ≡ g u) → (tuple : List ℕ)
