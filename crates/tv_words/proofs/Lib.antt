@@ -1,0 +1,8 @@
+mod Reader
+mod Reading
+mod Rows
+mod Shapes
+mod Uses
+mod Walks
+mod Parses
+mod Commands

@@ -1,0 +1,122 @@
+-- What the words of a call spell.
+use Rattle.std.specs.Prelude.{◌≡◌, ◌≤◌, ◌⊎◌, ℕ, Bool, true, false, List, [], ◌∷◌, ◌++◌, map, codes, decimal, string_bytes, String}
+use Rattle.std.specs.declared.alloc.Global.{Global}
+use Rattle.tv_model.specs.declared.program.Mode.{Mode}
+use Rattle.tv_model.specs.declared.program.Mode.TheVariants.{Given, Recompute}
+use Rattle.tv_words.specs.Line.{Part, IsLine, operands_of, uses_of, values_of}
+use Rattle.tv_words.specs.declared.words.Command.{Command}
+use Rattle.tv_words.specs.declared.words.Command.TheVariants.{Analyze, Check, Demo}
+
+-- the bytes of the words
+abbrev pub words_of : List (String Global) → List (List ℕ)
+words_of words = map (λ word. string_bytes word) words
+
+-- the word is this number from 1 up, without sign or leading zero
+abbrev pub IsNumberUpTo : (most : ℕ) → (word : List ℕ) → (number : ℕ) → Type 0
+IsNumberUpTo most word number = (word ≡ decimal number) × (1 ≤ number) × (number ≤ most)
+
+-- how many structures may be listed, where `--max-structures` has these values
+abbrev pub IsMax : (values : List (List ℕ)) → (max : ℕ) → Type 0
+IsMax [] max = max ≡ 5000
+IsMax (value ∷ []) max = IsNumberUpTo 100000 value max
+IsMax (first ∷ second ∷ rest) max = ⊥
+
+-- how often `--recompute` stands for this mode
+abbrev pub recomputes : Mode → ℕ
+recomputes Given = 0
+recomputes Recompute = 1
+
+-- how often an option stands that stands or doesn't
+abbrev pub once : Bool → ℕ
+once false = 0
+once true = 1
+
+-- the options of `analyze` and `check`
+abbrev pub analyze_flags : List (List ℕ)
+analyze_flags = codes "recompute" ∷ []
+
+abbrev pub analyze_settings : List (List ℕ)
+analyze_settings = codes "max-structures" ∷ []
+
+abbrev pub check_flags : List (List ℕ)
+check_flags = codes "recompute" ∷ codes "maps" ∷ []
+
+-- what the words behind `analyze` say: two operands, at most one `--recompute` and one `--max-structures`
+pub record AnalyzeLine (words : List (List ℕ)) (program initial : List ℕ) (max : ℕ) (mode : Mode) :
+    Type 0 where
+  pub parts : List Part
+  pub behind : List (List ℕ)
+  pub line : IsLine analyze_flags analyze_settings parts behind words
+  pub operands : operands_of parts ++ behind ≡ program ∷ initial ∷ []
+  pub mode_is : uses_of (codes "recompute") parts ≡ recomputes mode
+  pub max_is : IsMax (values_of (codes "max-structures") parts) max
+
+-- what the words behind `check` say: three operands, at most one `--recompute` and one `--maps`
+pub record CheckLine (words : List (List ℕ)) (program initial report : List ℕ) (mode : Mode) (maps : Bool) :
+    Type 0 where
+  pub parts : List Part
+  pub behind : List (List ℕ)
+  pub line : IsLine check_flags [] parts behind words
+  pub operands : operands_of parts ++ behind ≡ program ∷ initial ∷ report ∷ []
+  pub mode_is : uses_of (codes "recompute") parts ≡ recomputes mode
+  pub maps_is : uses_of (codes "maps") parts ≡ once maps
+
+-- what the words behind `demo` say: one operand, a number up to 16
+pub record DemoLine (words : List (List ℕ)) (number : ℕ) : Type 0 where
+  pub parts : List Part
+  pub behind : List (List ℕ)
+  pub line : IsLine [] [] parts behind words
+  pub word : List ℕ
+  pub operands : operands_of parts ++ behind ≡ word ∷ []
+  pub number_is : IsNumberUpTo 16 word number
+
+-- a command, its files named by bytes
+pub data CommandForm : Type 0 where
+  Analyzes : (program initial : List ℕ) → (max : ℕ) → (mode : Mode) → CommandForm
+  Checks : (program initial report : List ℕ) → (mode : Mode) → (maps : Bool) → CommandForm
+  Demos : (number : ℕ) → CommandForm
+
+abbrev pub form_of : Command → CommandForm
+form_of (Analyze program initial max mode) = Analyzes (string_bytes program) (string_bytes initial) max mode
+form_of (Check program initial report mode maps) =
+    Checks (string_bytes program) (string_bytes initial) (string_bytes report) mode maps
+form_of (Demo number) = Demos number
+
+-- this is said of the command
+abbrev pub SaidOf : (CommandForm → Type 0) → Command → Type 0
+SaidOf Says command = Says (form_of command)
+
+-- the words behind the name `analyze` say this command; or those behind `check`; or those behind `demo`
+abbrev pub IsAnalysis : List (List ℕ) → CommandForm → Type 0
+IsAnalysis words (Analyzes program initial max mode) = AnalyzeLine words program initial max mode
+IsAnalysis words (Checks program initial report mode maps) = ⊥
+IsAnalysis words (Demos number) = ⊥
+
+abbrev pub IsCheck : List (List ℕ) → CommandForm → Type 0
+IsCheck words (Analyzes program initial max mode) = ⊥
+IsCheck words (Checks program initial report mode maps) = CheckLine words program initial report mode maps
+IsCheck words (Demos number) = ⊥
+
+abbrev pub IsDemo : List (List ℕ) → CommandForm → Type 0
+IsDemo words (Analyzes program initial max mode) = ⊥
+IsDemo words (Checks program initial report mode maps) = ⊥
+IsDemo words (Demos number) = DemoLine words number
+
+abbrev pub NoAnalysis : List (List ℕ) → Type 0
+NoAnalysis words = (command : CommandForm) → ¬ IsAnalysis words command
+
+abbrev pub NoCheck : List (List ℕ) → Type 0
+NoCheck words = (command : CommandForm) → ¬ IsCheck words command
+
+abbrev pub NoDemo : List (List ℕ) → Type 0
+NoDemo words = (command : CommandForm) → ¬ IsDemo words command
+
+-- the words spell this command
+abbrev pub Spells : List (List ℕ) → CommandForm → Type 0
+Spells words command = (rest : List (List ℕ)) × (((words ≡ codes "analyze" ∷ rest) × IsAnalysis rest command)
+    ⊎ (((words ≡ codes "check" ∷ rest) × IsCheck rest command) ⊎ ((words ≡ codes "demo" ∷ rest)
+    × IsDemo rest command)))
+
+-- the words spell no command
+abbrev pub SpellsNothing : List (List ℕ) → Type 0
+SpellsNothing words = (command : CommandForm) → ¬ Spells words command

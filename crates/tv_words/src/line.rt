@@ -1,0 +1,99 @@
+//! A line of words, read by `clap`: options and operands in any order.
+
+ghost use Rattle.std.specs.Prelude.{◌≡◌, ℕ, List, IsTrue, false, codes, IfOk, []};
+ghost use Rattle.clap.specs.Words.{app_of, rule_of};
+ghost use Rattle.tv_words.specs.Setup.{bare_app, line_app, operand_rule, flag_rule, setting_rule, is_fit, told_texts, texts_in, Reads};
+ghost use Rattle.tv_words.specs.Words.{words_of, analyze_flags, analyze_settings, check_flags};
+
+use clap::error::ErrorKind;
+use clap::{Arg, ArgAction, ArgMatches, Command};
+use std::alloc::{AllocError, Global};
+
+/// The argument that takes all operands.
+fn operands<'a>(alloc: Global) -> Arg<'a>
+    ensures rule { rule_of result ≡ operand_rule }
+    ensures local { result.global ≡ false }
+{
+    Arg::new(alloc, "operands").action(ArgAction::Append)
+}
+
+/// The argument of an option without a value. It counts how often the option stands.
+fn flag<'a>(alloc: Global, name: &'a str) -> Arg<'a>
+    ensures rule { rule_of result ≡ flag_rule name.entry.now }
+    ensures local { result.global ≡ false }
+{
+    Arg::new(alloc, name).long(name).action(ArgAction::Count)
+}
+
+/// The argument of an option with a value. It takes all values.
+fn setting<'a>(alloc: Global, name: &'a str) -> Arg<'a>
+    ensures rule { rule_of result ≡ setting_rule name.entry.now }
+    ensures local { result.global ≡ false }
+{
+    Arg::new(alloc, name).long(name).action(ArgAction::Append)
+}
+
+/// A command whose line takes nothing yet.
+fn bare_line<'a>(alloc: Global, name: &'a str) -> Command<'a>
+    ensures { app_of result ≡ bare_app name.entry.now }
+{
+    Command::new(alloc, name)
+        .no_binary_name(true)
+        .disable_help_flag(true)
+}
+
+/// The line of `analyze`.
+pub fn analyze_line<'a>(alloc: Global) -> Result<Command<'a>, AllocError>
+    ensures { IfOk result (λ c. app_of c ≡ line_app (codes "analyze") analyze_flags analyze_settings) }
+{
+    let recompute = flag(alloc, "recompute");
+    let max = setting(alloc, "max-structures");
+    bare_line(alloc, "analyze")
+        .arg(operands(alloc))?
+        .arg(recompute)?
+        .arg(max)
+}
+
+/// The line of `check`.
+pub fn check_line<'a>(alloc: Global) -> Result<Command<'a>, AllocError>
+    ensures { IfOk result (λ c. app_of c ≡ line_app (codes "check") check_flags []) }
+{
+    let recompute = flag(alloc, "recompute");
+    let maps = flag(alloc, "maps");
+    bare_line(alloc, "check")
+        .arg(operands(alloc))?
+        .arg(recompute)?
+        .arg(maps)
+}
+
+/// The line of `demo`.
+pub fn demo_line<'a>(alloc: Global) -> Result<Command<'a>, AllocError>
+    ensures { IfOk result (λ c. app_of c ≡ line_app (codes "demo") [] []) }
+{
+    bare_line(alloc, "demo").arg(operands(alloc))
+}
+
+/// What stands on the words behind a command's name, and none exactly where they are no line of the command.
+pub fn read_line<'a>(
+    command: Command<'a>,
+    words: &'a [String],
+) -> Result<Option<ArgMatches<'a>>, AllocError>
+    ensures { (name : List ℕ) (flags settings : List (List ℕ)) → IsTrue (is_fit flags settings)
+        → app_of command.entry ≡ line_app name flags settings
+        → IfOk result (Reads flags settings (words_of words.entry.now)) }
+{
+    match command.try_get_matches_from(words) {
+        Ok(matches) => Ok(Some(matches)),
+        Err(error) => match error.kind() {
+            ErrorKind::OutOfMemory => Err(AllocError),
+            _ => Ok(None),
+        },
+    }
+}
+
+/// The texts that were found for an argument, in order, if there are any.
+pub fn texts<'m, 'a>(matches: &'m ArgMatches<'a>, id: &str) -> Option<&'m [&'a str]>
+    ensures { told_texts result ≡ texts_in matches.now id.now }
+{
+    matches.get_raw(id)
+}

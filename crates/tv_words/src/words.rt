@@ -1,0 +1,120 @@
+//! The words after the program's name.
+
+ghost use Rattle.std.specs.Prelude.{IfOk, IfSome, IfNone};
+ghost use Rattle.tv_words.specs.Words.{words_of, IsAnalysis, NoAnalysis, IsCheck, NoCheck, IsDemo, NoDemo, Spells, SpellsNothing, SaidOf};
+
+use crate::line::{analyze_line, check_line, demo_line, read_line, texts};
+use crate::values::{GREATEST_DEMO, max_of, mode_of, number_up_to, one, stands, three, two};
+use std::alloc::{AllocError, Global};
+use tv_model::Mode;
+
+/// What the words ask for. Files are told by their names, as the words give them.
+#[derive(Debug, Drop)]
+pub enum Command {
+    /// Lists the structures that a program reaches from initial structures, at most `max` of them.
+    Analyze {
+        program: String,
+        initial: String,
+        max: u64,
+        mode: Mode,
+    },
+    /// Judges a report on a program and initial structures; `maps` asks for the report with its maps.
+    Check {
+        program: String,
+        initial: String,
+        report: String,
+        mode: Mode,
+        maps: bool,
+    },
+    /// Analyzes a program that is made up for this number.
+    Demo {
+        number: u64,
+    },
+}
+
+/// The command that the words behind `analyze` say.
+fn read_analyze(alloc: Global, words: &[String]) -> Result<Option<Command>, AllocError>
+    ensures some { IfOk result (λ found. IfSome found (SaidOf (IsAnalysis (words_of words.now)))) }
+    ensures none { IfOk result (λ found. IfNone found (NoAnalysis (words_of words.now))) }
+{
+    let Some(line) = read_line(analyze_line(alloc)?, words)? else {
+        return Ok(None);
+    };
+    let Some((program, initial)) = two(texts(&line, "operands")) else {
+        return Ok(None);
+    };
+    let Some(mode) = mode_of(line.get_count("recompute")) else {
+        return Ok(None);
+    };
+    let Some(max) = max_of(texts(&line, "max-structures")) else {
+        return Ok(None);
+    };
+    Ok(Some(Command::Analyze {
+        program: String::from_str(alloc, program)?,
+        initial: String::from_str(alloc, initial)?,
+        max,
+        mode,
+    }))
+}
+
+/// The command that the words behind `check` say.
+fn read_check(alloc: Global, words: &[String]) -> Result<Option<Command>, AllocError>
+    ensures some { IfOk result (λ found. IfSome found (SaidOf (IsCheck (words_of words.now)))) }
+    ensures none { IfOk result (λ found. IfNone found (NoCheck (words_of words.now))) }
+{
+    let Some(line) = read_line(check_line(alloc)?, words)? else {
+        return Ok(None);
+    };
+    let Some((program, initial, report)) = three(texts(&line, "operands")) else {
+        return Ok(None);
+    };
+    let Some(mode) = mode_of(line.get_count("recompute")) else {
+        return Ok(None);
+    };
+    let Some(maps) = stands(line.get_count("maps")) else {
+        return Ok(None);
+    };
+    Ok(Some(Command::Check {
+        program: String::from_str(alloc, program)?,
+        initial: String::from_str(alloc, initial)?,
+        report: String::from_str(alloc, report)?,
+        mode,
+        maps,
+    }))
+}
+
+/// The command that the words behind `demo` say.
+fn read_demo(alloc: Global, words: &[String]) -> Result<Option<Command>, AllocError>
+    ensures some { IfOk result (λ found. IfSome found (SaidOf (IsDemo (words_of words.now)))) }
+    ensures none { IfOk result (λ found. IfNone found (NoDemo (words_of words.now))) }
+{
+    let Some(line) = read_line(demo_line(alloc)?, words)? else {
+        return Ok(None);
+    };
+    let Some(word) = one(texts(&line, "operands")) else {
+        return Ok(None);
+    };
+    let Some(number) = number_up_to(word, GREATEST_DEMO) else {
+        return Ok(None);
+    };
+    Ok(Some(Command::Demo { number }))
+}
+
+/// The command that the words spell, and none exactly where they spell none.
+///
+/// # Errors
+/// `AllocError` where memory ran out.
+pub fn read_words(alloc: Global, words: &[String]) -> Result<Option<Command>, AllocError>
+    ensures some { IfOk result (λ found. IfSome found (SaidOf (Spells (words_of words.now)))) }
+    ensures none { IfOk result (λ found. IfNone found (SpellsNothing (words_of words.now))) }
+{
+    let Some((name, behind)) = words.split_first() else {
+        return Ok(None);
+    };
+    match name.as_str() {
+        "analyze" => read_analyze(alloc, behind),
+        "check" => read_check(alloc, behind),
+        "demo" => read_demo(alloc, behind),
+        _ => Ok(None),
+    }
+}
