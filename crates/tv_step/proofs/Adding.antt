@@ -1,0 +1,92 @@
+-- Lists to which what comes of elements is put.
+use Rattle.std.proofs.Common.{ℕ, ◌≡◌, ◌∙◌, ◌<◌, ◌+◌, List, [], ◌∷◌, ◌++◌, length, take, refl, sym, ap, subst, append_assoc, get_or, add-one, All, Contains}
+use Rattle.std.specs.Prelude.{Result, Ok, Err, IfErr, IsErrAnd, OnOk}
+use Rattle.std.proofs.lemmas.List.Elements.{All-nil, All-cons, All-append}
+use Rattle.std.proofs.lemmas.List.{append-nil}
+use Rattle.std.proofs.Math.Seq.{take-suc}
+use Rattle.tv_transfer.specs.Parts.{AreFrom}
+use Rattle.tv_step.specs.Steps.{Adds}
+
+pub from-append : {X Y : Type 0} (R : X → List Y → Type 0) (xs zs : List X) (ys ws : List Y) → AreFrom R xs ys
+    → AreFrom R zs ws
+    → AreFrom R (xs ++ zs) (ys ++ ws)
+from-append {X} {Y} R [] zs ys ws a b = subst (AreFrom R zs) (ap (λ us. us ++ ws) (sym a)) b
+from-append R (x ∷ xs) zs ys ws (own, rest, made, later, is) b = (
+  own,
+  rest ++ ws,
+  made,
+  from-append R xs zs rest ws later b,
+  ap (λ us. us ++ ws) is
+      ∙ append_assoc own rest ws,
+)
+
+pub from-one : {X Y : Type 0} (R : X → List Y → Type 0) (x : X) (own : List Y) → R x own
+    → AreFrom R (x ∷ []) own
+from-one R x own made = (own, [], made, refl, sym (append-nil own))
+
+-- what is made of an element is also made of it in a weaker sense
+pub from-weaker : {X Y : Type 0} (R Q : X → List Y → Type 0) → ((x : X) (ys : List Y) → R x ys → Q x ys)
+    → (xs : List X) (ys : List Y)
+    → AreFrom R xs ys → AreFrom Q xs ys
+from-weaker R Q weaker [] ys are = are
+from-weaker R Q weaker (x ∷ xs) ys (own, rest, made, later, is) =
+    (own, rest, weaker x own made, from-weaker R Q weaker xs rest later, is)
+
+pub each-unit : {X : Type 0} (xs : List X) → All (λ x. Unit {0}) xs
+each-unit xs k d lt = tt
+
+-- nothing is put
+pub adds-none : {X Y : Type 0} (R : X → List Y → Type 0) (ys : List Y) → Adds (AreFrom R) [] ys ys
+adds-none R ys = ([], refl, sym (append-nil ys))
+
+-- what comes of one more element is put
+pub adds-more : {X Y : Type 0} (R : X → List Y → Type 0) (xs : List X) (x : X) (ys zs ws : List Y)
+    → Adds (AreFrom R) xs ys zs
+    → Adds R x zs ws → Adds (AreFrom R) (xs ++ x ∷ []) ys ws
+adds-more R xs x ys zs ws (one, from, is) (own, made, same) = (
+  one ++ own,
+  from-append R xs (x ∷ []) one own from (from-one R x own made),
+  same ∙ ap (λ us. us ++ own) is ∙ append_assoc ys one own,
+)
+
+-- what is put behind nothing is what is made
+pub adds-first : {X Y : Type 0} (R : X → List Y → Type 0) (x : X) (old new : List Y) → old ≡ []
+    → Adds R x old new → R x new
+adds-first R x old new none (own, made, is) = subst (R x) (sym (is ∙ ap (λ ys. ys ++ own) none)) made
+
+pub nothing-added : {Y : Type 0} (ys : List Y) → ys ≡ ys ++ []
+nothing-added ys = sym (append-nil ys)
+
+-- what comes of the next of a list's elements is put
+pub adds-next : {X Y : Type 0} (R : X → List Y → Type 0) (xs : List X) (i : ℕ) (x : X) (ys zs ws : List Y)
+    → i < length xs
+    → x ≡ get_or xs i x → Adds (AreFrom R) (take i xs) ys zs → Adds R x zs ws
+    → Adds (AreFrom R) (take (i + 1) xs) ys ws
+adds-next R xs i x ys zs ws lt is before made =
+    rw (add-one, take-suc xs i x lt, ← is) (adds-more R (take i xs) x ys zs ws before made)
+
+-- what holds of the next of a list's elements too
+pub all-next : {X : Type 0} (P : X → Type 0) (xs : List X) (i : ℕ) (x : X) → i < length xs → x ≡ get_or xs i x
+    → All P (take i xs) → P x → All P (take (i + 1) xs)
+all-next P xs i x lt is before own =
+    rw (add-one, take-suc xs i x lt, ← is)
+    (All-append P (take i xs) (x ∷ []) before (All-cons P x [] own (All-nil P)))
+
+pub item-there : {X : Type 0} (xs : List X) (i : ℕ) (x : X) → i < length xs → x ≡ get_or xs i x
+    → Contains xs x
+item-there xs i x lt is = (i, lt, sym is)
+
+-- an error that is handed on keeps its cause
+pub handed-on : {T E : Type 0} (P : E → Type 0) (r : Result T E) (e : E) → IsErrAnd r (λ f. f ≡ e) → P e
+    → IfErr r P
+handed-on P (Ok t) e same cause = tt
+handed-on P (Err f) e same cause = subst P (sym same) cause
+
+pub on_ok-weaker : {T E : Type 0} (r : Result T E) (P Q : Type 0) → (P → Q) → OnOk r P → OnOk r Q
+on_ok-weaker (Ok t) P Q weaker holds = weaker holds
+on_ok-weaker (Err e) P Q weaker holds = tt
+
+pub on_err-weaker : {T E : Type 0} (r : Result T E) (P Q : E → Type 0) → ((e : E) → P e → Q e) → IfErr r P
+    → IfErr r Q
+on_err-weaker (Ok t) P Q weaker holds = tt
+on_err-weaker (Err e) P Q weaker holds = weaker e holds

@@ -1,0 +1,13 @@
+mod Adding
+mod Beginnings
+mod Budgeted
+mod Coercing
+mod Evaluating
+mod Finishing
+mod Picking
+mod Said
+mod Shapes
+mod Sorting
+mod Stepping
+mod Turns
+mod Variables

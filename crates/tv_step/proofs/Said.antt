@@ -1,0 +1,109 @@
+-- What is said of a step along an edge.
+use Rattle.std.proofs.Common.{ℕ, ◌≡◌, ◌∙◌, List, [], ◌∷◌, ◌++◌, sym, ap, subst, All}
+use Rattle.std.specs.Prelude.{Result, Ok, Err, IfOk, IfErr, OnOk}
+use Rattle.std.proofs.lemmas.List.Elements.{All-contains}
+use Rattle.tv_kleene.specs.declared.K3.{K3}
+use Rattle.tv_model.specs.declared.program.Mode.{Mode}
+use Rattle.tv_model.specs.declared.program.Program.{Program}
+use Rattle.tv_model.specs.Program.{ProgramForm, ActionForm, program_of}
+use Rattle.tv_model.specs.Valid.{IsValid}
+use Rattle.tv_model.proofs.Lists.{All-from_contains}
+use Rattle.tv_rules.specs.Closing.{closed_rules}
+use Rattle.tv_stable.specs.Stable.{IsStable}
+use Rattle.tv_struct.specs.StructureForm.{StructureForm, IsOver, IsStructure, structure_of}
+use Rattle.tv_struct.specs.declared.analysis.StageError.{StageError}
+use Rattle.tv_transfer.specs.Budgets.{KeepsBudgets, IsStepCause}
+use Rattle.tv_transfer.specs.Settled.{IsSettled}
+use Rattle.tv_transfer.specs.Sound.{KeepsNewHeaps, TellsMessages}
+use Rattle.tv_transfer.specs.Transfer.{Coerces, AreResults, AreMessageValues, IsActionOf}
+use Rattle.tv_transfer.proofs.Heaps.{any_heap, message-heap, result-heap}
+use Rattle.tv_transfer.proofs.Settled.{result-settled, stable-coerces}
+use Rattle.tv_step.specs.declared.step.StepOut.{StepOut}
+use Rattle.tv_step.specs.Steps.{AreResultsOf, AreValuesOf, IsCauseOfStep}
+use Rattle.tv_step.proofs.Budgeted.{budgets-kept, step-cause}
+use Rattle.tv_step.proofs.Shapes.{over-shaped}
+
+-- a stable structure is what coerce makes of it
+pub stable-start : (program : Program) (s t : StructureForm) (old new : List StructureForm)
+    → old ≡ [] → t ≡ s → new ≡ old ++ t ∷ []
+    → IsOver program.vocab s → IsStructure s → IsStable (closed_rules (program_of program)) (structure_of s)
+    → Coerces (program_of program) s new
+stable-start program s t old new none same is over kept stable =
+    let start : new ≡ s ∷ []
+    = is ∙ ap (λ (ys : List StructureForm). ys ++ t ∷ []) none ∙ ap (λ (u : StructureForm). u ∷ []) same
+    in subst (Coerces (program_of program) s) (sym start)
+    (stable-coerces (program_of program) s (over-shaped program s over kept) stable)
+
+-- all that is said of an answer
+pub record IsSaid (p : ProgramForm) (mode : Mode) (edge : ℕ) (s : StructureForm)
+    (answer : Result StepOut StageError) : Type 0 where
+  pub results : IfOk answer (λ out. AreResults p mode edge s out.results)
+  pub values : IfOk answer (λ out. AreMessageValues p edge s out.messages)
+  pub settled : IfOk answer (λ out. All (IsSettled p) out.results)
+  pub heaps : IfOk answer (λ out. KeepsNewHeaps p mode edge s out.results)
+  pub truths : IfOk answer (λ out. TellsMessages p edge s out.messages)
+  pub budgets : OnOk answer (KeepsBudgets p edge s)
+  pub cause : IfErr answer (IsStepCause p edge s)
+
+results-are : (p : ProgramForm) (mode : Mode) (edge : ℕ) (s : StructureForm) (action : ActionForm)
+    (start results : List StructureForm)
+    → IsActionOf p edge action → Coerces p s start → AreResultsOf p mode action start results
+    → AreResults p mode edge s results
+results-are p mode edge s action start results is coerces are = record {
+  action = action;
+  its_action = is;
+  at_hand = are.at_hand;
+  are_at_hand = (start, coerces, are.are_focused);
+  given = are.given;
+  are_given = are.are_given;
+  same = are.same;
+  sorted = are.sorted;
+}
+
+values-are : (p : ProgramForm) (edge : ℕ) (s : StructureForm) (action : ActionForm)
+    (start : List StructureForm) (values : List K3)
+    → IsActionOf p edge action → Coerces p s start → AreValuesOf p action start values
+    → AreMessageValues p edge s values
+values-are p edge s action start values is coerces are = record {
+  action = action;
+  its_action = is;
+  at_hand = are.at_hand;
+  are_at_hand = (start, coerces, are.are_focused);
+  are = are.are;
+}
+
+pub step-said : (p : ProgramForm) → IsValid p → (mode : Mode) (edge : ℕ) (s : StructureForm)
+    (action : ActionForm) (start : List StructureForm)
+    → IsActionOf p edge action → Coerces p s start → (answer : Result StepOut StageError)
+    → IfOk answer (λ out. AreResultsOf p mode action start out.results)
+    → IfOk answer (λ out. AreValuesOf p action start out.messages)
+    → IfErr answer (IsCauseOfStep p action start) → IsSaid p mode edge s answer
+step-said p valid mode edge s action start is coerces (Ok out) results values cause =
+    let are : AreResults p mode edge s out.results
+    = results-are p mode edge s action start out.results is coerces results
+    in let told : AreMessageValues p edge s out.messages
+    = values-are p edge s action start out.messages is coerces values
+    in record {
+      results = are;
+      values = told;
+      settled = All-from_contains (IsSettled p) out.results
+          (λ t here. result-settled p valid mode edge s out.results are t here
+          (All-contains IsStructure out.results t results.kept here));
+      heaps = λ taken there old new start_is step. any_heap p new out.results
+          (result-heap p valid mode edge taken there s out.results are old new start_is.start step start_is.embeds);
+      truths = λ number m of h start_is true_there.
+          message-heap p valid edge s out.messages told of.0 of.1 number m of.2 h start_is.start start_is.embeds
+          true_there;
+      budgets = budgets-kept p edge s action start results.at_hand is coerces results.within_focus
+          results.within_updates;
+      cause = tt;
+    }
+step-said p valid mode edge s action start is coerces (Err e) results values cause = record {
+  results = tt;
+  values = tt;
+  settled = tt;
+  heaps = tt;
+  truths = tt;
+  budgets = tt;
+  cause = step-cause p edge s action start e is coerces cause;
+}

@@ -1,0 +1,170 @@
+use Rattle.std.proofs.Common.{◌≡◌, List, [], ◌∷◌, length, get_or, ◌<◌, ◌≤◌, refl, ap, sym, subst, arith, All}
+use Rattle.std.specs.List.{between}
+use Rattle.std.specs.Prelude.{IfErr, OnOk}
+use Rattle.std.proofs.lemmas.List.{length-map}
+use Rattle.std.proofs.lemmas.List.Elements.{All-head, All-tail}
+use Rattle.std.proofs.lemmas.Slice.{first_rest}
+use Rattle.tv_eval.specs.AssignmentForm.{assignment_of}
+use Rattle.tv_model.specs.declared.formula.Var.{Var}
+use Rattle.tv_model.specs.Program.{picks_of}
+use Rattle.tv_model.specs.Valid.{IsVariable}
+use Rattle.tv_step.specs.Job.{IsCase, ArePickedBut, case_program, case_action, case_mode, case_structure}
+use Rattle.tv_step.specs.Steps.{Adds, PickGives, PicksGive, PickKeepsLimits, PicksKeepLimits, IsCauseOfPick, IsCauseOfPicks}
+use Rattle.tv_step.proofs.Adding.{handed-on, on_err-weaker, on_ok-weaker}
+use Rattle.tv_step.proofs.Picking.{picked-with, picks-next, picks-done, limits-next, limits-done, cause-first, picks-none, limits-none, cause-none}
+use Rattle.tv_step.proofs.picks.+picked.Goals as goal
+
+-- ---- one variable
+
+pub push_each-push_picked-requires : goal.push_each-push_picked-requires
+push_each-push_picked-requires t c = (
+  omega (arith, c.decreases),
+  (
+    subst (IsCase c.args.c.now) (sym c.loop-u.invariant.scratch) c.requires.case,
+    (
+      c.requires.left,
+      picked-with (case_action c.args.c.now).picks (picks_of c.args.left.now)
+          (case_structure c.args.c.now).size
+          c.args.v.0 c.loop-u.u c.args.picks c.with.result c.with.ensures.places
+          (omega (arith, c.loop-u-test.true, c.size-u-end.ensures.size)) c.requires.picks,
+    ),
+  ),
+)
+
+pub push_each-returns-in_err-push_picked-clause-cause : goal.push_each-returns-in_err-push_picked-clause-cause
+push_each-returns-in_err-push_picked-clause-cause t c =
+    let action = case_action c.args.c.now
+    in let s = case_structure c.args.c.now
+    in let vars = picks_of c.args.left.now
+    in let a = assignment_of c.args.picks
+    in let e = c.in_err-push_picked.field-0.0
+    in handed-on
+    (IsCauseOfPicks action s (c.args.v.0 ∷ vars) a) c.from_residual.result e c.from_residual.ensures.1
+    (cause-first action s c.args.v.0 vars a (assignment_of c.with.result) c.loop-u.u e c.with.ensures.total
+    (omega (arith, c.loop-u-test.true, c.size-u-end.ensures.size)) c.in_err-push_picked.ensures.cause)
+
+pub push_each-loop-u-preserved : goal.push_each-loop-u-preserved
+push_each-loop-u-preserved t c =
+    let action = case_action c.args.c.now
+    in let s = case_structure c.args.c.now
+    in let vars = picks_of c.args.left.now
+    in let a = assignment_of c.args.picks
+    in record {
+      out = picks-next (case_program c.args.c.now) (case_mode c.args.c.now) action s c.args.v.0 vars a
+          (assignment_of c.with.result) c.loop-u.u c.args.out.now c.loop-u.out c.push_picked.new.out
+          c.with.ensures.total
+          c.loop-u.invariant.out c.in_ok-push_picked.ensures.out;
+      within = limits-next action s c.args.v.0 vars a
+          (assignment_of c.with.result) c.loop-u.u c.with.ensures.total
+          c.loop-u.invariant.within c.in_ok-push_picked.ensures.within;
+      scratch = cc;
+    }
+
+pub push_each-returns-clause-out : goal.push_each-returns-clause-out
+push_each-returns-clause-out t c =
+    picks-done (case_program c.args.c.now) (case_mode c.args.c.now) (case_action c.args.c.now)
+    (case_structure c.args.c.now)
+    c.args.v.0 (picks_of c.args.left.now) (assignment_of c.args.picks) c.loop-u.u c.args.out.now c.loop-u.out
+    (omega (arith, c.loop-u-test.false, c.loop-u.auto.u-end, c.size-u-end.ensures.size))
+    c.loop-u.invariant.out
+
+pub push_each-returns-clause-within : goal.push_each-returns-clause-within
+push_each-returns-clause-within t c =
+    limits-done (case_action c.args.c.now) (case_structure c.args.c.now) c.args.v.0 (picks_of c.args.left.now)
+    (assignment_of c.args.picks) c.loop-u.u
+    (omega (arith, c.loop-u-test.false, c.loop-u.auto.u-end, c.size-u-end.ensures.size))
+    c.loop-u.invariant.within
+
+-- ---- all that are left
+
+-- the variables are the first and the others
+parts : (left : List Var) (d : Var) → 1 ≤ length left
+    → picks_of left ≡ (get_or left 0 d).0 ∷ picks_of (between 1 (length left) left)
+parts left d some = ap picks_of (first_rest left d (omega (arith, some)))
+
+none : (left : List Var) → length left < 1 → picks_of left ≡ []
+none [] few = refl
+none (v ∷ left) few = absurd (omega (arith, few))
+
+abbrev nobody : Var
+nobody = record { 0 = 0 }
+
+pub push_picked-push_each-requires : goal.push_picked-push_each-requires
+push_picked-push_each-requires t c =
+    let left = c.args.left.now
+    in let rest = between 1 (length left) left
+    in let whole = parts left nobody (omega (arith, c.in-len1-up.len_at_least))
+    in let are : All IsVariable ((get_or left 0 nobody).0 ∷ picks_of rest)
+    = subst (All IsVariable) whole c.requires.left
+    in (
+      omega (arith, c.decreases, ap length whole, length-map left (λ v. v.0), length-map rest (λ v. v.0)),
+      (
+        c.requires.case,
+        (
+          All-head IsVariable (get_or left 0 nobody).0 (picks_of rest) are,
+          (
+            All-tail IsVariable (get_or left 0 nobody).0 (picks_of rest) are,
+            subst (λ vars. ArePickedBut c.args.c.now vars c.args.picks) whole c.requires.picks,
+          ),
+        ),
+      ),
+    )
+
+pub push_picked-returns-in-empty-clause-out : goal.push_picked-returns-in-empty-clause-out
+push_picked-returns-in-empty-clause-out t c =
+    let p = case_program c.args.c.now
+    in let mode = case_mode c.args.c.now
+    in let action = case_action c.args.c.now
+    in let s = case_structure c.args.c.now
+    in let vars = picks_of c.args.left.now
+    in let a = assignment_of c.args.picks
+    in on_ok-weaker c.push_given.result
+    (Adds (PickGives p mode action s) a c.args.out.now c.push_given.new.out)
+    (Adds (PicksGive p mode action s vars) a c.args.out.now c.push_given.new.out)
+    (picks-none p mode action s vars a c.args.out.now c.push_given.new.out
+    (none c.args.left.now c.in-empty.len_below))
+    c.push_given.ensures.out
+
+pub push_picked-returns-in-empty-clause-within : goal.push_picked-returns-in-empty-clause-within
+push_picked-returns-in-empty-clause-within t c =
+    let action = case_action c.args.c.now
+    in let s = case_structure c.args.c.now
+    in let vars = picks_of c.args.left.now
+    in let a = assignment_of c.args.picks
+    in on_ok-weaker c.push_given.result (PickKeepsLimits action s a) (PicksKeepLimits action s vars a)
+    (limits-none action s vars a (none c.args.left.now c.in-empty.len_below)) c.push_given.ensures.within
+
+pub push_picked-returns-in-empty-clause-cause : goal.push_picked-returns-in-empty-clause-cause
+push_picked-returns-in-empty-clause-cause t c =
+    let action = case_action c.args.c.now
+    in let s = case_structure c.args.c.now
+    in let vars = picks_of c.args.left.now
+    in let a = assignment_of c.args.picks
+    in on_err-weaker c.push_given.result (IsCauseOfPick action s a) (IsCauseOfPicks action s vars a)
+    (λ e cause. cause-none action s vars a e (none c.args.left.now c.in-empty.len_below) cause)
+    c.push_given.ensures.cause
+
+pub push_picked-returns-in-len1-up-clause-out : goal.push_picked-returns-in-len1-up-clause-out
+push_picked-returns-in-len1-up-clause-out t c =
+    let p = case_program c.args.c.now
+    in let mode = case_mode c.args.c.now
+    in let action = case_action c.args.c.now
+    in let s = case_structure c.args.c.now
+    in let whole = parts c.args.left.now nobody (omega (arith, c.in-len1-up.len_at_least))
+    in subst (λ vars. OnOk c.push_each.result
+    (Adds (PicksGive p mode action s vars) (assignment_of c.args.picks) c.args.out.now c.push_each.new.out))
+    (sym whole) c.push_each.ensures.out
+
+pub push_picked-returns-in-len1-up-clause-within : goal.push_picked-returns-in-len1-up-clause-within
+push_picked-returns-in-len1-up-clause-within t c =
+    let whole = parts c.args.left.now nobody (omega (arith, c.in-len1-up.len_at_least))
+    in subst (λ vars. OnOk c.push_each.result
+    (PicksKeepLimits (case_action c.args.c.now) (case_structure c.args.c.now) vars
+    (assignment_of c.args.picks))) (sym whole) c.push_each.ensures.within
+
+pub push_picked-returns-in-len1-up-clause-cause : goal.push_picked-returns-in-len1-up-clause-cause
+push_picked-returns-in-len1-up-clause-cause t c =
+    let whole = parts c.args.left.now nobody (omega (arith, c.in-len1-up.len_at_least))
+    in subst (λ vars. IfErr c.push_each.result
+    (IsCauseOfPicks (case_action c.args.c.now) (case_structure c.args.c.now) vars
+    (assignment_of c.args.picks))) (sym whole) c.push_each.ensures.cause

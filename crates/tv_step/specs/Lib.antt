@@ -1,0 +1,5 @@
+pub mod Job
+pub mod Places
+pub mod Setting
+pub mod Starts
+pub mod Steps

@@ -1,0 +1,51 @@
+//! Coerce in a step.
+
+ghost use Rattle.std.specs.Prelude.{◌≡◌, All, OnOk};
+ghost use Rattle.tv_transfer.specs.Parts.{AreFrom};
+ghost use Rattle.tv_transfer.specs.Shaped.{IsShaped};
+ghost use Rattle.tv_transfer.specs.Transfer.{Coerces};
+ghost use Rattle.tv_step.specs.Setting.{form_in, IsReady};
+ghost use Rattle.tv_step.specs.Steps.{Adds};
+
+use crate::setting::Setting;
+use std::alloc::AllocError;
+use tv_coerce::coerce;
+use tv_eval::Scratch;
+use tv_struct::{Structure, Structures};
+
+/// Puts the greatest stable structure below `s` behind the others, if there is one.
+pub fn push_coerced(
+    x: &Setting,
+    s: &Structure,
+    scratch: &mut Scratch,
+    out: &mut Structures,
+) -> Result<(), AllocError>
+    requires ready { IsReady x.now scratch.old }
+    requires shaped { IsShaped (form_in x.now) s.now }
+    ensures out { OnOk result (Adds (Coerces (form_in x.now)) s.now out.old out.new) }
+    ensures scratch { scratch.new ≡ scratch.old }
+{
+    let _ = s.size();
+    match coerce(x.alloc, x.closed, s, scratch)? {
+        None => Ok(()),
+        Some(t) => out.push(t),
+    }
+}
+
+/// The same for each of the structures.
+pub fn push_all_coerced(
+    x: &Setting,
+    structures: &[Structure],
+    scratch: &mut Scratch,
+    out: &mut Structures,
+) -> Result<(), AllocError>
+    requires ready { IsReady x.now scratch.old }
+    requires shaped { All (IsShaped (form_in x.now)) structures.now }
+    ensures out { OnOk result (Adds (AreFrom (Coerces (form_in x.now))) structures.now out.old out.new) }
+    ensures scratch { scratch.new ≡ scratch.old }
+{
+    for s in structures {
+        push_coerced(x, s, scratch, out)?;
+    }
+    Ok(())
+}

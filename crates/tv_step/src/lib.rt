@@ -1,0 +1,17 @@
+//! Abstract steps: what an action makes of a structure along an edge, and openings (Sagiv, Reps and Wilhelm
+//! 2002, section 6). What they are is defined in `tv_transfer`.
+#![tactic(auto)]
+
+mod coerced;
+mod finish;
+mod focus;
+mod messages;
+mod opened;
+mod order;
+mod picks;
+mod setting;
+mod step;
+
+pub use messages::Values;
+pub use opened::opening;
+pub use step::{StepOut, abstract_step, stable_step};

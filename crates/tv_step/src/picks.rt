@@ -1,0 +1,160 @@
+//! The individuals that an action picks in a structure, and what it gives under them.
+
+ghost use Rattle.std.specs.Prelude.{◌≡◌, ◌<◌, ◌≤◌, ◌↔◌, ◌^◌, All, IsTrue, IfErr, OnOk, ◌∷◌, length, min};
+ghost use Rattle.std.specs.List.{range_with_len};
+ghost use Rattle.tv_applied.specs.Picks.{lists_of};
+ghost use Rattle.tv_eval.specs.AssignmentForm.{assignment_of};
+ghost use Rattle.tv_model.specs.Program.{picks_of};
+ghost use Rattle.tv_model.specs.Valid.{IsVariable};
+ghost use Rattle.tv_step.specs.Job.{IsCase, ArePicked, ArePickedBut, case_program, case_action, case_mode, case_structure};
+ghost use Rattle.tv_step.specs.Steps.{Adds, passes, PickGives, PicksGive, PickKeepsLimits, PicksKeepLimits, IsCauseOfPick, IsCauseOfPicks, StepsIn, KeepsUpdateLimits, IsCauseOfUpdate};
+
+use crate::finish::push_all_finished;
+use crate::setting::{Job, Setting};
+use tv_eval::{Assignment, Scratch, eval};
+use tv_kleene::K3;
+use tv_model::Var;
+use tv_struct::{StageError, Structure, Structures};
+use tv_update::update;
+
+/// The most lists of individuals that an action may pick in one structure.
+const MAX_PICKS: u32 = 4096;
+
+/// An action that is applied to a structure at hand.
+#[derive(Clone, Copy)]
+pub struct Case<'a> {
+    pub setting: &'a Setting<'a>,
+    pub job: &'a Job<'a>,
+    pub from: &'a Structure,
+}
+
+/// Whether there are at most 4,096 lists of `count` individuals.
+fn are_few(size: u32, count: usize) -> bool
+    requires { size ≤ 256 }
+    ensures { IsTrue result ↔ (length (lists_of (range_with_len 0 size) count) ≤ 4096) }
+{
+    let mut total: u32 = 1;
+    for _ in 0..count {
+        total = (total * size).min(MAX_PICKS + 1);
+    }
+    total <= MAX_PICKS
+}
+
+/// Whether the precondition isn't `No`.
+fn is_passed(c: &Case, picks: &Assignment, scratch: &mut Scratch) -> bool
+    requires case { IsCase c.now scratch.old }
+    requires picks { ArePicked c.now picks.now }
+    ensures value { result ≡ passes (case_action c.now) (case_structure c.now) (assignment_of picks.now) }
+    ensures scratch { scratch.new ≡ scratch.old }
+{
+    match &c.job.action.pre {
+        None => true,
+        Some(pre) => match eval(pre, c.from, picks, scratch) {
+            K3::No => false,
+            K3::Half | K3::Yes => true,
+        },
+    }
+}
+
+/// Puts what the action gives under the picked individuals, coerced and blurred, behind the others; nothing
+/// where the precondition is `No`.
+fn push_given(
+    c: &Case,
+    picks: &Assignment,
+    scratch: &mut Scratch,
+    out: &mut Structures,
+) -> Result<(), StageError>
+    requires case { IsCase c.now scratch.old }
+    requires picks { ArePicked c.now picks.now }
+    ensures out { OnOk result (Adds (PickGives (case_program c.now) (case_mode c.now) (case_action c.now)
+        (case_structure c.now)) (assignment_of picks.now) out.old out.new) }
+    ensures within { OnOk result (PickKeepsLimits (case_action c.now) (case_structure c.now) (assignment_of picks.now)) }
+    ensures cause { IfErr result (IsCauseOfPick (case_action c.now) (case_structure c.now) (assignment_of picks.now)) }
+    ensures scratch { scratch.new ≡ scratch.old }
+{
+    if !is_passed(c, picks, scratch) {
+        return Ok(());
+    }
+    let x = c.setting;
+    let given = update(
+        x.alloc,
+        x.program,
+        c.job.number,
+        c.job.mode,
+        c.from,
+        picks,
+        scratch,
+    )?;
+    push_all_finished(x, given.as_slice(), scratch, out)?;
+    Ok(())
+}
+
+/// The same for each list of individuals that is put for the variables that are left, in lexicographic order.
+#[cycle(picked)]
+fn push_picked(
+    c: &Case,
+    left: &[Var],
+    picks: Assignment,
+    scratch: &mut Scratch,
+    out: &mut Structures,
+) -> Result<(), StageError>
+    requires case { IsCase c.now scratch.old }
+    requires left { All IsVariable (picks_of left.now) }
+    requires picks { ArePickedBut c.now (picks_of left.now) picks }
+    ensures out { OnOk result (Adds (PicksGive (case_program c.now) (case_mode c.now) (case_action c.now)
+        (case_structure c.now) (picks_of left.now)) (assignment_of picks) out.old out.new) }
+    ensures within { OnOk result (PicksKeepLimits (case_action c.now) (case_structure c.now) (picks_of left.now)
+        (assignment_of picks)) }
+    ensures cause { IfErr result (IsCauseOfPicks (case_action c.now) (case_structure c.now) (picks_of left.now)
+        (assignment_of picks)) }
+    ensures scratch { scratch.new ≡ scratch.old }
+{
+    match left {
+        [] => push_given(c, &picks, scratch, out),
+        [v, rest @ ..] => push_each(c, *v, rest, picks, scratch, out),
+    }
+}
+
+/// The same where each individual is put for the variable `v`, and then some for those that are left.
+#[cycle(picked)]
+fn push_each(
+    c: &Case,
+    v: Var,
+    left: &[Var],
+    picks: Assignment,
+    scratch: &mut Scratch,
+    out: &mut Structures,
+) -> Result<(), StageError>
+    requires case { IsCase c.now scratch.old }
+    requires variable { IsVariable v.0 }
+    requires left { All IsVariable (picks_of left.now) }
+    requires picks { ArePickedBut c.now (v.0 ∷ picks_of left.now) picks }
+    ensures out { OnOk result (Adds (PicksGive (case_program c.now) (case_mode c.now) (case_action c.now)
+        (case_structure c.now) (v.0 ∷ picks_of left.now)) (assignment_of picks) out.old out.new) }
+    ensures within { OnOk result (PicksKeepLimits (case_action c.now) (case_structure c.now) (v.0 ∷ picks_of left.now)
+        (assignment_of picks)) }
+    ensures cause { IfErr result (IsCauseOfPicks (case_action c.now) (case_structure c.now) (v.0 ∷ picks_of left.now)
+        (assignment_of picks)) }
+    ensures scratch { scratch.new ≡ scratch.old }
+{
+    for u in 0..c.from.size() {
+        push_picked(c, left, picks.with(v, u), scratch, out)?;
+    }
+    Ok(())
+}
+
+/// Puts what the action gives from the structure, under all that it may pick, behind the others.
+pub fn push_steps(c: &Case, scratch: &mut Scratch, out: &mut Structures) -> Result<(), StageError>
+    requires case { IsCase c.now scratch.old }
+    ensures out { OnOk result (Adds (StepsIn (case_program c.now) (case_mode c.now) (case_action c.now))
+        (case_structure c.now) out.old out.new) }
+    ensures within { OnOk result (KeepsUpdateLimits (case_action c.now) (case_structure c.now)) }
+    ensures cause { IfErr result (IsCauseOfUpdate (case_action c.now) (case_structure c.now)) }
+    ensures scratch { scratch.new ≡ scratch.old }
+{
+    let picked = c.job.action.picks.as_slice();
+    if !are_few(c.from.size(), picked.len()) {
+        return Err(StageError::Splits);
+    }
+    push_picked(c, picked, Assignment::new(), scratch, out)
+}
