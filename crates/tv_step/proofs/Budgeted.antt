@@ -57,14 +57,17 @@ focused-keeps p action s start at_hand within t (hand, are, there) =
     let same : hand ≡ at_hand
     = at_hand-once p (focus_places action.focus) s hand at_hand are
     (start, within.coerces, focused-are p (focus_places action.focus) start at_hand within.focused)
-    in All-contains (KeepsUpdateLimits action) at_hand t within.updates (subst (λ us. Contains us t) same there)
+    in All-contains (KeepsUpdateLimits action) at_hand t within.updates
+    (subst (λ us. Contains us t) same there)
 
-passed-keeps : (p : ProgramForm) (action : ActionForm) (s : StructureForm) (start at_hand : List StructureForm)
+passed-keeps : (p : ProgramForm) (action : ActionForm) (s : StructureForm)
+    (start at_hand : List StructureForm)
     → IsWithin p action s start at_hand
     → (t : StructureForm) (picked : List ℕ) → IsPassed p action s t picked
     → IsWithinLimits action t (picks_of action picked)
 passed-keeps p action s start at_hand within t picked passed =
-    All-contains (λ us. IsWithinLimits action t (picks_of action us)) (passing_picks action (structure_of t)) picked
+    All-contains (λ us. IsWithinLimits action t (picks_of action us)) (passing_picks action (structure_of t))
+    picked
     (focused-keeps p action s start at_hand within t passed.is_focused).within passed.passes
 
 few-choices : (p : ProgramForm) (action : ActionForm) (s : StructureForm) (start at_hand : List StructureForm)

@@ -90,10 +90,11 @@ step-said p valid mode edge s action start is coerces (Ok out) results values ca
           (λ t here. result-settled p valid mode edge s out.results are t here
           (All-contains IsStructure out.results t results.kept here));
       heaps = λ taken there old new start_is step. any_heap p new out.results
-          (result-heap p valid mode edge taken there s out.results are old new start_is.start step start_is.embeds);
+          (result-heap p valid mode edge taken there s out.results are old new start_is.start step
+          start_is.embeds);
       truths = λ number m of h start_is true_there.
-          message-heap p valid edge s out.messages told of.0 of.1 number m of.2 h start_is.start start_is.embeds
-          true_there;
+          message-heap p valid edge s out.messages told of.0 of.1 number m of.2 h start_is.start
+          start_is.embeds true_there;
       budgets = budgets-kept p edge s action start results.at_hand is coerces results.within_focus
           results.within_updates;
       cause = tt;

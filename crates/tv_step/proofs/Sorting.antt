@@ -20,7 +20,8 @@ same-unmarked : (s t : StructureForm) → s.fresh ≡ None → t.fresh ≡ None
 same-unmarked s t no_mark none equal =
     let as_it_is : (u : StructureForm) → u.fresh ≡ None → u ≡ unmarked u
     = λ u is. ap (λ fresh. record u { fresh = fresh }) is
-    in as_it_is t none ∙ sym (structure_cmp-Equal s t ((Equal-is (structure_cmp s t)).0 equal)) ∙ sym (as_it_is s no_mark)
+    in as_it_is t none ∙ sym (structure_cmp-Equal s t ((Equal-is (structure_cmp s t)).0 equal))
+    ∙ sym (as_it_is s no_mark)
 
 pub sorted-members : (xs ys zs : List StructureForm) → IsPermutation xs ys
     → IsFiltered (DiffersFromLast (eq_by_cmp structure_cmp)) [] ys zs → All (λ s. s.fresh ≡ None) xs

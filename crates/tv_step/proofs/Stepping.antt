@@ -27,9 +27,11 @@ use Rattle.tv_step.proofs.Turns.{at, focus-shaped, focused-are}
 
 -- ---- what an action has
 
-all-back : {X Y : Type 0} (P : Y → Type 0) (f : X → Y) (xs : List X) → All P (map f xs) → All (λ x. P (f x)) xs
+all-back : {X Y : Type 0} (P : Y → Type 0) (f : X → Y) (xs : List X) → All P (map f xs)
+    → All (λ x. P (f x)) xs
 all-back P f xs all =
-    All-from_contains (λ x. P (f x)) xs (λ x here. All-contains P (map f xs) (f x) all (Contains-map f x xs here))
+    All-from_contains (λ x. P (f x)) xs
+    (λ x here. All-contains P (map f xs) (f x) all (Contains-map f x xs here))
 
 -- the places that are listed are those of the formulas
 pub listed-are : (listed items : List Place) (formulas own : List Formula) → listed ≡ items
@@ -39,7 +41,8 @@ listed-are listed items formulas own same are is =
     ap (map place_of) same ∙ are ∙ ap (λ fs. focus_places (map form_of fs)) is
 
 -- the places of the atoms of formulas over the program
-all-places : (p : ProgramForm) (fs : List Form) → All (IsPlainFormula p) fs → All (IsPlace p) (focus_places fs)
+all-places : (p : ProgramForm) (fs : List Form) → All (IsPlainFormula p) fs
+    → All (IsPlace p) (focus_places fs)
 all-places p fs all =
     All-from_contains (IsPlace p) (focus_places fs)
     (λ place here. let found = Contains-flat_map_back places_in fs place here
@@ -118,7 +121,8 @@ results-of p mode action start at_hand given results focused are limits same sor
   at_hand = at_hand;
   are_focused = focused-are p (focus_places action.focus) start at_hand focused;
   given = given;
-  are_given = from-weaker (StepsIn p mode action) (Steps p mode action) (λ s own both. both.0) at_hand given are;
+  are_given = from-weaker (StepsIn p mode action) (Steps p mode action) (λ s own both. both.0) at_hand given
+      are;
   same = same;
   sorted = sorted;
   kept = All-from_contains IsStructure results

@@ -39,7 +39,8 @@ pub fn places<'a>(alloc: Global, formulas: &'a [Formula]) -> Result<Vec<Place<'a
 }
 
 fn push_places<'a>(formula: &'a Formula, places: &mut Vec<Place<'a>>) -> Result<(), AllocError>
-    ensures { OnOk result (map place_of places.new.items ≡ map place_of places.old.items ++ places_in (form_of formula.now)) }
+    ensures { OnOk result (map place_of places.new.items
+        ≡ map place_of places.old.items ++ places_in (form_of formula.now)) }
 {
     for atom in 0..atom_count(formula) {
         places.push(Place { formula, atom })?;

@@ -48,7 +48,8 @@ pub fn values_of(
     requires messages { All (λ m. IsMessage (form_in x.now) (message_of m)) messages.now }
     requires room { All (λ m. HasRoomFor (form_in x.now) (form_of m.cond)) messages.now }
     requires shaped { All (IsShaped (form_in x.now)) at_hand.now }
-    ensures values { IfOk result (λ values. values ≡ map (message_value at_hand.now) (map message_of messages.now)) }
+    ensures values { IfOk result
+        (λ values. values ≡ map (message_value at_hand.now) (map message_of messages.now)) }
     ensures scratch { scratch.new ≡ scratch.old }
 {
     let mut values = Items::new(x.alloc);

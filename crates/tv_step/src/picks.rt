@@ -68,8 +68,10 @@ fn push_given(
     requires picks { ArePicked c.now picks.now }
     ensures out { OnOk result (Adds (PickGives (case_program c.now) (case_mode c.now) (case_action c.now)
         (case_structure c.now)) (assignment_of picks.now) out.old out.new) }
-    ensures within { OnOk result (PickKeepsLimits (case_action c.now) (case_structure c.now) (assignment_of picks.now)) }
-    ensures cause { IfErr result (IsCauseOfPick (case_action c.now) (case_structure c.now) (assignment_of picks.now)) }
+    ensures within { OnOk result
+        (PickKeepsLimits (case_action c.now) (case_structure c.now) (assignment_of picks.now)) }
+    ensures cause { IfErr result
+        (IsCauseOfPick (case_action c.now) (case_structure c.now) (assignment_of picks.now)) }
     ensures scratch { scratch.new ≡ scratch.old }
 {
     if !is_passed(c, picks, scratch) {
@@ -103,10 +105,10 @@ fn push_picked(
     requires picks { ArePickedBut c.now (picks_of left.now) picks }
     ensures out { OnOk result (Adds (PicksGive (case_program c.now) (case_mode c.now) (case_action c.now)
         (case_structure c.now) (picks_of left.now)) (assignment_of picks) out.old out.new) }
-    ensures within { OnOk result (PicksKeepLimits (case_action c.now) (case_structure c.now) (picks_of left.now)
-        (assignment_of picks)) }
-    ensures cause { IfErr result (IsCauseOfPicks (case_action c.now) (case_structure c.now) (picks_of left.now)
-        (assignment_of picks)) }
+    ensures within { OnOk result (PicksKeepLimits (case_action c.now) (case_structure c.now)
+        (picks_of left.now) (assignment_of picks)) }
+    ensures cause { IfErr result (IsCauseOfPicks (case_action c.now) (case_structure c.now)
+        (picks_of left.now) (assignment_of picks)) }
     ensures scratch { scratch.new ≡ scratch.old }
 {
     match left {
@@ -131,10 +133,10 @@ fn push_each(
     requires picks { ArePickedBut c.now (v.0 ∷ picks_of left.now) picks }
     ensures out { OnOk result (Adds (PicksGive (case_program c.now) (case_mode c.now) (case_action c.now)
         (case_structure c.now) (v.0 ∷ picks_of left.now)) (assignment_of picks) out.old out.new) }
-    ensures within { OnOk result (PicksKeepLimits (case_action c.now) (case_structure c.now) (v.0 ∷ picks_of left.now)
-        (assignment_of picks)) }
-    ensures cause { IfErr result (IsCauseOfPicks (case_action c.now) (case_structure c.now) (v.0 ∷ picks_of left.now)
-        (assignment_of picks)) }
+    ensures within { OnOk result (PicksKeepLimits (case_action c.now) (case_structure c.now)
+        (v.0 ∷ picks_of left.now) (assignment_of picks)) }
+    ensures cause { IfErr result (IsCauseOfPicks (case_action c.now) (case_structure c.now)
+        (v.0 ∷ picks_of left.now) (assignment_of picks)) }
     ensures scratch { scratch.new ≡ scratch.old }
 {
     for u in 0..c.from.size() {

@@ -47,7 +47,8 @@ fn given<'a>(
     requires ready { IsReady x.now scratch.old }
     requires job { IsJobOf (form_in x.now) job.now }
     requires shaped { All (IsShaped (form_in x.now)) at_hand.now }
-    ensures out { IfOk result (AreFrom (StepsIn (form_in x.now) job.now.mode (action_in job.now)) at_hand.now) }
+    ensures out { IfOk result
+        (AreFrom (StepsIn (form_in x.now) job.now.mode (action_in job.now)) at_hand.now) }
     ensures within { OnOk result (All (KeepsUpdateLimits (action_in job.now)) at_hand.now) }
     ensures cause { IfErr result (IsCauseOfUpdates (action_in job.now) at_hand.now) }
     ensures scratch { scratch.new ≡ scratch.old }
@@ -91,7 +92,8 @@ fn step_from(
     requires ready { IsReady x.now scratch.old }
     requires job { IsJobOf (form_in x.now) job.now }
     requires shaped { All (IsShaped (form_in x.now)) start }
-    ensures results { IfOk result (λ out. AreResultsOf (form_in x.now) job.now.mode (action_in job.now) start out.results) }
+    ensures results { IfOk result
+        (λ out. AreResultsOf (form_in x.now) job.now.mode (action_in job.now) start out.results) }
     ensures values { IfOk result (λ out. AreValuesOf (form_in x.now) (action_in job.now) start out.messages) }
     ensures cause { IfErr result (IsCauseOfStep (form_in x.now) (action_in job.now) start) }
     ensures scratch { scratch.new ≡ scratch.old }

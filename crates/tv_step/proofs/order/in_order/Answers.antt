@@ -10,7 +10,8 @@ returns-clause-same c =
     let xs = c.args.structures
     in subst (λ zs. (t : StructureForm) → Contains zs t ↔ Contains xs t) (sym c.from_vec.ensures)
     (sorted-members xs c.sort.new.self.items c.dedup.new.self.items
-    (subst (λ ys. IsPermutation ys c.sort.new.self.items) c.into_vec-items.ensures c.in_ok-sort.ensures.permutation)
+    (subst (λ ys. IsPermutation ys c.sort.new.self.items) c.into_vec-items.ensures
+    c.in_ok-sort.ensures.permutation)
     c.dedup.ensures.filtered c.requires.unmarked)
 
 pub returns-clause-order : goal.returns-clause-order

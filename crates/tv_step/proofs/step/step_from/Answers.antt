@@ -96,6 +96,7 @@ returns-clause-values c =
       are_focused = focused-are p (focus_places action.focus) c.args.start at_hand
           (subst (λ turns. AreFocusedWithin p turns c.args.start at_hand) places c.in_ok-at_hand.ensures.out);
       are = c.in_ok-messages.ensures.values
-          ∙ ap (λ ss. map (message_value ss) (map message_of c.as_slice-conditions.result.now)) c.as_slice-3.ensures
+          ∙ ap (λ ss. map (message_value ss) (map message_of c.as_slice-conditions.result.now))
+          c.as_slice-3.ensures
           ∙ ap (λ ms. map (message_value at_hand) (map message_of ms)) c.as_slice-conditions.ensures;
     }
