@@ -4,6 +4,9 @@ mod Budgeted
 mod Coercing
 mod Evaluating
 mod Finishing
+mod FocusStays
+mod LeftAlone
+mod Noting
 mod Picking
 mod Said
 mod Shapes

@@ -1,8 +1,8 @@
 -- The step, from its parts.
-use Rattle.std.proofs.Common.{ℕ, ◌≡◌, ◌∙◌, ◌↔◌, List, [], ◌∷◌, map, None, sym, ap, subst, slice_get, Some, All, Contains}
+use Rattle.std.proofs.Common.{ℕ, ◌≡◌, ◌∙◌, ◌↔◌, List, [], ◌∷◌, map, None, inl, inr, sym, ap, subst, slice_get, Some, All, Contains}
 use Rattle.std.specs.List.{range_with_len}
 use Rattle.std.specs.List.Sorted.{IsStrictlySortedBy}
-use Rattle.std.proofs.lemmas.List.Elements.{All-contains}
+use Rattle.std.proofs.lemmas.List.Elements.{All-cons, All-contains, All-nil}
 use Rattle.tv_model.specs.declared.formula.Formula.{Formula}
 use Rattle.tv_model.specs.declared.program.Message.{Message}
 use Rattle.tv_model.specs.declared.program.Mode.{Mode}
@@ -16,10 +16,11 @@ use Rattle.tv_struct.specs.StructureForm.{StructureForm, IsStructure}
 use Rattle.tv_struct.proofs.Library.{below-range}
 use Rattle.tv_transfer.specs.Parts.{AreFrom}
 use Rattle.tv_transfer.specs.Shaped.{IsShaped}
-use Rattle.tv_transfer.specs.Transfer.{FocusPlace, places_in, focus_places, Finishes, Steps, IsBlurOf}
+use Rattle.tv_transfer.specs.Transfer.{FocusPlace, places_in, focus_places, Coerces, Focuses, Finishes, Steps, IsBlurOf}
 use Rattle.tv_transfer.proofs.From.{from-all, zip-all}
 use Rattle.tv_step.specs.declared.focus.Place.{Place}
 use Rattle.tv_step.specs.Places.{place_of}
+use Rattle.tv_step.specs.Setting.{IsStableIn}
 use Rattle.tv_step.specs.Steps.{HasRoomFor, IsPlace, StepsIn, AreFocusedWithin, KeepsUpdateLimits, AreResultsOf}
 use Rattle.tv_step.proofs.Adding.{each-unit, from-weaker}
 use Rattle.tv_step.proofs.Picking.{action-of}
@@ -79,12 +80,34 @@ action-room p n action there messages are =
 
 -- ---- the structures on the way
 
+pub coerces-stable : (p : ProgramForm) (s : StructureForm) (ts : List StructureForm) → Coerces p s ts
+    → All (IsStableIn p) ts
+coerces-stable p s ts (inl (none, is)) = subst (All (IsStableIn p)) (sym is) (All-nil (IsStableIn p))
+coerces-stable p s ts (inr (t, coerced, is)) =
+    subst (All (IsStableIn p)) (sym is)
+    (All-cons (IsStableIn p) t [] coerced.greatest.stable (All-nil (IsStableIn p)))
+
 pub within-shaped : (p : ProgramForm) (places : List FocusPlace) (ss ts : List StructureForm)
     → AreFocusedWithin p places ss ts
     → All (IsShaped p) ss → All (IsShaped p) ts
 within-shaped p [] ss ts are shaped = subst (All (IsShaped p)) (sym are) shaped
 within-shaped p (place ∷ places) ss ts (us, made, kept, later) shaped =
     within-shaped p places us ts later (focus-shaped p place ss us made)
+
+pub focus-stable : (p : ProgramForm) (place : FocusPlace) (ss ts : List StructureForm)
+    → AreFrom (Focuses p place) ss ts → All (IsStableIn p) ts
+focus-stable p place ss ts from =
+    from-all (Focuses p place) (λ s. Unit {0}) (IsStableIn p)
+    (λ s own nothing (us, zip, made). from-all (Coerces p) (λ u. Unit {0}) (IsStableIn p)
+    (λ u parts none coerces. coerces-stable p u parts coerces) us own made (each-unit us)) ss ts from
+    (each-unit ss)
+
+pub within-stable : (p : ProgramForm) (places : List FocusPlace) (ss ts : List StructureForm)
+    → AreFocusedWithin p places ss ts
+    → All (IsStableIn p) ss → All (IsStableIn p) ts
+within-stable p [] ss ts are stable = subst (All (IsStableIn p)) (sym are) stable
+within-stable p (place ∷ places) ss ts (us, made, kept, later) stable =
+    within-stable p places us ts later (focus-stable p place ss us made)
 
 steps-unmarked : (p : ProgramForm) (mode : Mode) (action : ActionForm) (s : StructureForm)
     (ts : List StructureForm)

@@ -3,3 +3,4 @@ pub mod Places
 pub mod Setting
 pub mod Starts
 pub mod Steps
+pub mod Waiting

@@ -8,13 +8,17 @@ ghost use Rattle.tv_model.specs.Valid.{IsFormula};
 ghost use Rattle.tv_transfer.specs.Parts.{AreFrom};
 ghost use Rattle.tv_transfer.specs.Shaped.{IsShaped};
 ghost use Rattle.tv_transfer.specs.Transfer.{Focuses, focus_places, places_in};
+ghost use Rattle.tv_rules.specs.EntryForms.{rules_of};
+ghost use Rattle.tv_step.specs.Waiting.{WaitsAt};
 ghost use Rattle.tv_step.specs.Places.{place_of};
-ghost use Rattle.tv_step.specs.Setting.{form_in, IsReady};
+ghost use Rattle.tv_step.specs.Setting.{form_in, IsReady, IsStableIn};
 ghost use Rattle.tv_step.specs.Steps.{Adds, IsPlace, KeepsLimits, IsFocusCause, AreFocusedWithin, IsCauseOfFocus};
 
 use crate::coerced::push_all_coerced;
 use crate::setting::Setting;
+use crate::waiting::waiting_at;
 use std::alloc::{AllocError, Global};
+use tv_coerce::RuleSet;
 use tv_eval::Scratch;
 use tv_focus::{atom_count, focus_stage};
 use tv_model::Formula;
@@ -48,10 +52,12 @@ fn push_places<'a>(formula: &'a Formula, places: &mut Vec<Place<'a>>) -> Result<
     Ok(())
 }
 
-/// Puts what focus on the atom makes of `s` behind the others: its choices, each coerced or dropped.
+/// Puts what focus on the atom makes of the stable `s` behind the others: its choices, each coerced or
+/// dropped.
 fn push_focused(
     x: &Setting,
     place: &Place<'_>,
+    waiting: &RuleSet,
     s: &Structure,
     scratch: &mut Scratch,
     out: &mut Structures,
@@ -59,6 +65,9 @@ fn push_focused(
     requires ready { IsReady x.now scratch.old }
     requires place { IsPlace (form_in x.now) (place_of place.now) }
     requires shaped { IsShaped (form_in x.now) s.now }
+    requires stable { IsStableIn (form_in x.now) s.now }
+    requires waits { WaitsAt (length x.now.program.now.vocab.preds) (place_of place.now).formula
+        (rules_of x.now.closed.now) waiting.now }
     ensures out { OnOk result (Adds (Focuses (form_in x.now) (place_of place.now)) s.now out.old out.new) }
     ensures within { OnOk result (IsWithinLimits s.now (place_of place.now).formula place.now.atom) }
     ensures cause { IfErr result (IsFocusCause (place_of place.now) (s.now ∷ [])) }
@@ -66,7 +75,7 @@ fn push_focused(
 {
     let vocab = &x.program.vocab;
     let choices = focus_stage(x.alloc, vocab, place.formula, place.atom, s)?;
-    push_all_coerced(x, choices.as_slice(), scratch, out)?;
+    push_all_coerced(x, waiting, choices.as_slice(), scratch, out)?;
     Ok(())
 }
 
@@ -80,14 +89,16 @@ fn focus_all(
     requires ready { IsReady x.now scratch.old }
     requires place { IsPlace (form_in x.now) (place_of place.now) }
     requires shaped { All (IsShaped (form_in x.now)) at_hand.now }
+    requires stable { All (IsStableIn (form_in x.now)) at_hand.now }
     ensures out { IfOk result (AreFrom (Focuses (form_in x.now) (place_of place.now)) at_hand.now) }
     ensures within { OnOk result (KeepsLimits (place_of place.now) at_hand.now) }
     ensures cause { IfErr result (IsFocusCause (place_of place.now) at_hand.now) }
     ensures scratch { scratch.new ≡ scratch.old }
 {
+    let waiting = waiting_at(x, place.formula)?;
     let mut out = Structures::new(x.alloc);
     for s in at_hand {
-        push_focused(x, place, s, scratch, &mut out)?;
+        push_focused(x, place, &waiting, s, scratch, &mut out)?;
     }
     Ok(out)
 }
@@ -102,6 +113,7 @@ pub fn focused(
     requires ready { IsReady x.now scratch.old }
     requires places { All (λ place. IsPlace (form_in x.now) (place_of place)) places.now }
     requires shaped { All (IsShaped (form_in x.now)) start }
+    requires stable { All (IsStableIn (form_in x.now)) start }
     ensures out { IfOk result (AreFocusedWithin (form_in x.now) (map place_of places.now) start) }
     ensures cause { IfErr result (IsCauseOfFocus (form_in x.now) (map place_of places.now) start) }
     ensures scratch { scratch.new ≡ scratch.old }

@@ -11,6 +11,7 @@ mod order;
 mod picks;
 mod setting;
 mod step;
+mod waiting;
 
 pub use messages::Values;
 pub use opened::opening;

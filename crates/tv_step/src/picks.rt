@@ -11,6 +11,7 @@ ghost use Rattle.tv_step.specs.Steps.{Adds, passes, PickGives, PicksGive, PickKe
 
 use crate::finish::push_all_finished;
 use crate::setting::{Job, Setting};
+use tv_coerce::RuleSet;
 use tv_eval::{Assignment, Scratch, eval};
 use tv_kleene::K3;
 use tv_model::Var;
@@ -20,11 +21,12 @@ use tv_update::update;
 /// The most lists of individuals that an action may pick in one structure.
 const MAX_PICKS: u32 = 4096;
 
-/// An action that is applied to a structure at hand.
+/// An action that is applied to a stable structure at hand, and the rules that it may leave unmet.
 #[derive(Clone, Copy)]
 pub struct Case<'a> {
     pub setting: &'a Setting<'a>,
     pub job: &'a Job<'a>,
+    pub waiting: &'a RuleSet,
     pub from: &'a Structure,
 }
 
@@ -87,7 +89,7 @@ fn push_given(
         picks,
         scratch,
     )?;
-    push_all_finished(x, given.as_slice(), scratch, out)?;
+    push_all_finished(x, c.waiting, given.as_slice(), scratch, out)?;
     Ok(())
 }
 

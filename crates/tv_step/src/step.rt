@@ -15,7 +15,8 @@ ghost use Rattle.tv_transfer.specs.Shaped.{IsShaped};
 ghost use Rattle.tv_transfer.specs.Sound.{KeepsNewHeaps, TellsMessages};
 ghost use Rattle.tv_transfer.specs.Transfer.{AreResults, AreMessageValues, IsActionOf};
 ghost use Rattle.tv_step.specs.Job.{action_in, IsJobOf};
-ghost use Rattle.tv_step.specs.Setting.{form_in, IsReady};
+ghost use Rattle.tv_step.specs.Setting.{form_in, IsReady, IsStableIn};
+ghost use Rattle.tv_step.specs.Waiting.{WaitsFor};
 ghost use Rattle.tv_step.specs.Steps.{AreResultsOf, AreValuesOf, IsCauseOfStep, IsCauseOfUpdates, KeepsUpdateLimits, StepsIn};
 
 use crate::coerced::push_coerced;
@@ -24,7 +25,9 @@ use crate::messages::{Values, values_of};
 use crate::order::in_order;
 use crate::picks::{Case, push_steps};
 use crate::setting::{Job, Setting};
+use crate::waiting::waiting_after;
 use std::alloc::Global;
+use tv_coerce::RuleSet;
 use tv_eval::Scratch;
 use tv_model::{Mode, Program};
 use tv_rules::Closed;
@@ -41,12 +44,15 @@ pub struct StepOut {
 fn given<'a>(
     x: &'a Setting<'a>,
     job: &'a Job<'a>,
+    waiting: &'a RuleSet,
     at_hand: &'a [Structure],
     scratch: &mut Scratch,
 ) -> Result<Structures, StageError>
     requires ready { IsReady x.now scratch.old }
     requires job { IsJobOf (form_in x.now) job.now }
+    requires waits { WaitsFor (form_in x.now) (action_in job.now) (rules_of x.now.closed.now) waiting.now }
     requires shaped { All (IsShaped (form_in x.now)) at_hand.now }
+    requires stable { All (IsStableIn (form_in x.now)) at_hand.now }
     ensures out { IfOk result
         (AreFrom (StepsIn (form_in x.now) job.now.mode (action_in job.now)) at_hand.now) }
     ensures within { OnOk result (All (KeepsUpdateLimits (action_in job.now)) at_hand.now) }
@@ -59,6 +65,7 @@ fn given<'a>(
         let case = Case {
             setting: x,
             job,
+            waiting,
             from,
         };
         push_steps(&case, scratch, &mut out)?;
@@ -92,6 +99,7 @@ fn step_from(
     requires ready { IsReady x.now scratch.old }
     requires job { IsJobOf (form_in x.now) job.now }
     requires shaped { All (IsShaped (form_in x.now)) start }
+    requires stable { All (IsStableIn (form_in x.now)) start }
     ensures results { IfOk result
         (λ out. AreResultsOf (form_in x.now) job.now.mode (action_in job.now) start out.results) }
     ensures values { IfOk result (λ out. AreValuesOf (form_in x.now) (action_in job.now) start out.messages) }
@@ -102,7 +110,8 @@ fn step_from(
     let at_hand = focused(x, turns.as_slice(), start, scratch)?;
     let conditions = job.action.messages.as_slice();
     let messages = values_of(x, conditions, at_hand.as_slice(), scratch)?;
-    let given = given(x, job, at_hand.as_slice(), scratch)?;
+    let waiting = waiting_after(x, job.action)?;
+    let given = given(x, job, &waiting, at_hand.as_slice(), scratch)?;
     let results = in_order(given)?;
     Ok(StepOut { results, messages })
 }
@@ -141,7 +150,8 @@ pub fn abstract_step(
     let job = job_at(program, edge, mode);
     let mut start = Structures::new(alloc);
     let _ = s.size();
-    push_coerced(&x, s, scratch, &mut start)?;
+    let all = RuleSet::of_all(alloc, closed)?;
+    push_coerced(&x, &all, s, scratch, &mut start)?;
     step_from(&x, &job, start, scratch)
 }
 

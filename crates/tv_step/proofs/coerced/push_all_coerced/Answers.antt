@@ -1,7 +1,16 @@
+use Rattle.std.proofs.lemmas.List.Elements.{All-contains}
+use Rattle.tv_coerce.specs.RuleSets.{IsStableBut}
+use Rattle.tv_rules.specs.EntryForms.{rules_of}
 use Rattle.tv_transfer.specs.Transfer.{Coerces}
 use Rattle.tv_step.specs.Setting.{form_in}
-use Rattle.tv_step.proofs.Adding.{adds-next}
+use Rattle.tv_step.proofs.Adding.{adds-next, item-there}
 use Rattle.tv_step.proofs.coerced.push_all_coerced.Goals as goal
+
+pub push_coerced-requires-clause-rest : goal.push_coerced-requires-clause-rest
+push_coerced-requires-clause-rest c =
+    All-contains (IsStableBut (rules_of c.args.x.now.closed.now) c.args.waiting.now) c.args.structures.now
+    c.s-item.result c.requires.rest
+    (item-there c.args.structures.now c.loop-s.s-index c.s-item.result c.loop-s-test.true c.s-item.is)
 
 pub loop-s-preserved : goal.loop-s-preserved
 loop-s-preserved c = record {

@@ -6,16 +6,17 @@ use Rattle.tv_step.proofs.Adding.{nothing-added}
 use Rattle.tv_step.proofs.Coercing.{can-coerce, none-coerces, push-adds, some-coerces}
 use Rattle.tv_step.proofs.coerced.push_coerced.Goals as goal
 
-pub coerce-requires : goal.coerce-requires
-coerce-requires c =
+pub coerce_waiting-requires-clause-ready : goal.coerce_waiting-requires-clause-ready
+coerce_waiting-requires-clause-ready c =
     can-coerce c.args.x.now c.args.s.now c.args.scratch.now c.requires.ready c.requires.shaped
     c.size.ensures.kept
 
 pub returns-in-None-clause-out : goal.returns-in-None-clause-out
 returns-in-None-clause-out c = (
   [],
-  none-coerces (form_in c.args.x.now) (rules_of c.args.x.now.closed.now) c.args.s.now c.in_ok-coerce.field-0
-      c.requires.ready.rules c.in_ok-coerce.ensures.exact c.in-None.is,
+  none-coerces (form_in c.args.x.now) (rules_of c.args.x.now.closed.now) c.args.s.now
+      c.in_ok-coerce_waiting.field-0
+      c.requires.ready.rules c.in_ok-coerce_waiting.ensures.exact c.in-None.is,
   nothing-added c.args.out.now,
 )
 
@@ -24,5 +25,5 @@ returns-in-Some-clause-out c =
     push-adds (Coerces (form_in c.args.x.now)) c.args.s.now c.push.result c.args.out.now c.push.new.self
     c.in-Some.t
     (some-coerces (form_in c.args.x.now)
-    (rules_of c.args.x.now.closed.now) c.args.s.now c.in_ok-coerce.field-0 c.in-Some.t
-    c.requires.ready.rules c.requires.shaped c.in_ok-coerce.ensures.exact c.in-Some.is) c.push.ensures
+    (rules_of c.args.x.now.closed.now) c.args.s.now c.in_ok-coerce_waiting.field-0 c.in-Some.t
+    c.requires.ready.rules c.requires.shaped c.in_ok-coerce_waiting.ensures.exact c.in-Some.is) c.push.ensures

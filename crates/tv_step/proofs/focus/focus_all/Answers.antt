@@ -1,20 +1,33 @@
-use Rattle.std.proofs.Common.{[], subst}
-use Rattle.std.proofs.lemmas.List.{take_all}
+use Rattle.std.proofs.Common.{[], ◌≤◌, subst}
+use Rattle.std.proofs.lemmas.List.{length-map, take_all}
+use Rattle.std.proofs.lemmas.List.Elements.{All-contains}
+use Rattle.tv_model.specs.Program.{pred_of}
 use Rattle.tv_focus.specs.Stage.{IsWithinLimits}
 use Rattle.tv_transfer.specs.Transfer.{Focuses}
 use Rattle.tv_step.specs.Places.{place_of}
-use Rattle.tv_step.specs.Setting.{form_in}
+use Rattle.tv_step.specs.Setting.{form_in, IsStableIn}
 use Rattle.tv_step.specs.Steps.{IsFocusCause, KeepsLimits}
 use Rattle.tv_step.proofs.Adding.{adds-next, all-next, handed-on, item-there}
 use Rattle.tv_step.proofs.Turns.{cause-in}
 use Rattle.tv_step.proofs.focus.focus_all.Goals as goal
 
+pub waiting_at-requires : goal.waiting_at-requires
+waiting_at-requires c =
+    subst (λ n. n ≤ 512) (length-map c.args.x.now.program.now.vocab.preds pred_of)
+    c.requires.ready.valid.pred_count
+
+pub push_focused-requires-clause-stable : goal.push_focused-requires-clause-stable
+push_focused-requires-clause-stable c =
+    All-contains (IsStableIn (form_in c.args.x.now)) c.args.at_hand.now c.s-item.result c.requires.stable
+    (item-there c.args.at_hand.now c.loop-s.s-index c.s-item.result c.loop-s-test.true c.s-item.is)
+
 pub returns-in_err-push_focused-clause-cause : goal.returns-in_err-push_focused-clause-cause
 returns-in_err-push_focused-clause-cause c =
     let place = place_of c.args.place.now
     in handed-on
-    (IsFocusCause place c.args.at_hand.now) c.from_residual.result c.in_err-push_focused.field-0.0
-    c.from_residual.ensures.1
+    (IsFocusCause place c.args.at_hand.now) c.from_residual-in_err-push_focused.result
+    c.in_err-push_focused.field-0.0
+    c.from_residual-in_err-push_focused.ensures.1
     (cause-in place c.args.at_hand.now c.s-item.result c.in_err-push_focused.field-0.0
     (item-there c.args.at_hand.now c.loop-s.s-index c.s-item.result c.loop-s-test.true c.s-item.is)
     c.in_err-push_focused.ensures.cause)

@@ -1,10 +1,11 @@
-use Rattle.std.proofs.Common.{map, take, subst}
+use Rattle.std.proofs.Common.{All, map, take, sym, subst}
 use Rattle.tv_transfer.specs.Parts.{AreFrom}
 use Rattle.tv_transfer.specs.Transfer.{Focuses}
 use Rattle.tv_step.specs.Places.{place_of}
-use Rattle.tv_step.specs.Setting.{form_in}
+use Rattle.tv_step.specs.Setting.{form_in, IsStableIn}
 use Rattle.tv_step.specs.Steps.{IsCauseOfFocus, IsFocusCause, KeepsLimits}
 use Rattle.tv_step.proofs.Adding.{handed-on}
+use Rattle.tv_step.proofs.Stepping.{focus-stable}
 use Rattle.tv_step.proofs.Turns.{focus-fails, focus-shaped, focused-next, places-next}
 use Rattle.tv_step.proofs.focus.focused.Goals as goal
 
@@ -19,6 +20,10 @@ returns-in_err-at_hand-clause-cause c =
     c.loop-place-test.true c.place-item.is c.loop-place.invariant.are
     (subst (λ ss. IsFocusCause (place_of c.place-item.result) ss e) c.as_slice.ensures
     c.in_err-at_hand.ensures.cause))
+
+pub focus_all-requires-clause-stable : goal.focus_all-requires-clause-stable
+focus_all-requires-clause-stable c =
+    subst (All (IsStableIn (form_in c.args.x.now))) (sym c.as_slice.ensures) c.loop-place.invariant.stable
 
 pub loop-place-preserved : goal.loop-place-preserved
 loop-place-preserved c =
@@ -35,5 +40,6 @@ loop-place-preserved c =
           (subst (λ ss. AreFrom (Focuses p place) ss new) c.as_slice.ensures c.in_ok-at_hand.ensures.out)
           (subst (KeepsLimits place) c.as_slice.ensures c.in_ok-at_hand.ensures.within));
       shaped = focus-shaped p place c.as_slice.result.now new c.in_ok-at_hand.ensures.out;
+      stable = focus-stable p place c.as_slice.result.now new c.in_ok-at_hand.ensures.out;
       scratch = cc;
     }

@@ -1,4 +1,7 @@
-use Rattle.std.proofs.Common.{All, sym, subst}
+use Rattle.std.proofs.Common.{◌∙◌, All, length, ap, sym, subst}
+use Rattle.std.proofs.lemmas.List.{length-map}
+use Rattle.tv_coerce.specs.RuleSets.{IsStableBut}
+use Rattle.tv_rules.specs.EntryForms.{rules_of}
 use Rattle.tv_model.specs.Form.{form_of}
 use Rattle.tv_step.specs.Places.{place_of}
 use Rattle.tv_step.specs.Setting.{form_in}
@@ -6,6 +9,7 @@ use Rattle.tv_step.specs.Steps.{Adds}
 use Rattle.tv_transfer.specs.Parts.{AreFrom}
 use Rattle.tv_transfer.specs.Shaped.{IsShaped}
 use Rattle.tv_transfer.specs.Transfer.{Coerces, choices_at}
+use Rattle.tv_step.proofs.FocusStays.{focus-rest}
 use Rattle.tv_step.proofs.Shapes.{shaped-over}
 use Rattle.tv_step.proofs.Turns.{atoms-fit, focus-adds, tables-of, tables-shaped}
 use Rattle.tv_step.proofs.focus.push_focused.Goals as goal
@@ -26,6 +30,22 @@ push_all_coerced-requires-clause-shaped c =
     in subst (All (IsShaped p)) (sym c.as_slice.ensures)
     (tables-shaped p choices ls
     (tables-of p c.args.s.now c.requires.shaped choices ls c.in_ok-choices.ensures.stage))
+
+pub push_all_coerced-requires-clause-rest : goal.push_all_coerced-requires-clause-rest
+push_all_coerced-requires-clause-rest c =
+    let x = c.args.x.now
+    in let p = form_in x
+    in let s = c.args.s.now
+    in let place = place_of c.args.place.now
+    in let choices = c.in_ok-choices.choices
+    in let rules = rules_of x.closed.now
+    in subst (All (IsStableBut rules c.args.waiting.now)) (sym c.as_slice.ensures)
+    (focus-rest p c.requires.ready.valid s place choices (length x.program.now.vocab.preds) rules
+    c.args.waiting.now c.requires.ready.rules c.requires.shaped c.requires.stable
+    (tables-of p s c.requires.shaped choices (choices_at s place) c.in_ok-choices.ensures.stage)
+    (atoms-fit p s place.formula c.requires.shaped c.requires.place.formula) c.requires.place.atom
+    (ap length (shaped-over x.program.now s c.requires.shaped)
+    ∙ length-map x.program.now.vocab.preds (λ pred. pred.arity)) c.requires.waits)
 
 pub returns-clause-out : goal.returns-clause-out
 returns-clause-out c =

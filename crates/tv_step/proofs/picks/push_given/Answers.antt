@@ -1,12 +1,15 @@
 use Rattle.std.proofs.Common.{◌∙◌, All, map, sym, subst}
 use Rattle.tv_eval.specs.AssignmentForm.{IsAssigned, assignment_of}
 use Rattle.tv_applied.specs.Choices.{AreGiven}
+use Rattle.tv_coerce.specs.RuleSets.{IsStableBut}
+use Rattle.tv_rules.specs.EntryForms.{rules_of}
 use Rattle.tv_struct.specs.StructureForm.{structure_of}
 use Rattle.tv_transfer.specs.Parts.{AreFrom}
 use Rattle.tv_update.specs.Update.{IsUpdateCause, IsWithinLimits}
 use Rattle.tv_step.specs.Job.{case_program, case_action, case_mode, case_structure}
 use Rattle.tv_step.specs.Steps.{Adds, Ends, IsCauseOfPick}
 use Rattle.tv_step.proofs.Adding.{handed-on}
+use Rattle.tv_step.proofs.LeftAlone.{given-rest}
 use Rattle.tv_step.proofs.Picking.{given-adds, given-shaped, pick-cause, same-action}
 use Rattle.tv_step.proofs.Shapes.{shaped-over}
 use Rattle.tv_step.proofs.picks.push_given.Goals as goal
@@ -33,6 +36,22 @@ returns-in_err-given-clause-cause c =
     in handed-on (IsCauseOfPick action s a) c.from_residual.result e c.from_residual.ensures.1
     (pick-cause action s a e (sym c.is_passed.ensures.value ∙ c.if-not-is_passed.false)
     (subst (λ act. IsUpdateCause act s a e) same c.in_err-given.ensures.cause))
+
+pub push_all_finished-requires-clause-rest : goal.push_all_finished-requires-clause-rest
+push_all_finished-requires-clause-rest c =
+    let p = case_program c.args.c.now
+    in let action = case_action c.args.c.now
+    in let s = case_structure c.args.c.now
+    in let a = assignment_of c.args.picks.now
+    in let given = c.in_ok-given.given
+    in let same = same-action c.args.c.now.setting.now.program.now c.args.c.now.job.now.number action
+    c.requires.case.job
+    in let rules = rules_of c.args.c.now.setting.now.closed.now
+    in subst (All (IsStableBut rules c.args.c.now.waiting.now)) (sym c.as_slice.ensures)
+    (given-rest p c.requires.case.ready.valid (case_mode c.args.c.now) action s a given rules
+    c.args.c.now.waiting.now c.requires.case.ready.rules c.requires.case.stable
+    (subst (λ act. AreGiven p (case_mode c.args.c.now) act (structure_of s) a (map structure_of given)) same
+    c.in_ok-given.ensures.given) c.requires.case.waits)
 
 pub returns-clause-within : goal.returns-clause-within
 returns-clause-within c = λ passed.

@@ -3,7 +3,7 @@ use Rattle.std.proofs.lemmas.List.{take_all}
 use Rattle.std.proofs.lemmas.List.Elements.{All-contains}
 use Rattle.tv_transfer.specs.Shaped.{IsShaped}
 use Rattle.tv_step.specs.Job.{action_in}
-use Rattle.tv_step.specs.Setting.{form_in, IsReady}
+use Rattle.tv_step.specs.Setting.{form_in, IsReady, IsStableIn}
 use Rattle.tv_step.specs.Steps.{IsCauseOfUpdates, KeepsUpdateLimits, StepsIn}
 use Rattle.tv_step.proofs.Adding.{adds-next, all-next, handed-on, item-there}
 use Rattle.tv_step.proofs.Picking.{updates-cause}
@@ -19,6 +19,11 @@ push_steps-requires c = record {
         (item-there c.args.at_hand.now c.loop-from.from-index c.from-item.result c.loop-from-test.true
         c.from-item.is);
     is = c.size.ensures.kept;
+    stable = All-contains
+        (IsStableIn (form_in c.args.x.now)) c.args.at_hand.now c.from-item.result c.requires.stable
+        (item-there c.args.at_hand.now c.loop-from.from-index c.from-item.result c.loop-from-test.true
+        c.from-item.is);
+    waits = c.requires.waits;
   };
 }
 

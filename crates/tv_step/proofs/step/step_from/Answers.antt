@@ -1,13 +1,14 @@
-use Rattle.std.proofs.Common.{◌∙◌, All, inr, map, ap, sym, subst}
-use Rattle.tv_model.specs.Program.{message_of}
+use Rattle.std.proofs.Common.{◌∙◌, ◌≤◌, All, inr, map, ap, sym, subst}
+use Rattle.std.proofs.lemmas.List.{length-map}
+use Rattle.tv_model.specs.Program.{message_of, pred_of}
 use Rattle.tv_step.specs.Job.{action_in}
-use Rattle.tv_step.specs.Setting.{form_in}
+use Rattle.tv_step.specs.Setting.{form_in, IsStableIn}
 use Rattle.tv_step.specs.Steps.{AreFocusedWithin, IsCauseOfStep, IsCauseOfUpdates, KeepsUpdateLimits, StepsIn}
 use Rattle.tv_transfer.specs.Parts.{AreFrom}
 use Rattle.tv_transfer.specs.Shaped.{IsShaped}
 use Rattle.tv_transfer.specs.Transfer.{focus_places, message_value}
 use Rattle.tv_step.proofs.Adding.{handed-on}
-use Rattle.tv_step.proofs.Stepping.{action-messages, action-places, action-room, given-unmarked, listed-are, results-of, within-shaped}
+use Rattle.tv_step.proofs.Stepping.{action-messages, action-places, action-room, given-unmarked, listed-are, results-of, within-shaped, within-stable}
 use Rattle.tv_step.proofs.Turns.{focused-are}
 use Rattle.tv_step.proofs.step.step_from.Goals as goal
 
@@ -42,6 +43,17 @@ given-requires-clause-shaped c =
     let p = form_in c.args.x.now
     in subst (All (IsShaped p)) (sym c.as_slice-4.ensures)
     (within-shaped p _ c.args.start c.in_ok-at_hand.at_hand c.in_ok-at_hand.ensures.out c.requires.shaped)
+
+pub given-requires-clause-stable : goal.given-requires-clause-stable
+given-requires-clause-stable c =
+    let p = form_in c.args.x.now
+    in subst (All (IsStableIn p)) (sym c.as_slice-4.ensures)
+    (within-stable p _ c.args.start c.in_ok-at_hand.at_hand c.in_ok-at_hand.ensures.out c.requires.stable)
+
+pub waiting_after-requires : goal.waiting_after-requires
+waiting_after-requires c =
+    subst (λ n. n ≤ 512) (length-map c.args.x.now.program.now.vocab.preds pred_of)
+    c.requires.ready.valid.pred_count
 
 pub returns-in_err-given-clause-cause : goal.returns-in_err-given-clause-cause
 returns-in_err-given-clause-cause c =

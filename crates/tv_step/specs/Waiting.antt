@@ -1,0 +1,38 @@
+-- Which rules an action may leave unmet in a structure that was stable.
+use Rattle.std.specs.Prelude.{ℕ, ◌≡◌, ◌<◌, false, Bool, List, length, map, Some, Contains, slice_get}
+use Rattle.tv_model.specs.Form.{Form, Mentions}
+use Rattle.tv_model.specs.Program.{ProgramForm, RuleForm, ActionForm, KCore}
+use Rattle.tv_rules.specs.Standing.{StandsIn, SeesSummaries}
+use Rattle.tv_applied.specs.Applied.{kind_at}
+use Rattle.tv_coerce.specs.RuleSets.{IsIn}
+use Rattle.tv_update.specs.Plan.{moves_individuals}
+
+-- the action leaves the rule alone: no individual comes or goes, the rule doesn't see which are summaries,
+-- and each predicate that stands in it is core and isn't updated
+pub record IsLeftAlone (p : ProgramForm) (action : ActionForm) (rule : RuleForm) : Type 0 where
+  pub stays : moves_individuals action ≡ false
+  pub blind : ¬ SeesSummaries rule
+  pub core : (q : ℕ) → StandsIn q rule → kind_at p q ≡ KCore
+  pub kept : (q : ℕ) → StandsIn q rule → ¬ Contains (map (λ w. w.pred) action.updates) q
+
+-- each rule whose number isn't in the set is left alone
+pub record WaitsFor (p : ProgramForm) (action : ActionForm) (rules : List RuleForm) (set : List Bool)
+    : Type 0 where
+  pub count : length set ≡ length rules
+  pub alone : (n : ℕ) (rule : RuleForm) → slice_get rules n ≡ Some rule → ¬ IsIn set n
+      → IsLeftAlone p action rule
+
+-- the new set has the numbers of the old one and those of the rules in which a predicate of P stands
+pub record HasRulesOf (P : ℕ → Type 0) (rules : List RuleForm) (old new : List Bool) : Type 0 where
+  pub more : (n : ℕ) → IsIn old n → IsIn new n
+  pub standing : (n q : ℕ) (rule : RuleForm) → slice_get rules n ≡ Some rule → StandsIn q rule → P q
+      → IsIn new n
+  pub count : length new ≡ length old
+
+-- each rule whose number isn't in the set doesn't see which individuals are summaries, and is about none of
+-- the predicates below n that the formula mentions
+pub record WaitsAt (n : ℕ) (f : Form) (rules : List RuleForm) (set : List Bool) : Type 0 where
+  pub count : length set ≡ length rules
+  pub blind : (k : ℕ) (rule : RuleForm) → slice_get rules k ≡ Some rule → ¬ IsIn set k → ¬ SeesSummaries rule
+  pub apart : (k q : ℕ) (rule : RuleForm) → slice_get rules k ≡ Some rule → ¬ IsIn set k → q < n
+      → Mentions q f → ¬ StandsIn q rule
