@@ -1,0 +1,57 @@
+-- Why there is no answer, and what that says of the reached points.
+use Rattle.std.proofs.Common.{ℕ, Result, Ok, Err, IfErr, OnOk}
+use Rattle.tv_model.specs.Program.{ProgramForm}
+use Rattle.tv_struct.specs.declared.analysis.StageError.{StageError}
+use Rattle.tv_struct.specs.declared.analysis.StageError.TheVariants.{Splits as splits, Individuals as individuals, Memory as memory}
+use Rattle.tv_transfer.specs.Budgets.{IsStepCause}
+use Rattle.tv_work.specs.Analysed.{IsAtSource, IsWorkCause, IsMeetCause, work_error}
+use Rattle.tv_work.specs.Reach.{Point, AreMoreThan}
+use Rattle.tv_work.specs.declared.error.WorkError.{WorkError}
+use Rattle.tv_work.specs.declared.error.WorkError.TheVariants.{Structures, Splits, Individuals, Memory}
+
+-- what follows from three things that hold at Ok
+pub ok-three : {T E A B C D : Type 0} (r : Result T E) → (A → B → C → D) → OnOk r A → OnOk r B → OnOk r C
+    → OnOk r D
+ok-three (Ok x) f a b c = f a b c
+ok-three (Err e) f a b c = tt
+
+-- and from what holds at an error
+pub err-weaker : {T E : Type 0} (r : Result T E) (P Q : E → Type 0) → ((e : E) → P e → Q e) → IfErr r P
+    → IfErr r Q
+err-weaker (Ok x) P Q f h = tt
+err-weaker (Err e) P Q f h = f e h
+
+pub more-weaker : (max : ℕ) (P Q : Point → Type 0) → ((x : Point) → P x → Q x) → AreMoreThan max P
+    → AreMoreThan max Q
+more-weaker max P Q weaker are = record {
+  found = are.found;
+  different = are.different;
+  each = λ x h. weaker x (are.each x h);
+  more = are.more;
+}
+
+pub meet-weaker : (max : ℕ) (P Q : Point → Type 0) → ((x : Point) → P x → Q x) → (e : WorkError)
+    → IsMeetCause max P e
+    → IsMeetCause max Q e
+meet-weaker max P Q weaker Structures cause = more-weaker max P Q weaker cause
+meet-weaker max P Q weaker Splits cause = cause
+meet-weaker max P Q weaker Individuals cause = cause
+meet-weaker max P Q weaker Memory cause = tt
+
+-- structures are met that are reached
+pub meet-cause : (p : ProgramForm) (max : ℕ) (P Q : Point → Type 0) → ((x : Point) → P x → Q x)
+    → (e : WorkError)
+    → IsMeetCause max P e → IsWorkCause p max Q e
+meet-cause p max P Q weaker Structures cause = more-weaker max P Q weaker cause
+meet-cause p max P Q weaker Splits cause = absurd cause
+meet-cause p max P Q weaker Individuals cause = absurd cause
+meet-cause p max P Q weaker Memory cause = tt
+
+-- the step of a reached structure has no answer
+pub step-cause : (p : ProgramForm) (max edge : ℕ) (P : Point → Type 0) (x : Point) → IsAtSource p edge P x
+    → (fault : StageError) → IsStepCause p edge x.structure fault → IsWorkCause p max P (work_error fault)
+step-cause p max edge P x source splits cause
+    = record { edge = edge; at = x; source = source; budget = cause }
+step-cause p max edge P x source individuals cause
+    = record { edge = edge; at = x; source = source; budget = cause }
+step-cause p max edge P x source memory cause = tt

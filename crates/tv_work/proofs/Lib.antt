@@ -1,0 +1,11 @@
+pub mod Once
+pub mod Meeting
+pub mod Growing
+pub mod Leaves
+pub mod Larger
+pub mod Saying
+pub mod Lines
+pub mod Causes
+pub mod Advancing
+pub mod Exploring
+pub mod Sorting

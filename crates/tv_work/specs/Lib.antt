@@ -1,0 +1,7 @@
+pub mod Reach
+pub mod Analysed
+pub mod Task
+pub mod Leaving
+pub mod Search
+pub mod Told
+pub mod Explored

@@ -1,0 +1,13 @@
+//! The worklist: all that abstract steps reach from initial structures, listed by node.
+#![tactic(auto)]
+
+mod analysis;
+mod error;
+mod follow;
+mod leaving;
+mod search;
+mod task;
+mod told;
+
+pub use analysis::analyse;
+pub use error::WorkError;

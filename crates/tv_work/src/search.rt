@@ -1,0 +1,132 @@
+//! The worklist: what is listed so far, and what of it still waits to be followed.
+
+ghost use Rattle.std.specs.Prelude.{ℕ, ◌≡◌, ◌<◌, ◌≤◌, ◌⊎◌, [], ◌∷◌, ◌++◌, length, replicate, OnOk, OnErr, IfOk, IfErr, IfSome, IfNone, Contains, Some, None, All, Any, slice_get};
+ghost use Rattle.tv_listing.specs.ListingForm.{at_node};
+ghost use Rattle.tv_struct.specs.StructureForm.{StructureForm, IsStructure};
+ghost use Rattle.tv_work.specs.Reach.{Point, IsListed};
+ghost use Rattle.tv_work.specs.Search.{SearchForm, Grows, ListsOnly, IsOnce, IsWithin};
+ghost use Rattle.tv_work.specs.Analysed.{IsMeetCause};
+
+use crate::WorkError;
+use std::alloc::{AllocError, Global};
+use std::marker::Model;
+use tv_listing::Listing;
+use tv_struct::{Structure, Structures};
+
+/// A structure that waits to be followed, by its node and its place there.
+#[derive(Clone, Copy, Debug, PartialEq, Eq)]
+pub(crate) struct Waiting {
+    pub node: u32,
+    pub place: usize,
+}
+
+/// The structures that were met, and those of them that still wait to be followed, by their places.
+#[derive(Drop)]
+pub(crate) struct Search {
+    listing: Listing,
+    waiting: Vec<Waiting>,
+    count: u64,
+}
+
+impl Model for Search {
+    ghost use Rattle.tv_work.specs.Search.{SearchForm, IsSearch};
+
+    ghost Value = { SearchForm };
+
+    ghost view = { λ s. record { listing = s.listing; waiting = s.waiting.items; count = s.count } };
+
+    ghost invariant = { λ s.
+        IsSearch (record { listing = s.listing; waiting = s.waiting.items; count = s.count }) };
+}
+
+impl Search {
+    /// The search that has met nothing.
+    pub fn new(alloc: Global, nodes: u32) -> Result<Search, AllocError>
+        ensures { IfOk result (λ s. s ≡ record { listing = replicate nodes []; waiting = []; count = 0 }) }
+    {
+        Ok(Search {
+            listing: Listing::new(alloc, nodes)?,
+            waiting: Vec::new(alloc),
+            count: 0,
+        })
+    }
+
+    /// Meets a structure at a node: a new one is listed, and waits. `Structures` where more than `max` are
+    /// then listed.
+    pub fn meet(&mut self, node: u32, s: Structure, max: u64) -> Result<(), WorkError>
+        requires node { node < length self.old.listing }
+        requires within { IsWithin max self.old }
+        requires unmarked { s.fresh ≡ None }
+        ensures grows { OnOk result (Grows self.old self.new) }
+        ensures has { OnOk result (IsListed self.new.listing (record { node = node; structure = s })) }
+        ensures only { OnOk result (ListsOnly (λ x. x ≡ record { node = node; structure = s }) self.old
+            self.new) }
+        ensures within { OnOk result (IsWithin max self.new) }
+        ensures cause { IfErr result
+            (IsMeetCause max (λ x. IsListed self.old.listing x
+            ⊎ (x ≡ record { node = node; structure = s }))) }
+    {
+        if !self.listing.add(node, s)? {
+            return Ok(());
+        }
+        if self.count == max {
+            return Err(WorkError::Structures);
+        }
+        self.count += 1;
+        let place = self.listing.count(node) - 1;
+        self.waiting.push(Waiting { node, place })?;
+        Ok(())
+    }
+
+    /// Meets all these structures at the node.
+    pub fn meet_all(&mut self, node: u32, found: Structures, max: u64) -> Result<(), WorkError>
+        requires node { node < length self.old.listing }
+        requires within { IsWithin max self.old }
+        requires unmarked { All (λ s. s.fresh ≡ None) found }
+        ensures grows { OnOk result (Grows self.old self.new) }
+        ensures has { OnOk result ((s : StructureForm) → Contains found s
+            → IsListed self.new.listing (record { node = node; structure = s })) }
+        ensures only { OnOk result (ListsOnly (λ x. (x.node ≡ node) × Contains found x.structure) self.old
+            self.new) }
+        ensures within { OnOk result (IsWithin max self.new) }
+        ensures cause { IfErr result
+            (IsMeetCause max (λ x. IsListed self.old.listing x
+            ⊎ ((x.node ≡ node) × Contains found x.structure))) }
+    {
+        for s in found.into_vec() {
+            self.meet(node, s, max)?;
+        }
+        Ok(())
+    }
+
+    /// Takes out one that waits, if any does.
+    pub fn pop(&mut self) -> Option<Waiting>
+        ensures some { IfSome result (λ w. (w.place < length (at_node self.old.listing w.node))
+            × (self.old ≡ record {
+              listing = self.new.listing;
+              waiting = self.new.waiting ++ w ∷ [];
+              count
+                  = self.new.count;
+            })) }
+        ensures none { IfNone result ((self.new ≡ self.old) × (length self.old.waiting ≡ 0)) }
+    {
+        self.waiting.pop()
+    }
+
+    /// The structure that stands there.
+    pub fn at(&self, w: Waiting) -> &Structure
+        requires { w.place < length (at_node self.now.listing w.node) }
+        ensures value { slice_get (at_node self.now.listing w.node) w.place ≡ Some result.now }
+        ensures kept { IsStructure result.now }
+    {
+        self.listing.at(w.node, w.place)
+    }
+
+    /// What was listed.
+    pub fn into_listing(self) -> Listing
+        ensures listing { result ≡ self.listing }
+        ensures once { (node : ℕ) → IsOnce (at_node result node) }
+    {
+        self.listing
+    }
+}
