@@ -1,0 +1,6 @@
+use Rattle.std.proofs.Common.{◌≡◌, ◌++◌}
+use Rattle.tv_demo.specs.Texts.{walks_text}
+use Rattle.tv_demo.proofs.walks.write_walks.Given as goal
+
+abbrev pub invariant-loop-i : goal.invariant-loop-i
+invariant-loop-i l = l.out.items ≡ l.initial.out.items ++ walks_text l.i
