@@ -1,0 +1,16 @@
+use Rattle.std.proofs.Common.{◌≡◌}
+use Rattle.std.specs.Prelude.{decimal}
+use Rattle.tv_status.specs.Status.{too_many_text}
+use Rattle.tv_status.proofs.tell.write_too_many.Goals as goal
+
+pub returns-clause-all : goal.returns-clause-all
+unfolding too_many_text
+returns-clause-all g c =
+    let digits : c.as_bytes.result.now ≡ decimal c.args.max = cc in
+    rw (← digits) c.write_parts.ensures.all
+
+pub returns-clause-front : goal.returns-clause-front
+unfolding too_many_text
+returns-clause-front g c =
+    let digits : c.as_bytes.result.now ≡ decimal c.args.max = cc in
+    rw (← digits) c.write_parts.ensures.front

@@ -1,0 +1,165 @@
+-- How a call ends: its exit code, and the text that tells it.
+use Rattle.std.specs.Prelude.{ℕ, List, [], ◌∷◌, ◌++◌, Option, None, Some, codes, decimal}
+use Rattle.tv_expand.specs.declared.error.ExpandError.{ExpandError}
+use Rattle.tv_expand.specs.declared.error.ExpandError.TheVariants as expanding
+use Rattle.tv_front.specs.declared.fault.ProgramFault.{ProgramFault}
+use Rattle.tv_front.specs.declared.fault.ProgramFault.TheVariants as program
+use Rattle.tv_lex.specs.declared.gatherer.GatherError.{GatherError}
+use Rattle.tv_lex.specs.declared.gatherer.GatherError.TheVariants as gathering
+use Rattle.tv_lex.specs.declared.token.LexError.{LexError}
+use Rattle.tv_lex.specs.declared.token.LexError.TheVariants as lexing
+use Rattle.tv_lex.specs.declared.token.Place.{Place}
+use Rattle.tv_names.specs.declared.refusal.ResolveError.{ResolveError}
+use Rattle.tv_names.specs.declared.refusal.ResolveError.TheVariants as resolving
+use Rattle.tv_parse.specs.declared.error.ParseError.{ParseError}
+use Rattle.tv_parse.specs.declared.error.ParseError.TheVariants as parsing
+use Rattle.tv_tvs.specs.declared.error.TvsError.{TvsError}
+use Rattle.tv_tvs.specs.declared.error.TvsError.TheVariants as structures
+use Rattle.tv_status.specs.declared.status.FileKind.{FileKind}
+use Rattle.tv_status.specs.declared.status.FileKind.TheVariants as kind
+use Rattle.tv_status.specs.declared.status.Role.{Role}
+use Rattle.tv_status.specs.declared.status.Role.TheVariants as role
+use Rattle.tv_status.specs.declared.status.Status.{Status}
+use Rattle.tv_status.specs.declared.status.Status.TheVariants.{Done, Rejected, Usage, FileFault, Structures, TooManySplits, TooManyIndividuals, ReadFault, WriteFault, Memory}
+
+-- the exit code of the process
+abbrev pub code_of : Status → ℕ
+code_of Done = 0
+code_of (Rejected rejection) = 1
+code_of Usage = 2
+code_of (FileFault role kind) = 3
+code_of (Structures max) = 4
+code_of TooManySplits = 4
+code_of TooManyIndividuals = 4
+code_of ReadFault = 5
+code_of WriteFault = 6
+code_of Memory = 7
+
+abbrev pub role_name : Role → List ℕ
+role_name role.Program = codes "program"
+role_name role.Initial = codes "initial"
+role_name role.Report = codes "report"
+
+-- a kind of fault is told by its name
+abbrev pub gathering_name : GatherError → List ℕ
+gathering_name gathering.Failed = codes "Failed"
+gathering_name gathering.TooLong = codes "TooLong"
+gathering_name gathering.Unended = codes "Unended"
+gathering_name gathering.IncludeForm = codes "IncludeForm"
+gathering_name gathering.IncludeDepth = codes "IncludeDepth"
+gathering_name gathering.Memory = codes "Memory"
+
+abbrev pub lexing_name : LexError → List ℕ
+lexing_name lexing.BadByte = codes "BadByte"
+lexing_name lexing.Unended = codes "Unended"
+lexing_name lexing.Memory = codes "Memory"
+
+abbrev pub parsing_name : ParseError → List ℕ
+parsing_name (parsing.Syntax place) = codes "Syntax"
+parsing_name parsing.TooDeep = codes "TooDeep"
+parsing_name parsing.Memory = codes "Memory"
+
+abbrev pub expanding_name : ExpandError → List ℕ
+expanding_name expanding.NameUnknown = codes "NameUnknown"
+expanding_name expanding.NameTwice = codes "NameTwice"
+expanding_name expanding.ArgumentCount = codes "ArgumentCount"
+expanding_name expanding.TooManyItems = codes "TooManyItems"
+expanding_name expanding.Memory = codes "Memory"
+
+abbrev pub resolving_name : ResolveError → List ℕ
+resolving_name resolving.NameUnknown = codes "NameUnknown"
+resolving_name resolving.NameTwice = codes "NameTwice"
+resolving_name resolving.ArityWrong = codes "ArityWrong"
+resolving_name resolving.ArityTooLarge = codes "ArityTooLarge"
+resolving_name resolving.Reserved = codes "Reserved"
+resolving_name resolving.VariableUnbound = codes "VariableUnbound"
+resolving_name resolving.TooManyVariables = codes "TooManyVariables"
+resolving_name resolving.UpdateTwice = codes "UpdateTwice"
+resolving_name resolving.DefinitionCycle = codes "DefinitionCycle"
+resolving_name resolving.HeadForm = codes "HeadForm"
+resolving_name resolving.HalfLiteral = codes "HalfLiteral"
+resolving_name resolving.TooMany = codes "TooMany"
+resolving_name resolving.NoEdge = codes "NoEdge"
+resolving_name resolving.Memory = codes "Memory"
+
+abbrev pub program_name : ProgramFault → List ℕ
+program_name (program.Lexing error) = lexing_name error
+program_name (program.Parsing error) = parsing_name error
+program_name (program.Expansion error) = expanding_name error
+program_name (program.Resolution error) = resolving_name error
+
+abbrev pub structures_name : TvsError → List ℕ
+structures_name (structures.Syntax place) = codes "Syntax"
+structures_name structures.IndividualUnknown = codes "IndividualUnknown"
+structures_name structures.IndividualTwice = codes "IndividualTwice"
+structures_name structures.NameUnknown = codes "NameUnknown"
+structures_name structures.ArityWrong = codes "ArityWrong"
+structures_name structures.BadSm = codes "BadSm"
+structures_name structures.TooManyIndividuals = codes "TooManyIndividuals"
+structures_name structures.Memory = codes "Memory"
+
+abbrev pub kind_name : FileKind → List ℕ
+kind_name kind.TooLong = codes "TooLong"
+kind_name (kind.Gathering error) = gathering_name error
+kind_name (kind.Lexing error) = lexing_name error
+kind_name (kind.Program fault) = program_name fault
+kind_name (kind.Structures error) = structures_name error
+kind_name (kind.ReportForm place) = codes "ReportForm"
+
+-- the place that a fault carries
+abbrev pub parsing_place : ParseError → Option Place
+parsing_place (parsing.Syntax place) = Some place
+parsing_place parsing.TooDeep = None
+parsing_place parsing.Memory = None
+
+abbrev pub program_place : ProgramFault → Option Place
+program_place (program.Lexing error) = None
+program_place (program.Parsing error) = parsing_place error
+program_place (program.Expansion error) = None
+program_place (program.Resolution error) = None
+
+abbrev pub structures_place : TvsError → Option Place
+structures_place (structures.Syntax place) = Some place
+structures_place _ = None
+
+abbrev pub place_of : FileKind → Option Place
+place_of kind.TooLong = None
+place_of (kind.Gathering error) = None
+place_of (kind.Lexing error) = None
+place_of (kind.Program fault) = program_place fault
+place_of (kind.Structures error) = structures_place error
+place_of (kind.ReportForm place) = Some place
+
+-- the text with a line feed behind it
+abbrev pub line : List ℕ → List ℕ
+line text = text ++ 10 ∷ []
+
+-- a fault of a file: the file, the fault, and its place where it has one
+unfoldable pub file_fault_text : Role → FileKind → Option Place → List ℕ
+file_fault_text role kind None = line (codes "tvla: " ++ role_name role ++ codes ": " ++ kind_name kind)
+file_fault_text role kind (Some place) =
+    line (codes "tvla: " ++ role_name role ++ codes ": " ++ kind_name kind
+    ++ codes " at " ++ decimal place.line ++ codes ":" ++ decimal place.column)
+
+-- that there are more structures than this
+unfoldable pub too_many_text : ℕ → List ℕ
+too_many_text max = codes "tvla: more than " ++ decimal max ++ line (codes " structures")
+
+abbrev pub usage_text : List ℕ
+usage_text =
+    line (codes "usage: tvla analyze PROGRAM INITIAL [--max-structures N] [--recompute]")
+    ++ line (codes "       tvla check PROGRAM INITIAL REPORT [--recompute] [--maps]")
+    ++ line (codes "       tvla demo NUMBER")
+
+-- the text that tells the status to whom called; one whose text the output took needs none
+abbrev pub text_of : Status → List ℕ
+text_of Done = []
+text_of (Rejected rejection) = []
+text_of Usage = usage_text
+text_of (FileFault role kind) = file_fault_text role kind (place_of kind)
+text_of (Structures max) = too_many_text max
+text_of TooManySplits = line (codes "tvla: too many splits")
+text_of TooManyIndividuals = line (codes "tvla: too many individuals")
+text_of ReadFault = line (codes "tvla: read fault")
+text_of WriteFault = line (codes "tvla: write fault")
+text_of Memory = line (codes "tvla: out of memory")

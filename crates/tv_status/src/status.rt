@@ -1,0 +1,84 @@
+//! How a call ends.
+
+ghost use Rattle.std.specs.Prelude.{◌≡◌};
+ghost use Rattle.tv_status.specs.Status.{code_of};
+
+use tv_front::ProgramFault;
+use tv_lex::{GatherError, LexError, Place};
+use tv_listing::Rejection;
+use tv_tvs::TvsError;
+
+/// Which of the files of a command.
+#[derive(Clone, Copy, Debug, PartialEq, Eq)]
+pub enum Role {
+    /// The program that is analyzed.
+    Program,
+    /// The structures that it begins with.
+    Initial,
+    /// The report that is checked.
+    Report,
+}
+
+/// What is wrong with a file. Want of memory and a failed read are no faults of a file: where a reader's
+/// own type has a variant for them, the statuses `Memory` and `ReadFault` stand for it.
+#[derive(Clone, Copy, Debug, PartialEq, Eq)]
+pub enum FileKind {
+    /// It has more bytes than are read.
+    TooLong,
+    /// Its includes can't be put in.
+    Gathering(GatherError),
+    /// Its bytes make no tokens.
+    Lexing(LexError),
+    /// It means no program.
+    Program(ProgramFault),
+    /// It means no structures.
+    Structures(TvsError),
+    /// It is no report on the program. The place is that of the first token that can't stand there, or of
+    /// the part in which the first other condition of a report is broken.
+    ReportForm(Place),
+}
+
+/// How a call of the whole program ends.
+#[derive(Clone, Copy, Debug, PartialEq, Eq)]
+pub enum Status {
+    /// The job was done, and its text was taken.
+    Done,
+    /// The report is rejected, and the text that says why was taken.
+    Rejected(Rejection),
+    /// The words spell no command.
+    Usage,
+    /// A file means nothing.
+    FileFault(Role, FileKind),
+    /// More than so many structures are reached.
+    Structures(u64),
+    /// A stage of a step has more choices than are followed.
+    TooManySplits,
+    /// A step makes a structure of too many individuals.
+    TooManyIndividuals,
+    /// A file could not be read.
+    ReadFault,
+    /// A text could not be written.
+    WriteFault,
+    /// Memory ran out.
+    Memory,
+}
+
+impl Status {
+    /// The exit code of the process: 0 for a job that is done, 1 for a rejected report, 2 for words that
+    /// spell no command, 3 for a faulty file, 4 for a budget that is passed, 5 and 6 for faults of reading
+    /// and of writing, 7 for want of memory.
+    pub fn code(&self) -> u8
+        ensures { result ≡ code_of self.now }
+    {
+        match self {
+            Status::Done => 0,
+            Status::Rejected(_) => 1,
+            Status::Usage => 2,
+            Status::FileFault(_, _) => 3,
+            Status::Structures(_) | Status::TooManySplits | Status::TooManyIndividuals => 4,
+            Status::ReadFault => 5,
+            Status::WriteFault => 6,
+            Status::Memory => 7,
+        }
+    }
+}
