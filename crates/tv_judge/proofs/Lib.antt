@@ -1,0 +1,9 @@
+pub mod Accepting
+pub mod Between
+pub mod IndexLaws
+pub mod Orders
+pub mod Passing
+pub mod Progressing
+pub mod Reports
+pub mod Stopping
+pub mod Verdicts

@@ -1,0 +1,33 @@
+use Rattle.std.proofs.Common.{subst, refl}
+use Rattle.std.specs.Prelude.{IfSome, IfNone}
+use Rattle.tv_transfer.specs.Transfer.{IsOpening, HasNoOpening}
+use Rattle.tv_judge.specs.Setting.{case_in, form_in}
+use Rattle.tv_judge.proofs.Passing.{none-passes}
+use Rattle.tv_judge.proofs.Reports.{index-at, start-within}
+use Rattle.tv_judge.proofs.steps.test_opening.Goals as goal
+
+pub test_item-requires-clause-node : goal.test_item-requires-clause-node
+test_item-requires-clause-node c =
+    start-within c.args.x.now.program.now c.requires.ready.valid c.args.x.now.analysis.now.listing
+    c.requires.ready.listing
+
+pub test_item-requires-clause-there : goal.test_item-requires-clause-there
+test_item-requires-clause-there c = record {
+  first = c.index-as_slice-number.result;
+  is_initial = index-at c.args.x.now.initial.now c.as_slice.result.now c.args.number
+      c.index-as_slice-number.result c.as_slice.ensures
+      c.index-as_slice-number.is c.requires.number;
+  opening = subst (λ o. IfSome o (IsOpening (form_in c.args.x.now) c.index-as_slice-number.result))
+      c.in-Some.is c.in_ok-opening.ensures.some;
+  targets_are = refl;
+}
+
+pub returns-in-None-clause-next : goal.returns-in-None-clause-next
+returns-in-None-clause-next c =
+    none-passes (case_in c.args.x.now) c.args.maps.now c.args.number c.index-as_slice-number.result
+    (index-at c.args.x.now.initial.now c.as_slice.result.now c.args.number c.index-as_slice-number.result
+    c.as_slice.ensures
+    c.index-as_slice-number.is c.requires.number)
+    (subst (λ o. IfNone o (HasNoOpening (form_in c.args.x.now) c.index-as_slice-number.result)) c.in-None.is
+    c.in_ok-opening.ensures.none)
+    c.requires.so_far

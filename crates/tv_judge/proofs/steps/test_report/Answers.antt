@@ -1,0 +1,10 @@
+use Rattle.std.proofs.Common.{subst, ◌≤◌}
+use Rattle.tv_judge.specs.Setting.{case_in}
+use Rattle.tv_judge.proofs.Passing.{edges-pass}
+use Rattle.tv_judge.proofs.steps.test_report.Goals as goal
+
+pub returns-clause-done : goal.returns-clause-done
+returns-clause-done c =
+    edges-pass (case_in c.args.x.now) c.loop-edge.maps c.loop-edge.edge
+    (subst (λ n. n ≤ c.loop-edge.edge) c.len-edge-end.ensures c.loop-edge-test.false)
+    c.loop-edge.invariant.done

@@ -1,0 +1,14 @@
+use Rattle.std.proofs.Common.{subst}
+use Rattle.tv_judge.specs.Index.{IsLineIndex, IsMessageIndex}
+use Rattle.tv_judge.proofs.verdict.tested.Goals as goal
+
+pub test_report-requires-clause-ready : goal.test_report-requires-clause-ready
+test_report-requires-clause-ready c = record {
+  valid = c.requires.valid;
+  initial = c.requires.initial;
+  few = c.requires.few;
+  listing = c.requires.listing;
+  rules = c.in_ok-closed.ensures.rules;
+  lines = subst (IsLineIndex c.in_ok-lines.lines.entries) c.as_slice.ensures c.in_ok-lines.ensures;
+  said = subst (IsMessageIndex c.in_ok-said.said.keys) c.as_slice-2.ensures c.in_ok-said.ensures;
+}

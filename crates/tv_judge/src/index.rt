@@ -1,0 +1,54 @@
+//! The lines of a report, so that they are found without a walk over all.
+
+ghost use Rattle.std.specs.Prelude.{◌≡◌, ◌↔◌, IsTrue, IfOk, OnOk};
+ghost use Rattle.std.specs.Option.{option_map};
+ghost use Rattle.tv_judge.specs.Index.{IsLineIndex, IsMessageIndex, NotesLine, line_at};
+
+use indexmap::{IndexMap, IndexSet};
+use std::alloc::{AllocError, Global};
+use tv_listing::{Item, MapLine, MessageLine};
+
+/// The first map line of each item.
+pub type LinesByItem<'a> = IndexMap<Item, &'a MapLine>;
+
+/// The messages that have a line, by edge and number.
+pub type Said = IndexSet<(u32, u32)>;
+
+/// Notes the line where there is none for its item yet.
+fn note_line<'a>(index: &mut LinesByItem<'a>, line: &'a MapLine) -> Result<(), AllocError>
+    ensures { OnOk result (NotesLine index.old.entries line.now index.new.entries) }
+{
+    if !index.contains_key(&line.item) {
+        index.insert(line.item, line)?;
+    }
+    Ok(())
+}
+
+/// The first line of each item.
+pub fn lines_by_item<'a>(alloc: Global, lines: &'a [MapLine]) -> Result<LinesByItem<'a>, AllocError>
+    ensures { IfOk result (λ index. IsLineIndex index.entries lines.now) }
+{
+    let mut index = IndexMap::new(alloc);
+    for line in lines {
+        note_line(&mut index, line)?;
+    }
+    Ok(index)
+}
+
+/// The first of the lines that is for the item, if there is any.
+pub fn line_of<'a>(index: &LinesByItem<'a>, item: Item) -> Option<&'a MapLine>
+    ensures { option_map (λ line. line.now) result ≡ line_at index.now.entries item }
+{
+    index.get(&item).copied()
+}
+
+/// The messages that have a line.
+pub fn said_in(alloc: Global, lines: &[MessageLine]) -> Result<Said, AllocError>
+    ensures { IfOk result (λ said. IsMessageIndex said.keys lines.now) }
+{
+    let mut said = IndexSet::new(alloc);
+    for line in lines {
+        said.insert((line.edge, line.number))?;
+    }
+    Ok(said)
+}

@@ -1,0 +1,135 @@
+//! Items, and the maps that cover them.
+
+ghost use Rattle.std.specs.Prelude.{◌≡◌, ◌<◌, ◌^◌, ◌↔◌, IsTrue, All, length, IfOk, IfErr, IfSome, IfNone, OnOk};
+ghost use Rattle.tv_listing.specs.ListingForm.{at_node};
+ghost use Rattle.tv_model.specs.Valid.{program_arities};
+ghost use Rattle.tv_struct.specs.StructureForm.{arities_of};
+ghost use Rattle.tv_transfer.specs.Closed.{IsCovered};
+ghost use Rattle.tv_judge.specs.Items.{Covers, IsMet};
+ghost use Rattle.tv_judge.specs.Judged.{IsFirstCover, IsThere, place_of, Covering};
+ghost use Rattle.tv_judge.specs.Progress.{IsDoneTo, IsLineFor, IsStop, behind, rejection_for};
+ghost use Rattle.tv_judge.specs.Setting.{IsReady, case_in, form_in};
+
+use crate::index::line_of;
+use crate::setting::{Setting, Stop};
+use std::alloc::{AllocError, Global};
+use tv_embed::{check_map, find};
+use tv_listing::{Item, Listing, MapLine, MapLines, Rejection};
+use tv_struct::{Numbers, Structure};
+
+/// Whether the line's map embeds `s` in the structure of the node that the line names.
+fn is_covered_by(listing: &Listing, node: u32, s: &Structure, line: &MapLine) -> bool
+    requires node { node < length listing.now }
+    requires vocabulary { All (λ t. arities_of s.now ≡ arities_of t) (at_node listing.now node) }
+    ensures { IsTrue result ↔ Covers (at_node listing.now node) s.now line.now.target line.now.map }
+{
+    let target = line.target as usize;
+    target < listing.count(node) && check_map(s, listing.at(node, target), line.map.as_slice())
+}
+
+/// A copy of the line.
+fn copied(alloc: Global, line: &MapLine) -> Result<MapLine, AllocError>
+    ensures { IfOk result (λ copy. copy ≡ line.now) }
+{
+    let map = line.map.as_slice().to_vec(alloc)?;
+    Ok(MapLine {
+        item: line.item,
+        target: line.target,
+        map: Numbers::from_vec(map),
+    })
+}
+
+/// The first structure of the node in which `s` embeds, by its place, with the least embedding.
+///
+/// Even where `s` itself is listed, an earlier structure may cover it, so all before are tried. `find`
+/// refuses by values without arguments and by sizes before it searches.
+fn first_cover(
+    alloc: Global,
+    listing: &Listing,
+    node: u32,
+    s: &Structure,
+) -> Result<Option<(u32, Numbers)>, AllocError>
+    requires node { node < length listing.now }
+    requires vocabulary { All (λ t. arities_of s.now ≡ arities_of t) (at_node listing.now node) }
+    requires few { length (at_node listing.now node) < 2 ^ 32 }
+    ensures some { IfOk result (λ found. IfSome found (λ x.
+        IsFirstCover (at_node listing.now node) s.now x.0 x.1)) }
+    ensures none { IfOk result (λ found. IfNone found (¬ IsCovered (at_node listing.now node) s.now)) }
+{
+    for place in 0..listing.count(node) {
+        if let Some(map) = find(alloc, s, listing.at(node, place))? {
+            return Ok(Some((place as u32, map)));
+        }
+    }
+    Ok(None)
+}
+
+/// The line that the item is owed: a copy of its own, if the map of that is an embedding, or that of the
+/// first cover where it has none of its own; none where the item isn't met.
+fn owed_line(
+    x: &Setting,
+    item: Item,
+    node: u32,
+    s: &Structure,
+) -> Result<Option<MapLine>, AllocError>
+    requires ready { IsReady x.now }
+    requires node { node < length x.now.analysis.now.listing }
+    requires over { arities_of s.now ≡ program_arities (form_in x.now) }
+    ensures some { IfOk result (λ found. IfSome found (IsLineFor x.now.analysis.now.maps item
+        (at_node x.now.analysis.now.listing node) s.now)) }
+    ensures none { IfOk result (λ found. IfNone found (¬ IsMet x.now.analysis.now.maps item
+        (at_node x.now.analysis.now.listing node) s.now)) }
+{
+    let listing = &x.analysis.listing;
+    let Some(line) = line_of(x.lines, item) else {
+        let found = first_cover(x.alloc, listing, node, s)?;
+        return Ok(found.map(|(target, map)| MapLine { item, target, map }));
+    };
+    if !is_covered_by(listing, node, s, line) {
+        return Ok(None);
+    }
+    Ok(Some(copied(x.alloc, line)?))
+}
+
+/// What the item is called where it isn't met.
+fn rejection_of(item: Item) -> Rejection
+    ensures { result ≡ rejection_for item }
+{
+    match item {
+        Item::Initial(number) => Rejection::Initial(number),
+        Item::Result {
+            edge,
+            structure,
+            result,
+        } => Rejection::Result {
+            edge,
+            structure,
+            result,
+        },
+    }
+}
+
+/// Tests the item whose structure is `s`, and puts its line behind the others.
+pub fn test_item(
+    x: &Setting,
+    item: Item,
+    node: u32,
+    s: &Structure,
+    maps: &mut MapLines,
+) -> Result<(), Stop>
+    requires ready { IsReady x.now }
+    requires node { node < length x.now.analysis.now.listing }
+    requires over { arities_of s.now ≡ program_arities (form_in x.now) }
+    requires there { IsThere (case_in x.now) item s.now (at_node x.now.analysis.now.listing node) }
+    requires so_far { IsDoneTo (case_in x.now) (place_of (Covering item)) maps.old }
+    ensures next { OnOk result (IsDoneTo (case_in x.now) (behind item) maps.new) }
+    ensures stop { IfErr result (IsStop (case_in x.now)) }
+{
+    match owed_line(x, item, node, s)? {
+        None => Err(Stop::Rejected(rejection_of(item))),
+        Some(line) => {
+            maps.push(line)?;
+            Ok(())
+        }
+    }
+}

@@ -1,0 +1,85 @@
+//! Verdicts on reports.
+
+ghost use Rattle.std.specs.Prelude.{◌<◌, ◌^◌, ◌∷◌, [], All, length, IfOk, IfErr};
+ghost use Rattle.tv_listing.specs.Listed.{IsListing};
+ghost use Rattle.tv_model.specs.Program.{program_of};
+ghost use Rattle.tv_model.specs.Valid.{IsValid};
+ghost use Rattle.tv_struct.specs.StructureForm.{IsOver};
+ghost use Rattle.tv_judge.specs.Judged.{IsJudgeCause};
+ghost use Rattle.tv_judge.specs.Progress.{IsDoneTo, IsStop};
+ghost use Rattle.tv_judge.specs.Verdicts.{case_of, IsVerdict, OnceAccepted, IsSound};
+
+use crate::index::{lines_by_item, said_in};
+use crate::setting::{Setting, Stop};
+use crate::steps::test_report;
+use std::alloc::Global;
+use tv_eval::Scratch;
+use tv_listing::{Analysis, MapLines, Rejection};
+use tv_model::{Mode, Program};
+use tv_rules::close_rules;
+use tv_struct::{StageError, Structures};
+
+/// What the checker says of a report: accepted, with a map for each item that has to be covered, or
+/// rejected, with the first demand that isn't met.
+#[derive(Debug, Drop)]
+pub enum Verdict {
+    Accepted(MapLines),
+    Rejected(Rejection),
+}
+
+/// Tests all demands in order, and gives the lines of all items.
+fn tested<'a>(
+    alloc: Global,
+    program: &'a Program,
+    initial: &'a Structures,
+    analysis: &'a Analysis,
+    mode: Mode,
+) -> Result<MapLines, Stop>
+    requires valid { IsValid (program_of program.now) }
+    requires initial { All (IsOver program.now.vocab) initial.now }
+    requires few { length initial.now < 2 ^ 32 }
+    requires listing { IsListing program.now analysis.now.listing }
+    ensures done { IfOk result (IsDoneTo (case_of program.now mode initial.now analysis.now) (2 ∷ [])) }
+    ensures stop { IfErr result (IsStop (case_of program.now mode initial.now analysis.now)) }
+{
+    let closed = close_rules(alloc, program)?;
+    let mut scratch = Scratch::new(alloc, program, 256)?;
+    let lines = lines_by_item(alloc, analysis.maps.as_slice())?;
+    let said = said_in(alloc, analysis.messages.as_slice())?;
+    let x = Setting {
+        alloc,
+        program,
+        mode,
+        initial,
+        analysis,
+        closed: &closed,
+        lines: &lines,
+        said: &said,
+    };
+    test_report(&x, &mut scratch)
+}
+
+/// Whether the report is closed. It is tested in order: the openings of initial structures; then edge by
+/// edge the listed structures at its source, and for each of them the step, its results, and its messages.
+/// `Splits` and `Individuals` only where the first demand that isn't met is that a step keeps this budget.
+pub fn judge(
+    alloc: Global,
+    program: &Program,
+    initial: &Structures,
+    analysis: &Analysis,
+    mode: Mode,
+) -> Result<Verdict, StageError>
+    requires valid { IsValid (program_of program.now) }
+    requires initial { All (IsOver program.now.vocab) initial.now }
+    requires few { length initial.now < 2 ^ 32 }
+    requires listing { IsListing program.now analysis.now.listing }
+    ensures verdict { IfOk result (IsVerdict (case_of program.now mode initial.now analysis.now)) }
+    ensures sound { IfOk result (OnceAccepted (IsSound (case_of program.now mode initial.now analysis.now))) }
+    ensures cause { IfErr result (IsJudgeCause (case_of program.now mode initial.now analysis.now)) }
+{
+    match tested(alloc, program, initial, analysis, mode) {
+        Ok(maps) => Ok(Verdict::Accepted(maps)),
+        Err(Stop::Rejected(rejection)) => Ok(Verdict::Rejected(rejection)),
+        Err(Stop::Stage(e)) => Err(e),
+    }
+}
