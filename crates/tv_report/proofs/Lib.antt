@@ -5,3 +5,9 @@ pub mod Marks
 pub mod Phrases
 pub mod Reports
 pub mod OneReport
+pub mod OnceLaws
+pub mod NodeLaws
+pub mod ReadLaws
+pub mod WordTexts
+pub mod Written
+pub mod Again

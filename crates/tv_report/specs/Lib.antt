@@ -1,8 +1,10 @@
 pub mod Tree
 pub mod Grammar
+pub mod Once
 pub mod Lines
 pub mod Text
 pub mod Meaning
 pub mod Laws
 pub mod Reading
+pub mod Nodes
 pub mod Views

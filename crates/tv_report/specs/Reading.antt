@@ -14,6 +14,7 @@ use Rattle.tv_listing.specs.declared.analysis.MapLine.{MapLine}
 use Rattle.tv_listing.specs.declared.analysis.MessageLine.{MessageLine}
 use Rattle.tv_tvs.specs.Reading.{struct_end, structure_at}
 use Rattle.tv_report.specs.Grammar.{message_value}
+use Rattle.tv_report.specs.Meaning.{NamedNode}
 
 -- a node whose structures weren't read yet: their number, and the tokens from the first one on
 pub record NodeMark : Type 0 where
@@ -121,3 +122,6 @@ report_at ts = do
 unfoldable pub structures_at : Vocab → ℕ → List SpecToken → Option (List StructureForm)
 structures_at vocab zero ts = Some []
 structures_at vocab (suc n) ts = structure_at vocab ts >>= λ x. structures_at vocab n x.1 >>= λ ss. Some (x.0 ∷ ss)
+
+abbrev pub marked_node : Vocab → NodeMark → NamedNode
+marked_node vocab m = record { name = m.name; structures = structures_at vocab m.count m.structures }

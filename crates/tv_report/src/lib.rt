@@ -3,10 +3,15 @@
 
 mod error;
 mod laws;
+mod lines;
+mod names;
+mod nodes;
 mod program;
+mod read;
 mod syntax;
 mod write;
 
 pub use error::ReportError;
-pub use laws::one_reading;
+pub use laws::{one_meaning, one_reading, reports_are_read_again};
+pub use read::read_report;
 pub use write::write_report;

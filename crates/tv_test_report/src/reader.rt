@@ -1,0 +1,46 @@
+//! Reports as texts, and what is read of them.
+
+ghost use Rattle.std.specs.Prelude.{◌≡◌, ◌≤◌, IfOk, length};
+ghost use Rattle.tv_model.specs.Program.{program_of};
+ghost use Rattle.tv_model.specs.Valid.{IsValid};
+
+use std::alloc::Global;
+use std::test::Fail;
+use tv_front::read_program;
+use tv_lex::lex;
+use tv_model::Program;
+use tv_report::{ReportError, read_report, write_report};
+
+/// The program of a text.
+pub fn program(alloc: Global, text: &str) -> Result<Program, Fail>
+    ensures { IfOk result (λ p. IsValid (program_of p)) }
+{
+    let bytes = text.as_bytes();
+    if bytes.len() > 10_000 {
+        return Err(Fail::new("too long"));
+    }
+    match read_program(alloc, bytes) {
+        Ok(program) => Ok(program),
+        Err(_) => Err(Fail::new("no program")),
+    }
+}
+
+/// What is read of a report: its own report again, or the place where it is none.
+pub fn answer(alloc: Global, program: &Program, text: &[u8]) -> Result<Vec<u8>, Fail>
+    requires { IsValid (program_of program.now) }
+{
+    if text.len() > 10_000 {
+        return Err(Fail::new("too long"));
+    }
+    let Ok(tokens) = lex(alloc, text) else {
+        return Ok(Vec::from_slice(alloc, b"no tokens")?);
+    };
+    match read_report(alloc, program, text, &tokens) {
+        Ok(analysis) => Ok(write_report(alloc, program, &analysis)?),
+        Err(ReportError::ReportForm(place)) => {
+            let found = format!(in alloc; "{}:{}", place.line, place.column)?;
+            Ok(found.into_bytes())
+        }
+        Err(ReportError::Memory) => Err(Fail::new("no memory")),
+    }
+}
