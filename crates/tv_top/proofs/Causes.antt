@@ -1,41 +1,271 @@
--- Why a call ends as it does, from why its parts do.
-use Rattle.std.proofs.Common.{ℕ, ◌≤◌, List, Option, inl, inr, arith}
-use Rattle.tv_model.specs.Program.{ProgramForm}
+-- The causes of the parts of the work, as those of a command.
+use Rattle.std.proofs.Common.{◌≡◌, ◌≤◌, ◌<◌, ℕ, Bool, List, Option, Some, Result, Ok, Err, inl, inr, refl, sym, ap, subst, arith}
+use Rattle.std.specs.Prelude.{IfOk, IfErr}
+use Rattle.tv_judge.specs.Judged.{IsJudgeCause, StopsAt}
+use Rattle.tv_listing.specs.declared.analysis.Analysis.{Analysis}
+use Rattle.tv_model.specs.Program.{ProgramForm, program_of}
+use Rattle.tv_model.specs.declared.program.Program.{Program}
 use Rattle.tv_outside.specs.Count.{Rose}
-use Rattle.tv_outside.specs.Told.{Held}
-use Rattle.tv_top.specs.Words.{SpellsAnalyze}
-use Rattle.tv_top.specs.Meaning.{HoldsSuch, IsProgramFile, RefusesProgram, RefusesInitial}
-use Rattle.tv_top.specs.Call.{IsCause, IsFileCause}
-use Rattle.tv_top.specs.declared.outcome.Role.TheVariants.{Program, Initial}
-use Rattle.tv_top.specs.declared.outcome.Fault.{Fault}
-use Rattle.tv_top.specs.declared.outcome.Fault.TheVariants.{Usage, FileFault, Structures, ReadFault, Memory}
+use Rattle.tv_outside.specs.Told.{Held, HoldsName}
+use Rattle.tv_status.specs.declared.status.FileKind.{FileKind}
+use Rattle.tv_status.specs.declared.status.Role.{Role}
+use Rattle.tv_status.specs.declared.status.Role.TheVariants as role
+use Rattle.tv_struct.specs.StructureForm.{StructureForm}
+use Rattle.tv_struct.specs.declared.analysis.StageError.{StageError}
+use Rattle.tv_struct.specs.declared.analysis.StageError.TheVariants as stage
+use Rattle.tv_texts.specs.Files.{IsProgramFile, LacksFile, IsInitialFile, IsReportFile, IsFileCause, IsTextCause, UnlessNotRead}
+use Rattle.tv_texts.specs.Meaning.{MeansProgram, MeansInitial}
+use Rattle.tv_texts.specs.declared.fault.TextFault.{TextFault}
+use Rattle.tv_texts.specs.declared.fault.TextFault.TheVariants.{Refused, NotRead, Memory}
+use Rattle.tv_top.specs.Answers.{Reached, case_for, max_of, StepMeets, IsAnswer, IsDone, IsAccepted, IsAcceptedText}
+use Rattle.tv_top.specs.Call.{IsAnswerTo, IsCause, IsCommandCause}
+use Rattle.tv_top.specs.Delivery.{SaidOf}
+use Rattle.tv_top.specs.Faults.{fault_of_work, fault_of_stage, fault_of_text}
+use Rattle.tv_top.specs.Meaning.{Task, FilesMean, GivesProgram, GivesInitial, GivesReport, IsMissing, mode_of}
+use Rattle.tv_top.specs.Work.{Names, IsSearchCause, IsJudged, IsJudgementCause, UnlessReadFault}
+use Rattle.tv_top.specs.declared.fault.Answer.{Answer}
+use Rattle.tv_top.specs.declared.fault.Answer.TheVariants as answer
+use Rattle.tv_top.specs.declared.fault.Fault.{Fault}
+use Rattle.tv_top.specs.declared.fault.Fault.TheVariants as fault
+use Rattle.tv_transfer.specs.Budgets.{MeetsSplits, MeetsIndividuals}
+use Rattle.tv_words.specs.Words.{CommandForm, Analyzes, Checks, Demos, Spells}
+use Rattle.tv_work.specs.Analysed.{IsWorkCause, Meets}
+use Rattle.tv_work.specs.Reach.{AreMoreThan}
+use Rattle.tv_work.specs.declared.error.WorkError.{WorkError}
+use Rattle.tv_work.specs.declared.error.WorkError.TheVariants as work
+use Rattle.tv_demo.specs.Texts.{program_text, lists_text}
 
--- a count that rose later rose in all
+-- ---- counts and steadiness
+
 pub rose_later : (old mid new : ℕ) → old ≤ mid → Rose mid new → Rose old new
-rose_later old mid new low rose below = let later = rose below in omega arith
+rose_later old mid new le rose = λ below. omega (arith, le, rose below)
 
--- why the second file gives no structures is why the call gives no text
-pub initial_cause : (words : List (List ℕ)) (told : Option Held) (program_name initial_name : List ℕ) (program : ProgramForm) (rose rose' steady steady' : Type 0) (fault : Fault)
-    → SpellsAnalyze words program_name initial_name → HoldsSuch told program_name (IsProgramFile program)
-    → (rose → rose') → (steady' → steady)
-    → IsFileCause Initial told initial_name (RefusesInitial program) rose steady fault → IsCause words told rose' steady' fault
-initial_cause words told p i program rose rose' steady steady' Usage spelled file later before cause = absurd cause
-initial_cause words told p i program rose rose' steady steady' (FileFault Program kind) spelled file later before cause =
-    absurd (let e = cause.0 in cc)
-initial_cause words told p i program rose rose' steady steady' (FileFault Initial kind) spelled file later before cause =
-    (p, i, spelled, (program, file, cause.1))
-initial_cause words told p i program rose rose' steady steady' Structures spelled file later before cause = absurd cause
-initial_cause words told p i program rose rose' steady steady' ReadFault spelled file later before cause =
-    (later cause.0, λ s. (p, i, spelled, inr (program, file, cause.1 (before s))))
-initial_cause words told p i program rose rose' steady steady' Memory spelled file later before cause = tt
+pub holds_unless : {T : Type 0} (result : Result T Fault) (P : Type 0) → P → UnlessReadFault result P
+holds_unless (Ok found) P h = h
+holds_unless (Err fault.Usage) P h = h
+holds_unless (Err (fault.FileFault r k)) P h = h
+holds_unless (Err (fault.Structures max)) P h = h
+holds_unless (Err fault.TooManySplits) P h = h
+holds_unless (Err fault.TooManyIndividuals) P h = h
+holds_unless (Err fault.ReadFault) P h = tt
+holds_unless (Err fault.Memory) P h = h
 
--- why the first file gives no program is why the call gives no text
-pub program_cause : (words : List (List ℕ)) (told : Option Held) (program_name initial_name : List ℕ) (rose steady : Type 0) (fault : Fault)
-    → SpellsAnalyze words program_name initial_name
-    → IsFileCause Program told program_name RefusesProgram rose steady fault → IsCause words told rose steady fault
-program_cause words told p i rose steady Usage spelled cause = absurd cause
-program_cause words told p i rose steady (FileFault Program kind) spelled cause = (p, i, spelled, cause.1)
-program_cause words told p i rose steady (FileFault Initial kind) spelled cause = absurd (let e = cause.0 in cc)
-program_cause words told p i rose steady Structures spelled cause = absurd cause
-program_cause words told p i rose steady ReadFault spelled cause = (cause.0, λ s. (p, i, spelled, inl (cause.1 s)))
-program_cause words told p i rose steady Memory spelled cause = tt
+-- a file that isn't read, as a fault
+pub unless_not_read : (T U : Type 0) (e : TextFault) (P Q : Type 0) → (P → Q) → UnlessNotRead {T = T} (Err e) P
+    → UnlessReadFault {T = U} (Err (fault_of_text e)) Q
+unless_not_read T U (Refused r k) P Q f h = f h
+unless_not_read T U NotRead P Q f h = tt
+unless_not_read T U Memory P Q f h = f h
+
+-- what two steps on steady files give
+pub still : (old mid new : ℕ) (steady : Type 0) → mid ≡ old → steady × (new ≡ mid) → steady × (new ≡ old)
+still old mid new steady same h = (h.0, rw (h.1, same) refl)
+
+-- ---- the files of a command
+
+pub named_program : (told : Option Held) (command : CommandForm) (program initial : List ℕ) (a : Result Program FileKind)
+    → Names command program initial → IsProgramFile told program a → GivesProgram told command a
+named_program told (Analyzes p i max mode) program initial a names file =
+    subst (λ n. IsProgramFile told n a) (sym names.0) file
+named_program told (Checks p i report mode maps) program initial a names file =
+    subst (λ n. IsProgramFile told n a) (sym names.0) file
+named_program told (Demos number) program initial a names file = absurd names
+
+pub named_initial : (told : Option Held) (command : CommandForm) (program initial : List ℕ) (p : Program)
+    (a : Result (List StructureForm) FileKind)
+    → Names command program initial → IsInitialFile told initial p a → GivesInitial told command p a
+named_initial told (Analyzes n i max mode) program initial p a names file =
+    subst (λ m. IsInitialFile told m p a) (sym names.1) file
+named_initial told (Checks n i report mode maps) program initial p a names file =
+    subst (λ m. IsInitialFile told m p a) (sym names.1) file
+named_initial told (Demos number) program initial p a names file = absurd names
+
+lacks_program : (told : Option Held) (command : CommandForm) (program initial : List ℕ) → Names command program initial
+    → LacksFile told program → IsMissing told command
+lacks_program told (Analyzes p i max mode) program initial names lacks =
+    inl (subst (λ n. LacksFile told n) (sym names.0) lacks)
+lacks_program told (Checks p i report mode maps) program initial names lacks =
+    inl (subst (λ n. LacksFile told n) (sym names.0) lacks)
+lacks_program told (Demos number) program initial names lacks = absurd names
+
+lacks_initial : (told : Option Held) (command : CommandForm) (program initial : List ℕ) (p : Program)
+    → Names command program initial → IsProgramFile told program (Ok p) → ¬ HoldsName told initial → IsMissing told command
+lacks_initial told (Analyzes n i max mode) program initial p names file lacks =
+    inr (inl (
+      p,
+      named_program told (Analyzes n i max mode) program initial (Ok p) names file,
+      subst (λ m. ¬ HoldsName told m) (sym names.1) lacks,
+    ))
+lacks_initial told (Checks n i report mode maps) program initial p names file lacks =
+    inr (inl (
+      p,
+      named_program told (Checks n i report mode maps) program initial (Ok p) names file,
+      subst (λ m. ¬ HoldsName told m) (sym names.1) lacks,
+    ))
+lacks_initial told (Demos number) program initial p names file lacks = absurd names
+
+-- why PROGRAM isn't had
+pub program_fault : (told : Option Held) (command : CommandForm) (program initial : List ℕ) (rose steady : Type 0) (e : TextFault)
+    → Names command program initial
+    → IsFileCause role.Program (λ k. IsProgramFile told program (Err k)) (LacksFile told program) rose steady e
+    → IsCommandCause told command rose steady (fault_of_text e)
+program_fault told command program initial rose steady (Refused role.Program k) names h =
+    named_program told command program initial (Err k) names h.1
+program_fault told command program initial rose steady (Refused role.Initial k) names h = absurd (let e = h.0 in cc)
+program_fault told command program initial rose steady (Refused role.Report k) names h = absurd (let e = h.0 in cc)
+program_fault told command program initial rose steady NotRead names h =
+    (h.0, λ s. lacks_program told command program initial names (h.1 s))
+program_fault told command program initial rose steady Memory names h = tt
+
+-- why INITIAL isn't had
+pub initial_fault : (told : Option Held) (command : CommandForm) (program initial : List ℕ) (p : Program)
+    (rose steady later still_steady : Type 0) (e : TextFault)
+    → Names command program initial → IsProgramFile told program (Ok p) → (later → rose) → (steady → still_steady)
+    → IsFileCause role.Initial (λ k. IsInitialFile told initial p (Err k)) (¬ HoldsName told initial) later still_steady e
+    → IsCommandCause told command rose steady (fault_of_text e)
+initial_fault told command program initial p rose steady later still_steady (Refused role.Program k) names file f g h =
+    absurd (let e = h.0 in cc)
+initial_fault told command program initial p rose steady later still_steady (Refused role.Initial k) names file f g h =
+    (p, named_program told command program initial (Ok p) names file, named_initial told command program initial p (Err k) names h.1)
+initial_fault told command program initial p rose steady later still_steady (Refused role.Report k) names file f g h =
+    absurd (let e = h.0 in cc)
+initial_fault told command program initial p rose steady later still_steady NotRead names file f g h =
+    (f h.0, λ s. lacks_initial told command program initial p names file (h.1 (g s)))
+initial_fault told command program initial p rose steady later still_steady Memory names file f g h = tt
+
+-- why REPORT isn't had
+pub report_fault : (told : Option Held) (command : CommandForm) (task : Task) (report : List ℕ)
+    (rose steady later still_steady : Type 0) (e : TextFault)
+    → FilesMean told command task → (later → rose) → (steady → still_steady)
+    → ((k : FileKind) → IsReportFile told report task.program (Err k) → GivesReport told command task.program (Err k))
+    → (¬ HoldsName told report → IsMissing told command)
+    → IsFileCause role.Report (λ k. IsReportFile told report task.program (Err k)) (¬ HoldsName told report) later still_steady e
+    → IsCommandCause told command rose steady (fault_of_text e)
+report_fault told command task report rose steady later still_steady (Refused role.Program k) means f g gives lacks h =
+    absurd (let e = h.0 in cc)
+report_fault told command task report rose steady later still_steady (Refused role.Initial k) means f g gives lacks h =
+    absurd (let e = h.0 in cc)
+report_fault told command task report rose steady later still_steady (Refused role.Report k) means f g gives lacks h =
+    (task, means, gives k h.1)
+report_fault told command task report rose steady later still_steady NotRead means f g gives lacks h =
+    (f h.0, λ s. lacks (h.1 (g s)))
+report_fault told command task report rose steady later still_steady Memory means f g gives lacks h = tt
+
+-- ---- a demo
+
+pub demo_program_fault : (told : Option Held) (number : ℕ) (rose steady : Type 0) (e : TextFault)
+    → IsTextCause role.Program (λ k. MeansProgram (program_text number) (Err k)) e
+    → IsCommandCause told (Demos number) rose steady (fault_of_text e)
+demo_program_fault told number rose steady (Refused role.Program k) h = h.1
+demo_program_fault told number rose steady (Refused role.Initial k) h = absurd (let e = h.0 in cc)
+demo_program_fault told number rose steady (Refused role.Report k) h = absurd (let e = h.0 in cc)
+demo_program_fault told number rose steady NotRead h = absurd h.0
+demo_program_fault told number rose steady Memory h = tt
+
+pub demo_initial_fault : (told : Option Held) (number : ℕ) (p : Program) (rose steady : Type 0) (e : TextFault)
+    → MeansProgram (program_text number) (Ok p)
+    → IsTextCause role.Initial (λ k. MeansInitial p lists_text (Err k)) e
+    → IsCommandCause told (Demos number) rose steady (fault_of_text e)
+demo_initial_fault told number p rose steady (Refused role.Program k) means h = absurd (let e = h.0 in cc)
+demo_initial_fault told number p rose steady (Refused role.Initial k) means h = (p, means, h.1)
+demo_initial_fault told number p rose steady (Refused role.Report k) means h = absurd (let e = h.0 in cc)
+demo_initial_fault told number p rose steady NotRead means h = absurd h.0
+demo_initial_fault told number p rose steady Memory means h = tt
+
+-- ---- analyses and judgements
+
+pub work_fault : (task : Task) (max : ℕ) (e : WorkError) → IsWorkCause (program_of task.program) max (Reached task) e
+    → IsSearchCause task max (fault_of_work max e)
+work_fault task max work.Structures h = (refl, h)
+work_fault task max work.Splits h = h
+work_fault task max work.Individuals h = h
+work_fault task max work.Memory h = tt
+
+pub stage_fault : (task : Task) (report : Analysis) (e : StageError) → IsJudgeCause (case_for task report) e
+    → IsJudgementCause task report (fault_of_stage e)
+stage_fault task report stage.Splits h = h
+stage_fault task report stage.Individuals h = h
+stage_fault task report stage.Memory h = tt
+
+pub search_fault : (told : Option Held) (command : CommandForm) (task : Task) (max : ℕ) (rose steady : Type 0) (f : Fault)
+    → FilesMean told command task → max_of command ≡ Some max
+    → ((Budget : ProgramForm → ℕ → StructureForm → Type 0)
+    → Meets (program_of task.program) (Budget (program_of task.program)) (Reached task) → StepMeets told command task Budget)
+    → IsSearchCause task max f → IsCommandCause told command rose steady f
+search_fault told command task max rose steady fault.Usage means limit meets h = absurd h
+search_fault told command task max rose steady (fault.FileFault r k) means limit meets h = absurd h
+search_fault told command task max rose steady (fault.Structures more) means limit meets h =
+    (task, means, rw h.0 limit, subst (λ n. AreMoreThan n (Reached task)) (sym h.0) h.1)
+search_fault told command task max rose steady fault.TooManySplits means limit meets h = (task, means, meets MeetsSplits h)
+search_fault told command task max rose steady fault.TooManyIndividuals means limit meets h =
+    (task, means, meets MeetsIndividuals h)
+search_fault told command task max rose steady fault.ReadFault means limit meets h = absurd h
+search_fault told command task max rose steady fault.Memory means limit meets h = tt
+
+pub judgement_fault : (told : Option Held) (command : CommandForm) (task : Task) (report : Analysis) (rose steady : Type 0) (f : Fault)
+    → FilesMean told command task
+    → ((Budget : ProgramForm → ℕ → StructureForm → Type 0) → StopsAt (case_for task report) Budget → StepMeets told command task Budget)
+    → IsJudgementCause task report f → IsCommandCause told command rose steady f
+judgement_fault told command task report rose steady fault.Usage means meets h = absurd h
+judgement_fault told command task report rose steady (fault.FileFault r k) means meets h = absurd h
+judgement_fault told command task report rose steady (fault.Structures more) means meets h = absurd h
+judgement_fault told command task report rose steady fault.TooManySplits means meets h = (task, means, meets MeetsSplits h)
+judgement_fault told command task report rose steady fault.TooManyIndividuals means meets h =
+    (task, means, meets MeetsIndividuals h)
+judgement_fault told command task report rose steady fault.ReadFault means meets h = absurd h
+judgement_fault told command task report rose steady fault.Memory means meets h = tt
+
+pub judged_answer : (told : Option Held) (command : CommandForm) (task : Task) (report : Analysis) (maps : Bool) (a : Answer)
+    → FilesMean told command task → GivesReport told command task.program (Ok report)
+    → ((text : List ℕ) → IsAccepted task report → IsAcceptedText task report maps text → IsDone told command task text)
+    → SaidOf (IsJudged task report maps) a → SaidOf (IsAnswer told command) a
+judged_answer told command task report maps (answer.Done text) means gives done h =
+    (task, means, done text.items h.0 h.1)
+judged_answer told command task report maps (answer.Rejected r text) means gives done h =
+    (task, means, (report, gives, h.0), h.1)
+
+-- ---- words
+
+pub spelled_cause : (words : List (List ℕ)) (told : Option Held) (command : CommandForm) (rose steady : Type 0) (f : Fault)
+    → Spells words command → IsCommandCause told command rose steady f → IsCause words told rose steady f
+spelled_cause words told command rose steady fault.Usage spells h = absurd h
+spelled_cause words told command rose steady (fault.FileFault r k) spells h = (command, spells, h)
+spelled_cause words told command rose steady (fault.Structures max) spells h = (command, spells, h)
+spelled_cause words told command rose steady fault.TooManySplits spells h = (command, spells, h)
+spelled_cause words told command rose steady fault.TooManyIndividuals spells h = (command, spells, h)
+spelled_cause words told command rose steady fault.ReadFault spells h = (command, spells, h)
+spelled_cause words told command rose steady fault.Memory spells h = tt
+
+-- a demo reads no files
+pub demo_cause : (told : Option Held) (number : ℕ) (rose steady : Type 0) (f : Fault)
+    → IsCommandCause told (Demos number) ⊥ ⊥ f → IsCommandCause told (Demos number) rose steady f
+demo_cause told number rose steady fault.Usage h = h
+demo_cause told number rose steady (fault.FileFault r k) h = h
+demo_cause told number rose steady (fault.Structures max) h = h
+demo_cause told number rose steady fault.TooManySplits h = h
+demo_cause told number rose steady fault.TooManyIndividuals h = h
+demo_cause told number rose steady fault.ReadFault h = absurd h.0
+demo_cause told number rose steady fault.Memory h = tt
+
+pub demo_causes : (told : Option Held) (number : ℕ) (rose steady : Type 0) (r : Result Answer Fault)
+    → IfErr r (IsCommandCause told (Demos number) ⊥ ⊥) → IfErr r (IsCommandCause told (Demos number) rose steady)
+demo_causes told number rose steady (Ok a) h = h
+demo_causes told number rose steady (Err f) h = demo_cause told number rose steady f h
+
+-- ---- whole results
+
+pub judged_causes : (told : Option Held) (command : CommandForm) (task : Task) (report : Analysis) (rose steady : Type 0)
+    (r : Result Answer Fault) → FilesMean told command task
+    → ((Budget : ProgramForm → ℕ → StructureForm → Type 0) → StopsAt (case_for task report) Budget → StepMeets told command task Budget)
+    → IfErr r (IsJudgementCause task report) → IfErr r (IsCommandCause told command rose steady)
+judged_causes told command task report rose steady (Ok a) means meets h = h
+judged_causes told command task report rose steady (Err f) means meets h =
+    judgement_fault told command task report rose steady f means meets h
+
+pub judged_answers : (told : Option Held) (command : CommandForm) (task : Task) (report : Analysis) (maps : Bool)
+    (r : Result Answer Fault) → FilesMean told command task → GivesReport told command task.program (Ok report)
+    → ((text : List ℕ) → IsAccepted task report → IsAcceptedText task report maps text → IsDone told command task text)
+    → IfOk r (SaidOf (IsJudged task report maps)) → IfOk r (SaidOf (IsAnswer told command))
+judged_answers told command task report maps (Ok a) means gives done h =
+    judged_answer told command task report maps a means gives done h
+judged_answers told command task report maps (Err f) means gives done h = h

@@ -1,6 +1,9 @@
-pub mod Causes
-pub mod Duly
-pub mod Holding
-pub mod Names
-pub mod Reports
-pub mod WordLemmas
+mod Bounds
+mod Causes
+mod Demands
+mod DemoSize
+mod Duly
+mod Endings
+mod Gives
+mod Sums
+mod Tasks

@@ -1,90 +1,85 @@
 -- Why a call ends as it does.
-use Rattle.std.specs.Prelude.{◌≡◌, ◌⊎◌, ℕ, List, Option, IsSome, Result, Ok, Err}
-use Rattle.tv_kleene.specs.declared.K3.{K3}
-use Rattle.tv_model.specs.Program.{ProgramForm}
-use Rattle.tv_nullary.specs.Reach.{IsReached, AreMoreThan}
-use Rattle.tv_outside.specs.Told.{Held, HoldsName}
-use Rattle.tv_top.specs.Words.{SpellsNothing}
-use Rattle.tv_top.specs.Meaning.{FilesMean, IsRefused, IsMissing, ReachesTooMuch, HoldsSuch, Analyzes}
-use Rattle.tv_top.specs.declared.limits.TheConstants.{MAX_STRUCTURES}
-use Rattle.tv_top.specs.declared.outcome.Role.{Role}
-use Rattle.tv_top.specs.declared.outcome.FileKind.{FileKind}
-use Rattle.tv_top.specs.declared.outcome.Fault.{Fault}
-use Rattle.tv_top.specs.declared.outcome.Fault.TheVariants.{Usage, FileFault, Structures, ReadFault, Memory}
-use Rattle.tv_top.specs.declared.outcome.Status.{Status}
-use Rattle.tv_top.specs.declared.outcome.Status.TheVariants.{Done, WriteFault, Usage as EndsUsage, FileFault as EndsFileFault, Structures as EndsStructures, ReadFault as EndsReadFault, Memory as EndsMemory}
+use Rattle.std.specs.Prelude.{◌≡◌, ◌⊎◌, ℕ, List, Option}
+use Rattle.tv_outside.specs.Told.{Held}
+use Rattle.tv_status.specs.declared.status.FileKind.{FileKind}
+use Rattle.tv_status.specs.declared.status.Role.{Role}
+use Rattle.tv_status.specs.declared.status.Status.{Status}
+use Rattle.tv_status.specs.declared.status.Status.TheVariants.{Done, Rejected, Usage, FileFault, Structures, TooManySplits, TooManyIndividuals, ReadFault, WriteFault, Memory}
+use Rattle.tv_texts.specs.Agreement.{placeless}
+use Rattle.tv_top.specs.Answers.{IsAnswer, IsRejected, CanBeDone, ReachesTooMuch, MeetsBudget}
+use Rattle.tv_top.specs.Meaning.{Task, Commands, FilesMean, IsRefused, IsMissing, HoldsFiles, IsTold}
+use Rattle.tv_top.specs.declared.fault.Fault.{Fault}
+use Rattle.tv_top.specs.declared.fault.Fault.TheVariants as fault
+use Rattle.tv_transfer.specs.Budgets.{MeetsSplits, MeetsIndividuals}
+use Rattle.tv_words.specs.Words.{CommandForm, SpellsNothing}
 
--- Why the work gives no text: by the words, by what the files hold, and by whether the count of their
--- faults rose and they are steady.
+-- the text is what these words and files call for with this status
+abbrev pub IsAnswerTo : List (List ℕ) → Option Held → Status → List ℕ → Type 0
+IsAnswerTo words told status text = Commands words (λ command. IsAnswer told command status text)
+
+-- why a command gives no text; `rose` says that the count of the files' faults rose
+abbrev pub IsCommandCause : Option Held → CommandForm → (rose steady : Type 0) → Fault → Type 0
+IsCommandCause told command rose steady fault.Usage = ⊥
+IsCommandCause told command rose steady (fault.FileFault role kind) = IsRefused told command role kind
+IsCommandCause told command rose steady (fault.Structures max) = ReachesTooMuch told command max
+IsCommandCause told command rose steady fault.TooManySplits = MeetsBudget told command MeetsSplits
+IsCommandCause told command rose steady fault.TooManyIndividuals = MeetsBudget told command MeetsIndividuals
+IsCommandCause told command rose steady fault.ReadFault = rose × (steady → IsMissing told command)
+IsCommandCause told command rose steady fault.Memory = Unit {0}
+
+-- Why there is no text: the words spell no command; memory ran out; or the command that they spell gives
+-- none.
 abbrev pub IsCause : List (List ℕ) → Option Held → (rose steady : Type 0) → Fault → Type 0
-IsCause words told rose steady Usage = SpellsNothing words
-IsCause words told rose steady (FileFault role kind) = IsRefused words told role kind
-IsCause words told rose steady Structures = ReachesTooMuch words told
-IsCause words told rose steady ReadFault = rose × (steady → IsMissing words told)
-IsCause words told rose steady Memory = Unit {0}
+IsCause words told rose steady fault.Usage = SpellsNothing words
+IsCause words told rose steady fault.Memory = Unit {0}
+IsCause words told rose steady other = Commands words
+    (λ command. IsCommandCause told command rose steady other)
 
--- why one file of this role gives nothing: the bytes that it holds are refused, or it wasn't read
-abbrev pub IsFileCause : Role → Option Held → List ℕ → (FileKind → List ℕ → Type 0) → (rose steady : Type 0) → Fault → Type 0
-IsFileCause role told name Refuses rose steady Usage = ⊥
-IsFileCause role told name Refuses rose steady (FileFault fault_role kind) =
-    (fault_role ≡ role) × HoldsSuch told name (Refuses kind)
-IsFileCause role told name Refuses rose steady Structures = ⊥
-IsFileCause role told name Refuses rose steady ReadFault = rose × (steady → ¬ HoldsName told name)
-IsFileCause role told name Refuses rose steady Memory = Unit {0}
-
--- why an analysis gives no report
-abbrev pub IsAnalysisCause : ProgramForm → List (List K3) → Fault → Type 0
-IsAnalysisCause program initial Usage = ⊥
-IsAnalysisCause program initial (FileFault role kind) = ⊥
-IsAnalysisCause program initial Structures = AreMoreThan MAX_STRUCTURES (IsReached program initial)
-IsAnalysisCause program initial ReadFault = ⊥
-IsAnalysisCause program initial Memory = Unit {0}
-
--- any outcome but a read fault
-abbrev pub UnlessReadFault : {T : Type 0} → Result T Fault → Type 0 → Type 0
-UnlessReadFault (Ok found) P = P
-UnlessReadFault (Err Usage) P = P
-UnlessReadFault (Err (FileFault role kind)) P = P
-UnlessReadFault (Err Structures) P = P
-UnlessReadFault (Err ReadFault) P = Unit {0}
-UnlessReadFault (Err Memory) P = P
-
--- Why the call ends so. What stands behind `Done` is said by what the output took.
+-- why the call ends so; what stands behind `Done` and `Rejected` is said by what the output took
 abbrev pub EndsFor : (Fault → Type 0) → (write_rose : Type 0) → Status → Type 0
 EndsFor IsCause write_rose Done = Unit {0}
-EndsFor IsCause write_rose EndsUsage = IsCause Usage
-EndsFor IsCause write_rose (EndsFileFault role kind) = IsCause (FileFault role kind)
-EndsFor IsCause write_rose EndsStructures = IsCause Structures
-EndsFor IsCause write_rose EndsReadFault = IsCause ReadFault
+EndsFor IsCause write_rose (Rejected r) = Unit {0}
+EndsFor IsCause write_rose Usage = IsCause fault.Usage
+EndsFor IsCause write_rose (FileFault role kind) = IsCause (fault.FileFault role kind)
+EndsFor IsCause write_rose (Structures max) = IsCause (fault.Structures max)
+EndsFor IsCause write_rose TooManySplits = IsCause fault.TooManySplits
+EndsFor IsCause write_rose TooManyIndividuals = IsCause fault.TooManyIndividuals
+EndsFor IsCause write_rose ReadFault = IsCause fault.ReadFault
 EndsFor IsCause write_rose WriteFault = write_rose
-EndsFor IsCause write_rose EndsMemory = IsCause Memory
+EndsFor IsCause write_rose Memory = IsCause fault.Memory
+
+-- ---- which ending is due
+
+-- what the files of the command hold calls for this ending
+abbrev pub CommandCallsFor : Option Held → CommandForm → Status → Type 0
+CommandCallsFor told command Done = (task : Task) × FilesMean told command task × CanBeDone told command task
+CommandCallsFor told command (Rejected r) = (task : Task) × FilesMean told command task
+    × IsRejected told command task r
+CommandCallsFor told command (FileFault role kind) = IsRefused told command role kind
+CommandCallsFor told command other = ⊥
 
 -- the words, and the files that tell what they hold, call for this ending
 abbrev pub CallsFor : List (List ℕ) → Option Held → Status → Type 0
-CallsFor words told Done = IsSome told × ((program : ProgramForm) × (initial : List (List K3))
-    × FilesMean words told program initial × (¬ AreMoreThan MAX_STRUCTURES (IsReached program initial)))
-CallsFor words told EndsUsage = SpellsNothing words
-CallsFor words told (EndsFileFault role kind) = IsSome told × IsRefused words told role kind
-CallsFor words told EndsStructures = ⊥
-CallsFor words told EndsReadFault = ⊥
-CallsFor words told WriteFault = ⊥
-CallsFor words told EndsMemory = ⊥
+CallsFor words told Usage = SpellsNothing words
+CallsFor words told due = Commands words (λ command. IsTold told command × CommandCallsFor told command due)
 
 -- an ending that may stand in the place of any other
 abbrev pub IsExcuse : Status → Type 0
-IsExcuse Done = ⊥
-IsExcuse EndsUsage = ⊥
-IsExcuse (EndsFileFault role kind) = ⊥
-IsExcuse EndsStructures = ⊥
-IsExcuse EndsReadFault = Unit {0}
+IsExcuse ReadFault = Unit {0}
 IsExcuse WriteFault = Unit {0}
-IsExcuse EndsMemory = Unit {0}
+IsExcuse Memory = Unit {0}
+IsExcuse other = ⊥
 
--- whatever ending is called for, this is the one, or there is such an excuse
+-- the ending, wherever in a file a fault stands
+abbrev pub without_place : Status → Status
+without_place (FileFault role kind) = FileFault role (placeless kind)
+without_place other = other
+
+-- whatever ending is called for, this is the one, the place of a fault aside, or there is such an excuse
 abbrev pub EndsDuly : List (List ℕ) → Option Held → Status → (excuse : Type 0) → Type 0
-EndsDuly words told status excuse = (due : Status) → CallsFor words told due → (status ≡ due) ⊎ excuse
+EndsDuly words told status excuse =
+    (due : Status) → CallsFor words told due → (without_place status ≡ without_place due) ⊎ excuse
 
--- it is told that both operands of the command exist
+-- the files of the command are there
 abbrev pub HoldsOperands : List (List ℕ) → Option Held → Type 0
-HoldsOperands words told = Analyzes words (λ program_name initial_name.
-    HoldsName told program_name × HoldsName told initial_name)
+HoldsOperands words told = Commands words (HoldsFiles told)

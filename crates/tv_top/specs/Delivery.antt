@@ -1,68 +1,104 @@
 -- What the two sinks take in a call.
 use Rattle.std.specs.Prelude.{◌≡◌, ℕ, ◌⊎◌, List, Option, Result, Ok, Err}
-use Rattle.std.specs.declared.vec.Vec.{Vec}
-use Rattle.std.specs.declared.alloc.Global.{Global}
 use Rattle.tv_outside.specs.Count.{FailedLast}
 use Rattle.tv_outside.specs.Told.{appended, TookFront}
-use Rattle.tv_top.specs.declared.outcome.Status.{Status}
-use Rattle.tv_top.specs.declared.outcome.Status.TheVariants.{Done, Usage, FileFault, Structures, ReadFault, WriteFault, Memory}
-use Rattle.tv_top.specs.declared.outcome.Fault.{Fault}
-use Rattle.tv_top.specs.Status.{text_of, status_of}
+use Rattle.tv_status.specs.Status.{text_of}
+use Rattle.tv_status.specs.declared.status.Status.{Status}
+use Rattle.tv_status.specs.declared.status.Status.TheVariants.{Done, Rejected, Usage, FileFault, Structures, TooManySplits, TooManyIndividuals, ReadFault, WriteFault, Memory}
+use Rattle.tv_top.specs.declared.fault.Answer.{Answer}
+use Rattle.tv_top.specs.declared.fault.Answer.TheVariants as answer
+use Rattle.tv_top.specs.declared.fault.Fault.{Fault}
+use Rattle.tv_top.specs.declared.fault.Fault.TheVariants as fault
+
+-- the status of a call whose work ended in this fault
+abbrev pub status_of : Fault → Status
+status_of fault.Usage = Usage
+status_of (fault.FileFault role kind) = FileFault role kind
+status_of (fault.Structures max) = Structures max
+status_of fault.TooManySplits = TooManySplits
+status_of fault.TooManyIndividuals = TooManyIndividuals
+status_of fault.ReadFault = ReadFault
+status_of fault.Memory = Memory
 
 -- the whole of some such text was taken
 abbrev pub TookText : (List ℕ → Type 0) → Option (List ℕ) → Option (List ℕ) → Type 0
 TookText IsText old new = (text : List ℕ) × IsText text × (new ≡ appended old text)
 
--- a front of some such text was taken
-abbrev pub TookFrontOf : (List ℕ → Type 0) → Option (List ℕ) → Option (List ℕ) → Type 0
-TookFrontOf IsText old new = (text : List ℕ) × IsText text × TookFront old new text
+-- a front of the text of some status was taken
+abbrev pub TookFrontOf : (Status → List ℕ → Type 0) → Option (List ℕ) → Option (List ℕ) → Type 0
+TookFrontOf IsText old new = (status : Status) × (text : List ℕ) × IsText status text × TookFront old new text
 
--- what the standard output takes: a whole report where the work was done, a front of one where the output
--- itself failed, and else nothing
-abbrev pub OutTook : Status → (IsReport : List ℕ → Type 0) → (out_rose err_rose : Type 0) → (old new : Option (List ℕ)) → Type 0
-OutTook Done IsReport out_rose err_rose old new = TookText IsReport old new
-OutTook Usage IsReport out_rose err_rose old new = new ≡ old
-OutTook (FileFault role kind) IsReport out_rose err_rose old new = new ≡ old
-OutTook Structures IsReport out_rose err_rose old new = new ≡ old
-OutTook ReadFault IsReport out_rose err_rose old new = new ≡ old
-OutTook WriteFault IsReport out_rose err_rose old new =
-    (out_rose × TookFrontOf IsReport old new) ⊎ (err_rose × (new ≡ old))
-OutTook Memory IsReport out_rose err_rose old new = new ≡ old
+-- What the standard output takes: the whole text where the work was done or the report rejected, a front of
+-- such a text where the output itself failed, and else nothing.
+abbrev pub OutTook : Status → (IsText : Status → List ℕ → Type 0) → (out_rose err_rose : Type 0)
+    → (old new : Option (List ℕ)) → Type 0
+OutTook Done IsText out_rose err_rose old new = TookText (IsText Done) old new
+OutTook (Rejected r) IsText out_rose err_rose old new = TookText (IsText (Rejected r)) old new
+OutTook WriteFault IsText out_rose err_rose old new =
+    (out_rose × TookFrontOf IsText old new) ⊎ (err_rose × (new ≡ old))
+OutTook other IsText out_rose err_rose old new = new ≡ old
 
--- what the standard error takes: nothing where the work was done, else the text of the status, of which only
--- a front where the error output itself failed
-abbrev pub ErrTook : Status → (IsCause : Fault → Type 0) → (out_rose err_rose : Type 0) → (old new : Option (List ℕ)) → Type 0
+-- What the standard error takes: nothing where the work was done or the report rejected, else the text of the
+-- status, of which only a front where the error output itself failed.
+abbrev pub ErrTook : Status → (IsCause : Fault → Type 0) → (out_rose err_rose : Type 0)
+    → (old new : Option (List ℕ)) → Type 0
 ErrTook Done IsCause out_rose err_rose old new = new ≡ old
-ErrTook Usage IsCause out_rose err_rose old new = new ≡ appended old (text_of Usage)
-ErrTook (FileFault role kind) IsCause out_rose err_rose old new = new ≡ appended old (text_of (FileFault role kind))
-ErrTook Structures IsCause out_rose err_rose old new = new ≡ appended old (text_of Structures)
-ErrTook ReadFault IsCause out_rose err_rose old new = new ≡ appended old (text_of ReadFault)
+ErrTook (Rejected r) IsCause out_rose err_rose old new = new ≡ old
 ErrTook WriteFault IsCause out_rose err_rose old new =
-    (out_rose × ((new ≡ appended old (text_of WriteFault)) ⊎ (err_rose × TookFront old new (text_of WriteFault))))
+    (out_rose × ((new ≡ appended old (text_of WriteFault)) ⊎ (err_rose
+    × TookFront old new (text_of WriteFault))))
     ⊎ (err_rose × ((fault : Fault) × IsCause fault × TookFront old new (text_of (status_of fault))))
-ErrTook Memory IsCause out_rose err_rose old new = new ≡ appended old (text_of Memory)
+ErrTook other IsCause out_rose err_rose old new = new ≡ appended old (text_of other)
 
--- the text that was found
-abbrev pub IsText : Result (Vec ℕ Global) Fault → List ℕ → Type 0
-IsText (Ok found) text = text ≡ found.items
-IsText (Err fault) text = ⊥
+-- of the calls on a sink in between none failed, or exactly one did and it was the last: a sink that has
+-- failed is given nothing more
+abbrev pub StopsAtFailure : (old_failures new_failures since : ℕ) → Type 0
+StopsAtFailure old_failures new_failures since =
+    (new_failures ≡ old_failures) ⊎ FailedLast old_failures new_failures since
+
+-- ---- parts of a delivery
+
+-- the status of an answer
+abbrev pub answered : Answer → Status
+answered (answer.Done text) = Done
+answered (answer.Rejected r text) = Rejected r
+
+-- the bytes of an answer
+abbrev pub answer_text : Answer → List ℕ
+answer_text (answer.Done text) = text.items
+answer_text (answer.Rejected r text) = text.items
+
+-- this is said of the answer
+abbrev pub SaidOf : (Status → List ℕ → Type 0) → Answer → Type 0
+SaidOf IsText a = IsText (answered a) (answer_text a)
+
+-- the status and the text of what was found
+abbrev pub IsText : Result Answer Fault → Status → List ℕ → Type 0
+IsText (Ok a) status text = (status ≡ answered a) × (text ≡ answer_text a)
+IsText (Err met) status text = ⊥
 
 -- the fault that was met
-abbrev pub IsFault : Result (Vec ℕ Global) Fault → Fault → Type 0
-IsFault (Ok found) fault = ⊥
+abbrev pub IsFault : Result Answer Fault → Fault → Type 0
+IsFault (Ok a) fault = ⊥
 IsFault (Err met) fault = fault ≡ met
 
 -- the status of what was found, unless its writing fails
-abbrev pub EndsAs : Result (Vec ℕ Global) Fault → Status → Type 0
-EndsAs (Ok found) status = (status ≡ Done) ⊎ (status ≡ WriteFault)
-EndsAs (Err fault) status = (status ≡ status_of fault) ⊎ (status ≡ WriteFault)
+abbrev pub EndsAs : Result Answer Fault → Status → Type 0
+EndsAs (Ok a) status = (status ≡ answered a) ⊎ (status ≡ WriteFault)
+EndsAs (Err met) status = (status ≡ status_of met) ⊎ (status ≡ WriteFault)
 
--- the whole text of the status was taken, or a front of it, and the call then ends in a write fault
-abbrev pub Tells : (told ends : Status) → (rose : Type 0) → (old new : Option (List ℕ)) → Type 0
-Tells told ends rose old new =
-    ((ends ≡ told) × (new ≡ appended old (text_of told))) ⊎ ((ends ≡ WriteFault) × rose × TookFront old new (text_of told))
+-- the whole text was taken and the call ends so, or a front of it, and the call ends in a write fault
+abbrev pub Takes : (text : List ℕ) → (due ends : Status) → (rose : Type 0) → (old new : Option (List ℕ))
+    → Type 0
+Takes text due ends rose old new =
+    ((ends ≡ due) × (new ≡ appended old text)) ⊎ ((ends ≡ WriteFault) × rose × TookFront old new text)
 
--- of the calls on a sink in between none failed, or exactly one did and it was the last: a sink that has failed is
--- given nothing more
-abbrev pub StopsAtFailure : (old_failures new_failures since : ℕ) → Type 0
-StopsAtFailure old_failures new_failures since = (new_failures ≡ old_failures) ⊎ FailedLast old_failures new_failures since
+-- the output took the whole text, and the error output nothing; or it failed and took a front, which the
+-- error output is told
+abbrev pub GivesText : (text : List ℕ) → (due ends : Status) → (out_rose err_rose : Type 0)
+    → (out_old out_new err_old err_new : Option (List ℕ)) → Type 0
+GivesText text due ends out_rose err_rose out_old out_new err_old err_new =
+    ((ends ≡ due) × (out_new ≡ appended out_old text) × (err_new ≡ err_old))
+    ⊎ ((ends ≡ WriteFault) × out_rose × TookFront out_old out_new text
+    × ((err_new ≡ appended err_old (text_of WriteFault)) ⊎ (err_rose
+    × TookFront err_old err_new (text_of WriteFault))))

@@ -1,5 +1,7 @@
-pub mod Words
-pub mod Status
-pub mod Delivery
 pub mod Meaning
+pub mod Answers
 pub mod Call
+pub mod Delivery
+pub mod Faults
+pub mod Work
+pub mod Laws

@@ -1,92 +1,107 @@
--- What the words and the files of a call mean.
-use Rattle.std.specs.Prelude.{◌≡◌, ◌<◌, ◌≤◌, ◌⊎◌, ℕ, List, length, map, Option, None, Some}
-use Rattle.tv_kleene.specs.declared.K3.{K3}
-use Rattle.tv_model.specs.Program.{ProgramForm, PredForm}
-use Rattle.tv_nullary.specs.Agree.{IsSound}
-use Rattle.tv_nullary.specs.Reach.{IsReached, IsListing, AreMoreThan}
-use Rattle.tv_nullary.specs.Report.{report_text}
-use Rattle.tv_outside.specs.Told.{Held, content_of, HoldsName}
-use Rattle.tv_small.specs.Programs.{MeansProgram}
-use Rattle.tv_small.specs.Initials.{MeansInitial}
-use Rattle.tv_top.specs.Words.{SpellsAnalyze}
-use Rattle.tv_top.specs.declared.limits.TheConstants.{FILE_LIMIT, MAX_STRUCTURES}
-use Rattle.tv_top.specs.declared.outcome.Role.{Role}
-use Rattle.tv_top.specs.declared.outcome.Role.TheVariants.{Program, Initial}
-use Rattle.tv_top.specs.declared.outcome.FileKind.{FileKind}
-use Rattle.tv_top.specs.declared.outcome.FileKind.TheVariants.{TooLong, Unbuilt}
+-- What the files of a command mean: a program, initial structures, and for `check` a report; or the first of
+-- them that means nothing.
+use Rattle.std.specs.Prelude.{ℕ, ◌≡◌, ◌⊎◌, List, Option, None, Some, IsSome, Result, Ok, Err}
+use Rattle.tv_demo.specs.Texts.{program_text, lists_text}
+use Rattle.tv_lex.specs.Gather.{Gathers}
+use Rattle.tv_listing.specs.declared.analysis.Analysis.{Analysis}
+use Rattle.tv_model.specs.declared.program.Mode.{Mode}
+use Rattle.tv_model.specs.declared.program.Mode.TheVariants.{Given}
+use Rattle.tv_model.specs.declared.program.Program.{Program}
+use Rattle.tv_outside.specs.Told.{Held, HoldsName}
+use Rattle.tv_status.specs.declared.status.FileKind.{FileKind}
+use Rattle.tv_status.specs.declared.status.Role.{Role}
+use Rattle.tv_status.specs.declared.status.Role.TheVariants as role
+use Rattle.tv_struct.specs.StructureForm.{StructureForm}
+use Rattle.tv_texts.specs.Files.{IsProgramFile, LacksFile, IsInitialFile, IsReportFile}
+use Rattle.tv_texts.specs.Meaning.{MeansProgram, MeansInitial}
+use Rattle.tv_words.specs.Words.{CommandForm, Analyzes, Checks, Demos, Spells}
 
--- the name holds such bytes, where it is told what the names hold
-abbrev pub HoldsSuch : Option Held → List ℕ → (List ℕ → Type 0) → Type 0
-HoldsSuch None name IsSuch = Unit {0}
-HoldsSuch (Some held) name IsSuch = (bytes : List ℕ) × (content_of held name ≡ Some bytes) × IsSuch bytes
+-- the words spell such a command
+abbrev pub Commands : List (List ℕ) → (CommandForm → Type 0) → Type 0
+Commands words IsSuch = (command : CommandForm) × Spells words command × IsSuch command
 
--- the bytes of a file mean this program, and no other
-pub record IsProgramFile (program : ProgramForm) (bytes : List ℕ) : Type 0 where
-  pub short : length bytes ≤ FILE_LIMIT
-  pub means : MeansProgram bytes program
-  pub only : (other : ProgramForm) → MeansProgram bytes other → other ≡ program
+-- ---- the files of a command
 
--- the bytes of a file mean these initial structures of the program, and no others
-pub record IsInitialFile (program : ProgramForm) (initial : List (List K3)) (bytes : List ℕ) : Type 0 where
-  pub short : length bytes ≤ FILE_LIMIT
-  pub means : MeansInitial program bytes initial
-  pub only : (other : List (List K3)) → MeansInitial program bytes other → other ≡ initial
+-- PROGRAM means this program, or is refused so; a demo makes its text itself
+abbrev pub GivesProgram : Option Held → CommandForm → Result Program FileKind → Type 0
+GivesProgram told (Analyzes program initial max mode) answer = IsProgramFile told program answer
+GivesProgram told (Checks program initial report mode maps) answer = IsProgramFile told program answer
+GivesProgram told (Demos number) answer = MeansProgram (program_text number) answer
 
--- why the bytes of a file mean no program
-abbrev pub RefusesProgram : FileKind → List ℕ → Type 0
-RefusesProgram TooLong bytes = FILE_LIMIT < length bytes
-RefusesProgram Unbuilt bytes = (length bytes ≤ FILE_LIMIT) × ((program : ProgramForm) → ¬ MeansProgram bytes program)
+-- INITIAL means these structures over the program's vocabulary, or is refused so
+abbrev pub GivesInitial : Option Held → CommandForm → Program → Result (List StructureForm) FileKind → Type 0
+GivesInitial told (Analyzes program initial max mode) meant answer = IsInitialFile told initial meant answer
+GivesInitial told (Checks program initial report mode maps) meant answer =
+    IsInitialFile told initial meant answer
+GivesInitial told (Demos number) meant answer = MeansInitial meant lists_text answer
 
--- why the bytes of a file mean no initial structures of the program
-abbrev pub RefusesInitial : ProgramForm → FileKind → List ℕ → Type 0
-RefusesInitial program TooLong bytes = FILE_LIMIT < length bytes
-RefusesInitial program Unbuilt bytes =
-    (length bytes ≤ FILE_LIMIT) × ((initial : List (List K3)) → ¬ MeansInitial program bytes initial)
+-- REPORT, which `check` alone has, is this report on the program, or is refused so
+abbrev pub GivesReport : Option Held → CommandForm → Program → Result Analysis FileKind → Type 0
+GivesReport told (Analyzes program initial max mode) meant answer = ⊥
+GivesReport told (Checks program initial report mode maps) meant answer =
+    IsReportFile told report meant answer
+GivesReport told (Demos number) meant answer = ⊥
 
--- why the bytes of a file aren't read to their end
-abbrev pub RefusesLong : FileKind → List ℕ → Type 0
-RefusesLong TooLong bytes = FILE_LIMIT < length bytes
-RefusesLong Unbuilt bytes = ⊥
+abbrev pub mode_of : CommandForm → Mode
+mode_of (Analyzes program initial max mode) = mode
+mode_of (Checks program initial report mode maps) = mode
+mode_of (Demos number) = Given
 
--- the words spell `analyze` with such operands
-abbrev pub Analyzes : List (List ℕ) → (List ℕ → List ℕ → Type 0) → Type 0
-Analyzes words AreSuch = (program initial : List ℕ) × SpellsAnalyze words program initial × AreSuch program initial
+-- what a command works on
+pub record Task : Type 0 where
+  pub program : Program
+  pub initial : List StructureForm
+  pub mode : Mode
 
--- the words spell `analyze`, and its files mean this program and these initial structures
-abbrev pub FilesMean : List (List ℕ) → Option Held → ProgramForm → List (List K3) → Type 0
-FilesMean words told program initial = Analyzes words (λ program_name initial_name.
-    HoldsSuch told program_name (IsProgramFile program) × HoldsSuch told initial_name (IsInitialFile program initial))
+-- PROGRAM and INITIAL mean this program and these initial structures, and the command has this mode
+pub record FilesMean (told : Option Held) (command : CommandForm) (task : Task) : Type 0 where
+  pub program : GivesProgram told command (Ok task.program)
+  pub initial : GivesInitial told command task.program (Ok task.initial)
+  pub mode : task.mode ≡ mode_of command
 
--- the words spell `analyze`, and this file of it is the first that means nothing, for this reason
-abbrev pub IsRefused : List (List ℕ) → Option Held → Role → FileKind → Type 0
-IsRefused words told Program kind = Analyzes words (λ program_name initial_name.
-    HoldsSuch told program_name (RefusesProgram kind))
-IsRefused words told Initial kind = Analyzes words (λ program_name initial_name. (program : ProgramForm)
-    × HoldsSuch told program_name (IsProgramFile program) × HoldsSuch told initial_name (RefusesInitial program kind))
+-- the file of this role is the first that means nothing, for this reason
+abbrev pub IsRefused : Option Held → CommandForm → Role → FileKind → Type 0
+IsRefused told command role.Program kind = GivesProgram told command (Err kind)
+IsRefused told command role.Initial kind =
+    (program : Program) × GivesProgram told command (Ok program)
+    × GivesInitial told command program (Err kind)
+IsRefused told command role.Report kind =
+    (task : Task) × FilesMean told command task × GivesReport told command task.program (Err kind)
 
--- the words spell `analyze`, and the first of its files that means nothing doesn't exist
-abbrev pub IsMissing : List (List ℕ) → Option Held → Type 0
-IsMissing words told = Analyzes words (λ program_name initial_name. (¬ HoldsName told program_name)
-    ⊎ ((program : ProgramForm) × HoldsSuch told program_name (IsProgramFile program) × (¬ HoldsName told initial_name)))
+-- ---- files that aren't there
 
--- the words spell `analyze`, and what its files mean reaches more than can be listed
-abbrev pub ReachesTooMuch : List (List ℕ) → Option Held → Type 0
-ReachesTooMuch words told = (program : ProgramForm) × (initial : List (List K3))
-    × FilesMean words told program initial × AreMoreThan MAX_STRUCTURES (IsReached program initial)
+abbrev pub LacksProgram : Option Held → CommandForm → Type 0
+LacksProgram told (Analyzes program initial max mode) = LacksFile told program
+LacksProgram told (Checks program initial report mode maps) = LacksFile told program
+LacksProgram told (Demos number) = ⊥
 
-abbrev pub pred_names : ProgramForm → List (List ℕ)
-pred_names program = map (λ (pred : PredForm). pred.name) program.preds
+abbrev pub LacksInitial : Option Held → CommandForm → Type 0
+LacksInitial told (Analyzes program initial max mode) = ¬ HoldsName told initial
+LacksInitial told (Checks program initial report mode maps) = ¬ HoldsName told initial
+LacksInitial told (Demos number) = ⊥
 
--- the text reports all that is reached by the program from the initial structures
-pub record Reports (program : ProgramForm) (initial : List (List K3)) (text : List ℕ) : Type 0 where
-  pub listing : List (List (List K3))
-  pub exact : IsListing program initial MAX_STRUCTURES listing
-  pub sound : IsSound program initial listing
-  pub written : text ≡ report_text program.nodes (pred_names program) listing
+abbrev pub LacksReport : Option Held → CommandForm → Type 0
+LacksReport told (Analyzes program initial max mode) = ⊥
+LacksReport told (Checks program initial report mode maps) = ¬ HoldsName told report
+LacksReport told (Demos number) = ⊥
 
--- the text reports all that is reached by what the files mean
-pub record IsReport (words : List (List ℕ)) (told : Option Held) (text : List ℕ) : Type 0 where
-  pub program : ProgramForm
-  pub initial : List (List K3)
-  pub meant : FilesMean words told program initial
-  pub reports : Reports program initial text
+-- the first file that means nothing isn't there: an operand, or a file that PROGRAM includes and that is come
+-- to before any refusal
+abbrev pub IsMissing : Option Held → CommandForm → Type 0
+IsMissing told command = LacksProgram told command
+    ⊎ (((program : Program) × GivesProgram told command (Ok program) × LacksInitial told command)
+    ⊎ ((task : Task) × FilesMean told command task × LacksReport told command))
+
+-- each operand that names a file is there, and so is each file that PROGRAM includes and that is come to
+-- before any refusal
+abbrev pub HoldsFiles : Option Held → CommandForm → Type 0
+HoldsFiles told (Analyzes program initial max mode) = (¬ LacksFile told program) × HoldsName told initial
+HoldsFiles told (Checks program initial report mode maps) =
+    (¬ LacksFile told program) × HoldsName told initial × HoldsName told report
+HoldsFiles told (Demos number) = Unit {0}
+
+-- it is told what the files of the command hold; a demo has none
+abbrev pub IsTold : Option Held → CommandForm → Type 0
+IsTold told (Analyzes program initial max mode) = IsSome told
+IsTold told (Checks program initial report mode maps) = IsSome told
+IsTold told (Demos number) = Unit {0}

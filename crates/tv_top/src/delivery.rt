@@ -2,16 +2,17 @@
 
 ghost use Rattle.std.specs.Prelude.{◌≡◌, ◌⊎◌, ◌≤◌};
 ghost use Rattle.tv_outside.specs.Count.{Rose};
-ghost use Rattle.tv_outside.specs.Told.{appended, TookFront};
-ghost use Rattle.tv_top.specs.Status.{text_of};
-ghost use Rattle.tv_top.specs.Delivery.{OutTook, ErrTook, IsText, IsFault, EndsAs, Tells, StopsAtFailure};
+ghost use Rattle.tv_status.specs.Status.{text_of};
+ghost use Rattle.tv_top.specs.Delivery.{OutTook, ErrTook, IsText, IsFault, EndsAs, Takes, StopsAtFailure, GivesText};
 
-use crate::outcome::{Fault, Status, write_status};
+use crate::fault::{Answer, Fault};
 use tv_outside::{Sink, write_all};
+use tv_status::{Status, write_status};
 
 /// Gives the text of the status to `err` and gives the status back, or `WriteFault` where `err` failed.
 fn tell<E: Sink>(err: &mut E, status: Status) -> Status
-    ensures tells { Tells status result (Rose (E.faults err.old) (E.faults err.new)) (E.taken err.old) (E.taken err.new) }
+    ensures tells { Takes (text_of status) status result (Rose (E.faults err.old) (E.faults err.new))
+        (E.taken err.old) (E.taken err.new) }
     ensures stops { StopsAtFailure (E.failures err.old) (E.failures err.new) (E.since err.new) }
     ensures count { E.faults err.old ≤ E.faults err.new }
 {
@@ -21,21 +22,38 @@ fn tell<E: Sink>(err: &mut E, status: Status) -> Status
     }
 }
 
+/// Gives the text to `out` and gives the status back, or `WriteFault` where `out` failed, which `err` is told
+/// then.
+fn give<O: Sink, E: Sink>(text: &[u8], status: Status, out: &mut O, err: &mut E) -> Status
+    ensures gives { GivesText text.now status result (Rose (O.faults out.old) (O.faults out.new)) (Rose
+        (E.faults err.old) (E.faults err.new)) (O.taken out.old) (O.taken out.new) (E.taken err.old)
+        (E.taken err.new) }
+    ensures out_stops { StopsAtFailure (O.failures out.old) (O.failures out.new) (O.since out.new) }
+    ensures err_stops { StopsAtFailure (E.failures err.old) (E.failures err.new) (E.since err.new) }
+    ensures out_count { O.faults out.old ≤ O.faults out.new }
+    ensures err_count { E.faults err.old ≤ E.faults err.new }
+{
+    match write_all(out, text) {
+        Ok(()) => status,
+        Err(_) => tell(err, Status::WriteFault),
+    }
+}
+
 /// Gives the text that was found to `out`, or tells `err` why there is none or why it couldn't be written.
-pub fn deliver<O: Sink, E: Sink>(found: Result<Vec<u8>, Fault>, out: &mut O, err: &mut E) -> Status
+pub fn deliver<O: Sink, E: Sink>(found: Result<Answer, Fault>, out: &mut O, err: &mut E) -> Status
     ensures ends { EndsAs found result }
-    ensures out { OutTook result (IsText found) (Rose (O.faults out.old) (O.faults out.new)) (Rose (E.faults err.old) (E.faults err.new)) (O.taken out.old) (O.taken out.new) }
-    ensures err { ErrTook result (IsFault found) (Rose (O.faults out.old) (O.faults out.new)) (Rose (E.faults err.old) (E.faults err.new)) (E.taken err.old) (E.taken err.new) }
+    ensures out { OutTook result (IsText found) (Rose (O.faults out.old) (O.faults out.new)) (Rose
+        (E.faults err.old) (E.faults err.new)) (O.taken out.old) (O.taken out.new) }
+    ensures err { ErrTook result (IsFault found) (Rose (O.faults out.old) (O.faults out.new)) (Rose
+        (E.faults err.old) (E.faults err.new)) (E.taken err.old) (E.taken err.new) }
     ensures out_stops { StopsAtFailure (O.failures out.old) (O.failures out.new) (O.since out.new) }
     ensures err_stops { StopsAtFailure (E.failures err.old) (E.failures err.new) (E.since err.new) }
     ensures out_count { O.faults out.old ≤ O.faults out.new }
     ensures err_count { E.faults err.old ≤ E.faults err.new }
 {
     match found {
-        Ok(text) => match write_all(out, &text) {
-            Ok(()) => Status::Done,
-            Err(_) => tell(err, Status::WriteFault),
-        },
+        Ok(Answer::Done(text)) => give(&text, Status::Done, out, err),
+        Ok(Answer::Rejected(rejection, text)) => give(&text, Status::Rejected(rejection), out, err),
         Err(fault) => tell(err, Status::from(fault)),
     }
 }

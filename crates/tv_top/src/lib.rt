@@ -3,26 +3,28 @@
 
 ghost use Rattle.std.specs.Prelude.{◌≡◌, ◌⊎◌, ◌≤◌};
 ghost use Rattle.tv_outside.specs.Count.{Rose};
-ghost use Rattle.tv_top.specs.Words.{words_of, SpellsNothing};
-ghost use Rattle.tv_top.specs.Meaning.{IsReport};
-ghost use Rattle.tv_top.specs.Call.{IsCause, EndsFor, EndsDuly, IsExcuse, HoldsOperands};
+ghost use Rattle.tv_top.specs.Call.{IsAnswerTo, IsCause, EndsFor, EndsDuly, IsExcuse, HoldsOperands};
 ghost use Rattle.tv_top.specs.Delivery.{OutTook, ErrTook, StopsAtFailure};
+ghost use Rattle.tv_words.specs.Words.{words_of, SpellsNothing};
 
+mod answers;
 mod delivery;
-mod limits;
-mod outcome;
-mod words;
+mod fault;
+mod inputs;
+mod laws;
 mod work;
 
-pub use outcome::{FileKind, Role, Status};
 use std::alloc::Global;
 use tv_outside::{Files, Sink};
+pub use tv_status::{FileKind, Role, Status};
+use tv_texts::one_meaning_each;
+use tv_words::one_command;
 
 /// Does all that the program does: `words` are the words after its name.
 ///
-/// The work is done in this order: the words are read; PROGRAM is read and understood; INITIAL is read and
-/// understood; the analysis runs; its report is given to `out` whole. The first fault ends the call, and its text
-/// is given to `err`.
+/// The work is done in this order: the words are read; PROGRAM is gathered and understood; INITIAL is read
+/// and understood; for `check` REPORT is read and understood; the analysis or the judgement runs; its text is
+/// given to `out` whole. The first fault ends the call, and its text is given to `err`.
 pub fn tvla<F: Files, O: Sink, E: Sink>(
     alloc: Global,
     words: &[String],
@@ -32,17 +34,19 @@ pub fn tvla<F: Files, O: Sink, E: Sink>(
 ) -> Status
     // Why the call ended so.
     ensures cause { EndsFor
-        (IsCause (words_of words.now) (F.holds files.old) (Rose (F.faults files.old) (F.faults files.new)) (F.steady files.old))
+        (IsCause (words_of words.now) (F.holds files.old) (Rose (F.faults files.old) (F.faults files.new))
+        (F.steady files.old))
         (Rose (O.faults out.old) (O.faults out.new) ⊎ Rose (E.faults err.old) (E.faults err.new))
         result }
 
     // What was written.
     ensures out { OutTook result
-        (IsReport (words_of words.now) (F.holds files.old))
+        (IsAnswerTo (words_of words.now) (F.holds files.old))
         (Rose (O.faults out.old) (O.faults out.new)) (Rose (E.faults err.old) (E.faults err.new))
         (O.taken out.old) (O.taken out.new) }
     ensures err { ErrTook result
-        (IsCause (words_of words.now) (F.holds files.old) (Rose (F.faults files.old) (F.faults files.new)) (F.steady files.old))
+        (IsCause (words_of words.now) (F.holds files.old) (Rose (F.faults files.old) (F.faults files.new))
+        (F.steady files.old))
         (Rose (O.faults out.old) (O.faults out.new)) (Rose (E.faults err.old) (E.faults err.new))
         (E.taken err.old) (E.taken err.new) }
 
@@ -50,9 +54,10 @@ pub fn tvla<F: Files, O: Sink, E: Sink>(
     ensures out_stops { StopsAtFailure (O.failures out.old) (O.failures out.new) (O.since out.new) }
     ensures err_stops { StopsAtFailure (E.failures err.old) (E.failures err.new) (E.since err.new) }
 
-    // What was read: nothing without a command, and steady files that hold the operands don't fail.
+    // What was read: nothing without a command, and steady files that hold what is asked for don't fail.
     ensures unread { SpellsNothing (words_of words.now) → files.new ≡ files.old }
-    ensures held { F.steady files.old → HoldsOperands (words_of words.now) (F.holds files.old) → F.faults files.new ≡ F.faults files.old }
+    ensures held { F.steady files.old → HoldsOperands (words_of words.now) (F.holds files.old)
+        → F.faults files.new ≡ F.faults files.old }
 
     // No call changes what a name holds, and no count of faults falls.
     ensures holds { F.holds files.new ≡ F.holds files.old }
@@ -60,16 +65,16 @@ pub fn tvla<F: Files, O: Sink, E: Sink>(
     ensures out_count { O.faults out.old ≤ O.faults out.new }
     ensures err_count { E.faults err.old ≤ E.faults err.new }
 
-    // Each ending comes wherever it is called for, unless a call outside failed or memory ran out; where no count
-    // of faults rose, unless memory ran out.
+    // Each ending comes wherever it is called for, unless a call outside failed or memory ran out; where no
+    // count of faults rose, unless memory ran out.
     ensures exact { EndsDuly (words_of words.now) (F.holds files.old) result (IsExcuse result) }
-    ensures complete { (¬ Rose (F.faults files.old) (F.faults files.new)) → (¬ Rose (O.faults out.old) (O.faults out.new))
+    ensures complete { (¬ Rose (F.faults files.old) (F.faults files.new))
+        → (¬ Rose (O.faults out.old) (O.faults out.new))
         → (¬ Rose (E.faults err.old) (E.faults err.new))
         → EndsDuly (words_of words.now) (F.holds files.old) result (result ≡ Status.Memory) }
 {
+    one_command();
+    one_meaning_each();
     let found = work::perform(alloc, words, files);
     delivery::deliver(found, out, err)
 }
-
-#[cfg(test)]
-mod tests;

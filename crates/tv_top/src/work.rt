@@ -1,127 +1,153 @@
 //! The work of a command, up to the text that it gives.
 
-ghost use Rattle.std.specs.Prelude.{◌≡◌, ◌≤◌, ℕ, List, length, IfOk, IfErr};
-ghost use Rattle.tv_model.specs.Program.{program_of};
-ghost use Rattle.tv_nullary.specs.Nullary.{IsNullaryProgram};
+ghost use Rattle.std.specs.Prelude.{◌≡◌, ◌≤◌, Option, IfOk, IfErr};
 ghost use Rattle.tv_outside.specs.Count.{Rose};
-ghost use Rattle.tv_outside.specs.Told.{IsContent, HoldsName};
-ghost use Rattle.tv_top.specs.Words.{words_of, SpellsAnalyze, SpellsNothing};
-ghost use Rattle.tv_top.specs.Meaning.{HoldsSuch, IsProgramFile, IsInitialFile, RefusesProgram, RefusesInitial, RefusesLong, Reports, IsReport};
-ghost use Rattle.tv_top.specs.Call.{IsCause, IsAnalysisCause, IsFileCause, UnlessReadFault, HoldsOperands};
+ghost use Rattle.tv_outside.specs.Told.{Held};
+ghost use Rattle.tv_top.specs.Answers.{IsAnswer};
+ghost use Rattle.tv_top.specs.Call.{IsAnswerTo, IsCause, IsCommandCause};
+ghost use Rattle.tv_top.specs.Delivery.{SaidOf};
+ghost use Rattle.tv_top.specs.Meaning.{FilesMean};
+ghost use Rattle.tv_top.specs.Work.{IsBounded, IsReady, UnlessReadFault, task_of};
+ghost use Rattle.tv_words.specs.Words.{words_of, SpellsNothing, Analyzes, Checks, Demos, form_of};
 
-use crate::limits::{FILE_LIMIT, MAX_STRUCTURES};
-use crate::outcome::{Fault, FileKind, Role};
-use crate::words::{Command, read_words};
+use crate::answers::{demo_line, judgement, search};
+use crate::fault::{Answer, Fault};
+use crate::inputs::{Inputs, load_inputs};
+use crate::laws::commands_are_bounded;
 use std::alloc::Global;
-use tv_model::Program;
-use tv_nullary::{States, analyse, write_report};
-use tv_outside::{Files, ReadError, read_all};
-use tv_small::{SmallError, read_initial, read_program};
+use tv_demo::demo_texts;
+use tv_model::Mode;
+use tv_outside::Files;
+use tv_report::write_report;
+use tv_texts::{initial_in, load_report, program_in};
+use tv_words::{Command, read_words};
 
-/// The content of the file that has this role.
-fn read_file<F: Files>(
-    alloc: Global,
-    files: &mut F,
-    name: &str,
-    role: Role,
-) -> Result<Vec<u8>, Fault>
-    ensures content { IfOk result (λ bytes. IsContent (F.holds files.old) name.now bytes.items) }
-    ensures fits { IfOk result (λ bytes. length bytes.items ≤ FILE_LIMIT) }
-    ensures cause { IfErr result (IsFileCause role (F.holds files.old) name.now RefusesLong (Rose (F.faults files.old) (F.faults files.new)) (F.steady files.old)) }
-    ensures holds { F.holds files.new ≡ F.holds files.old }
-    ensures count { F.faults files.old ≤ F.faults files.new }
-    ensures steady { F.steady files.old → UnlessReadFault result (F.steady files.new) }
-    ensures no_fault { F.steady files.old → UnlessReadFault result (F.faults files.new ≡ F.faults files.old) }
-{
-    match read_all(alloc, files, name, FILE_LIMIT) {
-        Ok(bytes) => Ok(bytes),
-        Err(ReadError::Failed) => Err(Fault::ReadFault),
-        Err(ReadError::TooLong) => Err(Fault::FileFault(role, FileKind::TooLong)),
-        Err(ReadError::Memory) => Err(Fault::Memory),
-    }
-}
+/// How many structures a demo may list.
+const DEMO_MAX: u64 = 5_000;
 
-/// The program that the named file means.
-fn load_program<F: Files>(alloc: Global, files: &mut F, name: &str) -> Result<Program, Fault>
-    ensures found { IfOk result (λ program. HoldsSuch (F.holds files.old) name.now (IsProgramFile (program_of program))) }
-    ensures nullary { IfOk result (λ program. IsNullaryProgram (program_of program)) }
-    ensures cause { IfErr result (IsFileCause Role.Program (F.holds files.old) name.now RefusesProgram (Rose (F.faults files.old) (F.faults files.new)) (F.steady files.old)) }
-    ensures holds { F.holds files.new ≡ F.holds files.old }
-    ensures count { F.faults files.old ≤ F.faults files.new }
-    ensures steady { F.steady files.old → UnlessReadFault result (F.steady files.new) }
-    ensures no_fault { F.steady files.old → UnlessReadFault result (F.faults files.new ≡ F.faults files.old) }
-{
-    let bytes = read_file(alloc, files, name, Role::Program)?;
-    match read_program(alloc, &bytes) {
-        Ok(program) => Ok(program),
-        Err(SmallError::Unbuilt) => Err(Fault::FileFault(Role::Program, FileKind::Unbuilt)),
-        Err(SmallError::Memory) => Err(Fault::Memory),
-    }
-}
-
-/// The initial structures that the named file means.
-fn load_initial<F: Files>(
-    alloc: Global,
-    files: &mut F,
-    name: &str,
-    program: &Program,
-) -> Result<States, Fault>
-    ensures found { IfOk result (λ initial. HoldsSuch (F.holds files.old) name.now (IsInitialFile (program_of program.now) initial)) }
-    ensures cause { IfErr result (IsFileCause Role.Initial (F.holds files.old) name.now (RefusesInitial (program_of program.now)) (Rose (F.faults files.old) (F.faults files.new)) (F.steady files.old)) }
-    ensures holds { F.holds files.new ≡ F.holds files.old }
-    ensures count { F.faults files.old ≤ F.faults files.new }
-    ensures steady { F.steady files.old → UnlessReadFault result (F.steady files.new) }
-    ensures no_fault { F.steady files.old → UnlessReadFault result (F.faults files.new ≡ F.faults files.old) }
-{
-    let bytes = read_file(alloc, files, name, Role::Initial)?;
-    match read_initial(alloc, program, &bytes) {
-        Ok(initial) => Ok(initial),
-        Err(SmallError::Unbuilt) => Err(Fault::FileFault(Role::Initial, FileKind::Unbuilt)),
-        Err(SmallError::Memory) => Err(Fault::Memory),
-    }
-}
-
-/// The report of the analysis of a program from initial structures.
-fn report(alloc: Global, program: &Program, initial: &States) -> Result<Vec<u8>, Fault>
-    requires { IsNullaryProgram (program_of program.now) }
-    ensures found { IfOk result (λ text. Reports (program_of program.now) initial.now text.items) }
-    ensures cause { IfErr result (IsAnalysisCause (program_of program.now) initial.now) }
-{
-    let listing = analyse(alloc, program, initial, MAX_STRUCTURES)?;
-    Ok(write_report(alloc, program, &listing)?)
-}
-
-/// The report of the analysis of what the two named files mean.
+/// The report of what is reached from the two named files.
+#[tactic(auto, using(crate::proofs::Causes::holds_unless))]
 fn analyze<F: Files>(
     alloc: Global,
     files: &mut F,
-    program_name: &str,
-    initial_name: &str,
-) -> Result<Vec<u8>, Fault>
-    ensures found { IfOk result (λ text. (words : List (List ℕ)) → SpellsAnalyze words program_name.now initial_name.now → IsReport words (F.holds files.old) text.items) }
-    ensures cause { IfErr result (λ fault. (words : List (List ℕ)) → SpellsAnalyze words program_name.now initial_name.now
-        → IsCause words (F.holds files.old) (Rose (F.faults files.old) (F.faults files.new)) (F.steady files.old) fault) }
-    ensures held { F.steady files.old → HoldsName (F.holds files.old) program_name.now → HoldsName (F.holds files.old) initial_name.now
-        → F.faults files.new ≡ F.faults files.old }
+    program: &str,
+    initial: &str,
+    max: u64,
+    mode: Mode,
+) -> Result<Answer, Fault>
+    requires { max ≤ 100000 }
+    ensures found { IfOk result (SaidOf (IsAnswer (F.holds files.old)
+        (Analyzes program.now initial.now max mode))) }
+    ensures cause { IfErr result (IsCommandCause (F.holds files.old)
+        (Analyzes program.now initial.now max mode)
+        (Rose (F.faults files.old) (F.faults files.new)) (F.steady files.old)) }
     ensures holds { F.holds files.new ≡ F.holds files.old }
     ensures count { F.faults files.old ≤ F.faults files.new }
+    ensures steady { F.steady files.old → UnlessReadFault result (F.faults files.new ≡ F.faults files.old) }
 {
-    let program = load_program(alloc, files, program_name)?;
-    let initial = load_initial(alloc, files, initial_name, &program)?;
-    report(alloc, &program, &initial)
+    let inputs = load_inputs(alloc, files, program, initial)?;
+    let found = search(alloc, &inputs, mode, max)?;
+    let text = write_report(alloc, &inputs.program, &found)?;
+    Ok(Answer::Done(text))
 }
 
-/// The text that the command gives, or why it gives none.
-pub fn perform<F: Files>(alloc: Global, words: &[String], files: &mut F) -> Result<Vec<u8>, Fault>
-    ensures found { IfOk result (λ text. IsReport (words_of words.now) (F.holds files.old) text.items) }
-    ensures cause { IfErr result (IsCause (words_of words.now) (F.holds files.old) (Rose (F.faults files.old) (F.faults files.new)) (F.steady files.old)) }
-    ensures unread { SpellsNothing (words_of words.now) → files.new ≡ files.old }
-    ensures held { F.steady files.old → HoldsOperands (words_of words.now) (F.holds files.old) → F.faults files.new ≡ F.faults files.old }
+/// The judgement of the third of the named files, as a report on what the first two mean.
+#[tactic(auto, using(crate::proofs::Causes::holds_unless))]
+fn check<F: Files>(
+    alloc: Global,
+    files: &mut F,
+    program: &str,
+    initial: &str,
+    report: &str,
+    mode: Mode,
+    maps: bool,
+) -> Result<Answer, Fault>
+    ensures found { IfOk result (SaidOf (IsAnswer (F.holds files.old)
+        (Checks program.now initial.now report.now mode maps))) }
+    ensures cause { IfErr result (IsCommandCause (F.holds files.old)
+        (Checks program.now initial.now report.now mode maps)
+        (Rose (F.faults files.old) (F.faults files.new)) (F.steady files.old)) }
     ensures holds { F.holds files.new ≡ F.holds files.old }
     ensures count { F.faults files.old ≤ F.faults files.new }
+    ensures steady { F.steady files.old → UnlessReadFault result (F.faults files.new ≡ F.faults files.old) }
 {
-    match read_words(words) {
-        Some(Command::Analyze { program, initial }) => analyze(alloc, files, program, initial),
-        None => Err(Fault::Usage),
+    let inputs = load_inputs(alloc, files, program, initial)?;
+    let report = load_report(alloc, files, report, &inputs.program)?;
+    judgement(alloc, &inputs, report, mode, maps)
+}
+
+/// The program and the initial structures of a demo.
+#[tactic(auto, using(crate::proofs::Causes::demo_program_fault, crate::proofs::Causes::demo_initial_fault))]
+fn demo_inputs(alloc: Global, number: u64) -> Result<Inputs, Fault>
+    requires least { 1 ≤ number }
+    requires most { number ≤ 16 }
+    ensures meant { (told : Option Held) → IfOk result (λ inputs. FilesMean told (Demos number)
+        (task_of inputs Mode.Given)) }
+    ensures ready { IfOk result IsReady }
+    ensures cause { (told : Option Held) → IfErr result (IsCommandCause told (Demos number) ⊥ ⊥) }
+{
+    let texts = demo_texts(alloc, number)?;
+    let program = program_in(alloc, &texts.program)?;
+    let initial = initial_in(alloc, &program, &texts.initial)?;
+    Ok(Inputs { program, initial })
+}
+
+/// What an analysis of a made-up program counts.
+fn demo(alloc: Global, number: u64) -> Result<Answer, Fault>
+    requires least { 1 ≤ number }
+    requires most { number ≤ 16 }
+    ensures found { (told : Option Held) → IfOk result (SaidOf (IsAnswer told (Demos number))) }
+    ensures cause { (told : Option Held) → IfErr result (IsCommandCause told (Demos number) ⊥ ⊥) }
+{
+    let inputs = demo_inputs(alloc, number)?;
+    let found = search(alloc, &inputs, Mode::Given, DEMO_MAX)?;
+    let text = demo_line(alloc, number, &inputs.program, &found)?;
+    Ok(Answer::Done(text))
+}
+
+/// What the command gives.
+#[tactic(auto, using(crate::proofs::Causes::demo_cause, crate::proofs::Causes::holds_unless))]
+fn execute<F: Files>(alloc: Global, files: &mut F, command: &Command) -> Result<Answer, Fault>
+    requires { IsBounded (form_of command.now) }
+    ensures found { IfOk result (SaidOf (IsAnswer (F.holds files.old) (form_of command.now))) }
+    ensures cause { IfErr result (IsCommandCause (F.holds files.old) (form_of command.now)
+        (Rose (F.faults files.old) (F.faults files.new)) (F.steady files.old)) }
+    ensures holds { F.holds files.new ≡ F.holds files.old }
+    ensures count { F.faults files.old ≤ F.faults files.new }
+    ensures steady { F.steady files.old → UnlessReadFault result (F.faults files.new ≡ F.faults files.old) }
+{
+    match command {
+        Command::Analyze {
+            program,
+            initial,
+            max,
+            mode,
+        } => analyze(alloc, files, program, initial, *max, *mode),
+        Command::Check {
+            program,
+            initial,
+            report,
+            mode,
+            maps,
+        } => check(alloc, files, program, initial, report, *mode, *maps),
+        Command::Demo { number } => demo(alloc, *number),
     }
+}
+
+/// What the words ask for, or why they get nothing.
+#[tactic(auto, using(crate::proofs::Causes::spelled_cause, crate::proofs::Causes::holds_unless))]
+pub fn perform<F: Files>(alloc: Global, words: &[String], files: &mut F) -> Result<Answer, Fault>
+    ensures found { IfOk result (SaidOf (IsAnswerTo (words_of words.now) (F.holds files.old))) }
+    ensures cause { IfErr result (IsCause (words_of words.now) (F.holds files.old)
+        (Rose (F.faults files.old) (F.faults files.new)) (F.steady files.old)) }
+    ensures unread { SpellsNothing (words_of words.now) → files.new ≡ files.old }
+    ensures holds { F.holds files.new ≡ F.holds files.old }
+    ensures count { F.faults files.old ≤ F.faults files.new }
+    ensures steady { F.steady files.old → UnlessReadFault result (F.faults files.new ≡ F.faults files.old) }
+{
+    commands_are_bounded();
+    let Some(command) = read_words(alloc, words)? else {
+        return Err(Fault::Usage);
+    };
+    execute(alloc, files, &command)
 }

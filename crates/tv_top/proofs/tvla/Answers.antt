@@ -1,32 +1,33 @@
-use Rattle.std.proofs.Common.{arith, ◌⊎◌}
-use Rattle.std.proofs.lemmas.Grind.{common_steps}
-use Rattle.tv_outside.specs.Count.{Rose}
-use Rattle.tv_top.specs.Words.{words_of}
-use Rattle.tv_top.specs.Meaning.{IsReport}
-use Rattle.tv_top.specs.Call.{IsCause, EndsFor}
-use Rattle.tv_top.proofs.Duly.{ends_exactly, ends_duly}
-use Rattle.tv_top.proofs.Reports.{out_took}
+use Rattle.tv_top.proofs.Duly.{call_cause, out_took, err_took, ends_duly, no_fault}
+use Rattle.tv_top.proofs.Endings.{endings, none_missing}
+use Rattle.tv_top.proofs.Gives.{one_program, one_initial, one_report}
 use Rattle.tv_top.proofs.tvla.Goals as goal
+
+pub returns-clause-cause : goal.returns-clause-cause
+returns-clause-cause g c =
+    call_cause _ _ _ _ _ _ _ c.perform-found.ensures.cause c.deliver.ensures.ends c.deliver.ensures.out
+
+pub returns-clause-out : goal.returns-clause-out
+returns-clause-out g c = out_took _ _ _ _ _ _ _ c.perform-found.ensures.found c.deliver.ensures.out
+
+pub returns-clause-err : goal.returns-clause-err
+returns-clause-err g c = err_took _ _ _ _ _ _ _ c.perform-found.ensures.cause c.deliver.ensures.err
+
+pub returns-clause-held : goal.returns-clause-held
+returns-clause-held g c =
+    let each = c.one_meaning_each.ensures in
+    λ steady holds. no_fault _ _ _ _ _ _
+    (none_missing c.one_command.ensures (one_program each.program each.initial each.report)
+    (one_initial each.program each.initial each.report) (one_report each.program each.initial each.report) _ _ holds) steady
+    c.perform-found.ensures.cause (c.perform-found.ensures.steady steady)
 
 pub returns-clause-exact : goal.returns-clause-exact
 returns-clause-exact g c =
-    let words = words_of c.args.words.now in
-    let told = g.F.Files.holds c.args.files.now in
-    let read_rose = Rose (g.F.Files.faults c.args.files.now) (g.F.Files.faults c.perform-found.new.files) in
-    let out_rose = Rose (g.O.Sink.faults c.args.out.now) (g.O.Sink.faults c.deliver.new.out) in
-    let err_rose = Rose (g.E.Sink.faults c.args.err.now) (g.E.Sink.faults c.deliver.new.err) in
-    let cause : EndsFor (IsCause words told read_rose (g.F.Files.steady c.args.files.now)) (out_rose ⊎ err_rose) c.deliver.result
-    = grind (arith, common_steps) in
-    ends_exactly _ _ _ _ _ _ _ _ _ cause
-    (out_took _ c.perform-found.result (IsReport words told) _ _ _ _ c.perform-found.ensures.found c.deliver.ensures.out)
+    let each = c.one_meaning_each.ensures in
+    endings c.one_command.ensures (one_program each.program each.initial each.report)
+    (one_initial each.program each.initial each.report) (one_report each.program each.initial each.report) _ _ _ _ _ _ _ _ _
+    (returns-clause-cause g c) (returns-clause-out g c)
 
 pub returns-clause-complete : goal.returns-clause-complete
-returns-clause-complete g c =
-    let words = words_of c.args.words.now in
-    let told = g.F.Files.holds c.args.files.now in
-    let read_rose = Rose (g.F.Files.faults c.args.files.now) (g.F.Files.faults c.perform-found.new.files) in
-    let out_rose = Rose (g.O.Sink.faults c.args.out.now) (g.O.Sink.faults c.deliver.new.out) in
-    let err_rose = Rose (g.E.Sink.faults c.args.err.now) (g.E.Sink.faults c.deliver.new.err) in
-    let cause : EndsFor (IsCause words told read_rose (g.F.Files.steady c.args.files.now)) (out_rose ⊎ err_rose) c.deliver.result
-    = grind (arith, common_steps) in
-    λ no_read no_out no_err. ends_duly _ _ _ _ _ _ _ no_read no_out no_err cause (returns-clause-exact g c)
+returns-clause-complete g c = λ no_read no_out no_err.
+    ends_duly _ _ _ _ _ _ _ no_read no_out no_err (returns-clause-cause g c) (returns-clause-exact g c)

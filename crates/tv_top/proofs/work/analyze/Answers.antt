@@ -1,17 +1,26 @@
+use Rattle.std.proofs.Common.{refl}
 use Rattle.std.proofs.lemmas.Result.{err_from_is_err_and}
-use Rattle.tv_model.specs.Program.{program_of}
-use Rattle.tv_top.proofs.Causes.{rose_later, initial_cause, program_cause}
+use Rattle.tv_top.proofs.Causes.{search_fault}
+use Rattle.tv_top.specs.Work.{task_of}
+use Rattle.tv_words.specs.Words.{Analyzes}
 use Rattle.tv_top.proofs.work.analyze.Goals as goal
 
-pub returns-in_err-initial-clause-cause : goal.returns-in_err-initial-clause-cause
-returns-in_err-initial-clause-cause g c =
-    let p = err_from_is_err_and c.from_residual-in_err-initial.result c.from_residual-in_err-initial.ensures.1 in
-    let cause = rw c.in_ok-program.ensures.holds at c.in_err-initial.ensures.cause in
-    rw (p.1, p.2) (λ words spelled. initial_cause words _ _ _ (program_of c.in_ok-program.program) _ _ _ _ _
-    spelled c.in_ok-program.ensures.found
-    (rose_later _ _ _ c.in_ok-program.ensures.count) c.in_ok-program.ensures.steady cause)
-
-pub returns-in_err-program-clause-cause : goal.returns-in_err-program-clause-cause
-returns-in_err-program-clause-cause g c =
+pub returns-in_err-inputs-clause-cause : goal.returns-in_err-inputs-clause-cause
+returns-in_err-inputs-clause-cause g c =
     let p = err_from_is_err_and c.from_residual.result c.from_residual.ensures.1 in
-    rw (p.1, p.2) (λ words spelled. program_cause words _ _ _ _ _ _ spelled c.in_err-program.ensures.cause)
+    let command = Analyzes c.args.program.now c.args.initial.now c.args.max c.args.mode in
+    rw (p.1, p.2) (c.in_err-inputs.ensures.cause command (refl, refl))
+
+pub returns-in_err-found-clause-cause : goal.returns-in_err-found-clause-cause
+returns-in_err-found-clause-cause g c =
+    let p = err_from_is_err_and c.from_residual-in_err-found.result c.from_residual-in_err-found.ensures.1 in
+    let command = Analyzes c.args.program.now c.args.initial.now c.args.max c.args.mode in
+    rw (p.1, p.2) (search_fault _ command (task_of c.in_ok-inputs.inputs c.args.mode) c.args.max _ _ _
+    (c.in_ok-inputs.ensures.meant command (refl, refl)) refl (λ Budget meets. meets) c.in_err-found.ensures.cause)
+
+pub returns-clause-found : goal.returns-clause-found
+returns-clause-found g c = (
+  task_of c.in_ok-inputs.inputs c.args.mode,
+  c.in_ok-inputs.ensures.meant (Analyzes c.args.program.now c.args.initial.now c.args.max c.args.mode) (refl, refl),
+  (c.in_ok-found.found, c.in_ok-found.ensures.found, c.in_ok-text.ensures.text),
+)

@@ -1,0 +1,5 @@
+mod Counts
+mod Loading
+mod OneMeaning
+mod Refusals
+mod Vocabularies

@@ -1,0 +1,117 @@
+-- What files give, from what reading them gives.
+use Rattle.std.proofs.Common.{◌≡◌, ℕ, ◌<◌, List, Option, None, Some, Result, Ok, Err, refl}
+use Rattle.std.specs.Prelude.{length}
+use Rattle.tv_lex.specs.Gather.{Gathers, GatherCause, UnlessFilesFail}
+use Rattle.tv_lex.specs.declared.gatherer.GatherError.{GatherError}
+use Rattle.tv_lex.specs.declared.gatherer.GatherError.TheVariants as gathering
+use Rattle.tv_model.specs.declared.program.Program.{Program}
+use Rattle.tv_outside.specs.Count.{Rose}
+use Rattle.tv_outside.specs.Outcome.{ReadCause, UnlessFailed}
+use Rattle.tv_outside.specs.Told.{Held, HoldsName, IsContent, IsLonger}
+use Rattle.tv_outside.specs.declared.read.ReadError.{ReadError}
+use Rattle.tv_outside.specs.declared.read.ReadError.TheVariants as reading
+use Rattle.tv_status.specs.declared.status.FileKind.{FileKind}
+use Rattle.tv_status.specs.declared.status.FileKind.TheVariants as kind
+use Rattle.tv_status.specs.declared.status.Role.{Role}
+use Rattle.tv_status.specs.declared.status.Role.TheVariants as role
+use Rattle.tv_texts.specs.Faults.{fault_of_gathering, fault_of_reading}
+use Rattle.tv_texts.specs.Files.{HoldsSuch, IsProgramFile, LacksFile, IsLong, IsFileCause, IsTextCause, UnlessNotRead}
+use Rattle.tv_texts.specs.Meaning.{MeansProgram}
+use Rattle.tv_texts.specs.declared.fault.TextFault.{TextFault}
+use Rattle.tv_texts.specs.declared.fault.TextFault.TheVariants.{Refused, NotRead, Memory}
+
+-- a name whose content is such holds such bytes
+pub holds_such : (told : Option Held) (name bytes : List ℕ) (IsSuch : List ℕ → Type 0) → IsContent told name bytes
+    → IsSuch bytes → HoldsSuch told name IsSuch
+holds_such None name bytes IsSuch content such = tt
+holds_such (Some held) name bytes IsSuch content such = (bytes, content, such)
+
+such_also : (told : Option Held) (name : List ℕ) (P Q : List ℕ → Type 0) → ((bytes : List ℕ) → P bytes → Q bytes)
+    → HoldsSuch told name P → HoldsSuch told name Q
+such_also None name P Q f h = tt
+such_also (Some held) name P Q f h = (h.0, h.1, f h.0 h.2)
+
+longer : (told : Option Held) (name : List ℕ) (limit : ℕ) → IsLonger told name limit
+    → HoldsSuch told name (λ bytes. limit < length bytes)
+longer None name limit h = tt
+longer (Some held) name limit h = h
+
+-- a file that wasn't read
+pub not_read : (told : Option Held) (name : List ℕ) (limit : ℕ) (its_role : Role) (e : ReadError) (steady : Type 0) (old new : ℕ)
+    → ReadCause e told name limit steady old new
+    → IsFileCause its_role (IsLong told name limit) (¬ HoldsName told name) (Rose old new) steady (fault_of_reading its_role e)
+not_read told name limit its_role reading.Failed steady old new h = h
+not_read told name limit its_role reading.TooLong steady old new h = (refl, longer told name limit h)
+not_read told name limit its_role reading.Memory steady old new h = tt
+
+pub not_read_steady : {A T : Type 0} (its_role : Role) (e : ReadError) (P : Type 0)
+    → UnlessFailed {T = A} (Err e) P → UnlessNotRead {T = T} (Err (fault_of_reading its_role e)) P
+not_read_steady its_role reading.Failed P h = tt
+not_read_steady its_role reading.TooLong P h = h
+not_read_steady its_role reading.Memory P h = h
+
+-- a file that is longer than is read, as one that means nothing
+pub too_long : (told : Option Held) (name : List ℕ) (limit : ℕ) (its_role : Role) (Means : List ℕ → FileKind → Type 0)
+    (lacks rose steady : Type 0) (fault : TextFault)
+    → ((text : List ℕ) → limit < length text → Means text kind.TooLong)
+    → IsFileCause its_role (IsLong told name limit) lacks rose steady fault
+    → IsFileCause its_role (λ k. HoldsSuch told name (λ text. Means text k)) lacks rose steady fault
+too_long told name limit its_role Means lacks rose steady (Refused its kind.TooLong) f h =
+    (h.0, such_also told name (λ bytes. limit < length bytes) (λ text. Means text kind.TooLong) f h.1)
+too_long told name limit its_role Means lacks rose steady (Refused its (kind.Gathering e)) f h = absurd h.1
+too_long told name limit its_role Means lacks rose steady (Refused its (kind.Lexing e)) f h = absurd h.1
+too_long told name limit its_role Means lacks rose steady (Refused its (kind.Program e)) f h = absurd h.1
+too_long told name limit its_role Means lacks rose steady (Refused its (kind.Structures e)) f h = absurd h.1
+too_long told name limit its_role Means lacks rose steady (Refused its (kind.ReportForm place)) f h = absurd h.1
+too_long told name limit its_role Means lacks rose steady NotRead f h = h
+too_long told name limit its_role Means lacks rose steady Memory f h = tt
+
+-- a file whose text means nothing
+pub held_refused : (told : Option Held) (name text : List ℕ) (its_role : Role) (Means : List ℕ → FileKind → Type 0)
+    (lacks rose steady : Type 0) (fault : TextFault) → IsContent told name text
+    → IsTextCause its_role (Means text) fault
+    → IsFileCause its_role (λ k. HoldsSuch told name (λ bytes. Means bytes k)) lacks rose steady fault
+held_refused told name text its_role Means lacks rose steady (Refused its k) content h =
+    (h.0, holds_such told name text (λ bytes. Means bytes k) content h.1)
+held_refused told name text its_role Means lacks rose steady NotRead content h = absurd h.0
+held_refused told name text its_role Means lacks rose steady Memory content h = tt
+
+-- a program that wasn't gathered
+pub not_gathered : (told : Option Held) (name : List ℕ) (e : GatherError) (steady : Type 0) (old new : ℕ)
+    → GatherCause e told name steady old new
+    → IsFileCause role.Program (λ k. IsProgramFile told name (Err k)) (LacksFile told name) (Rose old new) steady (fault_of_gathering e)
+not_gathered told name gathering.Failed steady old new h = h
+not_gathered told name gathering.TooLong steady old new h = (refl, h)
+not_gathered told name gathering.Unended steady old new h = (refl, h)
+not_gathered told name gathering.IncludeForm steady old new h = (refl, h)
+not_gathered told name gathering.IncludeDepth steady old new h = (refl, h)
+not_gathered told name gathering.Memory steady old new h = tt
+
+pub not_gathered_steady : {A T : Type 0} (e : GatherError) (P : Type 0)
+    → UnlessFilesFail {T = A} (Err e) P → UnlessNotRead {T = T} (Err (fault_of_gathering e)) P
+not_gathered_steady gathering.Failed P h = tt
+not_gathered_steady gathering.TooLong P h = h
+not_gathered_steady gathering.Unended P h = h
+not_gathered_steady gathering.IncludeForm P h = h
+not_gathered_steady gathering.IncludeDepth P h = h
+not_gathered_steady gathering.Memory P h = h
+
+-- a program whose gathered text means none
+pub gathered_refused : (told : Option Held) (name text : List ℕ) (lacks rose steady : Type 0) (fault : TextFault)
+    → Gathers told name (Ok text) → IsTextCause role.Program (λ k. MeansProgram text (Err k)) fault
+    → IsFileCause role.Program (λ k. IsProgramFile told name (Err k)) lacks rose steady fault
+gathered_refused told name text lacks rose steady (Refused its kind.TooLong) gathers h = absurd h.1
+gathered_refused told name text lacks rose steady (Refused its (kind.Gathering e)) gathers h = absurd h.1
+gathered_refused told name text lacks rose steady (Refused its (kind.Lexing e)) gathers h = absurd h.1
+gathered_refused told name text lacks rose steady (Refused its (kind.Program e)) gathers h = (h.0, (text, gathers, h.1))
+gathered_refused told name text lacks rose steady (Refused its (kind.Structures e)) gathers h = absurd h.1
+gathered_refused told name text lacks rose steady (Refused its (kind.ReportForm place)) gathers h = absurd h.1
+gathered_refused told name text lacks rose steady NotRead gathers h = absurd h.0
+gathered_refused told name text lacks rose steady Memory gathers h = tt
+
+-- what holds anyway
+pub holds_anyway : {T : Type 0} (result : Result T TextFault) (P : Type 0) → P → UnlessNotRead result P
+holds_anyway (Ok found) P h = h
+holds_anyway (Err (Refused its k)) P h = h
+holds_anyway (Err NotRead) P h = tt
+holds_anyway (Err Memory) P h = h

@@ -1,0 +1,90 @@
+-- What the readers of tokens refuse, as refusals of a text.
+use Rattle.std.proofs.Common.{◌≡◌, ℕ, ◌≤◌, Bool, true, false, List, Result, Ok, Err, refl}
+use Rattle.std.specs.Prelude.{if◌then◌else◌, length}
+use Rattle.tv_front.specs.Meaning.{IsRefused, is_memory, IsCause as ProgramCause, StopsAtToken as ProgramStops}
+use Rattle.tv_front.specs.declared.fault.ProgramFault.{ProgramFault}
+use Rattle.tv_lex.specs.Bytes.{longest_text}
+use Rattle.tv_lex.specs.Gather.{longest_gathered}
+use Rattle.tv_lex.specs.Pieces.{Reads, Cause as LexCause}
+use Rattle.tv_lex.specs.Token.{spec_tokens}
+use Rattle.tv_lex.specs.declared.token.LexError.{LexError}
+use Rattle.tv_lex.specs.declared.token.LexError.TheVariants as lexing
+use Rattle.tv_lex.specs.declared.token.Token.{Token}
+use Rattle.tv_model.specs.declared.program.Program.{Program}
+use Rattle.tv_report.specs.Meaning.{IsCause as ReportCause, StopsAtToken as ReportStops}
+use Rattle.tv_report.specs.declared.error.ReportError.{ReportError}
+use Rattle.tv_report.specs.declared.error.ReportError.TheVariants as report
+use Rattle.tv_status.specs.declared.status.FileKind.{FileKind}
+use Rattle.tv_status.specs.declared.status.FileKind.TheVariants as kind
+use Rattle.tv_status.specs.declared.status.Role.{Role}
+use Rattle.tv_status.specs.declared.status.Role.TheVariants as role
+use Rattle.tv_texts.specs.Faults.{fault_of_program, fault_of_lexing, fault_of_structures, fault_of_report}
+use Rattle.tv_texts.specs.Files.{IsTextCause}
+use Rattle.tv_texts.specs.Meaning.{IsUnlexed, MeansProgram, MeansInitial, MeansReport}
+use Rattle.tv_texts.specs.declared.fault.TextFault.{TextFault}
+use Rattle.tv_texts.specs.declared.fault.TextFault.TheVariants.{Refused, NotRead, Memory}
+use Rattle.tv_tree.specs.Steps.{Unless}
+use Rattle.tv_tvs.specs.Meaning.{IsCause as StructuresCause, StopsAtToken as StructuresStops}
+use Rattle.tv_tvs.specs.declared.error.TvsError.{TvsError}
+use Rattle.tv_tvs.specs.declared.error.TvsError.TheVariants as structures
+
+pub unlexed : (text : List ℕ) (its_role : Role) (e : LexError) → LexCause text e
+    → IsTextCause its_role (IsUnlexed text) (fault_of_lexing its_role e)
+unlexed text its_role lexing.BadByte h = (refl, h)
+unlexed text its_role lexing.Unended h = (refl, h)
+unlexed text its_role lexing.Memory h = tt
+
+-- a text without tokens means nothing of another kind either
+unlexed_as : (text : List ℕ) (its_role : Role) (Means : FileKind → Type 0) (fault : TextFault)
+    → ((e : LexError) → IsUnlexed text (kind.Lexing e) → Means (kind.Lexing e))
+    → IsTextCause its_role (IsUnlexed text) fault → IsTextCause its_role Means fault
+unlexed_as text its_role Means (Refused its kind.TooLong) f h = absurd h.1
+unlexed_as text its_role Means (Refused its (kind.Gathering e)) f h = absurd h.1
+unlexed_as text its_role Means (Refused its (kind.Lexing e)) f h = (h.0, f e h.1)
+unlexed_as text its_role Means (Refused its (kind.Program e)) f h = absurd h.1
+unlexed_as text its_role Means (Refused its (kind.Structures e)) f h = absurd h.1
+unlexed_as text its_role Means (Refused its (kind.ReportForm place)) f h = absurd h.1
+unlexed_as text its_role Means NotRead f h = absurd h.0
+unlexed_as text its_role Means Memory f h = tt
+
+pub initial_unlexed : (p : Program) (text : List ℕ) (fault : TextFault) → length text ≤ longest_gathered
+    → IsTextCause role.Initial (IsUnlexed text) fault
+    → IsTextCause role.Initial (λ k. MeansInitial p text (Err k)) fault
+initial_unlexed p text fault size h =
+    unlexed_as text role.Initial (λ k. MeansInitial p text (Err k)) fault (λ e is. (size, is)) h
+
+pub report_unlexed : (p : Program) (text : List ℕ) (fault : TextFault) → length text ≤ longest_text
+    → IsTextCause role.Report (IsUnlexed text) fault
+    → IsTextCause role.Report (λ k. MeansReport p text (Err k)) fault
+report_unlexed p text fault size h =
+    unlexed_as text role.Report (λ k. MeansReport p text (Err k)) fault (λ e is. (size, is)) h
+
+pub program_refused : (text : List ℕ) (fault : ProgramFault) → ProgramCause text fault → ProgramStops text fault
+    → IsTextCause role.Program (λ k. MeansProgram text (Err k)) (fault_of_program fault)
+program_refused text fault cause stops = told (is_memory fault) cause
+  where
+    told : (b : Bool) → Unless b (IsRefused text fault)
+        → IsTextCause role.Program (λ k. MeansProgram text (Err k))
+        (if b then Memory else Refused role.Program (kind.Program fault))
+    told true c = tt
+    told false c = (refl, (c, stops))
+
+pub structures_refused : (p : Program) (text : List ℕ) (tokens : List Token) (e : TvsError)
+    → length text ≤ longest_gathered → Reads text (Ok tokens) → StructuresCause p.vocab (spec_tokens text tokens) e
+    → StructuresStops text tokens e → IsTextCause role.Initial (λ k. MeansInitial p text (Err k)) (fault_of_structures e)
+structures_refused p text tokens (structures.Syntax place) size reads cause stops =
+    (refl, (size, (tokens, reads, (cause, stops))))
+structures_refused p text tokens structures.IndividualUnknown size reads cause stops = (refl, (size, (tokens, reads, cause)))
+structures_refused p text tokens structures.IndividualTwice size reads cause stops = (refl, (size, (tokens, reads, cause)))
+structures_refused p text tokens structures.NameUnknown size reads cause stops = (refl, (size, (tokens, reads, cause)))
+structures_refused p text tokens structures.ArityWrong size reads cause stops = (refl, (size, (tokens, reads, cause)))
+structures_refused p text tokens structures.BadSm size reads cause stops = (refl, (size, (tokens, reads, cause)))
+structures_refused p text tokens structures.TooManyIndividuals size reads cause stops = (refl, (size, (tokens, reads, cause)))
+structures_refused p text tokens structures.Memory size reads cause stops = tt
+
+pub report_refused : (p : Program) (text : List ℕ) (tokens : List Token) (e : ReportError)
+    → length text ≤ longest_text → Reads text (Ok tokens) → ReportCause p (spec_tokens text tokens) e
+    → ReportStops text tokens e → IsTextCause role.Report (λ k. MeansReport p text (Err k)) (fault_of_report e)
+report_refused p text tokens (report.ReportForm place) size reads cause stops =
+    (refl, (size, (tokens, reads, (cause, stops))))
+report_refused p text tokens report.Memory size reads cause stops = tt

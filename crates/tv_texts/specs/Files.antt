@@ -1,0 +1,73 @@
+-- What named files mean, where it is told what names hold.
+use Rattle.std.specs.Prelude.{ℕ, ◌≡◌, ◌<◌, List, length, Option, None, Some, Result, Ok, Err}
+use Rattle.tv_lex.specs.Gather.{Gathers}
+use Rattle.tv_lex.specs.declared.gatherer.GatherError.{GatherError}
+use Rattle.tv_lex.specs.declared.gatherer.GatherError.TheVariants.{Failed, Memory}
+use Rattle.tv_listing.specs.declared.analysis.Analysis.{Analysis}
+use Rattle.tv_model.specs.declared.program.Program.{Program}
+use Rattle.tv_outside.specs.Told.{Held, content_of}
+use Rattle.tv_status.specs.declared.status.FileKind.{FileKind}
+use Rattle.tv_status.specs.declared.status.FileKind.TheVariants.{Gathering, TooLong}
+use Rattle.tv_status.specs.declared.status.Role.{Role}
+use Rattle.tv_struct.specs.StructureForm.{StructureForm}
+use Rattle.tv_texts.specs.Meaning.{MeansProgram, MeansInitial, MeansReport}
+use Rattle.tv_texts.specs.declared.fault.TextFault.{TextFault}
+use Rattle.tv_texts.specs.declared.fault.TextFault.TheVariants.{Refused, NotRead, Memory as NoMemory}
+
+-- the name holds such bytes
+abbrev pub HoldsSuch : Option Held → (name : List ℕ) → (List ℕ → Type 0) → Type 0
+HoldsSuch None name IsSuch = Unit {0}
+HoldsSuch (Some held) name IsSuch = (bytes : List ℕ) × (content_of held name ≡ Some bytes) × IsSuch bytes
+
+-- includes can't be put into the named file: the first fault that is come to is this, and not that a file is
+-- missing
+abbrev pub IsUngathered : Option Held → (name : List ℕ) → GatherError → Type 0
+IsUngathered told name Failed = ⊥
+IsUngathered told name Memory = ⊥
+IsUngathered told name e = Gathers told name (Err e)
+
+-- the text of the named file, with its includes put in, is such
+abbrev pub GathersSuch : Option Held → (name : List ℕ) → (List ℕ → Type 0) → Type 0
+GathersSuch told name IsSuch = (text : List ℕ) × Gathers told name (Ok text) × IsSuch text
+
+-- the named file, with its includes put in, means this program, or is refused so
+abbrev pub IsProgramFile : Option Held → (name : List ℕ) → Result Program FileKind → Type 0
+IsProgramFile told name (Ok program) = GathersSuch told name (λ text. MeansProgram text (Ok program))
+IsProgramFile told name (Err (Gathering e)) = IsUngathered told name e
+IsProgramFile told name (Err other) = GathersSuch told name (λ text. MeansProgram text (Err other))
+
+-- the named file, or one that it includes and that is come to before any refusal, isn't held
+abbrev pub LacksFile : Option Held → (name : List ℕ) → Type 0
+LacksFile told name = Gathers told name (Err Failed)
+
+-- the named file means these initial structures of the program, or is refused so
+abbrev pub IsInitialFile : Option Held → (name : List ℕ) → Program → Result (List StructureForm) FileKind
+    → Type 0
+IsInitialFile told name program answer = HoldsSuch told name (λ text. MeansInitial program text answer)
+
+-- the named file is this report on the program, or is refused so
+abbrev pub IsReportFile : Option Held → (name : List ℕ) → Program → Result Analysis FileKind → Type 0
+IsReportFile told name program answer = HoldsSuch told name (λ text. MeansReport program text answer)
+
+-- the named file has more bytes than this
+abbrev pub IsLong : Option Held → (name : List ℕ) → (limit : ℕ) → FileKind → Type 0
+IsLong told name limit TooLong = HoldsSuch told name (λ bytes. limit < length bytes)
+IsLong told name limit other = ⊥
+
+-- why a file of this role means nothing: it is refused so; or the count of faults of the files rose, and
+-- steady ones lack it; or memory ran out
+abbrev pub IsFileCause : Role → (FileKind → Type 0) → (lacks rose steady : Type 0) → TextFault → Type 0
+IsFileCause role Refuses lacks rose steady (Refused its_role kind) = (its_role ≡ role) × Refuses kind
+IsFileCause role Refuses lacks rose steady NotRead = rose × (steady → lacks)
+IsFileCause role Refuses lacks rose steady NoMemory = Unit {0}
+
+-- why a text that is at hand means nothing: it is refused so, or memory ran out
+abbrev pub IsTextCause : Role → (FileKind → Type 0) → TextFault → Type 0
+IsTextCause role Refuses fault = IsFileCause role Refuses ⊥ ⊥ ⊥ fault
+
+-- this holds at any answer but a failed reading
+abbrev pub UnlessNotRead : {T : Type 0} → Result T TextFault → Type 0 → Type 0
+UnlessNotRead (Ok found) P = P
+UnlessNotRead (Err (Refused role kind)) P = P
+UnlessNotRead (Err NotRead) P = Unit {0}
+UnlessNotRead (Err NoMemory) P = P

@@ -1,0 +1,112 @@
+//! Why a text or a file means nothing.
+
+ghost use Rattle.std.specs.Prelude.{◌≡◌};
+ghost use Rattle.tv_front.specs.Meaning.{is_memory};
+ghost use Rattle.tv_texts.specs.Faults.{fault_of_gathering, fault_of_program, fault_of_reading, fault_of_lexing, fault_of_structures, fault_of_report};
+
+use thiserror::Error;
+use tv_expand::ExpandError;
+use tv_front::ProgramFault;
+use tv_lex::{GatherError, LexError};
+use tv_names::ResolveError;
+use tv_outside::ReadError;
+use tv_parse::ParseError;
+use tv_report::ReportError;
+use tv_status::{FileKind, Role};
+use tv_tvs::TvsError;
+
+/// Why a text or a file gave nothing.
+#[derive(Clone, Copy, Debug, PartialEq, Eq, Error)]
+pub enum TextFault {
+    /// The file of this role means nothing.
+    #[error("the file of a role means nothing: {1:?}")]
+    Refused(Role, FileKind),
+    /// A call of the files failed.
+    #[error("a call of the files failed")]
+    NotRead,
+    /// Memory ran out.
+    #[error("out of memory")]
+    Memory,
+}
+
+impl From<GatherError> for TextFault {
+    ghost from_gives = { λ error fault. fault ≡ fault_of_gathering error };
+
+    fn from(error: GatherError) -> TextFault {
+        match error {
+            GatherError::Failed => TextFault::NotRead,
+            GatherError::Memory => TextFault::Memory,
+            _ => TextFault::Refused(Role::Program, FileKind::Gathering(error)),
+        }
+    }
+}
+
+/// Whether memory ran out where a program was read.
+fn is_want_of_memory(fault: ProgramFault) -> bool
+    ensures { result ≡ is_memory fault }
+{
+    match fault {
+        ProgramFault::Lexing(LexError::Memory) => true,
+        ProgramFault::Parsing(ParseError::Memory) => true,
+        ProgramFault::Expansion(ExpandError::Memory) => true,
+        ProgramFault::Resolution(ResolveError::Memory) => true,
+        _ => false,
+    }
+}
+
+impl From<ProgramFault> for TextFault {
+    ghost from_gives = { λ error fault. fault ≡ fault_of_program error };
+
+    fn from(error: ProgramFault) -> TextFault {
+        if is_want_of_memory(error) {
+            TextFault::Memory
+        } else {
+            TextFault::Refused(Role::Program, FileKind::Program(error))
+        }
+    }
+}
+
+impl From<TvsError> for TextFault {
+    ghost from_gives = { λ error fault. fault ≡ fault_of_structures error };
+
+    fn from(error: TvsError) -> TextFault {
+        match error {
+            TvsError::Memory => TextFault::Memory,
+            _ => TextFault::Refused(Role::Initial, FileKind::Structures(error)),
+        }
+    }
+}
+
+impl From<ReportError> for TextFault {
+    ghost from_gives = { λ error fault. fault ≡ fault_of_report error };
+
+    fn from(error: ReportError) -> TextFault {
+        match error {
+            ReportError::ReportForm(place) => {
+                TextFault::Refused(Role::Report, FileKind::ReportForm(place))
+            }
+            ReportError::Memory => TextFault::Memory,
+        }
+    }
+}
+
+/// The fault of a file of this role that wasn't read.
+pub(crate) fn fault_of_reading(error: ReadError, role: Role) -> TextFault
+    ensures { result ≡ fault_of_reading role error }
+{
+    match error {
+        ReadError::Failed => TextFault::NotRead,
+        ReadError::TooLong => TextFault::Refused(role, FileKind::TooLong),
+        ReadError::Memory => TextFault::Memory,
+    }
+}
+
+/// The fault of a file of this role whose bytes make no tokens.
+pub(crate) fn fault_of_lexing(error: LexError, role: Role) -> TextFault
+    ensures { result ≡ fault_of_lexing role error }
+{
+    match error {
+        LexError::Memory => TextFault::Memory,
+        _ => TextFault::Refused(role, FileKind::Lexing(error)),
+    }
+}

@@ -1,0 +1,136 @@
+//! What named files mean.
+
+ghost use Rattle.std.specs.Prelude.{◌≡◌, ◌≤◌, ◌<◌, ◌^◌, All, Ok, Err, length, IfOk, IfErr};
+ghost use Rattle.tv_lex.specs.Bytes.{longest_text};
+ghost use Rattle.tv_lex.specs.Gather.{longest_gathered};
+ghost use Rattle.tv_listing.specs.Listed.{IsListing};
+ghost use Rattle.tv_model.specs.Program.{program_of};
+ghost use Rattle.tv_model.specs.Valid.{IsValid};
+ghost use Rattle.tv_outside.specs.Count.{Rose};
+ghost use Rattle.tv_outside.specs.Told.{HoldsName, IsContent};
+ghost use Rattle.tv_status.specs.declared.status.Role.TheVariants as role;
+ghost use Rattle.tv_struct.specs.StructureForm.{IsOver};
+ghost use Rattle.tv_texts.specs.Files.{IsProgramFile, LacksFile, IsInitialFile, IsReportFile, IsFileCause, IsLong, UnlessNotRead};
+
+use crate::fault::{TextFault, fault_of_reading};
+use crate::texts::{initial_in, program_in, report_in};
+use std::alloc::Global;
+use tv_lex::{MAX_TEXT, gather};
+use tv_listing::Analysis;
+use tv_model::Program;
+use tv_outside::{Files, read_all};
+use tv_status::Role;
+use tv_struct::Structures;
+
+/// The greatest number of bytes of a report.
+pub const MAX_REPORT: usize = 67_108_864;
+
+/// The content of the file of this role, where it has at most `limit` bytes.
+#[tactic(auto, using(crate::proofs::Loading::not_read, crate::proofs::Loading::not_read_steady))]
+fn read_file<F: Files>(
+    alloc: Global,
+    files: &mut F,
+    name: &str,
+    role: Role,
+    limit: usize,
+) -> Result<Vec<u8>, TextFault>
+    requires { limit ≤ longest_text }
+    ensures content { IfOk result (λ bytes. IsContent (F.holds files.old) name.now bytes.items) }
+    ensures fits { IfOk result (λ bytes. length bytes.items ≤ limit) }
+    ensures cause { IfErr result (IsFileCause role (IsLong (F.holds files.old) name.now limit)
+        (¬ HoldsName (F.holds files.old) name.now)
+        (Rose (F.faults files.old) (F.faults files.new)) (F.steady files.old)) }
+    ensures holds { F.holds files.new ≡ F.holds files.old }
+    ensures count { F.faults files.old ≤ F.faults files.new }
+    ensures steady { F.steady files.old → UnlessNotRead result (F.steady files.new
+        × (F.faults files.new ≡ F.faults files.old)) }
+{
+    match read_all(alloc, files, name, limit) {
+        Ok(bytes) => Ok(bytes),
+        Err(error) => Err(fault_of_reading(error, role)),
+    }
+}
+
+/// The program that the named file means, with its includes put in; it is valid.
+///
+/// # Errors
+/// It is refused where it means no program. It isn't read only where a call of `files` failed, and on steady
+/// files only where they lack it, or a file that it includes and that is come to before any refusal. Or
+/// memory ran out.
+#[tactic(auto, using(crate::proofs::Loading::not_gathered, crate::proofs::Loading::not_gathered_steady, crate::proofs::Loading::gathered_refused, crate::proofs::Loading::holds_anyway))]
+pub fn load_program<F: Files>(
+    alloc: Global,
+    files: &mut F,
+    name: &str,
+) -> Result<Program, TextFault>
+    ensures means { IfOk result (λ p. IsProgramFile (F.holds files.old) name.now (Ok p)) }
+    ensures valid { IfOk result (λ p. IsValid (program_of p)) }
+    ensures cause { IfErr result (IsFileCause role.Program (λ kind. IsProgramFile
+        (F.holds files.old) name.now (Err kind))
+        (LacksFile (F.holds files.old) name.now) (Rose (F.faults files.old) (F.faults files.new))
+        (F.steady files.old)) }
+    ensures holds { F.holds files.new ≡ F.holds files.old }
+    ensures count { F.faults files.old ≤ F.faults files.new }
+    ensures steady { F.steady files.old → UnlessNotRead result (F.steady files.new
+        × (F.faults files.new ≡ F.faults files.old)) }
+{
+    let gathered = gather(alloc, files, name)?;
+    program_in(alloc, &gathered.bytes)
+}
+
+/// The initial structures over a program's vocabulary that the named file means.
+///
+/// # Errors
+/// It is refused where it means none. It isn't read only where a call of `files` failed, and on steady files
+/// only where they lack it. Or memory ran out.
+#[tactic(auto, using(crate::proofs::Loading::too_long, crate::proofs::Loading::held_refused, crate::proofs::Loading::holds_such, crate::proofs::Loading::holds_anyway))]
+pub fn load_initial<F: Files>(
+    alloc: Global,
+    files: &mut F,
+    name: &str,
+    program: &Program,
+) -> Result<Structures, TextFault>
+    requires valid { IsValid (program_of program.now) }
+    ensures means { IfOk result (λ ss. IsInitialFile (F.holds files.old) name.now program.now (Ok ss)) }
+    ensures over { IfOk result (All (IsOver program.now.vocab)) }
+    ensures few { IfOk result (λ ss. length ss < 2 ^ 32) }
+    ensures cause { IfErr result (IsFileCause role.Initial (λ kind. IsInitialFile
+        (F.holds files.old) name.now program.now (Err kind))
+        (¬ HoldsName (F.holds files.old) name.now) (Rose (F.faults files.old) (F.faults files.new))
+        (F.steady files.old)) }
+    ensures holds { F.holds files.new ≡ F.holds files.old }
+    ensures count { F.faults files.old ≤ F.faults files.new }
+    ensures steady { F.steady files.old → UnlessNotRead result (F.steady files.new
+        × (F.faults files.new ≡ F.faults files.old)) }
+{
+    let bytes = read_file(alloc, files, name, Role::Initial, MAX_TEXT)?;
+    initial_in(alloc, program, &bytes)
+}
+
+/// The report on a program that the named file is.
+///
+/// # Errors
+/// It is refused where it is none. It isn't read only where a call of `files` failed, and on steady files
+/// only where they lack it. Or memory ran out.
+#[tactic(auto, using(crate::proofs::Loading::too_long, crate::proofs::Loading::held_refused, crate::proofs::Loading::holds_such, crate::proofs::Loading::holds_anyway))]
+pub fn load_report<F: Files>(
+    alloc: Global,
+    files: &mut F,
+    name: &str,
+    program: &Program,
+) -> Result<Analysis, TextFault>
+    requires valid { IsValid (program_of program.now) }
+    ensures means { IfOk result (λ a. IsReportFile (F.holds files.old) name.now program.now (Ok a)) }
+    ensures kept { IfOk result (λ a. IsListing program.now a.listing) }
+    ensures cause { IfErr result (IsFileCause role.Report (λ kind. IsReportFile
+        (F.holds files.old) name.now program.now (Err kind))
+        (¬ HoldsName (F.holds files.old) name.now) (Rose (F.faults files.old) (F.faults files.new))
+        (F.steady files.old)) }
+    ensures holds { F.holds files.new ≡ F.holds files.old }
+    ensures count { F.faults files.old ≤ F.faults files.new }
+    ensures steady { F.steady files.old → UnlessNotRead result (F.steady files.new
+        × (F.faults files.new ≡ F.faults files.old)) }
+{
+    let bytes = read_file(alloc, files, name, Role::Report, MAX_REPORT)?;
+    report_in(alloc, program, &bytes)
+}

@@ -1,0 +1,27 @@
+//! Laws about what texts mean. Each function does nothing of its own: its clauses are what it shows.
+
+ghost use Rattle.std.specs.Prelude.{ℕ, ◌≡◌, List};
+ghost use Rattle.tv_model.specs.declared.program.Program.{Program};
+ghost use Rattle.tv_texts.specs.Agreement.{GiveOne, SameProgram};
+ghost use Rattle.tv_texts.specs.Meaning.{MeansProgram, MeansInitial, MeansReport};
+
+use tv_front::{one_meaning, one_refusal};
+use tv_lex::one_reading;
+use tv_report::one_meaning as one_report;
+use tv_tvs::one_reading as one_structure_reading;
+
+/// A text means one program, one list of structures and one report at most, or is refused for one reason, its
+/// place aside.
+pub fn one_meaning_each()
+    ensures program { (text : List ℕ) → GiveOne SameProgram (MeansProgram text) (MeansProgram text) }
+    ensures initial { (p q : Program) → SameProgram p q → (text : List ℕ)
+        → GiveOne ◌≡◌ (MeansInitial p text) (MeansInitial q text) }
+    ensures report { (p q : Program) → SameProgram p q → (text : List ℕ)
+        → GiveOne ◌≡◌ (MeansReport p text) (MeansReport q text) }
+{
+    one_meaning();
+    one_refusal();
+    one_reading();
+    one_structure_reading();
+    one_report();
+}

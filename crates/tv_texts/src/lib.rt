@@ -1,0 +1,12 @@
+//! From files and texts to what they mean: programs, initial structures, reports.
+#![tactic(auto)]
+
+mod fault;
+mod files;
+mod laws;
+mod texts;
+
+pub use fault::TextFault;
+pub use files::{load_initial, load_program, load_report};
+pub use laws::one_meaning_each;
+pub use texts::{initial_in, program_in};

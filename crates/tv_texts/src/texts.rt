@@ -1,0 +1,88 @@
+//! What texts mean.
+
+ghost use Rattle.std.specs.Prelude.{◌≡◌, ◌≤◌, ◌<◌, ◌^◌, All, None, Ok, Err, length, IfOk, IfErr};
+ghost use Rattle.tv_lex.specs.Bytes.{longest_text};
+ghost use Rattle.tv_lex.specs.Gather.{longest_gathered};
+ghost use Rattle.tv_lex.specs.Pieces.{Reads, AreInOrder};
+ghost use Rattle.tv_listing.specs.Listed.{IsListing};
+ghost use Rattle.tv_model.specs.Program.{program_of};
+ghost use Rattle.tv_model.specs.Valid.{IsValid};
+ghost use Rattle.tv_status.specs.declared.status.Role.TheVariants as role;
+ghost use Rattle.tv_struct.specs.StructureForm.{IsOver, IsStructure};
+ghost use Rattle.tv_texts.specs.Files.{IsTextCause};
+ghost use Rattle.tv_texts.specs.Meaning.{IsUnlexed, MeansProgram, MeansInitial, MeansReport};
+
+use crate::fault::{TextFault, fault_of_lexing};
+use std::alloc::Global;
+use tv_front::read_program;
+use tv_lex::{Tokens, lex};
+use tv_listing::Analysis;
+use tv_model::Program;
+use tv_report::read_report;
+use tv_status::Role;
+use tv_struct::Structures;
+use tv_tvs::{read_tvs, valid_programs_fit};
+
+/// The tokens of the text of a file that has this role.
+#[tactic(auto, using(crate::proofs::Refusals::unlexed))]
+fn tokens_in(alloc: Global, bytes: &[u8], role: Role) -> Result<Tokens, TextFault>
+    requires { length bytes.now ≤ longest_text }
+    ensures tokens { IfOk result (λ t. Reads bytes.now (Ok t.list.items)) }
+    ensures order { IfOk result (λ t. AreInOrder 0 t.list.items (length bytes.now)) }
+    ensures cause { IfErr result (IsTextCause role (IsUnlexed bytes.now)) }
+{
+    match lex(alloc, bytes) {
+        Ok(tokens) => Ok(tokens),
+        Err(error) => Err(fault_of_lexing(error, role)),
+    }
+}
+
+/// The program that a text means, which is valid. Its includes are put in already.
+///
+/// # Errors
+/// It is refused where it means no program; or memory ran out.
+#[tactic(auto, using(crate::proofs::Refusals::program_refused))]
+pub fn program_in(alloc: Global, bytes: &[u8]) -> Result<Program, TextFault>
+    requires { length bytes.now ≤ longest_text }
+    ensures means { IfOk result (λ p. MeansProgram bytes.now (Ok p)) }
+    ensures valid { IfOk result (λ p. IsValid (program_of p)) }
+    ensures cause { IfErr result (IsTextCause role.Program (λ kind. MeansProgram bytes.now (Err kind))) }
+{
+    Ok(read_program(alloc, bytes)?)
+}
+
+/// The initial structures over a program's vocabulary that a text of at most 4,194,304 bytes means.
+///
+/// # Errors
+/// It is refused where it means none; or memory ran out.
+#[tactic(auto, using(crate::proofs::Refusals::initial_unlexed, crate::proofs::Refusals::structures_refused, crate::proofs::Counts::few_structures))]
+pub fn initial_in(alloc: Global, program: &Program, bytes: &[u8]) -> Result<Structures, TextFault>
+    requires valid { IsValid (program_of program.now) }
+    requires size { length bytes.now ≤ longest_gathered }
+    ensures means { IfOk result (λ ss. MeansInitial program.now bytes.now (Ok ss)) }
+    ensures over { IfOk result (All (IsOver program.now.vocab)) }
+    ensures few { IfOk result (λ ss. length ss < 2 ^ 32) }
+    ensures cause { IfErr result (IsTextCause role.Initial (λ kind. MeansInitial program.now bytes.now
+        (Err kind))) }
+{
+    valid_programs_fit();
+    let tokens = tokens_in(alloc, bytes, Role::Initial)?;
+    Ok(read_tvs(alloc, &program.vocab, bytes, &tokens)?)
+}
+
+/// The report on a program that a text of at most 67,108,864 bytes is.
+///
+/// # Errors
+/// It is refused where it is none; or memory ran out.
+#[tactic(auto, using(crate::proofs::Refusals::report_unlexed, crate::proofs::Refusals::report_refused))]
+pub fn report_in(alloc: Global, program: &Program, bytes: &[u8]) -> Result<Analysis, TextFault>
+    requires valid { IsValid (program_of program.now) }
+    requires size { length bytes.now ≤ longest_text }
+    ensures means { IfOk result (λ a. MeansReport program.now bytes.now (Ok a)) }
+    ensures kept { IfOk result (λ a. IsListing program.now a.listing) }
+    ensures cause { IfErr result (IsTextCause role.Report (λ kind. MeansReport program.now bytes.now
+        (Err kind))) }
+{
+    let tokens = tokens_in(alloc, bytes, Role::Report)?;
+    Ok(read_report(alloc, program, bytes, &tokens)?)
+}

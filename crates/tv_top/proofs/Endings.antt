@@ -1,0 +1,326 @@
+-- A call ends as its words and files call for.
+use Rattle.std.proofs.Common.{◌≡◌, ◌⊎◌, ℕ, List, Option, None, Some, Result, Ok, Err, inl, inr, refl, sym, ap, subst, ◌∙◌, ⊎_elim}
+use Rattle.tv_judge.specs.Judged.{Case, IsClosedReport, KeepsAllBudgets, IsRejection, StopsAt}
+use Rattle.tv_listing.specs.declared.analysis.Analysis.{Analysis}
+use Rattle.tv_listing.specs.declared.analysis.Rejection.{Rejection}
+use Rattle.tv_model.specs.Program.{ProgramForm, program_of}
+use Rattle.tv_model.specs.declared.program.Program.{Program}
+use Rattle.tv_outside.specs.Told.{Held}
+use Rattle.tv_status.specs.declared.status.FileKind.{FileKind}
+use Rattle.tv_status.specs.declared.status.Role.{Role}
+use Rattle.tv_status.specs.declared.status.Status.{Status}
+use Rattle.tv_status.specs.declared.status.Status.TheVariants.{Done, Rejected, Usage, FileFault, Structures, TooManySplits, TooManyIndividuals, ReadFault, WriteFault, Memory}
+use Rattle.tv_struct.specs.StructureForm.{StructureForm}
+use Rattle.tv_texts.specs.Agreement.{GiveOne, SameProgram, placeless}
+use Rattle.tv_top.proofs.Demands.{one_rejection, stops_unrejected, closed_unrejected}
+use Rattle.tv_top.proofs.Tasks.{SameTask, HasReport, same_case, given_report, one_task, one_reported, not_refused, one_refusal}
+use Rattle.tv_top.specs.Answers.{Reached, case_for, IsDone, IsRejected, IsAnswer, max_of, ReachesTooMuch, StepMeets, MeetsBudget, KeepsLimits, CanBeDone, demo_max}
+use Rattle.tv_top.specs.Call.{IsAnswerTo, IsCause, IsCommandCause, EndsFor, CommandCallsFor, CallsFor, IsExcuse, without_place, EndsDuly, HoldsOperands}
+use Rattle.tv_top.specs.Delivery.{OutTook}
+use Rattle.tv_top.specs.Meaning.{Task, Commands, FilesMean, GivesProgram, GivesInitial, GivesReport, IsRefused, IsMissing, IsTold, HoldsFiles}
+use Rattle.tv_top.specs.declared.fault.Fault.{Fault}
+use Rattle.tv_top.specs.declared.fault.Fault.TheVariants as fault
+use Rattle.tv_transfer.specs.Budgets.{MeetsSplits, MeetsIndividuals, KeepsBudgets}
+use Rattle.tv_words.specs.Words.{CommandForm, Analyzes, Checks, Demos, Spells, SpellsNothing}
+use Rattle.tv_work.specs.Analysed.{KeepAllBudgets, Meets}
+use Rattle.tv_work.specs.Reach.{AreMoreThan}
+
+-- what may be called for: that the job is done, that the report is rejected, or that a file is refused
+abbrev DueView : Option Held → CommandForm → Status → Type 0
+DueView told command due =
+    ((due ≡ Done) × ((task : Task) × FilesMean told command task × CanBeDone told command task))
+    ⊎ (((r : Rejection) × (due ≡ Rejected r) × ((task : Task) × FilesMean told command task × IsRejected told command task r))
+    ⊎ ((role : Role) × (kind : FileKind) × (due ≡ FileFault role kind) × IsRefused told command role kind))
+
+due_view : (told : Option Held) (command : CommandForm) (due : Status) → CommandCallsFor told command due
+    → DueView told command due
+due_view told command Done h = inl (refl, h)
+due_view told command (Rejected r) h = inr (inl (r, refl, h))
+due_view told command Usage h = absurd h
+due_view told command (FileFault role kind) h = inr (inr (role, kind, refl, h))
+due_view told command (Structures max) h = absurd h
+due_view told command TooManySplits h = absurd h
+due_view told command TooManyIndividuals h = absurd h
+due_view told command ReadFault h = absurd h
+due_view told command WriteFault h = absurd h
+due_view told command Memory h = absurd h
+
+-- what calls for an ending
+abbrev CallView : List (List ℕ) → Option Held → Status → Type 0
+CallView words told due = ((due ≡ Usage) × SpellsNothing words)
+    ⊎ Commands words (λ command. IsTold told command × CommandCallsFor told command due)
+
+call_view : (words : List (List ℕ)) (told : Option Held) (due : Status) → CallsFor words told due → CallView words told due
+call_view words told Done h = inr h
+call_view words told (Rejected r) h = inr h
+call_view words told Usage h = inl (refl, h)
+call_view words told (FileFault role kind) h = inr h
+call_view words told (Structures max) h = inr h
+call_view words told TooManySplits h = inr h
+call_view words told TooManyIndividuals h = inr h
+call_view words told ReadFault h = inr h
+call_view words told WriteFault h = inr h
+call_view words told Memory h = inr h
+
+-- how a call ends that reads all its files and keeps its memory
+abbrev CommandEnds : Option Held → CommandForm → Status → Type 0
+CommandEnds told command Done = (text : List ℕ) × IsAnswer told command Done text
+CommandEnds told command (Rejected r) = (text : List ℕ) × IsAnswer told command (Rejected r) text
+CommandEnds told command Usage = ⊥
+CommandEnds told command (FileFault role kind) = IsRefused told command role kind
+CommandEnds told command (Structures max) = ReachesTooMuch told command max
+CommandEnds told command TooManySplits = MeetsBudget told command MeetsSplits
+CommandEnds told command TooManyIndividuals = MeetsBudget told command MeetsIndividuals
+CommandEnds told command ReadFault = ⊥
+CommandEnds told command WriteFault = ⊥
+CommandEnds told command Memory = ⊥
+
+-- ---- each ending has read the report, where the command has one
+
+done_reported : (told : Option Held) (command : CommandForm) (task : Task) (text : List ℕ)
+    → IsDone told command task text → HasReport told command task
+done_reported told (Analyzes p i max mode) task text h = tt
+done_reported told (Checks p i report mode maps) task text h = (h.0, h.1)
+done_reported told (Demos number) task text h = tt
+
+can_reported : (told : Option Held) (command : CommandForm) (task : Task) → CanBeDone told command task → HasReport told command task
+can_reported told (Analyzes p i max mode) task h = tt
+can_reported told (Checks p i report mode maps) task h = (h.0, h.1)
+can_reported told (Demos number) task h = tt
+
+many_reported : (told : Option Held) (command : CommandForm) (task : Task) (max : ℕ) → max_of command ≡ Some max
+    → HasReport told command task
+many_reported told (Analyzes p i max' mode) task max h = tt
+many_reported told (Checks p i report mode maps) task max h = absurd cc
+many_reported told (Demos number) task max h = tt
+
+step_reported : (told : Option Held) (command : CommandForm) (task : Task) (Budget : ProgramForm → ℕ → StructureForm → Type 0)
+    → StepMeets told command task Budget → HasReport told command task
+step_reported told (Analyzes p i max mode) task Budget h = tt
+step_reported told (Checks p i report mode maps) task Budget h = (h.0, h.1)
+step_reported told (Demos number) task Budget h = tt
+
+-- ---- what can be done isn't hindered
+
+few : (t u : Task) (max more : ℕ) → SameTask t u → Some max ≡ Some more → KeepsLimits t max → AreMoreThan more (Reached u) → ⊥
+few t u max more same e keeps many =
+    let limit : more ≡ max = cc in
+    keeps.few (rw (same.program, same.initial, same.mode, ← limit) many)
+
+kept : (t u : Task) (max : ℕ) (Budget : ProgramForm → ℕ → StructureForm → Type 0)
+    → ((p : ProgramForm) (edge : ℕ) (s : StructureForm) → KeepsBudgets p edge s → ¬ Budget p edge s)
+    → SameTask t u → KeepsLimits t max → Meets (program_of u.program) (Budget (program_of u.program)) (Reached u) → ⊥
+kept t u max Budget keeping same keeps meets = none (rw (same.program, same.initial, same.mode) meets)
+  where
+    none : Meets (program_of t.program) (Budget (program_of t.program)) (Reached t) → ⊥
+    none m = keeping (program_of t.program) m.edge m.at.structure (keeps.budgets m.edge m.at m.source) m.budget
+
+closed_kept : (c : Case) (Budget : ProgramForm → ℕ → StructureForm → Type 0)
+    → ((p : ProgramForm) (edge : ℕ) (s : StructureForm) → KeepsBudgets p edge s → ¬ Budget p edge s)
+    → KeepsAllBudgets c → StopsAt c Budget → ⊥
+closed_kept c Budget keeping keeps stops =
+    keeping c.program stops.edge stops.meets.from
+    (keeps stops.edge stops.meets.taken stops.structure stops.meets.from stops.meets.source) stops.meets.budget
+
+-- ---- one report
+
+-- the reports of both tasks make one case
+abbrev OneCase : Option Held → CommandForm → (t u : Task) → Type 0
+OneCase told command t u = (a b : Analysis) → GivesReport told command t.program (Ok a) → GivesReport told command u.program (Ok b)
+    → case_for t a ≡ case_for u b
+
+can_not_rejected : (told : Option Held) (command : CommandForm) (t u : Task) (r : Rejection) → OneCase told command t u
+    → CanBeDone told command t → IsRejected told command u r → ⊥
+can_not_rejected told (Analyzes p i max mode) t u r same can rejected = absurd rejected.1
+can_not_rejected told (Checks p i report mode maps) t u r same can rejected =
+    closed_unrejected (case_for t can.0) r can.2
+    (subst (λ c. IsRejection c r) (sym (same can.0 rejected.0 can.1 rejected.1)) rejected.2)
+can_not_rejected told (Demos number) t u r same can rejected = absurd rejected.1
+
+done_not_rejected : (told : Option Held) (command : CommandForm) (t u : Task) (text : List ℕ) (r : Rejection)
+    → OneCase told command t u → IsDone told command t text → IsRejected told command u r → ⊥
+done_not_rejected told (Analyzes p i max mode) t u text r same done rejected = absurd rejected.1
+done_not_rejected told (Checks p i report mode maps) t u text r same done rejected =
+    closed_unrejected (case_for t done.0) r done.2.closed
+    (subst (λ c. IsRejection c r) (sym (same done.0 rejected.0 done.1 rejected.1)) rejected.2)
+done_not_rejected told (Demos number) t u text r same done rejected = absurd rejected.1
+
+both_rejected : (told : Option Held) (command : CommandForm) (t u : Task) (r s : Rejection) → OneCase told command t u
+    → IsRejected told command t r → IsRejected told command u s → r ≡ s
+both_rejected told command t u r s same h k = one_rejection (case_for t h.0) r s h.2
+    (subst (λ c. IsRejection c s) (sym (same h.0 k.0 h.1 k.1)) k.2)
+
+step_not_rejected : (told : Option Held) (command : CommandForm) (t u : Task) (Budget : ProgramForm → ℕ → StructureForm → Type 0)
+    (r : Rejection) → OneCase told command t u → StepMeets told command t Budget → IsRejected told command u r → ⊥
+step_not_rejected told (Analyzes p i max mode) t u Budget r same step rejected = absurd rejected.1
+step_not_rejected told (Checks p i report mode maps) t u Budget r same step rejected =
+    stops_unrejected (case_for t step.0) step.2.edge step.2.structure r step.2.first
+    (subst (λ c. IsRejection c r) (sym (same step.0 rejected.0 step.1 rejected.1)) rejected.2)
+step_not_rejected told (Demos number) t u Budget r same step rejected = absurd rejected.1
+
+many_not_rejected : (told : Option Held) (command : CommandForm) (u : Task) (max : ℕ) (r : Rejection)
+    → max_of command ≡ Some max → IsRejected told command u r → ⊥
+many_not_rejected told (Analyzes p i m mode) u max r e rejected = absurd rejected.1
+many_not_rejected told (Checks p i report mode maps) u max r e rejected = absurd cc
+many_not_rejected told (Demos number) u max r e rejected = absurd rejected.1
+
+many_not_done : (told : Option Held) (command : CommandForm) (t u : Task) (more : ℕ) → SameTask t u → CanBeDone told command t
+    → max_of command ≡ Some more → AreMoreThan more (Reached u) → ⊥
+many_not_done told (Analyzes p i max mode) t u more same can e many = few t u max more same e can many
+many_not_done told (Checks p i report mode maps) t u more same can e many = absurd cc
+many_not_done told (Demos number) t u more same can e many = few t u demo_max more same e can many
+
+step_not_done : (told : Option Held) (command : CommandForm) (t u : Task) (Budget : ProgramForm → ℕ → StructureForm → Type 0)
+    → ((p : ProgramForm) (edge : ℕ) (s : StructureForm) → KeepsBudgets p edge s → ¬ Budget p edge s)
+    → SameTask t u → OneCase told command t u → CanBeDone told command t → StepMeets told command u Budget → ⊥
+step_not_done told (Analyzes p i max mode) t u Budget keeping same case can step = kept t u max Budget keeping same can step
+step_not_done told (Checks p i report mode maps) t u Budget keeping same case can step =
+    closed_kept (case_for t can.0) Budget keeping can.3
+    (subst (λ c. StopsAt c Budget) (sym (case can.0 step.0 can.1 step.1)) step.2)
+step_not_done told (Demos number) t u Budget keeping same case can step = kept t u demo_max Budget keeping same can step
+
+-- ---- each pair of an ending and one that is called for
+
+module _ (told : Option Held) (command : CommandForm)
+    (programs : GiveOne SameProgram (GivesProgram told command) (GivesProgram told command))
+    (initials : (p q : Program) → SameProgram p q → GiveOne {A = List StructureForm} ◌≡◌ (GivesInitial told command p) (GivesInitial told command q))
+    (reports : (p q : Program) → SameProgram p q → GiveOne {A = Analysis} ◌≡◌ (GivesReport told command p) (GivesReport told command q))
+  where
+    both : (t u : Task) → FilesMean told command t → FilesMean told command u → SameTask t u
+    both t u h k = one_task told command programs initials reports t u h k
+
+    one_case : (t u : Task) → FilesMean told command t → FilesMean told command u → OneCase told command t u
+    one_case t u h k a b x y = same_case t u a b (both t u h k)
+        (one_reported told command programs initials reports t u a b (both t u h k) x y)
+
+    unrefused : (t : Task) (role : Role) (kind : FileKind) → FilesMean told command t → HasReport told command t
+        → IsRefused told command role kind → ⊥
+    unrefused t role kind h has refused = not_refused told command programs initials reports t role kind h has refused
+
+    done_duly : (due : Status) (task : Task) (text : List ℕ) → FilesMean told command task → IsDone told command task text
+        → DueView told command due → Done ≡ without_place due
+    done_duly due task text means done (inl d) = rw d.0 refl
+    done_duly due task text means done (inr (inl r)) =
+        absurd (done_not_rejected told command task r.2.0 text r.0 (one_case task r.2.0 means r.2.1) done r.2.2)
+    done_duly due task text means done (inr (inr f)) =
+        absurd (unrefused task f.0 f.1 means (done_reported told command task text done) f.3)
+
+    rejected_duly : (due : Status) (task : Task) (r : Rejection) → FilesMean told command task → IsRejected told command task r
+        → DueView told command due → Rejected r ≡ without_place due
+    rejected_duly due task r means rejected (inl d) =
+        absurd (can_not_rejected told command d.1.0 task r (one_case d.1.0 task d.1.1 means) d.1.2 rejected)
+    rejected_duly due task r means rejected (inr (inl s)) =
+        rw s.1 (ap Rejected (both_rejected told command task s.2.0 r s.0 (one_case task s.2.0 means s.2.1) rejected s.2.2))
+    rejected_duly due task r means rejected (inr (inr f)) =
+        absurd (unrefused task f.0 f.1 means (given_report told command task rejected.0 rejected.1) f.3)
+
+    refused_duly : (due : Status) (role : Role) (kind : FileKind) → IsRefused told command role kind
+        → DueView told command due → FileFault role (placeless kind) ≡ without_place due
+    refused_duly due role kind refused (inl d) =
+        absurd (unrefused d.1.0 role kind d.1.1 (can_reported told command d.1.0 d.1.2) refused)
+    refused_duly due role kind refused (inr (inl r)) =
+        absurd (unrefused r.2.0 role kind r.2.1 (given_report told command r.2.0 r.2.2.0 r.2.2.1) refused)
+    refused_duly due role kind refused (inr (inr f)) =
+        let same = one_refusal told command programs initials reports role f.0 kind f.1 refused f.3 in
+        rw (f.2, same.0, same.1) refl
+
+    many_duly : (due : Status) (task : Task) (max : ℕ) → FilesMean told command task → max_of command ≡ Some max
+        → AreMoreThan max (Reached task) → DueView told command due → Structures max ≡ without_place due
+    many_duly due task max means limit many (inl d) =
+        absurd (many_not_done told command d.1.0 task max (both d.1.0 task d.1.1 means) d.1.2 limit many)
+    many_duly due task max means limit many (inr (inl r)) =
+        absurd (many_not_rejected told command r.2.0 max r.0 limit r.2.2)
+    many_duly due task max means limit many (inr (inr f)) =
+        absurd (unrefused task f.0 f.1 means (many_reported told command task max limit) f.3)
+
+    step_duly : (status due : Status) (task : Task) (Budget : ProgramForm → ℕ → StructureForm → Type 0)
+        → ((p : ProgramForm) (edge : ℕ) (s : StructureForm) → KeepsBudgets p edge s → ¬ Budget p edge s)
+        → FilesMean told command task → StepMeets told command task Budget → DueView told command due
+        → status ≡ without_place due
+    step_duly status due task Budget keeping means step (inl d) =
+        absurd (step_not_done told command d.1.0 task Budget keeping (both d.1.0 task d.1.1 means)
+        (one_case d.1.0 task d.1.1 means) d.1.2 step)
+    step_duly status due task Budget keeping means step (inr (inl r)) =
+        absurd (step_not_rejected told command task r.2.0 Budget r.0 (one_case task r.2.0 means r.2.1) step r.2.2)
+    step_duly status due task Budget keeping means step (inr (inr f)) =
+        absurd (unrefused task f.0 f.1 means (step_reported told command task Budget step) f.3)
+
+    pub command_duly : (status due : Status) → CommandEnds told command status → CommandCallsFor told command due
+        → without_place status ≡ without_place due
+    command_duly Done due h calls = done_duly due h.1.0 h.0 h.1.1 h.1.2 (due_view told command due calls)
+    command_duly (Rejected r) due h calls = rejected_duly due h.1.0 r h.1.1 h.1.2 (due_view told command due calls)
+    command_duly Usage due h calls = absurd h
+    command_duly (FileFault role kind) due h calls = refused_duly due role kind h (due_view told command due calls)
+    command_duly (Structures max) due h calls = many_duly due h.0 max h.1 h.2 h.3 (due_view told command due calls)
+    command_duly TooManySplits due h calls =
+        step_duly TooManySplits due h.0 MeetsSplits (λ p edge s keeps. keeps.splits) h.1 h.2 (due_view told command due calls)
+    command_duly TooManyIndividuals due h calls =
+        step_duly TooManyIndividuals due h.0 MeetsIndividuals (λ p edge s keeps. keeps.individuals) h.1 h.2
+        (due_view told command due calls)
+    command_duly ReadFault due h calls = absurd h
+    command_duly WriteFault due h calls = absurd h
+    command_duly Memory due h calls = absurd h
+
+-- ---- words
+
+module _
+    (one_command : (words : List (List ℕ)) (a b : CommandForm) → Spells words a → Spells words b → a ≡ b)
+    (programs : (told : Option Held) (command : CommandForm) → IsTold told command → GiveOne SameProgram (GivesProgram told command) (GivesProgram told command))
+    (initials : (told : Option Held) (command : CommandForm) → IsTold told command → (p q : Program) → SameProgram p q
+    → GiveOne {A = List StructureForm} ◌≡◌ (GivesInitial told command p) (GivesInitial told command q))
+    (reports : (told : Option Held) (command : CommandForm) → IsTold told command → (p q : Program) → SameProgram p q
+    → GiveOne {A = Analysis} ◌≡◌ (GivesReport told command p) (GivesReport told command q))
+  where
+    spelled_duly : (words : List (List ℕ)) (told : Option Held) (status due : Status)
+        → Commands words (λ command. CommandEnds told command status) → CallView words told due
+        → without_place status ≡ without_place due
+    spelled_duly words told status due h (inl nothing) = absurd (nothing.1 h.0 h.1)
+    spelled_duly words told status due h (inr calls) =
+        let same = one_command words h.0 calls.0 h.1 calls.1 in
+        let ends : CommandEnds told calls.0 status = subst (λ c. CommandEnds told c status) same h.2 in
+        command_duly told calls.0 (programs told calls.0 calls.2.0) (initials told calls.0 calls.2.0) (reports told calls.0 calls.2.0)
+        status due ends calls.2.1
+
+    usage_duly : (words : List (List ℕ)) (told : Option Held) (due : Status) → SpellsNothing words → CallView words told due
+        → Usage ≡ without_place due
+    usage_duly words told due none (inl nothing) = rw nothing.0 refl
+    usage_duly words told due none (inr calls) = absurd (none calls.0 calls.1)
+
+    -- a call that ends for its cause, and gives the output what is due, ends duly
+    pub endings : (words : List (List ℕ)) (told : Option Held) (status : Status) (rose steady out_rose err_rose : Type 0)
+        (old new : Option (List ℕ)) → EndsFor (IsCause words told rose steady) (out_rose ⊎ err_rose) status
+        → OutTook status (IsAnswerTo words told) out_rose err_rose old new → EndsDuly words told status (IsExcuse status)
+    endings words told Done rose steady out_rose err_rose old new cause took due calls =
+        inl (spelled_duly words told Done due (took.1.0, took.1.1, (took.0, took.1.2)) (call_view words told due calls))
+    endings words told (Rejected r) rose steady out_rose err_rose old new cause took due calls =
+        inl (spelled_duly words told (Rejected r) due (took.1.0, took.1.1, (took.0, took.1.2)) (call_view words told due calls))
+    endings words told Usage rose steady out_rose err_rose old new cause took due calls =
+        inl (usage_duly words told due cause (call_view words told due calls))
+    endings words told (FileFault role kind) rose steady out_rose err_rose old new cause took due calls =
+        inl (spelled_duly words told (FileFault role kind) due cause (call_view words told due calls))
+    endings words told (Structures max) rose steady out_rose err_rose old new cause took due calls =
+        inl (spelled_duly words told (Structures max) due cause (call_view words told due calls))
+    endings words told TooManySplits rose steady out_rose err_rose old new cause took due calls =
+        inl (spelled_duly words told TooManySplits due cause (call_view words told due calls))
+    endings words told TooManyIndividuals rose steady out_rose err_rose old new cause took due calls =
+        inl (spelled_duly words told TooManyIndividuals due cause (call_view words told due calls))
+    endings words told ReadFault rose steady out_rose err_rose old new cause took due calls = inr tt
+    endings words told WriteFault rose steady out_rose err_rose old new cause took due calls = inr tt
+    endings words told Memory rose steady out_rose err_rose old new cause took due calls = inr tt
+
+    -- where each file is there, none is missing
+    there : (told : Option Held) (command : CommandForm) → HoldsFiles told command → IsMissing told command → ⊥
+    there told (Analyzes p i max mode) h (inl lacks) = h.0 lacks
+    there told (Analyzes p i max mode) h (inr (inl lacks)) = lacks.2 h.1
+    there told (Analyzes p i max mode) h (inr (inr lacks)) = lacks.2
+    there told (Checks p i report mode maps) h (inl lacks) = h.0 lacks
+    there told (Checks p i report mode maps) h (inr (inl lacks)) = lacks.2 h.1
+    there told (Checks p i report mode maps) h (inr (inr lacks)) = lacks.2 h.2
+    there told (Demos number) h (inl lacks) = lacks
+    there told (Demos number) h (inr (inl lacks)) = lacks.2
+    there told (Demos number) h (inr (inr lacks)) = lacks.2
+
+    pub none_missing : (words : List (List ℕ)) (told : Option Held) → HoldsOperands words told → ¬ Commands words (IsMissing told)
+    none_missing words told holds missing =
+        let same = one_command words holds.0 missing.0 holds.1 missing.1 in
+        there told missing.0 (subst (HoldsFiles told) same holds.2) missing.2

@@ -1,0 +1,55 @@
+use Rattle.std.proofs.Common.{◌≡◌, refl, inr}
+use Rattle.std.proofs.lemmas.Result.{err_from_is_err_and, IfOk-weaker, IfErr-weaker}
+use Rattle.tv_listing.specs.declared.analysis.Analysis.{Analysis}
+use Rattle.tv_top.proofs.Causes.{rose_later, still, unless_not_read, report_fault, judgement_fault, judged_answer, judged_causes, judged_answers}
+use Rattle.tv_top.specs.Work.{task_of}
+use Rattle.tv_top.specs.declared.fault.Answer.{Answer}
+use Rattle.tv_words.specs.Words.{Checks}
+use Rattle.tv_top.proofs.work.check.Goals as goal
+
+pub returns-in_err-inputs-clause-cause : goal.returns-in_err-inputs-clause-cause
+returns-in_err-inputs-clause-cause g c =
+    let p = err_from_is_err_and c.from_residual.result c.from_residual.ensures.1 in
+    rw (p.1, p.2) (c.in_err-inputs.ensures.cause
+    (Checks c.args.program.now c.args.initial.now c.args.report.now c.args.mode c.args.maps) (refl, refl))
+
+pub returns-in_err-report-clause-cause : goal.returns-in_err-report-clause-cause
+returns-in_err-report-clause-cause g c =
+    let command = Checks c.args.program.now c.args.initial.now c.args.report.now c.args.mode c.args.maps in
+    let task = task_of c.in_ok-inputs.inputs c.args.mode in
+    let means = c.in_ok-inputs.ensures.meant command (refl, refl) in
+    let p = err_from_is_err_and c.from_residual-in_err-report.result c.from_residual-in_err-report.ensures.1 in
+    let cause = rw c.in_ok-inputs.ensures.holds at c.in_err-report.ensures.cause in
+    rw (p.1, p.2) (report_fault _ command task c.args.report.now _ _ _ _ _ means
+    (rose_later _ _ _ c.in_ok-inputs.ensures.count) (λ s. (c.in_ok-inputs.ensures.steady s).0)
+    (λ k h. h) (λ lacks. inr (inr (task, means, lacks))) cause)
+
+pub returns-in_err-report-clause-steady : goal.returns-in_err-report-clause-steady
+returns-in_err-report-clause-steady g c =
+    let p = err_from_is_err_and c.from_residual-in_err-report.result c.from_residual-in_err-report.ensures.1 in
+    let new = c.load_report.new.files in
+    let mid = c.load_inputs.new.files in
+    let old = c.args.files.now in
+    rw (p.1, p.2) (λ s. let before = c.in_ok-inputs.ensures.steady s in
+    unless_not_read Analysis Answer c.in_err-report.field-0.0
+    (g.F.Files.steady new × (g.F.Files.faults new ≡ g.F.Files.faults mid))
+    (g.F.Files.faults new ≡ g.F.Files.faults old)
+    (λ h. (still (g.F.Files.faults old) (g.F.Files.faults mid) (g.F.Files.faults new) (g.F.Files.steady new) before.1 h).1)
+    (c.in_err-report.ensures.steady before.0))
+
+pub returns-clause-found : goal.returns-clause-found
+returns-clause-found g c =
+    let command = Checks c.args.program.now c.args.initial.now c.args.report.now c.args.mode c.args.maps in
+    let task = task_of c.in_ok-inputs.inputs c.args.mode in
+    let gives = rw c.in_ok-inputs.ensures.holds at c.in_ok-report.ensures.means in
+    judged_answers _ command task c.in_ok-report.report c.args.maps c.judgement.result
+    (c.in_ok-inputs.ensures.meant command (refl, refl)) gives
+    (λ text accepted is. (c.in_ok-report.report, gives, accepted, is)) c.judgement.ensures.judged
+
+pub returns-clause-cause : goal.returns-clause-cause
+returns-clause-cause g c =
+    let command = Checks c.args.program.now c.args.initial.now c.args.report.now c.args.mode c.args.maps in
+    let task = task_of c.in_ok-inputs.inputs c.args.mode in
+    let gives = rw c.in_ok-inputs.ensures.holds at c.in_ok-report.ensures.means in
+    judged_causes _ command task c.in_ok-report.report _ _ c.judgement.result
+    (c.in_ok-inputs.ensures.meant command (refl, refl)) (λ Budget stops. (c.in_ok-report.report, gives, stops)) c.judgement.ensures.cause

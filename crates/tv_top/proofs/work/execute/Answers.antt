@@ -1,0 +1,17 @@
+use Rattle.tv_top.proofs.Causes.{demo_causes}
+use Rattle.tv_top.proofs.work.execute.Goals as goal
+
+pub returns-in-Analyze-clause-cause : goal.returns-in-Analyze-clause-cause
+returns-in-Analyze-clause-cause g c =
+    rw (c.in-Analyze.is, ← c.deref.ensures, ← c.deref-in-Analyze.ensures) c.analyze.ensures.cause
+
+pub returns-in-Check-clause-cause : goal.returns-in-Check-clause-cause
+returns-in-Check-clause-cause g c =
+    rw (c.in-Check.is, ← c.deref-in-Check.ensures, ← c.deref-in-Check-2.ensures, ← c.deref-in-Check-3.ensures) c.check.ensures.cause
+
+pub returns-in-Demo-clause-found : goal.returns-in-Demo-clause-found
+returns-in-Demo-clause-found g c = rw c.in-Demo.is (c.demo.ensures.found (g.F.Files.holds c.args.files.now))
+
+pub returns-in-Demo-clause-cause : goal.returns-in-Demo-clause-cause
+returns-in-Demo-clause-cause g c =
+    rw c.in-Demo.is (demo_causes _ c.in-Demo.number _ _ c.demo.result (c.demo.ensures.cause (g.F.Files.holds c.args.files.now)))

@@ -1,0 +1,150 @@
+-- What a command answers, and what it gives no answer for.
+use Rattle.std.specs.Prelude.{ℕ, ◌≡◌, List, [], ◌∷◌, ◌++◌, length, sum_by, Bool, true, false, Option, None, Some, Result, Ok, codes, decimal}
+use Rattle.tv_judge.specs.Judged.{Case, IsClosedReport, KeepsAllBudgets, IsRejection, StopsAt, AreMapsOf}
+use Rattle.tv_judge.specs.Verdicts.{case_of}
+use Rattle.tv_listing.specs.declared.analysis.Analysis.{Analysis}
+use Rattle.tv_listing.specs.declared.analysis.MapLine.{MapLine}
+use Rattle.tv_listing.specs.declared.analysis.Rejection.{Rejection}
+use Rattle.tv_listing.specs.declared.analysis.Rejection.TheVariants as rejection
+use Rattle.tv_model.specs.Program.{ProgramForm, program_of}
+use Rattle.tv_model.specs.declared.program.Program.{Program}
+use Rattle.tv_outside.specs.Told.{Held}
+use Rattle.tv_report.specs.Text.{report_text}
+use Rattle.tv_status.specs.declared.status.Status.{Status}
+use Rattle.tv_status.specs.declared.status.Status.TheVariants.{Done, Rejected}
+use Rattle.tv_struct.specs.StructureForm.{StructureForm}
+use Rattle.tv_top.specs.Meaning.{Task, FilesMean, GivesReport}
+use Rattle.tv_transfer.specs.Closed.{CoversRuns}
+use Rattle.tv_words.specs.Words.{CommandForm, Analyzes, Checks, Demos}
+use Rattle.tv_work.specs.Analysed.{IsAnalysis, KeepAllBudgets, Meets}
+use Rattle.tv_work.specs.Reach.{Point, IsReached, AreMoreThan}
+
+-- ---- soundness
+
+-- each heap, of any size, that a run of the task brings to a node embeds in a structure that is listed there,
+-- and a message without a line is false in each heap that a run brings to its edge's source
+abbrev pub IsSound : Task → Analysis → Type 0
+IsSound task a = CoversRuns (program_of task.program) task.mode task.initial a.listing a.messages
+
+-- ---- what an analysis finds
+
+abbrev pub Reached : Task → Point → Type 0
+Reached task = IsReached (program_of task.program) task.mode task.initial
+
+-- the analysis lists exactly the reached structures, at most so many, with the messages that may be true
+-- there, and covers all runs
+pub record IsFound (task : Task) (max : ℕ) (a : Analysis) : Type 0 where
+  pub exact : IsAnalysis (program_of task.program) task.mode task.initial max a.listing a.messages
+  pub no_maps : a.maps ≡ []
+  pub sound : IsSound task a
+
+-- how many structures a demo may list
+abbrev pub demo_max : ℕ
+demo_max = 5000
+
+-- `demo NUMBER pairs COUNT messages COUNT`
+abbrev pub demo_line : (number : ℕ) → Analysis → List ℕ
+demo_line number a = codes "demo " ++ (decimal number ++ (codes " pairs " ++ (decimal
+    (sum_by length a.listing)
+    ++ (codes " messages " ++ (decimal (length a.messages) ++ codes "\n")))))
+
+-- ---- what a checker finds
+
+abbrev pub case_for : Task → Analysis → Case
+case_for task report = case_of task.program task.mode task.initial report
+
+-- the report is closed, all its steps keep the budgets, and it covers all runs
+pub record IsAccepted (task : Task) (report : Analysis) : Type 0 where
+  pub closed : IsClosedReport (case_for task report)
+  pub budgets : KeepsAllBudgets (case_for task report)
+  pub sound : IsSound task report
+
+-- the report with these maps in place of its own
+abbrev pub with_maps : Analysis → List MapLine → Analysis
+with_maps report maps = record { listing = report.listing; messages = report.messages; maps = maps }
+
+-- `accepted`, or, where maps are asked for, the report with these
+abbrev pub accepted_text : Program → Analysis → (lines : List MapLine) → (maps : Bool) → List ℕ
+accepted_text program report lines false = codes "accepted\n"
+accepted_text program report lines true = report_text program (with_maps report lines)
+
+-- and these maps are those of the items
+abbrev pub IsAcceptedText : Task → Analysis → (maps : Bool) → List ℕ → Type 0
+IsAcceptedText task report maps text = (lines : List MapLine) × AreMapsOf (case_for task report) lines
+    × (text ≡ accepted_text task.program report lines maps)
+
+abbrev pub rejected_item : Rejection → List ℕ
+rejected_item (rejection.Initial number) = codes "initial " ++ decimal number
+rejected_item (rejection.Result edge structure result) = codes "edge " ++ (decimal edge
+    ++ (codes " structure " ++ (decimal structure ++ (codes " result " ++ decimal result))))
+rejected_item (rejection.Message edge number) = codes "message " ++ (decimal edge ++ (codes " "
+    ++ decimal number))
+
+-- `rejected: ` and the first demand that isn't met
+abbrev pub rejected_line : Rejection → List ℕ
+rejected_line r = codes "rejected: " ++ (rejected_item r ++ codes "\n")
+
+-- ---- the answers of a command
+
+-- the text is what the command gives where its job is done
+abbrev pub IsDone : Option Held → CommandForm → Task → List ℕ → Type 0
+IsDone told (Analyzes program initial max mode) task text =
+    (a : Analysis) × IsFound task max a × (text ≡ report_text task.program a)
+IsDone told (Checks program initial report mode maps) task text =
+    (a : Analysis) × GivesReport told (Checks program initial report mode maps) task.program (Ok a)
+    × IsAccepted task a × IsAcceptedText task a maps text
+IsDone told (Demos number) task text =
+    (a : Analysis) × IsFound task demo_max a × (text ≡ demo_line number a)
+
+-- the report isn't closed, and this is the first demand that it doesn't meet
+abbrev pub IsRejected : Option Held → CommandForm → Task → Rejection → Type 0
+IsRejected told command task r = (a : Analysis) × GivesReport told command task.program (Ok a)
+    × IsRejection (case_for task a) r
+
+-- the command ends in this status with this text, as what its files mean calls for
+abbrev pub IsAnswer : Option Held → CommandForm → Status → List ℕ → Type 0
+IsAnswer told command Done text = (task : Task) × FilesMean told command task × IsDone told command task text
+IsAnswer told command (Rejected r) text =
+    (task : Task) × FilesMean told command task × IsRejected told command task r × (text ≡ rejected_line r)
+IsAnswer told command other text = ⊥
+
+-- ---- limits
+
+-- how many structures the command may list
+abbrev pub max_of : CommandForm → Option ℕ
+max_of (Analyzes program initial max mode) = Some max
+max_of (Checks program initial report mode maps) = None
+max_of (Demos number) = Some demo_max
+
+-- more structures are reached than may be listed
+abbrev pub ReachesTooMuch : Option Held → CommandForm → (max : ℕ) → Type 0
+ReachesTooMuch told command max = (task : Task) × FilesMean told command task
+    × (max_of command ≡ Some max) × AreMoreThan max (Reached task)
+
+-- the step of a reached structure meets the budget; or in `check`, that of a listed one, and each demand
+-- before is met
+abbrev pub StepMeets : Option Held → CommandForm → Task → (ProgramForm → ℕ → StructureForm → Type 0) → Type 0
+StepMeets told (Analyzes program initial max mode) task Budget =
+    Meets (program_of task.program) (Budget (program_of task.program)) (Reached task)
+StepMeets told (Checks program initial report mode maps) task Budget =
+    (a : Analysis) × GivesReport told (Checks program initial report mode maps) task.program (Ok a)
+    × StopsAt (case_for task a) Budget
+StepMeets told (Demos number) task Budget =
+    Meets (program_of task.program) (Budget (program_of task.program)) (Reached task)
+
+abbrev pub MeetsBudget : Option Held → CommandForm → (ProgramForm → ℕ → StructureForm → Type 0) → Type 0
+MeetsBudget told command Budget = (task : Task) × FilesMean told command task
+    × StepMeets told command task Budget
+
+-- not more than so many structures are reached, and their steps keep the budgets
+pub record KeepsLimits (task : Task) (max : ℕ) : Type 0 where
+  pub few : ¬ AreMoreThan max (Reached task)
+  pub budgets : KeepAllBudgets (program_of task.program) (Reached task)
+
+-- nothing stands in the way of the job: the limits are kept, or the report is closed
+abbrev pub CanBeDone : Option Held → CommandForm → Task → Type 0
+CanBeDone told (Analyzes program initial max mode) task = KeepsLimits task max
+CanBeDone told (Checks program initial report mode maps) task =
+    (a : Analysis) × GivesReport told (Checks program initial report mode maps) task.program (Ok a)
+    × IsClosedReport (case_for task a) × KeepsAllBudgets (case_for task a)
+CanBeDone told (Demos number) task = KeepsLimits task demo_max

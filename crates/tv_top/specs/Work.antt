@@ -1,0 +1,69 @@
+-- What the parts of the work give.
+use Rattle.std.specs.Prelude.{ℕ, ◌≡◌, ◌<◌, ◌≤◌, ◌^◌, List, length, Bool, Result, Ok, Err, All}
+use Rattle.tv_judge.specs.Judged.{IsRejection, StopsAt}
+use Rattle.tv_listing.specs.declared.analysis.Analysis.{Analysis}
+use Rattle.tv_model.specs.Program.{program_of}
+use Rattle.tv_model.specs.Valid.{IsValid}
+use Rattle.tv_model.specs.declared.program.Mode.{Mode}
+use Rattle.tv_status.specs.declared.status.Status.{Status}
+use Rattle.tv_status.specs.declared.status.Status.TheVariants.{Done, Rejected}
+use Rattle.tv_struct.specs.StructureForm.{StructureForm, IsOver}
+use Rattle.tv_top.specs.Answers.{Reached, IsAccepted, IsAcceptedText, case_for, rejected_line}
+use Rattle.tv_top.specs.Meaning.{Task}
+use Rattle.tv_top.specs.declared.fault.Fault.{Fault}
+use Rattle.tv_top.specs.declared.fault.Fault.TheVariants as fault
+use Rattle.tv_top.specs.declared.inputs.Inputs.{Inputs}
+use Rattle.tv_transfer.specs.Budgets.{MeetsSplits, MeetsIndividuals}
+use Rattle.tv_words.specs.Words.{CommandForm, Analyzes, Checks, Demos}
+use Rattle.tv_work.specs.Analysed.{Meets}
+use Rattle.tv_work.specs.Reach.{AreMoreThan}
+
+-- the command names these files as PROGRAM and INITIAL
+abbrev pub Names : CommandForm → (program initial : List ℕ) → Type 0
+Names (Analyzes program initial max mode) p i = (program ≡ p) × (initial ≡ i)
+Names (Checks program initial report mode maps) p i = (program ≡ p) × (initial ≡ i)
+Names (Demos number) p i = ⊥
+
+-- the numbers of a command are within their limits
+abbrev pub IsBounded : CommandForm → Type 0
+IsBounded (Analyzes program initial max mode) = max ≤ 100000
+IsBounded (Checks program initial report mode maps) = Unit {0}
+IsBounded (Demos number) = (1 ≤ number) × (number ≤ 16)
+
+abbrev pub task_of : Inputs → Mode → Task
+task_of inputs mode = record { program = inputs.program; initial = inputs.initial; mode = mode }
+
+-- an analysis and a judgement can take it
+pub record IsReady (inputs : Inputs) : Type 0 where
+  pub valid : IsValid (program_of inputs.program)
+  pub over : All (IsOver inputs.program.vocab) inputs.initial
+  pub few : length inputs.initial < 2 ^ 32
+
+-- why an analysis finds nothing
+abbrev pub IsSearchCause : Task → (max : ℕ) → Fault → Type 0
+IsSearchCause task max (fault.Structures more) = (more ≡ max) × AreMoreThan max (Reached task)
+IsSearchCause task max fault.TooManySplits =
+    Meets (program_of task.program) (MeetsSplits (program_of task.program)) (Reached task)
+IsSearchCause task max fault.TooManyIndividuals =
+    Meets (program_of task.program) (MeetsIndividuals (program_of task.program)) (Reached task)
+IsSearchCause task max fault.Memory = Unit {0}
+IsSearchCause task max other = ⊥
+
+-- what a judgement says, and its text
+abbrev pub IsJudged : Task → Analysis → (maps : Bool) → Status → List ℕ → Type 0
+IsJudged task report maps Done text = IsAccepted task report × IsAcceptedText task report maps text
+IsJudged task report maps (Rejected r) text = IsRejection (case_for task report) r × (text ≡ rejected_line r)
+IsJudged task report maps other text = ⊥
+
+-- why there is no judgement
+abbrev pub IsJudgementCause : Task → Analysis → Fault → Type 0
+IsJudgementCause task report fault.TooManySplits = StopsAt (case_for task report) MeetsSplits
+IsJudgementCause task report fault.TooManyIndividuals = StopsAt (case_for task report) MeetsIndividuals
+IsJudgementCause task report fault.Memory = Unit {0}
+IsJudgementCause task report other = ⊥
+
+-- this holds at any answer but a read fault
+abbrev pub UnlessReadFault : {T : Type 0} → Result T Fault → Type 0 → Type 0
+UnlessReadFault (Ok found) P = P
+UnlessReadFault (Err fault.ReadFault) P = Unit {0}
+UnlessReadFault (Err other) P = P

@@ -1,0 +1,190 @@
+//! What an analysis and a judgement give, as texts.
+
+ghost use Rattle.std.specs.Prelude.{◌≡◌, ◌<◌, ◌≤◌, ◌^◌, ◌++◌, sum_by, length, IfOk, IfErr, OnOk, decimal};
+ghost use Rattle.tv_judge.specs.Judged.{AreMapsOf};
+ghost use Rattle.tv_listing.specs.Listed.{IsListing};
+ghost use Rattle.tv_listing.specs.declared.analysis.Rejection.TheVariants as rejection;
+ghost use Rattle.tv_model.specs.Program.{program_of};
+ghost use Rattle.tv_model.specs.Valid.{IsValid};
+ghost use Rattle.tv_top.specs.Answers.{IsFound, IsAcceptedText, accepted_text, rejected_item, rejected_line, demo_line};
+ghost use Rattle.tv_top.specs.Delivery.{SaidOf};
+ghost use Rattle.tv_top.specs.Work.{IsReady, IsSearchCause, IsJudged, IsJudgementCause, task_of};
+
+use crate::fault::{Answer, Fault, fault_of_work};
+use crate::inputs::Inputs;
+use itoa::Buffer;
+use std::alloc::{AllocError, Global};
+use tv_judge::{Verdict, judge};
+use tv_listing::{Analysis, Listing, MapLines, Rejection};
+use tv_model::{Mode, Program};
+use tv_report::write_report;
+use tv_work::analyse;
+
+/// What is reached from the inputs, at most `max` structures.
+pub fn search(alloc: Global, inputs: &Inputs, mode: Mode, max: u64) -> Result<Analysis, Fault>
+    requires ready { IsReady inputs.now }
+    requires bounded { max ≤ 100000 }
+    ensures found { IfOk result (IsFound (task_of inputs.now mode) max) }
+    ensures listing { IfOk result (λ a. IsListing inputs.now.program a.listing) }
+    ensures cause { IfErr result (IsSearchCause (task_of inputs.now mode) max) }
+{
+    match analyse(alloc, &inputs.program, &inputs.initial, mode, max) {
+        Ok(found) => Ok(found),
+        Err(error) => Err(fault_of_work(error, max)),
+    }
+}
+
+fn write_number(out: &mut Vec<u8>, n: u64) -> Result<(), AllocError>
+    ensures { OnOk result (out.new.items ≡ out.old.items ++ decimal n) }
+{
+    let mut digits = Buffer::new();
+    out.extend_from_slice(digits.format(n).as_bytes())
+}
+
+/// Appends the label and the number behind it.
+fn write_labeled(out: &mut Vec<u8>, label: &[u8], n: u64) -> Result<(), AllocError>
+    ensures { OnOk result (out.new.items ≡ out.old.items ++ (label.now ++ decimal n)) }
+{
+    out.extend_from_slice(label)?;
+    write_number(out, n)
+}
+
+/// Appends two numbers behind their labels.
+fn write_pair(
+    out: &mut Vec<u8>,
+    first: &[u8],
+    n: u64,
+    second: &[u8],
+    m: u64,
+) -> Result<(), AllocError>
+    ensures { OnOk result (out.new.items ≡ out.old.items ++ (first.now ++ (decimal n ++ (second.now
+        ++ decimal m)))) }
+{
+    write_labeled(out, first, n)?;
+    write_labeled(out, second, m)
+}
+
+fn write_result(out: &mut Vec<u8>, edge: u32, structure: u32, number: u64) -> Result<(), AllocError>
+    ensures { OnOk result (out.new.items ≡ out.old.items ++ rejected_item
+        (rejection.Result edge structure number)) }
+{
+    let edge = u64::from(edge);
+    write_pair(out, b"edge ", edge, b" structure ", u64::from(structure))?;
+    write_labeled(out, b" result ", number)
+}
+
+fn write_item(out: &mut Vec<u8>, rejection: Rejection) -> Result<(), AllocError>
+    ensures { OnOk result (out.new.items ≡ out.old.items ++ rejected_item rejection) }
+{
+    match rejection {
+        Rejection::Initial(number) => write_labeled(out, b"initial ", u64::from(number)),
+        Rejection::Result {
+            edge,
+            structure,
+            result: number,
+        } => write_result(out, edge, structure, number),
+        Rejection::Message { edge, number } => {
+            write_pair(out, b"message ", u64::from(edge), b" ", u64::from(number))
+        }
+    }
+}
+
+/// The line of a rejected report.
+fn rejected_line(alloc: Global, rejection: Rejection) -> Result<Vec<u8>, AllocError>
+    ensures { IfOk result (λ text. text.items ≡ rejected_line rejection) }
+{
+    let mut out = Vec::new(alloc);
+    out.extend_from_slice(b"rejected: ")?;
+    write_item(&mut out, rejection)?;
+    out.extend_from_slice(b"\n")?;
+    Ok(out)
+}
+
+/// The text of an accepted report, with these maps where they are asked for.
+fn accepted_text(
+    alloc: Global,
+    program: &Program,
+    report: Analysis,
+    lines: MapLines,
+    maps: bool,
+) -> Result<Vec<u8>, AllocError>
+    requires valid { IsValid (program_of program.now) }
+    requires listing { IsListing program.now report.listing }
+    ensures { IfOk result (λ text. text.items ≡ accepted_text program.now report lines maps) }
+{
+    let mut out = Vec::new(alloc);
+    if !maps {
+        out.extend_from_slice(b"accepted\n")?;
+        return Ok(out);
+    }
+    let Analysis {
+        listing,
+        messages,
+        ..
+    } = report;
+    let told = Analysis {
+        listing,
+        messages,
+        maps: lines,
+    };
+    write_report(alloc, program, &told)
+}
+
+/// The judgement of a report on the inputs.
+pub fn judgement(
+    alloc: Global,
+    inputs: &Inputs,
+    report: Analysis,
+    mode: Mode,
+    maps: bool,
+) -> Result<Answer, Fault>
+    requires ready { IsReady inputs.now }
+    requires listing { IsListing inputs.now.program report.listing }
+    ensures judged { IfOk result (SaidOf (IsJudged (task_of inputs.now mode) report maps)) }
+    ensures cause { IfErr result (IsJudgementCause (task_of inputs.now mode) report) }
+{
+    match judge(alloc, &inputs.program, &inputs.initial, &report, mode)? {
+        Verdict::Accepted(lines) => {
+            let text = accepted_text(alloc, &inputs.program, report, lines, maps)?;
+            Ok(Answer::Done(text))
+        }
+        Verdict::Rejected(rejection) => {
+            let text = rejected_line(alloc, rejection)?;
+            Ok(Answer::Rejected(rejection, text))
+        }
+    }
+}
+
+/// How many structures are listed at all nodes together.
+fn pair_count(listing: &Listing, nodes: u32) -> u64
+    requires nodes { nodes ≡ length listing.now }
+    requires few { sum_by length listing.now ≤ 100000 }
+    ensures { result ≡ sum_by length listing.now }
+{
+    let mut count = 0;
+    for node in 0..nodes {
+        count += listing.count(node) as u64;
+    }
+    count
+}
+
+/// The line of a demo.
+pub fn demo_line(
+    alloc: Global,
+    number: u64,
+    program: &Program,
+    found: &Analysis,
+) -> Result<Vec<u8>, AllocError>
+    requires valid { IsValid (program_of program.now) }
+    requires nodes { length found.now.listing ≡ length program.now.nodes }
+    requires few { sum_by length found.now.listing ≤ 100000 }
+    ensures { IfOk result (λ text. text.items ≡ demo_line number found.now) }
+{
+    let nodes = program.nodes.as_slice().len() as u32;
+    let mut out = Vec::new(alloc);
+    write_labeled(&mut out, b"demo ", number)?;
+    write_labeled(&mut out, b" pairs ", pair_count(&found.listing, nodes))?;
+    write_labeled(&mut out, b" messages ", found.messages.len() as u64)?;
+    out.extend_from_slice(b"\n")?;
+    Ok(out)
+}
