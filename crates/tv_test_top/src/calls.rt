@@ -9,6 +9,7 @@ use tv_top::tvla;
 
 /// A call: its words, the files that are held, which calls of the files and of the output fail, the exit code, and what
 /// both sinks take.
+#[derive(Drop)]
 struct Row {
     name: &'static str,
     words: &'static [&'static str],

@@ -1,12 +1,12 @@
 -- What files give, from what reading them gives.
 use Rattle.std.proofs.Common.{◌≡◌, ℕ, ◌<◌, List, Option, None, Some, Result, Ok, Err, refl}
 use Rattle.std.specs.Prelude.{length}
-use Rattle.tv_lex.specs.Gather.{Gathers, GatherCause, UnlessFilesFail}
+use Rattle.tv_lex.specs.Gather.{Gathers, GatherCause}
 use Rattle.tv_lex.specs.declared.gatherer.GatherError.{GatherError}
 use Rattle.tv_lex.specs.declared.gatherer.GatherError.TheVariants as gathering
 use Rattle.tv_model.specs.declared.program.Program.{Program}
 use Rattle.tv_outside.specs.Count.{Rose}
-use Rattle.tv_outside.specs.Outcome.{ReadCause, UnlessFailed}
+use Rattle.tv_outside.specs.Outcome.{ReadCause}
 use Rattle.tv_outside.specs.Told.{Held, HoldsName, IsContent, IsLonger}
 use Rattle.tv_outside.specs.declared.read.ReadError.{ReadError}
 use Rattle.tv_outside.specs.declared.read.ReadError.TheVariants as reading
@@ -44,12 +44,6 @@ not_read told name limit its_role reading.Failed steady old new h = h
 not_read told name limit its_role reading.TooLong steady old new h = (refl, longer told name limit h)
 not_read told name limit its_role reading.Memory steady old new h = tt
 
-pub not_read_steady : {A T : Type 0} (its_role : Role) (e : ReadError) (P : Type 0)
-    → UnlessFailed {T = A} (Err e) P → UnlessNotRead {T = T} (Err (fault_of_reading its_role e)) P
-not_read_steady its_role reading.Failed P h = tt
-not_read_steady its_role reading.TooLong P h = h
-not_read_steady its_role reading.Memory P h = h
-
 -- a file that is longer than is read, as one that means nothing
 pub too_long : (told : Option Held) (name : List ℕ) (limit : ℕ) (its_role : Role) (Means : List ℕ → FileKind → Type 0)
     (lacks rose steady : Type 0) (fault : TextFault)
@@ -86,15 +80,6 @@ not_gathered told name gathering.Unended steady old new h = (refl, h)
 not_gathered told name gathering.IncludeForm steady old new h = (refl, h)
 not_gathered told name gathering.IncludeDepth steady old new h = (refl, h)
 not_gathered told name gathering.Memory steady old new h = tt
-
-pub not_gathered_steady : {A T : Type 0} (e : GatherError) (P : Type 0)
-    → UnlessFilesFail {T = A} (Err e) P → UnlessNotRead {T = T} (Err (fault_of_gathering e)) P
-not_gathered_steady gathering.Failed P h = tt
-not_gathered_steady gathering.TooLong P h = h
-not_gathered_steady gathering.Unended P h = h
-not_gathered_steady gathering.IncludeForm P h = h
-not_gathered_steady gathering.IncludeDepth P h = h
-not_gathered_steady gathering.Memory P h = h
 
 -- a program whose gathered text means none
 pub gathered_refused : (told : Option Held) (name text : List ℕ) (lacks rose steady : Type 0) (fault : TextFault)

@@ -26,7 +26,7 @@ use tv_struct::Structures;
 pub const MAX_REPORT: usize = 67_108_864;
 
 /// The content of the file of this role, where it has at most `limit` bytes.
-#[tactic(auto, using(crate::proofs::Loading::not_read, crate::proofs::Loading::not_read_steady))]
+#[tactic(auto, using(crate::proofs::Loading::not_read))]
 fn read_file<F: Files>(
     alloc: Global,
     files: &mut F,
@@ -57,7 +57,7 @@ fn read_file<F: Files>(
 /// It is refused where it means no program. It isn't read only where a call of `files` failed, and on steady
 /// files only where they lack it, or a file that it includes and that is come to before any refusal. Or
 /// memory ran out.
-#[tactic(auto, using(crate::proofs::Loading::not_gathered, crate::proofs::Loading::not_gathered_steady, crate::proofs::Loading::gathered_refused, crate::proofs::Loading::holds_anyway))]
+#[tactic(auto, using(crate::proofs::Loading::not_gathered, crate::proofs::Loading::gathered_refused, crate::proofs::Loading::holds_anyway))]
 pub fn load_program<F: Files>(
     alloc: Global,
     files: &mut F,
