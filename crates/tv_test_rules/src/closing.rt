@@ -1,0 +1,139 @@
+//! The closed rules of small programs, and of the linked list.
+
+use crate::show::{numbers, rules, variables};
+use std::alloc::Global;
+use std::test::Fail;
+use tv_model::PredId;
+use tv_rules::{Closed, close_rules};
+use tv_test_reader::program;
+
+/// The closed rules of a program with these declarations.
+fn closed(alloc: Global, declarations: &str) -> Result<Closed, Fail> {
+    let program = program(alloc, declarations, "")?;
+    Ok(close_rules(alloc, &program)?)
+}
+
+/// Declarations and, behind a tab, their closed rules: `P0(1)` is the first predicate at the second variable.
+static ROWS: &str = "%p q(v) %p p(v, w) %r q(v) ==> p(v, v)\tP0(0)>P1(0,0);!P1(0,0)>!P0(0);
+%p x(v) unique\tP0(0)&P0(1)>0=1;!0=1&P0(1)>!P0(0);P0(0)&!0=1>!P0(1);
+%p n(v, w) function\tP0(0,1)&P0(0,2)>1=2;!1=2&P0(0,2)>!P0(0,1);P0(0,1)&!1=2>!P0(0,2);
+%p n(v, w) invfunction\tP0(1,0)&P0(2,0)>1=2;!1=2&P0(2,0)>!P0(1,0);P0(1,0)&!1=2>!P0(2,0);
+%p n(v, w) transitive\tP0(0,1)&P0(1,2)>P0(0,2);!P0(0,2)&P0(1,2)>!P0(0,1);P0(0,1)&!P0(0,2)>!P0(1,2);
+%p n(v, w) reflexive\t1>P0(0,0);
+%p n(v, w) symmetric\tP0(0,1)>P0(1,0);!P0(1,0)>!P0(0,1);
+%p n(v, w) %i d(v) = E(a, b) n(v, a) & n(a, b)\tP0(0,1)&P0(1,2)>P1(0);!E1 E2 (P0(0,1)&P0(1,2))>!P1(0);\
+!P1(0)&P0(1,2)>!P0(0,1);P0(0,1)&!P1(0)>!P0(1,2);
+%p x(v) %i d(v) = E(v) x(v)\tE0 P0(0)>P1(0);!E0 P0(0)>!P1(0);
+%p b() %r E(v) b() ==> 0\tE0 P0()>0;
+%p x(v) %r E(v) x(v) ==> 0\tP0(0)>0;1>!P0(0);
+%p x(v) %r E(v) E(v) x(v) ==> 0\tE0 E0 P0(0)>0;
+%p x(v) %p y(v) %r x(v) ==> !y(v)\tP0(0)>!P1(0);P1(0)>!P0(0);
+%p x(v) %p y(v) %r x(v) & y(w) ==> v == w\tP0(0)&P1(1)>0=1;!0=1&P1(1)>!P0(0);P0(0)&!0=1>!P1(1);
+%p x(v) %p y(v) %r x(v) & y(w) ==> !(v == w)\tP0(0)&P1(1)>!0=1;0=1&P1(1)>!P0(0);P0(0)&0=1>!P1(1);
+%p x(v) %r !x(v) ==> 0\t!P0(0)>0;1>P0(0);
+%p x(v) %p y(v) %r x(v) & x(v) ==> y(v)\tP0(0)&P0(0)>P1(0);!P1(0)&P0(0)>!P0(0);P0(0)&!P1(0)>!P0(0);
+%p x(v) %p y(v) %r x(v) | y(v) ==> 0\t(P0(0)|P1(0))>0;
+%p x(v) %r x(v) & (1 & (x(v) & !!x(v))) ==> 0\tP0(0)&1&P0(0)&!!P0(0)>0;1&1&P0(0)&!!P0(0)>!P0(0);\
+P0(0)&1&1&!!P0(0)>!P0(0);
+%p x(v) %r x(v) & x(w) & v != w ==> 0\tP0(0)&P0(1)&!0=1>0;1&P0(1)&!0=1>!P0(0);P0(0)&1&!0=1>!P0(1);\
+P0(0)&P0(1)&1>0=1;
+%p x(v) %p b() %r x(v) ==> b() %r b() ==> 0\tP0(0)>P1();P1()>0;!P1()>!P0(0);1>!P1();";
+
+/// Whether the declarations of a row have its closed rules.
+fn is_met(alloc: Global, row: &str) -> Result<bool, Fail> {
+    let (declarations, expected) = row.split_once('\t').ok_or("no row")?;
+    let found = rules(alloc, &closed(alloc, declarations)?)?;
+    Ok(found.as_str() == expected)
+}
+
+#[test]
+fn programs_are_closed(rt: HostRuntime) -> Result<(), Fail> {
+    for row in ROWS.lines() {
+        assert!(rt; is_met(rt.alloc(), row)?, "{row}");
+    }
+    Ok(())
+}
+
+static LIST: &str = "%p x(v) unique box %p y(v) unique box %p n(v, w) function
+%i t[n](v, w) = n*(v, w) transitive reflexive
+%i r[n,x](v) = E(w) x(w) & t[n](w, v)
+%i r[n,y](v) = E(w) y(w) & t[n](w, v)
+%r t[n](v, w) ==> !n(w, v)
+%r n(v, w) & t[n](v, u) & v != u ==> t[n](w, u)";
+
+static LIST_RULES: &str =
+    "P0(0)&P0(1)>0=1;P1(0)&P1(1)>0=1;P2(0,1)&P2(0,2)>1=2;P3(0,1)&P3(1,2)>P3(0,2);1>P3(0,0);\
+(0=1|TC(0,1))>P3(0,1);!(0=1|TC(0,1))>!P3(0,1);P0(1)&P3(1,0)>P4(0);!E1 (P0(1)&P3(1,0))>!P4(0);\
+P1(1)&P3(1,0)>P5(0);!E1 (P1(1)&P3(1,0))>!P5(0);P3(0,1)>!P2(1,0);P2(0,1)&P3(0,2)&!0=2>P3(1,2);\
+!0=1&P0(1)>!P0(0);P0(0)&!0=1>!P0(1);!0=1&P1(1)>!P1(0);P1(0)&!0=1>!P1(1);\
+!1=2&P2(0,2)>!P2(0,1);P2(0,1)&!1=2>!P2(0,2);!P3(0,2)&P3(1,2)>!P3(0,1);P3(0,1)&!P3(0,2)>!P3(1,2);\
+!P4(0)&P3(1,0)>!P0(1);P0(1)&!P4(0)>!P3(1,0);!P5(0)&P3(1,0)>!P1(1);P1(1)&!P5(0)>!P3(1,0);P2(1,0)>!P3(0,1);\
+!P3(1,2)&P3(0,2)&!0=2>!P2(0,1);P2(0,1)&!P3(1,2)&!0=2>!P3(0,2);P2(0,1)&P3(0,2)&!P3(1,2)>0=2;";
+
+fn rules_of(alloc: Global, declarations: &str) -> Result<String, Fail> {
+    Ok(rules(alloc, &closed(alloc, declarations)?)?)
+}
+
+#[test]
+fn the_list_is_closed(rt: HostRuntime) -> Result<(), Fail> {
+    assert_eq!(rt; rules_of(rt.alloc(), LIST)?.as_str(), LIST_RULES);
+    Ok(())
+}
+
+/// The numbers of the rules in which the predicate of that number stands.
+fn standing(alloc: Global, declarations: &str, p: u32) -> Result<String, Fail> {
+    let closed = closed(alloc, declarations)?;
+    Ok(numbers(alloc, closed.by_pred(PredId(p)))?)
+}
+
+/// The numbers of the rules that turn on summaries.
+fn on_summaries(alloc: Global, declarations: &str) -> Result<String, Fail> {
+    let closed = closed(alloc, declarations)?;
+    Ok(numbers(alloc, closed.by_sm())?)
+}
+
+/// The first predicate stands in the body, the second one twice in the head with one variable.
+const LOOPS: &str = "%p q(v) %p p(v, w) %r q(v) ==> p(v, v)";
+
+/// Declarations, a predicate, and the numbers of the rules in which it stands.
+const STANDING: [(&str, u32, &str); 4] = [
+    (LOOPS, 0, "0 1 "),
+    (LOOPS, 1, "0 1 "),
+    (LIST, 2, "2 5 6 11 12 17 18 25 26 27 28 "),
+    (LIST, 6, ""),
+];
+
+#[test]
+fn rules_are_watched_by_predicates(rt: HostRuntime) -> Result<(), Fail> {
+    for (declarations, p, expected) in STANDING {
+        assert_eq!(rt; standing(rt.alloc(), declarations, p)?.as_str(), expected);
+    }
+    Ok(())
+}
+
+#[test]
+fn rules_are_watched_by_summaries(rt: HostRuntime) -> Result<(), Fail> {
+    let list = "0 1 2 4 5 6 12 13 14 15 16 17 18 26 27 28 ";
+    assert_eq!(rt; on_summaries(rt.alloc(), LOOPS)?.as_str(), "0 ");
+    assert_eq!(rt; on_summaries(rt.alloc(), LIST)?.as_str(), list);
+    Ok(())
+}
+
+/// The variables of the rule of that number; nothing where there is none.
+fn variables_of(alloc: Global, declarations: &str, number: usize) -> Result<String, Fail> {
+    let closed = closed(alloc, declarations)?;
+    if number >= closed.count() {
+        return Ok(String::new(alloc));
+    }
+    Ok(variables(alloc, closed.variables(number))?)
+}
+
+#[test]
+fn further_rules_have_the_variables_of_their_base(rt: HostRuntime) -> Result<(), Fail> {
+    let declarations = "%p n(v, w) %r n(u, w) & n(v, w) ==> n(v, v)";
+    assert_eq!(rt;
+        variables_of(rt.alloc(), declarations, 1)?.as_str(),
+        "0 1 2 "
+    );
+    Ok(())
+}
