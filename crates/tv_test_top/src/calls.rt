@@ -7,8 +7,8 @@ use std::test::Fail;
 use tv_outside::{MemFiles, MemSink};
 use tv_top::tvla;
 
-/// A call: its words, the files that are held, which calls of the files and of the output fail, the exit code, and what
-/// both sinks take.
+/// A call: its words, the files that are held, which calls of the files and of the output fail, the exit code,
+/// and what both sinks take.
 #[derive(Drop)]
 struct Row {
     name: &'static str,
@@ -331,7 +331,8 @@ end
             ("i", FLIP_INITIAL),
             (
                 "r",
-                "tvla report 2 node L0 structures 1 %n = {} %p = { b = 1 } node L1 structures 1 %n = {} %p = { b = 1/2 } end",
+                "tvla report 2 node L0 structures 1 %n = {} %p = { b = 1 }
+node L1 structures 1 %n = {} %p = { b = 1/2 } end",
             ),
         ],
         out: "accepted\n",
