@@ -1,3 +1,4 @@
+mod Again
 mod Bounds
 mod Causes
 mod Demands

@@ -2,11 +2,13 @@
 use Rattle.std.specs.Prelude.{ℕ, ◌≡◌, List, [], ◌∷◌, ◌++◌, length, sum_by, Bool, true, false, Option, None, Some, Result, Ok, codes, decimal}
 use Rattle.tv_judge.specs.Judged.{Case, IsClosedReport, KeepsAllBudgets, IsRejection, StopsAt, AreMapsOf}
 use Rattle.tv_judge.specs.Verdicts.{case_of}
+use Rattle.tv_listing.specs.Listed.{IsListing}
 use Rattle.tv_listing.specs.declared.analysis.Analysis.{Analysis}
 use Rattle.tv_listing.specs.declared.analysis.MapLine.{MapLine}
 use Rattle.tv_listing.specs.declared.analysis.Rejection.{Rejection}
 use Rattle.tv_listing.specs.declared.analysis.Rejection.TheVariants as rejection
 use Rattle.tv_model.specs.Program.{ProgramForm, program_of}
+use Rattle.tv_model.specs.Valid.{IsValid}
 use Rattle.tv_model.specs.declared.program.Program.{Program}
 use Rattle.tv_outside.specs.Told.{Held}
 use Rattle.tv_report.specs.Text.{report_text}
@@ -14,7 +16,7 @@ use Rattle.tv_status.specs.declared.status.Status.{Status}
 use Rattle.tv_status.specs.declared.status.Status.TheVariants.{Done, Rejected}
 use Rattle.tv_struct.specs.StructureForm.{StructureForm}
 use Rattle.tv_top.specs.Meaning.{Task, FilesMean, GivesReport}
-use Rattle.tv_transfer.specs.Closed.{CoversRuns}
+use Rattle.tv_transfer.specs.Closed.{IsClosed, CoversRuns}
 use Rattle.tv_words.specs.Words.{CommandForm, Analyzes, Checks, Demos}
 use Rattle.tv_work.specs.Analysed.{IsAnalysis, KeepAllBudgets, Meets}
 use Rattle.tv_work.specs.Reach.{Point, IsReached, AreMoreThan}
@@ -31,11 +33,14 @@ IsSound task a = CoversRuns (program_of task.program) task.mode task.initial a.l
 abbrev pub Reached : Task → Point → Type 0
 Reached task = IsReached (program_of task.program) task.mode task.initial
 
--- the analysis lists exactly the reached structures, at most so many, with the messages that may be true
--- there, and covers all runs
+-- the analysis lists exactly the reached structures, at most so many, with the messages that may be true there;
+-- it is closed, and covers all runs
 pub record IsFound (task : Task) (max : ℕ) (a : Analysis) : Type 0 where
+  pub valid : IsValid (program_of task.program)
+  pub listing : IsListing task.program a.listing
   pub exact : IsAnalysis (program_of task.program) task.mode task.initial max a.listing a.messages
   pub no_maps : a.maps ≡ []
+  pub closed : IsClosed (program_of task.program) task.mode task.initial a.listing a.messages
   pub sound : IsSound task a
 
 -- how many structures a demo may list

@@ -1,8 +1,21 @@
 //! Laws of commands. Each function does nothing of its own: its clause is what it shows.
 
-ghost use Rattle.tv_top.specs.Laws.{CommandsAreBounded};
+ghost use Rattle.tv_top.specs.Laws.{CommandsAreBounded, ReportsAreAccepted};
+
+use tv_judge::closed_listings_are_closed_reports;
+use tv_report::reports_are_read_again;
+use tv_words::one_command;
 
 /// The numbers that words spell are within their limits.
 pub fn commands_are_bounded()
     ensures { CommandsAreBounded }
 {}
+
+/// What `analyze` wrote is accepted by `check`, where REPORT holds it and the other files and the mode are the same.
+pub fn reports_are_accepted()
+    ensures { ReportsAreAccepted }
+{
+    one_command();
+    reports_are_read_again();
+    closed_listings_are_closed_reports();
+}

@@ -14,6 +14,7 @@ mod inputs;
 mod laws;
 mod work;
 
+pub use laws::reports_are_accepted;
 use std::alloc::Global;
 use tv_outside::{Files, Sink};
 pub use tv_status::{FileKind, Role, Status};

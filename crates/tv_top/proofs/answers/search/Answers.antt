@@ -3,18 +3,21 @@ use Rattle.tv_top.proofs.Sums.{each_few}
 use Rattle.tv_top.specs.Work.{task_of}
 use Rattle.tv_top.proofs.answers.search.Goals as goal
 
-pub returns-in-Ok-clause-found : goal.returns-in-Ok-clause-found
-returns-in-Ok-clause-found c = record {
-  exact = c.in-Ok.ensures.exact;
-  no_maps = c.in-Ok.ensures.maps;
-  sound = c.in-Ok.ensures.runs;
-}
-
 pub returns-in-Ok-clause-listing : goal.returns-in-Ok-clause-listing
 returns-in-Ok-clause-listing c = record {
   nodes = c.in-Ok.ensures.exact.nodes;
   counts = each_few c.in-Ok.found.listing c.args.max c.in-Ok.ensures.exact.within c.requires.bounded;
   structures = c.in-Ok.ensures.over;
+}
+
+pub returns-in-Ok-clause-found : goal.returns-in-Ok-clause-found
+returns-in-Ok-clause-found c = record {
+  valid = c.requires.ready.valid;
+  listing = returns-in-Ok-clause-listing c;
+  exact = c.in-Ok.ensures.exact;
+  no_maps = c.in-Ok.ensures.maps;
+  closed = c.in-Ok.ensures.closed;
+  sound = c.in-Ok.ensures.runs;
 }
 
 pub returns-in-Err-clause-cause : goal.returns-in-Err-clause-cause

@@ -1,0 +1,164 @@
+-- What an analysis wrote is read again, and is closed.
+use Rattle.std.proofs.Common.{◌≡◌, ◌≢◌, ◌≤◌, ◌<◌, ◌⊎◌, ℕ, zero, suc, List, [], ◌∷◌, map, length, get_or, Option, None, Some, Ok, inl, inr, refl, sym, ap, subst, ◌∙◌, arith}
+use Rattle.std.specs.Prelude.{All, AllPairs, Any, Contains, IsSome, slice_get}
+use Rattle.std.proofs.lemmas.List.{length-map, get_or-map}
+use Rattle.std.proofs.lemmas.List.Elements.{All-head, All-tail}
+use Rattle.tv_judge.specs.Judged.{IsClosedReport, KeepsAllBudgets}
+use Rattle.tv_judge.specs.Laws.{ClosedListingsAreClosedReports}
+use Rattle.tv_kleene.specs.declared.K3.{K3}
+use Rattle.tv_kleene.specs.declared.K3.TheVariants.{No}
+use Rattle.tv_listing.specs.ListingForm.{at_node}
+use Rattle.tv_listing.specs.declared.analysis.Analysis.{Analysis}
+use Rattle.tv_listing.specs.declared.analysis.MapLine.{MapLine}
+use Rattle.tv_listing.specs.declared.analysis.MessageLine.{MessageLine}
+use Rattle.tv_model.proofs.Lists.{All-from_contains, slice_get-below, slice_get-none, slice_get-contains}
+use Rattle.tv_model.specs.Program.{ProgramForm, MessageForm, program_of}
+use Rattle.tv_model.specs.declared.program.Mode.{Mode}
+use Rattle.tv_model.specs.declared.program.Program.{Program}
+use Rattle.tv_outside.specs.Told.{Held}
+use Rattle.tv_report.specs.Laws.{ReportsAreReadAgain, IsReadable, IsShortLine, without_marks}
+use Rattle.tv_report.specs.Lines.{message_at, IsMessageLine, AreMapLines, message_key}
+use Rattle.tv_report.specs.Meaning.{IsReportText}
+use Rattle.tv_report.specs.Text.{report_text}
+use Rattle.tv_struct.specs.StructureForm.{StructureForm, unmarked}
+use Rattle.tv_top.specs.Answers.{IsFound, IsDone, case_for}
+use Rattle.tv_top.specs.Laws.{ReportsAreAccepted}
+use Rattle.tv_top.specs.Meaning.{Task, FilesMean}
+use Rattle.tv_transfer.proofs.From.{from-back, zip-back}
+use Rattle.tv_transfer.specs.Transfer.{IsOpening, IsResult, IsMessageValue, Steps, Finishes, IsBlurOf}
+use Rattle.tv_words.specs.Words.{CommandForm, Analyzes, Checks, Spells}
+use Rattle.tv_work.specs.Analysed.{IsBefore, IsAnalysis}
+use Rattle.tv_work.specs.Reach.{Point, IsReached, IsDerivation}
+
+-- ---- marks
+
+opening_unmarked : (p : ProgramForm) (s t : StructureForm) → IsOpening p s t → t.fresh ≡ None
+opening_unmarked p s t opens = opens.2.1.1.unmarked
+
+result_unmarked : (p : ProgramForm) (mode : Mode) (edge : ℕ) (s t : StructureForm) → IsResult p mode edge s t → t.fresh ≡ None
+result_unmarked p mode edge s t result =
+    let given : Contains result.1.given t = (result.1.same t).0 result.2 in
+    let step = from-back (Steps p mode result.1.action) result.1.at_hand result.1.given result.1.are_given t given in
+    let end = from-back (Finishes p) step.made.0 step.own step.made.2 t step.at in
+    let blur = zip-back (IsBlurOf p) end.made.0 end.own end.made.2 t end.at in
+    blur.2.1.1.unmarked
+
+derived_unmarked : (p : ProgramForm) (mode : Mode) (initial : List StructureForm) (x : Point) (before : List Point)
+    → IsDerivation p mode initial x before → x.structure.fresh ≡ None
+derived_unmarked p mode initial x [] start = opened start.opens
+  where
+    opened : Any (λ s. IsOpening p s x.structure) initial → x.structure.fresh ≡ None
+    opened any = opening_unmarked p any.1 x.structure any.4
+derived_unmarked p mode initial x (b ∷ before) derived =
+    result_unmarked p mode derived.0.0 b.structure x.structure derived.0.2.result
+
+unmarked_same : (s : StructureForm) → s.fresh ≡ None → unmarked s ≡ s
+unmarked_same s e = ap (λ f. record s { fresh = f }) (sym e)
+
+map_same : {X : Type 0} (f : X → X) (xs : List X) → All (λ x. f x ≡ x) xs → map f xs ≡ xs
+map_same f [] all = refl
+map_same f (x ∷ xs) all =
+    rw (All-head (λ y. f y ≡ y) x xs all, map_same f xs (All-tail (λ y. f y ≡ y) x xs all)) refl
+
+module _ (task : Task) (max : ℕ) (a : Analysis) (found : IsFound task max a) where
+  here : (node : ℕ) (s : StructureForm) → Contains (at_node a.listing node) s → s.fresh ≡ None
+  here node s there =
+      let reached = (found.exact.exact node s).0 there in
+      derived_unmarked (program_of task.program) task.mode task.initial (record { node = node; structure = s }) reached.before reached.derivation
+
+  each_unmarked : All (λ ss. map unmarked ss ≡ ss) a.listing
+  each_unmarked = λ node d lt. map_same unmarked (get_or a.listing node d)
+      (All-from_contains (λ s. unmarked s ≡ s) (get_or a.listing node d)
+      (λ s there. unmarked_same s (here node s (subst (λ ss. Contains ss s) (get_or_any a.listing node d [] lt) there))))
+    where
+      get_or_any : (xs : List (List StructureForm)) (k : ℕ) (d e : List StructureForm) → k < length xs → get_or xs k d ≡ get_or xs k e
+      get_or_any [] k d e lt = absurd (omega (arith, lt))
+      get_or_any (x ∷ xs) zero d e lt = refl
+      get_or_any (x ∷ xs) (suc k) d e lt = get_or_any xs k d e (omega (arith, lt))
+
+  no_marks : without_marks a ≡ a
+  no_marks = ap (λ l. record a { listing = l }) (map_same (map unmarked) a.listing each_unmarked)
+
+  -- ---- lines
+
+  line_named : (line : MessageLine) → Contains a.messages line → IsMessageLine (program_of task.program) line
+  line_named line there =
+      let told = (found.exact.reported line).0 there in
+      (named line.edge line.number told.said.at.structure line.value told.said.value, told.some)
+    where
+      some_message : (p : ProgramForm) (messages : List MessageForm) (number : ℕ) (o : Option MessageForm)
+          → o ≡ slice_get messages number → number < length messages → IsSome o
+      some_message p messages number None e lt = absurd (omega (arith, lt, slice_get-none messages number (sym e)))
+      some_message p messages number (Some m) e lt = refl
+
+      named : (edge number : ℕ) (s : StructureForm) (k : K3) → IsMessageValue (program_of task.program) edge s number k
+          → IsSome (message_at (program_of task.program) edge number)
+      named edge number s k value =
+          let below : number < length value.0 = slice_get-below value.0 number k value.2 in
+          let count : length value.0 ≡ length value.1.action.messages = ap length value.1.are ∙ length-map value.1.action.messages _ in
+          let within : number < length value.1.action.messages = omega (arith, below, count) in
+          rw (value.1.its_action.its_edge, value.1.its_action.its_action)
+          (some_message (program_of task.program) value.1.action.messages number (slice_get value.1.action.messages number) refl within)
+
+  keys_differ : AllPairs ◌≢◌ (map message_key a.messages)
+  keys_differ = λ i j d lt within same.
+      let count : length (map message_key a.messages) ≡ length a.messages = length-map a.messages message_key in
+      let end : j < length a.messages = omega (arith, within, count) in
+      let start : i < length a.messages = omega (arith, end, lt) in
+      let none : MessageLine = record { edge = 0; number = 0; value = No } in
+      let before = found.exact.ordered i j none lt end in
+      apart (get_or a.messages i none) (get_or a.messages j none) before
+      (sym (get_or-map message_key a.messages i none d start) ∙ same ∙ get_or-map message_key a.messages j none d end)
+    where
+      apart : (l m : MessageLine) → IsBefore l m → message_key l ≡ message_key m → ⊥
+      apart l m (inl lt) e = let edges : l.edge ≡ m.edge = ap (λ k. k.0) e in absurd (omega (arith, lt, edges))
+      apart l m (inr same) e = let numbers : l.number ≡ m.number = ap (λ k. k.1) e in absurd (omega (arith, same.1, numbers))
+
+  readable : IsReadable task.program a
+  readable = record {
+    listing = found.listing;
+    messages = (All-from_contains (IsMessageLine (program_of task.program)) a.messages line_named, keys_differ);
+    maps = subst (AreMapLines (program_of task.program) a.listing) (sym found.no_maps)
+        (λ k d lt. absurd (omega (arith, lt)), λ i j d lt within. absurd (omega (arith, within)));
+    numbers = subst (All IsShortLine) (sym found.no_maps) (λ k d lt. absurd (omega (arith, lt)));
+  }
+
+  keeps_budgets : KeepsAllBudgets (case_for task a)
+  keeps_budgets = λ edge taken place s source.
+      found.exact.budgets edge (record { node = taken.from; structure = s }) (record {
+        taken = taken;
+        is_edge = source.is_edge;
+        leaves = refl;
+        has = (found.exact.exact taken.from s).0 (slice_get-contains (at_node a.listing taken.from) place s source.listed);
+      })
+
+-- ---- the law
+
+module _
+    (one_command : (words : List (List ℕ)) (a b : CommandForm) → Spells words a → Spells words b → a ≡ b)
+    (again : ReportsAreReadAgain) (closed : ClosedListingsAreClosedReports)
+  where
+    pub accepted_again : ReportsAreAccepted
+    accepted_again words others held program initial report text max mode maps spells checks answer content size =
+        let same = one_command words answer.0 (Analyzes program initial max mode) answer.1 spells in
+        let task = answer.2.0 in
+        let means : FilesMean (Some held) (Analyzes program initial max mode) task
+        = subst (λ c. FilesMean (Some held) c task) same answer.2.1 in
+        let done : IsDone (Some held) (Analyzes program initial max mode) task text
+        = subst (λ c. IsDone (Some held) c task text) same answer.2.2 in
+        let a = done.0 in
+        let found = done.1 in
+        let read = again task.program a found.valid (readable task max a found) in
+        let meant = subst (λ b. IsReportText task.program (report_text task.program a) b) (no_marks task max a found) read in
+        let here = subst (λ t. IsReportText task.program t a) (sym done.2) meant in (
+          Checks program initial report mode maps,
+          checks,
+          (
+            refl,
+            (
+              task,
+              record { program = means.program; initial = means.initial; mode = means.mode },
+              (a, (text, content, (size, here)), closed (case_for task a) found.valid found.no_maps found.closed, keeps_budgets task max a found),
+            ),
+          ),
+        )
