@@ -1,0 +1,7 @@
+//! Rows of analyses: a program and initial structures as texts, and what is listed.
+#![tactic(auto)]
+
+#[cfg(test)]
+mod lists;
+#[cfg(test)]
+mod reader;
