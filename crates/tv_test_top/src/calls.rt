@@ -121,7 +121,7 @@ const PLAIN: Row = Row {
     err: "",
 };
 
-const ROWS: [Row; 26] = [
+const FIRST_ROWS: [Row; 13] = [
     Row {
         name: "flip",
         words: &["analyze", "p", "i"],
@@ -323,6 +323,9 @@ end
         out: "rejected: edge 0 structure 0 result 0\n",
         ..PLAIN
     },
+];
+
+const MORE_ROWS: [Row; 13] = [
     Row {
         name: "a result under a half",
         words: &["check", "p", "i", "r"],
@@ -502,20 +505,37 @@ fn files_of(alloc: Global, row: &Row) -> Result<MemFiles, AllocError> {
     Ok(MemFiles::new(names, contents, 7, Vec::from_slice(alloc, row.files_fail)?))
 }
 
+/// Which part of a call's ending isn't as the row has it: the exit code, what `out` took, or what `err` took.
+fn wrong_part(alloc: Global, row: &Row) -> Result<Option<&'static str>, AllocError> {
+    let words = owned(alloc, row.words)?;
+    let mut files = files_of(alloc, row)?;
+    let out_fail = Vec::from_slice(alloc, row.out_fail)?;
+    let mut out = MemSink::new(alloc, row.out_step.max(1), out_fail, 65_536)?;
+    let mut err = MemSink::new(alloc, 4096, Vec::new(alloc), 4096)?;
+    let status = tvla(alloc, &words, &mut files, &mut out, &mut err);
+    Ok(if status.code() != row.code {
+        Some("code")
+    } else if out.taken() != row.out.as_bytes() {
+        Some("out")
+    } else if err.taken() != row.err.as_bytes() {
+        Some("err")
+    } else {
+        None
+    })
+}
+
 #[test]
-fn calls_end_as_they_should(rt: HostRuntime) -> Result<(), Fail> {
-    let alloc = rt.alloc();
-    for row in &ROWS {
-        assert!(rt; row.out_step >= 1);
-        let words = owned(alloc, row.words)?;
-        let mut files = files_of(alloc, row)?;
-        let out_fail = Vec::from_slice(alloc, row.out_fail)?;
-        let mut out = MemSink::new(alloc, row.out_step, out_fail, 65_536)?;
-        let mut err = MemSink::new(alloc, 4096, Vec::new(alloc), 4096)?;
-        let status = tvla(alloc, &words, &mut files, &mut out, &mut err);
-        assert_eq!(rt; status.code(), row.code, "{}", row.name);
-        assert_eq!(rt; out.taken(), row.out.as_bytes(), "{}", row.name);
-        assert_eq!(rt; err.taken(), row.err.as_bytes(), "{}", row.name);
+fn first_calls_end_as_they_should(rt: HostRuntime) -> Result<(), Fail> {
+    for row in &FIRST_ROWS {
+        assert_eq!(rt; wrong_part(rt.alloc(), row)?, None, "{}", row.name);
+    }
+    Ok(())
+}
+
+#[test]
+fn more_calls_end_as_they_should(rt: HostRuntime) -> Result<(), Fail> {
+    for row in &MORE_ROWS {
+        assert_eq!(rt; wrong_part(rt.alloc(), row)?, None, "{}", row.name);
     }
     Ok(())
 }
