@@ -1,0 +1,44 @@
+//! Steps along the one edge of a program.
+
+ghost use Rattle.tv_model.specs.Program.{program_of};
+ghost use Rattle.tv_model.specs.Valid.{IsValid};
+ghost use Rattle.tv_struct.specs.StructureForm.{IsOver};
+
+use std::alloc::Global;
+use std::test::Fail;
+use tv_eval::Scratch;
+use tv_model::{Mode, Program};
+use tv_rules::close_rules;
+use tv_step::{StepOut, abstract_step, opening, stable_step};
+use tv_struct::{StageError, Structure};
+
+/// An answer of a step.
+pub type Answer = Result<StepOut, StageError>;
+
+/// The step of the structure.
+pub fn stepped(alloc: Global, program: &Program, mode: Mode, s: &Structure) -> Result<Answer, Fail>
+    requires valid { IsValid (program_of program.now) }
+    requires over { IsOver program.now.vocab s.now }
+{
+    let closed = close_rules(alloc, program)?;
+    let mut scratch = Scratch::new(alloc, program, 256)?;
+    Ok(abstract_step(alloc, program, &closed, 0, mode, s, &mut scratch))
+}
+
+/// The step of the structure's opening, from which coerce is spared; nothing where there is no opening.
+pub fn stepped_opening(
+    alloc: Global,
+    program: &Program,
+    mode: Mode,
+    s: &Structure,
+) -> Result<Option<Answer>, Fail>
+    requires valid { IsValid (program_of program.now) }
+    requires over { IsOver program.now.vocab s.now }
+{
+    let closed = close_rules(alloc, program)?;
+    let mut scratch = Scratch::new(alloc, program, 256)?;
+    match opening(alloc, program, &closed, s, &mut scratch)? {
+        None => Ok(None),
+        Some(t) => Ok(Some(stable_step(alloc, program, &closed, 0, mode, &t, &mut scratch))),
+    }
+}
