@@ -7,7 +7,7 @@ ghost use Rattle.tv_model.specs.Valid.{IsValid};
 use std::alloc::Global;
 use std::test::Fail;
 use tv_front::read_program;
-use tv_lex::lex;
+use tv_lex::{LexError, lex};
 use tv_model::Program;
 use tv_report::{ReportError, read_report, write_report};
 
@@ -32,8 +32,10 @@ pub fn answer(alloc: Global, program: &Program, text: &[u8]) -> Result<Vec<u8>, 
     if text.len() > 10_000 {
         return Err(Fail::new("too long"));
     }
-    let Ok(tokens) = lex(alloc, text) else {
-        return Ok(Vec::from_slice(alloc, b"no tokens")?);
+    let tokens = match lex(alloc, text) {
+        Ok(tokens) => tokens,
+        Err(LexError::Memory) => return Err(Fail::new("no memory")),
+        Err(_) => return Ok(Vec::from_slice(alloc, b"no tokens")?),
     };
     match read_report(alloc, program, text, &tokens) {
         Ok(analysis) => Ok(write_report(alloc, program, &analysis)?),
