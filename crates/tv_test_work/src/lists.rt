@@ -1,6 +1,6 @@
 //! The traversal of a list: a shape analysis whose numbers were worked out by hand.
 
-use crate::reader::{Case, outcome};
+use crate::reader::{Case, lists, outcome};
 use std::alloc::Global;
 use std::test::Fail;
 use tv_model::Mode;
@@ -31,22 +31,58 @@ L2 Is_Not_Null_Var(y) L3
 L3 Get_Next_L(y, y) L2
 L2 Is_Null_Var(y) L4";
 
+/// The loop goes on without a test.
+const UNGUARDED: &str = "L1 Copy_Var(y, x) L2
+L2 uninterpreted() L3
+L3 Get_Next_L(y, y) L2
+L2 Is_Null_Var(y) L4";
+
 /// A list of two or more cells.
 const LIST: &str = "%n = {h, u}
 %p = { x = {h} n = {h->u:1/2, u->u:1/2} t[n] = {h->h, h->u, u->u:1/2} r[n,x] = {h, u} sm = {u:1/2} }";
 
-fn traversal(alloc: Global, edges: &str, mode: Mode) -> Result<String, Fail> {
+/// At the end the list has two cells, or more.
+const LEFT: &str = "%n = {i0, i1}
+%p = { x = {i1} n = {i1->i0} t[n] = {i0->i0, i1->i0, i1->i1} r[n,x] = {i0, i1} }
+%n = {i0, i1}
+%p = {
+  x = {i1} n = {i0->i0:1/2, i1->i0:1/2} t[n] = {i0->i0:1/2, i1->i0, i1->i1} r[n,x] = {i0, i1}
+  sm = {i0:1/2}
+}";
+
+/// The edges, and the numbers of structures and the lines of messages.
+const TRAVERSED: [(&str, &str); 2] = [(GUARDED, "1 9 7 2 "), (UNGUARDED, "1 9 9 2 2 0 Yes ")];
+
+fn traversal(alloc: Global, edges: &str) -> Result<String, Fail> {
     let program = format!(in alloc; "{VOCABULARY}{edges}")?;
     let case = Case {
         program: program.as_str(),
         initial: LIST,
     };
-    outcome(alloc, case, mode, 5000)
+    outcome(alloc, case, Mode::Given, 5000)
 }
 
 #[test]
 fn a_list_is_traversed(rt: HostRuntime) -> Result<(), Fail> {
-    let found = traversal(rt.alloc(), GUARDED, Mode::Given)?;
-    assert_eq!(rt; found.as_str(), "1 9 7 2 ");
+    for (edges, wanted) in TRAVERSED {
+        let found = traversal(rt.alloc(), edges)?;
+        assert_eq!(rt; found.as_str(), wanted);
+    }
+    Ok(())
+}
+
+/// Whether the list is as wanted at the last node.
+fn is_left(alloc: Global) -> Result<bool, Fail> {
+    let program = format!(in alloc; "{VOCABULARY}{GUARDED}")?;
+    let case = Case {
+        program: program.as_str(),
+        initial: LIST,
+    };
+    lists(alloc, case, 3, LEFT)
+}
+
+#[test]
+fn a_traversed_list_is_left(rt: HostRuntime) -> Result<(), Fail> {
+    assert!(rt; is_left(rt.alloc())?);
     Ok(())
 }

@@ -1,17 +1,18 @@
 //! Programs and structures as texts, and what is told of an analysis.
 
-ghost use Rattle.std.specs.Prelude.{◌≡◌, ◌≤◌, All, IfOk, length};
+ghost use Rattle.std.specs.Prelude.{◌≡◌, ◌<◌, ◌≤◌, All, IfOk, length};
 ghost use Rattle.tv_model.specs.Program.{program_of};
 ghost use Rattle.tv_model.specs.Valid.{IsValid};
 ghost use Rattle.tv_struct.specs.StructureForm.{IsOver};
 
 use std::alloc::{AllocError, Global};
+use std::cmp::Ordering;
 use std::test::Fail;
 use tv_front::read_program;
 use tv_lex::lex;
 use tv_listing::{Analysis, Listing, MessageLine};
 use tv_model::{Mode, Program};
-use tv_struct::Structures;
+use tv_struct::{Structure, Structures};
 use tv_tvs::{read_tvs, valid_programs_fit};
 use tv_work::analyse;
 
@@ -116,4 +117,42 @@ pub fn outcome(alloc: Global, case: Case<'_>, mode: Mode, max: u64) -> Result<St
     let program = whole_program(alloc, case.program)?;
     let initial = structures(alloc, &program, case.initial)?;
     Ok(answer(alloc, &program, &initial, mode, max)?)
+}
+
+/// Whether the structures are those that stand at the node, in this order.
+fn are_at(listing: &Listing, node: u32, wanted: &[Structure]) -> bool
+    requires { node < length listing.now }
+{
+    let mut same = listing.count(node) == wanted.len();
+    for (i, s) in wanted.iter().enumerate() {
+        same &= i < listing.count(node) && listing.at(node, i).compare(s) == Ordering::Equal;
+    }
+    same
+}
+
+/// Whether the analysis of the program lists exactly these structures at the node, in this order.
+fn is_listed(
+    alloc: Global,
+    program: &Program,
+    initial: &Structures,
+    node: u32,
+    wanted: &[Structure],
+) -> bool
+    requires valid { IsValid (program_of program.now) }
+    requires initial { All (IsOver program.now.vocab) initial.now }
+{
+    match analyse(alloc, program, initial, Mode::Given, 5000) {
+        Ok(analysis) => {
+            (node as usize) < program.nodes.len() && are_at(&analysis.listing, node, wanted)
+        }
+        Err(_) => false,
+    }
+}
+
+/// The same where all three are given as texts.
+pub fn lists(alloc: Global, case: Case<'_>, node: u32, wanted: &str) -> Result<bool, Fail> {
+    let program = whole_program(alloc, case.program)?;
+    let initial = structures(alloc, &program, case.initial)?;
+    let wanted = structures(alloc, &program, wanted)?;
+    Ok(is_listed(alloc, &program, &initial, node, wanted.as_slice()))
 }
