@@ -486,6 +486,107 @@ end
     },
 ];
 
+const NULL: &str = "%p x(v)
+%%
+%action Follow() { %message !(E(v) x(v)) -> \"null\" }
+%%
+L0 Follow() L1
+";
+
+const EIGHT_SUMMARIES: &str = "%n = {s, t, u, v, w, z, y, r}
+%p = {
+  a = {w, z, y, r}
+  b = {u, v, y, r}
+  c = {t, v, z, r}
+  x = {s:1/2, t:1/2, u:1/2, v:1/2, w:1/2, z:1/2, y:1/2, r:1/2}
+  sm = {s:1/2, t:1/2, u:1/2, v:1/2, w:1/2, z:1/2, y:1/2, r:1/2}
+}
+";
+
+const LATER_ROWS: [Row; 4] = [
+    Row {
+        name: "a message",
+        words: &["analyze", "p", "i"],
+        files: &[("p", NULL), ("i", "%n = {} %p = {}")],
+        out: "tvla report 2
+node L0 structures 1
+%n = {}
+%p = {
+}
+node L1 structures 1
+%n = {}
+%p = {
+}
+message 0 0 1 \"null\"
+end
+",
+        ..PLAIN
+    },
+    Row {
+        name: "a message without its line",
+        words: &["check", "p", "i", "r"],
+        files: &[
+            ("p", NULL),
+            ("i", "%n = {} %p = {}"),
+            (
+                "r",
+                "tvla report 1 node L0 structures 1 %n = {} %p = {} node L1 structures 1 %n = {} %p = {} end",
+            ),
+        ],
+        code: 1,
+        out: "rejected: message 0 0\n",
+        ..PLAIN
+    },
+    Row {
+        name: "more choices than one stage may have: 3 to the power of 8",
+        words: &["analyze", "p", "i"],
+        files: &[
+            (
+                "p",
+                "%p a(v) %p b(v) %p c(v) %p x(v) %% %action Look() { %f { x(v) } } %% L0 Look() L1",
+            ),
+            ("i", EIGHT_SUMMARIES),
+        ],
+        code: 4,
+        err: "tvla: too many splits\n",
+        ..PLAIN
+    },
+    Row {
+        name: "each of two individuals is picked",
+        words: &["analyze", "p", "i"],
+        files: &[
+            (
+                "p",
+                "%p x(v) %p y(v) %p z(v) %% %action Pick() { %p x(v) { y(w) = w == v } } %% L0 Pick() L1",
+            ),
+            ("i", "%n = {a, b} %p = { x = {a, b} z = {b} }"),
+        ],
+        out: "tvla report 2
+node L0 structures 1
+%n = {i0, i1}
+%p = {
+  x = {i0, i1}
+  z = {i1}
+}
+node L1 structures 2
+%n = {i0, i1}
+%p = {
+  x = {i0, i1}
+  y = {i1}
+  z = {i1}
+}
+%n = {i0, i1}
+%p = {
+  x = {i0, i1}
+  y = {i1}
+  z = {i0}
+}
+end
+",
+        ..PLAIN
+    },
+];
+
 fn owned(alloc: Global, words: &[&str]) -> Result<Vec<String>, AllocError> {
     let mut all = Vec::new(alloc);
     for word in words {
@@ -535,6 +636,14 @@ fn first_calls_end_as_they_should(rt: HostRuntime) -> Result<(), Fail> {
 #[test]
 fn more_calls_end_as_they_should(rt: HostRuntime) -> Result<(), Fail> {
     for row in &MORE_ROWS {
+        assert_eq!(rt; wrong_part(rt.alloc(), row)?, None, "{}", row.name);
+    }
+    Ok(())
+}
+
+#[test]
+fn later_calls_end_as_they_should(rt: HostRuntime) -> Result<(), Fail> {
+    for row in &LATER_ROWS {
         assert_eq!(rt; wrong_part(rt.alloc(), row)?, None, "{}", row.name);
     }
     Ok(())
