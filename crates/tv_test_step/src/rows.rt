@@ -202,7 +202,7 @@ fn is_given(
     is_answer(alloc, program, &answer, row)
 }
 
-/// Whether its opening does, if there is one.
+/// Whether its opening does. Without an opening there are no results.
 fn is_given_by_opening(
     alloc: Global,
     program: &Program,
@@ -213,8 +213,9 @@ fn is_given_by_opening(
     requires valid { IsValid (program_of program.now) }
     requires over { IsOver program.now.vocab s.now }
 {
+    let (_, _, _, wanted, _) = row;
     match stepped_opening(alloc, program, mode, s)? {
-        None => Ok(true),
+        None => Ok(wanted.is_empty()),
         Some(answer) => is_answer(alloc, program, &answer, row),
     }
 }
