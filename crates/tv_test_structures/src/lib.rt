@@ -1,9 +1,6 @@
-//! Rows of structures, tables, values of formulas and texts of structures, through the public calls of
-//! `tv_struct`, `tv_eval` and `tv_tvs`.
+//! Rows of structures, tables and texts of structures, through the public calls of `tv_struct` and `tv_tvs`.
 #![tactic(auto)]
 
-#[cfg(test)]
-mod chain;
 #[cfg(test)]
 mod nested;
 #[cfg(test)]
@@ -14,5 +11,3 @@ mod structures;
 mod tables;
 #[cfg(test)]
 mod texts;
-#[cfg(test)]
-mod values;

@@ -4,7 +4,7 @@ ghost use Rattle.std.specs.Prelude.{◌≡◌, ◌<◌, ◌≤◌, IfOk, Some};
 ghost use Rattle.tv_model.specs.Program.{program_of};
 ghost use Rattle.tv_model.specs.Valid.{IsValid};
 
-use crate::reader::{program, structure, vocabulary};
+use crate::reader::{program, vocabulary};
 use std::alloc::{AllocError, Global};
 use std::cmp::Ordering;
 use std::process::Abort;
@@ -12,6 +12,7 @@ use std::test::Fail;
 use tv_listing::Listing;
 use tv_model::Program;
 use tv_struct::Structure;
+use tv_test_reader::structure;
 
 /// A list whose head isn't pointed to, and a summary for the rest.
 const LOOSE: &str = "%n = {h, u} %p = { n = {h->u:1/2, u->u:1/2} sm = {u:1/2} }";
@@ -25,7 +26,7 @@ const LIST_AND_ONE: &str = "%n = {h, u, o} %p = { x = {h} n = {h->u:1/2, u->u:1/
 #[test]
 fn copies_are_found_again(rt: HostRuntime) -> Result<(), Fail> {
     let alloc = rt.alloc();
-    let program = program(alloc, "0")?;
+    let program = program(alloc)?;
     let s = structure(alloc, &program, LOOSE)?;
     let mut listing = Listing::new(alloc, 1)?;
     listing.push(0, s.copy(alloc)?)?;
@@ -53,7 +54,7 @@ fn marked(alloc: Global, program: &Program) -> Result<Structure, Fail>
 #[test]
 fn marks_make_no_difference_to_add(rt: HostRuntime) -> Result<(), Fail> {
     let alloc = rt.alloc();
-    let program = program(alloc, "0")?;
+    let program = program(alloc)?;
     let mut listing = Listing::new(alloc, 1)?;
     listing.push(0, structure(alloc, &program, LIST_AND_ONE)?)?;
     assert!(rt; !listing.add(0, marked(alloc, &program)?)?);
@@ -117,7 +118,7 @@ const CHANGES: [(Change, &str, Option<u32>); 7] = [
 #[test]
 fn marks_follow_their_individual(rt: HostRuntime) -> Result<(), Fail> {
     let alloc = rt.alloc();
-    let program = program(alloc, "0")?;
+    let program = program(alloc)?;
     let s = marked(alloc, &program)?;
     for (change, text, mark) in CHANGES {
         let found = changed(alloc, &s, change)?;
@@ -150,7 +151,7 @@ static ASCENDING: [&str; 15] = [
 #[test]
 fn the_order_goes_by_size_summaries_and_values(rt: HostRuntime) -> Result<(), Fail> {
     let alloc = rt.alloc();
-    let program = program(alloc, "0")?;
+    let program = program(alloc)?;
     for (i, text) in ASCENDING.iter().enumerate() {
         let left = structure(alloc, &program, text)?;
         for (j, other) in ASCENDING.iter().enumerate() {

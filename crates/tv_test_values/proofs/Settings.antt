@@ -1,10 +1,9 @@
 -- The formula that an update of a valid program sets its predicate to, and what its variables stand for.
-use Rattle.std.proofs.Common.{ℕ, ◌≡◌, ◌<◌, ◌≤◌, ◌⊎◌, inl, inr, zero, suc, ◌==◌, Bool, true, false, Option, Some, None, List, [], ◌∷◌, ◌++◌, length, map, get_or, All, Contains, arith, refl, sym, ap, subst, ◌∙◌}
+use Rattle.std.proofs.Common.{ℕ, ◌≡◌, ◌<◌, ◌≤◌, ◌⊎◌, inl, inr, zero, suc, ◌==◌, Bool, true, false, Option, Some, List, [], ◌∷◌, ◌++◌, length, map, get_or, All, Contains, arith, refl, sym, ap, subst}
 use Rattle.std.specs.Prelude.{IsSomeAnd, if◌then◌else◌}
 use Rattle.std.proofs.lemmas.Bool.{eq-eqb, false≢true}
 use Rattle.std.proofs.lemmas.List.Elements.{All-contains}
 use Rattle.tv_model.specs.declared.formula.Formula.{Formula}
-use Rattle.tv_model.specs.declared.formula.Terms.{Terms}
 use Rattle.tv_model.specs.declared.formula.Terms.TheVariants.{Two}
 use Rattle.tv_model.specs.declared.formula.Var.{Var}
 use Rattle.tv_model.specs.declared.program.Action.{Action}
@@ -12,17 +11,14 @@ use Rattle.tv_model.specs.declared.program.Change.{Change}
 use Rattle.tv_model.specs.declared.program.Change.TheVariants.{To}
 use Rattle.tv_model.specs.declared.program.Program.{Program}
 use Rattle.tv_model.specs.declared.program.Update.{Update}
-use Rattle.tv_model.specs.declared.program.Vocab.{Vocab}
-use Rattle.tv_model.specs.Form.{Form, form_of, vars_of, IsFree}
+use Rattle.tv_model.specs.Form.{Form, FExists, form_of, vars_of, IsFree}
 use Rattle.tv_model.specs.Program.{ProgramForm, program_of, action_of, update_of, change_of}
 use Rattle.tv_model.specs.Valid.{IsValid, IsVariable, IsAction, IsUpdate, IsChange}
 use Rattle.tv_model.proofs.Lists.{Contains-map}
 use Rattle.tv_eval.specs.AssignmentForm.{place_of, IsAssigned}
 use Rattle.tv_eval.specs.Formulas.{AreAssigned}
 use Rattle.tv_eval.specs.Laws.{FormulasAreWithinHeight}
-use Rattle.tv_tvs.specs.Laws.{ValidProgramsFit}
-use Rattle.tv_tvs.specs.Meaning.{IsVocabulary}
-use Rattle.tv_test_structures.specs.Setting.{IsSetting}
+use Rattle.tv_test_values.specs.Setting.{IsSetting}
 
 one_of_two : (v w x : ℕ) → Contains (v ∷ w ∷ []) x → (x ≡ v) ⊎ (x ≡ w)
 one_of_two v w x (zero, lt, is) = inl (sym is)
@@ -65,9 +61,6 @@ first_setting program actions updates a u v w f heights valid of_program some is
     setting_is program a u v w f heights valid (first_of actions program.actions a of_program some is) (none_of a.picks none)
     (first_of updates a.updates u of_action more among) two to
 
-pub vocabulary_fits : (p : Program) → ValidProgramsFit → IsValid (program_of p) → IsVocabulary p.vocab
-vocabulary_fits p fits valid = (fits p valid).vocabulary
-
 -- a formula over two variables is assigned where both stand for individuals
 pub pair_assigned : (program : Program) (v w : ℕ) (f : Form) → IsSetting program v w f → (size : ℕ) (a : List (Option ℕ))
     → IsAssigned size a v → IsAssigned size a w → AreAssigned size a f
@@ -75,6 +68,15 @@ pair_assigned program v w f is size a first second y free =
     elim (is.over y free) [
       | inl e ↦ subst (IsAssigned size a) (sym e) first
       | inr e ↦ subst (IsAssigned size a) (sym e) second
+    ]
+
+-- and so it is under a quantifier over the second, where the first stands for an individual
+pub row_assigned : (program : Program) (v w : ℕ) (f : Form) → IsSetting program v w f → (size : ℕ) (a : List (Option ℕ))
+    → IsAssigned size a v → AreAssigned size a (FExists w f)
+row_assigned program v w f is size a first y (differs, free) =
+    elim (is.over y free) [
+      | inl e ↦ subst (IsAssigned size a) (sym e) first
+      | inr e ↦ absurd (differs e)
     ]
 
 -- a formula over two variables that speaks of neither is assigned anywhere
