@@ -74,6 +74,14 @@ table_with_row t pred row values = record t {
   planes = slice_set t.planes pred (record (plane_at t pred) { rows = slice_set (plane_at t pred).rows row values });
 }
 
+-- the predicate with other values, row by row
+abbrev pub with_lines : PlaneForm → (rows : List (List K3)) → PlaneForm
+with_lines plane rows = record plane { rows = rows }
+
+-- the table with these rows as the values of a predicate
+abbrev pub table_with_rows : TableForm → (pred : ℕ) → (rows : List (List K3)) → TableForm
+table_with_rows t pred rows = record t { planes = slice_set t.planes pred (with_lines (plane_at t pred) rows) }
+
 -- the values in a row of a plane
 abbrev pub row_in : PlaneForm → (row : ℕ) → List K3
 row_in plane row = slice_index_or plane.rows row []

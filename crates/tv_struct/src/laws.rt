@@ -43,12 +43,9 @@ pub fn lowering_goes_below()
     ensures { LoweringGoesBelow }
 {}
 
-/// The individuals that `without` keeps are those with a true flag, in increasing order.
-pub fn kept_individuals_are_flagged()
-    ensures { KeptIndividualsAreFlagged }
-{}
-
-/// The individuals of a split structure are the copies, each of one individual.
-pub fn places_are_copies()
-    ensures { PlacesAreCopies }
+/// The individuals that `without` keeps are those with a true flag, in increasing order; those of a split structure
+/// are the copies, each of one individual.
+pub fn origins_are_told()
+    ensures kept { KeptIndividualsAreFlagged }
+    ensures copies { PlacesAreCopies }
 {}

@@ -7,6 +7,7 @@ ghost use Rattle.tv_struct.specs.TableForm.{row_count, column_count};
 use std::alloc::{AllocError, Global};
 use std::marker::Model;
 use std::rc::Rc;
+use tv_model::Pred;
 
 /// A predicate's arity, and how many of the predicates before it have one row alone.
 #[derive(Clone, Copy, Debug, PartialEq, Eq)]
@@ -58,20 +59,21 @@ pub fn column_count(size: u32, arity: u8) -> u32
 }
 
 /// The place of each predicate, and how many have one row alone.
-fn laid(alloc: Global, arities: &[u8]) -> Result<Places, AllocError>
-    requires { length arities.now ≤ 4294967295 }
-    ensures arities { IfOk result (λ places. map (λ place. place.arity) places.items.items ≡ arities.now) }
-    ensures singles { IfOk result (λ places. map (λ place. place.single) places.items.items ≡ starts_from 0 0 arities.now) }
-    ensures total { IfOk result (λ places. places.single ≡ end_from 0 0 arities.now) }
+fn laid(alloc: Global, preds: &[Pred]) -> Result<Places, AllocError>
+    requires { length preds.now ≤ 4294967295 }
+    ensures arities { IfOk result (λ places. map (λ place. place.arity) places.items.items ≡ map (λ pred. pred.arity) preds.now) }
+    ensures singles { IfOk result
+        (λ places. map (λ place. place.single) places.items.items ≡ starts_from 0 0 (map (λ pred. pred.arity) preds.now)) }
+    ensures total { IfOk result (λ places. places.single ≡ end_from 0 0 (map (λ pred. pred.arity) preds.now)) }
 {
-    let mut items = Vec::with_capacity(alloc, arities.len())?;
+    let mut items = Vec::with_capacity(alloc, preds.len())?;
     let mut single = 0;
-    for arity in arities {
+    for pred in preds {
         items.push(Place {
-            arity: *arity,
+            arity: pred.arity,
             single,
         })?;
-        single += row_count(0, *arity) as usize;
+        single += row_count(0, pred.arity) as usize;
     }
     Ok(Places { items, single })
 }
@@ -95,12 +97,12 @@ fn width_of(size: u32) -> usize
 }
 
 impl Layout {
-    /// The layout of a table over `size` individuals with predicates of these arities.
-    pub fn new(alloc: Global, arities: &[u8], size: u32) -> Result<Layout, AllocError>
-        requires { IsLayout (record { size = size; arities = arities.now }) }
-        ensures { IfOk result (λ l. l ≡ record { size = size; arities = arities.now }) }
+    /// The layout of a table of these predicates over `size` individuals.
+    pub fn new(alloc: Global, preds: &[Pred], size: u32) -> Result<Layout, AllocError>
+        requires { IsLayout (record { size = size; arities = map (λ pred. pred.arity) preds.now }) }
+        ensures { IfOk result (λ l. l ≡ record { size = size; arities = map (λ pred. pred.arity) preds.now }) }
     {
-        match Rc::new(alloc, laid(alloc, arities)?) {
+        match Rc::new(alloc, laid(alloc, preds)?) {
             Ok(places) => Ok(Layout {
                 size,
                 width: width_of(size),

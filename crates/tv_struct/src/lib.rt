@@ -15,8 +15,7 @@ mod table;
 pub use analysis::{Numbers, StageError};
 pub use laws::{
     drawn_structures_read, entries_are_separate, entries_determine_structures, halves_are_counted,
-    kept_individuals_are_flagged, lists_embed, lowering_goes_below, new_structures_are_no,
-    places_are_copies,
+    lists_embed, lowering_goes_below, new_structures_are_no, origins_are_told,
 };
 pub use structure::{Structure, Structures};
 pub use table::{Table, Tuple};

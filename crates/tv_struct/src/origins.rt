@@ -66,16 +66,8 @@ fn push_copies(origins: &mut Vec<u32>, u: u32, part: u32) -> Result<(), AllocErr
     Ok(())
 }
 
-/// The number of the first copy of the individual `u`.
-pub fn first_copy(parts: &[u32], u: u32) -> u32
-    requires individual { u < length parts.now }
-    requires sum { sum parts.now ≤ 256 }
-    ensures { result ≡ sum (take u parts.now) }
-{
-    total(&parts[..u as usize])
-}
-
-fn total(parts: &[u32]) -> u32
+/// How many copies these parts make: the number of the first copy of the individual behind them.
+pub fn total(parts: &[u32]) -> u32
     requires { sum parts.now ≤ 256 }
     ensures { result ≡ sum parts.now }
 {

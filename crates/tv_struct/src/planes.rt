@@ -2,7 +2,7 @@
 
 ghost use Rattle.std.specs.Prelude.{◌≡◌, ◌<◌, ◌≤◌, ◌+◌, ℕ, [], ◌∷◌, length, map, fold, All, IfOk, Some, slice_get, slice_index, slice_index_or};
 ghost use Rattle.tv_struct.specs.LayoutForm.{IsLayout};
-ghost use Rattle.tv_struct.specs.TableForm.{TableForm, IsTable, HasEntry, entry, with_entry, table_of_no, table_drawn, table_with_row, plane_at, plane_drawn, row_in, column_in, row_of, column_of, arities_in, row_count, column_count, selected};
+ghost use Rattle.tv_struct.specs.TableForm.{TableForm, IsPlane, IsTable, HasEntry, entry, with_entry, table_of_no, table_drawn, table_with_row, table_with_rows, with_lines, plane_at, plane_drawn, row_in, column_in, row_of, column_of, arities_in, row_count, column_count, selected};
 ghost use Rattle.tv_kleene.specs.declared.K3.TheVariants.{No};
 ghost use Rattle.tv_row.specs.Mixed.{word_mixed};
 ghost use Rattle.tv_struct.specs.Order.{planes_cmp, plane_cmp};
@@ -37,17 +37,6 @@ impl Model for Planes {
     ghost invariant = { λ t. HoldsTable t.layout t.words };
 }
 
-/// The arity of each of the predicates.
-fn arities(alloc: Global, preds: &[Pred]) -> Result<Vec<u8>, AllocError>
-    ensures { IfOk result (λ arities. arities.items ≡ map (λ pred. pred.arity) preds.now) }
-{
-    let mut arities = Vec::with_capacity(alloc, preds.len())?;
-    for pred in preds {
-        arities.push(pred.arity)?;
-    }
-    Ok(arities)
-}
-
 /// The table of that layout that has `No` everywhere.
 fn all_no(alloc: Global, layout: Layout) -> Result<Planes, AllocError>
     requires { IsLayout layout }
@@ -70,8 +59,7 @@ impl Planes {
         if preds.len() > u32::MAX as usize {
             return Err(AllocError);
         }
-        let arities = arities(alloc, preds)?;
-        all_no(alloc, Layout::new(alloc, &arities, size)?)
+        all_no(alloc, Layout::new(alloc, preds, size)?)
     }
 
     /// The table over `size` individuals and the same predicates that has `No` everywhere.
@@ -155,6 +143,19 @@ impl Planes {
     {
         let start = self.layout.start(p.0 as usize, row as usize);
         self.words.put_row(start, values);
+    }
+
+    /// Puts the rows into the predicate `p`, which has as many of the same length, and changes nothing else.
+    pub fn put_rows(&mut self, p: PredId, rows: &[Row])
+        requires predicate { p.0 < length self.old.planes }
+        requires rows { IsPlane self.old.size (with_lines (plane_at self.old p.0) rows.now) }
+        ensures value { self.new ≡ table_with_rows self.old p.0 rows.now }
+        ensures kept { IsTable self.new }
+    {
+        let _ = self.size();
+        for (row, values) in rows.iter().enumerate() {
+            self.put_row(p, row as u32, values);
+        }
     }
 
     /// An equal table in memory of its own.

@@ -7,8 +7,8 @@ ghost use Rattle.tv_kleene.specs.declared.K3.TheVariants.{No, Half};
 ghost use Rattle.tv_struct.specs.Order.{structure_cmp, structure_cmp_total};
 ghost use Rattle.tv_struct.specs.Signature.{signature_of};
 ghost use Rattle.tv_struct.specs.StructureForm.{StructureForm, IsStructure, IsMark, IsOver, arities_of, table_of, value_at, summary_at, structure_of_no, with_value, with_summary, with_new, without, split, drawn, unmarked};
-ghost use Rattle.tv_struct.specs.StructureRows.{HasArity, unary_row, row_at, column_at, summary_row, with_row};
-ghost use Rattle.tv_struct.specs.TableForm.{HasEntry, row_of};
+ghost use Rattle.tv_struct.specs.StructureRows.{HasArity, AreRows, unary_row, row_at, column_at, summary_row, with_row, with_rows};
+ghost use Rattle.tv_struct.specs.TableForm.{HasEntry, cell, column_of, row_of};
 ghost use Rattle.tv_struct.specs.TupleForm.{tuple_of};
 
 use crate::flags::Flags;
@@ -178,6 +178,21 @@ impl Structure {
         self.table.put_row(p, u, values);
     }
 
+    /// Puts the values into the predicate `p`, and changes no other entry: one row of one value where it is nullary,
+    /// one row where it is unary, and where it is binary a row for each first member of a pair, by the second.
+    pub fn set_rows(&mut self, p: PredId, rows: &[Row])
+        requires pred { p.0 < length (arities_of self.old) }
+        requires rows { AreRows self.old.size (slice_index (arities_of self.old) p.0) rows.now }
+        ensures value { self.new ≡ with_rows self.old p.0 rows.now }
+        ensures entries { (tuple : List ℕ) → HasArity self.old p.0 (length tuple)
+            → value_at self.new p.0 tuple ≡ cell rows.now (row_of tuple) (column_of tuple) }
+        ensures others { (q : ℕ) (tuple : List ℕ) → q ≢ p.0 → value_at self.new q tuple ≡ value_at self.old q tuple }
+        ensures over { arities_of self.new ≡ arities_of self.old }
+        ensures kept { IsStructure self.new }
+    {
+        self.table.put_rows(p, rows);
+    }
+
     /// Of each individual `Half` where it is a summary, else `No`.
     pub fn summary_row(&self) -> Row
         ensures { result ≡ summary_row self.now }
@@ -263,7 +278,7 @@ impl Structure {
         let origins = origins::copies(alloc, parts)?;
         match self.fresh {
             None => self.drawn(alloc, &origins, None),
-            Some(u) => self.drawn(alloc, &origins, Some(origins::first_copy(parts, u))),
+            Some(u) => self.drawn(alloc, &origins, Some(origins::total(&parts[..u as usize]))),
         }
     }
 

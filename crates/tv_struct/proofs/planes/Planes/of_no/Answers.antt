@@ -5,8 +5,8 @@ use Rattle.tv_struct.proofs.planes.Planes.of_no.Goals as goal
 
 pub new-requires : goal.new-requires
 new-requires c =
-    rw (c.deref.ensures.value, c.in_ok-arities.ensures) (record {
+    record {
       size = c.requires.size;
       predicates = rw (length-map c.args.preds.now (λ pred. pred.arity)) (omega arith);
       arities = All-map (λ arity. arity ≤ 2) (λ pred. pred.arity) c.args.preds.now c.requires.arities;
-    })
+    }
