@@ -6,22 +6,36 @@ mod real_sink;
 
 use real_files::RealFiles;
 use real_sink::RealSink;
+use std::io::ErrorKind;
 use std::process::ExitCode;
 use std::rt::Env;
 use std::{env, io};
+use tv_outside::Sink;
+use tv_status::{Status, write_status};
 use tv_top::tvla;
 
 fn main(rt: HostRuntime) -> ExitCode {
+    let mut err = RealSink::new(rt.stderr());
     let words = match words_behind_the_name(&rt) {
         Ok(words) => words,
+        Err(error) if error.kind() == ErrorKind::OutOfMemory => {
+            return ExitCode::from(without_memory(&mut err).code());
+        }
         // Words that can't be told as text spell no command.
         Err(_) => Vec::new(rt.alloc()),
     };
     let mut files = RealFiles::new(&rt);
     let mut out = RealSink::new(rt.stdout());
-    let mut err = RealSink::new(rt.stderr());
     let status = tvla(rt.alloc(), &words, &mut files, &mut out, &mut err);
     ExitCode::from(status.code())
+}
+
+/// Tells that there is no memory, not even for the words.
+fn without_memory<E: Sink>(err: &mut E) -> Status {
+    match write_status(err, Status::Memory) {
+        Ok(()) => Status::Memory,
+        Err(_) => Status::WriteFault,
+    }
 }
 
 /// The words of the command line behind the program's name.
