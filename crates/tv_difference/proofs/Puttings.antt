@@ -1,0 +1,181 @@
+-- Putting arguments in: what bound variables may be called, and what the formula with the arguments keeps of
+-- the plain one.
+use Rattle.std.proofs.Common.{ℕ, ◌≡◌, ◌≢◌, ◌<◌, ◌⊎◌, ◌↔◌, ◌∙◌, Bool, true, false, not, List, [], ◌∷◌, ◌++◌, map, filter, Option, Some, None, inl, inr, ⊎_elim, refl, sym, ap, subst, cond, eqb, eq-eqb, ne_eqb, All, Contains}
+use Rattle.std.specs.Prelude.{◌||◌, ◌&&◌, IfSome, slice_get, length}
+use Rattle.std.proofs.lemmas.Bool.{cases_eq, false≢true, or_parts, and_from, both_ways, not_from_false, eqb-true, eqb-false, cond-true, cond-false, or_left, or_right}
+use Rattle.std.proofs.lemmas.List.Elements.{Contains-append_left, Contains-append_right}
+use Rattle.tv_model.specs.Form.{Form, FZero, FOne, FAtom, FIsNew, FSame, FNot, FAnd, FOr, FIff, FCond, FExists, FForall, FClosure, IsFree}
+use Rattle.tv_model.specs.Heap.{Heap, Holds}
+use Rattle.tv_model.specs.Truth.{Assignment, Truth, ClosureEdge, IsWalk, put}
+use Rattle.tv_model.specs.Valid.{IsVariable, IsFormulaOver, NamesNew}
+use Rattle.tv_model.proofs.Assignments.{put-same, put-other}
+use Rattle.tv_model.proofs.Lists.{Contains-here, Contains-there, Contains-none, Contains-cases, Contains-map, Contains-map_back, map-compose, map-agreed}
+use Rattle.tv_difference.specs.Laws.{PuttingInKeepsTruth}
+use Rattle.tv_difference.specs.Putting.{has, least_slot, variables, is_free, Arguments, argument_for, without_argument, arguments_of, Reserved, captures, bound_number, under_bound, put_in}
+use Rattle.tv_difference.proofs.Options.{if-mapped, if-bound, if-both, if-some, has-from, has-not, least-slot_free}
+
+-- ---- free variables
+
+pub free-from : (v : ℕ) (f : Form) → IsFree v f → is_free v f ≡ true
+free-from v FZero free = absurd free
+free-from v FOne free = absurd free
+free-from v (FAtom q vars) free = has-from vars v free
+free-from v (FIsNew w) free = eq-eqb v w free
+free-from v (FSame w u) free =
+    ⊎_elim (λ e. or_left (eqb v w) (eqb v u) (eq-eqb v w e)) (λ e. or_right (eqb v w) (eqb v u) (eq-eqb v u e)) free
+free-from v (FNot f) free = free-from v f free
+free-from v (FAnd f g) free =
+    ⊎_elim (λ t. or_left (is_free v f) (is_free v g) (free-from v f t))
+    (λ t. or_right (is_free v f) (is_free v g) (free-from v g t)) free
+free-from v (FOr f g) free =
+    ⊎_elim (λ t. or_left (is_free v f) (is_free v g) (free-from v f t))
+    (λ t. or_right (is_free v f) (is_free v g) (free-from v g t)) free
+free-from v (FIff f g) free =
+    ⊎_elim (λ t. or_left (is_free v f) (is_free v g) (free-from v f t))
+    (λ t. or_right (is_free v f) (is_free v g) (free-from v g t)) free
+free-from v (FCond c f g) free =
+    ⊎_elim (λ t. or_left (is_free v c) (is_free v f || is_free v g) (free-from v c t))
+    (λ t. or_right (is_free v c) (is_free v f || is_free v g)
+    (⊎_elim (λ s. or_left (is_free v f) (is_free v g) (free-from v f s))
+    (λ s. or_right (is_free v f) (is_free v g) (free-from v g s)) t)) free
+free-from v (FExists w f) free =
+    and_from (not (eqb v w)) (is_free v f) (not_from_false (eqb v w) (ne_eqb v w free.0)) (free-from v f free.1)
+free-from v (FForall w f) free =
+    and_from (not (eqb v w)) (is_free v f) (not_from_false (eqb v w) (ne_eqb v w free.0)) (free-from v f free.1)
+free-from v (FClosure from to left right f) free =
+    let inner : Bool = not (eqb v right) && is_free v f
+    in let body : Bool = not (eqb v left) && inner
+    in ⊎_elim (λ e. or_left (eqb v from) (eqb v to || body) (eq-eqb v from e))
+    (λ t. or_right (eqb v from) (eqb v to || body)
+    (⊎_elim (λ e. or_left (eqb v to) body (eq-eqb v to e))
+    (λ s. or_right (eqb v to) body
+    (and_from (not (eqb v left)) inner (not_from_false (eqb v left) (ne_eqb v left s.0))
+    (and_from (not (eqb v right)) (is_free v f) (not_from_false (eqb v right) (ne_eqb v right s.1)) (free-from v f s.2)))) t)) free
+
+two-stand : (v : ℕ) (f g : Form) → Contains (variables f) v ⊎ Contains (variables g) v
+    → Contains (variables f ++ variables g) v
+two-stand v f g at =
+    ⊎_elim (λ t. Contains-append_left (variables f) (variables g) v t)
+    (λ t. Contains-append_right (variables f) (variables g) v t) at
+
+pub free-stands : (v : ℕ) (f : Form) → IsFree v f → Contains (variables f) v
+free-stands v FZero free = absurd free
+free-stands v FOne free = absurd free
+free-stands v (FAtom q vars) free = free
+free-stands v (FIsNew w) free = let At : ℕ → Type 0 = λ x. Contains (w ∷ []) x in subst At (sym free) (Contains-here w [])
+free-stands v (FSame w u) free =
+    let At : ℕ → Type 0 = λ x. Contains (w ∷ u ∷ []) x
+    in ⊎_elim (λ e. subst At (sym e) (Contains-here w (u ∷ [])))
+    (λ e. subst At (sym e) (Contains-there w u (u ∷ []) (Contains-here u []))) free
+free-stands v (FNot f) free = free-stands v f free
+free-stands v (FAnd f g) free = two-stand v f g (⊎_elim (λ t. inl (free-stands v f t)) (λ t. inr (free-stands v g t)) free)
+free-stands v (FOr f g) free = two-stand v f g (⊎_elim (λ t. inl (free-stands v f t)) (λ t. inr (free-stands v g t)) free)
+free-stands v (FIff f g) free = two-stand v f g (⊎_elim (λ t. inl (free-stands v f t)) (λ t. inr (free-stands v g t)) free)
+free-stands v (FCond c f g) free =
+    ⊎_elim (λ t. Contains-append_left (variables c) (variables f ++ variables g) v (free-stands v c t))
+    (λ t. Contains-append_right (variables c) (variables f ++ variables g) v
+    (two-stand v f g (⊎_elim (λ s. inl (free-stands v f s)) (λ s. inr (free-stands v g s)) t))) free
+free-stands v (FExists w f) free = Contains-there w v (variables f) (free-stands v f free.1)
+free-stands v (FForall w f) free = Contains-there w v (variables f) (free-stands v f free.1)
+free-stands v (FClosure from to left right f) free =
+    let At : ℕ → Type 0 = λ x. Contains (from ∷ to ∷ left ∷ right ∷ variables f) x
+    in ⊎_elim (λ e. subst At (sym e) (Contains-here from (to ∷ left ∷ right ∷ variables f)))
+    (λ t. Contains-there from v (to ∷ left ∷ right ∷ variables f)
+    (⊎_elim (λ e. let In : ℕ → Type 0 = λ x. Contains (to ∷ left ∷ right ∷ variables f) x
+    in subst In (sym e) (Contains-here to (left ∷ right ∷ variables f)))
+    (λ s. Contains-there to v (left ∷ right ∷ variables f)
+    (Contains-there left v (right ∷ variables f) (Contains-there right v (variables f) (free-stands v f s.2)))) t)) free
+
+-- ---- arguments
+
+pub without-other : (m : Arguments) (v x : ℕ) → x ≢ v → argument_for (without_argument v m) x ≡ argument_for m x
+without-other [] v x ne = refl
+without-other (e ∷ m) v x ne = go (eqb e.0 v) refl (without-other m v x ne)
+  where
+    go : (b : Bool) → eqb e.0 v ≡ b → argument_for (without_argument v m) x ≡ argument_for m x
+        → argument_for (cond (not b) (e ∷ without_argument v m) (without_argument v m)) x
+        ≡ cond (eqb e.0 x) e.1 (argument_for m x)
+    go true same later =
+        later ∙ sym (cond-false (eqb e.0 x) e.1 (argument_for m x) (ne_eqb e.0 x (λ is. ne (sym is ∙ eqb-true e.0 v same))))
+    go false other later = ap (λ y. cond (eqb e.0 x) e.1 y) later
+
+pub under-same : (m : Arguments) (v w x : ℕ) → x ≡ v → argument_for (under_bound m v w) x ≡ w
+under-same m v w x e = cond-true (eqb v x) w (argument_for (without_argument v m) x) (eq-eqb v x (sym e))
+
+pub under-other : (m : Arguments) (v w x : ℕ) → x ≢ v → argument_for (under_bound m v w) x ≡ argument_for m x
+under-other m v w x ne =
+    cond-false (eqb v x) w (argument_for (without_argument v m) x) (ne_eqb v x (λ e. ne (sym e))) ∙ without-other m v x ne
+
+-- where nothing is captured, no other free variable gets the number v
+pub captures-none : (m : Arguments) (v : ℕ) (f : Form) (x : ℕ) → captures m v f ≡ false → IsFree x f → x ≢ v
+    → argument_for m x ≢ v
+captures-none [] v f x none free ne = ne
+captures-none (e ∷ m) v f x none free ne =
+    go (eqb e.0 x) refl
+    (captures-none m v f x (or_parts (eqb e.1 v && is_free e.0 (FExists v f)) (captures m v f) none).1 free ne)
+  where
+    go : (b : Bool) → eqb e.0 x ≡ b → argument_for m x ≢ v → cond b e.1 (argument_for m x) ≢ v
+    go true same later = λ is.
+        let At : ℕ → Type 0 = λ y. IsFree y (FExists v f)
+        in let its : IsFree e.0 (FExists v f) = subst At (sym (eqb-true e.0 x same)) (ne, free)
+        in both_ways (eqb e.1 v && is_free e.0 (FExists v f))
+        (or_parts (eqb e.1 v && is_free e.0 (FExists v f)) (captures m v f) none).0
+        (and_from (eqb e.1 v) (is_free e.0 (FExists v f)) (eq-eqb e.1 v is) (free-from e.0 (FExists v f) its))
+    go false other later = later
+
+-- a number that is no argument and isn't in the formula is put for none of its free variables
+pub outside-arguments : (m : Arguments) (s : ℕ) (f : Form) (x : ℕ) → (¬ Contains (arguments_of m) s)
+    → (¬ Contains (variables f) s) → IsFree x f → argument_for m x ≢ s
+outside-arguments [] s f x no_argument absent free = λ e.
+    absent (let At : ℕ → Type 0 = λ y. Contains (variables f) y in subst At e (free-stands x f free))
+outside-arguments (e ∷ m) s f x no_argument absent free =
+    go (eqb e.0 x) (outside-arguments m s f x (λ at. no_argument (Contains-there e.1 s (arguments_of m) at)) absent free)
+  where
+    go : (b : Bool) → argument_for m x ≢ s → cond b e.1 (argument_for m x) ≢ s
+    go true later = λ is.
+        no_argument (let At : ℕ → Type 0 = λ y. Contains (e.1 ∷ arguments_of m) y
+        in subst At is (Contains-here e.1 (arguments_of m)))
+    go false later = later
+
+-- ---- bound variables
+
+-- the number w serves the variable v, bound over f
+pub record Serves (r : Reserved) (m : Arguments) (v : ℕ) (f : Form) (w : ℕ) : Type 0 where
+  pub not_picked : ¬ Contains r.picks w
+  pub captures_none : (x : ℕ) → IsFree x f → x ≢ v → argument_for m x ≢ w
+  pub variable : IsVariable v → IsVariable w
+  pub kept_or_new : (w ≡ v) ⊎ ((¬ Contains (arguments_of m) w) × (¬ Contains (variables f) w))
+
+pub bound-serves : (r : Reserved) (m : Arguments) (v : ℕ) (f : Form) → IfSome (bound_number r m v f) (Serves r m v f)
+bound-serves r m v f = go (has r.picks v || captures m v f) refl
+  where
+    by_slot : (o : Option ℕ) → least_slot (r.picks ++ (r.own ++ (arguments_of m ++ variables f))) ≡ o
+        → IfSome o (Serves r m v f)
+    by_slot None e = tt
+    by_slot (Some s) e =
+        let free : (¬ Contains (r.picks ++ (r.own ++ (arguments_of m ++ variables f))) s) × (s < 32)
+        = least-slot_free (r.picks ++ (r.own ++ (arguments_of m ++ variables f))) s e
+        in let no_argument : ¬ Contains (arguments_of m) s
+        = λ at. free.0 (Contains-append_right r.picks (r.own ++ (arguments_of m ++ variables f)) s
+        (Contains-append_right r.own (arguments_of m ++ variables f) s
+        (Contains-append_left (arguments_of m) (variables f) s at)))
+        in let absent : ¬ Contains (variables f) s
+        = λ at. free.0 (Contains-append_right r.picks (r.own ++ (arguments_of m ++ variables f)) s
+        (Contains-append_right r.own (arguments_of m ++ variables f) s
+        (Contains-append_right (arguments_of m) (variables f) s at)))
+        in record {
+          not_picked = λ at. free.0 (Contains-append_left r.picks (r.own ++ (arguments_of m ++ variables f)) s at);
+          captures_none = λ x is ne. outside-arguments m s f x no_argument absent is;
+          variable = λ is. free.1;
+          kept_or_new = inr (no_argument, absent);
+        }
+
+    go : (b : Bool) → (has r.picks v || captures m v f) ≡ b
+        → IfSome (cond b (least_slot (r.picks ++ (r.own ++ (arguments_of m ++ variables f)))) (Some v)) (Serves r m v f)
+    go true e = by_slot (least_slot (r.picks ++ (r.own ++ (arguments_of m ++ variables f)))) refl
+    go false e = record {
+      not_picked = has-not r.picks v (or_parts (has r.picks v) (captures m v f) e).0;
+      captures_none = λ x is ne. captures-none m v f x (or_parts (has r.picks v) (captures m v f) e).1 is ne;
+      variable = λ is. is;
+      kept_or_new = inl refl;
+    }

@@ -1,0 +1,5 @@
+pub mod Deltas
+pub mod Differences
+pub mod Laws
+pub mod Putting
+pub mod Simple
