@@ -366,6 +366,44 @@ updates_tell_the_truth decided p action affected q d vars body own f picked old 
         in subst At (sym t.0)
         (formed-tells p action picked old new affected t.1 marked q d vars body found defined tuple fits)
 
+any-value : {X : Type 0} (o : Option X) → IfSome o (λ x. Unit {0})
+any-value None = tt
+any-value (Some x) = tt
+
+or-evaluate_by : (Q : Answer → Type 0) → Q DEvaluate → (o : Option Answer) → IfSome o Q → Q (or_evaluate o)
+or-evaluate_by Q evaluates None is = evaluates
+or-evaluate_by Q evaluates (Some x) is = is
+
+-- what is formed is an update, or there is none
+pub formed-by : (Q : Answer → Type 0) → Q DEvaluate → ((own : List ℕ) (f : Form) → Q (DTo own f))
+    → (p : ProgramForm) (action : ActionForm) (affected : List Bool) (q : ℕ) (vars : List ℕ) (body : Form)
+    → Q (formed p action affected q vars body)
+formed-by Q evaluates updates p action affected q vars body =
+    let used : List ℕ = action.picks ++ (vars ++ variables body)
+    in let opened : List ℕ → Option Delta = λ own.
+        let r : Reserved = record { picks = action.picks; own = own }
+        in option_and_then (delta_of (atom_delta (length p.preds) p action r affected) affected) (put_in r body (zip vars own))
+    in let inner : List ℕ → Option Answer = λ own. option_and_then (λ e. Some (update_by q own e)) (opened own)
+    in or-evaluate_by Q evaluates (option_and_then inner (own_variables action.picks used vars))
+    (if-bound (λ own. Unit {0}) Q inner (own_variables action.picks used vars)
+    (any-value (own_variables action.picks used vars))
+    (λ own t. if-bound (λ e. Unit {0}) Q (λ e. Some (update_by q own e)) (opened own) (any-value (opened own))
+    (λ e u. cond_both (is_small (simple_cond (FAtom q own) (simple_not e.down) e.up))
+    (DTo own (simple_cond (FAtom q own) (simple_not e.down) e.up)) DEvaluate Q
+    (λ small. updates own (simple_cond (FAtom q own) (simple_not e.down) e.up)) (λ large. evaluates))))
+
+abbrev pub KeepTells : (old new : Heap) (q : ℕ) (tuple : List ℕ) → Answer → Type 0
+KeepTells old new q tuple DKeep = Holds old q tuple ↔ Holds new q tuple
+KeepTells old new q tuple DEvaluate = Unit {0}
+KeepTells old new q tuple (DTo own f) = Unit {0}
+
 pub kept_predicates_stay : Decided → KeptPredicatesStay
 kept_predicates_stay decided p action affected q d vars body picked old middle new tuple valid among marked found defined
-    answers step concrete = ?
+    answers step concrete =
+    let its_action : IsAction p action = All-contains (IsAction p) p.actions action valid.actions among
+    in let Q : Answer → Type 0 = λ x. KeepTells old new q tuple x
+    in subst Q answers
+    (still-cases p action affected q vars body Q tt
+    (λ stays none flagged. formed-by Q tt (λ own f. tt) p action affected q vars body)
+    (λ stays none unflagged. unflagged-stays p action picked old new affected
+    (still-step decided p action picked old middle new valid its_action stays none step concrete).1 marked q unflagged tuple))

@@ -2,6 +2,7 @@
 pub mod Assigned
 pub mod AtomTruths
 pub mod DeltaTruths
+pub mod Differenced
 pub mod FormulaTruths
 pub mod Options
 pub mod OwnVariables
