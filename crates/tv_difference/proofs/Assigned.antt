@@ -1,9 +1,8 @@
 -- What an assignment gives once a tuple is put for variables, and which arguments stand for variables.
-use Rattle.std.proofs.Common.{ℕ, ◌≡◌, ◌≢◌, ◌<◌, ◌⊎◌, ◌∙◌, Bool, true, false, zero, suc, List, [], ◌∷◌, length, map, inl, inr, ⊎_elim, refl, sym, ap, subst, cond, eqb, eq-eqb, ne_eqb, arith, All, Contains}
+use Rattle.std.proofs.Common.{ℕ, ◌≡◌, ◌≢◌, ◌⊎◌, ◌∙◌, Bool, true, false, suc, List, [], ◌∷◌, length, map, inl, inr, ⊎_elim, refl, sym, ap, subst, cond, eqb, eq-eqb, ne_eqb, arith, Contains}
 use Rattle.std.specs.Prelude.{AllPairs}
 use Rattle.std.specs.List.{zip}
 use Rattle.std.proofs.lemmas.Bool.{cases_eq, cond-true, cond-false}
-use Rattle.std.proofs.lemmas.List.Elements.{Contains-get_or}
 use Rattle.tv_model.specs.Truth.{Assignment, put, put_all}
 use Rattle.tv_model.proofs.Assignments.{put-same, put-other}
 use Rattle.tv_model.proofs.Lists.{Contains-here, Contains-there, Contains-none, Contains-cases}

@@ -1,8 +1,8 @@
 -- The deltas of atoms tell the truth, and so does the update of a defined predicate.
-use Rattle.std.proofs.Common.{ℕ, ◌≡◌, ◌<◌, ◌⊎◌, ◌↔◌, ◌∙◌, Bool, true, false, zero, suc, List, [], ◌∷◌, ◌++◌, length, map, Option, Some, None, inl, inr, ⊎_elim, refl, sym, ap, subst, cond, arith, All, Contains}
-use Rattle.std.specs.Prelude.{◌||◌, AllPairs, IfSome, slice_get, option_and_then, option_map, is_some}
+use Rattle.std.proofs.Common.{ℕ, ◌≡◌, ◌↔◌, ◌∙◌, Bool, true, false, zero, suc, List, ◌++◌, length, map, Option, Some, None, refl, sym, ap, subst, cond, Contains}
+use Rattle.std.specs.Prelude.{◌||◌, IfSome, slice_get, option_and_then, option_map, is_some}
 use Rattle.std.specs.List.{zip}
-use Rattle.std.proofs.lemmas.Bool.{cond_both, or_parts, true≢false, false≢true}
+use Rattle.std.proofs.lemmas.Bool.{cond_both, or_parts, true≢false}
 use Rattle.std.proofs.lemmas.List.Elements.{All-contains, Contains-append_left, Contains-append_right}
 use Rattle.std.proofs.lemmas.Option.{slice_get-map}
 use Rattle.tv_model.specs.Form.{Form, FAtom, IsFree}
@@ -11,19 +11,19 @@ use Rattle.tv_model.specs.Program.{ProgramForm, PredForm, KindForm, KCore, KDefi
 use Rattle.tv_model.specs.Rules.{IsConcrete, blank}
 use Rattle.tv_model.specs.Step.{StepsThrough, IsMiddle, update_for}
 use Rattle.tv_model.specs.Truth.{Assignment, Truth, put_all}
-use Rattle.tv_model.specs.Valid.{IsValid, IsVariable, IsFormulaOver, IsPred, IsKind, IsAction, AreVariables, program_arities}
+use Rattle.tv_model.specs.Valid.{IsValid, IsVariable, IsFormulaOver, IsPred, IsKind, IsAction, program_arities}
 use Rattle.tv_model.proofs.Decided.{IsDecided}
-use Rattle.tv_model.proofs.Lists.{slice_get-contains, All-from_contains, Contains-map}
+use Rattle.tv_model.proofs.Lists.{slice_get-contains, Contains-map}
 use Rattle.tv_difference.specs.Simple.{is_small, simple_not, simple_cond}
 use Rattle.tv_difference.specs.Putting.{Reserved, argument_for, put_in, variables, own_variables}
-use Rattle.tv_difference.specs.Deltas.{Delta, delta_by, if_small, unchanged, is_flagged, delta_of, delta_of_set, delta_of_defined, delta_by_change, delta_by_update, delta_by_kind, atom_delta}
-use Rattle.tv_difference.specs.Differences.{IsAffected, AreAffected, Answer, DKeep, DEvaluate, DTo, update_by, or_evaluate, formed, answer_for}
+use Rattle.tv_difference.specs.Deltas.{Delta, delta_by, unchanged, is_flagged, delta_of, delta_of_defined, delta_by_change, delta_by_update, delta_by_kind, atom_delta}
+use Rattle.tv_difference.specs.Differences.{AreAffected, Answer, DKeep, DEvaluate, DTo, update_by, or_evaluate, formed, answer_for}
 use Rattle.tv_difference.specs.Laws.{UpdatesTellTheTruth, KeptPredicatesStay}
 use Rattle.tv_difference.proofs.Options.{if-bound, if-then}
 use Rattle.tv_difference.proofs.Assigned.{put-all_arguments, put-all_outside, put-all_reads, argument-in}
 use Rattle.tv_difference.proofs.OwnVariables.{Owns, own-fit}
 use Rattle.tv_difference.proofs.PutTruths.{AvoidsPicks, Keeps, put-keeps}
-use Rattle.tv_difference.proofs.DeltaTruths.{Change, IsChange, Suits, IsDelta, TellsAt, delta-tells, if-small, unchanged-tells}
+use Rattle.tv_difference.proofs.DeltaTruths.{Change, Suits, IsDelta, TellsAt, delta-tells, if-small, unchanged-tells}
 use Rattle.tv_difference.proofs.FormulaTruths.{TellsAtoms, delta-of_tells}
 use Rattle.tv_difference.proofs.StepTruths.{StillStep, same-individuals, tuple-old, by-definition, unflagged-stays, untouched-alike, change_by, still-change, arguments-fit, arity-of_atom, set-tells}
 
@@ -274,10 +274,10 @@ formed-tells p action picked old new affected is marked q d vars body found defi
     let Q : Answer → Type 0 = AnswerTells picked old new tuple vars body
     in let used : List ℕ = action.picks ++ (vars ++ variables body)
     in let inner : List ℕ → Option Answer = λ own.
-        let r : Reserved = record { picks = action.picks; own = own }
-        in option_and_then (λ e. Some (update_by q own e))
-        (option_and_then (delta_of (atom_delta (length p.preds) p action r affected) affected)
-        (put_in r body (zip vars own)))
+    let r : Reserved = record { picks = action.picks; own = own }
+    in option_and_then (λ e. Some (update_by q own e))
+    (option_and_then (delta_of (atom_delta (length p.preds) p action r affected) affected)
+    (put_in r body (zip vars own)))
     in or-evaluate_tells picked old new tuple vars body (option_and_then inner (own_variables action.picks used vars))
     (if-bound (Owns action.picks used vars) Q inner (own_variables action.picks used vars)
     (own-fit action.picks used vars
@@ -339,14 +339,17 @@ still-step decided p action picked old middle new valid its_action stays none st
     let Middle : Bool → Type 0 = λ b. IsMiddle b old middle
     in let same : middle ≡ old = subst Middle stays step.is_middle
     in let At : Heap → Type 0 = λ h. StepsThrough p action picked old h new
-    in (same, record {
-      decided = decided;
-      valid = valid;
-      its_action = its_action;
-      stays = none;
-      step = subst At same step;
-      concrete = concrete;
-    })
+    in (
+      same,
+      record {
+        decided = decided;
+        valid = valid;
+        its_action = its_action;
+        stays = none;
+        step = subst At same step;
+        concrete = concrete;
+      },
+    )
 
 pub updates_tell_the_truth : Decided → UpdatesTellTheTruth
 updates_tell_the_truth decided p action affected q d vars body own f picked old middle new tuple valid among marked found
@@ -381,8 +384,8 @@ pub formed-by : (Q : Answer → Type 0) → Q DEvaluate → ((own : List ℕ) (f
 formed-by Q evaluates updates p action affected q vars body =
     let used : List ℕ = action.picks ++ (vars ++ variables body)
     in let opened : List ℕ → Option Delta = λ own.
-        let r : Reserved = record { picks = action.picks; own = own }
-        in option_and_then (delta_of (atom_delta (length p.preds) p action r affected) affected) (put_in r body (zip vars own))
+    let r : Reserved = record { picks = action.picks; own = own }
+    in option_and_then (delta_of (atom_delta (length p.preds) p action r affected) affected) (put_in r body (zip vars own))
     in let inner : List ℕ → Option Answer = λ own. option_and_then (λ e. Some (update_by q own e)) (opened own)
     in or-evaluate_by Q evaluates (option_and_then inner (own_variables action.picks used vars))
     (if-bound (λ own. Unit {0}) Q inner (own_variables action.picks used vars)

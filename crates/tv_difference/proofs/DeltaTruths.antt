@@ -1,16 +1,14 @@
 -- Deltas tell the truth: where a step makes a formula true, where it makes it false, and what it is after it.
-use Rattle.std.proofs.Common.{ℕ, ◌≡◌, ◌≢◌, ◌⊎◌, ◌↔◌, ◌∙◌, Bool, true, false, List, [], ◌∷◌, Option, Some, None, inl, inr, ⊎_elim, refl, sym, subst, cond, Contains}
-use Rattle.std.specs.Prelude.{◌||◌, ◌&&◌, IfSome}
-use Rattle.std.proofs.lemmas.Bool.{cond_both, cases_eq}
-use Rattle.tv_model.specs.Form.{Form, FZero, FOne, FAtom, FIsNew, FSame, FNot, FAnd, FOr, FIff, FCond, FExists, FForall, FClosure, IsFree}
+use Rattle.std.proofs.Common.{ℕ, ◌≡◌, ◌⊎◌, ◌↔◌, List, Option, Some, None, inl, inr, ⊎_elim, Contains}
+use Rattle.std.specs.Prelude.{◌&&◌, IfSome}
+use Rattle.std.proofs.lemmas.Bool.{cond_both}
+use Rattle.tv_model.specs.Form.{Form, FZero, FNot, FAnd, FOr, FCond, IsFree}
 use Rattle.tv_model.specs.Heap.{Heap}
-use Rattle.tv_model.specs.Truth.{Assignment, Truth, put}
-use Rattle.tv_model.proofs.Assignments.{put-other, put-inside}
-use Rattle.tv_model.proofs.Decided.{IsDecided, exists-decided, not-decided}
-use Rattle.tv_difference.specs.Simple.{is_small, simple_not, simple_and, simple_or, simple_exists, simple_forall, simple_cond}
-use Rattle.tv_difference.specs.Deltas.{Delta, delta_by, if_small, unchanged, negated, both, either, some, every, touches, delta_of}
-use Rattle.tv_difference.proofs.SimpleLaws.{not-truth, and-truth, or-truth, exists-truth, forall-truth, cond-truth}
-use Rattle.tv_difference.proofs.PutTruths.{AvoidsPicks}
+use Rattle.tv_model.specs.Truth.{Assignment, Truth}
+use Rattle.tv_model.proofs.Decided.{IsDecided}
+use Rattle.tv_difference.specs.Simple.{is_small, simple_not, simple_and, simple_or, simple_cond}
+use Rattle.tv_difference.specs.Deltas.{Delta, delta_by, if_small, unchanged, negated, both, either}
+use Rattle.tv_difference.proofs.SimpleLaws.{not-truth, and-truth, or-truth, cond-truth}
 
 -- ---- facts before a step (O), after it (N), and those that stand for them
 
@@ -35,10 +33,14 @@ tells-next O N Now Up Down was will now up down = (
 tells-not : (O N Now Up Down Next : Type 0) → Tells O N Now Up Down Next → IsDecided O → IsDecided N
     → (Down ↔ ((¬ (¬ O)) × (¬ N))) × (Up ↔ ((¬ O) × (¬ (¬ N))))
 tells-not O N Now Up Down Next is was will = (
-  (λ t. ((λ no. no (is.down.0 t).0), (is.down.0 t).1),
-  λ t. is.down.1 (⊎_elim (λ o. o) (λ no. absurd (t.0 no)) was, t.1)),
-  (λ t. ((is.up.0 t).0, λ no. no (is.up.0 t).1),
-  λ t. is.up.1 (t.0, ⊎_elim (λ n. n) (λ no. absurd (t.1 no)) will)),
+  (
+    λ t. ((λ no. no (is.down.0 t).0), (is.down.0 t).1),
+    λ t. is.down.1 (⊎_elim (λ o. o) (λ no. absurd (t.0 no)) was, t.1),
+  ),
+  (
+    λ t. ((is.up.0 t).0, λ no. no (is.up.0 t).1),
+    λ t. is.up.1 (t.0, ⊎_elim (λ n. n) (λ no. absurd (t.1 no)) will),
+  ),
 )
 
 both-up : (O N Now Up Down Next P M Here Rise Fall Then : Type 0) → Tells O N Now Up Down Next
@@ -127,8 +129,8 @@ pub delta-tells : (s : Change) → IsChange s → (f now up down : Form)
 delta-tells s is f now up down tells = record {
   at = λ b suits.
       let t : (Truth s.old b now ↔ Truth s.old b f)
-          × (Truth s.old b up ↔ ((¬ Truth s.old b f) × Truth s.new b f))
-          × (Truth s.old b down ↔ (Truth s.old b f × (¬ Truth s.new b f)))
+      × (Truth s.old b up ↔ ((¬ Truth s.old b f) × Truth s.new b f))
+      × (Truth s.old b down ↔ (Truth s.old b f × (¬ Truth s.new b f)))
       = tells b suits
       in let next : ((Truth s.old b now × (¬ Truth s.old b down)) ⊎ ((¬ Truth s.old b now) × Truth s.old b up))
       ↔ Truth s.new b f
@@ -163,10 +165,14 @@ delta-alike s f g d free same is = record {
       in let will : Truth s.new b f ↔ Truth s.new b g = same s.new b
       in record {
         now = (λ x. was.0 (t.now.0 x), λ x. t.now.1 (was.1 x));
-        up = (λ x. ((λ o. (t.up.0 x).0 (was.1 o)), will.0 (t.up.0 x).1),
-            λ x. t.up.1 ((λ o. x.0 (was.0 o)), will.1 x.1));
-        down = (λ x. (was.0 (t.down.0 x).0, λ n. (t.down.0 x).1 (will.1 n)),
-            λ x. t.down.1 (was.1 x.0, λ n. x.1 (will.0 n)));
+        up = (
+          λ x. ((λ o. (t.up.0 x).0 (was.1 o)), will.0 (t.up.0 x).1),
+          λ x. t.up.1 ((λ o. x.0 (was.0 o)), will.1 x.1),
+        );
+        down = (
+          λ x. (was.0 (t.down.0 x).0, λ n. (t.down.0 x).1 (will.1 n)),
+          λ x. t.down.1 (was.1 x.0, λ n. x.1 (will.0 n)),
+        );
         next = (λ x. will.0 (t.next.0 x), λ x. t.next.1 (will.1 x));
       };
 }
@@ -191,7 +197,7 @@ negated-tells s is f (Some d) at =
     (delta-tells s is (FNot f) (FNot d.now) d.down d.up (λ b suits.
     let t : TellsAt s f d b = at.at b (record { picks = suits.picks; individuals = suits.individuals })
     in let turned : (Truth s.old b d.down ↔ ((¬ (¬ Truth s.old b f)) × (¬ Truth s.new b f)))
-        × (Truth s.old b d.up ↔ ((¬ Truth s.old b f) × (¬ (¬ Truth s.new b f))))
+    × (Truth s.old b d.up ↔ ((¬ Truth s.old b f) × (¬ (¬ Truth s.new b f))))
     = tells-not (Truth s.old b f) (Truth s.new b f) (Truth s.old b d.now) (Truth s.old b d.up) (Truth s.old b d.down)
     (Truth s.old b d.next) t (is.decided s.old b f) (is.decided s.new b f)
     in (
@@ -228,12 +234,12 @@ both-tells s is f g (Some d) (Some e) at too =
     let t : TellsAt s f d b = at.at b (left-suits s f g b suits)
     in let r : TellsAt s g e b = too.at b (right-suits s f g b suits)
     in let rises : ((Truth s.old b d.up × Truth s.old b e.next) ⊎ (Truth s.old b d.next × Truth s.old b e.up))
-        ↔ ((¬ (Truth s.old b f × Truth s.old b g)) × (Truth s.new b f × Truth s.new b g))
+    ↔ ((¬ (Truth s.old b f × Truth s.old b g)) × (Truth s.new b f × Truth s.new b g))
     = both-up (Truth s.old b f) (Truth s.new b f) (Truth s.old b d.now) (Truth s.old b d.up) (Truth s.old b d.down)
     (Truth s.old b d.next) (Truth s.old b g) (Truth s.new b g) (Truth s.old b e.now) (Truth s.old b e.up)
     (Truth s.old b e.down) (Truth s.old b e.next) t r (is.decided s.old b f)
     in let falls : ((Truth s.old b d.down × Truth s.old b e.now) ⊎ (Truth s.old b d.now × Truth s.old b e.down))
-        ↔ ((Truth s.old b f × Truth s.old b g) × (¬ (Truth s.new b f × Truth s.new b g)))
+    ↔ ((Truth s.old b f × Truth s.old b g) × (¬ (Truth s.new b f × Truth s.new b g)))
     = both-down (Truth s.old b f) (Truth s.new b f) (Truth s.old b d.now) (Truth s.old b d.up) (Truth s.old b d.down)
     (Truth s.old b d.next) (Truth s.old b g) (Truth s.new b g) (Truth s.old b e.now) (Truth s.old b e.up)
     (Truth s.old b e.down) (Truth s.old b e.next) t r (is.decided s.new b f)
@@ -269,12 +275,12 @@ either-tells s is f g (Some d) (Some e) at too =
     in let t : TellsAt s f d b = at.at b (left-suits s f g b parts)
     in let r : TellsAt s g e b = too.at b (right-suits s f g b parts)
     in let rises : ((Truth s.old b d.up × (¬ Truth s.old b e.now)) ⊎ ((¬ Truth s.old b d.now) × Truth s.old b e.up))
-        ↔ ((¬ (Truth s.old b f ⊎ Truth s.old b g)) × (Truth s.new b f ⊎ Truth s.new b g))
+    ↔ ((¬ (Truth s.old b f ⊎ Truth s.old b g)) × (Truth s.new b f ⊎ Truth s.new b g))
     = either-up (Truth s.old b f) (Truth s.new b f) (Truth s.old b d.now) (Truth s.old b d.up) (Truth s.old b d.down)
     (Truth s.old b d.next) (Truth s.old b g) (Truth s.new b g) (Truth s.old b e.now) (Truth s.old b e.up)
     (Truth s.old b e.down) (Truth s.old b e.next) t r
     in let falls : ((Truth s.old b d.down × (¬ Truth s.old b e.next)) ⊎ ((¬ Truth s.old b d.next) × Truth s.old b e.down))
-        ↔ ((Truth s.old b f ⊎ Truth s.old b g) × (¬ (Truth s.new b f ⊎ Truth s.new b g)))
+    ↔ ((Truth s.old b f ⊎ Truth s.old b g) × (¬ (Truth s.new b f ⊎ Truth s.new b g)))
     = either-down (Truth s.old b f) (Truth s.new b f) (Truth s.old b d.now) (Truth s.old b d.up) (Truth s.old b d.down)
     (Truth s.old b d.next) (Truth s.old b g) (Truth s.new b g) (Truth s.old b e.now) (Truth s.old b e.up)
     (Truth s.old b e.down) (Truth s.old b e.next) t r

@@ -1,9 +1,9 @@
 -- The differenced program: its updates, and its runs.
-use Rattle.std.proofs.Common.{ℕ, ◌≡◌, ◌≢◌, ◌<◌, ◌⊎◌, ◌↔◌, ◌∙◌, ◌+◌, Bool, true, false, zero, suc, List, [], ◌∷◌, ◌++◌, length, map, filter, Option, Some, None, inl, inr, ⊎_elim, refl, sym, ap, subst, cond, eqb, eq-eqb, arith, All, Contains}
-use Rattle.std.specs.Prelude.{AllPairs, slice_get}
+use Rattle.std.proofs.Common.{ℕ, ◌≡◌, ◌↔◌, ◌∙◌, ◌+◌, Bool, true, false, zero, suc, List, [], ◌∷◌, filter, Option, Some, None, ⊎_elim, refl, sym, ap, subst, cond, eqb, arith, Contains}
+use Rattle.std.specs.Prelude.{slice_get}
 use Rattle.std.specs.List.{AllZip, find}
 use Rattle.std.specs.Option.{option_or}
-use Rattle.std.proofs.lemmas.Bool.{cases_Bool, false≢true, cond-true, cond-false, eqb-true, false_from_ne_true}
+use Rattle.std.proofs.lemmas.Bool.{false≢true, cond-true, cond-false, eqb-true, false_from_ne_true}
 use Rattle.std.proofs.lemmas.List.Elements.{Contains-append_cases}
 use Rattle.std.proofs.lemmas.List.Folds.{find-append}
 use Rattle.tv_model.specs.declared.program.Edge.{Edge}
@@ -13,13 +13,13 @@ use Rattle.tv_model.specs.Form.{Form}
 use Rattle.tv_model.specs.Heap.{Heap, Holds, IsTuple}
 use Rattle.tv_model.specs.Program.{ProgramForm, PredForm, KindForm, KCore, KDefined, ActionForm, UpdateForm, ChangeForm, CTo}
 use Rattle.tv_model.specs.Rules.{IsHeap, IsConcrete, MeetsProgram, blank}
-use Rattle.tv_model.specs.Run.{IsStart, Stage, GoesOn, IsRun}
+use Rattle.tv_model.specs.Run.{Stage, GoesOn, IsRun}
 use Rattle.tv_model.specs.Step.{StepsThrough, IsFairThrough, FairStep, FollowsUpdate, AllowsChange, AgreesWithGiven, update_for}
 use Rattle.tv_model.specs.Truth.{Assignment, Truth, put_all}
 use Rattle.tv_model.specs.Valid.{IsValid}
 use Rattle.tv_model.proofs.Lists.{Contains-here, Contains-there, Contains-none, Contains-cases, Contains-filter_back, slice_get-contains}
 use Rattle.tv_model.proofs.Programs.{kind-cases}
-use Rattle.tv_difference.specs.Differences.{IsAffected, AreAffected, Answer, DKeep, DEvaluate, DTo, answer_for, answer_by_kind, updates_by, answers_from, is_core_kind, is_core_pred, differenced_updates, with_updates, with_actions, IsDifferencedAction, IsDifferenced}
+use Rattle.tv_difference.specs.Differences.{AreAffected, Answer, DKeep, DEvaluate, DTo, answer_for, answer_by_kind, updates_by, answers_from, is_core_kind, is_core_pred, differenced_updates, with_updates, with_actions, IsDifferencedAction}
 use Rattle.tv_difference.specs.Laws.{RunsAreDifferenced}
 use Rattle.tv_difference.proofs.Options.{find-passes}
 use Rattle.tv_difference.proofs.StepTruths.{by-definition}
@@ -260,13 +260,16 @@ fair-step_stays decided p actions valid zipped edge old new concrete is =
       action = with_updates is.action (differenced_updates p is.action affected);
       picked = is.picked;
       its_action = subst At partner.2.2 partner.1;
-      fair = (is.fair.0, record {
-        step = step-stays p actions is.action affected is.picked old is.fair.0 new through.step;
-        given = given-agrees decided p actions is.action affected is.picked old is.fair.0 new valid among marked
-            through.step concrete;
-        old_meets = meets-stays p actions old through.old_meets;
-        new_meets = meets-stays p actions new through.new_meets;
-      });
+      fair = (
+        is.fair.0,
+        record {
+          step = step-stays p actions is.action affected is.picked old is.fair.0 new through.step;
+          given = given-agrees decided p actions is.action affected is.picked old is.fair.0 new valid among marked
+              through.step concrete;
+          old_meets = meets-stays p actions old through.old_meets;
+          new_meets = meets-stays p actions new through.new_meets;
+        },
+      );
     }
 
 new-concrete : (p : ProgramForm) (mode : Mode) (edge : Edge) (old new : Heap) → FairStep p mode edge old new

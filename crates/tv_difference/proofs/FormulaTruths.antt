@@ -1,16 +1,15 @@
 -- The delta of each formula tells the truth, if those of its atoms do.
-use Rattle.std.proofs.Common.{ℕ, ◌≡◌, ◌⊎◌, ◌↔◌, ◌∙◌, Bool, true, false, List, length, Option, Some, None, inl, inr, ⊎_elim, refl, sym, subst, cond, Contains}
-use Rattle.std.specs.Prelude.{IfSome, slice_get}
+use Rattle.std.proofs.Common.{ℕ, ◌≡◌, ◌⊎◌, ◌↔◌, ◌∙◌, Bool, false, List, Option, None, inl, inr, ⊎_elim, sym}
+use Rattle.std.specs.Prelude.{IfSome}
 use Rattle.std.proofs.lemmas.Bool.{cond_both}
-use Rattle.tv_model.specs.Form.{Form, FZero, FOne, FAtom, FIsNew, FSame, FNot, FAnd, FOr, FIff, FCond, FExists, FForall, FClosure, IsFree}
-use Rattle.tv_model.specs.Heap.{Heap}
+use Rattle.tv_model.specs.Form.{Form, FZero, FOne, FAtom, FIsNew, FSame, FNot, FAnd, FOr, FIff, FCond, FExists, FForall, FClosure}
 use Rattle.tv_model.specs.Truth.{Assignment, Truth}
 use Rattle.tv_model.specs.Valid.{IsFormulaOver}
 use Rattle.tv_model.proofs.Decided.{IsDecided}
-use Rattle.tv_difference.specs.Deltas.{Delta, unchanged, negated, both, either, some, every, touches, delta_of}
+use Rattle.tv_difference.specs.Deltas.{Delta, unchanged, negated, both, either, touches, delta_of}
 use Rattle.tv_difference.proofs.Options.{if-then}
 use Rattle.tv_difference.proofs.PutTruths.{AvoidsPicks}
-use Rattle.tv_difference.proofs.DeltaTruths.{Change, IsChange, Suits, IsDelta, delta-alike, unchanged-tells, negated-tells, both-tells, either-tells}
+use Rattle.tv_difference.proofs.DeltaTruths.{Change, IsChange, IsDelta, delta-alike, unchanged-tells, negated-tells, both-tells, either-tells}
 use Rattle.tv_difference.proofs.QuantifierTruths.{some-tells, every-tells}
 
 iff-written : (P Q : Type 0) → IsDecided P → (((¬ P) ⊎ Q) × ((¬ Q) ⊎ P)) ↔ (P ↔ Q)

@@ -1,8 +1,8 @@
 -- Lemmas on optional values and on tests of numbers.
-use Rattle.std.proofs.Common.{ℕ, ◌≡◌, ◌<◌, ◌⊎◌, ◌+◌, Bool, true, false, not, zero, suc, List, [], ◌∷◌, Option, Some, None, inl, inr, ⊎_elim, refl, sym, subst, cond, eqb, eq-eqb, arith, Contains}
-use Rattle.std.specs.Prelude.{◌||◌, IfSome, option_map, option_and_then}
-use Rattle.std.specs.List.{find, list_any, range_with_len}
-use Rattle.std.proofs.lemmas.Bool.{or_left, or_right, both_ways, cond_both, eqb-true, or_cases, not-true}
+use Rattle.std.proofs.Common.{ℕ, ◌≡◌, ◌<◌, ◌+◌, Bool, true, false, not, zero, suc, List, [], ◌∷◌, Option, Some, None, ⊎_elim, refl, subst, cond, eqb, eq-eqb, arith, Contains}
+use Rattle.std.specs.Prelude.{IfSome, option_map, option_and_then}
+use Rattle.std.specs.List.{find, range_with_len}
+use Rattle.std.proofs.lemmas.Bool.{or_left, or_right, both_ways, eqb-true, or_cases, not-true}
 use Rattle.tv_model.proofs.Lists.{Contains-here, Contains-there, Contains-none, Contains-cases}
 use Rattle.tv_difference.specs.Putting.{has, least_slot, option_both}
 

@@ -1,6 +1,6 @@
 -- What the formula with arguments put in keeps of the plain one: truth, its free variables, its shape.
-use Rattle.std.proofs.Common.{ℕ, ◌≡◌, ◌≢◌, ◌⊎◌, ◌↔◌, ◌∙◌, List, [], ◌∷◌, length, map, Option, Some, None, inl, inr, ⊎_elim, refl, sym, ap, subst, All, Contains}
-use Rattle.std.specs.Prelude.{IfSome, slice_get, option_map, option_and_then}
+use Rattle.std.proofs.Common.{ℕ, ◌≡◌, ◌≢◌, ◌⊎◌, ◌↔◌, ◌∙◌, List, [], ◌∷◌, map, Some, inl, inr, ⊎_elim, refl, sym, ap, subst, Contains}
+use Rattle.std.specs.Prelude.{IfSome, option_map, option_and_then}
 use Rattle.std.proofs.lemmas.Bool.{cases_eq}
 use Rattle.std.proofs.lemmas.List.{length-map}
 use Rattle.tv_model.specs.Form.{Form, FZero, FOne, FAtom, FIsNew, FSame, FNot, FAnd, FOr, FIff, FCond, FExists, FForall, FClosure, IsFree}
@@ -378,4 +378,3 @@ put-kept r f m g e = if-some (Keeps r f m) (put_in r f m) g (put-keeps r f m) e
 
 pub putting_in_keeps_truth : PuttingInKeepsTruth
 putting_in_keeps_truth r f g m e h a b agrees = (put-kept r f m g e).truth h a b agrees
-

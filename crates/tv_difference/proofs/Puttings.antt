@@ -1,18 +1,14 @@
 -- Putting arguments in: what bound variables may be called, and what the formula with the arguments keeps of
 -- the plain one.
-use Rattle.std.proofs.Common.{ℕ, ◌≡◌, ◌≢◌, ◌<◌, ◌⊎◌, ◌↔◌, ◌∙◌, Bool, true, false, not, List, [], ◌∷◌, ◌++◌, map, filter, Option, Some, None, inl, inr, ⊎_elim, refl, sym, ap, subst, cond, eqb, eq-eqb, ne_eqb, All, Contains}
-use Rattle.std.specs.Prelude.{◌||◌, ◌&&◌, IfSome, slice_get, length}
-use Rattle.std.proofs.lemmas.Bool.{cases_eq, false≢true, or_parts, and_from, both_ways, not_from_false, eqb-true, eqb-false, cond-true, cond-false, or_left, or_right}
+use Rattle.std.proofs.Common.{ℕ, ◌≡◌, ◌≢◌, ◌<◌, ◌⊎◌, ◌∙◌, Bool, true, false, not, [], ◌∷◌, ◌++◌, Option, Some, None, inl, inr, ⊎_elim, refl, sym, ap, subst, cond, eqb, eq-eqb, ne_eqb, Contains}
+use Rattle.std.specs.Prelude.{◌||◌, ◌&&◌, IfSome}
+use Rattle.std.proofs.lemmas.Bool.{or_parts, and_from, both_ways, not_from_false, eqb-true, cond-true, cond-false, or_left, or_right}
 use Rattle.std.proofs.lemmas.List.Elements.{Contains-append_left, Contains-append_right}
 use Rattle.tv_model.specs.Form.{Form, FZero, FOne, FAtom, FIsNew, FSame, FNot, FAnd, FOr, FIff, FCond, FExists, FForall, FClosure, IsFree}
-use Rattle.tv_model.specs.Heap.{Heap, Holds}
-use Rattle.tv_model.specs.Truth.{Assignment, Truth, ClosureEdge, IsWalk, put}
-use Rattle.tv_model.specs.Valid.{IsVariable, IsFormulaOver, NamesNew}
-use Rattle.tv_model.proofs.Assignments.{put-same, put-other}
-use Rattle.tv_model.proofs.Lists.{Contains-here, Contains-there, Contains-none, Contains-cases, Contains-map, Contains-map_back, map-compose, map-agreed}
-use Rattle.tv_difference.specs.Laws.{PuttingInKeepsTruth}
-use Rattle.tv_difference.specs.Putting.{has, least_slot, variables, is_free, Arguments, argument_for, without_argument, arguments_of, Reserved, captures, bound_number, under_bound, put_in}
-use Rattle.tv_difference.proofs.Options.{if-mapped, if-bound, if-both, if-some, has-from, has-not, least-slot_free}
+use Rattle.tv_model.specs.Valid.{IsVariable}
+use Rattle.tv_model.proofs.Lists.{Contains-here, Contains-there}
+use Rattle.tv_difference.specs.Putting.{has, least_slot, variables, is_free, Arguments, argument_for, without_argument, arguments_of, Reserved, captures, bound_number, under_bound}
+use Rattle.tv_difference.proofs.Options.{has-from, has-not, least-slot_free}
 
 -- ---- free variables
 

@@ -1,5 +1,5 @@
 -- Deltas of quantified formulas tell the truth.
-use Rattle.std.proofs.Common.{ℕ, ◌≡◌, ◌≢◌, ◌⊎◌, ◌↔◌, ◌∙◌, List, Option, Some, None, inl, inr, ⊎_elim, sym, subst, Contains}
+use Rattle.std.proofs.Common.{ℕ, ◌≡◌, ◌≢◌, ◌↔◌, ◌∙◌, List, Option, Some, None, ⊎_elim, subst, Contains}
 use Rattle.std.specs.Prelude.{IfSome}
 use Rattle.tv_model.specs.Form.{Form, FExists, FForall, IsFree}
 use Rattle.tv_model.specs.Heap.{Heap}
@@ -9,7 +9,7 @@ use Rattle.tv_model.proofs.Decided.{IsDecided, exists-decided, not-decided}
 use Rattle.tv_difference.specs.Simple.{simple_not, simple_and, simple_exists, simple_forall}
 use Rattle.tv_difference.specs.Deltas.{Delta, delta_by, some, every}
 use Rattle.tv_difference.proofs.SimpleLaws.{not-truth, and-truth, exists-truth, forall-truth}
-use Rattle.tv_difference.proofs.DeltaTruths.{Tells, Change, IsChange, Suits, IsDelta, TellsAt, delta-tells, if-small}
+use Rattle.tv_difference.proofs.DeltaTruths.{Tells, Change, IsChange, Suits, IsDelta, delta-tells, if-small}
 
 abbrev pub Somewhere : List ℕ → (ℕ → Type 0) → Type 0
 Somewhere xs P = (u : ℕ) × Contains xs u × P u
@@ -32,42 +32,56 @@ some-up : (xs ys : List ℕ) (O N Now Up Down Next : ℕ → Type 0) → ((u : �
     → TellsEach xs O N Now Up Down Next
     → (Somewhere xs Up × (¬ Somewhere xs Now)) ↔ ((¬ Somewhere xs O) × Somewhere ys N)
 some-up xs ys O N Now Up Down Next same is = (
-  λ t. ((λ o. t.1 (o.0, o.1, (is.each o.0 o.1).now.1 o.2)),
-      (t.0.0, (same t.0.0).0 t.0.1, ((is.each t.0.0 t.0.1).up.0 t.0.2).1)),
+  λ t. (
+    (λ o. t.1 (o.0, o.1, (is.each o.0 o.1).now.1 o.2)),
+    (t.0.0, (same t.0.0).0 t.0.1, ((is.each t.0.0 t.0.1).up.0 t.0.2).1),
+  ),
   λ t. let at : Contains xs t.1.0 = (same t.1.0).1 t.1.1
-      in ((t.1.0, at, (is.each t.1.0 at).up.1 ((λ o. t.0 (t.1.0, at, o)), t.1.2)),
-      λ w. t.0 (w.0, w.1, (is.each w.0 w.1).now.0 w.2)),
+      in (
+        (t.1.0, at, (is.each t.1.0 at).up.1 ((λ o. t.0 (t.1.0, at, o)), t.1.2)),
+        λ w. t.0 (w.0, w.1, (is.each w.0 w.1).now.0 w.2),
+      ),
 )
 
 some-down : (xs ys : List ℕ) (O N Now Up Down Next : ℕ → Type 0) → ((u : ℕ) → Contains xs u ↔ Contains ys u)
     → TellsEach xs O N Now Up Down Next
     → (Somewhere xs Down × (¬ Somewhere xs Next)) ↔ (Somewhere xs O × (¬ Somewhere ys N))
 some-down xs ys O N Now Up Down Next same is = (
-  λ t. ((t.0.0, t.0.1, ((is.each t.0.0 t.0.1).down.0 t.0.2).0),
-      λ w. t.1 (w.0, (same w.0).1 w.1, (is.each w.0 ((same w.0).1 w.1)).next.1 w.2)),
-  λ t. ((t.0.0, t.0.1, (is.each t.0.0 t.0.1).down.1 (t.0.2, λ n. t.1 (t.0.0, (same t.0.0).0 t.0.1, n))),
-      λ w. t.1 (w.0, (same w.0).0 w.1, (is.each w.0 w.1).next.0 w.2)),
+  λ t. (
+    (t.0.0, t.0.1, ((is.each t.0.0 t.0.1).down.0 t.0.2).0),
+    λ w. t.1 (w.0, (same w.0).1 w.1, (is.each w.0 ((same w.0).1 w.1)).next.1 w.2),
+  ),
+  λ t. (
+    (t.0.0, t.0.1, (is.each t.0.0 t.0.1).down.1 (t.0.2, λ n. t.1 (t.0.0, (same t.0.0).0 t.0.1, n))),
+    λ w. t.1 (w.0, (same w.0).0 w.1, (is.each w.0 w.1).next.0 w.2),
+  ),
 )
 
 every-up : (xs ys : List ℕ) (O N Now Up Down Next : ℕ → Type 0) → ((u : ℕ) → Contains xs u ↔ Contains ys u)
     → TellsEach xs O N Now Up Down Next → ((u : ℕ) → IsDecided (O u))
     → (Somewhere xs Up × Everywhere xs Next) ↔ ((¬ Everywhere xs O) × Everywhere ys N)
 every-up xs ys O N Now Up Down Next same is was = (
-  λ t. ((λ all. ((is.each t.0.0 t.0.1).up.0 t.0.2).0 (all t.0.0 t.0.1)),
-      λ u at. (is.each u ((same u).1 at)).next.0 (t.1 u ((same u).1 at))),
+  λ t. (
+    (λ all. ((is.each t.0.0 t.0.1).up.0 t.0.2).0 (all t.0.0 t.0.1)),
+    λ u at. (is.each u ((same u).1 at)).next.0 (t.1 u ((same u).1 at)),
+  ),
   λ t. let c : Somewhere xs (λ u. ¬ O u) = counterexample xs O was t.0
-      in ((c.0, c.1, (is.each c.0 c.1).up.1 (c.2, t.1 c.0 ((same c.0).0 c.1))),
-      λ u at. (is.each u at).next.1 (t.1 u ((same u).0 at))),
+      in (
+        (c.0, c.1, (is.each c.0 c.1).up.1 (c.2, t.1 c.0 ((same c.0).0 c.1))),
+        λ u at. (is.each u at).next.1 (t.1 u ((same u).0 at)),
+      ),
 )
 
 every-down : (xs ys : List ℕ) (O N Now Up Down Next : ℕ → Type 0) → ((u : ℕ) → Contains xs u ↔ Contains ys u)
     → TellsEach xs O N Now Up Down Next → ((u : ℕ) → IsDecided (N u))
     → (Somewhere xs Down × Everywhere xs Now) ↔ (Everywhere xs O × (¬ Everywhere ys N))
 every-down xs ys O N Now Up Down Next same is will = (
-  λ t. ((λ u at. (is.each u at).now.0 (t.1 u at)),
-      λ all. ((is.each t.0.0 t.0.1).down.0 t.0.2).1 (all t.0.0 ((same t.0.0).0 t.0.1))),
+  λ t. (
+    (λ u at. (is.each u at).now.0 (t.1 u at)),
+    λ all. ((is.each t.0.0 t.0.1).down.0 t.0.2).1 (all t.0.0 ((same t.0.0).0 t.0.1)),
+  ),
   λ t. let c : Somewhere xs (λ u. ¬ N u)
-          = counterexample xs N will (λ all. t.1 (λ u at. all u ((same u).1 at)))
+      = counterexample xs N will (λ all. t.1 (λ u at. all u ((same u).1 at)))
       in ((c.0, c.1, (is.each c.0 c.1).down.1 (t.0 c.0 c.1, c.2)), λ u at. (is.each u at).now.1 (t.0 u at)),
 )
 

@@ -1,5 +1,5 @@
 -- The constructors that simplify: what they give is one of a few formulas, and it keeps truth.
-use Rattle.std.proofs.Common.{ℕ, ◌≡◌, ◌↔◌, ◌⊎◌, Bool, true, false, inl, inr, ⊎_elim, refl, cond, Contains}
+use Rattle.std.proofs.Common.{ℕ, ◌≡◌, ◌↔◌, ◌⊎◌, Bool, true, false, inl, inr, ⊎_elim, refl, cond}
 use Rattle.std.specs.Prelude.{◌||◌}
 use Rattle.std.proofs.lemmas.Bool.{false≢true}
 use Rattle.tv_model.specs.Form.{Form, FZero, FOne, FAtom, FIsNew, FSame, FNot, FAnd, FOr, FIff, FCond, FExists, FForall, FClosure}

@@ -1,35 +1,34 @@
 -- A step that neither adds nor removes individuals: what it doesn't affect stays, and the deltas of atoms tell
 -- what it does.
-use Rattle.std.proofs.Common.{ℕ, ◌≡◌, ◌<◌, ◌⊎◌, ◌↔◌, ◌∙◌, Bool, true, false, zero, suc, List, [], ◌∷◌, ◌++◌, length, map, Option, Some, None, inl, inr, ⊎_elim, refl, sym, ap, subst, cond, eqb, arith, All, Contains}
-use Rattle.std.specs.Prelude.{◌||◌, AllPairs, IfSome, slice_get, option_and_then, option_map}
-use Rattle.std.specs.List.{zip, find}
-use Rattle.std.proofs.lemmas.Bool.{both_ways, cond_both, or_parts, eqb-true}
+use Rattle.std.proofs.Common.{ℕ, ◌≡◌, ◌<◌, ◌↔◌, ◌∙◌, Bool, true, false, zero, suc, List, [], ◌∷◌, length, map, Option, Some, None, inl, inr, ⊎_elim, refl, sym, ap, subst, eqb, arith, Contains}
+use Rattle.std.specs.Prelude.{◌||◌, IfSome, slice_get, option_and_then, option_map}
+use Rattle.std.specs.List.{zip}
+use Rattle.std.proofs.lemmas.Bool.{both_ways, or_parts, eqb-true}
 use Rattle.std.proofs.lemmas.List.Elements.{All-contains, Contains-append_cases}
 use Rattle.std.proofs.lemmas.List.{length-map}
 use Rattle.std.proofs.lemmas.Option.{slice_get-map}
 use Rattle.tv_model.specs.Form.{Form, FZero, FOne, FAtom, FIsNew, FSame, FNot, FAnd, FOr, FIff, FCond, FExists, FForall, FClosure, IsFree, Mentions}
 use Rattle.tv_model.specs.Heap.{Heap, Holds, IsTuple}
 use Rattle.tv_model.specs.Laws.{HeapsLookAlike}
-use Rattle.tv_model.specs.Program.{ProgramForm, PredForm, KindForm, KCore, KDefined, ActionForm, UpdateForm, ChangeForm, CFree, CTo, RetainForm}
-use Rattle.tv_model.specs.Rules.{IsHeap, IsConcrete, MeetsDefinition, blank}
-use Rattle.tv_model.specs.Step.{StepsThrough, IsMiddle, Keeps as KeepsIndividual, FollowsUpdate, AllowsChange, update_for}
-use Rattle.tv_model.specs.Truth.{Assignment, Truth, put_all, IsWalk}
-use Rattle.tv_model.specs.Valid.{IsValid, IsVariable, IsFormulaOver, IsPred, IsKind, IsAction, IsUpdate, IsChange as IsAllowedChange, AreVariables, program_arities}
+use Rattle.tv_model.specs.Program.{ProgramForm, PredForm, KindForm, KCore, KDefined, ActionForm, UpdateForm, ChangeForm, CTo, RetainForm}
+use Rattle.tv_model.specs.Rules.{IsConcrete, MeetsDefinition, blank}
+use Rattle.tv_model.specs.Step.{StepsThrough, Keeps as KeepsIndividual, FollowsUpdate, AllowsChange, update_for}
+use Rattle.tv_model.specs.Truth.{Assignment, Truth, put_all}
+use Rattle.tv_model.specs.Valid.{IsValid, IsFormulaOver, IsAction, IsUpdate, IsChange as IsAllowedChange, program_arities}
 use Rattle.tv_model.proofs.Assignments.{All-values}
 use Rattle.tv_model.proofs.Decided.{IsDecided}
-use Rattle.tv_model.proofs.Lists.{slice_get-contains, All-from_contains}
+use Rattle.tv_model.proofs.Lists.{All-from_contains}
 use Rattle.tv_model.proofs.Programs.{pred-cases, kind-cases, holds-nothing, holds-fits}
 use Rattle.tv_model.proofs.Truths.{Truth-local}
 use Rattle.tv_difference.specs.Simple.{simple_not, simple_and}
 use Rattle.tv_difference.specs.Putting.{Reserved, argument_for, put_in}
-use Rattle.tv_difference.specs.Deltas.{Delta, delta_by, if_small, unchanged, is_flagged, touches, delta_of, delta_of_set, delta_of_defined, delta_by_change, delta_by_update, delta_by_kind, atom_delta}
-use Rattle.tv_difference.specs.Differences.{IsChanged, DefinedBy, IsAffected, AreAffected}
-use Rattle.tv_difference.proofs.Options.{if-bound, if-then, find-passes}
-use Rattle.tv_difference.proofs.Assigned.{put-all_arguments, argument-in}
+use Rattle.tv_difference.specs.Deltas.{delta_by, is_flagged, touches, delta_of_set}
+use Rattle.tv_difference.specs.Differences.{DefinedBy, IsAffected, AreAffected}
+use Rattle.tv_difference.proofs.Options.{if-bound, find-passes}
+use Rattle.tv_difference.proofs.Assigned.{put-all_arguments}
 use Rattle.tv_difference.proofs.PutTruths.{Keeps, put-keeps}
 use Rattle.tv_difference.proofs.SimpleLaws.{not-truth, and-truth}
-use Rattle.tv_difference.proofs.DeltaTruths.{Change, IsChange, Suits, IsDelta, TellsAt, delta-tells, if-small, unchanged-tells}
-use Rattle.tv_difference.proofs.FormulaTruths.{TellsAtoms, delta-of_tells}
+use Rattle.tv_difference.proofs.DeltaTruths.{Change, IsChange, Suits, IsDelta, delta-tells, if-small}
 
 -- such a step of a valid program from a concrete heap
 pub record StillStep (p : ProgramForm) (action : ActionForm) (picked : Assignment) (old new : Heap) : Type 0 where

@@ -2,10 +2,10 @@
 -- makes it false, and what it is after the step.
 -- R. Paige and S. Koenig, Finite differencing of computable expressions, TOPLAS 4(3), 1982, 402-454;
 -- T. Reps, M. Sagiv, A. Loginov, Finite differencing of logical formulas for static analysis, TOPLAS 32(6), 2010.
-use Rattle.std.specs.Prelude.{ℕ, suc, zero, Bool, ◌&&◌, ◌||◌, false, List, length, Option, Some, None, unwrap_or, slice_get, if◌then◌else◌, option_and_then, option_map, IsTrue}
+use Rattle.std.specs.Prelude.{ℕ, suc, zero, Bool, ◌&&◌, ◌||◌, false, List, Option, Some, None, unwrap_or, slice_get, if◌then◌else◌, option_and_then}
 use Rattle.std.specs.List.{zip}
 use Rattle.tv_model.specs.Form.{Form, FZero, FOne, FAtom, FIsNew, FSame, FNot, FAnd, FOr, FIff, FCond, FExists, FForall, FClosure}
-use Rattle.tv_model.specs.Program.{ProgramForm, PredForm, KindForm, KCore, KDefined, ActionForm, UpdateForm, ChangeForm, CFree, CTo}
+use Rattle.tv_model.specs.Program.{ProgramForm, KindForm, KCore, KDefined, ActionForm, UpdateForm, ChangeForm, CFree, CTo}
 use Rattle.tv_model.specs.Step.{update_for}
 use Rattle.tv_difference.specs.Simple.{is_small, simple_not, simple_and, simple_or, simple_exists, simple_forall, simple_cond}
 use Rattle.tv_difference.specs.Putting.{Reserved, put_in}

@@ -1,5 +1,5 @@
 -- What finite differencing says of a defined predicate and an action, and the program that it makes.
-use Rattle.std.specs.Prelude.{ℕ, ◌≡◌, ◌+◌, ◌⊎◌, ◌↔◌, ◌||◌, Bool, true, false, List, [], ◌∷◌, ◌++◌, length, filter, Option, Some, None, slice_get, is_some, Contains, if◌then◌else◌, option_and_then}
+use Rattle.std.specs.Prelude.{ℕ, ◌≡◌, ◌+◌, ◌⊎◌, ◌↔◌, ◌||◌, Bool, true, false, List, [], ◌∷◌, ◌++◌, length, filter, Option, Some, None, slice_get, is_some, if◌then◌else◌, option_and_then}
 use Rattle.std.specs.List.{zip, AllZip}
 use Rattle.tv_model.specs.Form.{Form, FAtom, Mentions}
 use Rattle.tv_model.specs.Program.{ProgramForm, PredForm, EachPred, KindForm, KCore, KDefined, ActionForm, UpdateForm, CTo}

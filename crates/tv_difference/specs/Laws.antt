@@ -1,5 +1,5 @@
 -- Laws of finite differencing, as statements.
-use Rattle.std.specs.Prelude.{ℕ, ◌≡◌, ◌↔◌, Bool, false, None, List, Some, Option, slice_get, Contains}
+use Rattle.std.specs.Prelude.{ℕ, ◌≡◌, ◌↔◌, Bool, List, Some, slice_get, Contains}
 use Rattle.tv_model.specs.declared.program.Mode.TheVariants.{Given, Recompute}
 use Rattle.tv_model.specs.Form.{Form, FNot, FAnd, FOr, FExists, FForall, FCond, IsFree}
 use Rattle.tv_model.specs.Heap.{Heap, Holds, IsTuple}
