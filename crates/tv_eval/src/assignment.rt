@@ -1,6 +1,6 @@
 //! What the variables of a formula stand for.
 
-ghost use Rattle.std.specs.Prelude.{ℕ, ◌≡◌, ◌<◌, ◌==◌, Some, None, if◌then◌else◌};
+ghost use Rattle.std.specs.Prelude.{ℕ, ◌≡◌, ◌<◌, ◌==◌, Some, None, if◌then◌else◌, slice_set};
 ghost use Rattle.tv_model.specs.Truth.{put};
 ghost use Rattle.tv_eval.specs.AssignmentForm.{place_of, assignment_of};
 
@@ -41,6 +41,26 @@ impl Assignment {
         let mut places = self.places;
         places[v.0 as usize] = Some(u);
         Assignment { places }
+    }
+
+    /// Puts the individual `u` for the variable `v`, whether or not it stood for one before, and changes
+    /// nothing else.
+    pub fn set(&mut self, v: Var, u: u32)
+        requires { v.0 < 32 }
+        ensures value { self.new ≡ slice_set self.old v.0 (Some u) }
+        ensures places { (w : ℕ) → place_of self.new w ≡ (if w == v.0 then Some u else place_of self.old w) }
+        ensures total { assignment_of self.new ≡ put (assignment_of self.old) v.0 u }
+    {
+        self.places[v.0 as usize] = Some(u);
+    }
+
+    /// Puts back what the variable `v` stood for, which may be none, and changes nothing else.
+    pub fn put_back(&mut self, v: Var, place: Option<u32>)
+        requires { v.0 < 32 }
+        ensures value { self.new ≡ slice_set self.old v.0 place }
+        ensures places { (w : ℕ) → place_of self.new w ≡ (if w == v.0 then place else place_of self.old w) }
+    {
+        self.places[v.0 as usize] = place;
     }
 
     /// The individual that the variable stands for, if there is one.
