@@ -1,8 +1,9 @@
 -- The values along a variable, as lists.
-use Rattle.std.proofs.Common.{ℕ, ◌≡◌, ◌≢◌, ◌<◌, ◌≤◌, ◌+◌, suc, List, [], ◌∷◌, length, map, get_or, set, replicate, All, refl, sym, ap, ◌∙◌, ⊎_elim, subst, arith, eqb, eq-eqb, ne_eqb}
+use Rattle.std.proofs.Common.{ℕ, ◌≡◌, ◌≢◌, ◌<◌, ◌≤◌, ◌+◌, suc, List, [], ◌∷◌, length, map, get_or, set, replicate, All, Any, refl, sym, ap, ◌∙◌, ⊎_elim, subst, arith, eqb, eq-eqb, ne_eqb}
 use Rattle.std.specs.List.{range_with_len}
+use Rattle.std.specs.Prelude.{◌↔◌, Bool, true, false, not, IsTrue, Some, if◌then◌else◌}
 use Rattle.std.proofs.lemmas.Bool.{cases_eq, cond-true, cond-false}
-use Rattle.std.proofs.lemmas.List.{length-replicate, get_or-replicate, length-set, get_or-set_same, get_or-set_other}
+use Rattle.std.proofs.lemmas.List.{get_or_default, length-replicate, get_or-replicate, length-set, get_or-set_same, get_or-set_other}
 use Rattle.std.proofs.lemmas.List.FromFn.{fill_by_all, length-map-range_with_len, get_or-map-range_with_len}
 use Rattle.tv_kleene.specs.declared.K3.{K3}
 use Rattle.tv_kleene.specs.declared.K3.TheVariants.{No, Half, Yes}
@@ -11,12 +12,13 @@ use Rattle.tv_model.specs.Form.{Form, FClosure, IsFree}
 use Rattle.tv_model.specs.Truth.{Assignment, put}
 use Rattle.tv_row.specs.Bits.{paired, greatest_in, least_in}
 use Rattle.tv_struct.specs.StructureForm.{StructureForm, structure_of, value_at}
-use Rattle.tv_value.specs.Value.{value, greatest_of, least_of, best_walk}
+use Rattle.tv_frame.specs.LogicalStructure.{LogicalStructure}
+use Rattle.tv_value.specs.Value.{value, greatest_of, least_of, best_walk, mark_value, same_value}
 use Rattle.tv_value.proofs.Rounds.{best_walk-same}
 use Rattle.tv_row.specs.Places.{entry_in}
 use Rattle.tv_row.proofs.WordOps.{length-paired, get_or-paired}
-use Rattle.tv_eval.specs.Rows.{part_of}
-use Rattle.tv_eval.specs.declared.relation.Part.TheVariants.{From}
+use Rattle.tv_relation.specs.Rows.{part_of}
+use Rattle.tv_relation.specs.declared.relation.Part.TheVariants.{From}
 use Rattle.tv_value.proofs.Agreed.{only_free_variables_matter}
 
 -- ---- lists of values
@@ -79,6 +81,23 @@ none-both g h [] all = refl
 none-both g h (u ∷ us) all =
     let e : g u ≡ No = all 0 No (omega arith)
     in rw (e, none-both g h us (λ i d lt. all (suc i) d (omega arith))) refl
+
+-- where no value is another than No, all are No
+pub all-none : (xs : List K3) → (¬ Any (λ x. x ≢ No) xs) → All (λ x. x ≡ No) xs
+all-none xs none i d lt = only (get_or xs i d) (λ ne. none (i, get_or xs i d, lt, get_or_default xs i (get_or xs i d) d lt, ne))
+  where
+    only : (x : K3) → (¬ (x ≢ No)) → x ≡ No
+    only No h = refl
+    only Half h = absurd (h (λ e. cc))
+    only Yes h = absurd (h (λ e. cc))
+
+pub none-possible : (some : Bool) (xs : List K3) → (IsTrue some ↔ Any (λ x. x ≢ No) xs)
+    → IsTrue (not some) ↔ All (λ x. x ≡ No) xs
+none-possible true xs is = (
+  λ h. cc,
+  λ all. let other : Any (λ x. x ≢ No) xs = is.0 refl in absurd (other.4 (sym other.3 ∙ all other.0 other.1 other.2)),
+)
+none-possible false xs is = (λ h. all-none xs (λ other. let e : false ≡ true = is.1 other in cc), λ all. refl)
 
 pub all-either : (g h : ℕ → K3) (us : List ℕ) → All (λ x. x ≡ Yes) (map g us) → map g us ≡ map
     (λ u. larger_of (g u) (h u)) us
@@ -252,6 +271,54 @@ pub atom_two : (s : StructureForm) (a : Assignment) (pred x y v u w z : ℕ) →
     → value_at s pred (w ∷ z ∷ []) ≡ value_at s pred (put a v u x ∷ put a v u y ∷ [])
 atom_two s a pred x y v u w z e f = ap (λ p. value_at s pred (p ∷ z ∷ [])) e ∙ ap
     (λ q. value_at s pred (put a v u x ∷ q ∷ [])) f
+
+-- ---- marks and equality
+
+-- a value at one place, and No at all others
+pub one_place : (g : ℕ → K3) (n u : ℕ) (k : K3) → u < n → k ≡ g u → ((w : ℕ) → w ≢ u → g w ≡ No)
+    → set (replicate n No) u k ≡ map g (range_with_len 0 n)
+one_place g n u k lt here others =
+    fill_by_all g (set (replicate n No) u k) n No (length-set (replicate n No) u k ∙ length-replicate n No)
+    (λ w lw. ⊎_elim
+    (λ e. ap (λ i. get_or (set (replicate n No) u k) i No) e
+    ∙ get_or-set_same (replicate n No) u k No (omega (arith, length-replicate n No)) ∙ here ∙ ap g (sym e))
+    (λ ne. get_or-set_other (replicate n No) u w k No ne ∙ get_or-replicate n w No No lw ∙ sym (others w ne))
+    (cases_eq w u))
+
+pub marked_place : (n u : ℕ) → u < n → set (replicate n No) u Yes ≡ map (mark_value (Some u)) (range_with_len 0 n)
+marked_place n u lt =
+    one_place (mark_value (Some u)) n u Yes lt (sym (cond-true (eqb u u) Yes No (eq-eqb u u refl)))
+    (λ w ne. cond-false (eqb u w) Yes No (ne_eqb u w (λ e. ne (sym e))))
+
+pub same_place : (s : LogicalStructure) (n u : ℕ) (k : K3) → u < n → k ≡ same_value s u u
+    → set (replicate n No) u k ≡ map (λ w. same_value s w u) (range_with_len 0 n)
+same_place s n u k lt is =
+    one_place (λ w. same_value s w u) n u k lt is
+    (λ w ne. cond-false (eqb w u) (if s.is_summary w then Half else Yes) No (ne_eqb w u ne))
+
+pub same_turned : (s : LogicalStructure) (u w : ℕ) → same_value s u w ≡ same_value s w u
+same_turned s u w =
+    ⊎_elim
+    (λ e. ap (λ i. same_value s i w) e ∙ sym (ap (same_value s w) e))
+    (λ ne. cond-false (eqb u w) (if s.is_summary u then Half else Yes) No (ne_eqb u w ne)
+    ∙ sym (cond-false (eqb w u) (if s.is_summary w then Half else Yes) No (ne_eqb w u (λ e. ne (sym e)))))
+    (cases_eq u w)
+
+pub same_two : (s : LogicalStructure) (u w x y : ℕ) → u ≡ w → x ≡ y → same_value s u x ≡ same_value s w y
+same_two s u w x y e f = ap (λ i. same_value s i x) e ∙ ap (same_value s w) f
+
+-- each individual is one cell with itself, unless it is a summary
+pub same_itself : (s : LogicalStructure) (us : List ℕ)
+    → map negation_of (map (λ u. if s.is_summary u then Half else No) us) ≡ map (λ u. same_value s u u) us
+same_itself s [] = refl
+same_itself s (u ∷ us) =
+    ap (λ k. k ∷ map negation_of (map (λ w. if s.is_summary w then Half else No) us))
+    (turned (s.is_summary u) ∙ sym (cond-true (eqb u u) (if s.is_summary u then Half else Yes) No (eq-eqb u u refl)))
+    ∙ ap (λ ks. same_value s u u ∷ ks) (same_itself s us)
+  where
+    turned : (b : Bool) → negation_of (if b then Half else No) ≡ (if b then Half else Yes)
+    turned true = refl
+    turned false = refl
 
 -- ---- closures
 

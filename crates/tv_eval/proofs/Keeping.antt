@@ -17,9 +17,9 @@ use Rattle.tv_eval.specs.declared.kept.Kept.{Kept}
 use Rattle.tv_eval.specs.HoldsClosure.{HoldsClosure}
 use Rattle.tv_eval.specs.Keeps.{Keeps, StandsAt}
 use Rattle.tv_row.specs.Places.{entry_in}
-use Rattle.tv_eval.specs.Rows.{IsSquare, IsPart, part_at, part_of}
-use Rattle.tv_eval.specs.declared.relation.Part.{Part}
-use Rattle.tv_eval.specs.declared.relation.Part.TheVariants.{From, To, Diagonal}
+use Rattle.tv_relation.specs.Rows.{IsSquare, IsPart, part_at, part_of}
+use Rattle.tv_relation.specs.declared.relation.Part.{Part}
+use Rattle.tv_relation.specs.declared.relation.Part.TheVariants.{From, To, Diagonal}
 use Rattle.tv_kleene.specs.declared.K3.TheVariants.{No}
 use Rattle.std.proofs.lemmas.List.FromFn.{fill_by_all, length-map-range_with_len, get_or-map-range_with_len}
 use Rattle.tv_eval.proofs.FreeBelow.{free-below}

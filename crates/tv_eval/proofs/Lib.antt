@@ -7,4 +7,3 @@ pub mod Loops
 pub mod Parts
 pub mod Programs
 pub mod Rooms
-pub mod RowLaws

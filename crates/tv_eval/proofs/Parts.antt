@@ -1,9 +1,12 @@
 -- What can be evaluated can be evaluated part by part.
-use Rattle.std.proofs.Common.{ℕ, ◌≡◌, ◌≢◌, ◌<◌, ◌≤◌, ◌+◌, ◌==◌, inl, inr, ⊎_elim, suc, List, [], ◌∷◌, ◌++◌, length, get_or, max, Option, Some, None, sym, subst, ◌∙◌, arith, if◌then◌else◌, eqb, eq-eqb, ne_eqb}
+use Rattle.std.proofs.Common.{ℕ, ◌≡◌, ◌≢◌, ◌<◌, ◌≤◌, ◌+◌, ◌==◌, inl, inr, ⊎_elim, zero, suc, List, [], ◌∷◌, ◌++◌, length, get_or, max, ap, Option, Some, None, replicate, refl, sym, subst, ◌∙◌, arith, if◌then◌else◌, eqb, eq-eqb, ne_eqb}
+use mathlib.Core.Path.{fun_ext}
 use Rattle.std.specs.Prelude.{IsSomeAnd, unwrap_or}
 use Rattle.std.proofs.lemmas.Bool.{cases_eq, cond-true, cond-false}
 use Rattle.tv_kleene.specs.declared.K3.{K3}
 use Rattle.tv_model.specs.Form.{Form, FAtom, FNot, FAnd, FOr, FIff, FCond, FExists, FForall, FClosure, IsFree}
+use Rattle.tv_model.proofs.Assignments.{put-same, put-other}
+use Rattle.tv_model.specs.Truth.{put}
 use Rattle.tv_model.proofs.Lists.{Contains-here, Contains-there}
 use Rattle.tv_struct.specs.TableForm.{HasEntry}
 use Rattle.tv_struct.specs.StructureForm.{StructureForm, table_of, arities_of}
@@ -11,6 +14,12 @@ use Rattle.tv_eval.specs.AssignmentForm.{place_of, assignment_of, IsAssigned}
 use Rattle.tv_eval.specs.Formulas.{HasRooms, nesting, sizes_of}
 use Rattle.tv_model.specs.Valid.{IsFormulaOver}
 use Rattle.tv_eval.specs.CanEvaluate.{CanEvaluate}
+
+-- a list of None has None at each place
+pub nones : (n v : ℕ) → get_or {A = Option ℕ} (replicate n None) v None ≡ None
+nones zero v = refl
+nones (suc n) zero = refl
+nones (suc n) (suc v) = nones n v
 
 -- what an assigned variable stands for is an individual
 some-below : (n : ℕ) (o : Option ℕ) → IsSomeAnd o (λ u. u < n) → unwrap_or o 0 < n
@@ -85,6 +94,43 @@ assigned-put n a b v u w put lt h =
     (λ e. subst At (sym (put.places w ∙ cond-true (eqb w v) (Some u) (place_of a w) (eq-eqb w v e))) lt)
     (λ ne. subst At (sym (put.places w ∙ cond-false (eqb w v) (Some u) (place_of a w) (ne_eqb w v ne))) (h ne))
     (cases_eq w v)
+
+-- b is a, or differs from it in what v stands for
+pub record IsLike (a : List (Option ℕ)) (v : ℕ) (b : List (Option ℕ)) : Type 0 where
+  pub others : (w : ℕ) → w ≢ v → place_of b w ≡ place_of a w
+
+pub like-itself : (a : List (Option ℕ)) (v : ℕ) → IsLike a v a
+like-itself a v = record { others = λ w ne. refl }
+
+-- b is here with the individual u put for v, and here is like a: b is a with u put for v
+module _ (a here b : List (Option ℕ)) (v u : ℕ) (like : IsLike a v here)
+    (places : (w : ℕ) → place_of b w ≡ (if w == v then Some u else place_of here w)) where
+  pub put-again : IsPut a v u b
+  put-again = record {
+    places = λ w. ⊎_elim
+        (λ e. places w ∙ cond-true (eqb w v) (Some u) (place_of here w) (eq-eqb w v e) ∙ sym
+        (cond-true (eqb w v) (Some u) (place_of a w) (eq-eqb w v e)))
+        (λ ne. places w ∙ cond-false (eqb w v) (Some u) (place_of here w) (ne_eqb w v ne) ∙ like.others w ne ∙ sym
+        (cond-false (eqb w v) (Some u) (place_of a w) (ne_eqb w v ne)))
+        (cases_eq w v);
+  }
+
+  pub like-again : IsLike a v b
+  like-again = record {
+    others = λ w ne. places w ∙ cond-false (eqb w v) (Some u) (place_of here w) (ne_eqb w v ne) ∙ like.others w ne;
+  }
+
+  pub total-again : assignment_of b ≡ put (assignment_of a) v u
+  total-again = fun_ext (λ w. ap (λ o. unwrap_or o 0) (put-again.places w) ∙ total_at w)
+    where
+      total_at : (w : ℕ) → unwrap_or (if w == v then Some u else place_of a w) 0 ≡ put (assignment_of a) v u w
+      total_at w =
+          ⊎_elim
+          (λ e. ap (λ o. unwrap_or o 0) (cond-true (eqb w v) (Some u) (place_of a w) (eq-eqb w v e)) ∙ sym
+          (put-same (assignment_of a) v u w e))
+          (λ ne. ap (λ o. unwrap_or o 0) (cond-false (eqb w v) (Some u) (place_of a w) (ne_eqb w v ne)) ∙ sym
+          (put-other (assignment_of a) v u w ne))
+          (cases_eq w v)
 
 pub can-put : (s : StructureForm) (a b : List (Option ℕ)) (sizes : List ℕ) (v u : ℕ) (f : Form)
     → CanEvaluate s a sizes (FExists v f) → u < s.size → IsPut a v u b → CanEvaluate s b sizes f

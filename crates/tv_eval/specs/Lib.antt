@@ -6,6 +6,5 @@ pub mod Formulas
 pub mod HoldsClosure
 pub mod Keeps
 pub mod Laws
-pub mod Rows
 pub mod ScratchForm
 pub mod Sound

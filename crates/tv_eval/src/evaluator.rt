@@ -14,11 +14,11 @@ ghost use Rattle.tv_eval.specs.Sound.{CoversValues};
 
 use crate::Assignment;
 use crate::kept::Kept;
-use crate::relation::Relation;
 use crate::scratch::Scratch;
 use crate::values::{row_of, value_of};
 use tv_kleene::K3;
 use tv_model::{Formula, Var};
+use tv_relation::Relation;
 use tv_row::Row;
 use tv_struct::Structure;
 

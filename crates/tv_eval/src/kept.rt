@@ -9,9 +9,9 @@ ghost use Rattle.tv_model.specs.Valid.{IsFormulaOver};
 ghost use Rattle.tv_eval.specs.HoldsClosure.{HoldsClosure};
 ghost use Rattle.tv_eval.specs.Keeps.{Keeps, StandsAt, HasOnlyOwn, HasPlace};
 
-use crate::relation::Relation;
 use std::mem;
 use tv_model::{Formula, Terms, Var, free};
+use tv_relation::Relation;
 
 /// How many closures are kept, at most.
 pub const PLACES: usize = 8;

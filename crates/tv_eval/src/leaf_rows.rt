@@ -1,9 +1,9 @@
 //! The values of a formula without parts for all individuals that one variable may stand for.
 
-ghost use Rattle.std.specs.Prelude.{ℕ, ◌≡◌, ◌≢◌, ◌<◌, [], ◌∷◌, length, map, replicate};
+ghost use Rattle.std.specs.Prelude.{◌≡◌, ◌<◌, ◌≤◌, ◌↔◌, [], ◌∷◌, map, All, IsTrue, Some};
 ghost use Rattle.std.specs.List.{range_with_len};
+ghost use Rattle.tv_kleene.specs.declared.K3.TheVariants.{No};
 ghost use Rattle.tv_model.specs.Form.{vars_of, FAtom, FExists, FIsNew, FSame};
-ghost use Rattle.tv_model.specs.Truth.{put};
 ghost use Rattle.tv_struct.specs.StructureForm.{structure_of, value_at};
 ghost use Rattle.tv_struct.specs.StructureRows.{HasArity};
 ghost use Rattle.tv_value.specs.Value.{mark_value, same_value};
@@ -72,10 +72,30 @@ fn diagonal(pred: PredId, s: &Structure) -> Row
 pub fn new_row(w: Var, v: Var, s: &Structure, a: &Assignment) -> Row
     ensures { result ≡ values_along s.now (assignment_of a.now) v.0 (FIsNew w.0) }
 {
-    let mut values = Row::of(s.size(), K3::No);
-    for u in 0..s.size() {
-        values.set(u, is_new(s, placed(w, v, u, a)));
+    if w.0 == v.0 {
+        return fresh_row(s);
     }
+    Row::of(s.size(), is_new(s, a.at(w)))
+}
+
+/// Whether each individual is the fresh one.
+fn fresh_row(s: &Structure) -> Row
+    ensures { result ≡ map (mark_value s.now.fresh) (range_with_len 0 s.now.size) }
+{
+    match s.fresh() {
+        None => Row::of(s.size(), K3::No),
+        Some(u) => yes_at(s.size(), u),
+    }
+}
+
+/// `Yes` at `u`, and `No` at all other individuals.
+fn yes_at(size: u32, u: u32) -> Row
+    requires size { size ≤ 256 }
+    requires individual { u < size }
+    ensures { result ≡ map (mark_value (Some u)) (range_with_len 0 size) }
+{
+    let mut values = Row::of(size, K3::No);
+    values.set(u, K3::Yes);
     values
 }
 
@@ -84,11 +104,33 @@ pub fn same_row(x: Var, y: Var, v: Var, s: &Structure, a: &Assignment) -> Row
     requires { CanEvaluate s.now a.now [] (FExists v.0 (FSame x.0 y.0)) }
     ensures { result ≡ values_along s.now (assignment_of a.now) v.0 (FSame x.0 y.0) }
 {
-    let mut values = Row::of(s.size(), K3::No);
-    for u in 0..s.size() {
-        values.set(u, same(s, placed(x, v, u, a), placed(y, v, u, a)));
+    if x.0 == v.0 {
+        if y.0 == v.0 {
+            return s.summary_row().not();
+        }
+        return same_as(s, a.at(y));
     }
+    if y.0 == v.0 {
+        return same_as(s, a.at(x));
+    }
+    Row::of(s.size(), same(s, a.at(x), a.at(y)))
+}
+
+/// Whether each individual is one cell with `u`.
+fn same_as(s: &Structure, u: u32) -> Row
+    requires { u < s.now.size }
+    ensures { result ≡ map (λ w. same_value (structure_of s.now) w u) (range_with_len 0 s.now.size) }
+{
+    let mut values = Row::of(s.size(), K3::No);
+    values.set(u, same(s, u, u));
     values
+}
+
+/// Whether each value is `No`.
+pub fn are_no(values: &Row) -> bool
+    ensures { IsTrue result ↔ All (λ k. k ≡ No) values.now }
+{
+    !values.has_possible()
 }
 
 /// How many atoms are read as columns where the variable is put for all individuals: they have it first
@@ -105,11 +147,4 @@ pub fn columns(f: &Formula, v: Var) -> usize {
         ))),
         _ => 0,
     }
-}
-
-/// What `x` stands for where `u` is put for `v`.
-fn placed(x: Var, v: Var, u: u32, a: &Assignment) -> u32
-    ensures { result ≡ put (assignment_of a.now) v.0 u x.0 }
-{
-    if x.0 == v.0 { u } else { a.at(x) }
 }

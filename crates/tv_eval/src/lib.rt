@@ -8,7 +8,6 @@ mod kept;
 mod laws;
 mod leaf_rows;
 mod leaves;
-mod relation;
 mod scratch;
 mod values;
 

@@ -12,15 +12,15 @@ ghost use Rattle.tv_eval.specs.AssignmentForm.{assignment_of};
 ghost use Rattle.tv_eval.specs.CanEvaluate.{CanEvaluate};
 ghost use Rattle.tv_eval.specs.Formulas.{HasRooms, nesting, sizes_of};
 ghost use Rattle.tv_eval.specs.Keeps.{Keeps, StandsAt};
-ghost use Rattle.tv_eval.specs.Rows.{IsPart, IsSquare, part_of};
+ghost use Rattle.tv_relation.specs.Rows.{IsPart, IsSquare, part_of};
 
 use crate::Assignment;
 use crate::kept::{Edges, Kept, has_outer};
-use crate::leaf_rows::{atom_row, columns, new_row, same_row};
+use crate::leaf_rows::{are_no, atom_row, columns, new_row, same_row};
 use crate::leaves::{atom, is_new, same};
-use crate::relation::{Part, Relation};
 use tv_kleene::K3;
 use tv_model::{Formula, Var};
+use tv_relation::{Part, Relation};
 use tv_row::Row;
 use tv_struct::Structure;
 
@@ -303,8 +303,9 @@ fn fill<'f>(
     ensures rooms { sizes_of rooms.new ≡ sizes_of rooms.old }
     ensures kept { Keeps s.now kept.new shared.new }
 {
+    let mut here = *a;
     for u in 0..s.size() {
-        let here = (*a).with(edges.left, u);
+        here.set(edges.left, u);
         let row = row_of(edges.body, edges.right, s, &here, rooms, kept, shared);
         relation.put_row(u, &row);
     }
@@ -394,8 +395,9 @@ fn by_values<'f>(
     ensures kept { Keeps s.now kept.new shared.new }
 {
     let mut values = Row::of(s.size(), K3::No);
+    let mut here = *a;
     for u in 0..s.size() {
-        let here = (*a).with(v, u);
+        here.set(v, u);
         values.set(u, value_of(f, s, &here, rooms, kept, shared));
     }
     values
@@ -420,7 +422,7 @@ fn rows_both<'f>(
     ensures kept { Keeps s.now kept.new shared.new }
 {
     let first = row_of(g, v, s, a, rooms, kept, shared);
-    if first.are_all(K3::No) {
+    if are_no(&first) {
         return first;
     }
     let second = row_of(h, v, s, a, rooms, kept, shared);
@@ -502,7 +504,7 @@ fn rows_choice<'f>(
     if condition.are_yes() {
         return row_of(g, v, s, a, rooms, kept, shared);
     }
-    if condition.are_all(K3::No) {
+    if are_no(&condition) {
         return row_of(h, v, s, a, rooms, kept, shared);
     }
     let first = row_of(g, v, s, a, rooms, kept, shared);
@@ -533,8 +535,9 @@ fn rows_greatest<'f>(
     ensures kept { Keeps s.now kept.new shared.new }
 {
     let mut found = Row::of(s.size(), K3::No);
+    let mut here = *a;
     for x in 0..s.size() {
-        let here = (*a).with(w, x);
+        here.set(w, x);
         let row = row_of(body, v, s, &here, rooms, kept, shared);
         found = found.or(&row);
     }
@@ -561,8 +564,9 @@ fn rows_least<'f>(
     ensures kept { Keeps s.now kept.new shared.new }
 {
     let mut found = Row::of(s.size(), K3::Yes);
+    let mut here = *a;
     for x in 0..s.size() {
-        let here = (*a).with(w, x);
+        here.set(w, x);
         let row = row_of(body, v, s, &here, rooms, kept, shared);
         found = found.and(&row);
     }

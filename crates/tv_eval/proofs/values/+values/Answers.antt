@@ -17,12 +17,12 @@ use Rattle.tv_eval.specs.AssignmentForm.{assignment_of}
 use Rattle.tv_eval.specs.CanEvaluate.{CanEvaluate}
 use Rattle.tv_eval.specs.Formulas.{sizes_of, nesting}
 use Rattle.tv_eval.specs.HoldsClosure.{HoldsClosure}
-use Rattle.tv_eval.specs.Rows.{IsSquare, part_at}
-use Rattle.tv_eval.specs.declared.relation.Part.TheVariants.{From, To, Diagonal}
-use Rattle.tv_eval.proofs.AlongLaws.{paired-map, mapped-map, greatest-map, least-map, copies-map, same-map, all_set, none-both, all-either, all-then, none-then, alike-map, choice-map, joined-next, rows_put, read_from, paired_long, put_same, put_other, puts_commute, closure_at}
+use Rattle.tv_relation.specs.Rows.{IsSquare, part_at}
+use Rattle.tv_relation.specs.declared.relation.Part.TheVariants.{From, To, Diagonal}
+use Rattle.tv_eval.proofs.AlongLaws.{paired-map, mapped-map, greatest-map, least-map, copies-map, same-map, all_set, none-both, all-either, all-then, none-then, alike-map, choice-map, joined-next, set_next, rows_put, read_from, paired_long, put_same, put_other, puts_commute, closure_at}
 use Rattle.tv_eval.proofs.Keeping.{closed_are_held, part_held}
 use Rattle.tv_eval.proofs.Loops.{greatest-next, least-next, greatest-end, least-end}
-use Rattle.tv_eval.proofs.Parts.{individual_of, rooms-split, SplitsRooms, row-and, row-or, row-iff, row-cond}
+use Rattle.tv_eval.proofs.Parts.{individual_of, rooms-split, SplitsRooms, can-put, like-itself, like-again, put-again, total-again, row-and, row-or, row-iff, row-cond, row-put}
 use Rattle.tv_eval.proofs.values.+values.Goals as goal
 
 pub value_of-returns-in-Exists-clause-exact : goal.value_of-returns-in-Exists-clause-exact
@@ -111,6 +111,30 @@ close_part-returns-clause-kept t c =
     in c.offer.ensures.kept c.args.s.now (assignment_of c.args.a.now) c.fill.ensures.kept
     c.requires.body.formula.1.1 held
 
+pub fill-loop-u-init : goal.fill-loop-u-init
+fill-loop-u-init t c = (
+  refl,
+  c.requires.kept,
+  refl,
+  λ v lt. absurd (omega arith),
+  λ v x lt lx. absurd (omega arith),
+  like-itself c.args.a.now c.args.edges.left.0,
+)
+
+pub fill-row_of-row-requires : goal.fill-row_of-row-requires
+fill-row_of-row-requires t c = (
+  search rules,
+  (
+    subst (λ sizes. CanEvaluate c.args.s.now c.set.new.self sizes
+        (FExists c.args.edges.right.0 (form_of c.args.edges.body.now))) (sym c.loop-u.invariant.0)
+        (can-put c.args.s.now c.args.a.now c.set.new.self (sizes_of c.args.rooms.now) c.args.edges.left.0 c.loop-u.u
+        (FExists c.args.edges.right.0 (form_of c.args.edges.body.now)) c.requires.body (omega arith)
+        (put-again c.args.a.now c.loop-u.here c.set.new.self c.args.edges.left.0 c.loop-u.u c.loop-u.invariant.5
+        c.set.ensures.places)),
+    c.loop-u.invariant.1,
+  ),
+)
+
 pub fill-loop-u-preserved : goal.fill-loop-u-preserved
 fill-loop-u-preserved t c =
     let edge : ℕ → ℕ → K3 = (λ x y. value (structure_of c.args.s.now)
@@ -118,7 +142,8 @@ fill-loop-u-preserved t c =
     (form_of c.args.edges.body.now))
     in let along : c.row_of-row.result ≡ map (edge c.loop-u.u) (range_with_len 0 c.args.s.now.size) =
     c.row_of-row.ensures.exact ∙ ap (λ b. values_along c.args.s.now b c.args.edges.right.0
-    (form_of c.args.edges.body.now)) c.with-here.ensures.total
+    (form_of c.args.edges.body.now)) (total-again c.args.a.now c.loop-u.here c.set.new.self c.args.edges.left.0 c.loop-u.u
+    c.loop-u.invariant.5 c.set.ensures.places)
     in let put : (length c.put_row.new.self ≡ length c.loop-u.relation)
     × ((v : ℕ) → v < c.loop-u.u + 1 → length (get_or c.put_row.new.self v []) ≡ c.args.s.now.size)
     × ((v x : ℕ) → v < c.loop-u.u + 1 → x < c.args.s.now.size → entry_in c.put_row.new.self v x ≡ edge v x) =
@@ -131,6 +156,8 @@ fill-loop-u-preserved t c =
       put.0 ∙ c.loop-u.invariant.2,
       put.1,
       put.2,
+      like-again c.args.a.now c.loop-u.here c.set.new.self c.args.edges.left.0 c.loop-u.u c.loop-u.invariant.5
+          c.set.ensures.places,
     )
 
 pub row_of-returns-in-Zero-clause-exact : goal.row_of-returns-in-Zero-clause-exact
@@ -149,19 +176,62 @@ row_of-returns-in-Not-clause-exact t c =
     (c.not.ensures ∙ ap (map negation_of) c.row_of.ensures.exact ∙ mapped-map negation_of _
     (range_with_len 0 c.args.s.now.size))
 
+pub by_values-loop-u-init : goal.by_values-loop-u-init
+by_values-loop-u-init t c = (
+  refl,
+  c.requires.kept,
+  ap length c.of-values.ensures ∙ length-replicate c.size.result No ∙ c.size.ensures.size,
+  λ x lt. absurd (omega arith),
+  like-itself c.args.a.now c.args.v.0,
+)
+
+pub by_values-value_of-requires : goal.by_values-value_of-requires
+by_values-value_of-requires t c = (
+  search rules,
+  (
+    subst (λ sizes. CanEvaluate c.args.s.now c.set.new.self sizes (form_of c.args.f.now)) (sym c.loop-u.invariant.0)
+        (can-put c.args.s.now c.args.a.now c.set.new.self (sizes_of c.args.rooms.now) c.args.v.0 c.loop-u.u
+        (form_of c.args.f.now) c.requires.parts (omega arith)
+        (put-again c.args.a.now c.loop-u.here c.set.new.self c.args.v.0 c.loop-u.u c.loop-u.invariant.4
+        c.set.ensures.places)),
+    c.loop-u.invariant.1,
+  ),
+)
+
+pub by_values-loop-u-preserved : goal.by_values-loop-u-preserved
+by_values-loop-u-preserved t c =
+    let g : ℕ → K3 = λ u. value (structure_of c.args.s.now) (put (assignment_of c.args.a.now) c.args.v.0 u)
+    (form_of c.args.f.now)
+    in let next : (length c.set-in-loop-u.new.self ≡ c.args.s.now.size)
+    × ((x : ℕ) → x < c.loop-u.u + 1 → get_or c.set-in-loop-u.new.self x No ≡ g x) =
+    set_next c.loop-u.values c.set-in-loop-u.new.self c.args.s.now.size c.loop-u.u c.value_of.result g
+    c.loop-u.invariant.2 (omega arith) c.loop-u.invariant.3 c.set-in-loop-u.ensures
+    (c.value_of.ensures.exact
+    ∙ ap (λ b. value (structure_of c.args.s.now) b (form_of c.args.f.now))
+    (total-again c.args.a.now c.loop-u.here c.set.new.self c.args.v.0 c.loop-u.u c.loop-u.invariant.4
+    c.set.ensures.places))
+    in (
+      c.value_of.ensures.rooms ∙ c.loop-u.invariant.0,
+      c.value_of.ensures.kept,
+      next.0,
+      next.1,
+      like-again c.args.a.now c.loop-u.here c.set.new.self c.args.v.0 c.loop-u.u c.loop-u.invariant.4
+          c.set.ensures.places,
+    )
+
 pub by_values-returns-clause-exact : goal.by_values-returns-clause-exact
 by_values-returns-clause-exact t c =
     all_set c.loop-u.values c.args.s.now.size c.loop-u.u
     (λ u. value (structure_of c.args.s.now) (put (assignment_of c.args.a.now) c.args.v.0 u)
     (form_of c.args.f.now)) c.loop-u.invariant.2 (omega arith) c.loop-u.invariant.3
 
-pub rows_both-returns-then-are_all-clause-exact : goal.rows_both-returns-then-are_all-clause-exact
-rows_both-returns-then-are_all-clause-exact t c =
+pub rows_both-returns-then-are_no-clause-exact : goal.rows_both-returns-then-are_no-clause-exact
+rows_both-returns-then-are_no-clause-exact t c =
     c.row_of-first.ensures.exact
     ∙ none-both (λ u. value (structure_of c.args.s.now) (put (assignment_of c.args.a.now) c.args.v.0 u)
     (form_of c.args.g.now)) (λ u. value (structure_of c.args.s.now)
     (put (assignment_of c.args.a.now) c.args.v.0 u) (form_of c.args.h.now)) (range_with_len 0 c.args.s.now.size)
-    (subst (All (λ x. x ≡ No)) c.row_of-first.ensures.exact (c.are_all.ensures.0 c.if-are_all.true))
+    (subst (All (λ x. x ≡ No)) c.row_of-first.ensures.exact (c.are_no.ensures.0 c.if-are_no.true))
 
 pub rows_both-row_of-second-requires : goal.rows_both-row_of-second-requires
 rows_both-row_of-second-requires t c = (
@@ -236,8 +306,8 @@ rows_alike-returns-clause-exact t c =
     (form_of c.args.g.now)) (λ u. value (structure_of c.args.s.now)
     (put (assignment_of c.args.a.now) c.args.v.0 u) (form_of c.args.h.now)) (range_with_len 0 c.args.s.now.size)))
 
-pub rows_choice-row_of-requires-then-are_all : goal.rows_choice-row_of-requires-then-are_all
-rows_choice-row_of-requires-then-are_all t c = (
+pub rows_choice-row_of-requires-then-are_no : goal.rows_choice-row_of-requires-then-are_no
+rows_choice-row_of-requires-then-are_no t c = (
   search rules,
   (
     subst (λ sizes. CanEvaluate c.args.s.now c.args.a.now sizes (FExists c.args.v.0 (form_of c.args.h.now)))
@@ -280,15 +350,15 @@ rows_choice-returns-then-are_yes-clause-exact t c =
     (range_with_len 0 c.args.s.now.size) (subst (All (λ x. x ≡ Yes)) c.row_of-condition.ensures.exact
     (c.are_yes.ensures.0 c.if-are_yes.true))
 
-pub rows_choice-returns-then-are_all-clause-exact : goal.rows_choice-returns-then-are_all-clause-exact
-rows_choice-returns-then-are_all-clause-exact t c =
-    c.row_of-then-are_all.ensures.exact ∙ none-then
+pub rows_choice-returns-then-are_no-clause-exact : goal.rows_choice-returns-then-are_no-clause-exact
+rows_choice-returns-then-are_no-clause-exact t c =
+    c.row_of-then-are_no.ensures.exact ∙ none-then
     (λ u. value (structure_of c.args.s.now) (put (assignment_of c.args.a.now) c.args.v.0 u)
     (form_of c.args.c.now)) (λ u. value (structure_of c.args.s.now)
     (put (assignment_of c.args.a.now) c.args.v.0 u) (form_of c.args.g.now))
     (λ u. value (structure_of c.args.s.now) (put (assignment_of c.args.a.now) c.args.v.0 u)
     (form_of c.args.h.now)) (range_with_len 0 c.args.s.now.size)
-    (subst (All (λ x. x ≡ No)) c.row_of-condition.ensures.exact (c.are_all.ensures.0 c.if-are_all.true))
+    (subst (All (λ x. x ≡ No)) c.row_of-condition.ensures.exact (c.are_no.ensures.0 c.if-are_no.true))
 
 pub rows_choice-returns-clause-exact : goal.rows_choice-returns-clause-exact
 rows_choice-returns-clause-exact t c =
@@ -318,7 +388,22 @@ rows_greatest-loop-x-init t c =
       λ u lt. ap (λ m. larger_of (get_or c.of-found.result u No) (greatest_of (g u) (range_with_len 0 m))) whole
           ∙ ap (λ k. larger_of k (greatest_of (g u) (range_with_len 0 c.args.s.now.size)))
           (ap (λ r. get_or r u No) c.of-found.ensures ∙ get_or-replicate c.size.result u No No (omega arith)),
+      like-itself c.args.a.now c.args.w.0,
     )
+
+pub rows_greatest-row_of-row-requires : goal.rows_greatest-row_of-row-requires
+rows_greatest-row_of-row-requires t c = (
+  search rules,
+  (
+    subst (λ sizes. CanEvaluate c.args.s.now c.set.new.self sizes (FExists c.args.v.0 (form_of c.args.body.now)))
+        (sym c.loop-x.invariant.0)
+        (row-put c.args.s.now c.args.a.now c.set.new.self (sizes_of c.args.rooms.now) c.args.v.0 c.args.w.0 c.loop-x.x
+        (form_of c.args.body.now) c.requires.parts (omega arith)
+        (put-again c.args.a.now c.loop-x.here c.set.new.self c.args.w.0 c.loop-x.x c.loop-x.invariant.4
+        c.set.ensures.places)),
+    c.loop-x.invariant.1,
+  ),
+)
 
 pub rows_greatest-loop-x-preserved : goal.rows_greatest-loop-x-preserved
 rows_greatest-loop-x-preserved t c =
@@ -326,7 +411,9 @@ rows_greatest-loop-x-preserved t c =
     (put (put (assignment_of c.args.a.now) c.args.v.0 u) c.args.w.0 x) (form_of c.args.body.now))
     in let swapped : c.row_of-row.result ≡ map (λ u. g u c.loop-x.x) (range_with_len 0 c.args.s.now.size) =
     c.row_of-row.ensures.exact
-    ∙ ap (λ b. values_along c.args.s.now b c.args.v.0 (form_of c.args.body.now)) c.with-here.ensures.total
+    ∙ ap (λ b. values_along c.args.s.now b c.args.v.0 (form_of c.args.body.now))
+    (total-again c.args.a.now c.loop-x.here c.set.new.self c.args.w.0 c.loop-x.x c.loop-x.invariant.4
+    c.set.ensures.places)
     ∙ same-map _ (λ u. g u c.loop-x.x) (range_with_len 0 c.args.s.now.size)
     (λ u. puts_commute c.args.s.now (assignment_of c.args.a.now) c.args.v.0 c.args.w.0 u c.loop-x.x
     (form_of c.args.body.now) c.requires.apart)
@@ -344,6 +431,8 @@ rows_greatest-loop-x-preserved t c =
           (get_or c.or-found.result u No)
           (greatest_of (g u) (range_with_len 0 c.args.s.now.size)) (omega arith) (c.loop-x.invariant.3 u lt)
           (next.1 u lt),
+      like-again c.args.a.now c.loop-x.here c.set.new.self c.args.w.0 c.loop-x.x c.loop-x.invariant.4
+          c.set.ensures.places,
     )
 
 pub rows_greatest-returns-clause-exact : goal.rows_greatest-returns-clause-exact
@@ -367,7 +456,26 @@ rows_least-loop-x-init t c =
       λ u lt. ap (λ m. smaller_of (get_or c.of-found.result u No) (least_of (g u) (range_with_len 0 m))) whole
           ∙ ap (λ k. smaller_of k (least_of (g u) (range_with_len 0 c.args.s.now.size)))
           (ap (λ r. get_or r u No) c.of-found.ensures ∙ get_or-replicate c.size.result u Yes No (omega arith)),
+      like-itself c.args.a.now c.args.w.0,
     )
+
+pub rows_least-row_of-row-requires : goal.rows_least-row_of-row-requires
+rows_least-row_of-row-requires t c = (
+  search rules,
+  (
+    subst (λ sizes. CanEvaluate c.args.s.now c.set.new.self sizes (FExists c.args.v.0 (form_of c.args.body.now)))
+        (sym c.loop-x.invariant.0)
+        (row-put c.args.s.now c.args.a.now c.set.new.self (sizes_of c.args.rooms.now) c.args.v.0 c.args.w.0 c.loop-x.x
+        (form_of c.args.body.now) (record {
+          formula = c.requires.parts.formula;
+          assigned = c.requires.parts.assigned;
+          rooms = c.requires.parts.rooms;
+        }) (omega arith)
+        (put-again c.args.a.now c.loop-x.here c.set.new.self c.args.w.0 c.loop-x.x c.loop-x.invariant.4
+        c.set.ensures.places)),
+    c.loop-x.invariant.1,
+  ),
+)
 
 pub rows_least-loop-x-preserved : goal.rows_least-loop-x-preserved
 rows_least-loop-x-preserved t c =
@@ -375,7 +483,9 @@ rows_least-loop-x-preserved t c =
     (put (put (assignment_of c.args.a.now) c.args.v.0 u) c.args.w.0 x) (form_of c.args.body.now))
     in let swapped : c.row_of-row.result ≡ map (λ u. g u c.loop-x.x) (range_with_len 0 c.args.s.now.size) =
     c.row_of-row.ensures.exact
-    ∙ ap (λ b. values_along c.args.s.now b c.args.v.0 (form_of c.args.body.now)) c.with-here.ensures.total
+    ∙ ap (λ b. values_along c.args.s.now b c.args.v.0 (form_of c.args.body.now))
+    (total-again c.args.a.now c.loop-x.here c.set.new.self c.args.w.0 c.loop-x.x c.loop-x.invariant.4
+    c.set.ensures.places)
     ∙ same-map _ (λ u. g u c.loop-x.x) (range_with_len 0 c.args.s.now.size)
     (λ u. puts_commute c.args.s.now (assignment_of c.args.a.now) c.args.v.0 c.args.w.0 u c.loop-x.x
     (form_of c.args.body.now) c.requires.apart)
@@ -393,6 +503,8 @@ rows_least-loop-x-preserved t c =
           (get_or c.and-found.result u No)
           (least_of (g u) (range_with_len 0 c.args.s.now.size)) (omega arith) (c.loop-x.invariant.3 u lt)
           (next.1 u lt),
+      like-again c.args.a.now c.loop-x.here c.set.new.self c.args.w.0 c.loop-x.x c.loop-x.invariant.4
+          c.set.ensures.places,
     )
 
 pub rows_least-returns-clause-exact : goal.rows_least-returns-clause-exact
@@ -441,13 +553,13 @@ rows_choice-or-requires t c =
 pub rows_greatest-or-found-requires : goal.rows_greatest-or-found-requires
 rows_greatest-or-found-requires t c =
     c.loop-x.invariant.2 ∙ sym (ap length c.row_of-row.ensures.exact ∙ length-map-range_with_len
-    (λ u. value (structure_of c.args.s.now) (put (assignment_of c.with-here.result) c.args.v.0 u)
+    (λ u. value (structure_of c.args.s.now) (put (assignment_of c.set.new.self) c.args.v.0 u)
     (form_of c.args.body.now)) 0 c.args.s.now.size)
 
 pub rows_least-and-found-requires : goal.rows_least-and-found-requires
 rows_least-and-found-requires t c =
     c.loop-x.invariant.2 ∙ sym (ap length c.row_of-row.ensures.exact ∙ length-map-range_with_len
-    (λ u. value (structure_of c.args.s.now) (put (assignment_of c.with-here.result) c.args.v.0 u)
+    (λ u. value (structure_of c.args.s.now) (put (assignment_of c.set.new.self) c.args.v.0 u)
     (form_of c.args.body.now)) 0 c.args.s.now.size)
 
 pub closure_row-returns-then-to-v-clause-exact : goal.closure_row-returns-then-to-v-clause-exact

@@ -12,6 +12,7 @@ use Rattle.tv_kleene.specs.Kleene.{smaller_of, larger_of}
 use Rattle.tv_eval.specs.AssignmentForm.{assignment_of}
 use Rattle.tv_eval.specs.Formulas.{sizes_of}
 use Rattle.tv_eval.specs.Keeps.{Keeps}
+use Rattle.tv_eval.proofs.Parts.{IsLike}
 use Rattle.tv_eval.proofs.values.+values.Given as goal
 
 abbrev pub decreases-value_of : goal.decreases-value_of
@@ -65,6 +66,7 @@ invariant-fill-loop-u l =
     → entry_in l.relation v x
     ≡ value (structure_of l.s) (put (put (assignment_of l.a) l.edges.left.0 v) l.edges.right.0 x)
     (form_of l.edges.body.now))
+    × IsLike l.a l.edges.left.0 l.here
 
 -- the values so far are found
 abbrev pub invariant-by_values-loop-u : goal.invariant-by_values-loop-u
@@ -74,6 +76,7 @@ invariant-by_values-loop-u l =
     × (length l.values ≡ l.s.size)
     × ((x : ℕ) → x < l.u → get_or l.values x No ≡ value (structure_of l.s) (put (assignment_of l.a) l.v.0 x)
     (form_of l.f))
+    × IsLike l.a l.v.0 l.here
 
 abbrev pub decreases-rows_alike : goal.decreases-rows_alike
 decreases-rows_alike l = 8 * max (height (form_of l.g.now)) (height (form_of l.h.now)) + 7
@@ -102,6 +105,7 @@ invariant-rows_greatest-loop-x l =
     × ((u : ℕ) → u < l.s.size
     → larger_of (get_or l.found u No) (greatest_of (g u) (range_with_len l.x (l.s.size - l.x))) ≡ greatest_of
     (g u) (range_with_len 0 l.s.size))
+    × IsLike l.a l.w.0 l.here
 
 -- for each individual the values of those so far are joined
 abbrev pub invariant-rows_least-loop-x : goal.invariant-rows_least-loop-x
@@ -114,3 +118,4 @@ invariant-rows_least-loop-x l =
     × ((u : ℕ) → u < l.s.size
     → smaller_of (get_or l.found u No) (least_of (g u) (range_with_len l.x (l.s.size - l.x))) ≡ least_of (g u)
     (range_with_len 0 l.s.size))
+    × IsLike l.a l.w.0 l.here

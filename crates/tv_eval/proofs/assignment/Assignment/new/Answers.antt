@@ -1,4 +1,4 @@
-use Rattle.tv_eval.proofs.RowLaws.{nones}
+use Rattle.tv_eval.proofs.Parts.{nones}
 use Rattle.tv_eval.proofs.assignment.Assignment.new.Goals as goal
 
 pub returns : goal.returns

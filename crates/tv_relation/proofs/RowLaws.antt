@@ -1,5 +1,5 @@
 -- How the entries of a relation read, and how walks grow by one stop after the other.
-use Rattle.std.proofs.Common.{ℕ, ◌≡◌, ◌≢◌, ◌<◌, ◌≤◌, ◌+◌, ◌-◌, ⊎_elim, zero, suc, List, [], ◌∷◌, length, map, get_or, set, replicate, Option, None, refl, sym, ap, ◌∙◌, arith}
+use Rattle.std.proofs.Common.{ℕ, ◌≡◌, ◌≢◌, ◌<◌, ◌≤◌, ◌+◌, ◌-◌, ⊎_elim, zero, suc, List, [], ◌∷◌, length, map, get_or, set, refl, sym, ap, ◌∙◌, arith}
 use Rattle.std.specs.List.{range_with_len}
 use Rattle.std.proofs.lemmas.Bool.{cases_eq, cases_lt}
 use Rattle.std.proofs.lemmas.List.{length-set, length-map, get_or-map, get_or-set_same, get_or-set_other}
@@ -10,13 +10,7 @@ use Rattle.tv_value.specs.Value.{best_walk}
 use Rattle.tv_row.specs.Bits.{paired}
 use Rattle.tv_row.specs.Places.{entry_in}
 use Rattle.tv_row.proofs.WordOps.{length-paired, get_or-paired}
-use Rattle.tv_eval.specs.Rows.{IsSquare, through}
-
--- a list of None has None at each place
-pub nones : (n v : ℕ) → get_or {A = Option ℕ} (replicate n None) v None ≡ None
-nones zero v = refl
-nones (suc n) zero = refl
-nones (suc n) (suc v) = nones n v
+use Rattle.tv_relation.specs.Rows.{IsSquare, through}
 
 -- one row put into a square
 module _ (rows : List (List K3)) (n u : ℕ) (row : List K3) (square : IsSquare n rows) (lu : u < n)

@@ -2,8 +2,8 @@ use Rattle.std.proofs.Common.{◌∙◌, get_or, [], refl, subst}
 use Rattle.std.proofs.lemmas.List.FromFn.{fill_by_all}
 use Rattle.tv_kleene.specs.declared.K3.TheVariants.{No}
 use Rattle.tv_row.specs.Places.{entry_in}
-use Rattle.tv_eval.specs.Rows.{IsPart}
-use Rattle.tv_eval.proofs.relation.Relation.part.Goals as goal
+use Rattle.tv_relation.specs.Rows.{IsPart}
+use Rattle.tv_relation.proofs.relation.Relation.part.Goals as goal
 
 pub returns-in-From : goal.returns-in-From
 returns-in-From c =

@@ -1,8 +1,8 @@
 use Rattle.std.proofs.Common.{ℕ, ◌-◌, ◌∙◌, arith}
 use Rattle.tv_kleene.specs.declared.K3.{K3}
 use Rattle.tv_row.specs.Places.{entry_in}
-use Rattle.tv_eval.proofs.RowLaws.{best-further}
-use Rattle.tv_eval.proofs.relation.Relation.close.Goals as goal
+use Rattle.tv_relation.proofs.RowLaws.{best-further}
+use Rattle.tv_relation.proofs.relation.Relation.close.Goals as goal
 
 pub loop-first-preserved : goal.loop-first-preserved
 loop-first-preserved c =

@@ -1,9 +1,9 @@
 use Rattle.std.proofs.Common.{ℕ, ◌≡◌, ◌<◌, ◌≤◌, ◌+◌, ◌∙◌}
 use Rattle.tv_kleene.specs.declared.K3.{K3}
 use Rattle.tv_row.specs.Places.{entry_in}
-use Rattle.tv_eval.specs.Rows.{through}
-use Rattle.tv_eval.proofs.RowLaws.{allowed-next}
-use Rattle.tv_eval.proofs.relation.Relation.allow.Goals as goal
+use Rattle.tv_relation.specs.Rows.{through}
+use Rattle.tv_relation.proofs.RowLaws.{allowed-next}
+use Rattle.tv_relation.proofs.relation.Relation.allow.Goals as goal
 
 pub loop-u-preserved : goal.loop-u-preserved
 loop-u-preserved c =

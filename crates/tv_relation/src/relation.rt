@@ -4,7 +4,7 @@ ghost use Rattle.std.specs.Prelude.{ℕ, ◌≡◌, ◌≢◌, ◌<◌, ◌≤�
 ghost use Rattle.std.specs.List.{range_with_len};
 ghost use Rattle.tv_row.specs.Places.{entry_in};
 ghost use Rattle.tv_value.specs.Value.{best_walk};
-ghost use Rattle.tv_eval.specs.Rows.{IsSquare, IsPart, through, part_of};
+ghost use Rattle.tv_relation.specs.Rows.{IsSquare, IsPart, through, part_of};
 
 use std::alloc::{AllocError, Global};
 use std::marker::Model;
@@ -75,7 +75,7 @@ impl Relation {
         requires to { w < length (slice_index_or self.now u []) }
         ensures { result ≡ entry_in self.now u w }
     {
-        let row = self.rows[u as usize];
+        let row = &self.rows[u as usize];
         row.get(w)
     }
 

@@ -1,8 +1,8 @@
 -- the rows so far pass through the stop, and the others are as before
 use Rattle.std.proofs.Common.{ℕ, ◌≡◌, ◌<◌, ◌≤◌, length}
 use Rattle.tv_row.specs.Places.{entry_in}
-use Rattle.tv_eval.specs.Rows.{IsSquare, through}
-use Rattle.tv_eval.proofs.relation.Relation.allow.Given as goal
+use Rattle.tv_relation.specs.Rows.{IsSquare, through}
+use Rattle.tv_relation.proofs.relation.Relation.allow.Given as goal
 
 abbrev pub invariant-loop-u : goal.invariant-loop-u
 invariant-loop-u l =

@@ -3,8 +3,8 @@ use Rattle.std.specs.Prelude.{ℕ, ◌≡◌, ◌<◌, ◌≤◌, List, [], leng
 use Rattle.std.specs.List.{range_with_len}
 use Rattle.tv_kleene.specs.declared.K3.{K3}
 use Rattle.tv_kleene.specs.Kleene.{smaller_of, larger_of}
-use Rattle.tv_eval.specs.declared.relation.Part.{Part}
-use Rattle.tv_eval.specs.declared.relation.Part.TheVariants.{From, To, Diagonal}
+use Rattle.tv_relation.specs.declared.relation.Part.{Part}
+use Rattle.tv_relation.specs.declared.relation.Part.TheVariants.{From, To, Diagonal}
 
 -- the first n rows have n columns each
 pub record IsSquare (n : ℕ) (rows : List (List K3)) : Type 0 where

@@ -4,8 +4,8 @@ use Rattle.tv_kleene.specs.declared.K3.TheVariants.{No}
 use Rattle.tv_kleene.specs.Kleene.{smaller_of, larger_of}
 use Rattle.tv_row.specs.Bits.{paired}
 use Rattle.tv_row.specs.Places.{entry_in}
-use Rattle.tv_eval.proofs.RowLaws.{put_square, put_here, extended_row, extended_long}
-use Rattle.tv_eval.proofs.relation.Relation.extend.Goals as goal
+use Rattle.tv_relation.proofs.RowLaws.{put_square, put_here, extended_row, extended_long}
+use Rattle.tv_relation.proofs.relation.Relation.extend.Goals as goal
 
 pub returns-clause-row : goal.returns-clause-row
 returns-clause-row c = λ w lt.

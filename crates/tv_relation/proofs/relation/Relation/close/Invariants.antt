@@ -3,8 +3,8 @@ use Rattle.std.proofs.Common.{ℕ, ◌≡◌, ◌<◌, ◌≤◌, ◌-◌, lengt
 use Rattle.std.specs.List.{range_with_len}
 use Rattle.tv_row.specs.Places.{entry_in}
 use Rattle.tv_value.specs.Value.{best_walk}
-use Rattle.tv_eval.specs.Rows.{IsSquare}
-use Rattle.tv_eval.proofs.relation.Relation.close.Given as goal
+use Rattle.tv_relation.specs.Rows.{IsSquare}
+use Rattle.tv_relation.proofs.relation.Relation.close.Given as goal
 
 abbrev pub invariant-loop-first : goal.invariant-loop-first
 invariant-loop-first l =
