@@ -4,6 +4,7 @@ pub mod Found
 pub mod Heads
 pub mod Heaps
 pub mod Lowering
+pub mod Narrowing
 pub mod OnTheWay
 pub mod Once
 pub mod Ready

@@ -1,11 +1,11 @@
 -- Trying a rule, variable by variable.
 use Rattle.std.proofs.Common.{ℕ, ◌≡◌, ◌≢◌, ◌<◌, ◌≤◌, ◌+◌, ◌-◌, ◌⊎◌, ◌==◌, if◌then◌else◌, inl, inr, zero, suc, List, [], ◌∷◌, length, map, take, drop, get_or, Option, Some, refl, sym, ap, subst, ◌∙◌, arith}
-use Rattle.std.specs.Prelude.{All, Any, Contains, IsSomeAnd, slice_get}
+use Rattle.std.specs.Prelude.{All, Any, Contains, IsSomeAnd, slice_get, unwrap_or}
 use Rattle.std.specs.List.{range_with_len}
 use Rattle.std.specs.declared.vec.Vec.{Vec}
 use Rattle.std.specs.declared.alloc.Global.{Global}
-use Rattle.std.proofs.lemmas.Bool.{cases_eq, cond-true, cond-false, eq-eqb, ne_eqb}
-use Rattle.std.proofs.lemmas.List.Elements.{All-cons, All-nil, All-append, All-map, All-push, All-tail, All-contains}
+use Rattle.std.proofs.lemmas.Bool.{cases_eq, cases_lt, cond-true, cond-false, eq-eqb, ne_eqb}
+use Rattle.std.proofs.lemmas.List.Elements.{All-cons, All-nil, All-append, All-head, All-map, All-push, All-tail, All-contains}
 use Rattle.std.proofs.lemmas.List.{get_or-map, get_or_default, length-append, length-map}
 use Rattle.std.proofs.lemmas.Option.{slice_get-get_or}
 use Rattle.tv_kleene.specs.declared.K3.TheVariants.{Half, Yes}
@@ -36,8 +36,9 @@ use Rattle.tv_eval.specs.ScratchForm.{ScratchForm}
 use Rattle.tv_eval.specs.declared.evaluator.Evaluator.{Evaluator}
 use Rattle.tv_struct.specs.StructureForm.{StructureForm, arities_of, structure_of}
 use Rattle.tv_struct.proofs.Library.{Contains-range, below-range}
+use Rattle.tv_coerce.specs.ByRows.{CanRow}
 use Rattle.tv_coerce.specs.Ready.{IsHeadOver, CanCoerce}
-use Rattle.tv_coerce.specs.Trying.{DueForm, IsDue, AreDue, ArePlaced, GoesOn, IsTried, IsForced, IsHopeless, IsNeed, AreYes, CanTry, CanValue, IsWalk, IsNoted, IsTold, IsFound, StaysBound, answer_of, rule_at}
+use Rattle.tv_coerce.specs.Trying.{AreKept, DueForm, IsDue, AreDue, ArePlaced, PassesAt, GoesOn, IsTried, IsForced, IsHopeless, IsNeed, AreYes, CanTry, CanValue, IsWalk, IsNoted, IsTold, IsFound, StaysBound, answer_of, rule_at}
 use Rattle.tv_coerce.specs.declared.trial.Outcome.{Outcome}
 use Rattle.tv_coerce.specs.declared.trial.Outcome.TheVariants.{Possible, Impossible}
 use Rattle.tv_coerce.specs.declared.change.Change.{Change}
@@ -106,6 +107,17 @@ module _ (s : StructureForm) (rule : RuleForm) (places : List (Option ℕ)) (roo
     forced = λ u below stable. need.2 u below (met-below u below stable);
   }
 
+-- a variable of a rule that can be tried
+pub rule-variable : (rule : RuleForm) (s : StructureForm) (room : ScratchForm) → CanTry rule s room → (v : ℕ) → IsFreeInRule v rule → v < 32
+rule-variable rule s room can v (inl free) = free-in_range (arities_of s) v rule.body can.over.body free
+rule-variable rule s room can v (inr at) = in-head rule.head can.over.head at
+  where
+    in-head : (head : HeadForm) → IsHeadOver (arities_of s) head → IsInHead v head → v < 32
+    in-head HNever over at' = absurd at'
+    in-head (HAtom flag q vars) over at' = All-contains (λ x. x < 32) vars v over.1 at'
+    in-head (HSame flag w u) over (inl e) = subst (λ x. x < 32) (sym e) over.0
+    in-head (HSame flag w u) over (inr e) = subst (λ x. x < 32) (sym e) over.1
+
 -- ---- conjuncts
 
 nesting-one : (f : Form) → All (λ g. nesting g ≤ nesting f) (f ∷ [])
@@ -152,8 +164,8 @@ due-assigned size rule rest places d due enough free at v is =
 
 -- the conjuncts that wait for no more can be valued
 pub walk-values : (s : StructureForm) (rule : RuleForm) (room : ScratchForm) (ds : List DueForm) (rest : List ℕ) (places : List (Option ℕ))
-    → CanTry rule s room → IsWalk rule s ds rest places → All (CanValue s room (length rest) places) ds
-walk-values s rule room ds rest places can walk k d within =
+    (at_least : ℕ) → CanTry rule s room → IsWalk rule s ds rest places at_least → All (CanValue s room (length rest) places) ds
+walk-values s rule room ds rest places at_least can walk k d within =
     let carried = conjuncts_carry_formulas rule.body
     in record {
       formula = due-formula rule rest ds walk.due (IsFormulaOver (arities_of s)) (carried.formulas (arities_of s) can.over.body) k d within;
@@ -165,42 +177,117 @@ walk-values s rule room ds rest places can walk k d within =
           (due-formula rule rest ds walk.due (λ g. (v : ℕ) → IsFree v g → IsFree v rule.body) carried.free k d within) walk.placed;
     }
 
+-- and the next that wait for all but one can be valued for all individuals
+pub walk-rows : (s : StructureForm) (rule : RuleForm) (room : ScratchForm) (ds : List DueForm) (v : ℕ) (rest : List ℕ)
+    (places : List (Option ℕ)) (at_least : ℕ) → CanTry rule s room → IsWalk rule s ds (v ∷ rest) places at_least
+    → All (CanRow s room (length rest) v places) ds
+walk-rows s rule room ds v rest places at_least can walk k d within =
+    let carried = conjuncts_carry_formulas rule.body
+    in record {
+      formula = (
+        rule-variable rule s room can v (All-head (λ w. IsFreeInRule w rule) v rest walk.free),
+        due-formula rule (v ∷ rest) ds walk.due (IsFormulaOver (arities_of s)) (carried.formulas (arities_of s) can.over.body) k d within,
+      );
+      fits = record {
+        closures = omega (arith, can.fits.closures, due-formula rule (v ∷ rest) ds walk.due (λ g. nesting g ≤ nesting rule.body) (nesting-conjuncts rule.body) k d within);
+        individuals = can.fits.individuals;
+      };
+      assigned = λ here w is. walk.placed w
+          (inl (due-formula rule (v ∷ rest) ds walk.due (λ g. (x : ℕ) → IsFree x g → IsFree x rule.body) carried.free k d within w is.1))
+          (λ has. not-there (get_or ds k d) (walk.due.due k d within).1 (omega (arith, here)) w is has);
+    }
+  where
+    not-there : (e : DueForm) → IsDue rest e → length rest ≤ e.left → (w : ℕ) → (w ≢ v) × IsFree w e.form → Contains (v ∷ rest) w → ⊥
+    not-there e due enough w is (zero, inside, same) = is.0 (sym same)
+    not-there e due enough w is (suc i, inside, same) = not-left rest e due enough w (i, omega (arith, inside), same) is.1
+
 -- ---- a conjunct that isn't Yes gives the assignments up
-module _ (s : StructureForm) (rule : RuleForm) (ds : List DueForm) (rest : List ℕ) (places : List (Option ℕ)) (walk : IsWalk rule s ds rest places) where
-  pub given-up : Any (λ d. (d.left ≡ length rest) × (value (structure_of s) (assignment_of places) d.form ≢ Yes)) ds
-      → IsTried s rule rest (assignment_of places)
-  given-up (k, d, within, is, (here, other)) b goes individuals body =
+module _ (s : StructureForm) (rule : RuleForm) (ds : List DueForm) (rest : List ℕ) where
+  pub given-up : (a : Assignment) → AreDue (conjuncts rule.body) rest ds
+      → Any (λ d. (d.left ≡ length rest) × (value (structure_of s) a d.form ≢ Yes)) ds → IsTried s rule rest a
+  given-up a due (k, d, within, is, (here, other)) b goes individuals body =
       let carried = conjuncts_carry_formulas rule.body
       in let each : value (structure_of s) b (get_or ds k d).form ≡ Yes
-      = due-formula rule rest ds walk.due (λ g. value (structure_of s) b g ≡ Yes) ((carried.yes (structure_of s) b).0 body) k d within
+      = due-formula rule rest ds due (λ g. value (structure_of s) b g ≡ Yes) ((carried.yes (structure_of s) b).0 body) k d within
       in let free : (v : ℕ) → IsFree v (get_or ds k d).form → IsFree v rule.body
-      = due-formula rule rest ds walk.due (λ g. (v : ℕ) → IsFree v g → IsFree v rule.body) carried.free k d within
-      in absurd (other (only_free_variables_matter (structure_of s) d.form (assignment_of places) b
+      = due-formula rule rest ds due (λ g. (v : ℕ) → IsFree v g → IsFree v rule.body) carried.free k d within
+      in absurd (other (only_free_variables_matter (structure_of s) d.form a b
       (λ v f. sym (goes v (inl (free v (subst (λ e. IsFree v e.form) (sym is) f)))
-      (λ has. not-left rest d (subst (IsDue rest) is (walk.due.due k d within)) (omega (arith, here)) v has f)))
+      (λ has. not-left rest d (subst (IsDue rest) is (due.due k d within)) (omega (arith, here)) v has f)))
       ∙ subst (λ e. value (structure_of s) b e.form ≡ Yes) is each))
 
+  -- and where those pass that wait for none but these, the walk goes on
+  pub walk-tested : (places : List (Option ℕ)) → IsWalk rule s ds rest places (1 + length rest)
+      → All (PassesAt s (assignment_of places) (length rest)) ds → IsWalk rule s ds rest places (length rest)
+  walk-tested places walk tests = record {
+    due = walk.due;
+    free = walk.free;
+    placed = walk.placed;
+    tested = λ k d within enough. at k d within enough (cases_eq (get_or ds k d).left (length rest));
+  }
+    where
+      at : (k : ℕ) (d : DueForm) → k < length ds → length rest ≤ (get_or ds k d).left
+          → ((get_or ds k d).left ≡ length rest) ⊎ ((get_or ds k d).left ≢ length rest)
+          → value (structure_of s) (assignment_of places) (get_or ds k d).form ≡ Yes
+      at k d within enough (inl e) = tests k d within e
+      at k d within enough (inr ne) = walk.tested k d within (omega (arith, enough, ne))
+
 -- ---- where all conjuncts are Yes the body is
-pub body-yes : (s : StructureForm) (rule : RuleForm) (ds : List DueForm) (places : List (Option ℕ)) → IsWalk rule s ds [] places
-    → All (λ d. d.left ≡ 0 → value (structure_of s) (assignment_of places) d.form ≡ Yes) ds
+pub body-yes : (s : StructureForm) (rule : RuleForm) (ds : List DueForm) (places : List (Option ℕ)) → IsWalk rule s ds [] places 0
     → value (structure_of s) (assignment_of places) rule.body ≡ Yes
-body-yes s rule ds places walk tests =
+body-yes s rule ds places walk =
     ((conjuncts_carry_formulas rule.body).yes (structure_of s) (assignment_of places)).1
-    (subst (All P) walk.due.are (All-map P (λ d. d.form) ds (λ k d within. at k d within (get_or ds k d).left refl)))
+    (subst (All P) walk.due.are (All-map P (λ d. d.form) ds (λ k d within. walk.tested k d within (omega arith))))
   where
     P : Form → Type 0
     P g = value (structure_of s) (assignment_of places) g ≡ Yes
 
-    at : (k : ℕ) (d : DueForm) → k < length ds → (n : ℕ) → (get_or ds k d).left ≡ n → P (get_or ds k d).form
-    at k d within zero e = tests k d within e
-    at k d within (suc n) e = walk.tested k d within (omega (arith, e))
-
 -- ---- one variable more
+
+-- new gives v the individual u, and all but the variables that are left what the old places give
+abbrev pub IsPut : (rest : List ℕ) (v u : ℕ) (old new : List (Option ℕ)) → Type 0
+IsPut rest v u old new = (w : ℕ) → ¬ Contains rest w → place_of new w ≡ (if w == v then Some u else place_of old w)
+
+module _ (v : ℕ) (rest : List ℕ) where
+  not-here : (w : ℕ) → w ≢ v → ¬ Contains rest w → ¬ Contains (v ∷ rest) w
+  not-here w ne none (zero, within, e) = ne (sym e)
+  not-here w ne none (suc k, within, e) = none (k, omega (arith, within), e)
+
+  pub put-kept : (u : ℕ) (old now new : List (Option ℕ)) → AreKept (v ∷ rest) old now
+      → ((w : ℕ) → place_of new w ≡ (if w == v then Some u else place_of now w)) → IsPut rest v u old new
+  put-kept u old now new kept is w none = at (cases_eq w v)
+    where
+      at : (w ≡ v) ⊎ (w ≢ v) → place_of new w ≡ (if w == v then Some u else place_of old w)
+      at (inl e) = is w ∙ cond-true (w == v) (Some u) (place_of now w) (eq-eqb w v e)
+          ∙ sym (cond-true (w == v) (Some u) (place_of old w) (eq-eqb w v e))
+      at (inr ne) = is w ∙ cond-false (w == v) (Some u) (place_of now w) (ne_eqb w v ne) ∙ kept w (not-here w ne none)
+          ∙ sym (cond-false (w == v) (Some u) (place_of old w) (ne_eqb w v ne))
+
+  pub kept-more : (u : ℕ) (old now put-there new : List (Option ℕ)) → AreKept (v ∷ rest) old now
+      → ((w : ℕ) → place_of put-there w ≡ (if w == v then Some u else place_of now w)) → AreKept rest put-there new
+      → AreKept (v ∷ rest) old new
+  kept-more u old now put-there new kept is later w none =
+      later w (λ has. none (further has)) ∙ is w ∙ cond-false (w == v) (Some u) (place_of now w) (ne_eqb w v other) ∙ kept w none
+    where
+      further : Contains rest w → Contains (v ∷ rest) w
+      further (k, within, e) = (suc k, omega (arith, within), e)
+
+      other : w ≢ v
+      other e = none (0, omega arith, sym e)
+
+  pub put-agrees : (u : ℕ) (old new : List (Option ℕ)) → IsPut rest v u old new → (w : ℕ) → ¬ Contains rest w
+      → assignment_of new w ≡ put (assignment_of old) v u w
+  put-agrees u old new is w none = at (cases_eq w v)
+    where
+      at : (w ≡ v) ⊎ (w ≢ v) → assignment_of new w ≡ put (assignment_of old) v u w
+      at (inl e) = ap (λ o. unwrap_or o 0) (is w none ∙ cond-true (w == v) (Some u) (place_of old w) (eq-eqb w v e))
+          ∙ sym (put-same (assignment_of old) v u w e)
+      at (inr ne) = ap (λ o. unwrap_or o 0) (is w none ∙ cond-false (w == v) (Some u) (place_of old w) (ne_eqb w v ne))
+          ∙ sym (put-other (assignment_of old) v u w ne)
+
 module _ (s : StructureForm) (rule : RuleForm) (ds : List DueForm) (v : ℕ) (rest : List ℕ) (places new : List (Option ℕ)) (u : ℕ)
-    (walk : IsWalk rule s ds (v ∷ rest) places) (within-size : u < s.size)
-    (placed-new : (w : ℕ) → place_of new w ≡ (if w == v then Some u else place_of places w)) (total : assignment_of new ≡ put (assignment_of places) v u) where
-  pub walk-on : All (λ d. d.left ≡ 1 + length rest → value (structure_of s) (assignment_of places) d.form ≡ Yes) ds
-      → IsWalk rule s ds rest new
+    (walk : IsWalk rule s ds (v ∷ rest) places (1 + length rest)) (within-size : u < s.size) (is-put : IsPut rest v u places new) where
+  pub walk-on : All (PassesAt s (put (assignment_of places) v u) (length rest)) ds → IsWalk rule s ds rest new (length rest)
   walk-on tests = record {
     due = record { are = walk.due.are; due = λ k d within. (walk.due.due k d within).1 };
     free = All-tail IsFreeInHere v rest walk.free;
@@ -212,29 +299,32 @@ module _ (s : StructureForm) (rule : RuleForm) (ds : List DueForm) (v : ℕ) (re
       IsFreeInHere w = IsFreeInRule w rule
 
       placed-on : ArePlaced s.size rule rest new
-      placed-on w free not-left' = at (cases_eq w v)
+      placed-on w free none = at (cases_eq w v)
         where
-          there : w ≢ v → Contains (v ∷ rest) w → Contains rest w
-          there ne (zero, within, e) = absurd (ne (sym e))
-          there ne (suc k, within, e) = (k, omega (arith, within), e)
-
           at : (w ≡ v) ⊎ (w ≢ v) → IsAssigned s.size new w
-          at (inl e) = subst (λ o. IsSomeAnd o (λ x. x < s.size)) (sym (placed-new w ∙ cond-true (w == v) (Some u) (place_of places w) (eq-eqb w v e))) within-size
-          at (inr ne) = subst (λ o. IsSomeAnd o (λ x. x < s.size)) (sym (placed-new w ∙ cond-false (w == v) (Some u) (place_of places w) (ne_eqb w v ne)))
-              (walk.placed w free (λ has. not-left' (there ne has)))
+          at (inl e) = subst (λ o. IsSomeAnd o (λ x. x < s.size)) (sym (is-put w none ∙ cond-true (w == v) (Some u) (place_of places w) (eq-eqb w v e))) within-size
+          at (inr ne) = subst (λ o. IsSomeAnd o (λ x. x < s.size)) (sym (is-put w none ∙ cond-false (w == v) (Some u) (place_of places w) (ne_eqb w v ne)))
+              (walk.placed w free (not-here v rest w ne none))
 
-      tested-on : AreYes s (assignment_of new) (1 + length rest) ds
-      tested-on k d within enough = yes-at (cases_eq (get_or ds k d).left (1 + length rest))
+      tested-on : AreYes s (assignment_of new) (length rest) ds
+      tested-on k d within enough = same ∙ yes-at (cases_eq (get_or ds k d).left (length rest))
         where
-          same : value (structure_of s) (assignment_of places) (get_or ds k d).form ≡ value (structure_of s) (assignment_of new) (get_or ds k d).form
-          same = only_free_variables_matter (structure_of s) (get_or ds k d).form (assignment_of places) (assignment_of new)
-              (λ w free. sym (ap (λ (a : Assignment). a w) total ∙ put-other (assignment_of places) v u w
-              (λ e. (walk.due.due k d within).0 enough (subst (λ x. IsFree x (get_or ds k d).form) e free))))
+          form : Form
+          form = (get_or ds k d).form
 
-          yes-at : ((get_or ds k d).left ≡ 1 + length rest) ⊎ ((get_or ds k d).left ≢ 1 + length rest)
-              → value (structure_of s) (assignment_of new) (get_or ds k d).form ≡ Yes
-          yes-at (inl e) = sym same ∙ tests k d within e
-          yes-at (inr ne) = sym same ∙ walk.tested k d within (omega (arith, enough, ne))
+          same : value (structure_of s) (assignment_of new) form ≡ value (structure_of s) (put (assignment_of places) v u) form
+          same = only_free_variables_matter (structure_of s) form (assignment_of new) (put (assignment_of places) v u)
+              (λ w free. put-agrees v rest u places new is-put w
+              (λ has. not-left rest (get_or ds k d) (walk.due.due k d within).1 enough w has free))
+
+          yes-at : ((get_or ds k d).left ≡ length rest) ⊎ ((get_or ds k d).left ≢ length rest)
+              → value (structure_of s) (put (assignment_of places) v u) form ≡ Yes
+          yes-at (inl e) = tests k d within e
+          yes-at (inr ne) =
+              only_free_variables_matter (structure_of s) form (put (assignment_of places) v u) (assignment_of places)
+              (λ w free. put-other (assignment_of places) v u w
+              (λ e. (walk.due.due k d within).0 (omega (arith, enough, ne)) (subst (λ x. IsFree x form) e free)))
+              ∙ walk.tested k d within (omega (arith, enough, ne))
 
 -- what holds for each individual holds for all assignments
 pub tried-each : (s : StructureForm) (rule : RuleForm) (v : ℕ) (rest : List ℕ) (a : Assignment) → IsFreeInRule v rule
@@ -252,6 +342,12 @@ tried-each s rule v rest a free each b goes individuals body =
             there : Contains (v ∷ rest) w → Contains rest w
             there (zero, within, e) = absurd (ne (sym e))
             there (suc k, within, e) = (k, omega (arith, within), e)
+
+-- what is tried turns on the variables that aren't left
+pub tried-agreed : (s : StructureForm) (rule : RuleForm) (rest : List ℕ) (a b : Assignment) → ((v : ℕ) → ¬ Contains rest v → a v ≡ b v)
+    → IsTried s rule rest a → IsTried s rule rest b
+tried-agreed s rule rest a b same tried c goes individuals body =
+    tried c (λ v free none. goes v free none ∙ sym (same v none)) individuals body
 
 -- ---- what a walk tells
 
@@ -271,7 +367,12 @@ module _ (s : StructureForm) (rule : RuleForm) where
   told-noted places room old new Possible can at body (inl (same, met)) =
       subst (λ n. IsTold s rule [] (assignment_of places) old n Possible) (sym same)
       (told-tried [] (assignment_of places) old (tried-here s rule (assignment_of places) met))
-  told-noted places room old new Possible can at body (inr (c, more, need)) =
+  told-noted places room old new Possible can at body (inr (c, inr (same, some), need)) = record {
+    forced = subst (All (IsForced s rule)) (sym same);
+    grows = rw same (omega arith);
+    tells = λ none. absurd (some (sym same ∙ none));
+  }
+  told-noted places room old new Possible can at body (inr (c, inl more, need)) =
       subst (λ n. IsTold s rule [] (assignment_of places) old n Possible) (sym more) (record {
         forced = λ all. All-push (IsForced s rule) old c all (forced-here s rule places room can at body c need);
         grows = rw (length-append old (c ∷ [])) (omega arith);
@@ -292,29 +393,41 @@ module _ (s : StructureForm) (rule : RuleForm) where
   pub walked-none : (v : ℕ) (rest : List ℕ) (a : Assignment) (old : List Change) → IsWalkedUpTo v rest a old old 0
   walked-none v rest a old = record { forced = λ all. all; grows = omega arith; tried = λ none u less. absurd (omega (arith, less)) }
 
-  pub walked-more : (v : ℕ) (rest : List ℕ) (a b : Assignment) (old now new : List Change) (count : ℕ) → b ≡ put a v count
-      → IsWalkedUpTo v rest a old now count → IsTold s rule rest b now new Possible → IsWalkedUpTo v rest a old new (count + 1)
-  walked-more v rest a b old now new count is so_far told = record {
+  pub walked-more : (v : ℕ) (rest : List ℕ) (places new-places : List (Option ℕ)) (old now new : List Change) (from u : ℕ)
+      → IsPut rest v u places new-places → ((w : ℕ) → from ≤ w → w < u → IsTried s rule rest (put (assignment_of places) v w))
+      → IsWalkedUpTo v rest (assignment_of places) old now from → IsTold s rule rest (assignment_of new-places) now new Possible
+      → IsWalkedUpTo v rest (assignment_of places) old new (u + 1)
+  walked-more v rest places new-places old now new from u is-put passed so_far told = record {
     forced = λ all. told.forced (so_far.forced all);
     grows = omega (arith, so_far.grows, told.grows);
-    tried = λ none u less. at none u (cases_eq u count) less;
+    tried = λ none w less. at none w (cases_eq w u) less (cases_lt w from);
   }
     where
-      at : new ≡ [] → (u : ℕ) → (u ≡ count) ⊎ (u ≢ count) → u < count + 1 → IsTried s rule rest (put a v u)
-      at none u (inl e) less = subst (IsTried s rule rest) (is ∙ ap (put a v) (sym e)) (told.tells none)
-      at none u (inr ne) less = so_far.tried (none-less now new told.grows none) u (omega (arith, less, ne))
+      at : new ≡ [] → (w : ℕ) → (w ≡ u) ⊎ (w ≢ u) → w < u + 1 → (w < from) ⊎ (from ≤ w)
+          → IsTried s rule rest (put (assignment_of places) v w)
+      at none w (inl e) less side =
+          subst (λ x. IsTried s rule rest (put (assignment_of places) v x)) (sym e)
+          (tried-agreed s rule rest (assignment_of new-places) (put (assignment_of places) v u)
+          (put-agrees v rest u places new-places is-put) (told.tells none))
+      at none w (inr ne) less (inl before) = so_far.tried (none-less now new told.grows none) w before
+      at none w (inr ne) less (inr after) = passed w after (omega (arith, less, ne))
 
-  pub walked-all : (v : ℕ) (rest : List ℕ) (a : Assignment) (old now : List Change) (count : ℕ) → IsFreeInRule v rule → count ≡ s.size
-      → IsWalkedUpTo v rest a old now count → IsTold s rule (v ∷ rest) a old now Possible
-  walked-all v rest a old now count free whole walked = record {
+  pub walked-all : (v : ℕ) (rest : List ℕ) (a : Assignment) (old now : List Change) (from : ℕ) → IsFreeInRule v rule
+      → IsWalkedUpTo v rest a old now from → ((w : ℕ) → from ≤ w → w < s.size → IsTried s rule rest (put a v w))
+      → IsTold s rule (v ∷ rest) a old now Possible
+  walked-all v rest a old now from free walked passed = record {
     forced = walked.forced;
     grows = walked.grows;
-    tells = λ none. tried-each s rule v rest a free (λ u less. walked.tried none u (subst (λ n. u < n) (sym whole) less));
+    tells = λ none. tried-each s rule v rest a free (λ w less. at none w less (cases_lt w from));
   }
+    where
+      at : now ≡ [] → (w : ℕ) → w < s.size → (w < from) ⊎ (from ≤ w) → IsTried s rule rest (put a v w)
+      at none w less (inl before) = walked.tried none w before
+      at none w less (inr after) = passed w after less
 
-  pub walked-never : (v : ℕ) (rest : List ℕ) (a b : Assignment) (old now new : List Change) (count : ℕ)
-      → IsWalkedUpTo v rest a old now count → IsTold s rule rest b now new Impossible → IsTold s rule (v ∷ rest) a old new Impossible
-  walked-never v rest a b old now new count so_far told = record {
+  pub walked-never : (v : ℕ) (rest : List ℕ) (a b : Assignment) (old now new : List Change) (from : ℕ)
+      → IsWalkedUpTo v rest a old now from → IsTold s rule rest b now new Impossible → IsTold s rule (v ∷ rest) a old new Impossible
+  walked-never v rest a b old now new from so_far told = record {
     forced = λ all. told.forced (so_far.forced all);
     grows = omega (arith, so_far.grows, told.grows);
     tells = told.tells;
@@ -332,17 +445,6 @@ split-vars (v ∷ vars) d some =
     let same : take (length (v ∷ vars) - 1) vars ≡ vars = ap (λ n. take n vars) (omega arith) ∙ take-whole vars
     in ap (λ vs. v.0 ∷ numbers_of vs) (sym same)
 
--- a variable of a rule that can be tried
-pub rule-variable : (rule : RuleForm) (s : StructureForm) (room : ScratchForm) → CanTry rule s room → (v : ℕ) → IsFreeInRule v rule → v < 32
-rule-variable rule s room can v (inl free) = free-in_range (arities_of s) v rule.body can.over.body free
-rule-variable rule s room can v (inr at) = in-head rule.head can.over.head at
-  where
-    in-head : (head : HeadForm) → IsHeadOver (arities_of s) head → IsInHead v head → v < 32
-    in-head HNever over at' = absurd at'
-    in-head (HAtom flag q vars) over at' = All-contains (λ x. x < 32) vars v over.1 at'
-    in-head (HSame flag w u) over (inl e) = subst (λ x. x < 32) (sym e) over.0
-    in-head (HSame flag w u) over (inr e) = subst (λ x. x < 32) (sym e) over.1
-
 pub tail-shorter : (vars : List Var) → 1 ≤ length vars → length (take (length vars - 1) (drop 1 vars)) < length vars
 tail-shorter [] some = absurd (omega (arith, some))
 tail-shorter (v ∷ vars) some =
@@ -359,7 +461,8 @@ stays-on s old now new first second = record { bound = second.bound; structure =
 -- ---- where the walk begins, and what it tells at the end
 
 pub walk-begins : (s : StructureForm) (rule : RuleForm) (ds : List DueForm) (vars : List Var) (places : List (Option ℕ)) → AreFreeIn rule vars
-    → AreDue (conjuncts rule.body) (numbers_of vars) ds → All (λ d. d.left ≤ length vars) ds → IsWalk rule s ds (numbers_of vars) places
+    → AreDue (conjuncts rule.body) (numbers_of vars) ds → All (λ d. d.left ≤ length vars) ds
+    → IsWalk rule s ds (numbers_of vars) places (1 + length (numbers_of vars))
 walk-begins s rule ds vars places free due most = record {
   due = due;
   free = λ k d within. (free (get_or (numbers_of vars) k d)).0 (k, within, get_or_default (numbers_of vars) k (get_or (numbers_of vars) k d) d within);

@@ -1,4 +1,5 @@
 pub mod Attempts
+pub mod ByRows
 pub mod Changes
 pub mod Coerced
 pub mod Laws

@@ -1,11 +1,11 @@
 -- How a rule is tried on a structure: its variables get individuals one after the other, and a conjunct is
 -- tested as soon as all its variables have theirs.
-use Rattle.std.specs.Prelude.{ℕ, ◌≡◌, ◌≢◌, ◌≤◌, ◌+◌, ◌++◌, ◌⊎◌, true, false, Bool, List, [], ◌∷◌, length, map, Option, None, Some, All, Any, Contains, slice_index_or}
+use Rattle.std.specs.Prelude.{ℕ, ◌≡◌, ◌≢◌, ◌<◌, ◌≤◌, ◌+◌, ◌⊎◌, true, false, Bool, List, [], ◌∷◌, length, map, Option, None, Some, All, Any, Contains, slice_index_or}
 use Rattle.std.specs.declared.vec.Vec.{Vec}
 use Rattle.std.specs.declared.alloc.Global.{Global}
 use Rattle.tv_kleene.specs.declared.K3.TheVariants.{Yes}
-use Rattle.tv_model.specs.Form.{Form, FOne, form_of, IsFree}
-use Rattle.tv_model.specs.Program.{HeadForm, HNever, RuleForm}
+use Rattle.tv_model.specs.Form.{Form, FZero, FOne, FAtom, FSame, form_of, IsFree}
+use Rattle.tv_model.specs.Program.{HeadForm, HNever, HAtom, HSame, RuleForm}
 use Rattle.tv_model.specs.Rules.{IsFreeInRule, IsOfIndividuals}
 use Rattle.tv_model.specs.Truth.{Assignment}
 use Rattle.tv_model.specs.Valid.{IsFormulaOver}
@@ -13,7 +13,7 @@ use Rattle.tv_frame.specs.LogicalStructure.{LogicalStructure}
 use Rattle.tv_frame.specs.Embedding.{IsBelow}
 use Rattle.tv_value.specs.Value.{value}
 use Rattle.tv_stable.specs.Stable.{IsHeadMet, IsStableUnder}
-use Rattle.tv_eval.specs.AssignmentForm.{IsAssigned, assignment_of}
+use Rattle.tv_eval.specs.AssignmentForm.{IsAssigned, assignment_of, place_of}
 use Rattle.tv_eval.specs.Bound.{IsBound, bound_structure, bound_room}
 use Rattle.tv_eval.specs.Formulas.{AreAssigned}
 use Rattle.tv_eval.specs.declared.evaluator.Evaluator.{Evaluator}
@@ -23,7 +23,7 @@ use Rattle.tv_rules.specs.Closing.{conjuncts}
 use Rattle.tv_rules.specs.EntryForms.{rules_of}
 use Rattle.tv_stable.specs.Laws.{IsPlainRule}
 use Rattle.tv_struct.specs.StructureForm.{StructureForm, arities_of, structure_of, summary_at}
-use Rattle.tv_coerce.specs.Changes.{Has, IsPlace, IsOpen}
+use Rattle.tv_coerce.specs.Changes.{Has, IsListed, IsPlace, IsOpen}
 use Rattle.tv_coerce.specs.Ready.{IsRuleOver}
 use Rattle.tv_coerce.specs.Touched.{IsChangeOf}
 use Rattle.tv_coerce.specs.declared.change.Change.{Change}
@@ -61,6 +61,22 @@ rule_at closed number = slice_index_or (rules_of closed) number (record { body =
 
 abbrev pub trial_rule : Trial → RuleForm
 trial_rule trial = rule_at trial.closed.now trial.number
+
+-- what a head says, without its sign; and that sign
+abbrev pub atom_form : HeadForm → Form
+atom_form HNever = FZero
+atom_form (HAtom flag pred vars) = FAtom pred vars
+atom_form (HSame flag v w) = FSame v w
+
+abbrev pub sign_of : HeadForm → Bool
+sign_of HNever = true
+sign_of (HAtom flag pred vars) = flag
+sign_of (HSame flag v w) = flag
+
+-- the trial has the number of a rule, and the atom of that rule's head
+pub record IsTrial (trial : Trial) : Type 0 where
+  pub number : trial.number < length (rules_of trial.closed.now)
+  pub atom : form_of trial.atom.now ≡ atom_form (trial_rule trial).head
 
 -- the rule is over the structure's predicates, and there is room for its body
 pub record CanTry (rule : RuleForm) (s : StructureForm) (room : ScratchForm) : Type 0 where
@@ -134,12 +150,14 @@ abbrev pub Tests : StructureForm → Assignment → (left : ℕ) → List DueFor
 Tests s a left ds true = All (PassesAt s a left) ds
 Tests s a left ds false = Any (FailsAt s a left) ds
 
--- where a walk over the variables that are left may begin
-pub record IsWalk (rule : RuleForm) (s : StructureForm) (ds : List DueForm) (rest : List ℕ) (places : List (Option ℕ)) : Type 0 where
+-- where a walk over the variables that are left may begin: of the conjuncts, those that wait for no more than
+-- so many last variables are Yes
+pub record IsWalk (rule : RuleForm) (s : StructureForm) (ds : List DueForm) (rest : List ℕ) (places : List (Option ℕ)) (at_least : ℕ)
+    : Type 0 where
   pub due : AreDue (conjuncts rule.body) rest ds
   pub free : All (λ v. IsFreeInRule v rule) rest
   pub placed : ArePlaced s.size rule rest places
-  pub tested : AreYes s (assignment_of places) (1 + length rest) ds
+  pub tested : AreYes s (assignment_of places) at_least ds
 
 -- what trying tells: where nothing was noted the structure is stable under all these assignments, or no
 -- structure below is stable
@@ -150,8 +168,12 @@ Tells s rule rest a changes Impossible = IsHopeless s rule
 -- what was noted of the head under one assignment
 abbrev pub IsNoted : StructureForm → Assignment → HeadForm → (old new : List Change) → Outcome → Type 0
 IsNoted s a head old new Possible =
-    ((new ≡ old) × IsNeed s a head Nothing) ⊎ ((c : Change) × (new ≡ old ++ c ∷ []) × IsNeed s a head (Put c))
+    ((new ≡ old) × IsNeed s a head Nothing) ⊎ ((c : Change) × IsListed c old new × IsNeed s a head (Put c))
 IsNoted s a head old new Impossible = (new ≡ old) × IsNeed s a head Never
+
+-- only what the variables that are left stand for may differ
+abbrev pub AreKept : (rest : List ℕ) → (old new : List (Option ℕ)) → Type 0
+AreKept rest old new = (v : ℕ) → ¬ Contains rest v → place_of new v ≡ place_of old v
 
 -- what a walk over the variables that are left noted and tells
 pub record IsTold (s : StructureForm) (rule : RuleForm) (rest : List ℕ) (a : Assignment) (old new : List Change) (outcome : Outcome)

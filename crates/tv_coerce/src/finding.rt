@@ -1,15 +1,19 @@
 //! What a rule asks for is found.
 
 ghost use Rattle.std.specs.Prelude.{◌≡◌, ◌<◌, length, IfOk};
+ghost use Rattle.tv_model.specs.Form.{form_of};
 ghost use Rattle.tv_rules.specs.EntryForms.{rules_of};
 ghost use Rattle.tv_coerce.specs.Ready.{CanCoerce};
-ghost use Rattle.tv_coerce.specs.Trying.{IsFound, answer_of, rule_at};
+ghost use Rattle.tv_coerce.specs.Trying.{IsFound, answer_of, atom_form, rule_at};
 
 use crate::change::Change;
 use crate::due::dues;
-use crate::trial::{Outcome, Trial, walk};
+use crate::noted::Noted;
+use crate::places::atom_of;
+use crate::trial::{Outcome, Trial, walk_all};
 use std::alloc::{AllocError, Global};
 use tv_eval::{Assignment, Evaluator, Scratch};
+use tv_model::Formula;
 use tv_rules::Closed;
 use tv_struct::Structure;
 
@@ -26,26 +30,40 @@ pub(crate) fn find(
     ensures found { IfOk result (IsFound s.now (rule_at closed.now number)) }
     ensures scratch { scratch.new ≡ scratch.old }
 {
+    let atom = atom_of(closed.head(number));
+    find_by(alloc, closed, number, s, &atom, scratch)
+}
+
+/// The same, by the atom of the rule's head.
+fn find_by<'a>(
+    alloc: Global,
+    closed: &'a Closed,
+    number: usize,
+    s: &'a Structure,
+    atom: &'a Formula,
+    scratch: &mut Scratch,
+) -> Result<Option<Vec<Change>>, AllocError>
+    requires number { number < length (rules_of closed.now) }
+    requires ready { CanCoerce (rules_of closed.now) s.now scratch.old }
+    requires atom { form_of atom.now ≡ atom_form (rule_at closed.now number).head }
+    ensures found { IfOk result (IsFound s.now (rule_at closed.now number)) }
+    ensures scratch { scratch.new ≡ scratch.old }
+{
     let conjuncts = closed.conjuncts(alloc, number)?;
     let vars = closed.variables(number);
     let dues = dues(alloc, &conjuncts, vars)?;
-    let mut changes = Vec::new(alloc);
     let trial = Trial {
         structure: s,
         closed,
         number,
+        atom,
     };
+    let mut a = Assignment::new();
+    let mut noted = Noted::new(alloc, s.size());
     let mut evaluator = Evaluator::new(s, scratch);
-    let outcome = walk(
-        &trial,
-        &mut evaluator,
-        &dues,
-        vars,
-        &Assignment::new(),
-        &mut changes,
-    );
+    let outcome = walk_all(&trial, &mut evaluator, &dues, vars, &mut a, &mut noted);
     evaluator.finish(scratch);
-    Ok(answer(outcome?, changes))
+    Ok(answer(outcome?, noted.into_list()))
 }
 
 /// What was noted, unless no structure below can be stable.

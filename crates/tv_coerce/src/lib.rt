@@ -10,6 +10,8 @@ mod greatest;
 mod laws;
 mod lower;
 mod need;
+mod noted;
+mod places;
 mod rule_set;
 mod sharpen;
 mod trial;

@@ -8,15 +8,17 @@ ghost use Rattle.tv_rules.specs.EntryForms.{numbers_of, rules_of};
 ghost use Rattle.tv_struct.specs.StructureForm.{arities_of};
 ghost use Rattle.tv_coerce.specs.Ready.{IsRuleOver};
 ghost use Rattle.tv_kleene.specs.declared.K3.TheVariants.{Yes};
-ghost use Rattle.tv_coerce.specs.Trying.{ArePlaced, CanTry, CanValue, FailsAt, IsNoted, IsTold, IsWalk, PassesAt, StaysBound, Tests, due_of, dues_of, trial_rule};
+ghost use Rattle.tv_coerce.specs.Trying.{AreKept, ArePlaced, CanTry, CanValue, FailsAt, IsNoted, IsTold, IsTrial, IsWalk, PassesAt, StaysBound, Tests, due_of, dues_of, trial_rule};
 
-use crate::change::{Change, Need};
+use crate::change::Need;
 use crate::due::Due;
 use crate::need::need;
+use crate::noted::Noted;
+use crate::places::places_for;
 use std::alloc::AllocError;
 use tv_eval::{Assignment, Evaluator};
 use tv_kleene::K3;
-use tv_model::Var;
+use tv_model::{Formula, Var};
 use tv_rules::Closed;
 use tv_struct::Structure;
 
@@ -26,6 +28,8 @@ pub(crate) struct Trial<'a> {
     pub structure: &'a Structure,
     pub closed: &'a Closed,
     pub number: usize,
+    /// What the head says, without its sign.
+    pub atom: &'a Formula,
 }
 
 /// Whether a structure below can be stable under the rule.
@@ -81,55 +85,82 @@ fn are_yes<'a>(
 }
 
 /// Notes what the head needs under the assignment, under which the body is `Yes`.
-fn note(trial: &Trial, a: &Assignment, changes: &mut Vec<Change>) -> Result<Outcome, AllocError>
+fn note(trial: &Trial, a: &Assignment, noted: &mut Noted) -> Result<Outcome, AllocError>
     requires number { trial.now.number < length (rules_of trial.now.closed.now) }
     requires head { IsRuleOver (arities_of trial.now.structure.now) (trial_rule trial.now) }
     requires placed { ArePlaced trial.now.structure.now.size (trial_rule trial.now) [] a.now }
     ensures noted { IfOk result (IsNoted trial.now.structure.now (assignment_of a.now) (trial_rule trial.now).head
-        changes.old.items changes.new.items) }
+        noted.old.list.items noted.new.list.items) }
 {
     match need(trial.structure, trial.closed.head(trial.number), a) {
         Need::Nothing => Ok(Outcome::Possible),
         Need::Never => Ok(Outcome::Impossible),
         Need::Put(change) => {
-            changes.push(change)?;
+            noted.add(change)?;
             Ok(Outcome::Possible)
         }
     }
 }
 
-/// Tries the rule under each assignment of the variables that are left, and notes what has to change.
-pub(crate) fn walk<'a>(
+/// Tries the rule under each assignment of the variables that are left, and notes what has to change. What
+/// these stand for is changed on the way.
+fn walk<'a>(
     trial: &Trial<'a>,
     evaluator: &mut Evaluator<'a>,
     conjuncts: &[Due<'a>],
     rest: &[Var],
-    a: &Assignment,
-    changes: &mut Vec<Change>,
+    a: &mut Assignment,
+    noted: &mut Noted,
 ) -> Result<Outcome, AllocError>
-    requires number { trial.now.number < length (rules_of trial.now.closed.now) }
+    requires trial { IsTrial trial.now }
     requires bound { IsBound evaluator.old }
     requires structure { bound_structure evaluator.old ≡ trial.now.structure.now }
     requires ready { CanTry (trial_rule trial.now) trial.now.structure.now (bound_room evaluator.old) }
-    requires walk { IsWalk (trial_rule trial.now) trial.now.structure.now (dues_of conjuncts.now) (numbers_of rest.now) a.now }
-    ensures told { IfOk result (IsTold trial.now.structure.now (trial_rule trial.now) (numbers_of rest.now) (assignment_of a.now)
-        changes.old.items changes.new.items) }
+    requires walk { IsWalk (trial_rule trial.now) trial.now.structure.now (dues_of conjuncts.now) (numbers_of rest.now) a.old
+        (length (numbers_of rest.now)) }
+    ensures told { IfOk result (IsTold trial.now.structure.now (trial_rule trial.now) (numbers_of rest.now) (assignment_of a.old)
+        noted.old.list.items noted.new.list.items) }
+    ensures keeps { AreKept (numbers_of rest.now) a.old a.new }
     ensures stays { StaysBound trial.now.structure.now evaluator.old evaluator.new }
 {
-    if !are_yes(trial.structure, evaluator, conjuncts, rest.len(), a) {
-        return Ok(Outcome::Possible);
-    }
     match rest {
-        [] => note(trial, a, changes),
+        [] => note(trial, a, noted),
         [v, rest @ ..] => {
-            for u in 0..trial.structure.size() {
-                let with = a.with(*v, u);
-                match walk(trial, evaluator, conjuncts, rest, &with, changes)? {
-                    Outcome::Possible => {}
+            let places = places_for(trial, evaluator, conjuncts, rest, *v, a);
+            let mut from = 0;
+            while let Some(u) = places.next(from) {
+                *a = a.with(*v, u);
+                match walk(trial, evaluator, conjuncts, rest, a, noted)? {
+                    Outcome::Possible => from = u + 1,
                     Outcome::Impossible => return Ok(Outcome::Impossible),
                 }
             }
             Ok(Outcome::Possible)
         }
     }
+}
+
+/// Tries the rule under each assignment of its variables, if the conjuncts that wait for none are `Yes`.
+pub(crate) fn walk_all<'a>(
+    trial: &Trial<'a>,
+    evaluator: &mut Evaluator<'a>,
+    conjuncts: &[Due<'a>],
+    vars: &[Var],
+    a: &mut Assignment,
+    noted: &mut Noted,
+) -> Result<Outcome, AllocError>
+    requires trial { IsTrial trial.now }
+    requires bound { IsBound evaluator.old }
+    requires structure { bound_structure evaluator.old ≡ trial.now.structure.now }
+    requires ready { CanTry (trial_rule trial.now) trial.now.structure.now (bound_room evaluator.old) }
+    requires walk { IsWalk (trial_rule trial.now) trial.now.structure.now (dues_of conjuncts.now) (numbers_of vars.now) a.old
+        (1 + length (numbers_of vars.now)) }
+    ensures told { IfOk result (IsTold trial.now.structure.now (trial_rule trial.now) (numbers_of vars.now) (assignment_of a.old)
+        noted.old.list.items noted.new.list.items) }
+    ensures stays { StaysBound trial.now.structure.now evaluator.old evaluator.new }
+{
+    if !are_yes(trial.structure, evaluator, conjuncts, vars.len(), a) {
+        return Ok(Outcome::Possible);
+    }
+    walk(trial, evaluator, conjuncts, vars, a, noted)
 }

@@ -1,0 +1,266 @@
+-- Rows of values: where all conjuncts are Yes that a variable is the last of, and where the head isn't met.
+use Rattle.std.proofs.Common.{ℕ, ◌≡◌, ◌≢◌, ◌<◌, ◌≤◌, ◌+◌, ◌⊎◌, inl, inr, ⊎_elim, zero, suc, true, false, List, [], ◌∷◌, length, map, get_or, replicate, Option, refl, sym, ap, subst, ◌∙◌, arith}
+use Rattle.std.specs.Prelude.{Any, Contains}
+use Rattle.std.proofs.lemmas.Bool.{cases_eq}
+use Rattle.std.proofs.lemmas.List.{get_or-map, get_or-replicate, get_or_default, length-map, length-replicate}
+use Rattle.std.proofs.lemmas.List.FromFn.{length-map-range_with_len, get_or-map-range_with_len}
+use Rattle.tv_kleene.specs.declared.K3.{K3}
+use Rattle.tv_kleene.specs.declared.K3.TheVariants.{No, Half, Yes}
+use Rattle.tv_kleene.specs.Kleene.{smaller_of, negation_of}
+use Rattle.tv_row.specs.Bits.{paired}
+use Rattle.tv_row.proofs.WordOps.{length-paired, get_or-paired}
+use Rattle.tv_model.specs.Form.{Form, FExists, IsFree}
+use Rattle.tv_model.specs.Program.{HeadForm, HNever, HAtom, HSame, RuleForm}
+use Rattle.tv_model.specs.Rules.{IsInHead, head_formula}
+use Rattle.tv_model.specs.Truth.{Assignment, put}
+use Rattle.tv_model.specs.Valid.{IsFormulaOver}
+use Rattle.tv_frame.specs.LogicalStructure.{LogicalStructure}
+use Rattle.tv_value.specs.Value.{value}
+use Rattle.tv_eval.specs.Along.{values_along}
+use Rattle.tv_eval.specs.Bound.{IsBound, bound_structure}
+use Rattle.tv_eval.specs.Formulas.{AreAssigned, nesting}
+use Rattle.tv_eval.specs.ScratchForm.{ScratchForm, Fits}
+use Rattle.tv_rules.specs.Closing.{conjuncts}
+use Rattle.tv_eval.specs.declared.evaluator.Evaluator.{Evaluator}
+use Rattle.tv_struct.specs.StructureForm.{StructureForm, arities_of, structure_of}
+use Rattle.tv_coerce.specs.ByRows.{ArePlaces, IsBodyRow, IsLackingRow, IsNarrowed}
+use Rattle.tv_coerce.specs.Ready.{IsHeadOver}
+use Rattle.tv_coerce.specs.Trying.{AreDue, ArePlaced, CanTry, DueForm, FailsAt, PassesAt, StaysBound, atom_form, due_of, dues_of, sign_of}
+use Rattle.tv_coerce.specs.declared.due.Due.{Due}
+use Rattle.tv_coerce.proofs.Walking.{given-up, tried-here}
+
+along-length : (s : StructureForm) (a : Assignment) (v : ℕ) (f : Form) → length (values_along s a v f) ≡ s.size
+along-length s a v f = length-map-range_with_len (λ u. value (structure_of s) (put a v u) f) 0 s.size
+
+along-value : (s : StructureForm) (a : Assignment) (v : ℕ) (f : Form) (u : ℕ) → u < s.size
+    → get_or (values_along s a v f) u No ≡ value (structure_of s) (put a v u) f
+along-value s a v f u within =
+    get_or-map-range_with_len (λ x. value (structure_of s) (put a v x) f) 0 s.size u u No within (omega arith)
+
+pub along-size : (s t : StructureForm) (a : Assignment) (v : ℕ) (f : Form) (row : List K3) → row ≡ values_along t a v f → t ≡ s
+    → length row ≡ s.size
+along-size s t a v f row is same = ap length is ∙ along-length t a v f ∙ ap (λ (r : StructureForm). r.size) same
+
+-- ---- values
+
+smaller-yes : (x y : K3) → smaller_of x y ≡ Yes → (x ≡ Yes) × (y ≡ Yes)
+smaller-yes No y e = absurd (cc e)
+smaller-yes Half No e = absurd (cc e)
+smaller-yes Half Half e = absurd (cc e)
+smaller-yes Half Yes e = absurd (cc e)
+smaller-yes Yes y e = (refl, e)
+
+both-yes : (x y : K3) → x ≡ Yes → y ≡ Yes → smaller_of x y ≡ Yes
+both-yes x y e f = ap (λ z. smaller_of z y) e ∙ f
+
+yes-or-not : (x : K3) → (x ≡ Yes) ⊎ (x ≢ Yes)
+yes-or-not No = inr (λ e. absurd (cc e))
+yes-or-not Half = inr (λ e. absurd (cc e))
+yes-or-not Yes = inl refl
+
+negation-no : (x : K3) → negation_of x ≡ No → x ≡ Yes
+negation-no No e = absurd (cc e)
+negation-no Half e = absurd (cc e)
+negation-no Yes e = refl
+
+-- ---- a conjunct lowers the row
+
+pub narrowed_kept : (s : StructureForm) (a : Assignment) (left v : ℕ) (d : DueForm) (row : List K3) → d.left ≢ left
+    → IsNarrowed s a left v d row row
+narrowed_kept s a left v d row apart = record {
+  size = refl;
+  yes = λ u within is. (is, λ here. absurd (apart here));
+  other = λ u within ne. inl ne;
+}
+
+pub narrowed_none : (s : StructureForm) (a : Assignment) (left v : ℕ) (d : DueForm) (row : List K3) → ¬ Any (λ x. x ≡ Yes) row
+    → length row ≡ s.size → IsNarrowed s a left v d row row
+narrowed_none s a left v d row none size = record {
+  size = refl;
+  yes = λ u within is. absurd (none (u, Yes, omega (arith, within, size), get_or_default row u Yes No (omega (arith, within, size)) ∙ is, refl));
+  other = λ u within ne. inl ne;
+}
+
+pub narrowed_and : (s : StructureForm) (a : Assignment) (left v : ℕ) (d : DueForm) (row : List K3) → d.left ≡ left → length row ≡ s.size
+    → IsNarrowed s a left v d row (paired smaller_of row (values_along s a v d.form))
+narrowed_and s a left v d row here size = record {
+  size = length-paired smaller_of row along (size ∙ sym (along-length s a v d.form));
+  yes = λ u within is.
+      let both = smaller-yes (get_or row u No) (get_or along u No) (sym (pair-at u within) ∙ is)
+      in (both.0, λ e. sym (along-value s a v d.form u within) ∙ both.1);
+  other = λ u within ne. at u within ne (yes-or-not (get_or row u No));
+}
+  where
+    along : List K3
+    along = values_along s a v d.form
+
+    pair-at : (u : ℕ) → u < s.size → get_or (paired smaller_of row along) u No ≡ smaller_of (get_or row u No) (get_or along u No)
+    pair-at u within = get_or-paired smaller_of row along u (omega (arith, within, size))
+        (omega (arith, within, along-length s a v d.form))
+
+    at : (u : ℕ) → u < s.size → get_or (paired smaller_of row along) u No ≢ Yes → (get_or row u No ≡ Yes) ⊎ (get_or row u No ≢ Yes)
+        → (get_or row u No ≢ Yes) ⊎ FailsAt s (put a v u) left d
+    at u within ne (inr not-yes) = inl not-yes
+    at u within ne (inl is) =
+        inr (here, λ e. ne (pair-at u within ∙ both-yes (get_or row u No) (get_or along u No) is (along-value s a v d.form u within ∙ e)))
+
+-- ---- the conjuncts so far
+
+pub record BodyUpTo (s : StructureForm) (a : Assignment) (left v : ℕ) (ds : List DueForm) (count : ℕ) (old now : Evaluator) (row : List K3)
+    : Type 0 where
+  pub stays : StaysBound s old now
+  pub size : length row ≡ s.size
+  pub yes : (u : ℕ) → u < s.size → get_or row u No ≡ Yes → (k : ℕ) (d : DueForm) → k < count → k < length ds
+      → PassesAt s (put a v u) left (get_or ds k d)
+  pub other : (u : ℕ) → u < s.size → get_or row u No ≢ Yes → Any (FailsAt s (put a v u) left) ds
+
+module _ (s : StructureForm) (a : Assignment) (left v : ℕ) (conjuncts : List Due) where
+  pub body-begins : (now : Evaluator) → IsBound now → bound_structure now ≡ s
+      → BodyUpTo s a left v (dues_of conjuncts) 0 now now (replicate s.size Yes)
+  body-begins now bound is = record {
+    stays = record { bound = bound; structure = is; room = refl };
+    size = length-replicate s.size Yes;
+    yes = λ u within e k d less inside. absurd (omega (arith, less));
+    other = λ u within ne. absurd (ne (get_or-replicate s.size u Yes No within));
+  }
+
+  pub body-more : (k : ℕ) (x : Due) (old now new : Evaluator) (row narrower : List K3) → k < length conjuncts → x ≡ get_or conjuncts k x
+      → BodyUpTo s a left v (dues_of conjuncts) k old now row → StaysBound s now new → IsNarrowed s a left v (due_of x) row narrower
+      → BodyUpTo s a left v (dues_of conjuncts) (k + 1) old new narrower
+  body-more k x old now new row narrower within is so_far stays narrowed = record {
+    stays = record { bound = stays.bound; structure = stays.structure; room = stays.room ∙ so_far.stays.room };
+    size = narrowed.size ∙ so_far.size;
+    yes = λ u lu e i d less inside. at u lu e i d less inside (cases_eq i k);
+    other = λ u lu ne. ⊎_elim (λ not-yes. so_far.other u lu not-yes) (λ fails. here u fails) (narrowed.other u lu ne);
+  }
+    where
+      here : (u : ℕ) → FailsAt s (put a v u) left (due_of x) → Any (FailsAt s (put a v u) left) (dues_of conjuncts)
+      here u fails =
+          (k, due_of x, rw (length-map conjuncts due_of) within, get_or-map due_of conjuncts k x (due_of x) within ∙ ap due_of (sym is), fails)
+
+      at : (u : ℕ) → u < s.size → get_or narrower u No ≡ Yes → (i : ℕ) (d : DueForm) → i < k + 1 → i < length (dues_of conjuncts)
+          → (i ≡ k) ⊎ (i ≢ k) → PassesAt s (put a v u) left (get_or (dues_of conjuncts) i d)
+      at u lu e i d less inside (inr ne) = so_far.yes u lu (narrowed.yes u lu e).0 i d (omega (arith, less, ne)) inside
+      at u lu e i d less inside (inl eq) =
+          subst (PassesAt s (put a v u) left)
+          (sym (ap (λ j. get_or (dues_of conjuncts) j d) eq ∙ get_or-map due_of conjuncts k x d within ∙ ap due_of (sym is)))
+          (narrowed.yes u lu e).1
+
+  pub body-whole : (count : ℕ) (old now : Evaluator) (row : List K3) → length conjuncts ≤ count
+      → BodyUpTo s a left v (dues_of conjuncts) count old now row → IsBodyRow s a left v (dues_of conjuncts) row
+  body-whole count old now row whole all = record {
+    size = all.size;
+    yes = λ u within e k d inside. all.yes u within e k d (omega (arith, whole, inside, length-map conjuncts due_of)) inside;
+    other = all.other;
+  }
+
+-- ---- where the head isn't met
+
+head-positive : (s : LogicalStructure) (a : Assignment) (head : HeadForm) → sign_of head ≡ true
+    → value s a (head_formula head) ≡ value s a (atom_form head)
+head-positive s a HNever e = refl
+head-positive s a (HAtom true pred vars) e = refl
+head-positive s a (HAtom false pred vars) e = absurd (cc e)
+head-positive s a (HSame true v w) e = refl
+head-positive s a (HSame false v w) e = absurd (cc e)
+
+head-negative : (s : LogicalStructure) (a : Assignment) (head : HeadForm) → sign_of head ≡ false
+    → value s a (head_formula head) ≡ negation_of (value s a (atom_form head))
+head-negative s a HNever e = absurd (cc e)
+head-negative s a (HAtom true pred vars) e = absurd (cc e)
+head-negative s a (HAtom false pred vars) e = refl
+head-negative s a (HSame true v w) e = absurd (cc e)
+head-negative s a (HSame false v w) e = refl
+
+module _ (s : StructureForm) (rule : RuleForm) (v : ℕ) (a : Assignment) where
+  pub lacking-nowhere : (rest : List ℕ) → IsLackingRow s rule rest v a (replicate s.size Yes)
+  lacking-nowhere rest = (
+    length-replicate s.size Yes,
+    λ u within e. let clash : Yes ≡ No = sym (get_or-replicate s.size u Yes No within) ∙ e in absurd (cc),
+  )
+
+  pub lacking-positive : sign_of rule.head ≡ true
+      → IsLackingRow s rule [] v a (map negation_of (values_along s a v (atom_form rule.head)))
+  lacking-positive sign = (
+    length-map along negation_of ∙ along-length s a v (atom_form rule.head),
+    λ u within e. tried-here s rule (put a v u) (inl (head-positive (structure_of s) (put a v u) rule.head sign
+        ∙ sym (along-value s a v (atom_form rule.head) u within)
+        ∙ negation-no (get_or along u No)
+        (sym (get_or-map negation_of along u No No (omega (arith, within, along-length s a v (atom_form rule.head)))) ∙ e))),
+  )
+    where
+      along : List K3
+      along = values_along s a v (atom_form rule.head)
+
+  pub lacking-negative : sign_of rule.head ≡ false → IsLackingRow s rule [] v a (values_along s a v (atom_form rule.head))
+  lacking-negative sign = (
+    along-length s a v (atom_form rule.head),
+    λ u within e. tried-here s rule (put a v u) (inl (head-negative (structure_of s) (put a v u) rule.head sign
+        ∙ ap negation_of (sym (along-value s a v (atom_form rule.head) u within) ∙ e))),
+  )
+
+-- the head's atom can be valued for all individuals, put for the last variable
+pub record CanAtom (t : StructureForm) (room : ScratchForm) (places : List (Option ℕ)) (v : ℕ) (f : Form) : Type 0 where
+  pub formula : IsFormulaOver (arities_of t) (FExists v f)
+  pub assigned : AreAssigned t.size places (FExists v f)
+  pub fits : Fits room f t.size
+
+atom-over : (arities : List ℕ) (head : HeadForm) → IsHeadOver arities head → IsFormulaOver arities (atom_form head)
+atom-over arities HNever over = tt
+atom-over arities (HAtom flag pred vars) over = over
+atom-over arities (HSame flag v w) over = over
+
+atom-free : (w : ℕ) (head : HeadForm) → IsFree w (atom_form head) → IsInHead w head
+atom-free w HNever free = free
+atom-free w (HAtom flag pred vars) free = free
+atom-free w (HSame flag v u) free = free
+
+atom-nesting : (head : HeadForm) → nesting (atom_form head) ≡ 0
+atom-nesting HNever = refl
+atom-nesting (HAtom flag pred vars) = refl
+atom-nesting (HSame flag v w) = refl
+
+pub can-atom : (s t : StructureForm) (rule : RuleForm) (room : ScratchForm) (places : List (Option ℕ)) (v : ℕ) (f : Form) → CanTry rule s room
+    → v < 32 → ArePlaced s.size rule (v ∷ []) places → f ≡ atom_form rule.head → t ≡ s → CanAtom t room places v f
+can-atom s t rule room places v f can variable placed is same =
+    subst (λ r. CanAtom r room places v f) (sym same) (subst (CanAtom s room places v) (sym is) (record {
+      formula = (variable, atom-over (arities_of s) rule.head can.over.head);
+      assigned = λ w free. placed w (inr (atom-free w rule.head free.1)) (λ has. alone w free.0 has);
+      fits = record {
+        closures = omega (arith, atom-nesting rule.head);
+        individuals = can.fits.individuals;
+      };
+    }))
+  where
+    alone : (w : ℕ) → w ≢ v → Contains (v ∷ []) w → ⊥
+    alone w ne (zero, inside, e) = ne (sym e)
+    alone w ne (suc k, inside, e) = omega (arith, inside)
+
+-- ---- both rows
+
+module _ (s : StructureForm) (rule : RuleForm) (ds : List DueForm) (rest : List ℕ) (v : ℕ) (a : Assignment)
+    (due : AreDue (conjuncts rule.body) (v ∷ rest) ds) where
+  due-on : AreDue (conjuncts rule.body) rest ds
+  due-on = record { are = due.are; due = λ k d within. (due.due k d within).1 }
+
+  pub places-none : (row : List K3) → IsBodyRow s a (length rest) v ds row → ¬ Any (λ x. x ≡ Yes) row
+      → ArePlaces s rule ds rest v a (record { body = row; lacking = row })
+  places-none row is none = record {
+    body = is.size;
+    lacking = is.size;
+    yes = is.yes;
+    skipped = λ u within skip. given-up s rule ds rest (put a v u) due-on (is.other u within (no-yes u within));
+  }
+    where
+      no-yes : (u : ℕ) → u < s.size → get_or row u No ≢ Yes
+      no-yes u within e =
+          none (u, Yes, omega (arith, within, is.size), get_or_default row u Yes No (omega (arith, within, is.size)) ∙ e, refl)
+
+  pub places-made : (row lack : List K3) → IsBodyRow s a (length rest) v ds row → IsLackingRow s rule rest v a lack
+      → ArePlaces s rule ds rest v a (record { body = row; lacking = lack })
+  places-made row lack is lacks = record {
+    body = is.size;
+    lacking = lacks.0;
+    yes = is.yes;
+    skipped = λ u within skip. ⊎_elim (λ ne. given-up s rule ds rest (put a v u) due-on (is.other u within ne)) (λ no. lacks.1 u within no) skip;
+  }

@@ -1,0 +1,88 @@
+//! Changes that were asked for, each noted once.
+
+ghost use Rattle.std.specs.Prelude.{◌≡◌, [], OnOk};
+ghost use Rattle.tv_coerce.specs.Changes.{IsListed};
+
+use crate::change::Change;
+use std::alloc::{AllocError, Global};
+use tv_struct::Tuple;
+
+/// Changes that a rule asks for in a structure of `size` individuals. All are changes of one predicate to one
+/// value, or of summaries.
+#[derive(Debug, Drop)]
+pub(crate) struct Noted {
+    list: Vec<Change>,
+    /// Which places of the predicate stand in the list; no flags as long as that is empty.
+    seen: Vec<bool>,
+    alloc: Global,
+    size: u32,
+}
+
+/// The number of a change among those that a rule may ask for.
+fn number_of(change: Change, size: u32) -> usize {
+    match change {
+        Change::Ordinary(u) | Change::Value(_, Tuple::One(u), _) => u as usize,
+        Change::Value(_, Tuple::Zero, _) => 0,
+        Change::Value(_, Tuple::Two(u, w), _) => (u as usize)
+            .wrapping_mul(size as usize)
+            .wrapping_add(w as usize),
+    }
+}
+
+/// How many numbers changes like this one have.
+fn count_of(change: Change, size: u32) -> usize {
+    match change {
+        Change::Value(_, Tuple::Zero, _) => 1,
+        Change::Ordinary(_) | Change::Value(_, Tuple::One(_), _) => size as usize,
+        Change::Value(_, Tuple::Two(_, _), _) => (size as usize).wrapping_mul(size as usize),
+    }
+}
+
+impl Noted {
+    /// No changes, of a structure of that size.
+    pub fn new(alloc: Global, size: u32) -> Noted
+        ensures { result.list.items ≡ [] }
+    {
+        Noted {
+            list: Vec::new(alloc),
+            seen: Vec::new(alloc),
+            alloc,
+            size,
+        }
+    }
+
+    /// Notes the change, unless it is known to stand there.
+    pub fn add(&mut self, change: Change) -> Result<(), AllocError>
+        ensures { OnOk result (IsListed change self.old.list.items self.new.list.items) }
+    {
+        let number = number_of(change, self.size);
+        if !self.list.is_empty() && self.is_seen(number) {
+            return Ok(());
+        }
+        if self.seen.is_empty() {
+            self.seen = vec![in self.alloc; false; count_of(change, self.size)]?;
+        }
+        self.mark(number);
+        self.list.push(change)?;
+        Ok(())
+    }
+
+    fn is_seen(&self, number: usize) -> bool {
+        number < self.seen.len() && self.seen[number]
+    }
+
+    fn mark(&mut self, number: usize)
+        ensures { self.new.list ≡ self.old.list }
+    {
+        if number < self.seen.len() {
+            self.seen[number] = true;
+        }
+    }
+
+    /// The changes, in the order in which they were noted.
+    pub fn into_list(self) -> Vec<Change>
+        ensures { result ≡ self.list }
+    {
+        self.list
+    }
+}
