@@ -38,9 +38,9 @@ impl Assignment {
         ensures places { (w : ℕ) → place_of result w ≡ (if w == v.0 then Some u else place_of self w) }
         ensures total { assignment_of result ≡ put (assignment_of self) v.0 u }
     {
-        let mut places = self.places;
-        places[v.0 as usize] = Some(u);
-        Assignment { places }
+        let mut new = self;
+        new.set(v, u);
+        new
     }
 
     /// Puts the individual `u` for the variable `v`, whether or not it stood for one before, and changes

@@ -1,6 +1,6 @@
 //! The values of a formula without parts for all individuals that one variable may stand for.
 
-ghost use Rattle.std.specs.Prelude.{◌≡◌, ◌<◌, ◌≤◌, ◌↔◌, [], ◌∷◌, map, All, IsTrue, Some};
+ghost use Rattle.std.specs.Prelude.{◌≡◌, ◌<◌, ◌≤◌, ◌↔◌, [], ◌∷◌, map, replicate, All, IsTrue, Some};
 ghost use Rattle.std.specs.List.{range_with_len};
 ghost use Rattle.tv_kleene.specs.declared.K3.TheVariants.{No};
 ghost use Rattle.tv_model.specs.Form.{vars_of, FAtom, FExists, FIsNew, FSame};
@@ -18,13 +18,22 @@ use tv_model::{Formula, PredId, Terms, Var};
 use tv_row::Row;
 use tv_struct::{Structure, Tuple};
 
+/// The same value for all individuals.
+#[inline(never)]
+pub fn constant_row(s: &Structure, k: K3) -> Row
+    ensures { result ≡ replicate s.now.size k }
+{
+    Row::of(s.size(), k)
+}
+
 /// The predicate's values for all individuals, put for `v` in its terms.
+#[inline(never)]
 pub fn atom_row(pred: PredId, terms: &Terms, v: Var, s: &Structure, a: &Assignment) -> Row
     requires { CanEvaluate s.now a.now [] (FExists v.0 (FAtom pred.0 (vars_of terms.now))) }
     ensures { result ≡ values_along s.now (assignment_of a.now) v.0 (FAtom pred.0 (vars_of terms.now)) }
 {
     match terms {
-        Terms::Zero => Row::of(s.size(), s.get(pred, Tuple::Zero)),
+        Terms::Zero => constant_row(s, s.get(pred, Tuple::Zero)),
         Terms::One(x) => one_row(pred, *x, v, s, a),
         Terms::Two(x, y) => two_row(pred, *x, *y, v, s, a),
     }
@@ -37,7 +46,7 @@ fn one_row(pred: PredId, x: Var, v: Var, s: &Structure, a: &Assignment) -> Row
     if x.0 == v.0 {
         return s.unary_row(pred);
     }
-    Row::of(s.size(), s.get(pred, Tuple::One(a.at(x))))
+    constant_row(s, s.get(pred, Tuple::One(a.at(x))))
 }
 
 fn two_row(pred: PredId, x: Var, y: Var, v: Var, s: &Structure, a: &Assignment) -> Row
@@ -53,7 +62,7 @@ fn two_row(pred: PredId, x: Var, y: Var, v: Var, s: &Structure, a: &Assignment) 
     if y.0 == v.0 {
         return s.row(pred, a.at(x));
     }
-    Row::of(s.size(), s.get(pred, Tuple::Two(a.at(x), a.at(y))))
+    constant_row(s, s.get(pred, Tuple::Two(a.at(x), a.at(y))))
 }
 
 /// The binary predicate's values at the pairs of an individual with itself.
@@ -69,6 +78,7 @@ fn diagonal(pred: PredId, s: &Structure) -> Row
 }
 
 /// Whether `w` stands for the fresh individual, for all individuals put for `v`.
+#[inline(never)]
 pub fn new_row(w: Var, v: Var, s: &Structure, a: &Assignment) -> Row
     ensures { result ≡ values_along s.now (assignment_of a.now) v.0 (FIsNew w.0) }
 {
@@ -100,6 +110,7 @@ fn yes_at(size: u32, u: u32) -> Row
 }
 
 /// Whether `x` and `y` stand for one cell, for all individuals put for `v`.
+#[inline(never)]
 pub fn same_row(x: Var, y: Var, v: Var, s: &Structure, a: &Assignment) -> Row
     requires { CanEvaluate s.now a.now [] (FExists v.0 (FSame x.0 y.0)) }
     ensures { result ≡ values_along s.now (assignment_of a.now) v.0 (FSame x.0 y.0) }

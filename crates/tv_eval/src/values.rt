@@ -2,7 +2,7 @@
 
 ghost use Rattle.std.specs.Prelude.{ℕ, ◌≡◌, ◌≢◌, ◌<◌, ◌≤◌, ◌+◌, [], length, map, replicate, IfSome, IfNone};
 ghost use Rattle.std.specs.List.{range_with_len};
-ghost use Rattle.tv_model.specs.Form.{form_of, FAnd, FOr, FIff, FCond, FExists, FForall, FClosure, IsFree};
+ghost use Rattle.tv_model.specs.Form.{form_of, FNot, FAnd, FOr, FIff, FCond, FExists, FForall, FClosure, IsFree};
 ghost use Rattle.tv_model.specs.Truth.{put};
 ghost use Rattle.tv_row.specs.Places.{entry_in};
 ghost use Rattle.tv_struct.specs.StructureForm.{structure_of};
@@ -16,7 +16,7 @@ ghost use Rattle.tv_relation.specs.Rows.{IsPart, IsSquare, part_of};
 
 use crate::Assignment;
 use crate::kept::{Edges, Kept, has_outer};
-use crate::leaf_rows::{are_no, atom_row, columns, new_row, same_row};
+use crate::leaf_rows::{are_no, atom_row, columns, constant_row, new_row, same_row};
 use crate::leaves::{atom, is_new, same};
 use tv_kleene::K3;
 use tv_model::{Formula, Var};
@@ -26,6 +26,8 @@ use tv_struct::Structure;
 
 /// The value of the formula in the structure. The rooms are for closures: the first for one that
 /// stands in no other, the next for one inside it, and so on.
+///
+/// What has rows of its own isn't inlined here, nor in `row_of`: their room would be cleared at each call.
 #[cycle(values)]
 pub fn value_of<'f>(
     f: &'f Formula,
@@ -52,8 +54,8 @@ pub fn value_of<'f>(
         Formula::Or(g, h) => either(g, h, s, a, rooms, kept, shared),
         Formula::Iff(g, h) => alike(g, h, s, a, rooms, kept, shared),
         Formula::Cond(c, g, h) => choice(c, g, h, s, a, rooms, kept, shared),
-        Formula::Exists(v, g) => row_of(g, *v, s, a, rooms, kept, shared).greatest(),
-        Formula::Forall(v, g) => row_of(g, *v, s, a, rooms, kept, shared).least(),
+        Formula::Exists(v, g) => some(*v, g, s, a, rooms, kept, shared),
+        Formula::Forall(v, g) => every(*v, g, s, a, rooms, kept, shared),
         Formula::Closure {
             from,
             to,
@@ -168,8 +170,51 @@ fn choice<'f>(
     }
 }
 
+/// The greatest value of the body over all individuals, put for `v`.
+#[cycle(values)]
+#[inline(never)]
+fn some<'f>(
+    v: Var,
+    body: &'f Formula,
+    s: &Structure,
+    a: &Assignment,
+    rooms: &mut [Relation],
+    kept: &mut Kept<'f>,
+    shared: &mut [Relation],
+) -> K3
+    requires parts { CanEvaluate s.now a.now (sizes_of rooms.old) (FExists v.0 (form_of body.now)) }
+    requires kept { Keeps s.now kept.old shared.old }
+    ensures exact { result ≡ value (structure_of s.now) (assignment_of a.now) (FExists v.0 (form_of body.now)) }
+    ensures rooms { sizes_of rooms.new ≡ sizes_of rooms.old }
+    ensures kept { Keeps s.now kept.new shared.new }
+{
+    row_of(body, v, s, a, rooms, kept, shared).greatest()
+}
+
+/// The least value of the body over all individuals, put for `v`.
+#[cycle(values)]
+#[inline(never)]
+fn every<'f>(
+    v: Var,
+    body: &'f Formula,
+    s: &Structure,
+    a: &Assignment,
+    rooms: &mut [Relation],
+    kept: &mut Kept<'f>,
+    shared: &mut [Relation],
+) -> K3
+    requires parts { CanEvaluate s.now a.now (sizes_of rooms.old) (FForall v.0 (form_of body.now)) }
+    requires kept { Keeps s.now kept.old shared.old }
+    ensures exact { result ≡ value (structure_of s.now) (assignment_of a.now) (FForall v.0 (form_of body.now)) }
+    ensures rooms { sizes_of rooms.new ≡ sizes_of rooms.old }
+    ensures kept { Keeps s.now kept.new shared.new }
+{
+    row_of(body, v, s, a, rooms, kept, shared).least()
+}
+
 /// The value of a transitive closure.
 #[cycle(values)]
+#[inline(never)]
 fn closure<'f>(
     from: Var,
     to: Var,
@@ -248,6 +293,7 @@ fn kept_part(
 
 /// A part of the closed edges: all edges are evaluated once, and closed in the first room.
 #[cycle(values)]
+#[inline(never)]
 fn close_part<'f>(
     part: Part,
     edges: Edges<'f>,
@@ -329,12 +375,12 @@ pub fn row_of<'f>(
     ensures kept { Keeps s.now kept.new shared.new }
 {
     match f {
-        Formula::Zero => Row::of(s.size(), K3::No),
-        Formula::One => Row::of(s.size(), K3::Yes),
+        Formula::Zero => constant_row(s, K3::No),
+        Formula::One => constant_row(s, K3::Yes),
         Formula::Atom(pred, terms) => atom_row(*pred, terms, v, s, a),
         Formula::IsNew(w) => new_row(*w, v, s, a),
         Formula::Same(x, y) => same_row(*x, *y, v, s, a),
-        Formula::Not(g) => row_of(g, v, s, a, rooms, kept, shared).not(),
+        Formula::Not(g) => rows_not(g, v, s, a, rooms, kept, shared),
         Formula::And(g, h) => rows_both(g, h, v, s, a, rooms, kept, shared),
         Formula::Or(g, h) => rows_either(g, h, v, s, a, rooms, kept, shared),
         Formula::Iff(g, h) => rows_alike(g, h, v, s, a, rooms, kept, shared),
@@ -379,6 +425,7 @@ pub fn row_of<'f>(
 
 /// The values of the formula for all individuals, put for `v`, one after the other.
 #[cycle(values)]
+#[inline(never)]
 fn by_values<'f>(
     f: &'f Formula,
     v: Var,
@@ -404,6 +451,27 @@ fn by_values<'f>(
 }
 
 #[cycle(values)]
+#[inline(never)]
+fn rows_not<'f>(
+    g: &'f Formula,
+    v: Var,
+    s: &Structure,
+    a: &Assignment,
+    rooms: &mut [Relation],
+    kept: &mut Kept<'f>,
+    shared: &mut [Relation],
+) -> Row
+    requires parts { CanEvaluate s.now a.now (sizes_of rooms.old) (FExists v.0 (FNot (form_of g.now))) }
+    requires kept { Keeps s.now kept.old shared.old }
+    ensures exact { result ≡ values_along s.now (assignment_of a.now) v.0 (FNot (form_of g.now)) }
+    ensures rooms { sizes_of rooms.new ≡ sizes_of rooms.old }
+    ensures kept { Keeps s.now kept.new shared.new }
+{
+    row_of(g, v, s, a, rooms, kept, shared).not()
+}
+
+#[cycle(values)]
+#[inline(never)]
 fn rows_both<'f>(
     g: &'f Formula,
     h: &'f Formula,
@@ -430,6 +498,7 @@ fn rows_both<'f>(
 }
 
 #[cycle(values)]
+#[inline(never)]
 fn rows_either<'f>(
     g: &'f Formula,
     h: &'f Formula,
@@ -456,6 +525,7 @@ fn rows_either<'f>(
 }
 
 #[cycle(values)]
+#[inline(never)]
 fn rows_alike<'f>(
     g: &'f Formula,
     h: &'f Formula,
@@ -481,6 +551,7 @@ fn rows_alike<'f>(
 }
 
 #[cycle(values)]
+#[inline(never)]
 fn rows_choice<'f>(
     c: &'f Formula,
     g: &'f Formula,
@@ -517,6 +588,7 @@ fn rows_choice<'f>(
 /// For each individual put for `v` the greatest value of the body over all individuals, put for `w`: the
 /// rows of all individuals joined by "or".
 #[cycle(values)]
+#[inline(never)]
 fn rows_greatest<'f>(
     w: Var,
     body: &'f Formula,
@@ -546,6 +618,7 @@ fn rows_greatest<'f>(
 
 /// For each individual put for `v` the least value of the body over all individuals, put for `w`.
 #[cycle(values)]
+#[inline(never)]
 fn rows_least<'f>(
     w: Var,
     body: &'f Formula,
@@ -575,6 +648,7 @@ fn rows_least<'f>(
 
 /// The values of a transitive closure whose edges don't depend on what `v` stands for.
 #[cycle(values)]
+#[inline(never)]
 fn closure_row<'f>(
     from: Var,
     to: Var,

@@ -16,7 +16,7 @@ returns-then-x-v c =
 
 pub returns : goal.returns
 returns c =
-    c.of.ensures ∙ (rw (c.size.ensures.size, c.get.ensures, c.at.ensures)
+    c.constant_row.ensures ∙ (rw (c.get.ensures, c.at.ensures)
     (copies-map c.args.s.now.size (value_at c.args.s.now c.args.pred.0 (assignment_of c.args.a.now c.args.x.0 ∷ []))
     (λ u. value_at c.args.s.now c.args.pred.0 (put (assignment_of c.args.a.now) c.args.v.0 u c.args.x.0 ∷ []))
     (λ u. atom_other c.args.s.now (assignment_of c.args.a.now) c.args.pred.0 c.args.x.0 c.args.v.0 u c.if-x-v.false)))

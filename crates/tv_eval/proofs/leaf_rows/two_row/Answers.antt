@@ -7,8 +7,8 @@ use Rattle.tv_eval.proofs.leaf_rows.two_row.Goals as goal
 
 pub returns : goal.returns
 returns c =
-    c.of.ensures
-    ∙ (rw (c.size.ensures.size, c.get.ensures, c.at-2.ensures, c.at-3.ensures)
+    c.constant_row.ensures
+    ∙ (rw (c.get.ensures, c.at-2.ensures, c.at-3.ensures)
     (copies-map c.args.s.now.size
     (value_at c.args.s.now c.args.pred.0
     (assignment_of c.args.a.now c.args.x.0 ∷ assignment_of c.args.a.now c.args.y.0 ∷ []))

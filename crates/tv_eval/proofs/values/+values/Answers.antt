@@ -27,15 +27,19 @@ use Rattle.tv_eval.proofs.values.+values.Goals as goal
 
 pub value_of-returns-in-Exists-clause-exact : goal.value_of-returns-in-Exists-clause-exact
 value_of-returns-in-Exists-clause-exact t c =
-    rw (c.in-Exists.is, ← c.deref-in-Exists.ensures)
-    (c.greatest.ensures ∙ ap greatest_in c.row_of.ensures.exact ∙ greatest-map _
-    (range_with_len 0 c.args.s.now.size))
+    rw (c.in-Exists.is, ← c.deref-in-Exists.ensures) c.some.ensures.exact
+
+pub some-returns-clause-exact : goal.some-returns-clause-exact
+some-returns-clause-exact t c =
+    c.greatest.ensures ∙ ap greatest_in c.row_of.ensures.exact ∙ greatest-map _ (range_with_len 0 c.args.s.now.size)
 
 pub value_of-returns-in-Forall-clause-exact : goal.value_of-returns-in-Forall-clause-exact
 value_of-returns-in-Forall-clause-exact t c =
-    rw (c.in-Forall.is, ← c.deref-in-Forall.ensures)
-    (c.least.ensures ∙ ap least_in c.row_of-in-Forall.ensures.exact ∙ least-map _
-    (range_with_len 0 c.args.s.now.size))
+    rw (c.in-Forall.is, ← c.deref-in-Forall.ensures) c.every.ensures.exact
+
+pub every-returns-clause-exact : goal.every-returns-clause-exact
+every-returns-clause-exact t c =
+    c.least.ensures ∙ ap least_in c.row_of.ensures.exact ∙ least-map _ (range_with_len 0 c.args.s.now.size)
 
 pub value_of-returns-in-Closure-clause-exact : goal.value_of-returns-in-Closure-clause-exact
 value_of-returns-in-Closure-clause-exact t c =
@@ -162,19 +166,33 @@ fill-loop-u-preserved t c =
 
 pub row_of-returns-in-Zero-clause-exact : goal.row_of-returns-in-Zero-clause-exact
 row_of-returns-in-Zero-clause-exact t c =
-    rw (c.in-Zero.is) (c.of.ensures ∙ (rw c.size.ensures.size
-    (copies-map c.args.s.now.size No (λ u. No) (λ u. refl))))
+    rw (c.in-Zero.is) (c.constant_row.ensures ∙ copies-map c.args.s.now.size No (λ u. No) (λ u. refl))
 
 pub row_of-returns-in-One-clause-exact : goal.row_of-returns-in-One-clause-exact
 row_of-returns-in-One-clause-exact t c =
-    rw (c.in-One.is) (c.of-in-One.ensures ∙ (rw c.size-in-One.ensures.size
-    (copies-map c.args.s.now.size Yes (λ u. Yes) (λ u. refl))))
+    rw (c.in-One.is) (c.constant_row-in-One.ensures ∙ copies-map c.args.s.now.size Yes (λ u. Yes) (λ u. refl))
 
 pub row_of-returns-in-Not-clause-exact : goal.row_of-returns-in-Not-clause-exact
 row_of-returns-in-Not-clause-exact t c =
-    rw (c.in-Not.is, ← c.deref.ensures)
-    (c.not.ensures ∙ ap (map negation_of) c.row_of.ensures.exact ∙ mapped-map negation_of _
-    (range_with_len 0 c.args.s.now.size))
+    rw (c.in-Not.is, ← c.deref.ensures) c.rows_not.ensures.exact
+
+pub rows_not-row_of-requires : goal.rows_not-row_of-requires
+rows_not-row_of-requires t c = (
+  search rules,
+  (
+    record {
+      formula = c.requires.parts.formula;
+      assigned = c.requires.parts.assigned;
+      rooms = c.requires.parts.rooms;
+    },
+    c.requires.kept,
+  ),
+)
+
+pub rows_not-returns-clause-exact : goal.rows_not-returns-clause-exact
+rows_not-returns-clause-exact t c =
+    c.not.ensures ∙ ap (map negation_of) c.row_of.ensures.exact ∙ mapped-map negation_of _
+    (range_with_len 0 c.args.s.now.size)
 
 pub by_values-loop-u-init : goal.by_values-loop-u-init
 by_values-loop-u-init t c = (

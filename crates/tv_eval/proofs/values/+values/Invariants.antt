@@ -31,6 +31,15 @@ abbrev pub decreases-choice : goal.decreases-choice
 decreases-choice l =
     8 * max (height (form_of l.c.now)) (max (height (form_of l.g.now)) (height (form_of l.h.now))) + 7
 
+abbrev pub decreases-some : goal.decreases-some
+decreases-some l = 8 * height (form_of l.body.now) + 7
+
+abbrev pub decreases-every : goal.decreases-every
+decreases-every l = 8 * height (form_of l.body.now) + 7
+
+abbrev pub decreases-rows_not : goal.decreases-rows_not
+decreases-rows_not l = 8 * height (form_of l.g.now) + 7
+
 abbrev pub decreases-closure : goal.decreases-closure
 decreases-closure l = 8 * height (form_of l.edges.body.now) + 7
 
