@@ -15,14 +15,14 @@ use Rattle.tv_model.specs.Valid.{IsValid, IsVariable, IsFormulaOver, IsPred, IsK
 use Rattle.tv_model.proofs.Decided.{IsDecided}
 use Rattle.tv_model.proofs.Lists.{slice_get-contains, Contains-map}
 use Rattle.tv_difference.specs.Simple.{is_small, simple_not, simple_cond}
-use Rattle.tv_difference.specs.Putting.{Reserved, argument_for, put_in, variables, own_variables}
-use Rattle.tv_difference.specs.Deltas.{Delta, delta_by, unchanged, is_flagged, delta_of, delta_of_defined, delta_by_change, delta_by_update, delta_by_kind, atom_delta}
+use Rattle.tv_difference.specs.Putting.{Reserved, argument_for, variables, own_variables}
+use Rattle.tv_difference.specs.Deltas.{Delta, delta_by, unchanged, is_flagged, delta_of, delta_of_defined, delta_by_change, delta_by_update, delta_by_kind, atom_delta, small_put}
 use Rattle.tv_difference.specs.Differences.{AreAffected, Answer, DKeep, DEvaluate, DTo, update_by, or_evaluate, formed, answer_for}
 use Rattle.tv_difference.specs.Laws.{UpdatesTellTheTruth, KeptPredicatesStay}
 use Rattle.tv_difference.proofs.Options.{if-bound, if-then}
 use Rattle.tv_difference.proofs.Assigned.{put-all_arguments, put-all_outside, put-all_reads, argument-in}
 use Rattle.tv_difference.proofs.OwnVariables.{Owns, own-fit}
-use Rattle.tv_difference.proofs.PutTruths.{AvoidsPicks, Keeps, put-keeps}
+use Rattle.tv_difference.proofs.PutTruths.{AvoidsPicks, Keeps, small-put_keeps}
 use Rattle.tv_difference.proofs.DeltaTruths.{Change, Suits, IsDelta, TellsAt, delta-tells, if-small, unchanged-tells}
 use Rattle.tv_difference.proofs.FormulaTruths.{TellsAtoms, delta-of_tells}
 use Rattle.tv_difference.proofs.StepTruths.{StillStep, same-individuals, tuple-old, by-definition, unflagged-stays, untouched-alike, change_by, still-change, arguments-fit, arity-of_atom, set-tells}
@@ -115,13 +115,13 @@ pub definition-tells : (p : ProgramForm) (action : ActionForm) (picked : Assignm
     → slice_get p.preds q ≡ Some d → d.kind ≡ KDefined vars body → IsFormulaOver (program_arities p) (FAtom q args)
     → (r : Reserved) → r.picks ≡ action.picks → (atoms : ℕ → List ℕ → Option Delta)
     → TellsAtoms (change_by action picked old new) (program_arities p) affected atoms
-    → IfSome (option_and_then (delta_of atoms affected) (put_in r body (zip vars args)))
+    → IfSome (option_and_then (delta_of atoms affected) (small_put r body (zip vars args)))
     (λ e. IsDelta (change_by action picked old new) (FAtom q args) (delta_by (FAtom q args) e.up e.down))
 definition-tells p action picked old new affected is q d vars body args found defined fits r same_picks atoms tells =
     let s : Change = change_by action picked old new
     in let P : Delta → Type 0 = λ e. IsDelta s (FAtom q args) (delta_by (FAtom q args) e.up e.down)
-    in if-bound (Keeps r body (zip vars args)) P (delta_of atoms affected) (put_in r body (zip vars args))
-    (put-keeps r body (zip vars args))
+    in if-bound (Keeps r body (zip vars args)) P (delta_of atoms affected) (small_put r body (zip vars args))
+    (small-put_keeps r body (zip vars args))
     (λ g k. let Avoids : List ℕ → Type 0 = λ picks. AvoidsPicks picks g
     in if-then (IsDelta s g) P (delta_of atoms affected g)
     (delta-of_tells s (program_arities p) affected atoms tells g
@@ -154,7 +154,7 @@ by-kind_tells p action picked old new affected is r same_picks inner tells q arg
     let s : Change = change_by action picked old new
     in let P : Delta → Type 0 = λ e. IsDelta s (FAtom q args) (delta_by (FAtom q args) e.up e.down)
     in if-bound P (IsDelta s (FAtom q args)) (delta_of_defined (FAtom q args))
-    (option_and_then (delta_of inner affected) (put_in r body (zip vars args)))
+    (option_and_then (delta_of inner affected) (small_put r body (zip vars args)))
     (definition-tells p action picked old new affected is q d vars body args found kind fits r same_picks inner tells)
     (λ e at. if-small (IsDelta s (FAtom q args)) (delta_by (FAtom q args) e.up e.down) at)
 
@@ -277,7 +277,7 @@ formed-tells p action picked old new affected is marked q d vars body found defi
     let r : Reserved = record { picks = action.picks; own = own }
     in option_and_then (λ e. Some (update_by q own e))
     (option_and_then (delta_of (atom_delta (length p.preds) p action r affected) affected)
-    (put_in r body (zip vars own)))
+    (small_put r body (zip vars own)))
     in or-evaluate_tells picked old new tuple vars body (option_and_then inner (own_variables action.picks used vars))
     (if-bound (Owns action.picks used vars) Q inner (own_variables action.picks used vars)
     (own-fit action.picks used vars
@@ -289,7 +289,7 @@ formed-tells p action picked old new affected is marked q d vars body found defi
     by_own : (own used : List ℕ) → Owns action.picks used vars own
         → IfSome (option_and_then (λ e. Some (update_by q own e))
         (option_and_then (delta_of (atom_delta (length p.preds) p action (record { picks = action.picks; own = own }) affected)
-        affected) (put_in (record { picks = action.picks; own = own }) body (zip vars own))))
+        affected) (small_put (record { picks = action.picks; own = own }) body (zip vars own))))
         (AnswerTells picked old new tuple vars body)
     by_own own used owns =
         let r : Reserved = record { picks = action.picks; own = own }
@@ -297,7 +297,7 @@ formed-tells p action picked old new affected is marked q d vars body found defi
         in let P : Delta → Type 0
         = λ e. IsDelta (change_by action picked old new) (FAtom q own) (delta_by (FAtom q own) e.up e.down)
         in if-bound P (AnswerTells picked old new tuple vars body) (λ e. Some (update_by q own e))
-        (option_and_then (delta_of atoms affected) (put_in r body (zip vars own)))
+        (option_and_then (delta_of atoms affected) (small_put r body (zip vars own)))
         (definition-tells p action picked old new affected is q d vars body own found defined
         (own-fits p is.valid q d vars body found defined action.picks used own owns) r refl atoms
         (atoms-tell p action picked old new affected is marked r refl (length p.preds)))
@@ -385,7 +385,7 @@ formed-by Q evaluates updates p action affected q vars body =
     let used : List ℕ = action.picks ++ (vars ++ variables body)
     in let opened : List ℕ → Option Delta = λ own.
     let r : Reserved = record { picks = action.picks; own = own }
-    in option_and_then (delta_of (atom_delta (length p.preds) p action r affected) affected) (put_in r body (zip vars own))
+    in option_and_then (delta_of (atom_delta (length p.preds) p action r affected) affected) (small_put r body (zip vars own))
     in let inner : List ℕ → Option Answer = λ own. option_and_then (λ e. Some (update_by q own e)) (opened own)
     in or-evaluate_by Q evaluates (option_and_then inner (own_variables action.picks used vars))
     (if-bound (λ own. Unit {0}) Q inner (own_variables action.picks used vars)

@@ -1,7 +1,7 @@
 -- What the formula with arguments put in keeps of the plain one: truth, its free variables, its shape.
-use Rattle.std.proofs.Common.{ℕ, ◌≡◌, ◌≢◌, ◌⊎◌, ◌↔◌, ◌∙◌, List, [], ◌∷◌, map, Some, inl, inr, ⊎_elim, refl, sym, ap, subst, Contains}
+use Rattle.std.proofs.Common.{ℕ, ◌≡◌, ◌≢◌, ◌⊎◌, ◌↔◌, ◌∙◌, ◌+◌, arith, List, [], ◌∷◌, map, None, Some, inl, inr, ⊎_elim, refl, sym, ap, subst, Contains}
 use Rattle.std.specs.Prelude.{IfSome, option_map, option_and_then}
-use Rattle.std.proofs.lemmas.Bool.{cases_eq}
+use Rattle.std.proofs.lemmas.Bool.{cases_eq, cond_both}
 use Rattle.std.proofs.lemmas.List.{length-map}
 use Rattle.tv_model.specs.Form.{Form, FZero, FOne, FAtom, FIsNew, FSame, FNot, FAnd, FOr, FIff, FCond, FExists, FForall, FClosure, IsFree}
 use Rattle.tv_model.specs.Heap.{Heap, Holds}
@@ -10,7 +10,9 @@ use Rattle.tv_model.specs.Valid.{IsVariable, IsFormulaOver, NamesNew}
 use Rattle.tv_model.proofs.Assignments.{put-same, put-other, All-values}
 use Rattle.tv_model.proofs.Lists.{Contains-here, Contains-map_back, map-compose, map-agreed}
 use Rattle.tv_difference.specs.Laws.{PuttingInKeepsTruth}
-use Rattle.tv_difference.specs.Putting.{Arguments, argument_for, arguments_of, without_argument, variables, Reserved, bound_number, under_bound, put_in, option_both}
+use Rattle.tv_difference.specs.Putting.{Arguments, argument_for, variables, Reserved, bound_number, under_bound, with_own, put_in, option_both}
+use Rattle.tv_difference.specs.Simple.{is_small, nodes}
+use Rattle.tv_difference.specs.Deltas.{small_put}
 use Rattle.tv_difference.proofs.Options.{if-mapped, if-bound, if-both, if-some}
 use Rattle.tv_difference.proofs.Puttings.{Serves, bound-serves, under-same, under-other}
 
@@ -46,6 +48,7 @@ pub record Keeps (r : Reserved) (f : Form) (m : Arguments) (g : Form) : Type 0 w
   pub fits : (arities : List ℕ) → IsFormulaOver arities f → ((w : ℕ) → IsFree w f → IsVariable (argument_for m w))
       → IsFormulaOver arities g
   pub avoids : AvoidsPicks r.picks g
+  pub size : nodes g ≡ nodes f
 
 -- ---- two parts
 
@@ -71,36 +74,36 @@ two-fit f g x y m arities one two is vars = (one is.0 (λ w t. vars w (inl t)), 
 under-agrees : (f : Form) (v w : ℕ) (m : Arguments) (a b : Assignment) (u : ℕ)
     → ((x : ℕ) → IsFree x f → x ≢ v → argument_for m x ≢ w)
     → ((x : ℕ) → IsFree x f → x ≢ v → b x ≡ a (argument_for m x))
-    → Agrees f (under_bound m v w) (put a w u) (put b v u)
+    → Agrees f (under_bound m v w f) (put a w u) (put b v u)
 under-agrees f v w m a b u apart agrees x free =
     ⊎_elim
-    (λ e. put-same b v u x e ∙ sym (put-same a w u (argument_for (under_bound m v w) x) (under-same m v w x e)))
+    (λ e. put-same b v u x e ∙ sym (put-same a w u (argument_for (under_bound m v w f) x) (under-same m v w f x e)))
     (λ ne. put-other b v u x ne ∙ agrees x free ne ∙ sym (put-other a w u (argument_for m x) (apart x free ne))
-    ∙ ap (λ y. put a w u y) (sym (under-other m v w x ne)))
+    ∙ ap (λ y. put a w u y) (sym (under-other m v w f x free ne)))
     (cases_eq x v)
 
-binder-free : (f g : Form) (v w : ℕ) (m : Arguments) → FreeBack f (under_bound m v w) g → (x : ℕ)
+binder-free : (f g : Form) (v w : ℕ) (m : Arguments) → FreeBack f (under_bound m v w f) g → (x : ℕ)
     → (x ≢ w) × IsFree x g → (y : ℕ) × ((y ≢ v) × IsFree y f) × (argument_for m y ≡ x)
 binder-free f g v w m back x free = go (back x free.1)
   where
-    go : (y : ℕ) × IsFree y f × (argument_for (under_bound m v w) y ≡ x)
+    go : (y : ℕ) × IsFree y f × (argument_for (under_bound m v w f) y ≡ x)
         → (y : ℕ) × ((y ≢ v) × IsFree y f) × (argument_for m y ≡ x)
     go t =
-        ⊎_elim (λ e. absurd (free.0 (sym t.2 ∙ under-same m v w t.0 e)))
-        (λ ne. (t.0, (ne, t.1), sym (under-other m v w t.0 ne) ∙ t.2))
+        ⊎_elim (λ e. absurd (free.0 (sym t.2 ∙ under-same m v w f t.0 e)))
+        (λ ne. (t.0, (ne, t.1), sym (under-other m v w f t.0 t.1 ne) ∙ t.2))
         (cases_eq t.0 v)
 
 under-variable : (f : Form) (v w : ℕ) (m : Arguments) → IsVariable w
     → ((x : ℕ) → x ≢ v → IsFree x f → IsVariable (argument_for m x))
-    → (x : ℕ) → IsFree x f → IsVariable (argument_for (under_bound m v w) x)
+    → (x : ℕ) → IsFree x f → IsVariable (argument_for (under_bound m v w f) x)
 under-variable f v w m new old x free =
-    ⊎_elim (λ e. subst IsVariable (sym (under-same m v w x e)) new)
-    (λ ne. subst IsVariable (sym (under-other m v w x ne)) (old x ne free))
+    ⊎_elim (λ e. subst IsVariable (sym (under-same m v w f x e)) new)
+    (λ ne. subst IsVariable (sym (under-other m v w f x free ne)) (old x ne free))
     (cases_eq x v)
 
 -- the numbers of the two bound variables of a closure differ
 bound-differ : (r : Reserved) (m : Arguments) (left right : ℕ) (f : Form) (l k : ℕ) → left ≢ right
-    → Serves r m left (FExists right f) l → Serves r (under_bound m left l) right f k → l ≢ k
+    → Serves r m left (FExists right f) l → Serves (with_own r l) (under_bound m left l (FExists right f)) right f k → l ≢ k
 bound-differ r m left right f l k differ one two e =
     ⊎_elim
     (λ kept. ⊎_elim
@@ -108,8 +111,8 @@ bound-differ r m left right f l k differ one two e =
     (λ new. let At : ℕ → Type 0 = λ x. Contains (right ∷ variables f) x
     in new.1 (subst At (sym (e ∙ kept)) (Contains-here right (variables f))))
     one.kept_or_new)
-    (λ new. let At : ℕ → Type 0 = λ x. Contains (l ∷ arguments_of (without_argument left m)) x
-    in new.0 (subst At e (Contains-here l (arguments_of (without_argument left m)))))
+    (λ new. let At : ℕ → Type 0 = λ x. Contains (l ∷ r.own) x
+    in new.0 (subst At e (Contains-here l r.own)))
     two.kept_or_new
 
 -- ---- walks
@@ -130,7 +133,7 @@ walks-same R S along u v x y begin end t =
 -- ---- formulas
 
 quantified : (r : Reserved) (f : Form) (m : Arguments) (v w : ℕ) (g : Form) → Serves r m v f w
-    → Keeps r f (under_bound m v w) g → (h : Heap) (a b : Assignment)
+    → Keeps r f (under_bound m v w f) g → (h : Heap) (a b : Assignment)
     → ((x : ℕ) → (x ≢ v) × IsFree x f → b x ≡ a (argument_for m x))
     → (u : ℕ) → Truth h (put a w u) g ↔ Truth h (put b v u) f
 quantified r f m v w g s k h a b agrees u =
@@ -139,8 +142,8 @@ quantified r f m v w g s k h a b agrees u =
 
 -- what is put for the variables of a closure
 closed : (r : Reserved) (f : Form) (m : Arguments) (from to left right l k : ℕ) (g : Form)
-    → Serves r m left (FExists right f) l → Serves r (under_bound m left l) right f k
-    → Keeps r f (under_bound (under_bound m left l) right k) g
+    → Serves r m left (FExists right f) l → Serves (with_own r l) (under_bound m left l (FExists right f)) right f k
+    → Keeps r f (under_bound (under_bound m left l (FExists right f)) right k f) g
     → Keeps r (FClosure from to left right f) m (FClosure (argument_for m from) (argument_for m to) l k g)
 closed r f m from to left right l k g one two is = record {
   truth = λ h a b agrees.
@@ -148,7 +151,7 @@ closed r f m from to left right l k g one two is = record {
       in let S : ℕ → ℕ → Type 0 = ClosureEdge h b left right f
       in let each : (u w : ℕ) → Truth h (put (put a l u) k w) g ↔ Truth h (put (put b left u) right w) f
       = λ u w. is.truth h (put (put a l u) k w) (put (put b left u) right w)
-      (under-agrees f right k (under_bound m left l) (put a l u) (put b left u) w two.captures_none
+      (under-agrees f right k (under_bound m left l (FExists right f)) (put a l u) (put b left u) w two.captures_none
       (λ x free ne. under-agrees (FExists right f) left l m a b u one.captures_none
       (λ y its other. agrees y (inr (inr (other, its.0, its.1)))) x (ne, free)))
       in let begin : b from ≡ a (argument_for m from) = agrees from (inl refl)
@@ -170,18 +173,19 @@ closed r f m from to left right l k g one two is = record {
         two.variable fit.3,
         bound-differ r m left right f l k fit.4 one two,
         is.fits arities fit.5
-            (under-variable f right k (under_bound m left l) (two.variable fit.3)
+            (under-variable f right k (under_bound m left l (FExists right f)) (two.variable fit.3)
             (λ x ne free. under-variable (FExists right f) left l m l_variable
             (λ y other its. vars y (inr (inr (other, its.0, its.1)))) x (ne, free))),
       );
   avoids = tt;
+  size = ap (λ n. n + 1) is.size;
 }
   where
     inner : (x : ℕ) → (x ≢ l) × ((x ≢ k) × IsFree x g)
         → (y : ℕ) × ((y ≢ left) × ((y ≢ right) × IsFree y f)) × (argument_for m y ≡ x)
     inner x free =
         binder-free (FExists right f) (FExists k g) left l m
-        (λ z its. binder-free f g right k (under_bound m left l) is.free z its) x free
+        (λ z its. binder-free f g right k (under_bound m left l (FExists right f)) is.free z its) x free
 
     free_back : FreeBack (FClosure from to left right f) m (FClosure (argument_for m from) (argument_for m to) l k g)
     free_back x (inl e) = (from, inl refl, sym e)
@@ -199,6 +203,7 @@ put-keeps r FZero m = record {
   marks = λ t. t;
   fits = λ arities is vars. tt;
   avoids = tt;
+  size = refl;
 }
 put-keeps r FOne m = record {
   truth = λ h a b agrees. (λ t. t, λ t. t);
@@ -206,6 +211,7 @@ put-keeps r FOne m = record {
   marks = λ t. t;
   fits = λ arities is vars. tt;
   avoids = tt;
+  size = refl;
 }
 put-keeps r (FAtom q vars) m = record {
   truth = λ h a b agrees.
@@ -219,6 +225,7 @@ put-keeps r (FAtom q vars) m = record {
     All-values IsVariable (argument_for m) vars all,
   );
   avoids = tt;
+  size = refl;
 }
 put-keeps r (FIsNew v) m = record {
   truth = λ h a b agrees.
@@ -228,6 +235,7 @@ put-keeps r (FIsNew v) m = record {
   marks = λ t. tt;
   fits = λ arities is vars. vars v refl;
   avoids = tt;
+  size = refl;
 }
 put-keeps r (FSame v w) m = record {
   truth = λ h a b agrees.
@@ -238,6 +246,7 @@ put-keeps r (FSame v w) m = record {
   marks = λ t. t;
   fits = λ arities is vars. (vars v (inl refl), vars w (inr refl));
   avoids = tt;
+  size = refl;
 }
 put-keeps r (FNot f) m =
     if-mapped (Keeps r f m) (Keeps r (FNot f) m) (λ g. FNot g) (put_in r f m) (put-keeps r f m)
@@ -247,6 +256,7 @@ put-keeps r (FNot f) m =
       marks = k.marks;
       fits = k.fits;
       avoids = k.avoids;
+      size = ap (λ n. n + 1) k.size;
     })
 put-keeps r (FAnd f g) m =
     if-both (Keeps r f m) (Keeps r g m) (Keeps r (FAnd f g) m) (λ x y. FAnd x y) (put_in r f m) (put_in r g m)
@@ -260,6 +270,7 @@ put-keeps r (FAnd f g) m =
       marks = two-marks (NamesNew x) (NamesNew y) (NamesNew f) (NamesNew g) k.marks l.marks;
       fits = λ arities. two-fit f g x y m arities (k.fits arities) (l.fits arities);
       avoids = (k.avoids, l.avoids);
+      size = omega (arith, k.size, l.size);
     })
 put-keeps r (FOr f g) m =
     if-both (Keeps r f m) (Keeps r g m) (Keeps r (FOr f g) m) (λ x y. FOr x y) (put_in r f m) (put_in r g m)
@@ -276,6 +287,7 @@ put-keeps r (FOr f g) m =
       marks = two-marks (NamesNew x) (NamesNew y) (NamesNew f) (NamesNew g) k.marks l.marks;
       fits = λ arities. two-fit f g x y m arities (k.fits arities) (l.fits arities);
       avoids = (k.avoids, l.avoids);
+      size = omega (arith, k.size, l.size);
     })
 put-keeps r (FIff f g) m =
     if-both (Keeps r f m) (Keeps r g m) (Keeps r (FIff f g) m) (λ x y. FIff x y) (put_in r f m) (put_in r g m)
@@ -292,6 +304,7 @@ put-keeps r (FIff f g) m =
       marks = two-marks (NamesNew x) (NamesNew y) (NamesNew f) (NamesNew g) k.marks l.marks;
       fits = λ arities. two-fit f g x y m arities (k.fits arities) (l.fits arities);
       avoids = (k.avoids, l.avoids);
+      size = omega (arith, k.size, l.size);
     })
 put-keeps r (FCond c f g) m =
     if-bound (Keeps r c m) (Keeps r (FCond c f g) m)
@@ -321,12 +334,13 @@ put-keeps r (FCond c f g) m =
         l.fits arities is.2 (λ w t. vars w (inr (inr t))),
       );
       avoids = (j.avoids, k.avoids, l.avoids);
+      size = omega (arith, j.size, k.size, l.size);
     }))
 put-keeps r (FExists v f) m =
     if-bound (Serves r m v f) (Keeps r (FExists v f) m)
-    (λ w. option_map (λ g. FExists w g) (put_in r f (under_bound m v w))) (bound_number r m v f) (bound-serves r m v f)
-    (λ w s. if-mapped (Keeps r f (under_bound m v w)) (Keeps r (FExists v f) m) (λ g. FExists w g)
-    (put_in r f (under_bound m v w)) (put-keeps r f (under_bound m v w))
+    (λ w. option_map (λ g. FExists w g) (put_in r f (under_bound m v w f))) (bound_number r m v f) (bound-serves r m v f)
+    (λ w s. if-mapped (Keeps r f (under_bound m v w f)) (Keeps r (FExists v f) m) (λ g. FExists w g)
+    (put_in r f (under_bound m v w f)) (put-keeps r f (under_bound m v w f))
     (λ g k. record {
       truth = λ h a b agrees.
           let each : (u : ℕ) → Truth h (put a w u) g ↔ Truth h (put b v u) f = quantified r f m v w g s k h a b agrees
@@ -338,12 +352,13 @@ put-keeps r (FExists v f) m =
         k.fits arities is.1 (under-variable f v w m (s.variable is.0) (λ x ne free. vars x (ne, free))),
       );
       avoids = (s.not_picked, k.avoids);
+      size = ap (λ n. n + 1) k.size;
     }))
 put-keeps r (FForall v f) m =
     if-bound (Serves r m v f) (Keeps r (FForall v f) m)
-    (λ w. option_map (λ g. FForall w g) (put_in r f (under_bound m v w))) (bound_number r m v f) (bound-serves r m v f)
-    (λ w s. if-mapped (Keeps r f (under_bound m v w)) (Keeps r (FForall v f) m) (λ g. FForall w g)
-    (put_in r f (under_bound m v w)) (put-keeps r f (under_bound m v w))
+    (λ w. option_map (λ g. FForall w g) (put_in r f (under_bound m v w f))) (bound_number r m v f) (bound-serves r m v f)
+    (λ w s. if-mapped (Keeps r f (under_bound m v w f)) (Keeps r (FForall v f) m) (λ g. FForall w g)
+    (put_in r f (under_bound m v w f)) (put-keeps r f (under_bound m v w f))
     (λ g k. record {
       truth = λ h a b agrees.
           let each : (u : ℕ) → Truth h (put a w u) g ↔ Truth h (put b v u) f = quantified r f m v w g s k h a b agrees
@@ -355,22 +370,27 @@ put-keeps r (FForall v f) m =
         k.fits arities is.1 (under-variable f v w m (s.variable is.0) (λ x ne free. vars x (ne, free))),
       );
       avoids = (s.not_picked, k.avoids);
+      size = ap (λ n. n + 1) k.size;
     }))
 put-keeps r (FClosure from to left right f) m =
     if-bound (Serves r m left (FExists right f)) (Keeps r (FClosure from to left right f) m)
     (λ l. option_and_then (λ k. option_map (λ g. FClosure (argument_for m from) (argument_for m to) l k g)
-    (put_in r f (under_bound (under_bound m left l) right k)))
-    (bound_number r (under_bound m left l) right f))
+    (put_in r f (under_bound (under_bound m left l (FExists right f)) right k f)))
+    (bound_number (with_own r l) (under_bound m left l (FExists right f)) right f))
     (bound_number r m left (FExists right f)) (bound-serves r m left (FExists right f))
-    (λ l one. if-bound (Serves r (under_bound m left l) right f) (Keeps r (FClosure from to left right f) m)
+    (λ l one. if-bound (Serves (with_own r l) (under_bound m left l (FExists right f)) right f) (Keeps r (FClosure from to left right f) m)
     (λ k. option_map (λ g. FClosure (argument_for m from) (argument_for m to) l k g)
-    (put_in r f (under_bound (under_bound m left l) right k)))
-    (bound_number r (under_bound m left l) right f) (bound-serves r (under_bound m left l) right f)
-    (λ k two. if-mapped (Keeps r f (under_bound (under_bound m left l) right k)) (Keeps r (FClosure from to left right f) m)
+    (put_in r f (under_bound (under_bound m left l (FExists right f)) right k f)))
+    (bound_number (with_own r l) (under_bound m left l (FExists right f)) right f) (bound-serves (with_own r l) (under_bound m left l (FExists right f)) right f)
+    (λ k two. if-mapped (Keeps r f (under_bound (under_bound m left l (FExists right f)) right k f)) (Keeps r (FClosure from to left right f) m)
     (λ g. FClosure (argument_for m from) (argument_for m to) l k g)
-    (put_in r f (under_bound (under_bound m left l) right k))
-    (put-keeps r f (under_bound (under_bound m left l) right k))
+    (put_in r f (under_bound (under_bound m left l (FExists right f)) right k f))
+    (put-keeps r f (under_bound (under_bound m left l (FExists right f)) right k f))
     (λ g is. closed r f m from to left right l k g one two is)))
+
+pub small-put_keeps : (r : Reserved) (f : Form) (m : Arguments) → IfSome (small_put r f m) (Keeps r f m)
+small-put_keeps r f m =
+    cond_both (is_small f) (put_in r f m) None (λ o. IfSome o (Keeps r f m)) (λ e. put-keeps r f m) (λ e. tt)
 
 -- what is put in is kept
 pub put-kept : (r : Reserved) (f : Form) (m : Arguments) (g : Form) → put_in r f m ≡ Some g → Keeps r f m g

@@ -1,13 +1,13 @@
 -- Putting arguments in: what bound variables may be called, and what the formula with the arguments keeps of
 -- the plain one.
-use Rattle.std.proofs.Common.{ℕ, ◌≡◌, ◌≢◌, ◌<◌, ◌⊎◌, ◌∙◌, Bool, true, false, not, [], ◌∷◌, ◌++◌, Option, Some, None, inl, inr, ⊎_elim, refl, sym, ap, subst, cond, eqb, eq-eqb, ne_eqb, Contains}
+use Rattle.std.proofs.Common.{ℕ, ◌≡◌, ◌≢◌, ◌<◌, ◌⊎◌, ◌∙◌, Bool, true, false, not, [], ◌∷◌, ◌++◌, filter, Option, Some, None, inl, inr, ⊎_elim, refl, sym, ap, subst, cond, eqb, eq-eqb, ne_eqb, Contains}
 use Rattle.std.specs.Prelude.{◌||◌, ◌&&◌, IfSome}
-use Rattle.std.proofs.lemmas.Bool.{or_parts, and_from, both_ways, not_from_false, eqb-true, cond-true, cond-false, or_left, or_right}
+use Rattle.std.proofs.lemmas.Bool.{false≢true, or_parts, and_from, and_left, not_from_false, not_from_true, eqb-true, cond-true, cond-false, or_left, or_right}
 use Rattle.std.proofs.lemmas.List.Elements.{Contains-append_left, Contains-append_right}
 use Rattle.tv_model.specs.Form.{Form, FZero, FOne, FAtom, FIsNew, FSame, FNot, FAnd, FOr, FIff, FCond, FExists, FForall, FClosure, IsFree}
 use Rattle.tv_model.specs.Valid.{IsVariable}
 use Rattle.tv_model.proofs.Lists.{Contains-here, Contains-there}
-use Rattle.tv_difference.specs.Putting.{has, least_slot, variables, is_free, Arguments, argument_for, without_argument, arguments_of, Reserved, captures, bound_number, under_bound}
+use Rattle.tv_difference.specs.Putting.{has, least_slot, variables, is_free, Arguments, argument_for, arguments_of, Reserved, under, bound_number, under_bound}
 use Rattle.tv_difference.proofs.Options.{has-from, has-not, least-slot_free}
 
 -- ---- free variables
@@ -84,54 +84,93 @@ free-stands v (FClosure from to left right f) free =
 
 -- ---- arguments
 
-pub without-other : (m : Arguments) (v x : ℕ) → x ≢ v → argument_for (without_argument v m) x ≡ argument_for m x
-without-other [] v x ne = refl
-without-other (e ∷ m) v x ne = go (eqb e.0 v) refl (without-other m v x ne)
+-- what is put for a variable is one of the arguments, or the variable itself
+pub argument-cases : (m : Arguments) (x : ℕ) → Contains (arguments_of m) (argument_for m x) ⊎ (argument_for m x ≡ x)
+argument-cases [] x = inr refl
+argument-cases (e ∷ m) x = go (eqb e.0 x) (argument-cases m x)
   where
-    go : (b : Bool) → eqb e.0 v ≡ b → argument_for (without_argument v m) x ≡ argument_for m x
-        → argument_for (cond (not b) (e ∷ without_argument v m) (without_argument v m)) x
+    go : (b : Bool) → Contains (arguments_of m) (argument_for m x) ⊎ (argument_for m x ≡ x)
+        → Contains (e.1 ∷ arguments_of m) (cond b e.1 (argument_for m x)) ⊎ (cond b e.1 (argument_for m x) ≡ x)
+    go true later = inl (Contains-here e.1 (arguments_of m))
+    go false later =
+        ⊎_elim (λ at. inl (Contains-there e.1 (argument_for m x) (arguments_of m) at)) (λ same. inr same) later
+
+-- a filter of variables keeps the arguments of those that pass
+filtered-argument : (keep : ℕ → Bool) (m : Arguments) (x : ℕ) → keep x ≡ true
+    → argument_for (filter (λ e. keep e.0) m) x ≡ argument_for m x
+filtered-argument keep [] x kept = refl
+filtered-argument keep (e ∷ m) x kept = go (keep e.0) refl (filtered-argument keep m x kept)
+  where
+    go : (b : Bool) → keep e.0 ≡ b → argument_for (filter (λ e. keep e.0) m) x ≡ argument_for m x
+        → argument_for (cond b (e ∷ filter (λ e. keep e.0) m) (filter (λ e. keep e.0) m)) x
         ≡ cond (eqb e.0 x) e.1 (argument_for m x)
-    go true same later =
-        later ∙ sym (cond-false (eqb e.0 x) e.1 (argument_for m x) (ne_eqb e.0 x (λ is. ne (sym is ∙ eqb-true e.0 v same))))
-    go false other later = ap (λ y. cond (eqb e.0 x) e.1 y) later
+    go true same later = ap (λ y. cond (eqb e.0 x) e.1 y) later
+    go false same later =
+        let At : ℕ → Type 0 = λ y. keep y ≡ true
+        in later ∙ sym (cond-false (eqb e.0 x) e.1 (argument_for m x)
+        (ne_eqb e.0 x (λ is. false≢true (sym same ∙ subst At (sym is) kept))))
 
-pub under-same : (m : Arguments) (v w x : ℕ) → x ≡ v → argument_for (under_bound m v w) x ≡ w
-under-same m v w x e = cond-true (eqb v x) w (argument_for (without_argument v m) x) (eq-eqb v x (sym e))
-
-pub under-other : (m : Arguments) (v w x : ℕ) → x ≢ v → argument_for (under_bound m v w) x ≡ argument_for m x
-under-other m v w x ne =
-    cond-false (eqb v x) w (argument_for (without_argument v m) x) (ne_eqb v x (λ e. ne (sym e))) ∙ without-other m v x ne
-
--- where nothing is captured, no other free variable gets the number v
-pub captures-none : (m : Arguments) (v : ℕ) (f : Form) (x : ℕ) → captures m v f ≡ false → IsFree x f → x ≢ v
-    → argument_for m x ≢ v
-captures-none [] v f x none free ne = ne
-captures-none (e ∷ m) v f x none free ne =
-    go (eqb e.0 x) refl
-    (captures-none m v f x (or_parts (eqb e.1 v && is_free e.0 (FExists v f)) (captures m v f) none).1 free ne)
+-- and puts nothing for the others
+filtered-nothing : (keep : ℕ → Bool) (m : Arguments) (x : ℕ) → keep x ≡ false
+    → argument_for (filter (λ e. keep e.0) m) x ≡ x
+filtered-nothing keep [] x fails = refl
+filtered-nothing keep (e ∷ m) x fails = go (keep e.0) refl (filtered-nothing keep m x fails)
   where
-    go : (b : Bool) → eqb e.0 x ≡ b → argument_for m x ≢ v → cond b e.1 (argument_for m x) ≢ v
-    go true same later = λ is.
-        let At : ℕ → Type 0 = λ y. IsFree y (FExists v f)
-        in let its : IsFree e.0 (FExists v f) = subst At (sym (eqb-true e.0 x same)) (ne, free)
-        in both_ways (eqb e.1 v && is_free e.0 (FExists v f))
-        (or_parts (eqb e.1 v && is_free e.0 (FExists v f)) (captures m v f) none).0
-        (and_from (eqb e.1 v) (is_free e.0 (FExists v f)) (eq-eqb e.1 v is) (free-from e.0 (FExists v f) its))
-    go false other later = later
+    go : (b : Bool) → keep e.0 ≡ b → argument_for (filter (λ e. keep e.0) m) x ≡ x
+        → argument_for (cond b (e ∷ filter (λ e. keep e.0) m) (filter (λ e. keep e.0) m)) x ≡ x
+    go true same later =
+        let At : ℕ → Type 0 = λ y. keep y ≡ false
+        in cond-false (eqb e.0 x) e.1 (argument_for (filter (λ e. keep e.0) m) x)
+        (ne_eqb e.0 x (λ is. false≢true (sym (subst At (sym is) fails) ∙ same))) ∙ later
+    go false same later = later
+
+free-under : (x v : ℕ) (f : Form) → IsFree x f → x ≢ v → is_free x (FExists v f) ≡ true
+free-under x v f free ne = free-from x (FExists v f) (ne, free)
+
+pub under-same : (m : Arguments) (v w : ℕ) (f : Form) (x : ℕ) → x ≡ v → argument_for (under_bound m v w f) x ≡ w
+under-same m v w f x e = go (eqb w v) refl
+  where
+    unbound : is_free v (FExists v f) ≡ false
+    unbound = and_left (not (eqb v v)) (is_free v f) (not_from_true (eqb v v) (eq-eqb v v refl))
+
+    go : (b : Bool) → eqb w v ≡ b → argument_for (cond b (under m v f) ((v, w) ∷ under m v f)) x ≡ w
+    go true same =
+        let At : ℕ → Type 0 = λ y. argument_for (under m v f) y ≡ w
+        in subst At (sym e)
+        (filtered-nothing (λ y. is_free y (FExists v f)) m v unbound ∙ sym (eqb-true w v same))
+    go false other = cond-true (eqb v x) w (argument_for (under m v f) x) (eq-eqb v x (sym e))
+
+pub under-other : (m : Arguments) (v w : ℕ) (f : Form) (x : ℕ) → IsFree x f → x ≢ v
+    → argument_for (under_bound m v w f) x ≡ argument_for m x
+under-other m v w f x free ne = go (eqb w v)
+  where
+    kept : argument_for (under m v f) x ≡ argument_for m x
+    kept = filtered-argument (λ y. is_free y (FExists v f)) m x (free-under x v f free ne)
+
+    go : (b : Bool) → argument_for (cond b (under m v f) ((v, w) ∷ under m v f)) x ≡ argument_for m x
+    go true = kept
+    go false = cond-false (eqb v x) w (argument_for (under m v f) x) (ne_eqb v x (λ e. ne (sym e))) ∙ kept
+
+-- where v is none of the arguments that are left under it, it captures none
+pub captures-none : (m : Arguments) (v : ℕ) (f : Form) (x : ℕ) → (¬ Contains (arguments_of (under m v f)) v)
+    → IsFree x f → x ≢ v → argument_for m x ≢ v
+captures-none m v f x apart free ne = λ is.
+    let kept : argument_for (under m v f) x ≡ argument_for m x
+    = filtered-argument (λ y. is_free y (FExists v f)) m x (free-under x v f free ne)
+    in ⊎_elim
+    (λ at. let At : ℕ → Type 0 = λ y. Contains (arguments_of (under m v f)) y in apart (subst At (kept ∙ is) at))
+    (λ same. ne (sym same ∙ kept ∙ is))
+    (argument-cases (under m v f) x)
 
 -- a number that is no argument and isn't in the formula is put for none of its free variables
 pub outside-arguments : (m : Arguments) (s : ℕ) (f : Form) (x : ℕ) → (¬ Contains (arguments_of m) s)
     → (¬ Contains (variables f) s) → IsFree x f → argument_for m x ≢ s
-outside-arguments [] s f x no_argument absent free = λ e.
-    absent (let At : ℕ → Type 0 = λ y. Contains (variables f) y in subst At e (free-stands x f free))
-outside-arguments (e ∷ m) s f x no_argument absent free =
-    go (eqb e.0 x) (outside-arguments m s f x (λ at. no_argument (Contains-there e.1 s (arguments_of m) at)) absent free)
-  where
-    go : (b : Bool) → argument_for m x ≢ s → cond b e.1 (argument_for m x) ≢ s
-    go true later = λ is.
-        no_argument (let At : ℕ → Type 0 = λ y. Contains (e.1 ∷ arguments_of m) y
-        in subst At is (Contains-here e.1 (arguments_of m)))
-    go false later = later
+outside-arguments m s f x no_argument absent free = λ is.
+    ⊎_elim
+    (λ at. let At : ℕ → Type 0 = λ y. Contains (arguments_of m) y in no_argument (subst At is at))
+    (λ same. let At : ℕ → Type 0 = λ y. Contains (variables f) y
+    in absent (subst At (sym same ∙ is) (free-stands x f free)))
+    (argument-cases m x)
 
 -- ---- bound variables
 
@@ -140,10 +179,10 @@ pub record Serves (r : Reserved) (m : Arguments) (v : ℕ) (f : Form) (w : ℕ) 
   pub not_picked : ¬ Contains r.picks w
   pub captures_none : (x : ℕ) → IsFree x f → x ≢ v → argument_for m x ≢ w
   pub variable : IsVariable v → IsVariable w
-  pub kept_or_new : (w ≡ v) ⊎ ((¬ Contains (arguments_of m) w) × (¬ Contains (variables f) w))
+  pub kept_or_new : (w ≡ v) ⊎ ((¬ Contains r.own w) × (¬ Contains (variables f) w))
 
 pub bound-serves : (r : Reserved) (m : Arguments) (v : ℕ) (f : Form) → IfSome (bound_number r m v f) (Serves r m v f)
-bound-serves r m v f = go (has r.picks v || captures m v f) refl
+bound-serves r m v f = go (has r.picks v || has (arguments_of (under m v f)) v) refl
   where
     by_slot : (o : Option ℕ) → least_slot (r.picks ++ (r.own ++ (arguments_of m ++ variables f))) ≡ o
         → IfSome o (Serves r m v f)
@@ -155,6 +194,9 @@ bound-serves r m v f = go (has r.picks v || captures m v f) refl
         = λ at. free.0 (Contains-append_right r.picks (r.own ++ (arguments_of m ++ variables f)) s
         (Contains-append_right r.own (arguments_of m ++ variables f) s
         (Contains-append_left (arguments_of m) (variables f) s at)))
+        in let not_own : ¬ Contains r.own s
+        = λ at. free.0 (Contains-append_right r.picks (r.own ++ (arguments_of m ++ variables f)) s
+        (Contains-append_left r.own (arguments_of m ++ variables f) s at))
         in let absent : ¬ Contains (variables f) s
         = λ at. free.0 (Contains-append_right r.picks (r.own ++ (arguments_of m ++ variables f)) s
         (Contains-append_right r.own (arguments_of m ++ variables f) s
@@ -163,15 +205,16 @@ bound-serves r m v f = go (has r.picks v || captures m v f) refl
           not_picked = λ at. free.0 (Contains-append_left r.picks (r.own ++ (arguments_of m ++ variables f)) s at);
           captures_none = λ x is ne. outside-arguments m s f x no_argument absent is;
           variable = λ is. free.1;
-          kept_or_new = inr (no_argument, absent);
+          kept_or_new = inr (not_own, absent);
         }
 
-    go : (b : Bool) → (has r.picks v || captures m v f) ≡ b
+    go : (b : Bool) → (has r.picks v || has (arguments_of (under m v f)) v) ≡ b
         → IfSome (cond b (least_slot (r.picks ++ (r.own ++ (arguments_of m ++ variables f)))) (Some v)) (Serves r m v f)
     go true e = by_slot (least_slot (r.picks ++ (r.own ++ (arguments_of m ++ variables f)))) refl
     go false e = record {
-      not_picked = has-not r.picks v (or_parts (has r.picks v) (captures m v f) e).0;
-      captures_none = λ x is ne. captures-none m v f x (or_parts (has r.picks v) (captures m v f) e).1 is ne;
+      not_picked = has-not r.picks v (or_parts (has r.picks v) (has (arguments_of (under m v f)) v) e).0;
+      captures_none = λ x is ne. captures-none m v f x
+          (has-not (arguments_of (under m v f)) v (or_parts (has r.picks v) (has (arguments_of (under m v f)) v) e).1) is ne;
       variable = λ is. is;
       kept_or_new = inl refl;
     }

@@ -21,12 +21,12 @@ use Rattle.tv_model.proofs.Lists.{All-from_contains}
 use Rattle.tv_model.proofs.Programs.{pred-cases, kind-cases, holds-nothing, holds-fits}
 use Rattle.tv_model.proofs.Truths.{Truth-local}
 use Rattle.tv_difference.specs.Simple.{simple_not, simple_and}
-use Rattle.tv_difference.specs.Putting.{Reserved, argument_for, put_in}
-use Rattle.tv_difference.specs.Deltas.{delta_by, is_flagged, touches, delta_of_set}
+use Rattle.tv_difference.specs.Putting.{Reserved, argument_for}
+use Rattle.tv_difference.specs.Deltas.{small_put, delta_by, is_flagged, touches, delta_of_set}
 use Rattle.tv_difference.specs.Differences.{DefinedBy, IsAffected, AreAffected}
 use Rattle.tv_difference.proofs.Options.{if-bound, find-passes}
 use Rattle.tv_difference.proofs.Assigned.{put-all_arguments}
-use Rattle.tv_difference.proofs.PutTruths.{Keeps, put-keeps}
+use Rattle.tv_difference.proofs.PutTruths.{Keeps, small-put_keeps}
 use Rattle.tv_difference.proofs.SimpleLaws.{not-truth, and-truth}
 use Rattle.tv_difference.proofs.DeltaTruths.{Change, IsChange, Suits, IsDelta, delta-tells, if-small}
 
@@ -269,13 +269,13 @@ pub set-tells : (p : ProgramForm) (action : ActionForm) (picked : Assignment) (o
     → StillStep p action picked old new → (r : Reserved) → r.picks ≡ action.picks → (q : ℕ) (d : PredForm) (args : List ℕ)
     → slice_get p.preds q ≡ Some d → d.kind ≡ KCore → IsFormulaOver (program_arities p) (FAtom q args)
     → (w : UpdateForm) → update_for q action.updates ≡ Some w → (f : Form) → w.change ≡ CTo f
-    → IfSome (option_and_then (delta_of_set (FAtom q args)) (put_in r f (zip w.vars args)))
+    → IfSome (option_and_then (delta_of_set (FAtom q args)) (small_put r f (zip w.vars args)))
     (IsDelta (change_by action picked old new) (FAtom q args))
 set-tells p action picked old new is r same_picks q d args found core fits w updated f sets =
     let s : Change = change_by action picked old new
     in let atom : Form = FAtom q args
-    in if-bound (Keeps r f (zip w.vars args)) (IsDelta s atom) (delta_of_set atom) (put_in r f (zip w.vars args))
-    (put-keeps r f (zip w.vars args))
+    in if-bound (Keeps r f (zip w.vars args)) (IsDelta s atom) (delta_of_set atom) (small_put r f (zip w.vars args))
+    (small-put_keeps r f (zip w.vars args))
     (λ g k. if-small (IsDelta s atom) (delta_by atom (simple_and g (simple_not atom)) (simple_and atom (simple_not g)))
     (delta-tells s (still-change p action picked old new is) atom atom (simple_and g (simple_not atom))
     (simple_and atom (simple_not g)) (λ b suits.

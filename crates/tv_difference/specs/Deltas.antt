@@ -8,7 +8,7 @@ use Rattle.tv_model.specs.Form.{Form, FZero, FOne, FAtom, FIsNew, FSame, FNot, F
 use Rattle.tv_model.specs.Program.{ProgramForm, KindForm, KCore, KDefined, ActionForm, UpdateForm, ChangeForm, CFree, CTo}
 use Rattle.tv_model.specs.Step.{update_for}
 use Rattle.tv_difference.specs.Simple.{is_small, simple_not, simple_and, simple_or, simple_exists, simple_forall, simple_cond}
-use Rattle.tv_difference.specs.Putting.{Reserved, put_in}
+use Rattle.tv_difference.specs.Putting.{Reserved, Arguments, put_in}
 
 -- a formula before the step, where the step makes it true, where it makes it false, and the formula after it
 pub record Delta : Type 0 where
@@ -21,9 +21,14 @@ abbrev pub delta_by : (now up down : Form) → Delta
 delta_by now up down =
     record { now = now; up = up; down = down; next = simple_cond now (simple_not down) up }
 
--- the delta, if each of its three new formulas is small
+-- The delta, if each of its three new formulas is small. The limits are tested here, at each formula that is
+-- formed, the whole one too.
 abbrev pub if_small : Delta → Option Delta
 if_small d = if is_small d.up && (is_small d.down && is_small d.next) then Some d else None
+
+-- the formula with the arguments put in, if it is small
+abbrev pub small_put : Reserved → Form → Arguments → Option Form
+small_put r f m = if is_small f then put_in r f m else None
 
 -- a formula that the step leaves as it is
 abbrev pub unchanged : Form → Option Delta
@@ -117,7 +122,7 @@ delta_of_defined atom d = if_small (delta_by atom d.up d.down)
 -- an atom of a core predicate by its update, if it has one: none where it is left free
 abbrev pub delta_by_change : Reserved → (atom : Form) → (vars args : List ℕ) → ChangeForm → Option Delta
 delta_by_change r atom vars args CFree = None
-delta_by_change r atom vars args (CTo f) = option_and_then (delta_of_set atom) (put_in r f (zip vars args))
+delta_by_change r atom vars args (CTo f) = option_and_then (delta_of_set atom) (small_put r f (zip vars args))
 
 abbrev pub delta_by_update : Reserved → (atom : Form) → (args : List ℕ) → Option UpdateForm → Option Delta
 delta_by_update r atom args None = None
@@ -130,7 +135,7 @@ delta_by_kind r affected action inner q args KCore =
     delta_by_update r (FAtom q args) args (update_for q action.updates)
 delta_by_kind r affected action inner q args (KDefined vars body) =
     option_and_then (delta_of_defined (FAtom q args))
-    (option_and_then (delta_of inner affected) (put_in r body (zip vars args)))
+    (option_and_then (delta_of inner affected) (small_put r body (zip vars args)))
 
 -- The delta of an atom, through fewer than n definitions, one inside the other.
 abbrev pub atom_delta : (n : ℕ) → ProgramForm → ActionForm → Reserved → (affected : List Bool) → ℕ → List ℕ

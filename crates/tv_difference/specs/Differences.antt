@@ -6,8 +6,8 @@ use Rattle.tv_model.specs.Program.{ProgramForm, PredForm, EachPred, KindForm, KC
 use Rattle.tv_model.specs.Step.{update_for}
 use Rattle.tv_model.specs.Truth.{IsWalk}
 use Rattle.tv_difference.specs.Simple.{is_small, simple_not, simple_cond}
-use Rattle.tv_difference.specs.Putting.{Reserved, put_in, own_variables, variables}
-use Rattle.tv_difference.specs.Deltas.{Delta, delta_of, atom_delta, is_flagged}
+use Rattle.tv_difference.specs.Putting.{Reserved, own_variables, variables}
+use Rattle.tv_difference.specs.Deltas.{Delta, delta_of, atom_delta, is_flagged, small_put}
 
 -- the action changes the predicate: it is core and has an update
 pub record IsChanged (p : ProgramForm) (action : ActionForm) (q : ℕ) : Type 0 where
@@ -63,7 +63,7 @@ formed p action affected q vars body =
     let r : Reserved = record { picks = action.picks; own = own }
     in option_and_then (λ d. Some (update_by q own d))
     (option_and_then (delta_of (atom_delta (length p.preds) p action r affected) affected)
-    (put_in r body (zip vars own))))
+    (small_put r body (zip vars own))))
     (own_variables action.picks (action.picks ++ (vars ++ variables body)) vars))
 
 -- the answer for the predicate q, defined by the body over the variables: it is kept where the action neither

@@ -54,9 +54,6 @@ abbrev pub argument_for : Arguments → ℕ → ℕ
 argument_for [] v = v
 argument_for (e ∷ m) v = if e.0 == v then e.1 else argument_for m v
 
-abbrev pub without_argument : ℕ → Arguments → Arguments
-without_argument v m = filter (λ e. not (e.0 == v)) m
-
 abbrev pub arguments_of : Arguments → List ℕ
 arguments_of m = map (λ e. e.1) m
 
@@ -65,21 +62,25 @@ pub record Reserved : Type 0 where
   pub picks : List ℕ
   pub own : List ℕ
 
--- v, as a bound variable over f, captures an argument: it is that of a variable which is free under it
-abbrev pub captures : Arguments → ℕ → Form → Bool
-captures m v f = list_any (λ e. (e.1 == v) && is_free e.0 (FExists v f)) m
+-- the arguments that are left under a bound variable v over f: those of the variables that are free there
+abbrev pub under : Arguments → ℕ → Form → Arguments
+under m v f = filter (λ e. is_free e.0 (FExists v f)) m
 
--- the number of the variable v, bound over f, once the arguments are put in: the same, or the lowest slot
--- that isn't picked, nor an own variable, nor an argument, nor in f
+-- the number of the variable v, bound over f, once the arguments are put in: the same, or, where it is picked
+-- or would capture an argument, the lowest slot that isn't picked, nor an own variable, nor an argument, nor in f
 abbrev pub bound_number : Reserved → Arguments → ℕ → Form → Option ℕ
 bound_number r m v f =
-    if has r.picks v || captures m v f
+    if has r.picks v || has (arguments_of (under m v f)) v
     then least_slot (r.picks ++ (r.own ++ (arguments_of m ++ variables f)))
     else Some v
 
--- the arguments under a variable v that got the number w
-abbrev pub under_bound : Arguments → ℕ → ℕ → Arguments
-under_bound m v w = (v, w) ∷ without_argument v m
+-- the arguments under a bound variable v over f that got the number w
+abbrev pub under_bound : Arguments → ℕ → ℕ → Form → Arguments
+under_bound m v w f = if w == v then under m v f else (v, w) ∷ under m v f
+
+-- the same, and w is no slot for a bound variable
+abbrev pub with_own : Reserved → ℕ → Reserved
+with_own r w = record { picks = r.picks; own = w ∷ r.own }
 
 abbrev pub option_both : {X Y Z : Type 0} → (X → Y → Z) → Option X → Option Y → Option Z
 option_both f None o = None
@@ -87,7 +88,7 @@ option_both f (Some x) None = None
 option_both f (Some x) (Some y) = Some (f x y)
 
 -- The formula with the arguments put in, none where a slot is wanted and all are in use. The bound variables
--- of a closure are taken one after the other, as two nested ones.
+-- of a closure are taken one after the other, as two nested ones, and stay different.
 abbrev pub put_in : Reserved → Form → Arguments → Option Form
 put_in r FZero m = Some FZero
 put_in r FOne m = Some FOne
@@ -101,13 +102,13 @@ put_in r (FIff f g) m = option_both (λ x y. FIff x y) (put_in r f m) (put_in r 
 put_in r (FCond c f g) m =
     option_and_then (λ x. option_both (λ y z. FCond x y z) (put_in r f m) (put_in r g m)) (put_in r c m)
 put_in r (FExists v f) m =
-    option_and_then (λ w. option_map (λ g. FExists w g) (put_in r f (under_bound m v w))) (bound_number r m v f)
+    option_and_then (λ w. option_map (λ g. FExists w g) (put_in r f (under_bound m v w f))) (bound_number r m v f)
 put_in r (FForall v f) m =
-    option_and_then (λ w. option_map (λ g. FForall w g) (put_in r f (under_bound m v w))) (bound_number r m v f)
+    option_and_then (λ w. option_map (λ g. FForall w g) (put_in r f (under_bound m v w f))) (bound_number r m v f)
 put_in r (FClosure from to left right f) m =
     option_and_then (λ l. option_and_then (λ k. option_map (λ g. FClosure (argument_for m from) (argument_for m to) l k g)
-    (put_in r f (under_bound (under_bound m left l) right k)))
-    (bound_number r (under_bound m left l) right f))
+    (put_in r f (under_bound (under_bound m left l (FExists right f)) right k f)))
+    (bound_number (with_own r l) (under_bound m left l (FExists right f)) right f))
     (bound_number r m left (FExists right f))
 
 -- The own variables of an update: those of the definition, where one that is picked gets the lowest slot not
