@@ -1,15 +1,15 @@
 -- Looking up a structure by its signature.
-use Rattle.std.proofs.Common.{ℕ, ◌≡◌, ◌<◌, ◌≤◌, ◌+◌, ◌⊎◌, inl, inr, Bool, true, false, List, [], ◌∷◌, ◌++◌, length, get_or, map, take, Option, Some, None, true≢false, Result, Ok, Err, set, refl, sym, ap, subst, ◌∙◌, arith, ◌==◌, if◌then◌else◌, eq-eqb}
-use Rattle.std.specs.Prelude.{All, Contains, IfNone, IfSome, slice_get}
+use Rattle.std.proofs.Common.{ℕ, ◌≡◌, ◌<◌, ◌≤◌, ◌+◌, ◌⊎◌, inl, inr, Bool, true, false, List, [], ◌∷◌, ◌++◌, length, get_or, map, take, Option, Some, None, MatchBool, true≢false, Result, Ok, Err, set, refl, sym, ap, subst, ◌∙◌, arith, ◌==◌, if◌then◌else◌, eq-eqb}
+use Rattle.std.specs.Prelude.{Any, Contains, slice_get}
 use Rattle.std.specs.List.{list_any}
 use Rattle.std.specs.declared.alloc.AllocError.{AllocError}
 use Rattle.std.specs.Ordering.{is_eq}
 use Rattle.std.specs.Cmp.{Equal-is}
 use Rattle.std.proofs.lemmas.List.{get_or-map, length-map, get_or_append_left, get_or_at, length-append, length-take-le, map-append, take_more, set-get_or}
-use Rattle.std.proofs.lemmas.List.Folds.{list_any_at, list_any_none}
+use Rattle.std.proofs.lemmas.List.Folds.{Any-from_list_any, list_any_at}
 use Rattle.std.proofs.lemmas.Bool.{cases_lt}
 use Rattle.std.proofs.lemmas.Option.{slice_get_within, get_or_from_slice_get, slice_get-get_or}
-use Rattle.tv_listing.specs.ListingForm.{HasEqual, IsEqualAt, Finds, AreNoted, Adds, AddsAt, IsSortedFrom, at_node, equals, is_equal_at}
+use Rattle.tv_listing.specs.ListingForm.{HasEqual, AreNoted, Adds, AddsAt, IsSortedFrom, at_node, equals, is_equal_at}
 use Rattle.tv_struct.specs.Order.{structure_cmp}
 use Rattle.tv_struct.specs.Signature.{signature_of}
 use Rattle.tv_struct.specs.StructureForm.{StructureForm}
@@ -75,11 +75,22 @@ AreNoted-more noted later structures place signature d lt is all new =
     (AreNoted-append noted later (map signature_of (take place structures)) signature place all
     (rw (length-map (take place structures) signature_of) (omega (arith, length-take-le place structures))) new)
 
--- the place is that of an equal structure
-found : (structures : List StructureForm) (s : StructureForm) (place : ℕ) (o : Option StructureForm)
-    → slice_get structures place ≡ o → equals o s ≡ true → IsEqualAt structures s place
-found structures s place None is e = absurd (true≢false (sym e))
-found structures s place (Some t) is e = (t, is, structure_cmp-Equal t s ((Equal-is (structure_cmp t s)).0 e))
+-- what is found among the noted places is an equal structure
+found : (structures : List StructureForm) (s : StructureForm) (places : List ℕ)
+    → list_any (is_equal_at structures s) places ≡ true → HasEqual structures s
+found structures s places e =
+    let hit : Any (λ place. is_equal_at structures s place ≡ true) places = Any-from_list_any (is_equal_at structures s) places e
+    in from hit.1 (slice_get structures hit.1) refl hit.4
+  where
+    from : (place : ℕ) (o : Option StructureForm) → slice_get structures place ≡ o → equals o s ≡ true → HasEqual structures s
+    from place None is e = absurd (true≢false (sym e))
+    from place (Some t) is e = (
+      place,
+      t,
+      slice_get_within structures place t is,
+      get_or_from_slice_get structures place t t is,
+      structure_cmp-Equal t s ((Equal-is (structure_cmp t s)).0 e),
+    )
 
 -- and an equal structure is found
 not_missed : (structures : List StructureForm) (s : StructureForm) (noted : ℕ → List ℕ)
@@ -96,26 +107,12 @@ not_missed structures s noted all (k, t, lt, at, same) =
     ∙ ap (λ x. is_eq (structure_cmp x s)) at ∙ ap is_eq (Equal-from_unmarked t s same)
     in list_any_at (is_equal_at structures s) (noted (signature_of s)) here.0 k here.1 (rw here.2 equal)
 
-pub Finds-from : (structures : List StructureForm) (s : StructureForm) (noted : ℕ → List ℕ)
-    → AreNoted noted (map signature_of structures) → (r : Option ℕ)
-    → IfSome r (λ place. is_equal_at structures s place ≡ true)
-    → IfNone r (All (λ place. is_equal_at structures s place ≡ false) (noted (signature_of s)))
-    → Finds structures s r
-Finds-from structures s noted all (Some place) hit none = found structures s place (slice_get structures place) refl hit
-Finds-from structures s noted all None hit none =
-    λ has. true≢false (sym (not_missed structures s noted all has)
-    ∙ list_any_none (is_equal_at structures s) (noted (signature_of s)) none)
-
--- where a place has an equal structure there is one
-pub HasEqual_at : (structures : List StructureForm) (s : StructureForm) (place : ℕ) → IsEqualAt structures s place
-    → HasEqual structures s
-HasEqual_at structures s place (t, is, same) = (
-  place,
-  t,
-  slice_get_within structures place t is,
-  get_or_from_slice_get structures place t t is,
-  same,
-)
+pub HasEqual-found : (structures : List StructureForm) (s : StructureForm) (noted : ℕ → List ℕ)
+    → AreNoted noted (map signature_of structures) → (r : Bool)
+    → r ≡ list_any (is_equal_at structures s) (noted (signature_of s))
+    → MatchBool r (HasEqual structures s) (¬ HasEqual structures s)
+HasEqual-found structures s noted all true e = found structures s (noted (signature_of s)) (sym e)
+HasEqual-found structures s noted all false e = λ has. true≢false (sym (not_missed structures s noted all has) ∙ sym e)
 
 -- from the list at the node to the listing
 pub AddsAt-from_list : (old : List (List StructureForm)) (node : ℕ) (list new : List StructureForm) (s : StructureForm)

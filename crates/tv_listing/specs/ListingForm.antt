@@ -18,15 +18,6 @@ appended listing node s = slice_set listing node (at_node listing node ++ s ∷ 
 abbrev pub HasEqual : List StructureForm → StructureForm → Type 0
 HasEqual structures s = Any (λ t. unmarked t ≡ unmarked s) structures
 
--- the place is that of a structure that is equal to s, marks aside
-abbrev pub IsEqualAt : List StructureForm → StructureForm → ℕ → Type 0
-IsEqualAt structures s place = (t : StructureForm) × (slice_get structures place ≡ Some t) × (unmarked t ≡ unmarked s)
-
--- what a search for an equal structure answers: its place, or nothing where there is none
-abbrev pub Finds : List StructureForm → StructureForm → Option ℕ → Type 0
-Finds structures s (Some place) = IsEqualAt structures s place
-Finds structures s None = ¬ HasEqual structures s
-
 -- what adding a structure does: it is put behind the others exactly where none of them is equal to it
 abbrev pub Adds : (old new : List StructureForm) → StructureForm → Result Bool AllocError → Type 0
 Adds old new s (Ok true) = (¬ HasEqual old s) × (new ≡ old ++ s ∷ [])

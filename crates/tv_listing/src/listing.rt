@@ -2,7 +2,7 @@
 
 ghost use Rattle.std.specs.Prelude.{◌≡◌, ◌<◌, [], length, replicate, is_ok, if◌then◌else◌, slice_get, IfOk, Some};
 ghost use Rattle.tv_struct.specs.StructureForm.{IsStructure};
-ghost use Rattle.tv_listing.specs.ListingForm.{at_node, appended, AddsAt, AreSorted, Finds};
+ghost use Rattle.tv_listing.specs.ListingForm.{at_node, appended, AddsAt, AreSorted};
 
 use crate::node::Node;
 use std::alloc::{AllocError, Global};
@@ -58,14 +58,6 @@ impl Listing {
         let s = &self.nodes[node as usize].as_slice()[i];
         let _ = s.size();
         s
-    }
-
-    /// The place at the node of a structure that is equal to `s`, marks aside, if one stands there.
-    pub fn find(&self, node: u32, s: &Structure) -> Option<usize>
-        requires { node < length self.now }
-        ensures { Finds (at_node self.now node) s.now result }
-    {
-        self.nodes[node as usize].find(s)
     }
 
     /// Puts the structure behind those of the node. At an error the listing is as before, and the

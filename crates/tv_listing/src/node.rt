@@ -1,9 +1,10 @@
 //! The structures at one node of a listing.
 
-ghost use Rattle.std.specs.Prelude.{◌≡◌, ◌<◌, ◌≤◌, ℕ, [], ◌∷◌, ◌++◌, length, Contains, OnOk, OnErr, IfSome, IfNone, All, true, false, is_ok, if◌then◌else◌, unwrap_or, map, IfOk, IsTrue, ◌↔◌, ◌==◌};
+ghost use Rattle.std.specs.Prelude.{◌≡◌, ◌<◌, ◌≤◌, ℕ, [], ◌∷◌, ◌++◌, length, Contains, OnOk, OnErr, MatchBool, is_ok, if◌then◌else◌, unwrap_or, map, IfOk, IsTrue, ◌↔◌, ◌==◌};
+ghost use Rattle.std.specs.List.{list_any};
 ghost use Rattle.std.specs.Ordering.{nat_cmp};
 ghost use Rattle.std.specs.BTreeMap.{get};
-ghost use Rattle.tv_listing.specs.ListingForm.{Finds, Adds, AreNoted, IsSortedFrom, is_equal_at};
+ghost use Rattle.tv_listing.specs.ListingForm.{HasEqual, Adds, AreNoted, IsSortedFrom, is_equal_at};
 ghost use Rattle.tv_struct.specs.Signature.{signature_of};
 ghost use Rattle.tv_struct.specs.StructureForm.{StructureForm, unmarked};
 
@@ -69,27 +70,24 @@ impl Node {
         Ok(())
     }
 
-    /// The place of a structure here that is equal to `s`, marks aside, if there is one.
-    pub fn find(&self, s: &Structure) -> Option<usize>
-        ensures { Finds self.now s.now result }
+    /// Whether an equal structure, marks aside, stands here.
+    pub fn has_equal(&self, s: &Structure) -> bool
+        ensures { MatchBool result (HasEqual self.now s.now) (¬ HasEqual self.now s.now) }
     {
         let places = noted_at(&self.noted, s.signature());
-        equal_among(self.structures.as_slice(), places, s)
+        is_equal_among(self.structures.as_slice(), places, s)
     }
 
     /// Puts the structure behind the others where none of them is equal to it, and tells whether it
     /// did. At an error the structures are as before.
-    #[tactic(auto, using(crate::proofs::ListingLaws::HasEqual_at))]
     pub fn add(&mut self, alloc: Global, s: Structure) -> Result<bool, AllocError>
         ensures { Adds self.old self.new s result }
     {
-        match self.find(&s) {
-            Some(_) => Ok(false),
-            None => {
-                self.push(alloc, s)?;
-                Ok(true)
-            }
+        if self.has_equal(&s) {
+            return Ok(false);
         }
+        self.push(alloc, s)?;
+        Ok(true)
     }
 
     /// The same structures in ascending order.
@@ -148,15 +146,11 @@ fn is_equal_at(structures: &[Structure], place: usize, s: &Structure) -> bool
     }
 }
 
-/// The first of the places at which there is a structure that is equal to `s`.
-fn equal_among(structures: &[Structure], places: &[usize], s: &Structure) -> Option<usize>
-    ensures some { IfSome result (λ place. is_equal_at structures.now s.now place ≡ true) }
-    ensures none { IfNone result (All (λ place. is_equal_at structures.now s.now place ≡ false) places.now) }
+/// Whether at one of the places there is a structure that is equal to `s`.
+fn is_equal_among(structures: &[Structure], places: &[usize], s: &Structure) -> bool
+    ensures { result ≡ list_any (is_equal_at structures.now s.now) places.now }
 {
-    for place in places {
-        if is_equal_at(structures, *place, s) {
-            return Some(*place);
-        }
-    }
-    None
+    places
+        .iter()
+        .any(|place| is_equal_at(structures, *place, s))
 }
