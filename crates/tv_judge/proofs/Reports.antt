@@ -1,15 +1,14 @@
 -- What stands in a report: items, steps and messages.
 use Rattle.std.proofs.Common.{ℕ, ◌≡◌, ◌≢◌, ◌<◌, ◌≤◌, ◌+◌, ◌⊎◌, ◌↔◌, inl, inr, Bool, true, false, true≢false, not, IsTrue, List, [], ◌∷◌, length, get_or, Option, Some, None, refl, sym, ap, subst, ◌∙◌, arith}
-use Rattle.std.specs.Prelude.{All, slice_get, unwrap_or, if◌then◌else◌, map}
+use Rattle.std.specs.Prelude.{All, slice_get, unwrap_or, if◌then◌else◌}
 use Rattle.std.proofs.lemmas.Bool.{cases_lt}
 use Rattle.std.proofs.lemmas.Option.{slice_get_within, get_or_from_slice_get, slice_get-get_or, slice_get_cases}
 use Rattle.tv_kleene.specs.declared.K3.{K3}
 use Rattle.tv_kleene.specs.declared.K3.TheVariants.{No}
 use Rattle.tv_model.specs.declared.program.Edge.{Edge}
-use Rattle.tv_model.specs.Program.{ProgramForm, pred_of, program_of}
+use Rattle.tv_model.specs.Program.{ProgramForm, program_of}
 use Rattle.tv_model.specs.declared.program.Program.{Program}
 use Rattle.tv_model.specs.Valid.{IsValid, IsEdge, program_arities}
-use Rattle.tv_model.proofs.Lists.{map-compose}
 use Rattle.tv_listing.specs.Listed.{IsListing}
 use Rattle.tv_frame.specs.Embedding.{IsEmbedded}
 use Rattle.tv_listing.specs.ListingForm.{at_node}
@@ -22,6 +21,7 @@ use Rattle.tv_embed.specs.Maps.{image_of}
 use Rattle.tv_transfer.specs.Closed.{IsCovered, HasLine}
 use Rattle.tv_transfer.specs.Transfer.{IsOpening, HasNoOpening, AreResults, AreMessageValues}
 use Rattle.tv_transfer.proofs.Exact.{opening-once, results-once, values-once}
+use Rattle.tv_transfer.proofs.Shapes.{same-arities}
 use Rattle.tv_judge.specs.Index.{is_said, IsMessageIndex}
 use Rattle.tv_judge.specs.Items.{IsSource, Covers, IsMetBy, IsMet, is_same_item, own_line}
 use Rattle.tv_judge.specs.Judged.{Case, IsThere, MaySay, IsMapBy}
@@ -289,10 +289,6 @@ own-line-for lines i targets s line copy own same covers = record {
 }
 
 -- ---- programs and listings
-
-pub same-arities : (program : Program)
-    → program_arities (program_of program) ≡ map (λ pred. pred.arity) program.vocab.preds
-same-arities program = map-compose pred_of (λ d. d.arity) program.vocab.preds
 
 -- the structures at a node have the arities of the program
 pub listed-alike : (program : Program) (listing : List (List StructureForm)) (node : ℕ) (arities : List ℕ)

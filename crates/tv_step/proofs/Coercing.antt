@@ -11,7 +11,7 @@ use Rattle.tv_coerce.specs.Ready.{CanCoerce}
 use Rattle.tv_coerce.proofs.Ready.{closed_rules_can_be_tried}
 use Rattle.tv_step.specs.declared.setting.Setting.{Setting}
 use Rattle.tv_step.specs.Setting.{form_in, IsReady}
-use Rattle.tv_step.proofs.Shapes.{shaped-over}
+use Rattle.tv_transfer.proofs.Shapes.{shaped-over}
 use Rattle.tv_coerce.specs.Coerced.{IsCoercedTable, CoercesTo}
 use Rattle.tv_transfer.specs.Shaped.{IsShaped}
 use Rattle.tv_transfer.specs.Transfer.{Coerces}

@@ -1,8 +1,10 @@
--- What coerce and blur answer is the end of a step.
+-- What coerce and blur answer is what comes of a structure at a stage.
 use Rattle.std.proofs.Common.{◌≡◌, ◌∙◌, List, [], ◌∷◌, Option, None, Some, sym, ap, subst}
+use Rattle.std.specs.Prelude.{Result, Ok, Err, IfOk}
 use Rattle.std.proofs.lemmas.List.Elements.{All-nil, All-cons}
 use Rattle.tv_model.specs.declared.program.Program.{Program}
 use Rattle.tv_model.specs.Program.{ProgramForm, RuleForm, pred_of, program_of}
+use Rattle.tv_model.specs.Valid.{program_arities}
 use Rattle.tv_model.proofs.Lists.{map-compose}
 use Rattle.tv_rules.specs.Closing.{closed_rules}
 use Rattle.tv_struct.specs.StructureForm.{StructureForm, IsStructure, arities_of, kept_from}
@@ -10,17 +12,16 @@ use Rattle.tv_blur.specs.Blur.{IsBlur}
 use Rattle.tv_blur.specs.Names.{abstraction_preds}
 use Rattle.tv_coerce.specs.Coerced.{IsCoercedTable, CoercesTo}
 use Rattle.tv_transfer.specs.Shaped.{IsShaped, is_telling, telling_preds}
-use Rattle.tv_transfer.specs.Transfer.{IsBlurOf}
-use Rattle.tv_step.specs.Steps.{Ends}
-use Rattle.tv_step.proofs.Coercing.{none-coerces, some-coerces}
+use Rattle.tv_transfer.specs.Transfer.{Coerces, IsBlurOf}
+use Rattle.tv_transfer.proofs.Settled.{stable-coerces}
+use Rattle.tv_step.specs.declared.coerced.Ending.{Ending}
+use Rattle.tv_step.specs.declared.coerced.Ending.TheVariants.{Open, Blurred}
+use Rattle.tv_step.specs.Ending.{Becomes, IsEndOf}
+use Rattle.tv_step.specs.Setting.{IsStableIn}
+use Rattle.tv_step.proofs.Coercing.{none-coerces}
 
 pub same-preds : (program : Program) → telling_preds (program_of program) ≡ abstraction_preds program.vocab
 same-preds program = ap (kept_from 0) (map-compose pred_of is_telling program.vocab.preds)
-
-pub none-ends : (p : ProgramForm) (rules : List RuleForm) (s : StructureForm) (found : Option StructureForm)
-    → rules ≡ closed_rules p → CoercesTo rules s found → found ≡ None → Ends p s []
-none-ends p rules s found same to is =
-    (([], none-coerces p rules s found same to is, tt), All-nil IsStructure)
 
 pub coerced-over : (rules : List RuleForm) (s : StructureForm) (found : Option StructureForm)
     (t : StructureForm)
@@ -28,23 +29,41 @@ pub coerced-over : (rules : List RuleForm) (s : StructureForm) (found : Option S
 coerced-over rules s found t to is =
     let table : IsCoercedTable rules s t = subst (CoercesTo rules s) is to in table.over
 
-pub some-ends : (program : Program) (rules : List RuleForm) (s : StructureForm) (found : Option StructureForm)
-    (t u : StructureForm)
-    → rules ≡ closed_rules (program_of program) → IsShaped (program_of program) s → CoercesTo rules s found
-    → found ≡ Some t
-    → IsBlur (abstraction_preds program.vocab) t u → IsStructure u → Ends (program_of program) s (u ∷ [])
-some-ends program rules s found t u same shaped to is blur kept =
-    let p : ProgramForm = program_of program
-    in let blurred : IsBlurOf p t u
+-- what blur answers of both kinds
+pub both-answers : {T E : Type 0} (P Q : T → Type 0) (r : Result T E) → IfOk r P → IfOk r Q
+    → IfOk r (λ t. P t × Q t)
+both-answers P Q (Ok t) one other = (one, other)
+both-answers P Q (Err e) one other = tt
+
+pub none-becomes : (ending : Ending) (p : ProgramForm) (rules : List RuleForm) (s : StructureForm)
+    (found : Option StructureForm)
+    → rules ≡ closed_rules p → CoercesTo rules s found → found ≡ None → Becomes ending p s []
+none-becomes Open p rules s found same to is = none-coerces p rules s found same to is
+none-becomes Blurred p rules s found same to is =
+    (([], none-coerces p rules s found same to is, tt), All-nil IsStructure)
+
+pub some-becomes : (ending : Ending) (program : Program) (s t u : StructureForm)
+    → Coerces (program_of program) s (t ∷ []) → arities_of t ≡ program_arities (program_of program)
+    → IsEndOf ending program t u → Becomes ending (program_of program) s (u ∷ [])
+some-becomes Open program s t u coerced over end =
+    subst (λ (w : StructureForm). Coerces (program_of program) s (w ∷ [])) (sym end) coerced
+some-becomes Blurred program s t u coerced over (blur, kept) =
+    let blurred : IsBlurOf (program_of program) t u
     = (
       record {
-        over = blur.1.over ∙ coerced-over rules s found t to is ∙ shaped.over;
+        over = blur.1.over ∙ over;
         planes = kept.table.planes;
         summaries = kept.summaries;
       },
       subst (λ preds. IsBlur preds t u) (sym (same-preds program)) blur,
     )
-    in (
-      (t ∷ [], some-coerces p rules s found t same shaped to is, (blurred, tt)),
-      All-cons IsStructure u [] kept (All-nil IsStructure),
-    )
+    in ((t ∷ [], coerced, (blurred, tt)), All-cons IsStructure u [] kept (All-nil IsStructure))
+
+-- a stable structure is what coerce makes of it
+pub itself-becomes : (ending : Ending) (program : Program) (s from u : StructureForm) → s ≡ from
+    → IsShaped (program_of program) s → IsStableIn (program_of program) from → IsEndOf ending program s u
+    → Becomes ending (program_of program) s (u ∷ [])
+itself-becomes ending program s from u same shaped stable end =
+    some-becomes ending program s s u
+    (stable-coerces (program_of program) s shaped
+    (subst (IsStableIn (program_of program)) (sym same) stable)) shaped.over end

@@ -9,7 +9,6 @@ mod LeftAlone
 mod Noting
 mod Picking
 mod Said
-mod Shapes
 mod Sorting
 mod Stepping
 mod Turns

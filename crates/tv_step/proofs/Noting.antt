@@ -108,16 +108,14 @@ all-wait p action rules set is = record {
 
 -- what was put into a set leaves the others alone
 pub others-alone : (p : ProgramForm) (action : ActionForm) (rules : List RuleForm)
-    (none seeing updated set : List Bool)
+    (none updated set : List Bool)
     → moves_individuals action ≡ false → length none ≡ length rules
-    → HasMore (IsRuleThat SeesSummaries rules) none seeing
-    → HasRulesOf (Contains (map (λ w. w.pred) action.updates)) rules seeing updated
+    → HasRulesOf (Contains (map (λ w. w.pred) action.updates)) rules none updated
     → HasRulesOf (λ q. IsDefined (kind_at p q)) rules updated set → WaitsFor p action rules set
-others-alone p action rules none seeing updated set stays count sees updates defines = record {
-  count = defines.count ∙ updates.count ∙ sees.count ∙ count;
+others-alone p action rules none updated set stays count updates defines = record {
+  count = defines.count ∙ updates.count ∙ count;
   alone = λ n rule there out. record {
     stays = stays;
-    blind = λ is. out (defines.more n (updates.more n ((sees.exact n).1 (inr (rule, there, is)))));
     core = λ q stands. core-undefined (kind_at p q) (λ is. out (defines.standing n q rule there stands is));
     kept = λ q stands at. out (defines.more n (updates.standing n q rule there stands at));
   };

@@ -21,7 +21,7 @@ use Rattle.tv_transfer.proofs.Settled.{result-settled, stable-coerces}
 use Rattle.tv_step.specs.declared.step.StepOut.{StepOut}
 use Rattle.tv_step.specs.Steps.{AreResultsOf, AreValuesOf, IsCauseOfStep}
 use Rattle.tv_step.proofs.Budgeted.{budgets-kept, step-cause}
-use Rattle.tv_step.proofs.Shapes.{over-shaped}
+use Rattle.tv_transfer.proofs.Shapes.{over-shaped}
 
 -- a stable structure is what coerce makes of it
 pub stable-start : (program : Program) (s t : StructureForm) (old new : List StructureForm)

@@ -7,11 +7,10 @@ use Rattle.tv_applied.specs.Applied.{kind_at}
 use Rattle.tv_coerce.specs.RuleSets.{IsIn}
 use Rattle.tv_update.specs.Plan.{moves_individuals}
 
--- the action leaves the rule alone: no individual comes or goes, the rule doesn't see which are summaries,
--- and each predicate that stands in it is core and isn't updated
+-- the action leaves the rule alone: no individual comes or goes, and each predicate that stands in the rule is
+-- core and isn't updated
 pub record IsLeftAlone (p : ProgramForm) (action : ActionForm) (rule : RuleForm) : Type 0 where
   pub stays : moves_individuals action ≡ false
-  pub blind : ¬ SeesSummaries rule
   pub core : (q : ℕ) → StandsIn q rule → kind_at p q ≡ KCore
   pub kept : (q : ℕ) → StandsIn q rule → ¬ Contains (map (λ w. w.pred) action.updates) q
 

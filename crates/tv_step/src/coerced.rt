@@ -1,24 +1,57 @@
 //! Coerce in a step.
 
-ghost use Rattle.std.specs.Prelude.{◌≡◌, length, All, OnOk};
+ghost use Rattle.std.specs.Prelude.{◌≡◌, length, All, IfOk, IsTrue, OnOk};
 ghost use Rattle.tv_coerce.specs.RuleSets.{IsStableBut};
 ghost use Rattle.tv_rules.specs.EntryForms.{rules_of};
+ghost use Rattle.tv_struct.specs.StructureForm.{IsOver};
 ghost use Rattle.tv_transfer.specs.Parts.{AreFrom};
 ghost use Rattle.tv_transfer.specs.Shaped.{IsShaped};
-ghost use Rattle.tv_transfer.specs.Transfer.{Coerces};
+ghost use Rattle.tv_step.specs.Ending.{Becomes, IsEndOf, IsStage, stage_program, stage_rules};
 ghost use Rattle.tv_step.specs.Setting.{form_in, IsReady};
 ghost use Rattle.tv_step.specs.Steps.{Adds};
 
 use crate::setting::Setting;
 use std::alloc::AllocError;
+use tv_blur::blur;
 use tv_coerce::{RuleSet, coerce_waiting};
 use tv_eval::Scratch;
 use tv_struct::{Structure, Structures};
 
-/// Puts the greatest stable structure below `s` behind the others, if there is one. Only the rules that wait
-/// may be unmet.
+/// What is done with a coerced structure.
+#[derive(Clone, Copy, Debug, PartialEq, Eq)]
+pub enum Ending {
+    /// Nothing: the step goes on with it.
+    Open,
+    /// It is blurred: the step ends.
+    Blurred,
+}
+
+/// A stable structure, the rules that may be unmet in those that come of it, and what is done with these
+/// once they are coerced.
+#[derive(Clone, Copy)]
+pub struct Stage<'a> {
+    pub setting: &'a Setting<'a>,
+    pub from: &'a Structure,
+    pub waiting: &'a RuleSet,
+    pub ending: Ending,
+}
+
+/// What is done with the coerced structure.
+fn ended(x: &Setting, ending: Ending, t: Structure) -> Result<Structure, AllocError>
+    requires { IsOver x.now.program.now.vocab t }
+    ensures { IfOk result (IsEndOf ending x.now.program.now t) }
+{
+    match ending {
+        Ending::Open => Ok(t),
+        Ending::Blurred => blur(x.alloc, &x.program.vocab, &t),
+    }
+}
+
+/// Puts what comes of the greatest stable structure below `s` behind the others, if there is one. Only the
+/// rules that wait may be unmet.
 pub fn push_coerced(
     x: &Setting,
+    ending: Ending,
     waiting: &RuleSet,
     s: &Structure,
     scratch: &mut Scratch,
@@ -28,33 +61,62 @@ pub fn push_coerced(
     requires shaped { IsShaped (form_in x.now) s.now }
     requires count { length waiting.now ≡ length (rules_of x.now.closed.now) }
     requires rest { IsStableBut (rules_of x.now.closed.now) waiting.now s.now }
-    ensures out { OnOk result (Adds (Coerces (form_in x.now)) s.now out.old out.new) }
+    ensures out { OnOk result (Adds (Becomes ending (form_in x.now)) s.now out.old out.new) }
     ensures scratch { scratch.new ≡ scratch.old }
 {
     let _ = s.size();
     match coerce_waiting(x.alloc, x.closed, s, waiting, scratch)? {
         None => Ok(()),
-        Some(t) => out.push(t),
+        Some(t) => out.push(ended(x, ending, t)?),
     }
 }
 
-/// The same for each of the structures.
-pub fn push_all_coerced(
-    x: &Setting,
-    waiting: &RuleSet,
-    structures: &[Structure],
+/// Whether two structures without marks are the same.
+fn are_same(s: &Structure, t: &Structure) -> bool
+    ensures { IsTrue result → s.now ≡ t.now }
+{
+    match (s.fresh(), t.fresh()) {
+        (None, None) => s == t,
+        _ => false,
+    }
+}
+
+/// Puts what comes of `s`, coerced, behind the others. Where it is the stable structure itself, no rule is
+/// tried.
+fn push_next(
+    g: &Stage,
+    s: Structure,
     scratch: &mut Scratch,
     out: &mut Structures,
 ) -> Result<(), AllocError>
-    requires ready { IsReady x.now scratch.old }
-    requires shaped { All (IsShaped (form_in x.now)) structures.now }
-    requires count { length waiting.now ≡ length (rules_of x.now.closed.now) }
-    requires rest { All (IsStableBut (rules_of x.now.closed.now) waiting.now) structures.now }
-    ensures out { OnOk result (Adds (AreFrom (Coerces (form_in x.now))) structures.now out.old out.new) }
+    requires stage { IsStage g.now scratch.old }
+    requires shaped { IsShaped (stage_program g.now) s }
+    requires rest { IsStableBut (stage_rules g.now) g.now.waiting.now s }
+    ensures out { OnOk result (Adds (Becomes g.now.ending (stage_program g.now)) s out.old out.new) }
     ensures scratch { scratch.new ≡ scratch.old }
 {
-    for s in structures {
-        push_coerced(x, waiting, s, scratch, out)?;
+    if are_same(&s, g.from) {
+        return out.push(ended(g.setting, g.ending, s)?);
+    }
+    push_coerced(g.setting, g.ending, g.waiting, &s, scratch, out)
+}
+
+/// The same for each of the structures, which go one after the other.
+pub fn push_all(
+    g: &Stage,
+    structures: Structures,
+    scratch: &mut Scratch,
+    out: &mut Structures,
+) -> Result<(), AllocError>
+    requires stage { IsStage g.now scratch.old }
+    requires shaped { All (IsShaped (stage_program g.now)) structures }
+    requires rest { All (IsStableBut (stage_rules g.now) g.now.waiting.now) structures }
+    ensures out { OnOk result
+        (Adds (AreFrom (Becomes g.now.ending (stage_program g.now))) structures out.old out.new) }
+    ensures scratch { scratch.new ≡ scratch.old }
+{
+    for s in structures.into_vec() {
+        push_next(g, s, scratch, out)?;
     }
     Ok(())
 }

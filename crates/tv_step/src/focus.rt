@@ -14,7 +14,7 @@ ghost use Rattle.tv_step.specs.Places.{place_of};
 ghost use Rattle.tv_step.specs.Setting.{form_in, IsReady, IsStableIn};
 ghost use Rattle.tv_step.specs.Steps.{Adds, IsPlace, KeepsLimits, IsFocusCause, AreFocusedWithin, IsCauseOfFocus};
 
-use crate::coerced::push_all_coerced;
+use crate::coerced::{Ending, Stage, push_all};
 use crate::setting::Setting;
 use crate::waiting::waiting_at;
 use std::alloc::{AllocError, Global};
@@ -75,30 +75,36 @@ fn push_focused(
 {
     let vocab = &x.program.vocab;
     let choices = focus_stage(x.alloc, vocab, place.formula, place.atom, s)?;
-    push_all_coerced(x, waiting, choices.as_slice(), scratch, out)?;
+    let stage = Stage {
+        setting: x,
+        from: s,
+        waiting,
+        ending: Ending::Open,
+    };
+    push_all(&stage, choices, scratch, out)?;
     Ok(())
 }
 
-/// The structures at hand after the atom.
+/// The structures at hand after the atom, of those before it, which go one after the other.
 fn focus_all(
     x: &Setting,
     place: &Place<'_>,
-    at_hand: &[Structure],
+    at_hand: Structures,
     scratch: &mut Scratch,
 ) -> Result<Structures, StageError>
     requires ready { IsReady x.now scratch.old }
     requires place { IsPlace (form_in x.now) (place_of place.now) }
-    requires shaped { All (IsShaped (form_in x.now)) at_hand.now }
-    requires stable { All (IsStableIn (form_in x.now)) at_hand.now }
-    ensures out { IfOk result (AreFrom (Focuses (form_in x.now) (place_of place.now)) at_hand.now) }
-    ensures within { OnOk result (KeepsLimits (place_of place.now) at_hand.now) }
-    ensures cause { IfErr result (IsFocusCause (place_of place.now) at_hand.now) }
+    requires shaped { All (IsShaped (form_in x.now)) at_hand }
+    requires stable { All (IsStableIn (form_in x.now)) at_hand }
+    ensures out { IfOk result (AreFrom (Focuses (form_in x.now) (place_of place.now)) at_hand) }
+    ensures within { OnOk result (KeepsLimits (place_of place.now) at_hand) }
+    ensures cause { IfErr result (IsFocusCause (place_of place.now) at_hand) }
     ensures scratch { scratch.new ≡ scratch.old }
 {
     let waiting = waiting_at(x, place.formula)?;
     let mut out = Structures::new(x.alloc);
-    for s in at_hand {
-        push_focused(x, place, &waiting, s, scratch, &mut out)?;
+    for s in at_hand.into_vec() {
+        push_focused(x, place, &waiting, &s, scratch, &mut out)?;
     }
     Ok(out)
 }
@@ -120,7 +126,7 @@ pub fn focused(
 {
     let mut at_hand = start;
     for place in places {
-        at_hand = focus_all(x, place, at_hand.as_slice(), scratch)?;
+        at_hand = focus_all(x, place, at_hand, scratch)?;
     }
     Ok(at_hand)
 }

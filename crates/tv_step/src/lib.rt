@@ -3,7 +3,6 @@
 #![tactic(auto)]
 
 mod coerced;
-mod finish;
 mod focus;
 mod messages;
 mod opened;

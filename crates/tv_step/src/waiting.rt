@@ -94,8 +94,7 @@ pub fn waiting_at(x: &Setting, formula: &Formula) -> Result<RuleSet, AllocError>
 }
 
 /// The rules that the action may leave unmet in a structure that was stable: all, where individuals may come
-/// or go; else those that see which individuals are summaries, and those in which a predicate stands that is
-/// updated or has a definition.
+/// or go; else those in which a predicate stands that is updated or has a definition.
 pub fn waiting_after(x: &Setting, action: &Action) -> Result<RuleSet, AllocError>
     requires { length x.now.program.now.vocab.preds ≤ 512 }
     ensures { IfOk result
@@ -105,7 +104,6 @@ pub fn waiting_after(x: &Setting, action: &Action) -> Result<RuleSet, AllocError
         return RuleSet::of_all(x.alloc, x.closed);
     }
     let mut waiting = RuleSet::of_none(x.alloc, x.closed)?;
-    waiting.add_seeing(x.closed);
     add_updated(x, action.updates.as_slice(), &mut waiting);
     add_defined(x, &mut waiting);
     Ok(waiting)

@@ -5,3 +5,4 @@ pub mod Heaps
 pub mod Picked
 pub mod Runs
 pub mod Settled
+pub mod Shapes

@@ -1,9 +1,11 @@
-use Rattle.std.proofs.Common.{[]}
+use Rattle.std.proofs.Common.{◌∙◌, []}
 use Rattle.tv_rules.specs.EntryForms.{rules_of}
-use Rattle.tv_transfer.specs.Transfer.{Coerces}
+use Rattle.tv_transfer.proofs.Shapes.{shaped-over}
+use Rattle.tv_step.specs.Ending.{Becomes}
 use Rattle.tv_step.specs.Setting.{form_in}
 use Rattle.tv_step.proofs.Adding.{nothing-added}
-use Rattle.tv_step.proofs.Coercing.{can-coerce, none-coerces, push-adds, some-coerces}
+use Rattle.tv_step.proofs.Coercing.{can-coerce, push-adds, some-coerces}
+use Rattle.tv_step.proofs.Finishing.{coerced-over, none-becomes, some-becomes}
 use Rattle.tv_step.proofs.coerced.push_coerced.Goals as goal
 
 pub coerce_waiting-requires-clause-ready : goal.coerce_waiting-requires-clause-ready
@@ -14,16 +16,28 @@ coerce_waiting-requires-clause-ready c =
 pub returns-in-None-clause-out : goal.returns-in-None-clause-out
 returns-in-None-clause-out c = (
   [],
-  none-coerces (form_in c.args.x.now) (rules_of c.args.x.now.closed.now) c.args.s.now
+  none-becomes c.args.ending (form_in c.args.x.now) (rules_of c.args.x.now.closed.now) c.args.s.now
       c.in_ok-coerce_waiting.field-0
       c.requires.ready.rules c.in_ok-coerce_waiting.ensures.exact c.in-None.is,
   nothing-added c.args.out.now,
 )
 
-pub returns-in-Some-clause-out : goal.returns-in-Some-clause-out
-returns-in-Some-clause-out c =
-    push-adds (Coerces (form_in c.args.x.now)) c.args.s.now c.push.result c.args.out.now c.push.new.self
-    c.in-Some.t
-    (some-coerces (form_in c.args.x.now)
-    (rules_of c.args.x.now.closed.now) c.args.s.now c.in_ok-coerce_waiting.field-0 c.in-Some.t
-    c.requires.ready.rules c.requires.shaped c.in_ok-coerce_waiting.ensures.exact c.in-Some.is) c.push.ensures
+pub ended-requires : goal.ended-requires
+ended-requires c =
+    coerced-over (rules_of c.args.x.now.closed.now) c.args.s.now c.in_ok-coerce_waiting.field-0 c.in-Some.t
+    c.in_ok-coerce_waiting.ensures.exact c.in-Some.is
+    ∙ shaped-over c.args.x.now.program.now c.args.s.now c.requires.shaped
+
+pub returns-in_ok-ended-in-Some-clause-out : goal.returns-in_ok-ended-in-Some-clause-out
+returns-in_ok-ended-in-Some-clause-out c =
+    let rules = rules_of c.args.x.now.closed.now
+    in let found = c.in_ok-coerce_waiting.field-0
+    in let exact = c.in_ok-coerce_waiting.ensures.exact
+    in push-adds (Becomes c.args.ending (form_in c.args.x.now)) c.args.s.now c.push.result c.args.out.now
+    c.push.new.self c.in_ok-ended-in-Some.field-0
+    (some-becomes c.args.ending c.args.x.now.program.now c.args.s.now c.in-Some.t
+    c.in_ok-ended-in-Some.field-0
+    (some-coerces (form_in c.args.x.now) rules c.args.s.now found c.in-Some.t c.requires.ready.rules
+    c.requires.shaped exact c.in-Some.is)
+    (coerced-over rules c.args.s.now found c.in-Some.t exact c.in-Some.is ∙ c.requires.shaped.over)
+    c.in_ok-ended-in-Some.ensures) c.push.ensures

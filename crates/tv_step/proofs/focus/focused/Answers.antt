@@ -1,9 +1,7 @@
-use Rattle.std.proofs.Common.{All, map, take, sym, subst}
-use Rattle.tv_transfer.specs.Parts.{AreFrom}
-use Rattle.tv_transfer.specs.Transfer.{Focuses}
+use Rattle.std.proofs.Common.{map, take}
 use Rattle.tv_step.specs.Places.{place_of}
-use Rattle.tv_step.specs.Setting.{form_in, IsStableIn}
-use Rattle.tv_step.specs.Steps.{IsCauseOfFocus, IsFocusCause, KeepsLimits}
+use Rattle.tv_step.specs.Setting.{form_in}
+use Rattle.tv_step.specs.Steps.{IsCauseOfFocus}
 use Rattle.tv_step.proofs.Adding.{handed-on}
 use Rattle.tv_step.proofs.Stepping.{focus-stable}
 use Rattle.tv_step.proofs.Turns.{focus-fails, focus-shaped, focused-next, places-next}
@@ -17,13 +15,7 @@ returns-in_err-at_hand-clause-cause c =
     in handed-on
     (IsCauseOfFocus p (map place_of places) c.args.start) c.from_residual.result e c.from_residual.ensures.1
     (focus-fails p places c.loop-place.place-index c.place-item.result c.args.start c.loop-place.at_hand e
-    c.loop-place-test.true c.place-item.is c.loop-place.invariant.are
-    (subst (λ ss. IsFocusCause (place_of c.place-item.result) ss e) c.as_slice.ensures
-    c.in_err-at_hand.ensures.cause))
-
-pub focus_all-requires-clause-stable : goal.focus_all-requires-clause-stable
-focus_all-requires-clause-stable c =
-    subst (All (IsStableIn (form_in c.args.x.now))) (sym c.as_slice.ensures) c.loop-place.invariant.stable
+    c.loop-place-test.true c.place-item.is c.loop-place.invariant.are c.in_err-at_hand.ensures.cause)
 
 pub loop-place-preserved : goal.loop-place-preserved
 loop-place-preserved c =
@@ -36,10 +28,8 @@ loop-place-preserved c =
       are = rw (places-next places i c.place-item.result c.loop-place-test.true c.place-item.is)
           (focused-next p
           (map place_of (take i places)) place c.args.start c.loop-place.at_hand new
-          c.loop-place.invariant.are
-          (subst (λ ss. AreFrom (Focuses p place) ss new) c.as_slice.ensures c.in_ok-at_hand.ensures.out)
-          (subst (KeepsLimits place) c.as_slice.ensures c.in_ok-at_hand.ensures.within));
-      shaped = focus-shaped p place c.as_slice.result.now new c.in_ok-at_hand.ensures.out;
-      stable = focus-stable p place c.as_slice.result.now new c.in_ok-at_hand.ensures.out;
+          c.loop-place.invariant.are c.in_ok-at_hand.ensures.out c.in_ok-at_hand.ensures.within);
+      shaped = focus-shaped p place c.loop-place.at_hand new c.in_ok-at_hand.ensures.out;
+      stable = focus-stable p place c.loop-place.at_hand new c.in_ok-at_hand.ensures.out;
       scratch = cc;
     }

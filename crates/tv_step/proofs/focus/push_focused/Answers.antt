@@ -1,16 +1,12 @@
-use Rattle.std.proofs.Common.{◌∙◌, All, length, ap, sym, subst}
+use Rattle.std.proofs.Common.{◌∙◌, length, ap}
 use Rattle.std.proofs.lemmas.List.{length-map}
-use Rattle.tv_coerce.specs.RuleSets.{IsStableBut}
 use Rattle.tv_rules.specs.EntryForms.{rules_of}
 use Rattle.tv_model.specs.Form.{form_of}
 use Rattle.tv_step.specs.Places.{place_of}
 use Rattle.tv_step.specs.Setting.{form_in}
-use Rattle.tv_step.specs.Steps.{Adds}
-use Rattle.tv_transfer.specs.Parts.{AreFrom}
-use Rattle.tv_transfer.specs.Shaped.{IsShaped}
-use Rattle.tv_transfer.specs.Transfer.{Coerces, choices_at}
+use Rattle.tv_transfer.specs.Transfer.{choices_at}
+use Rattle.tv_transfer.proofs.Shapes.{shaped-over}
 use Rattle.tv_step.proofs.FocusStays.{focus-rest}
-use Rattle.tv_step.proofs.Shapes.{shaped-over}
 use Rattle.tv_step.proofs.Turns.{atoms-fit, focus-adds, tables-of, tables-shaped}
 use Rattle.tv_step.proofs.focus.push_focused.Goals as goal
 
@@ -22,38 +18,41 @@ focus_stage-requires-clause-formula c =
     atoms-fit (form_in c.args.x.now) c.args.s.now
     (form_of c.args.place.now.formula.now) c.requires.shaped c.requires.place.formula
 
-pub push_all_coerced-requires-clause-shaped : goal.push_all_coerced-requires-clause-shaped
-push_all_coerced-requires-clause-shaped c =
+pub push_all-requires-clause-stage : goal.push_all-requires-clause-stage
+push_all-requires-clause-stage c = record {
+  ready = c.requires.ready;
+  stable = c.requires.stable;
+  count = c.requires.waits.count;
+}
+
+pub push_all-requires-clause-shaped : goal.push_all-requires-clause-shaped
+push_all-requires-clause-shaped c =
     let p = form_in c.args.x.now
     in let choices = c.in_ok-choices.choices
     in let ls = choices_at c.args.s.now (place_of c.args.place.now)
-    in subst (All (IsShaped p)) (sym c.as_slice.ensures)
-    (tables-shaped p choices ls
-    (tables-of p c.args.s.now c.requires.shaped choices ls c.in_ok-choices.ensures.stage))
+    in tables-shaped p choices ls
+    (tables-of p c.args.s.now c.requires.shaped choices ls c.in_ok-choices.ensures.stage)
 
-pub push_all_coerced-requires-clause-rest : goal.push_all_coerced-requires-clause-rest
-push_all_coerced-requires-clause-rest c =
+pub push_all-requires-clause-rest : goal.push_all-requires-clause-rest
+push_all-requires-clause-rest c =
     let x = c.args.x.now
     in let p = form_in x
     in let s = c.args.s.now
     in let place = place_of c.args.place.now
     in let choices = c.in_ok-choices.choices
-    in let rules = rules_of x.closed.now
-    in subst (All (IsStableBut rules c.args.waiting.now)) (sym c.as_slice.ensures)
-    (focus-rest p c.requires.ready.valid s place choices (length x.program.now.vocab.preds) rules
-    c.args.waiting.now c.requires.ready.rules c.requires.shaped c.requires.stable
+    in focus-rest p c.requires.ready.valid s place choices (length x.program.now.vocab.preds)
+    (rules_of x.closed.now) c.args.waiting.now c.requires.ready.rules c.requires.shaped c.requires.stable
     (tables-of p s c.requires.shaped choices (choices_at s place) c.in_ok-choices.ensures.stage)
     (atoms-fit p s place.formula c.requires.shaped c.requires.place.formula) c.requires.place.atom
     (ap length (shaped-over x.program.now s c.requires.shaped)
-    ∙ length-map x.program.now.vocab.preds (λ pred. pred.arity)) c.requires.waits)
+    ∙ length-map x.program.now.vocab.preds (λ pred. pred.arity)) c.requires.waits
 
 pub returns-clause-out : goal.returns-clause-out
 returns-clause-out c =
     let p = form_in c.args.x.now
     in let choices = c.in_ok-choices.choices
     in let place = place_of c.args.place.now
-    in focus-adds p place c.args.s.now choices c.args.out.now c.push_all_coerced.new.out
+    in focus-adds p place c.args.s.now choices c.args.out.now c.push_all.new.out
     (tables-of p c.args.s.now c.requires.shaped choices
     (choices_at c.args.s.now place) c.in_ok-choices.ensures.stage)
-    (subst (λ ts. Adds (AreFrom (Coerces p)) ts c.args.out.now c.push_all_coerced.new.out) c.as_slice.ensures
-    c.in_ok-push_all_coerced.ensures.out)
+    c.in_ok-push_all.ensures.out

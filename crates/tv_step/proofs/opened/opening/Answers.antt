@@ -6,7 +6,7 @@ use Rattle.tv_coerce.proofs.Ready.{closed_rules_can_be_tried}
 use Rattle.tv_transfer.proofs.Settled.{opening-settled}
 use Rattle.tv_step.proofs.Beginnings.{no-opening, none-only, none-starts, some-only, some-opening, some-starts}
 use Rattle.tv_step.proofs.Finishing.{coerced-over}
-use Rattle.tv_step.proofs.Shapes.{over-shaped}
+use Rattle.tv_transfer.proofs.Shapes.{over-shaped}
 use Rattle.tv_step.proofs.opened.opening.Goals as goal
 
 pub coerce-requires : goal.coerce-requires

@@ -1,17 +1,15 @@
 use Rattle.std.proofs.Common.{◌∙◌, All, map, sym, subst}
 use Rattle.tv_eval.specs.AssignmentForm.{IsAssigned, assignment_of}
 use Rattle.tv_applied.specs.Choices.{AreGiven}
-use Rattle.tv_coerce.specs.RuleSets.{IsStableBut}
 use Rattle.tv_rules.specs.EntryForms.{rules_of}
 use Rattle.tv_struct.specs.StructureForm.{structure_of}
-use Rattle.tv_transfer.specs.Parts.{AreFrom}
 use Rattle.tv_update.specs.Update.{IsUpdateCause, IsWithinLimits}
 use Rattle.tv_step.specs.Job.{case_program, case_action, case_mode, case_structure}
-use Rattle.tv_step.specs.Steps.{Adds, Ends, IsCauseOfPick}
+use Rattle.tv_step.specs.Steps.{IsCauseOfPick}
 use Rattle.tv_step.proofs.Adding.{handed-on}
 use Rattle.tv_step.proofs.LeftAlone.{given-rest}
 use Rattle.tv_step.proofs.Picking.{given-adds, given-shaped, pick-cause, same-action}
-use Rattle.tv_step.proofs.Shapes.{shaped-over}
+use Rattle.tv_transfer.proofs.Shapes.{shaped-over}
 use Rattle.tv_step.proofs.picks.push_given.Goals as goal
 
 pub update-requires-clause-over : goal.update-requires-clause-over
@@ -37,8 +35,20 @@ returns-in_err-given-clause-cause c =
     (pick-cause action s a e (sym c.is_passed.ensures.value ∙ c.if-not-is_passed.false)
     (subst (λ act. IsUpdateCause act s a e) same c.in_err-given.ensures.cause))
 
-pub push_all_finished-requires-clause-rest : goal.push_all_finished-requires-clause-rest
-push_all_finished-requires-clause-rest c =
+pub push_all-requires-clause-stage : goal.push_all-requires-clause-stage
+push_all-requires-clause-stage c = record {
+  ready = c.requires.case.ready;
+  stable = c.requires.case.stable;
+  count = c.requires.case.waits.count;
+}
+
+pub push_all-requires-clause-shaped : goal.push_all-requires-clause-shaped
+push_all-requires-clause-shaped c =
+    given-shaped (case_program c.args.c.now) (case_structure c.args.c.now) c.in_ok-given.given
+    c.requires.case.shaped c.in_ok-given.ensures.over
+
+pub push_all-requires-clause-rest : goal.push_all-requires-clause-rest
+push_all-requires-clause-rest c =
     let p = case_program c.args.c.now
     in let action = case_action c.args.c.now
     in let s = case_structure c.args.c.now
@@ -46,12 +56,11 @@ push_all_finished-requires-clause-rest c =
     in let given = c.in_ok-given.given
     in let same = same-action c.args.c.now.setting.now.program.now c.args.c.now.job.now.number action
     c.requires.case.job
-    in let rules = rules_of c.args.c.now.setting.now.closed.now
-    in subst (All (IsStableBut rules c.args.c.now.waiting.now)) (sym c.as_slice.ensures)
-    (given-rest p c.requires.case.ready.valid (case_mode c.args.c.now) action s a given rules
+    in given-rest p c.requires.case.ready.valid (case_mode c.args.c.now) action s a given
+    (rules_of c.args.c.now.setting.now.closed.now)
     c.args.c.now.waiting.now c.requires.case.ready.rules c.requires.case.stable
     (subst (λ act. AreGiven p (case_mode c.args.c.now) act (structure_of s) a (map structure_of given)) same
-    c.in_ok-given.ensures.given) c.requires.case.waits)
+    c.in_ok-given.ensures.given) c.requires.case.waits
 
 pub returns-clause-within : goal.returns-clause-within
 returns-clause-within c = λ passed.
@@ -69,10 +78,9 @@ returns-clause-out c =
     in let given = c.in_ok-given.given
     in let same = same-action c.args.c.now.setting.now.program.now c.args.c.now.job.now.number action
     c.requires.case.job
-    in given-adds p (case_mode c.args.c.now) action s a given c.args.out.now c.push_all_finished.new.out
+    in given-adds p (case_mode c.args.c.now) action s a given c.args.out.now c.push_all.new.out
     (sym c.is_passed.ensures.value ∙ c.if-not-is_passed.false)
     (subst (λ act. AreGiven p (case_mode c.args.c.now) act (structure_of s) a (map structure_of given)) same
     c.in_ok-given.ensures.given)
     (given-shaped p s given c.requires.case.shaped c.in_ok-given.ensures.over)
-    (subst (λ ts. Adds (AreFrom (Ends p)) ts c.args.out.now c.push_all_finished.new.out) c.as_slice.ensures
-    c.in_ok-push_all_finished.ensures.out)
+    c.in_ok-push_all.ensures.out

@@ -8,7 +8,7 @@ use Rattle.tv_step.specs.Steps.{AreResultsOf}
 use Rattle.tv_step.proofs.Adding.{adds-first}
 use Rattle.tv_step.proofs.Noting.{all-rest}
 use Rattle.tv_step.proofs.Said.{step-said}
-use Rattle.tv_step.proofs.Shapes.{over-shaped}
+use Rattle.tv_transfer.proofs.Shapes.{over-shaped}
 use Rattle.tv_step.proofs.Stepping.{coerces-stable}
 use Rattle.tv_step.proofs.step.abstract_step.Goals as goal
 

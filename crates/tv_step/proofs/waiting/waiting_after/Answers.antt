@@ -13,9 +13,8 @@ returns c =
     let rules = rules_of c.args.x.now.closed.now
     in let updates = c.args.action.now.updates
     in others-alone (form_in c.args.x.now) (action_of c.args.action.now) rules c.in_ok-waiting.waiting
-    c.add_seeing.new.self c.add_updated.new.waiting c.add_defined.new.waiting
-    (sym c.moves.ensures ∙ c.if-moves.false)
-    (ap length c.in_ok-waiting.ensures ∙ length-replicate (length rules) false) c.add_seeing.ensures
-    (subst (λ preds. HasRulesOf (Contains preds) rules c.add_seeing.new.self c.add_updated.new.waiting)
+    c.add_updated.new.waiting c.add_defined.new.waiting (sym c.moves.ensures ∙ c.if-moves.false)
+    (ap length c.in_ok-waiting.ensures ∙ length-replicate (length rules) false)
+    (subst (λ preds. HasRulesOf (Contains preds) rules c.in_ok-waiting.waiting c.add_updated.new.waiting)
     (ap (map (λ w. w.pred.0)) c.as_slice.ensures ∙ sym (map-compose update_of (λ w. w.pred) updates))
     c.add_updated.ensures) c.add_defined.ensures

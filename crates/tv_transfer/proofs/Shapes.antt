@@ -1,4 +1,4 @@
--- Structures over the program of a setting.
+-- Structures over a program, as its vocabulary and as its form tell.
 use Rattle.std.proofs.Common.{◌≡◌, ◌∙◌, map, sym}
 use Rattle.tv_model.specs.declared.program.Program.{Program}
 use Rattle.tv_model.specs.Program.{pred_of, program_of}

@@ -1,0 +1,11 @@
+use Rattle.std.proofs.Common.{◌≡◌}
+use Rattle.tv_transfer.specs.Parts.{AreFrom}
+use Rattle.tv_step.specs.Ending.{Becomes, stage_program}
+use Rattle.tv_step.specs.Steps.{Adds}
+use Rattle.tv_step.proofs.coerced.push_all.Given as goal
+
+abbrev pub invariant-loop-s : goal.invariant-loop-s
+invariant-loop-s l = record {
+  out : Adds (AreFrom (Becomes l.g.ending (stage_program l.g))) l.yielded l.fn.out l.out;
+  scratch : l.scratch ≡ l.fn.scratch;
+}
