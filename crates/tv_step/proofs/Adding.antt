@@ -61,6 +61,21 @@ nothing-added ys = sym (append-nil ys)
 pub all-more : {X : Type 0} (P : X → Type 0) (xs : List X) (x : X) → All P xs → P x → All P (xs ++ x ∷ [])
 all-more P xs x before own = All-append P xs (x ∷ []) before (All-cons P x [] own (All-nil P))
 
+-- what comes of the next of a list's elements is put
+pub adds-next : {X Y : Type 0} (R : X → List Y → Type 0) (xs : List X) (i : ℕ) (x : X) (ys zs ws : List Y)
+    → i < length xs
+    → x ≡ get_or xs i x → Adds (AreFrom R) (take i xs) ys zs → Adds R x zs ws
+    → Adds (AreFrom R) (take (i + 1) xs) ys ws
+adds-next R xs i x ys zs ws lt is before made =
+    rw (add-one, take-suc xs i x lt, ← is) (adds-more R (take i xs) x ys zs ws before made)
+
+-- what holds of the next of a list's elements too
+pub all-next : {X : Type 0} (P : X → Type 0) (xs : List X) (i : ℕ) (x : X) → i < length xs → x ≡ get_or xs i x
+    → All P (take i xs) → P x → All P (take (i + 1) xs)
+all-next P xs i x lt is before own =
+    rw (add-one, take-suc xs i x lt, ← is)
+    (All-append P (take i xs) (x ∷ []) before (All-cons P x [] own (All-nil P)))
+
 pub item-there : {X : Type 0} (xs : List X) (i : ℕ) (x : X) → i < length xs → x ≡ get_or xs i x
     → Contains xs x
 item-there xs i x lt is = (i, lt, sym is)

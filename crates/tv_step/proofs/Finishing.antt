@@ -1,6 +1,5 @@
 -- What coerce and blur answer is what comes of a structure at a stage.
 use Rattle.std.proofs.Common.{◌≡◌, ◌∙◌, List, [], ◌∷◌, Option, None, Some, sym, ap, subst}
-use Rattle.std.specs.Prelude.{Result, Ok, Err, IfOk}
 use Rattle.std.proofs.lemmas.List.Elements.{All-nil, All-cons}
 use Rattle.tv_model.specs.declared.program.Program.{Program}
 use Rattle.tv_model.specs.Program.{ProgramForm, RuleForm, pred_of, program_of}
@@ -28,12 +27,6 @@ pub coerced-over : (rules : List RuleForm) (s : StructureForm) (found : Option S
     → CoercesTo rules s found → found ≡ Some t → arities_of t ≡ arities_of s
 coerced-over rules s found t to is =
     let table : IsCoercedTable rules s t = subst (CoercesTo rules s) is to in table.over
-
--- what blur answers of both kinds
-pub both-answers : {T E : Type 0} (P Q : T → Type 0) (r : Result T E) → IfOk r P → IfOk r Q
-    → IfOk r (λ t. P t × Q t)
-both-answers P Q (Ok t) one other = (one, other)
-both-answers P Q (Err e) one other = tt
 
 pub none-becomes : (ending : Ending) (p : ProgramForm) (rules : List RuleForm) (s : StructureForm)
     (found : Option StructureForm)

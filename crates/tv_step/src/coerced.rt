@@ -6,8 +6,8 @@ ghost use Rattle.tv_rules.specs.EntryForms.{rules_of};
 ghost use Rattle.tv_struct.specs.StructureForm.{IsOver};
 ghost use Rattle.tv_transfer.specs.Parts.{AreFrom};
 ghost use Rattle.tv_transfer.specs.Shaped.{IsShaped};
-ghost use Rattle.tv_step.specs.Ending.{Becomes, IsEndOf, IsStage, stage_program, stage_rules};
-ghost use Rattle.tv_step.specs.Setting.{form_in, IsReady};
+ghost use Rattle.tv_step.specs.Ending.{Becomes, IsEndOf};
+ghost use Rattle.tv_step.specs.Setting.{form_in, IsReady, IsStableIn};
 ghost use Rattle.tv_step.specs.Steps.{Adds};
 
 use crate::setting::Setting;
@@ -24,16 +24,6 @@ pub enum Ending {
     Open,
     /// It is blurred: the step ends.
     Blurred,
-}
-
-/// A stable structure, the rules that may be unmet in those that come of it, and what is done with these
-/// once they are coerced.
-#[derive(Clone, Copy)]
-pub struct Stage<'a> {
-    pub setting: &'a Setting<'a>,
-    pub from: &'a Structure,
-    pub waiting: &'a RuleSet,
-    pub ending: Ending,
 }
 
 /// What is done with the coerced structure.
@@ -81,42 +71,50 @@ fn are_same(s: &Structure, t: &Structure) -> bool
     }
 }
 
-/// Puts what comes of `s`, coerced, behind the others. Where it is the stable structure itself, no rule is
-/// tried.
+/// The same for a structure that came of the stable one `from`. Where it is that one again, no rule is tried.
 fn push_next(
-    g: &Stage,
+    x: &Setting,
+    ending: Ending,
+    waiting: &RuleSet,
+    from: &Structure,
     s: Structure,
     scratch: &mut Scratch,
     out: &mut Structures,
 ) -> Result<(), AllocError>
-    requires stage { IsStage g.now scratch.old }
-    requires shaped { IsShaped (stage_program g.now) s }
-    requires rest { IsStableBut (stage_rules g.now) g.now.waiting.now s }
-    ensures out { OnOk result (Adds (Becomes g.now.ending (stage_program g.now)) s out.old out.new) }
+    requires ready { IsReady x.now scratch.old }
+    requires from { IsStableIn (form_in x.now) from.now }
+    requires shaped { IsShaped (form_in x.now) s }
+    requires count { length waiting.now ≡ length (rules_of x.now.closed.now) }
+    requires rest { IsStableBut (rules_of x.now.closed.now) waiting.now s }
+    ensures out { OnOk result (Adds (Becomes ending (form_in x.now)) s out.old out.new) }
     ensures scratch { scratch.new ≡ scratch.old }
 {
-    if are_same(&s, g.from) {
-        return out.push(ended(g.setting, g.ending, s)?);
+    if are_same(&s, from) {
+        return out.push(ended(x, ending, s)?);
     }
-    push_coerced(g.setting, g.ending, g.waiting, &s, scratch, out)
+    push_coerced(x, ending, waiting, &s, scratch, out)
 }
 
-/// The same for each of the structures, which go one after the other.
+/// The same for each of the structures that came of it; each goes as soon as it is coerced.
 pub fn push_all(
-    g: &Stage,
+    x: &Setting,
+    ending: Ending,
+    waiting: &RuleSet,
+    from: &Structure,
     structures: Structures,
     scratch: &mut Scratch,
     out: &mut Structures,
 ) -> Result<(), AllocError>
-    requires stage { IsStage g.now scratch.old }
-    requires shaped { All (IsShaped (stage_program g.now)) structures }
-    requires rest { All (IsStableBut (stage_rules g.now) g.now.waiting.now) structures }
-    ensures out { OnOk result
-        (Adds (AreFrom (Becomes g.now.ending (stage_program g.now))) structures out.old out.new) }
+    requires ready { IsReady x.now scratch.old }
+    requires from { IsStableIn (form_in x.now) from.now }
+    requires shaped { All (IsShaped (form_in x.now)) structures }
+    requires count { length waiting.now ≡ length (rules_of x.now.closed.now) }
+    requires rest { All (IsStableBut (rules_of x.now.closed.now) waiting.now) structures }
+    ensures out { OnOk result (Adds (AreFrom (Becomes ending (form_in x.now))) structures out.old out.new) }
     ensures scratch { scratch.new ≡ scratch.old }
 {
     for s in structures.into_vec() {
-        push_next(g, s, scratch, out)?;
+        push_next(x, ending, waiting, from, s, scratch, out)?;
     }
     Ok(())
 }

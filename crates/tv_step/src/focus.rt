@@ -14,7 +14,7 @@ ghost use Rattle.tv_step.specs.Places.{place_of};
 ghost use Rattle.tv_step.specs.Setting.{form_in, IsReady, IsStableIn};
 ghost use Rattle.tv_step.specs.Steps.{Adds, IsPlace, KeepsLimits, IsFocusCause, AreFocusedWithin, IsCauseOfFocus};
 
-use crate::coerced::{Ending, Stage, push_all};
+use crate::coerced::{Ending, push_all};
 use crate::setting::Setting;
 use crate::waiting::waiting_at;
 use std::alloc::{AllocError, Global};
@@ -75,13 +75,7 @@ fn push_focused(
 {
     let vocab = &x.program.vocab;
     let choices = focus_stage(x.alloc, vocab, place.formula, place.atom, s)?;
-    let stage = Stage {
-        setting: x,
-        from: s,
-        waiting,
-        ending: Ending::Open,
-    };
-    push_all(&stage, choices, scratch, out)?;
+    push_all(x, Ending::Open, waiting, s, choices, scratch, out)?;
     Ok(())
 }
 

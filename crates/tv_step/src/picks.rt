@@ -9,7 +9,7 @@ ghost use Rattle.tv_model.specs.Valid.{IsVariable};
 ghost use Rattle.tv_step.specs.Job.{IsCase, ArePicked, ArePickedBut, case_program, case_action, case_mode, case_structure};
 ghost use Rattle.tv_step.specs.Steps.{Adds, passes, PickGives, PicksGive, PickKeepsLimits, PicksKeepLimits, IsCauseOfPick, IsCauseOfPicks, StepsIn, KeepsUpdateLimits, IsCauseOfUpdate};
 
-use crate::coerced::{Ending, Stage, push_all};
+use crate::coerced::{Ending, push_all};
 use crate::setting::{Job, Setting};
 use tv_coerce::RuleSet;
 use tv_eval::{Assignment, Scratch, eval};
@@ -89,13 +89,7 @@ fn push_given(
         picks,
         scratch,
     )?;
-    let stage = Stage {
-        setting: x,
-        from: c.from,
-        waiting: c.waiting,
-        ending: Ending::Blurred,
-    };
-    push_all(&stage, given, scratch, out)?;
+    push_all(x, Ending::Blurred, c.waiting, c.from, given, scratch, out)?;
     Ok(())
 }
 

@@ -40,33 +40,33 @@ pub struct StepOut {
     pub messages: Values,
 }
 
-/// What the structures at hand give, one after the other; each goes once it has given.
-fn given(
-    x: &Setting,
-    job: &Job,
-    waiting: &RuleSet,
-    at_hand: Structures,
+/// What the structures at hand give, one after the other.
+fn given<'a>(
+    x: &'a Setting<'a>,
+    job: &'a Job<'a>,
+    waiting: &'a RuleSet,
+    at_hand: &'a [Structure],
     scratch: &mut Scratch,
 ) -> Result<Structures, StageError>
     requires ready { IsReady x.now scratch.old }
     requires job { IsJobOf (form_in x.now) job.now }
     requires waits { WaitsFor (form_in x.now) (action_in job.now) (rules_of x.now.closed.now) waiting.now }
-    requires shaped { All (IsShaped (form_in x.now)) at_hand }
-    requires stable { All (IsStableIn (form_in x.now)) at_hand }
+    requires shaped { All (IsShaped (form_in x.now)) at_hand.now }
+    requires stable { All (IsStableIn (form_in x.now)) at_hand.now }
     ensures out { IfOk result
-        (AreFrom (StepsIn (form_in x.now) job.now.mode (action_in job.now)) at_hand) }
-    ensures within { OnOk result (All (KeepsUpdateLimits (action_in job.now)) at_hand) }
-    ensures cause { IfErr result (IsCauseOfUpdates (action_in job.now) at_hand) }
+        (AreFrom (StepsIn (form_in x.now) job.now.mode (action_in job.now)) at_hand.now) }
+    ensures within { OnOk result (All (KeepsUpdateLimits (action_in job.now)) at_hand.now) }
+    ensures cause { IfErr result (IsCauseOfUpdates (action_in job.now) at_hand.now) }
     ensures scratch { scratch.new ≡ scratch.old }
 {
     let mut out = Structures::new(x.alloc);
-    for from in at_hand.into_vec() {
+    for from in at_hand {
         let _ = from.size();
         let case = Case {
             setting: x,
             job,
             waiting,
-            from: &from,
+            from,
         };
         push_steps(&case, scratch, &mut out)?;
     }
@@ -111,7 +111,7 @@ fn step_from(
     let conditions = job.action.messages.as_slice();
     let messages = values_of(x, conditions, at_hand.as_slice(), scratch)?;
     let waiting = waiting_after(x, job.action)?;
-    let given = given(x, job, &waiting, at_hand, scratch)?;
+    let given = given(x, job, &waiting, at_hand.as_slice(), scratch)?;
     let results = in_order(given)?;
     Ok(StepOut { results, messages })
 }

@@ -1,16 +1,14 @@
-use Rattle.std.proofs.Common.{length, rules, sym, subst}
+use Rattle.std.proofs.Common.{length, rules, sym}
 use Rattle.std.proofs.lemmas.Iterator.Adapters.{YieldsList-from_vec}
 use Rattle.std.proofs.lemmas.Iterator.Consumers.{YieldsList-turn}
 use Rattle.std.proofs.lemmas.List.Elements.{All-contains}
 use Rattle.tv_coerce.specs.RuleSets.{IsStableBut}
+use Rattle.tv_rules.specs.EntryForms.{rules_of}
 use Rattle.tv_transfer.specs.Shaped.{IsShaped}
-use Rattle.tv_step.specs.Ending.{Becomes, IsStage, stage_program, stage_rules}
+use Rattle.tv_step.specs.Ending.{Becomes}
+use Rattle.tv_step.specs.Setting.{form_in}
 use Rattle.tv_step.proofs.Adding.{adds-more}
 use Rattle.tv_step.proofs.coerced.push_all.Goals as goal
-
-pub push_next-requires-clause-stage : goal.push_next-requires-clause-stage
-push_next-requires-clause-stage c =
-    subst (IsStage c.args.g.now) (sym c.loop-s.invariant.scratch) c.requires.stage
 
 pub push_next-requires-clause-shaped : goal.push_next-requires-clause-shaped
 push_next-requires-clause-shaped c =
@@ -18,7 +16,7 @@ push_next-requires-clause-shaped c =
     (YieldsList-from_vec {s = c.into_iter-s-iterator.result} c.args.structures (search rules) (search rules))
     c.loop-s.yielded c.loop-s.s-iterator c.loop-s.yielded_by c.next.result c.next.new.self c.in-Some.s
     c.in-Some.is c.next.ensures.steps
-    in All-contains (IsShaped (stage_program c.args.g.now)) c.args.structures c.in-Some.s c.requires.shaped
+    in All-contains (IsShaped (form_in c.args.x.now)) c.args.structures c.in-Some.s c.requires.shaped
     (length c.loop-s.yielded, turn.0, sym turn.1)
 
 pub push_next-requires-clause-rest : goal.push_next-requires-clause-rest
@@ -27,12 +25,12 @@ push_next-requires-clause-rest c =
     (YieldsList-from_vec {s = c.into_iter-s-iterator.result} c.args.structures (search rules) (search rules))
     c.loop-s.yielded c.loop-s.s-iterator c.loop-s.yielded_by c.next.result c.next.new.self c.in-Some.s
     c.in-Some.is c.next.ensures.steps
-    in All-contains (IsStableBut (stage_rules c.args.g.now) c.args.g.now.waiting.now) c.args.structures
+    in All-contains (IsStableBut (rules_of c.args.x.now.closed.now) c.args.waiting.now) c.args.structures
     c.in-Some.s c.requires.rest (length c.loop-s.yielded, turn.0, sym turn.1)
 
 pub loop-s-preserved : goal.loop-s-preserved
 loop-s-preserved c = record {
-  out = adds-more (Becomes c.args.g.now.ending (stage_program c.args.g.now)) c.loop-s.yielded c.in-Some.s
+  out = adds-more (Becomes c.args.ending (form_in c.args.x.now)) c.loop-s.yielded c.in-Some.s
       c.args.out.now c.loop-s.out c.push_next.new.out c.loop-s.invariant.out c.in_ok-push_next.ensures.out;
   scratch = cc;
 }

@@ -1,11 +1,12 @@
 use Rattle.std.proofs.Common.{◌≡◌}
 use Rattle.tv_transfer.specs.Parts.{AreFrom}
-use Rattle.tv_step.specs.Ending.{Becomes, stage_program}
+use Rattle.tv_step.specs.Ending.{Becomes}
+use Rattle.tv_step.specs.Setting.{form_in}
 use Rattle.tv_step.specs.Steps.{Adds}
 use Rattle.tv_step.proofs.coerced.push_all.Given as goal
 
 abbrev pub invariant-loop-s : goal.invariant-loop-s
 invariant-loop-s l = record {
-  out : Adds (AreFrom (Becomes l.g.ending (stage_program l.g))) l.yielded l.fn.out l.out;
+  out : Adds (AreFrom (Becomes l.ending (form_in l.x))) l.yielded l.fn.out l.out;
   scratch : l.scratch ≡ l.fn.scratch;
 }

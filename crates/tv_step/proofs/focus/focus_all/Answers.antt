@@ -1,7 +1,7 @@
-use Rattle.std.proofs.Common.{[], ◌≤◌, length, rules, sym, subst}
+use Rattle.std.proofs.Common.{[], ◌∙◌, ◌≤◌, length, rules, sym, subst}
 use Rattle.std.proofs.lemmas.Iterator.Adapters.{YieldsList-from_vec}
-use Rattle.std.proofs.lemmas.Iterator.Consumers.{YieldsList-turn}
-use Rattle.std.proofs.lemmas.List.{length-map}
+use Rattle.std.proofs.lemmas.Iterator.Consumers.{YieldsList-end, YieldsList-turn}
+use Rattle.std.proofs.lemmas.List.{length-map, map-id}
 use Rattle.std.proofs.lemmas.List.Elements.{All-contains}
 use Rattle.tv_model.specs.Program.{pred_of}
 use Rattle.tv_focus.specs.Stage.{IsWithinLimits}
@@ -9,7 +9,7 @@ use Rattle.tv_transfer.specs.Shaped.{IsShaped}
 use Rattle.tv_transfer.specs.Transfer.{Focuses}
 use Rattle.tv_step.specs.Places.{place_of}
 use Rattle.tv_step.specs.Setting.{form_in, IsStableIn}
-use Rattle.tv_step.specs.Steps.{IsFocusCause}
+use Rattle.tv_step.specs.Steps.{IsFocusCause, KeepsLimits}
 use Rattle.tv_step.proofs.Adding.{adds-more, all-more, handed-on}
 use Rattle.tv_step.proofs.Turns.{cause-in}
 use Rattle.tv_step.proofs.focus.focus_all.Goals as goal
@@ -61,3 +61,12 @@ loop-s-preserved c =
           c.loop-s.invariant.within c.in_ok-push_focused.ensures.within;
       scratch = cc;
     }
+
+pub returns-clause-within : goal.returns-clause-within
+returns-clause-within c =
+    let all = YieldsList-end
+    (YieldsList-from_vec {s = c.into_iter-s-iterator.result} c.args.at_hand (search rules) (search rules))
+    c.loop-s.yielded c.loop-s.s-iterator c.loop-s.yielded_by c.next.result c.next.new.self c.in-None.is
+    c.next.ensures.steps
+    in subst (KeepsLimits (place_of c.args.place.now)) (sym (map-id c.loop-s.yielded) ∙ all.0)
+    c.loop-s.invariant.within

@@ -18,13 +18,6 @@ focus_stage-requires-clause-formula c =
     atoms-fit (form_in c.args.x.now) c.args.s.now
     (form_of c.args.place.now.formula.now) c.requires.shaped c.requires.place.formula
 
-pub push_all-requires-clause-stage : goal.push_all-requires-clause-stage
-push_all-requires-clause-stage c = record {
-  ready = c.requires.ready;
-  stable = c.requires.stable;
-  count = c.requires.waits.count;
-}
-
 pub push_all-requires-clause-shaped : goal.push_all-requires-clause-shaped
 push_all-requires-clause-shaped c =
     let p = form_in c.args.x.now

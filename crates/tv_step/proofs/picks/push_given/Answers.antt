@@ -35,13 +35,6 @@ returns-in_err-given-clause-cause c =
     (pick-cause action s a e (sym c.is_passed.ensures.value ∙ c.if-not-is_passed.false)
     (subst (λ act. IsUpdateCause act s a e) same c.in_err-given.ensures.cause))
 
-pub push_all-requires-clause-stage : goal.push_all-requires-clause-stage
-push_all-requires-clause-stage c = record {
-  ready = c.requires.case.ready;
-  stable = c.requires.case.stable;
-  count = c.requires.case.waits.count;
-}
-
 pub push_all-requires-clause-shaped : goal.push_all-requires-clause-shaped
 push_all-requires-clause-shaped c =
     given-shaped (case_program c.args.c.now) (case_structure c.args.c.now) c.in_ok-given.given

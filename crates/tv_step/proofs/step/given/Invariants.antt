@@ -1,4 +1,4 @@
-use Rattle.std.proofs.Common.{[], ◌≡◌, All}
+use Rattle.std.proofs.Common.{[], ◌≡◌, take, All}
 use Rattle.tv_transfer.specs.Parts.{AreFrom}
 use Rattle.tv_step.specs.Job.{action_in}
 use Rattle.tv_step.specs.Setting.{form_in}
@@ -7,7 +7,8 @@ use Rattle.tv_step.proofs.step.given.Given as goal
 
 abbrev pub invariant-loop-from : goal.invariant-loop-from
 invariant-loop-from l = record {
-  out : Adds (AreFrom (StepsIn (form_in l.x) l.job.mode (action_in l.job))) l.yielded [] l.out;
-  within : All (KeepsUpdateLimits (action_in l.job)) l.yielded;
+  out : Adds (AreFrom (StepsIn (form_in l.x) l.job.mode (action_in l.job)))
+      (take l.from-index l.at_hand) [] l.out;
+  within : All (KeepsUpdateLimits (action_in l.job)) (take l.from-index l.at_hand);
   scratch : l.scratch ≡ l.fn.scratch;
 }

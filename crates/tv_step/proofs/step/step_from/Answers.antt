@@ -2,8 +2,9 @@ use Rattle.std.proofs.Common.{◌∙◌, ◌≤◌, All, inr, map, ap, sym, subs
 use Rattle.std.proofs.lemmas.List.{length-map}
 use Rattle.tv_model.specs.Program.{message_of, pred_of}
 use Rattle.tv_step.specs.Job.{action_in}
-use Rattle.tv_step.specs.Setting.{form_in}
-use Rattle.tv_step.specs.Steps.{AreFocusedWithin, IsCauseOfStep}
+use Rattle.tv_step.specs.Setting.{form_in, IsStableIn}
+use Rattle.tv_step.specs.Steps.{AreFocusedWithin, IsCauseOfStep, IsCauseOfUpdates, KeepsUpdateLimits, StepsIn}
+use Rattle.tv_transfer.specs.Parts.{AreFrom}
 use Rattle.tv_transfer.specs.Shaped.{IsShaped}
 use Rattle.tv_transfer.specs.Transfer.{focus_places, message_value}
 use Rattle.tv_step.proofs.Adding.{handed-on}
@@ -39,13 +40,15 @@ values_of-requires-clause-shaped c =
 
 pub given-requires-clause-shaped : goal.given-requires-clause-shaped
 given-requires-clause-shaped c =
-    within-shaped (form_in c.args.x.now) _ c.args.start c.in_ok-at_hand.at_hand c.in_ok-at_hand.ensures.out
-    c.requires.shaped
+    let p = form_in c.args.x.now
+    in subst (All (IsShaped p)) (sym c.as_slice-4.ensures)
+    (within-shaped p _ c.args.start c.in_ok-at_hand.at_hand c.in_ok-at_hand.ensures.out c.requires.shaped)
 
 pub given-requires-clause-stable : goal.given-requires-clause-stable
 given-requires-clause-stable c =
-    within-stable (form_in c.args.x.now) _ c.args.start c.in_ok-at_hand.at_hand c.in_ok-at_hand.ensures.out
-    c.requires.stable
+    let p = form_in c.args.x.now
+    in subst (All (IsStableIn p)) (sym c.as_slice-4.ensures)
+    (within-stable p _ c.args.start c.in_ok-at_hand.at_hand c.in_ok-at_hand.ensures.out c.requires.stable)
 
 pub waiting_after-requires : goal.waiting_after-requires
 waiting_after-requires c =
@@ -68,13 +71,13 @@ returns-in_err-given-clause-cause c =
     (inr (record {
       at_hand = at_hand;
       are_focused = focused-are p (focus_places action.focus) c.args.start at_hand within;
-      is_cause = c.in_err-given.ensures.cause;
+      is_cause = subst (λ ss. IsCauseOfUpdates action ss e) c.as_slice-4.ensures c.in_err-given.ensures.cause;
     }))
 
 pub in_order-requires : goal.in_order-requires
 in_order-requires c = record {
   unmarked = given-unmarked (form_in c.args.x.now) c.args.job.now.mode (action_in c.args.job.now)
-      c.in_ok-at_hand.at_hand c.in_ok-given.given c.in_ok-given.ensures.out;
+      c.as_slice-4.result.now c.in_ok-given.given c.in_ok-given.ensures.out;
 }
 
 pub returns-clause-results : goal.returns-clause-results
@@ -87,7 +90,9 @@ returns-clause-results c =
     job.action.now.focus c.as_slice-2.ensures.value c.in_ok-turns.ensures c.as_slice.ensures
     in results-of p job.mode action c.args.start at_hand c.in_ok-given.given c.in_ok-results.results
     (subst (λ turns. AreFocusedWithin p turns c.args.start at_hand) places c.in_ok-at_hand.ensures.out)
-    c.in_ok-given.ensures.out c.in_ok-given.ensures.within
+    (subst (λ ss. AreFrom (StepsIn p job.mode action) ss c.in_ok-given.given) c.as_slice-4.ensures
+    c.in_ok-given.ensures.out)
+    (subst (All (KeepsUpdateLimits action)) c.as_slice-4.ensures c.in_ok-given.ensures.within)
     c.in_ok-results.ensures.same c.in_ok-results.ensures.order
 
 pub returns-clause-values : goal.returns-clause-values
