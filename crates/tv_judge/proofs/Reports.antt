@@ -2,6 +2,7 @@
 use Rattle.std.proofs.Common.{ℕ, ◌≡◌, ◌≢◌, ◌<◌, ◌≤◌, ◌+◌, ◌⊎◌, ◌↔◌, inl, inr, Bool, true, false, true≢false, not, IsTrue, List, [], ◌∷◌, length, get_or, Option, Some, None, refl, sym, ap, subst, ◌∙◌, arith}
 use Rattle.std.specs.Prelude.{All, slice_get, unwrap_or, if◌then◌else◌}
 use Rattle.std.proofs.lemmas.Bool.{cases_lt}
+use Rattle.std.proofs.lemmas.List.{get_or_default}
 use Rattle.std.proofs.lemmas.Option.{slice_get_within, get_or_from_slice_get, slice_get-get_or, slice_get_cases}
 use Rattle.tv_kleene.specs.declared.K3.{K3}
 use Rattle.tv_kleene.specs.declared.K3.TheVariants.{No}
@@ -10,7 +11,6 @@ use Rattle.tv_model.specs.Program.{ProgramForm, program_of}
 use Rattle.tv_model.specs.declared.program.Program.{Program}
 use Rattle.tv_model.specs.Valid.{IsValid, IsEdge, program_arities}
 use Rattle.tv_listing.specs.Listed.{IsListing}
-use Rattle.tv_frame.specs.Embedding.{IsEmbedded}
 use Rattle.tv_listing.specs.ListingForm.{at_node}
 use Rattle.tv_listing.specs.declared.analysis.Item.{Item}
 use Rattle.tv_listing.specs.declared.analysis.Item.TheVariants as item
@@ -187,32 +187,6 @@ may-say c edge structure number values k at is some = record {
   some = some;
 }
 
--- none of the targets before this place covers s
-abbrev pub IsCoveredByNone : List StructureForm → StructureForm → ℕ → Type 0
-IsCoveredByNone targets s target = (place : ℕ) (other : StructureForm) → place < target
-    → slice_get targets place ≡ Some other
-    → ¬ IsEmbedded (structure_of s) (structure_of other)
-
-pub none-covers : (targets : List StructureForm) (s : StructureForm) (n : ℕ) → length targets ≤ n
-    → IsCoveredByNone targets s n
-    → ¬ IsCovered targets s
-none-covers targets s n past none (k, t, within, at, embeds) =
-    none k t (omega (arith, past, within)) (slice_get-get_or targets k t within ∙ ap Some at) embeds
-
-pub one-more : (targets : List StructureForm) (s : StructureForm) (n : ℕ) (t : StructureForm)
-    → slice_get targets n ≡ Some t
-    → ¬ IsEmbedded (structure_of s) (structure_of t) → IsCoveredByNone targets s n
-    → IsCoveredByNone targets s (n + 1)
-one-more targets s n t is outside none place other less at = by (cases_lt place n)
-  where
-    by : (place < n) ⊎ (n ≤ place) → ¬ IsEmbedded (structure_of s) (structure_of other)
-    by (inl before) = none place other before at
-    by (inr behind) = λ embeds.
-        let same : place ≡ n = omega (arith, less, behind)
-        in outside (subst (λ u. IsEmbedded (structure_of s) (structure_of u))
-        (one-there targets targets n other t
-        (subst (λ p. slice_get targets p ≡ Some other) same at) is refl) embeds)
-
 -- whether a message has a line is known
 pub said-known : (keys : List (ℕ × ℕ)) (lines : List MessageLine) → IsMessageIndex keys lines
     → (edge number : ℕ)
@@ -289,6 +263,12 @@ own-line-for lines i targets s line copy own same covers = record {
 }
 
 -- ---- programs and listings
+
+-- the structures of a node, read from those of all nodes
+pub targets-at : (all listing : List (List StructureForm)) (node : ℕ) (d targets : List StructureForm)
+    → targets ≡ get_or all node d → all ≡ listing → node < length listing → targets ≡ at_node listing node
+targets-at all listing node d targets is same within =
+    is ∙ ap (λ xs. get_or xs node d) same ∙ get_or_default listing node d [] within
 
 -- the structures at a node have the arities of the program
 pub listed-alike : (program : Program) (listing : List (List StructureForm)) (node : ℕ) (arities : List ℕ)

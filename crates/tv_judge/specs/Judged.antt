@@ -5,17 +5,16 @@ use Rattle.tv_kleene.specs.declared.K3.TheVariants.{No}
 use Rattle.tv_model.specs.declared.program.Edge.{Edge}
 use Rattle.tv_model.specs.declared.program.Mode.{Mode}
 use Rattle.tv_model.specs.Program.{ProgramForm}
-use Rattle.tv_frame.specs.Embedding.{IsEmbedded}
 use Rattle.tv_listing.specs.declared.analysis.Analysis.{Analysis}
 use Rattle.tv_listing.specs.declared.analysis.Item.{Item}
 use Rattle.tv_listing.specs.declared.analysis.Item.TheVariants as item
 use Rattle.tv_listing.specs.declared.analysis.MapLine.{MapLine}
 use Rattle.tv_listing.specs.declared.analysis.Rejection.{Rejection}
 use Rattle.tv_listing.specs.declared.analysis.Rejection.TheVariants as rejection
-use Rattle.tv_struct.specs.StructureForm.{StructureForm, structure_of}
+use Rattle.tv_struct.specs.StructureForm.{StructureForm}
 use Rattle.tv_struct.specs.declared.analysis.StageError.{StageError}
 use Rattle.tv_struct.specs.declared.analysis.StageError.TheVariants.{Splits, Individuals, Memory}
-use Rattle.tv_embed.specs.Maps.{IsLeastEmbedding}
+use Rattle.tv_targets.specs.Covers.{IsFirstCover}
 use Rattle.tv_transfer.specs.Budgets.{KeepsBudgets, MeetsSplits, MeetsIndividuals}
 use Rattle.tv_transfer.specs.Closed.{HasLine}
 use Rattle.tv_transfer.specs.Transfer.{IsMessageValue}
@@ -131,15 +130,6 @@ IsJudgeCause c Individuals = StopsAt c MeetsIndividuals
 IsJudgeCause c Memory = Unit {0}
 
 -- ---- the maps of an accepted report
-
--- the target of this place is the first that covers s, and the map is the least embedding in it
-pub record IsFirstCover (targets : List StructureForm) (s : StructureForm) (target : ℕ) (images : List ℕ)
-    : Type 0 where
-  pub large : StructureForm
-  pub listed : slice_get targets target ≡ Some large
-  pub least : IsLeastEmbedding s large images
-  pub first : (place : ℕ) (other : StructureForm) → place < target → slice_get targets place ≡ Some other
-      → ¬ IsEmbedded (structure_of s) (structure_of other)
 
 -- the line is the item's own, or, where it has none, that of the first target that covers it
 abbrev pub IsMapBy : (own : Option MapLine) → (targets : List StructureForm) → (s : StructureForm) → MapLine

@@ -28,3 +28,4 @@ pub record IsReady (x : Setting) : Type 0 where
   pub rules : rules_of x.closed.now ≡ closed_rules (form_in x)
   pub lines : IsLineIndex x.lines.now.entries x.analysis.now.maps
   pub said : IsMessageIndex x.said.now.keys x.analysis.now.messages
+  pub targets : x.targets.now ≡ x.analysis.now.listing

@@ -1,19 +1,20 @@
 //! Items, and the maps that cover them.
 
-ghost use Rattle.std.specs.Prelude.{◌≡◌, ◌<◌, ◌^◌, ◌↔◌, IsTrue, All, length, IfOk, IfErr, IfSome, IfNone, OnOk};
+ghost use Rattle.std.specs.Prelude.{◌≡◌, ◌<◌, ◌↔◌, IsTrue, All, length, IfOk, IfErr, IfSome, IfNone, OnOk};
 ghost use Rattle.tv_listing.specs.ListingForm.{at_node};
 ghost use Rattle.tv_model.specs.Valid.{program_arities};
 ghost use Rattle.tv_struct.specs.StructureForm.{arities_of};
 ghost use Rattle.tv_transfer.specs.Closed.{IsCovered};
+ghost use Rattle.tv_targets.specs.Covers.{IsFirstCover};
 ghost use Rattle.tv_judge.specs.Items.{Covers, IsMet};
-ghost use Rattle.tv_judge.specs.Judged.{IsFirstCover, IsThere, place_of, Covering};
+ghost use Rattle.tv_judge.specs.Judged.{IsThere, place_of, Covering};
 ghost use Rattle.tv_judge.specs.Progress.{IsDoneTo, IsLineFor, IsStop, behind, rejection_for};
 ghost use Rattle.tv_judge.specs.Setting.{IsReady, case_in, form_in};
 
 use crate::index::line_of;
 use crate::setting::{Setting, Stop};
 use std::alloc::{AllocError, Global};
-use tv_embed::{check_map, find};
+use tv_embed::check_map;
 use tv_listing::{Item, Listing, MapLine, MapLines, Rejection};
 use tv_struct::{Numbers, Structure};
 
@@ -41,27 +42,20 @@ fn copied(alloc: Global, line: &MapLine) -> Result<MapLine, AllocError>
 
 /// The first structure of the node in which `s` embeds, by its place, with the least embedding.
 ///
-/// Even where `s` itself is listed, an earlier structure may cover it, so all before are tried. `find`
-/// refuses by values without arguments and by sizes before it searches.
+/// Even where `s` itself is listed, an earlier structure may cover it.
 fn first_cover(
-    alloc: Global,
-    listing: &Listing,
+    x: &Setting,
     node: u32,
     s: &Structure,
 ) -> Result<Option<(u32, Numbers)>, AllocError>
-    requires node { node < length listing.now }
-    requires vocabulary { All (λ t. arities_of s.now ≡ arities_of t) (at_node listing.now node) }
-    requires few { length (at_node listing.now node) < 2 ^ 32 }
-    ensures some { IfOk result (λ found. IfSome found (λ x.
-        IsFirstCover (at_node listing.now node) s.now x.0 x.1)) }
-    ensures none { IfOk result (λ found. IfNone found (¬ IsCovered (at_node listing.now node) s.now)) }
+    requires ready { IsReady x.now }
+    requires node { node < length x.now.analysis.now.listing }
+    requires over { arities_of s.now ≡ program_arities (form_in x.now) }
+    ensures some { IfOk result (λ found. IfSome found (λ y.
+        IsFirstCover (at_node x.now.analysis.now.listing node) s.now y.0 y.1)) }
+    ensures none { IfOk result (λ found. IfNone found (¬ IsCovered (at_node x.now.analysis.now.listing node) s.now)) }
 {
-    for place in 0..listing.count(node) {
-        if let Some(map) = find(alloc, s, listing.at(node, place))? {
-            return Ok(Some((place as u32, map)));
-        }
-    }
-    Ok(None)
+    x.targets[node as usize].first_cover(x.alloc, s)
 }
 
 /// The line that the item is owed: a copy of its own, if the map of that is an embedding, or that of the
@@ -80,12 +74,11 @@ fn owed_line(
     ensures none { IfOk result (λ found. IfNone found (¬ IsMet x.now.analysis.now.maps item
         (at_node x.now.analysis.now.listing node) s.now)) }
 {
-    let listing = &x.analysis.listing;
     let Some(line) = line_of(x.lines, item) else {
-        let found = first_cover(x.alloc, listing, node, s)?;
+        let found = first_cover(x, node, s)?;
         return Ok(found.map(|(target, map)| MapLine { item, target, map }));
     };
-    if !is_covered_by(listing, node, s, line) {
+    if !is_covered_by(&x.analysis.listing, node, s, line) {
         return Ok(None);
     }
     Ok(Some(copied(x.alloc, line)?))

@@ -10,8 +10,10 @@ use tv_listing::{Analysis, Rejection};
 use tv_model::{Mode, Program};
 use tv_rules::Closed;
 use tv_struct::{StageError, Structures};
+use tv_targets::Targets;
 
-/// A report on a program with initial structures, the program's closed rules, and the report's lines.
+/// A report on a program with initial structures, the program's closed rules, the report's lines, and the
+/// structures of each node.
 #[derive(Clone, Copy)]
 pub struct Setting<'a, 'b> {
     pub alloc: Global,
@@ -22,6 +24,7 @@ pub struct Setting<'a, 'b> {
     pub closed: &'b Closed,
     pub lines: &'b LinesByItem<'a>,
     pub said: &'b Said,
+    pub targets: &'b [Targets<'a>],
 }
 
 /// Why the tests stop: a demand isn't met, or a step has no answer.

@@ -18,6 +18,7 @@ use tv_listing::{Analysis, MapLines, Rejection};
 use tv_model::{Mode, Program};
 use tv_rules::close_rules;
 use tv_struct::{StageError, Structures};
+use tv_targets::all_targets;
 
 /// What the checker says of a report: accepted, with a map for each item that has to be covered, or
 /// rejected, with the first demand that isn't met.
@@ -46,6 +47,7 @@ fn tested<'a>(
     let mut scratch = Scratch::new(alloc, program, 256)?;
     let lines = lines_by_item(alloc, analysis.maps.as_slice())?;
     let said = said_in(alloc, analysis.messages.as_slice())?;
+    let targets = all_targets(alloc, &analysis.listing, program.nodes.len())?;
     let x = Setting {
         alloc,
         program,
@@ -55,6 +57,7 @@ fn tested<'a>(
         closed: &closed,
         lines: &lines,
         said: &said,
+        targets: targets.as_slice(),
     };
     test_report(&x, &mut scratch)
 }

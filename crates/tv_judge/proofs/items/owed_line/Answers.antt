@@ -5,12 +5,6 @@ use Rattle.tv_struct.specs.StructureForm.{arities_of}
 use Rattle.tv_judge.proofs.Reports.{listed-alike, own-line-for}
 use Rattle.tv_judge.proofs.items.owed_line.Goals as goal
 
-pub first_cover-requires-clause-vocabulary : goal.first_cover-requires-clause-vocabulary
-first_cover-requires-clause-vocabulary c =
-    listed-alike c.args.x.now.program.now c.args.x.now.analysis.now.listing c.args.node
-    (arities_of c.args.s.now)
-    c.requires.ready.listing c.requires.node c.requires.over
-
 pub is_covered_by-requires-clause-vocabulary : goal.is_covered_by-requires-clause-vocabulary
 is_covered_by-requires-clause-vocabulary c =
     listed-alike c.args.x.now.program.now c.args.x.now.analysis.now.listing c.args.node

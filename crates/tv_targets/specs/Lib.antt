@@ -1,0 +1,4 @@
+pub mod Covers
+pub mod Glance
+pub mod Indexed
+pub mod Noted

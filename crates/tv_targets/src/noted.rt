@@ -1,0 +1,140 @@
+//! Places of structures, noted for what these say at a glance.
+
+ghost use Rattle.std.specs.Prelude.{◌≡◌, ℕ, [], ◌∷◌, ◌++◌, ◌==◌, List, length, Contains, IfOk, OnOk, OnErr, IsTrue, unwrap_or, if◌then◌else◌};
+ghost use Rattle.std.specs.Ordering.{nat_cmp};
+ghost use Rattle.std.specs.BTreeMap.{get};
+ghost use Rattle.std.specs.List.Sorted.{IsNonDecreasing};
+ghost use Rattle.tv_kleene.specs.declared.K3.{K3};
+ghost use Rattle.tv_row.specs.Mixed.{row_mixed};
+ghost use Rattle.tv_targets.specs.Glance.{clouded, halves_in};
+ghost use Rattle.tv_targets.specs.Noted.{IsNoted, Notes, noted_for};
+
+use crate::glance::{clouded, halves_in};
+use std::alloc::{AllocError, Global};
+use std::cmp::Ordering;
+use std::collections::BTreeMap;
+use tv_model::Items;
+use tv_row::Row;
+
+/// Places, by the number that equal glances share.
+pub type Places = BTreeMap<u64, Items<usize>>;
+
+/// Places of structures by what these say at a glance, and where in glances `Half` stands: each row of
+/// such halves once.
+#[derive(Drop)]
+pub struct Noted {
+    pub halves: Vec<Row>,
+    pub places: Places,
+}
+
+/// The places that are noted for the number.
+fn places_at(places: &Places, number: u64) -> &[usize]
+    ensures { result.now ≡ unwrap_or (get nat_cmp places.now number) [] }
+{
+    match places.get(&number) {
+        Some(list) => list.as_slice(),
+        None => &[],
+    }
+}
+
+/// Notes the place for the number, behind those that are noted for it.
+fn note(alloc: Global, places: &mut Places, number: u64, place: usize) -> Result<(), AllocError>
+    ensures { OnOk result ((g : ℕ) → unwrap_or (get nat_cmp places.new g) [] ≡ (if g == number then unwrap_or (get nat_cmp places.old g) [] ++ place ∷ [] else unwrap_or (get nat_cmp places.old g) [])) }
+{
+    if let Some(list) = places.get_mut(&number) {
+        return list.push(place);
+    }
+    let mut list = Items::new(alloc);
+    list.push(place)?;
+    places.insert(number, list)?;
+    Ok(())
+}
+
+fn is_same(row: &Row, other: &Row) -> bool
+    ensures { IsTrue result → row.now ≡ other.now }
+{
+    row.size() == other.size() && row.compare(other) == Ordering::Equal
+}
+
+fn has_row(rows: &[Row], row: &Row) -> bool
+    ensures { IsTrue result → Contains rows.now row.now }
+{
+    for other in rows {
+        if is_same(other, row) {
+            return true;
+        }
+    }
+    false
+}
+
+/// Puts the row behind the others where it isn't among them.
+fn add_row(rows: &mut Vec<Row>, row: Row) -> Result<(), AllocError>
+    ensures kept { OnOk result ((other : List K3) → Contains rows.old.items other → Contains rows.new.items other) }
+    ensures added { OnOk result (Contains rows.new.items row) }
+{
+    if !has_row(rows.as_slice(), &row) {
+        rows.push(row)?;
+    }
+    Ok(())
+}
+
+/// Puts the places behind the others.
+fn add_places(found: &mut Vec<usize>, places: &[usize]) -> Result<(), AllocError>
+    ensures { OnOk result (found.new.items ≡ found.old.items ++ places.now) }
+{
+    for place in places {
+        found.push(*place)?;
+    }
+    Ok(())
+}
+
+impl Noted {
+    /// No places; takes no memory.
+    pub fn new(alloc: Global) -> Noted {
+        Noted {
+            halves: Vec::new(alloc),
+            places: BTreeMap::new(alloc),
+        }
+    }
+
+    /// Notes the place of a structure that says this at a glance.
+    pub fn add(&mut self, alloc: Global, glance: &Row, place: usize) -> Result<(), AllocError>
+        ensures { OnOk result (Notes self.old self.new glance.now place) }
+    {
+        add_row(&mut self.halves, halves_in(glance))?;
+        note(alloc, &mut self.places, glance.mix(0), place)
+    }
+
+    /// Puts behind the others the places of structures that say the same at a glance but for these halves.
+    fn add_clouded(
+        &self,
+        found: &mut Vec<usize>,
+        glance: &Row,
+        halves: &Row,
+    ) -> Result<(), AllocError>
+        ensures kept { OnOk result ((place : ℕ) → Contains found.old.items place → Contains found.new.items place) }
+        ensures added { OnOk result (length glance.now ≡ length halves.now → (place : ℕ)
+            → Contains (noted_for self.now (clouded glance.now halves.now)) place → Contains found.new.items place) }
+    {
+        if glance.size() != halves.size() {
+            return Ok(());
+        }
+        let number = clouded(glance, halves).mix(0);
+        add_places(found, places_at(&self.places, number))
+    }
+
+    /// The places of structures that say the same at a glance, but for some halves, in ascending order.
+    pub fn places(&self, alloc: Global, glance: &Row) -> Result<Vec<usize>, AllocError>
+        ensures each { IfOk result (λ found. (halves : List K3) → Contains self.now.halves.items halves
+            → length glance.now ≡ length halves → (place : ℕ)
+            → Contains (noted_for self.now (clouded glance.now halves)) place → Contains found.items place) }
+        ensures order { IfOk result (λ found. IsNonDecreasing found.items) }
+    {
+        let mut found = Vec::new(alloc);
+        for halves in self.halves.as_slice() {
+            self.add_clouded(&mut found, glance, halves)?;
+        }
+        found.sort_unstable();
+        Ok(found)
+    }
+}
