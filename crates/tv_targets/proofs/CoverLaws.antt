@@ -1,6 +1,6 @@
 -- The first cover among places in ascending order.
 use Rattle.std.proofs.Common.{ℕ, ◌≡◌, ◌<◌, ◌≤◌, ◌+◌, ◌⊎◌, inl, inr, List, length, get_or, refl, sym, ap, subst, ◌∙◌, arith}
-use Rattle.std.specs.Prelude.{All, Any, Contains, Some, slice_get}
+use Rattle.std.specs.Prelude.{All, Any, Contains, Option, None, Some, Result, Ok, Err, IfOk, OnOk, IfNone, slice_get}
 use Rattle.std.specs.List.Sorted.{IsNonDecreasing}
 use Rattle.std.proofs.lemmas.Bool.{cases_lt}
 use Rattle.std.proofs.lemmas.List.{get_or_default}
@@ -107,3 +107,15 @@ none-here targets s large place is none other listed embedded =
 pub place-fits : (targets : List StructureForm) (s : StructureForm) (place : ℕ) (images : List ℕ)
     → IsCoverAt targets s place images → place < length targets
 place-fits targets s place images cover = slice_get_within targets place cover.large cover.listed
+
+pub if_ok : {X E : Type 0} {P Q : X → Type 0} → (r : Result X E) → ((x : X) → P x → Q x) → IfOk r P → IfOk r Q
+if_ok (Ok x) f h = f x h
+if_ok (Err e) f h = tt
+
+pub on_ok : {X E : Type 0} {P Q : Type 0} → (r : Result X E) → (P → Q) → OnOk r P → OnOk r Q
+on_ok (Ok x) f h = f h
+on_ok (Err e) f h = tt
+
+pub from_none : {X : Type 0} {P : Type 0} → (o : Option X) → IfNone o P → ((x : X) → o ≡ Some x → ⊥) → P
+from_none None h never = h
+from_none (Some x) h never = absurd (never x refl)

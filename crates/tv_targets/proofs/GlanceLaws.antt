@@ -114,6 +114,11 @@ module _ (s t : StructureForm) (f : ℕ → ℕ) (e : Embeds f (structure_of s) 
       above : ℕ → K3
       above w = value_at t pred (w ∷ [])
 
+      one : (i : ℕ) → i < s.size → All (Contains (range_with_len 0 s.size)) (i ∷ [])
+      one i within =
+          All-cons (Contains (range_with_len 0 s.size)) i [] (Contains-range s.size i within)
+          (All-nil (Contains (range_with_len 0 s.size)))
+
       under : (i : ℕ) → i < length (unary_row s pred)
           → (j : ℕ) × (j < length (unary_row t pred)) × LiesUnder (get_or (unary_row s pred) i No) (get_or (unary_row t pred) j No)
       under i lt =
@@ -127,7 +132,7 @@ module _ (s t : StructureForm) (f : ℕ → ℕ) (e : Embeds f (structure_of s) 
                 (sym (get_or-map-range_with_len above 0 t.size (f i) (f i) No image (omega arith)))
                 (subst (λ x. Under x (value_at t pred (f i ∷ [])))
                 (sym (get_or-map-range_with_len below 0 s.size i i No within (omega arith)))
-                (e.values pred tt (i ∷ []) (All-cons _ i [] (Contains-range s.size i within) (All-nil _)))),
+                (e.values pred tt (i ∷ []) (one i within))),
           )
 
       some : 0 < length (unary_row t pred) → 0 < length (unary_row s pred)
@@ -143,7 +148,7 @@ module _ (s t : StructureForm) (f : ℕ → ℕ) (e : Embeds f (structure_of s) 
       at : (none one : Bool)
           → LiesUnder (if none then value_at s pred [] else (if one then joined_value (unary_row s pred) else No))
           (if none then value_at t pred [] else (if one then joined_value (unary_row t pred) else No))
-      at true one = e.values pred tt [] (All-nil _)
+      at true one = e.values pred tt [] (All-nil (Contains (range_with_len 0 s.size)))
       at false true = row-under pred
       at false false = inl refl
 
@@ -166,7 +171,7 @@ get_or-glance s i lt =
 
 length-halves : (values : List K3) → length (halves_in values) ≡ length values
 length-halves [] = refl
-length-halves (x ∷ values) = ap (λ n. n + 1) (length-halves values)
+length-halves (x ∷ values) = ap suc (length-halves values)
 
 one-clouded : (x y : K3) → LiesUnder x y
     → smaller_of (larger_of x (smaller_of (smaller_of Half y) (smaller_of Half (negation_of y))))

@@ -5,7 +5,7 @@ use Rattle.std.specs.BTreeMap.{get}
 use Rattle.std.specs.Ordering.{nat_cmp}
 use Rattle.std.proofs.lemmas.Bool.{cases_lt}
 use Rattle.std.proofs.lemmas.List.{get_or_default}
-use Rattle.std.proofs.lemmas.List.Elements.{Contains-push, Contains-append_left}
+use Rattle.std.proofs.lemmas.List.Elements.{Contains-push, Contains-append_left, Contains-append_right}
 use Rattle.std.proofs.lemmas.Option.{slice_get_within, get_or_from_slice_get}
 use Rattle.std.specs.Cmp.Lexicographic.{slice_cmp}
 use Rattle.std.specs.declared.cmp.Ordering.{Ordering}
@@ -67,7 +67,7 @@ indexed-more old new structures n t is step before place other lt listed = at (c
         let here : n ≡ place = omega arith
         in let same : t ≡ other
         = sym (get_or_from_slice_get structures n t t is) ∙ ap (λ i. get_or structures i t) here
-        ∙ get_or_from_slice_get structures place t other listed
+        ∙ get_or_from_slice_get structures place other t listed
         in let P : StructureForm → Type 0 = λ x. IsNoted new (glance_of x) place
         in let Q : ℕ → Type 0 = λ i. IsNoted new (glance_of t) i
         in subst P same (subst Q here step.noted)
@@ -135,6 +135,16 @@ looked-all noted glance n found all before halves (k, lt, at) count place has =
 pub is-among : (rows : List (List K3)) (row other d : List K3) (n : ℕ) → n < length rows → other ≡ get_or rows n d
     → other ≡ row → Contains rows row
 is-among rows row other d n lt is same = (n, lt, get_or_default rows n row d lt ∙ sym is ∙ same)
+
+pub row-at : (rows all : List (List K3)) (n : ℕ) (row : List K3) → row ≡ get_or rows n row → rows ≡ all → n < length rows
+    → row ≡ get_or all n []
+row-at rows all n row is same lt =
+    is ∙ get_or_default rows n row [] lt ∙ ap (λ xs. get_or xs n []) same
+
+pub found-there : (found new places : List ℕ) (place : ℕ) → new ≡ found ++ places → Contains places place → Contains new place
+found-there found new places place is has =
+    let P : List ℕ → Type 0 = λ xs. Contains xs place
+    in subst P (sym is) (Contains-append_right found places place has)
 
 value-exact : (x y : K3) → value_cmp x y ≡ Equal → x ≡ y
 value-exact No No e = refl

@@ -53,7 +53,13 @@ fn note(alloc: Global, places: &mut Places, number: u64, place: usize) -> Result
 fn is_same(row: &Row, other: &Row) -> bool
     ensures { IsTrue result → row.now ≡ other.now }
 {
-    row.size() == other.size() && row.compare(other) == Ordering::Equal
+    if row.size() != other.size() {
+        return false;
+    }
+    match row.compare(other) {
+        Ordering::Equal => true,
+        Ordering::Less | Ordering::Greater => false,
+    }
 }
 
 fn has_row(rows: &[Row], row: &Row) -> bool
@@ -120,7 +126,8 @@ impl Noted {
             return Ok(());
         }
         let number = clouded(glance, halves).mix(0);
-        add_places(found, places_at(&self.places, number))
+        add_places(found, places_at(&self.places, number))?;
+        Ok(())
     }
 
     /// The places of structures that say the same at a glance, but for some halves, in ascending order.

@@ -1,0 +1,13 @@
+use Rattle.tv_targets.specs.declared.noted.Noted.{Noted}
+use Rattle.tv_targets.proofs.CoverLaws.{on_ok}
+use Rattle.tv_targets.proofs.NotedLaws.{notes}
+use Rattle.tv_targets.proofs.noted.Noted.add.Goals as goal
+
+pub returns : goal.returns
+returns c =
+    let new : Noted = record { halves = c.add_row.new.rows; places = c.note.new.places }
+    in on_ok c.note.result
+    (λ all.
+    notes c.args.self.now new c.args.glance.now c.args.place c.in_ok-add_row.ensures.kept
+    (rw c.halves_in.ensures at c.in_ok-add_row.ensures.added) all)
+    (rw c.mix.ensures at c.note.ensures)
