@@ -1,5 +1,5 @@
 -- What a structure says at a glance: for each predicate a value that a structure above it can only blur.
-use Rattle.std.specs.Prelude.{ℕ, ◌≡◌, ◌==◌, if◌then◌else◌, List, [], ◌∷◌, length, map, min, slice_index}
+use Rattle.std.specs.Prelude.{ℕ, ◌==◌, if◌then◌else◌, List, [], length, map, min, slice_index}
 use Rattle.std.specs.List.{range_with_len}
 use Rattle.tv_kleene.specs.declared.K3.{K3}
 use Rattle.tv_kleene.specs.declared.K3.TheVariants.{No, Half}

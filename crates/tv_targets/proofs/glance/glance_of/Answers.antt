@@ -1,5 +1,5 @@
 use Rattle.std.proofs.Common.{arith}
-use Rattle.tv_targets.proofs.GlanceLaws.{glance-none, glance-more, glance-all}
+use Rattle.tv_targets.proofs.GlanceLaws.{glance-more, glance-all}
 use Rattle.tv_targets.proofs.glance.glance_of.Goals as goal
 
 pub loop-p-preserved : goal.loop-p-preserved
