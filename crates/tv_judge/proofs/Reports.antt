@@ -265,10 +265,10 @@ own-line-for lines i targets s line copy own same covers = record {
 -- ---- programs and listings
 
 -- the structures of a node, read from those of all nodes
-pub targets-at : (all listing : List (List StructureForm)) (node : ℕ) (d targets : List StructureForm)
-    → targets ≡ get_or all node d → all ≡ listing → node < length listing → targets ≡ at_node listing node
-targets-at all listing node d targets is same within =
-    is ∙ ap (λ xs. get_or xs node d) same ∙ get_or_default listing node d [] within
+pub targets-at : (all listing : List (List StructureForm)) (node : ℕ) (d : List StructureForm)
+    → all ≡ listing → node < length listing → get_or all node d ≡ at_node listing node
+targets-at all listing node d same within =
+    ap (λ xs. get_or xs node d) same ∙ get_or_default listing node d [] within
 
 -- the structures at a node have the arities of the program
 pub listed-alike : (program : Program) (listing : List (List StructureForm)) (node : ℕ) (arities : List ℕ)

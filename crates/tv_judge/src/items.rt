@@ -43,11 +43,7 @@ fn copied(alloc: Global, line: &MapLine) -> Result<MapLine, AllocError>
 /// The first structure of the node in which `s` embeds, by its place, with the least embedding.
 ///
 /// Even where `s` itself is listed, an earlier structure may cover it.
-fn first_cover(
-    x: &Setting,
-    node: u32,
-    s: &Structure,
-) -> Result<Option<(u32, Numbers)>, AllocError>
+fn first_cover(x: &Setting, node: u32, s: &Structure) -> Result<Option<(u32, Numbers)>, AllocError>
     requires ready { IsReady x.now }
     requires node { node < length x.now.analysis.now.listing }
     requires over { arities_of s.now ≡ program_arities (form_in x.now) }

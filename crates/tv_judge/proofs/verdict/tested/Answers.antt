@@ -1,4 +1,5 @@
 use Rattle.std.proofs.Common.{subst, sym, ◌∙◌, arith}
+use Rattle.std.proofs.lemmas.Result.{err_from_is_err_and}
 use Rattle.tv_judge.specs.Index.{IsLineIndex, IsMessageIndex}
 use Rattle.tv_judge.proofs.verdict.tested.Goals as goal
 
@@ -11,11 +12,16 @@ test_report-requires-clause-ready c = record {
   rules = c.in_ok-closed.ensures.rules;
   lines = subst (IsLineIndex c.in_ok-lines.lines.entries) c.as_slice.ensures c.in_ok-lines.ensures;
   said = subst (IsMessageIndex c.in_ok-said.said.keys) c.as_slice-2.ensures c.in_ok-said.ensures;
-  targets = c.as_slice-3.ensures ∙ c.in_ok-targets.ensures;
+  targets = c.as_slice-3.ensures.value ∙ c.in_ok-targets.ensures;
 }
 
-pub all_targets-targets-requires-clause-nodes : goal.all_targets-targets-requires-clause-nodes
-all_targets-targets-requires-clause-nodes c = c.len.ensures ∙ sym c.requires.listing.nodes
+pub all_targets-requires-clause-nodes : goal.all_targets-requires-clause-nodes
+all_targets-requires-clause-nodes c = c.len.ensures ∙ sym c.requires.listing.nodes
 
-pub all_targets-targets-requires-clause-few : goal.all_targets-targets-requires-clause-few
-all_targets-targets-requires-clause-few c = omega (arith, c.len.ensures, c.requires.valid.node_count)
+pub all_targets-requires-clause-few : goal.all_targets-requires-clause-few
+all_targets-requires-clause-few c = omega (arith, c.len.ensures, c.requires.valid.node_count)
+
+pub returns-in_err-targets-clause-stop : goal.returns-in_err-targets-clause-stop
+returns-in_err-targets-clause-stop c =
+    let p = err_from_is_err_and c.from_residual-in_err-targets.result c.from_residual-in_err-targets.ensures.1
+    in rw (p.1, p.2) tt
