@@ -1,0 +1,4 @@
+pub mod Names
+pub mod Heaps
+pub mod Steps
+pub mod Fronts

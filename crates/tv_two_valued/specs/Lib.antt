@@ -1,0 +1,2 @@
+pub mod TwoValued
+pub mod Laws

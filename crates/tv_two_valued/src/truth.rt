@@ -1,0 +1,42 @@
+//! Truth of formulas in heaps that are given as structures.
+
+ghost use Rattle.std.specs.Prelude.{◌≡◌, ◌↔◌, IsTrue};
+ghost use Rattle.tv_eval.specs.AssignmentForm.{assignment_of};
+ghost use Rattle.tv_eval.specs.Bound.{IsBound, bound_structure, bound_room};
+ghost use Rattle.tv_eval.specs.Formulas.{AreAssigned};
+ghost use Rattle.tv_eval.specs.ScratchForm.{Fits};
+ghost use Rattle.tv_model.specs.Form.{form_of};
+ghost use Rattle.tv_model.specs.Truth.{Truth};
+ghost use Rattle.tv_model.specs.Valid.{IsFormulaOver};
+ghost use Rattle.tv_struct.specs.StructureForm.{arities_of, IsStructure};
+ghost use Rattle.tv_two_valued.specs.TwoValued.{IsTwoValued, heap_of, is_yes};
+
+use tv_eval::{Assignment, Evaluator};
+use tv_kleene::K3;
+use tv_model::Formula;
+
+/// Whether the formula is true under the assignment in the heap that the evaluator's structure stands
+/// for. Takes no memory.
+pub fn holds<'a>(evaluator: &mut Evaluator<'a>, f: &'a Formula, a: &Assignment) -> bool
+    requires bound { IsBound evaluator.old }
+    requires structure { IsStructure (bound_structure evaluator.old) }
+    requires two_valued { IsTwoValued (bound_structure evaluator.old) }
+    requires formula { IsFormulaOver (arities_of (bound_structure evaluator.old)) (form_of f.now) }
+    requires assigned { AreAssigned (bound_structure evaluator.old).size a.now (form_of f.now) }
+    requires fits { Fits (bound_room evaluator.old) (form_of f.now) (bound_structure evaluator.old).size }
+    ensures truth { IsTrue result ↔ Truth (heap_of (bound_structure evaluator.old)) (assignment_of a.now) (form_of f.now) }
+    ensures bound { IsBound evaluator.new }
+    ensures structure { bound_structure evaluator.new ≡ bound_structure evaluator.old }
+    ensures room { bound_room evaluator.new ≡ bound_room evaluator.old }
+{
+    is_yes(evaluator.value(f, a))
+}
+
+fn is_yes(k: K3) -> bool
+    ensures { result ≡ is_yes k }
+{
+    match k {
+        K3::Yes => true,
+        K3::No | K3::Half => false,
+    }
+}
