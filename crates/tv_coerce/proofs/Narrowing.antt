@@ -9,6 +9,8 @@ use Rattle.tv_kleene.specs.declared.K3.TheVariants.{No, Half, Yes}
 use Rattle.tv_kleene.specs.Kleene.{smaller_of, negation_of}
 use Rattle.tv_row.specs.Bits.{paired}
 use Rattle.tv_row.proofs.WordOps.{length-paired, get_or-paired}
+use Rattle.tv_model.specs.declared.formula.Var.{Var}
+use Rattle.tv_rules.specs.EntryForms.{numbers_of}
 use Rattle.tv_model.specs.Form.{Form, FExists, IsFree}
 use Rattle.tv_model.specs.Program.{HeadForm, HNever, HAtom, HSame, RuleForm}
 use Rattle.tv_model.specs.Rules.{IsInHead, head_formula}
@@ -25,9 +27,9 @@ use Rattle.tv_eval.specs.declared.evaluator.Evaluator.{Evaluator}
 use Rattle.tv_struct.specs.StructureForm.{StructureForm, arities_of, structure_of}
 use Rattle.tv_coerce.specs.ByRows.{ArePlaces, IsBodyRow, IsLackingRow, IsNarrowed}
 use Rattle.tv_coerce.specs.Ready.{IsHeadOver}
-use Rattle.tv_coerce.specs.Trying.{AreDue, ArePlaced, CanTry, DueForm, FailsAt, PassesAt, StaysBound, atom_form, due_of, dues_of, sign_of}
+use Rattle.tv_coerce.specs.Trying.{AreDue, ArePlaced, CanTry, DueForm, FailsAt, IsDue, IsTried, PassesAt, StaysBound, atom_form, due_of, dues_of, sign_of}
 use Rattle.tv_coerce.specs.declared.due.Due.{Due}
-use Rattle.tv_coerce.proofs.Walking.{given-up, tried-here}
+use Rattle.tv_coerce.proofs.Walking.{given-up, not-left, tried-here}
 
 along-length : (s : StructureForm) (a : Assignment) (v : ℕ) (f : Form) → length (values_along s a v f) ≡ s.size
 along-length s a v f = length-map-range_with_len (λ u. value (structure_of s) (put a v u) f) 0 s.size
@@ -172,18 +174,32 @@ head-negative s a (HAtom false pred vars) e = refl
 head-negative s a (HSame true v w) e = absurd (cc e)
 head-negative s a (HSame false v w) e = refl
 
-module _ (s : StructureForm) (rule : RuleForm) (v : ℕ) (a : Assignment) where
-  pub lacking-nowhere : (rest : List ℕ) → IsLackingRow s rule rest v a (replicate s.size Yes)
-  lacking-nowhere rest = (
+-- what stands in the head is free in its atom
+head-free : (w : ℕ) (head : HeadForm) → IsInHead w head → IsFree w (atom_form head)
+head-free w HNever at = at
+head-free w (HAtom flag pred vars) at = at
+head-free w (HSame flag v u) at = at
+
+-- none of the variables stands in the head, if its atom waits for none of them
+pub settled-out : (vars : List Var) (head : HeadForm) (f : Form) (left : ℕ) → f ≡ atom_form head
+    → IsDue (numbers_of vars) (record { form = f; left = left }) → left ≡ length vars
+    → (w : ℕ) → Contains (numbers_of vars) w → ¬ IsInHead w head
+settled-out vars head f left is due all w has at =
+    not-left (numbers_of vars) (record { form = f; left = left }) due (omega (arith, all, length-map vars (λ (v : Var). v.0))) w has
+    (subst (IsFree w) (sym is) (head-free w head at))
+
+module _ (s : StructureForm) (rule : RuleForm) (v : ℕ) (rest : List ℕ) (a : Assignment) where
+  pub lacking-nowhere : IsLackingRow s rule rest v a (replicate s.size Yes)
+  lacking-nowhere = (
     length-replicate s.size Yes,
     λ u within e. let clash : Yes ≡ No = sym (get_or-replicate s.size u Yes No within) ∙ e in absurd (cc),
   )
 
-  pub lacking-positive : sign_of rule.head ≡ true
-      → IsLackingRow s rule [] v a (map negation_of (values_along s a v (atom_form rule.head)))
-  lacking-positive sign = (
+  pub lacking-positive : ((w : ℕ) → Contains rest w → ¬ IsInHead w rule.head) → sign_of rule.head ≡ true
+      → IsLackingRow s rule rest v a (map negation_of (values_along s a v (atom_form rule.head)))
+  lacking-positive out sign = (
     length-map along negation_of ∙ along-length s a v (atom_form rule.head),
-    λ u within e. tried-here s rule (put a v u) (inl (head-positive (structure_of s) (put a v u) rule.head sign
+    λ u within e. tried-here s rule rest (put a v u) out (inl (head-positive (structure_of s) (put a v u) rule.head sign
         ∙ sym (along-value s a v (atom_form rule.head) u within)
         ∙ negation-no (get_or along u No)
         (sym (get_or-map negation_of along u No No (omega (arith, within, along-length s a v (atom_form rule.head)))) ∙ e))),
@@ -192,12 +208,22 @@ module _ (s : StructureForm) (rule : RuleForm) (v : ℕ) (a : Assignment) where
       along : List K3
       along = values_along s a v (atom_form rule.head)
 
-  pub lacking-negative : sign_of rule.head ≡ false → IsLackingRow s rule [] v a (values_along s a v (atom_form rule.head))
-  lacking-negative sign = (
+  pub lacking-negative : ((w : ℕ) → Contains rest w → ¬ IsInHead w rule.head) → sign_of rule.head ≡ false
+      → IsLackingRow s rule rest v a (values_along s a v (atom_form rule.head))
+  lacking-negative out sign = (
     along-length s a v (atom_form rule.head),
-    λ u within e. tried-here s rule (put a v u) (inl (head-negative (structure_of s) (put a v u) rule.head sign
+    λ u within e. tried-here s rule rest (put a v u) out (inl (head-negative (structure_of s) (put a v u) rule.head sign
         ∙ ap negation_of (sym (along-value s a v (atom_form rule.head) u within) ∙ e))),
   )
+
+-- a head without variables
+module _ (s : StructureForm) (rule : RuleForm) (vars : List ℕ) (a : Assignment)
+    (out : (w : ℕ) → Contains vars w → ¬ IsInHead w rule.head) where
+  pub met-positive : sign_of rule.head ≡ true → value (structure_of s) a (atom_form rule.head) ≡ Yes → IsTried s rule vars a
+  met-positive sign is = tried-here s rule vars a out (inl (head-positive (structure_of s) a rule.head sign ∙ is))
+
+  pub met-negative : sign_of rule.head ≡ false → value (structure_of s) a (atom_form rule.head) ≡ No → IsTried s rule vars a
+  met-negative sign is = tried-here s rule vars a out (inl (head-negative (structure_of s) a rule.head sign ∙ ap negation_of is))
 
 -- the head's atom can be valued for all individuals, put for the last variable
 pub record CanAtom (t : StructureForm) (room : ScratchForm) (places : List (Option ℕ)) (v : ℕ) (f : Form) : Type 0 where
@@ -220,21 +246,41 @@ atom-nesting HNever = refl
 atom-nesting (HAtom flag pred vars) = refl
 atom-nesting (HSame flag v w) = refl
 
-pub can-atom : (s t : StructureForm) (rule : RuleForm) (room : ScratchForm) (places : List (Option ℕ)) (v : ℕ) (f : Form) → CanTry rule s room
-    → v < 32 → ArePlaced s.size rule (v ∷ []) places → f ≡ atom_form rule.head → t ≡ s → CanAtom t room places v f
-can-atom s t rule room places v f can variable placed is same =
+pub can-atom : (s t : StructureForm) (rule : RuleForm) (room : ScratchForm) (places : List (Option ℕ)) (v : ℕ) (rest : List ℕ) (f : Form)
+    → CanTry rule s room → v < 32 → ArePlaced s.size rule (v ∷ rest) places → ((w : ℕ) → Contains rest w → ¬ IsInHead w rule.head)
+    → f ≡ atom_form rule.head → t ≡ s → CanAtom t room places v f
+can-atom s t rule room places v rest f can variable placed out is same =
     subst (λ r. CanAtom r room places v f) (sym same) (subst (CanAtom s room places v) (sym is) (record {
       formula = (variable, atom-over (arities_of s) rule.head can.over.head);
-      assigned = λ w free. placed w (inr (atom-free w rule.head free.1)) (λ has. alone w free.0 has);
+      assigned = λ w free. placed w (inr (atom-free w rule.head free.1)) (λ has. alone w free.0 (atom-free w rule.head free.1) has);
       fits = record {
         closures = omega (arith, atom-nesting rule.head);
         individuals = can.fits.individuals;
       };
     }))
   where
-    alone : (w : ℕ) → w ≢ v → Contains (v ∷ []) w → ⊥
-    alone w ne (zero, inside, e) = ne (sym e)
-    alone w ne (suc k, inside, e) = omega (arith, inside)
+    alone : (w : ℕ) → w ≢ v → IsInHead w rule.head → Contains (v ∷ rest) w → ⊥
+    alone w ne at (zero, inside, e) = ne (sym e)
+    alone w ne at (suc k, inside, e) = out w (k, omega (arith, inside), e) at
+
+-- or under one assignment, where it has no variables
+pub record CanMeet (t : StructureForm) (room : ScratchForm) (places : List (Option ℕ)) (f : Form) : Type 0 where
+  pub formula : IsFormulaOver (arities_of t) f
+  pub assigned : AreAssigned t.size places f
+  pub fits : Fits room f t.size
+
+pub can-meet : (s t : StructureForm) (rule : RuleForm) (room : ScratchForm) (places : List (Option ℕ)) (vars : List ℕ) (f : Form)
+    → CanTry rule s room → ArePlaced s.size rule vars places → ((w : ℕ) → Contains vars w → ¬ IsInHead w rule.head)
+    → f ≡ atom_form rule.head → t ≡ s → CanMeet t room places f
+can-meet s t rule room places vars f can placed out is same =
+    subst (λ r. CanMeet r room places f) (sym same) (subst (CanMeet s room places) (sym is) (record {
+      formula = atom-over (arities_of s) rule.head can.over.head;
+      assigned = λ w free. placed w (inr (atom-free w rule.head free)) (λ has. out w has (atom-free w rule.head free));
+      fits = record {
+        closures = omega (arith, atom-nesting rule.head);
+        individuals = can.fits.individuals;
+      };
+    }))
 
 -- ---- both rows
 

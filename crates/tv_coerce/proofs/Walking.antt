@@ -76,9 +76,11 @@ met-agreed s a b head same met = at met
       half = sym values ∙ may.half;
     })
 
-pub tried-here : (s : StructureForm) (rule : RuleForm) (a : Assignment) → IsHeadMet (structure_of s) a rule.head → IsTried s rule [] a
-tried-here s rule a met b goes individuals body =
-    met-agreed (structure_of s) a b rule.head (λ v at. goes v (inr at) (Contains-none v)) met
+-- a head that has none of the variables that are left is met under all these assignments where it is under one
+pub tried-here : (s : StructureForm) (rule : RuleForm) (rest : List ℕ) (a : Assignment)
+    → ((w : ℕ) → Contains rest w → ¬ IsInHead w rule.head) → IsHeadMet (structure_of s) a rule.head → IsTried s rule rest a
+tried-here s rule rest a out met b goes individuals body =
+    met-agreed (structure_of s) a b rule.head (λ v at. goes v (inr at) (λ has. out v has at)) met
 
 module _ (s : StructureForm) (rule : RuleForm) (places : List (Option ℕ)) (room : ScratchForm) (can : CanTry rule s room)
     (at : ArePlaced s.size rule [] places) (body : value (structure_of s) (assignment_of places) rule.body ≡ Yes) where
@@ -140,7 +142,7 @@ nesting-conjuncts (FForall v f) = nesting-one (FForall v f)
 nesting-conjuncts (FClosure from to left right f) = nesting-one (FClosure from to left right f)
 
 -- none of the variables for which a conjunct doesn't wait is free in it
-not-left : (rest : List ℕ) (d : DueForm) → IsDue rest d → length rest ≤ d.left → (v : ℕ) → Contains rest v → ¬ IsFree v d.form
+pub not-left : (rest : List ℕ) (d : DueForm) → IsDue rest d → length rest ≤ d.left → (v : ℕ) → Contains rest v → ¬ IsFree v d.form
 not-left [] d due enough v has = absurd (Contains-none v has)
 not-left (w ∷ rest) d due enough v (zero, within, is) =
     subst (λ x. ¬ IsFree x d.form) is (due.0 (omega (arith, enough)))
@@ -366,7 +368,7 @@ module _ (s : StructureForm) (rule : RuleForm) where
       → IsTold s rule [] (assignment_of places) old new outcome
   told-noted places room old new Possible can at body (inl (same, met)) =
       subst (λ n. IsTold s rule [] (assignment_of places) old n Possible) (sym same)
-      (told-tried [] (assignment_of places) old (tried-here s rule (assignment_of places) met))
+      (told-tried [] (assignment_of places) old (tried-here s rule [] (assignment_of places) (λ w has. absurd (Contains-none w has)) met))
   told-noted places room old new Possible can at body (inr (c, inr (same, some), need)) = record {
     forced = subst (All (IsForced s rule)) (sym same);
     grows = rw same (omega arith);
@@ -424,6 +426,14 @@ module _ (s : StructureForm) (rule : RuleForm) where
       at : now ≡ [] → (w : ℕ) → w < s.size → (w < from) ⊎ (from ≤ w) → IsTried s rule rest (put a v w)
       at none w less (inl before) = walked.tried none w before
       at none w less (inr after) = passed w after less
+
+  pub walked-some : (v : ℕ) (rest : List ℕ) (a b : Assignment) (old now new : List Change) (from : ℕ)
+      → IsWalkedUpTo v rest a old now from → IsTold s rule rest b now new Possible → new ≢ [] → IsTold s rule (v ∷ rest) a old new Possible
+  walked-some v rest a b old now new from so_far told some = record {
+    forced = λ all. told.forced (so_far.forced all);
+    grows = omega (arith, so_far.grows, told.grows);
+    tells = λ none. absurd (some none);
+  }
 
   pub walked-never : (v : ℕ) (rest : List ℕ) (a b : Assignment) (old now new : List Change) (from : ℕ)
       → IsWalkedUpTo v rest a old now from → IsTold s rule rest b now new Impossible → IsTold s rule (v ∷ rest) a old new Impossible

@@ -31,7 +31,7 @@ fn left_with(f: &Formula, v: Var, rest: &[Var], left: usize) -> usize
 }
 
 /// How many of the last variables aren't free in the formula.
-fn left_by(f: &Formula, vars: &[Var]) -> usize
+pub(crate) fn left_by(f: &Formula, vars: &[Var]) -> usize
     ensures due { IsDue (numbers_of vars.now) (record { form = form_of f.now; left = result }) }
     ensures most { result ≤ length vars.now }
 {

@@ -1,6 +1,6 @@
 //! Changes that were asked for, each noted once.
 
-ghost use Rattle.std.specs.Prelude.{◌≡◌, [], OnOk};
+ghost use Rattle.std.specs.Prelude.{◌≡◌, ◌≢◌, [], IsTrue, OnOk};
 ghost use Rattle.tv_coerce.specs.Changes.{IsListed};
 
 use crate::change::Change;
@@ -14,6 +14,8 @@ pub(crate) struct Noted {
     list: Vec<Change>,
     /// Which places of the predicate stand in the list; no flags as long as that is empty.
     seen: Vec<bool>,
+    /// How often a change was asked for, in turns of the count.
+    asked: usize,
     alloc: Global,
     size: u32,
 }
@@ -46,6 +48,7 @@ impl Noted {
         Noted {
             list: Vec::new(alloc),
             seen: Vec::new(alloc),
+            asked: 0,
             alloc,
             size,
         }
@@ -55,6 +58,7 @@ impl Noted {
     pub fn add(&mut self, change: Change) -> Result<(), AllocError>
         ensures { OnOk result (IsListed change self.old.list.items self.new.list.items) }
     {
+        self.asked = self.asked.wrapping_add(1);
         let number = number_of(change, self.size);
         if !self.list.is_empty() && self.is_seen(number) {
             return Ok(());
@@ -77,6 +81,18 @@ impl Noted {
         if number < self.seen.len() {
             self.seen[number] = true;
         }
+    }
+
+    /// How often a change was asked for, noted anew or not.
+    pub fn asked(&self) -> usize {
+        self.asked
+    }
+
+    /// Whether a change was asked for since that was so often.
+    pub fn has_more(&self, asked: usize) -> bool
+        ensures { IsTrue result → self.now.list.items ≢ [] }
+    {
+        !self.list.is_empty() && self.asked != asked
     }
 
     /// The changes, in the order in which they were noted.

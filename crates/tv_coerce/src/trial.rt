@@ -11,10 +11,10 @@ ghost use Rattle.tv_kleene.specs.declared.K3.TheVariants.{Yes};
 ghost use Rattle.tv_coerce.specs.Trying.{AreKept, ArePlaced, CanTry, CanValue, FailsAt, IsNoted, IsTold, IsTrial, IsWalk, PassesAt, StaysBound, Tests, due_of, dues_of, trial_rule};
 
 use crate::change::Need;
-use crate::due::Due;
+use crate::due::{Due, left_by};
 use crate::need::need;
 use crate::noted::Noted;
-use crate::places::places_for;
+use crate::places::{is_met, places_for};
 use std::alloc::AllocError;
 use tv_eval::{Assignment, Evaluator};
 use tv_kleene::K3;
@@ -123,6 +123,8 @@ fn walk<'a>(
     ensures keeps { AreKept (numbers_of rest.now) a.old a.new }
     ensures stays { StaysBound trial.now.structure.now evaluator.old evaluator.new }
 {
+    let settled = left_by(trial.atom, rest) == rest.len();
+    let asked = noted.asked();
     match rest {
         [] => note(trial, a, noted),
         [v, rest @ ..] => {
@@ -131,7 +133,13 @@ fn walk<'a>(
             while let Some(u) = places.next(from) {
                 *a = a.with(*v, u);
                 match walk(trial, evaluator, conjuncts, rest, a, noted)? {
-                    Outcome::Possible => from = u + 1,
+                    Outcome::Possible => {
+                        // what follows could ask for nothing but the same again
+                        if settled && noted.has_more(asked) {
+                            return Ok(Outcome::Possible);
+                        }
+                        from = u + 1;
+                    }
                     Outcome::Impossible => return Ok(Outcome::Impossible),
                 }
             }
@@ -160,6 +168,9 @@ pub(crate) fn walk_all<'a>(
     ensures stays { StaysBound trial.now.structure.now evaluator.old evaluator.new }
 {
     if !are_yes(trial.structure, evaluator, conjuncts, vars.len(), a) {
+        return Ok(Outcome::Possible);
+    }
+    if is_met(trial, evaluator, vars, a) {
         return Ok(Outcome::Possible);
     }
     walk(trial, evaluator, conjuncts, vars, a, noted)

@@ -100,6 +100,17 @@ returns-in-Impossible-clause-keeps t c =
     (kept-more v tail c.in-Some.u c.args.a.now c.loop-u.a c.with.result c.walk.new.a c.loop-u.invariant.1 c.with.ensures.places
     c.in_ok-walk-in-len1-up.ensures.keeps)
 
+pub returns-then-has_more-clause-keeps : goal.returns-then-has_more-clause-keeps
+returns-then-has_more-clause-keeps t c =
+    let d : Var = record { 0 = 0 }
+    in let rest = c.args.rest.now
+    in let v = (get_or rest 0 d).0
+    in let tail = numbers_of (take (length rest - 1) (drop 1 rest))
+    in let split : numbers_of rest ≡ v ∷ tail = split-vars rest d (omega (arith, c.in-len1-up.len_at_least))
+    in subst (λ vs. AreKept vs c.args.a.now c.walk.new.a) (sym split)
+    (kept-more v tail c.in-Some.u c.args.a.now c.loop-u.a c.with.result c.walk.new.a c.loop-u.invariant.1 c.with.ensures.places
+    c.in_ok-walk-in-len1-up.ensures.keeps)
+
 pub returns-in-empty-clause-told : goal.returns-in-empty-clause-told
 returns-in-empty-clause-told t c =
     let s = c.args.trial.now.structure.now
