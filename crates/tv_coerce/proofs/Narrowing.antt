@@ -216,15 +216,6 @@ module _ (s : StructureForm) (rule : RuleForm) (v : ℕ) (rest : List ℕ) (a : 
         ∙ ap negation_of (sym (along-value s a v (atom_form rule.head) u within) ∙ e))),
   )
 
--- a head without variables
-module _ (s : StructureForm) (rule : RuleForm) (vars : List ℕ) (a : Assignment)
-    (out : (w : ℕ) → Contains vars w → ¬ IsInHead w rule.head) where
-  pub met-positive : sign_of rule.head ≡ true → value (structure_of s) a (atom_form rule.head) ≡ Yes → IsTried s rule vars a
-  met-positive sign is = tried-here s rule vars a out (inl (head-positive (structure_of s) a rule.head sign ∙ is))
-
-  pub met-negative : sign_of rule.head ≡ false → value (structure_of s) a (atom_form rule.head) ≡ No → IsTried s rule vars a
-  met-negative sign is = tried-here s rule vars a out (inl (head-negative (structure_of s) a rule.head sign ∙ ap negation_of is))
-
 -- the head's atom can be valued for all individuals, put for the last variable
 pub record CanAtom (t : StructureForm) (room : ScratchForm) (places : List (Option ℕ)) (v : ℕ) (f : Form) : Type 0 where
   pub formula : IsFormulaOver (arities_of t) (FExists v f)
@@ -262,25 +253,6 @@ can-atom s t rule room places v rest f can variable placed out is same =
     alone : (w : ℕ) → w ≢ v → IsInHead w rule.head → Contains (v ∷ rest) w → ⊥
     alone w ne at (zero, inside, e) = ne (sym e)
     alone w ne at (suc k, inside, e) = out w (k, omega (arith, inside), e) at
-
--- or under one assignment, where it has no variables
-pub record CanMeet (t : StructureForm) (room : ScratchForm) (places : List (Option ℕ)) (f : Form) : Type 0 where
-  pub formula : IsFormulaOver (arities_of t) f
-  pub assigned : AreAssigned t.size places f
-  pub fits : Fits room f t.size
-
-pub can-meet : (s t : StructureForm) (rule : RuleForm) (room : ScratchForm) (places : List (Option ℕ)) (vars : List ℕ) (f : Form)
-    → CanTry rule s room → ArePlaced s.size rule vars places → ((w : ℕ) → Contains vars w → ¬ IsInHead w rule.head)
-    → f ≡ atom_form rule.head → t ≡ s → CanMeet t room places f
-can-meet s t rule room places vars f can placed out is same =
-    subst (λ r. CanMeet r room places f) (sym same) (subst (CanMeet s room places) (sym is) (record {
-      formula = atom-over (arities_of s) rule.head can.over.head;
-      assigned = λ w free. placed w (inr (atom-free w rule.head free)) (λ has. out w has (atom-free w rule.head free));
-      fits = record {
-        closures = omega (arith, atom-nesting rule.head);
-        individuals = can.fits.individuals;
-      };
-    }))
 
 -- ---- both rows
 

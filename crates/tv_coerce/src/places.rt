@@ -1,6 +1,6 @@
 //! The individuals that a variable of a rule has to be tried with, found by rows of values.
 
-ghost use Rattle.std.specs.Prelude.{◌≡◌, ◌≢◌, ◌<◌, ◌≤◌, ◌+◌, ℕ, ◌∷◌, length, slice_index_or, All, IsTrue, MatchOption};
+ghost use Rattle.std.specs.Prelude.{◌≡◌, ◌≢◌, ◌<◌, ◌≤◌, ◌+◌, ℕ, ◌∷◌, length, slice_index_or, All, MatchOption};
 ghost use Rattle.tv_kleene.specs.declared.K3.TheVariants.{No, Yes};
 ghost use Rattle.tv_model.specs.Form.{form_of};
 ghost use Rattle.tv_model.specs.Program.{head_of};
@@ -9,7 +9,7 @@ ghost use Rattle.tv_eval.specs.AssignmentForm.{assignment_of};
 ghost use Rattle.tv_eval.specs.Bound.{IsBound, bound_structure, bound_room};
 ghost use Rattle.tv_rules.specs.EntryForms.{numbers_of, rules_of};
 ghost use Rattle.tv_coerce.specs.ByRows.{ArePlaces, CanRow, IsBodyRow, IsLackingRow, IsNarrowed, IsSkipped};
-ghost use Rattle.tv_coerce.specs.Trying.{ArePlaced, CanTry, IsTrial, IsTried, IsWalk, StaysBound, atom_form, due_of, dues_of, sign_of, trial_rule};
+ghost use Rattle.tv_coerce.specs.Trying.{ArePlaced, CanTry, IsTrial, IsWalk, StaysBound, atom_form, due_of, dues_of, sign_of, trial_rule};
 
 use crate::due::{Due, left_by};
 use crate::trial::Trial;
@@ -150,39 +150,6 @@ fn lacking<'a>(
     } else {
         row
     }
-}
-
-/// Whether the head has no variables, and is met for certain.
-pub(crate) fn is_met<'a>(
-    trial: &Trial<'a>,
-    evaluator: &mut Evaluator<'a>,
-    vars: &[Var],
-    a: &Assignment,
-) -> bool
-    requires trial { IsTrial trial.now }
-    requires bound { IsBound evaluator.old }
-    requires structure { bound_structure evaluator.old ≡ trial.now.structure.now }
-    requires ready { CanTry (trial_rule trial.now) trial.now.structure.now (bound_room evaluator.old) }
-    requires placed { ArePlaced trial.now.structure.now.size (trial_rule trial.now) (numbers_of vars.now) a.now }
-    ensures tried { IsTrue result → IsTried trial.now.structure.now (trial_rule trial.now) (numbers_of vars.now)
-        (assignment_of a.now) }
-    ensures stays { StaysBound trial.now.structure.now evaluator.old evaluator.new }
-{
-    if left_by(trial.atom, vars) != vars.len() {
-        return false;
-    }
-    let k = evaluator.value(trial.atom, a);
-    if is_positive(trial.closed.head(trial.number)) {
-        is_value(k, K3::Yes)
-    } else {
-        is_value(k, K3::No)
-    }
-}
-
-fn is_value(k: K3, wanted: K3) -> bool
-    ensures { IsTrue result → k ≡ wanted }
-{
-    k == wanted
 }
 
 /// The individuals that the variable has to be tried with before those that are left.

@@ -1,20 +1,20 @@
 //! A rule is tried on a structure: its variables get individuals one after the other, and what has to change
 //! is noted.
 
-ghost use Rattle.std.specs.Prelude.{◌≡◌, ◌≢◌, ◌<◌, ◌≤◌, ◌+◌, ℕ, [], ◌∷◌, length, map, All, IfOk, MatchBool};
+ghost use Rattle.std.specs.Prelude.{◌≡◌, ◌≢◌, ◌<◌, ◌≤◌, ◌+◌, ℕ, [], ◌∷◌, length, map, All, IfOk, IsTrue, MatchBool};
 ghost use Rattle.tv_eval.specs.AssignmentForm.{assignment_of};
 ghost use Rattle.tv_eval.specs.Bound.{IsBound, bound_structure, bound_room};
 ghost use Rattle.tv_rules.specs.EntryForms.{numbers_of, rules_of};
 ghost use Rattle.tv_struct.specs.StructureForm.{arities_of};
 ghost use Rattle.tv_coerce.specs.Ready.{IsRuleOver};
 ghost use Rattle.tv_kleene.specs.declared.K3.TheVariants.{Yes};
-ghost use Rattle.tv_coerce.specs.Trying.{AreKept, ArePlaced, CanTry, CanValue, FailsAt, IsNoted, IsTold, IsTrial, IsWalk, PassesAt, StaysBound, Tests, due_of, dues_of, trial_rule};
+ghost use Rattle.tv_coerce.specs.Trying.{AreKept, ArePlaced, CanTry, CanValue, FailsAt, IsNoted, IsTold, IsTrial, IsTried, IsWalk, PassesAt, StaysBound, Tests, due_of, dues_of, trial_rule};
 
 use crate::change::Need;
 use crate::due::{Due, left_by};
 use crate::need::need;
 use crate::noted::Noted;
-use crate::places::{is_met, places_for};
+use crate::places::places_for;
 use std::alloc::AllocError;
 use tv_eval::{Assignment, Evaluator};
 use tv_kleene::K3;
@@ -102,6 +102,23 @@ fn note(trial: &Trial, a: &Assignment, noted: &mut Noted) -> Result<Outcome, All
     }
 }
 
+/// Whether the head has none of the variables that are left, and needs nothing.
+fn needs_nothing(trial: &Trial, rest: &[Var], a: &Assignment) -> bool
+    requires trial { IsTrial trial.now }
+    requires head { IsRuleOver (arities_of trial.now.structure.now) (trial_rule trial.now) }
+    requires placed { ArePlaced trial.now.structure.now.size (trial_rule trial.now) (numbers_of rest.now) a.now }
+    ensures tried { IsTrue result → IsTried trial.now.structure.now (trial_rule trial.now) (numbers_of rest.now)
+        (assignment_of a.now) }
+{
+    if left_by(trial.atom, rest) != rest.len() {
+        return false;
+    }
+    match need(trial.structure, trial.closed.head(trial.number), a) {
+        Need::Nothing => true,
+        Need::Never | Need::Put(_) => false,
+    }
+}
+
 /// Tries the rule under each assignment of the variables that are left, and notes what has to change. What
 /// these stand for is changed on the way.
 fn walk<'a>(
@@ -123,6 +140,9 @@ fn walk<'a>(
     ensures keeps { AreKept (numbers_of rest.now) a.old a.new }
     ensures stays { StaysBound trial.now.structure.now evaluator.old evaluator.new }
 {
+    if needs_nothing(trial, rest, a) {
+        return Ok(Outcome::Possible);
+    }
     let settled = left_by(trial.atom, rest) == rest.len();
     let asked = noted.asked();
     match rest {
@@ -168,9 +188,6 @@ pub(crate) fn walk_all<'a>(
     ensures stays { StaysBound trial.now.structure.now evaluator.old evaluator.new }
 {
     if !are_yes(trial.structure, evaluator, conjuncts, vars.len(), a) {
-        return Ok(Outcome::Possible);
-    }
-    if is_met(trial, evaluator, vars, a) {
         return Ok(Outcome::Possible);
     }
     walk(trial, evaluator, conjuncts, vars, a, noted)
