@@ -67,7 +67,7 @@ L Pick() L
     return program, structure(names, told_apart(names, bits) + [("x", names[:1]), ("n", pairs)]), []
 
 CASES = {
-    "chain": chain(128, 7),
+    "chain": chain(48, 6),
     "flags": flags(14),
     "straight": straight(4000),
     "picks": picks(64, 6),
