@@ -254,7 +254,7 @@ own-tells p action picked old new is q d vars body found defined tuple fits used
         in (λ x. holds.0 (t.next.0 x), λ x. t.next.1 (holds.1 x))
 
 -- own variables are numbers of variables, and as many as the predicate has arguments
-own-fits : (p : ProgramForm) → IsValid p → (q : ℕ) (d : PredForm) (vars : List ℕ) (body : Form)
+pub own-fits : (p : ProgramForm) → IsValid p → (q : ℕ) (d : PredForm) (vars : List ℕ) (body : Form)
     → slice_get p.preds q ≡ Some d → d.kind ≡ KDefined vars body → (picks used own : List ℕ) → Owns picks used vars own
     → IsFormulaOver (program_arities p) (FAtom q own)
 own-fits p valid q d vars body found defined picks used own owns =
@@ -309,7 +309,7 @@ abbrev pub Decided : Type 0
 Decided = (h : Heap) (a : Assignment) (f : Form) → IsDecided (Truth h a f)
 
 -- an answer other than to evaluate comes only where individuals stay
-still-cases : (p : ProgramForm) (action : ActionForm) (affected : List Bool) (q : ℕ) (vars : List ℕ) (body : Form)
+pub still-cases : (p : ProgramForm) (action : ActionForm) (affected : List Bool) (q : ℕ) (vars : List ℕ) (body : Form)
     → (Q : Answer → Type 0) → Q DEvaluate
     → (action.fresh ≡ false → action.retain ≡ None → is_flagged affected q ≡ true → Q (formed p action affected q vars body))
     → (action.fresh ≡ false → action.retain ≡ None → is_flagged affected q ≡ false → Q DKeep)
@@ -373,7 +373,7 @@ any-value : {X : Type 0} (o : Option X) → IfSome o (λ x. Unit {0})
 any-value None = tt
 any-value (Some x) = tt
 
-or-evaluate_by : (Q : Answer → Type 0) → Q DEvaluate → (o : Option Answer) → IfSome o Q → Q (or_evaluate o)
+pub or-evaluate_by : (Q : Answer → Type 0) → Q DEvaluate → (o : Option Answer) → IfSome o Q → Q (or_evaluate o)
 or-evaluate_by Q evaluates None is = evaluates
 or-evaluate_by Q evaluates (Some x) is = is
 

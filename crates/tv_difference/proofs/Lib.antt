@@ -3,6 +3,8 @@ pub mod Assigned
 pub mod AtomTruths
 pub mod DeltaTruths
 pub mod Differenced
+pub mod FitUpdates
+pub mod Fits
 pub mod FormulaTruths
 pub mod Options
 pub mod OwnVariables

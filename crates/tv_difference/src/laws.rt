@@ -1,6 +1,6 @@
 //! Laws of finite differencing: functions that do nothing, and whose contracts are the laws.
 
-ghost use Rattle.tv_difference.specs.Laws.{SimplifyingKeepsTruth, PuttingInKeepsTruth, UpdatesTellTheTruth, KeptPredicatesStay, RunsAreDifferenced};
+ghost use Rattle.tv_difference.specs.Laws.{SimplifyingKeepsTruth, PuttingInKeepsTruth, UpdatesTellTheTruth, KeptPredicatesStay, RunsAreDifferenced, DifferencedIsValid};
 
 use tv_concrete::truth_is_decided;
 
@@ -40,3 +40,8 @@ pub fn runs_are_differenced()
 {
     truth_is_decided();
 }
+
+/// The differenced program of a valid program is valid.
+pub fn differenced_is_valid()
+    ensures { DifferencedIsValid }
+{}

@@ -7,6 +7,6 @@
 mod laws;
 
 pub use laws::{
-    kept_predicates_stay, putting_in_keeps_truth, runs_are_differenced, simplifying_keeps_truth,
-    updates_tell_the_truth,
+    differenced_is_valid, kept_predicates_stay, putting_in_keeps_truth, runs_are_differenced,
+    simplifying_keeps_truth, updates_tell_the_truth,
 };
