@@ -1,0 +1,3 @@
+pub mod JudgedRules
+pub mod Named
+pub mod Shown

@@ -1,0 +1,15 @@
+//! Laws of replays: functions that do nothing, and whose contracts are the laws.
+
+ghost use Rattle.tv_replayed.specs.Laws.{JudgedRulesAreTheProgram, ReplaysShowRuns};
+
+/// Where the start heap embeds in an initial structure and nothing is broken in a replay, there is a run along its
+/// edges through its heaps, each up to a renumbering; where definitions are evaluated anew, only those of the
+/// start heap and the rules count.
+pub fn replays_show_runs()
+    ensures { ReplaysShowRuns }
+{}
+
+/// A heap meets a program exactly where it meets all rules by which it is judged.
+pub fn judged_rules_are_the_programs()
+    ensures { JudgedRulesAreTheProgram }
+{}
