@@ -1,3 +1,4 @@
+pub mod BoundLaws
 pub mod FitLaws
 pub mod MapLaws
 pub mod CandidateLaws

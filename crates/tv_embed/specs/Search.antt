@@ -1,5 +1,5 @@
 -- The search for the least embedding: maps of the first individuals, and what follows from them.
-use Rattle.std.specs.Prelude.{ℕ, ◌≡◌, ◌<◌, ◌+◌, zero, suc, Bool, ◌==◌, if◌then◌else◌, List, All, AllPairs, Contains, length, take, IsTrue, MatchBool, slice_index_or, []}
+use Rattle.std.specs.Prelude.{ℕ, ◌≡◌, ◌<◌, ◌≤◌, ◌+◌, zero, suc, Bool, ◌==◌, if◌then◌else◌, List, All, AllPairs, Contains, length, take, IsTrue, MatchBool, slice_index, slice_index_or, []}
 use Rattle.std.specs.List.{list_any}
 use Rattle.std.specs.Ordering.{nat_cmp, is_le}
 use Rattle.std.specs.Cmp.Lexicographic.{slice_cmp}
@@ -44,3 +44,18 @@ pub record AreAllCandidates (small large : StructureForm) (n : ℕ) (lists : Lis
 abbrev pub missing_below : (images : List ℕ) → ℕ → ℕ
 missing_below images zero = 0
 missing_below images (suc w) = missing_below images w + (if list_any (λ y. y == w) images then 0 else 1)
+
+-- for each individual of large a number that lies above all of the first n individuals of small that may go
+-- to it
+pub record AreBounds (small large : StructureForm) (n : ℕ) (bounds : List ℕ) : Type 0 where
+  pub count : length bounds ≡ large.size
+  pub each : (u w : ℕ) → u < n → w < large.size → IsCandidate small large u w → u < slice_index bounds w
+
+-- the individual is no image, and none behind the first ones may go to it
+pub record IsOutOfReach (bounds images : List ℕ) (w : ℕ) : Type 0 where
+  pub bound : slice_index bounds w ≤ length images
+  pub missing : ¬ Contains images w
+
+-- some individual is out of reach
+abbrev pub LeavesOne : (bounds images : List ℕ) → Type 0
+LeavesOne bounds images = (w : ℕ) × (w < length bounds) × IsOutOfReach bounds images w

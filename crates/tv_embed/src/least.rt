@@ -6,6 +6,7 @@ ghost use Rattle.tv_struct.specs.StructureForm.{arities_of, structure_of};
 ghost use Rattle.tv_embed.specs.Maps.{IsLeastEmbedding, HeapsStay};
 ghost use Rattle.tv_embed.specs.Search.{IsSearched, AreAllCandidates};
 
+use crate::bounds::bounds;
 use crate::candidates::all_candidates;
 use crate::fits::tuple_fits;
 use crate::search::{may_reach_all, search};
@@ -16,7 +17,8 @@ use tv_struct::{Numbers, Structure, Tuple};
 /// individuals of `small` in order; none exactly where there is no embedding. The only error is want of
 /// memory.
 ///
-/// The individuals get their images one after the other, each among those that its own values allow.
+/// The individuals get their images one after the other, each among those that its own values allow; images
+/// are given up as soon as an individual of `large` can no longer be one, or too few are left.
 /// Whether there is an embedding at all is hard in general: the time may grow exponentially where many
 /// individuals have equal values.
 pub fn find(
@@ -36,8 +38,9 @@ pub fn find(
         return Ok(None);
     }
     let candidates = all_candidates(alloc, small, large)?;
+    let bounds = bounds(alloc, small, large, &candidates)?;
     let mut images = Vec::with_capacity(alloc, candidates.len())?;
-    if search(small, large, &candidates, &mut images)? {
+    if search(small, large, &candidates, &bounds, &mut images)? {
         return Ok(Some(Numbers::from_vec(images)));
     }
     Ok(None)

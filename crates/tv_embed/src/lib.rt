@@ -4,6 +4,7 @@
 //! and Wilhelm 2002, section 4.3).
 #![tactic(auto)]
 
+mod bounds;
 mod candidates;
 mod fits;
 mod laws;

@@ -4,7 +4,7 @@ ghost use Rattle.std.specs.Prelude.{◌≡◌, ◌<◌, ◌≤◌, ◌+◌, ◌+
 ghost use Rattle.std.specs.Bool.{OnFalse};
 ghost use Rattle.tv_struct.specs.StructureForm.{arities_of};
 ghost use Rattle.tv_embed.specs.Fits.{FitsSoFar, IsCandidate};
-ghost use Rattle.tv_embed.specs.Search.{IsSearched, HasNoneWith, AreAllCandidates, missing_below};
+ghost use Rattle.tv_embed.specs.Search.{IsSearched, HasNoneWith, AreAllCandidates, AreBounds, IsOutOfReach, LeavesOne, missing_below};
 
 use crate::fits::joins_up;
 use crate::maps::{is_image, is_onto};
@@ -18,10 +18,12 @@ pub fn search(
     small: &Structure,
     large: &Structure,
     candidates: &[Numbers],
+    bounds: &[u32],
     images: &mut Vec<u32>,
 ) -> Result<bool, AllocError>
     requires vocabulary { arities_of small.now ≡ arities_of large.now }
     requires candidates { AreAllCandidates small.now large.now small.now.size candidates.now }
+    requires bounds { AreBounds small.now large.now small.now.size bounds.now }
     requires few { length images.old.items ≤ small.now.size }
     requires so_far { FitsSoFar small.now large.now images.old.items }
     ensures { IfOk result
@@ -32,7 +34,7 @@ pub fn search(
         return Ok(is_whole(small, large, images));
     }
     for w in candidates[u].as_slice() {
-        if try_image(small, large, candidates, images, *w)? {
+        if try_image(small, large, candidates, bounds, images, *w)? {
             return Ok(true);
         }
     }
@@ -45,11 +47,13 @@ fn try_image(
     small: &Structure,
     large: &Structure,
     candidates: &[Numbers],
+    bounds: &[u32],
     images: &mut Vec<u32>,
     w: u32,
 ) -> Result<bool, AllocError>
     requires vocabulary { arities_of small.now ≡ arities_of large.now }
     requires candidates { AreAllCandidates small.now large.now small.now.size candidates.now }
+    requires bounds { AreBounds small.now large.now small.now.size bounds.now }
     requires few { length images.old.items < small.now.size }
     requires so_far { FitsSoFar small.now large.now images.old.items }
     requires image { w < large.now.size }
@@ -61,11 +65,11 @@ fn try_image(
         return Ok(false);
     }
     images.push(w)?;
-    if !may_reach_all(small, large, images) {
+    if !is_open(small, large, bounds, images) {
         images.pop();
         return Ok(false);
     }
-    if search(small, large, candidates, images)? {
+    if search(small, large, candidates, bounds, images)? {
         return Ok(true);
     }
     images.pop();
@@ -98,4 +102,37 @@ fn missing(large: &Structure, images: &[u32]) -> u32
         missing += u32::from(!is_image(images, w));
     }
     missing
+}
+
+/// Whether an embedding may begin with the images, as far as one sees from those that are no images yet.
+fn is_open(small: &Structure, large: &Structure, bounds: &[u32], images: &[u32]) -> bool
+    requires bounds { AreBounds small.now large.now small.now.size bounds.now }
+    requires few { length images.now ≤ small.now.size }
+    ensures { OnFalse result (HasNoneWith small.now large.now images.now) }
+{
+    if !may_reach_all(small, large, images) {
+        return false;
+    }
+    are_in_reach(bounds, images)
+}
+
+/// Whether each individual is an image, or may be that of one behind the first.
+fn are_in_reach(bounds: &[u32], images: &[u32]) -> bool
+    requires { length bounds.now ≤ 256 }
+    ensures { OnFalse result (LeavesOne bounds.now images.now) }
+{
+    for w in 0..bounds.len() {
+        if !is_in_reach(bounds, images, w) {
+            return false;
+        }
+    }
+    true
+}
+
+fn is_in_reach(bounds: &[u32], images: &[u32], w: usize) -> bool
+    requires few { length bounds.now ≤ 256 }
+    requires within { w < length bounds.now }
+    ensures { OnFalse result (IsOutOfReach bounds.now images.now w) }
+{
+    bounds[w] as usize > images.len() || is_image(images, w as u32)
 }

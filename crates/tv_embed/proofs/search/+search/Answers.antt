@@ -26,7 +26,7 @@ search-try_image-requires t c =
     c.loop-w.w-index c.loop-w.invariant c.loop-w-test.true c.requires.so_far
     in let same : length c.loop-w.images.items ≡ length c.args.images.now.items = ap length c.loop-w.invariant.same
     in let falls : 2 * (c.args.small.now.size - length c.loop-w.images.items) < t = omega (arith, c.decreases, same)
-    in (search rules, (c.requires.vocabulary, (c.requires.candidates, (fits.0, (fits.1, (fits.2, fits.3))))))
+    in (search rules, (c.requires.vocabulary, (c.requires.candidates, (c.requires.bounds, (fits.0, (fits.1, (fits.2, fits.3)))))))
 
 pub search-returns-then-branch : goal.search-returns-then-branch
 search-returns-then-branch t c =
@@ -66,11 +66,14 @@ try_image-search-requires t c =
         (
           c.requires.candidates,
           (
-            omega (arith, c.requires.few, count),
-            rw c.in_ok-push.ensures.items
-                (FitsSoFar-push c.args.small.now c.args.large.now c.args.images.now.items c.args.w c.requires.so_far
-                c.requires.image c.requires.candidate
-                (rw c.deref.ensures.value at (c.joins_up.ensures.0 c.if-not-joins_up.false))),
+            c.requires.bounds,
+            (
+              omega (arith, c.requires.few, count),
+              rw c.in_ok-push.ensures.items
+                  (FitsSoFar-push c.args.small.now c.args.large.now c.args.images.now.items c.args.w c.requires.so_far
+                  c.requires.image c.requires.candidate
+                  (rw c.deref.ensures.value at (c.joins_up.ensures.0 c.if-not-joins_up.false))),
+            ),
           ),
         ),
       ),
