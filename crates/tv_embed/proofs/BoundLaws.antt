@@ -87,7 +87,7 @@ raised_more places bound n w old new next is within put before = record {
     here = ap (λ xs. get_or xs w 0) put ∙ get_or-set_same new w bound 0 within
 
     other : (x : ℕ) → (x ≡ w → ⊥) → get_or next x 0 ≡ get_or new x 0
-    other x ne = ap (λ xs. get_or xs x 0) put ∙ get_or-set_other new w x bound 0 (λ e. ne (sym e))
+    other x ne = ap (λ xs. get_or xs x 0) put ∙ get_or-set_other new w x bound 0 ne
 
     kept : (x : ℕ) → (x ≡ w) ⊎ (x ≡ w → ⊥) → (get_or next x 0 ≡ bound) ⊎ (get_or next x 0 ≡ get_or old x 0)
     kept x (inl e) = inl (ap (λ y. get_or next y 0) e ∙ here)

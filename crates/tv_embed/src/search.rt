@@ -110,6 +110,7 @@ fn is_open(small: &Structure, large: &Structure, bounds: &[u32], images: &[u32])
     requires few { length images.now ≤ small.now.size }
     ensures { OnFalse result (HasNoneWith small.now large.now images.now) }
 {
+    let _ = large.size();
     if !may_reach_all(small, large, images) {
         return false;
     }
