@@ -1,12 +1,12 @@
 -- Individuals that can no longer be reached.
-use Rattle.std.proofs.Common.{ℕ, ◌≡◌, ◌<◌, ◌≤◌, ◌+◌, ◌⊎◌, inl, inr, List, [], length, get_or, set, take, refl, sym, ap, subst, ◌∙◌, arith}
+use Rattle.std.proofs.Common.{ℕ, ◌≡◌, ◌<◌, ◌≤◌, ◌+◌, ◌⊎◌, inl, inr, List, length, get_or, set, refl, sym, ap, subst, ◌∙◌, arith}
 use Rattle.std.specs.Prelude.{All, Contains}
 use Rattle.std.proofs.lemmas.Bool.{cases_lt, cases_eq}
 use Rattle.std.proofs.lemmas.List.{get_or_default, get_or-take, length-set, get_or-set_same, get_or-set_other}
 use Rattle.tv_struct.specs.StructureForm.{StructureForm}
-use Rattle.tv_embed.specs.Maps.{image_of, IsEmbedding}
-use Rattle.tv_embed.specs.Fits.{IsCandidate, FitsSoFar}
-use Rattle.tv_embed.specs.Search.{BeginsWith, HasNoneWith, AreCandidates, AreAllCandidates, AreBounds, IsOutOfReach, LeavesOne}
+use Rattle.tv_embed.specs.Maps.{image_of}
+use Rattle.tv_embed.specs.Fits.{IsCandidate}
+use Rattle.tv_embed.specs.Search.{HasNoneWith, AreCandidates, AreBounds, LeavesOne}
 use Rattle.tv_embed.proofs.MapLaws.{FitsSoFar-embedding, IsOnto-embedding}
 
 -- ---- where one is out of reach, no embedding begins so

@@ -3,10 +3,9 @@ use Rattle.std.proofs.Common.{ℕ, ◌≡◌, ◌<◌, ◌≤◌, ◌+◌, ◌�
 use Rattle.std.specs.Prelude.{Contains, IsTrue}
 use Rattle.std.proofs.lemmas.Bool.{cases_lt}
 use Rattle.std.proofs.lemmas.List.{get_or_append_left, get_or_push, length_push, get_or-take, get_or_default, length-take-le}
-use Rattle.std.proofs.lemmas.Option.{slice_get_within}
-use Rattle.tv_struct.specs.StructureForm.{StructureForm, arities_of, summary_at}
+use Rattle.tv_struct.specs.StructureForm.{StructureForm, summary_at}
 use Rattle.tv_embed.specs.Maps.{image_of}
-use Rattle.tv_embed.specs.Fits.{ValueFits, TupleFits, IsCandidate, PairFits, JoinsUp, FitsSoFar}
+use Rattle.tv_embed.specs.Fits.{IsCandidate, PairFits, JoinsUp, FitsSoFar}
 
 image-before : (images : List ℕ) (w u : ℕ) → u < length images → image_of images u ≡ image_of (images ++ w ∷ []) u
 image-before images w u lt = sym (get_or_append_left images (w ∷ []) 0 u lt)

@@ -15,7 +15,7 @@ use Rattle.tv_kleene.specs.Kleene.{LiesUnder}
 use Rattle.tv_frame.specs.Embedding.{Embeds, IsEmbedded}
 use Rattle.tv_struct.specs.StructureForm.{StructureForm, IsStructure, structure_of, arities_of, value_at, summary_at}
 use Rattle.tv_struct.proofs.Library.{below-range}
-use Rattle.tv_embed.specs.Maps.{image_of, IsEmbedding, IsLeastEmbedding}
+use Rattle.tv_embed.specs.Maps.{image_of, IsEmbedding}
 use Rattle.tv_embed.specs.Fits.{TupleFits, IsCandidate, JoinsUp, FitsSoFar, IsOnto}
 use Rattle.tv_embed.specs.Search.{BeginsWith, IsLeastWith, HasNoneWith, IsSearched, AreCandidates, AreAllCandidates, missing_below}
 use Rattle.tv_embed.proofs.FitLaws.{FitsSoFar-take, FitsSoFar-joins}

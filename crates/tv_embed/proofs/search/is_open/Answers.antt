@@ -1,4 +1,4 @@
-use Rattle.std.proofs.Common.{◌≡◌, Bool, true, false, arith}
+use Rattle.std.proofs.Common.{Bool, true, false, arith}
 use Rattle.std.specs.Bool.{OnFalse}
 use Rattle.tv_embed.proofs.BoundLaws.{out_of_reach}
 use Rattle.tv_embed.proofs.search.is_open.Goals as goal
