@@ -258,14 +258,6 @@ def _(count):
     return analyze(text + "%%\n%action See() { %p " + pre + " }\n%%\nL0 See() L1\n", initial)
 
 
-@row("an embedding to be found among 24 cells that differ in nothing", 24)
-def _(count):
-    # a chain onto a chain, listed in another order
-    listed = "%n = {" + ", ".join(f"u{u * 7 % count}" for u in range(count)) + "} %p = { n = {" + ", ".join(f"u{u}->u{u + 1}" for u in range(count - 1)) + "} }"
-    names = "".join(f"%p a{k}(v) nonabs\n" for k in range(1))
-    return ["check", "p", "i", "r"], "%p n(v, w)\n" + names + TAIL, chain(count).replace("x = {u0}", ""), f"tvla report 2\nnode L structures 1\n{listed}\nend\n"
-
-
 def run(words, texts, folder):
     for name, text in zip("pir", texts):
         with open(f"{folder}/{name}", "w") as file:
