@@ -64,13 +64,13 @@ def _(size):
     return analyze(TAIL + "/*" + "*" * (size - len(TAIL) - 4) + "*/")
 
 
-@row("program: 65,000 rules of 64 bytes", 65_000)
+@row("program: 50,000 rules of ten atoms, 1,000,000 formula nodes", 50_000)
 def _(count):
     rule = "%r " + "&".join(["p(v)"] * 10) + "==>q(v)\n"
     return analyze("%p p(v)\n%p q(v)\n" + rule * count + TAIL)
 
 
-@row("program: the same from a structure of 8 individuals", 65_000)
+@row("program: 50,000 rules of ten atoms, tried on 8 individuals", 50_000)
 def _(count):
     rule = "%r " + "&".join(["p(v)"] * 10) + "==>q(v)\n"
     values = ", ".join(f"u{u}:1/2" for u in range(8))
