@@ -1,14 +1,14 @@
 -- What a statement does to a memory is a fair step of the compiled program.
-use Rattle.std.proofs.Common.{ℕ, ◌≡◌, ◌≢◌, ◌<◌, ◌≤◌, ◌+◌, ◌↔◌, ◌⊎◌, ◌∙◌, List, [], ◌∷◌, ◌++◌, length, Bool, true, false, Option, Some, None, Contains, inl, inr, ⊎_elim, refl, sym, subst, arith}
+use Rattle.std.proofs.Common.{ℕ, ◌≡◌, ◌≢◌, ◌↔◌, ◌⊎◌, ◌∙◌, List, [], ◌∷◌, ◌++◌, Bool, true, false, Option, Some, None, Contains, inl, inr, ⊎_elim, refl, sym, subst, arith}
 use Rattle.std.proofs.lemmas.Bool.{cases_eq}
 use Rattle.tv_model.specs.Form.{Form, FZero, FIsNew, FAnd, FOr, FExists}
 use Rattle.tv_model.specs.Heap.{Heap, Holds}
-use Rattle.tv_model.specs.Program.{CTo, UpdateForm}
+use Rattle.tv_model.specs.Program.{CTo}
 use Rattle.tv_model.specs.Rules.{blank}
-use Rattle.tv_model.specs.Step.{FairlySteps, update_for, with_new}
+use Rattle.tv_model.specs.Step.{FairlySteps, with_new}
 use Rattle.tv_model.specs.Truth.{Truth, put}
 use Rattle.tv_model.specs.declared.program.Mode.{Mode}
-use Rattle.tv_model.proofs.Lists.{pushed-cases}
+use Rattle.tv_model.proofs.Lists.{pushed-cases, pushed-last, pushed-old}
 use Rattle.tv_source.specs.Forms.{SourceForm, AssignForm, ANull, ANew, ACopy, ALoad, AStore, AClear, TestForm, TAny, TNull, TSame}
 use Rattle.tv_source.specs.Valid.{IsVariableOf, IsFieldOf, IsAssignOf, IsTestOf}
 use Rattle.tv_source_meaning.specs.Compiled.{assign_action, compiled, field_number, kept_elsewhere, leads, points, sets_field, sets_variable, test_action}
@@ -177,10 +177,12 @@ pushed-individuals : (p : SourceForm) (m n : Memory) (h k : Heap) → IsHeapOfMe
     → n.cells ≡ m.cells ++ cell ∷ [] → (u : ℕ) → Contains k.individuals u ↔ Contains (with_new h cell).individuals u
 pushed-individuals p m n h k is becomes cell e u =
     let In : List ℕ → Type 0 = λ us. Contains us u
-    in let Pushed : List ℕ → Type 0 = λ us. Contains (us ++ cell ∷ []) u
     in (
-      λ at. subst Pushed (sym is.individuals) (subst In e (is-cell p n k becomes u at)),
-      λ at. is-individual p n k becomes u (subst In (sym e) (subst Pushed is.individuals at)),
+      λ at. ⊎_elim (λ old. pushed-old h.individuals cell u (is-individual p m h is u old)) (λ e2. pushed-last h.individuals cell u e2)
+          (pushed-cases m.cells cell u (subst In e (is-cell p n k becomes u at))),
+      λ at. is-individual p n k becomes u (subst In (sym e)
+          (⊎_elim (λ old. pushed-old m.cells cell u (is-cell p m h is u old)) (λ e2. pushed-last m.cells cell u e2)
+          (pushed-cases h.individuals cell u at))),
     )
 
 -- ---- statements

@@ -1,19 +1,19 @@
 -- Steps of the compiled program by actions that keep all individuals and update core predicates alone.
-use Rattle.std.proofs.Common.{ℕ, ◌≡◌, ◌≢◌, ◌≤◌, ◌<◌, ◌+◌, ◌↔◌, ◌⊎◌, ◌∙◌, List, [], ◌∷◌, length, Bool, Option, Some, None, cond, eqb, All, Contains, inl, inr, ⊎_elim, refl, sym, subst, arith, eq-eqb, ne_eqb, slice_get}
+use Rattle.std.proofs.Common.{ℕ, ◌≡◌, ◌≢◌, ◌≤◌, ◌+◌, ◌↔◌, ◌∙◌, List, [], ◌∷◌, length, Bool, Option, Some, None, eqb, Contains, sym, subst, arith, eq-eqb, ne_eqb}
 use Rattle.std.specs.Prelude.{IfSome}
-use Rattle.std.proofs.lemmas.Bool.{cases_eq, cond-true, cond-false}
+use Rattle.std.proofs.lemmas.Bool.{cond-true, cond-false}
 use Rattle.std.proofs.lemmas.List.Elements.{All-nil, All-head, All-tail}
 use Rattle.tv_model.specs.Form.{Form}
 use Rattle.tv_model.specs.Heap.{Heap, Holds, IsTuple}
-use Rattle.tv_model.specs.Program.{PredForm, KindForm, KCore, KDefined, UpdateForm, MessageForm, ActionForm}
+use Rattle.tv_model.specs.Program.{PredForm, KCore, KDefined, UpdateForm, MessageForm, ActionForm}
 use Rattle.tv_model.specs.Rules.{blank}
-use Rattle.tv_model.specs.Step.{AgreesWithGiven, FairlySteps, FollowsUpdate, IsMiddle, StepsThrough, update_for}
+use Rattle.tv_model.specs.Step.{AgreesWithGiven, FairlySteps, FollowsUpdate, IsMiddle, update_for}
 use Rattle.tv_model.specs.Truth.{Truth}
 use Rattle.tv_model.specs.declared.program.Mode.{Mode}
 use Rattle.tv_model.specs.declared.program.Mode.TheVariants.{Given, Recompute}
 use Rattle.tv_source.specs.Forms.{SourceForm}
 use Rattle.tv_source.specs.Valid.{IsVariableOf, IsFieldOf}
-use Rattle.tv_source_meaning.specs.Compiled.{compiled, compiled_preds, field_number, field_pred, reach_pred, variable_pred}
+use Rattle.tv_source_meaning.specs.Compiled.{compiled, field_number}
 use Rattle.tv_source_meaning.specs.Heaps.{IsHeapOfMemory}
 use Rattle.tv_source_meaning.specs.Memories.{Memory}
 use Rattle.tv_source_meaning.proofs.Predicates.{PredAt, of_variable, of_field, of_reach, pred-at}
@@ -77,10 +77,10 @@ core-defined vars body e = absurd (cc e)
 core-follows : (p : SourceForm) (updates : List UpdateForm) (middle new : Heap) → CoreFollows p updates middle new
     → (q : ℕ) (d : PredForm) → PredAt p q d → d.kind ≡ KCore → (tuple : List ℕ) → IsTuple new d.arity tuple
     → Follows updates middle new q tuple
-core-follows p updates middle new follows q d (of_variable declared name e) core tuple fits =
+core-follows p updates middle new follows q d (of_variable declared name among e) core tuple fits =
     let Fits : PredForm → Type 0 = λ c. IsTuple new c.arity tuple
     in tuple-of_one (Follows updates middle new q) new tuple (subst Fits e fits) (follows.variables q declared)
-core-follows p updates middle new follows q d (of_field f declared number name e) core tuple fits =
+core-follows p updates middle new follows q d (of_field f declared number name among e) core tuple fits =
     let Fits : PredForm → Type 0 = λ c. IsTuple new c.arity tuple
     in let At : ℕ → Type 0 = λ n. Follows updates middle new n tuple
     in subst At (sym number)
@@ -94,8 +94,8 @@ given-agrees p Recompute action middle new follows = tt
 given-agrees p Given action middle new follows = λ q d found defined w update tuple fits. absurd (at q d (pred-at p q d found) defined w update)
   where
     at : (q : ℕ) (d : PredForm) → PredAt p q d → ¬ (d.kind ≡ KCore) → (w : UpdateForm) → update_for q action.updates ≡ Some w → ⊥
-    at q d (of_variable declared name e) defined w update = defined (cc e)
-    at q d (of_field f declared number name e) defined w update = defined (cc e)
+    at q d (of_variable declared name among e) defined w update = defined (cc e)
+    at q d (of_field f declared number name among e) defined w update = defined (cc e)
     at q d (of_reach f x f_declared x_declared behind e) defined w update = absurd (cc (sym (follows.others q behind) ∙ update))
 
 -- a fair step from the heap of one memory to that of another

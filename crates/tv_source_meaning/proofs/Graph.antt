@@ -1,17 +1,14 @@
 -- Edges of a compiled program: those of the statements that are left, and their nodes.
-use Rattle.std.proofs.Common.{ℕ, ◌≡◌, ◌+◌, ◌∙◌, ◌⊎◌, zero, suc, List, [], ◌∷◌, ◌++◌, map, true, Some, slice_get, inl, inr, ⊎_elim, refl, sym, ap, subst, arith, append_assoc, Contains}
+use Rattle.std.proofs.Common.{ℕ, ◌≡◌, ◌+◌, ◌∙◌, zero, suc, List, [], ◌∷◌, ◌++◌, map, Some, slice_get, ⊎_elim, refl, sym, ap, subst, arith, append_assoc, Contains}
 use Rattle.std.specs.List.{flat_map, position_or_len}
 use Rattle.std.specs.Prelude.{◌==◌}
-use Rattle.std.proofs.lemmas.Option.{slice_get-map}
-use Rattle.std.proofs.lemmas.List.Elements.{Contains-append_left, Contains-append_right, Contains-append_cases}
-use Rattle.tv_model.specs.Program.{ActionForm}
 use Rattle.tv_model.specs.Valid.{first_occurrences}
 use Rattle.tv_model.specs.declared.program.Edge.{Edge}
 use Rattle.tv_model.proofs.Lists.{Contains-here, Contains-there, Contains-cases, Contains-none}
-use Rattle.tv_source.specs.Forms.{AssignForm, TestForm, Stmt, SAssign, SIf, SWhile, Stmts, no_stmts, with_stmt, SourceForm}
+use Rattle.tv_source.specs.Forms.{SAssign, SIf, SWhile, Stmts, no_stmts, with_stmt, SourceForm}
 use Rattle.tv_source.specs.Valid.{IsStmtOf, AreStmtsOf, HasStmts}
 use Rattle.tv_source_meaning.specs.Compiled.{Arc, arcs, block_arcs, edges_from, ends, entry, node_at, program_arcs}
-use Rattle.tv_source_meaning.specs.Positions.{Numbered, numbered, count, count_all, last}
+use Rattle.tv_source_meaning.specs.Positions.{Numbered, numbered, count, last}
 use Rattle.tv_source_meaning.specs.Steps.{first_number}
 
 -- ---- what is left

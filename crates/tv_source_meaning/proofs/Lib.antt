@@ -6,3 +6,5 @@ mod Graph
 mod Runs
 mod Pairs
 mod Names
+mod Formulas
+mod Valid

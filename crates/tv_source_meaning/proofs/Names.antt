@@ -1,14 +1,13 @@
 -- Names of predicates and nodes of a compiled program.
-use Rattle.std.proofs.Common.{ℕ, ◌≡◌, ◌≢◌, ◌≤◌, ◌<◌, ◌+◌, ◌%◌, ◌/◌, ◌^◌, ◌⊎◌, ◌∙◌, zero, suc, List, [], ◌∷◌, ◌++◌, length, map, Bool, true, false, cond, eqb, Some, None, inl, inr, ⊎_elim, refl, sym, ap, subst, arith, append_assoc, All, AllPairs, Contains, eq-eqb, ne_eqb, slice_get, unwrap_or, get_or}
-use Rattle.std.specs.Prelude.{slice_index, codes, decimal}
-use Rattle.std.specs.List.{flat_map, join_with_byte}
+use Rattle.std.proofs.Common.{ℕ, ◌≡◌, ◌≢◌, ◌<◌, ◌+◌, ◌%◌, ◌^◌, ◌⊎◌, ◌∙◌, List, [], ◌∷◌, ◌++◌, length, map, eqb, inl, inr, ⊎_elim, refl, sym, ap, subst, arith, append_assoc, All, AllPairs, Contains, eq-eqb, ne_eqb, get_or}
+use Rattle.std.specs.Prelude.{codes, decimal}
 use Rattle.std.proofs.lemmas.Bool.{cases_eq, cases_order, cond-true, cond-false}
-use Rattle.std.proofs.lemmas.Fmt.{decimal_by_steps, decimal_injective, decimal_nonempty}
-use Rattle.std.proofs.lemmas.List.{append_cancel_right, length-map}
-use Rattle.std.proofs.lemmas.List.Elements.{All-nil, All-cons, All-append, All-contains, All-head, All-weaker, Contains-get_or, Contains-append_cases, Contains-append_left, Contains-append_right}
+use Rattle.std.proofs.lemmas.Fmt.{decimal_by_steps, decimal_injective}
+use Rattle.std.proofs.lemmas.List.{append_cancel_right}
+use Rattle.std.proofs.lemmas.List.Elements.{All-nil, All-cons, All-append, All-contains, Contains-get_or, Contains-append_cases, Contains-append_left, Contains-append_right}
 use Rattle.std.proofs.lemmas.Option.{unwrap_or-slice_get}
 use Rattle.tv_model.specs.Program.{PredForm}
-use Rattle.tv_model.specs.Spelling.{IsDigit, IsIdentifier, IsLetter, IsName, IsText, IsWord, reserved_words}
+use Rattle.tv_model.specs.Spelling.{IsDigit, IsIdentifier, IsLetter, IsName, IsWord, reserved_words}
 use Rattle.tv_model.proofs.Lists.{Contains-cases, Contains-here, Contains-flat_map_back, Contains-map_back, Contains-none, Contains-there}
 use Rattle.tv_source.specs.Forms.{SourceForm}
 use Rattle.tv_source.specs.Valid.{IsDeclarable, IsFieldOf, IsSource, IsVariableOf}
@@ -17,7 +16,7 @@ use Rattle.tv_source_meaning.specs.Positions.{last}
 use Rattle.tv_source_meaning.proofs.Pairs.{pairs-across, pairs-append, pairs-behind, pairs-flat_map, pairs-front, pairs-map, pairs-weaker, range-differ}
 use Rattle.tv_source_meaning.proofs.Predicates.{range-below}
 
-heads : (c d : ℕ) (xs ys : List ℕ) → c ∷ xs ≡ d ∷ ys → c ≡ d
+pub heads : (c d : ℕ) (xs ys : List ℕ) → c ∷ xs ≡ d ∷ ys → c ≡ d
 heads c d xs ys e = cc e
 
 -- ---- identifiers
@@ -47,6 +46,12 @@ name-contained : (names : List (List ℕ)) (i : ℕ) → i < length names → Co
 name-contained names i below =
     let Of : List ℕ → Type 0 = λ name. Contains names name
     in subst Of (sym (unwrap_or-slice_get names i [])) (Contains-get_or names i [] below)
+
+pub declared-name : (p : SourceForm) → IsSource p → (name : List ℕ) → Contains p.variables name ⊎ Contains p.fields name → IsDeclarable name
+declared-name p valid name (inl at) =
+    All-contains IsDeclarable (p.variables ++ p.fields) name valid.names (Contains-append_left p.variables p.fields name at)
+declared-name p valid name (inr at) =
+    All-contains IsDeclarable (p.variables ++ p.fields) name valid.names (Contains-append_right p.variables p.fields name at)
 
 pub variable-declarable : (p : SourceForm) → IsSource p → (x : ℕ) → IsVariableOf p x → IsDeclarable (name_in p.variables x)
 variable-declarable p valid x declared =
@@ -93,9 +98,21 @@ reach-is_name p valid f x f_declared x_declared =
       is-r,
       omega arith,
       All-cons IsIdentifier field (variable ∷ []) (field-declarable p valid f f_declared).0
-      (All-cons IsIdentifier variable [] (variable-declarable p valid x x_declared).0 (All-nil IsIdentifier)),
+          (All-cons IsIdentifier variable [] (variable-declarable p valid x x_declared).0 (All-nil IsIdentifier)),
       ap (λ (rest : List ℕ). codes "r[" ++ rest) (sym (append_assoc field (44 ∷ variable) (codes "]"))),
     )
+
+pub reach-not_sm : (p : SourceForm) (f x : ℕ) → reach_name p f x ≢ codes "sm"
+reach-not_sm p f x e =
+    let first : 114 ≡ 115
+    = heads 114 115 (91 ∷ (name_in p.fields f ++ (codes "," ++ (name_in p.variables x ++ codes "]")))) (codes "m") e
+    in omega (arith, first)
+
+pub reach-not_new : (p : SourceForm) (f x : ℕ) → reach_name p f x ≢ codes "isNew"
+reach-not_new p f x e =
+    let first : 114 ≡ 105
+    = heads 114 105 (91 ∷ (name_in p.fields f ++ (codes "," ++ (name_in p.variables x ++ codes "]")))) (codes "sNew") e
+    in omega (arith, first)
 
 -- two lists in front of a mark that stands in neither are one where both with it are
 cut-at : (c : ℕ) (xs ys us ws : List ℕ) → ¬ Contains xs c → ¬ Contains ys c → xs ++ c ∷ us ≡ ys ++ c ∷ ws → (xs ≡ ys) × (us ≡ ws)

@@ -1,9 +1,9 @@
 -- Lists whose elements differ.
-use Rattle.std.proofs.Common.{ℕ, ◌≡◌, ◌≢◌, ◌≤◌, ◌<◌, ◌+◌, ◌⊎◌, ◌∙◌, zero, suc, List, [], ◌∷◌, ◌++◌, length, map, filter, Bool, true, false, not, cond, eqb, inl, inr, ⊎_elim, refl, sym, ap, subst, arith, All, AllPairs, Contains, eq-eqb, ne_eqb}
+use Rattle.std.proofs.Common.{ℕ, ◌≡◌, ◌≢◌, ◌≤◌, ◌<◌, ◌+◌, ◌∙◌, zero, suc, List, [], ◌∷◌, ◌++◌, length, map, true, not, eqb, ⊎_elim, sym, ap, subst, arith, All, AllPairs, Contains, eq-eqb, ne_eqb}
 use Rattle.std.specs.List.{flat_map, position_or_len, range_with_len}
 use Rattle.std.specs.Prelude.{◌==◌}
 use Rattle.std.proofs.lemmas.Bool.{cases_eq, cond-true, cond-false}
-use Rattle.std.proofs.lemmas.List.Elements.{All-nil, All-cons, All-append, All-contains, All-map, All-weaker, Contains-append_cases, Contains-append_left, Contains-append_right, filter_passes}
+use Rattle.std.proofs.lemmas.List.Elements.{All-append, All-contains, All-map, All-weaker, Contains-append_cases, Contains-append_left, Contains-append_right, filter_passes}
 use Rattle.std.proofs.lemmas.List.Kept.{AllPairs-cons, AllPairs-filter}
 use Rattle.tv_model.specs.Valid.{first_occurrences, without}
 use Rattle.tv_model.proofs.Lists.{All-from_contains, Contains-cases, Contains-filter, Contains-filter_back, Contains-here, Contains-none, Contains-there}

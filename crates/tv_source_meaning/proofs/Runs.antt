@@ -1,24 +1,22 @@
 -- Runs of programs of the pointer language are runs of their compiled programs.
-use Rattle.std.proofs.Common.{ℕ, ◌≡◌, ◌+◌, ◌∙◌, ◌⊎◌, List, [], ◌∷◌, ◌++◌, map, Bool, true, false, Some, slice_get, inl, inr, ⊎_elim, refl, sym, ap, subst, arith, append-nil, Contains}
+use Rattle.std.proofs.Common.{ℕ, zero, suc, slice_get, inl, inr, Some, ◌≡◌, ◌+◌, ◌∙◌, List, [], ◌∷◌, ◌++◌, map, Bool, true, false, ⊎_elim, refl, sym, ap, subst, arith, append-nil, Contains}
 use Rattle.std.proofs.lemmas.List.Elements.{Contains-append_left, Contains-append_right, Contains-append_cases}
 use Rattle.tv_model.specs.Heap.{Heap}
-use Rattle.tv_model.specs.Program.{ActionForm}
 use Rattle.tv_model.specs.Rules.{blank}
-use Rattle.tv_model.specs.Run.{Stage, GoesOn}
+use Rattle.tv_model.specs.Run.{Brings, BringsFrom, Stage, GoesOn}
 use Rattle.tv_model.specs.Step.{FairStep, FairlySteps}
-use Rattle.tv_model.specs.declared.program.Edge.{Edge}
 use Rattle.tv_model.specs.declared.program.Mode.{Mode}
-use Rattle.tv_model.proofs.Lists.{Contains-here, Contains-there, Contains-cases}
-use Rattle.tv_source.specs.Forms.{AssignForm, TestForm, Stmt, SAssign, SIf, SWhile, Stmts, SourceForm}
-use Rattle.tv_source.specs.Valid.{IsSource, IsStmtOf, IsTestOf, AreStmtsOf}
-use Rattle.tv_source_meaning.specs.Compiled.{Arc, arcs, assign_action, block_arcs, compiled, edges_from, entry, node_at, program_arcs, test_action}
+use Rattle.tv_model.proofs.Lists.{Contains-here, Contains-there}
+use Rattle.tv_source.specs.Forms.{TestForm, Stmt, SAssign, SIf, SWhile, Stmts, SourceForm}
+use Rattle.tv_source.specs.Valid.{IsSource, IsTestOf, AreStmtsOf}
+use Rattle.tv_source_meaning.specs.Compiled.{Arc, arcs, assign_action, block_arcs, compiled, entry, node_at, program_arcs, test_action}
 use Rattle.tv_source_meaning.specs.Heaps.{IsHeapOfMemory}
-use Rattle.tv_source_meaning.specs.Laws.{AreHeapsOf, AreStagesOf, HasRun, SourceRunsAreRuns}
-use Rattle.tv_source_meaning.specs.Memories.{Memory, Does, GoesWay}
+use Rattle.tv_source_meaning.specs.Laws.{AreHeapsOf, AreStagesOf, SourceRunsAreRuns}
+use Rattle.tv_source_meaning.specs.Memories.{Memory, GoesWay}
 use Rattle.tv_source_meaning.specs.Positions.{Numbered, numbered, count_all, last}
-use Rattle.tv_source_meaning.specs.Steps.{State, Chooses, GoThrough, IsAtStart, Performs, Steps, StepsFrom, first_number, position}
+use Rattle.tv_source_meaning.specs.Steps.{State, GoThrough, Performs, StepsFrom, first_number, position}
 use Rattle.tv_source_meaning.proofs.Assigned.{assign-steps, test-steps}
-use Rattle.tv_source_meaning.proofs.Graph.{AreLeftOf, Fits, HasEdge, edge-action, entry-front, has-edge, left-declared, left-of_block, left_arcs, start-node, start-position}
+use Rattle.tv_source_meaning.proofs.Graph.{Fits, HasEdge, edge-action, entry-front, has-edge, left-declared, left-of_block, left_arcs, start-node, start-position}
 use Rattle.tv_source_meaning.proofs.Truths.{meets}
 
 -- ---- one step
@@ -181,6 +179,24 @@ has-stages p mode s (t ∷ later) h (k ∷ heaps) fits goes is are =
     let step : Takes p mode (position p s) t h k = takes-first p mode s.left s.memory t h k is are.0 fits goes.0
     in one-stage p mode s t h k later heaps are.0 step (has-stages p mode t later k heaps step.fits goes.1 are.0 are.1)
 
+-- stages bring the first heap to the first node
+brings-first : (node : ℕ) (h : Heap) (stages : List Stage) (n : ℕ) (k : Heap) → n ≡ node → k ≡ h → BringsFrom node h stages n k
+brings-first node h [] n k same_node same_heap = (same_node, same_heap)
+brings-first node h (stage ∷ stages) n k same_node same_heap = inl (same_node, same_heap)
+
+brought : (p : SourceForm) (node : ℕ) (h : Heap) (later : List State) (stages : List Stage) → AreStagesOf p later stages
+    → (i : ℕ) (t : State) (k : Heap) → slice_get later i ≡ Some t → slice_get (map (λ (stage : Stage). stage.heap) stages) i ≡ Some k
+    → BringsFrom node h stages (node_at p (position p t)) k
+brought p node h [] stages are i t k is_state is_heap = absurd (cc is_state)
+brought p node h (t0 ∷ later) [] are i t k is_state is_heap = absurd are
+brought p node h (t0 ∷ later) (stage ∷ stages) are zero t k is_state is_heap =
+    let same : t0 ≡ t = cc is_state
+    in let same_heap : stage.heap ≡ k = cc is_heap
+    in inr (brings-first stage.edge.to stage.heap stages (node_at p (position p t)) k
+    (ap (λ (u : State). node_at p (position p u)) (sym same) ∙ sym are.1) (sym same_heap))
+brought p node h (t0 ∷ later) (stage ∷ stages) are (suc i) t k is_state is_heap =
+    inr (brought p stage.edge.to stage.heap later stages are.2 i t k is_state is_heap)
+
 -- the whole program fits
 fits-start : (p : SourceForm) → IsSource p → Fits p (numbered 0 p.body [])
 fits-start p valid = record {
@@ -204,5 +220,18 @@ source_runs_are_runs p valid mode s later start goes h heaps is are =
         goes_on = subst At node has.goes_on;
       };
       through = has.through;
-      brings = has.brings;
+      stage_by_stage = has.brings;
+      brings = brings first has.stages has.through has.brings;
     }
+  where
+    brings : position p s ≡ 0 → (stages : List Stage) → map (λ (stage : Stage). stage.heap) stages ≡ heaps → AreStagesOf p later stages
+        → (i : ℕ) (t : State) (k : Heap) → slice_get (s ∷ later) i ≡ Some t → slice_get (h ∷ heaps) i ≡ Some k
+        → Brings h stages (node_at p (position p t)) k
+    brings first stages through are zero t k is_state is_heap =
+        let same : s ≡ t = cc is_state
+        in let same_heap : h ≡ k = cc is_heap
+        in brings-first 0 h stages (node_at p (position p t)) k
+        (ap (λ (u : State). node_at p (position p u)) (sym same) ∙ ap (node_at p) first ∙ start-node p p.body (last p) valid.some) (sym same_heap)
+    brings first stages through are (suc i) t k is_state is_heap =
+        let Found : List Heap → Type 0 = λ hs. slice_get hs i ≡ Some k
+        in brought p 0 h later stages are i t k is_state (subst Found (sym through) is_heap)

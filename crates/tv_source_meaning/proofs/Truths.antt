@@ -1,7 +1,7 @@
 -- What formulas of the compiled program say of the heap of a memory.
-use Rattle.std.proofs.Common.{ℕ, ◌≡◌, ◌<◌, ◌↔◌, ◌⊎◌, ◌∙◌, List, [], ◌∷◌, length, Bool, true, false, Option, Some, None, All, Contains, inl, inr, ⊎_elim, refl, sym, subst}
+use Rattle.std.proofs.Common.{ℕ, ◌≡◌, ◌↔◌, ◌⊎◌, ◌∙◌, List, [], ◌∷◌, Bool, true, false, Option, Some, None, All, Contains, inl, inr, ⊎_elim, refl, sym, subst}
 use Rattle.std.specs.Prelude.{IfSome}
-use Rattle.std.proofs.lemmas.List.Elements.{All-nil, All-cons, All-head, All-tail}
+use Rattle.std.proofs.lemmas.List.Elements.{All-nil, All-cons, All-head}
 use Rattle.tv_model.specs.Form.{Form, FNot, FIff, FForall}
 use Rattle.tv_model.specs.Heap.{Heap, Holds}
 use Rattle.tv_model.specs.Program.{PredForm}
@@ -36,10 +36,10 @@ same-values (Some cell) other there back = sym (there cell refl)
 -- ---- cells
 
 pub is-cell : (p : SourceForm) (m : Memory) (h : Heap) → IsHeapOfMemory p m h → (u : ℕ) → Contains h.individuals u → Contains m.cells u
-is-cell p m h is u at = let In : List ℕ → Type 0 = λ us. Contains us u in subst In is.individuals at
+is-cell p m h is u at = (is.individuals u).0 at
 
 pub is-individual : (p : SourceForm) (m : Memory) (h : Heap) → IsHeapOfMemory p m h → (u : ℕ) → Contains m.cells u → Contains h.individuals u
-is-individual p m h is u at = let In : List ℕ → Type 0 = λ us. Contains us u in subst In (sym is.individuals) at
+is-individual p m h is u at = (is.individuals u).1 at
 
 -- the first of a tuple of which a predicate holds
 pub holds-first : (p : SourceForm) (m : Memory) (h : Heap) → IsHeapOfMemory p m h → (q u : ℕ) (us : List ℕ) → Holds h q (u ∷ us)
@@ -110,10 +110,10 @@ pub meets : (p : SourceForm) (m : Memory) (h : Heap) → IsHeapOfMemory p m h �
 meets p m h is = record { rules = All-nil (MeetsRule h); properties = λ q d found. at q d (pred-at p q d found) }
   where
     at : (q : ℕ) (d : PredForm) → PredAt p q d → All (MeetsRule h) (property_rules q d.props)
-    at q d (of_variable declared name e) =
+    at q d (of_variable declared name among e) =
         let Met : PredForm → Type 0 = λ c. All (MeetsRule h) (property_rules q c.props)
         in subst Met (sym e) (All-cons (MeetsRule h) (unique_rule q) [] (unique-met p m h is q declared) (All-nil (MeetsRule h)))
-    at q d (of_field f declared number name e) =
+    at q d (of_field f declared number name among e) =
         let Met : PredForm → Type 0 = λ c. All (MeetsRule h) (property_rules q c.props)
         in let Of : ℕ → Type 0 = λ n. MeetsRule h (function_rule n)
         in subst Met (sym e)

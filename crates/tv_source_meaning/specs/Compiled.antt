@@ -1,10 +1,10 @@
 -- The program that a program of the pointer language is compiled to.
-use Rattle.std.specs.Prelude.{ℕ, ◌≤◌, ◌+◌, ◌*◌, ◌==◌, Bool, true, false, List, [], ◌∷◌, ◌++◌, length, map, Option, Some, None, slice_get, unwrap_or, if◌then◌else◌, codes, decimal}
+use Rattle.std.specs.Prelude.{ℕ, ◌≤◌, ◌+◌, ◌==◌, Bool, true, false, List, [], ◌∷◌, ◌++◌, length, map, Some, None, slice_get, unwrap_or, if◌then◌else◌, codes, decimal}
 use Rattle.std.specs.List.{flat_map, position_or_len, range_with_len}
 use Rattle.tv_model.specs.declared.program.Edge.{Edge}
 use Rattle.tv_model.specs.declared.program.Props.{Props}
 use Rattle.tv_model.specs.Form.{Form, FZero, FAtom, FIsNew, FSame, FNot, FAnd, FOr, FIff, FExists, FForall, FClosure}
-use Rattle.tv_model.specs.Program.{PredForm, KCore, KDefined, CTo, UpdateForm, MessageForm, ActionForm, ProgramForm}
+use Rattle.tv_model.specs.Program.{PredForm, KCore, KDefined, CTo, UpdateForm, ActionForm, ProgramForm}
 use Rattle.tv_model.specs.Rules.{signed_form}
 use Rattle.tv_model.specs.Valid.{first_occurrences}
 use Rattle.tv_source.specs.Forms.{AssignForm, ANull, ANew, ACopy, ALoad, AStore, AClear, TestForm, TAny, TNull, TSame, Stmt, SAssign, SIf, SWhile, Stmts, no_stmts, with_stmt, SourceForm}

@@ -1,5 +1,5 @@
 -- Memories as heaps.
-use Rattle.std.specs.Prelude.{ℕ, ◌≡◌, ◌≢◌, ◌<◌, ◌↔◌, List, [], ◌∷◌, length, Some, AllPairs, Contains}
+use Rattle.std.specs.Prelude.{ℕ, ◌≡◌, ◌≢◌, ◌↔◌, [], ◌∷◌, Some, AllPairs, Contains}
 use Rattle.tv_model.specs.Heap.{Heap, Holds}
 use Rattle.tv_model.specs.Rules.{IsHeap, IsConcrete}
 use Rattle.tv_source.specs.Forms.{SourceForm}
@@ -17,7 +17,7 @@ pub record IsMemory (p : SourceForm) (m : Memory) : Type 0 where
 -- field's exactly of the pairs of which the field leads from one to the other, and the other predicates as they are defined.
 pub record IsHeapOfMemory (p : SourceForm) (m : Memory) (h : Heap) : Type 0 where
   pub is_heap : IsHeap (compiled p) h
-  pub individuals : h.individuals ≡ m.cells
+  pub individuals : (u : ℕ) → Contains h.individuals u ↔ Contains m.cells u
   pub variables : (x cell : ℕ) → IsVariableOf p x → Holds h x (cell ∷ []) ↔ (m.variable x ≡ Some cell)
   pub fields : (f cell to : ℕ) → IsFieldOf p f → Contains m.cells cell
       → Holds h (field_number p f) (cell ∷ to ∷ []) ↔ (m.field f cell ≡ Some to)

@@ -1,16 +1,14 @@
 -- Laws of compiled programs, as statements.
-use Rattle.std.specs.Prelude.{ℕ, ◌≡◌, List, [], ◌∷◌, map, Some, None, Contains}
+use Rattle.std.specs.Prelude.{ℕ, ◌≡◌, List, [], ◌∷◌, map, Some, slice_get}
 use Rattle.tv_model.specs.declared.program.Mode.{Mode}
 use Rattle.tv_model.specs.Heap.{Heap}
-use Rattle.tv_model.specs.Program.{ProgramForm}
-use Rattle.tv_model.specs.Run.{Stage, IsRun}
+use Rattle.tv_model.specs.Run.{Brings, Stage, IsRun}
 use Rattle.tv_model.specs.Valid.{IsValid}
 use Rattle.tv_source.specs.Forms.{SourceForm}
 use Rattle.tv_source.specs.Valid.{IsSource}
 use Rattle.tv_source_meaning.specs.Compiled.{compiled, node_at, IsSmall}
-use Rattle.tv_source_meaning.specs.Heaps.{IsMemory, IsHeapOfMemory}
-use Rattle.tv_source_meaning.specs.Memories.{Memory}
-use Rattle.tv_source_meaning.specs.Steps.{State, position, Steps, GoThrough, IsAtStart}
+use Rattle.tv_source_meaning.specs.Heaps.{IsHeapOfMemory}
+use Rattle.tv_source_meaning.specs.Steps.{State, position, GoThrough, IsAtStart}
 
 -- the stages have the heaps of the states, and each edge leads to the node of its state's position
 abbrev pub AreStagesOf : SourceForm → List State → List Stage → Type 0
@@ -28,11 +26,13 @@ AreHeapsOf p [] (h ∷ heaps) = ⊥
 AreHeapsOf p (t ∷ later) [] = ⊥
 
 -- a run through these heaps that brings each to the node of its state's position
-pub record HasRun (p : SourceForm) (mode : Mode) (h : Heap) (later : List State) (heaps : List Heap) : Type 0 where
+pub record HasRun (p : SourceForm) (mode : Mode) (s : State) (later : List State) (h : Heap) (heaps : List Heap) : Type 0 where
   pub stages : List Stage
   pub is_run : IsRun (compiled p) mode h stages
   pub through : map (λ stage. stage.heap) stages ≡ heaps
-  pub brings : AreStagesOf p later stages
+  pub stage_by_stage : AreStagesOf p later stages
+  pub brings : (i : ℕ) (t : State) (k : Heap) → slice_get (s ∷ later) i ≡ Some t → slice_get (h ∷ heaps) i ≡ Some k
+      → Brings h stages (node_at p (position p t)) k
 
 -- Whatever a program of the pointer language does from its start, each state by a step from the one before, the heaps of its
 -- states are a run of the compiled program, in both modes, that brings each heap to the node of its state's position.
@@ -40,7 +40,7 @@ abbrev pub SourceRunsAreRuns : Type 0
 SourceRunsAreRuns =
     (p : SourceForm) → IsSource p → (mode : Mode) (s : State) (later : List State) → IsAtStart p s → GoThrough s later
     → (h : Heap) (heaps : List Heap) → IsHeapOfMemory p s.memory h → AreHeapsOf p later heaps
-    → HasRun p mode h later heaps
+    → HasRun p mode s later h heaps
 
 -- the compiled program is valid within the limits
 abbrev pub CompiledIsValid : Type 0

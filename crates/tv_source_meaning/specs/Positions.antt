@@ -1,6 +1,6 @@
 -- Statements are numbered in the order of the text; each number is a position, the one before its statement.
-use Rattle.std.specs.Prelude.{ℕ, ◌+◌, List, [], ◌∷◌}
-use Rattle.tv_source.specs.Forms.{AssignForm, TestForm, Stmt, SAssign, SIf, SWhile, Stmts, no_stmts, with_stmt, SourceForm}
+use Rattle.std.specs.Prelude.{ℕ, ◌+◌, List, ◌∷◌}
+use Rattle.tv_source.specs.Forms.{Stmt, SAssign, SIf, SWhile, Stmts, no_stmts, with_stmt, SourceForm}
 
 -- how many statements stand there, those in blocks included
 abbrev mutual
