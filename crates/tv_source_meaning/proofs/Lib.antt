@@ -1,10 +1,10 @@
-mod Predicates
+pub mod Predicates
 mod Truths
 mod Changes
 mod Assigned
 mod Graph
 mod Runs
-mod Pairs
+pub mod Pairs
 mod Names
 mod Formulas
-mod Valid
+pub mod Valid

@@ -209,7 +209,7 @@ program-arc p valid a at = block-arcs p valid (last p) 0 p.body (last p) valid.b
 
 -- each statement has an edge
 mutual
-  stmt-count : (p : SourceForm) (k : ℕ) (s : Stmt) (behind : ℕ) → count s ≤ length (arcs p k s behind)
+  pub stmt-count : (p : SourceForm) (k : ℕ) (s : Stmt) (behind : ℕ) → count s ≤ length (arcs p k s behind)
   stmt-count p k (SAssign s) behind = omega arith
   stmt-count p k (SIf t then_ else_) behind =
       let one = block-count p (k + 1) then_ behind
@@ -218,7 +218,7 @@ mutual
       in omega (arith, one, two, joined)
   stmt-count p k (SWhile t body) behind = let one = block-count p (k + 1) body k in omega (arith, one)
 
-  block-count : (p : SourceForm) (k : ℕ) (body : Stmts) (behind : ℕ) → count_all body ≤ length (block_arcs p k body behind)
+  pub block-count : (p : SourceForm) (k : ℕ) (body : Stmts) (behind : ℕ) → count_all body ≤ length (block_arcs p k body behind)
   block-count p k no_stmts behind = omega arith
   block-count p k (with_stmt s more) behind =
       let next : ℕ = k + count s
@@ -227,7 +227,7 @@ mutual
       in let joined = length-append (arcs p k s (entry next more behind)) (block_arcs p next more behind)
       in omega (arith, one, two, joined)
 
-edges-length : (p : SourceForm) (i : ℕ) (all : List Arc) → length (edges_from p i all) ≡ length all
+pub edges-length : (p : SourceForm) (i : ℕ) (all : List Arc) → length (edges_from p i all) ≡ length all
 edges-length p i [] = refl
 edges-length p i (a ∷ all) = let later = edges-length p (i + 1) all in omega (arith, later)
 

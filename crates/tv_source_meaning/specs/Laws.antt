@@ -2,6 +2,7 @@
 use Rattle.std.specs.Prelude.{ℕ, ◌≡◌, List, [], ◌∷◌, map, Some, slice_get}
 use Rattle.tv_model.specs.declared.program.Mode.{Mode}
 use Rattle.tv_model.specs.Heap.{Heap}
+use Rattle.tv_model.specs.Program.{ProgramForm}
 use Rattle.tv_model.specs.Run.{Brings, Stage, IsRun}
 use Rattle.tv_model.specs.Valid.{IsValid}
 use Rattle.tv_source.specs.Forms.{SourceForm}
@@ -25,22 +26,25 @@ AreHeapsOf p (t ∷ later) (h ∷ heaps) = IsHeapOfMemory p t.memory h × AreHea
 AreHeapsOf p [] (h ∷ heaps) = ⊥
 AreHeapsOf p (t ∷ later) [] = ⊥
 
--- a run through these heaps that brings each to the node of its state's position
-pub record HasRun (p : SourceForm) (mode : Mode) (s : State) (later : List State) (h : Heap) (heaps : List Heap) : Type 0 where
+-- a run of the program through these heaps that brings each to the node of its state's position
+pub record HasRun (program : ProgramForm) (p : SourceForm) (mode : Mode) (s : State) (later : List State) (h : Heap) (heaps : List Heap) : Type 0 where
   pub stages : List Stage
-  pub is_run : IsRun (compiled p) mode h stages
+  pub is_run : IsRun program mode h stages
   pub through : map (λ stage. stage.heap) stages ≡ heaps
   pub stage_by_stage : AreStagesOf p later stages
   pub brings : (i : ℕ) (t : State) (k : Heap) → slice_get (s ∷ later) i ≡ Some t → slice_get (h ∷ heaps) i ≡ Some k
       → Brings h stages (node_at p (position p t)) k
 
--- Whatever a program of the pointer language does from its start, each state by a step from the one before, the heaps of its
--- states are a run of the compiled program, in both modes, that brings each heap to the node of its state's position.
-abbrev pub SourceRunsAreRuns : Type 0
-SourceRunsAreRuns =
-    (p : SourceForm) → IsSource p → (mode : Mode) (s : State) (later : List State) → IsAtStart p s → GoThrough s later
+-- Whatever the program of the pointer language does from its start, each state by a step from the one before, the heaps of its
+-- states are a run of the other program, in both modes, that brings each heap to the node of its state's position.
+abbrev pub RunsAreRunsOf : (program : ProgramForm) → SourceForm → Type 0
+RunsAreRunsOf program p =
+    (mode : Mode) (s : State) (later : List State) → IsAtStart p s → GoThrough s later
     → (h : Heap) (heaps : List Heap) → IsHeapOfMemory p s.memory h → AreHeapsOf p later heaps
-    → HasRun p mode s later h heaps
+    → HasRun program p mode s later h heaps
+
+abbrev pub SourceRunsAreRuns : Type 0
+SourceRunsAreRuns = (p : SourceForm) → IsSource p → RunsAreRunsOf (compiled p) p
 
 -- the compiled program is valid within the limits
 abbrev pub CompiledIsValid : Type 0
