@@ -1,0 +1,7 @@
+pub mod Forms
+pub mod Copies
+pub mod Depth
+pub mod Words
+pub mod Grammar
+pub mod Reading
+pub mod Outcome
