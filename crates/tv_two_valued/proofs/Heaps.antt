@@ -69,7 +69,7 @@ yes-is No e = absurd cc
 yes-is Half e = absurd cc
 yes-is Yes e = refl
 
-individuals-or : (n : ℕ) (tuple : List ℕ) → AreIndividuals n tuple ⊎ (AreIndividuals n tuple → ⊥)
+pub individuals-or : (n : ℕ) (tuple : List ℕ) → AreIndividuals n tuple ⊎ (AreIndividuals n tuple → ⊥)
 individuals-or n [] = inl tt
 individuals-or n (u ∷ us) = at (cases_lt u n) (individuals-or n us)
   where

@@ -1,3 +1,4 @@
 pub mod Tuples
 pub mod Heaps
 pub mod Truths
+pub mod Definite

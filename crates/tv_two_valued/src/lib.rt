@@ -3,6 +3,8 @@
 
 mod laws;
 mod truth;
+mod whether;
 
 pub use laws::{heaps_are_told, truth_is_told};
 pub use truth::holds;
+pub use whether::{is_definite, is_two_valued};
