@@ -7,7 +7,7 @@ use Rattle.tv_model.specs.declared.program.Edge.{Edge}
 use Rattle.tv_model.proofs.Lists.{Contains-here, Contains-there, Contains-cases, Contains-none}
 use Rattle.tv_source.specs.Forms.{SAssign, SIf, SWhile, Stmts, no_stmts, with_stmt, SourceForm}
 use Rattle.tv_source.specs.Valid.{IsStmtOf, AreStmtsOf, HasStmts}
-use Rattle.tv_source_meaning.specs.Compiled.{Arc, arcs, block_arcs, edges_from, ends, entry, node_at, program_arcs}
+use Rattle.tv_source_meaning.specs.Compiled.{Arc, arcs, block_arcs, edges_between, ends, entry, node_at, program_arcs, node_positions}
 use Rattle.tv_source_meaning.specs.Positions.{Numbered, numbered, count, last}
 use Rattle.tv_source_meaning.specs.Steps.{first_number}
 
@@ -56,7 +56,8 @@ pub record Fits (p : SourceForm) (left : List Numbered) : Type 0 where
 pub record HasEdge (p : SourceForm) (i : ℕ) (all : List Arc) (a : Arc) : Type 0 where
   pub edge : Edge
   pub place : ℕ
-  pub among : Contains (edges_from p i all) edge
+  pub its_place : slice_get (edges_between (node_positions p) i all) place ≡ Some edge
+  pub among : Contains (edges_between (node_positions p) i all) edge
   pub from : edge.from ≡ node_at p a.from
   pub to : edge.to ≡ node_at p a.to
   pub numbered : edge.action ≡ i + place
@@ -71,7 +72,8 @@ has-edge p i (b ∷ all) a at =
     in let has : HasEdge p i (b ∷ all) b = record {
       edge = here;
       place = 0;
-      among = Contains-here here (edges_from p (i + 1) all);
+      its_place = refl;
+      among = Contains-here here (edges_between (node_positions p) (i + 1) all);
       from = refl;
       to = refl;
       numbered = omega arith;
@@ -83,7 +85,8 @@ has-edge p i (b ∷ all) a at =
     in record {
       edge = later.edge;
       place = suc later.place;
-      among = Contains-there here later.edge (edges_from p (i + 1) all) later.among;
+      its_place = later.its_place;
+      among = Contains-there here later.edge (edges_between (node_positions p) (i + 1) all) later.among;
       from = later.from;
       to = later.to;
       numbered = omega (arith, later.numbered);

@@ -8,3 +8,5 @@ pub mod Pairs
 mod Names
 mod Formulas
 pub mod Valid
+mod Memories
+mod Nulls

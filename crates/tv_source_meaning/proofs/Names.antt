@@ -162,7 +162,7 @@ digits-digits n below =
     n below
 
 -- a node's name is a word, and tells its position
-pub node-is_word : (p : SourceForm) (k : ℕ) → k < 2 ^ 64 → IsWord (node_name p k)
+pub node-is_word : (p : SourceForm) (k : ℕ) → k < 2 ^ 64 → IsWord (node_name (last p) k)
 node-is_word p k below = go (cases_eq k (last p))
   where
     exit : IsWord (codes "Exit")
@@ -174,19 +174,19 @@ node-is_word p k below = go (cases_eq k (last p))
           (All-cons IsWordByte 116 [] (inl (inr (omega arith, omega arith))) (All-nil IsWordByte)))),
     )
 
-    go : (k ≡ last p) ⊎ (k ≡ last p → ⊥) → IsWord (node_name p k)
+    go : (k ≡ last p) ⊎ (k ≡ last p → ⊥) → IsWord (node_name (last p) k)
     go (inl e) = subst IsWord (sym (cond-true (eqb k (last p)) (codes "Exit") (codes "S" ++ decimal k) (eq-eqb k (last p) e))) exit
     go (inr ne) =
         subst IsWord (sym (cond-false (eqb k (last p)) (codes "Exit") (codes "S" ++ decimal k) (ne_eqb k (last p) ne)))
         (omega arith, All-cons IsWordByte 83 (decimal k) (inl (inl (omega arith, omega arith))) (digits-digits k below))
 
-pub node-apart : (p : SourceForm) (j k : ℕ) → j < 2 ^ 64 → k < 2 ^ 64 → node_name p j ≡ node_name p k → j ≡ k
+pub node-apart : (p : SourceForm) (j k : ℕ) → j < 2 ^ 64 → k < 2 ^ 64 → node_name (last p) j ≡ node_name (last p) k → j ≡ k
 node-apart p j k j_below k_below e = go (cases_eq j (last p)) (cases_eq k (last p))
   where
-    at-exit : (i : ℕ) → i ≡ last p → node_name p i ≡ codes "Exit"
+    at-exit : (i : ℕ) → i ≡ last p → node_name (last p) i ≡ codes "Exit"
     at-exit i is = cond-true (eqb i (last p)) (codes "Exit") (codes "S" ++ decimal i) (eq-eqb i (last p) is)
 
-    elsewhere : (i : ℕ) → (i ≡ last p → ⊥) → node_name p i ≡ 83 ∷ decimal i
+    elsewhere : (i : ℕ) → (i ≡ last p → ⊥) → node_name (last p) i ≡ 83 ∷ decimal i
     elsewhere i ne = cond-false (eqb i (last p)) (codes "Exit") (codes "S" ++ decimal i) (ne_eqb i (last p) ne)
 
     differ : (ds : List ℕ) → codes "Exit" ≡ 83 ∷ ds → ⊥

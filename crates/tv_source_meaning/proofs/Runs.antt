@@ -21,13 +21,14 @@ use Rattle.tv_source_meaning.proofs.Truths.{meets}
 
 -- ---- one step
 
--- a step takes an edge of the program from its position to the next
-pub record Takes (p : SourceForm) (mode : Mode) (number : ℕ) (t : State) (h k : Heap) : Type 0 where
+-- a step takes an edge of the program from its position to the next, fairly from any heap of the one memory to any of the other
+pub record Takes (p : SourceForm) (number : ℕ) (m : Memory) (t : State) : Type 0 where
   pub arc : Arc
   pub among : Contains (program_arcs p) arc
   pub from : arc.from ≡ number
   pub to : arc.to ≡ first_number t.left (last p)
-  pub fair : FairlySteps (compiled p) mode arc.action blank h k
+  pub fair : (mode : Mode) (h k : Heap) → IsHeapOfMemory p m h → IsHeapOfMemory p t.memory k
+      → FairlySteps (compiled p) mode arc.action blank h k
   pub fits : Fits p t.left
 
 -- what is left behind a statement fits
@@ -51,29 +52,28 @@ fits-block p k body behind declared fits within = record {
 }
 
 -- the edges of the first statement that is left are the program's
-first-among : (p : SourceForm) (n : Numbered) (behind : List Numbered) → Fits p (n ∷ behind) → (a : Arc)
+pub first-among : (p : SourceForm) (n : Numbered) (behind : List Numbered) → Fits p (n ∷ behind) → (a : Arc)
     → Contains (arcs p n.number n.statement (first_number behind (last p))) a → Contains (program_arcs p) a
 first-among p n behind fits a at =
     fits.among a (Contains-append_left (arcs p n.number n.statement (first_number behind (last p))) (left_arcs p behind) a at)
 
 -- an edge of a test is taken
-takes-test : (p : SourceForm) (mode : Mode) (m : Memory) (t : State) (h k : Heap) → IsHeapOfMemory p m h → IsHeapOfMemory p t.memory k
-    → (way : Bool) (test : TestForm) → IsTestOf p test → GoesWay way test m → t.memory ≡ m → (from to : ℕ) (left : List Numbered)
+takes-test : (p : SourceForm) (m : Memory) (t : State) (way : Bool) (test : TestForm) → IsTestOf p test → GoesWay way test m → t.memory ≡ m → (from to : ℕ) (left : List Numbered)
     → Contains (program_arcs p) (record { from = from; action = test_action way test; to = to }) → to ≡ first_number left (last p)
-    → Fits p left → t.left ≡ left → Takes p mode from t h k
-takes-test p mode m t h k is becomes way test declared goes e from to left among leads fits e_left = record {
+    → Fits p left → t.left ≡ left → Takes p from m t
+takes-test p m t way test declared goes e from to left among leads fits e_left = record {
   arc = record { from = from; action = test_action way test; to = to };
   among = among;
   from = refl;
   to = leads ∙ ap (λ l. first_number l (last p)) (sym e_left);
-  fair = test-steps p mode m t.memory h k is becomes way test declared goes e;
+  fair = λ mode h k is becomes. test-steps p mode m t.memory h k is becomes way test declared goes e;
   fits = subst (Fits p) (sym e_left) fits;
 }
 
-takes : (p : SourceForm) (mode : Mode) (number : ℕ) (s : Stmt) (behind : List Numbered) (m : Memory) (t : State) (h k : Heap)
-    → IsHeapOfMemory p m h → IsHeapOfMemory p t.memory k → Fits p (record { number = number; statement = s } ∷ behind)
-    → Performs number s behind m t → Takes p mode number t h k
-takes p mode number (SAssign a) behind m t h k is becomes fits (does, e) =
+takes : (p : SourceForm) (number : ℕ) (s : Stmt) (behind : List Numbered) (m : Memory) (t : State)
+    → Fits p (record { number = number; statement = s } ∷ behind)
+    → Performs number s behind m t → Takes p number m t
+takes p number (SAssign a) behind m t fits (does, e) =
     let end : ℕ = first_number behind (last p)
     in let arc : Arc = record { from = number; action = assign_action p a; to = end }
     in record {
@@ -81,10 +81,10 @@ takes p mode number (SAssign a) behind m t h k is becomes fits (does, e) =
       among = first-among p (record { number = number; statement = SAssign a }) behind fits arc (Contains-here arc []);
       from = refl;
       to = ap (λ l. first_number l (last p)) (sym e);
-      fair = assign-steps p mode m t.memory h k is becomes a fits.declared.0 does;
+      fair = λ mode h k is becomes. assign-steps p mode m t.memory h k is becomes a fits.declared.0 does;
       fits = subst (Fits p) (sym e) (fits-behind p (record { number = number; statement = SAssign a }) behind fits);
     }
-takes p mode number (SIf test then_ else_) behind m t h k is becomes fits (e, way) =
+takes p number (SIf test then_ else_) behind m t fits (e, way) =
     let n : Numbered = record { number = number; statement = SIf test then_ else_ }
     in let end : ℕ = first_number behind (last p)
     in let else_at : ℕ = number + 1 + count_all then_
@@ -96,14 +96,14 @@ takes p mode number (SIf test then_ else_) behind m t h k is becomes fits (e, wa
     in let within : (a : Arc) → Contains (then_arcs ++ else_arcs) a → Contains (program_arcs p) a
     = λ a at. first-among p n behind fits a (Contains-there yes a (no_ ∷ (then_arcs ++ else_arcs)) (Contains-there no_ a (then_arcs ++ else_arcs) at))
     in ⊎_elim
-    (λ true_way. takes-test p mode m t h k is becomes true test fits.declared.0.0 true_way.0 e number (entry (number + 1) then_ end)
+    (λ true_way. takes-test p m t true test fits.declared.0.0 true_way.0 e number (entry (number + 1) then_ end)
     (numbered (number + 1) then_ behind)
     (first-among p n behind fits yes (Contains-here yes (no_ ∷ (then_arcs ++ else_arcs))))
     (sym (entry-front (number + 1) then_ behind (last p)))
     (fits-block p (number + 1) then_ behind fits.declared.0.1 rest
     (λ a at. within a (Contains-append_left then_arcs else_arcs a at)))
     true_way.1)
-    (λ false_way. takes-test p mode m t h k is becomes false test fits.declared.0.0 false_way.0 e number (entry else_at else_ end)
+    (λ false_way. takes-test p m t false test fits.declared.0.0 false_way.0 e number (entry else_at else_ end)
     (numbered else_at else_ behind)
     (first-among p n behind fits no_ (Contains-there yes no_ (no_ ∷ (then_arcs ++ else_arcs)) (Contains-here no_ (then_arcs ++ else_arcs))))
     (sym (entry-front else_at else_ behind (last p)))
@@ -111,32 +111,31 @@ takes p mode number (SIf test then_ else_) behind m t h k is becomes fits (e, wa
     (λ a at. within a (Contains-append_right then_arcs else_arcs a at)))
     false_way.1)
     way
-takes p mode number (SWhile test body) behind m t h k is becomes fits (e, way) =
+takes p number (SWhile test body) behind m t fits (e, way) =
     let n : Numbered = record { number = number; statement = SWhile test body }
     in let end : ℕ = first_number behind (last p)
     in let yes : Arc = record { from = number; action = test_action true test; to = entry (number + 1) body number }
     in let no_ : Arc = record { from = number; action = test_action false test; to = end }
     in let body_arcs : List Arc = block_arcs p (number + 1) body number
     in ⊎_elim
-    (λ true_way. takes-test p mode m t h k is becomes true test fits.declared.0.0 true_way.0 e number (entry (number + 1) body number)
+    (λ true_way. takes-test p m t true test fits.declared.0.0 true_way.0 e number (entry (number + 1) body number)
     (numbered (number + 1) body (n ∷ behind))
     (first-among p n behind fits yes (Contains-here yes (no_ ∷ body_arcs)))
     (sym (entry-front (number + 1) body (n ∷ behind) (last p)))
     (fits-block p (number + 1) body (n ∷ behind) fits.declared.0.1 fits
     (λ a at. first-among p n behind fits a (Contains-there yes a (no_ ∷ body_arcs) (Contains-there no_ a body_arcs at))))
     true_way.1)
-    (λ false_way. takes-test p mode m t h k is becomes false test fits.declared.0.0 false_way.0 e number end behind
+    (λ false_way. takes-test p m t false test fits.declared.0.0 false_way.0 e number end behind
     (first-among p n behind fits no_ (Contains-there yes no_ (no_ ∷ body_arcs) (Contains-here no_ body_arcs)))
     refl
     (fits-behind p n behind fits)
     false_way.1)
     way
 
-takes-first : (p : SourceForm) (mode : Mode) (left : List Numbered) (m : Memory) (t : State) (h k : Heap)
-    → IsHeapOfMemory p m h → IsHeapOfMemory p t.memory k → Fits p left → StepsFrom left m t
-    → Takes p mode (first_number left (last p)) t h k
-takes-first p mode [] m t h k is becomes fits step = absurd step
-takes-first p mode (n ∷ behind) m t h k is becomes fits step = takes p mode n.number n.statement behind m t h k is becomes fits step
+pub takes-first : (p : SourceForm) (left : List Numbered) (m : Memory) (t : State) → Fits p left → StepsFrom left m t
+    → Takes p (first_number left (last p)) m t
+takes-first p [] m t fits step = absurd step
+takes-first p (n ∷ behind) m t fits step = takes p n.number n.statement behind m t fits step
 
 -- ---- runs
 
@@ -148,9 +147,9 @@ pub record HasStages (p : SourceForm) (mode : Mode) (node : ℕ) (h : Heap) (lat
   pub brings : AreStagesOf p later stages
 
 one-stage : (p : SourceForm) (mode : Mode) (s t : State) (h k : Heap) (later : List State) (heaps : List Heap)
-    → IsHeapOfMemory p t.memory k → Takes p mode (position p s) t h k → HasStages p mode (node_at p (position p t)) k later heaps
+    → IsHeapOfMemory p s.memory h → IsHeapOfMemory p t.memory k → Takes p (position p s) s.memory t → HasStages p mode (node_at p (position p t)) k later heaps
     → HasStages p mode (node_at p (position p s)) h (t ∷ later) (k ∷ heaps)
-one-stage p mode s t h k later heaps becomes step rest =
+one-stage p mode s t h k later heaps is becomes step rest =
     let has : HasEdge p 0 (program_arcs p) step.arc = has-edge p 0 (program_arcs p) step.arc step.among
     in let stage : Stage = record { edge = has.edge; heap = k }
     in let Found : ℕ → Type 0 = λ i. slice_get (compiled p).actions i ≡ Some step.arc.action
@@ -158,7 +157,7 @@ one-stage p mode s t h k later heaps becomes step rest =
       action = step.arc.action;
       picked = blank;
       its_action = subst Found (omega (arith, has.numbered)) (edge-action (program_arcs p) has.place step.arc has.found);
-      fair = step.fair;
+      fair = step.fair mode h k is becomes;
     }
     in let leads : has.edge.to ≡ node_at p (position p t) = has.to ∙ ap (node_at p) step.to
     in let At : ℕ → Type 0 = λ node. GoesOn (compiled p) mode node k rest.stages
@@ -176,8 +175,8 @@ has-stages p mode s [] h [] fits goes is are = record { stages = []; goes_on = t
 has-stages p mode s [] h (k ∷ heaps) fits goes is are = absurd are
 has-stages p mode s (t ∷ later) h [] fits goes is are = absurd are
 has-stages p mode s (t ∷ later) h (k ∷ heaps) fits goes is are =
-    let step : Takes p mode (position p s) t h k = takes-first p mode s.left s.memory t h k is are.0 fits goes.0
-    in one-stage p mode s t h k later heaps are.0 step (has-stages p mode t later k heaps step.fits goes.1 are.0 are.1)
+    let step : Takes p (position p s) s.memory t = takes-first p s.left s.memory t fits goes.0
+    in one-stage p mode s t h k later heaps is are.0 step (has-stages p mode t later k heaps step.fits goes.1 are.0 are.1)
 
 -- stages bring the first heap to the first node
 brings-first : (node : ℕ) (h : Heap) (stages : List Stage) (n : ℕ) (k : Heap) → n ≡ node → k ≡ h → BringsFrom node h stages n k
@@ -198,7 +197,7 @@ brought p node h (t0 ∷ later) (stage ∷ stages) are (suc i) t k is_state is_h
     inr (brought p stage.edge.to stage.heap later stages are.2 i t k is_state is_heap)
 
 -- the whole program fits
-fits-start : (p : SourceForm) → IsSource p → Fits p (numbered 0 p.body [])
+pub fits-start : (p : SourceForm) → IsSource p → Fits p (numbered 0 p.body [])
 fits-start p valid = record {
   declared = left-declared p 0 p.body [] valid.body tt;
   among = λ a at.

@@ -13,7 +13,7 @@ use Rattle.tv_model.specs.declared.program.Edge.{Edge}
 use Rattle.tv_model.proofs.Lists.{All-from_contains, Contains-cases, Contains-flat_map, Contains-flat_map_back, Contains-here, Contains-none, Contains-there}
 use Rattle.tv_source.specs.Forms.{SourceForm, Stmt, SAssign, SIf, SWhile, Stmts, no_stmts, with_stmt}
 use Rattle.tv_source.specs.Valid.{AreStmtsOf, HasStmts, IsDeclarable, IsFieldOf, IsSource, IsStmtOf, IsVariableOf}
-use Rattle.tv_source_meaning.specs.Compiled.{Arc, arcs, assign_action, block_arcs, compiled, compiled_preds, edges_from, ends, entry, field_pred, leads_on, node_at, node_name, node_positions, points, program_arcs, test_action, variable_pred}
+use Rattle.tv_source_meaning.specs.Compiled.{Arc, arcs, assign_action, block_arcs, compiled, compiled_preds, edges_between, ends, entry, field_pred, leads_on, node_at, node_name, node_positions, points, program_arcs, test_action, variable_pred}
 use Rattle.tv_source_meaning.specs.Laws.{CompiledIsValid}
 use Rattle.tv_source_meaning.specs.Positions.{count, count_all, last}
 use Rattle.tv_source_meaning.proofs.Formulas.{assign-valid, leads-formula, one-own, points-formula, test-valid}
@@ -227,7 +227,7 @@ mutual
       in let joined = length-append (arcs p k s (entry next more behind)) (block_arcs p next more behind)
       in omega (arith, one, two, joined)
 
-pub edges-length : (p : SourceForm) (i : ℕ) (all : List Arc) → length (edges_from p i all) ≡ length all
+pub edges-length : (p : SourceForm) (i : ℕ) (all : List Arc) → length (edges_between (node_positions p) i all) ≡ length all
 edges-length p i [] = refl
 edges-length p i (a ∷ all) = let later = edges-length p (i + 1) all in omega (arith, later)
 
@@ -238,7 +238,7 @@ position-listed p a at k end =
     (among-occurrences (flat_map ends (program_arcs p)) k (Contains-flat_map ends (program_arcs p) a k at end))
 
 edges-valid : (p : SourceForm) (n i : ℕ) (all : List Arc) → ((a : Arc) → Contains all a → (node_at p a.from < n) × (node_at p a.to < n))
-    → (edge : Edge) → Contains (edges_from p i all) edge → (edge.from < n) × (edge.to < n) × (edge.action < i + length all)
+    → (edge : Edge) → Contains (edges_between (node_positions p) i all) edge → (edge.from < n) × (edge.to < n) × (edge.action < i + length all)
 edges-valid p n i [] each edge at = absurd (Contains-none edge at)
 edges-valid p n i (a ∷ all) each edge at =
     let here : Edge = record { from = node_at p a.from; action = i; to = node_at p a.to }
@@ -248,11 +248,11 @@ edges-valid p n i (a ∷ all) each edge at =
     (λ e. subst Is e (ends_fit.0, ends_fit.1, omega arith))
     (λ there. let later = edges-valid p n (i + 1) all (λ b in_. each b (Contains-there a b all in_)) edge there
     in (later.0, later.1, omega (arith, later.2)))
-    (Contains-cases here edge (edges_from p (i + 1) all) at)
+    (Contains-cases here edge (edges_between (node_positions p) (i + 1) all) at)
 
 -- ---- the program
 
-some-edge : (p : SourceForm) (body : Stmts) (end : ℕ) → HasStmts body → 0 < length (edges_from p 0 (block_arcs p 0 body end))
+some-edge : (p : SourceForm) (body : Stmts) (end : ℕ) → HasStmts body → 0 < length (edges_between (node_positions p) 0 (block_arcs p 0 body end))
 some-edge p no_stmts end some = absurd some
 some-edge p (with_stmt (SAssign a) more) end some = omega arith
 some-edge p (with_stmt (SIf t then_ else_) more) end some = omega arith
@@ -269,13 +269,13 @@ compiled_is_valid p valid small = record {
   rule_count = omega arith;
   actions = All-map (IsAction (compiled p)) (λ (a : Arc). a.action) (program_arcs p)
       (All-from_contains (λ (a : Arc). IsAction (compiled p) a.action) (program_arcs p) (λ a at. (program-arc p valid a at).action));
-  edges = All-from_contains (IsEdge (compiled p)) (edges_from p 0 (program_arcs p)) (λ edge at. edge-valid edge at);
+  edges = All-from_contains (IsEdge (compiled p)) (edges_between (node_positions p) 0 (program_arcs p)) (λ edge at. edge-valid edge at);
   some_edge = some-edge p p.body (last p) valid.some;
   edge_count = small.edges;
-  nodes = All-map IsWord (node_name p) (node_positions p)
-      (All-from_contains (λ k. IsWord (node_name p k)) (node_positions p) (λ k at. node-is_word p k (small-position k at)));
-  node_names_differ = pairs-map ◌≢◌ (node_name p) (node_positions p)
-      (pairs-weaker ◌≢◌ (λ j k. node_name p j ≢ node_name p k) (node_positions p)
+  nodes = All-map IsWord (node_name (last p)) (node_positions p)
+      (All-from_contains (λ k. IsWord (node_name (last p) k)) (node_positions p) (λ k at. node-is_word p k (small-position k at)));
+  node_names_differ = pairs-map ◌≢◌ (node_name (last p)) (node_positions p)
+      (pairs-weaker ◌≢◌ (λ j k. node_name (last p) j ≢ node_name (last p) k) (node_positions p)
       (λ j k at_j at_k ne e. ne (node-apart p j k (small-position j at_j) (small-position k at_k) e))
       (occurrences-differ (flat_map ends (program_arcs p))));
   node_count = small.nodes;
@@ -296,9 +296,9 @@ compiled_is_valid p valid small = record {
         in let below : k ≤ last p = bounded k from.0 (program-arc p valid from.0 from.1) from.2
         in omega (arith, below, few)
 
-    edge-valid : (edge : Edge) → Contains (edges_from p 0 (program_arcs p)) edge → IsEdge (compiled p) edge
+    edge-valid : (edge : Edge) → Contains (edges_between (node_positions p) 0 (program_arcs p)) edge → IsEdge (compiled p) edge
     edge-valid edge at =
-        let names : length (map (node_name p) (node_positions p)) ≡ length (node_positions p) = length-map (node_positions p) (node_name p)
+        let names : length (map (node_name (last p)) (node_positions p)) ≡ length (node_positions p) = length-map (node_positions p) (node_name (last p))
         in let actions : length (map (λ (a : Arc). a.action) (program_arcs p)) ≡ length (program_arcs p)
         = length-map (program_arcs p) (λ (a : Arc). a.action)
         in let fits = edges-valid p (length (node_positions p)) 0 (program_arcs p)

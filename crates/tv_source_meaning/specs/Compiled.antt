@@ -163,18 +163,23 @@ ends a = a.from ∷ a.to ∷ []
 abbrev pub node_positions : SourceForm → List ℕ
 node_positions p = first_occurrences (flat_map ends (program_arcs p))
 
+-- the place of a position among others
+abbrev pub place_among : List ℕ → (position : ℕ) → ℕ
+place_among positions k = position_or_len (λ m. m == k) positions
+
 -- the node of a position
 abbrev pub node_at : SourceForm → (position : ℕ) → ℕ
-node_at p k = position_or_len (λ m. m == k) (node_positions p)
+node_at p k = place_among (node_positions p) k
 
--- S0, S1, .., Exit
-abbrev pub node_name : SourceForm → (position : ℕ) → List ℕ
-node_name p k = if k == last p then codes "Exit" else codes "S" ++ decimal k
+-- S0, S1, .., and Exit for the position behind the last statement
+abbrev pub node_name : (last position : ℕ) → List ℕ
+node_name last k = if k == last then codes "Exit" else codes "S" ++ decimal k
 
--- the edges of arcs, of which the first has the action of number i
-abbrev pub edges_from : SourceForm → (i : ℕ) → List Arc → List Edge
-edges_from p i [] = []
-edges_from p i (a ∷ more) = record { from = node_at p a.from; action = i; to = node_at p a.to } ∷ edges_from p (i + 1) more
+-- the edges of arcs between positions that have these nodes; the first has the action of number i
+abbrev pub edges_between : List ℕ → (i : ℕ) → List Arc → List Edge
+edges_between positions i [] = []
+edges_between positions i (a ∷ more) =
+    record { from = place_among positions a.from; action = i; to = place_among positions a.to } ∷ edges_between positions (i + 1) more
 
 -- each edge has an action of its own
 abbrev pub compiled : SourceForm → ProgramForm
@@ -182,8 +187,8 @@ compiled p = record {
   preds = compiled_preds p;
   rules = [];
   actions = map (λ a. a.action) (program_arcs p);
-  edges = edges_from p 0 (program_arcs p);
-  nodes = map (node_name p) (node_positions p);
+  edges = edges_between (node_positions p) 0 (program_arcs p);
+  nodes = map (node_name (last p)) (node_positions p);
 }
 
 -- the limits of programs
