@@ -1,7 +1,9 @@
 mod Adding
+mod Allowing
 mod Beginnings
 mod Budgeted
 mod Coercing
+mod Differing
 mod Evaluating
 mod Finishing
 mod FocusStays

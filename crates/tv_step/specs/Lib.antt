@@ -1,3 +1,5 @@
+pub mod Allowed
+pub mod Changed
 pub mod Ending
 pub mod Job
 pub mod Places

@@ -10,6 +10,7 @@ ghost use Rattle.tv_step.specs.Ending.{Becomes, IsEndOf};
 ghost use Rattle.tv_step.specs.Setting.{form_in, IsReady, IsStableIn};
 ghost use Rattle.tv_step.specs.Steps.{Adds};
 
+use crate::changed::waiting_in;
 use crate::setting::Setting;
 use std::alloc::AllocError;
 use tv_blur::blur;
@@ -71,7 +72,8 @@ fn are_same(s: &Structure, t: &Structure) -> bool
     }
 }
 
-/// The same for a structure that came of the stable one `from`. Where it is that one again, no rule is tried.
+/// The same for a structure that came of the stable one `from`. Where it is that one again, no rule is tried, and
+/// where it is over the same individuals and summaries only the rules about a predicate whose values differ.
 fn push_next(
     x: &Setting,
     ending: Ending,
@@ -82,6 +84,7 @@ fn push_next(
     out: &mut Structures,
 ) -> Result<(), AllocError>
     requires ready { IsReady x.now scratch.old }
+    requires like { IsShaped (form_in x.now) from.now }
     requires from { IsStableIn (form_in x.now) from.now }
     requires shaped { IsShaped (form_in x.now) s }
     requires count { length waiting.now ≡ length (rules_of x.now.closed.now) }
@@ -92,7 +95,8 @@ fn push_next(
     if are_same(&s, from) {
         return out.push(ended(x, ending, s)?);
     }
-    push_coerced(x, ending, waiting, &s, scratch, out)
+    let few = waiting_in(x, waiting, from, &s)?;
+    push_coerced(x, ending, &few, &s, scratch, out)
 }
 
 /// The same for each of the structures that came of it; each goes as soon as it is coerced.
@@ -106,6 +110,7 @@ pub fn push_all(
     out: &mut Structures,
 ) -> Result<(), AllocError>
     requires ready { IsReady x.now scratch.old }
+    requires like { IsShaped (form_in x.now) from.now }
     requires from { IsStableIn (form_in x.now) from.now }
     requires shaped { All (IsShaped (form_in x.now)) structures }
     requires count { length waiting.now ≡ length (rules_of x.now.closed.now) }

@@ -2,6 +2,7 @@
 //! 2002, section 6). What they are is defined in `tv_transfer`.
 #![tactic(auto)]
 
+mod changed;
 mod coerced;
 mod focus;
 mod messages;

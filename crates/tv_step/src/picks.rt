@@ -1,20 +1,24 @@
 //! The individuals that an action picks in a structure, and what it gives under them.
 
-ghost use Rattle.std.specs.Prelude.{◌≡◌, ◌<◌, ◌≤◌, ◌↔◌, ◌^◌, All, IsTrue, IfErr, OnOk, ◌∷◌, length, min};
+ghost use Rattle.std.specs.Prelude.{◌≡◌, ◌<◌, ◌≤◌, ◌↔◌, ◌^◌, All, IsTrue, IfErr, OnOk, [], ◌∷◌, length, min};
+ghost use Rattle.tv_kleene.specs.declared.K3.TheVariants.{No};
+ghost use Rattle.tv_struct.specs.StructureForm.{structure_of};
 ghost use Rattle.std.specs.List.{range_with_len};
-ghost use Rattle.tv_applied.specs.Picks.{lists_of};
+ghost use Rattle.tv_applied.specs.Picks.{lists_of, precondition_value};
 ghost use Rattle.tv_eval.specs.AssignmentForm.{assignment_of};
 ghost use Rattle.tv_model.specs.Program.{picks_of};
 ghost use Rattle.tv_model.specs.Valid.{IsVariable};
 ghost use Rattle.tv_step.specs.Job.{IsCase, ArePicked, ArePickedBut, case_program, case_action, case_mode, case_structure};
 ghost use Rattle.tv_step.specs.Steps.{Adds, passes, PickGives, PicksGive, PickKeepsLimits, PicksKeepLimits, IsCauseOfPick, IsCauseOfPicks, StepsIn, KeepsUpdateLimits, IsCauseOfUpdate};
+ghost use Rattle.tv_step.specs.Allowed.{precondition_values};
 
 use crate::coerced::{Ending, push_all};
 use crate::setting::{Job, Setting};
 use tv_coerce::RuleSet;
-use tv_eval::{Assignment, Scratch, eval};
+use tv_eval::{Assignment, Evaluator, Scratch, eval};
 use tv_kleene::K3;
 use tv_model::Var;
+use tv_row::Row;
 use tv_struct::{StageError, Structure, Structures};
 use tv_update::update;
 
@@ -93,6 +97,85 @@ fn push_given(
     Ok(())
 }
 
+/// The values of the precondition for all individuals, put for `v`; `Yes` where there is none.
+fn precondition_row(c: &Case, v: Var, picks: &Assignment, scratch: &mut Scratch) -> Row
+    requires case { IsCase c.now scratch.old }
+    requires variable { IsVariable v.0 }
+    requires picks { ArePickedBut c.now (v.0 ∷ []) picks.now }
+    ensures row { result ≡ precondition_values (case_action c.now) (case_structure c.now)
+        (assignment_of picks.now) v.0 }
+    ensures scratch { scratch.new ≡ scratch.old }
+{
+    match &c.job.action.pre {
+        None => Row::of(c.from.size(), K3::Yes),
+        Some(pre) => {
+            let mut evaluator = Evaluator::new(c.from, scratch);
+            let row = evaluator.row(pre, v, picks);
+            evaluator.finish(scratch);
+            row
+        }
+    }
+}
+
+fn is_no(k: K3) -> bool
+    ensures { IsTrue result → k ≡ No }
+{
+    k == K3::No
+}
+
+/// The same as `push_given`, where the precondition has the value `k`.
+fn push_unless_no(
+    c: &Case,
+    k: K3,
+    picks: &Assignment,
+    scratch: &mut Scratch,
+    out: &mut Structures,
+) -> Result<(), StageError>
+    requires case { IsCase c.now scratch.old }
+    requires picks { ArePicked c.now picks.now }
+    requires value { k ≡ precondition_value (structure_of (case_structure c.now)) (assignment_of picks.now)
+        (case_action c.now).pre }
+    ensures out { OnOk result (Adds (PickGives (case_program c.now) (case_mode c.now) (case_action c.now)
+        (case_structure c.now)) (assignment_of picks.now) out.old out.new) }
+    ensures within { OnOk result
+        (PickKeepsLimits (case_action c.now) (case_structure c.now) (assignment_of picks.now)) }
+    ensures cause { IfErr result
+        (IsCauseOfPick (case_action c.now) (case_structure c.now) (assignment_of picks.now)) }
+    ensures scratch { scratch.new ≡ scratch.old }
+{
+    if is_no(k) {
+        return Ok(());
+    }
+    push_given(c, picks, scratch, out)
+}
+
+/// The same where each individual is put for the last variable: only those are tried under which the precondition
+/// isn't `No`, which one row of its values tells.
+fn push_last(
+    c: &Case,
+    v: Var,
+    picks: &Assignment,
+    scratch: &mut Scratch,
+    out: &mut Structures,
+) -> Result<(), StageError>
+    requires case { IsCase c.now scratch.old }
+    requires variable { IsVariable v.0 }
+    requires picks { ArePickedBut c.now (v.0 ∷ []) picks.now }
+    ensures out { OnOk result (Adds (PicksGive (case_program c.now) (case_mode c.now) (case_action c.now)
+        (case_structure c.now) (v.0 ∷ [])) (assignment_of picks.now) out.old out.new) }
+    ensures within { OnOk result (PicksKeepLimits (case_action c.now) (case_structure c.now)
+        (v.0 ∷ []) (assignment_of picks.now)) }
+    ensures cause { IfErr result (IsCauseOfPicks (case_action c.now) (case_structure c.now)
+        (v.0 ∷ []) (assignment_of picks.now)) }
+    ensures scratch { scratch.new ≡ scratch.old }
+{
+    let row = precondition_row(c, v, picks, scratch);
+    for u in 0..c.from.size() {
+        push_unless_no(c, row.get(u), &picks.with(v, u), scratch, out)?;
+    }
+    Ok(())
+}
+
 /// The same for each list of individuals that is put for the variables that are left, in lexicographic order.
 #[cycle(picked)]
 fn push_picked(
@@ -141,6 +224,9 @@ fn push_each(
         (v.0 ∷ picks_of left.now) (assignment_of picks)) }
     ensures scratch { scratch.new ≡ scratch.old }
 {
+    if left.is_empty() {
+        return push_last(c, v, &picks, scratch, out);
+    }
     for u in 0..c.from.size() {
         push_picked(c, left, picks.with(v, u), scratch, out)?;
     }

@@ -1,3 +1,4 @@
+use Rattle.std.proofs.Common.{◌∙◌, sym}
 use Rattle.tv_step.specs.Ending.{Becomes}
 use Rattle.tv_step.specs.Setting.{form_in}
 use Rattle.tv_transfer.proofs.Shapes.{shaped-over}
@@ -15,3 +16,6 @@ returns-then-are_same-clause-out c =
     (itself-becomes c.args.ending c.args.x.now.program.now c.args.s
     c.args.from.now c.in_ok-ended.field-0 (c.are_same.ensures c.if-are_same.true) c.requires.shaped
     c.requires.from c.in_ok-ended.ensures) c.push.ensures
+
+pub waiting_in-requires-clause-like : goal.waiting_in-requires-clause-like
+waiting_in-requires-clause-like c = c.requires.like.over ∙ sym c.requires.shaped.over

@@ -1,6 +1,6 @@
-use Rattle.std.proofs.Common.{◌≡◌, List, [], ◌∷◌, length, get_or, ◌<◌, ◌≤◌, refl, ap, sym, subst, arith, All}
+use Rattle.std.proofs.Common.{◌≡◌, ◌∙◌, suc, true, eqb-true, Bool, List, [], ◌∷◌, length, get_or, ◌<◌, ◌≤◌, refl, ap, sym, subst, arith, All}
 use Rattle.std.specs.List.{between}
-use Rattle.std.specs.Prelude.{IfErr, OnOk}
+use Rattle.std.specs.Prelude.{◌==◌, IfErr, OnOk}
 use Rattle.std.proofs.lemmas.List.{length-map}
 use Rattle.std.proofs.lemmas.List.Elements.{All-head, All-tail}
 use Rattle.std.proofs.lemmas.Slice.{first_rest}
@@ -74,6 +74,42 @@ push_each-returns-clause-within t c =
     (assignment_of c.args.picks) c.loop-u.u
     (omega (arith, c.loop-u-test.false, c.loop-u.auto.u-end, c.size-u-end.ensures.size))
     c.loop-u.invariant.within
+
+-- ---- the last variable
+
+last : (left : List Var) (r : Bool) → r ≡ (length left == 0) → r ≡ true → picks_of left ≡ []
+last [] r is holds = refl
+last (v ∷ left) r is holds = absurd (omega (arith, eqb-true (suc (length left)) 0 (sym is ∙ holds)))
+
+pub push_each-push_last-requires-clause-picks : goal.push_each-push_last-requires-clause-picks
+push_each-push_last-requires-clause-picks t c =
+    subst (λ vars. ArePickedBut c.args.c.now (c.args.v.0 ∷ vars) c.args.picks)
+    (last c.args.left.now c.is_empty.result c.is_empty.ensures c.if-is_empty.true) c.requires.picks
+
+pub push_each-returns-then-is_empty-clause-out : goal.push_each-returns-then-is_empty-clause-out
+push_each-returns-then-is_empty-clause-out t c =
+    let p = case_program c.args.c.now
+    in let mode = case_mode c.args.c.now
+    in let action = case_action c.args.c.now
+    in let s = case_structure c.args.c.now
+    in subst (λ vars. OnOk c.push_last.result
+    (Adds (PicksGive p mode action s (c.args.v.0 ∷ vars)) (assignment_of c.args.picks) c.args.out.now
+    c.push_last.new.out))
+    (sym (last c.args.left.now c.is_empty.result c.is_empty.ensures c.if-is_empty.true)) c.push_last.ensures.out
+
+pub push_each-returns-then-is_empty-clause-within : goal.push_each-returns-then-is_empty-clause-within
+push_each-returns-then-is_empty-clause-within t c =
+    subst (λ vars. OnOk c.push_last.result
+    (PicksKeepLimits (case_action c.args.c.now) (case_structure c.args.c.now) (c.args.v.0 ∷ vars)
+    (assignment_of c.args.picks)))
+    (sym (last c.args.left.now c.is_empty.result c.is_empty.ensures c.if-is_empty.true)) c.push_last.ensures.within
+
+pub push_each-returns-then-is_empty-clause-cause : goal.push_each-returns-then-is_empty-clause-cause
+push_each-returns-then-is_empty-clause-cause t c =
+    subst (λ vars. IfErr c.push_last.result
+    (IsCauseOfPicks (case_action c.args.c.now) (case_structure c.args.c.now) (c.args.v.0 ∷ vars)
+    (assignment_of c.args.picks)))
+    (sym (last c.args.left.now c.is_empty.result c.is_empty.ensures c.if-is_empty.true)) c.push_last.ensures.cause
 
 -- ---- all that are left
 
