@@ -11,3 +11,4 @@ mod told;
 
 pub use analysis::analyse;
 pub use error::WorkError;
+pub use told::Told;

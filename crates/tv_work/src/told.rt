@@ -15,7 +15,7 @@ use tv_step::Values;
 /// For each edge the greatest value so far of each message of its action, by number; where there is none, it
 /// is `No`.
 #[derive(Drop)]
-pub(crate) struct Told {
+pub struct Told {
     rows: Vec<Values>,
 }
 
