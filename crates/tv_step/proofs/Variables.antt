@@ -1,63 +1,10 @@
 -- The picked variables of a valid program are in range.
-use Rattle.std.proofs.Common.{ℕ, ◌≡◌, List, [], ◌∷◌, ◌++◌, Option, None, Some, sym, subst, slice_get, All}
-use Rattle.std.proofs.lemmas.List.Elements.{All-nil, All-cons, All-head, All-tail, All-append, All-contains}
-use Rattle.std.specs.Prelude.{◌==◌, not}
-use Rattle.tv_model.specs.Form.{Form, FZero, FOne, FAtom, FIsNew, FSame, FNot, FAnd, FOr, FIff, FCond, FExists, FForall, FClosure}
+use Rattle.std.proofs.Common.{ℕ, ◌≡◌, Some, slice_get, All}
+use Rattle.std.proofs.lemmas.List.Elements.{All-contains}
 use Rattle.tv_model.specs.Program.{ProgramForm, ActionForm}
-use Rattle.tv_model.specs.Valid.{IsValid, IsVariable, IsFormulaOver, IsPrecondition, free_occurrences, first_occurrences, without}
-use Rattle.tv_model.proofs.Lists.{Contains-filter_back, All-from_contains}
+use Rattle.tv_model.specs.Valid.{IsValid, IsVariable}
+use Rattle.tv_update.proofs.Variables.{picks-in_range}
 use Rattle.tv_step.proofs.Picking.{action-of}
-
-without-all : (P : ℕ → Type 0) (v : ℕ) (xs : List ℕ) → All P xs → All P (without v xs)
-without-all P v xs all =
-    All-from_contains P (without v xs)
-    (λ x at. All-contains P xs x all (Contains-filter_back (λ w. not (w == v)) xs x at).0)
-
-first-all : (P : ℕ → Type 0) (xs : List ℕ) → All P xs → All P (first_occurrences xs)
-first-all P [] all = All-nil P
-first-all P (x ∷ xs) all =
-    All-cons P x (without x (first_occurrences xs)) (All-head P x xs all)
-    (without-all P x (first_occurrences xs) (first-all P xs (All-tail P x xs all)))
-
--- the variables that stand free in a formula are in range
-occurrences-in_range : (arities : List ℕ) (f : Form) → IsFormulaOver arities f
-    → All IsVariable (free_occurrences f)
-occurrences-in_range arities FZero is = All-nil IsVariable
-occurrences-in_range arities FOne is = All-nil IsVariable
-occurrences-in_range arities (FAtom q vars) is = is.1
-occurrences-in_range arities (FIsNew v) is = All-cons IsVariable v [] is (All-nil IsVariable)
-occurrences-in_range arities (FSame v w) is =
-    All-cons IsVariable v (w ∷ []) is.0 (All-cons IsVariable w [] is.1 (All-nil IsVariable))
-occurrences-in_range arities (FNot f) is = occurrences-in_range arities f is
-occurrences-in_range arities (FAnd f g) is =
-    All-append IsVariable (free_occurrences f) (free_occurrences g) (occurrences-in_range arities f is.0)
-    (occurrences-in_range arities g is.1)
-occurrences-in_range arities (FOr f g) is =
-    All-append IsVariable (free_occurrences f) (free_occurrences g) (occurrences-in_range arities f is.0)
-    (occurrences-in_range arities g is.1)
-occurrences-in_range arities (FIff f g) is =
-    All-append IsVariable (free_occurrences f) (free_occurrences g) (occurrences-in_range arities f is.0)
-    (occurrences-in_range arities g is.1)
-occurrences-in_range arities (FCond c f g) is =
-    All-append IsVariable (free_occurrences c ++ free_occurrences f) (free_occurrences g)
-    (All-append IsVariable (free_occurrences c) (free_occurrences f) (occurrences-in_range arities c is.0)
-    (occurrences-in_range arities f is.1)) (occurrences-in_range arities g is.2)
-occurrences-in_range arities (FExists v f) is =
-    without-all IsVariable v (free_occurrences f) (occurrences-in_range arities f is.1)
-occurrences-in_range arities (FForall v f) is =
-    without-all IsVariable v (free_occurrences f) (occurrences-in_range arities f is.1)
-occurrences-in_range arities (FClosure from to left right f) is =
-    All-cons IsVariable from (to ∷ without left (without right (free_occurrences f))) is.0
-    (All-cons IsVariable to (without left (without right (free_occurrences f))) is.1
-    (without-all IsVariable left (without right (free_occurrences f))
-    (without-all IsVariable right (free_occurrences f) (occurrences-in_range arities f is.5))))
-
-picks-in_range : (p : ProgramForm) (pre : Option Form) (picks : List ℕ) → IsPrecondition p pre picks
-    → All IsVariable picks
-picks-in_range p None picks is = subst (All IsVariable) (sym is) (All-nil IsVariable)
-picks-in_range p (Some f) picks is =
-    subst (All IsVariable) (sym is.1)
-    (first-all IsVariable (free_occurrences f) (occurrences-in_range _ f is.0.0))
 
 pub picked-in_range : (p : ProgramForm) → IsValid p → (n : ℕ) (action : ActionForm)
     → slice_get p.actions n ≡ Some action

@@ -1,3 +1,7 @@
+-- Library: the picked variables of an action are in range.
+pub mod Variables
+-- Proofs of this crate's own functions.
+mod AllDefinitions
 mod Answered
 mod Applies
 mod Defines

@@ -3,6 +3,7 @@ pub mod Defined
 pub mod Kept
 pub mod New
 pub mod Plan
+pub mod Redefined
 pub mod Rows
 pub mod Update
 pub mod Updated

@@ -4,6 +4,7 @@
 
 mod application;
 mod define;
+mod definitions;
 mod kept;
 mod new;
 mod plan;
@@ -12,4 +13,5 @@ mod rows;
 mod stage;
 mod updates;
 
-pub use stage::update;
+pub use definitions::redefine;
+pub use stage::{update, update_middle};

@@ -10,8 +10,8 @@ ghost use Rattle.tv_eval.specs.ScratchForm.{IsMadeFor};
 ghost use Rattle.tv_applied.specs.Choices.{AreGiven};
 ghost use Rattle.tv_applied.specs.Tables.{middle_table, IsGivenOver};
 ghost use Rattle.tv_update.specs.Applying.{CanBeApplied, IsUpdated, IsGivenBy, IsAnswerTo, IsCauseFor, values_to_keep};
-ghost use Rattle.tv_update.specs.Update.{action_at, IsWithinLimits, IsUpdateCause, IsSole, KeepsSteps, IsFull};
-ghost use Rattle.tv_update.specs.Updated.{IsPrepareCause};
+ghost use Rattle.tv_update.specs.Update.{action_at, IsWithinLimits, IsUpdateCause, IsSole, KeepsSteps, IsFull, IsGivenOf};
+ghost use Rattle.tv_update.specs.Updated.{IsPrepareCause, keep_values};
 
 use crate::application::Application;
 use crate::kept::choices;
@@ -87,6 +87,22 @@ fn answer(
     ensures scratch { scratch.new ≡ scratch.old }
 {
     let _ = s.size();
+    let prepared = read(alloc, applied, middle, scratch)?;
+    Ok(finish(alloc, applied, middle, &prepared, scratch)?)
+}
+
+/// The structures that the action gives where this is the middle structure.
+fn in_middle(
+    alloc: Global,
+    applied: &Application,
+    middle: &Structure,
+    scratch: &mut Scratch,
+) -> Result<Structures, StageError>
+    requires can { CanBeApplied applied.now middle.now scratch.old }
+    ensures given { IfOk result (IsGivenBy applied.now middle.now) }
+    ensures cause { IfErr result (IsPrepareCause (values_to_keep applied.now middle.now)) }
+    ensures scratch { scratch.new ≡ scratch.old }
+{
     let prepared = read(alloc, applied, middle, scratch)?;
     Ok(finish(alloc, applied, middle, &prepared, scratch)?)
 }
@@ -167,4 +183,38 @@ pub fn update(
         picks,
     };
     apply(alloc, &applied, s, scratch)
+}
+
+/// The same where `middle` is the middle structure: the structure to start from, with the further individual
+/// where the action adds one. The picked individuals are some of `middle`.
+///
+/// `Splits` comes where the retain formula has over 12 unknown values, which is over 4,096 choices.
+pub fn update_middle(
+    alloc: Global,
+    program: &Program,
+    action: u32,
+    mode: Mode,
+    middle: &Structure,
+    picks: &Assignment,
+    scratch: &mut Scratch,
+) -> Result<Structures, StageError>
+    requires valid { IsValid (program_of program.now) }
+    requires action { action < length program.now.actions }
+    requires over { IsOver program.now.vocab middle.now }
+    requires picks { All (IsAssigned middle.now.size picks.now) (action_at program.now action).picks }
+    requires scratch { IsMadeFor (program_of program.now) 256 scratch.old }
+    ensures given { IfOk result (IsGivenOf (program_of program.now) mode (action_at program.now action)
+        (assignment_of picks.now) middle.now) }
+    ensures cause { IfErr result (IsPrepareCause (keep_values middle.now (assignment_of picks.now)
+        (action_at program.now action).retain)) }
+    ensures scratch { scratch.new ≡ scratch.old }
+{
+    let _ = middle.size();
+    let applied = Application {
+        program,
+        action: &program.actions.as_slice()[action as usize],
+        mode,
+        picks,
+    };
+    in_middle(alloc, &applied, middle, scratch)
 }
