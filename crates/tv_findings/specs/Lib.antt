@@ -1,0 +1,4 @@
+pub mod PropertyForms
+pub mod Ready
+pub mod Same
+pub mod Trying
