@@ -1,0 +1,3 @@
+mod Names
+mod Blocks
+mod Kept

@@ -1,0 +1,5 @@
+pub mod Meaning
+pub mod Answers
+pub mod Scopes
+pub mod Outcome
+pub mod Laws
