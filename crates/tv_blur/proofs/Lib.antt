@@ -1,6 +1,7 @@
 pub mod Individuals
 pub mod MergedLaws
 pub mod BlurLaws
+pub mod Ascended
 pub mod ClassLaws
 pub mod JoinLaws
 pub mod RowLaws

@@ -6,6 +6,7 @@ ghost use Rattle.tv_struct.specs.StructureForm.{IsOver, IsStructure, arities_of,
 ghost use Rattle.tv_blur.specs.Names.{abstraction_preds};
 ghost use Rattle.tv_blur.specs.Blur.{IsBlur, IsBlurred};
 
+use crate::ascending::is_blurred;
 use crate::classes::{abstraction_preds, classes, names, places};
 use crate::merge::merged;
 use std::alloc::{AllocError, Global};
@@ -38,6 +39,9 @@ fn blurred(alloc: Global, preds: &[u32], s: &Structure) -> Result<Structure, All
     ensures kept { IfOk result IsStructure }
 {
     let _ = s.size();
+    if is_blurred(preds, s) {
+        return s.copy(alloc);
+    }
     let names = names(alloc, preds, s)?;
     let places = places(alloc, preds, s, &names)?;
     let classes = classes(alloc, &places, names.len() as u32)?;

@@ -2,6 +2,7 @@
 //! that the abstraction predicates don't tell apart become one.
 #![tactic(auto)]
 
+mod ascending;
 mod canonical;
 mod classes;
 mod laws;

@@ -1,8 +1,9 @@
-use Rattle.std.proofs.Common.{◌≡◌, length, arith, ◌∙◌}
+use Rattle.std.proofs.Common.{◌≡◌, length, arith, ◌∙◌, subst, sym}
 use Rattle.std.proofs.lemmas.Result.{IfOk-weaker}
 use Rattle.tv_struct.specs.StructureForm.{arities_of}
 use Rattle.tv_blur.specs.Blur.{IsBlur}
 use Rattle.tv_blur.specs.Classes.{HasMerged, place_in}
+use Rattle.tv_blur.proofs.Ascended.{blurred-itself}
 use Rattle.tv_blur.proofs.Assembly.{HasClasses, are_classes, is_blur}
 use Rattle.tv_blur.proofs.canonical.blurred.Goals as goal
 
@@ -35,3 +36,10 @@ returns-clause-exact c =
       is_blur c.args.preds.now c.args.s.now t c.in_ok-names.names.items c.in_ok-places.places.items c.deref-3.result.now classes merged,
     ))
     c.merged.ensures.merged
+
+pub returns-then-is_blurred-clause-exact : goal.returns-then-is_blurred-clause-exact
+returns-then-is_blurred-clause-exact c =
+    IfOk-weaker c.copy.result (λ t. t ≡ c.args.s.now) (IsBlur c.args.preds.now c.args.s.now)
+    (λ t is. subst (IsBlur c.args.preds.now c.args.s.now) (sym is)
+    (blurred-itself c.args.preds.now c.args.s.now (c.is_blurred.ensures c.if-is_blurred.true)))
+    c.copy.ensures.value
