@@ -151,7 +151,7 @@ fn walk<'a>(
             let places = places_for(trial, evaluator, conjuncts, rest, *v, a);
             let mut from = 0;
             while let Some(u) = places.next(from) {
-                *a = a.with(*v, u);
+                a.set(*v, u);
                 match walk(trial, evaluator, conjuncts, rest, a, noted)? {
                     Outcome::Possible => {
                         // what follows could ask for nothing but the same again

@@ -12,8 +12,8 @@ use Rattle.tv_coerce.specs.declared.trial.Outcome.TheVariants.{Possible}
 use Rattle.tv_coerce.proofs.Walking.{split-vars, told-noted, body-yes, kept-more, put-kept, walk-on, walked-all, walked-more, rule-variable, stays-on, tail-shorter, none-at}
 use Rattle.tv_coerce.proofs.trial.+walk.Goals as goal
 
-pub with-requires : goal.with-requires
-with-requires t c =
+pub set-requires : goal.set-requires
+set-requires t c =
     let d : Var = record { 0 = 0 }
     in let split = split-vars c.args.rest.now d (omega (arith, c.in-len1-up.len_at_least))
     in let free = subst (All (λ v. IsFreeInRule v (trial_rule c.args.trial.now))) split c.requires.walk.free
@@ -45,10 +45,10 @@ walk-requires t c =
             stays.structure,
             (
               subst (CanTry rule s) (sym stays.room) c.requires.ready,
-              walk-on s rule ds v tail c.args.a.now c.with.result c.in-Some.u
+              walk-on s rule ds v tail c.args.a.now c.set.new.self c.in-Some.u
                   (subst (IsWalk rule s ds (v ∷ tail) c.args.a.now) one-more
                   (subst (λ vs. IsWalk rule s ds vs c.args.a.now (length vs)) split c.requires.walk)) within
-                  (put-kept v tail c.in-Some.u c.args.a.now c.loop-u.a c.with.result c.loop-u.invariant.1 c.with.ensures.places)
+                  (put-kept v tail c.in-Some.u c.args.a.now c.loop-u.a c.set.new.self c.loop-u.invariant.1 c.set.ensures.places)
                   (c.places_for-places.ensures.places.yes c.in-Some.u within c.in-Some.ensures.2),
             ),
           ),
@@ -64,7 +64,7 @@ returns-in_err-walk-in-len1-up-clause-keeps t c =
     in let tail = numbers_of (take (length rest - 1) (drop 1 rest))
     in let split : numbers_of rest ≡ v ∷ tail = split-vars rest d (omega (arith, c.in-len1-up.len_at_least))
     in subst (λ vs. AreKept vs c.args.a.now c.walk.new.a) (sym split)
-    (kept-more v tail c.in-Some.u c.args.a.now c.loop-u.a c.with.result c.walk.new.a c.loop-u.invariant.1 c.with.ensures.places
+    (kept-more v tail c.in-Some.u c.args.a.now c.loop-u.a c.set.new.self c.walk.new.a c.loop-u.invariant.1 c.set.ensures.places
     c.in_err-walk-in-len1-up.ensures.keeps)
 
 pub loop-u-preserved : goal.loop-u-preserved
@@ -75,16 +75,16 @@ loop-u-preserved t c =
     in let v = (get_or rest 0 (record { 0 = 0 })).0
     in let tail = numbers_of (take (length rest - 1) (drop 1 rest))
     in let within : c.in-Some.u < s.size = omega (arith, c.in-Some.ensures.1, c.places_for-places.ensures.places.body)
-    in let told = subst (IsTold s rule tail (assignment_of c.with.result) c.loop-u.noted.list.items c.walk.new.noted.list.items)
+    in let told = subst (IsTold s rule tail (assignment_of c.set.new.self) c.loop-u.noted.list.items c.walk.new.noted.list.items)
     c.in-Possible.is c.in_ok-walk-in-len1-up.ensures.told
     in (
       stays-on s c.args.evaluator.now c.loop-u.evaluator c.walk.new.evaluator c.loop-u.invariant.0 c.in_ok-walk-in-len1-up.ensures.stays,
-      kept-more v tail c.in-Some.u c.args.a.now c.loop-u.a c.with.result c.walk.new.a c.loop-u.invariant.1 c.with.ensures.places
+      kept-more v tail c.in-Some.u c.args.a.now c.loop-u.a c.set.new.self c.walk.new.a c.loop-u.invariant.1 c.set.ensures.places
           c.in_ok-walk-in-len1-up.ensures.keeps,
       omega (arith, within),
-      walked-more s rule v tail c.args.a.now c.with.result c.args.noted.now.list.items c.loop-u.noted.list.items
+      walked-more s rule v tail c.args.a.now c.set.new.self c.args.noted.now.list.items c.loop-u.noted.list.items
           c.walk.new.noted.list.items c.loop-u.from c.in-Some.u
-          (put-kept v tail c.in-Some.u c.args.a.now c.loop-u.a c.with.result c.loop-u.invariant.1 c.with.ensures.places)
+          (put-kept v tail c.in-Some.u c.args.a.now c.loop-u.a c.set.new.self c.loop-u.invariant.1 c.set.ensures.places)
           (λ w after before. c.places_for-places.ensures.places.skipped w (omega (arith, before, within)) (c.in-Some.ensures.3 w after before))
           c.loop-u.invariant.3 told,
     )
@@ -97,7 +97,7 @@ returns-in-Impossible-clause-keeps t c =
     in let tail = numbers_of (take (length rest - 1) (drop 1 rest))
     in let split : numbers_of rest ≡ v ∷ tail = split-vars rest d (omega (arith, c.in-len1-up.len_at_least))
     in subst (λ vs. AreKept vs c.args.a.now c.walk.new.a) (sym split)
-    (kept-more v tail c.in-Some.u c.args.a.now c.loop-u.a c.with.result c.walk.new.a c.loop-u.invariant.1 c.with.ensures.places
+    (kept-more v tail c.in-Some.u c.args.a.now c.loop-u.a c.set.new.self c.walk.new.a c.loop-u.invariant.1 c.set.ensures.places
     c.in_ok-walk-in-len1-up.ensures.keeps)
 
 pub returns-then-has_more-clause-keeps : goal.returns-then-has_more-clause-keeps
@@ -108,7 +108,7 @@ returns-then-has_more-clause-keeps t c =
     in let tail = numbers_of (take (length rest - 1) (drop 1 rest))
     in let split : numbers_of rest ≡ v ∷ tail = split-vars rest d (omega (arith, c.in-len1-up.len_at_least))
     in subst (λ vs. AreKept vs c.args.a.now c.walk.new.a) (sym split)
-    (kept-more v tail c.in-Some.u c.args.a.now c.loop-u.a c.with.result c.walk.new.a c.loop-u.invariant.1 c.with.ensures.places
+    (kept-more v tail c.in-Some.u c.args.a.now c.loop-u.a c.set.new.self c.walk.new.a c.loop-u.invariant.1 c.set.ensures.places
     c.in_ok-walk-in-len1-up.ensures.keeps)
 
 pub returns-in-empty-clause-told : goal.returns-in-empty-clause-told
