@@ -106,12 +106,6 @@ abbrev pub SameRows : (s t : StructureForm) → (pred count : ℕ) → Type 0
 SameRows s t q count = (u : ℕ) → u < count → row_at s q u ≡ row_at t q u
 
 module _ (s t : StructureForm) (q : ℕ) (size : s.size ≡ t.size) where
-  pub same-nullary : (value_at s q [] ≡ value_at t q []) ↔ HasSameValues s t q 0
-  same-nullary = (
-    λ e tuple long all. no-members (λ us. value_at s q us ≡ value_at t q us) e tuple long,
-    λ same. same [] refl tt,
-  )
-
   pub same-unary : (unary_row s q ≡ unary_row t q) ↔ HasSameValues s t q 1
   same-unary = (
     λ e tuple long. one-member (λ us. AreIndividuals t.size us → value_at s q us ≡ value_at t q us)

@@ -39,12 +39,6 @@ not-no x ne e = ne (ap negation_of e)
 
 -- ---- rows
 
-pub all-yes : (size : ℕ) (P : ℕ → Type 0) → IsRowOf size P (replicate size Yes)
-all-yes size P = record {
-  size = length-replicate size Yes;
-  passed = λ u within ne. absurd (ne (get_or-replicate size u Yes No within));
-}
-
 -- where one of two rows isn't Yes
 both-rows : (size : ℕ) (P Q R : ℕ → Type 0) (x y : List K3) → IsRowOf size P x → IsRowOf size Q y → ((u : ℕ) → P u → R u)
     → ((u : ℕ) → Q u → R u) → IsRowOf size R (paired smaller_of x y)

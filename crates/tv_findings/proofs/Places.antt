@@ -32,9 +32,6 @@ not-above s t is two none above = none (above.0, embeds-same s (structure_of t) 
 abbrev pub NoneAbove : StructureForm → List StructureForm → ℕ → Type 0
 NoneAbove s structures n = All (IsNotAbove s) (take n structures)
 
-pub none-none : (s : StructureForm) (structures : List StructureForm) → NoneAbove s structures 0
-none-none s structures = All-nil (IsNotAbove s)
-
 pub none-more : (s : StructureForm) (structures : List StructureForm) (n : ℕ) (t : StructureForm) → IsStructure s → IsTwoValued s → n < length structures
     → slice_get structures n ≡ Some t → NoneAbove s structures n → (¬ IsEmbedded (structure_of s) (structure_of t)) → NoneAbove s structures (n + 1)
 none-more s structures n t is two below there before none =

@@ -32,9 +32,6 @@ pub found-number : (preds : List Pred) (n : ℕ) (pred : Pred) → n < length pr
 found-number preds n pred below is =
     slice_get-map pred_of preds n ∙ ap (option_map pred_of) (slice_get-get_or preds n pred below ∙ ap Some (sym is))
 
-pub below-none : (preds : List Pred) (P : ℕ → PredForm → Type 0) → HoldsBelow preds P 0
-below-none preds P k e less found = absurd (omega (arith, less))
-
 same-some : (x y : PredForm) → Some x ≡ Some y → x ≡ y
 same-some x y e = cc
 

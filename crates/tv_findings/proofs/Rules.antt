@@ -17,9 +17,6 @@ use Rattle.tv_replayed.specs.JudgedRules.{IsFirstUnmet, rules_of_properties}
 abbrev pub MeetsFirst : Heap → List Rule → ℕ → Type 0
 MeetsFirst h rules n = All (λ (rule : Rule). MeetsRule h (rule_of rule)) (take n rules)
 
-pub first-none : (h : Heap) (rules : List Rule) → MeetsFirst h rules 0
-first-none h rules = All-nil (λ (rule : Rule). MeetsRule h (rule_of rule))
-
 pub first-more : (h : Heap) (rules : List Rule) (n : ℕ) (rule : Rule) → n < length rules → rule ≡ get_or rules n rule → MeetsFirst h rules n
     → IsTrue true ↔ MeetsRule h (rule_of rule) → MeetsFirst h rules (n + 1)
 first-more h rules n rule below is before met =
