@@ -1,0 +1,11 @@
+pub mod Middle
+pub mod Kept
+pub mod Made
+pub mod Updates
+pub mod Definite
+pub mod NewHeap
+pub mod Acted
+pub mod Picking
+pub mod Applied
+pub mod Copied
+pub mod Turning
