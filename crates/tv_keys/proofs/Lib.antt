@@ -1,0 +1,4 @@
+pub mod Entries
+pub mod Copying
+pub mod Joining
+pub mod Indexing
