@@ -1,0 +1,9 @@
+pub mod KeyLaws
+pub mod JoinLaws
+pub mod Putting
+pub mod Nodes
+pub mod Weights
+pub mod Meeting
+pub mod Following
+pub mod Rounding
+pub mod Answering

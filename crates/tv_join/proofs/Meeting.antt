@@ -1,0 +1,330 @@
+-- What was found is joined into what is listed, one structure after the other.
+use Rattle.std.proofs.Common.{ℕ, ◌≡◌, ◌≢◌, ◌<◌, ◌≤◌, ◌+◌, ◌⊎◌, zero, suc, inl, inr, false, List, [], ◌∷◌, ◌++◌, length, get_or, set, Option, None, Some, refl, sym, ap, subst, ◌∙◌, arith}
+use Rattle.std.specs.Prelude.{Contains, sum_by}
+use Rattle.std.proofs.lemmas.Bool.{cases_eq}
+use Rattle.std.proofs.lemmas.List.{length-set, length_push, set-get_or, length-map}
+use Rattle.std.proofs.lemmas.List.Elements.{Contains-append_left, Contains-push, Contains-push_cases}
+use Rattle.std.proofs.lemmas.List.Sums.{sum_by-set, sum_by_push}
+use Rattle.std.proofs.lemmas.Option.{slice_get_within, get_or_from_slice_get}
+use Rattle.tv_model.proofs.Lists.{Contains-none, slice_get-contains}
+use Rattle.tv_listing.specs.ListingForm.{at_node}
+use Rattle.tv_struct.specs.StructureForm.{StructureForm}
+use Rattle.tv_keys.specs.Members.{MembersForm, IsRaised, Puts}
+use Rattle.tv_keys.specs.declared.members.Put.{Put}
+use Rattle.tv_keys.specs.declared.members.Put.TheVariants.{Known, Raised, Added}
+use Rattle.tv_work.specs.Reach.{Point}
+use Rattle.tv_work.specs.Task.{TaskForm}
+use Rattle.tv_join.specs.Flags.{key_flags, IsPlain}
+use Rattle.tv_join.specs.Listed.{AreJoins}
+use Rattle.tv_join.specs.Rounds.{point}
+use Rattle.tv_join.specs.State.{JoinsForm, IsFound, IsIn, IsKept, IsMet, IsNode, HasRoom, changed_after, listing_of, members_at, room_after, total_of}
+use Rattle.tv_join.specs.Stepped.{HaveMet, IsPlaced, IsPlacedFound, Rises}
+use Rattle.tv_join.specs.Weight.{structure_weight, structures_weight, listing_weight}
+use Rattle.tv_join.specs.declared.joins.Found.{Found}
+use Rattle.tv_join.proofs.JoinLaws.{joined-second}
+use Rattle.tv_join.proofs.Nodes.{listing-at, set-listing, set-other, set-same}
+use Rattle.tv_join.proofs.Putting.{joins-like, joins-own, joins-plain, joins-put}
+use Rattle.tv_join.proofs.Weights.{rises-strictly}
+
+-- ---- what is listed is plain, and nothing is met twice
+
+pub listed-plain : (t : TaskForm) (j : JoinsForm) → IsKept t j → (x : Point) → IsIn j.nodes x → IsPlain t.program x.structure
+listed-plain t j kept x has =
+    (kept.each x.node).plain x.structure (subst (λ xs. Contains xs x.structure) (listing-at j.nodes x.node) has)
+
+-- what is listed is the joins by key of itself
+pub listed-joins : (t : TaskForm) (j : JoinsForm) → IsKept t j → (k : ℕ)
+    → AreJoins t.program (λ s. IsIn j.nodes (point k s)) (at_node (listing_of j.nodes) k)
+listed-joins t j kept k =
+    let node : IsNode t.program (members_at j.nodes k) = kept.each k
+    in subst (λ xs. AreJoins t.program (Contains xs) xs) (sym (listing-at j.nodes k))
+    (joins-own t.program (members_at j.nodes k).structures node.plain node.own)
+
+-- ---- one structure is put
+
+room-met : (max total count more : ℕ) (put : Put) (room : Option ℕ) → HasRoom max total room
+    → (put ≡ Known → more ≡ count) → ((place : ℕ) → put ≡ Raised place → more ≡ count) → (put ≡ Added → more ≡ count + 1)
+    → (new : ℕ) → new + count ≡ total + more → HasRoom max new (room_after put room)
+room-met max total count more Known (Some left) has known raised added new e = omega (arith, has, known refl, e)
+room-met max total count more Known None has known raised added new e = omega (arith, has, known refl, e)
+room-met max total count more (Raised place) (Some left) has known raised added new e =
+    omega (arith, has, raised place refl, e)
+room-met max total count more (Raised place) None has known raised added new e = omega (arith, has, raised place refl, e)
+room-met max total count more Added (Some zero) has known raised added new e = omega (arith, has, added refl, e)
+room-met max total count more Added (Some (suc left)) has known raised added new e = omega (arith, has, added refl, e)
+room-met max total count more Added None has known raised added new e = omega (arith, has, added refl, e)
+
+module _ (t : TaskForm) (old new : JoinsForm) (k : ℕ) (s : StructureForm) (kept : IsKept t old) (lt : k < length old.nodes)
+    (plain : IsPlain t.program s) (met : IsMet (key_flags t.program) old k s new) where
+  abbrev before : List StructureForm
+  before = (members_at old.nodes k).structures
+
+  abbrev after : List StructureForm
+  after = met.node.structures
+
+  node-here : members_at new.nodes k ≡ met.node
+  node-here = ap (λ nodes. members_at nodes k) met.set ∙ set-same old.nodes k met.node lt
+
+  node-other : (j : ℕ) → j ≢ k → members_at new.nodes j ≡ members_at old.nodes j
+  node-other j apart = ap (λ nodes. members_at nodes j) met.set ∙ set-other old.nodes k met.node lt j apart
+
+  listing-here : at_node (listing_of new.nodes) k ≡ after
+  listing-here = listing-at new.nodes k ∙ ap (λ (m : MembersForm). m.structures) node-here
+
+  listing-other : (j : ℕ) → j ≢ k → at_node (listing_of new.nodes) j ≡ at_node (listing_of old.nodes) j
+  listing-other j apart =
+      listing-at new.nodes j ∙ ap (λ (m : MembersForm). m.structures) (node-other j apart) ∙ sym (listing-at old.nodes j)
+
+  listing-set : listing_of new.nodes ≡ set (listing_of old.nodes) k after
+  listing-set = ap listing_of met.set ∙ set-listing old.nodes k met.node lt
+
+  -- ---- the node
+
+  put-here : (X : StructureForm → Type 0) → ((r : StructureForm) → X r → IsPlain t.program r)
+      → AreJoins t.program X before → AreJoins t.program (λ r. X r ⊎ (r ≡ s)) after
+  put-here X plain_x are =
+      joins-put t.program X plain_x before are s plain after met.put (kept.each k).plain met.puts
+
+  node-kept : IsNode t.program met.node
+  node-kept =
+      let old-node : IsNode t.program (members_at old.nodes k) = kept.each k
+      in let X : StructureForm → Type 0 = Contains before
+      in let are : AreJoins t.program (λ r. X r ⊎ (r ≡ s)) after
+      = put-here X old-node.plain (joins-own t.program before old-node.plain old-node.own)
+      in record {
+        indexed = met.indexed;
+        plain = joins-plain t.program (λ r. X r ⊎ (r ≡ s)) (λ r has. more-plain r has) after are;
+        own = are.own;
+      }
+    where
+      more-plain : (r : StructureForm) → Contains before r ⊎ (r ≡ s) → IsPlain t.program r
+      more-plain r (inl has) = (kept.each k).plain r has
+      more-plain r (inr e) = subst (IsPlain t.program) (sym e) plain
+
+  each-kept : (j : ℕ) → (j ≡ k) ⊎ (j ≢ k) → IsNode t.program (members_at new.nodes j)
+  each-kept j (inl same) =
+      subst (IsNode t.program) (sym (ap (members_at new.nodes) same ∙ node-here)) node-kept
+  each-kept j (inr apart) = subst (IsNode t.program) (sym (node-other j apart)) (kept.each j)
+
+  -- ---- counts and weights
+
+  in-listing : k < length (listing_of old.nodes)
+  in-listing = omega (arith, lt, length-map old.nodes (λ (m : MembersForm). m.structures))
+
+  old-here : at_node (listing_of old.nodes) k ≡ before
+  old-here = listing-at old.nodes k
+
+  sums : (f : List StructureForm → ℕ) → sum_by f (listing_of new.nodes) + f before ≡ sum_by f (listing_of old.nodes) + f after
+  sums f =
+      let total : sum_by f (set (listing_of old.nodes) k after) + f (at_node (listing_of old.nodes) k)
+      ≡ sum_by f (listing_of old.nodes) + f after
+      = sum_by-set f (listing_of old.nodes) k after [] in-listing
+      in omega (arith, total, ap (λ l. sum_by f l) listing-set, ap f old-here)
+
+  known-same : (put : Put) → Puts (key_flags t.program) before s after put → put ≡ Known → after ≡ before
+  known-same Known known e = known.same
+  known-same (Raised place) raise e = absurd cc
+  known-same Added add e = absurd cc
+
+  raised-count : (put : Put) → Puts (key_flags t.program) before s after put → (place : ℕ) → put ≡ Raised place
+      → length after ≡ length before
+  raised-count Known known place e = absurd cc
+  raised-count (Raised at) raise place e = ap length raise.set ∙ length-set before at raise.after
+  raised-count Added add place e = absurd cc
+
+  added-count : (put : Put) → Puts (key_flags t.program) before s after put → put ≡ Added → length after ≡ length before + 1
+  added-count Known known e = absurd cc
+  added-count (Raised place) raise e = absurd cc
+  added-count Added add e = omega (arith, ap length add.pushed, length_push before s)
+
+  pub kept-met : IsKept t new
+  kept-met = record {
+    nodes = ap length met.set ∙ length-set old.nodes k met.node ∙ kept.nodes;
+    each = λ j. each-kept j (cases_eq j k);
+    room = subst (HasRoom t.max (total_of new.nodes)) (sym met.room)
+        (room-met t.max (total_of old.nodes) (length before) (length after) met.put old.room kept.room
+        (λ e. ap length (known-same met.put met.puts e)) (raised-count met.put met.puts) (added-count met.put met.puts)
+        (total_of new.nodes) (sums length));
+  }
+
+  -- ---- what is listed is the joins with it
+
+  joins-at : (X : Point → Type 0) → ((x : Point) → X x → IsPlain t.program x.structure) → (j : ℕ)
+      → AreJoins t.program (λ r. X (point j r)) (at_node (listing_of old.nodes) j) → (j ≡ k) ⊎ (j ≢ k)
+      → AreJoins t.program (λ r. X (point j r) ⊎ (point j r ≡ point k s)) (at_node (listing_of new.nodes) j)
+  joins-at X plain_x j are (inl same) =
+      let X_k : StructureForm → Type 0 = λ r. X (point k r)
+      in let at_k : AreJoins t.program X_k before
+      = subst (AreJoins t.program X_k) old-here
+      (subst (λ n. AreJoins t.program (λ r. X (point n r)) (at_node (listing_of old.nodes) n)) same are)
+      in let more : AreJoins t.program (λ r. X_k r ⊎ (point k r ≡ point k s)) after
+      = joins-like t.program (λ r. X_k r ⊎ (r ≡ s)) (λ r. X_k r ⊎ (point k r ≡ point k s)) after (λ r has. to r has)
+      (λ r has. from r has) (put-here X_k (λ r x. plain_x (point k r) x) at_k)
+      in subst (λ n. AreJoins t.program (λ r. X (point n r) ⊎ (point n r ≡ point k s)) (at_node (listing_of new.nodes) n))
+      (sym same) (subst (AreJoins t.program (λ r. X_k r ⊎ (point k r ≡ point k s))) (sym listing-here) more)
+    where
+      to : (r : StructureForm) → X (point k r) ⊎ (r ≡ s) → X (point k r) ⊎ (point k r ≡ point k s)
+      to r (inl x) = inl x
+      to r (inr e) = inr (ap (point k) e)
+
+      from : (r : StructureForm) → X (point k r) ⊎ (point k r ≡ point k s) → X (point k r) ⊎ (r ≡ s)
+      from r (inl x) = inl x
+      from r (inr e) = inr (ap (λ (x : Point). x.structure) e)
+  joins-at X plain_x j are (inr apart) =
+      subst (AreJoins t.program (λ r. X (point j r) ⊎ (point j r ≡ point k s))) (sym (listing-other j apart))
+      (joins-like t.program (λ r. X (point j r)) (λ r. X (point j r) ⊎ (point j r ≡ point k s))
+      (at_node (listing_of old.nodes) j) (λ r x. inl x) (λ r has. from r has) are)
+    where
+      from : (r : StructureForm) → X (point j r) ⊎ (point j r ≡ point k s) → X (point j r)
+      from r (inl x) = x
+      from r (inr e) = absurd (apart (ap (λ (x : Point). x.node) e))
+
+  -- ---- it has risen
+
+  raised-weight : (place : ℕ) → IsRaised (key_flags t.program) before s after place
+      → structures_weight before < structures_weight after
+  raised-weight place raise =
+      let within : place < length before = slice_get_within before place raise.before raise.at
+      in let sum : sum_by structure_weight (set before place raise.after) + structure_weight (get_or before place raise.before)
+      ≡ structures_weight before + structure_weight raise.after
+      = sum_by-set structure_weight before place raise.after raise.before within
+      in let read : get_or before place raise.before ≡ raise.before
+      = get_or_from_slice_get before place raise.before raise.before raise.at
+      in let plain_b : IsPlain t.program raise.before
+      = (kept.each k).plain raise.before (slice_get-contains before place raise.before raise.at)
+      in let heavier : structure_weight raise.before < structure_weight raise.after
+      = rises-strictly raise.before raise.after plain_b.is raise.joined.is (plain_b.unmarked ∙ sym raise.joined.unmarked)
+      (joined-second s raise.before raise.after raise.key.size raise.key.over raise.joined) raise.changed
+      in omega (arith, sum, ap structure_weight read, heavier, ap structures_weight raise.set)
+
+  added-weight : after ≡ before ++ s ∷ [] → structures_weight before < structures_weight after
+  added-weight pushed =
+      omega (arith, ap structures_weight pushed, sum_by_push structure_weight before s)
+
+  weight-sum : listing_weight (listing_of new.nodes) + structures_weight before
+      ≡ listing_weight (listing_of old.nodes) + structures_weight after
+  weight-sum = sums structures_weight
+
+  known-listing : after ≡ before → listing_of new.nodes ≡ listing_of old.nodes
+  known-listing same =
+      listing-set ∙ ap (set (listing_of old.nodes) k) (same ∙ sym old-here) ∙ set-get_or (listing_of old.nodes) k []
+
+  least : (first : List (List StructureForm)) → Rises first old → listing_weight first ≤ listing_weight (listing_of old.nodes)
+  least first (inl (same, list)) = omega (arith, ap listing_weight list)
+  least first (inr (did, more)) = omega (arith, more)
+
+  rises-by : (first : List (List StructureForm)) (put : Put) → Puts (key_flags t.program) before s after put
+      → new.changed ≡ changed_after put old.changed → Rises first old → Rises first new
+  rises-by first Known known e (inl (same, list)) = inl (e ∙ same, known-listing known.same ∙ list)
+  rises-by first Known known e (inr (did, more)) =
+      inr (e ∙ did, subst (λ l. listing_weight first < listing_weight l) (sym (known-listing known.same)) more)
+  rises-by first (Raised place) raise e before-this =
+      inr (e, omega (arith, weight-sum, raised-weight place raise, least first before-this))
+  rises-by first Added add e before-this =
+      inr (e, omega (arith, weight-sum, added-weight add.pushed, least first before-this))
+
+  pub rises-met : (first : List (List StructureForm)) → Rises first old → Rises first new
+  rises-met first before-this = rises-by first met.put met.puts met.changed before-this
+
+-- ---- all that was found
+
+-- the first of what was found are joined in
+pub record IsMeeting (t : TaskForm) (first : JoinsForm) (taken : List Found) (j : JoinsForm) : Type 0 where
+  pub met : HaveMet t first taken j
+  pub placed : (x : Point) → IsFound taken x → IsPlaced t x
+
+nothing-met : (t : TaskForm) (old j : JoinsForm) → IsKept t old → j.nodes ≡ old.nodes → j.room ≡ old.room → j.changed ≡ false
+    → HaveMet t old [] j
+nothing-met t old j kept nodes room changed = record {
+  kept = record {
+    nodes = ap length nodes ∙ kept.nodes;
+    each = λ k. subst (λ ns. IsNode t.program (members_at ns k)) (sym nodes) (kept.each k);
+    room = subst (λ r. HasRoom t.max (total_of j.nodes) r) (sym room)
+        (subst (λ ns. HasRoom t.max (total_of ns) old.room) (sym nodes) kept.room);
+  };
+  joins = λ k. subst (λ ns. AreJoins t.program (λ s. IsIn old.nodes (point k s) ⊎ IsFound [] (point k s)) (at_node (listing_of ns) k))
+      (sym nodes)
+      (joins-like t.program (λ s. IsIn old.nodes (point k s)) (λ s. IsIn old.nodes (point k s) ⊎ IsFound [] (point k s))
+      (at_node (listing_of old.nodes) k) (λ s has. inl has) (λ s has. from k s has) (listed-joins t old kept k));
+  rises = inl (changed, ap listing_of nodes);
+}
+  where
+    from : (k : ℕ) (s : StructureForm) → IsIn old.nodes (point k s) ⊎ IsFound [] (point k s) → IsIn old.nodes (point k s)
+    from k s (inl has) = has
+    from k s (inr none) = absurd (Contains-none (record { node = k; structure = s }) none)
+
+pub met-none : (t : TaskForm) (old j : JoinsForm) → IsKept t old → j.nodes ≡ old.nodes → j.room ≡ old.room → j.changed ≡ false
+    → IsMeeting t old [] j
+met-none t old j kept nodes room changed = record {
+  met = nothing-met t old j kept nodes room changed;
+  placed = λ x has. absurd (Contains-none (record { node = x.node; structure = x.structure }) has);
+}
+
+one-met : (t : TaskForm) (first old new : JoinsForm) (taken : List Found) (f : Found) → IsKept t first
+    → HaveMet t first taken old
+    → ((x : Point) → IsFound taken x → IsPlaced t x) → IsPlacedFound t f
+    → IsMet (key_flags t.program) old f.node f.structure new → HaveMet t first (taken ++ f ∷ []) new
+one-met t first old new taken f kept have placed placed_f met = record {
+  kept = kept-met t old new f.node f.structure have.kept lt placed_f.plain met;
+  joins = λ k. joins-like t.program
+      (λ s. (IsIn first.nodes (point k s) ⊎ IsFound taken (point k s)) ⊎ (point k s ≡ point f.node f.structure))
+      (λ s. IsIn first.nodes (point k s) ⊎ IsFound (taken ++ f ∷ []) (point k s))
+      (at_node (listing_of new.nodes) k) (λ s has. to k s has) (λ s has. from k s has)
+      (joins-at t old new f.node f.structure have.kept lt placed_f.plain met X X-plain k (have.joins k) (cases_eq k f.node));
+  rises = rises-met t old new f.node f.structure have.kept lt placed_f.plain met (listing_of first.nodes) have.rises;
+}
+  where
+    X : Point → Type 0
+    X x = IsIn first.nodes x ⊎ IsFound taken x
+
+    X-plain : (x : Point) → X x → IsPlain t.program x.structure
+    X-plain x (inl has) = listed-plain t first kept x has
+    X-plain x (inr has) = (placed x has).plain
+
+    lt : f.node < length old.nodes
+    lt = omega (arith, placed_f.node, have.kept.nodes)
+
+    to : (k : ℕ) (s : StructureForm)
+        → (IsIn first.nodes (point k s) ⊎ IsFound taken (point k s)) ⊎ (point k s ≡ point f.node f.structure)
+        → IsIn first.nodes (point k s) ⊎ IsFound (taken ++ f ∷ []) (point k s)
+    to k s (inl (inl has)) = inl has
+    to k s (inl (inr has)) = inr (Contains-append_left taken (f ∷ []) (record { node = k; structure = s }) has)
+    to k s (inr e) =
+        let same : f ≡ record { node = k; structure = s }
+        = λ i. record { node = (sym (ap (λ (x : Point). x.node) e)) i; structure = (sym (ap (λ (x : Point). x.structure) e)) i }
+        in inr (subst (Contains (taken ++ f ∷ [])) same (Contains-push taken f))
+
+    from : (k : ℕ) (s : StructureForm) → IsIn first.nodes (point k s) ⊎ IsFound (taken ++ f ∷ []) (point k s)
+        → (IsIn first.nodes (point k s) ⊎ IsFound taken (point k s)) ⊎ (point k s ≡ point f.node f.structure)
+    from k s (inl has) = inl (inl has)
+    from k s (inr has) = by (Contains-push_cases taken f (record { node = k; structure = s }) has)
+      where
+        by : Contains taken (record { node = k; structure = s }) ⊎ (f ≡ record { node = k; structure = s })
+            → (IsIn first.nodes (point k s) ⊎ IsFound taken (point k s)) ⊎ (point k s ≡ point f.node f.structure)
+        by (inl old-one) = inl (inr old-one)
+        by (inr e) =
+            inr (λ i. record {
+              node = (sym (ap (λ (x : Found). x.node) e)) i;
+              structure = (sym (ap (λ (x : Found). x.structure) e)) i;
+            })
+
+pub met-next : (t : TaskForm) (first old new : JoinsForm) (taken : List Found) (f : Found) → IsKept t first
+    → IsMeeting t first taken old → IsPlacedFound t f → IsMet (key_flags t.program) old f.node f.structure new
+    → IsMeeting t first (taken ++ f ∷ []) new
+met-next t first old new taken f kept so-far placed_f met = record {
+  met = one-met t first old new taken f kept so-far.met so-far.placed placed_f met;
+  placed = λ x has. by x (Contains-push_cases taken f (record { node = x.node; structure = x.structure }) has);
+}
+  where
+    by : (x : Point) → Contains taken (record { node = x.node; structure = x.structure })
+        ⊎ (f ≡ record { node = x.node; structure = x.structure }) → IsPlaced t x
+    by x (inl has) = so-far.placed x has
+    by x (inr e) =
+        subst (λ (y : Point). IsPlaced t y)
+        (λ i. record { node = (ap (λ (g : Found). g.node) e) i; structure = (ap (λ (g : Found). g.structure) e) i }) placed_f
+
+pub room-some : (t : TaskForm) (j : JoinsForm) (more : ℕ) → IsKept t j → j.room ≡ Some more → total_of j.nodes ≤ t.max
+room-some t j more kept is = omega (arith, subst (HasRoom t.max (total_of j.nodes)) is kept.room)
+
+pub room-none : (t : TaskForm) (j : JoinsForm) → IsKept t j → j.room ≡ None → t.max < total_of j.nodes
+room-none t j kept is = subst (HasRoom t.max (total_of j.nodes)) is kept.room

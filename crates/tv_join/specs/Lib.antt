@@ -1,0 +1,9 @@
+pub mod Keys
+pub mod Rounds
+pub mod Joined
+pub mod Flags
+pub mod Listed
+pub mod State
+pub mod Weight
+pub mod Task
+pub mod Stepped

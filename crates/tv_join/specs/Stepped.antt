@@ -1,0 +1,181 @@
+-- What is listed is followed, and what was found is joined into what is listed.
+use Rattle.std.specs.Prelude.{ℕ, ◌≡◌, ◌<◌, ◌≤◌, ◌⊎◌, true, false, List, length, Some, All, Contains, slice_get}
+use Rattle.tv_kleene.specs.declared.K3.{K3}
+use Rattle.tv_kleene.specs.Kleene.{larger_of}
+use Rattle.tv_model.specs.declared.program.Edge.{Edge}
+use Rattle.tv_model.specs.Program.{ProgramForm}
+use Rattle.tv_struct.specs.StructureForm.{StructureForm}
+use Rattle.tv_transfer.specs.Budgets.{KeepsBudgets, MeetsSplits, MeetsIndividuals}
+use Rattle.tv_transfer.specs.Transfer.{AreResults, IsMessageValue, IsOpening, HasNoOpening}
+use Rattle.tv_keys.specs.Members.{MembersForm}
+use Rattle.tv_work.specs.Analysed.{KeepAllBudgets, Meets}
+use Rattle.tv_work.specs.Explored.{AreSaid}
+use Rattle.tv_work.specs.Reach.{Point, IsStartPoint}
+use Rattle.tv_work.specs.Task.{TaskForm}
+use Rattle.tv_work.specs.Told.{told_value}
+use Rattle.tv_listing.specs.ListingForm.{at_node}
+use Rattle.tv_join.specs.Flags.{IsPlain}
+use Rattle.tv_join.specs.Joined.{AreAtMost}
+use Rattle.tv_join.specs.Listed.{AreJoins}
+use Rattle.tv_join.specs.Rounds.{point, IsFollowed, IsLast}
+use Rattle.tv_join.specs.State.{JoinsForm, IsIn, IsKept, IsFound, IsAbsorbed, listing_of, total_of}
+use Rattle.tv_join.specs.Task.{round_in}
+use Rattle.tv_join.specs.Weight.{listing_weight}
+use Rattle.tv_join.specs.declared.joins.Found.{Found}
+use Rattle.tv_join.specs.declared.error.JoinError.{JoinError}
+use Rattle.tv_join.specs.declared.error.JoinError.TheVariants.{Structures, Splits, Individuals, Memory}
+
+-- ---- what is found
+
+-- a structure over the program at one of its nodes
+pub record IsPlaced (t : TaskForm) (x : Point) : Type 0 where
+  pub node : x.node < length t.program.nodes
+  pub plain : IsPlain t.program x.structure
+
+abbrev pub IsPlacedFound : TaskForm → Found → Type 0
+IsPlacedFound t f = IsPlaced t (record { node = f.node; structure = f.structure })
+
+-- a result of a listed structure, along some edge to its node
+abbrev pub IsResultOf : TaskForm → (nodes : List MembersForm) → Point → Type 0
+IsResultOf t nodes x = IsFollowed t.program t.mode (IsIn nodes) x × IsPlaced t x
+
+-- what was found, and the greatest values of messages
+pub record GatheredForm : Type 0 where
+  pub found : List Found
+  pub told : List (List K3)
+
+-- from what was found before to what is found now: nothing is lost, and what has the property is added
+pub record Finds (P : Point → Type 0) (old new : List Found) : Type 0 where
+  pub kept : (x : Point) → IsFound old x → IsFound new x
+  pub all : (x : Point) → P x → IsFound new x
+  pub only : (x : Point) → IsFound new x → IsFound old x ⊎ P x
+
+-- ---- steps
+
+-- what was found and told so far, and what is found and told now: nothing is lost, and only results of what
+-- is listed are found
+pub record Gathers (t : TaskForm) (nodes : List MembersForm) (old : GatheredForm) (new : GatheredForm) : Type 0
+  where
+    pub kept : (x : Point) → IsFound old.found x → IsFound new.found x
+    pub only : (x : Point) → IsFound new.found x → IsFound old.found x ⊎ IsResultOf t nodes x
+    pub rises : (edge number : ℕ) → larger_of (told_value old.told edge number) (told_value new.told edge number)
+        ≡ told_value new.told edge number
+
+-- the step of the structure along the edge is done: its results have the property at the edge's target, and
+-- the values of its messages are told
+pub record IsDoneAlong (t : TaskForm) (A : Point → Type 0) (told : List (List K3)) (edge : ℕ) (taken : Edge)
+    (s : StructureForm) : Type 0 where
+  pub results : List StructureForm
+  pub are_results : AreResults t.program t.mode edge s results
+  pub covered : (u : StructureForm) → Contains results u → A (point taken.to u)
+  pub values : (number : ℕ) (k : K3) → IsMessageValue t.program edge s number k
+      → larger_of k (told_value told edge number) ≡ told_value told edge number
+  pub budgets : KeepsBudgets t.program edge s
+
+-- so are the steps of all these structures along the edge
+abbrev pub AreDoneAlong : TaskForm → (A : Point → Type 0) → (told : List (List K3)) → (edge : ℕ)
+    → List StructureForm → Type 0
+AreDoneAlong t A told edge structures = (taken : Edge) → slice_get t.program.edges edge ≡ Some taken
+    → (s : StructureForm) → Contains structures s → IsDoneAlong t A told edge taken s
+
+-- all that is listed is followed along all edges
+pub record AreStepped (t : TaskForm) (nodes : List MembersForm) (A : Point → Type 0) (told : List (List K3)) : Type
+    0 where
+  pub done : (edge : ℕ) (taken : Edge) → slice_get t.program.edges edge ≡ Some taken → (s : StructureForm)
+      → IsIn nodes (point taken.from s) → IsDoneAlong t A told edge taken s
+  pub said : AreSaid t (listing_of nodes) told
+
+-- and only their results are found
+abbrev pub AreResultsOf : TaskForm → (nodes : List MembersForm) → List Found → Type 0
+AreResultsOf t nodes found = (x : Point) → IsFound found x → IsResultOf t nodes x
+
+-- ---- what was found is joined into what is listed
+
+-- what is listed are the joins by key of what was listed and what was found
+abbrev pub AreJoinsOf : TaskForm → (old new : List MembersForm) → List Found → Type 0
+AreJoinsOf t old new found = (k : ℕ) → AreJoins t.program (λ s. IsIn old (point k s) ⊎ IsFound found (point k s))
+    (at_node (listing_of new) k)
+
+-- nothing changed, or what is listed has risen
+abbrev pub Rises : (old : List (List StructureForm)) → (new : JoinsForm) → Type 0
+Rises old new = ((new.changed ≡ false) × (listing_of new.nodes ≡ old))
+    ⊎ ((new.changed ≡ true) × (listing_weight old < listing_weight (listing_of new.nodes)))
+
+pub record HaveMet (t : TaskForm) (old : JoinsForm) (found : List Found) (new : JoinsForm) : Type 0 where
+  pub kept : IsKept t new
+  pub joins : AreJoinsOf t old.nodes new.nodes found
+  pub rises : Rises (listing_of old.nodes) new
+
+-- ---- openings
+
+-- it is told whether the structure has an opening
+abbrev pub IsOpenable : ProgramForm → StructureForm → Type 0
+IsOpenable p s = HasNoOpening p s ⊎ ((u : StructureForm) × IsOpening p s u)
+
+-- the opening of the structure at the start node
+pub record IsOpeningPoint (t : TaskForm) (s : StructureForm) (x : Point) : Type 0 where
+  pub node : x.node ≡ 0
+  pub opening : IsOpening t.program s x.structure
+  pub plain : IsPlain t.program x.structure
+
+-- the opening of the structure, if there is one, is found beside what was found before
+pub record FindsOpening (t : TaskForm) (s : StructureForm) (old new : List Found) : Type 0 where
+  pub kept : (x : Point) → IsFound old x → IsFound new x
+  pub all : (x : Point) → x.node ≡ 0 → IsOpening t.program s x.structure → IsFound new x
+  pub only : (x : Point) → IsFound new x → IsFound old x ⊎ IsOpeningPoint t s x
+
+-- exactly the openings of the structures are found
+pub record AreOpenings (t : TaskForm) (structures : List StructureForm) (found : List Found) : Type 0 where
+  pub any : All (IsOpenable t.program) structures
+  pub all : (x : Point) → IsStartPoint t.program structures x → IsFound found x
+  pub only : (x : Point) → IsFound found x → IsStartPoint t.program structures x × IsPlain t.program x.structure
+
+-- ---- rounds
+
+-- each opening of an initial structure is absorbed at the start node
+pub record AreOpened (t : TaskForm) (A : Point → Type 0) : Type 0 where
+  pub any : All (IsOpenable t.program) t.initial
+  pub absorbed : (x : Point) → IsStartPoint t.program t.initial x → A x
+
+-- what the round lists is listed, and no round up to this one lists too many
+pub record IsAtRound (t : TaskForm) (round : ℕ) (j : JoinsForm) : Type 0 where
+  pub kept : IsKept t j
+  pub listed : (x : Point) → IsIn j.nodes x → round_in t round x
+  pub all : (x : Point) → round_in t round x → IsIn j.nodes x
+  pub within : total_of j.nodes ≤ t.max
+  pub opened : AreOpened t (IsAbsorbed t.program j.nodes)
+  pub budgets : (before : ℕ) → before < round → KeepAllBudgets t.program (round_in t before)
+  pub rounds : (before : ℕ) → before ≤ round → AreAtMost t.max (round_in t before)
+
+abbrev pub IsAtSomeRound : TaskForm → JoinsForm → Type 0
+IsAtSomeRound t j = (round : ℕ) × IsAtRound t round j
+
+-- the next round lists the same
+pub record IsAtLastRound (t : TaskForm) (j : JoinsForm) (told : List (List K3)) : Type 0 where
+  pub round : ℕ
+  pub at : IsAtRound t round j
+  pub last : IsLast t.program t.mode t.initial round
+  pub budgets : KeepAllBudgets t.program (round_in t round)
+  pub stepped : AreStepped t j.nodes (IsAbsorbed t.program j.nodes) told
+
+-- one round on: it is the last, or what is listed has risen
+abbrev pub IsRoundOn : TaskForm → (old new : JoinsForm) → (told : List (List K3)) → Type 0
+IsRoundOn t old new told = ((new.changed ≡ false) × IsAtLastRound t new told)
+    ⊎ ((new.changed ≡ true) × IsAtSomeRound t new
+    × (listing_weight (listing_of old.nodes) < listing_weight (listing_of new.nodes)))
+
+-- ---- causes
+
+-- why a structure's steps have no answer
+abbrev pub IsFollowCause : ProgramForm → (Point → Type 0) → JoinError → Type 0
+IsFollowCause p P Structures = ⊥
+IsFollowCause p P Splits = Meets p (MeetsSplits p) P
+IsFollowCause p P Individuals = Meets p (MeetsIndividuals p) P
+IsFollowCause p P Memory = Unit {0}
+
+-- why what was found isn't all listed
+abbrev pub IsMeetingCause : TaskForm → (old : JoinsForm) → List Found → (new : JoinsForm) → JoinError → Type 0
+IsMeetingCause t old found new Structures = HaveMet t old found new × (t.max < total_of new.nodes)
+IsMeetingCause t old found new Splits = ⊥
+IsMeetingCause t old found new Individuals = ⊥
+IsMeetingCause t old found new Memory = Unit {0}

@@ -1,0 +1,195 @@
+//! What is listed, at all nodes.
+
+ghost use Rattle.std.specs.Prelude.{◌≡◌, ◌<◌, ◌≤◌, ◌^◌, ℕ, [], Bool, false, All, None, Some, IfOk, IfErr, MatchBool, OnOk, length, replicate, slice_set};
+ghost use Rattle.tv_listing.specs.ListingForm.{at_node};
+ghost use Rattle.tv_keys.specs.Keyed.{AreFlags};
+ghost use Rattle.tv_keys.specs.Members.{IsIndexed};
+ghost use Rattle.tv_join.specs.Flags.{key_flags};
+ghost use Rattle.tv_join.specs.State.{JoinsForm, no_members, members_at, less, changed_after, room_after, IsPut, IsMet, IsKept, total_of};
+ghost use Rattle.tv_join.specs.Stepped.{IsPlacedFound, HaveMet, IsMeetingCause};
+ghost use Rattle.tv_join.specs.Task.{task_of, form_in};
+
+use crate::JoinError;
+use crate::task::Task;
+use std::alloc::{AllocError, Global};
+use std::marker::Model;
+use tv_keys::{Members, Put};
+use tv_listing::Listing;
+use tv_struct::Structure;
+
+/// A structure that was found for a node.
+#[derive(Debug, Drop)]
+pub(crate) struct Found {
+    pub node: u32,
+    pub structure: Structure,
+}
+
+/// The structures of each node, how many more may be listed, nothing where there are too many, and whether
+/// what is listed changed.
+#[derive(Drop)]
+pub(crate) struct Joins {
+    nodes: Vec<Members>,
+    room: Option<u64>,
+    changed: bool,
+}
+
+impl Model for Joins {
+    ghost use Rattle.tv_join.specs.State.{JoinsForm};
+
+    ghost Value = { JoinsForm };
+
+    ghost view = { λ j. record { nodes = j.nodes.items; room = j.room; changed = j.changed } };
+}
+
+impl Joins {
+    /// Nothing is listed.
+    pub fn new(alloc: Global, nodes: usize, max: u64) -> Result<Joins, AllocError>
+        ensures { IfOk result (λ j. j ≡ record {
+          nodes = replicate nodes no_members;
+          room = Some max;
+          changed = false;
+        }) }
+    {
+        let mut empty = Vec::with_capacity(alloc, nodes)?;
+        for _ in 0..nodes {
+            empty.push(Members::new(alloc))?;
+        }
+        Ok(Joins {
+            nodes: empty,
+            room: Some(max),
+            changed: false,
+        })
+    }
+
+    /// Joins what was found into what is listed. `Structures` where too many are then listed.
+    pub fn meet_all(&mut self, x: &Task, found: Vec<Found>) -> Result<(), JoinError>
+        requires flags { x.now.counted.now ≡ key_flags (form_in x.now) }
+        requires kept { IsKept (task_of x.now) self.old }
+        requires placed { All (IsPlacedFound (task_of x.now)) found.items }
+        ensures met { OnOk result (HaveMet (task_of x.now) self.old found.items self.new) }
+        ensures within { OnOk result (total_of self.new.nodes ≤ x.now.max) }
+        ensures cause { IfErr result (IsMeetingCause (task_of x.now) self.old found.items self.new) }
+    {
+        self.begin();
+        for f in found {
+            self.meet(x, f)?;
+        }
+        if self.is_over() {
+            return Err(JoinError::Structures);
+        }
+        Ok(())
+    }
+
+    /// From here on nothing has changed.
+    fn begin(&mut self)
+        ensures { self.new ≡ record { nodes = self.old.nodes; room = self.old.room; changed = false } }
+    {
+        self.changed = false;
+    }
+
+    /// Whether too many structures are listed.
+    fn is_over(&self) -> bool
+        ensures { MatchBool result (self.now.room ≡ None) ((more : ℕ) × (self.now.room ≡ Some more)) }
+    {
+        match self.room {
+            None => true,
+            Some(_) => false,
+        }
+    }
+
+    /// Joins a structure into what is listed at its node.
+    fn meet(&mut self, x: &Task, found: Found) -> Result<(), AllocError>
+        requires node { found.node < length self.old.nodes }
+        requires flags { AreFlags x.now.counted.now found.structure }
+        requires unmarked { found.structure.fresh ≡ None }
+        requires indexed { IsIndexed x.now.counted.now (members_at self.old.nodes found.node) }
+        ensures { OnOk result (IsMet x.now.counted.now self.old found.node found.structure self.new) }
+    {
+        let put = self.put(x, found.node, found.structure)?;
+        self.note(put);
+        Ok(())
+    }
+
+    /// Puts the structure among those of the node.
+    fn put(&mut self, x: &Task, node: u32, s: Structure) -> Result<Put, AllocError>
+        requires node { node < length self.old.nodes }
+        requires flags { AreFlags x.now.counted.now s }
+        requires unmarked { s.fresh ≡ None }
+        requires indexed { IsIndexed x.now.counted.now (members_at self.old.nodes node) }
+        ensures { IfOk result (IsPut x.now.counted.now self.old node s self.new) }
+    {
+        let at = &mut self.nodes[node as usize];
+        at.put(x.alloc, x.counted, s)
+    }
+
+    /// Notes what became of a structure.
+    fn note(&mut self, put: Put)
+        ensures { self.new ≡ record {
+          nodes = self.old.nodes;
+          room = room_after put self.old.room;
+          changed = changed_after put self.old.changed;
+        } }
+    {
+        match put {
+            Put::Known => {}
+            Put::Raised(_) => self.changed = true,
+            Put::Added => {
+                self.room = less(self.room);
+                self.changed = true;
+            }
+        }
+    }
+
+    /// Whether what is listed changed when structures were met last.
+    pub fn has_changed(&self) -> bool
+        ensures { result ≡ self.now.changed }
+    {
+        self.changed
+    }
+
+    /// The structures of the node.
+    pub fn at_node(&self, node: u32) -> &[Structure]
+        requires { node < length self.now.nodes }
+        ensures { result.now ≡ (members_at self.now.nodes node).structures }
+    {
+        self.nodes[node as usize].as_slice()
+    }
+
+    /// What is listed, as a listing.
+    pub fn into_listing(self, alloc: Global) -> Result<Listing, AllocError>
+        requires { length self.nodes < 2 ^ 32 }
+        ensures count { IfOk result (λ l. length l ≡ length self.nodes) }
+        ensures each { IfOk result (λ l. (k : ℕ) → at_node l k ≡ (members_at self.nodes k).structures) }
+    {
+        let mut listing = Listing::new(alloc, self.nodes.len() as u32)?;
+        let mut number = 0;
+        for node in self.nodes {
+            push_all(&mut listing, number, node.into_vec())?;
+            number += 1;
+        }
+        Ok(listing)
+    }
+}
+
+/// Puts the structures behind those of the node, which has none.
+fn push_all(listing: &mut Listing, node: u32, structures: Vec<Structure>) -> Result<(), AllocError>
+    requires node { node < length listing.old }
+    requires none { at_node listing.old node ≡ [] }
+    ensures node { node < length listing.old }
+    ensures put { OnOk result (listing.new ≡ slice_set listing.old node structures.items) }
+{
+    for s in structures {
+        listing.push(node, s)?;
+    }
+    Ok(())
+}
+
+/// One less, and nothing where there is none.
+fn less(room: Option<u64>) -> Option<u64>
+    ensures { result ≡ less room }
+{
+    match room {
+        None | Some(0) => None,
+        Some(more) => Some(more - 1),
+    }
+}

@@ -1,0 +1,13 @@
+//! The partly disjunctive analysis: at each node at most one structure for the same individuals and the same
+//! nullary values, so that programs whose exact listing is too large can still be answered.
+#![tactic(auto)]
+
+mod error;
+mod follow;
+mod joined;
+mod joins;
+mod rounds;
+mod task;
+
+pub use error::JoinError;
+pub use joined::analyse_joined;
