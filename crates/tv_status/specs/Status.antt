@@ -150,6 +150,7 @@ usage_text =
     line (codes "usage: tvla analyze PROGRAM INITIAL [--max-structures N] [--recompute]")
     ++ line (codes "       tvla check PROGRAM INITIAL REPORT [--recompute] [--maps]")
     ++ line (codes "       tvla demo NUMBER")
+    ++ line (codes "       tvla join PROGRAM INITIAL [--max-structures N] [--recompute]")
 
 -- the text that tells the status to whom called; one whose text the output took needs none
 abbrev pub text_of : Status → List ℕ

@@ -13,6 +13,7 @@ use tv_outside::{Failed, Sink, write_all, write_parts};
 const USAGE: &[u8] = b"usage: tvla analyze PROGRAM INITIAL [--max-structures N] [--recompute]
        tvla check PROGRAM INITIAL REPORT [--recompute] [--maps]
        tvla demo NUMBER
+       tvla join PROGRAM INITIAL [--max-structures N] [--recompute]
 ";
 
 /// Gives the text of a file's fault without its place to the sink; takes no memory.

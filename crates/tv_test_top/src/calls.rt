@@ -47,6 +47,7 @@ end
 const USAGE: &str = "usage: tvla analyze PROGRAM INITIAL [--max-structures N] [--recompute]
        tvla check PROGRAM INITIAL REPORT [--recompute] [--maps]
        tvla demo NUMBER
+       tvla join PROGRAM INITIAL [--max-structures N] [--recompute]
 ";
 
 /// Universal and existential preconditions over no individual.

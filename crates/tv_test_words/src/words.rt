@@ -104,6 +104,30 @@ static LINES: [(&str, &str); 84] = [
     ("check -- a b c --maps", "none"),
 ];
 
+static JOINS: [(&str, &str); 18] = [
+    ("join", "none"),
+    ("join a", "none"),
+    ("join a b", "join a b 5000"),
+    ("join a b c", "none"),
+    ("Join a b", "none"),
+    ("join join a", "join join a 5000"),
+    ("join a b --recompute", "join a b 5000 recompute"),
+    (
+        "join --recompute a --max-structures 3 b",
+        "join a b 3 recompute",
+    ),
+    ("join a --max-structures=100000 b", "join a b 100000"),
+    ("join a b --max-structures=100001", "none"),
+    ("join a b --max-structures 0", "none"),
+    ("join a b --max-structures", "none"),
+    ("join a b --max-structures 2 --max-structures=2", "none"),
+    ("join a b --recompute --recompute", "none"),
+    ("join a b --maps", "none"),
+    ("join a b --delta", "none"),
+    ("join -- --recompute a", "join --recompute a 5000"),
+    ("join a -- b --recompute", "none"),
+];
+
 static NUMBERS: [(&str, &str); 15] = [
     ("demo", "none"),
     ("demo 0", "none"),
@@ -166,6 +190,14 @@ fn shown(alloc: Global, command: &Option<Command>) -> Result<String, AllocError>
             )
         }
         Some(Command::Demo { number }) => format!(in alloc; "demo {number}"),
+        Some(
+            Command::Join {
+                program,
+                initial,
+                max,
+                mode,
+            },
+        ) => format!(in alloc; "join {program} {initial} {max}{}", mode_mark(*mode)),
     }
 }
 
@@ -177,7 +209,7 @@ fn compare(alloc: Global, line: &str, want: &str) -> Result<bool, AllocError> {
 
 #[test]
 fn words_by_example(rt: HostRuntime) -> Result<(), Fail> {
-    for (line, want) in LINES.iter().chain(NUMBERS.iter()) {
+    for (line, want) in LINES.iter().chain(JOINS.iter()).chain(NUMBERS.iter()) {
         assert!(rt; compare(rt.alloc(), line, want)?, "at {line}");
     }
     Ok(())

@@ -1,21 +1,18 @@
 -- What an analysis wrote is read again, and is closed.
-use Rattle.std.proofs.Common.{◌≡◌, ◌≢◌, ◌≤◌, ◌<◌, ◌⊎◌, ℕ, zero, suc, List, [], ◌∷◌, map, length, get_or, Option, None, Some, Ok, inl, inr, refl, sym, ap, subst, ◌∙◌, arith}
+use Rattle.std.proofs.Common.{◌≡◌, ◌≢◌, ◌<◌, ℕ, zero, suc, List, [], ◌∷◌, map, length, get_or, Option, None, Some, inl, inr, refl, sym, ap, subst, ◌∙◌, arith}
 use Rattle.std.specs.Prelude.{All, AllPairs, Any, Contains, IsSome, slice_get}
 use Rattle.std.proofs.lemmas.List.{length-map, get_or-map}
 use Rattle.std.proofs.lemmas.List.Elements.{All-head, All-tail}
-use Rattle.tv_judge.specs.Judged.{IsClosedReport, KeepsAllBudgets}
+use Rattle.tv_judge.specs.Judged.{KeepsAllBudgets}
 use Rattle.tv_judge.specs.Laws.{ClosedListingsAreClosedReports}
 use Rattle.tv_kleene.specs.declared.K3.{K3}
 use Rattle.tv_kleene.specs.declared.K3.TheVariants.{No}
 use Rattle.tv_listing.specs.ListingForm.{at_node}
 use Rattle.tv_listing.specs.declared.analysis.Analysis.{Analysis}
-use Rattle.tv_listing.specs.declared.analysis.MapLine.{MapLine}
 use Rattle.tv_listing.specs.declared.analysis.MessageLine.{MessageLine}
 use Rattle.tv_model.proofs.Lists.{All-from_contains, slice_get-below, slice_get-none, slice_get-contains}
 use Rattle.tv_model.specs.Program.{ProgramForm, MessageForm, program_of}
 use Rattle.tv_model.specs.declared.program.Mode.{Mode}
-use Rattle.tv_model.specs.declared.program.Program.{Program}
-use Rattle.tv_outside.specs.Told.{Held}
 use Rattle.tv_report.specs.Laws.{ReportsAreReadAgain, IsReadable, IsShortLine, without_marks}
 use Rattle.tv_report.specs.Lines.{message_at, IsMessageLine, AreMapLines, message_key}
 use Rattle.tv_report.specs.Meaning.{IsReportText}
@@ -27,8 +24,8 @@ use Rattle.tv_top.specs.Meaning.{Task, FilesMean}
 use Rattle.tv_transfer.proofs.From.{from-back, zip-back}
 use Rattle.tv_transfer.specs.Transfer.{IsOpening, IsResult, IsMessageValue, Steps, Finishes, IsBlurOf}
 use Rattle.tv_words.specs.Words.{CommandForm, Analyzes, Checks, Spells}
-use Rattle.tv_work.specs.Analysed.{IsBefore, IsAnalysis}
-use Rattle.tv_work.specs.Reach.{Point, IsReached, IsDerivation}
+use Rattle.tv_work.specs.Analysed.{IsBefore}
+use Rattle.tv_work.specs.Reach.{Point, IsDerivation}
 
 -- ---- marks
 

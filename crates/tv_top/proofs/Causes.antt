@@ -1,14 +1,17 @@
 -- The causes of the parts of the work, as those of a command.
-use Rattle.std.proofs.Common.{◌≡◌, ◌≤◌, ◌<◌, ℕ, Bool, List, Option, Some, Result, Ok, Err, inl, inr, refl, sym, ap, subst, arith}
+use Rattle.std.proofs.Common.{◌≡◌, ◌≤◌, ℕ, Bool, List, Option, Some, Result, Ok, Err, inl, inr, refl, sym, subst, arith}
 use Rattle.std.specs.Prelude.{IfOk, IfErr}
+use Rattle.tv_join.specs.Joined.{IsJoinCause}
+use Rattle.tv_join.specs.declared.error.JoinError.{JoinError}
+use Rattle.tv_join.specs.declared.error.JoinError.TheVariants as join
 use Rattle.tv_judge.specs.Judged.{IsJudgeCause, StopsAt}
 use Rattle.tv_listing.specs.declared.analysis.Analysis.{Analysis}
 use Rattle.tv_model.specs.Program.{ProgramForm, program_of}
+use Rattle.tv_model.specs.declared.program.Mode.{Mode}
 use Rattle.tv_model.specs.declared.program.Program.{Program}
 use Rattle.tv_outside.specs.Count.{Rose}
 use Rattle.tv_outside.specs.Told.{Held, HoldsName}
 use Rattle.tv_status.specs.declared.status.FileKind.{FileKind}
-use Rattle.tv_status.specs.declared.status.Role.{Role}
 use Rattle.tv_status.specs.declared.status.Role.TheVariants as role
 use Rattle.tv_struct.specs.StructureForm.{StructureForm}
 use Rattle.tv_struct.specs.declared.analysis.StageError.{StageError}
@@ -17,18 +20,18 @@ use Rattle.tv_texts.specs.Files.{IsProgramFile, LacksFile, IsInitialFile, IsRepo
 use Rattle.tv_texts.specs.Meaning.{MeansProgram, MeansInitial}
 use Rattle.tv_texts.specs.declared.fault.TextFault.{TextFault}
 use Rattle.tv_texts.specs.declared.fault.TextFault.TheVariants.{Refused, NotRead, Memory}
-use Rattle.tv_top.specs.Answers.{Reached, case_for, max_of, StepMeets, IsAnswer, IsDone, IsAccepted, IsAcceptedText}
-use Rattle.tv_top.specs.Call.{IsAnswerTo, IsCause, IsCommandCause}
+use Rattle.tv_top.specs.Answers.{Reached, InRound, case_for, max_of, HasMoreThan, StepMeets, IsAnswer, IsDone, IsAccepted, IsAcceptedText}
+use Rattle.tv_top.specs.Call.{IsCause, IsCommandCause}
 use Rattle.tv_top.specs.Delivery.{SaidOf}
-use Rattle.tv_top.specs.Faults.{fault_of_work, fault_of_stage, fault_of_text}
-use Rattle.tv_top.specs.Meaning.{Task, FilesMean, GivesProgram, GivesInitial, GivesReport, IsMissing, mode_of}
-use Rattle.tv_top.specs.Work.{Names, IsSearchCause, IsJudged, IsJudgementCause, UnlessReadFault}
+use Rattle.tv_top.specs.Faults.{fault_of_work, fault_of_join, fault_of_stage, fault_of_text}
+use Rattle.tv_top.specs.Meaning.{Task, FilesMean, GivesProgram, GivesInitial, GivesReport, IsMissing}
+use Rattle.tv_top.specs.Work.{Names, IsSearchCause, IsJoinSearchCause, IsJudged, IsJudgementCause, UnlessReadFault}
 use Rattle.tv_top.specs.declared.fault.Answer.{Answer}
 use Rattle.tv_top.specs.declared.fault.Answer.TheVariants as answer
 use Rattle.tv_top.specs.declared.fault.Fault.{Fault}
 use Rattle.tv_top.specs.declared.fault.Fault.TheVariants as fault
 use Rattle.tv_transfer.specs.Budgets.{MeetsSplits, MeetsIndividuals}
-use Rattle.tv_words.specs.Words.{CommandForm, Analyzes, Checks, Demos, Spells}
+use Rattle.tv_words.specs.Words.{CommandForm, Analyzes, Checks, Demos, Joins, Spells}
 use Rattle.tv_work.specs.Analysed.{IsWorkCause, Meets}
 use Rattle.tv_work.specs.Reach.{AreMoreThan}
 use Rattle.tv_work.specs.declared.error.WorkError.{WorkError}
@@ -70,6 +73,8 @@ named_program told (Analyzes p i max mode) program initial a names file =
 named_program told (Checks p i report mode maps) program initial a names file =
     subst (λ n. IsProgramFile told n a) (sym names.0) file
 named_program told (Demos number) program initial a names file = absurd names
+named_program told (Joins p i max mode) program initial a names file =
+    subst (λ n. IsProgramFile told n a) (sym names.0) file
 
 pub named_initial : (told : Option Held) (command : CommandForm) (program initial : List ℕ) (p : Program)
     (a : Result (List StructureForm) FileKind)
@@ -79,6 +84,8 @@ named_initial told (Analyzes n i max mode) program initial p a names file =
 named_initial told (Checks n i report mode maps) program initial p a names file =
     subst (λ m. IsInitialFile told m p a) (sym names.1) file
 named_initial told (Demos number) program initial p a names file = absurd names
+named_initial told (Joins n i max mode) program initial p a names file =
+    subst (λ m. IsInitialFile told m p a) (sym names.1) file
 
 lacks_program : (told : Option Held) (command : CommandForm) (program initial : List ℕ) → Names command program initial
     → LacksFile told program → IsMissing told command
@@ -87,6 +94,8 @@ lacks_program told (Analyzes p i max mode) program initial names lacks =
 lacks_program told (Checks p i report mode maps) program initial names lacks =
     inl (subst (λ n. LacksFile told n) (sym names.0) lacks)
 lacks_program told (Demos number) program initial names lacks = absurd names
+lacks_program told (Joins p i max mode) program initial names lacks =
+    inl (subst (λ n. LacksFile told n) (sym names.0) lacks)
 
 lacks_initial : (told : Option Held) (command : CommandForm) (program initial : List ℕ) (p : Program)
     → Names command program initial → IsProgramFile told program (Ok p) → ¬ HoldsName told initial → IsMissing told command
@@ -103,6 +112,12 @@ lacks_initial told (Checks n i report mode maps) program initial p names file la
       subst (λ m. ¬ HoldsName told m) (sym names.1) lacks,
     ))
 lacks_initial told (Demos number) program initial p names file lacks = absurd names
+lacks_initial told (Joins n i max mode) program initial p names file lacks =
+    inr (inl (
+      p,
+      named_program told (Joins n i max mode) program initial (Ok p) names file,
+      subst (λ m. ¬ HoldsName told m) (sym names.1) lacks,
+    ))
 
 -- why PROGRAM isn't had
 pub program_fault : (told : Option Held) (command : CommandForm) (program initial : List ℕ) (rose steady : Type 0) (e : TextFault)
@@ -181,6 +196,13 @@ work_fault task max work.Splits h = h
 work_fault task max work.Individuals h = h
 work_fault task max work.Memory h = tt
 
+pub join_fault : (task : Task) (max : ℕ) (e : JoinError)
+    → IsJoinCause (program_of task.program) task.mode task.initial max e → IsJoinSearchCause task max (fault_of_join max e)
+join_fault task max join.Structures h = (refl, h)
+join_fault task max join.Splits h = h
+join_fault task max join.Individuals h = h
+join_fault task max join.Memory h = tt
+
 pub stage_fault : (task : Task) (report : Analysis) (e : StageError) → IsJudgeCause (case_for task report) e
     → IsJudgementCause task report (fault_of_stage e)
 stage_fault task report stage.Splits h = h
@@ -189,18 +211,32 @@ stage_fault task report stage.Memory h = tt
 
 pub search_fault : (told : Option Held) (command : CommandForm) (task : Task) (max : ℕ) (rose steady : Type 0) (f : Fault)
     → FilesMean told command task → max_of command ≡ Some max
+    → ((most : ℕ) → AreMoreThan most (Reached task) → HasMoreThan command task most)
     → ((Budget : ProgramForm → ℕ → StructureForm → Type 0)
     → Meets (program_of task.program) (Budget (program_of task.program)) (Reached task) → StepMeets told command task Budget)
     → IsSearchCause task max f → IsCommandCause told command rose steady f
-search_fault told command task max rose steady fault.Usage means limit meets h = absurd h
-search_fault told command task max rose steady (fault.FileFault r k) means limit meets h = absurd h
-search_fault told command task max rose steady (fault.Structures more) means limit meets h =
-    (task, means, rw h.0 limit, subst (λ n. AreMoreThan n (Reached task)) (sym h.0) h.1)
-search_fault told command task max rose steady fault.TooManySplits means limit meets h = (task, means, meets MeetsSplits h)
-search_fault told command task max rose steady fault.TooManyIndividuals means limit meets h =
+search_fault told command task max rose steady fault.Usage means limit many meets h = absurd h
+search_fault told command task max rose steady (fault.FileFault r k) means limit many meets h = absurd h
+search_fault told command task max rose steady (fault.Structures more) means limit many meets h =
+    (task, means, rw h.0 limit, many more (subst (λ n. AreMoreThan n (Reached task)) (sym h.0) h.1))
+search_fault told command task max rose steady fault.TooManySplits means limit many meets h =
+    (task, means, meets MeetsSplits h)
+search_fault told command task max rose steady fault.TooManyIndividuals means limit many meets h =
     (task, means, meets MeetsIndividuals h)
-search_fault told command task max rose steady fault.ReadFault means limit meets h = absurd h
-search_fault told command task max rose steady fault.Memory means limit meets h = tt
+search_fault told command task max rose steady fault.ReadFault means limit many meets h = absurd h
+search_fault told command task max rose steady fault.Memory means limit many meets h = tt
+
+pub join_search_fault : (told : Option Held) (program initial : List ℕ) (mode : Mode) (task : Task) (max : ℕ)
+    (rose steady : Type 0) (f : Fault) → FilesMean told (Joins program initial max mode) task → IsJoinSearchCause task max f
+    → IsCommandCause told (Joins program initial max mode) rose steady f
+join_search_fault told program initial mode task max rose steady fault.Usage means h = absurd h
+join_search_fault told program initial mode task max rose steady (fault.FileFault r k) means h = absurd h
+join_search_fault told program initial mode task max rose steady (fault.Structures more) means h =
+    (task, means, rw h.0 refl, (h.1.0, subst (λ n. AreMoreThan n (InRound task h.1.0)) (sym h.0) h.1.1))
+join_search_fault told program initial mode task max rose steady fault.TooManySplits means h = (task, means, h)
+join_search_fault told program initial mode task max rose steady fault.TooManyIndividuals means h = (task, means, h)
+join_search_fault told program initial mode task max rose steady fault.ReadFault means h = absurd h
+join_search_fault told program initial mode task max rose steady fault.Memory means h = tt
 
 pub judgement_fault : (told : Option Held) (command : CommandForm) (task : Task) (report : Analysis) (rose steady : Type 0) (f : Fault)
     → FilesMean told command task

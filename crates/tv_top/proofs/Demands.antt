@@ -1,5 +1,5 @@
 -- A report fails one demand first.
-use Rattle.std.proofs.Common.{◌≡◌, ◌≢◌, ◌<◌, ◌⊎◌, ℕ, List, [], ◌∷◌, inl, inr, refl, sym, ap, ◌∙◌, arith}
+use Rattle.std.proofs.Common.{◌≡◌, ◌≢◌, ◌<◌, ℕ, List, [], ◌∷◌, inl, inr, refl, sym, ap, ◌∙◌, arith}
 use Rattle.std.specs.Prelude.{slice_index}
 use Rattle.tv_judge.specs.Judged.{Case, Demand, Covering, Stepping, Saying, place_of, StandsBefore, FailsFirst, IsRejection, IsClosedReport}
 use Rattle.tv_listing.specs.declared.analysis.Item.TheVariants as item

@@ -1,10 +1,10 @@
 -- The clauses of the call, from those of its two halves.
 use Rattle.std.proofs.Common.{◌≡◌, ◌⊎◌, ℕ, List, Option, Result, Ok, Err, inl, inr, ⊎_elim, refl, sym, subst}
 use Rattle.std.specs.Prelude.{IfOk, IfErr}
-use Rattle.tv_outside.specs.Told.{Held, TookFront}
+use Rattle.tv_outside.specs.Told.{Held}
 use Rattle.tv_status.specs.declared.status.Status.{Status}
 use Rattle.tv_status.specs.declared.status.Status.TheVariants.{Done, Rejected, Usage, FileFault, Structures, TooManySplits, TooManyIndividuals, ReadFault, WriteFault, Memory}
-use Rattle.tv_top.specs.Call.{IsAnswerTo, IsCause, EndsFor, EndsDuly, CallsFor, IsExcuse, without_place}
+use Rattle.tv_top.specs.Call.{IsCause, EndsFor, EndsDuly, IsExcuse}
 use Rattle.tv_top.specs.Delivery.{OutTook, ErrTook, IsText, IsFault, EndsAs, SaidOf, answered, answer_text, status_of, GivesText}
 use Rattle.tv_top.specs.Meaning.{Commands, IsMissing}
 use Rattle.tv_top.specs.Work.{UnlessReadFault}

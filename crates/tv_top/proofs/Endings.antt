@@ -1,6 +1,6 @@
 -- A call ends as its words and files call for.
-use Rattle.std.proofs.Common.{◌≡◌, ◌⊎◌, ℕ, List, Option, None, Some, Result, Ok, Err, inl, inr, refl, sym, ap, subst, ◌∙◌, ⊎_elim}
-use Rattle.tv_judge.specs.Judged.{Case, IsClosedReport, KeepsAllBudgets, IsRejection, StopsAt}
+use Rattle.std.proofs.Common.{◌≡◌, ◌⊎◌, ℕ, List, Option, Some, Ok, inl, inr, refl, sym, ap, subst}
+use Rattle.tv_judge.specs.Judged.{Case, KeepsAllBudgets, IsRejection, StopsAt}
 use Rattle.tv_listing.specs.declared.analysis.Analysis.{Analysis}
 use Rattle.tv_listing.specs.declared.analysis.Rejection.{Rejection}
 use Rattle.tv_model.specs.Program.{ProgramForm, program_of}
@@ -14,15 +14,13 @@ use Rattle.tv_struct.specs.StructureForm.{StructureForm}
 use Rattle.tv_texts.specs.Agreement.{GiveOne, SameProgram, placeless}
 use Rattle.tv_top.proofs.Demands.{one_rejection, stops_unrejected, closed_unrejected}
 use Rattle.tv_top.proofs.Tasks.{SameTask, HasReport, same_case, given_report, one_task, one_reported, not_refused, one_refusal}
-use Rattle.tv_top.specs.Answers.{Reached, case_for, IsDone, IsRejected, IsAnswer, max_of, ReachesTooMuch, StepMeets, MeetsBudget, KeepsLimits, CanBeDone, demo_max}
-use Rattle.tv_top.specs.Call.{IsAnswerTo, IsCause, IsCommandCause, EndsFor, CommandCallsFor, CallsFor, IsExcuse, without_place, EndsDuly, HoldsOperands}
+use Rattle.tv_top.specs.Answers.{Reached, InRound, case_for, IsDone, IsRejected, IsAnswer, max_of, HasMoreThan, ReachesTooMuch, StepMeets, MeetsBudget, KeepsLimits, KeepsRoundLimits, CanBeDone, demo_max}
+use Rattle.tv_top.specs.Call.{IsAnswerTo, IsCause, EndsFor, CommandCallsFor, CallsFor, IsExcuse, without_place, EndsDuly, HoldsOperands}
 use Rattle.tv_top.specs.Delivery.{OutTook}
 use Rattle.tv_top.specs.Meaning.{Task, Commands, FilesMean, GivesProgram, GivesInitial, GivesReport, IsRefused, IsMissing, IsTold, HoldsFiles}
-use Rattle.tv_top.specs.declared.fault.Fault.{Fault}
-use Rattle.tv_top.specs.declared.fault.Fault.TheVariants as fault
 use Rattle.tv_transfer.specs.Budgets.{MeetsSplits, MeetsIndividuals, KeepsBudgets}
-use Rattle.tv_words.specs.Words.{CommandForm, Analyzes, Checks, Demos, Spells, SpellsNothing}
-use Rattle.tv_work.specs.Analysed.{KeepAllBudgets, Meets}
+use Rattle.tv_words.specs.Words.{CommandForm, Analyzes, Checks, Demos, Joins, Spells, SpellsNothing}
+use Rattle.tv_work.specs.Analysed.{Meets}
 use Rattle.tv_work.specs.Reach.{AreMoreThan}
 
 -- what may be called for: that the job is done, that the report is rejected, or that a file is refused
@@ -82,23 +80,27 @@ done_reported : (told : Option Held) (command : CommandForm) (task : Task) (text
 done_reported told (Analyzes p i max mode) task text h = tt
 done_reported told (Checks p i report mode maps) task text h = (h.0, h.1)
 done_reported told (Demos number) task text h = tt
+done_reported told (Joins p i most mode) task text h = tt
 
 can_reported : (told : Option Held) (command : CommandForm) (task : Task) → CanBeDone told command task → HasReport told command task
 can_reported told (Analyzes p i max mode) task h = tt
 can_reported told (Checks p i report mode maps) task h = (h.0, h.1)
 can_reported told (Demos number) task h = tt
+can_reported told (Joins p i most mode) task h = tt
 
 many_reported : (told : Option Held) (command : CommandForm) (task : Task) (max : ℕ) → max_of command ≡ Some max
     → HasReport told command task
 many_reported told (Analyzes p i max' mode) task max h = tt
 many_reported told (Checks p i report mode maps) task max h = absurd cc
 many_reported told (Demos number) task max h = tt
+many_reported told (Joins p i most mode) task max h = tt
 
 step_reported : (told : Option Held) (command : CommandForm) (task : Task) (Budget : ProgramForm → ℕ → StructureForm → Type 0)
     → StepMeets told command task Budget → HasReport told command task
 step_reported told (Analyzes p i max mode) task Budget h = tt
 step_reported told (Checks p i report mode maps) task Budget h = (h.0, h.1)
 step_reported told (Demos number) task Budget h = tt
+step_reported told (Joins p i most mode) task Budget h = tt
 
 -- ---- what can be done isn't hindered
 
@@ -114,6 +116,22 @@ kept t u max Budget keeping same keeps meets = none (rw (same.program, same.init
   where
     none : Meets (program_of t.program) (Budget (program_of t.program)) (Reached t) → ⊥
     none m = keeping (program_of t.program) m.edge m.at.structure (keeps.budgets m.edge m.at m.source) m.budget
+
+few_rounds : (t u : Task) (max more : ℕ) → SameTask t u → Some max ≡ Some more → KeepsRoundLimits t max
+    → ((round : ℕ) × AreMoreThan more (InRound u round)) → ⊥
+few_rounds t u max more same e keeps many =
+    let limit : more ≡ max = cc in
+    keeps.few many.0 (rw (same.program, same.initial, same.mode, ← limit) many.1)
+
+kept_rounds : (t u : Task) (max : ℕ) (Budget : ProgramForm → ℕ → StructureForm → Type 0)
+    → ((p : ProgramForm) (edge : ℕ) (s : StructureForm) → KeepsBudgets p edge s → ¬ Budget p edge s)
+    → SameTask t u → KeepsRoundLimits t max
+    → ((round : ℕ) × Meets (program_of u.program) (Budget (program_of u.program)) (InRound u round)) → ⊥
+kept_rounds t u max Budget keeping same keeps meets =
+    none meets.0 (rw (same.program, same.initial, same.mode) meets.1)
+  where
+    none : (round : ℕ) → Meets (program_of t.program) (Budget (program_of t.program)) (InRound t round) → ⊥
+    none round m = keeping (program_of t.program) m.edge m.at.structure (keeps.budgets round m.edge m.at m.source) m.budget
 
 closed_kept : (c : Case) (Budget : ProgramForm → ℕ → StructureForm → Type 0)
     → ((p : ProgramForm) (edge : ℕ) (s : StructureForm) → KeepsBudgets p edge s → ¬ Budget p edge s)
@@ -136,6 +154,7 @@ can_not_rejected told (Checks p i report mode maps) t u r same can rejected =
     closed_unrejected (case_for t can.0) r can.2
     (subst (λ c. IsRejection c r) (sym (same can.0 rejected.0 can.1 rejected.1)) rejected.2)
 can_not_rejected told (Demos number) t u r same can rejected = absurd rejected.1
+can_not_rejected told (Joins p i most mode) t u r same can rejected = absurd rejected.1
 
 done_not_rejected : (told : Option Held) (command : CommandForm) (t u : Task) (text : List ℕ) (r : Rejection)
     → OneCase told command t u → IsDone told command t text → IsRejected told command u r → ⊥
@@ -144,6 +163,7 @@ done_not_rejected told (Checks p i report mode maps) t u text r same done reject
     closed_unrejected (case_for t done.0) r done.2.closed
     (subst (λ c. IsRejection c r) (sym (same done.0 rejected.0 done.1 rejected.1)) rejected.2)
 done_not_rejected told (Demos number) t u text r same done rejected = absurd rejected.1
+done_not_rejected told (Joins p i most mode) t u text r same done rejected = absurd rejected.1
 
 both_rejected : (told : Option Held) (command : CommandForm) (t u : Task) (r s : Rejection) → OneCase told command t u
     → IsRejected told command t r → IsRejected told command u s → r ≡ s
@@ -157,18 +177,21 @@ step_not_rejected told (Checks p i report mode maps) t u Budget r same step reje
     stops_unrejected (case_for t step.0) step.2.edge step.2.structure r step.2.first
     (subst (λ c. IsRejection c r) (sym (same step.0 rejected.0 step.1 rejected.1)) rejected.2)
 step_not_rejected told (Demos number) t u Budget r same step rejected = absurd rejected.1
+step_not_rejected told (Joins p i most mode) t u Budget r same step rejected = absurd rejected.1
 
 many_not_rejected : (told : Option Held) (command : CommandForm) (u : Task) (max : ℕ) (r : Rejection)
     → max_of command ≡ Some max → IsRejected told command u r → ⊥
 many_not_rejected told (Analyzes p i m mode) u max r e rejected = absurd rejected.1
 many_not_rejected told (Checks p i report mode maps) u max r e rejected = absurd cc
 many_not_rejected told (Demos number) u max r e rejected = absurd rejected.1
+many_not_rejected told (Joins p i most mode) u max r e rejected = absurd rejected.1
 
 many_not_done : (told : Option Held) (command : CommandForm) (t u : Task) (more : ℕ) → SameTask t u → CanBeDone told command t
-    → max_of command ≡ Some more → AreMoreThan more (Reached u) → ⊥
+    → max_of command ≡ Some more → HasMoreThan command u more → ⊥
 many_not_done told (Analyzes p i max mode) t u more same can e many = few t u max more same e can many
 many_not_done told (Checks p i report mode maps) t u more same can e many = absurd cc
 many_not_done told (Demos number) t u more same can e many = few t u demo_max more same e can many
+many_not_done told (Joins p i max mode) t u more same can e many = few_rounds t u max more same e can many
 
 step_not_done : (told : Option Held) (command : CommandForm) (t u : Task) (Budget : ProgramForm → ℕ → StructureForm → Type 0)
     → ((p : ProgramForm) (edge : ℕ) (s : StructureForm) → KeepsBudgets p edge s → ¬ Budget p edge s)
@@ -178,6 +201,8 @@ step_not_done told (Checks p i report mode maps) t u Budget keeping same case ca
     closed_kept (case_for t can.0) Budget keeping can.3
     (subst (λ c. StopsAt c Budget) (sym (case can.0 step.0 can.1 step.1)) step.2)
 step_not_done told (Demos number) t u Budget keeping same case can step = kept t u demo_max Budget keeping same can step
+step_not_done told (Joins p i max mode) t u Budget keeping same case can step =
+    kept_rounds t u max Budget keeping same can step
 
 -- ---- each pair of an ending and one that is called for
 
@@ -225,7 +250,7 @@ module _ (told : Option Held) (command : CommandForm)
         rw (f.2, same.0, same.1) refl
 
     many_duly : (due : Status) (task : Task) (max : ℕ) → FilesMean told command task → max_of command ≡ Some max
-        → AreMoreThan max (Reached task) → DueView told command due → Structures max ≡ without_place due
+        → HasMoreThan command task max → DueView told command due → Structures max ≡ without_place due
     many_duly due task max means limit many (inl d) =
         absurd (many_not_done told command d.1.0 task max (both d.1.0 task d.1.1 means) d.1.2 limit many)
     many_duly due task max means limit many (inr (inl r)) =
@@ -319,6 +344,9 @@ module _
     there told (Demos number) h (inl lacks) = lacks
     there told (Demos number) h (inr (inl lacks)) = lacks.2
     there told (Demos number) h (inr (inr lacks)) = lacks.2
+    there told (Joins p i max mode) h (inl lacks) = h.0 lacks
+    there told (Joins p i max mode) h (inr (inl lacks)) = lacks.2 h.1
+    there told (Joins p i max mode) h (inr (inr lacks)) = lacks.2
 
     pub none_missing : (words : List (List ℕ)) (told : Option Held) → HoldsOperands words told → ¬ Commands words (IsMissing told)
     none_missing words told holds missing =

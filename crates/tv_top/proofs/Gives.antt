@@ -1,5 +1,5 @@
 -- Each file of a command gives one thing at most, where it is told what files hold.
-use Rattle.std.proofs.Common.{◌≡◌, ◌⊎◌, ℕ, List, Option, None, Some, Result, Ok, Err, inl, inr, refl, sym, ap, subst, ◌∙◌}
+use Rattle.std.proofs.Common.{◌≡◌, ◌⊎◌, ℕ, List, Option, None, Some, Result, Ok, Err, inl, inr, refl, sym, subst, ◌∙◌}
 use Rattle.std.specs.Prelude.{IsSome}
 use Rattle.tv_demo.specs.Texts.{program_text, lists_text}
 use Rattle.tv_lex.specs.Gather.{Gathers}
@@ -15,7 +15,7 @@ use Rattle.tv_texts.specs.Agreement.{Agree, GiveOne, SameProgram}
 use Rattle.tv_texts.specs.Files.{HoldsSuch, IsUngathered, IsProgramFile}
 use Rattle.tv_texts.specs.Meaning.{MeansProgram, MeansInitial, MeansReport}
 use Rattle.tv_top.specs.Meaning.{GivesProgram, GivesInitial, GivesReport, IsTold}
-use Rattle.tv_words.specs.Words.{CommandForm, Analyzes, Checks, Demos}
+use Rattle.tv_words.specs.Words.{CommandForm, Analyzes, Checks, Demos, Joins}
 
 -- what a file that is gathered gives: what its text means, or a fault of its includes
 abbrev FileView : Held → (name : List ℕ) → Result Program FileKind → Type 0
@@ -78,6 +78,7 @@ module _
     one_program told (Analyzes program initial max mode) tells a b h k = one_file told program tells a b h k
     one_program told (Checks program initial report mode maps) tells a b h k = one_file told program tells a b h k
     one_program told (Demos number) tells a b h k = programs (program_text number) a b h k
+    one_program told (Joins program initial max mode) tells a b h k = one_file told program tells a b h k
 
     pub one_initial : (told : Option Held) (command : CommandForm) → IsTold told command → (p q : Program) → SameProgram p q
         → GiveOne {A = List StructureForm} ◌≡◌ (GivesInitial told command p) (GivesInitial told command q)
@@ -86,6 +87,8 @@ module _
     one_initial told (Checks program initial report mode maps) tells p q same a b h k =
         one_held told initial (MeansInitial p) (MeansInitial q) tells (initials p q same) a b h k
     one_initial told (Demos number) tells p q same a b h k = initials p q same lists_text a b h k
+    one_initial told (Joins program initial max mode) tells p q same a b h k =
+        one_held told initial (MeansInitial p) (MeansInitial q) tells (initials p q same) a b h k
 
     pub one_report : (told : Option Held) (command : CommandForm) → IsTold told command → (p q : Program) → SameProgram p q
         → GiveOne {A = Analysis} ◌≡◌ (GivesReport told command p) (GivesReport told command q)
@@ -93,3 +96,4 @@ module _
     one_report told (Checks program initial report mode maps) tells p q same a b h k =
         one_held told report (MeansReport p) (MeansReport q) tells (reports p q same) a b h k
     one_report told (Demos number) tells p q same a b h k = absurd h
+    one_report told (Joins program initial max mode) tells p q same a b h k = absurd h

@@ -1,19 +1,16 @@
 -- The files of a command mean one task, and they are refused for one reason, or mean a task.
-use Rattle.std.proofs.Common.{◌≡◌, ℕ, List, Option, Result, Ok, Err, refl, sym, ap, subst, ◌∙◌}
-use Rattle.tv_judge.specs.Judged.{Case}
+use Rattle.std.proofs.Common.{◌≡◌, List, Option, Ok, Err, refl, sym, ◌∙◌}
 use Rattle.tv_listing.specs.declared.analysis.Analysis.{Analysis}
-use Rattle.tv_model.specs.Program.{ProgramForm, program_of}
-use Rattle.tv_model.specs.declared.program.Mode.{Mode}
 use Rattle.tv_model.specs.declared.program.Program.{Program}
 use Rattle.tv_outside.specs.Told.{Held}
 use Rattle.tv_status.specs.declared.status.FileKind.{FileKind}
 use Rattle.tv_status.specs.declared.status.Role.{Role}
 use Rattle.tv_status.specs.declared.status.Role.TheVariants as role
 use Rattle.tv_struct.specs.StructureForm.{StructureForm}
-use Rattle.tv_texts.specs.Agreement.{Agree, GiveOne, SameProgram, placeless}
-use Rattle.tv_top.specs.Answers.{Reached, case_for}
-use Rattle.tv_top.specs.Meaning.{Task, FilesMean, GivesProgram, GivesInitial, GivesReport, IsRefused, IsTold, mode_of}
-use Rattle.tv_words.specs.Words.{CommandForm, Analyzes, Checks, Demos}
+use Rattle.tv_texts.specs.Agreement.{GiveOne, SameProgram, placeless}
+use Rattle.tv_top.specs.Answers.{case_for}
+use Rattle.tv_top.specs.Meaning.{Task, FilesMean, GivesProgram, GivesInitial, GivesReport, IsRefused}
+use Rattle.tv_words.specs.Words.{CommandForm, Analyzes, Checks, Demos, Joins}
 
 -- both tasks are one, wherever the parts of the program lie in memory
 pub record SameTask (t u : Task) : Type 0 where
@@ -27,6 +24,7 @@ HasReport told (Analyzes program initial max mode) task = Unit {0}
 HasReport told (Checks program initial report mode maps) task =
     (a : Analysis) × GivesReport told (Checks program initial report mode maps) task.program (Ok a)
 HasReport told (Demos number) task = Unit {0}
+HasReport told (Joins program initial max mode) task = Unit {0}
 
 pub same_case : (t u : Task) (a b : Analysis) → SameTask t u → a ≡ b → case_for t a ≡ case_for u b
 same_case t u a b same e = rw (same.program, same.initial, same.mode, e) refl
@@ -36,6 +34,7 @@ pub given_report : (told : Option Held) (command : CommandForm) (task : Task) (a
 given_report told (Analyzes p i max mode) task a h = tt
 given_report told (Checks p i report mode maps) task a h = (a, h)
 given_report told (Demos number) task a h = tt
+given_report told (Joins p i max mode) task a h = tt
 
 module _ (told : Option Held) (command : CommandForm)
     (programs : GiveOne SameProgram (GivesProgram told command) (GivesProgram told command))
@@ -64,6 +63,7 @@ module _ (told : Option Held) (command : CommandForm)
     report_read (Checks p i report mode maps) t u k same one has refused =
         one t.program u.program same (Ok has.0) (Err k) has.1 refused
     report_read (Demos number) t u k same one has refused = refused
+    report_read (Joins p i max mode) t u k same one has refused = refused
 
     -- files that mean a task aren't refused
     pub not_refused : (t : Task) (r : Role) (k : FileKind) → FilesMean told command t → HasReport told command t

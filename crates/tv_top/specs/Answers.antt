@@ -1,7 +1,9 @@
 -- What a command answers, and what it gives no answer for.
-use Rattle.std.specs.Prelude.{ℕ, ◌≡◌, List, [], ◌∷◌, ◌++◌, length, sum_by, Bool, true, false, Option, None, Some, Result, Ok, codes, decimal}
+use Rattle.std.specs.Prelude.{ℕ, ◌≡◌, List, [], ◌++◌, length, sum_by, Bool, true, false, Option, None, Some, Ok, codes, decimal}
 use Rattle.tv_judge.specs.Judged.{Case, IsClosedReport, KeepsAllBudgets, IsRejection, StopsAt, AreMapsOf}
 use Rattle.tv_judge.specs.Verdicts.{case_of}
+use Rattle.tv_join.specs.Joined.{IsJoined}
+use Rattle.tv_join.specs.Rounds.{IsInRound}
 use Rattle.tv_listing.specs.Listed.{IsListing}
 use Rattle.tv_listing.specs.declared.analysis.Analysis.{Analysis}
 use Rattle.tv_listing.specs.declared.analysis.MapLine.{MapLine}
@@ -17,7 +19,7 @@ use Rattle.tv_status.specs.declared.status.Status.TheVariants.{Done, Rejected}
 use Rattle.tv_struct.specs.StructureForm.{StructureForm}
 use Rattle.tv_top.specs.Meaning.{Task, FilesMean, GivesReport}
 use Rattle.tv_transfer.specs.Closed.{IsClosed, CoversRuns}
-use Rattle.tv_words.specs.Words.{CommandForm, Analyzes, Checks, Demos}
+use Rattle.tv_words.specs.Words.{CommandForm, Analyzes, Checks, Demos, Joins}
 use Rattle.tv_work.specs.Analysed.{IsAnalysis, KeepAllBudgets, Meets}
 use Rattle.tv_work.specs.Reach.{Point, IsReached, AreMoreThan}
 
@@ -42,6 +44,24 @@ pub record IsFound (task : Task) (max : ℕ) (a : Analysis) : Type 0 where
   pub no_maps : a.maps ≡ []
   pub closed : IsClosed (program_of task.program) task.mode task.initial a.listing a.messages
   pub sound : IsSound task a
+
+-- ---- what a joined analysis finds
+
+-- the structures that a round of the joined analysis lists
+abbrev pub InRound : Task → (round : ℕ) → Point → Type 0
+InRound task = IsInRound (program_of task.program) task.mode task.initial
+
+-- the joined analysis lists what its rounds come to, at most so many structures, with the messages that may be
+-- true there; it is closed, and covers all runs
+pub record IsJoinFound (task : Task) (max : ℕ) (a : Analysis) : Type 0 where
+  pub valid : IsValid (program_of task.program)
+  pub listing : IsListing task.program a.listing
+  pub exact : IsJoined (program_of task.program) task.mode task.initial max a.listing a.messages
+  pub no_maps : a.maps ≡ []
+  pub closed : IsClosed (program_of task.program) task.mode task.initial a.listing a.messages
+  pub sound : IsSound task a
+
+-- ---- what a demo counts
 
 -- how many structures a demo may list
 abbrev pub demo_max : ℕ
@@ -100,6 +120,8 @@ IsDone told (Checks program initial report mode maps) task text =
     × IsAccepted task a × IsAcceptedText task a maps text
 IsDone told (Demos number) task text =
     (a : Analysis) × IsFound task demo_max a × (text ≡ demo_line number a)
+IsDone told (Joins program initial max mode) task text =
+    (a : Analysis) × IsJoinFound task max a × (text ≡ report_text task.program a)
 
 -- the report isn't closed, and this is the first demand that it doesn't meet
 abbrev pub IsRejected : Option Held → CommandForm → Task → Rejection → Type 0
@@ -120,14 +142,22 @@ abbrev pub max_of : CommandForm → Option ℕ
 max_of (Analyzes program initial max mode) = Some max
 max_of (Checks program initial report mode maps) = None
 max_of (Demos number) = Some demo_max
+max_of (Joins program initial max mode) = Some max
 
--- more structures are reached than may be listed
+-- there are more structures than this: those that are reached; or in `join`, those that some round lists
+abbrev pub HasMoreThan : CommandForm → Task → (max : ℕ) → Type 0
+HasMoreThan (Analyzes program initial max mode) task most = AreMoreThan most (Reached task)
+HasMoreThan (Checks program initial report mode maps) task most = ⊥
+HasMoreThan (Demos number) task most = AreMoreThan most (Reached task)
+HasMoreThan (Joins program initial max mode) task most = (round : ℕ) × AreMoreThan most (InRound task round)
+
+-- there are more structures than may be listed
 abbrev pub ReachesTooMuch : Option Held → CommandForm → (max : ℕ) → Type 0
 ReachesTooMuch told command max = (task : Task) × FilesMean told command task
-    × (max_of command ≡ Some max) × AreMoreThan max (Reached task)
+    × (max_of command ≡ Some max) × HasMoreThan command task max
 
 -- the step of a reached structure meets the budget; or in `check`, that of a listed one, and each demand
--- before is met
+-- before is met; or in `join`, that of one which some round lists
 abbrev pub StepMeets : Option Held → CommandForm → Task → (ProgramForm → ℕ → StructureForm → Type 0) → Type 0
 StepMeets told (Analyzes program initial max mode) task Budget =
     Meets (program_of task.program) (Budget (program_of task.program)) (Reached task)
@@ -136,6 +166,8 @@ StepMeets told (Checks program initial report mode maps) task Budget =
     × StopsAt (case_for task a) Budget
 StepMeets told (Demos number) task Budget =
     Meets (program_of task.program) (Budget (program_of task.program)) (Reached task)
+StepMeets told (Joins program initial max mode) task Budget =
+    (round : ℕ) × Meets (program_of task.program) (Budget (program_of task.program)) (InRound task round)
 
 abbrev pub MeetsBudget : Option Held → CommandForm → (ProgramForm → ℕ → StructureForm → Type 0) → Type 0
 MeetsBudget told command Budget = (task : Task) × FilesMean told command task
@@ -146,6 +178,11 @@ pub record KeepsLimits (task : Task) (max : ℕ) : Type 0 where
   pub few : ¬ AreMoreThan max (Reached task)
   pub budgets : KeepAllBudgets (program_of task.program) (Reached task)
 
+-- no round lists more than so many structures, and their steps keep the budgets
+pub record KeepsRoundLimits (task : Task) (max : ℕ) : Type 0 where
+  pub few : (round : ℕ) → ¬ AreMoreThan max (InRound task round)
+  pub budgets : (round : ℕ) → KeepAllBudgets (program_of task.program) (InRound task round)
+
 -- nothing stands in the way of the job: the limits are kept, or the report is closed
 abbrev pub CanBeDone : Option Held → CommandForm → Task → Type 0
 CanBeDone told (Analyzes program initial max mode) task = KeepsLimits task max
@@ -153,3 +190,4 @@ CanBeDone told (Checks program initial report mode maps) task =
     (a : Analysis) × GivesReport told (Checks program initial report mode maps) task.program (Ok a)
     × IsClosedReport (case_for task a) × KeepsAllBudgets (case_for task a)
 CanBeDone told (Demos number) task = KeepsLimits task demo_max
+CanBeDone told (Joins program initial max mode) task = KeepsRoundLimits task max

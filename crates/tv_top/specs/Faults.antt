@@ -1,5 +1,7 @@
 -- The faults of the layers below, as those of a call.
 use Rattle.std.specs.Prelude.{ℕ}
+use Rattle.tv_join.specs.declared.error.JoinError.{JoinError}
+use Rattle.tv_join.specs.declared.error.JoinError.TheVariants as join
 use Rattle.tv_struct.specs.declared.analysis.StageError.{StageError}
 use Rattle.tv_struct.specs.declared.analysis.StageError.TheVariants as stage
 use Rattle.tv_texts.specs.declared.fault.TextFault.{TextFault}
@@ -15,6 +17,13 @@ fault_of_work max work.Structures = Structures max
 fault_of_work max work.Splits = TooManySplits
 fault_of_work max work.Individuals = TooManyIndividuals
 fault_of_work max work.Memory = Memory
+
+-- the fault of a joined analysis
+abbrev pub fault_of_join : (max : ℕ) → JoinError → Fault
+fault_of_join max join.Structures = Structures max
+fault_of_join max join.Splits = TooManySplits
+fault_of_join max join.Individuals = TooManyIndividuals
+fault_of_join max join.Memory = Memory
 
 -- the fault of a judgement
 abbrev pub fault_of_stage : StageError → Fault

@@ -1,8 +1,7 @@
 -- What the files of a command mean: a program, initial structures, and for `check` a report; or the first of
 -- them that means nothing.
-use Rattle.std.specs.Prelude.{ℕ, ◌≡◌, ◌⊎◌, List, Option, None, Some, IsSome, Result, Ok, Err}
+use Rattle.std.specs.Prelude.{ℕ, ◌≡◌, ◌⊎◌, List, Option, IsSome, Result, Ok, Err}
 use Rattle.tv_demo.specs.Texts.{program_text, lists_text}
-use Rattle.tv_lex.specs.Gather.{Gathers}
 use Rattle.tv_listing.specs.declared.analysis.Analysis.{Analysis}
 use Rattle.tv_model.specs.declared.program.Mode.{Mode}
 use Rattle.tv_model.specs.declared.program.Mode.TheVariants.{Given}
@@ -14,7 +13,7 @@ use Rattle.tv_status.specs.declared.status.Role.TheVariants as role
 use Rattle.tv_struct.specs.StructureForm.{StructureForm}
 use Rattle.tv_texts.specs.Files.{IsProgramFile, LacksFile, IsInitialFile, IsReportFile}
 use Rattle.tv_texts.specs.Meaning.{MeansProgram, MeansInitial}
-use Rattle.tv_words.specs.Words.{CommandForm, Analyzes, Checks, Demos, Spells}
+use Rattle.tv_words.specs.Words.{CommandForm, Analyzes, Checks, Demos, Joins, Spells}
 
 -- the words spell such a command
 abbrev pub Commands : List (List ℕ) → (CommandForm → Type 0) → Type 0
@@ -27,6 +26,7 @@ abbrev pub GivesProgram : Option Held → CommandForm → Result Program FileKin
 GivesProgram told (Analyzes program initial max mode) answer = IsProgramFile told program answer
 GivesProgram told (Checks program initial report mode maps) answer = IsProgramFile told program answer
 GivesProgram told (Demos number) answer = MeansProgram (program_text number) answer
+GivesProgram told (Joins program initial max mode) answer = IsProgramFile told program answer
 
 -- INITIAL means these structures over the program's vocabulary, or is refused so
 abbrev pub GivesInitial : Option Held → CommandForm → Program → Result (List StructureForm) FileKind → Type 0
@@ -34,6 +34,7 @@ GivesInitial told (Analyzes program initial max mode) meant answer = IsInitialFi
 GivesInitial told (Checks program initial report mode maps) meant answer =
     IsInitialFile told initial meant answer
 GivesInitial told (Demos number) meant answer = MeansInitial meant lists_text answer
+GivesInitial told (Joins program initial max mode) meant answer = IsInitialFile told initial meant answer
 
 -- REPORT, which `check` alone has, is this report on the program, or is refused so
 abbrev pub GivesReport : Option Held → CommandForm → Program → Result Analysis FileKind → Type 0
@@ -41,11 +42,13 @@ GivesReport told (Analyzes program initial max mode) meant answer = ⊥
 GivesReport told (Checks program initial report mode maps) meant answer =
     IsReportFile told report meant answer
 GivesReport told (Demos number) meant answer = ⊥
+GivesReport told (Joins program initial max mode) meant answer = ⊥
 
 abbrev pub mode_of : CommandForm → Mode
 mode_of (Analyzes program initial max mode) = mode
 mode_of (Checks program initial report mode maps) = mode
 mode_of (Demos number) = Given
+mode_of (Joins program initial max mode) = mode
 
 -- what a command works on
 pub record Task : Type 0 where
@@ -74,16 +77,19 @@ abbrev pub LacksProgram : Option Held → CommandForm → Type 0
 LacksProgram told (Analyzes program initial max mode) = LacksFile told program
 LacksProgram told (Checks program initial report mode maps) = LacksFile told program
 LacksProgram told (Demos number) = ⊥
+LacksProgram told (Joins program initial max mode) = LacksFile told program
 
 abbrev pub LacksInitial : Option Held → CommandForm → Type 0
 LacksInitial told (Analyzes program initial max mode) = ¬ HoldsName told initial
 LacksInitial told (Checks program initial report mode maps) = ¬ HoldsName told initial
 LacksInitial told (Demos number) = ⊥
+LacksInitial told (Joins program initial max mode) = ¬ HoldsName told initial
 
 abbrev pub LacksReport : Option Held → CommandForm → Type 0
 LacksReport told (Analyzes program initial max mode) = ⊥
 LacksReport told (Checks program initial report mode maps) = ¬ HoldsName told report
 LacksReport told (Demos number) = ⊥
+LacksReport told (Joins program initial max mode) = ⊥
 
 -- the first file that means nothing isn't there: an operand, or a file that PROGRAM includes and that is come
 -- to before any refusal
@@ -99,9 +105,11 @@ HoldsFiles told (Analyzes program initial max mode) = (¬ LacksFile told program
 HoldsFiles told (Checks program initial report mode maps) =
     (¬ LacksFile told program) × HoldsName told initial × HoldsName told report
 HoldsFiles told (Demos number) = Unit {0}
+HoldsFiles told (Joins program initial max mode) = (¬ LacksFile told program) × HoldsName told initial
 
 -- it is told what the files of the command hold; a demo has none
 abbrev pub IsTold : Option Held → CommandForm → Type 0
 IsTold told (Analyzes program initial max mode) = IsSome told
 IsTold told (Checks program initial report mode maps) = IsSome told
 IsTold told (Demos number) = Unit {0}
+IsTold told (Joins program initial max mode) = IsSome told

@@ -7,14 +7,14 @@ use Rattle.tv_model.specs.Valid.{IsValid}
 use Rattle.tv_model.specs.declared.program.Mode.{Mode}
 use Rattle.tv_status.specs.declared.status.Status.{Status}
 use Rattle.tv_status.specs.declared.status.Status.TheVariants.{Done, Rejected}
-use Rattle.tv_struct.specs.StructureForm.{StructureForm, IsOver}
-use Rattle.tv_top.specs.Answers.{Reached, IsAccepted, IsAcceptedText, case_for, rejected_line}
+use Rattle.tv_struct.specs.StructureForm.{IsOver}
+use Rattle.tv_top.specs.Answers.{Reached, InRound, IsAccepted, IsAcceptedText, case_for, rejected_line}
 use Rattle.tv_top.specs.Meaning.{Task}
 use Rattle.tv_top.specs.declared.fault.Fault.{Fault}
 use Rattle.tv_top.specs.declared.fault.Fault.TheVariants as fault
 use Rattle.tv_top.specs.declared.inputs.Inputs.{Inputs}
 use Rattle.tv_transfer.specs.Budgets.{MeetsSplits, MeetsIndividuals}
-use Rattle.tv_words.specs.Words.{CommandForm, Analyzes, Checks, Demos}
+use Rattle.tv_words.specs.Words.{CommandForm, Analyzes, Checks, Demos, Joins}
 use Rattle.tv_work.specs.Analysed.{Meets}
 use Rattle.tv_work.specs.Reach.{AreMoreThan}
 
@@ -23,12 +23,14 @@ abbrev pub Names : CommandForm → (program initial : List ℕ) → Type 0
 Names (Analyzes program initial max mode) p i = (program ≡ p) × (initial ≡ i)
 Names (Checks program initial report mode maps) p i = (program ≡ p) × (initial ≡ i)
 Names (Demos number) p i = ⊥
+Names (Joins program initial max mode) p i = (program ≡ p) × (initial ≡ i)
 
 -- the numbers of a command are within their limits
 abbrev pub IsBounded : CommandForm → Type 0
 IsBounded (Analyzes program initial max mode) = max ≤ 100000
 IsBounded (Checks program initial report mode maps) = Unit {0}
 IsBounded (Demos number) = (1 ≤ number) × (number ≤ 16)
+IsBounded (Joins program initial max mode) = max ≤ 100000
 
 abbrev pub task_of : Inputs → Mode → Task
 task_of inputs mode = record { program = inputs.program; initial = inputs.initial; mode = mode }
@@ -48,6 +50,17 @@ IsSearchCause task max fault.TooManyIndividuals =
     Meets (program_of task.program) (MeetsIndividuals (program_of task.program)) (Reached task)
 IsSearchCause task max fault.Memory = Unit {0}
 IsSearchCause task max other = ⊥
+
+-- why a joined analysis finds nothing
+abbrev pub IsJoinSearchCause : Task → (max : ℕ) → Fault → Type 0
+IsJoinSearchCause task max (fault.Structures more) =
+    (more ≡ max) × ((round : ℕ) × AreMoreThan max (InRound task round))
+IsJoinSearchCause task max fault.TooManySplits = (round : ℕ)
+    × Meets (program_of task.program) (MeetsSplits (program_of task.program)) (InRound task round)
+IsJoinSearchCause task max fault.TooManyIndividuals = (round : ℕ)
+    × Meets (program_of task.program) (MeetsIndividuals (program_of task.program)) (InRound task round)
+IsJoinSearchCause task max fault.Memory = Unit {0}
+IsJoinSearchCause task max other = ⊥
 
 -- what a judgement says, and its text
 abbrev pub IsJudged : Task → Analysis → (maps : Bool) → Status → List ℕ → Type 0

@@ -6,14 +6,15 @@ ghost use Rattle.tv_listing.specs.Listed.{IsListing};
 ghost use Rattle.tv_listing.specs.declared.analysis.Rejection.TheVariants as rejection;
 ghost use Rattle.tv_model.specs.Program.{program_of};
 ghost use Rattle.tv_model.specs.Valid.{IsValid};
-ghost use Rattle.tv_top.specs.Answers.{IsFound, IsAcceptedText, accepted_text, rejected_item, rejected_line, demo_line};
+ghost use Rattle.tv_top.specs.Answers.{IsFound, IsJoinFound, IsAcceptedText, accepted_text, rejected_item, rejected_line, demo_line};
 ghost use Rattle.tv_top.specs.Delivery.{SaidOf};
-ghost use Rattle.tv_top.specs.Work.{IsReady, IsSearchCause, IsJudged, IsJudgementCause, task_of};
+ghost use Rattle.tv_top.specs.Work.{IsReady, IsSearchCause, IsJoinSearchCause, IsJudged, IsJudgementCause, task_of};
 
-use crate::fault::{Answer, Fault, fault_of_work};
+use crate::fault::{Answer, Fault, fault_of_join, fault_of_work};
 use crate::inputs::Inputs;
 use itoa::Buffer;
 use std::alloc::{AllocError, Global};
+use tv_join::analyse_joined;
 use tv_judge::{Verdict, judge};
 use tv_listing::{Analysis, Listing, MapLines, Rejection};
 use tv_model::{Mode, Program};
@@ -31,6 +32,24 @@ pub fn search(alloc: Global, inputs: &Inputs, mode: Mode, max: u64) -> Result<An
     match analyse(alloc, &inputs.program, &inputs.initial, mode, max) {
         Ok(found) => Ok(found),
         Err(error) => Err(fault_of_work(error, max)),
+    }
+}
+
+/// What the joined analysis lists from the inputs, at most `max` structures.
+pub fn search_joined(
+    alloc: Global,
+    inputs: &Inputs,
+    mode: Mode,
+    max: u64,
+) -> Result<Analysis, Fault>
+    requires ready { IsReady inputs.now }
+    requires bounded { max ≤ 100000 }
+    ensures found { IfOk result (IsJoinFound (task_of inputs.now mode) max) }
+    ensures cause { IfErr result (IsJoinSearchCause (task_of inputs.now mode) max) }
+{
+    match analyse_joined(alloc, &inputs.program, &inputs.initial, mode, max) {
+        Ok(found) => Ok(found),
+        Err(error) => Err(fault_of_join(error, max)),
     }
 }
 

@@ -2,10 +2,11 @@
 
 ghost use Rattle.std.specs.Prelude.{◌≡◌};
 ghost use Rattle.tv_top.specs.Delivery.{status_of};
-ghost use Rattle.tv_top.specs.Faults.{fault_of_work, fault_of_stage, fault_of_text};
+ghost use Rattle.tv_top.specs.Faults.{fault_of_work, fault_of_join, fault_of_stage, fault_of_text};
 ghost use Rattle.tv_top.specs.declared.fault.Fault.TheVariants.{Memory};
 
 use std::alloc::AllocError;
+use tv_join::JoinError;
 use tv_listing::Rejection;
 use tv_status::{FileKind, Role, Status};
 use tv_struct::StageError;
@@ -28,7 +29,7 @@ pub enum Fault {
     Usage,
     /// A file means nothing.
     FileFault(Role, FileKind),
-    /// More than so many structures are reached.
+    /// There are more than so many structures.
     Structures(u64),
     /// A step splits a structure too often.
     TooManySplits,
@@ -73,6 +74,18 @@ pub fn fault_of_work(error: WorkError, max: u64) -> Fault
         WorkError::Splits => Fault::TooManySplits,
         WorkError::Individuals => Fault::TooManyIndividuals,
         WorkError::Memory => Fault::Memory,
+    }
+}
+
+/// The fault of a joined analysis that may list so many structures.
+pub fn fault_of_join(error: JoinError, max: u64) -> Fault
+    ensures { result ≡ fault_of_join max error }
+{
+    match error {
+        JoinError::Structures => Fault::Structures(max),
+        JoinError::Splits => Fault::TooManySplits,
+        JoinError::Individuals => Fault::TooManyIndividuals,
+        JoinError::Memory => Fault::Memory,
     }
 }
 

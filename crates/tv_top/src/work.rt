@@ -8,9 +8,9 @@ ghost use Rattle.tv_top.specs.Call.{IsAnswerTo, IsCause, IsCommandCause};
 ghost use Rattle.tv_top.specs.Delivery.{SaidOf};
 ghost use Rattle.tv_top.specs.Meaning.{FilesMean};
 ghost use Rattle.tv_top.specs.Work.{IsBounded, IsReady, UnlessReadFault, task_of};
-ghost use Rattle.tv_words.specs.Words.{words_of, SpellsNothing, Analyzes, Checks, Demos, form_of};
+ghost use Rattle.tv_words.specs.Words.{words_of, SpellsNothing, Analyzes, Checks, Demos, Joins, form_of};
 
-use crate::answers::{demo_line, judgement, search};
+use crate::answers::{demo_line, judgement, search, search_joined};
 use crate::fault::{Answer, Fault};
 use crate::inputs::{Inputs, load_inputs};
 use crate::laws::commands_are_bounded;
@@ -105,6 +105,32 @@ fn demo(alloc: Global, number: u64) -> Result<Answer, Fault>
     Ok(Answer::Done(text))
 }
 
+/// The report of what the joined analysis lists from the two named files.
+#[tactic(auto, using(crate::proofs::Causes::holds_unless))]
+fn join<F: Files>(
+    alloc: Global,
+    files: &mut F,
+    program: &str,
+    initial: &str,
+    max: u64,
+    mode: Mode,
+) -> Result<Answer, Fault>
+    requires { max ≤ 100000 }
+    ensures found { IfOk result (SaidOf (IsAnswer (F.holds files.old)
+        (Joins program.now initial.now max mode))) }
+    ensures cause { IfErr result (IsCommandCause (F.holds files.old)
+        (Joins program.now initial.now max mode)
+        (Rose (F.faults files.old) (F.faults files.new)) (F.steady files.old)) }
+    ensures holds { F.holds files.new ≡ F.holds files.old }
+    ensures count { F.faults files.old ≤ F.faults files.new }
+    ensures steady { F.steady files.old → UnlessReadFault result (F.faults files.new ≡ F.faults files.old) }
+{
+    let inputs = load_inputs(alloc, files, program, initial)?;
+    let found = search_joined(alloc, &inputs, mode, max)?;
+    let text = write_report(alloc, &inputs.program, &found)?;
+    Ok(Answer::Done(text))
+}
+
 /// What the command gives.
 #[tactic(auto, using(crate::proofs::Causes::demo_cause, crate::proofs::Causes::holds_unless))]
 fn execute<F: Files>(alloc: Global, files: &mut F, command: &Command) -> Result<Answer, Fault>
@@ -131,6 +157,12 @@ fn execute<F: Files>(alloc: Global, files: &mut F, command: &Command) -> Result<
             maps,
         } => check(alloc, files, program, initial, report, *mode, *maps),
         Command::Demo { number } => demo(alloc, *number),
+        Command::Join {
+            program,
+            initial,
+            max,
+            mode,
+        } => join(alloc, files, program, initial, *max, *mode),
     }
 }
 

@@ -1,14 +1,14 @@
 -- From what `clap` found on a line to the command that it says, or to none.
-use Rattle.std.proofs.Common.{◌≡◌, ◌∙◌, ◌<◌, ◌≤◌, ◌^◌, ℕ, Bool, true, false, refl, sym, ap, ap₂, subst, arith, List, [], ◌∷◌, ◌++◌, min, inl, inr}
-use Rattle.std.specs.Prelude.{codes, drop, Option, Some, None, Result, Ok, Err, IfOk, IfSome}
+use Rattle.std.proofs.Common.{◌≡◌, ◌∙◌, ◌<◌, ◌≤◌, ◌^◌, ℕ, Bool, true, false, refl, sym, ap, ap₂, subst, arith, List, [], ◌∷◌, ◌++◌, min}
+use Rattle.std.specs.Prelude.{codes, drop, Option, Some, None, Result, Ok, Err, IfOk, IfSome, IfNone}
 use Rattle.std.specs.List.{slice_index_or}
 use Rattle.std.proofs.lemmas.Fmt.{decimal_injective}
 use Rattle.tv_model.specs.declared.program.Mode.{Mode}
 use Rattle.tv_model.specs.declared.program.Mode.TheVariants.{Given, Recompute}
 use Rattle.clap.specs.declared.parser.matches.ArgMatches.{ArgMatches}
-use Rattle.tv_words.specs.Line.{operands_of, uses_of, values_of}
-use Rattle.tv_words.specs.Setup.{HasLine, HasNoLine, texts_in, uses_in}
-use Rattle.tv_words.specs.Words.{AnalyzeLine, CheckLine, DemoLine, IsMax, IsNumberUpTo, recomputes, once, analyze_flags, analyze_settings, check_flags, CommandForm, Analyzes, Checks, Demos, IsAnalysis, IsCheck, IsDemo, NoAnalysis, NoCheck, NoDemo, Spells, form_of}
+use Rattle.tv_words.specs.Line.{Part, IsLine, is_among, operands_of, uses_of, values_of}
+use Rattle.tv_words.specs.Setup.{are_names, HasLine, HasNoLine, texts_in, uses_in}
+use Rattle.tv_words.specs.Words.{AnalyzeLine, CheckLine, DemoLine, JoinLine, IsMax, IsNumberUpTo, recomputes, once, analyze_flags, analyze_settings, check_flags, join_flags, join_settings, CommandForm, Analyzes, Checks, Demos, Joins, name_of, IsRest, IsNamed, NoneNamed, Spells, SpellsNothing, form_of}
 use Rattle.tv_words.specs.declared.words.Command.{Command}
 use Rattle.tv_words.proofs.Reading.{one_line}
 
@@ -27,23 +27,70 @@ once_few : (it : Bool) → once it ≤ 1
 once_few true = omega arith
 once_few false = omega arith
 
--- ---- no line, no command
+-- ---- two names differ
 
-pub no_analysis_without_line : (words : List (List ℕ)) → HasNoLine analyze_flags analyze_settings words
-    → NoAnalysis words
-no_analysis_without_line words none (Analyzes program initial max mode) a = none a.parts a.behind a.line
-no_analysis_without_line words none (Checks program initial report mode maps) a = a
-no_analysis_without_line words none (Demos number) a = a
+abbrev first_byte : List ℕ → ℕ
+first_byte word = slice_index_or word 0 0
 
-pub no_check_without_line : (words : List (List ℕ)) → HasNoLine check_flags [] words → NoCheck words
-no_check_without_line words none (Analyzes program initial max mode) a = a
-no_check_without_line words none (Checks program initial report mode maps) a = none a.parts a.behind a.line
-no_check_without_line words none (Demos number) a = a
+-- no command with this name: none of the command that has it, and the others have other names
+pub none_analyzes : (words : List (List ℕ))
+    → ((program initial : List ℕ) (max : ℕ) (mode : Mode) → ¬ AnalyzeLine words program initial max mode)
+    → NoneNamed (codes "analyze") words
+none_analyzes words none (Analyzes program initial max mode) h = none program initial max mode h.1
+none_analyzes words none (Checks program initial report mode maps) h = let n = ap first_byte h.0 in absurd (omega (arith, n))
+none_analyzes words none (Demos number) h = let n = ap first_byte h.0 in absurd (omega (arith, n))
+none_analyzes words none (Joins program initial max mode) h = let n = ap first_byte h.0 in absurd (omega (arith, n))
 
-pub no_demo_without_line : (words : List (List ℕ)) → HasNoLine [] [] words → NoDemo words
-no_demo_without_line words none (Analyzes program initial max mode) a = a
-no_demo_without_line words none (Checks program initial report mode maps) a = a
-no_demo_without_line words none (Demos number) a = none a.parts a.behind a.line
+pub none_checks : (words : List (List ℕ))
+    → ((program initial report : List ℕ) (mode : Mode) (maps : Bool) → ¬ CheckLine words program initial report mode maps)
+    → NoneNamed (codes "check") words
+none_checks words none (Analyzes program initial max mode) h = let n = ap first_byte h.0 in absurd (omega (arith, n))
+none_checks words none (Checks program initial report mode maps) h = none program initial report mode maps h.1
+none_checks words none (Demos number) h = let n = ap first_byte h.0 in absurd (omega (arith, n))
+none_checks words none (Joins program initial max mode) h = let n = ap first_byte h.0 in absurd (omega (arith, n))
+
+pub none_demos : (words : List (List ℕ)) → ((number : ℕ) → ¬ DemoLine words number) → NoneNamed (codes "demo") words
+none_demos words none (Analyzes program initial max mode) h = let n = ap first_byte h.0 in absurd (omega (arith, n))
+none_demos words none (Checks program initial report mode maps) h = let n = ap first_byte h.0 in absurd (omega (arith, n))
+none_demos words none (Demos number) h = none number h.1
+none_demos words none (Joins program initial max mode) h = let n = ap first_byte h.0 in absurd (omega (arith, n))
+
+pub none_joins : (words : List (List ℕ))
+    → ((program initial : List ℕ) (max : ℕ) (mode : Mode) → ¬ JoinLine words program initial max mode)
+    → NoneNamed (codes "join") words
+none_joins words none (Analyzes program initial max mode) h = let n = ap first_byte h.0 in absurd (omega (arith, n))
+none_joins words none (Checks program initial report mode maps) h = let n = ap first_byte h.0 in absurd (omega (arith, n))
+none_joins words none (Demos number) h = let n = ap first_byte h.0 in absurd (omega (arith, n))
+none_joins words none (Joins program initial max mode) h = none program initial max mode h.1
+
+-- ---- a line, of which `clap` found all
+
+module _ (flags settings : List (List ℕ)) (fit : are_names flags settings ≡ true) (words : List (List ℕ))
+    (m : ArgMatches) (h : HasLine flags settings words m)
+  where
+    -- the line's parts, however the words are taken
+    same_parts : (parts : List Part) (behind : List (List ℕ)) → IsLine flags settings parts behind words
+        → (parts ≡ h.parts) × (behind ≡ h.behind)
+    same_parts parts behind line = one_line flags settings fit words parts h.parts behind h.behind line h.line
+
+    same_operands : (parts : List Part) (behind : List (List ℕ)) → IsLine flags settings parts behind words
+        → texts_in m (codes "operands") ≡ operands_of parts ++ behind
+    same_operands parts behind line =
+        let same = same_parts parts behind line in
+        h.finds.operands ∙ sym (ap₂ (λ ps bs. operands_of ps ++ bs) same.0 same.1)
+
+    same_values : (setting : List ℕ) → is_among settings setting ≡ true → (parts : List Part)
+        (behind : List (List ℕ)) → IsLine flags settings parts behind words
+        → values_of setting parts ≡ texts_in m setting
+    same_values setting known parts behind line =
+        ap (values_of setting) (same_parts parts behind line).0 ∙ sym (h.finds.values setting known)
+
+    -- a flag that stands twice can't stand once at most
+    not_twice : (flag : List ℕ) (n : ℕ) → is_among flags flag ≡ true → n ≤ 1 → 2 ≤ uses_in m flag
+        → (parts : List Part) (behind : List (List ℕ)) → IsLine flags settings parts behind words
+        → uses_of flag parts ≡ n → ⊥
+    not_twice flag n known few many parts behind line e =
+        many_uses _ _ _ (h.finds.uses flag known) many few (ap (uses_of flag) (sym (same_parts parts behind line).0) ∙ e)
 
 -- ---- `analyze`
 
@@ -61,35 +108,25 @@ module _ (words : List (List ℕ)) (m : ArgMatches) (h : HasLine analyze_flags a
     max_is = subst (λ vs. IsMax vs max) (h.finds.values (codes "max-structures") refl) values;
   }
 
-  analysis_parts : (program initial : List ℕ) (max : ℕ) (mode : Mode)
-      (a : AnalyzeLine words program initial max mode) → (a.parts ≡ h.parts) × (a.behind ≡ h.behind)
-  analysis_parts program initial max mode a = one_line analyze_flags analyze_settings refl words a.parts
-      h.parts a.behind h.behind a.line h.line
-
   pub no_analysis_by_operands : ((a b : List ℕ) → texts_in m (codes "operands") ≡ a ∷ b ∷ [] → ⊥)
-      → NoAnalysis words
-  no_analysis_by_operands other (Analyzes program initial max mode) a =
-      let same = analysis_parts program initial max mode a in
-      other program initial (h.finds.operands ∙ sym (ap₂ (λ ps bs. operands_of ps ++ bs) same.0 same.1)
-      ∙ a.operands)
-  no_analysis_by_operands other (Checks program initial report mode maps) a = a
-  no_analysis_by_operands other (Demos number) a = a
+      → NoneNamed (codes "analyze") words
+  no_analysis_by_operands other = none_analyzes words (λ program initial max mode a. other program initial
+      (same_operands analyze_flags analyze_settings refl words m h a.parts a.behind a.line ∙ a.operands))
 
-  pub no_analysis_by_uses : 2 ≤ uses_in m (codes "recompute") → NoAnalysis words
-  no_analysis_by_uses many (Analyzes program initial max mode) a =
-      let same = analysis_parts program initial max mode a in
-      many_uses _ _ _ (h.finds.uses (codes "recompute") refl) many (recomputes_few mode)
-      (ap (uses_of (codes "recompute")) (sym same.0) ∙ a.mode_is)
-  no_analysis_by_uses many (Checks program initial report mode maps) a = a
-  no_analysis_by_uses many (Demos number) a = a
+  pub no_analysis_by_uses : 2 ≤ uses_in m (codes "recompute") → NoneNamed (codes "analyze") words
+  no_analysis_by_uses many = none_analyzes words (λ program initial max mode a.
+      not_twice analyze_flags analyze_settings refl words m h (codes "recompute") (recomputes mode) refl
+      (recomputes_few mode) many a.parts a.behind a.line a.mode_is)
 
-  pub no_analysis_by_values : ((n : ℕ) → IsMax (texts_in m (codes "max-structures")) n → ⊥) → NoAnalysis words
-  no_analysis_by_values other (Analyzes program initial max mode) a =
-      let same = analysis_parts program initial max mode a in
-      other max (subst (λ vs. IsMax vs max) (ap (values_of (codes "max-structures")) same.0
-      ∙ sym (h.finds.values (codes "max-structures") refl)) a.max_is)
-  no_analysis_by_values other (Checks program initial report mode maps) a = a
-  no_analysis_by_values other (Demos number) a = a
+  pub no_analysis_by_values : ((n : ℕ) → IsMax (texts_in m (codes "max-structures")) n → ⊥)
+      → NoneNamed (codes "analyze") words
+  no_analysis_by_values other = none_analyzes words (λ program initial max mode a. other max
+      (subst (λ vs. IsMax vs max)
+      (same_values analyze_flags analyze_settings refl words m h (codes "max-structures") refl a.parts a.behind a.line) a.max_is))
+
+pub no_analysis_without_line : (words : List (List ℕ)) → HasNoLine analyze_flags analyze_settings words
+    → NoneNamed (codes "analyze") words
+no_analysis_without_line words none = none_analyzes words (λ program initial max mode a. none a.parts a.behind a.line)
 
 -- ---- `check`
 
@@ -109,35 +146,23 @@ module _ (words : List (List ℕ)) (m : ArgMatches) (h : HasLine check_flags [] 
     maps_is = few_uses _ _ _ (h.finds.uses (codes "maps") refl) also (once_few maps);
   }
 
-  check_parts : (program initial report : List ℕ) (mode : Mode) (maps : Bool)
-      (a : CheckLine words program initial report mode maps) → (a.parts ≡ h.parts) × (a.behind ≡ h.behind)
-  check_parts program initial report mode maps a = one_line check_flags [] refl words a.parts h.parts a.behind
-      h.behind a.line h.line
+  pub no_check_by_operands : ((a b d : List ℕ) → texts_in m (codes "operands") ≡ a ∷ b ∷ d ∷ [] → ⊥)
+      → NoneNamed (codes "check") words
+  no_check_by_operands other = none_checks words (λ program initial report mode maps a. other program initial report
+      (same_operands check_flags [] refl words m h a.parts a.behind a.line ∙ a.operands))
 
-  pub no_check_by_operands : ((a b c : List ℕ) → texts_in m (codes "operands") ≡ a ∷ b ∷ c ∷ [] → ⊥)
-      → NoCheck words
-  no_check_by_operands other (Checks program initial report mode maps) a =
-      let same = check_parts program initial report mode maps a in
-      other program initial report (h.finds.operands ∙ sym (ap₂ (λ ps bs. operands_of ps ++ bs) same.0 same.1)
-      ∙ a.operands)
-  no_check_by_operands other (Analyzes program initial max mode) a = a
-  no_check_by_operands other (Demos number) a = a
+  pub no_check_by_uses : 2 ≤ uses_in m (codes "recompute") → NoneNamed (codes "check") words
+  no_check_by_uses many = none_checks words (λ program initial report mode maps a.
+      not_twice check_flags [] refl words m h (codes "recompute") (recomputes mode) refl
+      (recomputes_few mode) many a.parts a.behind a.line a.mode_is)
 
-  pub no_check_by_uses : 2 ≤ uses_in m (codes "recompute") → NoCheck words
-  no_check_by_uses many (Checks program initial report mode maps) a =
-      let same = check_parts program initial report mode maps a in
-      many_uses _ _ _ (h.finds.uses (codes "recompute") refl) many (recomputes_few mode)
-      (ap (uses_of (codes "recompute")) (sym same.0) ∙ a.mode_is)
-  no_check_by_uses many (Analyzes program initial max mode) a = a
-  no_check_by_uses many (Demos number) a = a
+  pub no_check_by_maps : 2 ≤ uses_in m (codes "maps") → NoneNamed (codes "check") words
+  no_check_by_maps many = none_checks words (λ program initial report mode maps a.
+      not_twice check_flags [] refl words m h (codes "maps") (once maps) refl
+      (once_few maps) many a.parts a.behind a.line a.maps_is)
 
-  pub no_check_by_maps : 2 ≤ uses_in m (codes "maps") → NoCheck words
-  no_check_by_maps many (Checks program initial report mode maps) a =
-      let same = check_parts program initial report mode maps a in
-      many_uses _ _ _ (h.finds.uses (codes "maps") refl) many (once_few maps)
-      (ap (uses_of (codes "maps")) (sym same.0) ∙ a.maps_is)
-  no_check_by_maps many (Analyzes program initial max mode) a = a
-  no_check_by_maps many (Demos number) a = a
+pub no_check_without_line : (words : List (List ℕ)) → HasNoLine check_flags [] words → NoneNamed (codes "check") words
+no_check_without_line words none = none_checks words (λ program initial report mode maps a. none a.parts a.behind a.line)
 
 -- ---- `demo`
 
@@ -154,34 +179,89 @@ module _ (words : List (List ℕ)) (m : ArgMatches) (h : HasLine [] [] words m) 
   }
 
   demo_operands : (number : ℕ) (a : DemoLine words number) → texts_in m (codes "operands") ≡ a.word ∷ []
-  demo_operands number a =
-      let same = one_line [] [] refl words a.parts h.parts a.behind h.behind a.line h.line in
-      h.finds.operands ∙ sym (ap₂ (λ ps bs. operands_of ps ++ bs) same.0 same.1) ∙ a.operands
+  demo_operands number a = same_operands [] [] refl words m h a.parts a.behind a.line ∙ a.operands
 
-  pub no_demo_by_operands : ((a : List ℕ) → texts_in m (codes "operands") ≡ a ∷ [] → ⊥) → NoDemo words
-  no_demo_by_operands other (Demos number) a = other a.word (demo_operands number a)
-  no_demo_by_operands other (Analyzes program initial max mode) a = a
-  no_demo_by_operands other (Checks program initial report mode maps) a = a
+  pub no_demo_by_operands : ((a : List ℕ) → texts_in m (codes "operands") ≡ a ∷ [] → ⊥)
+      → NoneNamed (codes "demo") words
+  no_demo_by_operands other = none_demos words (λ number a. other a.word (demo_operands number a))
 
   pub no_demo_by_number : (word : List ℕ) → texts_in m (codes "operands") ≡ word ∷ []
-      → ((n : ℕ) → IsNumberUpTo 16 word n → ⊥) → NoDemo words
-  no_demo_by_number word operands other (Demos number) a =
+      → ((n : ℕ) → IsNumberUpTo 16 word n → ⊥) → NoneNamed (codes "demo") words
+  no_demo_by_number word operands other = none_demos words (λ number a.
       let both : word ∷ [] ≡ a.word ∷ [] = sym operands ∙ demo_operands number a in
       let same : word ≡ a.word = cc in
-      other number (subst (λ w. IsNumberUpTo 16 w number) (sym same) a.number_is)
-  no_demo_by_number word operands other (Analyzes program initial max mode) a = a
-  no_demo_by_number word operands other (Checks program initial report mode maps) a = a
+      other number (subst (λ w. IsNumberUpTo 16 w number) (sym same) a.number_is))
+
+pub no_demo_without_line : (words : List (List ℕ)) → HasNoLine [] [] words → NoneNamed (codes "demo") words
+no_demo_without_line words none = none_demos words (λ number a. none a.parts a.behind a.line)
+
+-- ---- `join`
+
+module _ (words : List (List ℕ)) (m : ArgMatches) (h : HasLine join_flags join_settings words m) where
+  pub joining : (program initial a b : List ℕ) (max : ℕ) (mode : Mode) → texts_in m (codes "operands")
+      ≡ a ∷ b ∷ [] → program ≡ a → initial ≡ b
+      → uses_in m (codes "recompute") ≡ recomputes mode → IsMax (texts_in m (codes "max-structures")) max
+      → JoinLine words program initial max mode
+  joining program initial a b max mode operands is_a is_b uses values = record {
+    parts = h.parts;
+    behind = h.behind;
+    line = h.line;
+    operands = sym h.finds.operands ∙ operands ∙ ap₂ (λ p i. p ∷ i ∷ []) (sym is_a) (sym is_b);
+    mode_is = few_uses _ _ _ (h.finds.uses (codes "recompute") refl) uses (recomputes_few mode);
+    max_is = subst (λ vs. IsMax vs max) (h.finds.values (codes "max-structures") refl) values;
+  }
+
+  pub no_join_by_operands : ((a b : List ℕ) → texts_in m (codes "operands") ≡ a ∷ b ∷ [] → ⊥)
+      → NoneNamed (codes "join") words
+  no_join_by_operands other = none_joins words (λ program initial max mode a. other program initial
+      (same_operands join_flags join_settings refl words m h a.parts a.behind a.line ∙ a.operands))
+
+  pub no_join_by_uses : 2 ≤ uses_in m (codes "recompute") → NoneNamed (codes "join") words
+  no_join_by_uses many = none_joins words (λ program initial max mode a.
+      not_twice join_flags join_settings refl words m h (codes "recompute") (recomputes mode) refl
+      (recomputes_few mode) many a.parts a.behind a.line a.mode_is)
+
+  pub no_join_by_values : ((n : ℕ) → IsMax (texts_in m (codes "max-structures")) n → ⊥)
+      → NoneNamed (codes "join") words
+  no_join_by_values other = none_joins words (λ program initial max mode a. other max
+      (subst (λ vs. IsMax vs max)
+      (same_values join_flags join_settings refl words m h (codes "max-structures") refl a.parts a.behind a.line) a.max_is))
+
+pub no_join_without_line : (words : List (List ℕ)) → HasNoLine join_flags join_settings words
+    → NoneNamed (codes "join") words
+no_join_without_line words none = none_joins words (λ program initial max mode a. none a.parts a.behind a.line)
 
 -- ---- the whole words
 
 -- what is said of the command behind its name is said of the whole words
-pub spelled : {E : Type 0} (P Q : CommandForm → Type 0) → ((command : CommandForm) → P command → Q command)
+spelled : {E : Type 0} (P Q : CommandForm → Type 0) → ((command : CommandForm) → P command → Q command)
     → (r : Result (Option Command) E)
     → IfOk r (λ found. IfSome found (λ command. P (form_of command)))
     → IfOk r (λ found. IfSome found (λ command. Q (form_of command)))
 spelled P Q f (Ok (Some command)) h = f (form_of command) h
 spelled P Q f (Ok None) h = h
 spelled P Q f (Err e) h = h
+
+-- where the words behind the name say no command, the whole words spell none
+spells_nothing : (name : List ℕ) (words rest : List (List ℕ)) → words ≡ name ∷ rest → NoneNamed name rest
+    → SpellsNothing words
+spells_nothing name words rest e none command (rest', f, h) =
+    let both : name ∷ rest ≡ name_of command ∷ rest' = sym e ∙ f in
+    let named : name_of command ≡ name = sym (ap (λ ws. slice_index_or ws 0 []) both) in
+    none command (named, subst (λ ws. IsRest ws command) (sym (ap (drop 1) both)) h)
+
+pub named_spelled : {E : Type 0} (name : List ℕ) (words rest : List (List ℕ)) (r : Result (Option Command) E)
+    → words ≡ name ∷ rest → IfOk r (λ found. IfSome found (λ command. IsNamed name rest (form_of command)))
+    → IfOk r (λ found. IfSome found (λ command. Spells words (form_of command)))
+named_spelled name words rest r e h = spelled (IsNamed name rest) (Spells words)
+    (λ command h. (rest, e ∙ ap (λ n. n ∷ rest) (sym h.0), h.1)) r h
+
+pub named_unspelled : {E : Type 0} (name : List ℕ) (words rest : List (List ℕ)) (r : Result (Option Command) E)
+    → words ≡ name ∷ rest → IfOk r (λ found. IfNone found (NoneNamed name rest))
+    → IfOk r (λ found. IfNone found (SpellsNothing words))
+named_unspelled name words rest (Ok (Some command)) e h = h
+named_unspelled name words rest (Ok None) e h = spells_nothing name words rest e h
+named_unspelled name words rest (Err f) e h = h
 
 -- ---- the words spell one command at most
 
@@ -207,8 +287,9 @@ one_max [] a b is also = is ∙ sym also
 one_max (value ∷ []) a b is also = one_number 100000 value a b (omega arith) is also
 one_max (value ∷ second ∷ rest) a b is also = absurd is
 
-one_analysis : (words : List (List ℕ)) (a b : CommandForm) → IsAnalysis words a → IsAnalysis words b → a ≡ b
-one_analysis words (Analyzes program initial max mode) (Analyzes program' initial' max' mode') a b =
+-- the words behind one name say one command
+one_rest : (words : List (List ℕ)) (a b : CommandForm) → name_of a ≡ name_of b → IsRest words a → IsRest words b → a ≡ b
+one_rest words (Analyzes program initial max mode) (Analyzes program' initial' max' mode') named a b =
     let same = one_line analyze_flags analyze_settings refl words a.parts b.parts a.behind b.behind a.line
     b.line in
     let names : program ∷ initial ∷ [] ≡ program' ∷ initial' ∷ [] = sym a.operands
@@ -220,14 +301,11 @@ one_analysis words (Analyzes program initial max mode) (Analyzes program' initia
     let maxes : max ≡ max' = one_max (values_of (codes "max-structures") b.parts) max max'
     (subst (λ ps. IsMax (values_of (codes "max-structures") ps) max) same.0 a.max_is) b.max_is in
     λ i. Analyzes (first i) (second i) (maxes i) (modes i)
-one_analysis words (Analyzes program initial max mode) (Checks program' initial' report' mode' maps') a b =
-    absurd b
-one_analysis words (Analyzes program initial max mode) (Demos number') a b = absurd b
-one_analysis words (Checks program initial report mode maps) other a b = absurd a
-one_analysis words (Demos number) other a b = absurd a
-
-one_check : (words : List (List ℕ)) (a b : CommandForm) → IsCheck words a → IsCheck words b → a ≡ b
-one_check words (Checks program initial report mode maps) (Checks program' initial' report' mode' maps') a b =
+one_rest words (Analyzes program initial max mode) (Checks program' initial' report' mode' maps') named a b = let n = ap first_byte named in absurd (omega (arith, n))
+one_rest words (Analyzes program initial max mode) (Demos number') named a b = let n = ap first_byte named in absurd (omega (arith, n))
+one_rest words (Analyzes program initial max mode) (Joins program' initial' max' mode') named a b = let n = ap first_byte named in absurd (omega (arith, n))
+one_rest words (Checks program initial report mode maps) (Analyzes program' initial' max' mode') named a b = let n = ap first_byte named in absurd (omega (arith, n))
+one_rest words (Checks program initial report mode maps) (Checks program' initial' report' mode' maps') named a b =
     let same = one_line check_flags [] refl words a.parts b.parts a.behind b.behind a.line b.line in
     let names : program ∷ initial ∷ report ∷ [] ≡ program' ∷ initial' ∷ report' ∷ [] = sym a.operands
     ∙ ap₂ (λ ps bs. operands_of ps ++ bs) same.0 same.1 ∙ b.operands in
@@ -239,51 +317,37 @@ one_check words (Checks program initial report mode maps) (Checks program' initi
     let both : maps ≡ maps' = one_bool maps maps' (sym a.maps_is ∙ ap (uses_of (codes "maps")) same.0
     ∙ b.maps_is) in
     λ i. Checks (first i) (second i) (third i) (modes i) (both i)
-one_check words (Checks program initial report mode maps) (Analyzes program' initial' max' mode') a b =
-    absurd b
-one_check words (Checks program initial report mode maps) (Demos number') a b = absurd b
-one_check words (Analyzes program initial max mode) other a b = absurd a
-one_check words (Demos number) other a b = absurd a
-
-one_demo : (words : List (List ℕ)) (a b : CommandForm) → IsDemo words a → IsDemo words b → a ≡ b
-one_demo words (Demos number) (Demos number') a b =
+one_rest words (Checks program initial report mode maps) (Demos number') named a b = let n = ap first_byte named in absurd (omega (arith, n))
+one_rest words (Checks program initial report mode maps) (Joins program' initial' max' mode') named a b = let n = ap first_byte named in absurd (omega (arith, n))
+one_rest words (Demos number) (Analyzes program' initial' max' mode') named a b = let n = ap first_byte named in absurd (omega (arith, n))
+one_rest words (Demos number) (Checks program' initial' report' mode' maps') named a b = let n = ap first_byte named in absurd (omega (arith, n))
+one_rest words (Demos number) (Demos number') named a b =
     let same = one_line [] [] refl words a.parts b.parts a.behind b.behind a.line b.line in
     let names : a.word ∷ [] ≡ b.word ∷ [] = sym a.operands ∙ ap₂ (λ ps bs. operands_of ps ++ bs) same.0 same.1
     ∙ b.operands in
     let word : a.word ≡ b.word = ap (λ ws. slice_index_or ws 0 []) names in
     ap Demos (one_number 16 b.word number number' (omega arith) (subst (λ w. IsNumberUpTo 16 w number) word
     a.number_is) b.number_is)
-one_demo words (Demos number) (Analyzes program' initial' max' mode') a b = absurd b
-one_demo words (Demos number) (Checks program' initial' report' mode' maps') a b = absurd b
-one_demo words (Analyzes program initial max mode) other a b = absurd a
-one_demo words (Checks program initial report mode maps) other a b = absurd a
-
--- the words behind the same name, and two names that differ
-tails : (name other : List ℕ) (words rest rest' : List (List ℕ)) → words ≡ name ∷ rest → words ≡ other ∷ rest'
-    → (name ≡ other) × (rest ≡ rest')
-tails name other words rest rest' a b =
-    let both : name ∷ rest ≡ other ∷ rest' = sym a ∙ b in
-    (ap (λ ws. slice_index_or ws 0 []) both, ap (drop 1) both)
-
-abbrev first_byte : List ℕ → ℕ
-first_byte word = slice_index_or word 0 0
+one_rest words (Demos number) (Joins program' initial' max' mode') named a b = let n = ap first_byte named in absurd (omega (arith, n))
+one_rest words (Joins program initial max mode) (Analyzes program' initial' max' mode') named a b = let n = ap first_byte named in absurd (omega (arith, n))
+one_rest words (Joins program initial max mode) (Checks program' initial' report' mode' maps') named a b = let n = ap first_byte named in absurd (omega (arith, n))
+one_rest words (Joins program initial max mode) (Demos number') named a b = let n = ap first_byte named in absurd (omega (arith, n))
+one_rest words (Joins program initial max mode) (Joins program' initial' max' mode') named a b =
+    let same = one_line join_flags join_settings refl words a.parts b.parts a.behind b.behind a.line
+    b.line in
+    let names : program ∷ initial ∷ [] ≡ program' ∷ initial' ∷ [] = sym a.operands
+    ∙ ap₂ (λ ps bs. operands_of ps ++ bs) same.0 same.1 ∙ b.operands in
+    let first : program ≡ program' = ap (λ ws. slice_index_or ws 0 []) names in
+    let second : initial ≡ initial' = ap (λ ws. slice_index_or ws 1 []) names in
+    let modes : mode ≡ mode' = one_mode mode mode' (sym a.mode_is ∙ ap (uses_of (codes "recompute")) same.0
+    ∙ b.mode_is) in
+    let maxes : max ≡ max' = one_max (values_of (codes "max-structures") b.parts) max max'
+    (subst (λ ps. IsMax (values_of (codes "max-structures") ps) max) same.0 a.max_is) b.max_is in
+    λ i. Joins (first i) (second i) (maxes i) (modes i)
 
 pub one_spelled : (words : List (List ℕ)) (a b : CommandForm) → Spells words a → Spells words b → a ≡ b
-one_spelled words a b (rest, inl (e, h)) (rest', inl (f, k)) =
-    one_analysis rest' a b (subst (λ ws. IsAnalysis ws a) (tails _ _ words rest rest' e f).1 h) k
-one_spelled words a b (rest, inl (e, h)) (rest', inr (inl (f, k))) = let n =
-    ap first_byte (tails _ _ words rest rest' e f).0 in absurd (omega (arith, n))
-one_spelled words a b (rest, inl (e, h)) (rest', inr (inr (f, k))) = let n =
-    ap first_byte (tails _ _ words rest rest' e f).0 in absurd (omega (arith, n))
-one_spelled words a b (rest, inr (inl (e, h))) (rest', inl (f, k)) = let n =
-    ap first_byte (tails _ _ words rest rest' e f).0 in absurd (omega (arith, n))
-one_spelled words a b (rest, inr (inl (e, h))) (rest', inr (inl (f, k))) =
-    one_check rest' a b (subst (λ ws. IsCheck ws a) (tails _ _ words rest rest' e f).1 h) k
-one_spelled words a b (rest, inr (inl (e, h))) (rest', inr (inr (f, k))) = let n =
-    ap first_byte (tails _ _ words rest rest' e f).0 in absurd (omega (arith, n))
-one_spelled words a b (rest, inr (inr (e, h))) (rest', inl (f, k)) = let n =
-    ap first_byte (tails _ _ words rest rest' e f).0 in absurd (omega (arith, n))
-one_spelled words a b (rest, inr (inr (e, h))) (rest', inr (inl (f, k))) = let n =
-    ap first_byte (tails _ _ words rest rest' e f).0 in absurd (omega (arith, n))
-one_spelled words a b (rest, inr (inr (e, h))) (rest', inr (inr (f, k))) =
-    one_demo rest' a b (subst (λ ws. IsDemo ws a) (tails _ _ words rest rest' e f).1 h) k
+one_spelled words a b (rest, e, h) (rest', f, k) =
+    let both : name_of a ∷ rest ≡ name_of b ∷ rest' = sym e ∙ f in
+    let named : name_of a ≡ name_of b = ap (λ ws. slice_index_or ws 0 []) both in
+    let behind : rest ≡ rest' = ap (drop 1) both in
+    one_rest rest' a b named (subst (λ ws. IsRest ws a) behind h) k

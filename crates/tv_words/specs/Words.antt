@@ -1,11 +1,11 @@
 -- What the words of a call spell.
-use Rattle.std.specs.Prelude.{◌≡◌, ◌≤◌, ◌⊎◌, ℕ, Bool, true, false, List, [], ◌∷◌, ◌++◌, map, codes, decimal, string_bytes, String}
+use Rattle.std.specs.Prelude.{◌≡◌, ◌≤◌, ℕ, Bool, true, false, List, [], ◌∷◌, ◌++◌, map, codes, decimal, string_bytes, String}
 use Rattle.std.specs.declared.alloc.Global.{Global}
 use Rattle.tv_model.specs.declared.program.Mode.{Mode}
 use Rattle.tv_model.specs.declared.program.Mode.TheVariants.{Given, Recompute}
 use Rattle.tv_words.specs.Line.{Part, IsLine, operands_of, uses_of, values_of}
 use Rattle.tv_words.specs.declared.words.Command.{Command}
-use Rattle.tv_words.specs.declared.words.Command.TheVariants.{Analyze, Check, Demo}
+use Rattle.tv_words.specs.declared.words.Command.TheVariants.{Analyze, Check, Demo, Join}
 
 -- the bytes of the words
 abbrev pub words_of : List (String Global) → List (List ℕ)
@@ -41,6 +41,13 @@ analyze_settings = codes "max-structures" ∷ []
 abbrev pub check_flags : List (List ℕ)
 check_flags = codes "recompute" ∷ codes "maps" ∷ []
 
+-- those of `join`
+abbrev pub join_flags : List (List ℕ)
+join_flags = codes "recompute" ∷ []
+
+abbrev pub join_settings : List (List ℕ)
+join_settings = codes "max-structures" ∷ []
+
 -- what the words behind `analyze` say: two operands, at most one `--recompute` and one `--max-structures`
 pub record AnalyzeLine (words : List (List ℕ)) (program initial : List ℕ) (max : ℕ) (mode : Mode) :
     Type 0 where
@@ -70,52 +77,58 @@ pub record DemoLine (words : List (List ℕ)) (number : ℕ) : Type 0 where
   pub operands : operands_of parts ++ behind ≡ word ∷ []
   pub number_is : IsNumberUpTo 16 word number
 
+-- what the words behind `join` say: two operands, at most one `--recompute` and one `--max-structures`
+pub record JoinLine (words : List (List ℕ)) (program initial : List ℕ) (max : ℕ) (mode : Mode) : Type 0 where
+  pub parts : List Part
+  pub behind : List (List ℕ)
+  pub line : IsLine join_flags join_settings parts behind words
+  pub operands : operands_of parts ++ behind ≡ program ∷ initial ∷ []
+  pub mode_is : uses_of (codes "recompute") parts ≡ recomputes mode
+  pub max_is : IsMax (values_of (codes "max-structures") parts) max
+
 -- a command, its files named by bytes
 pub data CommandForm : Type 0 where
   Analyzes : (program initial : List ℕ) → (max : ℕ) → (mode : Mode) → CommandForm
   Checks : (program initial report : List ℕ) → (mode : Mode) → (maps : Bool) → CommandForm
   Demos : (number : ℕ) → CommandForm
+  Joins : (program initial : List ℕ) → (max : ℕ) → (mode : Mode) → CommandForm
 
 abbrev pub form_of : Command → CommandForm
 form_of (Analyze program initial max mode) = Analyzes (string_bytes program) (string_bytes initial) max mode
 form_of (Check program initial report mode maps) =
     Checks (string_bytes program) (string_bytes initial) (string_bytes report) mode maps
 form_of (Demo number) = Demos number
+form_of (Join program initial max mode) = Joins (string_bytes program) (string_bytes initial) max mode
 
 -- this is said of the command
 abbrev pub SaidOf : (CommandForm → Type 0) → Command → Type 0
 SaidOf Says command = Says (form_of command)
 
--- the words behind the name `analyze` say this command; or those behind `check`; or those behind `demo`
-abbrev pub IsAnalysis : List (List ℕ) → CommandForm → Type 0
-IsAnalysis words (Analyzes program initial max mode) = AnalyzeLine words program initial max mode
-IsAnalysis words (Checks program initial report mode maps) = ⊥
-IsAnalysis words (Demos number) = ⊥
+-- the first word
+abbrev pub name_of : CommandForm → List ℕ
+name_of (Analyzes program initial max mode) = codes "analyze"
+name_of (Checks program initial report mode maps) = codes "check"
+name_of (Demos number) = codes "demo"
+name_of (Joins program initial max mode) = codes "join"
 
-abbrev pub IsCheck : List (List ℕ) → CommandForm → Type 0
-IsCheck words (Analyzes program initial max mode) = ⊥
-IsCheck words (Checks program initial report mode maps) = CheckLine words program initial report mode maps
-IsCheck words (Demos number) = ⊥
+-- the words behind the first say the rest of the command
+abbrev pub IsRest : List (List ℕ) → CommandForm → Type 0
+IsRest words (Analyzes program initial max mode) = AnalyzeLine words program initial max mode
+IsRest words (Checks program initial report mode maps) = CheckLine words program initial report mode maps
+IsRest words (Demos number) = DemoLine words number
+IsRest words (Joins program initial max mode) = JoinLine words program initial max mode
 
-abbrev pub IsDemo : List (List ℕ) → CommandForm → Type 0
-IsDemo words (Analyzes program initial max mode) = ⊥
-IsDemo words (Checks program initial report mode maps) = ⊥
-IsDemo words (Demos number) = DemoLine words number
+-- the words behind this name say this command, which has the name
+abbrev pub IsNamed : (name : List ℕ) → List (List ℕ) → CommandForm → Type 0
+IsNamed name words command = (name_of command ≡ name) × IsRest words command
 
-abbrev pub NoAnalysis : List (List ℕ) → Type 0
-NoAnalysis words = (command : CommandForm) → ¬ IsAnalysis words command
+-- the words behind this name say no command
+abbrev pub NoneNamed : (name : List ℕ) → List (List ℕ) → Type 0
+NoneNamed name words = (command : CommandForm) → ¬ IsNamed name words command
 
-abbrev pub NoCheck : List (List ℕ) → Type 0
-NoCheck words = (command : CommandForm) → ¬ IsCheck words command
-
-abbrev pub NoDemo : List (List ℕ) → Type 0
-NoDemo words = (command : CommandForm) → ¬ IsDemo words command
-
--- the words spell this command
+-- the words spell this command: its name, and the rest behind it
 abbrev pub Spells : List (List ℕ) → CommandForm → Type 0
-Spells words command = (rest : List (List ℕ)) × (((words ≡ codes "analyze" ∷ rest) × IsAnalysis rest command)
-    ⊎ (((words ≡ codes "check" ∷ rest) × IsCheck rest command) ⊎ ((words ≡ codes "demo" ∷ rest)
-    × IsDemo rest command)))
+Spells words command = (rest : List (List ℕ)) × (words ≡ name_of command ∷ rest) × IsRest rest command
 
 -- the words spell no command
 abbrev pub SpellsNothing : List (List ℕ) → Type 0

@@ -3,7 +3,7 @@
 ghost use Rattle.std.specs.Prelude.{◌≡◌, ℕ, List, IsTrue, false, codes, IfOk, []};
 ghost use Rattle.clap.specs.Words.{app_of, rule_of};
 ghost use Rattle.tv_words.specs.Setup.{bare_app, line_app, operand_rule, flag_rule, setting_rule, is_fit, told_texts, texts_in, Reads};
-ghost use Rattle.tv_words.specs.Words.{words_of, analyze_flags, analyze_settings, check_flags};
+ghost use Rattle.tv_words.specs.Words.{words_of, analyze_flags, analyze_settings, check_flags, join_flags, join_settings};
 
 use clap::error::ErrorKind;
 use clap::{Arg, ArgAction, ArgMatches, Command};
@@ -71,6 +71,18 @@ pub fn demo_line<'a>(alloc: Global) -> Result<Command<'a>, AllocError>
     ensures { IfOk result (λ c. app_of c ≡ line_app (codes "demo") [] []) }
 {
     bare_line(alloc, "demo").arg(operands(alloc))
+}
+
+/// The line of `join`.
+pub fn join_line<'a>(alloc: Global) -> Result<Command<'a>, AllocError>
+    ensures { IfOk result (λ c. app_of c ≡ line_app (codes "join") join_flags join_settings) }
+{
+    let recompute = flag(alloc, "recompute");
+    let max = setting(alloc, "max-structures");
+    bare_line(alloc, "join")
+        .arg(operands(alloc))?
+        .arg(recompute)?
+        .arg(max)
 }
 
 /// What stands on the words behind a command's name, and none exactly where they are no line of the command.

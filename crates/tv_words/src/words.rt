@@ -1,9 +1,9 @@
 //! The words after the program's name.
 
-ghost use Rattle.std.specs.Prelude.{IfOk, IfSome, IfNone};
-ghost use Rattle.tv_words.specs.Words.{words_of, IsAnalysis, NoAnalysis, IsCheck, NoCheck, IsDemo, NoDemo, Spells, SpellsNothing, SaidOf};
+ghost use Rattle.std.specs.Prelude.{IfOk, IfSome, IfNone, codes};
+ghost use Rattle.tv_words.specs.Words.{words_of, IsNamed, NoneNamed, Spells, SpellsNothing, SaidOf};
 
-use crate::line::{analyze_line, check_line, demo_line, read_line, texts};
+use crate::line::{analyze_line, check_line, demo_line, join_line, read_line, texts};
 use crate::values::{GREATEST_DEMO, max_of, mode_of, number_up_to, one, stands, three, two};
 use std::alloc::{AllocError, Global};
 use tv_model::Mode;
@@ -30,12 +30,20 @@ pub enum Command {
     Demo {
         number: u64,
     },
+    /// Lists structures that cover what a program reaches from initial structures, one for each node, set of
+    /// individuals and nullary values, at most `max` of them.
+    Join {
+        program: String,
+        initial: String,
+        max: u64,
+        mode: Mode,
+    },
 }
 
 /// The command that the words behind `analyze` say.
 fn read_analyze(alloc: Global, words: &[String]) -> Result<Option<Command>, AllocError>
-    ensures some { IfOk result (λ found. IfSome found (SaidOf (IsAnalysis (words_of words.now)))) }
-    ensures none { IfOk result (λ found. IfNone found (NoAnalysis (words_of words.now))) }
+    ensures some { IfOk result (λ found. IfSome found (SaidOf (IsNamed (codes "analyze") (words_of words.now)))) }
+    ensures none { IfOk result (λ found. IfNone found (NoneNamed (codes "analyze") (words_of words.now))) }
 {
     let Some(line) = read_line(analyze_line(alloc)?, words)? else {
         return Ok(None);
@@ -59,8 +67,8 @@ fn read_analyze(alloc: Global, words: &[String]) -> Result<Option<Command>, Allo
 
 /// The command that the words behind `check` say.
 fn read_check(alloc: Global, words: &[String]) -> Result<Option<Command>, AllocError>
-    ensures some { IfOk result (λ found. IfSome found (SaidOf (IsCheck (words_of words.now)))) }
-    ensures none { IfOk result (λ found. IfNone found (NoCheck (words_of words.now))) }
+    ensures some { IfOk result (λ found. IfSome found (SaidOf (IsNamed (codes "check") (words_of words.now)))) }
+    ensures none { IfOk result (λ found. IfNone found (NoneNamed (codes "check") (words_of words.now))) }
 {
     let Some(line) = read_line(check_line(alloc)?, words)? else {
         return Ok(None);
@@ -85,8 +93,8 @@ fn read_check(alloc: Global, words: &[String]) -> Result<Option<Command>, AllocE
 
 /// The command that the words behind `demo` say.
 fn read_demo(alloc: Global, words: &[String]) -> Result<Option<Command>, AllocError>
-    ensures some { IfOk result (λ found. IfSome found (SaidOf (IsDemo (words_of words.now)))) }
-    ensures none { IfOk result (λ found. IfNone found (NoDemo (words_of words.now))) }
+    ensures some { IfOk result (λ found. IfSome found (SaidOf (IsNamed (codes "demo") (words_of words.now)))) }
+    ensures none { IfOk result (λ found. IfNone found (NoneNamed (codes "demo") (words_of words.now))) }
 {
     let Some(line) = read_line(demo_line(alloc)?, words)? else {
         return Ok(None);
@@ -98,6 +106,31 @@ fn read_demo(alloc: Global, words: &[String]) -> Result<Option<Command>, AllocEr
         return Ok(None);
     };
     Ok(Some(Command::Demo { number }))
+}
+
+/// The command that the words behind `join` say.
+fn read_join(alloc: Global, words: &[String]) -> Result<Option<Command>, AllocError>
+    ensures some { IfOk result (λ found. IfSome found (SaidOf (IsNamed (codes "join") (words_of words.now)))) }
+    ensures none { IfOk result (λ found. IfNone found (NoneNamed (codes "join") (words_of words.now))) }
+{
+    let Some(line) = read_line(join_line(alloc)?, words)? else {
+        return Ok(None);
+    };
+    let Some((program, initial)) = two(texts(&line, "operands")) else {
+        return Ok(None);
+    };
+    let Some(mode) = mode_of(line.get_count("recompute")) else {
+        return Ok(None);
+    };
+    let Some(max) = max_of(texts(&line, "max-structures")) else {
+        return Ok(None);
+    };
+    Ok(Some(Command::Join {
+        program: String::from_str(alloc, program)?,
+        initial: String::from_str(alloc, initial)?,
+        max,
+        mode,
+    }))
 }
 
 /// The command that the words spell, and none exactly where they spell none.
@@ -115,6 +148,7 @@ pub fn read_words(alloc: Global, words: &[String]) -> Result<Option<Command>, Al
         "analyze" => read_analyze(alloc, behind),
         "check" => read_check(alloc, behind),
         "demo" => read_demo(alloc, behind),
+        "join" => read_join(alloc, behind),
         _ => Ok(None),
     }
 }

@@ -16,7 +16,7 @@ returns-in_err-found-clause-cause g c =
     let p = err_from_is_err_and c.from_residual-in_err-found.result c.from_residual-in_err-found.ensures.1 in
     let command = Analyzes c.args.program.now c.args.initial.now c.args.max c.args.mode in
     rw (p.1, p.2) (search_fault _ command (task_of c.in_ok-inputs.inputs c.args.mode) c.args.max _ _ _
-    (c.in_ok-inputs.ensures.meant command (refl, refl)) refl (λ Budget meets. meets) c.in_err-found.ensures.cause)
+    (c.in_ok-inputs.ensures.meant command (refl, refl)) refl (λ most many. many) (λ Budget meets. meets) c.in_err-found.ensures.cause)
 
 pub returns-clause-found : goal.returns-clause-found
 returns-clause-found g c = (

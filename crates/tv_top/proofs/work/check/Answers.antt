@@ -1,7 +1,7 @@
 use Rattle.std.proofs.Common.{◌≡◌, refl, inr}
-use Rattle.std.proofs.lemmas.Result.{err_from_is_err_and, IfOk-weaker, IfErr-weaker}
+use Rattle.std.proofs.lemmas.Result.{err_from_is_err_and}
 use Rattle.tv_listing.specs.declared.analysis.Analysis.{Analysis}
-use Rattle.tv_top.proofs.Causes.{rose_later, still, unless_not_read, report_fault, judgement_fault, judged_answer, judged_causes, judged_answers}
+use Rattle.tv_top.proofs.Causes.{rose_later, still, unless_not_read, report_fault, judged_causes, judged_answers}
 use Rattle.tv_top.specs.Work.{task_of}
 use Rattle.tv_top.specs.declared.fault.Answer.{Answer}
 use Rattle.tv_words.specs.Words.{Checks}

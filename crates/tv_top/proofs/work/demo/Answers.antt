@@ -16,7 +16,7 @@ pub returns-in_err-found-clause-cause : goal.returns-in_err-found-clause-cause
 returns-in_err-found-clause-cause c =
     let p = err_from_is_err_and c.from_residual-in_err-found.result c.from_residual-in_err-found.ensures.1 in
     rw (p.1, p.2) (λ told. search_fault told (Demos c.args.number) (task_of c.in_ok-inputs.inputs Given) demo_max ⊥ ⊥ _
-    (c.in_ok-inputs.ensures.meant told) refl (λ Budget meets. meets) c.in_err-found.ensures.cause)
+    (c.in_ok-inputs.ensures.meant told) refl (λ most many. many) (λ Budget meets. meets) c.in_err-found.ensures.cause)
 
 pub returns-clause-found : goal.returns-clause-found
 returns-clause-found c = λ told. (

@@ -15,3 +15,7 @@ returns-in-Demo-clause-found g c = rw c.in-Demo.is (c.demo.ensures.found (g.F.Fi
 pub returns-in-Demo-clause-cause : goal.returns-in-Demo-clause-cause
 returns-in-Demo-clause-cause g c =
     rw c.in-Demo.is (demo_causes _ c.in-Demo.number _ _ c.demo.result (c.demo.ensures.cause (g.F.Files.holds c.args.files.now)))
+
+pub returns-in-Join-clause-cause : goal.returns-in-Join-clause-cause
+returns-in-Join-clause-cause g c =
+    rw (c.in-Join.is, ← c.deref-in-Join.ensures, ← c.deref-in-Join-2.ensures) c.join.ensures.cause

@@ -44,11 +44,13 @@ returns-clause-some c =
     let reads = c.in_ok-line.ensures (codes "analyze") analyze_flags analyze_settings refl
     c.in_ok-analyze_line.ensures in
     let line : HasLine analyze_flags analyze_settings (words_of c.args.words.now) c.in-Some.line =
-    subst (Reads analyze_flags analyze_settings (words_of c.args.words.now)) c.in-Some.is reads in
-    analysis (words_of c.args.words.now) c.in-Some.line line (string_bytes c.in_ok-from_str.field-0)
-    (string_bytes c.in_ok-from_str-2.field-0)
-    c.in-Some-two.program.now c.in-Some-two.initial.now c.in-Some-max_of.max c.in-Some-mode_of.mode
-    (sym c.texts.ensures ∙ c.in-Some-two.ensures.some) c.in_ok-from_str.ensures.ok
-    c.in_ok-from_str-2.ensures.ok
-    (sym c.get_count.ensures.value ∙ c.in-Some-mode_of.ensures.some)
-    (subst (λ vs. IsMax vs c.in-Some-max_of.max) c.texts-2.ensures c.in-Some-max_of.ensures.some)
+    subst (Reads analyze_flags analyze_settings (words_of c.args.words.now)) c.in-Some.is reads in (
+      refl,
+      analysis (words_of c.args.words.now) c.in-Some.line line (string_bytes c.in_ok-from_str.field-0)
+          (string_bytes c.in_ok-from_str-2.field-0)
+          c.in-Some-two.program.now c.in-Some-two.initial.now c.in-Some-max_of.max c.in-Some-mode_of.mode
+          (sym c.texts.ensures ∙ c.in-Some-two.ensures.some) c.in_ok-from_str.ensures.ok
+          c.in_ok-from_str-2.ensures.ok
+          (sym c.get_count.ensures.value ∙ c.in-Some-mode_of.ensures.some)
+          (subst (λ vs. IsMax vs c.in-Some-max_of.max) c.texts-2.ensures c.in-Some-max_of.ensures.some),
+    )

@@ -39,13 +39,15 @@ pub returns-clause-some : goal.returns-clause-some
 returns-clause-some c =
     let reads = c.in_ok-line.ensures (codes "check") check_flags [] refl c.in_ok-check_line.ensures in
     let line : HasLine check_flags [] (words_of c.args.words.now) c.in-Some.line =
-    subst (Reads check_flags [] (words_of c.args.words.now)) c.in-Some.is reads in
-    check (words_of c.args.words.now) c.in-Some.line line
-    (string_bytes c.in_ok-from_str.field-0) (string_bytes c.in_ok-from_str-2.field-0)
-    (string_bytes c.in_ok-from_str-3.field-0)
-    c.in-Some-three.program.now c.in-Some-three.initial.now c.in-Some-three.report.now c.in-Some-mode_of.mode
-    c.in-Some-stands.maps
-    (sym c.texts.ensures ∙ c.in-Some-three.ensures.some) c.in_ok-from_str.ensures.ok
-    c.in_ok-from_str-2.ensures.ok c.in_ok-from_str-3.ensures.ok
-    (sym c.get_count.ensures.value ∙ c.in-Some-mode_of.ensures.some)
-    (sym c.get_count-2.ensures.value ∙ c.in-Some-stands.ensures.some)
+    subst (Reads check_flags [] (words_of c.args.words.now)) c.in-Some.is reads in (
+      refl,
+      check (words_of c.args.words.now) c.in-Some.line line
+          (string_bytes c.in_ok-from_str.field-0) (string_bytes c.in_ok-from_str-2.field-0)
+          (string_bytes c.in_ok-from_str-3.field-0)
+          c.in-Some-three.program.now c.in-Some-three.initial.now c.in-Some-three.report.now c.in-Some-mode_of.mode
+          c.in-Some-stands.maps
+          (sym c.texts.ensures ∙ c.in-Some-three.ensures.some) c.in_ok-from_str.ensures.ok
+          c.in_ok-from_str-2.ensures.ok c.in_ok-from_str-3.ensures.ok
+          (sym c.get_count.ensures.value ∙ c.in-Some-mode_of.ensures.some)
+          (sym c.get_count-2.ensures.value ∙ c.in-Some-stands.ensures.some),
+    )

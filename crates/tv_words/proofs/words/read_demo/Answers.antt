@@ -31,6 +31,8 @@ pub returns-clause-some : goal.returns-clause-some
 returns-clause-some c =
     let reads = c.in_ok-line.ensures (codes "demo") [] [] refl c.in_ok-demo_line.ensures in
     let line : HasLine [] [] (words_of c.args.words.now) c.in-Some.line =
-    subst (Reads [] [] (words_of c.args.words.now)) c.in-Some.is reads in
-    demo (words_of c.args.words.now) c.in-Some.line line c.in-Some-one.word.now c.in-Some-number_up_to.number
-    (sym c.texts.ensures ∙ c.in-Some-one.ensures.some) c.in-Some-number_up_to.ensures.some
+    subst (Reads [] [] (words_of c.args.words.now)) c.in-Some.is reads in (
+      refl,
+      demo (words_of c.args.words.now) c.in-Some.line line c.in-Some-one.word.now c.in-Some-number_up_to.number
+          (sym c.texts.ensures ∙ c.in-Some-one.ensures.some) c.in-Some-number_up_to.ensures.some,
+    )

@@ -1,6 +1,6 @@
-use Rattle.std.proofs.Common.{◌≡◌, ◌∙◌, ◌∷◌, codes, ap, sym, inl, inr}
-use Rattle.tv_words.specs.Words.{words_of, IsAnalysis, IsCheck, IsDemo, Spells}
-use Rattle.tv_words.proofs.Commands.{spelled}
+use Rattle.std.proofs.Common.{◌≡◌, ◌∙◌, ◌∷◌, codes, ap, sym}
+use Rattle.tv_words.specs.Words.{words_of}
+use Rattle.tv_words.proofs.Commands.{named_spelled, named_unspelled}
 use Rattle.tv_words.proofs.words.read_words.Goals as goal
 
 pub returns-in-analyze-clause-some : goal.returns-in-analyze-clause-some
@@ -8,24 +8,61 @@ returns-in-analyze-clause-some c =
     let whole : words_of c.args.words.now ≡ codes "analyze" ∷ words_of c.in-Some.behind.now =
     ap words_of c.in-Some.ensures.cases.0 ∙ ap (λ n. n ∷ words_of c.in-Some.behind.now)
     (sym c.as_str.ensures.value ∙ c.in-analyze.is) in
-    spelled (IsAnalysis (words_of c.in-Some.behind.now)) (Spells (words_of c.args.words.now))
-    (λ command h. (words_of c.in-Some.behind.now, inl (whole, h))) c.read_analyze.result
+    named_spelled (codes "analyze") (words_of c.args.words.now) (words_of c.in-Some.behind.now) c.read_analyze.result whole
     c.read_analyze.ensures.some
+
+pub returns-in-analyze-clause-none : goal.returns-in-analyze-clause-none
+returns-in-analyze-clause-none c =
+    let whole : words_of c.args.words.now ≡ codes "analyze" ∷ words_of c.in-Some.behind.now =
+    ap words_of c.in-Some.ensures.cases.0 ∙ ap (λ n. n ∷ words_of c.in-Some.behind.now)
+    (sym c.as_str.ensures.value ∙ c.in-analyze.is) in
+    named_unspelled (codes "analyze") (words_of c.args.words.now) (words_of c.in-Some.behind.now) c.read_analyze.result whole
+    c.read_analyze.ensures.none
 
 pub returns-in-check-clause-some : goal.returns-in-check-clause-some
 returns-in-check-clause-some c =
     let whole : words_of c.args.words.now ≡ codes "check" ∷ words_of c.in-Some.behind.now =
     ap words_of c.in-Some.ensures.cases.0 ∙ ap (λ n. n ∷ words_of c.in-Some.behind.now)
     (sym c.as_str.ensures.value ∙ c.in-check.is) in
-    spelled (IsCheck (words_of c.in-Some.behind.now)) (Spells (words_of c.args.words.now))
-    (λ command h. (words_of c.in-Some.behind.now, inr (inl (whole, h)))) c.read_check.result
+    named_spelled (codes "check") (words_of c.args.words.now) (words_of c.in-Some.behind.now) c.read_check.result whole
     c.read_check.ensures.some
+
+pub returns-in-check-clause-none : goal.returns-in-check-clause-none
+returns-in-check-clause-none c =
+    let whole : words_of c.args.words.now ≡ codes "check" ∷ words_of c.in-Some.behind.now =
+    ap words_of c.in-Some.ensures.cases.0 ∙ ap (λ n. n ∷ words_of c.in-Some.behind.now)
+    (sym c.as_str.ensures.value ∙ c.in-check.is) in
+    named_unspelled (codes "check") (words_of c.args.words.now) (words_of c.in-Some.behind.now) c.read_check.result whole
+    c.read_check.ensures.none
 
 pub returns-in-demo-clause-some : goal.returns-in-demo-clause-some
 returns-in-demo-clause-some c =
     let whole : words_of c.args.words.now ≡ codes "demo" ∷ words_of c.in-Some.behind.now =
     ap words_of c.in-Some.ensures.cases.0 ∙ ap (λ n. n ∷ words_of c.in-Some.behind.now)
     (sym c.as_str.ensures.value ∙ c.in-demo.is) in
-    spelled (IsDemo (words_of c.in-Some.behind.now)) (Spells (words_of c.args.words.now))
-    (λ command h. (words_of c.in-Some.behind.now, inr (inr (whole, h)))) c.read_demo.result
+    named_spelled (codes "demo") (words_of c.args.words.now) (words_of c.in-Some.behind.now) c.read_demo.result whole
     c.read_demo.ensures.some
+
+pub returns-in-demo-clause-none : goal.returns-in-demo-clause-none
+returns-in-demo-clause-none c =
+    let whole : words_of c.args.words.now ≡ codes "demo" ∷ words_of c.in-Some.behind.now =
+    ap words_of c.in-Some.ensures.cases.0 ∙ ap (λ n. n ∷ words_of c.in-Some.behind.now)
+    (sym c.as_str.ensures.value ∙ c.in-demo.is) in
+    named_unspelled (codes "demo") (words_of c.args.words.now) (words_of c.in-Some.behind.now) c.read_demo.result whole
+    c.read_demo.ensures.none
+
+pub returns-in-join-clause-some : goal.returns-in-join-clause-some
+returns-in-join-clause-some c =
+    let whole : words_of c.args.words.now ≡ codes "join" ∷ words_of c.in-Some.behind.now =
+    ap words_of c.in-Some.ensures.cases.0 ∙ ap (λ n. n ∷ words_of c.in-Some.behind.now)
+    (sym c.as_str.ensures.value ∙ c.in-join.is) in
+    named_spelled (codes "join") (words_of c.args.words.now) (words_of c.in-Some.behind.now) c.read_join.result whole
+    c.read_join.ensures.some
+
+pub returns-in-join-clause-none : goal.returns-in-join-clause-none
+returns-in-join-clause-none c =
+    let whole : words_of c.args.words.now ≡ codes "join" ∷ words_of c.in-Some.behind.now =
+    ap words_of c.in-Some.ensures.cases.0 ∙ ap (λ n. n ∷ words_of c.in-Some.behind.now)
+    (sym c.as_str.ensures.value ∙ c.in-join.is) in
+    named_unspelled (codes "join") (words_of c.args.words.now) (words_of c.in-Some.behind.now) c.read_join.result whole
+    c.read_join.ensures.none

@@ -1,0 +1,116 @@
+//! The joined analysis, by whole calls.
+
+use crate::call::{Row, wrong_part};
+use std::test::Fail;
+
+/// A program that adds individuals without end; a structure without individuals.
+const NEW: &str = "%p x(v)
+%%
+%action New() { %new { x(v) = isNew(v) } }
+%%
+L0 New() L0
+";
+
+const NOBODY: &str = "%n = {} %p = {}";
+
+/// At most one structure for the same individuals and nullary values: the one of two individuals is joined.
+const JOINED: &str = "tvla report 2
+node L0 structures 3
+%n = {}
+%p = {
+}
+%n = {i0}
+%p = {
+  x = {i0}
+}
+%n = {i0, i1}
+%p = {
+  x = {i1}
+  sm = {i0:1/2}
+}
+end
+";
+
+const FLIP: &str = "%p b()
+%%
+%action Flip() { { b() = !b() } }
+%%
+L0 Flip() L1
+";
+
+static ROWS: [Row; 7] = [
+    Row {
+        words: &["join", "p", "i"],
+        files: &[("p", NEW), ("i", NOBODY)],
+        code: 0,
+        out: JOINED,
+        err: "",
+    },
+    Row {
+        words: &["check", "p", "i", "r"],
+        files: &[("p", NEW), ("i", NOBODY), ("r", JOINED)],
+        code: 0,
+        out: "accepted\n",
+        err: "",
+    },
+    Row {
+        words: &["join", "--max-structures=2", "p", "i"],
+        files: &[("p", NEW), ("i", NOBODY)],
+        code: 4,
+        out: "",
+        err: "tvla: more than 2 structures\n",
+    },
+    Row {
+        words: &["join", "p", "--recompute", "i", "--max-structures", "3"],
+        files: &[("p", NEW), ("i", NOBODY)],
+        code: 0,
+        out: JOINED,
+        err: "",
+    },
+    Row {
+        words: &["join", "p", "i"],
+        files: &[("p", FLIP), ("i", "%n = {} %p = { b = 1 }")],
+        code: 0,
+        out: "tvla report 2
+node L0 structures 1
+%n = {}
+%p = {
+  b = 1
+}
+node L1 structures 1
+%n = {}
+%p = {
+}
+end
+",
+        err: "",
+    },
+    Row {
+        words: &["join", "p", "i"],
+        files: &[("p", FLIP)],
+        code: 5,
+        out: "",
+        err: "tvla: read fault\n",
+    },
+    Row {
+        words: &["join", "p", "i"],
+        files: &[("p", FLIP), ("i", "%n = {u} %p = { sm = {u:1} }")],
+        code: 3,
+        out: "",
+        err: "tvla: initial: BadSm\n",
+    },
+];
+
+#[test]
+fn joined_analyses_end_as_they_should(rt: HostRuntime) -> Result<(), Fail> {
+    for row in ROWS.iter() {
+        assert_eq!(rt;
+            wrong_part(rt.alloc(), row)?,
+            None,
+            "{} {}",
+            row.code,
+            row.err
+        );
+    }
+    Ok(())
+}

@@ -1,0 +1,7 @@
+//! Rows of whole calls of the commands beside `analyze`, `check` and `demo`, over files and sinks in memory.
+#![tactic(auto)]
+
+#[cfg(test)]
+mod call;
+#[cfg(test)]
+mod join;

@@ -1,0 +1,17 @@
+use Rattle.std.proofs.Common.{ap₂, codes, ◌≡◌, ◌∙◌}
+use Rattle.std.proofs.lemmas.Result.{IfOk-weaker}
+use Rattle.clap.specs.Words.{app_of, with_rule}
+use Rattle.tv_words.specs.Setup.{bare_app, operand_rule, flag_rule}
+use Rattle.tv_words.proofs.line.join_line.Goals as goal
+
+pub returns : goal.returns
+returns c =
+    let one : app_of c.in_ok-arg.field-0 ≡ with_rule (bare_app (codes "join")) operand_rule =
+    c.in_ok-arg.ensures.shape c.operands.ensures.local
+    ∙ ap₂ with_rule c.bare_line.ensures c.operands.ensures.rule in
+    let two : app_of c.in_ok-arg-2.field-0 ≡ with_rule (with_rule (bare_app (codes "join")) operand_rule)
+    (flag_rule (codes "recompute")) =
+    c.in_ok-arg-2.ensures.shape c.flag-recompute.ensures.local
+    ∙ ap₂ with_rule one c.flag-recompute.ensures.rule in
+    IfOk-weaker c.arg-3.result _ _ (λ l added. added.shape c.setting-max.ensures.local
+    ∙ ap₂ with_rule two c.setting-max.ensures.rule) c.arg-3.ensures
