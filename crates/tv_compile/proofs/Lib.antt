@@ -1,0 +1,5 @@
+mod ArcSteps
+mod Ranges
+mod Sights
+mod Sizes
+mod Small
