@@ -16,3 +16,4 @@ mod NewLaws
 mod Plans
 mod RowLaws
 mod Sole
+mod Whole
