@@ -1,0 +1,41 @@
+-- What states are judged by, and what is said of a state that is judged.
+use Rattle.std.specs.Prelude.{ℕ, ◌≡◌, ◌<◌, ◌+◌, length, map, None, ⊤}
+use Rattle.tv_eval.specs.ScratchForm.{ScratchForm, IsMadeFor}
+use Rattle.tv_listing.specs.Listed.{IsListing}
+use Rattle.tv_model.specs.Program.{ProgramForm, pred_of, program_of, rule_of}
+use Rattle.tv_model.specs.Valid.{IsValid}
+use Rattle.tv_replayed.specs.JudgedRules.{rules_of_properties}
+use Rattle.tv_replayed.specs.declared.state.State.{State}
+use Rattle.tv_replayed.specs.declared.state.ReplayError.{ReplayError}
+use Rattle.tv_replayed.specs.declared.state.ReplayError.TheVariants as error
+use Rattle.tv_stepping.specs.declared.moved.Halt.{Halt}
+use Rattle.tv_stepping.specs.declared.moved.Halt.TheVariants.{Stuck}
+use Rattle.tv_struct.specs.StructureForm.{StructureForm, IsStructure, IsOver}
+use Rattle.tv_two_valued.specs.TwoValued.{IsTwoValued}
+use Rattle.tv_replay.specs.declared.states.Judge.{Judge}
+
+abbrev pub program_in : Judge → ProgramForm
+program_in judge = program_of judge.program.now
+
+-- the properties and the listing are the program's, and there is room to evaluate its formulas
+pub record CanJudge (judge : Judge) (scratch : ScratchForm) : Type 0 where
+  pub valid : IsValid (program_in judge)
+  pub properties : map rule_of judge.properties.now ≡ rules_of_properties 0 (map pred_of judge.program.now.vocab.preds)
+  pub listing : IsListing judge.program.now judge.listing.now
+  pub made : IsMadeFor (program_in judge) 256 scratch
+
+-- the structure stands for a heap of the program, at a node of it
+pub record IsHeapAt (judge : Judge) (node : ℕ) (s : StructureForm) : Type 0 where
+  pub there : node < length judge.program.now.nodes
+  pub structure : IsStructure s
+  pub over : IsOver judge.program.now.vocab s
+  pub two_valued : IsTwoValued s
+  pub unmarked : s.fresh ≡ None
+
+abbrev pub IsStateAt : Judge → State → Type 0
+IsStateAt judge x = IsHeapAt judge x.node x.heap
+
+-- how it is told that a step, counted from 0, leads nowhere
+abbrev pub IsFaultOf : (number : ℕ) → Halt → ReplayError → Type 0
+IsFaultOf number halt (error.Stuck step why) = (halt ≡ Stuck why) × (step ≡ number + 1)
+IsFaultOf number halt error.Memory = ⊤
