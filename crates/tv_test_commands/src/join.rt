@@ -38,7 +38,25 @@ const FLIP: &str = "%p b()
 L0 Flip() L1
 ";
 
-static ROWS: [Row; 7] = [
+/// Thirteen individuals that may stay: over 4,096 choices.
+const RETAIN: &str = "%p a(v) %p b(v) %p c(v) %p d(v) %p x(v)
+%%
+%action Keep() { %retain x(v) }
+%%
+L0 Keep() L1
+";
+
+const CROWD: &str = "%n = {u0, u1, u2, u3, u4, u5, u6, u7, u8, u9, u10, u11, u12}
+%p = {
+  a = {u1, u3, u5, u7, u9, u11}
+  b = {u2, u3, u6, u7, u10, u11}
+  c = {u4, u5, u6, u7, u12}
+  d = {u8, u9, u10, u11, u12}
+  x = {u0:1/2, u1:1/2, u2:1/2, u3:1/2, u4:1/2, u5:1/2, u6:1/2, u7:1/2, u8:1/2, u9:1/2, u10:1/2, u11:1/2, u12:1/2}
+}
+";
+
+static ROWS: [Row; 8] = [
     Row {
         words: &["join", "p", "i"],
         files: &[("p", NEW), ("i", NOBODY)],
@@ -84,6 +102,13 @@ node L1 structures 1
 end
 ",
         err: "",
+    },
+    Row {
+        words: &["join", "p", "i"],
+        files: &[("p", RETAIN), ("i", CROWD)],
+        code: 4,
+        out: "",
+        err: "tvla: too many splits\n",
     },
     Row {
         words: &["join", "p", "i"],
