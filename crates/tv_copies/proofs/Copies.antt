@@ -2,7 +2,6 @@
 use Rattle.std.proofs.Common.{ℕ, ◌≡◌, ◌∙◌, ◌<◌, ◌+◌, List, [], ◌∷◌, ◌++◌, get_or, take, length, map, sym, ap, subst, refl}
 use Rattle.std.proofs.lemmas.List.{take_more, map-append}
 
-
 pub copied_more : {X Y : Type 0} (view : X → Y) (xs out us : List X) (i : ℕ) (x y : X) → i < length xs
     → x ≡ get_or xs i x → map view out ≡ map view (take i xs) → view y ≡ view x → us ≡ out ++ y ∷ []
     → map view us ≡ map view (take (i + 1) xs)

@@ -1,5 +1,4 @@
 use Rattle.std.proofs.Common.{◌≡◌, map, take}
-
 use Rattle.tv_copies.proofs.lists.copy_names.Given as goal
 
 abbrev pub invariant-loop-name : goal.invariant-loop-name
