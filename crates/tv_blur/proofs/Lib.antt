@@ -5,5 +5,8 @@ pub mod Ascended
 pub mod ClassLaws
 pub mod JoinLaws
 pub mod RowLaws
+pub mod MaskLaws
+pub mod NameRows
+pub mod Gathered
 pub mod FillLaws
 pub mod Assembly

@@ -1,36 +1,21 @@
 -- The classes of individuals that have one name, and the values that are merged.
-use Rattle.std.specs.Prelude.{ℕ, ◌≡◌, ◌≢◌, ◌<◌, ◌≤◌, None, ◌==◌, ◌||◌, Bool, nat_lt, List, [], length, map, All, Contains, slice_index, slice_index_or}
+use Rattle.std.specs.Prelude.{ℕ, ◌≡◌, ◌≢◌, ◌↔◌, ◌<◌, ◌≤◌, None, ◌||◌, Bool, nat_lt, List, [], length, All, Contains, slice_index, slice_index_or}
 use Rattle.std.specs.List.{AllZip}
 use Rattle.tv_kleene.specs.declared.K3.{K3}
-use Rattle.tv_frame.specs.LogicalStructure.{LogicalStructure}
+use Rattle.tv_kleene.specs.declared.K3.TheVariants.{No, Half, Yes}
 use Rattle.tv_struct.specs.TableForm.{HasEntry}
-use Rattle.tv_struct.specs.StructureForm.{StructureForm, table_of, value_at, summary_at, arities_of, kept_from}
+use Rattle.tv_struct.specs.StructureForm.{StructureForm, table_of, value_at, summary_at, arities_of}
 use Rattle.tv_blur.specs.Merged.{IsJoin}
-use Rattle.tv_blur.specs.Names.{name_of}
-
--- the place that a list of places gives an individual
-abbrev pub place_in : List ℕ → ℕ → ℕ
-place_in places u = slice_index places u
 
 -- the members of the class at a place
 abbrev pub class_at : List (List ℕ) → ℕ → List ℕ
 class_at classes w = slice_index_or classes w []
 
--- the names of the first n individuals in strictly ascending order, each once
-pub record AreNames (preds : List ℕ) (s : LogicalStructure) (n : ℕ) (names : List (List K3)) : Type 0 where
-  pub each : (u : ℕ) → u < n → Contains names (name_of preds s u)
-  pub only : All (λ name. (u : ℕ) × (u < n) × (name_of preds s u ≡ name)) names
-
--- the place of each of the first n individuals is that of its name
-pub record ArePlaces
-    (preds : List ℕ) (s : LogicalStructure) (n : ℕ) (names : List (List K3)) (places : List ℕ) : Type 0 where
-  pub count : length places ≡ n
-  pub within : All (λ w. w < length names) places
-  pub named : (u : ℕ) → u < n → slice_index_or names (place_in places u) [] ≡ name_of preds s u
-
--- the individuals at a place, in order
-abbrev pub class_of : (places : List ℕ) → ℕ → List ℕ
-class_of places w = kept_from 0 (map (λ place. place == w) places)
+-- 256 flags: Yes for each of the members, else No
+pub record IsMask (members : List ℕ) (mask : List K3) : Type 0 where
+  pub long : length mask ≡ 256
+  pub flags : (u : ℕ) → slice_index_or mask u No ≢ Half
+  pub members_of : (u : ℕ) → (slice_index_or mask u No ≡ Yes) ↔ Contains members u
 
 -- k is the value of the predicate at some tuple of members of the classes of these places
 abbrev pub IsValueAmong : (classes : List (List ℕ)) → StructureForm → (pred : ℕ) → (tuple : List ℕ) → K3 → Type 0

@@ -3,3 +3,4 @@ pub mod Classes
 pub mod Laws
 pub mod Merged
 pub mod Names
+pub mod Naming

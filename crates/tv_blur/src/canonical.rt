@@ -7,8 +7,9 @@ ghost use Rattle.tv_blur.specs.Names.{abstraction_preds};
 ghost use Rattle.tv_blur.specs.Blur.{IsBlur, IsBlurred};
 
 use crate::ascending::is_blurred;
-use crate::classes::{abstraction_preds, classes, names, places};
+use crate::classes::{abstraction_preds, classes};
 use crate::merge::merged;
+use crate::names::Names;
 use std::alloc::{AllocError, Global};
 use tv_model::Vocab;
 use tv_struct::Structure;
@@ -39,11 +40,10 @@ fn blurred(alloc: Global, preds: &[u32], s: &Structure) -> Result<Structure, All
     ensures kept { IfOk result IsStructure }
 {
     let _ = s.size();
-    if is_blurred(preds, s) {
+    let names = Names::of(alloc, preds, s)?;
+    if is_blurred(&names) {
         return s.copy(alloc);
     }
-    let names = names(alloc, preds, s)?;
-    let places = places(alloc, preds, s, &names)?;
-    let classes = classes(alloc, &places, names.len() as u32)?;
+    let classes = classes(alloc, &names)?;
     merged(alloc, s, &classes)
 }

@@ -1,16 +1,18 @@
 //! The classes of individuals that have one name.
 
-ghost use Rattle.std.specs.Prelude.{◌≡◌, ◌<◌, ◌≤◌, [], ◌∷◌, ◌++◌, length, map, All, Contains, IfOk, OnOk, if◌then◌else◌, Some, slice_get, slice_index_or};
-ghost use Rattle.std.specs.List.{range_with_len};
-ghost use Rattle.std.specs.List.Sorted.{IsStrictlySortedBy};
-ghost use Rattle.tv_struct.specs.StructureForm.{IsOver, arities_of, structure_of};
-ghost use Rattle.tv_blur.specs.Names.{abstraction_preds, is_abstraction, name_of, name_cmp};
-ghost use Rattle.tv_blur.specs.Classes.{AreNames, ArePlaces, class_of};
+ghost use Rattle.std.specs.Prelude.{◌≡◌, ◌≢◌, ◌<◌, ◌≤◌, ◌+◌, ℕ, [], ◌∷◌, ◌++◌, length, All, IfOk, OnOk, MatchBool, if◌then◌else◌, Some, slice_get};
+ghost use Rattle.std.specs.declared.cmp.Ordering.TheVariants.{Less, Equal};
+ghost use Rattle.tv_struct.specs.StructureForm.{IsOver, arities_of};
+ghost use Rattle.tv_blur.specs.Names.{abstraction_preds, is_abstraction, name_cmp};
+ghost use Rattle.tv_blur.specs.Naming.{HoldsNames, IsGathered, class_name, name_in, named_in};
 
-use crate::name::Name;
+use crate::ascending::is_below;
+use crate::class::Class;
+use crate::names::Names;
 use std::alloc::{AllocError, Global};
+use std::cmp::Ordering;
 use tv_model::{Pred, Vocab};
-use tv_struct::{Numbers, Structure};
+use tv_struct::Structure;
 
 /// The unary abstraction predicates, by number, in declaration order.
 #[tactic(auto, using(crate::proofs::ClassLaws::abstraction_more))]
@@ -37,92 +39,6 @@ fn tells_apart(pred: &Pred) -> bool
     pred.arity == 1 && pred.abs
 }
 
-/// The names of the individuals, each once, in ascending order.
-pub fn names(alloc: Global, preds: &[u32], s: &Structure) -> Result<Vec<Name>, AllocError>
-    requires { All (λ p. slice_get (arities_of s.now) p ≡ Some 1) preds.now }
-    ensures names { IfOk result (λ names. AreNames preds.now (structure_of s.now) s.now.size names.items) }
-    ensures order { IfOk result (λ names. IsStrictlySortedBy name_cmp names.items) }
-    ensures count { IfOk result (λ names. length names.items ≤ s.now.size) }
-{
-    let mut names = all_names(alloc, preds, s)?;
-    names.sort_unstable();
-    names.dedup();
-    Ok(names)
-}
-
-#[tactic(auto, using(crate::proofs::ClassLaws::names_more))]
-fn all_names(alloc: Global, preds: &[u32], s: &Structure) -> Result<Vec<Name>, AllocError>
-    requires { All (λ p. slice_get (arities_of s.now) p ≡ Some 1) preds.now }
-    ensures { IfOk result
-        (λ names. names.items ≡ map (name_of preds.now (structure_of s.now)) (range_with_len 0 s.now.size)) }
-{
-    let size = s.size();
-    let mut names = Vec::with_capacity(alloc, size as usize)?;
-    for u in 0..size {
-        names.push(Name::of(alloc, preds, s, u)?)?;
-    }
-    Ok(names)
-}
-
-/// The place of each individual's name among the names.
-pub fn places(
-    alloc: Global,
-    preds: &[u32],
-    s: &Structure,
-    names: &[Name],
-) -> Result<Vec<u32>, AllocError>
-    requires preds { All (λ p. slice_get (arities_of s.now) p ≡ Some 1) preds.now }
-    requires names { AreNames preds.now (structure_of s.now) s.now.size names.now }
-    requires order { IsStrictlySortedBy name_cmp names.now }
-    requires count { length names.now ≤ s.now.size }
-    ensures { IfOk result (λ places. ArePlaces preds.now (structure_of s.now) s.now.size names.now places.items) }
-{
-    let size = s.size();
-    let mut places = Vec::with_capacity(alloc, size as usize)?;
-    for u in 0..size {
-        places.push(place(names, &Name::of(alloc, preds, s, u)?))?;
-    }
-    Ok(places)
-}
-
-fn place(names: &[Name], name: &Name) -> u32
-    requires order { IsStrictlySortedBy name_cmp names.now }
-    requires count { length names.now ≤ 256 }
-    requires known { Contains names.now name.now }
-    ensures within { result < length names.now }
-    ensures name { slice_index_or names.now result [] ≡ name.now }
-{
-    match names.binary_search(name) {
-        Ok(place) => place as u32,
-        Err(_) => unreachable!(),
-    }
-}
-
-/// The individuals at each place, in order.
-#[tactic(auto, using(crate::proofs::ClassLaws::classes_more))]
-pub fn classes(alloc: Global, places: &[u32], count: u32) -> Result<Vec<Numbers>, AllocError>
-    requires { length places.now ≤ 256 }
-    ensures { IfOk result (λ classes. classes.items ≡ map (class_of places.now) (range_with_len 0 count)) }
-{
-    let mut classes = Vec::with_capacity(alloc, count as usize)?;
-    for w in 0..count {
-        classes.push(class(alloc, places, w)?)?;
-    }
-    Ok(classes)
-}
-
-#[tactic(auto, using(crate::proofs::ClassLaws::class_more))]
-fn class(alloc: Global, places: &[u32], w: u32) -> Result<Numbers, AllocError>
-    requires { length places.now ≤ 256 }
-    ensures { IfOk result (λ class. class ≡ class_of places.now w) }
-{
-    let mut members = Vec::new(alloc);
-    for (u, place) in places.iter().enumerate() {
-        push_if(&mut members, u as u32, *place == w)?;
-    }
-    Ok(Numbers::from_vec(members))
-}
-
 fn push_if(numbers: &mut Vec<u32>, n: u32, is_kept: bool) -> Result<(), AllocError>
     ensures { OnOk result (numbers.new.items ≡ numbers.old.items ++ (if is_kept then n ∷ [] else [])) }
 {
@@ -130,4 +46,70 @@ fn push_if(numbers: &mut Vec<u32>, n: u32, is_kept: bool) -> Result<(), AllocErr
         numbers.push(n)?;
     }
     Ok(())
+}
+
+/// The classes of the individuals that have one name, in the order of their names.
+pub fn classes(alloc: Global, names: &Names) -> Result<Vec<Class>, AllocError>
+    requires { HoldsNames names.now }
+    ensures { IfOk result (λ classes. IsGathered names.now (named_in names.now).size classes.items) }
+{
+    let size = names.structure().size();
+    let mut classes = Vec::with_capacity(alloc, size as usize)?;
+    for u in 0..size {
+        gather(alloc, &mut classes, names, u)?;
+    }
+    Ok(classes)
+}
+
+/// Puts the next individual into the class of its name, which is put among the others if it isn't there.
+fn gather(alloc: Global, classes: &mut Vec<Class>, names: &Names, u: u32) -> Result<(), AllocError>
+    requires names { HoldsNames names.now }
+    requires individual { u < (named_in names.now).size }
+    requires gathered { IsGathered names.now u classes.old.items }
+    ensures { OnOk result (IsGathered names.now (u + 1) classes.new.items) }
+{
+    let _ = names.structure().size();
+    let place = place_for(names, classes, u);
+    if has_name(names, classes, place, u) {
+        classes[place].add(u)?;
+    } else {
+        classes.insert(place, Class::of(alloc, u)?)?;
+    }
+    Ok(())
+}
+
+/// How many classes have a name below that of the individual.
+fn place_for(names: &Names, classes: &[Class], u: u32) -> usize
+    requires names { HoldsNames names.now }
+    requires individual { u < (named_in names.now).size }
+    requires gathered { IsGathered names.now u classes.now }
+    ensures within { result ≤ length classes.now }
+    ensures below { (w : ℕ) → w < result → name_cmp (class_name names.now classes.now w) (name_in names.now u) ≡ Less }
+    ensures others { (w : ℕ) → result ≤ w → w < length classes.now
+        → name_cmp (class_name names.now classes.now w) (name_in names.now u) ≢ Less }
+{
+    let mut low = 0;
+    let mut high = classes.len();
+    while low < high {
+        let middle = low + (high - low) / 2;
+        if is_below(names, classes[middle].first(), u) {
+            low = middle + 1;
+        } else {
+            high = middle;
+        }
+    }
+    low
+}
+
+/// Whether there is a class at the place, with the name of the individual.
+fn has_name(names: &Names, classes: &[Class], place: usize, u: u32) -> bool
+    requires names { HoldsNames names.now }
+    requires individual { u < (named_in names.now).size }
+    requires gathered { IsGathered names.now u classes.now }
+    ensures { MatchBool result
+        ((place < length classes.now)
+        × (name_cmp (class_name names.now classes.now place) (name_in names.now u) ≡ Equal))
+        (place < length classes.now → name_cmp (class_name names.now classes.now place) (name_in names.now u) ≢ Equal) }
+{
+    place < classes.len() && names.compare(classes[place].first(), u) == Ordering::Equal
 }

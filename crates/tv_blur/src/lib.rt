@@ -4,10 +4,11 @@
 
 mod ascending;
 mod canonical;
+mod class;
 mod classes;
 mod laws;
 mod merge;
-mod name;
+mod names;
 mod values;
 
 pub use canonical::blur;

@@ -5,13 +5,14 @@ ghost use Rattle.tv_struct.specs.StructureForm.{IsStructure, arities_of, summary
 ghost use Rattle.tv_struct.specs.StructureRows.{HasArity};
 ghost use Rattle.tv_blur.specs.Classes.{AreClasses, ChangesOnly, HasMergedValues, HasMerged, is_merged_summary, class_at};
 
+use crate::class::Class;
 use crate::values::{joined_rows, merged_row};
 use std::alloc::{AllocError, Global};
 use tv_model::PredId;
-use tv_struct::{Numbers, Structure, Tuple};
+use tv_struct::{Structure, Tuple};
 
 /// The structure with one individual for each class, in their order, and joined values.
-pub fn merged(alloc: Global, s: &Structure, classes: &[Numbers]) -> Result<Structure, AllocError>
+pub fn merged(alloc: Global, s: &Structure, classes: &[Class]) -> Result<Structure, AllocError>
     requires { AreClasses s.now classes.now }
     ensures merged { IfOk result (HasMerged classes.now s.now (length (arities_of s.now))) }
     ensures kept { IfOk result IsStructure }
@@ -22,7 +23,7 @@ pub fn merged(alloc: Global, s: &Structure, classes: &[Numbers]) -> Result<Struc
     Ok(t)
 }
 
-fn put_summaries(t: &mut Structure, s: &Structure, classes: &[Numbers])
+fn put_summaries(t: &mut Structure, s: &Structure, classes: &[Class])
     requires classes { AreClasses s.now classes.now }
     requires size { t.old.size ≡ length classes.now }
     requires over { arities_of t.old ≡ arities_of s.now }
@@ -43,7 +44,7 @@ fn is_summary(s: &Structure, members: &[u32]) -> bool
     members.len() > 1 || s.summary(members[0])
 }
 
-fn put_all(t: &mut Structure, s: &Structure, classes: &[Numbers])
+fn put_all(t: &mut Structure, s: &Structure, classes: &[Class])
     requires classes { AreClasses s.now classes.now }
     requires merged { HasMerged classes.now s.now 0 t.old }
     ensures merged { HasMerged classes.now s.now (length (arities_of s.now)) t.new }
@@ -55,7 +56,7 @@ fn put_all(t: &mut Structure, s: &Structure, classes: &[Numbers])
     let _ = t.size();
 }
 
-fn put_values(t: &mut Structure, s: &Structure, classes: &[Numbers], p: PredId)
+fn put_values(t: &mut Structure, s: &Structure, classes: &[Class], p: PredId)
     requires classes { AreClasses s.now classes.now }
     requires size { t.old.size ≡ length classes.now }
     requires over { arities_of t.old ≡ arities_of s.now }
@@ -70,7 +71,7 @@ fn put_values(t: &mut Structure, s: &Structure, classes: &[Numbers], p: PredId)
     }
 }
 
-fn put_value(t: &mut Structure, s: &Structure, classes: &[Numbers], p: PredId)
+fn put_value(t: &mut Structure, s: &Structure, classes: &[Class], p: PredId)
     requires over { arities_of t.old ≡ arities_of s.now }
     requires arity { HasArity s.now p.0 0 }
     ensures changes { ChangesOnly p.0 t.old t.new }
@@ -80,7 +81,7 @@ fn put_value(t: &mut Structure, s: &Structure, classes: &[Numbers], p: PredId)
     t.set(p, Tuple::Zero, s.get(p, Tuple::Zero));
 }
 
-fn put_row(t: &mut Structure, s: &Structure, classes: &[Numbers], p: PredId)
+fn put_row(t: &mut Structure, s: &Structure, classes: &[Class], p: PredId)
     requires classes { AreClasses s.now classes.now }
     requires size { t.old.size ≡ length classes.now }
     requires over { arities_of t.old ≡ arities_of s.now }
@@ -92,7 +93,7 @@ fn put_row(t: &mut Structure, s: &Structure, classes: &[Numbers], p: PredId)
     t.set_unary_row(p, &merged_row(&row, classes));
 }
 
-fn put_rows(t: &mut Structure, s: &Structure, classes: &[Numbers], p: PredId)
+fn put_rows(t: &mut Structure, s: &Structure, classes: &[Class], p: PredId)
     requires classes { AreClasses s.now classes.now }
     requires size { t.old.size ≡ length classes.now }
     requires over { arities_of t.old ≡ arities_of s.now }

@@ -7,10 +7,11 @@ ghost use Rattle.tv_struct.specs.StructureRows.{HasArity};
 ghost use Rattle.tv_blur.specs.Classes.{IsAmongMembers, class_at};
 ghost use Rattle.tv_blur.specs.Merged.{IsJoin};
 
+use crate::class::Class;
 use tv_kleene::K3;
 use tv_model::PredId;
 use tv_row::Row;
-use tv_struct::{Numbers, Structure};
+use tv_struct::Structure;
 
 /// For each individual, the join of the values of the binary predicate `p` at the pairs of a member and
 /// that individual.
@@ -31,7 +32,7 @@ pub fn joined_rows(s: &Structure, p: PredId, members: &[u32]) -> Row
 }
 
 /// For each class, the join of the row's values at its members.
-pub fn merged_row(row: &Row, classes: &[Numbers]) -> Row
+pub fn merged_row(row: &Row, classes: &[Class]) -> Row
     requires few { length classes.now ≤ 256 }
     requires some { All (λ members. 0 < length members) classes.now }
     requires within { All (λ members. All (λ u. u < length row.now) members) classes.now }
@@ -42,19 +43,7 @@ pub fn merged_row(row: &Row, classes: &[Numbers]) -> Row
 {
     let mut merged = Row::of(classes.len() as u32, K3::No);
     for (w, members) in classes.iter().enumerate() {
-        merged.set(w as u32, joined_at(row, members.as_slice()));
+        merged.set(w as u32, members.joined(row));
     }
     merged
-}
-
-fn joined_at(row: &Row, members: &[u32]) -> K3
-    requires some { 0 < length members.now }
-    requires within { All (λ u. u < length row.now) members.now }
-    ensures { IsJoin (IsAmongMembers (λ u j. slice_index_or row.now u No ≡ j) members.now) result }
-{
-    let mut k = row.get(members[0]);
-    for i in 1..members.len() {
-        k = k.join(row.get(members[i]));
-    }
-    k
 }

@@ -1,7 +1,5 @@
-use Rattle.std.proofs.Common.{◌≡◌, map}
-use Rattle.std.specs.List.{range_with_len}
-use Rattle.tv_blur.specs.Classes.{class_of}
+use Rattle.tv_blur.specs.Naming.{IsGathered}
 use Rattle.tv_blur.proofs.classes.classes.Given as goal
 
-abbrev pub invariant-loop-w : goal.invariant-loop-w
-invariant-loop-w l = l.classes.items ≡ map (class_of l.places) (range_with_len 0 l.w)
+abbrev pub invariant-loop-u : goal.invariant-loop-u
+invariant-loop-u l = IsGathered l.names l.u l.classes.items

@@ -1,5 +1,0 @@
-use Rattle.std.proofs.Common.{length}
-use Rattle.tv_blur.proofs.ascending.+compare_names.Given as goal
-
-abbrev pub decreases-compare_names : goal.decreases-compare_names
-decreases-compare_names l = length l.preds.now

@@ -1,0 +1,141 @@
+//! The names of individuals, as rows of bits.
+
+ghost use Rattle.std.specs.Prelude.{◌≡◌, ◌<◌, ◌≤◌, ℕ, length, map, replicate, take, drop, All, IfOk, Some, slice_get};
+ghost use Rattle.std.specs.List.{range_with_len};
+ghost use Rattle.tv_kleene.specs.declared.K3.TheVariants.{No};
+ghost use Rattle.tv_row.specs.Bits.{value_cmp};
+ghost use Rattle.tv_row.specs.Places.{entry_in};
+ghost use Rattle.tv_struct.specs.StructureForm.{arities_of, structure_of};
+ghost use Rattle.tv_blur.specs.Names.{name_of, name_cmp};
+ghost use Rattle.tv_blur.specs.Naming.{AreNames, HoldsNames, HasColumn, name_in, named_in, rest_in};
+
+use std::alloc::{AllocError, Global};
+use std::cmp::Ordering;
+use tv_kleene::K3;
+use tv_model::PredId;
+use tv_row::Row;
+use tv_struct::{Structure, Tuple};
+
+/// How many values of a name stand in its row.
+const ROOM: usize = 256;
+
+/// The names of the individuals of a structure by some unary predicates: of each individual its values of
+/// the first 256 of them in one row. What is behind these is read in the structure.
+#[derive(Drop)]
+pub struct Names<'a> {
+    preds: &'a [u32],
+    structure: &'a Structure,
+    rows: Vec<Row>,
+}
+
+impl<'a> Names<'a> {
+    /// The names of all individuals.
+    pub fn of(alloc: Global, preds: &'a [u32], s: &'a Structure) -> Result<Names<'a>, AllocError>
+        requires { All (λ p. slice_get (arities_of s.now) p ≡ Some 1) preds.now }
+        ensures { IfOk result (AreNames preds.now s.now) }
+    {
+        Ok(Names {
+            preds,
+            structure: s,
+            rows: rows(alloc, &preds[..preds.len().min(ROOM)], s)?,
+        })
+    }
+
+    /// The structure whose individuals these are.
+    pub fn structure(&self) -> &'a Structure
+        ensures { result.now ≡ named_in self.now }
+    {
+        self.structure
+    }
+
+    /// Compares the names of two individuals, place by place, with No < Half < Yes.
+    pub fn compare(&self, u: u32, w: u32) -> Ordering
+        requires names { HoldsNames self.now }
+        requires one { u < (named_in self.now).size }
+        requires other { w < (named_in self.now).size }
+        ensures { result ≡ name_cmp (name_in self.now u) (name_in self.now w) }
+    {
+        match self.rows[u as usize].compare(&self.rows[w as usize]) {
+            Ordering::Equal => self.compare_rest(u, w),
+            order => order,
+        }
+    }
+
+    /// Compares the names of two individuals by the predicates behind the first 256.
+    fn compare_rest(&self, u: u32, w: u32) -> Ordering
+        requires names { HoldsNames self.now }
+        requires one { u < (named_in self.now).size }
+        requires other { w < (named_in self.now).size }
+        ensures { result ≡ name_cmp (rest_in self.now u) (rest_in self.now w) }
+    {
+        let (_, rest) = self.preds.split_at(self.preds.len().min(ROOM));
+        compare_values(rest, self.structure, u, w)
+    }
+}
+
+/// Of each individual its values of the predicates.
+fn rows(alloc: Global, preds: &[u32], s: &Structure) -> Result<Vec<Row>, AllocError>
+    requires few { length preds.now ≤ 256 }
+    requires preds { All (λ p. slice_get (arities_of s.now) p ≡ Some 1) preds.now }
+    ensures { IfOk result
+        (λ rows. rows.items ≡ map (name_of preds.now (structure_of s.now)) (range_with_len 0 s.now.size)) }
+{
+    let mut rows = rows_of_no(alloc, s.size(), preds.len() as u32)?;
+    for (column, p) in preds.iter().enumerate() {
+        put_column(&mut rows, column as u32, &s.unary_row(PredId(*p)));
+    }
+    Ok(rows)
+}
+
+fn rows_of_no(alloc: Global, count: u32, size: u32) -> Result<Vec<Row>, AllocError>
+    requires { size ≤ 256 }
+    ensures { IfOk result (λ rows. rows.items ≡ replicate count (replicate size No)) }
+{
+    let mut rows = Vec::with_capacity(alloc, count as usize)?;
+    for _ in 0..count {
+        rows.push(Row::of(size, K3::No))?;
+    }
+    Ok(rows)
+}
+
+/// Puts the values, one into each row, into a column that is `No` everywhere.
+fn put_column(rows: &mut [Row], column: u32, values: &Row)
+    requires count { length values.now ≡ length rows.old }
+    requires room { All (λ row. column < length row) rows.old }
+    requires blank { (u : ℕ) → entry_in rows.old u column ≡ No }
+    ensures { HasColumn column values.now rows.old rows.new }
+{
+    let _ = values.size();
+    let mut from = 0;
+    while let Some(u) = values.next_possible(from) {
+        rows[u as usize].set(column, values.get(u));
+        from = u + 1;
+    }
+}
+
+fn compare_value(j: K3, k: K3) -> Ordering
+    ensures { result ≡ value_cmp j k }
+{
+    j.cmp(&k)
+}
+
+/// Compares the names of two individuals, value by value.
+fn compare_values(preds: &[u32], s: &Structure, u: u32, w: u32) -> Ordering
+    requires preds { All (λ p. slice_get (arities_of s.now) p ≡ Some 1) preds.now }
+    requires one { u < s.now.size }
+    requires other { w < s.now.size }
+    ensures { result
+        ≡ name_cmp (name_of preds.now (structure_of s.now) u) (name_of preds.now (structure_of s.now) w) }
+{
+    match preds {
+        [] => Ordering::Equal,
+        [p, rest @ ..] => {
+            let one = s.get(PredId(*p), Tuple::One(u));
+            let other = s.get(PredId(*p), Tuple::One(w));
+            match compare_value(one, other) {
+                Ordering::Equal => compare_values(rest, s, u, w),
+                order => order,
+            }
+        }
+    }
+}
