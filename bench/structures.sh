@@ -86,7 +86,7 @@ mkdir -p "$scratch/old/crates/measure/src"
 sed -e 's/^use tv_listing::Listing;$/use tv_struct::Listing;/' "$scratch/crates/measure/src/main.rt" >"$scratch/old/crates/measure/src/main.rt"
 echo 'measure: tv_kleene tv_model tv_struct' >>"$scratch/old/crates.txt"
 run() { # run FOLDER: the times, a line each
-  (cd "$1/crates/measure" && rt try >"$scratch/log" 2>&1) || { tail -n 20 "$scratch/log"; exit 1; }
+  (cd "$1/crates/measure" && rt try --seconds 3000 >"$scratch/log" 2>&1) || { tail -n 20 "$scratch/log"; exit 1; }
   grep ' us$' "$scratch/log"
 }
 run "$scratch/old" | tee "$scratch/before"
