@@ -11,8 +11,7 @@ use Rattle.tv_kleene.proofs.Lattice.{smaller-assoc, smaller-yes, join_least}
 use Rattle.tv_row.specs.Bits.{greatest_in, least_in, paired}
 use Rattle.tv_row.proofs.WordOps.{length-paired, get_or-paired}
 use Rattle.tv_blur.specs.Merged.{IsJoin}
-use Rattle.tv_blur.specs.Classes.{IsAmongFirst, IsAmongMembers, IsMask}
-use Rattle.tv_blur.proofs.JoinLaws.{join_first, join_is, join_members}
+use Rattle.tv_blur.specs.Classes.{IsAmongMembers, IsMask}
 
 -- ---- flags
 
@@ -145,15 +144,6 @@ between Yes Half Yes a b = absurd (cc)
 between Yes Yes Yes a b = inl refl
 
 -- ---- the join at the members
-
--- one member alone
-pub joined_single : (members : List ℕ) (row : List K3) (k : K3) → length members ≡ 1 → k ≡ get_or row (get_or members 0 0) No
-    → IsJoin (IsAmongMembers (λ u j. get_or row u No ≡ j) members) k
-joined_single members row k one is =
-    let values : ℕ → K3 → Type 0 = λ u j. get_or row u No ≡ j
-    in join_members values members k
-    (subst (λ n. IsJoin (IsAmongFirst (λ i. values (get_or members i 0)) n) k) (sym one)
-    (join_first (λ i. values (get_or members i 0)) k (join_is (get_or row (get_or members 0 0) No) k is)))
 
 yes_or_no : (k : K3) → k ≢ Half → (k ≡ Yes) ⊎ (k ≡ No)
 yes_or_no No ne = inr refl

@@ -10,6 +10,9 @@ use std::marker::Model;
 use tv_kleene::K3;
 use tv_row::Row;
 
+/// So many members are joined one by one sooner than by words.
+const FEW: usize = 16;
+
 /// Some individuals, seen by contracts as their list, and kept as bits too, so that values of many of
 /// them are joined word by word.
 #[derive(Drop)]
@@ -73,12 +76,25 @@ impl Class {
         requires within { All (λ u. u < length row.now) self.now }
         ensures { IsJoin (IsAmongMembers (λ u j. slice_index_or row.now u No ≡ j) self.now) result }
     {
-        if self.members.len() == 1 {
-            return row.get(self.members[0]);
+        if self.members.len() <= FEW {
+            return joined_each(row, self.members.as_slice());
         }
         let mask = self.mask.first(row.size());
         let greatest = mask.and(row).greatest();
         let least = mask.not().or(row).least();
         least.join(greatest)
     }
+}
+
+/// The join of the row's values at the individuals, one by one.
+fn joined_each(row: &Row, members: &[u32]) -> K3
+    requires some { 0 < length members.now }
+    requires within { All (λ u. u < length row.now) members.now }
+    ensures { IsJoin (IsAmongMembers (λ u j. slice_index_or row.now u No ≡ j) members.now) result }
+{
+    let mut k = row.get(members[0]);
+    for i in 1..members.len() {
+        k = k.join(row.get(members[i]));
+    }
+    k
 }

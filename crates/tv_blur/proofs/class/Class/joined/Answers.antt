@@ -1,18 +1,14 @@
-use Rattle.std.proofs.Common.{◌≡◌, ◌∙◌, length, get_or, ap, subst, arith}
-use Rattle.std.proofs.lemmas.List.{get_or_default}
+use Rattle.std.proofs.Common.{ℕ, ◌≡◌, ◌∙◌, List, get_or, subst}
 use Rattle.tv_kleene.specs.declared.K3.TheVariants.{No}
-use Rattle.tv_blur.specs.Classes.{IsMask}
-use Rattle.tv_blur.proofs.MaskLaws.{joined_masked, joined_single}
+use Rattle.tv_blur.specs.Classes.{IsAmongMembers, IsMask}
+use Rattle.tv_blur.specs.Merged.{IsJoin}
+use Rattle.tv_blur.proofs.MaskLaws.{joined_masked}
 use Rattle.tv_blur.proofs.class.Class.joined.Goals as goal
 
-pub returns-then-len-eq1 : goal.returns-then-len-eq1
-returns-then-len-eq1 c =
-    let first : c.index.result.now ≡ get_or c.args.self.now 0 0
-    = c.index.ensures ∙ ap (λ xs. get_or xs 0 c.index.result.now) c.self.view_is
-    ∙ get_or_default c.args.self.now 0 c.index.result.now 0 c.requires.some
-    in joined_single c.args.self.now c.args.row.now c.get.result
-    (omega (arith, c.len.ensures, c.if-len-eq1.true, ap length c.self.view_is))
-    (c.get.ensures ∙ ap (λ u. get_or c.args.row.now u No) first)
+pub returns-then-len-le-FEW : goal.returns-then-len-le-FEW
+returns-then-len-le-FEW c =
+    let Joins : List ℕ → Type 0 = λ members. IsJoin (IsAmongMembers (λ u j. get_or c.args.row.now u No ≡ j) members) c.joined_each.result
+    in subst Joins (c.as_slice.ensures.value ∙ c.self.view_is) c.joined_each.ensures
 
 pub returns : goal.returns
 returns c =
