@@ -20,12 +20,13 @@ use Rattle.tv_status.specs.declared.status.FileKind.TheVariants as kind
 use Rattle.tv_status.specs.declared.status.Role.{Role}
 use Rattle.tv_status.specs.declared.status.Role.TheVariants as role
 use Rattle.tv_status.specs.declared.status.Status.{Status}
-use Rattle.tv_status.specs.declared.status.Status.TheVariants.{Done, Rejected, Usage, FileFault, Structures, TooManySplits, TooManyIndividuals, ReadFault, WriteFault, Memory}
+use Rattle.tv_status.specs.declared.status.Status.TheVariants.{Done, Rejected, Stuck, Usage, FileFault, Structures, TooManySplits, TooManyIndividuals, ReadFault, WriteFault, Memory}
 
 -- the exit code of the process
 abbrev pub code_of : Status → ℕ
 code_of Done = 0
 code_of (Rejected rejection) = 1
+code_of (Stuck step why) = 1
 code_of Usage = 2
 code_of (FileFault role kind) = 3
 code_of (Structures max) = 4
@@ -39,6 +40,8 @@ abbrev pub role_name : Role → List ℕ
 role_name role.Program = codes "program"
 role_name role.Initial = codes "initial"
 role_name role.Report = codes "report"
+role_name role.Start = codes "start"
+role_name role.Trace = codes "trace"
 
 -- a kind of fault is told by its name
 abbrev pub gathering_name : GatherError → List ℕ
@@ -105,6 +108,8 @@ kind_name (kind.Lexing error) = lexing_name error
 kind_name (kind.Program fault) = program_name fault
 kind_name (kind.Structures error) = structures_name error
 kind_name (kind.ReportForm place) = codes "ReportForm"
+kind_name kind.NotHeap = codes "NotHeap"
+kind_name (kind.TraceForm place) = codes "TraceForm"
 
 -- the place that a fault carries
 abbrev pub parsing_place : ParseError → Option Place
@@ -129,6 +134,8 @@ place_of (kind.Lexing error) = None
 place_of (kind.Program fault) = program_place fault
 place_of (kind.Structures error) = structures_place error
 place_of (kind.ReportForm place) = Some place
+place_of kind.NotHeap = None
+place_of (kind.TraceForm place) = Some place
 
 -- the text with a line feed behind it
 abbrev pub line : List ℕ → List ℕ
@@ -145,17 +152,20 @@ file_fault_text role kind (Some place) =
 unfoldable pub too_many_text : ℕ → List ℕ
 too_many_text max = codes "tvla: more than " ++ decimal max ++ line (codes " structures")
 
-abbrev pub usage_text : List ℕ
+-- the lines of all commands
+unfoldable pub usage_text : List ℕ
 usage_text =
     line (codes "usage: tvla analyze PROGRAM INITIAL [--max-structures N] [--recompute]")
     ++ line (codes "       tvla check PROGRAM INITIAL REPORT [--recompute] [--maps]")
     ++ line (codes "       tvla demo NUMBER")
+    ++ line (codes "       tvla replay PROGRAM INITIAL START TRACE REPORT")
     ++ line (codes "       tvla join PROGRAM INITIAL [--max-structures N] [--recompute]")
 
 -- the text that tells the status to whom called; one whose text the output took needs none
 abbrev pub text_of : Status → List ℕ
 text_of Done = []
 text_of (Rejected rejection) = []
+text_of (Stuck step why) = []
 text_of Usage = usage_text
 text_of (FileFault role kind) = file_fault_text role kind (place_of kind)
 text_of (Structures max) = too_many_text max

@@ -112,6 +112,8 @@ impl Role {
             Role::Program => b"program",
             Role::Initial => b"initial",
             Role::Report => b"report",
+            Role::Start => b"start",
+            Role::Trace => b"trace",
         }
     }
 }
@@ -128,6 +130,8 @@ impl FileKind {
             FileKind::Program(fault) => program_name(fault),
             FileKind::Structures(error) => structures_name(error),
             FileKind::ReportForm(_) => b"ReportForm",
+            FileKind::NotHeap => b"NotHeap",
+            FileKind::TraceForm(_) => b"TraceForm",
         }
     }
 
@@ -138,7 +142,8 @@ impl FileKind {
         match self {
             FileKind::Program(ProgramFault::Parsing(ParseError::Syntax(place)))
             | FileKind::Structures(TvsError::Syntax(place))
-            | FileKind::ReportForm(place) => Some(place),
+            | FileKind::ReportForm(place)
+            | FileKind::TraceForm(place) => Some(place),
             _ => None,
         }
     }

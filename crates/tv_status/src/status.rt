@@ -6,6 +6,7 @@ ghost use Rattle.tv_status.specs.Status.{code_of};
 use tv_front::ProgramFault;
 use tv_lex::{GatherError, LexError, Place};
 use tv_listing::Rejection;
+use tv_replayed::Why;
 use tv_tvs::TvsError;
 
 /// Which of the files of a command.
@@ -17,6 +18,10 @@ pub enum Role {
     Initial,
     /// The report that is checked.
     Report,
+    /// The heap that a replay begins with.
+    Start,
+    /// The edges that a replay goes along.
+    Trace,
 }
 
 /// What is wrong with a file. Want of memory and a failed read are no faults of a file: where a reader's
@@ -36,6 +41,10 @@ pub enum FileKind {
     /// It is no report on the program. The place is that of the first token that can't stand there, or of
     /// the part in which the first other condition of a report is broken.
     ReportForm(Place),
+    /// It means structures, but not exactly one, or one with a value 1/2 or a summary.
+    NotHeap,
+    /// It is no trace on the program. The place is that of a token, or of the end of the text.
+    TraceForm(Place),
 }
 
 /// How a call of the whole program ends.
@@ -45,6 +54,8 @@ pub enum Status {
     Done,
     /// The report is rejected, and the text that says why was taken.
     Rejected(Rejection),
+    /// The replay can't make a step, counted from 1, and the text that says why was taken.
+    Stuck { step: u32, why: Why },
     /// The words spell no command.
     Usage,
     /// A file means nothing.
@@ -64,15 +75,15 @@ pub enum Status {
 }
 
 impl Status {
-    /// The exit code of the process: 0 for a job that is done, 1 for a rejected report, 2 for words that
-    /// spell no command, 3 for a faulty file, 4 for a budget that is passed, 5 and 6 for faults of reading
-    /// and of writing, 7 for want of memory.
+    /// The exit code of the process: 0 for a job that is done, 1 for a rejected report and for a replay that
+    /// is stuck, 2 for words that spell no command, 3 for a faulty file, 4 for a budget that is passed, 5 and
+    /// 6 for faults of reading and of writing, 7 for want of memory.
     pub fn code(&self) -> u8
         ensures { result ≡ code_of self.now }
     {
         match self {
             Status::Done => 0,
-            Status::Rejected(_) => 1,
+            Status::Rejected(_) | Status::Stuck { .. } => 1,
             Status::Usage => 2,
             Status::FileFault(_, _) => 3,
             Status::Structures(_) | Status::TooManySplits | Status::TooManyIndividuals => 4,

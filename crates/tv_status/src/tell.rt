@@ -3,7 +3,7 @@
 ghost use Rattle.std.specs.Prelude.{◌≡◌, ◌≤◌, OnOk, OnErr, Some, None};
 ghost use Rattle.tv_outside.specs.Count.{Rose, FailedLast};
 ghost use Rattle.tv_outside.specs.Told.{appended, TookFront};
-ghost use Rattle.tv_status.specs.Status.{text_of, file_fault_text, too_many_text};
+ghost use Rattle.tv_status.specs.Status.{text_of, file_fault_text, too_many_text, usage_text};
 
 use crate::status::{FileKind, Role, Status};
 use itoa::Buffer;
@@ -13,8 +13,22 @@ use tv_outside::{Failed, Sink, write_all, write_parts};
 const USAGE: &[u8] = b"usage: tvla analyze PROGRAM INITIAL [--max-structures N] [--recompute]
        tvla check PROGRAM INITIAL REPORT [--recompute] [--maps]
        tvla demo NUMBER
+       tvla replay PROGRAM INITIAL START TRACE REPORT
        tvla join PROGRAM INITIAL [--max-structures N] [--recompute]
 ";
+
+/// Gives the usage text to the sink; takes no memory.
+fn write_usage<E: Sink>(err: &mut E) -> Result<(), Failed>
+    ensures all { OnOk result (E.taken err.new ≡ appended (E.taken err.old) usage_text) }
+    ensures failed { OnErr result (Rose (E.faults err.old) (E.faults err.new)) }
+    ensures front { OnErr result (TookFront (E.taken err.old) (E.taken err.new) usage_text) }
+    ensures no_failure { OnOk result (E.failures err.new ≡ E.failures err.old) }
+    ensures failed_last { OnErr result
+        (FailedLast (E.failures err.old) (E.failures err.new) (E.since err.new)) }
+    ensures count { E.faults err.old ≤ E.faults err.new }
+{
+    write_all(err, USAGE)
+}
 
 /// Gives the text of a file's fault without its place to the sink; takes no memory.
 #[tactic(auto, unfolding(crate::specs::Status::file_fault_text))]
@@ -108,8 +122,8 @@ fn write_file_fault<E: Sink>(err: &mut E, role: Role, kind: FileKind) -> Result<
     }
 }
 
-/// Gives the text of the status to the sink; takes no memory. `Done` and `Rejected` have none, since the
-/// output took theirs.
+/// Gives the text of the status to the sink; takes no memory. `Done`, `Rejected` and `Stuck` have none, since
+/// the output took theirs.
 ///
 /// # Errors
 /// `Failed` comes only where a call of `err` failed, and then a front of the text was taken.
@@ -123,8 +137,8 @@ pub fn write_status<E: Sink>(err: &mut E, status: Status) -> Result<(), Failed>
     ensures count { E.faults err.old ≤ E.faults err.new }
 {
     match status {
-        Status::Done | Status::Rejected(_) => write_all(err, b""),
-        Status::Usage => write_all(err, USAGE),
+        Status::Done | Status::Rejected(_) | Status::Stuck { .. } => write_all(err, b""),
+        Status::Usage => write_usage(err),
         Status::FileFault(role, kind) => write_file_fault(err, role, kind),
         Status::Structures(max) => write_too_many(err, max),
         Status::TooManySplits => write_all(err, b"tvla: too many splits\n"),

@@ -5,3 +5,5 @@
 mod call;
 #[cfg(test)]
 mod join;
+#[cfg(test)]
+mod replay;

@@ -334,6 +334,7 @@ const USAGE: Ending<'static, 'static> = Ending {
     err: "usage: tvla analyze PROGRAM INITIAL [--max-structures N] [--recompute]
        tvla check PROGRAM INITIAL REPORT [--recompute] [--maps]
        tvla demo NUMBER
+       tvla replay PROGRAM INITIAL START TRACE REPORT
        tvla join PROGRAM INITIAL [--max-structures N] [--recompute]
 ",
 };

@@ -47,6 +47,7 @@ end
 const USAGE: &str = "usage: tvla analyze PROGRAM INITIAL [--max-structures N] [--recompute]
        tvla check PROGRAM INITIAL REPORT [--recompute] [--maps]
        tvla demo NUMBER
+       tvla replay PROGRAM INITIAL START TRACE REPORT
        tvla join PROGRAM INITIAL [--max-structures N] [--recompute]
 ";
 

@@ -128,6 +128,17 @@ static JOINS: [(&str, &str); 18] = [
     ("join a -- b --recompute", "none"),
 ];
 
+static REPLAYS: [(&str, &str); 8] = [
+    ("replay", "none"),
+    ("replay a b c d", "none"),
+    ("replay a b c d e", "replay a b c d e"),
+    ("replay a b c d e f", "none"),
+    ("replay -- a b c d e", "replay a b c d e"),
+    ("replay a b c -- --d e", "replay a b c --d e"),
+    ("replay a b c d e --recompute", "none"),
+    ("replay a b c d e --max-structures 2", "none"),
+];
+
 static NUMBERS: [(&str, &str); 15] = [
     ("demo", "none"),
     ("demo 0", "none"),
@@ -191,6 +202,15 @@ fn shown(alloc: Global, command: &Option<Command>) -> Result<String, AllocError>
         }
         Some(Command::Demo { number }) => format!(in alloc; "demo {number}"),
         Some(
+            Command::Replay {
+                program,
+                initial,
+                start,
+                trace,
+                report,
+            },
+        ) => format!(in alloc; "replay {program} {initial} {start} {trace} {report}"),
+        Some(
             Command::Join {
                 program,
                 initial,
@@ -209,7 +229,12 @@ fn compare(alloc: Global, line: &str, want: &str) -> Result<bool, AllocError> {
 
 #[test]
 fn words_by_example(rt: HostRuntime) -> Result<(), Fail> {
-    for (line, want) in LINES.iter().chain(JOINS.iter()).chain(NUMBERS.iter()) {
+    for (line, want) in LINES
+        .iter()
+        .chain(JOINS.iter())
+        .chain(REPLAYS.iter())
+        .chain(NUMBERS.iter())
+    {
         assert!(rt; compare(rt.alloc(), line, want)?, "at {line}");
     }
     Ok(())

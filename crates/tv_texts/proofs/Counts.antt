@@ -1,11 +1,12 @@
 -- A text has fewer structures than bytes.
-use Rattle.std.proofs.Common.{◌≡◌, ℕ, ◌+◌, ◌<◌, ◌≤◌, ◌^◌, List, [], ◌∷◌, length, map, Result, Ok, Err, refl, sym, ap, arith}
+use Rattle.std.proofs.Common.{◌≡◌, ℕ, ◌+◌, ◌<◌, ◌≤◌, ◌^◌, List, [], ◌∷◌, length, map, None, Result, Ok, Err, refl, sym, ap, arith}
+use Rattle.std.specs.Prelude.{All}
 use Rattle.std.proofs.lemmas.List.{length-map}
 use Rattle.tv_lex.specs.Pieces.{AreInOrder}
 use Rattle.tv_lex.specs.Token.{SpecToken, spec_token, spec_tokens}
 use Rattle.tv_lex.specs.declared.token.Token.{Token}
 use Rattle.tv_model.specs.declared.program.Pred.{Pred}
-use Rattle.tv_struct.specs.StructureForm.{StructureForm}
+use Rattle.tv_struct.specs.StructureForm.{StructureForm, IsOver}
 use Rattle.tv_tree.specs.Steps.{◌>>=◌}
 use Rattle.tv_tvs.proofs.Complete.{struct_shorter}
 use Rattle.tv_tvs.specs.Grammar.{IsStruct, Many, begins_struct}
@@ -59,3 +60,7 @@ few_structures vocab text tokens ss order size means =
       many_counts (spec_tokens text tokens) means.trees [] means.are,
       meant_count vocab.preds means.trees ss means.meant,
     )
+
+-- structures over the vocabulary without a mark are over it
+pub all_over : (vocab : Vocab) (ss : List StructureForm) → All (λ s. IsOver vocab s × (s.fresh ≡ None)) ss → All (IsOver vocab) ss
+all_over vocab ss all = λ k d lt. (all k d lt).0

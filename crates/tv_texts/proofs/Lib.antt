@@ -2,4 +2,5 @@ mod Counts
 mod Loading
 mod OneMeaning
 mod Refusals
+mod Starts
 mod Vocabularies

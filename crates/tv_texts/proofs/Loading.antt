@@ -57,6 +57,8 @@ too_long told name limit its_role Means lacks rose steady (Refused its (kind.Lex
 too_long told name limit its_role Means lacks rose steady (Refused its (kind.Program e)) f h = absurd h.1
 too_long told name limit its_role Means lacks rose steady (Refused its (kind.Structures e)) f h = absurd h.1
 too_long told name limit its_role Means lacks rose steady (Refused its (kind.ReportForm place)) f h = absurd h.1
+too_long told name limit its_role Means lacks rose steady (Refused its kind.NotHeap) f h = absurd h.1
+too_long told name limit its_role Means lacks rose steady (Refused its (kind.TraceForm place)) f h = absurd h.1
 too_long told name limit its_role Means lacks rose steady NotRead f h = h
 too_long told name limit its_role Means lacks rose steady Memory f h = tt
 
@@ -91,6 +93,8 @@ gathered_refused told name text lacks rose steady (Refused its (kind.Lexing e)) 
 gathered_refused told name text lacks rose steady (Refused its (kind.Program e)) gathers h = (h.0, (text, gathers, h.1))
 gathered_refused told name text lacks rose steady (Refused its (kind.Structures e)) gathers h = absurd h.1
 gathered_refused told name text lacks rose steady (Refused its (kind.ReportForm place)) gathers h = absurd h.1
+gathered_refused told name text lacks rose steady (Refused its kind.NotHeap) gathers h = absurd h.1
+gathered_refused told name text lacks rose steady (Refused its (kind.TraceForm place)) gathers h = absurd h.1
 gathered_refused told name text lacks rose steady NotRead gathers h = absurd h.0
 gathered_refused told name text lacks rose steady Memory gathers h = tt
 

@@ -20,12 +20,19 @@ use Rattle.tv_status.specs.declared.status.FileKind.TheVariants as kind
 use Rattle.tv_struct.specs.StructureForm.{StructureForm}
 use Rattle.tv_texts.proofs.Counts.{same_ok}
 use Rattle.tv_texts.specs.Agreement.{Agree, GiveOne, SameProgram, placeless, at_start}
-use Rattle.tv_texts.specs.Meaning.{HasTokens, IsUnlexed, IsNoInitial, MeansProgram, MeansInitial, MeansReport}
+use Rattle.tv_texts.specs.Meaning.{HasTokens, IsUnlexed, IsNoInitial, AreOneHeap, MeansProgram, MeansInitial, MeansStart, MeansMoves, MeansReport}
+use Rattle.tv_trace.specs.Meaning.{MeansTrace, IsNoTrace}
+use Rattle.tv_trace.specs.declared.trace.Trace.{Trace}
 use Rattle.tv_tvs.specs.Grammar.{AreStructs}
 use Rattle.tv_tvs.specs.Meaning.{MeansStructs, IsNoText, structs_meant}
 use Rattle.tv_tvs.specs.Tree.{StructTree}
 use Rattle.tv_tvs.specs.declared.error.TvsError.{TvsError}
 use Rattle.tv_tvs.specs.declared.error.TvsError.TheVariants as refusal
+
+-- the first of a list
+abbrev head_or : List StructureForm → StructureForm → StructureForm
+head_or [] s = s
+head_or (t ∷ ts) s = t
 
 refused_with : {A E : Type 0} → E → Result A E → E
 refused_with e (Ok x) = e
@@ -46,6 +53,8 @@ refusal_of text (kind.Lexing e) h = absurd h
 refusal_of text (kind.Program fault) h = (fault, refl, h.0)
 refusal_of text (kind.Structures e) h = absurd h
 refusal_of text (kind.ReportForm place) h = absurd h
+refusal_of text kind.NotHeap h = absurd h
+refusal_of text (kind.TraceForm place) h = absurd h
 
 module _
     (one : (text : List ℕ) (p q : ProgramForm) → Means text p → Means text q → p ≡ q)
@@ -124,6 +133,8 @@ initial_view p text (Err (kind.Lexing e)) h = inr (h.0, inl (e, unlexed_reads te
 initial_view p text (Err (kind.Program f)) h = absurd h
 initial_view p text (Err (kind.Structures e)) h = inr (h.0, inr (h.1.0, h.1.1, h.1.2))
 initial_view p text (Err (kind.ReportForm place)) h = absurd h
+initial_view p text (Err kind.NotHeap) h = absurd h
+initial_view p text (Err (kind.TraceForm place)) h = absurd h
 
 -- the refusal is one of the tokens as structures, or of what they mean
 refusal_view : (vocab : Vocab) (text : List ℕ) (tokens : List Token) (e : TvsError) (ts : List SpecToken)
@@ -147,6 +158,8 @@ refused_structs vocab text tokens (kind.Lexing e) h = absurd h
 refused_structs vocab text tokens (kind.Program f) h = absurd h
 refused_structs vocab text tokens (kind.Structures e) h = (e, refl, h)
 refused_structs vocab text tokens (kind.ReportForm place) h = absurd h
+refused_structs vocab text tokens kind.NotHeap h = absurd h
+refused_structs vocab text tokens (kind.TraceForm place) h = absurd h
 
 module _ (trees : (tokens : List SpecToken) (a b : List StructTree) → AreStructs tokens a → AreStructs tokens b → a ≡ b) where
   same_meaning : (vocab : Vocab) (ts : List SpecToken) (a b : Result (List StructureForm) TvsError)
@@ -197,6 +210,92 @@ module _ (trees : (tokens : List SpecToken) (a b : List StructTree) → AreStruc
   one_initial reading p text a b h k = one_view reading longest_gathered text (OfStructs p.vocab text)
       (one_structs p.vocab text) a b (initial_view p text a h) (initial_view p text b k)
 
+-- ---- heaps
+
+-- a refusal of a heap: the text means other structures, or none
+start_refusal : (p : Program) (text : List ℕ) (k : FileKind) → MeansStart p text (Err k)
+    → ((k ≡ kind.NotHeap) × ((ss : List StructureForm) × MeansInitial p text (Ok ss) × (¬ AreOneHeap ss)))
+    ⊎ MeansInitial p text (Err k)
+start_refusal p text kind.TooLong h = inr h
+start_refusal p text (kind.Gathering e) h = inr h
+start_refusal p text (kind.Lexing e) h = inr h
+start_refusal p text (kind.Program f) h = inr h
+start_refusal p text (kind.Structures e) h = inr h
+start_refusal p text (kind.ReportForm place) h = inr h
+start_refusal p text kind.NotHeap h = inl (refl, h)
+start_refusal p text (kind.TraceForm place) h = inr h
+
+module _ (p : Program) (text : List ℕ) (one : GiveOne {A = List StructureForm} ◌≡◌ (MeansInitial p text) (MeansInitial p text)) where
+  heap_not_refused : (s : StructureForm) (k : FileKind) → MeansStart p text (Ok s) → MeansStart p text (Err k) → ⊥
+  heap_not_refused s k h refused = elim (start_refusal p text k refused) [
+    | inl other ↦ other.1.2 (subst AreOneHeap (one (Ok (s ∷ [])) (Ok other.1.0) h.0 other.1.1) h.1)
+    | inr none ↦ one (Ok (s ∷ [])) (Err k) h.0 none
+  ]
+
+  both_refused : (d e : FileKind)
+      → (((d ≡ kind.NotHeap) × ((ss : List StructureForm) × MeansInitial p text (Ok ss) × (¬ AreOneHeap ss))) ⊎ MeansInitial p text (Err d))
+      → (((e ≡ kind.NotHeap) × ((ss : List StructureForm) × MeansInitial p text (Ok ss) × (¬ AreOneHeap ss))) ⊎ MeansInitial p text (Err e))
+      → placeless d ≡ placeless e
+  both_refused d e (inl a) (inl b) = rw (a.0, b.0) refl
+  both_refused d e (inl a) (inr b) = absurd (one (Ok a.1.0) (Err e) a.1.1 b)
+  both_refused d e (inr a) (inl b) = absurd (one (Err d) (Ok b.1.0) a b.1.1)
+  both_refused d e (inr a) (inr b) = one (Err d) (Err e) a b
+
+  pub one_start : GiveOne {A = StructureForm} ◌≡◌ (MeansStart p text) (MeansStart p text)
+  one_start (Ok s) (Ok t) h k = ap (λ ss. head_or ss s) (one (Ok (s ∷ [])) (Ok (t ∷ [])) h.0 k.0)
+  one_start (Ok s) (Err e) h k = heap_not_refused s e h k
+  one_start (Err d) (Ok t) h k = heap_not_refused t d k h
+  one_start (Err d) (Err e) h k = both_refused d e (start_refusal p text d h) (start_refusal p text e k)
+
+-- ---- traces
+
+OfMoves : Program → (text : List ℕ) → List Token → Result Trace FileKind → Type 0
+OfMoves p text tokens (Ok t) = MeansTrace p (spec_tokens text tokens) t
+OfMoves p text tokens (Err (kind.TraceForm place)) = IsNoTrace p (spec_tokens text tokens)
+OfMoves p text tokens (Err other) = ⊥
+
+moves_view : (p : Program) (text : List ℕ) (a : Result Trace FileKind) → MeansMoves p text a
+    → View longest_gathered text (OfMoves p text) a
+unfolding OfMoves
+moves_view p text (Ok t) h = inr (h.0, inr (h.1.0, h.1.1, h.1.2))
+moves_view p text (Err kind.TooLong) h = inl (h, refl)
+moves_view p text (Err (kind.Gathering e)) h = absurd h
+moves_view p text (Err (kind.Lexing e)) h = inr (h.0, inl (e, unlexed_reads text e h.1, refl))
+moves_view p text (Err (kind.Program f)) h = absurd h
+moves_view p text (Err (kind.Structures e)) h = absurd h
+moves_view p text (Err (kind.ReportForm place)) h = absurd h
+moves_view p text (Err kind.NotHeap) h = absurd h
+moves_view p text (Err (kind.TraceForm place)) h = inr (h.0, inr (h.1.0, h.1.1, h.1.2.0))
+
+refused_moves : (p : Program) (text : List ℕ) (tokens : List Token) (k : FileKind) → OfMoves p text tokens (Err k)
+    → (placeless k ≡ placeless (kind.TraceForm (record { line = 1; column = 1 }))) × IsNoTrace p (spec_tokens text tokens)
+unfolding OfMoves
+refused_moves p text tokens kind.TooLong h = absurd h
+refused_moves p text tokens (kind.Gathering e) h = absurd h
+refused_moves p text tokens (kind.Lexing e) h = absurd h
+refused_moves p text tokens (kind.Program f) h = absurd h
+refused_moves p text tokens (kind.Structures e) h = absurd h
+refused_moves p text tokens (kind.ReportForm place) h = absurd h
+refused_moves p text tokens kind.NotHeap h = absurd h
+refused_moves p text tokens (kind.TraceForm place) h = (refl, h)
+
+module _ (one : (p : Program) (ts : List SpecToken) (a b : Trace) → MeansTrace p ts a → MeansTrace p ts b → a ≡ b) where
+  one_of_moves : (p : Program) (text : List ℕ) (tokens : List Token)
+      → GiveOne {A = Trace} ◌≡◌ (OfMoves p text tokens) (OfMoves p text tokens)
+  unfolding OfMoves
+  one_of_moves p text tokens (Ok a) (Ok b) h k = one p (spec_tokens text tokens) a b h k
+  one_of_moves p text tokens (Ok a) (Err e) h k =
+      let r = refused_moves p text tokens e k in absurd (r.1 a h)
+  one_of_moves p text tokens (Err e) (Ok b) h k =
+      let r = refused_moves p text tokens e h in absurd (r.1 b k)
+  one_of_moves p text tokens (Err d) (Err e) h k =
+      let r = refused_moves p text tokens d h in let s = refused_moves p text tokens e k in r.0 ∙ sym s.0
+
+  pub one_moves : ((text : List ℕ) (a b : Result (List Token) LexError) → Reads text a → Reads text b → a ≡ b)
+      → (p : Program) (text : List ℕ) → GiveOne {A = Trace} ◌≡◌ (MeansMoves p text) (MeansMoves p text)
+  one_moves reading p text a b h k = one_view reading longest_gathered text (OfMoves p text)
+      (one_of_moves p text) a b (moves_view p text a h) (moves_view p text b k)
+
 -- ---- reports
 
 OfReport : Program → (text : List ℕ) → List Token → Result Analysis FileKind → Type 0
@@ -214,6 +313,8 @@ report_view p text (Err (kind.Lexing e)) h = inr (h.0, inl (e, unlexed_reads tex
 report_view p text (Err (kind.Program f)) h = absurd h
 report_view p text (Err (kind.Structures e)) h = absurd h
 report_view p text (Err (kind.ReportForm place)) h = inr (h.0, inr (h.1.0, h.1.1, h.1.2.0))
+report_view p text (Err kind.NotHeap) h = absurd h
+report_view p text (Err (kind.TraceForm place)) h = absurd h
 
 refused_report : (p : Program) (text : List ℕ) (tokens : List Token) (k : FileKind) → OfReport p text tokens (Err k)
     → (placeless k ≡ placeless (kind.ReportForm (record { line = 1; column = 1 }))) × IsNoReport p (spec_tokens text tokens)
@@ -224,6 +325,8 @@ refused_report p text tokens (kind.Lexing e) h = absurd h
 refused_report p text tokens (kind.Program f) h = absurd h
 refused_report p text tokens (kind.Structures e) h = absurd h
 refused_report p text tokens (kind.ReportForm place) h = (refl, h)
+refused_report p text tokens kind.NotHeap h = absurd h
+refused_report p text tokens (kind.TraceForm place) h = absurd h
 
 module _ (one : (p : Program) (ts : List SpecToken) (a b : Analysis) → MeansReportTokens p ts a → MeansReportTokens p ts b → a ≡ b) where
   one_of_report : (p : Program) (text : List ℕ) (tokens : List Token)

@@ -18,11 +18,14 @@ use Rattle.tv_status.specs.declared.status.FileKind.{FileKind}
 use Rattle.tv_status.specs.declared.status.FileKind.TheVariants as kind
 use Rattle.tv_status.specs.declared.status.Role.{Role}
 use Rattle.tv_status.specs.declared.status.Role.TheVariants as role
-use Rattle.tv_texts.specs.Faults.{fault_of_program, fault_of_lexing, fault_of_structures, fault_of_report}
+use Rattle.tv_texts.specs.Faults.{fault_of_program, fault_of_lexing, fault_of_structures, fault_of_report, fault_of_trace}
 use Rattle.tv_texts.specs.Files.{IsTextCause}
-use Rattle.tv_texts.specs.Meaning.{IsUnlexed, MeansProgram, MeansInitial, MeansReport}
+use Rattle.tv_texts.specs.Meaning.{IsUnlexed, MeansProgram, MeansInitial, MeansMoves, MeansReport}
 use Rattle.tv_texts.specs.declared.fault.TextFault.{TextFault}
 use Rattle.tv_texts.specs.declared.fault.TextFault.TheVariants.{Refused, NotRead, Memory}
+use Rattle.tv_trace.specs.Meaning.{IsCause as TraceCause, StopsAtToken as TraceStops}
+use Rattle.tv_trace.specs.declared.error.TraceError.{TraceError}
+use Rattle.tv_trace.specs.declared.error.TraceError.TheVariants as trace
 use Rattle.tv_tree.specs.Steps.{Unless}
 use Rattle.tv_tvs.specs.Meaning.{IsCause as StructuresCause, StopsAtToken as StructuresStops}
 use Rattle.tv_tvs.specs.declared.error.TvsError.{TvsError}
@@ -44,14 +47,22 @@ unlexed_as text its_role Means (Refused its (kind.Lexing e)) f h = (h.0, f e h.1
 unlexed_as text its_role Means (Refused its (kind.Program e)) f h = absurd h.1
 unlexed_as text its_role Means (Refused its (kind.Structures e)) f h = absurd h.1
 unlexed_as text its_role Means (Refused its (kind.ReportForm place)) f h = absurd h.1
+unlexed_as text its_role Means (Refused its kind.NotHeap) f h = absurd h.1
+unlexed_as text its_role Means (Refused its (kind.TraceForm place)) f h = absurd h.1
 unlexed_as text its_role Means NotRead f h = absurd h.0
 unlexed_as text its_role Means Memory f h = tt
 
-pub initial_unlexed : (p : Program) (text : List ℕ) (fault : TextFault) → length text ≤ longest_gathered
-    → IsTextCause role.Initial (IsUnlexed text) fault
-    → IsTextCause role.Initial (λ k. MeansInitial p text (Err k)) fault
-initial_unlexed p text fault size h =
-    unlexed_as text role.Initial (λ k. MeansInitial p text (Err k)) fault (λ e is. (size, is)) h
+pub initial_unlexed : (p : Program) (text : List ℕ) (its_role : Role) (fault : TextFault) → length text ≤ longest_gathered
+    → IsTextCause its_role (IsUnlexed text) fault
+    → IsTextCause its_role (λ k. MeansInitial p text (Err k)) fault
+initial_unlexed p text its_role fault size h =
+    unlexed_as text its_role (λ k. MeansInitial p text (Err k)) fault (λ e is. (size, is)) h
+
+pub trace_unlexed : (p : Program) (text : List ℕ) (fault : TextFault) → length text ≤ longest_gathered
+    → IsTextCause role.Trace (IsUnlexed text) fault
+    → IsTextCause role.Trace (λ k. MeansMoves p text (Err k)) fault
+trace_unlexed p text fault size h =
+    unlexed_as text role.Trace (λ k. MeansMoves p text (Err k)) fault (λ e is. (size, is)) h
 
 pub report_unlexed : (p : Program) (text : List ℕ) (fault : TextFault) → length text ≤ longest_text
     → IsTextCause role.Report (IsUnlexed text) fault
@@ -69,18 +80,18 @@ program_refused text fault cause stops = told (is_memory fault) cause
     told true c = tt
     told false c = (refl, (c, stops))
 
-pub structures_refused : (p : Program) (text : List ℕ) (tokens : List Token) (e : TvsError)
+pub structures_refused : (p : Program) (text : List ℕ) (tokens : List Token) (its_role : Role) (e : TvsError)
     → length text ≤ longest_gathered → Reads text (Ok tokens) → StructuresCause p.vocab (spec_tokens text tokens) e
-    → StructuresStops text tokens e → IsTextCause role.Initial (λ k. MeansInitial p text (Err k)) (fault_of_structures e)
-structures_refused p text tokens (structures.Syntax place) size reads cause stops =
+    → StructuresStops text tokens e → IsTextCause its_role (λ k. MeansInitial p text (Err k)) (fault_of_structures its_role e)
+structures_refused p text tokens its_role (structures.Syntax place) size reads cause stops =
     (refl, (size, (tokens, reads, (cause, stops))))
-structures_refused p text tokens structures.IndividualUnknown size reads cause stops = (refl, (size, (tokens, reads, cause)))
-structures_refused p text tokens structures.IndividualTwice size reads cause stops = (refl, (size, (tokens, reads, cause)))
-structures_refused p text tokens structures.NameUnknown size reads cause stops = (refl, (size, (tokens, reads, cause)))
-structures_refused p text tokens structures.ArityWrong size reads cause stops = (refl, (size, (tokens, reads, cause)))
-structures_refused p text tokens structures.BadSm size reads cause stops = (refl, (size, (tokens, reads, cause)))
-structures_refused p text tokens structures.TooManyIndividuals size reads cause stops = (refl, (size, (tokens, reads, cause)))
-structures_refused p text tokens structures.Memory size reads cause stops = tt
+structures_refused p text tokens its_role structures.IndividualUnknown size reads cause stops = (refl, (size, (tokens, reads, cause)))
+structures_refused p text tokens its_role structures.IndividualTwice size reads cause stops = (refl, (size, (tokens, reads, cause)))
+structures_refused p text tokens its_role structures.NameUnknown size reads cause stops = (refl, (size, (tokens, reads, cause)))
+structures_refused p text tokens its_role structures.ArityWrong size reads cause stops = (refl, (size, (tokens, reads, cause)))
+structures_refused p text tokens its_role structures.BadSm size reads cause stops = (refl, (size, (tokens, reads, cause)))
+structures_refused p text tokens its_role structures.TooManyIndividuals size reads cause stops = (refl, (size, (tokens, reads, cause)))
+structures_refused p text tokens its_role structures.Memory size reads cause stops = tt
 
 pub report_refused : (p : Program) (text : List ℕ) (tokens : List Token) (e : ReportError)
     → length text ≤ longest_text → Reads text (Ok tokens) → ReportCause p (spec_tokens text tokens) e
@@ -88,3 +99,10 @@ pub report_refused : (p : Program) (text : List ℕ) (tokens : List Token) (e : 
 report_refused p text tokens (report.ReportForm place) size reads cause stops =
     (refl, (size, (tokens, reads, (cause, stops))))
 report_refused p text tokens report.Memory size reads cause stops = tt
+
+pub trace_refused : (p : Program) (text : List ℕ) (tokens : List Token) (e : TraceError)
+    → length text ≤ longest_gathered → Reads text (Ok tokens) → TraceCause p (spec_tokens text tokens) e
+    → TraceStops text tokens e → IsTextCause role.Trace (λ k. MeansMoves p text (Err k)) (fault_of_trace e)
+trace_refused p text tokens (trace.TraceForm place) size reads cause stops =
+    (refl, (size, (tokens, reads, (cause, stops))))
+trace_refused p text tokens trace.Memory size reads cause stops = tt

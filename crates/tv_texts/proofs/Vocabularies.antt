@@ -1,5 +1,5 @@
 -- What texts of structures and reports mean depends on what a program says alone, wherever its parts lie.
-use Rattle.std.proofs.Common.{◌≡◌, ℕ, List, [], ◌∷◌, map, Option, None, Some, Result, Ok, Err, refl, sym, ap, subst, ◌∙◌}
+use Rattle.std.proofs.Common.{◌≡◌, ◌<◌, ℕ, List, [], ◌∷◌, map, Option, None, Some, Result, Ok, Err, refl, sym, ap, subst, ◌∙◌}
 use Rattle.std.specs.Prelude.{slice_index, slice_get, length, All, Contains}
 use Rattle.std.specs.Str.{bytes_eq}
 use Rattle.tv_lex.specs.Token.{SpecToken, spec_tokens}
@@ -15,7 +15,11 @@ use Rattle.tv_status.specs.declared.status.FileKind.{FileKind}
 use Rattle.tv_status.specs.declared.status.FileKind.TheVariants as kind
 use Rattle.tv_struct.specs.StructureForm.{StructureForm}
 use Rattle.tv_texts.specs.Agreement.{SameProgram}
-use Rattle.tv_texts.specs.Meaning.{IsNoInitial, MeansInitial, MeansReport as MeansReportIn}
+use Rattle.tv_texts.specs.Meaning.{IsNoInitial, MeansInitial, MeansStart, MeansMoves, MeansReport as MeansReportIn}
+use Rattle.tv_trace.specs.Meaning.{AreMeant, AreMoves, MeansTrace, IsNoTrace}
+use Rattle.tv_trace.specs.Tree.{StepTree}
+use Rattle.tv_trace.specs.declared.trace.Move.{Move}
+use Rattle.tv_trace.specs.declared.trace.Trace.{Trace}
 use Rattle.tv_tree.specs.Steps.{◌>>=◌, or_refused}
 use Rattle.tv_tvs.specs.Meaning.{number_of, predicate_at, subject_of, fitting_put, entry_put, entries_put, blank, all_different, struct_meant, structs_meant, arity_at, Subject, MeansStructs}
 use Rattle.tv_tvs.specs.Tree.{EntryTree, StructTree, name_text}
@@ -173,6 +177,8 @@ initial_also p q same text (Err (kind.Program f)) h = absurd h
 initial_also p q same text (Err (kind.Structures e)) h =
     (h.0, (h.1.0, h.1.1, refusal_also p q same text e h.1.0 (spec_tokens text h.1.0) h.1.2))
 initial_also p q same text (Err (kind.ReportForm place)) h = absurd h
+initial_also p q same text (Err kind.NotHeap) h = absurd h
+initial_also p q same text (Err (kind.TraceForm place)) h = absurd h
 
 no_report_also : (p q : Program) (ts : List SpecToken) → SameProgram p q → IsNoReport q ts → IsNoReport p ts
 no_report_also p q ts same none a means = none a (report_also q p ts a (sym same) means)
@@ -189,3 +195,68 @@ report_text_also p q same text (Err (kind.Program f)) h = absurd h
 report_text_also p q same text (Err (kind.Structures e)) h = absurd h
 report_text_also p q same text (Err (kind.ReportForm place)) h =
     (h.0, (h.1.0, h.1.1, (no_report_also p q (spec_tokens text h.1.0) same h.1.2.0, h.1.2.1)))
+report_text_also p q same text (Err kind.NotHeap) h = absurd h
+report_text_also p q same text (Err (kind.TraceForm place)) h = absurd h
+
+-- ---- a heap, and a trace
+
+-- a text of one heap means the same
+pub start_also : (p q : Program) → SameProgram p q → (text : List ℕ) (a : Result StructureForm FileKind)
+    → MeansStart q text a → MeansStart p text a
+start_also p q same text (Ok s) h = (initial_also p q same text (Ok (s ∷ [])) h.0, h.1)
+start_also p q same text (Err kind.NotHeap) h = (h.0, initial_also p q same text (Ok h.0) h.1, h.2)
+start_also p q same text (Err kind.TooLong) h = initial_also p q same text (Err kind.TooLong) h
+start_also p q same text (Err (kind.Gathering e)) h = absurd h
+start_also p q same text (Err (kind.Lexing e)) h = initial_also p q same text (Err (kind.Lexing e)) h
+start_also p q same text (Err (kind.Program f)) h = absurd h
+start_also p q same text (Err (kind.Structures e)) h = initial_also p q same text (Err (kind.Structures e)) h
+start_also p q same text (Err (kind.ReportForm place)) h = absurd h
+start_also p q same text (Err (kind.TraceForm place)) h = absurd h
+
+values_also : (p q : Program) → SameProgram p q → (tree : Option StructTree) (values : Option StructureForm)
+    → AreMeant q.vocab tree values → AreMeant p.vocab tree values
+values_also p q same None None h = h
+values_also p q same None (Some s) h = absurd h
+values_also p q same (Some t) None h = absurd h
+values_also p q same (Some t) (Some s) h =
+    struct_same p.vocab.preds q.vocab.preds (same_names p q same) (same_arities p q same) t ∙ h
+
+moves_also : (p q : Program) → SameProgram p q → (steps : List StepTree) (moves : List Move)
+    → AreMoves q steps moves → AreMoves p steps moves
+moves_also p q same [] [] h = h
+moves_also p q same [] (move ∷ moves) h = absurd h
+moves_also p q same (step ∷ steps) [] h = absurd h
+moves_also p q same (step ∷ steps) (move ∷ moves) h = (
+  record {
+    known = subst (λ es. step.edge < length es) (sym (ap (λ (f : ProgramForm). f.edges) same)) h.0.known;
+    edge = h.0.edge;
+    picks = h.0.picks;
+    values = values_also p q same step.values move.values h.0.values;
+  },
+  moves_also p q same steps moves h.1,
+)
+
+trace_also : (p q : Program) (ts : List SpecToken) (t : Trace) → SameProgram p q → MeansTrace q ts t → MeansTrace p ts t
+trace_also p q ts t same means = record {
+  steps = means.steps;
+  are = means.are;
+  moves = moves_also p q same means.steps t.moves means.moves;
+}
+
+no_trace_also : (p q : Program) (ts : List SpecToken) → SameProgram p q → IsNoTrace q ts → IsNoTrace p ts
+no_trace_also p q ts same none t means = none t (trace_also q p ts t (sym same) means)
+
+-- a text of a trace means the same
+pub trace_text_also : (p q : Program) → SameProgram p q → (text : List ℕ) (a : Result Trace FileKind)
+    → MeansMoves q text a → MeansMoves p text a
+trace_text_also p q same text (Ok t) h =
+    (h.0, (h.1.0, h.1.1, trace_also p q (spec_tokens text h.1.0) t same h.1.2))
+trace_text_also p q same text (Err kind.TooLong) h = h
+trace_text_also p q same text (Err (kind.Gathering e)) h = absurd h
+trace_text_also p q same text (Err (kind.Lexing e)) h = h
+trace_text_also p q same text (Err (kind.Program f)) h = absurd h
+trace_text_also p q same text (Err (kind.Structures e)) h = absurd h
+trace_text_also p q same text (Err (kind.ReportForm place)) h = absurd h
+trace_text_also p q same text (Err kind.NotHeap) h = absurd h
+trace_text_also p q same text (Err (kind.TraceForm place)) h =
+    (h.0, (h.1.0, h.1.1, (no_trace_also p q (spec_tokens text h.1.0) same h.1.2.0, h.1.2.1)))

@@ -18,6 +18,7 @@ abbrev pub placeless : FileKind → FileKind
 placeless (kind.Program fault) = kind.Program (without_place fault)
 placeless (kind.Structures e) = kind.Structures (at_start e)
 placeless (kind.ReportForm place) = kind.ReportForm start_of_text
+placeless (kind.TraceForm place) = kind.TraceForm start_of_text
 placeless other = other
 
 -- both say the same program, wherever its parts lie in memory

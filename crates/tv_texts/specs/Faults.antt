@@ -11,11 +11,13 @@ use Rattle.tv_outside.specs.declared.read.ReadError.TheVariants as reading
 use Rattle.tv_report.specs.declared.error.ReportError.{ReportError}
 use Rattle.tv_report.specs.declared.error.ReportError.TheVariants as report
 use Rattle.tv_status.specs.declared.status.FileKind.{FileKind}
-use Rattle.tv_status.specs.declared.status.FileKind.TheVariants.{TooLong, Gathering, Lexing, Program, Structures, ReportForm}
+use Rattle.tv_status.specs.declared.status.FileKind.TheVariants.{TooLong, Gathering, Lexing, Program, Structures, ReportForm, TraceForm}
 use Rattle.tv_status.specs.declared.status.Role.{Role}
 use Rattle.tv_status.specs.declared.status.Role.TheVariants as role
 use Rattle.tv_texts.specs.declared.fault.TextFault.{TextFault}
 use Rattle.tv_texts.specs.declared.fault.TextFault.TheVariants.{Refused, NotRead, Memory}
+use Rattle.tv_trace.specs.declared.error.TraceError.{TraceError}
+use Rattle.tv_trace.specs.declared.error.TraceError.TheVariants as trace
 use Rattle.tv_tvs.specs.declared.error.TvsError.{TvsError}
 use Rattle.tv_tvs.specs.declared.error.TvsError.TheVariants as structures
 
@@ -40,12 +42,17 @@ abbrev pub fault_of_lexing : Role → LexError → TextFault
 fault_of_lexing its_role lexing.Memory = Memory
 fault_of_lexing its_role e = Refused its_role (Lexing e)
 
--- tokens that are no structures
-abbrev pub fault_of_structures : TvsError → TextFault
-fault_of_structures structures.Memory = Memory
-fault_of_structures e = Refused role.Initial (Structures e)
+-- tokens that are no structures, in a file that has this role
+abbrev pub fault_of_structures : Role → TvsError → TextFault
+fault_of_structures its_role structures.Memory = Memory
+fault_of_structures its_role e = Refused its_role (Structures e)
 
 -- tokens that are no report
 abbrev pub fault_of_report : ReportError → TextFault
 fault_of_report report.Memory = Memory
 fault_of_report (report.ReportForm place) = Refused role.Report (ReportForm place)
+
+-- tokens that are no trace
+abbrev pub fault_of_trace : TraceError → TextFault
+fault_of_trace trace.Memory = Memory
+fault_of_trace (trace.TraceForm place) = Refused role.Trace (TraceForm place)

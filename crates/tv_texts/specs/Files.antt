@@ -10,7 +10,8 @@ use Rattle.tv_status.specs.declared.status.FileKind.{FileKind}
 use Rattle.tv_status.specs.declared.status.FileKind.TheVariants.{Gathering, TooLong}
 use Rattle.tv_status.specs.declared.status.Role.{Role}
 use Rattle.tv_struct.specs.StructureForm.{StructureForm}
-use Rattle.tv_texts.specs.Meaning.{MeansProgram, MeansInitial, MeansReport}
+use Rattle.tv_trace.specs.declared.trace.Trace.{Trace}
+use Rattle.tv_texts.specs.Meaning.{MeansProgram, MeansInitial, MeansStart, MeansMoves, MeansReport}
 use Rattle.tv_texts.specs.declared.fault.TextFault.{TextFault}
 use Rattle.tv_texts.specs.declared.fault.TextFault.TheVariants.{Refused, NotRead, Memory as NoMemory}
 
@@ -44,6 +45,14 @@ LacksFile told name = Gathers told name (Err Failed)
 abbrev pub IsInitialFile : Option Held → (name : List ℕ) → Program → Result (List StructureForm) FileKind
     → Type 0
 IsInitialFile told name program answer = HoldsSuch told name (λ text. MeansInitial program text answer)
+
+-- the named file means this heap of the program, or is refused so
+abbrev pub IsStartFile : Option Held → (name : List ℕ) → Program → Result StructureForm FileKind → Type 0
+IsStartFile told name program answer = HoldsSuch told name (λ text. MeansStart program text answer)
+
+-- the named file is this trace on the program, or is refused so
+abbrev pub IsTraceFile : Option Held → (name : List ℕ) → Program → Result Trace FileKind → Type 0
+IsTraceFile told name program answer = HoldsSuch told name (λ text. MeansMoves program text answer)
 
 -- the named file is this report on the program, or is refused so
 abbrev pub IsReportFile : Option Held → (name : List ℕ) → Program → Result Analysis FileKind → Type 0

@@ -1,6 +1,6 @@
--- What the texts of a call mean: a program, structures over its vocabulary, a report on it; or the first
--- refusal.
-use Rattle.std.specs.Prelude.{ℕ, ◌≤◌, ◌<◌, List, length, Result, Ok, Err}
+-- What the texts of a call mean: a program, structures over its vocabulary, a heap, a trace and a report on it; or
+-- the first refusal.
+use Rattle.std.specs.Prelude.{ℕ, ◌≤◌, ◌<◌, List, [], ◌∷◌, length, Result, Ok, Err}
 use Rattle.tv_front.specs.Meaning.{Means, IsRefused, StopsAtToken}
 use Rattle.tv_lex.specs.Bytes.{longest_text}
 use Rattle.tv_lex.specs.Gather.{longest_gathered}
@@ -17,9 +17,12 @@ use Rattle.tv_report.specs.Meaning.{IsReportText, IsNoReport}
 use Rattle.tv_status.specs.declared.status.FileKind.{FileKind}
 use Rattle.tv_status.specs.declared.status.FileKind.TheVariants as kind
 use Rattle.tv_struct.specs.StructureForm.{StructureForm}
+use Rattle.tv_trace.specs.Meaning.{MeansTrace, IsNoTrace}
+use Rattle.tv_trace.specs.declared.trace.Trace.{Trace}
 use Rattle.tv_tvs.specs.Meaning.{MeansStructs, IsNoText}
 use Rattle.tv_tvs.specs.declared.error.TvsError.{TvsError}
 use Rattle.tv_tvs.specs.declared.error.TvsError.TheVariants as refusal
+use Rattle.tv_two_valued.specs.TwoValued.{IsTwoValued}
 
 -- the text, in which includes are put in already, means this program, or is refused so
 abbrev pub MeansProgram : (text : List ℕ) → Result Program FileKind → Type 0
@@ -55,6 +58,29 @@ MeansInitial program text (Err (kind.Lexing e)) = (length text ≤ longest_gathe
 MeansInitial program text (Err (kind.Structures e)) =
     (length text ≤ longest_gathered) × HasTokens text (IsNoInitial program.vocab text e)
 MeansInitial program text (Err other) = ⊥
+
+-- there is exactly one, and it has no value 1/2 and no summary
+abbrev pub AreOneHeap : List StructureForm → Type 0
+AreOneHeap [] = ⊥
+AreOneHeap (s ∷ []) = IsTwoValued s
+AreOneHeap (s ∷ t ∷ more) = ⊥
+
+-- the text means this heap over the program's vocabulary; or it is refused as structures, or means others
+abbrev pub MeansStart : Program → (text : List ℕ) → Result StructureForm FileKind → Type 0
+MeansStart program text (Ok s) = MeansInitial program text (Ok (s ∷ [])) × IsTwoValued s
+MeansStart program text (Err kind.NotHeap) =
+    (structures : List StructureForm) × MeansInitial program text (Ok structures) × (¬ AreOneHeap structures)
+MeansStart program text (Err other) = MeansInitial program text (Err other)
+
+-- the text is this trace on the program, or is refused so
+abbrev pub MeansMoves : Program → (text : List ℕ) → Result Trace FileKind → Type 0
+MeansMoves program text (Ok trace) = (length text ≤ longest_gathered)
+    × HasTokens text (λ tokens ts. MeansTrace program ts trace)
+MeansMoves program text (Err kind.TooLong) = longest_gathered < length text
+MeansMoves program text (Err (kind.Lexing e)) = (length text ≤ longest_gathered) × IsUnlexed text (kind.Lexing e)
+MeansMoves program text (Err (kind.TraceForm place)) = (length text ≤ longest_gathered)
+    × HasTokens text (λ tokens ts. IsNoTrace program ts × IsTokenPlace text tokens place)
+MeansMoves program text (Err other) = ⊥
 
 -- the text is this report on the program, or is refused so
 abbrev pub MeansReport : Program → (text : List ℕ) → Result Analysis FileKind → Type 0

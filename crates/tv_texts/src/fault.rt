@@ -2,7 +2,7 @@
 
 ghost use Rattle.std.specs.Prelude.{◌≡◌};
 ghost use Rattle.tv_front.specs.Meaning.{is_memory};
-ghost use Rattle.tv_texts.specs.Faults.{fault_of_gathering, fault_of_program, fault_of_reading, fault_of_lexing, fault_of_structures, fault_of_report};
+ghost use Rattle.tv_texts.specs.Faults.{fault_of_gathering, fault_of_program, fault_of_reading, fault_of_lexing, fault_of_structures, fault_of_report, fault_of_trace};
 
 use thiserror::Error;
 use tv_expand::ExpandError;
@@ -13,6 +13,7 @@ use tv_outside::ReadError;
 use tv_parse::ParseError;
 use tv_report::ReportError;
 use tv_status::{FileKind, Role};
+use tv_trace::TraceError;
 use tv_tvs::TvsError;
 
 /// Why a text or a file gave nothing.
@@ -66,13 +67,25 @@ impl From<ProgramFault> for TextFault {
     }
 }
 
-impl From<TvsError> for TextFault {
-    ghost from_gives = { λ error fault. fault ≡ fault_of_structures error };
+/// The fault of a file of this role whose tokens mean no structures.
+pub(crate) fn fault_of_structures(error: TvsError, role: Role) -> TextFault
+    ensures { result ≡ fault_of_structures role error }
+{
+    match error {
+        TvsError::Memory => TextFault::Memory,
+        _ => TextFault::Refused(role, FileKind::Structures(error)),
+    }
+}
 
-    fn from(error: TvsError) -> TextFault {
+impl From<TraceError> for TextFault {
+    ghost from_gives = { λ error fault. fault ≡ fault_of_trace error };
+
+    fn from(error: TraceError) -> TextFault {
         match error {
-            TvsError::Memory => TextFault::Memory,
-            _ => TextFault::Refused(Role::Initial, FileKind::Structures(error)),
+            TraceError::TraceForm(place) => {
+                TextFault::Refused(Role::Trace, FileKind::TraceForm(place))
+            }
+            TraceError::Memory => TextFault::Memory,
         }
     }
 }

@@ -1,6 +1,6 @@
 //! What named files mean.
 
-ghost use Rattle.std.specs.Prelude.{◌≡◌, ◌≤◌, ◌<◌, ◌^◌, All, Ok, Err, length, IfOk, IfErr};
+ghost use Rattle.std.specs.Prelude.{◌≡◌, ◌≤◌, ◌<◌, ◌^◌, All, None, Ok, Err, length, IfOk, IfErr};
 ghost use Rattle.tv_lex.specs.Bytes.{longest_text};
 ghost use Rattle.tv_lex.specs.Gather.{longest_gathered};
 ghost use Rattle.tv_listing.specs.Listed.{IsListing};
@@ -9,18 +9,20 @@ ghost use Rattle.tv_model.specs.Valid.{IsValid};
 ghost use Rattle.tv_outside.specs.Count.{Rose};
 ghost use Rattle.tv_outside.specs.Told.{HoldsName, IsContent};
 ghost use Rattle.tv_status.specs.declared.status.Role.TheVariants as role;
-ghost use Rattle.tv_struct.specs.StructureForm.{IsOver};
-ghost use Rattle.tv_texts.specs.Files.{IsProgramFile, LacksFile, IsInitialFile, IsReportFile, IsFileCause, IsLong, UnlessNotRead};
+ghost use Rattle.tv_struct.specs.StructureForm.{IsStructure, IsOver};
+ghost use Rattle.tv_trace.specs.Meaning.{IsTraceOn};
+ghost use Rattle.tv_texts.specs.Files.{IsProgramFile, LacksFile, IsInitialFile, IsStartFile, IsTraceFile, IsReportFile, IsFileCause, IsLong, UnlessNotRead};
 
 use crate::fault::{TextFault, fault_of_reading};
-use crate::texts::{initial_in, program_in, report_in};
+use crate::texts::{initial_in, program_in, report_in, start_in, trace_in};
 use std::alloc::Global;
 use tv_lex::{MAX_TEXT, gather};
 use tv_listing::Analysis;
 use tv_model::Program;
 use tv_outside::{Files, read_all};
 use tv_status::Role;
-use tv_struct::Structures;
+use tv_struct::{Structure, Structures};
+use tv_trace::Trace;
 
 /// The greatest number of bytes of a report.
 pub const MAX_REPORT: usize = 67_108_864;
@@ -93,6 +95,7 @@ pub fn load_initial<F: Files>(
     requires valid { IsValid (program_of program.now) }
     ensures means { IfOk result (λ ss. IsInitialFile (F.holds files.old) name.now program.now (Ok ss)) }
     ensures over { IfOk result (All (IsOver program.now.vocab)) }
+    ensures kept { IfOk result (All IsStructure) }
     ensures few { IfOk result (λ ss. length ss < 2 ^ 32) }
     ensures cause { IfErr result (IsFileCause role.Initial (λ kind. IsInitialFile
         (F.holds files.old) name.now program.now (Err kind))
@@ -105,6 +108,62 @@ pub fn load_initial<F: Files>(
 {
     let bytes = read_file(alloc, files, name, Role::Initial, MAX_TEXT)?;
     initial_in(alloc, program, &bytes)
+}
+
+/// The heap over a program's vocabulary that the named file means.
+///
+/// # Errors
+/// It is refused where it means no structures, or others than one heap. It isn't read only where a call of `files`
+/// failed, and on steady files only where they lack it. Or memory ran out.
+#[tactic(auto, using(crate::proofs::Loading::too_long, crate::proofs::Loading::held_refused, crate::proofs::Loading::holds_such, crate::proofs::Loading::holds_anyway))]
+pub fn load_start<F: Files>(
+    alloc: Global,
+    files: &mut F,
+    name: &str,
+    program: &Program,
+) -> Result<Structure, TextFault>
+    requires valid { IsValid (program_of program.now) }
+    ensures means { IfOk result (λ s. IsStartFile (F.holds files.old) name.now program.now (Ok s)) }
+    ensures over { IfOk result (λ s. IsOver program.now.vocab s × (s.fresh ≡ None)) }
+    ensures cause { IfErr result (IsFileCause role.Start (λ kind. IsStartFile
+        (F.holds files.old) name.now program.now (Err kind))
+        (¬ HoldsName (F.holds files.old) name.now) (Rose (F.faults files.old) (F.faults files.new))
+        (F.steady files.old)) }
+    ensures holds { F.holds files.new ≡ F.holds files.old }
+    ensures count { F.faults files.old ≤ F.faults files.new }
+    ensures steady { F.steady files.old → UnlessNotRead result (F.steady files.new
+        × (F.faults files.new ≡ F.faults files.old)) }
+{
+    let bytes = read_file(alloc, files, name, Role::Start, MAX_TEXT)?;
+    start_in(alloc, program, &bytes)
+}
+
+/// The trace on a program that the named file is.
+///
+/// # Errors
+/// It is refused where it is none. It isn't read only where a call of `files` failed, and on steady files
+/// only where they lack it. Or memory ran out.
+#[tactic(auto, using(crate::proofs::Loading::too_long, crate::proofs::Loading::held_refused, crate::proofs::Loading::holds_such, crate::proofs::Loading::holds_anyway))]
+pub fn load_trace<F: Files>(
+    alloc: Global,
+    files: &mut F,
+    name: &str,
+    program: &Program,
+) -> Result<Trace, TextFault>
+    requires valid { IsValid (program_of program.now) }
+    ensures means { IfOk result (λ t. IsTraceFile (F.holds files.old) name.now program.now (Ok t)) }
+    ensures kept { IfOk result (IsTraceOn program.now) }
+    ensures cause { IfErr result (IsFileCause role.Trace (λ kind. IsTraceFile
+        (F.holds files.old) name.now program.now (Err kind))
+        (¬ HoldsName (F.holds files.old) name.now) (Rose (F.faults files.old) (F.faults files.new))
+        (F.steady files.old)) }
+    ensures holds { F.holds files.new ≡ F.holds files.old }
+    ensures count { F.faults files.old ≤ F.faults files.new }
+    ensures steady { F.steady files.old → UnlessNotRead result (F.steady files.new
+        × (F.faults files.new ≡ F.faults files.old)) }
+{
+    let bytes = read_file(alloc, files, name, Role::Trace, MAX_TEXT)?;
+    trace_in(alloc, program, &bytes)
 }
 
 /// The report on a program that the named file is.

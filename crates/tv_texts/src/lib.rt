@@ -1,4 +1,4 @@
-//! From files and texts to what they mean: programs, initial structures, reports.
+//! From files and texts to what they mean: programs, initial structures, heaps, traces, reports.
 #![tactic(auto)]
 
 mod fault;
@@ -7,6 +7,6 @@ mod laws;
 mod texts;
 
 pub use fault::TextFault;
-pub use files::{load_initial, load_program, load_report};
+pub use files::{load_initial, load_program, load_report, load_start, load_trace};
 pub use laws::one_meaning_each;
 pub use texts::{initial_in, program_in};

@@ -1,7 +1,8 @@
 -- The numbers that words spell are within their limits.
-use Rattle.std.proofs.Common.{◌≤◌, ℕ, List, [], ◌∷◌, arith}
+use Rattle.std.proofs.Common.{◌≡◌, ◌≤◌, ℕ, List, [], ◌∷◌, arith}
 use Rattle.tv_top.specs.Laws.{CommandsAreBounded}
-use Rattle.tv_words.specs.Words.{Analyzes, Checks, Demos, Joins, IsMax}
+use Rattle.tv_top.specs.Work.{IsBounded}
+use Rattle.tv_words.specs.Words.{CommandForm, Analyzes, Checks, Demos, Joins, Replays, Spells, IsMax}
 
 max_bounded : (values : List (List ℕ)) (max : ℕ) → IsMax values max → max ≤ 100000
 max_bounded [] max h = omega (arith, h)
@@ -13,3 +14,4 @@ bounded words (Analyzes program initial max mode) spells = max_bounded _ max spe
 bounded words (Checks program initial report mode maps) spells = tt
 bounded words (Demos number) spells = (spells.2.number_is.1, spells.2.number_is.2)
 bounded words (Joins program initial max mode) spells = max_bounded _ max spells.2.max_is
+bounded words (Replays program initial start trace report) spells = tt

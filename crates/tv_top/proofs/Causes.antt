@@ -4,7 +4,7 @@ use Rattle.std.specs.Prelude.{IfOk, IfErr}
 use Rattle.tv_join.specs.Joined.{IsJoinCause}
 use Rattle.tv_join.specs.declared.error.JoinError.{JoinError}
 use Rattle.tv_join.specs.declared.error.JoinError.TheVariants as join
-use Rattle.tv_judge.specs.Judged.{IsJudgeCause, StopsAt}
+use Rattle.tv_judge.specs.Judged.{IsJudgeCause, StopsAt, IsRejection}
 use Rattle.tv_listing.specs.declared.analysis.Analysis.{Analysis}
 use Rattle.tv_model.specs.Program.{ProgramForm, program_of}
 use Rattle.tv_model.specs.declared.program.Mode.{Mode}
@@ -20,18 +20,20 @@ use Rattle.tv_texts.specs.Files.{IsProgramFile, LacksFile, IsInitialFile, IsRepo
 use Rattle.tv_texts.specs.Meaning.{MeansProgram, MeansInitial}
 use Rattle.tv_texts.specs.declared.fault.TextFault.{TextFault}
 use Rattle.tv_texts.specs.declared.fault.TextFault.TheVariants.{Refused, NotRead, Memory}
-use Rattle.tv_top.specs.Answers.{Reached, InRound, case_for, max_of, HasMoreThan, StepMeets, IsAnswer, IsDone, IsAccepted, IsAcceptedText}
+use Rattle.tv_top.specs.Answers.{Reached, InRound, case_for, max_of, HasMoreThan, StepMeets, IsAnswer, IsDone, IsAccepted, IsAcceptedText, IsRejected, RunMeans, IsReplayed}
 use Rattle.tv_top.specs.Call.{IsCause, IsCommandCause}
 use Rattle.tv_top.specs.Delivery.{SaidOf}
 use Rattle.tv_top.specs.Faults.{fault_of_work, fault_of_join, fault_of_stage, fault_of_text}
-use Rattle.tv_top.specs.Meaning.{Task, FilesMean, GivesProgram, GivesInitial, GivesReport, IsMissing}
-use Rattle.tv_top.specs.Work.{Names, IsSearchCause, IsJoinSearchCause, IsJudged, IsJudgementCause, UnlessReadFault}
+use Rattle.tv_top.specs.Meaning.{Task, FilesMean, GivesProgram, GivesInitial, GivesReport, IsMissing, LacksLater, IsRefused}
+use Rattle.tv_top.specs.Work.{Names, IsSearchCause, IsJoinSearchCause, IsJudged, IsJudgementCause, UnlessReadFault, IsRun}
 use Rattle.tv_top.specs.declared.fault.Answer.{Answer}
 use Rattle.tv_top.specs.declared.fault.Answer.TheVariants as answer
 use Rattle.tv_top.specs.declared.fault.Fault.{Fault}
 use Rattle.tv_top.specs.declared.fault.Fault.TheVariants as fault
 use Rattle.tv_transfer.specs.Budgets.{MeetsSplits, MeetsIndividuals}
-use Rattle.tv_words.specs.Words.{CommandForm, Analyzes, Checks, Demos, Joins, Spells}
+use Rattle.tv_listing.specs.declared.analysis.Rejection.{Rejection}
+use Rattle.tv_trace.specs.declared.trace.Trace.{Trace}
+use Rattle.tv_words.specs.Words.{CommandForm, Analyzes, Checks, Demos, Joins, Spells, Replays}
 use Rattle.tv_work.specs.Analysed.{IsWorkCause, Meets}
 use Rattle.tv_work.specs.Reach.{AreMoreThan}
 use Rattle.tv_work.specs.declared.error.WorkError.{WorkError}
@@ -75,6 +77,8 @@ named_program told (Checks p i report mode maps) program initial a names file =
 named_program told (Demos number) program initial a names file = absurd names
 named_program told (Joins p i max mode) program initial a names file =
     subst (λ n. IsProgramFile told n a) (sym names.0) file
+named_program told (Replays p i start trace report) program initial a names file =
+    subst (λ n. IsProgramFile told n a) (sym names.0) file
 
 pub named_initial : (told : Option Held) (command : CommandForm) (program initial : List ℕ) (p : Program)
     (a : Result (List StructureForm) FileKind)
@@ -86,6 +90,8 @@ named_initial told (Checks n i report mode maps) program initial p a names file 
 named_initial told (Demos number) program initial p a names file = absurd names
 named_initial told (Joins n i max mode) program initial p a names file =
     subst (λ m. IsInitialFile told m p a) (sym names.1) file
+named_initial told (Replays n i start trace report) program initial p a names file =
+    subst (λ m. IsInitialFile told m p a) (sym names.1) file
 
 lacks_program : (told : Option Held) (command : CommandForm) (program initial : List ℕ) → Names command program initial
     → LacksFile told program → IsMissing told command
@@ -95,6 +101,8 @@ lacks_program told (Checks p i report mode maps) program initial names lacks =
     inl (subst (λ n. LacksFile told n) (sym names.0) lacks)
 lacks_program told (Demos number) program initial names lacks = absurd names
 lacks_program told (Joins p i max mode) program initial names lacks =
+    inl (subst (λ n. LacksFile told n) (sym names.0) lacks)
+lacks_program told (Replays p i start trace report) program initial names lacks =
     inl (subst (λ n. LacksFile told n) (sym names.0) lacks)
 
 lacks_initial : (told : Option Held) (command : CommandForm) (program initial : List ℕ) (p : Program)
@@ -118,6 +126,12 @@ lacks_initial told (Joins n i max mode) program initial p names file lacks =
       named_program told (Joins n i max mode) program initial (Ok p) names file,
       subst (λ m. ¬ HoldsName told m) (sym names.1) lacks,
     ))
+lacks_initial told (Replays n i start trace report) program initial p names file lacks =
+    inr (inl (
+      p,
+      named_program told (Replays n i start trace report) program initial (Ok p) names file,
+      subst (λ m. ¬ HoldsName told m) (sym names.1) lacks,
+    ))
 
 -- why PROGRAM isn't had
 pub program_fault : (told : Option Held) (command : CommandForm) (program initial : List ℕ) (rose steady : Type 0) (e : TextFault)
@@ -128,6 +142,8 @@ program_fault told command program initial rose steady (Refused role.Program k) 
     named_program told command program initial (Err k) names h.1
 program_fault told command program initial rose steady (Refused role.Initial k) names h = absurd (let e = h.0 in cc)
 program_fault told command program initial rose steady (Refused role.Report k) names h = absurd (let e = h.0 in cc)
+program_fault told command program initial rose steady (Refused role.Start k) names h = absurd (let e = h.0 in cc)
+program_fault told command program initial rose steady (Refused role.Trace k) names h = absurd (let e = h.0 in cc)
 program_fault told command program initial rose steady NotRead names h =
     (h.0, λ s. lacks_program told command program initial names (h.1 s))
 program_fault told command program initial rose steady Memory names h = tt
@@ -144,27 +160,26 @@ initial_fault told command program initial p rose steady later still_steady (Ref
     (p, named_program told command program initial (Ok p) names file, named_initial told command program initial p (Err k) names h.1)
 initial_fault told command program initial p rose steady later still_steady (Refused role.Report k) names file f g h =
     absurd (let e = h.0 in cc)
+initial_fault told command program initial p rose steady later still_steady (Refused role.Start k) names file f g h =
+    absurd (let e = h.0 in cc)
+initial_fault told command program initial p rose steady later still_steady (Refused role.Trace k) names file f g h =
+    absurd (let e = h.0 in cc)
 initial_fault told command program initial p rose steady later still_steady NotRead names file f g h =
     (f h.0, λ s. lacks_initial told command program initial p names file (h.1 (g s)))
 initial_fault told command program initial p rose steady later still_steady Memory names file f g h = tt
 
--- why REPORT isn't had
-pub report_fault : (told : Option Held) (command : CommandForm) (task : Task) (report : List ℕ)
-    (rose steady later still_steady : Type 0) (e : TextFault)
+-- why a file behind INITIAL isn't had, which has this role
+pub later_fault : (told : Option Held) (command : CommandForm) (task : Task) (its_role : Role) (Refuses : FileKind → Type 0)
+    (lacks rose steady later still_steady : Type 0) (e : TextFault)
     → FilesMean told command task → (later → rose) → (steady → still_steady)
-    → ((k : FileKind) → IsReportFile told report task.program (Err k) → GivesReport told command task.program (Err k))
-    → (¬ HoldsName told report → IsMissing told command)
-    → IsFileCause role.Report (λ k. IsReportFile told report task.program (Err k)) (¬ HoldsName told report) later still_steady e
-    → IsCommandCause told command rose steady (fault_of_text e)
-report_fault told command task report rose steady later still_steady (Refused role.Program k) means f g gives lacks h =
-    absurd (let e = h.0 in cc)
-report_fault told command task report rose steady later still_steady (Refused role.Initial k) means f g gives lacks h =
-    absurd (let e = h.0 in cc)
-report_fault told command task report rose steady later still_steady (Refused role.Report k) means f g gives lacks h =
-    (task, means, gives k h.1)
-report_fault told command task report rose steady later still_steady NotRead means f g gives lacks h =
-    (f h.0, λ s. lacks (h.1 (g s)))
-report_fault told command task report rose steady later still_steady Memory means f g gives lacks h = tt
+    → ((k : FileKind) → Refuses k → IsRefused told command its_role k)
+    → (lacks → LacksLater told command task.program)
+    → IsFileCause its_role Refuses lacks later still_steady e → IsCommandCause told command rose steady (fault_of_text e)
+later_fault told command task its_role Refuses lacks rose steady later still_steady (Refused its k) means f g refuses misses h =
+    subst (λ r. IsRefused told command r k) (sym h.0) (refuses k h.1)
+later_fault told command task its_role Refuses lacks rose steady later still_steady NotRead means f g refuses misses h =
+    (f h.0, λ s. inr (inr (task, means, misses (h.1 (g s)))))
+later_fault told command task its_role Refuses lacks rose steady later still_steady Memory means f g refuses misses h = tt
 
 -- ---- a demo
 
@@ -174,6 +189,8 @@ pub demo_program_fault : (told : Option Held) (number : ℕ) (rose steady : Type
 demo_program_fault told number rose steady (Refused role.Program k) h = h.1
 demo_program_fault told number rose steady (Refused role.Initial k) h = absurd (let e = h.0 in cc)
 demo_program_fault told number rose steady (Refused role.Report k) h = absurd (let e = h.0 in cc)
+demo_program_fault told number rose steady (Refused role.Start k) h = absurd (let e = h.0 in cc)
+demo_program_fault told number rose steady (Refused role.Trace k) h = absurd (let e = h.0 in cc)
 demo_program_fault told number rose steady NotRead h = absurd h.0
 demo_program_fault told number rose steady Memory h = tt
 
@@ -184,6 +201,8 @@ pub demo_initial_fault : (told : Option Held) (number : ℕ) (p : Program) (rose
 demo_initial_fault told number p rose steady (Refused role.Program k) means h = absurd (let e = h.0 in cc)
 demo_initial_fault told number p rose steady (Refused role.Initial k) means h = (p, means, h.1)
 demo_initial_fault told number p rose steady (Refused role.Report k) means h = absurd (let e = h.0 in cc)
+demo_initial_fault told number p rose steady (Refused role.Start k) means h = absurd (let e = h.0 in cc)
+demo_initial_fault told number p rose steady (Refused role.Trace k) means h = absurd (let e = h.0 in cc)
 demo_initial_fault told number p rose steady NotRead means h = absurd h.0
 demo_initial_fault told number p rose steady Memory means h = tt
 
@@ -254,11 +273,13 @@ judgement_fault told command task report rose steady fault.Memory means meets h 
 pub judged_answer : (told : Option Held) (command : CommandForm) (task : Task) (report : Analysis) (maps : Bool) (a : Answer)
     → FilesMean told command task → GivesReport told command task.program (Ok report)
     → ((text : List ℕ) → IsAccepted task report → IsAcceptedText task report maps text → IsDone told command task text)
+    → ((r : Rejection) → IsRejection (case_for task report) r → IsRejected told command task r)
     → SaidOf (IsJudged task report maps) a → SaidOf (IsAnswer told command) a
-judged_answer told command task report maps (answer.Done text) means gives done h =
+judged_answer told command task report maps (answer.Done text) means gives done rejects h =
     (task, means, done text.items h.0 h.1)
-judged_answer told command task report maps (answer.Rejected r text) means gives done h =
-    (task, means, (report, gives, h.0), h.1)
+judged_answer told command task report maps (answer.Rejected r text) means gives done rejects h =
+    (task, means, rejects r h.0, h.1)
+judged_answer told command task report maps (answer.Stuck step why text) means gives done rejects h = absurd h
 
 -- ---- words
 
@@ -301,7 +322,30 @@ judged_causes told command task report rose steady (Err f) means meets h =
 pub judged_answers : (told : Option Held) (command : CommandForm) (task : Task) (report : Analysis) (maps : Bool)
     (r : Result Answer Fault) → FilesMean told command task → GivesReport told command task.program (Ok report)
     → ((text : List ℕ) → IsAccepted task report → IsAcceptedText task report maps text → IsDone told command task text)
+    → ((r : Rejection) → IsRejection (case_for task report) r → IsRejected told command task r)
     → IfOk r (SaidOf (IsJudged task report maps)) → IfOk r (SaidOf (IsAnswer told command))
-judged_answers told command task report maps (Ok a) means gives done h =
-    judged_answer told command task report maps a means gives done h
-judged_answers told command task report maps (Err f) means gives done h = h
+judged_answers told command task report maps (Ok a) means gives done rejects h =
+    judged_answer told command task report maps a means gives done rejects h
+judged_answers told command task report maps (Err f) means gives done rejects h = h
+
+pub run_answer : (told : Option Held) (command : CommandForm) (task : Task) (start : StructureForm) (trace : Trace) (report : Analysis)
+    (a : Answer) → FilesMean told command task → RunMeans told command task.program start trace report
+    → ((text : List ℕ) → IsReplayed told command task text → IsDone told command task text)
+    → SaidOf (IsRun task start trace report) a → SaidOf (IsAnswer told command) a
+run_answer told command task start trace report (answer.Done text) means run done h =
+    (task, means, done text.items (start, trace, report, run, h))
+run_answer told command task start trace report (answer.Rejected r text) means run done h = absurd h
+run_answer told command task start trace report (answer.Stuck step why text) means run done h =
+    (task, means, (start, trace, report, run, h.0), h.1)
+
+pub run_answers : (told : Option Held) (command : CommandForm) (task : Task) (start : StructureForm) (trace : Trace) (report : Analysis)
+    (r : Result Answer Fault) → FilesMean told command task → RunMeans told command task.program start trace report
+    → ((text : List ℕ) → IsReplayed told command task text → IsDone told command task text)
+    → IfOk r (SaidOf (IsRun task start trace report)) → IfOk r (SaidOf (IsAnswer told command))
+run_answers told command task start trace report (Ok a) means run done h = run_answer told command task start trace report a means run done h
+run_answers told command task start trace report (Err f) means run done h = h
+
+pub run_causes : (told : Option Held) (command : CommandForm) (rose steady : Type 0) (r : Result Answer Fault)
+    → IfErr r (λ f. f ≡ fault.Memory) → IfErr r (IsCommandCause told command rose steady)
+run_causes told command rose steady (Ok a) h = h
+run_causes told command rose steady (Err f) h = rw h tt

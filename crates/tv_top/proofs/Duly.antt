@@ -1,10 +1,10 @@
 -- The clauses of the call, from those of its two halves.
 use Rattle.std.proofs.Common.{◌≡◌, ◌⊎◌, ℕ, List, Option, Result, Ok, Err, inl, inr, ⊎_elim, refl, sym, subst}
 use Rattle.std.specs.Prelude.{IfOk, IfErr}
-use Rattle.tv_outside.specs.Told.{Held}
+use Rattle.tv_outside.specs.Told.{Held, TookFront}
 use Rattle.tv_status.specs.declared.status.Status.{Status}
-use Rattle.tv_status.specs.declared.status.Status.TheVariants.{Done, Rejected, Usage, FileFault, Structures, TooManySplits, TooManyIndividuals, ReadFault, WriteFault, Memory}
-use Rattle.tv_top.specs.Call.{IsCause, EndsFor, EndsDuly, IsExcuse}
+use Rattle.tv_status.specs.declared.status.Status.TheVariants.{Done, Rejected, Stuck, Usage, FileFault, Structures, TooManySplits, TooManyIndividuals, ReadFault, WriteFault, Memory}
+use Rattle.tv_top.specs.Call.{IsAnswerTo, IsCause, EndsFor, EndsDuly, CallsFor, IsExcuse, without_place}
 use Rattle.tv_top.specs.Delivery.{OutTook, ErrTook, IsText, IsFault, EndsAs, SaidOf, answered, answer_text, status_of, GivesText}
 use Rattle.tv_top.specs.Meaning.{Commands, IsMissing}
 use Rattle.tv_top.specs.Work.{UnlessReadFault}
@@ -27,6 +27,8 @@ out_took Done found IsAnswer out_rose err_rose old new says took =
     (took.0, found_text found IsAnswer Done took.0 says took.1, took.2)
 out_took (Rejected r) found IsAnswer out_rose err_rose old new says took =
     (took.0, found_text found IsAnswer (Rejected r) took.0 says took.1, took.2)
+out_took (Stuck step why) found IsAnswer out_rose err_rose old new says took =
+    (took.0, found_text found IsAnswer (Stuck step why) took.0 says took.1, took.2)
 out_took Usage found IsAnswer out_rose err_rose old new says took = took
 out_took (FileFault role kind) found IsAnswer out_rose err_rose old new says took = took
 out_took (Structures max) found IsAnswer out_rose err_rose old new says took = took
@@ -51,6 +53,7 @@ pub err_took : (status : Status) (found : Result Answer Fault) (IsCause : Fault 
     → ErrTook status IsCause out_rose err_rose old new
 err_took Done found IsCause out_rose err_rose old new causes took = took
 err_took (Rejected r) found IsCause out_rose err_rose old new causes took = took
+err_took (Stuck step why) found IsCause out_rose err_rose old new causes took = took
 err_took Usage found IsCause out_rose err_rose old new causes took = took
 err_took (FileFault role kind) found IsCause out_rose err_rose old new causes took = took
 err_took (Structures max) found IsCause out_rose err_rose old new causes took = took
@@ -78,12 +81,14 @@ fault_ends fault.Memory IsCause rose h = h
 answer_ends : (a : Answer) (IsCause : Fault → Type 0) (rose : Type 0) → EndsFor IsCause rose (answered a)
 answer_ends (answer.Done text) IsCause rose = tt
 answer_ends (answer.Rejected r text) IsCause rose = tt
+answer_ends (answer.Stuck step why text) IsCause rose = tt
 
 -- a write fault comes where a count of faults rose
 write_rose : (status : Status) (IsText : Status → List ℕ → Type 0) (out_rose err_rose : Type 0) (old new : Option (List ℕ))
     → status ≡ WriteFault → OutTook status IsText out_rose err_rose old new → out_rose ⊎ err_rose
 write_rose Done IsText out_rose err_rose old new e took = absurd cc
 write_rose (Rejected r) IsText out_rose err_rose old new e took = absurd cc
+write_rose (Stuck step why) IsText out_rose err_rose old new e took = absurd cc
 write_rose Usage IsText out_rose err_rose old new e took = absurd cc
 write_rose (FileFault role kind) IsText out_rose err_rose old new e took = absurd cc
 write_rose (Structures max) IsText out_rose err_rose old new e took = absurd cc
@@ -115,6 +120,7 @@ memory_excuses : (IsCause : Fault → Type 0) (rose write : Type 0) (status : St
     → (¬ rose) → (¬ write) → EndsFor IsCause write status → IsExcuse status → status ≡ Memory
 memory_excuses IsCause rose write Done reads no_read no_write cause excuse = absurd excuse
 memory_excuses IsCause rose write (Rejected r) reads no_read no_write cause excuse = absurd excuse
+memory_excuses IsCause rose write (Stuck step why) reads no_read no_write cause excuse = absurd excuse
 memory_excuses IsCause rose write Usage reads no_read no_write cause excuse = absurd excuse
 memory_excuses IsCause rose write (FileFault role kind) reads no_read no_write cause excuse = absurd excuse
 memory_excuses IsCause rose write (Structures max) reads no_read no_write cause excuse = absurd excuse
@@ -164,3 +170,7 @@ given_out found (answer.Rejected r items) text due status out_rose err_rose out_
     rw (h.0, d, f) (text, (refl, t), h.1)
 given_out found (answer.Rejected r items) text due status out_rose err_rose out_old out_new err_old err_new f d t (inr h) =
     rw (h.0, f) (inl (h.1, (Rejected r, text, (refl, t), h.2)))
+given_out found (answer.Stuck step why items) text due status out_rose err_rose out_old out_new err_old err_new f d t (inl h) =
+    rw (h.0, d, f) (text, (refl, t), h.1)
+given_out found (answer.Stuck step why items) text due status out_rose err_rose out_old out_new err_old err_new f d t (inr h) =
+    rw (h.0, f) (inl (h.1, (Stuck step why, text, (refl, t), h.2)))

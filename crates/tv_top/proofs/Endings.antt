@@ -1,26 +1,30 @@
 -- A call ends as its words and files call for.
-use Rattle.std.proofs.Common.{◌≡◌, ◌⊎◌, ℕ, List, Option, Some, Ok, inl, inr, refl, sym, ap, subst}
-use Rattle.tv_judge.specs.Judged.{Case, KeepsAllBudgets, IsRejection, StopsAt}
+use Rattle.std.proofs.Common.{◌≡◌, ◌⊎◌, ℕ, List, Option, None, Some, Result, Ok, Err, inl, inr, refl, sym, ap, subst, ◌∙◌, ⊎_elim}
+use Rattle.tv_judge.specs.Judged.{Case, IsClosedReport, KeepsAllBudgets, IsRejection, StopsAt}
 use Rattle.tv_listing.specs.declared.analysis.Analysis.{Analysis}
 use Rattle.tv_listing.specs.declared.analysis.Rejection.{Rejection}
 use Rattle.tv_model.specs.Program.{ProgramForm, program_of}
 use Rattle.tv_model.specs.declared.program.Program.{Program}
 use Rattle.tv_outside.specs.Told.{Held}
+use Rattle.tv_replayed.specs.declared.state.Why.{Why}
 use Rattle.tv_status.specs.declared.status.FileKind.{FileKind}
 use Rattle.tv_status.specs.declared.status.Role.{Role}
 use Rattle.tv_status.specs.declared.status.Status.{Status}
-use Rattle.tv_status.specs.declared.status.Status.TheVariants.{Done, Rejected, Usage, FileFault, Structures, TooManySplits, TooManyIndividuals, ReadFault, WriteFault, Memory}
+use Rattle.tv_status.specs.declared.status.Status.TheVariants.{Done, Rejected, Stuck, Usage, FileFault, Structures, TooManySplits, TooManyIndividuals, ReadFault, WriteFault, Memory}
 use Rattle.tv_struct.specs.StructureForm.{StructureForm}
 use Rattle.tv_texts.specs.Agreement.{GiveOne, SameProgram, placeless}
 use Rattle.tv_top.proofs.Demands.{one_rejection, stops_unrejected, closed_unrejected}
-use Rattle.tv_top.proofs.Tasks.{SameTask, HasReport, same_case, given_report, one_task, one_reported, not_refused, one_refusal}
-use Rattle.tv_top.specs.Answers.{Reached, InRound, case_for, IsDone, IsRejected, IsAnswer, max_of, HasMoreThan, ReachesTooMuch, StepMeets, MeetsBudget, KeepsLimits, KeepsRoundLimits, CanBeDone, demo_max}
-use Rattle.tv_top.specs.Call.{IsAnswerTo, IsCause, EndsFor, CommandCallsFor, CallsFor, IsExcuse, without_place, EndsDuly, HoldsOperands}
+use Rattle.tv_top.proofs.Tasks.{SameTask, HasReport, same_case, rejected_report, stopped_report, one_task, one_reported, not_refused, one_refusal}
+use Rattle.tv_top.specs.Answers.{Reached, InRound, case_for, IsDone, IsRejected, IsAnswer, max_of, HasMoreThan, ReachesTooMuch, StepMeets, MeetsBudget, KeepsLimits, KeepsRoundLimits, CanBeDone, StopsIn, demo_max}
+use Rattle.tv_top.specs.Call.{IsAnswerTo, IsCause, IsCommandCause, EndsFor, CommandCallsFor, CallsFor, IsExcuse, without_place, EndsDuly, HoldsOperands}
 use Rattle.tv_top.specs.Delivery.{OutTook}
-use Rattle.tv_top.specs.Meaning.{Task, Commands, FilesMean, GivesProgram, GivesInitial, GivesReport, IsRefused, IsMissing, IsTold, HoldsFiles}
+use Rattle.tv_top.specs.Meaning.{Task, Commands, FilesMean, GivesProgram, GivesInitial, GivesStart, GivesTrace, GivesReport, LacksLater, IsRefused, IsMissing, IsTold, HoldsFiles}
+use Rattle.tv_top.specs.declared.fault.Fault.{Fault}
+use Rattle.tv_top.specs.declared.fault.Fault.TheVariants as fault
+use Rattle.tv_trace.specs.declared.trace.Trace.{Trace}
 use Rattle.tv_transfer.specs.Budgets.{MeetsSplits, MeetsIndividuals, KeepsBudgets}
-use Rattle.tv_words.specs.Words.{CommandForm, Analyzes, Checks, Demos, Joins, Spells, SpellsNothing}
-use Rattle.tv_work.specs.Analysed.{Meets}
+use Rattle.tv_words.specs.Words.{CommandForm, Analyzes, Checks, Demos, Joins, Replays, Spells, SpellsNothing}
+use Rattle.tv_work.specs.Analysed.{KeepAllBudgets, Meets}
 use Rattle.tv_work.specs.Reach.{AreMoreThan}
 
 -- what may be called for: that the job is done, that the report is rejected, or that a file is refused
@@ -34,6 +38,7 @@ due_view : (told : Option Held) (command : CommandForm) (due : Status) → Comma
     → DueView told command due
 due_view told command Done h = inl (refl, h)
 due_view told command (Rejected r) h = inr (inl (r, refl, h))
+due_view told command (Stuck step why) h = absurd h
 due_view told command Usage h = absurd h
 due_view told command (FileFault role kind) h = inr (inr (role, kind, refl, h))
 due_view told command (Structures max) h = absurd h
@@ -51,6 +56,7 @@ CallView words told due = ((due ≡ Usage) × SpellsNothing words)
 call_view : (words : List (List ℕ)) (told : Option Held) (due : Status) → CallsFor words told due → CallView words told due
 call_view words told Done h = inr h
 call_view words told (Rejected r) h = inr h
+call_view words told (Stuck step why) h = inr h
 call_view words told Usage h = inl (refl, h)
 call_view words told (FileFault role kind) h = inr h
 call_view words told (Structures max) h = inr h
@@ -64,6 +70,7 @@ call_view words told Memory h = inr h
 abbrev CommandEnds : Option Held → CommandForm → Status → Type 0
 CommandEnds told command Done = (text : List ℕ) × IsAnswer told command Done text
 CommandEnds told command (Rejected r) = (text : List ℕ) × IsAnswer told command (Rejected r) text
+CommandEnds told command (Stuck step why) = (text : List ℕ) × IsAnswer told command (Stuck step why) text
 CommandEnds told command Usage = ⊥
 CommandEnds told command (FileFault role kind) = IsRefused told command role kind
 CommandEnds told command (Structures max) = ReachesTooMuch told command max
@@ -81,12 +88,14 @@ done_reported told (Analyzes p i max mode) task text h = tt
 done_reported told (Checks p i report mode maps) task text h = (h.0, h.1)
 done_reported told (Demos number) task text h = tt
 done_reported told (Joins p i most mode) task text h = tt
+done_reported told (Replays p i start trace report) task text h = (h.0, h.1, h.2, h.3)
 
 can_reported : (told : Option Held) (command : CommandForm) (task : Task) → CanBeDone told command task → HasReport told command task
 can_reported told (Analyzes p i max mode) task h = tt
 can_reported told (Checks p i report mode maps) task h = (h.0, h.1)
 can_reported told (Demos number) task h = tt
 can_reported told (Joins p i most mode) task h = tt
+can_reported told (Replays p i start trace report) task h = h
 
 many_reported : (told : Option Held) (command : CommandForm) (task : Task) (max : ℕ) → max_of command ≡ Some max
     → HasReport told command task
@@ -94,6 +103,7 @@ many_reported told (Analyzes p i max' mode) task max h = tt
 many_reported told (Checks p i report mode maps) task max h = absurd cc
 many_reported told (Demos number) task max h = tt
 many_reported told (Joins p i most mode) task max h = tt
+many_reported told (Replays p i start trace report) task max h = absurd cc
 
 step_reported : (told : Option Held) (command : CommandForm) (task : Task) (Budget : ProgramForm → ℕ → StructureForm → Type 0)
     → StepMeets told command task Budget → HasReport told command task
@@ -101,6 +111,7 @@ step_reported told (Analyzes p i max mode) task Budget h = tt
 step_reported told (Checks p i report mode maps) task Budget h = (h.0, h.1)
 step_reported told (Demos number) task Budget h = tt
 step_reported told (Joins p i most mode) task Budget h = tt
+step_reported told (Replays p i start trace report) task Budget h = absurd h
 
 -- ---- what can be done isn't hindered
 
@@ -149,42 +160,58 @@ OneCase told command t u = (a b : Analysis) → GivesReport told command t.progr
 
 can_not_rejected : (told : Option Held) (command : CommandForm) (t u : Task) (r : Rejection) → OneCase told command t u
     → CanBeDone told command t → IsRejected told command u r → ⊥
-can_not_rejected told (Analyzes p i max mode) t u r same can rejected = absurd rejected.1
+can_not_rejected told (Analyzes p i max mode) t u r same can rejected = absurd rejected
 can_not_rejected told (Checks p i report mode maps) t u r same can rejected =
     closed_unrejected (case_for t can.0) r can.2
     (subst (λ c. IsRejection c r) (sym (same can.0 rejected.0 can.1 rejected.1)) rejected.2)
-can_not_rejected told (Demos number) t u r same can rejected = absurd rejected.1
-can_not_rejected told (Joins p i most mode) t u r same can rejected = absurd rejected.1
+can_not_rejected told (Demos number) t u r same can rejected = absurd rejected
+can_not_rejected told (Joins p i most mode) t u r same can rejected = absurd rejected
+can_not_rejected told (Replays p i start trace report) t u r same can rejected = absurd rejected
 
 done_not_rejected : (told : Option Held) (command : CommandForm) (t u : Task) (text : List ℕ) (r : Rejection)
     → OneCase told command t u → IsDone told command t text → IsRejected told command u r → ⊥
-done_not_rejected told (Analyzes p i max mode) t u text r same done rejected = absurd rejected.1
+done_not_rejected told (Analyzes p i max mode) t u text r same done rejected = absurd rejected
 done_not_rejected told (Checks p i report mode maps) t u text r same done rejected =
     closed_unrejected (case_for t done.0) r done.2.closed
     (subst (λ c. IsRejection c r) (sym (same done.0 rejected.0 done.1 rejected.1)) rejected.2)
-done_not_rejected told (Demos number) t u text r same done rejected = absurd rejected.1
-done_not_rejected told (Joins p i most mode) t u text r same done rejected = absurd rejected.1
+done_not_rejected told (Demos number) t u text r same done rejected = absurd rejected
+done_not_rejected told (Joins p i most mode) t u text r same done rejected = absurd rejected
+done_not_rejected told (Replays p i start trace report) t u text r same done rejected = absurd rejected
 
 both_rejected : (told : Option Held) (command : CommandForm) (t u : Task) (r s : Rejection) → OneCase told command t u
     → IsRejected told command t r → IsRejected told command u s → r ≡ s
-both_rejected told command t u r s same h k = one_rejection (case_for t h.0) r s h.2
+both_rejected told (Analyzes p i max mode) t u r s same h k = absurd h
+both_rejected told (Checks p i report mode maps) t u r s same h k = one_rejection (case_for t h.0) r s h.2
     (subst (λ c. IsRejection c s) (sym (same h.0 k.0 h.1 k.1)) k.2)
+both_rejected told (Demos number) t u r s same h k = absurd h
+both_rejected told (Joins p i max mode) t u r s same h k = absurd h
+both_rejected told (Replays p i start trace report) t u r s same h k = absurd h
+
+stopped_not_rejected : (told : Option Held) (command : CommandForm) (t u : Task) (step : ℕ) (why : Why) (r : Rejection)
+    → StopsIn told command t step why → IsRejected told command u r → ⊥
+stopped_not_rejected told (Analyzes p i max mode) t u step why r stops rejected = absurd rejected
+stopped_not_rejected told (Checks p i report mode maps) t u step why r stops rejected = absurd stops.3.gives_start
+stopped_not_rejected told (Demos number) t u step why r stops rejected = absurd rejected
+stopped_not_rejected told (Joins p i max mode) t u step why r stops rejected = absurd rejected
+stopped_not_rejected told (Replays p i start trace report) t u step why r stops rejected = absurd rejected
 
 step_not_rejected : (told : Option Held) (command : CommandForm) (t u : Task) (Budget : ProgramForm → ℕ → StructureForm → Type 0)
     (r : Rejection) → OneCase told command t u → StepMeets told command t Budget → IsRejected told command u r → ⊥
-step_not_rejected told (Analyzes p i max mode) t u Budget r same step rejected = absurd rejected.1
+step_not_rejected told (Analyzes p i max mode) t u Budget r same step rejected = absurd rejected
 step_not_rejected told (Checks p i report mode maps) t u Budget r same step rejected =
     stops_unrejected (case_for t step.0) step.2.edge step.2.structure r step.2.first
     (subst (λ c. IsRejection c r) (sym (same step.0 rejected.0 step.1 rejected.1)) rejected.2)
-step_not_rejected told (Demos number) t u Budget r same step rejected = absurd rejected.1
-step_not_rejected told (Joins p i most mode) t u Budget r same step rejected = absurd rejected.1
+step_not_rejected told (Demos number) t u Budget r same step rejected = absurd rejected
+step_not_rejected told (Joins p i most mode) t u Budget r same step rejected = absurd rejected
+step_not_rejected told (Replays p i start trace report) t u Budget r same step rejected = absurd rejected
 
 many_not_rejected : (told : Option Held) (command : CommandForm) (u : Task) (max : ℕ) (r : Rejection)
     → max_of command ≡ Some max → IsRejected told command u r → ⊥
-many_not_rejected told (Analyzes p i m mode) u max r e rejected = absurd rejected.1
+many_not_rejected told (Analyzes p i m mode) u max r e rejected = absurd rejected
 many_not_rejected told (Checks p i report mode maps) u max r e rejected = absurd cc
-many_not_rejected told (Demos number) u max r e rejected = absurd rejected.1
-many_not_rejected told (Joins p i most mode) u max r e rejected = absurd rejected.1
+many_not_rejected told (Demos number) u max r e rejected = absurd rejected
+many_not_rejected told (Joins p i most mode) u max r e rejected = absurd rejected
+many_not_rejected told (Replays p i start trace report) u max r e rejected = absurd rejected
 
 many_not_done : (told : Option Held) (command : CommandForm) (t u : Task) (more : ℕ) → SameTask t u → CanBeDone told command t
     → max_of command ≡ Some more → HasMoreThan command u more → ⊥
@@ -192,6 +219,7 @@ many_not_done told (Analyzes p i max mode) t u more same can e many = few t u ma
 many_not_done told (Checks p i report mode maps) t u more same can e many = absurd cc
 many_not_done told (Demos number) t u more same can e many = few t u demo_max more same e can many
 many_not_done told (Joins p i max mode) t u more same can e many = few_rounds t u max more same e can many
+many_not_done told (Replays p i start trace report) t u more same can e many = absurd cc
 
 step_not_done : (told : Option Held) (command : CommandForm) (t u : Task) (Budget : ProgramForm → ℕ → StructureForm → Type 0)
     → ((p : ProgramForm) (edge : ℕ) (s : StructureForm) → KeepsBudgets p edge s → ¬ Budget p edge s)
@@ -203,6 +231,7 @@ step_not_done told (Checks p i report mode maps) t u Budget keeping same case ca
 step_not_done told (Demos number) t u Budget keeping same case can step = kept t u demo_max Budget keeping same can step
 step_not_done told (Joins p i max mode) t u Budget keeping same case can step =
     kept_rounds t u max Budget keeping same can step
+step_not_done told (Replays p i start trace report) t u Budget keeping same case can step = absurd step
 
 -- ---- each pair of an ending and one that is called for
 
@@ -210,17 +239,19 @@ module _ (told : Option Held) (command : CommandForm)
     (programs : GiveOne SameProgram (GivesProgram told command) (GivesProgram told command))
     (initials : (p q : Program) → SameProgram p q → GiveOne {A = List StructureForm} ◌≡◌ (GivesInitial told command p) (GivesInitial told command q))
     (reports : (p q : Program) → SameProgram p q → GiveOne {A = Analysis} ◌≡◌ (GivesReport told command p) (GivesReport told command q))
+    (starts : (p q : Program) → SameProgram p q → GiveOne {A = StructureForm} ◌≡◌ (GivesStart told command p) (GivesStart told command q))
+    (traces : (p q : Program) → SameProgram p q → GiveOne {A = Trace} ◌≡◌ (GivesTrace told command p) (GivesTrace told command q))
   where
     both : (t u : Task) → FilesMean told command t → FilesMean told command u → SameTask t u
-    both t u h k = one_task told command programs initials reports t u h k
+    both t u h k = one_task told command programs initials reports starts traces t u h k
 
     one_case : (t u : Task) → FilesMean told command t → FilesMean told command u → OneCase told command t u
     one_case t u h k a b x y = same_case t u a b (both t u h k)
-        (one_reported told command programs initials reports t u a b (both t u h k) x y)
+        (one_reported told command programs initials reports starts traces t u a b (both t u h k) x y)
 
     unrefused : (t : Task) (role : Role) (kind : FileKind) → FilesMean told command t → HasReport told command t
         → IsRefused told command role kind → ⊥
-    unrefused t role kind h has refused = not_refused told command programs initials reports t role kind h has refused
+    unrefused t role kind h has refused = not_refused told command programs initials reports starts traces t role kind h has refused
 
     done_duly : (due : Status) (task : Task) (text : List ℕ) → FilesMean told command task → IsDone told command task text
         → DueView told command due → Done ≡ without_place due
@@ -230,6 +261,14 @@ module _ (told : Option Held) (command : CommandForm)
     done_duly due task text means done (inr (inr f)) =
         absurd (unrefused task f.0 f.1 means (done_reported told command task text done) f.3)
 
+    stopped_duly : (due : Status) (task : Task) (step : ℕ) (why : Why) → FilesMean told command task
+        → StopsIn told command task step why → DueView told command due → Done ≡ without_place due
+    stopped_duly due task step why means stops (inl d) = rw d.0 refl
+    stopped_duly due task step why means stops (inr (inl r)) =
+        absurd (stopped_not_rejected told command task r.2.0 step why r.0 stops r.2.2)
+    stopped_duly due task step why means stops (inr (inr f)) =
+        absurd (unrefused task f.0 f.1 means (stopped_report told command task step why stops) f.3)
+
     rejected_duly : (due : Status) (task : Task) (r : Rejection) → FilesMean told command task → IsRejected told command task r
         → DueView told command due → Rejected r ≡ without_place due
     rejected_duly due task r means rejected (inl d) =
@@ -237,16 +276,16 @@ module _ (told : Option Held) (command : CommandForm)
     rejected_duly due task r means rejected (inr (inl s)) =
         rw s.1 (ap Rejected (both_rejected told command task s.2.0 r s.0 (one_case task s.2.0 means s.2.1) rejected s.2.2))
     rejected_duly due task r means rejected (inr (inr f)) =
-        absurd (unrefused task f.0 f.1 means (given_report told command task rejected.0 rejected.1) f.3)
+        absurd (unrefused task f.0 f.1 means (rejected_report told command task r rejected) f.3)
 
     refused_duly : (due : Status) (role : Role) (kind : FileKind) → IsRefused told command role kind
         → DueView told command due → FileFault role (placeless kind) ≡ without_place due
     refused_duly due role kind refused (inl d) =
         absurd (unrefused d.1.0 role kind d.1.1 (can_reported told command d.1.0 d.1.2) refused)
     refused_duly due role kind refused (inr (inl r)) =
-        absurd (unrefused r.2.0 role kind r.2.1 (given_report told command r.2.0 r.2.2.0 r.2.2.1) refused)
+        absurd (unrefused r.2.0 role kind r.2.1 (rejected_report told command r.2.0 r.0 r.2.2) refused)
     refused_duly due role kind refused (inr (inr f)) =
-        let same = one_refusal told command programs initials reports role f.0 kind f.1 refused f.3 in
+        let same = one_refusal told command programs initials reports starts traces role f.0 kind f.1 refused f.3 in
         rw (f.2, same.0, same.1) refl
 
     many_duly : (due : Status) (task : Task) (max : ℕ) → FilesMean told command task → max_of command ≡ Some max
@@ -274,6 +313,8 @@ module _ (told : Option Held) (command : CommandForm)
         → without_place status ≡ without_place due
     command_duly Done due h calls = done_duly due h.1.0 h.0 h.1.1 h.1.2 (due_view told command due calls)
     command_duly (Rejected r) due h calls = rejected_duly due h.1.0 r h.1.1 h.1.2 (due_view told command due calls)
+    command_duly (Stuck step why) due h calls =
+        stopped_duly due h.1.0 step why h.1.1 h.1.2 (due_view told command due calls)
     command_duly Usage due h calls = absurd h
     command_duly (FileFault role kind) due h calls = refused_duly due role kind h (due_view told command due calls)
     command_duly (Structures max) due h calls = many_duly due h.0 max h.1 h.2 h.3 (due_view told command due calls)
@@ -295,6 +336,10 @@ module _
     → GiveOne {A = List StructureForm} ◌≡◌ (GivesInitial told command p) (GivesInitial told command q))
     (reports : (told : Option Held) (command : CommandForm) → IsTold told command → (p q : Program) → SameProgram p q
     → GiveOne {A = Analysis} ◌≡◌ (GivesReport told command p) (GivesReport told command q))
+    (starts : (told : Option Held) (command : CommandForm) → IsTold told command → (p q : Program) → SameProgram p q
+    → GiveOne {A = StructureForm} ◌≡◌ (GivesStart told command p) (GivesStart told command q))
+    (traces : (told : Option Held) (command : CommandForm) → IsTold told command → (p q : Program) → SameProgram p q
+    → GiveOne {A = Trace} ◌≡◌ (GivesTrace told command p) (GivesTrace told command q))
   where
     spelled_duly : (words : List (List ℕ)) (told : Option Held) (status due : Status)
         → Commands words (λ command. CommandEnds told command status) → CallView words told due
@@ -304,6 +349,7 @@ module _
         let same = one_command words h.0 calls.0 h.1 calls.1 in
         let ends : CommandEnds told calls.0 status = subst (λ c. CommandEnds told c status) same h.2 in
         command_duly told calls.0 (programs told calls.0 calls.2.0) (initials told calls.0 calls.2.0) (reports told calls.0 calls.2.0)
+        (starts told calls.0 calls.2.0) (traces told calls.0 calls.2.0)
         status due ends calls.2.1
 
     usage_duly : (words : List (List ℕ)) (told : Option Held) (due : Status) → SpellsNothing words → CallView words told due
@@ -319,6 +365,8 @@ module _
         inl (spelled_duly words told Done due (took.1.0, took.1.1, (took.0, took.1.2)) (call_view words told due calls))
     endings words told (Rejected r) rose steady out_rose err_rose old new cause took due calls =
         inl (spelled_duly words told (Rejected r) due (took.1.0, took.1.1, (took.0, took.1.2)) (call_view words told due calls))
+    endings words told (Stuck step why) rose steady out_rose err_rose old new cause took due calls =
+        inl (spelled_duly words told (Stuck step why) due (took.1.0, took.1.1, (took.0, took.1.2)) (call_view words told due calls))
     endings words told Usage rose steady out_rose err_rose old new cause took due calls =
         inl (usage_duly words told due cause (call_view words told due calls))
     endings words told (FileFault role kind) rose steady out_rose err_rose old new cause took due calls =
@@ -347,6 +395,14 @@ module _
     there told (Joins p i max mode) h (inl lacks) = h.0 lacks
     there told (Joins p i max mode) h (inr (inl lacks)) = lacks.2 h.1
     there told (Joins p i max mode) h (inr (inr lacks)) = lacks.2
+    there told (Replays p i start trace report) h (inl lacks) = h.0 lacks
+    there told (Replays p i start trace report) h (inr (inl lacks)) = lacks.2 h.1
+    there told (Replays p i start trace report) h (inr (inr lacks)) = there_later lacks.2
+      where
+        there_later : LacksLater told (Replays p i start trace report) lacks.0.program → ⊥
+        there_later (inl none) = none h.2
+        there_later (inr (inl none)) = none.1 h.3
+        there_later (inr (inr none)) = none.1 h.4
 
     pub none_missing : (words : List (List ℕ)) (told : Option Held) → HoldsOperands words told → ¬ Commands words (IsMissing told)
     none_missing words told holds missing =

@@ -15,11 +15,18 @@ use Rattle.tv_model.specs.declared.program.Program.{Program}
 use Rattle.tv_outside.specs.Told.{Held}
 use Rattle.tv_report.specs.Text.{report_text}
 use Rattle.tv_status.specs.declared.status.Status.{Status}
-use Rattle.tv_status.specs.declared.status.Status.TheVariants.{Done, Rejected}
+use Rattle.tv_status.specs.declared.status.Status.TheVariants.{Done, Rejected, Stuck}
 use Rattle.tv_struct.specs.StructureForm.{StructureForm}
-use Rattle.tv_top.specs.Meaning.{Task, FilesMean, GivesReport}
+use Rattle.tv_top.specs.Meaning.{Task, FilesMean, GivesReport, GivesStart, GivesTrace}
 use Rattle.tv_transfer.specs.Closed.{IsClosed, CoversRuns}
-use Rattle.tv_words.specs.Words.{CommandForm, Analyzes, Checks, Demos, Joins}
+use Rattle.tv_replayed.specs.Runs.{ShowsGivenRun, ShowsRecomputedRun}
+use Rattle.tv_replayed.specs.States.{IsReplay}
+use Rattle.tv_replayed.specs.Stuck.{IsStuck}
+use Rattle.tv_replayed.specs.declared.state.State.{State}
+use Rattle.tv_replayed.specs.declared.state.Why.{Why}
+use Rattle.tv_states.specs.Text.{states_text, stuck_line}
+use Rattle.tv_trace.specs.declared.trace.Trace.{Trace}
+use Rattle.tv_words.specs.Words.{CommandForm, Analyzes, Checks, Demos, Joins, Replays}
 use Rattle.tv_work.specs.Analysed.{IsAnalysis, KeepAllBudgets, Meets}
 use Rattle.tv_work.specs.Reach.{Point, IsReached, AreMoreThan}
 
@@ -109,6 +116,39 @@ rejected_item (rejection.Message edge number) = codes "message " ++ (decimal edg
 abbrev pub rejected_line : Rejection → List ℕ
 rejected_line r = codes "rejected: " ++ (rejected_item r ++ codes "\n")
 
+-- ---- what a replay finds
+
+-- START, TRACE and REPORT mean this heap, this trace and this report
+pub record RunMeans (told : Option Held) (command : CommandForm) (meant : Program) (start : StructureForm) (trace : Trace)
+    (report : Analysis) : Type 0 where
+  pub gives_start : GivesStart told command meant (Ok start)
+  pub gives_trace : GivesTrace told command meant (Ok trace)
+  pub gives_report : GivesReport told command meant (Ok report)
+
+-- these are the states of the trace from the heap, judged by the initial structures and by the report; and where
+-- nothing is broken, there is a run of the program through their heaps
+pub record AreStates (task : Task) (start : StructureForm) (trace : Trace) (report : Analysis) (states : List State) : Type 0 where
+  pub are : IsReplay (program_of task.program) task.initial start trace.moves report.listing states
+  pub given : ShowsGivenRun (program_of task.program) task.initial trace.moves states
+  pub recomputed : ShowsRecomputedRun (program_of task.program) task.initial trace.moves states
+
+-- the text is that of the states
+abbrev pub IsReplayed : Option Held → CommandForm → Task → List ℕ → Type 0
+IsReplayed told command task text = (start : StructureForm) × (trace : Trace) × (report : Analysis)
+    × RunMeans told command task.program start trace report
+    × ((states : List State) × AreStates task start trace report states × (text ≡ states_text task.program states))
+
+-- the trace can't go on at this step, for this reason
+abbrev pub StopsIn : Option Held → CommandForm → Task → (step : ℕ) → Why → Type 0
+StopsIn told command task step why = (start : StructureForm) × (trace : Trace) × (report : Analysis)
+    × RunMeans told command task.program start trace report
+    × IsStuck (program_of task.program) start trace.moves step why
+
+-- START, TRACE and REPORT mean something
+abbrev pub CanRun : Option Held → CommandForm → Task → Type 0
+CanRun told command task = (start : StructureForm) × (trace : Trace) × (report : Analysis)
+    × RunMeans told command task.program start trace report
+
 -- ---- the answers of a command
 
 -- the text is what the command gives where its job is done
@@ -122,17 +162,26 @@ IsDone told (Demos number) task text =
     (a : Analysis) × IsFound task demo_max a × (text ≡ demo_line number a)
 IsDone told (Joins program initial max mode) task text =
     (a : Analysis) × IsJoinFound task max a × (text ≡ report_text task.program a)
+IsDone told (Replays program initial start trace report) task text =
+    IsReplayed told (Replays program initial start trace report) task text
 
--- the report isn't closed, and this is the first demand that it doesn't meet
+-- in `check`: the report isn't closed, and this is the first demand that it doesn't meet
 abbrev pub IsRejected : Option Held → CommandForm → Task → Rejection → Type 0
-IsRejected told command task r = (a : Analysis) × GivesReport told command task.program (Ok a)
+IsRejected told (Analyzes program initial max mode) task r = ⊥
+IsRejected told (Checks program initial report mode maps) task r =
+    (a : Analysis) × GivesReport told (Checks program initial report mode maps) task.program (Ok a)
     × IsRejection (case_for task a) r
+IsRejected told (Demos number) task r = ⊥
+IsRejected told (Joins program initial max mode) task r = ⊥
+IsRejected told (Replays program initial start trace report) task r = ⊥
 
 -- the command ends in this status with this text, as what its files mean calls for
 abbrev pub IsAnswer : Option Held → CommandForm → Status → List ℕ → Type 0
 IsAnswer told command Done text = (task : Task) × FilesMean told command task × IsDone told command task text
 IsAnswer told command (Rejected r) text =
     (task : Task) × FilesMean told command task × IsRejected told command task r × (text ≡ rejected_line r)
+IsAnswer told command (Stuck step why) text =
+    (task : Task) × FilesMean told command task × StopsIn told command task step why × (text ≡ stuck_line step why)
 IsAnswer told command other text = ⊥
 
 -- ---- limits
@@ -143,6 +192,7 @@ max_of (Analyzes program initial max mode) = Some max
 max_of (Checks program initial report mode maps) = None
 max_of (Demos number) = Some demo_max
 max_of (Joins program initial max mode) = Some max
+max_of (Replays program initial start trace report) = None
 
 -- there are more structures than this: those that are reached; or in `join`, those that some round lists
 abbrev pub HasMoreThan : CommandForm → Task → (max : ℕ) → Type 0
@@ -150,6 +200,7 @@ HasMoreThan (Analyzes program initial max mode) task most = AreMoreThan most (Re
 HasMoreThan (Checks program initial report mode maps) task most = ⊥
 HasMoreThan (Demos number) task most = AreMoreThan most (Reached task)
 HasMoreThan (Joins program initial max mode) task most = (round : ℕ) × AreMoreThan most (InRound task round)
+HasMoreThan (Replays program initial start trace report) task most = ⊥
 
 -- there are more structures than may be listed
 abbrev pub ReachesTooMuch : Option Held → CommandForm → (max : ℕ) → Type 0
@@ -168,6 +219,7 @@ StepMeets told (Demos number) task Budget =
     Meets (program_of task.program) (Budget (program_of task.program)) (Reached task)
 StepMeets told (Joins program initial max mode) task Budget =
     (round : ℕ) × Meets (program_of task.program) (Budget (program_of task.program)) (InRound task round)
+StepMeets told (Replays program initial start trace report) task Budget = ⊥
 
 abbrev pub MeetsBudget : Option Held → CommandForm → (ProgramForm → ℕ → StructureForm → Type 0) → Type 0
 MeetsBudget told command Budget = (task : Task) × FilesMean told command task
@@ -191,3 +243,5 @@ CanBeDone told (Checks program initial report mode maps) task =
     × IsClosedReport (case_for task a) × KeepsAllBudgets (case_for task a)
 CanBeDone told (Demos number) task = KeepsLimits task demo_max
 CanBeDone told (Joins program initial max mode) task = KeepsRoundLimits task max
+CanBeDone told (Replays program initial start trace report) task =
+    CanRun told (Replays program initial start trace report) task

@@ -2,7 +2,7 @@
 use Rattle.std.specs.Prelude.{◌≡◌, ◌⊎◌, ℕ, List, Option}
 use Rattle.tv_outside.specs.Told.{Held}
 use Rattle.tv_status.specs.declared.status.Status.{Status}
-use Rattle.tv_status.specs.declared.status.Status.TheVariants.{Done, Rejected, Usage, FileFault, Structures, TooManySplits, TooManyIndividuals, ReadFault, WriteFault, Memory}
+use Rattle.tv_status.specs.declared.status.Status.TheVariants.{Done, Rejected, Stuck, Usage, FileFault, Structures, TooManySplits, TooManyIndividuals, ReadFault, WriteFault, Memory}
 use Rattle.tv_texts.specs.Agreement.{placeless}
 use Rattle.tv_top.specs.Answers.{IsAnswer, IsRejected, CanBeDone, ReachesTooMuch, MeetsBudget}
 use Rattle.tv_top.specs.Meaning.{Task, Commands, FilesMean, IsRefused, IsMissing, HoldsFiles, IsTold}
@@ -33,10 +33,11 @@ IsCause words told rose steady fault.Memory = Unit {0}
 IsCause words told rose steady other = Commands words
     (λ command. IsCommandCause told command rose steady other)
 
--- why the call ends so; what stands behind `Done` and `Rejected` is said by what the output took
+-- why the call ends so; what stands behind `Done`, `Rejected` and `Stuck` is said by what the output took
 abbrev pub EndsFor : (Fault → Type 0) → (write_rose : Type 0) → Status → Type 0
 EndsFor IsCause write_rose Done = Unit {0}
 EndsFor IsCause write_rose (Rejected r) = Unit {0}
+EndsFor IsCause write_rose (Stuck step why) = Unit {0}
 EndsFor IsCause write_rose Usage = IsCause fault.Usage
 EndsFor IsCause write_rose (FileFault role kind) = IsCause (fault.FileFault role kind)
 EndsFor IsCause write_rose (Structures max) = IsCause (fault.Structures max)
@@ -68,8 +69,9 @@ IsExcuse WriteFault = Unit {0}
 IsExcuse Memory = Unit {0}
 IsExcuse other = ⊥
 
--- the ending, wherever in a file a fault stands
+-- the ending, wherever in a file a fault stands, and however far along its trace a replay comes
 abbrev pub without_place : Status → Status
+without_place (Stuck step why) = Done
 without_place (FileFault role kind) = FileFault role (placeless kind)
 without_place other = other
 

@@ -4,7 +4,7 @@ use Rattle.tv_outside.specs.Count.{FailedLast}
 use Rattle.tv_outside.specs.Told.{appended, TookFront}
 use Rattle.tv_status.specs.Status.{text_of}
 use Rattle.tv_status.specs.declared.status.Status.{Status}
-use Rattle.tv_status.specs.declared.status.Status.TheVariants.{Done, Rejected, Usage, FileFault, Structures, TooManySplits, TooManyIndividuals, ReadFault, WriteFault, Memory}
+use Rattle.tv_status.specs.declared.status.Status.TheVariants.{Done, Rejected, Stuck, Usage, FileFault, Structures, TooManySplits, TooManyIndividuals, ReadFault, WriteFault, Memory}
 use Rattle.tv_top.specs.declared.fault.Answer.{Answer}
 use Rattle.tv_top.specs.declared.fault.Answer.TheVariants as answer
 use Rattle.tv_top.specs.declared.fault.Fault.{Fault}
@@ -28,22 +28,24 @@ TookText IsText old new = (text : List ℕ) × IsText text × (new ≡ appended 
 abbrev pub TookFrontOf : (Status → List ℕ → Type 0) → Option (List ℕ) → Option (List ℕ) → Type 0
 TookFrontOf IsText old new = (status : Status) × (text : List ℕ) × IsText status text × TookFront old new text
 
--- What the standard output takes: the whole text where the work was done or the report rejected, a front of
+-- What the standard output takes: the whole text where the work was done, the report rejected or the replay stuck, a front of
 -- such a text where the output itself failed, and else nothing.
 abbrev pub OutTook : Status → (IsText : Status → List ℕ → Type 0) → (out_rose err_rose : Type 0)
     → (old new : Option (List ℕ)) → Type 0
 OutTook Done IsText out_rose err_rose old new = TookText (IsText Done) old new
 OutTook (Rejected r) IsText out_rose err_rose old new = TookText (IsText (Rejected r)) old new
+OutTook (Stuck step why) IsText out_rose err_rose old new = TookText (IsText (Stuck step why)) old new
 OutTook WriteFault IsText out_rose err_rose old new =
     (out_rose × TookFrontOf IsText old new) ⊎ (err_rose × (new ≡ old))
 OutTook other IsText out_rose err_rose old new = new ≡ old
 
--- What the standard error takes: nothing where the work was done or the report rejected, else the text of the
+-- What the standard error takes: nothing where the work was done, the report rejected or the replay stuck, else the text of the
 -- status, of which only a front where the error output itself failed.
 abbrev pub ErrTook : Status → (IsCause : Fault → Type 0) → (out_rose err_rose : Type 0)
     → (old new : Option (List ℕ)) → Type 0
 ErrTook Done IsCause out_rose err_rose old new = new ≡ old
 ErrTook (Rejected r) IsCause out_rose err_rose old new = new ≡ old
+ErrTook (Stuck step why) IsCause out_rose err_rose old new = new ≡ old
 ErrTook WriteFault IsCause out_rose err_rose old new =
     (out_rose × ((new ≡ appended old (text_of WriteFault)) ⊎ (err_rose
     × TookFront old new (text_of WriteFault))))
@@ -62,11 +64,13 @@ StopsAtFailure old_failures new_failures since =
 abbrev pub answered : Answer → Status
 answered (answer.Done text) = Done
 answered (answer.Rejected r text) = Rejected r
+answered (answer.Stuck step why text) = Stuck step why
 
 -- the bytes of an answer
 abbrev pub answer_text : Answer → List ℕ
 answer_text (answer.Done text) = text.items
 answer_text (answer.Rejected r text) = text.items
+answer_text (answer.Stuck step why text) = text.items
 
 -- this is said of the answer
 abbrev pub SaidOf : (Status → List ℕ → Type 0) → Answer → Type 0

@@ -11,9 +11,10 @@ use Rattle.tv_status.specs.declared.status.FileKind.{FileKind}
 use Rattle.tv_status.specs.declared.status.Role.{Role}
 use Rattle.tv_status.specs.declared.status.Role.TheVariants as role
 use Rattle.tv_struct.specs.StructureForm.{StructureForm}
-use Rattle.tv_texts.specs.Files.{IsProgramFile, LacksFile, IsInitialFile, IsReportFile}
+use Rattle.tv_texts.specs.Files.{IsProgramFile, LacksFile, IsInitialFile, IsStartFile, IsTraceFile, IsReportFile}
 use Rattle.tv_texts.specs.Meaning.{MeansProgram, MeansInitial}
-use Rattle.tv_words.specs.Words.{CommandForm, Analyzes, Checks, Demos, Joins, Spells}
+use Rattle.tv_trace.specs.declared.trace.Trace.{Trace}
+use Rattle.tv_words.specs.Words.{CommandForm, Analyzes, Checks, Demos, Joins, Replays, Spells}
 
 -- the words spell such a command
 abbrev pub Commands : List (List ℕ) → (CommandForm → Type 0) → Type 0
@@ -27,6 +28,7 @@ GivesProgram told (Analyzes program initial max mode) answer = IsProgramFile tol
 GivesProgram told (Checks program initial report mode maps) answer = IsProgramFile told program answer
 GivesProgram told (Demos number) answer = MeansProgram (program_text number) answer
 GivesProgram told (Joins program initial max mode) answer = IsProgramFile told program answer
+GivesProgram told (Replays program initial start trace report) answer = IsProgramFile told program answer
 
 -- INITIAL means these structures over the program's vocabulary, or is refused so
 abbrev pub GivesInitial : Option Held → CommandForm → Program → Result (List StructureForm) FileKind → Type 0
@@ -35,20 +37,40 @@ GivesInitial told (Checks program initial report mode maps) meant answer =
     IsInitialFile told initial meant answer
 GivesInitial told (Demos number) meant answer = MeansInitial meant lists_text answer
 GivesInitial told (Joins program initial max mode) meant answer = IsInitialFile told initial meant answer
+GivesInitial told (Replays program initial start trace report) meant answer =
+    IsInitialFile told initial meant answer
 
--- REPORT, which `check` alone has, is this report on the program, or is refused so
+-- START, which `replay` alone has, means this heap over the program's vocabulary, or is refused so
+abbrev pub GivesStart : Option Held → CommandForm → Program → Result StructureForm FileKind → Type 0
+GivesStart told (Analyzes program initial max mode) meant answer = ⊥
+GivesStart told (Checks program initial report mode maps) meant answer = ⊥
+GivesStart told (Demos number) meant answer = ⊥
+GivesStart told (Joins program initial max mode) meant answer = ⊥
+GivesStart told (Replays program initial start trace report) meant answer = IsStartFile told start meant answer
+
+-- TRACE, which `replay` alone has, is this trace on the program, or is refused so
+abbrev pub GivesTrace : Option Held → CommandForm → Program → Result Trace FileKind → Type 0
+GivesTrace told (Analyzes program initial max mode) meant answer = ⊥
+GivesTrace told (Checks program initial report mode maps) meant answer = ⊥
+GivesTrace told (Demos number) meant answer = ⊥
+GivesTrace told (Joins program initial max mode) meant answer = ⊥
+GivesTrace told (Replays program initial start trace report) meant answer = IsTraceFile told trace meant answer
+
+-- REPORT, which `check` and `replay` have, is this report on the program, or is refused so
 abbrev pub GivesReport : Option Held → CommandForm → Program → Result Analysis FileKind → Type 0
 GivesReport told (Analyzes program initial max mode) meant answer = ⊥
 GivesReport told (Checks program initial report mode maps) meant answer =
     IsReportFile told report meant answer
 GivesReport told (Demos number) meant answer = ⊥
 GivesReport told (Joins program initial max mode) meant answer = ⊥
+GivesReport told (Replays program initial start trace report) meant answer = IsReportFile told report meant answer
 
 abbrev pub mode_of : CommandForm → Mode
 mode_of (Analyzes program initial max mode) = mode
 mode_of (Checks program initial report mode maps) = mode
 mode_of (Demos number) = Given
 mode_of (Joins program initial max mode) = mode
+mode_of (Replays program initial start trace report) = Given
 
 -- what a command works on
 pub record Task : Type 0 where
@@ -62,14 +84,29 @@ pub record FilesMean (told : Option Held) (command : CommandForm) (task : Task) 
   pub initial : GivesInitial told command task.program (Ok task.initial)
   pub mode : task.mode ≡ mode_of command
 
+-- START and TRACE mean something, where the command has them
+abbrev pub HasRun : Option Held → CommandForm → Program → Type 0
+HasRun told (Analyzes program initial max mode) meant = Unit {0}
+HasRun told (Checks program initial report mode maps) meant = Unit {0}
+HasRun told (Demos number) meant = Unit {0}
+HasRun told (Joins program initial max mode) meant = Unit {0}
+HasRun told (Replays program initial start trace report) meant =
+    (s : StructureForm) × IsStartFile told start meant (Ok s)
+    × ((t : Trace) × IsTraceFile told trace meant (Ok t))
+
 -- the file of this role is the first that means nothing, for this reason
 abbrev pub IsRefused : Option Held → CommandForm → Role → FileKind → Type 0
 IsRefused told command role.Program kind = GivesProgram told command (Err kind)
 IsRefused told command role.Initial kind =
     (program : Program) × GivesProgram told command (Ok program)
     × GivesInitial told command program (Err kind)
-IsRefused told command role.Report kind =
-    (task : Task) × FilesMean told command task × GivesReport told command task.program (Err kind)
+IsRefused told command role.Start kind =
+    (task : Task) × FilesMean told command task × GivesStart told command task.program (Err kind)
+IsRefused told command role.Trace kind = (task : Task) × FilesMean told command task
+    × ((s : StructureForm) × GivesStart told command task.program (Ok s))
+    × GivesTrace told command task.program (Err kind)
+IsRefused told command role.Report kind = (task : Task) × FilesMean told command task
+    × HasRun told command task.program × GivesReport told command task.program (Err kind)
 
 -- ---- files that aren't there
 
@@ -78,25 +115,31 @@ LacksProgram told (Analyzes program initial max mode) = LacksFile told program
 LacksProgram told (Checks program initial report mode maps) = LacksFile told program
 LacksProgram told (Demos number) = ⊥
 LacksProgram told (Joins program initial max mode) = LacksFile told program
+LacksProgram told (Replays program initial start trace report) = LacksFile told program
 
 abbrev pub LacksInitial : Option Held → CommandForm → Type 0
 LacksInitial told (Analyzes program initial max mode) = ¬ HoldsName told initial
 LacksInitial told (Checks program initial report mode maps) = ¬ HoldsName told initial
 LacksInitial told (Demos number) = ⊥
 LacksInitial told (Joins program initial max mode) = ¬ HoldsName told initial
+LacksInitial told (Replays program initial start trace report) = ¬ HoldsName told initial
 
-abbrev pub LacksReport : Option Held → CommandForm → Type 0
-LacksReport told (Analyzes program initial max mode) = ⊥
-LacksReport told (Checks program initial report mode maps) = ¬ HoldsName told report
-LacksReport told (Demos number) = ⊥
-LacksReport told (Joins program initial max mode) = ⊥
+-- the first of the files behind INITIAL that means nothing isn't there
+abbrev pub LacksLater : Option Held → CommandForm → Program → Type 0
+LacksLater told (Analyzes program initial max mode) meant = ⊥
+LacksLater told (Checks program initial report mode maps) meant = ¬ HoldsName told report
+LacksLater told (Demos number) meant = ⊥
+LacksLater told (Joins program initial max mode) meant = ⊥
+LacksLater told (Replays program initial start trace report) meant = (¬ HoldsName told start)
+    ⊎ ((((s : StructureForm) × IsStartFile told start meant (Ok s)) × (¬ HoldsName told trace))
+    ⊎ (HasRun told (Replays program initial start trace report) meant × (¬ HoldsName told report)))
 
 -- the first file that means nothing isn't there: an operand, or a file that PROGRAM includes and that is come
 -- to before any refusal
 abbrev pub IsMissing : Option Held → CommandForm → Type 0
 IsMissing told command = LacksProgram told command
     ⊎ (((program : Program) × GivesProgram told command (Ok program) × LacksInitial told command)
-    ⊎ ((task : Task) × FilesMean told command task × LacksReport told command))
+    ⊎ ((task : Task) × FilesMean told command task × LacksLater told command task.program))
 
 -- each operand that names a file is there, and so is each file that PROGRAM includes and that is come to
 -- before any refusal
@@ -106,6 +149,8 @@ HoldsFiles told (Checks program initial report mode maps) =
     (¬ LacksFile told program) × HoldsName told initial × HoldsName told report
 HoldsFiles told (Demos number) = Unit {0}
 HoldsFiles told (Joins program initial max mode) = (¬ LacksFile told program) × HoldsName told initial
+HoldsFiles told (Replays program initial start trace report) = (¬ LacksFile told program)
+    × HoldsName told initial × HoldsName told start × HoldsName told trace × HoldsName told report
 
 -- it is told what the files of the command hold; a demo has none
 abbrev pub IsTold : Option Held → CommandForm → Type 0
@@ -113,3 +158,4 @@ IsTold told (Analyzes program initial max mode) = IsSome told
 IsTold told (Checks program initial report mode maps) = IsSome told
 IsTold told (Demos number) = Unit {0}
 IsTold told (Joins program initial max mode) = IsSome told
+IsTold told (Replays program initial start trace report) = IsSome told

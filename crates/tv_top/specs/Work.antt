@@ -6,15 +6,19 @@ use Rattle.tv_model.specs.Program.{program_of}
 use Rattle.tv_model.specs.Valid.{IsValid}
 use Rattle.tv_model.specs.declared.program.Mode.{Mode}
 use Rattle.tv_status.specs.declared.status.Status.{Status}
-use Rattle.tv_status.specs.declared.status.Status.TheVariants.{Done, Rejected}
-use Rattle.tv_struct.specs.StructureForm.{IsOver}
-use Rattle.tv_top.specs.Answers.{Reached, InRound, IsAccepted, IsAcceptedText, case_for, rejected_line}
+use Rattle.tv_status.specs.declared.status.Status.TheVariants.{Done, Rejected, Stuck}
+use Rattle.tv_struct.specs.StructureForm.{IsOver, StructureForm, IsStructure}
+use Rattle.tv_top.specs.Answers.{Reached, InRound, IsAccepted, IsAcceptedText, case_for, rejected_line, AreStates}
 use Rattle.tv_top.specs.Meaning.{Task}
 use Rattle.tv_top.specs.declared.fault.Fault.{Fault}
 use Rattle.tv_top.specs.declared.fault.Fault.TheVariants as fault
 use Rattle.tv_top.specs.declared.inputs.Inputs.{Inputs}
 use Rattle.tv_transfer.specs.Budgets.{MeetsSplits, MeetsIndividuals}
-use Rattle.tv_words.specs.Words.{CommandForm, Analyzes, Checks, Demos, Joins}
+use Rattle.tv_replayed.specs.Stuck.{IsStuck}
+use Rattle.tv_replayed.specs.declared.state.State.{State}
+use Rattle.tv_states.specs.Text.{states_text, stuck_line}
+use Rattle.tv_trace.specs.declared.trace.Trace.{Trace}
+use Rattle.tv_words.specs.Words.{CommandForm, Analyzes, Checks, Demos, Joins, Replays}
 use Rattle.tv_work.specs.Analysed.{Meets}
 use Rattle.tv_work.specs.Reach.{AreMoreThan}
 
@@ -24,6 +28,7 @@ Names (Analyzes program initial max mode) p i = (program ≡ p) × (initial ≡ 
 Names (Checks program initial report mode maps) p i = (program ≡ p) × (initial ≡ i)
 Names (Demos number) p i = ⊥
 Names (Joins program initial max mode) p i = (program ≡ p) × (initial ≡ i)
+Names (Replays program initial start trace report) p i = (program ≡ p) × (initial ≡ i)
 
 -- the numbers of a command are within their limits
 abbrev pub IsBounded : CommandForm → Type 0
@@ -31,6 +36,7 @@ IsBounded (Analyzes program initial max mode) = max ≤ 100000
 IsBounded (Checks program initial report mode maps) = Unit {0}
 IsBounded (Demos number) = (1 ≤ number) × (number ≤ 16)
 IsBounded (Joins program initial max mode) = max ≤ 100000
+IsBounded (Replays program initial start trace report) = Unit {0}
 
 abbrev pub task_of : Inputs → Mode → Task
 task_of inputs mode = record { program = inputs.program; initial = inputs.initial; mode = mode }
@@ -39,6 +45,7 @@ task_of inputs mode = record { program = inputs.program; initial = inputs.initia
 pub record IsReady (inputs : Inputs) : Type 0 where
   pub valid : IsValid (program_of inputs.program)
   pub over : All (IsOver inputs.program.vocab) inputs.initial
+  pub kept : All IsStructure inputs.initial
   pub few : length inputs.initial < 2 ^ 32
 
 -- why an analysis finds nothing
@@ -74,6 +81,14 @@ IsJudgementCause task report fault.TooManySplits = StopsAt (case_for task report
 IsJudgementCause task report fault.TooManyIndividuals = StopsAt (case_for task report) MeetsIndividuals
 IsJudgementCause task report fault.Memory = Unit {0}
 IsJudgementCause task report other = ⊥
+
+-- what a replay says, and its text
+abbrev pub IsRun : Task → (start : StructureForm) → Trace → Analysis → Status → List ℕ → Type 0
+IsRun task start trace report Done text =
+    (states : List State) × AreStates task start trace report states × (text ≡ states_text task.program states)
+IsRun task start trace report (Stuck step why) text =
+    IsStuck (program_of task.program) start trace.moves step why × (text ≡ stuck_line step why)
+IsRun task start trace report other text = ⊥
 
 -- this holds at any answer but a read fault
 abbrev pub UnlessReadFault : {T : Type 0} → Result T Fault → Type 0 → Type 0

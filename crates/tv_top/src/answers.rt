@@ -1,14 +1,19 @@
 //! What an analysis and a judgement give, as texts.
 
-ghost use Rattle.std.specs.Prelude.{◌≡◌, ◌<◌, ◌≤◌, ◌^◌, ◌++◌, sum_by, length, IfOk, IfErr, OnOk, decimal};
+ghost use Rattle.std.specs.Prelude.{◌≡◌, None, ◌<◌, ◌≤◌, ◌^◌, ◌++◌, sum_by, length, IfOk, IfErr, OnOk, decimal};
 ghost use Rattle.tv_judge.specs.Judged.{AreMapsOf};
 ghost use Rattle.tv_listing.specs.Listed.{IsListing};
 ghost use Rattle.tv_listing.specs.declared.analysis.Rejection.TheVariants as rejection;
 ghost use Rattle.tv_model.specs.Program.{program_of};
 ghost use Rattle.tv_model.specs.Valid.{IsValid};
+ghost use Rattle.tv_model.specs.declared.program.Mode.TheVariants.{Given};
+ghost use Rattle.tv_struct.specs.StructureForm.{IsOver};
 ghost use Rattle.tv_top.specs.Answers.{IsFound, IsJoinFound, IsAcceptedText, accepted_text, rejected_item, rejected_line, demo_line};
 ghost use Rattle.tv_top.specs.Delivery.{SaidOf};
-ghost use Rattle.tv_top.specs.Work.{IsReady, IsSearchCause, IsJoinSearchCause, IsJudged, IsJudgementCause, task_of};
+ghost use Rattle.tv_top.specs.declared.fault.Fault.TheVariants.{Memory};
+ghost use Rattle.tv_trace.specs.Meaning.{IsTraceOn};
+ghost use Rattle.tv_two_valued.specs.TwoValued.{IsTwoValued};
+ghost use Rattle.tv_top.specs.Work.{IsReady, IsRun, IsSearchCause, IsJoinSearchCause, IsJudged, IsJudgementCause, task_of};
 
 use crate::fault::{Answer, Fault, fault_of_join, fault_of_work};
 use crate::inputs::Inputs;
@@ -18,7 +23,12 @@ use tv_join::analyse_joined;
 use tv_judge::{Verdict, judge};
 use tv_listing::{Analysis, Listing, MapLines, Rejection};
 use tv_model::{Mode, Program};
+use tv_replay::replay;
+use tv_replayed::ReplayError;
 use tv_report::write_report;
+use tv_states::{write_states, write_stuck};
+use tv_struct::Structure;
+use tv_trace::Trace;
 use tv_work::analyse;
 
 /// What is reached from the inputs, at most `max` structures.
@@ -171,6 +181,43 @@ pub fn judgement(
             let text = rejected_line(alloc, rejection)?;
             Ok(Answer::Rejected(rejection, text))
         }
+    }
+}
+
+/// The states of a trace from a heap on, judged by the inputs and by a report; or where it is stuck.
+pub fn replayed(
+    alloc: Global,
+    inputs: &Inputs,
+    start: &Structure,
+    trace: &Trace,
+    report: &Analysis,
+) -> Result<Answer, Fault>
+    requires ready { IsReady inputs.now }
+    requires over { IsOver inputs.now.program.vocab start.now }
+    requires unmarked { start.now.fresh ≡ None }
+    requires two_valued { IsTwoValued start.now }
+    requires trace { IsTraceOn inputs.now.program trace.now }
+    requires listing { IsListing inputs.now.program report.now.listing }
+    ensures run { IfOk result (SaidOf (IsRun (task_of inputs.now Given) start.now trace.now report.now)) }
+    ensures cause { IfErr result (λ fault. fault ≡ Memory) }
+{
+    match replay(
+        alloc,
+        &inputs.program,
+        &inputs.initial,
+        start,
+        trace,
+        &report.listing,
+    ) {
+        Ok(states) => {
+            let text = write_states(alloc, &inputs.program, &states)?;
+            Ok(Answer::Done(text))
+        }
+        Err(ReplayError::Stuck { step, why }) => {
+            let text = write_stuck(alloc, step, why)?;
+            Ok(Answer::Stuck(step, why, text))
+        }
+        Err(ReplayError::Memory) => Err(Fault::Memory),
     }
 }
 

@@ -54,6 +54,7 @@ pub fn deliver<O: Sink, E: Sink>(found: Result<Answer, Fault>, out: &mut O, err:
     match found {
         Ok(Answer::Done(text)) => give(&text, Status::Done, out, err),
         Ok(Answer::Rejected(rejection, text)) => give(&text, Status::Rejected(rejection), out, err),
+        Ok(Answer::Stuck(step, why, text)) => give(&text, Status::Stuck { step, why }, out, err),
         Err(fault) => tell(err, Status::from(fault)),
     }
 }

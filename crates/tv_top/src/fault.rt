@@ -8,6 +8,7 @@ ghost use Rattle.tv_top.specs.declared.fault.Fault.TheVariants.{Memory};
 use std::alloc::AllocError;
 use tv_join::JoinError;
 use tv_listing::Rejection;
+use tv_replayed::Why;
 use tv_status::{FileKind, Role, Status};
 use tv_struct::StageError;
 use tv_texts::TextFault;
@@ -20,6 +21,8 @@ pub enum Answer {
     Done(Vec<u8>),
     /// The report was rejected.
     Rejected(Rejection, Vec<u8>),
+    /// The replay can't make this step.
+    Stuck(u32, Why, Vec<u8>),
 }
 
 /// Why the work gave no text.

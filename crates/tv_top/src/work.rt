@@ -8,9 +8,9 @@ ghost use Rattle.tv_top.specs.Call.{IsAnswerTo, IsCause, IsCommandCause};
 ghost use Rattle.tv_top.specs.Delivery.{SaidOf};
 ghost use Rattle.tv_top.specs.Meaning.{FilesMean};
 ghost use Rattle.tv_top.specs.Work.{IsBounded, IsReady, UnlessReadFault, task_of};
-ghost use Rattle.tv_words.specs.Words.{words_of, SpellsNothing, Analyzes, Checks, Demos, Joins, form_of};
+ghost use Rattle.tv_words.specs.Words.{words_of, SpellsNothing, Analyzes, Checks, Demos, Joins, Replays, form_of};
 
-use crate::answers::{demo_line, judgement, search, search_joined};
+use crate::answers::{demo_line, judgement, replayed, search, search_joined};
 use crate::fault::{Answer, Fault};
 use crate::inputs::{Inputs, load_inputs};
 use crate::laws::commands_are_bounded;
@@ -19,7 +19,7 @@ use tv_demo::demo_texts;
 use tv_model::Mode;
 use tv_outside::Files;
 use tv_report::write_report;
-use tv_texts::{initial_in, load_report, program_in};
+use tv_texts::{initial_in, load_report, load_start, load_trace, program_in};
 use tv_words::{Command, read_words};
 
 /// How many structures a demo may list.
@@ -131,6 +131,34 @@ fn join<F: Files>(
     Ok(Answer::Done(text))
 }
 
+/// The states of the third and fourth of the named files, as a heap and a trace on what the first two mean, judged by
+/// the fifth as a report.
+#[tactic(auto, using(crate::proofs::Causes::holds_unless))]
+fn run<F: Files>(
+    alloc: Global,
+    files: &mut F,
+    program: &str,
+    initial: &str,
+    start: &str,
+    trace: &str,
+    report: &str,
+) -> Result<Answer, Fault>
+    ensures found { IfOk result (SaidOf (IsAnswer (F.holds files.old)
+        (Replays program.now initial.now start.now trace.now report.now))) }
+    ensures cause { IfErr result (IsCommandCause (F.holds files.old)
+        (Replays program.now initial.now start.now trace.now report.now)
+        (Rose (F.faults files.old) (F.faults files.new)) (F.steady files.old)) }
+    ensures holds { F.holds files.new ≡ F.holds files.old }
+    ensures count { F.faults files.old ≤ F.faults files.new }
+    ensures steady { F.steady files.old → UnlessReadFault result (F.faults files.new ≡ F.faults files.old) }
+{
+    let inputs = load_inputs(alloc, files, program, initial)?;
+    let start = load_start(alloc, files, start, &inputs.program)?;
+    let trace = load_trace(alloc, files, trace, &inputs.program)?;
+    let report = load_report(alloc, files, report, &inputs.program)?;
+    replayed(alloc, &inputs, &start, &trace, &report)
+}
+
 /// What the command gives.
 #[tactic(auto, using(crate::proofs::Causes::demo_cause, crate::proofs::Causes::holds_unless))]
 fn execute<F: Files>(alloc: Global, files: &mut F, command: &Command) -> Result<Answer, Fault>
@@ -163,6 +191,13 @@ fn execute<F: Files>(alloc: Global, files: &mut F, command: &Command) -> Result<
             max,
             mode,
         } => join(alloc, files, program, initial, *max, *mode),
+        Command::Replay {
+            program,
+            initial,
+            start,
+            trace,
+            report,
+        } => run(alloc, files, program, initial, start, trace, report),
     }
 }
 

@@ -8,7 +8,7 @@ use Rattle.tv_model.specs.declared.program.Mode.TheVariants.{Given, Recompute}
 use Rattle.clap.specs.declared.parser.matches.ArgMatches.{ArgMatches}
 use Rattle.tv_words.specs.Line.{Part, IsLine, is_among, operands_of, uses_of, values_of}
 use Rattle.tv_words.specs.Setup.{are_names, HasLine, HasNoLine, texts_in, uses_in}
-use Rattle.tv_words.specs.Words.{AnalyzeLine, CheckLine, DemoLine, JoinLine, IsMax, IsNumberUpTo, recomputes, once, analyze_flags, analyze_settings, check_flags, join_flags, join_settings, CommandForm, Analyzes, Checks, Demos, Joins, name_of, IsRest, IsNamed, NoneNamed, Spells, SpellsNothing, form_of}
+use Rattle.tv_words.specs.Words.{AnalyzeLine, CheckLine, DemoLine, JoinLine, ReplayLine, IsMax, IsNumberUpTo, recomputes, once, analyze_flags, analyze_settings, check_flags, join_flags, join_settings, CommandForm, Analyzes, Checks, Demos, Joins, Replays, name_of, IsRest, IsNamed, NoneNamed, Spells, SpellsNothing, form_of}
 use Rattle.tv_words.specs.declared.words.Command.{Command}
 use Rattle.tv_words.proofs.Reading.{one_line}
 
@@ -40,6 +40,8 @@ none_analyzes words none (Analyzes program initial max mode) h = none program in
 none_analyzes words none (Checks program initial report mode maps) h = let n = ap first_byte h.0 in absurd (omega (arith, n))
 none_analyzes words none (Demos number) h = let n = ap first_byte h.0 in absurd (omega (arith, n))
 none_analyzes words none (Joins program initial max mode) h = let n = ap first_byte h.0 in absurd (omega (arith, n))
+none_analyzes words none (Replays program initial start trace report) h =
+    let n = ap first_byte h.0 in absurd (omega (arith, n))
 
 pub none_checks : (words : List (List ℕ))
     → ((program initial report : List ℕ) (mode : Mode) (maps : Bool) → ¬ CheckLine words program initial report mode maps)
@@ -48,12 +50,16 @@ none_checks words none (Analyzes program initial max mode) h = let n = ap first_
 none_checks words none (Checks program initial report mode maps) h = none program initial report mode maps h.1
 none_checks words none (Demos number) h = let n = ap first_byte h.0 in absurd (omega (arith, n))
 none_checks words none (Joins program initial max mode) h = let n = ap first_byte h.0 in absurd (omega (arith, n))
+none_checks words none (Replays program initial start trace report) h =
+    let n = ap first_byte h.0 in absurd (omega (arith, n))
 
 pub none_demos : (words : List (List ℕ)) → ((number : ℕ) → ¬ DemoLine words number) → NoneNamed (codes "demo") words
 none_demos words none (Analyzes program initial max mode) h = let n = ap first_byte h.0 in absurd (omega (arith, n))
 none_demos words none (Checks program initial report mode maps) h = let n = ap first_byte h.0 in absurd (omega (arith, n))
 none_demos words none (Demos number) h = none number h.1
 none_demos words none (Joins program initial max mode) h = let n = ap first_byte h.0 in absurd (omega (arith, n))
+none_demos words none (Replays program initial start trace report) h =
+    let n = ap first_byte h.0 in absurd (omega (arith, n))
 
 pub none_joins : (words : List (List ℕ))
     → ((program initial : List ℕ) (max : ℕ) (mode : Mode) → ¬ JoinLine words program initial max mode)
@@ -62,6 +68,21 @@ none_joins words none (Analyzes program initial max mode) h = let n = ap first_b
 none_joins words none (Checks program initial report mode maps) h = let n = ap first_byte h.0 in absurd (omega (arith, n))
 none_joins words none (Demos number) h = let n = ap first_byte h.0 in absurd (omega (arith, n))
 none_joins words none (Joins program initial max mode) h = none program initial max mode h.1
+none_joins words none (Replays program initial start trace report) h =
+    let n = ap first_byte h.0 in absurd (omega (arith, n))
+
+pub none_replays : (words : List (List ℕ))
+    → ((program initial start trace report : List ℕ) → ¬ ReplayLine words program initial start trace report)
+    → NoneNamed (codes "replay") words
+none_replays words none (Analyzes program initial max mode) h =
+    let n = ap first_byte h.0 in absurd (omega (arith, n))
+none_replays words none (Checks program initial report mode maps) h =
+    let n = ap first_byte h.0 in absurd (omega (arith, n))
+none_replays words none (Demos number) h =
+    let n = ap first_byte h.0 in absurd (omega (arith, n))
+none_replays words none (Joins program initial max mode) h =
+    let n = ap first_byte h.0 in absurd (omega (arith, n))
+none_replays words none (Replays program initial start trace report) h = none program initial start trace report h.1
 
 -- ---- a line, of which `clap` found all
 
@@ -231,6 +252,29 @@ pub no_join_without_line : (words : List (List ℕ)) → HasNoLine join_flags jo
     → NoneNamed (codes "join") words
 no_join_without_line words none = none_joins words (λ program initial max mode a. none a.parts a.behind a.line)
 
+-- ---- `replay`
+
+module _ (words : List (List ℕ)) (m : ArgMatches) (h : HasLine [] [] words m) where
+  pub replaying : (program initial start trace report a b d e f : List ℕ)
+      → texts_in m (codes "operands") ≡ a ∷ b ∷ d ∷ e ∷ f ∷ []
+      → program ≡ a → initial ≡ b → start ≡ d → trace ≡ e → report ≡ f
+      → ReplayLine words program initial start trace report
+  replaying program initial start trace report a b d e f operands is_a is_b is_d is_e is_f = record {
+    parts = h.parts;
+    behind = h.behind;
+    line = h.line;
+    operands = sym h.finds.operands ∙ operands ∙ rw (is_a, is_b, is_d, is_e, is_f) refl;
+  }
+
+  pub no_replay_by_operands : ((a b d e f : List ℕ) → texts_in m (codes "operands") ≡ a ∷ b ∷ d ∷ e ∷ f ∷ [] → ⊥)
+      → NoneNamed (codes "replay") words
+  no_replay_by_operands other = none_replays words (λ program initial start trace report a.
+      other program initial start trace report
+      (same_operands [] [] refl words m h a.parts a.behind a.line ∙ a.operands))
+
+pub no_replay_without_line : (words : List (List ℕ)) → HasNoLine [] [] words → NoneNamed (codes "replay") words
+no_replay_without_line words none = none_replays words (λ program initial start trace report a. none a.parts a.behind a.line)
+
 -- ---- the whole words
 
 -- what is said of the command behind its name is said of the whole words
@@ -344,6 +388,32 @@ one_rest words (Joins program initial max mode) (Joins program' initial' max' mo
     let maxes : max ≡ max' = one_max (values_of (codes "max-structures") b.parts) max max'
     (subst (λ ps. IsMax (values_of (codes "max-structures") ps) max) same.0 a.max_is) b.max_is in
     λ i. Joins (first i) (second i) (maxes i) (modes i)
+one_rest words (Analyzes program initial max mode) (Replays program' initial' start' trace' report') named a b =
+    let n = ap first_byte named in absurd (omega (arith, n))
+one_rest words (Checks program initial report mode maps) (Replays program' initial' start' trace' report') named a b =
+    let n = ap first_byte named in absurd (omega (arith, n))
+one_rest words (Demos number) (Replays program' initial' start' trace' report') named a b =
+    let n = ap first_byte named in absurd (omega (arith, n))
+one_rest words (Joins program initial max mode) (Replays program' initial' start' trace' report') named a b =
+    let n = ap first_byte named in absurd (omega (arith, n))
+one_rest words (Replays program initial start trace report) (Replays program' initial' start' trace' report') named a b =
+    let same = one_line [] [] refl words a.parts b.parts a.behind b.behind a.line b.line in
+    let names : program ∷ initial ∷ start ∷ trace ∷ report ∷ [] ≡ program' ∷ initial' ∷ start' ∷ trace' ∷ report' ∷ []
+    = sym a.operands ∙ ap₂ (λ ps bs. operands_of ps ++ bs) same.0 same.1 ∙ b.operands in
+    let first : program ≡ program' = ap (λ ws. slice_index_or ws 0 []) names in
+    let second : initial ≡ initial' = ap (λ ws. slice_index_or ws 1 []) names in
+    let third : start ≡ start' = ap (λ ws. slice_index_or ws 2 []) names in
+    let fourth : trace ≡ trace' = ap (λ ws. slice_index_or ws 3 []) names in
+    let fifth : report ≡ report' = ap (λ ws. slice_index_or ws 4 []) names in
+    λ i. Replays (first i) (second i) (third i) (fourth i) (fifth i)
+one_rest words (Replays program initial start trace report) (Analyzes program' initial' max' mode') named a b =
+    let n = ap first_byte named in absurd (omega (arith, n))
+one_rest words (Replays program initial start trace report) (Checks program' initial' report' mode' maps') named a b =
+    let n = ap first_byte named in absurd (omega (arith, n))
+one_rest words (Replays program initial start trace report) (Demos number') named a b =
+    let n = ap first_byte named in absurd (omega (arith, n))
+one_rest words (Replays program initial start trace report) (Joins program' initial' max' mode') named a b =
+    let n = ap first_byte named in absurd (omega (arith, n))
 
 pub one_spelled : (words : List (List ℕ)) (a b : CommandForm) → Spells words a → Spells words b → a ≡ b
 one_spelled words a b (rest, e, h) (rest', f, k) =

@@ -5,7 +5,7 @@ use Rattle.tv_model.specs.declared.program.Mode.{Mode}
 use Rattle.tv_model.specs.declared.program.Mode.TheVariants.{Given, Recompute}
 use Rattle.tv_words.specs.Line.{Part, IsLine, operands_of, uses_of, values_of}
 use Rattle.tv_words.specs.declared.words.Command.{Command}
-use Rattle.tv_words.specs.declared.words.Command.TheVariants.{Analyze, Check, Demo, Join}
+use Rattle.tv_words.specs.declared.words.Command.TheVariants.{Analyze, Check, Demo, Join, Replay}
 
 -- the bytes of the words
 abbrev pub words_of : List (String Global) → List (List ℕ)
@@ -86,12 +86,20 @@ pub record JoinLine (words : List (List ℕ)) (program initial : List ℕ) (max 
   pub mode_is : uses_of (codes "recompute") parts ≡ recomputes mode
   pub max_is : IsMax (values_of (codes "max-structures") parts) max
 
+-- what the words behind `replay` say: five operands
+pub record ReplayLine (words : List (List ℕ)) (program initial start trace report : List ℕ) : Type 0 where
+  pub parts : List Part
+  pub behind : List (List ℕ)
+  pub line : IsLine [] [] parts behind words
+  pub operands : operands_of parts ++ behind ≡ program ∷ initial ∷ start ∷ trace ∷ report ∷ []
+
 -- a command, its files named by bytes
 pub data CommandForm : Type 0 where
   Analyzes : (program initial : List ℕ) → (max : ℕ) → (mode : Mode) → CommandForm
   Checks : (program initial report : List ℕ) → (mode : Mode) → (maps : Bool) → CommandForm
   Demos : (number : ℕ) → CommandForm
   Joins : (program initial : List ℕ) → (max : ℕ) → (mode : Mode) → CommandForm
+  Replays : (program initial start trace report : List ℕ) → CommandForm
 
 abbrev pub form_of : Command → CommandForm
 form_of (Analyze program initial max mode) = Analyzes (string_bytes program) (string_bytes initial) max mode
@@ -99,6 +107,8 @@ form_of (Check program initial report mode maps) =
     Checks (string_bytes program) (string_bytes initial) (string_bytes report) mode maps
 form_of (Demo number) = Demos number
 form_of (Join program initial max mode) = Joins (string_bytes program) (string_bytes initial) max mode
+form_of (Replay program initial start trace report) = Replays (string_bytes program) (string_bytes initial)
+    (string_bytes start) (string_bytes trace) (string_bytes report)
 
 -- this is said of the command
 abbrev pub SaidOf : (CommandForm → Type 0) → Command → Type 0
@@ -110,6 +120,7 @@ name_of (Analyzes program initial max mode) = codes "analyze"
 name_of (Checks program initial report mode maps) = codes "check"
 name_of (Demos number) = codes "demo"
 name_of (Joins program initial max mode) = codes "join"
+name_of (Replays program initial start trace report) = codes "replay"
 
 -- the words behind the first say the rest of the command
 abbrev pub IsRest : List (List ℕ) → CommandForm → Type 0
@@ -117,6 +128,8 @@ IsRest words (Analyzes program initial max mode) = AnalyzeLine words program ini
 IsRest words (Checks program initial report mode maps) = CheckLine words program initial report mode maps
 IsRest words (Demos number) = DemoLine words number
 IsRest words (Joins program initial max mode) = JoinLine words program initial max mode
+IsRest words (Replays program initial start trace report) =
+    ReplayLine words program initial start trace report
 
 -- the words behind this name say this command, which has the name
 abbrev pub IsNamed : (name : List ℕ) → List (List ℕ) → CommandForm → Type 0

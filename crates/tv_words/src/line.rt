@@ -85,6 +85,13 @@ pub fn join_line<'a>(alloc: Global) -> Result<Command<'a>, AllocError>
         .arg(max)
 }
 
+/// The line of `replay`.
+pub fn replay_line<'a>(alloc: Global) -> Result<Command<'a>, AllocError>
+    ensures { IfOk result (λ c. app_of c ≡ line_app (codes "replay") [] []) }
+{
+    bare_line(alloc, "replay").arg(operands(alloc))
+}
+
 /// What stands on the words behind a command's name, and none exactly where they are no line of the command.
 pub fn read_line<'a>(
     command: Command<'a>,

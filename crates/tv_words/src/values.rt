@@ -100,3 +100,18 @@ pub fn three<'a>(operands: Option<&[&'a str]>) -> Option<(&'a str, &'a str, &'a 
         _ => None,
     }
 }
+
+/// The operands, where there are exactly five.
+pub fn five<'a>(
+    operands: Option<&[&'a str]>,
+) -> Option<(&'a str, &'a str, &'a str, &'a str, &'a str)>
+    ensures some { IfSome result (λ w. told_texts operands.entry
+        ≡ w.0.now ∷ w.1.now ∷ w.2.now ∷ w.3.now ∷ w.4.now ∷ []) }
+    ensures none { IfNone result ((a b c d e : List ℕ)
+        → ¬ (told_texts operands.entry ≡ a ∷ b ∷ c ∷ d ∷ e ∷ [])) }
+{
+    match operands {
+        Some([first, second, third, fourth, fifth]) => Some((first, second, third, fourth, fifth)),
+        _ => None,
+    }
+}

@@ -3,8 +3,8 @@
 ghost use Rattle.std.specs.Prelude.{IfOk, IfSome, IfNone, codes};
 ghost use Rattle.tv_words.specs.Words.{words_of, IsNamed, NoneNamed, Spells, SpellsNothing, SaidOf};
 
-use crate::line::{analyze_line, check_line, demo_line, join_line, read_line, texts};
-use crate::values::{GREATEST_DEMO, max_of, mode_of, number_up_to, one, stands, three, two};
+use crate::line::{analyze_line, check_line, demo_line, join_line, read_line, replay_line, texts};
+use crate::values::{GREATEST_DEMO, five, max_of, mode_of, number_up_to, one, stands, three, two};
 use std::alloc::{AllocError, Global};
 use tv_model::Mode;
 
@@ -37,6 +37,14 @@ pub enum Command {
         initial: String,
         max: u64,
         mode: Mode,
+    },
+    /// Steps the heap of `start` along the edges of `trace`, and judges it by a report.
+    Replay {
+        program: String,
+        initial: String,
+        start: String,
+        trace: String,
+        report: String,
     },
 }
 
@@ -133,6 +141,26 @@ fn read_join(alloc: Global, words: &[String]) -> Result<Option<Command>, AllocEr
     }))
 }
 
+/// The command that the words behind `replay` say.
+fn read_replay(alloc: Global, words: &[String]) -> Result<Option<Command>, AllocError>
+    ensures some { IfOk result (λ found. IfSome found (SaidOf (IsNamed (codes "replay") (words_of words.now)))) }
+    ensures none { IfOk result (λ found. IfNone found (NoneNamed (codes "replay") (words_of words.now))) }
+{
+    let Some(line) = read_line(replay_line(alloc)?, words)? else {
+        return Ok(None);
+    };
+    let Some((program, initial, start, trace, report)) = five(texts(&line, "operands")) else {
+        return Ok(None);
+    };
+    Ok(Some(Command::Replay {
+        program: String::from_str(alloc, program)?,
+        initial: String::from_str(alloc, initial)?,
+        start: String::from_str(alloc, start)?,
+        trace: String::from_str(alloc, trace)?,
+        report: String::from_str(alloc, report)?,
+    }))
+}
+
 /// The command that the words spell, and none exactly where they spell none.
 ///
 /// # Errors
@@ -149,6 +177,7 @@ pub fn read_words(alloc: Global, words: &[String]) -> Result<Option<Command>, Al
         "check" => read_check(alloc, behind),
         "demo" => read_demo(alloc, behind),
         "join" => read_join(alloc, behind),
+        "replay" => read_replay(alloc, behind),
         _ => Ok(None),
     }
 }

@@ -1,6 +1,6 @@
 use Rattle.tv_top.proofs.Duly.{call_cause, out_took, err_took, ends_duly, no_fault}
 use Rattle.tv_top.proofs.Endings.{endings, none_missing}
-use Rattle.tv_top.proofs.Gives.{one_program, one_initial, one_report}
+use Rattle.tv_top.proofs.Gives.{one_program, one_initial, one_report, one_start, one_trace}
 use Rattle.tv_top.proofs.tvla.Goals as goal
 
 pub returns-clause-cause : goal.returns-clause-cause
@@ -18,14 +18,16 @@ returns-clause-held g c =
     let each = c.one_meaning_each.ensures in
     λ steady holds. no_fault _ _ _ _ _ _
     (none_missing c.one_command.ensures (one_program each.program each.initial each.report)
-    (one_initial each.program each.initial each.report) (one_report each.program each.initial each.report) _ _ holds) steady
+    (one_initial each.program each.initial each.report) (one_report each.program each.initial each.report)
+    (one_start each.start each.trace) (one_trace each.start each.trace) _ _ holds) steady
     c.perform-found.ensures.cause (c.perform-found.ensures.steady steady)
 
 pub returns-clause-exact : goal.returns-clause-exact
 returns-clause-exact g c =
     let each = c.one_meaning_each.ensures in
     endings c.one_command.ensures (one_program each.program each.initial each.report)
-    (one_initial each.program each.initial each.report) (one_report each.program each.initial each.report) _ _ _ _ _ _ _ _ _
+    (one_initial each.program each.initial each.report) (one_report each.program each.initial each.report)
+    (one_start each.start each.trace) (one_trace each.start each.trace) _ _ _ _ _ _ _ _ _
     (returns-clause-cause g c) (returns-clause-out g c)
 
 pub returns-clause-complete : goal.returns-clause-complete

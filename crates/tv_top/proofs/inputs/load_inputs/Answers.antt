@@ -51,6 +51,7 @@ pub returns-clause-ready : goal.returns-clause-ready
 returns-clause-ready g c = record {
   valid = c.in_ok-program.ensures.valid;
   over = c.in_ok-initial.ensures.over;
+  kept = c.in_ok-initial.ensures.kept;
   few = c.in_ok-initial.ensures.few;
 }
 

@@ -1,7 +1,8 @@
 use Rattle.std.proofs.Common.{◌≡◌, refl, inr}
 use Rattle.std.proofs.lemmas.Result.{err_from_is_err_and}
 use Rattle.tv_listing.specs.declared.analysis.Analysis.{Analysis}
-use Rattle.tv_top.proofs.Causes.{rose_later, still, unless_not_read, report_fault, judged_causes, judged_answers}
+use Rattle.tv_status.specs.declared.status.Role.TheVariants as role
+use Rattle.tv_top.proofs.Causes.{rose_later, still, unless_not_read, later_fault, judged_causes, judged_answers}
 use Rattle.tv_top.specs.Work.{task_of}
 use Rattle.tv_top.specs.declared.fault.Answer.{Answer}
 use Rattle.tv_words.specs.Words.{Checks}
@@ -20,9 +21,9 @@ returns-in_err-report-clause-cause g c =
     let means = c.in_ok-inputs.ensures.meant command (refl, refl) in
     let p = err_from_is_err_and c.from_residual-in_err-report.result c.from_residual-in_err-report.ensures.1 in
     let cause = rw c.in_ok-inputs.ensures.holds at c.in_err-report.ensures.cause in
-    rw (p.1, p.2) (report_fault _ command task c.args.report.now _ _ _ _ _ means
+    rw (p.1, p.2) (later_fault _ command task role.Report _ _ _ _ _ _ _ means
     (rose_later _ _ _ c.in_ok-inputs.ensures.count) (λ s. (c.in_ok-inputs.ensures.steady s).0)
-    (λ k h. h) (λ lacks. inr (inr (task, means, lacks))) cause)
+    (λ k h. (task, means, tt, h)) (λ lacks. lacks) cause)
 
 pub returns-in_err-report-clause-steady : goal.returns-in_err-report-clause-steady
 returns-in_err-report-clause-steady g c =
@@ -44,7 +45,8 @@ returns-clause-found g c =
     let gives = rw c.in_ok-inputs.ensures.holds at c.in_ok-report.ensures.means in
     judged_answers _ command task c.in_ok-report.report c.args.maps c.judgement.result
     (c.in_ok-inputs.ensures.meant command (refl, refl)) gives
-    (λ text accepted is. (c.in_ok-report.report, gives, accepted, is)) c.judgement.ensures.judged
+    (λ text accepted is. (c.in_ok-report.report, gives, accepted, is))
+    (λ r rejection. (c.in_ok-report.report, gives, rejection)) c.judgement.ensures.judged
 
 pub returns-clause-cause : goal.returns-clause-cause
 returns-clause-cause g c =

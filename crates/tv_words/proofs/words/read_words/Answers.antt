@@ -66,3 +66,19 @@ returns-in-join-clause-none c =
     (sym c.as_str.ensures.value ∙ c.in-join.is) in
     named_unspelled (codes "join") (words_of c.args.words.now) (words_of c.in-Some.behind.now) c.read_join.result whole
     c.read_join.ensures.none
+
+pub returns-in-replay-clause-some : goal.returns-in-replay-clause-some
+returns-in-replay-clause-some c =
+    let whole : words_of c.args.words.now ≡ codes "replay" ∷ words_of c.in-Some.behind.now =
+    ap words_of c.in-Some.ensures.cases.0 ∙ ap (λ n. n ∷ words_of c.in-Some.behind.now)
+    (sym c.as_str.ensures.value ∙ c.in-replay.is) in
+    named_spelled (codes "replay") (words_of c.args.words.now) (words_of c.in-Some.behind.now) c.read_replay.result whole
+    c.read_replay.ensures.some
+
+pub returns-in-replay-clause-none : goal.returns-in-replay-clause-none
+returns-in-replay-clause-none c =
+    let whole : words_of c.args.words.now ≡ codes "replay" ∷ words_of c.in-Some.behind.now =
+    ap words_of c.in-Some.ensures.cases.0 ∙ ap (λ n. n ∷ words_of c.in-Some.behind.now)
+    (sym c.as_str.ensures.value ∙ c.in-replay.is) in
+    named_unspelled (codes "replay") (words_of c.args.words.now) (words_of c.in-Some.behind.now) c.read_replay.result whole
+    c.read_replay.ensures.none

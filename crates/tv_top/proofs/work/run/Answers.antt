@@ -1,0 +1,124 @@
+use Rattle.std.proofs.Common.{◌≡◌, refl, inl, inr}
+use Rattle.std.proofs.lemmas.Result.{err_from_is_err_and}
+use Rattle.tv_listing.specs.declared.analysis.Analysis.{Analysis}
+use Rattle.tv_model.specs.declared.program.Mode.TheVariants.{Given}
+use Rattle.tv_status.specs.declared.status.Role.TheVariants as role
+use Rattle.tv_struct.specs.StructureForm.{StructureForm}
+use Rattle.tv_top.proofs.Causes.{rose_later, still, unless_not_read, later_fault, run_answers, run_causes}
+use Rattle.tv_top.specs.Work.{task_of}
+use Rattle.tv_top.specs.declared.fault.Answer.{Answer}
+use Rattle.tv_trace.specs.declared.trace.Trace.{Trace}
+use Rattle.tv_words.specs.Words.{Replays}
+use Rattle.tv_top.proofs.work.run.Goals as goal
+
+pub returns-in_err-inputs-clause-cause : goal.returns-in_err-inputs-clause-cause
+returns-in_err-inputs-clause-cause g c =
+    let p = err_from_is_err_and c.from_residual.result c.from_residual.ensures.1 in
+    let command = Replays c.args.program.now c.args.initial.now c.args.start.now c.args.trace.now c.args.report.now in
+    rw (p.1, p.2) (c.in_err-inputs.ensures.cause command (refl, refl))
+
+pub returns-in_err-start-clause-cause : goal.returns-in_err-start-clause-cause
+returns-in_err-start-clause-cause g c =
+    let command = Replays c.args.program.now c.args.initial.now c.args.start.now c.args.trace.now c.args.report.now in
+    let task = task_of c.in_ok-inputs.inputs Given in
+    let means = c.in_ok-inputs.ensures.meant command (refl, refl) in
+    let p = err_from_is_err_and c.from_residual-in_err-start.result c.from_residual-in_err-start.ensures.1 in
+    let cause = rw c.in_ok-inputs.ensures.holds at c.in_err-start.ensures.cause in
+    rw (p.1, p.2) (later_fault _ command task role.Start _ _ _ _ _ _ _ means
+    (rose_later _ _ _ c.in_ok-inputs.ensures.count) (λ s. (c.in_ok-inputs.ensures.steady s).0)
+    (λ k h. (task, means, h)) (λ lacks. inl lacks) cause)
+
+pub returns-in_err-start-clause-steady : goal.returns-in_err-start-clause-steady
+returns-in_err-start-clause-steady g c =
+    let p = err_from_is_err_and c.from_residual-in_err-start.result c.from_residual-in_err-start.ensures.1 in
+    let new = c.load_start.new.files in
+    let mid = c.load_inputs.new.files in
+    let old = c.args.files.now in
+    rw (p.1, p.2) (λ s. let before = c.in_ok-inputs.ensures.steady s in
+    unless_not_read StructureForm Answer c.in_err-start.field-0.0
+    (g.F.Files.steady new × (g.F.Files.faults new ≡ g.F.Files.faults mid))
+    (g.F.Files.faults new ≡ g.F.Files.faults old)
+    (λ h. (still (g.F.Files.faults old) (g.F.Files.faults mid) (g.F.Files.faults new) (g.F.Files.steady new) before.1 h).1)
+    (c.in_err-start.ensures.steady before.0))
+
+pub returns-in_err-trace-clause-cause : goal.returns-in_err-trace-clause-cause
+returns-in_err-trace-clause-cause g c =
+    let command = Replays c.args.program.now c.args.initial.now c.args.start.now c.args.trace.now c.args.report.now in
+    let task = task_of c.in_ok-inputs.inputs Given in
+    let means = c.in_ok-inputs.ensures.meant command (refl, refl) in
+    let p = err_from_is_err_and c.from_residual-in_err-trace.result c.from_residual-in_err-trace.ensures.1 in
+    let start = rw c.in_ok-inputs.ensures.holds at c.in_ok-start.ensures.means in
+    let cause = rw (c.in_ok-start.ensures.holds, c.in_ok-inputs.ensures.holds) at c.in_err-trace.ensures.cause in
+    rw (p.1, p.2) (later_fault _ command task role.Trace _ _ _ _ _ _ _ means
+    (λ rose. rose_later _ _ _ c.in_ok-inputs.ensures.count (rose_later _ _ _ c.in_ok-start.ensures.count rose))
+    (λ s. (c.in_ok-start.ensures.steady (c.in_ok-inputs.ensures.steady s).0).0)
+    (λ k h. (task, means, (c.in_ok-start.start, start), h)) (λ lacks. inr (inl ((c.in_ok-start.start, start), lacks))) cause)
+
+pub returns-in_err-trace-clause-steady : goal.returns-in_err-trace-clause-steady
+returns-in_err-trace-clause-steady g c =
+    let p = err_from_is_err_and c.from_residual-in_err-trace.result c.from_residual-in_err-trace.ensures.1 in
+    let new = c.load_trace.new.files in
+    let mid = c.load_start.new.files in
+    let first = c.load_inputs.new.files in
+    let old = c.args.files.now in
+    rw (p.1, p.2) (λ s. let before = c.in_ok-inputs.ensures.steady s in
+    let behind = still (g.F.Files.faults old) (g.F.Files.faults first) (g.F.Files.faults mid) (g.F.Files.steady mid) before.1
+    (c.in_ok-start.ensures.steady before.0) in
+    unless_not_read Trace Answer c.in_err-trace.field-0.0
+    (g.F.Files.steady new × (g.F.Files.faults new ≡ g.F.Files.faults mid))
+    (g.F.Files.faults new ≡ g.F.Files.faults old)
+    (λ h. (still (g.F.Files.faults old) (g.F.Files.faults mid) (g.F.Files.faults new) (g.F.Files.steady new) behind.1 h).1)
+    (c.in_err-trace.ensures.steady behind.0))
+
+pub returns-in_err-report-clause-cause : goal.returns-in_err-report-clause-cause
+returns-in_err-report-clause-cause g c =
+    let command = Replays c.args.program.now c.args.initial.now c.args.start.now c.args.trace.now c.args.report.now in
+    let task = task_of c.in_ok-inputs.inputs Given in
+    let means = c.in_ok-inputs.ensures.meant command (refl, refl) in
+    let p = err_from_is_err_and c.from_residual-in_err-report.result c.from_residual-in_err-report.ensures.1 in
+    let start = rw c.in_ok-inputs.ensures.holds at c.in_ok-start.ensures.means in
+    let trace = rw (c.in_ok-start.ensures.holds, c.in_ok-inputs.ensures.holds) at c.in_ok-trace.ensures.means in
+    let run = (c.in_ok-start.start, start, (c.in_ok-trace.trace, trace)) in
+    let cause = rw (c.in_ok-trace.ensures.holds, c.in_ok-start.ensures.holds, c.in_ok-inputs.ensures.holds)
+    at c.in_err-report.ensures.cause in
+    rw (p.1, p.2) (later_fault _ command task role.Report _ _ _ _ _ _ _ means
+    (λ rose. rose_later _ _ _ c.in_ok-inputs.ensures.count (rose_later _ _ _ c.in_ok-start.ensures.count
+    (rose_later _ _ _ c.in_ok-trace.ensures.count rose)))
+    (λ s. (c.in_ok-trace.ensures.steady (c.in_ok-start.ensures.steady (c.in_ok-inputs.ensures.steady s).0).0).0)
+    (λ k h. (task, means, run, h)) (λ lacks. inr (inr (run, lacks))) cause)
+
+pub returns-in_err-report-clause-steady : goal.returns-in_err-report-clause-steady
+returns-in_err-report-clause-steady g c =
+    let p = err_from_is_err_and c.from_residual-in_err-report.result c.from_residual-in_err-report.ensures.1 in
+    let new = c.load_report.new.files in
+    let mid = c.load_trace.new.files in
+    let second = c.load_start.new.files in
+    let first = c.load_inputs.new.files in
+    let old = c.args.files.now in
+    rw (p.1, p.2) (λ s. let before = c.in_ok-inputs.ensures.steady s in
+    let then = still (g.F.Files.faults old) (g.F.Files.faults first) (g.F.Files.faults second) (g.F.Files.steady second) before.1
+    (c.in_ok-start.ensures.steady before.0) in
+    let behind = still (g.F.Files.faults old) (g.F.Files.faults second) (g.F.Files.faults mid) (g.F.Files.steady mid) then.1
+    (c.in_ok-trace.ensures.steady then.0) in
+    unless_not_read Analysis Answer c.in_err-report.field-0.0
+    (g.F.Files.steady new × (g.F.Files.faults new ≡ g.F.Files.faults mid))
+    (g.F.Files.faults new ≡ g.F.Files.faults old)
+    (λ h. (still (g.F.Files.faults old) (g.F.Files.faults mid) (g.F.Files.faults new) (g.F.Files.steady new) behind.1 h).1)
+    (c.in_err-report.ensures.steady behind.0))
+
+pub returns-clause-found : goal.returns-clause-found
+returns-clause-found g c =
+    let command = Replays c.args.program.now c.args.initial.now c.args.start.now c.args.trace.now c.args.report.now in
+    let task = task_of c.in_ok-inputs.inputs Given in
+    let start = rw c.in_ok-inputs.ensures.holds at c.in_ok-start.ensures.means in
+    let trace = rw (c.in_ok-start.ensures.holds, c.in_ok-inputs.ensures.holds) at c.in_ok-trace.ensures.means in
+    let report = rw (c.in_ok-trace.ensures.holds, c.in_ok-start.ensures.holds, c.in_ok-inputs.ensures.holds)
+    at c.in_ok-report.ensures.means in
+    run_answers _ command task c.in_ok-start.start c.in_ok-trace.trace c.in_ok-report.report c.replayed.result
+    (c.in_ok-inputs.ensures.meant command (refl, refl))
+    (record { gives_start = start; gives_trace = trace; gives_report = report }) (λ text h. h) c.replayed.ensures.run
+
+pub returns-clause-cause : goal.returns-clause-cause
+returns-clause-cause g c =
+    run_causes _ (Replays c.args.program.now c.args.initial.now c.args.start.now c.args.trace.now c.args.report.now) _ _
+    c.replayed.result c.replayed.ensures.cause
