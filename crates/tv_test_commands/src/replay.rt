@@ -25,6 +25,19 @@ node L1 structures 1
 end
 ";
 
+/// From the heap in which `b` doesn't hold.
+const FLOP_STATES: &str = "state 0 node L0 size 0
+concrete ok
+initial none
+rules ok
+listed none
+state 1 node L1 size 0
+updates ok
+rules ok
+listed none
+end
+";
+
 const FLIP_STATES: &str = "state 0 node L0 size 0
 concrete ok
 initial 0 {}
@@ -60,7 +73,7 @@ listed none
 end
 ";
 
-static ROWS: [Row; 9] = [
+static ROWS: [Row; 10] = [
     Row {
         words: &["replay", "p", "i", "i", "t", "r"],
         files: &[
@@ -83,6 +96,19 @@ static ROWS: [Row; 9] = [
         ],
         code: 1,
         out: "stuck: step 2 edge\n",
+        err: "",
+    },
+    Row {
+        words: &["replay", "p", "i", "s", "t", "r"],
+        files: &[
+            ("p", FLIP),
+            ("i", FLIP_INITIAL),
+            ("s", "%n = {} %p = {}"),
+            ("t", "step 0"),
+            ("r", FLIP_REPORT),
+        ],
+        code: 0,
+        out: FLOP_STATES,
         err: "",
     },
     Row {

@@ -303,32 +303,100 @@ fn lists_are_traversed(rt: HostRuntime) -> Result<(), Fail> {
     Ok(())
 }
 
-/// The ending of a check of the report of the guarded loop.
-fn wrong_judgement(alloc: Global, words: &[&str]) -> Result<Option<&'static str>, AllocError> {
+/// A list of two cells, and a run that goes twice around the guarded loop.
+const REPLAYED: [(&str, &str); 5] = [
+    ("preds.tvp", PREDICATES),
+    ("actions.tvp", ACTIONS),
+    ("message.tvp", MESSAGE),
+    (
+        "s",
+        "%n = {a, b} %p = { x = {a} n = {a->b} t[n] = {a->a, a->b, b->b} r[n,x] = {a, b} }",
+    ),
+    ("t", "step 0 step 1 step 2 step 1 step 2 step 3"),
+];
+
+const STATES: &str = "state 0 node L1 size 2
+concrete ok
+initial 0 {0, 1}
+rules ok
+listed 0 {1, 0}
+state 1 node L2 size 2
+updates ok
+rules ok
+listed 3 {1, 0}
+state 2 node L3 size 2
+updates ok
+rules ok
+listed 1 {1, 0}
+state 3 node L2 size 2
+updates ok
+rules ok
+listed 1 {1, 0}
+state 4 node L3 size 2
+updates ok
+rules ok
+listed 0 {1, 0}
+state 5 node L2 size 2
+updates ok
+rules ok
+listed 0 {1, 0}
+state 6 node L4 size 2
+updates ok
+rules ok
+listed 0 {1, 0}
+end
+";
+
+/// The ending of a call on the guarded loop and its report, which is to write this.
+fn wrong_ending(
+    alloc: Global,
+    words: &[&str],
+    more: &'static [(&'static str, &'static str)],
+    out: &str,
+) -> Result<Option<&'static str>, AllocError> {
     let report = list_report(alloc)?;
     let call = Call {
         words,
         program: GUARDED,
         initial: LIST,
         report: report.as_str(),
-        more: &INCLUDED,
+        more,
     };
     let wanted = Ending {
         code: 0,
-        out: "accepted\n",
+        out,
         err: "",
     };
     wrong_part(alloc, &call, &CALM, &wanted)
 }
 
 #[test]
-fn traversals_are_accepted(rt: HostRuntime) -> Result<(), Fail> {
+fn traversals_are_accepted_and_replayed(rt: HostRuntime) -> Result<(), Fail> {
     assert_eq!(rt;
-        wrong_judgement(rt.alloc(), &["check", "p", "i", "r"])?,
+        wrong_ending(
+            rt.alloc(),
+            &["check", "p", "i", "r"],
+            &INCLUDED,
+            "accepted\n"
+        )?,
         None
     );
     assert_eq!(rt;
-        wrong_judgement(rt.alloc(), &["check", "p", "i", "r", "--recompute"])?,
+        wrong_ending(
+            rt.alloc(),
+            &["check", "p", "i", "r", "--recompute"],
+            &INCLUDED,
+            "accepted\n"
+        )?,
+        None
+    );
+    assert_eq!(rt;
+        wrong_ending(
+            rt.alloc(),
+            &["replay", "p", "i", "s", "t", "r"],
+            &REPLAYED,
+            STATES
+        )?,
         None
     );
     Ok(())
