@@ -119,15 +119,16 @@ rejected_line r = codes "rejected: " ++ (rejected_item r ++ codes "\n")
 -- ---- what a replay finds
 
 -- START, TRACE and REPORT mean this heap, this trace and this report
-pub record RunMeans (told : Option Held) (command : CommandForm) (meant : Program) (start : StructureForm) (trace : Trace)
-    (report : Analysis) : Type 0 where
+pub record RunMeans (told : Option Held) (command : CommandForm) (meant : Program) (start : StructureForm)
+    (trace : Trace) (report : Analysis) : Type 0 where
   pub gives_start : GivesStart told command meant (Ok start)
   pub gives_trace : GivesTrace told command meant (Ok trace)
   pub gives_report : GivesReport told command meant (Ok report)
 
 -- these are the states of the trace from the heap, judged by the initial structures and by the report; and where
 -- nothing is broken, there is a run of the program through their heaps
-pub record AreStates (task : Task) (start : StructureForm) (trace : Trace) (report : Analysis) (states : List State) : Type 0 where
+pub record AreStates (task : Task) (start : StructureForm) (trace : Trace) (report : Analysis) (states : List State)
+    : Type 0 where
   pub are : IsReplay (program_of task.program) task.initial start trace.moves report.listing states
   pub given : ShowsGivenRun (program_of task.program) task.initial trace.moves states
   pub recomputed : ShowsRecomputedRun (program_of task.program) task.initial trace.moves states

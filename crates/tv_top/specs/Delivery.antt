@@ -28,8 +28,8 @@ TookText IsText old new = (text : List ℕ) × IsText text × (new ≡ appended 
 abbrev pub TookFrontOf : (Status → List ℕ → Type 0) → Option (List ℕ) → Option (List ℕ) → Type 0
 TookFrontOf IsText old new = (status : Status) × (text : List ℕ) × IsText status text × TookFront old new text
 
--- What the standard output takes: the whole text where the work was done, the report rejected or the replay stuck, a front of
--- such a text where the output itself failed, and else nothing.
+-- What the standard output takes: the whole text where the work was done, the report rejected or the replay
+-- stuck, a front of such a text where the output itself failed, and else nothing.
 abbrev pub OutTook : Status → (IsText : Status → List ℕ → Type 0) → (out_rose err_rose : Type 0)
     → (old new : Option (List ℕ)) → Type 0
 OutTook Done IsText out_rose err_rose old new = TookText (IsText Done) old new
@@ -39,8 +39,8 @@ OutTook WriteFault IsText out_rose err_rose old new =
     (out_rose × TookFrontOf IsText old new) ⊎ (err_rose × (new ≡ old))
 OutTook other IsText out_rose err_rose old new = new ≡ old
 
--- What the standard error takes: nothing where the work was done, the report rejected or the replay stuck, else the text of the
--- status, of which only a front where the error output itself failed.
+-- What the standard error takes: nothing where the work was done, the report rejected or the replay stuck, else
+-- the text of the status, of which only a front where the error output itself failed.
 abbrev pub ErrTook : Status → (IsCause : Fault → Type 0) → (out_rose err_rose : Type 0)
     → (old new : Option (List ℕ)) → Type 0
 ErrTook Done IsCause out_rose err_rose old new = new ≡ old

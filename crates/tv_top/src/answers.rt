@@ -1,4 +1,4 @@
-//! What an analysis and a judgement give, as texts.
+//! What an analysis, a judgement and a replay give, as texts.
 
 ghost use Rattle.std.specs.Prelude.{◌≡◌, None, ◌<◌, ◌≤◌, ◌^◌, ◌++◌, sum_by, length, IfOk, IfErr, OnOk, decimal};
 ghost use Rattle.tv_judge.specs.Judged.{AreMapsOf};
