@@ -155,8 +155,8 @@ fn run<F: Files>(
     let inputs = load_inputs(alloc, files, program, initial)?;
     let start = load_start(alloc, files, start, &inputs.program)?;
     let trace = load_trace(alloc, files, trace, &inputs.program)?;
-    let report = load_report(alloc, files, report, &inputs.program)?;
-    replayed(alloc, &inputs, &start, &trace, &report)
+    let reported = load_report(alloc, files, report, &inputs.program)?;
+    replayed(alloc, &inputs, &start, &trace, &reported)
 }
 
 /// What the command gives.

@@ -70,26 +70,26 @@ returns-in_err-trace-clause-steady g c =
     (λ h. (still (g.F.Files.faults old) (g.F.Files.faults mid) (g.F.Files.faults new) (g.F.Files.steady new) behind.1 h).1)
     (c.in_err-trace.ensures.steady behind.0))
 
-pub returns-in_err-report-clause-cause : goal.returns-in_err-report-clause-cause
-returns-in_err-report-clause-cause g c =
+pub returns-in_err-reported-clause-cause : goal.returns-in_err-reported-clause-cause
+returns-in_err-reported-clause-cause g c =
     let command = Replays c.args.program.now c.args.initial.now c.args.start.now c.args.trace.now c.args.report.now in
     let task = task_of c.in_ok-inputs.inputs Given in
     let means = c.in_ok-inputs.ensures.meant command (refl, refl) in
-    let p = err_from_is_err_and c.from_residual-in_err-report.result c.from_residual-in_err-report.ensures.1 in
+    let p = err_from_is_err_and c.from_residual-in_err-reported.result c.from_residual-in_err-reported.ensures.1 in
     let start = rw c.in_ok-inputs.ensures.holds at c.in_ok-start.ensures.means in
     let trace = rw (c.in_ok-start.ensures.holds, c.in_ok-inputs.ensures.holds) at c.in_ok-trace.ensures.means in
     let run = (c.in_ok-start.start, start, (c.in_ok-trace.trace, trace)) in
     let cause = rw (c.in_ok-trace.ensures.holds, c.in_ok-start.ensures.holds, c.in_ok-inputs.ensures.holds)
-    at c.in_err-report.ensures.cause in
+    at c.in_err-reported.ensures.cause in
     rw (p.1, p.2) (later_fault _ command task role.Report _ _ _ _ _ _ _ means
     (λ rose. rose_later _ _ _ c.in_ok-inputs.ensures.count (rose_later _ _ _ c.in_ok-start.ensures.count
     (rose_later _ _ _ c.in_ok-trace.ensures.count rose)))
     (λ s. (c.in_ok-trace.ensures.steady (c.in_ok-start.ensures.steady (c.in_ok-inputs.ensures.steady s).0).0).0)
     (λ k h. (task, means, run, h)) (λ lacks. inr (inr (run, lacks))) cause)
 
-pub returns-in_err-report-clause-steady : goal.returns-in_err-report-clause-steady
-returns-in_err-report-clause-steady g c =
-    let p = err_from_is_err_and c.from_residual-in_err-report.result c.from_residual-in_err-report.ensures.1 in
+pub returns-in_err-reported-clause-steady : goal.returns-in_err-reported-clause-steady
+returns-in_err-reported-clause-steady g c =
+    let p = err_from_is_err_and c.from_residual-in_err-reported.result c.from_residual-in_err-reported.ensures.1 in
     let new = c.load_report.new.files in
     let mid = c.load_trace.new.files in
     let second = c.load_start.new.files in
@@ -100,11 +100,11 @@ returns-in_err-report-clause-steady g c =
     (c.in_ok-start.ensures.steady before.0) in
     let behind = still (g.F.Files.faults old) (g.F.Files.faults second) (g.F.Files.faults mid) (g.F.Files.steady mid) then.1
     (c.in_ok-trace.ensures.steady then.0) in
-    unless_not_read Analysis Answer c.in_err-report.field-0.0
+    unless_not_read Analysis Answer c.in_err-reported.field-0.0
     (g.F.Files.steady new × (g.F.Files.faults new ≡ g.F.Files.faults mid))
     (g.F.Files.faults new ≡ g.F.Files.faults old)
     (λ h. (still (g.F.Files.faults old) (g.F.Files.faults mid) (g.F.Files.faults new) (g.F.Files.steady new) behind.1 h).1)
-    (c.in_err-report.ensures.steady behind.0))
+    (c.in_err-reported.ensures.steady behind.0))
 
 pub returns-clause-found : goal.returns-clause-found
 returns-clause-found g c =
@@ -113,8 +113,8 @@ returns-clause-found g c =
     let start = rw c.in_ok-inputs.ensures.holds at c.in_ok-start.ensures.means in
     let trace = rw (c.in_ok-start.ensures.holds, c.in_ok-inputs.ensures.holds) at c.in_ok-trace.ensures.means in
     let report = rw (c.in_ok-trace.ensures.holds, c.in_ok-start.ensures.holds, c.in_ok-inputs.ensures.holds)
-    at c.in_ok-report.ensures.means in
-    run_answers _ command task c.in_ok-start.start c.in_ok-trace.trace c.in_ok-report.report c.replayed.result
+    at c.in_ok-reported.ensures.means in
+    run_answers _ command task c.in_ok-start.start c.in_ok-trace.trace c.in_ok-reported.reported c.replayed.result
     (c.in_ok-inputs.ensures.meant command (refl, refl))
     (record { gives_start = start; gives_trace = trace; gives_report = report }) (λ text h. h) c.replayed.ensures.run
 
