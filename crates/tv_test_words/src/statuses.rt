@@ -1,4 +1,5 @@
 //! How calls end: exit codes and texts, by example.
+
 use std::alloc::{AllocError, Global};
 use std::test::Fail;
 use tv_expand::ExpandError;
@@ -8,6 +9,7 @@ use tv_listing::Rejection;
 use tv_names::ResolveError;
 use tv_outside::MemSink;
 use tv_parse::ParseError;
+use tv_replayed::Why;
 use tv_status::{FileKind, Role, Status, write_status};
 use tv_tvs::TvsError;
 
@@ -19,7 +21,7 @@ const USAGE: &str = "usage: tvla analyze PROGRAM INITIAL [--max-structures N] [-
 ";
 
 /// Faults of files and their texts.
-const FAULTS: [(Role, FileKind, &str); 14] = [
+const FAULTS: [(Role, FileKind, &str); 16] = [
     (
         Role::Program,
         FileKind::Program(ProgramFault::Parsing(ParseError::Syntax(Place { line: 1, column: 1 }))),
@@ -89,10 +91,19 @@ const FAULTS: [(Role, FileKind, &str); 14] = [
         "tvla: report: BadByte\n",
     ),
     (Role::Report, FileKind::TooLong, "tvla: report: TooLong\n"),
+    (Role::Start, FileKind::NotHeap, "tvla: start: NotHeap\n"),
+    (
+        Role::Trace,
+        FileKind::TraceForm(Place {
+            line: 12,
+            column: 7,
+        }),
+        "tvla: trace: TraceForm at 12:7\n",
+    ),
 ];
 
 /// The other statuses, their codes and their texts.
-const OTHERS: [(Status, u8, &str); 12] = [
+const OTHERS: [(Status, u8, &str); 13] = [
     (Status::Done, 0, ""),
     (Status::Rejected(Rejection::Initial(0)), 1, ""),
     (
@@ -106,6 +117,14 @@ const OTHERS: [(Status, u8, &str); 12] = [
     ),
     (
         Status::Rejected(Rejection::Message { edge: 2, number: 0 }),
+        1,
+        "",
+    ),
+    (
+        Status::Stuck {
+            step: 2,
+            why: Why::Edge,
+        },
         1,
         "",
     ),
