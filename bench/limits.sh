@@ -18,7 +18,7 @@ ROWS = []
 
 
 def row(name, size, tenth=None):
-    """A row is a function from a size to the words and the texts of the files p, i and r."""
+    """A row is a function from a size to the words and the texts of the files p, i, r, s and t, the last two for replays."""
     def keep(make):
         ROWS.append((name, make, size, tenth or size // 10))
     return keep
@@ -38,6 +38,10 @@ def fill(size, item, before="", behind=""):
 
 def analyze(program, initial=EMPTY, *more):
     return ["analyze", "p", "i", *more], program, initial, ""
+
+
+def replay(program, start, trace):
+    return ["replay", "p", "i", "s", "t", "r"], program, EMPTY, "tvla report 2 end", start, trace
 
 
 def individuals(count):
@@ -258,8 +262,21 @@ def _(count):
     return analyze(text + "%%\n%action See() { %p " + pre + " }\n%%\nL0 See() L1\n", initial)
 
 
+@row("trace: 4 MiB of steps of a heap without individuals", MIB4)
+def _(size):
+    return replay(TAIL, EMPTY, "step 0 " * (size // 7))
+
+
+@row("trace: 1,000 steps of a heap of 256 individuals", 1_000)
+def _(count):
+    program = "%p x(v) unique\n%p n(v, w) function\n%i t(v, w) = n*(v, w) transitive reflexive\n%r t(v, w) ==> !n(w, v)\n"
+    pairs = ", ".join(f"u{u}->u{w}" for u in range(256) for w in range(u, 256))
+    start = chain(256).replace(" x = {u0}", " x = {u0} t = {" + pairs + "}")
+    return replay(program + TAIL, start, "step 0 " * count)
+
+
 def run(words, texts, folder):
-    for name, text in zip("pir", texts):
+    for name, text in zip("pirst", texts):
         with open(f"{folder}/{name}", "w") as file:
             file.write(text)
     child = os.fork()
