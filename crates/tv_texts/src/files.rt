@@ -11,6 +11,7 @@ ghost use Rattle.tv_outside.specs.Told.{HoldsName, IsContent};
 ghost use Rattle.tv_status.specs.declared.status.Role.TheVariants as role;
 ghost use Rattle.tv_struct.specs.StructureForm.{IsStructure, IsOver};
 ghost use Rattle.tv_trace.specs.Meaning.{IsTraceOn};
+ghost use Rattle.tv_two_valued.specs.TwoValued.{IsTwoValued};
 ghost use Rattle.tv_texts.specs.Files.{IsProgramFile, LacksFile, IsInitialFile, IsStartFile, IsTraceFile, IsReportFile, IsFileCause, IsLong, UnlessNotRead};
 
 use crate::fault::{TextFault, fault_of_reading};
@@ -125,6 +126,7 @@ pub fn load_start<F: Files>(
     requires valid { IsValid (program_of program.now) }
     ensures means { IfOk result (λ s. IsStartFile (F.holds files.old) name.now program.now (Ok s)) }
     ensures over { IfOk result (λ s. IsOver program.now.vocab s × (s.fresh ≡ None)) }
+    ensures heap { IfOk result IsTwoValued }
     ensures cause { IfErr result (IsFileCause role.Start (λ kind. IsStartFile
         (F.holds files.old) name.now program.now (Err kind))
         (¬ HoldsName (F.holds files.old) name.now) (Rose (F.faults files.old) (F.faults files.new))

@@ -129,6 +129,7 @@ pub(crate) fn start_in(
     requires size { length bytes.now ≤ longest_gathered }
     ensures means { IfOk result (λ s. MeansStart program.now bytes.now (Ok s)) }
     ensures over { IfOk result (λ s. IsOver program.now.vocab s × (s.fresh ≡ None)) }
+    ensures heap { IfOk result IsTwoValued }
     ensures cause { IfErr result (IsTextCause role.Start (λ kind. MeansStart program.now bytes.now
         (Err kind))) }
 {

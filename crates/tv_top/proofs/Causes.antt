@@ -12,6 +12,7 @@ use Rattle.tv_model.specs.declared.program.Program.{Program}
 use Rattle.tv_outside.specs.Count.{Rose}
 use Rattle.tv_outside.specs.Told.{Held, HoldsName}
 use Rattle.tv_status.specs.declared.status.FileKind.{FileKind}
+use Rattle.tv_status.specs.declared.status.Role.{Role}
 use Rattle.tv_status.specs.declared.status.Role.TheVariants as role
 use Rattle.tv_struct.specs.StructureForm.{StructureForm}
 use Rattle.tv_struct.specs.declared.analysis.StageError.{StageError}

@@ -19,3 +19,14 @@ returns-in-Demo-clause-cause g c =
 pub returns-in-Join-clause-cause : goal.returns-in-Join-clause-cause
 returns-in-Join-clause-cause g c =
     rw (c.in-Join.is, ← c.deref-in-Join.ensures, ← c.deref-in-Join-2.ensures) c.join.ensures.cause
+
+pub returns-in-Replay-clause-cause : goal.returns-in-Replay-clause-cause
+returns-in-Replay-clause-cause g c =
+    rw (
+      c.in-Replay.is,
+      ← c.deref-in-Replay.ensures,
+      ← c.deref-in-Replay-2.ensures,
+      ← c.deref-in-Replay-3.ensures,
+      ← c.deref-in-Replay-4.ensures,
+      ← c.deref-in-Replay-5.ensures,
+    ) c.run.ensures.cause
