@@ -13,10 +13,14 @@ use Rattle.tv_model.specs.Form.{Form, form_of}
 use Rattle.tv_model.specs.Program.{HeadForm, HNever, HAtom, HSame, RuleForm, head_of, rule_of}
 use Rattle.tv_model.specs.Rules.{IsFreeInRule}
 use Rattle.tv_rules.specs.declared.entries.Entry.{Entry}
+use Rattle.tv_rules.specs.declared.shapes.Shape.{Shape}
 use Rattle.tv_rules.specs.Closing.{Swap, swaps, puttings, conjuncts, closed_set, negated_head}
 use Rattle.tv_rules.specs.Decoded.{IsRuleAbout, IsEntry}
-use Rattle.tv_rules.specs.EntryForms.{EntryForm, forms_of, swapped_at, AreFreeIn, AreWatched, AreKept, entry_of, closed_entries, rules_of}
+use Rattle.tv_rules.specs.Dues.{DueForm, AreDueFrom, IsShape, parts_of, put_at}
+use Rattle.tv_rules.specs.EntryForms.{EntryForm, forms_of, numbers_of, swapped_at, AreFreeIn, entry_of, closed_entries, rules_of}
+use Rattle.tv_rules.specs.Kept.{AreWatched, AreKept}
 use Rattle.tv_rules.specs.Standing.{AreNumbersOf, StandsIn, SeesSummaries}
+use Rattle.tv_rules.proofs.DueLemmas.{put-due}
 use Rattle.tv_rules.proofs.EntryLemmas.{entries-kept}
 use Rattle.tv_rules.proofs.Family.{zip-at, zip-length, bases-below, free-alike}
 use Rattle.tv_rules.proofs.MetByHeaps.{All-found}
@@ -48,18 +52,18 @@ watched-more rules q lists new ns before here put = (
         in subst Of is.1 (subst At same here)
 
 -- what was found of the rules as they were read, five times
-pub are-kept : (bases : List Rule) (negations : List Formula) (variables : List (List Var)) (entries : List Entry) (by_pred : List (List ℕ)) (by_sm : List ℕ)
+pub are-kept : (bases : List Rule) (negations : List Formula) (shapes : List Shape) (entries : List Entry) (by_pred : List (List ℕ)) (by_sm : List ℕ)
     → (n v e p s : List Rule) → n ≡ bases → v ≡ bases → e ≡ bases → p ≡ bases → s ≡ bases
     → map form_of negations ≡ map (λ (rule : RuleForm). negated_head rule.head) (map rule_of n)
-    → AllZip AreFreeIn (map rule_of v) variables
+    → AllZip IsShape (map rule_of v) shapes
     → map entry_of entries ≡ closed_entries (map rule_of e)
     → ((q : ℕ) (ns : List ℕ) → slice_get by_pred q ≡ Some ns → AreNumbersOf (StandsIn q) (closed_set (map rule_of p)) ns)
     → ((q k : ℕ) (rule : RuleForm) → slice_get (rules_of bases) k ≡ Some rule → StandsIn q rule → q < length by_pred)
     → AreNumbersOf SeesSummaries (closed_set (map rule_of s)) by_sm
-    → AreKept bases negations variables entries by_pred by_sm
-are-kept bases negations variables entries by_pred by_sm n v e p s en ev ee ep es negated free kept numbers places seeing = record {
+    → AreKept bases negations shapes entries by_pred by_sm
+are-kept bases negations shapes entries by_pred by_sm n v e p s en ev ee ep es negated shaped kept numbers places seeing = record {
   negated = subst (λ (rs : List Rule). map form_of negations ≡ map (λ (rule : RuleForm). negated_head rule.head) (map rule_of rs)) en negated;
-  free = subst (λ (rs : List Rule). AllZip AreFreeIn (map rule_of rs) variables) ev free;
+  shaped = subst (λ (rs : List Rule). AllZip IsShape (map rule_of rs) shapes) ev shaped;
   kept = subst (λ (rs : List Rule). map entry_of entries ≡ closed_entries (map rule_of rs)) ee kept;
   watched = record {
     numbers = subst (λ (rs : List Rule). (q : ℕ) (ns : List ℕ) → slice_get by_pred q ≡ Some ns → AreNumbersOf (StandsIn q) (closed_set (map rule_of rs)) ns) ep numbers;
@@ -157,8 +161,8 @@ pub forms-swapped : (fs : List (Bor Formula)) (k : ℕ) (x : Bor Formula) (o : O
     → forms_of (slice_set fs k x) ≡ swapped_at o (form_of x.now) (forms_of fs)
 forms-swapped fs k x o is = forms-set fs k x ∙ ap (λ p. swapped_at p (form_of x.now) (forms_of fs)) (sym is)
 
-module _ (bases : List Rule) (negations : List Formula) (variables : List (List Var)) (entries : List Entry) (by_pred : List (List ℕ)) (by_sm : List ℕ)
-    (is : AreKept bases negations variables entries by_pred by_sm) where
+module _ (bases : List Rule) (negations : List Formula) (shapes : List Shape) (entries : List Entry) (by_pred : List (List ℕ)) (by_sm : List ℕ)
+    (is : AreKept bases negations shapes entries by_pred by_sm) where
   zipped : AllZip (IsEntry (map rule_of bases)) (rules_of bases) (map entry_of entries)
   zipped =
       let Of : List EntryForm → Type 0 = λ es. AllZip (IsEntry (map rule_of bases)) (rules_of bases) es
@@ -184,14 +188,14 @@ module _ (bases : List Rule) (negations : List Formula) (variables : List (List 
       All-found (λ (x : Entry). x.base < length ys) entries n e
       (bases-below R (map rule_of bases) ys entries ys refl is.kept all) at
 
-  pub variables-below : (n : ℕ) (e : Entry) → slice_get entries n ≡ Some e → e.base < length variables
-  variables-below n e at = base-below AreFreeIn variables is.free n e at
+  pub shapes-below : (n : ℕ) (e : Entry) → slice_get entries n ≡ Some e → e.base < length shapes
+  shapes-below n e at = base-below IsShape shapes is.shaped n e at
 
-  same-length : length bases ≡ length variables
-  same-length = sym (length-map bases rule_of) ∙ zip-length AreFreeIn (map rule_of bases) variables is.free
+  same-length : length bases ≡ length shapes
+  same-length = sym (length-map bases rule_of) ∙ zip-length IsShape (map rule_of bases) shapes is.shaped
 
   pub bases-below_count : (n : ℕ) (e : Entry) → slice_get entries n ≡ Some e → e.base < length bases
-  bases-below_count n e at = omega (arith, variables-below n e at, same-length)
+  bases-below_count n e at = omega (arith, shapes-below n e at, same-length)
 
   pub negations-below : (n : ℕ) (e : Entry) → slice_get entries n ≡ Some e → e.base < length negations
   negations-below n e at =
@@ -200,11 +204,12 @@ module _ (bases : List Rule) (negations : List Formula) (variables : List (List 
       ∙ length-map (map rule_of bases) (λ (rule : RuleForm). negated_head rule.head) ∙ length-map bases rule_of
       in omega (arith, bases-below_count n e at, count)
 
-  pub variables-are : (n : ℕ) (rule : RuleForm) (e : Entry) (vars : List Var) → slice_get (rules_of bases) n ≡ Some rule
-      → slice_get entries n ≡ Some e → slice_get variables e.base ≡ Some vars → AreFreeIn rule vars
-  variables-are n rule e vars there at found v =
+  pub variables-are : (n : ℕ) (rule : RuleForm) (e : Entry) (shape : Shape) → slice_get (rules_of bases) n ≡ Some rule
+      → slice_get entries n ≡ Some e → slice_get shapes e.base ≡ Some shape → AreFreeIn rule shape.variables
+  variables-are n rule e shape there at found v =
       let entry : IsEntry (map rule_of bases) rule (entry_of e) = entry-is n rule e there at
-      in let free : AreFreeIn entry.base vars = zip-at AreFreeIn (map rule_of bases) variables is.free e.base entry.base vars entry.there found
+      in let free : AreFreeIn entry.base shape.variables
+      = (zip-at IsShape (map rule_of bases) shapes is.shaped e.base entry.base shape entry.there found).free
       in let same : IsFreeInRule v rule ↔ IsFreeInRule v entry.base = free-alike v e.conjunct entry.base rule entry.about
       in (λ k. same.1 ((free v).0 k), λ k. (free v).1 (same.0 k))
 
@@ -242,3 +247,40 @@ module _ (bases : List Rule) (negations : List Formula) (variables : List (List 
       ap (λ gs. swapped_at e.conjunct (form_of negation) gs) are
       ∙ ap (λ x. swapped_at e.conjunct x (conjuncts (form_of base.body))) (negation-is e.base base negation found negated)
       ∙ about-conjuncts e.conjunct (rule_of base) rule (base-is n rule e base there at found)
+
+  -- what its conjuncts wait for
+  pub dues-are : (n : ℕ) (rule : RuleForm) (e : Entry) (shape : Shape) (negation : Formula) (ds : List DueForm)
+      → slice_get (rules_of bases) n ≡ Some rule → slice_get entries n ≡ Some e → slice_get shapes e.base ≡ Some shape
+      → slice_get negations e.base ≡ Some negation → ds ≡ parts_of shape.conjuncts
+      → AreDueFrom (conjuncts rule.body) (numbers_of shape.variables)
+      (put_at e.conjunct (record { form = form_of negation; left = shape.negated }) ds)
+  dues-are n rule e shape negation ds there at found negated are =
+      let entry : IsEntry (map rule_of bases) rule (entry_of e) = entry-is n rule e there at
+      in let shaped : IsShape entry.base shape = zip-at IsShape (map rule_of bases) shapes is.shaped e.base entry.base shape entry.there found
+      in let N : RuleForm → Form = λ r. negated_head r.head
+      in let left : slice_get (map form_of negations) e.base ≡ Some (form_of negation)
+      = slice_get-map form_of negations e.base ∙ ap (option_map form_of) negated
+      in let right : slice_get (map N (map rule_of bases)) e.base ≡ Some (N entry.base)
+      = slice_get-map N (map rule_of bases) e.base ∙ ap (option_map N) entry.there
+      in let both : slice_get (map form_of negations) e.base ≡ slice_get (map N (map rule_of bases)) e.base
+      = ap (λ fs. slice_get fs e.base) is.negated
+      in let same : N entry.base ≡ form_of negation = cc (left, right, both)
+      in let D : Form → DueForm = λ f. record { form = f; left = shape.negated }
+      in let Of : List DueForm → Type 0 = λ es. AreDueFrom (conjuncts rule.body) (numbers_of shape.variables) (put_at e.conjunct (D (form_of negation)) es)
+      in let With : Form → Type 0 = λ f. AreDueFrom (conjuncts rule.body) (numbers_of shape.variables) (put_at e.conjunct (D f) (parts_of shape.conjuncts))
+      in let From : List Form → Type 0 = λ fs. AreDueFrom fs (numbers_of shape.variables) (put_at e.conjunct (D (N entry.base)) (parts_of shape.conjuncts))
+      in subst Of (sym are) (subst With same (subst From (about-conjuncts e.conjunct entry.base rule entry.about)
+      (put-due e.conjunct (D (N entry.base)) (conjuncts entry.base.body) (numbers_of shape.variables) (parts_of shape.conjuncts) shaped.due
+      shaped.negated (omega (arith, shaped.most, length-map shape.variables (λ (v : Var). v.0))))))
+
+  -- the place of a swapped conjunct is one of them
+  pub put-below : (n : ℕ) (e : Entry) (shape : Shape) (ds : List DueForm) → n < length (rules_of bases) → slice_get entries n ≡ Some e
+      → slice_get shapes e.base ≡ Some shape → ds ≡ parts_of shape.conjuncts → IfSome e.conjunct (λ k. k < length ds)
+  put-below n e shape ds below at found are =
+      let rule : (r : RuleForm) × (slice_get (rules_of bases) n ≡ Some r) = some-at (rules_of bases) n below
+      in let entry : IsEntry (map rule_of bases) rule.0 (entry_of e) = entry-is n rule.0 e rule.1 at
+      in let shaped : IsShape entry.base shape = zip-at IsShape (map rule_of bases) shapes is.shaped e.base entry.base shape entry.there found
+      in let At : ℕ → Type 0 = λ m. IfSome e.conjunct (λ k. k < m)
+      in subst At (length-map ds (λ (d : DueForm). d.form))
+      (about-below e.conjunct entry.base rule.0 (map (λ (d : DueForm). d.form) ds) entry.about
+      (ap (λ (es : List DueForm). map (λ (d : DueForm). d.form) es) are ∙ shaped.due.due.are))

@@ -8,6 +8,7 @@ pub mod Ranges
 pub mod Written
 -- What only this crate cites.
 mod Dropping
+mod DueLemmas
 mod EntryLemmas
 mod FlagLemmas
 mod Free

@@ -1,7 +1,7 @@
 -- Tests of rules: whether a variable is free, whether a head has one variable twice.
-use Rattle.std.proofs.Common.{ℕ, ◌≡◌, ◌<◌, ◌+◌, ◌↔◌, ◌⊎◌, ◌∙◌, ◌==◌, Bool, true, false, IsTrue, List, [], ◌∷◌, ◌++◌, inl, inr, ⊎_elim, refl, sym, ap, subst, Contains, arith}
+use Rattle.std.proofs.Common.{ℕ, ◌≡◌, ◌<◌, ◌≤◌, ◌+◌, ◌↔◌, ◌⊎◌, ◌∙◌, ◌==◌, Bool, true, false, IsTrue, List, [], ◌∷◌, ◌++◌, get_or, length, inl, inr, ⊎_elim, refl, sym, ap, subst, Contains, arith}
 use Rattle.std.proofs.lemmas.Bool.{false≢true, eqb-true, eq-eqb, cases_lt}
-use Rattle.std.proofs.lemmas.List.{map-append}
+use Rattle.std.proofs.lemmas.List.{get_or-map, length-map, map-append}
 use Rattle.std.proofs.lemmas.List.Elements.{Contains-push, Contains-push_cases, Contains-append_left}
 use Rattle.tv_model.specs.declared.formula.Var.{Var}
 use Rattle.tv_model.specs.Form.{Form, IsFree}
@@ -45,23 +45,35 @@ noted F old new v put here w =
           (λ same. let Here : ℕ → Type 0 = λ x. Contains (numbers_of old ++ v.0 ∷ []) x in subst Here (sym same.0) (Contains-push (numbers_of old) v.0)) at),
     )
 
--- the free ones of one variable more
-pub free-more : (F : ℕ → Type 0) (old new : List ℕ) (v : ℕ)
-    → ((w : ℕ) → Contains old w ↔ ((w < v) × F w))
-    → ((w : ℕ) → Contains new w ↔ (Contains old w ⊎ ((w ≡ v) × F w)))
-    → (w : ℕ) → Contains new w ↔ ((w < v + 1) × F w)
-free-more F old new v before put = λ w. (
-  λ at. ⊎_elim (λ l. let was : (w < v) × F w = (before w).0 l in (omega (arith, was.0), was.1))
-      (λ r. (omega (arith, r.0), r.1)) ((put w).0 at),
-  λ k. (put w).1 (⊎_elim (λ less. inl ((before w).1 (less, k.1))) (λ same. inr (same, k.1)) (split w k.0)),
-)
-  where
-    split : (w : ℕ) → w < v + 1 → (w < v) ⊎ (w ≡ v)
-    split w less = ⊎_elim (λ below. inl below) (λ above. inr (omega (arith, less, above))) (cases_lt w v)
+-- a variable that was read stands in the list
+pub listed-at : (vars : List Var) (i : ℕ) (d : Var) (v : ℕ) → i < length vars → (get_or vars i d).0 ≡ v → Contains (numbers_of vars) v
+listed-at vars i d v below is =
+    let N : Var → ℕ = λ x. x.0
+    in (i, omega (arith, below, length-map vars N), get_or-map N vars i d v below ∙ is)
 
-pub free-all : (F : ℕ → Type 0) (vars : List ℕ) (v n : ℕ) → v ≡ n
-    → ((w : ℕ) → Contains vars w ↔ ((w < v) × F w)) → (w : ℕ) → Contains vars w ↔ ((w < n) × F w)
-free-all F vars v n e before = let Of : ℕ → Type 0 = λ m. (w : ℕ) → Contains vars w ↔ ((w < m) × F w) in subst Of e before
+-- one that stands there already
+pub noted-there : (F : ℕ → Type 0) (vars : List Var) (v : Var) → Contains (numbers_of vars) v.0
+    → (w : ℕ) → Contains (numbers_of vars) w ↔ (Contains (numbers_of vars) w ⊎ ((w ≡ v.0) × F w))
+noted-there F vars v there w = (
+  λ at. inl at,
+  λ k. ⊎_elim (λ before. before) (λ same. subst (Contains (numbers_of vars)) (sym same.0) there) k,
+)
+
+-- only free ones are in the list, and those below v are
+abbrev pub HasFree : (F : ℕ → Type 0) → (vars : List ℕ) → (v : ℕ) → Type 0
+HasFree F vars v = (w : ℕ) → (Contains vars w → (w < 32) × F w) × (w < v → F w → Contains vars w)
+
+-- the free ones of one variable more
+pub free-more : (F : ℕ → Type 0) (old new : List ℕ) (v : ℕ) → v < 32 → HasFree F old v
+    → ((w : ℕ) → Contains new w ↔ (Contains old w ⊎ ((w ≡ v) × F w))) → HasFree F new (v + 1)
+free-more F old new v range before put = λ w. (
+  λ at. ⊎_elim (λ l. (before w).0 l) (λ r. (omega (arith, range, r.0), r.1)) ((put w).0 at),
+  λ less free. (put w).1 (⊎_elim (λ below. inl ((before w).1 below free)) (λ above. inr (omega (arith, less, above), free)) (cases_lt w v)),
+)
+
+pub free-all : (F : ℕ → Type 0) (vars : List ℕ) (v : ℕ) → 32 ≤ v → HasFree F vars v
+    → (w : ℕ) → Contains vars w ↔ ((w < 32) × F w)
+free-all F vars v all has = λ w. ((has w).0, λ k. (has w).1 (omega (arith, all, k.0)) k.1)
 
 -- where free variables are in range, the free ones in range are all
 pub free-in_range : (rule : RuleForm) (vars : List Var)

@@ -1,7 +1,7 @@
 -- How the closed rules are kept: the base rules with their formulas, and for each closed rule the number
 -- of its base rule, the place of the conjunct whose place the negated head takes, and its head.
-use Rattle.std.specs.Prelude.{ℕ, suc, ◌≡◌, ◌↔◌, ◌<◌, List, [], ◌∷◌, ◌++◌, length, map, Option, None, Some, Contains, slice_get, slice_set}
-use Rattle.std.specs.List.{AllZip, cons_option}
+use Rattle.std.specs.Prelude.{ℕ, suc, ◌↔◌, List, [], ◌∷◌, ◌++◌, map, Option, None, Some, Contains, slice_set}
+use Rattle.std.specs.List.{cons_option}
 use Rattle.std.specs.Borrow.{Bor}
 use Rattle.tv_model.specs.declared.formula.Formula.{Formula}
 use Rattle.tv_model.specs.declared.formula.Var.{Var}
@@ -10,8 +10,7 @@ use Rattle.tv_rules.specs.declared.entries.Entry.{Entry}
 use Rattle.tv_model.specs.Form.{Form, form_of}
 use Rattle.tv_model.specs.Program.{HeadForm, RuleForm, head_of, rule_of}
 use Rattle.tv_model.specs.Rules.{IsFreeInRule}
-use Rattle.tv_rules.specs.Closing.{conjuncts, negated as negation, negated_head, closed_set}
-use Rattle.tv_rules.specs.Standing.{AreNumbersOf, StandsIn, SeesSummaries}
+use Rattle.tv_rules.specs.Closing.{conjuncts, negated as negation, closed_set}
 
 -- the closed set of these base rules
 abbrev pub rules_of : List Rule → List RuleForm
@@ -66,17 +65,3 @@ closed_entries rules = base_entries 0 rules ++ further_entries 0 rules
 -- the variables are those that are free in the rule
 abbrev pub AreFreeIn : RuleForm → List Var → Type 0
 AreFreeIn rule vars = (v : ℕ) → Contains (numbers_of vars) v ↔ IsFreeInRule v rule
-
--- each predicate that stands in a rule has a place in the lists, and there the numbers of its rules
-pub record AreWatched (rules : List RuleForm) (by_pred : List (List ℕ)) : Type 0 where
-  pub numbers : (q : ℕ) (ns : List ℕ) → slice_get by_pred q ≡ Some ns → AreNumbersOf (StandsIn q) rules ns
-  pub places : (q n : ℕ) (rule : RuleForm) → slice_get rules n ≡ Some rule → StandsIn q rule → q < length by_pred
-
--- the lists that stand beside the base rules are right
-pub record AreKept (bases : List Rule) (negations : List Formula) (variables : List (List Var))
-    (entries : List Entry) (by_pred : List (List ℕ)) (by_sm : List ℕ) : Type 0 where
-  pub negated : map form_of negations ≡ map (λ rule. negated_head rule.head) (map rule_of bases)
-  pub free : AllZip AreFreeIn (map rule_of bases) variables
-  pub kept : map entry_of entries ≡ closed_entries (map rule_of bases)
-  pub watched : AreWatched (rules_of bases) by_pred
-  pub seeing : AreNumbersOf SeesSummaries (rules_of bases) by_sm

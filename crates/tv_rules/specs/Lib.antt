@@ -1,7 +1,9 @@
 pub mod Closing
 pub mod Decoded
+pub mod Dues
 pub mod EntryForms
 pub mod Flags
+pub mod Kept
 pub mod Laws
 pub mod PropertyForms
 pub mod Samples

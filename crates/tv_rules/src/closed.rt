@@ -1,6 +1,6 @@
 //! The closed rules of a program, kept by their base rules.
 
-ghost use Rattle.std.specs.Prelude.{ℕ, List, [], unwrap_or, IfSome, ◌≡◌, ◌<◌, ◌≤◌, ◌+◌, ◌↔◌, length, map, ◌⊎◌, IfOk, OnOk, All, Some, slice_get, Contains};
+ghost use Rattle.std.specs.Prelude.{ℕ, List, [], unwrap_or, IfSome, ◌≡◌, ◌<◌, ◌≤◌, ◌+◌, ◌↔◌, length, map, IfOk, OnOk, All, Some, slice_get, Contains};
 ghost use Rattle.std.specs.List.{AllZip};
 ghost use Rattle.tv_model.specs.Form.{form_of, height};
 ghost use Rattle.tv_model.specs.Heap.{Heap};
@@ -11,16 +11,19 @@ ghost use Rattle.tv_stable.specs.Laws.{IsPlainRule};
 ghost use Rattle.tv_model.specs.Rules.{IsFreeInRule};
 ghost use Rattle.tv_rules.specs.Closing.{closed_rules, closed_set, conjuncts, negated_head};
 ghost use Rattle.tv_rules.specs.Standing.{AreNumbersOf, StandsIn, SeesSummaries};
-ghost use Rattle.tv_rules.specs.EntryForms.{AreFreeIn, AreWatched, AreKept, entry_of, closed_entries, forms_of, numbers_of, rules_of, swapped_at};
+ghost use Rattle.tv_rules.specs.Dues.{AreWaits, IsShape};
+ghost use Rattle.tv_rules.specs.EntryForms.{AreFreeIn, entry_of, closed_entries, forms_of, rules_of, swapped_at};
 ghost use Rattle.tv_rules.specs.Laws.{IsNoHigher};
 
 use crate::base::base_rules;
-use crate::conjuncts::{conjuncts, is_free_in_rule, negated_head};
+use crate::conjuncts::{conjuncts, negated_head};
+use crate::dues::{Due, dues, put};
 use crate::entries::{Entries, Entry, closed_entries};
+use crate::shapes::{Shape, Shapes, Waits, shape_of};
 use crate::watch::{Numbers, seeing_summaries, standing};
 use std::alloc::{AllocError, Global};
 use std::marker::Model;
-use tv_model::{Formula, Formulas, Head, Items, PredId, Program, Rule, Rules, Var, Vars};
+use tv_model::{Formula, Formulas, Head, Items, PredId, Program, Rule, Rules, Var};
 
 /// The closed rules of a program, and for each predicate the numbers of the rules in which it stands. A
 /// further rule is kept by the number of its base rule and the place of its conjunct, so that many rules
@@ -30,8 +33,8 @@ pub struct Closed {
     bases: Rules,
     /// For each base rule the negation of its head.
     negations: Formulas,
-    /// For each base rule its free variables.
-    variables: Items<Vars>,
+    /// For each base rule its free variables, and its conjuncts.
+    shapes: Shapes,
     entries: Entries,
     by_pred: Items<Numbers>,
     by_sm: Numbers,
@@ -48,11 +51,11 @@ impl Model for Closed {
 
     ghost coded = { Prim.hlevel (codes, formula.the_row.coded) };
 
-    ghost use Rattle.tv_rules.specs.EntryForms.{AreKept};
+    ghost use Rattle.tv_rules.specs.Kept.{AreKept};
 
     ghost view = { λ c. c.bases };
 
-    ghost invariant = { λ c. AreKept c.bases c.negations c.variables c.entries c.by_pred c.by_sm };
+    ghost invariant = { λ c. AreKept c.bases c.negations c.shapes c.entries c.by_pred c.by_sm };
 }
 
 /// The closed rules of a valid program, base rules first.
@@ -81,14 +84,14 @@ fn closed_of(alloc: Global, bases: Rules, preds: usize) -> Result<Closed, AllocE
     ensures { IfOk result (λ c. c ≡ bases) }
 {
     let negations = negations(alloc, bases.as_slice())?;
-    let variables = variables(alloc, bases.as_slice())?;
+    let shapes = shapes(alloc, bases.as_slice())?;
     let entries = closed_entries(alloc, bases.as_slice())?;
     let by_pred = watch_lists(alloc, bases.as_slice(), entries.as_slice(), preds)?;
     let by_sm = seeing_summaries(alloc, bases.as_slice(), entries.as_slice())?;
     Ok(Closed {
         bases,
         negations,
-        variables,
+        shapes,
         entries,
         by_pred,
         by_sm,
@@ -106,38 +109,15 @@ fn negations(alloc: Global, bases: &[Rule]) -> Result<Formulas, AllocError>
     Ok(list)
 }
 
-fn variables(alloc: Global, bases: &[Rule]) -> Result<Items<Vars>, AllocError>
+fn shapes(alloc: Global, bases: &[Rule]) -> Result<Shapes, AllocError>
     requires { (v : ℕ) (rule : RuleForm) → Contains (map rule_of bases.now) rule → IsFreeInRule v rule → v < 32 }
-    ensures { IfOk result (λ lists. AllZip AreFreeIn (map rule_of bases.now) lists) }
+    ensures { IfOk result (λ list. AllZip IsShape (map rule_of bases.now) list) }
 {
-    let mut lists = Items::new(alloc);
+    let mut list = Items::new(alloc);
     for rule in bases {
-        lists.push(rule_variables(alloc, rule)?)?;
+        list.push(shape_of(alloc, rule)?)?;
     }
-    Ok(lists)
-}
-
-/// The variables of the rule, of the 32 that there are.
-fn rule_variables(alloc: Global, rule: &Rule) -> Result<Vars, AllocError>
-    ensures { IfOk result (λ vars. (v : ℕ) → Contains (numbers_of vars) v
-        ↔ ((v < 32) × IsFreeInRule v (rule_of rule.now))) }
-{
-    let mut vars = Items::new(alloc);
-    for v in 0..32 {
-        note(rule, Var(v), &mut vars)?;
-    }
-    Ok(vars)
-}
-
-/// Puts the variable behind the list, if it is free in the rule.
-fn note(rule: &Rule, v: Var, vars: &mut Vars) -> Result<(), AllocError>
-    ensures { OnOk result ((w : ℕ) → Contains (numbers_of vars.new) w
-        ↔ (Contains (numbers_of vars.old) w ⊎ ((w ≡ v.0) × IsFreeInRule w (rule_of rule.now)))) }
-{
-    if is_free_in_rule(rule, v) {
-        vars.push(v)?;
-    }
-    Ok(())
+    Ok(list)
 }
 
 fn watch_lists(
@@ -181,7 +161,29 @@ impl Closed {
         ensures { (rule : RuleForm) → slice_get (rules_of self.now) number ≡ Some rule → AreFreeIn rule result.now }
     {
         let entry = entry_at(self.entries.as_slice(), number);
-        variables_at(self.variables.as_slice(), entry.base)
+        shape_at(self.shapes.as_slice(), entry.base)
+            .variables
+            .as_slice()
+    }
+
+    /// The variables that are free in a rule, and the conjuncts of its body in order, each with how many of the
+    /// last of these variables it doesn't wait for.
+    pub fn waits(&self, alloc: Global, number: usize) -> Result<Waits<'_>, AllocError>
+        requires { number < length (rules_of self.now) }
+        ensures { IfOk result (λ waits. (rule : RuleForm) → slice_get (rules_of self.now) number ≡ Some rule
+            → AreWaits rule waits) }
+    {
+        let entry = entry_at(self.entries.as_slice(), number);
+        let shape = shape_at(self.shapes.as_slice(), entry.base);
+        let negated = Due {
+            formula: negation_at(self.negations.as_slice(), entry.base),
+            left: shape.negated,
+        };
+        let list = dues(alloc, shape.conjuncts.as_slice())?;
+        Ok(Waits {
+            variables: shape.variables.as_slice(),
+            dues: put(list, entry.conjunct, negated),
+        })
     }
 
     /// The conjuncts of a rule's body, in order.
@@ -234,11 +236,11 @@ fn negation_at(negations: &[Formula], number: usize) -> &Formula
     &negations[number]
 }
 
-fn variables_at(lists: &[Vars], number: usize) -> &[Var]
-    requires { number < length lists.now }
-    ensures { slice_get lists.now number ≡ Some result.now }
+fn shape_at(shapes: &[Shape], number: usize) -> &Shape
+    requires { number < length shapes.now }
+    ensures { slice_get shapes.now number ≡ Some result.now }
 {
-    lists[number].as_slice()
+    &shapes[number]
 }
 
 fn numbers_at(lists: &[Numbers], place: usize) -> &[usize]

@@ -5,13 +5,17 @@
 mod base;
 mod closed;
 mod conjuncts;
+mod dues;
 mod entries;
 mod laws;
+mod shapes;
 mod watch;
 
 pub use closed::{Closed, close_rules};
+pub use dues::{Due, left_by};
 pub use laws::{
     base_rules_are_met, closed_rules_are_met, closed_rules_are_rules, closing_keeps_meaning,
     conjuncts_carry_formulas, dropping_keeps_meaning, further_rules_follow, samples_are_closed,
     swaps_are_of_conjuncts, tests_are_right,
 };
+pub use shapes::Waits;

@@ -135,5 +135,8 @@ fn further_rules_have_the_variables_of_their_base(rt: HostRuntime) -> Result<(),
         variables_of(rt.alloc(), declarations, 1)?.as_str(),
         "0 1 2 "
     );
+    // what is said of a variable alone goes first
+    let alone = "%p x(v) %p n(v, w) %p r(v) %r n(u, v) & x(v) ==> r(u)";
+    assert_eq!(rt; variables_of(rt.alloc(), alone, 0)?.as_str(), "1 0 ");
     Ok(())
 }

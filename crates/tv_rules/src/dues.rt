@@ -1,0 +1,99 @@
+//! Conjuncts of a rule, and for how many of its variables each waits.
+
+ghost use Rattle.std.specs.Prelude.{◌≡◌, ◌≤◌, ◌<◌, ◌+◌, ◌∷◌, length, IfOk, IfSome};
+ghost use Rattle.tv_model.specs.Form.{form_of};
+ghost use Rattle.tv_rules.specs.Dues.{AreDueFrom, IsDue, due_of, dues_of, part_of, parts_of, put_at};
+ghost use Rattle.tv_rules.specs.EntryForms.{forms_of, numbers_of};
+
+use std::alloc::{AllocError, Global};
+use tv_model::{Formula, Items, Var, copy, free};
+
+/// A conjunct of a rule, and how many of the rule's last variables it doesn't wait for: none of these is free
+/// in it.
+#[derive(Clone, Copy, Debug)]
+pub struct Due<'a> {
+    pub formula: &'a Formula,
+    pub left: usize,
+}
+
+/// The same, with a formula of its own.
+#[derive(Debug, Drop)]
+pub struct Part {
+    pub formula: Formula,
+    pub left: usize,
+}
+
+/// Conjuncts of a rule, each with how many of the rule's last variables it doesn't wait for.
+pub type Parts = Items<Part>;
+
+/// How many of the last of these variables aren't free in the formula, where that is said of all but the
+/// first.
+#[tactic(auto, using(crate::proofs::DueLemmas::one_more_left, crate::proofs::DueLemmas::no_more_left))]
+fn left_with(f: &Formula, v: Var, rest: &[Var], left: usize) -> usize
+    requires due { IsDue (numbers_of rest.now) (record { form = form_of f.now; left = left }) }
+    requires most { left ≤ length rest.now }
+    ensures due { IsDue (v.0 ∷ numbers_of rest.now) (record { form = form_of f.now; left = result }) }
+    ensures most { result ≤ 1 + length rest.now }
+{
+    if left == rest.len() && !free(f, v) {
+        return left + 1;
+    }
+    left
+}
+
+/// How many of the last variables aren't free in the formula.
+pub fn left_by(f: &Formula, vars: &[Var]) -> usize
+    ensures due { IsDue (numbers_of vars.now) (record { form = form_of f.now; left = result }) }
+    ensures most { result ≤ length vars.now }
+{
+    match vars {
+        [] => 0,
+        [v, rest @ ..] => left_with(f, *v, rest, left_by(f, rest)),
+    }
+}
+
+/// The conjuncts, each with the number of the last variables that it doesn't wait for, in memory of their own.
+pub fn own_parts(alloc: Global, conjuncts: &[&Formula], vars: &[Var]) -> Result<Parts, AllocError>
+    ensures { IfOk result (λ ps. AreDueFrom (forms_of conjuncts.now) (numbers_of vars.now) (parts_of ps)) }
+{
+    let mut list = Items::new(alloc);
+    for formula in conjuncts {
+        list.push(own_part(alloc, formula, vars)?)?;
+    }
+    Ok(list)
+}
+
+fn own_part(alloc: Global, f: &Formula, vars: &[Var]) -> Result<Part, AllocError>
+    ensures form { IfOk result (λ p. form_of p.formula ≡ form_of f.now) }
+    ensures due { IfOk result (λ p. IsDue (numbers_of vars.now) (part_of p)) }
+    ensures most { IfOk result (λ p. p.left ≤ length vars.now) }
+{
+    let left = left_by(f, vars);
+    let formula = copy(alloc, f)?;
+    Ok(Part { formula, left })
+}
+
+/// The conjuncts, where they stand.
+pub fn dues<'a>(alloc: Global, parts: &'a [Part]) -> Result<Vec<Due<'a>>, AllocError>
+    ensures { IfOk result (λ ds. dues_of ds.items ≡ parts_of parts.now) }
+{
+    let mut list = Vec::with_capacity(alloc, parts.len())?;
+    for own in parts {
+        list.push(Due {
+            formula: &own.formula,
+            left: own.left,
+        })?;
+    }
+    Ok(list)
+}
+
+/// The conjuncts, with another one in that place, if there is one.
+pub fn put<'a>(mut list: Vec<Due<'a>>, place: Option<usize>, due: Due<'a>) -> Vec<Due<'a>>
+    requires { IfSome place (λ k. k < length list.items) }
+    ensures { dues_of result.items ≡ put_at place (due_of due.entry) (dues_of list.entry.items) }
+{
+    if let Some(k) = place {
+        list[k] = due;
+    }
+    list
+}

@@ -1,0 +1,121 @@
+//! What trying a rule goes by that doesn't depend on a structure: its variables in an order, and its conjuncts.
+
+ghost use Rattle.std.specs.Prelude.{ℕ, ◌≡◌, ◌<◌, ◌↔◌, ◌⊎◌, Contains, IfOk, IsTrue, OnOk};
+ghost use Rattle.tv_model.specs.Program.{rule_of};
+ghost use Rattle.tv_model.specs.Rules.{IsFreeInRule};
+ghost use Rattle.tv_rules.specs.Dues.{IsShape};
+ghost use Rattle.tv_rules.specs.EntryForms.{numbers_of};
+
+use crate::conjuncts::{conjuncts, is_free_in_rule, negated_head};
+use crate::dues::{Due, Parts, left_by, own_parts};
+use std::alloc::{AllocError, Global};
+use tv_model::{Formula, Items, Rule, Terms, Var, Vars};
+
+/// What trying a base rule, or a further rule of it, goes by.
+#[derive(Debug, Drop)]
+pub struct Shape {
+    /// The variables that are free in the rule.
+    pub variables: Vars,
+    /// The conjuncts of the base rule's body.
+    pub conjuncts: Parts,
+    /// How many of the last variables don't stand in the head.
+    pub negated: usize,
+}
+
+/// The shapes of rules.
+pub type Shapes = Items<Shape>;
+
+/// The variables that are free in a rule, and the conjuncts of its body in order.
+#[derive(Debug, Drop)]
+pub struct Waits<'a> {
+    pub variables: &'a [Var],
+    pub dues: Vec<Due<'a>>,
+}
+
+/// The shape of a base rule whose variables are in range.
+pub fn shape_of(alloc: Global, rule: &Rule) -> Result<Shape, AllocError>
+    requires { (v : ℕ) → IsFreeInRule v (rule_of rule.now) → v < 32 }
+    ensures { IfOk result (IsShape (rule_of rule.now)) }
+{
+    let variables = rule_variables(alloc, rule)?;
+    let list = conjuncts(alloc, &rule.body)?;
+    let conjuncts = own_parts(alloc, &list, variables.as_slice())?;
+    let negation = negated_head(alloc, rule.head)?;
+    let negated = left_by(&negation, variables.as_slice());
+    Ok(Shape {
+        variables,
+        conjuncts,
+        negated,
+    })
+}
+
+/// The variables of the rule, of the 32 that there are: those first of which a conjunct of the body says something
+/// alone, since few individuals may pass there.
+fn rule_variables(alloc: Global, rule: &Rule) -> Result<Vars, AllocError>
+    ensures { IfOk result (λ vars. (v : ℕ) → Contains (numbers_of vars) v
+        ↔ ((v < 32) × IsFreeInRule v (rule_of rule.now))) }
+{
+    let mut vars = told_alone(alloc, rule)?;
+    for v in 0..32 {
+        note(rule, Var(v), &mut vars)?;
+    }
+    Ok(vars)
+}
+
+/// Some of the variables of the rule: those of which a conjunct of the body says something alone.
+fn told_alone(alloc: Global, rule: &Rule) -> Result<Vars, AllocError>
+    ensures { IfOk result (λ vars. (v : ℕ) → Contains (numbers_of vars) v
+        → (v < 32) × IsFreeInRule v (rule_of rule.now)) }
+{
+    let mut vars = Items::new(alloc);
+    for v in 0..32 {
+        note_alone(rule, Var(v), &mut vars)?;
+    }
+    Ok(vars)
+}
+
+/// Puts the variable behind the list, if a conjunct of the body says something of it alone.
+fn note_alone(rule: &Rule, v: Var, vars: &mut Vars) -> Result<(), AllocError>
+    ensures { OnOk result ((w : ℕ) → Contains (numbers_of vars.new) w
+        → Contains (numbers_of vars.old) w ⊎ ((w ≡ v.0) × IsFreeInRule w (rule_of rule.now))) }
+{
+    if is_alone(&rule.body, v) {
+        note(rule, v, vars)?;
+    }
+    Ok(())
+}
+
+/// Whether a conjunct of the formula is an atom about the variable alone.
+fn is_alone(f: &Formula, v: Var) -> bool {
+    match f {
+        Formula::And(g, h) => is_alone(g, v) || is_alone(h, v),
+        Formula::Atom(_, Terms::One(w)) => w.0 == v.0,
+        _ => false,
+    }
+}
+
+/// Whether the variable stands in the list.
+fn has(vars: &[Var], v: Var) -> bool
+    ensures { IsTrue result → Contains (numbers_of vars.now) v.0 }
+{
+    for w in vars {
+        if w.0 == v.0 {
+            return true;
+        }
+    }
+    false
+}
+
+/// Puts the variable behind the list, if it is free in the rule and doesn't stand there yet.
+fn note(rule: &Rule, v: Var, vars: &mut Vars) -> Result<(), AllocError>
+    ensures { OnOk result ((w : ℕ) → Contains (numbers_of vars.new) w
+        ↔ (Contains (numbers_of vars.old) w ⊎ ((w ≡ v.0) × IsFreeInRule w (rule_of rule.now)))) }
+{
+    if has(vars.as_slice(), v) {
+        return Ok(());
+    }
+    if is_free_in_rule(rule, v) {
+        vars.push(v)?;
+    }
+    Ok(())
+}
