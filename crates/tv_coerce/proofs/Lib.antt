@@ -1,8 +1,8 @@
 pub mod Attempting
-pub mod Dues
 pub mod Found
 pub mod Heads
 pub mod Heaps
+pub mod Idling
 pub mod Lowering
 pub mod Narrowing
 pub mod OnTheWay

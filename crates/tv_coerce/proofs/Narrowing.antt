@@ -1,5 +1,5 @@
 -- Rows of values: where all conjuncts are Yes that a variable is the last of, and where the head isn't met.
-use Rattle.std.proofs.Common.{ℕ, ◌≡◌, ◌≢◌, ◌<◌, ◌≤◌, ◌+◌, ◌⊎◌, inl, inr, ⊎_elim, zero, suc, true, false, List, [], ◌∷◌, length, map, get_or, replicate, Option, refl, sym, ap, subst, ◌∙◌, arith}
+use Rattle.std.proofs.Common.{ℕ, ◌≡◌, ◌≢◌, ◌<◌, ◌≤◌, ◌+◌, ◌⊎◌, inl, inr, ⊎_elim, zero, suc, true, false, List, ◌∷◌, length, map, get_or, replicate, Option, refl, sym, ap, subst, ◌∙◌, arith}
 use Rattle.std.specs.Prelude.{Any, Contains}
 use Rattle.std.proofs.lemmas.Bool.{cases_eq}
 use Rattle.std.proofs.lemmas.List.{get_or-map, get_or-replicate, get_or_default, length-map, length-replicate}
@@ -27,8 +27,9 @@ use Rattle.tv_eval.specs.declared.evaluator.Evaluator.{Evaluator}
 use Rattle.tv_struct.specs.StructureForm.{StructureForm, arities_of, structure_of}
 use Rattle.tv_coerce.specs.ByRows.{ArePlaces, IsBodyRow, IsLackingRow, IsNarrowed}
 use Rattle.tv_coerce.specs.Ready.{IsHeadOver}
-use Rattle.tv_coerce.specs.Trying.{AreDue, ArePlaced, CanTry, DueForm, FailsAt, IsDue, IsTried, PassesAt, StaysBound, atom_form, due_of, dues_of, sign_of}
-use Rattle.tv_coerce.specs.declared.due.Due.{Due}
+use Rattle.tv_rules.specs.Dues.{AreDue, DueForm, IsDue, due_of, dues_of}
+use Rattle.tv_coerce.specs.Trying.{ArePlaced, CanTry, FailsAt, PassesAt, StaysBound, atom_form, sign_of}
+use Rattle.tv_rules.specs.declared.dues.Due.{Due}
 use Rattle.tv_coerce.proofs.Walking.{given-up, not-left, tried-here}
 
 along-length : (s : StructureForm) (a : Assignment) (v : ℕ) (f : Form) → length (values_along s a v f) ≡ s.size
@@ -181,11 +182,10 @@ head-free w (HAtom flag pred vars) at = at
 head-free w (HSame flag v u) at = at
 
 -- none of the variables stands in the head, if its atom waits for none of them
-pub settled-out : (vars : List Var) (head : HeadForm) (f : Form) (left : ℕ) → f ≡ atom_form head
-    → IsDue (numbers_of vars) (record { form = f; left = left }) → left ≡ length vars
-    → (w : ℕ) → Contains (numbers_of vars) w → ¬ IsInHead w head
-settled-out vars head f left is due all w has at =
-    not-left (numbers_of vars) (record { form = f; left = left }) due (omega (arith, all, length-map vars (λ (v : Var). v.0))) w has
+pub settled-out : (vars : List Var) (head : HeadForm) (d : DueForm) → d.form ≡ atom_form head → IsDue (numbers_of vars) d
+    → length vars ≤ d.left → (w : ℕ) → Contains (numbers_of vars) w → ¬ IsInHead w head
+settled-out vars head d is due all w has at =
+    not-left (numbers_of vars) d due (omega (arith, all, length-map vars (λ (v : Var). v.0))) w has
     (subst (IsFree w) (sym is) (head-free w head at))
 
 module _ (s : StructureForm) (rule : RuleForm) (v : ℕ) (rest : List ℕ) (a : Assignment) where

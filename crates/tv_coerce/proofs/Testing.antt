@@ -6,8 +6,9 @@ use Rattle.std.proofs.lemmas.List.{get_or-map, length-map}
 use Rattle.tv_eval.specs.AssignmentForm.{assignment_of}
 use Rattle.tv_eval.specs.declared.evaluator.Evaluator.{Evaluator}
 use Rattle.tv_struct.specs.StructureForm.{StructureForm}
-use Rattle.tv_coerce.specs.Trying.{DueForm, FailsAt, PassesAt, StaysBound, Tests, due_of, dues_of}
-use Rattle.tv_coerce.specs.declared.due.Due.{Due}
+use Rattle.tv_rules.specs.Dues.{DueForm, due_of, dues_of}
+use Rattle.tv_coerce.specs.Trying.{FailsAt, PassesAt, StaysBound, Tests}
+use Rattle.tv_rules.specs.declared.dues.Due.{Due}
 
 pub record TestedUpTo (s : StructureForm) (places : List (Option ℕ)) (left : ℕ) (ds : List DueForm) (count : ℕ) (old now : Evaluator) : Type 0 where
   pub stays : StaysBound s old now

@@ -38,7 +38,8 @@ use Rattle.tv_struct.specs.StructureForm.{StructureForm, arities_of, structure_o
 use Rattle.tv_struct.proofs.Library.{Contains-range, below-range}
 use Rattle.tv_coerce.specs.ByRows.{CanRow}
 use Rattle.tv_coerce.specs.Ready.{IsHeadOver, CanCoerce}
-use Rattle.tv_coerce.specs.Trying.{AreKept, DueForm, IsDue, AreDue, ArePlaced, PassesAt, GoesOn, IsTried, IsForced, IsHopeless, IsNeed, AreYes, CanTry, CanValue, IsWalk, IsNoted, IsTold, IsFound, StaysBound, answer_of, rule_at}
+use Rattle.tv_rules.specs.Dues.{AreDueFrom, DueForm, IsDue, AreDue}
+use Rattle.tv_coerce.specs.Trying.{AreKept, ArePlaced, PassesAt, GoesOn, IsTried, IsForced, IsHopeless, IsNeed, AreYes, CanTry, CanValue, IsWalk, IsNoted, IsTold, IsFound, StaysBound, answer_of, rule_at}
 use Rattle.tv_coerce.specs.declared.trial.Outcome.{Outcome}
 use Rattle.tv_coerce.specs.declared.trial.Outcome.TheVariants.{Possible, Impossible}
 use Rattle.tv_coerce.specs.declared.change.Change.{Change}
@@ -150,7 +151,7 @@ not-left (w ∷ rest) d due enough v (suc k, within, is) =
     not-left rest d due.1 (omega (arith, enough)) v (k, omega (arith, within), is)
 
 -- what a fact about all conjuncts says of each
-due-formula : (rule : RuleForm) (rest : List ℕ) (ds : List DueForm) → AreDue (conjuncts rule.body) rest ds → (P : Form → Type 0)
+pub due-formula : (rule : RuleForm) (rest : List ℕ) (ds : List DueForm) → AreDue (conjuncts rule.body) rest ds → (P : Form → Type 0)
     → All P (conjuncts rule.body) → All (λ d. P d.form) ds
 due-formula rule rest ds due P all =
     mapped ds (subst (All P) (sym due.are) all)
@@ -471,13 +472,13 @@ stays-on s old now new first second = record { bound = second.bound; structure =
 -- ---- where the walk begins, and what it tells at the end
 
 pub walk-begins : (s : StructureForm) (rule : RuleForm) (ds : List DueForm) (vars : List Var) (places : List (Option ℕ)) → AreFreeIn rule vars
-    → AreDue (conjuncts rule.body) (numbers_of vars) ds → All (λ d. d.left ≤ length vars) ds
+    → AreDueFrom (conjuncts rule.body) (numbers_of vars) ds
     → IsWalk rule s ds (numbers_of vars) places (1 + length (numbers_of vars))
-walk-begins s rule ds vars places free due most = record {
-  due = due;
+walk-begins s rule ds vars places free due = record {
+  due = due.due;
   free = λ k d within. (free (get_or (numbers_of vars) k d)).0 (k, within, get_or_default (numbers_of vars) k (get_or (numbers_of vars) k d) d within);
   placed = λ v is not-left'. absurd (not-left' ((free v).1 is));
-  tested = λ k d within enough. absurd (omega (arith, enough, most k d within, length-map vars (λ (v : Var). v.0)));
+  tested = λ k d within enough. absurd (omega (arith, enough, due.most k d within));
 }
 
 pub tried-stable : (s : StructureForm) (rule : RuleForm) (vars : List Var) (a : Assignment) → AreFreeIn rule vars → IsTried s rule (numbers_of vars) a

@@ -9,7 +9,8 @@ use Rattle.tv_model.specs.Valid.{IsFormulaOver}
 use Rattle.tv_eval.specs.Formulas.{AreAssigned}
 use Rattle.tv_eval.specs.ScratchForm.{ScratchForm, Fits}
 use Rattle.tv_struct.specs.StructureForm.{StructureForm, arities_of}
-use Rattle.tv_coerce.specs.Trying.{DueForm, FailsAt, IsTried, PassesAt}
+use Rattle.tv_rules.specs.Dues.{DueForm}
+use Rattle.tv_coerce.specs.Trying.{FailsAt, IsTried, PassesAt}
 use Rattle.tv_coerce.specs.declared.places.Places.{Places}
 
 -- a conjunct can be valued for all individuals, put for v, once it is to be tested

@@ -2,6 +2,7 @@ pub mod Attempts
 pub mod ByRows
 pub mod Changes
 pub mod Coerced
+pub mod Idle
 pub mod Laws
 pub mod Ready
 pub mod RuleSets

@@ -1,10 +1,10 @@
 -- How a rule is tried on a structure: its variables get individuals one after the other, and a conjunct is
 -- tested as soon as all its variables have theirs.
-use Rattle.std.specs.Prelude.{ℕ, ◌≡◌, ◌≢◌, ◌<◌, ◌≤◌, ◌+◌, ◌⊎◌, true, false, Bool, List, [], ◌∷◌, length, map, Option, None, Some, All, Any, Contains, slice_index_or}
+use Rattle.std.specs.Prelude.{ℕ, ◌≡◌, ◌≢◌, ◌<◌, ◌≤◌, ◌⊎◌, true, false, Bool, List, [], ◌∷◌, length, Option, None, Some, All, Any, Contains, slice_index_or}
 use Rattle.std.specs.declared.vec.Vec.{Vec}
 use Rattle.std.specs.declared.alloc.Global.{Global}
 use Rattle.tv_kleene.specs.declared.K3.TheVariants.{Yes}
-use Rattle.tv_model.specs.Form.{Form, FZero, FOne, FAtom, FSame, form_of, IsFree}
+use Rattle.tv_model.specs.Form.{Form, FZero, FOne, FAtom, FSame, form_of}
 use Rattle.tv_model.specs.Program.{HeadForm, HNever, HAtom, HSame, RuleForm}
 use Rattle.tv_model.specs.Rules.{IsFreeInRule, IsOfIndividuals}
 use Rattle.tv_model.specs.Truth.{Assignment}
@@ -20,6 +20,7 @@ use Rattle.tv_eval.specs.declared.evaluator.Evaluator.{Evaluator}
 use Rattle.tv_eval.specs.ScratchForm.{ScratchForm, Fits}
 use Rattle.tv_model.specs.declared.program.Rule.{Rule}
 use Rattle.tv_rules.specs.Closing.{conjuncts}
+use Rattle.tv_rules.specs.Dues.{DueForm, AreDue}
 use Rattle.tv_rules.specs.EntryForms.{rules_of}
 use Rattle.tv_stable.specs.Laws.{IsPlainRule}
 use Rattle.tv_struct.specs.StructureForm.{StructureForm, arities_of, structure_of, summary_at}
@@ -27,33 +28,11 @@ use Rattle.tv_coerce.specs.Changes.{Has, IsListed, IsPlace, IsOpen}
 use Rattle.tv_coerce.specs.Ready.{IsRuleOver}
 use Rattle.tv_coerce.specs.Touched.{IsChangeOf}
 use Rattle.tv_coerce.specs.declared.change.Change.{Change}
-use Rattle.tv_coerce.specs.declared.due.Due.{Due}
 use Rattle.tv_coerce.specs.declared.trial.Trial.{Trial}
 use Rattle.tv_coerce.specs.declared.trial.Outcome.{Outcome}
 use Rattle.tv_coerce.specs.declared.trial.Outcome.TheVariants.{Possible, Impossible}
 use Rattle.tv_coerce.specs.declared.change.Need.{Need}
 use Rattle.tv_coerce.specs.declared.change.Need.TheVariants.{Nothing, Never, Put}
-
--- a conjunct, and how many variables at the end of the rule's list it doesn't wait for
-pub record DueForm : Type 0 where
-  pub form : Form
-  pub left : ℕ
-
--- none of the last variables for which the conjunct doesn't wait is free in it
-abbrev pub IsDue : List ℕ → DueForm → Type 0
-IsDue [] d = Unit {0}
-IsDue (v ∷ rest) d = (1 + length rest ≤ d.left → ¬ IsFree v d.form) × IsDue rest d
-
-abbrev pub due_of : Due → DueForm
-due_of d = record { form = form_of d.formula.now; left = d.left }
-
-abbrev pub dues_of : List Due → List DueForm
-dues_of ds = map due_of ds
-
--- these are the formulas, each with the number of last variables that it doesn't wait for
-pub record AreDue (forms : List Form) (vars : List ℕ) (ds : List DueForm) : Type 0 where
-  pub are : map (λ d. d.form) ds ≡ forms
-  pub due : All (IsDue vars) ds
 
 -- the rule of that number
 abbrev pub rule_at : List Rule → ℕ → RuleForm
@@ -76,7 +55,7 @@ sign_of (HSame flag v w) = flag
 -- the trial has the number of a rule, and the atom of that rule's head
 pub record IsTrial (trial : Trial) : Type 0 where
   pub number : trial.number < length (rules_of trial.closed.now)
-  pub atom : form_of trial.atom.now ≡ atom_form (trial_rule trial).head
+  pub atom : form_of trial.atom.formula.now ≡ atom_form (trial_rule trial).head
 
 -- the rule is over the structure's predicates, and there is room for its body
 pub record CanTry (rule : RuleForm) (s : StructureForm) (room : ScratchForm) : Type 0 where

@@ -7,14 +7,14 @@ ghost use Rattle.tv_coerce.specs.Ready.{CanCoerce};
 ghost use Rattle.tv_coerce.specs.Trying.{IsFound, answer_of, atom_form, rule_at};
 
 use crate::change::Change;
-use crate::due::dues;
+use crate::idle::{has_nowhere, is_met_everywhere};
 use crate::noted::Noted;
 use crate::places::atom_of;
 use crate::trial::{Outcome, Trial, walk_all};
 use std::alloc::{AllocError, Global};
 use tv_eval::{Assignment, Evaluator, Scratch};
 use tv_model::Formula;
-use tv_rules::Closed;
+use tv_rules::{Closed, Due, left_by};
 use tv_struct::Structure;
 
 /// What has to change where a structure is to be stable under the rule; none where that can't be.
@@ -30,7 +30,11 @@ pub(crate) fn find(
     ensures found { IfOk result (IsFound s.now (rule_at closed.now number)) }
     ensures scratch { scratch.new ≡ scratch.old }
 {
-    let atom = atom_of(closed.head(number));
+    let head = closed.head(number);
+    if is_met_everywhere(s, head) {
+        return Ok(Some(Vec::new(alloc)));
+    }
+    let atom = atom_of(head);
     find_by(alloc, closed, number, s, &atom, scratch)
 }
 
@@ -49,19 +53,25 @@ fn find_by<'a>(
     ensures found { IfOk result (IsFound s.now (rule_at closed.now number)) }
     ensures scratch { scratch.new ≡ scratch.old }
 {
-    let conjuncts = closed.conjuncts(alloc, number)?;
-    let vars = closed.variables(number);
-    let dues = dues(alloc, &conjuncts, vars)?;
+    let waits = closed.waits(alloc, number)?;
+    let vars = waits.variables;
+    let dues = waits.dues.as_slice();
+    if has_nowhere(s, dues) {
+        return Ok(Some(Vec::new(alloc)));
+    }
     let trial = Trial {
         structure: s,
         closed,
         number,
-        atom,
+        atom: Due {
+            formula: atom,
+            left: left_by(atom, vars),
+        },
     };
     let mut a = Assignment::new();
     let mut noted = Noted::new(alloc, s.size());
     let mut evaluator = Evaluator::new(s, scratch);
-    let outcome = walk_all(&trial, &mut evaluator, &dues, vars, &mut a, &mut noted);
+    let outcome = walk_all(&trial, &mut evaluator, dues, vars, &mut a, &mut noted);
     evaluator.finish(scratch);
     Ok(answer(outcome?, noted.into_list()))
 }

@@ -4,9 +4,9 @@
 
 mod attempt;
 mod change;
-mod due;
 mod finding;
 mod greatest;
+mod idle;
 mod laws;
 mod lower;
 mod need;

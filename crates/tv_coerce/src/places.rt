@@ -9,14 +9,15 @@ ghost use Rattle.tv_eval.specs.AssignmentForm.{assignment_of};
 ghost use Rattle.tv_eval.specs.Bound.{IsBound, bound_structure, bound_room};
 ghost use Rattle.tv_rules.specs.EntryForms.{numbers_of, rules_of};
 ghost use Rattle.tv_coerce.specs.ByRows.{ArePlaces, CanRow, IsBodyRow, IsLackingRow, IsNarrowed, IsSkipped};
-ghost use Rattle.tv_coerce.specs.Trying.{ArePlaced, CanTry, IsTrial, IsWalk, StaysBound, atom_form, due_of, dues_of, sign_of, trial_rule};
+ghost use Rattle.tv_rules.specs.Dues.{IsDue, due_of, dues_of};
+ghost use Rattle.tv_coerce.specs.Trying.{ArePlaced, CanTry, IsTrial, IsWalk, StaysBound, atom_form, sign_of, trial_rule};
 
-use crate::due::{Due, left_by};
-use crate::trial::Trial;
+use crate::trial::{Trial, is_settled};
 use tv_eval::{Assignment, Evaluator};
 use tv_kleene::K3;
 use tv_model::{Formula, Head, Var};
 use tv_row::Row;
+use tv_rules::Due;
 use tv_struct::Structure;
 
 /// Rows of values for all individuals that a variable may stand for: of what has to be `Yes`, and of what
@@ -137,14 +138,15 @@ fn lacking<'a>(
     requires ready { CanTry (trial_rule trial.now) trial.now.structure.now (bound_room evaluator.old) }
     requires variable { v.0 < 32 }
     requires placed { ArePlaced trial.now.structure.now.size (trial_rule trial.now) (v.0 ∷ numbers_of rest.now) a.now }
+    requires due { IsDue (v.0 ∷ numbers_of rest.now) (due_of trial.now.atom) }
     ensures row { IsLackingRow trial.now.structure.now (trial_rule trial.now) (numbers_of rest.now) v.0
         (assignment_of a.now) result }
     ensures stays { StaysBound trial.now.structure.now evaluator.old evaluator.new }
 {
-    if left_by(trial.atom, rest) != rest.len() {
+    if !is_settled(trial, rest) {
         return Row::of(trial.structure.size(), K3::Yes);
     }
-    let row = evaluator.row(trial.atom, v, a);
+    let row = evaluator.row(trial.atom.formula, v, a);
     if is_positive(trial.closed.head(trial.number)) {
         row.not()
     } else {
@@ -167,6 +169,7 @@ pub(crate) fn places_for<'a>(
     requires ready { CanTry (trial_rule trial.now) trial.now.structure.now (bound_room evaluator.old) }
     requires walk { IsWalk (trial_rule trial.now) trial.now.structure.now (dues_of conjuncts.now)
         (v.0 ∷ numbers_of rest.now) a.now (1 + length (numbers_of rest.now)) }
+    requires due { IsDue (v.0 ∷ numbers_of rest.now) (due_of trial.now.atom) }
     ensures places { ArePlaces trial.now.structure.now (trial_rule trial.now) (dues_of conjuncts.now) (numbers_of rest.now)
         v.0 (assignment_of a.now) result }
     ensures stays { StaysBound trial.now.structure.now evaluator.old evaluator.new }

@@ -1,25 +1,26 @@
 //! A rule is tried on a structure: its variables get individuals one after the other, and what has to change
 //! is noted.
 
-ghost use Rattle.std.specs.Prelude.{◌≡◌, ◌≢◌, ◌<◌, ◌≤◌, ◌+◌, ℕ, [], ◌∷◌, length, map, All, IfOk, IsTrue, MatchBool};
+ghost use Rattle.std.specs.Prelude.{◌≡◌, ◌≢◌, ◌<◌, ◌≤◌, ◌+◌, ℕ, [], ◌∷◌, length, map, All, IfOk, Contains, IsTrue, MatchBool};
 ghost use Rattle.tv_eval.specs.AssignmentForm.{assignment_of};
 ghost use Rattle.tv_eval.specs.Bound.{IsBound, bound_structure, bound_room};
+ghost use Rattle.tv_model.specs.Rules.{IsInHead};
 ghost use Rattle.tv_rules.specs.EntryForms.{numbers_of, rules_of};
 ghost use Rattle.tv_struct.specs.StructureForm.{arities_of};
 ghost use Rattle.tv_coerce.specs.Ready.{IsRuleOver};
 ghost use Rattle.tv_kleene.specs.declared.K3.TheVariants.{Yes};
-ghost use Rattle.tv_coerce.specs.Trying.{AreKept, ArePlaced, CanTry, CanValue, FailsAt, IsNoted, IsTold, IsTrial, IsTried, IsWalk, PassesAt, StaysBound, Tests, due_of, dues_of, trial_rule};
+ghost use Rattle.tv_rules.specs.Dues.{IsDue, due_of, dues_of};
+ghost use Rattle.tv_coerce.specs.Trying.{AreKept, ArePlaced, CanTry, CanValue, FailsAt, IsNoted, IsTold, IsTrial, IsTried, IsWalk, PassesAt, StaysBound, Tests, trial_rule};
 
 use crate::change::Need;
-use crate::due::{Due, left_by};
 use crate::need::need;
 use crate::noted::Noted;
 use crate::places::places_for;
 use std::alloc::AllocError;
 use tv_eval::{Assignment, Evaluator};
 use tv_kleene::K3;
-use tv_model::{Formula, Var};
-use tv_rules::Closed;
+use tv_model::Var;
+use tv_rules::{Closed, Due};
 use tv_struct::Structure;
 
 /// A rule, by its number, and the structure that it is tried on.
@@ -28,8 +29,8 @@ pub(crate) struct Trial<'a> {
     pub structure: &'a Structure,
     pub closed: &'a Closed,
     pub number: usize,
-    /// What the head says, without its sign.
-    pub atom: &'a Formula,
+    /// What the head says, without its sign, and how many of the rule's last variables don't stand there.
+    pub atom: Due<'a>,
 }
 
 /// Whether a structure below can be stable under the rule.
@@ -102,15 +103,29 @@ fn note(trial: &Trial, a: &Assignment, noted: &mut Noted) -> Result<Outcome, All
     }
 }
 
+/// Whether the head has none of the variables that are left.
+pub(crate) fn is_settled(trial: &Trial, rest: &[Var]) -> bool
+    requires trial { IsTrial trial.now }
+    requires due { IsDue (numbers_of rest.now) (due_of trial.now.atom) }
+    ensures out { IsTrue result → (w : ℕ) → Contains (numbers_of rest.now) w
+        → ¬ IsInHead w (trial_rule trial.now).head }
+{
+    if rest.len() > trial.atom.left {
+        return false;
+    }
+    true
+}
+
 /// Whether the head has none of the variables that are left, and needs nothing.
 fn needs_nothing(trial: &Trial, rest: &[Var], a: &Assignment) -> bool
     requires trial { IsTrial trial.now }
+    requires due { IsDue (numbers_of rest.now) (due_of trial.now.atom) }
     requires head { IsRuleOver (arities_of trial.now.structure.now) (trial_rule trial.now) }
     requires placed { ArePlaced trial.now.structure.now.size (trial_rule trial.now) (numbers_of rest.now) a.now }
     ensures tried { IsTrue result → IsTried trial.now.structure.now (trial_rule trial.now) (numbers_of rest.now)
         (assignment_of a.now) }
 {
-    if left_by(trial.atom, rest) != rest.len() {
+    if !is_settled(trial, rest) {
         return false;
     }
     match need(trial.structure, trial.closed.head(trial.number), a) {
@@ -135,6 +150,7 @@ fn walk<'a>(
     requires ready { CanTry (trial_rule trial.now) trial.now.structure.now (bound_room evaluator.old) }
     requires walk { IsWalk (trial_rule trial.now) trial.now.structure.now (dues_of conjuncts.now) (numbers_of rest.now) a.old
         (length (numbers_of rest.now)) }
+    requires due { IsDue (numbers_of rest.now) (due_of trial.now.atom) }
     ensures told { IfOk result (IsTold trial.now.structure.now (trial_rule trial.now) (numbers_of rest.now) (assignment_of a.old)
         noted.old.list.items noted.new.list.items) }
     ensures keeps { AreKept (numbers_of rest.now) a.old a.new }
@@ -143,7 +159,7 @@ fn walk<'a>(
     if needs_nothing(trial, rest, a) {
         return Ok(Outcome::Possible);
     }
-    let settled = left_by(trial.atom, rest) == rest.len();
+    let settled = is_settled(trial, rest);
     let asked = noted.asked();
     match rest {
         [] => note(trial, a, noted),
@@ -183,6 +199,7 @@ pub(crate) fn walk_all<'a>(
     requires ready { CanTry (trial_rule trial.now) trial.now.structure.now (bound_room evaluator.old) }
     requires walk { IsWalk (trial_rule trial.now) trial.now.structure.now (dues_of conjuncts.now) (numbers_of vars.now) a.old
         (1 + length (numbers_of vars.now)) }
+    requires due { IsDue (numbers_of vars.now) (due_of trial.now.atom) }
     ensures told { IfOk result (IsTold trial.now.structure.now (trial_rule trial.now) (numbers_of vars.now) (assignment_of a.old)
         noted.old.list.items noted.new.list.items) }
     ensures stays { StaysBound trial.now.structure.now evaluator.old evaluator.new }

@@ -2,7 +2,7 @@ use Rattle.std.proofs.Common.{subst, sym, arith}
 use Rattle.tv_eval.specs.AssignmentForm.{assignment_of}
 use Rattle.tv_eval.specs.Bound.{bound_room}
 use Rattle.tv_coerce.specs.ByRows.{CanRow}
-use Rattle.tv_coerce.specs.Trying.{due_of}
+use Rattle.tv_rules.specs.Dues.{due_of}
 use Rattle.tv_coerce.proofs.Narrowing.{body-more, body-whole}
 use Rattle.tv_coerce.proofs.Testing.{due-at}
 use Rattle.tv_coerce.proofs.places.body_row.Goals as goal

@@ -1,5 +1,5 @@
 use Rattle.tv_eval.specs.AssignmentForm.{assignment_of}
-use Rattle.tv_coerce.specs.Trying.{dues_of}
+use Rattle.tv_rules.specs.Dues.{dues_of}
 use Rattle.tv_coerce.proofs.Narrowing.{BodyUpTo}
 use Rattle.tv_coerce.proofs.places.body_row.Given as goal
 

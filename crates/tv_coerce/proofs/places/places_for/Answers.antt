@@ -9,7 +9,8 @@ use Rattle.tv_eval.specs.AssignmentForm.{assignment_of}
 use Rattle.tv_eval.specs.Bound.{bound_room}
 use Rattle.tv_rules.specs.EntryForms.{numbers_of}
 use Rattle.tv_coerce.specs.ByRows.{CanRow, IsBodyRow}
-use Rattle.tv_coerce.specs.Trying.{dues_of, trial_rule}
+use Rattle.tv_rules.specs.Dues.{dues_of}
+use Rattle.tv_coerce.specs.Trying.{trial_rule}
 use Rattle.tv_coerce.proofs.Narrowing.{places-made, places-none}
 use Rattle.tv_coerce.proofs.Walking.{rule-variable, walk-rows}
 use Rattle.tv_coerce.proofs.places.places_for.Goals as goal

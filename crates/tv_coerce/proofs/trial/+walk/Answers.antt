@@ -7,7 +7,8 @@ use Rattle.tv_model.specs.declared.formula.Var.{Var}
 use Rattle.tv_eval.specs.AssignmentForm.{assignment_of}
 use Rattle.tv_eval.specs.Bound.{bound_room}
 use Rattle.tv_rules.specs.EntryForms.{numbers_of}
-use Rattle.tv_coerce.specs.Trying.{AreKept, CanTry, IsTold, IsWalk, dues_of, trial_rule}
+use Rattle.tv_rules.specs.Dues.{IsDue, due_of, dues_of}
+use Rattle.tv_coerce.specs.Trying.{AreKept, CanTry, IsTold, IsWalk, trial_rule}
 use Rattle.tv_coerce.specs.declared.trial.Outcome.TheVariants.{Possible}
 use Rattle.tv_coerce.proofs.Walking.{split-vars, told-noted, body-yes, kept-more, put-kept, walk-on, walked-all, walked-more, rule-variable, stays-on, tail-shorter, none-at}
 use Rattle.tv_coerce.proofs.trial.+walk.Goals as goal
@@ -45,11 +46,14 @@ walk-requires t c =
             stays.structure,
             (
               subst (CanTry rule s) (sym stays.room) c.requires.ready,
-              walk-on s rule ds v tail c.args.a.now c.set.new.self c.in-Some.u
-                  (subst (IsWalk rule s ds (v ∷ tail) c.args.a.now) one-more
-                  (subst (λ vs. IsWalk rule s ds vs c.args.a.now (length vs)) split c.requires.walk)) within
-                  (put-kept v tail c.in-Some.u c.args.a.now c.loop-u.a c.set.new.self c.loop-u.invariant.1 c.set.ensures.places)
-                  (c.places_for-places.ensures.places.yes c.in-Some.u within c.in-Some.ensures.2),
+              (
+                walk-on s rule ds v tail c.args.a.now c.set.new.self c.in-Some.u
+                    (subst (IsWalk rule s ds (v ∷ tail) c.args.a.now) one-more
+                    (subst (λ vs. IsWalk rule s ds vs c.args.a.now (length vs)) split c.requires.walk)) within
+                    (put-kept v tail c.in-Some.u c.args.a.now c.loop-u.a c.set.new.self c.loop-u.invariant.1 c.set.ensures.places)
+                    (c.places_for-places.ensures.places.yes c.in-Some.u within c.in-Some.ensures.2),
+                (subst (λ vs. IsDue vs (due_of c.args.trial.now.atom)) split c.requires.due).1,
+              ),
             ),
           ),
         ),

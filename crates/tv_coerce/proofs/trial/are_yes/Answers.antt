@@ -1,6 +1,7 @@
 use Rattle.std.proofs.Common.{subst, sym, arith}
 use Rattle.tv_eval.specs.Bound.{bound_room}
-use Rattle.tv_coerce.specs.Trying.{CanValue, due_of}
+use Rattle.tv_rules.specs.Dues.{due_of}
+use Rattle.tv_coerce.specs.Trying.{CanValue}
 use Rattle.tv_coerce.proofs.Testing.{due-at, tested-false, tested-more}
 use Rattle.tv_coerce.proofs.trial.are_yes.Goals as goal
 

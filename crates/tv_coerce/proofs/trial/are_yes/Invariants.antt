@@ -1,4 +1,4 @@
-use Rattle.tv_coerce.specs.Trying.{dues_of}
+use Rattle.tv_rules.specs.Dues.{dues_of}
 use Rattle.tv_coerce.proofs.Testing.{TestedUpTo}
 use Rattle.tv_coerce.proofs.trial.are_yes.Given as goal
 

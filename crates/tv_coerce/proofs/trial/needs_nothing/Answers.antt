@@ -1,5 +1,4 @@
-use Rattle.std.proofs.Common.{◌≡◌, inr, subst}
-use Rattle.tv_model.specs.Form.{form_of}
+use Rattle.std.proofs.Common.{◌≡◌, inr, refl, subst}
 use Rattle.tv_model.specs.Program.{head_of}
 use Rattle.tv_model.specs.Rules.{IsInHead}
 use Rattle.tv_stable.specs.Stable.{IsHeadMet}
@@ -7,7 +6,6 @@ use Rattle.tv_eval.specs.AssignmentForm.{assignment_of}
 use Rattle.tv_rules.specs.EntryForms.{numbers_of}
 use Rattle.tv_struct.specs.StructureForm.{structure_of}
 use Rattle.tv_coerce.specs.Trying.{trial_rule}
-use Rattle.tv_coerce.proofs.Narrowing.{settled-out}
 use Rattle.tv_coerce.proofs.Walking.{rule-found, tried-here}
 use Rattle.tv_coerce.proofs.trial.needs_nothing.Goals as goal
 
@@ -17,8 +15,7 @@ need-requires-clause-assigned c w at =
     in let rule = trial_rule c.args.trial.now
     in let head : head_of c.head.result ≡ rule.head
     = c.head.ensures rule (rule-found c.args.trial.now.closed.now c.args.trial.now.number c.requires.trial.number)
-    in let out = settled-out c.args.rest.now rule.head (form_of c.args.trial.now.atom.now) c.left_by.result c.requires.trial.atom
-    c.left_by.ensures.due c.if-left_by-rest.false
+    in let out = c.if-not-is_settled.ensures.out refl
     in let here : IsInHead w rule.head = subst (IsInHead w) head at
     in c.requires.placed w (inr here) (λ has. out w has here)
 
@@ -28,8 +25,7 @@ returns-in-Nothing c =
     in let rule = trial_rule c.args.trial.now
     in let head : head_of c.head.result ≡ rule.head
     = c.head.ensures rule (rule-found c.args.trial.now.closed.now c.args.trial.now.number c.requires.trial.number)
-    in let out = settled-out c.args.rest.now rule.head (form_of c.args.trial.now.atom.now) c.left_by.result c.requires.trial.atom
-    c.left_by.ensures.due c.if-left_by-rest.false
+    in let out = c.if-not-is_settled.ensures.out refl
     in record {
       tried = λ is. tried-here s rule (numbers_of c.args.rest.now) (assignment_of c.args.a.now) out
           (subst (IsHeadMet (structure_of s) (assignment_of c.args.a.now)) head c.in-Nothing.ensures);

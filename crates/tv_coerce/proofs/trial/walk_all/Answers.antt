@@ -5,7 +5,8 @@ use Rattle.tv_model.specs.declared.formula.Var.{Var}
 use Rattle.tv_eval.specs.AssignmentForm.{assignment_of}
 use Rattle.tv_eval.specs.Bound.{bound_room}
 use Rattle.tv_rules.specs.EntryForms.{numbers_of}
-use Rattle.tv_coerce.specs.Trying.{CanValue, FailsAt, dues_of, trial_rule}
+use Rattle.tv_rules.specs.Dues.{dues_of}
+use Rattle.tv_coerce.specs.Trying.{CanValue, FailsAt, trial_rule}
 use Rattle.tv_coerce.proofs.Walking.{given-up, told-tried, walk-values}
 use Rattle.tv_coerce.proofs.trial.walk_all.Goals as goal
 
