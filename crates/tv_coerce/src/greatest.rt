@@ -76,10 +76,30 @@ pub fn coerce_waiting(
     ensures again { IsStable (rules_of closed.now) (structure_of s.now) → IfOk result (λ found. found ≡ Some s.now) }
     ensures scratch { scratch.new ≡ scratch.old }
 {
-    let mut waiting = waiting.copy(alloc)?;
-    let mut t = s.copy(alloc)?;
-    if settle(alloc, closed, &mut t, &mut waiting, scratch)? {
-        Ok(Some(t))
+    let waiting = waiting.copy(alloc)?;
+    let t = s.copy(alloc)?;
+    coerce_in_place(alloc, closed, t, waiting, scratch)
+}
+
+/// The same of a structure and a set of rules that aren't needed any more.
+pub fn coerce_in_place(
+    alloc: Global,
+    closed: &Closed,
+    mut s: Structure,
+    mut waiting: RuleSet,
+    scratch: &mut Scratch,
+) -> Result<Option<Structure>, AllocError>
+    requires ready { CanCoerce (rules_of closed.now) s scratch.old }
+    requires count { length waiting ≡ length (rules_of closed.now) }
+    requires rest { IsStableBut (rules_of closed.now) waiting s }
+    ensures exact { IfOk result (CoercesTo (rules_of closed.now) s) }
+    ensures heaps { IfOk result (CoercesHeaps (rules_of closed.now) s) }
+    ensures again { IsStable (rules_of closed.now) (structure_of s) → IfOk result (λ found. found ≡ Some s) }
+    ensures scratch { scratch.new ≡ scratch.old }
+{
+    let _ = s.size();
+    if settle(alloc, closed, &mut s, &mut waiting, scratch)? {
+        Ok(Some(s))
     } else {
         Ok(None)
     }
