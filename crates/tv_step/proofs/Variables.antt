@@ -1,6 +1,5 @@
 -- The picked variables of a valid program are in range.
 use Rattle.std.proofs.Common.{ℕ, ◌≡◌, Some, slice_get, All}
-use Rattle.std.proofs.lemmas.List.Elements.{All-contains}
 use Rattle.tv_model.specs.Program.{ProgramForm, ActionForm}
 use Rattle.tv_model.specs.Valid.{IsValid, IsVariable}
 use Rattle.tv_update.proofs.Variables.{picks-in_range}

@@ -14,7 +14,7 @@ use crate::changed::waiting_in;
 use crate::setting::Setting;
 use std::alloc::AllocError;
 use tv_blur::blur;
-use tv_coerce::{RuleSet, coerce_waiting};
+use tv_coerce::{RuleSet, coerce_in_place};
 use tv_eval::Scratch;
 use tv_struct::{Structure, Structures};
 
@@ -55,8 +55,29 @@ pub fn push_coerced(
     ensures out { OnOk result (Adds (Becomes ending (form_in x.now)) s.now out.old out.new) }
     ensures scratch { scratch.new ≡ scratch.old }
 {
+    let waiting = waiting.copy(x.alloc)?;
+    let t = s.copy(x.alloc)?;
+    push_in_place(x, ending, waiting, t, scratch, out)
+}
+
+/// The same of a structure and a set of rules that aren't needed any more.
+fn push_in_place(
+    x: &Setting,
+    ending: Ending,
+    waiting: RuleSet,
+    s: Structure,
+    scratch: &mut Scratch,
+    out: &mut Structures,
+) -> Result<(), AllocError>
+    requires ready { IsReady x.now scratch.old }
+    requires shaped { IsShaped (form_in x.now) s }
+    requires count { length waiting ≡ length (rules_of x.now.closed.now) }
+    requires rest { IsStableBut (rules_of x.now.closed.now) waiting s }
+    ensures out { OnOk result (Adds (Becomes ending (form_in x.now)) s out.old out.new) }
+    ensures scratch { scratch.new ≡ scratch.old }
+{
     let _ = s.size();
-    match coerce_waiting(x.alloc, x.closed, s, waiting, scratch)? {
+    match coerce_in_place(x.alloc, x.closed, s, waiting, scratch)? {
         None => Ok(()),
         Some(t) => out.push(ended(x, ending, t)?),
     }
@@ -96,7 +117,7 @@ fn push_next(
         return out.push(ended(x, ending, s)?);
     }
     let few = waiting_in(x, waiting, from, &s)?;
-    push_coerced(x, ending, &few, &s, scratch, out)
+    push_in_place(x, ending, few, s, scratch, out)
 }
 
 /// The same for each of the structures that came of it; each goes as soon as it is coerced.

@@ -1,43 +1,14 @@
-use Rattle.std.proofs.Common.{◌∙◌, []}
+use Rattle.std.proofs.Common.{subst, sym}
+use Rattle.tv_coerce.specs.RuleSets.{IsStableBut}
 use Rattle.tv_rules.specs.EntryForms.{rules_of}
-use Rattle.tv_transfer.proofs.Shapes.{shaped-over}
-use Rattle.tv_step.specs.Ending.{Becomes}
+use Rattle.tv_transfer.specs.Shaped.{IsShaped}
 use Rattle.tv_step.specs.Setting.{form_in}
-use Rattle.tv_step.proofs.Adding.{nothing-added}
-use Rattle.tv_step.proofs.Coercing.{can-coerce, push-adds, some-coerces}
-use Rattle.tv_step.proofs.Finishing.{coerced-over, none-becomes, some-becomes}
 use Rattle.tv_step.proofs.coerced.push_coerced.Goals as goal
 
-pub coerce_waiting-requires-clause-ready : goal.coerce_waiting-requires-clause-ready
-coerce_waiting-requires-clause-ready c =
-    can-coerce c.args.x.now c.args.s.now c.args.scratch.now c.requires.ready c.requires.shaped
-    c.size.ensures.kept
+pub push_in_place-requires-clause-shaped : goal.push_in_place-requires-clause-shaped
+push_in_place-requires-clause-shaped c = subst (IsShaped (form_in c.args.x.now)) (sym c.in_ok-t.ensures.value) c.requires.shaped
 
-pub returns-in-None-clause-out : goal.returns-in-None-clause-out
-returns-in-None-clause-out c = (
-  [],
-  none-becomes c.args.ending (form_in c.args.x.now) (rules_of c.args.x.now.closed.now) c.args.s.now
-      c.in_ok-coerce_waiting.field-0
-      c.requires.ready.rules c.in_ok-coerce_waiting.ensures.exact c.in-None.is,
-  nothing-added c.args.out.now,
-)
-
-pub ended-requires : goal.ended-requires
-ended-requires c =
-    coerced-over (rules_of c.args.x.now.closed.now) c.args.s.now c.in_ok-coerce_waiting.field-0 c.in-Some.t
-    c.in_ok-coerce_waiting.ensures.exact c.in-Some.is
-    ∙ shaped-over c.args.x.now.program.now c.args.s.now c.requires.shaped
-
-pub returns-in_ok-ended-in-Some-clause-out : goal.returns-in_ok-ended-in-Some-clause-out
-returns-in_ok-ended-in-Some-clause-out c =
-    let rules = rules_of c.args.x.now.closed.now
-    in let found = c.in_ok-coerce_waiting.field-0
-    in let exact = c.in_ok-coerce_waiting.ensures.exact
-    in push-adds (Becomes c.args.ending (form_in c.args.x.now)) c.args.s.now c.push.result c.args.out.now
-    c.push.new.self c.in_ok-ended-in-Some.field-0
-    (some-becomes c.args.ending c.args.x.now.program.now c.args.s.now c.in-Some.t
-    c.in_ok-ended-in-Some.field-0
-    (some-coerces (form_in c.args.x.now) rules c.args.s.now found c.in-Some.t c.requires.ready.rules
-    c.requires.shaped exact c.in-Some.is)
-    (coerced-over rules c.args.s.now found c.in-Some.t exact c.in-Some.is ∙ c.requires.shaped.over)
-    c.in_ok-ended-in-Some.ensures) c.push.ensures
+pub push_in_place-requires-clause-rest : goal.push_in_place-requires-clause-rest
+push_in_place-requires-clause-rest c =
+    subst (λ set. IsStableBut (rules_of c.args.x.now.closed.now) set c.in_ok-t.t) (sym c.in_ok-waiting.ensures)
+    (subst (IsStableBut (rules_of c.args.x.now.closed.now) c.args.waiting.now) (sym c.in_ok-t.ensures.value) c.requires.rest)
