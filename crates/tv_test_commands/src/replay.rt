@@ -1,44 +1,511 @@
-//! Replays, by whole calls.
+//! Replays, by whole calls. What is wanted was worked out by a plain reference of the definitions, and by hand.
 
-use crate::call::{Row, wrong_part};
+use std::alloc::{AllocError, Global};
 use std::test::Fail;
+use tv_outside::{MemFiles, MemSink};
+use tv_top::tvla;
 
-const FLIP: &str = "%p b()
-%%
-%action Flip() { { b() = !b() } }
-%%
-L0 Flip() L1
-";
-
-const FLIP_INITIAL: &str = "%n = {} %p = { b = 1 }";
-
-const FLIP_REPORT: &str = "tvla report 2
-node L0 structures 1
-%n = {}
-%p = {
-  b = 1
-}
-node L1 structures 1
-%n = {}
-%p = {
-}
+/// Programs, heaps and traces, with `;` behind each, and what is written; `~` stands between rows.
+const RUNS: &str = "%p x(v) unique %% %action Act() {} %% L Act() L;
+%n = {a, b} %p = { x = {a, b} };
+;
+state 0 node L size 2
+concrete ok
+initial none
+rules broken 0
+listed none
 end
-";
-
-/// From the heap in which `b` doesn't hold.
-const FLOP_STATES: &str = "state 0 node L0 size 0
+exit 0
+~
+%p x(v) unique %% %action Act() {} %% L Act() L;
+%n = {a, b} %p = { x = {b} };
+;
+state 0 node L size 2
 concrete ok
 initial none
 rules ok
 listed none
-state 1 node L1 size 0
+end
+exit 0
+~
+%p n(v, w) function invfunction %% %action Act() {} %% L Act() L;
+%n = {a, b} %p = { n = {a->a, b->a} };
+;
+state 0 node L size 2
+concrete ok
+initial none
+rules broken 1
+listed none
+end
+exit 0
+~
+%p n(v, w) function invfunction %% %action Act() {} %% L Act() L;
+%n = {a, b} %p = { n = {a->a, a->b} };
+;
+state 0 node L size 2
+concrete ok
+initial none
+rules broken 0
+listed none
+end
+exit 0
+~
+%p x(v) unique %p n(v, w) transitive reflexive symmetric %r x(v) ==> n(v, v) %r n(v, w) & n(w, u) ==> n(u, v)
+%% %action Act() {} %% L Act() L;
+%n = {a, b, c} %p = { n = {a->b, b->c, a->c, a->a, b->b, c->c} };
+;
+state 0 node L size 3
+concrete ok
+initial none
+rules broken 3
+listed none
+end
+exit 0
+~
+%p x(v) unique %p n(v, w) transitive reflexive symmetric %% %action Act() {} %% L Act() L;
+%n = {a, b, c} %p = { n = {a->b, b->c, a->a, b->b, c->c} };
+;
+state 0 node L size 3
+concrete ok
+initial none
+rules broken 1
+listed none
+end
+exit 0
+~
+%p x(v) unique %p n(v, w) transitive reflexive symmetric %% %action Act() {} %% L Act() L;
+%n = {a, b} %p = { n = {a->b, b->b} };
+;
+state 0 node L size 2
+concrete ok
+initial none
+rules broken 2
+listed none
+end
+exit 0
+~
+%p x(v) unique %p b() %r x(v) ==> b() %r b() & x(v) & x(w) ==> v == w %% %action Act() {} %% L Act() L;
+%n = {a, b} %p = { x = {a, b} b = 1 };
+;
+state 0 node L size 2
+concrete ok
+initial none
+rules broken 0
+listed none
+end
+exit 0
+~
+%p x(v) %p y(v) %r x(v) & y(w) ==> v != w %r x(v) ==> !y(v) %r E(v) x(v) & y(v) ==> 0
+%% %action Act() {} %% L Act() L;
+%n = {a, b} %p = { x = {a} y = {a, b} };
+;
+state 0 node L size 2
+concrete ok
+initial none
+rules broken 0
+listed none
+end
+exit 0
+~
+%p x(v) %p y(v) %p n(v, w) %r x(v) & n(v, w) & n(w, u) & n(u, z) ==> y(z) %% %action Act() {} %% L Act() L;
+%n = {a, b, c, d} %p = { x = {a} n = {a->b, b->c, c->d, c->a} y = {d} };
+;
+state 0 node L size 4
+concrete ok
+initial none
+rules broken 0
+listed none
+end
+exit 0
+~
+%p x(v) %p y(v) %p n(v, w) %r x(v) & n(v, w) & n(w, u) & n(u, z) ==> y(z) %% %action Act() {} %% L Act() L;
+%n = {a, b, c, d} %p = { x = {a} n = {a->b, b->c, c->d, c->a} y = {a, d} };
+;
+state 0 node L size 4
+concrete ok
+initial none
+rules ok
+listed none
+end
+exit 0
+~
+%p b() %r b() ==> 0 %% %action Act() {} %% L Act() L;
+%n = {} %p = { b = 1 };
+;
+state 0 node L size 0
+concrete ok
+initial none
+rules broken 0
+listed none
+end
+exit 0
+~
+%p b() %r A(v) b() ==> 0 %r b() ==> !b() %% %action Act() {} %% L Act() L;
+%n = {} %p = { b = 1 };
+;
+state 0 node L size 0
+concrete ok
+initial none
+rules broken 0
+listed none
+end
+exit 0
+~
+%p x(v) %i d(v) = !x(v) %i e(v) = d(v) %i f() = E(v) e(v) %% %action Act() {} %% L Act() L;
+%n = {a, b} %p = { x = {a} d = {b} e = {b} f = 1 };
+;
+state 0 node L size 2
+concrete ok
+initial none
+rules ok
+listed none
+end
+exit 0
+~
+%p x(v) %i d(v) = !x(v) %i e(v) = d(v) %i f() = E(v) e(v) %% %action Act() {} %% L Act() L;
+%n = {a, b} %p = { x = {a} d = {a} e = {a} f = 1 };
+;
+state 0 node L size 2
+concrete broken d
+initial none
+rules ok
+listed none
+end
+exit 0
+~
+%p x(v) %i e(v) = d(v) %i d(v) = !x(v) %i f() = E(v) e(v) %% %action Act() {} %% L Act() L;
+%n = {a, b} %p = { x = {a} d = {a} e = {a} f = 1 };
+;
+state 0 node L size 2
+concrete broken d
+initial none
+rules ok
+listed none
+end
+exit 0
+~
+%p x(v) %i d(v) = !x(v) %i f() = E(v) d(v) %% %action Act() {} %% L Act() L;
+%n = {a} %p = { x = {a} f = 1 };
+;
+state 0 node L size 1
+concrete broken f
+initial none
+rules ok
+listed none
+end
+exit 0
+~
+%p n(v, w) %i t(v, w) = n*(v, w) %% %action Act() {} %% L Act() L;
+%n = {a, b, c} %p = { n = {a->b, b->c} t = {a->a, a->b, a->c, b->b, b->c, c->c} };
+;
+state 0 node L size 3
+concrete ok
+initial none
+rules ok
+listed none
+end
+exit 0
+~
+%p n(v, w) %i t(v, w) = n*(v, w) %% %action Act() {} %% L Act() L;
+%n = {a, b, c} %p = { n = {a->b, b->c} t = {a->a, a->b, a->c, b->b, b->c} };
+;
+state 0 node L size 3
+concrete broken t
+initial none
+rules ok
+listed none
+end
+exit 0
+~
+%p n(v, w) %i t(w, v) = n*(v, w) %% %action Act() {} %% L Act() L;
+%n = {a, b} %p = { n = {a->b} t = {a->a, b->a, b->b} };
+;
+state 0 node L size 2
+concrete ok
+initial none
+rules ok
+listed none
+end
+exit 0
+~
+%p x(v) %i d(v) = !x(v) %% %action Act() { { x(v) = !x(v) d(v) = x(v) } } %% L Act() L;
+%n = {a, b} %p = { x = {a} d = {b} };
+step 0 step 0;
+state 0 node L size 2
+concrete ok
+initial none
+rules ok
+listed none
+state 1 node L size 2
+updates ok
+rules ok
+listed none
+state 2 node L size 2
 updates ok
 rules ok
 listed none
 end
+exit 0
+~
+%p x(v) %i d(v) = !x(v) %% %action Act() { { x(v) = !x(v) d(v) = d(v) } } %% L Act() L;
+%n = {a, b} %p = { x = {a} d = {b} };
+step 0;
+state 0 node L size 2
+concrete ok
+initial none
+rules ok
+listed none
+state 1 node L size 2
+updates broken d
+rules ok
+listed none
+end
+exit 0
+~
+%p x(v) %i d(v) = !x(v) %i e() = E(v) d(v) %% %action Act() { { x(v) = 0 e() = 0 d(v) = d(v) } } %% L Act() L;
+%n = {a, b} %p = { x = {a} d = {b} e = 1 };
+step 0;
+state 0 node L size 2
+concrete ok
+initial none
+rules ok
+listed none
+state 1 node L size 2
+updates broken d
+rules ok
+listed none
+end
+exit 0
+~
+%p x(v) %i d(v) = !x(v) %i e() = E(v) d(v) %% %action Act() { { x(v) = 0 e() = 0 d(v) = 1 } } %% L Act() L;
+%n = {a, b} %p = { x = {a} d = {b} e = 1 };
+step 0;
+state 0 node L size 2
+concrete ok
+initial none
+rules ok
+listed none
+state 1 node L size 2
+updates broken e
+rules ok
+listed none
+end
+exit 0
+~
+%p x(v) %i d(v) = !x(v) %% %action Act() { { x(v) = 1 } } %% L Act() L;
+%n = {a, b} %p = { x = {a} d = {a} };
+step 0;
+state 0 node L size 2
+concrete broken d
+initial none
+rules ok
+listed none
+state 1 node L size 2
+updates ok
+rules ok
+listed none
+end
+exit 0
+~
+%p x(v) %i d(v) = !x(v) %% %action Act() { %new { x(v) = isNew(v) d(v) = !isNew(v) } } %% L Act() L;
+%n = {a} %p = { d = {a} };
+step 0 step 0;
+state 0 node L size 1
+concrete ok
+initial none
+rules ok
+listed none
+state 1 node L size 2
+updates ok
+rules ok
+listed none
+state 2 node L size 3
+updates ok
+rules ok
+listed none
+end
+exit 0
+~
+%p x(v) %i d(v) = !x(v) %% %action Act() { %retain !x(v) { d(v) = x(v) } } %% L Act() L;
+%n = {a, b, c} %p = { x = {a} d = {b, c} };
+step 0;
+state 0 node L size 3
+concrete ok
+initial none
+rules ok
+listed none
+state 1 node L size 2
+updates broken d
+rules ok
+listed none
+end
+exit 0
+~
+%p x(v) %i d(v) = !x(v) %% %action Act() { %retain !x(v) { d(v) = 1 } } %% L Act() L;
+%n = {a, b, c} %p = { x = {a} d = {b, c} };
+step 0;
+state 0 node L size 3
+concrete ok
+initial none
+rules ok
+listed none
+state 1 node L size 2
+updates ok
+rules ok
+listed none
+end
+exit 0
+~
+%p x(v) %p y(v) %% %action Act() { %p x(v) & !y(v) { x(w) = x(w) & w != v y(w) = y(w) | w == v } } %% L Act() L;
+%n = {a, b, c} %p = { x = {a, b} y = {b} };
+step 0 (0);
+state 0 node L size 3
+concrete ok
+initial none
+rules ok
+listed none
+state 1 node L size 3
+updates ok
+rules ok
+listed none
+end
+exit 0
+~
+%p x(v) %p y(v) %% %action Act() { %p x(v) & !y(v) { x(w) = x(w) & w != v y(w) = y(w) | w == v } } %% L Act() L;
+%n = {a, b, c} %p = { x = {a, b} y = {b} };
+step 0;
+stuck: step 1 picks
+exit 1
+~
+%p x(v) %p y(v) %% %action Act() { %p x(v) & !y(v) { x(w) = x(w) & w != v y(w) = y(w) | w == v } } %% L Act() L;
+%n = {a, b, c} %p = { x = {a, b} y = {b} };
+step 0 (3);
+stuck: step 1 picks
+exit 1
+~
+%p x(v) %p y(v) %% %action Act() { %p x(v) & !y(v) { x(w) = x(w) & w != v y(w) = y(w) | w == v } } %% L Act() L;
+%n = {a, b, c} %p = { x = {a, b} y = {b} };
+step 0 (0, 1);
+stuck: step 1 picks
+exit 1
+~
+%p x(v) %p y(v) %% %action Act() { %p x(v) & !y(v) { x(w) = x(w) & w != v y(w) = y(w) | w == v } } %% L Act() L;
+%n = {a, b, c} %p = { x = {a, b} y = {b} };
+step 0 (1);
+stuck: step 1 precondition
+exit 1
+~
+%p x(v) %p y(v) %% %action Act() { %p x(v) & !y(v) { x(w) = x(w) & w != v y(w) = y(w) | w == v } } %% L Act() L;
+%n = {a, b, c} %p = { x = {a, b} y = {b} };
+step 0 (2);
+stuck: step 1 precondition
+exit 1
+~
+%p x(v) %p y(v) %% %action Act() { %p x(v) & !y(v) { x(w) = x(w) & w != v y(w) = y(w) | w == v } } %% L Act() L;
+%n = {a, b, c} %p = { x = {a, b} y = {b} };
+step 0 (0) step 0 (0);
+stuck: step 2 precondition
+exit 1
+~
+%p x(v) %p y(v) %% %action Act() { %p x(v) & !y(v) { x(w) = x(w) & w != v y(w) = y(w) | w == v } } %% L Act() L;
+%n = {a, b, c} %p = { x = {a, b} y = {b} };
+step 0 (0) step 0 (9);
+stuck: step 2 picks
+exit 1
+~
+%p x(v) %p y(v) %% %action Act() { { x(v) = 1/2 y(v) = x(v) } } %% L Act() L;
+%n = {a, b, c} %p = { x = {a, b} y = {b} };
+step 0;
+stuck: step 1 values
+exit 1
+~
+%p x(v) %p y(v) %% %action Act() { { x(v) = 1/2 y(v) = x(v) } } %% L Act() L;
+%n = {a, b, c} %p = { x = {a, b} y = {b} };
+step 0 free %n = {a, b, c} %p = { x = {c} };
+state 0 node L size 3
+concrete ok
+initial none
+rules ok
+listed none
+state 1 node L size 3
+updates ok
+rules ok
+listed none
+end
+exit 0
+~
+%p x(v) %p y(v) %% %action Act() { { x(v) = 1/2 y(v) = x(v) } } %% L Act() L;
+%n = {a, b, c} %p = { x = {a, b} y = {b} };
+step 0 free %n = {a, b} %p = { x = {a} };
+stuck: step 1 values
+exit 1
+~
+%p x(v) %p y(v) %% %action Act() { { x(v) = 1/2 y(v) = x(v) } } %% L Act() L;
+%n = {a, b, c} %p = { x = {a, b} y = {b} };
+step 0 free %n = {a, b, c} %p = { x = {c:1/2} };
+stuck: step 1 values
+exit 1
+~
+%p x(v) %p y(v) %% %action Act() { { x(v) = 1/2 y(v) = x(v) } } %% L Act() L;
+%n = {a, b, c} %p = { x = {a, b} y = {b} };
+step 0 free %n = {a, b, c} %p = { x = {c} y = {a:1/2} sm = {a:1/2} };
+state 0 node L size 3
+concrete ok
+initial none
+rules ok
+listed none
+state 1 node L size 3
+updates ok
+rules ok
+listed none
+end
+exit 0
+~
+%p x(v) %p y(v) unique
+%% %action Act() { %new %retain !x(v) | isNew(v) { x(v) = isNew(v) y(v) = y(v) | isNew(v) } } %% L Act() L;
+%n = {a, b, c} %p = { x = {a, b} y = {b} };
+step 0;
+state 0 node L size 3
+concrete ok
+initial none
+rules ok
+listed none
+state 1 node L size 2
+updates ok
+rules ok
+listed none
+end
+exit 0
+~
+%p x(v) %p n(v, w) %i r(v) = E(w) x(w) & n*(w, v)
+%% %action Act() { %new { x(v) = isNew(v) n(v, w) = n(v, w) | isNew(v) & x(w) r(v) = r(v) | isNew(v) } } %% L Act() L;
+%n = {a, b, c} %p = { x = {a} n = {a->b} r = {a, b} };
+step 0 step 0;
+state 0 node L size 3
+concrete ok
+initial none
+rules ok
+listed none
+state 1 node L size 4
+updates ok
+rules ok
+listed none
+state 2 node L size 5
+updates ok
+rules ok
+listed none
+end
+exit 0
 ";
 
-const FLIP_STATES: &str = "state 0 node L0 size 0
+/// Programs, heaps, traces, initial structures and reports, and how the calls end. A trace `-` isn't there.
+const ENDINGS: &str = "%p b() %% %action Flip() { { b() = !b() } } %% L0 Flip() L1;
+%n = {} %p = { b = 1 };step 0;%n = {} %p = { b = 1 };
+tvla report 2
+node L0 structures 1 %n = {} %p = { b = 1 }
+node L1 structures 1 %n = {} %p = {}
+end;
+state 0 node L0 size 0
 concrete ok
 initial 0 {}
 rules ok
@@ -48,20 +515,40 @@ updates ok
 rules ok
 listed 0 {}
 end
-";
-
-/// A definition, a rule and a given update that the heaps of the trace break; a report that lists nothing.
-const BROKEN: &str = "%p b()
-%p c()
-%i d() = b() & c()
-%r b() ==> c()
-%%
-%action Set() { { b() = 1 d() = 1 } }
-%%
-L0 Set() L1
-";
-
-const BROKEN_STATES: &str = "state 0 node L0 size 0
+exit 0
+~
+%p b() %% %action Flip() { { b() = !b() } } %% L0 Flip() L1;
+%n = {} %p = { b = 1 };step 0 step 0;%n = {} %p = { b = 1 };
+tvla report 2
+node L0 structures 1 %n = {} %p = { b = 1 }
+node L1 structures 1 %n = {} %p = {}
+end;
+stuck: step 2 edge
+exit 1
+~
+%p b() %% %action Flip() { { b() = !b() } } %% L0 Flip() L1;
+%n = {} %p = {};step 0;%n = {} %p = { b = 1 };
+tvla report 2
+node L0 structures 1 %n = {} %p = { b = 1 }
+node L1 structures 1 %n = {} %p = {}
+end;
+state 0 node L0 size 0
+concrete ok
+initial none
+rules ok
+listed none
+state 1 node L1 size 0
+updates ok
+rules ok
+listed none
+end
+exit 0
+~
+%p b() %p c() %i d() = b() & c() %r b() ==> c()
+%% %action Set() { { b() = 1 d() = 1 } } %% L0 Set() L1;
+%n = {} %p = { d = 1 };step 0;%n = {} %p = {};
+tvla report 2 end;
+state 0 node L0 size 0
 concrete broken d
 initial none
 rules ok
@@ -71,142 +558,172 @@ updates broken d
 rules broken 0
 listed none
 end
+exit 0
+~
+%p b() %% %action Flip() { { b() = !b() } } %% L0 Flip() L1;
+%n = {} %p = { b = 1/2 };step 0;%n = {} %p = { b = 1 };
+tvla report 2
+node L0 structures 1 %n = {} %p = { b = 1 }
+node L1 structures 1 %n = {} %p = {}
+end;
+exit 3
+tvla: start: NotHeap
+~
+%p b() %% %action Flip() { { b() = !b() } } %% L0 Flip() L1;
+%n = {} %p = {} %n = {} %p = {};step;%n = {} %p = { b = 1 };
+tvla report 2
+node L0 structures 1 %n = {} %p = { b = 1 }
+node L1 structures 1 %n = {} %p = {}
+end;
+exit 3
+tvla: start: NotHeap
+~
+%p b() %% %action Flip() { { b() = !b() } } %% L0 Flip() L1;
+;step 0;%n = {} %p = { b = 1 };
+tvla report 2
+node L0 structures 1 %n = {} %p = { b = 1 }
+node L1 structures 1 %n = {} %p = {}
+end;
+exit 3
+tvla: start: NotHeap
+~
+%p b() %% %action Flip() { { b() = !b() } } %% L0 Flip() L1;
+%n = {} %p = { c = 1 };step 0;%n = {} %p = { b = 1 };
+tvla report 2
+node L0 structures 1 %n = {} %p = { b = 1 }
+node L1 structures 1 %n = {} %p = {}
+end;
+exit 3
+tvla: start: NameUnknown
+~
+%p b() %% %action Flip() { { b() = !b() } } %% L0 Flip() L1;
+%n = {} %p = { b = 1 };step 1;%n = {} %p = { b = 1 };
+tvla report 2
+node L0 structures 1 %n = {} %p = { b = 1 }
+node L1 structures 1 %n = {} %p = {}
+end;
+exit 3
+tvla: trace: TraceForm at 1:1
+~
+%p b() %% %action Flip() { { b() = !b() } } %% L0 Flip() L1;
+%n = {} %p = { b = 1 };step 0;%n = {} %p = { b = 1 };
+report;
+exit 3
+tvla: report: ReportForm at 2:1
+~
+%p b() %% %action Flip() { { b() = !b() } } %% L0 Flip() L1;
+%n = {} %p = { b = 1 };-;%n = {} %p = { b = 1 };
+tvla report 2
+node L0 structures 1 %n = {} %p = { b = 1 }
+node L1 structures 1 %n = {} %p = {}
+end;
+exit 5
+tvla: read fault
 ";
 
-static ROWS: [Row; 10] = [
-    Row {
-        words: &["replay", "p", "i", "i", "t", "r"],
-        files: &[
-            ("p", FLIP),
-            ("i", FLIP_INITIAL),
-            ("t", "step 0"),
-            ("r", FLIP_REPORT),
-        ],
-        code: 0,
-        out: FLIP_STATES,
-        err: "",
-    },
-    Row {
-        words: &["replay", "p", "i", "i", "t", "r"],
-        files: &[
-            ("p", FLIP),
-            ("i", FLIP_INITIAL),
-            ("t", "step 0 step 0"),
-            ("r", FLIP_REPORT),
-        ],
-        code: 1,
-        out: "stuck: step 2 edge\n",
-        err: "",
-    },
-    Row {
-        words: &["replay", "p", "i", "s", "t", "r"],
-        files: &[
-            ("p", FLIP),
-            ("i", FLIP_INITIAL),
-            ("s", "%n = {} %p = {}"),
-            ("t", "step 0"),
-            ("r", FLIP_REPORT),
-        ],
-        code: 0,
-        out: FLOP_STATES,
-        err: "",
-    },
-    Row {
-        words: &["replay", "p", "i", "s", "t", "r"],
-        files: &[
-            ("p", BROKEN),
-            ("i", "%n = {} %p = { }"),
-            ("s", "%n = {} %p = { d = 1 }"),
-            ("t", "step 0"),
-            ("r", "tvla report 2 end"),
-        ],
-        code: 0,
-        out: BROKEN_STATES,
-        err: "",
-    },
-    Row {
-        words: &["replay", "p", "i", "s", "t", "r"],
-        files: &[
-            ("p", FLIP),
-            ("i", FLIP_INITIAL),
-            ("s", "%n = {} %p = { b = 1/2 }"),
-            ("t", "step 0"),
-            ("r", FLIP_REPORT),
-        ],
-        code: 3,
-        out: "",
-        err: "tvla: start: NotHeap\n",
-    },
-    Row {
-        words: &["replay", "p", "i", "s", "t", "r"],
-        files: &[
-            ("p", FLIP),
-            ("i", FLIP_INITIAL),
-            ("s", "%n = {} %p = {} %n = {} %p = {}"),
-            ("t", "step"),
-            ("r", FLIP_REPORT),
-        ],
-        code: 3,
-        out: "",
-        err: "tvla: start: NotHeap\n",
-    },
-    Row {
-        words: &["replay", "p", "i", "s", "t", "r"],
-        files: &[
-            ("p", FLIP),
-            ("i", FLIP_INITIAL),
-            ("s", "%n = {} %p = { c = 1 }"),
-            ("t", "step 0"),
-            ("r", FLIP_REPORT),
-        ],
-        code: 3,
-        out: "",
-        err: "tvla: start: NameUnknown\n",
-    },
-    Row {
-        words: &["replay", "p", "i", "i", "t", "r"],
-        files: &[
-            ("p", FLIP),
-            ("i", FLIP_INITIAL),
-            ("t", "step 1"),
-            ("r", FLIP_REPORT),
-        ],
-        code: 3,
-        out: "",
-        err: "tvla: trace: TraceForm at 1:1\n",
-    },
-    Row {
-        words: &["replay", "p", "i", "i", "t", "r"],
-        files: &[
-            ("p", FLIP),
-            ("i", FLIP_INITIAL),
-            ("t", "step 0"),
-            ("r", "report"),
-        ],
-        code: 3,
-        out: "",
-        err: "tvla: report: ReportForm at 1:1\n",
-    },
-    Row {
-        words: &["replay", "p", "i", "i", "t", "r"],
-        files: &[("p", FLIP), ("i", FLIP_INITIAL), ("r", FLIP_REPORT)],
-        code: 5,
-        out: "",
-        err: "tvla: read fault\n",
-    },
-];
+/// Numbers of cells in a row, traces, and what is written.
+const CHAINS: &str = "255;step 0;
+state 0 node L size 255
+concrete ok
+initial none
+rules ok
+listed none
+state 1 node L size 256
+updates ok
+rules ok
+listed none
+end
+exit 0
+~255;step 0 step 0;
+stuck: step 2 individuals
+exit 1
+~256;step 0;
+stuck: step 1 individuals
+exit 1
+";
+
+/// A program whose action adds an individual, with a rule of four variables.
+const GROWING: &str = "%p n(v, w) function %r n(v, w) & n(w, u) & n(u, z) ==> !n(z, v)
+%% %action Act() { %new } %% L Act() L";
+
+/// The names of the files in the order of the cells of a row.
+const NAMES: [&str; 5] = ["p", "s", "t", "i", "r"];
+
+/// The initial structures, in which no heap of these rows embeds, and a report that lists nothing.
+const OTHERS: [&str; 2] = ["%n = {} %p = {}", "tvla report 2 end"];
+
+/// The names of the files of a row, and their contents.
+fn files(alloc: Global, texts: &[&str]) -> Result<(Vec<String>, Vec<Vec<u8>>), AllocError> {
+    let mut names = Vec::new(alloc);
+    let mut contents = Vec::new(alloc);
+    for (name, text) in NAMES.iter().zip(texts.iter().chain(OTHERS.iter())) {
+        if *text != "-" {
+            names.push(String::from_str(alloc, name)?)?;
+            contents.push(Vec::from_slice(alloc, text.as_bytes())?)?;
+        }
+    }
+    Ok((names, contents))
+}
+
+/// What the replay of these texts writes, and its exit code.
+fn told(alloc: Global, texts: &[&str]) -> Result<String, AllocError> {
+    let mut words = Vec::new(alloc);
+    for word in ["replay", "p", "i", "s", "t", "r"] {
+        words.push(String::from_str(alloc, word)?)?;
+    }
+    let mut out = MemSink::new(alloc, 65_536, Vec::new(alloc), 65_536)?;
+    let mut err = MemSink::new(alloc, 65_536, Vec::new(alloc), 65_536)?;
+    let (names, contents) = files(alloc, texts)?;
+    if names.len() != contents.len() {
+        return String::from_str(alloc, "names and contents aren't as many");
+    }
+    let mut files = MemFiles::new(names, contents, 65_536, Vec::new(alloc));
+    let code = tvla(alloc, &words, &mut files, &mut out, &mut err).code();
+    let out = String::from_utf8_lossy(alloc, out.taken())?;
+    let err = String::from_utf8_lossy(alloc, err.taken())?;
+    format!(in alloc; "\n{out}exit {code}\n{err}")
+}
+
+/// Whether the texts in front of the last cell are told as it says.
+fn is_met(alloc: Global, row: &str) -> Result<bool, AllocError> {
+    let mut cells = Vec::new(alloc);
+    for cell in row.split(';') {
+        cells.push(cell)?;
+    }
+    let Some((wanted, texts)) = cells.as_slice().split_last() else {
+        return Ok(false);
+    };
+    Ok(told(alloc, texts)?.as_str() == *wanted)
+}
+
+/// A heap of so many cells, each of which leads to the next.
+fn chain(alloc: Global, count: u32) -> Result<String, AllocError> {
+    let mut cells = String::new(alloc);
+    let mut pairs = String::new(alloc);
+    for cell in 1..count {
+        cells.push_str(&format!(in alloc; ", u{cell}")?)?;
+        pairs.push_str(&format!(in alloc; ", u{}->u{cell}", cell - 1)?)?;
+    }
+    format!(in alloc; "%n = {{u0{cells}}} %p = {{ n = {{u0->u0:0{pairs}}} }}")
+}
+
+/// Whether the run of a chain is told as the row says.
+fn is_met_by_chains(alloc: Global, row: &str) -> Result<bool, AllocError> {
+    let Some((count, rest)) = row.split_once(';') else {
+        return Ok(false);
+    };
+    let start = chain(alloc, if count == "255" { 255 } else { 256 })?;
+    let row = format!(in alloc; "{GROWING};{start};{rest}")?;
+    is_met(alloc, &row)
+}
 
 #[test]
 fn replays_end_as_they_should(rt: HostRuntime) -> Result<(), Fail> {
-    for row in ROWS.iter() {
-        assert_eq!(rt;
-            wrong_part(rt.alloc(), row)?,
-            None,
-            "{} {}{}",
-            row.code,
-            row.out,
-            row.err
-        );
+    for row in RUNS.split('~').chain(ENDINGS.split('~')) {
+        assert!(rt; is_met(rt.alloc(), row)?, "{row}");
+    }
+    for row in CHAINS.split('~') {
+        assert!(rt; is_met_by_chains(rt.alloc(), row)?, "{row}");
     }
     Ok(())
 }
