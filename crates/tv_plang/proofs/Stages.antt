@@ -6,6 +6,7 @@ use Rattle.tv_lex.specs.Token.{SpecToken}
 use Rattle.tv_lex.specs.declared.token.Token.{Token}
 use Rattle.tv_model.specs.Program.{ProgramForm}
 use Rattle.tv_source.specs.Forms.{SourceForm}
+use Rattle.tv_source.specs.Valid.{IsSource}
 use Rattle.tv_source_meaning.specs.Compiled.{IsSmall, compiled}
 use Rattle.tv_source_meaning.specs.Laws.{NullsAreToldBy, RunsAreRunsOf}
 use Rattle.tv_source_names.specs.Laws.{HaveOneMeaning}
@@ -60,9 +61,9 @@ pub compiling_stopped : (text : List ℕ) (tokens : List Token) (e : CompileErro
     → StopsAtToken text tokens fault
 compiling_stopped text tokens e fault is = subst (StopsAtToken text tokens) (sym is) (stop-of_compiling text tokens e)
 
-pub program_meant : (ts : List SpecToken) (s : SourceForm) (program : ProgramForm) → MeansSource ts s → program ≡ compiled s → IsSmall program
-    → MeansProgram ts program
-program_meant ts s program meant is small = record { source = s; meant = meant; is = is; small = small }
+pub program_meant : (ts : List SpecToken) (s : SourceForm) (program : ProgramForm) → MeansSource ts s → IsSource s → program ≡ compiled s
+    → IsSmall program → MeansProgram ts program
+program_meant ts s program meant valid is small = record { source = s; meant = meant; valid = valid; is = is; small = small }
 
 pub does_as_source : HaveOneMeaning → (ts : List SpecToken) (s : SourceForm) (program : ProgramForm) → MeansSource ts s
     → RunsAreRunsOf program s → NullsAreToldBy program s → DoesAsSource ts program

@@ -5,6 +5,7 @@ use Rattle.tv_lex.specs.Token.{SpecToken}
 use Rattle.tv_lex.specs.declared.token.Token.{Token}
 use Rattle.tv_model.specs.Program.{ProgramForm}
 use Rattle.tv_source.specs.Forms.{SourceForm}
+use Rattle.tv_source.specs.Valid.{IsSource}
 use Rattle.tv_source_meaning.specs.Compiled.{IsSmall, compiled}
 use Rattle.tv_source_meaning.specs.Laws.{NullsAreToldBy, RunsAreRunsOf}
 use Rattle.tv_source_names.specs.Outcome as reading
@@ -13,10 +14,11 @@ use Rattle.tv_source_names.specs.declared.error.ReadError.TheVariants as read
 use Rattle.tv_plang.specs.declared.error.SourceError.{SourceError}
 use Rattle.tv_plang.specs.declared.error.SourceError.TheVariants.{TooDeep, Syntax, Reserved, NameTwice, NameUnknown, TooMany, Memory}
 
--- the tokens are those of a source program, and this is what it is compiled to, within the limits
+-- the tokens are those of a source program, which is valid, and this is what it is compiled to, within the limits
 pub record MeansProgram (ts : List SpecToken) (program : ProgramForm) : Type 0 where
   pub source : SourceForm
   pub meant : MeansSource ts source
+  pub valid : IsSource source
   pub is : program ≡ compiled source
   pub small : IsSmall program
 

@@ -13,6 +13,8 @@ use Rattle.tv_names.specs.declared.refusal.ResolveError.{ResolveError}
 use Rattle.tv_names.specs.declared.refusal.ResolveError.TheVariants as resolving
 use Rattle.tv_parse.specs.declared.error.ParseError.{ParseError}
 use Rattle.tv_parse.specs.declared.error.ParseError.TheVariants as parsing
+use Rattle.tv_plang.specs.declared.error.SourceError.{SourceError}
+use Rattle.tv_plang.specs.declared.error.SourceError.TheVariants as source
 use Rattle.tv_tvs.specs.declared.error.TvsError.{TvsError}
 use Rattle.tv_tvs.specs.declared.error.TvsError.TheVariants as structures
 use Rattle.tv_status.specs.declared.status.FileKind.{FileKind}
@@ -42,6 +44,7 @@ role_name role.Initial = codes "initial"
 role_name role.Report = codes "report"
 role_name role.Start = codes "start"
 role_name role.Trace = codes "trace"
+role_name role.Source = codes "source"
 
 -- a kind of fault is told by its name
 abbrev pub gathering_name : GatherError → List ℕ
@@ -101,6 +104,15 @@ structures_name structures.BadSm = codes "BadSm"
 structures_name structures.TooManyIndividuals = codes "TooManyIndividuals"
 structures_name structures.Memory = codes "Memory"
 
+abbrev pub source_name : SourceError → List ℕ
+source_name source.TooDeep = codes "TooDeep"
+source_name (source.Syntax place) = codes "Syntax"
+source_name source.Reserved = codes "Reserved"
+source_name source.NameTwice = codes "NameTwice"
+source_name source.NameUnknown = codes "NameUnknown"
+source_name source.TooMany = codes "TooMany"
+source_name source.Memory = codes "Memory"
+
 abbrev pub kind_name : FileKind → List ℕ
 kind_name kind.TooLong = codes "TooLong"
 kind_name (kind.Gathering error) = gathering_name error
@@ -110,6 +122,7 @@ kind_name (kind.Structures error) = structures_name error
 kind_name (kind.ReportForm place) = codes "ReportForm"
 kind_name kind.NotHeap = codes "NotHeap"
 kind_name (kind.TraceForm place) = codes "TraceForm"
+kind_name (kind.Source error) = source_name error
 
 -- the place that a fault carries
 abbrev pub parsing_place : ParseError → Option Place
@@ -127,6 +140,10 @@ abbrev pub structures_place : TvsError → Option Place
 structures_place (structures.Syntax place) = Some place
 structures_place _ = None
 
+abbrev pub source_place : SourceError → Option Place
+source_place (source.Syntax place) = Some place
+source_place _ = None
+
 abbrev pub place_of : FileKind → Option Place
 place_of kind.TooLong = None
 place_of (kind.Gathering error) = None
@@ -136,6 +153,7 @@ place_of (kind.Structures error) = structures_place error
 place_of (kind.ReportForm place) = Some place
 place_of kind.NotHeap = None
 place_of (kind.TraceForm place) = Some place
+place_of (kind.Source error) = source_place error
 
 -- the text with a line feed behind it
 abbrev pub line : List ℕ → List ℕ
@@ -159,6 +177,7 @@ usage_text =
     ++ line (codes "       tvla check PROGRAM INITIAL REPORT [--recompute] [--maps]")
     ++ line (codes "       tvla demo NUMBER")
     ++ line (codes "       tvla replay PROGRAM INITIAL START TRACE REPORT")
+    ++ line (codes "       tvla source SOURCE INITIAL [--max-structures N]")
     ++ line (codes "       tvla join PROGRAM INITIAL [--max-structures N] [--recompute]")
 
 -- the text that tells the status to whom called; one whose text the output took needs none

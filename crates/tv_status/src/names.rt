@@ -1,7 +1,7 @@
 //! The words for roles and kinds of faults in error texts, and the places that faults carry.
 
 ghost use Rattle.std.specs.Prelude.{◌≡◌};
-ghost use Rattle.tv_status.specs.Status.{role_name, gathering_name, lexing_name, parsing_name, expanding_name, resolving_name, program_name, structures_name, kind_name, program_place, structures_place, place_of};
+ghost use Rattle.tv_status.specs.Status.{role_name, gathering_name, lexing_name, parsing_name, expanding_name, resolving_name, program_name, structures_name, kind_name, program_place, structures_place, source_name, place_of};
 
 use crate::status::{FileKind, Role};
 use tv_expand::ExpandError;
@@ -9,6 +9,7 @@ use tv_front::ProgramFault;
 use tv_lex::{GatherError, LexError, Place};
 use tv_names::ResolveError;
 use tv_parse::ParseError;
+use tv_plang::SourceError;
 use tv_tvs::TvsError;
 
 fn gathering_name(error: GatherError) -> &'static [u8]
@@ -103,6 +104,20 @@ fn structures_name(error: TvsError) -> &'static [u8]
     }
 }
 
+fn source_name(error: SourceError) -> &'static [u8]
+    ensures { result.now ≡ source_name error }
+{
+    match error {
+        SourceError::TooDeep => b"TooDeep",
+        SourceError::Syntax(_) => b"Syntax",
+        SourceError::Reserved => b"Reserved",
+        SourceError::NameTwice => b"NameTwice",
+        SourceError::NameUnknown => b"NameUnknown",
+        SourceError::TooMany => b"TooMany",
+        SourceError::Memory => b"Memory",
+    }
+}
+
 impl Role {
     /// The word for it in an error text.
     pub fn name(self) -> &'static [u8]
@@ -114,6 +129,7 @@ impl Role {
             Role::Report => b"report",
             Role::Start => b"start",
             Role::Trace => b"trace",
+            Role::Source => b"source",
         }
     }
 }
@@ -132,6 +148,7 @@ impl FileKind {
             FileKind::ReportForm(_) => b"ReportForm",
             FileKind::NotHeap => b"NotHeap",
             FileKind::TraceForm(_) => b"TraceForm",
+            FileKind::Source(error) => source_name(error),
         }
     }
 
@@ -143,7 +160,8 @@ impl FileKind {
             FileKind::Program(ProgramFault::Parsing(ParseError::Syntax(place)))
             | FileKind::Structures(TvsError::Syntax(place))
             | FileKind::ReportForm(place)
-            | FileKind::TraceForm(place) => Some(place),
+            | FileKind::TraceForm(place)
+            | FileKind::Source(SourceError::Syntax(place)) => Some(place),
             _ => None,
         }
     }

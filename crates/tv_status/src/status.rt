@@ -6,6 +6,7 @@ ghost use Rattle.tv_status.specs.Status.{code_of};
 use tv_front::ProgramFault;
 use tv_lex::{GatherError, LexError, Place};
 use tv_listing::Rejection;
+use tv_plang::SourceError;
 use tv_replayed::Why;
 use tv_tvs::TvsError;
 
@@ -22,6 +23,8 @@ pub enum Role {
     Start,
     /// The edges that a replay goes along.
     Trace,
+    /// The program of the pointer language that is compiled and analyzed.
+    Source,
 }
 
 /// What is wrong with a file. Want of memory and a failed read are no faults of a file: where a reader's
@@ -45,6 +48,8 @@ pub enum FileKind {
     NotHeap,
     /// It is no trace on the program. The place is that of a token, or of the end of the text.
     TraceForm(Place),
+    /// It means no program of the pointer language, or one too large.
+    Source(SourceError),
 }
 
 /// How a call of the whole program ends.

@@ -14,6 +14,7 @@ const USAGE: &[u8] = b"usage: tvla analyze PROGRAM INITIAL [--max-structures N] 
        tvla check PROGRAM INITIAL REPORT [--recompute] [--maps]
        tvla demo NUMBER
        tvla replay PROGRAM INITIAL START TRACE REPORT
+       tvla source SOURCE INITIAL [--max-structures N]
        tvla join PROGRAM INITIAL [--max-structures N] [--recompute]
 ";
 

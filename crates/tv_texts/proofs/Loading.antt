@@ -59,6 +59,7 @@ too_long told name limit its_role Means lacks rose steady (Refused its (kind.Str
 too_long told name limit its_role Means lacks rose steady (Refused its (kind.ReportForm place)) f h = absurd h.1
 too_long told name limit its_role Means lacks rose steady (Refused its kind.NotHeap) f h = absurd h.1
 too_long told name limit its_role Means lacks rose steady (Refused its (kind.TraceForm place)) f h = absurd h.1
+too_long told name limit its_role Means lacks rose steady (Refused its (kind.Source e)) f h = absurd h.1
 too_long told name limit its_role Means lacks rose steady NotRead f h = h
 too_long told name limit its_role Means lacks rose steady Memory f h = tt
 
@@ -95,6 +96,7 @@ gathered_refused told name text lacks rose steady (Refused its (kind.Structures 
 gathered_refused told name text lacks rose steady (Refused its (kind.ReportForm place)) gathers h = absurd h.1
 gathered_refused told name text lacks rose steady (Refused its kind.NotHeap) gathers h = absurd h.1
 gathered_refused told name text lacks rose steady (Refused its (kind.TraceForm place)) gathers h = absurd h.1
+gathered_refused told name text lacks rose steady (Refused its (kind.Source e)) gathers h = absurd h.1
 gathered_refused told name text lacks rose steady NotRead gathers h = absurd h.0
 gathered_refused told name text lacks rose steady Memory gathers h = tt
 

@@ -1,5 +1,5 @@
 -- A text means one thing at most.
-use Rattle.std.proofs.Common.{◌≡◌, ℕ, ◌<◌, ◌≤◌, ◌⊎◌, List, [], ◌∷◌, Result, Ok, Err, refl, sym, ap, subst, inl, inr, ◌∙◌, arith}
+use Rattle.std.proofs.Common.{◌≡◌, ◌≢◌, ℕ, ◌<◌, ◌≤◌, ◌⊎◌, List, [], ◌∷◌, Result, Ok, Err, refl, sym, ap, subst, inl, inr, ◌∙◌, arith}
 use Rattle.std.specs.Prelude.{length}
 use Rattle.tv_front.specs.Meaning.{Means, IsRefused, without_place}
 use Rattle.tv_front.specs.declared.fault.ProgramFault.{ProgramFault}
@@ -14,13 +14,17 @@ use Rattle.tv_listing.specs.declared.analysis.Analysis.{Analysis}
 use Rattle.tv_model.specs.Program.{ProgramForm, program_of}
 use Rattle.tv_model.specs.declared.program.Program.{Program}
 use Rattle.tv_model.specs.declared.program.Vocab.{Vocab}
+use Rattle.tv_plang.specs.Laws.{HaveOneMeaning as HaveOneSource, HaveOneRefusal as HaveOneSourceRefusal}
+use Rattle.tv_plang.specs.Meaning.{IsCause as IsSourceCause, MeansProgram as MeansSourceProgram}
+use Rattle.tv_plang.specs.declared.error.SourceError.{SourceError}
+use Rattle.tv_plang.specs.declared.error.SourceError.TheVariants as source
 use Rattle.tv_report.specs.Meaning.{IsNoReport, MeansReport as MeansReportTokens}
 use Rattle.tv_status.specs.declared.status.FileKind.{FileKind}
 use Rattle.tv_status.specs.declared.status.FileKind.TheVariants as kind
 use Rattle.tv_struct.specs.StructureForm.{StructureForm}
 use Rattle.tv_texts.proofs.Counts.{same_ok}
 use Rattle.tv_texts.specs.Agreement.{Agree, GiveOne, SameProgram, placeless, at_start}
-use Rattle.tv_texts.specs.Meaning.{HasTokens, IsUnlexed, IsNoInitial, AreOneHeap, MeansProgram, MeansInitial, MeansStart, MeansMoves, MeansReport}
+use Rattle.tv_texts.specs.Meaning.{HasTokens, IsUnlexed, IsNoInitial, IsNoSource, AreOneHeap, MeansProgram, MeansInitial, MeansStart, MeansMoves, MeansReport, MeansSource}
 use Rattle.tv_trace.specs.Meaning.{MeansTrace, IsNoTrace}
 use Rattle.tv_trace.specs.declared.trace.Trace.{Trace}
 use Rattle.tv_tvs.specs.Grammar.{AreStructs}
@@ -55,6 +59,7 @@ refusal_of text (kind.Structures e) h = absurd h
 refusal_of text (kind.ReportForm place) h = absurd h
 refusal_of text kind.NotHeap h = absurd h
 refusal_of text (kind.TraceForm place) h = absurd h
+refusal_of text (kind.Source e) h = absurd h
 
 module _
     (one : (text : List ℕ) (p q : ProgramForm) → Means text p → Means text q → p ≡ q)
@@ -93,17 +98,17 @@ module _ (reading : (text : List ℕ) (a b : Result (List Token) LexError) → R
   same_refusal : (text : List ℕ) (d e : LexError) → Reads text (Err d) → Reads text (Err e) → d ≡ e
   same_refusal text d e h k = same_err {A = List Token} {E = LexError} d e (reading text (Err d) (Err e) h k)
 
-  one_view : {A : Type 0} (limit : ℕ) (text : List ℕ) (Of : List Token → Result A FileKind → Type 0)
-      → ((tokens : List Token) → GiveOne {A = A} ◌≡◌ (Of tokens) (Of tokens))
-      → (a b : Result A FileKind) → View limit text Of a → View limit text Of b → Agree ◌≡◌ a b
-  one_view limit text Of one a b (inl long) (inl also) = rw (long.1, also.1) refl
-  one_view limit text Of one a b (inl long) (inr short) = absurd (omega (arith, long.0, short.0))
-  one_view limit text Of one a b (inr short) (inl long) = absurd (omega (arith, long.0, short.0))
-  one_view {A = A} limit text Of one a b (inr x) (inr y) = lexed x.1 y.1
+  one_view : {A : Type 0} (Same : A → A → Type 0) (limit : ℕ) (text : List ℕ) (Of : List Token → Result A FileKind → Type 0)
+      → ((tokens : List Token) → GiveOne {A = A} Same (Of tokens) (Of tokens))
+      → (a b : Result A FileKind) → View limit text Of a → View limit text Of b → Agree Same a b
+  one_view Same limit text Of one a b (inl long) (inl also) = rw (long.1, also.1) refl
+  one_view Same limit text Of one a b (inl long) (inr short) = absurd (omega (arith, long.0, short.0))
+  one_view Same limit text Of one a b (inr short) (inl long) = absurd (omega (arith, long.0, short.0))
+  one_view {A = A} Same limit text Of one a b (inr x) (inr y) = lexed x.1 y.1
     where
       lexed : (((e : LexError) × Reads text (Err e) × (a ≡ Err (kind.Lexing e))) ⊎ ((tokens : List Token) × Reads text (Ok tokens) × Of tokens a))
           → (((e : LexError) × Reads text (Err e) × (b ≡ Err (kind.Lexing e))) ⊎ ((tokens : List Token) × Reads text (Ok tokens) × Of tokens b))
-          → Agree ◌≡◌ a b
+          → Agree Same a b
       lexed (inl d) (inl e) = rw (d.2, e.2) (ap kind.Lexing (same_refusal text d.0 e.0 d.1 e.1))
       lexed (inl d) (inr e) = absurd (lexed_not_refused text d.0 e.0 d.1 e.1)
       lexed (inr d) (inl e) = absurd (lexed_not_refused text e.0 d.0 e.1 d.1)
@@ -135,6 +140,7 @@ initial_view p text (Err (kind.Structures e)) h = inr (h.0, inr (h.1.0, h.1.1, h
 initial_view p text (Err (kind.ReportForm place)) h = absurd h
 initial_view p text (Err kind.NotHeap) h = absurd h
 initial_view p text (Err (kind.TraceForm place)) h = absurd h
+initial_view p text (Err (kind.Source e)) h = absurd h
 
 -- the refusal is one of the tokens as structures, or of what they mean
 refusal_view : (vocab : Vocab) (text : List ℕ) (tokens : List Token) (e : TvsError) (ts : List SpecToken)
@@ -160,6 +166,7 @@ refused_structs vocab text tokens (kind.Structures e) h = (e, refl, h)
 refused_structs vocab text tokens (kind.ReportForm place) h = absurd h
 refused_structs vocab text tokens kind.NotHeap h = absurd h
 refused_structs vocab text tokens (kind.TraceForm place) h = absurd h
+refused_structs vocab text tokens (kind.Source e) h = absurd h
 
 module _ (trees : (tokens : List SpecToken) (a b : List StructTree) → AreStructs tokens a → AreStructs tokens b → a ≡ b) where
   same_meaning : (vocab : Vocab) (ts : List SpecToken) (a b : Result (List StructureForm) TvsError)
@@ -207,7 +214,7 @@ module _ (trees : (tokens : List SpecToken) (a b : List StructTree) → AreStruc
 
   pub one_initial : ((text : List ℕ) (a b : Result (List Token) LexError) → Reads text a → Reads text b → a ≡ b)
       → (p : Program) (text : List ℕ) → GiveOne {A = List StructureForm} ◌≡◌ (MeansInitial p text) (MeansInitial p text)
-  one_initial reading p text a b h k = one_view reading longest_gathered text (OfStructs p.vocab text)
+  one_initial reading p text a b h k = one_view reading ◌≡◌ longest_gathered text (OfStructs p.vocab text)
       (one_structs p.vocab text) a b (initial_view p text a h) (initial_view p text b k)
 
 -- ---- heaps
@@ -224,6 +231,7 @@ start_refusal p text (kind.Structures e) h = inr h
 start_refusal p text (kind.ReportForm place) h = inr h
 start_refusal p text kind.NotHeap h = inl (refl, h)
 start_refusal p text (kind.TraceForm place) h = inr h
+start_refusal p text (kind.Source e) h = inr h
 
 module _ (p : Program) (text : List ℕ) (one : GiveOne {A = List StructureForm} ◌≡◌ (MeansInitial p text) (MeansInitial p text)) where
   heap_not_refused : (s : StructureForm) (k : FileKind) → MeansStart p text (Ok s) → MeansStart p text (Err k) → ⊥
@@ -266,6 +274,7 @@ moves_view p text (Err (kind.Structures e)) h = absurd h
 moves_view p text (Err (kind.ReportForm place)) h = absurd h
 moves_view p text (Err kind.NotHeap) h = absurd h
 moves_view p text (Err (kind.TraceForm place)) h = inr (h.0, inr (h.1.0, h.1.1, h.1.2.0))
+moves_view p text (Err (kind.Source e)) h = absurd h
 
 refused_moves : (p : Program) (text : List ℕ) (tokens : List Token) (k : FileKind) → OfMoves p text tokens (Err k)
     → (placeless k ≡ placeless (kind.TraceForm (record { line = 1; column = 1 }))) × IsNoTrace p (spec_tokens text tokens)
@@ -278,6 +287,7 @@ refused_moves p text tokens (kind.Structures e) h = absurd h
 refused_moves p text tokens (kind.ReportForm place) h = absurd h
 refused_moves p text tokens kind.NotHeap h = absurd h
 refused_moves p text tokens (kind.TraceForm place) h = (refl, h)
+refused_moves p text tokens (kind.Source e) h = absurd h
 
 module _ (one : (p : Program) (ts : List SpecToken) (a b : Trace) → MeansTrace p ts a → MeansTrace p ts b → a ≡ b) where
   one_of_moves : (p : Program) (text : List ℕ) (tokens : List Token)
@@ -293,7 +303,7 @@ module _ (one : (p : Program) (ts : List SpecToken) (a b : Trace) → MeansTrace
 
   pub one_moves : ((text : List ℕ) (a b : Result (List Token) LexError) → Reads text a → Reads text b → a ≡ b)
       → (p : Program) (text : List ℕ) → GiveOne {A = Trace} ◌≡◌ (MeansMoves p text) (MeansMoves p text)
-  one_moves reading p text a b h k = one_view reading longest_gathered text (OfMoves p text)
+  one_moves reading p text a b h k = one_view reading ◌≡◌ longest_gathered text (OfMoves p text)
       (one_of_moves p text) a b (moves_view p text a h) (moves_view p text b k)
 
 -- ---- reports
@@ -315,6 +325,7 @@ report_view p text (Err (kind.Structures e)) h = absurd h
 report_view p text (Err (kind.ReportForm place)) h = inr (h.0, inr (h.1.0, h.1.1, h.1.2.0))
 report_view p text (Err kind.NotHeap) h = absurd h
 report_view p text (Err (kind.TraceForm place)) h = absurd h
+report_view p text (Err (kind.Source e)) h = absurd h
 
 refused_report : (p : Program) (text : List ℕ) (tokens : List Token) (k : FileKind) → OfReport p text tokens (Err k)
     → (placeless k ≡ placeless (kind.ReportForm (record { line = 1; column = 1 }))) × IsNoReport p (spec_tokens text tokens)
@@ -327,6 +338,7 @@ refused_report p text tokens (kind.Structures e) h = absurd h
 refused_report p text tokens (kind.ReportForm place) h = (refl, h)
 refused_report p text tokens kind.NotHeap h = absurd h
 refused_report p text tokens (kind.TraceForm place) h = absurd h
+refused_report p text tokens (kind.Source e) h = absurd h
 
 module _ (one : (p : Program) (ts : List SpecToken) (a b : Analysis) → MeansReportTokens p ts a → MeansReportTokens p ts b → a ≡ b) where
   one_of_report : (p : Program) (text : List ℕ) (tokens : List Token)
@@ -342,5 +354,69 @@ module _ (one : (p : Program) (ts : List SpecToken) (a b : Analysis) → MeansRe
 
   pub one_report : ((text : List ℕ) (a b : Result (List Token) LexError) → Reads text a → Reads text b → a ≡ b)
       → (p : Program) (text : List ℕ) → GiveOne {A = Analysis} ◌≡◌ (MeansReport p text) (MeansReport p text)
-  one_report reading p text a b h k = one_view reading longest_text text (OfReport p text)
+  one_report reading p text a b h k = one_view reading ◌≡◌ longest_text text (OfReport p text)
       (one_of_report p text) a b (report_view p text a h) (report_view p text b k)
+
+-- ---- source programs
+
+OfSource : (text : List ℕ) → List Token → Result Program FileKind → Type 0
+OfSource text tokens (Ok p) = MeansSourceProgram (spec_tokens text tokens) (program_of p)
+OfSource text tokens (Err (kind.Source e)) = IsNoSource text e tokens (spec_tokens text tokens)
+OfSource text tokens (Err other) = ⊥
+
+source_view : (text : List ℕ) (a : Result Program FileKind) → MeansSource text a → View longest_gathered text (OfSource text) a
+unfolding OfSource
+source_view text (Ok p) h = inr (h.0, inr (h.1.0, h.1.1, h.1.2))
+source_view text (Err kind.TooLong) h = inl (h, refl)
+source_view text (Err (kind.Gathering e)) h = absurd h
+source_view text (Err (kind.Lexing e)) h = inr (h.0, inl (e, unlexed_reads text e h.1, refl))
+source_view text (Err (kind.Program f)) h = absurd h
+source_view text (Err (kind.Structures e)) h = absurd h
+source_view text (Err (kind.ReportForm place)) h = absurd h
+source_view text (Err kind.NotHeap) h = absurd h
+source_view text (Err (kind.TraceForm place)) h = absurd h
+source_view text (Err (kind.Source e)) h = inr (h.0, inr (h.1.0, h.1.1, h.1.2))
+
+-- a refusal of tokens is one of the compiler, and not want of memory
+no_source : (text : List ℕ) (tokens : List Token) (e : SourceError) → IsNoSource text e tokens (spec_tokens text tokens)
+    → (e ≢ source.Memory) × IsSourceCause (spec_tokens text tokens) e
+no_source text tokens source.TooDeep h = (λ same. absurd cc, h.0)
+no_source text tokens (source.Syntax place) h = (λ same. absurd cc, h.0)
+no_source text tokens source.Reserved h = (λ same. absurd cc, h.0)
+no_source text tokens source.NameTwice h = (λ same. absurd cc, h.0)
+no_source text tokens source.NameUnknown h = (λ same. absurd cc, h.0)
+no_source text tokens source.TooMany h = (λ same. absurd cc, h.0)
+no_source text tokens source.Memory h = absurd h
+
+refused_source : (text : List ℕ) (tokens : List Token) (k : FileKind) → OfSource text tokens (Err k)
+    → (e : SourceError) × (k ≡ kind.Source e) × (e ≢ source.Memory) × IsSourceCause (spec_tokens text tokens) e
+unfolding OfSource
+refused_source text tokens kind.TooLong h = absurd h
+refused_source text tokens (kind.Gathering e) h = absurd h
+refused_source text tokens (kind.Lexing e) h = absurd h
+refused_source text tokens (kind.Program f) h = absurd h
+refused_source text tokens (kind.Structures e) h = absurd h
+refused_source text tokens (kind.ReportForm place) h = absurd h
+refused_source text tokens kind.NotHeap h = absurd h
+refused_source text tokens (kind.TraceForm place) h = absurd h
+refused_source text tokens (kind.Source e) h =
+    let n = no_source text tokens e h in (e, refl, n.0, n.1)
+
+module _ (one : HaveOneSource) (refusal : HaveOneSourceRefusal) where
+  one_of_source : (text : List ℕ) (tokens : List Token) → GiveOne SameProgram (OfSource text tokens) (OfSource text tokens)
+  unfolding OfSource
+  one_of_source text tokens (Ok p) (Ok q) h k = one.one (spec_tokens text tokens) (program_of p) (program_of q) h k
+  one_of_source text tokens (Ok p) (Err e) h k =
+      let r = refused_source text tokens e k in
+      absurd (one.unrefused (spec_tokens text tokens) (program_of p) r.0 h r.2 r.3)
+  one_of_source text tokens (Err e) (Ok q) h k =
+      let r = refused_source text tokens e h in
+      absurd (one.unrefused (spec_tokens text tokens) (program_of q) r.0 k r.2 r.3)
+  one_of_source text tokens (Err d) (Err e) h k =
+      let r = refused_source text tokens d h in let s = refused_source text tokens e k in
+      rw (r.1, s.1) (ap kind.Source (refusal (spec_tokens text tokens) r.0 s.0 r.2 s.2 r.3 s.3))
+
+  pub one_source : ((text : List ℕ) (a b : Result (List Token) LexError) → Reads text a → Reads text b → a ≡ b)
+      → (text : List ℕ) → GiveOne SameProgram (MeansSource text) (MeansSource text)
+  one_source reading text a b h k = one_view reading SameProgram longest_gathered text (OfSource text)
+      (one_of_source text) a b (source_view text a h) (source_view text b k)

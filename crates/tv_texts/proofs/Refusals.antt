@@ -11,6 +11,9 @@ use Rattle.tv_lex.specs.declared.token.LexError.{LexError}
 use Rattle.tv_lex.specs.declared.token.LexError.TheVariants as lexing
 use Rattle.tv_lex.specs.declared.token.Token.{Token}
 use Rattle.tv_model.specs.declared.program.Program.{Program}
+use Rattle.tv_plang.specs.Meaning.{IsCause as SourceCause, StopsAtToken as SourceStops}
+use Rattle.tv_plang.specs.declared.error.SourceError.{SourceError}
+use Rattle.tv_plang.specs.declared.error.SourceError.TheVariants as source
 use Rattle.tv_report.specs.Meaning.{IsCause as ReportCause, StopsAtToken as ReportStops}
 use Rattle.tv_report.specs.declared.error.ReportError.{ReportError}
 use Rattle.tv_report.specs.declared.error.ReportError.TheVariants as report
@@ -18,9 +21,9 @@ use Rattle.tv_status.specs.declared.status.FileKind.{FileKind}
 use Rattle.tv_status.specs.declared.status.FileKind.TheVariants as kind
 use Rattle.tv_status.specs.declared.status.Role.{Role}
 use Rattle.tv_status.specs.declared.status.Role.TheVariants as role
-use Rattle.tv_texts.specs.Faults.{fault_of_program, fault_of_lexing, fault_of_structures, fault_of_report, fault_of_trace}
+use Rattle.tv_texts.specs.Faults.{fault_of_program, fault_of_lexing, fault_of_structures, fault_of_report, fault_of_trace, fault_of_source}
 use Rattle.tv_texts.specs.Files.{IsTextCause}
-use Rattle.tv_texts.specs.Meaning.{IsUnlexed, MeansProgram, MeansInitial, MeansMoves, MeansReport}
+use Rattle.tv_texts.specs.Meaning.{IsUnlexed, MeansProgram, MeansInitial, MeansMoves, MeansReport, MeansSource}
 use Rattle.tv_texts.specs.declared.fault.TextFault.{TextFault}
 use Rattle.tv_texts.specs.declared.fault.TextFault.TheVariants.{Refused, NotRead, Memory}
 use Rattle.tv_trace.specs.Meaning.{IsCause as TraceCause, StopsAtToken as TraceStops}
@@ -49,6 +52,7 @@ unlexed_as text its_role Means (Refused its (kind.Structures e)) f h = absurd h.
 unlexed_as text its_role Means (Refused its (kind.ReportForm place)) f h = absurd h.1
 unlexed_as text its_role Means (Refused its kind.NotHeap) f h = absurd h.1
 unlexed_as text its_role Means (Refused its (kind.TraceForm place)) f h = absurd h.1
+unlexed_as text its_role Means (Refused its (kind.Source e)) f h = absurd h.1
 unlexed_as text its_role Means NotRead f h = absurd h.0
 unlexed_as text its_role Means Memory f h = tt
 
@@ -69,6 +73,11 @@ pub report_unlexed : (p : Program) (text : List ℕ) (fault : TextFault) → len
     → IsTextCause role.Report (λ k. MeansReport p text (Err k)) fault
 report_unlexed p text fault size h =
     unlexed_as text role.Report (λ k. MeansReport p text (Err k)) fault (λ e is. (size, is)) h
+
+pub source_unlexed : (text : List ℕ) (fault : TextFault) → length text ≤ longest_gathered
+    → IsTextCause role.Source (IsUnlexed text) fault → IsTextCause role.Source (λ k. MeansSource text (Err k)) fault
+source_unlexed text fault size h =
+    unlexed_as text role.Source (λ k. MeansSource text (Err k)) fault (λ e is. (size, is)) h
 
 pub program_refused : (text : List ℕ) (fault : ProgramFault) → ProgramCause text fault → ProgramStops text fault
     → IsTextCause role.Program (λ k. MeansProgram text (Err k)) (fault_of_program fault)
@@ -106,3 +115,14 @@ pub trace_refused : (p : Program) (text : List ℕ) (tokens : List Token) (e : T
 trace_refused p text tokens (trace.TraceForm place) size reads cause stops =
     (refl, (size, (tokens, reads, (cause, stops))))
 trace_refused p text tokens trace.Memory size reads cause stops = tt
+
+pub source_refused : (text : List ℕ) (tokens : List Token) (e : SourceError)
+    → length text ≤ longest_gathered → Reads text (Ok tokens) → SourceCause (spec_tokens text tokens) e
+    → SourceStops text tokens e → IsTextCause role.Source (λ k. MeansSource text (Err k)) (fault_of_source e)
+source_refused text tokens source.TooDeep size reads cause stops = (refl, (size, (tokens, reads, (cause, stops))))
+source_refused text tokens (source.Syntax place) size reads cause stops = (refl, (size, (tokens, reads, (cause, stops))))
+source_refused text tokens source.Reserved size reads cause stops = (refl, (size, (tokens, reads, (cause, stops))))
+source_refused text tokens source.NameTwice size reads cause stops = (refl, (size, (tokens, reads, (cause, stops))))
+source_refused text tokens source.NameUnknown size reads cause stops = (refl, (size, (tokens, reads, (cause, stops))))
+source_refused text tokens source.TooMany size reads cause stops = (refl, (size, (tokens, reads, (cause, stops))))
+source_refused text tokens source.Memory size reads cause stops = tt

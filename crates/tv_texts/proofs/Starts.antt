@@ -38,6 +38,7 @@ no_heap p text (kind.Structures e) h = h
 no_heap p text (kind.ReportForm place) h = h
 no_heap p text kind.NotHeap h = absurd h
 no_heap p text (kind.TraceForm place) h = h
+no_heap p text (kind.Source e) h = h
 
 pub no_structures : (p : Program) (text : List ℕ) (fault : TextFault)
     → IsTextCause role.Start (λ k. MeansInitial p text (Err k)) fault → IsTextCause role.Start (λ k. MeansStart p text (Err k)) fault

@@ -179,6 +179,7 @@ initial_also p q same text (Err (kind.Structures e)) h =
 initial_also p q same text (Err (kind.ReportForm place)) h = absurd h
 initial_also p q same text (Err kind.NotHeap) h = absurd h
 initial_also p q same text (Err (kind.TraceForm place)) h = absurd h
+initial_also p q same text (Err (kind.Source e)) h = absurd h
 
 no_report_also : (p q : Program) (ts : List SpecToken) → SameProgram p q → IsNoReport q ts → IsNoReport p ts
 no_report_also p q ts same none a means = none a (report_also q p ts a (sym same) means)
@@ -197,6 +198,7 @@ report_text_also p q same text (Err (kind.ReportForm place)) h =
     (h.0, (h.1.0, h.1.1, (no_report_also p q (spec_tokens text h.1.0) same h.1.2.0, h.1.2.1)))
 report_text_also p q same text (Err kind.NotHeap) h = absurd h
 report_text_also p q same text (Err (kind.TraceForm place)) h = absurd h
+report_text_also p q same text (Err (kind.Source e)) h = absurd h
 
 -- ---- a heap, and a trace
 
@@ -212,6 +214,7 @@ start_also p q same text (Err (kind.Program f)) h = absurd h
 start_also p q same text (Err (kind.Structures e)) h = initial_also p q same text (Err (kind.Structures e)) h
 start_also p q same text (Err (kind.ReportForm place)) h = absurd h
 start_also p q same text (Err (kind.TraceForm place)) h = absurd h
+start_also p q same text (Err (kind.Source e)) h = absurd h
 
 values_also : (p q : Program) → SameProgram p q → (tree : Option StructTree) (values : Option StructureForm)
     → AreMeant q.vocab tree values → AreMeant p.vocab tree values
@@ -258,5 +261,6 @@ trace_text_also p q same text (Err (kind.Program f)) h = absurd h
 trace_text_also p q same text (Err (kind.Structures e)) h = absurd h
 trace_text_also p q same text (Err (kind.ReportForm place)) h = absurd h
 trace_text_also p q same text (Err kind.NotHeap) h = absurd h
+trace_text_also p q same text (Err (kind.Source e)) h = absurd h
 trace_text_also p q same text (Err (kind.TraceForm place)) h =
     (h.0, (h.1.0, h.1.1, (no_trace_also p q (spec_tokens text h.1.0) same h.1.2.0, h.1.2.1)))

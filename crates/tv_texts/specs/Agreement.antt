@@ -3,6 +3,7 @@ use Rattle.std.specs.Prelude.{◌≡◌, ℕ, List, Result, Ok, Err}
 use Rattle.tv_front.specs.Meaning.{without_place, start_of_text}
 use Rattle.tv_model.specs.Program.{program_of}
 use Rattle.tv_model.specs.declared.program.Program.{Program}
+use Rattle.tv_plang.specs.Laws.{without_place as without_source_place}
 use Rattle.tv_status.specs.declared.status.FileKind.{FileKind}
 use Rattle.tv_status.specs.declared.status.FileKind.TheVariants as kind
 use Rattle.tv_tvs.specs.declared.error.TvsError.{TvsError}
@@ -19,6 +20,7 @@ placeless (kind.Program fault) = kind.Program (without_place fault)
 placeless (kind.Structures e) = kind.Structures (at_start e)
 placeless (kind.ReportForm place) = kind.ReportForm start_of_text
 placeless (kind.TraceForm place) = kind.TraceForm start_of_text
+placeless (kind.Source e) = kind.Source (without_source_place e)
 placeless other = other
 
 -- both say the same program, wherever its parts lie in memory

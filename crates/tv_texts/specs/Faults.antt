@@ -8,10 +8,12 @@ use Rattle.tv_lex.specs.declared.token.LexError.{LexError}
 use Rattle.tv_lex.specs.declared.token.LexError.TheVariants as lexing
 use Rattle.tv_outside.specs.declared.read.ReadError.{ReadError}
 use Rattle.tv_outside.specs.declared.read.ReadError.TheVariants as reading
+use Rattle.tv_plang.specs.declared.error.SourceError.{SourceError}
+use Rattle.tv_plang.specs.declared.error.SourceError.TheVariants as source
 use Rattle.tv_report.specs.declared.error.ReportError.{ReportError}
 use Rattle.tv_report.specs.declared.error.ReportError.TheVariants as report
 use Rattle.tv_status.specs.declared.status.FileKind.{FileKind}
-use Rattle.tv_status.specs.declared.status.FileKind.TheVariants.{TooLong, Gathering, Lexing, Program, Structures, ReportForm, TraceForm}
+use Rattle.tv_status.specs.declared.status.FileKind.TheVariants.{TooLong, Gathering, Lexing, Program, Structures, ReportForm, TraceForm, Source}
 use Rattle.tv_status.specs.declared.status.Role.{Role}
 use Rattle.tv_status.specs.declared.status.Role.TheVariants as role
 use Rattle.tv_texts.specs.declared.fault.TextFault.{TextFault}
@@ -56,3 +58,8 @@ fault_of_report (report.ReportForm place) = Refused role.Report (ReportForm plac
 abbrev pub fault_of_trace : TraceError → TextFault
 fault_of_trace trace.Memory = Memory
 fault_of_trace (trace.TraceForm place) = Refused role.Trace (TraceForm place)
+
+-- tokens that mean no source program, or one too large
+abbrev pub fault_of_source : SourceError → TextFault
+fault_of_source source.Memory = Memory
+fault_of_source e = Refused role.Source (Source e)

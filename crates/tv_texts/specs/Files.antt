@@ -11,7 +11,7 @@ use Rattle.tv_status.specs.declared.status.FileKind.TheVariants.{Gathering, TooL
 use Rattle.tv_status.specs.declared.status.Role.{Role}
 use Rattle.tv_struct.specs.StructureForm.{StructureForm}
 use Rattle.tv_trace.specs.declared.trace.Trace.{Trace}
-use Rattle.tv_texts.specs.Meaning.{MeansProgram, MeansInitial, MeansStart, MeansMoves, MeansReport}
+use Rattle.tv_texts.specs.Meaning.{MeansProgram, MeansInitial, MeansStart, MeansMoves, MeansReport, MeansSource}
 use Rattle.tv_texts.specs.declared.fault.TextFault.{TextFault}
 use Rattle.tv_texts.specs.declared.fault.TextFault.TheVariants.{Refused, NotRead, Memory as NoMemory}
 
@@ -57,6 +57,10 @@ IsTraceFile told name program answer = HoldsSuch told name (λ text. MeansMoves 
 -- the named file is this report on the program, or is refused so
 abbrev pub IsReportFile : Option Held → (name : List ℕ) → Program → Result Analysis FileKind → Type 0
 IsReportFile told name program answer = HoldsSuch told name (λ text. MeansReport program text answer)
+
+-- the named file, a text of the pointer language, is compiled to this program, or is refused so
+abbrev pub IsSourceFile : Option Held → (name : List ℕ) → Result Program FileKind → Type 0
+IsSourceFile told name answer = HoldsSuch told name (λ text. MeansSource text answer)
 
 -- the named file has more bytes than this
 abbrev pub IsLong : Option Held → (name : List ℕ) → (limit : ℕ) → FileKind → Type 0

@@ -13,6 +13,9 @@ use Rattle.tv_listing.specs.declared.analysis.Analysis.{Analysis}
 use Rattle.tv_model.specs.Program.{program_of}
 use Rattle.tv_model.specs.declared.program.Program.{Program}
 use Rattle.tv_model.specs.declared.program.Vocab.{Vocab}
+use Rattle.tv_plang.specs.Meaning.{IsCause as IsSourceCause, MeansProgram as MeansSourceProgram, StopsAtToken as StopsSourceAt}
+use Rattle.tv_plang.specs.declared.error.SourceError.{SourceError}
+use Rattle.tv_plang.specs.declared.error.SourceError.TheVariants as source
 use Rattle.tv_report.specs.Meaning.{IsReportText, IsNoReport}
 use Rattle.tv_status.specs.declared.status.FileKind.{FileKind}
 use Rattle.tv_status.specs.declared.status.FileKind.TheVariants as kind
@@ -90,3 +93,17 @@ MeansReport program text (Err (kind.Lexing e)) = (length text ≤ longest_text) 
 MeansReport program text (Err (kind.ReportForm place)) = (length text ≤ longest_text)
     × HasTokens text (λ tokens ts. IsNoReport program ts × IsTokenPlace text tokens place)
 MeansReport program text (Err other) = ⊥
+
+-- the tokens mean no source program, or one too large
+abbrev pub IsNoSource : (text : List ℕ) → SourceError → List Token → List SpecToken → Type 0
+IsNoSource text source.Memory tokens ts = ⊥
+IsNoSource text e tokens ts = IsSourceCause ts e × StopsSourceAt text tokens e
+
+-- the text of the pointer language is compiled to this program, or is refused so
+abbrev pub MeansSource : (text : List ℕ) → Result Program FileKind → Type 0
+MeansSource text (Ok program) = (length text ≤ longest_gathered)
+    × HasTokens text (λ tokens ts. MeansSourceProgram ts (program_of program))
+MeansSource text (Err kind.TooLong) = longest_gathered < length text
+MeansSource text (Err (kind.Lexing e)) = (length text ≤ longest_gathered) × IsUnlexed text (kind.Lexing e)
+MeansSource text (Err (kind.Source e)) = (length text ≤ longest_gathered) × HasTokens text (IsNoSource text e)
+MeansSource text (Err other) = ⊥

@@ -2,7 +2,7 @@
 
 ghost use Rattle.std.specs.Prelude.{◌≡◌};
 ghost use Rattle.tv_front.specs.Meaning.{is_memory};
-ghost use Rattle.tv_texts.specs.Faults.{fault_of_gathering, fault_of_program, fault_of_reading, fault_of_lexing, fault_of_structures, fault_of_report, fault_of_trace};
+ghost use Rattle.tv_texts.specs.Faults.{fault_of_gathering, fault_of_program, fault_of_reading, fault_of_lexing, fault_of_structures, fault_of_report, fault_of_trace, fault_of_source};
 
 use thiserror::Error;
 use tv_expand::ExpandError;
@@ -11,6 +11,7 @@ use tv_lex::{GatherError, LexError};
 use tv_names::ResolveError;
 use tv_outside::ReadError;
 use tv_parse::ParseError;
+use tv_plang::SourceError;
 use tv_report::ReportError;
 use tv_status::{FileKind, Role};
 use tv_trace::TraceError;
@@ -86,6 +87,17 @@ impl From<TraceError> for TextFault {
                 TextFault::Refused(Role::Trace, FileKind::TraceForm(place))
             }
             TraceError::Memory => TextFault::Memory,
+        }
+    }
+}
+
+impl From<SourceError> for TextFault {
+    ghost from_gives = { λ error fault. fault ≡ fault_of_source error };
+
+    fn from(error: SourceError) -> TextFault {
+        match error {
+            SourceError::Memory => TextFault::Memory,
+            _ => TextFault::Refused(Role::Source, FileKind::Source(error)),
         }
     }
 }

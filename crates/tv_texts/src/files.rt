@@ -12,10 +12,10 @@ ghost use Rattle.tv_status.specs.declared.status.Role.TheVariants as role;
 ghost use Rattle.tv_struct.specs.StructureForm.{IsStructure, IsOver};
 ghost use Rattle.tv_trace.specs.Meaning.{IsTraceOn};
 ghost use Rattle.tv_two_valued.specs.TwoValued.{IsTwoValued};
-ghost use Rattle.tv_texts.specs.Files.{IsProgramFile, LacksFile, IsInitialFile, IsStartFile, IsTraceFile, IsReportFile, IsFileCause, IsLong, UnlessNotRead};
+ghost use Rattle.tv_texts.specs.Files.{IsProgramFile, LacksFile, IsInitialFile, IsStartFile, IsTraceFile, IsReportFile, IsSourceFile, IsFileCause, IsLong, UnlessNotRead};
 
 use crate::fault::{TextFault, fault_of_reading};
-use crate::texts::{initial_in, program_in, report_in, start_in, trace_in};
+use crate::texts::{initial_in, program_in, report_in, source_in, start_in, trace_in};
 use std::alloc::Global;
 use tv_lex::{MAX_TEXT, gather};
 use tv_listing::Analysis;
@@ -194,4 +194,26 @@ pub fn load_report<F: Files>(
 {
     let bytes = read_file(alloc, files, name, Role::Report, MAX_REPORT)?;
     report_in(alloc, program, &bytes)
+}
+
+/// The program that the named file, a text of the pointer language, is compiled to; it is valid. Nothing is included.
+///
+/// # Errors
+/// It is refused where it means no source program or one too large. It isn't read only where a call of `files`
+/// failed, and on steady files only where they lack it. Or memory ran out.
+#[tactic(auto, using(crate::proofs::Loading::too_long, crate::proofs::Loading::held_refused, crate::proofs::Loading::holds_such, crate::proofs::Loading::holds_anyway))]
+pub fn load_source<F: Files>(alloc: Global, files: &mut F, name: &str) -> Result<Program, TextFault>
+    ensures means { IfOk result (λ p. IsSourceFile (F.holds files.old) name.now (Ok p)) }
+    ensures valid { IfOk result (λ p. IsValid (program_of p)) }
+    ensures cause { IfErr result (IsFileCause role.Source (λ kind. IsSourceFile
+        (F.holds files.old) name.now (Err kind))
+        (¬ HoldsName (F.holds files.old) name.now) (Rose (F.faults files.old) (F.faults files.new))
+        (F.steady files.old)) }
+    ensures holds { F.holds files.new ≡ F.holds files.old }
+    ensures count { F.faults files.old ≤ F.faults files.new }
+    ensures steady { F.steady files.old → UnlessNotRead result (F.steady files.new
+        × (F.faults files.new ≡ F.faults files.old)) }
+{
+    let bytes = read_file(alloc, files, name, Role::Source, MAX_TEXT)?;
+    source_in(alloc, &bytes)
 }

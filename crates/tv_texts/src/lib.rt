@@ -1,4 +1,5 @@
-//! From files and texts to what they mean: programs, initial structures, heaps, traces, reports.
+//! From files and texts to what they mean: programs, initial structures, heaps, traces, reports, source
+//! programs.
 #![tactic(auto)]
 
 mod fault;
@@ -7,6 +8,6 @@ mod laws;
 mod texts;
 
 pub use fault::TextFault;
-pub use files::{load_initial, load_program, load_report, load_start, load_trace};
+pub use files::{load_initial, load_program, load_report, load_source, load_start, load_trace};
 pub use laws::one_meaning_each;
 pub use texts::{initial_in, program_in};

@@ -11,7 +11,7 @@ ghost use Rattle.tv_status.specs.declared.status.FileKind.TheVariants as kind;
 ghost use Rattle.tv_status.specs.declared.status.Role.TheVariants as role;
 ghost use Rattle.tv_struct.specs.StructureForm.{IsOver, IsStructure};
 ghost use Rattle.tv_texts.specs.Files.{IsTextCause};
-ghost use Rattle.tv_texts.specs.Meaning.{IsUnlexed, AreOneHeap, MeansProgram, MeansInitial, MeansStart, MeansMoves, MeansReport};
+ghost use Rattle.tv_texts.specs.Meaning.{IsUnlexed, AreOneHeap, MeansProgram, MeansInitial, MeansStart, MeansMoves, MeansReport, MeansSource};
 ghost use Rattle.tv_texts.specs.declared.fault.TextFault.TheVariants.{Refused};
 ghost use Rattle.tv_trace.specs.Meaning.{IsTraceOn};
 ghost use Rattle.tv_two_valued.specs.TwoValued.{IsTwoValued};
@@ -22,6 +22,7 @@ use tv_front::read_program;
 use tv_lex::{Tokens, lex};
 use tv_listing::Analysis;
 use tv_model::Program;
+use tv_plang::compile;
 use tv_report::read_report;
 use tv_status::{FileKind, Role};
 use tv_struct::{Structure, Structures};
@@ -168,4 +169,19 @@ pub fn report_in(alloc: Global, program: &Program, bytes: &[u8]) -> Result<Analy
 {
     let tokens = tokens_in(alloc, bytes, Role::Report)?;
     Ok(read_report(alloc, program, bytes, &tokens)?)
+}
+
+/// The program that a text of the pointer language, of at most 4,194,304 bytes, is compiled to. It is valid.
+///
+/// # Errors
+/// It is refused where it means no source program or one too large; or memory ran out.
+#[tactic(auto, using(crate::proofs::Refusals::source_unlexed, crate::proofs::Refusals::source_refused))]
+pub(crate) fn source_in(alloc: Global, bytes: &[u8]) -> Result<Program, TextFault>
+    requires size { length bytes.now ≤ longest_gathered }
+    ensures means { IfOk result (λ p. MeansSource bytes.now (Ok p)) }
+    ensures valid { IfOk result (λ p. IsValid (program_of p)) }
+    ensures cause { IfErr result (IsTextCause role.Source (λ kind. MeansSource bytes.now (Err kind))) }
+{
+    let tokens = tokens_in(alloc, bytes, Role::Source)?;
+    Ok(compile(alloc, bytes, &tokens)?)
 }

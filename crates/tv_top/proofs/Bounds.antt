@@ -2,7 +2,7 @@
 use Rattle.std.proofs.Common.{◌≡◌, ◌≤◌, ℕ, List, [], ◌∷◌, arith}
 use Rattle.tv_top.specs.Laws.{CommandsAreBounded}
 use Rattle.tv_top.specs.Work.{IsBounded}
-use Rattle.tv_words.specs.Words.{CommandForm, Analyzes, Checks, Demos, Joins, Replays, Spells, IsMax}
+use Rattle.tv_words.specs.Words.{CommandForm, Analyzes, Checks, Demos, Joins, Replays, Sources, Spells, IsMax}
 
 max_bounded : (values : List (List ℕ)) (max : ℕ) → IsMax values max → max ≤ 100000
 max_bounded [] max h = omega (arith, h)
@@ -15,3 +15,4 @@ bounded words (Checks program initial report mode maps) spells = tt
 bounded words (Demos number) spells = (spells.2.number_is.1, spells.2.number_is.2)
 bounded words (Joins program initial max mode) spells = max_bounded _ max spells.2.max_is
 bounded words (Replays program initial start trace report) spells = tt
+bounded words (Sources source initial max) spells = max_bounded _ max spells.2.max_is

@@ -17,7 +17,7 @@ use Rattle.tv_status.specs.declared.status.Role.TheVariants as role
 use Rattle.tv_struct.specs.StructureForm.{StructureForm}
 use Rattle.tv_struct.specs.declared.analysis.StageError.{StageError}
 use Rattle.tv_struct.specs.declared.analysis.StageError.TheVariants as stage
-use Rattle.tv_texts.specs.Files.{IsProgramFile, LacksFile, IsInitialFile, IsReportFile, IsFileCause, IsTextCause, UnlessNotRead}
+use Rattle.tv_texts.specs.Files.{IsProgramFile, LacksFile, IsInitialFile, IsReportFile, IsFileCause, IsTextCause, UnlessNotRead, IsSourceFile}
 use Rattle.tv_texts.specs.Meaning.{MeansProgram, MeansInitial}
 use Rattle.tv_texts.specs.declared.fault.TextFault.{TextFault}
 use Rattle.tv_texts.specs.declared.fault.TextFault.TheVariants.{Refused, NotRead, Memory}
@@ -25,7 +25,7 @@ use Rattle.tv_top.specs.Answers.{Reached, InRound, case_for, max_of, HasMoreThan
 use Rattle.tv_top.specs.Call.{IsCause, IsCommandCause}
 use Rattle.tv_top.specs.Delivery.{SaidOf}
 use Rattle.tv_top.specs.Faults.{fault_of_work, fault_of_join, fault_of_stage, fault_of_text}
-use Rattle.tv_top.specs.Meaning.{Task, FilesMean, GivesProgram, GivesInitial, GivesReport, IsMissing, LacksLater, IsRefused}
+use Rattle.tv_top.specs.Meaning.{Task, FilesMean, GivesProgram, GivesInitial, GivesReport, IsMissing, LacksLater, IsRefused, program_role}
 use Rattle.tv_top.specs.Work.{Names, IsSearchCause, IsJoinSearchCause, IsJudged, IsJudgementCause, UnlessReadFault, IsRun}
 use Rattle.tv_top.specs.declared.fault.Answer.{Answer}
 use Rattle.tv_top.specs.declared.fault.Answer.TheVariants as answer
@@ -34,7 +34,7 @@ use Rattle.tv_top.specs.declared.fault.Fault.TheVariants as fault
 use Rattle.tv_transfer.specs.Budgets.{MeetsSplits, MeetsIndividuals}
 use Rattle.tv_listing.specs.declared.analysis.Rejection.{Rejection}
 use Rattle.tv_trace.specs.declared.trace.Trace.{Trace}
-use Rattle.tv_words.specs.Words.{CommandForm, Analyzes, Checks, Demos, Joins, Spells, Replays}
+use Rattle.tv_words.specs.Words.{CommandForm, Analyzes, Checks, Demos, Joins, Replays, Sources, Spells}
 use Rattle.tv_work.specs.Analysed.{IsWorkCause, Meets}
 use Rattle.tv_work.specs.Reach.{AreMoreThan}
 use Rattle.tv_work.specs.declared.error.WorkError.{WorkError}
@@ -80,6 +80,7 @@ named_program told (Joins p i max mode) program initial a names file =
     subst (λ n. IsProgramFile told n a) (sym names.0) file
 named_program told (Replays p i start trace report) program initial a names file =
     subst (λ n. IsProgramFile told n a) (sym names.0) file
+named_program told (Sources n i max) program initial a names file = absurd names
 
 pub named_initial : (told : Option Held) (command : CommandForm) (program initial : List ℕ) (p : Program)
     (a : Result (List StructureForm) FileKind)
@@ -93,6 +94,15 @@ named_initial told (Joins n i max mode) program initial p a names file =
     subst (λ m. IsInitialFile told m p a) (sym names.1) file
 named_initial told (Replays n i start trace report) program initial p a names file =
     subst (λ m. IsInitialFile told m p a) (sym names.1) file
+named_initial told (Sources n i max) program initial p a names file = absurd names
+
+named_role : (command : CommandForm) (program initial : List ℕ) → Names command program initial → program_role command ≡ role.Program
+named_role (Analyzes p i max mode) program initial names = refl
+named_role (Checks p i report mode maps) program initial names = refl
+named_role (Demos number) program initial names = refl
+named_role (Joins p i max mode) program initial names = refl
+named_role (Replays p i start trace report) program initial names = refl
+named_role (Sources n i max) program initial names = absurd names
 
 lacks_program : (told : Option Held) (command : CommandForm) (program initial : List ℕ) → Names command program initial
     → LacksFile told program → IsMissing told command
@@ -105,6 +115,7 @@ lacks_program told (Joins p i max mode) program initial names lacks =
     inl (subst (λ n. LacksFile told n) (sym names.0) lacks)
 lacks_program told (Replays p i start trace report) program initial names lacks =
     inl (subst (λ n. LacksFile told n) (sym names.0) lacks)
+lacks_program told (Sources n i max) program initial names lacks = absurd names
 
 lacks_initial : (told : Option Held) (command : CommandForm) (program initial : List ℕ) (p : Program)
     → Names command program initial → IsProgramFile told program (Ok p) → ¬ HoldsName told initial → IsMissing told command
@@ -133,6 +144,7 @@ lacks_initial told (Replays n i start trace report) program initial p names file
       named_program told (Replays n i start trace report) program initial (Ok p) names file,
       subst (λ m. ¬ HoldsName told m) (sym names.1) lacks,
     ))
+lacks_initial told (Sources n i max) program initial p names file lacks = absurd names
 
 -- why PROGRAM isn't had
 pub program_fault : (told : Option Held) (command : CommandForm) (program initial : List ℕ) (rose steady : Type 0) (e : TextFault)
@@ -140,11 +152,12 @@ pub program_fault : (told : Option Held) (command : CommandForm) (program initia
     → IsFileCause role.Program (λ k. IsProgramFile told program (Err k)) (LacksFile told program) rose steady e
     → IsCommandCause told command rose steady (fault_of_text e)
 program_fault told command program initial rose steady (Refused role.Program k) names h =
-    named_program told command program initial (Err k) names h.1
+    (named_role command program initial names, named_program told command program initial (Err k) names h.1)
 program_fault told command program initial rose steady (Refused role.Initial k) names h = absurd (let e = h.0 in cc)
 program_fault told command program initial rose steady (Refused role.Report k) names h = absurd (let e = h.0 in cc)
 program_fault told command program initial rose steady (Refused role.Start k) names h = absurd (let e = h.0 in cc)
 program_fault told command program initial rose steady (Refused role.Trace k) names h = absurd (let e = h.0 in cc)
+program_fault told command program initial rose steady (Refused role.Source k) names h = absurd (let e = h.0 in cc)
 program_fault told command program initial rose steady NotRead names h =
     (h.0, λ s. lacks_program told command program initial names (h.1 s))
 program_fault told command program initial rose steady Memory names h = tt
@@ -165,6 +178,8 @@ initial_fault told command program initial p rose steady later still_steady (Ref
     absurd (let e = h.0 in cc)
 initial_fault told command program initial p rose steady later still_steady (Refused role.Trace k) names file f g h =
     absurd (let e = h.0 in cc)
+initial_fault told command program initial p rose steady later still_steady (Refused role.Source k) names file f g h =
+    absurd (let e = h.0 in cc)
 initial_fault told command program initial p rose steady later still_steady NotRead names file f g h =
     (f h.0, λ s. lacks_initial told command program initial p names file (h.1 (g s)))
 initial_fault told command program initial p rose steady later still_steady Memory names file f g h = tt
@@ -182,16 +197,53 @@ later_fault told command task its_role Refuses lacks rose steady later still_ste
     (f h.0, λ s. inr (inr (task, means, misses (h.1 (g s)))))
 later_fault told command task its_role Refuses lacks rose steady later still_steady Memory means f g refuses misses h = tt
 
+-- ---- a source program
+
+-- why SOURCE isn't had
+pub source_fault : (told : Option Held) (source initial : List ℕ) (max : ℕ) (rose steady : Type 0) (e : TextFault)
+    → IsFileCause role.Source (λ k. IsSourceFile told source (Err k)) (¬ HoldsName told source) rose steady e
+    → IsCommandCause told (Sources source initial max) rose steady (fault_of_text e)
+source_fault told source initial max rose steady (Refused role.Program k) h = absurd (let e = h.0 in cc)
+source_fault told source initial max rose steady (Refused role.Initial k) h = absurd (let e = h.0 in cc)
+source_fault told source initial max rose steady (Refused role.Report k) h = absurd (let e = h.0 in cc)
+source_fault told source initial max rose steady (Refused role.Start k) h = absurd (let e = h.0 in cc)
+source_fault told source initial max rose steady (Refused role.Trace k) h = absurd (let e = h.0 in cc)
+source_fault told source initial max rose steady (Refused role.Source k) h = (refl, h.1)
+source_fault told source initial max rose steady NotRead h = (h.0, λ s. inl (h.1 s))
+source_fault told source initial max rose steady Memory h = tt
+
+-- why the INITIAL behind it isn't had
+pub source_initial_fault : (told : Option Held) (source initial : List ℕ) (max : ℕ) (p : Program)
+    (rose steady later still_steady : Type 0) (e : TextFault)
+    → IsSourceFile told source (Ok p) → (later → rose) → (steady → still_steady)
+    → IsFileCause role.Initial (λ k. IsInitialFile told initial p (Err k)) (¬ HoldsName told initial) later still_steady e
+    → IsCommandCause told (Sources source initial max) rose steady (fault_of_text e)
+source_initial_fault told source initial max p rose steady later still_steady (Refused role.Program k) file f g h =
+    absurd (let e = h.0 in cc)
+source_initial_fault told source initial max p rose steady later still_steady (Refused role.Initial k) file f g h = (p, file, h.1)
+source_initial_fault told source initial max p rose steady later still_steady (Refused role.Report k) file f g h =
+    absurd (let e = h.0 in cc)
+source_initial_fault told source initial max p rose steady later still_steady (Refused role.Start k) file f g h =
+    absurd (let e = h.0 in cc)
+source_initial_fault told source initial max p rose steady later still_steady (Refused role.Trace k) file f g h =
+    absurd (let e = h.0 in cc)
+source_initial_fault told source initial max p rose steady later still_steady (Refused role.Source k) file f g h =
+    absurd (let e = h.0 in cc)
+source_initial_fault told source initial max p rose steady later still_steady NotRead file f g h =
+    (f h.0, λ s. inr (inl (p, file, h.1 (g s))))
+source_initial_fault told source initial max p rose steady later still_steady Memory file f g h = tt
+
 -- ---- a demo
 
 pub demo_program_fault : (told : Option Held) (number : ℕ) (rose steady : Type 0) (e : TextFault)
     → IsTextCause role.Program (λ k. MeansProgram (program_text number) (Err k)) e
     → IsCommandCause told (Demos number) rose steady (fault_of_text e)
-demo_program_fault told number rose steady (Refused role.Program k) h = h.1
+demo_program_fault told number rose steady (Refused role.Program k) h = (refl, h.1)
 demo_program_fault told number rose steady (Refused role.Initial k) h = absurd (let e = h.0 in cc)
 demo_program_fault told number rose steady (Refused role.Report k) h = absurd (let e = h.0 in cc)
 demo_program_fault told number rose steady (Refused role.Start k) h = absurd (let e = h.0 in cc)
 demo_program_fault told number rose steady (Refused role.Trace k) h = absurd (let e = h.0 in cc)
+demo_program_fault told number rose steady (Refused role.Source k) h = absurd (let e = h.0 in cc)
 demo_program_fault told number rose steady NotRead h = absurd h.0
 demo_program_fault told number rose steady Memory h = tt
 
@@ -204,6 +256,7 @@ demo_initial_fault told number p rose steady (Refused role.Initial k) means h = 
 demo_initial_fault told number p rose steady (Refused role.Report k) means h = absurd (let e = h.0 in cc)
 demo_initial_fault told number p rose steady (Refused role.Start k) means h = absurd (let e = h.0 in cc)
 demo_initial_fault told number p rose steady (Refused role.Trace k) means h = absurd (let e = h.0 in cc)
+demo_initial_fault told number p rose steady (Refused role.Source k) means h = absurd (let e = h.0 in cc)
 demo_initial_fault told number p rose steady NotRead means h = absurd h.0
 demo_initial_fault told number p rose steady Memory means h = tt
 

@@ -23,7 +23,7 @@ use Rattle.tv_top.specs.declared.fault.Fault.{Fault}
 use Rattle.tv_top.specs.declared.fault.Fault.TheVariants as fault
 use Rattle.tv_trace.specs.declared.trace.Trace.{Trace}
 use Rattle.tv_transfer.specs.Budgets.{MeetsSplits, MeetsIndividuals, KeepsBudgets}
-use Rattle.tv_words.specs.Words.{CommandForm, Analyzes, Checks, Demos, Joins, Replays, Spells, SpellsNothing}
+use Rattle.tv_words.specs.Words.{CommandForm, Analyzes, Checks, Demos, Joins, Replays, Sources, Spells, SpellsNothing}
 use Rattle.tv_work.specs.Analysed.{KeepAllBudgets, Meets}
 use Rattle.tv_work.specs.Reach.{AreMoreThan}
 
@@ -89,6 +89,7 @@ done_reported told (Checks p i report mode maps) task text h = (h.0, h.1)
 done_reported told (Demos number) task text h = tt
 done_reported told (Joins p i most mode) task text h = tt
 done_reported told (Replays p i start trace report) task text h = (h.0, h.1, h.2, h.3)
+done_reported told (Sources n i max) task text h = tt
 
 can_reported : (told : Option Held) (command : CommandForm) (task : Task) → CanBeDone told command task → HasReport told command task
 can_reported told (Analyzes p i max mode) task h = tt
@@ -96,6 +97,7 @@ can_reported told (Checks p i report mode maps) task h = (h.0, h.1)
 can_reported told (Demos number) task h = tt
 can_reported told (Joins p i most mode) task h = tt
 can_reported told (Replays p i start trace report) task h = h
+can_reported told (Sources n i max) task h = tt
 
 many_reported : (told : Option Held) (command : CommandForm) (task : Task) (max : ℕ) → max_of command ≡ Some max
     → HasReport told command task
@@ -104,6 +106,7 @@ many_reported told (Checks p i report mode maps) task max h = absurd cc
 many_reported told (Demos number) task max h = tt
 many_reported told (Joins p i most mode) task max h = tt
 many_reported told (Replays p i start trace report) task max h = absurd cc
+many_reported told (Sources n i max') task max h = tt
 
 step_reported : (told : Option Held) (command : CommandForm) (task : Task) (Budget : ProgramForm → ℕ → StructureForm → Type 0)
     → StepMeets told command task Budget → HasReport told command task
@@ -112,6 +115,7 @@ step_reported told (Checks p i report mode maps) task Budget h = (h.0, h.1)
 step_reported told (Demos number) task Budget h = tt
 step_reported told (Joins p i most mode) task Budget h = tt
 step_reported told (Replays p i start trace report) task Budget h = absurd h
+step_reported told (Sources n i max) task Budget h = tt
 
 -- ---- what can be done isn't hindered
 
@@ -167,6 +171,7 @@ can_not_rejected told (Checks p i report mode maps) t u r same can rejected =
 can_not_rejected told (Demos number) t u r same can rejected = absurd rejected
 can_not_rejected told (Joins p i most mode) t u r same can rejected = absurd rejected
 can_not_rejected told (Replays p i start trace report) t u r same can rejected = absurd rejected
+can_not_rejected told (Sources n i m) t u r same can rejected = absurd rejected
 
 done_not_rejected : (told : Option Held) (command : CommandForm) (t u : Task) (text : List ℕ) (r : Rejection)
     → OneCase told command t u → IsDone told command t text → IsRejected told command u r → ⊥
@@ -177,6 +182,7 @@ done_not_rejected told (Checks p i report mode maps) t u text r same done reject
 done_not_rejected told (Demos number) t u text r same done rejected = absurd rejected
 done_not_rejected told (Joins p i most mode) t u text r same done rejected = absurd rejected
 done_not_rejected told (Replays p i start trace report) t u text r same done rejected = absurd rejected
+done_not_rejected told (Sources n i m) t u text r same done rejected = absurd rejected
 
 both_rejected : (told : Option Held) (command : CommandForm) (t u : Task) (r s : Rejection) → OneCase told command t u
     → IsRejected told command t r → IsRejected told command u s → r ≡ s
@@ -186,6 +192,7 @@ both_rejected told (Checks p i report mode maps) t u r s same h k = one_rejectio
 both_rejected told (Demos number) t u r s same h k = absurd h
 both_rejected told (Joins p i max mode) t u r s same h k = absurd h
 both_rejected told (Replays p i start trace report) t u r s same h k = absurd h
+both_rejected told (Sources n i max) t u r s same h k = absurd h
 
 stopped_not_rejected : (told : Option Held) (command : CommandForm) (t u : Task) (step : ℕ) (why : Why) (r : Rejection)
     → StopsIn told command t step why → IsRejected told command u r → ⊥
@@ -194,6 +201,7 @@ stopped_not_rejected told (Checks p i report mode maps) t u step why r stops rej
 stopped_not_rejected told (Demos number) t u step why r stops rejected = absurd rejected
 stopped_not_rejected told (Joins p i max mode) t u step why r stops rejected = absurd rejected
 stopped_not_rejected told (Replays p i start trace report) t u step why r stops rejected = absurd rejected
+stopped_not_rejected told (Sources n i m) t u step why r stops rejected = absurd rejected
 
 step_not_rejected : (told : Option Held) (command : CommandForm) (t u : Task) (Budget : ProgramForm → ℕ → StructureForm → Type 0)
     (r : Rejection) → OneCase told command t u → StepMeets told command t Budget → IsRejected told command u r → ⊥
@@ -204,6 +212,7 @@ step_not_rejected told (Checks p i report mode maps) t u Budget r same step reje
 step_not_rejected told (Demos number) t u Budget r same step rejected = absurd rejected
 step_not_rejected told (Joins p i most mode) t u Budget r same step rejected = absurd rejected
 step_not_rejected told (Replays p i start trace report) t u Budget r same step rejected = absurd rejected
+step_not_rejected told (Sources n i m) t u Budget r same step rejected = absurd rejected
 
 many_not_rejected : (told : Option Held) (command : CommandForm) (u : Task) (max : ℕ) (r : Rejection)
     → max_of command ≡ Some max → IsRejected told command u r → ⊥
@@ -212,6 +221,7 @@ many_not_rejected told (Checks p i report mode maps) u max r e rejected = absurd
 many_not_rejected told (Demos number) u max r e rejected = absurd rejected
 many_not_rejected told (Joins p i most mode) u max r e rejected = absurd rejected
 many_not_rejected told (Replays p i start trace report) u max r e rejected = absurd rejected
+many_not_rejected told (Sources n i m) u max r e rejected = absurd rejected
 
 many_not_done : (told : Option Held) (command : CommandForm) (t u : Task) (more : ℕ) → SameTask t u → CanBeDone told command t
     → max_of command ≡ Some more → HasMoreThan command u more → ⊥
@@ -220,6 +230,7 @@ many_not_done told (Checks p i report mode maps) t u more same can e many = absu
 many_not_done told (Demos number) t u more same can e many = few t u demo_max more same e can many
 many_not_done told (Joins p i max mode) t u more same can e many = few_rounds t u max more same e can many
 many_not_done told (Replays p i start trace report) t u more same can e many = absurd cc
+many_not_done told (Sources n i max) t u more same can e many = few t u max more same e can many
 
 step_not_done : (told : Option Held) (command : CommandForm) (t u : Task) (Budget : ProgramForm → ℕ → StructureForm → Type 0)
     → ((p : ProgramForm) (edge : ℕ) (s : StructureForm) → KeepsBudgets p edge s → ¬ Budget p edge s)
@@ -232,6 +243,7 @@ step_not_done told (Demos number) t u Budget keeping same case can step = kept t
 step_not_done told (Joins p i max mode) t u Budget keeping same case can step =
     kept_rounds t u max Budget keeping same can step
 step_not_done told (Replays p i start trace report) t u Budget keeping same case can step = absurd step
+step_not_done told (Sources n i max) t u Budget keeping same case can step = kept t u max Budget keeping same can step
 
 -- ---- each pair of an ending and one that is called for
 
@@ -395,6 +407,9 @@ module _
     there told (Joins p i max mode) h (inl lacks) = h.0 lacks
     there told (Joins p i max mode) h (inr (inl lacks)) = lacks.2 h.1
     there told (Joins p i max mode) h (inr (inr lacks)) = lacks.2
+    there told (Sources n i max) h (inl lacks) = lacks h.0
+    there told (Sources n i max) h (inr (inl lacks)) = lacks.2 h.1
+    there told (Sources n i max) h (inr (inr lacks)) = lacks.2
     there told (Replays p i start trace report) h (inl lacks) = h.0 lacks
     there told (Replays p i start trace report) h (inr (inl lacks)) = lacks.2 h.1
     there told (Replays p i start trace report) h (inr (inr lacks)) = there_later lacks.2

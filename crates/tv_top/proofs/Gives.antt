@@ -13,10 +13,10 @@ use Rattle.tv_status.specs.declared.status.FileKind.TheVariants as kind
 use Rattle.tv_struct.specs.StructureForm.{StructureForm}
 use Rattle.tv_texts.specs.Agreement.{Agree, GiveOne, SameProgram}
 use Rattle.tv_texts.specs.Files.{HoldsSuch, IsUngathered, IsProgramFile}
-use Rattle.tv_texts.specs.Meaning.{MeansProgram, MeansInitial, MeansReport, MeansStart, MeansMoves}
+use Rattle.tv_texts.specs.Meaning.{MeansProgram, MeansInitial, MeansReport, MeansStart, MeansMoves, MeansSource}
 use Rattle.tv_top.specs.Meaning.{GivesProgram, GivesInitial, GivesReport, IsTold, GivesStart, GivesTrace}
 use Rattle.tv_trace.specs.declared.trace.Trace.{Trace}
-use Rattle.tv_words.specs.Words.{CommandForm, Analyzes, Checks, Demos, Joins, Replays}
+use Rattle.tv_words.specs.Words.{CommandForm, Analyzes, Checks, Demos, Joins, Replays, Sources}
 
 -- what a file that is gathered gives: what its text means, or a fault of its includes
 abbrev FileView : Held → (name : List ℕ) → Result Program FileKind → Type 0
@@ -42,20 +42,22 @@ file_view held name (Err (kind.Structures e)) h = inl h
 file_view held name (Err (kind.ReportForm place)) h = inl h
 file_view held name (Err kind.NotHeap) h = inl h
 file_view held name (Err (kind.TraceForm place)) h = inl h
+file_view held name (Err (kind.Source e)) h = inl h
 
 -- a name holds one content
-one_held : {A : Type 0} (told : Option Held) (name : List ℕ) (Means Others : List ℕ → Result A FileKind → Type 0)
+one_held : {A : Type 0} (Same : A → A → Type 0) (told : Option Held) (name : List ℕ) (Means Others : List ℕ → Result A FileKind → Type 0)
     → IsSome told
-    → ((text : List ℕ) → GiveOne {A = A} ◌≡◌ (Means text) (Others text)) → (a b : Result A FileKind)
-    → HoldsSuch told name (λ text. Means text a) → HoldsSuch told name (λ text. Others text b) → Agree {A = A} ◌≡◌ a b
-one_held None name Means Others tells one a b h k = absurd (let e = tells in cc)
-one_held (Some held) name Means Others tells one a b h k =
+    → ((text : List ℕ) → GiveOne {A = A} Same (Means text) (Others text)) → (a b : Result A FileKind)
+    → HoldsSuch told name (λ text. Means text a) → HoldsSuch told name (λ text. Others text b) → Agree {A = A} Same a b
+one_held Same None name Means Others tells one a b h k = absurd (let e = tells in cc)
+one_held Same (Some held) name Means Others tells one a b h k =
     let both : Some k.0 ≡ Some h.0 = sym k.1 ∙ h.1 in
     let same : k.0 ≡ h.0 = cc in
     one h.0 a b h.2 (subst (λ text. Others text b) same k.2)
 
 module _
     (programs : (text : List ℕ) → GiveOne SameProgram (MeansProgram text) (MeansProgram text))
+    (sources : (text : List ℕ) → GiveOne SameProgram (MeansSource text) (MeansSource text))
     (initials : (p q : Program) → SameProgram p q → (text : List ℕ) → GiveOne ◌≡◌ (MeansInitial p text) (MeansInitial q text))
     (reports : (p q : Program) → SameProgram p q → (text : List ℕ) → GiveOne ◌≡◌ (MeansReport p text) (MeansReport q text))
   where
@@ -83,28 +85,33 @@ module _
     one_program told (Demos number) tells a b h k = programs (program_text number) a b h k
     one_program told (Joins program initial max mode) tells a b h k = one_file told program tells a b h k
     one_program told (Replays program initial start trace report) tells a b h k = one_file told program tells a b h k
+    one_program told (Sources source initial max) tells a b h k =
+        one_held SameProgram told source MeansSource MeansSource tells sources a b h k
 
     pub one_initial : (told : Option Held) (command : CommandForm) → IsTold told command → (p q : Program) → SameProgram p q
         → GiveOne {A = List StructureForm} ◌≡◌ (GivesInitial told command p) (GivesInitial told command q)
     one_initial told (Analyzes program initial max mode) tells p q same a b h k =
-        one_held told initial (MeansInitial p) (MeansInitial q) tells (initials p q same) a b h k
+        one_held ◌≡◌ told initial (MeansInitial p) (MeansInitial q) tells (initials p q same) a b h k
     one_initial told (Checks program initial report mode maps) tells p q same a b h k =
-        one_held told initial (MeansInitial p) (MeansInitial q) tells (initials p q same) a b h k
+        one_held ◌≡◌ told initial (MeansInitial p) (MeansInitial q) tells (initials p q same) a b h k
     one_initial told (Demos number) tells p q same a b h k = initials p q same lists_text a b h k
     one_initial told (Joins program initial max mode) tells p q same a b h k =
-        one_held told initial (MeansInitial p) (MeansInitial q) tells (initials p q same) a b h k
+        one_held ◌≡◌ told initial (MeansInitial p) (MeansInitial q) tells (initials p q same) a b h k
     one_initial told (Replays program initial start trace report) tells p q same a b h k =
-        one_held told initial (MeansInitial p) (MeansInitial q) tells (initials p q same) a b h k
+        one_held ◌≡◌ told initial (MeansInitial p) (MeansInitial q) tells (initials p q same) a b h k
+    one_initial told (Sources source initial max) tells p q same a b h k =
+        one_held ◌≡◌ told initial (MeansInitial p) (MeansInitial q) tells (initials p q same) a b h k
 
     pub one_report : (told : Option Held) (command : CommandForm) → IsTold told command → (p q : Program) → SameProgram p q
         → GiveOne {A = Analysis} ◌≡◌ (GivesReport told command p) (GivesReport told command q)
     one_report told (Analyzes program initial max mode) tells p q same a b h k = absurd h
     one_report told (Checks program initial report mode maps) tells p q same a b h k =
-        one_held told report (MeansReport p) (MeansReport q) tells (reports p q same) a b h k
+        one_held ◌≡◌ told report (MeansReport p) (MeansReport q) tells (reports p q same) a b h k
     one_report told (Demos number) tells p q same a b h k = absurd h
     one_report told (Joins program initial max mode) tells p q same a b h k = absurd h
     one_report told (Replays program initial start trace report) tells p q same a b h k =
-        one_held told report (MeansReport p) (MeansReport q) tells (reports p q same) a b h k
+        one_held ◌≡◌ told report (MeansReport p) (MeansReport q) tells (reports p q same) a b h k
+    one_report told (Sources source initial max) tells p q same a b h k = absurd h
 
 module _
     (starts : (p q : Program) → SameProgram p q → (text : List ℕ) → GiveOne ◌≡◌ (MeansStart p text) (MeansStart q text))
@@ -117,7 +124,8 @@ module _
     one_start told (Demos number) tells p q same a b h k = absurd h
     one_start told (Joins program initial max mode) tells p q same a b h k = absurd h
     one_start told (Replays program initial start trace report) tells p q same a b h k =
-        one_held told start (MeansStart p) (MeansStart q) tells (starts p q same) a b h k
+        one_held ◌≡◌ told start (MeansStart p) (MeansStart q) tells (starts p q same) a b h k
+    one_start told (Sources source initial max) tells p q same a b h k = absurd h
 
     pub one_trace : (told : Option Held) (command : CommandForm) → IsTold told command → (p q : Program) → SameProgram p q
         → GiveOne {A = Trace} ◌≡◌ (GivesTrace told command p) (GivesTrace told command q)
@@ -126,4 +134,5 @@ module _
     one_trace told (Demos number) tells p q same a b h k = absurd h
     one_trace told (Joins program initial max mode) tells p q same a b h k = absurd h
     one_trace told (Replays program initial start trace report) tells p q same a b h k =
-        one_held told trace (MeansMoves p) (MeansMoves q) tells (traces p q same) a b h k
+        one_held ◌≡◌ told trace (MeansMoves p) (MeansMoves q) tells (traces p q same) a b h k
+    one_trace told (Sources source initial max) tells p q same a b h k = absurd h

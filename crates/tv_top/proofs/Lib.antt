@@ -6,5 +6,6 @@ mod DemoSize
 mod Duly
 mod Endings
 mod Gives
+mod Sources
 mod Sums
 mod Tasks

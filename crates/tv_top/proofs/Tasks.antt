@@ -16,7 +16,7 @@ use Rattle.tv_texts.specs.Agreement.{Agree, GiveOne, SameProgram, placeless}
 use Rattle.tv_top.specs.Answers.{Reached, CanRun, IsRejected, StopsIn, case_for}
 use Rattle.tv_top.specs.Meaning.{Task, FilesMean, GivesProgram, GivesInitial, GivesStart, GivesTrace, GivesReport, HasRun, IsRefused, IsTold, mode_of}
 use Rattle.tv_trace.specs.declared.trace.Trace.{Trace}
-use Rattle.tv_words.specs.Words.{CommandForm, Analyzes, Checks, Demos, Joins, Replays}
+use Rattle.tv_words.specs.Words.{CommandForm, Analyzes, Checks, Demos, Joins, Replays, Sources}
 
 -- both tasks are one, wherever the parts of the program lie in memory
 pub record SameTask (t u : Task) : Type 0 where
@@ -33,6 +33,7 @@ HasReport told (Demos number) task = Unit {0}
 HasReport told (Joins program initial max mode) task = Unit {0}
 HasReport told (Replays program initial start trace report) task =
     CanRun told (Replays program initial start trace report) task
+HasReport told (Sources source initial max) task = Unit {0}
 
 pub same_case : (t u : Task) (a b : Analysis) → SameTask t u → a ≡ b → case_for t a ≡ case_for u b
 same_case t u a b same e = rw (same.program, same.initial, same.mode, e) refl
@@ -44,6 +45,7 @@ rejected_report told (Checks p i report mode maps) task r h = (h.0, h.1)
 rejected_report told (Demos number) task r h = absurd h
 rejected_report told (Joins p i max mode) task r h = absurd h
 rejected_report told (Replays p i start trace report) task r h = absurd h
+rejected_report told (Sources n i max) task r h = absurd h
 
 pub stopped_report : (told : Option Held) (command : CommandForm) (task : Task) (step : ℕ) (why : Why)
     → StopsIn told command task step why → HasReport told command task
@@ -52,6 +54,7 @@ stopped_report told (Checks p i report mode maps) task step why h = (h.2, h.3.gi
 stopped_report told (Demos number) task step why h = tt
 stopped_report told (Joins p i max mode) task step why h = tt
 stopped_report told (Replays p i start trace report) task step why h = (h.0, h.1, h.2, h.3)
+stopped_report told (Sources n i max) task step why h = tt
 
 module _ (told : Option Held) (command : CommandForm)
     (programs : GiveOne SameProgram (GivesProgram told command) (GivesProgram told command))
@@ -85,6 +88,7 @@ module _ (told : Option Held) (command : CommandForm)
     report_read (Joins p i max mode) t u k same one has refused = refused
     report_read (Replays p i start trace report) t u k same one has refused =
         one t.program u.program same (Ok has.2) (Err k) has.3.gives_report refused
+    report_read (Sources n i max) t u k same one has refused = refused
 
     -- nor is a heap that is read, or a trace
     start_read : (c : CommandForm) → (t u : Task) (k : FileKind) → SameProgram t.program u.program
@@ -96,6 +100,7 @@ module _ (told : Option Held) (command : CommandForm)
     start_read (Joins p i max mode) t u k same one has refused = refused
     start_read (Replays p i start trace report) t u k same one has refused =
         one t.program u.program same (Ok has.0) (Err k) has.3.gives_start refused
+    start_read (Sources n i max) t u k same one has refused = refused
 
     trace_read : (c : CommandForm) → (t u : Task) (k : FileKind) → SameProgram t.program u.program
         → ((p q : Program) → SameProgram p q → GiveOne {A = Trace} ◌≡◌ (GivesTrace told c p) (GivesTrace told c q))
@@ -106,6 +111,7 @@ module _ (told : Option Held) (command : CommandForm)
     trace_read (Joins p i max mode) t u k same one has refused = refused
     trace_read (Replays p i start trace report) t u k same one has refused =
         one t.program u.program same (Ok has.1) (Err k) has.3.gives_trace refused
+    trace_read (Sources n i max) t u k same one has refused = refused
 
     -- a heap that is read before the trace or the report isn't refused, nor is a trace that is read before the report
     run_start : (c : CommandForm) → (t u : Task) (k : FileKind) → SameProgram t.program u.program
@@ -117,6 +123,7 @@ module _ (told : Option Held) (command : CommandForm)
     run_start (Joins p i max mode) t u k same one run refused = refused
     run_start (Replays p i start trace report) t u k same one run refused =
         one t.program u.program same (Ok run.0) (Err k) run.1 refused
+    run_start (Sources n i max) t u k same one run refused = refused
 
     run_trace : (c : CommandForm) → (t u : Task) (k : FileKind) → SameProgram t.program u.program
         → ((p q : Program) → SameProgram p q → GiveOne {A = Trace} ◌≡◌ (GivesTrace told c p) (GivesTrace told c q))
@@ -127,11 +134,13 @@ module _ (told : Option Held) (command : CommandForm)
     run_trace (Joins p i max mode) t u k same one run refused = refused
     run_trace (Replays p i start trace report) t u k same one run refused =
         one t.program u.program same (Ok run.2.0) (Err k) run.2.1 refused
+    run_trace (Sources n i max) t u k same one run refused = refused
 
     -- files that mean a task aren't refused
     pub not_refused : (t : Task) (r : Role) (k : FileKind) → FilesMean told command t → HasReport told command t
         → IsRefused told command r k → ⊥
-    not_refused t role.Program k h has refused = programs (Ok t.program) (Err k) h.program refused
+    not_refused t role.Program k h has refused = programs (Ok t.program) (Err k) h.program refused.1
+    not_refused t role.Source k h has refused = programs (Ok t.program) (Err k) h.program refused.1
     not_refused t role.Initial k h has refused =
         let same : SameProgram t.program refused.0 = programs (Ok t.program) (Ok refused.0) h.program refused.1 in
         initials t.program refused.0 same (Ok t.initial) (Err k) h.initial refused.2
@@ -148,12 +157,20 @@ module _ (told : Option Held) (command : CommandForm)
     -- files are refused for one reason
     pub one_refusal : (r s : Role) (k l : FileKind) → IsRefused told command r k → IsRefused told command s l
         → (r ≡ s) × (placeless k ≡ placeless l)
-    one_refusal role.Program role.Program k l h j = (refl, programs (Err k) (Err l) h j)
-    one_refusal role.Program role.Initial k l h j = absurd (programs (Err k) (Ok j.0) h j.1)
-    one_refusal role.Program role.Start k l h j = absurd (programs (Err k) (Ok j.0.program) h j.1.program)
-    one_refusal role.Program role.Trace k l h j = absurd (programs (Err k) (Ok j.0.program) h j.1.program)
-    one_refusal role.Program role.Report k l h j = absurd (programs (Err k) (Ok j.0.program) h j.1.program)
-    one_refusal role.Initial role.Program k l h j = absurd (programs (Ok h.0) (Err l) h.1 j)
+    one_refusal role.Program role.Program k l h j = (refl, programs (Err k) (Err l) h.1 j.1)
+    one_refusal role.Program role.Initial k l h j = absurd (programs (Err k) (Ok j.0) h.1 j.1)
+    one_refusal role.Program role.Start k l h j = absurd (programs (Err k) (Ok j.0.program) h.1 j.1.program)
+    one_refusal role.Program role.Trace k l h j = absurd (programs (Err k) (Ok j.0.program) h.1 j.1.program)
+    one_refusal role.Program role.Report k l h j = absurd (programs (Err k) (Ok j.0.program) h.1 j.1.program)
+    one_refusal role.Source role.Initial k l h j = absurd (programs (Err k) (Ok j.0) h.1 j.1)
+    one_refusal role.Source role.Start k l h j = absurd (programs (Err k) (Ok j.0.program) h.1 j.1.program)
+    one_refusal role.Source role.Trace k l h j = absurd (programs (Err k) (Ok j.0.program) h.1 j.1.program)
+    one_refusal role.Source role.Report k l h j = absurd (programs (Err k) (Ok j.0.program) h.1 j.1.program)
+    one_refusal role.Source role.Source k l h j = (refl, programs (Err k) (Err l) h.1 j.1)
+    one_refusal role.Source role.Program k l h j = absurd (let e = sym h.0 ∙ j.0 in cc)
+    one_refusal role.Program role.Source k l h j = absurd (let e = sym h.0 ∙ j.0 in cc)
+    one_refusal role.Initial role.Program k l h j = absurd (programs (Ok h.0) (Err l) h.1 j.1)
+    one_refusal role.Initial role.Source k l h j = absurd (programs (Ok h.0) (Err l) h.1 j.1)
     one_refusal role.Initial role.Initial k l h j =
         let same : SameProgram h.0 j.0 = programs (Ok h.0) (Ok j.0) h.1 j.1 in
         (refl, initials h.0 j.0 same (Err k) (Err l) h.2 j.2)
@@ -166,7 +183,8 @@ module _ (told : Option Held) (command : CommandForm)
     one_refusal role.Initial role.Report k l h j =
         let same : SameProgram h.0 j.0.program = programs (Ok h.0) (Ok j.0.program) h.1 j.1.program in
         absurd (initials h.0 j.0.program same (Err k) (Ok j.0.initial) h.2 j.1.initial)
-    one_refusal role.Start role.Program k l h j = absurd (programs (Ok h.0.program) (Err l) h.1.program j)
+    one_refusal role.Start role.Program k l h j = absurd (programs (Ok h.0.program) (Err l) h.1.program j.1)
+    one_refusal role.Start role.Source k l h j = absurd (programs (Ok h.0.program) (Err l) h.1.program j.1)
     one_refusal role.Start role.Initial k l h j =
         let same : SameProgram h.0.program j.0 = programs (Ok h.0.program) (Ok j.0) h.1.program j.1 in
         absurd (initials h.0.program j.0 same (Ok h.0.initial) (Err l) h.1.initial j.2)
@@ -179,7 +197,8 @@ module _ (told : Option Held) (command : CommandForm)
     one_refusal role.Start role.Report k l h j =
         let same = one_task j.0 h.0 j.1 h.1 in
         absurd (run_start command j.0 h.0 k same.program starts j.2 h.2)
-    one_refusal role.Trace role.Program k l h j = absurd (programs (Ok h.0.program) (Err l) h.1.program j)
+    one_refusal role.Trace role.Program k l h j = absurd (programs (Ok h.0.program) (Err l) h.1.program j.1)
+    one_refusal role.Trace role.Source k l h j = absurd (programs (Ok h.0.program) (Err l) h.1.program j.1)
     one_refusal role.Trace role.Initial k l h j =
         let same : SameProgram h.0.program j.0 = programs (Ok h.0.program) (Ok j.0) h.1.program j.1 in
         absurd (initials h.0.program j.0 same (Ok h.0.initial) (Err l) h.1.initial j.2)
@@ -192,7 +211,8 @@ module _ (told : Option Held) (command : CommandForm)
     one_refusal role.Trace role.Report k l h j =
         let same = one_task j.0 h.0 j.1 h.1 in
         absurd (run_trace command j.0 h.0 k same.program traces j.2 h.3)
-    one_refusal role.Report role.Program k l h j = absurd (programs (Ok h.0.program) (Err l) h.1.program j)
+    one_refusal role.Report role.Program k l h j = absurd (programs (Ok h.0.program) (Err l) h.1.program j.1)
+    one_refusal role.Report role.Source k l h j = absurd (programs (Ok h.0.program) (Err l) h.1.program j.1)
     one_refusal role.Report role.Initial k l h j =
         let same : SameProgram h.0.program j.0 = programs (Ok h.0.program) (Ok j.0) h.1.program j.1 in
         absurd (initials h.0.program j.0 same (Ok h.0.initial) (Err l) h.1.initial j.2)

@@ -4,6 +4,7 @@ use Rattle.tv_judge.specs.Judged.{Case, IsClosedReport, KeepsAllBudgets, IsRejec
 use Rattle.tv_judge.specs.Verdicts.{case_of}
 use Rattle.tv_join.specs.Joined.{IsJoined}
 use Rattle.tv_join.specs.Rounds.{IsInRound}
+use Rattle.tv_lex.specs.Token.{SpecToken}
 use Rattle.tv_listing.specs.Listed.{IsListing}
 use Rattle.tv_listing.specs.declared.analysis.Analysis.{Analysis}
 use Rattle.tv_listing.specs.declared.analysis.MapLine.{MapLine}
@@ -14,9 +15,15 @@ use Rattle.tv_model.specs.Valid.{IsValid}
 use Rattle.tv_model.specs.declared.program.Program.{Program}
 use Rattle.tv_outside.specs.Told.{Held}
 use Rattle.tv_report.specs.Text.{report_text}
+use Rattle.tv_source.specs.Forms.{SourceForm}
+use Rattle.tv_source_meaning.specs.Compiled.{compiled}
+use Rattle.tv_source_names.specs.Outcome.{MeansSource}
+use Rattle.tv_source_sound.specs.Covers.{CoversSource}
 use Rattle.tv_status.specs.declared.status.Status.{Status}
 use Rattle.tv_status.specs.declared.status.Status.TheVariants.{Done, Rejected, Stuck}
 use Rattle.tv_struct.specs.StructureForm.{StructureForm}
+use Rattle.tv_texts.specs.Files.{HoldsSuch}
+use Rattle.tv_texts.specs.Meaning.{HasTokens}
 use Rattle.tv_top.specs.Meaning.{Task, FilesMean, GivesReport, GivesStart, GivesTrace}
 use Rattle.tv_transfer.specs.Closed.{IsClosed, CoversRuns}
 use Rattle.tv_replayed.specs.Runs.{ShowsGivenRun, ShowsRecomputedRun}
@@ -26,7 +33,7 @@ use Rattle.tv_replayed.specs.declared.state.State.{State}
 use Rattle.tv_replayed.specs.declared.state.Why.{Why}
 use Rattle.tv_states.specs.Text.{states_text, stuck_line}
 use Rattle.tv_trace.specs.declared.trace.Trace.{Trace}
-use Rattle.tv_words.specs.Words.{CommandForm, Analyzes, Checks, Demos, Joins, Replays}
+use Rattle.tv_words.specs.Words.{CommandForm, Analyzes, Checks, Demos, Joins, Replays, Sources}
 use Rattle.tv_work.specs.Analysed.{IsAnalysis, KeepAllBudgets, Meets}
 use Rattle.tv_work.specs.Reach.{Point, IsReached, AreMoreThan}
 
@@ -150,6 +157,22 @@ abbrev pub CanRun : Option Held → CommandForm → Task → Type 0
 CanRun told command task = (start : StructureForm) × (trace : Trace) × (report : Analysis)
     × RunMeans told command task.program start trace report
 
+-- ---- what is found of a source program
+
+-- the tokens mean a source program, which the task's program is compiled from; what is listed covers its runs: the
+-- heap of each state embeds in a structure listed at the node of its position, and a dereference whose message has
+-- no line meets no null
+pub record IsSourceSound (task : Task) (a : Analysis) (ts : List SpecToken) : Type 0 where
+  pub source : SourceForm
+  pub meant : MeansSource ts source
+  pub is : program_of task.program ≡ compiled source
+  pub covers : CoversSource source task.initial a.listing a.messages
+
+-- the file's text is such a program
+abbrev pub CoversSourceFile : Option Held → (source : List ℕ) → Task → Analysis → Type 0
+CoversSourceFile told source task a =
+    HoldsSuch told source (λ text. HasTokens text (λ tokens ts. IsSourceSound task a ts))
+
 -- ---- the answers of a command
 
 -- the text is what the command gives where its job is done
@@ -165,6 +188,8 @@ IsDone told (Joins program initial max mode) task text =
     (a : Analysis) × IsJoinFound task max a × (text ≡ report_text task.program a)
 IsDone told (Replays program initial start trace report) task text =
     IsReplayed told (Replays program initial start trace report) task text
+IsDone told (Sources source initial max) task text = (a : Analysis) × IsFound task max a
+    × CoversSourceFile told source task a × (text ≡ report_text task.program a)
 
 -- in `check`: the report isn't closed, and this is the first demand that it doesn't meet
 abbrev pub IsRejected : Option Held → CommandForm → Task → Rejection → Type 0
@@ -175,6 +200,7 @@ IsRejected told (Checks program initial report mode maps) task r =
 IsRejected told (Demos number) task r = ⊥
 IsRejected told (Joins program initial max mode) task r = ⊥
 IsRejected told (Replays program initial start trace report) task r = ⊥
+IsRejected told (Sources source initial max) task r = ⊥
 
 -- the command ends in this status with this text, as what its files mean calls for
 abbrev pub IsAnswer : Option Held → CommandForm → Status → List ℕ → Type 0
@@ -194,6 +220,7 @@ max_of (Checks program initial report mode maps) = None
 max_of (Demos number) = Some demo_max
 max_of (Joins program initial max mode) = Some max
 max_of (Replays program initial start trace report) = None
+max_of (Sources source initial max) = Some max
 
 -- there are more structures than this: those that are reached; or in `join`, those that some round lists
 abbrev pub HasMoreThan : CommandForm → Task → (max : ℕ) → Type 0
@@ -202,6 +229,7 @@ HasMoreThan (Checks program initial report mode maps) task most = ⊥
 HasMoreThan (Demos number) task most = AreMoreThan most (Reached task)
 HasMoreThan (Joins program initial max mode) task most = (round : ℕ) × AreMoreThan most (InRound task round)
 HasMoreThan (Replays program initial start trace report) task most = ⊥
+HasMoreThan (Sources source initial max) task most = AreMoreThan most (Reached task)
 
 -- there are more structures than may be listed
 abbrev pub ReachesTooMuch : Option Held → CommandForm → (max : ℕ) → Type 0
@@ -221,6 +249,8 @@ StepMeets told (Demos number) task Budget =
 StepMeets told (Joins program initial max mode) task Budget =
     (round : ℕ) × Meets (program_of task.program) (Budget (program_of task.program)) (InRound task round)
 StepMeets told (Replays program initial start trace report) task Budget = ⊥
+StepMeets told (Sources source initial max) task Budget =
+    Meets (program_of task.program) (Budget (program_of task.program)) (Reached task)
 
 abbrev pub MeetsBudget : Option Held → CommandForm → (ProgramForm → ℕ → StructureForm → Type 0) → Type 0
 MeetsBudget told command Budget = (task : Task) × FilesMean told command task
@@ -246,3 +276,4 @@ CanBeDone told (Demos number) task = KeepsLimits task demo_max
 CanBeDone told (Joins program initial max mode) task = KeepsRoundLimits task max
 CanBeDone told (Replays program initial start trace report) task =
     CanRun told (Replays program initial start trace report) task
+CanBeDone told (Sources source initial max) task = KeepsLimits task max

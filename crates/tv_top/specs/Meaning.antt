@@ -11,10 +11,10 @@ use Rattle.tv_status.specs.declared.status.FileKind.{FileKind}
 use Rattle.tv_status.specs.declared.status.Role.{Role}
 use Rattle.tv_status.specs.declared.status.Role.TheVariants as role
 use Rattle.tv_struct.specs.StructureForm.{StructureForm}
-use Rattle.tv_texts.specs.Files.{IsProgramFile, LacksFile, IsInitialFile, IsStartFile, IsTraceFile, IsReportFile}
+use Rattle.tv_texts.specs.Files.{IsProgramFile, LacksFile, IsInitialFile, IsStartFile, IsTraceFile, IsReportFile, IsSourceFile}
 use Rattle.tv_texts.specs.Meaning.{MeansProgram, MeansInitial}
 use Rattle.tv_trace.specs.declared.trace.Trace.{Trace}
-use Rattle.tv_words.specs.Words.{CommandForm, Analyzes, Checks, Demos, Joins, Replays, Spells}
+use Rattle.tv_words.specs.Words.{CommandForm, Analyzes, Checks, Demos, Joins, Replays, Sources, Spells}
 
 -- the words spell such a command
 abbrev pub Commands : List (List ℕ) → (CommandForm → Type 0) → Type 0
@@ -22,13 +22,14 @@ Commands words IsSuch = (command : CommandForm) × Spells words command × IsSuc
 
 -- ---- the files of a command
 
--- PROGRAM means this program, or is refused so; a demo makes its text itself
+-- PROGRAM means this program, or is refused so; a demo makes its text itself, and SOURCE is compiled
 abbrev pub GivesProgram : Option Held → CommandForm → Result Program FileKind → Type 0
 GivesProgram told (Analyzes program initial max mode) answer = IsProgramFile told program answer
 GivesProgram told (Checks program initial report mode maps) answer = IsProgramFile told program answer
 GivesProgram told (Demos number) answer = MeansProgram (program_text number) answer
 GivesProgram told (Joins program initial max mode) answer = IsProgramFile told program answer
 GivesProgram told (Replays program initial start trace report) answer = IsProgramFile told program answer
+GivesProgram told (Sources source initial max) answer = IsSourceFile told source answer
 
 -- INITIAL means these structures over the program's vocabulary, or is refused so
 abbrev pub GivesInitial : Option Held → CommandForm → Program → Result (List StructureForm) FileKind → Type 0
@@ -39,6 +40,7 @@ GivesInitial told (Demos number) meant answer = MeansInitial meant lists_text an
 GivesInitial told (Joins program initial max mode) meant answer = IsInitialFile told initial meant answer
 GivesInitial told (Replays program initial start trace report) meant answer =
     IsInitialFile told initial meant answer
+GivesInitial told (Sources source initial max) meant answer = IsInitialFile told initial meant answer
 
 -- START, which `replay` alone has, means this heap over the program's vocabulary, or is refused so
 abbrev pub GivesStart : Option Held → CommandForm → Program → Result StructureForm FileKind → Type 0
@@ -47,6 +49,7 @@ GivesStart told (Checks program initial report mode maps) meant answer = ⊥
 GivesStart told (Demos number) meant answer = ⊥
 GivesStart told (Joins program initial max mode) meant answer = ⊥
 GivesStart told (Replays program initial start trace report) meant answer = IsStartFile told start meant answer
+GivesStart told (Sources source initial max) meant answer = ⊥
 
 -- TRACE, which `replay` alone has, is this trace on the program, or is refused so
 abbrev pub GivesTrace : Option Held → CommandForm → Program → Result Trace FileKind → Type 0
@@ -55,6 +58,7 @@ GivesTrace told (Checks program initial report mode maps) meant answer = ⊥
 GivesTrace told (Demos number) meant answer = ⊥
 GivesTrace told (Joins program initial max mode) meant answer = ⊥
 GivesTrace told (Replays program initial start trace report) meant answer = IsTraceFile told trace meant answer
+GivesTrace told (Sources source initial max) meant answer = ⊥
 
 -- REPORT, which `check` and `replay` have, is this report on the program, or is refused so
 abbrev pub GivesReport : Option Held → CommandForm → Program → Result Analysis FileKind → Type 0
@@ -64,6 +68,7 @@ GivesReport told (Checks program initial report mode maps) meant answer =
 GivesReport told (Demos number) meant answer = ⊥
 GivesReport told (Joins program initial max mode) meant answer = ⊥
 GivesReport told (Replays program initial start trace report) meant answer = IsReportFile told report meant answer
+GivesReport told (Sources source initial max) meant answer = ⊥
 
 abbrev pub mode_of : CommandForm → Mode
 mode_of (Analyzes program initial max mode) = mode
@@ -71,6 +76,7 @@ mode_of (Checks program initial report mode maps) = mode
 mode_of (Demos number) = Given
 mode_of (Joins program initial max mode) = mode
 mode_of (Replays program initial start trace report) = Given
+mode_of (Sources source initial max) = Given
 
 -- what a command works on
 pub record Task : Type 0 where
@@ -93,10 +99,23 @@ HasRun told (Joins program initial max mode) meant = Unit {0}
 HasRun told (Replays program initial start trace report) meant =
     (s : StructureForm) × IsStartFile told start meant (Ok s)
     × ((t : Trace) × IsTraceFile told trace meant (Ok t))
+HasRun told (Sources source initial max) meant = Unit {0}
+
+-- the file that the program comes from
+abbrev pub program_role : CommandForm → Role
+program_role (Analyzes program initial max mode) = role.Program
+program_role (Checks program initial report mode maps) = role.Program
+program_role (Demos number) = role.Program
+program_role (Joins program initial max mode) = role.Program
+program_role (Replays program initial start trace report) = role.Program
+program_role (Sources source initial max) = role.Source
 
 -- the file of this role is the first that means nothing, for this reason
 abbrev pub IsRefused : Option Held → CommandForm → Role → FileKind → Type 0
-IsRefused told command role.Program kind = GivesProgram told command (Err kind)
+IsRefused told command role.Program kind = (program_role command ≡ role.Program)
+    × GivesProgram told command (Err kind)
+IsRefused told command role.Source kind = (program_role command ≡ role.Source)
+    × GivesProgram told command (Err kind)
 IsRefused told command role.Initial kind =
     (program : Program) × GivesProgram told command (Ok program)
     × GivesInitial told command program (Err kind)
@@ -116,6 +135,7 @@ LacksProgram told (Checks program initial report mode maps) = LacksFile told pro
 LacksProgram told (Demos number) = ⊥
 LacksProgram told (Joins program initial max mode) = LacksFile told program
 LacksProgram told (Replays program initial start trace report) = LacksFile told program
+LacksProgram told (Sources source initial max) = ¬ HoldsName told source
 
 abbrev pub LacksInitial : Option Held → CommandForm → Type 0
 LacksInitial told (Analyzes program initial max mode) = ¬ HoldsName told initial
@@ -123,6 +143,7 @@ LacksInitial told (Checks program initial report mode maps) = ¬ HoldsName told 
 LacksInitial told (Demos number) = ⊥
 LacksInitial told (Joins program initial max mode) = ¬ HoldsName told initial
 LacksInitial told (Replays program initial start trace report) = ¬ HoldsName told initial
+LacksInitial told (Sources source initial max) = ¬ HoldsName told initial
 
 -- the first of the files behind INITIAL that means nothing isn't there
 abbrev pub LacksLater : Option Held → CommandForm → Program → Type 0
@@ -133,6 +154,7 @@ LacksLater told (Joins program initial max mode) meant = ⊥
 LacksLater told (Replays program initial start trace report) meant = (¬ HoldsName told start)
     ⊎ ((((s : StructureForm) × IsStartFile told start meant (Ok s)) × (¬ HoldsName told trace))
     ⊎ (HasRun told (Replays program initial start trace report) meant × (¬ HoldsName told report)))
+LacksLater told (Sources source initial max) meant = ⊥
 
 -- the first file that means nothing isn't there: an operand, or a file that PROGRAM includes and that is come
 -- to before any refusal
@@ -151,6 +173,7 @@ HoldsFiles told (Demos number) = Unit {0}
 HoldsFiles told (Joins program initial max mode) = (¬ LacksFile told program) × HoldsName told initial
 HoldsFiles told (Replays program initial start trace report) = (¬ LacksFile told program)
     × HoldsName told initial × HoldsName told start × HoldsName told trace × HoldsName told report
+HoldsFiles told (Sources source initial max) = HoldsName told source × HoldsName told initial
 
 -- it is told what the files of the command hold; a demo has none
 abbrev pub IsTold : Option Held → CommandForm → Type 0
@@ -159,3 +182,4 @@ IsTold told (Checks program initial report mode maps) = IsSome told
 IsTold told (Demos number) = Unit {0}
 IsTold told (Joins program initial max mode) = IsSome told
 IsTold told (Replays program initial start trace report) = IsSome told
+IsTold told (Sources source initial max) = IsSome told

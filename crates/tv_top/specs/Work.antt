@@ -18,7 +18,7 @@ use Rattle.tv_replayed.specs.Stuck.{IsStuck}
 use Rattle.tv_replayed.specs.declared.state.State.{State}
 use Rattle.tv_states.specs.Text.{states_text, stuck_line}
 use Rattle.tv_trace.specs.declared.trace.Trace.{Trace}
-use Rattle.tv_words.specs.Words.{CommandForm, Analyzes, Checks, Demos, Joins, Replays}
+use Rattle.tv_words.specs.Words.{CommandForm, Analyzes, Checks, Demos, Joins, Replays, Sources}
 use Rattle.tv_work.specs.Analysed.{Meets}
 use Rattle.tv_work.specs.Reach.{AreMoreThan}
 
@@ -29,6 +29,7 @@ Names (Checks program initial report mode maps) p i = (program ≡ p) × (initia
 Names (Demos number) p i = ⊥
 Names (Joins program initial max mode) p i = (program ≡ p) × (initial ≡ i)
 Names (Replays program initial start trace report) p i = (program ≡ p) × (initial ≡ i)
+Names (Sources source initial max) p i = ⊥
 
 -- the numbers of a command are within their limits
 abbrev pub IsBounded : CommandForm → Type 0
@@ -37,6 +38,7 @@ IsBounded (Checks program initial report mode maps) = Unit {0}
 IsBounded (Demos number) = (1 ≤ number) × (number ≤ 16)
 IsBounded (Joins program initial max mode) = max ≤ 100000
 IsBounded (Replays program initial start trace report) = Unit {0}
+IsBounded (Sources source initial max) = max ≤ 100000
 
 abbrev pub task_of : Inputs → Mode → Task
 task_of inputs mode = record { program = inputs.program; initial = inputs.initial; mode = mode }

@@ -23,9 +23,10 @@ use tv_words::one_command;
 
 /// Does all that the program does: `words` are the words after its name.
 ///
-/// The work is done in this order: the words are read; PROGRAM is gathered and understood; INITIAL is read
-/// and understood; for `replay` START and TRACE are, for `check` and `replay` REPORT; the analysis, the judgement or
-/// the replay runs; its text is given to `out` whole. The first fault ends the call, and its text is given to `err`.
+/// The work is done in this order: the words are read; PROGRAM is gathered and understood, or SOURCE is read
+/// and compiled; INITIAL is read and understood; for `replay` START and TRACE are, for `check` and `replay` REPORT;
+/// the analysis, the judgement or the replay runs; its text is given to `out` whole. The first fault ends the call,
+/// and its text is given to `err`.
 pub fn tvla<F: Files, O: Sink, E: Sink>(
     alloc: Global,
     words: &[String],

@@ -8,17 +8,18 @@ ghost use Rattle.tv_top.specs.Call.{IsAnswerTo, IsCause, IsCommandCause};
 ghost use Rattle.tv_top.specs.Delivery.{SaidOf};
 ghost use Rattle.tv_top.specs.Meaning.{FilesMean};
 ghost use Rattle.tv_top.specs.Work.{IsBounded, IsReady, UnlessReadFault, task_of};
-ghost use Rattle.tv_words.specs.Words.{words_of, SpellsNothing, Analyzes, Checks, Demos, Joins, Replays, form_of};
+ghost use Rattle.tv_words.specs.Words.{words_of, SpellsNothing, Analyzes, Checks, Demos, Joins, Replays, Sources, form_of};
 
 use crate::answers::{demo_line, judgement, replayed, search, search_joined};
 use crate::fault::{Answer, Fault};
-use crate::inputs::{Inputs, load_inputs};
+use crate::inputs::{Inputs, load_inputs, load_source_inputs};
 use crate::laws::commands_are_bounded;
 use std::alloc::Global;
 use tv_demo::demo_texts;
 use tv_model::Mode;
 use tv_outside::Files;
 use tv_report::write_report;
+use tv_source_sound::covered_runs_cover_sources;
 use tv_texts::{initial_in, load_report, load_start, load_trace, program_in};
 use tv_words::{Command, read_words};
 
@@ -159,6 +160,32 @@ fn run<F: Files>(
     replayed(alloc, &inputs, &start, &trace, &reported)
 }
 
+/// The report of what is reached from the first of the named files, as a source program, and the second.
+#[tactic(auto, using(crate::proofs::Causes::holds_unless))]
+fn source<F: Files>(
+    alloc: Global,
+    files: &mut F,
+    source: &str,
+    initial: &str,
+    max: u64,
+) -> Result<Answer, Fault>
+    requires { max ≤ 100000 }
+    ensures found { IfOk result (SaidOf (IsAnswer (F.holds files.old)
+        (Sources source.now initial.now max))) }
+    ensures cause { IfErr result (IsCommandCause (F.holds files.old)
+        (Sources source.now initial.now max)
+        (Rose (F.faults files.old) (F.faults files.new)) (F.steady files.old)) }
+    ensures holds { F.holds files.new ≡ F.holds files.old }
+    ensures count { F.faults files.old ≤ F.faults files.new }
+    ensures steady { F.steady files.old → UnlessReadFault result (F.faults files.new ≡ F.faults files.old) }
+{
+    covered_runs_cover_sources();
+    let inputs = load_source_inputs(alloc, files, source, initial)?;
+    let found = search(alloc, &inputs, Mode::Given, max)?;
+    let text = write_report(alloc, &inputs.program, &found)?;
+    Ok(Answer::Done(text))
+}
+
 /// What the command gives.
 #[tactic(auto, using(crate::proofs::Causes::demo_cause, crate::proofs::Causes::holds_unless))]
 fn execute<F: Files>(alloc: Global, files: &mut F, command: &Command) -> Result<Answer, Fault>
@@ -198,6 +225,11 @@ fn execute<F: Files>(alloc: Global, files: &mut F, command: &Command) -> Result<
             trace,
             report,
         } => run(alloc, files, program, initial, start, trace, report),
+        Command::Source {
+            source: text,
+            initial,
+            max,
+        } => source(alloc, files, text, initial, *max),
     }
 }
 

@@ -8,7 +8,7 @@ use Rattle.tv_model.specs.declared.program.Mode.TheVariants.{Given, Recompute}
 use Rattle.clap.specs.declared.parser.matches.ArgMatches.{ArgMatches}
 use Rattle.tv_words.specs.Line.{Part, IsLine, is_among, operands_of, uses_of, values_of}
 use Rattle.tv_words.specs.Setup.{are_names, HasLine, HasNoLine, texts_in, uses_in}
-use Rattle.tv_words.specs.Words.{AnalyzeLine, CheckLine, DemoLine, JoinLine, ReplayLine, IsMax, IsNumberUpTo, recomputes, once, analyze_flags, analyze_settings, check_flags, join_flags, join_settings, CommandForm, Analyzes, Checks, Demos, Joins, Replays, name_of, IsRest, IsNamed, NoneNamed, Spells, SpellsNothing, form_of}
+use Rattle.tv_words.specs.Words.{AnalyzeLine, CheckLine, DemoLine, JoinLine, ReplayLine, SourceLine, IsMax, IsNumberUpTo, recomputes, once, analyze_flags, analyze_settings, check_flags, join_flags, join_settings, source_settings, CommandForm, Analyzes, Checks, Demos, Joins, Replays, Sources, name_of, IsRest, IsNamed, NoneNamed, Spells, SpellsNothing, form_of}
 use Rattle.tv_words.specs.declared.words.Command.{Command}
 use Rattle.tv_words.proofs.Reading.{one_line}
 
@@ -42,6 +42,7 @@ none_analyzes words none (Demos number) h = let n = ap first_byte h.0 in absurd 
 none_analyzes words none (Joins program initial max mode) h = let n = ap first_byte h.0 in absurd (omega (arith, n))
 none_analyzes words none (Replays program initial start trace report) h =
     let n = ap first_byte h.0 in absurd (omega (arith, n))
+none_analyzes words none (Sources source initial max) h = let n = ap first_byte h.0 in absurd (omega (arith, n))
 
 pub none_checks : (words : List (List ℕ))
     → ((program initial report : List ℕ) (mode : Mode) (maps : Bool) → ¬ CheckLine words program initial report mode maps)
@@ -52,6 +53,7 @@ none_checks words none (Demos number) h = let n = ap first_byte h.0 in absurd (o
 none_checks words none (Joins program initial max mode) h = let n = ap first_byte h.0 in absurd (omega (arith, n))
 none_checks words none (Replays program initial start trace report) h =
     let n = ap first_byte h.0 in absurd (omega (arith, n))
+none_checks words none (Sources source initial max) h = let n = ap first_byte h.0 in absurd (omega (arith, n))
 
 pub none_demos : (words : List (List ℕ)) → ((number : ℕ) → ¬ DemoLine words number) → NoneNamed (codes "demo") words
 none_demos words none (Analyzes program initial max mode) h = let n = ap first_byte h.0 in absurd (omega (arith, n))
@@ -60,6 +62,7 @@ none_demos words none (Demos number) h = none number h.1
 none_demos words none (Joins program initial max mode) h = let n = ap first_byte h.0 in absurd (omega (arith, n))
 none_demos words none (Replays program initial start trace report) h =
     let n = ap first_byte h.0 in absurd (omega (arith, n))
+none_demos words none (Sources source initial max) h = let n = ap first_byte h.0 in absurd (omega (arith, n))
 
 pub none_joins : (words : List (List ℕ))
     → ((program initial : List ℕ) (max : ℕ) (mode : Mode) → ¬ JoinLine words program initial max mode)
@@ -70,6 +73,7 @@ none_joins words none (Demos number) h = let n = ap first_byte h.0 in absurd (om
 none_joins words none (Joins program initial max mode) h = none program initial max mode h.1
 none_joins words none (Replays program initial start trace report) h =
     let n = ap first_byte h.0 in absurd (omega (arith, n))
+none_joins words none (Sources source initial max) h = let n = ap first_byte h.0 in absurd (omega (arith, n))
 
 pub none_replays : (words : List (List ℕ))
     → ((program initial start trace report : List ℕ) → ¬ ReplayLine words program initial start trace report)
@@ -83,6 +87,18 @@ none_replays words none (Demos number) h =
 none_replays words none (Joins program initial max mode) h =
     let n = ap first_byte h.0 in absurd (omega (arith, n))
 none_replays words none (Replays program initial start trace report) h = none program initial start trace report h.1
+none_replays words none (Sources source initial max) h = let n = ap first_byte h.0 in absurd (omega (arith, n))
+
+pub none_sources : (words : List (List ℕ))
+    → ((source initial : List ℕ) (max : ℕ) → ¬ SourceLine words source initial max)
+    → NoneNamed (codes "source") words
+none_sources words none (Analyzes program initial max mode) h = let n = ap first_byte h.0 in absurd (omega (arith, n))
+none_sources words none (Checks program initial report mode maps) h = let n = ap first_byte h.0 in absurd (omega (arith, n))
+none_sources words none (Demos number) h = let n = ap first_byte h.0 in absurd (omega (arith, n))
+none_sources words none (Joins program initial max mode) h = let n = ap first_byte h.0 in absurd (omega (arith, n))
+none_sources words none (Replays program initial start trace report) h =
+    let n = ap first_byte h.0 in absurd (omega (arith, n))
+none_sources words none (Sources source initial max) h = none source initial max h.1
 
 -- ---- a line, of which `clap` found all
 
@@ -275,6 +291,34 @@ module _ (words : List (List ℕ)) (m : ArgMatches) (h : HasLine [] [] words m) 
 pub no_replay_without_line : (words : List (List ℕ)) → HasNoLine [] [] words → NoneNamed (codes "replay") words
 no_replay_without_line words none = none_replays words (λ program initial start trace report a. none a.parts a.behind a.line)
 
+-- ---- `source`
+
+module _ (words : List (List ℕ)) (m : ArgMatches) (h : HasLine [] source_settings words m) where
+  pub sourcing : (source initial a b : List ℕ) (max : ℕ) → texts_in m (codes "operands") ≡ a ∷ b ∷ []
+      → source ≡ a → initial ≡ b → IsMax (texts_in m (codes "max-structures")) max
+      → SourceLine words source initial max
+  sourcing source initial a b max operands is_a is_b values = record {
+    parts = h.parts;
+    behind = h.behind;
+    line = h.line;
+    operands = sym h.finds.operands ∙ operands ∙ ap₂ (λ s i. s ∷ i ∷ []) (sym is_a) (sym is_b);
+    max_is = subst (λ vs. IsMax vs max) (h.finds.values (codes "max-structures") refl) values;
+  }
+
+  pub no_source_by_operands : ((a b : List ℕ) → texts_in m (codes "operands") ≡ a ∷ b ∷ [] → ⊥)
+      → NoneNamed (codes "source") words
+  no_source_by_operands other = none_sources words (λ source initial max a. other source initial
+      (same_operands [] source_settings refl words m h a.parts a.behind a.line ∙ a.operands))
+
+  pub no_source_by_values : ((n : ℕ) → IsMax (texts_in m (codes "max-structures")) n → ⊥)
+      → NoneNamed (codes "source") words
+  no_source_by_values other = none_sources words (λ source initial max a. other max
+      (subst (λ vs. IsMax vs max)
+      (same_values [] source_settings refl words m h (codes "max-structures") refl a.parts a.behind a.line) a.max_is))
+
+pub no_source_without_line : (words : List (List ℕ)) → HasNoLine [] source_settings words → NoneNamed (codes "source") words
+no_source_without_line words none = none_sources words (λ source initial max a. none a.parts a.behind a.line)
+
 -- ---- the whole words
 
 -- what is said of the command behind its name is said of the whole words
@@ -413,6 +457,35 @@ one_rest words (Replays program initial start trace report) (Checks program' ini
 one_rest words (Replays program initial start trace report) (Demos number') named a b =
     let n = ap first_byte named in absurd (omega (arith, n))
 one_rest words (Replays program initial start trace report) (Joins program' initial' max' mode') named a b =
+    let n = ap first_byte named in absurd (omega (arith, n))
+one_rest words (Analyzes program initial max mode) (Sources source' initial' max') named a b =
+    let n = ap first_byte named in absurd (omega (arith, n))
+one_rest words (Checks program initial report mode maps) (Sources source' initial' max') named a b =
+    let n = ap first_byte named in absurd (omega (arith, n))
+one_rest words (Demos number) (Sources source' initial' max') named a b =
+    let n = ap first_byte named in absurd (omega (arith, n))
+one_rest words (Joins program initial max mode) (Sources source' initial' max') named a b =
+    let n = ap first_byte named in absurd (omega (arith, n))
+one_rest words (Replays program initial start trace report) (Sources source' initial' max') named a b =
+    let n = ap first_byte named in absurd (omega (arith, n))
+one_rest words (Sources source initial max) (Sources source' initial' max') named a b =
+    let same = one_line [] source_settings refl words a.parts b.parts a.behind b.behind a.line b.line in
+    let names : source ∷ initial ∷ [] ≡ source' ∷ initial' ∷ [] = sym a.operands
+    ∙ ap₂ (λ ps bs. operands_of ps ++ bs) same.0 same.1 ∙ b.operands in
+    let first : source ≡ source' = ap (λ ws. slice_index_or ws 0 []) names in
+    let second : initial ≡ initial' = ap (λ ws. slice_index_or ws 1 []) names in
+    let maxes : max ≡ max' = one_max (values_of (codes "max-structures") b.parts) max max'
+    (subst (λ ps. IsMax (values_of (codes "max-structures") ps) max) same.0 a.max_is) b.max_is in
+    λ i. Sources (first i) (second i) (maxes i)
+one_rest words (Sources source initial max) (Analyzes program' initial' max' mode') named a b =
+    let n = ap first_byte named in absurd (omega (arith, n))
+one_rest words (Sources source initial max) (Checks program' initial' report' mode' maps') named a b =
+    let n = ap first_byte named in absurd (omega (arith, n))
+one_rest words (Sources source initial max) (Demos number') named a b =
+    let n = ap first_byte named in absurd (omega (arith, n))
+one_rest words (Sources source initial max) (Joins program' initial' max' mode') named a b =
+    let n = ap first_byte named in absurd (omega (arith, n))
+one_rest words (Sources source initial max) (Replays program' initial' start' trace' report') named a b =
     let n = ap first_byte named in absurd (omega (arith, n))
 
 pub one_spelled : (words : List (List ℕ)) (a b : CommandForm) → Spells words a → Spells words b → a ≡ b

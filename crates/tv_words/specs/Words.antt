@@ -5,7 +5,7 @@ use Rattle.tv_model.specs.declared.program.Mode.{Mode}
 use Rattle.tv_model.specs.declared.program.Mode.TheVariants.{Given, Recompute}
 use Rattle.tv_words.specs.Line.{Part, IsLine, operands_of, uses_of, values_of}
 use Rattle.tv_words.specs.declared.words.Command.{Command}
-use Rattle.tv_words.specs.declared.words.Command.TheVariants.{Analyze, Check, Demo, Join, Replay}
+use Rattle.tv_words.specs.declared.words.Command.TheVariants.{Analyze, Check, Demo, Join, Replay, Source}
 
 -- the bytes of the words
 abbrev pub words_of : List (String Global) → List (List ℕ)
@@ -47,6 +47,10 @@ join_flags = codes "recompute" ∷ []
 
 abbrev pub join_settings : List (List ℕ)
 join_settings = codes "max-structures" ∷ []
+
+-- those of `source`
+abbrev pub source_settings : List (List ℕ)
+source_settings = codes "max-structures" ∷ []
 
 -- what the words behind `analyze` say: two operands, at most one `--recompute` and one `--max-structures`
 pub record AnalyzeLine (words : List (List ℕ)) (program initial : List ℕ) (max : ℕ) (mode : Mode) :
@@ -93,6 +97,14 @@ pub record ReplayLine (words : List (List ℕ)) (program initial start trace rep
   pub line : IsLine [] [] parts behind words
   pub operands : operands_of parts ++ behind ≡ program ∷ initial ∷ start ∷ trace ∷ report ∷ []
 
+-- what the words behind `source` say: two operands, and at most one `--max-structures`
+pub record SourceLine (words : List (List ℕ)) (source initial : List ℕ) (max : ℕ) : Type 0 where
+  pub parts : List Part
+  pub behind : List (List ℕ)
+  pub line : IsLine [] source_settings parts behind words
+  pub operands : operands_of parts ++ behind ≡ source ∷ initial ∷ []
+  pub max_is : IsMax (values_of (codes "max-structures") parts) max
+
 -- a command, its files named by bytes
 pub data CommandForm : Type 0 where
   Analyzes : (program initial : List ℕ) → (max : ℕ) → (mode : Mode) → CommandForm
@@ -100,6 +112,7 @@ pub data CommandForm : Type 0 where
   Demos : (number : ℕ) → CommandForm
   Joins : (program initial : List ℕ) → (max : ℕ) → (mode : Mode) → CommandForm
   Replays : (program initial start trace report : List ℕ) → CommandForm
+  Sources : (source initial : List ℕ) → (max : ℕ) → CommandForm
 
 abbrev pub form_of : Command → CommandForm
 form_of (Analyze program initial max mode) = Analyzes (string_bytes program) (string_bytes initial) max mode
@@ -109,6 +122,7 @@ form_of (Demo number) = Demos number
 form_of (Join program initial max mode) = Joins (string_bytes program) (string_bytes initial) max mode
 form_of (Replay program initial start trace report) = Replays (string_bytes program) (string_bytes initial)
     (string_bytes start) (string_bytes trace) (string_bytes report)
+form_of (Source source initial max) = Sources (string_bytes source) (string_bytes initial) max
 
 -- this is said of the command
 abbrev pub SaidOf : (CommandForm → Type 0) → Command → Type 0
@@ -121,6 +135,7 @@ name_of (Checks program initial report mode maps) = codes "check"
 name_of (Demos number) = codes "demo"
 name_of (Joins program initial max mode) = codes "join"
 name_of (Replays program initial start trace report) = codes "replay"
+name_of (Sources source initial max) = codes "source"
 
 -- the words behind the first say the rest of the command
 abbrev pub IsRest : List (List ℕ) → CommandForm → Type 0
@@ -130,6 +145,7 @@ IsRest words (Demos number) = DemoLine words number
 IsRest words (Joins program initial max mode) = JoinLine words program initial max mode
 IsRest words (Replays program initial start trace report) =
     ReplayLine words program initial start trace report
+IsRest words (Sources source initial max) = SourceLine words source initial max
 
 -- the words behind this name say this command, which has the name
 abbrev pub IsNamed : (name : List ℕ) → List (List ℕ) → CommandForm → Type 0

@@ -3,7 +3,7 @@
 ghost use Rattle.std.specs.Prelude.{◌≡◌, ℕ, List, IsTrue, false, codes, IfOk, []};
 ghost use Rattle.clap.specs.Words.{app_of, rule_of};
 ghost use Rattle.tv_words.specs.Setup.{bare_app, line_app, operand_rule, flag_rule, setting_rule, is_fit, told_texts, texts_in, Reads};
-ghost use Rattle.tv_words.specs.Words.{words_of, analyze_flags, analyze_settings, check_flags, join_flags, join_settings};
+ghost use Rattle.tv_words.specs.Words.{words_of, analyze_flags, analyze_settings, check_flags, join_flags, join_settings, source_settings};
 
 use clap::error::ErrorKind;
 use clap::{Arg, ArgAction, ArgMatches, Command};
@@ -90,6 +90,14 @@ pub fn replay_line<'a>(alloc: Global) -> Result<Command<'a>, AllocError>
     ensures { IfOk result (λ c. app_of c ≡ line_app (codes "replay") [] []) }
 {
     bare_line(alloc, "replay").arg(operands(alloc))
+}
+
+/// The line of `source`.
+pub fn source_line<'a>(alloc: Global) -> Result<Command<'a>, AllocError>
+    ensures { IfOk result (λ c. app_of c ≡ line_app (codes "source") [] source_settings) }
+{
+    let max = setting(alloc, "max-structures");
+    bare_line(alloc, "source").arg(operands(alloc))?.arg(max)
 }
 
 /// What stands on the words behind a command's name, and none exactly where they are no line of the command.

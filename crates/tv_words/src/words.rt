@@ -3,7 +3,9 @@
 ghost use Rattle.std.specs.Prelude.{IfOk, IfSome, IfNone, codes};
 ghost use Rattle.tv_words.specs.Words.{words_of, IsNamed, NoneNamed, Spells, SpellsNothing, SaidOf};
 
-use crate::line::{analyze_line, check_line, demo_line, join_line, read_line, replay_line, texts};
+use crate::line::{
+    analyze_line, check_line, demo_line, join_line, read_line, replay_line, source_line, texts,
+};
 use crate::values::{GREATEST_DEMO, five, max_of, mode_of, number_up_to, one, stands, three, two};
 use std::alloc::{AllocError, Global};
 use tv_model::Mode;
@@ -45,6 +47,13 @@ pub enum Command {
         start: String,
         trace: String,
         report: String,
+    },
+    /// Lists the structures that a program of the pointer language reaches from initial structures, at most
+    /// `max` of them.
+    Source {
+        source: String,
+        initial: String,
+        max: u64,
     },
 }
 
@@ -161,6 +170,27 @@ fn read_replay(alloc: Global, words: &[String]) -> Result<Option<Command>, Alloc
     }))
 }
 
+/// The command that the words behind `source` say.
+fn read_source(alloc: Global, words: &[String]) -> Result<Option<Command>, AllocError>
+    ensures some { IfOk result (λ found. IfSome found (SaidOf (IsNamed (codes "source") (words_of words.now)))) }
+    ensures none { IfOk result (λ found. IfNone found (NoneNamed (codes "source") (words_of words.now))) }
+{
+    let Some(line) = read_line(source_line(alloc)?, words)? else {
+        return Ok(None);
+    };
+    let Some((source, initial)) = two(texts(&line, "operands")) else {
+        return Ok(None);
+    };
+    let Some(max) = max_of(texts(&line, "max-structures")) else {
+        return Ok(None);
+    };
+    Ok(Some(Command::Source {
+        source: String::from_str(alloc, source)?,
+        initial: String::from_str(alloc, initial)?,
+        max,
+    }))
+}
+
 /// The command that the words spell, and none exactly where they spell none.
 ///
 /// # Errors
@@ -178,6 +208,7 @@ pub fn read_words(alloc: Global, words: &[String]) -> Result<Option<Command>, Al
         "demo" => read_demo(alloc, behind),
         "join" => read_join(alloc, behind),
         "replay" => read_replay(alloc, behind),
+        "source" => read_source(alloc, behind),
         _ => Ok(None),
     }
 }

@@ -1,5 +1,5 @@
 use Rattle.std.proofs.Common.{sym, refl}
-use Rattle.tv_texts.proofs.OneMeaning.{one_program, one_initial, one_start, one_moves, one_report}
+use Rattle.tv_texts.proofs.OneMeaning.{one_program, one_initial, one_start, one_moves, one_report, one_source}
 use Rattle.tv_texts.proofs.Vocabularies.{initial_also, start_also, trace_text_also, report_text_also}
 use Rattle.tv_texts.proofs.laws.one_meaning_each.Goals as goal
 
@@ -14,4 +14,5 @@ returns c = record {
       (trace_text_also p q same text b k);
   report = λ p q same text a b h k. one_report c.one_meaning-2.ensures c.one_reading.ensures p text a b h
       (report_text_also p q same text b k);
+  source = one_source c.one_meaning-4.ensures c.one_refusal-2.ensures c.one_reading.ensures;
 }

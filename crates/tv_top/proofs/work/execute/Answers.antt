@@ -30,3 +30,7 @@ returns-in-Replay-clause-cause g c =
       ← c.deref-in-Replay-4.ensures,
       ← c.deref-in-Replay-5.ensures,
     ) c.run.ensures.cause
+
+pub returns-in-Source-clause-cause : goal.returns-in-Source-clause-cause
+returns-in-Source-clause-cause g c =
+    rw (c.in-Source.is, ← c.deref-in-Source.ensures, ← c.deref-in-Source-2.ensures) c.source.ensures.cause

@@ -82,3 +82,19 @@ returns-in-replay-clause-none c =
     (sym c.as_str.ensures.value ∙ c.in-replay.is) in
     named_unspelled (codes "replay") (words_of c.args.words.now) (words_of c.in-Some.behind.now) c.read_replay.result whole
     c.read_replay.ensures.none
+
+pub returns-in-source-clause-some : goal.returns-in-source-clause-some
+returns-in-source-clause-some c =
+    let whole : words_of c.args.words.now ≡ codes "source" ∷ words_of c.in-Some.behind.now =
+    ap words_of c.in-Some.ensures.cases.0 ∙ ap (λ n. n ∷ words_of c.in-Some.behind.now)
+    (sym c.as_str.ensures.value ∙ c.in-source.is) in
+    named_spelled (codes "source") (words_of c.args.words.now) (words_of c.in-Some.behind.now) c.read_source.result whole
+    c.read_source.ensures.some
+
+pub returns-in-source-clause-none : goal.returns-in-source-clause-none
+returns-in-source-clause-none c =
+    let whole : words_of c.args.words.now ≡ codes "source" ∷ words_of c.in-Some.behind.now =
+    ap words_of c.in-Some.ensures.cases.0 ∙ ap (λ n. n ∷ words_of c.in-Some.behind.now)
+    (sym c.as_str.ensures.value ∙ c.in-source.is) in
+    named_unspelled (codes "source") (words_of c.args.words.now) (words_of c.in-Some.behind.now) c.read_source.result whole
+    c.read_source.ensures.none
