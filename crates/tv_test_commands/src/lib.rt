@@ -7,3 +7,5 @@ mod call;
 mod join;
 #[cfg(test)]
 mod replay;
+#[cfg(test)]
+mod source;

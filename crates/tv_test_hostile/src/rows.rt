@@ -335,6 +335,7 @@ const USAGE: Ending<'static, 'static> = Ending {
        tvla check PROGRAM INITIAL REPORT [--recompute] [--maps]
        tvla demo NUMBER
        tvla replay PROGRAM INITIAL START TRACE REPORT
+       tvla source SOURCE INITIAL [--max-structures N]
        tvla join PROGRAM INITIAL [--max-structures N] [--recompute]
 ",
 };

@@ -9,6 +9,7 @@ use tv_listing::Rejection;
 use tv_names::ResolveError;
 use tv_outside::MemSink;
 use tv_parse::ParseError;
+use tv_plang::SourceError;
 use tv_replayed::Why;
 use tv_status::{FileKind, Role, Status, write_status};
 use tv_tvs::TvsError;
@@ -17,11 +18,12 @@ const USAGE: &str = "usage: tvla analyze PROGRAM INITIAL [--max-structures N] [-
        tvla check PROGRAM INITIAL REPORT [--recompute] [--maps]
        tvla demo NUMBER
        tvla replay PROGRAM INITIAL START TRACE REPORT
+       tvla source SOURCE INITIAL [--max-structures N]
        tvla join PROGRAM INITIAL [--max-structures N] [--recompute]
 ";
 
 /// Faults of files and their texts.
-const FAULTS: [(Role, FileKind, &str); 16] = [
+const FAULTS: [(Role, FileKind, &str); 19] = [
     (
         Role::Program,
         FileKind::Program(ProgramFault::Parsing(ParseError::Syntax(Place { line: 1, column: 1 }))),
@@ -99,6 +101,21 @@ const FAULTS: [(Role, FileKind, &str); 16] = [
             column: 7,
         }),
         "tvla: trace: TraceForm at 12:7\n",
+    ),
+    (
+        Role::Source,
+        FileKind::Source(SourceError::Syntax(Place { line: 2, column: 7 })),
+        "tvla: source: Syntax at 2:7\n",
+    ),
+    (
+        Role::Source,
+        FileKind::Source(SourceError::TooMany),
+        "tvla: source: TooMany\n",
+    ),
+    (
+        Role::Source,
+        FileKind::Source(SourceError::NameUnknown),
+        "tvla: source: NameUnknown\n",
     ),
 ];
 

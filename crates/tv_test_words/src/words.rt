@@ -139,6 +139,22 @@ static REPLAYS: [(&str, &str); 8] = [
     ("replay a b c d e --max-structures 2", "none"),
 ];
 
+static SOURCES: [(&str, &str); 13] = [
+    ("source", "none"),
+    ("source a", "none"),
+    ("source a b", "source a b 5000"),
+    ("source a b c", "none"),
+    ("Source a b", "none"),
+    ("sources a b", "none"),
+    ("source --max-structures 3 a b", "source a b 3"),
+    ("source a --max-structures=100000 b", "source a b 100000"),
+    ("source a b --max-structures 0", "none"),
+    ("source a b --max-structures 2 --max-structures=2", "none"),
+    ("source a b --recompute", "none"),
+    ("source a b --delta", "none"),
+    ("source -- --a b", "source --a b 5000"),
+];
+
 static NUMBERS: [(&str, &str); 15] = [
     ("demo", "none"),
     ("demo 0", "none"),
@@ -211,6 +227,13 @@ fn shown(alloc: Global, command: &Option<Command>) -> Result<String, AllocError>
             },
         ) => format!(in alloc; "replay {program} {initial} {start} {trace} {report}"),
         Some(
+            Command::Source {
+                source,
+                initial,
+                max,
+            },
+        ) => format!(in alloc; "source {source} {initial} {max}"),
+        Some(
             Command::Join {
                 program,
                 initial,
@@ -233,6 +256,7 @@ fn words_by_example(rt: HostRuntime) -> Result<(), Fail> {
         .iter()
         .chain(JOINS.iter())
         .chain(REPLAYS.iter())
+        .chain(SOURCES.iter())
         .chain(NUMBERS.iter())
     {
         assert!(rt; compare(rt.alloc(), line, want)?, "at {line}");
