@@ -160,8 +160,8 @@ impl FileKind {
             FileKind::Program(ProgramFault::Parsing(ParseError::Syntax(place)))
             | FileKind::Structures(TvsError::Syntax(place))
             | FileKind::ReportForm(place)
-            | FileKind::TraceForm(place)
-            | FileKind::Source(SourceError::Syntax(place)) => Some(place),
+            | FileKind::Source(SourceError::Syntax(place))
+            | FileKind::TraceForm(place) => Some(place),
             _ => None,
         }
     }
