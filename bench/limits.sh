@@ -275,6 +275,35 @@ def _(count):
     return replay(program + TAIL, start, "step 0 " * count)
 
 
+def source(text, initial=EMPTY):
+    return ["source", "p", "i"], text, initial
+
+
+@row("source: 4 MiB of statements", MIB4)
+def _(size):
+    return source(fill(size, lambda n: "x=x ", "vars {x} fields {n} "))
+
+
+@row("source: 4,095 statements, as many as are taken", 4_095)
+def _(count):
+    return source("vars {x} fields {n} " + "x=x " * count)
+
+
+@row("source: 4 MiB of loops that are empty", MIB4)
+def _(size):
+    return source(fill(size, lambda n: "while(*){}", "vars {x} fields {n} "))
+
+
+@row("source: 4 MiB of names, the last one twice", MIB4)
+def _(size):
+    return source(fill(size, lambda n: f"x{n},", "vars {", "x0} fields {n} x0 = null"))
+
+
+@row("source: 4 MiB of braces that are open", MIB4)
+def _(size):
+    return source(fill(size, lambda n: "{", "vars {x} fields {n} "))
+
+
 def run(words, texts, folder):
     for name, text in zip("pirst", texts):
         with open(f"{folder}/{name}", "w") as file:
