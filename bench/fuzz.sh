@@ -1,8 +1,8 @@
 #!/usr/bin/env bash
-# bench/fuzz.sh MINUTES [OTHER]: changes tokens and bytes of the examples' programs, structures and reports, and runs the
-# built program on them for so many minutes. It stops at a signal, a status that the program hasn't, ten seconds of
-# processor time or two gigabytes, tells the words and keeps the texts. With OTHER, a program with the same words, it also
-# stops where status or texts differ, unless both end at a limit or one ends for want of memory.
+# bench/fuzz.sh MINUTES [OTHER]: changes tokens and bytes of the texts of examples, and runs the built program on them
+# for so many minutes, with each command that it has but `demo`. It stops at a signal, a status that the program hasn't,
+# ten seconds of processor time or two gigabytes, tells the words and keeps the texts. With OTHER, a program with the
+# same words, it also stops where status or texts differ, unless both end at a limit or one ends for want of memory.
 # SEED=N begins elsewhere; GO_ON=1 goes on behind what it finds.
 set -u
 cd "$(dirname "$0")/.." || exit 1
@@ -18,7 +18,7 @@ TOKEN = re.compile(rb'"[^"\n]*"|%%|%[A-Za-z]+|1/2|\w+|==>|<->|->|==|!=|/\*.*?\*/
 EXTRA = rb"""%p %i %r %s %new %retain %f %t %message %action %% foreach in E A TC 0 1 1/2 ( ) { } [ ] , : + - * = ! & | ?
 ==> <-> -> == != "x" " /* */ // # isNew sm unique function invfunction transitive reflexive symmetric abs nonabs box pointer
 node structures map initial edge to end message tvla report 2 4294967295 4294967296 65536 256 257 00 v v_1 v_2 L1
-L2""".split() + [b"\0", b"\xff"]
+L2 step free vars fields while if else null""".split() + [b"\0", b"\xff"]
 
 
 def read(name):
@@ -32,14 +32,32 @@ def whole(name):
     return re.sub(rb'(?m)^\s*#\s*include\s*"([^"\n]*)"\s*$', put, read(name))
 
 
-cases = []
+def shown(command):
+    """The texts of each call of the command that the examples tell of, in the order of its words."""
+    for told in sorted(glob.glob("examples/*/README.md")):
+        for line in re.findall(rf"\./tvla {command} ([^\n`]*)", read(told).decode()):
+            names = [word for word in line.split() if os.path.exists(word)]
+            yield [(whole if name.endswith(".tvp") else read)(name) for name in names]
+
+
+cases = collections.defaultdict(list)
 for program in sorted(glob.glob("examples/*/program.tvp") + glob.glob("examples/*.tvp")):
     folder = os.path.dirname(program)
     initial, report = program[:-3] + "tvs", folder + "/report"
     initial = folder + "/initial.tvs" if program.endswith("program.tvp") else initial
     if os.path.exists(initial):
-        cases.append([whole(program), read(initial), read(report) if os.path.exists(report) else b"tvla report 2 end"])
-pool = EXTRA * 5 + [t for case in cases for text in case for t in set(TOKEN.findall(text)) if t.strip()]
+        texts = [whole(program), read(initial)]
+        cases["analyze"].append(texts)
+        cases["join"].append(texts)
+        cases["check"].append([*texts, read(report) if os.path.exists(report) else b"tvla report 2 end"])
+for command in ("replay", "source"):
+    cases[command] = list(shown(command))
+known = [text for of_command in cases.values() for case in of_command for text in case]
+pool = EXTRA * 5 + [t for text in known for t in set(TOKEN.findall(text)) if t.strip()]
+# The names of the files of a command's texts, in the order of its words; which texts are changed, and how often each.
+FILES = {"analyze": "pi", "join": "pi", "check": "pir", "replay": "pistr", "source": "pi"}
+CHANGED = {"check": [[0], [0], [1], [2], [0, 1]], "replay": [[0], [1], [2], [2], [3], [3], [4], [2, 3]]}
+OFTEN = {"analyze": 3, "check": 4, "join": 1, "replay": 2, "source": 2}
 
 
 def changed_tokens(rng, text):
@@ -139,25 +157,35 @@ def differ(mine, theirs):
 os.nice(19)
 own, other = os.path.abspath(own), other and os.path.abspath(other)
 folder = tempfile.mkdtemp(prefix="fuzz-")
+usage = run(own, [], folder)[2].decode()
+has_delta = "--delta" in usage
+commands = [name for name, often in OFTEN.items() if f"tvla {name} " in usage and cases[name] for _ in range(often)]
 began, n, found, slowest, largest = time.time(), int(seed), 0, 0, 0
-statuses = collections.Counter()
+statuses, calls = collections.Counter(), collections.Counter()
 kept = None
 while time.time() - began < 60 * float(minutes):
     n += 1
     rng = random.Random(n)
-    texts = list(rng.choice(cases))
+    command = rng.choice(commands)
+    texts = list(rng.choice(cases[command]))
     if rng.random() < 0.15:
-        texts[rng.randrange(3)] = rng.choice(cases)[rng.randrange(3)]
-    checks = rng.random() < 0.4
-    for which in rng.choice([[0], [0], [1], [2], [0, 1]]) if checks else rng.choice([[0], [0], [0], [1], [0, 1]]):
+        which = rng.randrange(len(texts))
+        texts[which] = rng.choice(cases[command])[which] if rng.random() < 0.8 else rng.choice(known)
+    for which in rng.choice(CHANGED.get(command, [[0], [0], [0], [1], [0, 1]])):
         texts[which] = rng.choice([changed_kin] * 6 + [changed_tokens] * 3 + [changed_bytes])(rng, texts[which])
-    for name, text in zip("pir", texts):
+    for name, text in zip(FILES[command], texts):
         with open(f"{folder}/{name}", "wb") as file:
             file.write(text)
-    words = ["check", "p", "i", "r"] if checks else ["analyze", "p", "i", "--max-structures", rng.choice(["1", "20", "200"])]
-    words += ["--recompute"] * (rng.random() < 0.3) + ["--maps"] * (checks and rng.random() < 0.3)
+    words = [command, *FILES[command]]
+    if command in ("analyze", "join", "source"):
+        words += ["--max-structures", rng.choice(["1", "20", "200"])]
+    if command in ("analyze", "check", "join"):
+        words += rng.choice([[], [], ["--recompute"], ["--delta"] if has_delta and command != "join" else []])
+    if command == "check" and rng.random() < 0.3:
+        words.append("--maps")
     mine = run(own, words, folder)
     statuses[mine[0]] += 1
+    calls[command] += 1
     slowest, largest = max(slowest, mine[3]), max(largest, mine[4])
     why = None
     if mine[3] > SECONDS or mine[0] == -signal.SIGXCPU:
@@ -180,7 +208,7 @@ while time.time() - began < 60 * float(minutes):
         if not go_on or found >= 50:
             break
 shutil.rmtree(folder)
-print(f"{sum(statuses.values())} calls, {found} found; by status: {dict(sorted(statuses.items()))}; "
+print(f"{calls.total()} calls, {found} found; {dict(calls)}; by status: {dict(sorted(statuses.items()))}; "
       f"slowest {slowest:.1f} s, largest {largest // 1000} MB")
 sys.exit(1 if found else 0)
 END
