@@ -1,9 +1,10 @@
 #!/usr/bin/env bash
-# bench/refuse.sh [flip] [check] [list] [join]: refused memory. The built program analyzes the flip and a list, checks the
-# flip's report and joins the list, with the first growth refused, then with the second, and so on until none is: each call
-# has to end for want of memory or as it does with enough, with the texts of that. STEP=N tries every Nth growth alone. A
-# growth that is refused where words, files or sinks of the operating system are asked may also end as a faulty command
-# line, a read fault or a write fault. A C compiler makes the library that refuses ($CC, or cc).
+# bench/refuse.sh [flip] [check] [demo] [list] [join] [maps]: refused memory. The built program analyzes the flip and a
+# list, makes up a program and joins the list, and checks the reports of the flip and of the list, with the first growth
+# refused, then with the second, and so on until none is: each call has to end for want of memory or as it does with
+# enough, with the texts of that. STEP=N tries every Nth growth alone. A growth that is refused where words, files or
+# sinks of the operating system are asked may also end as a faulty command line, a read fault or a write fault. A C
+# compiler makes the library that refuses ($CC, or cc).
 set -u
 cd "$(dirname "$0")/.." || exit 1
 own="${TVLA:-$PWD/crates/tvla/out/tvla}"
@@ -65,7 +66,8 @@ bad = 0
 with open(folder + "/report", "wb") as file:
     file.write(run(["analyze", *flip])[0][1])
 for name, words in [("flip", ["analyze", *flip]), ("check", ["check", *flip, folder + "/report"]),
-                    ("list", ["analyze", *list_]), ("join", ["join", *list_])]:
+                    ("demo", ["demo", "2"]), ("list", ["analyze", *list_]), ("join", ["join", *list_]),
+                    ("maps", ["check", *list_, "examples/list_traverse/report", "--maps"])]:
     if wanted and name not in wanted:
         continue
     whole, _ = run(words)
