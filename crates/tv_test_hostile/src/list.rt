@@ -234,10 +234,16 @@ pub fn list_report(alloc: Global) -> Result<String, AllocError> {
     joined(alloc, &GUARDED_REPORT)
 }
 
-const INCLUDED: [(&str, &str); 3] = [
+/// What the program includes; and a list of two cells, with a run that goes twice around the guarded loop.
+const INCLUDED: [(&str, &str); 5] = [
     ("preds.tvp", PREDICATES),
     ("actions.tvp", ACTIONS),
     ("message.tvp", MESSAGE),
+    (
+        "s",
+        "%n = {a, b} %p = { x = {a} n = {a->b} t[n] = {a->a, a->b, b->b} r[n,x] = {a, b} }",
+    ),
+    ("t", "step 0 step 1 step 2 step 1 step 2 step 3"),
 ];
 
 /// The same without the message.
@@ -303,101 +309,40 @@ fn lists_are_traversed(rt: HostRuntime) -> Result<(), Fail> {
     Ok(())
 }
 
-/// A list of two cells, and a run that goes twice around the guarded loop.
-const REPLAYED: [(&str, &str); 5] = [
-    ("preds.tvp", PREDICATES),
-    ("actions.tvp", ACTIONS),
-    ("message.tvp", MESSAGE),
-    (
-        "s",
-        "%n = {a, b} %p = { x = {a} n = {a->b} t[n] = {a->a, a->b, b->b} r[n,x] = {a, b} }",
-    ),
-    ("t", "step 0 step 1 step 2 step 1 step 2 step 3"),
+/// What a replay of the run writes.
+const STATES: [&str; 8] = [
+    "state 0 node L1 size 2\nconcrete ok\ninitial 0 {0, 1}\nrules ok\nlisted 0 {1, 0}\n",
+    "state 1 node L2 size 2\nupdates ok\nrules ok\nlisted 3 {1, 0}\n",
+    "state 2 node L3 size 2\nupdates ok\nrules ok\nlisted 1 {1, 0}\n",
+    "state 3 node L2 size 2\nupdates ok\nrules ok\nlisted 1 {1, 0}\n",
+    "state 4 node L3 size 2\nupdates ok\nrules ok\nlisted 0 {1, 0}\n",
+    "state 5 node L2 size 2\nupdates ok\nrules ok\nlisted 0 {1, 0}\n",
+    "state 6 node L4 size 2\nupdates ok\nrules ok\nlisted 0 {1, 0}\n",
+    "end\n",
 ];
 
-const STATES: &str = "state 0 node L1 size 2
-concrete ok
-initial 0 {0, 1}
-rules ok
-listed 0 {1, 0}
-state 1 node L2 size 2
-updates ok
-rules ok
-listed 3 {1, 0}
-state 2 node L3 size 2
-updates ok
-rules ok
-listed 1 {1, 0}
-state 3 node L2 size 2
-updates ok
-rules ok
-listed 1 {1, 0}
-state 4 node L3 size 2
-updates ok
-rules ok
-listed 0 {1, 0}
-state 5 node L2 size 2
-updates ok
-rules ok
-listed 0 {1, 0}
-state 6 node L4 size 2
-updates ok
-rules ok
-listed 0 {1, 0}
-end
-";
-
-/// The ending of a call on the guarded loop and its report, which is to write this.
-fn wrong_ending(
-    alloc: Global,
-    words: &[&str],
-    more: &'static [(&'static str, &'static str)],
-    out: &str,
-) -> Result<Option<&'static str>, AllocError> {
+/// Whether a call on the guarded loop and its report writes this.
+fn writes(alloc: Global, words: &[&str], out: &[&str]) -> Result<bool, AllocError> {
     let report = list_report(alloc)?;
     let call = Call {
         words,
-        program: GUARDED,
-        initial: LIST,
         report: report.as_str(),
-        more,
+        ..LIST_CALL
     };
-    let wanted = Ending {
-        code: 0,
-        out,
-        err: "",
-    };
-    wrong_part(alloc, &call, &CALM, &wanted)
+    Ok(wrong_traversal(alloc, &call, out)?.is_none())
 }
 
 #[test]
 fn traversals_are_accepted_and_replayed(rt: HostRuntime) -> Result<(), Fail> {
-    assert_eq!(rt;
-        wrong_ending(
-            rt.alloc(),
-            &["check", "p", "i", "r"],
-            &INCLUDED,
-            "accepted\n"
-        )?,
-        None
-    );
-    assert_eq!(rt;
-        wrong_ending(
-            rt.alloc(),
-            &["check", "p", "i", "r", "--recompute"],
-            &INCLUDED,
-            "accepted\n"
-        )?,
-        None
-    );
-    assert_eq!(rt;
-        wrong_ending(
-            rt.alloc(),
-            &["replay", "p", "i", "s", "t", "r"],
-            &REPLAYED,
-            STATES
-        )?,
-        None
+    for words in [
+        &["check", "p", "i", "r"][..],
+        &["check", "p", "i", "r", "--recompute"],
+    ] {
+        assert!(rt; writes(rt.alloc(), words, &["accepted\n"])?, "{words:?}");
+    }
+    assert!(rt;
+        writes(rt.alloc(), &["replay", "p", "i", "s", "t", "r"], &STATES)?,
+        "replay"
     );
     Ok(())
 }

@@ -1,77 +1,14 @@
 //! Small programs and structures, in several commands.
 
-use crate::call::{ANALYZE, CALM, Call, Ending, wrong_part};
+use crate::call::{ANALYZE, CALM, Call, Ending, ended, wrong_part};
 use std::alloc::{AllocError, Global};
 use std::test::Fail;
 
-/// A call of words over PROGRAM `p`, INITIAL `i` and REPORT `r`, and how it ends.
-#[derive(Drop)]
-struct Row {
-    words: &'static [&'static str],
-    program: &'static str,
-    initial: &'static str,
-    report: &'static str,
-    code: u8,
-    out: &'static str,
-    err: &'static str,
-}
-
-const PLAIN: Row = Row {
-    words: &["analyze", "p", "i"],
-    program: "",
-    initial: "%n = {} %p = {}",
-    report: "",
-    code: 0,
-    out: "",
-    err: "",
-};
-
-const FLIP: Row = Row {
-    program: "%p b() %% %action Flip() { { b() = !b() } } %% L0 Flip() L1",
-    initial: "%n = {} %p = { b = 1 }",
-    ..PLAIN
-};
-
-const FLIP_REPORT: &str = "tvla report 2
-node L0 structures 1
-%n = {}
-%p = {
-  b = 1
-}
-node L1 structures 1
-%n = {}
-%p = {
-}
-end
-";
-
-const REACH: &str = "%p x(v) %p n(v_1, v_2)
-%% %action Reach() { %p E(a, b) x(a) & !x(b) & n+(a, b) } %% L0 Reach() L1";
-
-const NEW: &str =
-    "%p x(v) %i e() = E(v) x(v) %% %action New() { %new { x(v) = isNew(v) } } %% L0 New() L1";
-
-const NEW_REPORT: &str = "tvla report 2
-node L0 structures 1
-%n = {}
-%p = {
-}
-node L1 structures 1
-%n = {i0}
-%p = {
-  x = {i0}
-  e = 1
-}
-end
-";
-
-const SET: &str = "%p b() %i d() = b() %% %action Set() { { b() = 1 d() = 0 } } %% L0 Set() L1";
-
-static ANALYSES: [Row; 11] = [
-    Row {
-        program: "%p x(v) %p y(v) %% %action Any() { { y(v) = 1/2 } } %% L0 Any() L1",
-        initial: "%n = {u} %p = { x = {u} }",
-        out: "tvla report 2
+/// The words of a call, PROGRAM `p`, INITIAL `i` and REPORT `r`, with `;` behind each; then what is written, the exit
+/// code, and what is told. `~` stands between rows.
+const ROWS: &str = "analyze p i;%p x(v) %p y(v) %% %action Any() { { y(v) = 1/2 } } %% L0 Any() L1;
+%n = {u} %p = { x = {u} };;
+tvla report 2
 node L0 structures 1
 %n = {i0}
 %p = {
@@ -84,14 +21,13 @@ node L1 structures 1
   y = {i0:1/2}
 }
 end
-",
-        ..PLAIN
-    },
-    // a cell behind the head is reached for certain by no way, and may be reached
-    Row {
-        program: REACH,
-        initial: "%n = {h, u} %p = { x = {h} n = {h->u:1/2, u->u:1/2} sm = {u:1/2} }",
-        out: "tvla report 2
+exit 0
+~
+analyze p i;// a cell behind the head is reached for certain by no way, and may be reached
+%p x(v) %p n(v_1, v_2)
+%% %action Reach() { %p E(a, b) x(a) & !x(b) & n+(a, b) } %% L0 Reach() L1;
+%n = {h, u} %p = { x = {h} n = {h->u:1/2, u->u:1/2} sm = {u:1/2} };;
+tvla report 2
 node L0 structures 1
 %n = {i0, i1}
 %p = {
@@ -107,13 +43,12 @@ node L1 structures 1
   sm = {i0:1/2}
 }
 end
-",
-        ..PLAIN
-    },
-    Row {
-        program: REACH,
-        initial: "%n = {h, u} %p = { x = {h} n = {u->u:1/2} sm = {u:1/2} }",
-        out: "tvla report 2
+exit 0
+~
+analyze p i;%p x(v) %p n(v_1, v_2)
+%% %action Reach() { %p E(a, b) x(a) & !x(b) & n+(a, b) } %% L0 Reach() L1;
+%n = {h, u} %p = { x = {h} n = {u->u:1/2} sm = {u:1/2} };;
+tvla report 2
 node L0 structures 1
 %n = {i0, i1}
 %p = {
@@ -123,32 +58,53 @@ node L0 structures 1
 }
 node L1 structures 0
 end
-",
-        ..PLAIN
-    },
-    Row {
-        program: NEW,
-        out: NEW_REPORT,
-        ..PLAIN
-    },
-    Row {
-        words: &["analyze", "p", "i", "--recompute"],
-        program: NEW,
-        out: NEW_REPORT,
-        ..PLAIN
-    },
-    // no heap has the definition broken
-    Row {
-        program: NEW,
-        initial: "%n = {} %p = { e = 1 }",
-        out: "tvla report 2\nnode L0 structures 0\nnode L1 structures 0\nend\n",
-        ..PLAIN
-    },
-    // what is unique isn't many
-    Row {
-        program: "%p x(v) unique %% %action Skip() { } %% L0 Skip() L1",
-        initial: "%n = {u} %p = { x = {u} sm = {u:1/2} }",
-        out: "tvla report 2
+exit 0
+~
+analyze p i;%p x(v) %i e() = E(v) x(v) %% %action New() { %new { x(v) = isNew(v) } } %% L0 New() L1;
+%n = {} %p = {};;
+tvla report 2
+node L0 structures 1
+%n = {}
+%p = {
+}
+node L1 structures 1
+%n = {i0}
+%p = {
+  x = {i0}
+  e = 1
+}
+end
+exit 0
+~
+analyze p i --recompute;%p x(v) %i e() = E(v) x(v) %% %action New() { %new { x(v) = isNew(v) } } %% L0 New() L1;
+%n = {} %p = {};;
+tvla report 2
+node L0 structures 1
+%n = {}
+%p = {
+}
+node L1 structures 1
+%n = {i0}
+%p = {
+  x = {i0}
+  e = 1
+}
+end
+exit 0
+~
+analyze p i;// no heap has the definition broken
+%p x(v) %i e() = E(v) x(v) %% %action New() { %new { x(v) = isNew(v) } } %% L0 New() L1;
+%n = {} %p = { e = 1 };;
+tvla report 2
+node L0 structures 0
+node L1 structures 0
+end
+exit 0
+~
+analyze p i;// what is unique isn't many
+%p x(v) unique %% %action Skip() { } %% L0 Skip() L1;
+%n = {u} %p = { x = {u} sm = {u:1/2} };;
+tvla report 2
 node L0 structures 1
 %n = {i0}
 %p = {
@@ -160,26 +116,23 @@ node L1 structures 1
   x = {i0}
 }
 end
-",
-        ..PLAIN
-    },
-    // the given update contradicts the definition
-    Row {
-        program: SET,
-        out: "tvla report 2
+exit 0
+~
+analyze p i;// the given update contradicts the definition
+%p b() %i d() = b() %% %action Set() { { b() = 1 d() = 0 } } %% L0 Set() L1;
+%n = {} %p = {};;
+tvla report 2
 node L0 structures 1
 %n = {}
 %p = {
 }
 node L1 structures 0
 end
-",
-        ..PLAIN
-    },
-    Row {
-        words: &["analyze", "--recompute", "p", "i"],
-        program: SET,
-        out: "tvla report 2
+exit 0
+~
+analyze --recompute p i;%p b() %i d() = b() %% %action Set() { { b() = 1 d() = 0 } } %% L0 Set() L1;
+%n = {} %p = {};;
+tvla report 2
 node L0 structures 1
 %n = {}
 %p = {
@@ -191,142 +144,131 @@ node L1 structures 1
   d = 1
 }
 end
-",
-        ..PLAIN
-    },
-    // there is nothing to pick
-    Row {
-        program: "%p x(v) %p y(v) %% %action Pick() { %p x(v) { y(w) = w == v } } %% L0 Pick() L1",
-        out: "tvla report 2
+exit 0
+~
+analyze p i;// there is nothing to pick
+%p x(v) %p y(v) %% %action Pick() { %p x(v) { y(w) = w == v } } %% L0 Pick() L1;
+%n = {} %p = {};;
+tvla report 2
 node L0 structures 1
 %n = {}
 %p = {
 }
 node L1 structures 0
 end
-",
-        ..PLAIN
-    },
-    Row {
-        words: &["demo", "16"],
-        out: "demo 16 pairs 319 messages 0\n",
-        ..PLAIN
-    },
-];
-
-const SKIP: Row = Row {
-    words: &["check", "p", "i", "r"],
-    program: "%p x(v) %% %action Skip() { } %% L0 Skip() L1",
-    initial: "%n = {u, w} %p = { x = {u} }",
-    ..PLAIN
-};
-
-static CHECKS: [Row; 4] = [
-    // no map takes two individuals onto one of two
-    Row {
-        report: "tvla report 2
+exit 0
+~
+demo 16;;
+%n = {} %p = {};;
+demo 16 pairs 319 messages 0
+exit 0
+~
+check p i r;// no map takes two individuals onto one of two
+%p x(v) %% %action Skip() { } %% L0 Skip() L1;
+%n = {u, w} %p = { x = {u} };
+tvla report 2
 node L0 structures 1 %n = {i0, i1} %p = { x = {i0:1/2, i1:1/2} }
 node L1 structures 1 %n = {i0} %p = { x = {i0:1/2} sm = {i0:1/2} }
 map initial 0 to 0 {0, 0}
 map edge 0 0 0 to 0 {0}
-end",
-        code: 1,
-        out: "rejected: initial 0\n",
-        ..SKIP
-    },
-    // a map to a structure that isn't listed
-    Row {
-        report: "tvla report 2
+end;
+rejected: initial 0
+exit 1
+~
+check p i r;// a map to a structure that isn't listed
+%p x(v) %% %action Skip() { } %% L0 Skip() L1;
+%n = {u, w} %p = { x = {u} };
+tvla report 2
 node L0 structures 1 %n = {i0, i1} %p = { x = {i0:1/2, i1:1/2} }
 node L1 structures 1 %n = {i0} %p = { x = {i0:1/2} sm = {i0:1/2} }
 map initial 0 to 0 {0, 1}
 map edge 0 0 0 to 1 {0}
-end",
-        code: 3,
-        err: "tvla: report: ReportForm at 5:1\n",
-        ..SKIP
-    },
-    // a report of the first version has no maps
-    Row {
-        report: "tvla report 1
+end;
+exit 3
+tvla: report: ReportForm at 6:1
+~
+check p i r;// a report of the first version has no maps
+%p x(v) %% %action Skip() { } %% L0 Skip() L1;
+%n = {u, w} %p = { x = {u} };
+tvla report 1
 node L0 structures 1 %n = {i0, i1} %p = { x = {i0:1/2, i1:1/2} }
 node L1 structures 1 %n = {i0} %p = { x = {i0:1/2} sm = {i0:1/2} }
 map initial 0 to 0 {0, 1}
-end",
-        code: 3,
-        err: "tvla: report: ReportForm at 4:1\n",
-        ..SKIP
-    },
-    // two individuals in one that is no summary
-    Row {
-        report: "tvla report 2
+end;
+exit 3
+tvla: report: ReportForm at 5:1
+~
+check p i r;// two individuals in one that is no summary
+%p x(v) %% %action Skip() { } %% L0 Skip() L1;
+%n = {u, w} %p = { x = {u} };
+tvla report 2
 node L0 structures 1 %n = {i0} %p = { x = {i0:1/2} }
 node L1 structures 0
-end",
-        code: 1,
-        out: "rejected: initial 0\n",
-        ..SKIP
-    },
-];
+end;
+rejected: initial 0
+exit 1
+";
 
-fn wrong_row(alloc: Global, row: &Row) -> Result<Option<&'static str>, AllocError> {
-    let call = Call {
-        words: row.words,
-        program: row.program,
-        initial: row.initial,
-        report: row.report,
-        ..ANALYZE
-    };
-    let wanted = Ending {
-        code: row.code,
-        out: row.out,
-        err: row.err,
-    };
-    wrong_part(alloc, &call, &CALM, &wanted)
-}
-
-#[test]
-fn analyses_end_as_they_should(rt: HostRuntime) -> Result<(), Fail> {
-    for row in ANALYSES.iter() {
-        assert_eq!(rt; wrong_row(rt.alloc(), row)?, None, "{}", row.program);
+/// The words of a line.
+fn words_of<'a>(alloc: Global, line: &'a str) -> Result<Vec<&'a str>, AllocError> {
+    let mut words = Vec::new(alloc);
+    for word in line.split_whitespace() {
+        words.push(word)?;
     }
-    Ok(())
+    Ok(words)
+}
+
+/// How a call ends.
+fn told(alloc: Global, call: &Call<'_, '_, '_, '_>) -> Result<String, AllocError> {
+    let found = ended(alloc, call, &CALM)?;
+    let out = String::from_utf8_lossy(alloc, found.out.taken())?;
+    let err = String::from_utf8_lossy(alloc, found.err.taken())?;
+    format!(in alloc; "\n{out}exit {}\n{err}", found.code)
+}
+
+/// Whether the call of a row ends as the row says.
+fn is_met(alloc: Global, row: &str) -> Result<bool, AllocError> {
+    let mut cells = Vec::new(alloc);
+    for cell in row.split(';') {
+        cells.push(cell)?;
+    }
+    let [line, program, initial, report, wanted] = cells.as_slice() else {
+        return Ok(false);
+    };
+    let words = words_of(alloc, line)?;
+    let call = Call {
+        words: words.as_slice(),
+        program,
+        initial,
+        report,
+        more: &[],
+    };
+    Ok(told(alloc, &call)?.as_str() == *wanted)
 }
 
 #[test]
-fn checks_end_as_they_should(rt: HostRuntime) -> Result<(), Fail> {
-    for row in CHECKS.iter() {
-        assert_eq!(rt; wrong_row(rt.alloc(), row)?, None, "{}", row.report);
+fn calls_end_as_they_should(rt: HostRuntime) -> Result<(), Fail> {
+    for row in ROWS.split('~') {
+        assert!(rt; is_met(rt.alloc(), row)?, "{row}");
     }
     Ok(())
 }
 
 /// Words that spell a command, though another order or spelling is the usual one.
-static COMMANDS: [&[&str]; 3] = [
-    &["analyze", "--max-structures=2", "--", "p", "i"],
-    &[
-        "analyze",
-        "p",
-        "--recompute",
-        "i",
-        "--max-structures",
-        "100000",
-    ],
-    &["analyze", "--", "p", "i"],
-];
+const COMMANDS: &str = "analyze --max-structures=2 -- p i
+analyze p --recompute i --max-structures 100000
+analyze -- p i";
 
 /// Words that spell none.
-static NO_COMMANDS: [&[&str]; 9] = [
-    &[],
-    &["--help"],
-    &["analyze", "p"],
-    &["analyze", "p", "i", "--max-structures", "02"],
-    &["analyze", "p", "i", "--max-structures", "100001"],
-    &["analyze", "p", "i", "--recompute", "--recompute"],
-    &["check", "p", "i"],
-    &["demo", "17"],
-    &["demo", "0"],
-];
+const NO_COMMANDS: &str = "
+--help
+analyze p
+analyze p i --max-structures 02
+analyze p i --max-structures 100001
+analyze p i --recompute --recompute
+check p i
+demo 17
+demo 0";
 
 const USAGE: Ending<'static, 'static> = Ending {
     code: 2,
@@ -342,36 +284,40 @@ const USAGE: Ending<'static, 'static> = Ending {
 
 const FLIPPED: Ending<'static, 'static> = Ending {
     code: 0,
-    out: FLIP_REPORT,
+    out: "tvla report 2
+node L0 structures 1
+%n = {}
+%p = {
+  b = 1
+}
+node L1 structures 1
+%n = {}
+%p = {
+}
+end
+",
     err: "",
 };
 
-/// The ending of a call of these words on the flip.
-fn wrong_words(
-    alloc: Global,
-    words: &[&str],
-    wanted: &Ending<'_, '_>,
-) -> Result<Option<&'static str>, AllocError> {
+/// Whether a call of these words on the flip ends so.
+fn ends(alloc: Global, line: &str, wanted: &Ending<'_, '_>) -> Result<bool, AllocError> {
+    let words = words_of(alloc, line)?;
     let call = Call {
-        words,
-        program: FLIP.program,
-        initial: FLIP.initial,
+        words: words.as_slice(),
+        program: "%p b() %% %action Flip() { { b() = !b() } } %% L0 Flip() L1",
+        initial: "%n = {} %p = { b = 1 }",
         ..ANALYZE
     };
-    wrong_part(alloc, &call, &CALM, wanted)
+    Ok(wrong_part(alloc, &call, &CALM, wanted)?.is_none())
 }
 
 #[test]
 fn words_are_read(rt: HostRuntime) -> Result<(), Fail> {
-    for words in COMMANDS.iter() {
-        assert_eq!(rt;
-            wrong_words(rt.alloc(), words, &FLIPPED)?,
-            None,
-            "{words:?}"
-        );
+    for line in COMMANDS.split('\n') {
+        assert!(rt; ends(rt.alloc(), line, &FLIPPED)?, "{line}");
     }
-    for words in NO_COMMANDS.iter() {
-        assert_eq!(rt; wrong_words(rt.alloc(), words, &USAGE)?, None, "{words:?}");
+    for line in NO_COMMANDS.split('\n') {
+        assert!(rt; ends(rt.alloc(), line, &USAGE)?, "{line}");
     }
     Ok(())
 }
