@@ -2,5 +2,4 @@ pub mod DeltaSteps
 pub mod Likes
 mod PutSteps
 mod PuttingLemmas
-mod SizeLaws
 pub mod Steps

@@ -6,14 +6,13 @@ ghost use Rattle.tv_difference.specs.Simple.{is_small, simple_not, simple_and, s
 ghost use Rattle.tv_difference.specs.Deltas.{delta_by, if_small, unchanged, negated, both, either, some, every, delta_of_set, delta_of_defined};
 ghost use Rattle.tv_forming.specs.Views.{Gives, delta_form, small_form};
 
-use crate::simple::{simple_and, simple_cond, simple_exists, simple_forall, simple_not, simple_or};
-use crate::size::{
-    and_size, cond_size, exists_size, forall_size, is_small, is_small_size, not_size, or_size,
-    size_of,
-};
 use crate::stop::Stop;
 use std::alloc::{AllocError, Global};
 use tv_model::{Formula, Var, copy};
+use tv_simple::{
+    and_size, cond_size, exists_size, forall_size, is_small, is_small_size, not_size, or_size,
+    simple_and, simple_cond, simple_exists, simple_forall, simple_not, simple_or, size_of,
+};
 
 /// A formula before a step, where the step makes it true, and where it makes it false. The formula
 /// after the step follows from these.
@@ -69,7 +68,7 @@ fn build_or_of_ands(
 }
 
 /// The same, if it is small; nothing is built of one that isn't.
-#[tactic(auto, using(crate::proofs::SizeLaws::or_of_ands_size, crate::proofs::Steps::memory_fails))]
+#[tactic(auto, using(tv_simple::proofs::SizeLaws::or_of_ands_size, crate::proofs::Steps::memory_fails))]
 fn or_of_ands(
     alloc: Global,
     f: &Formula,
@@ -105,7 +104,7 @@ fn build_some_and_none(
 }
 
 /// The same, if it is small.
-#[tactic(auto, using(crate::proofs::SizeLaws::some_and_none_size, crate::proofs::Steps::memory_fails))]
+#[tactic(auto, using(tv_simple::proofs::SizeLaws::some_and_none_size, crate::proofs::Steps::memory_fails))]
 fn some_and_none(alloc: Global, v: Var, f: &Formula, g: &Formula) -> Result<Formula, Stop>
     ensures { Gives form_of result (small_form (simple_and (simple_exists v.0 (form_of f.now)) (simple_not (simple_exists v.0 (form_of g.now))))) }
 {
@@ -131,7 +130,7 @@ fn build_some_and_all(
 }
 
 /// The same, if it is small.
-#[tactic(auto, using(crate::proofs::SizeLaws::some_and_all_size, crate::proofs::Steps::memory_fails))]
+#[tactic(auto, using(tv_simple::proofs::SizeLaws::some_and_all_size, crate::proofs::Steps::memory_fails))]
 fn some_and_all(alloc: Global, v: Var, f: &Formula, g: &Formula) -> Result<Formula, Stop>
     ensures { Gives form_of result (small_form (simple_and (simple_exists v.0 (form_of f.now)) (simple_forall v.0 (form_of g.now)))) }
 {
@@ -153,7 +152,7 @@ fn next_of(alloc: Global, d: &Delta) -> Result<Formula, AllocError>
 }
 
 /// Whether the formula after the step is small.
-#[tactic(auto, using(crate::proofs::SizeLaws::next_size))]
+#[tactic(auto, using(tv_simple::proofs::SizeLaws::next_size))]
 fn is_next_small(d: &Delta) -> bool
     ensures { result ≡ is_small (delta_form d.now).next }
 {
@@ -406,7 +405,7 @@ pub fn delta_of_defined(atom: Formula, d: Delta) -> Result<Delta, Stop>
 }
 
 /// Whether the update of the stored predicate, the atom, is small.
-#[tactic(auto, using(crate::proofs::SizeLaws::next_size))]
+#[tactic(auto, using(tv_simple::proofs::SizeLaws::next_size))]
 fn is_update_small(atom: &Formula, d: &Delta) -> bool
     ensures { result ≡ is_small (simple_cond (form_of atom.now) (simple_not (form_of d.now.down)) (form_of d.now.up)) }
 {

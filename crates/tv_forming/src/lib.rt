@@ -3,8 +3,6 @@
 
 mod deltas;
 mod putting;
-mod simple;
-mod size;
 mod stop;
 
 pub use deltas::{

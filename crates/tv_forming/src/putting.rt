@@ -8,10 +8,10 @@ ghost use Rattle.tv_difference.specs.Simple.{nodes};
 ghost use Rattle.std.specs.List.{zip};
 ghost use Rattle.tv_forming.specs.Views.{Gives, numbers_of, arguments_from, reserved_of, reserved_at, reserved_besides, used_at, is_it, slot_among, scope_form, bound_of, bind, own_number, own_used};
 
-use crate::size::is_small;
 use crate::stop::Stop;
 use std::alloc::{AllocError, Global};
 use tv_model::{Formula, Terms, Var};
+use tv_simple::is_small;
 
 /// What is put for a variable.
 #[derive(Clone, Copy, Debug)]

@@ -2,7 +2,7 @@
 use Rattle.std.specs.Prelude.{ℕ, ◌+◌, min, max, if◌then◌else◌, ◌||◌, ◌&&◌, Bool, true, false, nat_le}
 use Rattle.tv_model.specs.Form.{Form, height}
 use Rattle.tv_difference.specs.Simple.{nodes, is_zero, is_one}
-use Rattle.tv_forming.specs.declared.size.Size.{Size}
+use Rattle.tv_simple.specs.declared.size.Size.{Size}
 
 -- the size of a formula as far as the limits tell: one node and one level more stand for all that are more
 abbrev pub size_of : Form → Size

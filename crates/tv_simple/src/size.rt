@@ -3,7 +3,7 @@
 ghost use Rattle.std.specs.Prelude.{◌≡◌, ◌+◌, max};
 ghost use Rattle.tv_model.specs.Form.{form_of};
 ghost use Rattle.tv_difference.specs.Simple.{is_small};
-ghost use Rattle.tv_forming.specs.Sizes.{size_of, is_small_size, zero_size, one_size, leaf_size, node_over, not_size, and_size, or_size, exists_size, forall_size, cond_size};
+ghost use Rattle.tv_simple.specs.Sizes.{size_of, is_small_size, zero_size, one_size, leaf_size, node_over, not_size, and_size, or_size, exists_size, forall_size, cond_size};
 
 use tv_model::Formula;
 

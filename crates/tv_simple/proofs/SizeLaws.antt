@@ -4,8 +4,8 @@ use Rattle.std.specs.Prelude.{◌&&◌, ◌||◌, nat_le}
 use Rattle.std.proofs.lemmas.Bool.Decides.{nat_tests}
 use Rattle.tv_model.specs.Form.{Form, FZero, FOne, FNot, FAnd, FOr, FExists, FForall, FCond, height}
 use Rattle.tv_difference.specs.Simple.{nodes, is_small, is_zero, is_one, simple_not, simple_and, simple_or, simple_exists, simple_forall, simple_cond}
-use Rattle.tv_forming.specs.declared.size.Size.{Size}
-use Rattle.tv_forming.specs.Sizes.{size_of, is_small_size, zero_size, one_size, node_over, not_size, and_size, or_size, exists_size, forall_size, cond_size}
+use Rattle.tv_simple.specs.declared.size.Size.{Size}
+use Rattle.tv_simple.specs.Sizes.{size_of, is_small_size, zero_size, one_size, node_over, not_size, and_size, or_size, exists_size, forall_size, cond_size}
 
 capped : (a c : ℕ) → min (a + 1) c ≡ min (min a c + 1) c
 capped a c = omega arith
