@@ -1,0 +1,9 @@
+mod Answered
+mod AtomSteps
+mod Depth
+mod FormedLaws
+mod Marks
+mod Pushed
+mod Touches
+mod Updates
+mod Zips

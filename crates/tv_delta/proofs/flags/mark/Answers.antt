@@ -1,0 +1,37 @@
+use Rattle.std.proofs.Common.{ℕ, ◌≡◌, ◌∙◌, ◌<◌, ◌+◌, Bool, true, false, not, cond, List, length, map, set, get_or, arith, subst, sym, ap}
+use Rattle.std.proofs.lemmas.List.Sums.{sum_by-set}
+use Rattle.std.specs.Prelude.{count_by}
+use Rattle.tv_model.specs.Program.{pred_of}
+use Rattle.tv_difference.specs.Deltas.{is_flagged}
+use Rattle.tv_delta.specs.Flags.{rests_at}
+use Rattle.tv_delta.proofs.Marks.{get-flag, marking_more}
+use Rattle.tv_delta.proofs.flags.mark.Goals as goal
+
+abbrev unset : Bool → ℕ
+unset b = cond (not b) 1 0
+
+-- one flag fewer isn't set
+fewer : (flags : List Bool) (q : ℕ) → q < length flags → is_flagged flags q ≡ false
+    → count_by (λ flag. not flag) (set flags q true) < count_by (λ flag. not flag) flags
+fewer flags q below off =
+    let at : get_or flags q false ≡ false = sym (get-flag flags q) ∙ off
+    in let whole : count_by (λ flag. not flag) (set flags q true) + unset (get_or flags q false)
+    ≡ count_by (λ flag. not flag) flags + 0
+    = sum_by-set unset flags q true false below
+    in let one : unset (get_or flags q false) ≡ 1 = ap unset at
+    in omega (arith, whole, one)
+
+pub loop-q-smaller : goal.loop-q-smaller
+loop-q-smaller c =
+    let Found : List Bool → Type 0 = λ fs. (c.in-Some.q < length fs) × (is_flagged fs c.in-Some.q ≡ false)
+    × (rests_at fs (map pred_of c.args.preds.now) c.in-Some.q ≡ true)
+    in let found : Found c.loop-q.flags.items = subst Found c.as_slice.ensures.value c.in-Some.ensures.some
+    in fewer c.loop-q.flags.items c.in-Some.q found.0 found.1
+
+pub loop-q-preserved : goal.loop-q-preserved
+loop-q-preserved c =
+    let Found : List Bool → Type 0 = λ fs. (c.in-Some.q < length fs) × (is_flagged fs c.in-Some.q ≡ false)
+    × (rests_at fs (map pred_of c.args.preds.now) c.in-Some.q ≡ true)
+    in let found : Found c.loop-q.flags.items = subst Found c.as_slice.ensures.value c.in-Some.ensures.some
+    in marking_more (map pred_of c.args.preds.now) c.args.flags.now.items c.loop-q.flags.items c.in-Some.q
+    c.loop-q.invariant found.0 found.2

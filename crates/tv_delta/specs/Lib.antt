@@ -1,0 +1,5 @@
+pub mod Answers
+pub mod Flags
+pub mod Formed
+pub mod Laws
+pub mod Opening

@@ -1,0 +1,16 @@
+//! Finite differencing: updates of defined predicates that are formed, and not written by hand.
+#![tactic(auto)]
+
+mod answer;
+mod atoms;
+mod flags;
+mod kinds;
+mod laws;
+mod opening;
+mod parts;
+mod program;
+
+pub use answer::difference;
+pub use kinds::Difference;
+pub use laws::depth_is_enough;
+pub use program::differenced;
