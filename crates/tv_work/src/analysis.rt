@@ -14,7 +14,7 @@ ghost use Rattle.tv_work.specs.Told.{AreLines};
 
 use crate::WorkError;
 use crate::follow::{follow_all, open_all};
-use crate::leaving::leaving;
+use crate::leaving::leaving_edges;
 use crate::search::Search;
 use crate::task::Task;
 use crate::told::Told;
@@ -87,7 +87,7 @@ pub fn analyse(
         (IsReached (program_of program.now) mode initial.now)) }
 {
     let closed = close_rules(alloc, program)?;
-    let leaving = leaving(alloc, program)?;
+    let leaving = leaving_edges(alloc, program)?;
     let mut scratch = Scratch::new(alloc, program, 256)?;
     let task = Task {
         alloc,

@@ -10,7 +10,7 @@ use tv_model::{Items, Program};
 use tv_struct::Numbers;
 
 /// For each node the numbers of the edges that leave it, in order.
-pub(crate) fn leaving(alloc: Global, program: &Program) -> Result<Vec<Numbers>, AllocError>
+pub fn leaving_edges(alloc: Global, program: &Program) -> Result<Vec<Numbers>, AllocError>
     requires valid { IsValid (program_of program.now) }
     ensures { IfOk result (λ lists. AreLeaving program.now.edges (length program.now.nodes) lists.items) }
 {

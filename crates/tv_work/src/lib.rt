@@ -11,4 +11,5 @@ mod told;
 
 pub use analysis::analyse;
 pub use error::WorkError;
+pub use leaving::leaving_edges;
 pub use told::Told;

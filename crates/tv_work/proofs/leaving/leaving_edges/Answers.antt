@@ -2,7 +2,7 @@ use Rattle.std.proofs.Common.{◌≡◌, ◌<◌, ◌+◌, ◌++◌, ◌∷◌, 
 use Rattle.std.proofs.lemmas.List.{get_or_default}
 use Rattle.tv_model.specs.declared.program.Edge.{Edge}
 use Rattle.tv_work.proofs.Leaves.{AreLeavingTo, leaving-next, leaving-all}
-use Rattle.tv_work.proofs.leaving.leaving.Goals as goal
+use Rattle.tv_work.proofs.leaving.leaving_edges.Goals as goal
 
 pub loop-number-preserved : goal.loop-number-preserved
 loop-number-preserved c =
