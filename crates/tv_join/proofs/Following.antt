@@ -1,11 +1,9 @@
 -- Structures are opened and followed.
-use Rattle.std.proofs.Common.{ℕ, ◌≡◌, ◌<◌, ◌≤◌, ◌+◌, ◌⊎◌, inl, inr, List, [], ◌∷◌, ◌++◌, length, get_or, None, Some, refl, sym, ap, subst, ◌∙◌, arith}
+use Rattle.std.proofs.Common.{ℕ, ◌≡◌, ◌<◌, ◌⊎◌, inl, inr, List, [], ◌∷◌, ◌++◌, length, get_or, None, Some, refl, sym, ap, subst, ◌∙◌, arith}
 use Rattle.std.specs.Prelude.{All, Any, Contains, slice_get}
-use Rattle.std.proofs.lemmas.Bool.{cases_lt}
 use Rattle.std.proofs.lemmas.List.Elements.{All-contains, All-push, Contains-append_left, Contains-push, Contains-push_cases}
-use Rattle.std.proofs.lemmas.Option.{none-some, same_Some, slice_get_within, get_or_from_slice_get}
+use Rattle.std.proofs.lemmas.Option.{none-some, same_Some, get_or_from_slice_get}
 use Rattle.tv_kleene.specs.declared.K3.{K3}
-use Rattle.tv_kleene.specs.Kleene.{larger_of}
 use Rattle.tv_model.specs.declared.program.Edge.{Edge}
 use Rattle.tv_model.specs.Program.{ProgramForm}
 use Rattle.tv_model.specs.Valid.{IsValid, IsEdge}
@@ -17,19 +15,22 @@ use Rattle.tv_transfer.specs.Budgets.{IsStepCause, KeepsBudgets}
 use Rattle.tv_transfer.specs.Settled.{IsSettled}
 use Rattle.tv_transfer.specs.Transfer.{AreMessageValues, AreResults, IsOpening}
 use Rattle.tv_keys.specs.Members.{MembersForm}
+use Rattle.tv_keys.proofs.Indexing.{at-contains}
 use Rattle.tv_work.specs.Analysed.{IsAtSource}
-use Rattle.tv_work.specs.Explored.{AreSaid}
+use Rattle.tv_work.specs.Leaving.{LeavesBy}
 use Rattle.tv_work.specs.Reach.{Point, IsStartPoint}
 use Rattle.tv_work.specs.Task.{TaskForm}
-use Rattle.tv_work.specs.Told.{told_value, IsNoted}
-use Rattle.tv_work.proofs.Larger.{larger-self, larger-trans}
-use Rattle.tv_work.proofs.Saying.{noted-rises, noted-tells, said-noted}
 use Rattle.tv_join.specs.Flags.{IsPlain}
 use Rattle.tv_join.specs.Joined.{join_error}
-use Rattle.tv_join.specs.Rounds.{point, IsFollowed}
-use Rattle.tv_join.specs.State.{IsIn, IsFound, listing_of}
-use Rattle.tv_join.specs.Stepped.{AreDoneAlong, AreOpenings, AreResultsOf, AreStepped, Finds, FindsOpening, GatheredForm, Gathers, IsDoneAlong, IsFollowCause, IsOpenable, IsOpeningPoint, IsPlaced, IsResultOf}
+use Rattle.tv_join.specs.Places.{place_of}
+use Rattle.tv_join.specs.Rounds.{point}
+use Rattle.tv_join.specs.State.{IsIn, IsFound, StandsAt, members_at}
+use Rattle.tv_join.specs.Stepped.{AreFollowed, AreOpenings, AreResultsOf, ChangesFrom, Finds, FindsOpening, GatheredForm, Gathers, IsFollowCause, IsFollowedAlong, IsFollowedAt, IsFollowedFrom, IsOpenable, IsOpeningPoint, IsResultOf}
+use Rattle.tv_join.specs.Values.{values_at, ChangesAlong}
 use Rattle.tv_join.specs.declared.joins.Found.{Found}
+use Rattle.tv_join.specs.declared.places.Place.{Place}
+use Rattle.tv_join.proofs.Nodes.{listing-at}
+use Rattle.tv_join.proofs.Noting.{contains-behind, contains-cases, contains-first}
 
 -- ---- what is found
 
@@ -185,55 +186,67 @@ source-is edges same edge taken e at =
 pub edge-valid : (p : ProgramForm) → IsValid p → (edge : ℕ) (taken : Edge) → slice_get p.edges edge ≡ Some taken → IsEdge p taken
 edge-valid p valid edge taken at = All-contains (IsEdge p) p.edges taken valid.edges (slice_get-contains p.edges edge taken at)
 
-pub gathers-none : (t : TaskForm) (nodes : List MembersForm) (g : GatheredForm) → Gathers t nodes g g
-gathers-none t nodes g = record {
-  kept = λ x has. has;
-  only = λ x has. inl has;
-  rises = λ edge number. larger-self (told_value g.told edge number);
-}
+pub gathers-none : (t : TaskForm) (nodes : List MembersForm) (found : List Found) → Gathers t nodes found found
+gathers-none t nodes found = record { kept = λ x has. has; only = λ x has. inl has }
 
-pub gathers-on : (t : TaskForm) (nodes : List MembersForm) (a b c : GatheredForm) → Gathers t nodes a b → Gathers t nodes b c
+pub gathers-on : (t : TaskForm) (nodes : List MembersForm) (a b c : List Found) → Gathers t nodes a b → Gathers t nodes b c
     → Gathers t nodes a c
 gathers-on t nodes a b c first second = record {
   kept = λ x has. second.kept x (first.kept x has);
   only = λ x has. by x (second.only x has);
-  rises = λ edge number. larger-trans (told_value a.told edge number) (told_value b.told edge number)
-      (told_value c.told edge number) (first.rises edge number) (second.rises edge number);
 }
   where
-    by : (x : Point) → IsFound b.found x ⊎ IsResultOf t nodes x → IsFound a.found x ⊎ IsResultOf t nodes x
+    by : (x : Point) → IsFound b x ⊎ IsResultOf t nodes x → IsFound a x ⊎ IsResultOf t nodes x
     by x (inl has) = first.only x has
     by x (inr is) = inr is
 
--- what is done stays done
-pub done-weaker : (t : TaskForm) (A B : Point → Type 0) (told more : List (List K3)) → ((x : Point) → A x → B x)
-    → ((edge number : ℕ) → larger_of (told_value told edge number) (told_value more edge number) ≡ told_value more edge number)
-    → (edge : ℕ) (taken : Edge) (s : StructureForm) → IsDoneAlong t A told edge taken s → IsDoneAlong t B more edge taken s
-done-weaker t A B told more weaker rises edge taken s done = record {
-  results = done.results;
-  are_results = done.are_results;
-  covered = λ u has. weaker (point taken.to u) (done.covered u has);
-  values = λ number k is. larger-trans k (told_value told edge number) (told_value more edge number) (done.values number k is)
-      (rises edge number);
-  budgets = done.budgets;
+-- what was followed stays so, where its values are kept
+pub followed-weaker : (t : TaskForm) (A B : Point → Type 0) (old new : List (List (List K3))) → ((x : Point) → A x → B x)
+    → (edge : ℕ) (taken : Edge) (at : ℕ) (s : StructureForm) → values_at new edge at ≡ values_at old edge at
+    → IsFollowedAt t A old edge taken at s → IsFollowedAt t B new edge taken at s
+followed-weaker t A B old new weaker edge taken at s same followed = record {
+  results = followed.results;
+  are_results = followed.are_results;
+  covered = λ u has. weaker (point taken.to u) (followed.covered u has);
+  messages = subst (AreMessageValues t.program edge s) (sym same) followed.messages;
+  budgets = followed.budgets;
 }
 
--- a structure is followed along an edge
-module _ (t : TaskForm) (valid : IsValid t.program) (nodes : List MembersForm) (edge to : ℕ) (taken : Edge) (s : StructureForm)
-    (at : slice_get t.program.edges edge ≡ Some taken) (has : IsIn nodes (point taken.from s)) (enters : to ≡ taken.to)
-    (results : List StructureForm) (are : AreResults t.program t.mode edge s results)
-    (settled : All (IsSettled t.program) results) (values : List K3) (are_values : AreMessageValues t.program edge s values)
-    (found new : List Found) (finds : Finds (λ x. (x.node ≡ to) × Contains results x.structure) found new)
-    (told more : List (List K3)) (noted : IsNoted edge values told more) where
-  pub follow-source : IsAtSource t.program edge (IsIn nodes) (point taken.from s)
-  follow-source = record { taken = taken; is_edge = at; leaves = refl; has = has }
+pub along-weaker : (t : TaskForm) (nodes : List MembersForm) (A B : Point → Type 0) (old new : List (List (List K3)))
+    → ((x : Point) → A x → B x) → (w : Place) (edge : ℕ) → values_at new edge w.at ≡ values_at old edge w.at
+    → IsFollowedAlong t nodes A old w edge → IsFollowedAlong t nodes B new w edge
+along-weaker t nodes A B old new weaker w edge same along taken at s stands =
+    followed-weaker t A B old new weaker edge taken w.at s same (along taken at s stands)
 
-  pub follow-gathers : Gathers t nodes (record { found = found; told = told }) (record { found = new; told = more })
-  follow-gathers = record {
-    kept = finds.kept;
-    only = λ x is. by x (finds.only x is);
-    rises = noted-rises edge values told more noted;
-  }
+-- ---- one structure is followed along one edge
+
+-- the structure that stands at a place is listed at its node
+pub stands-in : (nodes : List MembersForm) (w : Place) (s : StructureForm) → StandsAt nodes w s → IsIn nodes (point w.node s)
+stands-in nodes w s stands =
+    subst (λ xs. Contains xs s) (sym (listing-at nodes w.node))
+    (slice_get-contains (members_at nodes w.node).structures w.at s stands)
+
+-- and each that is listed stands at some place
+pub in-stands : (nodes : List MembersForm) (node : ℕ) (s : StructureForm) → IsIn nodes (point node s)
+    → (at : ℕ) × StandsAt nodes (place_of node at) s
+in-stands nodes node s has =
+    at-contains (members_at nodes node).structures s (subst (λ xs. Contains xs s) (listing-at nodes node) has)
+
+module _ (t : TaskForm) (nodes : List MembersForm) (w : Place) (edge : ℕ) (leaves : LeavesBy t.program.edges w.node edge)
+    (s : StructureForm) (stands : StandsAt nodes w s) where
+  stands-listed : IsIn nodes (point leaves.0.from s)
+  stands-listed = subst (λ n. IsIn nodes (point n s)) (sym leaves.2) (stands-in nodes w s stands)
+
+  pub stands-source : IsAtSource t.program edge (IsIn nodes) (point leaves.0.from s)
+  stands-source = record { taken = leaves.0; is_edge = leaves.1; leaves = refl; has = stands-listed }
+
+module _ (t : TaskForm) (valid : IsValid t.program) (nodes : List MembersForm) (w : Place) (edge to : ℕ)
+    (leaves : LeavesBy t.program.edges w.node edge) (s : StructureForm) (stands : StandsAt nodes w s)
+    (enters : to ≡ leaves.0.to) (results : List StructureForm) (are : AreResults t.program t.mode edge s results)
+    (settled : All (IsSettled t.program) results) (found new : List Found)
+    (finds : Finds (λ x. (x.node ≡ to) × Contains results x.structure) found new) where
+  pub follow-gathers : Gathers t nodes found new
+  follow-gathers = record { kept = finds.kept; only = λ x is. by x (finds.only x is) }
     where
       by : (x : Point) → IsFound found x ⊎ ((x.node ≡ to) × Contains results x.structure)
           → IsFound found x ⊎ IsResultOf t nodes x
@@ -241,13 +254,13 @@ module _ (t : TaskForm) (valid : IsValid t.program) (nodes : List MembersForm) (
       by x (inr (node, is)) =
           inr (
             (
-              point taken.from s,
-              has,
+              point leaves.0.from s,
+              stands-listed t nodes w edge leaves s stands,
               (
                 edge,
-                taken,
+                leaves.0,
                 record {
-                  is_edge = at;
+                  is_edge = leaves.1;
                   leaves = refl;
                   enters = node ∙ enters;
                   result = (results, are, is);
@@ -255,26 +268,24 @@ module _ (t : TaskForm) (valid : IsValid t.program) (nodes : List MembersForm) (
               ),
             ),
             record {
-              node = subst (λ n. n < length t.program.nodes) (sym (node ∙ enters)) (edge-valid t.program valid edge taken at).1;
+              node = subst (λ n. n < length t.program.nodes) (sym (node ∙ enters))
+                  (edge-valid t.program valid edge leaves.0 leaves.1).1;
               plain = settled-plain t.program x.structure (All-contains (IsSettled t.program) results x.structure settled is);
             },
           )
 
-  pub follow-done : KeepsBudgets t.program edge s → (other : Edge) → slice_get t.program.edges edge ≡ Some other
-      → IsDoneAlong t (IsFound new) more edge other s
-  follow-done budgets other at_other =
-      let same : taken ≡ other = same_Some taken other (sym at ∙ at_other)
-      in record {
+  pub follow-along : (values : List (List (List K3))) → AreMessageValues t.program edge s (values_at values edge w.at)
+      → KeepsBudgets t.program edge s → IsFollowedAlong t nodes (IsFound new) values w edge
+  follow-along values are_values budgets other at r stands_r =
+      let same : leaves.0 ≡ other = same_Some leaves.0 other (sym leaves.1 ∙ at)
+      in let one : s ≡ r = same_Some s r (sym stands ∙ stands_r)
+      in subst (IsFollowedAt t (IsFound new) values edge other w.at) one (record {
         results = results;
         are_results = are;
         covered = λ u is. finds.all (point other.to u) (sym (enters ∙ ap (λ (e : Edge). e.to) same), is);
-        values = noted-tells edge values told more noted t.program s are_values;
+        messages = are_values;
         budgets = budgets;
-      }
-
-  pub follow-said : length more ≡ length told → AreSaid t (listing_of nodes) told → AreSaid t (listing_of nodes) more
-  follow-said count said =
-      said-noted t (listing_of nodes) (point taken.from s) edge follow-source values are_values told more noted count said
+      })
 
 -- why a step has no answer
 pub step-fault : (p : ProgramForm) (edge : ℕ) (P : Point → Type 0) (x : Point) → IsAtSource p edge P x → (fault : StageError)
@@ -283,70 +294,139 @@ step-fault p edge P x source splits cause = record { edge = edge; at = x; source
 step-fault p edge P x source individuals cause = record { edge = edge; at = x; source = source; budget = cause }
 step-fault p edge P x source memory cause = tt
 
--- ---- the structures at an edge's source, one after the other
+-- ---- the edges that leave its node, one after the other
 
-pub along-none : (t : TaskForm) (A : Point → Type 0) (told : List (List K3)) (edge : ℕ) → AreDoneAlong t A told edge []
-along-none t A told edge taken at s has = absurd (Contains-none s has)
+-- the values that were kept for other edges and places stay
+pub record AreAside (edges : List ℕ) (at : ℕ) (old new : List (List (List K3))) : Type 0 where
+  pub count : length new ≡ length old
+  pub others : (edge place : ℕ) → (Contains edges edge × (place ≡ at)) ⊎ (values_at new edge place ≡ values_at old edge place)
 
-pub along-more : (t : TaskForm) (nodes : List MembersForm) (edge : ℕ) (structures : List StructureForm) (s : StructureForm)
-    (old new : GatheredForm) → Gathers t nodes old new → AreDoneAlong t (IsFound old.found) old.told edge structures
-    → ((taken : Edge) → slice_get t.program.edges edge ≡ Some taken → IsDoneAlong t (IsFound new.found) new.told edge taken s)
-    → AreDoneAlong t (IsFound new.found) new.told edge (structures ++ s ∷ [])
-along-more t nodes edge structures s old new gathers before done taken at r has =
-    by (Contains-push_cases structures s r has)
+pub aside-none : (at : ℕ) (values : List (List (List K3))) → AreAside [] at values values
+aside-none at values = record { count = refl; others = λ edge place. inr refl }
+
+pub aside-more : (edges : List ℕ) (edge at : ℕ) (old middle new : List (List (List K3))) → AreAside edges at old middle
+    → ChangesAlong edge at middle new → AreAside (edges ++ edge ∷ []) at old new
+aside-more edges edge at old middle new before changes = record {
+  count = changes.count ∙ before.count;
+  others = λ e p. by e p (changes.others e p);
+}
   where
-    by : Contains structures r ⊎ (s ≡ r) → IsDoneAlong t (IsFound new.found) new.told edge taken r
-    by (inl is) =
-        done-weaker t (IsFound old.found) (IsFound new.found) old.told new.told gathers.kept gathers.rises edge taken r
-        (before taken at r is)
-    by (inr same) = subst (IsDoneAlong t (IsFound new.found) new.told edge taken) same (done taken at)
+    earlier : (e p : ℕ) → values_at new e p ≡ values_at middle e p
+        → (Contains edges e × (p ≡ at)) ⊎ (values_at middle e p ≡ values_at old e p)
+        → (Contains (edges ++ edge ∷ []) e × (p ≡ at)) ⊎ (values_at new e p ≡ values_at old e p)
+    earlier e p same (inl (has, here)) = inl (Contains-append_left edges (edge ∷ []) e has, here)
+    earlier e p same (inr kept) = inr (same ∙ kept)
 
--- ---- edges, one after the other
+    by : (e p : ℕ) → ((e ≡ edge) × (p ≡ at)) ⊎ (values_at new e p ≡ values_at middle e p)
+        → (Contains (edges ++ edge ∷ []) e × (p ≡ at)) ⊎ (values_at new e p ≡ values_at old e p)
+    by e p (inl (is, here)) =
+        inl (subst (Contains (edges ++ edge ∷ [])) (sym is) (Contains-push edges edge), here)
+    by e p (inr same) = earlier e p same (before.others e p)
 
--- all structures are followed along the first edges
-pub record AreFollowedTo (t : TaskForm) (nodes : List MembersForm) (edges : ℕ) (g : GatheredForm) : Type 0 where
-  pub said : AreSaid t (listing_of nodes) g.told
+module _ (t : TaskForm) (nodes : List MembersForm) (w : Place) (found new : List Found) (old values : List (List (List K3)))
+    (gathers : Gathers t nodes found new) where
+  -- what was followed along some edges still is
+  pub along-kept : (edge : ℕ) → ChangesAlong edge w.at old values → IsFollowedAlong t nodes (IsFound new) values w edge
+      → (e : ℕ) → IsFollowedAlong t nodes (IsFound found) old w e → IsFollowedAlong t nodes (IsFound new) values w e
+  along-kept edge changes here e before = by (changes.others e w.at)
+    where
+      by : ((e ≡ edge) × (w.at ≡ w.at)) ⊎ (values_at values e w.at ≡ values_at old e w.at)
+          → IsFollowedAlong t nodes (IsFound new) values w e
+      by (inl (is, at)) = subst (IsFollowedAlong t nodes (IsFound new) values w) (sym is) here
+      by (inr same) = along-weaker t nodes (IsFound found) (IsFound new) old values gathers.kept w e same before
+
+-- in the end only values of edges from the place are changed, for it
+pub changes-from : (t : TaskForm) (edges : List ℕ) (w : Place) (old new : List (List (List K3)))
+    → ((edge : ℕ) → Contains edges edge → LeavesBy t.program.edges w.node edge) → AreAside edges w.at old new
+    → ChangesFrom t w old new
+changes-from t edges w old new leaving aside v edge leaves = by (aside.others edge v.at)
+  where
+    by : (Contains edges edge × (v.at ≡ w.at)) ⊎ (values_at new edge v.at ≡ values_at old edge v.at)
+        → (v ≡ w) ⊎ (values_at new edge v.at ≡ values_at old edge v.at)
+    by (inl (has, here)) =
+        let other = leaving edge has
+        in let node : v.node ≡ w.node
+        = sym leaves.2 ∙ ap (λ (e : Edge). e.from) (same_Some leaves.0 other.0 (sym leaves.1 ∙ other.1)) ∙ other.2
+        in inl (λ i. record { node = node i; at = here i })
+    by (inr same) = inr same
+
+-- ---- places, one after the other
+
+-- of the places those that are left aren't followed yet
+pub record AreFollowedBut (t : TaskForm) (nodes : List MembersForm) (places left : List Place) (g : GatheredForm)
+    (before : List (List (List K3))) : Type 0 where
+  pub among : (w : Place) → Contains left w → Contains places w
+  pub count : length g.values ≡ length before
   pub only : AreResultsOf t nodes g.found
-  pub done : (edge : ℕ) (taken : Edge) → edge < edges → slice_get t.program.edges edge ≡ Some taken → (s : StructureForm)
-      → IsIn nodes (point taken.from s) → IsDoneAlong t (IsFound g.found) g.told edge taken s
+  pub done : (w : Place) → Contains places w → Contains left w ⊎ IsFollowedFrom t nodes (IsFound g.found) g.values w
+  pub others : (w : Place) (edge : ℕ) → LeavesBy t.program.edges w.node edge
+      → Contains places w ⊎ (values_at g.values edge w.at ≡ values_at before edge w.at)
 
-pub followed-none : (t : TaskForm) (nodes : List MembersForm) (told : List (List K3)) → AreSaid t (listing_of nodes) told
-    → AreFollowedTo t nodes 0 (record { found = []; told = told })
-followed-none t nodes told said = record {
-  said = said;
+pub but-all : (t : TaskForm) (nodes : List MembersForm) (places : List Place) (values : List (List (List K3)))
+    → AreFollowedBut t nodes places places (record { found = []; values = values }) values
+but-all t nodes places values = record {
+  among = λ w has. has;
+  count = refl;
   only = λ x has. absurd (Contains-none (record { node = x.node; structure = x.structure }) has);
-  done = λ edge taken lt. absurd (omega (arith, lt));
+  done = λ w has. inl has;
+  others = λ w edge leaves. inr refl;
 }
 
-pub followed-more : (t : TaskForm) (nodes : List MembersForm) (n : ℕ) (old new : GatheredForm) → AreFollowedTo t nodes n old
-    → AreSaid t (listing_of nodes) new.told → Gathers t nodes old new
-    → ((taken : Edge) → slice_get t.program.edges n ≡ Some taken → (s : StructureForm) → IsIn nodes (point taken.from s)
-    → IsDoneAlong t (IsFound new.found) new.told n taken s)
-    → AreFollowedTo t nodes (n + 1) new
-followed-more t nodes n old new before said gathers done = record {
-  said = said;
+pub but-next : (t : TaskForm) (nodes : List MembersForm) (places left : List Place) (w : Place) (old new : GatheredForm)
+    (before : List (List (List K3))) → AreFollowedBut t nodes places (w ∷ left) old before
+    → Gathers t nodes old.found new.found → length new.values ≡ length before → ChangesFrom t w old.values new.values
+    → IsFollowedFrom t nodes (IsFound new.found) new.values w → AreFollowedBut t nodes places left new before
+but-next t nodes places left w old new before are gathers count changes here = record {
+  among = λ v has. are.among v (contains-behind w left v has);
+  count = count;
   only = λ x has. only x (gathers.only x has);
-  done = λ edge taken lt at s has. by edge taken lt at s has (cases_lt edge n);
+  done = λ v has. done v (are.done v has);
+  others = λ v edge leaves. others v edge (changes v edge leaves) (are.others v edge leaves);
 }
   where
-    only : (x : Point) → IsFound old.found x ⊎ IsResultOf t nodes x → IsFollowed t.program t.mode (IsIn nodes) x × IsPlaced t x
-    only x (inl has) = before.only x has
+    only : (x : Point) → IsFound old.found x ⊎ IsResultOf t nodes x → IsResultOf t nodes x
+    only x (inl has) = are.only x has
     only x (inr is) = is
 
-    by : (edge : ℕ) (taken : Edge) → edge < n + 1 → slice_get t.program.edges edge ≡ Some taken → (s : StructureForm)
-        → IsIn nodes (point taken.from s) → (edge < n) ⊎ (n ≤ edge) → IsDoneAlong t (IsFound new.found) new.told edge taken s
-    by edge taken lt at s has (inl less) =
-        done-weaker t (IsFound old.found) (IsFound new.found) old.told new.told gathers.kept gathers.rises edge taken s
-        (before.done edge taken less at s has)
-    by edge taken lt at s has (inr past) =
-        let last : n ≡ edge = omega (arith, lt, past)
-        in subst (λ e. IsDoneAlong t (IsFound new.found) new.told e taken s) last
-        (done taken (ap (slice_get t.program.edges) last ∙ at) s has)
+    at-one : (v : Place) → w ≡ v → IsFollowedFrom t nodes (IsFound new.found) new.values v
+    at-one v e = subst (IsFollowedFrom t nodes (IsFound new.found) new.values) e here
 
-pub followed-all : (t : TaskForm) (nodes : List MembersForm) (n : ℕ) (g : GatheredForm) → AreFollowedTo t nodes n g
-    → length t.program.edges ≤ n → AreStepped t nodes (IsFound g.found) g.told
-followed-all t nodes n g are all = record {
-  done = λ edge taken at s has.
-      are.done edge taken (omega (arith, all, slice_get_within t.program.edges edge taken at)) at s has;
-  said = are.said;
+    along : (v : Place) (edge : ℕ) → IsFollowedAlong t nodes (IsFound old.found) old.values v edge
+        → LeavesBy t.program.edges v.node edge
+        → (v ≡ w) ⊎ (values_at new.values edge v.at ≡ values_at old.values edge v.at)
+        → IsFollowedAlong t nodes (IsFound new.found) new.values v edge
+    along v edge followed leaves (inl e) = at-one v (sym e) edge leaves
+    along v edge followed leaves (inr same) =
+        along-weaker t nodes (IsFound old.found) (IsFound new.found) old.values new.values gathers.kept v edge same followed
+
+    rest : (v : Place) → (w ≡ v) ⊎ Contains left v
+        → Contains left v ⊎ IsFollowedFrom t nodes (IsFound new.found) new.values v
+    rest v (inl e) = inr (at-one v e)
+    rest v (inr has) = inl has
+
+    done : (v : Place) → Contains (w ∷ left) v ⊎ IsFollowedFrom t nodes (IsFound old.found) old.values v
+        → Contains left v ⊎ IsFollowedFrom t nodes (IsFound new.found) new.values v
+    done v (inl has) = rest v (contains-cases w left v has)
+    done v (inr followed) =
+        inr (λ edge leaves. along v edge (followed edge leaves) leaves (changes v edge leaves))
+
+    others : (v : Place) (edge : ℕ) → (v ≡ w) ⊎ (values_at new.values edge v.at ≡ values_at old.values edge v.at)
+        → Contains places v ⊎ (values_at old.values edge v.at ≡ values_at before edge v.at)
+        → Contains places v ⊎ (values_at new.values edge v.at ≡ values_at before edge v.at)
+    others v edge (inl e) kept = inl (subst (Contains places) (sym e) (are.among w (contains-first w left)))
+    others v edge (inr same) (inl has) = inl has
+    others v edge (inr same) (inr kept) = inr (same ∙ kept)
+
+pub but-none : (t : TaskForm) (nodes : List MembersForm) (places left : List Place) (g : GatheredForm)
+    (before : List (List (List K3))) → AreFollowedBut t nodes places left g before → left ≡ []
+    → AreFollowed t nodes places g before
+but-none t nodes places left g before are none = record {
+  only = are.only;
+  done = λ w has. by w (are.done w has);
+  others = are.others;
 }
+  where
+    by : (w : Place) → Contains left w ⊎ IsFollowedFrom t nodes (IsFound g.found) g.values w
+        → IsFollowedFrom t nodes (IsFound g.found) g.values w
+    by w (inl has) = absurd (Contains-none w (subst (λ ws. Contains ws w) none has))
+    by w (inr followed) = followed

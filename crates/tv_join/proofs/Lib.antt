@@ -3,7 +3,10 @@ pub mod JoinLaws
 pub mod Putting
 pub mod Nodes
 pub mod Weights
+pub mod Noting
+pub mod Keeping
 pub mod Meeting
 pub mod Following
+pub mod Greatest
 pub mod Rounding
 pub mod Answering

@@ -1,6 +1,6 @@
 -- What was found is joined into what is listed, one structure after the other.
-use Rattle.std.proofs.Common.{ℕ, ◌≡◌, ◌≢◌, ◌<◌, ◌≤◌, ◌+◌, ◌⊎◌, zero, suc, inl, inr, false, List, [], ◌∷◌, ◌++◌, length, get_or, set, Option, None, Some, refl, sym, ap, subst, ◌∙◌, arith}
-use Rattle.std.specs.Prelude.{Contains, sum_by}
+use Rattle.std.proofs.Common.{ℕ, ◌≡◌, ◌≢◌, ◌<◌, ◌≤◌, ◌+◌, ◌⊎◌, zero, suc, inl, inr, List, [], ◌∷◌, ◌++◌, length, get_or, set, Option, None, Some, refl, sym, ap, subst, ◌∙◌, arith}
+use Rattle.std.specs.Prelude.{Contains, sum_by, slice_get}
 use Rattle.std.proofs.lemmas.Bool.{cases_eq}
 use Rattle.std.proofs.lemmas.List.{length-set, length_push, set-get_or, length-map}
 use Rattle.std.proofs.lemmas.List.Elements.{Contains-append_left, Contains-push, Contains-push_cases}
@@ -12,15 +12,18 @@ use Rattle.tv_struct.specs.StructureForm.{StructureForm}
 use Rattle.tv_keys.specs.Members.{MembersForm, IsRaised, Puts}
 use Rattle.tv_keys.specs.declared.members.Put.{Put}
 use Rattle.tv_keys.specs.declared.members.Put.TheVariants.{Known, Raised, Added}
+use Rattle.tv_keys.proofs.Indexing.{push-at, set-at}
 use Rattle.tv_work.specs.Reach.{Point}
 use Rattle.tv_work.specs.Task.{TaskForm}
 use Rattle.tv_join.specs.Flags.{key_flags, IsPlain}
 use Rattle.tv_join.specs.Listed.{AreJoins}
+use Rattle.tv_join.specs.Places.{place_of}
 use Rattle.tv_join.specs.Rounds.{point}
-use Rattle.tv_join.specs.State.{JoinsForm, IsFound, IsIn, IsKept, IsMet, IsNode, HasRoom, changed_after, listing_of, members_at, room_after, total_of}
-use Rattle.tv_join.specs.Stepped.{HaveMet, IsPlaced, IsPlacedFound, Rises}
+use Rattle.tv_join.specs.State.{JoinsForm, IsFound, IsIn, IsKept, IsMet, IsNode, HasRoom, NotesPut, StandsAt, listing_of, members_at, room_after, total_of}
+use Rattle.tv_join.specs.Stepped.{HaveMet, IsPlaced, IsPlacedFound, Rises, Stay}
 use Rattle.tv_join.specs.Weight.{structure_weight, structures_weight, listing_weight}
 use Rattle.tv_join.specs.declared.joins.Found.{Found}
+use Rattle.tv_join.specs.declared.places.Place.{Place}
 use Rattle.tv_join.proofs.JoinLaws.{joined-second}
 use Rattle.tv_join.proofs.Nodes.{listing-at, set-listing, set-other, set-same}
 use Rattle.tv_join.proofs.Putting.{joins-like, joins-own, joins-plain, joins-put}
@@ -41,6 +44,9 @@ listed-joins t j kept k =
     (joins-own t.program (members_at j.nodes k).structures node.plain node.own)
 
 -- ---- one structure is put
+
+some-noted : (w : Place) (ws : List Place) → Contains ws w → ws ≢ []
+some-noted w ws has none = Contains-none w (subst (λ vs. Contains vs w) none has)
 
 room-met : (max total count more : ℕ) (put : Put) (room : Option ℕ) → HasRoom max total room
     → (put ≡ Known → more ≡ count) → ((place : ℕ) → put ≡ Raised place → more ≡ count) → (put ≡ Added → more ≡ count + 1)
@@ -137,6 +143,108 @@ module _ (t : TaskForm) (old new : JoinsForm) (k : ℕ) (s : StructureForm) (kep
   added-count (Raised place) raise e = absurd cc
   added-count Added add e = omega (arith, ap length add.pushed, length_push before s)
 
+  -- ---- places
+
+  noted-kept : (put : Put) → NotesPut k (length before) put old.changed new.changed → (w : Place)
+      → Contains old.changed w → Contains new.changed w
+  noted-kept Known notes w has = subst (λ ws. Contains ws w) (sym notes) has
+  noted-kept (Raised at) notes w has = notes.kept w has
+  noted-kept Added notes w has = notes.kept w has
+
+  longer : (put : Put) → Puts (key_flags t.program) before s after put → length before ≤ length after
+  longer Known known = omega (arith, ap length known.same)
+  longer (Raised at) raise = omega (arith, ap length raise.set, length-set before at raise.after)
+  longer Added add = omega (arith, ap length add.pushed, length_push before s)
+
+  -- where there was a structure there still is one
+  still-in : (w : Place) → w.at < length (members_at old.nodes w.node).structures
+      → w.at < length (members_at new.nodes w.node).structures
+  still-in w lt-old = by (cases_eq w.node k)
+    where
+      by : (w.node ≡ k) ⊎ (w.node ≢ k) → w.at < length (members_at new.nodes w.node).structures
+      by (inl same) =
+          let first : w.at < length before = subst (λ n. w.at < length (members_at old.nodes n).structures) same lt-old
+          in let there : w.at < length after = omega (arith, first, longer met.put met.puts)
+          in subst (λ n. w.at < length (members_at new.nodes n).structures) (sym same)
+          (subst (λ (m : MembersForm). w.at < length m.structures) (sym node-here) there)
+      by (inr apart) = subst (λ (m : MembersForm). w.at < length m.structures) (sym (node-other w.node apart)) lt-old
+
+  in-after : (at : ℕ) → at < length after → (w : Place) → w ≡ place_of k at
+      → w.at < length (members_at new.nodes w.node).structures
+  in-after at lt-after w e =
+      subst (λ (v : Place). v.at < length (members_at new.nodes v.node).structures) (sym e)
+      (subst (λ (m : MembersForm). at < length m.structures) (sym node-here) lt-after)
+
+  places-met : (put : Put) → Puts (key_flags t.program) before s after put
+      → NotesPut k (length before) put old.changed new.changed → (w : Place) → Contains new.changed w
+      → w.at < length (members_at new.nodes w.node).structures
+  places-met Known known notes w has = still-in w (kept.places w (subst (λ ws. Contains ws w) notes has))
+  places-met (Raised at) raise notes w has = by (notes.only w has)
+    where
+      by : Contains old.changed w ⊎ (w ≡ place_of k at) → w.at < length (members_at new.nodes w.node).structures
+      by (inl was) = still-in w (kept.places w was)
+      by (inr e) =
+          in-after at (omega (
+            arith,
+            slice_get_within before at raise.before raise.at,
+            ap length raise.set,
+            length-set before at raise.after,
+          )) w e
+  places-met Added add notes w has = by (notes.only w has)
+    where
+      by : Contains old.changed w ⊎ (w ≡ place_of k (length before))
+          → w.at < length (members_at new.nodes w.node).structures
+      by (inl was) = still-in w (kept.places w was)
+      by (inr e) = in-after (length before) (omega (arith, ap length add.pushed, length_push before s)) w e
+
+  -- what isn't noted at the node stood there before
+  stays-here : (put : Put) → Puts (key_flags t.program) before s after put
+      → NotesPut k (length before) put old.changed new.changed → (at : ℕ) (r : StructureForm)
+      → slice_get after at ≡ Some r → Contains new.changed (place_of k at) ⊎ (slice_get before at ≡ Some r)
+  stays-here Known known notes at r is = inr (ap (λ xs. slice_get xs at) (sym known.same) ∙ is)
+  stays-here (Raised place) raise notes at r is =
+      by (set-at before place raise.after r at (slice_get_within before place raise.before raise.at)
+      (ap (λ xs. slice_get xs at) (sym raise.set) ∙ is))
+    where
+      by : ((at ≡ place) × (raise.after ≡ r)) ⊎ ((at ≢ place) × (slice_get before at ≡ Some r))
+          → Contains new.changed (place_of k at) ⊎ (slice_get before at ≡ Some r)
+      by (inl (same, e)) = inl (subst (λ i. Contains new.changed (place_of k i)) (sym same) notes.has)
+      by (inr (apart, was)) = inr was
+  stays-here Added add notes at r is =
+      by (push-at before s r at (ap (λ xs. slice_get xs at) (sym add.pushed) ∙ is))
+    where
+      by : (slice_get before at ≡ Some r) ⊎ ((at ≡ length before) × (s ≡ r))
+          → Contains new.changed (place_of k at) ⊎ (slice_get before at ≡ Some r)
+      by (inl was) = inr was
+      by (inr (same, e)) = inl (subst (λ i. Contains new.changed (place_of k i)) (sym same) notes.has)
+
+  stays-met : (w : Place) (r : StructureForm) → StandsAt new.nodes w r → Contains new.changed w ⊎ StandsAt old.nodes w r
+  stays-met w r stands = by (cases_eq w.node k)
+    where
+      here : w.node ≡ k → Contains new.changed (place_of k w.at) ⊎ (slice_get before w.at ≡ Some r)
+          → Contains new.changed w ⊎ StandsAt old.nodes w r
+      here same (inl has) = inl (subst (λ n. Contains new.changed (place_of n w.at)) (sym same) has)
+      here same (inr was) = inr (subst (λ n. slice_get (members_at old.nodes n).structures w.at ≡ Some r) (sym same) was)
+
+      by : (w.node ≡ k) ⊎ (w.node ≢ k) → Contains new.changed w ⊎ StandsAt old.nodes w r
+      by (inl same) =
+          here same (stays-here met.put met.puts met.changed w.at r
+          (subst (λ (m : MembersForm). slice_get m.structures w.at ≡ Some r) node-here
+          (subst (λ n. slice_get (members_at new.nodes n).structures w.at ≡ Some r) same stands)))
+      by (inr apart) =
+          inr (subst (λ (m : MembersForm). slice_get m.structures w.at ≡ Some r) (node-other w.node apart) stands)
+
+  pub stay-met : (first : List MembersForm) → Stay first old → Stay first new
+  stay-met first before-this w r stands = by (stays-met w r stands)
+    where
+      earlier : Contains old.changed w ⊎ StandsAt first w r → Contains new.changed w ⊎ StandsAt first w r
+      earlier (inl has) = inl (noted-kept met.put met.changed w has)
+      earlier (inr was) = inr was
+
+      by : Contains new.changed w ⊎ StandsAt old.nodes w r → Contains new.changed w ⊎ StandsAt first w r
+      by (inl has) = inl has
+      by (inr was) = earlier (before-this w r was)
+
   pub kept-met : IsKept t new
   kept-met = record {
     nodes = ap length met.set ∙ length-set old.nodes k met.node ∙ kept.nodes;
@@ -145,6 +253,7 @@ module _ (t : TaskForm) (old new : JoinsForm) (k : ℕ) (s : StructureForm) (kep
         (room-met t.max (total_of old.nodes) (length before) (length after) met.put old.room kept.room
         (λ e. ap length (known-same met.put met.puts e)) (raised-count met.put met.puts) (added-count met.put met.puts)
         (total_of new.nodes) (sums length));
+    places = places-met met.put met.puts met.changed;
   }
 
   -- ---- what is listed is the joins with it
@@ -210,18 +319,27 @@ module _ (t : TaskForm) (old new : JoinsForm) (k : ℕ) (s : StructureForm) (kep
       listing-set ∙ ap (set (listing_of old.nodes) k) (same ∙ sym old-here) ∙ set-get_or (listing_of old.nodes) k []
 
   least : (first : List (List StructureForm)) → Rises first old → listing_weight first ≤ listing_weight (listing_of old.nodes)
-  least first (inl (same, list)) = omega (arith, ap listing_weight list)
-  least first (inr (did, more)) = omega (arith, more)
+  least first (inl (none, list)) = omega (arith, ap listing_weight list)
+  least first (inr (some, more)) = omega (arith, more)
 
   rises-by : (first : List (List StructureForm)) (put : Put) → Puts (key_flags t.program) before s after put
-      → new.changed ≡ changed_after put old.changed → Rises first old → Rises first new
-  rises-by first Known known e (inl (same, list)) = inl (e ∙ same, known-listing known.same ∙ list)
-  rises-by first Known known e (inr (did, more)) =
-      inr (e ∙ did, subst (λ l. listing_weight first < listing_weight l) (sym (known-listing known.same)) more)
-  rises-by first (Raised place) raise e before-this =
-      inr (e, omega (arith, weight-sum, raised-weight place raise, least first before-this))
-  rises-by first Added add e before-this =
-      inr (e, omega (arith, weight-sum, added-weight add.pushed, least first before-this))
+      → NotesPut k (length before) put old.changed new.changed → Rises first old → Rises first new
+  rises-by first Known known notes (inl (none, list)) = inl (notes ∙ none, known-listing known.same ∙ list)
+  rises-by first Known known notes (inr (some, more)) =
+      inr (
+        λ none. some (sym notes ∙ none),
+        subst (λ l. listing_weight first < listing_weight l) (sym (known-listing known.same)) more,
+      )
+  rises-by first (Raised place) raise notes before-this =
+      inr (
+        some-noted (place_of k place) new.changed notes.has,
+        omega (arith, weight-sum, raised-weight place raise, least first before-this),
+      )
+  rises-by first Added add notes before-this =
+      inr (
+        some-noted (place_of k (length before)) new.changed notes.has,
+        omega (arith, weight-sum, added-weight add.pushed, least first before-this),
+      )
 
   pub rises-met : (first : List (List StructureForm)) → Rises first old → Rises first new
   rises-met first before-this = rises-by first met.put met.puts met.changed before-this
@@ -233,30 +351,23 @@ pub record IsMeeting (t : TaskForm) (first : JoinsForm) (taken : List Found) (j 
   pub met : HaveMet t first taken j
   pub placed : (x : Point) → IsFound taken x → IsPlaced t x
 
-nothing-met : (t : TaskForm) (old j : JoinsForm) → IsKept t old → j.nodes ≡ old.nodes → j.room ≡ old.room → j.changed ≡ false
-    → HaveMet t old [] j
-nothing-met t old j kept nodes room changed = record {
-  kept = record {
-    nodes = ap length nodes ∙ kept.nodes;
-    each = λ k. subst (λ ns. IsNode t.program (members_at ns k)) (sym nodes) (kept.each k);
-    room = subst (λ r. HasRoom t.max (total_of j.nodes) r) (sym room)
-        (subst (λ ns. HasRoom t.max (total_of ns) old.room) (sym nodes) kept.room);
-  };
-  joins = λ k. subst (λ ns. AreJoins t.program (λ s. IsIn old.nodes (point k s) ⊎ IsFound [] (point k s)) (at_node (listing_of ns) k))
-      (sym nodes)
-      (joins-like t.program (λ s. IsIn old.nodes (point k s)) (λ s. IsIn old.nodes (point k s) ⊎ IsFound [] (point k s))
-      (at_node (listing_of old.nodes) k) (λ s has. inl has) (λ s has. from k s has) (listed-joins t old kept k));
-  rises = inl (changed, ap listing_of nodes);
+nothing-met : (t : TaskForm) (old : JoinsForm) → IsKept t old → old.changed ≡ [] → HaveMet t old [] old
+nothing-met t old kept none = record {
+  kept = kept;
+  joins = λ k. joins-like t.program (λ s. IsIn old.nodes (point k s))
+      (λ s. IsIn old.nodes (point k s) ⊎ IsFound [] (point k s)) (at_node (listing_of old.nodes) k) (λ s has. inl has)
+      (λ s has. from k s has) (listed-joins t old kept k);
+  rises = inl (none, refl);
+  stay = λ w s stands. inr stands;
 }
   where
     from : (k : ℕ) (s : StructureForm) → IsIn old.nodes (point k s) ⊎ IsFound [] (point k s) → IsIn old.nodes (point k s)
     from k s (inl has) = has
     from k s (inr none) = absurd (Contains-none (record { node = k; structure = s }) none)
 
-pub met-none : (t : TaskForm) (old j : JoinsForm) → IsKept t old → j.nodes ≡ old.nodes → j.room ≡ old.room → j.changed ≡ false
-    → IsMeeting t old [] j
-met-none t old j kept nodes room changed = record {
-  met = nothing-met t old j kept nodes room changed;
+pub met-none : (t : TaskForm) (old : JoinsForm) → IsKept t old → old.changed ≡ [] → IsMeeting t old [] old
+met-none t old kept none = record {
+  met = nothing-met t old kept none;
   placed = λ x has. absurd (Contains-none (record { node = x.node; structure = x.structure }) has);
 }
 
@@ -272,6 +383,7 @@ one-met t first old new taken f kept have placed placed_f met = record {
       (at_node (listing_of new.nodes) k) (λ s has. to k s has) (λ s has. from k s has)
       (joins-at t old new f.node f.structure have.kept lt placed_f.plain met X X-plain k (have.joins k) (cases_eq k f.node));
   rises = rises-met t old new f.node f.structure have.kept lt placed_f.plain met (listing_of first.nodes) have.rises;
+  stay = stay-met t old new f.node f.structure have.kept lt placed_f.plain met first.nodes have.stay;
 }
   where
     X : Point → Type 0

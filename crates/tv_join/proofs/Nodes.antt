@@ -22,6 +22,16 @@ listing-at nodes k = by (cases_lt k (length nodes))
         get_or_past (listing_of nodes) k [] (omega (arith, past, length-map nodes (λ (m : MembersForm). m.structures)))
         ∙ sym (ap (λ (m : MembersForm). m.structures) (get_or_past nodes k no_members past))
 
+-- where there is a structure there is a node
+pub member-within : (nodes : List MembersForm) (node at : ℕ) → at < length (members_at nodes node).structures
+    → node < length nodes
+member-within nodes node at within = by (cases_lt node (length nodes))
+  where
+    by : (node < length nodes) ⊎ (length nodes ≤ node) → node < length nodes
+    by (inl lt) = lt
+    by (inr past) =
+        absurd (omega (arith, within, ap (λ (m : MembersForm). length m.structures) (get_or_past nodes node no_members past)))
+
 pub node-none : (p : ProgramForm) → IsNode p no_members
 node-none p = record {
   indexed = indexed-none (key_flags p) no_members refl (λ q. refl);

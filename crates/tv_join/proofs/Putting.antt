@@ -106,20 +106,21 @@ module _ (p : ProgramForm) (X : StructureForm → Type 0) (plain : (s : Structur
       let here = at-contains listed t has
       in join-plain p (HasKey p X (key_of p t)) t (are.joins here.0 t here.1)
 
-  -- what is listed is exactly the joins by key
-  pub joins-exact : (t : StructureForm) → Contains listed t ↔ IsJoinByKey p X t
-  joins-exact t = (
-    λ has.
-        let here = at-contains listed t has
-        in (key_of p t, are.used here.0 t here.1, are.joins here.0 t here.1),
-    λ (key, (s, (x, k)), join).
-        let at = are.covered s x
-        in let same : key_of p at.1 ≡ key = sym at.3 ∙ k
-        in let other : IsJoinOf p (HasKey p X key) at.1
-        = subst (λ q. IsJoinOf p (HasKey p X q) at.1) same (are.joins at.0 at.1 at.2)
-        in subst (Contains listed) (join-once p (HasKey p X key) at.1 t s (x, k) other join)
-        (Contains-at listed at.0 at.1 at.2),
-  )
+-- what is listed is exactly the joins by key
+pub joins-exact : (p : ProgramForm) (X : StructureForm → Type 0) (listed : List StructureForm) → AreJoins p X listed
+    → (t : StructureForm) → Contains listed t ↔ IsJoinByKey p X t
+joins-exact p X listed are t = (
+  λ has.
+      let here = at-contains listed t has
+      in (key_of p t, are.used here.0 t here.1, are.joins here.0 t here.1),
+  λ (key, (s, (x, k)), join).
+      let at = are.covered s x
+      in let same : key_of p at.1 ≡ key = sym at.3 ∙ k
+      in let other : IsJoinOf p (HasKey p X key) at.1
+      = subst (λ q. IsJoinOf p (HasKey p X q) at.1) same (are.joins at.0 at.1 at.2)
+      in subst (Contains listed) (join-once p (HasKey p X key) at.1 t s (x, k) other join)
+      (Contains-at listed at.0 at.1 at.2),
+)
 
 -- ---- one structure is put
 

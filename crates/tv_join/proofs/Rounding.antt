@@ -1,12 +1,11 @@
 -- One round after the other.
-use Rattle.std.proofs.Common.{ℕ, ◌≡◌, ◌≢◌, ◌<◌, ◌≤◌, ◌⊎◌, zero, suc, inl, inr, true, false, List, [], length, get_or, replicate, ◌*◌, Some, refl, sym, ap, subst, ◌∙◌, arith, true≢false}
-use Rattle.std.specs.Prelude.{All, AllPairs, Contains, sum_by, ◌↔◌}
+use Rattle.std.proofs.Common.{ℕ, ◌≡◌, ◌≢◌, ◌<◌, ◌≤◌, ◌+◌, ◌-◌, ◌*◌, ◌⊎◌, zero, suc, inl, inr, List, [], ◌∷◌, length, get_or, replicate, Option, None, Some, refl, sym, ap, subst, ◌∙◌, arith}
+use Rattle.std.specs.Prelude.{All, AllPairs, Contains, slice_get, ◌↔◌}
 use Rattle.std.proofs.lemmas.Bool.{cases_lt}
-use Rattle.std.proofs.lemmas.List.{get_or_default, get_or_past, get_or-replicate, length-replicate}
+use Rattle.std.proofs.lemmas.List.{get_or_default, length-replicate}
 use Rattle.std.proofs.lemmas.List.Sums.{sum_by-cons}
-use Rattle.std.proofs.lemmas.Option.{slice_get-get_or}
+use Rattle.std.proofs.lemmas.Option.{none-some, same_Some, slice_get-get_or}
 use Rattle.tv_kleene.specs.declared.K3.{K3}
-use Rattle.tv_kleene.specs.declared.K3.TheVariants.{No}
 use Rattle.tv_model.specs.Program.{ProgramForm}
 use Rattle.tv_model.specs.Valid.{IsValid}
 use Rattle.tv_model.proofs.Lists.{All-from_contains, Contains-none}
@@ -14,28 +13,31 @@ use Rattle.tv_listing.specs.ListingForm.{at_node}
 use Rattle.tv_struct.specs.StructureForm.{StructureForm}
 use Rattle.tv_transfer.specs.Budgets.{MeetsSplits, MeetsIndividuals}
 use Rattle.tv_transfer.proofs.Exact.{results-once}
+use Rattle.tv_keys.specs.Joined.{IsUnder}
 use Rattle.tv_keys.specs.Members.{MembersForm}
 use Rattle.tv_work.specs.Analysed.{KeepAllBudgets, Meets}
-use Rattle.tv_work.specs.Explored.{AreSaid}
-use Rattle.tv_work.specs.Reach.{Point, IsListed, IsStartPoint}
+use Rattle.tv_work.specs.Reach.{Point, IsStartPoint}
 use Rattle.tv_work.specs.Task.{TaskForm}
-use Rattle.tv_work.specs.Told.{told_value}
 use Rattle.tv_work.proofs.Advancing.{start-node}
 use Rattle.tv_join.specs.Flags.{IsPlain}
 use Rattle.tv_join.specs.Joined.{AreAtMost, IsJoinCause}
 use Rattle.tv_join.specs.Keys.{key_of, HasKey, IsJoinByKey}
+use Rattle.tv_join.specs.Places.{place_of}
 use Rattle.tv_join.specs.Rounds.{point, IsFollowed}
-use Rattle.tv_join.specs.State.{JoinsForm, no_members, IsAbsorbed, IsFound, IsIn, IsKept, IsNode, listing_of, total_of}
-use Rattle.tv_join.specs.Stepped.{AreJoinsOf, AreOpenings, AreResultsOf, AreStepped, HaveMet, IsAtLastRound, IsAtRound, IsAtSomeRound, IsFollowCause, IsMeetingCause, IsPlaced, IsPlacedFound, IsRoundOn, Rises}
+use Rattle.tv_join.specs.State.{JoinsForm, no_members, IsAbsorbed, IsFound, IsIn, IsKept, IsNode, StandsAt, listing_of, members_at, total_of}
+use Rattle.tv_join.specs.Stepped.{AreAllFollowed, AreFollowed, AreIn, AreJoinsOf, AreOpenings, AreStepped, GatheredForm, HaveBeenFollowed, HaveMet, IsAtLastRound, IsAtRound, IsAtSomeRound, IsFollowCause, IsFollowedAlong, IsFollowedAt, IsFollowedFrom, IsMeetingCause, IsPlaced, IsPlacedFound, IsRoundOn, Rises}
 use Rattle.tv_join.specs.Task.{round_in}
+use Rattle.tv_join.specs.Values.{values_at}
 use Rattle.tv_join.specs.Weight.{listing_weight, most_structure}
 use Rattle.tv_join.specs.declared.error.JoinError.{JoinError}
 use Rattle.tv_join.specs.declared.error.JoinError.TheVariants.{Structures, Splits, Individuals, Memory}
 use Rattle.tv_join.specs.declared.joins.Found.{Found}
-use Rattle.tv_join.proofs.JoinLaws.{under-trans, join-like}
+use Rattle.tv_join.specs.declared.places.Place.{Place}
+use Rattle.tv_join.proofs.Following.{along-weaker, followed-weaker, in-stands, stands-in}
+use Rattle.tv_join.proofs.JoinLaws.{join-like, under-itself, under-trans}
 use Rattle.tv_join.proofs.Meeting.{listed-joins, listed-plain}
 use Rattle.tv_join.proofs.Nodes.{listing-at, node-none, none-at}
-use Rattle.tv_join.proofs.Putting.{joins-above, joins-exact}
+use Rattle.tv_join.proofs.Putting.{joins-above, joins-absorb, joins-exact}
 use Rattle.tv_join.proofs.Weights.{total-bound}
 
 -- ---- joins of the same structures
@@ -95,30 +97,45 @@ module _ (t : TaskForm) (old new : List MembersForm) (found : List Found)
       let above = met-absorbed (point x.node s) (inl has)
       in (above.0, above.1, key ∙ above.2, under-trans x.structure s above.0 under above.3)
 
-  -- where what is found is just the results of what was listed, the next round is listed
-  pub met-round : ((x : Point) → IsFollowed t.program t.mode (IsIn old) x → IsFound found x)
+  -- where all that is found are results of what was listed, and all others of these are absorbed, the next round is
+  -- listed
+  pub met-round : ((x : Point) → IsFollowed t.program t.mode (IsIn old) x → IsFound found x ⊎ IsAbsorbed t.program old x)
       → ((x : Point) → IsFound found x → IsFollowed t.program t.mode (IsIn old) x) → (x : Point)
       → IsIn new x
       ↔ IsJoinByKey t.program (λ s. IsIn old (point x.node s) ⊎ IsFollowed t.program t.mode (IsIn old) (point x.node s)) x.structure
-  met-round all only x =
-      let X : StructureForm → Type 0 = λ s. IsIn old (point x.node s) ⊎ IsFound found (point x.node s)
-      in let Y : StructureForm → Type 0
-      = λ s. IsIn old (point x.node s) ⊎ IsFollowed t.program t.mode (IsIn old) (point x.node s)
-      in let exact = joins-exact t.program X (met-plain x.node) (at_node (listing_of new) x.node) (joins x.node) x.structure
-      in (
-        λ has. by-key-like t.program X Y (λ s is. up s is) (λ s is. down s is) x.structure (exact.0 has),
-        λ is. exact.1 (by-key-like t.program Y X (λ s is'. down s is') (λ s is'. up s is') x.structure is),
-      )
+  met-round all only x = (
+    λ has. by-key-like t.program Z Y (λ s is. forget s is) (λ s is. more s is) x.structure (exact.0 has),
+    λ is. exact.1 (by-key-like t.program Y Z (λ s is'. more s is') (λ s is'. forget s is') x.structure is),
+  )
     where
-      up : (s : StructureForm) → IsIn old (point x.node s) ⊎ IsFound found (point x.node s)
-          → IsIn old (point x.node s) ⊎ IsFollowed t.program t.mode (IsIn old) (point x.node s)
-      up s (inl has) = inl has
-      up s (inr has) = inr (only (point x.node s) has)
+      X : StructureForm → Type 0
+      X s = IsIn old (point x.node s) ⊎ IsFound found (point x.node s)
 
-      down : (s : StructureForm) → IsIn old (point x.node s) ⊎ IsFollowed t.program t.mode (IsIn old) (point x.node s)
-          → IsIn old (point x.node s) ⊎ IsFound found (point x.node s)
-      down s (inl has) = inl has
-      down s (inr has) = inr (all (point x.node s) has)
+      Y : StructureForm → Type 0
+      Y s = IsIn old (point x.node s) ⊎ IsFollowed t.program t.mode (IsIn old) (point x.node s)
+
+      Z : StructureForm → Type 0
+      Z s = X s ⊎ IsFollowed t.program t.mode (IsIn old) (point x.node s)
+
+      -- a result lies under what was listed or found
+      under : (s : StructureForm) → IsFound found (point x.node s) ⊎ IsAbsorbed t.program old (point x.node s)
+          → (r : StructureForm) × X r × (key_of t.program s ≡ key_of t.program r) × IsUnder s r
+      under s (inl has) = (s, inr has, refl, under-itself s)
+      under s (inr (r, has, key, up)) = (r, inl has, key, up)
+
+      exact : IsIn new x ↔ IsJoinByKey t.program Z x.structure
+      exact = joins-exact t.program Z (at_node (listing_of new) x.node)
+          (joins-absorb t.program X (λ s. IsFollowed t.program t.mode (IsIn old) (point x.node s))
+          (at_node (listing_of new) x.node) (λ s is. under s (all (point x.node s) is)) (joins x.node)) x.structure
+
+      forget : (s : StructureForm) → Z s → Y s
+      forget s (inl (inl has)) = inl has
+      forget s (inl (inr has)) = inr (only (point x.node s) has)
+      forget s (inr is) = inr is
+
+      more : (s : StructureForm) → Y s → Z s
+      more s (inl has) = inl (inl has)
+      more s (inr is) = inr is
 
 -- ---- the first round
 
@@ -142,11 +159,12 @@ nothing-total (suc n) = omega (arith, sum_by-cons length [] (listing_of (replica
 
 -- nothing is listed at first
 pub nothing-kept : (t : TaskForm) (n : ℕ) (j : JoinsForm) → n ≡ length t.program.nodes
-    → j ≡ record { nodes = replicate n no_members; room = Some t.max; changed = false } → IsKept t j
+    → j ≡ record { nodes = replicate n no_members; room = Some t.max; changed = [] } → IsKept t j
 nothing-kept t n j count e = subst (IsKept t) (sym e) (record {
   nodes = length-replicate n no_members ∙ count;
   each = λ k. subst (IsNode t.program) (sym (none-at n k)) (node-none t.program);
   room = omega (arith, nothing-total n);
+  places = λ w has. absurd (Contains-none w has);
 })
 
 pub nothing-in : (n : ℕ) (x : Point) → IsIn (replicate n no_members) x → ⊥
@@ -155,7 +173,7 @@ nothing-in n x has =
     (listing-at (replicate n no_members) x.node ∙ ap (λ (m : MembersForm). m.structures) (none-at n x.node)) has)
 
 module _ (t : TaskForm) (valid : IsValid t.program) (n : ℕ) (old new : JoinsForm) (found : List Found)
-    (e : old ≡ record { nodes = replicate n no_members; room = Some t.max; changed = false })
+    (e : old ≡ record { nodes = replicate n no_members; room = Some t.max; changed = [] })
     (are : AreOpenings t t.initial found) (met : HaveMet t old found new) where
   none-in : (x : Point) → IsIn old.nodes x → ⊥
   none-in x has = nothing-in n x (subst (λ (j : JoinsForm). IsIn j.nodes x) e has)
@@ -167,8 +185,7 @@ module _ (t : TaskForm) (valid : IsValid t.program) (n : ℕ) (old new : JoinsFo
   first-exact x =
       let X : StructureForm → Type 0 = λ s. IsIn old.nodes (point x.node s) ⊎ IsFound found (point x.node s)
       in let Y : StructureForm → Type 0 = λ s. IsStartPoint t.program t.initial (point x.node s)
-      in let exact = joins-exact t.program X (met-plain t old.nodes new.nodes found none-plain (starts-placed t valid found are) met.joins x.node)
-      (at_node (listing_of new.nodes) x.node) (met.joins x.node) x.structure
+      in let exact = joins-exact t.program X (at_node (listing_of new.nodes) x.node) (met.joins x.node) x.structure
       in (
         λ has. by-key-like t.program X Y (λ s is. up s is) (λ s is. inr (are.all (point x.node s) is)) x.structure (exact.0 has),
         λ is. exact.1 (by-key-like t.program Y X (λ s is'. inr (are.all (point x.node s) is')) (λ s is'. up s is') x.structure is),
@@ -179,10 +196,23 @@ module _ (t : TaskForm) (valid : IsValid t.program) (n : ℕ) (old new : JoinsFo
       up s (inl has) = absurd (none-in (point x.node s) has)
       up s (inr has) = (are.only (point x.node s) has).0
 
-  pub first-round : total_of new.nodes ≤ t.max → IsAtSomeRound t new
-  first-round within = (
-    0,
-    record {
+  -- none of what is listed stood there before
+  first-fresh : (values : List (List (List K3))) → HaveBeenFollowed t new (IsAbsorbed t.program new.nodes) values
+  first-fresh values w = by (slice_get (members_at new.nodes w.node).structures w.at) refl
+    where
+      changed : (s : StructureForm) → Contains new.changed w ⊎ StandsAt old.nodes w s → Contains new.changed w
+      changed s (inl has) = has
+      changed s (inr stands) = absurd (none-in (point w.node s) (stands-in old.nodes w s stands))
+
+      by : (o : Option StructureForm) → slice_get (members_at new.nodes w.node).structures w.at ≡ o
+          → Contains new.changed w ⊎ IsFollowedFrom t new.nodes (IsAbsorbed t.program new.nodes) values w
+      by None none = inr (λ edge leaves taken is s stands. absurd (none-some s (sym none ∙ stands)))
+      by (Some s) stands = inl (changed s (met.stay w s stands))
+
+  pub first-round : total_of new.nodes ≤ t.max → (values : List (List (List K3))) → IsAtSomeRound t new values
+  first-round within values = record {
+    round = 0;
+    at = record {
       kept = met.kept;
       listed = λ x. (first-exact x).0;
       all = λ x. (first-exact x).1;
@@ -194,8 +224,9 @@ module _ (t : TaskForm) (valid : IsValid t.program) (n : ℕ) (old new : JoinsFo
       };
       budgets = λ before lt. absurd (omega (arith, lt));
       rounds = λ before le. rounds before (omega (arith, le));
-    },
-  )
+    };
+    followed = first-fresh values;
+  }
     where
       rounds : (before : ℕ) → before ≡ 0 → AreAtMost t.max (round_in t before)
       rounds before is = subst (λ r. AreAtMost t.max (round_in t r)) (sym is)
@@ -224,114 +255,195 @@ too-many t j round kept listed more = (
         in omega (arith, e, before)
 
 pub first-cause : (t : TaskForm) (valid : IsValid t.program) (n : ℕ) (old new : JoinsForm) (found : List Found)
-    → old ≡ record { nodes = replicate n no_members; room = Some t.max; changed = false }
+    → old ≡ record { nodes = replicate n no_members; room = Some t.max; changed = [] }
     → AreOpenings t t.initial found → HaveMet t old found new → t.max < total_of new.nodes
     → IsJoinCause t.program t.mode t.initial t.max Structures
 first-cause t valid n old new found e are met more =
     too-many t new 0 met.kept (λ x. (first-exact t valid n old new found e are met x).0) more
 
+-- ---- what is followed between two rounds
+
+-- what changed is followed now, and all else was before, so that all of it is
+module _ (t : TaskForm) (j : JoinsForm) (A : Point → Type 0) (found : List Found) (old new : List (List (List K3)))
+    (before : HaveBeenFollowed t j A old)
+    (are : AreFollowed t j.nodes j.changed (record { found = found; values = new }) old) where
+  pub all-followed : AreAllFollowed t j.nodes (λ x. IsFound found x ⊎ A x) new
+  all-followed w edge leaves = by (are.others w edge leaves)
+    where
+      now : Contains j.changed w → IsFollowedAlong t j.nodes (λ x. IsFound found x ⊎ A x) new w edge
+      now has =
+          along-weaker t j.nodes (IsFound found) (λ x. IsFound found x ⊎ A x) new new (λ x is. inl is) w edge refl
+          (are.done w has edge leaves)
+
+      earlier : values_at new edge w.at ≡ values_at old edge w.at
+          → Contains j.changed w ⊎ IsFollowedFrom t j.nodes A old w
+          → IsFollowedAlong t j.nodes (λ x. IsFound found x ⊎ A x) new w edge
+      earlier same (inl has) = now has
+      earlier same (inr followed) =
+          along-weaker t j.nodes A (λ x. IsFound found x ⊎ A x) old new (λ x is. inr is) w edge same (followed edge leaves)
+
+      by : Contains j.changed w ⊎ (values_at new edge w.at ≡ values_at old edge w.at)
+          → IsFollowedAlong t j.nodes (λ x. IsFound found x ⊎ A x) new w edge
+      by (inl has) = now has
+      by (inr same) = earlier same (before w)
+
+-- where nothing changed all was followed
+pub none-changed : (t : TaskForm) (j : JoinsForm) (A : Point → Type 0) (values : List (List (List K3)))
+    → HaveBeenFollowed t j A values → j.changed ≡ [] → AreAllFollowed t j.nodes A values
+none-changed t j A values before none w = by (before w)
+  where
+    by : Contains j.changed w ⊎ IsFollowedFrom t j.nodes A values w → IsFollowedFrom t j.nodes A values w
+    by (inl has) = absurd (Contains-none w (subst (λ ws. Contains ws w) none has))
+    by (inr followed) = followed
+
+module _ (t : TaskForm) (valid : IsValid t.program) (nodes : List MembersForm) (A : Point → Type 0)
+    (values : List (List (List K3))) (followed : AreAllFollowed t nodes A values) where
+  -- the results of all that is listed have the property
+  pub results-have : (x : Point) → IsFollowed t.program t.mode (IsIn nodes) x → A x
+  results-have x (before, has, (edge, taken, leads)) =
+      let stands = in-stands nodes before.node before.structure has
+      in let one : IsFollowedAt t A values edge taken stands.0 before.structure
+      = followed (place_of before.node stands.0) edge (taken, leads.is_edge, leads.leaves) taken leads.is_edge
+      before.structure stands.1
+      in let same = results-once t.program valid t.mode edge before.structure leads.result.0 one.results leads.result.1
+      one.are_results
+      in subst (λ n. A (point n x.structure)) (sym leads.enters)
+      (one.covered x.structure (subst (λ rs. Contains rs x.structure) same leads.result.2))
+
+  -- and its steps keep the budgets
+  pub budgets-kept : KeepAllBudgets t.program (IsIn nodes)
+  budgets-kept edge x source =
+      let stands = in-stands nodes x.node x.structure source.has
+      in (followed (place_of x.node stands.0) edge (source.taken, source.is_edge, source.leaves) source.taken source.is_edge
+      x.structure stands.1).budgets
+
+all-budgets : (p : ProgramForm) (P Q : Point → Type 0) → ((x : Point) → Q x → P x) → KeepAllBudgets p P → KeepAllBudgets p Q
+all-budgets p P Q to all edge x source =
+    all edge x (record { taken = source.taken; is_edge = source.is_edge; leaves = source.leaves; has = to x source.has })
+
 -- ---- one round on
 
-module _ (t : TaskForm) (valid : IsValid t.program) (round : ℕ) (old new : JoinsForm) (found : List Found) (told : List (List K3))
-    (at : IsAtRound t round old) (stepped : AreStepped t old.nodes (IsFound found) told) (only : AreResultsOf t old.nodes found)
-    (met : HaveMet t old found new) where
+module _ (t : TaskForm) (valid : IsValid t.program) (round : ℕ) (old middle new : JoinsForm) (found : List Found)
+    (before values : List (List (List K3))) (at : IsAtRound t round old)
+    (have : HaveBeenFollowed t old (IsAbsorbed t.program old.nodes) before)
+    (are : AreFollowed t old.nodes old.changed (record { found = found; values = values }) before)
+    (nodes : middle.nodes ≡ old.nodes) (met-middle : HaveMet t middle found new) where
+  abbrev A : Point → Type 0
+  A x = IsFound found x ⊎ IsAbsorbed t.program old.nodes x
+
   old-plain : (x : Point) → IsIn old.nodes x → IsPlain t.program x.structure
   old-plain = listed-plain t old at.kept
 
   placed : (x : Point) → IsFound found x → IsPlaced t x
-  placed x has = (only x has).1
+  placed x has = (are.only x has).1
 
-  -- each result of what is listed is found
-  results-found : (x : Point) → IsFollowed t.program t.mode (IsIn old.nodes) x → IsFound found x
-  results-found x (before, has, (edge, taken, leads)) =
-      let source : IsIn old.nodes (point taken.from before.structure)
-      = subst (λ n. IsIn old.nodes (point n before.structure)) (sym leads.leaves) has
-      in let done = stepped.done edge taken leads.is_edge before.structure source
-      in let same = results-once t.program valid t.mode edge before.structure leads.result.0 done.results leads.result.1
-      done.are_results
-      in subst (λ n. IsFound found (point n x.structure)) (sym leads.enters)
-      (done.covered x.structure (subst (λ rs. Contains rs x.structure) same leads.result.2))
+  all-are : AreAllFollowed t old.nodes A values
+  all-are = all-followed t old (IsAbsorbed t.program old.nodes) found before values have are
+
+  joins : AreJoinsOf t old.nodes new.nodes found
+  joins = subst (λ ns. AreJoinsOf t ns new.nodes found) nodes met-middle.joins
 
   next-exact : (x : Point) → IsIn new.nodes x ↔ round_in t (suc round) x
   next-exact x =
-      let here = met-round t old.nodes new.nodes found old-plain placed met.joins results-found (λ y has. (only y has).0) x
+      let here = met-round t old.nodes new.nodes found old-plain placed joins
+      (results-have t valid old.nodes A values all-are) (λ y has. (are.only y has).0) x
       in let on = next-round t round (IsIn old.nodes) at.listed at.all x
       in (λ has. on.0 (here.0 has), λ is. here.1 (on.1 is))
 
   budgets-here : KeepAllBudgets t.program (round_in t round)
-  budgets-here edge x source =
-      (stepped.done edge source.taken source.is_edge x.structure
-      (subst (λ n. IsIn old.nodes (point n x.structure)) (sym source.leaves) (at.all x source.has))).budgets
-
-  -- where nothing changed this is the last round
-  last-round : listing_of new.nodes ≡ listing_of old.nodes → IsAtLastRound t new told
-  last-round same = record {
-    round = round;
-    at = record {
-      kept = met.kept;
-      listed = λ x has. at.listed x (subst (λ l. IsListed l x) same has);
-      all = λ x is. subst (λ l. IsListed l x) (sym same) (at.all x is);
-      within = subst (λ l. sum_by length l ≤ t.max) (sym same) at.within;
-      opened = record { any = at.opened.any; absorbed = λ x start. absorbed-on t old.nodes new.nodes found old-plain placed met.joins x (at.opened.absorbed x start) };
-      budgets = at.budgets;
-      rounds = at.rounds;
-    };
-    last = λ x. (
-      λ is. (next-exact x).0 (subst (λ l. IsListed l x) (sym same) (at.all x is)),
-      λ is. at.listed x (subst (λ l. IsListed l x) same ((next-exact x).1 is)),
-    );
-    budgets = budgets-here;
-    stepped = record {
-      done = λ edge taken is s has.
-          let done = stepped.done edge taken is s (subst (λ l. IsListed l (point taken.from s)) same has)
-          in record {
-            results = done.results;
-            are_results = done.are_results;
-            covered = λ u among. met-absorbed t old.nodes new.nodes found old-plain placed met.joins (point taken.to u)
-                (inr (done.covered u among));
-            values = done.values;
-            budgets = done.budgets;
-          };
-      said = subst (λ l. AreSaid t l told) (sym same) stepped.said;
-    };
-  }
+  budgets-here =
+      all-budgets t.program (IsIn old.nodes) (round_in t round) at.all (budgets-kept t valid old.nodes A values all-are)
 
   later-round : total_of new.nodes ≤ t.max → IsAtRound t (suc round) new
   later-round within = record {
-    kept = met.kept;
+    kept = met-middle.kept;
     listed = λ x. (next-exact x).0;
     all = λ x. (next-exact x).1;
     within = within;
     opened = record {
       any = at.opened.any;
-      absorbed = λ x start. absorbed-on t old.nodes new.nodes found old-plain placed met.joins x (at.opened.absorbed x start);
+      absorbed = λ x start. absorbed-on t old.nodes new.nodes found old-plain placed joins x (at.opened.absorbed x start);
     };
-    budgets = λ before lt. budgets before lt (cases_lt before round);
-    rounds = λ before le. rounds before le (cases_lt before (suc round));
+    budgets = λ earlier lt. budgets earlier lt (cases_lt earlier round);
+    rounds = λ earlier le. rounds earlier le (cases_lt earlier (suc round));
   }
     where
-      budgets : (before : ℕ) → before < suc round → (before < round) ⊎ (round ≤ before) → KeepAllBudgets t.program (round_in t before)
-      budgets before lt (inl less) = at.budgets before less
-      budgets before lt (inr past) =
-          let same : round ≡ before = omega (arith, lt, past)
+      budgets : (earlier : ℕ) → earlier < suc round → (earlier < round) ⊎ (round ≤ earlier) → KeepAllBudgets t.program (round_in t earlier)
+      budgets earlier lt (inl less) = at.budgets earlier less
+      budgets earlier lt (inr past) =
+          let same : round ≡ earlier = omega (arith, lt, past)
           in subst (λ r. KeepAllBudgets t.program (round_in t r)) same budgets-here
 
-      rounds : (before : ℕ) → before ≤ suc round → (before < suc round) ⊎ (suc round ≤ before) → AreAtMost t.max (round_in t before)
-      rounds before le (inl less) = at.rounds before (omega (arith, less))
-      rounds before le (inr past) =
-          let same : suc round ≡ before = omega (arith, le, past)
+      rounds : (earlier : ℕ) → earlier ≤ suc round → (earlier < suc round) ⊎ (suc round ≤ earlier) → AreAtMost t.max (round_in t earlier)
+      rounds earlier le (inl less) = at.rounds earlier (omega (arith, less))
+      rounds earlier le (inr past) =
+          let same : suc round ≡ earlier = omega (arith, le, past)
           in subst (λ r. AreAtMost t.max (round_in t r)) same
           (record { found = listing_of new.nodes; all = λ x. (next-exact x).1; most = within })
 
-  pub round-on : total_of new.nodes ≤ t.max → IsRoundOn t old new told
-  round-on within = by met.rises
+  -- what was found or absorbed is absorbed
+  still-absorbed : (x : Point) → A x → IsAbsorbed t.program new.nodes x
+  still-absorbed x (inl has) = met-absorbed t old.nodes new.nodes found old-plain placed joins x (inr has)
+  still-absorbed x (inr was) = absorbed-on t old.nodes new.nodes found old-plain placed joins x was
+
+  -- what stood there before was followed
+  next-followed : HaveBeenFollowed t new (IsAbsorbed t.program new.nodes) values
+  next-followed w = by (slice_get (members_at new.nodes w.node).structures w.at) refl
     where
-      by : Rises (listing_of old.nodes) new → IsRoundOn t old new told
-      by (inl (same, list)) = inl (same, last-round list)
-      by (inr (did, more)) = inr (did, (suc round, later-round within), more)
+      stood : (s : StructureForm) → StandsAt new.nodes w s → Contains new.changed w ⊎ StandsAt middle.nodes w s
+          → Contains new.changed w ⊎ IsFollowedFrom t new.nodes (IsAbsorbed t.program new.nodes) values w
+      stood s stands (inl has) = inl has
+      stood s stands (inr was) =
+          let before-this : StandsAt old.nodes w s = subst (λ ns. StandsAt ns w s) nodes was
+          in inr (λ edge leaves taken is r stands_r.
+          let same : s ≡ r = same_Some s r (sym stands ∙ stands_r)
+          in followed-weaker t A (IsAbsorbed t.program new.nodes) values values still-absorbed edge taken w.at r refl
+          (all-are w edge leaves taken is r (subst (StandsAt old.nodes w) same before-this)))
+
+      by : (o : Option StructureForm) → slice_get (members_at new.nodes w.node).structures w.at ≡ o
+          → Contains new.changed w ⊎ IsFollowedFrom t new.nodes (IsAbsorbed t.program new.nodes) values w
+      by None none = inr (λ edge leaves taken is s stands. absurd (none-some s (sym none ∙ stands)))
+      by (Some s) stands = stood s stands (met-middle.stay w s stands)
+
+  pub round-on : total_of new.nodes ≤ t.max → IsRoundOn t old new values
+  round-on within = record {
+    at = record { round = suc round; at = later-round within; followed = next-followed };
+    rises = subst (λ ns. Rises (listing_of ns) new) nodes met-middle.rises;
+  }
 
   pub round-cause : t.max < total_of new.nodes → IsJoinCause t.program t.mode t.initial t.max Structures
-  round-cause more = too-many t new (suc round) met.kept (λ x. (next-exact x).0) more
+  round-cause more = too-many t new (suc round) met-middle.kept (λ x. (next-exact x).0) more
+
+-- ---- the last round
+
+-- where nothing changed, the next round lists the same
+module _ (t : TaskForm) (valid : IsValid t.program) (round : ℕ) (j : JoinsForm) (values : List (List (List K3)))
+    (at : IsAtRound t round j) (followed : AreAllFollowed t j.nodes (IsAbsorbed t.program j.nodes) values) where
+  last-exact : (x : Point) → IsIn j.nodes x ↔ round_in t (suc round) x
+  last-exact x =
+      let exact = joins-exact t.program (λ s. IsIn j.nodes (point x.node s)
+      ⊎ IsFollowed t.program t.mode (IsIn j.nodes) (point x.node s)) (at_node (listing_of j.nodes) x.node)
+      (joins-absorb t.program (λ s. IsIn j.nodes (point x.node s))
+      (λ s. IsFollowed t.program t.mode (IsIn j.nodes) (point x.node s)) (at_node (listing_of j.nodes) x.node)
+      (λ s is. absorbed s (results-have t valid j.nodes (IsAbsorbed t.program j.nodes) values followed (point x.node s) is))
+      (listed-joins t j at.kept x.node)) x.structure
+      in let on = next-round t round (IsIn j.nodes) at.listed at.all x
+      in (λ has. on.0 (exact.0 has), λ is. exact.1 (on.1 is))
+    where
+      absorbed : (s : StructureForm) → IsAbsorbed t.program j.nodes (point x.node s)
+          → (r : StructureForm) × IsIn j.nodes (point x.node r) × (key_of t.program s ≡ key_of t.program r) × IsUnder s r
+      absorbed s is = is
+
+  pub last-round : (told : List (List K3)) → AreStepped t j.nodes (IsAbsorbed t.program j.nodes) told
+      → IsAtLastRound t j told
+  last-round told stepped = record {
+    round = round;
+    at = at;
+    last = λ x. (λ is. (last-exact x).0 (at.all x is), λ is. at.listed x ((last-exact x).1 is));
+    budgets = all-budgets t.program (IsIn j.nodes) (round_in t round) at.all
+        (budgets-kept t valid j.nodes (IsAbsorbed t.program j.nodes) values followed);
+    stepped = stepped;
+  }
 
 -- ---- causes
 
@@ -358,7 +470,7 @@ follow-cause t round j at Individuals cause =
     (round, meets-weaker t.program (MeetsIndividuals t.program) (IsIn j.nodes) (round_in t round) at.listed cause)
 follow-cause t round j at Memory cause = tt
 
--- ---- it ends
+-- ---- weights
 
 -- what is listed doesn't weigh more than the bound
 pub round-bound : (t : TaskForm) (round : ℕ) (j : JoinsForm) → IsAtRound t round j
@@ -371,49 +483,80 @@ round-bound t round j at =
 
 -- ---- as the calls go
 
+-- the places of what changed are handed out
+module _ (t : TaskForm) (old new : JoinsForm) (places : List Place) (taken : places ≡ old.changed)
+    (left : new ≡ record { nodes = old.nodes; room = old.room; changed = [] }) where
+  pub taken-nodes : new.nodes ≡ old.nodes
+  taken-nodes = ap (λ (j : JoinsForm). j.nodes) left
+
+  pub taken-kept : IsKept t old → IsKept t new
+  taken-kept kept = subst (IsKept t) (sym left) (record {
+    nodes = kept.nodes;
+    each = kept.each;
+    room = kept.room;
+    places = λ w has. absurd (Contains-none w has);
+  })
+
+  pub taken-in : IsKept t old → AreIn new.nodes places
+  taken-in kept w has =
+      subst (λ ns. w.at < length (members_at ns w.node).structures) (sym taken-nodes)
+      (kept.places w (subst (λ ws. Contains ws w) taken has))
+
+  pub taken-followed : (g : GatheredForm) (before : List (List (List K3))) → AreFollowed t new.nodes places g before
+      → AreFollowed t old.nodes old.changed g before
+  taken-followed g before are =
+      subst (λ ws. AreFollowed t old.nodes ws g before) taken (subst (λ ns. AreFollowed t ns places g before) taken-nodes are)
+
+  pub taken-cause : (e : JoinError) → IsFollowCause t.program (IsIn new.nodes) e → IsFollowCause t.program (IsIn old.nodes) e
+  taken-cause e cause = subst (λ ns. IsFollowCause t.program (IsIn ns) e) taken-nodes cause
+
 pub start-cause : (t : TaskForm) (valid : IsValid t.program) (n : ℕ) (old new : JoinsForm) (found : List Found)
-    → old ≡ record { nodes = replicate n no_members; room = Some t.max; changed = false } → AreOpenings t t.initial found
+    → old ≡ record { nodes = replicate n no_members; room = Some t.max; changed = [] } → AreOpenings t t.initial found
     → (e : JoinError) → IsMeetingCause t old found new e → IsJoinCause t.program t.mode t.initial t.max e
 start-cause t valid n old new found e are Structures (met, more) = first-cause t valid n old new found e are met more
 start-cause t valid n old new found e are Splits cause = absurd cause
 start-cause t valid n old new found e are Individuals cause = absurd cause
 start-cause t valid n old new found e are Memory cause = tt
 
-pub on-cause : (t : TaskForm) (valid : IsValid t.program) (round : ℕ) (old new : JoinsForm) (found : List Found)
-    (told : List (List K3)) (at : IsAtRound t round old) → AreStepped t old.nodes (IsFound found) told
-    → AreResultsOf t old.nodes found → (e : JoinError) → IsMeetingCause t old found new e
+pub on-cause : (t : TaskForm) (valid : IsValid t.program) (old middle new : JoinsForm) (found : List Found)
+    (before values : List (List (List K3))) (some : IsAtSomeRound t old before)
+    → AreFollowed t old.nodes old.changed (record { found = found; values = values }) before
+    → middle.nodes ≡ old.nodes → (e : JoinError) → IsMeetingCause t middle found new e
     → IsJoinCause t.program t.mode t.initial t.max e
-on-cause t valid round old new found told at stepped only Structures (met, more) =
-    round-cause t valid round old new found told at stepped only met more
-on-cause t valid round old new found told at stepped only Splits cause = absurd cause
-on-cause t valid round old new found told at stepped only Individuals cause = absurd cause
-on-cause t valid round old new found told at stepped only Memory cause = tt
+on-cause t valid old middle new found before values some are nodes Structures (met, more) =
+    round-cause t valid some.round old middle new found before values some.at some.followed are nodes met more
+on-cause t valid old middle new found before values some are nodes Splits cause = absurd cause
+on-cause t valid old middle new found before values some are nodes Individuals cause = absurd cause
+on-cause t valid old middle new found before values some are nodes Memory cause = tt
 
-pub nothing-said : (t : TaskForm) (listing : List (List StructureForm)) (n : ℕ) (told : List (List K3))
-    → n ≡ length t.program.edges → told ≡ replicate n [] → AreSaid t listing told
-nothing-said t listing n told count e = subst (AreSaid t listing) (sym e) (record {
-  edges = length-replicate {A = List K3} n [] ∙ count;
-  said = λ edge number some. absurd (some (nothing edge number (cases_lt edge n)));
-})
+-- ---- it ends
+
+-- 1 where something changed
+abbrev pub waits : List Place → ℕ
+waits [] = 0
+waits (w ∷ ws) = 1
+
+-- what is left to rise
+abbrev pub left_to_rise : TaskForm → JoinsForm → ℕ
+left_to_rise t j = (t.max * most_structure t - listing_weight (listing_of j.nodes)) + waits j.changed
+
+some-waits : (ws : List Place) → ws ≢ [] → waits ws ≡ 1
+some-waits [] some = absurd (some refl)
+some-waits (w ∷ ws) some = refl
+
+few-wait : (ws : List Place) → waits ws ≤ 1
+few-wait [] = omega arith
+few-wait (w ∷ ws) = omega arith
+
+-- it has risen, and not past the bound, or nothing changed any more
+pub on-rises : (t : TaskForm) (old new : JoinsForm) (values : List (List (List K3))) → IsRoundOn t old new values
+    → old.changed ≢ [] → left_to_rise t new < left_to_rise t old
+on-rises t old new values on some = by on.rises
   where
-    nothing : (edge number : ℕ) → (edge < n) ⊎ (n ≤ edge) → told_value (replicate n []) edge number ≡ No
-    nothing edge number (inl lt) = ap (λ row. get_or row number No) (get_or-replicate n edge [] [] lt)
-    nothing edge number (inr past) =
-        ap (λ row. get_or row number No) (get_or_past (replicate n []) edge [] (omega (arith, past, length-replicate {A = List K3} n [])))
+    bound : listing_weight (listing_of new.nodes) ≤ t.max * most_structure t
+    bound = round-bound t on.at.round new on.at.at
 
-pub on-changed : (t : TaskForm) (old new : JoinsForm) (told : List (List K3)) → IsRoundOn t old new told → new.changed ≡ true
-    → IsAtSomeRound t new
-on-changed t old new told (inl (same, last)) did = absurd (true≢false (sym did ∙ same))
-on-changed t old new told (inr (is, at, more)) did = at
-
--- it has risen, and not past the bound
-pub on-rises : (t : TaskForm) (old new : JoinsForm) (told : List (List K3)) → IsRoundOn t old new told → new.changed ≡ true
-    → (listing_weight (listing_of old.nodes) < listing_weight (listing_of new.nodes))
-    × (listing_weight (listing_of new.nodes) ≤ t.max * most_structure t)
-on-rises t old new told (inl (same, last)) did = absurd (true≢false (sym did ∙ same))
-on-rises t old new told (inr (is, (round, at), more)) did = (more, round-bound t round new at)
-
-pub on-last : (t : TaskForm) (old new : JoinsForm) (told : List (List K3)) → IsRoundOn t old new told → new.changed ≡ false
-    → IsAtLastRound t new told
-on-last t old new told (inl (same, last)) did = last
-on-last t old new told (inr (is, at, more)) did = absurd (true≢false (sym is ∙ did))
+    by : Rises (listing_of old.nodes) new → left_to_rise t new < left_to_rise t old
+    by (inl (none, same)) =
+        omega (arith, bound, some-waits old.changed some, ap waits none, ap listing_weight same)
+    by (inr (changed, more)) = omega (arith, bound, more, some-waits old.changed some, few-wait new.changed)

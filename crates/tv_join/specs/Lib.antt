@@ -3,7 +3,9 @@ pub mod Rounds
 pub mod Joined
 pub mod Flags
 pub mod Listed
+pub mod Places
 pub mod State
+pub mod Values
 pub mod Weight
 pub mod Task
 pub mod Stepped

@@ -1,5 +1,5 @@
 -- What is listed between two rounds.
-use Rattle.std.specs.Prelude.{ℕ, ◌≡◌, ◌<◌, ◌+◌, zero, suc, Bool, true, List, [], length, sum_by, map, Option, Some, None, Contains, slice_get, slice_set, slice_index_or}
+use Rattle.std.specs.Prelude.{ℕ, ◌≡◌, ◌<◌, ◌+◌, zero, suc, Bool, List, [], length, sum_by, map, Option, Some, None, Contains, slice_get, slice_set, slice_index_or}
 use Rattle.tv_model.specs.Program.{ProgramForm}
 use Rattle.tv_struct.specs.StructureForm.{StructureForm}
 use Rattle.tv_work.specs.Reach.{Point, IsListed}
@@ -10,8 +10,10 @@ use Rattle.tv_keys.specs.declared.members.Put.{Put}
 use Rattle.tv_keys.specs.declared.members.Put.TheVariants.{Known, Raised, Added}
 use Rattle.tv_join.specs.Flags.{key_flags, IsPlain}
 use Rattle.tv_join.specs.Keys.{key_of}
+use Rattle.tv_join.specs.Places.{place_of, Notes}
 use Rattle.tv_join.specs.Rounds.{point}
 use Rattle.tv_join.specs.declared.joins.Found.{Found}
+use Rattle.tv_join.specs.declared.places.Place.{Place}
 
 -- ---- nodes
 
@@ -41,12 +43,16 @@ IsIn nodes = IsListed (listing_of nodes)
 abbrev pub total_of : List MembersForm → ℕ
 total_of nodes = sum_by length (listing_of nodes)
 
--- the structures of the nodes, how many more may be listed, nothing where there are too many, and whether
--- something changed
+-- the structure stands at the place
+abbrev pub StandsAt : List MembersForm → Place → StructureForm → Type 0
+StandsAt nodes w s = slice_get (members_at nodes w.node).structures w.at ≡ Some s
+
+-- the structures of the nodes, how many more may be listed, nothing where there are too many, and the places
+-- of what changed
 pub record JoinsForm : Type 0 where
   pub nodes : List MembersForm
   pub room : Option ℕ
-  pub changed : Bool
+  pub changed : List Place
 
 -- so many more may be listed
 abbrev pub HasRoom : (max total : ℕ) → Option ℕ → Type 0
@@ -57,6 +63,7 @@ pub record IsKept (t : TaskForm) (j : JoinsForm) : Type 0 where
   pub nodes : length j.nodes ≡ length t.program.nodes
   pub each : (k : ℕ) → IsNode t.program (members_at j.nodes k)
   pub room : HasRoom t.max (total_of j.nodes) j.room
+  pub places : (w : Place) → Contains j.changed w → w.at < length (members_at j.nodes w.node).structures
 
 -- ---- structures are put
 
@@ -71,10 +78,11 @@ room_after Known room = room
 room_after (Raised place) room = room
 room_after Added room = less room
 
-abbrev pub changed_after : Put → Bool → Bool
-changed_after Known changed = changed
-changed_after (Raised place) changed = true
-changed_after Added changed = true
+-- what became of a structure that was put at the node, which had so many, is noted
+abbrev pub NotesPut : (node count : ℕ) → Put → (old new : List Place) → Type 0
+NotesPut node count Known old new = new ≡ old
+NotesPut node count (Raised at) old new = Notes (place_of node at) old new
+NotesPut node count Added old new = Notes (place_of node count) old new
 
 -- the structure is put at the node, and this comes of it
 pub record IsPut (counted : List Bool) (old : JoinsForm) (k : ℕ) (s : StructureForm) (new : JoinsForm) (put : Put) : Type
@@ -95,7 +103,7 @@ pub record IsMet (counted : List Bool) (old : JoinsForm) (k : ℕ) (s : Structur
     pub puts : Puts counted (members_at old.nodes k).structures s node.structures put
     pub indexed : IsIndexed counted node
     pub room : new.room ≡ room_after put old.room
-    pub changed : new.changed ≡ changed_after put old.changed
+    pub changed : NotesPut k (length (members_at old.nodes k).structures) put old.changed new.changed
 
 -- ---- what was found
 

@@ -1,26 +1,21 @@
 //! Structures are opened and followed.
 
-ghost use Rattle.std.specs.Prelude.{◌≡◌, ◌<◌, ◌⊎◌, [], All, Contains, Some, IfOk, IfErr, OnOk, length, slice_get};
-ghost use Rattle.tv_listing.specs.ListingForm.{at_node};
-ghost use Rattle.tv_model.specs.declared.program.Edge.{Edge};
-ghost use Rattle.tv_struct.specs.StructureForm.{IsStructure};
-ghost use Rattle.tv_work.specs.Analysed.{IsAtSource};
-ghost use Rattle.tv_work.specs.Explored.{AreSaid};
-ghost use Rattle.tv_work.specs.Reach.{IsStartPoint};
-ghost use Rattle.tv_join.specs.Flags.{IsPlain};
-ghost use Rattle.tv_join.specs.Rounds.{point};
-ghost use Rattle.tv_join.specs.State.{IsKept, IsIn, IsFound, listing_of};
-ghost use Rattle.tv_join.specs.Stepped.{AreDoneAlong, AreResultsOf, AreOpenings, AreStepped, Finds, FindsOpening, Gathers, IsDoneAlong, IsFollowCause, IsOpenable};
+ghost use Rattle.std.specs.Prelude.{◌≡◌, ◌<◌, Contains, IfOk, IfErr, OnOk, length};
+ghost use Rattle.tv_work.specs.Leaving.{LeavesBy};
+ghost use Rattle.tv_join.specs.State.{IsKept, IsIn, IsFound, members_at};
+ghost use Rattle.tv_join.specs.Stepped.{AreFollowed, AreIn, AreOpenings, ChangesFrom, Finds, FindsOpening, Gathers, IsFollowCause, IsFollowedAlong, IsFollowedFrom, IsOpenable};
 ghost use Rattle.tv_join.specs.Task.{form_in, task_of, IsReady};
+ghost use Rattle.tv_join.specs.Values.{ChangesAlong};
 
 use crate::JoinError;
 use crate::joins::{Found, Joins};
+use crate::places::{Place, Places};
 use crate::task::Task;
+use crate::values::MessageValues;
 use std::alloc::AllocError;
 use tv_eval::Scratch;
 use tv_step::{abstract_step, opening};
 use tv_struct::{Structure, Structures};
-use tv_work::Told;
 
 /// The openings of the initial structures, for the start node.
 pub(crate) fn openings(x: &Task, scratch: &mut Scratch) -> Result<Vec<Found>, AllocError>
@@ -57,85 +52,87 @@ fn open(
     }
 }
 
-/// Follows all listed structures along all edges: what is found, and the values of messages, which are told.
+/// Follows the structures at these places along all edges that leave their nodes: what is found, and the values
+/// of their messages, which are kept.
 pub(crate) fn follow_all(
     x: &Task,
     joins: &Joins,
+    places: Places,
     scratch: &mut Scratch,
-    told: &mut Told,
+    values: &mut MessageValues,
 ) -> Result<Vec<Found>, JoinError>
     requires ready { IsReady x.now scratch.old }
     requires kept { IsKept (task_of x.now) joins.now }
-    requires said { AreSaid (task_of x.now) (listing_of joins.now.nodes) told.old }
-    ensures stepped { IfOk result (λ found. AreStepped (task_of x.now) joins.now.nodes (IsFound found.items) told.new) }
-    ensures only { IfOk result (λ found. AreResultsOf (task_of x.now) joins.now.nodes found.items) }
+    requires places { AreIn joins.now.nodes places }
+    requires edges { length values.old ≡ length x.now.program.now.edges }
+    ensures followed { IfOk result (λ found. AreFollowed (task_of x.now) joins.now.nodes places
+        (record { found = found.items; values = values.new }) values.old) }
+    ensures edges { OnOk result (length values.new ≡ length x.now.program.now.edges) }
     ensures cause { IfErr result (IsFollowCause (form_in x.now) (IsIn joins.now.nodes)) }
     ensures scratch { scratch.new ≡ scratch.old }
 {
     let mut found = Vec::new(x.alloc);
-    let count = x.program.edges.len();
-    for edge in 0..count {
-        follow_edge(x, joins, edge as u32, scratch, &mut found, told)?;
+    let mut left = places;
+    while let Some(w) = left.take_first() {
+        follow(x, joins, w, scratch, &mut found, values)?;
     }
     Ok(found)
 }
 
-/// Follows the structures at the edge's source along the edge.
-fn follow_edge(
+/// Follows the structure at the place along each edge that leaves its node.
+fn follow(
     x: &Task,
     joins: &Joins,
-    edge: u32,
+    w: Place,
     scratch: &mut Scratch,
     found: &mut Vec<Found>,
-    told: &mut Told,
+    values: &mut MessageValues,
 ) -> Result<(), JoinError>
     requires ready { IsReady x.now scratch.old }
     requires kept { IsKept (task_of x.now) joins.now }
-    requires edge { edge < length x.now.program.now.edges }
-    requires said { AreSaid (task_of x.now) (listing_of joins.now.nodes) told.old }
-    ensures said { OnOk result (AreSaid (task_of x.now) (listing_of joins.now.nodes) told.new) }
-    ensures gathers { OnOk result (Gathers (task_of x.now) joins.now.nodes
-        (record { found = found.old.items; told = told.old }) (record { found = found.new.items; told = told.new })) }
-    ensures done { OnOk result ((taken : Edge) → slice_get x.now.program.now.edges edge ≡ Some taken
-        → AreDoneAlong (task_of x.now) (IsFound found.new.items) told.new edge
-        (at_node (listing_of joins.now.nodes) taken.from)) }
+    requires place { w.at < length (members_at joins.now.nodes w.node).structures }
+    requires edges { length values.old ≡ length x.now.program.now.edges }
+    ensures gathers { OnOk result (Gathers (task_of x.now) joins.now.nodes found.old.items found.new.items) }
+    ensures edges { OnOk result (length values.new ≡ length x.now.program.now.edges) }
+    ensures others { OnOk result (ChangesFrom (task_of x.now) w values.old values.new) }
+    ensures followed { OnOk result (IsFollowedFrom (task_of x.now) joins.now.nodes (IsFound found.new.items)
+        values.new w) }
     ensures cause { IfErr result (IsFollowCause (form_in x.now) (IsIn joins.now.nodes)) }
     ensures scratch { scratch.new ≡ scratch.old }
 {
-    let from = x.program.edges.as_slice()[edge as usize].from;
-    let structures = joins.at_node(from);
-    for s in structures {
-        follow(x, joins, edge, s, scratch, found, told)?;
+    for edge in x.leaving[w.node as usize].as_slice() {
+        follow_edge(x, joins, w, *edge, scratch, found, values)?;
     }
     Ok(())
 }
 
-/// Follows one of them: its results are found for the edge's target.
-fn follow(
+/// Follows it along one edge: its results are found for the edge's target, and the values of the edge's
+/// messages are kept.
+fn follow_edge(
     x: &Task,
     joins: &Joins,
+    w: Place,
     edge: u32,
-    s: &Structure,
     scratch: &mut Scratch,
     found: &mut Vec<Found>,
-    told: &mut Told,
+    values: &mut MessageValues,
 ) -> Result<(), JoinError>
     requires ready { IsReady x.now scratch.old }
     requires kept { IsKept (task_of x.now) joins.now }
-    requires source { (taken : Edge) × (slice_get x.now.program.now.edges edge ≡ Some taken)
-        × IsIn joins.now.nodes (point taken.from s.now) }
-    requires said { AreSaid (task_of x.now) (listing_of joins.now.nodes) told.old }
-    ensures said { OnOk result (AreSaid (task_of x.now) (listing_of joins.now.nodes) told.new) }
-    ensures gathers { OnOk result (Gathers (task_of x.now) joins.now.nodes
-        (record { found = found.old.items; told = told.old }) (record { found = found.new.items; told = told.new })) }
-    ensures done { OnOk result ((taken : Edge) → slice_get x.now.program.now.edges edge ≡ Some taken
-        → IsDoneAlong (task_of x.now) (IsFound found.new.items) told.new edge taken s.now) }
+    requires place { w.at < length (members_at joins.now.nodes w.node).structures }
+    requires edge { LeavesBy x.now.program.now.edges w.node edge }
+    requires edges { length values.old ≡ length x.now.program.now.edges }
+    ensures gathers { OnOk result (Gathers (task_of x.now) joins.now.nodes found.old.items found.new.items) }
+    ensures others { OnOk result (ChangesAlong edge w.at values.old values.new) }
+    ensures followed { OnOk result (IsFollowedAlong (task_of x.now) joins.now.nodes (IsFound found.new.items)
+        values.new w edge) }
     ensures cause { IfErr result (IsFollowCause (form_in x.now) (IsIn joins.now.nodes)) }
     ensures scratch { scratch.new ≡ scratch.old }
 {
     let to = x.program.edges.as_slice()[edge as usize].to;
+    let s = joins.at(w);
     let out = abstract_step(x.alloc, x.program, x.closed, edge, x.mode, s, scratch)?;
-    told.note(x.alloc, edge, &out.messages)?;
+    values.keep(x.alloc, edge, w.at, out.messages)?;
     push_found(to, out.results, found)?;
     Ok(())
 }

@@ -20,6 +20,7 @@ use tv_listing::Analysis;
 use tv_model::{Items, Mode, Pred, Program};
 use tv_rules::close_rules;
 use tv_struct::Structures;
+use tv_work::leaving_edges;
 
 /// For each predicate whether it counts for keys: it is nullary, or individuals are told apart by it.
 fn key_flags(alloc: Global, program: &Program) -> Result<Vec<bool>, AllocError>
@@ -79,12 +80,14 @@ pub fn analyse_joined(
     ensures cause { IfErr result (IsJoinCause (program_of program.now) mode initial.now max) }
 {
     let closed = close_rules(alloc, program)?;
+    let leaving = leaving_edges(alloc, program)?;
     let counted = key_flags(alloc, program)?;
     let mut scratch = Scratch::new(alloc, program, 256)?;
     let task = Task {
         alloc,
         program,
         closed: &closed,
+        leaving: &leaving,
         counted: &counted,
         initial: initial.as_slice(),
         mode,

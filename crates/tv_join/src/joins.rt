@@ -1,18 +1,20 @@
 //! What is listed, at all nodes.
 
-ghost use Rattle.std.specs.Prelude.{◌≡◌, ◌<◌, ◌≤◌, ◌^◌, ℕ, [], Bool, false, All, None, Some, IfOk, IfErr, MatchBool, OnOk, length, replicate, slice_set};
+ghost use Rattle.std.specs.Prelude.{◌≡◌, ◌≢◌, ◌<◌, ◌≤◌, ◌^◌, ℕ, [], All, None, Some, IfOk, IfErr, MatchBool, OnOk, length, replicate, slice_set};
 ghost use Rattle.tv_listing.specs.ListingForm.{at_node};
 ghost use Rattle.tv_keys.specs.Keyed.{AreFlags};
 ghost use Rattle.tv_keys.specs.Members.{IsIndexed};
 ghost use Rattle.tv_join.specs.Flags.{key_flags};
-ghost use Rattle.tv_join.specs.State.{JoinsForm, no_members, members_at, less, changed_after, room_after, IsPut, IsMet, IsKept, total_of};
+ghost use Rattle.tv_join.specs.State.{JoinsForm, no_members, members_at, less, room_after, NotesPut, IsPut, IsMet, IsKept, StandsAt, total_of};
 ghost use Rattle.tv_join.specs.Stepped.{IsPlacedFound, HaveMet, IsMeetingCause};
 ghost use Rattle.tv_join.specs.Task.{task_of, form_in};
 
 use crate::JoinError;
+use crate::places::{Place, Places};
 use crate::task::Task;
 use std::alloc::{AllocError, Global};
 use std::marker::Model;
+use std::mem;
 use tv_keys::{Members, Put};
 use tv_listing::Listing;
 use tv_struct::Structure;
@@ -24,13 +26,13 @@ pub(crate) struct Found {
     pub structure: Structure,
 }
 
-/// The structures of each node, how many more may be listed, nothing where there are too many, and whether
-/// what is listed changed.
+/// The structures of each node, how many more may be listed, nothing where there are too many, and the places
+/// of what changed since they were handed out.
 #[derive(Drop)]
 pub(crate) struct Joins {
     nodes: Vec<Members>,
     room: Option<u64>,
-    changed: bool,
+    changed: Places,
 }
 
 impl Model for Joins {
@@ -47,7 +49,7 @@ impl Joins {
         ensures { IfOk result (λ j. j ≡ record {
           nodes = replicate nodes no_members;
           room = Some max;
-          changed = false;
+          changed = [];
         }) }
     {
         let mut empty = Vec::with_capacity(alloc, nodes)?;
@@ -57,20 +59,29 @@ impl Joins {
         Ok(Joins {
             nodes: empty,
             room: Some(max),
-            changed: false,
+            changed: Places::new(alloc),
         })
     }
 
-    /// Joins what was found into what is listed. `Structures` where too many are then listed.
+    /// Hands out the places of what changed. From here on nothing has changed.
+    pub fn take_changed(&mut self, alloc: Global) -> Places
+        ensures taken { result ≡ self.old.changed }
+        ensures left { self.new ≡ record { nodes = self.old.nodes; room = self.old.room; changed = [] } }
+    {
+        mem::replace(&mut self.changed, Places::new(alloc))
+    }
+
+    /// Joins what was found into what is listed, where nothing has changed, and notes the places of what
+    /// changes. `Structures` where too many are then listed.
     pub fn meet_all(&mut self, x: &Task, found: Vec<Found>) -> Result<(), JoinError>
         requires flags { x.now.counted.now ≡ key_flags (form_in x.now) }
         requires kept { IsKept (task_of x.now) self.old }
+        requires none { self.old.changed ≡ [] }
         requires placed { All (IsPlacedFound (task_of x.now)) found.items }
         ensures met { OnOk result (HaveMet (task_of x.now) self.old found.items self.new) }
         ensures within { OnOk result (total_of self.new.nodes ≤ x.now.max) }
         ensures cause { IfErr result (IsMeetingCause (task_of x.now) self.old found.items self.new) }
     {
-        self.begin();
         for f in found {
             self.meet(x, f)?;
         }
@@ -78,13 +89,6 @@ impl Joins {
             return Err(JoinError::Structures);
         }
         Ok(())
-    }
-
-    /// From here on nothing has changed.
-    fn begin(&mut self)
-        ensures { self.new ≡ record { nodes = self.old.nodes; room = self.old.room; changed = false } }
-    {
-        self.changed = false;
     }
 
     /// Whether too many structures are listed.
@@ -105,8 +109,10 @@ impl Joins {
         requires indexed { IsIndexed x.now.counted.now (members_at self.old.nodes found.node) }
         ensures { OnOk result (IsMet x.now.counted.now self.old found.node found.structure self.new) }
     {
-        let put = self.put(x, found.node, found.structure)?;
-        self.note(put);
+        let node = found.node;
+        let count = self.at_node(node).len();
+        let put = self.put(x, node, found.structure)?;
+        self.note(node, count, put)?;
         Ok(())
     }
 
@@ -122,29 +128,27 @@ impl Joins {
         at.put(x.alloc, x.counted, s)
     }
 
-    /// Notes what became of a structure.
-    fn note(&mut self, put: Put)
-        ensures { self.new ≡ record {
-          nodes = self.old.nodes;
-          room = room_after put self.old.room;
-          changed = changed_after put self.old.changed;
-        } }
+    /// Notes what became of a structure that was put among those of the node, which were so many.
+    fn note(&mut self, node: u32, count: usize, put: Put) -> Result<(), AllocError>
+        ensures nodes { self.new.nodes ≡ self.old.nodes }
+        ensures room { OnOk result (self.new.room ≡ room_after put self.old.room) }
+        ensures changed { OnOk result (NotesPut node count put self.old.changed self.new.changed) }
     {
         match put {
-            Put::Known => {}
-            Put::Raised(_) => self.changed = true,
+            Put::Known => Ok(()),
+            Put::Raised(at) => self.changed.note(Place { node, at }),
             Put::Added => {
                 self.room = less(self.room);
-                self.changed = true;
+                self.changed.note(Place { node, at: count })
             }
         }
     }
 
-    /// Whether what is listed changed when structures were met last.
+    /// Whether anything changed.
     pub fn has_changed(&self) -> bool
-        ensures { result ≡ self.now.changed }
+        ensures { MatchBool result (self.now.changed ≢ []) (self.now.changed ≡ []) }
     {
-        self.changed
+        !self.changed.is_empty()
     }
 
     /// The structures of the node.
@@ -153,6 +157,15 @@ impl Joins {
         ensures { result.now ≡ (members_at self.now.nodes node).structures }
     {
         self.nodes[node as usize].as_slice()
+    }
+
+    /// The structure at the place.
+    pub fn at(&self, w: Place) -> &Structure
+        requires { w.at < length (members_at self.now.nodes w.node).structures }
+        ensures { StandsAt self.now.nodes w result.now }
+    {
+        let structures = self.at_node(w.node);
+        &structures[w.at]
     }
 
     /// What is listed, as a listing.

@@ -6,8 +6,11 @@ mod error;
 mod follow;
 mod joined;
 mod joins;
+mod places;
 mod rounds;
 mod task;
+mod telling;
+mod values;
 
 pub use error::JoinError;
 pub use joined::analyse_joined;

@@ -1,8 +1,8 @@
 //! The rounds.
 
-ghost use Rattle.std.specs.Prelude.{◌≡◌, ◌≤◌, IfOk, IfErr, length};
+ghost use Rattle.std.specs.Prelude.{◌≡◌, IfOk, IfErr, OnOk, List, length};
+ghost use Rattle.tv_kleene.specs.declared.K3.{K3};
 ghost use Rattle.tv_join.specs.Joined.{IsJoinCause};
-ghost use Rattle.tv_join.specs.State.{JoinsForm};
 ghost use Rattle.tv_join.specs.Stepped.{IsAtSomeRound, IsAtLastRound, IsRoundOn};
 ghost use Rattle.tv_join.specs.Task.{form_in, task_of, IsReady};
 
@@ -10,6 +10,8 @@ use crate::JoinError;
 use crate::follow::{follow_all, openings};
 use crate::joins::Joins;
 use crate::task::Task;
+use crate::telling::tell_all;
+use crate::values::MessageValues;
 use tv_eval::Scratch;
 use tv_work::Told;
 
@@ -20,10 +22,11 @@ pub(crate) struct Ended {
     pub told: Told,
 }
 
-/// What the first round lists.
+/// What the first round lists; none of it was followed.
 fn start(x: &Task, scratch: &mut Scratch) -> Result<Joins, JoinError>
     requires { IsReady x.now scratch.old }
-    ensures at { IfOk result (IsAtSomeRound (task_of x.now)) }
+    ensures at { IfOk result (λ joins. (values : List (List (List K3)))
+        → IsAtSomeRound (task_of x.now) joins values) }
     ensures cause { IfErr result (IsJoinCause (form_in x.now) x.now.mode x.now.initial.now x.now.max) }
     ensures scratch { scratch.new ≡ scratch.old }
 {
@@ -33,32 +36,40 @@ fn start(x: &Task, scratch: &mut Scratch) -> Result<Joins, JoinError>
     Ok(joins)
 }
 
-/// Goes one round on, and gives the values of messages of what was listed before.
-fn round(x: &Task, scratch: &mut Scratch, joins: &mut Joins) -> Result<Told, JoinError>
+/// Goes one round on. Only what changed is followed: the results of all else are absorbed, so joining them once
+/// more would change nothing.
+fn round(
+    x: &Task,
+    scratch: &mut Scratch,
+    joins: &mut Joins,
+    values: &mut MessageValues,
+) -> Result<(), JoinError>
     requires ready { IsReady x.now scratch.old }
-    requires at { IsAtSomeRound (task_of x.now) joins.old }
-    ensures on { IfOk result (IsRoundOn (task_of x.now) joins.old joins.new) }
+    requires edges { length values.old ≡ length x.now.program.now.edges }
+    requires at { IsAtSomeRound (task_of x.now) joins.old values.old }
+    ensures on { OnOk result (IsRoundOn (task_of x.now) joins.old joins.new values.new) }
+    ensures edges { OnOk result (length values.new ≡ length x.now.program.now.edges) }
     ensures cause { IfErr result (IsJoinCause (form_in x.now) x.now.mode x.now.initial.now x.now.max) }
     ensures scratch { scratch.new ≡ scratch.old }
 {
-    let mut told = Told::new(x.alloc, x.program.edges.len())?;
-    let found = follow_all(x, joins, scratch, &mut told)?;
+    let changed = joins.take_changed(x.alloc);
+    let found = follow_all(x, joins, changed, scratch, values)?;
     joins.meet_all(x, found)?;
-    Ok(told)
+    Ok(())
 }
 
-/// Goes on until a round lists what the one before lists. Each other round lists more, or structures that say
-/// less, and of both there is an end.
+/// Goes on while anything changes. Each such round lists more, or structures that say less, and of both there
+/// is an end.
 pub(crate) fn all_rounds(x: &Task, scratch: &mut Scratch) -> Result<Ended, JoinError>
     requires { IsReady x.now scratch.old }
     ensures last { IfOk result (λ ended. IsAtLastRound (task_of x.now) ended.joins ended.told) }
     ensures cause { IfErr result (IsJoinCause (form_in x.now) x.now.mode x.now.initial.now x.now.max) }
 {
     let mut joins = start(x, scratch)?;
-    loop {
-        let told = round(x, scratch, &mut joins)?;
-        if !joins.has_changed() {
-            return Ok(Ended { joins, told });
-        }
+    let mut values = MessageValues::new(x.alloc, x.program.edges.len())?;
+    while joins.has_changed() {
+        round(x, scratch, &mut joins, &mut values)?;
     }
+    let told = tell_all(x, &joins, &values)?;
+    Ok(Ended { joins, told })
 }

@@ -1,11 +1,11 @@
-use Rattle.std.proofs.Common.{ℕ, ◌≡◌, List, Bool, MatchBool, length, rules, sym, ap, subst, ◌∙◌, arith, None, Some}
+use Rattle.std.proofs.Common.{ℕ, ◌≡◌, List, Bool, MatchBool, length, rules, sym, subst, ◌∙◌, arith, None, Some}
 use Rattle.std.proofs.lemmas.Iterator.Adapters.{YieldsList-from_vec}
 use Rattle.std.proofs.lemmas.Iterator.Consumers.{YieldsList-end, YieldsList-turn}
 use Rattle.std.proofs.lemmas.List.{map-id}
 use Rattle.std.proofs.lemmas.List.Elements.{All-contains}
 use Rattle.tv_keys.specs.Keyed.{AreFlags}
 use Rattle.tv_keys.specs.Members.{IsIndexed}
-use Rattle.tv_join.specs.State.{JoinsForm, IsMet, members_at}
+use Rattle.tv_join.specs.State.{IsMet, members_at}
 use Rattle.tv_join.specs.Stepped.{HaveMet, IsPlacedFound}
 use Rattle.tv_join.specs.Task.{form_in, task_of}
 use Rattle.tv_join.proofs.KeyLaws.{flags-fit}
@@ -13,10 +13,7 @@ use Rattle.tv_join.proofs.Meeting.{met-none, met-next, room-none, room-some}
 use Rattle.tv_join.proofs.joins.Joins.meet_all.Goals as goal
 
 pub loop-f-init : goal.loop-f-init
-loop-f-init c =
-    met-none (task_of c.args.x.now) c.args.self.now c.begin.new.self c.requires.kept
-    (ap (λ (j : JoinsForm). j.nodes) c.begin.ensures) (ap (λ (j : JoinsForm). j.room) c.begin.ensures)
-    (ap (λ (j : JoinsForm). j.changed) c.begin.ensures)
+loop-f-init c = met-none (task_of c.args.x.now) c.args.self.now c.requires.kept c.requires.none
 
 pub meet-requires-clause-node : goal.meet-requires-clause-node
 meet-requires-clause-node c =
