@@ -56,7 +56,55 @@ const CROWD: &str = "%n = {u0, u1, u2, u3, u4, u5, u6, u7, u8, u9, u10, u11, u12
 }
 ";
 
-static ROWS: [Row; 8] = [
+/// The value of a nullary predicate is a part of the key, that of one that names don't tell isn't. What is listed
+/// first is followed once, and its message told in the end.
+const TURN: &str = "%p b() %p z(v) nonabs
+%%
+%action Turn() {
+  %message b() -> \"on\"
+  { b() = !b() z(v) = !z(v) }
+}
+%%
+L0 Turn() L0
+";
+
+const TURNED: &str = "tvla report 2
+node L0 structures 2
+%n = {i0}
+%p = {
+}
+%n = {i0}
+%p = {
+  b = 1
+  z = {i0}
+}
+message 0 0 1 \"on\"
+end
+";
+
+/// A message is told of what is listed in the end: it is true of the structure that was listed first, and unknown
+/// of that which it became.
+const SAY: &str = "%p z(v) nonabs
+%%
+%action Turn() {
+  %message E(v) z(v) -> \"turned\"
+  { z(v) = !z(v) }
+}
+%%
+L0 Turn() L0
+";
+
+const SAID: &str = "tvla report 2
+node L0 structures 1
+%n = {i0}
+%p = {
+  z = {i0:1/2}
+}
+message 0 0 1/2 \"turned\"
+end
+";
+
+static ROWS: [Row; 10] = [
     Row {
         words: &["join", "p", "i"],
         files: &[("p", NEW), ("i", NOBODY)],
@@ -101,6 +149,20 @@ node L1 structures 1
 }
 end
 ",
+        err: "",
+    },
+    Row {
+        words: &["join", "p", "i"],
+        files: &[("p", TURN), ("i", "%n = {u} %p = { b = 1 z = {u} }")],
+        code: 0,
+        out: TURNED,
+        err: "",
+    },
+    Row {
+        words: &["join", "p", "i"],
+        files: &[("p", SAY), ("i", "%n = {u} %p = { z = {u} }")],
+        code: 0,
+        out: SAID,
         err: "",
     },
     Row {

@@ -28,8 +28,8 @@ const NEW: &str = "%p a(v) %p b(v) %p c(v) %p d(v) %p e(v) %p f(v) %p g(v) %p h(
 %% %action New() { %new } %% L0 New() L1";
 
 /// Three choices for each of seven summaries; two for each of twelve or thirteen individuals; a new individual
-/// beside 255 or 256; a text of 256 or 257 individuals.
-static ROWS: [Row; 8] = [
+/// beside 255 or 256, also in joined analyses; a text of 256 or 257 individuals.
+static ROWS: [Row; 9] = [
     Row {
         words: &["analyze", "p", "i"],
         program: FOCUS,
@@ -82,6 +82,16 @@ static ROWS: [Row; 8] = [
     },
     Row {
         words: &["analyze", "p", "i"],
+        program: NEW,
+        count: 256,
+        definite: &["a", "b", "c", "d", "e", "f", "g", "h"],
+        unknown: &[],
+        code: 4,
+        structures: 0,
+        err: "tvla: too many individuals\n",
+    },
+    Row {
+        words: &["join", "p", "i"],
         program: NEW,
         count: 256,
         definite: &["a", "b", "c", "d", "e", "f", "g", "h"],
