@@ -173,8 +173,8 @@ too_many_text max = codes "tvla: more than " ++ decimal max ++ line (codes " str
 -- the lines of all commands
 unfoldable pub usage_text : List ℕ
 usage_text =
-    line (codes "usage: tvla analyze PROGRAM INITIAL [--max-structures N] [--recompute]")
-    ++ line (codes "       tvla check PROGRAM INITIAL REPORT [--recompute] [--maps]")
+    line (codes "usage: tvla analyze PROGRAM INITIAL [--max-structures N] [--recompute | --delta]")
+    ++ line (codes "       tvla check PROGRAM INITIAL REPORT [--recompute | --delta] [--maps]")
     ++ line (codes "       tvla demo NUMBER")
     ++ line (codes "       tvla replay PROGRAM INITIAL START TRACE REPORT")
     ++ line (codes "       tvla source SOURCE INITIAL [--max-structures N]")

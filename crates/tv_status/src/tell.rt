@@ -10,8 +10,9 @@ use itoa::Buffer;
 use tv_lex::Place;
 use tv_outside::{Failed, Sink, write_all, write_parts};
 
-const USAGE: &[u8] = b"usage: tvla analyze PROGRAM INITIAL [--max-structures N] [--recompute]
-       tvla check PROGRAM INITIAL REPORT [--recompute] [--maps]
+const USAGE: &[u8] =
+    b"usage: tvla analyze PROGRAM INITIAL [--max-structures N] [--recompute | --delta]
+       tvla check PROGRAM INITIAL REPORT [--recompute | --delta] [--maps]
        tvla demo NUMBER
        tvla replay PROGRAM INITIAL START TRACE REPORT
        tvla source SOURCE INITIAL [--max-structures N]

@@ -4,6 +4,8 @@
 #[cfg(test)]
 mod call;
 #[cfg(test)]
+mod delta;
+#[cfg(test)]
 mod join;
 #[cfg(test)]
 mod replay;

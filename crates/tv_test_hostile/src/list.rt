@@ -262,7 +262,7 @@ pub const LIST_CALL: Call<'static, 'static, 'static, 'static> = Call {
 };
 
 /// Calls on the list, and what `out` takes.
-static TRAVERSALS: [(Call<'static, 'static, 'static, 'static>, &[&str]); 4] = [
+static TRAVERSALS: [(Call<'static, 'static, 'static, 'static>, &[&str]); 5] = [
     (LIST_CALL, &GUARDED_REPORT),
     (
         Call {
@@ -281,6 +281,13 @@ static TRAVERSALS: [(Call<'static, 'static, 'static, 'static>, &[&str]); 4] = [
     (
         Call {
             words: &["analyze", "--recompute", "p", "i"],
+            ..LIST_CALL
+        },
+        &GUARDED_REPORT,
+    ),
+    (
+        Call {
+            words: &["analyze", "--delta", "p", "i"],
             ..LIST_CALL
         },
         &GUARDED_REPORT,
@@ -343,6 +350,10 @@ fn traversals_are_accepted_and_replayed(rt: HostRuntime) -> Result<(), Fail> {
     assert!(rt;
         writes(rt.alloc(), &["replay", "p", "i", "s", "t", "r"], &STATES)?,
         "replay"
+    );
+    assert_eq!(rt;
+        wrong_judgement(rt.alloc(), &["check", "p", "i", "r", "--delta"])?,
+        None
     );
     Ok(())
 }

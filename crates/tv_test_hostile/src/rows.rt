@@ -273,8 +273,8 @@ demo 0";
 const USAGE: Ending<'static, 'static> = Ending {
     code: 2,
     out: "",
-    err: "usage: tvla analyze PROGRAM INITIAL [--max-structures N] [--recompute]
-       tvla check PROGRAM INITIAL REPORT [--recompute] [--maps]
+    err: "usage: tvla analyze PROGRAM INITIAL [--max-structures N] [--recompute | --delta]
+       tvla check PROGRAM INITIAL REPORT [--recompute | --delta] [--maps]
        tvla demo NUMBER
        tvla replay PROGRAM INITIAL START TRACE REPORT
        tvla source SOURCE INITIAL [--max-structures N]

@@ -44,8 +44,9 @@ node L1 structures 1
 end
 ";
 
-const USAGE: &str = "usage: tvla analyze PROGRAM INITIAL [--max-structures N] [--recompute]
-       tvla check PROGRAM INITIAL REPORT [--recompute] [--maps]
+const USAGE: &str =
+    "usage: tvla analyze PROGRAM INITIAL [--max-structures N] [--recompute | --delta]
+       tvla check PROGRAM INITIAL REPORT [--recompute | --delta] [--maps]
        tvla demo NUMBER
        tvla replay PROGRAM INITIAL START TRACE REPORT
        tvla source SOURCE INITIAL [--max-structures N]

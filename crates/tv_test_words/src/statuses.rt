@@ -14,8 +14,9 @@ use tv_replayed::Why;
 use tv_status::{FileKind, Role, Status, write_status};
 use tv_tvs::TvsError;
 
-const USAGE: &str = "usage: tvla analyze PROGRAM INITIAL [--max-structures N] [--recompute]
-       tvla check PROGRAM INITIAL REPORT [--recompute] [--maps]
+const USAGE: &str =
+    "usage: tvla analyze PROGRAM INITIAL [--max-structures N] [--recompute | --delta]
+       tvla check PROGRAM INITIAL REPORT [--recompute | --delta] [--maps]
        tvla demo NUMBER
        tvla replay PROGRAM INITIAL START TRACE REPORT
        tvla source SOURCE INITIAL [--max-structures N]

@@ -155,6 +155,26 @@ static SOURCES: [(&str, &str); 13] = [
     ("source -- --a b", "source --a b 5000"),
 ];
 
+static DELTAS: [(&str, &str); 14] = [
+    ("analyze a b --delta", "analyze a b 5000 delta"),
+    (
+        "analyze --delta a --max-structures=7 b",
+        "analyze a b 7 delta",
+    ),
+    ("analyze a b --delta --delta", "none"),
+    ("analyze a b --delta --recompute", "none"),
+    ("analyze a --recompute b --delta", "none"),
+    ("analyze a b --delta=", "none"),
+    ("analyze a b --deltas", "none"),
+    ("analyze -- --delta b", "analyze --delta b 5000"),
+    ("check a b c --delta", "check a b c delta"),
+    ("check --maps a --delta b c", "check a b c maps delta"),
+    ("check a b c --delta --delta", "none"),
+    ("check a b c --recompute --delta", "none"),
+    ("check a b -- --delta", "check a b --delta"),
+    ("demo 1 --delta", "none"),
+];
+
 static NUMBERS: [(&str, &str); 15] = [
     ("demo", "none"),
     ("demo 0", "none"),
@@ -190,6 +210,10 @@ fn mode_mark(mode: Mode) -> &'static str {
     }
 }
 
+fn delta_mark(delta: bool) -> &'static str {
+    if delta { " delta" } else { "" }
+}
+
 fn shown(alloc: Global, command: &Option<Command>) -> Result<String, AllocError> {
     match command {
         None => String::from_str(alloc, "none"),
@@ -199,8 +223,13 @@ fn shown(alloc: Global, command: &Option<Command>) -> Result<String, AllocError>
                 initial,
                 max,
                 mode,
+                delta,
             },
-        ) => format!(in alloc; "analyze {program} {initial} {max}{}", mode_mark(*mode)),
+        ) => format!(in alloc;
+            "analyze {program} {initial} {max}{}{}",
+            mode_mark(*mode),
+            delta_mark(*delta)
+        ),
         Some(
             Command::Check {
                 program,
@@ -208,12 +237,14 @@ fn shown(alloc: Global, command: &Option<Command>) -> Result<String, AllocError>
                 report,
                 mode,
                 maps,
+                delta,
             },
         ) => {
             let marks = if *maps { " maps" } else { "" };
             format!(in alloc;
-                "check {program} {initial} {report}{}{marks}",
-                mode_mark(*mode)
+                "check {program} {initial} {report}{}{marks}{}",
+                mode_mark(*mode),
+                delta_mark(*delta)
             )
         }
         Some(Command::Demo { number }) => format!(in alloc; "demo {number}"),
@@ -257,6 +288,7 @@ fn words_by_example(rt: HostRuntime) -> Result<(), Fail> {
         .chain(JOINS.iter())
         .chain(REPLAYS.iter())
         .chain(SOURCES.iter())
+        .chain(DELTAS.iter())
         .chain(NUMBERS.iter())
     {
         assert!(rt; compare(rt.alloc(), line, want)?, "at {line}");

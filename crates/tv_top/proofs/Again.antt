@@ -136,19 +136,19 @@ module _
     (again : ReportsAreReadAgain) (closed : ClosedListingsAreClosedReports)
   where
     pub accepted_again : ReportsAreAccepted
-    accepted_again words others held program initial report text max mode maps spells checks answer content size =
-        let same = one_command words answer.0 (Analyzes program initial max mode) answer.1 spells in
+    accepted_again words others held program initial report text max mode maps delta spells checks answer content size =
+        let same = one_command words answer.0 (Analyzes program initial max mode delta) answer.1 spells in
         let task = answer.2.0 in
-        let means : FilesMean (Some held) (Analyzes program initial max mode) task
+        let means : FilesMean (Some held) (Analyzes program initial max mode delta) task
         = subst (λ c. FilesMean (Some held) c task) same answer.2.1 in
-        let done : IsDone (Some held) (Analyzes program initial max mode) task text
+        let done : IsDone (Some held) (Analyzes program initial max mode delta) task text
         = subst (λ c. IsDone (Some held) c task text) same answer.2.2 in
         let a = done.0 in
         let found = done.1 in
         let read = again task.program a found.valid (readable task max a found) in
         let meant = subst (λ b. IsReportText task.program (report_text task.program a) b) (no_marks task max a found) read in
         let here = subst (λ t. IsReportText task.program t a) (sym done.2) meant in (
-          Checks program initial report mode maps,
+          Checks program initial report mode maps delta,
           checks,
           (
             refl,

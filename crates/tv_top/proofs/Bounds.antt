@@ -10,8 +10,8 @@ max_bounded (value ∷ []) max h = h.2
 max_bounded (first ∷ second ∷ rest) max h = absurd h
 
 pub bounded : CommandsAreBounded
-bounded words (Analyzes program initial max mode) spells = max_bounded _ max spells.2.max_is
-bounded words (Checks program initial report mode maps) spells = tt
+bounded words (Analyzes program initial max mode delta) spells = (max_bounded _ max spells.2.max_is, spells.2.uses.2)
+bounded words (Checks program initial report mode maps delta) spells = spells.2.uses.2
 bounded words (Demos number) spells = (spells.2.number_is.1, spells.2.number_is.2)
 bounded words (Joins program initial max mode) spells = max_bounded _ max spells.2.max_is
 bounded words (Replays program initial start trace report) spells = tt

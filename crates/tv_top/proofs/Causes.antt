@@ -1,5 +1,5 @@
 -- The causes of the parts of the work, as those of a command.
-use Rattle.std.proofs.Common.{◌≡◌, ◌≤◌, ℕ, Bool, List, Option, Some, Result, Ok, Err, inl, inr, refl, sym, subst, arith}
+use Rattle.std.proofs.Common.{◌≡◌, ◌≤◌, ℕ, Bool, true, false, List, Option, Some, Result, Ok, Err, inl, inr, refl, sym, subst, arith}
 use Rattle.std.specs.Prelude.{IfOk, IfErr}
 use Rattle.tv_join.specs.Joined.{IsJoinCause}
 use Rattle.tv_join.specs.declared.error.JoinError.{JoinError}
@@ -25,7 +25,7 @@ use Rattle.tv_top.specs.Answers.{Reached, InRound, case_for, max_of, HasMoreThan
 use Rattle.tv_top.specs.Call.{IsCause, IsCommandCause}
 use Rattle.tv_top.specs.Delivery.{SaidOf}
 use Rattle.tv_top.specs.Faults.{fault_of_work, fault_of_join, fault_of_stage, fault_of_text}
-use Rattle.tv_top.specs.Meaning.{Task, FilesMean, GivesProgram, GivesInitial, GivesReport, IsMissing, LacksLater, IsRefused, program_role}
+use Rattle.tv_top.specs.Meaning.{Task, FilesMean, IsTakenProgram, GivesProgram, GivesInitial, GivesReport, LacksInitial, IsMissing, LacksLater, IsRefused, program_role}
 use Rattle.tv_top.specs.Work.{Names, IsSearchCause, IsJoinSearchCause, IsJudged, IsJudgementCause, UnlessReadFault, IsRun}
 use Rattle.tv_top.specs.declared.fault.Answer.{Answer}
 use Rattle.tv_top.specs.declared.fault.Answer.TheVariants as answer
@@ -69,120 +69,148 @@ still old mid new steady same h = (h.0, rw (h.1, same) refl)
 
 -- ---- the files of a command
 
-pub named_program : (told : Option Held) (command : CommandForm) (program initial : List ℕ) (a : Result Program FileKind)
-    → Names command program initial → IsProgramFile told program a → GivesProgram told command a
-named_program told (Analyzes p i max mode) program initial a names file =
-    subst (λ n. IsProgramFile told n a) (sym names.0) file
-named_program told (Checks p i report mode maps) program initial a names file =
-    subst (λ n. IsProgramFile told n a) (sym names.0) file
-named_program told (Demos number) program initial a names file = absurd names
-named_program told (Joins p i max mode) program initial a names file =
-    subst (λ n. IsProgramFile told n a) (sym names.0) file
-named_program told (Replays p i start trace report) program initial a names file =
-    subst (λ n. IsProgramFile told n a) (sym names.0) file
-named_program told (Sources n i max) program initial a names file = absurd names
+-- a refusal is that of the file, with and without differencing
+taken_refused : (told : Option Held) (name : List ℕ) (delta : Bool) (k : FileKind) → IsProgramFile told name (Err k)
+    → IsTakenProgram delta told name (Err k)
+taken_refused told name false k file = file
+taken_refused told name true k file = file
 
-pub named_initial : (told : Option Held) (command : CommandForm) (program initial : List ℕ) (p : Program)
+-- why the program that was read isn't had, with and without differencing
+pub taken_fault : (told : Option Held) (name : List ℕ) (delta : Bool) (rose steady : Type 0) (e : TextFault)
+    → IsFileCause role.Program (λ k. IsProgramFile told name (Err k)) (LacksFile told name) rose steady e
+    → IsFileCause role.Program (λ k. IsTakenProgram delta told name (Err k)) (LacksFile told name) rose steady e
+taken_fault told name delta rose steady (Refused r k) h = (h.0, taken_refused told name delta k h.1)
+taken_fault told name delta rose steady NotRead h = h
+taken_fault told name delta rose steady Memory h = tt
+
+pub memory_fault : {T : Type 0} (result : Result T TextFault) (its_role : Role) (Refuses : FileKind → Type 0)
+    (lacks rose steady : Type 0) → IfErr result (λ e. e ≡ Memory)
+    → IfErr result (IsFileCause its_role Refuses lacks rose steady)
+memory_fault (Ok found) its_role Refuses lacks rose steady h = h
+memory_fault (Err e) its_role Refuses lacks rose steady h = rw h tt
+
+pub still_unless : {T : Type 0} (result : Result T TextFault) (P : Type 0) → P → UnlessNotRead result P
+still_unless (Ok found) P h = h
+still_unless (Err (Refused its k)) P h = h
+still_unless (Err NotRead) P h = tt
+still_unless (Err Memory) P h = h
+
+same_program_file : (told : Option Held) (n m : List ℕ) (d e : Bool) (a : Result Program FileKind) → n ≡ m → d ≡ e
+    → IsTakenProgram e told m a → IsTakenProgram d told n a
+same_program_file told n m d e a names deltas file = rw (names, deltas) file
+
+pub named_program : (told : Option Held) (command : CommandForm) (program initial : List ℕ) (delta : Bool)
+    (a : Result Program FileKind) → Names command program initial delta → IsTakenProgram delta told program a
+    → GivesProgram told command a
+named_program told (Analyzes p i max mode d) program initial delta a names file =
+    same_program_file told p program d delta a names.0 names.2 file
+named_program told (Checks p i report mode maps d) program initial delta a names file =
+    same_program_file told p program d delta a names.0 names.2 file
+named_program told (Demos number) program initial delta a names file = absurd names
+named_program told (Joins p i max mode) program initial delta a names file =
+    same_program_file told p program false delta a names.0 names.2 file
+named_program told (Replays p i start trace report) program initial delta a names file =
+    same_program_file told p program false delta a names.0 names.2 file
+named_program told (Sources n i max) program initial delta a names file = absurd names
+
+pub named_initial : (told : Option Held) (command : CommandForm) (program initial : List ℕ) (delta : Bool) (p : Program)
     (a : Result (List StructureForm) FileKind)
-    → Names command program initial → IsInitialFile told initial p a → GivesInitial told command p a
-named_initial told (Analyzes n i max mode) program initial p a names file =
+    → Names command program initial delta → IsInitialFile told initial p a → GivesInitial told command p a
+named_initial told (Analyzes n i max mode d) program initial delta p a names file =
     subst (λ m. IsInitialFile told m p a) (sym names.1) file
-named_initial told (Checks n i report mode maps) program initial p a names file =
+named_initial told (Checks n i report mode maps d) program initial delta p a names file =
     subst (λ m. IsInitialFile told m p a) (sym names.1) file
-named_initial told (Demos number) program initial p a names file = absurd names
-named_initial told (Joins n i max mode) program initial p a names file =
+named_initial told (Demos number) program initial delta p a names file = absurd names
+named_initial told (Joins n i max mode) program initial delta p a names file =
     subst (λ m. IsInitialFile told m p a) (sym names.1) file
-named_initial told (Replays n i start trace report) program initial p a names file =
+named_initial told (Replays n i start trace report) program initial delta p a names file =
     subst (λ m. IsInitialFile told m p a) (sym names.1) file
-named_initial told (Sources n i max) program initial p a names file = absurd names
+named_initial told (Sources n i max) program initial delta p a names file = absurd names
 
-named_role : (command : CommandForm) (program initial : List ℕ) → Names command program initial → program_role command ≡ role.Program
-named_role (Analyzes p i max mode) program initial names = refl
-named_role (Checks p i report mode maps) program initial names = refl
-named_role (Demos number) program initial names = refl
-named_role (Joins p i max mode) program initial names = refl
-named_role (Replays p i start trace report) program initial names = refl
-named_role (Sources n i max) program initial names = absurd names
+named_role : (command : CommandForm) (program initial : List ℕ) (delta : Bool) → Names command program initial delta
+    → program_role command ≡ role.Program
+named_role (Analyzes p i max mode d) program initial delta names = refl
+named_role (Checks p i report mode maps d) program initial delta names = refl
+named_role (Demos number) program initial delta names = refl
+named_role (Joins p i max mode) program initial delta names = refl
+named_role (Replays p i start trace report) program initial delta names = refl
+named_role (Sources n i max) program initial delta names = absurd names
 
-lacks_program : (told : Option Held) (command : CommandForm) (program initial : List ℕ) → Names command program initial
-    → LacksFile told program → IsMissing told command
-lacks_program told (Analyzes p i max mode) program initial names lacks =
+lacks_program : (told : Option Held) (command : CommandForm) (program initial : List ℕ) (delta : Bool)
+    → Names command program initial delta → LacksFile told program → IsMissing told command
+lacks_program told (Analyzes p i max mode d) program initial delta names lacks =
     inl (subst (λ n. LacksFile told n) (sym names.0) lacks)
-lacks_program told (Checks p i report mode maps) program initial names lacks =
+lacks_program told (Checks p i report mode maps d) program initial delta names lacks =
     inl (subst (λ n. LacksFile told n) (sym names.0) lacks)
-lacks_program told (Demos number) program initial names lacks = absurd names
-lacks_program told (Joins p i max mode) program initial names lacks =
+lacks_program told (Demos number) program initial delta names lacks = absurd names
+lacks_program told (Joins p i max mode) program initial delta names lacks =
     inl (subst (λ n. LacksFile told n) (sym names.0) lacks)
-lacks_program told (Replays p i start trace report) program initial names lacks =
+lacks_program told (Replays p i start trace report) program initial delta names lacks =
     inl (subst (λ n. LacksFile told n) (sym names.0) lacks)
-lacks_program told (Sources n i max) program initial names lacks = absurd names
+lacks_program told (Sources n i max) program initial delta names lacks = absurd names
 
-lacks_initial : (told : Option Held) (command : CommandForm) (program initial : List ℕ) (p : Program)
-    → Names command program initial → IsProgramFile told program (Ok p) → ¬ HoldsName told initial → IsMissing told command
-lacks_initial told (Analyzes n i max mode) program initial p names file lacks =
+lacks_held : (told : Option Held) (command : CommandForm) (program initial : List ℕ) (delta : Bool)
+    → Names command program initial delta → ¬ HoldsName told initial → LacksInitial told command
+lacks_held told (Analyzes n i max mode d) program initial delta names lacks = subst (λ m. ¬ HoldsName told m) (sym names.1) lacks
+lacks_held told (Checks n i report mode maps d) program initial delta names lacks =
+    subst (λ m. ¬ HoldsName told m) (sym names.1) lacks
+lacks_held told (Demos number) program initial delta names lacks = absurd names
+lacks_held told (Joins n i max mode) program initial delta names lacks = subst (λ m. ¬ HoldsName told m) (sym names.1) lacks
+lacks_held told (Replays n i start trace report) program initial delta names lacks =
+    subst (λ m. ¬ HoldsName told m) (sym names.1) lacks
+lacks_held told (Sources n i max) program initial delta names lacks = absurd names
+
+lacks_initial : (told : Option Held) (command : CommandForm) (program initial : List ℕ) (delta : Bool) (p : Program)
+    → Names command program initial delta → IsTakenProgram delta told program (Ok p) → ¬ HoldsName told initial
+    → IsMissing told command
+lacks_initial told command program initial delta p names file lacks =
     inr (inl (
       p,
-      named_program told (Analyzes n i max mode) program initial (Ok p) names file,
-      subst (λ m. ¬ HoldsName told m) (sym names.1) lacks,
+      named_program told command program initial delta (Ok p) names file,
+      lacks_held told command program initial delta names lacks,
     ))
-lacks_initial told (Checks n i report mode maps) program initial p names file lacks =
-    inr (inl (
-      p,
-      named_program told (Checks n i report mode maps) program initial (Ok p) names file,
-      subst (λ m. ¬ HoldsName told m) (sym names.1) lacks,
-    ))
-lacks_initial told (Demos number) program initial p names file lacks = absurd names
-lacks_initial told (Joins n i max mode) program initial p names file lacks =
-    inr (inl (
-      p,
-      named_program told (Joins n i max mode) program initial (Ok p) names file,
-      subst (λ m. ¬ HoldsName told m) (sym names.1) lacks,
-    ))
-lacks_initial told (Replays n i start trace report) program initial p names file lacks =
-    inr (inl (
-      p,
-      named_program told (Replays n i start trace report) program initial (Ok p) names file,
-      subst (λ m. ¬ HoldsName told m) (sym names.1) lacks,
-    ))
-lacks_initial told (Sources n i max) program initial p names file lacks = absurd names
 
 -- why PROGRAM isn't had
-pub program_fault : (told : Option Held) (command : CommandForm) (program initial : List ℕ) (rose steady : Type 0) (e : TextFault)
-    → Names command program initial
-    → IsFileCause role.Program (λ k. IsProgramFile told program (Err k)) (LacksFile told program) rose steady e
+pub program_fault : (told : Option Held) (command : CommandForm) (program initial : List ℕ) (delta : Bool)
+    (rose steady : Type 0) (e : TextFault) → Names command program initial delta
+    → IsFileCause role.Program (λ k. IsTakenProgram delta told program (Err k)) (LacksFile told program) rose steady e
     → IsCommandCause told command rose steady (fault_of_text e)
-program_fault told command program initial rose steady (Refused role.Program k) names h =
-    (named_role command program initial names, named_program told command program initial (Err k) names h.1)
-program_fault told command program initial rose steady (Refused role.Initial k) names h = absurd (let e = h.0 in cc)
-program_fault told command program initial rose steady (Refused role.Report k) names h = absurd (let e = h.0 in cc)
-program_fault told command program initial rose steady (Refused role.Start k) names h = absurd (let e = h.0 in cc)
-program_fault told command program initial rose steady (Refused role.Trace k) names h = absurd (let e = h.0 in cc)
-program_fault told command program initial rose steady (Refused role.Source k) names h = absurd (let e = h.0 in cc)
-program_fault told command program initial rose steady NotRead names h =
-    (h.0, λ s. lacks_program told command program initial names (h.1 s))
-program_fault told command program initial rose steady Memory names h = tt
+program_fault told command program initial delta rose steady (Refused role.Program k) names h =
+    (named_role command program initial delta names, named_program told command program initial delta (Err k) names h.1)
+program_fault told command program initial delta rose steady (Refused role.Initial k) names h = absurd (let e = h.0 in cc)
+program_fault told command program initial delta rose steady (Refused role.Report k) names h = absurd (let e = h.0 in cc)
+program_fault told command program initial delta rose steady (Refused role.Start k) names h = absurd (let e = h.0 in cc)
+program_fault told command program initial delta rose steady (Refused role.Trace k) names h = absurd (let e = h.0 in cc)
+program_fault told command program initial delta rose steady (Refused role.Source k) names h = absurd (let e = h.0 in cc)
+program_fault told command program initial delta rose steady NotRead names h =
+    (h.0, λ s. lacks_program told command program initial delta names (h.1 s))
+program_fault told command program initial delta rose steady Memory names h = tt
 
 -- why INITIAL isn't had
-pub initial_fault : (told : Option Held) (command : CommandForm) (program initial : List ℕ) (p : Program)
+pub initial_fault : (told : Option Held) (command : CommandForm) (program initial : List ℕ) (delta : Bool) (p : Program)
     (rose steady later still_steady : Type 0) (e : TextFault)
-    → Names command program initial → IsProgramFile told program (Ok p) → (later → rose) → (steady → still_steady)
+    → Names command program initial delta → IsTakenProgram delta told program (Ok p) → (later → rose)
+    → (steady → still_steady)
     → IsFileCause role.Initial (λ k. IsInitialFile told initial p (Err k)) (¬ HoldsName told initial) later still_steady e
     → IsCommandCause told command rose steady (fault_of_text e)
-initial_fault told command program initial p rose steady later still_steady (Refused role.Program k) names file f g h =
+initial_fault told command program initial delta p rose steady later still_steady (Refused role.Program k) names file f g h =
     absurd (let e = h.0 in cc)
-initial_fault told command program initial p rose steady later still_steady (Refused role.Initial k) names file f g h =
-    (p, named_program told command program initial (Ok p) names file, named_initial told command program initial p (Err k) names h.1)
-initial_fault told command program initial p rose steady later still_steady (Refused role.Report k) names file f g h =
+initial_fault told command program initial delta p rose steady later still_steady (Refused role.Initial k) names file f g h = (
+  p,
+  named_program told command program initial delta (Ok p) names file,
+  named_initial told command program initial delta p (Err k) names h.1,
+)
+initial_fault told command program initial delta p rose steady later still_steady (Refused role.Report k) names file f g h =
     absurd (let e = h.0 in cc)
-initial_fault told command program initial p rose steady later still_steady (Refused role.Start k) names file f g h =
+initial_fault told command program initial delta p rose steady later still_steady (Refused role.Start k) names file f g h =
     absurd (let e = h.0 in cc)
-initial_fault told command program initial p rose steady later still_steady (Refused role.Trace k) names file f g h =
+initial_fault told command program initial delta p rose steady later still_steady (Refused role.Trace k) names file f g h =
     absurd (let e = h.0 in cc)
-initial_fault told command program initial p rose steady later still_steady (Refused role.Source k) names file f g h =
+initial_fault told command program initial delta p rose steady later still_steady (Refused role.Source k) names file f g h =
     absurd (let e = h.0 in cc)
-initial_fault told command program initial p rose steady later still_steady NotRead names file f g h =
-    (f h.0, λ s. lacks_initial told command program initial p names file (h.1 (g s)))
-initial_fault told command program initial p rose steady later still_steady Memory names file f g h = tt
+initial_fault told command program initial delta p rose steady later still_steady NotRead names file f g h =
+    (f h.0, λ s. lacks_initial told command program initial delta p names file (h.1 (g s)))
+initial_fault told command program initial delta p rose steady later still_steady Memory names file f g h = tt
 
 -- why a file behind INITIAL isn't had, which has this role
 pub later_fault : (told : Option Held) (command : CommandForm) (task : Task) (its_role : Role) (Refuses : FileKind → Type 0)

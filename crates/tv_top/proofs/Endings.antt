@@ -84,16 +84,16 @@ CommandEnds told command Memory = ⊥
 
 done_reported : (told : Option Held) (command : CommandForm) (task : Task) (text : List ℕ)
     → IsDone told command task text → HasReport told command task
-done_reported told (Analyzes p i max mode) task text h = tt
-done_reported told (Checks p i report mode maps) task text h = (h.0, h.1)
+done_reported told (Analyzes p i max mode delta) task text h = tt
+done_reported told (Checks p i report mode maps delta) task text h = (h.0, h.1)
 done_reported told (Demos number) task text h = tt
 done_reported told (Joins p i most mode) task text h = tt
 done_reported told (Replays p i start trace report) task text h = (h.0, h.1, h.2, h.3)
 done_reported told (Sources n i max) task text h = tt
 
 can_reported : (told : Option Held) (command : CommandForm) (task : Task) → CanBeDone told command task → HasReport told command task
-can_reported told (Analyzes p i max mode) task h = tt
-can_reported told (Checks p i report mode maps) task h = (h.0, h.1)
+can_reported told (Analyzes p i max mode delta) task h = tt
+can_reported told (Checks p i report mode maps delta) task h = (h.0, h.1)
 can_reported told (Demos number) task h = tt
 can_reported told (Joins p i most mode) task h = tt
 can_reported told (Replays p i start trace report) task h = h
@@ -101,8 +101,8 @@ can_reported told (Sources n i max) task h = tt
 
 many_reported : (told : Option Held) (command : CommandForm) (task : Task) (max : ℕ) → max_of command ≡ Some max
     → HasReport told command task
-many_reported told (Analyzes p i max' mode) task max h = tt
-many_reported told (Checks p i report mode maps) task max h = absurd cc
+many_reported told (Analyzes p i max' mode delta) task max h = tt
+many_reported told (Checks p i report mode maps delta) task max h = absurd cc
 many_reported told (Demos number) task max h = tt
 many_reported told (Joins p i most mode) task max h = tt
 many_reported told (Replays p i start trace report) task max h = absurd cc
@@ -110,8 +110,8 @@ many_reported told (Sources n i max') task max h = tt
 
 step_reported : (told : Option Held) (command : CommandForm) (task : Task) (Budget : ProgramForm → ℕ → StructureForm → Type 0)
     → StepMeets told command task Budget → HasReport told command task
-step_reported told (Analyzes p i max mode) task Budget h = tt
-step_reported told (Checks p i report mode maps) task Budget h = (h.0, h.1)
+step_reported told (Analyzes p i max mode delta) task Budget h = tt
+step_reported told (Checks p i report mode maps delta) task Budget h = (h.0, h.1)
 step_reported told (Demos number) task Budget h = tt
 step_reported told (Joins p i most mode) task Budget h = tt
 step_reported told (Replays p i start trace report) task Budget h = absurd h
@@ -164,8 +164,8 @@ OneCase told command t u = (a b : Analysis) → GivesReport told command t.progr
 
 can_not_rejected : (told : Option Held) (command : CommandForm) (t u : Task) (r : Rejection) → OneCase told command t u
     → CanBeDone told command t → IsRejected told command u r → ⊥
-can_not_rejected told (Analyzes p i max mode) t u r same can rejected = absurd rejected
-can_not_rejected told (Checks p i report mode maps) t u r same can rejected =
+can_not_rejected told (Analyzes p i max mode delta) t u r same can rejected = absurd rejected
+can_not_rejected told (Checks p i report mode maps delta) t u r same can rejected =
     closed_unrejected (case_for t can.0) r can.2
     (subst (λ c. IsRejection c r) (sym (same can.0 rejected.0 can.1 rejected.1)) rejected.2)
 can_not_rejected told (Demos number) t u r same can rejected = absurd rejected
@@ -175,8 +175,8 @@ can_not_rejected told (Sources n i m) t u r same can rejected = absurd rejected
 
 done_not_rejected : (told : Option Held) (command : CommandForm) (t u : Task) (text : List ℕ) (r : Rejection)
     → OneCase told command t u → IsDone told command t text → IsRejected told command u r → ⊥
-done_not_rejected told (Analyzes p i max mode) t u text r same done rejected = absurd rejected
-done_not_rejected told (Checks p i report mode maps) t u text r same done rejected =
+done_not_rejected told (Analyzes p i max mode delta) t u text r same done rejected = absurd rejected
+done_not_rejected told (Checks p i report mode maps delta) t u text r same done rejected =
     closed_unrejected (case_for t done.0) r done.2.closed
     (subst (λ c. IsRejection c r) (sym (same done.0 rejected.0 done.1 rejected.1)) rejected.2)
 done_not_rejected told (Demos number) t u text r same done rejected = absurd rejected
@@ -186,8 +186,8 @@ done_not_rejected told (Sources n i m) t u text r same done rejected = absurd re
 
 both_rejected : (told : Option Held) (command : CommandForm) (t u : Task) (r s : Rejection) → OneCase told command t u
     → IsRejected told command t r → IsRejected told command u s → r ≡ s
-both_rejected told (Analyzes p i max mode) t u r s same h k = absurd h
-both_rejected told (Checks p i report mode maps) t u r s same h k = one_rejection (case_for t h.0) r s h.2
+both_rejected told (Analyzes p i max mode delta) t u r s same h k = absurd h
+both_rejected told (Checks p i report mode maps delta) t u r s same h k = one_rejection (case_for t h.0) r s h.2
     (subst (λ c. IsRejection c s) (sym (same h.0 k.0 h.1 k.1)) k.2)
 both_rejected told (Demos number) t u r s same h k = absurd h
 both_rejected told (Joins p i max mode) t u r s same h k = absurd h
@@ -196,8 +196,8 @@ both_rejected told (Sources n i max) t u r s same h k = absurd h
 
 stopped_not_rejected : (told : Option Held) (command : CommandForm) (t u : Task) (step : ℕ) (why : Why) (r : Rejection)
     → StopsIn told command t step why → IsRejected told command u r → ⊥
-stopped_not_rejected told (Analyzes p i max mode) t u step why r stops rejected = absurd rejected
-stopped_not_rejected told (Checks p i report mode maps) t u step why r stops rejected = absurd stops.3.gives_start
+stopped_not_rejected told (Analyzes p i max mode delta) t u step why r stops rejected = absurd rejected
+stopped_not_rejected told (Checks p i report mode maps delta) t u step why r stops rejected = absurd stops.3.gives_start
 stopped_not_rejected told (Demos number) t u step why r stops rejected = absurd rejected
 stopped_not_rejected told (Joins p i max mode) t u step why r stops rejected = absurd rejected
 stopped_not_rejected told (Replays p i start trace report) t u step why r stops rejected = absurd rejected
@@ -205,8 +205,8 @@ stopped_not_rejected told (Sources n i m) t u step why r stops rejected = absurd
 
 step_not_rejected : (told : Option Held) (command : CommandForm) (t u : Task) (Budget : ProgramForm → ℕ → StructureForm → Type 0)
     (r : Rejection) → OneCase told command t u → StepMeets told command t Budget → IsRejected told command u r → ⊥
-step_not_rejected told (Analyzes p i max mode) t u Budget r same step rejected = absurd rejected
-step_not_rejected told (Checks p i report mode maps) t u Budget r same step rejected =
+step_not_rejected told (Analyzes p i max mode delta) t u Budget r same step rejected = absurd rejected
+step_not_rejected told (Checks p i report mode maps delta) t u Budget r same step rejected =
     stops_unrejected (case_for t step.0) step.2.edge step.2.structure r step.2.first
     (subst (λ c. IsRejection c r) (sym (same step.0 rejected.0 step.1 rejected.1)) rejected.2)
 step_not_rejected told (Demos number) t u Budget r same step rejected = absurd rejected
@@ -216,8 +216,8 @@ step_not_rejected told (Sources n i m) t u Budget r same step rejected = absurd 
 
 many_not_rejected : (told : Option Held) (command : CommandForm) (u : Task) (max : ℕ) (r : Rejection)
     → max_of command ≡ Some max → IsRejected told command u r → ⊥
-many_not_rejected told (Analyzes p i m mode) u max r e rejected = absurd rejected
-many_not_rejected told (Checks p i report mode maps) u max r e rejected = absurd cc
+many_not_rejected told (Analyzes p i m mode delta) u max r e rejected = absurd rejected
+many_not_rejected told (Checks p i report mode maps delta) u max r e rejected = absurd cc
 many_not_rejected told (Demos number) u max r e rejected = absurd rejected
 many_not_rejected told (Joins p i most mode) u max r e rejected = absurd rejected
 many_not_rejected told (Replays p i start trace report) u max r e rejected = absurd rejected
@@ -225,8 +225,8 @@ many_not_rejected told (Sources n i m) u max r e rejected = absurd rejected
 
 many_not_done : (told : Option Held) (command : CommandForm) (t u : Task) (more : ℕ) → SameTask t u → CanBeDone told command t
     → max_of command ≡ Some more → HasMoreThan command u more → ⊥
-many_not_done told (Analyzes p i max mode) t u more same can e many = few t u max more same e can many
-many_not_done told (Checks p i report mode maps) t u more same can e many = absurd cc
+many_not_done told (Analyzes p i max mode delta) t u more same can e many = few t u max more same e can many
+many_not_done told (Checks p i report mode maps delta) t u more same can e many = absurd cc
 many_not_done told (Demos number) t u more same can e many = few t u demo_max more same e can many
 many_not_done told (Joins p i max mode) t u more same can e many = few_rounds t u max more same e can many
 many_not_done told (Replays p i start trace report) t u more same can e many = absurd cc
@@ -235,8 +235,8 @@ many_not_done told (Sources n i max) t u more same can e many = few t u max more
 step_not_done : (told : Option Held) (command : CommandForm) (t u : Task) (Budget : ProgramForm → ℕ → StructureForm → Type 0)
     → ((p : ProgramForm) (edge : ℕ) (s : StructureForm) → KeepsBudgets p edge s → ¬ Budget p edge s)
     → SameTask t u → OneCase told command t u → CanBeDone told command t → StepMeets told command u Budget → ⊥
-step_not_done told (Analyzes p i max mode) t u Budget keeping same case can step = kept t u max Budget keeping same can step
-step_not_done told (Checks p i report mode maps) t u Budget keeping same case can step =
+step_not_done told (Analyzes p i max mode delta) t u Budget keeping same case can step = kept t u max Budget keeping same can step
+step_not_done told (Checks p i report mode maps delta) t u Budget keeping same case can step =
     closed_kept (case_for t can.0) Budget keeping can.3
     (subst (λ c. StopsAt c Budget) (sym (case can.0 step.0 can.1 step.1)) step.2)
 step_not_done told (Demos number) t u Budget keeping same case can step = kept t u demo_max Budget keeping same can step
@@ -395,12 +395,12 @@ module _
 
     -- where each file is there, none is missing
     there : (told : Option Held) (command : CommandForm) → HoldsFiles told command → IsMissing told command → ⊥
-    there told (Analyzes p i max mode) h (inl lacks) = h.0 lacks
-    there told (Analyzes p i max mode) h (inr (inl lacks)) = lacks.2 h.1
-    there told (Analyzes p i max mode) h (inr (inr lacks)) = lacks.2
-    there told (Checks p i report mode maps) h (inl lacks) = h.0 lacks
-    there told (Checks p i report mode maps) h (inr (inl lacks)) = lacks.2 h.1
-    there told (Checks p i report mode maps) h (inr (inr lacks)) = lacks.2 h.2
+    there told (Analyzes p i max mode delta) h (inl lacks) = h.0 lacks
+    there told (Analyzes p i max mode delta) h (inr (inl lacks)) = lacks.2 h.1
+    there told (Analyzes p i max mode delta) h (inr (inr lacks)) = lacks.2
+    there told (Checks p i report mode maps delta) h (inl lacks) = h.0 lacks
+    there told (Checks p i report mode maps delta) h (inr (inl lacks)) = lacks.2 h.1
+    there told (Checks p i report mode maps delta) h (inr (inr lacks)) = lacks.2 h.2
     there told (Demos number) h (inl lacks) = lacks
     there told (Demos number) h (inr (inl lacks)) = lacks.2
     there told (Demos number) h (inr (inr lacks)) = lacks.2

@@ -1,11 +1,13 @@
 -- Each file of a command gives one thing at most, where it is told what files hold.
-use Rattle.std.proofs.Common.{◌≡◌, ◌⊎◌, ℕ, List, Option, None, Some, Result, Ok, Err, inl, inr, refl, sym, subst, ◌∙◌}
+use Rattle.std.proofs.Common.{Bool, true, false, ◌≡◌, ◌⊎◌, ℕ, List, Option, None, Some, Result, Ok, Err, inl, inr, refl, sym, subst, ◌∙◌}
 use Rattle.std.specs.Prelude.{IsSome}
+use Rattle.tv_difference.specs.Differences.{IsDifferenced}
 use Rattle.tv_demo.specs.Texts.{program_text, lists_text}
 use Rattle.tv_lex.specs.Gather.{Gathers}
 use Rattle.tv_lex.specs.declared.gatherer.GatherError.{GatherError}
 use Rattle.tv_lex.specs.declared.gatherer.GatherError.TheVariants as gathering
 use Rattle.tv_listing.specs.declared.analysis.Analysis.{Analysis}
+use Rattle.tv_model.specs.Program.{program_of}
 use Rattle.tv_model.specs.declared.program.Program.{Program}
 use Rattle.tv_outside.specs.Told.{Held}
 use Rattle.tv_status.specs.declared.status.FileKind.{FileKind}
@@ -14,7 +16,8 @@ use Rattle.tv_struct.specs.StructureForm.{StructureForm}
 use Rattle.tv_texts.specs.Agreement.{Agree, GiveOne, SameProgram}
 use Rattle.tv_texts.specs.Files.{HoldsSuch, IsUngathered, IsProgramFile}
 use Rattle.tv_texts.specs.Meaning.{MeansProgram, MeansInitial, MeansReport, MeansStart, MeansMoves, MeansSource}
-use Rattle.tv_top.specs.Meaning.{GivesProgram, GivesInitial, GivesReport, IsTold, GivesStart, GivesTrace}
+use Rattle.tv_top.proofs.OneDifferenced.{one_differenced}
+use Rattle.tv_top.specs.Meaning.{IsTakenProgram, GivesProgram, GivesInitial, GivesReport, IsTold, GivesStart, GivesTrace}
 use Rattle.tv_trace.specs.declared.trace.Trace.{Trace}
 use Rattle.tv_words.specs.Words.{CommandForm, Analyzes, Checks, Demos, Joins, Replays, Sources}
 
@@ -78,10 +81,23 @@ module _
     one_file None name tells a b h k = absurd (let e = tells in cc)
     one_file (Some held) name tells a b h k = views held name a b (file_view held name a h) (file_view held name b k)
 
+    -- what differencing makes of a program is one
+    one_taken : (told : Option Held) (name : List ℕ) (delta : Bool) → IsSome told
+        → GiveOne SameProgram (IsTakenProgram delta told name) (IsTakenProgram delta told name)
+    one_taken told name false tells a b h k = one_file told name tells a b h k
+    one_taken told name true tells (Ok a) (Ok b) h k =
+        let same : SameProgram h.0 k.0 = one_file told name tells (Ok h.0) (Ok k.0) h.1 k.1 in
+        one_differenced (program_of h.0) (program_of a) (program_of b) h.2
+        (subst (λ p. IsDifferenced p (program_of b)) (sym same) k.2)
+    one_taken told name true tells (Ok a) (Err f) h k = one_file told name tells (Ok h.0) (Err f) h.1 k
+    one_taken told name true tells (Err e) (Ok b) h k = one_file told name tells (Err e) (Ok k.0) h k.1
+    one_taken told name true tells (Err e) (Err f) h k = one_file told name tells (Err e) (Err f) h k
+
     pub one_program : (told : Option Held) (command : CommandForm) → IsTold told command
         → GiveOne SameProgram (GivesProgram told command) (GivesProgram told command)
-    one_program told (Analyzes program initial max mode) tells a b h k = one_file told program tells a b h k
-    one_program told (Checks program initial report mode maps) tells a b h k = one_file told program tells a b h k
+    one_program told (Analyzes program initial max mode delta) tells a b h k = one_taken told program delta tells a b h k
+    one_program told (Checks program initial report mode maps delta) tells a b h k =
+        one_taken told program delta tells a b h k
     one_program told (Demos number) tells a b h k = programs (program_text number) a b h k
     one_program told (Joins program initial max mode) tells a b h k = one_file told program tells a b h k
     one_program told (Replays program initial start trace report) tells a b h k = one_file told program tells a b h k
@@ -90,9 +106,9 @@ module _
 
     pub one_initial : (told : Option Held) (command : CommandForm) → IsTold told command → (p q : Program) → SameProgram p q
         → GiveOne {A = List StructureForm} ◌≡◌ (GivesInitial told command p) (GivesInitial told command q)
-    one_initial told (Analyzes program initial max mode) tells p q same a b h k =
+    one_initial told (Analyzes program initial max mode delta) tells p q same a b h k =
         one_held ◌≡◌ told initial (MeansInitial p) (MeansInitial q) tells (initials p q same) a b h k
-    one_initial told (Checks program initial report mode maps) tells p q same a b h k =
+    one_initial told (Checks program initial report mode maps delta) tells p q same a b h k =
         one_held ◌≡◌ told initial (MeansInitial p) (MeansInitial q) tells (initials p q same) a b h k
     one_initial told (Demos number) tells p q same a b h k = initials p q same lists_text a b h k
     one_initial told (Joins program initial max mode) tells p q same a b h k =
@@ -104,8 +120,8 @@ module _
 
     pub one_report : (told : Option Held) (command : CommandForm) → IsTold told command → (p q : Program) → SameProgram p q
         → GiveOne {A = Analysis} ◌≡◌ (GivesReport told command p) (GivesReport told command q)
-    one_report told (Analyzes program initial max mode) tells p q same a b h k = absurd h
-    one_report told (Checks program initial report mode maps) tells p q same a b h k =
+    one_report told (Analyzes program initial max mode delta) tells p q same a b h k = absurd h
+    one_report told (Checks program initial report mode maps delta) tells p q same a b h k =
         one_held ◌≡◌ told report (MeansReport p) (MeansReport q) tells (reports p q same) a b h k
     one_report told (Demos number) tells p q same a b h k = absurd h
     one_report told (Joins program initial max mode) tells p q same a b h k = absurd h
@@ -119,8 +135,8 @@ module _
   where
     pub one_start : (told : Option Held) (command : CommandForm) → IsTold told command → (p q : Program) → SameProgram p q
         → GiveOne {A = StructureForm} ◌≡◌ (GivesStart told command p) (GivesStart told command q)
-    one_start told (Analyzes program initial max mode) tells p q same a b h k = absurd h
-    one_start told (Checks program initial report mode maps) tells p q same a b h k = absurd h
+    one_start told (Analyzes program initial max mode delta) tells p q same a b h k = absurd h
+    one_start told (Checks program initial report mode maps delta) tells p q same a b h k = absurd h
     one_start told (Demos number) tells p q same a b h k = absurd h
     one_start told (Joins program initial max mode) tells p q same a b h k = absurd h
     one_start told (Replays program initial start trace report) tells p q same a b h k =
@@ -129,8 +145,8 @@ module _
 
     pub one_trace : (told : Option Held) (command : CommandForm) → IsTold told command → (p q : Program) → SameProgram p q
         → GiveOne {A = Trace} ◌≡◌ (GivesTrace told command p) (GivesTrace told command q)
-    one_trace told (Analyzes program initial max mode) tells p q same a b h k = absurd h
-    one_trace told (Checks program initial report mode maps) tells p q same a b h k = absurd h
+    one_trace told (Analyzes program initial max mode delta) tells p q same a b h k = absurd h
+    one_trace told (Checks program initial report mode maps delta) tells p q same a b h k = absurd h
     one_trace told (Demos number) tells p q same a b h k = absurd h
     one_trace told (Joins program initial max mode) tells p q same a b h k = absurd h
     one_trace told (Replays program initial start trace report) tells p q same a b h k =

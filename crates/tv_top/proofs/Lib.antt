@@ -3,9 +3,11 @@ mod Bounds
 mod Causes
 mod Demands
 mod DemoSize
+mod Differenced
 mod Duly
 mod Endings
 mod Gives
+mod OneDifferenced
 mod Sources
 mod Sums
 mod Tasks

@@ -26,9 +26,9 @@ pub record SameTask (t u : Task) : Type 0 where
 
 -- the files behind INITIAL are read
 abbrev pub HasReport : Option Held → CommandForm → Task → Type 0
-HasReport told (Analyzes program initial max mode) task = Unit {0}
-HasReport told (Checks program initial report mode maps) task =
-    (a : Analysis) × GivesReport told (Checks program initial report mode maps) task.program (Ok a)
+HasReport told (Analyzes program initial max mode delta) task = Unit {0}
+HasReport told (Checks program initial report mode maps delta) task =
+    (a : Analysis) × GivesReport told (Checks program initial report mode maps delta) task.program (Ok a)
 HasReport told (Demos number) task = Unit {0}
 HasReport told (Joins program initial max mode) task = Unit {0}
 HasReport told (Replays program initial start trace report) task =
@@ -40,8 +40,8 @@ same_case t u a b same e = rw (same.program, same.initial, same.mode, e) refl
 
 pub rejected_report : (told : Option Held) (command : CommandForm) (task : Task) (r : Rejection)
     → IsRejected told command task r → HasReport told command task
-rejected_report told (Analyzes p i max mode) task r h = absurd h
-rejected_report told (Checks p i report mode maps) task r h = (h.0, h.1)
+rejected_report told (Analyzes p i max mode delta) task r h = absurd h
+rejected_report told (Checks p i report mode maps delta) task r h = (h.0, h.1)
 rejected_report told (Demos number) task r h = absurd h
 rejected_report told (Joins p i max mode) task r h = absurd h
 rejected_report told (Replays p i start trace report) task r h = absurd h
@@ -49,8 +49,8 @@ rejected_report told (Sources n i max) task r h = absurd h
 
 pub stopped_report : (told : Option Held) (command : CommandForm) (task : Task) (step : ℕ) (why : Why)
     → StopsIn told command task step why → HasReport told command task
-stopped_report told (Analyzes p i max mode) task step why h = tt
-stopped_report told (Checks p i report mode maps) task step why h = (h.2, h.3.gives_report)
+stopped_report told (Analyzes p i max mode delta) task step why h = tt
+stopped_report told (Checks p i report mode maps delta) task step why h = (h.2, h.3.gives_report)
 stopped_report told (Demos number) task step why h = tt
 stopped_report told (Joins p i max mode) task step why h = tt
 stopped_report told (Replays p i start trace report) task step why h = (h.0, h.1, h.2, h.3)
@@ -81,8 +81,8 @@ module _ (told : Option Held) (command : CommandForm)
     report_read : (c : CommandForm) → (t u : Task) (k : FileKind) → SameProgram t.program u.program
         → ((p q : Program) → SameProgram p q → GiveOne {A = Analysis} ◌≡◌ (GivesReport told c p) (GivesReport told c q))
         → HasReport told c t → GivesReport told c u.program (Err k) → ⊥
-    report_read (Analyzes p i max mode) t u k same one has refused = refused
-    report_read (Checks p i report mode maps) t u k same one has refused =
+    report_read (Analyzes p i max mode delta) t u k same one has refused = refused
+    report_read (Checks p i report mode maps delta) t u k same one has refused =
         one t.program u.program same (Ok has.0) (Err k) has.1 refused
     report_read (Demos number) t u k same one has refused = refused
     report_read (Joins p i max mode) t u k same one has refused = refused
@@ -94,8 +94,8 @@ module _ (told : Option Held) (command : CommandForm)
     start_read : (c : CommandForm) → (t u : Task) (k : FileKind) → SameProgram t.program u.program
         → ((p q : Program) → SameProgram p q → GiveOne {A = StructureForm} ◌≡◌ (GivesStart told c p) (GivesStart told c q))
         → HasReport told c t → GivesStart told c u.program (Err k) → ⊥
-    start_read (Analyzes p i max mode) t u k same one has refused = refused
-    start_read (Checks p i report mode maps) t u k same one has refused = refused
+    start_read (Analyzes p i max mode delta) t u k same one has refused = refused
+    start_read (Checks p i report mode maps delta) t u k same one has refused = refused
     start_read (Demos number) t u k same one has refused = refused
     start_read (Joins p i max mode) t u k same one has refused = refused
     start_read (Replays p i start trace report) t u k same one has refused =
@@ -105,8 +105,8 @@ module _ (told : Option Held) (command : CommandForm)
     trace_read : (c : CommandForm) → (t u : Task) (k : FileKind) → SameProgram t.program u.program
         → ((p q : Program) → SameProgram p q → GiveOne {A = Trace} ◌≡◌ (GivesTrace told c p) (GivesTrace told c q))
         → HasReport told c t → GivesTrace told c u.program (Err k) → ⊥
-    trace_read (Analyzes p i max mode) t u k same one has refused = refused
-    trace_read (Checks p i report mode maps) t u k same one has refused = refused
+    trace_read (Analyzes p i max mode delta) t u k same one has refused = refused
+    trace_read (Checks p i report mode maps delta) t u k same one has refused = refused
     trace_read (Demos number) t u k same one has refused = refused
     trace_read (Joins p i max mode) t u k same one has refused = refused
     trace_read (Replays p i start trace report) t u k same one has refused =
@@ -117,8 +117,8 @@ module _ (told : Option Held) (command : CommandForm)
     run_start : (c : CommandForm) → (t u : Task) (k : FileKind) → SameProgram t.program u.program
         → ((p q : Program) → SameProgram p q → GiveOne {A = StructureForm} ◌≡◌ (GivesStart told c p) (GivesStart told c q))
         → HasRun told c t.program → GivesStart told c u.program (Err k) → ⊥
-    run_start (Analyzes p i max mode) t u k same one run refused = refused
-    run_start (Checks p i report mode maps) t u k same one run refused = refused
+    run_start (Analyzes p i max mode delta) t u k same one run refused = refused
+    run_start (Checks p i report mode maps delta) t u k same one run refused = refused
     run_start (Demos number) t u k same one run refused = refused
     run_start (Joins p i max mode) t u k same one run refused = refused
     run_start (Replays p i start trace report) t u k same one run refused =
@@ -128,8 +128,8 @@ module _ (told : Option Held) (command : CommandForm)
     run_trace : (c : CommandForm) → (t u : Task) (k : FileKind) → SameProgram t.program u.program
         → ((p q : Program) → SameProgram p q → GiveOne {A = Trace} ◌≡◌ (GivesTrace told c p) (GivesTrace told c q))
         → HasRun told c t.program → GivesTrace told c u.program (Err k) → ⊥
-    run_trace (Analyzes p i max mode) t u k same one run refused = refused
-    run_trace (Checks p i report mode maps) t u k same one run refused = refused
+    run_trace (Analyzes p i max mode delta) t u k same one run refused = refused
+    run_trace (Checks p i report mode maps delta) t u k same one run refused = refused
     run_trace (Demos number) t u k same one run refused = refused
     run_trace (Joins p i max mode) t u k same one run refused = refused
     run_trace (Replays p i start trace report) t u k same one run refused =

@@ -12,6 +12,7 @@ use Rattle.tv_listing.specs.declared.analysis.Rejection.{Rejection}
 use Rattle.tv_listing.specs.declared.analysis.Rejection.TheVariants as rejection
 use Rattle.tv_model.specs.Program.{ProgramForm, program_of}
 use Rattle.tv_model.specs.Valid.{IsValid}
+use Rattle.tv_model.specs.declared.program.Mode.TheVariants.{Recompute}
 use Rattle.tv_model.specs.declared.program.Program.{Program}
 use Rattle.tv_outside.specs.Told.{Held}
 use Rattle.tv_report.specs.Text.{report_text}
@@ -22,7 +23,7 @@ use Rattle.tv_source_sound.specs.Covers.{CoversSource}
 use Rattle.tv_status.specs.declared.status.Status.{Status}
 use Rattle.tv_status.specs.declared.status.Status.TheVariants.{Done, Rejected, Stuck}
 use Rattle.tv_struct.specs.StructureForm.{StructureForm}
-use Rattle.tv_texts.specs.Files.{HoldsSuch}
+use Rattle.tv_texts.specs.Files.{HoldsSuch, IsProgramFile}
 use Rattle.tv_texts.specs.Meaning.{HasTokens}
 use Rattle.tv_top.specs.Meaning.{Task, FilesMean, GivesReport, GivesStart, GivesTrace}
 use Rattle.tv_transfer.specs.Closed.{IsClosed, CoversRuns}
@@ -43,6 +44,14 @@ use Rattle.tv_work.specs.Reach.{Point, IsReached, AreMoreThan}
 -- and a message without a line is false in each heap that a run brings to its edge's source
 abbrev pub IsSound : Task → Analysis → Type 0
 IsSound task a = CoversRuns (program_of task.program) task.mode task.initial a.listing a.messages
+
+-- With `delta`, the listing covers all runs of the program that was read in which defined predicates are evaluated
+-- anew: no update of that program need agree with a definition.
+abbrev pub CoversReadRuns : (delta : Bool) → Option Held → (name : List ℕ) → (initial : List StructureForm) → Analysis
+    → Type 0
+CoversReadRuns false told name initial a = Unit {0}
+CoversReadRuns true told name initial a = (read : Program) × IsProgramFile told name (Ok read)
+    × CoversRuns (program_of read) Recompute initial a.listing a.messages
 
 -- ---- what an analysis finds
 
@@ -177,11 +186,12 @@ CoversSourceFile told source task a =
 
 -- the text is what the command gives where its job is done
 abbrev pub IsDone : Option Held → CommandForm → Task → List ℕ → Type 0
-IsDone told (Analyzes program initial max mode) task text =
+IsDone told (Analyzes program initial max mode delta) task text =
     (a : Analysis) × IsFound task max a × (text ≡ report_text task.program a)
-IsDone told (Checks program initial report mode maps) task text =
-    (a : Analysis) × GivesReport told (Checks program initial report mode maps) task.program (Ok a)
-    × IsAccepted task a × IsAcceptedText task a maps text
+    × CoversReadRuns delta told program task.initial a
+IsDone told (Checks program initial report mode maps delta) task text =
+    (a : Analysis) × GivesReport told (Checks program initial report mode maps delta) task.program (Ok a)
+    × IsAccepted task a × IsAcceptedText task a maps text × CoversReadRuns delta told program task.initial a
 IsDone told (Demos number) task text =
     (a : Analysis) × IsFound task demo_max a × (text ≡ demo_line number a)
 IsDone told (Joins program initial max mode) task text =
@@ -193,9 +203,9 @@ IsDone told (Sources source initial max) task text = (a : Analysis) × IsFound t
 
 -- in `check`: the report isn't closed, and this is the first demand that it doesn't meet
 abbrev pub IsRejected : Option Held → CommandForm → Task → Rejection → Type 0
-IsRejected told (Analyzes program initial max mode) task r = ⊥
-IsRejected told (Checks program initial report mode maps) task r =
-    (a : Analysis) × GivesReport told (Checks program initial report mode maps) task.program (Ok a)
+IsRejected told (Analyzes program initial max mode delta) task r = ⊥
+IsRejected told (Checks program initial report mode maps delta) task r =
+    (a : Analysis) × GivesReport told (Checks program initial report mode maps delta) task.program (Ok a)
     × IsRejection (case_for task a) r
 IsRejected told (Demos number) task r = ⊥
 IsRejected told (Joins program initial max mode) task r = ⊥
@@ -215,8 +225,8 @@ IsAnswer told command other text = ⊥
 
 -- how many structures the command may list
 abbrev pub max_of : CommandForm → Option ℕ
-max_of (Analyzes program initial max mode) = Some max
-max_of (Checks program initial report mode maps) = None
+max_of (Analyzes program initial max mode delta) = Some max
+max_of (Checks program initial report mode maps delta) = None
 max_of (Demos number) = Some demo_max
 max_of (Joins program initial max mode) = Some max
 max_of (Replays program initial start trace report) = None
@@ -224,8 +234,8 @@ max_of (Sources source initial max) = Some max
 
 -- there are more structures than this: those that are reached; or in `join`, those that some round lists
 abbrev pub HasMoreThan : CommandForm → Task → (max : ℕ) → Type 0
-HasMoreThan (Analyzes program initial max mode) task most = AreMoreThan most (Reached task)
-HasMoreThan (Checks program initial report mode maps) task most = ⊥
+HasMoreThan (Analyzes program initial max mode delta) task most = AreMoreThan most (Reached task)
+HasMoreThan (Checks program initial report mode maps delta) task most = ⊥
 HasMoreThan (Demos number) task most = AreMoreThan most (Reached task)
 HasMoreThan (Joins program initial max mode) task most = (round : ℕ) × AreMoreThan most (InRound task round)
 HasMoreThan (Replays program initial start trace report) task most = ⊥
@@ -239,10 +249,10 @@ ReachesTooMuch told command max = (task : Task) × FilesMean told command task
 -- the step of a reached structure meets the budget; or in `check`, that of a listed one, and each demand
 -- before is met; or in `join`, that of one which some round lists
 abbrev pub StepMeets : Option Held → CommandForm → Task → (ProgramForm → ℕ → StructureForm → Type 0) → Type 0
-StepMeets told (Analyzes program initial max mode) task Budget =
+StepMeets told (Analyzes program initial max mode delta) task Budget =
     Meets (program_of task.program) (Budget (program_of task.program)) (Reached task)
-StepMeets told (Checks program initial report mode maps) task Budget =
-    (a : Analysis) × GivesReport told (Checks program initial report mode maps) task.program (Ok a)
+StepMeets told (Checks program initial report mode maps delta) task Budget =
+    (a : Analysis) × GivesReport told (Checks program initial report mode maps delta) task.program (Ok a)
     × StopsAt (case_for task a) Budget
 StepMeets told (Demos number) task Budget =
     Meets (program_of task.program) (Budget (program_of task.program)) (Reached task)
@@ -268,9 +278,9 @@ pub record KeepsRoundLimits (task : Task) (max : ℕ) : Type 0 where
 
 -- nothing stands in the way of the job: the limits are kept, or the report is closed
 abbrev pub CanBeDone : Option Held → CommandForm → Task → Type 0
-CanBeDone told (Analyzes program initial max mode) task = KeepsLimits task max
-CanBeDone told (Checks program initial report mode maps) task =
-    (a : Analysis) × GivesReport told (Checks program initial report mode maps) task.program (Ok a)
+CanBeDone told (Analyzes program initial max mode delta) task = KeepsLimits task max
+CanBeDone told (Checks program initial report mode maps delta) task =
+    (a : Analysis) × GivesReport told (Checks program initial report mode maps delta) task.program (Ok a)
     × IsClosedReport (case_for task a) × KeepsAllBudgets (case_for task a)
 CanBeDone told (Demos number) task = KeepsLimits task demo_max
 CanBeDone told (Joins program initial max mode) task = KeepsRoundLimits task max

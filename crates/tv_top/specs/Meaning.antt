@@ -1,8 +1,10 @@
 -- What the files of a command mean: a program, initial structures, and for `check` a report; or the first of
 -- them that means nothing.
-use Rattle.std.specs.Prelude.{ℕ, ◌≡◌, ◌⊎◌, List, Option, IsSome, Result, Ok, Err}
+use Rattle.std.specs.Prelude.{ℕ, ◌≡◌, ◌⊎◌, Bool, true, false, List, Option, IsSome, Result, Ok, Err}
 use Rattle.tv_demo.specs.Texts.{program_text, lists_text}
+use Rattle.tv_difference.specs.Differences.{IsDifferenced}
 use Rattle.tv_listing.specs.declared.analysis.Analysis.{Analysis}
+use Rattle.tv_model.specs.Program.{program_of}
 use Rattle.tv_model.specs.declared.program.Mode.{Mode}
 use Rattle.tv_model.specs.declared.program.Mode.TheVariants.{Given}
 use Rattle.tv_model.specs.declared.program.Program.{Program}
@@ -22,10 +24,19 @@ Commands words IsSuch = (command : CommandForm) × Spells words command × IsSuc
 
 -- ---- the files of a command
 
+-- the named file, with its includes put in, means this program, or, with `delta`, one of which differencing makes
+-- it; or it is refused so
+abbrev pub IsTakenProgram : (delta : Bool) → Option Held → (name : List ℕ) → Result Program FileKind → Type 0
+IsTakenProgram false told name answer = IsProgramFile told name answer
+IsTakenProgram true told name (Ok program) = (read : Program) × IsProgramFile told name (Ok read)
+    × IsDifferenced (program_of read) (program_of program)
+IsTakenProgram true told name (Err kind) = IsProgramFile told name (Err kind)
+
 -- PROGRAM means this program, or is refused so; a demo makes its text itself, and SOURCE is compiled
 abbrev pub GivesProgram : Option Held → CommandForm → Result Program FileKind → Type 0
-GivesProgram told (Analyzes program initial max mode) answer = IsProgramFile told program answer
-GivesProgram told (Checks program initial report mode maps) answer = IsProgramFile told program answer
+GivesProgram told (Analyzes program initial max mode delta) answer = IsTakenProgram delta told program answer
+GivesProgram told (Checks program initial report mode maps delta) answer =
+    IsTakenProgram delta told program answer
 GivesProgram told (Demos number) answer = MeansProgram (program_text number) answer
 GivesProgram told (Joins program initial max mode) answer = IsProgramFile told program answer
 GivesProgram told (Replays program initial start trace report) answer = IsProgramFile told program answer
@@ -33,8 +44,8 @@ GivesProgram told (Sources source initial max) answer = IsSourceFile told source
 
 -- INITIAL means these structures over the program's vocabulary, or is refused so
 abbrev pub GivesInitial : Option Held → CommandForm → Program → Result (List StructureForm) FileKind → Type 0
-GivesInitial told (Analyzes program initial max mode) meant answer = IsInitialFile told initial meant answer
-GivesInitial told (Checks program initial report mode maps) meant answer =
+GivesInitial told (Analyzes program initial max mode delta) meant answer = IsInitialFile told initial meant answer
+GivesInitial told (Checks program initial report mode maps delta) meant answer =
     IsInitialFile told initial meant answer
 GivesInitial told (Demos number) meant answer = MeansInitial meant lists_text answer
 GivesInitial told (Joins program initial max mode) meant answer = IsInitialFile told initial meant answer
@@ -44,8 +55,8 @@ GivesInitial told (Sources source initial max) meant answer = IsInitialFile told
 
 -- START, which `replay` alone has, means this heap over the program's vocabulary, or is refused so
 abbrev pub GivesStart : Option Held → CommandForm → Program → Result StructureForm FileKind → Type 0
-GivesStart told (Analyzes program initial max mode) meant answer = ⊥
-GivesStart told (Checks program initial report mode maps) meant answer = ⊥
+GivesStart told (Analyzes program initial max mode delta) meant answer = ⊥
+GivesStart told (Checks program initial report mode maps delta) meant answer = ⊥
 GivesStart told (Demos number) meant answer = ⊥
 GivesStart told (Joins program initial max mode) meant answer = ⊥
 GivesStart told (Replays program initial start trace report) meant answer = IsStartFile told start meant answer
@@ -53,8 +64,8 @@ GivesStart told (Sources source initial max) meant answer = ⊥
 
 -- TRACE, which `replay` alone has, is this trace on the program, or is refused so
 abbrev pub GivesTrace : Option Held → CommandForm → Program → Result Trace FileKind → Type 0
-GivesTrace told (Analyzes program initial max mode) meant answer = ⊥
-GivesTrace told (Checks program initial report mode maps) meant answer = ⊥
+GivesTrace told (Analyzes program initial max mode delta) meant answer = ⊥
+GivesTrace told (Checks program initial report mode maps delta) meant answer = ⊥
 GivesTrace told (Demos number) meant answer = ⊥
 GivesTrace told (Joins program initial max mode) meant answer = ⊥
 GivesTrace told (Replays program initial start trace report) meant answer = IsTraceFile told trace meant answer
@@ -62,8 +73,8 @@ GivesTrace told (Sources source initial max) meant answer = ⊥
 
 -- REPORT, which `check` and `replay` have, is this report on the program, or is refused so
 abbrev pub GivesReport : Option Held → CommandForm → Program → Result Analysis FileKind → Type 0
-GivesReport told (Analyzes program initial max mode) meant answer = ⊥
-GivesReport told (Checks program initial report mode maps) meant answer =
+GivesReport told (Analyzes program initial max mode delta) meant answer = ⊥
+GivesReport told (Checks program initial report mode maps delta) meant answer =
     IsReportFile told report meant answer
 GivesReport told (Demos number) meant answer = ⊥
 GivesReport told (Joins program initial max mode) meant answer = ⊥
@@ -71,8 +82,8 @@ GivesReport told (Replays program initial start trace report) meant answer = IsR
 GivesReport told (Sources source initial max) meant answer = ⊥
 
 abbrev pub mode_of : CommandForm → Mode
-mode_of (Analyzes program initial max mode) = mode
-mode_of (Checks program initial report mode maps) = mode
+mode_of (Analyzes program initial max mode delta) = mode
+mode_of (Checks program initial report mode maps delta) = mode
 mode_of (Demos number) = Given
 mode_of (Joins program initial max mode) = mode
 mode_of (Replays program initial start trace report) = Given
@@ -92,8 +103,8 @@ pub record FilesMean (told : Option Held) (command : CommandForm) (task : Task) 
 
 -- START and TRACE mean something, where the command has them
 abbrev pub HasRun : Option Held → CommandForm → Program → Type 0
-HasRun told (Analyzes program initial max mode) meant = Unit {0}
-HasRun told (Checks program initial report mode maps) meant = Unit {0}
+HasRun told (Analyzes program initial max mode delta) meant = Unit {0}
+HasRun told (Checks program initial report mode maps delta) meant = Unit {0}
 HasRun told (Demos number) meant = Unit {0}
 HasRun told (Joins program initial max mode) meant = Unit {0}
 HasRun told (Replays program initial start trace report) meant =
@@ -103,8 +114,8 @@ HasRun told (Sources source initial max) meant = Unit {0}
 
 -- the file that the program comes from
 abbrev pub program_role : CommandForm → Role
-program_role (Analyzes program initial max mode) = role.Program
-program_role (Checks program initial report mode maps) = role.Program
+program_role (Analyzes program initial max mode delta) = role.Program
+program_role (Checks program initial report mode maps delta) = role.Program
 program_role (Demos number) = role.Program
 program_role (Joins program initial max mode) = role.Program
 program_role (Replays program initial start trace report) = role.Program
@@ -130,16 +141,16 @@ IsRefused told command role.Report kind = (task : Task) × FilesMean told comman
 -- ---- files that aren't there
 
 abbrev pub LacksProgram : Option Held → CommandForm → Type 0
-LacksProgram told (Analyzes program initial max mode) = LacksFile told program
-LacksProgram told (Checks program initial report mode maps) = LacksFile told program
+LacksProgram told (Analyzes program initial max mode delta) = LacksFile told program
+LacksProgram told (Checks program initial report mode maps delta) = LacksFile told program
 LacksProgram told (Demos number) = ⊥
 LacksProgram told (Joins program initial max mode) = LacksFile told program
 LacksProgram told (Replays program initial start trace report) = LacksFile told program
 LacksProgram told (Sources source initial max) = ¬ HoldsName told source
 
 abbrev pub LacksInitial : Option Held → CommandForm → Type 0
-LacksInitial told (Analyzes program initial max mode) = ¬ HoldsName told initial
-LacksInitial told (Checks program initial report mode maps) = ¬ HoldsName told initial
+LacksInitial told (Analyzes program initial max mode delta) = ¬ HoldsName told initial
+LacksInitial told (Checks program initial report mode maps delta) = ¬ HoldsName told initial
 LacksInitial told (Demos number) = ⊥
 LacksInitial told (Joins program initial max mode) = ¬ HoldsName told initial
 LacksInitial told (Replays program initial start trace report) = ¬ HoldsName told initial
@@ -147,8 +158,8 @@ LacksInitial told (Sources source initial max) = ¬ HoldsName told initial
 
 -- the first of the files behind INITIAL that means nothing isn't there
 abbrev pub LacksLater : Option Held → CommandForm → Program → Type 0
-LacksLater told (Analyzes program initial max mode) meant = ⊥
-LacksLater told (Checks program initial report mode maps) meant = ¬ HoldsName told report
+LacksLater told (Analyzes program initial max mode delta) meant = ⊥
+LacksLater told (Checks program initial report mode maps delta) meant = ¬ HoldsName told report
 LacksLater told (Demos number) meant = ⊥
 LacksLater told (Joins program initial max mode) meant = ⊥
 LacksLater told (Replays program initial start trace report) meant = (¬ HoldsName told start)
@@ -166,8 +177,8 @@ IsMissing told command = LacksProgram told command
 -- each operand that names a file is there, and so is each file that PROGRAM includes and that is come to
 -- before any refusal
 abbrev pub HoldsFiles : Option Held → CommandForm → Type 0
-HoldsFiles told (Analyzes program initial max mode) = (¬ LacksFile told program) × HoldsName told initial
-HoldsFiles told (Checks program initial report mode maps) =
+HoldsFiles told (Analyzes program initial max mode delta) = (¬ LacksFile told program) × HoldsName told initial
+HoldsFiles told (Checks program initial report mode maps delta) =
     (¬ LacksFile told program) × HoldsName told initial × HoldsName told report
 HoldsFiles told (Demos number) = Unit {0}
 HoldsFiles told (Joins program initial max mode) = (¬ LacksFile told program) × HoldsName told initial
@@ -177,8 +188,8 @@ HoldsFiles told (Sources source initial max) = HoldsName told source × HoldsNam
 
 -- it is told what the files of the command hold; a demo has none
 abbrev pub IsTold : Option Held → CommandForm → Type 0
-IsTold told (Analyzes program initial max mode) = IsSome told
-IsTold told (Checks program initial report mode maps) = IsSome told
+IsTold told (Analyzes program initial max mode delta) = IsSome told
+IsTold told (Checks program initial report mode maps delta) = IsSome told
 IsTold told (Demos number) = Unit {0}
 IsTold told (Joins program initial max mode) = IsSome told
 IsTold told (Replays program initial start trace report) = IsSome told

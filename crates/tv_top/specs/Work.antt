@@ -1,13 +1,18 @@
 -- What the parts of the work give.
-use Rattle.std.specs.Prelude.{ℕ, ◌≡◌, ◌<◌, ◌≤◌, ◌^◌, List, length, Bool, Result, Ok, Err, All}
+use Rattle.std.specs.Prelude.{ℕ, ◌≡◌, ◌<◌, ◌≤◌, ◌^◌, List, length, Bool, true, false, Option, Result, Ok, Err, All}
+use Rattle.tv_delta.specs.Answers.{HasRuns}
+use Rattle.tv_difference.specs.Differences.{IsDifferenced}
 use Rattle.tv_judge.specs.Judged.{IsRejection, StopsAt}
 use Rattle.tv_listing.specs.declared.analysis.Analysis.{Analysis}
 use Rattle.tv_model.specs.Program.{program_of}
 use Rattle.tv_model.specs.Valid.{IsValid}
 use Rattle.tv_model.specs.declared.program.Mode.{Mode}
+use Rattle.tv_model.specs.declared.program.Program.{Program}
+use Rattle.tv_outside.specs.Told.{Held}
 use Rattle.tv_status.specs.declared.status.Status.{Status}
 use Rattle.tv_status.specs.declared.status.Status.TheVariants.{Done, Rejected, Stuck}
 use Rattle.tv_struct.specs.StructureForm.{IsOver, StructureForm, IsStructure}
+use Rattle.tv_texts.specs.Files.{IsProgramFile}
 use Rattle.tv_top.specs.Answers.{Reached, InRound, IsAccepted, IsAcceptedText, case_for, rejected_line, AreStates}
 use Rattle.tv_top.specs.Meaning.{Task}
 use Rattle.tv_top.specs.declared.fault.Fault.{Fault}
@@ -18,23 +23,35 @@ use Rattle.tv_replayed.specs.Stuck.{IsStuck}
 use Rattle.tv_replayed.specs.declared.state.State.{State}
 use Rattle.tv_states.specs.Text.{states_text, stuck_line}
 use Rattle.tv_trace.specs.declared.trace.Trace.{Trace}
-use Rattle.tv_words.specs.Words.{CommandForm, Analyzes, Checks, Demos, Joins, Replays, Sources}
+use Rattle.tv_words.specs.Words.{CommandForm, Analyzes, Checks, Demos, Joins, Replays, Sources, GoTogether}
 use Rattle.tv_work.specs.Analysed.{Meets}
 use Rattle.tv_work.specs.Reach.{AreMoreThan}
 
--- the command names these files as PROGRAM and INITIAL
-abbrev pub Names : CommandForm → (program initial : List ℕ) → Type 0
-Names (Analyzes program initial max mode) p i = (program ≡ p) × (initial ≡ i)
-Names (Checks program initial report mode maps) p i = (program ≡ p) × (initial ≡ i)
-Names (Demos number) p i = ⊥
-Names (Joins program initial max mode) p i = (program ≡ p) × (initial ≡ i)
-Names (Replays program initial start trace report) p i = (program ≡ p) × (initial ≡ i)
-Names (Sources source initial max) p i = ⊥
+-- the command names these files as PROGRAM and INITIAL, and asks for differencing or doesn't
+abbrev pub Names : CommandForm → (program initial : List ℕ) → (differenced : Bool) → Type 0
+Names (Analyzes program initial max mode delta) p i d = (program ≡ p) × (initial ≡ i) × (delta ≡ d)
+Names (Checks program initial report mode maps delta) p i d = (program ≡ p) × (initial ≡ i) × (delta ≡ d)
+Names (Demos number) p i d = ⊥
+Names (Joins program initial max mode) p i d = (program ≡ p) × (initial ≡ i) × (false ≡ d)
+Names (Replays program initial start trace report) p i d = (program ≡ p) × (initial ≡ i) × (false ≡ d)
+Names (Sources source initial max) p i d = ⊥
 
--- the numbers of a command are within their limits
+-- with `delta`, the runs of the program that was read are runs of this one, which differencing makes of it
+abbrev pub HasReadRuns : (delta : Bool) → Option Held → (name : List ℕ) → Program → Type 0
+HasReadRuns false told name program = Unit {0}
+HasReadRuns true told name program = (read : Program) × IsProgramFile told name (Ok read)
+    × IsDifferenced (program_of read) (program_of program) × HasRuns (program_of read) (program_of program)
+
+-- the program that is taken where this one was read
+abbrev pub IsTakenFrom : (delta : Bool) → (read taken : Program) → Type 0
+IsTakenFrom false read taken = taken ≡ read
+IsTakenFrom true read taken = IsDifferenced (program_of read) (program_of taken)
+    × HasRuns (program_of read) (program_of taken)
+
+-- the numbers of a command are within their limits, and its options go together
 abbrev pub IsBounded : CommandForm → Type 0
-IsBounded (Analyzes program initial max mode) = max ≤ 100000
-IsBounded (Checks program initial report mode maps) = Unit {0}
+IsBounded (Analyzes program initial max mode delta) = (max ≤ 100000) × GoTogether mode delta
+IsBounded (Checks program initial report mode maps delta) = GoTogether mode delta
 IsBounded (Demos number) = (1 ≤ number) × (number ≤ 16)
 IsBounded (Joins program initial max mode) = max ≤ 100000
 IsBounded (Replays program initial start trace report) = Unit {0}

@@ -1,19 +1,25 @@
 //! The files of a command, read and understood.
 
-ghost use Rattle.std.specs.Prelude.{ℕ, ◌≡◌, ◌≤◌, IfOk, IfErr};
+ghost use Rattle.std.specs.Prelude.{ℕ, ◌≡◌, ◌≤◌, Ok, Err, IfOk, IfErr};
+ghost use Rattle.tv_model.specs.Program.{program_of};
+ghost use Rattle.tv_model.specs.Valid.{IsValid};
 ghost use Rattle.tv_model.specs.declared.program.Mode.TheVariants.{Given};
 ghost use Rattle.tv_outside.specs.Count.{Rose};
+ghost use Rattle.tv_status.specs.declared.status.Role.TheVariants as role;
+ghost use Rattle.tv_texts.specs.Files.{LacksFile, IsFileCause, UnlessNotRead};
 ghost use Rattle.tv_top.specs.Call.{IsCommandCause};
-ghost use Rattle.tv_top.specs.Meaning.{FilesMean, mode_of};
-ghost use Rattle.tv_top.specs.Work.{Names, IsReady, UnlessReadFault, task_of};
+ghost use Rattle.tv_top.specs.Meaning.{FilesMean, IsTakenProgram, mode_of};
+ghost use Rattle.tv_top.specs.Work.{Names, HasReadRuns, IsTakenFrom, IsReady, UnlessReadFault, task_of};
+ghost use Rattle.tv_texts.specs.declared.fault.TextFault.TheVariants.{Memory};
 ghost use Rattle.tv_words.specs.Words.{CommandForm, Sources};
 
 use crate::fault::Fault;
 use std::alloc::Global;
+use tv_delta::differenced;
 use tv_model::Program;
 use tv_outside::Files;
 use tv_struct::Structures;
-use tv_texts::{load_initial, load_program, load_source};
+use tv_texts::{TextFault, load_initial, load_program, load_source};
 
 /// What a command works on.
 #[derive(Drop)]
@@ -22,17 +28,61 @@ pub struct Inputs {
     pub initial: Structures,
 }
 
-/// The program and the initial structures that the two named files mean.
+/// The program of which it is told that `read` means it; with `delta`, what differencing makes of it.
+fn taken(alloc: Global, read: Program, delta: bool) -> Result<Program, TextFault>
+    requires { IsValid (program_of read) }
+    ensures valid { IfOk result (λ p. IsValid (program_of p)) }
+    ensures taken { IfOk result (IsTakenFrom delta read) }
+    ensures cause { IfErr result (λ fault. fault ≡ Memory) }
+{
+    if !delta {
+        return Ok(read);
+    }
+    match differenced(alloc, &read) {
+        Ok(program) => Ok(program),
+        Err(_) => Err(TextFault::Memory),
+    }
+}
+
+/// The program that the named file means; with `delta`, what differencing makes of it.
+fn load_taken<F: Files>(
+    alloc: Global,
+    files: &mut F,
+    name: &str,
+    delta: bool,
+) -> Result<Program, TextFault>
+    ensures means { IfOk result (λ p. IsTakenProgram delta (F.holds files.old) name.now (Ok p)) }
+    ensures runs { IfOk result (HasReadRuns delta (F.holds files.old) name.now) }
+    ensures valid { IfOk result (λ p. IsValid (program_of p)) }
+    ensures cause { IfErr result (IsFileCause role.Program (λ kind. IsTakenProgram delta (F.holds files.old)
+        name.now (Err kind)) (LacksFile (F.holds files.old) name.now)
+        (Rose (F.faults files.old) (F.faults files.new)) (F.steady files.old)) }
+    ensures holds { F.holds files.new ≡ F.holds files.old }
+    ensures count { F.faults files.old ≤ F.faults files.new }
+    ensures steady { F.steady files.old → UnlessNotRead result (F.steady files.new
+        × (F.faults files.new ≡ F.faults files.old)) }
+{
+    let read = load_program(alloc, files, name)?;
+    taken(alloc, read, delta)
+}
+
+/// The program and the initial structures that the two named files mean; with `delta`, the program is what
+/// differencing makes of the one that was read.
 pub fn load_inputs<F: Files>(
     alloc: Global,
     files: &mut F,
     program: &str,
     initial: &str,
+    delta: bool,
 ) -> Result<Inputs, Fault>
-    ensures meant { IfOk result (λ inputs. (command : CommandForm) → Names command program.now initial.now
+    ensures meant { IfOk result (λ inputs. (command : CommandForm)
+        → Names command program.now initial.now delta
         → FilesMean (F.holds files.old) command (task_of inputs (mode_of command))) }
+    ensures runs { IfOk result (λ inputs. HasReadRuns delta (F.holds files.old) program.now
+        inputs.program) }
     ensures ready { IfOk result IsReady }
-    ensures cause { IfErr result (λ fault. (command : CommandForm) → Names command program.now initial.now
+    ensures cause { IfErr result (λ fault. (command : CommandForm)
+        → Names command program.now initial.now delta
         → IsCommandCause (F.holds files.old) command (Rose (F.faults files.old) (F.faults files.new))
         (F.steady files.old) fault) }
     ensures holds { F.holds files.new ≡ F.holds files.old }
@@ -40,7 +90,7 @@ pub fn load_inputs<F: Files>(
     ensures steady { F.steady files.old → UnlessReadFault result (F.steady files.new
         × (F.faults files.new ≡ F.faults files.old)) }
 {
-    let program = load_program(alloc, files, program)?;
+    let program = load_taken(alloc, files, program, delta)?;
     let initial = load_initial(alloc, files, initial, &program)?;
     Ok(Inputs { program, initial })
 }

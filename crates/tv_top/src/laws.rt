@@ -6,12 +6,13 @@ use tv_judge::closed_listings_are_closed_reports;
 use tv_report::reports_are_read_again;
 use tv_words::one_command;
 
-/// The numbers that words spell are within their limits.
+/// The numbers that words spell are within their limits, and their options go together.
 pub fn commands_are_bounded()
     ensures { CommandsAreBounded }
 {}
 
-/// What `analyze` wrote is accepted by `check`, where REPORT holds it and the other files and the mode are the same.
+/// What `analyze` wrote is accepted by `check`, where REPORT holds it, the other files and the mode are the same, and
+/// both have `--delta` or neither.
 pub fn reports_are_accepted()
     ensures { ReportsAreAccepted }
 {

@@ -8,7 +8,7 @@ ghost use Rattle.tv_top.specs.Call.{IsAnswerTo, IsCause, IsCommandCause};
 ghost use Rattle.tv_top.specs.Delivery.{SaidOf};
 ghost use Rattle.tv_top.specs.Meaning.{FilesMean};
 ghost use Rattle.tv_top.specs.Work.{IsBounded, IsReady, UnlessReadFault, task_of};
-ghost use Rattle.tv_words.specs.Words.{words_of, SpellsNothing, Analyzes, Checks, Demos, Joins, Replays, Sources, form_of};
+ghost use Rattle.tv_words.specs.Words.{words_of, SpellsNothing, Analyzes, Checks, Demos, Joins, Replays, Sources, GoTogether, form_of};
 
 use crate::answers::{demo_line, judgement, replayed, search, search_joined};
 use crate::fault::{Answer, Fault};
@@ -35,18 +35,20 @@ fn analyze<F: Files>(
     initial: &str,
     max: u64,
     mode: Mode,
+    delta: bool,
 ) -> Result<Answer, Fault>
-    requires { max ≤ 100000 }
+    requires bounded { max ≤ 100000 }
+    requires together { GoTogether mode delta }
     ensures found { IfOk result (SaidOf (IsAnswer (F.holds files.old)
-        (Analyzes program.now initial.now max mode))) }
+        (Analyzes program.now initial.now max mode delta))) }
     ensures cause { IfErr result (IsCommandCause (F.holds files.old)
-        (Analyzes program.now initial.now max mode)
+        (Analyzes program.now initial.now max mode delta)
         (Rose (F.faults files.old) (F.faults files.new)) (F.steady files.old)) }
     ensures holds { F.holds files.new ≡ F.holds files.old }
     ensures count { F.faults files.old ≤ F.faults files.new }
     ensures steady { F.steady files.old → UnlessReadFault result (F.faults files.new ≡ F.faults files.old) }
 {
-    let inputs = load_inputs(alloc, files, program, initial)?;
+    let inputs = load_inputs(alloc, files, program, initial, delta)?;
     let found = search(alloc, &inputs, mode, max)?;
     let text = write_report(alloc, &inputs.program, &found)?;
     Ok(Answer::Done(text))
@@ -62,17 +64,19 @@ fn check<F: Files>(
     report: &str,
     mode: Mode,
     maps: bool,
+    delta: bool,
 ) -> Result<Answer, Fault>
+    requires { GoTogether mode delta }
     ensures found { IfOk result (SaidOf (IsAnswer (F.holds files.old)
-        (Checks program.now initial.now report.now mode maps))) }
+        (Checks program.now initial.now report.now mode maps delta))) }
     ensures cause { IfErr result (IsCommandCause (F.holds files.old)
-        (Checks program.now initial.now report.now mode maps)
+        (Checks program.now initial.now report.now mode maps delta)
         (Rose (F.faults files.old) (F.faults files.new)) (F.steady files.old)) }
     ensures holds { F.holds files.new ≡ F.holds files.old }
     ensures count { F.faults files.old ≤ F.faults files.new }
     ensures steady { F.steady files.old → UnlessReadFault result (F.faults files.new ≡ F.faults files.old) }
 {
-    let inputs = load_inputs(alloc, files, program, initial)?;
+    let inputs = load_inputs(alloc, files, program, initial, delta)?;
     let report = load_report(alloc, files, report, &inputs.program)?;
     judgement(alloc, &inputs, report, mode, maps)
 }
@@ -126,7 +130,7 @@ fn join<F: Files>(
     ensures count { F.faults files.old ≤ F.faults files.new }
     ensures steady { F.steady files.old → UnlessReadFault result (F.faults files.new ≡ F.faults files.old) }
 {
-    let inputs = load_inputs(alloc, files, program, initial)?;
+    let inputs = load_inputs(alloc, files, program, initial, false)?;
     let found = search_joined(alloc, &inputs, mode, max)?;
     let text = write_report(alloc, &inputs.program, &found)?;
     Ok(Answer::Done(text))
@@ -153,7 +157,7 @@ fn run<F: Files>(
     ensures count { F.faults files.old ≤ F.faults files.new }
     ensures steady { F.steady files.old → UnlessReadFault result (F.faults files.new ≡ F.faults files.old) }
 {
-    let inputs = load_inputs(alloc, files, program, initial)?;
+    let inputs = load_inputs(alloc, files, program, initial, false)?;
     let start = load_start(alloc, files, start, &inputs.program)?;
     let trace = load_trace(alloc, files, trace, &inputs.program)?;
     let reported = load_report(alloc, files, report, &inputs.program)?;
@@ -203,14 +207,16 @@ fn execute<F: Files>(alloc: Global, files: &mut F, command: &Command) -> Result<
             initial,
             max,
             mode,
-        } => analyze(alloc, files, program, initial, *max, *mode),
+            delta,
+        } => analyze(alloc, files, program, initial, *max, *mode, *delta),
         Command::Check {
             program,
             initial,
             report,
             mode,
             maps,
-        } => check(alloc, files, program, initial, report, *mode, *maps),
+            delta,
+        } => check(alloc, files, program, initial, report, *mode, *maps, *delta),
         Command::Demo { number } => demo(alloc, *number),
         Command::Join {
             program,

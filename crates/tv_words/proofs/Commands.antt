@@ -8,7 +8,7 @@ use Rattle.tv_model.specs.declared.program.Mode.TheVariants.{Given, Recompute}
 use Rattle.clap.specs.declared.parser.matches.ArgMatches.{ArgMatches}
 use Rattle.tv_words.specs.Line.{Part, IsLine, is_among, operands_of, uses_of, values_of}
 use Rattle.tv_words.specs.Setup.{are_names, HasLine, HasNoLine, texts_in, uses_in}
-use Rattle.tv_words.specs.Words.{AnalyzeLine, CheckLine, DemoLine, JoinLine, ReplayLine, SourceLine, IsMax, IsNumberUpTo, recomputes, once, analyze_flags, analyze_settings, check_flags, join_flags, join_settings, source_settings, CommandForm, Analyzes, Checks, Demos, Joins, Replays, Sources, name_of, IsRest, IsNamed, NoneNamed, Spells, SpellsNothing, form_of}
+use Rattle.tv_words.specs.Words.{AnalyzeLine, CheckLine, DemoLine, JoinLine, ReplayLine, SourceLine, IsMax, IsNumberUpTo, recomputes, once, AreUses, analyze_flags, analyze_settings, check_flags, join_flags, join_settings, source_settings, CommandForm, Analyzes, Checks, Demos, Joins, Replays, Sources, name_of, IsRest, IsNamed, NoneNamed, Spells, SpellsNothing, form_of}
 use Rattle.tv_words.specs.declared.words.Command.{Command}
 use Rattle.tv_words.proofs.Reading.{one_line}
 
@@ -27,6 +27,15 @@ once_few : (it : Bool) → once it ≤ 1
 once_few true = omega arith
 once_few false = omega arith
 
+-- the same of counts that stop at 255
+same_uses : (r d r' d' : ℕ) (mode : Mode) (it : Bool) → min r 255 ≡ min r' 255 → min d 255 ≡ min d' 255
+    → AreUses r d mode it → AreUses r' d' mode it
+same_uses r d r' d' mode it a b h = (
+  few_uses r r' (recomputes mode) a h.0 (recomputes_few mode),
+  few_uses d d' (once it) b h.1 (once_few it),
+  h.2,
+)
+
 -- ---- two names differ
 
 abbrev first_byte : List ℕ → ℕ
@@ -34,10 +43,10 @@ first_byte word = slice_index_or word 0 0
 
 -- no command with this name: none of the command that has it, and the others have other names
 pub none_analyzes : (words : List (List ℕ))
-    → ((program initial : List ℕ) (max : ℕ) (mode : Mode) → ¬ AnalyzeLine words program initial max mode)
+    → ((program initial : List ℕ) (max : ℕ) (mode : Mode) (delta : Bool) → ¬ AnalyzeLine words program initial max mode delta)
     → NoneNamed (codes "analyze") words
-none_analyzes words none (Analyzes program initial max mode) h = none program initial max mode h.1
-none_analyzes words none (Checks program initial report mode maps) h = let n = ap first_byte h.0 in absurd (omega (arith, n))
+none_analyzes words none (Analyzes program initial max mode delta) h = none program initial max mode delta h.1
+none_analyzes words none (Checks program initial report mode maps delta) h = let n = ap first_byte h.0 in absurd (omega (arith, n))
 none_analyzes words none (Demos number) h = let n = ap first_byte h.0 in absurd (omega (arith, n))
 none_analyzes words none (Joins program initial max mode) h = let n = ap first_byte h.0 in absurd (omega (arith, n))
 none_analyzes words none (Replays program initial start trace report) h =
@@ -45,10 +54,10 @@ none_analyzes words none (Replays program initial start trace report) h =
 none_analyzes words none (Sources source initial max) h = let n = ap first_byte h.0 in absurd (omega (arith, n))
 
 pub none_checks : (words : List (List ℕ))
-    → ((program initial report : List ℕ) (mode : Mode) (maps : Bool) → ¬ CheckLine words program initial report mode maps)
+    → ((program initial report : List ℕ) (mode : Mode) (maps delta : Bool) → ¬ CheckLine words program initial report mode maps delta)
     → NoneNamed (codes "check") words
-none_checks words none (Analyzes program initial max mode) h = let n = ap first_byte h.0 in absurd (omega (arith, n))
-none_checks words none (Checks program initial report mode maps) h = none program initial report mode maps h.1
+none_checks words none (Analyzes program initial max mode delta) h = let n = ap first_byte h.0 in absurd (omega (arith, n))
+none_checks words none (Checks program initial report mode maps delta) h = none program initial report mode maps delta h.1
 none_checks words none (Demos number) h = let n = ap first_byte h.0 in absurd (omega (arith, n))
 none_checks words none (Joins program initial max mode) h = let n = ap first_byte h.0 in absurd (omega (arith, n))
 none_checks words none (Replays program initial start trace report) h =
@@ -56,8 +65,8 @@ none_checks words none (Replays program initial start trace report) h =
 none_checks words none (Sources source initial max) h = let n = ap first_byte h.0 in absurd (omega (arith, n))
 
 pub none_demos : (words : List (List ℕ)) → ((number : ℕ) → ¬ DemoLine words number) → NoneNamed (codes "demo") words
-none_demos words none (Analyzes program initial max mode) h = let n = ap first_byte h.0 in absurd (omega (arith, n))
-none_demos words none (Checks program initial report mode maps) h = let n = ap first_byte h.0 in absurd (omega (arith, n))
+none_demos words none (Analyzes program initial max mode delta) h = let n = ap first_byte h.0 in absurd (omega (arith, n))
+none_demos words none (Checks program initial report mode maps delta) h = let n = ap first_byte h.0 in absurd (omega (arith, n))
 none_demos words none (Demos number) h = none number h.1
 none_demos words none (Joins program initial max mode) h = let n = ap first_byte h.0 in absurd (omega (arith, n))
 none_demos words none (Replays program initial start trace report) h =
@@ -67,8 +76,8 @@ none_demos words none (Sources source initial max) h = let n = ap first_byte h.0
 pub none_joins : (words : List (List ℕ))
     → ((program initial : List ℕ) (max : ℕ) (mode : Mode) → ¬ JoinLine words program initial max mode)
     → NoneNamed (codes "join") words
-none_joins words none (Analyzes program initial max mode) h = let n = ap first_byte h.0 in absurd (omega (arith, n))
-none_joins words none (Checks program initial report mode maps) h = let n = ap first_byte h.0 in absurd (omega (arith, n))
+none_joins words none (Analyzes program initial max mode delta) h = let n = ap first_byte h.0 in absurd (omega (arith, n))
+none_joins words none (Checks program initial report mode maps delta) h = let n = ap first_byte h.0 in absurd (omega (arith, n))
 none_joins words none (Demos number) h = let n = ap first_byte h.0 in absurd (omega (arith, n))
 none_joins words none (Joins program initial max mode) h = none program initial max mode h.1
 none_joins words none (Replays program initial start trace report) h =
@@ -78,9 +87,9 @@ none_joins words none (Sources source initial max) h = let n = ap first_byte h.0
 pub none_replays : (words : List (List ℕ))
     → ((program initial start trace report : List ℕ) → ¬ ReplayLine words program initial start trace report)
     → NoneNamed (codes "replay") words
-none_replays words none (Analyzes program initial max mode) h =
+none_replays words none (Analyzes program initial max mode delta) h =
     let n = ap first_byte h.0 in absurd (omega (arith, n))
-none_replays words none (Checks program initial report mode maps) h =
+none_replays words none (Checks program initial report mode maps delta) h =
     let n = ap first_byte h.0 in absurd (omega (arith, n))
 none_replays words none (Demos number) h =
     let n = ap first_byte h.0 in absurd (omega (arith, n))
@@ -92,8 +101,8 @@ none_replays words none (Sources source initial max) h = let n = ap first_byte h
 pub none_sources : (words : List (List ℕ))
     → ((source initial : List ℕ) (max : ℕ) → ¬ SourceLine words source initial max)
     → NoneNamed (codes "source") words
-none_sources words none (Analyzes program initial max mode) h = let n = ap first_byte h.0 in absurd (omega (arith, n))
-none_sources words none (Checks program initial report mode maps) h = let n = ap first_byte h.0 in absurd (omega (arith, n))
+none_sources words none (Analyzes program initial max mode delta) h = let n = ap first_byte h.0 in absurd (omega (arith, n))
+none_sources words none (Checks program initial report mode maps delta) h = let n = ap first_byte h.0 in absurd (omega (arith, n))
 none_sources words none (Demos number) h = let n = ap first_byte h.0 in absurd (omega (arith, n))
 none_sources words none (Joins program initial max mode) h = let n = ap first_byte h.0 in absurd (omega (arith, n))
 none_sources words none (Replays program initial start trace report) h =
@@ -122,6 +131,12 @@ module _ (flags settings : List (List ℕ)) (fit : are_names flags settings ≡ 
     same_values setting known parts behind line =
         ap (values_of setting) (same_parts parts behind line).0 ∙ sym (h.finds.values setting known)
 
+    -- how often a flag stands, where a count stops at 255
+    same_counts : (flag : List ℕ) → is_among flags flag ≡ true → (parts : List Part) (behind : List (List ℕ))
+        → IsLine flags settings parts behind words → min (uses_of flag parts) 255 ≡ min (uses_in m flag) 255
+    same_counts flag known parts behind line =
+        ap (λ ps. min (uses_of flag ps) 255) (same_parts parts behind line).0 ∙ sym (h.finds.uses flag known)
+
     -- a flag that stands twice can't stand once at most
     not_twice : (flag : List ℕ) (n : ℕ) → is_among flags flag ≡ true → n ≤ 1 → 2 ≤ uses_in m flag
         → (parts : List Part) (behind : List (List ℕ)) → IsLine flags settings parts behind words
@@ -132,74 +147,80 @@ module _ (flags settings : List (List ℕ)) (fit : are_names flags settings ≡ 
 -- ---- `analyze`
 
 module _ (words : List (List ℕ)) (m : ArgMatches) (h : HasLine analyze_flags analyze_settings words m) where
-  pub analysis : (program initial a b : List ℕ) (max : ℕ) (mode : Mode) → texts_in m (codes "operands")
-      ≡ a ∷ b ∷ [] → program ≡ a → initial ≡ b
-      → uses_in m (codes "recompute") ≡ recomputes mode → IsMax (texts_in m (codes "max-structures")) max
-      → AnalyzeLine words program initial max mode
-  analysis program initial a b max mode operands is_a is_b uses values = record {
+  pub analysis : (program initial a b : List ℕ) (max : ℕ) (mode : Mode) (delta : Bool)
+      → texts_in m (codes "operands") ≡ a ∷ b ∷ [] → program ≡ a → initial ≡ b
+      → AreUses (uses_in m (codes "recompute")) (uses_in m (codes "delta")) mode delta
+      → IsMax (texts_in m (codes "max-structures")) max → AnalyzeLine words program initial max mode delta
+  analysis program initial a b max mode delta operands is_a is_b uses values = record {
     parts = h.parts;
     behind = h.behind;
     line = h.line;
     operands = sym h.finds.operands ∙ operands ∙ ap₂ (λ p i. p ∷ i ∷ []) (sym is_a) (sym is_b);
-    mode_is = few_uses _ _ _ (h.finds.uses (codes "recompute") refl) uses (recomputes_few mode);
+    uses = same_uses _ _ _ _ mode delta (h.finds.uses (codes "recompute") refl) (h.finds.uses (codes "delta") refl) uses;
     max_is = subst (λ vs. IsMax vs max) (h.finds.values (codes "max-structures") refl) values;
   }
 
   pub no_analysis_by_operands : ((a b : List ℕ) → texts_in m (codes "operands") ≡ a ∷ b ∷ [] → ⊥)
       → NoneNamed (codes "analyze") words
-  no_analysis_by_operands other = none_analyzes words (λ program initial max mode a. other program initial
+  no_analysis_by_operands other = none_analyzes words (λ program initial max mode delta a. other program initial
       (same_operands analyze_flags analyze_settings refl words m h a.parts a.behind a.line ∙ a.operands))
 
-  pub no_analysis_by_uses : 2 ≤ uses_in m (codes "recompute") → NoneNamed (codes "analyze") words
-  no_analysis_by_uses many = none_analyzes words (λ program initial max mode a.
-      not_twice analyze_flags analyze_settings refl words m h (codes "recompute") (recomputes mode) refl
-      (recomputes_few mode) many a.parts a.behind a.line a.mode_is)
+  pub no_analysis_by_uses : ((mode : Mode) (delta : Bool)
+      → ¬ AreUses (uses_in m (codes "recompute")) (uses_in m (codes "delta")) mode delta)
+      → NoneNamed (codes "analyze") words
+  no_analysis_by_uses other = none_analyzes words (λ program initial max mode delta a. other mode delta
+      (same_uses _ _ _ _ mode delta
+      (same_counts analyze_flags analyze_settings refl words m h (codes "recompute") refl a.parts a.behind a.line)
+      (same_counts analyze_flags analyze_settings refl words m h (codes "delta") refl a.parts a.behind a.line) a.uses))
 
   pub no_analysis_by_values : ((n : ℕ) → IsMax (texts_in m (codes "max-structures")) n → ⊥)
       → NoneNamed (codes "analyze") words
-  no_analysis_by_values other = none_analyzes words (λ program initial max mode a. other max
+  no_analysis_by_values other = none_analyzes words (λ program initial max mode delta a. other max
       (subst (λ vs. IsMax vs max)
       (same_values analyze_flags analyze_settings refl words m h (codes "max-structures") refl a.parts a.behind a.line) a.max_is))
 
 pub no_analysis_without_line : (words : List (List ℕ)) → HasNoLine analyze_flags analyze_settings words
     → NoneNamed (codes "analyze") words
-no_analysis_without_line words none = none_analyzes words (λ program initial max mode a. none a.parts a.behind a.line)
+no_analysis_without_line words none = none_analyzes words (λ program initial max mode delta a. none a.parts a.behind a.line)
 
 -- ---- `check`
 
 module _ (words : List (List ℕ)) (m : ArgMatches) (h : HasLine check_flags [] words m) where
-  pub check : (program initial report a b d : List ℕ) (mode : Mode) (maps : Bool)
+  pub check : (program initial report a b d : List ℕ) (mode : Mode) (maps delta : Bool)
       → texts_in m (codes "operands") ≡ a ∷ b ∷ d ∷ []
       → program ≡ a → initial ≡ b → report ≡ d
-      → uses_in m (codes "recompute") ≡ recomputes mode → uses_in m (codes "maps") ≡ once maps
-      → CheckLine words program initial report mode maps
-  check program initial report a b d mode maps operands is_a is_b is_d uses also = record {
+      → AreUses (uses_in m (codes "recompute")) (uses_in m (codes "delta")) mode delta
+      → uses_in m (codes "maps") ≡ once maps → CheckLine words program initial report mode maps delta
+  check program initial report a b d mode maps delta operands is_a is_b is_d uses also = record {
     parts = h.parts;
     behind = h.behind;
     line = h.line;
     operands = sym h.finds.operands ∙ operands ∙ ap₂ (λ p rest. p ∷ rest) (sym is_a)
         (ap₂ (λ i r. i ∷ r ∷ []) (sym is_b) (sym is_d));
-    mode_is = few_uses _ _ _ (h.finds.uses (codes "recompute") refl) uses (recomputes_few mode);
+    uses = same_uses _ _ _ _ mode delta (h.finds.uses (codes "recompute") refl) (h.finds.uses (codes "delta") refl) uses;
     maps_is = few_uses _ _ _ (h.finds.uses (codes "maps") refl) also (once_few maps);
   }
 
   pub no_check_by_operands : ((a b d : List ℕ) → texts_in m (codes "operands") ≡ a ∷ b ∷ d ∷ [] → ⊥)
       → NoneNamed (codes "check") words
-  no_check_by_operands other = none_checks words (λ program initial report mode maps a. other program initial report
+  no_check_by_operands other = none_checks words (λ program initial report mode maps delta a. other program initial report
       (same_operands check_flags [] refl words m h a.parts a.behind a.line ∙ a.operands))
 
-  pub no_check_by_uses : 2 ≤ uses_in m (codes "recompute") → NoneNamed (codes "check") words
-  no_check_by_uses many = none_checks words (λ program initial report mode maps a.
-      not_twice check_flags [] refl words m h (codes "recompute") (recomputes mode) refl
-      (recomputes_few mode) many a.parts a.behind a.line a.mode_is)
+  pub no_check_by_uses : ((mode : Mode) (delta : Bool)
+      → ¬ AreUses (uses_in m (codes "recompute")) (uses_in m (codes "delta")) mode delta)
+      → NoneNamed (codes "check") words
+  no_check_by_uses other = none_checks words (λ program initial report mode maps delta a. other mode delta
+      (same_uses _ _ _ _ mode delta
+      (same_counts check_flags [] refl words m h (codes "recompute") refl a.parts a.behind a.line)
+      (same_counts check_flags [] refl words m h (codes "delta") refl a.parts a.behind a.line) a.uses))
 
   pub no_check_by_maps : 2 ≤ uses_in m (codes "maps") → NoneNamed (codes "check") words
-  no_check_by_maps many = none_checks words (λ program initial report mode maps a.
+  no_check_by_maps many = none_checks words (λ program initial report mode maps delta a.
       not_twice check_flags [] refl words m h (codes "maps") (once maps) refl
       (once_few maps) many a.parts a.behind a.line a.maps_is)
 
 pub no_check_without_line : (words : List (List ℕ)) → HasNoLine check_flags [] words → NoneNamed (codes "check") words
-no_check_without_line words none = none_checks words (λ program initial report mode maps a. none a.parts a.behind a.line)
+no_check_without_line words none = none_checks words (λ program initial report mode maps delta a. none a.parts a.behind a.line)
 
 -- ---- `demo`
 
@@ -377,38 +398,42 @@ one_max (value ∷ second ∷ rest) a b is also = absurd is
 
 -- the words behind one name say one command
 one_rest : (words : List (List ℕ)) (a b : CommandForm) → name_of a ≡ name_of b → IsRest words a → IsRest words b → a ≡ b
-one_rest words (Analyzes program initial max mode) (Analyzes program' initial' max' mode') named a b =
+one_rest words (Analyzes program initial max mode delta) (Analyzes program' initial' max' mode' delta') named a b =
     let same = one_line analyze_flags analyze_settings refl words a.parts b.parts a.behind b.behind a.line
     b.line in
     let names : program ∷ initial ∷ [] ≡ program' ∷ initial' ∷ [] = sym a.operands
     ∙ ap₂ (λ ps bs. operands_of ps ++ bs) same.0 same.1 ∙ b.operands in
     let first : program ≡ program' = ap (λ ws. slice_index_or ws 0 []) names in
     let second : initial ≡ initial' = ap (λ ws. slice_index_or ws 1 []) names in
-    let modes : mode ≡ mode' = one_mode mode mode' (sym a.mode_is ∙ ap (uses_of (codes "recompute")) same.0
-    ∙ b.mode_is) in
+    let modes : mode ≡ mode' = one_mode mode mode' (sym a.uses.0 ∙ ap (uses_of (codes "recompute")) same.0
+    ∙ b.uses.0) in
+    let deltas : delta ≡ delta' = one_bool delta delta' (sym a.uses.1 ∙ ap (uses_of (codes "delta")) same.0
+    ∙ b.uses.1) in
     let maxes : max ≡ max' = one_max (values_of (codes "max-structures") b.parts) max max'
     (subst (λ ps. IsMax (values_of (codes "max-structures") ps) max) same.0 a.max_is) b.max_is in
-    λ i. Analyzes (first i) (second i) (maxes i) (modes i)
-one_rest words (Analyzes program initial max mode) (Checks program' initial' report' mode' maps') named a b = let n = ap first_byte named in absurd (omega (arith, n))
-one_rest words (Analyzes program initial max mode) (Demos number') named a b = let n = ap first_byte named in absurd (omega (arith, n))
-one_rest words (Analyzes program initial max mode) (Joins program' initial' max' mode') named a b = let n = ap first_byte named in absurd (omega (arith, n))
-one_rest words (Checks program initial report mode maps) (Analyzes program' initial' max' mode') named a b = let n = ap first_byte named in absurd (omega (arith, n))
-one_rest words (Checks program initial report mode maps) (Checks program' initial' report' mode' maps') named a b =
+    λ i. Analyzes (first i) (second i) (maxes i) (modes i) (deltas i)
+one_rest words (Analyzes program initial max mode delta) (Checks program' initial' report' mode' maps' delta') named a b = let n = ap first_byte named in absurd (omega (arith, n))
+one_rest words (Analyzes program initial max mode delta) (Demos number') named a b = let n = ap first_byte named in absurd (omega (arith, n))
+one_rest words (Analyzes program initial max mode delta) (Joins program' initial' max' mode') named a b = let n = ap first_byte named in absurd (omega (arith, n))
+one_rest words (Checks program initial report mode maps delta) (Analyzes program' initial' max' mode' delta') named a b = let n = ap first_byte named in absurd (omega (arith, n))
+one_rest words (Checks program initial report mode maps delta) (Checks program' initial' report' mode' maps' delta') named a b =
     let same = one_line check_flags [] refl words a.parts b.parts a.behind b.behind a.line b.line in
     let names : program ∷ initial ∷ report ∷ [] ≡ program' ∷ initial' ∷ report' ∷ [] = sym a.operands
     ∙ ap₂ (λ ps bs. operands_of ps ++ bs) same.0 same.1 ∙ b.operands in
     let first : program ≡ program' = ap (λ ws. slice_index_or ws 0 []) names in
     let second : initial ≡ initial' = ap (λ ws. slice_index_or ws 1 []) names in
     let third : report ≡ report' = ap (λ ws. slice_index_or ws 2 []) names in
-    let modes : mode ≡ mode' = one_mode mode mode' (sym a.mode_is ∙ ap (uses_of (codes "recompute")) same.0
-    ∙ b.mode_is) in
+    let modes : mode ≡ mode' = one_mode mode mode' (sym a.uses.0 ∙ ap (uses_of (codes "recompute")) same.0
+    ∙ b.uses.0) in
+    let deltas : delta ≡ delta' = one_bool delta delta' (sym a.uses.1 ∙ ap (uses_of (codes "delta")) same.0
+    ∙ b.uses.1) in
     let both : maps ≡ maps' = one_bool maps maps' (sym a.maps_is ∙ ap (uses_of (codes "maps")) same.0
     ∙ b.maps_is) in
-    λ i. Checks (first i) (second i) (third i) (modes i) (both i)
-one_rest words (Checks program initial report mode maps) (Demos number') named a b = let n = ap first_byte named in absurd (omega (arith, n))
-one_rest words (Checks program initial report mode maps) (Joins program' initial' max' mode') named a b = let n = ap first_byte named in absurd (omega (arith, n))
-one_rest words (Demos number) (Analyzes program' initial' max' mode') named a b = let n = ap first_byte named in absurd (omega (arith, n))
-one_rest words (Demos number) (Checks program' initial' report' mode' maps') named a b = let n = ap first_byte named in absurd (omega (arith, n))
+    λ i. Checks (first i) (second i) (third i) (modes i) (both i) (deltas i)
+one_rest words (Checks program initial report mode maps delta) (Demos number') named a b = let n = ap first_byte named in absurd (omega (arith, n))
+one_rest words (Checks program initial report mode maps delta) (Joins program' initial' max' mode') named a b = let n = ap first_byte named in absurd (omega (arith, n))
+one_rest words (Demos number) (Analyzes program' initial' max' mode' delta') named a b = let n = ap first_byte named in absurd (omega (arith, n))
+one_rest words (Demos number) (Checks program' initial' report' mode' maps' delta') named a b = let n = ap first_byte named in absurd (omega (arith, n))
 one_rest words (Demos number) (Demos number') named a b =
     let same = one_line [] [] refl words a.parts b.parts a.behind b.behind a.line b.line in
     let names : a.word ∷ [] ≡ b.word ∷ [] = sym a.operands ∙ ap₂ (λ ps bs. operands_of ps ++ bs) same.0 same.1
@@ -417,8 +442,8 @@ one_rest words (Demos number) (Demos number') named a b =
     ap Demos (one_number 16 b.word number number' (omega arith) (subst (λ w. IsNumberUpTo 16 w number) word
     a.number_is) b.number_is)
 one_rest words (Demos number) (Joins program' initial' max' mode') named a b = let n = ap first_byte named in absurd (omega (arith, n))
-one_rest words (Joins program initial max mode) (Analyzes program' initial' max' mode') named a b = let n = ap first_byte named in absurd (omega (arith, n))
-one_rest words (Joins program initial max mode) (Checks program' initial' report' mode' maps') named a b = let n = ap first_byte named in absurd (omega (arith, n))
+one_rest words (Joins program initial max mode) (Analyzes program' initial' max' mode' delta') named a b = let n = ap first_byte named in absurd (omega (arith, n))
+one_rest words (Joins program initial max mode) (Checks program' initial' report' mode' maps' delta') named a b = let n = ap first_byte named in absurd (omega (arith, n))
 one_rest words (Joins program initial max mode) (Demos number') named a b = let n = ap first_byte named in absurd (omega (arith, n))
 one_rest words (Joins program initial max mode) (Joins program' initial' max' mode') named a b =
     let same = one_line join_flags join_settings refl words a.parts b.parts a.behind b.behind a.line
@@ -432,9 +457,9 @@ one_rest words (Joins program initial max mode) (Joins program' initial' max' mo
     let maxes : max ≡ max' = one_max (values_of (codes "max-structures") b.parts) max max'
     (subst (λ ps. IsMax (values_of (codes "max-structures") ps) max) same.0 a.max_is) b.max_is in
     λ i. Joins (first i) (second i) (maxes i) (modes i)
-one_rest words (Analyzes program initial max mode) (Replays program' initial' start' trace' report') named a b =
+one_rest words (Analyzes program initial max mode delta) (Replays program' initial' start' trace' report') named a b =
     let n = ap first_byte named in absurd (omega (arith, n))
-one_rest words (Checks program initial report mode maps) (Replays program' initial' start' trace' report') named a b =
+one_rest words (Checks program initial report mode maps delta) (Replays program' initial' start' trace' report') named a b =
     let n = ap first_byte named in absurd (omega (arith, n))
 one_rest words (Demos number) (Replays program' initial' start' trace' report') named a b =
     let n = ap first_byte named in absurd (omega (arith, n))
@@ -450,17 +475,17 @@ one_rest words (Replays program initial start trace report) (Replays program' in
     let fourth : trace ≡ trace' = ap (λ ws. slice_index_or ws 3 []) names in
     let fifth : report ≡ report' = ap (λ ws. slice_index_or ws 4 []) names in
     λ i. Replays (first i) (second i) (third i) (fourth i) (fifth i)
-one_rest words (Replays program initial start trace report) (Analyzes program' initial' max' mode') named a b =
+one_rest words (Replays program initial start trace report) (Analyzes program' initial' max' mode' delta') named a b =
     let n = ap first_byte named in absurd (omega (arith, n))
-one_rest words (Replays program initial start trace report) (Checks program' initial' report' mode' maps') named a b =
+one_rest words (Replays program initial start trace report) (Checks program' initial' report' mode' maps' delta') named a b =
     let n = ap first_byte named in absurd (omega (arith, n))
 one_rest words (Replays program initial start trace report) (Demos number') named a b =
     let n = ap first_byte named in absurd (omega (arith, n))
 one_rest words (Replays program initial start trace report) (Joins program' initial' max' mode') named a b =
     let n = ap first_byte named in absurd (omega (arith, n))
-one_rest words (Analyzes program initial max mode) (Sources source' initial' max') named a b =
+one_rest words (Analyzes program initial max mode delta) (Sources source' initial' max') named a b =
     let n = ap first_byte named in absurd (omega (arith, n))
-one_rest words (Checks program initial report mode maps) (Sources source' initial' max') named a b =
+one_rest words (Checks program initial report mode maps delta) (Sources source' initial' max') named a b =
     let n = ap first_byte named in absurd (omega (arith, n))
 one_rest words (Demos number) (Sources source' initial' max') named a b =
     let n = ap first_byte named in absurd (omega (arith, n))
@@ -477,9 +502,9 @@ one_rest words (Sources source initial max) (Sources source' initial' max') name
     let maxes : max ≡ max' = one_max (values_of (codes "max-structures") b.parts) max max'
     (subst (λ ps. IsMax (values_of (codes "max-structures") ps) max) same.0 a.max_is) b.max_is in
     λ i. Sources (first i) (second i) (maxes i)
-one_rest words (Sources source initial max) (Analyzes program' initial' max' mode') named a b =
+one_rest words (Sources source initial max) (Analyzes program' initial' max' mode' delta') named a b =
     let n = ap first_byte named in absurd (omega (arith, n))
-one_rest words (Sources source initial max) (Checks program' initial' report' mode' maps') named a b =
+one_rest words (Sources source initial max) (Checks program' initial' report' mode' maps' delta') named a b =
     let n = ap first_byte named in absurd (omega (arith, n))
 one_rest words (Sources source initial max) (Demos number') named a b =
     let n = ap first_byte named in absurd (omega (arith, n))

@@ -31,15 +31,27 @@ abbrev pub once : Bool → ℕ
 once false = 0
 once true = 1
 
+-- updates are differenced only where they aren't recomputed
+abbrev pub GoTogether : Mode → (delta : Bool) → Type 0
+GoTogether mode false = Unit {0}
+GoTogether Given true = Unit {0}
+GoTogether Recompute true = ⊥
+
+-- how often `--recompute` and `--delta` stand for this mode, with or without differencing: each once at most, and
+-- not together
+abbrev pub AreUses : (recompute delta : ℕ) → Mode → (differenced : Bool) → Type 0
+AreUses recompute delta mode differenced = (recompute ≡ recomputes mode) × (delta ≡ once differenced)
+    × GoTogether mode differenced
+
 -- the options of `analyze` and `check`
 abbrev pub analyze_flags : List (List ℕ)
-analyze_flags = codes "recompute" ∷ []
+analyze_flags = codes "recompute" ∷ codes "delta" ∷ []
 
 abbrev pub analyze_settings : List (List ℕ)
 analyze_settings = codes "max-structures" ∷ []
 
 abbrev pub check_flags : List (List ℕ)
-check_flags = codes "recompute" ∷ codes "maps" ∷ []
+check_flags = codes "recompute" ∷ codes "maps" ∷ codes "delta" ∷ []
 
 -- those of `join`
 abbrev pub join_flags : List (List ℕ)
@@ -52,24 +64,26 @@ join_settings = codes "max-structures" ∷ []
 abbrev pub source_settings : List (List ℕ)
 source_settings = codes "max-structures" ∷ []
 
--- what the words behind `analyze` say: two operands, at most one `--recompute` and one `--max-structures`
-pub record AnalyzeLine (words : List (List ℕ)) (program initial : List ℕ) (max : ℕ) (mode : Mode) :
+-- what the words behind `analyze` say: two operands, at most one `--recompute` or `--delta`, and at most one
+-- `--max-structures`
+pub record AnalyzeLine (words : List (List ℕ)) (program initial : List ℕ) (max : ℕ) (mode : Mode) (delta : Bool) :
     Type 0 where
   pub parts : List Part
   pub behind : List (List ℕ)
   pub line : IsLine analyze_flags analyze_settings parts behind words
   pub operands : operands_of parts ++ behind ≡ program ∷ initial ∷ []
-  pub mode_is : uses_of (codes "recompute") parts ≡ recomputes mode
+  pub uses : AreUses (uses_of (codes "recompute") parts) (uses_of (codes "delta") parts) mode delta
   pub max_is : IsMax (values_of (codes "max-structures") parts) max
 
--- what the words behind `check` say: three operands, at most one `--recompute` and one `--maps`
-pub record CheckLine (words : List (List ℕ)) (program initial report : List ℕ) (mode : Mode) (maps : Bool) :
+-- what the words behind `check` say: three operands, at most one `--recompute` or `--delta`, and at most one
+-- `--maps`
+pub record CheckLine (words : List (List ℕ)) (program initial report : List ℕ) (mode : Mode) (maps delta : Bool) :
     Type 0 where
   pub parts : List Part
   pub behind : List (List ℕ)
   pub line : IsLine check_flags [] parts behind words
   pub operands : operands_of parts ++ behind ≡ program ∷ initial ∷ report ∷ []
-  pub mode_is : uses_of (codes "recompute") parts ≡ recomputes mode
+  pub uses : AreUses (uses_of (codes "recompute") parts) (uses_of (codes "delta") parts) mode delta
   pub maps_is : uses_of (codes "maps") parts ≡ once maps
 
 -- what the words behind `demo` say: one operand, a number up to 16
@@ -107,17 +121,18 @@ pub record SourceLine (words : List (List ℕ)) (source initial : List ℕ) (max
 
 -- a command, its files named by bytes
 pub data CommandForm : Type 0 where
-  Analyzes : (program initial : List ℕ) → (max : ℕ) → (mode : Mode) → CommandForm
-  Checks : (program initial report : List ℕ) → (mode : Mode) → (maps : Bool) → CommandForm
+  Analyzes : (program initial : List ℕ) → (max : ℕ) → (mode : Mode) → (delta : Bool) → CommandForm
+  Checks : (program initial report : List ℕ) → (mode : Mode) → (maps delta : Bool) → CommandForm
   Demos : (number : ℕ) → CommandForm
   Joins : (program initial : List ℕ) → (max : ℕ) → (mode : Mode) → CommandForm
   Replays : (program initial start trace report : List ℕ) → CommandForm
   Sources : (source initial : List ℕ) → (max : ℕ) → CommandForm
 
 abbrev pub form_of : Command → CommandForm
-form_of (Analyze program initial max mode) = Analyzes (string_bytes program) (string_bytes initial) max mode
-form_of (Check program initial report mode maps) =
-    Checks (string_bytes program) (string_bytes initial) (string_bytes report) mode maps
+form_of (Analyze program initial max mode delta) =
+    Analyzes (string_bytes program) (string_bytes initial) max mode delta
+form_of (Check program initial report mode maps delta) =
+    Checks (string_bytes program) (string_bytes initial) (string_bytes report) mode maps delta
 form_of (Demo number) = Demos number
 form_of (Join program initial max mode) = Joins (string_bytes program) (string_bytes initial) max mode
 form_of (Replay program initial start trace report) = Replays (string_bytes program) (string_bytes initial)
@@ -130,8 +145,8 @@ SaidOf Says command = Says (form_of command)
 
 -- the first word
 abbrev pub name_of : CommandForm → List ℕ
-name_of (Analyzes program initial max mode) = codes "analyze"
-name_of (Checks program initial report mode maps) = codes "check"
+name_of (Analyzes program initial max mode delta) = codes "analyze"
+name_of (Checks program initial report mode maps delta) = codes "check"
 name_of (Demos number) = codes "demo"
 name_of (Joins program initial max mode) = codes "join"
 name_of (Replays program initial start trace report) = codes "replay"
@@ -139,8 +154,9 @@ name_of (Sources source initial max) = codes "source"
 
 -- the words behind the first say the rest of the command
 abbrev pub IsRest : List (List ℕ) → CommandForm → Type 0
-IsRest words (Analyzes program initial max mode) = AnalyzeLine words program initial max mode
-IsRest words (Checks program initial report mode maps) = CheckLine words program initial report mode maps
+IsRest words (Analyzes program initial max mode delta) = AnalyzeLine words program initial max mode delta
+IsRest words (Checks program initial report mode maps delta) =
+    CheckLine words program initial report mode maps delta
 IsRest words (Demos number) = DemoLine words number
 IsRest words (Joins program initial max mode) = JoinLine words program initial max mode
 IsRest words (Replays program initial start trace report) =

@@ -47,10 +47,12 @@ pub fn analyze_line<'a>(alloc: Global) -> Result<Command<'a>, AllocError>
     ensures { IfOk result (λ c. app_of c ≡ line_app (codes "analyze") analyze_flags analyze_settings) }
 {
     let recompute = flag(alloc, "recompute");
+    let delta = flag(alloc, "delta");
     let max = setting(alloc, "max-structures");
     bare_line(alloc, "analyze")
         .arg(operands(alloc))?
         .arg(recompute)?
+        .arg(delta)?
         .arg(max)
 }
 
@@ -60,10 +62,12 @@ pub fn check_line<'a>(alloc: Global) -> Result<Command<'a>, AllocError>
 {
     let recompute = flag(alloc, "recompute");
     let maps = flag(alloc, "maps");
+    let delta = flag(alloc, "delta");
     bare_line(alloc, "check")
         .arg(operands(alloc))?
         .arg(recompute)?
-        .arg(maps)
+        .arg(maps)?
+        .arg(delta)
 }
 
 /// The line of `demo`.

@@ -1,8 +1,9 @@
 //! What the options and operands of a line are worth: numbers, modes, how many there are.
 
-ghost use Rattle.std.specs.Prelude.{◌≡◌, ◌≤◌, ℕ, List, [], ◌∷◌, IfSome, IfNone};
+ghost use Rattle.std.specs.Prelude.{◌≡◌, ◌≤◌, ℕ, Bool, List, [], ◌∷◌, IfSome, IfNone};
+ghost use Rattle.tv_model.specs.declared.program.Mode.{Mode};
 ghost use Rattle.tv_words.specs.Setup.{told_texts};
-ghost use Rattle.tv_words.specs.Words.{IsNumberUpTo, IsMax, recomputes, once};
+ghost use Rattle.tv_words.specs.Words.{IsNumberUpTo, IsMax, recomputes, once, AreUses};
 
 use itoa::Buffer;
 use tv_model::Mode;
@@ -64,6 +65,21 @@ pub fn stands(uses: u8) -> Option<bool>
     match uses {
         0 => Some(false),
         1 => Some(true),
+        _ => None,
+    }
+}
+
+/// The mode, and whether updates are differenced, by how often `--recompute` and `--delta` stand: each once at
+/// most, and not together.
+pub fn updating(recompute: u8, delta: u8) -> Option<(Mode, bool)>
+    ensures some { IfSome result (λ found. AreUses recompute delta found.0 found.1) }
+    ensures none { IfNone result ((mode : Mode) (differenced : Bool) → ¬ AreUses recompute delta mode
+        differenced) }
+{
+    match (recompute, delta) {
+        (0, 0) => Some((Mode::Given, false)),
+        (1, 0) => Some((Mode::Recompute, false)),
+        (0, 1) => Some((Mode::Given, true)),
         _ => None,
     }
 }

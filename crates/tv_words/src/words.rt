@@ -6,27 +6,33 @@ ghost use Rattle.tv_words.specs.Words.{words_of, IsNamed, NoneNamed, Spells, Spe
 use crate::line::{
     analyze_line, check_line, demo_line, join_line, read_line, replay_line, source_line, texts,
 };
-use crate::values::{GREATEST_DEMO, five, max_of, mode_of, number_up_to, one, stands, three, two};
+use crate::values::{
+    GREATEST_DEMO, five, max_of, mode_of, number_up_to, one, stands, three, two, updating,
+};
 use std::alloc::{AllocError, Global};
 use tv_model::Mode;
 
 /// What the words ask for. Files are told by their names, as the words give them.
 #[derive(Debug, Drop)]
 pub enum Command {
-    /// Lists the structures that a program reaches from initial structures, at most `max` of them.
+    /// Lists the structures that a program reaches from initial structures, at most `max` of them; with
+    /// `delta` the differenced program is taken, and the mode is `Given`.
     Analyze {
         program: String,
         initial: String,
         max: u64,
         mode: Mode,
+        delta: bool,
     },
-    /// Judges a report on a program and initial structures; `maps` asks for the report with its maps.
+    /// Judges a report on a program and initial structures; `maps` asks for the report with its maps; `delta` is
+    /// as for `Analyze`.
     Check {
         program: String,
         initial: String,
         report: String,
         mode: Mode,
         maps: bool,
+        delta: bool,
     },
     /// Analyzes a program that is made up for this number.
     Demo {
@@ -68,7 +74,8 @@ fn read_analyze(alloc: Global, words: &[String]) -> Result<Option<Command>, Allo
     let Some((program, initial)) = two(texts(&line, "operands")) else {
         return Ok(None);
     };
-    let Some(mode) = mode_of(line.get_count("recompute")) else {
+    let uses = (line.get_count("recompute"), line.get_count("delta"));
+    let Some((mode, delta)) = updating(uses.0, uses.1) else {
         return Ok(None);
     };
     let Some(max) = max_of(texts(&line, "max-structures")) else {
@@ -79,6 +86,7 @@ fn read_analyze(alloc: Global, words: &[String]) -> Result<Option<Command>, Allo
         initial: String::from_str(alloc, initial)?,
         max,
         mode,
+        delta,
     }))
 }
 
@@ -93,7 +101,8 @@ fn read_check(alloc: Global, words: &[String]) -> Result<Option<Command>, AllocE
     let Some((program, initial, report)) = three(texts(&line, "operands")) else {
         return Ok(None);
     };
-    let Some(mode) = mode_of(line.get_count("recompute")) else {
+    let uses = (line.get_count("recompute"), line.get_count("delta"));
+    let Some((mode, delta)) = updating(uses.0, uses.1) else {
         return Ok(None);
     };
     let Some(maps) = stands(line.get_count("maps")) else {
@@ -105,6 +114,7 @@ fn read_check(alloc: Global, words: &[String]) -> Result<Option<Command>, AllocE
         report: String::from_str(alloc, report)?,
         mode,
         maps,
+        delta,
     }))
 }
 

@@ -3,6 +3,7 @@ use Rattle.std.proofs.lemmas.Result.{err_from_is_err_and}
 use Rattle.tv_listing.specs.declared.analysis.Analysis.{Analysis}
 use Rattle.tv_status.specs.declared.status.Role.TheVariants as role
 use Rattle.tv_top.proofs.Causes.{rose_later, still, unless_not_read, later_fault, judged_causes, judged_answers}
+use Rattle.tv_top.proofs.Differenced.{covers_read_runs}
 use Rattle.tv_top.specs.Work.{task_of}
 use Rattle.tv_top.specs.declared.fault.Answer.{Answer}
 use Rattle.tv_words.specs.Words.{Checks}
@@ -12,13 +13,13 @@ pub returns-in_err-inputs-clause-cause : goal.returns-in_err-inputs-clause-cause
 returns-in_err-inputs-clause-cause g c =
     let p = err_from_is_err_and c.from_residual.result c.from_residual.ensures.1 in
     rw (p.1, p.2) (c.in_err-inputs.ensures.cause
-    (Checks c.args.program.now c.args.initial.now c.args.report.now c.args.mode c.args.maps) (refl, refl))
+    (Checks c.args.program.now c.args.initial.now c.args.report.now c.args.mode c.args.maps c.args.delta) (refl, refl, refl))
 
 pub returns-in_err-report-clause-cause : goal.returns-in_err-report-clause-cause
 returns-in_err-report-clause-cause g c =
-    let command = Checks c.args.program.now c.args.initial.now c.args.report.now c.args.mode c.args.maps in
+    let command = Checks c.args.program.now c.args.initial.now c.args.report.now c.args.mode c.args.maps c.args.delta in
     let task = task_of c.in_ok-inputs.inputs c.args.mode in
-    let means = c.in_ok-inputs.ensures.meant command (refl, refl) in
+    let means = c.in_ok-inputs.ensures.meant command (refl, refl, refl) in
     let p = err_from_is_err_and c.from_residual-in_err-report.result c.from_residual-in_err-report.ensures.1 in
     let cause = rw c.in_ok-inputs.ensures.holds at c.in_err-report.ensures.cause in
     rw (p.1, p.2) (later_fault _ command task role.Report _ _ _ _ _ _ _ means
@@ -40,18 +41,24 @@ returns-in_err-report-clause-steady g c =
 
 pub returns-clause-found : goal.returns-clause-found
 returns-clause-found g c =
-    let command = Checks c.args.program.now c.args.initial.now c.args.report.now c.args.mode c.args.maps in
+    let command = Checks c.args.program.now c.args.initial.now c.args.report.now c.args.mode c.args.maps c.args.delta in
     let task = task_of c.in_ok-inputs.inputs c.args.mode in
     let gives = rw c.in_ok-inputs.ensures.holds at c.in_ok-report.ensures.means in
     judged_answers _ command task c.in_ok-report.report c.args.maps c.judgement.result
-    (c.in_ok-inputs.ensures.meant command (refl, refl)) gives
-    (λ text accepted is. (c.in_ok-report.report, gives, accepted, is))
-    (λ r rejection. (c.in_ok-report.report, gives, rejection)) c.judgement.ensures.judged
+    (c.in_ok-inputs.ensures.meant command (refl, refl, refl)) gives
+    (λ text accepted is. (
+      c.in_ok-report.report,
+      gives,
+      accepted,
+      is,
+      covers_read_runs _ _ c.args.delta c.in_ok-inputs.inputs.program c.args.mode c.in_ok-inputs.inputs.initial
+          c.in_ok-report.report c.requires c.in_ok-inputs.ensures.runs accepted.sound,
+    )) (λ r rejection. (c.in_ok-report.report, gives, rejection)) c.judgement.ensures.judged
 
 pub returns-clause-cause : goal.returns-clause-cause
 returns-clause-cause g c =
-    let command = Checks c.args.program.now c.args.initial.now c.args.report.now c.args.mode c.args.maps in
+    let command = Checks c.args.program.now c.args.initial.now c.args.report.now c.args.mode c.args.maps c.args.delta in
     let task = task_of c.in_ok-inputs.inputs c.args.mode in
     let gives = rw c.in_ok-inputs.ensures.holds at c.in_ok-report.ensures.means in
     judged_causes _ command task c.in_ok-report.report _ _ c.judgement.result
-    (c.in_ok-inputs.ensures.meant command (refl, refl)) (λ Budget stops. (c.in_ok-report.report, gives, stops)) c.judgement.ensures.cause
+    (c.in_ok-inputs.ensures.meant command (refl, refl, refl)) (λ Budget stops. (c.in_ok-report.report, gives, stops)) c.judgement.ensures.cause

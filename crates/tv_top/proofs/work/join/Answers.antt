@@ -9,7 +9,7 @@ pub returns-in_err-inputs-clause-cause : goal.returns-in_err-inputs-clause-cause
 returns-in_err-inputs-clause-cause g c =
     let p = err_from_is_err_and c.from_residual.result c.from_residual.ensures.1 in
     let command = Joins c.args.program.now c.args.initial.now c.args.max c.args.mode in
-    rw (p.1, p.2) (c.in_err-inputs.ensures.cause command (refl, refl))
+    rw (p.1, p.2) (c.in_err-inputs.ensures.cause command (refl, refl, refl))
 
 pub returns-in_err-found-clause-cause : goal.returns-in_err-found-clause-cause
 returns-in_err-found-clause-cause g c =
@@ -17,11 +17,11 @@ returns-in_err-found-clause-cause g c =
     let command = Joins c.args.program.now c.args.initial.now c.args.max c.args.mode in
     rw (p.1, p.2) (join_search_fault _ c.args.program.now c.args.initial.now c.args.mode
     (task_of c.in_ok-inputs.inputs c.args.mode) c.args.max _ _ _
-    (c.in_ok-inputs.ensures.meant command (refl, refl)) c.in_err-found.ensures.cause)
+    (c.in_ok-inputs.ensures.meant command (refl, refl, refl)) c.in_err-found.ensures.cause)
 
 pub returns-clause-found : goal.returns-clause-found
 returns-clause-found g c = (
   task_of c.in_ok-inputs.inputs c.args.mode,
-  c.in_ok-inputs.ensures.meant (Joins c.args.program.now c.args.initial.now c.args.max c.args.mode) (refl, refl),
+  c.in_ok-inputs.ensures.meant (Joins c.args.program.now c.args.initial.now c.args.max c.args.mode) (refl, refl, refl),
   (c.in_ok-found.found, c.in_ok-found.ensures.found, c.in_ok-text.ensures.text),
 )

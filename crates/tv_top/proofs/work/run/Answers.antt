@@ -16,13 +16,13 @@ pub returns-in_err-inputs-clause-cause : goal.returns-in_err-inputs-clause-cause
 returns-in_err-inputs-clause-cause g c =
     let p = err_from_is_err_and c.from_residual.result c.from_residual.ensures.1 in
     let command = Replays c.args.program.now c.args.initial.now c.args.start.now c.args.trace.now c.args.report.now in
-    rw (p.1, p.2) (c.in_err-inputs.ensures.cause command (refl, refl))
+    rw (p.1, p.2) (c.in_err-inputs.ensures.cause command (refl, refl, refl))
 
 pub returns-in_err-start-clause-cause : goal.returns-in_err-start-clause-cause
 returns-in_err-start-clause-cause g c =
     let command = Replays c.args.program.now c.args.initial.now c.args.start.now c.args.trace.now c.args.report.now in
     let task = task_of c.in_ok-inputs.inputs Given in
-    let means = c.in_ok-inputs.ensures.meant command (refl, refl) in
+    let means = c.in_ok-inputs.ensures.meant command (refl, refl, refl) in
     let p = err_from_is_err_and c.from_residual-in_err-start.result c.from_residual-in_err-start.ensures.1 in
     let cause = rw c.in_ok-inputs.ensures.holds at c.in_err-start.ensures.cause in
     rw (p.1, p.2) (later_fault _ command task role.Start _ _ _ _ _ _ _ means
@@ -46,7 +46,7 @@ pub returns-in_err-trace-clause-cause : goal.returns-in_err-trace-clause-cause
 returns-in_err-trace-clause-cause g c =
     let command = Replays c.args.program.now c.args.initial.now c.args.start.now c.args.trace.now c.args.report.now in
     let task = task_of c.in_ok-inputs.inputs Given in
-    let means = c.in_ok-inputs.ensures.meant command (refl, refl) in
+    let means = c.in_ok-inputs.ensures.meant command (refl, refl, refl) in
     let p = err_from_is_err_and c.from_residual-in_err-trace.result c.from_residual-in_err-trace.ensures.1 in
     let start = rw c.in_ok-inputs.ensures.holds at c.in_ok-start.ensures.means in
     let cause = rw (c.in_ok-start.ensures.holds, c.in_ok-inputs.ensures.holds) at c.in_err-trace.ensures.cause in
@@ -75,7 +75,7 @@ pub returns-in_err-reported-clause-cause : goal.returns-in_err-reported-clause-c
 returns-in_err-reported-clause-cause g c =
     let command = Replays c.args.program.now c.args.initial.now c.args.start.now c.args.trace.now c.args.report.now in
     let task = task_of c.in_ok-inputs.inputs Given in
-    let means = c.in_ok-inputs.ensures.meant command (refl, refl) in
+    let means = c.in_ok-inputs.ensures.meant command (refl, refl, refl) in
     let p = err_from_is_err_and c.from_residual-in_err-reported.result c.from_residual-in_err-reported.ensures.1 in
     let start = rw c.in_ok-inputs.ensures.holds at c.in_ok-start.ensures.means in
     let trace = rw (c.in_ok-start.ensures.holds, c.in_ok-inputs.ensures.holds) at c.in_ok-trace.ensures.means in
@@ -116,7 +116,7 @@ returns-clause-found g c =
     let report = rw (c.in_ok-trace.ensures.holds, c.in_ok-start.ensures.holds, c.in_ok-inputs.ensures.holds)
     at c.in_ok-reported.ensures.means in
     run_answers _ command task c.in_ok-start.start c.in_ok-trace.trace c.in_ok-reported.reported c.replayed.result
-    (c.in_ok-inputs.ensures.meant command (refl, refl))
+    (c.in_ok-inputs.ensures.meant command (refl, refl, refl))
     (record { gives_start = start; gives_trace = trace; gives_report = report }) (λ text h. h) c.replayed.ensures.run
 
 pub returns-clause-cause : goal.returns-clause-cause

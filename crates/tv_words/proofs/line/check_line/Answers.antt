@@ -13,5 +13,9 @@ returns c =
     (flag_rule (codes "recompute")) =
     c.in_ok-arg-2.ensures.shape c.flag-recompute.ensures.local
     ∙ ap₂ with_rule one c.flag-recompute.ensures.rule in
-    IfOk-weaker c.arg-3.result _ _ (λ l added. added.shape c.flag-maps.ensures.local
-    ∙ ap₂ with_rule two c.flag-maps.ensures.rule) c.arg-3.ensures
+    let three : app_of c.in_ok-arg-3.field-0 ≡ with_rule (with_rule (with_rule (bare_app (codes "check")) operand_rule)
+    (flag_rule (codes "recompute"))) (flag_rule (codes "maps")) =
+    c.in_ok-arg-3.ensures.shape c.flag-maps.ensures.local
+    ∙ ap₂ with_rule two c.flag-maps.ensures.rule in
+    IfOk-weaker c.arg-4.result _ _ (λ l added. added.shape c.flag-delta.ensures.local
+    ∙ ap₂ with_rule three c.flag-delta.ensures.rule) c.arg-4.ensures

@@ -1,0 +1,18 @@
+use Rattle.std.proofs.lemmas.Result.{IfOk-weaker}
+use Rattle.tv_top.proofs.Causes.{memory_fault, still_unless}
+use Rattle.tv_top.proofs.Differenced.{taken_means, taken_runs}
+use Rattle.tv_top.proofs.inputs.load_taken.Goals as goal
+
+pub returns-clause-means : goal.returns-clause-means
+returns-clause-means g c = IfOk-weaker c.taken.result _ _
+    (λ p is. taken_means _ _ c.args.delta c.in_ok-read.read p c.in_ok-read.ensures.means is) c.taken.ensures.taken
+
+pub returns-clause-runs : goal.returns-clause-runs
+returns-clause-runs g c = IfOk-weaker c.taken.result _ _
+    (λ p is. taken_runs _ _ c.args.delta c.in_ok-read.read p c.in_ok-read.ensures.means is) c.taken.ensures.taken
+
+pub returns-clause-cause : goal.returns-clause-cause
+returns-clause-cause g c = memory_fault c.taken.result _ _ _ _ _ c.taken.ensures.cause
+
+pub returns-clause-steady : goal.returns-clause-steady
+returns-clause-steady g c = λ s. still_unless c.taken.result _ (c.in_ok-read.ensures.steady s)
