@@ -38,9 +38,9 @@ fn update_count(alloc: Global, declared: &str) -> Result<usize, Fail> {
 /// Definitions that double what is formed get updates as long as these are small.
 #[test]
 fn large_updates_are_not_formed(rt: HostRuntime) -> Result<(), Fail> {
-    let text = doubled(rt.alloc(), 40, "b() & c()", "")?;
+    let text = doubled(rt.alloc(), 12, "b() & c()", "")?;
     let count = update_count(rt.alloc(), text.as_str())?;
-    assert!(rt; 5 <= count && count < 40, "{count}");
+    assert!(rt; count == 8, "{count}");
     Ok(())
 }
 
