@@ -26,24 +26,57 @@ fn variables(alloc: Global, count: usize) -> Result<String, Fail> {
     Ok(text)
 }
 
+/// How a text ends: compiled, or refused so.
+fn ending(alloc: Global, text: &str) -> Result<&'static str, Fail> {
+    Ok(match compiled(alloc, text)? {
+        Ok(_) => "compiled",
+        Err(SourceError::TooDeep) => "TooDeep",
+        Err(SourceError::Syntax(_)) => "Syntax",
+        Err(SourceError::Reserved) => "Reserved",
+        Err(SourceError::NameTwice) => "NameTwice",
+        Err(SourceError::NameUnknown) => "NameUnknown",
+        Err(SourceError::TooMany) => "TooMany",
+        Err(SourceError::Memory) => "Memory",
+    })
+}
+
+/// Texts of which a name is refused.
+static NAMES: [(&str, &str); 3] = [
+    ("vars {x, x} fields {n} x = null", "NameTwice"),
+    ("vars {x} fields {n} x = z", "NameUnknown"),
+    ("vars {sm} fields {n} sm = null", "Reserved"),
+];
+
 #[test]
-fn names_and_large_programs_are_refused(rt: HostRuntime) -> Result<(), Fail> {
-    let alloc = rt.alloc();
-    let twice = compiled(alloc, "vars {x, x} fields {n} x = null")?;
-    assert!(rt; matches!(twice, Err(SourceError::NameTwice)));
-    let unknown = compiled(alloc, "vars {x} fields {n} x = z")?;
-    assert!(rt; matches!(unknown, Err(SourceError::NameUnknown)));
-    let reserved = compiled(alloc, "vars {sm} fields {n} sm = null")?;
-    assert!(rt; matches!(reserved, Err(SourceError::Reserved)));
-    // 4,095 statements and `Exit` are 4,096 nodes
-    let fits = statements(alloc, 4095)?;
-    assert!(rt; compiled(alloc, fits.as_str())?.is_ok());
-    let large = statements(alloc, 4096)?;
-    assert!(rt; matches!(compiled(alloc, large.as_str())?, Err(SourceError::TooMany)));
-    // 255 variables, a field and 255 predicates of what they reach
-    let many = variables(alloc, 255)?;
-    assert!(rt; compiled(alloc, many.as_str())?.is_ok());
-    let more = variables(alloc, 256)?;
-    assert!(rt; matches!(compiled(alloc, more.as_str())?, Err(SourceError::TooMany)));
+fn names_are_refused(rt: HostRuntime) -> Result<(), Fail> {
+    for (text, wanted) in NAMES.iter() {
+        assert_eq!(rt; ending(rt.alloc(), text)?, *wanted, "{text}");
+    }
+    Ok(())
+}
+
+fn statements_end(alloc: Global, count: usize) -> Result<&'static str, Fail> {
+    let text = statements(alloc, count)?;
+    ending(alloc, text.as_str())
+}
+
+fn variables_end(alloc: Global, count: usize) -> Result<&'static str, Fail> {
+    let text = variables(alloc, count)?;
+    ending(alloc, text.as_str())
+}
+
+/// 4,095 statements and `Exit` are 4,096 nodes.
+#[test]
+fn many_statements_are_refused(rt: HostRuntime) -> Result<(), Fail> {
+    assert_eq!(rt; statements_end(rt.alloc(), 4095)?, "compiled");
+    assert_eq!(rt; statements_end(rt.alloc(), 4096)?, "TooMany");
+    Ok(())
+}
+
+/// 255 variables, a field, and 255 predicates of what they reach are 511.
+#[test]
+fn many_variables_are_refused(rt: HostRuntime) -> Result<(), Fail> {
+    assert_eq!(rt; variables_end(rt.alloc(), 255)?, "compiled");
+    assert_eq!(rt; variables_end(rt.alloc(), 256)?, "TooMany");
     Ok(())
 }
