@@ -1,6 +1,6 @@
 //! Answers for predicates, and definitions whose updates would be too large.
 
-ghost use Rattle.std.specs.Prelude.{◌≡◌, ◌×◌, ◌<◌, slice_get, length, Some, IfOk};
+ghost use Rattle.std.specs.Prelude.{◌≡◌, ◌<◌, slice_get, length, Some, IfOk};
 ghost use Rattle.tv_model.specs.Program.{program_of};
 ghost use Rattle.tv_model.specs.Valid.{IsValid};
 

@@ -344,16 +344,13 @@ fn traversals_are_accepted_and_replayed(rt: HostRuntime) -> Result<(), Fail> {
     for words in [
         &["check", "p", "i", "r"][..],
         &["check", "p", "i", "r", "--recompute"],
+        &["check", "p", "i", "r", "--delta"],
     ] {
         assert!(rt; writes(rt.alloc(), words, &["accepted\n"])?, "{words:?}");
     }
     assert!(rt;
         writes(rt.alloc(), &["replay", "p", "i", "s", "t", "r"], &STATES)?,
         "replay"
-    );
-    assert_eq!(rt;
-        wrong_judgement(rt.alloc(), &["check", "p", "i", "r", "--delta"])?,
-        None
     );
     Ok(())
 }
