@@ -4,5 +4,5 @@
 mod lists;
 mod reader;
 
-pub use lists::{individuals, put_list};
-pub use reader::{PREDICATES, program, structure, structures};
+pub use lists::{individuals, put_list, unfolded};
+pub use reader::{PREDICATES, program, structure, structures, whole_program};

@@ -1,4 +1,4 @@
-//! Long lists in texts of structures.
+//! Long lists in texts of structures, and texts in one line.
 
 use std::alloc::{AllocError, Global};
 
@@ -20,4 +20,13 @@ pub fn individuals(alloc: Global, size: u32, value: &str) -> Result<Vec<String>,
         items.push(format!(in alloc; "u{u}{value}")?)?;
     }
     Ok(items)
+}
+
+/// The text in which `;` stands for a line feed.
+pub fn unfolded(alloc: Global, text: &str) -> Result<Vec<u8>, AllocError> {
+    let mut out = Vec::new(alloc);
+    for byte in text.as_bytes() {
+        out.push(if *byte == b';' { b'\n' } else { *byte })?;
+    }
+    Ok(out)
 }

@@ -1,6 +1,6 @@
 //! Programs and structures from their texts.
 
-ghost use Rattle.std.specs.Prelude.{◌≡◌, IfOk, None};
+ghost use Rattle.std.specs.Prelude.{◌≡◌, ◌<◌, ◌^◌, All, IfOk, None, length};
 ghost use Rattle.tv_model.specs.Program.{program_of};
 ghost use Rattle.tv_model.specs.Valid.{IsValid};
 ghost use Rattle.tv_struct.specs.StructureForm.{IsOver};
@@ -16,12 +16,11 @@ use tv_tvs::{read_one, read_tvs, valid_programs_fit};
 /// Predicates of each arity, and some whose names have arguments.
 pub const PREDICATES: &str = "%p b() %p x(v) %p n(v, w) %p m(v, w) %p t[n](v, w) %p r[n,x](v)";
 
-/// The program of these declarations, with one action of these parts on its one edge.
-pub fn program(alloc: Global, declared: &str, parts: &str) -> Result<Program, Fail>
+/// The program of a text.
+pub fn whole_program(alloc: Global, text: &str) -> Result<Program, Fail>
     ensures { IfOk result (λ p. IsValid (program_of p)) }
 {
-    let text = format!(in alloc; "{declared} %% %action Act() {{ {parts} }} %% L Act() L")?;
-    let bytes = text.as_str().as_bytes();
+    let bytes = text.as_bytes();
     if bytes.len() > 100_000 {
         return Err(Fail::new("too long"));
     }
@@ -29,6 +28,14 @@ pub fn program(alloc: Global, declared: &str, parts: &str) -> Result<Program, Fa
         Ok(program) => Ok(program),
         Err(_) => Err(Fail::new("no program")),
     }
+}
+
+/// The program of these declarations, with one action of these parts on its one edge.
+pub fn program(alloc: Global, declared: &str, parts: &str) -> Result<Program, Fail>
+    ensures { IfOk result (λ p. IsValid (program_of p)) }
+{
+    let text = format!(in alloc; "{declared} %% %action Act() {{ {parts} }} %% L Act() L")?;
+    whole_program(alloc, text.as_str())
 }
 
 /// The structure that begins a text.
@@ -54,6 +61,8 @@ pub fn structure(alloc: Global, program: &Program, text: &str) -> Result<Structu
 /// The structures that are all of a text.
 pub fn structures(alloc: Global, program: &Program, text: &str) -> Result<Structures, Fail>
     requires { IsValid (program_of program.now) }
+    ensures over { IfOk result (All (IsOver program.now.vocab)) }
+    ensures few { IfOk result (λ found. length found < 2 ^ 32) }
 {
     valid_programs_fit();
     let bytes = text.as_bytes();
@@ -63,8 +72,8 @@ pub fn structures(alloc: Global, program: &Program, text: &str) -> Result<Struct
     match lex(alloc, bytes) {
         Err(_) => Err(Fail::new("no tokens")),
         Ok(tokens) => match read_tvs(alloc, &program.vocab, bytes, &tokens) {
-            Ok(found) => Ok(found),
-            Err(_) => Err(Fail::new("no structures")),
+            Ok(found) if found.len() < 10_000 => Ok(found),
+            _ => Err(Fail::new("no structures")),
         },
     }
 }

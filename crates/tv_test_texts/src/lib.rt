@@ -1,9 +1,8 @@
-//! Rows of files, include lines, tokens and places, through the public calls of `tv_outside` and `tv_lex`.
+//! Rows of files, include lines, tokens and places, and of structures, tables and texts of structures, through the
+//! public calls of the crates below.
 #![tactic(auto)]
 
 #[cfg(test)]
-mod includes;
+mod structures;
 #[cfg(test)]
-mod outside;
-#[cfg(test)]
-mod tokens;
+mod texts;

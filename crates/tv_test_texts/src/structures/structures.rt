@@ -4,7 +4,7 @@ ghost use Rattle.std.specs.Prelude.{◌≡◌, ◌<◌, ◌≤◌, IfOk, Some};
 ghost use Rattle.tv_model.specs.Program.{program_of};
 ghost use Rattle.tv_model.specs.Valid.{IsValid};
 
-use crate::reader::{program, vocabulary};
+use super::reader::{program, vocabulary};
 use std::alloc::{AllocError, Global};
 use std::cmp::Ordering;
 use std::process::Abort;
@@ -23,19 +23,16 @@ const LIST: &str = "%n = {h, u} %p = { x = {h} n = {h->u:1/2, u->u:1/2} sm = {u:
 /// That list, and a further individual.
 const LIST_AND_ONE: &str = "%n = {h, u, o} %p = { x = {h} n = {h->u:1/2, u->u:1/2} sm = {u:1/2} }";
 
-#[test]
-fn copies_are_found_again(rt: HostRuntime) -> Result<(), Fail> {
-    let alloc = rt.alloc();
+/// Whether a copy is found again, and a sharper structure is none.
+fn copies_are_found(alloc: Global) -> Result<bool, Fail> {
     let program = program(alloc)?;
     let s = structure(alloc, &program, LOOSE)?;
     let mut listing = Listing::new(alloc, 1)?;
     listing.push(0, s.copy(alloc)?)?;
-    assert!(rt; !listing.add(0, s.copy(alloc)?)?);
-    assert_eq!(rt; listing.count(0), 1);
-    assert_eq!(rt; listing.at(0, 0).compare(&s), Ordering::Equal);
-    assert!(rt; listing.add(0, structure(alloc, &program, SURE)?)?);
-    assert_eq!(rt; listing.count(0), 2);
-    Ok(())
+    let is_again = !listing.add(0, s.copy(alloc)?)? && listing.count(0) == 1;
+    let is_first = listing.count(0) > 0 && listing.at(0, 0).compare(&s) == Ordering::Equal;
+    let is_another = listing.add(0, structure(alloc, &program, SURE)?)?;
+    Ok(is_again && is_first && is_another && listing.count(0) == 2)
 }
 
 /// The list and a new individual, which is marked.
@@ -51,16 +48,21 @@ fn marked(alloc: Global, program: &Program) -> Result<Structure, Fail>
     Ok(s.with_new(alloc)?)
 }
 
-#[test]
-fn marks_make_no_difference_to_add(rt: HostRuntime) -> Result<(), Fail> {
-    let alloc = rt.alloc();
+/// Whether a marked structure is found again where it stands without its mark, and is listed with it.
+fn marked_ones_are_found(alloc: Global) -> Result<bool, Fail> {
     let program = program(alloc)?;
     let mut listing = Listing::new(alloc, 1)?;
     listing.push(0, structure(alloc, &program, LIST_AND_ONE)?)?;
-    assert!(rt; !listing.add(0, marked(alloc, &program)?)?);
+    let is_again = !listing.add(0, marked(alloc, &program)?)?;
     listing.push(0, marked(alloc, &program)?)?;
-    assert_eq!(rt; listing.count(0), 2);
-    assert_eq!(rt; listing.at(0, 1).fresh(), Some(2));
+    let is_marked = listing.count(0) == 2 && listing.at(0, 1).fresh() == Some(2);
+    Ok(is_again && is_marked)
+}
+
+#[test]
+fn structures_are_found_again(rt: HostRuntime) -> Result<(), Fail> {
+    assert!(rt; copies_are_found(rt.alloc())?);
+    assert!(rt; marked_ones_are_found(rt.alloc())?);
     Ok(())
 }
 
@@ -115,64 +117,76 @@ const CHANGES: [(Change, &str, Option<u32>); 7] = [
     (Change::KeepNone, "%n = {} %p = {}", None),
 ];
 
+fn is_changed(alloc: Global, change: Change, text: &str, mark: Option<u32>) -> Result<bool, Fail> {
+    let program = program(alloc)?;
+    let found = changed(alloc, &marked(alloc, &program)?, change)?;
+    let is_same = found.compare(&structure(alloc, &program, text)?) == Ordering::Equal;
+    Ok(is_same && found.fresh() == mark)
+}
+
 #[test]
 fn marks_follow_their_individual(rt: HostRuntime) -> Result<(), Fail> {
-    let alloc = rt.alloc();
-    let program = program(alloc)?;
-    let s = marked(alloc, &program)?;
     for (change, text, mark) in CHANGES {
-        let found = changed(alloc, &s, change)?;
-        let wanted = structure(alloc, &program, text)?;
-        assert_eq!(rt; found.compare(&wanted), Ordering::Equal, "{text}");
-        assert_eq!(rt; found.fresh(), mark, "{text}");
+        assert!(rt; is_changed(rt.alloc(), change, text, mark)?, "{text}");
     }
     Ok(())
 }
 
 /// Structures in ascending order: of each two neighbours one thing differs.
-static ASCENDING: [&str; 15] = [
-    "%n = {} %p = {}",
-    "%n = {a} %p = {}",
-    "%n = {a} %p = { sm = {a:1/2} }",
-    "%n = {a, c} %p = {}",
-    "%n = {a, c} %p = { n = {c->c:1/2} }",
-    "%n = {a, c} %p = { n = {c->c} }",
-    "%n = {a, c} %p = { n = {c->a} }",
-    "%n = {a, c} %p = { n = {a->c:1/2} }",
-    "%n = {a, c} %p = { n = {a->a:1/2} }",
-    "%n = {a, c} %p = { x = {c:1/2} }",
-    "%n = {a, c} %p = { x = {a:1/2} }",
-    "%n = {a, c} %p = { x = {a} }",
-    "%n = {a, c} %p = { sm = {c:1/2} }",
-    "%n = {a, c} %p = { sm = {a:1/2} }",
-    "%n = {a, c, d} %p = {}",
-];
+static ASCENDING: &str = "%n = {} %p = {}
+%n = {a} %p = {}
+%n = {a} %p = { sm = {a:1/2} }
+%n = {a, c} %p = {}
+%n = {a, c} %p = { n = {c->c:1/2} }
+%n = {a, c} %p = { n = {c->c} }
+%n = {a, c} %p = { n = {c->a} }
+%n = {a, c} %p = { n = {a->c:1/2} }
+%n = {a, c} %p = { n = {a->a:1/2} }
+%n = {a, c} %p = { x = {c:1/2} }
+%n = {a, c} %p = { x = {a:1/2} }
+%n = {a, c} %p = { x = {a} }
+%n = {a, c} %p = { sm = {c:1/2} }
+%n = {a, c} %p = { sm = {a:1/2} }
+%n = {a, c, d} %p = {}";
+
+fn compared(alloc: Global, text: &str, other: &str) -> Result<Ordering, Fail> {
+    let program = program(alloc)?;
+    let s = structure(alloc, &program, text)?;
+    Ok(s.compare(&structure(alloc, &program, other)?))
+}
 
 #[test]
 fn the_order_goes_by_size_summaries_and_values(rt: HostRuntime) -> Result<(), Fail> {
-    let alloc = rt.alloc();
-    let program = program(alloc)?;
-    for (i, text) in ASCENDING.iter().enumerate() {
-        let left = structure(alloc, &program, text)?;
-        for (j, other) in ASCENDING.iter().enumerate() {
-            let right = structure(alloc, &program, other)?;
-            assert_eq!(rt; left.compare(&right), i.cmp(&j), "{text} and {other}");
+    for (i, text) in ASCENDING.lines().enumerate() {
+        for (j, other) in ASCENDING.lines().enumerate() {
+            let found = compared(rt.alloc(), text, other)?;
+            assert!(rt; found == i.cmp(&j), "{text} and {other}");
         }
     }
     Ok(())
 }
 
+/// Whether a structure of so many individuals takes one more, which is marked.
+fn takes_one_more(alloc: Global, size: u32) -> Result<bool, Fail>
+    requires { size < 256 }
+{
+    let vocab = vocabulary(alloc)?;
+    let more = Structure::new(alloc, &vocab, size)?.with_new(alloc)?;
+    Ok(more.size() == size + 1 && more.fresh() == Some(size))
+}
+
+fn the_largest_is_copied(alloc: Global) -> Result<bool, Fail> {
+    let vocab = vocabulary(alloc)?;
+    let largest = Structure::new(alloc, &vocab, 256)?;
+    let is_same = largest.copy(alloc)?.compare(&largest) == Ordering::Equal;
+    Ok(is_same && largest.size() == 256)
+}
+
 #[test]
 fn sizes_reach_their_ends(rt: HostRuntime) -> Result<(), Fail> {
-    let alloc = rt.alloc();
-    let vocab = vocabulary(alloc)?;
     for size in [0, 1, 255] {
-        let more = Structure::new(alloc, &vocab, size)?.with_new(alloc)?;
-        assert_eq!(rt; more.size(), size + 1);
-        assert_eq!(rt; more.fresh(), Some(size));
+        assert!(rt; takes_one_more(rt.alloc(), size)?, "{size}");
     }
-    let largest = Structure::new(alloc, &vocab, 256)?;
-    assert_eq!(rt; largest.size(), 256);
-    assert_eq!(rt; largest.copy(alloc)?.compare(&largest), Ordering::Equal);
+    assert!(rt; the_largest_is_copied(rt.alloc())?);
     Ok(())
 }

@@ -1,6 +1,6 @@
 use Rattle.std.proofs.Common.{◌≡◌, map, take}
 use Rattle.tv_struct.specs.TableForm.{plane_of_no}
-use Rattle.tv_test_structures.proofs.nested.Nested.of_no.Given as goal
+use Rattle.tv_test_texts.proofs.structures.nested.Nested.of_no.Given as goal
 
 abbrev pub invariant-loop-pred : goal.invariant-loop-pred
 invariant-loop-pred l =

@@ -3,7 +3,7 @@
 ghost use Rattle.std.specs.Prelude.{◌≡◌, ◌<◌, ◌≤◌, [], ◌∷◌, map, All, IfOk, IfSome};
 ghost use Rattle.tv_struct.specs.TableForm.{arities_in};
 
-use crate::nested::Nested;
+use super::nested::Nested;
 use std::alloc::{AllocError, Global};
 use std::collections::BTreeMap;
 use std::test::Fail;
