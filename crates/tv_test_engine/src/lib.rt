@@ -1,13 +1,12 @@
-//! Rows of stages of focus, of embeddings and of blur, through public calls.
+//! Rows of focus, embeddings and blur, of closed rules, of coerce and of updates, through the public calls of the
+//! crates below.
 #![tactic(auto)]
 
 #[cfg(test)]
-mod blur;
+mod coerce;
 #[cfg(test)]
-mod embed;
+mod parts;
 #[cfg(test)]
-mod focus;
+mod rules;
 #[cfg(test)]
-mod limits;
-#[cfg(test)]
-mod shown;
+mod update;

@@ -1,5 +1,0 @@
-use Rattle.tv_test_engine.proofs.Arities.{small_six}
-use Rattle.tv_test_engine.proofs.blur.numbered.Goals as goal
-
-pub new-requires-clause-arities : goal.new-requires-clause-arities
-new-requires-clause-arities c = small_six c.args.vocab.now.preds c.requires

@@ -1,0 +1,5 @@
+//! Rows of coerce.
+
+mod chains;
+mod coerced;
+mod rows;

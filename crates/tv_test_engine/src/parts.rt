@@ -1,0 +1,7 @@
+//! Rows of stages of focus, of embeddings and of blur.
+
+mod blur;
+mod embed;
+mod focus;
+mod limits;
+mod shown;

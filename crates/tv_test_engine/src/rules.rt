@@ -1,0 +1,4 @@
+//! Rows of programs by their texts and their closed rules.
+
+mod closing;
+mod show;
