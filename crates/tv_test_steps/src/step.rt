@@ -1,0 +1,5 @@
+//! Rows of abstract steps.
+
+mod budgets;
+mod rows;
+mod stepped;
