@@ -1,11 +1,8 @@
-//! Rows of values of formulas, one by one and at once, through the public calls of `tv_eval`.
+//! Rows of truth values, formulas, truth on heaps and steps between heaps, and of values of formulas in structures,
+//! through the public calls of the crates below.
 #![tactic(auto)]
 
 #[cfg(test)]
-mod chain;
-#[cfg(test)]
-mod formulas;
-#[cfg(test)]
-mod setting;
+mod model;
 #[cfg(test)]
 mod values;

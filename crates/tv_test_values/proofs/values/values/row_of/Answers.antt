@@ -5,7 +5,7 @@ use Rattle.tv_eval.specs.Bound.{bound_room}
 use Rattle.tv_eval.specs.Formulas.{AreAssigned}
 use Rattle.tv_eval.specs.ScratchForm.{Fits}
 use Rattle.tv_test_values.proofs.Settings.{row_assigned}
-use Rattle.tv_test_values.proofs.values.row_of.Goals as goal
+use Rattle.tv_test_values.proofs.values.values.row_of.Goals as goal
 
 pub row-row-requires-clause-assigned : goal.row-row-requires-clause-assigned
 row-row-requires-clause-assigned c =

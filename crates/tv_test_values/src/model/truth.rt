@@ -1,6 +1,6 @@
 //! Truth on small heaps, with values that were worked out by hand.
 
-use crate::reader::{action, heap, picked, program};
+use super::reader::{action, heap, picked, program};
 use std::alloc::Global;
 use std::process::Abort;
 use std::test::Fail;
@@ -17,57 +17,56 @@ static HEAPS: [(&str, &str); 6] = [
     ("0 1 2 x(0) x(2) n(0,1) n(2,1) new(2)", "012"),
 ];
 
-/// A formula, and whether it is true in each of the heaps (`+`) or not (`-`).
-static FORMULAS: [(&str, &str); 44] = [
-    ("0", "------"),
-    ("1", "++++++"),
-    ("b()", "-+--+-"),
-    ("x(u)", "--++-+"),
-    ("x(v)", "--+-+-"),
-    ("n(u, v)", "--++++"),
-    ("n(v, u)", "--+---"),
-    ("isNew(u)", "--+---"),
-    ("isNew(w)", "--+--+"),
-    ("u == u", "++++++"),
-    ("u == v", "+++---"),
-    ("!b()", "+-++-+"),
-    ("b() & x(v)", "----+-"),
-    ("b() | x(v)", "-++-+-"),
-    ("b() <-> x(v)", "+--+++"),
-    ("b() ? x(u) : x(v)", "--+---"),
-    ("!b() ? x(u) : x(v)", "--++++"),
-    // Quantifiers over no individuals: some is false, all is true.
-    ("E(u) 1", "--++++"),
-    ("A(u) 0", "++----"),
-    ("E(u) x(u)", "--++++"),
-    ("A(u) x(u)", "+++---"),
-    ("E(u) !x(u)", "---+++"),
-    ("E(u) u == v", "--++++"),
-    ("A(u) u == v", "+++---"),
-    ("E(a) A(c) n(a, c)", "--+---"),
-    ("A(a) E(c) n(a, c)", "+++-+-"),
-    // A variable that is bound twice: the inner quantifier hides the outer.
-    ("E(u) x(u) & E(u) !x(u)", "---+++"),
-    ("x(u) & E(u) !x(u)", "---+-+"),
-    ("A(u) x(u) | E(u) n(u, u)", "+++---"),
-    // A closure needs at least one edge, may go round, and passes through any individuals.
-    ("TC (u, v) (a, c) n(a, c)", "--++++"),
-    ("TC (u, w) (a, c) n(a, c)", "--+++-"),
-    ("TC (u, u) (a, c) n(a, c)", "--+-+-"),
-    ("TC (v, u) (a, c) n(a, c)", "--+-+-"),
-    ("TC (u, v) (a, c) a == c", "--+---"),
-    ("TC (u, v) (a, c) 1", "--++++"),
-    ("TC (u, w) (a, c) n(a, c) | n(c, a)", "--++++"),
-    ("TC (u, v) (u, a) n(u, a)", "--++++"),
-    ("E(a) TC (a, a) (a, c) n(a, c)", "--+-+-"),
-    ("A(a) A(c) TC (a, c) (d, f) n(d, f)", "+++-+-"),
-    // The reflexive closure is equality or the closure.
-    ("n*(u, u)", "++++++"),
-    ("n*(u, v)", "++++++"),
-    ("n*(v, u)", "+++-+-"),
-    ("n*(u, w)", "+++++-"),
-    ("!n+(u, u)", "++-+-+"),
-];
+/// A line has a formula, and whether it is true in each of the heaps (`+`) or not (`-`). Lines that begin with `//`
+/// are remarks.
+static FORMULAS: &str = "0; ------
+1; ++++++
+b(); -+--+-
+x(u); --++-+
+x(v); --+-+-
+n(u, v); --++++
+n(v, u); --+---
+isNew(u); --+---
+isNew(w); --+--+
+u == u; ++++++
+u == v; +++---
+!b(); +-++-+
+b() & x(v); ----+-
+b() | x(v); -++-+-
+b() <-> x(v); +--+++
+b() ? x(u) : x(v); --+---
+!b() ? x(u) : x(v); --++++
+// Quantifiers over no individuals: some is false, all is true.
+E(u) 1; --++++
+A(u) 0; ++----
+E(u) x(u); --++++
+A(u) x(u); +++---
+E(u) !x(u); ---+++
+E(u) u == v; --++++
+A(u) u == v; +++---
+E(a) A(c) n(a, c); --+---
+A(a) E(c) n(a, c); +++-+-
+// A variable that is bound twice: the inner quantifier hides the outer.
+E(u) x(u) & E(u) !x(u); ---+++
+x(u) & E(u) !x(u); ---+-+
+A(u) x(u) | E(u) n(u, u); +++---
+// A closure needs at least one edge, may go round, and passes through any individuals.
+TC (u, v) (a, c) n(a, c); --++++
+TC (u, w) (a, c) n(a, c); --+++-
+TC (u, u) (a, c) n(a, c); --+-+-
+TC (v, u) (a, c) n(a, c); --+-+-
+TC (u, v) (a, c) a == c; --+---
+TC (u, v) (a, c) 1; --++++
+TC (u, w) (a, c) n(a, c) | n(c, a); --++++
+TC (u, v) (u, a) n(u, a); --++++
+E(a) TC (a, a) (a, c) n(a, c); --+-+-
+A(a) A(c) TC (a, c) (d, f) n(d, f); +++-+-
+// The reflexive closure is equality or the closure.
+n*(u, u); ++++++
+n*(u, v); ++++++
+n*(v, u); +++-+-
+n*(u, w); +++++-
+!n+(u, u); ++-+-+";
 
 /// The program of an action in which the formula may speak of u, v, w and the fresh individual: it picks u,
 /// and sets n(v, w) to the formula.
@@ -111,10 +110,21 @@ fn signs(alloc: Global, text: &str) -> Result<String, Fail> {
     Ok(signs)
 }
 
+/// Whether the formula of a line has the truth behind it.
+fn has_truth(alloc: Global, row: &str) -> Result<bool, Fail> {
+    let Some((text, wanted)) = row.split_once("; ") else {
+        return Ok(false);
+    };
+    Ok(signs(alloc, text)?.as_str() == wanted)
+}
+
 #[test]
 fn formulas_have_their_truth(rt: HostRuntime) -> Result<(), Fail> {
-    for (text, wanted) in FORMULAS.iter() {
-        assert_eq!(rt; signs(rt.alloc(), text)?.as_str(), *wanted, "{text}");
+    for row in FORMULAS.lines() {
+        assert!(rt;
+            row.starts_with("//") || has_truth(rt.alloc(), row)?,
+            "{row}"
+        );
     }
     Ok(())
 }

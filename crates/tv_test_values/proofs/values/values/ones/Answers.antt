@@ -1,7 +1,7 @@
 use Rattle.std.proofs.Common.{subst, ◌<◌}
 use Rattle.tv_model.specs.Form.{form_of}
 use Rattle.tv_test_values.proofs.Settings.{pair_assigned}
-use Rattle.tv_test_values.proofs.values.ones.Goals as goal
+use Rattle.tv_test_values.proofs.values.values.ones.Goals as goal
 
 pub value-requires-clause-assigned : goal.value-requires-clause-assigned
 value-requires-clause-assigned c =

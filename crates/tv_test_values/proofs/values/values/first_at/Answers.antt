@@ -1,5 +1,5 @@
 use Rattle.tv_test_values.proofs.Settings.{put_here}
-use Rattle.tv_test_values.proofs.values.first_at.Goals as goal
+use Rattle.tv_test_values.proofs.values.values.first_at.Goals as goal
 
 pub returns : goal.returns
 returns c = λ size u_lt.

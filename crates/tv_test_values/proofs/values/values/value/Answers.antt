@@ -1,7 +1,7 @@
 use Rattle.std.proofs.Common.{arith}
 use Rattle.tv_model.specs.Form.{form_of}
 use Rattle.tv_model.specs.Program.{program_of}
-use Rattle.tv_test_values.proofs.values.value.Goals as goal
+use Rattle.tv_test_values.proofs.values.values.value.Goals as goal
 
 pub eval-requires-clause-formula : goal.eval-requires-clause-formula
 eval-requires-clause-formula c =

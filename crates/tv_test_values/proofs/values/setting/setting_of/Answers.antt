@@ -1,6 +1,6 @@
 use Rattle.std.proofs.Common.{arith}
 use Rattle.tv_test_values.proofs.Settings.{first_setting}
-use Rattle.tv_test_values.proofs.setting.setting_of.Goals as goal
+use Rattle.tv_test_values.proofs.values.setting.setting_of.Goals as goal
 
 pub returns-in-Two-To : goal.returns-in-Two-To
 returns-in-Two-To c =

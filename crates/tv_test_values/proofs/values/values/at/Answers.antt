@@ -1,5 +1,5 @@
 use Rattle.tv_test_values.proofs.Settings.{put_here, put_there}
-use Rattle.tv_test_values.proofs.values.at.Goals as goal
+use Rattle.tv_test_values.proofs.values.values.at.Goals as goal
 
 pub returns-clause-v : goal.returns-clause-v
 returns-clause-v c = λ size u_lt x_lt.

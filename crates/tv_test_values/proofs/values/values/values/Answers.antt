@@ -1,6 +1,6 @@
 use Rattle.tv_model.specs.Form.{form_of}
 use Rattle.tv_test_values.proofs.Settings.{closed_assigned}
-use Rattle.tv_test_values.proofs.values.values.Goals as goal
+use Rattle.tv_test_values.proofs.values.values.values.Goals as goal
 
 pub value-requires-clause-assigned : goal.value-requires-clause-assigned
 value-requires-clause-assigned c =
