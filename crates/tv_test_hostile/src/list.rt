@@ -234,8 +234,14 @@ pub fn list_report(alloc: Global) -> Result<String, AllocError> {
     joined(alloc, &GUARDED_REPORT)
 }
 
-/// What the program includes; and a list of two cells, with a run that goes twice around the guarded loop.
-const INCLUDED: [(&str, &str); 5] = [
+const INCLUDED: [(&str, &str); 3] = [
+    ("preds.tvp", PREDICATES),
+    ("actions.tvp", ACTIONS),
+    ("message.tvp", MESSAGE),
+];
+
+/// The same, and a list of two cells with a run that goes twice around the guarded loop.
+const REPLAYED: [(&str, &str); 5] = [
     ("preds.tvp", PREDICATES),
     ("actions.tvp", ACTIONS),
     ("message.tvp", MESSAGE),
@@ -334,6 +340,7 @@ fn writes(alloc: Global, words: &[&str], out: &[&str]) -> Result<bool, AllocErro
     let call = Call {
         words,
         report: report.as_str(),
+        more: &REPLAYED,
         ..LIST_CALL
     };
     Ok(wrong_traversal(alloc, &call, out)?.is_none())
