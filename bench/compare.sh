@@ -36,6 +36,7 @@ def mean(ratios):
 own, other, what = sys.argv[1:]
 if what == "examples":
     folders = [os.path.dirname(report) for report in sorted(glob.glob("examples/*/report"))]
+    folders = [folder for folder in folders if os.path.exists(f"{folder}/program.tvp")]
     calls = {folder: ["analyze", folder + "/program.tvp", folder + "/initial.tvs"] for folder in folders}
 else:
     calls = {os.path.dirname(file): open(file).read().split("\n")[:-1] for file in sorted(glob.glob("bench/cases/*/words"))}
