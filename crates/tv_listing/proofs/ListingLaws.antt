@@ -5,9 +5,9 @@ use Rattle.std.specs.List.{list_any}
 use Rattle.std.specs.declared.alloc.AllocError.{AllocError}
 use Rattle.std.specs.Ordering.{is_eq}
 use Rattle.std.specs.Cmp.{Equal-is}
-use Rattle.std.proofs.lemmas.List.{get_or-map, length-map, get_or_append_left, get_or_at, length-append, length-take-le, map-append, take_more, set-get_or}
+use Rattle.std.proofs.lemmas.List.{get_or-map, length-map, get_or_append_left, get_or_at, length-append, length-take-le, map-append, take_all, take_more, take-append-le, set-get_or}
 use Rattle.std.proofs.lemmas.List.Folds.{Any-from_list_any, list_any_at}
-use Rattle.std.proofs.lemmas.Bool.{cases_lt}
+use Rattle.std.proofs.lemmas.Bool.{cases_lt, MatchBool-at_true, MatchBool-at_false}
 use Rattle.std.proofs.lemmas.Option.{slice_get_within, get_or_from_slice_get, slice_get-get_or}
 use Rattle.tv_listing.specs.ListingForm.{HasEqual, AreNoted, Adds, AddsAt, IsSortedFrom, at_node, equals, is_equal_at}
 use Rattle.tv_struct.specs.Order.{structure_cmp}
@@ -113,6 +113,35 @@ pub HasEqual-found : (structures : List StructureForm) (s : StructureForm) (note
     → MatchBool r (HasEqual structures s) (¬ HasEqual structures s)
 HasEqual-found structures s noted all true e = found structures s (noted (signature_of s)) (sym e)
 HasEqual-found structures s noted all false e = λ has. true≢false (sym (not_missed structures s noted all has) ∙ sym e)
+
+-- the first n structures are all that there are
+pub all_noted : (noted : ℕ → List ℕ) (structures : List StructureForm) (n : ℕ) → n ≡ length structures
+    → AreNoted noted (map signature_of structures) → (n ≤ length structures) × AreNoted noted (map signature_of (take n structures))
+all_noted noted structures n count all =
+    let Of : List StructureForm → Type 0 = λ known. AreNoted noted (map signature_of known)
+    in (omega arith, subst Of (sym (take_all n structures (omega arith))) all)
+
+-- a structure that is put behind the others isn't noted yet
+pub noted_behind : (noted : ℕ → List ℕ) (structures : List StructureForm) (s : StructureForm) (n : ℕ)
+    → (n ≤ length structures) × AreNoted noted (map signature_of (take n structures))
+    → (n ≤ length (structures ++ s ∷ [])) × AreNoted noted (map signature_of (take n (structures ++ s ∷ [])))
+noted_behind noted structures s n h =
+    let Of : List StructureForm → Type 0 = λ known. AreNoted noted (map signature_of known)
+    in (
+      omega (arith, h.0, length-append structures (s ∷ [])),
+      subst Of (sym (take-append-le n structures (s ∷ []) h.0)) h.1,
+    )
+
+-- what a search among the noted places says of adding
+module _ (structures : List StructureForm) (s : StructureForm) (noted : ℕ → List ℕ) (all : AreNoted noted (map signature_of structures)) (r : Bool)
+    (e : r ≡ list_any (is_equal_at structures s) (noted (signature_of s))) where
+  pub Adds-known : r ≡ true → Adds structures structures s (Ok false)
+  Adds-known hit =
+      (MatchBool-at_true (HasEqual structures s) (¬ HasEqual structures s) hit (HasEqual-found structures s noted all r e), refl)
+
+  pub Adds-new : r ≡ false → Adds structures (structures ++ s ∷ []) s (Ok true)
+  Adds-new missed =
+      (MatchBool-at_false (HasEqual structures s) (¬ HasEqual structures s) missed (HasEqual-found structures s noted all r e), refl)
 
 -- from the list at the node to the listing
 pub AddsAt-from_list : (old : List (List StructureForm)) (node : ℕ) (list new : List StructureForm) (s : StructureForm)

@@ -66,9 +66,8 @@ impl Listing {
         requires { node < length self.old }
         ensures { self.new ≡ (if is_ok result then appended self.old node s else self.old) }
     {
-        let alloc = self.alloc;
         let list = &mut self.nodes[node as usize];
-        list.push(alloc, s)
+        list.push(s)
     }
 
     /// Puts the structure behind those of the node where none of them is equal to it, marks aside,

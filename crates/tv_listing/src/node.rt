@@ -1,10 +1,10 @@
 //! The structures at one node of a listing.
 
-ghost use Rattle.std.specs.Prelude.{◌≡◌, ◌<◌, ◌≤◌, ℕ, [], ◌∷◌, ◌++◌, length, Contains, OnOk, OnErr, MatchBool, is_ok, if◌then◌else◌, unwrap_or, map, IfOk, IsTrue, ◌↔◌, ◌==◌};
+ghost use Rattle.std.specs.Prelude.{◌≡◌, ◌<◌, ◌≤◌, ℕ, [], ◌∷◌, ◌++◌, length, Contains, OnOk, OnErr, is_ok, if◌then◌else◌, unwrap_or, map, take, IfOk, ◌==◌};
 ghost use Rattle.std.specs.List.{list_any};
 ghost use Rattle.std.specs.Ordering.{nat_cmp};
 ghost use Rattle.std.specs.BTreeMap.{get};
-ghost use Rattle.tv_listing.specs.ListingForm.{HasEqual, Adds, AreNoted, IsSortedFrom, is_equal_at};
+ghost use Rattle.tv_listing.specs.ListingForm.{Adds, AreNoted, IsSortedFrom, is_equal_at};
 ghost use Rattle.tv_struct.specs.Signature.{signature_of};
 ghost use Rattle.tv_struct.specs.StructureForm.{StructureForm, unmarked};
 
@@ -19,15 +19,17 @@ use tv_struct::Structure;
 type Noted = BTreeMap<u64, Items<usize>>;
 
 /// Structures in the order in which they came. For each signature the places of the structures that
-/// have it are noted, so that an equal structure is found without a walk over all.
+/// have it are noted, so that an equal structure is found without a walk over all: those of the first
+/// `count` structures, and those of the others before the next search.
 #[derive(Drop)]
 pub struct Node {
     structures: Vec<Structure>,
     noted: Noted,
+    count: usize,
 }
 
 impl Model for Node {
-    ghost use Rattle.std.specs.Prelude.{List, [], map, unwrap_or};
+    ghost use Rattle.std.specs.Prelude.{List, [], ◌≤◌, length, map, take, unwrap_or};
     ghost use Rattle.std.specs.Ordering.{nat_cmp};
     ghost use Rattle.std.specs.BTreeMap.{get};
     ghost use Rattle.tv_listing.specs.ListingForm.{AreNoted};
@@ -38,7 +40,7 @@ impl Model for Node {
 
     ghost view = { λ n. n.structures.items };
 
-    ghost invariant = { λ n. AreNoted (λ signature. unwrap_or (get nat_cmp n.noted signature) []) (map signature_of n.structures.items) };
+    ghost invariant = { λ n. (n.count ≤ length n.structures.items) × AreNoted (λ signature. unwrap_or (get nat_cmp n.noted signature) []) (map signature_of (take n.count n.structures.items)) };
 }
 
 impl Node {
@@ -49,6 +51,7 @@ impl Node {
         Node {
             structures: Vec::new(alloc),
             noted: BTreeMap::new(alloc),
+            count: 0,
         }
     }
 
@@ -60,33 +63,29 @@ impl Node {
     }
 
     /// Puts the structure behind the others. At an error they are as before.
-    pub fn push(&mut self, alloc: Global, s: Structure) -> Result<(), AllocError>
+    pub fn push(&mut self, s: Structure) -> Result<(), AllocError>
         ensures { self.new ≡ (if is_ok result then self.old ++ s ∷ [] else self.old) }
     {
-        let signature = s.signature();
-        let place = self.structures.len();
-        note(alloc, &mut self.noted, signature, place)?;
         self.structures.push(s)?;
         Ok(())
     }
 
-    /// Whether an equal structure, marks aside, stands here.
-    pub fn has_equal(&self, s: &Structure) -> bool
-        ensures { MatchBool result (HasEqual self.now s.now) (¬ HasEqual self.now s.now) }
-    {
-        let places = noted_at(&self.noted, s.signature());
-        is_equal_among(self.structures.as_slice(), places, s)
-    }
-
-    /// Puts the structure behind the others where none of them is equal to it, and tells whether it
-    /// did. At an error the structures are as before.
+    /// Puts the structure behind the others where none of them is equal to it, marks aside, and tells
+    /// whether it did. At an error the structures are as before.
     pub fn add(&mut self, alloc: Global, s: Structure) -> Result<bool, AllocError>
         ensures { Adds self.old self.new s result }
     {
-        if self.has_equal(&s) {
+        let place = self.structures.len();
+        note_from(alloc, &mut self.noted, &self.structures, self.count)?;
+        self.count = place;
+        let signature = s.signature();
+        let places = noted_at(&self.noted, signature);
+        if is_equal_among(self.structures.as_slice(), places, &s) {
             return Ok(false);
         }
-        self.push(alloc, s)?;
+        note(alloc, &mut self.noted, signature, place)?;
+        self.structures.push(s)?;
+        self.count = place + 1;
         Ok(true)
     }
 
@@ -96,20 +95,30 @@ impl Node {
     {
         let mut structures = self.structures;
         structures.sort()?;
-        let noted = all_noted(alloc, &structures)?;
-        Ok(Node { structures, noted })
+        Ok(Node {
+            structures,
+            noted: BTreeMap::new(alloc),
+            count: 0,
+        })
     }
 }
 
-/// The place of each structure, noted for its signature.
-fn all_noted(alloc: Global, structures: &[Structure]) -> Result<Noted, AllocError>
-    ensures { IfOk result (λ noted. AreNoted (λ signature. unwrap_or (get nat_cmp noted signature) []) (map signature_of structures.now)) }
+/// Notes the places of the structures from `from` on. At an error some of them are noted.
+fn note_from(
+    alloc: Global,
+    noted: &mut Noted,
+    structures: &[Structure],
+    from: usize,
+) -> Result<(), AllocError>
+    requires from { from ≤ length structures.now }
+    requires noted { AreNoted (λ signature. unwrap_or (get nat_cmp noted.old signature) []) (map signature_of (take from structures.now)) }
+    ensures kept { AreNoted (λ signature. unwrap_or (get nat_cmp noted.new signature) []) (map signature_of (take from structures.now)) }
+    ensures ok { OnOk result (AreNoted (λ signature. unwrap_or (get nat_cmp noted.new signature) []) (map signature_of structures.now)) }
 {
-    let mut noted = BTreeMap::new(alloc);
-    for (place, s) in structures.iter().enumerate() {
-        note(alloc, &mut noted, s.signature(), place)?;
+    for place in from..structures.len() {
+        note(alloc, noted, structures[place].signature(), place)?;
     }
-    Ok(noted)
+    Ok(())
 }
 
 /// The places that are noted for the signature.

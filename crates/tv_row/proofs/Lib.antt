@@ -8,3 +8,5 @@ pub mod Extremes
 pub mod Greatest
 pub mod RowOps
 pub mod RowOrder
+pub mod DrawnBits
+pub mod DrawnRuns

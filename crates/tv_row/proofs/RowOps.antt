@@ -22,10 +22,10 @@ FilledTo words p g =
     × (length words ≡ 4)
 
 -- a word of No
-no_word : length (padded 0 (replicate 64 No)) ≡ 64
+pub no_word : length (padded 0 (replicate 64 No)) ≡ 64
 no_word = length-padded 0 (replicate 64 No) (omega arith) (length-replicate 64 No)
 
-no_place : (i : ℕ) → i < 64 → get_or (padded 0 (replicate 64 No)) i No ≡ No
+pub no_place : (i : ℕ) → i < 64 → get_or (padded 0 (replicate 64 No)) i No ≡ No
 no_place i low =
     get_or-padded 0 (replicate 64 No) i (omega arith) (length-replicate 64 No) low
     ∙ ap (λ t. cond t (get_or (replicate 64 No) i No) No) (le-ltb i 0 (omega arith))

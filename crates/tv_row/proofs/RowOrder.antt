@@ -1,47 +1,70 @@
 -- Rows compare, and are mixed, as their words.
-use Rattle.std.proofs.Common.{ℕ, ◌≡◌, ◌*◌, ◌+◌, List, [], ◌∷◌, length, take, fold, refl, sym, ap, ◌∙◌, arith, Less, Equal, Greater, min, ◌/◌, ◌%◌}
+use Rattle.std.proofs.Common.{ℕ, ◌≡◌, ◌*◌, ◌+◌, List, [], ◌∷◌, ◌<◌, ◌≤◌, length, get_or, take, fold, refl, sym, ap, ◌∙◌, arith, Less, Equal, Greater, min, ◌/◌, ◌%◌}
 use Rattle.std.specs.declared.cmp.Ordering.{Ordering}
 use Rattle.std.specs.Ordering.{ordering_then}
 use Rattle.std.specs.Cmp.Lexicographic.{slice_cmp}
+use Rattle.std.proofs.lemmas.List.{ext_get_or, length-take-le, get_or-take}
 use Rattle.tv_kleene.specs.declared.K3.{K3}
+use Rattle.tv_kleene.specs.declared.K3.TheVariants.{No}
 use Rattle.tv_row.specs.Bits.{value_cmp}
 use Rattle.tv_row.specs.Places.{value_in, row_of, rows_of, HoldsCells}
 use Rattle.tv_row.specs.RowForm.{HoldsRow}
 use Rattle.tv_row.specs.RowLaws.{words_back}
 use Rattle.tv_row.specs.Mixed.{word_mixed, row_mixed}
 use Rattle.tv_row.proofs.CompareRows.{words_as_rows}
-use Rattle.tv_row.proofs.PlaceLaws.{length-row_of}
+use Rattle.tv_row.proofs.PlaceLaws.{length-row_of, get_or-row_of}
 
 then_nothing : (o : Ordering) → ordering_then o Equal ≡ o
 then_nothing Less = refl
 then_nothing Equal = refl
 then_nothing Greater = refl
 
-one_row : (words : List (List K3)) (size : ℕ) → rows_of words 4 1 size ≡ row_of words size 0 ∷ []
-unfolding rows_of
-one_row words size = refl
+-- the words that a row takes hold it
+module _ (words : List (List K3)) (size used : ℕ) (h : HoldsRow words size) (count : used ≡ size / 64 + min 1 (size % 64)) where
+  few : used ≤ 4
+  few = omega (arith, h.small)
 
-cells : (words : List (List K3)) (size : ℕ) → HoldsRow words size → HoldsCells words 4 1 size
-cells words size h = record {
-  words_have = h.words_have;
-  as_many = h.as_many;
-  room = h.small;
-  unused = λ row column lr past low.
-      (let first : row * 4 ≡ 0 = omega arith
-      in ap (λ start. value_in words start column) first ∙ h.unused column past low);
-}
+  long : length (take used words) ≡ used
+  long = length-take-le used words (omega (arith, few, h.as_many))
 
-pub rows_compare : (words others : List (List K3)) (size size' : ℕ) → HoldsRow words size → HoldsRow others size'
-    → length (row_of words size 0) ≡ length (row_of others size' 0)
-    → slice_cmp (slice_cmp value_cmp) words others ≡ slice_cmp value_cmp (row_of words size 0) (row_of others size' 0)
-rows_compare words others size size' h g long =
-    let same : size' ≡ size = sym (length-row_of others size' 0) ∙ sym long ∙ length-row_of words size 0
-    in let as_is : HoldsRow others size = rw (← same) g
-    in words_as_rows words others 4 1 size (cells words size h) (cells others size as_is)
-    ∙ ap (λ rows. slice_cmp (slice_cmp value_cmp) rows (rows_of others 4 1 size)) (one_row words size)
-    ∙ ap (slice_cmp (slice_cmp value_cmp) (row_of words size 0 ∷ [])) (one_row others size)
+  value_used : (c : ℕ) → c < 64 * used → value_in (take used words) 0 c ≡ value_in words 0 c
+  value_used c lt = ap (λ word. get_or word (c % 64) No) (get_or-take used words (0 + c / 64) [] (omega arith))
+
+  cells : HoldsCells (take used words) used 1 size
+  cells = record {
+    words_have = λ p d lt.
+        ap length (get_or-take used words p d (omega (arith, long))) ∙ h.words_have p d (omega (arith, long, few, h.as_many));
+    as_many = omega (arith, long);
+    room = omega arith;
+    unused = λ row column lr past low.
+        (let none : 0 * used ≡ 0 = omega arith
+        in let first : row * used ≡ 0 = ap (λ n. n * used) (let zeroth : row ≡ 0 = omega arith in zeroth) ∙ none
+        in ap (λ start. value_in (take used words) start column) first ∙ value_used column low ∙ h.unused column past (omega (arith, few)));
+  }
+
+  row_used : rows_of (take used words) used 1 size ≡ row_of words size 0 ∷ []
+  unfolding rows_of
+  row_used =
+      let none : 0 * used ≡ 0 = omega arith
+      in ap (λ start. row_of (take used words) size start ∷ []) none
+      ∙ ap (λ row. row ∷ [])
+      (ext_get_or No (row_of (take used words) size 0) (row_of words size 0)
+      (length-row_of (take used words) size 0 ∙ sym (length-row_of words size 0))
+      (λ c l.
+      let lt : c < size = omega (arith, length-row_of (take used words) size 0)
+      in get_or-row_of (take used words) size 0 c lt ∙ value_used c (omega arith) ∙ sym (get_or-row_of words size 0 c lt)))
+
+pub rows_compare : (words others : List (List K3)) (size size' used : ℕ) → HoldsRow words size → HoldsRow others size'
+    → length (row_of words size 0) ≡ length (row_of others size' 0) → used ≡ size / 64 + min 1 (size % 64)
+    → slice_cmp (slice_cmp value_cmp) (take used words) (take used others) ≡ slice_cmp value_cmp (row_of words size 0) (row_of others size' 0)
+rows_compare words others size size' used h g same count =
+    let sizes : size' ≡ size = sym (length-row_of others size' 0) ∙ sym same ∙ length-row_of words size 0
+    in let as_is : HoldsRow others size = rw (← sizes) g
+    in words_as_rows (take used words) (take used others) used 1 size (cells words size used h count) (cells others size used as_is count)
+    ∙ ap (λ rows. slice_cmp (slice_cmp value_cmp) rows (rows_of (take used others) used 1 size)) (row_used words size used h count)
+    ∙ ap (slice_cmp (slice_cmp value_cmp) (row_of words size 0 ∷ [])) (row_used others size used as_is count)
     ∙ then_nothing (slice_cmp value_cmp (row_of words size 0) (row_of others size 0))
-    ∙ ap (λ n. slice_cmp value_cmp (row_of words size 0) (row_of others n 0)) (sym same)
+    ∙ ap (λ n. slice_cmp value_cmp (row_of words size 0) (row_of others n 0)) (sym sizes)
 
 pub rows_mixed : (hash : ℕ) (words : List (List K3)) (size used : ℕ) → HoldsRow words size → used ≡ size / 64 + min 1 (size % 64)
     → fold word_mixed hash (take used words) ≡ row_mixed hash (row_of words size 0)

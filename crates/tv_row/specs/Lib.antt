@@ -5,3 +5,4 @@ pub mod Places
 pub mod RowForm
 pub mod RowLaws
 pub mod Mixed
+pub mod Drawing

@@ -8,9 +8,13 @@ use Rattle.tv_row.specs.RowForm.{row_words}
 abbrev pub mixed : ℕ → ℕ → ℕ
 mixed hash n = (hash * 1099511628211 % 2 ^ 64 + n) % 2 ^ 64
 
--- both planes of a word mixed in
+-- both planes of a word as one number, the second spread over all bits
+abbrev pub word_number : List K3 → ℕ
+word_number word = (number_of is_possible word + number_of is_certain word * 11400714819323198486 % 2 ^ 64) % 2 ^ 64
+
+-- a word mixed in
 abbrev pub word_mixed : ℕ → List K3 → ℕ
-word_mixed hash word = mixed (mixed hash (number_of is_possible word)) (number_of is_certain word)
+word_mixed hash word = mixed hash (word_number word)
 
 -- the words that a row takes, mixed in one after the other
 abbrev pub row_mixed : ℕ → List K3 → ℕ

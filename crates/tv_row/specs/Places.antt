@@ -1,5 +1,5 @@
 -- Places in a list of words of 64 values.
-use Rattle.std.specs.Prelude.{ℕ, nat_lt, if◌then◌else◌, ◌≡◌, ◌+◌, ◌*◌, ◌/◌, ◌%◌, ◌^◌, min, ◌<◌, ◌≤◌, ◌⊎◌, List, [], length, map, All, slice_index_or, slice_set}
+use Rattle.std.specs.Prelude.{ℕ, ◌≡◌, ◌+◌, ◌*◌, ◌/◌, ◌%◌, ◌^◌, min, ◌<◌, ◌≤◌, ◌⊎◌, List, [], length, map, All, slice_index_or, slice_set}
 use Rattle.std.specs.List.{range_with_len}
 use Rattle.tv_kleene.specs.declared.K3.{K3}
 use Rattle.tv_kleene.specs.declared.K3.TheVariants.{No}
@@ -50,10 +50,6 @@ pub record HoldsRows (words : List (List K3)) (width rows columns : ℕ) : Type 
   pub room : columns ≤ 64 * width
   pub least : width ≡ columns / 64 + min 1 (columns % 64)
   pub unused : (row column : ℕ) → row < rows → columns ≤ column → column < 64 * width → value_in words (row * width) column ≡ No
-
--- the value in a column of a row that has that many, and No past the end
-abbrev pub drawn_value : (words : List (List K3)) (start columns column : ℕ) → K3
-drawn_value words start columns column = if nat_lt column columns then value_in words start column else No
 
 -- what comparing needs of it
 pub record HoldsCells (words : List (List K3)) (width rows columns : ℕ) : Type 0 where

@@ -5,12 +5,14 @@
 #![tactic(auto)]
 
 mod bits;
+mod drawing;
 mod mixed;
 mod row;
 mod slices;
 mod word;
 mod words;
 
+pub use drawing::Drawing;
 pub use mixed::mix;
 pub use row::Row;
 pub use word::Word;

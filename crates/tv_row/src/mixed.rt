@@ -12,11 +12,12 @@ pub fn mix(hash: u64, n: u64) -> u64
     hash.wrapping_mul(1_099_511_628_211).wrapping_add(n)
 }
 
-/// The number with both planes of a word mixed in.
+/// The number with both planes of a word mixed in, as one number.
 fn mix_word(hash: u64, word: Word) -> u64
     ensures { result ≡ word_mixed hash word }
 {
-    mix(mix(hash, word.possible_bits()), word.certain_bits())
+    let certain = word.certain_bits().wrapping_mul(11_400_714_819_323_198_486);
+    mix(hash, word.possible_bits().wrapping_add(certain))
 }
 
 /// The number with words mixed in, one after the other.

@@ -8,6 +8,7 @@ ghost use Rattle.tv_row.specs.Bits.{paired, greatest_in, least_in, value_cmp};
 ghost use Rattle.tv_row.specs.Mixed.{row_mixed};
 ghost use Rattle.tv_row.specs.Places.{AreWords, word_at, value_in, row_of};
 
+use crate::drawing::Drawing;
 use crate::mixed::mix_words;
 use crate::slices;
 use crate::word::Word;
@@ -135,6 +136,17 @@ impl Row {
         for p in 0..size.div_ceil(64) {
             words[p as usize] = self.words[p as usize].first(places_in(size, p));
         }
+        Row { words, size }
+    }
+
+    /// The values at the origins, and `No` for an origin past the end.
+    pub fn drawn(&self, drawing: &Drawing) -> Row
+        requires { drawing.now.columns ≡ length self.now }
+        ensures { result ≡ map (λ origin. slice_index_or self.now origin No) drawing.now.origins }
+    {
+        let size = drawing.origins().len() as u32;
+        let mut words = [Word::of(0, K3::No); 4];
+        slices::draw(&mut words[..], 4, 0, &self.words[..], 0, drawing);
         Row { words, size }
     }
 
@@ -301,7 +313,8 @@ impl Row {
         requires { length self.now ≡ length other.now }
         ensures { result ≡ slice_cmp value_cmp self.now other.now }
     {
-        slices::compare(&self.words[..], &other.words[..])
+        let used = self.size.div_ceil(64) as usize;
+        slices::compare(&self.words[..used], &other.words[..used])
     }
 
     /// The number with the values mixed in, word by word.

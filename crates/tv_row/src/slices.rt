@@ -1,12 +1,14 @@
 //! Rows of truth values in a slice of words.
 
-ghost use Rattle.std.specs.Prelude.{◌≡◌, ◌≢◌, ℕ, ◌+◌, ◌*◌, ◌/◌, ◌<◌, ◌≤◌, ◌⊎◌, length, map, MatchOption};
+ghost use Rattle.std.specs.Prelude.{◌≡◌, ◌≢◌, ℕ, ◌+◌, ◌*◌, ◌/◌, ◌%◌, ◌<◌, ◌≤◌, ◌⊎◌, length, map, MatchOption};
 ghost use Rattle.std.specs.List.{range_with_len};
 ghost use Rattle.tv_kleene.specs.declared.K3.TheVariants.{No, Yes};
 ghost use Rattle.std.specs.Cmp.Lexicographic.{slice_cmp};
 ghost use Rattle.tv_row.specs.Bits.{value_cmp, greatest_in};
+ghost use Rattle.tv_row.specs.Drawing.{run_over, drawn_from};
 ghost use Rattle.tv_row.specs.Places.{AreWords, AreApart, word_at, value_in, with_value, raised, row_of};
 
+use crate::drawing::{Drawing, Run};
 use crate::row::Row;
 use crate::word::Word;
 use std::cmp::Ordering;
@@ -27,6 +29,60 @@ pub fn put(words: &mut [Word], start: usize, column: usize, k: K3)
 {
     let at = start + column / 64;
     words[at] = words[at].with((column % 64) as u32, k);
+}
+
+/// Makes the row of `width` words that begins at `at` `No` everywhere.
+fn clear(words: &mut [Word], width: usize, at: usize)
+    requires { at + width ≤ length words.old }
+    ensures row { (c : ℕ) → c < 64 * width → value_in words.new at c ≡ No }
+    ensures others { (p : ℕ) → (p < at) ⊎ (at + width ≤ p) → word_at words.new p ≡ word_at words.old p }
+    ensures long { AreWords words.old → AreWords words.new }
+    ensures length { length words.new ≡ length words.old }
+{
+    for w in 0..width {
+        words[at + w] = Word::of(0, K3::No);
+    }
+}
+
+/// Gives the columns of the run, in the row that begins at `at`, the values of another list's row.
+fn draw_run(words: &mut [Word], at: usize, source: &[Word], from: usize, run: Run)
+    requires some { 0 < run.count }
+    requires to { run.to % 64 + run.count ≤ 64 }
+    requires from { run.from % 64 + run.count ≤ 64 }
+    requires row { at + run.to / 64 < length words.old }
+    requires source { from + run.from / 64 < length source.now }
+    ensures values { (c : ℕ) → value_in words.new at c ≡ run_over (value_in source.now from) c (value_in words.old at c) run }
+    ensures others { (p : ℕ) → p ≢ at + run.to / 64 → word_at words.new p ≡ word_at words.old p }
+    ensures long { AreWords words.old → AreWords words.new }
+    ensures length { length words.new ≡ length words.old }
+{
+    let taken = source[from + run.from as usize / 64];
+    let place = at + run.to as usize / 64;
+    words[place] = words[place].with_run(run.to % 64, taken, run.from % 64, run.count);
+}
+
+/// Draws the row of `width` words that begins at `at` from another list's row.
+pub fn draw(
+    words: &mut [Word],
+    width: usize,
+    at: usize,
+    source: &[Word],
+    from: usize,
+    drawing: &Drawing,
+)
+    requires row { at + width ≤ length words.old }
+    requires room { length drawing.now.origins ≤ 64 * width }
+    requires source { (c : ℕ) → c < drawing.now.columns → from + c / 64 < length source.now }
+    ensures values { (c : ℕ) → c < 64 * width → value_in words.new at c ≡ drawn_from (value_in source.now from) drawing.now c }
+    ensures others { (p : ℕ) → (p < at) ⊎ (at + width ≤ p) → word_at words.new p ≡ word_at words.old p }
+    ensures long { AreWords words.old → AreWords words.new }
+    ensures length { length words.new ≡ length words.old }
+{
+    clear(words, width, at);
+    let runs = drawing.runs();
+    for run in runs {
+        draw_run(words, at, source, from, *run);
+    }
 }
 
 /// Or's each value of the row of `width` words that begins at `to` with the lesser of `k` and the

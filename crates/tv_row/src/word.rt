@@ -1,12 +1,12 @@
 //! Sixty-four truth values in two words.
 
-ghost use Rattle.std.specs.Prelude.{◌≡◌, ◌≢◌, ℕ, ◌<◌, ◌≤◌, slice_index_or, slice_set, map, replicate, MatchOption, take, IsTrue, ◌↔◌};
+ghost use Rattle.std.specs.Prelude.{◌≡◌, ◌≢◌, ℕ, ◌+◌, ◌<◌, ◌≤◌, ◌⊎◌, length, slice_index_or, slice_set, map, replicate, MatchOption, take, IsTrue, ◌↔◌};
 ghost use Rattle.tv_kleene.specs.declared.K3.TheVariants.{No, Yes};
 ghost use Rattle.tv_kleene.specs.Kleene.{smaller_of, larger_of, join_of, negation_of};
 ghost use Rattle.std.specs.Cmp.Lexicographic.{slice_cmp};
 ghost use Rattle.tv_row.specs.Bits.{value_cmp, value_of, paired, padded, greatest_in, least_in, is_possible, is_certain, number_of};
 
-use crate::bits::{first_from, has, ones_below, when, with};
+use crate::bits::{first_from, has, ones_below, when, with, with_bits};
 use std::cmp::Ordering;
 use std::marker::Model;
 use tv_kleene::K3;
@@ -188,6 +188,21 @@ impl Word {
         Word {
             may: with(self.may, i, is_possible(k)),
             must: with(self.must, i, is_certain(k)),
+        }
+    }
+
+    /// The word with `count` values from `to` on that are those of another word from `from` on.
+    pub fn with_run(self, to: u32, other: Word, from: u32, count: u32) -> Word
+        requires some { 0 < count }
+        requires to { to + count ≤ 64 }
+        requires from { from + count ≤ 64 }
+        ensures taken { (i : ℕ) → i < count → slice_index_or result (to + i) No ≡ slice_index_or other (from + i) No }
+        ensures kept { (j : ℕ) → (j < to) ⊎ (to + count ≤ j) → slice_index_or result j No ≡ slice_index_or self j No }
+        ensures long { length result ≡ 64 }
+    {
+        Word {
+            may: with_bits(self.may, to, other.may, from, count),
+            must: with_bits(self.must, to, other.must, from, count),
         }
     }
 

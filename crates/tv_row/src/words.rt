@@ -1,13 +1,15 @@
 //! A list of words of truth values.
 
 ghost use Rattle.std.specs.List.{range_with_len};
-ghost use Rattle.std.specs.Prelude.{◌≡◌, ℕ, ◌+◌, ◌*◌, ◌/◌, ◌%◌, min, map, ◌<◌, ◌≤◌, ◌⊎◌, ◌≢◌, length, slice_index, slice_index_or, replicate, fold, IfOk, IsTrue, ◌↔◌, MatchOption};
+ghost use Rattle.std.specs.Prelude.{◌≡◌, ℕ, ◌+◌, ◌*◌, ◌/◌, ◌%◌, min, map, ◌<◌, ◌≤◌, ◌⊎◌, ◌≢◌, length, slice_index_or, replicate, fold, IfOk, IsTrue, ◌↔◌, MatchOption};
 ghost use Rattle.tv_kleene.specs.declared.K3.TheVariants.{No, Yes};
 ghost use Rattle.std.specs.Cmp.Lexicographic.{slice_cmp};
 ghost use Rattle.tv_row.specs.Bits.{value_cmp, greatest_in};
+ghost use Rattle.tv_row.specs.Drawing.{drawn_from};
 ghost use Rattle.tv_row.specs.Mixed.{word_mixed};
-ghost use Rattle.tv_row.specs.Places.{AreWords, AreApart, word_at, value_in, with_value, raised, drawn_value, row_of};
+ghost use Rattle.tv_row.specs.Places.{AreWords, AreApart, word_at, value_in, with_value, raised, row_of};
 
+use crate::drawing::Drawing;
 use crate::mixed::mix_words;
 use crate::row::Row;
 use crate::slices;
@@ -42,11 +44,9 @@ impl Words {
     pub fn of_no(alloc: Global, count: usize) -> Result<Words, AllocError>
         ensures { IfOk result (λ w. w ≡ replicate count (replicate 64 No)) }
     {
-        let mut items = Vec::with_capacity(alloc, count)?;
-        for _ in 0..count {
-            items.push(Word::of(0, K3::No))?;
-        }
-        Ok(Words { items })
+        Ok(Words {
+            items: vec![in alloc; Word::of(0, K3::No); count]?,
+        })
     }
 
     /// Equal words in memory of their own.
@@ -127,7 +127,8 @@ impl Words {
     /// Puts `k` into a column of the row that begins at word `start`.
     pub fn put(&mut self, start: usize, column: usize, k: K3)
         requires { start + column / 64 < length self.old }
-        ensures { self.new ≡ with_value self.old start column k }
+        ensures value { self.new ≡ with_value self.old start column k }
+        ensures words { AreWords self.old }
     {
         slices::put(&mut self.items, start, column, k);
     }
@@ -173,44 +174,19 @@ impl Words {
         slices::column(&self.items, width, start, rows, column)
     }
 
-    /// The value in a column of a row that has that many, and `No` past the end.
-    fn value_or_no(&self, start: usize, columns: usize, column: usize) -> K3
-        requires { (c : ℕ) → c < columns → start + c / 64 < length self.now }
-        ensures { result ≡ drawn_value self.now start columns column }
-    {
-        if column < columns {
-            self.get(start, column)
-        } else {
-            K3::No
-        }
-    }
-
-    /// Makes the row of `width` words that begins at `at` the values of another list's row, at the
-    /// origins.
-    pub fn draw(
-        &mut self,
-        width: usize,
-        at: usize,
-        source: &Words,
-        from: usize,
-        columns: usize,
-        origins: &[u32],
-    )
-        requires words { AreWords self.old }
-        requires row { at + width ≤ length self.old }
-        requires room { length origins.now ≤ 64 * width }
-        requires from { (c : ℕ) → c < columns → from + c / 64 < length source.now }
-        ensures drawn { (c : ℕ) → c < length origins.now
-            → value_in self.new at c ≡ drawn_value source.now from columns (slice_index origins.now c) }
-        ensures rest { (c : ℕ) → length origins.now ≤ c → c < 64 * width → value_in self.new at c ≡ value_in self.old at c }
-        ensures others { (p : ℕ) → (p < at) ⊎ (at + width ≤ p) → word_at self.new p ≡ word_at self.old p }
-        ensures words { AreWords self.new }
+    /// Draws the values at the origins of another list's row, which begins there at word `from`, into the words from
+    /// `at` on, and `No` behind them in the last.
+    pub fn draw(&mut self, at: usize, source: &Words, from: usize, drawing: &Drawing)
+        requires row { at + (length drawing.now.origins / 64 + min 1 (length drawing.now.origins % 64)) ≤ length self.old }
+        requires source { (c : ℕ) → c < drawing.now.columns → from + c / 64 < length source.now }
+        ensures values { (c : ℕ) → c < 64 * (length drawing.now.origins / 64 + min 1 (length drawing.now.origins % 64))
+            → value_in self.new at c ≡ drawn_from (value_in source.now from) drawing.now c }
+        ensures others { (p : ℕ) → (p < at) ⊎ (at + (length drawing.now.origins / 64 + min 1 (length drawing.now.origins % 64)) ≤ p)
+            → word_at self.new p ≡ word_at self.old p }
         ensures length { length self.new ≡ length self.old }
     {
-        for c in 0..origins.len() {
-            let k = source.value_or_no(from, columns, origins[c] as usize);
-            self.put(at, c, k);
-        }
+        let width = drawing.origins().len().div_ceil(64);
+        slices::draw(&mut self.items, width, at, &source.items, from, drawing);
     }
 
     /// Or's a row with another that is capped.

@@ -6,8 +6,7 @@ use Rattle.std.specs.Ordering.{bool_cmp, ordering_then}
 use Rattle.std.proofs.lemmas.List.{ext_get_or, length-map, get_or-map, map-set}
 use Rattle.std.proofs.lemmas.List.FromFn.{length-map-range_with_len, get_or-map-range_with_len}
 use Rattle.tv_kleene.specs.declared.K3.{K3}
-use Rattle.tv_kleene.specs.declared.K3.TheVariants.{No, Half, Yes}
-use Rattle.tv_kleene.specs.Kleene.{smaller_of}
+use Rattle.tv_kleene.specs.declared.K3.TheVariants.{No, Half}
 use Rattle.tv_row.specs.Bits.{is_possible, value_cmp}
 use Rattle.tv_struct.specs.TableForm.{selected}
 use Rattle.tv_struct.specs.StructureForm.{StructureForm, summary_at}
@@ -36,16 +35,30 @@ flags_selected row (place ∷ places) =
     in let tail : flags_of (selected No row places) ≡ selected false (flags_of row) places = flags_selected row places
     in λ i. head i ∷ tail i
 
-capped : (k : K3) → smaller_of Half k ≡ flag_value (is_possible k)
-capped No = refl
-capped Half = refl
-capped Yes = refl
+-- ---- rows that say no more than flags
 
-pub flags_row : (row : List K3) → map (smaller_of Half) row ≡ map flag_value (flags_of row)
-flags_row [] = refl
-flags_row (k ∷ row) =
-    let head : smaller_of Half k ≡ flag_value (is_possible k) = capped k
-    in let tail : map (smaller_of Half) row ≡ map flag_value (flags_of row) = flags_row row
+abbrev pub IsFlagRow : List K3 → Type 0
+IsFlagRow row = row ≡ map flag_value (flags_of row)
+
+pub IsFlagRow-none : (n : ℕ) → IsFlagRow (replicate n No)
+IsFlagRow-none zero = refl
+IsFlagRow-none (suc n) = ap (λ row. No ∷ row) (IsFlagRow-none n)
+
+pub IsFlagRow-put : (row : List K3) (u : ℕ) (on : Bool) → IsFlagRow row → IsFlagRow (set row u (flag_value on))
+IsFlagRow-put row u on is =
+    ap (λ line. set line u (flag_value on)) is ∙ sym (map-set flag_value (flags_of row) u on) ∙ ap (map flag_value) (sym (flags_put row u on))
+
+value_at : (flags : List Bool) (u : ℕ) → flag_value (get_or flags u false) ≡ get_or (map flag_value flags) u No
+value_at [] u = refl
+value_at (flag ∷ flags) zero = refl
+value_at (flag ∷ flags) (suc u) = value_at flags u
+
+pub IsFlagRow-selected : (row : List K3) (places : List ℕ) → IsFlagRow row → IsFlagRow (selected No row places)
+IsFlagRow-selected row [] is = refl
+IsFlagRow-selected row (place ∷ places) is =
+    let head : get_or row place No ≡ flag_value (is_possible (get_or row place No))
+    = ap (λ line. get_or line place No) is ∙ sym (value_at (flags_of row) place) ∙ ap flag_value (sym (flag_at row place))
+    in let tail : selected No row places ≡ map flag_value (flags_of (selected No row places)) = IsFlagRow-selected row places is
     in λ i. head i ∷ tail i
 
 flag_cmp : (a b : Bool) → value_cmp (flag_value a) (flag_value b) ≡ bool_cmp a b

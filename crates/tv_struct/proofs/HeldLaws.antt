@@ -4,13 +4,13 @@ use Rattle.std.specs.Prelude.{All}
 use Rattle.std.specs.List.{range_with_len}
 use Rattle.std.proofs.lemmas.Bool.{cases_eq, cases_lt}
 use Rattle.std.proofs.lemmas.Nat.{row_fits}
-use Rattle.std.proofs.lemmas.List.{length-set, length-replicate, map-append, get_or-set_same, get_or-set_other, get_or-replicate, get_or_past, get_or_default, take_more, length-take-le, ext_get_or}
+use Rattle.std.proofs.lemmas.List.{length-set, length-map, length-replicate, get_or-set_same, get_or-set_other, get_or-replicate, get_or_past, get_or_default, take_more, length-take-le, ext_get_or}
 use Rattle.std.proofs.lemmas.List.FromFn.{length-map-range_with_len, get_or-map-range_with_len}
 use Rattle.tv_kleene.specs.declared.K3.{K3}
 use Rattle.tv_kleene.specs.declared.K3.TheVariants.{No}
-use Rattle.tv_row.specs.Places.{word_at, value_in, row_of}
-use Rattle.tv_row.proofs.PlaceLaws.{length-row_of, get_or-row_of, no_value}
-use Rattle.tv_struct.specs.TableForm.{PlaneForm, TableForm, IsPlane, IsTable, no_plane, plane_at, row_in, column_in, cell, row_count, column_count, plane_of_no, table_of_no, table_with_row, arities_in}
+use Rattle.tv_row.specs.Places.{AreWords, word_at, value_in, with_value, row_of}
+use Rattle.tv_row.proofs.PlaceLaws.{length-row_of, get_or-row_of, no_value, put_same, put_other}
+use Rattle.tv_struct.specs.TableForm.{PlaneForm, TableForm, IsPlane, IsTable, no_plane, plane_at, row_in, column_in, cell, row_count, column_count, plane_of_no, table_of_no, table_with_row, arities_in, selected}
 use Rattle.tv_struct.specs.LayoutForm.{LayoutForm, IsLayout, words_for, starts_from, end_from, row_place, plane_held, planes_held, table_held, NoBeyond, HoldsTable}
 
 -- ---- rows of words
@@ -437,11 +437,6 @@ module _ (l : LayoutForm) (words new : List (List K3)) (h : HoldsTable l words) 
 
 -- ---- what the places of predicates say
 
-pub placed_more : {X : Type 0} (f : X → ℕ) (xs : List X) (x : X) (ns : List ℕ) (n : ℕ) → map f xs ≡ ns → f x ≡ n
-    → map f (xs ++ x ∷ []) ≡ ns ++ n ∷ []
-placed_more f xs x ns n e is =
-    map-append f xs (x ∷ []) ∙ ap (λ ys. ys ++ f x ∷ []) e ∙ ap (λ m. ns ++ m ∷ []) is
-
 -- numbers of rows and of words fit
 pub words_small : (l : LayoutForm) → IsLayout l
     → (end_from l.size 0 l.arities ≤ 256 * 4294967295) × (end_from l.size 0 l.arities * words_for l.size < 2 ^ 64)
@@ -578,6 +573,72 @@ now_put l words new now view h pred lp row lr values start long is put others ma
       is = table_put l words new h pred row values listed within fits (subst Put is put) (subst Others is others) many
           ∙ ap (λ (t : TableForm). table_with_row t pred row values) view;
     }
+
+-- how many columns a predicate has
+pub now_seen : (l : LayoutForm) (words : List (List K3)) (now : TableForm) (view : table_held l words ≡ now) (h : HoldsTable l words)
+    (pred : ℕ) (lp : pred < length now.planes)
+    → column_count now.size (plane_at now pred).arity ≡ column_count l.size (get_or l.arities pred 0)
+now_seen l words now view h pred lp =
+    sym (ap (λ (t : TableForm). column_count t.size (plane_at now pred).arity) view)
+    ∙ ap (column_count l.size) (now_arity l words now view h pred lp)
+
+-- the values of a row of words of which one is written
+put_read : (words : List (List K3)) (long : AreWords words) (start column : ℕ) (k : K3) (values : List K3) → start + column / 64 < length words
+    → column < length values → row_of words (length values) start ≡ values
+    → ((c : ℕ) → length values ≤ c → c < 64 * words_of (length values) → value_in words start c ≡ No)
+    → (c : ℕ) → c < 64 * words_of (length values) → value_in (with_value words start column k) start c ≡ get_or (set values column k) c No
+put_read words long start column k values room lc is unused c low = at (cases_eq c column)
+  where
+    before : value_in words start c ≡ get_or values c No
+    before =
+        ⊎_elim
+        (λ lt. sym (get_or-row_of words (length values) start c lt) ∙ ap (λ (row : List K3). get_or row c No) is)
+        (λ past. unused c past low ∙ sym (get_or_past values c No past))
+        (cases_lt c (length values))
+
+    at : (c ≡ column) ⊎ (c ≢ column) → value_in (with_value words start column k) start c ≡ get_or (set values column k) c No
+    at (inl e) =
+        ap (value_in (with_value words start column k) start) e ∙ put_same words long start column k room
+        ∙ sym (ap (λ n. get_or (set values column k) n No) e ∙ get_or-set_same values column k No lc)
+    at (inr ne) =
+        put_other words long start column start c k room
+        (⊎_elim (λ same. inl (λ e. ne (omega arith))) (λ apart. inr apart) (cases_eq (c % 64) (column % 64)))
+        ∙ before ∙ sym (get_or-set_other values column c k No ne)
+
+-- what writing one value of a row does
+pub now_put_cell : (l : LayoutForm) (words : List (List K3)) (now : TableForm) (view : table_held l words ≡ now) (h : HoldsTable l words)
+    (pred : ℕ) (lp : pred < length now.planes) (row : ℕ) (lr : row < length (plane_at now pred).rows) → AreWords words
+    → (column start : ℕ) (k : K3) → column < length (row_in (plane_at now pred) row) → start ≡ row_place l pred row * words_for l.size
+    → PutsRow l (with_value words start column k) now pred row (set (row_in (plane_at now pred) row) column k)
+now_put_cell l words now view h pred lp row lr long column start k lc is =
+    let values : List K3 = row_in (plane_at now pred) row
+    in let columns : length values ≡ column_count l.size (get_or l.arities pred 0) = now_columns l words now view h pred lp row lr
+    in let seen : column_count l.size (get_or l.arities pred 0) ≡ column_count now.size (plane_at now pred).arity
+    = sym (now_seen l words now view h pred lp)
+    in let read : ReadsRow l words now pred row (length values) start = now_read l words now view h pred lp row lr (length values) start columns is
+    in let room : start + column / 64 < length words = (now_cell l words now view h pred lp row lr column start lc is).0
+    in let new_long : length (set values column k) ≡ length values = length-set values column k
+    in now_put l words (with_value words start column k) now view h pred lp row lr (set values column k) start (new_long ∙ columns ∙ seen) is
+    (λ c lt. put_read words long start column k values room lc read.is read.unused c (omega (arith, lt, new_long)))
+    (λ p out.
+    get_or-set_other words (start + column / 64) p (set (word_at words (start + column / 64)) (column % 64) k) []
+    (λ e. ⊎_elim (λ before. omega arith) (λ past. omega (arith, new_long, lc)) out))
+    (length-set words (start + column / 64) (set (word_at words (start + column / 64)) (column % 64) k))
+
+-- what drawing a row of words does
+pub now_drawn : (l : LayoutForm) (words new : List (List K3)) (now : TableForm) (view : table_held l words ≡ now) (h : HoldsTable l words)
+    (pred : ℕ) (lp : pred < length now.planes) (row : ℕ) (lr : row < length (plane_at now pred).rows) (source : List K3) (origins : List ℕ)
+    (value : ℕ → K3) (start : ℕ) → length origins ≡ column_count now.size (plane_at now pred).arity
+    → start ≡ row_place l pred row * words_for l.size
+    → ((c : ℕ) → c < 64 * words_of (length origins) → value_in new start c ≡ value c)
+    → ((c : ℕ) → value c ≡ get_or (selected No source origins) c No)
+    → ((p : ℕ) → (p < start) ⊎ (start + words_of (length origins) ≤ p) → word_at new p ≡ word_at words p)
+    → length new ≡ length words → PutsRow l new now pred row (selected No source origins)
+now_drawn l words new now view h pred lp row lr source origins value start count is drawn values others many =
+    let long : length (selected No source origins) ≡ length origins = length-map origins (λ place. get_or source place No)
+    in now_put l words new now view h pred lp row lr (selected No source origins) start (long ∙ count) is
+    (λ c lt. drawn c (omega (arith, lt, long)) ∙ values c)
+    (λ p out. others p (⊎_elim (λ before. inl before) (λ past. inr (omega (arith, past, long))) out)) many
 
 -- a column of a binary predicate
 pub now_column : (l : LayoutForm) (words : List (List K3)) (now : TableForm) (view : table_held l words ≡ now) (h : HoldsTable l words)

@@ -1,8 +1,7 @@
 -- Where rows lie, counted by predicates that have one row alone.
-use Rattle.std.proofs.Common.{ℕ, ◌≡◌, ◌<◌, ◌≤◌, ◌+◌, ◌-◌, ◌*◌, ◌^◌, ◌==◌, ◌&&◌, zero, suc, Bool, true, false, IsTrue, nat_eq, if◌then◌else◌, List, [], ◌∷◌, length, map, get_or, take, refl, sym, ap, ◌∙◌, arith, eqb-true}
+use Rattle.std.proofs.Common.{ℕ, ◌≡◌, ◌<◌, ◌≤◌, ◌+◌, ◌-◌, ◌*◌, ◌^◌, ◌==◌, ◌&&◌, zero, suc, Bool, true, false, IsTrue, nat_eq, if◌then◌else◌, List, [], ◌∷◌, length, get_or, take, refl, sym, ap, ◌∙◌, arith, eqb-true}
 use Rattle.std.specs.Cmp.Lexicographic.{pointwise}
-use Rattle.std.proofs.lemmas.List.{length-map, length-take-le, get_or-map}
-use Rattle.tv_struct.specs.declared.layout.Place.{Place}
+use Rattle.std.proofs.lemmas.List.{length-take-le, get_or_read}
 use Rattle.tv_struct.specs.TableForm.{row_count}
 use Rattle.tv_struct.specs.LayoutForm.{LayoutForm, IsLaid, words_for, starts_from, end_from, row_place}
 use Rattle.tv_struct.proofs.HeldLaws.{words_small, place_small}
@@ -27,6 +26,10 @@ splits : (size n m : ℕ) (arities : List ℕ) → Splits size n m arities
 splits size n m [] = (0, 0, omega arith, refl, omega arith)
 splits size n m (arity ∷ arities) =
     one_more size n m arities (arity == 2) (splits size (n + row_count size arity) (m + row_count 0 arity) arities)
+
+starts_many : (size n : ℕ) (arities : List ℕ) → length (starts_from size n arities) ≡ length arities
+starts_many size n [] = refl
+starts_many size n (arity ∷ arities) = ap suc (starts_many size (n + row_count size arity) arities)
 
 -- the first row of a predicate is the end of those before
 start_is_end : (size n : ℕ) (arities : List ℕ) (pred : ℕ) → pred < length arities
@@ -65,44 +68,38 @@ start_counted size arities pred lt =
 
 -- ---- the places of predicates
 
-start_read : (places : List Place) (starts : List ℕ) (pred : ℕ) (place : Place) → map (λ (p : Place). p.single) places ≡ starts
-    → pred < length places → place ≡ get_or places pred place → place.single ≡ get_or starts pred 0
-start_read places starts pred place e lt is =
-    ap (λ (p : Place). p.single) is ∙ sym (get_or-map (λ (p : Place). p.single) places pred place 0 lt) ∙ ap (λ xs. get_or xs pred 0) e
-
-module _ (size wide : ℕ) (places : List Place) (all : ℕ)
-    (h : IsLaid (record { size = size; arities = map (λ (p : Place). p.arity) places }) wide (map (λ (p : Place). p.single) places) all) where
-  abbrev arities : List ℕ
-  arities = map (λ (p : Place). p.arity) places
-
+module _ (size wide : ℕ) (arities singles : List ℕ) (all : ℕ)
+    (h : IsLaid (record { size = size; arities = arities }) wide singles all) where
   abbrev layout : LayoutForm
   layout = record { size = size; arities = arities }
 
-  pub singles_listed : (s n : ℕ) → s ≡ all → n ≡ length places → s ≤ n
-  singles_listed s n e many =
-      omega (arith, e, many, length-map places (λ (p : Place). p.arity), h.total, (end_counted size arities).0)
+  pub singles_many : length singles ≡ length arities
+  singles_many = ap length h.singles ∙ starts_many 0 0 arities
 
-  pub words_counted : (s n rows : ℕ) → s ≡ all → n ≡ length places → rows ≡ s + (n - s) * size
+  pub singles_listed : (s n : ℕ) → s ≡ all → n ≡ length arities → s ≤ n
+  singles_listed s n e many =
+      omega (arith, e, many, h.total, (end_counted size arities).0)
+
+  pub words_counted : (s n rows : ℕ) → s ≡ all → n ≡ length arities → rows ≡ s + (n - s) * size
       → (rows * wide < 2 ^ 64) × (rows * wide ≡ end_from size 0 arities * words_for size)
   words_counted s n rows e many is =
       let single : s ≡ end_from 0 0 arities = e ∙ h.total
-      in let listed : n ≡ length arities = many ∙ sym (length-map places (λ (p : Place). p.arity))
       in let same : rows ≡ end_from size 0 arities
-      = is ∙ ap (λ m. s + (m - s) * size) listed ∙ ap (λ t. t + (length arities - t) * size) single ∙ sym (end_counted size arities).1
+      = is ∙ ap (λ m. s + (m - s) * size) many ∙ ap (λ t. t + (length arities - t) * size) single ∙ sym (end_counted size arities).1
       in let words : rows * wide ≡ end_from size 0 arities * words_for size
       = ap (λ r. r * wide) same ∙ ap (λ w. end_from size 0 arities * w) h.width
       in (omega (arith, words, (words_small layout h.layout).1), words)
 
-  module _ (pred : ℕ) (place : Place) (lp : pred < length arities) (is : place ≡ get_or places pred place) where
-    single_is : place.single ≡ get_or (starts_from 0 0 arities) pred 0
+  module _ (pred single : ℕ) (lp : pred < length arities) (is : single ≡ get_or singles pred single) where
+    single_is : single ≡ get_or (starts_from 0 0 arities) pred 0
     single_is =
-        start_read places (starts_from 0 0 arities) pred place h.singles (omega (arith, lp, length-map places (λ (p : Place). p.arity))) is
+        get_or_read singles pred single (omega (arith, lp, singles_many)) is 0 ∙ ap (λ xs. get_or xs pred 0) h.singles
 
-    pub single_before : place.single ≤ pred
+    pub single_before : single ≤ pred
     single_before = omega (arith, single_is, (start_counted size arities pred lp).0)
 
     pub start_placed : (row rows : ℕ) → row < row_count size (get_or arities pred 0)
-        → rows ≡ place.single + (pred - place.single) * size
+        → rows ≡ single + (pred - single) * size
         → (rows + row < 2 ^ 64) × ((rows + row) * wide < 2 ^ 64) × ((rows + row) * wide ≡ row_place layout pred row * words_for size)
     start_placed row rows lr counted =
         let first : rows ≡ get_or (starts_from size 0 arities) pred 0
@@ -113,25 +110,19 @@ module _ (size wide : ℕ) (places : List Place) (all : ℕ)
         = ap (λ r. (r + row) * wide) first ∙ ap (λ w. row_place layout pred row * w) h.width
         in (omega (arith, first, small.0), omega (arith, words, small.1), words)
 
--- ---- equal places
+-- ---- equal arities
 
 both : (x y : Bool) → IsTrue (x && y) → IsTrue x × IsTrue y
 both true true e = (refl, refl)
 both true false e = absurd cc
 both false y e = absurd cc
 
-abbrev same_place : Place → Place → Bool
-same_place a b = nat_eq a.arity b.arity && nat_eq a.single b.single
-
-pub same_places : (xs ys : List Place) → IsTrue (pointwise same_place xs ys) → xs ≡ ys
-same_places [] [] e = refl
-same_places [] (y ∷ ys) e = absurd cc
-same_places (x ∷ xs) [] e = absurd cc
-same_places (x ∷ xs) (y ∷ ys) e =
-    let h : IsTrue (same_place x y) × IsTrue (pointwise same_place xs ys) = both (same_place x y) (pointwise same_place xs ys) e
-    in let k : IsTrue (nat_eq x.arity y.arity) × IsTrue (nat_eq x.single y.single)
-    = both (nat_eq x.arity y.arity) (nat_eq x.single y.single) h.0
-    in let arity : x.arity ≡ y.arity = eqb-true x.arity y.arity k.0
-    in let single : x.single ≡ y.single = eqb-true x.single y.single k.1
-    in let rest : xs ≡ ys = same_places xs ys h.1
-    in λ i. record { arity = arity i; single = single i } ∷ rest i
+pub same_arities : (xs ys : List ℕ) → IsTrue (pointwise nat_eq xs ys) → xs ≡ ys
+same_arities [] [] e = refl
+same_arities [] (y ∷ ys) e = absurd cc
+same_arities (x ∷ xs) [] e = absurd cc
+same_arities (x ∷ xs) (y ∷ ys) e =
+    let h : IsTrue (nat_eq x y) × IsTrue (pointwise nat_eq xs ys) = both (nat_eq x y) (pointwise nat_eq xs ys) e
+    in let first : x ≡ y = eqb-true x y h.0
+    in let rest : xs ≡ ys = same_arities xs ys h.1
+    in λ i. first i ∷ rest i

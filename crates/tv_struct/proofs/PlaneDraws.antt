@@ -1,11 +1,11 @@
 -- Tables drawn from others, plane by plane and row by row.
-use Rattle.std.proofs.Common.{ℕ, ◌≡◌, ◌<◌, ◌≤◌, ◌+◌, ◌==◌, Bool, true, false, if◌then◌else◌, List, [], ◌∷◌, ◌++◌, length, map, get_or, set, take, drop, Some, refl, sym, ap, ◌∙◌, zero, suc, arith}
-use Rattle.std.proofs.lemmas.List.{length-map, get_or-map, get_or-set_same, set-set}
+use Rattle.std.proofs.Common.{ℕ, ◌≡◌, ◌<◌, ◌≤◌, ◌≢◌, ◌+◌, ◌==◌, Bool, true, false, if◌then◌else◌, List, [], ◌∷◌, ◌++◌, length, map, get_or, set, take, drop, replicate, ne_eqb, Some, refl, sym, ap, ◌∙◌, zero, suc, arith}
+use Rattle.std.proofs.lemmas.List.{length-map, get_or-map, get_or-set_same, get_or_past, set-set}
 use Rattle.std.specs.Prelude.{slice_get}
 use Rattle.std.proofs.lemmas.Option.{get_or_from_slice_get}
 use Rattle.tv_kleene.specs.declared.K3.{K3}
 use Rattle.tv_kleene.specs.declared.K3.TheVariants.{No}
-use Rattle.tv_struct.specs.TableForm.{PlaneForm, TableForm, IsTable, no_plane, plane_at, row_in, row_count, plane_of_no, table_with_row, plane_drawn, arities_in, selected}
+use Rattle.tv_struct.specs.TableForm.{PlaneForm, TableForm, IsTable, no_plane, plane_at, row_in, row_count, column_count, plane_of_no, table_with_row, plane_drawn, arities_in, selected}
 use Rattle.tv_struct.proofs.RowLaws.{overwritten_more, overwritten_all}
 
 -- the table in which the first i rows of a predicate are these
@@ -42,6 +42,13 @@ row_origins arity origins = if arity == 2 then origins else 0 ∷ []
 
 abbrev pub column_origins : (arity : ℕ) → List ℕ → List ℕ
 column_origins arity origins = if arity == 0 then 0 ∷ [] else origins
+
+pub column_origins-count : (arity : ℕ) (origins : List ℕ) → length (column_origins arity origins) ≡ column_count (length origins) arity
+column_origins-count arity origins = at (arity == 0)
+  where
+    at : (b : Bool) → length (if b then 0 ∷ [] else origins) ≡ (if b then 1 else length origins)
+    at true = refl
+    at false = refl
 
 pub row_origins-count : (arity : ℕ) (origins : List ℕ) → length (row_origins arity origins) ≡ row_count (length origins) arity
 row_origins-count arity origins = at (arity == 2)
@@ -147,3 +154,35 @@ drawn_plane old source origins rows columns pred i is lp size arity from past =
     = length-map (row_origins source.arity origins) (λ row. selected No (get_or source.rows row []) (column_origins source.arity origins))
     in drawn_end old pred i (plane_drawn origins source) arity (omega (arith, many, ap length from.rows_are))
     (omega (arith, many, ap length from.rows_are, rows_many old source origins pred is lp size arity))
+
+-- ---- what stands for a row that is drawn
+
+-- a row that isn't there is drawn as No
+pub none_selected : (origins : List ℕ) → selected No [] origins ≡ replicate (length origins) No
+none_selected [] = refl
+none_selected (origin ∷ origins) = ap (λ (row : List K3). No ∷ row) (none_selected origins)
+
+pub no_row : (plane : PlaneForm) (origins : List ℕ) (from n : ℕ) → length plane.rows ≤ from → n ≡ column_count (length origins) plane.arity
+    → replicate n No ≡ selected No (row_in plane from) (column_origins plane.arity origins)
+no_row plane origins from n past count =
+    ap (λ m. replicate m No) (count ∙ sym (column_origins-count plane.arity origins)) ∙ sym (none_selected (column_origins plane.arity origins))
+    ∙ ap (λ (row : List K3). selected No row (column_origins plane.arity origins)) (sym (get_or_past plane.rows from [] past))
+
+-- the one value of a nullary predicate is drawn as it is
+set_one : (row : List K3) (k : K3) → length row ≡ 1 → set row 0 k ≡ k ∷ []
+set_one [] k e = absurd (omega arith)
+set_one (x ∷ []) k e = refl
+set_one (x ∷ y ∷ row) k e = absurd (omega arith)
+
+pub one_value : (row source : List K3) (arity : ℕ) (origins : List ℕ) → arity ≡ 0 → length row ≡ 1
+    → set row 0 (get_or source 0 No) ≡ selected No source (column_origins arity origins)
+one_value row source arity origins e long =
+    set_one row (get_or source 0 No) long ∙ sym (ap (λ n. selected No source (column_origins n origins)) e)
+
+pub with_arguments : (source : List K3) (arity : ℕ) (origins : List ℕ) → arity ≢ 0
+    → selected No source origins ≡ selected No source (column_origins arity origins)
+with_arguments source arity origins ne =
+    sym (ap (λ b. selected No source (if b then 0 ∷ [] else origins)) (ne_eqb arity 0 ne))
+
+pub columns_as_many : (size arity : ℕ) → arity ≢ 0 → size ≡ column_count size arity
+columns_as_many size arity ne = sym (ap (λ b. if b then 1 else size) (ne_eqb arity 0 ne))

@@ -7,13 +7,12 @@ ghost use Rattle.tv_kleene.specs.declared.K3.TheVariants.{No, Half};
 ghost use Rattle.tv_struct.specs.StructureRows.{flag_value};
 ghost use Rattle.tv_struct.specs.TableForm.{selected};
 
-use crate::drawn::row_selected;
 use std::cmp::Ordering;
 use std::marker::Model;
 use tv_kleene::K3;
-use tv_row::Row;
+use tv_row::{Drawing, Row};
 
-/// A flag for each of up to 256 individuals: true where the row isn't `No`.
+/// A flag for each of up to 256 individuals: `Half` in the row where it is true, else `No`.
 #[derive(Debug, Drop)]
 pub struct Flags {
     row: Row,
@@ -26,6 +25,11 @@ impl Model for Flags {
     ghost Value = { List Bool };
 
     ghost view = { λ f. flags_of f.row };
+
+    ghost use Rattle.std.specs.Prelude.{◌≡◌, map};
+    ghost use Rattle.tv_struct.specs.StructureRows.{flag_value};
+
+    ghost invariant = { λ f. f.row ≡ map flag_value (flags_of f.row) };
 }
 
 /// `Half` for a true flag, else `No`.
@@ -69,13 +73,13 @@ impl Flags {
         self.row.set(u, value_of(on));
     }
 
-    /// The flags at the given places, in their order, and false for a place past the end.
-    pub fn selected(&self, places: &[u32]) -> Flags
-        requires { length places.now ≤ 256 }
-        ensures { result ≡ selected false self.now places.now }
+    /// The flags at the origins, in their order, and false for an origin past the end.
+    pub fn drawn(&self, drawing: &Drawing) -> Flags
+        requires { drawing.now.columns ≡ length self.now }
+        ensures { result ≡ selected false self.now drawing.now.origins }
     {
         Flags {
-            row: row_selected(&self.row, places),
+            row: self.row.drawn(drawing),
         }
     }
 
@@ -83,7 +87,7 @@ impl Flags {
     pub fn as_row(&self) -> Row
         ensures { result ≡ map flag_value self.now }
     {
-        self.row.capped(K3::Half)
+        self.row
     }
 
     /// Compares flag by flag, with false < true.
@@ -91,6 +95,6 @@ impl Flags {
         requires { length self.now ≡ length other.now }
         ensures { result ≡ slice_cmp bool_cmp self.now other.now }
     {
-        self.as_row().compare(&other.as_row())
+        self.row.compare(&other.row)
     }
 }

@@ -9,18 +9,12 @@ use std::marker::Model;
 use std::rc::Rc;
 use tv_model::Pred;
 
-/// A predicate's arity, and how many of the predicates before it have one row alone.
-#[derive(Clone, Copy, Debug, PartialEq, Eq)]
-pub struct Place {
-    arity: u8,
-    single: usize,
-}
-
-/// The place of each predicate, and how many predicates have one row alone: what doesn't depend on the
-/// number of individuals.
+/// The arity of each predicate, how many of the predicates before it have one row alone, and how many of all have: what
+/// doesn't depend on the number of individuals.
 #[derive(Debug, Drop)]
 pub struct Places {
-    items: Vec<Place>,
+    arities: Vec<u8>,
+    singles: Vec<usize>,
     single: usize,
 }
 
@@ -34,14 +28,13 @@ pub struct Layout {
 }
 
 impl Model for Layout {
-    ghost use Rattle.std.specs.Prelude.{map};
     ghost use Rattle.tv_struct.specs.LayoutForm.{LayoutForm, IsLaid};
 
     ghost Value = { LayoutForm };
 
-    ghost view = { λ l. record { size = l.size; arities = map (λ place. place.arity) l.places.value.items.items } };
+    ghost view = { λ l. record { size = l.size; arities = l.places.value.arities.items } };
 
-    ghost invariant = { λ l. IsLaid (record { size = l.size; arities = map (λ place. place.arity) l.places.value.items.items }) l.width (map (λ place. place.single) l.places.value.items.items) l.places.value.single };
+    ghost invariant = { λ l. IsLaid (record { size = l.size; arities = l.places.value.arities.items }) l.width l.places.value.singles.items l.places.value.single };
 }
 
 /// The number of rows of a predicate of that arity over `size` individuals.
@@ -61,21 +54,24 @@ pub fn column_count(size: u32, arity: u8) -> u32
 /// The place of each predicate, and how many have one row alone.
 fn laid(alloc: Global, preds: &[Pred]) -> Result<Places, AllocError>
     requires { length preds.now ≤ 4294967295 }
-    ensures arities { IfOk result (λ places. map (λ place. place.arity) places.items.items ≡ map (λ pred. pred.arity) preds.now) }
+    ensures arities { IfOk result (λ places. places.arities.items ≡ map (λ pred. pred.arity) preds.now) }
     ensures singles { IfOk result
-        (λ places. map (λ place. place.single) places.items.items ≡ starts_from 0 0 (map (λ pred. pred.arity) preds.now)) }
+        (λ places. places.singles.items ≡ starts_from 0 0 (map (λ pred. pred.arity) preds.now)) }
     ensures total { IfOk result (λ places. places.single ≡ end_from 0 0 (map (λ pred. pred.arity) preds.now)) }
 {
-    let mut items = Vec::with_capacity(alloc, preds.len())?;
+    let mut arities = Vec::with_capacity(alloc, preds.len())?;
+    let mut singles = Vec::with_capacity(alloc, preds.len())?;
     let mut single = 0;
     for pred in preds {
-        items.push(Place {
-            arity: pred.arity,
-            single,
-        })?;
+        arities.push(pred.arity)?;
+        singles.push(single)?;
         single += row_count(0, pred.arity) as usize;
     }
-    Ok(Places { items, single })
+    Ok(Places {
+        arities,
+        singles,
+        single,
+    })
 }
 
 /// The number of rows of that many predicates, so many of which have one row alone, and each of the
@@ -128,7 +124,7 @@ impl Layout {
     pub fn agrees(&self, other: &Layout) -> bool
         ensures { IsTrue result → self.now ≡ other.now }
     {
-        self.size == other.size && self.places.items == other.places.items
+        self.size == other.size && self.places.arities == other.places.arities
     }
 
     /// The number of individuals.
@@ -143,7 +139,7 @@ impl Layout {
     pub fn pred_count(&self) -> u32
         ensures { result ≡ length self.now.arities }
     {
-        self.places.items.len() as u32
+        self.places.arities.len() as u32
     }
 
     /// The arity of a predicate.
@@ -151,7 +147,7 @@ impl Layout {
         requires { pred < length self.now.arities }
         ensures { result ≡ slice_index self.now.arities pred }
     {
-        self.places.items[pred].arity
+        self.places.arities[pred]
     }
 
     /// The number of words of a row.
@@ -165,7 +161,7 @@ impl Layout {
     pub fn word_count(&self) -> usize
         ensures { result ≡ end_from self.now.size 0 self.now.arities * words_for self.now.size }
     {
-        rows_of(self.places.single, self.places.items.len(), self.size) * self.width
+        rows_of(self.places.single, self.places.arities.len(), self.size) * self.width
     }
 
     /// The first word of a predicate's row.
@@ -174,6 +170,6 @@ impl Layout {
         requires row { row < row_count self.now.size (slice_index self.now.arities pred) }
         ensures { result ≡ row_place self.now pred row * words_for self.now.size }
     {
-        (rows_of(self.places.items[pred].single, pred, self.size) + row) * self.width
+        (rows_of(self.places.singles[pred], pred, self.size) + row) * self.width
     }
 }

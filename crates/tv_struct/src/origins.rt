@@ -13,7 +13,7 @@ pub fn all_and_next(alloc: Global, size: u32) -> Result<Vec<u32>, AllocError>
     ensures items { IfOk result (λ origins. origins.items ≡ range_with_len 0 (size + 1)) }
     ensures count { IfOk result (λ origins. length origins.items ≡ size + 1) }
 {
-    let mut origins = Vec::new(alloc);
+    let mut origins = Vec::with_capacity(alloc, size as usize + 1)?;
     for u in 0..size + 1 {
         origins.push(u)?;
     }
@@ -27,7 +27,7 @@ pub fn kept(alloc: Global, keep: &[bool]) -> Result<Vec<u32>, AllocError>
     ensures items { IfOk result (λ origins. origins.items ≡ kept_from 0 keep.now) }
     ensures count { IfOk result (λ origins. length origins.items ≤ length keep.now) }
 {
-    let mut origins = Vec::new(alloc);
+    let mut origins = Vec::with_capacity(alloc, keep.len())?;
     for (u, is_kept) in keep.iter().enumerate() {
         push_if(&mut origins, u as u32, *is_kept)?;
     }
@@ -50,7 +50,7 @@ pub fn copies(alloc: Global, parts: &[u32]) -> Result<Vec<u32>, AllocError>
     ensures items { IfOk result (λ origins. origins.items ≡ copies_from 0 parts.now) }
     ensures count { IfOk result (λ origins. length origins.items ≡ sum parts.now) }
 {
-    let mut origins = Vec::new(alloc);
+    let mut origins = Vec::with_capacity(alloc, parts.len() + 1)?;
     for (u, part) in parts.iter().enumerate() {
         push_copies(&mut origins, u as u32, *part)?;
     }

@@ -1,6 +1,6 @@
 //! A table in planes of bits: one list of words for the values of all predicates.
 
-ghost use Rattle.std.specs.Prelude.{◌≡◌, ◌<◌, ◌≤◌, ◌+◌, ℕ, [], ◌∷◌, length, map, fold, All, IfOk, Some, slice_get, slice_index, slice_index_or};
+ghost use Rattle.std.specs.Prelude.{◌≡◌, ◌<◌, ◌≤◌, ◌+◌, ℕ, [], ◌∷◌, length, map, fold, All, IfOk, Some, slice_get, slice_index, slice_index_or, slice_set};
 ghost use Rattle.tv_struct.specs.LayoutForm.{IsLayout};
 ghost use Rattle.tv_struct.specs.TableForm.{TableForm, IsPlane, IsTable, HasEntry, entry, with_entry, table_of_no, table_drawn, table_with_row, table_with_rows, with_lines, plane_at, plane_drawn, row_in, column_in, row_of, column_of, arities_in, row_count, column_count, selected};
 ghost use Rattle.tv_kleene.specs.declared.K3.TheVariants.{No};
@@ -16,7 +16,7 @@ use std::cmp::Ordering;
 use std::marker::Model;
 use tv_kleene::K3;
 use tv_model::{Pred, PredId};
-use tv_row::{Row, Words};
+use tv_row::{Drawing, Row, Words};
 
 /// A table whose values stand in one list of words: one row for a predicate of arity 0 or 1, and a row
 /// for each individual for a binary one.
@@ -97,7 +97,7 @@ impl Planes {
     }
 
     /// The value in a row and a column of the predicate `p`.
-    fn cell(&self, p: PredId, row: u32, column: u32) -> K3
+    pub fn cell(&self, p: PredId, row: u32, column: u32) -> K3
         requires predicate { p.0 < length self.now.planes }
         requires row { row < length (plane_at self.now p.0).rows }
         requires column { column < length (row_in (plane_at self.now p.0) row) }
@@ -143,6 +143,34 @@ impl Planes {
     {
         let start = self.layout.start(p.0 as usize, row as usize);
         self.words.put_row(start, values);
+    }
+
+    /// Puts `k` into a row and a column of the predicate `p`, and changes nothing else.
+    pub fn put_cell(&mut self, p: PredId, row: u32, column: u32, k: K3)
+        requires predicate { p.0 < length self.old.planes }
+        requires row { row < length (plane_at self.old p.0).rows }
+        requires column { column < length (row_in (plane_at self.old p.0) row) }
+        ensures value { self.new ≡ table_with_row self.old p.0 row (slice_set (row_in (plane_at self.old p.0) row) column k) }
+        ensures kept { IsTable self.new }
+    {
+        let start = self.layout.start(p.0 as usize, row as usize);
+        self.words.put(start, column as usize, k);
+    }
+
+    /// Draws a row of the predicate `p` from a row that it has in another table, in words, and changes nothing else.
+    pub fn draw_words(&mut self, p: PredId, row: u32, source: &Planes, from: u32, drawing: &Drawing)
+        requires predicate { p.0 < length self.old.planes }
+        requires row { row < length (plane_at self.old p.0).rows }
+        requires source { p.0 < length source.now.planes }
+        requires from { from < length (plane_at source.now p.0).rows }
+        requires size { length drawing.now.origins ≡ column_count self.old.size (plane_at self.old p.0).arity }
+        requires columns { drawing.now.columns ≡ column_count source.now.size (plane_at source.now p.0).arity }
+        ensures value { self.new ≡ table_with_row self.old p.0 row (selected No (row_in (plane_at source.now p.0) from) drawing.now.origins) }
+        ensures kept { IsTable self.new }
+    {
+        let at = self.layout.start(p.0 as usize, row as usize);
+        let start = source.layout.start(p.0 as usize, from as usize);
+        self.words.draw(at, &source.words, start, drawing);
     }
 
     /// Puts the rows into the predicate `p`, which has as many of the same length, and changes nothing else.
@@ -218,8 +246,6 @@ impl Table for Planes {
     fn set(&mut self, p: PredId, t: Tuple, k: K3) {
         let _ = self.size();
         let (row, column) = place(t);
-        let mut values = self.row(p, row);
-        values.set(column, k);
-        self.put_row(p, row, &values);
+        self.put_cell(p, row, column, k);
     }
 }

@@ -20,7 +20,7 @@ use std::cmp::Ordering;
 use std::marker::Model;
 use tv_kleene::K3;
 use tv_model::{Items, PredId, Vocab};
-use tv_row::Row;
+use tv_row::{Drawing, Row};
 
 /// A three-valued logical structure (Sagiv, Reps and Wilhelm 2002, section 4) over the individuals 0
 /// to `size - 1`: the value of each predicate at each tuple, and which individuals are summaries,
@@ -248,7 +248,7 @@ impl Structure {
     {
         let size = self.size();
         let origins = origins::all_and_next(alloc, size)?;
-        self.drawn(alloc, &origins, Some(size))
+        self.drawn(alloc, origins, Some(size))
     }
 
     /// The individuals whose flag is true, in order, with their values, none of them marked as fresh.
@@ -260,7 +260,7 @@ impl Structure {
     {
         let _ = self.size();
         let kept = origins::kept(alloc, keep)?;
-        self.drawn(alloc, &kept, None)
+        self.drawn(alloc, kept, None)
     }
 
     /// Each individual `u` as `parts[u]` copies beside each other, and every value that of the
@@ -277,26 +277,27 @@ impl Structure {
         let _ = self.size();
         let origins = origins::copies(alloc, parts)?;
         match self.fresh {
-            None => self.drawn(alloc, &origins, None),
-            Some(u) => self.drawn(alloc, &origins, Some(origins::total(&parts[..u as usize]))),
+            None => self.drawn(alloc, origins, None),
+            Some(u) => self.drawn(alloc, origins, Some(origins::total(&parts[..u as usize]))),
         }
     }
 
     fn drawn(
         &self,
         alloc: Global,
-        origins: &[u32],
+        origins: Vec<u32>,
         fresh: Option<u32>,
     ) -> Result<Structure, AllocError>
-        requires size { length origins.now ≤ 256 }
-        requires mark { IsMark (drawn origins.now fresh self.now) fresh }
-        ensures value { IfOk result (λ s. s ≡ drawn origins.now fresh self.now) }
+        requires size { length origins.items ≤ 256 }
+        requires mark { IsMark (drawn origins.items fresh self.now) fresh }
+        ensures value { IfOk result (λ s. s ≡ drawn origins.items fresh self.now) }
         ensures over { IfOk result (λ s. arities_of s ≡ arities_of self.now) }
         ensures kept { IfOk result IsStructure }
     {
+        let drawing = Drawing::new(alloc, origins, self.size())?;
         Ok(Structure {
-            table: self.table.drawn(alloc, origins)?,
-            summaries: self.summaries.selected(origins),
+            table: self.table.drawn(alloc, &drawing)?,
+            summaries: self.summaries.drawn(&drawing),
             fresh,
         })
     }

@@ -1,10 +1,9 @@
-use Rattle.std.proofs.Common.{ℕ, ◌≡◌, ◌<◌, ◌≤◌, ◌+◌, ◌*◌, ◌∙◌, List, length, map, take, get_or, ap, sym, arith}
+use Rattle.std.proofs.Common.{ℕ, ◌≡◌, ◌<◌, ◌≤◌, ◌+◌, ◌*◌, ◌∙◌, List, [], ◌∷◌, ◌++◌, length, map, take, get_or, ap, sym, arith}
 use Rattle.std.proofs.lemmas.List.{length-map, get_or-map, get_or_read, take_more}
 use Rattle.tv_model.specs.declared.program.Pred.{Pred}
 use Rattle.tv_struct.specs.LayoutForm.{starts_from, end_from}
 use Rattle.tv_struct.specs.TableForm.{row_count}
-use Rattle.tv_struct.specs.declared.layout.Place.{Place}
-use Rattle.tv_struct.proofs.HeldLaws.{end_fits, end_more, starts_more, placed_more}
+use Rattle.tv_struct.proofs.HeldLaws.{end_fits, end_more, starts_more}
 use Rattle.tv_struct.proofs.layout.laid.Goals as goal
 
 -- the arity of a predicate that is read is that of its place
@@ -34,14 +33,10 @@ loop-pred-preserved c =
     (get_or_read c.args.preds.now c.loop-pred.pred-index c.pred-item.result c.loop-pred-test.true c.pred-item.is c.pred-item.result)
     in let rows : c.row_count.result ≡ row_count 0 (get_or arities c.loop-pred.pred-index 0) = c.row_count.ensures ∙ ap (row_count 0) arity
     in record {
-      arities = rw c.in_ok-push.ensures.items
-          (placed_more (λ (place : Place). place.arity) c.loop-pred.items.items _ (take c.loop-pred.pred-index arities)
-          (get_or arities c.loop-pred.pred-index 0) c.loop-pred.invariant.arities arity
-          ∙ sym (take_more arities c.loop-pred.pred-index 0 lt));
-      singles = rw c.in_ok-push.ensures.items
-          (placed_more (λ (place : Place). place.single) c.loop-pred.items.items _
-          (starts_from 0 0 (take c.loop-pred.pred-index arities)) (end_from 0 0 (take c.loop-pred.pred-index arities))
-          c.loop-pred.invariant.singles c.loop-pred.invariant.next
-          ∙ sym (starts_more 0 arities c.loop-pred.pred-index 0 lt));
+      arities = c.in_ok-push.ensures.items ∙ ap (λ (ns : List ℕ). ns ++ c.pred-item.result.arity ∷ []) c.loop-pred.invariant.arities
+          ∙ ap (λ n. take c.loop-pred.pred-index arities ++ n ∷ []) arity ∙ sym (take_more arities c.loop-pred.pred-index 0 lt);
+      singles = c.in_ok-push-2.ensures.items ∙ ap (λ (ns : List ℕ). ns ++ c.loop-pred.single ∷ []) c.loop-pred.invariant.singles
+          ∙ ap (λ n. starts_from 0 0 (take c.loop-pred.pred-index arities) ++ n ∷ []) c.loop-pred.invariant.next
+          ∙ sym (starts_more 0 arities c.loop-pred.pred-index 0 lt);
       next = omega (arith, c.loop-pred.invariant.next, rows, end_more 0 arities c.loop-pred.pred-index 0 lt);
     }

@@ -4,7 +4,7 @@ use Rattle.tv_struct.proofs.layout.laid.Given as goal
 
 abbrev pub invariant-loop-pred : goal.invariant-loop-pred
 invariant-loop-pred l = record {
-  arities : map (λ place. place.arity) l.items.items ≡ take l.pred-index (map (λ pred. pred.arity) l.preds);
-  singles : map (λ place. place.single) l.items.items ≡ starts_from 0 0 (take l.pred-index (map (λ pred. pred.arity) l.preds));
+  arities : l.arities.items ≡ take l.pred-index (map (λ pred. pred.arity) l.preds);
+  singles : l.singles.items ≡ starts_from 0 0 (take l.pred-index (map (λ pred. pred.arity) l.preds));
   next : l.single ≡ end_from 0 0 (take l.pred-index (map (λ pred. pred.arity) l.preds));
 }

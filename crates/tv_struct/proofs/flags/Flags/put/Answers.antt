@@ -1,7 +1,12 @@
-use Rattle.std.proofs.Common.{◌∙◌, Bool, List, ap, set}
+use Rattle.std.proofs.Common.{◌∙◌, Bool, List, ap, set, subst, sym}
 use Rattle.tv_struct.specs.StructureRows.{flags_of}
-use Rattle.tv_struct.proofs.FlagLaws.{flags_put}
+use Rattle.tv_struct.proofs.FlagLaws.{IsFlagRow, IsFlagRow-put, flags_put}
 use Rattle.tv_struct.proofs.flags.Flags.put.Goals as goal
+
+pub invariant_of-self : goal.invariant_of-self
+invariant_of-self c =
+    subst IsFlagRow (sym (c.set.ensures ∙ ap (λ k. set c.self.inside.row c.args.u k) c.value_of.ensures))
+    (IsFlagRow-put c.self.inside.row c.args.u c.args.on c.self.invariant)
 
 pub returns : goal.returns
 returns c =

@@ -5,6 +5,6 @@ use Rattle.tv_struct.proofs.planes.Planes.draw_plane.Given as goal
 
 abbrev pub invariant-loop-row : goal.invariant-loop-row
 invariant-loop-row l = record {
-  so_far : l.self ≡ drawn_so_far l.initial.self l.p.0 l.row (plane_drawn l.origins (plane_at l.source l.p.0)).rows;
+  so_far : l.self ≡ drawn_so_far l.initial.self l.p.0 l.row (plane_drawn l.drawing.origins (plane_at l.source l.p.0)).rows;
   kept : IsTable l.self;
 }

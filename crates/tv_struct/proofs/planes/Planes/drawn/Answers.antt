@@ -9,7 +9,7 @@ draw_plane-requires-clause-arity c =
     let lt : c.loop-pred.pred < length c.args.self.now.planes
     = omega (arith, c.loop-pred-test.true, c.pred_count-pred-end.ensures, length-map c.args.self.now.planes (λ (p : PlaneForm). p.arity))
     in ap (λ (t : TableForm). (plane_at t c.loop-pred.pred).arity) c.loop-pred.invariant.so_far
-    ∙ planes_arity c.args.self.now c.args.origins.now c.loop-pred.pred lt
+    ∙ planes_arity c.args.self.now c.args.drawing.now.origins c.loop-pred.pred lt
 
 pub loop-pred-preserved : goal.loop-pred-preserved
 loop-pred-preserved c =
@@ -17,9 +17,9 @@ loop-pred-preserved c =
     = omega (arith, c.loop-pred-test.true, c.pred_count-pred-end.ensures, length-map c.args.self.now.planes (λ (p : PlaneForm). p.arity))
     in record {
       so_far = c.draw_plane.ensures.value
-          ∙ ap (λ (t : TableForm). record t { planes = set t.planes c.loop-pred.pred (plane_drawn c.args.origins.now (plane_at c.args.self.now c.loop-pred.pred)) })
+          ∙ ap (λ (t : TableForm). record t { planes = set t.planes c.loop-pred.pred (plane_drawn c.args.drawing.now.origins (plane_at c.args.self.now c.loop-pred.pred)) })
           c.loop-pred.invariant.so_far
-          ∙ ap (λ (planes : List PlaneForm). record { size = length c.args.origins.now; planes = planes })
-          (planes_step c.args.self.now c.args.origins.now c.loop-pred.pred lt);
+          ∙ ap (λ (planes : List PlaneForm). record { size = length c.args.drawing.now.origins; planes = planes })
+          (planes_step c.args.self.now c.args.drawing.now.origins c.loop-pred.pred lt);
       kept = c.draw_plane.ensures.kept;
     }

@@ -7,4 +7,4 @@ pub returns-clause-over : goal.returns-clause-over
 returns-clause-over c =
     rw (← c.self.view_is)
     (ap (λ (t : TableForm). arities_in t.planes) c.in_ok-drawn.ensures.value
-    ∙ arities_in-drawn c.args.origins.now c.self.inside.table.planes)
+    ∙ arities_in-drawn c.in_ok-drawing.drawing.origins c.self.inside.table.planes)

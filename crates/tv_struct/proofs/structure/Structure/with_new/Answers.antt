@@ -5,8 +5,8 @@ use Rattle.tv_struct.proofs.structure.Structure.with_new.Goals as goal
 
 pub drawn-requires-clause-mark : goal.drawn-requires-clause-mark
 drawn-requires-clause-mark c =
-    IsMark-drawn c.deref.result.now c.args.self.now c.size-size.result c.size-size.result
-    (omega (arith, c.deref.ensures.len, c.in_ok-origins.ensures.count))
-    (rw (c.deref.ensures.value, c.in_ok-origins.ensures.items)
+    IsMark-drawn c.in_ok-origins.origins.items c.args.self.now c.size-size.result c.size-size.result
+    (omega (arith, c.in_ok-origins.ensures.count))
+    (rw c.in_ok-origins.ensures.items
     (get_or-range_with_len 0 (c.size-size.result + 1) c.size-size.result 0 (omega arith) ∙ omega arith))
     (summary_at-past c.args.self.now c.size-size.result c.size-size.ensures.kept (omega (arith, c.size-size.ensures.size)))
