@@ -1,5 +1,5 @@
 -- Joins of values, one value after the other.
-use Rattle.std.proofs.Common.{ℕ, ◌≡◌, ◌⊎◌, ◌<◌, ◌≤◌, ◌+◌, inl, inr, List, [], ◌∷◌, get_or, length, refl, sym, subst, ◌∙◌, arith}
+use Rattle.std.proofs.Common.{ℕ, ◌≡◌, ◌⊎◌, ◌<◌, ◌≤◌, ◌+◌, inl, inr, List, [], ◌∷◌, get_or, length, refl, sym, subst, ◌∙◌, arith, add-one}
 use Rattle.std.specs.Prelude.{Contains}
 use Rattle.std.proofs.lemmas.Bool.{cases_lt}
 use Rattle.std.proofs.lemmas.List.{get_or_default}
@@ -108,3 +108,7 @@ join_joins values joins members k each join = record {
 
 pub join_is : (v k : K3) → k ≡ v → IsJoin (λ j. v ≡ j) k
 join_is v k e = let P : K3 → Type 0 = λ x. IsJoin (λ j. v ≡ j) x in subst P (sym e) (join_own v)
+
+-- what stands behind the first
+pub behind : (first : ℕ) (others : List ℕ) (i : ℕ) → get_or (first ∷ others) (i + 1) 0 ≡ get_or others i 0
+behind first others i = rw add-one

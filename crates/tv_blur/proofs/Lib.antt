@@ -7,6 +7,7 @@ pub mod JoinLaws
 pub mod RowLaws
 pub mod MaskLaws
 pub mod NameRows
+pub mod Rises
 pub mod Gathered
 pub mod FillLaws
 pub mod Assembly

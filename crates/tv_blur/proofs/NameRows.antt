@@ -175,7 +175,7 @@ then_assoc Less b c = refl
 then_assoc Equal b c = refl
 then_assoc Greater b c = refl
 
-cmp_append : (xs ys more others : List K3) → length xs ≡ length ys
+pub cmp_append : (xs ys more others : List K3) → length xs ≡ length ys
     → name_cmp (xs ++ more) (ys ++ others) ≡ ordering_then (name_cmp xs ys) (name_cmp more others)
 cmp_append [] [] more others e = refl
 cmp_append [] (y ∷ ys) more others e = absurd (omega arith)

@@ -1,10 +1,11 @@
 -- Rows of joined values, one row or one class after the other.
-use Rattle.std.proofs.Common.{ℕ, ◌≡◌, ◌⊎◌, ◌<◌, ◌≤◌, ◌+◌, inl, inr, List, [], ◌∷◌, get_or, set, length, sym, ap, subst, ◌∙◌, arith}
+use Rattle.std.proofs.Common.{ℕ, refl, ⊎_elim, ◌≡◌, ◌≢◌, ◌⊎◌, ◌<◌, ◌≤◌, ◌+◌, inl, inr, List, [], ◌∷◌, get_or, set, length, sym, ap, subst, ◌∙◌, arith}
+use Rattle.std.specs.Prelude.{Any}
 use Rattle.std.proofs.lemmas.Bool.{cases_lt}
-use Rattle.std.proofs.lemmas.List.{length-set, get_or-set_same, get_or-set_other}
+use Rattle.std.proofs.lemmas.List.{get_or_default, get_or_past, length-set, get_or-set_same, get_or-set_other}
 use Rattle.std.proofs.lemmas.List.FromFn.{length-map-range_with_len, get_or-map-range_with_len}
 use Rattle.tv_kleene.specs.declared.K3.{K3}
-use Rattle.tv_kleene.specs.declared.K3.TheVariants.{No}
+use Rattle.tv_kleene.specs.declared.K3.TheVariants.{No, Half, Yes}
 use Rattle.tv_kleene.specs.Kleene.{join_of}
 use Rattle.tv_row.specs.Bits.{paired}
 use Rattle.tv_row.proofs.WordOps.{length-paired, get_or-paired}
@@ -103,3 +104,23 @@ merged_step row classes n merged next k are within is join = record {
         in let Q : ℕ → Type 0
         = λ y. IsJoin (IsAmongMembers (λ u j. get_or row u No ≡ j) (class_at classes y)) (get_or next y No)
         in subst Q last (subst P (sym (ap (λ r. get_or r n No) is ∙ get_or-set_same merged n k No (omega (arith, are.long)))) join)
+
+-- ---- rows of No
+
+no_possible : (row : List K3) → ¬ Any (λ x. x ≢ No) row → (u : ℕ) → get_or row u No ≡ No
+no_possible row none u = ⊎_elim (λ lt. by_kind lt (get_or row u No) refl) (λ past. get_or_past row u No past) (cases_lt u (length row))
+  where
+    by_kind : u < length row → (k : K3) → get_or row u No ≡ k → get_or row u No ≡ No
+    by_kind lt No e = e
+    by_kind lt Half e = absurd (none (u, Half, lt, get_or_default row u Half No lt ∙ e, λ f. let g : Half ≡ No = f in cc))
+    by_kind lt Yes e = absurd (none (u, Yes, lt, get_or_default row u Yes No lt ∙ e, λ f. let g : Yes ≡ No = f in cc))
+
+-- the join of values that are No
+pub joined-none : (row : List K3) (members : List ℕ) → ¬ Any (λ x. x ≢ No) row → 0 < length members
+    → IsJoin (IsAmongMembers (λ u j. get_or row u No ≡ j) members) No
+joined-none row members none some = record {
+  above = λ j (u, has, is). inl (sym is ∙ no_possible row none u);
+  least = λ l each.
+      let first : ℕ = get_or members 0 0
+      in each No (first, (0, some, get_or_default members 0 first 0 some), no_possible row none first);
+}

@@ -4,3 +4,4 @@ pub mod Laws
 pub mod Merged
 pub mod Names
 pub mod Naming
+pub mod Rising

@@ -1,47 +1,102 @@
 //! Whether a structure is blurred already.
 
-ghost use Rattle.std.specs.Prelude.{◌≡◌, ◌↔◌, ◌<◌, ℕ, IsTrue};
-ghost use Rattle.std.specs.declared.cmp.Ordering.TheVariants.{Less};
-ghost use Rattle.tv_struct.specs.StructureForm.{structure_of};
-ghost use Rattle.tv_blur.specs.Names.{name_cmp};
-ghost use Rattle.tv_blur.specs.Naming.{HoldsNames, name_in, named_by, named_in};
+ghost use Rattle.std.specs.Prelude.{◌≡◌, ◌≢◌, ◌<◌, ◌↔◌, ◌+◌, ◌-◌, ℕ, IsTrue, MatchBool, Some, length, slice_get, slice_index_or};
+ghost use Rattle.std.specs.declared.cmp.Ordering.TheVariants.{Greater};
+ghost use Rattle.std.specs.Ordering.{ordering_then};
+ghost use Rattle.tv_kleene.specs.declared.K3.TheVariants.{No};
+ghost use Rattle.tv_struct.specs.StructureForm.{IsOver, arities_of, structure_of};
+ghost use Rattle.tv_struct.specs.StructureRows.{unary_row};
+ghost use Rattle.tv_blur.specs.Names.{abstraction_preds, is_abstraction};
+ghost use Rattle.tv_blur.specs.Rising.{AddsRises, Falls, order_to_next, values_to_next};
 ghost use Rattle.tv_blur.specs.Blur.{FollowsNames, IsBlurred};
 
-use crate::names::Names;
+use crate::classes::tells_apart;
+use crate::names::compare_value;
 use std::cmp::Ordering;
+use tv_kleene::K3;
+use tv_model::{Pred, PredId, Vocab};
+use tv_row::Row;
+use tv_struct::Structure;
 
-/// Whether the name of the individual `u` is less than that of `w`.
-pub fn is_below(names: &Names, u: u32, w: u32) -> bool
-    requires names { HoldsNames names.now }
-    requires one { u < (named_in names.now).size }
-    requires other { w < (named_in names.now).size }
-    ensures { IsTrue result ↔ (name_cmp (name_in names.now u) (name_in names.now w) ≡ Less) }
+/// Tells how the values of the individual `u` and of the next one compare, unless their names differ already. Whether
+/// the names don't fall.
+fn add_rise(rises: &mut Row, values: &Row, u: u32) -> bool
+    requires room { u < length rises.old }
+    requires individual { u + 1 < length values.now }
+    ensures long { length rises.new ≡ length rises.old }
+    ensures here { MatchBool result
+        (order_to_next rises.new u ≡ ordering_then (order_to_next rises.old u) (values_to_next values.now u))
+        (ordering_then (order_to_next rises.old u) (values_to_next values.now u) ≡ Greater) }
+    ensures others { (w : ℕ) → w ≢ u → slice_index_or rises.new w No ≡ slice_index_or rises.old w No }
 {
-    match names.compare(u, w) {
-        Ordering::Less => true,
-        Ordering::Equal | Ordering::Greater => false,
+    let _ = values.size();
+    match compare_value(values.get(u), values.get(u + 1)) {
+        Ordering::Equal => true,
+        Ordering::Less => {
+            rises.set(u, K3::Yes);
+            true
+        }
+        Ordering::Greater => match rises.get(u) {
+            K3::No => false,
+            _ => true,
+        },
     }
 }
 
-/// Whether the individuals have different names and stand in their order.
-fn are_ascending(names: &Names) -> bool
-    requires { HoldsNames names.now }
-    ensures { IsTrue result → FollowsNames (named_by names.now) (structure_of (named_in names.now))
-        (named_in names.now).size (λ u. u) }
+/// The same of each individual but the last.
+fn add_rises(rises: &mut Row, values: &Row) -> bool
+    requires { length rises.old ≡ length values.now - 1 }
+    ensures { MatchBool result (AddsRises values.now (length rises.old) rises.old rises.new)
+        (Falls values.now rises.old) }
 {
-    for u in 0..names.structure().size().saturating_sub(1) {
-        if !is_below(names, u, u + 1) {
+    for u in 0..rises.size() {
+        if !add_rise(rises, values, u) {
             return false;
         }
     }
     true
 }
 
-/// Whether the structure is known to be its own blur: no individual is marked, and all have different names and stand
-/// in their order.
-pub fn is_blurred(names: &Names) -> bool
-    requires { HoldsNames names.now }
-    ensures { IsTrue result → IsBlurred (named_by names.now) (named_in names.now) }
+/// The same of the values of a predicate, where individuals are told apart by it.
+fn add_pred(rises: &mut Row, s: &Structure, p: u32, pred: &Pred) -> bool
+    requires pred { slice_get (arities_of s.now) p ≡ Some pred.now.arity }
+    requires long { length rises.old ≡ s.now.size - 1 }
+    ensures { MatchBool result
+        (MatchBool (is_abstraction pred.now)
+        (AddsRises (unary_row s.now p) (length rises.old) rises.old rises.new) (rises.new ≡ rises.old))
+        (IsTrue (is_abstraction pred.now) × Falls (unary_row s.now p) rises.old) }
 {
-    names.structure().fresh().is_none() && are_ascending(names)
+    if !tells_apart(pred) {
+        return true;
+    }
+    add_rises(rises, &s.unary_row(PredId(p)))
+}
+
+/// Whether the individuals have different names and stand in their order. Names are compared predicate by predicate,
+/// each at all neighbours.
+fn are_ascending(vocab: &Vocab, s: &Structure) -> bool
+    requires { IsOver vocab.now s.now }
+    ensures { IsTrue result
+        ↔ FollowsNames (abstraction_preds vocab.now) (structure_of s.now) s.now.size (λ u. u) }
+{
+    let _ = s.pred_count();
+    let mut rises = Row::of(s.size().saturating_sub(1), K3::No);
+    for (p, pred) in vocab.preds.as_slice().iter().enumerate() {
+        if !add_pred(&mut rises, s, p as u32, pred) {
+            return false;
+        }
+    }
+    rises.are_possible()
+}
+
+/// Whether the structure is its own blur: no individual is marked, and all have different names and stand in their
+/// order. Takes no memory.
+pub fn is_blurred(vocab: &Vocab, s: &Structure) -> bool
+    requires { IsOver vocab.now s.now }
+    ensures { IsTrue result ↔ IsBlurred (abstraction_preds vocab.now) s.now }
+{
+    match s.fresh() {
+        None => are_ascending(vocab, s),
+        Some(_) => false,
+    }
 }

@@ -1,8 +1,8 @@
 //! Blur: the structure in which individuals of equal name are one.
 
-ghost use Rattle.std.specs.Prelude.{◌≡◌, All, IfOk, Some, slice_get};
+ghost use Rattle.std.specs.Prelude.{◌≡◌, IfOk};
 ghost use Rattle.tv_frame.specs.Embedding.{IsEmbedded};
-ghost use Rattle.tv_struct.specs.StructureForm.{IsOver, IsStructure, arities_of, structure_of};
+ghost use Rattle.tv_struct.specs.StructureForm.{IsOver, IsStructure, structure_of};
 ghost use Rattle.tv_blur.specs.Names.{abstraction_preds};
 ghost use Rattle.tv_blur.specs.Blur.{IsBlur, IsBlurred};
 
@@ -29,21 +29,35 @@ pub fn blur(alloc: Global, vocab: &Vocab, s: &Structure) -> Result<Structure, Al
     ensures again { IsBlurred (abstraction_preds vocab.now) s.now → IfOk result (λ t. t ≡ s.now) }
     ensures kept { IfOk result IsStructure }
 {
-    let _ = s.size();
-    let preds = abstraction_preds(alloc, vocab, s)?;
-    blurred(alloc, &preds, s)
+    into_blurred(alloc, vocab, s.copy(alloc)?)
 }
 
-fn blurred(alloc: Global, preds: &[u32], s: &Structure) -> Result<Structure, AllocError>
-    requires { All (λ p. slice_get (arities_of s.now) p ≡ Some 1) preds.now }
-    ensures exact { IfOk result (IsBlur preds.now s.now) }
+/// The blur of a structure that isn't needed any more: that of `blur`. One that is blurred already is given back as
+/// it is, and takes no memory.
+pub fn into_blurred(alloc: Global, vocab: &Vocab, s: Structure) -> Result<Structure, AllocError>
+    requires { IsOver vocab.now s }
+    ensures exact { IfOk result (IsBlur (abstraction_preds vocab.now) s) }
+    ensures above { IfOk result (λ t. IsEmbedded (structure_of s) (structure_of t)) }
+    ensures blurred { IfOk result (IsBlurred (abstraction_preds vocab.now)) }
+    ensures again { IsBlurred (abstraction_preds vocab.now) s → result ≡ Ok s }
     ensures kept { IfOk result IsStructure }
 {
     let _ = s.size();
-    let names = Names::of(alloc, preds, s)?;
-    if is_blurred(&names) {
-        return s.copy(alloc);
+    if is_blurred(vocab, &s) {
+        return Ok(s);
     }
+    regrouped(alloc, vocab, &s)
+}
+
+/// The structure in which the individuals of each name are one, in the order of names.
+fn regrouped(alloc: Global, vocab: &Vocab, s: &Structure) -> Result<Structure, AllocError>
+    requires { IsOver vocab.now s.now }
+    ensures exact { IfOk result (IsBlur (abstraction_preds vocab.now) s.now) }
+    ensures kept { IfOk result IsStructure }
+{
+    let _ = s.size();
+    let preds = abstraction_preds(alloc, vocab, s)?;
+    let names = Names::of(alloc, &preds, s)?;
     let classes = classes(alloc, &names)?;
     merged(alloc, s, &classes)
 }

@@ -1,6 +1,6 @@
 //! A class: individuals that have one name.
 
-ghost use Rattle.std.specs.Prelude.{◌≡◌, ◌<◌, ℕ, [], ◌∷◌, ◌++◌, length, All, IfOk, OnOk, slice_index, slice_index_or};
+ghost use Rattle.std.specs.Prelude.{◌≡◌, ◌<◌, ℕ, [], ◌∷◌, ◌++◌, length, All, OnOk, nat_lt, slice_index, slice_index_or};
 ghost use Rattle.tv_kleene.specs.declared.K3.TheVariants.{No};
 ghost use Rattle.tv_blur.specs.Classes.{IsAmongMembers};
 ghost use Rattle.tv_blur.specs.Merged.{IsJoin};
@@ -13,36 +13,39 @@ use tv_row::Row;
 /// So many members are joined one by one sooner than by words.
 const FEW: usize = 16;
 
-/// Some individuals, seen by contracts as their list, and kept as bits too, so that values of many of
-/// them are joined word by word.
+/// Some individuals, at least one, seen by contracts as their list, and kept as bits too, so that values of many of
+/// them are joined word by word. One alone takes no memory.
 #[derive(Drop)]
 pub struct Class {
-    members: Vec<u32>,
+    first: u32,
+    others: Vec<u32>,
     mask: Row,
 }
 
 impl Model for Class {
-    ghost use Rattle.std.specs.Prelude.{ℕ, List};
+    ghost use Rattle.std.specs.Prelude.{ℕ, List, ◌∷◌};
     ghost use Rattle.tv_blur.specs.Classes.{IsMask};
 
     ghost Value = { List ℕ };
 
-    ghost view = { λ c. c.members.items };
+    ghost view = { λ c. c.first ∷ c.others.items };
 
-    ghost invariant = { λ c. IsMask c.members.items c.mask };
+    ghost invariant = { λ c. IsMask (c.first ∷ c.others.items) c.mask };
 }
 
 impl Class {
     /// The class of one individual.
-    pub fn of(alloc: Global, u: u32) -> Result<Class, AllocError>
+    pub fn of(alloc: Global, u: u32) -> Class
         requires { u < 256 }
-        ensures { IfOk result (λ class. class ≡ u ∷ []) }
+        ensures { result ≡ u ∷ [] }
     {
-        let mut members = Vec::new(alloc);
-        members.push(u)?;
         let mut mask = Row::of(256, K3::No);
         mask.set(u, K3::Yes);
-        Ok(Class { members, mask })
+        Class {
+            first: u,
+            others: Vec::new(alloc),
+            mask,
+        }
     }
 
     /// Puts one more individual behind the others.
@@ -50,34 +53,39 @@ impl Class {
         requires { u < 256 }
         ensures { OnOk result (self.new ≡ self.old ++ u ∷ []) }
     {
-        self.members.push(u)?;
+        self.others.push(u)?;
         self.mask.set(u, K3::Yes);
         Ok(())
     }
 
-    /// The individuals.
-    pub fn as_slice(&self) -> &[u32]
-        ensures { result.now ≡ self.now }
-    {
-        self.members.as_slice()
-    }
-
     /// The first individual.
     pub fn first(&self) -> u32
-        requires { 0 < length self.now }
         ensures { result ≡ slice_index self.now 0 }
     {
-        self.members[0]
+        self.first
+    }
+
+    /// The individuals behind the first.
+    pub fn others(&self) -> &[u32]
+        ensures { self.now ≡ slice_index self.now 0 ∷ result.now }
+    {
+        self.others.as_slice()
+    }
+
+    /// Whether there are several.
+    pub fn has_several(&self) -> bool
+        ensures { result ≡ nat_lt 1 (length self.now) }
+    {
+        !self.others.is_empty()
     }
 
     /// The join of the row's values at the individuals.
     pub fn joined(&self, row: &Row) -> K3
-        requires some { 0 < length self.now }
-        requires within { All (λ u. u < length row.now) self.now }
+        requires { All (λ u. u < length row.now) self.now }
         ensures { IsJoin (IsAmongMembers (λ u j. slice_index_or row.now u No ≡ j) self.now) result }
     {
-        if self.members.len() <= FEW {
-            return joined_each(row, self.members.as_slice());
+        if self.others.len() < FEW {
+            return joined_each(row, self.first, self.others.as_slice());
         }
         let mask = self.mask.first(row.size());
         let greatest = mask.and(row).greatest();
@@ -86,15 +94,14 @@ impl Class {
     }
 }
 
-/// The join of the row's values at the individuals, one by one.
-fn joined_each(row: &Row, members: &[u32]) -> K3
-    requires some { 0 < length members.now }
-    requires within { All (λ u. u < length row.now) members.now }
-    ensures { IsJoin (IsAmongMembers (λ u j. slice_index_or row.now u No ≡ j) members.now) result }
+/// The join of the row's values at these individuals, one by one.
+fn joined_each(row: &Row, first: u32, others: &[u32]) -> K3
+    requires { All (λ u. u < length row.now) (first ∷ others.now) }
+    ensures { IsJoin (IsAmongMembers (λ u j. slice_index_or row.now u No ≡ j) (first ∷ others.now)) result }
 {
-    let mut k = row.get(members[0]);
-    for i in 1..members.len() {
-        k = k.join(row.get(members[i]));
+    let mut k = row.get(first);
+    for i in 0..others.len() {
+        k = k.join(row.get(others[i]));
     }
     k
 }

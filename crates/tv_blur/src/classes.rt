@@ -1,12 +1,11 @@
 //! The classes of individuals that have one name.
 
-ghost use Rattle.std.specs.Prelude.{◌≡◌, ◌≢◌, ◌<◌, ◌≤◌, ◌+◌, ℕ, [], ◌∷◌, ◌++◌, length, All, IfOk, OnOk, MatchBool, if◌then◌else◌, Some, slice_get};
+ghost use Rattle.std.specs.Prelude.{◌≡◌, ◌≢◌, ◌<◌, ◌≤◌, ◌↔◌, ◌+◌, ℕ, [], ◌∷◌, ◌++◌, length, All, IfOk, IsTrue, OnOk, MatchBool, if◌then◌else◌, Some, slice_get};
 ghost use Rattle.std.specs.declared.cmp.Ordering.TheVariants.{Less, Equal};
 ghost use Rattle.tv_struct.specs.StructureForm.{IsOver, arities_of};
 ghost use Rattle.tv_blur.specs.Names.{abstraction_preds, is_abstraction, name_cmp};
 ghost use Rattle.tv_blur.specs.Naming.{HoldsNames, IsGathered, class_name, name_in, named_in};
 
-use crate::ascending::is_below;
 use crate::class::Class;
 use crate::names::Names;
 use std::alloc::{AllocError, Global};
@@ -33,7 +32,8 @@ pub fn abstraction_preds(
     Ok(preds)
 }
 
-fn tells_apart(pred: &Pred) -> bool
+/// Whether individuals are told apart by the predicate.
+pub fn tells_apart(pred: &Pred) -> bool
     ensures { result ≡ is_abstraction pred.now }
 {
     pred.arity == 1 && pred.abs
@@ -73,9 +73,22 @@ fn gather(alloc: Global, classes: &mut Vec<Class>, names: &Names, u: u32) -> Res
     if has_name(names, classes, place, u) {
         classes[place].add(u)?;
     } else {
-        classes.insert(place, Class::of(alloc, u)?)?;
+        classes.insert(place, Class::of(alloc, u))?;
     }
     Ok(())
+}
+
+/// Whether the name of the individual `u` is less than that of `w`.
+fn is_below(names: &Names, u: u32, w: u32) -> bool
+    requires names { HoldsNames names.now }
+    requires one { u < (named_in names.now).size }
+    requires other { w < (named_in names.now).size }
+    ensures { IsTrue result ↔ (name_cmp (name_in names.now u) (name_in names.now w) ≡ Less) }
+{
+    match names.compare(u, w) {
+        Ordering::Less => true,
+        Ordering::Equal | Ordering::Greater => false,
+    }
 }
 
 /// How many classes have a name below that of the individual.

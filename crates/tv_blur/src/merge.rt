@@ -32,16 +32,16 @@ fn put_summaries(t: &mut Structure, s: &Structure, classes: &[Class])
 {
     let _ = t.size();
     for (w, members) in classes.iter().enumerate() {
-        t.set_summary(w as u32, is_summary(s, members.as_slice()));
+        t.set_summary(w as u32, is_summary(s, members));
     }
 }
 
-fn is_summary(s: &Structure, members: &[u32]) -> bool
+fn is_summary(s: &Structure, members: &Class) -> bool
     requires some { 0 < length members.now }
     requires within { All (λ u. u < s.now.size) members.now }
     ensures { result ≡ is_merged_summary s.now members.now }
 {
-    members.len() > 1 || s.summary(members[0])
+    members.has_several() || s.summary(members.first())
 }
 
 fn put_all(t: &mut Structure, s: &Structure, classes: &[Class])
@@ -102,7 +102,7 @@ fn put_rows(t: &mut Structure, s: &Structure, classes: &[Class], p: PredId)
     ensures values { HasMergedValues classes.now s.now p.0 t.new }
 {
     for (w, members) in classes.iter().enumerate() {
-        let joined = joined_rows(s, p, members.as_slice());
+        let joined = joined_rows(s, p, members);
         t.set_row(p, w as u32, &merged_row(&joined, classes));
     }
 }

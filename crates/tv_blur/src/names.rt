@@ -113,7 +113,8 @@ fn put_column(rows: &mut [Row], column: u32, values: &Row)
     }
 }
 
-fn compare_value(j: K3, k: K3) -> Ordering
+/// Compares two values, with No < Half < Yes.
+pub fn compare_value(j: K3, k: K3) -> Ordering
     ensures { result ≡ value_cmp j k }
 {
     j.cmp(&k)

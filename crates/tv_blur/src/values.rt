@@ -15,7 +15,7 @@ use tv_struct::Structure;
 
 /// For each individual, the join of the values of the binary predicate `p` at the pairs of a member and
 /// that individual.
-pub fn joined_rows(s: &Structure, p: PredId, members: &[u32]) -> Row
+pub fn joined_rows(s: &Structure, p: PredId, members: &Class) -> Row
     requires arity { HasArity s.now p.0 2 }
     requires some { 0 < length members.now }
     requires within { All (λ u. u < s.now.size) members.now }
@@ -24,9 +24,10 @@ pub fn joined_rows(s: &Structure, p: PredId, members: &[u32]) -> Row
         → IsJoin (IsAmongMembers (λ u j. value_at s.now p.0 (u ∷ v ∷ []) ≡ j) members.now)
         (slice_index_or result v No) }
 {
-    let mut joined = s.row(p, members[0]);
-    for i in 1..members.len() {
-        joined = joined.join(&s.row(p, members[i]));
+    let mut joined = s.row(p, members.first());
+    let others = members.others();
+    for i in 0..others.len() {
+        joined = joined.join(&s.row(p, others[i]));
     }
     joined
 }
@@ -42,6 +43,9 @@ pub fn merged_row(row: &Row, classes: &[Class]) -> Row
         (slice_index_or result w No) }
 {
     let mut merged = Row::of(classes.len() as u32, K3::No);
+    if !row.has_possible() {
+        return merged;
+    }
     for (w, members) in classes.iter().enumerate() {
         merged.set(w as u32, members.joined(row));
     }

@@ -6,7 +6,9 @@ mod Filters
 mod Folds
 mod Given
 pub mod Limits
+mod Lines
 mod Parts
 mod Picks
 mod Puts
 mod Sharp
+mod Whole

@@ -1,5 +1,5 @@
 -- An atom whose values are known gives the structure itself.
-use Rattle.std.proofs.Common.{ℕ, ◌≡◌, ◌≢◌, ◌<◌, Bool, true, false, eqb, List, [], ◌∷◌, ⊎_elim, Option, Some, None, length, get_or, map, refl, sym, ap, subst, ◌∙◌, arith, Contains, eq-eqb, ne_eqb}
+use Rattle.std.proofs.Common.{ℕ, ◌≡◌, ◌≢◌, ◌<◌, zero, suc, Bool, true, false, eqb, List, [], ◌∷◌, ⊎_elim, Option, Some, None, length, get_or, map, refl, sym, ap, subst, ◌∙◌, arith, Contains, eq-eqb, ne_eqb}
 use Rattle.std.specs.List.{flat_map, range_with_len, AllZip}
 use Rattle.std.specs.Option.{option_map}
 use Rattle.std.proofs.lemmas.Bool.{cases_eq, cond-true, cond-false}
@@ -10,14 +10,22 @@ use Rattle.tv_kleene.specs.declared.K3.TheVariants.{No, Half, Yes}
 use Rattle.tv_model.proofs.Lists.{map-compose, map-agreed, Contains-here}
 use Rattle.tv_frame.specs.LogicalStructure.{LogicalStructure}
 use Rattle.tv_struct.specs.TableForm.{AreIndividuals}
-use Rattle.tv_struct.specs.StructureForm.{StructureForm, IsStructure, IsMark, structure_of, value_at, summary_at}
+use Rattle.tv_model.specs.Form.{Form}
+use Rattle.tv_struct.specs.StructureForm.{StructureForm, IsStructure, IsMark, arities_of, structure_of, value_at, summary_at}
+use Rattle.tv_struct.proofs.Library.{below-range}
 use Rattle.tv_choices.specs.Choices.{AimForm, Alone, Before, Behind, SplitForm, Nothing, Whole, Each, VectorSet, ChoiceForm, MemberForm, aimed, definite, vectors, picks, picks_to, sets_of, product, choices, members, member_at, nobody, copy_of, with_anchor, focused_value, chosen_over, chosen}
-use Rattle.tv_choices.specs.Counts.{halves}
+use Rattle.tv_choices.specs.Counts.{AreCounted, halves, halves_at}
 use Rattle.tv_choices.specs.Stages.{whole_value, with_whole, split_structures, atom_at, split_at}
-use Rattle.tv_choices.specs.Tables.{ShowsOver}
+use Rattle.tv_choices.specs.FocusAtoms.{focus_atoms}
+use Rattle.tv_choices.specs.Tables.{ShowsOver, AreStage}
+use Rattle.tv_choices.specs.Written.{stage_tables}
 use Rattle.tv_choices.proofs.ChosenTables.{Copies, copies-are}
+use Rattle.tv_choices.proofs.Counts.{choices_are_counted}
 use Rattle.tv_choices.proofs.Tables.{tables_lose_no_heap}
+use Rattle.tv_focus.specs.Anchored.{AreAtomsOver}
 use Rattle.tv_focus.specs.Laws.{IsSharp, SharpAtomsStay}
+use Rattle.tv_focus.specs.Stage.{AreSplitLimitsKept, IsWithinLimits}
+use Rattle.tv_focus.proofs.Limits.{stage-within, tables-are-stage}
 
 -- ---- one choice
 
@@ -27,9 +35,9 @@ vectors-one (No ∷ ks) none = ap (λ vs. flat_map (λ x. map (λ rest. x ∷ re
 vectors-one (Half ∷ ks) none = absurd (omega (arith, none))
 vectors-one (Yes ∷ ks) none = ap (λ vs. flat_map (λ x. map (λ rest. x ∷ rest) vs) (Yes ∷ [])) (vectors-one ks none)
 
-sets-one : (summary : Bool) (ks : List K3) → halves ks ≡ 0 → sets_of summary ks ≡ (ks ∷ []) ∷ []
-sets-one true ks none = ap (λ vs. picks_to (length vs) vs) (vectors-one ks none)
-sets-one false ks none = ap (λ vs. picks 1 vs) (vectors-one ks none)
+pub sets_one : (summary : Bool) (ks : List K3) → halves ks ≡ 0 → sets_of summary ks ≡ (ks ∷ []) ∷ []
+sets_one true ks none = ap (λ vs. picks_to (length vs) vs) (vectors-one ks none)
+sets_one false ks none = ap (λ vs. picks 1 vs) (vectors-one ks none)
 
 product-one : (f : ℕ → VectorSet) (us : List ℕ) → product (map (λ u. f u ∷ []) us) ≡ map f us ∷ []
 product-one f [] = refl
@@ -46,7 +54,7 @@ choices-one : (s : LogicalStructure) (pred : ℕ) (aim : AimForm) → IsSharp s 
     → choices s pred aim ≡ own_choice s pred aim ∷ []
 choices-one s pred aim sharp =
     ap product (map-agreed (λ u. sets_of (s.is_summary u) (own_values s pred aim u)) (λ u. (own_values s pred aim u ∷ []) ∷ []) s.individuals
-    (λ u at. sets-one (s.is_summary u) (own_values s pred aim u) (sharp u at)))
+    (λ u at. sets_one (s.is_summary u) (own_values s pred aim u) (sharp u at)))
     ∙ product-one (λ u. own_values s pred aim u ∷ []) s.individuals
 
 -- ---- its copies
@@ -206,3 +214,52 @@ split-own s pred (Each aim) is sharp =
 pub sharp_atoms_stay : SharpAtomsStay
 sharp_atoms_stay s f k ts is sharp are =
     sym ((tables_lose_no_heap s f k ts are).one (s ∷ []) (split-own s (atom_at f k).pred (split_at (structure_of s) f k) is sharp))
+
+-- ---- as the code finds it
+
+pub known_sharp : (s : StructureForm) (pred : ℕ) (aim : AimForm)
+    → ((u : ℕ) → u < s.size → halves_at (structure_of s) pred aim u ≡ 0) → IsSharp (structure_of s) pred (Each aim)
+known_sharp s pred aim known u at = known u (below-range s.size u at)
+
+only : (own one : ChoiceForm) → Contains (own ∷ []) one → own ≡ one
+only own one (zero, lt, at) = at
+only own one (suc k, lt, at) = absurd (omega (arith, lt))
+
+-- it is within the limits
+sharp-limits : (s : StructureForm) (pred : ℕ) (split : SplitForm) → IsStructure s → IsSharp (structure_of s) pred split
+    → AreSplitLimitsKept s pred split
+sharp-limits s pred Nothing is sharp = tt
+sharp-limits s pred Whole is sharp = tt
+sharp-limits s pred (Each aim) is sharp =
+    let l : LogicalStructure = structure_of s
+    in let counted : AreCounted l pred aim = choices_are_counted l pred aim
+    in let one : choices l pred aim ≡ own_choice l pred aim ∷ [] = choices-one l pred aim sharp
+    in let largest : ChoiceForm = counted.reached.0
+    in let Has : List ChoiceForm → Type 0 = λ cs. Contains cs largest
+    in let same : own_choice l pred aim ≡ largest = only (own_choice l pred aim) largest (subst Has one counted.reached.1)
+    in let count : length (members l.individuals largest) ≡ s.size
+    = ap (λ c. length (members l.individuals c)) (sym same) ∙ (are-own s pred aim sharp).count
+    in record {
+      few = omega (arith, counted.number, ap length one);
+      small = omega (arith, counted.reached.2, count, is.table.size);
+    }
+
+-- what a stage gives of an atom whose values are known
+pub record IsSharpStage (s : StructureForm) (f : Form) (k : ℕ) : Type 0 where
+  pub are : AreStage s f k (stage_tables s f k)
+  pub same : stage_tables s f k ≡ s ∷ []
+  pub within : IsWithinLimits s f k
+
+pub sharp-stage : (s : StructureForm) (f : Form) (k pred : ℕ) (split : SplitForm) → IsStructure s
+    → AreAtomsOver (arities_of s) f → k < length (focus_atoms f) → pred ≡ (atom_at f k).pred
+    → split ≡ split_at (structure_of s) f k → IsSharp (structure_of s) pred split → IsSharpStage s f k
+sharp-stage s f k pred split is over lt same_pred same_split sharp =
+    let limits : AreSplitLimitsKept s pred split = sharp-limits s pred split is sharp
+    in let are : AreStage s f k (stage_tables s f k) = tables-are-stage s f k pred split is over lt same_pred same_split limits
+    in let At : ℕ → Type 0 = λ q. IsSharp (structure_of s) q split
+    in let Of : SplitForm → Type 0 = λ one. IsSharp (structure_of s) (atom_at f k).pred one
+    in record {
+      are = are;
+      same = sharp_atoms_stay s f k (stage_tables s f k) is (subst Of same_split (subst At same_pred sharp)) are;
+      within = stage-within s f k pred split is same_pred same_split limits;
+    }

@@ -3,3 +3,4 @@ pub mod Anchored
 pub mod Puts
 pub mod Stage
 pub mod Laws
+pub mod Focused

@@ -1,13 +1,18 @@
 //! What focus does with an atom.
 
-ghost use Rattle.std.specs.Prelude.{◌≡◌, map, IfOk};
+ghost use Rattle.std.specs.Prelude.{◌≡◌, All, map, IfOk};
 ghost use Rattle.tv_model.specs.Form.{vars_of};
+ghost use Rattle.tv_struct.specs.StructureForm.{arities_of, structure_of};
 ghost use Rattle.tv_choices.specs.Choices.{split_of, split_by};
-ghost use Rattle.tv_focus.specs.Seen.{anchors_form, split_form};
+ghost use Rattle.tv_choices.specs.FocusAtoms.{anchors_in};
+ghost use Rattle.tv_focus.specs.Anchored.{IsAtomOver};
+ghost use Rattle.tv_focus.specs.Seen.{anchors_form, atom_of, split_form};
 
-use crate::anchors::Anchors;
+use crate::anchors::{Anchors, anchors_in};
+use crate::atoms::FocusAtom;
 use std::alloc::{AllocError, Global};
 use tv_model::{Terms, Var};
+use tv_struct::Structure;
 
 /// At which tuples of an individual a predicate is made definite: at the individual alone, or at it and each of
 /// the anchors, before them or behind them.
@@ -26,9 +31,17 @@ pub enum Split {
     Each(Aim),
 }
 
-/// What focus does with an atom of these variables.
-pub fn split_of(alloc: Global, given: &[Anchors], terms: Terms) -> Result<Split, AllocError>
-    ensures { IfOk result (λ split. split_form split ≡ split_of (map anchors_form given.now) (vars_of terms)) }
+/// What focus does with an atom of these variables, in a formula of these atoms. Anchors are looked for only where the
+/// atom has two variables.
+pub fn split_of(
+    alloc: Global,
+    s: &Structure,
+    atoms: &[FocusAtom],
+    terms: Terms,
+) -> Result<Split, AllocError>
+    requires { All (λ atom. IsAtomOver (arities_of s.now) (atom_of atom)) atoms.now }
+    ensures { IfOk result (λ split. split_form split
+        ≡ split_of (anchors_in (structure_of s.now) (map atom_of atoms.now)) (vars_of terms)) }
 {
     match terms {
         Terms::Zero => Ok(Split::Whole),
@@ -37,7 +50,8 @@ pub fn split_of(alloc: Global, given: &[Anchors], terms: Terms) -> Result<Split,
             if v.0 == w.0 {
                 Ok(Split::Nothing)
             } else {
-                split_by(alloc, given, v, w)
+                let given = anchors_in(alloc, s, atoms)?;
+                split_by(alloc, given.as_slice(), v, w)
             }
         }
     }

@@ -1,18 +1,20 @@
 //! The anchors of variables: ordinary individuals for which a variable surely may stand.
 
-ghost use Rattle.std.specs.Prelude.{◌≡◌, ◌<◌, ◌≤◌, ◌+◌, ◌++◌, ◌&&◌, not, Some, [], ◌∷◌, length, map, filter, fold, slice_get, IfOk, OnOk, MatchOption, true, false, All, if◌then◌else◌};
+ghost use Rattle.std.specs.Prelude.{◌≡◌, ◌<◌, ◌≤◌, ◌+◌, ◌++◌, Some, [], ◌∷◌, length, map, slice_get, slice_index_or, IfOk, OnOk, MatchOption, true, false, All, if◌then◌else◌};
 ghost use Rattle.std.specs.List.{range_with_len, list_any};
+ghost use Rattle.tv_kleene.specs.declared.K3.TheVariants.{No};
 ghost use Rattle.tv_model.specs.Form.{vars_of};
-ghost use Rattle.tv_struct.specs.StructureForm.{arities_of, structure_of, value_at, summary_at};
+ghost use Rattle.tv_struct.specs.StructureForm.{arities_of, structure_of, value_at};
 ghost use Rattle.tv_struct.specs.TupleForm.{tuple_of};
 ghost use Rattle.tv_choices.specs.FocusAtoms.{ordinary, is_yes, is_anchored, anchors_of, by_unary, by_binary, anchors_in};
-ghost use Rattle.tv_focus.specs.Anchored.{pair_of, IsAtomOver, AreWithin, given_by_unary};
+ghost use Rattle.tv_focus.specs.Anchored.{pair_of, IsAtomOver, IsReached, AreWithin, given_by_unary};
 ghost use Rattle.tv_focus.specs.Seen.{atom_of, anchors_form};
 
 use crate::atoms::FocusAtom;
 use std::alloc::{AllocError, Global};
 use tv_kleene::K3;
 use tv_model::{PredId, Terms, Var};
+use tv_row::Row;
 use tv_struct::{Structure, Tuple};
 
 /// A variable and the individuals that it was given, maybe none.
@@ -39,44 +41,54 @@ pub fn pair(place: Place, anchor: u32, individual: u32) -> Tuple
     }
 }
 
-/// Whether the predicate is `Yes` on the individual together with one of the anchors.
-fn is_reached(s: &Structure, p: PredId, place: Place, anchors: &[u32], u: u32) -> bool
+/// The values of the predicate at the pairs of an anchor and each individual.
+pub fn line(s: &Structure, p: PredId, place: Place, anchor: u32) -> Row
     requires arity { slice_get (arities_of s.now) p.0 ≡ Some 2 }
-    requires individual { u < s.now.size }
-    requires anchors { All (λ a. a < s.now.size) anchors.now }
-    ensures { result ≡ list_any (λ a. is_yes (value_at s.now p.0 (pair_of place a u))) anchors.now }
+    requires anchor { anchor < s.now.size }
+    ensures { result ≡ map (λ u. value_at s.now p.0 (pair_of place anchor u)) (range_with_len 0 s.now.size) }
 {
-    match anchors {
-        [] => false,
-        [a, rest @ ..] => {
-            s.get(p, pair(place, *a, u)) == K3::Yes || is_reached(s, p, place, rest, u)
-        }
+    match place {
+        Place::First => s.row(p, anchor),
+        Place::Second => s.column(p, anchor),
     }
 }
 
+/// A row that is `Yes` where the predicate is on the individual together with one of the anchors.
+fn reached(s: &Structure, p: PredId, place: Place, anchors: &[u32]) -> Row
+    requires arity { slice_get (arities_of s.now) p.0 ≡ Some 2 }
+    requires anchors { All (λ a. a < s.now.size) anchors.now }
+    ensures { IsReached s.now p.0 place anchors.now result }
+{
+    match anchors {
+        [] => Row::of(s.size(), K3::No),
+        [a, rest @ ..] => line(s, p, place, *a).or(&reached(s, p, place, rest)),
+    }
+}
+
+/// The ordinary individuals on which the row is `Yes`, in order.
+fn ordinary_in(alloc: Global, s: &Structure, row: &Row) -> Result<Vec<u32>, AllocError>
+    requires { length row.now ≡ s.now.size }
+    ensures { IfOk result (λ found. found.items ≡ ordinary (structure_of s.now) (λ u. is_yes (slice_index_or row.now u No))) }
+{
+    let _ = row.size();
+    let mut found = Vec::new(alloc);
+    let mut from = 0;
+    while let Some(u) = row.next_yes(from) {
+        push_if(&mut found, u, !s.summary(u))?;
+        from = u + 1;
+    }
+    Ok(found)
+}
+
 /// The ordinary individuals on which the predicate is `Yes`, in order.
-#[tactic(auto, using(crate::proofs::Filters::filter_range_more))]
 fn unary_anchors(alloc: Global, s: &Structure, p: PredId) -> Result<Vec<u32>, AllocError>
     requires arity { slice_get (arities_of s.now) p.0 ≡ Some 1 }
     ensures { IfOk result (λ anchors. anchors.items ≡ ordinary (structure_of s.now) (λ u. is_yes (value_at s.now p.0 (u ∷ [])))) }
 {
-    let mut anchors = Vec::new(alloc);
-    for u in 0..s.size() {
-        push_if(&mut anchors, u, is_unary_anchor(s, p, u))?;
-    }
-    Ok(anchors)
-}
-
-fn is_unary_anchor(s: &Structure, p: PredId, u: u32) -> bool
-    requires individual { u < s.now.size }
-    requires arity { slice_get (arities_of s.now) p.0 ≡ Some 1 }
-    ensures { result ≡ (not (summary_at s.now u) && is_yes (value_at s.now p.0 (u ∷ []))) }
-{
-    !s.summary(u) && s.get(p, Tuple::One(u)) == K3::Yes
+    ordinary_in(alloc, s, &s.unary_row(p))
 }
 
 /// The ordinary individuals on which the predicate is `Yes` together with one of the anchors, in order.
-#[tactic(auto, using(crate::proofs::Filters::filter_range_more))]
 fn binary_anchors(
     alloc: Global,
     s: &Structure,
@@ -89,20 +101,7 @@ fn binary_anchors(
     ensures { IfOk result (λ found. found.items ≡ ordinary (structure_of s.now)
         (λ u. list_any (λ a. is_yes (value_at s.now p.0 (pair_of place a u))) anchors.now)) }
 {
-    let mut found = Vec::new(alloc);
-    for u in 0..s.size() {
-        push_if(&mut found, u, is_binary_anchor(s, p, place, anchors, u))?;
-    }
-    Ok(found)
-}
-
-fn is_binary_anchor(s: &Structure, p: PredId, place: Place, anchors: &[u32], u: u32) -> bool
-    requires arity { slice_get (arities_of s.now) p.0 ≡ Some 2 }
-    requires individual { u < s.now.size }
-    requires anchors { All (λ a. a < s.now.size) anchors.now }
-    ensures { result ≡ (not (summary_at s.now u) && list_any (λ a. is_yes (value_at s.now p.0 (pair_of place a u))) anchors.now) }
-{
-    !s.summary(u) && is_reached(s, p, place, anchors, u)
+    ordinary_in(alloc, s, &reached(s, p, place, anchors))
 }
 
 fn push_if(anchors: &mut Vec<u32>, u: u32, is_kept: bool) -> Result<(), AllocError>

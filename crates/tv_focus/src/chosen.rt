@@ -1,8 +1,8 @@
 //! The structures of the choices.
 
-ghost use Rattle.std.specs.Prelude.{◌≡◌, ◌<◌, ◌≤◌, ◌+◌, ◌++◌, [], ◌∷◌, length, map, take, sum, Some, All, Contains, IfOk, OnOk, slice_get};
+ghost use Rattle.std.specs.Prelude.{◌≡◌, ◌<◌, ◌≤◌, ◌+◌, ◌++◌, [], ◌∷◌, length, map, take, sum, Some, All, Contains, IfOk, IfSome, IsTrue, OnOk, slice_get, slice_index};
 ghost use Rattle.std.specs.List.{flat_map, AllByRecursion};
-ghost use Rattle.tv_struct.specs.StructureForm.{arities_of, structure_of};
+ghost use Rattle.tv_struct.specs.StructureForm.{IsStructure, arities_of, split, structure_of};
 ghost use Rattle.tv_choices.specs.Written.{chosen_table};
 ghost use Rattle.tv_choices.specs.Tables.{parts_of};
 ghost use Rattle.tv_focus.specs.Anchored.{IsAimOver};
@@ -76,6 +76,33 @@ fn push_parts(parts: &mut Vec<u32>, choice: &[VectorSet]) -> Result<(), AllocErr
     }
 }
 
+/// Whether each individual is split into one.
+fn are_once(parts: &[u32]) -> bool
+    ensures { IsTrue result → AllByRecursion (λ part. part ≡ 1) parts.now }
+{
+    match parts {
+        [] => true,
+        [part, rest @ ..] => *part == 1 && are_once(rest),
+    }
+}
+
+/// The structure in which each individual stands as often as its part says: a copy where each stands once.
+fn split_by(alloc: Global, s: &Structure, parts: &[u32]) -> Result<Structure, AllocError>
+    requires individuals { length parts.now ≡ s.now.size }
+    requires each { All (λ part. 1 ≤ part) parts.now }
+    requires total { sum parts.now ≤ 256 }
+    requires fresh_once { IfSome s.now.fresh (λ u. slice_index parts.now u ≡ 1) }
+    ensures value { IfOk result (λ t. t ≡ split s.now parts.now) }
+    ensures over { IfOk result (λ t. arities_of t ≡ arities_of s.now) }
+    ensures kept { IfOk result IsStructure }
+{
+    let _ = s.size();
+    if are_once(parts) {
+        return s.copy(alloc);
+    }
+    s.split(alloc, parts)
+}
+
 /// The structure of a choice.
 fn chosen(
     alloc: Global,
@@ -92,7 +119,7 @@ fn chosen(
     let mut parts = Vec::new(alloc);
     push_parts(&mut parts, choice)?;
     let among = aim_among(alloc, choice, aim)?;
-    let mut t = s.split(alloc, parts.as_slice())?;
+    let mut t = split_by(alloc, s, parts.as_slice())?;
     put_choice(&mut t, p, &among, 0, choice);
     Ok(t)
 }

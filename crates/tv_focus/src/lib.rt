@@ -7,6 +7,8 @@ mod anchors;
 mod atoms;
 mod chosen;
 mod count;
+mod focused;
+mod known;
 mod laws;
 mod put;
 mod sets;
@@ -14,5 +16,6 @@ mod stage;
 mod vector;
 
 pub use atoms::atom_count;
+pub use focused::Focused;
 pub use laws::{formulas_have_atoms_over, sharp_atoms_stay};
-pub use stage::focus_stage;
+pub use stage::{focus_stage, into_focused};

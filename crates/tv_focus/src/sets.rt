@@ -1,6 +1,7 @@
 //! The vectors of an individual, and the sets of them that a choice may give it.
 
-ghost use Rattle.std.specs.Prelude.{◌≡◌, ◌<◌, ◌≤◌, ◌++◌, [], ◌∷◌, length, map, Some, All, IfOk, OnOk, slice_get};
+ghost use Rattle.std.specs.Prelude.{◌≡◌, ◌<◌, ◌≤◌, ◌++◌, [], ◌∷◌, length, map, Some, All, IfOk, IsTrue, OnOk, slice_get};
+ghost use Rattle.tv_choices.specs.Counts.{halves};
 ghost use Rattle.tv_choices.specs.Choices.{vectors, picks, picks_to, sets_of};
 ghost use Rattle.tv_focus.specs.Puts.{begun_with};
 
@@ -87,7 +88,7 @@ fn push_copies(alloc: Global, out: &mut VectorSet, set: &[Vector]) -> Result<(),
     match set {
         [] => Ok(()),
         [v, later @ ..] => {
-            out.push(Vector::of(alloc, v.as_slice())?)?;
+            out.push(Vector::copied(alloc, v.as_slice())?)?;
             push_copies(alloc, out, later)
         }
     }
@@ -107,7 +108,7 @@ fn set_prefixed(alloc: Global, first: &Vector, rest: &[Vector]) -> Result<Vector
     ensures { IfOk result (λ set. set ≡ first.now ∷ rest.now) }
 {
     let mut out = VectorSet::new(alloc);
-    out.push(Vector::of(alloc, first.as_slice())?)?;
+    out.push(Vector::copied(alloc, first.as_slice())?)?;
     push_copies(alloc, &mut out, rest)?;
     Ok(out)
 }
@@ -182,13 +183,38 @@ fn push_singles(alloc: Global, out: &mut Sets, vectors: &[Vector]) -> Result<(),
     }
 }
 
+/// Whether no value is unknown.
+fn are_definite(values: &[K3]) -> bool
+    ensures { IsTrue result → halves values.now ≡ 0 }
+{
+    match values {
+        [] => true,
+        [K3::Half, ..] => false,
+        [_, rest @ ..] => are_definite(rest),
+    }
+}
+
+/// The set of this vector alone, and no other.
+fn only(alloc: Global, vector: Vector) -> Result<Sets, AllocError>
+    ensures { IfOk result (λ sets. sets ≡ (vector ∷ []) ∷ []) }
+{
+    let mut set = VectorSet::new(alloc);
+    set.push(vector)?;
+    let mut out = Sets::new(alloc);
+    out.push(set)?;
+    Ok(out)
+}
+
 /// The sets of vectors that an individual may be given, where these are its values: one vector, or, where it is a
 /// summary, one or more.
-#[tactic(auto, using(crate::proofs::Picks::picks_one))]
-pub fn sets_of(alloc: Global, summary: bool, values: &[K3]) -> Result<Sets, AllocError>
-    ensures { IfOk result (λ sets. sets ≡ sets_of summary values.now) }
+#[tactic(auto, using(crate::proofs::Picks::picks_one, crate::proofs::Sharp::sets_one))]
+pub fn sets_of(alloc: Global, summary: bool, values: Vec<K3>) -> Result<Sets, AllocError>
+    ensures { IfOk result (λ sets. sets ≡ sets_of summary values.items) }
 {
-    let all = vectors(alloc, values)?;
+    if are_definite(values.as_slice()) {
+        return only(alloc, Vector::of(values));
+    }
+    let all = vectors(alloc, values.as_slice())?;
     let mut out = Sets::new(alloc);
     if summary {
         push_picks_to(alloc, &mut out, all.len(), all.as_slice())?;

@@ -1,6 +1,6 @@
 //! One stage of focus.
 
-ghost use Rattle.std.specs.Prelude.{◌≡◌, ◌<◌, ◌≤◌, ◌++◌, [], length, map, All, IfOk, IfErr, OnOk, Some, slice_get, ◌∷◌};
+ghost use Rattle.std.specs.Prelude.{◌≡◌, ◌<◌, ◌≤◌, ◌++◌, [], length, map, All, IfOk, IfErr, IfNone, IfSome, OnOk, Some, slice_get, ◌∷◌};
 ghost use Rattle.tv_model.specs.Form.{form_of};
 ghost use Rattle.tv_struct.specs.StructureForm.{IsOver, arities_of, structure_of, value_at, with_value};
 ghost use Rattle.tv_choices.specs.FocusAtoms.{focus_atoms};
@@ -9,14 +9,17 @@ ghost use Rattle.tv_choices.specs.Stages.{atom_at, split_at};
 ghost use Rattle.tv_choices.specs.Tables.{AreStage};
 ghost use Rattle.tv_choices.specs.Written.{chosen_table, stage_tables, split_tables};
 ghost use Rattle.tv_focus.specs.Anchored.{AreAtomsOver, IsAimOver, IsSplitOver, pair_of};
+ghost use Rattle.tv_focus.specs.Focused.{focused_from, structures_in};
 ghost use Rattle.tv_focus.specs.Stage.{IsWithinLimits, IsStageCause, IsEachCause, AreLimitsKept, AreSplitLimitsKept, IsSplitCause, KeepsHeaps};
 ghost use Rattle.tv_focus.specs.Seen.{aim_of, split_form};
 
 use crate::aim::{Aim, Split, split_of};
-use crate::anchors::{Place, anchors_in, pair};
+use crate::anchors::{Place, pair};
 use crate::atoms::gather;
 use crate::chosen::choose;
 use crate::count::{MAX_CHOICES, copy_count, few_choices};
+use crate::focused::Focused;
+use crate::known::is_sharp;
 use crate::sets::{Sets, sets_of};
 use std::alloc::{AllocError, Global};
 use tv_kleene::K3;
@@ -105,10 +108,10 @@ fn all_sets(alloc: Global, s: &Structure, p: PredId, aim: &Aim) -> Result<Vec<Se
     requires aim { IsAimOver s.now p.0 (aim_of aim.now) }
     ensures { IfOk result (λ sets. sets.items ≡ sets_in (structure_of s.now) p.0 (aim_of aim.now)) }
 {
-    let mut sets = Vec::new(alloc);
+    let mut sets = Vec::with_capacity(alloc, s.size() as usize)?;
     for u in 0..s.size() {
         let values = values_at(alloc, s, p, aim, u)?;
-        sets.push(sets_of(alloc, s.summary(u), values.as_slice())?)?;
+        sets.push(sets_of(alloc, s.summary(u), values)?)?;
     }
     Ok(sets)
 }
@@ -212,13 +215,39 @@ fn planned(alloc: Global, f: &Formula, atom: usize, s: &Structure) -> Result<Sta
 {
     let mut atoms = Vec::new(alloc);
     gather(f, &mut atoms)?;
-    let given = anchors_in(alloc, s, atoms.as_slice())?;
     let one = atoms[atom];
-    let split = split_of(alloc, given.as_slice(), one.terms)?;
+    let split = split_of(alloc, s, atoms.as_slice(), one.terms)?;
     Ok(StagePlan {
         pred: one.pred,
         split,
     })
+}
+
+/// What the stage makes of the structure; nothing where that is the structure itself, since the atom's values are
+/// known.
+fn staged(
+    alloc: Global,
+    f: &Formula,
+    atom: usize,
+    s: &Structure,
+) -> Result<Option<Structures>, StageError>
+    requires formula { AreAtomsOver (arities_of s.now) (form_of f.now) }
+    requires atom { atom < length (focus_atoms (form_of f.now)) }
+    ensures same { IfOk result (λ found. IfNone found (stage_tables s.now (form_of f.now) atom ≡ s.now ∷ [])) }
+    ensures choices { IfOk result (λ found. IfSome found (λ ts. ts ≡ stage_tables s.now (form_of f.now) atom)) }
+    ensures stage { OnOk result (AreStage s.now (form_of f.now) atom (stage_tables s.now (form_of f.now) atom)) }
+    ensures within { OnOk result (IsWithinLimits s.now (form_of f.now) atom) }
+    ensures cause { IfErr result (IsStageCause s.now (form_of f.now) atom) }
+{
+    let _ = s.size();
+    let plan = planned(alloc, f, atom, s)?;
+    if is_sharp(s, plan.pred, &plan.split) {
+        return Ok(None);
+    }
+    match split_structures(alloc, s, plan.pred, &plan.split) {
+        Ok(structures) => Ok(Some(structures)),
+        Err(error) => Err(error),
+    }
 }
 
 /// One structure for each choice of a focus atom of the formula, in order: the atom `atom`, counted from 0, is made
@@ -244,10 +273,31 @@ pub fn focus_stage(
     ensures heaps { IfOk result (KeepsHeaps s.now) }
 {
     let _ = vocab;
-    let _ = s.size();
-    let plan = planned(alloc, f, atom, s)?;
-    match split_structures(alloc, s, plan.pred, &plan.split) {
-        Ok(structures) => Ok(structures),
-        Err(error) => Err(error),
+    match staged(alloc, f, atom, s)? {
+        None => Ok(one(alloc, s)?),
+        Some(structures) => Ok(structures),
+    }
+}
+
+/// The stage of a structure that isn't needed elsewhere: where the atom's values are known, it is given back as it is.
+/// Refusals are those of `focus_stage`.
+pub fn into_focused(
+    alloc: Global,
+    f: &Formula,
+    atom: usize,
+    s: Structure,
+) -> Result<Focused, StageError>
+    requires formula { AreAtomsOver (arities_of s) (form_of f.now) }
+    requires atom { atom < length (focus_atoms (form_of f.now)) }
+    ensures from { IfOk result (λ focused. focused_from focused ≡ s) }
+    ensures exact { IfOk result (λ focused. structures_in focused ≡ stage_tables s (form_of f.now) atom) }
+    ensures stage { IfOk result (λ focused. AreStage s (form_of f.now) atom (structures_in focused)) }
+    ensures within { OnOk result (IsWithinLimits s (form_of f.now) atom) }
+    ensures cause { IfErr result (IsStageCause s (form_of f.now) atom) }
+    ensures heaps { IfOk result (λ focused. KeepsHeaps s (structures_in focused)) }
+{
+    match staged(alloc, f, atom, &s)? {
+        None => Ok(Focused::Same(s)),
+        Some(structures) => Ok(Focused::Choices(s, structures)),
     }
 }

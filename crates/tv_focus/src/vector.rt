@@ -33,7 +33,14 @@ impl Vector {
     }
 
     /// The vector of these values.
-    pub fn of(alloc: Global, values: &[K3]) -> Result<Vector, AllocError>
+    pub fn of(values: Vec<K3>) -> Vector
+        ensures { result ≡ values.items }
+    {
+        Vector { values }
+    }
+
+    /// The vector of copies of these values.
+    pub fn copied(alloc: Global, values: &[K3]) -> Result<Vector, AllocError>
         ensures { IfOk result (λ v. v ≡ values.now) }
     {
         Ok(Vector {

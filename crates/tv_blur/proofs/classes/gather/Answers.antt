@@ -27,4 +27,4 @@ returns-in_ok-insert c =
     in gathered_new c.args.names.now c.args.u place classes c.insert.new.self.items c.requires.gathered
     (rw c.deref.ensures.value at c.place_for-place.ensures.within) (rw c.deref.ensures.value at c.place_for-place.ensures.below)
     (rw c.deref.ensures.value at c.place_for-place.ensures.others) (rw c.deref-2.ensures.value at c.if-has_name.ensures)
-    (c.in_ok-insert.ensures.items ∙ ap (λ members. insert classes place members) c.in_ok-of.ensures)
+    (c.in_ok-insert.ensures.items ∙ ap (λ members. insert classes place members) c.of.ensures)

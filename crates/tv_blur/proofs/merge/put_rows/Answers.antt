@@ -21,8 +21,8 @@ set_row-requires-clause-size c =
 
 pub loop-w-preserved : goal.loop-w-preserved
 loop-w-preserved c =
-    let members : c.as_slice.result.now ≡ class_at c.args.classes.now c.loop-w.w
-    = c.as_slice.ensures ∙ get_or_read c.args.classes.now c.loop-w.w c.index-classes-w.result c.loop-w-test.true c.index-classes-w.is []
+    let members : c.index-classes-w.result ≡ class_at c.args.classes.now c.loop-w.w
+    = get_or_read c.args.classes.now c.loop-w.w c.index-classes-w.result c.loop-w-test.true c.index-classes-w.is []
     in let Joins : List ℕ → Type 0
     = λ class. (v : ℕ) → v < c.args.s.now.size
     → IsJoin (IsAmongMembers (λ u j. value_at c.args.s.now c.args.p.0 (u ∷ v ∷ []) ≡ j) class) (get_or c.joined_rows-joined.result v No)

@@ -11,8 +11,8 @@ loop-w-init c =
 
 pub loop-w-preserved : goal.loop-w-preserved
 loop-w-preserved c =
-    let members : c.as_slice.result.now ≡ class_at c.args.classes.now c.loop-w.w
-    = c.as_slice.ensures ∙ get_or_read c.args.classes.now c.loop-w.w c.index-classes-w.result c.loop-w-test.true c.index-classes-w.is []
+    let members : c.index-classes-w.result ≡ class_at c.args.classes.now c.loop-w.w
+    = get_or_read c.args.classes.now c.loop-w.w c.index-classes-w.result c.loop-w-test.true c.index-classes-w.is []
     in summaries_more c.args.classes.now c.args.s.now c.loop-w.w c.loop-w.t c.set_summary.new.self c.is_summary.result
     c.loop-w.invariant c.loop-w-test.true c.set_summary.ensures.value c.set_summary.ensures.kept
     (c.is_summary.ensures ∙ ap (is_merged_summary c.args.s.now) members)

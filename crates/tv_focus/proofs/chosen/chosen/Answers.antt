@@ -13,18 +13,18 @@ aim_among-requires-clause-aim c =
     aims-within c.args.s.now c.args.p.0 (aim_of c.args.aim.now) c.args.choice.now
     (parts-are c.args.s.now c.args.p.0 (aim_of c.args.aim.now) c.args.choice.now c.size.ensures.kept c.requires.choice) c.requires.aim
 
-pub split-requires-clause-individuals : goal.split-requires-clause-individuals
-split-requires-clause-individuals c =
+pub split_by-requires-clause-individuals : goal.split_by-requires-clause-individuals
+split_by-requires-clause-individuals c =
     rw (c.as_slice.ensures.value, c.in_ok-push_parts.ensures, c.new-parts.ensures.items)
     (parts-are c.args.s.now c.args.p.0 (aim_of c.args.aim.now) c.args.choice.now c.size.ensures.kept c.requires.choice).count
 
-pub split-requires-clause-each : goal.split-requires-clause-each
-split-requires-clause-each c =
+pub split_by-requires-clause-each : goal.split_by-requires-clause-each
+split_by-requires-clause-each c =
     rw (c.as_slice.ensures.value, c.in_ok-push_parts.ensures, c.new-parts.ensures.items)
     (parts-are c.args.s.now c.args.p.0 (aim_of c.args.aim.now) c.args.choice.now c.size.ensures.kept c.requires.choice).some
 
-pub split-requires-clause-fresh_once : goal.split-requires-clause-fresh_once
-split-requires-clause-fresh_once c =
+pub split_by-requires-clause-fresh_once : goal.split_by-requires-clause-fresh_once
+split_by-requires-clause-fresh_once c =
     rw (c.as_slice.ensures.value, c.in_ok-push_parts.ensures, c.new-parts.ensures.items)
     (parts-are c.args.s.now c.args.p.0 (aim_of c.args.aim.now) c.args.choice.now c.size.ensures.kept c.requires.choice).fresh
 

@@ -1,35 +1,15 @@
+use Rattle.std.proofs.Common.{◌≡◌, subst, sym}
+use Rattle.std.specs.Prelude.{IfSome}
 use Rattle.tv_model.specs.Form.{form_of}
-use Rattle.tv_focus.specs.Seen.{split_form}
-use Rattle.tv_focus.proofs.Limits.{stage-over, stage-within, split-cause, tables-are-stage, tables-keep-heaps}
+use Rattle.tv_choices.specs.Written.{stage_tables}
+use Rattle.tv_focus.specs.Stage.{KeepsHeaps}
+use Rattle.tv_focus.proofs.Limits.{tables-keep-heaps}
 use Rattle.tv_focus.proofs.stage.focus_stage.Goals as goal
 
-pub split_structures-requires : goal.split_structures-requires
-split_structures-requires c = record {
-  split = rw (c.in_ok-plan.ensures.pred, c.in_ok-plan.ensures.split)
-      (stage-over c.args.s.now (form_of c.args.f.now) c.args.atom c.requires.formula c.requires.atom);
-}
-
-pub returns-in-Ok-clause-stage : goal.returns-in-Ok-clause-stage
-returns-in-Ok-clause-stage c =
-    rw (c.in-Ok.ensures.exact, c.in_ok-plan.ensures.pred, c.in_ok-plan.ensures.split)
-    (tables-are-stage c.args.s.now (form_of c.args.f.now) c.args.atom c.in_ok-plan.plan.pred.0 (split_form c.in_ok-plan.plan.split)
-    c.size.ensures.kept c.requires.formula c.requires.atom c.in_ok-plan.ensures.pred c.in_ok-plan.ensures.split
-    c.in-Ok.ensures.within)
-
-pub returns-in-Ok-clause-within : goal.returns-in-Ok-clause-within
-returns-in-Ok-clause-within c =
-    stage-within c.args.s.now (form_of c.args.f.now) c.args.atom c.in_ok-plan.plan.pred.0 (split_form c.in_ok-plan.plan.split)
-    c.size.ensures.kept c.in_ok-plan.ensures.pred c.in_ok-plan.ensures.split c.in-Ok.ensures.within
-
-pub returns-in-Ok-clause-heaps : goal.returns-in-Ok-clause-heaps
-returns-in-Ok-clause-heaps c =
-    rw (c.in-Ok.ensures.exact, c.in_ok-plan.ensures.pred, c.in_ok-plan.ensures.split)
-    (tables-keep-heaps c.args.s.now (form_of c.args.f.now) c.args.atom
-    (tables-are-stage c.args.s.now (form_of c.args.f.now) c.args.atom c.in_ok-plan.plan.pred.0 (split_form c.in_ok-plan.plan.split)
-    c.size.ensures.kept c.requires.formula c.requires.atom c.in_ok-plan.ensures.pred c.in_ok-plan.ensures.split
-    c.in-Ok.ensures.within))
-
-pub returns-clause-cause : goal.returns-clause-cause
-returns-clause-cause c =
-    split-cause c.args.s.now (form_of c.args.f.now) c.args.atom c.in_ok-plan.plan.pred.0 (split_form c.in_ok-plan.plan.split)
-    c.in-Err.error c.in_ok-plan.ensures.pred c.in_ok-plan.ensures.split c.in-Err.ensures.cause
+pub returns-in-Some-clause-heaps : goal.returns-in-Some-clause-heaps
+returns-in-Some-clause-heaps c =
+    let same : c.in-Some.structures ≡ stage_tables c.args.s.now (form_of c.args.f.now) c.args.atom
+    = subst (λ found. IfSome found (λ ts. ts ≡ stage_tables c.args.s.now (form_of c.args.f.now) c.args.atom)) c.in-Some.is
+    c.in_ok-staged.ensures.choices
+    in subst (KeepsHeaps c.args.s.now) (sym same)
+    (tables-keep-heaps c.args.s.now (form_of c.args.f.now) c.args.atom c.in_ok-staged.ensures.stage)

@@ -23,13 +23,11 @@ each-over atoms arities all k d lt =
     subst (IsAtomOver arities) (get_or-map atom_of atoms k d (atom_of d) lt)
     (all k (atom_of d) (omega (arith, length-map atoms atom_of, lt)))
 
-pub anchors_in-requires : goal.anchors_in-requires
-anchors_in-requires c =
+pub split_of-requires : goal.split_of-requires
+split_of-requires c =
     let own : map atom_of c.gather.new.atoms.items ≡ focus_atoms (form_of c.args.f.now)
     = c.in_ok-gather.ensures ∙ ap (λ xs. map atom_of xs ++ focus_atoms (form_of c.args.f.now)) c.new-atoms.ensures.items
     in let Over : List AtomForm → Type 0 = λ xs. All (IsAtomOver (arities_of c.args.s.now)) xs
-    in record {
-      arity = rw (c.as_slice.ensures.value)
-          (each-over c.gather.new.atoms.items (arities_of c.args.s.now)
-          (subst Over (sym own) c.requires.formula));
-    }
+    in rw (c.as_slice.ensures.value)
+    (each-over c.gather.new.atoms.items (arities_of c.args.s.now)
+    (subst Over (sym own) c.requires.formula))

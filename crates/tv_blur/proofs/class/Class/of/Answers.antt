@@ -3,4 +3,4 @@ use Rattle.tv_blur.proofs.class.Class.of.Goals as goal
 
 pub invariant_of-result : goal.invariant_of-result
 invariant_of-result c =
-    rw (c.in_ok-push.ensures.items, c.new-members.ensures.items, c.set.ensures, c.of-mask.ensures) (mask_one c.args.u c.requires)
+    rw (c.new.ensures.items, c.set.ensures, c.of-mask.ensures) (mask_one c.args.u c.requires)

@@ -1,0 +1,197 @@
+-- How names compare to the next ones', predicate after predicate.
+use Rattle.std.proofs.Common.{ℕ, Bool, true, false, take, ◌≡◌, ◌≢◌, ◌⊎◌, ◌<◌, ◌+◌, ◌-◌, inl, inr, List, [], ◌∷◌, ◌++◌, get_or, length, map, replicate, Less, Equal, Greater, refl, sym, ap, subst, ◌∙◌, arith, drop, All}
+use Rattle.std.specs.declared.cmp.Ordering.{Ordering}
+use Rattle.std.specs.Ordering.{ordering_then}
+use Rattle.std.proofs.lemmas.Bool.{cases_eq}
+use Rattle.std.specs.Prelude.{IsTrue, MatchBool, if◌then◌else◌}
+use Rattle.std.proofs.lemmas.List.{append-nil, get_or-replicate, length-map, length-replicate, map-append, take-append-drop, get_or_default}
+use Rattle.tv_kleene.specs.declared.K3.{K3}
+use Rattle.tv_kleene.specs.declared.K3.TheVariants.{No, Half, Yes}
+use Rattle.tv_model.specs.declared.program.Pred.{Pred}
+use Rattle.tv_row.specs.Bits.{value_cmp}
+use Rattle.tv_struct.specs.StructureForm.{StructureForm, kept_from, structure_of, value_at}
+use Rattle.tv_struct.specs.StructureRows.{unary_row}
+use Rattle.tv_blur.specs.Names.{is_abstraction, name_of, name_cmp}
+use Rattle.tv_blur.specs.Blur.{FollowsNames}
+use Rattle.tv_blur.specs.Rising.{AddsRises, Falls, TellsRises, order_told, order_to_next, values_to_next}
+use Rattle.tv_blur.proofs.ClassLaws.{abstraction_more}
+use Rattle.tv_blur.proofs.NameRows.{cmp_append}
+use Rattle.tv_blur.proofs.RowLaws.{get_or-unary_row}
+
+-- ---- one individual
+
+pub then_equal : (o : Ordering) → ordering_then o Equal ≡ o
+then_equal Less = refl
+then_equal Equal = refl
+then_equal Greater = refl
+
+pub then_less : (k : K3) → ordering_then (order_told k) Less ≡ Less
+then_less No = refl
+then_less Half = refl
+then_less Yes = refl
+
+pub then_greater : (k : K3) → k ≢ No → ordering_then (order_told k) Greater ≡ order_told k
+then_greater No ne = absurd (ne refl)
+then_greater Half ne = refl
+then_greater Yes ne = refl
+
+pub told_less : (k : K3) → k ≢ No → order_told k ≡ Less
+told_less No ne = absurd (ne refl)
+told_less Half ne = refl
+told_less Yes ne = refl
+
+-- ---- one individual after the other
+
+pub adds_none : (values rises : List K3) → AddsRises values 0 rises rises
+adds_none values rises = record { long = refl; first = λ u lt. absurd (omega arith); rest = λ u le. refl }
+
+pub adds_more : (values : List K3) (n : ℕ) (old rises new : List K3) → AddsRises values n old rises
+    → length new ≡ length rises
+    → order_to_next new n ≡ ordering_then (order_to_next rises n) (values_to_next values n)
+    → ((w : ℕ) → w ≢ n → get_or new w No ≡ get_or rises w No)
+    → AddsRises values (n + 1) old new
+adds_more values n old rises new adds long here others = record {
+  long = long ∙ adds.long;
+  first = λ u lt. first u lt (cases_eq u n);
+  rest = λ u past. others u (λ e. omega (arith, e, past)) ∙ adds.rest u (omega (arith, past));
+}
+  where
+    first : (u : ℕ) → u < n + 1 → (u ≡ n) ⊎ (u ≢ n)
+        → order_to_next new u ≡ ordering_then (order_to_next old u) (values_to_next values u)
+    first u lt (inl same) =
+        subst (λ x. order_to_next new x ≡ ordering_then (order_to_next old x) (values_to_next values x)) (sym same)
+        (here ∙ ap (λ k. ordering_then (order_told k) (values_to_next values n)) (adds.rest n (omega arith)))
+    first u lt (inr differ) = ap order_told (others u differ) ∙ adds.first u (omega (arith, lt, differ))
+
+-- ---- one predicate after the other
+
+pub rises_none : (s : StructureForm) (rises : List K3) → rises ≡ replicate (s.size - 1) No → TellsRises [] s rises
+rises_none s rises is = record {
+  long = ap length is ∙ length-replicate (s.size - 1) No;
+  orders = λ u lt. sym (ap order_told (ap (λ r. get_or r u No) is ∙ get_or-replicate (s.size - 1) u No No lt));
+}
+
+name_more : (preds : List ℕ) (s : StructureForm) (p u : ℕ)
+    → name_of (preds ++ p ∷ []) (structure_of s) u ≡ name_of preds (structure_of s) u ++ value_at s p (u ∷ []) ∷ []
+name_more preds s p u = map-append (λ q. value_at s q (u ∷ [])) preds (p ∷ [])
+
+-- how names compare by one more predicate
+order_more : (preds : List ℕ) (s : StructureForm) (p u : ℕ) (old : List K3) → TellsRises preds s old → u < s.size - 1
+    → name_cmp (name_of (preds ++ p ∷ []) (structure_of s) u) (name_of (preds ++ p ∷ []) (structure_of s) (u + 1))
+    ≡ ordering_then (order_to_next old u) (values_to_next (unary_row s p) u)
+order_more preds s p u old tells lt =
+    ap (λ x. name_cmp x (name_of (preds ++ p ∷ []) (structure_of s) (u + 1))) (name_more preds s p u)
+    ∙ ap (name_cmp (name u ++ value u ∷ [])) (name_more preds s p (u + 1))
+    ∙ cmp_append (name u) (name (u + 1)) (value u ∷ []) (value (u + 1) ∷ [])
+    (length-map preds (λ q. value_at s q (u ∷ [])) ∙ sym (length-map preds (λ q. value_at s q ((u + 1) ∷ []))))
+    ∙ ap (ordering_then (name_cmp (name u) (name (u + 1)))) (then_equal (value_cmp (value u) (value (u + 1))))
+    ∙ ap (λ o. ordering_then o (value_cmp (value u) (value (u + 1)))) (tells.orders u lt)
+    ∙ ap (ordering_then (order_to_next old u))
+    (ap (λ k. value_cmp k (value (u + 1))) (sym (get_or-unary_row s p u (omega (arith, lt))))
+    ∙ ap (value_cmp (get_or (unary_row s p) u No)) (sym (get_or-unary_row s p (u + 1) (omega (arith, lt)))))
+  where
+    name : ℕ → List K3
+    name x = name_of preds (structure_of s) x
+
+    value : ℕ → K3
+    value x = value_at s p (x ∷ [])
+
+pub rises_more : (preds : List ℕ) (s : StructureForm) (p n : ℕ) (old new : List K3) → TellsRises preds s old
+    → n ≡ length old → AddsRises (unary_row s p) n old new → TellsRises (preds ++ p ∷ []) s new
+rises_more preds s p n old new tells all adds = record {
+  long = adds.long ∙ tells.long;
+  orders = λ u lt. order_more preds s p u old tells lt ∙ sym (adds.first u (omega (arith, lt, all, tells.long)));
+}
+
+-- a predicate by which individuals may be told apart
+rises_if : (preds : List ℕ) (s : StructureForm) (p : ℕ) (old new : List K3) (told : Bool) → TellsRises preds s old
+    → MatchBool told (AddsRises (unary_row s p) (length old) old new) (new ≡ old)
+    → TellsRises (preds ++ (if told then p ∷ [] else [])) s new
+rises_if preds s p old new true tells adds = rises_more preds s p (length old) old new tells refl adds
+rises_if preds s p old new false tells same =
+    subst (λ ps. TellsRises ps s new) (sym (append-nil preds)) (subst (TellsRises preds s) (sym same) tells)
+
+pub rises_next : (preds : List Pred) (s : StructureForm) (p : ℕ) (pred : Pred) (old new : List K3) → p < length preds
+    → pred ≡ get_or preds p pred → TellsRises (kept_from 0 (take p (map is_abstraction preds))) s old
+    → MatchBool (is_abstraction pred) (AddsRises (unary_row s p) (length old) old new) (new ≡ old)
+    → TellsRises (kept_from 0 (take (p + 1) (map is_abstraction preds))) s new
+rises_next preds s p pred old new lt is tells adds =
+    subst (λ ps. TellsRises ps s new)
+    (sym (abstraction_more preds p pred lt
+    ∙ ap (λ x. kept_from 0 (take p (map is_abstraction preds)) ++ (if is_abstraction x then p ∷ [] else [])) (sym is)))
+    (rises_if (kept_from 0 (take p (map is_abstraction preds))) s p old new (is_abstraction pred) tells adds)
+
+-- where all rise, each name is below the next
+pub rises_all : (preds : List ℕ) (s : StructureForm) (rises : List K3) → TellsRises preds s rises
+    → ((u : ℕ) → u < length rises → get_or rises u No ≢ No)
+    → (k : ℕ) → k + 1 < s.size → name_cmp (name_of preds (structure_of s) k) (name_of preds (structure_of s) (k + 1)) ≡ Less
+rises_all preds s rises tells all k lt =
+    let less : k < s.size - 1 = omega (arith, lt)
+    in tells.orders k less ∙ told_less (get_or rises k No) (all k (omega (arith, less, tells.long)))
+
+-- ---- where the structure isn't blurred
+
+pub pred_told : (told result : Bool) (Adds Fall Same : Type 0) → told ≡ true → MatchBool result Adds Fall
+    → MatchBool result (MatchBool told Adds Same) (IsTrue told × Fall)
+pred_told told true Adds Fall Same is adds = subst (λ b. MatchBool b Adds Same) (sym is) adds
+pred_told told false Adds Fall Same is fall = (is, fall)
+
+-- what falls of what was told before falls of what is told now
+pub falls_before : (values : List K3) (n : ℕ) (old rises : List K3) → AddsRises values n old rises → n < length old
+    → ordering_then (order_to_next rises n) (values_to_next values n) ≡ Greater → Falls values old
+falls_before values n old rises adds lt greater =
+    (n, lt, ap (λ k. ordering_then (order_told k) (values_to_next values n)) (sym (adds.rest n (omega arith))) ∙ greater)
+
+kept_from_append : (n : ℕ) (xs ys : List Bool) → kept_from n (xs ++ ys) ≡ kept_from n xs ++ kept_from (n + length xs) ys
+kept_from_append n [] ys = ap (λ m. kept_from m ys) (omega arith)
+kept_from_append n (true ∷ xs) ys =
+    ap (λ us. n ∷ us) (kept_from_append (n + 1) xs ys ∙ ap (λ m. kept_from (n + 1) xs ++ kept_from m ys) (omega arith))
+kept_from_append n (false ∷ xs) ys =
+    kept_from_append (n + 1) xs ys ∙ ap (λ m. kept_from (n + 1) xs ++ kept_from m ys) (omega arith)
+
+-- names that fall by their first values fall
+greater_more : (preds more : List ℕ) (s : StructureForm) (u w : ℕ)
+    → name_cmp (name_of preds (structure_of s) u) (name_of preds (structure_of s) w) ≡ Greater
+    → name_cmp (name_of (preds ++ more) (structure_of s) u) (name_of (preds ++ more) (structure_of s) w) ≡ Greater
+greater_more preds more s u w greater =
+    ap (λ x. name_cmp x (name_of (preds ++ more) (structure_of s) w)) (map-append (λ q. value_at s q (u ∷ [])) preds more)
+    ∙ ap (name_cmp (name_of preds (structure_of s) u ++ name_of more (structure_of s) u))
+    (map-append (λ q. value_at s q (w ∷ [])) preds more)
+    ∙ cmp_append (name_of preds (structure_of s) u) (name_of preds (structure_of s) w)
+    (name_of more (structure_of s) u) (name_of more (structure_of s) w)
+    (length-map preds (λ q. value_at s q (u ∷ [])) ∙ sym (length-map preds (λ q. value_at s q (w ∷ []))))
+    ∙ ap (λ o. ordering_then o (name_cmp (name_of more (structure_of s) u) (name_of more (structure_of s) w))) greater
+
+-- where the values of the next predicate fall, names aren't in order
+pub falls_out : (preds : List Pred) (s : StructureForm) (p : ℕ) (pred : Pred) (old : List K3) → p < length preds
+    → pred ≡ get_or preds p pred → is_abstraction pred ≡ true
+    → TellsRises (kept_from 0 (take p (map is_abstraction preds))) s old → Falls (unary_row s p) old
+    → ¬ FollowsNames (kept_from 0 (map is_abstraction preds)) (structure_of s) s.size (λ u. u)
+falls_out preds s p pred old lt is told tells (u, within, greater) follows =
+    let flags : List Bool = map is_abstraction preds
+    in let first : List ℕ = kept_from 0 (take p flags)
+    in let more : List ℕ = kept_from (0 + length (take (p + 1) flags)) (drop (p + 1) flags)
+    in let inside : u < s.size - 1 = omega (arith, within, tells.long)
+    in let next : kept_from 0 (take (p + 1) flags) ≡ first ++ p ∷ []
+    = abstraction_more preds p pred lt
+    ∙ ap (λ x. first ++ (if is_abstraction x then p ∷ [] else [])) (sym is)
+    ∙ ap (λ b. first ++ (if b then p ∷ [] else [])) told
+    in let all : kept_from 0 flags ≡ (first ++ p ∷ []) ++ more
+    = ap (kept_from 0) (sym (take-append-drop (p + 1) flags))
+    ∙ kept_from_append 0 (take (p + 1) flags) (drop (p + 1) flags) ∙ ap (λ ps. ps ++ more) next
+    in let falls : name_cmp (name_of (kept_from 0 flags) (structure_of s) u) (name_of (kept_from 0 flags) (structure_of s) (u + 1)) ≡ Greater
+    = ap (λ ps. name_cmp (name_of ps (structure_of s) u) (name_of ps (structure_of s) (u + 1))) all
+    ∙ greater_more (first ++ p ∷ []) more s u (u + 1) (order_more first s p u old tells inside ∙ greater)
+    in let rises : name_cmp (name_of (kept_from 0 flags) (structure_of s) u) (name_of (kept_from 0 flags) (structure_of s) (u + 1)) ≡ Less
+    = (follows u (u + 1) (omega (arith, inside)) (omega (arith, inside))).0 (omega arith)
+    in cc
+
+-- where names are in order, all rise
+pub all_rise : (preds : List ℕ) (s : StructureForm) (rises : List K3) → TellsRises preds s rises
+    → FollowsNames preds (structure_of s) s.size (λ u. u) → All (λ k. k ≢ No) rises
+all_rise preds s rises tells follows u d lt =
+    let inside : u < s.size - 1 = omega (arith, lt, tells.long)
+    in let less : order_to_next rises u ≡ Less
+    = sym (tells.orders u inside) ∙ (follows u (u + 1) (omega (arith, inside)) (omega (arith, inside))).0 (omega arith)
+    in λ no. let equal : order_to_next rises u ≡ Equal
+    = ap order_told (get_or_default rises u No d lt ∙ no) in cc

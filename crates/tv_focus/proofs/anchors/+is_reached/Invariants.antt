@@ -1,5 +1,0 @@
-use Rattle.std.proofs.Common.{length}
-use Rattle.tv_focus.proofs.anchors.+is_reached.Given as goal
-
-abbrev pub decreases-is_reached : goal.decreases-is_reached
-decreases-is_reached l = length l.anchors.now
