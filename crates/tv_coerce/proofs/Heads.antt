@@ -1,8 +1,10 @@
 -- What the head of a rule needs.
 use Rattle.std.proofs.Common.{ℕ, ◌≡◌, ◌≢◌, ◌<◌, ◌⊎◌, inl, inr, Bool, true, false, true≢false, List, [], ◌∷◌, map, Option, Some, None, refl, sym, ap, subst, ◌∙◌}
 use Rattle.std.specs.Prelude.{All, Contains, IsSomeAnd, unwrap_or}
+use Rattle.tv_kleene.specs.declared.K3.{K3}
 use Rattle.tv_kleene.specs.declared.K3.TheVariants.{Half, Yes}
 use Rattle.tv_kleene.specs.Kleene.{LiesUnder}
+use Rattle.tv_model.specs.declared.formula.PredId.{PredId}
 use Rattle.tv_model.specs.Form.{FAtom, FSame}
 use Rattle.tv_model.specs.Program.{HAtom, HSame}
 use Rattle.tv_model.specs.Rules.{signed_form}
@@ -17,8 +19,11 @@ use Rattle.tv_stable.proofs.Heads.{wanted, wanted-definite, signed-wanted, signe
 use Rattle.tv_eval.specs.AssignmentForm.{IsAssigned, assignment_of, place_of}
 use Rattle.tv_struct.specs.StructureForm.{StructureForm, structure_of, summary_at, value_at}
 use Rattle.tv_struct.specs.TableForm.{AreIndividuals}
+use Rattle.tv_struct.specs.declared.table.Tuple.{Tuple}
 use Rattle.tv_struct.proofs.Library.{All-individuals, Contains-range}
+use Rattle.tv_coerce.specs.Touched.{IsChangeOf}
 use Rattle.tv_coerce.specs.Trying.{IsOnSummary}
+use Rattle.tv_coerce.specs.declared.change.Change.TheVariants.{Value}
 
 pub placed : (size : ℕ) (place : Option ℕ) → IsSomeAnd place (λ u. u < size) → unwrap_or place 0 < size
 placed size (Some u) within = within
@@ -82,6 +87,12 @@ atom_put s a flag pred vars all apart u below (inr may) = absurd (apart (may.var
 
     on : summary_at s (a may.var) ≡ true
     on = (by s u below).summaries (a may.var) (subst (λ us. Contains us (a may.var)) (sym (by s u below).individuals) (Contains-range s.size (a may.var) member.0)) may.summary
+
+-- and that is a change which the head may ask for
+pub change_of_atom : (flag : Bool) (p : PredId) (vars : List ℕ) (tuple : Tuple) (k : K3) → k ≡ wanted flag
+    → IsChangeOf (HAtom flag p.0 vars) (Value p tuple k)
+change_of_atom true p vars tuple k is = (refl, is)
+change_of_atom false p vars tuple k is = (refl, is)
 
 -- ---- equalities
 

@@ -15,8 +15,7 @@ use Rattle.tv_value.specs.Value.{value}
 use Rattle.tv_stable.specs.Stable.{IsStableUnder}
 use Rattle.tv_stable.proofs.Heads.{wanted}
 use Rattle.tv_rules.specs.Closing.{conjuncts}
-use Rattle.tv_rules.specs.Dues.{AreDue, DueForm, due_of, dues_of}
-use Rattle.tv_rules.specs.declared.dues.Due.{Due}
+use Rattle.tv_rules.specs.Dues.{AreDue, DueForm}
 use Rattle.tv_rules.proofs.Carried.{conjuncts_carry_formulas}
 use Rattle.tv_struct.specs.StructureForm.{StructureForm, structure_of, value_at}
 use Rattle.tv_struct.specs.StructureRows.{unary_row}
@@ -96,12 +95,6 @@ nowhere-conjunct s rule (k, g, within, is, never) a individuals body =
 pub nowhere-stable : (s : StructureForm) (rule : RuleForm) (vars : List ℕ) (ds : List DueForm) → AreDue (conjuncts rule.body) vars ds
     → Any (λ d. IsNowhere s d.form) ds → IsStableUnder (structure_of s) rule
 nowhere-stable s rule vars ds due any = nowhere-conjunct s rule (subst (Any (IsNowhere s)) due.are (nowhere-among s ds any))
-
--- a conjunct that was read
-pub nowhere-found : (s : StructureForm) (conjuncts : List Due) (i : ℕ) (x : Due) → i < length conjuncts → x ≡ get_or conjuncts i x
-    → IsNowhere s (due_of x).form → Any (λ d. IsNowhere s d.form) (dues_of conjuncts)
-nowhere-found s conjuncts i x within is never =
-    (i, due_of x, rw (length-map conjuncts due_of) within, get_or-map due_of conjuncts i x (due_of x) within ∙ ap due_of (sym is), never)
 
 pub found-none : (s : StructureForm) (rule : RuleForm) (list : List Change) → list ≡ [] → IsStableUnder (structure_of s) rule
     → All (IsForced s rule) list × (list ≡ [] → IsStableUnder (structure_of s) rule)

@@ -8,8 +8,10 @@ pub mod Narrowing
 pub mod OnTheWay
 pub mod Once
 pub mod Ready
+pub mod Seeing
 pub mod SetLaws
 pub mod Sharpening
+pub mod Signs
 pub mod Testing
 pub mod Touching
 pub mod Walking

@@ -1,8 +1,9 @@
 -- Rows of values: where all conjuncts are Yes that a variable is the last of, and where the head isn't met.
-use Rattle.std.proofs.Common.{ℕ, ◌≡◌, ◌≢◌, ◌<◌, ◌≤◌, ◌+◌, ◌⊎◌, inl, inr, ⊎_elim, zero, suc, true, false, List, ◌∷◌, length, map, get_or, replicate, Option, refl, sym, ap, subst, ◌∙◌, arith}
+use Rattle.std.proofs.Common.{ℕ, ◌≡◌, ◌≢◌, ◌<◌, ◌≤◌, ◌+◌, ◌⊎◌, inl, inr, ⊎_elim, zero, suc, true, false, List, ◌∷◌, length, get_or, replicate, Option, Some, slice_get, refl, sym, ap, subst, ◌∙◌, arith}
 use Rattle.std.specs.Prelude.{Any, Contains}
 use Rattle.std.proofs.lemmas.Bool.{cases_eq}
-use Rattle.std.proofs.lemmas.List.{get_or-map, get_or-replicate, get_or_default, length-map, length-replicate}
+use Rattle.std.proofs.lemmas.Option.{get_or_from_slice_get}
+use Rattle.std.proofs.lemmas.List.{get_or-replicate, get_or_default, length-map, length-replicate}
 use Rattle.std.proofs.lemmas.List.FromFn.{length-map-range_with_len, get_or-map-range_with_len}
 use Rattle.tv_kleene.specs.declared.K3.{K3}
 use Rattle.tv_kleene.specs.declared.K3.TheVariants.{No, Half, Yes}
@@ -11,7 +12,7 @@ use Rattle.tv_row.specs.Bits.{paired}
 use Rattle.tv_row.proofs.WordOps.{length-paired, get_or-paired}
 use Rattle.tv_model.specs.declared.formula.Var.{Var}
 use Rattle.tv_rules.specs.EntryForms.{numbers_of}
-use Rattle.tv_model.specs.Form.{Form, FExists, IsFree}
+use Rattle.tv_model.specs.Form.{Form, FAtom, FSame, FExists, IsFree}
 use Rattle.tv_model.specs.Program.{HeadForm, HNever, HAtom, HSame, RuleForm}
 use Rattle.tv_model.specs.Rules.{IsInHead, head_formula}
 use Rattle.tv_model.specs.Truth.{Assignment, put}
@@ -22,14 +23,14 @@ use Rattle.tv_eval.specs.Along.{values_along}
 use Rattle.tv_eval.specs.Bound.{IsBound, bound_structure}
 use Rattle.tv_eval.specs.Formulas.{AreAssigned, nesting}
 use Rattle.tv_eval.specs.ScratchForm.{ScratchForm, Fits}
-use Rattle.tv_rules.specs.Closing.{conjuncts}
+use Rattle.tv_rules.specs.Closing.{conjuncts, negated_head}
 use Rattle.tv_eval.specs.declared.evaluator.Evaluator.{Evaluator}
 use Rattle.tv_struct.specs.StructureForm.{StructureForm, arities_of, structure_of}
 use Rattle.tv_coerce.specs.ByRows.{ArePlaces, IsBodyRow, IsLackingRow, IsNarrowed}
 use Rattle.tv_coerce.specs.Ready.{IsHeadOver}
-use Rattle.tv_rules.specs.Dues.{AreDue, DueForm, IsDue, due_of, dues_of}
-use Rattle.tv_coerce.specs.Trying.{ArePlaced, CanTry, FailsAt, PassesAt, StaysBound, atom_form, sign_of}
-use Rattle.tv_rules.specs.declared.dues.Due.{Due}
+use Rattle.tv_rules.specs.Dues.{AreDue, DueForm, IsDue}
+use Rattle.tv_coerce.specs.Trying.{ArePlaced, CanTry, FailsAt, PassesAt, StaysBound}
+use Rattle.tv_coerce.proofs.Testing.{due-some}
 use Rattle.tv_coerce.proofs.Walking.{given-up, not-left, tried-here}
 
 along-length : (s : StructureForm) (a : Assignment) (v : ℕ) (f : Form) → length (values_along s a v f) ≡ s.size
@@ -117,9 +118,9 @@ pub record BodyUpTo (s : StructureForm) (a : Assignment) (left v : ℕ) (ds : Li
       → PassesAt s (put a v u) left (get_or ds k d)
   pub other : (u : ℕ) → u < s.size → get_or row u No ≢ Yes → Any (FailsAt s (put a v u) left) ds
 
-module _ (s : StructureForm) (a : Assignment) (left v : ℕ) (conjuncts : List Due) where
+module _ (s : StructureForm) (a : Assignment) (left v : ℕ) (ds : List DueForm) where
   pub body-begins : (now : Evaluator) → IsBound now → bound_structure now ≡ s
-      → BodyUpTo s a left v (dues_of conjuncts) 0 now now (replicate s.size Yes)
+      → BodyUpTo s a left v ds 0 now now (replicate s.size Yes)
   body-begins now bound is = record {
     stays = record { bound = bound; structure = is; room = refl };
     size = length-replicate s.size Yes;
@@ -127,62 +128,52 @@ module _ (s : StructureForm) (a : Assignment) (left v : ℕ) (conjuncts : List D
     other = λ u within ne. absurd (ne (get_or-replicate s.size u Yes No within));
   }
 
-  pub body-more : (k : ℕ) (x : Due) (old now new : Evaluator) (row narrower : List K3) → k < length conjuncts → x ≡ get_or conjuncts k x
-      → BodyUpTo s a left v (dues_of conjuncts) k old now row → StaysBound s now new → IsNarrowed s a left v (due_of x) row narrower
-      → BodyUpTo s a left v (dues_of conjuncts) (k + 1) old new narrower
-  body-more k x old now new row narrower within is so_far stays narrowed = record {
+  pub body-more : (k : ℕ) (x : DueForm) (old now new : Evaluator) (row narrower : List K3) → slice_get ds k ≡ Some x
+      → BodyUpTo s a left v ds k old now row → StaysBound s now new → IsNarrowed s a left v x row narrower
+      → BodyUpTo s a left v ds (k + 1) old new narrower
+  body-more k x old now new row narrower is so_far stays narrowed = record {
     stays = record { bound = stays.bound; structure = stays.structure; room = stays.room ∙ so_far.stays.room };
     size = narrowed.size ∙ so_far.size;
     yes = λ u lu e i d less inside. at u lu e i d less inside (cases_eq i k);
-    other = λ u lu ne. ⊎_elim (λ not-yes. so_far.other u lu not-yes) (λ fails. here u fails) (narrowed.other u lu ne);
+    other = λ u lu ne. ⊎_elim (λ not-yes. so_far.other u lu not-yes)
+        (λ fails. due-some ds k x is (FailsAt s (put a v u) left) fails) (narrowed.other u lu ne);
   }
     where
-      here : (u : ℕ) → FailsAt s (put a v u) left (due_of x) → Any (FailsAt s (put a v u) left) (dues_of conjuncts)
-      here u fails =
-          (k, due_of x, rw (length-map conjuncts due_of) within, get_or-map due_of conjuncts k x (due_of x) within ∙ ap due_of (sym is), fails)
-
-      at : (u : ℕ) → u < s.size → get_or narrower u No ≡ Yes → (i : ℕ) (d : DueForm) → i < k + 1 → i < length (dues_of conjuncts)
-          → (i ≡ k) ⊎ (i ≢ k) → PassesAt s (put a v u) left (get_or (dues_of conjuncts) i d)
+      at : (u : ℕ) → u < s.size → get_or narrower u No ≡ Yes → (i : ℕ) (d : DueForm) → i < k + 1 → i < length ds
+          → (i ≡ k) ⊎ (i ≢ k) → PassesAt s (put a v u) left (get_or ds i d)
       at u lu e i d less inside (inr ne) = so_far.yes u lu (narrowed.yes u lu e).0 i d (omega (arith, less, ne)) inside
       at u lu e i d less inside (inl eq) =
-          subst (PassesAt s (put a v u) left)
-          (sym (ap (λ j. get_or (dues_of conjuncts) j d) eq ∙ get_or-map due_of conjuncts k x d within ∙ ap due_of (sym is)))
+          subst (PassesAt s (put a v u) left) (sym (ap (λ j. get_or ds j d) eq ∙ get_or_from_slice_get ds k x d is))
           (narrowed.yes u lu e).1
 
-  pub body-whole : (count : ℕ) (old now : Evaluator) (row : List K3) → length conjuncts ≤ count
-      → BodyUpTo s a left v (dues_of conjuncts) count old now row → IsBodyRow s a left v (dues_of conjuncts) row
+  pub body-whole : (count : ℕ) (old now : Evaluator) (row : List K3) → length ds ≤ count
+      → BodyUpTo s a left v ds count old now row → IsBodyRow s a left v ds row
   body-whole count old now row whole all = record {
     size = all.size;
-    yes = λ u within e k d inside. all.yes u within e k d (omega (arith, whole, inside, length-map conjuncts due_of)) inside;
+    yes = λ u within e k d inside. all.yes u within e k d (omega (arith, whole, inside)) inside;
     other = all.other;
   }
 
 -- ---- where the head isn't met
 
-head-positive : (s : LogicalStructure) (a : Assignment) (head : HeadForm) → sign_of head ≡ true
-    → value s a (head_formula head) ≡ value s a (atom_form head)
-head-positive s a HNever e = refl
-head-positive s a (HAtom true pred vars) e = refl
-head-positive s a (HAtom false pred vars) e = absurd (cc e)
-head-positive s a (HSame true v w) e = refl
-head-positive s a (HSame false v w) e = absurd (cc e)
+-- what a head denies is No only where the head is met
+denied-no : (s : LogicalStructure) (a : Assignment) (head : HeadForm) → value s a (negated_head head) ≡ No → value s a (head_formula head) ≡ Yes
+denied-no s a HNever e = absurd (cc e)
+denied-no s a (HAtom true pred vars) e = negation-no (value s a (FAtom pred vars)) e
+denied-no s a (HAtom false pred vars) e = ap negation_of e
+denied-no s a (HSame true v w) e = negation-no (value s a (FSame v w)) e
+denied-no s a (HSame false v w) e = ap negation_of e
 
-head-negative : (s : LogicalStructure) (a : Assignment) (head : HeadForm) → sign_of head ≡ false
-    → value s a (head_formula head) ≡ negation_of (value s a (atom_form head))
-head-negative s a HNever e = absurd (cc e)
-head-negative s a (HAtom true pred vars) e = absurd (cc e)
-head-negative s a (HAtom false pred vars) e = refl
-head-negative s a (HSame true v w) e = absurd (cc e)
-head-negative s a (HSame false v w) e = refl
-
--- what stands in the head is free in its atom
-head-free : (w : ℕ) (head : HeadForm) → IsInHead w head → IsFree w (atom_form head)
+-- what stands in the head is free in what it denies
+head-free : (w : ℕ) (head : HeadForm) → IsInHead w head → IsFree w (negated_head head)
 head-free w HNever at = at
-head-free w (HAtom flag pred vars) at = at
-head-free w (HSame flag v u) at = at
+head-free w (HAtom true pred vars) at = at
+head-free w (HAtom false pred vars) at = at
+head-free w (HSame true v u) at = at
+head-free w (HSame false v u) at = at
 
--- none of the variables stands in the head, if its atom waits for none of them
-pub settled-out : (vars : List Var) (head : HeadForm) (d : DueForm) → d.form ≡ atom_form head → IsDue (numbers_of vars) d
+-- none of the variables stands in the head, if what it denies waits for none of them
+pub settled-out : (vars : List Var) (head : HeadForm) (d : DueForm) → d.form ≡ negated_head head → IsDue (numbers_of vars) d
     → length vars ≤ d.left → (w : ℕ) → Contains (numbers_of vars) w → ¬ IsInHead w head
 settled-out vars head d is due all w has at =
     not-left (numbers_of vars) d due (omega (arith, all, length-map vars (λ (v : Var). v.0))) w has
@@ -195,57 +186,50 @@ module _ (s : StructureForm) (rule : RuleForm) (v : ℕ) (rest : List ℕ) (a : 
     λ u within e. let clash : Yes ≡ No = sym (get_or-replicate s.size u Yes No within) ∙ e in absurd (cc),
   )
 
-  pub lacking-positive : ((w : ℕ) → Contains rest w → ¬ IsInHead w rule.head) → sign_of rule.head ≡ true
-      → IsLackingRow s rule rest v a (map negation_of (values_along s a v (atom_form rule.head)))
-  lacking-positive out sign = (
-    length-map along negation_of ∙ along-length s a v (atom_form rule.head),
-    λ u within e. tried-here s rule rest (put a v u) out (inl (head-positive (structure_of s) (put a v u) rule.head sign
-        ∙ sym (along-value s a v (atom_form rule.head) u within)
-        ∙ negation-no (get_or along u No)
-        (sym (get_or-map negation_of along u No No (omega (arith, within, along-length s a v (atom_form rule.head)))) ∙ e))),
-  )
-    where
-      along : List K3
-      along = values_along s a v (atom_form rule.head)
-
-  pub lacking-negative : ((w : ℕ) → Contains rest w → ¬ IsInHead w rule.head) → sign_of rule.head ≡ false
-      → IsLackingRow s rule rest v a (values_along s a v (atom_form rule.head))
-  lacking-negative out sign = (
-    along-length s a v (atom_form rule.head),
-    λ u within e. tried-here s rule rest (put a v u) out (inl (head-negative (structure_of s) (put a v u) rule.head sign
-        ∙ ap negation_of (sym (along-value s a v (atom_form rule.head) u within) ∙ e))),
+  pub lacking-denied : ((w : ℕ) → Contains rest w → ¬ IsInHead w rule.head)
+      → IsLackingRow s rule rest v a (values_along s a v (negated_head rule.head))
+  lacking-denied out = (
+    along-length s a v (negated_head rule.head),
+    λ u within e. tried-here s rule rest (put a v u) out (inl (denied-no (structure_of s) (put a v u) rule.head
+        (sym (along-value s a v (negated_head rule.head) u within) ∙ e))),
   )
 
--- the head's atom can be valued for all individuals, put for the last variable
-pub record CanAtom (t : StructureForm) (room : ScratchForm) (places : List (Option ℕ)) (v : ℕ) (f : Form) : Type 0 where
+-- what the head denies can be valued for all individuals, put for the last variable
+pub record CanDeny (t : StructureForm) (room : ScratchForm) (places : List (Option ℕ)) (v : ℕ) (f : Form) : Type 0 where
   pub formula : IsFormulaOver (arities_of t) (FExists v f)
   pub assigned : AreAssigned t.size places (FExists v f)
   pub fits : Fits room f t.size
 
-atom-over : (arities : List ℕ) (head : HeadForm) → IsHeadOver arities head → IsFormulaOver arities (atom_form head)
-atom-over arities HNever over = tt
-atom-over arities (HAtom flag pred vars) over = over
-atom-over arities (HSame flag v w) over = over
+denied-over : (arities : List ℕ) (head : HeadForm) → IsHeadOver arities head → IsFormulaOver arities (negated_head head)
+denied-over arities HNever over = tt
+denied-over arities (HAtom true pred vars) over = over
+denied-over arities (HAtom false pred vars) over = over
+denied-over arities (HSame true v w) over = over
+denied-over arities (HSame false v w) over = over
 
-atom-free : (w : ℕ) (head : HeadForm) → IsFree w (atom_form head) → IsInHead w head
-atom-free w HNever free = free
-atom-free w (HAtom flag pred vars) free = free
-atom-free w (HSame flag v u) free = free
+denied-free : (w : ℕ) (head : HeadForm) → IsFree w (negated_head head) → IsInHead w head
+denied-free w HNever free = free
+denied-free w (HAtom true pred vars) free = free
+denied-free w (HAtom false pred vars) free = free
+denied-free w (HSame true v u) free = free
+denied-free w (HSame false v u) free = free
 
-atom-nesting : (head : HeadForm) → nesting (atom_form head) ≡ 0
-atom-nesting HNever = refl
-atom-nesting (HAtom flag pred vars) = refl
-atom-nesting (HSame flag v w) = refl
+denied-nesting : (head : HeadForm) → nesting (negated_head head) ≡ 0
+denied-nesting HNever = refl
+denied-nesting (HAtom true pred vars) = refl
+denied-nesting (HAtom false pred vars) = refl
+denied-nesting (HSame true v w) = refl
+denied-nesting (HSame false v w) = refl
 
-pub can-atom : (s t : StructureForm) (rule : RuleForm) (room : ScratchForm) (places : List (Option ℕ)) (v : ℕ) (rest : List ℕ) (f : Form)
+pub can-deny : (s t : StructureForm) (rule : RuleForm) (room : ScratchForm) (places : List (Option ℕ)) (v : ℕ) (rest : List ℕ) (f : Form)
     → CanTry rule s room → v < 32 → ArePlaced s.size rule (v ∷ rest) places → ((w : ℕ) → Contains rest w → ¬ IsInHead w rule.head)
-    → f ≡ atom_form rule.head → t ≡ s → CanAtom t room places v f
-can-atom s t rule room places v rest f can variable placed out is same =
-    subst (λ r. CanAtom r room places v f) (sym same) (subst (CanAtom s room places v) (sym is) (record {
-      formula = (variable, atom-over (arities_of s) rule.head can.over.head);
-      assigned = λ w free. placed w (inr (atom-free w rule.head free.1)) (λ has. alone w free.0 (atom-free w rule.head free.1) has);
+    → f ≡ negated_head rule.head → t ≡ s → CanDeny t room places v f
+can-deny s t rule room places v rest f can variable placed out is same =
+    subst (λ r. CanDeny r room places v f) (sym same) (subst (CanDeny s room places v) (sym is) (record {
+      formula = (variable, denied-over (arities_of s) rule.head can.over.head);
+      assigned = λ w free. placed w (inr (denied-free w rule.head free.1)) (λ has. alone w free.0 (denied-free w rule.head free.1) has);
       fits = record {
-        closures = omega (arith, atom-nesting rule.head);
+        closures = omega (arith, denied-nesting rule.head);
         individuals = can.fits.individuals;
       };
     }))

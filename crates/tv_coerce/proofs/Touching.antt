@@ -1,59 +1,134 @@
 -- Changes of one kind touch only what rules of that kind see.
-use Rattle.std.proofs.Common.{ℕ, ◌≡◌, ◌∙◌, Bool, List, [], ◌∷◌, map, Some, slice_get, All, Contains, ⊎_elim, inl, inr, refl, sym, ap, subst}
+use Rattle.std.proofs.Common.{ℕ, ◌≡◌, ◌≢◌, ◌∙◌, ◌⊎◌, Bool, true, false, true≢false, List, [], Some, slice_get, All, Contains, ⊎_elim, inl, inr, refl, sym, ap, subst}
 use Rattle.std.specs.List.{range_with_len}
 use Rattle.std.proofs.lemmas.Bool.{cases_eq}
-use Rattle.std.proofs.lemmas.List.Elements.{All-contains}
+use Rattle.std.proofs.lemmas.List.Elements.{All-contains, Contains-append_left, Contains-append_right}
+use Rattle.tv_kleene.specs.declared.K3.{K3}
+use Rattle.tv_kleene.specs.declared.K3.TheVariants.{No, Half, Yes}
+use Rattle.tv_kleene.specs.Kleene.{smaller_of, IsAtMost}
+use Rattle.tv_kleene.proofs.Lattice.{smaller-assoc, smaller-yes}
+use Rattle.tv_kleene.proofs.Thresholds.{Yes-below}
+use Rattle.tv_model.specs.Form.{Form, FZero, FOne, FAtom, FIsNew, FSame, FNot, FAnd, FOr, FIff, FCond, FExists, FForall, FClosure}
 use Rattle.tv_model.specs.Program.{HeadForm, HNever, HAtom, HSame, RuleForm}
-use Rattle.tv_model.proofs.Lists.{slice_get-contains}
-use Rattle.tv_rules.specs.Standing.{StandsIn, IsHeadOf, IsEquality}
-use Rattle.tv_stable.specs.Stable.{IsStableUnder}
+use Rattle.tv_model.specs.Rules.{IsOfIndividuals, head_formula}
+use Rattle.tv_model.proofs.Heads.{free-in_head, head-unmarked}
+use Rattle.tv_model.proofs.Lists.{Contains-here, slice_get-contains}
+use Rattle.tv_frame.specs.Embedding.{IsBelow}
+use Rattle.tv_value.proofs.Embedded.{values_are_monotone}
+use Rattle.tv_rules.specs.Closing.{conjuncts}
+use Rattle.tv_rules.specs.Standing.{IsEquality, IsHeadOf, HasTwice}
+use Rattle.tv_stable.specs.Stable.{IsHeadMet, IsStableUnder}
 use Rattle.tv_stable.specs.Laws.{IsPlainRule}
-use Rattle.tv_splits.specs.Split.{IsUntouched}
-use Rattle.tv_splits.proofs.Splits.{splits_are_stable}
-use Rattle.tv_splits.proofs.Untouched.{untouched_rules_stay_stable}
-use Rattle.tv_struct.specs.StructureForm.{StructureForm, IsStructure, structure_of, value_at, summary_at}
-use Rattle.tv_struct.specs.Laws.{WritesOneEntry}
+use Rattle.tv_struct.specs.StructureForm.{StructureForm, IsStructure, structure_of, value_at, summary_at, with_value, with_summary}
+use Rattle.tv_struct.specs.Laws.{WritesOneEntry, WritesOneSummary}
 use Rattle.tv_struct.specs.TupleForm.{tuple_of}
-use Rattle.tv_struct.proofs.StructureLaws.{writes_one_entry}
+use Rattle.tv_struct.proofs.HalfLaws.{tuples_decided}
+use Rattle.tv_struct.proofs.StructureLaws.{writes_one_entry, writes_one_summary}
 use Rattle.tv_coerce.specs.declared.change.Change.{Change}
 use Rattle.tv_coerce.specs.declared.change.Change.TheVariants.{Value, Ordinary}
 use Rattle.tv_coerce.specs.Changes.{IsPlace, IsLowered, changed}
-use Rattle.tv_coerce.specs.RuleSets.{HasMore, HasLost, IsRuleThat, IsStableBut}
-use Rattle.tv_coerce.specs.Touched.{IsChangeOf, Sees, IsTouched}
+use Rattle.tv_coerce.specs.RuleSets.{HasAtLeast, HasMore, HasLost, IsIn, IsRuleThat, IsStableBut}
+use Rattle.tv_coerce.specs.Touched.{HasNotMoved, IsChangeOf, IsTouched, MayMove, Sees, SeesTwice, Watches}
+use Rattle.tv_coerce.proofs.Signs.{moves-shows, still, still-whole, still-yes}
 
 -- ---- what is touched
+
+at-most-itself : (x : K3) → IsAtMost x x
+at-most-itself No = refl
+at-most-itself Half = refl
+at-most-itself Yes = refl
+
+at-most-trans : (x y z : K3) → IsAtMost x y → IsAtMost y z → IsAtMost x z
+at-most-trans x y z first second =
+    ap (λ k. smaller_of k z) (sym first) ∙ smaller-assoc x y z ∙ ap (smaller_of x) second ∙ first
+
+not-moved : (up : Bool) (x y : K3) → y ≡ x → HasNotMoved up x y
+not-moved true x y e = subst (λ k. IsAtMost k x) (sym e) (at-most-itself x)
+not-moved false x y e = subst (IsAtMost x) (sym e) (at-most-itself x)
+
+not-moved-both : (up : Bool) (x y z : K3) → HasNotMoved up x y → HasNotMoved up y z → HasNotMoved up x z
+not-moved-both true x y z first second = at-most-trans z y x second first
+not-moved-both false x y z first second = at-most-trans x y z first second
 
 pub touched-none : (head : HeadForm) (s : StructureForm) → IsTouched head s s
 touched-none head s = record {
   size = refl;
   values = λ q not_head tuple. refl;
+  moved = λ up q none tuple. not-moved up (value_at s q tuple) (value_at s q tuple) refl;
   summaries = λ not_same u. refl;
+  fewer = λ u on. on;
 }
 
 pub touched-both : (head : HeadForm) (r s t : StructureForm) → IsTouched head r s → IsTouched head s t → IsTouched head r t
 touched-both head r s t first second = record {
   size = second.size ∙ first.size;
   values = λ q not_head tuple. second.values q not_head tuple ∙ first.values q not_head tuple;
+  moved = λ up q none tuple. not-moved-both up (value_at r q tuple) (value_at s q tuple) (value_at t q tuple)
+      (first.moved up q none tuple) (second.moved up q none tuple);
   summaries = λ not_same u. second.summaries not_same u ∙ first.summaries not_same u;
+  fewer = λ u on. first.fewer u (second.fewer u on);
+}
+
+-- a value that meets the head
+module _ (s : StructureForm) (p : ℕ) (tuple : List ℕ) (k : K3) (one : WritesOneEntry s p tuple k) where
+  moved-at : (flag up : Bool) (q : ℕ) (other : List ℕ) → HasNotMoved up (value_at s p tuple) k
+      → HasNotMoved up (value_at s q other) (value_at (with_value s p tuple k) q other)
+  moved-at flag up q other here = at (cases_eq q p) (tuples_decided other tuple)
+    where
+      at : (q ≡ p) ⊎ (q ≢ p) → (other ≡ tuple) ⊎ (other ≢ tuple)
+          → HasNotMoved up (value_at s q other) (value_at (with_value s p tuple k) q other)
+      at (inl d) (inl f) = rw (d, f, one.written) here
+      at (inl d) (inr ne) = not-moved up _ _ (one.others q other (λ both. ne both.1))
+      at (inr ne) f = not-moved up _ _ (one.others q other (λ both. ne both.0))
+
+  moved-value : (flag up : Bool) (q : ℕ) (other : List ℕ) → (flag ≡ true → k ≡ Yes) → (flag ≡ false → k ≡ No) → ¬ ((q ≡ p) × (flag ≡ up))
+      → HasNotMoved up (value_at s q other) (value_at (with_value s p tuple k) q other)
+  moved-value flag up q other if-true if-false none = by (cases_eq q p)
+    where
+      here : (f u : Bool) → (f ≡ true → k ≡ Yes) → (f ≡ false → k ≡ No) → f ≢ u → HasNotMoved u (value_at s p tuple) k
+      here true true if-true' if-false' apart = absurd (apart refl)
+      here true false if-true' if-false' apart = subst (IsAtMost (value_at s p tuple)) (sym (if-true' refl)) (smaller-yes (value_at s p tuple))
+      here false true if-true' if-false' apart = subst (λ x. IsAtMost x (value_at s p tuple)) (sym (if-false' refl)) refl
+      here false false if-true' if-false' apart = absurd (apart refl)
+
+      by : (q ≡ p) ⊎ (q ≢ p) → HasNotMoved up (value_at s q other) (value_at (with_value s p tuple k) q other)
+      by (inl d) = moved-at flag up q other (here flag up if-true if-false (λ e. none (d, e)))
+      by (inr ne) = not-moved up _ _ (one.others q other (λ both. ne both.0))
+
+touched-value : (flag : Bool) (pred : ℕ) (vars : List ℕ) (s : StructureForm) (p : ℕ) (tuple : List ℕ) (k : K3) → WritesOneEntry s p tuple k
+    → p ≡ pred → (flag ≡ true → k ≡ Yes) → (flag ≡ false → k ≡ No) → IsTouched (HAtom flag pred vars) s (with_value s p tuple k)
+touched-value flag pred vars s p tuple k one of if-true if-false = record {
+  size = refl;
+  values = λ q not_head other. one.others q other (λ both. not_head (both.0 ∙ of));
+  moved = λ up q none other. moved-value s p tuple k one flag up q other if-true if-false (λ both. none (both.0 ∙ of, both.1));
+  summaries = λ not_same u. refl;
+  fewer = λ u on. on;
 }
 
 pub touched-changed : (head : HeadForm) (s : StructureForm) (c : Change) → IsStructure s → IsPlace s c → IsChangeOf head c
     → IsTouched head s (changed s c)
 touched-changed HNever s c is place of = absurd of
-touched-changed (HAtom flag pred vars) s (Value p tuple k) is place of =
-    let one : WritesOneEntry s p.0 (tuple_of tuple) k = writes_one_entry s p.0 (tuple_of tuple) k is place
-    in record {
-      size = refl;
-      values = λ q not_head other. one.others q other (λ both. not_head (both.0 ∙ of));
-      summaries = λ not_same u. refl;
-    }
-touched-changed (HAtom flag pred vars) s (Ordinary x) is place of = absurd of
+touched-changed (HAtom true pred vars) s (Value p tuple k) is place of =
+    touched-value true pred vars s p.0 (tuple_of tuple) k (writes_one_entry s p.0 (tuple_of tuple) k is place) of.0 (λ e. of.1) (λ e. absurd (cc e))
+touched-changed (HAtom false pred vars) s (Value p tuple k) is place of =
+    touched-value false pred vars s p.0 (tuple_of tuple) k (writes_one_entry s p.0 (tuple_of tuple) k is place) of.0 (λ e. absurd (cc e)) (λ e. of.1)
+touched-changed (HAtom true pred vars) s (Ordinary x) is place of = absurd of
+touched-changed (HAtom false pred vars) s (Ordinary x) is place of = absurd of
 touched-changed (HSame flag v w) s (Value p tuple k) is place of = absurd of
 touched-changed (HSame flag v w) s (Ordinary x) is place of = record {
   size = refl;
   values = λ q not_head other. refl;
+  moved = λ up q none other. not-moved up _ _ refl;
   summaries = λ not_same u. absurd (not_same tt);
+  fewer = λ u on. at u on (cases_eq u x);
 }
+  where
+    one : WritesOneSummary s x false
+    one = writes_one_summary s x false is place
+
+    at : (u : ℕ) → summary_at (with_summary s x false) u ≡ true → (u ≡ x) ⊎ (u ≢ x) → summary_at s u ≡ true
+    at u on (inl e) = absurd (true≢false (sym on ∙ ap (summary_at (with_summary s x false)) e ∙ one.written))
+    at u on (inr ne) = sym (one.others u ne) ∙ on
 
 pub touched-lowered : (head : HeadForm) (s t : StructureForm) (c : Change) → IsStructure s → IsPlace s c → IsChangeOf head c
     → IsLowered c s t → IsTouched head s t
@@ -61,66 +136,85 @@ touched-lowered head s t c is place of low =
     ⊎_elim (λ e. subst (IsTouched head s) (sym e) (touched-none head s))
     (λ e. subst (IsTouched head s) (sym e) (touched-changed head s c is place of)) low.is
 
+-- ---- a rule that sees it
+
+pub sees-watches : (head : HeadForm) (rule : RuleForm) → Sees head rule → Watches head rule
+sees-watches HNever rule sees = ⊎_elim (moves-shows HNever rule.body true) (λ k. k) sees
+sees-watches (HAtom flag pred vars) rule sees =
+    ⊎_elim (λ k. inl (moves-shows (HAtom flag pred vars) rule.body true k)) (λ k. inr k.0) sees
+sees-watches (HSame flag v w) rule sees =
+    ⊎_elim (λ k. inl (inl (moves-shows (HSame flag v w) rule.body true k))) (λ k. inr k) sees
+
+-- a body that is moved has a conjunct that is
+pub moves-conjunct : (head : HeadForm) (f : Form) → MayMove head true f → (g : Form) × Contains (conjuncts f) g × MayMove head true g
+moves-conjunct head FZero k = absurd k
+moves-conjunct head FOne k = absurd k
+moves-conjunct head (FAtom q vars) k = (FAtom q vars, Contains-here (FAtom q vars) [], k)
+moves-conjunct head (FIsNew v) k = absurd k
+moves-conjunct head (FSame v w) k = (FSame v w, Contains-here (FSame v w) [], k)
+moves-conjunct head (FNot f) k = (FNot f, Contains-here (FNot f) [], k)
+moves-conjunct head (FAnd f g) k =
+    ⊎_elim
+    (λ l. let at : (h : Form) × Contains (conjuncts f) h × MayMove head true h = moves-conjunct head f l
+    in (at.0, Contains-append_left (conjuncts f) (conjuncts g) at.0 at.1, at.2))
+    (λ r. let at : (h : Form) × Contains (conjuncts g) h × MayMove head true h = moves-conjunct head g r
+    in (at.0, Contains-append_right (conjuncts f) (conjuncts g) at.0 at.1, at.2)) k
+moves-conjunct head (FOr f g) k = (FOr f g, Contains-here (FOr f g) [], k)
+moves-conjunct head (FIff f g) k = (FIff f g, Contains-here (FIff f g) [], k)
+moves-conjunct head (FCond c f g) k = (FCond c f g, Contains-here (FCond c f g) [], k)
+moves-conjunct head (FExists v f) k = (FExists v f, Contains-here (FExists v f) [], k)
+moves-conjunct head (FForall v f) k = (FForall v f, Contains-here (FForall v f) [], k)
+moves-conjunct head (FClosure from to left right f) k =
+    (FClosure from to left right f, Contains-here (FClosure from to left right f) [], k)
+
 -- ---- rules that don't see it stay stable
 
-untouched : (s t : StructureForm) (rule : RuleForm) → t.size ≡ s.size
-    → ((q : ℕ) → StandsIn q rule → (tuple : List ℕ) → value_at t q tuple ≡ value_at s q tuple)
-    → ((u : ℕ) → summary_at t u ≡ summary_at s u) → IsUntouched rule (structure_of s) (structure_of t)
-untouched s t rule size values summaries = record {
-  individuals = λ u. (
-    λ at. subst (λ n. Contains (range_with_len 0 n) u) (sym size) at,
-    λ at. subst (λ n. Contains (range_with_len 0 n) u) size at,
-  );
-  values = λ q stands tuple all. sym (values q stands tuple);
-  summaries = λ u at. sym (summaries u);
-}
+module _ (head : HeadForm) (s t : StructureForm) (rule : RuleForm) (touched : IsTouched head s t) (fresh : t.fresh ≡ s.fresh)
+    (below : IsBelow (structure_of t) (structure_of s)) (plain : IsPlainRule rule) (unseen : ¬ Sees head rule) where
+  -- a head that was met by a value that isn't known has that value still
+  kept-half : (h : HeadForm) → HasTwice h → ¬ SeesTwice head h → ((up : Bool) → ¬ MayMove head up (head_formula h)) × ((u : ℕ) → summary_at t u ≡ summary_at s u)
+  kept-half h twice none = at head refl
+    where
+      moves-head : (flag : Bool) (pred : ℕ) (vars : List ℕ) (other : HeadForm) (up : Bool)
+          → MayMove (HAtom flag pred vars) up (head_formula other) → IsHeadOf pred other
+      moves-head flag pred vars HNever up k = k
+      moves-head flag pred vars (HAtom true q us) up k = sym k.0
+      moves-head flag pred vars (HAtom false q us) up k = sym k.0
+      moves-head flag pred vars (HSame true v w) up k = absurd k.0
+      moves-head flag pred vars (HSame false v w) up k = absurd k.0
 
-map-itself : (us : List ℕ) → map (λ u. u) us ≡ us
-map-itself [] = refl
-map-itself (u ∷ us) = ap (λ xs. u ∷ xs) (map-itself us)
+      at : (own : HeadForm) → head ≡ own → ((up : Bool) → ¬ MayMove head up (head_formula h)) × ((u : ℕ) → summary_at t u ≡ summary_at s u)
+      at HNever e = (
+        λ up k. moves-shows HNever (head_formula h) up (subst (λ o. MayMove o up (head_formula h)) e k),
+        touched.summaries (λ same. subst IsEquality e same),
+      )
+      at (HAtom flag pred vars) e = (
+        λ up k. none (subst (λ o. SeesTwice o h) (sym e)
+            (moves-head flag pred vars h up (subst (λ o. MayMove o up (head_formula h)) e k), twice)),
+        touched.summaries (λ same. subst IsEquality e same),
+      )
+      at (HSame flag v w) e = absurd (none (subst (λ o. SeesTwice o h) (sym e) twice))
 
-pub stays-stable : (head : HeadForm) (s t : StructureForm) (rule : RuleForm) → IsTouched head s t → IsPlainRule rule
-    → ¬ Sees head rule → IsStableUnder (structure_of s) rule → IsStableUnder (structure_of t) rule
-stays-stable HNever s t rule touched plain unseen stable =
-    untouched_rules_stay_stable (structure_of s) (structure_of t) rule plain.unmarked
-    (untouched s t rule touched.size (λ q stands tuple. touched.values q (λ at. at) tuple) (touched.summaries (λ at. at))) stable
-stays-stable (HAtom flag pred vars) s t rule touched plain unseen stable =
-    untouched_rules_stay_stable (structure_of s) (structure_of t) rule plain.unmarked
-    (untouched s t rule touched.size
-    (λ q stands tuple. touched.values q (λ at. unseen (subst (λ r. StandsIn r rule) at stands)) tuple)
-    (touched.summaries (λ at. at))) stable
-stays-stable (HSame flag v w) s t rule touched plain unseen stable =
-    splits_are_stable (λ u. u) (structure_of t) (structure_of s) rule
-    (record {
-      into = λ u at. subst (λ n. Contains (range_with_len 0 n) u) touched.size at;
-      onto = λ u at. (u, subst (λ n. Contains (range_with_len 0 n) u) (sym touched.size) at, refl);
-      values = λ q stands tuple all. touched.values q (λ at. at) tuple ∙ ap (value_at s q) (sym (map-itself tuple));
-    })
-    (record {
-      of_atoms = record { atoms = λ same. unseen (inl same); unmarked = plain.unmarked };
-      differ = λ twice. unseen (inr twice);
-    })
-    stable
+  pub stays-stable : IsStableUnder (structure_of s) rule → IsStableUnder (structure_of t) rule
+  stays-stable stable a individuals body = met (stable a inside (still-yes _ _ (still head s t touched fresh rule.body true a (λ k. unseen (inl k))) body))
+    where
+      inside : IsOfIndividuals (range_with_len 0 s.size) rule a
+      inside v free = subst (λ n. Contains (range_with_len 0 n) (a v)) touched.size (individuals v free)
 
--- what wasn't waiting stays stable, where all rules that see the changes wait
-pub stays-stable-but : (head : HeadForm) (s t : StructureForm) (rules : List RuleForm) (old new : List Bool)
-    → IsTouched head s t → All IsPlainRule rules → IsStableBut rules old s
-    → HasMore (IsRuleThat (Sees head) rules) old new → IsStableBut rules new t
-stays-stable-but head s t rules old new touched plain stable more n rule found out =
-    stays-stable head s t rule touched (All-contains IsPlainRule rules rule plain (slice_get-contains rules n rule found))
-    (λ sees. out ((more.exact n).1 (inr (rule, found, sees))))
-    (stable n rule found (λ was. out ((more.exact n).1 (inl was))))
+      met : IsHeadMet (structure_of s) a rule.head → IsHeadMet (structure_of t) a rule.head
+      met (inl is) = inl (Yes-below _ _
+          (values_are_monotone (head_formula rule.head) (structure_of t) (structure_of s) a below
+          (λ new. absurd (head-unmarked rule.head new)) (λ v free. individuals v (inr (free-in_head v rule.head free)))) is)
+      met (inr may) =
+          let kept = kept-half rule.head (may.var, may.twice) (λ k. unseen (inr k))
+          in inr (record {
+            var = may.var;
+            twice = may.twice;
+            summary = kept.1 (a may.var) ∙ may.summary;
+            half = sym (still-whole head s t touched fresh (head_formula rule.head) a kept.0) ∙ may.half;
+          })
 
 -- ---- a rule that was taken out and tried
-
--- the head's own rule sees the changes that it asks for
-pub sees-itself : (rule : RuleForm) (c : Change) → IsChangeOf rule.head c → Sees rule.head rule
-sees-itself rule c of = go rule.head refl of
-  where
-    go : (head : HeadForm) → rule.head ≡ head → IsChangeOf head c → Sees head rule
-    go HNever e of = absurd of
-    go (HAtom flag pred vars) e of = inr (subst (IsHeadOf pred) (sym e) refl)
-    go (HSame flag v w) e of = inl (inr (subst IsEquality (sym e) tt))
 
 -- a rule under which the structure is stable need not wait
 pub stable-without : (s : StructureForm) (rules : List RuleForm) (n : ℕ) (old new : List Bool) → IsStableBut rules old s
@@ -132,15 +226,15 @@ stable-without s rules n old new stable lost here m rule found out =
     (cases_eq m n)
 
 -- a rule that was taken out and asked for changes waits again
-pub stable-after : (s t : StructureForm) (rules : List RuleForm) (n : ℕ) (rule : RuleForm) (old mid new : List Bool)
-    → All IsPlainRule rules → slice_get rules n ≡ Some rule → Sees rule.head rule → IsTouched rule.head s t
-    → IsStableBut rules old s → HasLost n old mid → HasMore (IsRuleThat (Sees rule.head) rules) mid new
-    → IsStableBut rules new t
-stable-after s t rules n rule old mid new plain there sees touched stable lost more m other found out =
+pub stable-after : (s t : StructureForm) (rules : List RuleForm) (n : ℕ) (rule : RuleForm) (mid more new : List Bool)
+    → All IsPlainRule rules → IsTouched rule.head s t → t.fresh ≡ s.fresh → IsBelow (structure_of t) (structure_of s)
+    → ((m : ℕ) (other : RuleForm) → slice_get rules m ≡ Some other → m ≢ n → ¬ IsIn mid m → IsStableUnder (structure_of s) other)
+    → HasAtLeast (IsRuleThat (Sees rule.head) rules) mid more → HasMore (λ m. m ≡ n) more new → IsStableBut rules new t
+stable-after s t rules n rule mid more new plain touched fresh below stable seeing again m other found out =
     ⊎_elim
-    (λ e. absurd (out ((more.exact m).1 (inr (rule, subst (λ k. slice_get rules k ≡ Some rule) (sym e) there, sees)))))
-    (λ ne. stays-stable rule.head s t other touched
+    (λ e. absurd (out ((again.exact m).1 (inr e))))
+    (λ ne. stays-stable rule.head s t other touched fresh below
     (All-contains IsPlainRule rules other plain (slice_get-contains rules m other found))
-    (λ it. out ((more.exact m).1 (inr (other, found, it))))
-    (stable m other found (λ was. out ((more.exact m).1 (inl ((lost.others m ne).1 was))))))
+    (λ it. out ((again.exact m).1 (inl (seeing.those m (other, found, it)))))
+    (stable m other found ne (λ was. out ((again.exact m).1 (inl (seeing.kept m was))))))
     (cases_eq m n)

@@ -1,5 +1,5 @@
--- What trying a rule makes of a structure, and how far coerce has come.
-use Rattle.std.specs.Prelude.{◌≡◌, ◌<◌, Bool, true, false, List, [], length, All}
+-- What trying rules makes of a structure, and how far coerce has come.
+use Rattle.std.specs.Prelude.{ℕ, ◌≡◌, ◌≢◌, ◌<◌, Bool, true, false, List, [], length, Option, Some, None, All, slice_get}
 use Rattle.tv_model.specs.Program.{RuleForm}
 use Rattle.tv_frame.specs.LogicalStructure.{LogicalStructure}
 use Rattle.tv_frame.specs.Embedding.{IsBelow}
@@ -7,12 +7,12 @@ use Rattle.tv_stable.specs.Stable.{IsStableUnder, IsStable, HasNoStable}
 use Rattle.tv_struct.specs.Halves.{half_count}
 use Rattle.tv_struct.specs.StructureForm.{StructureForm, IsStructure, arities_of, structure_of}
 use Rattle.tv_coerce.specs.Coerced.{IsCoercedTable}
-use Rattle.tv_coerce.specs.RuleSets.{IsStableBut}
-use Rattle.tv_coerce.specs.Touched.{Sees, IsTouched}
-use Rattle.tv_coerce.specs.Trying.{IsForced, IsHopeless}
+use Rattle.tv_coerce.specs.RuleSets.{IsIn, IsStableBut}
+use Rattle.tv_coerce.specs.Touched.{IsTouched}
+use Rattle.tv_coerce.specs.Trying.{IsForced}
 use Rattle.tv_coerce.specs.declared.change.Change.{Change}
-use Rattle.tv_coerce.specs.declared.attempt.Attempt.{Attempt}
-use Rattle.tv_coerce.specs.declared.attempt.Attempt.TheVariants.{Stable, Sharper, Hopeless}
+use Rattle.tv_coerce.specs.declared.attempt.Asked.{Asked}
+use Rattle.tv_coerce.specs.declared.attempt.Asked.TheVariants.{Changes, Impossible}
 
 -- the new structure is the old one made sharper by the rule, in what its head asks for
 pub record IsSharper (rule : RuleForm) (old new : StructureForm) : Type 0 where
@@ -20,23 +20,28 @@ pub record IsSharper (rule : RuleForm) (old new : StructureForm) : Type 0 where
   pub arities : arities_of new ≡ arities_of old
   pub mark : new.fresh ≡ old.fresh
   pub touched : IsTouched rule.head old new
-  pub sees : Sees rule.head rule
   pub below : IsBelow (structure_of new) (structure_of old)
   pub loses_none : (u : LogicalStructure) → IsStableUnder u rule → IsBelow u (structure_of old)
       → IsBelow u (structure_of new)
   pub fewer : half_count new < half_count old
 
--- what trying the rule told: the structure is stable under it, or was made sharper, or no structure below is stable
-abbrev pub IsAttempted : RuleForm → (old new : StructureForm) → Attempt → Type 0
-IsAttempted rule old new Stable = (new ≡ old) × IsStableUnder (structure_of old) rule
-IsAttempted rule old new Sharper = IsSharper rule old new
-IsAttempted rule old new Hopeless = IsHopeless old rule
+-- the rule of that number asks for changes, of which there are some and which each stable structure below has; the
+-- structure is stable under the other rules that don't wait
+pub record AreAsked (rules : List RuleForm) (s : StructureForm) (waiting : List Bool) (number : ℕ) (changes : List Change)
+    : Type 0 where
+  pub count : length waiting ≡ length rules
+  pub within : number < length rules
+  pub others : (m : ℕ) (rule : RuleForm) → slice_get rules m ≡ Some rule → m ≢ number → ¬ IsIn waiting m
+      → IsStableUnder (structure_of s) rule
+  pub forced : (rule : RuleForm) → slice_get rules number ≡ Some rule → All (IsForced s rule) changes
+  pub some : changes ≢ []
 
--- what the rule asks for: changes that each stable structure below has, and none only where the structure is
--- stable under the rule
-pub record AreAsked (rule : RuleForm) (s : StructureForm) (changes : List Change) : Type 0 where
-  pub forced : All (IsForced s rule) changes
-  pub stable : changes ≡ [] → IsStableUnder (structure_of s) rule
+-- what trying the rules that wait told: the structure is stable, or one asks for changes, or no structure below is
+-- stable
+abbrev pub IsAttempted : List RuleForm → StructureForm → (waiting : List Bool) → Option Asked → Type 0
+IsAttempted rules s waiting None = IsStable rules (structure_of s)
+IsAttempted rules s waiting (Some (Changes number changes)) = AreAsked rules s waiting number changes.items
+IsAttempted rules s waiting (Some Impossible) = HasNoStable rules (structure_of s)
 
 -- t lies below s and above each stable structure below s, and is stable under the rules that don't wait
 pub record IsOnTheWay (rules : List RuleForm) (waiting : List Bool) (s t : StructureForm) : Type 0 where

@@ -26,6 +26,12 @@ pub record HasMore (P : ℕ → Type 0) (old new : List Bool) : Type 0 where
   pub exact : (n : ℕ) → IsIn new n ↔ (IsIn old n ⊎ P n)
   pub count : length new ≡ length old
 
+-- the new set has the numbers of the old one and those of which P holds, and maybe others
+pub record HasAtLeast (P : ℕ → Type 0) (old new : List Bool) : Type 0 where
+  pub kept : (n : ℕ) → IsIn old n → IsIn new n
+  pub those : (n : ℕ) → P n → IsIn new n
+  pub count : length new ≡ length old
+
 -- the new set has the numbers of the old one but for n, which the old one has
 pub record HasLost (n : ℕ) (old new : List Bool) : Type 0 where
   pub there : IsIn old n

@@ -4,8 +4,8 @@ use Rattle.std.specs.Prelude.{ℕ, ◌≡◌, ◌≢◌, ◌<◌, ◌≤◌, ◌
 use Rattle.std.specs.declared.vec.Vec.{Vec}
 use Rattle.std.specs.declared.alloc.Global.{Global}
 use Rattle.tv_kleene.specs.declared.K3.TheVariants.{Yes}
-use Rattle.tv_model.specs.Form.{Form, FZero, FOne, FAtom, FSame, form_of}
-use Rattle.tv_model.specs.Program.{HeadForm, HNever, HAtom, HSame, RuleForm}
+use Rattle.tv_model.specs.Form.{FOne, form_of}
+use Rattle.tv_model.specs.Program.{HeadForm, HNever, RuleForm}
 use Rattle.tv_model.specs.Rules.{IsFreeInRule, IsOfIndividuals}
 use Rattle.tv_model.specs.Truth.{Assignment}
 use Rattle.tv_model.specs.Valid.{IsFormulaOver}
@@ -19,7 +19,7 @@ use Rattle.tv_eval.specs.Formulas.{AreAssigned}
 use Rattle.tv_eval.specs.declared.evaluator.Evaluator.{Evaluator}
 use Rattle.tv_eval.specs.ScratchForm.{ScratchForm, Fits}
 use Rattle.tv_model.specs.declared.program.Rule.{Rule}
-use Rattle.tv_rules.specs.Closing.{conjuncts}
+use Rattle.tv_rules.specs.Closing.{conjuncts, negated_head}
 use Rattle.tv_rules.specs.Dues.{DueForm, AreDue}
 use Rattle.tv_rules.specs.EntryForms.{rules_of}
 use Rattle.tv_stable.specs.Laws.{IsPlainRule}
@@ -41,21 +41,10 @@ rule_at closed number = slice_index_or (rules_of closed) number (record { body =
 abbrev pub trial_rule : Trial → RuleForm
 trial_rule trial = rule_at trial.closed.now trial.number
 
--- what a head says, without its sign; and that sign
-abbrev pub atom_form : HeadForm → Form
-atom_form HNever = FZero
-atom_form (HAtom flag pred vars) = FAtom pred vars
-atom_form (HSame flag v w) = FSame v w
-
-abbrev pub sign_of : HeadForm → Bool
-sign_of HNever = true
-sign_of (HAtom flag pred vars) = flag
-sign_of (HSame flag v w) = flag
-
--- the trial has the number of a rule, and the atom of that rule's head
+-- the trial has the number of a rule, and the negation of that rule's head
 pub record IsTrial (trial : Trial) : Type 0 where
   pub number : trial.number < length (rules_of trial.closed.now)
-  pub atom : form_of trial.atom.formula.now ≡ atom_form (trial_rule trial).head
+  pub denied : form_of trial.denied.formula.now ≡ negated_head (trial_rule trial).head
 
 -- the rule is over the structure's predicates, and there is room for its body
 pub record CanTry (rule : RuleForm) (s : StructureForm) (room : ScratchForm) : Type 0 where

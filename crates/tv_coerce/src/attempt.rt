@@ -1,80 +1,86 @@
-//! One rule is tried.
+//! The rules that wait are tried, until one asks for something.
 
-ghost use Rattle.std.specs.Prelude.{◌≡◌, ◌<◌, Some, length, slice_get, All, IfOk, IfSome, IfNone};
-ghost use Rattle.tv_model.specs.Program.{RuleForm};
+ghost use Rattle.std.specs.Prelude.{◌≡◌, ◌≢◌, [], length, IfOk, MatchBool};
+ghost use Rattle.tv_eval.specs.Bound.{IsBound, bound_room, bound_structure};
 ghost use Rattle.tv_rules.specs.EntryForms.{rules_of};
-ghost use Rattle.tv_coerce.specs.Attempts.{AreAsked, IsAttempted};
-ghost use Rattle.tv_coerce.specs.Changes.{IsPlace};
+ghost use Rattle.tv_coerce.specs.Attempts.{IsAttempted};
 ghost use Rattle.tv_coerce.specs.Ready.{CanCoerce};
-ghost use Rattle.tv_coerce.specs.Trying.{IsHopeless};
+ghost use Rattle.tv_coerce.specs.RuleSets.{IsStableBut};
+ghost use Rattle.tv_coerce.specs.Trying.{StaysBound};
 
 use crate::change::Change;
 use crate::finding::find;
-use crate::sharpen::sharpen;
+use crate::rule_set::RuleSet;
 use std::alloc::{AllocError, Global};
-use tv_eval::Scratch;
+use tv_eval::{Evaluator, Scratch};
 use tv_rules::Closed;
 use tv_struct::Structure;
 
-/// What trying a rule told.
-#[derive(Clone, Copy, Debug, PartialEq, Eq)]
-pub(crate) enum Attempt {
-    /// The structure is stable under the rule.
-    Stable,
-    /// The structure was made sharper.
-    Sharper,
-    /// No structure below is stable under the rule.
-    Hopeless,
+/// What a rule asks for.
+#[derive(Debug, Drop)]
+pub(crate) enum Asked {
+    /// The rule of that number asks for these changes, of which there are some.
+    Changes(usize, Vec<Change>),
+    /// No structure below is stable.
+    Impossible,
 }
 
-/// The changes that the rule asks for, of which there is none only where the structure is stable under it.
-/// `None` where no structure below is stable under it.
-fn asked(
+fn has_some(changes: &[Change]) -> bool
+    ensures { MatchBool result (changes.now ≢ []) (changes.now ≡ []) }
+{
+    match changes {
+        [] => false,
+        [_, ..] => true,
+    }
+}
+
+/// Takes rules out of the set and tries them, until one asks for something. The evaluator keeps what it closes for
+/// the rules that follow.
+fn attempt_by<'a>(
+    alloc: Global,
+    closed: &'a Closed,
+    s: &'a Structure,
+    waiting: &mut RuleSet,
+    evaluator: &mut Evaluator<'a>,
+) -> Result<Option<Asked>, AllocError>
+    requires ready { CanCoerce (rules_of closed.now) s.now (bound_room evaluator.old) }
+    requires bound { IsBound evaluator.old }
+    requires structure { bound_structure evaluator.old ≡ s.now }
+    requires count { length waiting.old ≡ length (rules_of closed.now) }
+    requires rest { IsStableBut (rules_of closed.now) waiting.old s.now }
+    ensures attempted { IfOk result (IsAttempted (rules_of closed.now) s.now waiting.new) }
+    ensures stays { StaysBound s.now evaluator.old evaluator.new }
+{
+    while let Some(number) = waiting.take() {
+        match find(alloc, closed, number, s, evaluator)? {
+            None => return Ok(Some(Asked::Impossible)),
+            Some(changes) => {
+                if has_some(changes.as_slice()) {
+                    return Ok(Some(Asked::Changes(number, changes)));
+                }
+            }
+        }
+    }
+    Ok(None)
+}
+
+/// Takes rules out of the set and tries them, until one asks for changes or can't be met; nothing where the
+/// structure is stable under all.
+pub(crate) fn attempt(
     alloc: Global,
     closed: &Closed,
-    number: usize,
     s: &Structure,
+    waiting: &mut RuleSet,
     scratch: &mut Scratch,
-) -> Result<Option<Vec<Change>>, AllocError>
-    requires number { number < length (rules_of closed.now) }
+) -> Result<Option<Asked>, AllocError>
     requires ready { CanCoerce (rules_of closed.now) s.now scratch.old }
-    ensures some { IfOk result (λ found. IfSome found (λ changes. (rule : RuleForm) → slice_get (rules_of closed.now) number ≡ Some rule
-        → AreAsked rule s.now changes.items)) }
-    ensures none { IfOk result (λ found. IfNone found ((rule : RuleForm) → slice_get (rules_of closed.now) number ≡ Some rule
-        → IsHopeless s.now rule)) }
+    requires count { length waiting.old ≡ length (rules_of closed.now) }
+    requires rest { IsStableBut (rules_of closed.now) waiting.old s.now }
+    ensures attempted { IfOk result (IsAttempted (rules_of closed.now) s.now waiting.new) }
     ensures scratch { scratch.new ≡ scratch.old }
 {
-    find(alloc, closed, number, s, scratch)
-}
-
-/// Tries a rule, and makes the structure sharper by what it asks for.
-pub(crate) fn try_rule(
-    alloc: Global,
-    closed: &Closed,
-    number: usize,
-    s: &mut Structure,
-    scratch: &mut Scratch,
-) -> Result<Attempt, AllocError>
-    requires number { number < length (rules_of closed.now) }
-    requires ready { CanCoerce (rules_of closed.now) s.old scratch.old }
-    ensures attempted { IfOk result (λ told. (rule : RuleForm) → slice_get (rules_of closed.now) number ≡ Some rule
-        → IsAttempted rule s.old s.new told) }
-    ensures scratch { scratch.new ≡ scratch.old }
-{
-    match asked(alloc, closed, number, s, scratch)? {
-        None => Ok(Attempt::Hopeless),
-        Some(changes) => Ok(make(s, changes.as_slice())),
-    }
-}
-
-/// Makes the changes, and tells whether there were any.
-fn make(s: &mut Structure, changes: &[Change]) -> Attempt
-    requires { All (IsPlace s.old) changes.now }
-    ensures { (rule : RuleForm) → AreAsked rule s.old changes.now → IsAttempted rule s.old s.new result }
-{
-    if changes.is_empty() {
-        return Attempt::Stable;
-    }
-    sharpen(s, changes);
-    Attempt::Sharper
+    let mut evaluator = Evaluator::new(s, scratch);
+    let asked = attempt_by(alloc, closed, s, waiting, &mut evaluator);
+    evaluator.finish(scratch);
+    asked
 }

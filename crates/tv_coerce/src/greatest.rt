@@ -9,8 +9,9 @@ ghost use Rattle.tv_coerce.specs.Coerced.{CoercesTo, CoercesHeaps};
 ghost use Rattle.tv_coerce.specs.Ready.{CanCoerce};
 ghost use Rattle.tv_coerce.specs.RuleSets.{IsStableBut};
 
-use crate::attempt::{Attempt, try_rule};
+use crate::attempt::{Asked, attempt};
 use crate::rule_set::RuleSet;
+use crate::sharpen::sharpen;
 use std::alloc::{AllocError, Global};
 use tv_eval::Scratch;
 use tv_rules::Closed;
@@ -30,11 +31,14 @@ fn settle(
     ensures settled { IfOk result (IsEnd (rules_of closed.now) t.old t.new) }
     ensures scratch { scratch.new ≡ scratch.old }
 {
-    while let Some(number) = waiting.take() {
-        match try_rule(alloc, closed, number, t, scratch)? {
-            Attempt::Stable => {}
-            Attempt::Sharper => waiting.add_watching(closed, closed.head(number)),
-            Attempt::Hopeless => return Ok(false),
+    while let Some(asked) = attempt(alloc, closed, t, waiting, scratch)? {
+        match asked {
+            Asked::Impossible => return Ok(false),
+            Asked::Changes(number, changes) => {
+                sharpen(t, changes.as_slice());
+                waiting.add_watching(closed, closed.head(number));
+                waiting.insert(number);
+            }
         }
     }
     Ok(true)

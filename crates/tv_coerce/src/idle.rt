@@ -4,7 +4,7 @@ ghost use Rattle.std.specs.Prelude.{◌≡◌, IsTrue, All, Any};
 ghost use Rattle.tv_model.specs.Form.{form_of, vars_of, FAtom, FNot};
 ghost use Rattle.tv_model.specs.Program.{head_of, HAtom};
 ghost use Rattle.tv_model.specs.Valid.{IsFormulaOver};
-ghost use Rattle.tv_rules.specs.Dues.{due_of, dues_of};
+ghost use Rattle.tv_rules.specs.Dues.{due_of, dues_in};
 ghost use Rattle.tv_stable.proofs.Heads.{wanted};
 ghost use Rattle.tv_struct.specs.StructureForm.{arities_of};
 ghost use Rattle.tv_coerce.specs.Idle.{IsMetEverywhere, IsNowhere};
@@ -12,7 +12,7 @@ ghost use Rattle.tv_coerce.specs.Ready.{IsHeadOver};
 
 use tv_model::{Formula, Head, PredId, Terms};
 use tv_row::Row;
-use tv_rules::Due;
+use tv_rules::{Due, Dues};
 use tv_struct::Structure;
 
 /// Whether each value is what a head with this sign wants.
@@ -105,12 +105,12 @@ fn never_passes(s: &Structure, due: &Due<'_>) -> bool
 }
 
 /// Whether one of the conjuncts is a literal about one individual, and `Yes` of none.
-pub(crate) fn has_nowhere(s: &Structure, conjuncts: &[Due<'_>]) -> bool
-    requires { All (λ d. IsFormulaOver (arities_of s.now) d.form) (dues_of conjuncts.now) }
-    ensures { IsTrue result → Any (λ d. IsNowhere s.now d.form) (dues_of conjuncts.now) }
+pub(crate) fn has_nowhere(s: &Structure, conjuncts: &Dues<'_>) -> bool
+    requires { All (λ d. IsFormulaOver (arities_of s.now) d.form) (dues_in conjuncts.now) }
+    ensures { IsTrue result → Any (λ d. IsNowhere s.now d.form) (dues_in conjuncts.now) }
 {
-    for due in conjuncts {
-        if never_passes(s, due) {
+    for k in 0..conjuncts.count() {
+        if never_passes(s, &conjuncts.at(k)) {
             return true;
         }
     }

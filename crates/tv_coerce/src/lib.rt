@@ -13,6 +13,7 @@ mod need;
 mod noted;
 mod places;
 mod rule_set;
+mod seen;
 mod sharpen;
 mod trial;
 

@@ -68,7 +68,7 @@ fn is_on_summary(s: &Structure, terms: Terms, a: &Assignment) -> bool
 }
 
 /// What an atom as head needs, negated where the flag is false.
-#[tactic(auto, using(crate::proofs::Heads::atom_never, crate::proofs::Heads::atom_put, crate::proofs::Heads::wanted_is_known))]
+#[tactic(auto, using(crate::proofs::Heads::atom_never, crate::proofs::Heads::atom_put, crate::proofs::Heads::change_of_atom, crate::proofs::Heads::wanted_is_known))]
 fn need_of_atom(s: &Structure, flag: bool, p: PredId, terms: Terms, a: &Assignment) -> Need
     requires head { IsHeadOver (arities_of s.now) (HAtom flag p.0 (vars_of terms)) }
     requires assigned { (v : ℕ) → IsInHead v (HAtom flag p.0 (vars_of terms)) → IsAssigned s.now.size a.now v }

@@ -2,22 +2,20 @@
 
 ghost use Rattle.std.specs.Prelude.{◌≡◌, ◌≢◌, ◌<◌, ◌≤◌, ◌+◌, ℕ, ◌∷◌, length, slice_index_or, All, MatchOption};
 ghost use Rattle.tv_kleene.specs.declared.K3.TheVariants.{No, Yes};
-ghost use Rattle.tv_model.specs.Form.{form_of};
-ghost use Rattle.tv_model.specs.Program.{head_of};
 ghost use Rattle.tv_model.specs.Truth.{put};
 ghost use Rattle.tv_eval.specs.AssignmentForm.{assignment_of};
 ghost use Rattle.tv_eval.specs.Bound.{IsBound, bound_structure, bound_room};
-ghost use Rattle.tv_rules.specs.EntryForms.{numbers_of, rules_of};
+ghost use Rattle.tv_rules.specs.EntryForms.{numbers_of};
 ghost use Rattle.tv_coerce.specs.ByRows.{ArePlaces, CanRow, IsBodyRow, IsLackingRow, IsNarrowed, IsSkipped};
-ghost use Rattle.tv_rules.specs.Dues.{IsDue, due_of, dues_of};
-ghost use Rattle.tv_coerce.specs.Trying.{ArePlaced, CanTry, IsTrial, IsWalk, StaysBound, atom_form, sign_of, trial_rule};
+ghost use Rattle.tv_rules.specs.Dues.{IsDue, due_of, dues_in};
+ghost use Rattle.tv_coerce.specs.Trying.{ArePlaced, CanTry, IsTrial, IsWalk, StaysBound, trial_rule};
 
 use crate::trial::{Trial, is_settled};
 use tv_eval::{Assignment, Evaluator};
 use tv_kleene::K3;
-use tv_model::{Formula, Head, Var};
+use tv_model::Var;
 use tv_row::Row;
-use tv_rules::Due;
+use tv_rules::{Due, Dues};
 use tv_struct::Structure;
 
 /// Rows of values for all individuals that a variable may stand for: of what has to be `Yes`, and of what
@@ -54,74 +52,53 @@ impl Places {
     }
 }
 
-/// The atom of a head, without its sign; what is never true where there is none.
-pub(crate) fn atom_of(head: Head) -> Formula
-    ensures { form_of result ≡ atom_form (head_of head) }
-{
-    match head {
-        Head::Never => Formula::Zero,
-        Head::Atom(_, p, terms) => Formula::Atom(p, terms),
-        Head::Same(_, v, w) => Formula::Same(v, w),
-    }
-}
-
 #[tactic(auto, using(crate::proofs::Narrowing::narrowed_kept, crate::proofs::Narrowing::narrowed_none, crate::proofs::Narrowing::narrowed_and))]
-/// The row, lowered to the conjunct's values if this waits for all but so many of the variables.
-fn narrowed<'a>(
+/// Lowers the row to the conjunct's values if this waits for all but so many of the variables.
+fn narrow<'a>(
     s: &Structure,
     evaluator: &mut Evaluator<'a>,
     due: &Due<'a>,
     left: usize,
     v: Var,
     a: &Assignment,
-    row: &Row,
-) -> Row
+    row: &mut Row,
+)
     requires bound { IsBound evaluator.old }
     requires structure { bound_structure evaluator.old ≡ s.now }
     requires can { CanRow s.now (bound_room evaluator.old) left v.0 a.now (due_of due.now) }
-    requires row { length row.now ≡ s.now.size }
-    ensures narrowed { IsNarrowed s.now (assignment_of a.now) left v.0 (due_of due.now) row.now result }
+    requires row { length row.old ≡ s.now.size }
+    ensures narrowed { IsNarrowed s.now (assignment_of a.now) left v.0 (due_of due.now) row.old row.new }
     ensures stays { StaysBound s.now evaluator.old evaluator.new }
 {
     if due.left != left {
-        return *row;
+        return;
     }
     if !row.has_yes() {
-        return *row;
+        return;
     }
-    row.and(&evaluator.row(due.formula, v, a))
+    *row = row.and(&evaluator.row(due.formula, v, a));
 }
 
 /// Where the conjuncts that wait for all but so many of the variables are `Yes`.
 fn body_row<'a>(
     s: &Structure,
     evaluator: &mut Evaluator<'a>,
-    conjuncts: &[Due<'a>],
+    conjuncts: &Dues<'a>,
     left: usize,
     v: Var,
     a: &Assignment,
 ) -> Row
     requires bound { IsBound evaluator.old }
     requires structure { bound_structure evaluator.old ≡ s.now }
-    requires can { All (CanRow s.now (bound_room evaluator.old) left v.0 a.now) (dues_of conjuncts.now) }
-    ensures row { IsBodyRow s.now (assignment_of a.now) left v.0 (dues_of conjuncts.now) result }
+    requires can { All (CanRow s.now (bound_room evaluator.old) left v.0 a.now) (dues_in conjuncts.now) }
+    ensures row { IsBodyRow s.now (assignment_of a.now) left v.0 (dues_in conjuncts.now) result }
     ensures stays { StaysBound s.now evaluator.old evaluator.new }
 {
     let mut row = Row::of(s.size(), K3::Yes);
-    for due in conjuncts {
-        row = narrowed(s, evaluator, due, left, v, a, &row);
+    for k in 0..conjuncts.count() {
+        narrow(s, evaluator, &conjuncts.at(k), left, v, a, &mut row);
     }
     row
-}
-
-/// Whether the head is its atom, and not the negation.
-fn is_positive(head: Head) -> bool
-    ensures { result ≡ sign_of (head_of head) }
-{
-    match head {
-        Head::Never => true,
-        Head::Atom(flag, _, _) | Head::Same(flag, _, _) => flag,
-    }
 }
 
 /// Where the head isn't met for certain; everywhere if it has a variable that is left.
@@ -138,7 +115,7 @@ fn lacking<'a>(
     requires ready { CanTry (trial_rule trial.now) trial.now.structure.now (bound_room evaluator.old) }
     requires variable { v.0 < 32 }
     requires placed { ArePlaced trial.now.structure.now.size (trial_rule trial.now) (v.0 ∷ numbers_of rest.now) a.now }
-    requires due { IsDue (v.0 ∷ numbers_of rest.now) (due_of trial.now.atom) }
+    requires due { IsDue (v.0 ∷ numbers_of rest.now) (due_of trial.now.denied) }
     ensures row { IsLackingRow trial.now.structure.now (trial_rule trial.now) (numbers_of rest.now) v.0
         (assignment_of a.now) result }
     ensures stays { StaysBound trial.now.structure.now evaluator.old evaluator.new }
@@ -146,19 +123,14 @@ fn lacking<'a>(
     if !is_settled(trial, rest) {
         return Row::of(trial.structure.size(), K3::Yes);
     }
-    let row = evaluator.row(trial.atom.formula, v, a);
-    if is_positive(trial.closed.head(trial.number)) {
-        row.not()
-    } else {
-        row
-    }
+    evaluator.row(trial.denied.formula, v, a)
 }
 
 /// The individuals that the variable has to be tried with before those that are left.
 pub(crate) fn places_for<'a>(
     trial: &Trial<'a>,
     evaluator: &mut Evaluator<'a>,
-    conjuncts: &[Due<'a>],
+    conjuncts: &Dues<'a>,
     rest: &[Var],
     v: Var,
     a: &Assignment,
@@ -167,10 +139,10 @@ pub(crate) fn places_for<'a>(
     requires bound { IsBound evaluator.old }
     requires structure { bound_structure evaluator.old ≡ trial.now.structure.now }
     requires ready { CanTry (trial_rule trial.now) trial.now.structure.now (bound_room evaluator.old) }
-    requires walk { IsWalk (trial_rule trial.now) trial.now.structure.now (dues_of conjuncts.now)
+    requires walk { IsWalk (trial_rule trial.now) trial.now.structure.now (dues_in conjuncts.now)
         (v.0 ∷ numbers_of rest.now) a.now (1 + length (numbers_of rest.now)) }
-    requires due { IsDue (v.0 ∷ numbers_of rest.now) (due_of trial.now.atom) }
-    ensures places { ArePlaces trial.now.structure.now (trial_rule trial.now) (dues_of conjuncts.now) (numbers_of rest.now)
+    requires due { IsDue (v.0 ∷ numbers_of rest.now) (due_of trial.now.denied) }
+    ensures places { ArePlaces trial.now.structure.now (trial_rule trial.now) (dues_in conjuncts.now) (numbers_of rest.now)
         v.0 (assignment_of a.now) result }
     ensures stays { StaysBound trial.now.structure.now evaluator.old evaluator.new }
 {

@@ -4,18 +4,20 @@ ghost use Rattle.std.specs.Prelude.{◌≡◌, ◌<◌, ◌≤◌, ◌≢◌, �
 ghost use Rattle.tv_model.specs.Program.{head_of};
 ghost use Rattle.tv_rules.specs.EntryForms.{rules_of};
 ghost use Rattle.tv_rules.specs.Standing.{StandsIn, SeesSummaries};
-ghost use Rattle.tv_coerce.specs.RuleSets.{IsIn, IsRuleThat, HasMore, HasLost};
-ghost use Rattle.tv_coerce.specs.Touched.{Sees};
+ghost use Rattle.tv_coerce.specs.RuleSets.{IsIn, IsRuleThat, HasAtLeast, HasMore, HasLost};
+ghost use Rattle.tv_coerce.specs.Touched.{IsSeen, Sees};
 
+use crate::seen::{sees, watching};
 use std::alloc::{AllocError, Global};
 use std::marker::Model;
+use tv_flags::Flags;
 use tv_model::{Head, PredId};
 use tv_rules::Closed;
 
 /// A set of numbers of closed rules, seen by contracts as a flag for each number.
 #[derive(Debug, Drop)]
 pub struct RuleSet {
-    flags: Vec<bool>,
+    flags: Flags,
     /// A number below which none is in the set.
     first: usize,
 }
@@ -26,23 +28,9 @@ impl Model for RuleSet {
 
     ghost Value = { List Bool };
 
-    ghost view = { λ s. s.flags.items };
+    ghost view = { λ s. s.flags };
 
-    ghost invariant = { λ s. BeginsAt s.first s.flags.items };
-}
-
-/// The first place at or after `from` whose flag is true.
-fn next_true(flags: &[bool], from: usize) -> Option<usize>
-    ensures { MatchOption result
-        ((n : ℕ) → from ≤ n → ¬ IsIn flags.now n)
-        (λ k. (k < length flags.now) × IsIn flags.now k × ((n : ℕ) → from ≤ n → n < k → ¬ IsIn flags.now n)) }
-{
-    for n in from..flags.len() {
-        if flags[n] {
-            return Some(n);
-        }
-    }
-    None
+    ghost invariant = { λ s. BeginsAt s.first s.flags };
 }
 
 impl RuleSet {
@@ -51,7 +39,7 @@ impl RuleSet {
         ensures { IfOk result (λ set. set ≡ replicate (length (rules_of closed.now)) false) }
     {
         Ok(RuleSet {
-            flags: vec![in alloc; false; closed.count()]?,
+            flags: Flags::of(alloc, closed.count(), false)?,
             first: 0,
         })
     }
@@ -61,7 +49,7 @@ impl RuleSet {
         ensures { IfOk result (λ set. set ≡ replicate (length (rules_of closed.now)) true) }
     {
         Ok(RuleSet {
-            flags: vec![in alloc; true; closed.count()]?,
+            flags: Flags::of(alloc, closed.count(), true)?,
             first: 0,
         })
     }
@@ -71,7 +59,7 @@ impl RuleSet {
         ensures { IfOk result (λ set. set ≡ self.now) }
     {
         Ok(RuleSet {
-            flags: Vec::from_slice(alloc, self.flags.as_slice())?,
+            flags: self.flags.copied(alloc)?,
             first: self.first,
         })
     }
@@ -80,7 +68,7 @@ impl RuleSet {
     pub fn contains(&self, number: usize) -> bool
         ensures { IsTrue result ↔ IsIn self.now number }
     {
-        number < self.flags.len() && self.flags[number]
+        number < self.flags.count() && self.flags.get(number)
     }
 
     /// Puts the number into the set.
@@ -88,7 +76,7 @@ impl RuleSet {
         requires { number < length self.old }
         ensures { HasMore (λ n. n ≡ number) self.old self.new }
     {
-        self.flags[number] = true;
+        self.flags.put(number, true);
         self.first = self.first.min(number);
     }
 
@@ -124,16 +112,43 @@ impl RuleSet {
         self.insert_all(closed.by_sm());
     }
 
+    /// Puts the rule into the set if it sees the changes that the head asks for.
+    #[tactic(auto, using(crate::proofs::Seeing::one_in, crate::proofs::Seeing::one_out, crate::proofs::Seeing::one_there))]
+    fn insert_seeing(&mut self, closed: &Closed, head: Head, number: usize)
+        requires count { length self.old ≡ length (rules_of closed.now) }
+        requires within { number < length self.old }
+        ensures { HasAtLeast (IsSeen (head_of head) (rules_of closed.now) (λ n. n ≡ number)) self.old self.new }
+    {
+        if self.contains(number) {
+            return;
+        }
+        if sees(closed, number, head) {
+            self.insert(number);
+        }
+    }
+
+    /// Puts those of the rules into the set that see the changes which the head asks for.
+    #[tactic(auto, using(crate::proofs::Seeing::least_none, crate::proofs::Seeing::least_next))]
+    fn insert_all_seeing(&mut self, closed: &Closed, head: Head, numbers: &[usize])
+        requires count { length self.old ≡ length (rules_of closed.now) }
+        requires within { All (λ n. n < length self.old) numbers.now }
+        ensures { HasAtLeast (IsSeen (head_of head) (rules_of closed.now) (Contains numbers.now)) self.old self.new }
+    {
+        match numbers {
+            [] => {}
+            [number, rest @ ..] => {
+                self.insert_seeing(closed, head, *number);
+                self.insert_all_seeing(closed, head, rest);
+            }
+        }
+    }
+
     /// Puts the rules into the set that see what a rule with this head may change.
     pub(crate) fn add_watching(&mut self, closed: &Closed, head: Head)
         requires { length self.old ≡ length (rules_of closed.now) }
-        ensures { HasMore (IsRuleThat (Sees (head_of head)) (rules_of closed.now)) self.old self.new }
+        ensures { HasAtLeast (IsRuleThat (Sees (head_of head)) (rules_of closed.now)) self.old self.new }
     {
-        match head {
-            Head::Never => {}
-            Head::Atom(_, p, _) => self.add_pred(closed, p),
-            Head::Same(_, _, _) => self.add_seeing(closed),
-        }
+        self.insert_all_seeing(closed, head, watching(closed, head));
     }
 
     /// Takes the least number out of the set, if there is one.
@@ -142,11 +157,11 @@ impl RuleSet {
             (((n : ℕ) → ¬ IsIn self.old n) × (self.new ≡ self.old))
             (λ n. (n < length self.old) × HasLost n self.old self.new) }
     {
-        match next_true(self.flags.as_slice(), self.first) {
+        match self.flags.next_true(self.first) {
             None => None,
             Some(n) => {
-                self.flags[n] = false;
-                self.first = n + 1;
+                self.flags.put(n, false);
+                self.first = n;
                 Some(n)
             }
         }

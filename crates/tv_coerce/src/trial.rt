@@ -9,7 +9,7 @@ ghost use Rattle.tv_rules.specs.EntryForms.{numbers_of, rules_of};
 ghost use Rattle.tv_struct.specs.StructureForm.{arities_of};
 ghost use Rattle.tv_coerce.specs.Ready.{IsRuleOver};
 ghost use Rattle.tv_kleene.specs.declared.K3.TheVariants.{Yes};
-ghost use Rattle.tv_rules.specs.Dues.{IsDue, due_of, dues_of};
+ghost use Rattle.tv_rules.specs.Dues.{IsDue, due_of, dues_in};
 ghost use Rattle.tv_coerce.specs.Trying.{AreKept, ArePlaced, CanTry, CanValue, FailsAt, IsNoted, IsTold, IsTrial, IsTried, IsWalk, PassesAt, StaysBound, Tests, trial_rule};
 
 use crate::change::Need;
@@ -20,7 +20,7 @@ use std::alloc::AllocError;
 use tv_eval::{Assignment, Evaluator};
 use tv_kleene::K3;
 use tv_model::Var;
-use tv_rules::{Closed, Due};
+use tv_rules::{Closed, Due, Dues};
 use tv_struct::Structure;
 
 /// A rule, by its number, and the structure that it is tried on.
@@ -29,8 +29,8 @@ pub(crate) struct Trial<'a> {
     pub structure: &'a Structure,
     pub closed: &'a Closed,
     pub number: usize,
-    /// What the head says, without its sign, and how many of the rule's last variables don't stand there.
-    pub atom: Due<'a>,
+    /// The negation of the head, and how many of the rule's last variables don't stand there.
+    pub denied: Due<'a>,
 }
 
 /// Whether a structure below can be stable under the rule.
@@ -67,18 +67,18 @@ fn is_yes(k: K3) -> bool
 fn are_yes<'a>(
     s: &Structure,
     evaluator: &mut Evaluator<'a>,
-    conjuncts: &[Due<'a>],
+    conjuncts: &Dues<'a>,
     left: usize,
     a: &Assignment,
 ) -> bool
     requires bound { IsBound evaluator.old }
     requires structure { bound_structure evaluator.old ≡ s.now }
-    requires values { All (CanValue s.now (bound_room evaluator.old) left a.now) (dues_of conjuncts.now) }
-    ensures tests { Tests s.now (assignment_of a.now) left (dues_of conjuncts.now) result }
+    requires values { All (CanValue s.now (bound_room evaluator.old) left a.now) (dues_in conjuncts.now) }
+    ensures tests { Tests s.now (assignment_of a.now) left (dues_in conjuncts.now) result }
     ensures stays { StaysBound s.now evaluator.old evaluator.new }
 {
-    for due in conjuncts {
-        if !passes(s, evaluator, due, left, a) {
+    for k in 0..conjuncts.count() {
+        if !passes(s, evaluator, &conjuncts.at(k), left, a) {
             return false;
         }
     }
@@ -106,11 +106,11 @@ fn note(trial: &Trial, a: &Assignment, noted: &mut Noted) -> Result<Outcome, All
 /// Whether the head has none of the variables that are left.
 pub(crate) fn is_settled(trial: &Trial, rest: &[Var]) -> bool
     requires trial { IsTrial trial.now }
-    requires due { IsDue (numbers_of rest.now) (due_of trial.now.atom) }
+    requires due { IsDue (numbers_of rest.now) (due_of trial.now.denied) }
     ensures out { IsTrue result → (w : ℕ) → Contains (numbers_of rest.now) w
         → ¬ IsInHead w (trial_rule trial.now).head }
 {
-    if rest.len() > trial.atom.left {
+    if rest.len() > trial.denied.left {
         return false;
     }
     true
@@ -119,7 +119,7 @@ pub(crate) fn is_settled(trial: &Trial, rest: &[Var]) -> bool
 /// Whether the head has none of the variables that are left, and needs nothing.
 fn needs_nothing(trial: &Trial, rest: &[Var], a: &Assignment) -> bool
     requires trial { IsTrial trial.now }
-    requires due { IsDue (numbers_of rest.now) (due_of trial.now.atom) }
+    requires due { IsDue (numbers_of rest.now) (due_of trial.now.denied) }
     requires head { IsRuleOver (arities_of trial.now.structure.now) (trial_rule trial.now) }
     requires placed { ArePlaced trial.now.structure.now.size (trial_rule trial.now) (numbers_of rest.now) a.now }
     ensures tried { IsTrue result → IsTried trial.now.structure.now (trial_rule trial.now) (numbers_of rest.now)
@@ -139,7 +139,7 @@ fn needs_nothing(trial: &Trial, rest: &[Var], a: &Assignment) -> bool
 fn walk<'a>(
     trial: &Trial<'a>,
     evaluator: &mut Evaluator<'a>,
-    conjuncts: &[Due<'a>],
+    conjuncts: &Dues<'a>,
     rest: &[Var],
     a: &mut Assignment,
     noted: &mut Noted,
@@ -148,9 +148,9 @@ fn walk<'a>(
     requires bound { IsBound evaluator.old }
     requires structure { bound_structure evaluator.old ≡ trial.now.structure.now }
     requires ready { CanTry (trial_rule trial.now) trial.now.structure.now (bound_room evaluator.old) }
-    requires walk { IsWalk (trial_rule trial.now) trial.now.structure.now (dues_of conjuncts.now) (numbers_of rest.now) a.old
+    requires walk { IsWalk (trial_rule trial.now) trial.now.structure.now (dues_in conjuncts.now) (numbers_of rest.now) a.old
         (length (numbers_of rest.now)) }
-    requires due { IsDue (numbers_of rest.now) (due_of trial.now.atom) }
+    requires due { IsDue (numbers_of rest.now) (due_of trial.now.denied) }
     ensures told { IfOk result (IsTold trial.now.structure.now (trial_rule trial.now) (numbers_of rest.now) (assignment_of a.old)
         noted.old.list.items noted.new.list.items) }
     ensures keeps { AreKept (numbers_of rest.now) a.old a.new }
@@ -188,7 +188,7 @@ fn walk<'a>(
 pub(crate) fn walk_all<'a>(
     trial: &Trial<'a>,
     evaluator: &mut Evaluator<'a>,
-    conjuncts: &[Due<'a>],
+    conjuncts: &Dues<'a>,
     vars: &[Var],
     a: &mut Assignment,
     noted: &mut Noted,
@@ -197,9 +197,9 @@ pub(crate) fn walk_all<'a>(
     requires bound { IsBound evaluator.old }
     requires structure { bound_structure evaluator.old ≡ trial.now.structure.now }
     requires ready { CanTry (trial_rule trial.now) trial.now.structure.now (bound_room evaluator.old) }
-    requires walk { IsWalk (trial_rule trial.now) trial.now.structure.now (dues_of conjuncts.now) (numbers_of vars.now) a.old
+    requires walk { IsWalk (trial_rule trial.now) trial.now.structure.now (dues_in conjuncts.now) (numbers_of vars.now) a.old
         (1 + length (numbers_of vars.now)) }
-    requires due { IsDue (numbers_of vars.now) (due_of trial.now.atom) }
+    requires due { IsDue (numbers_of vars.now) (due_of trial.now.denied) }
     ensures told { IfOk result (IsTold trial.now.structure.now (trial_rule trial.now) (numbers_of vars.now) (assignment_of a.old)
         noted.old.list.items noted.new.list.items) }
     ensures stays { StaysBound trial.now.structure.now evaluator.old evaluator.new }

@@ -1,14 +1,13 @@
 -- For how many variables conjuncts wait.
-use Rattle.std.proofs.Common.{ℕ, zero, suc, ◌≡◌, ◌<◌, ◌≤◌, ◌+◌, List, [], ◌∷◌, ◌++◌, length, map, get_or, take, Option, None, Some, refl, sym, ap, subst, ◌∙◌, slice_set, arith}
+use Rattle.std.proofs.Common.{ℕ, zero, suc, ◌≡◌, ◌≢◌, ◌<◌, ◌≤◌, ◌+◌, List, [], ◌∷◌, ◌++◌, length, map, get_or, take, Option, None, Some, slice_get, refl, sym, ap, subst, ◌∙◌, slice_set, arith}
 use Rattle.std.specs.Prelude.{All}
 use Rattle.std.specs.Borrow.{Bor}
 use Rattle.std.proofs.lemmas.List.Elements.{All-cons, All-head, All-push, All-tail}
-use Rattle.std.proofs.lemmas.List.{map-append, take_more}
+use Rattle.std.proofs.lemmas.List.{length-map, length-set, map-append, take_more}
 use Rattle.tv_model.specs.declared.formula.Formula.{Formula}
 use Rattle.tv_model.specs.Form.{Form, IsFree, form_of}
-use Rattle.tv_rules.specs.Dues.{DueForm, IsDue, AreDueFrom, due_of, dues_of, part_of, parts_of, put_at}
+use Rattle.tv_rules.specs.Dues.{DueForm, IsDue, AreDueFrom, part_of, parts_of, put_at}
 use Rattle.tv_rules.specs.EntryForms.{forms_of, swapped_at}
-use Rattle.tv_rules.specs.declared.dues.Due.{Due}
 use Rattle.tv_rules.specs.declared.dues.Part.{Part}
 
 -- what waits for none of the variables waits for none of them with any number
@@ -51,14 +50,6 @@ parts-more conjuncts i f vars old new p below is so_far form due most put =
     in subst Of (sym (ap parts_of put ∙ map-append part_of old (p ∷ [])))
     (subst From forms (dues-more vars (forms_of (take i conjuncts)) (parts_of old) (part_of p) so_far due most))
 
--- one is looked at where it stands
-pub dues-here : (parts : List Part) (i : ℕ) (p : Part) (old new : List Due) (d : Due) → i < length parts → p ≡ get_or parts i p
-    → dues_of old ≡ parts_of (take i parts) → due_of d ≡ part_of p → new ≡ old ++ d ∷ [] → dues_of new ≡ parts_of (take (i + 1) parts)
-dues-here parts i p old new d below is so_far same put =
-    ap dues_of put ∙ map-append due_of old (d ∷ []) ∙ ap (λ ds. ds ++ due_of d ∷ []) so_far
-    ∙ ap (λ e. parts_of (take i parts) ++ e ∷ []) (same ∙ ap part_of is)
-    ∙ sym (map-append part_of (take i parts) (get_or parts i p ∷ [])) ∙ ap parts_of (sym (take_more parts i p below))
-
 -- ---- another one in a place
 
 map-set : {X Y : Type 0} (f : X → Y) (xs : List X) (k : ℕ) (x : X) → map f (slice_set xs k x) ≡ slice_set (map f xs) k (f x)
@@ -71,8 +62,33 @@ all-set P [] k x all here = all
 all-set P (y ∷ ys) zero x all here = All-cons P x ys here (All-tail P y ys all)
 all-set P (y ∷ ys) (suc k) x all here = All-cons P y (slice_set ys k x) (All-head P y ys all) (all-set P ys k x (All-tail P y ys all) here)
 
-pub dues-put : (ds : List Due) (k : ℕ) (d : Due) (o : Option ℕ) → o ≡ Some k → dues_of (slice_set ds k d) ≡ put_at o (due_of d) (dues_of ds)
-dues-put ds k d o is = map-set due_of ds k d ∙ ap (λ p. put_at p (due_of d) (dues_of ds)) (sym is)
+set-here : {X : Type 0} (xs : List X) (k : ℕ) (x : X) → k < length xs → slice_get (slice_set xs k x) k ≡ Some x
+set-here [] k x below = absurd (omega (arith, below))
+set-here (y ∷ ys) zero x below = refl
+set-here (y ∷ ys) (suc k) x below = set-here ys k x (omega (arith, below))
+
+set-other : {X : Type 0} (xs : List X) (j k : ℕ) (x : X) → j ≢ k → slice_get (slice_set xs j x) k ≡ slice_get xs k
+set-other [] j k x apart = refl
+set-other (y ∷ ys) zero zero x apart = absurd (apart refl)
+set-other (y ∷ ys) zero (suc k) x apart = refl
+set-other (y ∷ ys) (suc j) zero x apart = refl
+set-other (y ∷ ys) (suc j) (suc k) x apart = set-other ys j k x (λ e. apart (ap suc e))
+
+length-put : {X : Type 0} (o : Option ℕ) (x : X) (xs : List X) → length (put_at o x xs) ≡ length xs
+length-put None x xs = refl
+length-put (Some k) x xs = length-set xs k x
+
+pub put_here : {X : Type 0} (o : Option ℕ) (k : ℕ) (x : X) (xs : List X) → o ≡ Some k → k < length (put_at o x xs)
+    → slice_get (put_at o x xs) k ≡ Some x
+put_here o k x xs is below =
+    ap (λ p. slice_get (put_at p x xs) k) is ∙ set-here xs k x (omega (arith, below, length-put o x xs))
+
+pub put_elsewhere : {X : Type 0} (o : Option ℕ) (k : ℕ) (x : X) (xs : List X) → o ≢ Some k → slice_get (put_at o x xs) k ≡ slice_get xs k
+put_elsewhere None k x xs apart = refl
+put_elsewhere (Some j) k x xs apart = set-other xs j k x (λ e. apart (ap Some e))
+
+pub due_count : (o : Option ℕ) (d : DueForm) (ps : List Part) → length ps ≡ length (put_at o d (parts_of ps))
+due_count o d ps = sym (length-put o d (parts_of ps) ∙ length-map ps part_of)
 
 pub put-due : (o : Option ℕ) (d : DueForm) (forms : List Form) (vars : List ℕ) (ds : List DueForm) → AreDueFrom forms vars ds → IsDue vars d
     → d.left ≤ length vars → AreDueFrom (swapped_at o d.form forms) vars (put_at o d ds)

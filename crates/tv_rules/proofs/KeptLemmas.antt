@@ -1,22 +1,22 @@
 -- The lists that stand beside the base rules.
-use Rattle.std.proofs.Common.{ℕ, zero, suc, ◌≡◌, ◌<◌, ◌+◌, ◌⊎◌, ◌↔◌, ◌∙◌, true, false, List, [], ◌∷◌, ◌++◌, length, map, Option, None, Some, IfSome, slice_get, slice_set, unwrap_or, inl, inr, ⊎_elim, refl, sym, ap, subst, Contains, arith}
+use Rattle.std.proofs.Common.{ℕ, zero, suc, ◌≡◌, ◌<◌, ◌+◌, ◌⊎◌, ◌↔◌, ◌∙◌, Bool, true, false, List, [], ◌∷◌, ◌++◌, length, map, Option, None, Some, IfSome, slice_get, slice_set, unwrap_or, inl, inr, ⊎_elim, refl, sym, ap, subst, All, Contains, arith}
 use Rattle.std.specs.List.{AllZip}
 use Rattle.std.specs.Option.{option_map}
 use Rattle.std.specs.Borrow.{Bor}
-use Rattle.std.proofs.lemmas.List.{length-append, length-map}
-use Rattle.std.proofs.lemmas.Option.{slice_get-map, slice_get_within}
+use Rattle.std.proofs.lemmas.List.{get_or-map, length-append, length-map}
+use Rattle.std.proofs.lemmas.Option.{get_or_from_slice_get, slice_get-map, slice_get_within}
 use Rattle.tv_model.proofs.Lists.{Contains-none}
 use Rattle.tv_model.specs.declared.formula.Formula.{Formula}
 use Rattle.tv_model.specs.declared.formula.Var.{Var}
 use Rattle.tv_model.specs.declared.program.Rule.{Rule}
-use Rattle.tv_model.specs.Form.{Form, form_of}
+use Rattle.tv_model.specs.Form.{Form, FZero, FOne, FAtom, FIsNew, FSame, FNot, FAnd, FOr, FIff, FCond, FExists, FForall, FClosure, form_of}
 use Rattle.tv_model.specs.Program.{HeadForm, HNever, HAtom, HSame, RuleForm, head_of, rule_of}
 use Rattle.tv_model.specs.Rules.{IsFreeInRule}
 use Rattle.tv_rules.specs.declared.entries.Entry.{Entry}
 use Rattle.tv_rules.specs.declared.shapes.Shape.{Shape}
-use Rattle.tv_rules.specs.Closing.{Swap, swaps, puttings, conjuncts, closed_set, negated_head}
+use Rattle.tv_rules.specs.Closing.{Swap, swaps, puttings, conjuncts, closed_set, negated, negated_head, negated_if, signed_head}
 use Rattle.tv_rules.specs.Decoded.{IsRuleAbout, IsEntry}
-use Rattle.tv_rules.specs.Dues.{DueForm, AreDueFrom, IsShape, parts_of, put_at}
+use Rattle.tv_rules.specs.Dues.{DueForm, AreDueFrom, IsDue, IsShape, denied_at, parts_of, put_at}
 use Rattle.tv_rules.specs.EntryForms.{EntryForm, forms_of, numbers_of, swapped_at, AreFreeIn, entry_of, closed_entries, rules_of}
 use Rattle.tv_rules.specs.Kept.{AreWatched, AreKept}
 use Rattle.tv_rules.specs.Standing.{AreNumbersOf, StandsIn, SeesSummaries}
@@ -161,6 +161,73 @@ pub forms-swapped : (fs : List (Bor Formula)) (k : ℕ) (x : Bor Formula) (o : O
     → forms_of (slice_set fs k x) ≡ swapped_at o (form_of x.now) (forms_of fs)
 forms-swapped fs k x o is = forms-set fs k x ∙ ap (λ p. swapped_at p (form_of x.now) (forms_of fs)) (sym is)
 
+-- a literal is the negation of the head that it gives
+signed-denied : (f : Form) (flag : Bool) (head : HeadForm) → signed_head flag f ≡ Some head → negated_if flag f ≡ negated_head head
+signed-denied FZero flag head e = absurd (cc e)
+signed-denied FOne flag head e = absurd (cc e)
+signed-denied (FAtom p vars) flag head e = let same : HAtom flag p vars ≡ head = cc e in ap negated_head same
+signed-denied (FIsNew v) flag head e = absurd (cc e)
+signed-denied (FSame v w) flag head e = let same : HSame flag v w ≡ head = cc e in ap negated_head same
+signed-denied (FNot f) flag head e = absurd (cc e)
+signed-denied (FAnd f g) flag head e = absurd (cc e)
+signed-denied (FOr f g) flag head e = absurd (cc e)
+signed-denied (FIff f g) flag head e = absurd (cc e)
+signed-denied (FCond c f g) flag head e = absurd (cc e)
+signed-denied (FExists v f) flag head e = absurd (cc e)
+signed-denied (FForall v f) flag head e = absurd (cc e)
+signed-denied (FClosure from to left right f) flag head e = absurd (cc e)
+
+literal-denied : (f : Form) (head : HeadForm) → negated f ≡ Some head → f ≡ negated_head head
+literal-denied (FNot f) head e = signed-denied f true head e
+literal-denied FZero head e = signed-denied FZero false head e
+literal-denied FOne head e = signed-denied FOne false head e
+literal-denied (FAtom p vars) head e = signed-denied (FAtom p vars) false head e
+literal-denied (FIsNew v) head e = signed-denied (FIsNew v) false head e
+literal-denied (FSame v w) head e = signed-denied (FSame v w) false head e
+literal-denied (FAnd f g) head e = signed-denied (FAnd f g) false head e
+literal-denied (FOr f g) head e = signed-denied (FOr f g) false head e
+literal-denied (FIff f g) head e = signed-denied (FIff f g) false head e
+literal-denied (FCond c f g) head e = signed-denied (FCond c f g) false head e
+literal-denied (FExists v f) head e = signed-denied (FExists v f) false head e
+literal-denied (FForall v f) head e = signed-denied (FForall v f) false head e
+literal-denied (FClosure from to left right f) head e = signed-denied (FClosure from to left right f) false head e
+
+-- what a head denies, and for how many of the last variables that doesn't wait
+pub record IsDenied (head : HeadForm) (vars : List ℕ) (d : DueForm) : Type 0 where
+  pub form : d.form ≡ negated_head head
+  pub due : IsDue vars d
+
+denied-about : (o : Option ℕ) (base rule : RuleForm) (shape : Shape) (f : Form) (ds : List DueForm) → IsRuleAbout o base rule → IsShape base shape
+    → negated_head base.head ≡ f → ds ≡ parts_of shape.conjuncts
+    → IsDenied rule.head (numbers_of shape.variables) (denied_at o (record { form = f; left = shape.negated }) ds)
+denied-about None base rule shape f ds is shaped same are = record {
+  form = sym same ∙ ap (λ (r : RuleForm). negated_head r.head) (sym is);
+  due = let With : Form → Type 0 = λ g. IsDue (numbers_of shape.variables) (record { form = g; left = shape.negated })
+      in subst With same shaped.negated;
+}
+denied-about (Some k) base rule shape f ds is shaped same are = record {
+  form = sym (get_or-map F ds k d d.form inside) ∙ get_or_from_slice_get (map F ds) k is.0.conjunct d.form read
+      ∙ literal-denied is.0.conjunct rule.head is.3;
+  due = subst (All (IsDue (numbers_of shape.variables))) (sym are) shaped.due.due.due k d inside;
+}
+  where
+    d : DueForm
+    d = record { form = f; left = shape.negated }
+
+    F : DueForm → Form
+    F e = e.form
+
+    C : Swap → Form
+    C s = s.conjunct
+
+    read : slice_get (map F ds) k ≡ Some is.0.conjunct
+    read = ap (λ (es : List DueForm). slice_get (map F es) k) are ∙ ap (λ fs. slice_get fs k) (shaped.due.due.are)
+        ∙ ap (λ fs. slice_get fs k) (sym ((swaps_are_of_conjuncts (negated_head base.head) base.body).each))
+        ∙ slice_get-map C (swaps (negated_head base.head) base.body) k ∙ ap (option_map C) is.1
+
+    inside : k < length ds
+    inside = omega (arith, slice_get_within (map F ds) k is.0.conjunct read, length-map ds F)
+
 module _ (bases : List Rule) (negations : List Formula) (shapes : List Shape) (entries : List Entry) (by_pred : List (List ℕ)) (by_sm : List ℕ)
     (is : AreKept bases negations shapes entries by_pred by_sm) where
   zipped : AllZip (IsEntry (map rule_of bases)) (rules_of bases) (map entry_of entries)
@@ -248,6 +315,21 @@ module _ (bases : List Rule) (negations : List Formula) (shapes : List Shape) (e
       ∙ ap (λ x. swapped_at e.conjunct x (conjuncts (form_of base.body))) (negation-is e.base base negation found negated)
       ∙ about-conjuncts e.conjunct (rule_of base) rule (base-is n rule e base there at found)
 
+  -- the negation of its base rule's head
+  base-negation : (n : ℕ) (rule : RuleForm) (e : Entry) (negation : Formula) (there : slice_get (rules_of bases) n ≡ Some rule)
+      (at : slice_get entries n ≡ Some e) → slice_get negations e.base ≡ Some negation
+      → negated_head (entry-is n rule e there at).base.head ≡ form_of negation
+  base-negation n rule e negation there at negated =
+      let entry : IsEntry (map rule_of bases) rule (entry_of e) = entry-is n rule e there at
+      in let N : RuleForm → Form = λ r. negated_head r.head
+      in let left : slice_get (map form_of negations) e.base ≡ Some (form_of negation)
+      = slice_get-map form_of negations e.base ∙ ap (option_map form_of) negated
+      in let right : slice_get (map N (map rule_of bases)) e.base ≡ Some (N entry.base)
+      = slice_get-map N (map rule_of bases) e.base ∙ ap (option_map N) entry.there
+      in let both : slice_get (map form_of negations) e.base ≡ slice_get (map N (map rule_of bases)) e.base
+      = ap (λ fs. slice_get fs e.base) is.negated
+      in cc (left, right, both)
+
   -- what its conjuncts wait for
   pub dues-are : (n : ℕ) (rule : RuleForm) (e : Entry) (shape : Shape) (negation : Formula) (ds : List DueForm)
       → slice_get (rules_of bases) n ≡ Some rule → slice_get entries n ≡ Some e → slice_get shapes e.base ≡ Some shape
@@ -258,13 +340,7 @@ module _ (bases : List Rule) (negations : List Formula) (shapes : List Shape) (e
       let entry : IsEntry (map rule_of bases) rule (entry_of e) = entry-is n rule e there at
       in let shaped : IsShape entry.base shape = zip-at IsShape (map rule_of bases) shapes is.shaped e.base entry.base shape entry.there found
       in let N : RuleForm → Form = λ r. negated_head r.head
-      in let left : slice_get (map form_of negations) e.base ≡ Some (form_of negation)
-      = slice_get-map form_of negations e.base ∙ ap (option_map form_of) negated
-      in let right : slice_get (map N (map rule_of bases)) e.base ≡ Some (N entry.base)
-      = slice_get-map N (map rule_of bases) e.base ∙ ap (option_map N) entry.there
-      in let both : slice_get (map form_of negations) e.base ≡ slice_get (map N (map rule_of bases)) e.base
-      = ap (λ fs. slice_get fs e.base) is.negated
-      in let same : N entry.base ≡ form_of negation = cc (left, right, both)
+      in let same : N entry.base ≡ form_of negation = base-negation n rule e negation there at negated
       in let D : Form → DueForm = λ f. record { form = f; left = shape.negated }
       in let Of : List DueForm → Type 0 = λ es. AreDueFrom (conjuncts rule.body) (numbers_of shape.variables) (put_at e.conjunct (D (form_of negation)) es)
       in let With : Form → Type 0 = λ f. AreDueFrom (conjuncts rule.body) (numbers_of shape.variables) (put_at e.conjunct (D f) (parts_of shape.conjuncts))
@@ -272,6 +348,16 @@ module _ (bases : List Rule) (negations : List Formula) (shapes : List Shape) (e
       in subst Of (sym are) (subst With same (subst From (about-conjuncts e.conjunct entry.base rule entry.about)
       (put-due e.conjunct (D (N entry.base)) (conjuncts entry.base.body) (numbers_of shape.variables) (parts_of shape.conjuncts) shaped.due
       shaped.negated (omega (arith, shaped.most, length-map shape.variables (λ (v : Var). v.0))))))
+
+  -- and what its head denies
+  pub denied-is : (n : ℕ) (rule : RuleForm) (e : Entry) (shape : Shape) (negation : Formula) (ds : List DueForm)
+      → slice_get (rules_of bases) n ≡ Some rule → slice_get entries n ≡ Some e → slice_get shapes e.base ≡ Some shape
+      → slice_get negations e.base ≡ Some negation → ds ≡ parts_of shape.conjuncts
+      → IsDenied rule.head (numbers_of shape.variables) (denied_at e.conjunct (record { form = form_of negation; left = shape.negated }) ds)
+  denied-is n rule e shape negation ds there at found negated are =
+      let entry : IsEntry (map rule_of bases) rule (entry_of e) = entry-is n rule e there at
+      in let shaped : IsShape entry.base shape = zip-at IsShape (map rule_of bases) shapes is.shaped e.base entry.base shape entry.there found
+      in denied-about e.conjunct entry.base rule shape (form_of negation) ds entry.about shaped (base-negation n rule e negation there at negated) are
 
   -- the place of a swapped conjunct is one of them
   pub put-below : (n : ℕ) (e : Entry) (shape : Shape) (ds : List DueForm) → n < length (rules_of bases) → slice_get entries n ≡ Some e

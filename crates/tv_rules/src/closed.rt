@@ -17,7 +17,7 @@ ghost use Rattle.tv_rules.specs.Laws.{IsNoHigher};
 
 use crate::base::base_rules;
 use crate::conjuncts::{conjuncts, negated_head};
-use crate::dues::{Due, dues, put};
+use crate::dues::{Due, Dues, denied};
 use crate::entries::{Entries, Entry, closed_entries};
 use crate::shapes::{Shape, Shapes, Waits, shape_of};
 use crate::watch::{Numbers, seeing_summaries, standing};
@@ -166,24 +166,28 @@ impl Closed {
             .as_slice()
     }
 
-    /// The variables that are free in a rule, and the conjuncts of its body in order, each with how many of the
-    /// last of these variables it doesn't wait for.
-    pub fn waits(&self, alloc: Global, number: usize) -> Result<Waits<'_>, AllocError>
+    /// The variables that are free in a rule, and the conjuncts of its body in order and the negation of its head,
+    /// each with how many of the last of these variables it doesn't wait for. Takes no memory.
+    pub fn waits(&self, number: usize) -> Waits<'_>
         requires { number < length (rules_of self.now) }
-        ensures { IfOk result (λ waits. (rule : RuleForm) → slice_get (rules_of self.now) number ≡ Some rule
-            → AreWaits rule waits) }
+        ensures { (rule : RuleForm) → slice_get (rules_of self.now) number ≡ Some rule → AreWaits rule result }
     {
         let entry = entry_at(self.entries.as_slice(), number);
         let shape = shape_at(self.shapes.as_slice(), entry.base);
-        let negated = Due {
+        let other = Due {
             formula: negation_at(self.negations.as_slice(), entry.base),
             left: shape.negated,
         };
-        let list = dues(alloc, shape.conjuncts.as_slice())?;
-        Ok(Waits {
+        let parts = shape.conjuncts.as_slice();
+        Waits {
             variables: shape.variables.as_slice(),
-            dues: put(list, entry.conjunct, negated),
-        })
+            dues: Dues {
+                parts,
+                place: entry.conjunct,
+                other,
+            },
+            denied: denied(parts, entry.conjunct, other),
+        }
     }
 
     /// The conjuncts of a rule's body, in order.

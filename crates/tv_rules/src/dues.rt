@@ -1,8 +1,8 @@
 //! Conjuncts of a rule, and for how many of its variables each waits.
 
-ghost use Rattle.std.specs.Prelude.{◌≡◌, ◌≤◌, ◌<◌, ◌+◌, ◌∷◌, length, IfOk, IfSome};
+ghost use Rattle.std.specs.Prelude.{◌≡◌, ◌≢◌, ◌≤◌, ◌<◌, ◌+◌, ◌∷◌, length, slice_get, Some, IfOk, IfSome, MatchBool};
 ghost use Rattle.tv_model.specs.Form.{form_of};
-ghost use Rattle.tv_rules.specs.Dues.{AreDueFrom, IsDue, due_of, dues_of, part_of, parts_of, put_at};
+ghost use Rattle.tv_rules.specs.Dues.{AreDueFrom, IsDue, denied_at, due_of, dues_in, part_of, parts_of};
 ghost use Rattle.tv_rules.specs.EntryForms.{forms_of, numbers_of};
 
 use std::alloc::{AllocError, Global};
@@ -73,27 +73,63 @@ fn own_part(alloc: Global, f: &Formula, vars: &[Var]) -> Result<Part, AllocError
     Ok(Part { formula, left })
 }
 
-/// The conjuncts, where they stand.
-pub fn dues<'a>(alloc: Global, parts: &'a [Part]) -> Result<Vec<Due<'a>>, AllocError>
-    ensures { IfOk result (λ ds. dues_of ds.items ≡ parts_of parts.now) }
-{
-    let mut list = Vec::with_capacity(alloc, parts.len())?;
-    for own in parts {
-        list.push(Due {
-            formula: &own.formula,
-            left: own.left,
-        })?;
-    }
-    Ok(list)
+/// The conjuncts of a rule, where they stand: those of its base rule, with another one in a place, if there is one.
+#[derive(Clone, Copy, Debug)]
+pub struct Dues<'a> {
+    pub(crate) parts: &'a [Part],
+    pub(crate) place: Option<usize>,
+    pub(crate) other: Due<'a>,
 }
 
-/// The conjuncts, with another one in that place, if there is one.
-pub fn put<'a>(mut list: Vec<Due<'a>>, place: Option<usize>, due: Due<'a>) -> Vec<Due<'a>>
-    requires { IfSome place (λ k. k < length list.items) }
-    ensures { dues_of result.items ≡ put_at place (due_of due.entry) (dues_of list.entry.items) }
-{
-    if let Some(k) = place {
-        list[k] = due;
+impl<'a> Dues<'a> {
+    /// How many conjuncts there are.
+    pub fn count(&self) -> usize
+        ensures { result ≡ length (dues_in self.now) }
+    {
+        self.parts.len()
     }
-    list
+
+    /// The conjunct of that number.
+    pub fn at(&self, number: usize) -> Due<'a>
+        requires { number < length (dues_in self.now) }
+        ensures { slice_get (dues_in self.now) number ≡ Some (due_of result) }
+    {
+        if is_place(self.place, number) {
+            return self.other;
+        }
+        part_at(self.parts, number)
+    }
+}
+
+fn is_place(place: Option<usize>, number: usize) -> bool
+    ensures { MatchBool result (place ≡ Some number) (place ≢ Some number) }
+{
+    match place {
+        Some(k) => k == number,
+        None => false,
+    }
+}
+
+/// A conjunct of the base rule, where it stands.
+fn part_at<'a>(parts: &'a [Part], number: usize) -> Due<'a>
+    requires { number < length parts.now }
+    ensures { slice_get (parts_of parts.now) number ≡ Some (due_of result) }
+{
+    let part = &parts[number];
+    Due {
+        formula: &part.formula,
+        left: part.left,
+    }
+}
+
+/// What a rule's head denies: of a base rule the negation of the head, and of another the conjunct of the base rule
+/// in whose place that stands.
+pub fn denied<'a>(parts: &'a [Part], place: Option<usize>, own: Due<'a>) -> Due<'a>
+    requires { IfSome place (λ k. k < length parts.now) }
+    ensures { due_of result ≡ denied_at place (due_of own.entry) (parts_of parts.now) }
+{
+    match place {
+        None => own,
+        Some(k) => part_at(parts, k),
+    }
 }

@@ -12,7 +12,7 @@ mod shapes;
 mod watch;
 
 pub use closed::{Closed, close_rules};
-pub use dues::{Due, left_by};
+pub use dues::{Due, Dues};
 pub use laws::{
     base_rules_are_met, closed_rules_are_met, closed_rules_are_rules, closing_keeps_meaning,
     conjuncts_carry_formulas, dropping_keeps_meaning, further_rules_follow, samples_are_closed,

@@ -7,7 +7,7 @@ ghost use Rattle.tv_rules.specs.Dues.{IsShape};
 ghost use Rattle.tv_rules.specs.EntryForms.{numbers_of};
 
 use crate::conjuncts::{conjuncts, is_free_in_rule, negated_head};
-use crate::dues::{Due, Parts, left_by, own_parts};
+use crate::dues::{Due, Dues, Parts, left_by, own_parts};
 use std::alloc::{AllocError, Global};
 use tv_model::{Formula, Items, Rule, Terms, Var, Vars};
 
@@ -25,11 +25,12 @@ pub struct Shape {
 /// The shapes of rules.
 pub type Shapes = Items<Shape>;
 
-/// The variables that are free in a rule, and the conjuncts of its body in order.
-#[derive(Debug, Drop)]
+/// The variables that are free in a rule, the conjuncts of its body in order, and the negation of its head.
+#[derive(Clone, Copy, Debug)]
 pub struct Waits<'a> {
     pub variables: &'a [Var],
-    pub dues: Vec<Due<'a>>,
+    pub dues: Dues<'a>,
+    pub denied: Due<'a>,
 }
 
 /// The shape of a base rule whose variables are in range.

@@ -1,54 +1,58 @@
--- What trying each rule makes of the structure.
-use Rattle.std.proofs.Common.{◌∙◌, subst, sym}
+-- What each rule that asks for changes makes of the structure.
+use Rattle.std.proofs.Common.{◌∙◌, Some, length, subst, sym}
+use Rattle.std.specs.Prelude.{All}
 use Rattle.tv_model.specs.Program.{head_of}
 use Rattle.tv_rules.specs.EntryForms.{rules_of}
+use Rattle.tv_coerce.specs.Attempts.{IsAttempted}
+use Rattle.tv_coerce.specs.Changes.{IsPlace}
 use Rattle.tv_coerce.specs.Ready.{CanCoerce}
-use Rattle.tv_coerce.specs.RuleSets.{IsRuleThat}
-use Rattle.tv_coerce.specs.Touched.{Sees}
-use Rattle.tv_coerce.proofs.OnTheWay.{ready-on, way-stable, way-sharper, smaller-stable, smaller-sharper, way-hopeless, way-ends}
+use Rattle.tv_coerce.specs.Sharpened.{IsSharpened}
+use Rattle.tv_coerce.proofs.Attempting.{places-asked, sharper-made}
+use Rattle.tv_coerce.proofs.OnTheWay.{ready-on, smaller-asked, way-asked, way-ends}
 use Rattle.tv_coerce.proofs.greatest.settle.Goals as goal
 
-pub try_rule-requires-clause-ready : goal.try_rule-requires-clause-ready
-try_rule-requires-clause-ready c =
-    subst (CanCoerce (rules_of c.args.closed.now) c.loop-number.t) (sym c.loop-number.invariant.1)
-    (ready-on (rules_of c.args.closed.now) c.loop-number.waiting c.args.t.now c.loop-number.t c.args.scratch.now c.requires.ready
-    c.loop-number.invariant.0)
+pub attempt-requires-clause-ready : goal.attempt-requires-clause-ready
+attempt-requires-clause-ready c =
+    subst (CanCoerce (rules_of c.args.closed.now) c.loop-asked.t) (sym c.loop-asked.invariant.1)
+    (ready-on (rules_of c.args.closed.now) c.loop-asked.waiting c.args.t.now c.loop-asked.t c.args.scratch.now c.requires.ready
+    c.loop-asked.invariant.0)
 
-pub loop-number-smaller-in-Stable : goal.loop-number-smaller-in-Stable
-loop-number-smaller-in-Stable c =
-    smaller-stable (rules_of c.args.closed.now) c.in-Some.number c.loop-number.waiting c.take.new.self c.args.t.now c.loop-number.t
-    c.try_rule.new.s c.in_ok-try_rule.field-0 c.loop-number.invariant.0 c.in-Some.ensures.0 c.in-Some.ensures.1
-    c.in_ok-try_rule.ensures.attempted c.in-Stable.is
+pub sharpen-requires : goal.sharpen-requires
+sharpen-requires c =
+    let rules = rules_of c.args.closed.now
+    in let asked = subst (λ a. IsAttempted rules c.loop-asked.t c.attempt.new.waiting (Some a)) c.in-Changes.is
+    (subst (IsAttempted rules c.loop-asked.t c.attempt.new.waiting) c.in-Some.is c.in_ok-asked.ensures.attempted)
+    in subst (All (IsPlace c.loop-asked.t)) (sym c.as_slice.ensures.value)
+    (places-asked rules c.loop-asked.t c.attempt.new.waiting c.in-Changes.number c.in-Changes.changes.items asked)
 
-pub loop-number-preserved-in-Stable : goal.loop-number-preserved-in-Stable
-loop-number-preserved-in-Stable c = (
-  way-stable (rules_of c.args.closed.now) c.in-Some.number c.loop-number.waiting c.take.new.self c.args.t.now c.loop-number.t
-      c.try_rule.new.s c.in_ok-try_rule.field-0 c.loop-number.invariant.0 c.in-Some.ensures.0 c.in-Some.ensures.1
-      c.in_ok-try_rule.ensures.attempted c.in-Stable.is,
-  c.try_rule.ensures.scratch ∙ c.loop-number.invariant.1,
-)
+pub loop-asked-smaller : goal.loop-asked-smaller
+loop-asked-smaller c =
+    let rules = rules_of c.args.closed.now
+    in let asked = subst (λ a. IsAttempted rules c.loop-asked.t c.attempt.new.waiting (Some a)) c.in-Changes.is
+    (subst (IsAttempted rules c.loop-asked.t c.attempt.new.waiting) c.in-Some.is c.in_ok-asked.ensures.attempted)
+    in let made = subst (λ changes. IsSharpened changes (length changes) c.loop-asked.t c.sharpen.new.s) c.as_slice.ensures.value c.sharpen.ensures
+    in smaller-asked rules c.in-Changes.number c.attempt.new.waiting c.loop-asked.t c.sharpen.new.s c.in-Changes.changes.items asked
+    (λ rule found. sharper-made rules c.attempt.new.waiting c.in-Changes.number rule c.in-Changes.changes.items c.loop-asked.t
+    c.sharpen.new.s asked found made)
 
-pub loop-number-smaller : goal.loop-number-smaller
-loop-number-smaller c =
-    smaller-sharper (rules_of c.args.closed.now) c.in-Some.number (IsRuleThat (Sees (head_of c.head.result)) (rules_of c.args.closed.now))
-    c.loop-number.waiting c.take.new.self c.add_watching.new.self c.args.t.now c.loop-number.t c.try_rule.new.s
-    c.in_ok-try_rule.field-0 c.loop-number.invariant.0 c.in-Some.ensures.0 c.in-Some.ensures.1 c.add_watching.ensures
-    c.in_ok-try_rule.ensures.attempted c.in-Sharper.is
-
-pub loop-number-preserved : goal.loop-number-preserved
-loop-number-preserved c = (
-  way-sharper (rules_of c.args.closed.now) c.in-Some.number (head_of c.head.result) c.loop-number.waiting c.take.new.self
-      c.add_watching.new.self c.args.t.now c.loop-number.t c.try_rule.new.s c.in_ok-try_rule.field-0 c.requires.ready.plain
-      c.loop-number.invariant.0 c.in-Some.ensures.0 c.in-Some.ensures.1 c.head.ensures c.add_watching.ensures
-      c.in_ok-try_rule.ensures.attempted c.in-Sharper.is,
-  c.try_rule.ensures.scratch ∙ c.loop-number.invariant.1,
-)
-
-pub returns-in-Hopeless-clause-settled : goal.returns-in-Hopeless-clause-settled
-returns-in-Hopeless-clause-settled c =
-    way-hopeless (rules_of c.args.closed.now) c.in-Some.number c.loop-number.waiting c.args.t.now c.loop-number.t c.try_rule.new.s
-    c.in_ok-try_rule.field-0 c.loop-number.invariant.0 c.in-Some.ensures.0 c.in_ok-try_rule.ensures.attempted c.in-Hopeless.is
+pub loop-asked-preserved : goal.loop-asked-preserved
+loop-asked-preserved c =
+    let rules = rules_of c.args.closed.now
+    in let asked = subst (λ a. IsAttempted rules c.loop-asked.t c.attempt.new.waiting (Some a)) c.in-Changes.is
+    (subst (IsAttempted rules c.loop-asked.t c.attempt.new.waiting) c.in-Some.is c.in_ok-asked.ensures.attempted)
+    in let made = subst (λ changes. IsSharpened changes (length changes) c.loop-asked.t c.sharpen.new.s) c.as_slice.ensures.value c.sharpen.ensures
+    in (
+      way-asked rules c.in-Changes.number (head_of c.head.result) c.loop-asked.waiting c.attempt.new.waiting c.add_watching.new.self
+          c.insert.new.self c.args.t.now c.loop-asked.t c.sharpen.new.s c.in-Changes.changes.items c.requires.ready.plain
+          c.loop-asked.invariant.0 asked
+          (λ rule found. sharper-made rules c.attempt.new.waiting c.in-Changes.number rule c.in-Changes.changes.items c.loop-asked.t
+          c.sharpen.new.s asked found made)
+          c.head.ensures c.add_watching.ensures c.insert.ensures,
+      c.attempt.ensures.scratch ∙ c.loop-asked.invariant.1,
+    )
 
 pub returns-clause-settled : goal.returns-clause-settled
 returns-clause-settled c =
-    way-ends (rules_of c.args.closed.now) c.loop-number.waiting c.args.t.now c.loop-number.t c.loop-number.invariant.0 c.in_default.ensures.0
+    let rules = rules_of c.args.closed.now
+    in way-ends rules c.loop-asked.waiting c.args.t.now c.loop-asked.t c.loop-asked.invariant.0
+    (subst (IsAttempted rules c.loop-asked.t c.attempt.new.waiting) c.in_default.is c.in_ok-asked.ensures.attempted)

@@ -1,13 +1,12 @@
--- How far coerce has come; and what is left: unknown values, then rules that wait.
-use Rattle.std.proofs.Common.{◌≡◌, length, ◌+◌, ◌*◌}
+-- How far coerce has come; and what is left are unknown values.
+use Rattle.std.proofs.Common.{◌≡◌}
 use Rattle.tv_rules.specs.EntryForms.{rules_of}
 use Rattle.tv_struct.specs.Halves.{half_count}
 use Rattle.tv_coerce.specs.Attempts.{IsOnTheWay}
-use Rattle.tv_coerce.specs.RuleSets.{member_count}
 use Rattle.tv_coerce.proofs.greatest.settle.Given as goal
 
-abbrev pub invariant-loop-number : goal.invariant-loop-number
-invariant-loop-number l = IsOnTheWay (rules_of l.closed) l.waiting l.fn.t l.t × (l.scratch ≡ l.fn.scratch)
+abbrev pub invariant-loop-asked : goal.invariant-loop-asked
+invariant-loop-asked l = IsOnTheWay (rules_of l.closed) l.waiting l.fn.t l.t × (l.scratch ≡ l.fn.scratch)
 
-abbrev pub decreases-loop-number : goal.decreases-loop-number
-decreases-loop-number l = half_count l.t * (length l.waiting + 1) + member_count l.waiting
+abbrev pub decreases-loop-asked : goal.decreases-loop-asked
+decreases-loop-asked l = half_count l.t

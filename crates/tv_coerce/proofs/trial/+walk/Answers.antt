@@ -7,7 +7,7 @@ use Rattle.tv_model.specs.declared.formula.Var.{Var}
 use Rattle.tv_eval.specs.AssignmentForm.{assignment_of}
 use Rattle.tv_eval.specs.Bound.{bound_room}
 use Rattle.tv_rules.specs.EntryForms.{numbers_of}
-use Rattle.tv_rules.specs.Dues.{IsDue, due_of, dues_of}
+use Rattle.tv_rules.specs.Dues.{IsDue, due_of, dues_in}
 use Rattle.tv_coerce.specs.Trying.{AreKept, CanTry, IsTold, IsWalk, trial_rule}
 use Rattle.tv_coerce.specs.declared.trial.Outcome.TheVariants.{Possible}
 use Rattle.tv_coerce.proofs.Walking.{split-vars, told-noted, body-yes, kept-more, put-kept, walk-on, walked-all, walked-more, rule-variable, stays-on, tail-shorter, none-at}
@@ -25,7 +25,7 @@ pub walk-requires : goal.walk-requires
 walk-requires t c =
     let s = c.args.trial.now.structure.now
     in let rule = trial_rule c.args.trial.now
-    in let ds = dues_of c.args.conjuncts.now
+    in let ds = dues_in c.args.conjuncts.now
     in let d : Var = record { 0 = 0 }
     in let rest = c.args.rest.now
     in let v = (get_or rest 0 d).0
@@ -52,7 +52,7 @@ walk-requires t c =
                     (subst (λ vs. IsWalk rule s ds vs c.args.a.now (length vs)) split c.requires.walk)) within
                     (put-kept v tail c.in-Some.u c.args.a.now c.loop-u.a c.set.new.self c.loop-u.invariant.1 c.set.ensures.places)
                     (c.places_for-places.ensures.places.yes c.in-Some.u within c.in-Some.ensures.2),
-                (subst (λ vs. IsDue vs (due_of c.args.trial.now.atom)) split c.requires.due).1,
+                (subst (λ vs. IsDue vs (due_of c.args.trial.now.denied)) split c.requires.due).1,
               ),
             ),
           ),
@@ -119,7 +119,7 @@ pub returns-in-empty-clause-told : goal.returns-in-empty-clause-told
 returns-in-empty-clause-told t c =
     let s = c.args.trial.now.structure.now
     in let rule = trial_rule c.args.trial.now
-    in let ds = dues_of c.args.conjuncts.now
+    in let ds = dues_in c.args.conjuncts.now
     in let a = c.args.a.now
     in let none : numbers_of c.args.rest.now ≡ [] = ap numbers_of (none-at c.args.rest.now c.in-empty.len_below)
     in let walk : IsWalk rule s ds [] a 0 = subst (λ vs. IsWalk rule s ds vs a (length vs)) none c.requires.walk

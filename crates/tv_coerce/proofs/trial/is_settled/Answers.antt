@@ -5,6 +5,6 @@ use Rattle.tv_coerce.proofs.trial.is_settled.Goals as goal
 
 pub returns : goal.returns
 returns c = record {
-  out = λ all. settled-out c.args.rest.now (trial_rule c.args.trial.now).head (due_of c.args.trial.now.atom) c.requires.trial.atom
+  out = λ all. settled-out c.args.rest.now (trial_rule c.args.trial.now).head (due_of c.args.trial.now.denied) c.requires.trial.denied
       c.requires.due c.if-rest-trial.false;
 }

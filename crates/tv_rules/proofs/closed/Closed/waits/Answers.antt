@@ -1,9 +1,9 @@
 use Rattle.std.proofs.Common.{ℕ, ◌<◌, ap, subst, sym, ◌∙◌, arith, length, slice_get, IfSome}
 use Rattle.std.proofs.lemmas.List.{length-map}
 use Rattle.tv_rules.specs.Closing.{conjuncts}
-use Rattle.tv_rules.specs.Dues.{AreDueFrom, due_of, dues_of, parts_of}
+use Rattle.tv_rules.specs.Dues.{DueForm, AreDueFrom, IsDue, due_of, part_of, parts_of, put_at}
 use Rattle.tv_rules.specs.EntryForms.{AreFreeIn, numbers_of, rules_of}
-use Rattle.tv_rules.proofs.KeptLemmas.{count-of, shapes-below, variables-are, negations-below, dues-are, put-below}
+use Rattle.tv_rules.proofs.KeptLemmas.{count-of, shapes-below, variables-are, negations-below, denied-is, dues-are, put-below}
 use Rattle.tv_rules.proofs.closed.Closed.waits.Goals as goal
 
 pub entry_at-entry-requires : goal.entry_at-entry-requires
@@ -28,17 +28,17 @@ negation_at-requires c =
     c.args.number c.entry_at-entry.result.now (sym (ap (λ entries. slice_get entries c.args.number) c.as_slice.ensures) ∙ c.entry_at-entry.ensures)
     in omega (arith, below, ap length c.as_slice-3.ensures)
 
-pub put-requires : goal.put-requires
-put-requires c =
+pub denied-requires : goal.denied-requires
+denied-requires c =
     let count = ap (λ bases. length (rules_of bases)) c.self.view_is
     in let At : ℕ → Type 0 = λ n. IfSome c.entry_at-entry.result.now.conjunct (λ k. k < n)
-    in subst At (length-map c.in_ok-list.list.items due_of)
+    in subst At (length-map c.as_slice-parts.result.now part_of)
     (put-below c.self.inside.bases c.self.inside.negations c.self.inside.shapes c.self.inside.entries c.self.inside.by_pred
     c.self.inside.by_sm c.self.invariant
-    c.args.number c.entry_at-entry.result.now c.shape_at-shape.result.now (dues_of c.in_ok-list.list.items)
+    c.args.number c.entry_at-entry.result.now c.shape_at-shape.result.now (parts_of c.as_slice-parts.result.now)
     (omega (arith, c.requires, count)) (sym (ap (λ entries. slice_get entries c.args.number) c.as_slice.ensures) ∙ c.entry_at-entry.ensures)
     (sym (ap (λ shapes. slice_get shapes c.entry_at-entry.result.now.base) c.as_slice-2.ensures) ∙ c.shape_at-shape.ensures)
-    (c.in_ok-list.ensures ∙ ap parts_of c.as_slice-4.ensures))
+    (ap parts_of c.as_slice-parts.ensures))
 
 pub returns : goal.returns
 returns c = λ rule there.
@@ -48,13 +48,20 @@ returns c = λ rule there.
     in let entry = sym (ap (λ entries. slice_get entries c.args.number) c.as_slice.ensures) ∙ c.entry_at-entry.ensures
     in let shaped = sym (ap (λ shapes. slice_get shapes e.base) c.as_slice-2.ensures) ∙ c.shape_at-shape.ensures
     in let negation = sym (ap (λ fs. slice_get fs e.base) c.as_slice-3.ensures) ∙ c.negation_at.ensures
+    in let is = denied-is c.self.inside.bases c.self.inside.negations c.self.inside.shapes c.self.inside.entries c.self.inside.by_pred
+    c.self.inside.by_sm c.self.invariant c.args.number rule e shape c.negation_at.result.now (parts_of c.as_slice-parts.result.now)
+    at entry shaped negation (ap parts_of c.as_slice-parts.ensures)
     in record {
-      free = subst (AreFreeIn rule) (sym c.as_slice-5.ensures)
+      free = subst (AreFreeIn rule) (sym c.as_slice-4.ensures)
           (variables-are c.self.inside.bases c.self.inside.negations c.self.inside.shapes c.self.inside.entries c.self.inside.by_pred
           c.self.inside.by_sm c.self.invariant c.args.number rule e shape at entry shaped);
-      due = subst (λ vs. AreDueFrom (conjuncts rule.body) (numbers_of vs) (dues_of c.put.result.items)) (sym c.as_slice-5.ensures)
-          (subst (AreDueFrom (conjuncts rule.body) (numbers_of shape.variables)) (sym c.put.ensures)
+      due = subst (λ vs. AreDueFrom (conjuncts rule.body) (numbers_of vs)
+          (put_at e.conjunct (due_of (record { formula = c.negation_at.result; left = shape.negated })) (parts_of c.as_slice-parts.result.now)))
+          (sym c.as_slice-4.ensures)
           (dues-are c.self.inside.bases c.self.inside.negations c.self.inside.shapes c.self.inside.entries c.self.inside.by_pred
-          c.self.inside.by_sm c.self.invariant c.args.number rule e shape c.negation_at.result.now (dues_of c.in_ok-list.list.items)
-          at entry shaped negation (c.in_ok-list.ensures ∙ ap parts_of c.as_slice-4.ensures)));
+          c.self.inside.by_sm c.self.invariant c.args.number rule e shape c.negation_at.result.now (parts_of c.as_slice-parts.result.now)
+          at entry shaped negation (ap parts_of c.as_slice-parts.ensures));
+      denied = ap (λ (d : DueForm). d.form) c.denied.ensures ∙ is.form;
+      denied_due = subst (λ vs. IsDue (numbers_of vs) (due_of c.denied.result)) (sym c.as_slice-4.ensures)
+          (subst (IsDue (numbers_of shape.variables)) (sym c.denied.ensures) is.due);
     }

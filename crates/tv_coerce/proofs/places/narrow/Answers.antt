@@ -8,7 +8,7 @@ use Rattle.tv_eval.specs.Bound.{bound_structure}
 use Rattle.tv_coerce.specs.ByRows.{IsNarrowed}
 use Rattle.tv_rules.specs.Dues.{due_of}
 use Rattle.tv_coerce.proofs.Narrowing.{along-size, narrowed_and}
-use Rattle.tv_coerce.proofs.places.narrowed.Goals as goal
+use Rattle.tv_coerce.proofs.places.narrow.Goals as goal
 
 pub and-requires : goal.and-requires
 and-requires c =
