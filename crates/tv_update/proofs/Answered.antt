@@ -137,6 +137,12 @@ action_is program actions n a same lt at =
     ap action_of at ∙ ap (λ xs. action_of (get_or xs n a)) same
     ∙ sym (get_or-map action_of program.actions n a no_action lt)
 
+-- is one of the program's
+pub holds_action : (program : Program) (actions : List Action) (n : ℕ) (a : Action) → actions ≡ program.actions
+    → n < length program.actions → a ≡ get_or actions n a → Contains (program_of program).actions (action_of a)
+holds_action program actions n a same lt at =
+    Contains-map action_of a program.actions (n, lt, ap (λ xs. get_or xs n a) (sym same) ∙ sym at)
+
 pub can_apply_at : (program : Program) (actions : List Action) (n : ℕ) (a : Action) (places : List (Option ℕ))
     (s : StructureForm) (room : ScratchForm)
     → actions ≡ program.actions → n < length program.actions → a ≡ get_or actions n a
@@ -145,7 +151,7 @@ pub can_apply_at : (program : Program) (actions : List Action) (n : ℕ) (a : Ac
     → IsMadeFor (program_of program) 256 room → CanApply program a places s room
 can_apply_at program actions n a places s room same lt at valid over small picks made = record {
   valid = valid;
-  is_action = Contains-map action_of a program.actions (n, lt, ap (λ xs. get_or xs n a) (sym same) ∙ sym at);
+  is_action = holds_action program actions n a same lt at;
   over = over;
   small = small;
   picks = subst (λ (x : ActionForm). All (IsAssigned s.size places) x.picks)

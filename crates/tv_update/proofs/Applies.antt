@@ -1,20 +1,21 @@
 -- What an action of a valid program asks for where it is applied.
-use Rattle.std.proofs.Common.{ℕ, ◌≡◌, ◌≢◌, ◌≤◌, ◌+◌, List, [], ◌∷◌, map, replicate, Option, Some, inl, inr, ⊎_elim, refl, sym, ap, subst, ◌∙◌, arith, Contains, zero, suc}
+use Rattle.std.proofs.Common.{ℕ, ◌≡◌, ◌≢◌, ◌≤◌, ◌+◌, List, [], ◌∷◌, map, replicate, Option, None, Some, inl, inr, ⊎_elim, refl, sym, ap, subst, ◌∙◌, arith, All, Contains, zero, suc}
 use Rattle.std.specs.List.{AllByRecursion, range_with_len}
-use Rattle.std.proofs.lemmas.List.Elements.{All-contains, Contains-append_cases}
+use Rattle.std.proofs.lemmas.List.Elements.{All-contains, All-replicate, Contains-append_cases}
 use Rattle.tv_kleene.specs.declared.K3.TheVariants.{Yes}
 use Rattle.tv_model.specs.declared.program.Action.{Action}
 use Rattle.tv_model.specs.declared.program.Program.{Program}
 use Rattle.tv_model.specs.declared.program.Retain.{Retain}
 use Rattle.tv_model.specs.Form.{Form, IsFree, form_of, height}
 use Rattle.tv_model.specs.Program.{ProgramForm, PredForm, ActionForm, RetainForm, UpdateForm, ChangeForm, CFree, CTo, action_of, program_of, retain_of, update_of}
+use Rattle.tv_model.specs.Truth.{Assignment}
 use Rattle.tv_model.specs.Valid.{IsAction, IsRetain, IsUpdate, IsChange, IsVariable, IsFormulaOver, AreVariables}
 use Rattle.tv_model.proofs.Lists.{Contains-here, Contains-there, Contains-cases, Contains-map}
 use Rattle.tv_struct.specs.StructureForm.{StructureForm, arities_of}
 use Rattle.tv_eval.specs.AssignmentForm.{IsAssigned}
 use Rattle.tv_eval.specs.ScratchForm.{ScratchForm, Fits, program_height}
 use Rattle.tv_eval.proofs.Programs.{within_height, made_scratches_fit, program_formulas_are_over}
-use Rattle.tv_update.specs.Updated.{CanApply, CanChange, CanMake}
+use Rattle.tv_update.specs.Updated.{CanApply, CanChange, CanMake, keep_values}
 use Rattle.tv_update.proofs.Defines.{pred_arity}
 
 module _ (program : Program) (action : Action) (places : List (Option ℕ)) (s : StructureForm)
@@ -96,6 +97,12 @@ can_retain program action places s room can r e =
 pub all_yes : (start n : ℕ) → replicate n Yes ≡ map (λ u. Yes) (range_with_len start n)
 all_yes start zero = refl
 all_yes start (suc n) = ap (λ ks. Yes ∷ ks) (all_yes (start + 1) n)
+
+pub all_stay : (s : StructureForm) (picks : Assignment) (retain : Option Retain) → retain ≡ None
+    → All (λ k. k ≡ Yes) (keep_values s picks (retain_of retain))
+all_stay s picks retain none =
+    subst (λ o. All (λ k. k ≡ Yes) (keep_values s picks (retain_of o))) (sym none)
+    (subst (All (λ k. k ≡ Yes)) (all_yes 0 s.size) (All-replicate (λ k. k ≡ Yes) s.size Yes refl))
 
 -- in the evaluator's structure
 pub can_retain_in : (program : Program) (action : Action) (places : List (Option ℕ)) (s seen : StructureForm)

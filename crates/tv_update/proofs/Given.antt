@@ -1,5 +1,5 @@
 -- What is made of a middle structure is what the action gives.
-use Rattle.std.proofs.Common.{ℕ, ◌≡◌, ◌+◌, Bool, true, false, List, [], ◌∷◌, length, get_or, map, filter, Option, None, Some, ⊎_elim, refl, sym, ap, subst, ◌∙◌, arith, All, Contains, IsTrue}
+use Rattle.std.proofs.Common.{ℕ, ◌≡◌, ◌+◌, Bool, true, false, List, [], ◌∷◌, length, get_or, map, filter, replicate, Option, None, Some, ⊎_elim, refl, sym, ap, subst, ◌∙◌, arith, All, Contains, IsTrue}
 use Rattle.std.specs.List.{range_with_len, AllZip}
 use Rattle.std.proofs.lemmas.Bool.{cases_Bool, cond-true, cond-false, false≢true}
 use Rattle.std.proofs.lemmas.List.Elements.{All-map, All-nil, All-cons, All-append, All-contains}
@@ -27,9 +27,10 @@ use Rattle.tv_applied.proofs.Tables.{tables_are_kept}
 use Rattle.tv_update.specs.Kept.{with_flag, flag_choices}
 use Rattle.tv_update.specs.New.{IsFinished, AreFinished}
 use Rattle.tv_update.specs.Plan.{IsPlan}
+use Rattle.tv_update.specs.Staying.{StaysWhole}
 use Rattle.tv_update.specs.Update.{IsGivenOf}
 use Rattle.tv_update.specs.Updated.{updated_or, AreMade, keep_values}
-use Rattle.tv_update.proofs.KeptLaws.{kept_choices}
+use Rattle.tv_update.proofs.KeptLaws.{kept_choices, choices_of_yes}
 
 -- what has been made: the middle structure, the updated one, the plan and the structure of a choice
 pub record Making (p : ProgramForm) (mode : Mode) (action : ActionForm) (picks : Assignment)
@@ -236,3 +237,17 @@ finished_are_given p mode action picks m updated order ts is made plan done = re
         → length flags ≡ m.size
     long flags at = All-contains (λ fs. length fs ≡ m.size)
         (flag_choices (keep_values m picks action.retain)) flags (flags_fit m picks action) at
+
+-- where all stay and none is marked, the updated structure is all that is given
+pub whole_is_given : (p : ProgramForm) (mode : Mode) (action : ActionForm) (picks : Assignment)
+    (m updated : StructureForm) (order : List ℕ) (ts : List StructureForm) → IsStructure updated
+    → AreMade p mode m picks action.updates m updated → IsPlan p mode action order
+    → StaysWhole m (keep_values m picks action.retain)
+    → AreFinished p order updated (replicate updated.size true ∷ []) ts → IsGivenOf p mode action picks m ts
+whole_is_given p mode action picks m updated order ts is made plan whole done =
+    let count : updated.size ≡ length (keep_values m picks action.retain)
+    = made.like.size ∙ sym (length-map-range_with_len (keep_value (structure_of m) picks action.retain) 0 m.size)
+    in let one : replicate updated.size true ∷ [] ≡ flag_choices (keep_values m picks action.retain)
+    = ap (λ n. replicate n true ∷ []) count ∙ sym (choices_of_yes (keep_values m picks action.retain) whole.yes)
+    in finished_are_given p mode action picks m updated order ts is made plan
+    (subst (λ choices. AreFinished p order updated choices ts) one done)

@@ -1,10 +1,12 @@
 -- Choices as flags, and as lists of those that stay.
-use Rattle.std.proofs.Common.{ℕ, ◌≡◌, ◌+◌, Bool, true, false, List, [], ◌∷◌, ◌++◌, map, refl, sym, ap, ◌∙◌, append_assoc}
+use Rattle.std.proofs.Common.{ℕ, ◌≡◌, ◌+◌, Bool, true, false, List, [], ◌∷◌, ◌++◌, length, map, replicate, refl, sym, ap, ◌∙◌, append_assoc, All}
 use Rattle.std.specs.List.{range_with_len}
 use Rattle.std.proofs.lemmas.List.{map-append, map-id}
+use Rattle.std.proofs.lemmas.List.Elements.{All-head, All-tail}
 use Rattle.tv_kleene.specs.declared.K3.{K3}
 use Rattle.tv_kleene.specs.declared.K3.TheVariants.{No, Half, Yes}
 use Rattle.tv_model.proofs.Lists.{map-compose, map-agreed}
+use Rattle.tv_struct.specs.Halves.{row_halves}
 use Rattle.tv_struct.specs.StructureForm.{kept_from}
 use Rattle.tv_applied.specs.Choices.{with_choice, choices_of}
 use Rattle.tv_update.specs.Kept.{with_flag, flag_choices}
@@ -51,3 +53,20 @@ kept_choices keep n ℕ.zero = refl
 kept_choices keep n (ℕ.suc m) =
     with-flag (keep n) n (flag_choices (map keep (range_with_len (n + 1) m)))
     ∙ ap (with_choice (keep n) n) (kept_choices keep (n + 1) m)
+
+-- ---- where all stay
+
+-- there is one choice
+pub choices_of_yes : (values : List K3) → All (λ k. k ≡ Yes) values
+    → flag_choices values ≡ replicate (length values) true ∷ []
+choices_of_yes [] all = refl
+choices_of_yes (k ∷ values) all =
+    ap (λ x. with_flag x (flag_choices values)) (All-head (λ x. x ≡ Yes) k values all)
+    ∙ ap (map (λ flags. true ∷ flags)) (choices_of_yes values (All-tail (λ x. x ≡ Yes) k values all))
+
+-- no value is unknown
+pub halves_of_yes : (values : List K3) → All (λ k. k ≡ Yes) values → row_halves values ≡ 0
+halves_of_yes [] all = refl
+halves_of_yes (k ∷ values) all =
+    ap (λ x. row_halves (x ∷ values)) (All-head (λ x. x ≡ Yes) k values all)
+    ∙ halves_of_yes values (All-tail (λ x. x ≡ Yes) k values all)

@@ -1,33 +1,146 @@
 -- How the plan of an action is made.
-use Rattle.std.proofs.Common.{ℕ, ◌≡◌, ◌≢◌, ◌<◌, ◌≤◌, ◌⊎◌, ◌↔◌, ◌&&◌, ◌||◌, ◌++◌, Bool, true, false, List, [], ◌∷◌, length, set, map, Option, None, Some, slice_get, inl, inr, ⊎_elim, refl, sym, ap, subst, ◌∙◌, cond, append-nil, arith, zero, suc, Contains, IsTrue}
+use Rattle.std.proofs.Common.{ℕ, ◌≡◌, ◌≢◌, ◌<◌, ◌≤◌, ◌+◌, ◌⊎◌, ◌↔◌, ◌&&◌, ◌||◌, ◌++◌, Bool, true, false, List, [], ◌∷◌, length, get_or, set, take, map, replicate, Option, None, Some, slice_get, inl, inr, ⊎_elim, refl, sym, ap, subst, ◌∙◌, cond, eqb, eq-eqb, ne_eqb, append-nil, arith, zero, suc, Contains, IsTrue}
 use Rattle.std.specs.Prelude.{is_some}
 use Rattle.std.proofs.lemmas.Bool.{cases_eq, cases_lt, false≢true}
-use Rattle.std.proofs.lemmas.List.{get_or-set_same, get_or-set_other, get_or_past, length-set, map-append}
+use Rattle.std.proofs.lemmas.List.{get_or-set_same, get_or-set_other, get_or_past, get_or-replicate, length-map, length-replicate, length-set, map-append, take_more}
 use Rattle.std.proofs.lemmas.Option.{slice_get_within}
-use Rattle.std.proofs.lemmas.List.Elements.{Contains-append_left, Contains-append_cases}
+use Rattle.std.proofs.lemmas.List.Elements.{All-contains, Contains-append_left, Contains-append_cases}
+use Rattle.tv_model.specs.declared.program.Action.{Action}
 use Rattle.tv_model.specs.declared.program.Mode.{Mode}
+use Rattle.tv_model.specs.declared.program.Mode.TheVariants.{Given, Recompute}
+use Rattle.tv_model.specs.declared.program.Program.{Program}
+use Rattle.tv_model.specs.declared.program.Update.{Update}
 use Rattle.tv_model.specs.declared.formula.PredId.{PredId}
 use Rattle.tv_model.specs.Form.{Form, Mentions}
-use Rattle.tv_model.specs.Program.{ProgramForm, PredForm, KindForm, KCore, KDefined, ActionForm, UpdateForm}
-use Rattle.tv_model.specs.Valid.{IsValid, IsAction}
-use Rattle.tv_model.proofs.Lists.{Contains-none, Contains-here, Contains-cases, Contains-there, pushed-cases, pushed-old, pushed-last, slice_get-past}
+use Rattle.tv_model.specs.Program.{ProgramForm, PredForm, KindForm, KCore, KDefined, ActionForm, UpdateForm, action_of, pred_of, program_of, update_of}
+use Rattle.tv_model.specs.Step.{update_for}
+use Rattle.tv_model.specs.Valid.{IsValid, IsAction, IsUpdate}
+use Rattle.tv_model.proofs.Lists.{Contains-none, Contains-here, Contains-cases, Contains-there, Contains-map, pushed-cases, pushed-old, pushed-last, slice_get-past}
 use Rattle.tv_applied.specs.Applied.{used_update, kind_or_core, kind_at, update_at, MovesIndividuals, IsChanged}
 use Rattle.tv_applied.proofs.Predicates.{defined-found}
 use Rattle.tv_applied.proofs.Updates.{UpdateOf, used-update-of}
 use Rattle.tv_update.specs.Plan.{IsFreeOf, IsOrdered, IsPlan, is_set, RestsOn, IsDefined, moves_individuals, AreUpdated, AreWaiting}
+use Rattle.tv_update.specs.Updated.{used_in}
 use Rattle.tv_update.proofs.Made.{none-used}
 
--- whether there is an update that counts
-pub is_some_used : (mode : Mode) (kind : KindForm) (o : Option UpdateForm) (b c : Bool)
-    → ((w : UpdateForm) → used_update mode kind (Some w) ≡ cond c (Some w) None) → b ≡ is_some o
-    → (b && c) ≡ is_some (used_update mode kind o)
-is_some_used mode kind None b c counts has = ap (λ x. x && c) has ∙ ap is_some (sym (none-used mode kind))
-is_some_used mode kind (Some w) b c counts has =
-    ap (λ x. x && c) has ∙ by_count c ∙ ap is_some (sym (counts w))
+-- ---- updates that count
+
+-- whether updates of a predicate count
+abbrev counts-at : Mode → KindForm → Bool
+counts-at Given kind = true
+counts-at Recompute KCore = true
+counts-at Recompute (KDefined vars body) = false
+
+used-counts : (mode : Mode) (kind : KindForm) (o : Option UpdateForm)
+    → is_some (used_update mode kind o) ≡ (counts-at mode kind && is_some o)
+used-counts Given kind o = refl
+used-counts Recompute KCore o = refl
+used-counts Recompute (KDefined vars body) o = refl
+
+and-one : (b x : Bool) → (b && (x || true)) ≡ b
+and-one true true = refl
+and-one true false = refl
+and-one false x = refl
+
+or-none : (x : Bool) → (x || false) ≡ x
+or-none true = refl
+or-none false = refl
+
+-- where it is told by one update
+told-counts : (mode : Mode) (kind : KindForm) (w : UpdateForm) (on : Bool)
+    → used_update mode kind (Some w) ≡ cond on (Some w) None → on ≡ counts-at mode kind
+told-counts mode kind w on told =
+    sym (by_on on) ∙ ap is_some (sym told) ∙ used-counts mode kind (Some w) ∙ and-one (counts-at mode kind) true
   where
-    by_count : (d : Bool) → d ≡ is_some (cond d (Some w) None)
-    by_count true = refl
-    by_count false = refl
+    by_on : (b : Bool) → is_some (cond b (Some w) None) ≡ b
+    by_on true = refl
+    by_on false = refl
+
+-- before the first
+pub no_flag : (p : ProgramForm) (mode : Mode) (n q : ℕ)
+    → is_set (replicate n false) q ≡ is_some (used_in p mode [] q)
+no_flag p mode n q =
+    ⊎_elim (λ lt. get_or-replicate n q false false lt)
+    (λ past. get_or_past (replicate n false) q false (omega (arith, past, length-replicate n false)))
+    (cases_lt q n)
+    ∙ sym (ap is_some (none-used mode (kind_at p q)))
+
+-- one more update behind the others
+found-last : (q : ℕ) (ws : List UpdateForm) (w : UpdateForm)
+    → is_some (update_for q (ws ++ w ∷ [])) ≡ (is_some (update_for q ws) || eqb w.pred q)
+found-last q [] w = by_own (eqb w.pred q)
+  where
+    by_own : (b : Bool) → is_some (cond b (Some w) None) ≡ b
+    by_own true = refl
+    by_own false = refl
+found-last q (x ∷ ws) w = by_first (eqb x.pred q) (found-last q ws w)
+  where
+    by_first : (b : Bool) → is_some (update_for q (ws ++ w ∷ [])) ≡ (is_some (update_for q ws) || eqb w.pred q)
+        → is_some (cond b (Some x) (update_for q (ws ++ w ∷ [])))
+        ≡ (is_some (cond b (Some x) (update_for q ws)) || eqb w.pred q)
+    by_first true later = refl
+    by_first false later = later
+
+flag-more : (p : ProgramForm) (mode : Mode) (ws : List UpdateForm) (w : UpdateForm) (on : Bool) (flags : List Bool)
+    → used_update mode (kind_at p w.pred) (Some w) ≡ cond on (Some w) None → w.pred < length flags
+    → ((q : ℕ) → is_set flags q ≡ is_some (used_in p mode ws q)) → (q : ℕ)
+    → is_set (set flags w.pred on) q ≡ is_some (used_in p mode (ws ++ w ∷ []) q)
+flag-more p mode ws w on flags told below so_far q =
+    ⊎_elim own other (cases_eq w.pred q)
+    ∙ ap (λ x. counts-at mode (kind_at p q) && x) (sym (found-last q ws w))
+    ∙ sym (used-counts mode (kind_at p q) (update_for q (ws ++ w ∷ [])))
+  where
+    own : w.pred ≡ q → is_set (set flags w.pred on) q
+        ≡ (counts-at mode (kind_at p q) && (is_some (update_for q ws) || eqb w.pred q))
+    own e =
+        ap (is_set (set flags w.pred on)) (sym e) ∙ get_or-set_same flags w.pred on false below
+        ∙ told-counts mode (kind_at p w.pred) w on told ∙ ap (λ n. counts-at mode (kind_at p n)) e
+        ∙ sym (and-one (counts-at mode (kind_at p q)) (is_some (update_for q ws)))
+        ∙ ap (λ b. counts-at mode (kind_at p q) && (is_some (update_for q ws) || b)) (sym (eq-eqb w.pred q e))
+
+    other : w.pred ≢ q → is_set (set flags w.pred on) q
+        ≡ (counts-at mode (kind_at p q) && (is_some (update_for q ws) || eqb w.pred q))
+    other ne =
+        get_or-set_other flags w.pred q on false (λ e. ne (sym e)) ∙ so_far q
+        ∙ used-counts mode (kind_at p q) (update_for q ws)
+        ∙ ap (λ x. counts-at mode (kind_at p q) && x) (sym (or-none (is_some (update_for q ws))))
+        ∙ ap (λ b. counts-at mode (kind_at p q) && (is_some (update_for q ws) || b)) (sym (ne_eqb w.pred q ne))
+
+-- the same as the code has it
+pub one_more_flag : (p : ProgramForm) (mode : Mode) (ws : List Update) (i : ℕ) (w : Update) (on : Bool)
+    (flags : List Bool) → i < length ws → w ≡ get_or ws i w
+    → used_update mode (kind_at p w.pred.0) (Some (update_of w)) ≡ cond on (Some (update_of w)) None
+    → w.pred.0 < length flags
+    → ((q : ℕ) → is_set flags q ≡ is_some (used_in p mode (map update_of (take i ws)) q)) → (q : ℕ)
+    → is_set (set flags w.pred.0 on) q ≡ is_some (used_in p mode (map update_of (take (i + 1) ws)) q)
+one_more_flag p mode ws i w on flags lt at told below so_far q =
+    flag-more p mode (map update_of (take i ws)) (update_of w) on flags told below so_far q
+    ∙ ap (λ us. is_some (used_in p mode us q)) (sym listed)
+  where
+    listed : map update_of (take (i + 1) ws) ≡ map update_of (take i ws) ++ update_of w ∷ []
+    listed =
+        ap (map update_of) (take_more ws i w lt)
+        ∙ ap (λ x. map update_of (take i ws ++ x ∷ [])) (sym at)
+        ∙ map-append update_of (take i ws) (w ∷ [])
+
+-- the predicate of an update is one of the program's
+update-below : (p : ProgramForm) (action : ActionForm) → IsAction p action → (w : UpdateForm)
+    → Contains action.updates w → w.pred < length p.preds
+update-below p action valid w at =
+    let is : IsUpdate p action w = All-contains (IsUpdate p action) action.updates w valid.updates at
+    in slice_get_within p.preds w.pred is.0 is.1
+
+pub item_below : (program : Program) (action : Action) (ws : List Update) (i : ℕ) (w : Update)
+    → IsAction (program_of program) (action_of action) → ws ≡ action.updates → i < length ws → w ≡ get_or ws i w
+    → w.pred.0 < length program.vocab.preds
+item_below program action ws i w valid same lt at =
+    let within : Contains action.updates w = subst (λ us. Contains us w) same (i, lt, sym at)
+    in omega (
+      arith,
+      update-below (program_of program) (action_of action) valid (update_of w)
+          (Contains-map update_of w action.updates within),
+      length-map program.vocab.preds pred_of,
+    )
 
 -- ---- flags
 

@@ -1,12 +1,16 @@
 -- Where all individuals stay and none is marked, the structure stays as it is.
-use Rattle.std.proofs.Common.{ℕ, ◌≡◌, ◌∙◌, ◌<◌, ◌+◌, true, false, Bool, List, [], ◌∷◌, length, map, None, refl, sym, ap, subst, get_or, All}
+use Rattle.std.proofs.Common.{ℕ, ◌≡◌, ◌∙◌, ◌<◌, ◌+◌, true, false, Bool, List, [], ◌∷◌, length, map, replicate, None, refl, sym, ap, subst, get_or, All, zero, suc}
 use Rattle.std.specs.Prelude.{◌==◌, IsTrue, if◌then◌else◌}
 use Rattle.std.specs.List.{AllByRecursion, range_with_len}
+use Rattle.std.proofs.lemmas.List.{length-replicate}
 use Rattle.std.proofs.lemmas.List.Elements.{All-head, All-tail}
 use Rattle.std.proofs.lemmas.List.FromFn.{fill_by_all, length-range_with_len}
 use Rattle.tv_kleene.specs.declared.K3.TheVariants.{No}
 use Rattle.tv_struct.specs.TableForm.{PlaneForm, IsPlane, plane_drawn, row_count, column_count, selected}
 use Rattle.tv_struct.specs.StructureForm.{StructureForm, IsStructure, kept_from, without}
+use Rattle.tv_model.specs.Program.{ProgramForm}
+use Rattle.tv_update.specs.Defined.{AreEvaluated}
+use Rattle.tv_update.specs.New.{AreFinished}
 
 -- the elements at all places, in order
 all-selected : {X : Type 0} (d : X) (xs : List X) (n : ℕ) → length xs ≡ n
@@ -71,3 +75,21 @@ whole_stays s flags is unmarked count all =
       planes = sym planes i;
       fresh = unmarked i;
     }
+
+all-set : (n : ℕ) → AllByRecursion IsTrue (replicate n true)
+all-set zero = tt
+all-set (suc n) = (refl, all-set n)
+
+-- what is made of the updated structure is what is made of all its individuals
+pub whole_finished : (p : ProgramForm) (order : List ℕ) (updated t : StructureForm) → IsStructure updated
+    → updated.fresh ≡ None → IsStructure t → AreEvaluated p order updated t
+    → AreFinished p order updated (replicate updated.size true ∷ []) (t ∷ [])
+whole_finished p order updated t is unmarked of done = (
+  record {
+    is = of;
+    evaluated = subst (λ s. AreEvaluated p order s t)
+        (whole_stays updated (replicate updated.size true) is unmarked
+        (length-replicate updated.size true) (all-set updated.size)) done;
+  },
+  tt,
+)

@@ -9,7 +9,7 @@ use Rattle.tv_struct.specs.StructureForm.{StructureForm}
 use Rattle.tv_eval.specs.AssignmentForm.{assignment_of}
 use Rattle.tv_eval.specs.ScratchForm.{ScratchForm}
 use Rattle.tv_update.specs.declared.application.Application.{Application}
-use Rattle.tv_update.specs.Plan.{IsPlan}
+use Rattle.tv_update.specs.Plan.{IsPlanFor}
 use Rattle.tv_update.specs.Update.{IsUpdateCause, IsGivenOf, IsAnswer}
 use Rattle.tv_update.specs.Updated.{CanApply, AreMade, keep_values}
 
@@ -35,7 +35,7 @@ IsUpdated applied middle t = AreMadeIn applied middle applied.action.now.updates
 -- the definitions that it changes, in order
 abbrev pub IsPlanOf : Application → List PredId → Type 0
 IsPlanOf applied order =
-    IsPlan (program_of applied.program.now) applied.mode (action_of applied.action.now) (map (λ p. p.0) order)
+    IsPlanFor (program_of applied.program.now) applied.mode (action_of applied.action.now) order
 
 -- the tables are what it gives from the middle structure
 abbrev pub IsGivenBy : Application → (middle : StructureForm) → List StructureForm → Type 0

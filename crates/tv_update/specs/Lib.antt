@@ -1,9 +1,11 @@
 pub mod Applying
 pub mod Defined
+pub mod Held
 pub mod Kept
 pub mod New
 pub mod Plan
 pub mod Redefined
 pub mod Rows
+pub mod Staying
 pub mod Update
 pub mod Updated

@@ -1,5 +1,6 @@
 -- Which defined predicates an action changes, in an order in which they can be evaluated.
-use Rattle.std.specs.Prelude.{ℕ, ◌≡◌, ◌↔◌, ◌<◌, ◌||◌, Bool, false, List, [], ◌∷◌, length, None, is_some, Contains, IsTrue, slice_index_or}
+use Rattle.std.specs.Prelude.{ℕ, ◌≡◌, ◌↔◌, ◌<◌, ◌||◌, Bool, false, List, [], ◌∷◌, length, map, None, is_some, Contains, IsTrue, slice_index_or}
+use Rattle.tv_model.specs.declared.formula.PredId.{PredId}
 use Rattle.tv_model.specs.declared.program.Mode.{Mode}
 use Rattle.tv_model.specs.Form.{Form, Mentions}
 use Rattle.tv_model.specs.Program.{ProgramForm, KindForm, KCore, KDefined, ActionForm}
@@ -20,6 +21,10 @@ pub record IsPlan (p : ProgramForm) (mode : Mode) (action : ActionForm) (order :
   pub are_changed : AreChanged p mode action changed
   pub members : (q : ℕ) → Contains order q ↔ (IsTrue (changed q) × (update_at p mode action q ≡ None))
   pub ordered : IsOrdered p order
+
+-- the list is such a plan
+abbrev pub IsPlanFor : ProgramForm → Mode → ActionForm → List PredId → Type 0
+IsPlanFor p mode action plan = IsPlan p mode action (map (λ x. x.0) plan)
 
 -- ---- as the plan is made
 

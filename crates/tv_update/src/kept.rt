@@ -11,6 +11,15 @@ use tv_model::Items;
 /// A flag for each individual: whether it stays.
 pub type Flags = Items<bool>;
 
+/// Which individuals stay.
+#[derive(Debug, Drop)]
+pub enum Staying {
+    /// All do, and none is marked: the structure stays whole.
+    Whole,
+    /// By these values of the retain formula, individual by individual.
+    By(Vec<K3>),
+}
+
 /// How many of the values are `Half`.
 pub fn halves(values: &[K3]) -> u32
     requires { length values.now ≤ 256 }

@@ -14,4 +14,5 @@ mod stage;
 mod updates;
 
 pub use definitions::redefine;
-pub use stage::{update, update_middle};
+pub use plan::{Plan, plan_for};
+pub use stage::{update, update_by_plan, update_middle};

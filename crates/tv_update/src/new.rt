@@ -1,9 +1,8 @@
 //! New structures, one for each choice of the individuals that stay.
 
-ghost use Rattle.std.specs.Prelude.{◌≡◌, None, length, map, All, IfOk, IsTrue};
-ghost use Rattle.std.specs.List.{AllByRecursion};
+ghost use Rattle.std.specs.Prelude.{◌≡◌, ◌∷◌, [], true, None, length, map, replicate, All, IfOk};
 ghost use Rattle.tv_model.specs.Program.{program_of};
-ghost use Rattle.tv_struct.specs.StructureForm.{IsStructure, arities_of, without};
+ghost use Rattle.tv_struct.specs.StructureForm.{IsStructure};
 ghost use Rattle.tv_update.specs.New.{CanFinish, IsFinished, AreFinished};
 
 use crate::define::define_all;
@@ -23,37 +22,6 @@ pub struct Recipe<'a> {
     pub updated: &'a Structure,
 }
 
-/// Whether all flags are set.
-fn are_set(flags: &[bool]) -> bool
-    ensures { IsTrue result → AllByRecursion IsTrue flags.now }
-{
-    match flags {
-        [] => true,
-        [on, rest @ ..] => *on && are_set(rest),
-    }
-}
-
-/// Whether all individuals stay, and none is marked.
-fn stays_whole(s: &Structure, flags: &[bool]) -> bool
-    ensures { IsTrue result → (s.now.fresh ≡ None) × AllByRecursion IsTrue flags.now }
-{
-    s.fresh().is_none() && are_set(flags)
-}
-
-/// The individuals that stay, with their values, none of them marked; a copy where all do and none is.
-fn kept(alloc: Global, s: &Structure, flags: &[bool]) -> Result<Structure, AllocError>
-    requires { length flags.now ≡ s.now.size }
-    ensures value { IfOk result (λ t. t ≡ without s.now flags.now) }
-    ensures over { IfOk result (λ t. arities_of t ≡ arities_of s.now) }
-    ensures kept { IfOk result IsStructure }
-{
-    let _ = s.size();
-    if stays_whole(s, flags) {
-        return s.copy(alloc);
-    }
-    s.without(alloc, flags)
-}
-
 /// The structure of a choice.
 fn new_structure(
     alloc: Global,
@@ -69,7 +37,7 @@ fn new_structure(
         (map (λ p. p.0) recipe.now.order.now) recipe.now.updated.now flags.now) }
     ensures scratch { scratch.new ≡ scratch.old }
 {
-    let mut t = kept(alloc, recipe.updated, flags)?;
+    let mut t = recipe.updated.without(alloc, flags)?;
     rows.resize(t.size());
     define_all(recipe.program, recipe.order, &mut t, rows, scratch)?;
     Ok(t)
@@ -95,5 +63,28 @@ pub fn new_structures(
     for flags in choices {
         out.push(new_structure(alloc, recipe, flags.as_slice(), &mut rows, scratch)?)?;
     }
+    Ok(out)
+}
+
+/// The updated structure alone, where all individuals stay and none is marked.
+pub fn whole_structure(
+    alloc: Global,
+    program: &Program,
+    order: &[PredId],
+    updated: Structure,
+    scratch: &mut Scratch,
+) -> Result<Structures, AllocError>
+    requires can { CanFinish program.now order.now updated scratch.old }
+    requires unmarked { updated.fresh ≡ None }
+    ensures structures { IfOk result (AreFinished (program_of program.now) (map (λ p. p.0) order.now) updated
+        (replicate updated.size true ∷ [])) }
+    ensures scratch { scratch.new ≡ scratch.old }
+{
+    let mut t = updated;
+    let mut rows = Rows::new(alloc, t.size());
+    define_all(program, order, &mut t, &mut rows, scratch)?;
+    let _ = t.size();
+    let mut out = Structures::new(alloc);
+    out.push(t)?;
     Ok(out)
 }

@@ -1,18 +1,23 @@
 //! Which defined predicates an action changes, in an order in which they can be evaluated.
 
-ghost use Rattle.std.specs.Prelude.{ℕ, ◌≡◌, ◌↔◌, ◌⊎◌, ◌<◌, ◌≤◌, ◌++◌, [], ◌∷◌, length, map, is_some, IsTrue, IfOk, OnOk, IfSome, IfNone, if◌then◌else◌};
+ghost use Rattle.std.specs.Prelude.{ℕ, ◌≡◌, ◌↔◌, ◌⊎◌, ◌<◌, ◌≤◌, ◌++◌, [], ◌∷◌, length, map, IsTrue, IfOk, OnOk, IfSome, IfNone, if◌then◌else◌};
 ghost use Rattle.tv_model.specs.Form.{form_of, Mentions};
-ghost use Rattle.tv_model.specs.Program.{program_of, action_of, update_of};
-ghost use Rattle.tv_model.specs.Step.{update_for};
+ghost use Rattle.tv_model.specs.Program.{program_of, action_of};
 ghost use Rattle.tv_model.specs.Valid.{IsValid, IsAction};
-ghost use Rattle.tv_applied.specs.Applied.{kind_at, update_at};
+ghost use Rattle.tv_applied.specs.Applied.{kind_at};
 ghost use Rattle.tv_update.specs.Applying.{IsPlanOf};
-ghost use Rattle.tv_update.specs.Plan.{is_set, RestsOn, IsDefined, moves_individuals, AreUpdated, AreWaiting};
+ghost use Rattle.tv_update.specs.Plan.{IsPlanFor, is_set, RestsOn, IsDefined, moves_individuals, AreUpdated, AreWaiting};
+ghost use Rattle.tv_update.specs.Update.{action_at};
 
 use crate::application::Application;
 use crate::updates::counts;
 use std::alloc::{AllocError, Global};
-use tv_model::{Action, Formula, Kind, PredId, Program, Update};
+use tv_eval::Assignment;
+use tv_model::{Action, Formula, Items, Kind, Mode, PredId, Program};
+
+/// The predicates whose definitions an action evaluates anew, in an order in which they can be: each
+/// rests on none behind it.
+pub type Plan = Items<PredId>;
 
 /// Whether the flag of the predicate is set.
 fn is_set(flags: &[bool], p: PredId) -> bool
@@ -66,36 +71,16 @@ fn ready(program: &Program, waiting: &[bool]) -> Option<usize>
     None
 }
 
-/// Whether one of the updates is of the predicate.
-fn has_update(updates: &[Update], p: PredId) -> bool
-    ensures { result ≡ is_some (update_for p.0 (map update_of updates.now)) }
-{
-    match updates {
-        [] => false,
-        [w, rest @ ..] => w.pred.0 == p.0 || has_update(rest, p),
-    }
-}
-
-/// Whether the predicate has an update that counts.
-#[tactic(auto, using(crate::proofs::Plans::is_some_used))]
-fn is_updated(applied: &Application, p: PredId) -> bool
-    requires { p.0 < length applied.now.program.now.vocab.preds }
-    ensures { result ≡ is_some (update_at (program_of applied.now.program.now) applied.now.mode
-        (action_of applied.now.action.now) p.0) }
-{
-    has_update(applied.action.updates.as_slice(), p) && counts(applied.program, applied.mode, p)
-}
-
 /// The flags of the predicates with an update that counts.
 fn updated_flags(alloc: Global, applied: &Application) -> Result<Vec<bool>, AllocError>
-    requires { length applied.now.program.now.vocab.preds ≤ 512 }
+    requires { IsAction (program_of applied.now.program.now) (action_of applied.now.action.now) }
     ensures { IfOk result (λ flags. AreUpdated (program_of applied.now.program.now) applied.now.mode
         (action_of applied.now.action.now) flags.items) }
 {
-    let count = applied.program.vocab.preds.len();
-    let mut flags = Vec::with_capacity(alloc, count)?;
-    for p in 0..count {
-        flags.push(is_updated(applied, PredId(p as u32)))?;
+    let mut flags = vec![in alloc; false; applied.program.vocab.preds.len()]?;
+    let updates = applied.action.updates.as_slice();
+    for w in updates {
+        flags[w.pred.0 as usize] = counts(applied.program, applied.mode, w.pred);
     }
     Ok(flags)
 }
@@ -172,4 +157,27 @@ pub fn changed_definitions(alloc: Global, applied: &Application) -> Result<Vec<P
         push_if(&mut order, PredId(p as u32), on)?;
     }
     Ok(order)
+}
+
+/// The plan of an action of the program in a mode, for any structure and any individuals that are picked: those
+/// without an update that counts whose definition mentions a changed predicate, or all, where individuals may
+/// come or go.
+pub fn plan_for(
+    alloc: Global,
+    program: &Program,
+    action: u32,
+    mode: Mode,
+) -> Result<Plan, AllocError>
+    requires valid { IsValid (program_of program.now) }
+    requires action { action < length program.now.actions }
+    ensures { IfOk result (IsPlanFor (program_of program.now) mode (action_at program.now action)) }
+{
+    let applied = Application {
+        program,
+        action: &program.actions.as_slice()[action as usize],
+        mode,
+        picks: &Assignment::new(),
+    };
+    let order = changed_definitions(alloc, &applied)?;
+    Ok(Plan::from_vec(order))
 }

@@ -1,14 +1,15 @@
 //! What is read in the middle structure.
 
-ghost use Rattle.std.specs.Prelude.{◌≡◌, ◌≤◌, IfOk, IfErr, OnOk};
+ghost use Rattle.std.specs.Prelude.{◌≡◌, ◌≤◌, None, IsTrue, IfOk, IfErr, OnOk};
 ghost use Rattle.tv_struct.specs.Halves.{row_halves};
 ghost use Rattle.tv_struct.specs.StructureForm.{IsStructure};
 ghost use Rattle.tv_eval.specs.Bound.{IsBound, bound_structure, bound_room};
 ghost use Rattle.tv_update.specs.Applying.{CanBeApplied, IsUpdated, values_to_keep};
+ghost use Rattle.tv_update.specs.Staying.{IsStaying, StaysWhole};
 ghost use Rattle.tv_update.specs.Updated.{IsPrepareCause};
 
 use crate::application::Application;
-use crate::kept::halves;
+use crate::kept::{Staying, halves};
 use crate::rows::Rows;
 use crate::updates::make_all;
 use std::alloc::{AllocError, Global};
@@ -20,12 +21,11 @@ use tv_struct::{StageError, Structure};
 /// With more unknown values of the retain formula than these there are over 4,096 choices.
 const MAX_HALVES: u32 = 12;
 
-/// What is read in the middle structure: the updated values, of all its individuals, and the values
-/// of the retain formula.
+/// What is read in the middle structure: the updated values, of all its individuals, and which of them stay.
 #[derive(Debug, Drop)]
 pub struct Prepared {
     pub updated: Structure,
-    pub keep: Vec<K3>,
+    pub staying: Staying,
 }
 
 /// The values of a row as a list.
@@ -53,6 +53,69 @@ fn keep_row<'a>(applied: &Application<'a>, middle: &Structure, e: &mut Evaluator
         None => Row::of(middle.size(), K3::Yes),
         Some(retain) => e.row(&retain.keep, retain.var, applied.picks),
     }
+}
+
+/// Whether all individuals stay, and none is marked.
+fn stays_whole(middle: &Structure, keep: &Row) -> bool
+    ensures { IsTrue result → StaysWhole middle.now keep.now }
+{
+    middle.fresh().is_none() && keep.are_yes()
+}
+
+/// Which individuals stay by these values of the retain formula.
+fn staying_by(alloc: Global, middle: &Structure, keep: &Row) -> Result<Staying, StageError>
+    ensures staying { IfOk result (IsStaying middle.now keep.now) }
+    ensures few { OnOk result (row_halves keep.now ≤ 12) }
+    ensures cause { IfErr result (IsPrepareCause keep.now) }
+{
+    if stays_whole(middle, keep) {
+        return Ok(Staying::Whole);
+    }
+    let _ = keep.size();
+    let values = listed(alloc, keep)?;
+    if halves(values.as_slice()) > MAX_HALVES {
+        return Err(StageError::Splits);
+    }
+    Ok(Staying::By(values))
+}
+
+fn is_unmarked(s: &Structure) -> bool
+    ensures { IsTrue result → s.now.fresh ≡ None }
+{
+    s.fresh().is_none()
+}
+
+/// Whether there is no retain formula, and no individual is marked.
+fn stays_unasked(applied: &Application, middle: &Structure) -> bool
+    ensures { IsTrue result → StaysWhole middle.now (values_to_keep applied.now middle.now) }
+{
+    match &applied.action.retain {
+        None => is_unmarked(middle),
+        Some(_) => false,
+    }
+}
+
+/// Which individuals stay. `Splits` comes where there are over 4,096 choices.
+fn staying<'a>(
+    alloc: Global,
+    applied: &Application<'a>,
+    middle: &Structure,
+    e: &mut Evaluator<'a>,
+) -> Result<Staying, StageError>
+    requires bound { IsBound e.old }
+    requires structure { bound_structure e.old ≡ middle.now }
+    requires can { CanBeApplied applied.now middle.now (bound_room e.old) }
+    ensures staying { IfOk result (IsStaying middle.now (values_to_keep applied.now middle.now)) }
+    ensures few { OnOk result (row_halves (values_to_keep applied.now middle.now) ≤ 12) }
+    ensures cause { IfErr result (IsPrepareCause (values_to_keep applied.now middle.now)) }
+    ensures bound { IsBound e.new }
+    ensures structure { bound_structure e.new ≡ bound_structure e.old }
+    ensures room { bound_room e.new ≡ bound_room e.old }
+{
+    if stays_unasked(applied, middle) {
+        return Ok(Staying::Whole);
+    }
+    staying_by(alloc, middle, &keep_row(applied, middle, e))
 }
 
 /// The structure with the updates that count.
@@ -94,7 +157,7 @@ pub fn prepare<'a>(
     requires bound { IsBound e.old }
     requires structure { bound_structure e.old ≡ middle.now }
     requires can { CanBeApplied applied.now middle.now (bound_room e.old) }
-    ensures keep { IfOk result (λ x. x.keep.items ≡ values_to_keep applied.now middle.now) }
+    ensures staying { IfOk result (λ x. IsStaying middle.now (values_to_keep applied.now middle.now) x.staying) }
     ensures few { OnOk result (row_halves (values_to_keep applied.now middle.now) ≤ 12) }
     ensures made { IfOk result (λ x. IsUpdated applied.now middle.now x.updated) }
     ensures cause { IfErr result (IsPrepareCause (values_to_keep applied.now middle.now)) }
@@ -103,10 +166,7 @@ pub fn prepare<'a>(
     ensures room { bound_room e.new ≡ bound_room e.old }
 {
     let _ = middle.size();
-    let keep = listed(alloc, &keep_row(applied, middle, e))?;
-    if halves(keep.as_slice()) > MAX_HALVES {
-        return Err(StageError::Splits);
-    }
+    let staying = staying(alloc, applied, middle, e)?;
     let updated = updated(alloc, applied, middle, e)?;
-    Ok(Prepared { updated, keep })
+    Ok(Prepared { updated, staying })
 }

@@ -1,6 +1,6 @@
 //! The values of formulas at all tuples of individuals, row by row.
 
-ghost use Rattle.std.specs.Prelude.{◌≡◌, ◌≤◌, [], ◌∷◌, length, OnOk};
+ghost use Rattle.std.specs.Prelude.{◌≡◌, ◌≤◌, ◌∷◌, [], length, OnOk};
 ghost use Rattle.tv_model.specs.Form.{form_of, vars_of};
 ghost use Rattle.tv_struct.specs.StructureRows.{HasArity};
 ghost use Rattle.tv_eval.specs.AssignmentForm.{assignment_of};
@@ -14,21 +14,25 @@ use tv_model::{Formula, PredId, Terms, Var};
 use tv_row::Row;
 use tv_struct::{Structure, Tuple};
 
-/// Rows of values for a predicate of a structure of `size` individuals: one row of one value for a
-/// nullary predicate, one row for a unary one, and a row for each individual for a binary one.
+/// Rows of values for a predicate of a structure of `size` individuals: the only row, of one value for a
+/// nullary predicate and of all for a unary one, or a row for each individual for a binary one.
 #[derive(Debug, Drop)]
 pub struct Rows {
-    rows: Vec<Row>,
+    only: Row,
+    pairs: Vec<Row>,
     size: u32,
 }
 
 impl Rows {
+    ghost use Rattle.tv_update.specs.Held.{rows_held};
+
     /// No rows yet.
     pub fn new(alloc: Global, size: u32) -> Rows
         ensures { result.size ≡ size }
     {
         Rows {
-            rows: Vec::new(alloc),
+            only: Row::of(0, K3::No),
+            pairs: Vec::new(alloc),
             size,
         }
     }
@@ -52,29 +56,28 @@ impl Rows {
         requires size { self.old.size ≡ (bound_structure e.old).size }
         requires can { CanFill (bound_structure e.old) a.now (vars_of vars) (bound_room e.old)
             (form_of f.now) }
-        ensures rows { OnOk result (self.new.rows.items ≡ rows_for (bound_structure e.old)
+        ensures rows { OnOk result (rows_held self.new (vars_of vars) ≡ rows_for (bound_structure e.old)
             (assignment_of a.now) (vars_of vars) (form_of f.now)) }
         ensures size { self.new.size ≡ self.old.size }
         ensures bound { IsBound e.new }
         ensures structure { bound_structure e.new ≡ bound_structure e.old }
         ensures room { bound_room e.new ≡ bound_room e.old }
     {
-        self.rows.clear();
         match vars {
             Terms::Zero => {
                 let k = e.value(f, a);
-                self.rows.push(Row::of(1, k))?;
+                self.only = Row::of(1, k);
+                Ok(())
             }
             Terms::One(v) => {
-                let row = e.row(f, v, a);
-                self.rows.push(row)?;
+                self.only = e.row(f, v, a);
+                Ok(())
             }
-            Terms::Two(v, w) => self.fill_pairs(e, v, w, f, a)?,
+            Terms::Two(v, w) => self.fill_pairs(e, v, w, f, a),
         }
-        Ok(())
     }
 
-    /// The same for two variables, where there are no rows yet.
+    /// The same for two variables.
     #[tactic(auto, using(crate::proofs::Folds::map_range_more))]
     fn fill_pairs<'a>(
         &mut self,
@@ -88,17 +91,17 @@ impl Rows {
         requires size { self.old.size ≡ (bound_structure e.old).size }
         requires can { CanFill (bound_structure e.old) a.now (v.0 ∷ w.0 ∷ []) (bound_room e.old)
             (form_of f.now) }
-        requires nothing { self.old.rows.items ≡ [] }
-        ensures rows { OnOk result (self.new.rows.items ≡ rows_for (bound_structure e.old)
+        ensures rows { OnOk result (self.new.pairs.items ≡ rows_for (bound_structure e.old)
             (assignment_of a.now) (v.0 ∷ w.0 ∷ []) (form_of f.now)) }
         ensures size { self.new.size ≡ self.old.size }
         ensures bound { IsBound e.new }
         ensures structure { bound_structure e.new ≡ bound_structure e.old }
         ensures room { bound_room e.new ≡ bound_room e.old }
     {
+        self.pairs.clear();
         for u in 0..self.size {
             let row = e.row(f, w, &a.with(v, u));
-            self.rows.push(row)?;
+            self.pairs.push(row)?;
         }
         Ok(())
     }
@@ -106,19 +109,32 @@ impl Rows {
     /// Holds `Half` at all tuples.
     pub fn fill_half(&mut self, vars: Terms) -> Result<(), AllocError>
         requires { self.old.size ≤ 256 }
-        ensures rows { OnOk result (self.new.rows.items
+        ensures rows { OnOk result (rows_held self.new (vars_of vars)
             ≡ half_rows self.old.size (length (vars_of vars))) }
         ensures size { self.new.size ≡ self.old.size }
     {
-        self.rows.clear();
         match vars {
-            Terms::Zero => self.rows.push(Row::of(1, K3::Half))?,
-            Terms::One(_) => self.rows.push(Row::of(self.size, K3::Half))?,
-            Terms::Two(_, _) => {
-                for _ in 0..self.size {
-                    self.rows.push(Row::of(self.size, K3::Half))?;
-                }
+            Terms::Zero => {
+                self.only = Row::of(1, K3::Half);
+                Ok(())
             }
+            Terms::One(_) => {
+                self.only = Row::of(self.size, K3::Half);
+                Ok(())
+            }
+            Terms::Two(_, _) => self.fill_half_pairs(),
+        }
+    }
+
+    /// The same for two variables.
+    fn fill_half_pairs(&mut self) -> Result<(), AllocError>
+        requires { self.old.size ≤ 256 }
+        ensures rows { OnOk result (self.new.pairs.items ≡ half_rows self.old.size 2) }
+        ensures size { self.new.size ≡ self.old.size }
+    {
+        self.pairs.clear();
+        for _ in 0..self.size {
+            self.pairs.push(Row::of(self.size, K3::Half))?;
         }
         Ok(())
     }
@@ -127,23 +143,23 @@ impl Rows {
     /// changes no other.
     pub fn put(&self, t: &mut Structure, p: PredId, vars: Terms)
         requires arity { HasArity t.old p.0 (length (vars_of vars)) }
-        requires rows { AreRows t.old.size (length (vars_of vars)) self.now.rows.items }
-        ensures { HasRows t.old t.new p.0 (length (vars_of vars)) self.now.rows.items }
+        requires rows { AreRows t.old.size (length (vars_of vars)) (rows_held self.now (vars_of vars)) }
+        ensures { HasRows t.old t.new p.0 (length (vars_of vars)) (rows_held self.now (vars_of vars)) }
     {
         match vars {
-            Terms::Zero => t.set(p, Tuple::Zero, self.rows[0].get(0)),
-            Terms::One(_) => t.set_unary_row(p, &self.rows[0]),
+            Terms::Zero => t.set(p, Tuple::Zero, self.only.get(0)),
+            Terms::One(_) => t.set_unary_row(p, &self.only),
             Terms::Two(_, _) => self.put_pairs(t, p),
         }
     }
 
     fn put_pairs(&self, t: &mut Structure, p: PredId)
         requires arity { HasArity t.old p.0 2 }
-        requires rows { AreRows t.old.size 2 self.now.rows.items }
-        ensures { HasRows t.old t.new p.0 2 self.now.rows.items }
+        requires rows { AreRows t.old.size 2 self.now.pairs.items }
+        ensures { HasRows t.old t.new p.0 2 self.now.pairs.items }
     {
         for u in 0..t.size() {
-            t.set_row(p, u, &self.rows[u as usize]);
+            t.set_row(p, u, &self.pairs[u as usize]);
         }
     }
 }

@@ -9,17 +9,20 @@ ghost use Rattle.tv_eval.specs.AssignmentForm.{IsAssigned, assignment_of};
 ghost use Rattle.tv_eval.specs.ScratchForm.{IsMadeFor};
 ghost use Rattle.tv_applied.specs.Choices.{AreGiven};
 ghost use Rattle.tv_applied.specs.Tables.{middle_table, IsGivenOver};
-ghost use Rattle.tv_update.specs.Applying.{CanBeApplied, IsUpdated, IsGivenBy, IsAnswerTo, IsCauseFor, values_to_keep};
+ghost use Rattle.tv_update.specs.Applying.{CanBeApplied, IsUpdated, IsPlanOf, IsGivenBy, IsAnswerTo, IsCauseFor, values_to_keep};
+ghost use Rattle.tv_update.specs.Plan.{IsPlanFor};
+ghost use Rattle.tv_update.specs.Staying.{IsStaying, StaysWhole};
 ghost use Rattle.tv_update.specs.Update.{action_at, IsWithinLimits, IsUpdateCause, IsSole, KeepsSteps, IsFull, IsGivenOf};
 ghost use Rattle.tv_update.specs.Updated.{IsPrepareCause, keep_values};
 
 use crate::application::Application;
-use crate::kept::choices;
-use crate::new::{Recipe, new_structures};
-use crate::plan::changed_definitions;
+use crate::kept::{Staying, choices};
+use crate::new::{Recipe, new_structures, whole_structure};
+use crate::plan::{Plan, plan_for};
 use crate::prepare::{Prepared, prepare};
 use std::alloc::{AllocError, Global};
 use tv_eval::{Assignment, Evaluator, Scratch};
+use tv_kleene::K3;
 use tv_model::{Mode, Program};
 use tv_struct::{StageError, Structure, Structures};
 
@@ -34,7 +37,7 @@ fn read(
     scratch: &mut Scratch,
 ) -> Result<Prepared, StageError>
     requires can { CanBeApplied applied.now middle.now scratch.old }
-    ensures keep { IfOk result (λ x. x.keep.items ≡ values_to_keep applied.now middle.now) }
+    ensures staying { IfOk result (λ x. IsStaying middle.now (values_to_keep applied.now middle.now) x.staying) }
     ensures few { OnOk result (row_halves (values_to_keep applied.now middle.now) ≤ 12) }
     ensures made { IfOk result (λ x. IsUpdated applied.now middle.now x.updated) }
     ensures cause { IfErr result (IsPrepareCause (values_to_keep applied.now middle.now)) }
@@ -46,40 +49,95 @@ fn read(
     prepared
 }
 
+/// The structures that the action gives, one for each choice of the individuals that stay by these values.
+fn finish_by(
+    alloc: Global,
+    applied: &Application,
+    plan: &Plan,
+    middle: &Structure,
+    updated: &Structure,
+    values: &[K3],
+    scratch: &mut Scratch,
+) -> Result<Structures, AllocError>
+    requires can { CanBeApplied applied.now middle.now scratch.old }
+    requires plan { IsPlanOf applied.now plan.now }
+    requires keep { values.now ≡ values_to_keep applied.now middle.now }
+    requires made { IsUpdated applied.now middle.now updated.now }
+    ensures given { IfOk result (IsGivenBy applied.now middle.now) }
+    ensures scratch { scratch.new ≡ scratch.old }
+{
+    let _ = updated.size();
+    let choices = choices(alloc, values)?;
+    let recipe = Recipe {
+        program: applied.program,
+        order: plan.as_slice(),
+        updated,
+    };
+    new_structures(alloc, &recipe, choices.as_slice(), scratch)
+}
+
+/// The only structure that the action gives, where all individuals stay and none is marked.
+fn finish_whole(
+    alloc: Global,
+    applied: &Application,
+    plan: &Plan,
+    middle: &Structure,
+    updated: Structure,
+    scratch: &mut Scratch,
+) -> Result<Structures, AllocError>
+    requires can { CanBeApplied applied.now middle.now scratch.old }
+    requires plan { IsPlanOf applied.now plan.now }
+    requires whole { StaysWhole middle.now (values_to_keep applied.now middle.now) }
+    requires made { IsUpdated applied.now middle.now updated }
+    ensures given { IfOk result (IsGivenBy applied.now middle.now) }
+    ensures scratch { scratch.new ≡ scratch.old }
+{
+    let _ = updated.size();
+    whole_structure(alloc, applied.program, plan.as_slice(), updated, scratch)
+}
+
 /// The structures that the action gives of what was read.
 fn finish(
     alloc: Global,
     applied: &Application,
+    plan: &Plan,
     middle: &Structure,
-    prepared: &Prepared,
+    prepared: Prepared,
     scratch: &mut Scratch,
 ) -> Result<Structures, AllocError>
     requires can { CanBeApplied applied.now middle.now scratch.old }
-    requires keep { prepared.now.keep.items ≡ values_to_keep applied.now middle.now }
-    requires made { IsUpdated applied.now middle.now prepared.now.updated }
+    requires plan { IsPlanOf applied.now plan.now }
+    requires staying { IsStaying middle.now (values_to_keep applied.now middle.now) prepared.staying }
+    requires made { IsUpdated applied.now middle.now prepared.updated }
     ensures given { IfOk result (IsGivenBy applied.now middle.now) }
     ensures scratch { scratch.new ≡ scratch.old }
 {
-    let _ = prepared.updated.size();
-    let choices = choices(alloc, prepared.keep.as_slice())?;
-    let order = changed_definitions(alloc, applied)?;
-    let recipe = Recipe {
-        program: applied.program,
-        order: order.as_slice(),
-        updated: &prepared.updated,
-    };
-    new_structures(alloc, &recipe, choices.as_slice(), scratch)
+    let Prepared { updated, staying } = prepared;
+    match staying {
+        Staying::Whole => finish_whole(alloc, applied, plan, middle, updated, scratch),
+        Staying::By(values) => finish_by(
+            alloc,
+            applied,
+            plan,
+            middle,
+            &updated,
+            values.as_slice(),
+            scratch,
+        ),
+    }
 }
 
 /// The structures that the action gives, where `middle` is the middle structure of `s`.
 fn answer(
     alloc: Global,
     applied: &Application,
+    plan: &Plan,
     s: &Structure,
     middle: &Structure,
     scratch: &mut Scratch,
 ) -> Result<Structures, StageError>
     requires can { CanBeApplied applied.now s.now scratch.old }
+    requires plan { IsPlanOf applied.now plan.now }
     requires middle { middle.now ≡ middle_table (action_of applied.now.action.now).fresh s.now }
     requires room { ¬ IsFull (action_of applied.now.action.now) s.now }
     ensures answer { IfOk result (IsAnswerTo applied.now s.now) }
@@ -88,45 +146,49 @@ fn answer(
 {
     let _ = s.size();
     let prepared = read(alloc, applied, middle, scratch)?;
-    Ok(finish(alloc, applied, middle, &prepared, scratch)?)
+    Ok(finish(alloc, applied, plan, middle, prepared, scratch)?)
 }
 
 /// The structures that the action gives where this is the middle structure.
 fn in_middle(
     alloc: Global,
     applied: &Application,
+    plan: &Plan,
     middle: &Structure,
     scratch: &mut Scratch,
 ) -> Result<Structures, StageError>
     requires can { CanBeApplied applied.now middle.now scratch.old }
+    requires plan { IsPlanOf applied.now plan.now }
     ensures given { IfOk result (IsGivenBy applied.now middle.now) }
     ensures cause { IfErr result (IsPrepareCause (values_to_keep applied.now middle.now)) }
     ensures scratch { scratch.new ≡ scratch.old }
 {
     let prepared = read(alloc, applied, middle, scratch)?;
-    Ok(finish(alloc, applied, middle, &prepared, scratch)?)
+    Ok(finish(alloc, applied, plan, middle, prepared, scratch)?)
 }
 
 /// The structures that the action gives from `s`.
 fn apply(
     alloc: Global,
     applied: &Application,
+    plan: &Plan,
     s: &Structure,
     scratch: &mut Scratch,
 ) -> Result<Structures, StageError>
     requires can { CanBeApplied applied.now s.now scratch.old }
+    requires plan { IsPlanOf applied.now plan.now }
     ensures answer { IfOk result (IsAnswerTo applied.now s.now) }
     ensures cause { IfErr result (IsCauseFor applied.now s.now) }
     ensures scratch { scratch.new ≡ scratch.old }
 {
     if !applied.action.fresh {
-        return answer(alloc, applied, s, s, scratch);
+        return answer(alloc, applied, plan, s, s, scratch);
     }
     if s.size() == MAX_INDIVIDUALS {
         return Err(StageError::Individuals);
     }
     let middle = s.with_new(alloc)?;
-    answer(alloc, applied, s, &middle, scratch)
+    answer(alloc, applied, plan, s, &middle, scratch)
 }
 
 /// The structures that an action of the program gives from `s` under the picked individuals, one
@@ -175,6 +237,41 @@ pub fn update(
         (action_at program.now action) s.now (assignment_of picks.now)) }
     ensures scratch { scratch.new ≡ scratch.old }
 {
+    let plan = plan_for(alloc, program, action, mode)?;
+    update_by_plan(alloc, program, action, mode, &plan, s, picks, scratch)
+}
+
+/// The same where the action's plan was made before, so that it is made once for many structures.
+pub fn update_by_plan(
+    alloc: Global,
+    program: &Program,
+    action: u32,
+    mode: Mode,
+    plan: &Plan,
+    s: &Structure,
+    picks: &Assignment,
+    scratch: &mut Scratch,
+) -> Result<Structures, StageError>
+    requires valid { IsValid (program_of program.now) }
+    requires action { action < length program.now.actions }
+    requires plan { IsPlanFor (program_of program.now) mode (action_at program.now action) plan.now }
+    requires over { IsOver program.now.vocab s.now }
+    requires picks { All (IsAssigned s.now.size picks.now) (action_at program.now action).picks }
+    requires scratch { IsMadeFor (program_of program.now) 256 scratch.old }
+    ensures given { IfOk result (λ ts. AreGiven (program_of program.now) mode
+        (action_at program.now action) (structure_of s.now) (assignment_of picks.now)
+        (map structure_of ts)) }
+    ensures over { IfOk result (All (IsGivenOver s.now)) }
+    ensures sole { IfOk result (IsSole (program_of program.now) mode (action_at program.now action)
+        s.now (assignment_of picks.now)) }
+    ensures within { OnOk result (IsWithinLimits (action_at program.now action) s.now
+        (assignment_of picks.now)) }
+    ensures cause { IfErr result (IsUpdateCause (action_at program.now action) s.now
+        (assignment_of picks.now)) }
+    ensures heaps { IfOk result (KeepsSteps (program_of program.now) mode
+        (action_at program.now action) s.now (assignment_of picks.now)) }
+    ensures scratch { scratch.new ≡ scratch.old }
+{
     let _ = s.size();
     let applied = Application {
         program,
@@ -182,11 +279,11 @@ pub fn update(
         mode,
         picks,
     };
-    apply(alloc, &applied, s, scratch)
+    apply(alloc, &applied, plan, s, scratch)
 }
 
-/// The same where `middle` is the middle structure: the structure to start from, with the further individual
-/// where the action adds one. The picked individuals are some of `middle`.
+/// What `update` gives where `middle` is the middle structure: the structure to start from, with the
+/// further individual where the action adds one. The picked individuals are some of `middle`.
 ///
 /// `Splits` comes where the retain formula has over 12 unknown values, which is over 4,096 choices.
 pub fn update_middle(
@@ -210,11 +307,12 @@ pub fn update_middle(
     ensures scratch { scratch.new ≡ scratch.old }
 {
     let _ = middle.size();
+    let plan = plan_for(alloc, program, action, mode)?;
     let applied = Application {
         program,
         action: &program.actions.as_slice()[action as usize],
         mode,
         picks,
     };
-    in_middle(alloc, &applied, middle, scratch)
+    in_middle(alloc, &applied, &plan, middle, scratch)
 }

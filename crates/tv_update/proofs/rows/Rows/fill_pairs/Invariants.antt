@@ -9,7 +9,7 @@ use Rattle.tv_update.proofs.rows.Rows.fill_pairs.Given as goal
 
 abbrev pub invariant-loop-u : goal.invariant-loop-u
 invariant-loop-u l = record {
-  rows : l.self.rows.items
+  rows : l.self.pairs.items
       ≡ map (λ u. values_along (bound_structure l.fn.e) (put (assignment_of l.a) l.v.0 u) l.w.0 (form_of l.f))
       (range_with_len 0 l.u);
   size : l.self.size ≡ l.fn.self.size;

@@ -10,5 +10,5 @@ invariant-loop-u l = record {
   is : IsStructure l.t;
   like : IsLike l.fn.t l.t;
   others : (q : ℕ) (tuple : List ℕ) → q ≢ l.p.0 → value_at l.t q tuple ≡ value_at l.fn.t q tuple;
-  done : (u w : ℕ) → u < l.u → w < l.fn.t.size → value_at l.t l.p.0 (u ∷ w ∷ []) ≡ cell l.self.rows.items u w;
+  done : (u w : ℕ) → u < l.u → w < l.fn.t.size → value_at l.t l.p.0 (u ∷ w ∷ []) ≡ cell l.self.pairs.items u w;
 }

@@ -1,4 +1,4 @@
-use Rattle.std.proofs.Common.{◌≡◌, All, map, subst}
+use Rattle.std.proofs.Common.{◌≡◌, All, map, subst, sym}
 use Rattle.std.proofs.lemmas.Result.{IfOk-weaker}
 use Rattle.std.specs.Result.{IfOk, IfErr}
 use Rattle.tv_model.specs.Program.{ActionForm, program_of, action_of}
@@ -6,20 +6,28 @@ use Rattle.tv_struct.specs.StructureForm.{structure_of}
 use Rattle.tv_eval.specs.AssignmentForm.{assignment_of}
 use Rattle.tv_applied.specs.Choices.{AreGiven}
 use Rattle.tv_applied.specs.Tables.{IsGivenOver}
+use Rattle.tv_update.specs.Plan.{IsPlanFor}
 use Rattle.tv_update.specs.Update.{action_at, IsWithinLimits, IsUpdateCause, IsSole, KeepsSteps, IsAnswer}
 use Rattle.tv_update.proofs.Answered.{action_is, can_apply_at}
-use Rattle.tv_update.proofs.stage.update.Goals as goal
+use Rattle.tv_update.proofs.stage.update_by_plan.Goals as goal
 
-pub apply-requires : goal.apply-requires
-apply-requires c = record {
-  can = can_apply_at c.args.program.now c.as_slice.result.now c.args.action c.index-as_slice-action.result
-      c.args.picks.now c.args.s.now c.args.scratch.now
-      c.as_slice.ensures c.requires.action c.index-as_slice-action.is c.requires.valid c.requires.over
-      c.size.ensures.kept.table.size
-      c.requires.picks c.requires.scratch;
-}
+pub apply-requires-clause-can : goal.apply-requires-clause-can
+apply-requires-clause-can c =
+    can_apply_at c.args.program.now c.as_slice.result.now c.args.action c.index-as_slice-action.result
+    c.args.picks.now c.args.s.now c.args.scratch.now
+    c.as_slice.ensures c.requires.action c.index-as_slice-action.is c.requires.valid c.requires.over
+    c.size.ensures.kept.table.size
+    c.requires.picks c.requires.scratch
 
 -- the action is the one with that number
+pub apply-requires-clause-plan : goal.apply-requires-clause-plan
+apply-requires-clause-plan c =
+    subst (λ (a : ActionForm). IsPlanFor (program_of c.args.program.now) c.args.mode a c.args.plan.now)
+    (sym (action_is c.args.program.now c.as_slice.result.now c.args.action c.index-as_slice-action.result
+    c.as_slice.ensures c.requires.action
+    c.index-as_slice-action.is))
+    c.requires.plan
+
 is-action : (c : goal.After-apply)
     → action_of c.index-as_slice-action.result ≡ action_at c.args.program.now c.args.action
 is-action c =

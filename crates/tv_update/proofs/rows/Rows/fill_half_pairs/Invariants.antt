@@ -1,9 +1,9 @@
 use Rattle.std.proofs.Common.{◌≡◌, replicate}
 use Rattle.tv_kleene.specs.declared.K3.TheVariants.{Half}
-use Rattle.tv_update.proofs.rows.Rows.fill_half.Given as goal
+use Rattle.tv_update.proofs.rows.Rows.fill_half_pairs.Given as goal
 
 abbrev pub invariant-loop : goal.invariant-loop
 invariant-loop l = record {
-  rows : l.self.rows.items ≡ replicate l.counter (replicate l.self.size Half);
+  rows : l.self.pairs.items ≡ replicate l.counter (replicate l.self.size Half);
   size : l.self.size ≡ l.fn.self.size;
 }

@@ -10,27 +10,27 @@ use Rattle.tv_update.specs.Update.{IsGivenOf}
 use Rattle.tv_update.specs.Updated.{keep_values}
 use Rattle.tv_update.proofs.Finishes.{can_finish}
 use Rattle.tv_update.proofs.Given.{flags_fit, finished_are_given}
-use Rattle.tv_update.proofs.stage.finish.Goals as goal
+use Rattle.tv_update.proofs.stage.finish_by.Goals as goal
 
 pub new_structures-requires-clause-can : goal.new_structures-requires-clause-can
 new_structures-requires-clause-can c =
-    subst (λ order. CanFinish c.args.applied.now.program.now order c.args.prepared.now.updated
+    subst (λ order. CanFinish c.args.applied.now.program.now order c.args.updated.now
     c.args.scratch.now)
-    (sym c.as_slice-2.ensures.value)
+    (sym c.as_slice.ensures)
     (can_finish c.args.applied.now.program.now c.args.applied.now.action.now c.args.applied.now.mode
     c.args.applied.now.picks.now
-    c.args.middle.now c.args.prepared.now.updated c.args.scratch.now
-    (assignment_of c.args.applied.now.picks.now) c.in_ok-order.order.items
-    c.requires.can c.requires.made c.in_ok-order.ensures)
+    c.args.middle.now c.args.updated.now c.args.scratch.now
+    (assignment_of c.args.applied.now.picks.now) c.args.plan.now
+    c.requires.can c.requires.made c.requires.plan)
 
 pub new_structures-requires-clause-flags : goal.new_structures-requires-clause-flags
 new_structures-requires-clause-flags c =
-    let listed : c.as_slice-3.result.now ≡ flag_choices
+    let listed : c.as_slice-2.result.now ≡ flag_choices
     (keep_values c.args.middle.now (assignment_of c.args.applied.now.picks.now)
     (action_of c.args.applied.now.action.now).retain)
-    = c.as_slice-3.ensures.value ∙ c.in_ok-choices.ensures
-    ∙ ap flag_choices (c.as_slice.ensures.value ∙ c.requires.keep)
-    in subst (All (λ flags. length flags ≡ c.args.prepared.now.updated.size)) (sym listed)
+    = c.as_slice-2.ensures.value ∙ c.in_ok-choices.ensures
+    ∙ ap flag_choices c.requires.keep
+    in subst (All (λ flags. length flags ≡ c.args.updated.now.size)) (sym listed)
     (subst (λ n. All (λ flags. length flags ≡ n)
     (flag_choices (keep_values c.args.middle.now (assignment_of c.args.applied.now.picks.now)
     (action_of c.args.applied.now.action.now).retain)))
@@ -40,25 +40,25 @@ new_structures-requires-clause-flags c =
 
 pub returns-clause-given : goal.returns-clause-given
 returns-clause-given c =
-    let listed : c.as_slice-3.result.now ≡ flag_choices
+    let listed : c.as_slice-2.result.now ≡ flag_choices
     (keep_values c.args.middle.now (assignment_of c.args.applied.now.picks.now)
     (action_of c.args.applied.now.action.now).retain)
-    = c.as_slice-3.ensures.value ∙ c.in_ok-choices.ensures
-    ∙ ap flag_choices (c.as_slice.ensures.value ∙ c.requires.keep)
+    = c.as_slice-2.ensures.value ∙ c.in_ok-choices.ensures
+    ∙ ap flag_choices c.requires.keep
     in let Finished : List PredId → List (List Bool) → List StructureForm → Type 0
     = λ order choices ts. AreFinished (program_of c.args.applied.now.program.now)
-    (map (λ p. p.0) order) c.args.prepared.now.updated choices ts
-    in IfOk-weaker c.new_structures.result (Finished c.as_slice-2.result.now c.as_slice-3.result.now)
+    (map (λ p. p.0) order) c.args.updated.now choices ts
+    in IfOk-weaker c.new_structures.result (Finished c.as_slice.result.now c.as_slice-2.result.now)
     (IsGivenOf (program_of c.args.applied.now.program.now) c.args.applied.now.mode
     (action_of c.args.applied.now.action.now)
     (assignment_of c.args.applied.now.picks.now) c.args.middle.now)
     (λ ts done. finished_are_given (program_of c.args.applied.now.program.now) c.args.applied.now.mode
     (action_of c.args.applied.now.action.now)
-    (assignment_of c.args.applied.now.picks.now) c.args.middle.now c.args.prepared.now.updated
-    (map (λ p. p.0) c.in_ok-order.order.items) ts
-    c.size.ensures.kept c.requires.made c.in_ok-order.ensures
+    (assignment_of c.args.applied.now.picks.now) c.args.middle.now c.args.updated.now
+    (map (λ p. p.0) c.args.plan.now) ts
+    c.size.ensures.kept c.requires.made c.requires.plan
     (subst (λ order. Finished order
     (flag_choices (keep_values c.args.middle.now (assignment_of c.args.applied.now.picks.now)
     (action_of c.args.applied.now.action.now).retain)) ts)
-    c.as_slice-2.ensures.value (subst (λ choices. Finished c.as_slice-2.result.now choices ts) listed done)))
+    c.as_slice.ensures (subst (λ choices. Finished c.as_slice.result.now choices ts) listed done)))
     c.new_structures.ensures.structures
