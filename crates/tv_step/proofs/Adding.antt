@@ -49,11 +49,6 @@ adds-more R xs x ys zs ws (one, from, is) (own, made, same) = (
   same ∙ ap (λ us. us ++ own) is ∙ append_assoc ys one own,
 )
 
--- what is put behind nothing is what is made
-pub adds-first : {X Y : Type 0} (R : X → List Y → Type 0) (x : X) (old new : List Y) → old ≡ []
-    → Adds R x old new → R x new
-adds-first R x old new none (own, made, is) = subst (R x) (sym (is ∙ ap (λ ys. ys ++ own) none)) made
-
 pub nothing-added : {Y : Type 0} (ys : List Y) → ys ≡ ys ++ []
 nothing-added ys = sym (append-nil ys)
 

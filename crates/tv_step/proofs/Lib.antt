@@ -4,9 +4,11 @@ mod Beginnings
 mod Budgeted
 mod Coercing
 mod Differing
+mod Engines
 mod Evaluating
 mod Finishing
 mod FocusStays
+mod Jobs
 mod LeftAlone
 mod Noting
 mod Picking

@@ -1,21 +1,22 @@
 -- Sets of rules that wait after an update.
-use Rattle.std.proofs.Common.{ℕ, ◌≡◌, ◌∙◌, ◌<◌, ◌≤◌, ◌+◌, ◌⊎◌, true, false, Bool, List, [], ◌∷◌, length, map, ◌++◌, take, inl, inr, ⊎_elim, refl, sym, ap, subst, arith, add-one, get_or, replicate, Contains}
+use Rattle.std.proofs.Common.{ℕ, ◌≡◌, ◌∙◌, ◌<◌, ◌≤◌, ◌+◌, ◌⊎◌, false, Bool, List, [], ◌∷◌, length, map, ◌++◌, take, inl, inr, ⊎_elim, refl, ap, subst, arith, add-one, get_or, slice_get, Some, All, Contains}
 use Rattle.std.specs.Prelude.{IsTrue}
 use Rattle.std.proofs.lemmas.Bool.{cases_lt}
-use Rattle.std.proofs.lemmas.List.{get_or-replicate, length-map, length-replicate, map-append}
-use Rattle.std.proofs.lemmas.Option.{slice_get_within}
+use Rattle.std.proofs.lemmas.List.{length-map, map-append}
 use Rattle.std.proofs.Math.Seq.{take-suc}
+use Rattle.std.proofs.lemmas.List.Elements.{All-contains}
+use Rattle.tv_model.specs.declared.formula.Formula.{Formula}
 use Rattle.tv_model.specs.declared.program.Update.{Update}
-use Rattle.tv_model.specs.Form.{Form, Mentions}
+use Rattle.tv_model.specs.Form.{Form, form_of, Mentions}
 use Rattle.tv_model.specs.declared.program.Program.{Program}
 use Rattle.tv_model.specs.Program.{ProgramForm, RuleForm, ActionForm, KindForm, KCore, KDefined, pred_of, program_of}
-use Rattle.tv_model.proofs.Lists.{pushed-cases, slice_get-past}
+use Rattle.tv_model.proofs.Lists.{All-from_contains, pushed-cases, slice_get-past}
 use Rattle.tv_rules.specs.Standing.{StandsIn, SeesSummaries}
 use Rattle.tv_applied.specs.Applied.{kind_or_core, kind_at}
-use Rattle.tv_coerce.specs.RuleSets.{IsIn, IsStableBut, HasMore, IsRuleThat}
+use Rattle.tv_coerce.specs.RuleSets.{IsIn, HasMore, IsRuleThat}
 use Rattle.tv_update.specs.Plan.{IsDefined, moves_individuals}
-use Rattle.tv_struct.specs.StructureForm.{StructureForm}
 use Rattle.tv_step.specs.Waiting.{WaitsAt, WaitsFor, HasRulesOf}
+use Rattle.tv_step.proofs.Adding.{all-next}
 
 -- no predicate is asked for
 pub rules-none : (P : ℕ → Type 0) (rules : List RuleForm) (set : List Bool) → ((q : ℕ) → P q → ⊥)
@@ -97,44 +98,66 @@ defined-below program n q all defined =
     = defined-within (program_of program) q defined (cases_lt q (length (program_of program).preds))
     in (omega (arith, within, all, length-map program.vocab.preds pred_of), defined)
 
--- all rules wait
-pub all-wait : (p : ProgramForm) (action : ActionForm) (rules : List RuleForm) (set : List Bool)
-    → set ≡ replicate (length rules) true → WaitsFor p action rules set
-all-wait p action rules set is = record {
-  count = ap length is ∙ length-replicate (length rules) true;
-  alone = λ n rule there out. absurd (out (subst (λ flags. IsIn flags n) (sym is)
-      (get_or-replicate (length rules) n true _ (slice_get_within rules n rule there))));
-}
-
 -- what was put into a set leaves the others alone
 pub others-alone : (p : ProgramForm) (action : ActionForm) (rules : List RuleForm)
-    (none updated set : List Bool)
+    (none defined set : List Bool)
     → moves_individuals action ≡ false → length none ≡ length rules
-    → HasRulesOf (Contains (map (λ w. w.pred) action.updates)) rules none updated
-    → HasRulesOf (λ q. IsDefined (kind_at p q)) rules updated set → WaitsFor p action rules set
-others-alone p action rules none updated set stays count updates defines = record {
-  count = defines.count ∙ updates.count ∙ count;
+    → HasRulesOf (λ q. IsDefined (kind_at p q)) rules none defined
+    → HasRulesOf (Contains (map (λ w. w.pred) action.updates)) rules defined set → WaitsFor p action rules set
+others-alone p action rules none defined set stays count defines updates = record {
+  count = updates.count ∙ defines.count ∙ count;
   alone = λ n rule there out. record {
     stays = stays;
-    core = λ q stands. core-undefined (kind_at p q) (λ is. out (defines.standing n q rule there stands is));
-    kept = λ q stands at. out (defines.more n (updates.standing n q rule there stands at));
+    core = λ q stands. core-undefined (kind_at p q)
+        (λ is. out (updates.more n (defines.standing n q rule there stands is)));
+    kept = λ q stands at. out (updates.standing n q rule there stands at);
   };
 }
 
+-- ---- the rules that wait at focus atoms
+
+-- no rule out of the set sees what is a summary
+abbrev pub AreBlind : List RuleForm → List Bool → Type 0
+AreBlind rules set =
+    (k : ℕ) (rule : RuleForm) → slice_get rules k ≡ Some rule → ¬ IsIn set k → ¬ SeesSummaries rule
+
+pub seeing-blind : (rules : List RuleForm) (none seeing : List Bool)
+    → HasMore (IsRuleThat SeesSummaries rules) none seeing → AreBlind rules seeing
+seeing-blind rules none seeing sees k rule there out is = out ((sees.exact k).1 (inr (rule, there, is)))
+
+pub still-blind : (P : ℕ → Type 0) (rules : List RuleForm) (old new : List Bool) → HasRulesOf P rules old new
+    → AreBlind rules old → AreBlind rules new
+still-blind P rules old new more blind k rule there out = blind k rule there (λ at. out (more.more k at))
+
+-- what waits at a formula still does, where more is put into the set
+apart-kept : (P : ℕ → Type 0) (n : ℕ) (f : Form) (rules : List RuleForm) (old new : List Bool)
+    → HasRulesOf P rules old new → WaitsAt n f rules old → WaitsAt n f rules new
+apart-kept P n f rules old new more waits = record {
+  count = more.count ∙ waits.count;
+  blind = λ k rule there out. waits.blind k rule there (λ at. out (more.more k at));
+  apart = λ k q rule there out lt mentions stands.
+      waits.apart k q rule there (λ at. out (more.more k at)) lt mentions stands;
+}
+
 -- what was put into a set is about the formula
-pub others-apart : (n : ℕ) (f : Form) (rules : List RuleForm) (none seeing set : List Bool)
-    → length none ≡ length rules → HasMore (IsRuleThat SeesSummaries rules) none seeing
-    → HasRulesOf (λ q. (q < n) × Mentions q f) rules seeing set → WaitsAt n f rules set
-others-apart n f rules none seeing set count sees mentioned = record {
-  count = mentioned.count ∙ sees.count ∙ count;
-  blind = λ k rule there out is. out (mentioned.more k ((sees.exact k).1 (inr (rule, there, is))));
+apart-next : (n : ℕ) (f : Form) (rules : List RuleForm) (old new : List Bool) → length old ≡ length rules
+    → AreBlind rules old → HasRulesOf (λ q. (q < n) × Mentions q f) rules old new → WaitsAt n f rules new
+apart-next n f rules old new count blind mentioned = record {
+  count = mentioned.count ∙ count;
+  blind = still-blind (λ q. (q < n) × Mentions q f) rules old new mentioned blind;
   apart = λ k q rule there out lt mentions stands.
       out (mentioned.standing k q rule there stands (lt, mentions));
 }
 
--- no rule is left over where all wait
-pub all-rest : (rules : List RuleForm) (set : List Bool) (s : StructureForm)
-    → set ≡ replicate (length rules) true → IsStableBut rules set s
-all-rest rules set s is n rule there out =
-    absurd (out (subst (λ flags. IsIn flags n) (sym is)
-    (get_or-replicate (length rules) n true _ (slice_get_within rules n rule there))))
+pub formulas-wait : (n : ℕ) (rules : List RuleForm) (fs : List Formula) (i : ℕ) (f : Formula)
+    (old new : List Bool)
+    → i < length fs → f ≡ get_or fs i f → length old ≡ length rules → AreBlind rules old
+    → All (λ g. WaitsAt n (form_of g) rules old) (take i fs)
+    → HasRulesOf (λ q. (q < n) × Mentions q (form_of f)) rules old new
+    → All (λ g. WaitsAt n (form_of g) rules new) (take (i + 1) fs)
+formulas-wait n rules fs i f old new lt is count blind before mentioned =
+    all-next (λ g. WaitsAt n (form_of g) rules new) fs i f lt is
+    (All-from_contains (λ g. WaitsAt n (form_of g) rules new) (take i fs)
+    (λ g at. apart-kept (λ q. (q < n) × Mentions q (form_of f)) n (form_of g) rules old new mentioned
+    (All-contains (λ h. WaitsAt n (form_of h) rules old) (take i fs) g before at)))
+    (apart-next n (form_of f) rules old new count blind mentioned)

@@ -1,38 +1,23 @@
 -- What is said of a step along an edge.
-use Rattle.std.proofs.Common.{ℕ, ◌≡◌, ◌∙◌, List, [], ◌∷◌, ◌++◌, sym, ap, subst, All}
+use Rattle.std.proofs.Common.{ℕ, List, All}
 use Rattle.std.specs.Prelude.{Result, Ok, Err, IfOk, IfErr, OnOk}
 use Rattle.std.proofs.lemmas.List.Elements.{All-contains}
 use Rattle.tv_kleene.specs.declared.K3.{K3}
 use Rattle.tv_model.specs.declared.program.Mode.{Mode}
-use Rattle.tv_model.specs.declared.program.Program.{Program}
-use Rattle.tv_model.specs.Program.{ProgramForm, ActionForm, program_of}
+use Rattle.tv_model.specs.Program.{ProgramForm, ActionForm}
 use Rattle.tv_model.specs.Valid.{IsValid}
 use Rattle.tv_model.proofs.Lists.{All-from_contains}
-use Rattle.tv_rules.specs.Closing.{closed_rules}
-use Rattle.tv_stable.specs.Stable.{IsStable}
-use Rattle.tv_struct.specs.StructureForm.{StructureForm, IsOver, IsStructure, structure_of}
+use Rattle.tv_struct.specs.StructureForm.{StructureForm, IsStructure}
 use Rattle.tv_struct.specs.declared.analysis.StageError.{StageError}
 use Rattle.tv_transfer.specs.Budgets.{KeepsBudgets, IsStepCause}
 use Rattle.tv_transfer.specs.Settled.{IsSettled}
 use Rattle.tv_transfer.specs.Sound.{KeepsNewHeaps, TellsMessages}
 use Rattle.tv_transfer.specs.Transfer.{Coerces, AreResults, AreMessageValues, IsActionOf}
 use Rattle.tv_transfer.proofs.Heaps.{any_heap, message-heap, result-heap}
-use Rattle.tv_transfer.proofs.Settled.{result-settled, stable-coerces}
+use Rattle.tv_transfer.proofs.Settled.{result-settled}
 use Rattle.tv_step.specs.declared.step.StepOut.{StepOut}
 use Rattle.tv_step.specs.Steps.{AreResultsOf, AreValuesOf, IsCauseOfStep}
 use Rattle.tv_step.proofs.Budgeted.{budgets-kept, step-cause}
-use Rattle.tv_transfer.proofs.Shapes.{over-shaped}
-
--- a stable structure is what coerce makes of it
-pub stable-start : (program : Program) (s t : StructureForm) (old new : List StructureForm)
-    → old ≡ [] → t ≡ s → new ≡ old ++ t ∷ []
-    → IsOver program.vocab s → IsStructure s → IsStable (closed_rules (program_of program)) (structure_of s)
-    → Coerces (program_of program) s new
-stable-start program s t old new none same is over kept stable =
-    let start : new ≡ s ∷ []
-    = is ∙ ap (λ (ys : List StructureForm). ys ++ t ∷ []) none ∙ ap (λ (u : StructureForm). u ∷ []) same
-    in subst (Coerces (program_of program) s) (sym start)
-    (stable-coerces (program_of program) s (over-shaped program s over kept) stable)
 
 -- all that is said of an answer
 pub record IsSaid (p : ProgramForm) (mode : Mode) (edge : ℕ) (s : StructureForm)

@@ -1,5 +1,5 @@
 -- Structures that are sorted, and of which each is kept once.
-use Rattle.std.proofs.Common.{◌≡◌, ◌∙◌, ◌↔◌, true, List, [], None, refl, sym, ap, subst, All, Contains}
+use Rattle.std.proofs.Common.{◌≡◌, ◌∙◌, ◌↔◌, ◌<◌, true, List, [], ◌∷◌, length, arith, None, refl, sym, ap, subst, All, Contains}
 use Rattle.std.specs.Prelude.{Any}
 use Rattle.std.specs.Cmp.{eq_by_cmp_equiv, Equal-is}
 use Rattle.std.specs.Ordering.{eq_by_cmp}
@@ -22,6 +22,13 @@ same-unmarked s t no_mark none equal =
     = λ u is. ap (λ fresh. record u { fresh = fresh }) is
     in as_it_is t none ∙ sym (structure_cmp-Equal s t ((Equal-is (structure_cmp s t)).0 equal))
     ∙ sym (as_it_is s no_mark)
+
+-- one structure alone is in order
+pub few-sorted : (xs : List StructureForm) → length xs < 2 → IsStrictlySortedBy structure_cmp xs
+unfolding IsStrictlySortedBy
+few-sorted [] few = tt
+few-sorted (x ∷ []) few = (tt, tt)
+few-sorted (x ∷ y ∷ rest) few = absurd (omega (arith, few))
 
 pub sorted-members : (xs ys zs : List StructureForm) → IsPermutation xs ys
     → IsFiltered (DiffersFromLast (eq_by_cmp structure_cmp)) [] ys zs → All (λ s. s.fresh ≡ None) xs

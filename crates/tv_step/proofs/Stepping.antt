@@ -1,9 +1,8 @@
 -- The step, from its parts.
-use Rattle.std.proofs.Common.{ℕ, ◌≡◌, ◌∙◌, ◌↔◌, List, [], ◌∷◌, map, None, inl, inr, sym, ap, subst, slice_get, Some, All, Contains}
+use Rattle.std.proofs.Common.{ℕ, ◌≡◌, ◌↔◌, List, [], ◌∷◌, map, None, inl, inr, sym, subst, slice_get, Some, All, Contains}
 use Rattle.std.specs.List.{range_with_len}
 use Rattle.std.specs.List.Sorted.{IsStrictlySortedBy}
 use Rattle.std.proofs.lemmas.List.Elements.{All-cons, All-contains, All-nil}
-use Rattle.tv_model.specs.declared.formula.Formula.{Formula}
 use Rattle.tv_model.specs.declared.program.Message.{Message}
 use Rattle.tv_model.specs.declared.program.Mode.{Mode}
 use Rattle.tv_model.specs.Form.{Form, form_of}
@@ -18,7 +17,7 @@ use Rattle.tv_transfer.specs.Parts.{AreFrom}
 use Rattle.tv_transfer.specs.Shaped.{IsShaped}
 use Rattle.tv_transfer.specs.Transfer.{FocusPlace, places_in, focus_places, Coerces, Focuses, Finishes, Steps, IsBlurOf}
 use Rattle.tv_transfer.proofs.From.{from-all, zip-all}
-use Rattle.tv_step.specs.declared.focus.Place.{Place}
+use Rattle.tv_step.specs.declared.focus.Turn.{Turn}
 use Rattle.tv_step.specs.Places.{place_of}
 use Rattle.tv_step.specs.Setting.{IsStableIn}
 use Rattle.tv_step.specs.Steps.{HasRoomFor, IsPlace, StepsIn, AreFocusedWithin, KeepsUpdateLimits, AreResultsOf}
@@ -34,13 +33,6 @@ all-back P f xs all =
     All-from_contains (λ x. P (f x)) xs
     (λ x here. All-contains P (map f xs) (f x) all (Contains-map f x xs here))
 
--- the places that are listed are those of the formulas
-pub listed-are : (listed items : List Place) (formulas own : List Formula) → listed ≡ items
-    → map place_of items ≡ focus_places (map form_of formulas) → formulas ≡ own
-    → map place_of listed ≡ focus_places (map form_of own)
-listed-are listed items formulas own same are is =
-    ap (map place_of) same ∙ are ∙ ap (λ fs. focus_places (map form_of fs)) is
-
 -- the places of the atoms of formulas over the program
 all-places : (p : ProgramForm) (fs : List Form) → All (IsPlainFormula p) fs
     → All (IsPlace p) (focus_places fs)
@@ -55,7 +47,7 @@ all-places p fs all =
 
 pub action-places : (p : ProgramForm) → IsValid p → (n : ℕ) (action : ActionForm)
     → slice_get p.actions n ≡ Some action
-    → (places : List Place) → map place_of places ≡ focus_places action.focus
+    → (places : List Turn) → map place_of places ≡ focus_places action.focus
     → All (λ place. IsPlace p (place_of place)) places
 action-places p valid n action there places are =
     all-back (IsPlace p) place_of places

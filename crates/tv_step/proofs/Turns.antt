@@ -12,7 +12,8 @@ use Rattle.tv_choices.specs.FocusAtoms.{focus_atoms}
 use Rattle.tv_choices.specs.Tables.{ShowsOver}
 use Rattle.tv_focus.specs.Anchored.{AreAtomsOver}
 use Rattle.tv_focus.proofs.Limits.{atoms-over}
-use Rattle.tv_model.specs.Form.{Form}
+use Rattle.tv_model.specs.declared.formula.Formula.{Formula}
+use Rattle.tv_model.specs.Form.{Form, form_of}
 use Rattle.tv_model.specs.Program.{ProgramForm}
 use Rattle.tv_model.specs.Valid.{IsFormula}
 use Rattle.tv_struct.specs.StructureForm.{StructureForm, arities_of}
@@ -21,7 +22,7 @@ use Rattle.tv_transfer.specs.Shaped.{IsShaped}
 use Rattle.tv_transfer.specs.Transfer.{FocusPlace, places_in, focus_places, choices_at, IsTableOf, Coerces, Focuses, AreFocused}
 use Rattle.tv_struct.specs.declared.analysis.StageError.{StageError}
 use Rattle.tv_struct.specs.declared.analysis.StageError.TheVariants.{Splits, Individuals, Memory}
-use Rattle.tv_step.specs.declared.focus.Place.{Place}
+use Rattle.tv_step.specs.declared.focus.Turn.{Turn}
 use Rattle.tv_step.specs.Places.{place_of}
 use Rattle.tv_step.specs.Steps.{Adds, IsFocusCause, KeepsLimits, AreFocusedWithin, IsCauseOfFocus}
 use Rattle.tv_transfer.proofs.From.{from-all}
@@ -50,9 +51,16 @@ places-all f items old n limit cap is few small e =
     in let exact : n ≡ length (focus_atoms f) = omega (arith, count, few, small, e)
     in is ∙ ap (λ k. old ++ map (at f) (range_with_len 0 k)) exact
 
-pub formulas-more : (fs : List Form) (f : Form) → focus_places (fs ++ f ∷ []) ≡ focus_places fs ++ places_in f
+formulas-more : (fs : List Form) (f : Form) → focus_places (fs ++ f ∷ []) ≡ focus_places fs ++ places_in f
 formulas-more fs f = flat_map-append places_in fs (f ∷ [])
     ∙ ap (λ xs. focus_places fs ++ xs) (append-nil (places_in f))
+
+-- those of one formula more
+pub formulas-next : (fs : List Formula) (i : ℕ) (f : Formula) → i < length fs → f ≡ get_or fs i f
+    → focus_places (map form_of (take (i + 1) fs)) ≡ focus_places (map form_of (take i fs)) ++ places_in (form_of f)
+formulas-next fs i f lt is =
+    rw (add-one, take-suc fs i f lt, ← is)
+    (ap focus_places (map-append form_of (take i fs) (f ∷ [])) ∙ formulas-more (map form_of (take i fs)) (form_of f))
 
 -- ---- one atom
 
@@ -138,13 +146,13 @@ focus-shaped p place ss ts from =
     (λ u parts none coerces. coerces-shaped p u parts coerces) us own made (each-unit us)) ss ts from
     (each-unit ss)
 
-pub places-next : (places : List Place) (i : ℕ) (place : Place) → i < length places
+pub places-next : (places : List Turn) (i : ℕ) (place : Turn) → i < length places
     → place ≡ get_or places i place
     → map place_of (take (i + 1) places) ≡ map place_of (take i places) ++ place_of place ∷ []
 places-next places i place lt is =
     rw (add-one, take-suc places i place lt, ← is) (map-append place_of (take i places) (place ∷ []))
 
-pub places-split : (places : List Place) (i : ℕ) (place : Place) → i < length places
+pub places-split : (places : List Turn) (i : ℕ) (place : Turn) → i < length places
     → place ≡ get_or places i place
     → map place_of places ≡ map place_of (take i places) ++ place_of place ∷ map place_of
     (drop (i + 1) places)
@@ -155,7 +163,7 @@ places-split places i place lt is =
     ∙ map-append place_of (take i places) (drop i places)
     ∙ ap (λ xs. map place_of (take i places) ++ map place_of xs) rest
 
-pub focus-fails : (p : ProgramForm) (places : List Place) (i : ℕ) (place : Place) (ss ts : List StructureForm)
+pub focus-fails : (p : ProgramForm) (places : List Turn) (i : ℕ) (place : Turn) (ss ts : List StructureForm)
     (e : StageError)
     → i < length places → place ≡ get_or places i place
     → AreFocusedWithin p (map place_of (take i places)) ss ts

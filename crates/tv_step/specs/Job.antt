@@ -1,23 +1,38 @@
 -- An action as a step applies it, and a structure at hand to which it is applied.
-use Rattle.std.specs.Prelude.{ℕ, ◌≡◌, ◌⊎◌, List, Option, Some, All, Contains, slice_get}
+use Rattle.std.specs.Prelude.{ℕ, ◌≡◌, ◌⊎◌, ◌^◌, ◌-◌, List, Option, Some, length, map, min, All, Contains, slice_get}
 use Rattle.tv_model.specs.declared.program.Mode.{Mode}
-use Rattle.tv_model.specs.Program.{ProgramForm, ActionForm, action_of}
+use Rattle.tv_model.specs.declared.program.Program.{Program}
+use Rattle.tv_model.specs.Program.{ProgramForm, ActionForm, action_of, program_of}
 use Rattle.tv_eval.specs.AssignmentForm.{IsAssigned}
 use Rattle.tv_eval.specs.ScratchForm.{ScratchForm}
-use Rattle.tv_rules.specs.EntryForms.{rules_of}
+use Rattle.tv_rules.specs.Closing.{closed_rules}
 use Rattle.tv_struct.specs.StructureForm.{StructureForm, IsStructure}
 use Rattle.tv_transfer.specs.Shaped.{IsShaped}
-use Rattle.tv_step.specs.declared.setting.Job.{Job}
+use Rattle.tv_transfer.specs.Transfer.{focus_places}
+use Rattle.tv_update.specs.Plan.{IsPlanFor}
+use Rattle.tv_step.specs.declared.job.Job.{Job}
 use Rattle.tv_step.specs.declared.picks.Case.{Case}
+use Rattle.tv_step.specs.Places.{place_of, HasWaiting}
 use Rattle.tv_step.specs.Setting.{form_in, IsReady, IsStableIn}
 use Rattle.tv_step.specs.Waiting.{WaitsFor}
 
 abbrev pub action_in : Job → ActionForm
 action_in job = action_of job.action.now
 
--- the job's action is the program's, by its number
-abbrev pub IsJobOf : ProgramForm → Job → Type 0
-IsJobOf p job = slice_get p.actions job.number ≡ Some (action_in job)
+-- the job's action is the program's, by its number; its turns are the atoms of the action's focus formulas, and
+-- the rules that wait are those that a choice of the atom and the action may leave unmet; the plan is that of the mode
+pub record IsJob (program : Program) (mode : Mode) (job : Job) : Type 0 where
+  pub action : slice_get (program_of program).actions job.number ≡ Some (action_in job)
+  pub places : map place_of job.turns.items ≡ focus_places (action_in job).focus
+  pub waiting : All (HasWaiting program) job.turns.items
+  pub waits : WaitsFor (program_of program) (action_in job) (closed_rules (program_of program)) job.waiting.value
+  pub plan : IsPlanFor (program_of program) mode (action_in job) job.plan
+
+-- each action has such a job at its number; the greatest 32-bit number stands for all that are greater
+pub record AreJobs (program : Program) (mode : Mode) (jobs : List Job) : Type 0 where
+  pub count : length jobs ≡ length program.actions
+  pub each : (n : ℕ) (job : Job) → slice_get jobs n ≡ Some job
+      → (job.number ≡ min n (2 ^ 32 - 1)) × IsJob program mode job
 
 abbrev pub case_program : Case → ProgramForm
 case_program c = form_in c.setting.now
@@ -26,7 +41,7 @@ abbrev pub case_action : Case → ActionForm
 case_action c = action_in c.job.now
 
 abbrev pub case_mode : Case → Mode
-case_mode c = c.job.now.mode
+case_mode c = c.setting.now.mode
 
 abbrev pub case_structure : Case → StructureForm
 case_structure c = c.from.now
@@ -34,11 +49,10 @@ case_structure c = c.from.now
 -- the case is one of the program and of a stable structure over it
 pub record IsCase (c : Case) (scratch : ScratchForm) : Type 0 where
   pub ready : IsReady c.setting.now scratch
-  pub job : IsJobOf (case_program c) c.job.now
+  pub job : IsJob c.setting.now.program.now c.setting.now.mode c.job.now
   pub shaped : IsShaped (case_program c) (case_structure c)
   pub is : IsStructure (case_structure c)
   pub stable : IsStableIn (case_program c) (case_structure c)
-  pub waits : WaitsFor (case_program c) (case_action c) (rules_of c.setting.now.closed.now) c.waiting.now
 
 -- the picked variables stand for individuals
 abbrev pub ArePicked : Case → List (Option ℕ) → Type 0

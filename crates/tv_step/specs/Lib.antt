@@ -1,6 +1,7 @@
 pub mod Allowed
 pub mod Changed
 pub mod Ending
+pub mod EngineForm
 pub mod Job
 pub mod Places
 pub mod Setting

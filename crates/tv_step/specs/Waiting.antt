@@ -1,11 +1,12 @@
 -- Which rules an action may leave unmet in a structure that was stable.
-use Rattle.std.specs.Prelude.{ℕ, ◌≡◌, ◌<◌, false, Bool, List, length, map, Some, Contains, slice_get}
+use Rattle.std.specs.Prelude.{ℕ, ◌≡◌, ◌<◌, true, false, Bool, List, length, map, replicate, Some, Contains, slice_get}
 use Rattle.tv_model.specs.Form.{Form, Mentions}
 use Rattle.tv_model.specs.Program.{ProgramForm, RuleForm, ActionForm, KCore}
 use Rattle.tv_rules.specs.Standing.{StandsIn, SeesSummaries}
 use Rattle.tv_applied.specs.Applied.{kind_at}
 use Rattle.tv_coerce.specs.RuleSets.{IsIn}
-use Rattle.tv_update.specs.Plan.{moves_individuals}
+use Rattle.tv_update.specs.Plan.{IsDefined, moves_individuals}
+use Rattle.tv_step.specs.declared.waiting.Shared.{Shared}
 
 -- the action leaves the rule alone: no individual comes or goes, and each predicate that stands in the rule is
 -- core and isn't updated
@@ -27,6 +28,11 @@ pub record HasRulesOf (P : ℕ → Type 0) (rules : List RuleForm) (old new : Li
   pub standing : (n q : ℕ) (rule : RuleForm) → slice_get rules n ≡ Some rule → StandsIn q rule → P q
       → IsIn new n
   pub count : length new ≡ length old
+
+-- all rules are in the one, and those in which a defined predicate stands in the other
+pub record IsShared (p : ProgramForm) (rules : List RuleForm) (sets : Shared) : Type 0 where
+  pub all : sets.all.value ≡ replicate (length rules) true
+  pub defined : HasRulesOf (λ q. IsDefined (kind_at p q)) rules (replicate (length rules) false) sets.defined
 
 -- each rule whose number isn't in the set doesn't see which individuals are summaries, and is about none of
 -- the predicates below n that the formula mentions

@@ -13,7 +13,7 @@ ghost use Rattle.tv_step.specs.Steps.{Adds};
 use crate::changed::waiting_in;
 use crate::setting::Setting;
 use std::alloc::AllocError;
-use tv_blur::blur;
+use tv_blur::into_blurred;
 use tv_coerce::{RuleSet, coerce_in_place};
 use tv_eval::Scratch;
 use tv_struct::{Structure, Structures};
@@ -34,33 +34,12 @@ fn ended(x: &Setting, ending: Ending, t: Structure) -> Result<Structure, AllocEr
 {
     match ending {
         Ending::Open => Ok(t),
-        Ending::Blurred => blur(x.alloc, &x.program.vocab, &t),
+        Ending::Blurred => into_blurred(x.alloc, &x.program.vocab, t),
     }
 }
 
 /// Puts what comes of the greatest stable structure below `s` behind the others, if there is one. Only the
 /// rules that wait may be unmet.
-pub fn push_coerced(
-    x: &Setting,
-    ending: Ending,
-    waiting: &RuleSet,
-    s: &Structure,
-    scratch: &mut Scratch,
-    out: &mut Structures,
-) -> Result<(), AllocError>
-    requires ready { IsReady x.now scratch.old }
-    requires shaped { IsShaped (form_in x.now) s.now }
-    requires count { length waiting.now ≡ length (rules_of x.now.closed.now) }
-    requires rest { IsStableBut (rules_of x.now.closed.now) waiting.now s.now }
-    ensures out { OnOk result (Adds (Becomes ending (form_in x.now)) s.now out.old out.new) }
-    ensures scratch { scratch.new ≡ scratch.old }
-{
-    let waiting = waiting.copy(x.alloc)?;
-    let t = s.copy(x.alloc)?;
-    push_in_place(x, ending, waiting, t, scratch, out)
-}
-
-/// The same of a structure and a set of rules that aren't needed any more.
 fn push_in_place(
     x: &Setting,
     ending: Ending,

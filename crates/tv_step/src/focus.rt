@@ -1,53 +1,73 @@
 //! Focus in a step: the structures at hand, atom by atom.
 
-ghost use Rattle.std.specs.Prelude.{◌≡◌, ◌<◌, ◌++◌, [], ◌∷◌, length, map, All, IfOk, IfErr, OnOk};
+ghost use Rattle.std.specs.Prelude.{◌≡◌, ◌≤◌, ◌++◌, [], ◌∷◌, length, map, unwrap_or, All, IfOk, IfErr, OnOk};
 ghost use Rattle.tv_choices.specs.FocusAtoms.{focus_atoms};
 ghost use Rattle.tv_focus.specs.Stage.{IsWithinLimits};
+ghost use Rattle.tv_model.specs.declared.program.Program.{Program};
 ghost use Rattle.tv_model.specs.Form.{form_of};
 ghost use Rattle.tv_model.specs.Valid.{IsFormula};
 ghost use Rattle.tv_transfer.specs.Parts.{AreFrom};
 ghost use Rattle.tv_transfer.specs.Shaped.{IsShaped};
 ghost use Rattle.tv_transfer.specs.Transfer.{Focuses, focus_places, places_in};
+ghost use Rattle.tv_rules.specs.Closing.{closed_rules};
 ghost use Rattle.tv_rules.specs.EntryForms.{rules_of};
-ghost use Rattle.tv_step.specs.Waiting.{WaitsAt};
-ghost use Rattle.tv_step.specs.Places.{place_of};
+ghost use Rattle.tv_step.specs.Places.{place_of, AreWaitingAt, HasWaiting};
 ghost use Rattle.tv_step.specs.Setting.{form_in, IsReady, IsStableIn};
 ghost use Rattle.tv_step.specs.Steps.{Adds, IsPlace, KeepsLimits, IsFocusCause, AreFocusedWithin, IsCauseOfFocus};
 
 use crate::coerced::{Ending, push_all};
 use crate::setting::Setting;
 use crate::waiting::waiting_at;
-use std::alloc::{AllocError, Global};
+use std::alloc::AllocError;
+use std::rc::Rc;
 use tv_coerce::RuleSet;
 use tv_eval::Scratch;
 use tv_focus::{atom_count, focus_stage};
 use tv_model::Formula;
 use tv_struct::{StageError, Structure, Structures};
 
-/// An atom of a focus formula, by its number.
-#[derive(Clone, Copy)]
-pub struct Place<'a> {
+/// An atom of a focus formula, by its number, and the rules that a choice of it may leave unmet in a structure
+/// that was stable: the atoms of an action share them.
+#[derive(Drop)]
+pub struct Turn<'a> {
     pub formula: &'a Formula,
     pub atom: usize,
+    pub waiting: Rc<RuleSet>,
 }
 
-/// The atoms of the formulas, formula by formula.
-pub fn places<'a>(alloc: Global, formulas: &'a [Formula]) -> Result<Vec<Place<'a>>, AllocError>
-    ensures { IfOk result (λ places. map place_of places.items ≡ focus_places (map form_of formulas.now)) }
+/// The atoms of the formulas, formula by formula. All share the rules that wait.
+pub fn turns<'a>(x: &Setting, formulas: &'a [Formula]) -> Result<Vec<Turn<'a>>, AllocError>
+    requires few { length x.now.program.now.vocab.preds ≤ 512 }
+    requires rules { rules_of x.now.closed.now ≡ closed_rules (form_in x.now) }
+    ensures places { IfOk result (λ turns. map place_of turns.items ≡ focus_places (map form_of formulas.now)) }
+    ensures waiting { IfOk result (λ turns. All (HasWaiting x.now.program.now) turns.items) }
 {
-    let mut places = Vec::new(alloc);
+    let waiting = Rc::new(x.alloc, waiting_at(x, formulas)?)?;
+    let mut turns = Vec::new(x.alloc);
     for formula in formulas {
-        push_places(formula, &mut places)?;
+        push_turns(formula, &waiting, &mut turns)?;
     }
-    Ok(places)
+    Ok(turns)
 }
 
-fn push_places<'a>(formula: &'a Formula, places: &mut Vec<Place<'a>>) -> Result<(), AllocError>
-    ensures { OnOk result (map place_of places.new.items
-        ≡ map place_of places.old.items ++ places_in (form_of formula.now)) }
+/// Puts the atoms of the formula behind the others, each with these rules.
+fn push_turns<'a>(
+    formula: &'a Formula,
+    waiting: &Rc<RuleSet>,
+    turns: &mut Vec<Turn<'a>>,
+) -> Result<(), AllocError>
+    ensures places { OnOk result (map place_of turns.new.items
+        ≡ map place_of turns.old.items ++ places_in (form_of formula.now)) }
+    ensures waiting { OnOk result ((program : Program) → AreWaitingAt program (form_of formula.now) waiting.now.value
+        → All (HasWaiting program) turns.old.items → All (HasWaiting program) turns.new.items) }
 {
     for atom in 0..atom_count(formula) {
-        places.push(Place { formula, atom })?;
+        let waiting = waiting.clone()?;
+        turns.push(Turn {
+            formula,
+            atom,
+            waiting,
+        })?;
     }
     Ok(())
 }
@@ -56,71 +76,83 @@ fn push_places<'a>(formula: &'a Formula, places: &mut Vec<Place<'a>>) -> Result<
 /// dropped.
 fn push_focused(
     x: &Setting,
-    place: &Place<'_>,
-    waiting: &RuleSet,
+    turn: &Turn<'_>,
     s: &Structure,
     scratch: &mut Scratch,
     out: &mut Structures,
 ) -> Result<(), StageError>
     requires ready { IsReady x.now scratch.old }
-    requires place { IsPlace (form_in x.now) (place_of place.now) }
+    requires place { IsPlace (form_in x.now) (place_of turn.now) }
+    requires waiting { HasWaiting x.now.program.now turn.now }
     requires shaped { IsShaped (form_in x.now) s.now }
     requires stable { IsStableIn (form_in x.now) s.now }
-    requires waits { WaitsAt (length x.now.program.now.vocab.preds) (place_of place.now).formula
-        (rules_of x.now.closed.now) waiting.now }
-    ensures out { OnOk result (Adds (Focuses (form_in x.now) (place_of place.now)) s.now out.old out.new) }
-    ensures within { OnOk result (IsWithinLimits s.now (place_of place.now).formula place.now.atom) }
-    ensures cause { IfErr result (IsFocusCause (place_of place.now) (s.now ∷ [])) }
+    ensures out { OnOk result (Adds (Focuses (form_in x.now) (place_of turn.now)) s.now out.old out.new) }
+    ensures within { OnOk result (IsWithinLimits s.now (place_of turn.now).formula turn.now.atom) }
+    ensures cause { IfErr result (IsFocusCause (place_of turn.now) (s.now ∷ [])) }
     ensures scratch { scratch.new ≡ scratch.old }
 {
     let vocab = &x.program.vocab;
-    let choices = focus_stage(x.alloc, vocab, place.formula, place.atom, s)?;
-    push_all(x, Ending::Open, waiting, s, choices, scratch, out)?;
+    let choices = focus_stage(x.alloc, vocab, turn.formula, turn.atom, s)?;
+    push_all(x, Ending::Open, &turn.waiting, s, choices, scratch, out)?;
     Ok(())
 }
 
-/// The structures at hand after the atom, of those before it, which go one after the other.
+/// The structures at hand after the atom, of those before it.
 fn focus_all(
     x: &Setting,
-    place: &Place<'_>,
-    at_hand: Structures,
+    turn: &Turn<'_>,
+    at_hand: &[Structure],
     scratch: &mut Scratch,
 ) -> Result<Structures, StageError>
     requires ready { IsReady x.now scratch.old }
-    requires place { IsPlace (form_in x.now) (place_of place.now) }
-    requires shaped { All (IsShaped (form_in x.now)) at_hand }
-    requires stable { All (IsStableIn (form_in x.now)) at_hand }
-    ensures out { IfOk result (AreFrom (Focuses (form_in x.now) (place_of place.now)) at_hand) }
-    ensures within { OnOk result (KeepsLimits (place_of place.now) at_hand) }
-    ensures cause { IfErr result (IsFocusCause (place_of place.now) at_hand) }
+    requires place { IsPlace (form_in x.now) (place_of turn.now) }
+    requires waiting { HasWaiting x.now.program.now turn.now }
+    requires shaped { All (IsShaped (form_in x.now)) at_hand.now }
+    requires stable { All (IsStableIn (form_in x.now)) at_hand.now }
+    ensures out { IfOk result (AreFrom (Focuses (form_in x.now) (place_of turn.now)) at_hand.now) }
+    ensures within { OnOk result (KeepsLimits (place_of turn.now) at_hand.now) }
+    ensures cause { IfErr result (IsFocusCause (place_of turn.now) at_hand.now) }
     ensures scratch { scratch.new ≡ scratch.old }
 {
-    let waiting = waiting_at(x, place.formula)?;
     let mut out = Structures::new(x.alloc);
-    for s in at_hand.into_vec() {
-        push_focused(x, place, &waiting, &s, scratch, &mut out)?;
+    for s in at_hand {
+        push_focused(x, turn, s, scratch, &mut out)?;
     }
     Ok(out)
 }
 
-/// The structures at hand after all these atoms, of those at hand before.
+/// The structures at hand: those that focus made, if there was an atom, and else those to begin with.
+pub fn at_hand<'a>(found: &'a Option<Structures>, start: &'a [Structure]) -> &'a [Structure]
+    ensures { result.now ≡ unwrap_or found.now start.now }
+{
+    match found {
+        None => start,
+        Some(structures) => structures.as_slice(),
+    }
+}
+
+/// The structures at hand after all these atoms, of those to begin with; none where there is no atom, since
+/// these are at hand then.
 pub fn focused(
     x: &Setting,
-    places: &[Place<'_>],
-    start: Structures,
+    turns: &[Turn<'_>],
+    start: &[Structure],
     scratch: &mut Scratch,
-) -> Result<Structures, StageError>
+) -> Result<Option<Structures>, StageError>
     requires ready { IsReady x.now scratch.old }
-    requires places { All (λ place. IsPlace (form_in x.now) (place_of place)) places.now }
-    requires shaped { All (IsShaped (form_in x.now)) start }
-    requires stable { All (IsStableIn (form_in x.now)) start }
-    ensures out { IfOk result (AreFocusedWithin (form_in x.now) (map place_of places.now) start) }
-    ensures cause { IfErr result (IsCauseOfFocus (form_in x.now) (map place_of places.now) start) }
+    requires places { All (λ turn. IsPlace (form_in x.now) (place_of turn)) turns.now }
+    requires waiting { All (HasWaiting x.now.program.now) turns.now }
+    requires shaped { All (IsShaped (form_in x.now)) start.now }
+    requires stable { All (IsStableIn (form_in x.now)) start.now }
+    ensures out { IfOk result (λ found. AreFocusedWithin (form_in x.now) (map place_of turns.now) start.now
+        (unwrap_or found start.now)) }
+    ensures cause { IfErr result (IsCauseOfFocus (form_in x.now) (map place_of turns.now) start.now) }
     ensures scratch { scratch.new ≡ scratch.old }
 {
-    let mut at_hand = start;
-    for place in places {
-        at_hand = focus_all(x, place, at_hand, scratch)?;
+    let mut found = None;
+    for turn in turns {
+        let next = focus_all(x, turn, at_hand(&found, start), scratch)?;
+        found = Some(next);
     }
-    Ok(at_hand)
+    Ok(found)
 }

@@ -4,7 +4,9 @@
 
 mod changed;
 mod coerced;
+mod engine;
 mod focus;
+mod job;
 mod messages;
 mod opened;
 mod order;
@@ -13,6 +15,7 @@ mod setting;
 mod step;
 mod waiting;
 
+pub use engine::Engine;
 pub use messages::Values;
 pub use opened::opening;
-pub use step::{StepOut, abstract_step, stable_step};
+pub use step::{StepOut, abstract_step};

@@ -12,7 +12,7 @@ ghost use Rattle.tv_transfer.specs.Transfer.{IsOpening, HasNoOpening};
 ghost use Rattle.tv_step.specs.Starts.{HasStarts};
 
 use std::alloc::{AllocError, Global};
-use tv_blur::blur;
+use tv_blur::into_blurred;
 use tv_coerce::coerce;
 use tv_eval::Scratch;
 use tv_model::Program;
@@ -44,6 +44,6 @@ pub fn opening(
     let _ = s.size();
     match coerce(alloc, closed, s, scratch)? {
         None => Ok(None),
-        Some(t) => Ok(Some(blur(alloc, &program.vocab, &t)?)),
+        Some(t) => Ok(Some(into_blurred(alloc, &program.vocab, t)?)),
     }
 }

@@ -14,6 +14,9 @@ pub fn in_order(structures: Structures) -> Result<Structures, AllocError>
     ensures same { IfOk result (λ sorted. (t : StructureForm) → Contains sorted t ↔ Contains structures t) }
     ensures order { IfOk result (IsStrictlySortedBy structure_cmp) }
 {
+    if structures.len() < 2 {
+        return Ok(structures);
+    }
     let mut items = structures.into_vec();
     items.sort()?;
     items.dedup();

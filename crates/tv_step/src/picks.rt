@@ -13,24 +13,23 @@ ghost use Rattle.tv_step.specs.Steps.{Adds, passes, PickGives, PicksGive, PickKe
 ghost use Rattle.tv_step.specs.Allowed.{precondition_values};
 
 use crate::coerced::{Ending, push_all};
-use crate::setting::{Job, Setting};
-use tv_coerce::RuleSet;
+use crate::job::Job;
+use crate::setting::Setting;
 use tv_eval::{Assignment, Evaluator, Scratch, eval};
 use tv_kleene::K3;
 use tv_model::Var;
 use tv_row::Row;
 use tv_struct::{StageError, Structure, Structures};
-use tv_update::update;
+use tv_update::update_by_plan;
 
 /// The most lists of individuals that an action may pick in one structure.
 const MAX_PICKS: u32 = 4096;
 
-/// An action that is applied to a stable structure at hand, and the rules that it may leave unmet.
+/// An action that is applied to a stable structure at hand.
 #[derive(Clone, Copy)]
 pub struct Case<'a> {
-    pub setting: &'a Setting<'a>,
+    pub setting: &'a Setting<'a, 'a>,
     pub job: &'a Job<'a>,
-    pub waiting: &'a RuleSet,
     pub from: &'a Structure,
 }
 
@@ -84,16 +83,25 @@ fn push_given(
         return Ok(());
     }
     let x = c.setting;
-    let given = update(
+    let given = update_by_plan(
         x.alloc,
         x.program,
         c.job.number,
-        c.job.mode,
+        c.setting.mode,
+        &c.job.plan,
         c.from,
         picks,
         scratch,
     )?;
-    push_all(x, Ending::Blurred, c.waiting, c.from, given, scratch, out)?;
+    push_all(
+        x,
+        Ending::Blurred,
+        &c.job.waiting,
+        c.from,
+        given,
+        scratch,
+        out,
+    )?;
     Ok(())
 }
 

@@ -6,28 +6,26 @@ ghost use Rattle.tv_model.specs.Program.{program_of};
 ghost use Rattle.tv_model.specs.Valid.{IsValid};
 ghost use Rattle.tv_rules.specs.Closing.{closed_rules};
 ghost use Rattle.tv_rules.specs.EntryForms.{rules_of};
-ghost use Rattle.tv_stable.specs.Stable.{IsStable};
-ghost use Rattle.tv_struct.specs.StructureForm.{IsOver, structure_of};
+ghost use Rattle.tv_struct.specs.StructureForm.{IsOver};
 ghost use Rattle.tv_transfer.specs.Budgets.{KeepsBudgets, IsStepCause};
 ghost use Rattle.tv_transfer.specs.Parts.{AreFrom};
 ghost use Rattle.tv_transfer.specs.Settled.{IsSettled};
 ghost use Rattle.tv_transfer.specs.Shaped.{IsShaped};
 ghost use Rattle.tv_transfer.specs.Sound.{KeepsNewHeaps, TellsMessages};
-ghost use Rattle.tv_transfer.specs.Transfer.{AreResults, AreMessageValues, IsActionOf};
-ghost use Rattle.tv_step.specs.Job.{action_in, IsJobOf};
+ghost use Rattle.tv_transfer.specs.Transfer.{AreResults, AreMessageValues};
+ghost use Rattle.tv_step.specs.Job.{action_in, IsJob};
 ghost use Rattle.tv_step.specs.Setting.{form_in, IsReady, IsStableIn};
-ghost use Rattle.tv_step.specs.Waiting.{WaitsFor};
 ghost use Rattle.tv_step.specs.Steps.{AreResultsOf, AreValuesOf, IsCauseOfStep, IsCauseOfUpdates, KeepsUpdateLimits, StepsIn};
 
-use crate::coerced::{Ending, push_coerced};
-use crate::focus::{focused, places};
+use crate::focus::{at_hand, focused};
+use crate::job::{Job, edge_at, job_of};
 use crate::messages::{Values, values_of};
 use crate::order::in_order;
 use crate::picks::{Case, push_steps};
-use crate::setting::{Job, Setting};
-use crate::waiting::waiting_after;
+use crate::setting::Setting;
+use crate::waiting::shared_sets;
 use std::alloc::Global;
-use tv_coerce::RuleSet;
+use tv_coerce::coerce;
 use tv_eval::Scratch;
 use tv_model::{Mode, Program};
 use tv_rules::Closed;
@@ -42,19 +40,16 @@ pub struct StepOut {
 
 /// What the structures at hand give, one after the other.
 fn given<'a>(
-    x: &'a Setting<'a>,
+    x: &'a Setting<'a, 'a>,
     job: &'a Job<'a>,
-    waiting: &'a RuleSet,
     at_hand: &'a [Structure],
     scratch: &mut Scratch,
 ) -> Result<Structures, StageError>
     requires ready { IsReady x.now scratch.old }
-    requires job { IsJobOf (form_in x.now) job.now }
-    requires waits { WaitsFor (form_in x.now) (action_in job.now) (rules_of x.now.closed.now) waiting.now }
+    requires job { IsJob x.now.program.now x.now.mode job.now }
     requires shaped { All (IsShaped (form_in x.now)) at_hand.now }
     requires stable { All (IsStableIn (form_in x.now)) at_hand.now }
-    ensures out { IfOk result
-        (AreFrom (StepsIn (form_in x.now) job.now.mode (action_in job.now)) at_hand.now) }
+    ensures out { IfOk result (AreFrom (StepsIn (form_in x.now) x.now.mode (action_in job.now)) at_hand.now) }
     ensures within { OnOk result (All (KeepsUpdateLimits (action_in job.now)) at_hand.now) }
     ensures cause { IfErr result (IsCauseOfUpdates (action_in job.now) at_hand.now) }
     ensures scratch { scratch.new ≡ scratch.old }
@@ -65,7 +60,6 @@ fn given<'a>(
         let case = Case {
             setting: x,
             job,
-            waiting,
             from,
         };
         push_steps(&case, scratch, &mut out)?;
@@ -73,52 +67,35 @@ fn given<'a>(
     Ok(out)
 }
 
-/// The action of the edge.
-fn job_at<'a>(program: &'a Program, edge: u32, mode: Mode) -> Job<'a>
-    requires valid { IsValid (program_of program.now) }
-    requires edge { edge < length program.now.edges }
-    ensures job { IsJobOf (program_of program.now) result }
-    ensures action { IsActionOf (program_of program.now) edge (action_in result) }
-    ensures mode { result.mode ≡ mode }
-{
-    let number = program.edges.as_slice()[edge as usize].action;
-    Job {
-        action: &program.actions.as_slice()[number as usize],
-        number,
-        mode,
-    }
-}
-
 /// The step of a structure that is coerced: `start` has what coerce left of it.
-fn step_from(
+pub fn step_from(
     x: &Setting,
     job: &Job,
-    start: Structures,
+    start: &[Structure],
     scratch: &mut Scratch,
 ) -> Result<StepOut, StageError>
     requires ready { IsReady x.now scratch.old }
-    requires job { IsJobOf (form_in x.now) job.now }
-    requires shaped { All (IsShaped (form_in x.now)) start }
-    requires stable { All (IsStableIn (form_in x.now)) start }
+    requires job { IsJob x.now.program.now x.now.mode job.now }
+    requires shaped { All (IsShaped (form_in x.now)) start.now }
+    requires stable { All (IsStableIn (form_in x.now)) start.now }
     ensures results { IfOk result
-        (λ out. AreResultsOf (form_in x.now) job.now.mode (action_in job.now) start out.results) }
-    ensures values { IfOk result (λ out. AreValuesOf (form_in x.now) (action_in job.now) start out.messages) }
-    ensures cause { IfErr result (IsCauseOfStep (form_in x.now) (action_in job.now) start) }
+        (λ out. AreResultsOf (form_in x.now) x.now.mode (action_in job.now) start.now out.results) }
+    ensures values { IfOk result (λ out. AreValuesOf (form_in x.now) (action_in job.now) start.now out.messages) }
+    ensures cause { IfErr result (IsCauseOfStep (form_in x.now) (action_in job.now) start.now) }
     ensures scratch { scratch.new ≡ scratch.old }
 {
-    let turns = places(x.alloc, job.action.focus.as_slice())?;
-    let at_hand = focused(x, turns.as_slice(), start, scratch)?;
-    let conditions = job.action.messages.as_slice();
-    let messages = values_of(x, conditions, at_hand.as_slice(), scratch)?;
-    let waiting = waiting_after(x, job.action)?;
-    let given = given(x, job, &waiting, at_hand.as_slice(), scratch)?;
+    let found = focused(x, job.turns.as_slice(), start, scratch)?;
+    let at_hand = at_hand(&found, start);
+    let messages = values_of(x, job.action.messages.as_slice(), at_hand, scratch)?;
+    let given = given(x, job, at_hand, scratch)?;
     let results = in_order(given)?;
     Ok(StepOut { results, messages })
 }
 
 /// The abstract step of a structure along an edge: its results, strictly sorted, and the values of the
 /// messages. `Splits` only where a stage of the step has over 4,096 choices, `Individuals` only where it
-/// makes a structure of over 256 individuals; where it does either, the answer is one of the two or `Memory`.
+/// makes a structure of over 256 individuals; where it does either, the answer is one of the two or `Memory`. For many steps an `Engine` makes once what
+/// this makes anew.
 pub fn abstract_step(
     alloc: Global,
     program: &Program,
@@ -145,49 +122,12 @@ pub fn abstract_step(
     let x = Setting {
         alloc,
         program,
+        mode,
         closed,
     };
-    let job = job_at(program, edge, mode);
-    let mut start = Structures::new(alloc);
     let _ = s.size();
-    let all = RuleSet::of_all(alloc, closed)?;
-    push_coerced(&x, Ending::Open, &all, s, scratch, &mut start)?;
-    step_from(&x, &job, start, scratch)
-}
-
-/// The same for a structure that is stable under the closed rules, which needs no coerce to begin with.
-pub fn stable_step(
-    alloc: Global,
-    program: &Program,
-    closed: &Closed,
-    edge: u32,
-    mode: Mode,
-    s: &Structure,
-    scratch: &mut Scratch,
-) -> Result<StepOut, StageError>
-    requires valid { IsValid (program_of program.now) }
-    requires closed { rules_of closed.now ≡ closed_rules (program_of program.now) }
-    requires edge { edge < length program.now.edges }
-    requires over { IsOver program.now.vocab s.now }
-    requires stable { IsStable (closed_rules (program_of program.now)) (structure_of s.now) }
-    requires scratch { IsMadeFor (program_of program.now) 256 scratch.old }
-    ensures results { IfOk result (λ out. AreResults (program_of program.now) mode edge s.now out.results) }
-    ensures values { IfOk result (λ out. AreMessageValues (program_of program.now) edge s.now out.messages) }
-    ensures settled { IfOk result (λ out. All (IsSettled (program_of program.now)) out.results) }
-    ensures heaps { IfOk result (λ out. KeepsNewHeaps (program_of program.now) mode edge s.now out.results) }
-    ensures truths { IfOk result (λ out. TellsMessages (program_of program.now) edge s.now out.messages) }
-    ensures budgets { OnOk result (KeepsBudgets (program_of program.now) edge s.now) }
-    ensures cause { IfErr result (IsStepCause (program_of program.now) edge s.now) }
-    ensures scratch { scratch.new ≡ scratch.old }
-{
-    let x = Setting {
-        alloc,
-        program,
-        closed,
-    };
-    let job = job_at(program, edge, mode);
-    let mut start = Structures::new(alloc);
-    let _ = s.size();
-    start.push(s.copy(alloc)?)?;
-    step_from(&x, &job, start, scratch)
+    let start = coerce(alloc, closed, s, scratch)?;
+    let shared = shared_sets(&x)?;
+    let job = job_of(&x, &shared, edge_at(program, edge).action)?;
+    step_from(&x, &job, start.as_slice(), scratch)
 }

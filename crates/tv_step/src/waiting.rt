@@ -1,16 +1,17 @@
 //! The rules that are tried again after focus and after an update.
 
-ghost use Rattle.std.specs.Prelude.{◌≡◌, ◌<◌, ◌≤◌, ◌↔◌, length, map, Contains, IfOk, IsTrue};
+ghost use Rattle.std.specs.Prelude.{◌≡◌, ◌<◌, ◌≤◌, ◌↔◌, length, map, All, Contains, IfOk, IsTrue};
 ghost use Rattle.tv_applied.specs.Applied.{kind_at};
 ghost use Rattle.tv_model.specs.Form.{form_of, Mentions};
 ghost use Rattle.tv_model.specs.Program.{action_of};
 ghost use Rattle.tv_rules.specs.EntryForms.{rules_of};
 ghost use Rattle.tv_update.specs.Plan.{IsDefined, moves_individuals};
 ghost use Rattle.tv_step.specs.Setting.{form_in};
-ghost use Rattle.tv_step.specs.Waiting.{HasRulesOf, WaitsAt, WaitsFor};
+ghost use Rattle.tv_step.specs.Waiting.{HasRulesOf, IsShared, WaitsAt, WaitsFor};
 
 use crate::setting::Setting;
 use std::alloc::AllocError;
+use std::rc::Rc;
 use tv_coerce::RuleSet;
 use tv_model::{Action, Formula, Kind, PredId, Update, mentions};
 
@@ -80,31 +81,55 @@ fn add_mentioned(x: &Setting, formula: &Formula, waiting: &mut RuleSet)
     }
 }
 
-/// The rules that a choice of focus on an atom of the formula may leave unmet, where the structure was
-/// stable: those that see which individuals are summaries, and those about a predicate that the formula mentions.
-pub fn waiting_at(x: &Setting, formula: &Formula) -> Result<RuleSet, AllocError>
+/// The rules that a choice of focus on an atom of one of the formulas may leave unmet, where the structure was
+/// stable: those that see which individuals are summaries, and those about a predicate that a formula mentions.
+pub fn waiting_at(x: &Setting, formulas: &[Formula]) -> Result<RuleSet, AllocError>
     requires { length x.now.program.now.vocab.preds ≤ 512 }
-    ensures { IfOk result (WaitsAt (length x.now.program.now.vocab.preds) (form_of formula.now)
-        (rules_of x.now.closed.now)) }
+    ensures { IfOk result (λ set. All (λ f. WaitsAt (length x.now.program.now.vocab.preds) (form_of f)
+        (rules_of x.now.closed.now) set) formulas.now) }
 {
     let mut waiting = RuleSet::of_none(x.alloc, x.closed)?;
     waiting.add_seeing(x.closed);
-    add_mentioned(x, formula, &mut waiting);
+    for formula in formulas {
+        add_mentioned(x, formula, &mut waiting);
+    }
     Ok(waiting)
+}
+
+/// Sets of rules that the actions of a program share.
+#[derive(Drop)]
+pub struct Shared {
+    pub all: Rc<RuleSet>,
+    /// Those in which a predicate stands that has a definition.
+    pub defined: RuleSet,
+}
+
+/// The sets that all actions share.
+pub fn shared_sets(x: &Setting) -> Result<Shared, AllocError>
+    requires { length x.now.program.now.vocab.preds ≤ 512 }
+    ensures { IfOk result (IsShared (form_in x.now) (rules_of x.now.closed.now)) }
+{
+    let all = Rc::new(x.alloc, RuleSet::of_all(x.alloc, x.closed)?)?;
+    let mut defined = RuleSet::of_none(x.alloc, x.closed)?;
+    add_defined(x, &mut defined);
+    Ok(Shared { all, defined })
 }
 
 /// The rules that the action may leave unmet in a structure that was stable: all, where individuals may come
 /// or go; else those in which a predicate stands that is updated or has a definition.
-pub fn waiting_after(x: &Setting, action: &Action) -> Result<RuleSet, AllocError>
-    requires { length x.now.program.now.vocab.preds ≤ 512 }
+pub fn waiting_after(
+    x: &Setting,
+    shared: &Shared,
+    action: &Action,
+) -> Result<Rc<RuleSet>, AllocError>
+    requires { IsShared (form_in x.now) (rules_of x.now.closed.now) shared.now }
     ensures { IfOk result
-        (WaitsFor (form_in x.now) (action_of action.now) (rules_of x.now.closed.now)) }
+        (λ set. WaitsFor (form_in x.now) (action_of action.now) (rules_of x.now.closed.now) set.value) }
 {
     if moves(action) {
-        return RuleSet::of_all(x.alloc, x.closed);
+        return shared.all.clone();
     }
-    let mut waiting = RuleSet::of_none(x.alloc, x.closed)?;
+    let mut waiting = shared.defined.copy(x.alloc)?;
     add_updated(x, action.updates.as_slice(), &mut waiting);
-    add_defined(x, &mut waiting);
-    Ok(waiting)
+    Ok(Rc::new(x.alloc, waiting)?)
 }

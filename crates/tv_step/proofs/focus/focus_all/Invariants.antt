@@ -1,4 +1,4 @@
-use Rattle.std.proofs.Common.{[], ◌≡◌}
+use Rattle.std.proofs.Common.{[], ◌≡◌, take}
 use Rattle.tv_transfer.specs.Parts.{AreFrom}
 use Rattle.tv_transfer.specs.Transfer.{Focuses}
 use Rattle.tv_step.specs.Places.{place_of}
@@ -8,7 +8,7 @@ use Rattle.tv_step.proofs.focus.focus_all.Given as goal
 
 abbrev pub invariant-loop-s : goal.invariant-loop-s
 invariant-loop-s l = record {
-  out : Adds (AreFrom (Focuses (form_in l.x) (place_of l.place))) l.yielded [] l.out;
-  within : KeepsLimits (place_of l.place) l.yielded;
+  out : Adds (AreFrom (Focuses (form_in l.x) (place_of l.turn))) (take l.s-index l.at_hand) [] l.out;
+  within : KeepsLimits (place_of l.turn) (take l.s-index l.at_hand);
   scratch : l.scratch ≡ l.fn.scratch;
 }

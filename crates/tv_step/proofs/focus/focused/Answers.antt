@@ -1,35 +1,47 @@
-use Rattle.std.proofs.Common.{map, take}
+use Rattle.std.proofs.Common.{map, take, sym, subst, All}
+use Rattle.tv_transfer.specs.Parts.{AreFrom}
+use Rattle.tv_transfer.specs.Shaped.{IsShaped}
+use Rattle.tv_transfer.specs.Transfer.{Focuses}
 use Rattle.tv_step.specs.Places.{place_of}
-use Rattle.tv_step.specs.Setting.{form_in}
-use Rattle.tv_step.specs.Steps.{IsCauseOfFocus}
+use Rattle.tv_step.specs.Setting.{form_in, IsStableIn}
+use Rattle.tv_step.specs.Steps.{IsCauseOfFocus, IsFocusCause, KeepsLimits}
 use Rattle.tv_step.proofs.Adding.{handed-on}
 use Rattle.tv_step.proofs.Stepping.{focus-stable}
 use Rattle.tv_step.proofs.Turns.{focus-fails, focus-shaped, focused-next, places-next}
 use Rattle.tv_step.proofs.focus.focused.Goals as goal
 
-pub returns-in_err-at_hand-clause-cause : goal.returns-in_err-at_hand-clause-cause
-returns-in_err-at_hand-clause-cause c =
-    let p = form_in c.args.x.now
-    in let places = c.args.places.now
-    in let e = c.in_err-at_hand.field-0.0
-    in handed-on
-    (IsCauseOfFocus p (map place_of places) c.args.start) c.from_residual.result e c.from_residual.ensures.1
-    (focus-fails p places c.loop-place.place-index c.place-item.result c.args.start c.loop-place.at_hand e
-    c.loop-place-test.true c.place-item.is c.loop-place.invariant.are c.in_err-at_hand.ensures.cause)
+pub focus_all-requires-clause-shaped : goal.focus_all-requires-clause-shaped
+focus_all-requires-clause-shaped c =
+    subst (All (IsShaped (form_in c.args.x.now))) (sym c.at_hand.ensures) c.loop-turn.invariant.shaped
 
-pub loop-place-preserved : goal.loop-place-preserved
-loop-place-preserved c =
+pub focus_all-requires-clause-stable : goal.focus_all-requires-clause-stable
+focus_all-requires-clause-stable c =
+    subst (All (IsStableIn (form_in c.args.x.now))) (sym c.at_hand.ensures) c.loop-turn.invariant.stable
+
+pub returns-in_err-next-clause-cause : goal.returns-in_err-next-clause-cause
+returns-in_err-next-clause-cause c =
     let p = form_in c.args.x.now
-    in let places = c.args.places.now
-    in let place = place_of c.place-item.result
-    in let i = c.loop-place.place-index
-    in let new = c.in_ok-at_hand.at_hand
+    in let turns = c.args.turns.now
+    in let e = c.in_err-next.field-0.0
+    in handed-on
+    (IsCauseOfFocus p (map place_of turns) c.args.start.now) c.from_residual.result e c.from_residual.ensures.1
+    (focus-fails p turns c.loop-turn.turn-index c.turn-item.result c.args.start.now _ e
+    c.loop-turn-test.true c.turn-item.is c.loop-turn.invariant.are
+    (subst (λ ss. IsFocusCause (place_of c.turn-item.result) ss e) c.at_hand.ensures c.in_err-next.ensures.cause))
+
+pub loop-turn-preserved : goal.loop-turn-preserved
+loop-turn-preserved c =
+    let p = form_in c.args.x.now
+    in let turns = c.args.turns.now
+    in let place = place_of c.turn-item.result
+    in let i = c.loop-turn.turn-index
+    in let new = c.in_ok-next.next
+    in let made = subst (λ ss. AreFrom (Focuses p place) ss new) c.at_hand.ensures c.in_ok-next.ensures.out
     in record {
-      are = rw (places-next places i c.place-item.result c.loop-place-test.true c.place-item.is)
-          (focused-next p
-          (map place_of (take i places)) place c.args.start c.loop-place.at_hand new
-          c.loop-place.invariant.are c.in_ok-at_hand.ensures.out c.in_ok-at_hand.ensures.within);
-      shaped = focus-shaped p place c.loop-place.at_hand new c.in_ok-at_hand.ensures.out;
-      stable = focus-stable p place c.loop-place.at_hand new c.in_ok-at_hand.ensures.out;
+      are = rw (places-next turns i c.turn-item.result c.loop-turn-test.true c.turn-item.is)
+          (focused-next p (map place_of (take i turns)) place c.args.start.now _ new c.loop-turn.invariant.are made
+          (subst (KeepsLimits place) c.at_hand.ensures c.in_ok-next.ensures.within));
+      shaped = focus-shaped p place _ new made;
+      stable = focus-stable p place _ new made;
       scratch = cc;
     }

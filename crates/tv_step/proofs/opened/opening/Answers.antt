@@ -36,47 +36,47 @@ returns-in-None-clause-heaps c =
     (rules_of c.args.closed.now) c.args.s.now c.in_ok-coerce.field-0 c.requires.closed
     c.in_ok-coerce.ensures.exact c.in-None.is)
 
-pub blur-requires : goal.blur-requires
-blur-requires c =
+pub into_blurred-requires : goal.into_blurred-requires
+into_blurred-requires c =
     coerced-over (rules_of c.args.closed.now) c.args.s.now c.in_ok-coerce.field-0 c.in-Some.t
     c.in_ok-coerce.ensures.exact c.in-Some.is ∙ c.requires.over
 
-pub returns-in_ok-blur-in-Some-clause-some : goal.returns-in_ok-blur-in-Some-clause-some
-returns-in_ok-blur-in-Some-clause-some c =
+pub returns-in_ok-into_blurred-in-Some-clause-some : goal.returns-in_ok-into_blurred-in-Some-clause-some
+returns-in_ok-into_blurred-in-Some-clause-some c =
     some-opening c.args.program.now
     (rules_of c.args.closed.now) c.args.s.now c.in_ok-coerce.field-0 c.in-Some.t
-    c.in_ok-blur-in-Some.field-0 c.requires.closed
+    c.in_ok-into_blurred-in-Some.field-0 c.requires.closed
     (over-shaped c.args.program.now c.args.s.now c.requires.over c.size.ensures.kept)
     c.in_ok-coerce.ensures.exact
-    c.in-Some.is c.in_ok-blur-in-Some.ensures.exact c.in_ok-blur-in-Some.ensures.kept
+    c.in-Some.is c.in_ok-into_blurred-in-Some.ensures.exact c.in_ok-into_blurred-in-Some.ensures.kept
 
-pub returns-in_ok-blur-in-Some-clause-only : goal.returns-in_ok-blur-in-Some-clause-only
-returns-in_ok-blur-in-Some-clause-only c = λ t opening.
-    some-only c.args.program.now c.args.s.now c.in_ok-blur-in-Some.field-0 t
+pub returns-in_ok-into_blurred-in-Some-clause-only : goal.returns-in_ok-into_blurred-in-Some-clause-only
+returns-in_ok-into_blurred-in-Some-clause-only c = λ t opening.
+    some-only c.args.program.now c.args.s.now c.in_ok-into_blurred-in-Some.field-0 t
     (some-opening c.args.program.now
     (rules_of c.args.closed.now) c.args.s.now c.in_ok-coerce.field-0 c.in-Some.t
-    c.in_ok-blur-in-Some.field-0 c.requires.closed
+    c.in_ok-into_blurred-in-Some.field-0 c.requires.closed
     (over-shaped c.args.program.now c.args.s.now c.requires.over c.size.ensures.kept)
     c.in_ok-coerce.ensures.exact
-    c.in-Some.is c.in_ok-blur-in-Some.ensures.exact c.in_ok-blur-in-Some.ensures.kept) opening
+    c.in-Some.is c.in_ok-into_blurred-in-Some.ensures.exact c.in_ok-into_blurred-in-Some.ensures.kept) opening
 
-pub returns-in_ok-blur-in-Some-clause-settled : goal.returns-in_ok-blur-in-Some-clause-settled
-returns-in_ok-blur-in-Some-clause-settled c =
-    opening-settled (program_of c.args.program.now) c.requires.valid c.args.s.now c.in_ok-blur-in-Some.field-0
+pub returns-in_ok-into_blurred-in-Some-clause-settled : goal.returns-in_ok-into_blurred-in-Some-clause-settled
+returns-in_ok-into_blurred-in-Some-clause-settled c =
+    opening-settled (program_of c.args.program.now) c.requires.valid c.args.s.now c.in_ok-into_blurred-in-Some.field-0
     (some-opening c.args.program.now
     (rules_of c.args.closed.now) c.args.s.now c.in_ok-coerce.field-0 c.in-Some.t
-    c.in_ok-blur-in-Some.field-0 c.requires.closed
+    c.in_ok-into_blurred-in-Some.field-0 c.requires.closed
     (over-shaped c.args.program.now c.args.s.now c.requires.over c.size.ensures.kept)
     c.in_ok-coerce.ensures.exact
-    c.in-Some.is c.in_ok-blur-in-Some.ensures.exact c.in_ok-blur-in-Some.ensures.kept)
-    c.in_ok-blur-in-Some.ensures.kept
+    c.in-Some.is c.in_ok-into_blurred-in-Some.ensures.exact c.in_ok-into_blurred-in-Some.ensures.kept)
+    c.in_ok-into_blurred-in-Some.ensures.kept
 
-pub returns-in_ok-blur-in-Some-clause-heaps : goal.returns-in_ok-blur-in-Some-clause-heaps
-returns-in_ok-blur-in-Some-clause-heaps c =
-    some-starts c.args.program.now c.requires.valid c.args.s.now c.in_ok-blur-in-Some.field-0
+pub returns-in_ok-into_blurred-in-Some-clause-heaps : goal.returns-in_ok-into_blurred-in-Some-clause-heaps
+returns-in_ok-into_blurred-in-Some-clause-heaps c =
+    some-starts c.args.program.now c.requires.valid c.args.s.now c.in_ok-into_blurred-in-Some.field-0
     (some-opening c.args.program.now
     (rules_of c.args.closed.now) c.args.s.now c.in_ok-coerce.field-0 c.in-Some.t
-    c.in_ok-blur-in-Some.field-0 c.requires.closed
+    c.in_ok-into_blurred-in-Some.field-0 c.requires.closed
     (over-shaped c.args.program.now c.args.s.now c.requires.over c.size.ensures.kept)
     c.in_ok-coerce.ensures.exact
-    c.in-Some.is c.in_ok-blur-in-Some.ensures.exact c.in_ok-blur-in-Some.ensures.kept)
+    c.in-Some.is c.in_ok-into_blurred-in-Some.ensures.exact c.in_ok-into_blurred-in-Some.ensures.kept)

@@ -1,9 +1,13 @@
-use Rattle.std.proofs.Common.{◌↔◌, Contains, sym, subst}
+use Rattle.std.proofs.Common.{◌↔◌, Contains, arith, sym, subst}
 use Rattle.std.specs.List.Sorted.{IsPermutation, IsStrictlySortedBy}
 use Rattle.tv_struct.specs.Order.{structure_cmp}
 use Rattle.tv_struct.specs.StructureForm.{StructureForm}
-use Rattle.tv_step.proofs.Sorting.{sorted-members, strictly-sorted}
+use Rattle.tv_step.proofs.Sorting.{few-sorted, sorted-members, strictly-sorted}
 use Rattle.tv_step.proofs.order.in_order.Goals as goal
+
+pub returns-then-len-lt2-clause-order : goal.returns-then-len-lt2-clause-order
+returns-then-len-lt2-clause-order c =
+    few-sorted c.args.structures (omega (arith, c.len.ensures, c.if-len-lt2.true))
 
 pub returns-clause-same : goal.returns-clause-same
 returns-clause-same c =

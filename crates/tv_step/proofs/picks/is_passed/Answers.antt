@@ -9,7 +9,7 @@ use Rattle.tv_step.proofs.picks.is_passed.Goals as goal
 pub eval-requires-clause-assigned : goal.eval-requires-clause-assigned
 eval-requires-clause-assigned c =
     precondition-assigned (case_program c.args.c.now) c.requires.case.ready.valid c.args.c.now.job.now.number
-    (case_action c.args.c.now) c.requires.case.job (form_of c.in-Some.pre)
+    (case_action c.args.c.now) c.requires.case.job.action (form_of c.in-Some.pre)
     (ap pre_of c.in-Some.is) c.args.c.now.from.now.size c.args.picks.now
     c.requires.picks
 
@@ -18,5 +18,5 @@ eval-requires-clause-fits c =
     room-fits c.args.c.now.setting.now c.args.scratch.now
     (form_of c.in-Some.pre) c.args.c.now.from.now.size c.requires.case.ready
     (precondition-room (case_program c.args.c.now) c.args.c.now.job.now.number
-    (case_action c.args.c.now) c.requires.case.job
+    (case_action c.args.c.now) c.requires.case.job.action
     (form_of c.in-Some.pre) (ap pre_of c.in-Some.is)) c.requires.case.is.table.size

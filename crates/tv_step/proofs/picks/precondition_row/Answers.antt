@@ -17,7 +17,7 @@ row-row-requires-clause-assigned c =
     subst (λ s. AreAssigned s.size c.args.picks.now (FExists c.args.v.0 (form_of c.in-Some.pre)))
     (sym c.new-evaluator.ensures.structure)
     (precondition-assigned-but (case_program c.args.c.now) c.requires.case.ready.valid c.args.c.now.job.now.number
-    (case_action c.args.c.now) c.requires.case.job (form_of c.in-Some.pre) (ap pre_of c.in-Some.is)
+    (case_action c.args.c.now) c.requires.case.job.action (form_of c.in-Some.pre) (ap pre_of c.in-Some.is)
     c.args.c.now.from.now.size c.args.picks.now c.args.v.0 c.requires.picks)
 
 pub row-row-requires-clause-fits : goal.row-row-requires-clause-fits
@@ -29,7 +29,7 @@ row-row-requires-clause-fits c =
     (room-fits c.args.c.now.setting.now c.args.scratch.now (form_of c.in-Some.pre) c.args.c.now.from.now.size
     c.requires.case.ready
     (precondition-room (case_program c.args.c.now) c.args.c.now.job.now.number (case_action c.args.c.now)
-    c.requires.case.job (form_of c.in-Some.pre) (ap pre_of c.in-Some.is)) c.requires.case.is.table.size))
+    c.requires.case.job.action (form_of c.in-Some.pre) (ap pre_of c.in-Some.is)) c.requires.case.is.table.size))
 
 pub returns-in-None-clause-row : goal.returns-in-None-clause-row
 returns-in-None-clause-row c =

@@ -1,27 +1,36 @@
-use Rattle.std.proofs.Common.{◌∙◌, All, map, sym, subst}
+use Rattle.std.proofs.Common.{◌∙◌, All, length, map, ap, sym, subst}
 use Rattle.tv_eval.specs.AssignmentForm.{IsAssigned, assignment_of}
 use Rattle.tv_applied.specs.Choices.{AreGiven}
+use Rattle.tv_coerce.specs.RuleSets.{IsStableBut}
 use Rattle.tv_rules.specs.EntryForms.{rules_of}
 use Rattle.tv_struct.specs.StructureForm.{structure_of}
+use Rattle.tv_update.specs.Plan.{IsPlanFor}
 use Rattle.tv_update.specs.Update.{IsUpdateCause, IsWithinLimits}
 use Rattle.tv_step.specs.Job.{case_program, case_action, case_mode, case_structure}
 use Rattle.tv_step.specs.Steps.{IsCauseOfPick}
+use Rattle.tv_step.specs.Waiting.{WaitsFor}
 use Rattle.tv_step.proofs.Adding.{handed-on}
 use Rattle.tv_step.proofs.LeftAlone.{given-rest}
 use Rattle.tv_step.proofs.Picking.{given-adds, given-shaped, pick-cause, same-action}
 use Rattle.tv_transfer.proofs.Shapes.{shaped-over}
 use Rattle.tv_step.proofs.picks.push_given.Goals as goal
 
-pub update-requires-clause-over : goal.update-requires-clause-over
-update-requires-clause-over c =
+pub update_by_plan-requires-clause-over : goal.update_by_plan-requires-clause-over
+update_by_plan-requires-clause-over c =
     shaped-over c.args.c.now.setting.now.program.now c.args.c.now.from.now c.requires.case.shaped
 
-pub update-requires-clause-picks : goal.update-requires-clause-picks
-update-requires-clause-picks c =
+pub update_by_plan-requires-clause-picks : goal.update_by_plan-requires-clause-picks
+update_by_plan-requires-clause-picks c =
     subst (λ action. All (IsAssigned c.args.c.now.from.now.size c.args.picks.now) action.picks)
     (sym (same-action c.args.c.now.setting.now.program.now c.args.c.now.job.now.number
     (case_action c.args.c.now)
-    c.requires.case.job)) c.requires.picks
+    c.requires.case.job.action)) c.requires.picks
+
+pub update_by_plan-requires-clause-plan : goal.update_by_plan-requires-clause-plan
+update_by_plan-requires-clause-plan c =
+    subst (λ action. IsPlanFor (case_program c.args.c.now) (case_mode c.args.c.now) action c.args.c.now.job.now.plan)
+    (sym (same-action c.args.c.now.setting.now.program.now c.args.c.now.job.now.number (case_action c.args.c.now)
+    c.requires.case.job.action)) c.requires.case.job.plan
 
 pub returns-in_err-given-clause-cause : goal.returns-in_err-given-clause-cause
 returns-in_err-given-clause-cause c =
@@ -30,7 +39,7 @@ returns-in_err-given-clause-cause c =
     in let a = assignment_of c.args.picks.now
     in let e = c.in_err-given.field-0.0
     in let same = same-action c.args.c.now.setting.now.program.now c.args.c.now.job.now.number action
-    c.requires.case.job
+    c.requires.case.job.action
     in handed-on (IsCauseOfPick action s a) c.from_residual.result e c.from_residual.ensures.1
     (pick-cause action s a e (sym c.is_passed.ensures.value ∙ c.if-not-is_passed.false)
     (subst (λ act. IsUpdateCause act s a e) same c.in_err-given.ensures.cause))
@@ -48,18 +57,26 @@ push_all-requires-clause-rest c =
     in let a = assignment_of c.args.picks.now
     in let given = c.in_ok-given.given
     in let same = same-action c.args.c.now.setting.now.program.now c.args.c.now.job.now.number action
-    c.requires.case.job
-    in given-rest p c.requires.case.ready.valid (case_mode c.args.c.now) action s a given
+    c.requires.case.job.action
+    in subst (λ set. All (IsStableBut (rules_of c.args.c.now.setting.now.closed.now) set) given)
+    (sym c.deref.ensures)
+    (given-rest p c.requires.case.ready.valid (case_mode c.args.c.now) action s a given
     (rules_of c.args.c.now.setting.now.closed.now)
-    c.args.c.now.waiting.now c.requires.case.ready.rules c.requires.case.stable
+    c.args.c.now.job.now.waiting.value c.requires.case.ready.rules c.requires.case.stable
     (subst (λ act. AreGiven p (case_mode c.args.c.now) act (structure_of s) a (map structure_of given)) same
-    c.in_ok-given.ensures.given) c.requires.case.waits
+    c.in_ok-given.ensures.given)
+    (subst (λ rules. WaitsFor p action rules c.args.c.now.job.now.waiting.value) (sym c.requires.case.ready.rules)
+    c.requires.case.job.waits))
+
+pub push_all-requires-clause-count : goal.push_all-requires-clause-count
+push_all-requires-clause-count c =
+    ap length c.deref.ensures ∙ c.requires.case.job.waits.count ∙ ap length (sym c.requires.case.ready.rules)
 
 pub returns-clause-within : goal.returns-clause-within
 returns-clause-within c = λ passed.
     subst (λ action. IsWithinLimits action c.args.c.now.from.now (assignment_of c.args.picks.now))
     (same-action c.args.c.now.setting.now.program.now c.args.c.now.job.now.number
-    (case_action c.args.c.now) c.requires.case.job)
+    (case_action c.args.c.now) c.requires.case.job.action)
     c.in_ok-given.ensures.within
 
 pub returns-clause-out : goal.returns-clause-out
@@ -70,7 +87,7 @@ returns-clause-out c =
     in let a = assignment_of c.args.picks.now
     in let given = c.in_ok-given.given
     in let same = same-action c.args.c.now.setting.now.program.now c.args.c.now.job.now.number action
-    c.requires.case.job
+    c.requires.case.job.action
     in given-adds p (case_mode c.args.c.now) action s a given c.args.out.now c.push_all.new.out
     (sym c.is_passed.ensures.value ∙ c.if-not-is_passed.false)
     (subst (λ act. AreGiven p (case_mode c.args.c.now) act (structure_of s) a (map structure_of given)) same

@@ -17,7 +17,7 @@ pub push_picked-requires-clause-left : goal.push_picked-requires-clause-left
 push_picked-requires-clause-left c =
     subst (λ vars. All IsVariable (picks_of vars)) (sym c.as_slice-picked.ensures)
     (picked-in_range (case_program c.args.c.now) c.requires.case.ready.valid c.args.c.now.job.now.number
-    (case_action c.args.c.now) c.requires.case.job)
+    (case_action c.args.c.now) c.requires.case.job.action)
 
 pub returns-clause-out : goal.returns-clause-out
 returns-clause-out c =

@@ -1,46 +1,72 @@
-use Rattle.std.proofs.Common.{◌∙◌, subst}
-use Rattle.std.specs.Prelude.{IfOk}
-use Rattle.tv_model.specs.Program.{program_of}
-use Rattle.tv_rules.specs.EntryForms.{rules_of}
-use Rattle.tv_transfer.specs.Transfer.{Coerces}
-use Rattle.tv_step.specs.Job.{action_in}
-use Rattle.tv_step.specs.Steps.{AreResultsOf}
-use Rattle.tv_step.proofs.Adding.{adds-first}
-use Rattle.tv_step.proofs.Noting.{all-rest}
-use Rattle.tv_step.proofs.Said.{step-said}
+use Rattle.std.proofs.Common.{◌∙◌, ◌≤◌, refl, sym, subst}
+use Rattle.std.proofs.lemmas.List.{length-map}
+use Rattle.tv_model.specs.Program.{pred_of, program_of}
+use Rattle.tv_coerce.specs.Ready.{CanCoerce}
+use Rattle.tv_coerce.proofs.Ready.{closed_rules_can_be_tried}
+use Rattle.tv_step.specs.declared.setting.Setting.{Setting}
 use Rattle.tv_transfer.proofs.Shapes.{over-shaped}
+use Rattle.tv_step.proofs.Engines.{found-coerces, said-in}
+use Rattle.tv_step.proofs.Jobs.{job-taken-by, taken-within}
 use Rattle.tv_step.proofs.Stepping.{coerces-stable}
+use Rattle.tv_step.proofs.Turns.{coerces-shaped}
 use Rattle.tv_step.proofs.step.abstract_step.Goals as goal
 
-pub push_coerced-requires-clause-shaped : goal.push_coerced-requires-clause-shaped
-push_coerced-requires-clause-shaped c =
-    over-shaped c.args.program.now c.args.s.now c.requires.over c.size.ensures.kept
+pub coerce-requires : goal.coerce-requires
+coerce-requires c =
+    subst (λ rules. CanCoerce rules c.args.s.now c.args.scratch.now) (sym c.requires.closed)
+    (closed_rules_can_be_tried c.args.program.now c.args.s.now c.args.scratch.now c.requires.valid
+    c.requires.over c.size.ensures.kept c.requires.scratch)
 
-pub push_coerced-requires-clause-rest : goal.push_coerced-requires-clause-rest
-push_coerced-requires-clause-rest c =
-    all-rest (rules_of c.args.closed.now) c.in_ok-all.all c.args.s.now c.in_ok-all.ensures
+pub shared_sets-requires : goal.shared_sets-requires
+shared_sets-requires c =
+    subst (λ n. n ≤ 512) (length-map c.args.program.now.vocab.preds pred_of) c.requires.valid.pred_count
 
-pub step_from-requires-clause-stable : goal.step_from-requires-clause-stable
-step_from-requires-clause-stable c =
-    let p = program_of c.args.program.now
-    in let start = c.push_coerced.new.out
-    in coerces-stable p c.args.s.now start
-    (adds-first (Coerces p) c.args.s.now c.new-start.result start c.new-start.ensures
-    c.in_ok-push_coerced.ensures.out)
+pub job_of-requires-clause-number : goal.job_of-requires-clause-number
+job_of-requires-clause-number c =
+    taken-within c.args.program.now c.requires.valid c.args.edge c.edge_at.result c.edge_at.ensures
+
+pub step_from-requires : goal.step_from-requires
+step_from-requires c =
+    let x : Setting = record {
+      alloc = c.args.alloc;
+      program = c.args.program;
+      mode = c.args.mode;
+      closed = c.args.closed;
+    }
+    in let s = c.args.s.now
+    in let start = c.as_slice.result.now
+    in let coerces = found-coerces x s c.in_ok-start.start start c.requires.closed
+    (over-shaped c.args.program.now s c.requires.over c.size.ensures.kept)
+    c.in_ok-start.ensures.exact c.as_slice.ensures
+    in record {
+      ready = record {
+        valid = c.requires.valid;
+        rules = c.requires.closed;
+        room = rw c.in_ok-start.ensures.scratch c.requires.scratch;
+      };
+      job = c.in_ok-job.ensures.job;
+      shaped = coerces-shaped (program_of c.args.program.now) s start coerces;
+      stable = coerces-stable (program_of c.args.program.now) s start coerces;
+    }
 
 pub returns : goal.returns
 returns c =
-    let p = program_of c.args.program.now
-    in let action = action_in c.job_at-job.result
-    in let start = c.push_coerced.new.out
-    in let said = step-said p c.requires.valid c.args.mode c.args.edge c.args.s.now action start
-    c.job_at-job.ensures.action
-    (adds-first (Coerces p) c.args.s.now c.new-start.result start c.new-start.ensures
-    c.in_ok-push_coerced.ensures.out)
-    c.step_from.result
-    (subst (λ mode. IfOk c.step_from.result (λ out. AreResultsOf p mode action start out.results))
-    c.job_at-job.ensures.mode c.step_from.ensures.results)
-    c.step_from.ensures.values c.step_from.ensures.cause
+    let x : Setting = record {
+      alloc = c.args.alloc;
+      program = c.args.program;
+      mode = c.args.mode;
+      closed = c.args.closed;
+    }
+    in let s = c.args.s.now
+    in let start = c.as_slice.result.now
+    in let said = said-in x c.args.program.now c.args.mode c.args.edge s c.in_ok-job.job start
+    c.step_from.result refl refl c.requires.valid
+    (job-taken-by c.args.program.now c.args.mode c.args.edge c.edge_at.result c.in_ok-job.job
+    c.in_ok-job.ensures.job c.edge_at.ensures c.in_ok-job.ensures.number)
+    (found-coerces x s c.in_ok-start.start start c.requires.closed
+    (over-shaped c.args.program.now s c.requires.over c.size.ensures.kept)
+    c.in_ok-start.ensures.exact c.as_slice.ensures)
+    c.step_from.ensures.results c.step_from.ensures.values c.step_from.ensures.cause
     in record {
       results = said.results;
       values = said.values;
@@ -49,5 +75,5 @@ returns c =
       truths = said.truths;
       budgets = said.budgets;
       cause = said.cause;
-      scratch = c.step_from.ensures.scratch ∙ c.in_ok-push_coerced.ensures.scratch;
+      scratch = c.step_from.ensures.scratch ∙ c.in_ok-start.ensures.scratch;
     }

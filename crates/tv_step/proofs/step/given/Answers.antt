@@ -23,14 +23,13 @@ push_steps-requires c = record {
         (IsStableIn (form_in c.args.x.now)) c.args.at_hand.now c.from-item.result c.requires.stable
         (item-there c.args.at_hand.now c.loop-from.from-index c.from-item.result c.loop-from-test.true
         c.from-item.is);
-    waits = c.requires.waits;
   };
 }
 
 pub loop-from-preserved : goal.loop-from-preserved
 loop-from-preserved c = record {
   out = adds-next
-      (StepsIn (form_in c.args.x.now) c.args.job.now.mode (action_in c.args.job.now)) c.args.at_hand.now
+      (StepsIn (form_in c.args.x.now) c.args.x.now.mode (action_in c.args.job.now)) c.args.at_hand.now
       c.loop-from.from-index c.from-item.result [] c.loop-from.out c.push_steps.new.out c.loop-from-test.true
       c.from-item.is
       c.loop-from.invariant.out c.in_ok-push_steps.ensures.out;

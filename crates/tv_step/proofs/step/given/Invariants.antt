@@ -7,7 +7,7 @@ use Rattle.tv_step.proofs.step.given.Given as goal
 
 abbrev pub invariant-loop-from : goal.invariant-loop-from
 invariant-loop-from l = record {
-  out : Adds (AreFrom (StepsIn (form_in l.x) l.job.mode (action_in l.job)))
+  out : Adds (AreFrom (StepsIn (form_in l.x) l.x.mode (action_in l.job)))
       (take l.from-index l.at_hand) [] l.out;
   within : All (KeepsUpdateLimits (action_in l.job)) (take l.from-index l.at_hand);
   scratch : l.scratch ≡ l.fn.scratch;

@@ -1,0 +1,29 @@
+use Rattle.std.proofs.Common.{◌∙◌, ◌++◌, length, ap, sym, subst}
+use Rattle.std.proofs.lemmas.List.Elements.{All-contains}
+use Rattle.tv_model.specs.Form.{form_of}
+use Rattle.tv_rules.specs.EntryForms.{rules_of}
+use Rattle.tv_transfer.specs.Transfer.{places_in}
+use Rattle.tv_step.specs.Places.{AreWaitingAt}
+use Rattle.tv_step.specs.Waiting.{WaitsAt}
+use Rattle.tv_step.proofs.Adding.{item-there}
+use Rattle.tv_step.proofs.Turns.{formulas-next}
+use Rattle.tv_step.proofs.focus.turns.Goals as goal
+
+pub loop-formula-preserved : goal.loop-formula-preserved
+loop-formula-preserved c =
+    let x = c.args.x.now
+    in let n = length x.program.now.vocab.preds
+    in let fs = c.args.formulas.now
+    in let f = c.formula-item.result
+    in record {
+      places = c.in_ok-push_turns.ensures.places
+          ∙ ap (λ xs. xs ++ places_in (form_of f)) c.loop-formula.invariant.places
+          ∙ sym (formulas-next fs c.loop-formula.formula-index f c.loop-formula-test.true c.formula-item.is);
+      waiting = c.in_ok-push_turns.ensures.waiting x.program.now
+          (subst (AreWaitingAt x.program.now (form_of f)) (sym c.in_ok-waiting.ensures.ok)
+          (subst (λ rules. WaitsAt n (form_of f) rules c.in_ok-waiting_at.field-0) c.requires.rules
+          (All-contains (λ g. WaitsAt n (form_of g) (rules_of x.closed.now) c.in_ok-waiting_at.field-0) fs f
+          c.in_ok-waiting_at.ensures
+          (item-there fs c.loop-formula.formula-index f c.loop-formula-test.true c.formula-item.is))))
+          c.loop-formula.invariant.waiting;
+    }
