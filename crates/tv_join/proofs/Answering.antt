@@ -16,21 +16,19 @@ use Rattle.tv_model.proofs.Lists.{All-from_contains}
 use Rattle.tv_listing.specs.ListingForm.{AreSorted, HasEqual, at_node}
 use Rattle.tv_listing.specs.declared.analysis.MessageLine.{MessageLine}
 use Rattle.tv_struct.specs.StructureForm.{StructureForm, IsStructure, IsOver}
-use Rattle.tv_transfer.specs.Closed.{IsClosed, IsCovered, IsOpened, IsFollowed as IsFollowedBy, HasLine, CoversRuns}
-use Rattle.tv_transfer.specs.Shaped.{IsShaped}
+use Rattle.tv_transfer.specs.Closed.{IsClosed, IsCovered, IsOpened, IsFollowed as IsFollowedBy, CoversRuns}
 use Rattle.tv_transfer.proofs.Runs.{closed_listings_cover_runs}
-use Rattle.tv_transfer.proofs.Shapes.{shaped-over}
 use Rattle.tv_keys.specs.Members.{MembersForm}
 use Rattle.tv_keys.proofs.Indexing.{at-contains}
-use Rattle.tv_work.specs.Analysed.{IsSaid, IsReported, KeepAllBudgets}
+use Rattle.tv_work.specs.Analysed.{IsSaid, KeepAllBudgets}
 use Rattle.tv_work.specs.Reach.{Point, IsListed}
 use Rattle.tv_work.specs.Search.{IsOnce}
 use Rattle.tv_work.specs.Task.{TaskForm}
-use Rattle.tv_work.specs.Told.{told_value, IsTold, AreLines}
-use Rattle.tv_work.proofs.Larger.{larger-both, larger-some}
+use Rattle.tv_work.specs.Told.{told_value, AreLines}
 use Rattle.tv_work.proofs.Once.{once-different, once-none, once-permuted, once-push}
+use Rattle.tv_work.proofs.Reporting.{covered-opened, lines-reported, told-followed}
 use Rattle.tv_work.proofs.Saying.{said-weaker}
-use Rattle.tv_work.proofs.Sorting.{same-total, sorted-keeps, sorted-only, sorted-strict}
+use Rattle.tv_work.proofs.Sorting.{all-over, same-total, sorted-keeps, sorted-only, sorted-strict}
 use Rattle.tv_join.specs.Flags.{IsPlain}
 use Rattle.tv_join.specs.Joined.{HaveOwnKeys, IsJoined}
 use Rattle.tv_join.specs.Keys.{key_of}
@@ -126,31 +124,6 @@ module _ (t : TaskForm) (valid : IsValid t.program) (j : JoinsForm) (told : List
       said-weaker t.program (IsListed listed) (IsListed listing) edge number (told_value told edge number) keeps
       (ended.stepped.said.said edge number some)
 
-  reported : (line : MessageLine) → IsTold told line → IsReported t.program (IsListed listing) line
-  reported line is = record {
-    some = is.some;
-    said = subst (IsSaid t.program (IsListed listing) line.edge line.number) (sym is.value)
-        (told-said line.edge line.number (λ none. is.some (is.value ∙ none)));
-    greatest = λ k said. subst (λ v. larger_of k v ≡ v) (sym is.value) (said-told line.edge line.number k said);
-  }
-
-  from-reported : (line : MessageLine) → IsReported t.program (IsListed listing) line → IsTold told line
-  from-reported line is =
-      let up : larger_of line.value (told_value told line.edge line.number) ≡ told_value told line.edge line.number
-      = said-told line.edge line.number line.value is.said
-      in let some = larger-some line.value (told_value told line.edge line.number) up is.some
-      in let down = is.greatest (told_value told line.edge line.number) (told-said line.edge line.number some)
-      in record {
-        value = larger-both line.value (told_value told line.edge line.number) up down;
-        some = is.some;
-      }
-
-  line-told : (edge number : ℕ) → told_value told edge number ≢ No → HasLine lines edge number
-  line-told edge number some =
-      let line : MessageLine = record { edge = edge; number = number; value = told_value told edge number }
-      in let has = (are.each line).1 (record { value = refl; some = some })
-      in (has.0, line, has.1, has.2, (refl, refl))
-
   -- ---- what the analysis answers
 
   pub answer-exact : IsJoined t.program t.mode t.initial t.max listing lines
@@ -163,10 +136,7 @@ module _ (t : TaskForm) (valid : IsValid t.program) (j : JoinsForm) (told : List
     within = omega (arith, same-total listed listing sorted, ended.at.within);
     rounds = ended.at.rounds;
     keys = λ k d lt. subst (HaveOwnKeys t.program) (get_or_default listing k [] d lt) (keys-at k lt);
-    reported = λ line. (
-      λ has. reported line ((are.each line).0 has),
-      λ is. (are.each line).1 (from-reported line is),
-    );
+    reported = lines-reported t.program told lines are (IsListed listing) said-told told-said;
     ordered = are.ordered;
     budgets = λ before le. budgets before le (cases_lt before ended.round);
   }
@@ -185,30 +155,17 @@ module _ (t : TaskForm) (valid : IsValid t.program) (j : JoinsForm) (told : List
       in (there.0, s, there.1, there.2, under-embeds x.structure s under)
 
   opened : (s : StructureForm) → Contains t.initial s → IsOpened t.program (at_node listing 0) s
-  opened s has = by (All-contains (IsOpenable t.program) t.initial s ended.at.opened.any has)
-    where
-      by : IsOpenable t.program s → IsOpened t.program (at_node listing 0) s
-      by (inl none) = inl none
-      by (inr (u, opening)) =
-          inr (
-            u,
-            opening,
-            covered (point 0 u) (ended.at.opened.absorbed (point 0 u)
-                (record { node = refl; opens = (has.0, s, has.1, has.2, opening) })),
-          )
+  opened s has =
+      covered-opened t.program (at_node listing 0) s
+      (All-contains (IsOpenable t.program) t.initial s ended.at.opened.any has) (λ u opening.
+      covered (point 0 u) (ended.at.opened.absorbed (point 0 u)
+      (record { node = refl; opens = (has.0, s, has.1, has.2, opening) })))
 
   followed : (edge : ℕ) (taken : Edge) (s : StructureForm) → IsDoneAlong t (IsAbsorbed t.program j.nodes) told edge taken s
       → IsFollowedBy t.program t.mode edge s (at_node listing taken.to) lines
-  followed edge taken s done = record {
-    results = (
-      done.results,
-      done.are_results,
-      All-from_contains (IsCovered (at_node listing taken.to)) done.results
-          (λ u has. covered (point taken.to u) (done.covered u has)),
-    );
-    messages = λ number k is some.
-        line-told edge number (larger-some k (told_value told edge number) (done.values number k is) some);
-  }
+  followed edge taken s done =
+      told-followed t.program told lines are t.mode edge s (at_node listing taken.to) done.results done.are_results
+      (λ u has. covered (point taken.to u) (done.covered u has)) done.values
 
   pub answer-closed : IsClosed t.program t.mode t.initial listing lines
   answer-closed = record {
@@ -222,9 +179,7 @@ module _ (t : TaskForm) (valid : IsValid t.program) (j : JoinsForm) (told : List
 
   pub answer-over : (program : Program) → t.program ≡ program_of program
       → All (All (λ s. IsStructure s × IsOver program.vocab s)) listing
-  answer-over program is k d lt =
-      subst (All (λ s. IsStructure s × IsOver program.vocab s)) (get_or_default listing k [] d lt)
-      (All-from_contains (λ s. IsStructure s × IsOver program.vocab s) (at_node listing k)
-      (λ s has.
-      let plain = plain-at (point k s) has
-      in (plain.is, shaped-over program s (subst (λ p. IsShaped p s) is plain.shaped))))
+  answer-over program is =
+      all-over program t listing is (λ x has.
+      let plain = plain-at x has
+      in (plain.is, plain.shaped))

@@ -122,7 +122,7 @@ open-some t s u found new opening settled only e =
         in inr (record {
           node = sym (ap (λ (g : Found). g.node) same);
           opening = subst (IsOpening t.program s) structure opening;
-          plain = subst (IsPlain t.program) structure (settled-plain t.program u settled);
+          settled = subst (IsSettled t.program) structure settled;
         })
 
 pub openings-none : (t : TaskForm) → AreOpenings t [] []
@@ -157,7 +157,7 @@ openings-more t structures s found new are openable finds = record {
                 finds.all x start.node (subst (λ q. IsOpening t.program q x.structure) (sym same) opening)
 
     only : (x : Point) → IsFound found x ⊎ IsOpeningPoint t s x
-        → IsStartPoint t.program (structures ++ s ∷ []) x × IsPlain t.program x.structure
+        → IsStartPoint t.program (structures ++ s ∷ []) x × IsSettled t.program x.structure
     only x (inl has) =
         let before = are.only x has
         in (record { node = before.0.node; opens = by before.0.opens }, before.1)
@@ -169,7 +169,7 @@ openings-more t structures s found new are openable finds = record {
             in (has.0, r, has.1, has.2, opening)
     only x (inr is) =
         let has = Contains-push structures s
-        in (record { node = is.node; opens = (has.0, s, has.1, has.2, is.opening) }, is.plain)
+        in (record { node = is.node; opens = (has.0, s, has.1, has.2, is.opening) }, is.settled)
 
 -- ---- steps
 
@@ -271,6 +271,7 @@ module _ (t : TaskForm) (valid : IsValid t.program) (nodes : List MembersForm) (
               node = subst (λ n. n < length t.program.nodes) (sym (node ∙ enters))
                   (edge-valid t.program valid edge leaves.0 leaves.1).1;
               plain = settled-plain t.program x.structure (All-contains (IsSettled t.program) results x.structure settled is);
+              stable = (All-contains (IsSettled t.program) results x.structure settled is).stable;
             },
           )
 

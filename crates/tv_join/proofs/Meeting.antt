@@ -1,6 +1,6 @@
 -- What was found is joined into what is listed, one structure after the other.
-use Rattle.std.proofs.Common.{ℕ, ◌≡◌, ◌≢◌, ◌<◌, ◌≤◌, ◌+◌, ◌⊎◌, zero, suc, inl, inr, List, [], ◌∷◌, ◌++◌, length, get_or, set, Option, None, Some, refl, sym, ap, subst, ◌∙◌, arith}
-use Rattle.std.specs.Prelude.{Contains, sum_by, slice_get}
+use Rattle.std.proofs.Common.{ℕ, ◌≡◌, ◌≢◌, ◌<◌, ◌≤◌, ◌+◌, ◌⊎◌, zero, suc, inl, inr, Bool, true, false, List, [], ◌∷◌, ◌++◌, length, get_or, set, Option, None, Some, refl, sym, ap, subst, ◌∙◌, arith}
+use Rattle.std.specs.Prelude.{Contains, MatchBool, sum_by, slice_get}
 use Rattle.std.proofs.lemmas.Bool.{cases_eq}
 use Rattle.std.proofs.lemmas.List.{length-set, length_push, set-get_or, length-map}
 use Rattle.std.proofs.lemmas.List.Elements.{Contains-append_left, Contains-push, Contains-push_cases}
@@ -9,6 +9,7 @@ use Rattle.std.proofs.lemmas.Option.{slice_get_within, get_or_from_slice_get}
 use Rattle.tv_model.proofs.Lists.{Contains-none, slice_get-contains}
 use Rattle.tv_listing.specs.ListingForm.{at_node}
 use Rattle.tv_struct.specs.StructureForm.{StructureForm}
+use Rattle.tv_step.specs.Setting.{IsStableIn}
 use Rattle.tv_keys.specs.Members.{MembersForm, IsRaised, Puts}
 use Rattle.tv_keys.specs.declared.members.Put.{Put}
 use Rattle.tv_keys.specs.declared.members.Put.TheVariants.{Known, Raised, Added}
@@ -19,7 +20,7 @@ use Rattle.tv_join.specs.Flags.{key_flags, IsPlain}
 use Rattle.tv_join.specs.Listed.{AreJoins}
 use Rattle.tv_join.specs.Places.{place_of}
 use Rattle.tv_join.specs.Rounds.{point}
-use Rattle.tv_join.specs.State.{JoinsForm, IsFound, IsIn, IsKept, IsMet, IsNode, HasRoom, NotesPut, StandsAt, listing_of, members_at, room_after, total_of}
+use Rattle.tv_join.specs.State.{JoinsForm, IsFound, IsIn, IsKept, IsMet, IsNode, HasRoom, NotesPut, NotesRaised, StandsAt, listing_of, members_at, room_after, total_of}
 use Rattle.tv_join.specs.Stepped.{HaveMet, IsPlaced, IsPlacedFound, Rises, Stay}
 use Rattle.tv_join.specs.Weight.{structure_weight, structures_weight, listing_weight}
 use Rattle.tv_join.specs.declared.joins.Found.{Found}
@@ -34,6 +35,16 @@ use Rattle.tv_join.proofs.Weights.{rises-strictly}
 pub listed-plain : (t : TaskForm) (j : JoinsForm) → IsKept t j → (x : Point) → IsIn j.nodes x → IsPlain t.program x.structure
 listed-plain t j kept x has =
     (kept.each x.node).plain x.structure (subst (λ xs. Contains xs x.structure) (listing-at j.nodes x.node) has)
+
+pub risen-or-stable : (t : TaskForm) (j : JoinsForm) → IsKept t j → (w : Place) (s : StructureForm)
+    → StandsAt j.nodes w s → (has_risen : Bool) → MatchBool has_risen (Contains j.raised w) (¬ Contains j.raised w)
+    → (has_risen ≡ true) ⊎ IsStableIn t.program s
+risen-or-stable t j kept w s stands true is = inl refl
+risen-or-stable t j kept w s stands false isnt = by (kept.stable w s stands)
+  where
+    by : Contains j.raised w ⊎ IsStableIn t.program s → (false ≡ true) ⊎ IsStableIn t.program s
+    by (inl has) = absurd (isnt has)
+    by (inr is) = inr is
 
 -- what is listed is the joins by key of itself
 pub listed-joins : (t : TaskForm) (j : JoinsForm) → IsKept t j → (k : ℕ)
@@ -197,42 +208,90 @@ module _ (t : TaskForm) (old new : JoinsForm) (k : ℕ) (s : StructureForm) (kep
       by (inl was) = still-in w (kept.places w was)
       by (inr e) = in-after (length before) (omega (arith, ap length add.pushed, length_push before s)) w e
 
-  -- what isn't noted at the node stood there before
-  stays-here : (put : Put) → Puts (key_flags t.program) before s after put
-      → NotesPut k (length before) put old.changed new.changed → (at : ℕ) (r : StructureForm)
-      → slice_get after at ≡ Some r → Contains new.changed (place_of k at) ⊎ (slice_get before at ≡ Some r)
-  stays-here Known known notes at r is = inr (ap (λ xs. slice_get xs at) (sym known.same) ∙ is)
-  stays-here (Raised place) raise notes at r is =
+  -- what stands at the node stood there before, was raised, or was put behind the others
+  stands-by : (put : Put) → Puts (key_flags t.program) before s after put → (at : ℕ) (r : StructureForm)
+      → slice_get after at ≡ Some r
+      → (slice_get before at ≡ Some r) ⊎ ((put ≡ Raised at) ⊎ ((put ≡ Added) × (at ≡ length before) × (s ≡ r)))
+  stands-by Known known at r is = inl (ap (λ xs. slice_get xs at) (sym known.same) ∙ is)
+  stands-by (Raised place) raise at r is =
       by (set-at before place raise.after r at (slice_get_within before place raise.before raise.at)
       (ap (λ xs. slice_get xs at) (sym raise.set) ∙ is))
     where
       by : ((at ≡ place) × (raise.after ≡ r)) ⊎ ((at ≢ place) × (slice_get before at ≡ Some r))
-          → Contains new.changed (place_of k at) ⊎ (slice_get before at ≡ Some r)
-      by (inl (same, e)) = inl (subst (λ i. Contains new.changed (place_of k i)) (sym same) notes.has)
-      by (inr (apart, was)) = inr was
-  stays-here Added add notes at r is =
-      by (push-at before s r at (ap (λ xs. slice_get xs at) (sym add.pushed) ∙ is))
+          → (slice_get before at ≡ Some r)
+          ⊎ ((Raised place ≡ Raised at) ⊎ ((Raised place ≡ Added) × (at ≡ length before) × (s ≡ r)))
+      by (inl (same, e)) = inr (inl (ap (λ i. Raised i) (sym same)))
+      by (inr (apart, was)) = inl was
+  stands-by Added add at r is = by (push-at before s r at (ap (λ xs. slice_get xs at) (sym add.pushed) ∙ is))
     where
       by : (slice_get before at ≡ Some r) ⊎ ((at ≡ length before) × (s ≡ r))
-          → Contains new.changed (place_of k at) ⊎ (slice_get before at ≡ Some r)
-      by (inl was) = inr was
-      by (inr (same, e)) = inl (subst (λ i. Contains new.changed (place_of k i)) (sym same) notes.has)
+          → (slice_get before at ≡ Some r)
+          ⊎ ((Added ≡ Raised at) ⊎ ((Added ≡ Added) × (at ≡ length before) × (s ≡ r)))
+      by (inl was) = inl was
+      by (inr (same, e)) = inr (inr (refl, same, e))
 
+  at-node : (w : Place) (r : StructureForm) → w.node ≡ k → StandsAt new.nodes w r → slice_get after w.at ≡ Some r
+  at-node w r same stands =
+      subst (λ (m : MembersForm). slice_get m.structures w.at ≡ Some r) node-here
+      (subst (λ n. slice_get (members_at new.nodes n).structures w.at ≡ Some r) same stands)
+
+  at-other : (w : Place) (r : StructureForm) → w.node ≢ k → StandsAt new.nodes w r → StandsAt old.nodes w r
+  at-other w r apart stands =
+      subst (λ (m : MembersForm). slice_get m.structures w.at ≡ Some r) (node-other w.node apart) stands
+
+  at-before : (w : Place) (r : StructureForm) → w.node ≡ k → slice_get before w.at ≡ Some r → StandsAt old.nodes w r
+  at-before w r same was = subst (λ n. slice_get (members_at old.nodes n).structures w.at ≡ Some r) (sym same) was
+
+  -- what isn't noted stood there before
   stays-met : (w : Place) (r : StructureForm) → StandsAt new.nodes w r → Contains new.changed w ⊎ StandsAt old.nodes w r
   stays-met w r stands = by (cases_eq w.node k)
     where
-      here : w.node ≡ k → Contains new.changed (place_of k w.at) ⊎ (slice_get before w.at ≡ Some r)
+      Noted : Put → Type 0
+      Noted put = NotesPut k (length before) put old.changed new.changed
+
+      noted : (at : ℕ) → w.node ≡ k → w.at ≡ at → Contains new.changed (place_of k at) → Contains new.changed w
+      noted at same same_at has =
+          subst (λ n. Contains new.changed (place_of n w.at)) (sym same)
+          (subst (λ i. Contains new.changed (place_of k i)) (sym same_at) has)
+
+      here : w.node ≡ k → (slice_get before w.at ≡ Some r)
+          ⊎ ((met.put ≡ Raised w.at) ⊎ ((met.put ≡ Added) × (w.at ≡ length before) × (s ≡ r)))
           → Contains new.changed w ⊎ StandsAt old.nodes w r
-      here same (inl has) = inl (subst (λ n. Contains new.changed (place_of n w.at)) (sym same) has)
-      here same (inr was) = inr (subst (λ n. slice_get (members_at old.nodes n).structures w.at ≡ Some r) (sym same) was)
+      here same (inl was) = inr (at-before w r same was)
+      here same (inr (inl raised)) = inl (noted w.at same refl (subst Noted raised met.changed).has)
+      here same (inr (inr (added, at, e))) = inl (noted (length before) same at (subst Noted added met.changed).has)
 
       by : (w.node ≡ k) ⊎ (w.node ≢ k) → Contains new.changed w ⊎ StandsAt old.nodes w r
-      by (inl same) =
-          here same (stays-here met.put met.puts met.changed w.at r
-          (subst (λ (m : MembersForm). slice_get m.structures w.at ≡ Some r) node-here
-          (subst (λ n. slice_get (members_at new.nodes n).structures w.at ≡ Some r) same stands)))
-      by (inr apart) =
-          inr (subst (λ (m : MembersForm). slice_get m.structures w.at ≡ Some r) (node-other w.node apart) stands)
+      by (inl same) = here same (stands-by met.put met.puts w.at r (at-node w r same stands))
+      by (inr apart) = inr (at-other w r apart stands)
+
+  raised-kept : (put : Put) → NotesRaised k put old.raised new.raised → (w : Place)
+      → Contains old.raised w → Contains new.raised w
+  raised-kept Known notes w has = subst (λ ws. Contains ws w) (sym notes) has
+  raised-kept (Raised at) notes w has = notes.kept w has
+  raised-kept Added notes w has = subst (λ ws. Contains ws w) (sym notes) has
+
+  -- what stands as it was found is stable
+  stable-met : IsStableIn t.program s → (w : Place) (r : StructureForm) → StandsAt new.nodes w r
+      → Contains new.raised w ⊎ IsStableIn t.program r
+  stable-met found w r stands = by (cases_eq w.node k)
+    where
+      earlier : Contains old.raised w ⊎ IsStableIn t.program r → Contains new.raised w ⊎ IsStableIn t.program r
+      earlier (inl has) = inl (raised-kept met.put met.raised w has)
+      earlier (inr is) = inr is
+
+      here : w.node ≡ k → (slice_get before w.at ≡ Some r)
+          ⊎ ((met.put ≡ Raised w.at) ⊎ ((met.put ≡ Added) × (w.at ≡ length before) × (s ≡ r)))
+          → Contains new.raised w ⊎ IsStableIn t.program r
+      here same (inl was) = earlier (kept.stable w r (at-before w r same was))
+      here same (inr (inl raised)) =
+          inl (subst (λ n. Contains new.raised (place_of n w.at)) (sym same)
+          (subst (λ put. NotesRaised k put old.raised new.raised) raised met.raised).has)
+      here same (inr (inr (added, at, e))) = inr (subst (IsStableIn t.program) e found)
+
+      by : (w.node ≡ k) ⊎ (w.node ≢ k) → Contains new.raised w ⊎ IsStableIn t.program r
+      by (inl same) = here same (stands-by met.put met.puts w.at r (at-node w r same stands))
+      by (inr apart) = earlier (kept.stable w r (at-other w r apart stands))
 
   pub stay-met : (first : List MembersForm) → Stay first old → Stay first new
   stay-met first before-this w r stands = by (stays-met w r stands)
@@ -245,8 +304,8 @@ module _ (t : TaskForm) (old new : JoinsForm) (k : ℕ) (s : StructureForm) (kep
       by (inl has) = inl has
       by (inr was) = earlier (before-this w r was)
 
-  pub kept-met : IsKept t new
-  kept-met = record {
+  pub kept-met : IsStableIn t.program s → IsKept t new
+  kept-met found = record {
     nodes = ap length met.set ∙ length-set old.nodes k met.node ∙ kept.nodes;
     each = λ j. each-kept j (cases_eq j k);
     room = subst (HasRoom t.max (total_of new.nodes)) (sym met.room)
@@ -254,6 +313,7 @@ module _ (t : TaskForm) (old new : JoinsForm) (k : ℕ) (s : StructureForm) (kep
         (λ e. ap length (known-same met.put met.puts e)) (raised-count met.put met.puts) (added-count met.put met.puts)
         (total_of new.nodes) (sums length));
     places = places-met met.put met.puts met.changed;
+    stable = stable-met found;
   }
 
   -- ---- what is listed is the joins with it
@@ -376,7 +436,7 @@ one-met : (t : TaskForm) (first old new : JoinsForm) (taken : List Found) (f : F
     → ((x : Point) → IsFound taken x → IsPlaced t x) → IsPlacedFound t f
     → IsMet (key_flags t.program) old f.node f.structure new → HaveMet t first (taken ++ f ∷ []) new
 one-met t first old new taken f kept have placed placed_f met = record {
-  kept = kept-met t old new f.node f.structure have.kept lt placed_f.plain met;
+  kept = kept-met t old new f.node f.structure have.kept lt placed_f.plain met placed_f.stable;
   joins = λ k. joins-like t.program
       (λ s. (IsIn first.nodes (point k s) ⊎ IsFound taken (point k s)) ⊎ (point k s ≡ point f.node f.structure))
       (λ s. IsIn first.nodes (point k s) ⊎ IsFound (taken ++ f ∷ []) (point k s))

@@ -1,11 +1,13 @@
 -- A place is noted among others.
-use Rattle.std.proofs.Common.{ℕ, ◌≡◌, ◌<◌, ◌⊎◌, zero, suc, inl, inr, List, [], ◌∷◌, refl, sym, subst, arith}
-use Rattle.std.specs.Prelude.{Contains}
+use Rattle.std.proofs.Common.{ℕ, ◌≡◌, ◌<◌, ◌⊎◌, ◌∙◌, zero, suc, inl, inr, Bool, true, false, true≢false, List, [], ◌∷◌, refl, sym, ap, subst, arith}
+use Rattle.std.specs.Prelude.{Any, Contains, MatchBool}
+use Rattle.std.specs.List.{list_any}
 use Rattle.std.specs.BTreeSet.{insert_key}
 use Rattle.std.specs.declared.cmp.Ordering.{Ordering}
 use Rattle.std.specs.declared.cmp.Ordering.TheVariants.{Less, Equal, Greater}
-use Rattle.std.specs.Ordering.{MatchOrdering, match_ordering, nat_cmp, ordering_then}
-use Rattle.std.proofs.lemmas.Cmp.{ranked}
+use Rattle.std.specs.Ordering.{MatchOrdering, match_ordering, is_eq, nat_cmp, ordering_then}
+use Rattle.std.proofs.lemmas.Cmp.{nat_cmp_total, ranked, tied_itself}
+use Rattle.std.proofs.lemmas.List.Folds.{Any-from_list_any, list_any-from_Any}
 use Rattle.tv_join.specs.Places.{Notes}
 use Rattle.tv_join.specs.declared.places.Place.{Place}
 
@@ -96,6 +98,26 @@ place-equal v w e =
     in let node = nat-equal v.node w.node both.0
     in let at = nat-equal v.at w.at both.1
     in λ i. record { node = (sym node) i; at = (sym at) i }
+
+same-place : (w : Place) → place_cmp w w ≡ Equal
+same-place w = rw (tied_itself nat_cmp_total w.node, tied_itself nat_cmp_total w.at) refl
+
+is-equal : (r : Ordering) → is_eq r ≡ true → r ≡ Equal
+is-equal Less e = absurd (true≢false (sym e))
+is-equal Equal e = refl
+is-equal Greater e = absurd (true≢false (sym e))
+
+-- a place is told to be among others where it is
+pub has-noted : (places : List Place) (w : Place) (has : Bool) → has ≡ list_any (λ v. is_eq (place_cmp w v)) places
+    → MatchBool has (Contains places w) (¬ Contains places w)
+has-noted places w true e = by (Any-from_list_any (λ v. is_eq (place_cmp w v)) places (sym e))
+  where
+    by : Any (λ v. is_eq (place_cmp w v) ≡ true) places → Contains places w
+    by (k, v, within, at, same) =
+        subst (Contains places) (place-equal w v (is-equal (place_cmp w v) same)) (k, within, at)
+has-noted places w false e = λ (k, within, at).
+    true≢false (sym (list_any-from_Any (λ v. is_eq (place_cmp w v)) places
+    (k, w, within, at, ap is_eq (same-place w))) ∙ sym e)
 
 pub notes-inserted : (place : Place) (old new : List Place) → new ≡ insert_key place_cmp old place → Notes place old new
 notes-inserted place old new e = subst (Notes place old) (sym e) (record {

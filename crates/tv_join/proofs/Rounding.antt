@@ -33,7 +33,7 @@ use Rattle.tv_join.specs.declared.error.JoinError.{JoinError}
 use Rattle.tv_join.specs.declared.error.JoinError.TheVariants.{Structures, Splits, Individuals, Memory}
 use Rattle.tv_join.specs.declared.joins.Found.{Found}
 use Rattle.tv_join.specs.declared.places.Place.{Place}
-use Rattle.tv_join.proofs.Following.{along-weaker, followed-weaker, in-stands, stands-in}
+use Rattle.tv_join.proofs.Following.{along-weaker, followed-weaker, in-stands, settled-plain, stands-in}
 use Rattle.tv_join.proofs.JoinLaws.{join-like, under-itself, under-trans}
 use Rattle.tv_join.proofs.Meeting.{listed-joins, listed-plain}
 use Rattle.tv_join.proofs.Nodes.{listing-at, node-none, none-at}
@@ -145,7 +145,8 @@ starts-placed t valid found are x has =
     let only = are.only x has
     in record {
       node = subst (λ n. n < length t.program.nodes) (sym only.0.node) (start-node t.program valid);
-      plain = only.1;
+      plain = settled-plain t.program x.structure only.1;
+      stable = only.1.stable;
     }
 
 pub placed-found : (t : TaskForm) (found : List Found) → ((x : Point) → IsFound found x → IsPlaced t x)
@@ -157,23 +158,25 @@ nothing-total : (n : ℕ) → total_of (replicate n no_members) ≡ 0
 nothing-total zero = refl
 nothing-total (suc n) = omega (arith, sum_by-cons length [] (listing_of (replicate n no_members)), nothing-total n)
 
--- nothing is listed at first
-pub nothing-kept : (t : TaskForm) (n : ℕ) (j : JoinsForm) → n ≡ length t.program.nodes
-    → j ≡ record { nodes = replicate n no_members; room = Some t.max; changed = [] } → IsKept t j
-nothing-kept t n j count e = subst (IsKept t) (sym e) (record {
-  nodes = length-replicate n no_members ∙ count;
-  each = λ k. subst (IsNode t.program) (sym (none-at n k)) (node-none t.program);
-  room = omega (arith, nothing-total n);
-  places = λ w has. absurd (Contains-none w has);
-})
-
 pub nothing-in : (n : ℕ) (x : Point) → IsIn (replicate n no_members) x → ⊥
 nothing-in n x has =
     Contains-none x.structure (subst (λ xs. Contains xs x.structure)
     (listing-at (replicate n no_members) x.node ∙ ap (λ (m : MembersForm). m.structures) (none-at n x.node)) has)
 
+-- nothing is listed at first
+pub nothing-kept : (t : TaskForm) (n : ℕ) (j : JoinsForm) → n ≡ length t.program.nodes
+    → j ≡ record { nodes = replicate n no_members; room = Some t.max; changed = []; raised = [] } → IsKept t j
+nothing-kept t n j count e = subst (IsKept t) (sym e) (record {
+  nodes = length-replicate n no_members ∙ count;
+  each = λ k. subst (IsNode t.program) (sym (none-at n k)) (node-none t.program);
+  room = omega (arith, nothing-total n);
+  places = λ w has. absurd (Contains-none w has);
+  stable = λ w s stands.
+      absurd (nothing-in n (point w.node s) (stands-in (replicate n no_members) w s stands));
+})
+
 module _ (t : TaskForm) (valid : IsValid t.program) (n : ℕ) (old new : JoinsForm) (found : List Found)
-    (e : old ≡ record { nodes = replicate n no_members; room = Some t.max; changed = [] })
+    (e : old ≡ record { nodes = replicate n no_members; room = Some t.max; changed = []; raised = [] })
     (are : AreOpenings t t.initial found) (met : HaveMet t old found new) where
   none-in : (x : Point) → IsIn old.nodes x → ⊥
   none-in x has = nothing-in n x (subst (λ (j : JoinsForm). IsIn j.nodes x) e has)
@@ -255,7 +258,7 @@ too-many t j round kept listed more = (
         in omega (arith, e, before)
 
 pub first-cause : (t : TaskForm) (valid : IsValid t.program) (n : ℕ) (old new : JoinsForm) (found : List Found)
-    → old ≡ record { nodes = replicate n no_members; room = Some t.max; changed = [] }
+    → old ≡ record { nodes = replicate n no_members; room = Some t.max; changed = []; raised = [] }
     → AreOpenings t t.initial found → HaveMet t old found new → t.max < total_of new.nodes
     → IsJoinCause t.program t.mode t.initial t.max Structures
 first-cause t valid n old new found e are met more =
@@ -485,7 +488,7 @@ round-bound t round j at =
 
 -- the places of what changed are handed out
 module _ (t : TaskForm) (old new : JoinsForm) (places : List Place) (taken : places ≡ old.changed)
-    (left : new ≡ record { nodes = old.nodes; room = old.room; changed = [] }) where
+    (left : new ≡ record { nodes = old.nodes; room = old.room; changed = []; raised = old.raised }) where
   pub taken-nodes : new.nodes ≡ old.nodes
   taken-nodes = ap (λ (j : JoinsForm). j.nodes) left
 
@@ -495,6 +498,7 @@ module _ (t : TaskForm) (old new : JoinsForm) (places : List Place) (taken : pla
     each = kept.each;
     room = kept.room;
     places = λ w has. absurd (Contains-none w has);
+    stable = kept.stable;
   })
 
   pub taken-in : IsKept t old → AreIn new.nodes places
@@ -511,7 +515,8 @@ module _ (t : TaskForm) (old new : JoinsForm) (places : List Place) (taken : pla
   taken-cause e cause = subst (λ ns. IsFollowCause t.program (IsIn ns) e) taken-nodes cause
 
 pub start-cause : (t : TaskForm) (valid : IsValid t.program) (n : ℕ) (old new : JoinsForm) (found : List Found)
-    → old ≡ record { nodes = replicate n no_members; room = Some t.max; changed = [] } → AreOpenings t t.initial found
+    → old ≡ record { nodes = replicate n no_members; room = Some t.max; changed = []; raised = [] }
+    → AreOpenings t t.initial found
     → (e : JoinError) → IsMeetingCause t old found new e → IsJoinCause t.program t.mode t.initial t.max e
 start-cause t valid n old new found e are Structures (met, more) = first-cause t valid n old new found e are met more
 start-cause t valid n old new found e are Splits cause = absurd cause

@@ -6,6 +6,8 @@ use Rattle.tv_model.specs.declared.program.Edge.{Edge}
 use Rattle.tv_model.specs.Program.{ProgramForm}
 use Rattle.tv_struct.specs.StructureForm.{StructureForm}
 use Rattle.tv_transfer.specs.Budgets.{KeepsBudgets, MeetsSplits, MeetsIndividuals}
+use Rattle.tv_step.specs.Setting.{IsStableIn}
+use Rattle.tv_transfer.specs.Settled.{IsSettled}
 use Rattle.tv_transfer.specs.Transfer.{AreMessageValues, AreResults, IsMessageValue, IsOpening, HasNoOpening}
 use Rattle.tv_keys.specs.Members.{MembersForm}
 use Rattle.tv_work.specs.Analysed.{KeepAllBudgets, Meets}
@@ -30,10 +32,11 @@ use Rattle.tv_join.specs.declared.error.JoinError.TheVariants.{Structures, Split
 
 -- ---- what is found
 
--- a structure over the program at one of its nodes
+-- a structure over the program, stable under its closed rules, at one of its nodes
 pub record IsPlaced (t : TaskForm) (x : Point) : Type 0 where
   pub node : x.node < length t.program.nodes
   pub plain : IsPlain t.program x.structure
+  pub stable : IsStableIn t.program x.structure
 
 abbrev pub IsPlacedFound : TaskForm → Found → Type 0
 IsPlacedFound t f = IsPlaced t (record { node = f.node; structure = f.structure })
@@ -181,7 +184,7 @@ IsOpenable p s = HasNoOpening p s ⊎ ((u : StructureForm) × IsOpening p s u)
 pub record IsOpeningPoint (t : TaskForm) (s : StructureForm) (x : Point) : Type 0 where
   pub node : x.node ≡ 0
   pub opening : IsOpening t.program s x.structure
-  pub plain : IsPlain t.program x.structure
+  pub settled : IsSettled t.program x.structure
 
 -- the opening of the structure, if there is one, is found beside what was found before
 pub record FindsOpening (t : TaskForm) (s : StructureForm) (old new : List Found) : Type 0 where
@@ -193,7 +196,7 @@ pub record FindsOpening (t : TaskForm) (s : StructureForm) (old new : List Found
 pub record AreOpenings (t : TaskForm) (structures : List StructureForm) (found : List Found) : Type 0 where
   pub any : All (IsOpenable t.program) structures
   pub all : (x : Point) → IsStartPoint t.program structures x → IsFound found x
-  pub only : (x : Point) → IsFound found x → IsStartPoint t.program structures x × IsPlain t.program x.structure
+  pub only : (x : Point) → IsFound found x → IsStartPoint t.program structures x × IsSettled t.program x.structure
 
 -- ---- rounds
 

@@ -3,8 +3,6 @@ use Rattle.std.specs.Prelude.{ℕ, ◌≡◌, All, length}
 use Rattle.tv_model.specs.Program.{ProgramForm, program_of}
 use Rattle.tv_model.specs.Valid.{IsValid}
 use Rattle.tv_eval.specs.ScratchForm.{ScratchForm, IsMadeFor}
-use Rattle.tv_rules.specs.Closing.{closed_rules}
-use Rattle.tv_rules.specs.EntryForms.{rules_of}
 use Rattle.tv_struct.specs.StructureForm.{IsOver}
 use Rattle.tv_work.specs.Leaving.{AreLeaving}
 use Rattle.tv_work.specs.Reach.{Point}
@@ -23,11 +21,12 @@ task_of x = record { program = form_in x; mode = x.mode; initial = x.initial.now
 abbrev pub round_in : TaskForm → (round : ℕ) → Point → Type 0
 round_in t round = IsInRound t.program t.mode t.initial round
 
--- the program is valid, the rules are its closed ones, the edges are listed by their sources, the flags are
--- those of its keys, the initial structures are over the vocabulary, and the scratch was made for the program
+-- the program is valid, the engine is that of the program and the mode, the edges are listed by their sources,
+-- the flags are those of its keys, the initial structures are over the vocabulary, and the scratch was made for
+-- the program
 pub record IsReady (x : Task) (scratch : ScratchForm) : Type 0 where
   pub valid : IsValid (form_in x)
-  pub rules : rules_of x.closed.now ≡ closed_rules (form_in x)
+  pub engine : x.engine.now ≡ record { program = x.program.now; mode = x.mode }
   pub leaving : AreLeaving (form_in x).edges (length (form_in x).nodes) x.leaving.now
   pub counted : x.counted.now ≡ key_flags (form_in x)
   pub initial : All (IsOver x.program.now.vocab) x.initial.now

@@ -1,6 +1,11 @@
 //! Structures are opened and followed.
 
-ghost use Rattle.std.specs.Prelude.{◌≡◌, ◌<◌, Contains, IfOk, IfErr, OnOk, length};
+ghost use Rattle.std.specs.Prelude.{◌≡◌, ◌<◌, ◌⊎◌, true, All, Contains, IfOk, IfErr, OnOk, length};
+ghost use Rattle.tv_step.specs.Setting.{IsStableIn};
+ghost use Rattle.tv_struct.specs.StructureForm.{IsOver};
+ghost use Rattle.tv_transfer.specs.Budgets.{IsStepCause, KeepsBudgets};
+ghost use Rattle.tv_transfer.specs.Settled.{IsSettled};
+ghost use Rattle.tv_transfer.specs.Transfer.{AreMessageValues, AreResults};
 ghost use Rattle.tv_work.specs.Leaving.{LeavesBy};
 ghost use Rattle.tv_join.specs.State.{IsKept, IsIn, IsFound, members_at};
 ghost use Rattle.tv_join.specs.Stepped.{AreFollowed, AreIn, AreOpenings, ChangesFrom, Finds, FindsOpening, Gathers, IsFollowCause, IsFollowedAlong, IsFollowedFrom, IsOpenable};
@@ -14,8 +19,8 @@ use crate::task::Task;
 use crate::values::MessageValues;
 use std::alloc::AllocError;
 use tv_eval::Scratch;
-use tv_step::{abstract_step, opening};
-use tv_struct::{Structure, Structures};
+use tv_step::StepOut;
+use tv_struct::{StageError, Structure, Structures};
 
 /// The openings of the initial structures, for the start node.
 pub(crate) fn openings(x: &Task, scratch: &mut Scratch) -> Result<Vec<Found>, AllocError>
@@ -43,7 +48,7 @@ fn open(
     ensures found { OnOk result (FindsOpening (task_of x.now) s.now found.old.items found.new.items) }
     ensures scratch { scratch.new ≡ scratch.old }
 {
-    match opening(x.alloc, x.program, x.closed, s, scratch)? {
+    match x.engine.opening(s, scratch)? {
         None => Ok(()),
         Some(structure) => {
             found.push(Found { node: 0, structure })?;
@@ -131,10 +136,37 @@ fn follow_edge(
 {
     let to = x.program.edges.as_slice()[edge as usize].to;
     let s = joins.at(w);
-    let out = abstract_step(x.alloc, x.program, x.closed, edge, x.mode, s, scratch)?;
+    let out = step(x, edge, s, joins.has_risen(w), scratch)?;
     values.keep(x.alloc, edge, w.at, out.messages)?;
     push_found(to, out.results, found)?;
     Ok(())
+}
+
+/// The step of the structure along the edge. One that stands as it was found is stable, and needs no coerce to
+/// begin with.
+fn step(
+    x: &Task,
+    edge: u32,
+    s: &Structure,
+    has_risen: bool,
+    scratch: &mut Scratch,
+) -> Result<StepOut, StageError>
+    requires ready { IsReady x.now scratch.old }
+    requires edge { edge < length x.now.program.now.edges }
+    requires over { IsOver x.now.program.now.vocab s.now }
+    requires stable { (has_risen ≡ true) ⊎ IsStableIn (form_in x.now) s.now }
+    ensures results { IfOk result (λ out. AreResults (form_in x.now) x.now.mode edge s.now out.results) }
+    ensures values { IfOk result (λ out. AreMessageValues (form_in x.now) edge s.now out.messages) }
+    ensures settled { IfOk result (λ out. All (IsSettled (form_in x.now)) out.results) }
+    ensures budgets { OnOk result (KeepsBudgets (form_in x.now) edge s.now) }
+    ensures cause { IfErr result (IsStepCause (form_in x.now) edge s.now) }
+    ensures scratch { scratch.new ≡ scratch.old }
+{
+    if has_risen {
+        x.engine.step(edge, s, scratch)
+    } else {
+        x.engine.stable_step(edge, s, scratch)
+    }
 }
 
 /// Puts the structures, found for the node, behind what was found before.

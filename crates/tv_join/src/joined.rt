@@ -18,7 +18,7 @@ use std::alloc::{AllocError, Global};
 use tv_eval::Scratch;
 use tv_listing::Analysis;
 use tv_model::{Items, Mode, Pred, Program};
-use tv_rules::close_rules;
+use tv_step::Engine;
 use tv_struct::Structures;
 use tv_work::leaving_edges;
 
@@ -79,14 +79,14 @@ pub fn analyse_joined(
         a.messages) }
     ensures cause { IfErr result (IsJoinCause (program_of program.now) mode initial.now max) }
 {
-    let closed = close_rules(alloc, program)?;
+    let engine = Engine::new(alloc, program, mode)?;
     let leaving = leaving_edges(alloc, program)?;
     let counted = key_flags(alloc, program)?;
     let mut scratch = Scratch::new(alloc, program, 256)?;
     let task = Task {
         alloc,
         program,
-        closed: &closed,
+        engine: &engine,
         leaving: &leaving,
         counted: &counted,
         initial: initial.as_slice(),

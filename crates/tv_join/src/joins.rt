@@ -1,11 +1,11 @@
 //! What is listed, at all nodes.
 
-ghost use Rattle.std.specs.Prelude.{◌≡◌, ◌≢◌, ◌<◌, ◌≤◌, ◌^◌, ℕ, [], All, None, Some, IfOk, IfErr, MatchBool, OnOk, length, replicate, slice_set};
+ghost use Rattle.std.specs.Prelude.{◌≡◌, ◌≢◌, ◌<◌, ◌≤◌, ◌^◌, ℕ, [], All, Contains, None, Some, IfOk, IfErr, MatchBool, OnOk, length, replicate, slice_set};
 ghost use Rattle.tv_listing.specs.ListingForm.{at_node};
 ghost use Rattle.tv_keys.specs.Keyed.{AreFlags};
 ghost use Rattle.tv_keys.specs.Members.{IsIndexed};
 ghost use Rattle.tv_join.specs.Flags.{key_flags};
-ghost use Rattle.tv_join.specs.State.{JoinsForm, no_members, members_at, less, room_after, NotesPut, IsPut, IsMet, IsKept, StandsAt, total_of};
+ghost use Rattle.tv_join.specs.State.{JoinsForm, no_members, members_at, less, room_after, NotesPut, NotesRaised, IsPut, IsMet, IsKept, StandsAt, total_of};
 ghost use Rattle.tv_join.specs.Stepped.{IsPlacedFound, HaveMet, IsMeetingCause};
 ghost use Rattle.tv_join.specs.Task.{task_of, form_in};
 
@@ -26,13 +26,14 @@ pub(crate) struct Found {
     pub structure: Structure,
 }
 
-/// The structures of each node, how many more may be listed, nothing where there are too many, and the places
-/// of what changed since they were handed out.
+/// The structures of each node, how many more may be listed, nothing where there are too many, the places of
+/// what changed since they were handed out, and those of structures that don't stand as they were found.
 #[derive(Drop)]
 pub(crate) struct Joins {
     nodes: Vec<Members>,
     room: Option<u64>,
     changed: Places,
+    raised: Places,
 }
 
 impl Model for Joins {
@@ -40,7 +41,12 @@ impl Model for Joins {
 
     ghost Value = { JoinsForm };
 
-    ghost view = { λ j. record { nodes = j.nodes.items; room = j.room; changed = j.changed } };
+    ghost view = { λ j. record {
+      nodes = j.nodes.items;
+      room = j.room;
+      changed = j.changed;
+      raised = j.raised;
+    } };
 }
 
 impl Joins {
@@ -50,6 +56,7 @@ impl Joins {
           nodes = replicate nodes no_members;
           room = Some max;
           changed = [];
+          raised = [];
         }) }
     {
         let mut empty = Vec::with_capacity(alloc, nodes)?;
@@ -60,13 +67,19 @@ impl Joins {
             nodes: empty,
             room: Some(max),
             changed: Places::new(alloc),
+            raised: Places::new(alloc),
         })
     }
 
     /// Hands out the places of what changed. From here on nothing has changed.
     pub fn take_changed(&mut self, alloc: Global) -> Places
         ensures taken { result ≡ self.old.changed }
-        ensures left { self.new ≡ record { nodes = self.old.nodes; room = self.old.room; changed = [] } }
+        ensures left { self.new ≡ record {
+          nodes = self.old.nodes;
+          room = self.old.room;
+          changed = [];
+          raised = self.old.raised;
+        } }
     {
         mem::replace(&mut self.changed, Places::new(alloc))
     }
@@ -133,10 +146,14 @@ impl Joins {
         ensures nodes { self.new.nodes ≡ self.old.nodes }
         ensures room { OnOk result (self.new.room ≡ room_after put self.old.room) }
         ensures changed { OnOk result (NotesPut node count put self.old.changed self.new.changed) }
+        ensures raised { OnOk result (NotesRaised node put self.old.raised self.new.raised) }
     {
         match put {
             Put::Known => Ok(()),
-            Put::Raised(at) => self.changed.note(Place { node, at }),
+            Put::Raised(at) => {
+                self.raised.note(Place { node, at })?;
+                self.changed.note(Place { node, at })
+            }
             Put::Added => {
                 self.room = less(self.room);
                 self.changed.note(Place { node, at: count })
@@ -149,6 +166,13 @@ impl Joins {
         ensures { MatchBool result (self.now.changed ≢ []) (self.now.changed ≡ []) }
     {
         !self.changed.is_empty()
+    }
+
+    /// Whether the structure at the place doesn't stand as it was found.
+    pub fn has_risen(&self, w: Place) -> bool
+        ensures { MatchBool result (Contains self.now.raised w) (¬ Contains self.now.raised w) }
+    {
+        self.raised.has(w)
     }
 
     /// The structures of the node.

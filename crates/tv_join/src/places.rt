@@ -1,6 +1,6 @@
 //! Places of structures, each once.
 
-ghost use Rattle.std.specs.Prelude.{◌≡◌, ◌≢◌, [], ◌∷◌, IfSome, IfNone, MatchBool, OnOk};
+ghost use Rattle.std.specs.Prelude.{◌≡◌, ◌≢◌, [], ◌∷◌, Contains, IfSome, IfNone, MatchBool, OnOk};
 ghost use Rattle.tv_join.specs.Places.{Notes};
 
 use std::alloc::{AllocError, Global};
@@ -53,6 +53,13 @@ impl Places {
         ensures none { IfNone result (self.old ≡ []) }
     {
         self.set.pop_first()
+    }
+
+    /// Whether the place was noted.
+    pub fn has(&self, place: Place) -> bool
+        ensures { MatchBool result (Contains self.now place) (¬ Contains self.now place) }
+    {
+        self.set.contains(&place)
     }
 
     /// Whether there is none.

@@ -12,7 +12,7 @@ ghost use Rattle.tv_join.specs.Values.{values_at};
 use crate::joins::Joins;
 use crate::task::Task;
 use crate::values::MessageValues;
-use std::alloc::{AllocError, Global};
+use std::alloc::AllocError;
 use tv_work::Told;
 
 /// For each edge the greatest values of its messages at the structures that are listed at its source, each of
@@ -56,19 +56,13 @@ fn tell_edge(
     let from = x.program.edges.as_slice()[edge as usize].from;
     let structures = joins.at_node(from);
     for place in 0..structures.len() {
-        tell(x.alloc, values, edge, place, told)?;
+        tell(values, edge, place, told)?;
     }
     Ok(())
 }
 
 /// Tells the values that are kept for the edge and the structure with that place.
-fn tell(
-    alloc: Global,
-    values: &MessageValues,
-    edge: u32,
-    place: usize,
-    told: &mut Told,
-) -> Result<(), AllocError>
+fn tell(values: &MessageValues, edge: u32, place: usize, told: &mut Told) -> Result<(), AllocError>
     requires edge { edge < length told.old }
     requires edges { length values.now ≡ length told.old }
     requires few { length (values_at values.now edge place) ≤ 65536 }
@@ -77,6 +71,6 @@ fn tell(
 {
     match values.get(edge, place) {
         None => Ok(()),
-        Some(row) => told.note(alloc, edge, row),
+        Some(row) => told.note(edge, row),
     }
 }

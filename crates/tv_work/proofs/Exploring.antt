@@ -1,34 +1,32 @@
 -- Where all is explored, the listing is exactly what is reached, and it is closed.
-use Rattle.std.proofs.Common.{ℕ, ◌≡◌, ◌≢◌, ◌⊎◌, inl, inr, List, [], ◌∷◌, refl, sym, subst, ◌∙◌}
+use Rattle.std.proofs.Common.{ℕ, ◌≡◌, ◌≢◌, List, [], ◌∷◌, refl, sym, subst}
 use Rattle.std.specs.Prelude.{All, Any, Contains}
 use Rattle.std.specs.List.Sorted.{IsStrictlySortedBy}
-use Rattle.std.proofs.lemmas.List.{get_or_default}
 use Rattle.std.proofs.lemmas.List.Elements.{All-contains, All-weaker}
 use Rattle.tv_kleene.specs.declared.K3.{K3}
 use Rattle.tv_kleene.specs.declared.K3.TheVariants.{No}
 use Rattle.tv_kleene.specs.Kleene.{larger_of}
 use Rattle.tv_model.specs.declared.program.Edge.{Edge}
 use Rattle.tv_model.specs.declared.program.Program.{Program}
-use Rattle.tv_model.specs.Program.{pred_of, program_of}
+use Rattle.tv_model.specs.Program.{program_of}
 use Rattle.tv_model.specs.Valid.{IsValid}
-use Rattle.tv_model.proofs.Lists.{All-from_contains, map-compose}
 use Rattle.tv_frame.proofs.EmbeddingLaws.{EmbedsOn-id}
 use Rattle.tv_listing.specs.ListingForm.{at_node}
 use Rattle.tv_listing.specs.declared.analysis.MessageLine.{MessageLine}
 use Rattle.tv_struct.specs.Order.{structure_cmp}
 use Rattle.tv_struct.specs.StructureForm.{StructureForm, IsStructure, IsOver, structure_of}
-use Rattle.tv_transfer.specs.Closed.{IsClosed, IsCovered, IsOpened, IsFollowed, HasLine, CoversRuns}
-use Rattle.tv_transfer.specs.Shaped.{IsShaped}
-use Rattle.tv_transfer.specs.Transfer.{IsOpening, HasNoOpening}
+use Rattle.tv_transfer.specs.Closed.{IsClosed, IsCovered, IsOpened, IsFollowed, CoversRuns}
+use Rattle.tv_transfer.specs.Transfer.{IsOpening}
 use Rattle.tv_transfer.proofs.Exact.{results-once}
 use Rattle.tv_transfer.proofs.Runs.{closed_listings_cover_runs}
-use Rattle.tv_work.specs.Analysed.{IsSaid, IsReported, IsAnalysis}
+use Rattle.tv_work.specs.Analysed.{IsSaid, IsAnalysis}
 use Rattle.tv_work.specs.Explored.{IsExplored, IsOpenedIn, IsDoneAlong}
 use Rattle.tv_work.specs.Reach.{Point, IsListed, IsStartPoint, IsDerivation, Leads}
 use Rattle.tv_work.specs.Task.{TaskForm, reached_in}
-use Rattle.tv_work.specs.Told.{told_value, IsTold, AreLines}
-use Rattle.tv_work.proofs.Larger.{larger-both, larger-some}
+use Rattle.tv_work.specs.Told.{told_value, AreLines}
+use Rattle.tv_work.proofs.Reporting.{covered-opened, lines-reported, told-followed}
 use Rattle.tv_work.proofs.Saying.{said-weaker}
+use Rattle.tv_work.proofs.Sorting.{all-over}
 
 -- a structure that is listed covers itself
 pub covers-itself : (ts : List StructureForm) (s : StructureForm) → Contains ts s → IsCovered ts s
@@ -83,28 +81,6 @@ module _ (t : TaskForm) (valid : IsValid t.program) (listing : List (List Struct
       (told_value told edge number)
       ex.reached (ex.said.said edge number some)
 
-  reported : (line : MessageLine) → IsTold told line → IsReported t.program (reached_in t) line
-  reported line is = record {
-    some = is.some;
-    said = subst (IsSaid t.program (reached_in t) line.edge line.number) (sym is.value)
-        (told-said line.edge line.number (λ none. is.some (is.value ∙ none)));
-    greatest = λ k said. subst (λ v. larger_of k v ≡ v) (sym is.value)
-        (said-told line.edge line.number k said);
-  }
-
-  from-reported : (line : MessageLine) → IsReported t.program (reached_in t) line → IsTold told line
-  from-reported line is =
-      let up : larger_of line.value (told_value told line.edge line.number) ≡ told_value told line.edge
-      line.number
-      = said-told line.edge line.number line.value is.said
-      in let some = larger-some line.value (told_value told line.edge line.number) up is.some
-      in let down = is.greatest (told_value told line.edge line.number) (told-said line.edge line.number some)
-      in record {
-        value = larger-both line.value (told_value told line.edge line.number) up down;
-        some
-            = is.some;
-      }
-
   module _ (lines : List MessageLine) (are : AreLines told lines) where
     pub explored-analysis : All (IsStrictlySortedBy structure_cmp) listing
         → IsAnalysis t.program t.mode t.initial t.max listing lines
@@ -116,10 +92,7 @@ module _ (t : TaskForm) (valid : IsValid t.program) (listing : List (List Struct
         reached-listed (record { node = node; structure = s }),
       );
       within = ex.within;
-      reported = λ line. (
-        λ has. reported line ((are.each line).0 has),
-        λ is. (are.each line).1 (from-reported line is),
-      );
+      reported = lines-reported t.program told lines are (reached_in t) said-told told-said;
       ordered = are.ordered;
       budgets = λ edge x source.
           (ex.done x (reached-listed x source.has) edge source.taken source.is_edge source.leaves).budgets;
@@ -128,31 +101,14 @@ module _ (t : TaskForm) (valid : IsValid t.program) (listing : List (List Struct
     -- ---- closed
 
     opened : (s : StructureForm) → IsOpenedIn t listing s → IsOpened t.program (at_node listing 0) s
-    opened s is = by is.any
-      where
-        by : HasNoOpening t.program s ⊎ ((u : StructureForm) × IsOpening t.program s u)
-            → IsOpened t.program (at_node listing 0) s
-        by (inl none) = inl none
-        by (inr (u, opening)) = inr (u, opening, covers-itself (at_node listing 0) u (is.listed u opening))
-
-    line-told : (edge number : ℕ) → told_value told edge number ≢ No → HasLine lines edge number
-    line-told edge number some =
-        let line : MessageLine = record { edge = edge; number = number; value = told_value told edge number }
-        in let has = (are.each line).1 (record { value = refl; some = some })
-        in (has.0, line, has.1, has.2, (refl, refl))
+    opened s is = covered-opened t.program (at_node listing 0) s is.any
+        (λ u opening. covers-itself (at_node listing 0) u (is.listed u opening))
 
     followed : (edge : ℕ) (taken : Edge) (s : StructureForm) → IsDoneAlong t listing told edge taken s
         → IsFollowed t.program t.mode edge s (at_node listing taken.to) lines
-    followed edge taken s done = record {
-      results = (
-        done.results,
-        done.are_results,
-        All-from_contains (IsCovered (at_node listing taken.to)) done.results
-            (λ u has. covers-itself (at_node listing taken.to) u (done.listed u has)),
-      );
-      messages = λ number k is some.
-          line-told edge number (larger-some k (told_value told edge number) (done.values number k is) some);
-    }
+    followed edge taken s done =
+        told-followed t.program told lines are t.mode edge s (at_node listing taken.to) done.results
+        done.are_results (λ u has. covers-itself (at_node listing taken.to) u (done.listed u has)) done.values
 
     pub explored-closed : IsClosed t.program t.mode t.initial listing lines
     explored-closed = record {
@@ -166,21 +122,12 @@ module _ (t : TaskForm) (valid : IsValid t.program) (listing : List (List Struct
     pub explored-runs : CoversRuns t.program t.mode t.initial listing lines
     explored-runs = closed_listings_cover_runs t.program t.mode t.initial listing lines valid explored-closed
 
--- a structure over the program is one over its vocabulary
-pub shaped-over : (program : Program) (s : StructureForm) → IsShaped (program_of program) s
-    → IsOver program.vocab s
-shaped-over program s shaped = shaped.over ∙ map-compose pred_of (λ d. d.arity) program.vocab.preds
-
--- what is settled is over the vocabulary
+-- what is listed is over the vocabulary
 pub explored-over : (program : Program) (t : TaskForm) (listing : List (List StructureForm))
     (told : List (List K3))
     → t.program ≡ program_of program → IsExplored t listing told
     → All (All (λ s. IsStructure s × IsOver program.vocab s)) listing
-explored-over program t listing told is ex k d within =
-    subst (All (λ s. IsStructure s × IsOver program.vocab s)) (get_or_default listing k [] d within)
-    (All-from_contains (λ s. IsStructure s × IsOver program.vocab s) (at_node listing k) at)
-  where
-    at : (s : StructureForm) → Contains (at_node listing k) s → IsStructure s × IsOver program.vocab s
-    at s has =
-        let settled = ex.settled (record { node = k; structure = s }) has
-        in (settled.is, shaped-over program s (subst (λ p. IsShaped p s) is settled.shaped))
+explored-over program t listing told is ex =
+    all-over program t listing is (λ x has.
+    let settled = ex.settled x has
+    in (settled.is, settled.shaped))

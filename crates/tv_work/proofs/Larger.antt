@@ -1,10 +1,11 @@
 -- The larger of two truth values.
-use Rattle.std.proofs.Common.{ℕ, ◌≡◌, ◌≢◌, ◌<◌, ◌≤◌, ◌+◌, ◌⊎◌, ◌∙◌, List, [], ◌∷◌, ◌++◌, length, get_or, inl, inr, refl, sym, arith}
-use Rattle.std.proofs.lemmas.Bool.{cases_lt}
-use Rattle.std.proofs.lemmas.List.{get_or_append_left, get_or_push}
+use Rattle.std.proofs.Common.{ℕ, ◌≡◌, ◌≢◌, ◌<◌, ◌≤◌, ◌+◌, ◌⊎◌, ◌∙◌, List, length, get_or, take, inl, inr, refl, sym, ap, eq-eqb, arith}
+use Rattle.std.proofs.lemmas.Bool.{cases_eq, cases_lt, ne_eqb}
+use Rattle.std.proofs.lemmas.List.{get_or_past, get_or-take, length-take-le}
 use Rattle.tv_kleene.specs.declared.K3.{K3}
 use Rattle.tv_kleene.specs.declared.K3.TheVariants.{No, Half, Yes}
 use Rattle.tv_kleene.specs.Kleene.{larger_of}
+use Rattle.tv_work.specs.Told.{IsRaised}
 
 pub larger-self : (a : K3) → larger_of a a ≡ a
 larger-self No = refl
@@ -69,17 +70,41 @@ larger-some Half Half e some = some
 larger-some Half Yes e some = λ n. absurd cc
 larger-some Yes b e some = λ n. some (e ∙ n)
 
--- the larger values of one more place
-pub larger-row : (row values before : List K3) (value : K3) (n : ℕ) → length row ≡ n
-    → ((k : ℕ) → k < n → get_or row k No ≡ larger_of (get_or values k No) (get_or before k No))
-    → value ≡ larger_of (get_or values n No) (get_or before n No)
-    → (k : ℕ) → k < n + 1 → get_or (row ++ value ∷ []) k No ≡ larger_of (get_or values k No)
-    (get_or before k No)
-larger-row row values before value n count all last k bound = by (cases_lt k n)
+-- the first values are told beside those before
+abbrev pub AreRaisedTo : (number : ℕ) → (values old new : List K3) → Type 0
+AreRaisedTo number values old new = (n : ℕ) → get_or new n No
+    ≡ larger_of (get_or (take number values) n No) (get_or old n No)
+
+-- and one more
+pub raised-next : (values old row new : List K3) (number : ℕ) → number < length values
+    → IsRaised number (get_or values number No) row new → AreRaisedTo number values old row
+    → AreRaisedTo (number + 1) values old new
+raised-next values old row new number within raised before n = by (cases_eq n number)
   where
-    by : (k < n) ⊎ (n ≤ k) → get_or (row ++ value ∷ []) k No ≡ larger_of (get_or values k No)
-        (get_or before k No)
-    by (inl lt) = get_or_append_left row (value ∷ []) No k (omega (arith, lt, count)) ∙ all k lt
-    by (inr past) =
-        let e : k ≡ n = omega (arith, bound, past)
-        in rw e (get_or_push row value No n count ∙ last)
+    taken : length (take number values) ≡ number
+    taken = length-take-le number values (omega (arith, within))
+
+    here : n ≡ number → get_or (take (number + 1) values) n No ≡ get_or values number No
+    here same = get_or-take (number + 1) values n No (omega (arith, same)) ∙ ap (λ m. get_or values m No) same
+
+    read : n ≡ number → get_or row n No ≡ get_or old n No
+    read same = before n
+        ∙ ap (λ k. larger_of k (get_or old n No))
+        (get_or_past (take number values) n No (omega (arith, same, taken)))
+
+    beside : (n < number) ⊎ (number ≤ n) → n ≢ number
+        → get_or (take number values) n No ≡ get_or (take (number + 1) values) n No
+    beside (inl lt) apart =
+        get_or-take number values n No lt ∙ sym (get_or-take (number + 1) values n No (omega (arith, lt)))
+    beside (inr past) apart =
+        get_or_past (take number values) n No (omega (arith, past, taken))
+        ∙ sym (get_or_past (take (number + 1) values) n No
+        (omega (arith, past, apart, length-take-le (number + 1) values (omega (arith, within)))))
+
+    by : (n ≡ number) ⊎ (n ≢ number)
+        → get_or new n No ≡ larger_of (get_or (take (number + 1) values) n No) (get_or old n No)
+    by (inl same) = raised n ∙ rw (eq-eqb n number same, read same, here same) refl
+    by (inr apart) =
+        raised n
+        ∙ rw (ne_eqb n number apart)
+        (before n ∙ ap (λ k. larger_of k (get_or old n No)) (beside (cases_lt n number) apart))

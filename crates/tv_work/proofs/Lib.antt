@@ -7,5 +7,6 @@ pub mod Saying
 pub mod Lines
 pub mod Causes
 pub mod Advancing
+pub mod Reporting
 pub mod Exploring
 pub mod Sorting

@@ -8,10 +8,14 @@ use Rattle.std.proofs.lemmas.List.Elements.{All-weaker}
 use Rattle.std.proofs.lemmas.List.Sums.{sum-map}
 use Rattle.std.proofs.lemmas.List.Sorted.{Contains-permutation, IsPermutation-sym, length_permutation}
 use Rattle.tv_kleene.specs.declared.K3.{K3}
-use Rattle.tv_model.proofs.Lists.{Contains-none}
+use Rattle.tv_model.specs.declared.program.Program.{Program}
+use Rattle.tv_model.specs.Program.{program_of}
+use Rattle.tv_model.proofs.Lists.{All-from_contains, Contains-none}
 use Rattle.tv_listing.specs.ListingForm.{at_node, AreSorted}
 use Rattle.tv_struct.specs.Order.{structure_cmp}
-use Rattle.tv_struct.specs.StructureForm.{StructureForm}
+use Rattle.tv_struct.specs.StructureForm.{StructureForm, IsStructure, IsOver}
+use Rattle.tv_transfer.specs.Shaped.{IsShaped}
+use Rattle.tv_transfer.proofs.Shapes.{shaped-over}
 use Rattle.tv_work.specs.Explored.{IsExplored, IsOpenedIn, KeepsListed}
 use Rattle.tv_work.specs.Reach.{Point, IsListed}
 use Rattle.tv_work.specs.Search.{IsOnce}
@@ -30,6 +34,20 @@ listed-within listing x has = by (cases_lt x.node (length listing))
     by (inr past) = absurd
         (Contains-none x.structure (subst (λ l. Contains l x.structure) (get_or_past listing x.node [] past)
         has))
+
+-- structures over the program that are listed are over its vocabulary
+pub all-over : (program : Program) (t : TaskForm) (listing : List (List StructureForm))
+    → t.program ≡ program_of program
+    → ((x : Point) → IsListed listing x → IsStructure x.structure × IsShaped t.program x.structure)
+    → All (All (λ s. IsStructure s × IsOver program.vocab s)) listing
+all-over program t listing is shaped k d within =
+    subst (All (λ s. IsStructure s × IsOver program.vocab s)) (get_or_default listing k [] d within)
+    (All-from_contains (λ s. IsStructure s × IsOver program.vocab s) (at_node listing k) at)
+  where
+    at : (s : StructureForm) → Contains (at_node listing k) s → IsStructure s × IsOver program.vocab s
+    at s has =
+        let known = shaped (record { node = k; structure = s }) has
+        in (known.0, shaped-over program s (subst (λ p. IsShaped p s) is known.1))
 
 module _ (old new : List (List StructureForm)) (sorted : AreSorted old new) where
   pub sorted-keeps : KeepsListed old new

@@ -4,8 +4,6 @@ use Rattle.tv_model.specs.declared.program.Mode.{Mode}
 use Rattle.tv_model.specs.Program.{ProgramForm, program_of}
 use Rattle.tv_model.specs.Valid.{IsValid}
 use Rattle.tv_eval.specs.ScratchForm.{ScratchForm, IsMadeFor}
-use Rattle.tv_rules.specs.Closing.{closed_rules}
-use Rattle.tv_rules.specs.EntryForms.{rules_of}
 use Rattle.tv_struct.specs.StructureForm.{StructureForm, IsOver}
 use Rattle.tv_work.specs.Leaving.{AreLeaving}
 use Rattle.tv_work.specs.Reach.{Point, IsReached}
@@ -28,11 +26,11 @@ task_of x = record { program = form_in x; mode = x.mode; initial = x.initial.now
 abbrev pub reached_in : TaskForm → Point → Type 0
 reached_in t = IsReached t.program t.mode t.initial
 
--- the program is valid, the rules are its closed ones, the edges are listed by their sources, the initial
--- structures are over the vocabulary, and the scratch was made for the program
+-- the program is valid, the engine is that of the program and the mode, the edges are listed by their sources,
+-- the initial structures are over the vocabulary, and the scratch was made for the program
 pub record IsReady (x : Task) (scratch : ScratchForm) : Type 0 where
   pub valid : IsValid (form_in x)
-  pub rules : rules_of x.closed.now ≡ closed_rules (form_in x)
+  pub engine : x.engine.now ≡ record { program = x.program.now; mode = x.mode }
   pub leaving : AreLeaving (form_in x).edges (length (form_in x).nodes) x.leaving.now
   pub initial : All (IsOver x.program.now.vocab) x.initial.now
   pub room : IsMadeFor (form_in x) 256 scratch

@@ -16,6 +16,11 @@ IsNoted edge values old new = (e number : ℕ) → told_value new e number
     ≡ (if e == edge then larger_of (slice_index_or values number No) (told_value old e number) else told_value
     old e number)
 
+-- the value of a message is told beside that before
+abbrev pub IsRaised : (number : ℕ) → (value : K3) → (old new : List K3) → Type 0
+IsRaised number value old new = (n : ℕ) → slice_index_or new n No
+    ≡ (if n == number then larger_of value (slice_index_or old n No) else slice_index_or old n No)
+
 -- the line tells the value of its message, and this isn't No
 pub record IsTold (told : List (List K3)) (line : MessageLine) : Type 0 where
   pub value : line.value ≡ told_value told line.edge line.number

@@ -22,7 +22,7 @@ use std::alloc::{AllocError, Global};
 use tv_eval::Scratch;
 use tv_listing::{Analysis, Listing};
 use tv_model::{Items, Mode, Program};
-use tv_rules::close_rules;
+use tv_step::Engine;
 use tv_struct::Structures;
 
 /// What was listed, and what was told of messages.
@@ -86,13 +86,13 @@ pub fn analyse(
     ensures cause { IfErr result (IsWorkCause (program_of program.now) max
         (IsReached (program_of program.now) mode initial.now)) }
 {
-    let closed = close_rules(alloc, program)?;
+    let engine = Engine::new(alloc, program, mode)?;
     let leaving = leaving_edges(alloc, program)?;
     let mut scratch = Scratch::new(alloc, program, 256)?;
     let task = Task {
         alloc,
         program,
-        closed: &closed,
+        engine: &engine,
         leaving: &leaving,
         initial: initial.as_slice(),
         mode,

@@ -15,7 +15,6 @@ use crate::search::{Search, Waiting};
 use crate::task::Task;
 use crate::told::Told;
 use tv_eval::Scratch;
-use tv_step::{opening, stable_step};
 use tv_struct::Structure;
 
 /// Meets the opening of an initial structure at the start node, if it has one.
@@ -34,7 +33,7 @@ fn open(
     ensures cause { IfErr result (IsWorkCause (form_in x.now) x.now.max (reached_in (task_of x.now))) }
     ensures scratch { scratch.new ≡ scratch.old }
 {
-    match opening(x.alloc, x.program, x.closed, s, scratch)? {
+    match x.engine.opening(s, scratch)? {
         None => Ok(()),
         Some(t) => search.meet(0, t, x.max),
     }
@@ -79,16 +78,8 @@ fn follow_edge(
     ensures scratch { scratch.new ≡ scratch.old }
 {
     let to = x.program.edges.as_slice()[edge as usize].to;
-    let out = stable_step(
-        x.alloc,
-        x.program,
-        x.closed,
-        edge,
-        x.mode,
-        search.at(w),
-        scratch,
-    )?;
-    told.note(x.alloc, edge, &out.messages)?;
+    let out = x.engine.stable_step(edge, search.at(w), scratch)?;
+    told.note(edge, &out.messages)?;
     search.meet_all(to, out.results, x.max)
 }
 

@@ -2,17 +2,17 @@
 
 use std::alloc::Global;
 use tv_model::{Mode, Program};
-use tv_rules::Closed;
+use tv_step::Engine;
 use tv_struct::{Numbers, Structure};
 
-/// A program with its closed rules, the initial structures, the mode, and how many structures may be
-/// listed; for each node the numbers of the edges that leave it.
+/// A program and a mode with their engine, the initial structures, and how many structures may be listed; for
+/// each node the numbers of the edges that leave it.
 #[derive(Clone, Copy)]
-pub(crate) struct Task<'a> {
+pub(crate) struct Task<'a, 'b> {
     pub alloc: Global,
     pub program: &'a Program,
-    pub closed: &'a Closed,
-    pub leaving: &'a [Numbers],
+    pub engine: &'b Engine<'a>,
+    pub leaving: &'b [Numbers],
     pub initial: &'a [Structure],
     pub mode: Mode,
     pub max: u64,

@@ -1,9 +1,9 @@
 //! The greatest values of messages so far.
 
-ghost use Rattle.std.specs.Prelude.{◌≡◌, ◌<◌, ◌≤◌, ◌+◌, ℕ, [], ◌++◌, length, replicate, slice_index_or, max, IfOk, OnOk};
+ghost use Rattle.std.specs.Prelude.{◌≡◌, ◌<◌, ◌≤◌, ◌+◌, ℕ, [], ◌++◌, length, replicate, slice_index_or, max, IfOk, OnOk, OnErr};
 ghost use Rattle.tv_kleene.specs.declared.K3.TheVariants.{No};
 ghost use Rattle.tv_kleene.specs.Kleene.{larger_of};
-ghost use Rattle.tv_work.specs.Told.{IsNoted, AreLines, AreLinesTo, line_of};
+ghost use Rattle.tv_work.specs.Told.{IsNoted, IsRaised, AreLines, AreLinesTo, line_of};
 
 use std::alloc::{AllocError, Global};
 use std::marker::Model;
@@ -12,11 +12,71 @@ use tv_listing::{MessageLine, MessageLines};
 use tv_model::Items;
 use tv_step::Values;
 
+/// The greatest values so far of the messages of one edge, by number; behind the last they are `No`.
+#[derive(Drop)]
+struct Row {
+    values: Vec<K3>,
+}
+
+impl Model for Row {
+    ghost use Rattle.std.specs.Prelude.{List};
+    ghost use Rattle.tv_kleene.specs.declared.K3.{K3};
+
+    ghost Value = { List K3 };
+
+    ghost view = { λ r. r.values.items };
+}
+
+impl Row {
+    /// No values; takes no memory.
+    fn new(alloc: Global) -> Row
+        ensures { result ≡ [] }
+    {
+        Row {
+            values: Vec::new(alloc),
+        }
+    }
+
+    /// The values by number.
+    fn as_slice(&self) -> &[K3]
+        ensures { result.now ≡ self.now }
+    {
+        self.values.as_slice()
+    }
+
+    /// Notes the value of one message beside that before; those of all messages before it stand.
+    fn raise(&mut self, number: usize, value: K3) -> Result<(), AllocError>
+        requires { number ≤ length self.old }
+        ensures raised { OnOk result (IsRaised number value self.old self.new) }
+        ensures count { OnOk result (length self.new ≡ max (number + 1) (length self.old)) }
+        ensures kept { OnErr result (self.new ≡ self.old) }
+    {
+        if number == self.values.len() {
+            self.values.push(value)?;
+            return Ok(());
+        }
+        self.values[number] = value.or(self.values[number]);
+        Ok(())
+    }
+
+    /// Notes the values of all messages beside those before.
+    fn note(&mut self, values: &[K3]) -> Result<(), AllocError>
+        ensures noted { OnOk result ((n : ℕ) → slice_index_or self.new n No
+            ≡ larger_of (slice_index_or values.now n No) (slice_index_or self.old n No)) }
+        ensures most { length self.new ≤ max (length values.now) (length self.old) }
+    {
+        for (number, value) in values.iter().enumerate() {
+            self.raise(number, *value)?;
+        }
+        Ok(())
+    }
+}
+
 /// For each edge the greatest value so far of each message of its action, by number; where there is none, it
 /// is `No`.
 #[derive(Drop)]
 pub struct Told {
-    rows: Vec<Values>,
+    rows: Vec<Row>,
 }
 
 impl Model for Told {
@@ -41,16 +101,14 @@ impl Told {
     }
 
     /// Notes the values of the messages of an edge beside those before.
-    pub fn note(&mut self, alloc: Global, edge: u32, values: &Values) -> Result<(), AllocError>
+    pub fn note(&mut self, edge: u32, values: &Values) -> Result<(), AllocError>
         requires edge { edge < length self.old }
         requires few { length values.now ≤ 65536 }
         ensures noted { OnOk result (IsNoted edge values.now self.old self.new) }
         ensures count { OnOk result (length self.new ≡ length self.old) }
     {
-        let before = self.rows[edge as usize].as_slice();
-        let row = larger_values(alloc, values.as_slice(), before)?;
-        self.rows[edge as usize] = row;
-        Ok(())
+        let row = &mut self.rows[edge as usize];
+        row.note(values.as_slice())
     }
 
     /// A line for each value that isn't `No`, in order of edge and number.
@@ -80,37 +138,14 @@ impl Told {
 }
 
 /// So many empty rows.
-fn no_rows(alloc: Global, count: usize) -> Result<Vec<Values>, AllocError>
+fn no_rows(alloc: Global, count: usize) -> Result<Vec<Row>, AllocError>
     ensures { IfOk result (λ rows. rows.items ≡ replicate count []) }
 {
     let mut rows = Vec::with_capacity(alloc, count)?;
     for _ in 0..count {
-        rows.push(Items::new(alloc))?;
+        rows.push(Row::new(alloc))?;
     }
     Ok(rows)
-}
-
-/// The larger value of two rows at each place.
-fn larger_values(alloc: Global, values: &[K3], before: &[K3]) -> Result<Values, AllocError>
-    ensures values { IfOk result (λ row. (n : ℕ) → slice_index_or row n No
-        ≡ larger_of (slice_index_or values.now n No) (slice_index_or before.now n No)) }
-    ensures count { IfOk result (λ row. length row ≡ max (length values.now) (length before.now)) }
-{
-    let mut row = Items::new(alloc);
-    for n in 0..values.len().max(before.len()) {
-        row.push(value_at(values, n).or(value_at(before, n)))?;
-    }
-    Ok(row)
-}
-
-/// The value at the place, `No` behind the last.
-fn value_at(values: &[K3], n: usize) -> K3
-    ensures { result ≡ slice_index_or values.now n No }
-{
-    match values.get(n) {
-        Some(value) => *value,
-        None => K3::No,
-    }
 }
 
 /// Puts a line for the value behind the others, unless it is `No`.

@@ -8,14 +8,23 @@ use Rattle.tv_join.specs.Rounds.{point}
 use Rattle.tv_join.specs.State.{IsIn}
 use Rattle.tv_join.specs.Task.{form_in, task_of}
 use Rattle.tv_join.proofs.Following.{follow-along, follow-gathers, stands-in, stands-source, step-fault}
-use Rattle.tv_join.proofs.Meeting.{listed-plain}
+use Rattle.tv_join.proofs.Meeting.{listed-plain, risen-or-stable}
 use Rattle.tv_join.proofs.follow.follow_edge.Goals as goal
 
-pub abstract_step-requires-clause-over : goal.abstract_step-requires-clause-over
-abstract_step-requires-clause-over c =
+pub step-requires-clause-edge : goal.step-requires-clause-edge
+step-requires-clause-edge c =
+    slice_get_within (form_in c.args.x.now).edges c.args.edge c.requires.edge.0 c.requires.edge.1
+
+pub step-requires-clause-over : goal.step-requires-clause-over
+step-requires-clause-over c =
     shaped-over c.args.x.now.program.now c.at-s.result.now
     (listed-plain (task_of c.args.x.now) c.args.joins.now c.requires.kept (point c.args.w.node c.at-s.result.now)
     (stands-in c.args.joins.now.nodes c.args.w c.at-s.result.now c.at-s.ensures)).shaped
+
+pub step-requires-clause-stable : goal.step-requires-clause-stable
+step-requires-clause-stable c =
+    risen-or-stable (task_of c.args.x.now) c.args.joins.now c.requires.kept c.args.w c.at-s.result.now c.at-s.ensures
+    c.has_risen.result c.has_risen.ensures
 
 pub keep-requires : goal.keep-requires
 keep-requires c =

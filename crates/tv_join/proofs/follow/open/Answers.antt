@@ -1,30 +1,59 @@
 use Rattle.std.proofs.Common.{◌∙◌, inl, inr, sym, subst, IfSome, IfNone}
+use Rattle.std.proofs.lemmas.List.Elements.{All-contains}
+use Rattle.tv_model.specs.Program.{ProgramForm, program_of}
+use Rattle.tv_step.specs.EngineForm.{EngineForm}
+use Rattle.tv_struct.specs.StructureForm.{IsOver}
 use Rattle.tv_transfer.specs.Settled.{IsSettled}
 use Rattle.tv_transfer.specs.Transfer.{IsOpening, HasNoOpening}
-use Rattle.tv_join.specs.Task.{form_in, task_of}
+use Rattle.tv_join.specs.Task.{task_of}
 use Rattle.tv_join.proofs.Following.{open-none, open-some}
 use Rattle.tv_join.proofs.follow.open.Goals as goal
 
+pub opening-requires-clause-over : goal.opening-requires-clause-over
+opening-requires-clause-over c =
+    rw c.requires.ready.engine
+    (All-contains (IsOver c.args.x.now.program.now.vocab) c.args.x.now.initial.now c.args.s.now
+    c.requires.ready.initial c.requires.initial)
+
+pub opening-requires-clause-scratch : goal.opening-requires-clause-scratch
+opening-requires-clause-scratch c = rw c.requires.ready.engine c.requires.ready.room
+
 pub returns-in-None-clause-openable : goal.returns-in-None-clause-openable
 returns-in-None-clause-openable c =
-    inl (subst (λ o. IfNone o (HasNoOpening (form_in c.args.x.now) c.args.s.now)) c.in-None.is c.in_ok-opening.ensures.none)
+    let s = c.args.s.now
+    in let own : ProgramForm = program_of c.args.x.now.engine.now.program
+    in inl
+    (subst (λ (e : EngineForm). HasNoOpening (program_of e.program) s) c.requires.ready.engine
+    (subst (λ o. IfNone o (HasNoOpening own s)) c.in-None.is c.in_ok-opening.ensures.none))
 
 pub returns-in-None-clause-found : goal.returns-in-None-clause-found
 returns-in-None-clause-found c =
-    open-none (task_of c.args.x.now) c.args.s.now c.args.found.now.items
-    (λ u is. sym c.in-None.is ∙ c.in_ok-opening.ensures.only u is)
+    let s = c.args.s.now
+    in open-none (task_of c.args.x.now) s c.args.found.now.items
+    (λ u opens. sym c.in-None.is
+    ∙ c.in_ok-opening.ensures.only u
+    (subst (λ (e : EngineForm). IsOpening (program_of e.program) s u) (sym c.requires.ready.engine) opens))
 
-pub returns-in_ok-push-in-Some-clause-openable : goal.returns-in_ok-push-in-Some-clause-openable
-returns-in_ok-push-in-Some-clause-openable c =
-    inr (
-      c.in-Some.structure,
-      subst (λ o. IfSome o (IsOpening (form_in c.args.x.now) c.args.s.now)) c.in-Some.is c.in_ok-opening.ensures.some,
-    )
-
-pub returns-in_ok-push-in-Some-clause-found : goal.returns-in_ok-push-in-Some-clause-found
-returns-in_ok-push-in-Some-clause-found c =
-    let p = form_in c.args.x.now
-    in open-some (task_of c.args.x.now) c.args.s.now c.in-Some.structure c.args.found.now.items c.push.new.self.items
-    (subst (λ o. IfSome o (IsOpening p c.args.s.now)) c.in-Some.is c.in_ok-opening.ensures.some)
-    (subst (λ o. IfSome o (IsSettled p)) c.in-Some.is c.in_ok-opening.ensures.settled)
-    (λ v is. sym c.in-Some.is ∙ c.in_ok-opening.ensures.only v is) c.in_ok-push-in-Some.ensures.items
+pub returns-in_ok-push-in-Some : goal.returns-in_ok-push-in-Some
+returns-in_ok-push-in-Some c =
+    let t = task_of c.args.x.now
+    in let p = t.program
+    in let s = c.args.s.now
+    in let u = c.in-Some.structure
+    in let own : ProgramForm = program_of c.args.x.now.engine.now.program
+    in let is = c.requires.ready.engine
+    in let opening : IsOpening p s u
+    = subst (λ (e : EngineForm). IsOpening (program_of e.program) s u) is
+    (subst (λ o. IfSome o (IsOpening own s)) c.in-Some.is c.in_ok-opening.ensures.some)
+    in let settled : IsSettled p u
+    = subst (λ (e : EngineForm). IsSettled (program_of e.program) u) is
+    (subst (λ o. IfSome o (IsSettled own)) c.in-Some.is c.in_ok-opening.ensures.settled)
+    in record {
+      openable = inr (u, opening);
+      found = open-some t s u c.args.found.now.items c.push.new.self.items opening settled
+          (λ v opens. sym c.in-Some.is
+          ∙ c.in_ok-opening.ensures.only v
+          (subst (λ (e : EngineForm). IsOpening (program_of e.program) s v) (sym is) opens))
+          c.in_ok-push-in-Some.ensures.items;
+      scratch = cc;
+    }

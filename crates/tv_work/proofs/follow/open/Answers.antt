@@ -1,8 +1,12 @@
-use Rattle.std.proofs.Common.{◌≡◌, ◌∙◌, ◌⊎◌, inr, sym, subst, IfSome}
-use Rattle.std.proofs.lemmas.Option.{same_Some}
+use Rattle.std.proofs.Common.{◌≡◌, ◌∙◌, ◌⊎◌, inl, inr, sym, subst, IfSome, IfNone}
+use Rattle.std.proofs.lemmas.List.Elements.{All-contains}
+use Rattle.std.proofs.lemmas.Option.{none-some, same_Some}
 use Rattle.std.proofs.lemmas.Result.{on_ok_weaker}
+use Rattle.tv_model.specs.Program.{ProgramForm, program_of}
+use Rattle.tv_step.specs.EngineForm.{EngineForm}
+use Rattle.tv_struct.specs.StructureForm.{IsOver}
 use Rattle.tv_transfer.specs.Settled.{IsSettled}
-use Rattle.tv_transfer.specs.Transfer.{IsOpening}
+use Rattle.tv_transfer.specs.Transfer.{HasNoOpening, IsOpening}
 use Rattle.tv_work.specs.Analysed.{IsMeetCause, IsWorkCause}
 use Rattle.tv_work.specs.Reach.{Point, IsListed}
 use Rattle.tv_work.specs.Task.{form_in, task_of, reached_in}
@@ -10,48 +14,69 @@ use Rattle.tv_work.proofs.Advancing.{start-node, open-reached, open-kept}
 use Rattle.tv_work.proofs.Causes.{ok-three, err-weaker, meet-cause}
 use Rattle.tv_work.proofs.follow.open.Goals as goal
 
+pub opening-requires-clause-over : goal.opening-requires-clause-over
+opening-requires-clause-over c =
+    rw c.requires.ready.engine
+    (All-contains (IsOver c.args.x.now.program.now.vocab) c.args.x.now.initial.now c.args.s.now
+    c.requires.ready.initial c.requires.initial)
+
+pub opening-requires-clause-scratch : goal.opening-requires-clause-scratch
+opening-requires-clause-scratch c = rw c.requires.ready.engine c.requires.ready.room
+
 pub meet-requires-clause-node : goal.meet-requires-clause-node
 meet-requires-clause-node c = rw c.requires.kept.nodes
     (start-node (form_in c.args.x.now) c.requires.ready.valid)
 
-pub returns-in-Some-clause-kept : goal.returns-in-Some-clause-kept
-returns-in-Some-clause-kept c =
-    let p = form_in c.args.x.now
-    in let opening = subst (λ o. IfSome o (IsOpening p c.args.s.now)) c.in-Some.is
-    c.in_ok-opening.ensures.some
-    in let settled = subst (λ o. IfSome o (IsSettled p)) c.in-Some.is c.in_ok-opening.ensures.settled
-    in ok-three c.meet.result
-    (open-kept (task_of c.args.x.now) c.args.s.now c.in-Some.t c.requires.initial opening settled
-    c.args.search.now c.meet.new.self
-    c.requires.kept)
-    c.meet.ensures.grows c.meet.ensures.only c.meet.ensures.within
+pub returns-in-None-clause-opened : goal.returns-in-None-clause-opened
+returns-in-None-clause-opened c =
+    let s = c.args.s.now
+    in let own : ProgramForm = program_of c.args.x.now.engine.now.program
+    in let is = c.requires.ready.engine
+    in record {
+      listed = λ u opens.
+          absurd (none-some u
+          (sym c.in-None.is
+          ∙ c.in_ok-opening.ensures.only u
+          (subst (λ (e : EngineForm). IsOpening (program_of e.program) s u) (sym is) opens)));
+      any = inl
+          (subst (λ (e : EngineForm). HasNoOpening (program_of e.program) s) is
+          (subst (λ o. IfNone o (HasNoOpening own s)) c.in-None.is c.in_ok-opening.ensures.none));
+    }
 
-pub returns-in-Some-clause-opened : goal.returns-in-Some-clause-opened
-returns-in-Some-clause-opened c =
-    let p = form_in c.args.x.now
-    in let opening = subst (λ o. IfSome o (IsOpening p c.args.s.now)) c.in-Some.is
-    c.in_ok-opening.ensures.some
-    in on_ok_weaker c.meet.result
-    (λ has. record {
-      listed = λ u is.
-          subst (λ v. IsListed c.meet.new.self.listing (record { node = 0; structure = v }))
-          (same_Some c.in-Some.t u (sym c.in-Some.is ∙ c.in_ok-opening.ensures.only u is)) has;
-      any = inr (c.in-Some.t, opening);
-    })
-    c.meet.ensures.has
-
-pub returns-in-Some-clause-cause : goal.returns-in-Some-clause-cause
-returns-in-Some-clause-cause c =
-    let p = form_in c.args.x.now
-    in let t = task_of c.args.x.now
-    in let opening = subst (λ o. IfSome o (IsOpening p c.args.s.now)) c.in-Some.is
-    c.in_ok-opening.ensures.some
-    in let settled = subst (λ o. IfSome o (IsSettled p)) c.in-Some.is c.in_ok-opening.ensures.settled
-    in let P : Point → Type 0 = λ x. IsListed c.args.search.now.listing x
-    ⊎ (x ≡ record { node = 0; structure = c.in-Some.t })
-    in err-weaker c.meet.result (IsMeetCause c.args.x.now.max P)
-    (IsWorkCause p c.args.x.now.max (reached_in t))
-    (meet-cause p c.args.x.now.max P (reached_in t)
-    (open-reached t c.args.s.now c.in-Some.t c.requires.initial opening settled c.args.search.now
-    c.requires.kept))
-    c.meet.ensures.cause
+pub returns-in-Some : goal.returns-in-Some
+returns-in-Some c =
+    let t = task_of c.args.x.now
+    in let p = t.program
+    in let s = c.args.s.now
+    in let u = c.in-Some.t
+    in let old = c.args.search.now
+    in let new = c.meet.new.self
+    in let own : ProgramForm = program_of c.args.x.now.engine.now.program
+    in let is = c.requires.ready.engine
+    in let opening : IsOpening p s u
+    = subst (λ (e : EngineForm). IsOpening (program_of e.program) s u) is
+    (subst (λ o. IfSome o (IsOpening own s)) c.in-Some.is c.in_ok-opening.ensures.some)
+    in let settled : IsSettled p u
+    = subst (λ (e : EngineForm). IsSettled (program_of e.program) u) is
+    (subst (λ o. IfSome o (IsSettled own)) c.in-Some.is c.in_ok-opening.ensures.settled)
+    in let P : Point → Type 0 = λ x. IsListed old.listing x ⊎ (x ≡ record { node = 0; structure = u })
+    in record {
+      kept = ok-three c.meet.result (open-kept t s u c.requires.initial opening settled old new c.requires.kept)
+          c.meet.ensures.grows c.meet.ensures.only c.meet.ensures.within;
+      grows = c.meet.ensures.grows;
+      opened = on_ok_weaker c.meet.result
+          (λ has. record {
+            listed = λ v opens.
+                subst (λ r. IsListed new.listing (record { node = 0; structure = r }))
+                (same_Some u v
+                (sym c.in-Some.is
+                ∙ c.in_ok-opening.ensures.only v
+                (subst (λ (e : EngineForm). IsOpening (program_of e.program) s v) (sym is) opens))) has;
+            any = inr (u, opening);
+          })
+          c.meet.ensures.has;
+      cause = err-weaker c.meet.result (IsMeetCause t.max P) (IsWorkCause p t.max (reached_in t))
+          (meet-cause p t.max P (reached_in t) (open-reached t s u c.requires.initial opening settled old c.requires.kept))
+          c.meet.ensures.cause;
+      scratch = cc;
+    }
