@@ -20,7 +20,7 @@ use Rattle.tv_judge.specs.Index.{line_at, line_for, NotesLine, IsLineIndex, is_s
 
 -- ---- conjunctions of tests
 
-both-true : (a b : Bool) → (a && b) ≡ true → (a ≡ true) × (b ≡ true)
+pub both-true : (a b : Bool) → (a && b) ≡ true → (a ≡ true) × (b ≡ true)
 both-true true true e = (refl, refl)
 both-true true false e = absurd cc
 both-true false b e = absurd cc

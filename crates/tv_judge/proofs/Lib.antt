@@ -5,5 +5,6 @@ pub mod Orders
 pub mod Passing
 pub mod Progressing
 pub mod Reports
+pub mod StableLaws
 pub mod Stopping
 pub mod Verdicts

@@ -1,3 +1,4 @@
+pub mod Found
 pub mod Index
 pub mod Items
 pub mod Judged

@@ -3,8 +3,6 @@ use Rattle.std.specs.Prelude.{◌≡◌, ◌<◌, ◌^◌, length, All}
 use Rattle.tv_listing.specs.Listed.{IsListing}
 use Rattle.tv_model.specs.Program.{ProgramForm, program_of}
 use Rattle.tv_model.specs.Valid.{IsValid}
-use Rattle.tv_rules.specs.Closing.{closed_rules}
-use Rattle.tv_rules.specs.EntryForms.{rules_of}
 use Rattle.tv_struct.specs.StructureForm.{IsOver}
 use Rattle.tv_judge.specs.Index.{IsLineIndex, IsMessageIndex}
 use Rattle.tv_judge.specs.Judged.{Case}
@@ -25,7 +23,7 @@ pub record IsReady (x : Setting) : Type 0 where
   pub initial : All (IsOver x.program.now.vocab) x.initial.now
   pub few : length x.initial.now < 2 ^ 32
   pub listing : IsListing x.program.now x.analysis.now.listing
-  pub rules : rules_of x.closed.now ≡ closed_rules (form_in x)
+  pub engine : x.engine.now ≡ record { program = x.program.now; mode = x.mode }
   pub lines : IsLineIndex x.lines.now.entries x.analysis.now.maps
   pub said : IsMessageIndex x.said.now.keys x.analysis.now.messages
   pub targets : x.targets.now ≡ x.analysis.now.listing

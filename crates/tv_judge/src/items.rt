@@ -8,14 +8,16 @@ ghost use Rattle.tv_transfer.specs.Closed.{IsCovered};
 ghost use Rattle.tv_targets.specs.Covers.{IsFirstCover};
 ghost use Rattle.tv_judge.specs.Items.{Covers, IsMet};
 ghost use Rattle.tv_judge.specs.Judged.{IsThere, place_of, Covering};
-ghost use Rattle.tv_judge.specs.Progress.{IsDoneTo, IsLineFor, IsStop, behind, rejection_for};
+ghost use Rattle.tv_judge.specs.Found.{IsStableIn, IsTestedTo};
+ghost use Rattle.tv_judge.specs.Progress.{IsLineFor, IsStop, behind, rejection_for};
 ghost use Rattle.tv_judge.specs.Setting.{IsReady, case_in, form_in};
 
+use crate::found::{Found, note_stable};
 use crate::index::line_of;
 use crate::setting::{Setting, Stop};
 use std::alloc::{AllocError, Global};
 use tv_embed::check_map;
-use tv_listing::{Item, Listing, MapLine, MapLines, Rejection};
+use tv_listing::{Item, Listing, MapLine, Rejection};
 use tv_struct::{Numbers, Structure};
 
 /// Whether the line's map embeds `s` in the structure of the node that the line names.
@@ -98,26 +100,28 @@ fn rejection_of(item: Item) -> Rejection
     }
 }
 
-/// Tests the item whose structure is `s`, and puts its line behind the others.
+/// Tests the item whose structure is `s`, which is stable, and puts its line behind the others.
 pub fn test_item(
     x: &Setting,
     item: Item,
     node: u32,
     s: &Structure,
-    maps: &mut MapLines,
+    found: &mut Found,
 ) -> Result<(), Stop>
     requires ready { IsReady x.now }
     requires node { node < length x.now.analysis.now.listing }
     requires over { arities_of s.now ≡ program_arities (form_in x.now) }
+    requires stable { IsStableIn (case_in x.now) s.now }
     requires there { IsThere (case_in x.now) item s.now (at_node x.now.analysis.now.listing node) }
-    requires so_far { IsDoneTo (case_in x.now) (place_of (Covering item)) maps.old }
-    ensures next { OnOk result (IsDoneTo (case_in x.now) (behind item) maps.new) }
+    requires so_far { IsTestedTo (case_in x.now) (place_of (Covering item)) found.old }
+    ensures next { OnOk result (IsTestedTo (case_in x.now) (behind item) found.new) }
     ensures stop { IfErr result (IsStop (case_in x.now)) }
 {
     match owed_line(x, item, node, s)? {
         None => Err(Stop::Rejected(rejection_of(item))),
         Some(line) => {
-            maps.push(line)?;
+            note_stable(x, node, s, found)?;
+            found.maps.push(line)?;
             Ok(())
         }
     }

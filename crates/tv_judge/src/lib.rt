@@ -1,6 +1,7 @@
 //! The checker: whether a report on a program is closed under the abstract steps of all that it lists.
 #![tactic(auto)]
 
+mod found;
 mod index;
 mod items;
 mod laws;

@@ -5,20 +5,26 @@ ghost use Rattle.tv_kleene.specs.declared.K3.TheVariants.{No};
 ghost use Rattle.tv_eval.specs.ScratchForm.{IsMadeFor};
 ghost use Rattle.tv_listing.specs.ListingForm.{at_node};
 ghost use Rattle.tv_model.specs.Valid.{program_arities};
-ghost use Rattle.tv_struct.specs.StructureForm.{arities_of};
+ghost use Rattle.tv_struct.specs.StructureForm.{IsOver, arities_of};
+ghost use Rattle.tv_transfer.specs.Budgets.{IsStepCause, KeepsBudgets};
 ghost use Rattle.tv_transfer.specs.Closed.{HasLine};
+ghost use Rattle.tv_transfer.specs.Settled.{IsSettled};
+ghost use Rattle.tv_transfer.specs.Transfer.{AreMessageValues, AreResults, HasNoOpening, IsOpening};
 ghost use Rattle.tv_judge.specs.Judged.{IsRejection};
+ghost use Rattle.tv_judge.specs.Found.{IsStableIn, IsTestedTo};
 ghost use Rattle.tv_judge.specs.Progress.{AreResultsAt, AreSaidBelow, AreValuesAt, IsDoneTo, IsFirstUnsaid, IsStop};
 ghost use Rattle.tv_judge.specs.Setting.{IsReady, case_in, form_in};
 
+use crate::found::Found;
 use crate::items::test_item;
 use crate::setting::{Setting, Stop};
+use std::alloc::AllocError;
 use tv_eval::Scratch;
 use tv_kleene::K3;
 use tv_listing::{Item, MapLines, Rejection};
 use tv_model::{Edge, Program};
-use tv_step::{abstract_step, opening};
-use tv_struct::Structure;
+use tv_step::StepOut;
+use tv_struct::{StageError, Structure};
 
 /// A listed structure, by an edge and its place among those of the edge's source, and the edge's target.
 #[derive(Clone, Copy)]
@@ -28,39 +34,56 @@ pub struct Source {
     pub to: u32,
 }
 
+/// The opening of a structure, if it has one.
+fn opening_of(
+    x: &Setting,
+    s: &Structure,
+    scratch: &mut Scratch,
+) -> Result<Option<Structure>, AllocError>
+    requires ready { IsReady x.now }
+    requires over { IsOver x.now.program.now.vocab s.now }
+    requires room { IsMadeFor (form_in x.now) 256 scratch.old }
+    ensures some { IfOk result (λ found. IfSome found (IsOpening (form_in x.now) s.now)) }
+    ensures none { IfOk result (λ found. IfNone found (HasNoOpening (form_in x.now) s.now)) }
+    ensures settled { IfOk result (λ found. IfSome found (IsSettled (form_in x.now))) }
+    ensures scratch { scratch.new ≡ scratch.old }
+{
+    x.engine.opening(s, scratch)
+}
+
 /// Tests the opening of the initial structure of this number.
 fn test_opening(
     x: &Setting,
     number: u32,
     scratch: &mut Scratch,
-    maps: &mut MapLines,
+    found: &mut Found,
 ) -> Result<(), Stop>
     requires ready { IsReady x.now }
     requires number { number < length x.now.initial.now }
     requires room { IsMadeFor (form_in x.now) 256 scratch.old }
-    requires so_far { IsDoneTo (case_in x.now) (0 ∷ number ∷ []) maps.old }
-    ensures next { OnOk result (IsDoneTo (case_in x.now) (0 ∷ (number + 1) ∷ []) maps.new) }
+    requires so_far { IsTestedTo (case_in x.now) (0 ∷ number ∷ []) found.old }
+    ensures next { OnOk result (IsTestedTo (case_in x.now) (0 ∷ (number + 1) ∷ []) found.new) }
     ensures stop { IfErr result (IsStop (case_in x.now)) }
     ensures scratch { scratch.new ≡ scratch.old }
 {
     let s = &x.initial.as_slice()[number as usize];
-    match opening(x.alloc, x.program, x.closed, s, scratch)? {
+    match opening_of(x, s, scratch)? {
         None => Ok(()),
-        Some(t) => test_item(x, Item::Initial(number), 0, &t, maps),
+        Some(t) => test_item(x, Item::Initial(number), 0, &t, found),
     }
 }
 
 /// Tests the openings of all initial structures.
-fn test_openings(x: &Setting, scratch: &mut Scratch, maps: &mut MapLines) -> Result<(), Stop>
+fn test_openings(x: &Setting, scratch: &mut Scratch, found: &mut Found) -> Result<(), Stop>
     requires ready { IsReady x.now }
     requires room { IsMadeFor (form_in x.now) 256 scratch.old }
-    requires so_far { IsDoneTo (case_in x.now) (0 ∷ 0 ∷ []) maps.old }
-    ensures next { OnOk result (IsDoneTo (case_in x.now) (1 ∷ 0 ∷ []) maps.new) }
+    requires so_far { IsTestedTo (case_in x.now) (0 ∷ 0 ∷ []) found.old }
+    ensures next { OnOk result (IsTestedTo (case_in x.now) (1 ∷ 0 ∷ []) found.new) }
     ensures stop { IfErr result (IsStop (case_in x.now)) }
     ensures scratch { scratch.new ≡ scratch.old }
 {
     for number in 0..x.initial.len() {
-        test_opening(x, number as u32, scratch, maps)?;
+        test_opening(x, number as u32, scratch, found)?;
     }
     Ok(())
 }
@@ -70,14 +93,15 @@ fn test_results(
     x: &Setting,
     at: Source,
     results: &[Structure],
-    maps: &mut MapLines,
+    found: &mut Found,
 ) -> Result<(), Stop>
     requires ready { IsReady x.now }
     requires results { AreResultsAt (case_in x.now) at.edge at.structure at.to results.now }
     requires over { All (λ s. arities_of s ≡ program_arities (form_in x.now)) results.now }
+    requires stable { All (IsStableIn (case_in x.now)) results.now }
     requires node { at.to < length x.now.analysis.now.listing }
-    requires so_far { IsDoneTo (case_in x.now) (1 ∷ at.edge ∷ at.structure ∷ 1 ∷ 0 ∷ []) maps.old }
-    ensures next { OnOk result (IsDoneTo (case_in x.now) (1 ∷ at.edge ∷ at.structure ∷ 2 ∷ 0 ∷ []) maps.new) }
+    requires so_far { IsTestedTo (case_in x.now) (1 ∷ at.edge ∷ at.structure ∷ 1 ∷ 0 ∷ []) found.old }
+    ensures next { OnOk result (IsTestedTo (case_in x.now) (1 ∷ at.edge ∷ at.structure ∷ 2 ∷ 0 ∷ []) found.new) }
     ensures stop { IfErr result (IsStop (case_in x.now)) }
 {
     for result in 0..results.len() {
@@ -86,7 +110,7 @@ fn test_results(
             structure: at.structure,
             result: result as u64,
         };
-        test_item(x, item, at.to, &results[result], maps)?;
+        test_item(x, item, at.to, &results[result], found)?;
     }
     Ok(())
 }
@@ -125,6 +149,33 @@ fn first_unsaid(x: &Setting, at: Source, values: &[K3]) -> Option<u32>
     None
 }
 
+/// The step of a structure along the edge: one that is known to be stable needs no coerce to begin with.
+fn step_of(
+    x: &Setting,
+    edge: u32,
+    from: &Structure,
+    is_stable: bool,
+    scratch: &mut Scratch,
+) -> Result<StepOut, StageError>
+    requires ready { IsReady x.now }
+    requires edge { edge < length x.now.program.now.edges }
+    requires over { IsOver x.now.program.now.vocab from.now }
+    requires stable { IsTrue is_stable → IsStableIn (case_in x.now) from.now }
+    requires room { IsMadeFor (form_in x.now) 256 scratch.old }
+    ensures results { IfOk result (λ out. AreResults (form_in x.now) x.now.mode edge from.now out.results) }
+    ensures values { IfOk result (λ out. AreMessageValues (form_in x.now) edge from.now out.messages) }
+    ensures settled { IfOk result (λ out. All (IsSettled (form_in x.now)) out.results) }
+    ensures budgets { OnOk result (KeepsBudgets (form_in x.now) edge from.now) }
+    ensures cause { IfErr result (IsStepCause (form_in x.now) edge from.now) }
+    ensures scratch { scratch.new ≡ scratch.old }
+{
+    if is_stable {
+        x.engine.stable_step(edge, from, scratch)
+    } else {
+        x.engine.step(edge, from, scratch)
+    }
+}
+
 /// Tests the step of the listed structure of this place along the edge, its results and its messages.
 fn test_step(
     x: &Setting,
@@ -132,25 +183,26 @@ fn test_step(
     taken: Edge,
     structure: u32,
     scratch: &mut Scratch,
-    maps: &mut MapLines,
+    found: &mut Found,
 ) -> Result<(), Stop>
     requires ready { IsReady x.now }
     requires edge { slice_get x.now.program.now.edges edge ≡ Some taken }
     requires structure { structure < length (at_node x.now.analysis.now.listing taken.from) }
     requires room { IsMadeFor (form_in x.now) 256 scratch.old }
-    requires so_far { IsDoneTo (case_in x.now) (1 ∷ edge ∷ structure ∷ []) maps.old }
-    ensures next { OnOk result (IsDoneTo (case_in x.now) (1 ∷ edge ∷ (structure + 1) ∷ []) maps.new) }
+    requires so_far { IsTestedTo (case_in x.now) (1 ∷ edge ∷ structure ∷ []) found.old }
+    ensures next { OnOk result (IsTestedTo (case_in x.now) (1 ∷ edge ∷ (structure + 1) ∷ []) found.new) }
     ensures stop { IfErr result (IsStop (case_in x.now)) }
     ensures scratch { scratch.new ≡ scratch.old }
 {
     let from = x.analysis.listing.at(taken.from, structure as usize);
-    let out = abstract_step(x.alloc, x.program, x.closed, edge, x.mode, from, scratch)?;
+    let is_stable = found.is_stable(taken.from, structure);
+    let out = step_of(x, edge, from, is_stable, scratch)?;
     let at = Source {
         edge,
         structure,
         to: taken.to,
     };
-    test_results(x, at, out.results.as_slice(), maps)?;
+    test_results(x, at, out.results.as_slice(), found)?;
     match first_unsaid(x, at, out.messages.as_slice()) {
         None => Ok(()),
         Some(number) => Err(Stop::Rejected(Rejection::Message { edge, number })),
@@ -166,18 +218,18 @@ fn edge_at(program: &Program, edge: u32) -> Edge
 }
 
 /// Tests the steps of all listed structures along the edge.
-fn test_edge(x: &Setting, edge: u32, scratch: &mut Scratch, maps: &mut MapLines) -> Result<(), Stop>
+fn test_edge(x: &Setting, edge: u32, scratch: &mut Scratch, found: &mut Found) -> Result<(), Stop>
     requires ready { IsReady x.now }
     requires edge { edge < length x.now.program.now.edges }
     requires room { IsMadeFor (form_in x.now) 256 scratch.old }
-    requires so_far { IsDoneTo (case_in x.now) (1 ∷ edge ∷ []) maps.old }
-    ensures next { OnOk result (IsDoneTo (case_in x.now) (1 ∷ (edge + 1) ∷ []) maps.new) }
+    requires so_far { IsTestedTo (case_in x.now) (1 ∷ edge ∷ []) found.old }
+    ensures next { OnOk result (IsTestedTo (case_in x.now) (1 ∷ (edge + 1) ∷ []) found.new) }
     ensures stop { IfErr result (IsStop (case_in x.now)) }
     ensures scratch { scratch.new ≡ scratch.old }
 {
     let taken = edge_at(x.program, edge);
     for structure in 0..x.analysis.listing.count(taken.from) {
-        test_step(x, edge, taken, structure as u32, scratch, maps)?;
+        test_step(x, edge, taken, structure as u32, scratch, found)?;
     }
     Ok(())
 }
@@ -189,10 +241,11 @@ pub fn test_report(x: &Setting, scratch: &mut Scratch) -> Result<MapLines, Stop>
     ensures done { IfOk result (IsDoneTo (case_in x.now) (2 ∷ [])) }
     ensures stop { IfErr result (IsStop (case_in x.now)) }
 {
-    let mut maps = MapLines::new(x.alloc);
-    test_openings(x, scratch, &mut maps)?;
+    let mut found = Found::new(x.alloc);
+    test_openings(x, scratch, &mut found)?;
     for edge in 0..x.program.edges.len() {
-        test_edge(x, edge as u32, scratch, &mut maps)?;
+        test_edge(x, edge as u32, scratch, &mut found)?;
     }
+    let Found { maps, stable: _ } = found;
     Ok(maps)
 }

@@ -9,14 +9,14 @@ ghost use Rattle.tv_judge.specs.Judged.{IsJudgeCause};
 ghost use Rattle.tv_judge.specs.Progress.{IsDoneTo, IsStop};
 ghost use Rattle.tv_judge.specs.Verdicts.{case_of, IsVerdict, OnceAccepted, IsSound};
 
-use crate::index::{lines_by_item, said_in};
+use crate::index::{lines_by_item, places_by_signature, said_in};
 use crate::setting::{Setting, Stop};
 use crate::steps::test_report;
 use std::alloc::Global;
 use tv_eval::Scratch;
 use tv_listing::{Analysis, MapLines, Rejection};
 use tv_model::{Mode, Program};
-use tv_rules::close_rules;
+use tv_step::Engine;
 use tv_struct::{StageError, Structures};
 use tv_targets::all_targets;
 
@@ -43,20 +43,23 @@ fn tested<'a>(
     ensures done { IfOk result (IsDoneTo (case_of program.now mode initial.now analysis.now) (2 ∷ [])) }
     ensures stop { IfErr result (IsStop (case_of program.now mode initial.now analysis.now)) }
 {
-    let closed = close_rules(alloc, program)?;
+    let engine = Engine::new(alloc, program, mode)?;
     let mut scratch = Scratch::new(alloc, program, 256)?;
     let lines = lines_by_item(alloc, analysis.maps.as_slice())?;
     let said = said_in(alloc, analysis.messages.as_slice())?;
-    let targets = all_targets(alloc, &analysis.listing, program.nodes.len())?;
+    let nodes = program.nodes.len();
+    let places = places_by_signature(alloc, &analysis.listing, nodes)?;
+    let targets = all_targets(alloc, &analysis.listing, nodes)?;
     let x = Setting {
         alloc,
         program,
         mode,
         initial,
         analysis,
-        closed: &closed,
+        engine: &engine,
         lines: &lines,
         said: &said,
+        places: &places,
         targets: targets.as_slice(),
     };
     test_report(&x, &mut scratch)

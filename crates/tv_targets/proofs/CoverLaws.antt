@@ -1,31 +1,47 @@
 -- The first cover among places in ascending order.
-use Rattle.std.proofs.Common.{ℕ, ◌≡◌, ◌<◌, ◌≤◌, ◌+◌, ◌⊎◌, inl, inr, List, length, get_or, refl, sym, ap, subst, ◌∙◌, arith}
-use Rattle.std.specs.Prelude.{All, Any, Contains, Option, None, Some, Result, Ok, Err, IfOk, OnOk, IfNone, slice_get}
+use Rattle.std.proofs.Common.{ℕ, ◌≡◌, ◌<◌, ◌≤◌, ◌+◌, ◌⊎◌, inl, inr, List, length, get_or, map, refl, sym, ap, subst, ◌∙◌, arith}
+use Rattle.std.specs.Prelude.{All, Any, Contains, IsTrue, Option, None, Some, Result, Ok, Err, IfOk, OnOk, IfNone, slice_get}
+use Rattle.std.specs.List.{range_with_len}
 use Rattle.std.specs.List.Sorted.{IsNonDecreasing}
+use Rattle.std.proofs.lemmas.Cmp.{tied_itself}
 use Rattle.std.proofs.lemmas.Bool.{cases_lt}
 use Rattle.std.proofs.lemmas.List.{get_or_default}
 use Rattle.std.proofs.lemmas.Option.{slice_get_within, slice_get-get_or, get_or_from_slice_get}
+use Rattle.std.specs.Cmp.Lexicographic.{slice_cmp, nat_list_cmp_total}
+use Rattle.std.specs.Ordering.{nat_cmp, is_le}
+use Rattle.tv_embed.specs.Maps.{IsEmbedding, IsLeastEmbedding}
+use Rattle.tv_embed.proofs.SearchLaws.{embedding-list}
 use Rattle.tv_frame.specs.Embedding.{IsEmbedded}
 use Rattle.tv_struct.specs.StructureForm.{StructureForm, arities_of, structure_of}
 use Rattle.tv_targets.specs.Covers.{IsFirstCover, IsCoverAt, HasNoCoverAt, HasCoversAmong}
-use Rattle.tv_targets.specs.Indexed.{AreIndexed}
-use Rattle.tv_targets.specs.Glance.{glance_of, clouded}
+use Rattle.tv_targets.specs.Indexed.{AreIndexed, glances_of}
+use Rattle.tv_targets.specs.Glance.{GlanceForm, glance_of, glance_number, MayEmbed, IsOnlyMap}
 use Rattle.tv_targets.specs.Noted.{noted_for}
 use Rattle.tv_targets.specs.declared.noted.Noted.{Noted}
 use Rattle.tv_kleene.specs.declared.K3.{K3}
+use Rattle.tv_targets.proofs.GlanceLaws.{may-embed, same-map}
 use Rattle.tv_targets.proofs.NotedLaws.{found-place}
 
 pub all-at : {X : Type 0} (P : X → Type 0) (xs : List X) (i : ℕ) (x : X) → All P xs → slice_get xs i ≡ Some x → P x
 all-at P xs i x all e = subst P (get_or_from_slice_get xs i x x e) (all i x (slice_get_within xs i x e))
 
-pub covers-among : (noted : Noted) (targets : List StructureForm) (s : StructureForm) (places : List ℕ)
-    → All (λ t. arities_of s ≡ arities_of t) targets → AreIndexed noted targets
-    → ((halves : List K3) → Contains noted.halves.items halves → length (glance_of s) ≡ length halves → (place : ℕ)
-    → Contains (noted_for noted (clouded (glance_of s) halves)) place → Contains places place)
+pub covers-among : (noted : Noted) (targets : List StructureForm) (s : StructureForm)
+    (glance : GlanceForm) (places : List ℕ) → glance ≡ glance_of s
+    → All (λ t. arities_of s ≡ arities_of t) targets → AreIndexed noted (glances_of targets)
+    → ((known : List K3) → Contains noted.known.items known → length known ≡ length glance.nullary → (place : ℕ)
+    → Contains (noted_for noted (glance_number known glance)) place → Contains places place)
     → HasCoversAmong targets s places
-covers-among noted targets s places alike indexed each place t listed embedded =
-    found-place noted targets s places indexed each place t listed
+covers-among noted targets s glance places is alike indexed each place t listed embedded =
+    let Each : GlanceForm → Type 0 = λ g. (known : List K3) → Contains noted.known.items known
+    → length known ≡ length g.nullary → (at : ℕ) → Contains (noted_for noted (glance_number known g)) at → Contains places at
+    in found-place noted targets s places indexed (subst Each is each) place t listed
     (all-at (λ x. arities_of s ≡ arities_of x) targets place t alike listed) embedded
+
+-- what says nothing that lies under what the other says doesn't embed in it
+pub none-under : (s t : StructureForm) (below above : GlanceForm) → below ≡ glance_of s → above ≡ glance_of t
+    → arities_of s ≡ arities_of t → ¬ MayEmbed below above → ¬ IsEmbedded (structure_of s) (structure_of t)
+none-under s t below above is same alike never embedded =
+    never (subst (λ g. MayEmbed g above) (sym is) (subst (MayEmbed (glance_of s)) (sym same) (may-embed s t alike embedded)))
 
 -- no target at the first n places covers s
 pub AreTried : (targets : List StructureForm) → StructureForm → (places : List ℕ) → (n : ℕ) → Type 0
@@ -89,6 +105,23 @@ tried-all targets s places n among all tried (p, t, within, at, embedded) =
     from (k, lt, is) =
         subst (HasNoCoverAt targets s) (get_or_default places k 0 p lt ∙ is) (tried k (omega (arith, lt, all)) lt) t listed
         embedded
+
+-- ---- where one map alone may be an embedding
+
+le-same : (xs ys : List ℕ) → xs ≡ ys → IsTrue (is_le (slice_cmp nat_cmp xs ys))
+le-same xs ys e = rw e (rw (tied_itself nat_list_cmp_total ys) refl)
+
+pub only-least : (s t : StructureForm) (images : List ℕ) → arities_of s ≡ arities_of t
+    → IsOnlyMap (glance_of s) (glance_of t) images → IsEmbedding s t images → IsLeastEmbedding s t images
+only-least s t images same only embeds =
+    (embeds, λ other e. le-same images other (sym (same-map s t images other same only e)))
+
+pub only-none : (s t : StructureForm) (images : List ℕ) → arities_of s ≡ arities_of t
+    → IsOnlyMap (glance_of s) (glance_of t) images → ¬ IsEmbedding s t images → ¬ IsEmbedded (structure_of s) (structure_of t)
+only-none s t images same only never (f, e) =
+    let list : List ℕ = map f (range_with_len 0 s.size)
+    in let is : IsEmbedding s t list = embedding-list s t f e
+    in never (subst (IsEmbedding s t) (same-map s t images list same only is) is)
 
 -- past the end no target covers
 pub none-past : (targets : List StructureForm) (s : StructureForm) (place : ℕ) → length targets ≤ place

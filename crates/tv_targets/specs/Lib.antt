@@ -1,4 +1,5 @@
 pub mod Covers
 pub mod Glance
 pub mod Indexed
+pub mod Listed
 pub mod Noted

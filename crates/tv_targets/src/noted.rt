@@ -5,25 +5,24 @@ ghost use Rattle.std.specs.Ordering.{nat_cmp};
 ghost use Rattle.std.specs.BTreeMap.{get};
 ghost use Rattle.std.specs.List.Sorted.{IsNonDecreasing};
 ghost use Rattle.tv_kleene.specs.declared.K3.{K3};
-ghost use Rattle.tv_row.specs.Mixed.{row_mixed};
-ghost use Rattle.tv_targets.specs.Glance.{clouded, halves_in};
+ghost use Rattle.tv_targets.specs.Glance.{glance_number};
 ghost use Rattle.tv_targets.specs.Noted.{IsNoted, Notes, noted_for};
 
-use crate::glance::{clouded, halves_in};
+use crate::glance::Glance;
 use std::alloc::{AllocError, Global};
 use std::cmp::Ordering;
 use std::collections::BTreeMap;
 use tv_model::Items;
 use tv_row::Row;
 
-/// Places, by the number that equal glances share.
+/// Places, by the number for what is said at a glance.
 pub type Places = BTreeMap<u64, Items<usize>>;
 
-/// Places of structures by what these say at a glance, and where in glances `Half` stands: each row of
-/// such halves once.
+/// Places of structures by what these say at a glance, and of which predicates that was known: each row of
+/// known predicates once.
 #[derive(Drop)]
 pub struct Noted {
-    pub halves: Vec<Row>,
+    pub known: Vec<Row>,
     pub places: Places,
 }
 
@@ -62,7 +61,8 @@ fn is_same(row: &Row, other: &Row) -> bool
     }
 }
 
-fn has_row(rows: &[Row], row: &Row) -> bool
+/// Whether the row is among these.
+pub fn has_row(rows: &[Row], row: &Row) -> bool
     ensures { IsTrue result → Contains rows.now row.now }
 {
     for other in rows {
@@ -98,48 +98,50 @@ impl Noted {
     /// No places; takes no memory.
     pub fn new(alloc: Global) -> Noted {
         Noted {
-            halves: Vec::new(alloc),
+            known: Vec::new(alloc),
             places: BTreeMap::new(alloc),
         }
     }
 
     /// Notes the place of a structure that says this at a glance.
-    pub fn add(&mut self, alloc: Global, glance: &Row, place: usize) -> Result<(), AllocError>
+    pub fn add(&mut self, alloc: Global, glance: &Glance, place: usize) -> Result<(), AllocError>
         ensures { OnOk result (Notes self.old self.new glance.now place) }
     {
-        add_row(&mut self.halves, halves_in(glance))?;
-        note(alloc, &mut self.places, glance.mix(0), place)
+        let known = glance.known();
+        add_row(&mut self.known, known)?;
+        note(alloc, &mut self.places, glance.number(&known), place)
     }
 
-    /// Puts behind the others the places of structures that say the same at a glance but for these halves.
-    fn add_clouded(
+    /// Puts behind the others the places of structures that say the same at a glance of these predicates.
+    fn add_alike(
         &self,
         found: &mut Vec<usize>,
-        glance: &Row,
-        halves: &Row,
+        glance: &Glance,
+        known: &Row,
     ) -> Result<(), AllocError>
         ensures kept { OnOk result ((place : ℕ) → Contains found.old.items place → Contains found.new.items place) }
-        ensures added { OnOk result (length glance.now ≡ length halves.now → (place : ℕ)
-            → Contains (noted_for self.now (clouded glance.now halves.now)) place → Contains found.new.items place) }
+        ensures added { OnOk result (length known.now ≡ length glance.now.nullary → (place : ℕ)
+            → Contains (noted_for self.now (glance_number known.now glance.now)) place
+            → Contains found.new.items place) }
     {
-        if glance.size() != halves.size() {
+        if known.size() != glance.pred_count() {
             return Ok(());
         }
-        let number = clouded(glance, halves).mix(0);
-        add_places(found, places_at(&self.places, number))?;
+        add_places(found, places_at(&self.places, glance.number(known)))?;
         Ok(())
     }
 
-    /// The places of structures that say the same at a glance, but for some halves, in ascending order.
-    pub fn places(&self, alloc: Global, glance: &Row) -> Result<Vec<usize>, AllocError>
-        ensures each { IfOk result (λ found. (halves : List K3) → Contains self.now.halves.items halves
-            → length glance.now ≡ length halves → (place : ℕ)
-            → Contains (noted_for self.now (clouded glance.now halves)) place → Contains found.items place) }
+    /// The places of structures that say the same at a glance of the predicates that are known in them, in
+    /// ascending order.
+    pub fn places(&self, alloc: Global, glance: &Glance) -> Result<Vec<usize>, AllocError>
+        ensures each { IfOk result (λ found. (known : List K3) → Contains self.now.known.items known
+            → length known ≡ length glance.now.nullary → (place : ℕ)
+            → Contains (noted_for self.now (glance_number known glance.now)) place → Contains found.items place) }
         ensures order { IfOk result (λ found. IsNonDecreasing found.items) }
     {
         let mut found = Vec::new(alloc);
-        for halves in self.halves.as_slice() {
-            self.add_clouded(&mut found, glance, halves)?;
+        for known in self.known.as_slice() {
+            self.add_alike(&mut found, glance, known)?;
         }
         found.sort_unstable();
         Ok(found)

@@ -1,10 +1,10 @@
 use Rattle.std.proofs.Common.{◌≡◌, ◌∷◌, []}
-use Rattle.tv_judge.specs.Progress.{IsDoneTo}
+use Rattle.tv_judge.specs.Found.{IsTestedTo}
 use Rattle.tv_judge.specs.Setting.{case_in}
 use Rattle.tv_judge.proofs.steps.test_edge.Given as goal
 
 abbrev pub invariant-loop-structure : goal.invariant-loop-structure
 invariant-loop-structure l = record {
-  done : IsDoneTo (case_in l.x) (1 ∷ l.edge ∷ l.structure ∷ []) l.maps;
+  done : IsTestedTo (case_in l.x) (1 ∷ l.edge ∷ l.structure ∷ []) l.found;
   scratch : l.scratch ≡ l.fn.scratch;
 }

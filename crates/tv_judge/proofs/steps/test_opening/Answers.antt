@@ -18,16 +18,19 @@ test_item-requires-clause-there c = record {
       c.index-as_slice-number.result c.as_slice.ensures
       c.index-as_slice-number.is c.requires.number;
   opening = subst (λ o. IfSome o (IsOpening (form_in c.args.x.now) c.index-as_slice-number.result))
-      c.in-Some.is c.in_ok-opening.ensures.some;
+      c.in-Some.is c.in_ok-opening_of.ensures.some;
   targets_are = refl;
 }
 
 pub returns-in-None-clause-next : goal.returns-in-None-clause-next
-returns-in-None-clause-next c =
-    none-passes (case_in c.args.x.now) c.args.maps.now c.args.number c.index-as_slice-number.result
-    (index-at c.args.x.now.initial.now c.as_slice.result.now c.args.number c.index-as_slice-number.result
-    c.as_slice.ensures
-    c.index-as_slice-number.is c.requires.number)
-    (subst (λ o. IfNone o (HasNoOpening (form_in c.args.x.now) c.index-as_slice-number.result)) c.in-None.is
-    c.in_ok-opening.ensures.none)
-    c.requires.so_far
+returns-in-None-clause-next c = record {
+  done =
+      none-passes (case_in c.args.x.now) c.args.found.now.maps c.args.number c.index-as_slice-number.result
+      (index-at c.args.x.now.initial.now c.as_slice.result.now c.args.number c.index-as_slice-number.result
+      c.as_slice.ensures
+      c.index-as_slice-number.is c.requires.number)
+      (subst (λ o. IfNone o (HasNoOpening (form_in c.args.x.now) c.index-as_slice-number.result)) c.in-None.is
+      c.in_ok-opening_of.ensures.none)
+      c.requires.so_far.done;
+  stable = c.requires.so_far.stable;
+}

@@ -4,7 +4,10 @@ use Rattle.tv_judge.proofs.Passing.{initials-pass}
 use Rattle.tv_judge.proofs.steps.test_openings.Goals as goal
 
 pub returns-clause-next : goal.returns-clause-next
-returns-clause-next c =
-    initials-pass (case_in c.args.x.now) c.loop-number.maps c.loop-number.number
-    (subst (λ n. n ≤ c.loop-number.number) c.len-number-end.ensures c.loop-number-test.false)
-    c.loop-number.invariant.done
+returns-clause-next c = record {
+  done =
+      initials-pass (case_in c.args.x.now) c.loop-number.found.maps c.loop-number.number
+      (subst (λ n. n ≤ c.loop-number.number) c.len-number-end.ensures c.loop-number-test.false)
+      c.loop-number.invariant.done.done;
+  stable = c.loop-number.invariant.done.stable;
+}

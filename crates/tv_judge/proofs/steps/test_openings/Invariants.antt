@@ -1,10 +1,10 @@
 use Rattle.std.proofs.Common.{◌≡◌, ◌∷◌, []}
-use Rattle.tv_judge.specs.Progress.{IsDoneTo}
+use Rattle.tv_judge.specs.Found.{IsTestedTo}
 use Rattle.tv_judge.specs.Setting.{case_in}
 use Rattle.tv_judge.proofs.steps.test_openings.Given as goal
 
 abbrev pub invariant-loop-number : goal.invariant-loop-number
 invariant-loop-number l = record {
-  done : IsDoneTo (case_in l.x) (0 ∷ l.number ∷ []) l.maps;
+  done : IsTestedTo (case_in l.x) (0 ∷ l.number ∷ []) l.found;
   scratch : l.scratch ≡ l.fn.scratch;
 }

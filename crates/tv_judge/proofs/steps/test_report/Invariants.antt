@@ -1,10 +1,10 @@
 use Rattle.std.proofs.Common.{◌≡◌, ◌∷◌, []}
-use Rattle.tv_judge.specs.Progress.{IsDoneTo}
+use Rattle.tv_judge.specs.Found.{IsTestedTo}
 use Rattle.tv_judge.specs.Setting.{case_in}
 use Rattle.tv_judge.proofs.steps.test_report.Given as goal
 
 abbrev pub invariant-loop-edge : goal.invariant-loop-edge
 invariant-loop-edge l = record {
-  done : IsDoneTo (case_in l.x) (1 ∷ l.edge ∷ []) l.maps;
+  done : IsTestedTo (case_in l.x) (1 ∷ l.edge ∷ []) l.found;
   scratch : l.scratch ≡ l.fn.scratch;
 }

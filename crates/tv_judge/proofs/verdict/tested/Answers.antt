@@ -9,17 +9,17 @@ test_report-requires-clause-ready c = record {
   initial = c.requires.initial;
   few = c.requires.few;
   listing = c.requires.listing;
-  rules = c.in_ok-closed.ensures.rules;
+  engine = c.in_ok-engine.ensures;
   lines = subst (IsLineIndex c.in_ok-lines.lines.entries) c.as_slice.ensures c.in_ok-lines.ensures;
   said = subst (IsMessageIndex c.in_ok-said.said.keys) c.as_slice-2.ensures c.in_ok-said.ensures;
   targets = c.as_slice-3.ensures.value ∙ c.in_ok-targets.ensures;
 }
 
 pub all_targets-requires-clause-nodes : goal.all_targets-requires-clause-nodes
-all_targets-requires-clause-nodes c = c.len.ensures ∙ sym c.requires.listing.nodes
+all_targets-requires-clause-nodes c = c.len-nodes.ensures ∙ sym c.requires.listing.nodes
 
 pub all_targets-requires-clause-few : goal.all_targets-requires-clause-few
-all_targets-requires-clause-few c = omega (arith, c.len.ensures, c.requires.valid.node_count)
+all_targets-requires-clause-few c = omega (arith, c.len-nodes.ensures, c.requires.valid.node_count)
 
 pub returns-in_err-targets-clause-stop : goal.returns-in_err-targets-clause-stop
 returns-in_err-targets-clause-stop c =

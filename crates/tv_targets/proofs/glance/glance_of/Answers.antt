@@ -1,13 +1,12 @@
-use Rattle.std.proofs.Common.{arith}
-use Rattle.tv_targets.proofs.GlanceLaws.{glance-more, glance-all}
+use Rattle.tv_targets.proofs.GlanceLaws.{profiles-more, same-lengths}
 use Rattle.tv_targets.proofs.glance.glance_of.Goals as goal
 
-pub loop-p-preserved : goal.loop-p-preserved
-loop-p-preserved c =
-    glance-more c.args.s.now c.loop-p.p c.loop-p.glance c.set.new.self c.value_at_a_glance.result c.loop-p.invariant
-    (omega (arith, c.loop-p.invariant.long, c.loop-p-test.true)) c.set.ensures c.value_at_a_glance.ensures
+pub loop-u-preserved : goal.loop-u-preserved
+loop-u-preserved c =
+    profiles-more c.args.s.now c.loop-u.u c.loop-u.unary.items c.push.new.self.items c.profile_near.result c.loop-u.invariant
+    c.in_ok-push.ensures.items c.profile_near.ensures
 
-pub returns : goal.returns
-returns c =
-    glance-all c.args.s.now c.loop-p.p c.loop-p.glance c.loop-p.invariant
-    (omega (arith, c.loop-p.invariant.long, c.loop-p-test.false))
+pub invariant_of-result : goal.invariant_of-result
+invariant_of-result c =
+    same-lengths c.args.s.now c.loop-u.u c.loop-u.unary.items c.nullary_profile-nullary.result c.loop-u.invariant
+    c.nullary_profile-nullary.ensures

@@ -5,9 +5,9 @@ use Rattle.tv_targets.proofs.noted.Noted.add.Goals as goal
 
 pub returns : goal.returns
 returns c =
-    let new : Noted = record { halves = c.add_row.new.rows; places = c.note.new.places }
+    let new : Noted = record { known = c.add_row.new.rows; places = c.note.new.places }
     in on_ok c.note.result
     (λ all.
-    notes c.args.self.now new c.args.glance.now c.args.place c.in_ok-add_row.ensures.kept
-    (rw c.halves_in.ensures at c.in_ok-add_row.ensures.added) all)
-    (rw c.mix.ensures at c.note.ensures)
+    notes c.args.self.now new c.args.glance.now c.known-known.result c.number.result c.args.place
+    c.in_ok-add_row.ensures.kept c.in_ok-add_row.ensures.added c.known-known.ensures c.number.ensures all)
+    c.note.ensures

@@ -1,5 +1,5 @@
 use Rattle.tv_targets.proofs.NotedLaws.{AreLookedUp}
 use Rattle.tv_targets.proofs.noted.Noted.places.Given as goal
 
-abbrev pub invariant-loop-halves : goal.invariant-loop-halves
-invariant-loop-halves l = AreLookedUp l.self l.glance l.halves-index l.found.items
+abbrev pub invariant-loop-known : goal.invariant-loop-known
+invariant-loop-known l = AreLookedUp l.self l.glance l.known-index l.found.items
