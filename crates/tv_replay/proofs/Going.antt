@@ -9,9 +9,10 @@ use Rattle.tv_model.specs.Valid.{IsValid}
 use Rattle.tv_model.specs.declared.program.Program.{Program}
 use Rattle.tv_model.proofs.Lists.{map-compose}
 use Rattle.tv_replayed.specs.Runs.{ShowsGivenRun, ShowsRecomputedRun}
+use Rattle.tv_replayed.proofs.OneEnding.{goes-through, starts-at}
 use Rattle.tv_replayed.proofs.Shown.{replays_show_runs}
 use Rattle.tv_replayed.specs.States.{AreNextStates, IsFirstState, IsNextState, IsReplay, standing}
-use Rattle.tv_replayed.specs.Stuck.{Fails, GoesThrough, IsCause, Taken, last_of}
+use Rattle.tv_replayed.specs.Stuck.{Fails, GoesThrough, IsCause, Taken, last_of, start_at}
 use Rattle.tv_replayed.specs.declared.state.ReplayError.{ReplayError}
 use Rattle.tv_replayed.specs.declared.state.ReplayError.TheVariants as error
 use Rattle.tv_replayed.specs.declared.state.State.{State}
@@ -40,13 +41,6 @@ last-at first [] zero d long = refl
 last-at first [] (suc n) d long = absurd (omega (arith, long))
 last-at first (x ∷ later) zero d long = absurd (omega (arith, long))
 last-at first (x ∷ later) (suc n) d long = last-at x later n d (omega (arith, long))
-
-goes-through : (p : ProgramForm) (listing : List (List StructureForm)) (before : State) (moves : List Move) (later : List State)
-    → AreNextStates p listing before moves later → GoesThrough p (standing before) moves (map standing later)
-goes-through p listing before [] [] are = tt
-goes-through p listing before [] (y ∷ later) are = absurd are
-goes-through p listing before (n ∷ moves) [] are = absurd are
-goes-through p listing before (n ∷ moves) (y ∷ later) are = (are.0.moves, goes-through p listing y moves later are.1)
 
 last-standing : (before : State) (later : List State) → last_of (standing before) (map standing later) ≡ standing (last_state before later)
 last-standing before [] = refl
@@ -122,7 +116,7 @@ module _ (judge : Judge) (initial : List StructureForm) (start : StructureForm) 
         in let number : step - 1 ≡ n = let number_is = fault.1 in omega (arith, number_is)
         in record {
           before = map standing so.later;
-          through = subst (λ k. GoesThrough (program_in judge) (record { node = 0; heap = start }) (take k moves) (map standing so.later)) (sym number)
+          through = subst (λ k. GoesThrough (program_in judge) (start_at start) (take k moves) (map standing so.later)) (sym number)
               (subst (λ at. GoesThrough (program_in judge) at (take n moves) (map standing so.later)) start-is
               (goes-through (program_in judge) judge.listing.now so.first (take n moves) so.later so.goes_on));
           move = m;
@@ -134,9 +128,8 @@ module _ (judge : Judge) (initial : List StructureForm) (start : StructureForm) 
               fails.1;
         }
       where
-        start-is : standing so.first ≡ record { node = 0; heap = start }
-        start-is =
-            ap (λ (k : ℕ). record { node = k; heap = so.first.heap }) so.begins.node ∙ ap (λ (h : StructureForm). record { node = 0; heap = h }) so.begins.heap
+        start-is : standing so.first ≡ start_at start
+        start-is = starts-at (program_in judge) initial start judge.listing.now so.first so.begins
 
 -- a replay shows runs
 pub shows : (program : Program) → IsValid (program_of program) → (initial : List StructureForm) (start : StructureForm) → IsStructure start

@@ -50,8 +50,8 @@ moved-at judge scratch can move before at m made = record {
   there = subst (λ n. n < length judge.program.now.nodes) (sym made.moves.node)
       (All-contains (IsEdge (program_in judge)) (program_in judge).edges made.moves.taken.edge can.valid.edges
       (slice_get-contains (program_in judge).edges move.edge made.moves.taken.edge made.moves.taken.its_edge)).1;
-  structure = made.is;
-  over = made.over ∙ at.over;
+  structure = made.moves.next.structure;
+  over = made.moves.next.over ∙ at.over;
   two_valued = made.moves.next.two_valued;
   unmarked = made.moves.unmarked;
 }

@@ -6,7 +6,7 @@ use Rattle.tv_model.specs.Program.{ProgramForm, ActionForm, UpdateForm, CFree}
 use Rattle.tv_model.specs.Rules.{blank}
 use Rattle.tv_model.specs.Step.{Keeps, StepsThrough, update_for, with_new}
 use Rattle.tv_model.specs.Truth.{Assignment, put_all}
-use Rattle.tv_struct.specs.StructureForm.{StructureForm, value_at}
+use Rattle.tv_struct.specs.StructureForm.{StructureForm, IsStructure, arities_of, value_at}
 use Rattle.tv_struct.specs.TableForm.{AreIndividuals}
 use Rattle.tv_two_valued.specs.TwoValued.{IsTwoValued, heap_of}
 use Rattle.tv_renamed.specs.Renamed.{renamed}
@@ -41,11 +41,13 @@ HasGiven action (Some values) new =
     (q : ℕ) → IsFreelyUpdated action q → (tuple : List ℕ) → AreIndividuals new.size tuple
     → value_at new q tuple ≡ value_at values q tuple
 
--- new is what the action makes of s by the chosen individuals and the given values: the step of the model, from the heap
--- of s to that of new, in which individual k is named as the k-th kept individual
+-- new is what the action makes of s by the chosen individuals and the given values: a structure over the same predicates,
+-- and the step of the model, from the heap of s to that of new, in which individual k is named as the k-th kept individual
 pub record IsNext (p : ProgramForm) (action : ActionForm) (chosen : List ℕ) (values : Option StructureForm)
     (s new : StructureForm) (kept : List ℕ) : Type 0 where
   pub are_kept : AreKept action (picked_by action.picks chosen) s kept
+  pub structure : IsStructure new
+  pub over : arities_of new ≡ arities_of s
   pub size : new.size ≡ length kept
   pub two_valued : IsTwoValued new
   pub steps : StepsThrough p action (picked_by action.picks chosen) (heap_of s) (middle_of action.fresh s)

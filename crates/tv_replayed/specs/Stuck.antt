@@ -18,6 +18,10 @@ pub record Standing : Type 0 where
   pub node : ℕ
   pub heap : StructureForm
 
+-- a run starts with its heap at the start node
+abbrev pub start_at : StructureForm → Standing
+start_at start = record { node = 0; heap = start }
+
 -- the edge of a move, and the edge's action
 pub record Taken (p : ProgramForm) (move : Move) : Type 0 where
   pub edge : Edge
@@ -96,12 +100,12 @@ last_of at (next ∷ later) = last_of next later
 -- the moves before the step of that number, counted from 1, can be made, and its own can't, for that reason
 pub record IsStuck (p : ProgramForm) (start : StructureForm) (moves : List Move) (step : ℕ) (why : Why) : Type 0 where
   pub before : List Standing
-  pub through : GoesThrough p (record { node = 0; heap = start }) (take (step - 1) moves) before
+  pub through : GoesThrough p (start_at start) (take (step - 1) moves) before
   pub move : Move
   pub there : slice_get moves (step - 1) ≡ Some move
   pub counted : 0 < step
   pub taken : Taken p move
-  pub fails : Fails (last_of (record { node = 0; heap = start }) before) move taken why
+  pub fails : Fails (last_of (start_at start) before) move taken why
 
 -- why there are no states
 abbrev pub IsCause : ProgramForm → StructureForm → List Move → ReplayError → Type 0

@@ -1,9 +1,8 @@
 -- The individuals that a step keeps.
-use Rattle.std.proofs.Common.{ℕ, ◌≡◌, ◌<◌, ◌+◌, ◌↔◌, ◌⊎◌, Bool, true, false, List, [], ◌∷◌, get_or, filter, Option, Some, None, inl, inr, ⊎_elim, refl, sym, ap, subst, ◌∙◌, arith, Contains, AllPairs, suc}
+use Rattle.std.proofs.Common.{ℕ, ◌≡◌, ◌<◌, ◌+◌, ◌↔◌, ◌⊎◌, Bool, true, false, List, [], ◌∷◌, get_or, filter, Option, Some, None, inl, inr, refl, sym, ap, subst, ◌∙◌, arith, Contains, AllPairs}
 use Rattle.std.specs.List.{range_with_len}
 use Rattle.std.proofs.lemmas.Bool.{cases_eq, false≢true}
 use Rattle.std.proofs.lemmas.List.FromFn.{length-range_with_len, get_or-range_with_len}
-use Rattle.std.proofs.lemmas.List.Elements.{All-contains}
 use Rattle.std.proofs.lemmas.List.Kept.{AllPairs-filter}
 use Rattle.tv_applied.specs.Applied.{keep_value}
 use Rattle.tv_applied.specs.Choices.{choices_of, stays_in, with_choice}
@@ -19,48 +18,14 @@ use Rattle.tv_model.specs.Step.{Keeps}
 use Rattle.tv_model.specs.Truth.{Assignment, put}
 use Rattle.tv_model.specs.Valid.{IsAction, IsRetain}
 use Rattle.tv_model.proofs.Assignments.{put-same, put-other}
-use Rattle.tv_model.proofs.Lists.{Contains-here, Contains-there, Contains-none, Contains-cases, Contains-filter, Contains-filter_back, pushed-old}
+use Rattle.tv_model.proofs.Lists.{Contains-here, Contains-there, Contains-cases, Contains-filter, Contains-filter_back, pushed-old}
 use Rattle.tv_replayed.specs.Next.{AreKept, middle_of}
+use Rattle.tv_replayed.proofs.OneStep.{ascending-same}
 use Rattle.tv_struct.specs.StructureForm.{StructureForm, IsStructure, structure_of}
 use Rattle.tv_struct.proofs.Library.{Contains-range, below-range}
 use Rattle.tv_two_valued.specs.TwoValued.{IsTwoValued, heap_of, is_yes}
 use Rattle.tv_stepping.specs.Updated.{kept_of}
 use Rattle.tv_stepping.proofs.Middle.{Tells, middle-tells, middle-alike}
-
--- ---- ascending lists with the same members are one
-
-head-below : (x : ℕ) (xs : List ℕ) → AllPairs ◌<◌ (x ∷ xs) → (u : ℕ) → Contains xs u → x < u
-head-below x xs ascending u at =
-    All-contains (λ w. x < w) xs u (λ i d lt. ascending 0 (suc i) d (omega arith) (omega (arith, lt))) at
-
-tail-ascending : (x : ℕ) (xs : List ℕ) → AllPairs ◌<◌ (x ∷ xs) → AllPairs ◌<◌ xs
-tail-ascending x xs ascending i j d lt within = ascending (suc i) (suc j) d (omega (arith, lt)) (omega (arith, within))
-
-pub ascending-same : (xs ys : List ℕ) → AllPairs ◌<◌ xs → AllPairs ◌<◌ ys → ((u : ℕ) → Contains xs u ↔ Contains ys u) → xs ≡ ys
-ascending-same [] [] one two same = refl
-ascending-same [] (y ∷ ys) one two same = absurd (Contains-none y ((same y).1 (Contains-here y ys)))
-ascending-same (x ∷ xs) [] one two same = absurd (Contains-none x ((same x).0 (Contains-here x xs)))
-ascending-same (x ∷ xs) (y ∷ ys) one two same =
-    ap (λ w. w ∷ xs) heads
-    ∙ ap (λ ws. y ∷ ws) (ascending-same xs ys (tail-ascending x xs one) (tail-ascending y ys two) (λ u. (forth u, back u)))
-  where
-    heads : x ≡ y
-    heads =
-        ⊎_elim (λ e. sym e)
-        (λ later. ⊎_elim (λ e. e)
-        (λ after. let a : y < x = head-below y ys two x later in let b : x < y = head-below x xs one y after in absurd (omega (arith, a, b)))
-        (Contains-cases x y xs ((same y).1 (Contains-here y ys))))
-        (Contains-cases y x ys ((same x).0 (Contains-here x xs)))
-
-    forth : (u : ℕ) → Contains xs u → Contains ys u
-    forth u at =
-        ⊎_elim (λ e. let lt : x < u = head-below x xs one u at in absurd (omega (arith, lt, heads, e))) (λ later. later)
-        (Contains-cases y u ys ((same u).0 (Contains-there x u xs at)))
-
-    back : (u : ℕ) → Contains ys u → Contains xs u
-    back u at =
-        ⊎_elim (λ e. let lt : y < u = head-below y ys two u at in absurd (omega (arith, lt, heads, e))) (λ later. later)
-        (Contains-cases x u xs ((same u).1 (Contains-there y u ys at)))
 
 range-ascending : (n : ℕ) → AllPairs ◌<◌ (range_with_len 0 n)
 range-ascending n i j d lt within =

@@ -295,14 +295,14 @@ module _ (turn : Turn) (s : StructureForm) (move : Move) (room : ScratchForm) (n
 
   pub moved : (x : Moved) → Turns turn s move x → IsMoved (program_in turn) move at x
   moved x made = record {
-    is = made.acted.is;
-    over = made.acted.over;
     moves = record {
       taken = taken;
       can = record { leaves = leaves; picks = made.picks; enabled = made.enabled; room = made.room; values = made.acted.has_values };
       kept = made.acted.kept;
       next = record {
         are_kept = made.acted.are_kept;
+        structure = made.acted.is;
+        over = made.acted.over;
         size = made.acted.size;
         two_valued = made.acted.two_valued;
         steps = made.acted.steps;

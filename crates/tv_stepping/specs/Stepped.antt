@@ -1,5 +1,5 @@
 -- What a move leads to, and why it can't be made.
-use Rattle.std.specs.Prelude.{ℕ, ◌≡◌, Option, ⊤}
+use Rattle.std.specs.Prelude.{ℕ, Option, ⊤}
 use Rattle.std.specs.Option.{option_map}
 use Rattle.tv_model.specs.Program.{ProgramForm}
 use Rattle.tv_renamed.specs.Renamed.{renamed}
@@ -9,7 +9,6 @@ use Rattle.tv_replayed.specs.Stuck.{Fails, Moves, Standing, Taken}
 use Rattle.tv_stepping.specs.declared.moved.Halt.{Halt}
 use Rattle.tv_stepping.specs.declared.moved.Halt.TheVariants.{Memory, Stuck}
 use Rattle.tv_stepping.specs.declared.moved.Moved.{Moved}
-use Rattle.tv_struct.specs.StructureForm.{IsStructure, arities_of}
 use Rattle.tv_trace.specs.declared.trace.Move.{Move}
 use Rattle.tv_two_valued.specs.TwoValued.{heap_of}
 
@@ -21,11 +20,8 @@ standing_of x = record { node = x.node; heap = x.heap }
 abbrev pub broken_by : Moved → Option ℕ
 broken_by x = option_map (λ p. p.0) x.broken
 
--- the move is made, this is where it leads, to a heap over the same predicates, and the first given update that isn't so at
--- it
+-- the move is made, this is where it leads, and the first given update that isn't so at it
 pub record IsMoved (p : ProgramForm) (move : Move) (at : Standing) (x : Moved) : Type 0 where
-  pub is : IsStructure x.heap
-  pub over : arities_of x.heap ≡ arities_of at.heap
   pub moves : Moves p move at (standing_of x)
   pub broken : IsFirst p.preds
       (AgreesAt moves.taken.action (picked_by moves.taken.action.picks move.picks) (middle_of moves.taken.action.fresh at.heap)

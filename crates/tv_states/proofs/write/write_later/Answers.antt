@@ -1,4 +1,4 @@
-use Rattle.std.proofs.Common.{arith, ap}
+use Rattle.std.proofs.Common.{arith}
 use Rattle.tv_states.proofs.Later.{one_more}
 use Rattle.tv_states.proofs.write.write_later.Goals as goal
 
