@@ -1,5 +1,5 @@
 -- What files give, from what reading them gives.
-use Rattle.std.proofs.Common.{◌≡◌, ℕ, ◌<◌, List, Option, None, Some, Result, Ok, Err, refl}
+use Rattle.std.proofs.Common.{ℕ, ◌<◌, List, Option, None, Some, Result, Ok, Err, refl}
 use Rattle.std.specs.Prelude.{length}
 use Rattle.tv_lex.specs.Gather.{Gathers, GatherCause}
 use Rattle.tv_lex.specs.declared.gatherer.GatherError.{GatherError}
@@ -52,14 +52,7 @@ pub too_long : (told : Option Held) (name : List ℕ) (limit : ℕ) (its_role : 
     → IsFileCause its_role (λ k. HoldsSuch told name (λ text. Means text k)) lacks rose steady fault
 too_long told name limit its_role Means lacks rose steady (Refused its kind.TooLong) f h =
     (h.0, such_also told name (λ bytes. limit < length bytes) (λ text. Means text kind.TooLong) f h.1)
-too_long told name limit its_role Means lacks rose steady (Refused its (kind.Gathering e)) f h = absurd h.1
-too_long told name limit its_role Means lacks rose steady (Refused its (kind.Lexing e)) f h = absurd h.1
-too_long told name limit its_role Means lacks rose steady (Refused its (kind.Program e)) f h = absurd h.1
-too_long told name limit its_role Means lacks rose steady (Refused its (kind.Structures e)) f h = absurd h.1
-too_long told name limit its_role Means lacks rose steady (Refused its (kind.ReportForm place)) f h = absurd h.1
-too_long told name limit its_role Means lacks rose steady (Refused its kind.NotHeap) f h = absurd h.1
-too_long told name limit its_role Means lacks rose steady (Refused its (kind.TraceForm place)) f h = absurd h.1
-too_long told name limit its_role Means lacks rose steady (Refused its (kind.Source e)) f h = absurd h.1
+too_long told name limit its_role Means lacks rose steady (Refused its other) f h = absurd h.1
 too_long told name limit its_role Means lacks rose steady NotRead f h = h
 too_long told name limit its_role Means lacks rose steady Memory f h = tt
 
@@ -78,25 +71,15 @@ pub not_gathered : (told : Option Held) (name : List ℕ) (e : GatherError) (ste
     → GatherCause e told name steady old new
     → IsFileCause role.Program (λ k. IsProgramFile told name (Err k)) (LacksFile told name) (Rose old new) steady (fault_of_gathering e)
 not_gathered told name gathering.Failed steady old new h = h
-not_gathered told name gathering.TooLong steady old new h = (refl, h)
-not_gathered told name gathering.Unended steady old new h = (refl, h)
-not_gathered told name gathering.IncludeForm steady old new h = (refl, h)
-not_gathered told name gathering.IncludeDepth steady old new h = (refl, h)
 not_gathered told name gathering.Memory steady old new h = tt
+not_gathered told name other steady old new h = (refl, h)
 
 -- a program whose gathered text means none
 pub gathered_refused : (told : Option Held) (name text : List ℕ) (lacks rose steady : Type 0) (fault : TextFault)
     → Gathers told name (Ok text) → IsTextCause role.Program (λ k. MeansProgram text (Err k)) fault
     → IsFileCause role.Program (λ k. IsProgramFile told name (Err k)) lacks rose steady fault
-gathered_refused told name text lacks rose steady (Refused its kind.TooLong) gathers h = absurd h.1
-gathered_refused told name text lacks rose steady (Refused its (kind.Gathering e)) gathers h = absurd h.1
-gathered_refused told name text lacks rose steady (Refused its (kind.Lexing e)) gathers h = absurd h.1
 gathered_refused told name text lacks rose steady (Refused its (kind.Program e)) gathers h = (h.0, (text, gathers, h.1))
-gathered_refused told name text lacks rose steady (Refused its (kind.Structures e)) gathers h = absurd h.1
-gathered_refused told name text lacks rose steady (Refused its (kind.ReportForm place)) gathers h = absurd h.1
-gathered_refused told name text lacks rose steady (Refused its kind.NotHeap) gathers h = absurd h.1
-gathered_refused told name text lacks rose steady (Refused its (kind.TraceForm place)) gathers h = absurd h.1
-gathered_refused told name text lacks rose steady (Refused its (kind.Source e)) gathers h = absurd h.1
+gathered_refused told name text lacks rose steady (Refused its other) gathers h = absurd h.1
 gathered_refused told name text lacks rose steady NotRead gathers h = absurd h.0
 gathered_refused told name text lacks rose steady Memory gathers h = tt
 

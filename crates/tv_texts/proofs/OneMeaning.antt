@@ -24,7 +24,7 @@ use Rattle.tv_status.specs.declared.status.FileKind.TheVariants as kind
 use Rattle.tv_struct.specs.StructureForm.{StructureForm}
 use Rattle.tv_texts.proofs.Counts.{same_ok}
 use Rattle.tv_texts.specs.Agreement.{Agree, GiveOne, SameProgram, placeless, at_start}
-use Rattle.tv_texts.specs.Meaning.{HasTokens, IsUnlexed, IsNoInitial, IsNoSource, AreOneHeap, MeansProgram, MeansInitial, MeansStart, MeansMoves, MeansReport, MeansSource}
+use Rattle.tv_texts.specs.Meaning.{IsUnlexed, IsNoInitial, IsNoSource, AreOneHeap, MeansProgram, MeansInitial, MeansStart, MeansMoves, MeansReport, MeansSource}
 use Rattle.tv_trace.specs.Meaning.{MeansTrace, IsNoTrace}
 use Rattle.tv_trace.specs.declared.trace.Trace.{Trace}
 use Rattle.tv_tvs.specs.Grammar.{AreStructs}
@@ -51,15 +51,8 @@ same_err d e h = ap (refused_with d) h
 -- a refusal of a program is one of the front end
 refusal_of : (text : List ℕ) (k : FileKind) → MeansProgram text (Err k)
     → (fault : ProgramFault) × (k ≡ kind.Program fault) × IsRefused text fault
-refusal_of text kind.TooLong h = absurd h
-refusal_of text (kind.Gathering e) h = absurd h
-refusal_of text (kind.Lexing e) h = absurd h
 refusal_of text (kind.Program fault) h = (fault, refl, h.0)
-refusal_of text (kind.Structures e) h = absurd h
-refusal_of text (kind.ReportForm place) h = absurd h
-refusal_of text kind.NotHeap h = absurd h
-refusal_of text (kind.TraceForm place) h = absurd h
-refusal_of text (kind.Source e) h = absurd h
+refusal_of text other h = absurd h
 
 module _
     (one : (text : List ℕ) (p q : ProgramForm) → Means text p → Means text q → p ≡ q)
@@ -133,40 +126,23 @@ initial_view : (p : Program) (text : List ℕ) (a : Result (List StructureForm) 
 unfolding OfStructs
 initial_view p text (Ok ss) h = inr (h.0, inr (h.1.0, h.1.1, h.1.2))
 initial_view p text (Err kind.TooLong) h = inl (h, refl)
-initial_view p text (Err (kind.Gathering e)) h = absurd h
 initial_view p text (Err (kind.Lexing e)) h = inr (h.0, inl (e, unlexed_reads text e h.1, refl))
-initial_view p text (Err (kind.Program f)) h = absurd h
 initial_view p text (Err (kind.Structures e)) h = inr (h.0, inr (h.1.0, h.1.1, h.1.2))
-initial_view p text (Err (kind.ReportForm place)) h = absurd h
-initial_view p text (Err kind.NotHeap) h = absurd h
-initial_view p text (Err (kind.TraceForm place)) h = absurd h
-initial_view p text (Err (kind.Source e)) h = absurd h
+initial_view p text (Err other) h = absurd h
 
 -- the refusal is one of the tokens as structures, or of what they mean
 refusal_view : (vocab : Vocab) (text : List ℕ) (tokens : List Token) (e : TvsError) (ts : List SpecToken)
     → IsNoInitial vocab text e tokens ts
     → (IsNoText ts × (at_start e ≡ at_start (refusal.Syntax (record { line = 1; column = 1 })))) ⊎ MeansStructs vocab ts (Err e)
 refusal_view vocab text tokens (refusal.Syntax place) ts h = inl (h.0, refl)
-refusal_view vocab text tokens refusal.IndividualUnknown ts h = inr h
-refusal_view vocab text tokens refusal.IndividualTwice ts h = inr h
-refusal_view vocab text tokens refusal.NameUnknown ts h = inr h
-refusal_view vocab text tokens refusal.ArityWrong ts h = inr h
-refusal_view vocab text tokens refusal.BadSm ts h = inr h
-refusal_view vocab text tokens refusal.TooManyIndividuals ts h = inr h
 refusal_view vocab text tokens refusal.Memory ts h = absurd h
+refusal_view vocab text tokens other ts h = inr h
 
 refused_structs : (vocab : Vocab) (text : List ℕ) (tokens : List Token) (k : FileKind) → OfStructs vocab text tokens (Err k)
     → (e : TvsError) × (k ≡ kind.Structures e) × IsNoInitial vocab text e tokens (spec_tokens text tokens)
 unfolding OfStructs
-refused_structs vocab text tokens kind.TooLong h = absurd h
-refused_structs vocab text tokens (kind.Gathering e) h = absurd h
-refused_structs vocab text tokens (kind.Lexing e) h = absurd h
-refused_structs vocab text tokens (kind.Program f) h = absurd h
 refused_structs vocab text tokens (kind.Structures e) h = (e, refl, h)
-refused_structs vocab text tokens (kind.ReportForm place) h = absurd h
-refused_structs vocab text tokens kind.NotHeap h = absurd h
-refused_structs vocab text tokens (kind.TraceForm place) h = absurd h
-refused_structs vocab text tokens (kind.Source e) h = absurd h
+refused_structs vocab text tokens other h = absurd h
 
 module _ (trees : (tokens : List SpecToken) (a b : List StructTree) → AreStructs tokens a → AreStructs tokens b → a ≡ b) where
   same_meaning : (vocab : Vocab) (ts : List SpecToken) (a b : Result (List StructureForm) TvsError)
@@ -223,15 +199,8 @@ module _ (trees : (tokens : List SpecToken) (a b : List StructTree) → AreStruc
 start_refusal : (p : Program) (text : List ℕ) (k : FileKind) → MeansStart p text (Err k)
     → ((k ≡ kind.NotHeap) × ((ss : List StructureForm) × MeansInitial p text (Ok ss) × (¬ AreOneHeap ss)))
     ⊎ MeansInitial p text (Err k)
-start_refusal p text kind.TooLong h = inr h
-start_refusal p text (kind.Gathering e) h = inr h
-start_refusal p text (kind.Lexing e) h = inr h
-start_refusal p text (kind.Program f) h = inr h
-start_refusal p text (kind.Structures e) h = inr h
-start_refusal p text (kind.ReportForm place) h = inr h
 start_refusal p text kind.NotHeap h = inl (refl, h)
-start_refusal p text (kind.TraceForm place) h = inr h
-start_refusal p text (kind.Source e) h = inr h
+start_refusal p text other h = inr h
 
 module _ (p : Program) (text : List ℕ) (one : GiveOne {A = List StructureForm} ◌≡◌ (MeansInitial p text) (MeansInitial p text)) where
   heap_not_refused : (s : StructureForm) (k : FileKind) → MeansStart p text (Ok s) → MeansStart p text (Err k) → ⊥
@@ -267,27 +236,15 @@ moves_view : (p : Program) (text : List ℕ) (a : Result Trace FileKind) → Mea
 unfolding OfMoves
 moves_view p text (Ok t) h = inr (h.0, inr (h.1.0, h.1.1, h.1.2))
 moves_view p text (Err kind.TooLong) h = inl (h, refl)
-moves_view p text (Err (kind.Gathering e)) h = absurd h
 moves_view p text (Err (kind.Lexing e)) h = inr (h.0, inl (e, unlexed_reads text e h.1, refl))
-moves_view p text (Err (kind.Program f)) h = absurd h
-moves_view p text (Err (kind.Structures e)) h = absurd h
-moves_view p text (Err (kind.ReportForm place)) h = absurd h
-moves_view p text (Err kind.NotHeap) h = absurd h
 moves_view p text (Err (kind.TraceForm place)) h = inr (h.0, inr (h.1.0, h.1.1, h.1.2.0))
-moves_view p text (Err (kind.Source e)) h = absurd h
+moves_view p text (Err other) h = absurd h
 
 refused_moves : (p : Program) (text : List ℕ) (tokens : List Token) (k : FileKind) → OfMoves p text tokens (Err k)
     → (placeless k ≡ placeless (kind.TraceForm (record { line = 1; column = 1 }))) × IsNoTrace p (spec_tokens text tokens)
 unfolding OfMoves
-refused_moves p text tokens kind.TooLong h = absurd h
-refused_moves p text tokens (kind.Gathering e) h = absurd h
-refused_moves p text tokens (kind.Lexing e) h = absurd h
-refused_moves p text tokens (kind.Program f) h = absurd h
-refused_moves p text tokens (kind.Structures e) h = absurd h
-refused_moves p text tokens (kind.ReportForm place) h = absurd h
-refused_moves p text tokens kind.NotHeap h = absurd h
 refused_moves p text tokens (kind.TraceForm place) h = (refl, h)
-refused_moves p text tokens (kind.Source e) h = absurd h
+refused_moves p text tokens other h = absurd h
 
 module _ (one : (p : Program) (ts : List SpecToken) (a b : Trace) → MeansTrace p ts a → MeansTrace p ts b → a ≡ b) where
   one_of_moves : (p : Program) (text : List ℕ) (tokens : List Token)
@@ -318,27 +275,15 @@ report_view : (p : Program) (text : List ℕ) (a : Result Analysis FileKind) →
 unfolding OfReport
 report_view p text (Ok report) h = inr (h.0, inr (h.1.0, h.1.1, h.1.2))
 report_view p text (Err kind.TooLong) h = inl (h, refl)
-report_view p text (Err (kind.Gathering e)) h = absurd h
 report_view p text (Err (kind.Lexing e)) h = inr (h.0, inl (e, unlexed_reads text e h.1, refl))
-report_view p text (Err (kind.Program f)) h = absurd h
-report_view p text (Err (kind.Structures e)) h = absurd h
 report_view p text (Err (kind.ReportForm place)) h = inr (h.0, inr (h.1.0, h.1.1, h.1.2.0))
-report_view p text (Err kind.NotHeap) h = absurd h
-report_view p text (Err (kind.TraceForm place)) h = absurd h
-report_view p text (Err (kind.Source e)) h = absurd h
+report_view p text (Err other) h = absurd h
 
 refused_report : (p : Program) (text : List ℕ) (tokens : List Token) (k : FileKind) → OfReport p text tokens (Err k)
     → (placeless k ≡ placeless (kind.ReportForm (record { line = 1; column = 1 }))) × IsNoReport p (spec_tokens text tokens)
 unfolding OfReport
-refused_report p text tokens kind.TooLong h = absurd h
-refused_report p text tokens (kind.Gathering e) h = absurd h
-refused_report p text tokens (kind.Lexing e) h = absurd h
-refused_report p text tokens (kind.Program f) h = absurd h
-refused_report p text tokens (kind.Structures e) h = absurd h
 refused_report p text tokens (kind.ReportForm place) h = (refl, h)
-refused_report p text tokens kind.NotHeap h = absurd h
-refused_report p text tokens (kind.TraceForm place) h = absurd h
-refused_report p text tokens (kind.Source e) h = absurd h
+refused_report p text tokens other h = absurd h
 
 module _ (one : (p : Program) (ts : List SpecToken) (a b : Analysis) → MeansReportTokens p ts a → MeansReportTokens p ts b → a ≡ b) where
   one_of_report : (p : Program) (text : List ℕ) (tokens : List Token)
@@ -368,39 +313,22 @@ source_view : (text : List ℕ) (a : Result Program FileKind) → MeansSource te
 unfolding OfSource
 source_view text (Ok p) h = inr (h.0, inr (h.1.0, h.1.1, h.1.2))
 source_view text (Err kind.TooLong) h = inl (h, refl)
-source_view text (Err (kind.Gathering e)) h = absurd h
 source_view text (Err (kind.Lexing e)) h = inr (h.0, inl (e, unlexed_reads text e h.1, refl))
-source_view text (Err (kind.Program f)) h = absurd h
-source_view text (Err (kind.Structures e)) h = absurd h
-source_view text (Err (kind.ReportForm place)) h = absurd h
-source_view text (Err kind.NotHeap) h = absurd h
-source_view text (Err (kind.TraceForm place)) h = absurd h
 source_view text (Err (kind.Source e)) h = inr (h.0, inr (h.1.0, h.1.1, h.1.2))
+source_view text (Err other) h = absurd h
 
 -- a refusal of tokens is one of the compiler, and not want of memory
 no_source : (text : List ℕ) (tokens : List Token) (e : SourceError) → IsNoSource text e tokens (spec_tokens text tokens)
     → (e ≢ source.Memory) × IsSourceCause (spec_tokens text tokens) e
-no_source text tokens source.TooDeep h = (λ same. absurd cc, h.0)
-no_source text tokens (source.Syntax place) h = (λ same. absurd cc, h.0)
-no_source text tokens source.Reserved h = (λ same. absurd cc, h.0)
-no_source text tokens source.NameTwice h = (λ same. absurd cc, h.0)
-no_source text tokens source.NameUnknown h = (λ same. absurd cc, h.0)
-no_source text tokens source.TooMany h = (λ same. absurd cc, h.0)
 no_source text tokens source.Memory h = absurd h
+no_source text tokens other h = (λ same. absurd cc, h.0)
 
 refused_source : (text : List ℕ) (tokens : List Token) (k : FileKind) → OfSource text tokens (Err k)
     → (e : SourceError) × (k ≡ kind.Source e) × (e ≢ source.Memory) × IsSourceCause (spec_tokens text tokens) e
 unfolding OfSource
-refused_source text tokens kind.TooLong h = absurd h
-refused_source text tokens (kind.Gathering e) h = absurd h
-refused_source text tokens (kind.Lexing e) h = absurd h
-refused_source text tokens (kind.Program f) h = absurd h
-refused_source text tokens (kind.Structures e) h = absurd h
-refused_source text tokens (kind.ReportForm place) h = absurd h
-refused_source text tokens kind.NotHeap h = absurd h
-refused_source text tokens (kind.TraceForm place) h = absurd h
 refused_source text tokens (kind.Source e) h =
     let n = no_source text tokens e h in (e, refl, n.0, n.1)
+refused_source text tokens other h = absurd h
 
 module _ (one : HaveOneSource) (refusal : HaveOneSourceRefusal) where
   one_of_source : (text : List ℕ) (tokens : List Token) → GiveOne SameProgram (OfSource text tokens) (OfSource text tokens)

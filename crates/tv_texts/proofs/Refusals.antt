@@ -1,5 +1,5 @@
 -- What the readers of tokens refuse, as refusals of a text.
-use Rattle.std.proofs.Common.{◌≡◌, ℕ, ◌≤◌, Bool, true, false, List, Result, Ok, Err, refl}
+use Rattle.std.proofs.Common.{ℕ, ◌≤◌, Bool, true, false, List, Ok, Err, refl}
 use Rattle.std.specs.Prelude.{if◌then◌else◌, length}
 use Rattle.tv_front.specs.Meaning.{IsRefused, is_memory, IsCause as ProgramCause, StopsAtToken as ProgramStops}
 use Rattle.tv_front.specs.declared.fault.ProgramFault.{ProgramFault}
@@ -44,15 +44,8 @@ unlexed text its_role lexing.Memory h = tt
 unlexed_as : (text : List ℕ) (its_role : Role) (Means : FileKind → Type 0) (fault : TextFault)
     → ((e : LexError) → IsUnlexed text (kind.Lexing e) → Means (kind.Lexing e))
     → IsTextCause its_role (IsUnlexed text) fault → IsTextCause its_role Means fault
-unlexed_as text its_role Means (Refused its kind.TooLong) f h = absurd h.1
-unlexed_as text its_role Means (Refused its (kind.Gathering e)) f h = absurd h.1
 unlexed_as text its_role Means (Refused its (kind.Lexing e)) f h = (h.0, f e h.1)
-unlexed_as text its_role Means (Refused its (kind.Program e)) f h = absurd h.1
-unlexed_as text its_role Means (Refused its (kind.Structures e)) f h = absurd h.1
-unlexed_as text its_role Means (Refused its (kind.ReportForm place)) f h = absurd h.1
-unlexed_as text its_role Means (Refused its kind.NotHeap) f h = absurd h.1
-unlexed_as text its_role Means (Refused its (kind.TraceForm place)) f h = absurd h.1
-unlexed_as text its_role Means (Refused its (kind.Source e)) f h = absurd h.1
+unlexed_as text its_role Means (Refused its other) f h = absurd h.1
 unlexed_as text its_role Means NotRead f h = absurd h.0
 unlexed_as text its_role Means Memory f h = tt
 
@@ -94,13 +87,8 @@ pub structures_refused : (p : Program) (text : List ℕ) (tokens : List Token) (
     → StructuresStops text tokens e → IsTextCause its_role (λ k. MeansInitial p text (Err k)) (fault_of_structures its_role e)
 structures_refused p text tokens its_role (structures.Syntax place) size reads cause stops =
     (refl, (size, (tokens, reads, (cause, stops))))
-structures_refused p text tokens its_role structures.IndividualUnknown size reads cause stops = (refl, (size, (tokens, reads, cause)))
-structures_refused p text tokens its_role structures.IndividualTwice size reads cause stops = (refl, (size, (tokens, reads, cause)))
-structures_refused p text tokens its_role structures.NameUnknown size reads cause stops = (refl, (size, (tokens, reads, cause)))
-structures_refused p text tokens its_role structures.ArityWrong size reads cause stops = (refl, (size, (tokens, reads, cause)))
-structures_refused p text tokens its_role structures.BadSm size reads cause stops = (refl, (size, (tokens, reads, cause)))
-structures_refused p text tokens its_role structures.TooManyIndividuals size reads cause stops = (refl, (size, (tokens, reads, cause)))
 structures_refused p text tokens its_role structures.Memory size reads cause stops = tt
+structures_refused p text tokens its_role other size reads cause stops = (refl, (size, (tokens, reads, cause)))
 
 pub report_refused : (p : Program) (text : List ℕ) (tokens : List Token) (e : ReportError)
     → length text ≤ longest_text → Reads text (Ok tokens) → ReportCause p (spec_tokens text tokens) e
@@ -119,10 +107,5 @@ trace_refused p text tokens trace.Memory size reads cause stops = tt
 pub source_refused : (text : List ℕ) (tokens : List Token) (e : SourceError)
     → length text ≤ longest_gathered → Reads text (Ok tokens) → SourceCause (spec_tokens text tokens) e
     → SourceStops text tokens e → IsTextCause role.Source (λ k. MeansSource text (Err k)) (fault_of_source e)
-source_refused text tokens source.TooDeep size reads cause stops = (refl, (size, (tokens, reads, (cause, stops))))
-source_refused text tokens (source.Syntax place) size reads cause stops = (refl, (size, (tokens, reads, (cause, stops))))
-source_refused text tokens source.Reserved size reads cause stops = (refl, (size, (tokens, reads, (cause, stops))))
-source_refused text tokens source.NameTwice size reads cause stops = (refl, (size, (tokens, reads, (cause, stops))))
-source_refused text tokens source.NameUnknown size reads cause stops = (refl, (size, (tokens, reads, (cause, stops))))
-source_refused text tokens source.TooMany size reads cause stops = (refl, (size, (tokens, reads, (cause, stops))))
 source_refused text tokens source.Memory size reads cause stops = tt
+source_refused text tokens other size reads cause stops = (refl, (size, (tokens, reads, (cause, stops))))

@@ -1,6 +1,6 @@
 -- From the structures of a text to the one heap that it means, or to why it means none.
-use Rattle.std.proofs.Common.{◌≡◌, ◌<◌, ℕ, List, [], ◌∷◌, None, Result, Ok, Err, refl, subst, arith}
-use Rattle.std.specs.Prelude.{All, IfOk, IfErr}
+use Rattle.std.proofs.Common.{◌≡◌, ◌<◌, ℕ, List, [], ◌∷◌, None, Ok, Err, refl, subst, arith}
+use Rattle.std.specs.Prelude.{All}
 use Rattle.tv_model.specs.declared.program.Program.{Program}
 use Rattle.tv_model.specs.declared.program.Vocab.{Vocab}
 use Rattle.tv_status.specs.declared.status.FileKind.{FileKind}
@@ -30,15 +30,8 @@ pub other_structures : (p : Program) (text : List ℕ) (ss : List StructureForm)
 other_structures p text ss fault means is = rw is.0 (refl, (ss, means, is.1))
 
 no_heap : (p : Program) (text : List ℕ) (k : FileKind) → MeansInitial p text (Err k) → MeansStart p text (Err k)
-no_heap p text kind.TooLong h = h
-no_heap p text (kind.Gathering e) h = h
-no_heap p text (kind.Lexing e) h = h
-no_heap p text (kind.Program f) h = h
-no_heap p text (kind.Structures e) h = h
-no_heap p text (kind.ReportForm place) h = h
 no_heap p text kind.NotHeap h = absurd h
-no_heap p text (kind.TraceForm place) h = h
-no_heap p text (kind.Source e) h = h
+no_heap p text other h = h
 
 pub no_structures : (p : Program) (text : List ℕ) (fault : TextFault)
     → IsTextCause role.Start (λ k. MeansInitial p text (Err k)) fault → IsTextCause role.Start (λ k. MeansStart p text (Err k)) fault

@@ -1,11 +1,10 @@
 -- What texts of structures and reports mean depends on what a program says alone, wherever its parts lie.
 use Rattle.std.proofs.Common.{◌≡◌, ◌<◌, ℕ, List, [], ◌∷◌, map, Option, None, Some, Result, Ok, Err, refl, sym, ap, subst, ◌∙◌}
 use Rattle.std.specs.Prelude.{slice_index, slice_get, length, All, Contains}
-use Rattle.std.specs.Str.{bytes_eq}
 use Rattle.tv_lex.specs.Token.{SpecToken, spec_tokens}
 use Rattle.tv_lex.specs.declared.token.Token.{Token}
 use Rattle.tv_listing.specs.declared.analysis.Analysis.{Analysis}
-use Rattle.tv_model.specs.Program.{PredForm, ProgramForm, pred_of, program_of}
+use Rattle.tv_model.specs.Program.{PredForm, ProgramForm, pred_of}
 use Rattle.tv_model.specs.declared.program.Pred.{Pred}
 use Rattle.tv_model.specs.declared.program.Program.{Program}
 use Rattle.tv_report.specs.Lines.{AreMessageLines, AreMapLines}
@@ -171,15 +170,10 @@ pub initial_also : (p q : Program) → SameProgram p q → (text : List ℕ) (a 
     → MeansInitial q text a → MeansInitial p text a
 initial_also p q same text (Ok ss) h = (h.0, (h.1.0, h.1.1, structures_also p q (spec_tokens text h.1.0) (Ok ss) same h.1.2))
 initial_also p q same text (Err kind.TooLong) h = h
-initial_also p q same text (Err (kind.Gathering e)) h = absurd h
 initial_also p q same text (Err (kind.Lexing e)) h = h
-initial_also p q same text (Err (kind.Program f)) h = absurd h
 initial_also p q same text (Err (kind.Structures e)) h =
     (h.0, (h.1.0, h.1.1, refusal_also p q same text e h.1.0 (spec_tokens text h.1.0) h.1.2))
-initial_also p q same text (Err (kind.ReportForm place)) h = absurd h
-initial_also p q same text (Err kind.NotHeap) h = absurd h
-initial_also p q same text (Err (kind.TraceForm place)) h = absurd h
-initial_also p q same text (Err (kind.Source e)) h = absurd h
+initial_also p q same text (Err other) h = absurd h
 
 no_report_also : (p q : Program) (ts : List SpecToken) → SameProgram p q → IsNoReport q ts → IsNoReport p ts
 no_report_also p q ts same none a means = none a (report_also q p ts a (sym same) means)
@@ -190,15 +184,10 @@ pub report_text_also : (p q : Program) → SameProgram p q → (text : List ℕ)
 report_text_also p q same text (Ok report) h =
     (h.0, (h.1.0, h.1.1, report_also p q (spec_tokens text h.1.0) report same h.1.2))
 report_text_also p q same text (Err kind.TooLong) h = h
-report_text_also p q same text (Err (kind.Gathering e)) h = absurd h
 report_text_also p q same text (Err (kind.Lexing e)) h = h
-report_text_also p q same text (Err (kind.Program f)) h = absurd h
-report_text_also p q same text (Err (kind.Structures e)) h = absurd h
 report_text_also p q same text (Err (kind.ReportForm place)) h =
     (h.0, (h.1.0, h.1.1, (no_report_also p q (spec_tokens text h.1.0) same h.1.2.0, h.1.2.1)))
-report_text_also p q same text (Err kind.NotHeap) h = absurd h
-report_text_also p q same text (Err (kind.TraceForm place)) h = absurd h
-report_text_also p q same text (Err (kind.Source e)) h = absurd h
+report_text_also p q same text (Err other) h = absurd h
 
 -- ---- a heap, and a trace
 
@@ -208,13 +197,9 @@ pub start_also : (p q : Program) → SameProgram p q → (text : List ℕ) (a : 
 start_also p q same text (Ok s) h = (initial_also p q same text (Ok (s ∷ [])) h.0, h.1)
 start_also p q same text (Err kind.NotHeap) h = (h.0, initial_also p q same text (Ok h.0) h.1, h.2)
 start_also p q same text (Err kind.TooLong) h = initial_also p q same text (Err kind.TooLong) h
-start_also p q same text (Err (kind.Gathering e)) h = absurd h
 start_also p q same text (Err (kind.Lexing e)) h = initial_also p q same text (Err (kind.Lexing e)) h
-start_also p q same text (Err (kind.Program f)) h = absurd h
 start_also p q same text (Err (kind.Structures e)) h = initial_also p q same text (Err (kind.Structures e)) h
-start_also p q same text (Err (kind.ReportForm place)) h = absurd h
-start_also p q same text (Err (kind.TraceForm place)) h = absurd h
-start_also p q same text (Err (kind.Source e)) h = absurd h
+start_also p q same text (Err other) h = absurd h
 
 values_also : (p q : Program) → SameProgram p q → (tree : Option StructTree) (values : Option StructureForm)
     → AreMeant q.vocab tree values → AreMeant p.vocab tree values
@@ -255,12 +240,7 @@ pub trace_text_also : (p q : Program) → SameProgram p q → (text : List ℕ) 
 trace_text_also p q same text (Ok t) h =
     (h.0, (h.1.0, h.1.1, trace_also p q (spec_tokens text h.1.0) t same h.1.2))
 trace_text_also p q same text (Err kind.TooLong) h = h
-trace_text_also p q same text (Err (kind.Gathering e)) h = absurd h
 trace_text_also p q same text (Err (kind.Lexing e)) h = h
-trace_text_also p q same text (Err (kind.Program f)) h = absurd h
-trace_text_also p q same text (Err (kind.Structures e)) h = absurd h
-trace_text_also p q same text (Err (kind.ReportForm place)) h = absurd h
-trace_text_also p q same text (Err kind.NotHeap) h = absurd h
-trace_text_also p q same text (Err (kind.Source e)) h = absurd h
 trace_text_also p q same text (Err (kind.TraceForm place)) h =
     (h.0, (h.1.0, h.1.1, (no_trace_also p q (spec_tokens text h.1.0) same h.1.2.0, h.1.2.1)))
+trace_text_also p q same text (Err other) h = absurd h

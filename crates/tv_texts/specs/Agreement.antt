@@ -1,5 +1,5 @@
 -- Answers that are one and the same, but for the place that a refusal carries.
-use Rattle.std.specs.Prelude.{◌≡◌, ℕ, List, Result, Ok, Err}
+use Rattle.std.specs.Prelude.{◌≡◌, Result, Ok, Err}
 use Rattle.tv_front.specs.Meaning.{without_place, start_of_text}
 use Rattle.tv_model.specs.Program.{program_of}
 use Rattle.tv_model.specs.declared.program.Program.{Program}

@@ -12,7 +12,6 @@ use Rattle.tv_plang.specs.declared.error.SourceError.{SourceError}
 use Rattle.tv_plang.specs.declared.error.SourceError.TheVariants as source
 use Rattle.tv_report.specs.declared.error.ReportError.{ReportError}
 use Rattle.tv_report.specs.declared.error.ReportError.TheVariants as report
-use Rattle.tv_status.specs.declared.status.FileKind.{FileKind}
 use Rattle.tv_status.specs.declared.status.FileKind.TheVariants.{TooLong, Gathering, Lexing, Program, Structures, ReportForm, TraceForm, Source}
 use Rattle.tv_status.specs.declared.status.Role.{Role}
 use Rattle.tv_status.specs.declared.status.Role.TheVariants as role

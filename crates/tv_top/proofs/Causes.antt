@@ -17,7 +17,7 @@ use Rattle.tv_status.specs.declared.status.Role.TheVariants as role
 use Rattle.tv_struct.specs.StructureForm.{StructureForm}
 use Rattle.tv_struct.specs.declared.analysis.StageError.{StageError}
 use Rattle.tv_struct.specs.declared.analysis.StageError.TheVariants as stage
-use Rattle.tv_texts.specs.Files.{IsProgramFile, LacksFile, IsInitialFile, IsReportFile, IsFileCause, IsTextCause, UnlessNotRead, IsSourceFile}
+use Rattle.tv_texts.specs.Files.{IsProgramFile, LacksFile, IsInitialFile, IsFileCause, IsTextCause, UnlessNotRead, IsSourceFile}
 use Rattle.tv_texts.specs.Meaning.{MeansProgram, MeansInitial}
 use Rattle.tv_texts.specs.declared.fault.TextFault.{TextFault}
 use Rattle.tv_texts.specs.declared.fault.TextFault.TheVariants.{Refused, NotRead, Memory}
@@ -25,12 +25,14 @@ use Rattle.tv_top.specs.Answers.{Reached, InRound, case_for, max_of, HasMoreThan
 use Rattle.tv_top.specs.Call.{IsCause, IsCommandCause}
 use Rattle.tv_top.specs.Delivery.{SaidOf}
 use Rattle.tv_top.specs.Faults.{fault_of_work, fault_of_join, fault_of_stage, fault_of_text}
-use Rattle.tv_top.specs.Meaning.{Task, FilesMean, IsTakenProgram, GivesProgram, GivesInitial, GivesReport, LacksInitial, IsMissing, LacksLater, IsRefused, program_role}
-use Rattle.tv_top.specs.Work.{Names, IsSearchCause, IsJoinSearchCause, IsJudged, IsJudgementCause, UnlessReadFault, IsRun}
+use Rattle.tv_top.specs.Meaning.{Task, FilesMean, IsTakenProgram, GivesProgram, GivesInitial, GivesReport, LacksInitial, LacksProgram, LacksLater, IsRefused}
+use Rattle.tv_top.specs.Work.{Comes, Lacks, Names, role_of, IsSearchCause, IsJoinSearchCause, IsJudged, IsJudgementCause, UnlessReadFault, IsRun}
 use Rattle.tv_top.specs.declared.fault.Answer.{Answer}
 use Rattle.tv_top.specs.declared.fault.Answer.TheVariants as answer
 use Rattle.tv_top.specs.declared.fault.Fault.{Fault}
 use Rattle.tv_top.specs.declared.fault.Fault.TheVariants as fault
+use Rattle.tv_top.specs.declared.inputs.Origin.{Origin}
+use Rattle.tv_top.specs.declared.inputs.Origin.TheVariants as origin
 use Rattle.tv_transfer.specs.Budgets.{MeetsSplits, MeetsIndividuals}
 use Rattle.tv_listing.specs.declared.analysis.Rejection.{Rejection}
 use Rattle.tv_trace.specs.declared.trace.Trace.{Trace}
@@ -99,118 +101,86 @@ same_program_file : (told : Option Held) (n m : List ℕ) (d e : Bool) (a : Resu
     → IsTakenProgram e told m a → IsTakenProgram d told n a
 same_program_file told n m d e a names deltas file = rw (names, deltas) file
 
-pub named_program : (told : Option Held) (command : CommandForm) (program initial : List ℕ) (delta : Bool)
-    (a : Result Program FileKind) → Names command program initial delta → IsTakenProgram delta told program a
-    → GivesProgram told command a
-named_program told (Analyzes p i max mode d) program initial delta a names file =
-    same_program_file told p program d delta a names.0 names.2 file
-named_program told (Checks p i report mode maps d) program initial delta a names file =
-    same_program_file told p program d delta a names.0 names.2 file
-named_program told (Demos number) program initial delta a names file = absurd names
-named_program told (Joins p i max mode) program initial delta a names file =
-    same_program_file told p program false delta a names.0 names.2 file
-named_program told (Replays p i start trace report) program initial delta a names file =
-    same_program_file told p program false delta a names.0 names.2 file
-named_program told (Sources n i max) program initial delta a names file = absurd names
+-- a command whose program comes from there, and whose INITIAL is the named file
+module _ (told : Option Held) where
+  named_program : (command : CommandForm) (from : Origin) (initial : List ℕ) (a : Result Program FileKind) → Names command from initial
+      → Comes from told a → GivesProgram told command a
+  named_program (Analyzes p i max mode d) (origin.Program n delta) initial a names file =
+      same_program_file told p n.now d delta a names.0 names.2 file
+  named_program (Checks p i report mode maps d) (origin.Program n delta) initial a names file =
+      same_program_file told p n.now d delta a names.0 names.2 file
+  named_program (Joins p i max mode) (origin.Program n delta) initial a names file =
+      same_program_file told p n.now false delta a names.0 names.2 file
+  named_program (Replays p i start trace report) (origin.Program n delta) initial a names file =
+      same_program_file told p n.now false delta a names.0 names.2 file
+  named_program (Sources s i max) (origin.Source n) initial a names file = subst (λ m. IsSourceFile told m a) (sym names.0) file
+  named_program command from initial a names file = absurd names
 
-pub named_initial : (told : Option Held) (command : CommandForm) (program initial : List ℕ) (delta : Bool) (p : Program)
-    (a : Result (List StructureForm) FileKind)
-    → Names command program initial delta → IsInitialFile told initial p a → GivesInitial told command p a
-named_initial told (Analyzes n i max mode d) program initial delta p a names file =
-    subst (λ m. IsInitialFile told m p a) (sym names.1) file
-named_initial told (Checks n i report mode maps d) program initial delta p a names file =
-    subst (λ m. IsInitialFile told m p a) (sym names.1) file
-named_initial told (Demos number) program initial delta p a names file = absurd names
-named_initial told (Joins n i max mode) program initial delta p a names file =
-    subst (λ m. IsInitialFile told m p a) (sym names.1) file
-named_initial told (Replays n i start trace report) program initial delta p a names file =
-    subst (λ m. IsInitialFile told m p a) (sym names.1) file
-named_initial told (Sources n i max) program initial delta p a names file = absurd names
+  named_initial : (command : CommandForm) (from : Origin) (initial : List ℕ) (p : Program) (a : Result (List StructureForm) FileKind)
+      → Names command from initial → IsInitialFile told initial p a → GivesInitial told command p a
+  named_initial (Analyzes n i max mode d) (origin.Program _ _) initial p a names file = subst (λ m. IsInitialFile told m p a) (sym names.1) file
+  named_initial (Checks n i report mode maps d) (origin.Program _ _) initial p a names file =
+      subst (λ m. IsInitialFile told m p a) (sym names.1) file
+  named_initial (Joins n i max mode) (origin.Program _ _) initial p a names file = subst (λ m. IsInitialFile told m p a) (sym names.1) file
+  named_initial (Replays n i start trace report) (origin.Program _ _) initial p a names file =
+      subst (λ m. IsInitialFile told m p a) (sym names.1) file
+  named_initial (Sources n i max) (origin.Source _) initial p a names file = subst (λ m. IsInitialFile told m p a) (sym names.1) file
+  named_initial command from initial p a names file = absurd names
 
-named_role : (command : CommandForm) (program initial : List ℕ) (delta : Bool) → Names command program initial delta
-    → program_role command ≡ role.Program
-named_role (Analyzes p i max mode d) program initial delta names = refl
-named_role (Checks p i report mode maps d) program initial delta names = refl
-named_role (Demos number) program initial delta names = refl
-named_role (Joins p i max mode) program initial delta names = refl
-named_role (Replays p i start trace report) program initial delta names = refl
-named_role (Sources n i max) program initial delta names = absurd names
+  program_refused : (command : CommandForm) (from : Origin) (initial : List ℕ) (k : FileKind) → Names command from initial
+      → GivesProgram told command (Err k) → IsRefused told command (role_of from) k
+  program_refused (Analyzes n i max mode d) (origin.Program _ _) initial k names refused = (refl, refused)
+  program_refused (Checks n i report mode maps d) (origin.Program _ _) initial k names refused = (refl, refused)
+  program_refused (Joins n i max mode) (origin.Program _ _) initial k names refused = (refl, refused)
+  program_refused (Replays n i start trace report) (origin.Program _ _) initial k names refused = (refl, refused)
+  program_refused (Sources n i max) (origin.Source _) initial k names refused = (refl, refused)
+  program_refused command from initial k names refused = absurd names
 
-lacks_program : (told : Option Held) (command : CommandForm) (program initial : List ℕ) (delta : Bool)
-    → Names command program initial delta → LacksFile told program → IsMissing told command
-lacks_program told (Analyzes p i max mode d) program initial delta names lacks =
-    inl (subst (λ n. LacksFile told n) (sym names.0) lacks)
-lacks_program told (Checks p i report mode maps d) program initial delta names lacks =
-    inl (subst (λ n. LacksFile told n) (sym names.0) lacks)
-lacks_program told (Demos number) program initial delta names lacks = absurd names
-lacks_program told (Joins p i max mode) program initial delta names lacks =
-    inl (subst (λ n. LacksFile told n) (sym names.0) lacks)
-lacks_program told (Replays p i start trace report) program initial delta names lacks =
-    inl (subst (λ n. LacksFile told n) (sym names.0) lacks)
-lacks_program told (Sources n i max) program initial delta names lacks = absurd names
+  lacks_program : (command : CommandForm) (from : Origin) (initial : List ℕ) → Names command from initial → Lacks from told
+      → LacksProgram told command
+  lacks_program (Analyzes p i max mode d) (origin.Program _ _) initial names lacks = subst (LacksFile told) (sym names.0) lacks
+  lacks_program (Checks p i report mode maps d) (origin.Program _ _) initial names lacks = subst (LacksFile told) (sym names.0) lacks
+  lacks_program (Joins p i max mode) (origin.Program _ _) initial names lacks = subst (LacksFile told) (sym names.0) lacks
+  lacks_program (Replays p i start trace report) (origin.Program _ _) initial names lacks = subst (LacksFile told) (sym names.0) lacks
+  lacks_program (Sources n i max) (origin.Source _) initial names lacks = subst (λ m. ¬ HoldsName told m) (sym names.0) lacks
+  lacks_program command from initial names lacks = absurd names
 
-lacks_held : (told : Option Held) (command : CommandForm) (program initial : List ℕ) (delta : Bool)
-    → Names command program initial delta → ¬ HoldsName told initial → LacksInitial told command
-lacks_held told (Analyzes n i max mode d) program initial delta names lacks = subst (λ m. ¬ HoldsName told m) (sym names.1) lacks
-lacks_held told (Checks n i report mode maps d) program initial delta names lacks =
-    subst (λ m. ¬ HoldsName told m) (sym names.1) lacks
-lacks_held told (Demos number) program initial delta names lacks = absurd names
-lacks_held told (Joins n i max mode) program initial delta names lacks = subst (λ m. ¬ HoldsName told m) (sym names.1) lacks
-lacks_held told (Replays n i start trace report) program initial delta names lacks =
-    subst (λ m. ¬ HoldsName told m) (sym names.1) lacks
-lacks_held told (Sources n i max) program initial delta names lacks = absurd names
+  lacks_initial : (command : CommandForm) (from : Origin) (initial : List ℕ) → Names command from initial → ¬ HoldsName told initial
+      → LacksInitial told command
+  lacks_initial (Analyzes n i max mode d) (origin.Program _ _) initial names lacks = subst (λ m. ¬ HoldsName told m) (sym names.1) lacks
+  lacks_initial (Checks n i report mode maps d) (origin.Program _ _) initial names lacks = subst (λ m. ¬ HoldsName told m) (sym names.1) lacks
+  lacks_initial (Joins n i max mode) (origin.Program _ _) initial names lacks = subst (λ m. ¬ HoldsName told m) (sym names.1) lacks
+  lacks_initial (Replays n i start trace report) (origin.Program _ _) initial names lacks =
+      subst (λ m. ¬ HoldsName told m) (sym names.1) lacks
+  lacks_initial (Sources n i max) (origin.Source _) initial names lacks = subst (λ m. ¬ HoldsName told m) (sym names.1) lacks
+  lacks_initial command from initial names lacks = absurd names
 
-lacks_initial : (told : Option Held) (command : CommandForm) (program initial : List ℕ) (delta : Bool) (p : Program)
-    → Names command program initial delta → IsTakenProgram delta told program (Ok p) → ¬ HoldsName told initial
-    → IsMissing told command
-lacks_initial told command program initial delta p names file lacks =
-    inr (inl (
-      p,
-      named_program told command program initial delta (Ok p) names file,
-      lacks_held told command program initial delta names lacks,
-    ))
+  module _ (command : CommandForm) (from : Origin) (initial : List ℕ) (names : Names command from initial) where
+    pub program_named : (a : Result Program FileKind) → Comes from told a → GivesProgram told command a
+    program_named a file = named_program command from initial a names file
 
--- why PROGRAM isn't had
-pub program_fault : (told : Option Held) (command : CommandForm) (program initial : List ℕ) (delta : Bool)
-    (rose steady : Type 0) (e : TextFault) → Names command program initial delta
-    → IsFileCause role.Program (λ k. IsTakenProgram delta told program (Err k)) (LacksFile told program) rose steady e
-    → IsCommandCause told command rose steady (fault_of_text e)
-program_fault told command program initial delta rose steady (Refused role.Program k) names h =
-    (named_role command program initial delta names, named_program told command program initial delta (Err k) names h.1)
-program_fault told command program initial delta rose steady (Refused role.Initial k) names h = absurd (let e = h.0 in cc)
-program_fault told command program initial delta rose steady (Refused role.Report k) names h = absurd (let e = h.0 in cc)
-program_fault told command program initial delta rose steady (Refused role.Start k) names h = absurd (let e = h.0 in cc)
-program_fault told command program initial delta rose steady (Refused role.Trace k) names h = absurd (let e = h.0 in cc)
-program_fault told command program initial delta rose steady (Refused role.Source k) names h = absurd (let e = h.0 in cc)
-program_fault told command program initial delta rose steady NotRead names h =
-    (h.0, λ s. lacks_program told command program initial delta names (h.1 s))
-program_fault told command program initial delta rose steady Memory names h = tt
+    pub initial_named : (p : Program) (a : Result (List StructureForm) FileKind) → IsInitialFile told initial p a → GivesInitial told command p a
+    initial_named p a file = named_initial command from initial p a names file
 
--- why INITIAL isn't had
-pub initial_fault : (told : Option Held) (command : CommandForm) (program initial : List ℕ) (delta : Bool) (p : Program)
-    (rose steady later still_steady : Type 0) (e : TextFault)
-    → Names command program initial delta → IsTakenProgram delta told program (Ok p) → (later → rose)
-    → (steady → still_steady)
-    → IsFileCause role.Initial (λ k. IsInitialFile told initial p (Err k)) (¬ HoldsName told initial) later still_steady e
-    → IsCommandCause told command rose steady (fault_of_text e)
-initial_fault told command program initial delta p rose steady later still_steady (Refused role.Program k) names file f g h =
-    absurd (let e = h.0 in cc)
-initial_fault told command program initial delta p rose steady later still_steady (Refused role.Initial k) names file f g h = (
-  p,
-  named_program told command program initial delta (Ok p) names file,
-  named_initial told command program initial delta p (Err k) names h.1,
-)
-initial_fault told command program initial delta p rose steady later still_steady (Refused role.Report k) names file f g h =
-    absurd (let e = h.0 in cc)
-initial_fault told command program initial delta p rose steady later still_steady (Refused role.Start k) names file f g h =
-    absurd (let e = h.0 in cc)
-initial_fault told command program initial delta p rose steady later still_steady (Refused role.Trace k) names file f g h =
-    absurd (let e = h.0 in cc)
-initial_fault told command program initial delta p rose steady later still_steady (Refused role.Source k) names file f g h =
-    absurd (let e = h.0 in cc)
-initial_fault told command program initial delta p rose steady later still_steady NotRead names file f g h =
-    (f h.0, λ s. lacks_initial told command program initial delta p names file (h.1 (g s)))
-initial_fault told command program initial delta p rose steady later still_steady Memory names file f g h = tt
+    -- why the program isn't had
+    pub program_fault : (rose steady : Type 0) (e : TextFault)
+        → IsFileCause (role_of from) (λ k. Comes from told (Err k)) (Lacks from told) rose steady e
+        → IsCommandCause told command rose steady (fault_of_text e)
+    program_fault rose steady (Refused its k) h =
+        subst (λ r. IsRefused told command r k) (sym h.0) (program_refused command from initial k names (program_named (Err k) h.1))
+    program_fault rose steady NotRead h = (h.0, λ s. inl (lacks_program command from initial names (h.1 s)))
+    program_fault rose steady Memory h = tt
+
+    -- why INITIAL isn't had
+    pub initial_fault : (p : Program) (rose steady later still_steady : Type 0) (e : TextFault) → Comes from told (Ok p) → (later → rose)
+        → (steady → still_steady)
+        → IsFileCause role.Initial (λ k. IsInitialFile told initial p (Err k)) (¬ HoldsName told initial) later still_steady e
+        → IsCommandCause told command rose steady (fault_of_text e)
+    initial_fault p rose steady later still_steady (Refused its k) file f g h =
+        subst (λ r. IsRefused told command r k) (sym h.0) (p, program_named (Ok p) file, initial_named p (Err k) h.1)
+    initial_fault p rose steady later still_steady NotRead file f g h =
+        (f h.0, λ s. inr (inl (p, program_named (Ok p) file, lacks_initial command from initial names (h.1 (g s)))))
+    initial_fault p rose steady later still_steady Memory file f g h = tt
 
 -- why a file behind INITIAL isn't had, which has this role
 pub later_fault : (told : Option Held) (command : CommandForm) (task : Task) (its_role : Role) (Refuses : FileKind → Type 0)
@@ -225,53 +195,12 @@ later_fault told command task its_role Refuses lacks rose steady later still_ste
     (f h.0, λ s. inr (inr (task, means, misses (h.1 (g s)))))
 later_fault told command task its_role Refuses lacks rose steady later still_steady Memory means f g refuses misses h = tt
 
--- ---- a source program
-
--- why SOURCE isn't had
-pub source_fault : (told : Option Held) (source initial : List ℕ) (max : ℕ) (rose steady : Type 0) (e : TextFault)
-    → IsFileCause role.Source (λ k. IsSourceFile told source (Err k)) (¬ HoldsName told source) rose steady e
-    → IsCommandCause told (Sources source initial max) rose steady (fault_of_text e)
-source_fault told source initial max rose steady (Refused role.Program k) h = absurd (let e = h.0 in cc)
-source_fault told source initial max rose steady (Refused role.Initial k) h = absurd (let e = h.0 in cc)
-source_fault told source initial max rose steady (Refused role.Report k) h = absurd (let e = h.0 in cc)
-source_fault told source initial max rose steady (Refused role.Start k) h = absurd (let e = h.0 in cc)
-source_fault told source initial max rose steady (Refused role.Trace k) h = absurd (let e = h.0 in cc)
-source_fault told source initial max rose steady (Refused role.Source k) h = (refl, h.1)
-source_fault told source initial max rose steady NotRead h = (h.0, λ s. inl (h.1 s))
-source_fault told source initial max rose steady Memory h = tt
-
--- why the INITIAL behind it isn't had
-pub source_initial_fault : (told : Option Held) (source initial : List ℕ) (max : ℕ) (p : Program)
-    (rose steady later still_steady : Type 0) (e : TextFault)
-    → IsSourceFile told source (Ok p) → (later → rose) → (steady → still_steady)
-    → IsFileCause role.Initial (λ k. IsInitialFile told initial p (Err k)) (¬ HoldsName told initial) later still_steady e
-    → IsCommandCause told (Sources source initial max) rose steady (fault_of_text e)
-source_initial_fault told source initial max p rose steady later still_steady (Refused role.Program k) file f g h =
-    absurd (let e = h.0 in cc)
-source_initial_fault told source initial max p rose steady later still_steady (Refused role.Initial k) file f g h = (p, file, h.1)
-source_initial_fault told source initial max p rose steady later still_steady (Refused role.Report k) file f g h =
-    absurd (let e = h.0 in cc)
-source_initial_fault told source initial max p rose steady later still_steady (Refused role.Start k) file f g h =
-    absurd (let e = h.0 in cc)
-source_initial_fault told source initial max p rose steady later still_steady (Refused role.Trace k) file f g h =
-    absurd (let e = h.0 in cc)
-source_initial_fault told source initial max p rose steady later still_steady (Refused role.Source k) file f g h =
-    absurd (let e = h.0 in cc)
-source_initial_fault told source initial max p rose steady later still_steady NotRead file f g h =
-    (f h.0, λ s. inr (inl (p, file, h.1 (g s))))
-source_initial_fault told source initial max p rose steady later still_steady Memory file f g h = tt
-
 -- ---- a demo
 
 pub demo_program_fault : (told : Option Held) (number : ℕ) (rose steady : Type 0) (e : TextFault)
     → IsTextCause role.Program (λ k. MeansProgram (program_text number) (Err k)) e
     → IsCommandCause told (Demos number) rose steady (fault_of_text e)
-demo_program_fault told number rose steady (Refused role.Program k) h = (refl, h.1)
-demo_program_fault told number rose steady (Refused role.Initial k) h = absurd (let e = h.0 in cc)
-demo_program_fault told number rose steady (Refused role.Report k) h = absurd (let e = h.0 in cc)
-demo_program_fault told number rose steady (Refused role.Start k) h = absurd (let e = h.0 in cc)
-demo_program_fault told number rose steady (Refused role.Trace k) h = absurd (let e = h.0 in cc)
-demo_program_fault told number rose steady (Refused role.Source k) h = absurd (let e = h.0 in cc)
+demo_program_fault told number rose steady (Refused its k) h = subst (λ r. IsRefused told (Demos number) r k) (sym h.0) (refl, h.1)
 demo_program_fault told number rose steady NotRead h = absurd h.0
 demo_program_fault told number rose steady Memory h = tt
 
@@ -279,12 +208,8 @@ pub demo_initial_fault : (told : Option Held) (number : ℕ) (p : Program) (rose
     → MeansProgram (program_text number) (Ok p)
     → IsTextCause role.Initial (λ k. MeansInitial p lists_text (Err k)) e
     → IsCommandCause told (Demos number) rose steady (fault_of_text e)
-demo_initial_fault told number p rose steady (Refused role.Program k) means h = absurd (let e = h.0 in cc)
-demo_initial_fault told number p rose steady (Refused role.Initial k) means h = (p, means, h.1)
-demo_initial_fault told number p rose steady (Refused role.Report k) means h = absurd (let e = h.0 in cc)
-demo_initial_fault told number p rose steady (Refused role.Start k) means h = absurd (let e = h.0 in cc)
-demo_initial_fault told number p rose steady (Refused role.Trace k) means h = absurd (let e = h.0 in cc)
-demo_initial_fault told number p rose steady (Refused role.Source k) means h = absurd (let e = h.0 in cc)
+demo_initial_fault told number p rose steady (Refused its k) means h =
+    subst (λ r. IsRefused told (Demos number) r k) (sym h.0) (p, means, h.1)
 demo_initial_fault told number p rose steady NotRead means h = absurd h.0
 demo_initial_fault told number p rose steady Memory means h = tt
 
@@ -418,7 +343,7 @@ run_answer told command task start trace report (answer.Done text) means run don
     (task, means, done text.items (start, trace, report, run, h))
 run_answer told command task start trace report (answer.Rejected r text) means run done h = absurd h
 run_answer told command task start trace report (answer.Stuck step why text) means run done h =
-    (task, means, (start, trace, report, run, h.0), h.1)
+    (task, means, (start, trace, report, run, h.0), h.1, h.2)
 
 pub run_answers : (told : Option Held) (command : CommandForm) (task : Task) (start : StructureForm) (trace : Trace) (report : Analysis)
     (r : Result Answer Fault) → FilesMean told command task → RunMeans told command task.program start trace report

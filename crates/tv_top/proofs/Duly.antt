@@ -1,10 +1,10 @@
 -- The clauses of the call, from those of its two halves.
 use Rattle.std.proofs.Common.{◌≡◌, ◌⊎◌, ℕ, List, Option, Result, Ok, Err, inl, inr, ⊎_elim, refl, sym, subst}
 use Rattle.std.specs.Prelude.{IfOk, IfErr}
-use Rattle.tv_outside.specs.Told.{Held, TookFront}
+use Rattle.tv_outside.specs.Told.{Held}
 use Rattle.tv_status.specs.declared.status.Status.{Status}
-use Rattle.tv_status.specs.declared.status.Status.TheVariants.{Done, Rejected, Stuck, Usage, FileFault, Structures, TooManySplits, TooManyIndividuals, ReadFault, WriteFault, Memory}
-use Rattle.tv_top.specs.Call.{IsAnswerTo, IsCause, EndsFor, EndsDuly, CallsFor, IsExcuse, without_place}
+use Rattle.tv_status.specs.declared.status.Status.TheVariants.{Done, Rejected, Stuck, ReadFault, WriteFault, Memory}
+use Rattle.tv_top.specs.Call.{IsCause, EndsFor, EndsDuly, IsExcuse}
 use Rattle.tv_top.specs.Delivery.{OutTook, ErrTook, IsText, IsFault, EndsAs, SaidOf, answered, answer_text, status_of, GivesText}
 use Rattle.tv_top.specs.Meaning.{Commands, IsMissing}
 use Rattle.tv_top.specs.Work.{UnlessReadFault}
@@ -29,17 +29,11 @@ out_took (Rejected r) found IsAnswer out_rose err_rose old new says took =
     (took.0, found_text found IsAnswer (Rejected r) took.0 says took.1, took.2)
 out_took (Stuck step why) found IsAnswer out_rose err_rose old new says took =
     (took.0, found_text found IsAnswer (Stuck step why) took.0 says took.1, took.2)
-out_took Usage found IsAnswer out_rose err_rose old new says took = took
-out_took (FileFault role kind) found IsAnswer out_rose err_rose old new says took = took
-out_took (Structures max) found IsAnswer out_rose err_rose old new says took = took
-out_took TooManySplits found IsAnswer out_rose err_rose old new says took = took
-out_took TooManyIndividuals found IsAnswer out_rose err_rose old new says took = took
-out_took ReadFault found IsAnswer out_rose err_rose old new says took = took
 out_took WriteFault found IsAnswer out_rose err_rose old new says took = elim took [
   | inl w ↦ inl (w.0, (w.1.0, w.1.1, found_text found IsAnswer w.1.0 w.1.1 says w.1.2, w.1.3))
   | inr w ↦ inr w
 ]
-out_took Memory found IsAnswer out_rose err_rose old new says took = took
+out_took other found IsAnswer out_rose err_rose old new says took = took
 
 -- what holds of the fault that was met
 met_fault : (found : Result Answer Fault) (IsCause : Fault → Type 0) (fault : Fault) → IfErr found IsCause
@@ -52,31 +46,18 @@ pub err_took : (status : Status) (found : Result Answer Fault) (IsCause : Fault 
     (old new : Option (List ℕ)) → IfErr found IsCause → ErrTook status (IsFault found) out_rose err_rose old new
     → ErrTook status IsCause out_rose err_rose old new
 err_took Done found IsCause out_rose err_rose old new causes took = took
-err_took (Rejected r) found IsCause out_rose err_rose old new causes took = took
-err_took (Stuck step why) found IsCause out_rose err_rose old new causes took = took
-err_took Usage found IsCause out_rose err_rose old new causes took = took
-err_took (FileFault role kind) found IsCause out_rose err_rose old new causes took = took
-err_took (Structures max) found IsCause out_rose err_rose old new causes took = took
-err_took TooManySplits found IsCause out_rose err_rose old new causes took = took
-err_took TooManyIndividuals found IsCause out_rose err_rose old new causes took = took
-err_took ReadFault found IsCause out_rose err_rose old new causes took = took
 err_took WriteFault found IsCause out_rose err_rose old new causes took = elim took [
   | inl w ↦ inl w
   | inr w ↦ inr (w.0, (w.1.0, met_fault found IsCause w.1.0 causes w.1.1, w.1.2))
 ]
-err_took Memory found IsCause out_rose err_rose old new causes took = took
+err_took other found IsCause out_rose err_rose old new causes took = took
 
 -- ---- why the call ended so
 
 -- the status of a fault ends for the fault's cause
 fault_ends : (f : Fault) (IsCause : Fault → Type 0) (rose : Type 0) → IsCause f → EndsFor IsCause rose (status_of f)
 fault_ends fault.Usage IsCause rose h = h
-fault_ends (fault.FileFault role kind) IsCause rose h = h
-fault_ends (fault.Structures max) IsCause rose h = h
-fault_ends fault.TooManySplits IsCause rose h = h
-fault_ends fault.TooManyIndividuals IsCause rose h = h
-fault_ends fault.ReadFault IsCause rose h = h
-fault_ends fault.Memory IsCause rose h = h
+fault_ends other IsCause rose h = h
 
 answer_ends : (a : Answer) (IsCause : Fault → Type 0) (rose : Type 0) → EndsFor IsCause rose (answered a)
 answer_ends (answer.Done text) IsCause rose = tt
@@ -87,19 +68,11 @@ answer_ends (answer.Stuck step why text) IsCause rose = tt
 write_rose : (status : Status) (IsText : Status → List ℕ → Type 0) (out_rose err_rose : Type 0) (old new : Option (List ℕ))
     → status ≡ WriteFault → OutTook status IsText out_rose err_rose old new → out_rose ⊎ err_rose
 write_rose Done IsText out_rose err_rose old new e took = absurd cc
-write_rose (Rejected r) IsText out_rose err_rose old new e took = absurd cc
-write_rose (Stuck step why) IsText out_rose err_rose old new e took = absurd cc
-write_rose Usage IsText out_rose err_rose old new e took = absurd cc
-write_rose (FileFault role kind) IsText out_rose err_rose old new e took = absurd cc
-write_rose (Structures max) IsText out_rose err_rose old new e took = absurd cc
-write_rose TooManySplits IsText out_rose err_rose old new e took = absurd cc
-write_rose TooManyIndividuals IsText out_rose err_rose old new e took = absurd cc
-write_rose ReadFault IsText out_rose err_rose old new e took = absurd cc
 write_rose WriteFault IsText out_rose err_rose old new e took = elim took [
   | inl w ↦ inl w.0
   | inr w ↦ inr w.0
 ]
-write_rose Memory IsText out_rose err_rose old new e took = absurd cc
+write_rose other IsText out_rose err_rose old new e took = absurd cc
 
 pub call_cause : (status : Status) (found : Result Answer Fault) (IsCause : Fault → Type 0) (out_rose err_rose : Type 0)
     (old new : Option (List ℕ)) → IfErr found IsCause → EndsAs found status → OutTook status (IsText found) out_rose err_rose old new
@@ -119,41 +92,33 @@ call_cause status (Err met) IsCause out_rose err_rose old new causes (inr e) too
 memory_excuses : (IsCause : Fault → Type 0) (rose write : Type 0) (status : Status) → (IsCause fault.ReadFault → rose)
     → (¬ rose) → (¬ write) → EndsFor IsCause write status → IsExcuse status → status ≡ Memory
 memory_excuses IsCause rose write Done reads no_read no_write cause excuse = absurd excuse
-memory_excuses IsCause rose write (Rejected r) reads no_read no_write cause excuse = absurd excuse
-memory_excuses IsCause rose write (Stuck step why) reads no_read no_write cause excuse = absurd excuse
-memory_excuses IsCause rose write Usage reads no_read no_write cause excuse = absurd excuse
-memory_excuses IsCause rose write (FileFault role kind) reads no_read no_write cause excuse = absurd excuse
-memory_excuses IsCause rose write (Structures max) reads no_read no_write cause excuse = absurd excuse
-memory_excuses IsCause rose write TooManySplits reads no_read no_write cause excuse = absurd excuse
-memory_excuses IsCause rose write TooManyIndividuals reads no_read no_write cause excuse = absurd excuse
 memory_excuses IsCause rose write ReadFault reads no_read no_write cause excuse = absurd (no_read (reads cause))
 memory_excuses IsCause rose write WriteFault reads no_read no_write cause excuse = absurd (no_write cause)
 memory_excuses IsCause rose write Memory reads no_read no_write cause excuse = refl
+memory_excuses IsCause rose write other reads no_read no_write cause excuse = absurd excuse
 
 -- where no count of faults rose, the call ends as the words and the files call for
 pub ends_duly : (words : List (List ℕ)) (told : Option Held) (status : Status) (rose steady out_rose err_rose : Type 0)
     → (¬ rose) → (¬ out_rose) → (¬ err_rose)
     → EndsFor (IsCause words told rose steady) (out_rose ⊎ err_rose) status → EndsDuly words told status (IsExcuse status)
     → EndsDuly words told status (status ≡ Memory)
-ends_duly words told status rose steady out_rose err_rose no_read no_out no_err cause exact = λ due calls.
-    elim (exact due calls) [
-      | inl same ↦ inl same
-      | inr excuse ↦ inr (memory_excuses (IsCause words told rose steady) rose (out_rose ⊎ err_rose) status (λ c. c.2.0)
-          no_read (⊎_elim no_out no_err) cause excuse)
-    ]
+ends_duly words told status rose steady out_rose err_rose no_read no_out no_err cause exact = record {
+  due = λ due calls. or_memory (exact.due due calls);
+  run = λ calls. or_memory (exact.run calls);
+}
+  where
+    or_memory : {P : Type 0} → P ⊎ IsExcuse status → P ⊎ (status ≡ Memory)
+    or_memory (inl same) = inl same
+    or_memory (inr excuse) = inr (memory_excuses (IsCause words told rose steady) rose (out_rose ⊎ err_rose) status (λ c. c.2.0)
+        no_read (⊎_elim no_out no_err) cause excuse)
 
 -- where no file is missing, steady files don't fail
 pub no_fault : (words : List (List ℕ)) (told : Option Held) (rose steady : Type 0) (result : Result Answer Fault) (P : Type 0)
     → ¬ Commands words (IsMissing told) → steady → IfErr result (IsCause words told rose steady) → UnlessReadFault result P → P
 no_fault words told rose steady (Ok a) P there s cause unless = unless
-no_fault words told rose steady (Err fault.Usage) P there s cause unless = unless
-no_fault words told rose steady (Err (fault.FileFault role kind)) P there s cause unless = unless
-no_fault words told rose steady (Err (fault.Structures max)) P there s cause unless = unless
-no_fault words told rose steady (Err fault.TooManySplits) P there s cause unless = unless
-no_fault words told rose steady (Err fault.TooManyIndividuals) P there s cause unless = unless
 no_fault words told rose steady (Err fault.ReadFault) P there s cause unless =
     absurd (there (cause.0, cause.1, cause.2.1 s))
-no_fault words told rose steady (Err fault.Memory) P there s cause unless = unless
+no_fault words told rose steady (Err other) P there s cause unless = unless
 
 -- ---- the two sinks
 

@@ -29,23 +29,13 @@ FileView held name a =
 
 ungathered : (held : Held) (name : List ℕ) (e : GatherError) → IsUngathered (Some held) name e → Gathers (Some held) name (Err e)
 ungathered held name gathering.Failed h = absurd h
-ungathered held name gathering.TooLong h = h
-ungathered held name gathering.Unended h = h
-ungathered held name gathering.IncludeForm h = h
-ungathered held name gathering.IncludeDepth h = h
 ungathered held name gathering.Memory h = absurd h
+ungathered held name other h = h
 
 file_view : (held : Held) (name : List ℕ) (a : Result Program FileKind) → IsProgramFile (Some held) name a → FileView held name a
 file_view held name (Ok p) h = inl h
-file_view held name (Err kind.TooLong) h = inl h
 file_view held name (Err (kind.Gathering e)) h = inr (e, ungathered held name e h, refl)
-file_view held name (Err (kind.Lexing e)) h = inl h
-file_view held name (Err (kind.Program f)) h = inl h
-file_view held name (Err (kind.Structures e)) h = inl h
-file_view held name (Err (kind.ReportForm place)) h = inl h
-file_view held name (Err kind.NotHeap) h = inl h
-file_view held name (Err (kind.TraceForm place)) h = inl h
-file_view held name (Err (kind.Source e)) h = inl h
+file_view held name (Err other) h = inl h
 
 -- a name holds one content
 one_held : {A : Type 0} (Same : A → A → Type 0) (told : Option Held) (name : List ℕ) (Means Others : List ℕ → Result A FileKind → Type 0)
@@ -120,14 +110,11 @@ module _
 
     pub one_report : (told : Option Held) (command : CommandForm) → IsTold told command → (p q : Program) → SameProgram p q
         → GiveOne {A = Analysis} ◌≡◌ (GivesReport told command p) (GivesReport told command q)
-    one_report told (Analyzes program initial max mode delta) tells p q same a b h k = absurd h
     one_report told (Checks program initial report mode maps delta) tells p q same a b h k =
         one_held ◌≡◌ told report (MeansReport p) (MeansReport q) tells (reports p q same) a b h k
-    one_report told (Demos number) tells p q same a b h k = absurd h
-    one_report told (Joins program initial max mode) tells p q same a b h k = absurd h
     one_report told (Replays program initial start trace report) tells p q same a b h k =
         one_held ◌≡◌ told report (MeansReport p) (MeansReport q) tells (reports p q same) a b h k
-    one_report told (Sources source initial max) tells p q same a b h k = absurd h
+    one_report told other tells p q same a b h k = absurd h
 
 module _
     (starts : (p q : Program) → SameProgram p q → (text : List ℕ) → GiveOne ◌≡◌ (MeansStart p text) (MeansStart q text))
@@ -135,20 +122,12 @@ module _
   where
     pub one_start : (told : Option Held) (command : CommandForm) → IsTold told command → (p q : Program) → SameProgram p q
         → GiveOne {A = StructureForm} ◌≡◌ (GivesStart told command p) (GivesStart told command q)
-    one_start told (Analyzes program initial max mode delta) tells p q same a b h k = absurd h
-    one_start told (Checks program initial report mode maps delta) tells p q same a b h k = absurd h
-    one_start told (Demos number) tells p q same a b h k = absurd h
-    one_start told (Joins program initial max mode) tells p q same a b h k = absurd h
     one_start told (Replays program initial start trace report) tells p q same a b h k =
         one_held ◌≡◌ told start (MeansStart p) (MeansStart q) tells (starts p q same) a b h k
-    one_start told (Sources source initial max) tells p q same a b h k = absurd h
+    one_start told other tells p q same a b h k = absurd h
 
     pub one_trace : (told : Option Held) (command : CommandForm) → IsTold told command → (p q : Program) → SameProgram p q
         → GiveOne {A = Trace} ◌≡◌ (GivesTrace told command p) (GivesTrace told command q)
-    one_trace told (Analyzes program initial max mode delta) tells p q same a b h k = absurd h
-    one_trace told (Checks program initial report mode maps delta) tells p q same a b h k = absurd h
-    one_trace told (Demos number) tells p q same a b h k = absurd h
-    one_trace told (Joins program initial max mode) tells p q same a b h k = absurd h
     one_trace told (Replays program initial start trace report) tells p q same a b h k =
         one_held ◌≡◌ told trace (MeansMoves p) (MeansMoves q) tells (traces p q same) a b h k
-    one_trace told (Sources source initial max) tells p q same a b h k = absurd h
+    one_trace told other tells p q same a b h k = absurd h

@@ -1,22 +1,18 @@
 -- The files of a command mean one task, and they are refused for one reason, or mean a task.
-use Rattle.std.proofs.Common.{◌≡◌, ℕ, List, Option, Result, Ok, Err, refl, sym, ap, subst, ◌∙◌}
-use Rattle.tv_judge.specs.Judged.{Case}
+use Rattle.std.proofs.Common.{◌≡◌, List, Option, Ok, Err, refl, sym, ◌∙◌}
 use Rattle.tv_listing.specs.declared.analysis.Analysis.{Analysis}
 use Rattle.tv_listing.specs.declared.analysis.Rejection.{Rejection}
-use Rattle.tv_model.specs.Program.{ProgramForm, program_of}
-use Rattle.tv_model.specs.declared.program.Mode.{Mode}
 use Rattle.tv_model.specs.declared.program.Program.{Program}
 use Rattle.tv_outside.specs.Told.{Held}
-use Rattle.tv_replayed.specs.declared.state.Why.{Why}
 use Rattle.tv_status.specs.declared.status.FileKind.{FileKind}
 use Rattle.tv_status.specs.declared.status.Role.{Role}
 use Rattle.tv_status.specs.declared.status.Role.TheVariants as role
 use Rattle.tv_struct.specs.StructureForm.{StructureForm}
-use Rattle.tv_texts.specs.Agreement.{Agree, GiveOne, SameProgram, placeless}
-use Rattle.tv_top.specs.Answers.{Reached, CanRun, IsRejected, StopsIn, case_for}
-use Rattle.tv_top.specs.Meaning.{Task, FilesMean, GivesProgram, GivesInitial, GivesStart, GivesTrace, GivesReport, HasRun, IsRefused, IsTold, mode_of}
+use Rattle.tv_texts.specs.Agreement.{GiveOne, SameProgram, placeless}
+use Rattle.tv_top.specs.Answers.{CanRun, IsRejected, case_for}
+use Rattle.tv_top.specs.Meaning.{Task, FilesMean, GivesProgram, GivesInitial, GivesStart, GivesTrace, GivesReport, HasRun, IsRefused}
 use Rattle.tv_trace.specs.declared.trace.Trace.{Trace}
-use Rattle.tv_words.specs.Words.{CommandForm, Analyzes, Checks, Demos, Joins, Replays, Sources}
+use Rattle.tv_words.specs.Words.{CommandForm, Checks, Replays}
 
 -- both tasks are one, wherever the parts of the program lie in memory
 pub record SameTask (t u : Task) : Type 0 where
@@ -26,35 +22,24 @@ pub record SameTask (t u : Task) : Type 0 where
 
 -- the files behind INITIAL are read
 abbrev pub HasReport : Option Held → CommandForm → Task → Type 0
-HasReport told (Analyzes program initial max mode delta) task = Unit {0}
 HasReport told (Checks program initial report mode maps delta) task =
     (a : Analysis) × GivesReport told (Checks program initial report mode maps delta) task.program (Ok a)
-HasReport told (Demos number) task = Unit {0}
-HasReport told (Joins program initial max mode) task = Unit {0}
 HasReport told (Replays program initial start trace report) task =
     CanRun told (Replays program initial start trace report) task
-HasReport told (Sources source initial max) task = Unit {0}
+HasReport told other task = Unit {0}
 
 pub same_case : (t u : Task) (a b : Analysis) → SameTask t u → a ≡ b → case_for t a ≡ case_for u b
 same_case t u a b same e = rw (same.program, same.initial, same.mode, e) refl
 
 pub rejected_report : (told : Option Held) (command : CommandForm) (task : Task) (r : Rejection)
     → IsRejected told command task r → HasReport told command task
-rejected_report told (Analyzes p i max mode delta) task r h = absurd h
 rejected_report told (Checks p i report mode maps delta) task r h = (h.0, h.1)
-rejected_report told (Demos number) task r h = absurd h
-rejected_report told (Joins p i max mode) task r h = absurd h
-rejected_report told (Replays p i start trace report) task r h = absurd h
-rejected_report told (Sources n i max) task r h = absurd h
+rejected_report told other task r h = absurd h
 
-pub stopped_report : (told : Option Held) (command : CommandForm) (task : Task) (step : ℕ) (why : Why)
-    → StopsIn told command task step why → HasReport told command task
-stopped_report told (Analyzes p i max mode delta) task step why h = tt
-stopped_report told (Checks p i report mode maps delta) task step why h = (h.2, h.3.gives_report)
-stopped_report told (Demos number) task step why h = tt
-stopped_report told (Joins p i max mode) task step why h = tt
-stopped_report told (Replays p i start trace report) task step why h = (h.0, h.1, h.2, h.3)
-stopped_report told (Sources n i max) task step why h = tt
+pub run_report : (told : Option Held) (command : CommandForm) (task : Task) → CanRun told command task → HasReport told command task
+run_report told (Checks p i report mode maps delta) task h = (h.2, h.3.gives_report)
+run_report told (Replays p i start trace report) task h = h
+run_report told other task h = tt
 
 module _ (told : Option Held) (command : CommandForm)
     (programs : GiveOne SameProgram (GivesProgram told command) (GivesProgram told command))
@@ -81,60 +66,41 @@ module _ (told : Option Held) (command : CommandForm)
     report_read : (c : CommandForm) → (t u : Task) (k : FileKind) → SameProgram t.program u.program
         → ((p q : Program) → SameProgram p q → GiveOne {A = Analysis} ◌≡◌ (GivesReport told c p) (GivesReport told c q))
         → HasReport told c t → GivesReport told c u.program (Err k) → ⊥
-    report_read (Analyzes p i max mode delta) t u k same one has refused = refused
     report_read (Checks p i report mode maps delta) t u k same one has refused =
         one t.program u.program same (Ok has.0) (Err k) has.1 refused
-    report_read (Demos number) t u k same one has refused = refused
-    report_read (Joins p i max mode) t u k same one has refused = refused
     report_read (Replays p i start trace report) t u k same one has refused =
         one t.program u.program same (Ok has.2) (Err k) has.3.gives_report refused
-    report_read (Sources n i max) t u k same one has refused = refused
+    report_read other t u k same one has refused = refused
 
     -- nor is a heap that is read, or a trace
     start_read : (c : CommandForm) → (t u : Task) (k : FileKind) → SameProgram t.program u.program
         → ((p q : Program) → SameProgram p q → GiveOne {A = StructureForm} ◌≡◌ (GivesStart told c p) (GivesStart told c q))
         → HasReport told c t → GivesStart told c u.program (Err k) → ⊥
-    start_read (Analyzes p i max mode delta) t u k same one has refused = refused
-    start_read (Checks p i report mode maps delta) t u k same one has refused = refused
-    start_read (Demos number) t u k same one has refused = refused
-    start_read (Joins p i max mode) t u k same one has refused = refused
     start_read (Replays p i start trace report) t u k same one has refused =
         one t.program u.program same (Ok has.0) (Err k) has.3.gives_start refused
-    start_read (Sources n i max) t u k same one has refused = refused
+    start_read other t u k same one has refused = refused
 
     trace_read : (c : CommandForm) → (t u : Task) (k : FileKind) → SameProgram t.program u.program
         → ((p q : Program) → SameProgram p q → GiveOne {A = Trace} ◌≡◌ (GivesTrace told c p) (GivesTrace told c q))
         → HasReport told c t → GivesTrace told c u.program (Err k) → ⊥
-    trace_read (Analyzes p i max mode delta) t u k same one has refused = refused
-    trace_read (Checks p i report mode maps delta) t u k same one has refused = refused
-    trace_read (Demos number) t u k same one has refused = refused
-    trace_read (Joins p i max mode) t u k same one has refused = refused
     trace_read (Replays p i start trace report) t u k same one has refused =
         one t.program u.program same (Ok has.1) (Err k) has.3.gives_trace refused
-    trace_read (Sources n i max) t u k same one has refused = refused
+    trace_read other t u k same one has refused = refused
 
     -- a heap that is read before the trace or the report isn't refused, nor is a trace that is read before the report
     run_start : (c : CommandForm) → (t u : Task) (k : FileKind) → SameProgram t.program u.program
         → ((p q : Program) → SameProgram p q → GiveOne {A = StructureForm} ◌≡◌ (GivesStart told c p) (GivesStart told c q))
         → HasRun told c t.program → GivesStart told c u.program (Err k) → ⊥
-    run_start (Analyzes p i max mode delta) t u k same one run refused = refused
-    run_start (Checks p i report mode maps delta) t u k same one run refused = refused
-    run_start (Demos number) t u k same one run refused = refused
-    run_start (Joins p i max mode) t u k same one run refused = refused
     run_start (Replays p i start trace report) t u k same one run refused =
         one t.program u.program same (Ok run.0) (Err k) run.1 refused
-    run_start (Sources n i max) t u k same one run refused = refused
+    run_start other t u k same one run refused = refused
 
     run_trace : (c : CommandForm) → (t u : Task) (k : FileKind) → SameProgram t.program u.program
         → ((p q : Program) → SameProgram p q → GiveOne {A = Trace} ◌≡◌ (GivesTrace told c p) (GivesTrace told c q))
         → HasRun told c t.program → GivesTrace told c u.program (Err k) → ⊥
-    run_trace (Analyzes p i max mode delta) t u k same one run refused = refused
-    run_trace (Checks p i report mode maps delta) t u k same one run refused = refused
-    run_trace (Demos number) t u k same one run refused = refused
-    run_trace (Joins p i max mode) t u k same one run refused = refused
     run_trace (Replays p i start trace report) t u k same one run refused =
         one t.program u.program same (Ok run.2.0) (Err k) run.2.1 refused
-    run_trace (Sources n i max) t u k same one run refused = refused
+    run_trace other t u k same one run refused = refused
 
     -- files that mean a task aren't refused
     pub not_refused : (t : Task) (r : Role) (k : FileKind) → FilesMean told command t → HasReport told command t
@@ -159,16 +125,12 @@ module _ (told : Option Held) (command : CommandForm)
         → (r ≡ s) × (placeless k ≡ placeless l)
     one_refusal role.Program role.Program k l h j = (refl, programs (Err k) (Err l) h.1 j.1)
     one_refusal role.Program role.Initial k l h j = absurd (programs (Err k) (Ok j.0) h.1 j.1)
-    one_refusal role.Program role.Start k l h j = absurd (programs (Err k) (Ok j.0.program) h.1 j.1.program)
-    one_refusal role.Program role.Trace k l h j = absurd (programs (Err k) (Ok j.0.program) h.1 j.1.program)
-    one_refusal role.Program role.Report k l h j = absurd (programs (Err k) (Ok j.0.program) h.1 j.1.program)
     one_refusal role.Source role.Initial k l h j = absurd (programs (Err k) (Ok j.0) h.1 j.1)
-    one_refusal role.Source role.Start k l h j = absurd (programs (Err k) (Ok j.0.program) h.1 j.1.program)
-    one_refusal role.Source role.Trace k l h j = absurd (programs (Err k) (Ok j.0.program) h.1 j.1.program)
-    one_refusal role.Source role.Report k l h j = absurd (programs (Err k) (Ok j.0.program) h.1 j.1.program)
     one_refusal role.Source role.Source k l h j = (refl, programs (Err k) (Err l) h.1 j.1)
     one_refusal role.Source role.Program k l h j = absurd (let e = sym h.0 ∙ j.0 in cc)
+    one_refusal role.Source other k l h j = absurd (programs (Err k) (Ok j.0.program) h.1 j.1.program)
     one_refusal role.Program role.Source k l h j = absurd (let e = sym h.0 ∙ j.0 in cc)
+    one_refusal role.Program other k l h j = absurd (programs (Err k) (Ok j.0.program) h.1 j.1.program)
     one_refusal role.Initial role.Program k l h j = absurd (programs (Ok h.0) (Err l) h.1 j.1)
     one_refusal role.Initial role.Source k l h j = absurd (programs (Ok h.0) (Err l) h.1 j.1)
     one_refusal role.Initial role.Initial k l h j =
@@ -183,8 +145,6 @@ module _ (told : Option Held) (command : CommandForm)
     one_refusal role.Initial role.Report k l h j =
         let same : SameProgram h.0 j.0.program = programs (Ok h.0) (Ok j.0.program) h.1 j.1.program in
         absurd (initials h.0 j.0.program same (Err k) (Ok j.0.initial) h.2 j.1.initial)
-    one_refusal role.Start role.Program k l h j = absurd (programs (Ok h.0.program) (Err l) h.1.program j.1)
-    one_refusal role.Start role.Source k l h j = absurd (programs (Ok h.0.program) (Err l) h.1.program j.1)
     one_refusal role.Start role.Initial k l h j =
         let same : SameProgram h.0.program j.0 = programs (Ok h.0.program) (Ok j.0) h.1.program j.1 in
         absurd (initials h.0.program j.0 same (Ok h.0.initial) (Err l) h.1.initial j.2)
@@ -197,8 +157,6 @@ module _ (told : Option Held) (command : CommandForm)
     one_refusal role.Start role.Report k l h j =
         let same = one_task j.0 h.0 j.1 h.1 in
         absurd (run_start command j.0 h.0 k same.program starts j.2 h.2)
-    one_refusal role.Trace role.Program k l h j = absurd (programs (Ok h.0.program) (Err l) h.1.program j.1)
-    one_refusal role.Trace role.Source k l h j = absurd (programs (Ok h.0.program) (Err l) h.1.program j.1)
     one_refusal role.Trace role.Initial k l h j =
         let same : SameProgram h.0.program j.0 = programs (Ok h.0.program) (Ok j.0) h.1.program j.1 in
         absurd (initials h.0.program j.0 same (Ok h.0.initial) (Err l) h.1.initial j.2)
@@ -211,8 +169,6 @@ module _ (told : Option Held) (command : CommandForm)
     one_refusal role.Trace role.Report k l h j =
         let same = one_task j.0 h.0 j.1 h.1 in
         absurd (run_trace command j.0 h.0 k same.program traces j.2 h.3)
-    one_refusal role.Report role.Program k l h j = absurd (programs (Ok h.0.program) (Err l) h.1.program j.1)
-    one_refusal role.Report role.Source k l h j = absurd (programs (Ok h.0.program) (Err l) h.1.program j.1)
     one_refusal role.Report role.Initial k l h j =
         let same : SameProgram h.0.program j.0 = programs (Ok h.0.program) (Ok j.0) h.1.program j.1 in
         absurd (initials h.0.program j.0 same (Ok h.0.initial) (Err l) h.1.initial j.2)
@@ -225,3 +181,5 @@ module _ (told : Option Held) (command : CommandForm)
     one_refusal role.Report role.Report k l h j =
         let same = one_task h.0 j.0 h.1 j.1 in
         (refl, reports h.0.program j.0.program same.program (Err k) (Err l) h.3 j.3)
+    one_refusal other role.Program k l h j = absurd (programs (Ok h.0.program) (Err l) h.1.program j.1)
+    one_refusal other role.Source k l h j = absurd (programs (Ok h.0.program) (Err l) h.1.program j.1)

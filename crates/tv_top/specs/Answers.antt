@@ -29,7 +29,7 @@ use Rattle.tv_top.specs.Meaning.{Task, FilesMean, GivesReport, GivesStart, Gives
 use Rattle.tv_transfer.specs.Closed.{IsClosed, CoversRuns}
 use Rattle.tv_replayed.specs.Runs.{ShowsGivenRun, ShowsRecomputedRun}
 use Rattle.tv_replayed.specs.States.{IsReplay}
-use Rattle.tv_replayed.specs.Stuck.{IsStuck}
+use Rattle.tv_replayed.specs.Stuck.{GoesThrough, IsStuck, Standing, start_at}
 use Rattle.tv_replayed.specs.declared.state.State.{State}
 use Rattle.tv_replayed.specs.declared.state.Why.{Why}
 use Rattle.tv_states.specs.Text.{states_text, stuck_line}
@@ -145,6 +145,7 @@ pub record RunMeans (told : Option Held) (command : CommandForm) (meant : Progra
 -- nothing is broken, there is a run of the program through their heaps
 pub record AreStates (task : Task) (start : StructureForm) (trace : Trace) (report : Analysis) (states : List State)
     : Type 0 where
+  pub valid : IsValid (program_of task.program)
   pub are : IsReplay (program_of task.program) task.initial start trace.moves report.listing states
   pub given : ShowsGivenRun (program_of task.program) task.initial trace.moves states
   pub recomputed : ShowsRecomputedRun (program_of task.program) task.initial trace.moves states
@@ -160,6 +161,12 @@ abbrev pub StopsIn : Option Held → CommandForm → Task → (step : ℕ) → W
 StopsIn told command task step why = (start : StructureForm) × (trace : Trace) × (report : Analysis)
     × RunMeans told command task.program start trace report
     × IsStuck (program_of task.program) start trace.moves step why
+
+-- the trace goes on to its end
+abbrev pub GoesOnIn : Option Held → CommandForm → Task → Type 0
+GoesOnIn told command task = (start : StructureForm) × (trace : Trace) × (report : Analysis)
+    × RunMeans told command task.program start trace report
+    × ((later : List Standing) × GoesThrough (program_of task.program) (start_at start) trace.moves later)
 
 -- START, TRACE and REPORT mean something
 abbrev pub CanRun : Option Held → CommandForm → Task → Type 0
@@ -219,6 +226,7 @@ IsAnswer told command (Rejected r) text =
     (task : Task) × FilesMean told command task × IsRejected told command task r × (text ≡ rejected_line r)
 IsAnswer told command (Stuck step why) text =
     (task : Task) × FilesMean told command task × StopsIn told command task step why × (text ≡ stuck_line step why)
+    × IsValid (program_of task.program)
 IsAnswer told command other text = ⊥
 
 -- ---- limits
@@ -276,7 +284,7 @@ pub record KeepsRoundLimits (task : Task) (max : ℕ) : Type 0 where
   pub few : (round : ℕ) → ¬ AreMoreThan max (InRound task round)
   pub budgets : (round : ℕ) → KeepAllBudgets (program_of task.program) (InRound task round)
 
--- nothing stands in the way of the job: the limits are kept, or the report is closed
+-- nothing stands in the way of the job: the limits are kept, the report is closed, or the trace goes on to its end
 abbrev pub CanBeDone : Option Held → CommandForm → Task → Type 0
 CanBeDone told (Analyzes program initial max mode delta) task = KeepsLimits task max
 CanBeDone told (Checks program initial report mode maps delta) task =
@@ -285,5 +293,5 @@ CanBeDone told (Checks program initial report mode maps delta) task =
 CanBeDone told (Demos number) task = KeepsLimits task demo_max
 CanBeDone told (Joins program initial max mode) task = KeepsRoundLimits task max
 CanBeDone told (Replays program initial start trace report) task =
-    CanRun told (Replays program initial start trace report) task
+    GoesOnIn told (Replays program initial start trace report) task
 CanBeDone told (Sources source initial max) task = KeepsLimits task max

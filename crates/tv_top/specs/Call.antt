@@ -4,7 +4,7 @@ use Rattle.tv_outside.specs.Told.{Held}
 use Rattle.tv_status.specs.declared.status.Status.{Status}
 use Rattle.tv_status.specs.declared.status.Status.TheVariants.{Done, Rejected, Stuck, Usage, FileFault, Structures, TooManySplits, TooManyIndividuals, ReadFault, WriteFault, Memory}
 use Rattle.tv_texts.specs.Agreement.{placeless}
-use Rattle.tv_top.specs.Answers.{IsAnswer, IsRejected, CanBeDone, ReachesTooMuch, MeetsBudget}
+use Rattle.tv_top.specs.Answers.{IsAnswer, IsRejected, CanBeDone, CanRun, StopsIn, ReachesTooMuch, MeetsBudget}
 use Rattle.tv_top.specs.Meaning.{Task, Commands, FilesMean, IsRefused, IsMissing, HoldsFiles, IsTold}
 use Rattle.tv_top.specs.declared.fault.Fault.{Fault}
 use Rattle.tv_top.specs.declared.fault.Fault.TheVariants as fault
@@ -54,6 +54,8 @@ abbrev pub CommandCallsFor : Option Held → CommandForm → Status → Type 0
 CommandCallsFor told command Done = (task : Task) × FilesMean told command task × CanBeDone told command task
 CommandCallsFor told command (Rejected r) = (task : Task) × FilesMean told command task
     × IsRejected told command task r
+CommandCallsFor told command (Stuck step why) = (task : Task) × FilesMean told command task
+    × StopsIn told command task step why
 CommandCallsFor told command (FileFault role kind) = IsRefused told command role kind
 CommandCallsFor told command other = ⊥
 
@@ -62,6 +64,17 @@ abbrev pub CallsFor : List (List ℕ) → Option Held → Status → Type 0
 CallsFor words told Usage = SpellsNothing words
 CallsFor words told due = Commands words (λ command. IsTold told command × CommandCallsFor told command due)
 
+-- what the files of `replay` hold calls for a replay, to whatever end
+abbrev pub CallsForRun : List (List ℕ) → Option Held → Type 0
+CallsForRun words told = Commands words (λ command. IsTold told command
+    × ((task : Task) × FilesMean told command task × CanRun told command task))
+
+-- how a replay ends
+abbrev pub IsRunEnding : Status → Type 0
+IsRunEnding Done = Unit {0}
+IsRunEnding (Stuck step why) = Unit {0}
+IsRunEnding other = ⊥
+
 -- an ending that may stand in the place of any other
 abbrev pub IsExcuse : Status → Type 0
 IsExcuse ReadFault = Unit {0}
@@ -69,16 +82,17 @@ IsExcuse WriteFault = Unit {0}
 IsExcuse Memory = Unit {0}
 IsExcuse other = ⊥
 
--- the ending, wherever in a file a fault stands, and however far along its trace a replay comes
+-- the ending, wherever in a file a fault stands
 abbrev pub without_place : Status → Status
-without_place (Stuck step why) = Done
 without_place (FileFault role kind) = FileFault role (placeless kind)
 without_place other = other
 
--- whatever ending is called for, this is the one, the place of a fault aside, or there is such an excuse
-abbrev pub EndsDuly : List (List ℕ) → Option Held → Status → (excuse : Type 0) → Type 0
-EndsDuly words told status excuse =
-    (due : Status) → CallsFor words told due → (without_place status ≡ without_place due) ⊎ excuse
+-- the call ends as it is called for, or there is such an excuse
+pub record EndsDuly (words : List (List ℕ)) (told : Option Held) (status : Status) (excuse : Type 0) : Type 0 where
+  -- whatever ending is called for, this is the one, the place of a fault aside
+  pub due : (due : Status) → CallsFor words told due → (without_place status ≡ without_place due) ⊎ excuse
+  -- and a replay that is called for is done or stuck
+  pub run : CallsForRun words told → IsRunEnding status ⊎ excuse
 
 -- the files of the command are there
 abbrev pub HoldsOperands : List (List ℕ) → Option Held → Type 0

@@ -8,16 +8,21 @@ use Rattle.tv_model.specs.Program.{program_of}
 use Rattle.tv_model.specs.Valid.{IsValid}
 use Rattle.tv_model.specs.declared.program.Mode.{Mode}
 use Rattle.tv_model.specs.declared.program.Program.{Program}
-use Rattle.tv_outside.specs.Told.{Held}
+use Rattle.tv_outside.specs.Told.{Held, HoldsName}
+use Rattle.tv_status.specs.declared.status.FileKind.{FileKind}
+use Rattle.tv_status.specs.declared.status.Role.{Role}
+use Rattle.tv_status.specs.declared.status.Role.TheVariants as role
 use Rattle.tv_status.specs.declared.status.Status.{Status}
 use Rattle.tv_status.specs.declared.status.Status.TheVariants.{Done, Rejected, Stuck}
 use Rattle.tv_struct.specs.StructureForm.{IsOver, StructureForm, IsStructure}
-use Rattle.tv_texts.specs.Files.{IsProgramFile}
+use Rattle.tv_texts.specs.Files.{IsProgramFile, IsSourceFile, LacksFile}
 use Rattle.tv_top.specs.Answers.{Reached, InRound, IsAccepted, IsAcceptedText, case_for, rejected_line, AreStates}
-use Rattle.tv_top.specs.Meaning.{Task}
+use Rattle.tv_top.specs.Meaning.{Task, IsTakenProgram}
 use Rattle.tv_top.specs.declared.fault.Fault.{Fault}
 use Rattle.tv_top.specs.declared.fault.Fault.TheVariants as fault
 use Rattle.tv_top.specs.declared.inputs.Inputs.{Inputs}
+use Rattle.tv_top.specs.declared.inputs.Origin.{Origin}
+use Rattle.tv_top.specs.declared.inputs.Origin.TheVariants as origin
 use Rattle.tv_transfer.specs.Budgets.{MeetsSplits, MeetsIndividuals}
 use Rattle.tv_replayed.specs.Stuck.{IsStuck}
 use Rattle.tv_replayed.specs.declared.state.State.{State}
@@ -27,20 +32,43 @@ use Rattle.tv_words.specs.Words.{CommandForm, Analyzes, Checks, Demos, Joins, Re
 use Rattle.tv_work.specs.Analysed.{Meets}
 use Rattle.tv_work.specs.Reach.{AreMoreThan}
 
--- the command names these files as PROGRAM and INITIAL, and asks for differencing or doesn't
-abbrev pub Names : CommandForm → (program initial : List ℕ) → (differenced : Bool) → Type 0
-Names (Analyzes program initial max mode delta) p i d = (program ≡ p) × (initial ≡ i) × (delta ≡ d)
-Names (Checks program initial report mode maps delta) p i d = (program ≡ p) × (initial ≡ i) × (delta ≡ d)
-Names (Demos number) p i d = ⊥
-Names (Joins program initial max mode) p i d = (program ≡ p) × (initial ≡ i) × (false ≡ d)
-Names (Replays program initial start trace report) p i d = (program ≡ p) × (initial ≡ i) × (false ≡ d)
-Names (Sources source initial max) p i d = ⊥
+-- ---- where the program of a command comes from
+
+-- the file there means this program, or is refused so
+abbrev pub Comes : Origin → Option Held → Result Program FileKind → Type 0
+Comes (origin.Program name delta) told answer = IsTakenProgram delta told name.now answer
+Comes (origin.Source name) told answer = IsSourceFile told name.now answer
+
+abbrev pub role_of : Origin → Role
+role_of (origin.Program name delta) = role.Program
+role_of (origin.Source name) = role.Source
+
+abbrev pub Lacks : Origin → Option Held → Type 0
+Lacks (origin.Program name delta) told = LacksFile told name.now
+Lacks (origin.Source name) told = ¬ HoldsName told name.now
 
 -- with `delta`, the runs of the program that was read are runs of this one, which differencing makes of it
 abbrev pub HasReadRuns : (delta : Bool) → Option Held → (name : List ℕ) → Program → Type 0
 HasReadRuns false told name program = Unit {0}
 HasReadRuns true told name program = (read : Program) × IsProgramFile told name (Ok read)
     × IsDifferenced (program_of read) (program_of program) × HasRuns (program_of read) (program_of program)
+
+abbrev pub HasRunsOf : Origin → Option Held → Program → Type 0
+HasRunsOf (origin.Program name delta) told program = HasReadRuns delta told name.now program
+HasRunsOf (origin.Source name) told program = Unit {0}
+
+-- the command's program comes from there, and this file is its INITIAL
+abbrev pub Names : CommandForm → Origin → (initial : List ℕ) → Type 0
+Names (Analyzes program initial max mode delta) (origin.Program p d) i = (program ≡ p.now) × (initial ≡ i) × (delta ≡ d)
+Names (Checks program initial report mode maps delta) (origin.Program p d) i =
+    (program ≡ p.now) × (initial ≡ i) × (delta ≡ d)
+Names (Joins program initial max mode) (origin.Program p d) i = (program ≡ p.now) × (initial ≡ i) × (false ≡ d)
+Names (Replays program initial start trace report) (origin.Program p d) i =
+    (program ≡ p.now) × (initial ≡ i) × (false ≡ d)
+Names (Sources source initial max) (origin.Source s) i = (source ≡ s.now) × (initial ≡ i)
+Names command origin i = ⊥
+
+-- ---- the parts of the work
 
 -- the program that is taken where this one was read
 abbrev pub IsTakenFrom : (delta : Bool) → (read taken : Program) → Type 0
@@ -107,6 +135,7 @@ IsRun task start trace report Done text =
     (states : List State) × AreStates task start trace report states × (text ≡ states_text task.program states)
 IsRun task start trace report (Stuck step why) text =
     IsStuck (program_of task.program) start trace.moves step why × (text ≡ stuck_line step why)
+    × IsValid (program_of task.program)
 IsRun task start trace report other text = ⊥
 
 -- this holds at any answer but a read fault

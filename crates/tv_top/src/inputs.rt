@@ -1,17 +1,16 @@
 //! The files of a command, read and understood.
 
-ghost use Rattle.std.specs.Prelude.{ℕ, ◌≡◌, ◌≤◌, Ok, Err, IfOk, IfErr};
+ghost use Rattle.std.specs.Prelude.{◌≡◌, ◌≤◌, Ok, Err, IfOk, IfErr};
 ghost use Rattle.tv_model.specs.Program.{program_of};
 ghost use Rattle.tv_model.specs.Valid.{IsValid};
-ghost use Rattle.tv_model.specs.declared.program.Mode.TheVariants.{Given};
 ghost use Rattle.tv_outside.specs.Count.{Rose};
 ghost use Rattle.tv_status.specs.declared.status.Role.TheVariants as role;
 ghost use Rattle.tv_texts.specs.Files.{LacksFile, IsFileCause, UnlessNotRead};
 ghost use Rattle.tv_top.specs.Call.{IsCommandCause};
 ghost use Rattle.tv_top.specs.Meaning.{FilesMean, IsTakenProgram, mode_of};
-ghost use Rattle.tv_top.specs.Work.{Names, HasReadRuns, IsTakenFrom, IsReady, UnlessReadFault, task_of};
+ghost use Rattle.tv_top.specs.Work.{Comes, HasReadRuns, HasRunsOf, IsReady, IsTakenFrom, Lacks, Names, UnlessReadFault, role_of, task_of};
 ghost use Rattle.tv_texts.specs.declared.fault.TextFault.TheVariants.{Memory};
-ghost use Rattle.tv_words.specs.Words.{CommandForm, Sources};
+ghost use Rattle.tv_words.specs.Words.{CommandForm};
 
 use crate::fault::Fault;
 use std::alloc::Global;
@@ -26,6 +25,15 @@ use tv_texts::{TextFault, load_initial, load_program, load_source};
 pub struct Inputs {
     pub program: Program,
     pub initial: Structures,
+}
+
+/// Where the program of a command comes from.
+#[derive(Clone, Copy)]
+pub enum Origin<'a> {
+    /// A named file of programs; with `delta`, differencing makes of it what is taken.
+    Program { name: &'a str, delta: bool },
+    /// A named source program, which is compiled.
+    Source(&'a str),
 }
 
 /// The program of which it is told that `read` means it; with `delta`, what differencing makes of it.
@@ -66,23 +74,41 @@ fn load_taken<F: Files>(
     taken(alloc, read, delta)
 }
 
-/// The program and the initial structures that the two named files mean; with `delta`, the program is what
-/// differencing makes of the one that was read.
+/// The program of this origin.
+fn load_origin<F: Files>(
+    alloc: Global,
+    files: &mut F,
+    origin: Origin<'_>,
+) -> Result<Program, TextFault>
+    ensures means { IfOk result (λ p. Comes origin.entry (F.holds files.old) (Ok p)) }
+    ensures runs { IfOk result (HasRunsOf origin.entry (F.holds files.old)) }
+    ensures valid { IfOk result (λ p. IsValid (program_of p)) }
+    ensures cause { IfErr result (IsFileCause (role_of origin.entry)
+        (λ kind. Comes origin.entry (F.holds files.old) (Err kind)) (Lacks origin.entry (F.holds files.old))
+        (Rose (F.faults files.old) (F.faults files.new)) (F.steady files.old)) }
+    ensures holds { F.holds files.new ≡ F.holds files.old }
+    ensures count { F.faults files.old ≤ F.faults files.new }
+    ensures steady { F.steady files.old → UnlessNotRead result (F.steady files.new
+        × (F.faults files.new ≡ F.faults files.old)) }
+{
+    match origin {
+        Origin::Program { name, delta } => load_taken(alloc, files, name, delta),
+        Origin::Source(name) => load_source(alloc, files, name),
+    }
+}
+
+/// The program of this origin, and the initial structures that the named file means.
 pub fn load_inputs<F: Files>(
     alloc: Global,
     files: &mut F,
-    program: &str,
+    origin: Origin<'_>,
     initial: &str,
-    delta: bool,
 ) -> Result<Inputs, Fault>
-    ensures meant { IfOk result (λ inputs. (command : CommandForm)
-        → Names command program.now initial.now delta
+    ensures meant { IfOk result (λ inputs. (command : CommandForm) → Names command origin.entry initial.now
         → FilesMean (F.holds files.old) command (task_of inputs (mode_of command))) }
-    ensures runs { IfOk result (λ inputs. HasReadRuns delta (F.holds files.old) program.now
-        inputs.program) }
+    ensures runs { IfOk result (λ inputs. HasRunsOf origin.entry (F.holds files.old) inputs.program) }
     ensures ready { IfOk result IsReady }
-    ensures cause { IfErr result (λ fault. (command : CommandForm)
-        → Names command program.now initial.now delta
+    ensures cause { IfErr result (λ fault. (command : CommandForm) → Names command origin.entry initial.now
         → IsCommandCause (F.holds files.old) command (Rose (F.faults files.old) (F.faults files.new))
         (F.steady files.old) fault) }
     ensures holds { F.holds files.new ≡ F.holds files.old }
@@ -90,30 +116,7 @@ pub fn load_inputs<F: Files>(
     ensures steady { F.steady files.old → UnlessReadFault result (F.steady files.new
         × (F.faults files.new ≡ F.faults files.old)) }
 {
-    let program = load_taken(alloc, files, program, delta)?;
-    let initial = load_initial(alloc, files, initial, &program)?;
-    Ok(Inputs { program, initial })
-}
-
-/// The program that the named source program is compiled to, and the initial structures that the other file means.
-pub fn load_source_inputs<F: Files>(
-    alloc: Global,
-    files: &mut F,
-    source: &str,
-    initial: &str,
-) -> Result<Inputs, Fault>
-    ensures meant { IfOk result (λ inputs. (max : ℕ) → FilesMean (F.holds files.old)
-        (Sources source.now initial.now max) (task_of inputs Given)) }
-    ensures ready { IfOk result IsReady }
-    ensures cause { IfErr result (λ fault. (max : ℕ) → IsCommandCause (F.holds files.old)
-        (Sources source.now initial.now max) (Rose (F.faults files.old) (F.faults files.new))
-        (F.steady files.old) fault) }
-    ensures holds { F.holds files.new ≡ F.holds files.old }
-    ensures count { F.faults files.old ≤ F.faults files.new }
-    ensures steady { F.steady files.old → UnlessReadFault result (F.steady files.new
-        × (F.faults files.new ≡ F.faults files.old)) }
-{
-    let program = load_source(alloc, files, source)?;
+    let program = load_origin(alloc, files, origin)?;
     let initial = load_initial(alloc, files, initial, &program)?;
     Ok(Inputs { program, initial })
 }

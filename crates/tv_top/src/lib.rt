@@ -17,6 +17,7 @@ mod work;
 pub use laws::reports_are_accepted;
 use std::alloc::Global;
 use tv_outside::{Files, Sink};
+use tv_replayed::runs_have_one_ending;
 pub use tv_status::{FileKind, Role, Status};
 use tv_texts::one_meaning_each;
 use tv_words::one_command;
@@ -77,6 +78,7 @@ pub fn tvla<F: Files, O: Sink, E: Sink>(
 {
     one_command();
     one_meaning_each();
+    runs_have_one_ending();
     let found = work::perform(alloc, words, files);
     delivery::deliver(found, out, err)
 }

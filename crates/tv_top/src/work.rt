@@ -12,7 +12,7 @@ ghost use Rattle.tv_words.specs.Words.{words_of, SpellsNothing, Analyzes, Checks
 
 use crate::answers::{demo_line, judgement, replayed, search, search_joined};
 use crate::fault::{Answer, Fault};
-use crate::inputs::{Inputs, load_inputs, load_source_inputs};
+use crate::inputs::{Inputs, Origin, load_inputs};
 use crate::laws::commands_are_bounded;
 use std::alloc::Global;
 use tv_demo::demo_texts;
@@ -48,7 +48,11 @@ fn analyze<F: Files>(
     ensures count { F.faults files.old ≤ F.faults files.new }
     ensures steady { F.steady files.old → UnlessReadFault result (F.faults files.new ≡ F.faults files.old) }
 {
-    let inputs = load_inputs(alloc, files, program, initial, delta)?;
+    let origin = Origin::Program {
+        name: program,
+        delta,
+    };
+    let inputs = load_inputs(alloc, files, origin, initial)?;
     let found = search(alloc, &inputs, mode, max)?;
     let text = write_report(alloc, &inputs.program, &found)?;
     Ok(Answer::Done(text))
@@ -76,7 +80,11 @@ fn check<F: Files>(
     ensures count { F.faults files.old ≤ F.faults files.new }
     ensures steady { F.steady files.old → UnlessReadFault result (F.faults files.new ≡ F.faults files.old) }
 {
-    let inputs = load_inputs(alloc, files, program, initial, delta)?;
+    let origin = Origin::Program {
+        name: program,
+        delta,
+    };
+    let inputs = load_inputs(alloc, files, origin, initial)?;
     let report = load_report(alloc, files, report, &inputs.program)?;
     judgement(alloc, &inputs, report, mode, maps)
 }
@@ -130,7 +138,11 @@ fn join<F: Files>(
     ensures count { F.faults files.old ≤ F.faults files.new }
     ensures steady { F.steady files.old → UnlessReadFault result (F.faults files.new ≡ F.faults files.old) }
 {
-    let inputs = load_inputs(alloc, files, program, initial, false)?;
+    let origin = Origin::Program {
+        name: program,
+        delta: false,
+    };
+    let inputs = load_inputs(alloc, files, origin, initial)?;
     let found = search_joined(alloc, &inputs, mode, max)?;
     let text = write_report(alloc, &inputs.program, &found)?;
     Ok(Answer::Done(text))
@@ -157,7 +169,11 @@ fn run<F: Files>(
     ensures count { F.faults files.old ≤ F.faults files.new }
     ensures steady { F.steady files.old → UnlessReadFault result (F.faults files.new ≡ F.faults files.old) }
 {
-    let inputs = load_inputs(alloc, files, program, initial, false)?;
+    let origin = Origin::Program {
+        name: program,
+        delta: false,
+    };
+    let inputs = load_inputs(alloc, files, origin, initial)?;
     let start = load_start(alloc, files, start, &inputs.program)?;
     let trace = load_trace(alloc, files, trace, &inputs.program)?;
     let reported = load_report(alloc, files, report, &inputs.program)?;
@@ -184,7 +200,7 @@ fn source<F: Files>(
     ensures steady { F.steady files.old → UnlessReadFault result (F.faults files.new ≡ F.faults files.old) }
 {
     covered_runs_cover_sources();
-    let inputs = load_source_inputs(alloc, files, source, initial)?;
+    let inputs = load_inputs(alloc, files, Origin::Source(source), initial)?;
     let found = search(alloc, &inputs, Mode::Given, max)?;
     let text = write_report(alloc, &inputs.program, &found)?;
     Ok(Answer::Done(text))

@@ -9,6 +9,8 @@ use Rattle.clap.specs.declared.parser.matches.ArgMatches.{ArgMatches}
 use Rattle.clap.specs.Simple.{App, new_rule, new_shape}
 use Rattle.clap.specs.declared.builder.action.ArgAction.TheVariants.{Append, Count}
 use Rattle.tv_words.specs.Line.{Part, IsLine, is_among, operands_of, uses_of, values_of}
+use Rattle.tv_words.specs.Words.{CommandForm, LineForm, Says, name_of}
+use Rattle.tv_words.specs.declared.line.Line.{Line}
 
 -- any number of operands, one behind the other
 abbrev pub operand_rule : Rule
@@ -89,3 +91,32 @@ HasNoLine flags settings words = (parts : List Part) (behind : List (List ℕ))
 abbrev pub Reads : (flags settings words : List (List ℕ)) → Option ArgMatches → Type 0
 Reads flags settings words None = HasNoLine flags settings words
 Reads flags settings words (Some matches) = HasLine flags settings words matches
+
+-- ---- what stands on a line, as `clap` tells it
+
+abbrev pub told_line : ArgMatches → LineForm
+told_line matches = record {
+  operands = texts_in matches (codes "operands");
+  recompute = uses_in matches (codes "recompute");
+  delta = uses_in matches (codes "delta");
+  maps = uses_in matches (codes "maps");
+  max = texts_in matches (codes "max-structures");
+}
+
+-- the line's texts by their bytes
+abbrev pub line_in : Line → LineForm
+line_in line = record {
+  operands = told_texts line.operands;
+  recompute = line.recompute;
+  delta = line.delta;
+  maps = line.maps;
+  max = told_texts line.max;
+}
+
+-- the line says this command, which has the name
+abbrev pub IsSaid : (name : List ℕ) → LineForm → CommandForm → Type 0
+IsSaid name line command = (name_of command ≡ name) × Says line command
+
+-- it says no command of that name
+abbrev pub NoneSaid : (name : List ℕ) → LineForm → Type 0
+NoneSaid name line = (command : CommandForm) → ¬ IsSaid name line command

@@ -43,81 +43,38 @@ abbrev pub AreUses : (recompute delta : ℕ) → Mode → (differenced : Bool) �
 AreUses recompute delta mode differenced = (recompute ≡ recomputes mode) × (delta ≡ once differenced)
     × GoTogether mode differenced
 
--- the options of `analyze` and `check`
-abbrev pub analyze_flags : List (List ℕ)
-analyze_flags = codes "recompute" ∷ codes "delta" ∷ []
+-- the options of all commands
+abbrev pub line_flags : List (List ℕ)
+line_flags = codes "recompute" ∷ codes "delta" ∷ codes "maps" ∷ []
 
-abbrev pub analyze_settings : List (List ℕ)
-analyze_settings = codes "max-structures" ∷ []
+abbrev pub line_settings : List (List ℕ)
+line_settings = codes "max-structures" ∷ []
 
-abbrev pub check_flags : List (List ℕ)
-check_flags = codes "recompute" ∷ codes "maps" ∷ codes "delta" ∷ []
-
--- those of `join`
-abbrev pub join_flags : List (List ℕ)
-join_flags = codes "recompute" ∷ []
-
-abbrev pub join_settings : List (List ℕ)
-join_settings = codes "max-structures" ∷ []
-
--- those of `source`
-abbrev pub source_settings : List (List ℕ)
-source_settings = codes "max-structures" ∷ []
-
--- what the words behind `analyze` say: two operands, at most one `--recompute` or `--delta`, and at most one
+-- what stands on a line: its operands in order, how often each option without a value stands, and the values of
 -- `--max-structures`
-pub record AnalyzeLine (words : List (List ℕ)) (program initial : List ℕ) (max : ℕ) (mode : Mode) (delta : Bool) :
-    Type 0 where
-  pub parts : List Part
-  pub behind : List (List ℕ)
-  pub line : IsLine analyze_flags analyze_settings parts behind words
-  pub operands : operands_of parts ++ behind ≡ program ∷ initial ∷ []
-  pub uses : AreUses (uses_of (codes "recompute") parts) (uses_of (codes "delta") parts) mode delta
-  pub max_is : IsMax (values_of (codes "max-structures") parts) max
+pub record LineForm : Type 0 where
+  pub operands : List (List ℕ)
+  pub recompute : ℕ
+  pub delta : ℕ
+  pub maps : ℕ
+  pub max : List (List ℕ)
 
--- what the words behind `check` say: three operands, at most one `--recompute` or `--delta`, and at most one
--- `--maps`
-pub record CheckLine (words : List (List ℕ)) (program initial report : List ℕ) (mode : Mode) (maps delta : Bool) :
-    Type 0 where
-  pub parts : List Part
-  pub behind : List (List ℕ)
-  pub line : IsLine check_flags [] parts behind words
-  pub operands : operands_of parts ++ behind ≡ program ∷ initial ∷ report ∷ []
-  pub uses : AreUses (uses_of (codes "recompute") parts) (uses_of (codes "delta") parts) mode delta
-  pub maps_is : uses_of (codes "maps") parts ≡ once maps
+-- what the parts say, and the operands behind `--`
+abbrev pub line_of : List Part → (behind : List (List ℕ)) → LineForm
+line_of parts behind = record {
+  operands = operands_of parts ++ behind;
+  recompute = uses_of (codes "recompute") parts;
+  delta = uses_of (codes "delta") parts;
+  maps = uses_of (codes "maps") parts;
+  max = values_of (codes "max-structures") parts;
+}
 
--- what the words behind `demo` say: one operand, a number up to 16
-pub record DemoLine (words : List (List ℕ)) (number : ℕ) : Type 0 where
+-- this stands on the words
+pub record StandsOn (words : List (List ℕ)) (line : LineForm) : Type 0 where
   pub parts : List Part
   pub behind : List (List ℕ)
-  pub line : IsLine [] [] parts behind words
-  pub word : List ℕ
-  pub operands : operands_of parts ++ behind ≡ word ∷ []
-  pub number_is : IsNumberUpTo 16 word number
-
--- what the words behind `join` say: two operands, at most one `--recompute` and one `--max-structures`
-pub record JoinLine (words : List (List ℕ)) (program initial : List ℕ) (max : ℕ) (mode : Mode) : Type 0 where
-  pub parts : List Part
-  pub behind : List (List ℕ)
-  pub line : IsLine join_flags join_settings parts behind words
-  pub operands : operands_of parts ++ behind ≡ program ∷ initial ∷ []
-  pub mode_is : uses_of (codes "recompute") parts ≡ recomputes mode
-  pub max_is : IsMax (values_of (codes "max-structures") parts) max
-
--- what the words behind `replay` say: five operands
-pub record ReplayLine (words : List (List ℕ)) (program initial start trace report : List ℕ) : Type 0 where
-  pub parts : List Part
-  pub behind : List (List ℕ)
-  pub line : IsLine [] [] parts behind words
-  pub operands : operands_of parts ++ behind ≡ program ∷ initial ∷ start ∷ trace ∷ report ∷ []
-
--- what the words behind `source` say: two operands, and at most one `--max-structures`
-pub record SourceLine (words : List (List ℕ)) (source initial : List ℕ) (max : ℕ) : Type 0 where
-  pub parts : List Part
-  pub behind : List (List ℕ)
-  pub line : IsLine [] source_settings parts behind words
-  pub operands : operands_of parts ++ behind ≡ source ∷ initial ∷ []
-  pub max_is : IsMax (values_of (codes "max-structures") parts) max
+  pub spelled : IsLine line_flags line_settings parts behind words
+  pub is : line ≡ line_of parts behind
 
 -- a command, its files named by bytes
 pub data CommandForm : Type 0 where
@@ -152,24 +109,31 @@ name_of (Joins program initial max mode) = codes "join"
 name_of (Replays program initial start trace report) = codes "replay"
 name_of (Sources source initial max) = codes "source"
 
--- the words behind the first say the rest of the command
-abbrev pub IsRest : List (List ℕ) → CommandForm → Type 0
-IsRest words (Analyzes program initial max mode delta) = AnalyzeLine words program initial max mode delta
-IsRest words (Checks program initial report mode maps delta) =
-    CheckLine words program initial report mode maps delta
-IsRest words (Demos number) = DemoLine words number
-IsRest words (Joins program initial max mode) = JoinLine words program initial max mode
-IsRest words (Replays program initial start trace report) =
-    ReplayLine words program initial start trace report
-IsRest words (Sources source initial max) = SourceLine words source initial max
+-- the options without a value say this mode, and whether updates are differenced and maps asked for
+abbrev pub HasFlags : LineForm → Mode → (delta maps : Bool) → Type 0
+HasFlags line mode delta maps = AreUses line.recompute line.delta mode delta × (line.maps ≡ once maps)
 
--- the words behind this name say this command, which has the name
-abbrev pub IsNamed : (name : List ℕ) → List (List ℕ) → CommandForm → Type 0
-IsNamed name words command = (name_of command ≡ name) × IsRest words command
+-- a line says a command: it has the command's operands, each option of the command once at most, and no other option
+abbrev pub Says : LineForm → CommandForm → Type 0
+Says line (Analyzes program initial max mode delta) = (line.operands ≡ program ∷ initial ∷ [])
+    × HasFlags line mode delta false × IsMax line.max max
+Says line (Checks program initial report mode maps delta) = (line.operands ≡ program ∷ initial ∷ report ∷ [])
+    × HasFlags line mode delta maps × (line.max ≡ [])
+Says line (Demos number) = (word : List ℕ) × (line.operands ≡ word ∷ [])
+    × HasFlags line Given false false × (line.max ≡ []) × IsNumberUpTo 16 word number
+Says line (Joins program initial max mode) = (line.operands ≡ program ∷ initial ∷ [])
+    × HasFlags line mode false false × IsMax line.max max
+Says line (Replays program initial start trace report) =
+    (line.operands ≡ program ∷ initial ∷ start ∷ trace ∷ report ∷ [])
+    × HasFlags line Given false false × (line.max ≡ [])
+Says line (Sources source initial max) = (line.operands ≡ source ∷ initial ∷ [])
+    × HasFlags line Given false false × IsMax line.max max
 
--- the words behind this name say no command
-abbrev pub NoneNamed : (name : List ℕ) → List (List ℕ) → Type 0
-NoneNamed name words = (command : CommandForm) → ¬ IsNamed name words command
+-- a line that stands on the words says the command
+pub record IsRest (words : List (List ℕ)) (command : CommandForm) : Type 0 where
+  pub line : LineForm
+  pub stands : StandsOn words line
+  pub says : Says line command
 
 -- the words spell this command: its name, and the rest behind it
 abbrev pub Spells : List (List ℕ) → CommandForm → Type 0

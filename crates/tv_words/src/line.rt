@@ -1,9 +1,9 @@
 //! A line of words, read by `clap`: options and operands in any order.
 
-ghost use Rattle.std.specs.Prelude.{◌≡◌, ℕ, List, IsTrue, false, codes, IfOk, []};
+ghost use Rattle.std.specs.Prelude.{◌≡◌, ℕ, List, IsTrue, false, codes, IfOk};
 ghost use Rattle.clap.specs.Words.{app_of, rule_of};
-ghost use Rattle.tv_words.specs.Setup.{bare_app, line_app, operand_rule, flag_rule, setting_rule, is_fit, told_texts, texts_in, Reads};
-ghost use Rattle.tv_words.specs.Words.{words_of, analyze_flags, analyze_settings, check_flags, join_flags, join_settings, source_settings};
+ghost use Rattle.tv_words.specs.Setup.{bare_app, line_app, operand_rule, flag_rule, setting_rule, is_fit, told_texts, texts_in, told_line, line_in, Reads};
+ghost use Rattle.tv_words.specs.Words.{words_of, line_flags, line_settings};
 
 use clap::error::ErrorKind;
 use clap::{Arg, ArgAction, ArgMatches, Command};
@@ -42,66 +42,20 @@ fn bare_line<'a>(alloc: Global, name: &'a str) -> Command<'a>
         .disable_help_flag(true)
 }
 
-/// The line of `analyze`.
-pub fn analyze_line<'a>(alloc: Global) -> Result<Command<'a>, AllocError>
-    ensures { IfOk result (λ c. app_of c ≡ line_app (codes "analyze") analyze_flags analyze_settings) }
+/// The line behind a command's name: any operands, and the options of all commands.
+pub fn command_line<'a>(alloc: Global) -> Result<Command<'a>, AllocError>
+    ensures { IfOk result (λ c. app_of c ≡ line_app (codes "tvla") line_flags line_settings) }
 {
     let recompute = flag(alloc, "recompute");
     let delta = flag(alloc, "delta");
+    let maps = flag(alloc, "maps");
     let max = setting(alloc, "max-structures");
-    bare_line(alloc, "analyze")
+    bare_line(alloc, "tvla")
         .arg(operands(alloc))?
         .arg(recompute)?
         .arg(delta)?
-        .arg(max)
-}
-
-/// The line of `check`.
-pub fn check_line<'a>(alloc: Global) -> Result<Command<'a>, AllocError>
-    ensures { IfOk result (λ c. app_of c ≡ line_app (codes "check") check_flags []) }
-{
-    let recompute = flag(alloc, "recompute");
-    let maps = flag(alloc, "maps");
-    let delta = flag(alloc, "delta");
-    bare_line(alloc, "check")
-        .arg(operands(alloc))?
-        .arg(recompute)?
         .arg(maps)?
-        .arg(delta)
-}
-
-/// The line of `demo`.
-pub fn demo_line<'a>(alloc: Global) -> Result<Command<'a>, AllocError>
-    ensures { IfOk result (λ c. app_of c ≡ line_app (codes "demo") [] []) }
-{
-    bare_line(alloc, "demo").arg(operands(alloc))
-}
-
-/// The line of `join`.
-pub fn join_line<'a>(alloc: Global) -> Result<Command<'a>, AllocError>
-    ensures { IfOk result (λ c. app_of c ≡ line_app (codes "join") join_flags join_settings) }
-{
-    let recompute = flag(alloc, "recompute");
-    let max = setting(alloc, "max-structures");
-    bare_line(alloc, "join")
-        .arg(operands(alloc))?
-        .arg(recompute)?
         .arg(max)
-}
-
-/// The line of `replay`.
-pub fn replay_line<'a>(alloc: Global) -> Result<Command<'a>, AllocError>
-    ensures { IfOk result (λ c. app_of c ≡ line_app (codes "replay") [] []) }
-{
-    bare_line(alloc, "replay").arg(operands(alloc))
-}
-
-/// The line of `source`.
-pub fn source_line<'a>(alloc: Global) -> Result<Command<'a>, AllocError>
-    ensures { IfOk result (λ c. app_of c ≡ line_app (codes "source") [] source_settings) }
-{
-    let max = setting(alloc, "max-structures");
-    bare_line(alloc, "source").arg(operands(alloc))?.arg(max)
 }
 
 /// What stands on the words behind a command's name, and none exactly where they are no line of the command.
@@ -123,8 +77,32 @@ pub fn read_line<'a>(
 }
 
 /// The texts that were found for an argument, in order, if there are any.
-pub fn texts<'m, 'a>(matches: &'m ArgMatches<'a>, id: &str) -> Option<&'m [&'a str]>
+fn texts<'m, 'a>(matches: &'m ArgMatches<'a>, id: &str) -> Option<&'m [&'a str]>
     ensures { told_texts result ≡ texts_in matches.now id.now }
 {
     matches.get_raw(id)
+}
+
+/// What stands on a line: its operands in order, how often each option without a value stands, and the values of
+/// `--max-structures`. A count stops at 255.
+#[derive(Clone, Copy)]
+pub struct Line<'m, 'a> {
+    pub operands: Option<&'m [&'a str]>,
+    pub recompute: u8,
+    pub delta: u8,
+    pub maps: u8,
+    pub max: Option<&'m [&'a str]>,
+}
+
+/// What stands on the line of which `clap` found this.
+pub fn told_line<'m, 'a>(matches: &'m ArgMatches<'a>) -> Line<'m, 'a>
+    ensures { line_in result ≡ told_line matches.now }
+{
+    Line {
+        operands: texts(matches, "operands"),
+        recompute: matches.get_count("recompute"),
+        delta: matches.get_count("delta"),
+        maps: matches.get_count("maps"),
+        max: texts(matches, "max-structures"),
+    }
 }

@@ -1,6 +1,6 @@
 //! What the options and operands of a line are worth: numbers, modes, how many there are.
 
-ghost use Rattle.std.specs.Prelude.{◌≡◌, ◌≤◌, ℕ, Bool, List, [], ◌∷◌, IfSome, IfNone};
+ghost use Rattle.std.specs.Prelude.{◌≡◌, ◌≤◌, ◌↔◌, ℕ, Bool, List, [], ◌∷◌, IfSome, IfNone, IsFalse};
 ghost use Rattle.tv_model.specs.declared.program.Mode.{Mode};
 ghost use Rattle.tv_words.specs.Setup.{told_texts};
 ghost use Rattle.tv_words.specs.Words.{IsNumberUpTo, IsMax, recomputes, once, AreUses};
@@ -42,6 +42,16 @@ pub fn max_of(values: Option<&[&str]>) -> Option<u64>
         None | Some([]) => Some(DEFAULT_MAX),
         Some([value]) => number_up_to(value, GREATEST_MAX),
         Some(_) => None,
+    }
+}
+
+/// Whether `--max-structures` has a value.
+pub fn has_values(values: Option<&[&str]>) -> bool
+    ensures { IsFalse result ↔ (told_texts values.entry ≡ []) }
+{
+    match values {
+        None | Some([]) => false,
+        Some(_) => true,
     }
 }
 

@@ -1,13 +1,14 @@
 //! The words after the program's name.
 
-ghost use Rattle.std.specs.Prelude.{IfOk, IfSome, IfNone, codes};
-ghost use Rattle.tv_words.specs.Words.{words_of, IsNamed, NoneNamed, Spells, SpellsNothing, SaidOf};
+ghost use Rattle.std.specs.Prelude.{◌↔◌, IfOk, IfSome, IfNone, IsTrue, false, codes};
+ghost use Rattle.tv_model.specs.declared.program.Mode.TheVariants.{Given};
+ghost use Rattle.tv_words.specs.Setup.{line_in, IsSaid, NoneSaid};
+ghost use Rattle.tv_words.specs.Words.{words_of, HasFlags, Spells, SpellsNothing, SaidOf};
 
-use crate::line::{
-    analyze_line, check_line, demo_line, join_line, read_line, replay_line, source_line, texts,
-};
+use crate::line::{Line, command_line, read_line, told_line};
 use crate::values::{
-    GREATEST_DEMO, five, max_of, mode_of, number_up_to, one, stands, three, two, updating,
+    GREATEST_DEMO, five, has_values, max_of, mode_of, number_up_to, one, stands, three, two,
+    updating,
 };
 use std::alloc::{AllocError, Global};
 use tv_model::Mode;
@@ -63,24 +64,30 @@ pub enum Command {
     },
 }
 
-/// The command that the words behind `analyze` say.
-fn read_analyze(alloc: Global, words: &[String]) -> Result<Option<Command>, AllocError>
-    ensures some { IfOk result (λ found. IfSome found (SaidOf (IsNamed (codes "analyze") (words_of words.now)))) }
-    ensures none { IfOk result (λ found. IfNone found (NoneNamed (codes "analyze") (words_of words.now))) }
+/// Whether no option without a value stands.
+fn has_no_flags(line: &Line<'_, '_>) -> bool
+    ensures { IsTrue result ↔ HasFlags (line_in line.now) Given false false }
 {
-    let Some(line) = read_line(analyze_line(alloc)?, words)? else {
+    line.recompute == 0 && line.delta == 0 && line.maps == 0
+}
+
+/// The command of the name `analyze` that the line says.
+fn analyze(alloc: Global, line: &Line<'_, '_>) -> Result<Option<Command>, AllocError>
+    ensures some { IfOk result (λ found. IfSome found (SaidOf (IsSaid (codes "analyze") (line_in line.now)))) }
+    ensures none { IfOk result (λ found. IfNone found (NoneSaid (codes "analyze") (line_in line.now))) }
+{
+    let Some((program, initial)) = two(line.operands) else {
         return Ok(None);
     };
-    let Some((program, initial)) = two(texts(&line, "operands")) else {
+    let Some((mode, delta)) = updating(line.recompute, line.delta) else {
         return Ok(None);
     };
-    let uses = (line.get_count("recompute"), line.get_count("delta"));
-    let Some((mode, delta)) = updating(uses.0, uses.1) else {
+    let Some(max) = max_of(line.max) else {
         return Ok(None);
     };
-    let Some(max) = max_of(texts(&line, "max-structures")) else {
+    if line.maps != 0 {
         return Ok(None);
-    };
+    }
     Ok(Some(Command::Analyze {
         program: String::from_str(alloc, program)?,
         initial: String::from_str(alloc, initial)?,
@@ -90,24 +97,23 @@ fn read_analyze(alloc: Global, words: &[String]) -> Result<Option<Command>, Allo
     }))
 }
 
-/// The command that the words behind `check` say.
-fn read_check(alloc: Global, words: &[String]) -> Result<Option<Command>, AllocError>
-    ensures some { IfOk result (λ found. IfSome found (SaidOf (IsNamed (codes "check") (words_of words.now)))) }
-    ensures none { IfOk result (λ found. IfNone found (NoneNamed (codes "check") (words_of words.now))) }
+/// The command of the name `check` that the line says.
+fn check(alloc: Global, line: &Line<'_, '_>) -> Result<Option<Command>, AllocError>
+    ensures some { IfOk result (λ found. IfSome found (SaidOf (IsSaid (codes "check") (line_in line.now)))) }
+    ensures none { IfOk result (λ found. IfNone found (NoneSaid (codes "check") (line_in line.now))) }
 {
-    let Some(line) = read_line(check_line(alloc)?, words)? else {
+    let Some((program, initial, report)) = three(line.operands) else {
         return Ok(None);
     };
-    let Some((program, initial, report)) = three(texts(&line, "operands")) else {
+    let Some((mode, delta)) = updating(line.recompute, line.delta) else {
         return Ok(None);
     };
-    let uses = (line.get_count("recompute"), line.get_count("delta"));
-    let Some((mode, delta)) = updating(uses.0, uses.1) else {
+    let Some(maps) = stands(line.maps) else {
         return Ok(None);
     };
-    let Some(maps) = stands(line.get_count("maps")) else {
+    if has_values(line.max) {
         return Ok(None);
-    };
+    }
     Ok(Some(Command::Check {
         program: String::from_str(alloc, program)?,
         initial: String::from_str(alloc, initial)?,
@@ -118,40 +124,41 @@ fn read_check(alloc: Global, words: &[String]) -> Result<Option<Command>, AllocE
     }))
 }
 
-/// The command that the words behind `demo` say.
-fn read_demo(alloc: Global, words: &[String]) -> Result<Option<Command>, AllocError>
-    ensures some { IfOk result (λ found. IfSome found (SaidOf (IsNamed (codes "demo") (words_of words.now)))) }
-    ensures none { IfOk result (λ found. IfNone found (NoneNamed (codes "demo") (words_of words.now))) }
+/// The command of the name `demo` that the line says.
+fn demo(line: &Line<'_, '_>) -> Option<Command>
+    ensures some { IfSome result (SaidOf (IsSaid (codes "demo") (line_in line.now))) }
+    ensures none { IfNone result (NoneSaid (codes "demo") (line_in line.now)) }
 {
-    let Some(line) = read_line(demo_line(alloc)?, words)? else {
-        return Ok(None);
-    };
-    let Some(word) = one(texts(&line, "operands")) else {
-        return Ok(None);
+    let Some(word) = one(line.operands) else {
+        return None;
     };
     let Some(number) = number_up_to(word, GREATEST_DEMO) else {
-        return Ok(None);
+        return None;
     };
-    Ok(Some(Command::Demo { number }))
+    if has_no_flags(line) && !has_values(line.max) {
+        Some(Command::Demo { number })
+    } else {
+        None
+    }
 }
 
-/// The command that the words behind `join` say.
-fn read_join(alloc: Global, words: &[String]) -> Result<Option<Command>, AllocError>
-    ensures some { IfOk result (λ found. IfSome found (SaidOf (IsNamed (codes "join") (words_of words.now)))) }
-    ensures none { IfOk result (λ found. IfNone found (NoneNamed (codes "join") (words_of words.now))) }
+/// The command of the name `join` that the line says.
+fn join(alloc: Global, line: &Line<'_, '_>) -> Result<Option<Command>, AllocError>
+    ensures some { IfOk result (λ found. IfSome found (SaidOf (IsSaid (codes "join") (line_in line.now)))) }
+    ensures none { IfOk result (λ found. IfNone found (NoneSaid (codes "join") (line_in line.now))) }
 {
-    let Some(line) = read_line(join_line(alloc)?, words)? else {
+    let Some((program, initial)) = two(line.operands) else {
         return Ok(None);
     };
-    let Some((program, initial)) = two(texts(&line, "operands")) else {
+    let Some(mode) = mode_of(line.recompute) else {
         return Ok(None);
     };
-    let Some(mode) = mode_of(line.get_count("recompute")) else {
+    let Some(max) = max_of(line.max) else {
         return Ok(None);
     };
-    let Some(max) = max_of(texts(&line, "max-structures")) else {
+    if line.delta != 0 || line.maps != 0 {
         return Ok(None);
-    };
+    }
     Ok(Some(Command::Join {
         program: String::from_str(alloc, program)?,
         initial: String::from_str(alloc, initial)?,
@@ -160,17 +167,17 @@ fn read_join(alloc: Global, words: &[String]) -> Result<Option<Command>, AllocEr
     }))
 }
 
-/// The command that the words behind `replay` say.
-fn read_replay(alloc: Global, words: &[String]) -> Result<Option<Command>, AllocError>
-    ensures some { IfOk result (λ found. IfSome found (SaidOf (IsNamed (codes "replay") (words_of words.now)))) }
-    ensures none { IfOk result (λ found. IfNone found (NoneNamed (codes "replay") (words_of words.now))) }
+/// The command of the name `replay` that the line says.
+fn replay(alloc: Global, line: &Line<'_, '_>) -> Result<Option<Command>, AllocError>
+    ensures some { IfOk result (λ found. IfSome found (SaidOf (IsSaid (codes "replay") (line_in line.now)))) }
+    ensures none { IfOk result (λ found. IfNone found (NoneSaid (codes "replay") (line_in line.now))) }
 {
-    let Some(line) = read_line(replay_line(alloc)?, words)? else {
+    let Some((program, initial, start, trace, report)) = five(line.operands) else {
         return Ok(None);
     };
-    let Some((program, initial, start, trace, report)) = five(texts(&line, "operands")) else {
+    if !has_no_flags(line) || has_values(line.max) {
         return Ok(None);
-    };
+    }
     Ok(Some(Command::Replay {
         program: String::from_str(alloc, program)?,
         initial: String::from_str(alloc, initial)?,
@@ -180,25 +187,41 @@ fn read_replay(alloc: Global, words: &[String]) -> Result<Option<Command>, Alloc
     }))
 }
 
-/// The command that the words behind `source` say.
-fn read_source(alloc: Global, words: &[String]) -> Result<Option<Command>, AllocError>
-    ensures some { IfOk result (λ found. IfSome found (SaidOf (IsNamed (codes "source") (words_of words.now)))) }
-    ensures none { IfOk result (λ found. IfNone found (NoneNamed (codes "source") (words_of words.now))) }
+/// The command of the name `source` that the line says.
+fn source(alloc: Global, line: &Line<'_, '_>) -> Result<Option<Command>, AllocError>
+    ensures some { IfOk result (λ found. IfSome found (SaidOf (IsSaid (codes "source") (line_in line.now)))) }
+    ensures none { IfOk result (λ found. IfNone found (NoneSaid (codes "source") (line_in line.now))) }
 {
-    let Some(line) = read_line(source_line(alloc)?, words)? else {
+    let Some((source, initial)) = two(line.operands) else {
         return Ok(None);
     };
-    let Some((source, initial)) = two(texts(&line, "operands")) else {
+    let Some(max) = max_of(line.max) else {
         return Ok(None);
     };
-    let Some(max) = max_of(texts(&line, "max-structures")) else {
+    if !has_no_flags(line) {
         return Ok(None);
-    };
+    }
     Ok(Some(Command::Source {
         source: String::from_str(alloc, source)?,
         initial: String::from_str(alloc, initial)?,
         max,
     }))
+}
+
+/// The command of that name that the line says.
+fn said(alloc: Global, name: &str, line: &Line<'_, '_>) -> Result<Option<Command>, AllocError>
+    ensures some { IfOk result (λ found. IfSome found (SaidOf (IsSaid name.now (line_in line.now)))) }
+    ensures none { IfOk result (λ found. IfNone found (NoneSaid name.now (line_in line.now))) }
+{
+    match name {
+        "analyze" => analyze(alloc, line),
+        "check" => check(alloc, line),
+        "demo" => Ok(demo(line)),
+        "join" => join(alloc, line),
+        "replay" => replay(alloc, line),
+        "source" => source(alloc, line),
+        _ => Ok(None),
+    }
 }
 
 /// The command that the words spell, and none exactly where they spell none.
@@ -212,13 +235,8 @@ pub fn read_words(alloc: Global, words: &[String]) -> Result<Option<Command>, Al
     let Some((name, behind)) = words.split_first() else {
         return Ok(None);
     };
-    match name.as_str() {
-        "analyze" => read_analyze(alloc, behind),
-        "check" => read_check(alloc, behind),
-        "demo" => read_demo(alloc, behind),
-        "join" => read_join(alloc, behind),
-        "replay" => read_replay(alloc, behind),
-        "source" => read_source(alloc, behind),
-        _ => Ok(None),
-    }
+    let Some(matches) = read_line(command_line(alloc)?, behind)? else {
+        return Ok(None);
+    };
+    said(alloc, name.as_str(), &told_line(&matches))
 }

@@ -17,7 +17,7 @@ pub returns-clause-held : goal.returns-clause-held
 returns-clause-held g c =
     let each = c.one_meaning_each.ensures in
     λ steady holds. no_fault _ _ _ _ _ _
-    (none_missing c.one_command.ensures (one_program each.program each.source each.initial each.report)
+    (none_missing c.runs_have_one_ending.ensures c.one_command.ensures (one_program each.program each.source each.initial each.report)
     (one_initial each.program each.source each.initial each.report) (one_report each.program each.source each.initial each.report)
     (one_start each.start each.trace) (one_trace each.start each.trace) _ _ holds) steady
     c.perform-found.ensures.cause (c.perform-found.ensures.steady steady)
@@ -25,7 +25,7 @@ returns-clause-held g c =
 pub returns-clause-exact : goal.returns-clause-exact
 returns-clause-exact g c =
     let each = c.one_meaning_each.ensures in
-    endings c.one_command.ensures (one_program each.program each.source each.initial each.report)
+    endings c.runs_have_one_ending.ensures c.one_command.ensures (one_program each.program each.source each.initial each.report)
     (one_initial each.program each.source each.initial each.report) (one_report each.program each.source each.initial each.report)
     (one_start each.start each.trace) (one_trace each.start each.trace) _ _ _ _ _ _ _ _ _
     (returns-clause-cause g c) (returns-clause-out g c)

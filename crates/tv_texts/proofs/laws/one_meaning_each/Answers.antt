@@ -1,4 +1,3 @@
-use Rattle.std.proofs.Common.{sym, refl}
 use Rattle.tv_texts.proofs.OneMeaning.{one_program, one_initial, one_start, one_moves, one_report, one_source}
 use Rattle.tv_texts.proofs.Vocabularies.{initial_also, start_also, trace_text_also, report_text_also}
 use Rattle.tv_texts.proofs.laws.one_meaning_each.Goals as goal

@@ -2,19 +2,19 @@ use Rattle.std.proofs.Common.{◌≡◌, List, refl}
 use Rattle.std.proofs.lemmas.Result.{err_from_is_err_and}
 use Rattle.tv_model.specs.declared.program.Program.{Program}
 use Rattle.tv_struct.specs.StructureForm.{StructureForm}
-use Rattle.tv_top.proofs.Causes.{rose_later, still, unless_not_read, named_program, named_initial, program_fault, initial_fault}
+use Rattle.tv_top.proofs.Causes.{rose_later, still, unless_not_read, program_named, initial_named, program_fault, initial_fault}
 use Rattle.tv_top.specs.declared.inputs.Inputs.{Inputs}
 use Rattle.tv_top.proofs.inputs.load_inputs.Goals as goal
 
 pub returns-in_err-program-clause-cause : goal.returns-in_err-program-clause-cause
 returns-in_err-program-clause-cause g c =
     let p = err_from_is_err_and c.from_residual.result c.from_residual.ensures.1 in
-    rw (p.1, p.2) (λ command names. program_fault _ command _ _ c.args.delta _ _ _ names c.in_err-program.ensures.cause)
+    rw (p.1, p.2) (λ command names. program_fault _ command c.args.origin _ names _ _ _ c.in_err-program.ensures.cause)
 
 pub returns-in_err-program-clause-steady : goal.returns-in_err-program-clause-steady
 returns-in_err-program-clause-steady g c =
     let p = err_from_is_err_and c.from_residual.result c.from_residual.ensures.1 in
-    let new = c.load_taken.new.files in
+    let new = c.load_origin.new.files in
     let old = c.args.files.now in
     rw (p.1, p.2) (λ s. unless_not_read Program Inputs c.in_err-program.field-0.0
     (g.F.Files.steady new × (g.F.Files.faults new ≡ g.F.Files.faults old))
@@ -24,14 +24,14 @@ pub returns-in_err-initial-clause-cause : goal.returns-in_err-initial-clause-cau
 returns-in_err-initial-clause-cause g c =
     let p = err_from_is_err_and c.from_residual-in_err-initial.result c.from_residual-in_err-initial.ensures.1 in
     let cause = rw c.in_ok-program.ensures.holds at c.in_err-initial.ensures.cause in
-    rw (p.1, p.2) (λ command names. initial_fault _ command _ _ c.args.delta c.in_ok-program.program _ _ _ _ _ names c.in_ok-program.ensures.means
+    rw (p.1, p.2) (λ command names. initial_fault _ command c.args.origin _ names c.in_ok-program.program _ _ _ _ _ c.in_ok-program.ensures.means
     (rose_later _ _ _ c.in_ok-program.ensures.count) (λ s. (c.in_ok-program.ensures.steady s).0) cause)
 
 pub returns-in_err-initial-clause-steady : goal.returns-in_err-initial-clause-steady
 returns-in_err-initial-clause-steady g c =
     let p = err_from_is_err_and c.from_residual-in_err-initial.result c.from_residual-in_err-initial.ensures.1 in
     let new = c.load_initial.new.files in
-    let mid = c.load_taken.new.files in
+    let mid = c.load_origin.new.files in
     let old = c.args.files.now in
     rw (p.1, p.2) (λ s. let before = c.in_ok-program.ensures.steady s in
     unless_not_read (List StructureForm) Inputs c.in_err-initial.field-0.0
@@ -42,8 +42,8 @@ returns-in_err-initial-clause-steady g c =
 
 pub returns-clause-meant : goal.returns-clause-meant
 returns-clause-meant g c = λ command names. record {
-  program = named_program _ command _ _ c.args.delta _ names c.in_ok-program.ensures.means;
-  initial = named_initial _ command _ _ c.args.delta _ _ names (rw c.in_ok-program.ensures.holds at c.in_ok-initial.ensures.means);
+  program = program_named _ command c.args.origin _ names _ c.in_ok-program.ensures.means;
+  initial = initial_named _ command c.args.origin _ names _ _ (rw c.in_ok-program.ensures.holds at c.in_ok-initial.ensures.means);
   mode = refl;
 }
 

@@ -10,19 +10,20 @@ use Rattle.tv_top.proofs.work.source.Goals as goal
 pub returns-in_err-inputs-clause-cause : goal.returns-in_err-inputs-clause-cause
 returns-in_err-inputs-clause-cause g c =
     let p = err_from_is_err_and c.from_residual.result c.from_residual.ensures.1 in
-    rw (p.1, p.2) (c.in_err-inputs.ensures.cause c.args.max)
+    let command = Sources c.args.source.now c.args.initial.now c.args.max in
+    rw (p.1, p.2) (c.in_err-inputs.ensures.cause command (refl, refl))
 
 pub returns-in_err-found-clause-cause : goal.returns-in_err-found-clause-cause
 returns-in_err-found-clause-cause g c =
     let p = err_from_is_err_and c.from_residual-in_err-found.result c.from_residual-in_err-found.ensures.1 in
     let command = Sources c.args.source.now c.args.initial.now c.args.max in
     rw (p.1, p.2) (search_fault _ command (task_of c.in_ok-inputs.inputs Given) c.args.max _ _ _
-    (c.in_ok-inputs.ensures.meant c.args.max) refl (λ most many. many) (λ Budget meets. meets) c.in_err-found.ensures.cause)
+    (c.in_ok-inputs.ensures.meant command (refl, refl)) refl (λ most many. many) (λ Budget meets. meets) c.in_err-found.ensures.cause)
 
 pub returns-clause-found : goal.returns-clause-found
 returns-clause-found g c =
     let task = task_of c.in_ok-inputs.inputs Given in
-    let means = c.in_ok-inputs.ensures.meant c.args.max in (
+    let means = c.in_ok-inputs.ensures.meant (Sources c.args.source.now c.args.initial.now c.args.max) (refl, refl) in (
       task,
       means,
       (
