@@ -72,7 +72,8 @@ CASES = {
     "straight": straight(4000),
     "picks": picks(64, 6),
 }
-EXAMPLES = {"insertion_sort": "analyze", "bubble_sort": "analyze", "bubble_sort_checked": "check"}
+EXAMPLES = [("insertion_sort", "analyze"), ("insertion_sort", "join"), ("bubble_sort", "analyze"), ("bubble_sort", "check")]
+SUFFIXES = {"analyze": "", "join": "_joined", "check": "_checked"}
 
 def write(folder, name, files, words):
     os.makedirs(os.path.join(folder, name), exist_ok=True)
@@ -85,8 +86,7 @@ folder = "bench/cases"
 for name, (program, initial, options) in CASES.items():
     paths = [os.path.join(folder, name, file) for file in ("program.tvp", "initial.tvs")]
     write(folder, name, {"program.tvp": program, "initial.tvs": initial}, ["analyze", *paths, *options])
-for name, command in EXAMPLES.items():
-    example = "examples/" + name.removesuffix("_checked")
-    paths = [f"{example}/program.tvp", f"{example}/initial.tvs"] + [f"{example}/report"] * (command == "check")
-    write(folder, name, {}, [command, *paths])
+for example, command in EXAMPLES:
+    files = ["program.tvp", "initial.tvs"] + ["report"] * (command == "check")
+    write(folder, example + SUFFIXES[command], {}, [command, *(f"examples/{example}/{file}" for file in files)])
 write(folder, "demo", {}, ["demo", "16"])
