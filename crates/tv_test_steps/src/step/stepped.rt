@@ -8,8 +8,7 @@ use std::alloc::Global;
 use std::test::Fail;
 use tv_eval::Scratch;
 use tv_model::{Mode, Program};
-use tv_rules::close_rules;
-use tv_step::{StepOut, abstract_step, opening, stable_step};
+use tv_step::{Engine, StepOut};
 use tv_struct::{StageError, Structure};
 
 /// An answer of a step.
@@ -20,9 +19,9 @@ pub fn stepped(alloc: Global, program: &Program, mode: Mode, s: &Structure) -> R
     requires valid { IsValid (program_of program.now) }
     requires over { IsOver program.now.vocab s.now }
 {
-    let closed = close_rules(alloc, program)?;
+    let engine = Engine::new(alloc, program, mode)?;
     let mut scratch = Scratch::new(alloc, program, 256)?;
-    Ok(abstract_step(alloc, program, &closed, 0, mode, s, &mut scratch))
+    Ok(engine.step(0, s, &mut scratch))
 }
 
 /// The step of the structure's opening, from which coerce is spared; nothing where there is no opening.
@@ -35,10 +34,10 @@ pub fn stepped_opening(
     requires valid { IsValid (program_of program.now) }
     requires over { IsOver program.now.vocab s.now }
 {
-    let closed = close_rules(alloc, program)?;
+    let engine = Engine::new(alloc, program, mode)?;
     let mut scratch = Scratch::new(alloc, program, 256)?;
-    match opening(alloc, program, &closed, s, &mut scratch)? {
+    match engine.opening(s, &mut scratch)? {
         None => Ok(None),
-        Some(t) => Ok(Some(stable_step(alloc, program, &closed, 0, mode, &t, &mut scratch))),
+        Some(t) => Ok(Some(engine.stable_step(0, &t, &mut scratch))),
     }
 }

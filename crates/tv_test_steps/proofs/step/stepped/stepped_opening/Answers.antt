@@ -7,6 +7,7 @@ use Rattle.tv_test_steps.proofs.step.stepped.stepped_opening.Goals as goal
 
 pub stable_step-requires-clause-over : goal.stable_step-requires-clause-over
 stable_step-requires-clause-over c =
-    let p = program_of c.args.program.now
-    in let settled = subst (λ found. IfSome found (IsSettled p)) c.in-Some.is c.in_ok-opening.ensures.settled
-    in settled.shaped.over ∙ map-compose pred_of (λ d. d.arity) c.args.program.now.vocab.preds
+    let program = c.in_ok-engine.engine.program
+    in let settled = subst (λ found. IfSome found (IsSettled (program_of program))) c.in-Some.is
+    c.in_ok-opening.ensures.settled
+    in settled.shaped.over ∙ map-compose pred_of (λ d. d.arity) program.vocab.preds
