@@ -5,7 +5,7 @@
 #   a rule of five variables, each tied by an atom, over 16 individuals against the same over 8: at most 20 to one.
 # The program runs unproved, by rt try, in a folder of its own that goes when the script ends.
 source "$(dirname "$0")/scratch.sh"
-copy_crates tv_kleene tv_row tv_model tv_frame tv_value tv_stable tv_rules tv_splits tv_struct tv_relation tv_eval tv_coerce
+copy_crates tv_coerce
 echo 'measure: tv_coerce tv_eval tv_kleene tv_model tv_rules tv_struct' >>"$scratch/crates.txt"
 cat >"$scratch/crates/measure/src/main.rt" <<'MAIN'
 // How long coerce takes.

@@ -5,7 +5,7 @@
 #   a formula's row over 60 individuals against 60 values: without quantifiers at least 10 times faster.
 # The program runs unproved, by rt try, in a folder of its own that goes when the script ends.
 source "$(dirname "$0")/scratch.sh"
-copy_crates tv_kleene tv_row tv_model tv_frame tv_value tv_relation tv_struct tv_eval
+copy_crates tv_eval
 echo 'measure: tv_eval tv_kleene tv_model tv_row tv_struct' >>"$scratch/crates.txt"
 cat >"$scratch/crates/measure/src/main.rt" <<'MAIN'
 // How long closures and rows take.

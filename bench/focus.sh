@@ -3,7 +3,7 @@
 # as many structures, each a little larger, take at most four times as long.
 # The program runs unproved, by rt try, in a folder of its own that goes when the script ends.
 source "$(dirname "$0")/scratch.sh"
-copy_crates tv_kleene tv_row tv_model tv_frame tv_struct tv_choices tv_focus
+copy_crates tv_focus
 echo 'measure: tv_focus tv_kleene tv_model tv_struct' >>"$scratch/crates.txt"
 cat >"$scratch/crates/measure/src/main.rt" <<'MAIN'
 // How long a stage of focus takes.

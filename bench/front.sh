@@ -3,7 +3,7 @@
 # limits on rules, predicates, nodes, edges and actions. Nested `foreach` round nothing take no time.
 # The texts are generated. The program runs unproved, by rt try, in a folder of its own that goes when the script ends.
 source "$(dirname "$0")/scratch.sh"
-copy_crates tv_outside tv_lex tv_model tv_tree tv_phrases tv_formula tv_parse tv_names tv_flat tv_expand tv_vocab tv_front
+copy_crates tv_front
 echo 'measure: tv_front' >>"$scratch/crates.txt"
 cat >"$scratch/crates/measure/src/main.rt" <<'MAIN'
 // How long a program's text takes.

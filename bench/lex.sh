@@ -2,7 +2,7 @@
 # How long the tokens of a text take: ten times the text is to take about ten times as long.
 # The text is generated. The program stands in a folder of its own that goes when the script ends.
 source "$(dirname "$0")/scratch.sh"
-copy_crates tv_outside tv_lex
+copy_crates tv_lex
 echo 'measure: tv_lex' >>"$scratch/crates.txt"
 cat >"$scratch/crates/measure/src/main.rt" <<'MAIN'
 // How long a text of a given length takes.

@@ -1,122 +1,202 @@
 #!/usr/bin/env bash
-# bench/limits.sh [WORD..]: texts at the limits, and a tenth of each, through the built program: processor time as a
-# multiple of that of the tenth, the peak of memory, and how both calls end. With words, only the rows that have one of
-# them in their names. LIMIT_SECONDS=N gives up a run after so many seconds of processor time (default 300).
+# bench/limits.sh [OPTION..] [WORD..]: the deepest and widest texts of each kind through the built program,
+# which has a stack of one megabyte: a row each with the bytes of the text, how the call ended, processor time
+# and the peak of memory (where GNU time stands). With words, only the rows that have one of them in their
+# names.
+#   --seconds N    the limit of a call: so much processor time, or by the clock where it only waits (default
+#                  30)
+#   --megabytes N  the limit of its address space (default 6000)
+#   --stack N      kilobytes of stack (default 1024)
+#   --tenths       has a tenth of each text run too, and tells the time as a multiple of it
+#   --other NAME   runs another program with the same words (else the one that OTHER names), with the stack
+#                  that a call has here, and tells its time; what takes over ten times that and over 2 s
+#                  fails, and so do other answers
+#   --list         only names the rows
+# It fails where a signal ends the program, where a limit is passed, and where a call ends otherwise than a
+# row says. TVLA names a program in place of the built one.
 set -u
 cd "$(dirname "$0")/.." || exit 1
-own="${TVLA:-$PWD/crates/tvla/out/tvla}"
-[ -x "$own" ] || { echo "skip: no built program"; exit 0; }
-python3 - "$own" "${LIMIT_SECONDS:-300}" "$@" <<'END'
-import os, resource, shutil, sys, tempfile
+python3 -B - "$@" <<'END'
+import argparse, filecmp, os, shutil, sys, tempfile
 
-own, limit, *wanted = sys.argv[1:]
-own, limit = os.path.abspath(own), int(limit)
-TAIL = "%%\n%action Skip() { }\n%%\nL Skip() L\n"
-EMPTY = "%n = {} %p = {}"
+sys.path.insert(0, "bench")
+import texts
+from call import measured
+from texts import (BLOCKS, DEEP, DEEPEST, EMPTY, ONE, PLACES, TAIL, analyze, chain, check, deep, fill,
+                   individuals, names_apart, replay, source)
+
 MIB4, MIB64 = 4_194_304, 67_108_864
+FACTOR, ENOUGH = 10, 2.0  # so many times the other's time, or so many seconds, are no fault
 ROWS = []
 
 
-def row(name, size, tenth=None):
-    """A row is a function from a size to the words and the texts of the files p, i, r, s and t, the last two for replays."""
+def row(name, size, ends="status 0", tenth=None):
+    """A row is a function from a size to a text: the words, and the files by their names."""
     def keep(make):
-        ROWS.append((name, make, size, tenth or size // 10))
+        ROWS.append((name, make, size, ends, tenth or max(1, size // 10)))
+        return make
     return keep
 
 
-def fill(size, item, before="", behind=""):
-    """As many items, each from its number, as have room between the two texts."""
-    parts, left, n = [before], size - len(before) - len(behind), 0
-    while True:
-        text = item(n)
-        left -= len(text)
-        if left < 0:
-            return "".join(parts) + behind
-        parts.append(text)
-        n += 1
+# ---- definitions that rest on each other, differencing, many actions ----
+
+for count in (41, 511):
+    for upwards in (True, False):
+        order = "" if upwards else ", the last one declared first"
+        row(f"{count} definitions, each 198 times ! the one before{order}, --delta", count)(
+            lambda size, upwards=upwards: texts.negations(size, 198, upwards))
+row("511 definitions, each 198 times ! the one before", 511)(lambda size: texts.negations(size, 198, mode=""))
+row("the same, --recompute", 511)(lambda size: texts.negations(size, 198, mode="--recompute"))
+for count in (10, 100):
+    row(f"{count} definitions of 100 atoms of the one before, --delta", count)(
+        lambda size: texts.many_atoms(size, 100))
+row("100 definitions of 150 atoms of the one before, --delta", 100)(lambda size: texts.many_atoms(size, 150))
+row("100 definitions of 100 atoms of the one before", 100)(lambda size: texts.many_atoms(size, 100, mode=""))
+for name, body in (("<->", "{0}() <-> {0}() & b()"), ("conditionals", "{0}() ? !{0}() : {0}() & c()"),
+                   ("& and |", "{0}() & b() | {0}() & !b()"), ("one way", "{0}() & c() <-> b()")):
+    row(f"updates that grow up to 65,536 nodes and over it: 12 definitions, {name}, --delta", 12)(
+        lambda size, body=body: texts.doubled(size, 1, body))
+row("the same in 100 actions", 100)(lambda size: texts.doubled(8, size))
+row("updates of many sizes up to 65,536 nodes: 10 definitions, <->, and their pairs", 10)(texts.spread)
+for nodes in (1, 20, 60):
+    row(f"511 definitions of {nodes} nodes that rest on the next one, 16,384 empty actions", 16_384)(
+        lambda size, nodes=nodes: analyze(texts.with_actions(texts.resting(511, nodes), size)))
+row("the same with 20 nodes, --delta", 16_384)(
+    lambda size: analyze(texts.with_actions(texts.resting(511, 20), size), EMPTY, "--delta"))
+row("the same with 20 nodes and 1,638 actions that turn what the definitions rest on", 1_638)(
+    lambda size: analyze(texts.with_actions(texts.resting(511, 20), size, " { b() = !b() } ")))
+for count in (1_000, 10_000):
+    row(f"replay: {count:,} steps of 511 definitions of 20 nodes and 16,384 actions", count)(
+        lambda size: texts.steps(texts.resting(511, 20), 16_384, size))
+row("512 definitions in a circle", 512, "program: DefinitionCycle")(texts.circle)
+row("511 definitions, each of the 190 before it", 511)(lambda size: analyze(texts.fan(size, 190) + TAIL))
+row("the same, --delta, by an action that turns what they rest on", 511)(
+    lambda size: analyze(texts.fan(size, 190) + texts.TURN, EMPTY, "--delta"))
 
 
-def analyze(program, initial=EMPTY, *more):
-    return ["analyze", "p", "i", *more], program, initial, ""
-
-
-def replay(program, start, trace):
-    return ["replay", "p", "i", "s", "t", "r"], program, EMPTY, "tvla report 2 end", start, trace
-
-
-def individuals(count):
-    return ", ".join(f"u{u}" for u in range(count))
-
-
-def chain(count):
-    edges = ", ".join(f"u{u}->u{u + 1}" for u in range(count - 1))
-    return "%n = {" + individuals(count) + "} %p = { n = {" + edges + "} x = {u0} }"
-
-
-@row("program: one-letter tokens (words behind the edges)", MIB4)
-def _(size):
-    return analyze(fill(size, lambda n: ",a", TAIL + "%%\na"))
-
-
-@row("program: one-letter tokens that are no program", MIB4)
-def _(size):
-    return analyze(fill(size, lambda n: "a "))
-
-
-@row("program: a comment", MIB4)
-def _(size):
-    return analyze(TAIL + "/*" + "*" * (size - len(TAIL) - 4) + "*/")
-
-
-@row("program: 50,000 rules of ten atoms, 1,000,000 formula nodes", 50_000)
+@row("16,384 actions and 60,000 closed rules", 16_384)
 def _(count):
-    rule = "%r " + "&".join(["p(v)"] * 10) + "==>q(v)\n"
-    return analyze("%p p(v)\n%p q(v)\n" + rule * count + TAIL)
+    rules = "%r p() & q() & r() & s() ==> t()\n" * 12_000
+    preds = "".join(f"%p {name}()\n" for name in "pqrst")
+    return analyze(texts.with_actions(preds + rules, count, " { p() = q() } "))
 
 
-@row("program: 50,000 rules of ten atoms, tried on 8 individuals", 50_000)
+# ---- depth ----
+
+for kind in DEEP:
+    row(f"{DEEPEST} deep: {kind}, at each place", DEEPEST)(lambda size, kind=kind: deep(kind, PLACES, size))
+    row(f"{DEEPEST} deep: {kind}, in a definition, --delta", DEEPEST)(
+        lambda size, kind=kind: deep(kind, ["definition"], size, "--delta"))
+    row(f"{DEEPEST} deep: {kind}, at each place, without individuals, joined", DEEPEST)(
+        lambda size, kind=kind: (["join", "p", "i"], deep(kind, PLACES, size, initial=EMPTY)[1]))
+for kind in BLOCKS:
+    row(f"source: {kind}, 199 deep", 199)(lambda size, kind=kind: texts.blocks(kind, size))
+for text in ("!", "(", "E(v) ", "TC(a, b)(c, d) ", "b() & ", "b() ? "):
+    row(f"program: 4 MiB of {text.strip()}", MIB4, "program: TooDeep")(
+        lambda size, text=text: analyze(fill(size, lambda n: text, "%p b()\n%%\n%action F() { %p ")))
+row("program: a set in 190 brackets", 190)(
+    lambda size: analyze("%s S {a}\n%s T " + "(" * size + "S" + ")" * size + "\n" + TAIL))
+for sign in "+-":
+    row(f"program: 4 MiB of {sign} of sets", MIB4)(
+        lambda size, sign=sign: analyze(fill(size, lambda n: sign + "S", "%s S {a}\n%s T S", "\n" + TAIL)))
+row("program: 99 foreach, one in the other", 99)(
+    lambda size: analyze("%s S {a}\n" + "foreach (z in S) { " * size + "%r 0 ==> 0 " + "} " * size + TAIL))
+row("program: 15 includes, of which each includes the next one twice", 15, tenth=5)(
+    lambda size: texts.included(size, "%r 0 ==> 0\n"))
+row("program: the same, over 4 MiB", 15, "program: TooLong", 11)(
+    lambda size: texts.included(size, "%r 0 ==> 0\n" * 200))
+row("program: 17 includes, one in the other", 17, "program: IncludeDepth", 17)(
+    lambda size: texts.included(size, "%r 0 ==> 0\n"))
+
+
+@row("a rule of 32 variables along a chain of 250 individuals", 32, tenth=4)
 def _(count):
-    rule = "%r " + "&".join(["p(v)"] * 10) + "==>q(v)\n"
-    values = ", ".join(f"u{u}:1/2" for u in range(8))
-    return analyze("%p p(v)\n%p q(v)\n" + rule * count + TAIL, "%n = {" + individuals(8) + "} %p = { p = {" + values + "} }")
+    names = [f"z{k}" for k in range(count)]
+    body = " & ".join(f"n({a}, {b})" for a, b in zip(names, names[1:]))
+    preds = "%p n(v, w) function\n%p x(v)\n" + "".join(f"%p a{k}(v)\n" for k in range(8))
+    return analyze(preds + f"%r x({names[0]}) & {body} ==> !x({names[-1]})\n" + TAIL,
+                   chain(250, "x = {u0} " + names_apart(250, 8)))
 
 
-@row("program: 65,000 predicates of 64 bytes (too many)", 65_000)
+@row("32 picked variables, one individual", 32, tenth=4)
 def _(count):
-    return analyze("".join(f"%p p{n:056}()\n" for n in range(count)) + TAIL)
+    pre = " & ".join(f"x(z{k})" for k in range(count))
+    initial = "%n = {u} %p = { x = {u} }"
+    return analyze("%p x(v)\n%%\n%action F() { %p " + pre + " }\n%%\nL F() M\n", initial)
 
 
-@row("program: 512 predicates, names of 8,000 bytes", 8_000)
-def _(length):
-    return analyze("".join(f"%p p{n:0{length}}()\n" for n in range(512)) + TAIL)
-
-
-@row("program: actions that no edge names", MIB4)
-def _(size):
-    return analyze(fill(size, lambda n: f"%action a{n}(){{}}\n", "%%\n", TAIL[3:]))
-
-
-@row("program: 16,000 edges, each with an action of its own", 16_000)
+@row("focus on 250 individuals, of which seven are unknown", 250)
 def _(count):
-    actions = "".join(f"%action a{n}() {{ }}\n" for n in range(count))
-    edges = "".join(f"L{n % 4000} a{n}() L{(n + 1) % 4000}\n" for n in range(count))
-    return analyze("%%\n" + actions + "%%\n" + edges, EMPTY)
+    preds = "".join(f"%p a{k}(v)\n" for k in range(8)) + "%p x(v)\n"
+    unknown = ", ".join(f"u{u}:1/2" for u in range(0, min(count, 7)))
+    text = "%%\n%action F() { %f { x(v) } }\n%%\nL F() M\n"
+    initial = "%n = {" + individuals(count) + "} %p = { x = {" + unknown + "} " + names_apart(count, 8) + "}"
+    return analyze(preds + text, initial)
 
 
-@row("program: edges (too many items)", MIB4)
-def _(size):
-    return analyze(fill(size, lambda n: "L S() L\n", "%%\n%action S() { }\n%%\n"))
-
-
-@row("program: members of one set", MIB4)
-def _(size):
-    return analyze(fill(size, lambda n: f",m{n}", "%s S {a", "}\n" + TAIL))
-
-
-@row("program: 60,000 members, each with a rule", 60_000)
+@row("focus: more choices than a stage may have", 200, "too many splits")
 def _(count):
-    members = ", ".join(f"m{n}" for n in range(count))
-    return analyze("%s S {" + members + "}\nforeach (m in S) { %r 0 ==> 0 }\n" + TAIL)
+    preds = "".join(f"%p a{k}(v)\n" for k in range(8)) + "%p x(v)\n"
+    unknown = ", ".join(f"u{u}:1/2" for u in range(count))
+    text = "%%\n%action F() { %f { x(v) } }\n%%\nL F() M\n"
+    initial = "%n = {" + individuals(count) + "} %p = { x = {" + unknown + "} " + names_apart(count, 8) + "}"
+    return analyze(preds + text, initial)
+
+
+@row("check: an embedding of 250 individuals along a chain", 250)
+def _(count):
+    preds = "%p n(v, w) function\n%p x(v)\n" + "".join(f"%p a{k}(v)\n" for k in range(8))
+    # but for a0, of which the report knows nothing, so that each individual has two images that are alike
+    unknown = "a0 = {" + ", ".join(f"u{u}:1/2" for u in range(count)) + "}"
+    initial = chain(count, "x = {u0} " + names_apart(count, 8))
+    listed = chain(count, "x = {u0} " + names_apart(count, 8) + unknown)
+    halves = " ".join(f"{name} = {{s:1/2}}" for name in ["x", "sm", *(f"a{k}" for k in range(8))])
+    all_in_one = "%n = {s} %p = { n = {s->s:1/2} " + halves + " }"
+    report = f"tvla report 2 node L structures 1 {listed} node M structures 1 {all_in_one} end"
+    return check(preds + TAIL.replace("Skip() L", "Skip() M"), initial, report)
+
+
+row("check --maps: the same", 250)(lambda size: (["check", "p", "i", "r", "--maps"], ROWS_BY_NAME[
+    "check: an embedding of 250 individuals along a chain"](size)[1]))
+
+# ---- width ----
+
+row("program: one-letter tokens (words behind the edges)", MIB4)(
+    lambda size: analyze(fill(size, lambda n: ",a", TAIL + "%%\na")))
+row("program: one-letter tokens that are no program", MIB4, "program: Syntax at 1:1")(
+    lambda size: analyze(fill(size, lambda n: "a ")))
+row("program: a comment", MIB4)(lambda size: analyze(TAIL + "/*" + "*" * (size - len(TAIL) - 4) + "*/"))
+TEN_ATOMS = "%r " + "&".join(["p(v)"] * 10) + "==>q(v)\n"
+row("program: 50,000 rules of ten atoms, 1,000,000 formula nodes", 50_000)(
+    lambda size: analyze("%p p(v)\n%p q(v)\n" + TEN_ATOMS * size + TAIL))
+UNKNOWN = "%n = {" + individuals(8) + "} %p = { p = {" + ", ".join(f"u{u}:1/2" for u in range(8)) + "} }"
+row("program: 50,000 rules of ten atoms, tried on 8 individuals", 50_000)(
+    lambda size: analyze("%p p(v)\n%p q(v)\n" + TEN_ATOMS * size + TAIL, UNKNOWN))
+row("program: 65,000 predicates of 64 bytes (too many)", 65_000, "program: TooMany")(
+    lambda size: analyze("".join(f"%p p{n:056}()\n" for n in range(size)) + TAIL))
+row("program: 512 predicates, names of 8,000 bytes", 8_000)(
+    lambda size: analyze("".join(f"%p p{n:0{size}}()\n" for n in range(512)) + TAIL))
+row("program: a name of 500,000 words in brackets", 500_000)(
+    lambda size: analyze("%p p[a" + ",a" * size + "]()\n" + TAIL))
+row("program: actions that no edge names", MIB4)(
+    lambda size: analyze(fill(size, lambda n: f"%action a{n}(){{}}\n", "%%\n", TAIL[3:])))
+row("program: 16,000 edges between 4,000 nodes, each with an action of its own", 16_000)(
+    lambda size: analyze("%%\n" + "".join(f"%action a{n}() {{ }}\n" for n in range(size)) + "%%\n"
+                         + "".join(f"L{n % 4000} a{n}() L{(n + 1) % 4000}\n" for n in range(size))))
+row("program: edges (too many items)", MIB4, "program: TooManyItems")(
+    lambda size: analyze(fill(size, lambda n: "L S() L\n", "%%\n%action S() { }\n%%\n")))
+row("program: an action of 200,000 parameters", 200_000)(
+    lambda size: analyze("%%\n%action F(" + ", ".join(f"q{n}" for n in range(size)) + ") { }\n%%\nL F("
+                         + ", ".join(["x"] * size) + ") L\n"))
+row("program: an action of 60,000 messages", 60_000)(
+    lambda size: analyze("%p b()\n%%\n%action F() { " + '%message b() -> "m" ' * size + "}\n%%\nL F() M\n"))
+row("program: an action of 60,000 focus formulas", 60_000)(
+    lambda size: analyze("%p b()\n%%\n%action F() { %f { b()" + ", b()" * (size - 1) + " } }\n%%\nL F() M\n"))
+row("program: members of one set", MIB4)(
+    lambda size: analyze(fill(size, lambda n: f",m{n}", "%s S {a", "}\n" + TAIL)))
+row("program: 60,000 members, each with a rule", 60_000)(
+    lambda size: analyze("%s S {" + ", ".join(f"m{n}" for n in range(size)) + "}\n"
+                         + "foreach (m in S) { %r 0 ==> 0 }\n" + TAIL))
 
 
 @row("program: one formula of 500,000 nodes", 250_000)
@@ -126,52 +206,49 @@ def _(count):
     return analyze("%%\n%action Skip() { %p " + "&".join(groups) + " }\n%%\nL Skip() L\n")
 
 
-@row("initial: structures without individuals, all equal", MIB4)
-def _(size):
-    return analyze(TAIL, fill(size, lambda n: "%n={}%p={}"))
+row("initial: structures without individuals, all equal", MIB4)(
+    lambda size: analyze(TAIL, fill(size, lambda n: "%n={}%p={}")))
 
 
-@row("initial: 60,000 structures, no two equal", 60_000)
-def _(count):
-    preds = "".join(f"%p b{n}()" for n in range(16))
-    bits = lambda n: "".join(f"b{k}=1 " for k in range(16) if n >> k & 1)
-    return analyze(preds + TAIL, "".join("%n={}%p={" + bits(n) + "}" for n in range(count)), "--max-structures", "100000")
+def bits_of(count, number, behind=" "):
+    return "".join(f"b{k}=1{behind}" for k in range(count) if number >> k & 1)
 
 
-@row("initial: entries of one structure of 256 individuals", MIB4)
-def _(size):
-    start = "%n = {" + individuals(256) + "} %p = { "
-    return analyze("%p x(v)\n" + TAIL, fill(size, lambda n: f"x={{u{n % 256}}}", start, "}"))
+row("initial: 60,000 structures, no two equal", 60_000)(
+    lambda size: analyze("".join(f"%p b{n}()" for n in range(16)) + TAIL,
+                         "".join("%n={}%p={" + bits_of(16, n) + "}" for n in range(size)),
+                         "--max-structures", "100000"))
+row("initial: entries of one structure of 256 individuals", MIB4)(
+    lambda size: analyze("%p x(v)\n" + TAIL, fill(size, lambda n: f"x={{u{n % 256}}}",
+                                                  "%n = {" + individuals(256) + "} %p = { ", "}")))
 
 
 @row("report: structures that no edge leaves", MIB64)
 def _(size):
-    bits = lambda n: "".join(f"  b{k} = 1\n" for k in range(20) if n >> k & 1)
-    count, left = 0, size - 100
-    parts = []
+    count, left, parts = 0, size - 100, []
     while left > 0:
-        parts.append("%n = {}\n%p = {\n" + bits(count) + "}\n")
+        parts.append("%n = {}\n%p = {\n" + bits_of(20, count, "\n") + "}\n")
         left -= len(parts[-1])
         count += 1
     preds = "".join(f"%p b{n}()\n" for n in range(20))
-    report = f"tvla report 2\nnode L structures {count - 1}\n" + "".join(parts[:-1]) + "node M structures 0\nend\n"
-    return ["check", "p", "i", "r"], preds + "%%\n%action Skip() { }\n%%\nM Skip() L\n", "", report
+    report = f"tvla report 2\nnode L structures {count - 1}\n" + "".join(parts[:-1])
+    report += "node M structures 0\nend\n"
+    return check(preds + "%%\n%action Skip() { }\n%%\nM Skip() L\n", "", report)
 
 
-@row("report: one-letter tokens that are no report", MIB64)
-def _(size):
-    return ["check", "p", "i", "r"], TAIL, EMPTY, "tvla report 2 " + "a " * ((size - 14) // 2)
+row("report: one-letter tokens that are no report", MIB64, "report: ReportForm at 1:15")(
+    lambda size: check(TAIL, EMPTY, "tvla report 2 " + "a " * ((size - 14) // 2)))
+row("report: 10,000 structures, each one's step listed", 10_000)(
+    lambda size: check("".join(f"%p b{n}()\n" for n in range(14)) + TAIL, "",
+                       f"tvla report 2\nnode L structures {size}\n"
+                       + "".join("%n = {}\n%p = {\n" + bits_of(14, n, "\n") + "}\n" for n in range(size))
+                       + "end\n"))
+row("report: 1,000,000 maps of items that aren't there", 1_000_000)(
+    lambda size: check(TAIL, EMPTY, "tvla report 2 node L structures 1 %n = {} %p = {} "
+                       + "".join(f"map initial {n} to 0 {{}} " for n in range(1, size + 1)) + "end"))
 
 
-@row("report: 10,000 structures, each one's step listed", 10_000)
-def _(count):
-    bits = lambda n: "".join(f"  b{k} = 1\n" for k in range(14) if n >> k & 1)
-    preds = "".join(f"%p b{n}()\n" for n in range(14))
-    listed = "".join("%n = {}\n%p = {\n" + bits(n) + "}\n" for n in range(count))
-    return ["check", "p", "i", "r"], preds + TAIL, "", f"tvla report 2\nnode L structures {count}\n{listed}end\n"
-
-
-@row("100,000 pairs", 100_000)
+@row("100,000 pairs", 100_000, "more than 100000 structures")
 def _(count):
     preds = "".join(f"%p b{n}()\n" for n in range(17))
     edges = "".join(f"L Turn(b{n}) L\n" for n in range(17))
@@ -179,164 +256,177 @@ def _(count):
     return analyze(text, EMPTY, "--max-structures", str(count))
 
 
+def eight(count, more="", preds=8):
+    """A chain of so many individuals, of which none are merged."""
+    return "".join(f"%p a{k}(v)\n" for k in range(preds)), chain(count, more + names_apart(count, preds))
+
+
 @row("a chain of 250 individuals, n* defined and transitive", 250)
 def _(count):
-    # a name for each cell, so that none are merged
-    preds = "".join(f"%p a{k}(v)\n" for k in range(8))
-    names = "".join(f"a{k} = {{" + ", ".join(f"u{u}" for u in range(count) if u >> k & 1) + "} " for k in range(8))
-    text = "%p x(v)\n%p n(v, w)\n%i t(v, w) = n*(v, w) transitive reflexive\n" + preds
     pairs = ", ".join(f"u{u}->u{w}" for u in range(count) for w in range(u, count))
-    initial = chain(count).replace("x = {u0}", "x = {u0} " + names + "t = {" + pairs + "}")
+    preds, initial = eight(count, "x = {u0} t = {" + pairs + "} ")
+    text = "%p x(v)\n%p n(v, w)\n%i t(v, w) = n*(v, w) transitive reflexive\n" + preds
     return analyze(text + "%%\n%action Cut() { { n(v, w) = n(v, w) & !x(v) } }\n%%\nL0 Cut() L1\n", initial)
 
 
-@row("the same without what is transitive", 250)
+@row("a chain of 250 individuals, a condition on its closure", 250)
 def _(count):
-    preds = "".join(f"%p a{k}(v)\n" for k in range(8))
-    names = "".join(f"a{k} = {{" + ", ".join(f"u{u}" for u in range(count) if u >> k & 1) + "} " for k in range(8))
+    preds, initial = eight(count, "x = {u0} ")
     text = "%p x(v)\n%p n(v, w)\n" + preds
-    initial = chain(count).replace("x = {u0}", "x = {u0} " + names)
     return analyze(text + "%%\n%action See() { %p A(v, w) n*(v, w) | n*(w, v) }\n%%\nL0 See() L1\n", initial)
 
 
 def long_rule(count):
     """A rule whose body has so many literals, in groups of 30."""
-    literals = [f"p{n % 500}()" for n in range(count)]
-    groups = ["(" + "&".join(literals[at : at + 30]) + ")" for at in range(0, count, 30)]
-    while len(groups) > 100:
+    groups = [f"p{n % 500}()" for n in range(count)]
+    while len(groups) > 100 or "(" not in groups[0][:1]:
         groups = ["(" + "&".join(groups[at : at + 30]) + ")" for at in range(0, len(groups), 30)]
-    return "%r " + "&".join(groups) + " ==> q()\n"
+    preds = "".join(f"%p p{n}()\n" for n in range(500))
+    return preds + "%p q()\n%r " + "&".join(groups) + " ==> q()\n" + TAIL
 
 
-@row("a rule of 180 literals", 180)
-def _(count):
-    return analyze("".join(f"%p p{n}()\n" for n in range(500)) + "%p q()\n" + long_rule(count) + TAIL)
+for count in (180, 1_000, 5_000):
+    row(f"a rule of {count:,} literals", count)(lambda size: analyze(long_rule(size)))
+SIX = "%p x(v)\n%p n(v, w)\n%r n(a, b) & n(b, c) & n(c, d) & n(d, e) & n(e, f) ==> x(a)\n" + TAIL
 
 
-@row("a rule of 1,000 literals", 1000)
-def _(count):
-    return analyze("".join(f"%p p{n}()\n" for n in range(500)) + "%p q()\n" + long_rule(count) + TAIL)
+def six(count, pairs, marked):
+    preds, _ = eight(count, preds=5)
+    entries = "n = {" + ", ".join(pairs) + "} x = {" + individuals(count) * marked + "} "
+    entries += names_apart(count, 5)
+    return analyze(preds + SIX, "%n = {" + individuals(count) + "} %p = { " + entries + "}")
 
 
-@row("a rule of 5,000 literals", 5000)
-def _(count):
-    return analyze("".join(f"%p p{n}()\n" for n in range(500)) + "%p q()\n" + long_rule(count) + TAIL)
-
-
-@row("a rule of six variables, 30 individuals, all known", 30)
-def _(count):
-    rule = "%r n(a, b) & n(b, c) & n(c, d) & n(d, e) & n(e, f) ==> x(a)\n"
-    preds = "".join(f"%p a{k}(v)\n" for k in range(5))
-    names = "".join(f"a{k} = {{" + ", ".join(f"u{u}" for u in range(count) if u >> k & 1) + "} " for k in range(5))
-    initial = chain(count).replace("x = {u0}", "x = {" + individuals(count) + "} " + names)
-    return analyze("%p x(v)\n%p n(v, w)\n" + preds + rule + TAIL, initial)
-
-
-@row("a rule of six variables, 30 individuals, nothing known", 30)
-def _(count):
-    rule = "%r n(a, b) & n(b, c) & n(c, d) & n(d, e) & n(e, f) ==> x(a)\n"
-    preds = "".join(f"%p a{k}(v)\n" for k in range(5))
-    names = "".join(f"a{k} = {{" + ", ".join(f"u{u}" for u in range(count) if u >> k & 1) + "} " for k in range(5))
-    halves = ", ".join(f"u{u}->u{w}:1/2" for u in range(count) for w in range(count))
-    initial = "%n = {" + individuals(count) + "} %p = { n = {" + halves + "} " + names + "}"
-    return analyze("%p x(v)\n%p n(v, w)\n" + preds + rule + TAIL, initial)
-
-
-@row("a rule of six variables, 30 individuals, all in n", 30)
-def _(count):
-    rule = "%r n(a, b) & n(b, c) & n(c, d) & n(d, e) & n(e, f) ==> x(a)\n"
-    preds = "".join(f"%p a{k}(v)\n" for k in range(5))
-    names = "".join(f"a{k} = {{" + ", ".join(f"u{u}" for u in range(count) if u >> k & 1) + "} " for k in range(5))
-    all_pairs = ", ".join(f"u{u}->u{w}" for u in range(count) for w in range(count))
-    initial = "%n = {" + individuals(count) + "} %p = { n = {" + all_pairs + "} x = {" + individuals(count) + "} " + names + "}"
-    return analyze("%p x(v)\n%p n(v, w)\n" + preds + rule + TAIL, initial)
+row("a rule of six variables, 30 individuals, all known", 30)(
+    lambda size: six(size, [f"u{u}->u{u + 1}" for u in range(size - 1)], True))
+row("a rule of six variables, 30 individuals, nothing known", 30)(
+    lambda size: six(size, [f"u{u}->u{w}:1/2" for u in range(size) for w in range(size)], False))
+row("a rule of six variables, 30 individuals, all in n", 30)(
+    lambda size: six(size, [f"u{u}->u{w}" for u in range(size) for w in range(size)], True))
 
 
 @row("four quantifiers, 40 individuals", 40)
 def _(count):
-    preds = "".join(f"%p a{k}(v)\n" for k in range(6))
-    names = "".join(f"a{k} = {{" + ", ".join(f"u{u}" for u in range(count) if u >> k & 1) + "} " for k in range(6))
-    text = "%p x(v)\n%p n(v, w)\n" + preds
-    initial = chain(count).replace("x = {u0}", "x = {u0} " + names)
+    preds, initial = eight(count, "x = {u0} ", 6)
     pre = "A(a) E(b) A(c) E(d) n(a, b) | n(b, c) | n(c, d) | !x(d)"
-    return analyze(text + "%%\n%action See() { %p " + pre + " }\n%%\nL0 See() L1\n", initial)
+    see = "%%\n%action See() { %p " + pre + " }\n%%\nL0 See() L1\n"
+    return analyze("%p x(v)\n%p n(v, w)\n" + preds + see, initial)
 
 
-@row("trace: 4 MiB of steps of a heap without individuals", MIB4)
-def _(size):
-    return replay(TAIL, EMPTY, "step 0 " * (size // 7))
+row("trace: 4 MiB of steps of a heap without individuals", MIB4)(
+    lambda size: replay(TAIL, EMPTY, "step 0 " * (size // 7)))
+row("trace: a step of 1,000,000 picks", 1_000_000, "status 1")(
+    lambda size: replay(TAIL, ONE, "step 0 (0" + ", 0" * (size - 1) + ")"))
 
 
 @row("trace: 1,000 steps of a heap of 256 individuals", 1_000)
 def _(count):
-    program = "%p x(v) unique\n%p n(v, w) function\n%i t(v, w) = n*(v, w) transitive reflexive\n%r t(v, w) ==> !n(w, v)\n"
+    program = "%p x(v) unique\n%p n(v, w) function\n"
+    program += "%i t(v, w) = n*(v, w) transitive reflexive\n%r t(v, w) ==> !n(w, v)\n"
     pairs = ", ".join(f"u{u}->u{w}" for u in range(256) for w in range(u, 256))
-    start = chain(256).replace(" x = {u0}", " x = {u0} t = {" + pairs + "}")
-    return replay(program + TAIL, start, "step 0 " * count)
+    return replay(program + TAIL, chain(256, "x = {u0} t = {" + pairs + "}"), "step 0 " * count)
 
 
-def source(text, initial=EMPTY):
-    return ["source", "p", "i"], text, initial
+row("source: 4 MiB of statements", MIB4, "source: TooMany")(
+    lambda size: source(fill(size, lambda n: "x=x ", texts.SOURCE)))
+row("source: 4,095 statements, as many as are taken", 4_095)(
+    lambda size: source("vars {x} fields {n} " + "x=x " * size))
+row("source: 2,047 loops, one behind the other", 2_047)(lambda size: texts.many_blocks("while", size))
+row("source: 4 MiB of loops that are empty", MIB4, "source: TooMany")(
+    lambda size: source(fill(size, lambda n: "while(*){}", texts.SOURCE)))
+row("source: 4 MiB of names, the last one twice", MIB4, "source: NameTwice")(
+    lambda size: source(fill(size, lambda n: f"x{n},", "vars {", "x0} fields {n} x0 = null")))
+row("source: 4 MiB of braces that are open", MIB4, "source: TooDeep")(
+    lambda size: source(fill(size, lambda n: "{", texts.SOURCE)))
+ROWS_BY_NAME = {name: make for name, make, *_ in ROWS}
+
+# ---- the table ----
+
+asked = argparse.ArgumentParser(prog="bench/limits.sh")
+asked.add_argument("wanted", nargs="*", metavar="WORD")
+asked.add_argument("--seconds", type=int, default=30)
+asked.add_argument("--megabytes", type=int, default=6000)
+asked.add_argument("--stack", type=int, default=1024)
+asked.add_argument("--tenths", action="store_true")
+asked.add_argument("--other", default=os.environ.get("OTHER"))
+asked.add_argument("--list", action="store_true")
+asked = asked.parse_args()
+rows = [row for row in ROWS if not asked.wanted or any(word in row[0] for word in asked.wanted)]
+if asked.list:
+    print(*(row[0] for row in rows), sep="\n")
+    sys.exit(0)
+own = os.path.abspath(os.environ.get("TVLA") or "crates/tvla/out/tvla")
+if not os.access(own, os.X_OK):
+    print("skip: no built program")
+    sys.exit(0)
+other = asked.other and (shutil.which(asked.other) or asked.other)
+if other and not os.access(other, os.X_OK):
+    sys.exit(f"{asked.other} can't be run")
+other = other and os.path.abspath(other)
 
 
-@row("source: 4 MiB of statements", MIB4)
-def _(size):
-    return source(fill(size, lambda n: "x=x ", "vars {x} fields {n} "))
+def run(program, words, who, stack):
+    """The call, and how it ended: what it said, else its status."""
+    call = measured([program, *words], asked.seconds, "note", f"{who}.out", f"{who}.err", stack,
+                    asked.megabytes * 1000)
+    with open(f"{who}.err", "rb") as file:
+        said = file.readline(200).decode("ascii", "replace").strip().removeprefix("tvla: ")
+    return call, said if said and 0 <= call.code and not call.late else call.ended(asked.seconds)
 
 
-@row("source: 4,095 statements, as many as are taken", 4_095)
-def _(count):
-    return source("vars {x} fields {n} " + "x=x " * count)
-
-
-@row("source: 4 MiB of loops that are empty", MIB4)
-def _(size):
-    return source(fill(size, lambda n: "while(*){}", "vars {x} fields {n} "))
-
-
-@row("source: 4 MiB of names, the last one twice", MIB4)
-def _(size):
-    return source(fill(size, lambda n: f"x{n},", "vars {", "x0} fields {n} x0 = null"))
-
-
-@row("source: 4 MiB of braces that are open", MIB4)
-def _(size):
-    return source(fill(size, lambda n: "{", "vars {x} fields {n} "))
-
-
-def run(words, texts, folder):
-    for name, text in zip("pirst", texts):
-        with open(f"{folder}/{name}", "w") as file:
+def write(files):
+    for name, text in files.items():
+        with open(name, "w", encoding="ascii") as file:
             file.write(text)
-    child = os.fork()
-    if not child:
-        nowhere = os.open("/dev/null", os.O_WRONLY)
-        told = os.open(f"{folder}/err", os.O_WRONLY | os.O_CREAT | os.O_TRUNC)
-        os.dup2(nowhere, 1)
-        os.dup2(told, 2)
-        os.chdir(folder)
-        resource.setrlimit(resource.RLIMIT_CPU, (limit, limit + 1))
-        resource.setrlimit(resource.RLIMIT_CORE, (0, 0))
-        resource.setrlimit(resource.RLIMIT_AS, (6_000_000_000, 6_000_000_000))
-        os.execv(own, [own] + words)
-    _, ended, used = os.wait4(child, 0)
-    with open(f"{folder}/err") as file:
-        said = file.readline().strip().removeprefix("tvla: ")
-    code = os.waitstatus_to_exitcode(ended)
-    return used.ru_utime + used.ru_stime, used.ru_maxrss // 1000, said or (f"status {code}" if code >= 0 else f"signal {-code}")
+    return sum(map(len, files.values()))
 
 
-folder = tempfile.mkdtemp(prefix="limits-")
-print("| What | Bytes | Seconds | Times that of a tenth | Megabytes | of a tenth | Ends with |")
-print("|---|---|---|---|---|---|---|", flush=True)
-for name, make, size, tenth in ROWS:
-    if wanted and not any(word in name for word in wanted):
-        continue
-    words, *texts = make(tenth)
-    few, little, _ = run(words, texts, folder)
-    words, *texts = make(size)
-    bytes_ = sum(map(len, texts))
-    many, much, said = run(words, texts, folder)
-    print(f"| {name} | {bytes_:,} | {many:.2f} | {many / max(few, 0.01):.1f} | {much} | {little} | {said} |", flush=True)
-shutil.rmtree(folder)
+def judge(name, words, call, ended, wanted, told):
+    """What fails in this row, if anything does."""
+    if call.late or call.code < 0 or ended != wanted:
+        return f"{ended}, where {wanted} is wanted"
+    if call.kilobytes and call.kilobytes > asked.megabytes * 1000:
+        return f"over {asked.megabytes} MB"
+    if not other or told[0].late or told[0].code < 0:
+        return None
+    theirs, other_ended = told
+    if ended != other_ended or call.code != 4 and not filecmp.cmp("own.out", "other.out", shallow=False):
+        return f"the other answers otherwise: {other_ended}"
+    if call.seconds > max(ENOUGH, FACTOR * theirs.seconds):
+        return f"{call.seconds:.2f} s, where the other takes {theirs.seconds:.2f} s"
+    return None
+
+
+scratch = tempfile.mkdtemp(prefix="limits-")
+os.chdir(scratch)
+columns = ["What", "Bytes", "Ends with", "Seconds", "Megabytes"]
+columns += ["Times that of a tenth"] * asked.tenths + ["Other, s"] * bool(other)
+print("| " + " | ".join(columns) + " |\n" + "|---" * len(columns) + "|", flush=True)
+faults = []
+try:
+    for name, make, size, wanted, tenth in rows:
+        words, files = make(size)
+        length = write(files)
+        call, ended = run(own, words, "own", asked.stack)
+        told = run(other, words, "other", "unlimited") if other else None
+        cells = [name, f"{length:,}", ended, f"{call.seconds:.2f}"]
+        cells.append(f"{call.kilobytes / 1000:.0f}" if call.kilobytes else "-")
+        fault = judge(name, words, call, ended, wanted, told)
+        if asked.tenths:
+            words, files = make(tenth)
+            write(files)
+            few = run(own, words, "own", asked.stack)[0].seconds
+            cells.append(f"{call.seconds / few:.1f}" if call.seconds >= 0.03 else "")
+        if other:
+            cells.append(f"{told[0].seconds:.2f}" if told[0].code >= 0 and not told[0].late else told[1])
+        print("| " + " | ".join(cells) + " |", flush=True)
+        if fault:
+            faults.append(f"{name}: {fault}")
+finally:
+    os.chdir("/")
+    shutil.rmtree(scratch)
+print(f"{len(rows)} rows, {len(faults)} failed")
+if faults or not rows:
+    print("FAILED:", *faults or ["no such row"], sep="\n  ")
+    sys.exit(1)
 END

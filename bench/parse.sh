@@ -3,7 +3,7 @@
 # are read at once, and 4 MiB of what opens constructs is refused at once.
 # The texts are generated. The program stands in a folder of its own that goes when the script ends.
 source "$(dirname "$0")/scratch.sh"
-copy_crates tv_outside tv_lex tv_model tv_tree tv_phrases tv_formula tv_parse
+copy_crates tv_parse
 echo 'measure: tv_lex tv_parse' >>"$scratch/crates.txt"
 cat >"$scratch/crates/measure/src/main.rt" <<'MAIN'
 // How long a program's tree takes.

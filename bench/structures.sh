@@ -7,7 +7,7 @@ source "$(dirname "$0")/scratch.sh"
 last=$(git log -n 1 --diff-filter=D --format=%H -- crates/tv_struct/src/plane.rt)
 [ -n "$last" ] || { echo "the history has no table of nested lists"; exit 1; }
 mkdir "$scratch/old" && git archive "$last^" | tar -x -C "$scratch/old"
-copy_crates tv_kleene tv_row tv_model tv_frame tv_struct tv_listing
+copy_crates tv_listing
 echo 'measure: tv_kleene tv_listing tv_model tv_struct' >>"$scratch/crates.txt"
 cat >"$scratch/crates/measure/src/main.rt" <<'MAIN'
 // How long copies of structures and their adding to a listing take.

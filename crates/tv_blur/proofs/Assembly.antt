@@ -1,5 +1,7 @@
 -- The merged structure of the classes of names is the blur.
-use Rattle.std.proofs.Common.{ℕ, ◌≡◌, ◌⊎◌, ◌<◌, ◌≤◌, inl, inr, Bool, true, false, List, [], ◌∷◌, get_or, length, map, Less, Equal, Greater, Option, Some, None, refl, sym, ap, subst, ◌∙◌, arith, ltb-true, lt-ltb, nat_lt}
+use Rattle.std.proofs.Common.{ℕ, ◌≡◌, ◌⊎◌, ◌<◌, ◌≤◌, inl, inr, Bool, true, false, List, [], ◌∷◌, get_or}
+use Rattle.std.proofs.Common.{length, map, Less, Equal, Greater, Option, Some, None, refl, sym, ap, subst}
+use Rattle.std.proofs.Common.{◌∙◌, arith, ltb-true, lt-ltb, nat_lt}
 use Rattle.std.specs.Prelude.{All, Contains, IsTrue, ◌↔◌, ◌||◌, slice_get}
 use Rattle.std.specs.List.{range_with_len, AllZip}
 use Rattle.std.specs.Ordering.{ordering_reverse}
@@ -14,11 +16,11 @@ use Rattle.tv_kleene.specs.Kleene.{LiesUnder}
 use Rattle.tv_struct.specs.TableForm.{AreIndividuals}
 use Rattle.tv_struct.specs.StructureForm.{StructureForm, structure_of, value_at, summary_at, arities_of}
 use Rattle.tv_struct.proofs.Library.{Contains-range, below-range, AreIndividuals-range, fits_or_No}
-use Rattle.tv_blur.specs.declared.names.Names.{Names}
+use Rattle.tv_blur.specs.declared.names.CanonicalNames.{CanonicalNames}
 use Rattle.tv_blur.specs.Merged.{IsJoin, IsMember, IsValueBelow, HasSummary, HasSeveral}
 use Rattle.tv_blur.specs.Names.{name_cmp, name_cmp_total}
 use Rattle.tv_blur.specs.Blur.{FollowsNames, IsBlurBy}
-use Rattle.tv_blur.specs.Naming.{AreNames, IsGathered, class_name, name_in, named_by, named_in}
+use Rattle.tv_blur.specs.Naming.{AreNames, IsGathered, class_name, canonical_name_in, named_by, named_in}
 use Rattle.tv_blur.specs.Classes.{AreClasses, HasMerged, IsValueAmong, class_at, is_merged_summary}
 use Rattle.tv_blur.proofs.MergedLaws.{IsJoin-like}
 
@@ -35,14 +37,14 @@ pub record HasClasses (preds : List ℕ) (s : StructureForm) (place : ℕ → �
       → get_or (class_at classes w) 0 0 < get_or (class_at classes w) 1 0
 
 -- the place of an individual's class, 0 where there is none
-place_among : (names : Names) (n : ℕ) (classes : List (List ℕ)) → IsGathered names n classes → (u : ℕ) → (u < n) ⊎ (n ≤ u) → ℕ
+place_among : (names : CanonicalNames) (n : ℕ) (classes : List (List ℕ)) → IsGathered names n classes → (u : ℕ) → (u < n) ⊎ (n ≤ u) → ℕ
 place_among names n classes h u (inl lt) = (h.all u lt).0
 place_among names n classes h u (inr past) = 0
 
-pub place_of : (names : Names) (n : ℕ) (classes : List (List ℕ)) → IsGathered names n classes → ℕ → ℕ
+pub place_of : (names : CanonicalNames) (n : ℕ) (classes : List (List ℕ)) → IsGathered names n classes → ℕ → ℕ
 place_of names n classes h u = place_among names n classes h u (cases_lt u n)
 
-placed : (names : Names) (n : ℕ) (classes : List (List ℕ)) (h : IsGathered names n classes) (u : ℕ) → u < n
+placed : (names : CanonicalNames) (n : ℕ) (classes : List (List ℕ)) (h : IsGathered names n classes) (u : ℕ) → u < n
     → (place_of names n classes h u < length classes) × Contains (class_at classes (place_of names n classes h u)) u
 unfolding place_among place_of
 placed names n classes h u lt = at (cases_lt u n)
@@ -53,7 +55,7 @@ placed names n classes h u lt = at (cases_lt u n)
     at (inr past) = absurd (omega (arith, lt, past))
 
 -- classes of one name are one
-same_class : (names : Names) (n : ℕ) (classes : List (List ℕ)) → IsGathered names n classes → (w x : ℕ)
+same_class : (names : CanonicalNames) (n : ℕ) (classes : List (List ℕ)) → IsGathered names n classes → (w x : ℕ)
     → w < length classes → x < length classes → class_name names classes w ≡ class_name names classes x → w ≡ x
 same_class names n classes h w x w_lt x_lt e = at (cases_order w x)
   where
@@ -69,7 +71,7 @@ same_class names n classes h w x w_lt x_lt e = at (cases_order w x)
     at (inr (inr after)) = absurd (apart x w after w_lt (sym e))
 
 -- gathered classes of all individuals
-pub gathered_all : (names : Names) (classes : List (List ℕ)) (h : IsGathered names (named_in names).size classes)
+pub gathered_all : (names : CanonicalNames) (classes : List (List ℕ)) (h : IsGathered names (named_in names).size classes)
     → HasClasses (named_by names) (named_in names) (place_of names (named_in names).size classes h) classes
 gathered_all names classes h = record {
   order = λ u w u_lt w_lt. (before u w u_lt w_lt, back u w u_lt w_lt);
@@ -93,29 +95,29 @@ gathered_all names classes h = record {
     place = place_of names n classes h
 
     -- each individual has the name of its class
-    name : (u : ℕ) → u < n → name_in names u ≡ class_name names classes (place u)
+    name : (u : ℕ) → u < n → canonical_name_in names u ≡ class_name names classes (place u)
     name u lt = (h.each (place u) (placed names n classes h u lt).0).one u (placed names n classes h u lt).1
 
-    before : (u w : ℕ) → u < n → w < n → place u < place w → name_cmp (name_in names u) (name_in names w) ≡ Less
+    before : (u w : ℕ) → u < n → w < n → place u < place w → name_cmp (canonical_name_in names u) (canonical_name_in names w) ≡ Less
     before u w u_lt w_lt less =
         rw (name u u_lt, name w w_lt) (h.order (place u) (place w) less (placed names n classes h w w_lt).0)
 
-    back : (u w : ℕ) → u < n → w < n → name_cmp (name_in names u) (name_in names w) ≡ Less → place u < place w
+    back : (u w : ℕ) → u < n → w < n → name_cmp (canonical_name_in names u) (canonical_name_in names w) ≡ Less → place u < place w
     back u w u_lt w_lt is = at (cases_order (place u) (place w))
       where
         at : (place u ≡ place w) ⊎ ((place u < place w) ⊎ (place w < place u)) → place u < place w
         at (inl same) =
-            let e : name_in names u ≡ name_in names w = name u u_lt ∙ ap (class_name names classes) same ∙ sym (name w w_lt)
-            in let equal : name_cmp (name_in names u) (name_in names w) ≡ Equal
-            = rw e (tied_itself name_cmp_total (name_in names w))
+            let e : canonical_name_in names u ≡ canonical_name_in names w = name u u_lt ∙ ap (class_name names classes) same ∙ sym (name w w_lt)
+            in let equal : name_cmp (canonical_name_in names u) (canonical_name_in names w) ≡ Equal
+            = rw e (tied_itself name_cmp_total (canonical_name_in names w))
             in absurd (let f : Less ≡ Equal = sym is ∙ equal in cc)
         at (inr (inl less)) = less
         at (inr (inr after)) =
             absurd (let f : Less ≡ Greater
-            = sym is ∙ name_cmp_total.antisymm (name_in names u) (name_in names w)
+            = sym is ∙ name_cmp_total.antisymm (canonical_name_in names u) (canonical_name_in names w)
             ∙ ap ordering_reverse (before w u w_lt u_lt after) in cc)
 
-pub gathered_classes : (preds : List ℕ) (s : StructureForm) (names : Names) (classes : List (List ℕ)) → AreNames preds s names
+pub gathered_classes : (preds : List ℕ) (s : StructureForm) (names : CanonicalNames) (classes : List (List ℕ)) → AreNames preds s names
     → IsGathered names (named_in names).size classes → (place : ℕ → ℕ) × HasClasses preds s place classes
 gathered_classes preds s names classes are h =
     let place : ℕ → ℕ = place_of names (named_in names).size classes h

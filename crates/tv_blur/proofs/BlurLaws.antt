@@ -1,5 +1,6 @@
 -- Blur: names, that there is one, and that blurring again changes nothing.
-use Rattle.std.proofs.Common.{ℕ, ◌≡◌, ◌⊎◌, ◌<◌, ◌≤◌, zero, suc, inl, inr, Bool, true, false, List, [], ◌∷◌, get_or, length, map, Less, Equal, Greater, refl, sym, ap, subst, ◌∙◌, arith}
+use Rattle.std.proofs.Common.{ℕ, ◌≡◌, ◌⊎◌, ◌<◌, ◌≤◌, zero, suc, inl, inr, Bool, true, false, List, [], ◌∷◌}
+use Rattle.std.proofs.Common.{get_or, length, map, Less, Equal, Greater, refl, sym, ap, subst, ◌∙◌, arith}
 use Rattle.std.specs.Prelude.{All, Contains, IsTrue, ◌↔◌}
 use Rattle.std.specs.declared.cmp.Ordering.{Ordering}
 use Rattle.std.specs.List.{range_with_len}
@@ -8,13 +9,14 @@ use Rattle.std.proofs.lemmas.List.{get_or-map, map-id}
 use Rattle.std.proofs.lemmas.List.Elements.{All-head, All-tail, All-nil, All-cons}
 use Rattle.tv_kleene.specs.declared.K3.{K3}
 use Rattle.tv_kleene.specs.declared.K3.TheVariants.{No, Half, Yes}
-use Rattle.tv_frame.specs.LogicalStructure.{LogicalStructure}
+use Rattle.tv_embedding_laws.specs.LogicalStructure.{LogicalStructure}
 use Rattle.tv_row.specs.Bits.{value_cmp}
 use Rattle.tv_struct.specs.TableForm.{HasEntry, AreIndividuals}
-use Rattle.tv_struct.specs.StructureForm.{StructureForm, IsStructure, structure_of, table_of, value_at, summary_at, arities_of}
+use Rattle.tv_struct.specs.StructureForm.{StructureForm, IsStructure, structure_of, table_of, value_at}
+use Rattle.tv_struct.specs.StructureForm.{summary_at, arities_of}
 use Rattle.tv_struct.proofs.StructureLaws.{same_structure}
 use Rattle.tv_blur.specs.Merged.{IsMember, IsValueBelow, HasSummary, HasSeveral, IsMerged}
-use Rattle.tv_blur.specs.Names.{name_of, name_cmp, name_cmp_total}
+use Rattle.tv_blur.specs.Names.{canonical_name, name_cmp, name_cmp_total}
 use Rattle.tv_blur.specs.Blur.{FollowsNames, IsBlurBy, IsBlur, IsBlurred}
 use Rattle.tv_blur.specs.Laws.{BlurKeepsNames, BlurKeepsStable, BlurIsOne}
 use Rattle.tv_struct.proofs.Library.{Contains-range, below-range}
@@ -62,15 +64,15 @@ name-back xs ys e = at (name_cmp ys xs) refl
 
 -- one place, one name; and one name, one place
 pub same-name : (preds : List ℕ) (s : LogicalStructure) (n : ℕ) (place : ℕ → ℕ) → FollowsNames preds s n place
-    → (u w : ℕ) → u < n → w < n → place u ≡ place w → name_of preds s u ≡ name_of preds s w
-same-name preds s n place follows u w lt other e = at (name_cmp (name_of preds s u) (name_of preds s w)) refl
+    → (u w : ℕ) → u < n → w < n → place u ≡ place w → canonical_name preds s u ≡ canonical_name preds s w
+same-name preds s n place follows u w lt other e = at (name_cmp (canonical_name preds s u) (canonical_name preds s w)) refl
   where
-    at : (o : Ordering) → name_cmp (name_of preds s u) (name_of preds s w) ≡ o → name_of preds s u ≡ name_of preds s w
+    at : (o : Ordering) → name_cmp (canonical_name preds s u) (canonical_name preds s w) ≡ o → canonical_name preds s u ≡ canonical_name preds s w
     at Less is = absurd (let below : place u < place w = (follows u w lt other).1 is in omega arith)
-    at Equal is = name-exact (name_of preds s u) (name_of preds s w) is
+    at Equal is = name-exact (canonical_name preds s u) (canonical_name preds s w) is
     at Greater is =
         absurd (let below : place w < place u
-        = (follows w u other lt).1 (name-back (name_of preds s u) (name_of preds s w) is) in omega arith)
+        = (follows w u other lt).1 (name-back (canonical_name preds s u) (canonical_name preds s w) is) in omega arith)
 
 -- ---- names are kept
 
@@ -86,7 +88,7 @@ maps-all f g xs e k d lt =
     sym (get_or-map f xs k d No lt) ∙ ap (λ ys. get_or ys k No) e ∙ get_or-map g xs k d No lt
 
 pub name-kept : (place : ℕ → ℕ) (preds : List ℕ) (s t : StructureForm) → IsBlurBy place preds s t → (u : ℕ) → u < s.size
-    → name_of preds (structure_of t) (place u) ≡ name_of preds (structure_of s) u
+    → canonical_name preds (structure_of t) (place u) ≡ canonical_name preds (structure_of s) u
 name-kept place preds s t b u lt =
     maps-same (λ pred. value_at t pred (place u ∷ [])) (λ pred. value_at s pred (u ∷ [])) preds (λ k d within. each k d within)
   where
@@ -101,7 +103,7 @@ name-kept place preds s t b u lt =
     same k d within [] all e = absurd (cc)
     same k d within (x ∷ []) all e =
         let goes : place x ≡ place u = cc
-        in let names : name_of preds (structure_of s) x ≡ name_of preds (structure_of s) u
+        in let names : canonical_name preds (structure_of s) x ≡ canonical_name preds (structure_of s) u
         = same-name preds (structure_of s) s.size place b.order x u
         (below-range s.size x (All-head (Contains (range_with_len 0 s.size)) x [] all)) lt goes
         in maps-all (λ pred. value_at s pred (x ∷ [])) (λ pred. value_at s pred (u ∷ [])) preds names k d within
@@ -128,17 +130,17 @@ keeps_names place preds s t b = record {
     order u w lt other = from (member u lt) (member w other)
       where
         from : (x : ℕ) × IsMember place (structure_of s) u x → (y : ℕ) × IsMember place (structure_of s) w y
-            → (u < w) ↔ (name_cmp (name_of preds (structure_of t) u) (name_of preds (structure_of t) w) ≡ Less)
+            → (u < w) ↔ (name_cmp (canonical_name preds (structure_of t) u) (canonical_name preds (structure_of t) w) ≡ Less)
         from (x, mx) (y, my) =
             let lx : x < s.size = below-range s.size x mx.individual
             in let ly : y < s.size = below-range s.size y my.individual
-            in let name_u : name_of preds (structure_of t) u ≡ name_of preds (structure_of s) x
-            = ap (name_of preds (structure_of t)) (sym mx.goes) ∙ name-kept place preds s t b x lx
-            in let name_w : name_of preds (structure_of t) w ≡ name_of preds (structure_of s) y
-            = ap (name_of preds (structure_of t)) (sym my.goes) ∙ name-kept place preds s t b y ly
+            in let name_u : canonical_name preds (structure_of t) u ≡ canonical_name preds (structure_of s) x
+            = ap (canonical_name preds (structure_of t)) (sym mx.goes) ∙ name-kept place preds s t b x lx
+            in let name_w : canonical_name preds (structure_of t) w ≡ canonical_name preds (structure_of s) y
+            = ap (canonical_name preds (structure_of t)) (sym my.goes) ∙ name-kept place preds s t b y ly
             in let Law : ℕ → ℕ → Type 0
-            = λ i j. (i < j) ↔ (name_cmp (name_of preds (structure_of s) x) (name_of preds (structure_of s) y) ≡ Less)
-            in let at : (u < w) ↔ (name_cmp (name_of preds (structure_of s) x) (name_of preds (structure_of s) y) ≡ Less)
+            = λ i j. (i < j) ↔ (name_cmp (canonical_name preds (structure_of s) x) (canonical_name preds (structure_of s) y) ≡ Less)
+            in let at : (u < w) ↔ (name_cmp (canonical_name preds (structure_of s) x) (canonical_name preds (structure_of s) y) ≡ Less)
             = subst (λ i. Law i w) mx.goes (subst (λ j. Law (place x) j) my.goes (b.order x y lx ly))
             in rw (name_u, name_w) at
 

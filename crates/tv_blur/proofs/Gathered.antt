@@ -1,18 +1,22 @@
 -- Classes of the first individuals, one individual after the other.
-use Rattle.std.proofs.Common.{ℕ, ◌≡◌, ◌≢◌, ◌⊎◌, ◌<◌, ◌≤◌, ◌+◌, ◌-◌, inl, inr, List, [], ◌∷◌, ◌++◌, get_or, set, length, Less, Equal, Greater, refl, sym, ap, subst, ◌∙◌, ⊎_elim, arith}
+use Rattle.std.proofs.Common.{ℕ, ◌≡◌, ◌≢◌, ◌⊎◌, ◌<◌, ◌≤◌, ◌+◌, ◌-◌, inl, inr, List, [], ◌∷◌, ◌++◌, get_or}
+use Rattle.std.proofs.Common.{set, length, Less, Equal, Greater, refl, sym, ap, subst, ◌∙◌, ⊎_elim, arith}
 use Rattle.std.specs.Prelude.{Contains}
 use Rattle.std.specs.declared.cmp.Ordering.{Ordering}
 use Rattle.std.specs.List.{insert}
 use Rattle.std.specs.Ordering.{ordering_reverse}
 use Rattle.std.proofs.lemmas.Bool.{cases_eq, cases_lt, cases_order}
-use Rattle.std.proofs.lemmas.List.{length-set, get_or-set_same, get_or-set_other, get_or_append_left, get_or_at, length_push}
-use Rattle.std.proofs.lemmas.List.Edits.{length-insert, get_or-insert_below, get_or-insert_at, get_or-insert_above}
-use Rattle.std.proofs.lemmas.List.Elements.{Contains-get_or, Contains-append_left, Contains-push, Contains-push_cases}
+use Rattle.std.proofs.lemmas.List.{length-set, get_or-set_same, get_or-set_other, get_or_append_left}
+use Rattle.std.proofs.lemmas.List.{get_or_at, length_push}
+use Rattle.std.proofs.lemmas.List.Edits.{length-insert, get_or-insert_below, get_or-insert_at}
+use Rattle.std.proofs.lemmas.List.Edits.{get_or-insert_above}
+use Rattle.std.proofs.lemmas.List.Elements.{Contains-get_or, Contains-append_left, Contains-push}
+use Rattle.std.proofs.lemmas.List.Elements.{Contains-push_cases}
 use Rattle.tv_kleene.specs.declared.K3.{K3}
-use Rattle.tv_blur.specs.declared.names.Names.{Names}
+use Rattle.tv_blur.specs.declared.names.CanonicalNames.{CanonicalNames}
 use Rattle.tv_blur.specs.Names.{name_cmp, name_cmp_total}
 use Rattle.tv_blur.specs.Classes.{class_at}
-use Rattle.tv_blur.specs.Naming.{IsClass, IsGathered, class_name, name_in}
+use Rattle.tv_blur.specs.Naming.{IsClass, IsGathered, class_name, canonical_name_in}
 use Rattle.tv_blur.proofs.BlurLaws.{name-exact}
 
 -- ---- order of names
@@ -28,32 +32,32 @@ above x y not_below differ = at (name_cmp x y) refl
 
 -- ---- searching
 
-pub search_below : (names : Names) (n : ℕ) (classes : List (List ℕ)) (u middle : ℕ) → IsGathered names n classes
-    → middle < length classes → name_cmp (class_name names classes middle) (name_in names u) ≡ Less
-    → (w : ℕ) → w < middle + 1 → name_cmp (class_name names classes w) (name_in names u) ≡ Less
+pub search_below : (names : CanonicalNames) (n : ℕ) (classes : List (List ℕ)) (u middle : ℕ) → IsGathered names n classes
+    → middle < length classes → name_cmp (class_name names classes middle) (canonical_name_in names u) ≡ Less
+    → (w : ℕ) → w < middle + 1 → name_cmp (class_name names classes w) (canonical_name_in names u) ≡ Less
 search_below names n classes u middle h lt less w below =
     ⊎_elim
     (λ before.
-    name_cmp_total.trans (class_name names classes w) (class_name names classes middle) (name_in names u)
+    name_cmp_total.trans (class_name names classes w) (class_name names classes middle) (canonical_name_in names u)
     (h.order w middle before lt) less)
     (λ past. let same : middle ≡ w = omega (arith, below, past)
-    in subst (λ x. name_cmp (class_name names classes x) (name_in names u) ≡ Less) same less)
+    in subst (λ x. name_cmp (class_name names classes x) (canonical_name_in names u) ≡ Less) same less)
     (cases_lt w middle)
 
-pub search_above : (names : Names) (n : ℕ) (classes : List (List ℕ)) (u middle : ℕ) → IsGathered names n classes
-    → name_cmp (class_name names classes middle) (name_in names u) ≢ Less
-    → (w : ℕ) → middle ≤ w → w < length classes → name_cmp (class_name names classes w) (name_in names u) ≢ Less
+pub search_above : (names : CanonicalNames) (n : ℕ) (classes : List (List ℕ)) (u middle : ℕ) → IsGathered names n classes
+    → name_cmp (class_name names classes middle) (canonical_name_in names u) ≢ Less
+    → (w : ℕ) → middle ≤ w → w < length classes → name_cmp (class_name names classes w) (canonical_name_in names u) ≢ Less
 search_above names n classes u middle h not_less w past lt less =
     ⊎_elim
     (λ before.
-    not_less (name_cmp_total.trans (class_name names classes middle) (class_name names classes w) (name_in names u)
+    not_less (name_cmp_total.trans (class_name names classes middle) (class_name names classes w) (canonical_name_in names u)
     (h.order middle w before lt) less))
     (λ later. let same : w ≡ middle = omega (arith, later, past)
-    in not_less (subst (λ x. name_cmp (class_name names classes x) (name_in names u) ≡ Less) same less))
+    in not_less (subst (λ x. name_cmp (class_name names classes x) (canonical_name_in names u) ≡ Less) same less))
     (cases_lt middle w)
 
 -- the first member of a class
-pub first_within : (names : Names) (n : ℕ) (classes : List (List ℕ)) (w : ℕ) (members : List ℕ) → IsGathered names n classes
+pub first_within : (names : CanonicalNames) (n : ℕ) (classes : List (List ℕ)) (w : ℕ) (members : List ℕ) → IsGathered names n classes
     → w < length classes → members ≡ class_at classes w → (0 < length members) × (get_or members 0 0 < n)
 first_within names n classes w members h lt is =
     subst (λ xs. (0 < length xs) × (get_or xs 0 0 < n)) (sym is)
@@ -61,7 +65,7 @@ first_within names n classes w members h lt is =
 
 -- ---- one individual more
 
-pub gathered_none : (names : Names) → IsGathered names 0 []
+pub gathered_none : (names : CanonicalNames) → IsGathered names 0 []
 gathered_none names = record {
   few = omega arith;
   each = λ w lt. absurd (omega arith);
@@ -69,7 +73,7 @@ gathered_none names = record {
   all = λ u lt. absurd (omega arith);
 }
 
-later_class : (names : Names) (n : ℕ) (members : List ℕ) → IsClass names n members → IsClass names (n + 1) members
+later_class : (names : CanonicalNames) (n : ℕ) (members : List ℕ) → IsClass names n members → IsClass names (n + 1) members
 later_class names n members h = record {
   some = h.some;
   within = λ u has. let lt : u < n = h.within u has in omega arith;
@@ -78,17 +82,17 @@ later_class names n members h = record {
 }
 
 -- a class with one more member, which is last
-class_more : (names : Names) (n : ℕ) (members : List ℕ) → IsClass names n members
-    → name_in names n ≡ name_in names (get_or members 0 0) → IsClass names (n + 1) (members ++ n ∷ [])
+class_more : (names : CanonicalNames) (n : ℕ) (members : List ℕ) → IsClass names n members
+    → canonical_name_in names n ≡ canonical_name_in names (get_or members 0 0) → IsClass names (n + 1) (members ++ n ∷ [])
 class_more names n members h same = record {
   some = omega (arith, length_push members n);
   within = λ u has.
       ⊎_elim (λ old. let lt : u < n = h.within u old in omega arith) (λ new. omega (arith, new))
       (Contains-push_cases members n u has);
   one = λ u has.
-      ⊎_elim (λ old. h.one u old) (λ new. subst (λ x. name_in names x ≡ name_in names (get_or members 0 0)) new same)
+      ⊎_elim (λ old. h.one u old) (λ new. subst (λ x. canonical_name_in names x ≡ canonical_name_in names (get_or members 0 0)) new same)
       (Contains-push_cases members n u has)
-      ∙ ap (name_in names) (sym first);
+      ∙ ap (canonical_name_in names) (sym first);
   rises = λ more. rises (cases_lt 1 (length members));
 }
   where
@@ -105,18 +109,18 @@ class_more names n members h same = record {
         in let less : get_or members 0 0 < n = h.within (get_or members 0 0) (Contains-get_or members 0 0 h.some)
         in omega (arith, first, last, less)
 
-one_class : (names : Names) (n : ℕ) → IsClass names (n + 1) (n ∷ [])
+one_class : (names : CanonicalNames) (n : ℕ) → IsClass names (n + 1) (n ∷ [])
 one_class names n = record {
   some = omega arith;
   within = λ u has. ⊎_elim (λ none. absurd (omega (arith, none.1))) (λ same. omega (arith, same)) (Contains-push_cases [] n u has);
   one = λ u has.
-      ⊎_elim (λ none. absurd (omega (arith, none.1))) (λ same. ap (name_in names) (sym same)) (Contains-push_cases [] n u has);
+      ⊎_elim (λ none. absurd (omega (arith, none.1))) (λ same. ap (canonical_name_in names) (sym same)) (Contains-push_cases [] n u has);
   rises = λ more. absurd (omega (arith, more));
 }
 
 -- the individual is put into the class of its name
-pub gathered_known : (names : Names) (n place : ℕ) (classes new : List (List ℕ)) → IsGathered names n classes
-    → place < length classes → name_cmp (class_name names classes place) (name_in names n) ≡ Equal
+pub gathered_known : (names : CanonicalNames) (n place : ℕ) (classes new : List (List ℕ)) → IsGathered names n classes
+    → place < length classes → name_cmp (class_name names classes place) (canonical_name_in names n) ≡ Equal
     → new ≡ set classes place (class_at classes place ++ n ∷ []) → IsGathered names (n + 1) new
 gathered_known names n place classes new h lt same is = record {
   few = omega (arith, h.few, count);
@@ -145,7 +149,7 @@ gathered_known names n place classes new h lt same is = record {
         subst (λ x. IsClass names (n + 1) (class_at new x)) (sym own)
         (subst (IsClass names (n + 1)) (sym here)
         (class_more names n (class_at classes place) (h.each place lt)
-        (sym (name-exact (class_name names classes place) (name_in names n) same))))
+        (sym (name-exact (class_name names classes place) (canonical_name_in names n) same))))
     each w within (inr differ) =
         subst (IsClass names (n + 1)) (sym (away w differ)) (later_class names n (class_at classes w) (h.each w within))
 
@@ -156,7 +160,7 @@ gathered_known names n place classes new h lt same is = record {
     first w (inr differ) = ap (λ xs. get_or xs 0 0) (away w differ)
 
     name : (w : ℕ) → class_name names new w ≡ class_name names classes w
-    name w = ap (name_in names) (first w (cases_eq w place))
+    name w = ap (canonical_name_in names) (first w (cases_eq w place))
 
     kept : (w u : ℕ) → (w ≡ place) ⊎ (w ≢ place) → Contains (class_at classes w) u → Contains (class_at new w) u
     kept w u (inl own) has =
@@ -179,11 +183,11 @@ gathered_known names n place classes new h lt same is = record {
         )
 
 -- the individual is put into a class of its own
-pub gathered_new : (names : Names) (n place : ℕ) (classes new : List (List ℕ)) → IsGathered names n classes
+pub gathered_new : (names : CanonicalNames) (n place : ℕ) (classes new : List (List ℕ)) → IsGathered names n classes
     → place ≤ length classes
-    → ((w : ℕ) → w < place → name_cmp (class_name names classes w) (name_in names n) ≡ Less)
-    → ((w : ℕ) → place ≤ w → w < length classes → name_cmp (class_name names classes w) (name_in names n) ≢ Less)
-    → (place < length classes → name_cmp (class_name names classes place) (name_in names n) ≢ Equal)
+    → ((w : ℕ) → w < place → name_cmp (class_name names classes w) (canonical_name_in names n) ≡ Less)
+    → ((w : ℕ) → place ≤ w → w < length classes → name_cmp (class_name names classes w) (canonical_name_in names n) ≢ Less)
+    → (place < length classes → name_cmp (class_name names classes place) (canonical_name_in names n) ≢ Equal)
     → new ≡ insert classes place (n ∷ []) → IsGathered names (n + 1) new
 gathered_new names n place classes new h le less not_less differ is = record {
   few = omega (arith, h.few, count);
@@ -228,15 +232,15 @@ gathered_new names n place classes new h le less not_less differ is = record {
         (later_class names n (class_at classes k) (h.each k (omega (arith, next, within)))))
 
     name-before : (w : ℕ) → w < place → class_name names new w ≡ class_name names classes w
-    name-before w lt = ap (λ xs. name_in names (get_or xs 0 0)) (below w lt)
+    name-before w lt = ap (λ xs. canonical_name_in names (get_or xs 0 0)) (below w lt)
 
-    name-here : (w : ℕ) → w ≡ place → class_name names new w ≡ name_in names n
+    name-here : (w : ℕ) → w ≡ place → class_name names new w ≡ canonical_name_in names n
     name-here w same =
-        ap (class_name names new) same ∙ ap (λ xs. name_in names (get_or xs 0 0)) here
+        ap (class_name names new) same ∙ ap (λ xs. canonical_name_in names (get_or xs 0 0)) here
 
     name-behind : (w k : ℕ) → place ≤ k → w ≡ k + 1 → class_name names new w ≡ class_name names classes k
     name-behind w k past next =
-        ap (class_name names new) next ∙ ap (λ xs. name_in names (get_or xs 0 0)) (behind k past)
+        ap (class_name names new) next ∙ ap (λ xs. canonical_name_in names (get_or xs 0 0)) (behind k past)
 
     Below : List K3 → List K3 → Type 0
     Below x y = name_cmp x y ≡ Less
@@ -244,20 +248,20 @@ gathered_new names n place classes new h le less not_less differ is = record {
     like : (x y a b : List K3) → a ≡ x → b ≡ y → Below x y → Below a b
     like x y a b e f less = subst (λ z. Below z b) (sym e) (subst (Below x) (sym f) less)
 
-    over : (k : ℕ) → place ≤ k → k < length classes → Below (name_in names n) (class_name names classes k)
+    over : (k : ℕ) → place ≤ k → k < length classes → Below (canonical_name_in names n) (class_name names classes k)
     over k past lt =
-        above (class_name names classes k) (name_in names n) (not_less k past lt)
+        above (class_name names classes k) (canonical_name_in names n) (not_less k past lt)
         (λ equal. at equal (cases_lt place k))
       where
-        at : name_cmp (class_name names classes k) (name_in names n) ≡ Equal → (place < k) ⊎ (k ≤ place) → ⊥
+        at : name_cmp (class_name names classes k) (canonical_name_in names n) ≡ Equal → (place < k) ⊎ (k ≤ place) → ⊥
         at equal (inl later) =
-            let e : class_name names classes k ≡ name_in names n = name-exact (class_name names classes k) (name_in names n) equal
+            let e : class_name names classes k ≡ canonical_name_in names n = name-exact (class_name names classes k) (canonical_name_in names n) equal
             in not_less place (omega arith) (omega (arith, later, lt))
             (subst (Below (class_name names classes place)) e (h.order place k later lt))
         at equal (inr same) =
             let own : place ≡ k = omega (arith, past, same)
             in differ (omega (arith, own, lt))
-            (subst (λ x. name_cmp (class_name names classes x) (name_in names n) ≡ Equal) (sym own) equal)
+            (subst (λ x. name_cmp (class_name names classes x) (canonical_name_in names n) ≡ Equal) (sym own) equal)
 
     order : (w x : ℕ) → w < x → x < length classes + 1 → Where w → Where x
         → name_cmp (class_name names new w) (class_name names new x) ≡ Less
@@ -265,7 +269,7 @@ gathered_new names n place classes new h le less not_less differ is = record {
         like (class_name names classes w) (class_name names classes x) (class_name names new w) (class_name names new x)
         (name-before w low) (name-before x other) (h.order w x before (omega (arith, other, le)))
     order w x before within (inl low) (inr (inl same)) =
-        like (class_name names classes w) (name_in names n) (class_name names new w) (class_name names new x) (name-before w low)
+        like (class_name names classes w) (canonical_name_in names n) (class_name names new w) (class_name names new x) (name-before w low)
         (name-here x same) (less w low)
     order w x before within (inl low) (inr (inr (k, past, next))) =
         like (class_name names classes w) (class_name names classes k) (class_name names new w) (class_name names new x)
@@ -273,7 +277,7 @@ gathered_new names n place classes new h le less not_less differ is = record {
     order w x before within (inr (inl same)) (inl other) = absurd (omega (arith, same, other, before))
     order w x before within (inr (inl same)) (inr (inl own)) = absurd (omega (arith, same, own, before))
     order w x before within (inr (inl same)) (inr (inr (k, past, next))) =
-        like (name_in names n) (class_name names classes k) (class_name names new w) (class_name names new x) (name-here w same)
+        like (canonical_name_in names n) (class_name names classes k) (class_name names new w) (class_name names new x) (name-here w same)
         (name-behind x k past next) (over k past (omega (arith, next, within)))
     order w x before within (inr (inr (j, past, next))) (inl other) = absurd (omega (arith, past, next, other, before))
     order w x before within (inr (inr (j, past, next))) (inr (inl own)) = absurd (omega (arith, past, next, own, before))

@@ -1,14 +1,15 @@
 -- Merging: what it covers, and that it keeps stability.
-use Rattle.std.proofs.Common.{ℕ, ◌≡◌, ◌≢◌, ◌⊎◌, inl, inr, Bool, true, false, List, get_or, map, refl, sym, ◌∙◌}
+use Rattle.std.proofs.Common.{ℕ, ◌≡◌, ◌≢◌, ◌⊎◌, inl, inr, Bool, true, false, List, get_or, map, refl, sym}
+use Rattle.std.proofs.Common.{◌∙◌}
 use Rattle.std.specs.Prelude.{All, Contains}
 use Rattle.std.proofs.lemmas.List.Elements.{All-map}
 use Rattle.tv_kleene.specs.declared.K3.{K3}
 use Rattle.tv_kleene.specs.declared.K3.TheVariants.{Half}
 use Rattle.tv_kleene.specs.Kleene.{LiesUnder}
 use Rattle.tv_kleene.proofs.Lattice.{LiesUnder-antisym}
-use Rattle.tv_frame.specs.LogicalStructure.{LogicalStructure}
-use Rattle.tv_stable.specs.Laws.{IsImage}
-use Rattle.tv_stable.proofs.Images.{images_are_stable}
+use Rattle.tv_embedding_laws.specs.LogicalStructure.{LogicalStructure}
+use Rattle.tv_stable_laws.specs.Laws.{IsImage}
+use Rattle.tv_stable_laws.proofs.Images.{images_are_stable}
 use Rattle.tv_blur.specs.Merged.{IsJoin, IsMember, HasSummary, HasSeveral, IsMerged}
 use Rattle.tv_blur.specs.Laws.{MergingCovers, MergingKeepsStable}
 

@@ -1,21 +1,25 @@
 -- Names in rows: columns of values, and names that are compared in two parts.
-use Rattle.std.proofs.Common.{ℕ, ◌≡◌, ◌≢◌, ◌⊎◌, ◌<◌, ◌≤◌, ◌+◌, min, inl, inr, List, [], ◌∷◌, ◌++◌, get_or, set, length, map, take, drop, replicate, Less, Equal, Greater, refl, sym, ap, subst, ◌∙◌, ⊎_elim, arith}
+use Rattle.std.proofs.Common.{ℕ, ◌≡◌, ◌≢◌, ◌⊎◌, ◌<◌, ◌≤◌, ◌+◌, min, inl, inr, List, [], ◌∷◌, ◌++◌, get_or}
+use Rattle.std.proofs.Common.{set, length, map, take, drop, replicate, Less, Equal, Greater, refl, sym, ap}
+use Rattle.std.proofs.Common.{subst, ◌∙◌, ⊎_elim, arith}
 use Rattle.std.specs.declared.cmp.Ordering.{Ordering}
 use Rattle.std.specs.Ordering.{ordering_then}
 use Rattle.std.specs.List.{range_with_len}
 use Rattle.std.proofs.lemmas.Bool.{cases_eq, cases_lt}
-use Rattle.std.proofs.lemmas.List.{length-set, get_or-set_same, get_or-set_other, length-replicate, get_or-replicate, get_or_past, length-map, get_or-map, ext_get_or, map-append, take-append-drop}
+use Rattle.std.proofs.lemmas.List.{length-set, get_or-set_same, get_or-set_other, length-replicate}
+use Rattle.std.proofs.lemmas.List.{get_or-replicate, get_or_past, length-map, get_or-map, ext_get_or}
+use Rattle.std.proofs.lemmas.List.{map-append, take-append-drop}
 use Rattle.std.proofs.lemmas.List.FromFn.{length-map-range_with_len, get_or-map-range_with_len}
 use Rattle.tv_kleene.specs.declared.K3.{K3}
 use Rattle.tv_kleene.specs.declared.K3.TheVariants.{No}
-use Rattle.tv_frame.specs.LogicalStructure.{LogicalStructure}
+use Rattle.tv_embedding_laws.specs.LogicalStructure.{LogicalStructure}
 use Rattle.tv_row.specs.Bits.{value_cmp}
 use Rattle.tv_row.specs.Places.{entry_in}
 use Rattle.tv_struct.specs.StructureForm.{StructureForm, structure_of, value_at}
 use Rattle.tv_struct.specs.StructureRows.{unary_row}
-use Rattle.tv_blur.specs.Names.{name_of, name_cmp}
-use Rattle.tv_blur.specs.declared.names.Names.{Names}
-use Rattle.tv_blur.specs.Naming.{HasColumn, HoldsNames, name_in, named_by, named_in, rest_in}
+use Rattle.tv_blur.specs.Names.{canonical_name, name_cmp}
+use Rattle.tv_blur.specs.declared.names.CanonicalNames.{CanonicalNames}
+use Rattle.tv_blur.specs.Naming.{HasColumn, HoldsNames, canonical_name_in, named_by, named_in, rest_in}
 use Rattle.tv_blur.proofs.RowLaws.{get_or-unary_row}
 
 -- ---- one column, value by value
@@ -153,7 +157,7 @@ columns_more preds s n rows new values h are put = record {
     at u c lt less (inr differ) = put.others u c differ ∙ h.values u c lt (omega (arith, less, differ))
 
 pub columns_all : (preds : List ℕ) (s : StructureForm) (n : ℕ) (rows : List (List K3)) → HasColumns preds s n rows
-    → length preds ≤ n → rows ≡ map (name_of preds (structure_of s)) (range_with_len 0 s.size)
+    → length preds ≤ n → rows ≡ map (canonical_name preds (structure_of s)) (range_with_len 0 s.size)
 columns_all preds s n rows h all =
     ext_get_or [] rows (map name (range_with_len 0 s.size)) (h.count ∙ sym (length-map-range_with_len name 0 s.size))
     (λ u l.
@@ -166,7 +170,7 @@ columns_all preds s n rows h all =
     ∙ sym (get_or-map-range_with_len name 0 s.size u u [] lt (omega arith)))
   where
     name : ℕ → List K3
-    name = name_of preds (structure_of s)
+    name = canonical_name preds (structure_of s)
 
 -- ---- names in two parts
 
@@ -186,16 +190,16 @@ cmp_append (x ∷ xs) (y ∷ ys) more others e =
 
 -- a name is compared by its first values, and where they are equal by the rest
 pub cmp_parts : (n : ℕ) (preds : List ℕ) (s : LogicalStructure) (u w : ℕ)
-    → name_cmp (name_of preds s u) (name_of preds s w)
-    ≡ ordering_then (name_cmp (name_of (take n preds) s u) (name_of (take n preds) s w))
-    (name_cmp (name_of (drop n preds) s u) (name_of (drop n preds) s w))
+    → name_cmp (canonical_name preds s u) (canonical_name preds s w)
+    ≡ ordering_then (name_cmp (canonical_name (take n preds) s u) (canonical_name (take n preds) s w))
+    (name_cmp (canonical_name (drop n preds) s u) (canonical_name (drop n preds) s w))
 cmp_parts n preds s u w =
-    ap (λ ps. name_cmp (name_of ps s u) (name_of ps s w)) (sym (take-append-drop n preds))
-    ∙ ap (λ name. name_cmp name (name_of (take n preds ++ drop n preds) s w))
+    ap (λ ps. name_cmp (canonical_name ps s u) (canonical_name ps s w)) (sym (take-append-drop n preds))
+    ∙ ap (λ name. name_cmp name (canonical_name (take n preds ++ drop n preds) s w))
     (map-append (λ p. s.value p (u ∷ [])) (take n preds) (drop n preds))
-    ∙ ap (name_cmp (name_of (take n preds) s u ++ name_of (drop n preds) s u))
+    ∙ ap (name_cmp (canonical_name (take n preds) s u ++ canonical_name (drop n preds) s u))
     (map-append (λ p. s.value p (w ∷ [])) (take n preds) (drop n preds))
-    ∙ cmp_append (name_of (take n preds) s u) (name_of (take n preds) s w) (name_of (drop n preds) s u) (name_of (drop n preds) s w)
+    ∙ cmp_append (canonical_name (take n preds) s u) (canonical_name (take n preds) s w) (canonical_name (drop n preds) s u) (canonical_name (drop n preds) s w)
     (length-map (take n preds) (λ p. s.value p (u ∷ [])) ∙ sym (length-map (take n preds) (λ p. s.value p (w ∷ []))))
 
 decided : (o more : Ordering) → o ≢ Equal → ordering_then o more ≡ o
@@ -204,53 +208,53 @@ decided Equal more ne = absurd (ne refl)
 decided Greater more ne = refl
 
 -- what a row holds
-pub row_is : (names : Names) (u : ℕ) (row : List K3) → HoldsNames names → u < (named_in names).size
+pub row_is : (names : CanonicalNames) (u : ℕ) (row : List K3) → HoldsNames names → u < (named_in names).size
     → row ≡ get_or names.rows.items u row
-    → row ≡ name_of (take (min (length (named_by names)) 256) (named_by names)) (structure_of (named_in names)) u
+    → row ≡ canonical_name (take (min (length (named_by names)) 256) (named_by names)) (structure_of (named_in names)) u
 row_is names u row h lt is =
     is ∙ ap (λ xs. get_or xs u row) h.rows
-    ∙ get_or-map-range_with_len (name_of (take (min (length (named_by names)) 256) (named_by names)) (structure_of (named_in names)))
+    ∙ get_or-map-range_with_len (canonical_name (take (min (length (named_by names)) 256) (named_by names)) (structure_of (named_in names)))
     0 (named_in names).size u u row lt (omega arith)
 
-pub row_long : (names : Names) (u : ℕ) (row : List K3) → HoldsNames names → u < (named_in names).size
+pub row_long : (names : CanonicalNames) (u : ℕ) (row : List K3) → HoldsNames names → u < (named_in names).size
     → row ≡ get_or names.rows.items u row → length row ≡ length (take (min (length (named_by names)) 256) (named_by names))
 row_long names u row h lt is =
     ap length (row_is names u row h lt is)
     ∙ length-map (take (min (length (named_by names)) 256) (named_by names)) (λ p. value_at (named_in names) p (u ∷ []))
 
-pub row_count : (names : Names) → HoldsNames names → length names.rows.items ≡ (named_in names).size
+pub row_count : (names : CanonicalNames) → HoldsNames names → length names.rows.items ≡ (named_in names).size
 row_count names h =
     ap length h.rows
     ∙ length-map-range_with_len
-    (name_of (take (min (length (named_by names)) 256) (named_by names)) (structure_of (named_in names))) 0 (named_in names).size
+    (canonical_name (take (min (length (named_by names)) 256) (named_by names)) (structure_of (named_in names))) 0 (named_in names).size
 
 -- rows that differ decide
-pub rows_decide : (names : Names) (u w : ℕ) (row other : List K3) (o : Ordering) → HoldsNames names → u < (named_in names).size
+pub rows_decide : (names : CanonicalNames) (u w : ℕ) (row other : List K3) (o : Ordering) → HoldsNames names → u < (named_in names).size
     → w < (named_in names).size → row ≡ get_or names.rows.items u row → other ≡ get_or names.rows.items w other
-    → o ≡ name_cmp row other → o ≢ Equal → o ≡ name_cmp (name_in names u) (name_in names w)
+    → o ≡ name_cmp row other → o ≢ Equal → o ≡ name_cmp (canonical_name_in names u) (canonical_name_in names w)
 rows_decide names u w row other o h lt lt' is is' e ne =
     let n : ℕ = min (length (named_by names)) 256
-    in let first : o ≡ name_cmp (name_of (take n (named_by names)) (structure_of (named_in names)) u)
-    (name_of (take n (named_by names)) (structure_of (named_in names)) w)
+    in let first : o ≡ name_cmp (canonical_name (take n (named_by names)) (structure_of (named_in names)) u)
+    (canonical_name (take n (named_by names)) (structure_of (named_in names)) w)
     = e ∙ ap (λ name. name_cmp name other) (row_is names u row h lt is)
-    ∙ ap (name_cmp (name_of (take n (named_by names)) (structure_of (named_in names)) u)) (row_is names w other h lt' is')
-    in let more : Ordering = name_cmp (name_of (drop n (named_by names)) (structure_of (named_in names)) u)
-    (name_of (drop n (named_by names)) (structure_of (named_in names)) w)
+    ∙ ap (name_cmp (canonical_name (take n (named_by names)) (structure_of (named_in names)) u)) (row_is names w other h lt' is')
+    in let more : Ordering = name_cmp (canonical_name (drop n (named_by names)) (structure_of (named_in names)) u)
+    (canonical_name (drop n (named_by names)) (structure_of (named_in names)) w)
     in sym (decided o more ne) ∙ ap (λ x. ordering_then x more) first
     ∙ sym (cmp_parts n (named_by names) (structure_of (named_in names)) u w)
 
 -- where the rows are equal, the rest decides
-pub rest_decides : (names : Names) (u w : ℕ) (row other : List K3) (o last : Ordering) → HoldsNames names
+pub rest_decides : (names : CanonicalNames) (u w : ℕ) (row other : List K3) (o last : Ordering) → HoldsNames names
     → u < (named_in names).size → w < (named_in names).size
     → row ≡ get_or names.rows.items u row → other ≡ get_or names.rows.items w other
     → o ≡ name_cmp row other → o ≡ Equal
-    → last ≡ name_cmp (rest_in names u) (rest_in names w) → last ≡ name_cmp (name_in names u) (name_in names w)
+    → last ≡ name_cmp (rest_in names u) (rest_in names w) → last ≡ name_cmp (canonical_name_in names u) (canonical_name_in names w)
 rest_decides names u w row other o last h lt lt' is is' e tied rest =
     let n : ℕ = min (length (named_by names)) 256
-    in let first : name_cmp (name_of (take n (named_by names)) (structure_of (named_in names)) u)
-    (name_of (take n (named_by names)) (structure_of (named_in names)) w) ≡ Equal
+    in let first : name_cmp (canonical_name (take n (named_by names)) (structure_of (named_in names)) u)
+    (canonical_name (take n (named_by names)) (structure_of (named_in names)) w) ≡ Equal
     = sym (e ∙ ap (λ name. name_cmp name other) (row_is names u row h lt is)
-    ∙ ap (name_cmp (name_of (take n (named_by names)) (structure_of (named_in names)) u)) (row_is names w other h lt' is')) ∙ tied
+    ∙ ap (name_cmp (canonical_name (take n (named_by names)) (structure_of (named_in names)) u)) (row_is names w other h lt' is')) ∙ tied
     in rest
     ∙ ap (λ x. ordering_then x (name_cmp (rest_in names u) (rest_in names w))) (sym first)
     ∙ sym (cmp_parts n (named_by names) (structure_of (named_in names)) u w)

@@ -1,17 +1,20 @@
 -- How names compare to the next ones', predicate after predicate.
-use Rattle.std.proofs.Common.{ℕ, Bool, true, false, take, ◌≡◌, ◌≢◌, ◌⊎◌, ◌<◌, ◌+◌, ◌-◌, inl, inr, List, [], ◌∷◌, ◌++◌, get_or, length, map, replicate, Less, Equal, Greater, refl, sym, ap, subst, ◌∙◌, arith, drop, All}
+use Rattle.std.proofs.Common.{ℕ, Bool, true, false, take, ◌≡◌, ◌≢◌, ◌⊎◌, ◌<◌, ◌+◌, ◌-◌, inl, inr, List, []}
+use Rattle.std.proofs.Common.{◌∷◌, ◌++◌, get_or, length, map, replicate, Less, Equal, Greater, refl, sym, ap}
+use Rattle.std.proofs.Common.{subst, ◌∙◌, arith, drop, All}
 use Rattle.std.specs.declared.cmp.Ordering.{Ordering}
 use Rattle.std.specs.Ordering.{ordering_then}
 use Rattle.std.proofs.lemmas.Bool.{cases_eq}
 use Rattle.std.specs.Prelude.{IsTrue, MatchBool, if◌then◌else◌}
-use Rattle.std.proofs.lemmas.List.{append-nil, get_or-replicate, length-map, length-replicate, map-append, take-append-drop, get_or_default}
+use Rattle.std.proofs.lemmas.List.{append-nil, get_or-replicate, length-map, length-replicate, map-append}
+use Rattle.std.proofs.lemmas.List.{take-append-drop, get_or_default}
 use Rattle.tv_kleene.specs.declared.K3.{K3}
 use Rattle.tv_kleene.specs.declared.K3.TheVariants.{No, Half, Yes}
 use Rattle.tv_model.specs.declared.program.Pred.{Pred}
 use Rattle.tv_row.specs.Bits.{value_cmp}
 use Rattle.tv_struct.specs.StructureForm.{StructureForm, kept_from, structure_of, value_at}
 use Rattle.tv_struct.specs.StructureRows.{unary_row}
-use Rattle.tv_blur.specs.Names.{is_abstraction, name_of, name_cmp}
+use Rattle.tv_blur.specs.Names.{is_abstraction, canonical_name, name_cmp}
 use Rattle.tv_blur.specs.Blur.{FollowsNames}
 use Rattle.tv_blur.specs.Rising.{AddsRises, Falls, TellsRises, order_told, order_to_next, values_to_next}
 use Rattle.tv_blur.proofs.ClassLaws.{abstraction_more}
@@ -72,15 +75,15 @@ rises_none s rises is = record {
 }
 
 name_more : (preds : List ℕ) (s : StructureForm) (p u : ℕ)
-    → name_of (preds ++ p ∷ []) (structure_of s) u ≡ name_of preds (structure_of s) u ++ value_at s p (u ∷ []) ∷ []
+    → canonical_name (preds ++ p ∷ []) (structure_of s) u ≡ canonical_name preds (structure_of s) u ++ value_at s p (u ∷ []) ∷ []
 name_more preds s p u = map-append (λ q. value_at s q (u ∷ [])) preds (p ∷ [])
 
 -- how names compare by one more predicate
 order_more : (preds : List ℕ) (s : StructureForm) (p u : ℕ) (old : List K3) → TellsRises preds s old → u < s.size - 1
-    → name_cmp (name_of (preds ++ p ∷ []) (structure_of s) u) (name_of (preds ++ p ∷ []) (structure_of s) (u + 1))
+    → name_cmp (canonical_name (preds ++ p ∷ []) (structure_of s) u) (canonical_name (preds ++ p ∷ []) (structure_of s) (u + 1))
     ≡ ordering_then (order_to_next old u) (values_to_next (unary_row s p) u)
 order_more preds s p u old tells lt =
-    ap (λ x. name_cmp x (name_of (preds ++ p ∷ []) (structure_of s) (u + 1))) (name_more preds s p u)
+    ap (λ x. name_cmp x (canonical_name (preds ++ p ∷ []) (structure_of s) (u + 1))) (name_more preds s p u)
     ∙ ap (name_cmp (name u ++ value u ∷ [])) (name_more preds s p (u + 1))
     ∙ cmp_append (name u) (name (u + 1)) (value u ∷ []) (value (u + 1) ∷ [])
     (length-map preds (λ q. value_at s q (u ∷ [])) ∙ sym (length-map preds (λ q. value_at s q ((u + 1) ∷ []))))
@@ -91,7 +94,7 @@ order_more preds s p u old tells lt =
     ∙ ap (value_cmp (get_or (unary_row s p) u No)) (sym (get_or-unary_row s p (u + 1) (omega (arith, lt)))))
   where
     name : ℕ → List K3
-    name x = name_of preds (structure_of s) x
+    name x = canonical_name preds (structure_of s) x
 
     value : ℕ → K3
     value x = value_at s p (x ∷ [])
@@ -124,7 +127,7 @@ rises_next preds s p pred old new lt is tells adds =
 -- where all rise, each name is below the next
 pub rises_all : (preds : List ℕ) (s : StructureForm) (rises : List K3) → TellsRises preds s rises
     → ((u : ℕ) → u < length rises → get_or rises u No ≢ No)
-    → (k : ℕ) → k + 1 < s.size → name_cmp (name_of preds (structure_of s) k) (name_of preds (structure_of s) (k + 1)) ≡ Less
+    → (k : ℕ) → k + 1 < s.size → name_cmp (canonical_name preds (structure_of s) k) (canonical_name preds (structure_of s) (k + 1)) ≡ Less
 rises_all preds s rises tells all k lt =
     let less : k < s.size - 1 = omega (arith, lt)
     in tells.orders k less ∙ told_less (get_or rises k No) (all k (omega (arith, less, tells.long)))
@@ -151,16 +154,16 @@ kept_from_append n (false ∷ xs) ys =
 
 -- names that fall by their first values fall
 greater_more : (preds more : List ℕ) (s : StructureForm) (u w : ℕ)
-    → name_cmp (name_of preds (structure_of s) u) (name_of preds (structure_of s) w) ≡ Greater
-    → name_cmp (name_of (preds ++ more) (structure_of s) u) (name_of (preds ++ more) (structure_of s) w) ≡ Greater
+    → name_cmp (canonical_name preds (structure_of s) u) (canonical_name preds (structure_of s) w) ≡ Greater
+    → name_cmp (canonical_name (preds ++ more) (structure_of s) u) (canonical_name (preds ++ more) (structure_of s) w) ≡ Greater
 greater_more preds more s u w greater =
-    ap (λ x. name_cmp x (name_of (preds ++ more) (structure_of s) w)) (map-append (λ q. value_at s q (u ∷ [])) preds more)
-    ∙ ap (name_cmp (name_of preds (structure_of s) u ++ name_of more (structure_of s) u))
+    ap (λ x. name_cmp x (canonical_name (preds ++ more) (structure_of s) w)) (map-append (λ q. value_at s q (u ∷ [])) preds more)
+    ∙ ap (name_cmp (canonical_name preds (structure_of s) u ++ canonical_name more (structure_of s) u))
     (map-append (λ q. value_at s q (w ∷ [])) preds more)
-    ∙ cmp_append (name_of preds (structure_of s) u) (name_of preds (structure_of s) w)
-    (name_of more (structure_of s) u) (name_of more (structure_of s) w)
+    ∙ cmp_append (canonical_name preds (structure_of s) u) (canonical_name preds (structure_of s) w)
+    (canonical_name more (structure_of s) u) (canonical_name more (structure_of s) w)
     (length-map preds (λ q. value_at s q (u ∷ [])) ∙ sym (length-map preds (λ q. value_at s q (w ∷ []))))
-    ∙ ap (λ o. ordering_then o (name_cmp (name_of more (structure_of s) u) (name_of more (structure_of s) w))) greater
+    ∙ ap (λ o. ordering_then o (name_cmp (canonical_name more (structure_of s) u) (canonical_name more (structure_of s) w))) greater
 
 -- where the values of the next predicate fall, names aren't in order
 pub falls_out : (preds : List Pred) (s : StructureForm) (p : ℕ) (pred : Pred) (old : List K3) → p < length preds
@@ -179,10 +182,10 @@ falls_out preds s p pred old lt is told tells (u, within, greater) follows =
     in let all : kept_from 0 flags ≡ (first ++ p ∷ []) ++ more
     = ap (kept_from 0) (sym (take-append-drop (p + 1) flags))
     ∙ kept_from_append 0 (take (p + 1) flags) (drop (p + 1) flags) ∙ ap (λ ps. ps ++ more) next
-    in let falls : name_cmp (name_of (kept_from 0 flags) (structure_of s) u) (name_of (kept_from 0 flags) (structure_of s) (u + 1)) ≡ Greater
-    = ap (λ ps. name_cmp (name_of ps (structure_of s) u) (name_of ps (structure_of s) (u + 1))) all
+    in let falls : name_cmp (canonical_name (kept_from 0 flags) (structure_of s) u) (canonical_name (kept_from 0 flags) (structure_of s) (u + 1)) ≡ Greater
+    = ap (λ ps. name_cmp (canonical_name ps (structure_of s) u) (canonical_name ps (structure_of s) (u + 1))) all
     ∙ greater_more (first ++ p ∷ []) more s u (u + 1) (order_more first s p u old tells inside ∙ greater)
-    in let rises : name_cmp (name_of (kept_from 0 flags) (structure_of s) u) (name_of (kept_from 0 flags) (structure_of s) (u + 1)) ≡ Less
+    in let rises : name_cmp (canonical_name (kept_from 0 flags) (structure_of s) u) (canonical_name (kept_from 0 flags) (structure_of s) (u + 1)) ≡ Less
     = (follows u (u + 1) (omega (arith, inside)) (omega (arith, inside))).0 (omega arith)
     in cc
 

@@ -1,5 +1,6 @@
 -- Rows of joined values, one row or one class after the other.
-use Rattle.std.proofs.Common.{ℕ, refl, ⊎_elim, ◌≡◌, ◌≢◌, ◌⊎◌, ◌<◌, ◌≤◌, ◌+◌, inl, inr, List, [], ◌∷◌, get_or, set, length, sym, ap, subst, ◌∙◌, arith}
+use Rattle.std.proofs.Common.{ℕ, refl, ⊎_elim, ◌≡◌, ◌≢◌, ◌⊎◌, ◌<◌, ◌≤◌, ◌+◌, inl, inr, List, [], ◌∷◌, get_or}
+use Rattle.std.proofs.Common.{set, length, sym, ap, subst, ◌∙◌, arith}
 use Rattle.std.specs.Prelude.{Any}
 use Rattle.std.proofs.lemmas.Bool.{cases_lt}
 use Rattle.std.proofs.lemmas.List.{get_or_default, get_or_past, length-set, get_or-set_same, get_or-set_other}

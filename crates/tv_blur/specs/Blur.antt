@@ -1,15 +1,16 @@
 -- Blur, or canonical abstraction: individuals of equal name become one.
 use Rattle.std.specs.Prelude.{ℕ, ◌≡◌, ◌<◌, ◌↔◌, List, None}
 use Rattle.std.specs.declared.cmp.Ordering.TheVariants.{Less}
-use Rattle.tv_frame.specs.LogicalStructure.{LogicalStructure}
+use Rattle.tv_embedding_laws.specs.LogicalStructure.{LogicalStructure}
 use Rattle.tv_struct.specs.StructureForm.{StructureForm, structure_of, arities_of}
 use Rattle.tv_blur.specs.Merged.{IsMerged}
-use Rattle.tv_blur.specs.Names.{name_of, name_cmp}
+use Rattle.tv_blur.specs.Names.{canonical_name, name_cmp}
 
 -- place takes the individuals below n to numbers in the order of their names, equal names to one number
 abbrev pub FollowsNames : (preds : List ℕ) → LogicalStructure → (n : ℕ) → (place : ℕ → ℕ) → Type 0
 FollowsNames preds s n place =
-    (u w : ℕ) → u < n → w < n → (place u < place w) ↔ (name_cmp (name_of preds s u) (name_of preds s w) ≡ Less)
+    (u w : ℕ) → u < n → w < n → (place u < place w)
+    ↔ (name_cmp (canonical_name preds s u) (canonical_name preds s w) ≡ Less)
 
 -- t is the blur of s by the map to the places of names: individuals of equal name are merged, they stand
 -- in the order of their names, and none is marked

@@ -1,5 +1,6 @@
 -- The classes of individuals that have one name, and the values that are merged.
-use Rattle.std.specs.Prelude.{ℕ, ◌≡◌, ◌≢◌, ◌↔◌, ◌<◌, ◌≤◌, None, ◌||◌, Bool, nat_lt, List, [], length, All, Contains, slice_index, slice_index_or}
+use Rattle.std.specs.Prelude.{ℕ, ◌≡◌, ◌≢◌, ◌↔◌, ◌<◌, ◌≤◌, None, ◌||◌, Bool, nat_lt, List, [], length, All}
+use Rattle.std.specs.Prelude.{Contains, slice_index, slice_index_or}
 use Rattle.std.specs.List.{AllZip}
 use Rattle.tv_kleene.specs.declared.K3.{K3}
 use Rattle.tv_kleene.specs.declared.K3.TheVariants.{No, Half, Yes}
@@ -18,12 +19,15 @@ pub record IsMask (members : List ℕ) (mask : List K3) : Type 0 where
   pub members_of : (u : ℕ) → (slice_index_or mask u No ≡ Yes) ↔ Contains members u
 
 -- k is the value of the predicate at some tuple of members of the classes of these places
-abbrev pub IsValueAmong : (classes : List (List ℕ)) → StructureForm → (pred : ℕ) → (tuple : List ℕ) → K3 → Type 0
+abbrev pub IsValueAmong : (classes : List (List ℕ)) → StructureForm → (pred : ℕ) → (tuple : List ℕ) → K3
+    → Type 0
 IsValueAmong classes s pred tuple k =
-    (below : List ℕ) × AllZip (λ u w. Contains (class_at classes w) u) below tuple × (value_at s pred below ≡ k)
+    (below : List ℕ) × AllZip (λ u w. Contains (class_at classes w) u) below tuple
+    × (value_at s pred below ≡ k)
 
 -- k is the join of these values
-abbrev pub IsMergedValue : (classes : List (List ℕ)) → StructureForm → (pred : ℕ) → (tuple : List ℕ) → K3 → Type 0
+abbrev pub IsMergedValue : (classes : List (List ℕ)) → StructureForm → (pred : ℕ) → (tuple : List ℕ) → K3
+    → Type 0
 IsMergedValue classes s pred tuple k = IsJoin (IsValueAmong classes s pred tuple) k
 
 -- new is old but for the values of one predicate
@@ -35,9 +39,11 @@ pub record ChangesOnly (pred : ℕ) (old new : StructureForm) : Type 0 where
   pub others : (q : ℕ) (tuple : List ℕ) → q ≢ pred → value_at new q tuple ≡ value_at old q tuple
 
 -- the predicate has merged values in t
-abbrev pub HasMergedValues : (classes : List (List ℕ)) → (s : StructureForm) → (pred : ℕ) → (t : StructureForm) → Type 0
+abbrev pub HasMergedValues : (classes : List (List ℕ)) → (s : StructureForm) → (pred : ℕ)
+    → (t : StructureForm) → Type 0
 HasMergedValues classes s pred t =
-    (tuple : List ℕ) → HasEntry (table_of t) pred tuple → IsMergedValue classes s pred tuple (value_at t pred tuple)
+    (tuple : List ℕ) → HasEntry (table_of t) pred tuple
+    → IsMergedValue classes s pred tuple (value_at t pred tuple)
 
 -- the classes are of individuals of s, and none is empty
 pub record AreClasses (s : StructureForm) (classes : List (List ℕ)) : Type 0 where

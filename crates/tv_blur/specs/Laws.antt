@@ -1,13 +1,13 @@
 -- Laws of merging and of blur, as statements.
 use Rattle.std.specs.Prelude.{ℕ, ◌≡◌, ◌<◌, List, All}
 use Rattle.tv_model.specs.Program.{RuleForm}
-use Rattle.tv_frame.specs.LogicalStructure.{LogicalStructure}
-use Rattle.tv_frame.specs.Embedding.{Embeds}
-use Rattle.tv_stable.specs.Stable.{IsStable}
-use Rattle.tv_stable.specs.Laws.{IsPlainRule}
+use Rattle.tv_embedding_laws.specs.LogicalStructure.{LogicalStructure}
+use Rattle.tv_embedding_laws.specs.Embedding.{Embeds}
+use Rattle.tv_stable_laws.specs.Stable.{IsStable}
+use Rattle.tv_stable_laws.specs.Laws.{IsPlainRule}
 use Rattle.tv_struct.specs.StructureForm.{StructureForm, IsStructure, structure_of}
 use Rattle.tv_blur.specs.Merged.{IsMerged}
-use Rattle.tv_blur.specs.Names.{name_of}
+use Rattle.tv_blur.specs.Names.{canonical_name}
 use Rattle.tv_blur.specs.Blur.{IsBlurBy, IsBlur, IsBlurred}
 
 -- a structure embeds in what merging gives, by the map
@@ -28,7 +28,8 @@ BlurKeepsStable =
 
 -- each individual keeps its name in the blur, in which names differ and stand in order
 pub record BlurNames (place : ℕ → ℕ) (preds : List ℕ) (s t : StructureForm) : Type 0 where
-  pub kept : (u : ℕ) → u < s.size → name_of preds (structure_of t) (place u) ≡ name_of preds (structure_of s) u
+  pub kept : (u : ℕ) → u < s.size
+      → canonical_name preds (structure_of t) (place u) ≡ canonical_name preds (structure_of s) u
   pub blurred : IsBlurred preds t
 
 abbrev pub BlurKeepsNames : Type 0

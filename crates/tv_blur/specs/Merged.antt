@@ -2,7 +2,7 @@
 use Rattle.std.specs.Prelude.{ℕ, ◌≡◌, ◌≢◌, ◌↔◌, ◌⊎◌, List, map, All, Contains, IsTrue}
 use Rattle.tv_kleene.specs.declared.K3.{K3}
 use Rattle.tv_kleene.specs.Kleene.{LiesUnder}
-use Rattle.tv_frame.specs.LogicalStructure.{LogicalStructure}
+use Rattle.tv_embedding_laws.specs.LogicalStructure.{LogicalStructure}
 
 -- k is the join of the values: the least value, in the order of information, that all of them lie under
 pub record IsJoin (values : K3 → Type 0) (k : K3) : Type 0 where

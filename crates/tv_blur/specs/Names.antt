@@ -6,7 +6,7 @@ use Rattle.std.specs.Cmp.Lexicographic.{slice_cmp, lists_total}
 use Rattle.tv_kleene.specs.declared.K3.{K3}
 use Rattle.tv_model.specs.declared.program.Pred.{Pred}
 use Rattle.tv_model.specs.declared.program.Vocab.{Vocab}
-use Rattle.tv_frame.specs.LogicalStructure.{LogicalStructure}
+use Rattle.tv_embedding_laws.specs.LogicalStructure.{LogicalStructure}
 use Rattle.tv_row.specs.Bits.{rank, value_cmp}
 use Rattle.tv_struct.specs.StructureForm.{kept_from}
 
@@ -20,8 +20,8 @@ abstraction_preds vocab = kept_from 0 (map is_abstraction vocab.preds)
 
 -- the name of an individual: its values of the predicates (the canonical name of Sagiv, Reps and Wilhelm
 -- 2002, section 4.3, which here tells all three values apart)
-abbrev pub name_of : (preds : List ℕ) → LogicalStructure → ℕ → List K3
-name_of preds s u = map (λ pred. s.value pred (u ∷ [])) preds
+abbrev pub canonical_name : (preds : List ℕ) → LogicalStructure → ℕ → List K3
+canonical_name preds s u = map (λ pred. s.value pred (u ∷ [])) preds
 
 -- names in lexicographic order, with No below Half below Yes
 abbrev pub name_cmp : List K3 → List K3 → Ordering

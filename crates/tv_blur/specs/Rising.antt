@@ -7,7 +7,7 @@ use Rattle.tv_kleene.specs.declared.K3.{K3}
 use Rattle.tv_kleene.specs.declared.K3.TheVariants.{No, Half, Yes}
 use Rattle.tv_row.specs.Bits.{value_cmp}
 use Rattle.tv_struct.specs.StructureForm.{StructureForm, structure_of}
-use Rattle.tv_blur.specs.Names.{name_of, name_cmp}
+use Rattle.tv_blur.specs.Names.{canonical_name, name_cmp}
 
 -- how an individual's name compares to the next one's: No where they are equal, else it is the lesser
 abbrev pub order_told : K3 → Ordering
@@ -26,7 +26,8 @@ values_to_next values u = value_cmp (slice_index_or values u No) (slice_index_or
 pub record TellsRises (preds : List ℕ) (s : StructureForm) (rises : List K3) : Type 0 where
   pub long : length rises ≡ s.size - 1
   pub orders : (u : ℕ) → u < s.size - 1
-      → name_cmp (name_of preds (structure_of s) u) (name_of preds (structure_of s) (u + 1)) ≡ order_to_next rises u
+      → name_cmp (canonical_name preds (structure_of s) u) (canonical_name preds (structure_of s) (u + 1))
+      ≡ order_to_next rises u
 
 -- new tells what old tells of the first n, or else what these values tell, and of the others what old tells
 pub record AddsRises (values : List K3) (n : ℕ) (old new : List K3) : Type 0 where

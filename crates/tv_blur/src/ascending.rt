@@ -1,6 +1,7 @@
 //! Whether a structure is blurred already.
 
-ghost use Rattle.std.specs.Prelude.{◌≡◌, ◌≢◌, ◌<◌, ◌↔◌, ◌+◌, ◌-◌, ℕ, IsTrue, MatchBool, Some, length, slice_get, slice_index_or};
+ghost use Rattle.std.specs.Prelude.{◌≡◌, ◌≢◌, ◌<◌, ◌↔◌, ◌+◌, ◌-◌, ℕ, IsTrue, MatchBool, Some, length};
+ghost use Rattle.std.specs.Prelude.{slice_get, slice_index_or};
 ghost use Rattle.std.specs.declared.cmp.Ordering.TheVariants.{Greater};
 ghost use Rattle.std.specs.Ordering.{ordering_then};
 ghost use Rattle.tv_kleene.specs.declared.K3.TheVariants.{No};
@@ -18,8 +19,8 @@ use tv_model::{Pred, PredId, Vocab};
 use tv_row::Row;
 use tv_struct::Structure;
 
-/// Tells how the values of the individual `u` and of the next one compare, unless their names differ already. Whether
-/// the names don't fall.
+/// Tells how the values of the individual `u` and of the next one compare, unless their names differ already.
+/// Whether the names don't fall.
 fn add_rise(rises: &mut Row, values: &Row, u: u32) -> bool
     requires room { u < length rises.old }
     requires individual { u + 1 < length values.now }
@@ -72,8 +73,8 @@ fn add_pred(rises: &mut Row, s: &Structure, p: u32, pred: &Pred) -> bool
     add_rises(rises, &s.unary_row(PredId(p)))
 }
 
-/// Whether the individuals have different names and stand in their order. Names are compared predicate by predicate,
-/// each at all neighbours.
+/// Whether the individuals have different names and stand in their order. Names are compared predicate by
+/// predicate, each at all neighbours.
 fn are_ascending(vocab: &Vocab, s: &Structure) -> bool
     requires { IsOver vocab.now s.now }
     ensures { IsTrue result
@@ -89,8 +90,8 @@ fn are_ascending(vocab: &Vocab, s: &Structure) -> bool
     rises.are_possible()
 }
 
-/// Whether the structure is its own blur: no individual is marked, and all have different names and stand in their
-/// order. Takes no memory.
+/// Whether the structure is its own blur: no individual is marked, and all have different names and stand in
+/// their order. Takes no memory.
 pub fn is_blurred(vocab: &Vocab, s: &Structure) -> bool
     requires { IsOver vocab.now s.now }
     ensures { IsTrue result ↔ IsBlurred (abstraction_preds vocab.now) s.now }

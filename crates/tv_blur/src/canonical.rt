@@ -1,7 +1,7 @@
 //! Blur: the structure in which individuals of equal name are one.
 
 ghost use Rattle.std.specs.Prelude.{◌≡◌, IfOk};
-ghost use Rattle.tv_frame.specs.Embedding.{IsEmbedded};
+ghost use Rattle.tv_embedding_laws.specs.Embedding.{IsEmbedded};
 ghost use Rattle.tv_struct.specs.StructureForm.{IsOver, IsStructure, structure_of};
 ghost use Rattle.tv_blur.specs.Names.{abstraction_preds};
 ghost use Rattle.tv_blur.specs.Blur.{IsBlur, IsBlurred};
@@ -9,7 +9,7 @@ ghost use Rattle.tv_blur.specs.Blur.{IsBlur, IsBlurred};
 use crate::ascending::is_blurred;
 use crate::classes::{abstraction_preds, classes};
 use crate::merge::merged;
-use crate::names::Names;
+use crate::names::CanonicalNames;
 use std::alloc::{AllocError, Global};
 use tv_model::Vocab;
 use tv_struct::Structure;
@@ -32,8 +32,8 @@ pub fn blur(alloc: Global, vocab: &Vocab, s: &Structure) -> Result<Structure, Al
     into_blurred(alloc, vocab, s.copy(alloc)?)
 }
 
-/// The blur of a structure that isn't needed any more: that of `blur`. One that is blurred already is given back as
-/// it is, and takes no memory.
+/// The blur of a structure that isn't needed any more: that of `blur`. One that is blurred already is given
+/// back as it is, and takes no memory.
 pub fn into_blurred(alloc: Global, vocab: &Vocab, s: Structure) -> Result<Structure, AllocError>
     requires { IsOver vocab.now s }
     ensures exact { IfOk result (IsBlur (abstraction_preds vocab.now) s) }
@@ -57,7 +57,7 @@ fn regrouped(alloc: Global, vocab: &Vocab, s: &Structure) -> Result<Structure, A
 {
     let _ = s.size();
     let preds = abstraction_preds(alloc, vocab, s)?;
-    let names = Names::of(alloc, &preds, s)?;
+    let names = CanonicalNames::of(alloc, &preds, s)?;
     let classes = classes(alloc, &names)?;
     merged(alloc, s, &classes)
 }

@@ -1,6 +1,7 @@
 //! A class: individuals that have one name.
 
-ghost use Rattle.std.specs.Prelude.{◌≡◌, ◌<◌, ℕ, [], ◌∷◌, ◌++◌, length, All, OnOk, nat_lt, slice_index, slice_index_or};
+ghost use Rattle.std.specs.Prelude.{◌≡◌, ◌<◌, ℕ, [], ◌∷◌, ◌++◌, length, All, OnOk, nat_lt, slice_index};
+ghost use Rattle.std.specs.Prelude.{slice_index_or};
 ghost use Rattle.tv_kleene.specs.declared.K3.TheVariants.{No};
 ghost use Rattle.tv_blur.specs.Classes.{IsAmongMembers};
 ghost use Rattle.tv_blur.specs.Merged.{IsJoin};
@@ -13,8 +14,8 @@ use tv_row::Row;
 /// So many members are joined one by one sooner than by words.
 const FEW: usize = 16;
 
-/// Some individuals, at least one, seen by contracts as their list, and kept as bits too, so that values of many of
-/// them are joined word by word. One alone takes no memory.
+/// Some individuals, at least one, seen by contracts as their list, and kept as bits too, so that values of
+/// many of them are joined word by word. One alone takes no memory.
 #[derive(Drop)]
 pub struct Class {
     first: u32,

@@ -1,13 +1,14 @@
 //! The classes of individuals that have one name.
 
-ghost use Rattle.std.specs.Prelude.{◌≡◌, ◌≢◌, ◌<◌, ◌≤◌, ◌↔◌, ◌+◌, ℕ, [], ◌∷◌, ◌++◌, length, All, IfOk, IsTrue, OnOk, MatchBool, if◌then◌else◌, Some, slice_get};
+ghost use Rattle.std.specs.Prelude.{◌≡◌, ◌≢◌, ◌<◌, ◌≤◌, ◌↔◌, ◌+◌, ℕ, [], ◌∷◌, ◌++◌, length, All, IfOk};
+ghost use Rattle.std.specs.Prelude.{IsTrue, OnOk, MatchBool, if◌then◌else◌, Some, slice_get};
 ghost use Rattle.std.specs.declared.cmp.Ordering.TheVariants.{Less, Equal};
 ghost use Rattle.tv_struct.specs.StructureForm.{IsOver, arities_of};
 ghost use Rattle.tv_blur.specs.Names.{abstraction_preds, is_abstraction, name_cmp};
-ghost use Rattle.tv_blur.specs.Naming.{HoldsNames, IsGathered, class_name, name_in, named_in};
+ghost use Rattle.tv_blur.specs.Naming.{HoldsNames, IsGathered, class_name, canonical_name_in, named_in};
 
 use crate::class::Class;
-use crate::names::Names;
+use crate::names::CanonicalNames;
 use std::alloc::{AllocError, Global};
 use std::cmp::Ordering;
 use tv_model::{Pred, Vocab};
@@ -49,7 +50,7 @@ fn push_if(numbers: &mut Vec<u32>, n: u32, is_kept: bool) -> Result<(), AllocErr
 }
 
 /// The classes of the individuals that have one name, in the order of their names.
-pub fn classes(alloc: Global, names: &Names) -> Result<Vec<Class>, AllocError>
+pub fn classes(alloc: Global, names: &CanonicalNames) -> Result<Vec<Class>, AllocError>
     requires { HoldsNames names.now }
     ensures { IfOk result (λ classes. IsGathered names.now (named_in names.now).size classes.items) }
 {
@@ -62,7 +63,12 @@ pub fn classes(alloc: Global, names: &Names) -> Result<Vec<Class>, AllocError>
 }
 
 /// Puts the next individual into the class of its name, which is put among the others if it isn't there.
-fn gather(alloc: Global, classes: &mut Vec<Class>, names: &Names, u: u32) -> Result<(), AllocError>
+fn gather(
+    alloc: Global,
+    classes: &mut Vec<Class>,
+    names: &CanonicalNames,
+    u: u32,
+) -> Result<(), AllocError>
     requires names { HoldsNames names.now }
     requires individual { u < (named_in names.now).size }
     requires gathered { IsGathered names.now u classes.old.items }
@@ -79,11 +85,12 @@ fn gather(alloc: Global, classes: &mut Vec<Class>, names: &Names, u: u32) -> Res
 }
 
 /// Whether the name of the individual `u` is less than that of `w`.
-fn is_below(names: &Names, u: u32, w: u32) -> bool
+fn is_below(names: &CanonicalNames, u: u32, w: u32) -> bool
     requires names { HoldsNames names.now }
     requires one { u < (named_in names.now).size }
     requires other { w < (named_in names.now).size }
-    ensures { IsTrue result ↔ (name_cmp (name_in names.now u) (name_in names.now w) ≡ Less) }
+    ensures { IsTrue result
+        ↔ (name_cmp (canonical_name_in names.now u) (canonical_name_in names.now w) ≡ Less) }
 {
     match names.compare(u, w) {
         Ordering::Less => true,
@@ -92,14 +99,15 @@ fn is_below(names: &Names, u: u32, w: u32) -> bool
 }
 
 /// How many classes have a name below that of the individual.
-fn place_for(names: &Names, classes: &[Class], u: u32) -> usize
+fn place_for(names: &CanonicalNames, classes: &[Class], u: u32) -> usize
     requires names { HoldsNames names.now }
     requires individual { u < (named_in names.now).size }
     requires gathered { IsGathered names.now u classes.now }
     ensures within { result ≤ length classes.now }
-    ensures below { (w : ℕ) → w < result → name_cmp (class_name names.now classes.now w) (name_in names.now u) ≡ Less }
+    ensures below { (w : ℕ) → w < result
+        → name_cmp (class_name names.now classes.now w) (canonical_name_in names.now u) ≡ Less }
     ensures others { (w : ℕ) → result ≤ w → w < length classes.now
-        → name_cmp (class_name names.now classes.now w) (name_in names.now u) ≢ Less }
+        → name_cmp (class_name names.now classes.now w) (canonical_name_in names.now u) ≢ Less }
 {
     let mut low = 0;
     let mut high = classes.len();
@@ -115,14 +123,15 @@ fn place_for(names: &Names, classes: &[Class], u: u32) -> usize
 }
 
 /// Whether there is a class at the place, with the name of the individual.
-fn has_name(names: &Names, classes: &[Class], place: usize, u: u32) -> bool
+fn has_name(names: &CanonicalNames, classes: &[Class], place: usize, u: u32) -> bool
     requires names { HoldsNames names.now }
     requires individual { u < (named_in names.now).size }
     requires gathered { IsGathered names.now u classes.now }
     ensures { MatchBool result
         ((place < length classes.now)
-        × (name_cmp (class_name names.now classes.now place) (name_in names.now u) ≡ Equal))
-        (place < length classes.now → name_cmp (class_name names.now classes.now place) (name_in names.now u) ≢ Equal) }
+        × (name_cmp (class_name names.now classes.now place) (canonical_name_in names.now u) ≡ Equal))
+        (place < length classes.now
+        → name_cmp (class_name names.now classes.now place) (canonical_name_in names.now u) ≢ Equal) }
 {
     place < classes.len() && names.compare(classes[place].first(), u) == Ordering::Equal
 }

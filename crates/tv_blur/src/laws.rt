@@ -1,6 +1,7 @@
 //! Laws of blur: functions that do nothing, and whose contracts are the laws.
 
-ghost use Rattle.tv_blur.specs.Laws.{MergingCovers, MergingKeepsStable, BlurKeepsStable, BlurKeepsNames, BlurIsOne};
+ghost use Rattle.tv_blur.specs.Laws.{MergingCovers, MergingKeepsStable, BlurKeepsStable, BlurKeepsNames};
+ghost use Rattle.tv_blur.specs.Laws.{BlurIsOne};
 
 /// A structure embeds in what merging its individuals gives, by the map of the merging.
 pub fn merging_covers()

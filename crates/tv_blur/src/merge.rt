@@ -3,7 +3,8 @@
 ghost use Rattle.std.specs.Prelude.{◌≡◌, ◌<◌, ℕ, None, All, length, IfOk};
 ghost use Rattle.tv_struct.specs.StructureForm.{IsStructure, arities_of, summary_at};
 ghost use Rattle.tv_struct.specs.StructureRows.{HasArity};
-ghost use Rattle.tv_blur.specs.Classes.{AreClasses, ChangesOnly, HasMergedValues, HasMerged, is_merged_summary, class_at};
+ghost use Rattle.tv_blur.specs.Classes.{AreClasses, ChangesOnly, HasMergedValues, HasMerged};
+ghost use Rattle.tv_blur.specs.Classes.{is_merged_summary, class_at};
 
 use crate::class::Class;
 use crate::values::{joined_rows, merged_row};

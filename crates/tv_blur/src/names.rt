@@ -1,13 +1,14 @@
 //! The names of individuals, as rows of bits.
 
-ghost use Rattle.std.specs.Prelude.{◌≡◌, ◌<◌, ◌≤◌, ℕ, length, map, replicate, take, drop, All, IfOk, Some, slice_get};
+ghost use Rattle.std.specs.Prelude.{◌≡◌, ◌<◌, ◌≤◌, ℕ, length, map, replicate, take, drop, All, IfOk, Some};
+ghost use Rattle.std.specs.Prelude.{slice_get};
 ghost use Rattle.std.specs.List.{range_with_len};
 ghost use Rattle.tv_kleene.specs.declared.K3.TheVariants.{No};
 ghost use Rattle.tv_row.specs.Bits.{value_cmp};
 ghost use Rattle.tv_row.specs.Places.{entry_in};
 ghost use Rattle.tv_struct.specs.StructureForm.{arities_of, structure_of};
-ghost use Rattle.tv_blur.specs.Names.{name_of, name_cmp};
-ghost use Rattle.tv_blur.specs.Naming.{AreNames, HoldsNames, HasColumn, name_in, named_in, rest_in};
+ghost use Rattle.tv_blur.specs.Names.{canonical_name, name_cmp};
+ghost use Rattle.tv_blur.specs.Naming.{AreNames, HoldsNames, HasColumn, canonical_name_in, named_in, rest_in};
 
 use std::alloc::{AllocError, Global};
 use std::cmp::Ordering;
@@ -22,19 +23,23 @@ const ROOM: usize = 256;
 /// The names of the individuals of a structure by some unary predicates: of each individual its values of
 /// the first 256 of them in one row. What is behind these is read in the structure.
 #[derive(Drop)]
-pub struct Names<'a> {
+pub struct CanonicalNames<'a> {
     preds: &'a [u32],
     structure: &'a Structure,
     rows: Vec<Row>,
 }
 
-impl<'a> Names<'a> {
+impl<'a> CanonicalNames<'a> {
     /// The names of all individuals.
-    pub fn of(alloc: Global, preds: &'a [u32], s: &'a Structure) -> Result<Names<'a>, AllocError>
+    pub fn of(
+        alloc: Global,
+        preds: &'a [u32],
+        s: &'a Structure,
+    ) -> Result<CanonicalNames<'a>, AllocError>
         requires { All (λ p. slice_get (arities_of s.now) p ≡ Some 1) preds.now }
         ensures { IfOk result (AreNames preds.now s.now) }
     {
-        Ok(Names {
+        Ok(CanonicalNames {
             preds,
             structure: s,
             rows: rows(alloc, &preds[..preds.len().min(ROOM)], s)?,
@@ -53,7 +58,7 @@ impl<'a> Names<'a> {
         requires names { HoldsNames self.now }
         requires one { u < (named_in self.now).size }
         requires other { w < (named_in self.now).size }
-        ensures { result ≡ name_cmp (name_in self.now u) (name_in self.now w) }
+        ensures { result ≡ name_cmp (canonical_name_in self.now u) (canonical_name_in self.now w) }
     {
         match self.rows[u as usize].compare(&self.rows[w as usize]) {
             Ordering::Equal => self.compare_rest(u, w),
@@ -78,7 +83,8 @@ fn rows(alloc: Global, preds: &[u32], s: &Structure) -> Result<Vec<Row>, AllocEr
     requires few { length preds.now ≤ 256 }
     requires preds { All (λ p. slice_get (arities_of s.now) p ≡ Some 1) preds.now }
     ensures { IfOk result
-        (λ rows. rows.items ≡ map (name_of preds.now (structure_of s.now)) (range_with_len 0 s.now.size)) }
+        (λ rows. rows.items
+        ≡ map (canonical_name preds.now (structure_of s.now)) (range_with_len 0 s.now.size)) }
 {
     let mut rows = rows_of_no(alloc, s.size(), preds.len() as u32)?;
     for (column, p) in preds.iter().enumerate() {
@@ -126,7 +132,8 @@ fn compare_values(preds: &[u32], s: &Structure, u: u32, w: u32) -> Ordering
     requires one { u < s.now.size }
     requires other { w < s.now.size }
     ensures { result
-        ≡ name_cmp (name_of preds.now (structure_of s.now) u) (name_of preds.now (structure_of s.now) w) }
+        ≡ name_cmp (canonical_name preds.now (structure_of s.now) u)
+        (canonical_name preds.now (structure_of s.now) w) }
 {
     match preds {
         [] => Ordering::Equal,

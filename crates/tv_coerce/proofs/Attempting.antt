@@ -1,11 +1,12 @@
 -- What trying rules tells, and what the changes that a rule asks for make of a structure.
-use Rattle.std.proofs.Common.{ℕ, ◌≡◌, ◌≢◌, ◌<◌, ◌∙◌, Bool, List, [], ◌∷◌, length, None, Some, slice_get, All, refl, sym, subst, arith}
+use Rattle.std.proofs.Common.{ℕ, ◌≡◌, ◌≢◌, ◌<◌, ◌∙◌, Bool, List, [], ◌∷◌, length, None, Some, slice_get, All}
+use Rattle.std.proofs.Common.{refl, sym, subst, arith}
 use Rattle.std.proofs.lemmas.List.Elements.{All-from_get_or, All-weaker}
 use Rattle.std.proofs.lemmas.Option.{slice_get-get_or}
 use Rattle.tv_model.specs.Form.{FZero}
 use Rattle.tv_model.specs.Program.{HNever, RuleForm}
 use Rattle.tv_model.specs.declared.program.Rule.{Rule}
-use Rattle.tv_stable.specs.Stable.{HasNoStable, IsStable, IsStableUnder}
+use Rattle.tv_stable_laws.specs.Stable.{HasNoStable, IsStable, IsStableUnder}
 use Rattle.tv_eval.specs.declared.evaluator.Evaluator.{Evaluator}
 use Rattle.tv_rules.specs.EntryForms.{rules_of}
 use Rattle.tv_struct.specs.StructureForm.{StructureForm, structure_of}
@@ -15,7 +16,7 @@ use Rattle.tv_coerce.specs.Changes.{Has, IsOpen, IsPlace}
 use Rattle.tv_coerce.specs.RuleSets.{HasLost, IsIn, IsStableBut}
 use Rattle.tv_coerce.specs.Sharpened.{IsSharpened}
 use Rattle.tv_coerce.specs.Touched.{IsChangeOf}
-use Rattle.tv_coerce.specs.Trying.{IsForced, IsFound, StaysBound, rule_at}
+use Rattle.tv_coerce.specs.Trying.{IsForced, IsTrialResult, StaysBound, rule_at}
 use Rattle.tv_coerce.proofs.Found.{rule-is}
 use Rattle.tv_coerce.proofs.OnTheWay.{rule-at, stable-at}
 use Rattle.tv_coerce.proofs.Touching.{stable-without}
@@ -54,7 +55,7 @@ module _ (closed : List Rule) (s : StructureForm) (n : ℕ) (waiting mid : List 
     some = some;
   }
 
-  pub attempted-never : IsFound s (rule_at closed n) None → HasNoStable (rules_of closed) (structure_of s)
+  pub attempted-never : IsTrialResult s (rule_at closed n) None → HasNoStable (rules_of closed) (structure_of s)
   attempted-never never u low stable =
       let at : (rule : RuleForm) × (slice_get (rules_of closed) n ≡ Some rule) = rule-at (rules_of closed) n within
       in never u low (subst (IsStableUnder u) (sym (rule-is closed n s within at.0 at.1)) (stable-at (rules_of closed) u n at.0 at.1 stable))

@@ -1,5 +1,6 @@
 -- What the head of a rule needs.
-use Rattle.std.proofs.Common.{ℕ, ◌≡◌, ◌≢◌, ◌<◌, ◌⊎◌, inl, inr, Bool, true, false, true≢false, List, [], ◌∷◌, map, Option, Some, None, refl, sym, ap, subst, ◌∙◌}
+use Rattle.std.proofs.Common.{ℕ, ◌≡◌, ◌≢◌, ◌<◌, ◌⊎◌, inl, inr, Bool, true, false, true≢false, List, [], ◌∷◌}
+use Rattle.std.proofs.Common.{map, Option, Some, None, refl, sym, ap, subst, ◌∙◌}
 use Rattle.std.specs.Prelude.{All, Contains, IsSomeAnd, unwrap_or}
 use Rattle.tv_kleene.specs.declared.K3.{K3}
 use Rattle.tv_kleene.specs.declared.K3.TheVariants.{Half, Yes}
@@ -10,13 +11,14 @@ use Rattle.tv_model.specs.Program.{HAtom, HSame}
 use Rattle.tv_model.specs.Rules.{signed_form}
 use Rattle.tv_model.specs.Truth.{Assignment}
 use Rattle.tv_model.proofs.Lists.{Contains-here, Contains-there}
-use Rattle.tv_frame.specs.LogicalStructure.{LogicalStructure}
-use Rattle.tv_frame.specs.Embedding.{IsBelow, IsBelowByValues}
-use Rattle.tv_frame.proofs.EmbeddingLaws.{IsBelow-values}
-use Rattle.tv_value.specs.Value.{value}
-use Rattle.tv_stable.specs.Stable.{IsHeadMet}
-use Rattle.tv_stable.proofs.Heads.{wanted, wanted-definite, signed-wanted, signed-half, met-value, same-no, same-half}
-use Rattle.tv_eval.specs.AssignmentForm.{IsAssigned, assignment_of, place_of}
+use Rattle.tv_embedding_laws.specs.LogicalStructure.{LogicalStructure}
+use Rattle.tv_embedding_laws.specs.Embedding.{IsBelow, IsBelowByValues}
+use Rattle.tv_embedding_laws.proofs.EmbeddingLaws.{IsBelow-values}
+use Rattle.tv_eval_laws.specs.Value.{value}
+use Rattle.tv_stable_laws.specs.Stable.{IsHeadMet}
+use Rattle.tv_stable_laws.proofs.Heads.{wanted, wanted-definite, signed-wanted, signed-half, met-value}
+use Rattle.tv_stable_laws.proofs.Heads.{same-no, same-half}
+use Rattle.tv_eval.specs.AssignmentForm.{IsAssigned, assignment_of, individual_for}
 use Rattle.tv_struct.specs.StructureForm.{StructureForm, structure_of, summary_at, value_at}
 use Rattle.tv_struct.specs.TableForm.{AreIndividuals}
 use Rattle.tv_struct.specs.declared.table.Tuple.{Tuple}
@@ -34,7 +36,7 @@ pub placed-tuple : (size : ℕ) (places : List (Option ℕ)) (vars : List ℕ) �
     → AreIndividuals size (map (assignment_of places) vars)
 placed-tuple size places [] each = tt
 placed-tuple size places (v ∷ vars) each =
-    (placed size (place_of places v) (each v (Contains-here v vars)), placed-tuple size places vars (λ w has. each w (Contains-there v w vars has)))
+    (placed size (individual_for places v) (each v (Contains-here v vars)), placed-tuple size places vars (λ w has. each w (Contains-there v w vars has)))
 
 module _ (s : StructureForm) (u : LogicalStructure) (below : IsBelow u (structure_of s)) where
   by : IsBelowByValues u (structure_of s)

@@ -1,5 +1,6 @@
 -- Rules that ask for nothing.
-use Rattle.std.proofs.Common.{ℕ, ◌≡◌, ◌≢◌, ◌<◌, inl, inr, Bool, true, false, not, List, [], ◌∷◌, length, map, get_or, refl, sym, ap, subst, ◌∙◌, arith}
+use Rattle.std.proofs.Common.{ℕ, ◌≡◌, ◌≢◌, ◌<◌, inl, inr, Bool, true, false, not, List, [], ◌∷◌, length, map}
+use Rattle.std.proofs.Common.{get_or, refl, sym, ap, subst, ◌∙◌, arith}
 use Rattle.std.specs.Prelude.{All, Any}
 use Rattle.std.proofs.lemmas.Bool.{false≢true}
 use Rattle.std.proofs.lemmas.List.Elements.{All-nil}
@@ -11,9 +12,9 @@ use Rattle.tv_kleene.specs.Kleene.{negation_of}
 use Rattle.tv_model.specs.Form.{Form, FAtom, FNot, IsFree}
 use Rattle.tv_model.specs.Program.{HAtom, RuleForm}
 use Rattle.tv_model.proofs.Lists.{Contains-here}
-use Rattle.tv_value.specs.Value.{value}
-use Rattle.tv_stable.specs.Stable.{IsStableUnder}
-use Rattle.tv_stable.proofs.Heads.{wanted}
+use Rattle.tv_eval_laws.specs.Value.{value}
+use Rattle.tv_stable_laws.specs.Stable.{IsStableUnder}
+use Rattle.tv_stable_laws.proofs.Heads.{wanted}
 use Rattle.tv_rules.specs.Closing.{conjuncts}
 use Rattle.tv_rules.specs.Dues.{AreDue, DueForm}
 use Rattle.tv_rules.proofs.Carried.{conjuncts_carry_formulas}

@@ -1,21 +1,24 @@
 -- What making a change does.
-use Rattle.std.proofs.Common.{ℕ, ◌≡◌, ◌≢◌, ◌<◌, ◌≤◌, ◌+◌, ◌⊎◌, inl, inr, false, true≢false, List, refl, sym, ap, subst, ◌∙◌, arith}
+use Rattle.std.proofs.Common.{ℕ, ◌≡◌, ◌≢◌, ◌<◌, ◌≤◌, ◌+◌, ◌⊎◌, inl, inr, false, true≢false, List, refl, sym}
+use Rattle.std.proofs.Common.{ap, subst, ◌∙◌, arith}
 use Rattle.std.specs.Prelude.{All, Contains, IsTrue}
 use Rattle.std.proofs.lemmas.Bool.{cases_eq}
 use Rattle.tv_kleene.specs.declared.K3.{K3}
 use Rattle.tv_kleene.specs.declared.K3.TheVariants.{No, Half, Yes}
 use Rattle.tv_kleene.specs.Kleene.{LiesUnder}
 use Rattle.tv_model.specs.declared.formula.PredId.{PredId}
-use Rattle.tv_frame.specs.LogicalStructure.{LogicalStructure}
-use Rattle.tv_frame.specs.Embedding.{IsBelow, IsBelowByValues}
-use Rattle.tv_frame.proofs.EmbeddingLaws.{EmbedsOn-id, IsBelow-values}
+use Rattle.tv_embedding_laws.specs.LogicalStructure.{LogicalStructure}
+use Rattle.tv_embedding_laws.specs.Embedding.{IsBelow, IsBelowByValues}
+use Rattle.tv_embedding_laws.proofs.EmbeddingLaws.{EmbedsOn-id, IsBelow-values}
 use Rattle.tv_struct.specs.Halves.{half_count, half_of, half_of_flag}
-use Rattle.tv_struct.specs.StructureForm.{StructureForm, IsStructure, table_of, structure_of, value_at, summary_at, with_value, with_summary}
+use Rattle.tv_struct.specs.StructureForm.{StructureForm, IsStructure, table_of, structure_of, value_at}
+use Rattle.tv_struct.specs.StructureForm.{summary_at, with_value, with_summary}
 use Rattle.tv_struct.specs.TableForm.{HasEntry}
 use Rattle.tv_struct.specs.TupleForm.{tuple_of}
 use Rattle.tv_struct.specs.Laws.{WritesOneEntry, WritesOneSummary}
 use Rattle.tv_struct.specs.declared.table.Tuple.{Tuple}
-use Rattle.tv_struct.proofs.HalfLaws.{entry_halves, summary_halves, entry_below, summary_below, tuples_decided}
+use Rattle.tv_struct.proofs.HalfLaws.{entry_halves, summary_halves, entry_below, summary_below}
+use Rattle.tv_struct.proofs.HalfLaws.{tuples_decided}
 use Rattle.tv_struct.proofs.StructureLaws.{writes_one_entry, writes_one_summary}
 use Rattle.tv_coerce.specs.Changes.{Has, IsLowered}
 use Rattle.tv_coerce.specs.declared.change.Change.TheVariants.{Value, Ordinary}

@@ -1,5 +1,7 @@
 -- Rows of values: where all conjuncts are Yes that a variable is the last of, and where the head isn't met.
-use Rattle.std.proofs.Common.{ℕ, ◌≡◌, ◌≢◌, ◌<◌, ◌≤◌, ◌+◌, ◌⊎◌, inl, inr, ⊎_elim, zero, suc, true, false, List, ◌∷◌, length, get_or, replicate, Option, Some, slice_get, refl, sym, ap, subst, ◌∙◌, arith}
+use Rattle.std.proofs.Common.{ℕ, ◌≡◌, ◌≢◌, ◌<◌, ◌≤◌, ◌+◌, ◌⊎◌, inl, inr, ⊎_elim, zero, suc, true, false, List}
+use Rattle.std.proofs.Common.{◌∷◌, length, get_or, replicate, Option, Some, slice_get, refl, sym, ap, subst}
+use Rattle.std.proofs.Common.{◌∙◌, arith}
 use Rattle.std.specs.Prelude.{Any, Contains}
 use Rattle.std.proofs.lemmas.Bool.{cases_eq}
 use Rattle.std.proofs.lemmas.Option.{get_or_from_slice_get}
@@ -17,12 +19,12 @@ use Rattle.tv_model.specs.Program.{HeadForm, HNever, HAtom, HSame, RuleForm}
 use Rattle.tv_model.specs.Rules.{IsInHead, head_formula}
 use Rattle.tv_model.specs.Truth.{Assignment, put}
 use Rattle.tv_model.specs.Valid.{IsFormulaOver}
-use Rattle.tv_frame.specs.LogicalStructure.{LogicalStructure}
-use Rattle.tv_value.specs.Value.{value}
+use Rattle.tv_embedding_laws.specs.LogicalStructure.{LogicalStructure}
+use Rattle.tv_eval_laws.specs.Value.{value}
 use Rattle.tv_eval.specs.Along.{values_along}
 use Rattle.tv_eval.specs.Bound.{IsBound, bound_structure}
 use Rattle.tv_eval.specs.Formulas.{AreAssigned, nesting}
-use Rattle.tv_eval.specs.ScratchForm.{ScratchForm, Fits}
+use Rattle.tv_eval.specs.ScratchForm.{ScratchForm, HasScratchFor}
 use Rattle.tv_rules.specs.Closing.{conjuncts, negated_head}
 use Rattle.tv_eval.specs.declared.evaluator.Evaluator.{Evaluator}
 use Rattle.tv_struct.specs.StructureForm.{StructureForm, arities_of, structure_of}
@@ -198,7 +200,7 @@ module _ (s : StructureForm) (rule : RuleForm) (v : ℕ) (rest : List ℕ) (a : 
 pub record CanDeny (t : StructureForm) (room : ScratchForm) (places : List (Option ℕ)) (v : ℕ) (f : Form) : Type 0 where
   pub formula : IsFormulaOver (arities_of t) (FExists v f)
   pub assigned : AreAssigned t.size places (FExists v f)
-  pub fits : Fits room f t.size
+  pub fits : HasScratchFor room f t.size
 
 denied-over : (arities : List ℕ) (head : HeadForm) → IsHeadOver arities head → IsFormulaOver arities (negated_head head)
 denied-over arities HNever over = tt

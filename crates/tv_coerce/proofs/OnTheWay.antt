@@ -1,18 +1,19 @@
 -- How coerce goes on, and why it ends.
-use Rattle.std.proofs.Common.{ℕ, ◌≡◌, ◌<◌, ◌∙◌, Bool, true, false, List, length, None, Some, slice_get, get_or, All, refl, sym, subst}
+use Rattle.std.proofs.Common.{ℕ, ◌≡◌, ◌<◌, ◌∙◌, Bool, true, false, List, length, None, Some, slice_get}
+use Rattle.std.proofs.Common.{get_or, All, refl, sym, subst}
 use Rattle.std.proofs.lemmas.List.Elements.{All-contains}
 use Rattle.std.proofs.lemmas.Option.{slice_get-get_or}
 use Rattle.tv_model.specs.Form.{FZero}
 use Rattle.tv_model.specs.Program.{HeadForm, HNever, RuleForm}
 use Rattle.tv_model.proofs.Lists.{slice_get-contains}
-use Rattle.tv_frame.specs.LogicalStructure.{LogicalStructure}
-use Rattle.tv_frame.specs.Embedding.{IsBelow}
-use Rattle.tv_frame.proofs.EmbeddingLaws.{EmbedsOn-id, EmbedsOn-compose}
-use Rattle.tv_stable.specs.Laws.{IsPlainRule}
-use Rattle.tv_stable.specs.Stable.{IsStableUnder, IsStable, HasNoStable}
+use Rattle.tv_embedding_laws.specs.LogicalStructure.{LogicalStructure}
+use Rattle.tv_embedding_laws.specs.Embedding.{IsBelow}
+use Rattle.tv_embedding_laws.proofs.EmbeddingLaws.{EmbedsOn-id, EmbedsOn-compose}
+use Rattle.tv_stable_laws.specs.Laws.{IsPlainRule}
+use Rattle.tv_stable_laws.specs.Stable.{IsStableUnder, IsStable, HasNoStable}
 use Rattle.tv_struct.specs.Halves.{half_count}
 use Rattle.tv_struct.specs.StructureForm.{StructureForm, IsStructure, structure_of}
-use Rattle.tv_eval.specs.ScratchForm.{ScratchForm, Fits}
+use Rattle.tv_eval.specs.ScratchForm.{ScratchForm, HasScratchFor}
 use Rattle.tv_coerce.specs.Attempts.{AreAsked, IsSharper, IsOnTheWay, IsEnd}
 use Rattle.tv_coerce.specs.Coerced.{IsCoercedTable, CoercesTo}
 use Rattle.tv_coerce.specs.Ready.{IsRuleOver, CanCoerce}
@@ -57,7 +58,7 @@ pub ready-on : (rules : List RuleForm) (waiting : List Bool) (s t : StructureFor
 ready-on rules waiting s t scratch ready way = record {
   over = subst (λ ns. All (IsRuleOver ns) rules) (sym way.arities) ready.over;
   plain = ready.plain;
-  fits = subst (λ n. All (λ rule. Fits scratch rule.body n) rules) (sym way.size) ready.fits;
+  fits = subst (λ n. All (λ rule. HasScratchFor scratch rule.body n) rules) (sym way.size) ready.fits;
 }
 
 pub way-asked : (rules : List RuleForm) (n : ℕ) (head : HeadForm) (old mid more again : List Bool) (s t new : StructureForm)

@@ -1,14 +1,15 @@
 -- What a structure coerces to is one, and a stable structure coerces to itself.
-use Rattle.std.proofs.Common.{◌≡◌, ◌∙◌, Bool, true, false, List, length, Option, Some, None, All, Contains, IsTrue, ⊎_elim, refl, sym, ap, subst}
+use Rattle.std.proofs.Common.{◌≡◌, ◌∙◌, Bool, true, false, List, length, Option, Some, None, All, Contains}
+use Rattle.std.proofs.Common.{IsTrue, ⊎_elim, refl, sym, ap, subst}
 use Rattle.std.proofs.lemmas.List.FromFn.{length-range_with_len}
 use Rattle.std.specs.List.{range_with_len}
 use Rattle.tv_kleene.specs.declared.K3.{K3}
 use Rattle.tv_kleene.specs.Kleene.{LiesUnder}
 use Rattle.tv_model.specs.Program.{RuleForm}
-use Rattle.tv_frame.specs.Embedding.{IsBelow, IsBelowByValues}
-use Rattle.tv_frame.specs.LogicalStructure.{LogicalStructure}
-use Rattle.tv_frame.proofs.EmbeddingLaws.{EmbedsOn-id, IsBelow-values}
-use Rattle.tv_stable.specs.Stable.{IsStable}
+use Rattle.tv_embedding_laws.specs.Embedding.{IsBelow, IsBelowByValues}
+use Rattle.tv_embedding_laws.specs.LogicalStructure.{LogicalStructure}
+use Rattle.tv_embedding_laws.proofs.EmbeddingLaws.{EmbedsOn-id, IsBelow-values}
+use Rattle.tv_stable_laws.specs.Stable.{IsStable}
 use Rattle.tv_struct.specs.StructureForm.{StructureForm, IsStructure, structure_of, arities_of, summary_at}
 use Rattle.tv_struct.proofs.Library.{Contains-range, All-individuals}
 use Rattle.tv_struct.proofs.StructureLaws.{same_structure}

@@ -1,8 +1,10 @@
 -- The closed rules of a valid program can be tried; so can the conjuncts of a rule that can.
-use Rattle.std.proofs.Common.{ℕ, ◌≡◌, ◌≤◌, ◌+◌, max, ◌∙◌, List, [], ◌∷◌, map, All, refl, sym, ap, subst, arith}
+use Rattle.std.proofs.Common.{ℕ, ◌≡◌, ◌≤◌, ◌+◌, max, ◌∙◌, List, [], ◌∷◌, map, All, refl, sym, ap, subst}
+use Rattle.std.proofs.Common.{arith}
 use Rattle.std.proofs.lemmas.List.Elements.{All-cons, All-nil, All-append, All-weaker}
 use Rattle.tv_model.specs.declared.program.Pred.{Pred}
-use Rattle.tv_model.specs.Form.{Form, FZero, FOne, FAtom, FIsNew, FSame, FNot, FAnd, FOr, FIff, FCond, FExists, FForall, FClosure, height}
+use Rattle.tv_model.specs.Form.{Form, FZero, FOne, FAtom, FIsNew, FSame, FNot, FAnd, FOr, FIff, FCond}
+use Rattle.tv_model.specs.Form.{FExists, FForall, FClosure, height}
 use Rattle.tv_model.specs.Program.{ProgramForm, HeadForm, HNever, HAtom, HSame, RuleForm, program_of, pred_of}
 use Rattle.tv_model.specs.Valid.{IsRule, IsHead, program_arities}
 use Rattle.tv_rules.specs.Closing.{closed_rules, conjuncts}
@@ -13,7 +15,7 @@ use Rattle.tv_rules.proofs.Ranges.{rules_are_plain}
 use Rattle.tv_struct.specs.StructureForm.{arities_of}
 use Rattle.tv_eval.specs.Formulas.{nesting}
 use Rattle.tv_eval.specs.Laws.{HasHeightsUpTo}
-use Rattle.tv_eval.specs.ScratchForm.{ScratchForm, Fits, program_height}
+use Rattle.tv_eval.specs.ScratchForm.{ScratchForm, HasScratchFor, program_height}
 use Rattle.tv_eval.proofs.Programs.{within_height, made_scratches_fit, program_formulas_are_over}
 use Rattle.tv_coerce.specs.Ready.{IsHeadOver, IsRuleOver}
 use Rattle.tv_coerce.specs.Laws.{ClosedRulesCanBeTried}
@@ -55,7 +57,7 @@ closed_rules_can_be_tried program s scratch valid over is made =
           })
           (closed_rules p) (closed_rules_are_rules p valid);
       plain = rules_are_plain p valid;
-      fits = All-weaker (λ (rule : RuleForm). height rule.body ≤ program_height p + 4) (λ rule. Fits scratch rule.body s.size)
+      fits = All-weaker (λ (rule : RuleForm). height rule.body ≤ program_height p + 4) (λ rule. HasScratchFor scratch rule.body s.size)
           (λ rule low. made_scratches_fit p 256 s.size scratch rule.body made low small)
           (closed_rules p) (closed-low p (program_height p) (no_higher p));
     }
@@ -87,9 +89,9 @@ nesting-conjuncts (FForall v f) = alone (FForall v f)
 nesting-conjuncts (FClosure from to left right f) = alone (FClosure from to left right f)
 
 -- where there is room for a body, there is for its conjuncts
-pub fits-conjuncts : (scratch : ScratchForm) (f : Form) (n : ℕ) → Fits scratch f n → All (λ g. Fits scratch g n) (conjuncts f)
+pub fits-conjuncts : (scratch : ScratchForm) (f : Form) (n : ℕ) → HasScratchFor scratch f n → All (λ g. HasScratchFor scratch g n) (conjuncts f)
 fits-conjuncts scratch f n fits =
     let deep : nesting f ≤ scratch.levels = fits.closures
-    in All-weaker (λ g. nesting g ≤ nesting f) (λ g. Fits scratch g n)
+    in All-weaker (λ g. nesting g ≤ nesting f) (λ g. HasScratchFor scratch g n)
     (λ g le. record { closures = omega (arith, le, deep); individuals = fits.individuals })
     (conjuncts f) (nesting-conjuncts f)

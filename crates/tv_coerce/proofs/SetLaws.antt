@@ -1,6 +1,8 @@
 -- Sets of numbers of rules, as flags.
-use Rattle.std.proofs.Common.{ℕ, ◌≡◌, ◌<◌, ◌∙◌, Bool, List, [], ◌∷◌, length, slice_get, Some, Contains, All, ⊎_elim, inl, inr, subst, sym, refl, arith}
-use Rattle.tv_model.proofs.Lists.{Contains-here, Contains-there, Contains-none, Contains-cases, All-from_contains, slice_get-below}
+use Rattle.std.proofs.Common.{ℕ, ◌≡◌, ◌<◌, ◌∙◌, Bool, List, [], ◌∷◌, length, slice_get, Some, Contains, All}
+use Rattle.std.proofs.Common.{⊎_elim, inl, inr, subst, sym, refl, arith}
+use Rattle.tv_model.proofs.Lists.{Contains-here, Contains-there, Contains-none, Contains-cases}
+use Rattle.tv_model.proofs.Lists.{All-from_contains, slice_get-below}
 use Rattle.tv_model.specs.Program.{RuleForm}
 use Rattle.tv_rules.specs.Standing.{AreNumbersOf}
 use Rattle.tv_coerce.specs.RuleSets.{HasMore, IsRuleThat}

@@ -1,14 +1,17 @@
 -- Changes that move values one way alone move a formula's value one way alone.
-use Rattle.std.proofs.Common.{ℕ, ◌≡◌, ◌∙◌, ◌==◌, if◌then◌else◌, inl, inr, ⊎_elim, Bool, true, false, not, List, [], ◌∷◌, map, refl, sym, ap, subst}
+use Rattle.std.proofs.Common.{ℕ, ◌≡◌, ◌∙◌, ◌==◌, if◌then◌else◌, inl, inr, ⊎_elim, Bool, true, false, not}
+use Rattle.std.proofs.Common.{List, [], ◌∷◌, map, refl, sym, ap, subst}
 use Rattle.std.specs.List.{range_with_len}
 use Rattle.tv_kleene.specs.declared.K3.{K3}
 use Rattle.tv_kleene.specs.declared.K3.TheVariants.{No, Half, Yes}
 use Rattle.tv_kleene.specs.Kleene.{IsAtMost, smaller_of, larger_of, negation_of}
-use Rattle.tv_kleene.proofs.Thresholds.{Must, May, must_threshold, may_threshold, Must-negation, May-negation, Must-is, thresholds_determine}
-use Rattle.tv_model.specs.Form.{Form, FZero, FOne, FAtom, FIsNew, FSame, FNot, FAnd, FOr, FIff, FCond, FExists, FForall, FClosure, Mentions}
+use Rattle.tv_kleene.proofs.Thresholds.{Must, May, must_threshold, may_threshold, Must-negation, May-negation}
+use Rattle.tv_kleene.proofs.Thresholds.{Must-is, thresholds_determine}
+use Rattle.tv_model.specs.Form.{Form, FZero, FOne, FAtom, FIsNew, FSame, FNot, FAnd, FOr, FIff, FCond}
+use Rattle.tv_model.specs.Form.{FExists, FForall, FClosure, Mentions}
 use Rattle.tv_model.specs.Program.{HeadForm, HNever, HAtom, HSame}
 use Rattle.tv_model.specs.Truth.{Assignment, put}
-use Rattle.tv_value.specs.Value.{value, mark_value, same_value, greatest_of, least_of, best_walk}
+use Rattle.tv_eval_laws.specs.Value.{value, mark_value, same_value, greatest_of, least_of, best_walk}
 use Rattle.tv_rules.specs.Standing.{HasEquality, IsEquality}
 use Rattle.tv_struct.specs.StructureForm.{StructureForm, structure_of, summary_at}
 use Rattle.tv_coerce.specs.Touched.{HasNotMoved, IsTouched, MayMove, Shows}

@@ -1,5 +1,6 @@
 -- Changes of one kind touch only what rules of that kind see.
-use Rattle.std.proofs.Common.{ℕ, ◌≡◌, ◌≢◌, ◌∙◌, ◌⊎◌, Bool, true, false, true≢false, List, [], Some, slice_get, All, Contains, ⊎_elim, inl, inr, refl, sym, ap, subst}
+use Rattle.std.proofs.Common.{ℕ, ◌≡◌, ◌≢◌, ◌∙◌, ◌⊎◌, Bool, true, false, true≢false, List, [], Some, slice_get}
+use Rattle.std.proofs.Common.{All, Contains, ⊎_elim, inl, inr, refl, sym, ap, subst}
 use Rattle.std.specs.List.{range_with_len}
 use Rattle.std.proofs.lemmas.Bool.{cases_eq}
 use Rattle.std.proofs.lemmas.List.Elements.{All-contains, Contains-append_left, Contains-append_right}
@@ -8,18 +9,20 @@ use Rattle.tv_kleene.specs.declared.K3.TheVariants.{No, Half, Yes}
 use Rattle.tv_kleene.specs.Kleene.{smaller_of, IsAtMost}
 use Rattle.tv_kleene.proofs.Lattice.{smaller-assoc, smaller-yes}
 use Rattle.tv_kleene.proofs.Thresholds.{Yes-below}
-use Rattle.tv_model.specs.Form.{Form, FZero, FOne, FAtom, FIsNew, FSame, FNot, FAnd, FOr, FIff, FCond, FExists, FForall, FClosure}
+use Rattle.tv_model.specs.Form.{Form, FZero, FOne, FAtom, FIsNew, FSame, FNot, FAnd, FOr, FIff, FCond}
+use Rattle.tv_model.specs.Form.{FExists, FForall, FClosure}
 use Rattle.tv_model.specs.Program.{HeadForm, HNever, HAtom, HSame, RuleForm}
 use Rattle.tv_model.specs.Rules.{IsOfIndividuals, head_formula}
 use Rattle.tv_model.proofs.Heads.{free-in_head, head-unmarked}
 use Rattle.tv_model.proofs.Lists.{Contains-here, slice_get-contains}
-use Rattle.tv_frame.specs.Embedding.{IsBelow}
-use Rattle.tv_value.proofs.Embedded.{values_are_monotone}
+use Rattle.tv_embedding_laws.specs.Embedding.{IsBelow}
+use Rattle.tv_eval_laws.proofs.Embedded.{values_are_monotone}
 use Rattle.tv_rules.specs.Closing.{conjuncts}
 use Rattle.tv_rules.specs.Standing.{IsEquality, IsHeadOf, HasTwice}
-use Rattle.tv_stable.specs.Stable.{IsHeadMet, IsStableUnder}
-use Rattle.tv_stable.specs.Laws.{IsPlainRule}
-use Rattle.tv_struct.specs.StructureForm.{StructureForm, IsStructure, structure_of, value_at, summary_at, with_value, with_summary}
+use Rattle.tv_stable_laws.specs.Stable.{IsHeadMet, IsStableUnder}
+use Rattle.tv_stable_laws.specs.Laws.{IsPlainRule}
+use Rattle.tv_struct.specs.StructureForm.{StructureForm, IsStructure, structure_of, value_at, summary_at}
+use Rattle.tv_struct.specs.StructureForm.{with_value, with_summary}
 use Rattle.tv_struct.specs.Laws.{WritesOneEntry, WritesOneSummary}
 use Rattle.tv_struct.specs.TupleForm.{tuple_of}
 use Rattle.tv_struct.proofs.HalfLaws.{tuples_decided}

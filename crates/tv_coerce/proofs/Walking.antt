@@ -1,16 +1,20 @@
 -- Trying a rule, variable by variable.
-use Rattle.std.proofs.Common.{ℕ, ◌≡◌, ◌≢◌, ◌<◌, ◌≤◌, ◌+◌, ◌-◌, ◌⊎◌, ◌==◌, if◌then◌else◌, inl, inr, zero, suc, List, [], ◌∷◌, length, map, take, drop, get_or, Option, Some, refl, sym, ap, subst, ◌∙◌, arith}
+use Rattle.std.proofs.Common.{ℕ, ◌≡◌, ◌≢◌, ◌<◌, ◌≤◌, ◌+◌, ◌-◌, ◌⊎◌, ◌==◌, if◌then◌else◌, inl, inr, zero, suc}
+use Rattle.std.proofs.Common.{List, [], ◌∷◌, length, map, take, drop, get_or, Option, Some, refl, sym, ap}
+use Rattle.std.proofs.Common.{subst, ◌∙◌, arith}
 use Rattle.std.specs.Prelude.{All, Any, Contains, IsSomeAnd, slice_get, unwrap_or}
 use Rattle.std.specs.List.{range_with_len}
 use Rattle.std.specs.declared.vec.Vec.{Vec}
 use Rattle.std.specs.declared.alloc.Global.{Global}
 use Rattle.std.proofs.lemmas.Bool.{cases_eq, cases_lt, cond-true, cond-false, eq-eqb, ne_eqb}
-use Rattle.std.proofs.lemmas.List.Elements.{All-cons, All-nil, All-append, All-head, All-map, All-push, All-tail, All-contains}
+use Rattle.std.proofs.lemmas.List.Elements.{All-cons, All-nil, All-append, All-head, All-map, All-push}
+use Rattle.std.proofs.lemmas.List.Elements.{All-tail, All-contains}
 use Rattle.std.proofs.lemmas.List.{get_or-map, get_or_default, length-append, length-map}
 use Rattle.std.proofs.lemmas.Option.{slice_get-get_or}
 use Rattle.tv_kleene.specs.declared.K3.TheVariants.{Half, Yes}
 use Rattle.tv_kleene.specs.Kleene.{LiesUnder}
-use Rattle.tv_model.specs.Form.{Form, FZero, FOne, FAtom, FIsNew, FSame, FNot, FAnd, FOr, FIff, FCond, FExists, FForall, FClosure, IsFree}
+use Rattle.tv_model.specs.Form.{Form, FZero, FOne, FAtom, FIsNew, FSame, FNot, FAnd, FOr, FIff, FCond}
+use Rattle.tv_model.specs.Form.{FExists, FForall, FClosure, IsFree}
 use Rattle.tv_model.specs.Program.{HeadForm, HNever, HAtom, HSame, RuleForm}
 use Rattle.tv_model.specs.Rules.{IsFreeInRule, IsInHead, IsOfIndividuals, head_formula}
 use Rattle.tv_model.specs.Truth.{Assignment, put}
@@ -20,17 +24,17 @@ use Rattle.tv_model.specs.declared.program.Rule.{Rule}
 use Rattle.tv_model.proofs.Assignments.{put-same, put-other}
 use Rattle.tv_model.proofs.Heads.{free-in_head}
 use Rattle.tv_model.proofs.Lists.{Contains-none, Contains-here}
-use Rattle.tv_frame.specs.LogicalStructure.{LogicalStructure}
-use Rattle.tv_frame.specs.Embedding.{IsBelow}
-use Rattle.tv_value.specs.Value.{value}
-use Rattle.tv_value.proofs.Agreed.{only_free_variables_matter}
-use Rattle.tv_value.proofs.Embedded.{values_are_monotone}
-use Rattle.tv_stable.specs.Stable.{IsTwice, IsHeadMet, IsStableUnder}
+use Rattle.tv_embedding_laws.specs.LogicalStructure.{LogicalStructure}
+use Rattle.tv_embedding_laws.specs.Embedding.{IsBelow}
+use Rattle.tv_eval_laws.specs.Value.{value}
+use Rattle.tv_eval_laws.proofs.Agreed.{only_free_variables_matter}
+use Rattle.tv_eval_laws.proofs.Embedded.{values_are_monotone}
+use Rattle.tv_stable_laws.specs.Stable.{IsTwice, IsHeadMet, IsStableUnder}
 use Rattle.tv_rules.specs.Closing.{conjuncts}
 use Rattle.tv_rules.specs.EntryForms.{AreFreeIn, numbers_of, rules_of}
 use Rattle.tv_rules.proofs.Ranges.{free-in_range}
 use Rattle.tv_rules.proofs.Carried.{conjuncts_carry_formulas}
-use Rattle.tv_eval.specs.AssignmentForm.{IsAssigned, assignment_of, place_of}
+use Rattle.tv_eval.specs.AssignmentForm.{IsAssigned, assignment_of, individual_for}
 use Rattle.tv_eval.specs.Formulas.{AreAssigned, nesting}
 use Rattle.tv_eval.specs.ScratchForm.{ScratchForm}
 use Rattle.tv_eval.specs.declared.evaluator.Evaluator.{Evaluator}
@@ -39,7 +43,9 @@ use Rattle.tv_struct.proofs.Library.{Contains-range, below-range}
 use Rattle.tv_coerce.specs.ByRows.{CanRow}
 use Rattle.tv_coerce.specs.Ready.{IsHeadOver, CanCoerce}
 use Rattle.tv_rules.specs.Dues.{AreDueFrom, DueForm, IsDue, AreDue}
-use Rattle.tv_coerce.specs.Trying.{AreKept, ArePlaced, PassesAt, GoesOn, IsTried, IsForced, IsHopeless, IsNeed, AreYes, CanTry, CanValue, IsWalk, IsNoted, IsTold, IsFound, StaysBound, answer_of, rule_at}
+use Rattle.tv_coerce.specs.Trying.{DifferOnlyAt, ArePlaced, PassesAt, GoesOn, IsTried, IsForced, IsHopeless}
+use Rattle.tv_coerce.specs.Trying.{IsNeed, AreYes, CanTry, CanValue, IsTrialStart, IsNoted, IsTold}
+use Rattle.tv_coerce.specs.Trying.{IsTrialResult, StaysBound, answer_of, rule_at}
 use Rattle.tv_coerce.specs.declared.trial.Outcome.{Outcome}
 use Rattle.tv_coerce.specs.declared.trial.Outcome.TheVariants.{Possible, Impossible}
 use Rattle.tv_coerce.specs.declared.change.Change.{Change}
@@ -54,7 +60,7 @@ rule-found closed n within = slice_get-get_or (rules_of closed) n (record { body
 pub placed-individuals : (size : ℕ) (rule : RuleForm) (places : List (Option ℕ)) → ArePlaced size rule [] places
     → IsOfIndividuals (range_with_len 0 size) rule (assignment_of places)
 placed-individuals size rule places at v free =
-    Contains-range size (assignment_of places v) (placed size (place_of places v) (at v free (Contains-none v)))
+    Contains-range size (assignment_of places v) (placed size (individual_for places v) (at v free (Contains-none v)))
 
 met-agreed : (s : LogicalStructure) (a b : Assignment) (head : HeadForm) → ((v : ℕ) → IsInHead v head → b v ≡ a v)
     → IsHeadMet s a head → IsHeadMet s b head
@@ -167,7 +173,7 @@ due-assigned size rule rest places d due enough free at v is =
 
 -- the conjuncts that wait for no more can be valued
 pub walk-values : (s : StructureForm) (rule : RuleForm) (room : ScratchForm) (ds : List DueForm) (rest : List ℕ) (places : List (Option ℕ))
-    (at_least : ℕ) → CanTry rule s room → IsWalk rule s ds rest places at_least → All (CanValue s room (length rest) places) ds
+    (at_least : ℕ) → CanTry rule s room → IsTrialStart rule s ds rest places at_least → All (CanValue s room (length rest) places) ds
 walk-values s rule room ds rest places at_least can walk k d within =
     let carried = conjuncts_carry_formulas rule.body
     in record {
@@ -182,7 +188,7 @@ walk-values s rule room ds rest places at_least can walk k d within =
 
 -- and the next that wait for all but one can be valued for all individuals
 pub walk-rows : (s : StructureForm) (rule : RuleForm) (room : ScratchForm) (ds : List DueForm) (v : ℕ) (rest : List ℕ)
-    (places : List (Option ℕ)) (at_least : ℕ) → CanTry rule s room → IsWalk rule s ds (v ∷ rest) places at_least
+    (places : List (Option ℕ)) (at_least : ℕ) → CanTry rule s room → IsTrialStart rule s ds (v ∷ rest) places at_least
     → All (CanRow s room (length rest) v places) ds
 walk-rows s rule room ds v rest places at_least can walk k d within =
     let carried = conjuncts_carry_formulas rule.body
@@ -220,8 +226,8 @@ module _ (s : StructureForm) (rule : RuleForm) (ds : List DueForm) (rest : List 
       ∙ subst (λ e. value (structure_of s) b e.form ≡ Yes) is each))
 
   -- and where those pass that wait for none but these, the walk goes on
-  pub walk-tested : (places : List (Option ℕ)) → IsWalk rule s ds rest places (1 + length rest)
-      → All (PassesAt s (assignment_of places) (length rest)) ds → IsWalk rule s ds rest places (length rest)
+  pub walk-tested : (places : List (Option ℕ)) → IsTrialStart rule s ds rest places (1 + length rest)
+      → All (PassesAt s (assignment_of places) (length rest)) ds → IsTrialStart rule s ds rest places (length rest)
   walk-tested places walk tests = record {
     due = walk.due;
     free = walk.free;
@@ -236,7 +242,7 @@ module _ (s : StructureForm) (rule : RuleForm) (ds : List DueForm) (rest : List 
       at k d within enough (inr ne) = walk.tested k d within (omega (arith, enough, ne))
 
 -- ---- where all conjuncts are Yes the body is
-pub body-yes : (s : StructureForm) (rule : RuleForm) (ds : List DueForm) (places : List (Option ℕ)) → IsWalk rule s ds [] places 0
+pub body-yes : (s : StructureForm) (rule : RuleForm) (ds : List DueForm) (places : List (Option ℕ)) → IsTrialStart rule s ds [] places 0
     → value (structure_of s) (assignment_of places) rule.body ≡ Yes
 body-yes s rule ds places walk =
     ((conjuncts_carry_formulas rule.body).yes (structure_of s) (assignment_of places)).1
@@ -249,28 +255,28 @@ body-yes s rule ds places walk =
 
 -- new gives v the individual u, and all but the variables that are left what the old places give
 abbrev pub IsPut : (rest : List ℕ) (v u : ℕ) (old new : List (Option ℕ)) → Type 0
-IsPut rest v u old new = (w : ℕ) → ¬ Contains rest w → place_of new w ≡ (if w == v then Some u else place_of old w)
+IsPut rest v u old new = (w : ℕ) → ¬ Contains rest w → individual_for new w ≡ (if w == v then Some u else individual_for old w)
 
 module _ (v : ℕ) (rest : List ℕ) where
   not-here : (w : ℕ) → w ≢ v → ¬ Contains rest w → ¬ Contains (v ∷ rest) w
   not-here w ne none (zero, within, e) = ne (sym e)
   not-here w ne none (suc k, within, e) = none (k, omega (arith, within), e)
 
-  pub put-kept : (u : ℕ) (old now new : List (Option ℕ)) → AreKept (v ∷ rest) old now
-      → ((w : ℕ) → place_of new w ≡ (if w == v then Some u else place_of now w)) → IsPut rest v u old new
+  pub put-kept : (u : ℕ) (old now new : List (Option ℕ)) → DifferOnlyAt (v ∷ rest) old now
+      → ((w : ℕ) → individual_for new w ≡ (if w == v then Some u else individual_for now w)) → IsPut rest v u old new
   put-kept u old now new kept is w none = at (cases_eq w v)
     where
-      at : (w ≡ v) ⊎ (w ≢ v) → place_of new w ≡ (if w == v then Some u else place_of old w)
-      at (inl e) = is w ∙ cond-true (w == v) (Some u) (place_of now w) (eq-eqb w v e)
-          ∙ sym (cond-true (w == v) (Some u) (place_of old w) (eq-eqb w v e))
-      at (inr ne) = is w ∙ cond-false (w == v) (Some u) (place_of now w) (ne_eqb w v ne) ∙ kept w (not-here w ne none)
-          ∙ sym (cond-false (w == v) (Some u) (place_of old w) (ne_eqb w v ne))
+      at : (w ≡ v) ⊎ (w ≢ v) → individual_for new w ≡ (if w == v then Some u else individual_for old w)
+      at (inl e) = is w ∙ cond-true (w == v) (Some u) (individual_for now w) (eq-eqb w v e)
+          ∙ sym (cond-true (w == v) (Some u) (individual_for old w) (eq-eqb w v e))
+      at (inr ne) = is w ∙ cond-false (w == v) (Some u) (individual_for now w) (ne_eqb w v ne) ∙ kept w (not-here w ne none)
+          ∙ sym (cond-false (w == v) (Some u) (individual_for old w) (ne_eqb w v ne))
 
-  pub kept-more : (u : ℕ) (old now put-there new : List (Option ℕ)) → AreKept (v ∷ rest) old now
-      → ((w : ℕ) → place_of put-there w ≡ (if w == v then Some u else place_of now w)) → AreKept rest put-there new
-      → AreKept (v ∷ rest) old new
+  pub kept-more : (u : ℕ) (old now put-there new : List (Option ℕ)) → DifferOnlyAt (v ∷ rest) old now
+      → ((w : ℕ) → individual_for put-there w ≡ (if w == v then Some u else individual_for now w)) → DifferOnlyAt rest put-there new
+      → DifferOnlyAt (v ∷ rest) old new
   kept-more u old now put-there new kept is later w none =
-      later w (λ has. none (further has)) ∙ is w ∙ cond-false (w == v) (Some u) (place_of now w) (ne_eqb w v other) ∙ kept w none
+      later w (λ has. none (further has)) ∙ is w ∙ cond-false (w == v) (Some u) (individual_for now w) (ne_eqb w v other) ∙ kept w none
     where
       further : Contains rest w → Contains (v ∷ rest) w
       further (k, within, e) = (suc k, omega (arith, within), e)
@@ -283,14 +289,14 @@ module _ (v : ℕ) (rest : List ℕ) where
   put-agrees u old new is w none = at (cases_eq w v)
     where
       at : (w ≡ v) ⊎ (w ≢ v) → assignment_of new w ≡ put (assignment_of old) v u w
-      at (inl e) = ap (λ o. unwrap_or o 0) (is w none ∙ cond-true (w == v) (Some u) (place_of old w) (eq-eqb w v e))
+      at (inl e) = ap (λ o. unwrap_or o 0) (is w none ∙ cond-true (w == v) (Some u) (individual_for old w) (eq-eqb w v e))
           ∙ sym (put-same (assignment_of old) v u w e)
-      at (inr ne) = ap (λ o. unwrap_or o 0) (is w none ∙ cond-false (w == v) (Some u) (place_of old w) (ne_eqb w v ne))
+      at (inr ne) = ap (λ o. unwrap_or o 0) (is w none ∙ cond-false (w == v) (Some u) (individual_for old w) (ne_eqb w v ne))
           ∙ sym (put-other (assignment_of old) v u w ne)
 
 module _ (s : StructureForm) (rule : RuleForm) (ds : List DueForm) (v : ℕ) (rest : List ℕ) (places new : List (Option ℕ)) (u : ℕ)
-    (walk : IsWalk rule s ds (v ∷ rest) places (1 + length rest)) (within-size : u < s.size) (is-put : IsPut rest v u places new) where
-  pub walk-on : All (PassesAt s (put (assignment_of places) v u) (length rest)) ds → IsWalk rule s ds rest new (length rest)
+    (walk : IsTrialStart rule s ds (v ∷ rest) places (1 + length rest)) (within-size : u < s.size) (is-put : IsPut rest v u places new) where
+  pub walk-on : All (PassesAt s (put (assignment_of places) v u) (length rest)) ds → IsTrialStart rule s ds rest new (length rest)
   walk-on tests = record {
     due = record { are = walk.due.are; due = λ k d within. (walk.due.due k d within).1 };
     free = All-tail IsFreeInHere v rest walk.free;
@@ -305,8 +311,8 @@ module _ (s : StructureForm) (rule : RuleForm) (ds : List DueForm) (v : ℕ) (re
       placed-on w free none = at (cases_eq w v)
         where
           at : (w ≡ v) ⊎ (w ≢ v) → IsAssigned s.size new w
-          at (inl e) = subst (λ o. IsSomeAnd o (λ x. x < s.size)) (sym (is-put w none ∙ cond-true (w == v) (Some u) (place_of places w) (eq-eqb w v e))) within-size
-          at (inr ne) = subst (λ o. IsSomeAnd o (λ x. x < s.size)) (sym (is-put w none ∙ cond-false (w == v) (Some u) (place_of places w) (ne_eqb w v ne)))
+          at (inl e) = subst (λ o. IsSomeAnd o (λ x. x < s.size)) (sym (is-put w none ∙ cond-true (w == v) (Some u) (individual_for places w) (eq-eqb w v e))) within-size
+          at (inr ne) = subst (λ o. IsSomeAnd o (λ x. x < s.size)) (sym (is-put w none ∙ cond-false (w == v) (Some u) (individual_for places w) (ne_eqb w v ne)))
               (walk.placed w free (not-here v rest w ne none))
 
       tested-on : AreYes s (assignment_of new) (length rest) ds
@@ -473,7 +479,7 @@ stays-on s old now new first second = record { bound = second.bound; structure =
 
 pub walk-begins : (s : StructureForm) (rule : RuleForm) (ds : List DueForm) (vars : List Var) (places : List (Option ℕ)) → AreFreeIn rule vars
     → AreDueFrom (conjuncts rule.body) (numbers_of vars) ds
-    → IsWalk rule s ds (numbers_of vars) places (1 + length (numbers_of vars))
+    → IsTrialStart rule s ds (numbers_of vars) places (1 + length (numbers_of vars))
 walk-begins s rule ds vars places free due = record {
   due = due.due;
   free = λ k d within. (free (get_or (numbers_of vars) k d)).0 (k, within, get_or_default (numbers_of vars) k (get_or (numbers_of vars) k d) d within);
@@ -493,7 +499,7 @@ can-try closed n s scratch within ready =
     in record { over = ready.over n none within; plain = ready.plain n none within; fits = ready.fits n none within }
 
 pub found-told : (s : StructureForm) (rule : RuleForm) (vars : List Var) (a : Assignment) (old : List Change) (changes : Vec Change Global) (outcome : Outcome)
-    → AreFreeIn rule vars → old ≡ [] → IsTold s rule (numbers_of vars) a old changes.items outcome → IsFound s rule (answer_of outcome changes)
+    → AreFreeIn rule vars → old ≡ [] → IsTold s rule (numbers_of vars) a old changes.items outcome → IsTrialResult s rule (answer_of outcome changes)
 found-told s rule vars a old changes Impossible free none told = told.tells
 found-told s rule vars a old changes Possible free none told = (
   told.forced (subst (All (IsForced s rule)) (sym none) (All-nil (IsForced s rule))),

@@ -1,9 +1,10 @@
 -- What trying rules makes of a structure, and how far coerce has come.
-use Rattle.std.specs.Prelude.{ℕ, ◌≡◌, ◌≢◌, ◌<◌, Bool, true, false, List, [], length, Option, Some, None, All, slice_get}
+use Rattle.std.specs.Prelude.{ℕ, ◌≡◌, ◌≢◌, ◌<◌, Bool, true, false, List, [], length, Option, Some, None, All}
+use Rattle.std.specs.Prelude.{slice_get}
 use Rattle.tv_model.specs.Program.{RuleForm}
-use Rattle.tv_frame.specs.LogicalStructure.{LogicalStructure}
-use Rattle.tv_frame.specs.Embedding.{IsBelow}
-use Rattle.tv_stable.specs.Stable.{IsStableUnder, IsStable, HasNoStable}
+use Rattle.tv_embedding_laws.specs.LogicalStructure.{LogicalStructure}
+use Rattle.tv_embedding_laws.specs.Embedding.{IsBelow}
+use Rattle.tv_stable_laws.specs.Stable.{IsStableUnder, IsStable, HasNoStable}
 use Rattle.tv_struct.specs.Halves.{half_count}
 use Rattle.tv_struct.specs.StructureForm.{StructureForm, IsStructure, arities_of, structure_of}
 use Rattle.tv_coerce.specs.Coerced.{IsCoercedTable}
@@ -25,9 +26,10 @@ pub record IsSharper (rule : RuleForm) (old new : StructureForm) : Type 0 where
       → IsBelow u (structure_of new)
   pub fewer : half_count new < half_count old
 
--- the rule of that number asks for changes, of which there are some and which each stable structure below has; the
--- structure is stable under the other rules that don't wait
-pub record AreAsked (rules : List RuleForm) (s : StructureForm) (waiting : List Bool) (number : ℕ) (changes : List Change)
+-- the rule of that number asks for changes, of which there are some and which each stable structure below
+-- has; the structure is stable under the other rules that don't wait
+pub record AreAsked (rules : List RuleForm) (s : StructureForm) (waiting : List Bool) (number : ℕ)
+    (changes : List Change)
     : Type 0 where
   pub count : length waiting ≡ length rules
   pub within : number < length rules
@@ -36,8 +38,8 @@ pub record AreAsked (rules : List RuleForm) (s : StructureForm) (waiting : List 
   pub forced : (rule : RuleForm) → slice_get rules number ≡ Some rule → All (IsForced s rule) changes
   pub some : changes ≢ []
 
--- what trying the rules that wait told: the structure is stable, or one asks for changes, or no structure below is
--- stable
+-- what trying the rules that wait told: the structure is stable, or one asks for changes, or no structure
+-- below is stable
 abbrev pub IsAttempted : List RuleForm → StructureForm → (waiting : List Bool) → Option Asked → Type 0
 IsAttempted rules s waiting None = IsStable rules (structure_of s)
 IsAttempted rules s waiting (Some (Changes number changes)) = AreAsked rules s waiting number changes.items
@@ -51,7 +53,8 @@ pub record IsOnTheWay (rules : List RuleForm) (waiting : List Bool) (s t : Struc
   pub arities : arities_of t ≡ arities_of s
   pub mark : t.fresh ≡ s.fresh
   pub below : IsBelow (structure_of t) (structure_of s)
-  pub loses_none : (u : LogicalStructure) → IsStable rules u → IsBelow u (structure_of s) → IsBelow u (structure_of t)
+  pub loses_none : (u : LogicalStructure) → IsStable rules u → IsBelow u (structure_of s)
+      → IsBelow u (structure_of t)
   pub rest : IsStableBut rules waiting t
 
 -- the end: t is what s coerces to, or no stable structure lies below s

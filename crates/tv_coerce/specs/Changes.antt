@@ -2,10 +2,11 @@
 -- individual.
 use Rattle.std.specs.Prelude.{◌≡◌, ◌≢◌, ◌<◌, ◌≤◌, ◌++◌, ◌⊎◌, List, [], ◌∷◌, false, true}
 use Rattle.tv_kleene.specs.declared.K3.TheVariants.{Half}
-use Rattle.tv_frame.specs.LogicalStructure.{LogicalStructure}
-use Rattle.tv_frame.specs.Embedding.{IsBelow}
+use Rattle.tv_embedding_laws.specs.LogicalStructure.{LogicalStructure}
+use Rattle.tv_embedding_laws.specs.Embedding.{IsBelow}
 use Rattle.tv_struct.specs.Halves.{half_count}
-use Rattle.tv_struct.specs.StructureForm.{StructureForm, IsStructure, arities_of, structure_of, table_of, value_at, summary_at, with_value, with_summary}
+use Rattle.tv_struct.specs.StructureForm.{StructureForm, IsStructure, arities_of, structure_of, table_of}
+use Rattle.tv_struct.specs.StructureForm.{value_at, summary_at, with_value, with_summary}
 use Rattle.tv_struct.specs.TableForm.{HasEntry}
 use Rattle.tv_struct.specs.TupleForm.{tuple_of}
 use Rattle.tv_coerce.specs.declared.change.Change.{Change}
@@ -27,8 +28,8 @@ IsOpen s (Value pred tuple k) = (value_at s pred.0 (tuple_of tuple) ≡ Half) ×
 IsOpen s (Ordinary x) = summary_at s x ≡ true
 
 -- the change was put behind the list, or passed over where the list isn't empty
-abbrev pub IsListed : Change → (old new : List Change) → Type 0
-IsListed c old new = (new ≡ old ++ c ∷ []) ⊎ ((new ≡ old) × (old ≢ []))
+abbrev pub IsPushed : Change → (old new : List Change) → Type 0
+IsPushed c old new = (new ≡ old ++ c ∷ []) ⊎ ((new ≡ old) × (old ≢ []))
 
 -- the structure with the change
 abbrev pub changed : StructureForm → Change → StructureForm
@@ -44,6 +45,7 @@ pub record IsLowered (c : Change) (old new : StructureForm) : Type 0 where
   pub mark : new.fresh ≡ old.fresh
   pub below : IsBelow (structure_of new) (structure_of old)
   -- each structure below that has the change stays below
-  pub loses_none : (u : LogicalStructure) → Has c u → IsBelow u (structure_of old) → IsBelow u (structure_of new)
+  pub loses_none : (u : LogicalStructure) → Has c u → IsBelow u (structure_of old)
+      → IsBelow u (structure_of new)
   pub halves : half_count new ≤ half_count old
   pub fewer : IsOpen old c → half_count new < half_count old

@@ -3,8 +3,8 @@ use Rattle.std.specs.Prelude.{◌≡◌, List, Option, Some, None, All}
 use Rattle.tv_model.specs.Heap.{Heap}
 use Rattle.tv_model.specs.Program.{RuleForm}
 use Rattle.tv_model.specs.Rules.{MeetsRule}
-use Rattle.tv_frame.specs.Embedding.{IsHeapOf}
-use Rattle.tv_stable.specs.Stable.{IsGreatestStable, HasNoStable}
+use Rattle.tv_embedding_laws.specs.Embedding.{IsHeapOf}
+use Rattle.tv_stable_laws.specs.Stable.{IsGreatestStable, HasNoStable}
 use Rattle.tv_struct.specs.StructureForm.{StructureForm, IsStructure, structure_of, arities_of}
 
 -- t is the greatest stable structure below s, with its mark
@@ -19,8 +19,8 @@ abbrev pub CoercesTo : List RuleForm → StructureForm → Option StructureForm 
 CoercesTo rules s None = HasNoStable rules (structure_of s)
 CoercesTo rules s (Some t) = IsCoercedTable rules s t
 
--- each heap that meets the rules and embeds in s embeds in the structure found, and where none was found there
--- is no such heap
+-- each heap that meets the rules and embeds in s embeds in the structure found, and where none was found
+-- there is no such heap
 abbrev pub CoercesHeaps : List RuleForm → StructureForm → Option StructureForm → Type 0
 CoercesHeaps rules s None = (h : Heap) → All (MeetsRule h) rules → ¬ IsHeapOf h (structure_of s)
 CoercesHeaps rules s (Some t) =

@@ -5,8 +5,8 @@ use Rattle.tv_model.specs.Form.{Form, IsFree}
 use Rattle.tv_model.specs.Program.{HeadForm}
 use Rattle.tv_model.specs.Rules.{IsInHead}
 use Rattle.tv_model.specs.Truth.{Assignment}
-use Rattle.tv_value.specs.Value.{value}
-use Rattle.tv_stable.specs.Stable.{IsHeadMet}
+use Rattle.tv_eval_laws.specs.Value.{value}
+use Rattle.tv_stable_laws.specs.Stable.{IsHeadMet}
 use Rattle.tv_struct.specs.StructureForm.{StructureForm, structure_of}
 
 -- the formula is Yes under no assignment of individuals
@@ -15,4 +15,5 @@ IsNowhere s f = (a : Assignment) → ((v : ℕ) → IsFree v f → a v < s.size)
 
 -- the head is met under each assignment of individuals
 abbrev pub IsMetEverywhere : StructureForm → HeadForm → Type 0
-IsMetEverywhere s head = (a : Assignment) → ((v : ℕ) → IsInHead v head → a v < s.size) → IsHeadMet (structure_of s) a head
+IsMetEverywhere s head =
+    (a : Assignment) → ((v : ℕ) → IsInHead v head → a v < s.size) → IsHeadMet (structure_of s) a head

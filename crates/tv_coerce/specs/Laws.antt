@@ -4,8 +4,8 @@ use Rattle.tv_model.specs.declared.program.Program.{Program}
 use Rattle.tv_model.specs.Program.{RuleForm, program_of}
 use Rattle.tv_model.specs.Valid.{IsValid}
 use Rattle.tv_rules.specs.Closing.{closed_rules}
-use Rattle.tv_stable.specs.Stable.{IsStable}
-use Rattle.tv_stable.specs.Laws.{IsPlainRule}
+use Rattle.tv_stable_laws.specs.Stable.{IsStable}
+use Rattle.tv_stable_laws.specs.Laws.{IsPlainRule}
 use Rattle.tv_struct.specs.StructureForm.{StructureForm, IsStructure, IsOver, structure_of}
 use Rattle.tv_eval.specs.ScratchForm.{ScratchForm, IsMadeFor}
 use Rattle.tv_coerce.specs.Coerced.{CoercesTo, CoercesHeaps}
@@ -20,7 +20,8 @@ ClosedRulesCanBeTried =
 
 -- what a structure coerces to is one, and a stable structure coerces to itself
 pub record CoercingIsOne (rules : List RuleForm) (s : StructureForm) : Type 0 where
-  pub one : (found other : Option StructureForm) → CoercesTo rules s found → CoercesTo rules s other → found ≡ other
+  pub one : (found other : Option StructureForm) → CoercesTo rules s found → CoercesTo rules s other
+      → found ≡ other
   pub again : IsStable rules (structure_of s) → IsStructure s → (found : Option StructureForm)
       → CoercesTo rules s found → found ≡ Some s
 

@@ -2,9 +2,9 @@
 use Rattle.std.specs.Prelude.{ℕ, ◌≡◌, List, length, Some, All, slice_get}
 use Rattle.tv_model.specs.Program.{HeadForm, HNever, HAtom, HSame, RuleForm}
 use Rattle.tv_model.specs.Valid.{IsFormulaOver, IsVariable}
-use Rattle.tv_stable.specs.Laws.{IsPlainRule}
+use Rattle.tv_stable_laws.specs.Laws.{IsPlainRule}
 use Rattle.tv_struct.specs.StructureForm.{StructureForm, arities_of}
-use Rattle.tv_eval.specs.ScratchForm.{ScratchForm, Fits}
+use Rattle.tv_eval.specs.ScratchForm.{ScratchForm, HasScratchFor}
 
 -- a head over predicates of these arities, with variables in range
 abbrev pub IsHeadOver : (arities : List ℕ) → HeadForm → Type 0
@@ -22,4 +22,4 @@ pub record IsRuleOver (arities : List ℕ) (rule : RuleForm) : Type 0 where
 pub record CanCoerce (rules : List RuleForm) (s : StructureForm) (scratch : ScratchForm) : Type 0 where
   pub over : All (IsRuleOver (arities_of s)) rules
   pub plain : All IsPlainRule rules
-  pub fits : All (λ rule. Fits scratch rule.body s.size) rules
+  pub fits : All (λ rule. HasScratchFor scratch rule.body s.size) rules

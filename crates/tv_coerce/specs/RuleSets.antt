@@ -1,8 +1,9 @@
 -- Sets of numbers of rules.
-use Rattle.std.specs.Prelude.{ℕ, ◌≡◌, ◌≢◌, ◌<◌, ◌⊎◌, ◌↔◌, Bool, true, false, List, length, Some, slice_get, slice_index_or}
+use Rattle.std.specs.Prelude.{ℕ, ◌≡◌, ◌≢◌, ◌<◌, ◌⊎◌, ◌↔◌, Bool, true, false, List, length, Some, slice_get}
+use Rattle.std.specs.Prelude.{slice_index_or}
 use Rattle.std.specs.List.{sum_by}
 use Rattle.tv_model.specs.Program.{RuleForm}
-use Rattle.tv_stable.specs.Stable.{IsStableUnder}
+use Rattle.tv_stable_laws.specs.Stable.{IsStableUnder}
 use Rattle.tv_struct.specs.StructureForm.{StructureForm, structure_of}
 
 -- the number is in the set; a set has a flag for each number
@@ -47,4 +48,5 @@ IsRuleThat IsSo rules n = (rule : RuleForm) × (slice_get rules n ≡ Some rule)
 -- the structure is stable under each rule whose number isn't in the set
 abbrev pub IsStableBut : List RuleForm → List Bool → StructureForm → Type 0
 IsStableBut rules set s =
-    (n : ℕ) (rule : RuleForm) → slice_get rules n ≡ Some rule → ¬ IsIn set n → IsStableUnder (structure_of s) rule
+    (n : ℕ) (rule : RuleForm) → slice_get rules n ≡ Some rule → ¬ IsIn set n
+    → IsStableUnder (structure_of s) rule

@@ -1,8 +1,8 @@
 -- What making changes, one after the other, does to a structure.
 use Rattle.std.specs.Prelude.{ℕ, ◌≡◌, ◌<◌, ◌≤◌, List, All}
 use Rattle.tv_model.specs.Program.{HeadForm}
-use Rattle.tv_frame.specs.LogicalStructure.{LogicalStructure}
-use Rattle.tv_frame.specs.Embedding.{IsBelow}
+use Rattle.tv_embedding_laws.specs.LogicalStructure.{LogicalStructure}
+use Rattle.tv_embedding_laws.specs.Embedding.{IsBelow}
 use Rattle.tv_struct.specs.Halves.{half_count}
 use Rattle.tv_struct.specs.StructureForm.{StructureForm, IsStructure, arities_of, structure_of}
 use Rattle.tv_coerce.specs.declared.change.Change.{Change}

@@ -3,7 +3,8 @@ use Rattle.std.specs.Prelude.{ℕ, ◌≡◌, ◌⊎◌, Bool, true, false, not,
 use Rattle.tv_kleene.specs.declared.K3.{K3}
 use Rattle.tv_kleene.specs.declared.K3.TheVariants.{No, Yes}
 use Rattle.tv_kleene.specs.Kleene.{IsAtMost}
-use Rattle.tv_model.specs.Form.{Form, FZero, FOne, FAtom, FIsNew, FSame, FNot, FAnd, FOr, FIff, FCond, FExists, FForall, FClosure, Mentions}
+use Rattle.tv_model.specs.Form.{Form, FZero, FOne, FAtom, FIsNew, FSame, FNot, FAnd, FOr, FIff, FCond}
+use Rattle.tv_model.specs.Form.{FExists, FForall, FClosure, Mentions}
 use Rattle.tv_model.specs.Program.{HeadForm, HNever, HAtom, HSame, RuleForm}
 use Rattle.tv_rules.specs.Standing.{StandsIn, HasEquality, IsHeadOf, IsEquality, HasTwice, SeesSummaries}
 use Rattle.tv_struct.specs.StructureForm.{StructureForm, value_at, summary_at}
@@ -33,8 +34,8 @@ Shows HNever f = ⊥
 Shows (HAtom flag pred vars) f = Mentions pred f
 Shows (HSame flag v w) f = HasEquality f
 
--- and may so make the value of the formula greater, or smaller; what stands in an equivalence, or is asked by a
--- condition, counts in both directions
+-- and may so make the value of the formula greater, or smaller; what stands in an equivalence, or is asked by
+-- a condition, counts in both directions
 abbrev pub MayMove : HeadForm → (up : Bool) → Form → Type 0
 MayMove head up FZero = ⊥
 MayMove head up FOne = ⊥

@@ -1,6 +1,7 @@
 -- How a rule is tried on a structure: its variables get individuals one after the other, and a conjunct is
 -- tested as soon as all its variables have theirs.
-use Rattle.std.specs.Prelude.{ℕ, ◌≡◌, ◌≢◌, ◌<◌, ◌≤◌, ◌⊎◌, true, false, Bool, List, [], ◌∷◌, length, Option, None, Some, All, Any, Contains, slice_index_or}
+use Rattle.std.specs.Prelude.{ℕ, ◌≡◌, ◌≢◌, ◌<◌, ◌≤◌, ◌⊎◌, true, false, Bool, List, [], ◌∷◌, length, Option}
+use Rattle.std.specs.Prelude.{None, Some, All, Any, Contains, slice_index_or}
 use Rattle.std.specs.declared.vec.Vec.{Vec}
 use Rattle.std.specs.declared.alloc.Global.{Global}
 use Rattle.tv_kleene.specs.declared.K3.TheVariants.{Yes}
@@ -9,22 +10,22 @@ use Rattle.tv_model.specs.Program.{HeadForm, HNever, RuleForm}
 use Rattle.tv_model.specs.Rules.{IsFreeInRule, IsOfIndividuals}
 use Rattle.tv_model.specs.Truth.{Assignment}
 use Rattle.tv_model.specs.Valid.{IsFormulaOver}
-use Rattle.tv_frame.specs.LogicalStructure.{LogicalStructure}
-use Rattle.tv_frame.specs.Embedding.{IsBelow}
-use Rattle.tv_value.specs.Value.{value}
-use Rattle.tv_stable.specs.Stable.{IsHeadMet, IsStableUnder}
-use Rattle.tv_eval.specs.AssignmentForm.{IsAssigned, assignment_of, place_of}
+use Rattle.tv_embedding_laws.specs.LogicalStructure.{LogicalStructure}
+use Rattle.tv_embedding_laws.specs.Embedding.{IsBelow}
+use Rattle.tv_eval_laws.specs.Value.{value}
+use Rattle.tv_stable_laws.specs.Stable.{IsHeadMet, IsStableUnder}
+use Rattle.tv_eval.specs.AssignmentForm.{IsAssigned, assignment_of, individual_for}
 use Rattle.tv_eval.specs.Bound.{IsBound, bound_structure, bound_room}
 use Rattle.tv_eval.specs.Formulas.{AreAssigned}
 use Rattle.tv_eval.specs.declared.evaluator.Evaluator.{Evaluator}
-use Rattle.tv_eval.specs.ScratchForm.{ScratchForm, Fits}
+use Rattle.tv_eval.specs.ScratchForm.{ScratchForm, HasScratchFor}
 use Rattle.tv_model.specs.declared.program.Rule.{Rule}
 use Rattle.tv_rules.specs.Closing.{conjuncts, negated_head}
 use Rattle.tv_rules.specs.Dues.{DueForm, AreDue}
 use Rattle.tv_rules.specs.EntryForms.{rules_of}
-use Rattle.tv_stable.specs.Laws.{IsPlainRule}
+use Rattle.tv_stable_laws.specs.Laws.{IsPlainRule}
 use Rattle.tv_struct.specs.StructureForm.{StructureForm, arities_of, structure_of, summary_at}
-use Rattle.tv_coerce.specs.Changes.{Has, IsListed, IsPlace, IsOpen}
+use Rattle.tv_coerce.specs.Changes.{Has, IsPushed, IsPlace, IsOpen}
 use Rattle.tv_coerce.specs.Ready.{IsRuleOver}
 use Rattle.tv_coerce.specs.Touched.{IsChangeOf}
 use Rattle.tv_coerce.specs.declared.change.Change.{Change}
@@ -50,7 +51,7 @@ pub record IsTrial (trial : Trial) : Type 0 where
 pub record CanTry (rule : RuleForm) (s : StructureForm) (room : ScratchForm) : Type 0 where
   pub over : IsRuleOver (arities_of s) rule
   pub plain : IsPlainRule rule
-  pub fits : Fits room rule.body s.size
+  pub fits : HasScratchFor room rule.body s.size
 
 -- the variables of the rule but those that are left stand for individuals
 abbrev pub ArePlaced : (size : ℕ) → RuleForm → (rest : List ℕ) → List (Option ℕ) → Type 0
@@ -95,9 +96,10 @@ abbrev pub AreYes : StructureForm → Assignment → (at_least : ℕ) → List D
 AreYes s a at_least conjuncts = All (λ d. at_least ≤ d.left → value (structure_of s) a d.form ≡ Yes) conjuncts
 
 -- a conjunct has its place among formulas that can be valued, once it is to be tested
-pub record CanValue (s : StructureForm) (room : ScratchForm) (left : ℕ) (places : List (Option ℕ)) (d : DueForm) : Type 0 where
+pub record CanValue (s : StructureForm) (room : ScratchForm) (left : ℕ) (places : List (Option ℕ))
+    (d : DueForm) : Type 0 where
   pub formula : IsFormulaOver (arities_of s) d.form
-  pub fits : Fits room d.form s.size
+  pub fits : HasScratchFor room d.form s.size
   pub assigned : d.left ≡ left → AreAssigned s.size places d.form
 
 -- a conjunct that waits for all but so many of the variables is Yes, or one isn't
@@ -120,7 +122,8 @@ Tests s a left ds false = Any (FailsAt s a left) ds
 
 -- where a walk over the variables that are left may begin: of the conjuncts, those that wait for no more than
 -- so many last variables are Yes
-pub record IsWalk (rule : RuleForm) (s : StructureForm) (ds : List DueForm) (rest : List ℕ) (places : List (Option ℕ)) (at_least : ℕ)
+pub record IsTrialStart (rule : RuleForm) (s : StructureForm) (ds : List DueForm) (rest : List ℕ)
+    (places : List (Option ℕ)) (at_least : ℕ)
     : Type 0 where
   pub due : AreDue (conjuncts rule.body) rest ds
   pub free : All (λ v. IsFreeInRule v rule) rest
@@ -136,15 +139,16 @@ Tells s rule rest a changes Impossible = IsHopeless s rule
 -- what was noted of the head under one assignment
 abbrev pub IsNoted : StructureForm → Assignment → HeadForm → (old new : List Change) → Outcome → Type 0
 IsNoted s a head old new Possible =
-    ((new ≡ old) × IsNeed s a head Nothing) ⊎ ((c : Change) × IsListed c old new × IsNeed s a head (Put c))
+    ((new ≡ old) × IsNeed s a head Nothing) ⊎ ((c : Change) × IsPushed c old new × IsNeed s a head (Put c))
 IsNoted s a head old new Impossible = (new ≡ old) × IsNeed s a head Never
 
 -- only what the variables that are left stand for may differ
-abbrev pub AreKept : (rest : List ℕ) → (old new : List (Option ℕ)) → Type 0
-AreKept rest old new = (v : ℕ) → ¬ Contains rest v → place_of new v ≡ place_of old v
+abbrev pub DifferOnlyAt : (rest : List ℕ) → (old new : List (Option ℕ)) → Type 0
+DifferOnlyAt rest old new = (v : ℕ) → ¬ Contains rest v → individual_for new v ≡ individual_for old v
 
 -- what a walk over the variables that are left noted and tells
-pub record IsTold (s : StructureForm) (rule : RuleForm) (rest : List ℕ) (a : Assignment) (old new : List Change) (outcome : Outcome)
+pub record IsTold (s : StructureForm) (rule : RuleForm) (rest : List ℕ) (a : Assignment)
+    (old new : List Change) (outcome : Outcome)
     : Type 0 where
   pub forced : All (IsForced s rule) old → All (IsForced s rule) new
   pub grows : length old ≤ length new
@@ -152,9 +156,10 @@ pub record IsTold (s : StructureForm) (rule : RuleForm) (rest : List ℕ) (a : A
 
 -- what trying a rule found: no structure below is stable under it; or what has to change, and where that is
 -- nothing the structure is stable
-abbrev pub IsFound : StructureForm → RuleForm → Option (Vec Change Global) → Type 0
-IsFound s rule None = IsHopeless s rule
-IsFound s rule (Some changes) = All (IsForced s rule) changes.items × (changes.items ≡ [] → IsStableUnder (structure_of s) rule)
+abbrev pub IsTrialResult : StructureForm → RuleForm → Option (Vec Change Global) → Type 0
+IsTrialResult s rule None = IsHopeless s rule
+IsTrialResult s rule (Some changes) =
+    All (IsForced s rule) changes.items × (changes.items ≡ [] → IsStableUnder (structure_of s) rule)
 
 abbrev pub answer_of : Outcome → Vec Change Global → Option (Vec Change Global)
 answer_of Possible changes = Some changes

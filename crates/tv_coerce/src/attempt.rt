@@ -34,8 +34,8 @@ fn has_some(changes: &[Change]) -> bool
     }
 }
 
-/// Takes rules out of the set and tries them, until one asks for something. The evaluator keeps what it closes for
-/// the rules that follow.
+/// Takes rules out of the set and tries them, until one asks for something. The evaluator keeps what it
+/// closes for the rules that follow.
 fn attempt_by<'a>(
     alloc: Global,
     closed: &'a Closed,

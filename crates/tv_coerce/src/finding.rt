@@ -4,7 +4,7 @@ ghost use Rattle.std.specs.Prelude.{◌≡◌, ◌<◌, length, IfOk};
 ghost use Rattle.tv_eval.specs.Bound.{IsBound, bound_room, bound_structure};
 ghost use Rattle.tv_rules.specs.EntryForms.{rules_of};
 ghost use Rattle.tv_coerce.specs.Ready.{CanCoerce};
-ghost use Rattle.tv_coerce.specs.Trying.{IsFound, StaysBound, answer_of, rule_at};
+ghost use Rattle.tv_coerce.specs.Trying.{IsTrialResult, StaysBound, answer_of, rule_at};
 
 use crate::change::Change;
 use crate::idle::{has_nowhere, is_met_everywhere};
@@ -27,7 +27,7 @@ pub(crate) fn find<'a>(
     requires ready { CanCoerce (rules_of closed.now) s.now (bound_room evaluator.old) }
     requires bound { IsBound evaluator.old }
     requires structure { bound_structure evaluator.old ≡ s.now }
-    ensures found { IfOk result (IsFound s.now (rule_at closed.now number)) }
+    ensures found { IfOk result (IsTrialResult s.now (rule_at closed.now number)) }
     ensures stays { StaysBound s.now evaluator.old evaluator.new }
 {
     let head = closed.head(number);
@@ -49,7 +49,7 @@ fn find_by_walk<'a>(
     requires ready { CanCoerce (rules_of closed.now) s.now (bound_room evaluator.old) }
     requires bound { IsBound evaluator.old }
     requires structure { bound_structure evaluator.old ≡ s.now }
-    ensures found { IfOk result (IsFound s.now (rule_at closed.now number)) }
+    ensures found { IfOk result (IsTrialResult s.now (rule_at closed.now number)) }
     ensures stays { StaysBound s.now evaluator.old evaluator.new }
 {
     let waits = closed.waits(number);

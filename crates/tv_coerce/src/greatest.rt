@@ -1,7 +1,7 @@
 //! The greatest stable structure below a structure.
 
 ghost use Rattle.std.specs.Prelude.{◌≡◌, Some, length, IfOk};
-ghost use Rattle.tv_stable.specs.Stable.{IsStable};
+ghost use Rattle.tv_stable_laws.specs.Stable.{IsStable};
 ghost use Rattle.tv_struct.specs.StructureForm.{structure_of};
 ghost use Rattle.tv_rules.specs.EntryForms.{rules_of};
 ghost use Rattle.tv_coerce.specs.Attempts.{IsEnd, IsOnTheWay};
@@ -45,8 +45,8 @@ fn settle(
 }
 
 /// The greatest structure below `s` that is stable under the closed rules, with the mark of `s`: each stable
-/// structure below `s` lies below it. `None` where no stable structure lies below `s`. Each heap, of any size,
-/// that meets the rules and embeds in `s` embeds in the answer. The only error is want of memory.
+/// structure below `s` lies below it. `None` where no stable structure lies below `s`. Each heap, of any
+/// size, that meets the rules and embeds in `s` embeds in the answer. The only error is want of memory.
 pub fn coerce(
     alloc: Global,
     closed: &Closed,
@@ -56,15 +56,16 @@ pub fn coerce(
     requires { CanCoerce (rules_of closed.now) s.now scratch.old }
     ensures exact { IfOk result (CoercesTo (rules_of closed.now) s.now) }
     ensures heaps { IfOk result (CoercesHeaps (rules_of closed.now) s.now) }
-    ensures again { IsStable (rules_of closed.now) (structure_of s.now) → IfOk result (λ found. found ≡ Some s.now) }
+    ensures again { IsStable (rules_of closed.now) (structure_of s.now)
+        → IfOk result (λ found. found ≡ Some s.now) }
     ensures scratch { scratch.new ≡ scratch.old }
 {
     let all = RuleSet::of_all(alloc, closed)?;
     coerce_waiting(alloc, closed, s, &all, scratch)
 }
 
-/// What `coerce` gives, where `s` is known to be stable under each rule whose number isn't waiting: only those
-/// that wait are tried, and those that see what these change.
+/// What `coerce` gives, where `s` is known to be stable under each rule whose number isn't waiting: only
+/// those that wait are tried, and those that see what these change.
 pub fn coerce_waiting(
     alloc: Global,
     closed: &Closed,
@@ -77,7 +78,8 @@ pub fn coerce_waiting(
     requires rest { IsStableBut (rules_of closed.now) waiting.now s.now }
     ensures exact { IfOk result (CoercesTo (rules_of closed.now) s.now) }
     ensures heaps { IfOk result (CoercesHeaps (rules_of closed.now) s.now) }
-    ensures again { IsStable (rules_of closed.now) (structure_of s.now) → IfOk result (λ found. found ≡ Some s.now) }
+    ensures again { IsStable (rules_of closed.now) (structure_of s.now)
+        → IfOk result (λ found. found ≡ Some s.now) }
     ensures scratch { scratch.new ≡ scratch.old }
 {
     let waiting = waiting.copy(alloc)?;

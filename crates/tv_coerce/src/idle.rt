@@ -5,7 +5,7 @@ ghost use Rattle.tv_model.specs.Form.{form_of, vars_of, FAtom, FNot};
 ghost use Rattle.tv_model.specs.Program.{head_of, HAtom};
 ghost use Rattle.tv_model.specs.Valid.{IsFormulaOver};
 ghost use Rattle.tv_rules.specs.Dues.{due_of, dues_in};
-ghost use Rattle.tv_stable.proofs.Heads.{wanted};
+ghost use Rattle.tv_stable_laws.proofs.Heads.{wanted};
 ghost use Rattle.tv_struct.specs.StructureForm.{arities_of};
 ghost use Rattle.tv_coerce.specs.Idle.{IsMetEverywhere, IsNowhere};
 ghost use Rattle.tv_coerce.specs.Ready.{IsHeadOver};

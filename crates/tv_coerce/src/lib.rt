@@ -1,5 +1,5 @@
 //! Coerce: the greatest stable structure below a structure, in which rules have made values definite (Sagiv,
-//! Reps and Wilhelm 2002, section 6.4). What is stable is defined in `tv_stable`.
+//! Reps and Wilhelm 2002, section 6.4). What is stable is defined in `tv_stable_laws`.
 #![tactic(auto)]
 
 mod attempt;

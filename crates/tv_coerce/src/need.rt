@@ -5,8 +5,8 @@ ghost use Rattle.tv_kleene.specs.declared.K3.TheVariants.{No, Half, Yes};
 ghost use Rattle.tv_model.specs.Form.{vars_of};
 ghost use Rattle.tv_model.specs.Program.{head_of, HAtom, HSame};
 ghost use Rattle.tv_model.specs.Rules.{IsInHead};
-ghost use Rattle.tv_stable.specs.Stable.{IsTwice};
-ghost use Rattle.tv_stable.proofs.Heads.{wanted};
+ghost use Rattle.tv_stable_laws.specs.Stable.{IsTwice};
+ghost use Rattle.tv_stable_laws.proofs.Heads.{wanted};
 ghost use Rattle.tv_eval.specs.AssignmentForm.{IsAssigned, assignment_of};
 ghost use Rattle.tv_struct.specs.StructureForm.{arities_of, summary_at, structure_of};
 ghost use Rattle.tv_struct.specs.TupleForm.{tuple_of};
@@ -59,7 +59,8 @@ fn is_same_variable(v: Var, w: Var) -> bool
 /// Whether the terms are one variable twice, which stands for a summary.
 fn is_on_summary(s: &Structure, terms: Terms, a: &Assignment) -> bool
     requires { (v : ℕ) → IsInHead v (HAtom true 0 (vars_of terms)) → IsAssigned s.now.size a.now v }
-    ensures { MatchBool result (IsOnSummary s.now (assignment_of a.now) (vars_of terms)) (¬ IsOnSummary s.now (assignment_of a.now) (vars_of terms)) }
+    ensures { MatchBool result (IsOnSummary s.now (assignment_of a.now) (vars_of terms))
+        (¬ IsOnSummary s.now (assignment_of a.now) (vars_of terms)) }
 {
     match terms {
         Terms::Zero | Terms::One(_) => false,
@@ -71,7 +72,8 @@ fn is_on_summary(s: &Structure, terms: Terms, a: &Assignment) -> bool
 #[tactic(auto, using(crate::proofs::Heads::atom_never, crate::proofs::Heads::atom_put, crate::proofs::Heads::change_of_atom, crate::proofs::Heads::wanted_is_known))]
 fn need_of_atom(s: &Structure, flag: bool, p: PredId, terms: Terms, a: &Assignment) -> Need
     requires head { IsHeadOver (arities_of s.now) (HAtom flag p.0 (vars_of terms)) }
-    requires assigned { (v : ℕ) → IsInHead v (HAtom flag p.0 (vars_of terms)) → IsAssigned s.now.size a.now v }
+    requires assigned { (v : ℕ) → IsInHead v (HAtom flag p.0 (vars_of terms))
+        → IsAssigned s.now.size a.now v }
     ensures { IsNeed s.now (assignment_of a.now) (HAtom flag p.0 (vars_of terms)) result }
 {
     let t = tuple_at(a, terms);

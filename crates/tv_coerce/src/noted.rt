@@ -1,7 +1,7 @@
 //! Changes that were asked for, each noted once.
 
 ghost use Rattle.std.specs.Prelude.{◌≡◌, ◌≢◌, [], IsTrue, OnOk};
-ghost use Rattle.tv_coerce.specs.Changes.{IsListed};
+ghost use Rattle.tv_coerce.specs.Changes.{IsPushed};
 
 use crate::change::Change;
 use std::alloc::{AllocError, Global};
@@ -56,7 +56,7 @@ impl Noted {
 
     /// Notes the change, unless it is known to stand there.
     pub fn add(&mut self, change: Change) -> Result<(), AllocError>
-        ensures { OnOk result (IsListed change self.old.list.items self.new.list.items) }
+        ensures { OnOk result (IsPushed change self.old.list.items self.new.list.items) }
     {
         self.asked = self.asked.wrapping_add(1);
         let number = number_of(change, self.size);

@@ -1,6 +1,7 @@
 //! The individuals that a variable of a rule has to be tried with, found by rows of values.
 
-ghost use Rattle.std.specs.Prelude.{◌≡◌, ◌≢◌, ◌<◌, ◌≤◌, ◌+◌, ℕ, ◌∷◌, length, slice_index_or, All, MatchOption};
+ghost use Rattle.std.specs.Prelude.{◌≡◌, ◌≢◌, ◌<◌, ◌≤◌, ◌+◌, ℕ, ◌∷◌, length, slice_index_or, All};
+ghost use Rattle.std.specs.Prelude.{MatchOption};
 ghost use Rattle.tv_kleene.specs.declared.K3.TheVariants.{No, Yes};
 ghost use Rattle.tv_model.specs.Truth.{put};
 ghost use Rattle.tv_eval.specs.AssignmentForm.{assignment_of};
@@ -8,7 +9,7 @@ ghost use Rattle.tv_eval.specs.Bound.{IsBound, bound_structure, bound_room};
 ghost use Rattle.tv_rules.specs.EntryForms.{numbers_of};
 ghost use Rattle.tv_coerce.specs.ByRows.{ArePlaces, CanRow, IsBodyRow, IsLackingRow, IsNarrowed, IsSkipped};
 ghost use Rattle.tv_rules.specs.Dues.{IsDue, due_of, dues_in};
-ghost use Rattle.tv_coerce.specs.Trying.{ArePlaced, CanTry, IsTrial, IsWalk, StaysBound, trial_rule};
+ghost use Rattle.tv_coerce.specs.Trying.{ArePlaced, CanTry, IsTrial, IsTrialStart, StaysBound, trial_rule};
 
 use crate::trial::{Trial, is_settled};
 use tv_eval::{Assignment, Evaluator};
@@ -21,12 +22,12 @@ use tv_struct::Structure;
 /// Rows of values for all individuals that a variable may stand for: of what has to be `Yes`, and of what
 /// mustn't be `No`, for the individual to be tried.
 #[derive(Clone, Copy, Debug)]
-pub(crate) struct Places {
+pub(crate) struct Candidates {
     body: Row,
     lacking: Row,
 }
 
-impl Places {
+impl Candidates {
     /// The first individual from `from` on that has to be tried.
     pub fn next(&self, from: u32) -> Option<u32>
         requires from { from ≤ length self.now.body }
@@ -114,7 +115,8 @@ fn lacking<'a>(
     requires structure { bound_structure evaluator.old ≡ trial.now.structure.now }
     requires ready { CanTry (trial_rule trial.now) trial.now.structure.now (bound_room evaluator.old) }
     requires variable { v.0 < 32 }
-    requires placed { ArePlaced trial.now.structure.now.size (trial_rule trial.now) (v.0 ∷ numbers_of rest.now) a.now }
+    requires placed { ArePlaced trial.now.structure.now.size (trial_rule trial.now)
+        (v.0 ∷ numbers_of rest.now) a.now }
     requires due { IsDue (v.0 ∷ numbers_of rest.now) (due_of trial.now.denied) }
     ensures row { IsLackingRow trial.now.structure.now (trial_rule trial.now) (numbers_of rest.now) v.0
         (assignment_of a.now) result }
@@ -134,25 +136,26 @@ pub(crate) fn places_for<'a>(
     rest: &[Var],
     v: Var,
     a: &Assignment,
-) -> Places
+) -> Candidates
     requires trial { IsTrial trial.now }
     requires bound { IsBound evaluator.old }
     requires structure { bound_structure evaluator.old ≡ trial.now.structure.now }
     requires ready { CanTry (trial_rule trial.now) trial.now.structure.now (bound_room evaluator.old) }
-    requires walk { IsWalk (trial_rule trial.now) trial.now.structure.now (dues_in conjuncts.now)
+    requires walk { IsTrialStart (trial_rule trial.now) trial.now.structure.now (dues_in conjuncts.now)
         (v.0 ∷ numbers_of rest.now) a.now (1 + length (numbers_of rest.now)) }
     requires due { IsDue (v.0 ∷ numbers_of rest.now) (due_of trial.now.denied) }
-    ensures places { ArePlaces trial.now.structure.now (trial_rule trial.now) (dues_in conjuncts.now) (numbers_of rest.now)
+    ensures places { ArePlaces trial.now.structure.now (trial_rule trial.now) (dues_in conjuncts.now)
+        (numbers_of rest.now)
         v.0 (assignment_of a.now) result }
     ensures stays { StaysBound trial.now.structure.now evaluator.old evaluator.new }
 {
     let body = body_row(trial.structure, evaluator, conjuncts, rest.len(), v, a);
     if !body.has_yes() {
-        return Places {
+        return Candidates {
             body,
             lacking: body,
         };
     }
     let lacking = lacking(trial, evaluator, rest, v, a);
-    Places { body, lacking }
+    Candidates { body, lacking }
 }

@@ -1,6 +1,7 @@
 //! Sets of numbers of rules.
 
-ghost use Rattle.std.specs.Prelude.{◌≡◌, ◌<◌, ◌≤◌, ◌≢◌, ℕ, false, true, length, replicate, slice_index_or, slice_set, All, Contains, IfOk, IsTrue, ◌↔◌, MatchOption};
+ghost use Rattle.std.specs.Prelude.{◌≡◌, ◌<◌, ◌≤◌, ◌≢◌, ℕ, false, true, length, replicate, slice_index_or};
+ghost use Rattle.std.specs.Prelude.{slice_set, All, Contains, IfOk, IsTrue, ◌↔◌, MatchOption};
 ghost use Rattle.tv_model.specs.Program.{head_of};
 ghost use Rattle.tv_rules.specs.EntryForms.{rules_of};
 ghost use Rattle.tv_rules.specs.Standing.{StandsIn, SeesSummaries};
@@ -10,8 +11,8 @@ ghost use Rattle.tv_coerce.specs.Touched.{IsSeen, Sees};
 use crate::seen::{sees, watching};
 use std::alloc::{AllocError, Global};
 use std::marker::Model;
-use tv_flags::Flags;
 use tv_model::{Head, PredId};
+use tv_row::Flags;
 use tv_rules::Closed;
 
 /// A set of numbers of closed rules, seen by contracts as a flag for each number.
@@ -117,7 +118,8 @@ impl RuleSet {
     fn insert_seeing(&mut self, closed: &Closed, head: Head, number: usize)
         requires count { length self.old ≡ length (rules_of closed.now) }
         requires within { number < length self.old }
-        ensures { HasAtLeast (IsSeen (head_of head) (rules_of closed.now) (λ n. n ≡ number)) self.old self.new }
+        ensures { HasAtLeast
+            (IsSeen (head_of head) (rules_of closed.now) (λ n. n ≡ number)) self.old self.new }
     {
         if self.contains(number) {
             return;
@@ -132,7 +134,8 @@ impl RuleSet {
     fn insert_all_seeing(&mut self, closed: &Closed, head: Head, numbers: &[usize])
         requires count { length self.old ≡ length (rules_of closed.now) }
         requires within { All (λ n. n < length self.old) numbers.now }
-        ensures { HasAtLeast (IsSeen (head_of head) (rules_of closed.now) (Contains numbers.now)) self.old self.new }
+        ensures { HasAtLeast
+            (IsSeen (head_of head) (rules_of closed.now) (Contains numbers.now)) self.old self.new }
     {
         match numbers {
             [] => {}

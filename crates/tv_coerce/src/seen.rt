@@ -128,7 +128,8 @@ fn sees_twice(head: Head, other: Head) -> bool
 /// Whether the changes that the head asks for may make the rule unmet.
 pub(crate) fn sees(closed: &Closed, number: usize, head: Head) -> bool
     requires { number < length (rules_of closed.now) }
-    ensures { (rule : RuleForm) → slice_get (rules_of closed.now) number ≡ Some rule → Sees (head_of head) rule
+    ensures { (rule : RuleForm) → slice_get (rules_of closed.now) number ≡ Some rule
+        → Sees (head_of head) rule
         → IsTrue result }
 {
     let waits = closed.waits(number);

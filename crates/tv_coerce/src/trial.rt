@@ -1,7 +1,8 @@
 //! A rule is tried on a structure: its variables get individuals one after the other, and what has to change
 //! is noted.
 
-ghost use Rattle.std.specs.Prelude.{◌≡◌, ◌≢◌, ◌<◌, ◌≤◌, ◌+◌, ℕ, [], ◌∷◌, length, map, All, IfOk, Contains, IsTrue, MatchBool};
+ghost use Rattle.std.specs.Prelude.{◌≡◌, ◌≢◌, ◌<◌, ◌≤◌, ◌+◌, ℕ, [], ◌∷◌, length, map, All, IfOk, Contains};
+ghost use Rattle.std.specs.Prelude.{IsTrue, MatchBool};
 ghost use Rattle.tv_eval.specs.AssignmentForm.{assignment_of};
 ghost use Rattle.tv_eval.specs.Bound.{IsBound, bound_structure, bound_room};
 ghost use Rattle.tv_model.specs.Rules.{IsInHead};
@@ -10,7 +11,9 @@ ghost use Rattle.tv_struct.specs.StructureForm.{arities_of};
 ghost use Rattle.tv_coerce.specs.Ready.{IsRuleOver};
 ghost use Rattle.tv_kleene.specs.declared.K3.TheVariants.{Yes};
 ghost use Rattle.tv_rules.specs.Dues.{IsDue, due_of, dues_in};
-ghost use Rattle.tv_coerce.specs.Trying.{AreKept, ArePlaced, CanTry, CanValue, FailsAt, IsNoted, IsTold, IsTrial, IsTried, IsWalk, PassesAt, StaysBound, Tests, trial_rule};
+ghost use Rattle.tv_coerce.specs.Trying.{DifferOnlyAt, ArePlaced, CanTry, CanValue, FailsAt, IsNoted, IsTold};
+ghost use Rattle.tv_coerce.specs.Trying.{IsTrial, IsTried, IsTrialStart, PassesAt, StaysBound, Tests};
+ghost use Rattle.tv_coerce.specs.Trying.{trial_rule};
 
 use crate::change::Need;
 use crate::need::need;
@@ -51,7 +54,8 @@ fn passes<'a>(
     requires bound { IsBound evaluator.old }
     requires structure { bound_structure evaluator.old ≡ s.now }
     requires value { CanValue s.now (bound_room evaluator.old) left a.now (due_of due.now) }
-    ensures passes { MatchBool result (PassesAt s.now (assignment_of a.now) left (due_of due.now)) (FailsAt s.now (assignment_of a.now) left (due_of due.now)) }
+    ensures passes { MatchBool result (PassesAt s.now (assignment_of a.now) left (due_of due.now))
+        (FailsAt s.now (assignment_of a.now) left (due_of due.now)) }
     ensures stays { StaysBound s.now evaluator.old evaluator.new }
 {
     due.left != left || is_yes(evaluator.value(due.formula, a))
@@ -90,7 +94,8 @@ fn note(trial: &Trial, a: &Assignment, noted: &mut Noted) -> Result<Outcome, All
     requires number { trial.now.number < length (rules_of trial.now.closed.now) }
     requires head { IsRuleOver (arities_of trial.now.structure.now) (trial_rule trial.now) }
     requires placed { ArePlaced trial.now.structure.now.size (trial_rule trial.now) [] a.now }
-    ensures noted { IfOk result (IsNoted trial.now.structure.now (assignment_of a.now) (trial_rule trial.now).head
+    ensures noted { IfOk result
+        (IsNoted trial.now.structure.now (assignment_of a.now) (trial_rule trial.now).head
         noted.old.list.items noted.new.list.items) }
 {
     match need(trial.structure, trial.closed.head(trial.number), a) {
@@ -121,8 +126,10 @@ fn needs_nothing(trial: &Trial, rest: &[Var], a: &Assignment) -> bool
     requires trial { IsTrial trial.now }
     requires due { IsDue (numbers_of rest.now) (due_of trial.now.denied) }
     requires head { IsRuleOver (arities_of trial.now.structure.now) (trial_rule trial.now) }
-    requires placed { ArePlaced trial.now.structure.now.size (trial_rule trial.now) (numbers_of rest.now) a.now }
-    ensures tried { IsTrue result → IsTried trial.now.structure.now (trial_rule trial.now) (numbers_of rest.now)
+    requires placed { ArePlaced trial.now.structure.now.size (trial_rule trial.now)
+        (numbers_of rest.now) a.now }
+    ensures tried { IsTrue result
+        → IsTried trial.now.structure.now (trial_rule trial.now) (numbers_of rest.now)
         (assignment_of a.now) }
 {
     if !is_settled(trial, rest) {
@@ -148,12 +155,14 @@ fn walk<'a>(
     requires bound { IsBound evaluator.old }
     requires structure { bound_structure evaluator.old ≡ trial.now.structure.now }
     requires ready { CanTry (trial_rule trial.now) trial.now.structure.now (bound_room evaluator.old) }
-    requires walk { IsWalk (trial_rule trial.now) trial.now.structure.now (dues_in conjuncts.now) (numbers_of rest.now) a.old
+    requires walk { IsTrialStart (trial_rule trial.now) trial.now.structure.now (dues_in conjuncts.now)
+        (numbers_of rest.now) a.old
         (length (numbers_of rest.now)) }
     requires due { IsDue (numbers_of rest.now) (due_of trial.now.denied) }
-    ensures told { IfOk result (IsTold trial.now.structure.now (trial_rule trial.now) (numbers_of rest.now) (assignment_of a.old)
+    ensures told { IfOk result
+        (IsTold trial.now.structure.now (trial_rule trial.now) (numbers_of rest.now) (assignment_of a.old)
         noted.old.list.items noted.new.list.items) }
-    ensures keeps { AreKept (numbers_of rest.now) a.old a.new }
+    ensures keeps { DifferOnlyAt (numbers_of rest.now) a.old a.new }
     ensures stays { StaysBound trial.now.structure.now evaluator.old evaluator.new }
 {
     if needs_nothing(trial, rest, a) {
@@ -197,10 +206,12 @@ pub(crate) fn walk_all<'a>(
     requires bound { IsBound evaluator.old }
     requires structure { bound_structure evaluator.old ≡ trial.now.structure.now }
     requires ready { CanTry (trial_rule trial.now) trial.now.structure.now (bound_room evaluator.old) }
-    requires walk { IsWalk (trial_rule trial.now) trial.now.structure.now (dues_in conjuncts.now) (numbers_of vars.now) a.old
+    requires walk { IsTrialStart (trial_rule trial.now) trial.now.structure.now (dues_in conjuncts.now)
+        (numbers_of vars.now) a.old
         (1 + length (numbers_of vars.now)) }
     requires due { IsDue (numbers_of vars.now) (due_of trial.now.denied) }
-    ensures told { IfOk result (IsTold trial.now.structure.now (trial_rule trial.now) (numbers_of vars.now) (assignment_of a.old)
+    ensures told { IfOk result
+        (IsTold trial.now.structure.now (trial_rule trial.now) (numbers_of vars.now) (assignment_of a.old)
         noted.old.list.items noted.new.list.items) }
     ensures stays { StaysBound trial.now.structure.now evaluator.old evaluator.new }
 {

@@ -1,5 +1,6 @@
 -- Each choice of core predicates has exactly one concrete heap.
-use Rattle.std.proofs.Common.{ℕ, ◌≡◌, ◌<◌, ◌⊎◌, ◌↔◌, ◌∙◌, List, Some, slice_get, inl, inr, ⊎_elim, refl, sym, subst, Contains, arith, zero, suc}
+use Rattle.std.proofs.Common.{ℕ, ◌≡◌, ◌<◌, ◌⊎◌, ◌↔◌, ◌∙◌, List, Some, slice_get, inl, inr, ⊎_elim, refl, sym}
+use Rattle.std.proofs.Common.{subst, Contains, arith, zero, suc}
 use Rattle.tv_model.specs.Form.{Form, Mentions}
 use Rattle.tv_model.specs.Heap.{Heap, Holds, IsTuple}
 use Rattle.tv_model.specs.Program.{ProgramForm, PredForm, KindForm, KCore, KDefined}

@@ -1,10 +1,13 @@
 -- Truth in a heap is decided: its parts are, and individuals and tuples are finitely many.
 use Rattle.std.proofs.Common.{ℕ, List, [], ◌∷◌, map, inl, inr, Contains}
 use Rattle.std.proofs.lemmas.Bool.{cases_eq}
-use Rattle.tv_model.specs.Form.{Form, FZero, FOne, FAtom, FIsNew, FSame, FNot, FAnd, FOr, FIff, FCond, FExists, FForall, FClosure}
+use Rattle.tv_model.specs.Form.{Form, FZero, FOne, FAtom, FIsNew, FSame, FNot, FAnd, FOr, FIff, FCond}
+use Rattle.tv_model.specs.Form.{FExists, FForall, FClosure}
 use Rattle.tv_model.specs.Heap.{Heap, extent}
 use Rattle.tv_model.specs.Truth.{Assignment, Truth, put, ClosureEdge}
-use Rattle.tv_model.proofs.Decided.{IsDecided, not-decided, and-decided, or-decided, iff-decided, exists-decided, forall-decided, Contains-decided, tuple-decided, mark-decided, same-decided}
+use Rattle.tv_model.proofs.Decided.{IsDecided, not-decided, and-decided, or-decided, iff-decided}
+use Rattle.tv_model.proofs.Decided.{exists-decided, forall-decided, Contains-decided, tuple-decided}
+use Rattle.tv_model.proofs.Decided.{mark-decided, same-decided}
 use Rattle.tv_model.proofs.Walks.{Walks}
 use Rattle.tv_concrete.specs.Reach.{Reaches}
 use Rattle.tv_concrete.proofs.Walks.{Walks-from_Reaches, Reaches-from_Walks}

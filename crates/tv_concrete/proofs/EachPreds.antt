@@ -1,5 +1,7 @@
 -- A loop over the predicates that answers false at the first that fails, and else true.
-use Rattle.std.proofs.Common.{ℕ, ◌≡◌, ◌<◌, ◌≤◌, ◌+◌, ◌↔◌, List, [], ◌∷◌, length, get_or, map, IsTrue, true, false, refl, arith, subst, sym, suc, zero, Some, None, slice_get, ◌⊎◌, inl, inr, ◌∙◌}
+use Rattle.std.proofs.Common.{ℕ, ◌≡◌, ◌<◌, ◌≤◌, ◌+◌, ◌↔◌, List, [], ◌∷◌, length, get_or, map, IsTrue, true}
+use Rattle.std.proofs.Common.{false, refl, arith, subst, sym, suc, zero, Some, None, slice_get, ◌⊎◌, inl, inr}
+use Rattle.std.proofs.Common.{◌∙◌}
 use Rattle.std.proofs.lemmas.Bool.{false≢true}
 use Rattle.std.proofs.lemmas.List.{get_or_default}
 use Rattle.tv_model.specs.declared.program.Pred.{Pred}

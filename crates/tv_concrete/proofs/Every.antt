@@ -1,9 +1,11 @@
 -- A loop that answers false at the first element that fails, and else true.
-use Rattle.std.proofs.Common.{ℕ, ◌≡◌, ◌<◌, ◌≤◌, ◌+◌, ◌↔◌, List, length, get_or, All, IsTrue, true, false, Bool, refl, arith, subst, sym, [], ◌∷◌, map}
+use Rattle.std.proofs.Common.{ℕ, ◌≡◌, ◌<◌, ◌≤◌, ◌+◌, ◌↔◌, List, length, get_or, All, IsTrue, true, false}
+use Rattle.std.proofs.Common.{Bool, refl, arith, subst, sym, [], ◌∷◌, map}
 use Rattle.std.specs.List.{AllWithin}
 use mathlib.Core.Bool.{beq}
 use Rattle.std.proofs.lemmas.Bool.{false≢true}
-use Rattle.std.proofs.lemmas.List.Elements.{All-nil, All-cons, All-head, All-tail, All-map, AllWithin-more, AllWithin-none, All-from_all_within, All-get_or, at_read}
+use Rattle.std.proofs.lemmas.List.Elements.{All-nil, All-cons, All-head, All-tail, All-map, AllWithin-more}
+use Rattle.std.proofs.lemmas.List.Elements.{AllWithin-none, All-from_all_within, All-get_or, at_read}
 
 pub every-none : {X : Type 0} (P : X → Type 0) (xs : List X) → AllWithin P xs 0 0
 every-none P xs = AllWithin-none P xs 0

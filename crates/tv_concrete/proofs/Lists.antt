@@ -1,6 +1,7 @@
 -- Lists of tuples and of values, as the programs make them.
 use Rattle.std.proofs.Common.{ℕ, ◌≡◌, ◌<◌, zero, suc, List, [], ◌∷◌, length, map, sym, refl, ap, arith}
-use Rattle.std.proofs.Common.{slice_index, replicate, ◌≤◌, ◌-◌, ◌+◌, ◌++◌, ◌∙◌, flat_map, take, take_all, drop, get_or, append-nil, append_assoc, add-one}
+use Rattle.std.proofs.Common.{slice_index, replicate, ◌≤◌, ◌-◌, ◌+◌, ◌++◌, ◌∙◌, flat_map, take, take_all}
+use Rattle.std.proofs.Common.{drop, get_or, append-nil, append_assoc, add-one}
 use Rattle.tv_concrete.specs.Tuples.{tuples_of}
 use Rattle.tv_model.specs.Truth.{Assignment, put, put_all}
 

@@ -1,11 +1,13 @@
 -- The rules of the properties, one by one.
-use Rattle.std.proofs.Common.{ℕ, ◌≡◌, ◌↔◌, ◌++◌, List, [], ◌∷◌, All, Bool, true, false, IsTrue, sym, subst, Result, Ok, Err, IfOk}
+use Rattle.std.proofs.Common.{ℕ, ◌≡◌, ◌↔◌, ◌++◌, List, [], ◌∷◌, All, Bool, true, false, IsTrue, sym, subst}
+use Rattle.std.proofs.Common.{Result, Ok, Err, IfOk}
 use Rattle.std.proofs.lemmas.Bool.{false≢true}
 use Rattle.std.proofs.lemmas.List.Elements.{All-nil, All-cons, All-head, All-tail, All-append}
 use Rattle.tv_model.specs.declared.program.Props.{Props}
 use Rattle.tv_model.specs.Heap.{Heap}
 use Rattle.tv_model.specs.Program.{RuleForm}
-use Rattle.tv_model.specs.Rules.{MeetsRule, declared_rule, property_rules, unique_rule, function_rule, invfunction_rule, transitive_rule, reflexive_rule, symmetric_rule}
+use Rattle.tv_model.specs.Rules.{MeetsRule, declared_rule, property_rules, unique_rule, function_rule}
+use Rattle.tv_model.specs.Rules.{invfunction_rule, transitive_rule, reflexive_rule, symmetric_rule}
 
 pub All-left : {X : Type 0} (P : X → Type 0) (xs ys : List X) → All P (xs ++ ys) → All P xs
 All-left P [] ys all = All-nil P

@@ -1,5 +1,7 @@
 -- A concrete heap for each choice of core predicates: definitions are evaluated again and again.
-use Rattle.std.proofs.Common.{ℕ, ◌≡◌, ◌<◌, ◌+◌, ◌⊎◌, ◌↔◌, ◌∙◌, List, [], ◌∷◌, length, filter, max, Some, None, unwrap_or, slice_get, inl, inr, ⊎_elim, refl, sym, ap, subst, All, Contains, Bool, true, false, arith, zero, suc}
+use Rattle.std.proofs.Common.{ℕ, ◌≡◌, ◌<◌, ◌+◌, ◌⊎◌, ◌↔◌, ◌∙◌, List, [], ◌∷◌, length, filter, max, Some, None}
+use Rattle.std.proofs.Common.{unwrap_or, slice_get, inl, inr, ⊎_elim, refl, sym, ap, subst, All, Contains}
+use Rattle.std.proofs.Common.{Bool, true, false, arith, zero, suc}
 use Rattle.std.proofs.lemmas.Bool.{cases_lt, false≢true}
 use Rattle.tv_model.specs.Form.{Form, Mentions}
 use Rattle.tv_model.specs.Heap.{Heap, Holds, IsTuple, extent}

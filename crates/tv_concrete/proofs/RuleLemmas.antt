@@ -1,8 +1,11 @@
 -- Rules by all choices of individuals for their variables.
-use Rattle.std.proofs.Common.{ℕ, ◌≡◌, ◌⊎◌, ◌↔◌, ◌<◌, ◌+◌, ◌++◌, List, [], ◌∷◌, length, take, take_all, Result, Ok, Err, IfOk, get_or, ◌≤◌, inl, inr, ⊎_elim, refl, sym, ap, subst, ◌∙◌, Contains, Bool, IsTrue, arith, zero, suc, add-one}
+use Rattle.std.proofs.Common.{ℕ, ◌≡◌, ◌⊎◌, ◌↔◌, ◌<◌, ◌+◌, ◌++◌, List, [], ◌∷◌, length, take, take_all, Result}
+use Rattle.std.proofs.Common.{Ok, Err, IfOk, get_or, ◌≤◌, inl, inr, ⊎_elim, refl, sym, ap, subst, ◌∙◌}
+use Rattle.std.proofs.Common.{Contains, Bool, IsTrue, arith, zero, suc, add-one}
 use Rattle.std.proofs.lemmas.Bool.{cases_eq}
 use Rattle.std.proofs.lemmas.List.Elements.{Contains-append_left, Contains-append_right}
-use Rattle.tv_model.specs.Form.{Form, FZero, FOne, FAtom, FIsNew, FSame, FNot, FAnd, FOr, FIff, FCond, FExists, FForall, FClosure, IsFree}
+use Rattle.tv_model.specs.Form.{Form, FZero, FOne, FAtom, FIsNew, FSame, FNot, FAnd, FOr, FIff, FCond}
+use Rattle.tv_model.specs.Form.{FExists, FForall, FClosure, IsFree}
 use Rattle.tv_model.specs.Heap.{Heap}
 use Rattle.tv_model.specs.Program.{RuleForm, HeadForm, HNever, HAtom, HSame}
 use Rattle.tv_model.specs.Rules.{MeetsRule, IsInHead, IsFreeInRule, blank, head_formula}

@@ -1,5 +1,7 @@
 -- Updates found in a list, and heaps compared.
-use Rattle.std.proofs.Common.{ℕ, ◌≡◌, ◌<◌, ◌≤◌, ◌↔◌, ◌∙◌, List, [], ◌∷◌, length, get_or, map, Option, Some, None, refl, sym, ap, subst, arith, suc, zero, eqb, eq-eqb, ne_eqb, All, Contains, Bool, IsTrue, false}
+use Rattle.std.proofs.Common.{ℕ, ◌≡◌, ◌<◌, ◌≤◌, ◌↔◌, ◌∙◌, List, [], ◌∷◌, length, get_or, map, Option, Some}
+use Rattle.std.proofs.Common.{None, refl, sym, ap, subst, arith, suc, zero, eqb, eq-eqb, ne_eqb, All}
+use Rattle.std.proofs.Common.{Contains, Bool, IsTrue, false}
 use Rattle.std.proofs.lemmas.Bool.{cond-true, cond-false, false≢true}
 use Rattle.std.proofs.lemmas.List.Elements.{All-contains}
 use Rattle.tv_model.proofs.Lists.{All-from_contains}

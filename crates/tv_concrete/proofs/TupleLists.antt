@@ -1,7 +1,10 @@
 -- All tuples of individuals are exactly the lists of that length.
-use Rattle.std.proofs.Common.{ℕ, ◌≡◌, ◌↔◌, List, [], ◌∷◌, length, map, All, Contains, IsTrue, Bool, refl, arith, subst, ap, suc, zero, ⊎_elim}
+use Rattle.std.proofs.Common.{ℕ, ◌≡◌, ◌↔◌, List, [], ◌∷◌, length, map, All, Contains, IsTrue, Bool, refl}
+use Rattle.std.proofs.Common.{arith, subst, ap, suc, zero, ⊎_elim}
 use Rattle.std.proofs.lemmas.List.Elements.{All-nil, All-cons, All-head, All-tail, All-contains}
-use Rattle.tv_model.proofs.Lists.{Contains-here, Contains-cases, Contains-none, Contains-map, Contains-map_back, Contains-flat_map, Contains-flat_map_back, All-from_contains}
+use Rattle.tv_model.proofs.Lists.{Contains-here, Contains-cases, Contains-none, Contains-map}
+use Rattle.tv_model.proofs.Lists.{Contains-map_back, Contains-flat_map, Contains-flat_map_back}
+use Rattle.tv_model.proofs.Lists.{All-from_contains}
 use Rattle.tv_concrete.specs.Tuples.{tuples_of}
 
 pub tuple-fits : (xs : List ℕ) (n : ℕ) (us : List ℕ) → Contains (tuples_of xs n) us → (length us ≡ n)

@@ -1,5 +1,6 @@
 -- Walks are found by allowed stops.
-use Rattle.std.proofs.Common.{ℕ, ◌≡◌, List, [], ◌∷◌, ◌++◌, inl, inr, ⊎_elim, subst, Contains, Bool, IsTrue, ◌↔◌}
+use Rattle.std.proofs.Common.{ℕ, ◌≡◌, List, [], ◌∷◌, ◌++◌, inl, inr, ⊎_elim, subst, Contains, Bool, IsTrue}
+use Rattle.std.proofs.Common.{◌↔◌}
 use Rattle.std.proofs.lemmas.List.Elements.{All-head}
 use Rattle.tv_model.specs.Form.{Form, FClosure}
 use Rattle.tv_model.specs.Heap.{Heap}

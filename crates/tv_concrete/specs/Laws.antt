@@ -26,4 +26,5 @@ AtMostOneConcrete =
 -- for each heap of a valid program there is a concrete one with the same core
 abbrev pub AtLeastOneConcrete : Type 0
 AtLeastOneConcrete =
-    (p : ProgramForm) → IsValid p → (h : Heap) → IsHeap p h → (k : Heap) × IsHeap p k × IsConcrete p k × SameCore p h k
+    (p : ProgramForm) → IsValid p → (h : Heap) → IsHeap p h
+    → (k : Heap) × IsHeap p k × IsConcrete p k × SameCore p h k

@@ -26,7 +26,8 @@ pub fn tuples(alloc: Global, individuals: &[u32], n: u8) -> Result<Items<Tuple>,
 
 /// Each of the tuples with each of the individuals put in front.
 fn longer(alloc: Global, individuals: &[u32], shorter: &[Tuple]) -> Result<Items<Tuple>, AllocError>
-    ensures { IfOk result (λ all. all ≡ flat_map (λ tuple. map (λ u. u ∷ tuple) individuals.now) shorter.now) }
+    ensures { IfOk result
+        (λ all. all ≡ flat_map (λ tuple. map (λ u. u ∷ tuple) individuals.now) shorter.now) }
 {
     let mut all = Items::new(alloc);
     for tuple in shorter {

@@ -1,8 +1,10 @@
 //! Whether a step of an action is fair, through a given middle heap.
 
-ghost use Rattle.std.specs.Prelude.{ℕ, ◌≡◌, ◌↔◌, ◌≤◌, List, IsTrue, IfOk, All, Some, length, map, option_copied, option_map};
+ghost use Rattle.std.specs.Prelude.{ℕ, ◌≡◌, ◌↔◌, ◌≤◌, List, IsTrue, IfOk, All, Some, length, map};
+ghost use Rattle.std.specs.Prelude.{option_copied, option_map};
 ghost use Rattle.tv_model.specs.Heap.{Holds, IsTuple};
-ghost use Rattle.tv_model.specs.Program.{KCore, UpdateForm, action_of, kind_of, pred_of, program_of, update_of, EachPred};
+ghost use Rattle.tv_model.specs.Program.{KCore, UpdateForm, action_of, kind_of, pred_of, program_of};
+ghost use Rattle.tv_model.specs.Program.{update_of, EachPred};
 ghost use Rattle.tv_model.specs.Step.{AgreesWithGiven, AllowsChange, update_for, IsFairThrough};
 ghost use Rattle.tv_concrete.specs.Lists.{assignment_of, heap_of};
 
@@ -53,7 +55,8 @@ fn agrees_with_given(
     middle: &HeapList,
     new: &HeapList,
 ) -> Result<bool, AllocError>
-    ensures { IfOk result (λ b. IsTrue b ↔ AgreesWithGiven (program_of program.now) mode (action_of action.now)
+    ensures { IfOk result
+        (λ b. IsTrue b ↔ AgreesWithGiven (program_of program.now) mode (action_of action.now)
         (assignment_of picked) (heap_of middle.now) (heap_of new.now)) }
 {
     match mode {
@@ -75,7 +78,8 @@ fn agree_all(
 ) -> Result<bool, AllocError>
     ensures { IfOk result (λ b. IsTrue b ↔ EachPred (map pred_of preds.now)
         (λ q d. ¬ (d.kind ≡ KCore) → (w : UpdateForm)
-        → update_for q (map update_of updates.now) ≡ Some w → (tuple : List ℕ) → IsTuple (heap_of new.now) d.arity tuple
+        → update_for q (map update_of updates.now) ≡ Some w → (tuple : List ℕ)
+        → IsTuple (heap_of new.now) d.arity tuple
         → AllowsChange (heap_of middle.now) (assignment_of picked) w.vars w.change tuple
         (Holds (heap_of new.now) q tuple))) }
 {

@@ -71,7 +71,7 @@ impl HeapList {
     }
 
     /// Whether the predicate holds of the tuple.
-    pub fn holds_of(&self, pred: usize, tuple: &[u32]) -> bool
+    pub(crate) fn holds_of(&self, pred: usize, tuple: &[u32]) -> bool
         ensures { IsTrue result ↔ Holds (heap_of self.now) pred tuple.now }
     {
         for candidate in self.extent(pred) {
@@ -83,8 +83,9 @@ impl HeapList {
     }
 
     /// Whether the predicate holds of the tuple that the terms stand for.
-    pub fn holds_at(&self, pred: PredId, terms: &Terms, values: &Values) -> bool
-        ensures { IsTrue result ↔ Holds (heap_of self.now) pred.0 (map (assignment_of values.now) (vars_of terms.now)) }
+    pub(crate) fn holds_at(&self, pred: PredId, terms: &Terms, values: &Values) -> bool
+        ensures { IsTrue result
+            ↔ Holds (heap_of self.now) pred.0 (map (assignment_of values.now) (vars_of terms.now)) }
     {
         let pred = pred.0 as usize;
         match terms {

@@ -4,7 +4,8 @@ ghost use Rattle.std.specs.Prelude.{◌≡◌, ◌↔◌, ◌≤◌, IsTrue, IfO
 ghost use Rattle.tv_model.specs.Form.{form_of, vars_of, FAnd, FAtom};
 ghost use Rattle.tv_model.specs.Program.{pred_of, rule_of, EachPred};
 ghost use Rattle.tv_model.specs.Rules.{MeetsRule, declared_rule, property_rules};
-ghost use Rattle.tv_model.specs.Rules.{unique_rule, function_rule, invfunction_rule, transitive_rule, reflexive_rule, symmetric_rule};
+ghost use Rattle.tv_model.specs.Rules.{unique_rule, function_rule, invfunction_rule, transitive_rule};
+ghost use Rattle.tv_model.specs.Rules.{reflexive_rule, symmetric_rule};
 ghost use Rattle.tv_concrete.specs.Lists.{heap_of};
 
 use crate::{HeapList, meets_rule};
@@ -25,7 +26,8 @@ pub fn meets_all_properties(
 ) -> Result<bool, AllocError>
     requires { length preds.now ≤ 512 }
     ensures { IfOk result (λ b. IsTrue b
-        ↔ EachPred (map pred_of preds.now) (λ q d. All (MeetsRule (heap_of heap.now)) (property_rules q d.props))) }
+        ↔ EachPred (map pred_of preds.now)
+        (λ q d. All (MeetsRule (heap_of heap.now)) (property_rules q d.props))) }
 {
     for (q, pred) in preds.iter().enumerate() {
         if !meets_properties(alloc, heap, PredId(q as u32), &pred.props)? {
@@ -41,7 +43,8 @@ fn meets_properties(
     p: PredId,
     props: &Props,
 ) -> Result<bool, AllocError>
-    ensures { IfOk result (λ b. IsTrue b ↔ All (MeetsRule (heap_of heap.now)) (property_rules p.0 props.now)) }
+    ensures { IfOk result
+        (λ b. IsTrue b ↔ All (MeetsRule (heap_of heap.now)) (property_rules p.0 props.now)) }
 {
     if !meets_unique(alloc, heap, p, props.unique)? {
         return Ok(false);

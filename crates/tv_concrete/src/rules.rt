@@ -1,6 +1,7 @@
 //! Whether a plain heap meets rules.
 
-ghost use Rattle.std.specs.Prelude.{ℕ, ◌≡◌, ◌↔◌, ◌⊎◌, ◌≤◌, ◌∷◌, ◌++◌, IsTrue, IfOk, OnOk, All, Contains, length, map};
+ghost use Rattle.std.specs.Prelude.{ℕ, ◌≡◌, ◌↔◌, ◌⊎◌, ◌≤◌, ◌∷◌, ◌++◌, IsTrue, IfOk, OnOk, All, Contains};
+ghost use Rattle.std.specs.Prelude.{length, map};
 ghost use Rattle.tv_model.specs.Form.{form_of, vars_of};
 ghost use Rattle.tv_model.specs.Truth.{Truth, put};
 ghost use Rattle.tv_model.specs.Program.{head_of, program_of, rule_of};
@@ -76,7 +77,8 @@ fn meets_with(heap: &HeapList, rule: &Rule, v: Var, u: u32, rest: &[u8], values:
 }
 
 fn head_holds(heap: &HeapList, head: &Head, values: &Values) -> bool
-    ensures { IsTrue result ↔ Truth (heap_of heap.now) (assignment_of values.now) (head_formula (head_of head.now)) }
+    ensures { IsTrue result
+        ↔ Truth (heap_of heap.now) (assignment_of values.now) (head_formula (head_of head.now)) }
 {
     match head {
         Head::Never => false,

@@ -1,6 +1,7 @@
 //! Whether a plain heap has the shape that a program asks for, and whether it is concrete.
 
-ghost use Rattle.std.specs.Prelude.{ℕ, ◌≡◌, ◌≢◌, ◌↔◌, ◌<◌, length, slice_index, List, IsTrue, IfOk, All, AllPairs, Contains, map};
+ghost use Rattle.std.specs.Prelude.{ℕ, ◌≡◌, ◌≢◌, ◌↔◌, ◌<◌, length, slice_index, List, IsTrue, IfOk, All};
+ghost use Rattle.std.specs.Prelude.{AllPairs, Contains, map};
 ghost use Rattle.tv_model.specs.Heap.{Holds, IsTuple, extent};
 ghost use Rattle.tv_model.specs.Program.{kind_of, pred_of, program_of, EachPred};
 ghost use Rattle.tv_model.specs.Rules.{IsConcrete, IsHeap, MeetsDefinition};
@@ -41,7 +42,8 @@ fn all_differ(individuals: &[u32]) -> bool
 /// Whether the individual at `j` stands nowhere before.
 fn differs_before(individuals: &[u32], j: usize) -> bool
     requires { j < length individuals.now }
-    ensures { IsTrue result ↔ ((i : ℕ) → i < j → slice_index individuals.now i ≢ slice_index individuals.now j) }
+    ensures { IsTrue result
+        ↔ ((i : ℕ) → i < j → slice_index individuals.now i ≢ slice_index individuals.now j) }
 {
     for i in 0..j {
         if individuals[i] == individuals[j] {

@@ -1,9 +1,11 @@
 //! Whether an action takes one plain heap to another, through a given middle heap.
 
-ghost use Rattle.std.specs.Prelude.{ℕ, ◌≡◌, ◌↔◌, ◌≤◌, ◌∷◌, [], ◌++◌, List, IsTrue, IfOk, IfSome, Some, All, Contains, length, map, option_copied, option_map, true};
+ghost use Rattle.std.specs.Prelude.{ℕ, ◌≡◌, ◌↔◌, ◌≤◌, ◌∷◌, [], ◌++◌, List, IsTrue, IfOk, IfSome, Some, All};
+ghost use Rattle.std.specs.Prelude.{Contains, length, map, option_copied, option_map, true};
 ghost use Rattle.tv_model.specs.Form.{form_of, vars_of};
 ghost use Rattle.tv_model.specs.Heap.{Holds, IsTuple};
-ghost use Rattle.tv_model.specs.Program.{KCore, PredForm, action_of, change_of, kind_of, picks_of, pre_of, pred_of, program_of, retain_of, update_of, EachPred};
+ghost use Rattle.tv_model.specs.Program.{KCore, PredForm, action_of, change_of, kind_of, picks_of, pre_of};
+ghost use Rattle.tv_model.specs.Program.{pred_of, program_of, retain_of, update_of, EachPred};
 ghost use Rattle.tv_model.specs.Rules.{IsHeap};
 ghost use Rattle.tv_model.specs.Step.{AllowsChange, FollowsUpdate, IsMiddle, Keeps, StepsThrough, update_for};
 ghost use Rattle.tv_model.specs.Truth.{Truth};
@@ -152,7 +154,8 @@ fn same_extents(xs: &Items<Items<Tuple>>, ys: &Items<Items<Tuple>>) -> bool
 /// Whether each individual of the new heap is one of the middle heap that is kept.
 fn has_only_kept(picked: Values, retain: &Option<Retain>, middle: &HeapList, new: &HeapList) -> bool
     ensures { IsTrue result ↔ All (λ u. Contains (heap_of middle.now).individuals u
-        × Keeps (heap_of middle.now) (assignment_of picked) (retain_of retain.now) u) (heap_of new.now).individuals }
+        × Keeps (heap_of middle.now) (assignment_of picked) (retain_of retain.now) u)
+        (heap_of new.now).individuals }
 {
     for u in new.individuals.as_slice() {
         if !is_kept(picked, retain, middle, *u) {
@@ -171,7 +174,8 @@ fn is_kept(picked: Values, retain: &Option<Retain>, middle: &HeapList, u: u32) -
 
 /// Whether each individual of the middle heap that is kept is one of the new heap.
 fn has_all_kept(picked: Values, retain: &Option<Retain>, middle: &HeapList, new: &HeapList) -> bool
-    ensures { IsTrue result ↔ All (λ u. Keeps (heap_of middle.now) (assignment_of picked) (retain_of retain.now) u
+    ensures { IsTrue result
+        ↔ All (λ u. Keeps (heap_of middle.now) (assignment_of picked) (retain_of retain.now) u
         → Contains (heap_of new.now).individuals u) (heap_of middle.now).individuals }
 {
     for u in middle.individuals.as_slice() {

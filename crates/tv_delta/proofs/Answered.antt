@@ -1,25 +1,30 @@
 -- What answers say, and what is promised of them.
-use Rattle.std.proofs.Common.{ℕ, ◌≡◌, ◌≢◌, ◌∙◌, ◌↔◌, Bool, true, false, List, [], ◌∷◌, ◌++◌, Option, Some, None, refl, sym, ap, subst, cond, Contains, ◌<◌, map, get_or, arith}
+use Rattle.std.proofs.Common.{ℕ, ◌≡◌, ◌≢◌, ◌∙◌, ◌↔◌, Bool, true, false, List, [], ◌∷◌, ◌++◌, Option, Some}
+use Rattle.std.proofs.Common.{None, refl, sym, ap, subst, cond, Contains, ◌<◌, map, get_or, arith}
 use Rattle.std.specs.List.{zip}
 use Rattle.std.specs.Prelude.{slice_get, is_some, ◌||◌, length, option_and_then, option_map}
 use Rattle.std.proofs.lemmas.Bool.{false≢true}
 use Rattle.std.proofs.lemmas.List.{length-map}
 use Rattle.std.proofs.lemmas.Option.{slice_get-map, slice_get_read, slice_get_within}
 use Rattle.tv_model.specs.Form.{Form, FAtom, vars_of}
-use Rattle.tv_model.specs.Program.{ProgramForm, PredForm, KindForm, KDefined, ActionForm, RetainForm, UpdateForm, CTo}
+use Rattle.tv_model.specs.Program.{ProgramForm, PredForm, KindForm, KDefined, ActionForm, RetainForm}
+use Rattle.tv_model.specs.Program.{UpdateForm, CTo}
 use Rattle.tv_model.specs.Valid.{IsValid}
-use Rattle.tv_difference.specs.Deltas.{Delta, is_flagged, delta_of, atom_delta, small_put}
-use Rattle.tv_difference.specs.Putting.{Reserved, own_variables, variables}
-use Rattle.tv_difference.specs.Simple.{is_small, simple_not, simple_cond}
-use Rattle.tv_difference.specs.Differences.{AreAffected, IsAffected, Answer, DKeep, DEvaluate, DTo, answer_for, answer_by_kind, updates_by, formed, or_evaluate, update_by}
-use Rattle.tv_difference.specs.Laws.{UpdatesTellTheTruth, KeptPredicatesStay}
+use Rattle.tv_delta_laws.specs.Deltas.{Delta, is_flagged, delta_of, atom_delta, small_put}
+use Rattle.tv_delta_laws.specs.Putting.{Reserved, own_variables, variables}
+use Rattle.tv_delta_laws.specs.Simple.{is_small, simple_not, simple_cond}
+use Rattle.tv_delta_laws.specs.Differences.{AreAffected, IsAffected, Answer, DKeep, DEvaluate, DTo}
+use Rattle.tv_delta_laws.specs.Differences.{answer_for, answer_by_kind, updates_by, formed, or_evaluate}
+use Rattle.tv_delta_laws.specs.Differences.{update_by}
+use Rattle.tv_delta_laws.specs.Laws.{UpdatesTellTheTruth, KeptPredicatesStay}
 use Rattle.tv_model.proofs.Lists.{slice_get-contains}
 use Rattle.tv_delta.specs.declared.kinds.Difference.{Difference}
 use Rattle.tv_delta.specs.declared.kinds.Difference.TheVariants.{Keep, Evaluate, To}
-use Rattle.tv_delta.specs.Answers.{IsDefined, IsDefinedBy, IsDifference, Says, KeepsWhere, TellsTruth, TellsBy, update_list}
+use Rattle.tv_delta.specs.Answers.{IsDefined, IsDefinedBy, IsDifference, SaysAnswer, KeepsWhere, TellsTruth}
+use Rattle.tv_delta.specs.Answers.{TellsBy, update_list}
 
 -- the answer's updates are those of what it says
-pub says_updates : (q : ℕ) (x : Difference) (answer : Answer) → Says q x answer → update_list x ≡ updates_by q answer
+pub says_updates : (q : ℕ) (x : Difference) (answer : Answer) → SaysAnswer q x answer → update_list x ≡ updates_by q answer
 says_updates q Keep answer says = ap (updates_by q) (sym says)
 says_updates q Evaluate answer says = ap (updates_by q) (sym says)
 says_updates q (To w) answer says = ap (λ u. u ∷ []) says.3 ∙ ap (updates_by q) (sym says.2)
@@ -27,13 +32,13 @@ says_updates q (To w) answer says = ap (λ u. u ∷ []) says.3 ∙ ap (updates_b
 -- ---- an answer for a predicate and an action
 
 abbrev pub HasAnswer : ProgramForm → ActionForm → (affected : List Bool) → (q : ℕ) → PredForm → Difference → Type 0
-HasAnswer p action affected q d x = Says q x (answer_by_kind p action affected q d.kind)
+HasAnswer p action affected q d x = SaysAnswer q x (answer_by_kind p action affected q d.kind)
 
 answered : (p : ProgramForm) (action : ActionForm) (affected : List Bool) (q : ℕ) (d : PredForm) (vars : List ℕ)
     (body : Form) (x : Difference) → d.kind ≡ KDefined vars body → HasAnswer p action affected q d x
-    → Says q x (answer_for p action affected q vars body)
+    → SaysAnswer q x (answer_for p action affected q vars body)
 answered p action affected q d vars body x kind says =
-    let At : KindForm → Type 0 = λ k. Says q x (answer_by_kind p action affected q k)
+    let At : KindForm → Type 0 = λ k. SaysAnswer q x (answer_by_kind p action affected q k)
     in subst At kind says
 
 pub is_difference : (p : ProgramForm) (k q : ℕ) (action : ActionForm) (affected : List Bool) (d : PredForm)
@@ -107,7 +112,7 @@ kept-means false (Some r) flag f other e = absurd (cc e)
 kept-means false None true f other e = absurd (other e)
 kept-means false None false f other e = (refl, refl, refl)
 
-keep-said : (q : ℕ) (x : Difference) → Says q x DKeep → x ≡ Keep
+keep-said : (q : ℕ) (x : Difference) → SaysAnswer q x DKeep → x ≡ Keep
 keep-said q Keep says = refl
 keep-said q Evaluate says = absurd (cc says)
 keep-said q (To w) says = absurd (cc says.2)
@@ -124,7 +129,7 @@ keeps_where p k q x is action at =
   where
     there : x ≡ Keep → (¬ IsAffected p is.action q) × (is.action.fresh ≡ false) × (is.action.retain ≡ None)
     there keep =
-        let Its : Difference → Type 0 = λ y. Says q y (answer_for p is.action is.affected q is.vars is.body)
+        let Its : Difference → Type 0 = λ y. SaysAnswer q y (answer_for p is.action is.affected q is.vars is.body)
         in let kept : (is_flagged is.affected q ≡ false) × (is.action.fresh ≡ false) × (is.action.retain ≡ None)
         = kept-means is.action.fresh is.action.retain (is_flagged is.affected q)
         (formed p is.action is.affected q is.vars is.body)
@@ -140,7 +145,7 @@ keeps_where p k q x is action at =
         let off : is_flagged is.affected q ≡ false
         = not-flagged (is_flagged is.affected q) (λ on. none.0 ((is.marked.tell q is.pred is.its.found).0 on))
         in let answer : answer_for p is.action is.affected q is.vars is.body ≡ DKeep = rw (none.1, none.2, off) refl
-        in let Its : Answer → Type 0 = λ y. Says q x y
+        in let Its : Answer → Type 0 = λ y. SaysAnswer q x y
         in keep-said q x (subst Its answer is.says)
 
 -- ---- what an answer tells
@@ -149,7 +154,7 @@ keeps_where p k q x is action at =
 pub record IsSaid (p : ProgramForm) (action : ActionForm) (q : ℕ) (vars : List ℕ) (body : Form) (x : Difference) : Type 0 where
   pub affected : List Bool
   pub marked : AreAffected p action affected
-  pub says : Says q x (answer_for p action affected q vars body)
+  pub says : SaysAnswer q x (answer_for p action affected q vars body)
 
 tells : UpdatesTellTheTruth → KeptPredicatesStay → (p : ProgramForm) (action : ActionForm) (q : ℕ) (d : PredForm)
     (vars : List ℕ) (body : Form) (x : Difference) → IsValid p → Contains p.actions action → IsDefinedBy p q d vars body

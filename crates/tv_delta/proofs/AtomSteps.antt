@@ -1,46 +1,46 @@
 -- How atoms are opened: what is known of them, and the delta of a definition in place of an atom's.
-use Rattle.std.proofs.Common.{ℕ, ◌≡◌, ◌∙◌, ◌+◌, ◌<◌, ◌≤◌, Bool, true, false, All, List, [], ◌∷◌, ◌++◌, Option, Some, None, Result, zero, suc, length, inl, inr, refl, sym, ap, subst, cond, arith}
-use Rattle.std.specs.Prelude.{slice_get, option_and_then}
+use Rattle.std.proofs.Common.{ℕ, ◌≡◌, ◌∙◌, ◌+◌, ◌<◌, ◌≤◌, Bool, true, false, All, List, [], ◌∷◌, ◌++◌, Option}
+use Rattle.std.proofs.Common.{Some, None, Result, zero, suc, length, inl, inr, refl, sym, ap, subst, cond}
+use Rattle.std.proofs.Common.{arith}
+use Rattle.std.specs.Prelude.{slice_get, option_and_then, option_map, Contains}
 use Rattle.std.specs.List.{zip}
-use Rattle.std.proofs.lemmas.List.Elements.{All-same, All-push}
+use Rattle.std.proofs.lemmas.List.Elements.{All-contains}
 use Rattle.std.proofs.lemmas.Option.{slice_get-map}
-use Rattle.tv_model.specs.Form.{Form, FZero, FOne, FAtom, FIsNew, FSame, FNot, FAnd, FOr, FIff, FCond, FExists, FForall, FClosure, Mentions, form_of, vars_of}
+use Rattle.tv_model.specs.Form.{Form, FZero, FOne, FAtom, FIsNew, FSame, FNot, FAnd, FOr, FIff, FCond}
+use Rattle.tv_model.specs.Form.{FExists, FForall, FClosure, Mentions, form_of, vars_of}
 use Rattle.tv_model.specs.Program.{ProgramForm, PredForm, KDefined, program_of, action_of}
 use Rattle.tv_model.specs.Valid.{IsValid, IsFormula, program_arities}
 use Rattle.tv_model.specs.declared.formula.Formula.{Formula}
-use Rattle.tv_difference.specs.Deltas.{Delta as DeltaForm, is_flagged, unchanged, delta_of, delta_of_defined, delta_by_kind, small_put}
-use Rattle.tv_difference.specs.Putting.{Arguments, Reserved, put_in}
-use Rattle.tv_difference.specs.Simple.{is_small}
-use Rattle.tv_difference.proofs.Options.{if-some}
-use Rattle.tv_forming.proofs.Likes.{IsLike, put_like}
-use Rattle.tv_forming.specs.declared.deltas.Delta.{Delta}
-use Rattle.tv_forming.specs.declared.stop.Stop.{Stop}
-use Rattle.tv_forming.specs.Views.{Gives, delta_form}
+use Rattle.tv_delta_laws.specs.Deltas.{Delta as DeltaForm, is_flagged, unchanged, delta_of, delta_of_defined}
+use Rattle.tv_delta_laws.specs.Deltas.{delta_by_kind, small_put}
+use Rattle.tv_delta_laws.specs.Putting.{Arguments, Reserved, put_in}
+use Rattle.tv_delta_laws.specs.Simple.{is_small}
+use Rattle.tv_delta_laws.proofs.Options.{if-some}
+use Rattle.tv_delta_form.proofs.Likes.{IsLike, put_like}
+use Rattle.tv_delta_form.specs.declared.deltas.Delta.{Delta}
+use Rattle.tv_delta_form.specs.declared.stop.Stop.{Stop}
+use Rattle.tv_delta_form.specs.Views.{GivesFormed, delta_form}
 use Rattle.tv_delta.specs.declared.opening.Opening.{Opening}
-use Rattle.tv_delta.specs.declared.atoms.Entry.{Entry}
+use Rattle.tv_delta.specs.declared.memo.Entry.{Entry}
+use Rattle.tv_delta.proofs.Known.{known_is}
 use Rattle.tv_delta.specs.declared.atoms.Start.{Start}
 use Rattle.tv_delta.specs.declared.atoms.Start.TheVariants.{Done, Inside}
-use Rattle.tv_delta.specs.Opening.{reserved_for, atom_at, lower_count, IsWithin, AreWithin, EndsWithin, IsKnown, IsOf, Starts, StartsByKind}
-use Rattle.tv_delta.proofs.Depth.{depth_is_enough, count-less, count-fewer, mentioned-below, mentioned-lower, mapped-length}
+use Rattle.tv_delta.specs.Opening.{reserved_for, atom_at, lower_count, IsWithin, AreWithin, EndsWithin}
+use Rattle.tv_delta.specs.Opening.{AreKnownAt, IsKnown, IsOf, Starts, StartsByKind}
+use Rattle.tv_delta.proofs.Depth.{depth_is_enough, count-less, count-fewer, mentioned-below, mentioned-lower}
+use Rattle.tv_delta.proofs.Depth.{mapped-length}
 
 pub ruleset place_steps = (slice_get-map)
 
 -- ---- what is known
 
-pub known_is : (o : Opening) (e : Entry) (q : ℕ) (args : List ℕ) (d : DeltaForm) → IsKnown o e → IsOf e q args
-    → delta_form e.delta ≡ d → atom_at o q args ≡ Some d
-known_is o e q args d known of same =
-    ap (λ x. atom_at o x args) (sym of.same_pred)
-    ∙ ap (λ xs. atom_at o e.pred.0 xs) (sym of.same_args)
-    ∙ known
-    ∙ ap (λ y. Some y) same
-
--- one entry more
-pub known_more : (o : Opening) (old new : List Entry) (e : Entry) (d : DeltaForm) → new ≡ old ++ e ∷ []
-    → All (IsKnown o) old → atom_at o e.pred.0 (vars_of e.args) ≡ Some d → delta_form e.delta ≡ d → All (IsKnown o) new
-known_more o old new e d pushed known is copied =
-    All-same (IsKnown o) new (old ++ e ∷ []) pushed
-    (All-push (IsKnown o) old e known (is ∙ ap (λ y. Some y) (sym copied)))
+pub known_gives : (o : Opening) (depth q : ℕ) (args : List ℕ) (e : Entry) (entries : List Entry) (r : Result Delta Stop)
+    → AreKnownAt o entries → Contains entries e → IsOf e (vars_of o.own) q args
+    → GivesFormed delta_form r (option_map delta_form e.delta) → GivesFormed delta_form r (atom_at o q args)
+known_gives o depth q args e entries r known among of gives =
+    subst (λ y. GivesFormed delta_form r y)
+    (sym (known_is o e q args
+    (All-contains (IsKnown o.program.now o.action.now o.affected.now) entries e known among) of)) gives
 
 -- ---- one more definition changes nothing
 
@@ -62,13 +62,13 @@ unrolled o q args valid below =
     valid below more)
 
 pub unflagged_is : (o : Opening) (depth q : ℕ) (args : List ℕ) (r : Result Delta Stop) → is_flagged o.affected.now q ≡ false
-    → EndsWithin (program_of o.program.now) depth (FAtom q args) → Gives delta_form r (unchanged (FAtom q args))
-    → Gives delta_form r (atom_at o q args)
+    → EndsWithin (program_of o.program.now) depth (FAtom q args) → GivesFormed delta_form r (unchanged (FAtom q args))
+    → GivesFormed delta_form r (atom_at o q args)
 unflagged_is o depth q args r off ends gives =
     let is : atom_at o q args ≡ unchanged (FAtom q args)
     = unrolled o q args ends.0 ends.1.0
     ∙ ap (λ b. cond b (by-pred o q args (slice_get (program_of o.program.now).preds q)) (unchanged (FAtom q args))) off
-    in subst (λ y. Gives delta_form r y) (sym is) gives
+    in subst (λ y. GivesFormed delta_form r y) (sym is) gives
 
 opened-is : (o : Opening) (depth q : ℕ) (args : List ℕ) (d : PredForm) → is_flagged o.affected.now q ≡ true
     → slice_get (program_of o.program.now).preds q ≡ Some d → EndsWithin (program_of o.program.now) depth (FAtom q args)
@@ -191,7 +191,7 @@ pub starts : (o : Opening) (depth q : ℕ) (args : List ℕ) (d : PredForm) (sta
     → is_flagged o.affected.now q ≡ true → EndsWithin (program_of o.program.now) depth (FAtom q args)
     → Starts o depth q args start
 starts o depth q args d (Done r) found by on ends =
-    subst (λ y. Gives delta_form r y) (sym (opened-is o depth q args d on found ends)) by
+    subst (λ y. GivesFormed delta_form r y) (sym (opened-is o depth q args d on found ends)) by
 starts o depth q args d (Inside x) found by on ends = starts-inside o depth q args d x on found by ends
 
 there-is : {X : Type 0} (xs : List X) (q : ℕ) → slice_get xs q ≡ None → q < length xs → ⊥

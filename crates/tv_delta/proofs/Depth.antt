@@ -1,17 +1,20 @@
 -- More depth changes no delta.
-use Rattle.std.proofs.Common.{ℕ, ◌≡◌, ◌∙◌, ◌⊎◌, ◌<◌, ◌≤◌, Bool, true, false, List, [], ◌∷◌, Option, Some, None, length, zero, suc, inl, inr, ⊎_elim, refl, sym, ap, subst, cond, arith}
+use Rattle.std.proofs.Common.{ℕ, ◌≡◌, ◌∙◌, ◌⊎◌, ◌<◌, ◌≤◌, Bool, true, false, List, [], ◌∷◌, Option, Some}
+use Rattle.std.proofs.Common.{None, length, zero, suc, inl, inr, ⊎_elim, refl, sym, ap, subst, cond, arith}
 use Rattle.std.specs.Prelude.{slice_get, option_and_then, nat_lt, map}
 use Rattle.std.specs.List.{zip}
 use Rattle.std.proofs.lemmas.Bool.{ltb-true, ltb-false, lt-ltb, le-ltb}
-use Rattle.tv_model.specs.Form.{Form, FZero, FOne, FAtom, FIsNew, FSame, FNot, FAnd, FOr, FIff, FCond, FExists, FForall, FClosure, Mentions}
+use Rattle.tv_model.specs.Form.{Form, FZero, FOne, FAtom, FIsNew, FSame, FNot, FAnd, FOr, FIff, FCond}
+use Rattle.tv_model.specs.Form.{FExists, FForall, FClosure, Mentions}
 use Rattle.tv_model.specs.Program.{ProgramForm, PredForm, KindForm, KCore, KDefined, ActionForm}
 use Rattle.tv_model.specs.Valid.{IsValid, IsKind, IsFormulaOver, program_arities}
-use Rattle.tv_difference.specs.Deltas.{Delta, delta_of, negated, both, either, some, every, unchanged, is_flagged, atom_delta, delta_by_kind, delta_of_defined}
-use Rattle.tv_difference.specs.Putting.{Reserved, put_in}
-use Rattle.tv_difference.specs.Simple.{is_small}
-use Rattle.tv_difference.proofs.AtomTruths.{its-kind}
-use Rattle.tv_difference.proofs.Options.{if-some}
-use Rattle.tv_forming.proofs.Likes.{IsLike, put_like}
+use Rattle.tv_delta_laws.specs.Deltas.{Delta, delta_of, negated, both, either, some, every, unchanged}
+use Rattle.tv_delta_laws.specs.Deltas.{is_flagged, atom_delta, delta_by_kind, delta_of_defined}
+use Rattle.tv_delta_laws.specs.Putting.{Reserved, put_in}
+use Rattle.tv_delta_laws.specs.Simple.{is_small}
+use Rattle.tv_delta_laws.proofs.AtomTruths.{its-kind}
+use Rattle.tv_delta_laws.proofs.Options.{if-some}
+use Rattle.tv_delta_form.proofs.Likes.{IsLike, put_like}
 use Rattle.tv_delta.specs.Laws.{DepthIsEnough}
 use Rattle.tv_delta.specs.Opening.{lower_count}
 

@@ -4,11 +4,11 @@ use Rattle.std.specs.Prelude.{option_and_then, option_map}
 use Rattle.std.specs.List.{zip}
 use Rattle.tv_model.specs.Form.{Form, FAtom}
 use Rattle.tv_model.specs.Program.{ProgramForm, ActionForm}
-use Rattle.tv_difference.specs.Deltas.{Delta, delta_of, atom_delta, small_put}
-use Rattle.tv_difference.specs.Differences.{DEvaluate, DTo, formed, or_evaluate, update_by}
-use Rattle.tv_difference.specs.Putting.{own_variables, variables}
-use Rattle.tv_difference.specs.Simple.{is_small, simple_not, simple_cond}
-use Rattle.tv_forming.specs.Views.{small_form}
+use Rattle.tv_delta_laws.specs.Deltas.{Delta, delta_of, atom_delta, small_put}
+use Rattle.tv_delta_laws.specs.Differences.{DEvaluate, DTo, formed, or_evaluate, update_by}
+use Rattle.tv_delta_laws.specs.Putting.{own_variables, variables}
+use Rattle.tv_delta_laws.specs.Simple.{is_small, simple_not, simple_cond}
+use Rattle.tv_delta_form.specs.Views.{small_form}
 
 -- the formula of the update with these own variables
 abbrev pub formula_by : ProgramForm → ActionForm → (affected : List Bool) → (q : ℕ) → (vars : List ℕ) → Form → (own : List ℕ)

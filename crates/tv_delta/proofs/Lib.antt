@@ -2,8 +2,11 @@ mod Answered
 mod AtomSteps
 mod Depth
 mod FormedLaws
+mod Known
+mod LowestLaws
 mod Marks
 mod Pushed
 mod Touches
 mod Updates
 mod Zips
+mod Copies

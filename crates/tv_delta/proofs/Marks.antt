@@ -1,13 +1,15 @@
 -- Flags are set for what is changed, and for what rests on it.
-use Rattle.std.proofs.Common.{ℕ, ◌≡◌, ◌≢◌, ◌∙◌, ◌⊎◌, ◌+◌, ◌<◌, Bool, true, false, List, [], ◌∷◌, Option, Some, None, length, set, get_or, zero, suc, inl, inr, ⊎_elim, refl, sym, ap, subst, arith}
+use Rattle.std.proofs.Common.{ℕ, ◌≡◌, ◌≢◌, ◌∙◌, ◌⊎◌, ◌+◌, ◌<◌, Bool, true, false, List, [], ◌∷◌, Option, Some}
+use Rattle.std.proofs.Common.{None, length, set, get_or, zero, suc, inl, inr, ⊎_elim, refl, sym, ap, subst}
+use Rattle.std.proofs.Common.{arith}
 use Rattle.std.specs.Prelude.{◌&&◌, slice_get, is_some}
 use Rattle.std.proofs.lemmas.Bool.{false≢true}
 use Rattle.std.proofs.lemmas.List.{get_or-set_same, get_or-set_other, length-set}
 use Rattle.tv_model.specs.Program.{ProgramForm, PredForm, KindForm, KCore, KDefined, ActionForm, UpdateForm}
 use Rattle.tv_model.specs.Step.{update_for}
 use Rattle.tv_model.specs.Truth.{IsWalk}
-use Rattle.tv_difference.specs.Deltas.{is_flagged}
-use Rattle.tv_difference.specs.Differences.{is_core_kind, IsChanged, DefinedBy, IsAffected, AreAffected}
+use Rattle.tv_delta_laws.specs.Deltas.{is_flagged}
+use Rattle.tv_delta_laws.specs.Differences.{is_core_kind, IsChanged, DefinedBy, IsAffected, AreAffected}
 use Rattle.tv_delta.specs.Flags.{rests, rests_pred, rests_at, changed_from, MentionsAt, AreMarked}
 use Rattle.tv_delta.proofs.Touches.{Touched, touched, touching}
 

@@ -1,6 +1,7 @@
 -- Predicates of a list, one by one.
 use Rattle.std.proofs.Common.{◌≡◌, ◌<◌, ◌-◌, All, List, [], ◌∷◌, get_or, length, map, take, drop, subst, sym}
-use Rattle.std.proofs.lemmas.List.Elements.{All-nil, All-cons, All-head, All-tail, All-get_or, All-take, All-drop}
+use Rattle.std.proofs.lemmas.List.Elements.{All-nil, All-cons, All-head, All-tail, All-get_or, All-take}
+use Rattle.std.proofs.lemmas.List.Elements.{All-drop}
 use Rattle.tv_model.specs.Program.{ProgramForm, pred_of, program_of}
 use Rattle.tv_model.specs.Valid.{IsPred, IsValid}
 use Rattle.tv_model.specs.declared.program.Pred.{Pred}

@@ -3,12 +3,14 @@ use Rattle.std.specs.Prelude.{ℕ, ◌≡◌, ◌↔◌, Bool, false, List, [], 
 use Rattle.tv_model.specs.declared.program.Mode.TheVariants.{Given, Recompute}
 use Rattle.tv_model.specs.Form.{Form, vars_of}
 use Rattle.tv_model.specs.Heap.{Heap, Holds, IsTuple}
-use Rattle.tv_model.specs.Program.{ProgramForm, PredForm, KDefined, ActionForm, UpdateForm, ChangeForm, CTo, update_of}
+use Rattle.tv_model.specs.Program.{ProgramForm, PredForm, KDefined, ActionForm, UpdateForm, ChangeForm, CTo}
+use Rattle.tv_model.specs.Program.{update_of}
 use Rattle.tv_model.specs.Rules.{IsConcrete, blank}
 use Rattle.tv_model.specs.Run.{IsRun, Stage}
 use Rattle.tv_model.specs.Step.{StepsThrough}
 use Rattle.tv_model.specs.Truth.{Assignment, Truth, put_all}
-use Rattle.tv_difference.specs.Differences.{AreAffected, IsAffected, Answer, DKeep, DEvaluate, DTo, answer_for}
+use Rattle.tv_delta_laws.specs.Differences.{AreAffected, IsAffected, Answer, DKeep, DEvaluate, DTo}
+use Rattle.tv_delta_laws.specs.Differences.{answer_for}
 use Rattle.tv_delta.specs.declared.kinds.Difference.{Difference}
 use Rattle.tv_delta.specs.declared.kinds.Difference.TheVariants.{Keep, Evaluate, To}
 
@@ -21,10 +23,10 @@ abbrev pub IsDefined : ProgramForm → ℕ → Type 0
 IsDefined p q = (d : PredForm) × (vars : List ℕ) × (body : Form) × IsDefinedBy p q d vars body
 
 -- what the code answers for the predicate q is this answer
-abbrev pub Says : (q : ℕ) → Difference → Answer → Type 0
-Says q Keep answer = answer ≡ DKeep
-Says q Evaluate answer = answer ≡ DEvaluate
-Says q (To w) answer =
+abbrev pub SaysAnswer : (q : ℕ) → Difference → Answer → Type 0
+SaysAnswer q Keep answer = answer ≡ DKeep
+SaysAnswer q Evaluate answer = answer ≡ DEvaluate
+SaysAnswer q (To w) answer =
     (vars : List ℕ) × (f : Form) × (answer ≡ DTo vars f)
     × (update_of w ≡ record { pred = q; vars = vars; change = CTo f })
 
@@ -38,7 +40,7 @@ pub record IsDifference (p : ProgramForm) (k q : ℕ) (x : Difference) : Type 0 
   pub its : IsDefinedBy p q pred vars body
   pub affected : List Bool
   pub marked : AreAffected p action affected
-  pub says : Says q x (answer_for p action affected q vars body)
+  pub says : SaysAnswer q x (answer_for p action affected q vars body)
 
 -- the predicate is kept exactly where the action neither affects it nor adds or drops individuals
 abbrev pub KeepsWhere : ProgramForm → (k q : ℕ) → Difference → Type 0
@@ -48,7 +50,8 @@ KeepsWhere p k q x =
 
 -- for each step by the action, from a concrete heap, the change is true of a tuple of kept individuals in the
 -- middle heap exactly where the definition is true of it in the new heap
-abbrev pub TellsIn : ProgramForm → ActionForm → PredForm → (vars : List ℕ) → (body : Form) → (own : List ℕ) → ChangeForm
+abbrev pub TellsIn : ProgramForm → ActionForm → PredForm → (vars : List ℕ) → (body : Form) → (own : List ℕ)
+    → ChangeForm
     → Type 0
 TellsIn p action d vars body own change =
     (f : Form) (picked : Assignment) (old middle new : Heap) (tuple : List ℕ) → change ≡ CTo f
@@ -63,7 +66,8 @@ StaysIn p action q =
     → Holds old q tuple ↔ Holds new q tuple
 
 -- what is kept stays, and an update tells the truth
-abbrev pub TellsBy : ProgramForm → ActionForm → (q : ℕ) → PredForm → (vars : List ℕ) → (body : Form) → Difference → Type 0
+abbrev pub TellsBy : ProgramForm → ActionForm → (q : ℕ) → PredForm → (vars : List ℕ) → (body : Form)
+    → Difference → Type 0
 TellsBy p action q d vars body Keep = StaysIn p action q
 TellsBy p action q d vars body Evaluate = Unit {0}
 TellsBy p action q d vars body (To w) = TellsIn p action d vars body (vars_of w.vars) (update_of w).change
@@ -76,7 +80,8 @@ TellsTruth p k q x =
 -- each run of the program in which defined predicates are evaluated anew is a run of the new one in which
 -- updates are taken for their values
 abbrev pub HasRuns : ProgramForm → ProgramForm → Type 0
-HasRuns p new = (start : Heap) (stages : List Stage) → IsRun p Recompute start stages → IsRun new Given start stages
+HasRuns p new =
+    (start : Heap) (stages : List Stage) → IsRun p Recompute start stages → IsRun new Given start stages
 
 -- each update of a defined predicate in the new program tells the truth
 abbrev pub UpdatesTellTruth : ProgramForm → ProgramForm → Type 0

@@ -1,11 +1,12 @@
 -- Flags of predicates: which are changed, and which rest on such.
-use Rattle.std.specs.Prelude.{ℕ, ◌≡◌, ◌⊎◌, ◌+◌, ◌&&◌, Bool, true, false, List, [], ◌∷◌, length, Option, Some, None, is_some, slice_get}
+use Rattle.std.specs.Prelude.{ℕ, ◌≡◌, ◌⊎◌, ◌+◌, ◌&&◌, Bool, true, false, List, [], ◌∷◌, length, Option, Some}
+use Rattle.std.specs.Prelude.{None, is_some, slice_get}
 use Rattle.tv_model.specs.Form.{Form, Mentions}
 use Rattle.tv_model.specs.Program.{PredForm, KindForm, KCore, KDefined, UpdateForm}
 use Rattle.tv_model.specs.Step.{update_for}
 use Rattle.tv_model.specs.Truth.{IsWalk}
-use Rattle.tv_difference.specs.Deltas.{is_flagged, touches}
-use Rattle.tv_difference.specs.Differences.{is_core_kind}
+use Rattle.tv_delta_laws.specs.Deltas.{is_flagged, touches}
+use Rattle.tv_delta_laws.specs.Differences.{is_core_kind}
 
 -- the predicate has a definition that mentions a flagged one
 abbrev pub rests : List Bool → KindForm → Bool
@@ -22,7 +23,8 @@ rests_at flags preds q = rests_pred flags (slice_get preds q)
 -- of each predicate, the first of which has the number q, whether it is core and has an update
 abbrev pub changed_from : (q : ℕ) → List PredForm → List UpdateForm → List Bool
 changed_from q [] updates = []
-changed_from q (d ∷ preds) updates = (is_core_kind d.kind && is_some (update_for q updates)) ∷ changed_from (q + 1) preds updates
+changed_from q (d ∷ preds) updates =
+    (is_core_kind d.kind && is_some (update_for q updates)) ∷ changed_from (q + 1) preds updates
 
 -- the definition of q mentions r
 abbrev pub MentionsAt : List PredForm → ℕ → ℕ → Type 0

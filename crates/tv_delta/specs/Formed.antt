@@ -4,12 +4,12 @@ use Rattle.std.specs.List.{zip}
 use Rattle.tv_model.specs.declared.program.Update.{Update}
 use Rattle.tv_model.specs.Form.{Form, FAtom, vars_of}
 use Rattle.tv_model.specs.Program.{program_of, action_of, CTo, update_of}
-use Rattle.tv_difference.specs.Deltas.{Delta, small_put}
-use Rattle.tv_difference.specs.Differences.{Answer, DEvaluate, DTo, formed}
-use Rattle.tv_difference.specs.Simple.{simple_not, simple_cond}
-use Rattle.tv_forming.specs.declared.stop.Stop.{Stop}
-use Rattle.tv_forming.specs.declared.stop.Stop.TheVariants.{Unformed}
-use Rattle.tv_forming.specs.Views.{small_form}
+use Rattle.tv_delta_laws.specs.Deltas.{Delta, small_put}
+use Rattle.tv_delta_laws.specs.Differences.{Answer, DEvaluate, DTo, formed}
+use Rattle.tv_delta_laws.specs.Simple.{simple_not, simple_cond}
+use Rattle.tv_delta_form.specs.declared.stop.Stop.{Stop}
+use Rattle.tv_delta_form.specs.declared.stop.Stop.TheVariants.{Unformed}
+use Rattle.tv_delta_form.specs.Views.{small_form}
 use Rattle.tv_delta.specs.declared.answer.Affecting.{Affecting}
 use Rattle.tv_delta.specs.declared.opening.Opening.{Opening}
 use Rattle.tv_delta.specs.Opening.{reserved_for, delta_at}
@@ -26,7 +26,8 @@ formula_for o q vars body =
     (definition_delta o vars body)
 
 abbrev pub formed_at : Affecting → (q : ℕ) → (vars : List ℕ) → Form → Answer
-formed_at a q vars body = formed (program_of a.program.now) (action_of a.action.now) a.affected.now q vars body
+formed_at a q vars body =
+    formed (program_of a.program.now) (action_of a.action.now) a.affected.now q vars body
 
 -- the answer is this update; the call stops only where there is none, or for want of memory
 abbrev pub Forms : (q : ℕ) → Result Update Stop → Answer → Type 0

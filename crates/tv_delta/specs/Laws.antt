@@ -2,11 +2,11 @@
 use Rattle.std.specs.Prelude.{ℕ, ◌≡◌, ◌<◌, ◌≤◌, List, Bool, length}
 use Rattle.tv_model.specs.Program.{ProgramForm, ActionForm}
 use Rattle.tv_model.specs.Valid.{IsValid}
-use Rattle.tv_difference.specs.Deltas.{atom_delta}
-use Rattle.tv_difference.specs.Putting.{Reserved}
+use Rattle.tv_delta_laws.specs.Deltas.{atom_delta}
+use Rattle.tv_delta_laws.specs.Putting.{Reserved}
 
--- No definition rests on itself, so as many as there are predicates, one inside the other, are enough: through
--- more of them no other delta is formed.
+-- No definition rests on itself, so as many as there are predicates, one inside the other, are enough:
+-- through more of them no other delta is formed.
 abbrev pub DepthIsEnough : Type 0
 DepthIsEnough =
     (p : ProgramForm) (action : ActionForm) (r : Reserved) (affected : List Bool) (n q : ℕ) (args : List ℕ)

@@ -2,4 +2,5 @@ pub mod Answers
 pub mod Flags
 pub mod Formed
 pub mod Laws
+pub mod Lowest
 pub mod Opening

@@ -1,20 +1,24 @@
 //! What finite differencing says of a defined predicate and an action.
 
 ghost use Rattle.std.specs.Prelude.{◌<◌, ◌≡◌, length, map, IfOk};
-ghost use Rattle.tv_model.specs.Form.{form_of, vars_of};
+ghost use Rattle.tv_model.specs.Form.{form_of, vars_of, FAtom};
 ghost use Rattle.tv_model.specs.Program.{program_of, action_of, pred_of};
 ghost use Rattle.tv_model.specs.Valid.{IsValid, IsFormula, IsKind};
-ghost use Rattle.tv_difference.specs.Differences.{answer_for, answer_by_kind, AreAffected};
-ghost use Rattle.tv_forming.specs.Views.{Gives, delta_form};
-ghost use Rattle.tv_delta.specs.Answers.{IsDefined, IsDifference, KeepsWhere, TellsTruth, Says};
+ghost use Rattle.tv_delta_laws.specs.Differences.{answer_for, answer_by_kind, AreAffected};
+ghost use Rattle.tv_delta_laws.specs.Simple.{simple_not, simple_cond};
+ghost use Rattle.tv_delta_form.specs.Views.{GivesFormed, delta_form, small_form};
+ghost use Rattle.tv_delta.specs.Opening.{AreKnown, AreKnownAt};
+ghost use Rattle.tv_delta.specs.Answers.{IsDefined, IsDifference, KeepsWhere, TellsTruth, SaysAnswer};
 ghost use Rattle.tv_delta.specs.Formed.{Forms, definition_delta, formula_for, formed_at};
 
 use crate::flags::{affected_flags, is_flagged, pred_count};
 use crate::kinds::Difference;
+use crate::lowest::work_out;
+use crate::memo::{Memo, empty};
 use crate::opening::{Opening, delta_of, kept};
 use std::alloc::{AllocError, Global};
-use tv_difference::{kept_predicates_stay, updates_tell_the_truth};
-use tv_forming::{Delta, Stop, own_variables, small_put, stored_update};
+use tv_delta_form::{Delta, Stop, atom, own_variables, small_put, stored_update};
+use tv_delta_laws::{kept_predicates_stay, updates_tell_the_truth};
 use tv_model::{Action, Change, Formula, Kind, Pred, PredId, Program, Terms, Update};
 
 /// An action of a program, and the flags of the predicates that it affects.
@@ -26,37 +30,58 @@ pub struct Affecting<'a> {
 }
 
 /// The delta of a definition with arguments put in: no chain of definitions is longer than the vocabulary.
-#[tactic(auto, using(crate::proofs::AtomSteps::put_ends))]
-fn whole_delta(alloc: Global, o: &Opening<'_>, vars: Terms, body: &Formula) -> Result<Delta, Stop>
+#[tactic(auto, using(crate::proofs::AtomSteps::put_ends, tv_delta_form::proofs::Steps::memory_fails))]
+fn whole_delta(
+    alloc: Global,
+    o: &Opening<'_>,
+    memo: &mut Memo,
+    vars: Terms,
+    body: &Formula,
+) -> Result<Delta, Stop>
     requires valid { IsValid (program_of o.now.program.now) }
     requires formula { IsFormula (program_of o.now.program.now) (form_of body.now) }
-    ensures { Gives delta_form result (definition_delta o.now (vars_of vars) (form_of body.now)) }
+    requires known { AreKnownAt o.now memo.old.entries.items }
+    ensures delta { GivesFormed delta_form result (definition_delta o.now (vars_of vars) (form_of body.now)) }
+    ensures known { AreKnownAt o.now memo.new.entries.items }
 {
     match small_put(alloc, &kept(o), body, &vars, &o.own) {
         Err(stop) => Err(stop),
         Ok(x) => {
-            let mut memo = Vec::new(alloc);
-            delta_of(alloc, o, pred_count(o.program), &mut memo, &x)
+            work_out(alloc, o, memo, &x)?;
+            delta_of(alloc, o, pred_count(o.program), memo, &x)
         }
     }
 }
 
+/// The update of the stored predicate `q` by the delta of its definition.
+#[tactic(auto, using(tv_delta_form::proofs::Steps::memory_fails))]
+fn update_formula(alloc: Global, q: PredId, own: Terms, d: &Delta) -> Result<Formula, Stop>
+    ensures { GivesFormed form_of result (small_form (simple_cond (FAtom q.0 (vars_of own))
+        (simple_not (delta_form d.now).down) (delta_form d.now).up)) }
+{
+    let stored = atom(alloc, q, own)?;
+    Ok(stored_update(alloc, &stored, d)?)
+}
+
 /// The update's formula for the predicate `q`, defined by the body over the variables.
-#[tactic(auto, using(tv_forming::proofs::Steps::stop_steps))]
+#[tactic(auto, using(tv_delta_form::proofs::Steps::stop_steps))]
 fn formed_formula(
     alloc: Global,
     o: &Opening<'_>,
+    memo: &mut Memo,
     q: PredId,
     vars: Terms,
     body: &Formula,
 ) -> Result<Formula, Stop>
     requires valid { IsValid (program_of o.now.program.now) }
     requires formula { IsFormula (program_of o.now.program.now) (form_of body.now) }
-    ensures { Gives form_of result (formula_for o.now q.0 (vars_of vars) (form_of body.now)) }
+    requires known { AreKnownAt o.now memo.old.entries.items }
+    ensures formula { GivesFormed form_of result (formula_for o.now q.0 (vars_of vars) (form_of body.now)) }
+    ensures known { AreKnownAt o.now memo.new.entries.items }
 {
-    match whole_delta(alloc, o, vars, body) {
+    match whole_delta(alloc, o, memo, vars, body) {
         Err(stop) => Err(stop),
-        Ok(d) => stored_update(alloc, Formula::Atom(q, o.own), d),
+        Ok(d) => update_formula(alloc, q, o.own, &d),
     }
 }
 
@@ -64,13 +89,16 @@ fn formed_formula(
 fn formed(
     alloc: Global,
     a: &Affecting<'_>,
+    memo: &mut Memo,
     q: PredId,
     vars: Terms,
     body: &Formula,
 ) -> Result<Update, Stop>
     requires valid { IsValid (program_of a.now.program.now) }
     requires formula { IsFormula (program_of a.now.program.now) (form_of body.now) }
-    ensures { Forms q.0 result (formed_at a.now q.0 (vars_of vars) (form_of body.now)) }
+    requires known { AreKnown a.now.program.now a.now.action.now a.now.affected.now memo.old.entries.items }
+    ensures forms { Forms q.0 result (formed_at a.now q.0 (vars_of vars) (form_of body.now)) }
+    ensures known { AreKnown a.now.program.now a.now.action.now a.now.affected.now memo.new.entries.items }
 {
     let own = own_variables(a.action.picks.as_slice(), vars, body)?;
     let o = Opening {
@@ -79,7 +107,7 @@ fn formed(
         affected: a.affected,
         own,
     };
-    let f = formed_formula(alloc, &o, q, vars, body)?;
+    let f = formed_formula(alloc, &o, memo, q, vars, body)?;
     Ok(Update {
         pred: q,
         vars: own,
@@ -91,14 +119,18 @@ fn formed(
 fn answer_for(
     alloc: Global,
     a: &Affecting<'_>,
+    memo: &mut Memo,
     q: PredId,
     vars: Terms,
     body: &Formula,
 ) -> Result<Difference, AllocError>
     requires valid { IsValid (program_of a.now.program.now) }
     requires formula { IsFormula (program_of a.now.program.now) (form_of body.now) }
-    ensures { IfOk result (λ x. Says q.0 x
-        (answer_for (program_of a.now.program.now) (action_of a.now.action.now) a.now.affected.now q.0 (vars_of vars) (form_of body.now))) }
+    requires known { AreKnown a.now.program.now a.now.action.now a.now.affected.now memo.old.entries.items }
+    ensures known { AreKnown a.now.program.now a.now.action.now a.now.affected.now memo.new.entries.items }
+    ensures says { IfOk result (λ x. SaysAnswer q.0 x
+        (answer_for (program_of a.now.program.now) (action_of a.now.action.now) a.now.affected.now q.0
+        (vars_of vars) (form_of body.now))) }
 {
     if a.action.fresh || a.action.retain.is_some() {
         return Ok(Difference::Evaluate);
@@ -106,7 +138,7 @@ fn answer_for(
     if !is_flagged(a.affected, q) {
         return Ok(Difference::Keep);
     }
-    match formed(alloc, a, q, vars, body) {
+    match formed(alloc, a, memo, q, vars, body) {
         Ok(w) => Ok(Difference::To(w)),
         Err(Stop::Unformed) => Ok(Difference::Evaluate),
         Err(Stop::Memory) => Err(AllocError),
@@ -117,17 +149,21 @@ fn answer_for(
 pub fn answer_at(
     alloc: Global,
     a: &Affecting<'_>,
+    memo: &mut Memo,
     q: PredId,
     pred: &Pred,
 ) -> Result<Difference, AllocError>
     requires valid { IsValid (program_of a.now.program.now) }
     requires kind { IsKind (program_of a.now.program.now) pred.now.arity (pred_of pred.now).kind }
-    ensures { IfOk result (λ x. Says q.0 x
-        (answer_by_kind (program_of a.now.program.now) (action_of a.now.action.now) a.now.affected.now q.0 (pred_of pred.now).kind)) }
+    requires known { AreKnown a.now.program.now a.now.action.now a.now.affected.now memo.old.entries.items }
+    ensures known { AreKnown a.now.program.now a.now.action.now a.now.affected.now memo.new.entries.items }
+    ensures says { IfOk result (λ x. SaysAnswer q.0 x
+        (answer_by_kind (program_of a.now.program.now) (action_of a.now.action.now) a.now.affected.now q.0
+        (pred_of pred.now).kind)) }
 {
     match &pred.kind {
         Kind::Core => Ok(Difference::Keep),
-        Kind::Defined { vars, body } => answer_for(alloc, a, q, *vars, body),
+        Kind::Defined { vars, body } => answer_for(alloc, a, memo, q, *vars, body),
     }
 }
 
@@ -159,9 +195,11 @@ pub fn difference(
         action,
         affected: &affected,
     };
+    let mut memo = empty(alloc);
     answer_at(
         alloc,
         &a,
+        &mut memo,
         pred,
         &program.vocab.preds.as_slice()[pred.0 as usize],
     )

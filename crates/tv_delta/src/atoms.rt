@@ -1,28 +1,22 @@
 //! Deltas of atoms: those that are known, those of core predicates, and how definitions are opened.
 
-ghost use Rattle.std.specs.Prelude.{ℕ, ◌≡◌, Option, Some, map, Contains, IfSome, IsTrue, true, option_and_then};
-ghost use Rattle.tv_model.specs.Form.{vars_of, FAtom};
+ghost use Rattle.std.specs.Prelude.{ℕ, ◌≡◌, Option, Some, None, map, true, option_and_then};
+ghost use Rattle.tv_model.specs.Form.{form_of, vars_of, FAtom};
 ghost use Rattle.tv_model.specs.Program.{program_of, change_of, update_of, kind_of};
 ghost use Rattle.tv_model.specs.Step.{update_for};
-ghost use Rattle.tv_difference.specs.Deltas.{Delta as DeltaForm, is_flagged, delta_by_update, delta_by_change, delta_of_defined};
-ghost use Rattle.tv_forming.specs.Views.{Gives, delta_form};
-ghost use Rattle.tv_delta.specs.Opening.{reserved_for, atom_at, AreKnown, IsOf, EndsWithin, Starts, StartsByKind};
-ghost use Rattle.tv_delta.specs.declared.opening.Opening.{Opening};
-ghost use Rattle.tv_delta.specs.declared.atoms.Entry.{Entry};
+ghost use Rattle.tv_delta_laws.specs.Deltas.{Delta as DeltaForm, is_flagged, unchanged, delta_by_update};
+ghost use Rattle.tv_delta_laws.specs.Deltas.{delta_by_change, delta_of_set, delta_of_defined};
+ghost use Rattle.tv_delta_form.specs.Views.{GivesFormed, delta_form};
+ghost use Rattle.tv_delta.specs.Opening.{reserved_for, atom_at, AreKnownAt, EndsWithin, Starts, StartsByKind};
 
 use crate::flags::{is_flagged, pred_at};
+use crate::memo::{Entry, Memo, delta_in, entry_of, remember};
 use crate::opening::{Opening, kept};
 use std::alloc::Global;
-use tv_forming::{Delta, Stop, copied, delta_of_defined, delta_of_set, small_put, unchanged};
+use tv_delta_form::{
+    Delta, Stop, again, atom, delta_of_defined, delta_of_set, share, small_put, unchanged,
+};
 use tv_model::{Change, Formula, Kind, PredId, Terms, Update};
-
-/// The delta of an atom.
-#[derive(Debug, Drop)]
-pub struct Entry {
-    pub pred: PredId,
-    pub args: Terms,
-    pub delta: Delta,
-}
 
 /// What is told of an atom at once: its delta, or the formula that defines it.
 #[derive(Debug, Drop)]
@@ -31,40 +25,17 @@ pub enum Start {
     Inside(Formula),
 }
 
-/// Whether both have the same variables.
-fn same_terms(a: &Terms, b: &Terms) -> bool
-    ensures { IsTrue result → vars_of a.now ≡ vars_of b.now }
+/// The delta of an atom that is set to what `f` says.
+#[tactic(auto, using(tv_delta_form::proofs::Steps::memory_fails))]
+fn set_delta(alloc: Global, q: PredId, args: Terms, f: &Formula) -> Result<Delta, Stop>
+    ensures { GivesFormed delta_form result (delta_of_set (FAtom q.0 (vars_of args)) (form_of f.now)) }
 {
-    match (a, b) {
-        (Terms::Zero, Terms::Zero) => true,
-        (Terms::One(v), Terms::One(w)) => v.0 == w.0,
-        (Terms::Two(v, x), Terms::Two(w, y)) => v.0 == w.0 && x.0 == y.0,
-        _ => false,
-    }
-}
-
-/// Whether the entry is of this atom.
-fn is_of(e: &Entry, q: PredId, args: &Terms) -> bool
-    ensures { IsTrue result → IsOf e.now q.0 (vars_of args.now) }
-{
-    e.pred.0 == q.0 && same_terms(&e.args, args)
-}
-
-/// The delta that is known of the atom.
-fn known(memo: &[Entry], q: PredId, args: Terms) -> Option<&Delta>
-    ensures { IfSome result (λ d. (e : Entry) × Contains memo.now e × IsOf e q.0 (vars_of args)
-        × (delta_form e.delta ≡ delta_form d.now)) }
-{
-    for e in memo {
-        if is_of(e, q, &args) {
-            return Some(&e.delta);
-        }
-    }
-    None
+    let to = share(alloc, f)?;
+    Ok(delta_of_set(alloc, atom(alloc, q, args)?, &to)?)
 }
 
 /// The delta of an atom of a core predicate that this update changes.
-#[tactic(auto, using(tv_forming::proofs::Steps::stop_steps))]
+#[tactic(auto, using(tv_delta_form::proofs::Steps::stop_steps))]
 fn delta_by_change(
     alloc: Global,
     o: &Opening<'_>,
@@ -72,14 +43,15 @@ fn delta_by_change(
     q: PredId,
     args: Terms,
 ) -> Result<Delta, Stop>
-    ensures { Gives delta_form result
-        (delta_by_change (reserved_for o.now) (FAtom q.0 (vars_of args)) (vars_of w.now.vars) (vars_of args) (change_of w.now.change)) }
+    ensures { GivesFormed delta_form result
+        (delta_by_change (reserved_for o.now) (FAtom q.0 (vars_of args)) (vars_of w.now.vars) (vars_of args)
+        (change_of w.now.change)) }
 {
     match &w.change {
         Change::Free => Err(Stop::Unformed),
         Change::To(f) => {
             let x = small_put(alloc, &kept(o), f, &w.vars, &args)?;
-            Ok(delta_of_set(alloc, Formula::Atom(q, args), x)?)
+            set_delta(alloc, q, args, &x)
         }
     }
 }
@@ -92,8 +64,9 @@ fn delta_by_update(
     q: PredId,
     args: Terms,
 ) -> Result<Delta, Stop>
-    ensures { Gives delta_form result
-        (delta_by_update (reserved_for o.now) (FAtom q.0 (vars_of args)) (vars_of args) (update_for q.0 (map update_of updates.now))) }
+    ensures { GivesFormed delta_form result
+        (delta_by_update (reserved_for o.now) (FAtom q.0 (vars_of args)) (vars_of args)
+        (update_for q.0 (map update_of updates.now))) }
 {
     match updates {
         [] => Err(Stop::Unformed),
@@ -108,7 +81,7 @@ fn delta_by_update(
 }
 
 /// What is told of an atom by the kind of its predicate.
-#[tactic(auto, using(tv_forming::proofs::Steps::stop_steps))]
+#[tactic(auto, using(tv_delta_form::proofs::Steps::stop_steps))]
 fn start_by_kind(alloc: Global, o: &Opening<'_>, kind: &Kind, q: PredId, args: Terms) -> Start
     ensures { StartsByKind o.now q.0 (vars_of args) (kind_of kind.now) result }
 {
@@ -137,79 +110,103 @@ fn opened(alloc: Global, o: &Opening<'_>, q: PredId, args: Terms) -> Start
     }
 }
 
-/// A copy of the delta that is known of an atom.
-#[tactic(auto, using(tv_forming::proofs::Steps::memory_fails))]
-fn again(alloc: Global, d: &Delta) -> Result<Delta, Stop>
-    ensures { Gives delta_form result (Some (delta_form d.now)) }
+#[tactic(auto, using(tv_delta_form::proofs::Steps::memory_fails))]
+fn unaffected(alloc: Global, q: PredId, args: Terms) -> Result<Delta, Stop>
+    ensures { GivesFormed delta_form result (unchanged (FAtom q.0 (vars_of args))) }
 {
-    Ok(copied(alloc, d)?)
+    let x = atom(alloc, q, args)?;
+    Ok(unchanged(alloc, x)?)
 }
 
 /// What is told of an atom.
-#[tactic(auto, using(crate::proofs::AtomSteps::unflagged_is, crate::proofs::AtomSteps::known_is))]
-pub fn atom_start(alloc: Global, o: &Opening<'_>, memo: &[Entry], q: PredId, args: Terms) -> Start
-    requires known { AreKnown o.now memo.now }
+#[tactic(auto, using(crate::proofs::AtomSteps::unflagged_is, crate::proofs::AtomSteps::known_gives))]
+pub fn atom_start(alloc: Global, o: &Opening<'_>, memo: &Memo, q: PredId, args: Terms) -> Start
+    requires known { AreKnownAt o.now memo.now.entries.items }
     ensures { (depth : ℕ) → EndsWithin (program_of o.now.program.now) depth (FAtom q.0 (vars_of args))
         → Starts o.now depth q.0 (vars_of args) result }
 {
     if !is_flagged(o.affected, q) {
-        return Start::Done(unchanged(Formula::Atom(q, args)));
+        return Start::Done(unaffected(alloc, q, args));
     }
-    match known(memo, q, args) {
-        Some(d) => Start::Done(again(alloc, d)),
+    match entry_of(memo, o.own, q, args) {
+        Some(e) => Start::Done(delta_in(e)),
         None => opened(alloc, o, q, args),
     }
 }
 
-/// Puts a copy of the atom's delta behind what is known, and gives the delta back.
-#[tactic(auto, using(tv_forming::proofs::Steps::memory_fails))]
-fn remember(
-    alloc: Global,
-    memo: &mut Vec<Entry>,
-    q: PredId,
-    args: Terms,
-    delta: Delta,
-) -> Result<Delta, Stop>
-    ensures delta { Gives delta_form result (Some (delta_form delta)) }
-    ensures known { (o : Opening) → AreKnown o memo.old.items
-        → atom_at o q.0 (vars_of args) ≡ Some (delta_form delta) → AreKnown o memo.new.items }
+/// The delta of an atom over that of its definition.
+#[tactic(auto, using(tv_delta_form::proofs::Steps::memory_fails))]
+fn over_definition(alloc: Global, q: PredId, args: Terms, d: Delta) -> Result<Delta, Stop>
+    ensures { GivesFormed delta_form result (delta_of_defined (FAtom q.0 (vars_of args)) (delta_form d)) }
 {
-    let copy = copied(alloc, &delta)?;
-    memo.push(Entry {
-        pred: q,
-        args,
-        delta: copy,
-    })?;
-    Ok(delta)
+    let x = atom(alloc, q, args)?;
+    Ok(delta_of_defined(x, d))
 }
 
-/// The delta of an atom over what was formed of its definition.
-fn defined_with(q: PredId, args: Terms, d: Result<Delta, Stop>) -> Result<Delta, Stop>
-    ensures { (o : Option DeltaForm) → Gives delta_form d o
-        → Gives delta_form result (option_and_then (delta_of_defined (FAtom q.0 (vars_of args))) o) }
+/// The entry of an atom whose definition has this delta.
+fn entry(o: &Opening<'_>, q: PredId, args: Terms, delta: Option<Delta>) -> Entry
+    ensures { result ≡ record { own = o.now.own; pred = q; args = args; delta = delta } }
 {
-    match d {
-        Err(stop) => Err(stop),
-        Ok(d) => delta_of_defined(Formula::Atom(q, args), d),
+    Entry {
+        own: o.own,
+        pred: q,
+        args,
+        delta,
     }
 }
 
-/// The same, put behind what is known.
+/// Puts the delta of an atom behind what is known, and gives it back.
+#[tactic(auto, using(tv_delta_form::proofs::Steps::memory_fails))]
+fn kept_delta(
+    o: &Opening<'_>,
+    memo: &mut Memo,
+    q: PredId,
+    args: Terms,
+    d: Delta,
+) -> Result<Delta, Stop>
+    ensures delta { GivesFormed delta_form result (Some (delta_form d)) }
+    ensures known { AreKnownAt o.now memo.old.entries.items
+        → atom_at o.now q.0 (vars_of args) ≡ Some (delta_form d)
+        → AreKnownAt o.now memo.new.entries.items }
+{
+    let kept = again(&d)?;
+    remember(memo, entry(o, q, args, Some(kept)))?;
+    Ok(d)
+}
+
+/// Notes that the atom has no delta.
+#[tactic(auto, using(tv_delta_form::proofs::Steps::memory_fails))]
+fn no_delta(o: &Opening<'_>, memo: &mut Memo, q: PredId, args: Terms) -> Result<Delta, Stop>
+    ensures delta { GivesFormed delta_form result None }
+    ensures known { AreKnownAt o.now memo.old.entries.items → atom_at o.now q.0 (vars_of args) ≡ None
+        → AreKnownAt o.now memo.new.entries.items }
+{
+    remember(memo, entry(o, q, args, None))?;
+    Err(Stop::Unformed)
+}
+
+/// The delta of an atom over what was formed of its definition, put behind what is known.
 pub fn atom_end(
     alloc: Global,
-    memo: &mut Vec<Entry>,
+    o: &Opening<'_>,
+    memo: &mut Memo,
     q: PredId,
     args: Terms,
     d: Result<Delta, Stop>,
 ) -> Result<Delta, Stop>
-    ensures delta { (o : Option DeltaForm) → Gives delta_form d o
-        → Gives delta_form result (option_and_then (delta_of_defined (FAtom q.0 (vars_of args))) o) }
-    ensures known { (n : Opening) (o : Option DeltaForm) → AreKnown n memo.old.items → Gives delta_form d o
-        → atom_at n q.0 (vars_of args) ≡ option_and_then (delta_of_defined (FAtom q.0 (vars_of args))) o
-        → AreKnown n memo.new.items }
+    ensures delta { (p : Option DeltaForm) → GivesFormed delta_form d p
+        → GivesFormed delta_form result (option_and_then (delta_of_defined (FAtom q.0 (vars_of args))) p) }
+    ensures known { (p : Option DeltaForm) → AreKnownAt o.now memo.old.entries.items
+        → GivesFormed delta_form d p
+        → atom_at o.now q.0 (vars_of args) ≡ option_and_then (delta_of_defined (FAtom q.0 (vars_of args))) p
+        → AreKnownAt o.now memo.new.entries.items }
 {
-    match defined_with(q, args, d) {
-        Err(stop) => Err(stop),
-        Ok(delta) => remember(alloc, memo, q, args, delta),
+    match d {
+        Err(Stop::Memory) => Err(Stop::Memory),
+        Err(Stop::Unformed) => no_delta(o, memo, q, args),
+        Ok(d) => match over_definition(alloc, q, args, d) {
+            Err(stop) => Err(stop),
+            Ok(delta) => kept_delta(o, memo, q, args, delta),
+        },
     }
 }

@@ -1,11 +1,12 @@
 //! Which predicates an action affects: those that it changes, and those whose definitions rest on such.
 
-ghost use Rattle.std.specs.Prelude.{ℕ, ◌≡◌, ◌+◌, ◌≤◌, ◌<◌, ◌++◌, Some, true, false, length, map, is_some, slice_get, option_map, option_copied, IfSome, IfNone, IfOk, OnOk};
+ghost use Rattle.std.specs.Prelude.{ℕ, ◌≡◌, ◌+◌, ◌≤◌, ◌<◌, ◌++◌, Some, true, false, length, map, is_some};
+ghost use Rattle.std.specs.Prelude.{slice_get, option_map, option_copied, IfSome, IfNone, IfOk, OnOk};
 ghost use Rattle.tv_model.specs.Form.{form_of};
 ghost use Rattle.tv_model.specs.Program.{program_of, action_of, pred_of, kind_of, update_of};
 ghost use Rattle.tv_model.specs.Step.{update_for};
-ghost use Rattle.tv_difference.specs.Deltas.{is_flagged, touches};
-ghost use Rattle.tv_difference.specs.Differences.{is_core_kind, AreAffected};
+ghost use Rattle.tv_delta_laws.specs.Deltas.{is_flagged, touches};
+ghost use Rattle.tv_delta_laws.specs.Differences.{is_core_kind, AreAffected};
 ghost use Rattle.tv_delta.specs.Flags.{rests, rests_at, changed_from, AreMarked};
 
 use std::alloc::{AllocError, Global};
@@ -87,7 +88,8 @@ fn push_changed(
     flags: &mut Vec<bool>,
 ) -> Result<(), AllocError>
     requires { q + length preds.now ≤ 512 }
-    ensures { OnOk result (flags.new.items ≡ flags.old.items ++ changed_from q (map pred_of preds.now) (map update_of updates.now)) }
+    ensures { OnOk result (flags.new.items
+        ≡ flags.old.items ++ changed_from q (map pred_of preds.now) (map update_of updates.now)) }
 {
     match preds {
         [] => Ok(()),

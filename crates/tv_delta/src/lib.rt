@@ -1,14 +1,19 @@
 //! Finite differencing: updates of defined predicates that are formed, and not written by hand.
 #![tactic(auto)]
 
+mod action;
 mod answer;
 mod atoms;
 mod flags;
 mod kinds;
 mod laws;
+mod lists;
+mod lowest;
+mod memo;
 mod opening;
 mod parts;
 mod program;
+mod vocab;
 
 pub use answer::difference;
 pub use kinds::Difference;

@@ -3,16 +3,17 @@
 ghost use Rattle.std.specs.Prelude.{◌≡◌};
 ghost use Rattle.tv_model.specs.Form.{form_of};
 ghost use Rattle.tv_model.specs.Program.{program_of};
-ghost use Rattle.tv_forming.specs.Views.{Gives, delta_form, reserved_of};
-ghost use Rattle.tv_delta.specs.Opening.{reserved_for, delta_at, AreKnown, EndsWithin};
+ghost use Rattle.tv_delta_form.specs.Views.{GivesFormed, delta_form, reserved_of};
+ghost use Rattle.tv_delta.specs.Opening.{reserved_for, delta_at, AreKnownAt, EndsWithin};
 
-use crate::atoms::{Entry, Start, atom_end, atom_start};
+use crate::atoms::{Start, atom_end, atom_start};
 use crate::flags::touches;
+use crate::memo::Memo;
 use crate::parts::{
     and_with, cond_with, every_with, iff_with, not_with, or_with, some_with, still,
 };
 use std::alloc::Global;
-use tv_forming::{Delta, Kept, Stop};
+use tv_delta_form::{Delta, Kept, Stop};
 use tv_model::{Action, Formula, Program, Terms};
 
 /// For what deltas are formed: the update of a defined predicate at an action.
@@ -42,13 +43,13 @@ pub fn delta_of(
     alloc: Global,
     o: &Opening<'_>,
     depth: usize,
-    memo: &mut Vec<Entry>,
+    memo: &mut Memo,
     f: &Formula,
 ) -> Result<Delta, Stop>
-    requires known { AreKnown o.now memo.old.items }
+    requires known { AreKnownAt o.now memo.old.entries.items }
     requires ends { EndsWithin (program_of o.now.program.now) depth (form_of f.now) }
-    ensures delta { Gives delta_form result (delta_at o.now (form_of f.now)) }
-    ensures known { AreKnown o.now memo.new.items }
+    ensures delta { GivesFormed delta_form result (delta_at o.now (form_of f.now)) }
+    ensures known { AreKnownAt o.now memo.new.entries.items }
 {
     match f {
         Formula::Zero | Formula::One | Formula::IsNew(_) | Formula::Same(_, _) => still(alloc, f),
@@ -56,7 +57,7 @@ pub fn delta_of(
             Start::Done(delta) => delta,
             Start::Inside(x) => {
                 let d = delta_of(alloc, o, depth - 1, memo, &x);
-                atom_end(alloc, memo, *q, *args, d)
+                atom_end(alloc, o, memo, *q, *args, d)
             }
         },
         Formula::Not(g) => not_with(alloc, delta_of(alloc, o, depth, memo, g)),

@@ -2,37 +2,42 @@
 
 ghost use Rattle.std.specs.Prelude.{◌≡◌, Option, Some};
 ghost use Rattle.tv_model.specs.Form.{form_of};
-ghost use Rattle.tv_difference.specs.Deltas.{Delta as DeltaForm, unchanged, negated, both, either, some, every};
-ghost use Rattle.tv_forming.specs.Views.{Gives, delta_form};
+ghost use Rattle.tv_delta_laws.specs.Deltas.{Delta as DeltaForm, unchanged, negated, both, either, some};
+ghost use Rattle.tv_delta_laws.specs.Deltas.{every};
+ghost use Rattle.tv_delta_form.specs.Views.{GivesFormed, delta_form};
 
 use std::alloc::Global;
-use tv_forming::{Delta, Stop, alike, both, choice, either, every, negated, some, unchanged};
-use tv_model::{Formula, Var, copy};
+use tv_delta_form::{
+    Delta, Stop, alike, both, choice, either, every, negated, share, some, unchanged,
+};
+use tv_model::{Formula, Var};
 
 /// A formula that the step leaves as it is.
-#[tactic(auto, using(tv_forming::proofs::Steps::memory_fails))]
+#[tactic(auto, using(tv_delta_form::proofs::Steps::memory_fails))]
 pub fn still(alloc: Global, f: &Formula) -> Result<Delta, Stop>
-    ensures { Gives delta_form result (unchanged (form_of f.now)) }
+    ensures { GivesFormed delta_form result (unchanged (form_of f.now)) }
 {
-    let g = copy(alloc, f)?;
-    unchanged(g)
+    let g = share(alloc, f)?;
+    Ok(unchanged(alloc, g)?)
 }
 
 /// The negation.
-#[tactic(auto, using(tv_forming::proofs::DeltaSteps::not_stops))]
+#[tactic(auto, using(tv_delta_form::proofs::DeltaSteps::not_stops))]
 pub fn not_with(alloc: Global, d: Result<Delta, Stop>) -> Result<Delta, Stop>
-    ensures { (o : Option DeltaForm) → Gives delta_form d o → Gives delta_form result (negated o) }
+    ensures { (o : Option DeltaForm) → GivesFormed delta_form d o
+        → GivesFormed delta_form result (negated o) }
 {
     match d {
         Err(stop) => Err(stop),
-        Ok(d) => negated(alloc, d),
+        Ok(d) => negated(alloc, &d),
     }
 }
 
 /// That some individual makes it true.
-#[tactic(auto, using(tv_forming::proofs::DeltaSteps::some_stops))]
+#[tactic(auto, using(tv_delta_form::proofs::DeltaSteps::some_stops))]
 pub fn some_with(alloc: Global, v: Var, d: Result<Delta, Stop>) -> Result<Delta, Stop>
-    ensures { (o : Option DeltaForm) → Gives delta_form d o → Gives delta_form result (some v.0 o) }
+    ensures { (o : Option DeltaForm) → GivesFormed delta_form d o
+        → GivesFormed delta_form result (some v.0 o) }
 {
     match d {
         Err(stop) => Err(stop),
@@ -41,9 +46,10 @@ pub fn some_with(alloc: Global, v: Var, d: Result<Delta, Stop>) -> Result<Delta,
 }
 
 /// That every individual makes it true.
-#[tactic(auto, using(tv_forming::proofs::DeltaSteps::every_stops))]
+#[tactic(auto, using(tv_delta_form::proofs::DeltaSteps::every_stops))]
 pub fn every_with(alloc: Global, v: Var, d: Result<Delta, Stop>) -> Result<Delta, Stop>
-    ensures { (o : Option DeltaForm) → Gives delta_form d o → Gives delta_form result (every v.0 o) }
+    ensures { (o : Option DeltaForm) → GivesFormed delta_form d o
+        → GivesFormed delta_form result (every v.0 o) }
 {
     match d {
         Err(stop) => Err(stop),
@@ -52,10 +58,10 @@ pub fn every_with(alloc: Global, v: Var, d: Result<Delta, Stop>) -> Result<Delta
 }
 
 /// The conjunction.
-#[tactic(auto, using(tv_forming::proofs::DeltaSteps::and_stops_second))]
+#[tactic(auto, using(tv_delta_form::proofs::DeltaSteps::and_stops_second))]
 pub fn and_with(alloc: Global, d: Delta, e: Result<Delta, Stop>) -> Result<Delta, Stop>
-    ensures { (o p : Option DeltaForm) → o ≡ Some (delta_form d) → Gives delta_form e p
-        → Gives delta_form result (both o p) }
+    ensures { (o p : Option DeltaForm) → o ≡ Some (delta_form d) → GivesFormed delta_form e p
+        → GivesFormed delta_form result (both o p) }
 {
     match e {
         Err(stop) => Err(stop),
@@ -64,10 +70,10 @@ pub fn and_with(alloc: Global, d: Delta, e: Result<Delta, Stop>) -> Result<Delta
 }
 
 /// The disjunction.
-#[tactic(auto, using(tv_forming::proofs::DeltaSteps::or_stops_second))]
+#[tactic(auto, using(tv_delta_form::proofs::DeltaSteps::or_stops_second))]
 pub fn or_with(alloc: Global, d: Delta, e: Result<Delta, Stop>) -> Result<Delta, Stop>
-    ensures { (o p : Option DeltaForm) → o ≡ Some (delta_form d) → Gives delta_form e p
-        → Gives delta_form result (either o p) }
+    ensures { (o p : Option DeltaForm) → o ≡ Some (delta_form d) → GivesFormed delta_form e p
+        → GivesFormed delta_form result (either o p) }
 {
     match e {
         Err(stop) => Err(stop),
@@ -76,10 +82,10 @@ pub fn or_with(alloc: Global, d: Delta, e: Result<Delta, Stop>) -> Result<Delta,
 }
 
 /// The equivalence.
-#[tactic(auto, using(tv_forming::proofs::DeltaSteps::alike_stops_second))]
+#[tactic(auto, using(tv_delta_form::proofs::DeltaSteps::alike_stops_second))]
 pub fn iff_with(alloc: Global, d: Delta, e: Result<Delta, Stop>) -> Result<Delta, Stop>
-    ensures { (o p : Option DeltaForm) → o ≡ Some (delta_form d) → Gives delta_form e p
-        → Gives delta_form result (both (either (negated o) p) (either (negated p) o)) }
+    ensures { (o p : Option DeltaForm) → o ≡ Some (delta_form d) → GivesFormed delta_form e p
+        → GivesFormed delta_form result (both (either (negated o) p) (either (negated p) o)) }
 {
     match e {
         Err(stop) => Err(stop),
@@ -88,10 +94,11 @@ pub fn iff_with(alloc: Global, d: Delta, e: Result<Delta, Stop>) -> Result<Delta
 }
 
 /// The conditional.
-#[tactic(auto, using(tv_forming::proofs::DeltaSteps::choice_stops_third))]
+#[tactic(auto, using(tv_delta_form::proofs::DeltaSteps::choice_stops_third))]
 pub fn cond_with(alloc: Global, b: Delta, d: Delta, e: Result<Delta, Stop>) -> Result<Delta, Stop>
-    ensures { (c o p : Option DeltaForm) → c ≡ Some (delta_form b) → o ≡ Some (delta_form d) → Gives delta_form e p
-        → Gives delta_form result (either (both c o) (both (negated c) p)) }
+    ensures { (c o p : Option DeltaForm) → c ≡ Some (delta_form b) → o ≡ Some (delta_form d)
+        → GivesFormed delta_form e p
+        → GivesFormed delta_form result (either (both c o) (both (negated c) p)) }
 {
     match e {
         Err(stop) => Err(stop),

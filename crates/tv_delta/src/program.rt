@@ -1,21 +1,24 @@
 //! The differenced program.
 
-ghost use Rattle.std.specs.Prelude.{◌≡◌, ◌+◌, ◌≤◌, ◌++◌, ◌∷◌, [], if◌then◌else◌, length, map, filter, slice_get, All, IfOk, OnOk};
+ghost use Rattle.std.specs.Prelude.{◌≡◌, ◌+◌, ◌≤◌, ◌++◌, ◌∷◌, [], if◌then◌else◌, length, map, filter};
+ghost use Rattle.std.specs.Prelude.{slice_get, All, IfOk, OnOk};
 ghost use Rattle.std.specs.List.{AllZip};
 ghost use Rattle.tv_model.specs.Program.{program_of, action_of, pred_of, update_of};
 ghost use Rattle.tv_model.specs.Valid.{IsValid, IsPred};
-ghost use Rattle.tv_difference.specs.Differences.{IsDifferenced, IsDifferencedAction, differenced_updates, answers_from, is_core_pred, with_updates, with_actions};
+ghost use Rattle.tv_delta_laws.specs.Differences.{IsDifferenced, IsDifferencedAction, differenced_updates};
+ghost use Rattle.tv_delta_laws.specs.Differences.{answers_from, is_core_pred, with_updates, with_actions};
 ghost use Rattle.tv_delta.specs.Answers.{HasRuns, UpdatesTellTruth, update_list};
+ghost use Rattle.tv_delta.specs.Opening.{AreKnown};
 
+use crate::action::{copy_formulas, copy_messages, copy_pre, copy_retain, copy_update};
 use crate::answer::{Affecting, answer_at};
 use crate::flags::{affected_flags, is_core, pred_at};
 use crate::kinds::Difference;
+use crate::lists::{copy_edges, copy_names, copy_vars};
+use crate::memo::{Memo, empty};
+use crate::vocab::{copy_rules, copy_vocab};
 use std::alloc::{AllocError, Global};
-use tv_copies::{
-    copy_edges, copy_formulas, copy_messages, copy_names, copy_pre, copy_retain, copy_rules,
-    copy_update, copy_vars, copy_vocab,
-};
-use tv_difference::{differenced_is_valid, runs_are_differenced, updates_tell_the_truth};
+use tv_delta_laws::{differenced_is_valid, runs_are_differenced, updates_tell_the_truth};
 use tv_model::{Action, Actions, Pred, PredId, Program, Update, Updates};
 
 fn is_core_at(program: &Program, q: PredId) -> bool
@@ -35,7 +38,8 @@ fn push_if_core(
     out: &mut Vec<Update>,
 ) -> Result<(), AllocError>
     ensures { OnOk result (map update_of out.new.items ≡ map update_of out.old.items
-        ++ (if is_core_pred (slice_get (program_of program.now).preds w.now.pred.0) then update_of w.now ∷ [] else [])) }
+        ++ (if is_core_pred (slice_get (program_of program.now).preds w.now.pred.0) then update_of w.now ∷ []
+        else [])) }
 {
     if is_core_at(program, w.pred) {
         out.push(copy_update(alloc, w)?)?;
@@ -52,7 +56,8 @@ fn push_core(
     out: &mut Vec<Update>,
 ) -> Result<(), AllocError>
     ensures { OnOk result (map update_of out.new.items ≡ map update_of out.old.items
-        ++ filter (λ w. is_core_pred (slice_get (program_of program.now).preds w.pred)) (map update_of updates.now)) }
+        ++ filter (λ w. is_core_pred (slice_get (program_of program.now).preds w.pred))
+        (map update_of updates.now)) }
 {
     match updates {
         [] => Ok(()),
@@ -81,6 +86,7 @@ fn push_answer(x: Difference, out: &mut Vec<Update>) -> Result<(), AllocError>
 fn push_answers(
     alloc: Global,
     a: &Affecting<'_>,
+    memo: &mut Memo,
     preds: &[Pred],
     q: u32,
     out: &mut Vec<Update>,
@@ -88,15 +94,17 @@ fn push_answers(
     requires count { q + length preds.now ≤ 512 }
     requires valid { IsValid (program_of a.now.program.now) }
     requires preds { All (λ d. IsPred (program_of a.now.program.now) (pred_of d)) preds.now }
+    requires known { AreKnown a.now.program.now a.now.action.now a.now.affected.now memo.old.entries.items }
     ensures { OnOk result (map update_of out.new.items ≡ map update_of out.old.items
-        ++ answers_from (program_of a.now.program.now) (action_of a.now.action.now) a.now.affected.now q (map pred_of preds.now)) }
+        ++ answers_from (program_of a.now.program.now) (action_of a.now.action.now) a.now.affected.now q
+        (map pred_of preds.now)) }
 {
     match preds {
         [] => Ok(()),
         [pred, rest @ ..] => {
-            let x = answer_at(alloc, a, PredId(q), pred)?;
+            let x = answer_at(alloc, a, memo, PredId(q), pred)?;
             push_answer(x, out)?;
-            push_answers(alloc, a, rest, q + 1, out)
+            push_answers(alloc, a, memo, rest, q + 1, out)
         }
     }
 }
@@ -105,11 +113,20 @@ fn push_answers(
 fn updates_for(alloc: Global, a: &Affecting<'_>) -> Result<Updates, AllocError>
     requires { IsValid (program_of a.now.program.now) }
     ensures { IfOk result (λ ws. map update_of ws
-        ≡ differenced_updates (program_of a.now.program.now) (action_of a.now.action.now) a.now.affected.now) }
+        ≡ differenced_updates (program_of a.now.program.now)
+        (action_of a.now.action.now) a.now.affected.now) }
 {
     let mut out = Vec::new(alloc);
     push_core(alloc, a.program, a.action.updates.as_slice(), &mut out)?;
-    push_answers(alloc, a, a.program.vocab.preds.as_slice(), 0, &mut out)?;
+    let mut memo = empty(alloc);
+    push_answers(
+        alloc,
+        a,
+        &mut memo,
+        a.program.vocab.preds.as_slice(),
+        0,
+        &mut out,
+    )?;
     Ok(Updates::from_vec(out))
 }
 
@@ -140,7 +157,8 @@ fn differenced_action(
     action: &Action,
 ) -> Result<Action, AllocError>
     requires { IsValid (program_of program.now) }
-    ensures { IfOk result (λ b. IsDifferencedAction (program_of program.now) (action_of action.now) (action_of b)) }
+    ensures { IfOk result
+        (λ b. IsDifferencedAction (program_of program.now) (action_of action.now) (action_of b)) }
 {
     let affected = affected_flags(alloc, program, action)?;
     let a = Affecting {
@@ -169,7 +187,8 @@ fn differenced_actions(alloc: Global, program: &Program) -> Result<Actions, Allo
 
 /// A copy of the program with other actions.
 fn with_actions(alloc: Global, program: &Program, actions: Actions) -> Result<Program, AllocError>
-    ensures { IfOk result (λ new. program_of new ≡ with_actions (program_of program.now) (map action_of actions)) }
+    ensures { IfOk result
+        (λ new. program_of new ≡ with_actions (program_of program.now) (map action_of actions)) }
 {
     let vocab = copy_vocab(alloc, &program.vocab)?;
     let rules = copy_rules(alloc, &program.rules)?;

@@ -1,5 +1,6 @@
 -- Texts that grow by one part after the other.
-use Rattle.std.proofs.Common.{◌≡◌, ◌∙◌, ℕ, ◌+◌, List, ◌++◌, refl, sym, ap, append_assoc, add-one, codes, Result, Ok, Err, OnOk, is_ok, if◌then◌else◌}
+use Rattle.std.proofs.Common.{◌≡◌, ◌∙◌, ℕ, ◌+◌, List, ◌++◌, refl, sym, ap, append_assoc, add-one, codes}
+use Rattle.std.proofs.Common.{Result, Ok, Err, OnOk, is_ok, if◌then◌else◌}
 use Rattle.tv_demo.specs.Texts.{numbered, variables_text, walk_text, walks_text}
 
 -- one part more behind what was appended

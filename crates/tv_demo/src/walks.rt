@@ -1,7 +1,8 @@
 //! The parts of a demonstration program that grow with its number: its variables, and their walks.
 
 ghost use Rattle.std.specs.Prelude.{◌≡◌, ◌≤◌, ◌++◌, OnOk};
-ghost use Rattle.tv_demo.specs.Texts.{numbered, variables_text, set_text, copy_text, test_text, next_text, end_text, walk_text, walks_text};
+ghost use Rattle.tv_demo.specs.Texts.{numbered, variables_text, set_text, copy_text, test_text, next_text};
+ghost use Rattle.tv_demo.specs.Texts.{end_text, walk_text, walks_text};
 
 use itoa::Buffer;
 use std::alloc::AllocError;

@@ -1,5 +1,6 @@
 -- A list is an embedding exactly where it fits and is onto.
-use Rattle.std.proofs.Common.{ℕ, ◌≡◌, ◌≢◌, ◌<◌, ◌≤◌, ◌⊎◌, inl, inr, List, [], ◌∷◌, length, get_or, map, Some, refl, sym, ap, subst, ◌∙◌, arith}
+use Rattle.std.proofs.Common.{ℕ, ◌≡◌, ◌≢◌, ◌<◌, ◌≤◌, ◌⊎◌, inl, inr, List, [], ◌∷◌, length, get_or, map, Some}
+use Rattle.std.proofs.Common.{refl, sym, ap, subst, ◌∙◌, arith}
 use Rattle.std.specs.Prelude.{All, Contains, IsTrue, slice_get}
 use Rattle.std.specs.List.{range_with_len}
 use Rattle.std.proofs.lemmas.Bool.{cases_order}
@@ -9,11 +10,12 @@ use Rattle.std.proofs.lemmas.Option.{slice_get-get_or, slice_get_within}
 use Rattle.std.proofs.lemmas.List.Elements.{All-nil, All-cons, All-head, All-tail}
 use Rattle.tv_kleene.specs.declared.K3.TheVariants.{No}
 use Rattle.tv_kleene.specs.Kleene.{LiesUnder}
-use Rattle.tv_frame.specs.LogicalStructure.{heap_structure}
-use Rattle.tv_frame.specs.Embedding.{Embeds}
-use Rattle.tv_frame.proofs.EmbeddingLaws.{EmbedsOn-compose}
+use Rattle.tv_embedding_laws.specs.LogicalStructure.{heap_structure}
+use Rattle.tv_embedding_laws.specs.Embedding.{Embeds}
+use Rattle.tv_embedding_laws.proofs.EmbeddingLaws.{EmbedsOn-compose}
 use Rattle.tv_struct.specs.TableForm.{AreIndividuals, no_plane}
-use Rattle.tv_struct.specs.StructureForm.{StructureForm, IsStructure, structure_of, arities_of, value_at, summary_at}
+use Rattle.tv_struct.specs.StructureForm.{StructureForm, IsStructure, structure_of, arities_of, value_at}
+use Rattle.tv_struct.specs.StructureForm.{summary_at}
 use Rattle.tv_struct.proofs.Library.{Contains-range, below-range, AreIndividuals-range, fits_or_No}
 use Rattle.tv_embed.specs.Maps.{image_of, IsEmbedding, HeapsStay}
 use Rattle.tv_embed.specs.Laws.{StructuresEmbedInThemselves}

@@ -1,5 +1,7 @@
 -- Searching among embeddings that begin in one way.
-use Rattle.std.proofs.Common.{ℕ, ◌≡◌, ◌≢◌, ◌⊎◌, ◌<◌, ◌≤◌, ◌+◌, ◌-◌, zero, suc, inl, inr, Bool, true, false, List, [], ◌∷◌, ◌++◌, get_or, length, map, take, drop, Less, Equal, refl, sym, ap, subst, ◌∙◌, arith, ◌==◌, eq-eqb, ne_eqb, lt-ltb, if◌then◌else◌}
+use Rattle.std.proofs.Common.{ℕ, ◌≡◌, ◌≢◌, ◌⊎◌, ◌<◌, ◌≤◌, ◌+◌, ◌-◌, zero, suc, inl, inr, Bool, true, false}
+use Rattle.std.proofs.Common.{List, [], ◌∷◌, ◌++◌, get_or, length, map, take, drop, Less, Equal, refl, sym}
+use Rattle.std.proofs.Common.{ap, subst, ◌∙◌, arith, ◌==◌, eq-eqb, ne_eqb, lt-ltb, if◌then◌else◌}
 use Rattle.std.specs.Prelude.{All, Contains, IsTrue, ◌||◌}
 use Rattle.std.specs.List.{list_any, range_with_len}
 use Rattle.std.specs.Ordering.{nat_cmp, is_le}
@@ -7,17 +9,20 @@ use Rattle.std.specs.Cmp.{nat_cmp_total}
 use Rattle.std.specs.Cmp.Lexicographic.{slice_cmp, nat_list_cmp_total}
 use Rattle.std.proofs.lemmas.Bool.{cases_lt, cases_order}
 use Rattle.std.proofs.lemmas.Cmp.{tied_itself}
-use Rattle.std.proofs.lemmas.List.{take_more, take-take, take_at, take_all, length_push, get_or-take, get_or_push, get_or_default, get_or-drop, length-drop}
+use Rattle.std.proofs.lemmas.List.{take_more, take-take, take_at, take_all, length_push, get_or-take}
+use Rattle.std.proofs.lemmas.List.{get_or_push, get_or_default, get_or-drop, length-drop}
 use Rattle.std.proofs.lemmas.List.Elements.{All-head, All-tail}
 use Rattle.std.proofs.lemmas.List.FromFn.{length-map-range_with_len, get_or-map-range_with_len}
 use Rattle.std.proofs.lemmas.List.Folds.{list_any_at}
 use Rattle.tv_kleene.specs.Kleene.{LiesUnder}
-use Rattle.tv_frame.specs.Embedding.{Embeds, IsEmbedded}
-use Rattle.tv_struct.specs.StructureForm.{StructureForm, IsStructure, structure_of, arities_of, value_at, summary_at}
+use Rattle.tv_embedding_laws.specs.Embedding.{Embeds, IsEmbedded}
+use Rattle.tv_struct.specs.StructureForm.{StructureForm, IsStructure, structure_of, arities_of, value_at}
+use Rattle.tv_struct.specs.StructureForm.{summary_at}
 use Rattle.tv_struct.proofs.Library.{below-range}
 use Rattle.tv_embed.specs.Maps.{image_of, IsEmbedding}
 use Rattle.tv_embed.specs.Fits.{TupleFits, IsCandidate, JoinsUp, FitsSoFar, IsOnto}
-use Rattle.tv_embed.specs.Search.{BeginsWith, IsLeastWith, HasNoneWith, IsSearched, AreCandidates, AreAllCandidates, missing_below}
+use Rattle.tv_embed.specs.Search.{BeginsWith, IsLeastWith, HasNoneWith, IsSearched, AreCandidates}
+use Rattle.tv_embed.specs.Search.{AreAllCandidates, missing_below}
 use Rattle.tv_embed.proofs.FitLaws.{FitsSoFar-take, FitsSoFar-joins}
 use Rattle.tv_embed.proofs.MapLaws.{Embeds-fits, FitsSoFar-embedding, IsOnto-embedding}
 

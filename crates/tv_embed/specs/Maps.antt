@@ -4,7 +4,7 @@ use Rattle.std.specs.Ordering.{nat_cmp, is_le}
 use Rattle.std.specs.Cmp.Lexicographic.{slice_cmp}
 use Rattle.std.specs.Prelude.{IsTrue}
 use Rattle.tv_model.specs.Heap.{Heap}
-use Rattle.tv_frame.specs.Embedding.{Embeds, IsHeapOf}
+use Rattle.tv_embedding_laws.specs.Embedding.{Embeds, IsHeapOf}
 use Rattle.tv_struct.specs.StructureForm.{StructureForm, structure_of}
 
 -- where a map, as the list of the individuals' images, takes an individual

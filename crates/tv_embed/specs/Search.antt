@@ -1,5 +1,7 @@
 -- The search for the least embedding: maps of the first individuals, and what follows from them.
-use Rattle.std.specs.Prelude.{ℕ, ◌≡◌, ◌<◌, ◌≤◌, ◌+◌, zero, suc, Bool, ◌==◌, if◌then◌else◌, List, All, AllPairs, Contains, length, take, IsTrue, MatchBool, slice_index, slice_index_or, []}
+use Rattle.std.specs.Prelude.{ℕ, ◌≡◌, ◌<◌, ◌≤◌, ◌+◌, zero, suc, Bool, ◌==◌, if◌then◌else◌, List, All}
+use Rattle.std.specs.Prelude.{AllPairs, Contains, length, take, IsTrue, MatchBool, slice_index}
+use Rattle.std.specs.Prelude.{slice_index_or, []}
 use Rattle.std.specs.List.{list_any}
 use Rattle.std.specs.Ordering.{nat_cmp, is_le}
 use Rattle.std.specs.Cmp.Lexicographic.{slice_cmp}
@@ -24,7 +26,8 @@ HasNoneWith small large front = (other : List ℕ) → IsEmbedding small large o
 
 -- what a search among the embeddings that begin so leaves: the least, or the images that it began with
 -- where there is none
-abbrev pub IsSearched : (small large : StructureForm) → (front old : List ℕ) → (found : Bool) → (new : List ℕ) → Type 0
+abbrev pub IsSearched : (small large : StructureForm) → (front old : List ℕ) → (found : Bool) → (new : List ℕ)
+    → Type 0
 IsSearched small large front old found new =
     MatchBool found (IsLeastWith small large front new) (HasNoneWith small large front × (new ≡ old))
 

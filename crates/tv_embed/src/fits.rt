@@ -1,6 +1,7 @@
 //! Whether individuals may go to individuals: what an embedding asks of one and of two of them.
 
-ghost use Rattle.std.specs.Prelude.{◌≡◌, ◌<◌, ◌↔◌, ℕ, List, [], ◌∷◌, length, Some, slice_get, IsTrue, Contains};
+ghost use Rattle.std.specs.Prelude.{◌≡◌, ◌<◌, ◌↔◌, ℕ, List, [], ◌∷◌, length, Some, slice_get, IsTrue};
+ghost use Rattle.std.specs.Prelude.{Contains};
 ghost use Rattle.tv_struct.specs.StructureForm.{StructureForm, arities_of, summary_at};
 ghost use Rattle.tv_struct.specs.TableForm.{AreIndividuals};
 ghost use Rattle.tv_struct.specs.TupleForm.{tuple_of};

@@ -1,7 +1,7 @@
 //! The least embedding of a structure in another.
 
 ghost use Rattle.std.specs.Prelude.{◌≡◌, IfOk, IfSome, IfNone, IsSome};
-ghost use Rattle.tv_frame.specs.Embedding.{IsEmbedded};
+ghost use Rattle.tv_embedding_laws.specs.Embedding.{IsEmbedded};
 ghost use Rattle.tv_struct.specs.StructureForm.{arities_of, structure_of};
 ghost use Rattle.tv_embed.specs.Maps.{IsLeastEmbedding, HeapsStay};
 ghost use Rattle.tv_embed.specs.Search.{IsSearched, AreAllCandidates};
@@ -28,7 +28,8 @@ pub fn find(
 ) -> Result<Option<Numbers>, AllocError>
     requires { arities_of small.now ≡ arities_of large.now }
     ensures least { IfOk result (λ found. IfSome found (IsLeastEmbedding small.now large.now)) }
-    ensures none { IfOk result (λ found. IfNone found (¬ IsEmbedded (structure_of small.now) (structure_of large.now))) }
+    ensures none { IfOk result
+        (λ found. IfNone found (¬ IsEmbedded (structure_of small.now) (structure_of large.now))) }
     ensures heaps { IfOk result (λ found. IfSome found (λ _. HeapsStay small.now large.now)) }
 {
     if !tuple_fits(small, large, Tuple::Zero, Tuple::Zero) {

@@ -4,7 +4,8 @@ ghost use Rattle.std.specs.Prelude.{◌≡◌, ◌<◌, ◌≤◌, ◌+◌, ◌+
 ghost use Rattle.std.specs.Bool.{OnFalse};
 ghost use Rattle.tv_struct.specs.StructureForm.{arities_of};
 ghost use Rattle.tv_embed.specs.Fits.{FitsSoFar, IsCandidate};
-ghost use Rattle.tv_embed.specs.Search.{IsSearched, HasNoneWith, AreAllCandidates, AreBounds, IsOutOfReach, LeavesOne, missing_below};
+ghost use Rattle.tv_embed.specs.Search.{IsSearched, HasNoneWith, AreAllCandidates, AreBounds, IsOutOfReach};
+ghost use Rattle.tv_embed.specs.Search.{LeavesOne, missing_below};
 
 use crate::fits::joins_up;
 use crate::maps::{is_image, is_onto};
@@ -59,7 +60,8 @@ fn try_image(
     requires image { w < large.now.size }
     requires candidate { IsCandidate small.now large.now (length images.old.items) w }
     ensures { IfOk result
-        (λ found. IsSearched small.now large.now (images.old.items ++ w ∷ []) images.old.items found images.new.items) }
+        (λ found. IsSearched small.now large.now
+        (images.old.items ++ w ∷ []) images.old.items found images.new.items) }
 {
     if !joins_up(small, large, images, w) {
         return Ok(false);

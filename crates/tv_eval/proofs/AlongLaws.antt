@@ -1,9 +1,12 @@
 -- The values along a variable, as lists.
-use Rattle.std.proofs.Common.{ℕ, ◌≡◌, ◌≢◌, ◌<◌, ◌≤◌, ◌+◌, suc, List, [], ◌∷◌, length, map, get_or, set, replicate, All, Any, refl, sym, ap, ◌∙◌, ⊎_elim, subst, arith, eqb, eq-eqb, ne_eqb}
+use Rattle.std.proofs.Common.{ℕ, ◌≡◌, ◌≢◌, ◌<◌, ◌≤◌, ◌+◌, suc, List, [], ◌∷◌, length, map, get_or, set}
+use Rattle.std.proofs.Common.{replicate, All, Any, refl, sym, ap, ◌∙◌, ⊎_elim, subst, arith, eqb, eq-eqb}
+use Rattle.std.proofs.Common.{ne_eqb}
 use Rattle.std.specs.List.{range_with_len}
 use Rattle.std.specs.Prelude.{◌↔◌, Bool, true, false, not, IsTrue, Some, if◌then◌else◌}
 use Rattle.std.proofs.lemmas.Bool.{cases_eq, cond-true, cond-false}
-use Rattle.std.proofs.lemmas.List.{get_or_default, length-replicate, get_or-replicate, length-set, get_or-set_same, get_or-set_other}
+use Rattle.std.proofs.lemmas.List.{get_or_default, length-replicate, get_or-replicate, length-set}
+use Rattle.std.proofs.lemmas.List.{get_or-set_same, get_or-set_other}
 use Rattle.std.proofs.lemmas.List.FromFn.{fill_by_all, length-map-range_with_len, get_or-map-range_with_len}
 use Rattle.tv_kleene.specs.declared.K3.{K3}
 use Rattle.tv_kleene.specs.declared.K3.TheVariants.{No, Half, Yes}
@@ -12,14 +15,14 @@ use Rattle.tv_model.specs.Form.{Form, FClosure, IsFree}
 use Rattle.tv_model.specs.Truth.{Assignment, put}
 use Rattle.tv_row.specs.Bits.{paired, greatest_in, least_in}
 use Rattle.tv_struct.specs.StructureForm.{StructureForm, structure_of, value_at}
-use Rattle.tv_frame.specs.LogicalStructure.{LogicalStructure}
-use Rattle.tv_value.specs.Value.{value, greatest_of, least_of, best_walk, mark_value, same_value}
-use Rattle.tv_value.proofs.Rounds.{best_walk-same}
+use Rattle.tv_embedding_laws.specs.LogicalStructure.{LogicalStructure}
+use Rattle.tv_eval_laws.specs.Value.{value, greatest_of, least_of, best_walk, mark_value, same_value}
+use Rattle.tv_eval_laws.proofs.Rounds.{best_walk-same}
 use Rattle.tv_row.specs.Places.{entry_in}
 use Rattle.tv_row.proofs.WordOps.{length-paired, get_or-paired}
-use Rattle.tv_relation.specs.Rows.{part_of}
-use Rattle.tv_relation.specs.declared.relation.Part.TheVariants.{From}
-use Rattle.tv_value.proofs.Agreed.{only_free_variables_matter}
+use Rattle.tv_eval.specs.Rows.{part_of}
+use Rattle.tv_eval.specs.declared.relation.Part.TheVariants.{From}
+use Rattle.tv_eval_laws.proofs.Agreed.{only_free_variables_matter}
 
 -- ---- lists of values
 

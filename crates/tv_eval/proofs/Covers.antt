@@ -6,12 +6,12 @@ use Rattle.tv_model.specs.Form.{Form, Mentions}
 use Rattle.tv_model.specs.Heap.{Heap}
 use Rattle.tv_model.specs.Truth.{Assignment}
 use Rattle.tv_model.specs.Valid.{NamesNew}
-use Rattle.tv_frame.specs.LogicalStructure.{LogicalStructure, heap_structure}
-use Rattle.tv_frame.specs.Embedding.{Embeds, EmbedsOn, EmbedsWithMarks}
-use Rattle.tv_value.specs.Value.{value}
-use Rattle.tv_value.specs.Laws.{EmbedsFor, TakesAlong, TellsOfHeap}
-use Rattle.tv_value.proofs.Embedded.{embedding_theorem}
-use Rattle.tv_value.proofs.InHeaps.{definite_values_are_sound}
+use Rattle.tv_embedding_laws.specs.LogicalStructure.{LogicalStructure, heap_structure}
+use Rattle.tv_embedding_laws.specs.Embedding.{Embeds, EmbedsOn, EmbedsWithMarks}
+use Rattle.tv_eval_laws.specs.Value.{value}
+use Rattle.tv_eval_laws.specs.Laws.{EmbedsFor, TakesAlong, TellsOfHeap}
+use Rattle.tv_eval_laws.proofs.Embedded.{embedding_theorem}
+use Rattle.tv_eval_laws.proofs.InHeaps.{definite_values_are_sound}
 use Rattle.tv_eval.specs.Sound.{CoversValues}
 
 on_mentioned : (f : Form) (m : ℕ → ℕ) (s t : LogicalStructure) → Embeds m s t → EmbedsOn

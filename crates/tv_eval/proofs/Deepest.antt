@@ -1,5 +1,6 @@
 -- How deep the formulas of a list go.
-use Rattle.std.proofs.Common.{ℕ, ◌≡◌, ◌≤◌, List, [], ◌∷◌, map, min, max, Contains, refl, sym, ap, subst, ◌∙◌, arith}
+use Rattle.std.proofs.Common.{ℕ, ◌≡◌, ◌≤◌, List, [], ◌∷◌, map, min, max, Contains, refl, sym, ap, subst, ◌∙◌}
+use Rattle.std.proofs.Common.{arith}
 use Rattle.std.specs.List.{fold}
 use Rattle.std.proofs.Common.{⊎_elim}
 use Rattle.tv_model.proofs.Lists.{Contains-none, Contains-cases}

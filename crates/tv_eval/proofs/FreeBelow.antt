@@ -1,7 +1,8 @@
 -- The free variables of a formula are in range.
 use Rattle.std.proofs.Common.{ℕ, ◌<◌, ⊎_elim, List, sym, subst}
 use Rattle.std.proofs.lemmas.List.Elements.{All-contains}
-use Rattle.tv_model.specs.Form.{Form, FZero, FOne, FAtom, FIsNew, FSame, FNot, FAnd, FOr, FIff, FCond, FExists, FForall, FClosure, IsFree}
+use Rattle.tv_model.specs.Form.{Form, FZero, FOne, FAtom, FIsNew, FSame, FNot, FAnd, FOr, FIff, FCond}
+use Rattle.tv_model.specs.Form.{FExists, FForall, FClosure, IsFree}
 use Rattle.tv_model.specs.Valid.{IsVariable, IsFormulaOver}
 
 pub free-below : (arities : List ℕ) (f : Form) (v : ℕ) → IsFormulaOver arities f → IsFree v f → v < 32

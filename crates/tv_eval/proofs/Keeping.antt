@@ -1,5 +1,6 @@
 -- A closure whose body has no free variables but its own two has the same values under every assignment.
-use Rattle.std.proofs.Common.{ℕ, ◌≡◌, ◌≢◌, ◌<◌, ◌+◌, ◌⊎◌, inl, inr, ⊎_elim, zero, suc, List, [], ◌∷◌, length, set, get_or, Some, refl, sym, ap, subst, arith, ◌∙◌, eqb, eq-eqb, ne_eqb}
+use Rattle.std.proofs.Common.{ℕ, ◌≡◌, ◌≢◌, ◌<◌, ◌+◌, ◌⊎◌, inl, inr, ⊎_elim, zero, suc, List, [], ◌∷◌, length}
+use Rattle.std.proofs.Common.{set, get_or, Some, refl, sym, ap, subst, arith, ◌∙◌, eqb, eq-eqb, ne_eqb}
 use Rattle.std.specs.Prelude.{slice_get, unwrap_or}
 use Rattle.std.specs.List.{range_with_len}
 use Rattle.std.proofs.lemmas.Bool.{cases_eq, cond-true, cond-false}
@@ -8,18 +9,18 @@ use Rattle.tv_kleene.specs.declared.K3.{K3}
 use Rattle.tv_model.specs.Form.{Form, form_of, IsFree}
 use Rattle.tv_model.specs.Truth.{Assignment, put}
 use Rattle.tv_struct.specs.StructureForm.{StructureForm, structure_of, arities_of}
-use Rattle.tv_value.specs.Value.{value, best_walk}
-use Rattle.tv_value.proofs.Agreed.{only_free_variables_matter}
-use Rattle.tv_value.proofs.Rounds.{best_walk-same}
+use Rattle.tv_eval_laws.specs.Value.{value, best_walk}
+use Rattle.tv_eval_laws.proofs.Agreed.{only_free_variables_matter}
+use Rattle.tv_eval_laws.proofs.Rounds.{best_walk-same}
 use Rattle.tv_model.specs.Valid.{IsFormulaOver}
 use Rattle.tv_eval.specs.declared.kept.Edges.{Edges}
 use Rattle.tv_eval.specs.declared.kept.Kept.{Kept}
 use Rattle.tv_eval.specs.HoldsClosure.{HoldsClosure}
-use Rattle.tv_eval.specs.Keeps.{Keeps, StandsAt}
+use Rattle.tv_eval.specs.Keeps.{HoldsClosures, StandsAt}
 use Rattle.tv_row.specs.Places.{entry_in}
-use Rattle.tv_relation.specs.Rows.{IsSquare, IsPart, part_at, part_of}
-use Rattle.tv_relation.specs.declared.relation.Part.{Part}
-use Rattle.tv_relation.specs.declared.relation.Part.TheVariants.{From, To, Diagonal}
+use Rattle.tv_eval.specs.Rows.{IsSquare, IsPart, part_at, part_of}
+use Rattle.tv_eval.specs.declared.relation.Part.{Part}
+use Rattle.tv_eval.specs.declared.relation.Part.TheVariants.{From, To, Diagonal}
 use Rattle.tv_kleene.specs.declared.K3.TheVariants.{No}
 use Rattle.std.proofs.lemmas.List.FromFn.{fill_by_all, length-map-range_with_len, get_or-map-range_with_len}
 use Rattle.tv_eval.proofs.FreeBelow.{free-below}
@@ -142,7 +143,7 @@ put-elsewhere (y ∷ xs) (suc i) (suc j) x ne = put-elsewhere xs i j x (λ e. ne
 -- what stands at a place of the closure is held
 pub found_is_held : (s : StructureForm) (a : Assignment) (kept : Kept) (rooms : List (List (List K3)))
     (k left right : ℕ) (body : Form)
-    (room : List (List K3)) → Keeps s kept rooms → StandsAt kept k left right body → k < length rooms
+    (room : List (List K3)) → HoldsClosures s kept rooms → StandsAt kept k left right body → k < length rooms
     → room ≡ get_or rooms k room → HoldsClosure s a left right body room
 found_is_held s a kept rooms k left right body room keeps stands lt is =
     let e : Edges = stands.edges
@@ -159,11 +160,11 @@ same-edges e other is = ap (λ o. unwrap_or (unwrap_or o (Some e)) e) is
 -- one more closure is kept
 pub keeps_one_more : (s : StructureForm) (a : Assignment) (kept : Kept) (rooms : List (List (List K3)))
     (place count : ℕ) (e : Edges)
-    (rows : List (List K3)) → Keeps s kept rooms → place < length kept.closures → place < length rooms
+    (rows : List (List K3)) → HoldsClosures s kept rooms → place < length kept.closures → place < length rooms
     → ((v : ℕ) → v < 32 → IsFree v (form_of e.body.now) → (v ≡ e.left.0) ⊎ (v ≡ e.right.0))
     → IsFormulaOver (arities_of s) (form_of e.body.now)
     → HoldsClosure s a e.left.0 e.right.0 (form_of e.body.now) rows
-    → Keeps s (record { closures = set kept.closures place (Some e); count = count }) (set rooms place rows)
+    → HoldsClosures s (record { closures = set kept.closures place (Some e); count = count }) (set rooms place rows)
 keeps_one_more s a kept rooms place count e rows keeps among within own over held = record {
   each = λ k other b at. ⊎_elim (λ here. new k other b at here) (λ apart. old k other b at apart) (cases_eq k place);
 }

@@ -7,3 +7,4 @@ pub mod Loops
 pub mod Parts
 pub mod Programs
 pub mod Rooms
+pub mod RowLaws

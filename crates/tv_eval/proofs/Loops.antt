@@ -1,13 +1,14 @@
 -- The steps of the loops over individuals.
-use Rattle.std.proofs.Common.{ℕ, ◌≡◌, ◌<◌, ◌≤◌, ◌+◌, ◌-◌, ◌≢◌, ◌⊎◌, inl, inr, ⊎_elim, List, refl, sym, ap, subst, ◌∙◌, arith}
+use Rattle.std.proofs.Common.{ℕ, ◌≡◌, ◌<◌, ◌≤◌, ◌+◌, ◌-◌, ◌≢◌, ◌⊎◌, inl, inr, ⊎_elim, List, refl, sym, ap}
+use Rattle.std.proofs.Common.{subst, ◌∙◌, arith}
 use Rattle.std.specs.List.{range_with_len}
 use Rattle.std.proofs.lemmas.List.FromFn.{length-range_with_len, get_or-range_with_len}
 use Rattle.std.proofs.lemmas.Bool.{cases_eq}
 use Rattle.tv_kleene.specs.declared.K3.{K3}
 use Rattle.tv_kleene.specs.declared.K3.TheVariants.{No, Half, Yes}
 use Rattle.tv_kleene.specs.Kleene.{smaller_of, larger_of}
-use Rattle.tv_value.specs.Value.{greatest_of, least_of, best_walk}
-use Rattle.tv_relation.proofs.RowLaws.{range-front, best-agrees}
+use Rattle.tv_eval_laws.specs.Value.{greatest_of, least_of, best_walk}
+use Rattle.tv_eval.proofs.RowLaws.{range-front, best-agrees}
 
 larger-assoc : (x y z : K3) → larger_of (larger_of x y) z ≡ larger_of x (larger_of y z)
 larger-assoc No y z = refl

@@ -1,5 +1,7 @@
 -- What can be evaluated can be evaluated part by part.
-use Rattle.std.proofs.Common.{ℕ, ◌≡◌, ◌≢◌, ◌<◌, ◌≤◌, ◌+◌, ◌==◌, inl, inr, ⊎_elim, zero, suc, List, [], ◌∷◌, ◌++◌, length, get_or, max, ap, Option, Some, None, replicate, refl, sym, subst, ◌∙◌, arith, if◌then◌else◌, eqb, eq-eqb, ne_eqb}
+use Rattle.std.proofs.Common.{ℕ, ◌≡◌, ◌≢◌, ◌<◌, ◌≤◌, ◌+◌, ◌==◌, inl, inr, ⊎_elim, zero, suc, List, [], ◌∷◌}
+use Rattle.std.proofs.Common.{◌++◌, length, get_or, max, ap, Option, Some, None, replicate, refl, sym, subst}
+use Rattle.std.proofs.Common.{◌∙◌, arith, if◌then◌else◌, eqb, eq-eqb, ne_eqb}
 use mathlib.Core.Path.{fun_ext}
 use Rattle.std.specs.Prelude.{IsSomeAnd, unwrap_or}
 use Rattle.std.proofs.lemmas.Bool.{cases_eq, cond-true, cond-false}
@@ -10,7 +12,7 @@ use Rattle.tv_model.specs.Truth.{put}
 use Rattle.tv_model.proofs.Lists.{Contains-here, Contains-there}
 use Rattle.tv_struct.specs.TableForm.{HasEntry}
 use Rattle.tv_struct.specs.StructureForm.{StructureForm, table_of, arities_of}
-use Rattle.tv_eval.specs.AssignmentForm.{place_of, assignment_of, IsAssigned}
+use Rattle.tv_eval.specs.AssignmentForm.{individual_for, assignment_of, IsAssigned}
 use Rattle.tv_eval.specs.Formulas.{HasRooms, nesting, sizes_of}
 use Rattle.tv_model.specs.Valid.{IsFormulaOver}
 use Rattle.tv_eval.specs.CanEvaluate.{CanEvaluate}
@@ -27,7 +29,7 @@ some-below n None h = absurd h
 some-below n (Some u) h = h
 
 pub individual_of : (n : ℕ) (places : List (Option ℕ)) (v : ℕ) → IsAssigned n places v → assignment_of places v < n
-individual_of n places v h = some-below n (place_of places v) h
+individual_of n places v h = some-below n (individual_for places v) h
 
 pub fewer_levels : (size few many : ℕ) (sizes : List ℕ) → few ≤ many → HasRooms size many sizes → HasRooms size
     few sizes
@@ -84,51 +86,51 @@ can-cond s places sizes c f g h = (
 
 -- b is a with the individual u put for v
 pub record IsPut (a : List (Option ℕ)) (v u : ℕ) (b : List (Option ℕ)) : Type 0 where
-  pub places : (w : ℕ) → place_of b w ≡ (if w == v then Some u else place_of a w)
+  pub places : (w : ℕ) → individual_for b w ≡ (if w == v then Some u else individual_for a w)
 
 assigned-put : (n : ℕ) (a b : List (Option ℕ)) (v u w : ℕ) → IsPut a v u b → u < n
     → (w ≢ v → IsAssigned n a w) → IsAssigned n b w
 assigned-put n a b v u w put lt h =
     let At : Option ℕ → Type 0 = λ o. IsSomeAnd o (λ x. x < n)
     in ⊎_elim
-    (λ e. subst At (sym (put.places w ∙ cond-true (eqb w v) (Some u) (place_of a w) (eq-eqb w v e))) lt)
-    (λ ne. subst At (sym (put.places w ∙ cond-false (eqb w v) (Some u) (place_of a w) (ne_eqb w v ne))) (h ne))
+    (λ e. subst At (sym (put.places w ∙ cond-true (eqb w v) (Some u) (individual_for a w) (eq-eqb w v e))) lt)
+    (λ ne. subst At (sym (put.places w ∙ cond-false (eqb w v) (Some u) (individual_for a w) (ne_eqb w v ne))) (h ne))
     (cases_eq w v)
 
 -- b is a, or differs from it in what v stands for
 pub record IsLike (a : List (Option ℕ)) (v : ℕ) (b : List (Option ℕ)) : Type 0 where
-  pub others : (w : ℕ) → w ≢ v → place_of b w ≡ place_of a w
+  pub others : (w : ℕ) → w ≢ v → individual_for b w ≡ individual_for a w
 
 pub like-itself : (a : List (Option ℕ)) (v : ℕ) → IsLike a v a
 like-itself a v = record { others = λ w ne. refl }
 
 -- b is here with the individual u put for v, and here is like a: b is a with u put for v
 module _ (a here b : List (Option ℕ)) (v u : ℕ) (like : IsLike a v here)
-    (places : (w : ℕ) → place_of b w ≡ (if w == v then Some u else place_of here w)) where
+    (places : (w : ℕ) → individual_for b w ≡ (if w == v then Some u else individual_for here w)) where
   pub put-again : IsPut a v u b
   put-again = record {
     places = λ w. ⊎_elim
-        (λ e. places w ∙ cond-true (eqb w v) (Some u) (place_of here w) (eq-eqb w v e) ∙ sym
-        (cond-true (eqb w v) (Some u) (place_of a w) (eq-eqb w v e)))
-        (λ ne. places w ∙ cond-false (eqb w v) (Some u) (place_of here w) (ne_eqb w v ne) ∙ like.others w ne ∙ sym
-        (cond-false (eqb w v) (Some u) (place_of a w) (ne_eqb w v ne)))
+        (λ e. places w ∙ cond-true (eqb w v) (Some u) (individual_for here w) (eq-eqb w v e) ∙ sym
+        (cond-true (eqb w v) (Some u) (individual_for a w) (eq-eqb w v e)))
+        (λ ne. places w ∙ cond-false (eqb w v) (Some u) (individual_for here w) (ne_eqb w v ne) ∙ like.others w ne ∙ sym
+        (cond-false (eqb w v) (Some u) (individual_for a w) (ne_eqb w v ne)))
         (cases_eq w v);
   }
 
   pub like-again : IsLike a v b
   like-again = record {
-    others = λ w ne. places w ∙ cond-false (eqb w v) (Some u) (place_of here w) (ne_eqb w v ne) ∙ like.others w ne;
+    others = λ w ne. places w ∙ cond-false (eqb w v) (Some u) (individual_for here w) (ne_eqb w v ne) ∙ like.others w ne;
   }
 
   pub total-again : assignment_of b ≡ put (assignment_of a) v u
   total-again = fun_ext (λ w. ap (λ o. unwrap_or o 0) (put-again.places w) ∙ total_at w)
     where
-      total_at : (w : ℕ) → unwrap_or (if w == v then Some u else place_of a w) 0 ≡ put (assignment_of a) v u w
+      total_at : (w : ℕ) → unwrap_or (if w == v then Some u else individual_for a w) 0 ≡ put (assignment_of a) v u w
       total_at w =
           ⊎_elim
-          (λ e. ap (λ o. unwrap_or o 0) (cond-true (eqb w v) (Some u) (place_of a w) (eq-eqb w v e)) ∙ sym
+          (λ e. ap (λ o. unwrap_or o 0) (cond-true (eqb w v) (Some u) (individual_for a w) (eq-eqb w v e)) ∙ sym
           (put-same (assignment_of a) v u w e))
-          (λ ne. ap (λ o. unwrap_or o 0) (cond-false (eqb w v) (Some u) (place_of a w) (ne_eqb w v ne)) ∙ sym
+          (λ ne. ap (λ o. unwrap_or o 0) (cond-false (eqb w v) (Some u) (individual_for a w) (ne_eqb w v ne)) ∙ sym
           (put-other (assignment_of a) v u w ne))
           (cases_eq w v)
 

@@ -1,12 +1,16 @@
 -- The formulas of a program, and what a scratch that was made for it has room for.
-use Rattle.std.proofs.Common.{ℕ, ◌≡◌, ◌≤◌, ◌+◌, List, [], ◌∷◌, map, max, Contains, refl, sym, ap, subst, ◌∙◌, arith}
+use Rattle.std.proofs.Common.{ℕ, ◌≡◌, ◌≤◌, ◌+◌, List, [], ◌∷◌, map, max, Contains, refl, sym, ap, subst, ◌∙◌}
+use Rattle.std.proofs.Common.{arith}
 use Rattle.tv_model.specs.declared.program.Pred.{Pred}
-use Rattle.tv_model.specs.Form.{Form, FZero, FOne, FAtom, FIsNew, FSame, FNot, FAnd, FOr, FIff, FCond, FExists, FForall, FClosure, height}
-use Rattle.tv_model.specs.Program.{ProgramForm, PredForm, RuleForm, UpdateForm, MessageForm, ActionForm, program_of, pred_of}
+use Rattle.tv_model.specs.Form.{Form, FZero, FOne, FAtom, FIsNew, FSame, FNot, FAnd, FOr, FIff, FCond}
+use Rattle.tv_model.specs.Form.{FExists, FForall, FClosure, height}
+use Rattle.tv_model.specs.Program.{ProgramForm, PredForm, RuleForm, UpdateForm, MessageForm, ActionForm}
+use Rattle.tv_model.specs.Program.{program_of, pred_of}
 use Rattle.tv_model.specs.Valid.{IsFormulaOver}
 use Rattle.tv_struct.specs.StructureForm.{arities_of}
 use Rattle.tv_eval.specs.Formulas.{nesting}
-use Rattle.tv_eval.specs.ScratchForm.{deepest, kind_height, change_height, pre_height, retain_height, action_height, program_height}
+use Rattle.tv_eval.specs.ScratchForm.{deepest, kind_height, change_height, pre_height, retain_height}
+use Rattle.tv_eval.specs.ScratchForm.{action_height, program_height}
 use Rattle.tv_eval.specs.Laws.{FormulasAreWithinHeight, MadeScratchesFit, ProgramFormulasAreOver}
 use Rattle.tv_eval.proofs.Deepest.{deepest-above}
 

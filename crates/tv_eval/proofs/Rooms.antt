@@ -1,16 +1,17 @@
 -- The rooms of a scratch.
-use Rattle.std.proofs.Common.{ℕ, ◌≡◌, ◌≤◌, List, [], ◌∷◌, ◌++◌, length, take, drop, get_or, refl, sym, ap, subst, ◌∙◌, arith}
+use Rattle.std.proofs.Common.{ℕ, ◌≡◌, ◌≤◌, List, [], ◌∷◌, ◌++◌, length, take, drop, get_or, refl, sym, ap}
+use Rattle.std.proofs.Common.{subst, ◌∙◌, arith}
 use Rattle.std.specs.Prelude.{All}
 use Rattle.std.proofs.lemmas.List.{length-map}
 use Rattle.tv_kleene.specs.declared.K3.{K3}
 use Rattle.tv_model.specs.Form.{Form}
 use Rattle.tv_eval.specs.Formulas.{sizes_of, HasRooms, nesting}
-use Rattle.tv_eval.specs.ScratchForm.{ScratchForm, Fits}
+use Rattle.tv_eval.specs.ScratchForm.{ScratchForm, HasScratchFor}
 
 -- where a formula fits, there are rooms for it
 pub rooms_for : (scratch : ScratchForm) (rooms : List (List (List K3))) (size : ℕ) (f : Form) (n : ℕ)
     → scratch ≡ record { levels = length rooms; size = size } → All (λ room. room ≡ size) (sizes_of rooms)
-    → Fits scratch f n → HasRooms n (nesting f) (sizes_of rooms)
+    → HasScratchFor scratch f n → HasRooms n (nesting f) (sizes_of rooms)
 rooms_for scratch rooms size f n is each fits =
     let levels : scratch.levels ≡ length rooms = ap (λ s. s.levels) is
     in let wide : scratch.size ≡ size = ap (λ s. s.size) is

@@ -5,7 +5,7 @@ use Rattle.tv_kleene.specs.declared.K3.{K3}
 use Rattle.tv_model.specs.Form.{Form}
 use Rattle.tv_model.specs.Truth.{Assignment, put}
 use Rattle.tv_struct.specs.StructureForm.{StructureForm, structure_of}
-use Rattle.tv_value.specs.Value.{value}
+use Rattle.tv_eval_laws.specs.Value.{value}
 
 -- the value at each individual, put for v
 abbrev pub values_along : StructureForm → Assignment → (v : ℕ) → Form → List K3

@@ -2,7 +2,7 @@
 use Rattle.std.specs.Prelude.{◌≡◌, length, All}
 use Rattle.tv_struct.specs.StructureForm.{StructureForm}
 use Rattle.tv_eval.specs.Formulas.{sizes_of}
-use Rattle.tv_eval.specs.Keeps.{Keeps}
+use Rattle.tv_eval.specs.Keeps.{HoldsClosures}
 use Rattle.tv_eval.specs.ScratchForm.{ScratchForm}
 use Rattle.tv_eval.specs.declared.evaluator.Evaluator.{Evaluator}
 
@@ -16,5 +16,5 @@ bound_room e = record { levels = length e.rooms.items; size = e.size }
 
 -- it keeps closed edges of this structure alone, and its rooms have their size
 pub record IsBound (e : Evaluator) : Type 0 where
-  pub keeps : Keeps e.structure.now e.kept e.shared.items
+  pub keeps : HoldsClosures e.structure.now e.kept e.shared.items
   pub sizes : All (λ room. room ≡ e.size) (sizes_of e.rooms.items)

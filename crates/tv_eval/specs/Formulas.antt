@@ -1,7 +1,8 @@
 -- What a formula has to be for a structure, and what its evaluation needs.
 use Rattle.std.specs.Prelude.{ℕ, ◌≤◌, ◌+◌, List, length, map, max, Option, All}
 use Rattle.tv_kleene.specs.declared.K3.{K3}
-use Rattle.tv_model.specs.Form.{Form, FZero, FOne, FAtom, FIsNew, FSame, FNot, FAnd, FOr, FIff, FCond, FExists, FForall, FClosure, IsFree}
+use Rattle.tv_model.specs.Form.{Form, FZero, FOne, FAtom, FIsNew, FSame, FNot, FAnd, FOr, FIff, FCond}
+use Rattle.tv_model.specs.Form.{FExists, FForall, FClosure, IsFree}
 use Rattle.tv_eval.specs.AssignmentForm.{IsAssigned}
 
 -- the free variables of the formula stand for individuals of a structure of that size

@@ -11,7 +11,7 @@ use Rattle.tv_eval.specs.HoldsClosure.{HoldsClosure}
 
 -- the relation at the place of a kept closure holds its values in the structure, whatever the variables
 -- stand for
-pub record Keeps (s : StructureForm) (kept : Kept) (rooms : List (List (List K3))) : Type 0 where
+pub record HoldsClosures (s : StructureForm) (kept : Kept) (rooms : List (List (List K3))) : Type 0 where
   pub each : (k : ℕ) (e : Edges) (a : Assignment) → slice_get kept.closures k ≡ Some (Some e)
       → HoldsClosure s a e.left.0 e.right.0 (form_of e.body.now) (slice_index_or rooms k [])
 

@@ -8,3 +8,4 @@ pub mod Keeps
 pub mod Laws
 pub mod ScratchForm
 pub mod Sound
+pub mod Rows

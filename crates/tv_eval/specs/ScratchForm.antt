@@ -1,7 +1,8 @@
 -- What a scratch has room for.
 use Rattle.std.specs.Prelude.{ℕ, ◌≡◌, ◌≤◌, ◌+◌, List, [], ◌∷◌, max, Option, Some, None}
 use Rattle.tv_model.specs.Form.{Form, height}
-use Rattle.tv_model.specs.Program.{ProgramForm, KindForm, KCore, KDefined, ChangeForm, CFree, CTo, RetainForm, ActionForm}
+use Rattle.tv_model.specs.Program.{ProgramForm, KindForm, KCore, KDefined, ChangeForm, CFree, CTo, RetainForm}
+use Rattle.tv_model.specs.Program.{ActionForm}
 use Rattle.tv_eval.specs.Formulas.{nesting}
 
 -- a scratch: how deep closures may be nested, and how many individuals a structure may have
@@ -10,7 +11,7 @@ pub record ScratchForm : Type 0 where
   pub size : ℕ
 
 -- the scratch has room for the formula in structures of n individuals
-pub record Fits (scratch : ScratchForm) (f : Form) (n : ℕ) : Type 0 where
+pub record HasScratchFor (scratch : ScratchForm) (f : Form) (n : ℕ) : Type 0 where
   pub closures : nesting f ≤ scratch.levels
   pub individuals : n ≤ scratch.size
 

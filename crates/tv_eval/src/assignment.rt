@@ -2,7 +2,7 @@
 
 ghost use Rattle.std.specs.Prelude.{ℕ, ◌≡◌, ◌<◌, ◌==◌, Some, None, if◌then◌else◌, slice_set};
 ghost use Rattle.tv_model.specs.Truth.{put};
-ghost use Rattle.tv_eval.specs.AssignmentForm.{place_of, assignment_of};
+ghost use Rattle.tv_eval.specs.AssignmentForm.{individual_for, assignment_of};
 
 use std::marker::Model;
 use tv_model::Var;
@@ -26,7 +26,7 @@ impl Model for Assignment {
 impl Assignment {
     /// The assignment of no variable.
     pub fn new() -> Assignment
-        ensures { (v : ℕ) → place_of result v ≡ None }
+        ensures { (v : ℕ) → individual_for result v ≡ None }
     {
         Assignment { places: [None; 32] }
     }
@@ -35,7 +35,8 @@ impl Assignment {
     /// one before.
     pub fn with(self, v: Var, u: u32) -> Assignment
         requires { v.0 < 32 }
-        ensures places { (w : ℕ) → place_of result w ≡ (if w == v.0 then Some u else place_of self w) }
+        ensures places { (w : ℕ)
+            → individual_for result w ≡ (if w == v.0 then Some u else individual_for self w) }
         ensures total { assignment_of result ≡ put (assignment_of self) v.0 u }
     {
         let mut new = self;
@@ -48,24 +49,16 @@ impl Assignment {
     pub fn set(&mut self, v: Var, u: u32)
         requires { v.0 < 32 }
         ensures value { self.new ≡ slice_set self.old v.0 (Some u) }
-        ensures places { (w : ℕ) → place_of self.new w ≡ (if w == v.0 then Some u else place_of self.old w) }
+        ensures places { (w : ℕ)
+            → individual_for self.new w ≡ (if w == v.0 then Some u else individual_for self.old w) }
         ensures total { assignment_of self.new ≡ put (assignment_of self.old) v.0 u }
     {
         self.places[v.0 as usize] = Some(u);
     }
 
-    /// Puts back what the variable `v` stood for, which may be none, and changes nothing else.
-    pub fn put_back(&mut self, v: Var, place: Option<u32>)
-        requires { v.0 < 32 }
-        ensures value { self.new ≡ slice_set self.old v.0 place }
-        ensures places { (w : ℕ) → place_of self.new w ≡ (if w == v.0 then place else place_of self.old w) }
-    {
-        self.places[v.0 as usize] = place;
-    }
-
     /// The individual that the variable stands for, if there is one.
     pub fn get(&self, v: Var) -> Option<u32>
-        ensures { result ≡ place_of self.now v.0 }
+        ensures { result ≡ individual_for self.now v.0 }
     {
         self.places.get(v.0 as usize).copied().flatten()
     }

@@ -4,21 +4,21 @@ ghost use Rattle.std.specs.Prelude.{◌≡◌, ◌≤◌};
 ghost use Rattle.tv_model.specs.Form.{form_of, FExists};
 ghost use Rattle.tv_model.specs.Valid.{IsFormulaOver};
 ghost use Rattle.tv_struct.specs.StructureForm.{structure_of, arities_of};
-ghost use Rattle.tv_value.specs.Value.{value};
+ghost use Rattle.tv_eval_laws.specs.Value.{value};
 ghost use Rattle.tv_eval.specs.Along.{values_along};
 ghost use Rattle.tv_eval.specs.AssignmentForm.{assignment_of};
 ghost use Rattle.tv_eval.specs.Bound.{IsBound, bound_structure, bound_room};
 ghost use Rattle.tv_eval.specs.Formulas.{AreAssigned};
-ghost use Rattle.tv_eval.specs.ScratchForm.{Fits};
+ghost use Rattle.tv_eval.specs.ScratchForm.{HasScratchFor};
 ghost use Rattle.tv_eval.specs.Sound.{CoversValues};
 
 use crate::Assignment;
 use crate::kept::Kept;
+use crate::relation::Relation;
 use crate::scratch::Scratch;
 use crate::values::{row_of, value_of};
 use tv_kleene::K3;
 use tv_model::{Formula, Var};
-use tv_relation::Relation;
 use tv_row::Row;
 use tv_struct::Structure;
 
@@ -68,7 +68,7 @@ impl<'a> Evaluator<'a> {
         requires bound { IsBound self.old }
         requires formula { IsFormulaOver (arities_of (bound_structure self.old)) (form_of f.now) }
         requires assigned { AreAssigned (bound_structure self.old).size a.now (form_of f.now) }
-        requires fits { Fits (bound_room self.old) (form_of f.now) (bound_structure self.old).size }
+        requires fits { HasScratchFor (bound_room self.old) (form_of f.now) (bound_structure self.old).size }
         ensures exact { result ≡ value (structure_of (bound_structure self.old)) (assignment_of a.now)
             (form_of f.now) }
         ensures covers { CoversValues (form_of f.now) (structure_of (bound_structure self.old))
@@ -91,10 +91,12 @@ impl<'a> Evaluator<'a> {
     /// Each is exactly the value under that assignment. Takes no memory.
     pub fn row(&mut self, f: &'a Formula, v: Var, a: &Assignment) -> Row
         requires bound { IsBound self.old }
-        requires formula { IsFormulaOver (arities_of (bound_structure self.old)) (FExists v.0 (form_of f.now)) }
+        requires formula { IsFormulaOver (arities_of (bound_structure self.old))
+            (FExists v.0 (form_of f.now)) }
         requires assigned { AreAssigned (bound_structure self.old).size a.now (FExists v.0 (form_of f.now)) }
-        requires fits { Fits (bound_room self.old) (form_of f.now) (bound_structure self.old).size }
-        ensures exact { result ≡ values_along (bound_structure self.old) (assignment_of a.now) v.0 (form_of f.now) }
+        requires fits { HasScratchFor (bound_room self.old) (form_of f.now) (bound_structure self.old).size }
+        ensures exact { result
+            ≡ values_along (bound_structure self.old) (assignment_of a.now) v.0 (form_of f.now) }
         ensures bound { IsBound self.new }
         ensures structure { bound_structure self.new ≡ bound_structure self.old }
         ensures room { bound_room self.new ≡ bound_room self.old }
@@ -117,7 +119,7 @@ impl<'a> Evaluator<'a> {
 pub fn eval(f: &Formula, s: &Structure, a: &Assignment, scratch: &mut Scratch) -> K3
     requires formula { IsFormulaOver (arities_of s.now) (form_of f.now) }
     requires assigned { AreAssigned s.now.size a.now (form_of f.now) }
-    requires fits { Fits scratch.old (form_of f.now) s.now.size }
+    requires fits { HasScratchFor scratch.old (form_of f.now) s.now.size }
     ensures exact { result ≡ value (structure_of s.now) (assignment_of a.now) (form_of f.now) }
     ensures covers { CoversValues (form_of f.now) (structure_of s.now) (assignment_of a.now) result }
     ensures scratch { scratch.new ≡ scratch.old }

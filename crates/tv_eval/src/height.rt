@@ -4,7 +4,8 @@ ghost use Rattle.std.specs.Prelude.{◌≡◌, min, max};
 ghost use Rattle.std.specs.List.{fold};
 ghost use Rattle.tv_model.specs.Form.{form_of, height};
 ghost use Rattle.tv_model.specs.Program.{action_of, kind_of, pre_of, retain_of, change_of, program_of};
-ghost use Rattle.tv_eval.specs.ScratchForm.{kind_height, change_height, pre_height, retain_height, action_height, program_height};
+ghost use Rattle.tv_eval.specs.ScratchForm.{kind_height, change_height, pre_height, retain_height};
+ghost use Rattle.tv_eval.specs.ScratchForm.{action_height, program_height};
 
 use tv_model::{
     Action, Change, Formula, Kind, Message, Pred, Program, Retain, Rule, Update, depth,
@@ -42,7 +43,8 @@ fn in_rules(rules: &[Rule]) -> usize
 }
 
 fn in_actions(actions: &[Action]) -> usize
-    ensures { result ≡ fold (λ n action. max n (min (action_height (action_of action)) usize.MAX)) 0 actions.now }
+    ensures { result
+        ≡ fold (λ n action. max n (min (action_height (action_of action)) usize.MAX)) 0 actions.now }
 {
     actions.iter().fold(0, |n, action| n.max(in_action(action)))
 }
@@ -87,7 +89,8 @@ fn in_messages(messages: &[Message]) -> usize
 }
 
 fn in_updates(updates: &[Update]) -> usize
-    ensures { result ≡ fold (λ n u. max n (min (change_height (change_of u.change)) usize.MAX)) 0 updates.now }
+    ensures { result
+        ≡ fold (λ n u. max n (min (change_height (change_of u.change)) usize.MAX)) 0 updates.now }
 {
     updates.iter().fold(0, |n, u| n.max(in_change(&u.change)))
 }

@@ -1,17 +1,18 @@
 //! Closures that depend on the structure alone: one is closed when it is first met, and read from then on.
 
-ghost use Rattle.std.specs.Prelude.{ℕ, ◌≡◌, ◌≢◌, ◌<◌, ◌+◌, ◌↔◌, List, [], length, IsTrue, IfSome, IfNone, Some, slice_index_or, slice_set};
+ghost use Rattle.std.specs.Prelude.{ℕ, ◌≡◌, ◌≢◌, ◌<◌, ◌+◌, ◌↔◌, List, [], length, IsTrue, IfSome, IfNone};
+ghost use Rattle.std.specs.Prelude.{Some, slice_index_or, slice_set};
 ghost use Rattle.tv_kleene.specs.declared.K3.{K3};
 ghost use Rattle.tv_model.specs.Form.{form_of, vars_of, IsFree};
 ghost use Rattle.tv_model.specs.Truth.{Assignment};
 ghost use Rattle.tv_struct.specs.StructureForm.{StructureForm, arities_of};
 ghost use Rattle.tv_model.specs.Valid.{IsFormulaOver};
 ghost use Rattle.tv_eval.specs.HoldsClosure.{HoldsClosure};
-ghost use Rattle.tv_eval.specs.Keeps.{Keeps, StandsAt, HasOnlyOwn, HasPlace};
+ghost use Rattle.tv_eval.specs.Keeps.{HoldsClosures, StandsAt, HasOnlyOwn, HasPlace};
 
+use crate::relation::Relation;
 use std::mem;
 use tv_model::{Formula, Terms, Var, free};
-use tv_relation::Relation;
 
 /// How many closures are kept, at most.
 pub const PLACES: usize = 8;
@@ -34,7 +35,7 @@ pub struct Kept<'f> {
 impl<'f> Kept<'f> {
     /// Nothing is kept.
     pub fn new() -> Kept<'f>
-        ensures kept { (s : StructureForm) (rooms : List (List (List K3))) → Keeps s result rooms }
+        ensures kept { (s : StructureForm) (rooms : List (List (List K3))) → HoldsClosures s result rooms }
         ensures count { result.count ≡ 0 }
     {
         Kept {
@@ -45,7 +46,7 @@ impl<'f> Kept<'f> {
 
     /// The closed edges, if they are kept.
     pub fn find<'r>(&self, edges: Edges<'_>, rooms: &'r [Relation]) -> Option<&'r Relation>
-        ensures held { (s : StructureForm) (a : Assignment) → Keeps s self.now rooms.now
+        ensures held { (s : StructureForm) (a : Assignment) → HoldsClosures s self.now rooms.now
             → IfSome result (λ r. HoldsClosure s a edges.entry.left.0 edges.entry.right.0
             (form_of edges.entry.body.now) r.now) }
         ensures none { IfNone result ((k : ℕ) → k < 8 → k < length rooms.now
@@ -74,14 +75,16 @@ impl<'f> Kept<'f> {
     /// Keeps the closed edges where only the closure's own variables are free in its body, and a place of
     /// their size is left: they change places with the relation there.
     pub fn offer(&mut self, edges: Edges<'f>, closed: &mut Relation, rooms: &mut [Relation])
-        ensures kept { (s : StructureForm) (a : Assignment) → Keeps s self.old rooms.old
+        ensures kept { (s : StructureForm) (a : Assignment) → HoldsClosures s self.old rooms.old
             → IsFormulaOver (arities_of s) (form_of edges.entry.body.now)
-            → HoldsClosure s a edges.entry.left.0 edges.entry.right.0 (form_of edges.entry.body.now) closed.old
-            → Keeps s self.new rooms.new }
+            → HoldsClosure s a edges.entry.left.0 edges.entry.right.0
+            (form_of edges.entry.body.now) closed.old
+            → HoldsClosures s self.new rooms.new }
         ensures size { length closed.new ≡ length closed.old }
         ensures closures { HasPlace self.old edges.entry closed.old rooms.old
             → self.new.closures ≡ slice_set self.old.closures self.old.count (Some edges.entry) }
-        ensures count { HasPlace self.old edges.entry closed.old rooms.old → self.new.count ≡ self.old.count + 1 }
+        ensures count { HasPlace self.old edges.entry closed.old rooms.old
+            → self.new.count ≡ self.old.count + 1 }
         ensures swapped { HasPlace self.old edges.entry closed.old rooms.old
             → (closed.new ≡ slice_index_or rooms.old self.old.count [])
             × (rooms.new ≡ slice_set rooms.old self.old.count closed.old) }
@@ -105,7 +108,8 @@ impl<'f> Kept<'f> {
 
 /// Whether no variable but the closure's own two stands free in its body.
 fn is_closed(edges: Edges<'_>) -> bool
-    ensures { IsTrue result ↔ HasOnlyOwn edges.entry.left.0 edges.entry.right.0 (form_of edges.entry.body.now) }
+    ensures { IsTrue result
+        ↔ HasOnlyOwn edges.entry.left.0 edges.entry.right.0 (form_of edges.entry.body.now) }
 {
     for v in 0..32 {
         if has_outer(edges, v) {
@@ -130,7 +134,8 @@ pub fn has_outer(edges: Edges<'_>, v: u8) -> bool
 }
 
 fn are_same(one: Edges<'_>, other: Edges<'_>) -> bool
-    ensures { IsTrue result ↔ ((one.entry.left.0 ≡ other.entry.left.0) × (one.entry.right.0 ≡ other.entry.right.0)
+    ensures { IsTrue result
+        ↔ ((one.entry.left.0 ≡ other.entry.left.0) × (one.entry.right.0 ≡ other.entry.right.0)
         × (form_of one.entry.body.now ≡ form_of other.entry.body.now)) }
 {
     one.left.0 == other.left.0 && one.right.0 == other.right.0 && is_same(one.body, other.body)

@@ -6,7 +6,7 @@ ghost use Rattle.tv_kleene.specs.declared.K3.TheVariants.{No};
 ghost use Rattle.tv_model.specs.Form.{vars_of, FAtom, FExists, FIsNew, FSame};
 ghost use Rattle.tv_struct.specs.StructureForm.{structure_of, value_at};
 ghost use Rattle.tv_struct.specs.StructureRows.{HasArity};
-ghost use Rattle.tv_value.specs.Value.{mark_value, same_value};
+ghost use Rattle.tv_eval_laws.specs.Value.{mark_value, same_value};
 ghost use Rattle.tv_eval.specs.Along.{values_along};
 ghost use Rattle.tv_eval.specs.AssignmentForm.{assignment_of};
 ghost use Rattle.tv_eval.specs.CanEvaluate.{CanEvaluate};

@@ -8,6 +8,7 @@ mod kept;
 mod laws;
 mod leaf_rows;
 mod leaves;
+mod relation;
 mod scratch;
 mod values;
 

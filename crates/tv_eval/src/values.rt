@@ -2,25 +2,26 @@
 
 ghost use Rattle.std.specs.Prelude.{ℕ, ◌≡◌, ◌≢◌, ◌<◌, ◌≤◌, ◌+◌, [], length, map, replicate, IfSome, IfNone};
 ghost use Rattle.std.specs.List.{range_with_len};
-ghost use Rattle.tv_model.specs.Form.{form_of, FNot, FAnd, FOr, FIff, FCond, FExists, FForall, FClosure, IsFree};
+ghost use Rattle.tv_model.specs.Form.{form_of, FNot, FAnd, FOr, FIff, FCond, FExists, FForall, FClosure};
+ghost use Rattle.tv_model.specs.Form.{IsFree};
 ghost use Rattle.tv_model.specs.Truth.{put};
 ghost use Rattle.tv_row.specs.Places.{entry_in};
 ghost use Rattle.tv_struct.specs.StructureForm.{structure_of};
-ghost use Rattle.tv_value.specs.Value.{value, best_walk};
+ghost use Rattle.tv_eval_laws.specs.Value.{value, best_walk};
 ghost use Rattle.tv_eval.specs.Along.{values_along};
 ghost use Rattle.tv_eval.specs.AssignmentForm.{assignment_of};
 ghost use Rattle.tv_eval.specs.CanEvaluate.{CanEvaluate};
 ghost use Rattle.tv_eval.specs.Formulas.{HasRooms, nesting, sizes_of};
-ghost use Rattle.tv_eval.specs.Keeps.{Keeps, StandsAt};
-ghost use Rattle.tv_relation.specs.Rows.{IsPart, IsSquare, part_of};
+ghost use Rattle.tv_eval.specs.Keeps.{HoldsClosures, StandsAt};
+ghost use Rattle.tv_eval.specs.Rows.{IsPart, IsSquare, part_of};
 
 use crate::Assignment;
 use crate::kept::{Edges, Kept, has_outer};
 use crate::leaf_rows::{are_no, atom_row, columns, constant_row, new_row, same_row};
 use crate::leaves::{atom, is_new, same};
+use crate::relation::{Part, Relation};
 use tv_kleene::K3;
 use tv_model::{Formula, Var};
-use tv_relation::{Part, Relation};
 use tv_row::Row;
 use tv_struct::Structure;
 
@@ -38,10 +39,10 @@ pub fn value_of<'f>(
     shared: &mut [Relation],
 ) -> K3
     requires parts { CanEvaluate s.now a.now (sizes_of rooms.old) (form_of f.now) }
-    requires kept { Keeps s.now kept.old shared.old }
+    requires kept { HoldsClosures s.now kept.old shared.old }
     ensures exact { result ≡ value (structure_of s.now) (assignment_of a.now) (form_of f.now) }
     ensures rooms { sizes_of rooms.new ≡ sizes_of rooms.old }
-    ensures kept { Keeps s.now kept.new shared.new }
+    ensures kept { HoldsClosures s.now kept.new shared.new }
 {
     match f {
         Formula::Zero => K3::No,
@@ -84,10 +85,11 @@ fn both<'f>(
     shared: &mut [Relation],
 ) -> K3
     requires parts { CanEvaluate s.now a.now (sizes_of rooms.old) (FAnd (form_of g.now) (form_of h.now)) }
-    requires kept { Keeps s.now kept.old shared.old }
-    ensures exact { result ≡ value (structure_of s.now) (assignment_of a.now) (FAnd (form_of g.now) (form_of h.now)) }
+    requires kept { HoldsClosures s.now kept.old shared.old }
+    ensures exact { result
+        ≡ value (structure_of s.now) (assignment_of a.now) (FAnd (form_of g.now) (form_of h.now)) }
     ensures rooms { sizes_of rooms.new ≡ sizes_of rooms.old }
-    ensures kept { Keeps s.now kept.new shared.new }
+    ensures kept { HoldsClosures s.now kept.new shared.new }
 {
     let first = value_of(g, s, a, rooms, kept, shared);
     if first == K3::No {
@@ -107,10 +109,11 @@ fn either<'f>(
     shared: &mut [Relation],
 ) -> K3
     requires parts { CanEvaluate s.now a.now (sizes_of rooms.old) (FOr (form_of g.now) (form_of h.now)) }
-    requires kept { Keeps s.now kept.old shared.old }
-    ensures exact { result ≡ value (structure_of s.now) (assignment_of a.now) (FOr (form_of g.now) (form_of h.now)) }
+    requires kept { HoldsClosures s.now kept.old shared.old }
+    ensures exact { result
+        ≡ value (structure_of s.now) (assignment_of a.now) (FOr (form_of g.now) (form_of h.now)) }
     ensures rooms { sizes_of rooms.new ≡ sizes_of rooms.old }
-    ensures kept { Keeps s.now kept.new shared.new }
+    ensures kept { HoldsClosures s.now kept.new shared.new }
 {
     let first = value_of(g, s, a, rooms, kept, shared);
     if first == K3::Yes {
@@ -130,10 +133,11 @@ fn alike<'f>(
     shared: &mut [Relation],
 ) -> K3
     requires parts { CanEvaluate s.now a.now (sizes_of rooms.old) (FIff (form_of g.now) (form_of h.now)) }
-    requires kept { Keeps s.now kept.old shared.old }
-    ensures exact { result ≡ value (structure_of s.now) (assignment_of a.now) (FIff (form_of g.now) (form_of h.now)) }
+    requires kept { HoldsClosures s.now kept.old shared.old }
+    ensures exact { result
+        ≡ value (structure_of s.now) (assignment_of a.now) (FIff (form_of g.now) (form_of h.now)) }
     ensures rooms { sizes_of rooms.new ≡ sizes_of rooms.old }
-    ensures kept { Keeps s.now kept.new shared.new }
+    ensures kept { HoldsClosures s.now kept.new shared.new }
 {
     let first = value_of(g, s, a, rooms, kept, shared);
     let second = value_of(h, s, a, rooms, kept, shared);
@@ -153,11 +157,11 @@ fn choice<'f>(
 ) -> K3
     requires parts { CanEvaluate s.now a.now (sizes_of rooms.old)
         (FCond (form_of c.now) (form_of g.now) (form_of h.now)) }
-    requires kept { Keeps s.now kept.old shared.old }
+    requires kept { HoldsClosures s.now kept.old shared.old }
     ensures exact { result ≡ value (structure_of s.now) (assignment_of a.now)
         (FCond (form_of c.now) (form_of g.now) (form_of h.now)) }
     ensures rooms { sizes_of rooms.new ≡ sizes_of rooms.old }
-    ensures kept { Keeps s.now kept.new shared.new }
+    ensures kept { HoldsClosures s.now kept.new shared.new }
 {
     match value_of(c, s, a, rooms, kept, shared) {
         K3::Yes => value_of(g, s, a, rooms, kept, shared),
@@ -183,10 +187,11 @@ fn some<'f>(
     shared: &mut [Relation],
 ) -> K3
     requires parts { CanEvaluate s.now a.now (sizes_of rooms.old) (FExists v.0 (form_of body.now)) }
-    requires kept { Keeps s.now kept.old shared.old }
-    ensures exact { result ≡ value (structure_of s.now) (assignment_of a.now) (FExists v.0 (form_of body.now)) }
+    requires kept { HoldsClosures s.now kept.old shared.old }
+    ensures exact { result
+        ≡ value (structure_of s.now) (assignment_of a.now) (FExists v.0 (form_of body.now)) }
     ensures rooms { sizes_of rooms.new ≡ sizes_of rooms.old }
-    ensures kept { Keeps s.now kept.new shared.new }
+    ensures kept { HoldsClosures s.now kept.new shared.new }
 {
     row_of(body, v, s, a, rooms, kept, shared).greatest()
 }
@@ -204,10 +209,11 @@ fn every<'f>(
     shared: &mut [Relation],
 ) -> K3
     requires parts { CanEvaluate s.now a.now (sizes_of rooms.old) (FForall v.0 (form_of body.now)) }
-    requires kept { Keeps s.now kept.old shared.old }
-    ensures exact { result ≡ value (structure_of s.now) (assignment_of a.now) (FForall v.0 (form_of body.now)) }
+    requires kept { HoldsClosures s.now kept.old shared.old }
+    ensures exact { result
+        ≡ value (structure_of s.now) (assignment_of a.now) (FForall v.0 (form_of body.now)) }
     ensures rooms { sizes_of rooms.new ≡ sizes_of rooms.old }
-    ensures kept { Keeps s.now kept.new shared.new }
+    ensures kept { HoldsClosures s.now kept.new shared.new }
 {
     row_of(body, v, s, a, rooms, kept, shared).least()
 }
@@ -227,11 +233,11 @@ fn closure<'f>(
 ) -> K3
     requires parts { CanEvaluate s.now a.now (sizes_of rooms.old)
         (FClosure from.0 to.0 edges.left.0 edges.right.0 (form_of edges.body.now)) }
-    requires kept { Keeps s.now kept.old shared.old }
+    requires kept { HoldsClosures s.now kept.old shared.old }
     ensures exact { result ≡ value (structure_of s.now) (assignment_of a.now)
         (FClosure from.0 to.0 edges.entry.left.0 edges.entry.right.0 (form_of edges.entry.body.now)) }
     ensures rooms { sizes_of rooms.new ≡ sizes_of rooms.old }
-    ensures kept { Keeps s.now kept.new shared.new }
+    ensures kept { HoldsClosures s.now kept.new shared.new }
 {
     let row = closed_part(Part::From(a.at(from)), edges, s, a, rooms, kept, shared);
     row.get(a.at(to))
@@ -253,13 +259,13 @@ fn closed_part<'f>(
         (FExists edges.left.0 (FExists edges.right.0 (form_of edges.body.now))) }
     requires room { HasRooms s.now.size (nesting (form_of edges.body.now) + 1) (sizes_of rooms.old) }
     requires own { edges.left.0 ≢ edges.right.0 }
-    requires kept { Keeps s.now kept.old shared.old }
+    requires kept { HoldsClosures s.now kept.old shared.old }
     ensures exact { result ≡ part_of s.now.size part (best_walk
         (λ x y. value (structure_of s.now) (put (put (assignment_of a.now) edges.entry.left.0 x)
         edges.entry.right.0 y) (form_of edges.entry.body.now))
         (range_with_len 0 s.now.size)) }
     ensures rooms { sizes_of rooms.new ≡ sizes_of rooms.old }
-    ensures kept { Keeps s.now kept.new shared.new }
+    ensures kept { HoldsClosures s.now kept.new shared.new }
 {
     match kept_part(part, edges, s, a, kept, shared) {
         Some(values) => values,
@@ -277,7 +283,7 @@ fn kept_part(
     shared: &[Relation],
 ) -> Option<Row>
     requires part { IsPart s.now.size part }
-    requires kept { Keeps s.now kept.now shared.now }
+    requires kept { HoldsClosures s.now kept.now shared.now }
     ensures exact { IfSome result (λ values. values ≡ part_of s.now.size part (best_walk
         (λ x y. value (structure_of s.now) (put (put (assignment_of a.now) edges.entry.left.0 x)
         edges.entry.right.0 y) (form_of edges.entry.body.now))
@@ -308,13 +314,13 @@ fn close_part<'f>(
         (FExists edges.left.0 (FExists edges.right.0 (form_of edges.body.now))) }
     requires room { HasRooms s.now.size (nesting (form_of edges.body.now) + 1) (sizes_of rooms.old) }
     requires own { edges.left.0 ≢ edges.right.0 }
-    requires kept { Keeps s.now kept.old shared.old }
+    requires kept { HoldsClosures s.now kept.old shared.old }
     ensures exact { result ≡ part_of s.now.size part (best_walk
         (λ x y. value (structure_of s.now) (put (put (assignment_of a.now) edges.entry.left.0 x)
         edges.entry.right.0 y) (form_of edges.entry.body.now))
         (range_with_len 0 s.now.size)) }
     ensures rooms { sizes_of rooms.new ≡ sizes_of rooms.old }
-    ensures kept { Keeps s.now kept.new shared.new }
+    ensures kept { HoldsClosures s.now kept.new shared.new }
 {
     let (own, inner) = rooms.split_at_mut(1);
     let relation = &mut own[0];
@@ -339,7 +345,7 @@ fn fill<'f>(
     requires body { CanEvaluate s.now a.now (sizes_of rooms.old)
         (FExists edges.left.0 (FExists edges.right.0 (form_of edges.body.now))) }
     requires size { s.now.size ≤ length relation.old }
-    requires kept { Keeps s.now kept.old shared.old }
+    requires kept { HoldsClosures s.now kept.old shared.old }
     ensures edges { (u w : ℕ) → u < s.now.size → w < s.now.size
         → entry_in relation.new u w ≡ value (structure_of s.now)
         (put (put (assignment_of a.now) edges.entry.left.0 u) edges.entry.right.0 w)
@@ -347,7 +353,7 @@ fn fill<'f>(
     ensures square { IsSquare s.now.size relation.new }
     ensures size { length relation.new ≡ length relation.old }
     ensures rooms { sizes_of rooms.new ≡ sizes_of rooms.old }
-    ensures kept { Keeps s.now kept.new shared.new }
+    ensures kept { HoldsClosures s.now kept.new shared.new }
 {
     let mut here = *a;
     for u in 0..s.size() {
@@ -369,10 +375,10 @@ pub fn row_of<'f>(
     shared: &mut [Relation],
 ) -> Row
     requires parts { CanEvaluate s.now a.now (sizes_of rooms.old) (FExists v.0 (form_of f.now)) }
-    requires kept { Keeps s.now kept.old shared.old }
+    requires kept { HoldsClosures s.now kept.old shared.old }
     ensures exact { result ≡ values_along s.now (assignment_of a.now) v.0 (form_of f.now) }
     ensures rooms { sizes_of rooms.new ≡ sizes_of rooms.old }
-    ensures kept { Keeps s.now kept.new shared.new }
+    ensures kept { HoldsClosures s.now kept.new shared.new }
 {
     match f {
         Formula::Zero => constant_row(s, K3::No),
@@ -436,10 +442,10 @@ fn by_values<'f>(
     shared: &mut [Relation],
 ) -> Row
     requires parts { CanEvaluate s.now a.now (sizes_of rooms.old) (FExists v.0 (form_of f.now)) }
-    requires kept { Keeps s.now kept.old shared.old }
+    requires kept { HoldsClosures s.now kept.old shared.old }
     ensures exact { result ≡ values_along s.now (assignment_of a.now) v.0 (form_of f.now) }
     ensures rooms { sizes_of rooms.new ≡ sizes_of rooms.old }
-    ensures kept { Keeps s.now kept.new shared.new }
+    ensures kept { HoldsClosures s.now kept.new shared.new }
 {
     let mut values = Row::of(s.size(), K3::No);
     let mut here = *a;
@@ -462,10 +468,10 @@ fn rows_not<'f>(
     shared: &mut [Relation],
 ) -> Row
     requires parts { CanEvaluate s.now a.now (sizes_of rooms.old) (FExists v.0 (FNot (form_of g.now))) }
-    requires kept { Keeps s.now kept.old shared.old }
+    requires kept { HoldsClosures s.now kept.old shared.old }
     ensures exact { result ≡ values_along s.now (assignment_of a.now) v.0 (FNot (form_of g.now)) }
     ensures rooms { sizes_of rooms.new ≡ sizes_of rooms.old }
-    ensures kept { Keeps s.now kept.new shared.new }
+    ensures kept { HoldsClosures s.now kept.new shared.new }
 {
     row_of(g, v, s, a, rooms, kept, shared).not()
 }
@@ -484,10 +490,11 @@ fn rows_both<'f>(
 ) -> Row
     requires parts { CanEvaluate s.now a.now (sizes_of rooms.old)
         (FExists v.0 (FAnd (form_of g.now) (form_of h.now))) }
-    requires kept { Keeps s.now kept.old shared.old }
-    ensures exact { result ≡ values_along s.now (assignment_of a.now) v.0 (FAnd (form_of g.now) (form_of h.now)) }
+    requires kept { HoldsClosures s.now kept.old shared.old }
+    ensures exact { result
+        ≡ values_along s.now (assignment_of a.now) v.0 (FAnd (form_of g.now) (form_of h.now)) }
     ensures rooms { sizes_of rooms.new ≡ sizes_of rooms.old }
-    ensures kept { Keeps s.now kept.new shared.new }
+    ensures kept { HoldsClosures s.now kept.new shared.new }
 {
     let first = row_of(g, v, s, a, rooms, kept, shared);
     if are_no(&first) {
@@ -511,10 +518,11 @@ fn rows_either<'f>(
 ) -> Row
     requires parts { CanEvaluate s.now a.now (sizes_of rooms.old)
         (FExists v.0 (FOr (form_of g.now) (form_of h.now))) }
-    requires kept { Keeps s.now kept.old shared.old }
-    ensures exact { result ≡ values_along s.now (assignment_of a.now) v.0 (FOr (form_of g.now) (form_of h.now)) }
+    requires kept { HoldsClosures s.now kept.old shared.old }
+    ensures exact { result
+        ≡ values_along s.now (assignment_of a.now) v.0 (FOr (form_of g.now) (form_of h.now)) }
     ensures rooms { sizes_of rooms.new ≡ sizes_of rooms.old }
-    ensures kept { Keeps s.now kept.new shared.new }
+    ensures kept { HoldsClosures s.now kept.new shared.new }
 {
     let first = row_of(g, v, s, a, rooms, kept, shared);
     if first.are_yes() {
@@ -538,10 +546,11 @@ fn rows_alike<'f>(
 ) -> Row
     requires parts { CanEvaluate s.now a.now (sizes_of rooms.old)
         (FExists v.0 (FIff (form_of g.now) (form_of h.now))) }
-    requires kept { Keeps s.now kept.old shared.old }
-    ensures exact { result ≡ values_along s.now (assignment_of a.now) v.0 (FIff (form_of g.now) (form_of h.now)) }
+    requires kept { HoldsClosures s.now kept.old shared.old }
+    ensures exact { result
+        ≡ values_along s.now (assignment_of a.now) v.0 (FIff (form_of g.now) (form_of h.now)) }
     ensures rooms { sizes_of rooms.new ≡ sizes_of rooms.old }
-    ensures kept { Keeps s.now kept.new shared.new }
+    ensures kept { HoldsClosures s.now kept.new shared.new }
 {
     let first = row_of(g, v, s, a, rooms, kept, shared);
     let second = row_of(h, v, s, a, rooms, kept, shared);
@@ -565,11 +574,11 @@ fn rows_choice<'f>(
 ) -> Row
     requires parts { CanEvaluate s.now a.now (sizes_of rooms.old)
         (FExists v.0 (FCond (form_of c.now) (form_of g.now) (form_of h.now))) }
-    requires kept { Keeps s.now kept.old shared.old }
+    requires kept { HoldsClosures s.now kept.old shared.old }
     ensures exact { result ≡ values_along s.now (assignment_of a.now) v.0
         (FCond (form_of c.now) (form_of g.now) (form_of h.now)) }
     ensures rooms { sizes_of rooms.new ≡ sizes_of rooms.old }
-    ensures kept { Keeps s.now kept.new shared.new }
+    ensures kept { HoldsClosures s.now kept.new shared.new }
 {
     let condition = row_of(c, v, s, a, rooms, kept, shared);
     if condition.are_yes() {
@@ -599,12 +608,13 @@ fn rows_greatest<'f>(
     kept: &mut Kept<'f>,
     shared: &mut [Relation],
 ) -> Row
-    requires parts { CanEvaluate s.now a.now (sizes_of rooms.old) (FExists v.0 (FExists w.0 (form_of body.now))) }
-    requires kept { Keeps s.now kept.old shared.old }
+    requires parts { CanEvaluate s.now a.now (sizes_of rooms.old)
+        (FExists v.0 (FExists w.0 (form_of body.now))) }
+    requires kept { HoldsClosures s.now kept.old shared.old }
     requires apart { w.0 ≢ v.0 }
     ensures exact { result ≡ values_along s.now (assignment_of a.now) v.0 (FExists w.0 (form_of body.now)) }
     ensures rooms { sizes_of rooms.new ≡ sizes_of rooms.old }
-    ensures kept { Keeps s.now kept.new shared.new }
+    ensures kept { HoldsClosures s.now kept.new shared.new }
 {
     let mut found = Row::of(s.size(), K3::No);
     let mut here = *a;
@@ -629,12 +639,13 @@ fn rows_least<'f>(
     kept: &mut Kept<'f>,
     shared: &mut [Relation],
 ) -> Row
-    requires parts { CanEvaluate s.now a.now (sizes_of rooms.old) (FExists v.0 (FForall w.0 (form_of body.now))) }
-    requires kept { Keeps s.now kept.old shared.old }
+    requires parts { CanEvaluate s.now a.now (sizes_of rooms.old)
+        (FExists v.0 (FForall w.0 (form_of body.now))) }
+    requires kept { HoldsClosures s.now kept.old shared.old }
     requires apart { w.0 ≢ v.0 }
     ensures exact { result ≡ values_along s.now (assignment_of a.now) v.0 (FForall w.0 (form_of body.now)) }
     ensures rooms { sizes_of rooms.new ≡ sizes_of rooms.old }
-    ensures kept { Keeps s.now kept.new shared.new }
+    ensures kept { HoldsClosures s.now kept.new shared.new }
 {
     let mut found = Row::of(s.size(), K3::Yes);
     let mut here = *a;
@@ -662,12 +673,12 @@ fn closure_row<'f>(
 ) -> Row
     requires parts { CanEvaluate s.now a.now (sizes_of rooms.old)
         (FExists v.0 (FClosure from.0 to.0 edges.left.0 edges.right.0 (form_of edges.body.now))) }
-    requires kept { Keeps s.now kept.old shared.old }
+    requires kept { HoldsClosures s.now kept.old shared.old }
     requires steady { ¬ ((v.0 ≢ edges.left.0) × (v.0 ≢ edges.right.0) × IsFree v.0 (form_of edges.body.now)) }
     ensures exact { result ≡ values_along s.now (assignment_of a.now) v.0
         (FClosure from.0 to.0 edges.entry.left.0 edges.entry.right.0 (form_of edges.entry.body.now)) }
     ensures rooms { sizes_of rooms.new ≡ sizes_of rooms.old }
-    ensures kept { Keeps s.now kept.new shared.new }
+    ensures kept { HoldsClosures s.now kept.new shared.new }
 {
     if from.0 == v.0 {
         if to.0 == v.0 {

@@ -1,9 +1,12 @@
 -- A body that gave nothing for one member gives nothing for the others, where its sets don't mention the variable.
-use Rattle.std.proofs.Common.{◌≡◌, ℕ, ◌+◌, ◌<◌, ◌≤◌, Bool, true, false, not, cond, ◌&&◌, ◌||◌, get_or, List, [], ◌∷◌, ◌++◌, length, map, drop, refl, sym, ap, subst, ◌∙◌, Result, Ok, Err, Bor, inl, inr, ◌⊎◌, arith, nat_eq, eqb-true}
+use Rattle.std.proofs.Common.{◌≡◌, ℕ, ◌+◌, ◌<◌, ◌≤◌, Bool, true, false, not, cond, ◌&&◌, ◌||◌, get_or, List}
+use Rattle.std.proofs.Common.{[], ◌∷◌, ◌++◌, length, map, drop, refl, sym, ap, subst, ◌∙◌, Result, Ok, Err}
+use Rattle.std.proofs.Common.{Bor, inl, inr, ◌⊎◌, arith, nat_eq, eqb-true}
 use Rattle.std.specs.Str.{bytes_eq}
 use Rattle.std.proofs.lemmas.List.{drop_more, drop_all, length_push}
 use Rattle.tv_tree.specs.Names.{is_among}
-use Rattle.tv_tree.specs.Forms.{SetForm, SNamed, SMembers, SParen, SPlus, SMinus, Nest, Single, Foreach, Nests, no_nest, with_nest, DeclForm, DSet, DPred, DRule, UpdateForm}
+use Rattle.tv_tree.specs.Forms.{SetForm, SNamed, SMembers, SParen, SPlus, SMinus, Nest, Single, Foreach}
+use Rattle.tv_tree.specs.Forms.{Nests, no_nest, with_nest, DeclForm, DSet, DPred, DRule, UpdateForm}
 use Rattle.tv_tree.specs.Copies.{term_of, step_of, set_of, nests}
 use Rattle.tv_tree.specs.declared.trees.SetSign.{SetSign}
 use Rattle.tv_tree.specs.declared.trees.SetStep.{SetStep}
@@ -17,10 +20,12 @@ use Rattle.tv_expand.specs.declared.error.ExpandError.TheVariants.{NameTwice}
 use Rattle.tv_expand.specs.Outcome.{◌>>=◌, each}
 use Rattle.tv_expand.specs.Sets.{Sets, find_set, members_of, with_members}
 use Rattle.tv_expand.specs.Idle.{is_apart_set, is_apart_nest, is_apart, declared_count, update_count}
-use Rattle.tv_expand.specs.Expansion.{unrolled, unrolled_nest, counted, Declared, with_set, with_pred, with_rule, declared, Block, updated}
+use Rattle.tv_expand.specs.Expansion.{unrolled, unrolled_nest, counted, Declared, with_set, with_pred}
+use Rattle.tv_expand.specs.Expansion.{with_rule, declared, Block, updated}
 use Rattle.tv_expand.specs.Views.{names_of}
 use Rattle.tv_expand.proofs.KeepLaws.{bind_ok}
-use Rattle.tv_expand.proofs.SetTests.{all_steps, first_passes, first_refused, step_passes, step_refused, steps_pass}
+use Rattle.tv_expand.proofs.SetTests.{all_steps, first_passes, first_refused, step_passes, step_refused}
+use Rattle.tv_expand.proofs.SetTests.{steps_pass}
 use Rattle.std.specs.Prelude.{is_some}
 
 both : (p q : Bool) → (p && q) ≡ true → (p ≡ true) × (q ≡ true)

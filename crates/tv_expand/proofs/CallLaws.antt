@@ -1,5 +1,6 @@
 -- There are never more calls than edges, and each edge is an item: so the number of a call is small.
-use Rattle.std.proofs.Common.{◌≡◌, ℕ, ◌+◌, ◌-◌, ◌<◌, ◌≤◌, ◌&&◌, refl, ltb-true, Bool, true, false, not, cond, List, [], ◌∷◌, ◌++◌, length, subst, ap, Result, Ok, Err, Bor, arith}
+use Rattle.std.proofs.Common.{◌≡◌, ℕ, ◌+◌, ◌-◌, ◌<◌, ◌≤◌, ◌&&◌, refl, ltb-true, Bool, true, false, not, cond}
+use Rattle.std.proofs.Common.{List, [], ◌∷◌, ◌++◌, length, subst, ap, Result, Ok, Err, Bor, arith}
 use Rattle.std.specs.Prelude.{◌==◌, nat_lt, nat_le}
 use Rattle.std.specs.List.{list_any, zip, position_or_len}
 use Rattle.std.specs.Global.{Vec}
@@ -11,7 +12,9 @@ use Rattle.tv_expand.specs.declared.error.ExpandError.{ExpandError}
 use Rattle.tv_expand.specs.declared.error.ExpandError.TheVariants.{ArgumentCount, TooManyItems}
 use Rattle.tv_expand.specs.Outcome.{◌>>=◌, each}
 use Rattle.tv_expand.specs.Sets.{Sets, known}
-use Rattle.tv_expand.specs.Expansion.{Room, counted, Gathered, gathered, Actions, find_action, same_call, Wired, made, with_call, called, with_edge, wired_to, wired, nothing_wired}
+use Rattle.tv_expand.specs.Expansion.{Room, counted, Gathered, gathered, Actions, find_action, same_call}
+use Rattle.tv_expand.specs.Expansion.{Wired, made, with_call, called, with_edge, wired_to, wired}
+use Rattle.tv_expand.specs.Expansion.{nothing_wired}
 use Rattle.tv_expand.specs.declared.room.Room.{Room as RoomLeft}
 use Rattle.tv_expand.specs.declared.wiring.Wired.{Wired as WiredSoFar}
 use Rattle.tv_expand.specs.Views.{call_of, calls_of}

@@ -1,20 +1,29 @@
 -- What the edges keep, and that what a spelled program stands for is flat.
-use Rattle.std.proofs.Common.{◌≡◌, ℕ, ◌+◌, ◌<◌, ◌≤◌, Bool, true, false, not, cond, ◌||◌, List, [], ◌∷◌, ◌++◌, length, map, refl, sym, subst, Result, Ok, Err, arith}
+use Rattle.std.proofs.Common.{◌≡◌, ℕ, ◌+◌, ◌<◌, ◌≤◌, Bool, true, false, not, cond, ◌||◌, List, [], ◌∷◌, ◌++◌}
+use Rattle.std.proofs.Common.{length, map, refl, sym, subst, Result, Ok, Err, arith}
 use Rattle.std.specs.Prelude.{All, sum_by, is_some, ◌==◌}
 use Rattle.std.specs.List.{list_any, zip, position_or_len}
 use Rattle.std.proofs.lemmas.List.{length_push}
 use Rattle.std.proofs.lemmas.List.Elements.{All-nil, All-cons, All-head, All-tail, All-push, All-weaker}
 use Rattle.tv_model.specs.Spelling.{IsIdentifier}
-use Rattle.tv_tree.specs.Forms.{UpdateForm, Nests, PieceForm, Form, PartForm, PCaption, PFocus, PPre, PMessage, PNew, PRetain, PBlock, ActionForm, EdgeForm, ProgramForm}
+use Rattle.tv_tree.specs.Forms.{UpdateForm, Nests, PieceForm, Form, PartForm, PCaption, PFocus, PPre}
+use Rattle.tv_tree.specs.Forms.{PMessage, PNew, PRetain, PBlock, ActionForm, EdgeForm, ProgramForm}
 use Rattle.tv_tree.specs.Copies.{nests}
-use Rattle.tv_tree.specs.Spelled.{AreIdentifiers, IsSpelledPart, IsSpelledPred, IsSpelledDecl, PartKind, CaptionPart, FocusPart, PrePart, RetainPart, BlockPart, one_of_kind, count_of_kind, HasPartsOnce, IsSpelledAction, IsSpelledEdge, IsSpelled}
+use Rattle.tv_tree.specs.Spelled.{AreIdentifiers, IsSpelledPart, IsSpelledPred, IsSpelledDecl, PartKind}
+use Rattle.tv_tree.specs.Spelled.{CaptionPart, FocusPart, PrePart, RetainPart, BlockPart, one_of_kind}
+use Rattle.tv_tree.specs.Spelled.{count_of_kind, HasPartsOnce, IsSpelledAction, IsSpelledEdge, IsSpelled}
 use Rattle.tv_expand.specs.declared.error.ExpandError.{ExpandError}
 use Rattle.tv_expand.specs.declared.error.ExpandError.TheVariants.{NameTwice, ArgumentCount}
-use Rattle.tv_flat.specs.FlatForm.{FlatEdgeForm, FlatForm, nodes, IsFlatPart, IsFlatAction, IsFlatEdge, IsFlat, IsSpelledRule, item_count, node_count, max_items, max_nodes}
+use Rattle.tv_flat.specs.FlatForm.{FlatEdgeForm, FlatForm, nodes, IsFlatPart, IsFlatAction, IsFlatEdge}
+use Rattle.tv_flat.specs.FlatForm.{IsFlat, IsSpelledRule, item_count, node_count, max_items, max_nodes}
 use Rattle.tv_expand.specs.Outcome.{◌>>=◌, each}
 use Rattle.tv_flat.specs.Replaced.{Binding, all_bound, flat_form, one_text}
 use Rattle.tv_expand.specs.Sets.{Sets, known, once}
-use Rattle.tv_expand.specs.Expansion.{Room, counted, Declared, declared, sets_in, all_declared, nothing_declared, all_updated, Gathered, with_part, with_block, gathered, Actions, find_action, with_action, same_call, Wired, made, with_call, called, with_edge, wired_to, wired, nothing_wired, flat_form_of, limits, expansion}
+use Rattle.tv_expand.specs.Expansion.{Room, counted, Declared, declared, sets_in, all_declared}
+use Rattle.tv_expand.specs.Expansion.{nothing_declared, all_updated, Gathered, with_part, with_block}
+use Rattle.tv_expand.specs.Expansion.{gathered, Actions, find_action, with_action, same_call, Wired, made}
+use Rattle.tv_expand.specs.Expansion.{with_call, called, with_edge, wired_to, wired, nothing_wired}
+use Rattle.tv_expand.specs.Expansion.{flat_form_of, limits, expansion}
 use Rattle.tv_flat.proofs.SpellLaws.{IsGoodBinding, all_bound_good}
 use Rattle.tv_expand.proofs.KeepLaws.{bind_ok, AreGoodSets, lookup_good, each_keeps, nests_keep}
 use Rattle.tv_expand.proofs.CallLaws.{place_within}

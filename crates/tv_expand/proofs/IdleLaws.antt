@@ -1,8 +1,11 @@
 -- What is idle leaves each state as it is, and the tests for it step by step.
-use Rattle.std.proofs.Common.{◌≡◌, ℕ, ◌+◌, ◌<◌, ◌≤◌, Bool, true, false, ◌&&◌, ◌||◌, get_or, List, [], ◌∷◌, length, map, drop, refl, sym, Option, Some, None, Result, Ok, Bor, inl, inr, ◌⊎◌}
+use Rattle.std.proofs.Common.{◌≡◌, ℕ, ◌+◌, ◌<◌, ◌≤◌, Bool, true, false, ◌&&◌, ◌||◌, get_or, List, [], ◌∷◌}
+use Rattle.std.proofs.Common.{length, map, drop, refl, sym, Option, Some, None, Result, Ok, Bor, inl, inr}
+use Rattle.std.proofs.Common.{◌⊎◌}
 use Rattle.std.specs.Prelude.{is_some, ◌==◌}
 use Rattle.std.proofs.lemmas.List.{drop_more, drop_all}
-use Rattle.tv_tree.specs.Forms.{SetForm, SNamed, SMembers, SParen, SPlus, SMinus, Nest, Single, Foreach, Nests, no_nest, with_nest}
+use Rattle.tv_tree.specs.Forms.{SetForm, SNamed, SMembers, SParen, SPlus, SMinus, Nest, Single, Foreach}
+use Rattle.tv_tree.specs.Forms.{Nests, no_nest, with_nest}
 use Rattle.tv_tree.specs.Copies.{term_of, step_of, set_of, nests}
 use Rattle.tv_tree.specs.declared.trees.SetSign.{SetSign}
 use Rattle.tv_tree.specs.declared.trees.SetStep.{SetStep}
@@ -12,13 +15,15 @@ use Rattle.tv_flat.specs.Replaced.{Binding, bound, replaced}
 use Rattle.tv_expand.specs.declared.error.ExpandError.{ExpandError}
 use Rattle.tv_expand.specs.Outcome.{each}
 use Rattle.tv_expand.specs.Sets.{Sets, find_set, known, with_members, without_members, members_of}
-use Rattle.tv_expand.specs.Idle.{is_declared_set, is_none, is_known_empty, is_empty_set, is_empty_step, is_idle_nest, is_idle}
+use Rattle.tv_expand.specs.Idle.{is_declared_set, is_none, is_known_empty, is_empty_set, is_empty_step}
+use Rattle.tv_expand.specs.Idle.{is_idle_nest, is_idle}
 use Rattle.tv_expand.specs.Views.{names_of, WordSet, sets_of}
 use Rattle.tv_expand.proofs.SetLaws.{found_set}
 use Rattle.std.proofs.Math.Dec.{eqb-suc-zero}
 use Rattle.std.specs.Map.{lookup}
 use Rattle.std.specs.Str.{bytes_eq}
-use Rattle.tv_expand.proofs.SetTests.{all_steps, first_passes, first_refused, step_passes, step_refused, steps_pass}
+use Rattle.tv_expand.proofs.SetTests.{all_steps, first_passes, first_refused, step_passes, step_refused}
+use Rattle.tv_expand.proofs.SetTests.{steps_pass}
 use Rattle.tv_expand.specs.Expansion.{unrolled, unrolled_nest}
 
 both : (p q : Bool) → (p && q) ≡ true → (p ≡ true) × (q ≡ true)

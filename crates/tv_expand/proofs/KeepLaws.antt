@@ -1,11 +1,13 @@
 -- What is spelled stays spelled: replaced words, members of sets, and whatever steps keep.
-use Rattle.std.proofs.Common.{◌≡◌, ℕ, Bool, true, false, not, cond, List, [], ◌∷◌, ◌++◌, map, refl, subst, Some, Result, Ok, Err}
+use Rattle.std.proofs.Common.{◌≡◌, ℕ, Bool, true, false, not, cond, List, [], ◌∷◌, ◌++◌, map, refl, subst}
+use Rattle.std.proofs.Common.{Some, Result, Ok, Err}
 use Rattle.std.specs.Prelude.{All, filter}
 use Rattle.std.specs.Str.{bytes_eq}
 use Rattle.std.specs.Map.{lookup}
 use Rattle.std.proofs.lemmas.List.Elements.{All-nil, All-head, All-tail, All-push, All-filter}
 use Rattle.tv_model.specs.Spelling.{IsIdentifier}
-use Rattle.tv_tree.specs.Forms.{SetForm, SNamed, SMembers, SParen, SPlus, SMinus, Nest, Single, Foreach, Nests, no_nest, with_nest}
+use Rattle.tv_tree.specs.Forms.{SetForm, SNamed, SMembers, SParen, SPlus, SMinus, Nest, Single, Foreach}
+use Rattle.tv_tree.specs.Forms.{Nests, no_nest, with_nest}
 use Rattle.tv_tree.specs.Spelled.{AreIdentifiers, IsSpelledSet, IsSpelledNest, AreSpelledNests}
 use Rattle.tv_expand.specs.declared.error.ExpandError.{ExpandError}
 use Rattle.tv_expand.specs.Outcome.{◌>>=◌, each}

@@ -1,21 +1,32 @@
 -- Limits decide nothing but whether a flat form is too large: what a step takes up doesn't depend on the room.
-use Rattle.std.proofs.Common.{◌≡◌, ℕ, ◌+◌, ◌-◌, ◌≤◌, Bool, true, false, cond, ◌&&◌, List, [], ◌∷◌, ◌++◌, length, map, refl, sym, ap, ◌∙◌, subst, Result, Ok, Err, arith, inl, inr, leb-true}
+use Rattle.std.proofs.Common.{◌≡◌, ℕ, ◌+◌, ◌-◌, ◌≤◌, Bool, true, false, cond, ◌&&◌, List, [], ◌∷◌, ◌++◌}
+use Rattle.std.proofs.Common.{length, map, refl, sym, ap, ◌∙◌, subst, Result, Ok, Err, arith, inl, inr}
+use Rattle.std.proofs.Common.{leb-true}
 use Rattle.std.proofs.lemmas.Bool.{le-leb, lt-leb}
 use Rattle.std.proofs.lemmas.Bool.Decides.{leb_tells}
 use Rattle.std.specs.Prelude.{sum_by, is_some, nat_le, ◌==◌}
 use Rattle.std.specs.List.{list_any, zip, position_or_len}
 use Rattle.std.proofs.lemmas.List.{length_push}
 use Rattle.std.proofs.lemmas.List.Sums.{sum_by-cons, sum_by_push}
-use Rattle.tv_tree.specs.Forms.{SetForm, DeclForm, DSet, DPred, DRule, Nest, Single, Foreach, Nests, no_nest, with_nest, UpdateForm, PartForm, PCaption, PFocus, PPre, PMessage, PNew, PRetain, PBlock, ActionForm, EdgeForm, ProgramForm}
+use Rattle.tv_tree.specs.Forms.{SetForm, DeclForm, DSet, DPred, DRule, Nest, Single, Foreach, Nests, no_nest}
+use Rattle.tv_tree.specs.Forms.{with_nest, UpdateForm, PartForm, PCaption, PFocus, PPre, PMessage, PNew}
+use Rattle.tv_tree.specs.Forms.{PRetain, PBlock, ActionForm, EdgeForm, ProgramForm}
 use Rattle.tv_tree.specs.Copies.{nests}
 use Rattle.tv_expand.specs.declared.error.ExpandError.{ExpandError}
 use Rattle.tv_expand.specs.declared.error.ExpandError.TheVariants.{NameTwice, ArgumentCount, TooManyItems}
-use Rattle.tv_flat.specs.FlatForm.{FlatForm, FlatEdgeForm, nodes, pred_nodes, rule_nodes, block_sum, part_items, part_nodes, max_items, max_nodes, item_count, node_count}
-use Rattle.tv_flat.specs.Replaced.{Binding, bound, all_bound, flat_form, flat_pred, flat_rule, flat_update, one_text}
+use Rattle.tv_flat.specs.FlatForm.{FlatForm, FlatEdgeForm, nodes, pred_nodes, rule_nodes, block_sum}
+use Rattle.tv_flat.specs.FlatForm.{part_items, part_nodes, max_items, max_nodes, item_count, node_count}
+use Rattle.tv_flat.specs.Replaced.{Binding, bound, all_bound, flat_form, flat_pred, flat_rule, flat_update}
+use Rattle.tv_flat.specs.Replaced.{one_text}
 use Rattle.tv_flat.proofs.SpellLaws.{nodes_same, sum_same, body_same}
 use Rattle.tv_expand.specs.Outcome.{◌>>=◌, each}
 use Rattle.tv_expand.specs.Sets.{Sets, find_set, known, members_of}
-use Rattle.tv_expand.specs.Expansion.{Room, counted, unrolled_nest, unrolled, Declared, sets_in, with_set, with_pred, with_rule, declared, all_declared, Block, updated, sets_for, all_updated, Gathered, with_part, with_block, gathered, Actions, find_action, with_action, same_call, Wired, made, with_call, called, with_edge, wired_to, wired, nothing_declared, nothing_wired, flat_form_of, expansion_within, expansion, limits}
+use Rattle.tv_expand.specs.Expansion.{Room, counted, unrolled_nest, unrolled, Declared, sets_in, with_set}
+use Rattle.tv_expand.specs.Expansion.{with_pred, with_rule, declared, all_declared, Block, updated, sets_for}
+use Rattle.tv_expand.specs.Expansion.{all_updated, Gathered, with_part, with_block, gathered, Actions}
+use Rattle.tv_expand.specs.Expansion.{find_action, with_action, same_call, Wired, made, with_call, called}
+use Rattle.tv_expand.specs.Expansion.{with_edge, wired_to, wired, nothing_declared, nothing_wired}
+use Rattle.tv_expand.specs.Expansion.{flat_form_of, expansion_within, expansion, limits}
 use Rattle.tv_expand.proofs.KeepLaws.{bind_ok}
 
 -- ---- what room is spent

@@ -1,5 +1,6 @@
 -- Expressions for sets, from left to right.
-use Rattle.std.proofs.Common.{◌≡◌, ℕ, ◌+◌, ◌<◌, Bool, true, false, cond, get_or, List, [], ◌∷◌, ◌++◌, length, map, drop, refl, sym, ap, ◌∙◌, Option, Some, None, Result, Ok, Err, Bor}
+use Rattle.std.proofs.Common.{◌≡◌, ℕ, ◌+◌, ◌<◌, Bool, true, false, cond, get_or, List, [], ◌∷◌, ◌++◌, length}
+use Rattle.std.proofs.Common.{map, drop, refl, sym, ap, ◌∙◌, Option, Some, None, Result, Ok, Err, Bor}
 use Rattle.std.specs.Option.{option_map}
 use Rattle.std.specs.Str.{bytes_eq}
 use Rattle.std.specs.Map.{lookup}
@@ -14,21 +15,22 @@ use Rattle.tv_tree.proofs.Unfolds.{step_of_parts, set_of_steps}
 use Rattle.std.specs.Prelude.{is_some}
 use Rattle.indexmap.specs.IndexMap.{insert_entry}
 use Rattle.tv_expand.specs.declared.error.ExpandError.{ExpandError}
-use Rattle.tv_expand.specs.declared.error.ExpandError.TheVariants.{NameUnknown, NameTwice, ArgumentCount, TooManyItems, Memory}
-use Rattle.tv_expand.specs.Outcome.{◌>>=◌, Fails}
+use Rattle.tv_expand.specs.declared.error.ExpandError.TheVariants.{NameUnknown, NameTwice, ArgumentCount}
+use Rattle.tv_expand.specs.declared.error.ExpandError.TheVariants.{TooManyItems, Memory}
+use Rattle.tv_expand.specs.Outcome.{◌>>=◌, FailsExpansion}
 use Rattle.tv_flat.specs.Replaced.{Binding}
 use Rattle.tv_expand.specs.Sets.{Sets, find_set, known, members_of}
 use Rattle.tv_expand.specs.Views.{names_of, WordSet, entry_of, sets_of, signed, step_members}
 
 -- a refusal stays one, whatever would come behind it
-pub fails_then : {A B : Type 0} (e : ExpandError) (out : Result A ExpandError) (next : A → Result B ExpandError) → Fails e out → Fails e (out >>= next)
+pub fails_then : {A B : Type 0} (e : ExpandError) (out : Result A ExpandError) (next : A → Result B ExpandError) → FailsExpansion e out → FailsExpansion e (out >>= next)
 fails_then NameUnknown out next h = rw h refl
 fails_then NameTwice out next h = rw h refl
 fails_then ArgumentCount out next h = rw h refl
 fails_then TooManyItems out next h = rw h refl
 fails_then Memory out next h = tt
 
-pub fails_same : {A : Type 0} (e : ExpandError) (out all : Result A ExpandError) → out ≡ all → Fails e out → Fails e all
+pub fails_same : {A : Type 0} (e : ExpandError) (out all : Result A ExpandError) → out ≡ all → FailsExpansion e out → FailsExpansion e all
 fails_same NameUnknown out all same h = sym same ∙ h
 fails_same NameTwice out all same h = sym same ∙ h
 fails_same ArgumentCount out all same h = sym same ∙ h
@@ -64,7 +66,7 @@ pub further_step : (sets : Sets) (b : Binding) (xs ys : List (List ℕ)) (more :
 further_step sets b xs ys more i s below is found =
     sym (rw (drop_more more i s below, ← is, step_of_parts s, found) refl)
 
-pub further_fails : (sets : Sets) (b : Binding) (xs : List (List ℕ)) (more : List SetStep) (i : ℕ) (s : SetStep) (e : ExpandError) → i < length more → s ≡ get_or more i s → Fails e (step_members sets b xs (s.sign, term_of s.term)) → Fails e (further_sets sets b xs (map step_of (drop i more)))
+pub further_fails : (sets : Sets) (b : Binding) (xs : List (List ℕ)) (more : List SetStep) (i : ℕ) (s : SetStep) (e : ExpandError) → i < length more → s ≡ get_or more i s → FailsExpansion e (step_members sets b xs (s.sign, term_of s.term)) → FailsExpansion e (further_sets sets b xs (map step_of (drop i more)))
 further_fails sets b xs more i s e below is h =
     rw (drop_more more i s below, ← is, step_of_parts s) (fails_then e (step_members sets b xs (s.sign, term_of s.term)) (λ ys. further_sets sets b ys (map step_of (drop (i + 1) more))) h)
 

@@ -1,5 +1,6 @@
 -- Tests of expressions for sets that go from set to set.
-use Rattle.std.proofs.Common.{◌≡◌, ℕ, ◌+◌, ◌<◌, ◌≤◌, Bool, true, false, ◌&&◌, get_or, List, [], ◌∷◌, length, map, drop, refl, sym, ap, ◌∙◌}
+use Rattle.std.proofs.Common.{◌≡◌, ℕ, ◌+◌, ◌<◌, ◌≤◌, Bool, true, false, ◌&&◌, get_or, List, [], ◌∷◌, length}
+use Rattle.std.proofs.Common.{map, drop, refl, sym, ap, ◌∙◌}
 use Rattle.std.proofs.lemmas.List.{drop_more, drop_all}
 use Rattle.tv_tree.specs.Forms.{SetForm, SPlus, SMinus}
 use Rattle.tv_tree.specs.Copies.{term_of, step_of, set_of, joined_set}

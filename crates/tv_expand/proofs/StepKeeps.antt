@@ -1,9 +1,11 @@
 -- What each step keeps: what is taken up is spelled.
-use Rattle.std.proofs.Common.{◌≡◌, ℕ, ◌+◌, Bool, true, false, cond, List, [], ◌∷◌, ◌++◌, map, subst, Result, Ok, Err}
+use Rattle.std.proofs.Common.{◌≡◌, ℕ, ◌+◌, Bool, true, false, cond, List, [], ◌∷◌, ◌++◌, map, subst, Result}
+use Rattle.std.proofs.Common.{Ok, Err}
 use Rattle.std.specs.Prelude.{All, sum_by, is_some}
 use Rattle.std.proofs.lemmas.List.Elements.{All-nil, All-head, All-tail, All-push}
 use Rattle.tv_model.specs.Spelling.{IsIdentifier}
-use Rattle.tv_tree.specs.Forms.{DeclForm, DSet, DPred, DRule, Nest, Single, Foreach, UpdateForm, PartForm, PCaption, PFocus, PPre, PMessage, PNew, PRetain, PBlock}
+use Rattle.tv_tree.specs.Forms.{DeclForm, DSet, DPred, DRule, Nest, Single, Foreach, UpdateForm, PartForm}
+use Rattle.tv_tree.specs.Forms.{PCaption, PFocus, PPre, PMessage, PNew, PRetain, PBlock}
 use Rattle.tv_tree.specs.Copies.{nests}
 use Rattle.tv_tree.specs.Spelled.{IsSpelledPred, IsSpelledDecl, IsSpelledUpdate, IsSpelledPart}
 use Rattle.tv_expand.specs.declared.error.ExpandError.{ExpandError}
@@ -12,8 +14,11 @@ use Rattle.tv_flat.specs.FlatForm.{nodes, pred_nodes, IsSpelledRule, IsFlatBlock
 use Rattle.tv_expand.specs.Outcome.{◌>>=◌}
 use Rattle.tv_flat.specs.Replaced.{Binding, flat_form, flat_pred, flat_rule, flat_update, one_text}
 use Rattle.tv_expand.specs.Sets.{Sets, find_set, members_of}
-use Rattle.tv_expand.specs.Expansion.{counted, Declared, with_set, with_pred, with_rule, declared, Block, updated, sets_for, all_updated, Gathered, with_part, with_block, gathered}
-use Rattle.tv_flat.proofs.SpellLaws.{IsGoodBinding, form_good, forms_good, pred_good, update_good, joined_good}
+use Rattle.tv_expand.specs.Expansion.{counted, Declared, with_set, with_pred, with_rule, declared, Block}
+use Rattle.tv_expand.specs.Expansion.{updated, sets_for, all_updated, Gathered, with_part, with_block}
+use Rattle.tv_expand.specs.Expansion.{gathered}
+use Rattle.tv_flat.proofs.SpellLaws.{IsGoodBinding, form_good, forms_good, pred_good, update_good}
+use Rattle.tv_flat.proofs.SpellLaws.{joined_good}
 use Rattle.tv_expand.proofs.KeepLaws.{bind_ok, AreGoodSets, members_good, nests_keep}
 
 -- ---- declarations

@@ -1,13 +1,15 @@
 -- Steps one after the other.
-use Rattle.std.proofs.Common.{◌≡◌, ℕ, ◌+◌, ◌<◌, ◌≤◌, get_or, List, [], ◌∷◌, length, map, drop, refl, sym, ap, ◌∙◌, Result, Ok, Err, Bor}
+use Rattle.std.proofs.Common.{◌≡◌, ℕ, ◌+◌, ◌<◌, ◌≤◌, get_or, List, [], ◌∷◌, length, map, drop, refl, sym, ap}
+use Rattle.std.proofs.Common.{◌∙◌, Result, Ok, Err, Bor}
 use Rattle.std.proofs.lemmas.List.{drop_more, drop_all}
 use Rattle.tv_tree.specs.Forms.{Nest}
 use Rattle.tv_tree.specs.Copies.{nests, decl_of, decls_of, update_of, updates_of}
 use Rattle.tv_expand.specs.declared.error.ExpandError.{ExpandError}
-use Rattle.tv_expand.specs.Outcome.{◌>>=◌, each, Fails}
+use Rattle.tv_expand.specs.Outcome.{◌>>=◌, each, FailsExpansion}
 use Rattle.tv_flat.specs.Replaced.{Binding}
 use Rattle.tv_expand.specs.Sets.{Sets}
-use Rattle.tv_expand.specs.Expansion.{unrolled, unrolled_nest, Declared, declared, sets_in, all_declared, Block, updated, sets_for, all_updated}
+use Rattle.tv_expand.specs.Expansion.{unrolled, unrolled_nest, Declared, declared, sets_in, all_declared}
+use Rattle.tv_expand.specs.Expansion.{Block, updated, sets_for, all_updated}
 use Rattle.tv_tree.specs.declared.trees.Decls.{Decls}
 use Rattle.tv_tree.specs.declared.trees.UpdateTrees.{UpdateTrees}
 use Rattle.tv_tree.proofs.Unfolds.{decls_of_items, updates_of_items}
@@ -19,7 +21,7 @@ module _ {X S : Type 0} (step : X → S → Result S ExpandError) where
   pub each_more : (xs : List X) (i : ℕ) (x : X) (s t : S) → i < length xs → x ≡ get_or xs i x → step x s ≡ Ok t → each step (drop (i + 1) xs) t ≡ each step (drop i xs) s
   each_more xs i x s t below is goes = sym (rw (drop_more xs i x below, ← is, goes) refl)
 
-  pub each_fails : (xs : List X) (i : ℕ) (x : X) (s : S) (e : ExpandError) → i < length xs → x ≡ get_or xs i x → Fails e (step x s) → Fails e (each step (drop i xs) s)
+  pub each_fails : (xs : List X) (i : ℕ) (x : X) (s : S) (e : ExpandError) → i < length xs → x ≡ get_or xs i x → FailsExpansion e (step x s) → FailsExpansion e (each step (drop i xs) s)
   each_fails xs i x s e below is h = rw (drop_more xs i x below, ← is) (fails_then e (step x s) (each step (drop (i + 1) xs)) h)
 
   pub each_done : (xs : List X) (i : ℕ) (s : S) → length xs ≤ i → each step (drop i xs) s ≡ Ok s
@@ -30,7 +32,7 @@ module _ {S : Type 0} (step : List ℕ → S → Result S ExpandError) where
   pub names_more : (words : List (Bor (List ℕ))) (i : ℕ) (d : Bor (List ℕ)) (s t : S) → i < length words → step ((get_or words i d).now) s ≡ Ok t → each step (names_of (drop (i + 1) words)) t ≡ each step (names_of (drop i words)) s
   names_more words i d s t below goes = sym (rw (drop_more words i d below, goes) refl)
 
-  pub names_fail : (words : List (Bor (List ℕ))) (i : ℕ) (d : Bor (List ℕ)) (s : S) (e : ExpandError) → i < length words → Fails e (step ((get_or words i d).now) s) → Fails e (each step (names_of (drop i words)) s)
+  pub names_fail : (words : List (Bor (List ℕ))) (i : ℕ) (d : Bor (List ℕ)) (s : S) (e : ExpandError) → i < length words → FailsExpansion e (step ((get_or words i d).now) s) → FailsExpansion e (each step (names_of (drop i words)) s)
   names_fail words i d s e below h = rw (drop_more words i d below) (fails_then e (step ((get_or words i d).now) s) (each step (names_of (drop (i + 1) words))) h)
 
   pub names_done : (words : List (Bor (List ℕ))) (i : ℕ) (s : S) → length words ≤ i → each step (names_of (drop i words)) s ≡ Ok s

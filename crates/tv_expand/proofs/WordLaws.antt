@@ -1,5 +1,6 @@
 -- Lists of words, step by step.
-use Rattle.std.proofs.Common.{◌≡◌, ℕ, ◌+◌, ◌<◌, ◌≤◌, Bool, false, not, get_or, List, [], ◌∷◌, ◌++◌, length, map, drop, refl, sym, ap, inl, inr, Bor, ◌||◌}
+use Rattle.std.proofs.Common.{◌≡◌, ℕ, ◌+◌, ◌<◌, ◌≤◌, Bool, false, not, get_or, List, [], ◌∷◌, ◌++◌, length}
+use Rattle.std.proofs.Common.{map, drop, refl, sym, ap, inl, inr, Bor, ◌||◌}
 use Rattle.std.specs.Prelude.{filter, if◌then◌else◌, Ok}
 use Rattle.std.specs.List.{list_any}
 use Rattle.std.specs.Str.{bytes_eq}

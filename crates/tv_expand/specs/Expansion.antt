@@ -1,17 +1,21 @@
--- The flat form of a program: its sets, foreach and parameters are put in. Declarations are gone through in order, then the
--- actions, then the edges, and the first condition that is met refuses the program.
-use Rattle.std.specs.Prelude.{ℕ, ◌+◌, ◌-◌, Bool, ◌&&◌, ◌==◌, List, [], ◌∷◌, ◌++◌, Option, Result, Ok, Err, if◌then◌else◌, nat_lt, nat_le, length, map, sum_by, is_some}
+-- The flat form of a program: its sets, foreach and parameters are put in. Declarations are gone through in
+-- order, then the actions, then the edges, and the first condition that is met refuses the program.
+use Rattle.std.specs.Prelude.{ℕ, ◌+◌, ◌-◌, Bool, ◌&&◌, ◌==◌, List, [], ◌∷◌, ◌++◌, Option, Result, Ok, Err}
+use Rattle.std.specs.Prelude.{if◌then◌else◌, nat_lt, nat_le, length, map, sum_by, is_some}
 use Rattle.std.specs.List.{list_any, zip, position_or_len}
 use Rattle.std.specs.Str.{bytes_eq}
 use Rattle.std.specs.Cmp.Lexicographic.{pointwise}
 use Rattle.std.specs.Map.{lookup}
-use Rattle.tv_tree.specs.Forms.{PredForm, Nest, Single, Foreach, Nests, no_nest, with_nest, DeclForm, DSet, DPred, DRule, UpdateForm, PartForm, PCaption, PFocus, PPre, PMessage, PNew, PRetain, PBlock, ActionForm, EdgeForm, ProgramForm}
+use Rattle.tv_tree.specs.Forms.{PredForm, Nest, Single, Foreach, Nests, no_nest, with_nest, DeclForm, DSet}
+use Rattle.tv_tree.specs.Forms.{DPred, DRule, UpdateForm, PartForm, PCaption, PFocus, PPre, PMessage, PNew}
+use Rattle.tv_tree.specs.Forms.{PRetain, PBlock, ActionForm, EdgeForm, ProgramForm}
 use Rattle.tv_tree.specs.Copies.{nests}
 use Rattle.tv_expand.specs.declared.error.ExpandError.{ExpandError}
 use Rattle.tv_expand.specs.declared.error.ExpandError.TheVariants.{NameTwice, ArgumentCount, TooManyItems}
 use Rattle.tv_expand.specs.Outcome.{◌>>=◌, each}
 use Rattle.tv_flat.specs.FlatForm.{RuleForm, FlatEdgeForm, FlatForm, nodes, pred_nodes, max_items, max_nodes}
-use Rattle.tv_flat.specs.Replaced.{Binding, bound, all_bound, flat_form, flat_pred, flat_rule, flat_update, one_text}
+use Rattle.tv_flat.specs.Replaced.{Binding, bound, all_bound, flat_form, flat_pred, flat_rule, flat_update}
+use Rattle.tv_flat.specs.Replaced.{one_text}
 use Rattle.tv_expand.specs.Sets.{Sets, find_set, known, members_of, once}
 
 -- ---- the limits
@@ -24,13 +28,15 @@ pub record Room : Type 0 where
 -- what is left behind an item with this many nodes
 abbrev pub counted : ℕ → Room → Result Room ExpandError
 counted n room =
-    if nat_lt 0 room.items && nat_le n room.nodes then Ok (record { items = room.items - 1; nodes = room.nodes - n })
+    if nat_lt 0 room.items && nat_le n room.nodes
+    then Ok (record { items = room.items - 1; nodes = room.nodes - n })
     else Err TooManyItems
 
 -- ---- foreach
 
--- A foreach gives what stands in it once for each member of its set, in order, with its variable replaced by the member.
--- `sets` are the sets that are declared in a state, and `single` is what is done with what stands by itself.
+-- A foreach gives what stands in it once for each member of its set, in order, with its variable replaced by
+-- the member. `sets` are the sets that are declared in a state, and `single` is what is done with what stands
+-- by itself.
 module _ {X S : Type 0} (sets : S → Sets) (single : Binding → X → S → Result S ExpandError) where
   abbrev mutual
     pub unrolled_nest : Binding → Nest X → S → Result S ExpandError
@@ -54,7 +60,8 @@ abbrev pub sets_in : Declared → Sets
 sets_in d = d.sets
 
 abbrev pub with_set : Declared → List ℕ → List (List ℕ) → Declared
-with_set d name xs = record { sets = d.sets ++ (name, xs) ∷ []; preds = d.preds; rules = d.rules; room = d.room }
+with_set d name xs =
+    record { sets = d.sets ++ (name, xs) ∷ []; preds = d.preds; rules = d.rules; room = d.room }
 
 abbrev pub with_pred : Declared → PredForm → Room → Declared
 with_pred d p room = record { sets = d.sets; preds = d.preds ++ p ∷ []; rules = d.rules; room = room }
@@ -64,9 +71,11 @@ with_rule d r room = record { sets = d.sets; preds = d.preds; rules = d.rules ++
 
 abbrev pub declared : Binding → DeclForm → Declared → Result Declared ExpandError
 declared b (DSet name members) d =
-    if is_some (find_set d.sets name) then Err NameTwice else (members_of d.sets b members >>= λ xs. Ok (with_set d name xs))
+    if is_some (find_set d.sets name) then Err NameTwice
+    else (members_of d.sets b members >>= λ xs. Ok (with_set d name xs))
 declared b (DPred p) d = counted (pred_nodes p) d.room >>= λ room. Ok (with_pred d (flat_pred b p) room)
-declared b (DRule f g) d = counted (nodes f + nodes g) d.room >>= λ room. Ok (with_rule d (flat_rule b f g) room)
+declared b (DRule f g) d =
+    counted (nodes f + nodes g) d.room >>= λ room. Ok (with_rule d (flat_rule b f g) room)
 
 abbrev pub all_declared : Binding → Nests DeclForm → Declared → Result Declared ExpandError
 all_declared = unrolled sets_in declared
@@ -78,7 +87,9 @@ pub record Block : Type 0 where
   pub room : Room
 
 abbrev pub updated : Binding → UpdateForm → Block → Result Block ExpandError
-updated b u s = counted (nodes u.body) s.room >>= λ room. Ok (record { updates = s.updates ++ Single (flat_update b u) ∷ []; room = room })
+updated b u s =
+    counted (nodes u.body) s.room >>= λ room. Ok
+    (record { updates = s.updates ++ Single (flat_update b u) ∷ []; room = room })
 
 -- the sets are all declared by then
 abbrev pub sets_for : Sets → Block → Sets
@@ -106,7 +117,8 @@ gathered sets b (PPre f) s = with_part (nodes f) (PPre (flat_form b f)) s
 gathered sets b (PMessage f ps) s = with_part (nodes f) (PMessage (flat_form b f) (one_text b ps)) s
 gathered sets b PNew s = with_part 0 PNew s
 gathered sets b (PRetain f) s = with_part (nodes f) (PRetain (flat_form b f)) s
-gathered sets b (PBlock us) s = all_updated sets b us (record { updates = []; room = s.room }) >>= λ block. Ok (with_block s block)
+gathered sets b (PBlock us) s =
+    all_updated sets b us (record { updates = []; room = s.room }) >>= λ block. Ok (with_block s block)
 
 -- ---- actions and edges
 
@@ -136,11 +148,13 @@ pub record Wired : Type 0 where
 -- a new flat action, with arguments for the parameters
 abbrev pub made : Sets → ActionForm → List (List ℕ) → Wired → Result Wired ExpandError
 made sets a arguments w =
-    each (gathered sets (all_bound [] (zip a.params arguments))) a.parts (record { parts = []; room = w.room }) >>= λ s.
+    each (gathered sets (all_bound [] (zip a.params arguments))) a.parts
+    (record { parts = []; room = w.room }) >>= λ s.
     Ok (record { calls = w.calls; actions = w.actions ++ s.parts ∷ []; edges = w.edges; room = s.room })
 
 abbrev pub with_call : List (List ℕ) → Wired → Wired
-with_call call w = record { calls = w.calls ++ call ∷ []; actions = w.actions; edges = w.edges; room = w.room }
+with_call call w =
+    record { calls = w.calls ++ call ∷ []; actions = w.actions; edges = w.edges; room = w.room }
 
 -- the flat action of a call is made at its first edge
 abbrev pub called : Sets → ActionForm → List (List ℕ) → Wired → Result Wired ExpandError
@@ -152,9 +166,15 @@ called sets a arguments w =
 abbrev pub with_edge : ℕ → EdgeForm → Wired → Result Wired ExpandError
 with_edge number e w =
     counted 0 w.room >>= λ room.
-    Ok (record { calls = w.calls; actions = w.actions; edges = w.edges ++ record { from = e.from; action = number; to = e.to } ∷ []; room = room })
+    Ok (record {
+      calls = w.calls;
+      actions = w.actions;
+      edges = w.edges ++ record { from = e.from; action = number; to = e.to } ∷ [];
+      room = room;
+    })
 
--- The flat action of a call that was made before has its place among the calls as its number, and a new one the next number.
+-- The flat action of a call that was made before has its place among the calls as its number, and a new one
+-- the next number.
 abbrev pub wired_to : Sets → ActionForm → EdgeForm → Wired → Result Wired ExpandError
 wired_to sets a e w =
     if length e.arguments == length a.params then

@@ -1,8 +1,10 @@
 -- Foreach that needn't be gone through for each member: they give nothing, or the same nothing for each.
-use Rattle.std.specs.Prelude.{ℕ, ◌+◌, Bool, true, false, not, ◌&&◌, ◌||◌, List, [], ◌∷◌, Option, Some, None, is_some, length}
+use Rattle.std.specs.Prelude.{ℕ, ◌+◌, Bool, true, false, not, ◌&&◌, ◌||◌, List, [], ◌∷◌, Option, Some, None}
+use Rattle.std.specs.Prelude.{is_some, length}
 use Rattle.tv_tree.specs.declared.trees.SetSign.{SetSign}
 use Rattle.tv_tree.specs.declared.trees.SetSign.TheVariants as sign
-use Rattle.tv_tree.specs.Forms.{SetForm, SNamed, SMembers, SParen, SPlus, SMinus, Nest, Single, Foreach, Nests, no_nest, with_nest}
+use Rattle.tv_tree.specs.Forms.{SetForm, SNamed, SMembers, SParen, SPlus, SMinus, Nest, Single, Foreach}
+use Rattle.tv_tree.specs.Forms.{Nests, no_nest, with_nest}
 use Rattle.tv_tree.specs.Names.{is_among}
 use Rattle.tv_expand.specs.Sets.{Sets, find_set}
 use Rattle.tv_expand.specs.Expansion.{Declared, Block}
@@ -36,12 +38,14 @@ abbrev pub is_empty_step : Sets → SetSign × SetForm → Bool
 is_empty_step sets (sign.Plus, s) = is_empty_set sets s
 is_empty_step sets (sign.Minus, s) = is_declared_set sets s
 
--- Bodies that give nothing: only foreach stands in them, over sets that surely have no members, or over declared sets and
--- with bodies that give nothing. They leave each state as it is, whatever is put in for words.
+-- Bodies that give nothing: only foreach stands in them, over sets that surely have no members, or over
+-- declared sets and with bodies that give nothing. They leave each state as it is, whatever is put in for
+-- words.
 abbrev mutual
   pub is_idle_nest : {X : Type 0} → Sets → Nest X → Bool
   is_idle_nest sets (Single x) = false
-  is_idle_nest sets (Foreach var members body) = is_empty_set sets members || (is_declared_set sets members && is_idle sets body)
+  is_idle_nest sets (Foreach var members body) =
+      is_empty_set sets members || (is_declared_set sets members && is_idle sets body)
 
   pub is_idle : {X : Type 0} → Sets → Nests X → Bool
   is_idle sets no_nest = true
@@ -55,8 +59,8 @@ is_apart_set word (SParen s) = is_apart_set word s
 is_apart_set word (SPlus s t) = is_apart_set word s && is_apart_set word t
 is_apart_set word (SMinus s t) = is_apart_set word s && is_apart_set word t
 
--- Whether a word stands nowhere in the sets of the foreach in a body. How often its parts are gone through is then the same
--- whatever is put in for the word.
+-- Whether a word stands nowhere in the sets of the foreach in a body. How often its parts are gone through is
+-- then the same whatever is put in for the word.
 abbrev mutual
   pub is_apart_nest : {X : Type 0} → List ℕ → Nest X → Bool
   is_apart_nest word (Single x) = true

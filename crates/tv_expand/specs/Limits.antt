@@ -6,8 +6,8 @@ use Rattle.tv_expand.specs.declared.error.ExpandError.TheVariants.{TooManyItems}
 use Rattle.tv_expand.specs.Expansion.{Room, expansion_within, expansion}
 
 -- Limits decide nothing but whether a flat form is too large. A program that has one, however much room that
--- takes, has it within the limits of the language where it has at most 65,536 items and at most 1,048,576 formula
--- nodes in them, and is refused for its size alone where it has more.
+-- takes, has it within the limits of the language where it has at most 65,536 items and at most 1,048,576
+-- formula nodes in them, and is refused for its size alone where it has more.
 abbrev pub LimitsAreExact : Type 0
 LimitsAreExact =
     (t : ProgramForm) (f : FlatForm) (room : Room) → expansion_within room t ≡ Ok f →

@@ -16,9 +16,9 @@ is_memory Memory = true
 is_memory e = false
 
 -- what a call refused is what the definition refuses, unless memory ran out
-abbrev pub Fails : {Y : Type 0} → ExpandError → Result Y ExpandError → Type 0
-Fails e out = steps.Fails is_memory e out
+abbrev pub FailsExpansion : {Y : Type 0} → ExpandError → Result Y ExpandError → Type 0
+FailsExpansion e out = steps.Fails is_memory e out
 
 -- what a call answered, seen by view, is what the definition gives, unless memory ran out
-abbrev pub Gives : {X Y : Type 0} → (X → Y) → Result X ExpandError → Result Y ExpandError → Type 0
-Gives view answer out = steps.Gives is_memory view answer out
+abbrev pub GivesExpansion : {X Y : Type 0} → (X → Y) → Result X ExpandError → Result Y ExpandError → Type 0
+GivesExpansion view answer out = steps.Gives is_memory view answer out

@@ -1,5 +1,6 @@
 -- Sets of identifiers, as lists in order of first sight.
-use Rattle.std.specs.Prelude.{ℕ, not, List, [], ◌∷◌, ◌++◌, Option, Some, None, Result, Ok, Err, if◌then◌else◌, fold, filter, map}
+use Rattle.std.specs.Prelude.{ℕ, not, List, [], ◌∷◌, ◌++◌, Option, Some, None, Result, Ok, Err, if◌then◌else◌}
+use Rattle.std.specs.Prelude.{fold, filter, map}
 use Rattle.std.specs.Str.{bytes_eq}
 use Rattle.std.specs.Map.{lookup}
 use Rattle.tv_tree.specs.Forms.{SetForm, SNamed, SMembers, SParen, SPlus, SMinus}
@@ -30,13 +31,16 @@ abbrev pub known : {X : Type 0} → Option X → Result X ExpandError
 known None = Err NameUnknown
 known (Some x) = Ok x
 
--- The members of an expression for a set. The identifiers in its braces are replaced, and the names of sets are not.
+-- The members of an expression for a set. The identifiers in its braces are replaced, and the names of sets
+-- are not.
 abbrev pub members_of : Sets → Binding → SetForm → Result (List (List ℕ)) ExpandError
 members_of sets binding (SNamed name) = known (find_set sets name)
 members_of sets binding (SMembers xs) = Ok (with_members [] (map (replaced binding) xs))
 members_of sets binding (SParen s) = members_of sets binding s
-members_of sets binding (SPlus s t) = members_of sets binding s >>= λ xs. members_of sets binding t >>= λ ys. Ok (with_members xs ys)
-members_of sets binding (SMinus s t) = members_of sets binding s >>= λ xs. members_of sets binding t >>= λ ys. Ok (without_members xs ys)
+members_of sets binding (SPlus s t) =
+    members_of sets binding s >>= λ xs. members_of sets binding t >>= λ ys. Ok (with_members xs ys)
+members_of sets binding (SMinus s t) =
+    members_of sets binding s >>= λ xs. members_of sets binding t >>= λ ys. Ok (without_members xs ys)
 
 -- a name that must not have been seen before
 abbrev pub once : List ℕ → List (List ℕ) → Result (List (List ℕ)) ExpandError

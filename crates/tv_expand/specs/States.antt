@@ -14,7 +14,13 @@ abbrev pub room_of : RoomLeft → Room
 room_of r = record { items = r.items; nodes = r.nodes }
 
 abbrev pub declared_of : DeclaredSoFar → Declared
-declared_of d = record { sets = sets_of d.sets.entries; preds = map pred_of d.preds.items; rules = map rule_of d.rules.items; room = room_of d.room }
+declared_of d =
+    record {
+      sets = sets_of d.sets.entries;
+      preds = map pred_of d.preds.items;
+      rules = map rule_of d.rules.items;
+      room = room_of d.room;
+    }
 
 abbrev pub block_of : BlockSoFar → Block
 block_of s = record { updates = map update_of s.updates.items; room = room_of s.room }
@@ -23,4 +29,10 @@ abbrev pub gathered_of : GatheredSoFar → Gathered
 gathered_of s = record { parts = map part_of s.parts.items; room = room_of s.room }
 
 abbrev pub wired_of : WiredSoFar → Wired
-wired_of w = record { calls = calls_of w.calls.keys; actions = map parts_of w.actions.items; edges = map flat_edge_of w.edges.items; room = room_of w.room }
+wired_of w =
+    record {
+      calls = calls_of w.calls.keys;
+      actions = map parts_of w.actions.items;
+      edges = map flat_edge_of w.edges.items;
+      room = room_of w.room;
+    }

@@ -34,7 +34,8 @@ signed sign.Plus xs ys = with_members xs ys
 signed sign.Minus xs ys = without_members xs ys
 
 -- the members so far, with those of a further set put in or taken out
-abbrev pub step_members : Sets → Binding → List (List ℕ) → SetSign × SetForm → Result (List (List ℕ)) ExpandError
+abbrev pub step_members : Sets → Binding → List (List ℕ) → SetSign × SetForm
+    → Result (List (List ℕ)) ExpandError
 step_members sets b xs s = members_of sets b s.1 >>= λ ys. Ok (signed s.0 xs ys)
 
 abbrev pub action_entry_of : Bor (List ℕ) × Bor ActionTree → List ℕ × ActionForm

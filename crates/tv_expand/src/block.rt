@@ -2,7 +2,7 @@
 
 ghost use Rattle.std.specs.Prelude.{◌≡◌};
 ghost use Rattle.tv_tree.specs.Copies.{single_of, update_of, updates_of};
-ghost use Rattle.tv_expand.specs.Outcome.{Gives, each};
+ghost use Rattle.tv_expand.specs.Outcome.{GivesExpansion, each};
 ghost use Rattle.tv_expand.specs.Expansion.{updated, sets_for, unrolled_nest, all_updated};
 ghost use Rattle.tv_flat.specs.Replaced.{bound};
 ghost use Rattle.tv_flat.specs.Views.{binding_of};
@@ -33,7 +33,8 @@ fn put_single(
     params: &[Spelling],
     body: &FormulaTree,
 ) -> Result<(), ExpandError>
-    ensures { Gives (λ _. block_of state.new) result (updated (binding_of binding.now) (single_of name.now params.now body.now) (block_of state.old)) }
+    ensures { GivesExpansion (λ _. block_of state.new) result
+        (updated (binding_of binding.now) (single_of name.now params.now body.now) (block_of state.old)) }
 {
     let room = state.room.count_formula(body)?;
     let flat = flat_update(alloc, binding, name, params, body)?;
@@ -53,14 +54,16 @@ fn put_for<'a>(
     word: &'a [u8],
     body: &'a UpdateTrees,
 ) -> Result<(), ExpandError>
-    ensures { Gives (λ _. block_of state.new) result (all_updated (sets_of sets.now.entries) (bound (binding_of binding.now) var.now word.now) (updates_of body.now) (block_of state.old)) }
+    ensures { GivesExpansion (λ _. block_of state.new) result (all_updated (sets_of sets.now.entries)
+        (bound (binding_of binding.now) var.now word.now) (updates_of body.now) (block_of state.old)) }
 {
     let inner = bind(alloc, binding, &var.0, word)?;
     put_updates(alloc, sets, state, &inner, body)
 }
 
-// The body of a foreach, for each member. Where it gave nothing for one of them, and its own sets don't mention the
-// variable, it gives nothing for the others: a few foreach over large sets would else take for ever.
+// The body of a foreach, for each member. Where it gave nothing for one of them, and its own sets don't
+// mention the variable, it gives nothing for the others: a few foreach over large sets would else take for
+// ever.
 #[cycle(update)]
 fn put_each<'a>(
     alloc: Global,
@@ -71,7 +74,9 @@ fn put_each<'a>(
     words: &[&'a [u8]],
     body: &'a UpdateTrees,
 ) -> Result<(), ExpandError>
-    ensures { Gives (λ _. block_of state.new) result (each (λ x. all_updated (sets_of sets.now.entries) (bound (binding_of binding.now) var.now x) (updates_of body.now)) (names_of words.now) (block_of state.old)) }
+    ensures { GivesExpansion (λ _. block_of state.new) result
+        (each (λ x. all_updated (sets_of sets.now.entries) (bound (binding_of binding.now) var.now x)
+        (updates_of body.now)) (names_of words.now) (block_of state.old)) }
 {
     let alike = are_apart_updates(&var.0, body);
     for word in words {
@@ -93,7 +98,9 @@ fn put_update<'a>(
     binding: &Scope<'_, 'a>,
     update: &'a UpdateTree,
 ) -> Result<(), ExpandError>
-    ensures { Gives (λ _. block_of state.new) result (unrolled_nest (sets_for (sets_of sets.now.entries)) updated (binding_of binding.now) (update_of update.now) (block_of state.old)) }
+    ensures { GivesExpansion (λ _. block_of state.new) result
+        (unrolled_nest (sets_for (sets_of sets.now.entries)) updated (binding_of binding.now)
+        (update_of update.now) (block_of state.old)) }
 {
     if is_idle_update(sets, update) {
         return Ok(());
@@ -125,7 +132,8 @@ pub fn put_updates<'a>(
     binding: &Scope<'_, 'a>,
     updates: &'a UpdateTrees,
 ) -> Result<(), ExpandError>
-    ensures { Gives (λ _. block_of state.new) result (all_updated (sets_of sets.now.entries) (binding_of binding.now) (updates_of updates.now) (block_of state.old)) }
+    ensures { GivesExpansion (λ _. block_of state.new) result (all_updated (sets_of sets.now.entries)
+        (binding_of binding.now) (updates_of updates.now) (block_of state.old)) }
 {
     for update in &updates.items {
         put_update(alloc, sets, state, binding, update)?;

@@ -3,8 +3,9 @@
 ghost use Rattle.std.specs.Prelude.{◌≡◌, ◌+◌, []};
 ghost use Rattle.tv_tree.specs.Forms.{DSet, DPred, DRule};
 ghost use Rattle.tv_tree.specs.Copies.{set_of, form_of, pred_of, decl_of, decls_of};
-ghost use Rattle.tv_expand.specs.Outcome.{Gives, each};
-ghost use Rattle.tv_expand.specs.Expansion.{limits, nothing_declared, declared, sets_in, unrolled_nest, all_declared};
+ghost use Rattle.tv_expand.specs.Outcome.{GivesExpansion, each};
+ghost use Rattle.tv_expand.specs.Expansion.{limits, nothing_declared, declared, sets_in, unrolled_nest};
+ghost use Rattle.tv_expand.specs.Expansion.{all_declared};
 ghost use Rattle.tv_flat.specs.Replaced.{bound};
 ghost use Rattle.tv_flat.specs.Views.{binding_of};
 ghost use Rattle.tv_expand.specs.Views.{names_of};
@@ -70,7 +71,8 @@ fn declare_set<'a>(
     name: &'a Spelling,
     set: &'a SetTree,
 ) -> Result<(), ExpandError>
-    ensures { Gives (λ _. declared_of state.new) result (declared (binding_of binding.now) (DSet name.now (set_of set.now)) (declared_of state.old)) }
+    ensures { GivesExpansion (λ _. declared_of state.new) result
+        (declared (binding_of binding.now) (DSet name.now (set_of set.now)) (declared_of state.old)) }
 {
     if is_declared(&state.sets, &name.0) {
         return Err(ExpandError::NameTwice);
@@ -86,7 +88,8 @@ fn declare_pred<'a>(
     binding: &Scope<'_, 'a>,
     pred: &PredDecl,
 ) -> Result<(), ExpandError>
-    ensures { Gives (λ _. declared_of state.new) result (declared (binding_of binding.now) (DPred (pred_of pred.now)) (declared_of state.old)) }
+    ensures { GivesExpansion (λ _. declared_of state.new) result
+        (declared (binding_of binding.now) (DPred (pred_of pred.now)) (declared_of state.old)) }
 {
     let room = state.room.count_pred(pred)?;
     let flat = flat_pred(alloc, binding, pred)?;
@@ -101,7 +104,8 @@ fn declare_rule<'a>(
     binding: &Scope<'_, 'a>,
     rule: &RuleDecl,
 ) -> Result<(), ExpandError>
-    ensures { Gives (λ _. declared_of state.new) result (declared (binding_of binding.now) (DRule (form_of rule.now.body) (form_of rule.now.head)) (declared_of state.old)) }
+    ensures { GivesExpansion (λ _. declared_of state.new) result (declared (binding_of binding.now)
+        (DRule (form_of rule.now.body) (form_of rule.now.head)) (declared_of state.old)) }
 {
     let room = state.room.count_rule(&rule.body, &rule.head)?;
     let flat = flat_rule(alloc, binding, &rule.body, &rule.head)?;
@@ -120,14 +124,17 @@ fn declare_for<'a>(
     word: &'a [u8],
     body: &'a Decls,
 ) -> Result<(), ExpandError>
-    ensures { Gives (λ _. declared_of state.new) result (all_declared (bound (binding_of binding.now) var.now word.now) (decls_of body.now) (declared_of state.old)) }
+    ensures { GivesExpansion (λ _. declared_of state.new) result
+        (all_declared (bound (binding_of binding.now) var.now word.now) (decls_of body.now)
+        (declared_of state.old)) }
 {
     let inner = bind(alloc, binding, &var.0, word)?;
     declare_all(alloc, state, &inner, body)
 }
 
-// The body of a foreach, for each member. Where it gave nothing for one of them, and its own sets don't mention the
-// variable, it gives nothing for the others: a few foreach over large sets would else take for ever.
+// The body of a foreach, for each member. Where it gave nothing for one of them, and its own sets don't
+// mention the variable, it gives nothing for the others: a few foreach over large sets would else take for
+// ever.
 #[cycle(declare)]
 fn declare_each<'a>(
     alloc: Global,
@@ -137,7 +144,9 @@ fn declare_each<'a>(
     words: &[&'a [u8]],
     body: &'a Decls,
 ) -> Result<(), ExpandError>
-    ensures { Gives (λ _. declared_of state.new) result (each (λ x. all_declared (bound (binding_of binding.now) var.now x) (decls_of body.now)) (names_of words.now) (declared_of state.old)) }
+    ensures { GivesExpansion (λ _. declared_of state.new) result
+        (each (λ x. all_declared (bound (binding_of binding.now) var.now x) (decls_of body.now))
+        (names_of words.now) (declared_of state.old)) }
 {
     let alike = are_apart_decls(&var.0, body);
     for word in words {
@@ -158,7 +167,8 @@ fn declare<'a>(
     binding: &Scope<'_, 'a>,
     decl: &'a Decl,
 ) -> Result<(), ExpandError>
-    ensures { Gives (λ _. declared_of state.new) result (unrolled_nest sets_in declared (binding_of binding.now) (decl_of decl.now) (declared_of state.old)) }
+    ensures { GivesExpansion (λ _. declared_of state.new) result
+        (unrolled_nest sets_in declared (binding_of binding.now) (decl_of decl.now) (declared_of state.old)) }
 {
     if is_idle_decl(&state.sets, decl) {
         return Ok(());
@@ -186,7 +196,8 @@ fn declare_all<'a>(
     binding: &Scope<'_, 'a>,
     decls: &'a Decls,
 ) -> Result<(), ExpandError>
-    ensures { Gives (λ _. declared_of state.new) result (all_declared (binding_of binding.now) (decls_of decls.now) (declared_of state.old)) }
+    ensures { GivesExpansion (λ _. declared_of state.new) result
+        (all_declared (binding_of binding.now) (decls_of decls.now) (declared_of state.old)) }
 {
     for decl in &decls.items {
         declare(alloc, state, binding, decl)?;
@@ -199,7 +210,8 @@ fn declare_all<'a>(
 /// # Errors
 /// The first refusal.
 pub fn declare_program<'a>(alloc: Global, decls: &'a Decls) -> Result<Declared<'a>, ExpandError>
-    ensures { Gives declared_of result (all_declared [] (decls_of decls.now) (nothing_declared limits)) }
+    ensures { GivesExpansion declared_of result
+        (all_declared [] (decls_of decls.now) (nothing_declared limits)) }
 {
     let params = IndexMap::new(alloc);
     let unbound = with_params(alloc, &params);

@@ -3,7 +3,7 @@
 ghost use Rattle.std.specs.Prelude.{◌≡◌, map, sum_by};
 ghost use Rattle.tv_tree.specs.Forms.{PCaption, PFocus, PPre, PMessage, PNew, PRetain, PBlock};
 ghost use Rattle.tv_tree.specs.Copies.{form_of, piece_of, updates_of, part_of};
-ghost use Rattle.tv_expand.specs.Outcome.{Gives, each};
+ghost use Rattle.tv_expand.specs.Outcome.{GivesExpansion, each};
 ghost use Rattle.tv_flat.specs.FlatForm.{nodes};
 ghost use Rattle.tv_flat.specs.Replaced.{flat_form, one_text};
 ghost use Rattle.tv_expand.specs.Expansion.{with_part, gathered};
@@ -32,7 +32,8 @@ fn put_caption(
     binding: &Scope<'_, '_>,
     pieces: &[Piece],
 ) -> Result<(), ExpandError>
-    ensures { Gives (λ _. gathered_of state.new) result (with_part 0 (PCaption (one_text (binding_of binding.now) (map piece_of pieces.now))) (gathered_of state.old)) }
+    ensures { GivesExpansion (λ _. gathered_of state.new) result (with_part 0
+        (PCaption (one_text (binding_of binding.now) (map piece_of pieces.now))) (gathered_of state.old)) }
 {
     let room = state.room.count_none()?;
     let text = one_text(alloc, binding, pieces)?;
@@ -47,7 +48,10 @@ fn put_focus(
     binding: &Scope<'_, '_>,
     formulas: &[FormulaTree],
 ) -> Result<(), ExpandError>
-    ensures { Gives (λ _. gathered_of state.new) result (with_part (sum_by nodes (map form_of formulas.now)) (PFocus (map (flat_form (binding_of binding.now)) (map form_of formulas.now))) (gathered_of state.old)) }
+    ensures { GivesExpansion (λ _. gathered_of state.new) result
+        (with_part (sum_by nodes (map form_of formulas.now))
+        (PFocus (map (flat_form (binding_of binding.now)) (map form_of formulas.now)))
+        (gathered_of state.old)) }
 {
     let room = state.room.count_formulas(formulas)?;
     let flat = flat_formulas(alloc, binding, formulas)?;
@@ -62,7 +66,8 @@ fn put_pre(
     binding: &Scope<'_, '_>,
     f: &FormulaTree,
 ) -> Result<(), ExpandError>
-    ensures { Gives (λ _. gathered_of state.new) result (with_part (nodes (form_of f.now)) (PPre (flat_form (binding_of binding.now) (form_of f.now))) (gathered_of state.old)) }
+    ensures { GivesExpansion (λ _. gathered_of state.new) result (with_part (nodes (form_of f.now))
+        (PPre (flat_form (binding_of binding.now) (form_of f.now))) (gathered_of state.old)) }
 {
     let room = state.room.count_formula(f)?;
     let flat = flat_formula(alloc, binding, f)?;
@@ -78,7 +83,9 @@ fn put_message(
     f: &FormulaTree,
     pieces: &[Piece],
 ) -> Result<(), ExpandError>
-    ensures { Gives (λ _. gathered_of state.new) result (with_part (nodes (form_of f.now)) (PMessage (flat_form (binding_of binding.now) (form_of f.now)) (one_text (binding_of binding.now) (map piece_of pieces.now))) (gathered_of state.old)) }
+    ensures { GivesExpansion (λ _. gathered_of state.new) result
+        (with_part (nodes (form_of f.now)) (PMessage (flat_form (binding_of binding.now) (form_of f.now))
+        (one_text (binding_of binding.now) (map piece_of pieces.now))) (gathered_of state.old)) }
 {
     let room = state.room.count_formula(f)?;
     let cond = flat_formula(alloc, binding, f)?;
@@ -89,7 +96,7 @@ fn put_message(
 }
 
 fn put_new(state: &mut Gathered) -> Result<(), ExpandError>
-    ensures { Gives (λ _. gathered_of state.new) result (with_part 0 PNew (gathered_of state.old)) }
+    ensures { GivesExpansion (λ _. gathered_of state.new) result (with_part 0 PNew (gathered_of state.old)) }
 {
     let room = state.room.count_none()?;
     state.parts.push(Part::New)?;
@@ -103,7 +110,8 @@ fn put_retain(
     binding: &Scope<'_, '_>,
     f: &FormulaTree,
 ) -> Result<(), ExpandError>
-    ensures { Gives (λ _. gathered_of state.new) result (with_part (nodes (form_of f.now)) (PRetain (flat_form (binding_of binding.now) (form_of f.now))) (gathered_of state.old)) }
+    ensures { GivesExpansion (λ _. gathered_of state.new) result (with_part (nodes (form_of f.now))
+        (PRetain (flat_form (binding_of binding.now) (form_of f.now))) (gathered_of state.old)) }
 {
     let room = state.room.count_formula(f)?;
     let flat = flat_formula(alloc, binding, f)?;
@@ -119,7 +127,8 @@ fn put_block<'a>(
     binding: &Scope<'_, 'a>,
     updates: &'a UpdateTrees,
 ) -> Result<(), ExpandError>
-    ensures { Gives (λ _. gathered_of state.new) result (gathered (sets_of sets.now.entries) (binding_of binding.now) (PBlock (updates_of updates.now)) (gathered_of state.old)) }
+    ensures { GivesExpansion (λ _. gathered_of state.new) result (gathered (sets_of sets.now.entries)
+        (binding_of binding.now) (PBlock (updates_of updates.now)) (gathered_of state.old)) }
 {
     let mut block = Block {
         updates: Vec::new(alloc),
@@ -142,7 +151,8 @@ fn put_part<'a>(
     binding: &Scope<'_, 'a>,
     part: &'a Part,
 ) -> Result<(), ExpandError>
-    ensures { Gives (λ _. gathered_of state.new) result (gathered (sets_of sets.now.entries) (binding_of binding.now) (part_of part.now) (gathered_of state.old)) }
+    ensures { GivesExpansion (λ _. gathered_of state.new) result (gathered (sets_of sets.now.entries)
+        (binding_of binding.now) (part_of part.now) (gathered_of state.old)) }
 {
     match part {
         Part::Caption(pieces) => put_caption(alloc, state, binding, pieces.as_slice()),
@@ -166,7 +176,9 @@ pub fn put_parts<'a>(
     binding: &Scope<'_, 'a>,
     parts: &'a [Part],
 ) -> Result<(), ExpandError>
-    ensures { Gives (λ _. gathered_of state.new) result (each (gathered (sets_of sets.now.entries) (binding_of binding.now)) (map part_of parts.now) (gathered_of state.old)) }
+    ensures { GivesExpansion (λ _. gathered_of state.new) result
+        (each (gathered (sets_of sets.now.entries) (binding_of binding.now)) (map part_of parts.now)
+        (gathered_of state.old)) }
 {
     for part in parts {
         put_part(alloc, sets, state, binding, part)?;

@@ -4,7 +4,8 @@
 ghost use Rattle.std.specs.Prelude.{◌≡◌};
 ghost use Rattle.tv_tree.specs.Copies.{term_of, step_of, set_of, decl_of, decls_of, update_of, updates_of};
 ghost use Rattle.tv_expand.specs.Sets.{find_set};
-ghost use Rattle.tv_expand.specs.Idle.{is_declared_set, is_none, is_known_empty, is_empty_set, is_empty_step, is_idle_nest, is_idle};
+ghost use Rattle.tv_expand.specs.Idle.{is_declared_set, is_none, is_known_empty, is_empty_set, is_empty_step};
+ghost use Rattle.tv_expand.specs.Idle.{is_idle_nest, is_idle};
 ghost use Rattle.tv_expand.specs.Views.{names_of, sets_of};
 
 use crate::sets::{Sets, is_declared};

@@ -2,7 +2,7 @@
 
 ghost use Rattle.std.specs.Prelude.{◌≡◌, ◌+◌, ℕ, min, map, sum_by};
 ghost use Rattle.tv_tree.specs.Copies.{form_of, pred_of};
-ghost use Rattle.tv_expand.specs.Outcome.{Gives};
+ghost use Rattle.tv_expand.specs.Outcome.{GivesExpansion};
 ghost use Rattle.tv_flat.specs.FlatForm.{nodes, pred_nodes};
 ghost use Rattle.tv_expand.specs.Expansion.{counted};
 ghost use Rattle.tv_expand.specs.States.{room_of};
@@ -22,7 +22,8 @@ impl Room {
     // What is left behind an item with this many nodes.
     #[tactic(auto, using(crate::proofs::RoomLaws::room_enough, crate::proofs::RoomLaws::room_empty, crate::proofs::RoomLaws::room_short))]
     fn count(self, item_nodes: u64) -> Result<Room, ExpandError>
-        ensures { (n : ℕ) → item_nodes ≡ min n u64.MAX → Gives room_of result (counted n (room_of self)) }
+        ensures { (n : ℕ) → item_nodes ≡ min n u64.MAX
+            → GivesExpansion room_of result (counted n (room_of self)) }
     {
         if self.items == 0 {
             return Err(ExpandError::TooManyItems);
@@ -38,35 +39,37 @@ impl Room {
 
     /// What is left behind an item without formulas.
     pub fn count_none(self) -> Result<Room, ExpandError>
-        ensures { Gives room_of result (counted 0 (room_of self)) }
+        ensures { GivesExpansion room_of result (counted 0 (room_of self)) }
     {
         self.count(0)
     }
 
     /// What is left behind an item with this formula.
     pub fn count_formula(self, f: &FormulaTree) -> Result<Room, ExpandError>
-        ensures { Gives room_of result (counted (nodes (form_of f.now)) (room_of self)) }
+        ensures { GivesExpansion room_of result (counted (nodes (form_of f.now)) (room_of self)) }
     {
         self.count(formula_nodes(f))
     }
 
     /// What is left behind an item with these formulas.
     pub fn count_formulas(self, formulas: &[FormulaTree]) -> Result<Room, ExpandError>
-        ensures { Gives room_of result (counted (sum_by nodes (map form_of formulas.now)) (room_of self)) }
+        ensures { GivesExpansion room_of result
+            (counted (sum_by nodes (map form_of formulas.now)) (room_of self)) }
     {
         self.count(formulas_nodes(formulas))
     }
 
     /// What is left behind a predicate's declaration.
     pub fn count_pred(self, pred: &PredDecl) -> Result<Room, ExpandError>
-        ensures { Gives room_of result (counted (pred_nodes (pred_of pred.now)) (room_of self)) }
+        ensures { GivesExpansion room_of result (counted (pred_nodes (pred_of pred.now)) (room_of self)) }
     {
         self.count(pred_nodes(pred))
     }
 
     /// What is left behind a rule.
     pub fn count_rule(self, body: &FormulaTree, head: &FormulaTree) -> Result<Room, ExpandError>
-        ensures { Gives room_of result (counted (nodes (form_of body.now) + nodes (form_of head.now)) (room_of self)) }
+        ensures { GivesExpansion room_of result
+            (counted (nodes (form_of body.now) + nodes (form_of head.now)) (room_of self)) }
     {
         self.count(rule_nodes(body, head))
     }

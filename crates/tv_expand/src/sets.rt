@@ -2,7 +2,7 @@
 
 ghost use Rattle.std.specs.Prelude.{◌≡◌, [], ◌∷◌, ◌++◌, map, false, is_some, Ok, OnOk};
 ghost use Rattle.tv_tree.specs.Copies.{term_of, set_of};
-ghost use Rattle.tv_expand.specs.Outcome.{Gives};
+ghost use Rattle.tv_expand.specs.Outcome.{GivesExpansion};
 ghost use Rattle.tv_flat.specs.Replaced.{replaced};
 ghost use Rattle.tv_expand.specs.Sets.{find_set, known, members_of, with_members};
 ghost use Rattle.tv_flat.specs.Views.{binding_of};
@@ -19,7 +19,8 @@ use tv_tree::trees::{SetStep, SetTerm, SetTree, Spelling};
 pub type Sets<'a> = IndexMap<&'a [u8], Words<'a>>;
 
 fn find_set<'s, 'a>(sets: &'s Sets<'a>, name: &[u8]) -> Result<&'s Words<'a>, ExpandError>
-    ensures { Gives (λ found. names_of found.now.keys) result (known (find_set (sets_of sets.now.entries) name.now)) }
+    ensures { GivesExpansion (λ found. names_of found.now.keys) result
+        (known (find_set (sets_of sets.now.entries) name.now)) }
 {
     match sets.get(name) {
         Some(words) => Ok(words),
@@ -28,7 +29,8 @@ fn find_set<'s, 'a>(sets: &'s Sets<'a>, name: &[u8]) -> Result<&'s Words<'a>, Ex
 }
 
 fn known_members<'a>(sets: &Sets<'a>, name: &[u8]) -> Result<Words<'a>, ExpandError>
-    ensures { Gives (λ found. names_of found.keys) result (known (find_set (sets_of sets.now.entries) name.now)) }
+    ensures { GivesExpansion (λ found. names_of found.keys) result
+        (known (find_set (sets_of sets.now.entries) name.now)) }
 {
     Ok(find_set(sets, name)?.clone()?)
 }
@@ -38,7 +40,8 @@ fn replaced_members<'a>(
     binding: &Scope<'_, 'a>,
     words: &'a [Spelling],
 ) -> Result<Words<'a>, ExpandError>
-    ensures { Gives (λ found. names_of found.keys) result (Ok (with_members [] (map (replaced (binding_of binding.now)) words.now))) }
+    ensures { GivesExpansion (λ found. names_of found.keys) result
+        (Ok (with_members [] (map (replaced (binding_of binding.now)) words.now))) }
 {
     let mut found = IndexSet::new(alloc);
     add_replaced(&mut found, binding, words)?;
@@ -53,7 +56,8 @@ fn term_members<'a>(
     binding: &Scope<'_, 'a>,
     term: &'a SetTerm,
 ) -> Result<Words<'a>, ExpandError>
-    ensures { Gives (λ found. names_of found.keys) result (members_of (sets_of sets.now.entries) (binding_of binding.now) (term_of term.now)) }
+    ensures { GivesExpansion (λ found. names_of found.keys) result
+        (members_of (sets_of sets.now.entries) (binding_of binding.now) (term_of term.now)) }
 {
     match term {
         SetTerm::Named(name) => known_members(sets, &name.0),
@@ -62,8 +66,8 @@ fn term_members<'a>(
     }
 }
 
-// The words so far, with those of one more set put in or taken out. A declared set is only looked at, since it may be
-// large and an expression stands in a foreach.
+// The words so far, with those of one more set put in or taken out. A declared set is only looked at, since
+// it may be large and an expression stands in a foreach.
 #[cycle(set)]
 fn with_step<'a>(
     alloc: Global,
@@ -72,7 +76,8 @@ fn with_step<'a>(
     found: Words<'a>,
     step: &'a SetStep,
 ) -> Result<Words<'a>, ExpandError>
-    ensures { Gives (λ all. names_of all.keys) result (step_members (sets_of sets.now.entries) (binding_of binding.now) (names_of found.entry.keys) (step.now.sign, term_of step.now.term)) }
+    ensures { GivesExpansion (λ all. names_of all.keys) result (step_members (sets_of sets.now.entries)
+        (binding_of binding.now) (names_of found.entry.keys) (step.now.sign, term_of step.now.term)) }
 {
     match &step.term {
         SetTerm::Named(name) => { Ok(signed(alloc, found, step.sign, find_set(sets, &name.0)?)?) }
@@ -98,7 +103,8 @@ pub fn members<'a>(
     binding: &Scope<'_, 'a>,
     set: &'a SetTree,
 ) -> Result<Words<'a>, ExpandError>
-    ensures { Gives (λ found. names_of found.keys) result (members_of (sets_of sets.now.entries) (binding_of binding.now) (set_of set.now)) }
+    ensures { GivesExpansion (λ found. names_of found.keys) result
+        (members_of (sets_of sets.now.entries) (binding_of binding.now) (set_of set.now)) }
 {
     let mut found = term_members(alloc, sets, binding, &set.first)?;
     for step in &set.more {
@@ -117,7 +123,8 @@ pub fn is_declared(sets: &Sets<'_>, name: &[u8]) -> bool
 /// Declares a set of a new name.
 pub fn add_set<'a>(sets: &mut Sets<'a>, name: &'a [u8], words: Words<'a>) -> Result<(), AllocError>
     requires { is_some (find_set (sets_of sets.old.entries) name.now) ≡ false }
-    ensures { OnOk result (sets_of sets.new.entries ≡ sets_of sets.old.entries ++ (name.now, names_of words.entry.keys) ∷ []) }
+    ensures { OnOk result
+        (sets_of sets.new.entries ≡ sets_of sets.old.entries ++ (name.now, names_of words.entry.keys) ∷ []) }
 {
     sets.insert(name, words)?;
     Ok(())

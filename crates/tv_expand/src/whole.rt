@@ -3,7 +3,7 @@
 ghost use Rattle.std.specs.Prelude.{IfOk};
 ghost use Rattle.tv_tree.specs.Copies.{program_of};
 ghost use Rattle.tv_tree.specs.Spelled.{IsSpelled};
-ghost use Rattle.tv_expand.specs.Outcome.{Gives};
+ghost use Rattle.tv_expand.specs.Outcome.{GivesExpansion};
 ghost use Rattle.tv_flat.specs.FlatForm.{flat_of, IsFlat};
 ghost use Rattle.tv_expand.specs.Expansion.{expansion};
 
@@ -22,7 +22,7 @@ use tv_tree::trees::Tree;
 /// # Errors
 /// The first condition that is met, in the order of declarations, actions and edges.
 pub fn expand(alloc: Global, t: &Tree) -> Result<Flat, ExpandError>
-    ensures exact { Gives flat_of result (expansion (program_of t.now)) }
+    ensures exact { GivesExpansion flat_of result (expansion (program_of t.now)) }
     ensures flat { IfOk result (λ f. IsSpelled (program_of t.now) → IsFlat (flat_of f)) }
 {
     let declared = declare_program(alloc, &t.decls)?;

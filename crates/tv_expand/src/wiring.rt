@@ -1,11 +1,13 @@
 //! Actions by their names, and edges with the flat actions that they take.
 
-ghost use Rattle.std.specs.Prelude.{◌≡◌, ◌≤◌, ◌++◌, ◌∷◌, [], map, length, not, false, if◌then◌else◌, is_some, IfOk, OnOk};
+ghost use Rattle.std.specs.Prelude.{◌≡◌, ◌≤◌, ◌++◌, ◌∷◌, [], map, length, not, false, if◌then◌else◌, is_some};
+ghost use Rattle.std.specs.Prelude.{IfOk, OnOk};
 ghost use Rattle.std.specs.List.{zip, list_any, position_or_len};
 ghost use Rattle.tv_tree.specs.Copies.{part_of, action_of, edge_of};
-ghost use Rattle.tv_expand.specs.Outcome.{Gives, each};
+ghost use Rattle.tv_expand.specs.Outcome.{GivesExpansion, each};
 ghost use Rattle.tv_expand.specs.Sets.{once, known};
-ghost use Rattle.tv_expand.specs.Expansion.{with_action, find_action, same_call, made, called, with_edge, wired_to, wired, gathered, nothing_wired};
+ghost use Rattle.tv_expand.specs.Expansion.{with_action, find_action, same_call, made, called, with_edge};
+ghost use Rattle.tv_expand.specs.Expansion.{wired_to, wired, gathered, nothing_wired};
 ghost use Rattle.tv_flat.specs.Replaced.{all_bound};
 ghost use Rattle.tv_flat.specs.Views.{params_of, binding_of};
 ghost use Rattle.tv_expand.specs.Views.{names_of, sets_of, actions_of, calls_of};
@@ -38,7 +40,7 @@ pub struct Wired<'a> {
 }
 
 fn check_params<'a>(alloc: Global, params: &'a [Spelling]) -> Result<Words<'a>, ExpandError>
-    ensures { Gives (λ seen. names_of seen.keys) result (each once params.now []) }
+    ensures { GivesExpansion (λ seen. names_of seen.keys) result (each once params.now []) }
 {
     let mut seen = IndexSet::new(alloc);
     for param in params {
@@ -59,7 +61,8 @@ fn add_action<'a>(
     action: &'a ActionTree,
 ) -> Result<(), AllocError>
     requires { is_some (find_action (actions_of actions.old.entries) name.now) ≡ false }
-    ensures { OnOk result (actions_of actions.new.entries ≡ actions_of actions.old.entries ++ (name.now, action_of action.now) ∷ []) }
+    ensures { OnOk result (actions_of actions.new.entries
+        ≡ actions_of actions.old.entries ++ (name.now, action_of action.now) ∷ []) }
 {
     actions.insert(name, action)?;
     Ok(())
@@ -70,7 +73,8 @@ fn declare_action<'a>(
     actions: &mut Actions<'a>,
     action: &'a ActionTree,
 ) -> Result<(), ExpandError>
-    ensures { Gives (λ _. actions_of actions.new.entries) result (with_action (action_of action.now) (actions_of actions.old.entries)) }
+    ensures { GivesExpansion (λ _. actions_of actions.new.entries) result
+        (with_action (action_of action.now) (actions_of actions.old.entries)) }
 {
     if is_action(actions, &action.name.0) {
         return Err(ExpandError::NameTwice);
@@ -88,7 +92,8 @@ pub fn declare_actions<'a>(
     alloc: Global,
     actions: &'a [ActionTree],
 ) -> Result<Actions<'a>, ExpandError>
-    ensures { Gives (λ declared. actions_of declared.entries) result (each with_action (map action_of actions.now) []) }
+    ensures { GivesExpansion (λ declared. actions_of declared.entries) result
+        (each with_action (map action_of actions.now) []) }
 {
     let mut declared = IndexMap::new(alloc);
     for action in actions {
@@ -137,7 +142,9 @@ fn bound_parts<'a>(
     parts: &'a [Part],
     room: Room,
 ) -> Result<Gathered, ExpandError>
-    ensures { Gives gathered_of result (each (gathered (sets_of sets.now.entries) (binding_of binding.now)) (map part_of parts.now) (record { parts = []; room = room_of room })) }
+    ensures { GivesExpansion gathered_of result
+        (each (gathered (sets_of sets.now.entries) (binding_of binding.now)) (map part_of parts.now)
+        (record { parts = []; room = room_of room })) }
 {
     let mut state = Gathered {
         parts: Vec::new(alloc),
@@ -155,7 +162,9 @@ fn flat_parts<'a>(
     room: Room,
 ) -> Result<Gathered, ExpandError>
     requires { length action.now.params ≡ length arguments.now }
-    ensures { Gives gathered_of result (each (gathered (sets_of sets.now.entries) (all_bound [] (zip action.now.params arguments.now))) (map part_of action.now.parts) (record { parts = []; room = room_of room })) }
+    ensures { GivesExpansion gathered_of result
+        (each (gathered (sets_of sets.now.entries) (all_bound [] (zip action.now.params arguments.now)))
+        (map part_of action.now.parts) (record { parts = []; room = room_of room })) }
 {
     let params = call_params(alloc, action.params.as_slice(), arguments)?;
     let binding = with_params(alloc, &params);
@@ -169,9 +178,13 @@ fn enter<'a>(
     name: &'a Spelling,
     arguments: &'a [Spelling],
 ) -> Result<(usize, bool), AllocError>
-    ensures place { IfOk result (λ r. r.0 ≡ position_or_len (same_call (name.now ∷ arguments.now)) (calls_of calls.old.keys)) }
-    ensures new { IfOk result (λ r. r.1 ≡ not (list_any (same_call (name.now ∷ arguments.now)) (calls_of calls.old.keys))) }
-    ensures calls { OnOk result (calls_of calls.new.keys ≡ (if list_any (same_call (name.now ∷ arguments.now)) (calls_of calls.old.keys) then calls_of calls.old.keys else calls_of calls.old.keys ++ (name.now ∷ arguments.now) ∷ [])) }
+    ensures place { IfOk result
+        (λ r. r.0 ≡ position_or_len (same_call (name.now ∷ arguments.now)) (calls_of calls.old.keys)) }
+    ensures new { IfOk result
+        (λ r. r.1 ≡ not (list_any (same_call (name.now ∷ arguments.now)) (calls_of calls.old.keys))) }
+    ensures calls { OnOk result (calls_of calls.new.keys
+        ≡ (if list_any (same_call (name.now ∷ arguments.now)) (calls_of calls.old.keys)
+        then calls_of calls.old.keys else calls_of calls.old.keys ++ (name.now ∷ arguments.now) ∷ [])) }
 {
     let words = call_words(alloc, name, arguments)?;
     Ok(calls.insert_full(words)?)
@@ -185,7 +198,8 @@ fn make_action<'a>(
     arguments: &'a [Spelling],
 ) -> Result<(), ExpandError>
     requires { length action.now.params ≡ length arguments.now }
-    ensures { Gives (λ _. wired_of state.new) result (made (sets_of sets.now.entries) (action_of action.now) arguments.now (wired_of state.old)) }
+    ensures { GivesExpansion (λ _. wired_of state.new) result
+        (made (sets_of sets.now.entries) (action_of action.now) arguments.now (wired_of state.old)) }
 {
     let Gathered { parts, room } = flat_parts(alloc, sets, action, arguments, state.room)?;
     state.actions.push(FlatAction {
@@ -207,8 +221,10 @@ fn call<'a>(
 ) -> Result<u32, ExpandError>
     requires arity { length action.now.params ≡ length arguments.now }
     requires few { length state.old.calls.keys ≤ 4294967295 }
-    ensures made { Gives (λ _. wired_of state.new) result (called (sets_of sets.now.entries) (action_of action.now) arguments.now (wired_of state.old)) }
-    ensures number { IfOk result (λ number. number ≡ position_or_len (same_call (action.now.name ∷ arguments.now)) (calls_of state.old.calls.keys)) }
+    ensures made { GivesExpansion (λ _. wired_of state.new) result
+        (called (sets_of sets.now.entries) (action_of action.now) arguments.now (wired_of state.old)) }
+    ensures number { IfOk result (λ number. number
+        ≡ position_or_len (same_call (action.now.name ∷ arguments.now)) (calls_of state.old.calls.keys)) }
 {
     let (index, is_new) = enter(alloc, &mut state.calls, &action.name, arguments)?;
     if is_new {
@@ -223,7 +239,8 @@ fn put_edge(
     number: u32,
     edge: &EdgeTree,
 ) -> Result<(), ExpandError>
-    ensures { Gives (λ _. wired_of state.new) result (with_edge number (edge_of edge.now) (wired_of state.old)) }
+    ensures { GivesExpansion (λ _. wired_of state.new) result
+        (with_edge number (edge_of edge.now) (wired_of state.old)) }
 {
     let room = state.room.count_none()?;
     let from = spelling(alloc, &edge.from.0)?;
@@ -238,7 +255,8 @@ fn put_edge(
 }
 
 fn find<'a>(actions: &Actions<'a>, name: &[u8]) -> Result<&'a ActionTree, ExpandError>
-    ensures { Gives (λ a. action_of a.now) result (known (find_action (actions_of actions.now.entries) name.now)) }
+    ensures { GivesExpansion (λ a. action_of a.now) result
+        (known (find_action (actions_of actions.now.entries) name.now)) }
 {
     match actions.get(name) {
         Some(action) => Ok(*action),
@@ -254,7 +272,8 @@ fn wire_to<'a>(
     edge: &'a EdgeTree,
 ) -> Result<(), ExpandError>
     requires few { length state.old.calls.keys ≤ 4294967295 }
-    ensures { Gives (λ _. wired_of state.new) result (wired_to (sets_of sets.now.entries) (action_of action.now) (edge_of edge.now) (wired_of state.old)) }
+    ensures { GivesExpansion (λ _. wired_of state.new) result
+        (wired_to (sets_of sets.now.entries) (action_of action.now) (edge_of edge.now) (wired_of state.old)) }
 {
     if edge.arguments.len() != action.params.len() {
         return Err(ExpandError::ArgumentCount);
@@ -271,7 +290,8 @@ fn wire<'a>(
     edge: &'a EdgeTree,
 ) -> Result<(), ExpandError>
     requires few { length state.old.calls.keys ≤ 4294967295 }
-    ensures { Gives (λ _. wired_of state.new) result (wired (sets_of sets.now.entries) (actions_of actions.now.entries) (edge_of edge.now) (wired_of state.old)) }
+    ensures { GivesExpansion (λ _. wired_of state.new) result (wired (sets_of sets.now.entries)
+        (actions_of actions.now.entries) (edge_of edge.now) (wired_of state.old)) }
 {
     let action = find(actions, edge.action.0.as_slice())?;
     wire_to(alloc, sets, state, action, edge)
@@ -299,7 +319,9 @@ pub fn wire_all<'a>(
     room: Room,
     edges: &'a [EdgeTree],
 ) -> Result<Wired<'a>, ExpandError>
-    ensures { Gives wired_of result (each (wired (sets_of sets.now.entries) (actions_of actions.now.entries)) (map edge_of edges.now) (nothing_wired (room_of room))) }
+    ensures { GivesExpansion wired_of result
+        (each (wired (sets_of sets.now.entries) (actions_of actions.now.entries)) (map edge_of edges.now)
+        (nothing_wired (room_of room))) }
 {
     let mut state = nothing_wired(alloc, room);
     for edge in edges {

@@ -1,7 +1,7 @@
 //! Lists of words, each once, in order of first sight.
 
 ghost use Rattle.std.specs.Prelude.{◌≡◌, ◌++◌, ◌∷◌, [], not, map, if◌then◌else◌, IfOk, OnOk};
-ghost use Rattle.tv_expand.specs.Outcome.{Gives};
+ghost use Rattle.tv_expand.specs.Outcome.{GivesExpansion};
 ghost use Rattle.tv_flat.specs.Replaced.{replaced};
 ghost use Rattle.tv_tree.specs.Names.{is_among};
 ghost use Rattle.tv_expand.specs.Sets.{sight, with_members, without_members, once};
@@ -31,7 +31,7 @@ pub fn sight<'a>(seen: &mut Words<'a>, word: &'a [u8]) -> Result<bool, AllocErro
 /// `NameTwice` exactly where it was seen.
 #[tactic(auto, using(crate::proofs::WordLaws::once_new))]
 pub fn once<'a>(seen: &mut Words<'a>, word: &'a [u8]) -> Result<(), ExpandError>
-    ensures { Gives (λ _. names_of seen.new.keys) result (once word.now (names_of seen.old.keys)) }
+    ensures { GivesExpansion (λ _. names_of seen.new.keys) result (once word.now (names_of seen.old.keys)) }
 {
     if sight(seen, word)? {
         Ok(())
@@ -43,7 +43,8 @@ pub fn once<'a>(seen: &mut Words<'a>, word: &'a [u8]) -> Result<(), ExpandError>
 /// Puts in the words of another list.
 #[tactic(auto, using(crate::proofs::WordLaws::members_more, crate::proofs::WordLaws::members_done))]
 pub fn add_all<'a>(seen: &mut Words<'a>, words: &[&'a [u8]]) -> Result<(), AllocError>
-    ensures { OnOk result (names_of seen.new.keys ≡ with_members (names_of seen.old.keys) (names_of words.now)) }
+    ensures { OnOk result
+        (names_of seen.new.keys ≡ with_members (names_of seen.old.keys) (names_of words.now)) }
 {
     for word in words {
         sight(seen, *word)?;
@@ -58,7 +59,8 @@ pub fn add_replaced<'a>(
     binding: &Scope<'_, 'a>,
     words: &'a [Spelling],
 ) -> Result<(), AllocError>
-    ensures { OnOk result (names_of seen.new.keys ≡ with_members (names_of seen.old.keys) (map (replaced (binding_of binding.now)) words.now)) }
+    ensures { OnOk result (names_of seen.new.keys
+        ≡ with_members (names_of seen.old.keys) (map (replaced (binding_of binding.now)) words.now)) }
 {
     for word in words {
         sight(seen, replaced(binding, &word.0))?;
@@ -73,7 +75,8 @@ fn is_among(words: &Words<'_>, word: &[u8]) -> bool
 }
 
 fn keep_other<'a>(kept: &mut Words<'a>, taken: &Words<'_>, word: &'a [u8]) -> Result<(), AllocError>
-    ensures { OnOk result (names_of kept.new.keys ≡ (if is_among (names_of taken.now.keys) word.now then names_of kept.old.keys else sight (names_of kept.old.keys) word.now)) }
+    ensures { OnOk result (names_of kept.new.keys ≡ (if is_among (names_of taken.now.keys) word.now
+        then names_of kept.old.keys else sight (names_of kept.old.keys) word.now)) }
 {
     if !is_among(taken, word) {
         sight(kept, word)?;
@@ -87,7 +90,8 @@ fn without<'a>(
     words: &[&'a [u8]],
     taken: &Words<'_>,
 ) -> Result<Words<'a>, AllocError>
-    ensures { IfOk result (λ kept. names_of kept.keys ≡ without_members (names_of words.now) (names_of taken.now.keys)) }
+    ensures { IfOk result
+        (λ kept. names_of kept.keys ≡ without_members (names_of words.now) (names_of taken.now.keys)) }
 {
     let mut kept = IndexSet::new(alloc);
     for word in words {
@@ -103,7 +107,8 @@ pub fn signed<'a>(
     sign: SetSign,
     other: &Words<'a>,
 ) -> Result<Words<'a>, AllocError>
-    ensures { IfOk result (λ all. names_of all.keys ≡ signed sign (names_of words.entry.keys) (names_of other.now.keys)) }
+    ensures { IfOk result
+        (λ all. names_of all.keys ≡ signed sign (names_of words.entry.keys) (names_of other.now.keys)) }
 {
     match sign {
         SetSign::Plus => {

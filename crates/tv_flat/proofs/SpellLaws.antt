@@ -1,16 +1,22 @@
 -- What is put in keeps names spelled, texts printable, and formulas as large as they were.
-use Rattle.std.proofs.Common.{◌≡◌, ◌≢◌, ℕ, ◌+◌, ◌≤◌, Bool, true, false, cond, List, [], ◌∷◌, map, refl, ap, Option, Some, None, arith}
+use Rattle.std.proofs.Common.{◌≡◌, ◌≢◌, ℕ, ◌+◌, ◌≤◌, Bool, true, false, cond, List, [], ◌∷◌, map, refl, ap}
+use Rattle.std.proofs.Common.{Option, Some, None, arith}
 use Rattle.std.specs.Prelude.{All, ◌⊎◌, sum_by}
 use Rattle.std.specs.Map.{lookup}
 use Rattle.std.specs.Option.{unwrap_or}
 use Rattle.std.specs.Str.{bytes_eq}
-use Rattle.std.proofs.lemmas.List.Elements.{All-nil, All-cons, All-head, All-tail, All-append, All-map, All-weaker}
+use Rattle.std.proofs.lemmas.List.Elements.{All-nil, All-cons, All-head, All-tail, All-append, All-map}
+use Rattle.std.proofs.lemmas.List.Elements.{All-weaker}
 use Rattle.std.proofs.lemmas.List.Sums.{sum_by-cons}
 use Rattle.tv_model.specs.Spelling.{IsDigit, IsLetter, IsIdentifier, IsText}
-use Rattle.tv_tree.specs.Forms.{NameForm, Form, FZero, FOne, FHalf, FSame, FDiffer, FAtom, FStar, FPlus, FParen, FNot, FAnd, FOr, FImp, FIff, FCond, FExists, FForall, FTc, PredForm, UpdateForm, PieceForm, Quoted, Spelled}
-use Rattle.tv_tree.specs.Spelled.{AreIdentifiers, IsSpelledName, IsSpelledForm, IsSpelledBody, IsSpelledPred, IsSpelledPiece, IsSpelledUpdate}
+use Rattle.tv_tree.specs.Forms.{NameForm, Form, FZero, FOne, FHalf, FSame, FDiffer, FAtom, FStar, FPlus}
+use Rattle.tv_tree.specs.Forms.{FParen, FNot, FAnd, FOr, FImp, FIff, FCond, FExists, FForall, FTc, PredForm}
+use Rattle.tv_tree.specs.Forms.{UpdateForm, PieceForm, Quoted, Spelled}
+use Rattle.tv_tree.specs.Spelled.{AreIdentifiers, IsSpelledName, IsSpelledForm, IsSpelledBody, IsSpelledPred}
+use Rattle.tv_tree.specs.Spelled.{IsSpelledPiece, IsSpelledUpdate}
 use Rattle.tv_flat.specs.FlatForm.{nodes, body_nodes}
-use Rattle.tv_flat.specs.Replaced.{Binding, bound, all_bound, replaced, flat_name, flat_form, flat_body, flat_pred, flat_update, piece_text, joined}
+use Rattle.tv_flat.specs.Replaced.{Binding, bound, all_bound, replaced, flat_name, flat_form, flat_body}
+use Rattle.tv_flat.specs.Replaced.{flat_pred, flat_update, piece_text, joined_text}
 
 pub case_of : {A : Type 0} (P : A → Type 0) (t : Bool) (x y : A) → P x → P y → P (cond t x y)
 case_of P true x y p q = p
@@ -128,7 +134,7 @@ piece_good b (Quoted s) good ok = ok
 piece_good b (Spelled s) good ok =
     All-weaker (λ (c : ℕ). IsLetter c ⊎ IsDigit c ⊎ (c ≡ 95)) Prints letter_prints (replaced b s) ((replaced_good b s good ok).0.1)
 
-pub joined_good : (b : Binding) (ps : List PieceForm) → IsGoodBinding b → All IsSpelledPiece ps → IsText (joined b ps)
+pub joined_good : (b : Binding) (ps : List PieceForm) → IsGoodBinding b → All IsSpelledPiece ps → IsText (joined_text b ps)
 joined_good b [] good ok = All-nil Prints
 joined_good b (p ∷ ps) good ok =
-    All-append Prints (piece_text b p) (joined b ps) (piece_good b p good (All-head IsSpelledPiece p ps ok)) (joined_good b ps good (All-tail IsSpelledPiece p ps ok))
+    All-append Prints (piece_text b p) (joined_text b ps) (piece_good b p good (All-head IsSpelledPiece p ps ok)) (joined_good b ps good (All-tail IsSpelledPiece p ps ok))

@@ -1,7 +1,11 @@
 -- The flat form of a program as plain data, and what the next stage rests on.
-use Rattle.std.specs.Prelude.{ℕ, ◌+◌, ◌<◌, ◌≤◌, ⊤, List, [], ◌∷◌, ◌++◌, Option, Some, None, length, map, sum_by, All}
+use Rattle.std.specs.Prelude.{ℕ, ◌+◌, ◌<◌, ◌≤◌, ⊤, List, [], ◌∷◌, ◌++◌, Option, Some, None, length, map}
+use Rattle.std.specs.Prelude.{sum_by, All}
 use Rattle.tv_model.specs.Spelling.{IsWord, IsText}
-use Rattle.tv_tree.specs.Forms.{Form, FZero, FOne, FHalf, FSame, FDiffer, FAtom, FStar, FPlus, FParen, FNot, FAnd, FOr, FImp, FIff, FCond, FExists, FForall, FTc, PredForm, Single, Foreach, Nests, no_nest, with_nest, UpdateForm, PieceForm, Quoted, PartForm, PCaption, PFocus, PPre, PMessage, PNew, PRetain, PBlock}
+use Rattle.tv_tree.specs.Forms.{Form, FZero, FOne, FHalf, FSame, FDiffer, FAtom, FStar, FPlus, FParen, FNot}
+use Rattle.tv_tree.specs.Forms.{FAnd, FOr, FImp, FIff, FCond, FExists, FForall, FTc, PredForm, Single}
+use Rattle.tv_tree.specs.Forms.{Foreach, Nests, no_nest, with_nest, UpdateForm, PieceForm, Quoted, PartForm}
+use Rattle.tv_tree.specs.Forms.{PCaption, PFocus, PPre, PMessage, PNew, PRetain, PBlock}
 use Rattle.tv_tree.specs.Copies.{form_of, pred_of, part_of}
 use Rattle.tv_tree.specs.Spelled.{IsSpelledForm, IsSpelledPred, IsSpelledUpdate, HasPartsOnce}
 use Rattle.tv_tree.specs.declared.trees.RuleDecl.{RuleDecl}
@@ -36,7 +40,13 @@ abbrev pub flat_edge_of : FlatEdge → FlatEdgeForm
 flat_edge_of e = record { from = e.from; action = e.action; to = e.to }
 
 abbrev pub flat_of : Flat → FlatForm
-flat_of f = record { preds = map pred_of f.preds; rules = map rule_of f.rules; actions = map parts_of f.actions; edges = map flat_edge_of f.edges }
+flat_of f =
+    record {
+      preds = map pred_of f.preds;
+      rules = map rule_of f.rules;
+      actions = map parts_of f.actions;
+      edges = map flat_edge_of f.edges;
+    }
 
 -- ---- items and formula nodes
 
@@ -141,9 +151,9 @@ IsFlatEdge actions e = IsWord e.from × (e.action < actions) × IsWord e.to
 
 -- ---- what the next stage rests on
 
--- the limits are kept; each name is final and well spelled, and so are node words and texts; each action has each kind of
--- part other than the message at most once, its captions and messages are one text each, and its block has no foreach; and
--- the action of each edge is there
+-- the limits are kept; each name is final and well spelled, and so are node words and texts; each action has
+-- each kind of part other than the message at most once, its captions and messages are one text each, and its
+-- block has no foreach; and the action of each edge is there
 pub record IsFlat (f : FlatForm) : Type 0 where
   pub items : item_count f ≤ max_items
   pub nodes : node_count f ≤ max_nodes

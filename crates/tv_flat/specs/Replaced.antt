@@ -1,11 +1,14 @@
--- What is replaced where: the identifiers of a name, also in formulas, and pieces of texts. Variables never are.
+-- What is replaced where: the identifiers of a name, also in formulas, and pieces of texts. Variables never
+-- are.
 use Rattle.std.specs.Prelude.{ℕ, List, [], ◌∷◌, Option, Some, None, map}
 use Rattle.std.specs.List.{flat_map}
 use Rattle.std.specs.Map.{lookup}
 use Rattle.std.specs.Option.{unwrap_or}
 use Rattle.std.specs.Str.{bytes_eq}
 use Rattle.indexmap.specs.IndexMap.{insert_entry, insert_all}
-use Rattle.tv_tree.specs.Forms.{NameForm, Form, FZero, FOne, FHalf, FSame, FDiffer, FAtom, FStar, FPlus, FParen, FNot, FAnd, FOr, FImp, FIff, FCond, FExists, FForall, FTc, PredForm, UpdateForm, PieceForm, Quoted, Spelled}
+use Rattle.tv_tree.specs.Forms.{NameForm, Form, FZero, FOne, FHalf, FSame, FDiffer, FAtom, FStar, FPlus}
+use Rattle.tv_tree.specs.Forms.{FParen, FNot, FAnd, FOr, FImp, FIff, FCond, FExists, FForall, FTc, PredForm}
+use Rattle.tv_tree.specs.Forms.{UpdateForm, PieceForm, Quoted, Spelled}
 use Rattle.tv_flat.specs.FlatForm.{RuleForm}
 
 -- what words stand for: each word that is bound, with what stands for it
@@ -52,7 +55,8 @@ flat_body b None = None
 flat_body b (Some f) = Some (flat_form b f)
 
 abbrev pub flat_pred : Binding → PredForm → PredForm
-flat_pred b d = record { name = flat_name b d.name; params = d.params; body = flat_body b d.body; props = d.props }
+flat_pred b d =
+    record { name = flat_name b d.name; params = d.params; body = flat_body b d.body; props = d.props }
 
 abbrev pub flat_rule : Binding → Form → Form → RuleForm
 flat_rule b f g = record { body = flat_form b f; head = flat_form b g }
@@ -66,8 +70,8 @@ piece_text b (Quoted s) = s
 piece_text b (Spelled s) = replaced b s
 
 -- the pieces of a caption or a message, joined to one text
-abbrev pub joined : Binding → List PieceForm → List ℕ
-joined b ps = flat_map (piece_text b) ps
+abbrev pub joined_text : Binding → List PieceForm → List ℕ
+joined_text b ps = flat_map (piece_text b) ps
 
 abbrev pub one_text : Binding → List PieceForm → List PieceForm
-one_text b ps = Quoted (joined b ps) ∷ []
+one_text b ps = Quoted (joined_text b ps) ∷ []

@@ -32,7 +32,8 @@ pub fn put_param<'a>(
     word: &'a [u8],
     by: &'a [u8],
 ) -> Result<(), AllocError>
-    ensures { OnOk result (params_of params.new.entries ≡ bound (params_of params.old.entries) word.now by.now) }
+    ensures { OnOk result
+        (params_of params.new.entries ≡ bound (params_of params.old.entries) word.now by.now) }
 {
     params.insert(word, by)?;
     Ok(())
@@ -66,7 +67,8 @@ fn further<'a>(bound: &Bound<'a>, word: &[u8], found: &'a [u8]) -> &'a [u8]
 // What stands for a word, where `found` does so far. The last variable of this name counts.
 #[tactic(auto, using(crate::proofs::BindingLaws::replaced_more, crate::proofs::BindingLaws::replaced_done))]
 fn innermost<'a>(vars: &[Bound<'a>], word: &[u8], found: &'a [u8]) -> &'a [u8]
-    ensures { result.now ≡ fold (λ last p. if bytes_eq p.0 word.now then p.1 else last) found.now (pairs_of vars.now) }
+    ensures { result.now
+        ≡ fold (λ last p. if bytes_eq p.0 word.now then p.1 else last) found.now (pairs_of vars.now) }
 {
     let mut last = found;
     for bound in vars {

@@ -1,10 +1,12 @@
 //! Copies of trees in which words are replaced.
 
 ghost use Rattle.std.specs.Prelude.{◌≡◌, map, IfOk};
-ghost use Rattle.tv_tree.specs.Copies.{name_of, form_of, pred_of_body, pred_of, piece_of, update_of, single_of};
+ghost use Rattle.tv_tree.specs.Copies.{name_of, form_of, pred_of_body, pred_of, piece_of, update_of};
+ghost use Rattle.tv_tree.specs.Copies.{single_of};
 ghost use Rattle.tv_tree.specs.Forms.{FSame, FDiffer, FAtom, FStar, FPlus, FExists, FForall, FTc, Single};
 ghost use Rattle.tv_flat.specs.FlatForm.{rule_of};
-ghost use Rattle.tv_flat.specs.Replaced.{replaced, flat_name, flat_form, flat_body, flat_pred, flat_rule, flat_update, piece_text, joined, one_text};
+ghost use Rattle.tv_flat.specs.Replaced.{replaced, flat_name, flat_form, flat_body, flat_pred, flat_rule};
+ghost use Rattle.tv_flat.specs.Replaced.{flat_update, piece_text, joined_text, one_text};
 ghost use Rattle.tv_flat.specs.Views.{binding_of};
 
 use crate::binding::{Scope, replaced};
@@ -90,7 +92,8 @@ fn flat_atom(
     name: &Name,
     vars: &[Spelling],
 ) -> Result<FormulaTree, AllocError>
-    ensures { IfOk result (λ g. form_of g ≡ FAtom (flat_name (binding_of binding.now) (name_of name.now)) vars.now) }
+    ensures { IfOk result
+        (λ g. form_of g ≡ FAtom (flat_name (binding_of binding.now) (name_of name.now)) vars.now) }
 {
     let name = flat_name(alloc, binding, name)?;
     let vars = copy_words(alloc, vars)?;
@@ -104,7 +107,8 @@ fn flat_star(
     v: &Spelling,
     w: &Spelling,
 ) -> Result<FormulaTree, AllocError>
-    ensures { IfOk result (λ g. form_of g ≡ FStar (flat_name (binding_of binding.now) (name_of name.now)) v.now w.now) }
+    ensures { IfOk result
+        (λ g. form_of g ≡ FStar (flat_name (binding_of binding.now) (name_of name.now)) v.now w.now) }
 {
     let name = flat_name(alloc, binding, name)?;
     let left = spelling(alloc, &v.0)?;
@@ -119,7 +123,8 @@ fn flat_plus(
     v: &Spelling,
     w: &Spelling,
 ) -> Result<FormulaTree, AllocError>
-    ensures { IfOk result (λ g. form_of g ≡ FPlus (flat_name (binding_of binding.now) (name_of name.now)) v.now w.now) }
+    ensures { IfOk result
+        (λ g. form_of g ≡ FPlus (flat_name (binding_of binding.now) (name_of name.now)) v.now w.now) }
 {
     let name = flat_name(alloc, binding, name)?;
     let left = spelling(alloc, &v.0)?;
@@ -256,7 +261,8 @@ pub fn flat_formulas(
     binding: &Scope<'_, '_>,
     formulas: &[FormulaTree],
 ) -> Result<FormulaTrees, AllocError>
-    ensures { IfOk result (λ copy. map form_of copy ≡ map (flat_form (binding_of binding.now)) (map form_of formulas.now)) }
+    ensures { IfOk result
+        (λ copy. map form_of copy ≡ map (flat_form (binding_of binding.now)) (map form_of formulas.now)) }
 {
     let mut copy = Vec::new(alloc);
     for formula in formulas {
@@ -270,7 +276,8 @@ fn flat_body(
     binding: &Scope<'_, '_>,
     body: &Option<FormulaTree>,
 ) -> Result<Option<FormulaTree>, AllocError>
-    ensures { IfOk result (λ copy. pred_of_body copy ≡ flat_body (binding_of binding.now) (pred_of_body body.now)) }
+    ensures { IfOk result
+        (λ copy. pred_of_body copy ≡ flat_body (binding_of binding.now) (pred_of_body body.now)) }
 {
     match body {
         None => Ok(None),
@@ -312,7 +319,8 @@ pub fn flat_rule(
     body: &FormulaTree,
     head: &FormulaTree,
 ) -> Result<RuleDecl, AllocError>
-    ensures { IfOk result (λ copy. rule_of copy ≡ flat_rule (binding_of binding.now) (form_of body.now) (form_of head.now)) }
+    ensures { IfOk result
+        (λ copy. rule_of copy ≡ flat_rule (binding_of binding.now) (form_of body.now) (form_of head.now)) }
 {
     Ok(RuleDecl {
         body: flat_formula(alloc, binding, body)?,
@@ -329,7 +337,8 @@ pub fn flat_update(
     params: &[Spelling],
     body: &FormulaTree,
 ) -> Result<UpdateTree, AllocError>
-    ensures { IfOk result (λ copy. update_of copy ≡ Single (flat_update (binding_of binding.now) (single_of name.now params.now body.now))) }
+    ensures { IfOk result (λ copy. update_of copy
+        ≡ Single (flat_update (binding_of binding.now) (single_of name.now params.now body.now))) }
 {
     Ok(UpdateTree::Single {
         name: flat_name(alloc, binding, name)?,
@@ -349,7 +358,7 @@ fn piece_text<'a>(binding: &Scope<'_, 'a>, piece: &'a Piece) -> &'a [u8]
 
 #[tactic(auto, using(crate::proofs::CopyLaws::joined_more, crate::proofs::CopyLaws::joined_done))]
 fn joined(alloc: Global, binding: &Scope<'_, '_>, pieces: &[Piece]) -> Result<Spelling, AllocError>
-    ensures { IfOk result (λ text. text ≡ joined (binding_of binding.now) (map piece_of pieces.now)) }
+    ensures { IfOk result (λ text. text ≡ joined_text (binding_of binding.now) (map piece_of pieces.now)) }
 {
     let mut text = Vec::new(alloc);
     for piece in pieces {
@@ -364,7 +373,8 @@ pub fn one_text(
     binding: &Scope<'_, '_>,
     pieces: &[Piece],
 ) -> Result<Pieces, AllocError>
-    ensures { IfOk result (λ text. map piece_of text ≡ one_text (binding_of binding.now) (map piece_of pieces.now)) }
+    ensures { IfOk result
+        (λ text. map piece_of text ≡ one_text (binding_of binding.now) (map piece_of pieces.now)) }
 {
     let mut text = Vec::new(alloc);
     text.push(Piece::Text(joined(alloc, binding, pieces)?))?;

@@ -2,7 +2,7 @@
 use Rattle.std.proofs.Common.{ℕ, ◌≡◌, List, [], ◌∷◌, map, sym}
 use Rattle.tv_kleene.specs.declared.K3.{K3}
 use Rattle.tv_model.proofs.Lists.{map-compose}
-use Rattle.tv_choices.specs.Choices.{aimed, Before, Behind}
+use Rattle.tv_focus_laws.specs.Choices.{aimed, Before, Behind}
 use Rattle.tv_focus.specs.Anchored.{pair_of}
 use Rattle.tv_focus.specs.declared.anchors.Place.TheVariants.{First, Second}
 

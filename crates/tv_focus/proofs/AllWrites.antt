@@ -1,14 +1,16 @@
 -- What is written copy by copy is what a choice writes.
 use Rattle.std.proofs.lemmas.List.{append_assoc}
-use Rattle.std.proofs.Common.{ℕ, ◌≡◌, ◌<◌, ◌+◌, suc, List, [], ◌∷◌, ◌++◌, refl, sym, ap, subst, ◌∙◌, arith, All, length, map, get_or}
+use Rattle.std.proofs.Common.{ℕ, ◌≡◌, ◌<◌, ◌+◌, suc, List, [], ◌∷◌, ◌++◌, refl, sym, ap, subst, ◌∙◌, arith}
+use Rattle.std.proofs.Common.{All, length, map, get_or}
 use Rattle.std.specs.List.{flat_map, range_with_len}
 use Rattle.std.proofs.lemmas.List.{length-map}
 use Rattle.std.proofs.lemmas.List.Elements.{All-head, All-tail}
 use Rattle.tv_kleene.specs.declared.K3.{K3}
 use Rattle.tv_struct.specs.StructureForm.{StructureForm, structure_of}
-use Rattle.tv_choices.specs.Choices.{AimForm, Alone, Before, Behind, ChoiceForm, VectorSet, MemberForm, members, members_of, member_at, copy_of}
-use Rattle.tv_choices.specs.Written.{WriteForm, vector_writes, copy_writes, all_writes}
-use Rattle.tv_choices.proofs.Splits.{mark-place}
+use Rattle.tv_focus_laws.specs.Choices.{AimForm, Alone, Before, Behind, ChoiceForm, VectorSet, MemberForm}
+use Rattle.tv_focus_laws.specs.Choices.{members, members_of, member_at, copy_of}
+use Rattle.tv_focus_laws.specs.Written.{WriteForm, vector_writes, copy_writes, all_writes}
+use Rattle.tv_focus_laws.proofs.Splits.{mark-place}
 use Rattle.tv_focus.specs.Anchored.{IsAimOver}
 use Rattle.tv_focus.specs.Puts.{writes_at, set_writes, choice_writes, copy_number, aim_in}
 use Rattle.tv_focus.proofs.Parts.{PartsAre}

@@ -2,9 +2,10 @@
 use Rattle.std.proofs.Common.{◌≡◌, List, [], ◌∷◌, ◌++◌, refl, sym, ap, subst, ◌∙◌, Contains, map, append-nil}
 use Rattle.std.specs.List.{flat_map, AllByRecursion}
 use Rattle.std.proofs.lemmas.List.{append_assoc, map-append}
-use Rattle.tv_model.proofs.Lists.{Contains-here, Contains-there, Contains-map, Contains-flat_map, map-compose, map-agreed}
+use Rattle.tv_model.proofs.Lists.{Contains-here, Contains-there, Contains-map, Contains-flat_map, map-compose}
+use Rattle.tv_model.proofs.Lists.{map-agreed}
 use Rattle.tv_struct.specs.StructureForm.{StructureForm}
-use Rattle.tv_choices.specs.Choices.{ChoiceForm, VectorSet, product}
+use Rattle.tv_focus_laws.specs.Choices.{ChoiceForm, VectorSet, product}
 use Rattle.tv_focus.specs.Puts.{AreChosen, chosen_tables}
 
 -- each of the list, element by element

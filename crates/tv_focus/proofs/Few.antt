@@ -2,9 +2,9 @@
 use Rattle.std.proofs.Common.{ℕ, ◌≡◌, ◌<◌, ◌≤◌, true, arith}
 use Rattle.tv_struct.specs.StructureForm.{StructureForm, structure_of, summary_at}
 use Rattle.tv_struct.proofs.Library.{Contains-range}
-use Rattle.tv_choices.specs.Choices.{AimForm}
-use Rattle.tv_choices.specs.Counts.{AreCounted, halves_at, few_choices, choice_count}
-use Rattle.tv_choices.proofs.Counts.{choices_are_counted, few_choices_have_few_halves}
+use Rattle.tv_focus_laws.specs.Choices.{AimForm}
+use Rattle.tv_focus_laws.specs.Counts.{AreCounted, halves_at, few_choices, choice_count}
+use Rattle.tv_focus_laws.proofs.Counts.{choices_are_counted, few_choices_have_few_halves}
 
 pub few_are : (s : StructureForm) (pred : ℕ) (aim : AimForm) → few_choices (structure_of s) pred aim ≤ 4096
     → choice_count (structure_of s) pred aim ≤ 4096

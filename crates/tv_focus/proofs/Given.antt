@@ -4,12 +4,13 @@ use Rattle.std.specs.Prelude.{fold, ◌&&◌, not}
 use Rattle.std.specs.List.{range_with_len, list_any}
 use Rattle.std.proofs.lemmas.Bool.{cond_both}
 use Rattle.std.proofs.lemmas.List.Elements.{All-head, All-tail, All-nil, Contains-get_or}
-use Rattle.tv_frame.specs.LogicalStructure.{LogicalStructure}
+use Rattle.tv_embedding_laws.specs.LogicalStructure.{LogicalStructure}
 use Rattle.tv_struct.specs.StructureForm.{StructureForm, structure_of}
 use Rattle.tv_struct.proofs.Library.{below-range}
-use Rattle.tv_choices.specs.FocusAtoms.{AtomForm, AnchorsForm, is_yes, is_anchored, anchors_of, and_given, by_unary, by_binary, ordinary}
-use Rattle.tv_choices.proofs.Membership.{Contains-from_filter}
-use Rattle.tv_choices.proofs.Stages.{unary-are, binary-are, folded-are}
+use Rattle.tv_focus_laws.specs.FocusAtoms.{AtomForm, AnchorsForm, is_yes, is_anchored, anchors_of, and_given}
+use Rattle.tv_focus_laws.specs.FocusAtoms.{by_unary, by_binary, ordinary}
+use Rattle.tv_focus_laws.proofs.Membership.{Contains-from_filter}
+use Rattle.tv_focus_laws.proofs.Stages.{unary-are, binary-are, folded-are}
 use Rattle.tv_focus.specs.declared.anchors.Place.TheVariants.{First, Second}
 use Rattle.tv_focus.specs.Anchored.{pair_of, AreWithin, given_by_unary}
 

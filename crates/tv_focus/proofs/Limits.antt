@@ -1,33 +1,38 @@
 -- The limits of a stage, by the numbers of choices and of copies.
-use Rattle.std.proofs.Common.{ℕ, ◌≡◌, ◌<◌, ◌≤◌, ◌+◌, zero, suc, List, [], ◌∷◌, Some, refl, sym, ap, subst, ◌∙◌, arith, All, Contains, length, map, get_or}
+use Rattle.std.proofs.Common.{ℕ, ◌≡◌, ◌<◌, ◌≤◌, ◌+◌, zero, suc, List, [], ◌∷◌, Some, refl, sym, ap, subst}
+use Rattle.std.proofs.Common.{◌∙◌, arith, All, Contains, length, map, get_or}
 use Rattle.std.specs.Prelude.{Any, slice_get}
 use Rattle.std.proofs.lemmas.List.{length-map, get_or-map}
 use Rattle.std.proofs.lemmas.List.FromFn.{length-range_with_len}
 use Rattle.std.proofs.lemmas.List.Elements.{All-nil, All-cons, All-map, Contains-get_or}
 use Rattle.tv_kleene.specs.declared.K3.{K3}
 use Rattle.tv_kleene.specs.declared.K3.TheVariants.{No, Half, Yes}
-use Rattle.tv_model.specs.Form.{Form, FZero, FOne, FAtom, FIsNew, FSame, FNot, FAnd, FOr, FIff, FCond, FExists, FForall, FClosure}
+use Rattle.tv_model.specs.Form.{Form, FZero, FOne, FAtom, FIsNew, FSame, FNot, FAnd, FOr, FIff, FCond}
+use Rattle.tv_model.specs.Form.{FExists, FForall, FClosure}
 use Rattle.tv_model.specs.Valid.{IsFormulaOver}
-use Rattle.tv_frame.specs.LogicalStructure.{LogicalStructure}
+use Rattle.tv_embedding_laws.specs.LogicalStructure.{LogicalStructure}
 use Rattle.tv_struct.specs.StructureForm.{StructureForm, IsStructure, arities_of, structure_of, value_at}
 use Rattle.tv_struct.specs.declared.analysis.StageError.{StageError}
 use Rattle.tv_struct.specs.declared.analysis.StageError.TheVariants.{Splits, Individuals, Memory}
 use Rattle.tv_struct.proofs.Library.{below-range}
-use Rattle.tv_choices.specs.FocusAtoms.{AtomForm, focus_atoms, anchors_in}
-use Rattle.tv_choices.specs.Choices.{AimForm, Alone, Before, Behind, SplitForm, Nothing, Whole, Each, ChoiceForm, MemberForm, members, members_of, definite, choices, chosen}
-use Rattle.tv_choices.specs.Counts.{AreCounted, choice_count, copy_count, few_choices}
-use Rattle.tv_choices.specs.Laws.{AreSplitAnchors}
-use Rattle.tv_choices.specs.Stages.{with_whole, split_structures, atom_at, split_at, stage, no_atom}
-use Rattle.tv_choices.specs.Tables.{AreStage}
-use Rattle.tv_choices.specs.Written.{AreSmall, stage_tables}
-use Rattle.tv_choices.proofs.Counts.{choices_are_counted}
-use Rattle.tv_choices.proofs.Splits.{IsWhole, choice-whole}
-use Rattle.tv_choices.proofs.Stages.{split-anchors}
-use Rattle.tv_choices.proofs.StageTables.{HasPlaces, split-places, stage_tables_are_stage}
-use Rattle.tv_choices.proofs.Tables.{tables_lose_no_heap}
+use Rattle.tv_focus_laws.specs.FocusAtoms.{AtomForm, focus_atoms, anchors_in}
+use Rattle.tv_focus_laws.specs.Choices.{AimForm, Alone, Before, Behind, SplitForm, Nothing, Whole, Each}
+use Rattle.tv_focus_laws.specs.Choices.{ChoiceForm, MemberForm, members, members_of, definite, choices}
+use Rattle.tv_focus_laws.specs.Choices.{chosen}
+use Rattle.tv_focus_laws.specs.Counts.{AreCounted, choice_count, copy_count, few_choices}
+use Rattle.tv_focus_laws.specs.Laws.{AreSplitAnchors}
+use Rattle.tv_focus_laws.specs.Stages.{with_whole, split_structures, atom_at, split_at, stage, no_atom}
+use Rattle.tv_focus_laws.specs.Tables.{AreStage}
+use Rattle.tv_focus_laws.specs.Written.{AreSmall, stage_tables}
+use Rattle.tv_focus_laws.proofs.Counts.{choices_are_counted}
+use Rattle.tv_focus_laws.proofs.Splits.{IsWhole, choice-whole}
+use Rattle.tv_focus_laws.proofs.Stages.{split-anchors}
+use Rattle.tv_focus_laws.proofs.StageTables.{HasPlaces, split-places, stage_tables_are_stage}
+use Rattle.tv_focus_laws.proofs.Tables.{tables_lose_no_heap}
 use Rattle.tv_focus.specs.Anchored.{IsAtomOver, AreAtomsOver, IsSplitOver}
 use Rattle.tv_focus.specs.Puts.{copies_in, IsChoiceOf}
-use Rattle.tv_focus.specs.Stage.{AreLimitsKept, AreSplitLimitsKept, IsSplitCause, IsStageCause, IsWithinLimits, KeepsHeaps}
+use Rattle.tv_focus.specs.Stage.{AreLimitsKept, AreSplitLimitsKept, IsSplitCause, IsStageCause}
+use Rattle.tv_focus.specs.Stage.{IsWithinLimits, KeepsHeaps}
 use Rattle.tv_focus.proofs.Puts.{copies_more}
 
 -- ---- choices that are not too large

@@ -1,8 +1,11 @@
 -- Rows of a predicate's values: where they are Yes, and whether any is unknown.
-use Rattle.std.proofs.Common.{ℕ, zero, suc, ◌≡◌, ◌≢◌, ◌<◌, ◌≤◌, ◌+◌, ◌-◌, Bool, true, false, not, ◌&&◌, ◌||◌, List, [], ◌∷◌, ◌++◌, get_or, drop, take, length, map, replicate, cond, refl, sym, ap, subst, ◌∙◌, arith, add-one}
+use Rattle.std.proofs.Common.{ℕ, zero, suc, ◌≡◌, ◌≢◌, ◌<◌, ◌≤◌, ◌+◌, ◌-◌, Bool, true, false, not, ◌&&◌, ◌||◌}
+use Rattle.std.proofs.Common.{List, [], ◌∷◌, ◌++◌, get_or, drop, take, length, map, replicate, cond, refl}
+use Rattle.std.proofs.Common.{sym, ap, subst, ◌∙◌, arith, add-one}
 use Rattle.std.specs.Prelude.{Any, if◌then◌else◌}
 use Rattle.std.specs.List.{range_with_len, filter, list_any}
-use Rattle.std.proofs.lemmas.List.{append-nil, drop_more, take_rest, get_or_default, get_or-map, get_or-replicate, length-map, length-replicate}
+use Rattle.std.proofs.lemmas.List.{append-nil, drop_more, take_rest, get_or_default, get_or-map}
+use Rattle.std.proofs.lemmas.List.{get_or-replicate, length-map, length-replicate}
 use Rattle.std.proofs.lemmas.List.FromFn.{length-map-range_with_len, get_or-map-range_with_len}
 use Rattle.tv_kleene.specs.declared.K3.{K3}
 use Rattle.tv_kleene.specs.declared.K3.TheVariants.{No, Half, Yes}
@@ -11,8 +14,8 @@ use Rattle.tv_row.specs.Bits.{paired}
 use Rattle.tv_row.proofs.WordOps.{length-paired, get_or-paired}
 use Rattle.tv_struct.specs.StructureForm.{StructureForm, structure_of, summary_at, value_at}
 use Rattle.tv_struct.specs.StructureRows.{unary_row}
-use Rattle.tv_choices.specs.Counts.{halves}
-use Rattle.tv_choices.specs.FocusAtoms.{is_yes, ordinary}
+use Rattle.tv_focus_laws.specs.Counts.{halves}
+use Rattle.tv_focus_laws.specs.FocusAtoms.{is_yes, ordinary}
 use Rattle.tv_focus.specs.Anchored.{IsReached, pair_of}
 use Rattle.tv_focus.specs.declared.anchors.Place.{Place}
 use Rattle.tv_focus.proofs.Filters.{filter_range_more}

@@ -1,17 +1,19 @@
 -- How many copies a choice gives each individual, and where they stand.
-use Rattle.std.proofs.Common.{ℕ, ◌≡◌, ◌<◌, ◌≤◌, ◌+◌, [], Option, Some, None, ap, ◌∙◌, arith, All, length, get_or}
+use Rattle.std.proofs.Common.{ℕ, ◌≡◌, ◌<◌, ◌≤◌, ◌+◌, [], Option, Some, None, ap, ◌∙◌, arith, All, length}
+use Rattle.std.proofs.Common.{get_or}
 use Rattle.std.specs.Prelude.{slice_get, slice_index, IfSome}
 use Rattle.std.specs.List.{range_with_len}
 use Rattle.std.proofs.lemmas.List.{length-map, get_or-map}
 use Rattle.std.proofs.lemmas.List.FromFn.{length-range_with_len, get_or-range_with_len}
 use Rattle.std.proofs.lemmas.List.Elements.{All-map}
 use Rattle.std.proofs.lemmas.List.Sums.{sum_by_more, sum_by-take-le}
-use Rattle.tv_struct.specs.StructureForm.{StructureForm, IsStructure, IsMark, arities_of, structure_of, summary_at, split}
+use Rattle.tv_struct.specs.StructureForm.{StructureForm, IsStructure, IsMark, arities_of, structure_of}
+use Rattle.tv_struct.specs.StructureForm.{summary_at, split}
 use Rattle.tv_struct.proofs.OriginLaws.{copies_count}
-use Rattle.tv_choices.specs.Choices.{AimForm, Alone, Before, Behind, ChoiceForm}
-use Rattle.tv_choices.specs.Tables.{parts_of}
-use Rattle.tv_choices.proofs.Splits.{IsWhole, choice-whole}
-use Rattle.tv_choices.proofs.ChosenTables.{choice-one}
+use Rattle.tv_focus_laws.specs.Choices.{AimForm, Alone, Before, Behind, ChoiceForm}
+use Rattle.tv_focus_laws.specs.Tables.{parts_of}
+use Rattle.tv_focus_laws.proofs.Splits.{IsWhole, choice-whole}
+use Rattle.tv_focus_laws.proofs.ChosenTables.{choice-one}
 use Rattle.tv_focus.specs.Anchored.{IsAimOver}
 use Rattle.tv_focus.specs.Puts.{copies_in, copy_number, aim_in, AreAimsWithin, IsChoiceOf}
 

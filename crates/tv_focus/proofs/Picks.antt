@@ -1,7 +1,7 @@
 -- Vectors by their first value, and sublists of one element.
 use Rattle.std.proofs.Common.{◌≡◌, List, [], ◌∷◌, ◌++◌, refl, ap, map, append-nil}
 use Rattle.tv_kleene.specs.declared.K3.TheVariants.{No, Half, Yes}
-use Rattle.tv_choices.specs.Choices.{VectorSet, picks}
+use Rattle.tv_focus_laws.specs.Choices.{VectorSet, picks}
 use Rattle.tv_focus.specs.Puts.{begun_with}
 
 pub begun_no : (later : VectorSet) → begun_with No later ≡ map (λ v. No ∷ v) later

@@ -2,8 +2,8 @@
 use Rattle.std.proofs.Common.{ℕ, ◌≡◌, ◌+◌, List, [], ◌∷◌, ◌++◌, refl, length, map}
 use Rattle.std.proofs.lemmas.List.Sums.{sum_by-cons}
 use Rattle.tv_struct.specs.StructureForm.{StructureForm, with_value}
-use Rattle.tv_choices.specs.Choices.{ChoiceForm, VectorSet}
-use Rattle.tv_choices.specs.Written.{WriteForm, written}
+use Rattle.tv_focus_laws.specs.Choices.{ChoiceForm, VectorSet}
+use Rattle.tv_focus_laws.specs.Written.{WriteForm, written}
 use Rattle.tv_focus.specs.Puts.{copies_in}
 
 pub written_append : (t : StructureForm) (p : ℕ) (xs ys : List WriteForm)

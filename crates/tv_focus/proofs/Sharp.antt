@@ -1,5 +1,7 @@
 -- An atom whose values are known gives the structure itself.
-use Rattle.std.proofs.Common.{ℕ, ◌≡◌, ◌≢◌, ◌<◌, zero, suc, Bool, true, false, eqb, List, [], ◌∷◌, ⊎_elim, Option, Some, None, length, get_or, map, refl, sym, ap, subst, ◌∙◌, arith, Contains, eq-eqb, ne_eqb}
+use Rattle.std.proofs.Common.{ℕ, ◌≡◌, ◌≢◌, ◌<◌, zero, suc, Bool, true, false, eqb, List, [], ◌∷◌, ⊎_elim}
+use Rattle.std.proofs.Common.{Option, Some, None, length, get_or, map, refl, sym, ap, subst, ◌∙◌, arith}
+use Rattle.std.proofs.Common.{Contains, eq-eqb, ne_eqb}
 use Rattle.std.specs.List.{flat_map, range_with_len, AllZip}
 use Rattle.std.specs.Option.{option_map}
 use Rattle.std.proofs.lemmas.Bool.{cases_eq, cond-true, cond-false}
@@ -8,20 +10,24 @@ use Rattle.std.proofs.lemmas.List.FromFn.{length-range_with_len, get_or-range_wi
 use Rattle.tv_kleene.specs.declared.K3.{K3}
 use Rattle.tv_kleene.specs.declared.K3.TheVariants.{No, Half, Yes}
 use Rattle.tv_model.proofs.Lists.{map-compose, map-agreed, Contains-here}
-use Rattle.tv_frame.specs.LogicalStructure.{LogicalStructure}
+use Rattle.tv_embedding_laws.specs.LogicalStructure.{LogicalStructure}
 use Rattle.tv_struct.specs.TableForm.{AreIndividuals}
 use Rattle.tv_model.specs.Form.{Form}
-use Rattle.tv_struct.specs.StructureForm.{StructureForm, IsStructure, IsMark, arities_of, structure_of, value_at, summary_at}
+use Rattle.tv_struct.specs.StructureForm.{StructureForm, IsStructure, IsMark, arities_of, structure_of}
+use Rattle.tv_struct.specs.StructureForm.{value_at, summary_at}
 use Rattle.tv_struct.proofs.Library.{below-range}
-use Rattle.tv_choices.specs.Choices.{AimForm, Alone, Before, Behind, SplitForm, Nothing, Whole, Each, VectorSet, ChoiceForm, MemberForm, aimed, definite, vectors, picks, picks_to, sets_of, product, choices, members, member_at, nobody, copy_of, with_anchor, focused_value, chosen_over, chosen}
-use Rattle.tv_choices.specs.Counts.{AreCounted, halves, halves_at}
-use Rattle.tv_choices.specs.Stages.{whole_value, with_whole, split_structures, atom_at, split_at}
-use Rattle.tv_choices.specs.FocusAtoms.{focus_atoms}
-use Rattle.tv_choices.specs.Tables.{ShowsOver, AreStage}
-use Rattle.tv_choices.specs.Written.{stage_tables}
-use Rattle.tv_choices.proofs.ChosenTables.{Copies, copies-are}
-use Rattle.tv_choices.proofs.Counts.{choices_are_counted}
-use Rattle.tv_choices.proofs.Tables.{tables_lose_no_heap}
+use Rattle.tv_focus_laws.specs.Choices.{AimForm, Alone, Before, Behind, SplitForm, Nothing, Whole, Each}
+use Rattle.tv_focus_laws.specs.Choices.{VectorSet, ChoiceForm, MemberForm, aimed, definite, vectors, picks}
+use Rattle.tv_focus_laws.specs.Choices.{picks_to, sets_of, product, choices, members, member_at, nobody}
+use Rattle.tv_focus_laws.specs.Choices.{copy_of, with_anchor, focused_value, chosen_over, chosen}
+use Rattle.tv_focus_laws.specs.Counts.{AreCounted, halves, halves_at}
+use Rattle.tv_focus_laws.specs.Stages.{whole_value, with_whole, split_structures, atom_at, split_at}
+use Rattle.tv_focus_laws.specs.FocusAtoms.{focus_atoms}
+use Rattle.tv_focus_laws.specs.Tables.{ShowsOver, AreStage}
+use Rattle.tv_focus_laws.specs.Written.{stage_tables}
+use Rattle.tv_focus_laws.proofs.ChosenTables.{Copies, copies-are}
+use Rattle.tv_focus_laws.proofs.Counts.{choices_are_counted}
+use Rattle.tv_focus_laws.proofs.Tables.{tables_lose_no_heap}
 use Rattle.tv_focus.specs.Anchored.{AreAtomsOver}
 use Rattle.tv_focus.specs.Laws.{IsSharp, SharpAtomsStay}
 use Rattle.tv_focus.specs.Stage.{AreSplitLimitsKept, IsWithinLimits}

@@ -1,5 +1,7 @@
 -- Where each individual is split into one, the structure stays as it is.
-use Rattle.std.proofs.Common.{ℕ, ◌≡◌, ◌∙◌, ◌<◌, ◌≤◌, ◌+◌, zero, suc, true, false, Bool, List, [], ◌∷◌, ◌++◌, length, map, replicate, sum, take, Option, Some, None, refl, sym, ap, subst, get_or, All, arith}
+use Rattle.std.proofs.Common.{ℕ, ◌≡◌, ◌∙◌, ◌<◌, ◌≤◌, ◌+◌, zero, suc, true, false, Bool, List, [], ◌∷◌, ◌++◌}
+use Rattle.std.proofs.Common.{length, map, replicate, sum, take, Option, Some, None, refl, sym, ap, subst}
+use Rattle.std.proofs.Common.{get_or, All, arith}
 use Rattle.std.specs.Prelude.{◌==◌, if◌then◌else◌}
 use Rattle.std.specs.List.{AllByRecursion, range_with_len}
 use Rattle.std.specs.Option.{option_map}

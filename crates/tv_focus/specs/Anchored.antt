@@ -3,10 +3,10 @@ use Rattle.std.specs.Prelude.{ℕ, ◌≡◌, ◌<◌, List, [], ◌∷◌, leng
 use Rattle.std.specs.List.{list_any}
 use Rattle.tv_kleene.specs.declared.K3.{K3}
 use Rattle.tv_kleene.specs.declared.K3.TheVariants.{No}
-use Rattle.tv_frame.specs.LogicalStructure.{LogicalStructure}
+use Rattle.tv_embedding_laws.specs.LogicalStructure.{LogicalStructure}
 use Rattle.tv_model.specs.Form.{Form}
-use Rattle.tv_choices.specs.FocusAtoms.{AtomForm, AnchorsForm, focus_atoms, by_unary, is_yes}
-use Rattle.tv_choices.specs.Choices.{AimForm, Alone, Before, Behind, SplitForm, Nothing, Whole, Each}
+use Rattle.tv_focus_laws.specs.FocusAtoms.{AtomForm, AnchorsForm, focus_atoms, by_unary, is_yes}
+use Rattle.tv_focus_laws.specs.Choices.{AimForm, Alone, Before, Behind, SplitForm, Nothing, Whole, Each}
 use Rattle.tv_struct.specs.StructureForm.{StructureForm, arities_of, value_at}
 use Rattle.tv_focus.specs.declared.anchors.Place.{Place}
 use Rattle.tv_focus.specs.declared.anchors.Place.TheVariants.{First, Second}
@@ -45,7 +45,9 @@ IsSplitOver s pred Whole = slice_get (arities_of s) pred ≡ Some 0
 IsSplitOver s pred (Each aim) = IsAimOver s pred aim
 
 -- the row is Yes exactly where the predicate is, on the individual together with one of the anchors
-pub record IsReached (s : StructureForm) (pred : ℕ) (place : Place) (anchors : List ℕ) (row : List K3) : Type 0 where
+pub record IsReached (s : StructureForm) (pred : ℕ) (place : Place) (anchors : List ℕ)
+    (row : List K3) : Type 0 where
   pub long : length row ≡ s.size
   pub yes : (u : ℕ) → u < s.size
-      → is_yes (slice_index_or row u No) ≡ list_any (λ a. is_yes (value_at s pred (pair_of place a u))) anchors
+      → is_yes (slice_index_or row u No)
+      ≡ list_any (λ a. is_yes (value_at s pred (pair_of place a u))) anchors

@@ -1,12 +1,14 @@
 -- Vectors by their first value, and what is put into a split structure, copy by copy.
-use Rattle.std.specs.Prelude.{ℕ, ◌+◌, ◌<◌, ◌≤◌, List, [], ◌∷◌, ◌++◌, length, map, take, sum, All, Contains, slice_index_or}
+use Rattle.std.specs.Prelude.{ℕ, ◌+◌, ◌<◌, ◌≤◌, List, [], ◌∷◌, ◌++◌, length, map, take, sum, All, Contains}
+use Rattle.std.specs.Prelude.{slice_index_or}
 use Rattle.tv_kleene.specs.declared.K3.{K3}
 use Rattle.tv_kleene.specs.declared.K3.TheVariants.{No}
 use Rattle.std.specs.List.{flat_map, AllByRecursion}
 use Rattle.tv_struct.specs.StructureForm.{StructureForm, structure_of}
-use Rattle.tv_choices.specs.Choices.{AimForm, Alone, Before, Behind, ChoiceForm, VectorSet, choices, definite}
-use Rattle.tv_choices.specs.Tables.{parts_of}
-use Rattle.tv_choices.specs.Written.{WriteForm, vector_writes}
+use Rattle.tv_focus_laws.specs.Choices.{AimForm, Alone, Before, Behind, ChoiceForm, VectorSet, choices}
+use Rattle.tv_focus_laws.specs.Choices.{definite}
+use Rattle.tv_focus_laws.specs.Tables.{parts_of}
+use Rattle.tv_focus_laws.specs.Written.{WriteForm, vector_writes}
 
 -- what is put for the i-th copy; the anchors are numbered as copies
 abbrev pub writes_at : AimForm → (i : ℕ) → List K3 → List WriteForm
@@ -55,9 +57,11 @@ AreChosen P begun [] = P begun
 AreChosen P begun (first ∷ rest) = AllByRecursion (λ set. AreChosen P (begun ++ set ∷ []) rest) first
 
 -- what is made of each of these choices, in order
-abbrev pub chosen_tables : (ChoiceForm → StructureForm) → (begun : ChoiceForm) → List (List VectorSet) → List StructureForm
+abbrev pub chosen_tables : (ChoiceForm → StructureForm) → (begun : ChoiceForm) → List (List VectorSet)
+    → List StructureForm
 chosen_tables table begun [] = table begun ∷ []
-chosen_tables table begun (first ∷ rest) = flat_map (λ set. chosen_tables table (begun ++ set ∷ []) rest) first
+chosen_tables table begun (first ∷ rest) =
+    flat_map (λ set. chosen_tables table (begun ++ set ∷ []) rest) first
 
 -- the vectors that begin with a definite value for which k stands, and go on with one of these
 abbrev pub begun_with : K3 → VectorSet → VectorSet

@@ -1,7 +1,8 @@
 -- What contracts see of the code's own types.
 use Rattle.tv_model.specs.Form.{vars_of}
-use Rattle.tv_choices.specs.FocusAtoms.{AtomForm, AnchorsForm}
-use Rattle.tv_choices.specs.Choices.{AimForm, SplitForm, Alone as alone, Before as before, Behind as behind, Nothing as nothing, Whole as whole, Each as each}
+use Rattle.tv_focus_laws.specs.FocusAtoms.{AtomForm, AnchorsForm}
+use Rattle.tv_focus_laws.specs.Choices.{AimForm, SplitForm, Alone as alone, Before as before}
+use Rattle.tv_focus_laws.specs.Choices.{Behind as behind, Nothing as nothing, Whole as whole, Each as each}
 use Rattle.tv_focus.specs.declared.atoms.FocusAtom.{FocusAtom}
 use Rattle.tv_focus.specs.declared.anchors.Anchors.{Anchors}
 use Rattle.tv_focus.specs.declared.aim.Aim.{Aim}

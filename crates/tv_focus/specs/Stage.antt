@@ -2,13 +2,13 @@
 use Rattle.std.specs.Prelude.{ℕ, ◌≡◌, ◌<◌, ◌≤◌, List, length, All, Any}
 use Rattle.tv_model.specs.Form.{Form}
 use Rattle.tv_model.specs.Heap.{Heap}
-use Rattle.tv_frame.specs.Embedding.{IsHeapOf}
+use Rattle.tv_embedding_laws.specs.Embedding.{IsHeapOf}
 use Rattle.tv_struct.specs.StructureForm.{StructureForm, structure_of}
 use Rattle.tv_struct.specs.declared.analysis.StageError.{StageError}
 use Rattle.tv_struct.specs.declared.analysis.StageError.TheVariants.{Splits, Individuals, Memory}
-use Rattle.tv_choices.specs.Choices.{AimForm, SplitForm, Nothing, Whole, Each}
-use Rattle.tv_choices.specs.Counts.{choice_count, copy_count}
-use Rattle.tv_choices.specs.Stages.{stage}
+use Rattle.tv_focus_laws.specs.Choices.{AimForm, SplitForm, Nothing, Whole, Each}
+use Rattle.tv_focus_laws.specs.Counts.{choice_count, copy_count}
+use Rattle.tv_focus_laws.specs.Stages.{stage}
 
 -- there are at most 4,096 choices, and none has over 256 individuals
 pub record IsWithinLimits (s : StructureForm) (f : Form) (k : ℕ) : Type 0 where
@@ -19,7 +19,8 @@ pub record IsWithinLimits (s : StructureForm) (f : Form) (k : ℕ) : Type 0 wher
 abbrev pub IsStageCause : StructureForm → Form → ℕ → StageError → Type 0
 IsStageCause s f k Splits = 4096 < length (stage (structure_of s) f k)
 IsStageCause s f k Individuals =
-    (length (stage (structure_of s) f k) ≤ 4096) × Any (λ t. 256 < length t.individuals) (stage (structure_of s) f k)
+    (length (stage (structure_of s) f k) ≤ 4096)
+    × Any (λ t. 256 < length t.individuals) (stage (structure_of s) f k)
 IsStageCause s f k Memory = Unit {0}
 
 -- each heap of the structure is one of one of these

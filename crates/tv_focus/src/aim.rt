@@ -3,8 +3,8 @@
 ghost use Rattle.std.specs.Prelude.{◌≡◌, All, map, IfOk};
 ghost use Rattle.tv_model.specs.Form.{vars_of};
 ghost use Rattle.tv_struct.specs.StructureForm.{arities_of, structure_of};
-ghost use Rattle.tv_choices.specs.Choices.{split_of, split_by};
-ghost use Rattle.tv_choices.specs.FocusAtoms.{anchors_in};
+ghost use Rattle.tv_focus_laws.specs.Choices.{split_of, split_by};
+ghost use Rattle.tv_focus_laws.specs.FocusAtoms.{anchors_in};
 ghost use Rattle.tv_focus.specs.Anchored.{IsAtomOver};
 ghost use Rattle.tv_focus.specs.Seen.{anchors_form, atom_of, split_form};
 
@@ -14,8 +14,8 @@ use std::alloc::{AllocError, Global};
 use tv_model::{Terms, Var};
 use tv_struct::Structure;
 
-/// At which tuples of an individual a predicate is made definite: at the individual alone, or at it and each of
-/// the anchors, before them or behind them.
+/// At which tuples of an individual a predicate is made definite: at the individual alone, or at it and each
+/// of the anchors, before them or behind them.
 #[derive(Debug, Drop)]
 pub enum Aim {
     Alone,
@@ -31,8 +31,8 @@ pub enum Split {
     Each(Aim),
 }
 
-/// What focus does with an atom of these variables, in a formula of these atoms. Anchors are looked for only where the
-/// atom has two variables.
+/// What focus does with an atom of these variables, in a formula of these atoms. Anchors are looked for only
+/// where the atom has two variables.
 pub fn split_of(
     alloc: Global,
     s: &Structure,

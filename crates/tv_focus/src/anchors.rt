@@ -1,12 +1,14 @@
 //! The anchors of variables: ordinary individuals for which a variable surely may stand.
 
-ghost use Rattle.std.specs.Prelude.{◌≡◌, ◌<◌, ◌≤◌, ◌+◌, ◌++◌, Some, [], ◌∷◌, length, map, slice_get, slice_index_or, IfOk, OnOk, MatchOption, true, false, All, if◌then◌else◌};
+ghost use Rattle.std.specs.Prelude.{◌≡◌, ◌<◌, ◌≤◌, ◌+◌, ◌++◌, Some, [], ◌∷◌, length, map, slice_get};
+ghost use Rattle.std.specs.Prelude.{slice_index_or, IfOk, OnOk, MatchOption, true, false, All, if◌then◌else◌};
 ghost use Rattle.std.specs.List.{range_with_len, list_any};
 ghost use Rattle.tv_kleene.specs.declared.K3.TheVariants.{No};
 ghost use Rattle.tv_model.specs.Form.{vars_of};
 ghost use Rattle.tv_struct.specs.StructureForm.{arities_of, structure_of, value_at};
 ghost use Rattle.tv_struct.specs.TupleForm.{tuple_of};
-ghost use Rattle.tv_choices.specs.FocusAtoms.{ordinary, is_yes, is_anchored, anchors_of, by_unary, by_binary, anchors_in};
+ghost use Rattle.tv_focus_laws.specs.FocusAtoms.{ordinary, is_yes, is_anchored, anchors_of, by_unary};
+ghost use Rattle.tv_focus_laws.specs.FocusAtoms.{by_binary, anchors_in};
 ghost use Rattle.tv_focus.specs.Anchored.{pair_of, IsAtomOver, IsReached, AreWithin, given_by_unary};
 ghost use Rattle.tv_focus.specs.Seen.{atom_of, anchors_form};
 
@@ -68,7 +70,8 @@ fn reached(s: &Structure, p: PredId, place: Place, anchors: &[u32]) -> Row
 /// The ordinary individuals on which the row is `Yes`, in order.
 fn ordinary_in(alloc: Global, s: &Structure, row: &Row) -> Result<Vec<u32>, AllocError>
     requires { length row.now ≡ s.now.size }
-    ensures { IfOk result (λ found. found.items ≡ ordinary (structure_of s.now) (λ u. is_yes (slice_index_or row.now u No))) }
+    ensures { IfOk result
+        (λ found. found.items ≡ ordinary (structure_of s.now) (λ u. is_yes (slice_index_or row.now u No))) }
 {
     let _ = row.size();
     let mut found = Vec::new(alloc);
@@ -83,7 +86,8 @@ fn ordinary_in(alloc: Global, s: &Structure, row: &Row) -> Result<Vec<u32>, Allo
 /// The ordinary individuals on which the predicate is `Yes`, in order.
 fn unary_anchors(alloc: Global, s: &Structure, p: PredId) -> Result<Vec<u32>, AllocError>
     requires arity { slice_get (arities_of s.now) p.0 ≡ Some 1 }
-    ensures { IfOk result (λ anchors. anchors.items ≡ ordinary (structure_of s.now) (λ u. is_yes (value_at s.now p.0 (u ∷ [])))) }
+    ensures { IfOk result (λ anchors. anchors.items
+        ≡ ordinary (structure_of s.now) (λ u. is_yes (value_at s.now p.0 (u ∷ [])))) }
 {
     ordinary_in(alloc, s, &s.unary_row(p))
 }
@@ -117,7 +121,8 @@ fn push_if(anchors: &mut Vec<u32>, u: u32, is_kept: bool) -> Result<(), AllocErr
 fn anchors_for(given: &[Anchors], v: Var) -> Option<&Anchors>
     ensures none { MatchOption result
         (is_anchored (map anchors_form given.now) v.0 ≡ false)
-        (λ one. (is_anchored (map anchors_form given.now) v.0 ≡ true) × (one.now.individuals.items ≡ anchors_of (map anchors_form given.now) v.0)) }
+        (λ one. (is_anchored (map anchors_form given.now) v.0 ≡ true)
+        × (one.now.individuals.items ≡ anchors_of (map anchors_form given.now) v.0)) }
 {
     match given {
         [] => None,
@@ -167,7 +172,8 @@ fn by_binary(
     requires arity { IsAtomOver (arities_of s.now) (atom_of atom) }
     requires within { AreWithin s.now.size (map anchors_form given.old.items) }
     ensures { OnOk result (map anchors_form given.new.items
-        ≡ by_binary (structure_of s.now) (map anchors_form given.old.items) atom.pred.0 (vars_of atom.terms)) }
+        ≡ by_binary (structure_of s.now) (map anchors_form given.old.items) atom.pred.0
+        (vars_of atom.terms)) }
 {
     match atom.terms {
         Terms::Zero | Terms::One(_) => Ok(()),
@@ -213,7 +219,8 @@ fn unary_given(
     atoms: &[FocusAtom],
 ) -> Result<Vec<Anchors>, AllocError>
     requires arity { All (λ atom. IsAtomOver (arities_of s.now) (atom_of atom)) atoms.now }
-    ensures { IfOk result (λ given. map anchors_form given.items ≡ given_by_unary (structure_of s.now) (map atom_of atoms.now)) }
+    ensures { IfOk result (λ given. map anchors_form given.items
+        ≡ given_by_unary (structure_of s.now) (map atom_of atoms.now)) }
 {
     let mut given = Vec::new(alloc);
     for atom in atoms {
@@ -222,14 +229,16 @@ fn unary_given(
     Ok(given)
 }
 
-/// The variables of the atoms with their anchors, in the order in which they are given: those of unary atoms first.
+/// The variables of the atoms with their anchors, in the order in which they are given: those of unary atoms
+/// first.
 pub fn anchors_in(
     alloc: Global,
     s: &Structure,
     atoms: &[FocusAtom],
 ) -> Result<Vec<Anchors>, AllocError>
     requires arity { All (λ atom. IsAtomOver (arities_of s.now) (atom_of atom)) atoms.now }
-    ensures { IfOk result (λ given. map anchors_form given.items ≡ anchors_in (structure_of s.now) (map atom_of atoms.now)) }
+    ensures { IfOk result
+        (λ given. map anchors_form given.items ≡ anchors_in (structure_of s.now) (map atom_of atoms.now)) }
 {
     let mut given = unary_given(alloc, s, atoms)?;
     for atom in atoms {

@@ -2,7 +2,7 @@
 
 ghost use Rattle.std.specs.Prelude.{◌≡◌, ◌++◌, min, length, map, OnOk};
 ghost use Rattle.tv_model.specs.Form.{form_of};
-ghost use Rattle.tv_choices.specs.FocusAtoms.{focus_atoms};
+ghost use Rattle.tv_focus_laws.specs.FocusAtoms.{focus_atoms};
 ghost use Rattle.tv_focus.specs.Seen.{atom_of};
 
 use std::alloc::AllocError;
@@ -36,7 +36,8 @@ pub struct FocusAtom {
 
 /// Puts the focus atoms of the formula behind the given ones, in reading order.
 pub fn gather(f: &Formula, atoms: &mut Vec<FocusAtom>) -> Result<(), AllocError>
-    ensures { OnOk result (map atom_of atoms.new.items ≡ map atom_of atoms.old.items ++ focus_atoms (form_of f.now)) }
+    ensures { OnOk result
+        (map atom_of atoms.new.items ≡ map atom_of atoms.old.items ++ focus_atoms (form_of f.now)) }
 {
     match f {
         Formula::Zero | Formula::One | Formula::IsNew(_) | Formula::Same(_, _) => {}

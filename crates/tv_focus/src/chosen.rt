@@ -1,10 +1,11 @@
 //! The structures of the choices.
 
-ghost use Rattle.std.specs.Prelude.{◌≡◌, ◌<◌, ◌≤◌, ◌+◌, ◌++◌, [], ◌∷◌, length, map, take, sum, Some, All, Contains, IfOk, IfSome, IsTrue, OnOk, slice_get, slice_index};
+ghost use Rattle.std.specs.Prelude.{◌≡◌, ◌<◌, ◌≤◌, ◌+◌, ◌++◌, [], ◌∷◌, length, map, take, sum, Some, All};
+ghost use Rattle.std.specs.Prelude.{Contains, IfOk, IfSome, IsTrue, OnOk, slice_get, slice_index};
 ghost use Rattle.std.specs.List.{flat_map, AllByRecursion};
 ghost use Rattle.tv_struct.specs.StructureForm.{IsStructure, arities_of, split, structure_of};
-ghost use Rattle.tv_choices.specs.Written.{chosen_table};
-ghost use Rattle.tv_choices.specs.Tables.{parts_of};
+ghost use Rattle.tv_focus_laws.specs.Written.{chosen_table};
+ghost use Rattle.tv_focus_laws.specs.Tables.{parts_of};
 ghost use Rattle.tv_focus.specs.Anchored.{IsAimOver};
 ghost use Rattle.tv_focus.specs.Puts.{copies_in, aim_in, AreAimsWithin, IsChoiceOf, AreChosen, chosen_tables};
 ghost use Rattle.tv_focus.specs.Seen.{aim_of};
@@ -39,7 +40,8 @@ fn copy_at(choice: &[VectorSet], a: u32) -> u32
 fn copies_of(alloc: Global, choice: &[VectorSet], anchors: &[u32]) -> Result<Vec<u32>, AllocError>
     requires anchors { All (λ a. a < length choice.now) anchors.now }
     requires few { copies_in choice.now ≤ 256 }
-    ensures { IfOk result (λ copies. copies.items ≡ map (λ a. sum (take a (parts_of choice.now))) anchors.now) }
+    ensures { IfOk result
+        (λ copies. copies.items ≡ map (λ a. sum (take a (parts_of choice.now))) anchors.now) }
 {
     let mut copies = Vec::new(alloc);
     for a in anchors {
@@ -162,9 +164,11 @@ fn choose_one(
 ) -> Result<(), AllocError>
     requires aim { IsAimOver s.now p.0 (aim_of aim.now) }
     requires choices { AllByRecursion
-        (λ set. AreChosen (IsChoiceOf s.now p.0 (aim_of aim.now)) (choice.old.items ++ set ∷ []) rest.now) first.now }
+        (λ set. AreChosen (IsChoiceOf s.now p.0 (aim_of aim.now))
+        (choice.old.items ++ set ∷ []) rest.now) first.now }
     ensures out { OnOk result (out.new ≡ out.old ++ flat_map
-        (λ set. chosen_tables (chosen_table s.now p.0 (aim_of aim.now)) (choice.old.items ++ set ∷ []) rest.now) first.now) }
+        (λ set. chosen_tables (chosen_table s.now p.0 (aim_of aim.now))
+        (choice.old.items ++ set ∷ []) rest.now) first.now) }
     ensures choice { OnOk result (choice.new.items ≡ choice.old.items) }
 {
     match first {
@@ -190,9 +194,11 @@ fn choose_with(
     out: &mut Structures,
 ) -> Result<(), AllocError>
     requires aim { IsAimOver s.now p.0 (aim_of aim.now) }
-    requires choices { AreChosen (IsChoiceOf s.now p.0 (aim_of aim.now)) (choice.old.items ++ set.now ∷ []) rest.now }
+    requires choices { AreChosen (IsChoiceOf s.now p.0 (aim_of aim.now))
+        (choice.old.items ++ set.now ∷ []) rest.now }
     ensures out { OnOk result (out.new
-        ≡ out.old ++ chosen_tables (chosen_table s.now p.0 (aim_of aim.now)) (choice.old.items ++ set.now ∷ []) rest.now) }
+        ≡ out.old ++ chosen_tables (chosen_table s.now p.0 (aim_of aim.now))
+        (choice.old.items ++ set.now ∷ []) rest.now) }
     ensures choice { OnOk result (choice.new.items ≡ choice.old.items) }
 {
     choice.push(copied(alloc, set)?)?;

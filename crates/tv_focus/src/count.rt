@@ -1,13 +1,15 @@
 //! How many choices there are, and how many individuals the largest has.
 
-ghost use Rattle.std.specs.Prelude.{◌≡◌, ◌<◌, ◌≤◌, ◌^◌, min, Some, All, IsTrue, length, map, fold, slice_get, [], ◌∷◌};
+ghost use Rattle.std.specs.Prelude.{◌≡◌, ◌<◌, ◌≤◌, ◌^◌, min, Some, All, IsTrue, length, map, fold, slice_get};
+ghost use Rattle.std.specs.Prelude.{[], ◌∷◌};
 ghost use Rattle.std.specs.List.{range_with_len};
 ghost use Rattle.tv_kleene.specs.declared.K3.{K3};
 ghost use Rattle.tv_struct.specs.StructureForm.{arities_of, structure_of, value_at, summary_at};
 ghost use Rattle.tv_struct.specs.TableForm.{HasEntry};
 ghost use Rattle.tv_struct.specs.StructureForm.{table_of};
 ghost use Rattle.tv_struct.specs.TupleForm.{tuple_of};
-ghost use Rattle.tv_choices.specs.Counts.{halves, halves_at, few_sets, few_choices, vector_count, copy_count};
+ghost use Rattle.tv_focus_laws.specs.Counts.{halves, halves_at, few_sets, few_choices, vector_count};
+ghost use Rattle.tv_focus_laws.specs.Counts.{copy_count};
 ghost use Rattle.tv_focus.specs.Anchored.{pair_of, IsAimOver};
 ghost use Rattle.tv_focus.specs.Seen.{aim_of};
 

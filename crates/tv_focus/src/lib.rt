@@ -1,5 +1,5 @@
 //! Focus: a structure is split, so that an atom of a formula becomes definite (Sagiv, Reps and Wilhelm 2002,
-//! section 6.3). What the choices are is defined in `tv_choices`.
+//! section 6.3). What the choices are is defined in `tv_focus_laws`.
 #![tactic(auto)]
 
 mod aim;

@@ -2,7 +2,7 @@
 
 ghost use Rattle.std.specs.Prelude.{◌≡◌, ◌<◌, ◌≤◌, ◌+◌, ◌++◌, [], ◌∷◌, length, Some, All, slice_get};
 ghost use Rattle.tv_struct.specs.StructureForm.{StructureForm, arities_of};
-ghost use Rattle.tv_choices.specs.Written.{written, vector_writes};
+ghost use Rattle.tv_focus_laws.specs.Written.{written, vector_writes};
 ghost use Rattle.tv_focus.specs.Anchored.{pair_of, IsAimOver};
 ghost use Rattle.tv_focus.specs.Puts.{writes_at, set_writes, choice_writes, copies_in};
 ghost use Rattle.tv_focus.specs.Seen.{aim_of};
@@ -20,7 +20,8 @@ fn put_pairs(t: &mut Structure, p: PredId, place: Place, anchors: &[u32], i: u32
     requires arity { slice_get (arities_of t.old) p.0 ≡ Some 2 }
     requires copy { i < t.old.size }
     requires anchors { All (λ a. a < t.old.size) anchors.now }
-    ensures value { t.new ≡ written t.old p.0 (vector_writes (λ a. pair_of place a i) anchors.now vector.now) }
+    ensures value { t.new
+        ≡ written t.old p.0 (vector_writes (λ a. pair_of place a i) anchors.now vector.now) }
     ensures over { arities_of t.new ≡ arities_of t.old }
     ensures size { t.new.size ≡ t.old.size }
 {

@@ -1,8 +1,9 @@
 //! The vectors of an individual, and the sets of them that a choice may give it.
 
-ghost use Rattle.std.specs.Prelude.{◌≡◌, ◌<◌, ◌≤◌, ◌++◌, [], ◌∷◌, length, map, Some, All, IfOk, IsTrue, OnOk, slice_get};
-ghost use Rattle.tv_choices.specs.Counts.{halves};
-ghost use Rattle.tv_choices.specs.Choices.{vectors, picks, picks_to, sets_of};
+ghost use Rattle.std.specs.Prelude.{◌≡◌, ◌<◌, ◌≤◌, ◌++◌, [], ◌∷◌, length, map, Some, All, IfOk, IsTrue, OnOk};
+ghost use Rattle.std.specs.Prelude.{slice_get};
+ghost use Rattle.tv_focus_laws.specs.Counts.{halves};
+ghost use Rattle.tv_focus_laws.specs.Choices.{vectors, picks, picks_to, sets_of};
 ghost use Rattle.tv_focus.specs.Puts.{begun_with};
 
 use crate::vector::Vector;
@@ -205,8 +206,8 @@ fn only(alloc: Global, vector: Vector) -> Result<Sets, AllocError>
     Ok(out)
 }
 
-/// The sets of vectors that an individual may be given, where these are its values: one vector, or, where it is a
-/// summary, one or more.
+/// The sets of vectors that an individual may be given, where these are its values: one vector, or, where it
+/// is a summary, one or more.
 #[tactic(auto, using(crate::proofs::Picks::picks_one, crate::proofs::Sharp::sets_one))]
 pub fn sets_of(alloc: Global, summary: bool, values: Vec<K3>) -> Result<Sets, AllocError>
     ensures { IfOk result (λ sets. sets ≡ sets_of summary values.items) }

@@ -1,16 +1,18 @@
 //! One stage of focus.
 
-ghost use Rattle.std.specs.Prelude.{◌≡◌, ◌<◌, ◌≤◌, ◌++◌, [], length, map, All, IfOk, IfErr, IfNone, IfSome, OnOk, Some, slice_get, ◌∷◌};
+ghost use Rattle.std.specs.Prelude.{◌≡◌, ◌<◌, ◌≤◌, ◌++◌, [], length, map, All, IfOk, IfErr, IfNone, IfSome};
+ghost use Rattle.std.specs.Prelude.{OnOk, Some, slice_get, ◌∷◌};
 ghost use Rattle.tv_model.specs.Form.{form_of};
 ghost use Rattle.tv_struct.specs.StructureForm.{IsOver, arities_of, structure_of, value_at, with_value};
-ghost use Rattle.tv_choices.specs.FocusAtoms.{focus_atoms};
-ghost use Rattle.tv_choices.specs.Choices.{aimed, choices, definite, sets_in};
-ghost use Rattle.tv_choices.specs.Stages.{atom_at, split_at};
-ghost use Rattle.tv_choices.specs.Tables.{AreStage};
-ghost use Rattle.tv_choices.specs.Written.{chosen_table, stage_tables, split_tables};
+ghost use Rattle.tv_focus_laws.specs.FocusAtoms.{focus_atoms};
+ghost use Rattle.tv_focus_laws.specs.Choices.{aimed, choices, definite, sets_in};
+ghost use Rattle.tv_focus_laws.specs.Stages.{atom_at, split_at};
+ghost use Rattle.tv_focus_laws.specs.Tables.{AreStage};
+ghost use Rattle.tv_focus_laws.specs.Written.{chosen_table, stage_tables, split_tables};
 ghost use Rattle.tv_focus.specs.Anchored.{AreAtomsOver, IsAimOver, IsSplitOver, pair_of};
 ghost use Rattle.tv_focus.specs.Focused.{focused_from, structures_in};
-ghost use Rattle.tv_focus.specs.Stage.{IsWithinLimits, IsStageCause, IsEachCause, AreLimitsKept, AreSplitLimitsKept, IsSplitCause, KeepsHeaps};
+ghost use Rattle.tv_focus.specs.Stage.{IsWithinLimits, IsStageCause, IsEachCause, AreLimitsKept};
+ghost use Rattle.tv_focus.specs.Stage.{AreSplitLimitsKept, IsSplitCause, KeepsHeaps};
 ghost use Rattle.tv_focus.specs.Seen.{aim_of, split_form};
 
 use crate::aim::{Aim, Split, split_of};
@@ -41,7 +43,8 @@ fn push_pairs(
     requires arity { slice_get (arities_of s.now) p.0 ≡ Some 2 }
     requires individual { u < s.now.size }
     requires anchors { All (λ a. a < s.now.size) anchors.now }
-    ensures { OnOk result (values.new.items ≡ values.old.items ++ map (λ a. value_at s.now p.0 (pair_of place a u)) anchors.now) }
+    ensures { OnOk result (values.new.items
+        ≡ values.old.items ++ map (λ a. value_at s.now p.0 (pair_of place a u)) anchors.now) }
 {
     match anchors {
         [] => Ok(()),
@@ -64,7 +67,8 @@ fn pairs(
     requires arity { slice_get (arities_of s.now) p.0 ≡ Some 2 }
     requires individual { u < s.now.size }
     requires anchors { All (λ a. a < s.now.size) anchors.now }
-    ensures { IfOk result (λ values. values.items ≡ map (λ a. value_at s.now p.0 (pair_of place a u)) anchors.now) }
+    ensures { IfOk result
+        (λ values. values.items ≡ map (λ a. value_at s.now p.0 (pair_of place a u)) anchors.now) }
 {
     let mut values = Vec::new(alloc);
     push_pairs(s, p, place, anchors, u, &mut values)?;
@@ -145,7 +149,8 @@ fn with_whole(alloc: Global, s: &Structure, p: PredId, k: K3) -> Result<Structur
 fn all_chosen(alloc: Global, s: &Structure, p: PredId, aim: &Aim) -> Result<Structures, AllocError>
     requires aim { IsAimOver s.now p.0 (aim_of aim.now) }
     requires limits { AreLimitsKept s.now p.0 (aim_of aim.now) }
-    ensures { IfOk result (λ ts. ts ≡ map (chosen_table s.now p.0 (aim_of aim.now)) (choices (structure_of s.now) p.0 (aim_of aim.now))) }
+    ensures { IfOk result (λ ts. ts
+        ≡ map (chosen_table s.now p.0 (aim_of aim.now)) (choices (structure_of s.now) p.0 (aim_of aim.now))) }
 {
     let sets = all_sets(alloc, s, p, aim)?;
     let mut out = Structures::new(alloc);
@@ -158,7 +163,8 @@ fn all_chosen(alloc: Global, s: &Structure, p: PredId, aim: &Aim) -> Result<Stru
 #[tactic(auto, using(crate::proofs::Limits::too_many, crate::proofs::Limits::too_large, crate::proofs::Limits::limits_kept))]
 fn each(alloc: Global, s: &Structure, p: PredId, aim: &Aim) -> Result<Structures, StageError>
     requires aim { IsAimOver s.now p.0 (aim_of aim.now) }
-    ensures exact { IfOk result (λ ts. ts ≡ map (chosen_table s.now p.0 (aim_of aim.now)) (choices (structure_of s.now) p.0 (aim_of aim.now))) }
+    ensures exact { IfOk result (λ ts. ts
+        ≡ map (chosen_table s.now p.0 (aim_of aim.now)) (choices (structure_of s.now) p.0 (aim_of aim.now))) }
     ensures within { OnOk result (AreLimitsKept s.now p.0 (aim_of aim.now)) }
     ensures cause { IfErr result (IsEachCause s.now p.0 (aim_of aim.now)) }
 {
@@ -211,7 +217,8 @@ fn planned(alloc: Global, f: &Formula, atom: usize, s: &Structure) -> Result<Sta
     requires formula { AreAtomsOver (arities_of s.now) (form_of f.now) }
     requires atom { atom < length (focus_atoms (form_of f.now)) }
     ensures pred { IfOk result (λ plan. plan.pred.0 ≡ (atom_at (form_of f.now) atom).pred) }
-    ensures split { IfOk result (λ plan. split_form plan.split ≡ split_at (structure_of s.now) (form_of f.now) atom) }
+    ensures split { IfOk result
+        (λ plan. split_form plan.split ≡ split_at (structure_of s.now) (form_of f.now) atom) }
 {
     let mut atoms = Vec::new(alloc);
     gather(f, &mut atoms)?;
@@ -223,8 +230,8 @@ fn planned(alloc: Global, f: &Formula, atom: usize, s: &Structure) -> Result<Sta
     })
 }
 
-/// What the stage makes of the structure; nothing where that is the structure itself, since the atom's values are
-/// known.
+/// What the stage makes of the structure; nothing where that is the structure itself, since the atom's values
+/// are known.
 fn staged(
     alloc: Global,
     f: &Formula,
@@ -233,9 +240,12 @@ fn staged(
 ) -> Result<Option<Structures>, StageError>
     requires formula { AreAtomsOver (arities_of s.now) (form_of f.now) }
     requires atom { atom < length (focus_atoms (form_of f.now)) }
-    ensures same { IfOk result (λ found. IfNone found (stage_tables s.now (form_of f.now) atom ≡ s.now ∷ [])) }
-    ensures choices { IfOk result (λ found. IfSome found (λ ts. ts ≡ stage_tables s.now (form_of f.now) atom)) }
-    ensures stage { OnOk result (AreStage s.now (form_of f.now) atom (stage_tables s.now (form_of f.now) atom)) }
+    ensures same { IfOk result
+        (λ found. IfNone found (stage_tables s.now (form_of f.now) atom ≡ s.now ∷ [])) }
+    ensures choices { IfOk result
+        (λ found. IfSome found (λ ts. ts ≡ stage_tables s.now (form_of f.now) atom)) }
+    ensures stage { OnOk result
+        (AreStage s.now (form_of f.now) atom (stage_tables s.now (form_of f.now) atom)) }
     ensures within { OnOk result (IsWithinLimits s.now (form_of f.now) atom) }
     ensures cause { IfErr result (IsStageCause s.now (form_of f.now) atom) }
 {
@@ -250,12 +260,13 @@ fn staged(
     }
 }
 
-/// One structure for each choice of a focus atom of the formula, in order: the atom `atom`, counted from 0, is made
-/// definite at all tuples for which the structure's anchors stand, and all other values, the summaries and the mark
-/// stay. Each heap that embeds in the structure, however large, embeds in one of those given.
+/// One structure for each choice of a focus atom of the formula, in order: the atom `atom`, counted from 0,
+/// is made definite at all tuples for which the structure's anchors stand, and all other values, the
+/// summaries and the mark stay. Each heap that embeds in the structure, however large, embeds in one of those
+/// given.
 ///
-/// `Splits` comes exactly where there are over 4,096 choices, and `Individuals` exactly where there are not and some
-/// choice has over 256 individuals.
+/// `Splits` comes exactly where there are over 4,096 choices, and `Individuals` exactly where there are not
+/// and some choice has over 256 individuals.
 pub fn focus_stage(
     alloc: Global,
     vocab: &Vocab,
@@ -279,8 +290,8 @@ pub fn focus_stage(
     }
 }
 
-/// The stage of a structure that isn't needed elsewhere: where the atom's values are known, it is given back as it is.
-/// Refusals are those of `focus_stage`.
+/// The stage of a structure that isn't needed elsewhere: where the atom's values are known, it is given back
+/// as it is. Refusals are those of `focus_stage`.
 pub fn into_focused(
     alloc: Global,
     f: &Formula,

@@ -1,5 +1,6 @@
 -- The tokens of a printed formula are read as that formula.
-use Rattle.std.proofs.Common.{◌≡◌, ℕ, List, [], ◌∷◌, ◌++◌, Some, None, Bool, true, false, refl, sym, ◌∙◌, ap, subst, map, append_assoc}
+use Rattle.std.proofs.Common.{◌≡◌, ℕ, List, [], ◌∷◌, ◌++◌, Some, None, Bool, true, false, refl, sym, ◌∙◌, ap}
+use Rattle.std.proofs.Common.{subst, map, append_assoc}
 use Rattle.std.specs.Prelude.{codes, IfSome, if◌then◌else◌, ◌&&◌, is_some}
 use Rattle.std.specs.Str.{bytes_eq}
 use Rattle.std.proofs.lemmas.Slice.Eq.{bytes_eq-Decides}
@@ -7,16 +8,23 @@ use Rattle.tv_lex.specs.Token.{SpecToken}
 use Rattle.tv_lex.specs.declared.token.TokenKind.{TokenKind}
 use Rattle.tv_lex.specs.declared.token.TokenKind.TheVariants as kind
 use Rattle.tv_phrases.specs.Reading.{Reading, taken}
-use Rattle.tv_phrases.specs.Tokens.{after, first, is_word, is_identifier, begins_name, identifier_item, text_item}
-use Rattle.tv_phrases.specs.Lists.{with_front, items_from, comma_list, optional_list, between, optional_brackets, variables, params, name, two_items, pair}
+use Rattle.tv_phrases.specs.Tokens.{after, first, is_word, is_identifier, begins_name, identifier_item}
+use Rattle.tv_phrases.specs.Tokens.{text_item}
+use Rattle.tv_phrases.specs.Lists.{with_front, items_from, comma_list, optional_list, between}
+use Rattle.tv_phrases.specs.Lists.{optional_brackets, variables, params, name, two_items, pair}
 use Rattle.tv_phrases.proofs.Facts.{on_bind, on_read, on_choose, on_if, at_some}
 use Rattle.tv_tree.specs.Forms.{Form, FSame, FDiffer, FAtom, FStar, FPlus, FParen, FNot, FImp, FCond}
-use Rattle.tv_tree.specs.Printed.{formula_tokens, words_tokens, more_tokens, one_token, params_tokens, brackets_tokens, name_tokens, pair_tokens}
+use Rattle.tv_tree.specs.Printed.{formula_tokens, words_tokens, more_tokens, one_token, params_tokens}
+use Rattle.tv_tree.specs.Printed.{brackets_tokens, name_tokens, pair_tokens}
 use Rattle.tv_formula.specs.declared.binder.Binder.{Binder}
 use Rattle.tv_formula.specs.declared.binder.Binder.TheVariants.{Exists, Forall, Closure}
 use Rattle.tv_formula.specs.declared.link.Link.{Link}
 use Rattle.tv_formula.specs.declared.link.Link.TheVariants.{Iff, Or, And}
-use Rattle.tv_formula.specs.Grammar.{Production, Whole, Imp, Unary, Joined, Behind, mark_of, join, operand, name_form, arrow, over, Leaf, zero_leaf, one_leaf, half_leaf, same_leaf, differ_leaf, atom_leaf, star_leaf, plus_leaf, Binds, binds_some, binds_all, binds_pairs, Reads, cond, no_cond, joined, further, no_further, imp, no_imp, negation, binding, parentheses, leaf, IsFormula}
+use Rattle.tv_formula.specs.Grammar.{Production, Whole, Imp, Unary, Joined, Behind, mark_of, join, operand}
+use Rattle.tv_formula.specs.Grammar.{name_form, arrow, over, Leaf, zero_leaf, one_leaf, half_leaf, same_leaf}
+use Rattle.tv_formula.specs.Grammar.{differ_leaf, atom_leaf, star_leaf, plus_leaf, Binds, binds_some}
+use Rattle.tv_formula.specs.Grammar.{binds_all, binds_pairs, Reads, cond, no_cond, joined, further}
+use Rattle.tv_formula.specs.Grammar.{no_further, imp, no_imp, negation, binding, parentheses, leaf, IsFormula}
 use Rattle.tv_formula.specs.Spelled.{kind_of, spell, spelled, EndsAlike, formula_front}
 
 -- ---- identifiers

@@ -1,18 +1,28 @@
 -- Each formula of the grammar is read, where the depth suffices. So from any place there is at most one.
-use Rattle.std.proofs.Common.{◌≡◌, ℕ, zero, suc, ◌+◌, ◌-◌, ◌*◌, ◌<◌, ◌≤◌, List, Option, Some, None, true, false, length, refl, sym, ◌∙◌, ap, arith}
+use Rattle.std.proofs.Common.{◌≡◌, ℕ, zero, suc, ◌+◌, ◌-◌, ◌*◌, ◌<◌, ◌≤◌, List, Option, Some, None, true}
+use Rattle.std.proofs.Common.{false, length, refl, sym, ◌∙◌, ap, arith}
 use Rattle.std.specs.Prelude.{codes}
 use Rattle.std.specs.Str.{bytes_eq}
 use Rattle.tv_lex.specs.Token.{SpecToken}
 use Rattle.tv_phrases.specs.Reading.{taken, ◌>>=◌}
 use Rattle.tv_phrases.specs.Tokens.{after, first, identifier_item, text_item}
 use Rattle.tv_phrases.specs.Lists.{params, name, between}
-use Rattle.tv_phrases.proofs.Facts.{on_bind, on_choose, at_some, other_mark, not_identifier, name_parts, brackets_lack, after_shorter, params_shorter, variables_shorter, pair_shorter, identifier_shorter, name_shorter}
+use Rattle.tv_phrases.proofs.Facts.{on_bind, on_choose, at_some, other_mark, not_identifier, name_parts}
+use Rattle.tv_phrases.proofs.Facts.{brackets_lack, after_shorter, params_shorter, variables_shorter}
+use Rattle.tv_phrases.proofs.Facts.{pair_shorter, identifier_shorter, name_shorter}
 use Rattle.tv_tree.specs.Forms.{Form, FParen, FNot, FCond, FImp}
 use Rattle.tv_formula.specs.declared.binder.Binder.{Binder}
 use Rattle.tv_formula.specs.declared.link.Link.{Link}
 use Rattle.tv_formula.specs.declared.link.Link.TheVariants.{Iff, Or, And}
-use Rattle.tv_formula.specs.Grammar.{Production, Whole, Imp, Unary, Joined, Behind, mark_of, join, operand, name_form, arrow, over, Leaf, zero_leaf, one_leaf, half_leaf, same_leaf, differ_leaf, atom_leaf, star_leaf, plus_leaf, Binds, binds_some, binds_all, binds_pairs, Reads, cond, no_cond, joined, further, no_further, imp, no_imp, negation, binding, parentheses, leaf}
-use Rattle.tv_formula.specs.Reading.{Reader, compared, applied, closed, behind_name, predicate, named, leaf_reading, negated, begins_binder, existence, universality, transitive, binder, bound, grouped, unary_step, imp_step, joined_step, behind_step, chosen, whole_step, step, reading}
+use Rattle.tv_formula.specs.Grammar.{Production, Whole, Imp, Unary, Joined, Behind, mark_of, join, operand}
+use Rattle.tv_formula.specs.Grammar.{name_form, arrow, over, Leaf, zero_leaf, one_leaf, half_leaf, same_leaf}
+use Rattle.tv_formula.specs.Grammar.{differ_leaf, atom_leaf, star_leaf, plus_leaf, Binds, binds_some}
+use Rattle.tv_formula.specs.Grammar.{binds_all, binds_pairs, Reads, cond, no_cond, joined, further}
+use Rattle.tv_formula.specs.Grammar.{no_further, imp, no_imp, negation, binding, parentheses, leaf}
+use Rattle.tv_formula.specs.Reading.{Reader, compared, applied, closed, behind_name, predicate, named}
+use Rattle.tv_formula.specs.Reading.{leaf_reading, negated, begins_binder, existence, universality}
+use Rattle.tv_formula.specs.Reading.{transitive, binder, bound, grouped, unary_step, imp_step, joined_step}
+use Rattle.tv_formula.specs.Reading.{behind_step, chosen, whole_step, step, reading}
 
 -- how many levels of the grammar stand below a production at the same place
 abbrev pub rank : Production → ℕ

@@ -6,8 +6,15 @@ use Rattle.tv_phrases.specs.Tokens.{after, first, identifier_item}
 use Rattle.tv_phrases.specs.Lists.{variables, params, name, pair}
 use Rattle.tv_phrases.proofs.Facts.{on_bind, on_read, on_choose, on_if, on_more}
 use Rattle.tv_formula.specs.declared.link.Link.TheVariants.{Iff, Or}
-use Rattle.tv_formula.specs.Grammar.{Production, Whole, Imp, Unary, Joined, Behind, mark_of, join, operand, arrow, over, Leaf, zero_leaf, one_leaf, half_leaf, same_leaf, differ_leaf, atom_leaf, star_leaf, plus_leaf, Binds, binds_some, binds_all, binds_pairs, Reads, cond, no_cond, joined, further, no_further, imp, no_imp, negation, binding, parentheses, leaf}
-use Rattle.tv_formula.specs.Reading.{compared, applied, closed, behind_name, predicate, named, leaf_reading, negated, begins_binder, existence, universality, transitive, binder, bound, grouped, unary_step, imp_step, joined_step, behind_step, chosen, whole_step, reading}
+use Rattle.tv_formula.specs.Grammar.{Production, Whole, Imp, Unary, Joined, Behind, mark_of, join, operand}
+use Rattle.tv_formula.specs.Grammar.{arrow, over, Leaf, zero_leaf, one_leaf, half_leaf, same_leaf}
+use Rattle.tv_formula.specs.Grammar.{differ_leaf, atom_leaf, star_leaf, plus_leaf, Binds, binds_some}
+use Rattle.tv_formula.specs.Grammar.{binds_all, binds_pairs, Reads, cond, no_cond, joined, further}
+use Rattle.tv_formula.specs.Grammar.{no_further, imp, no_imp, negation, binding, parentheses, leaf}
+use Rattle.tv_formula.specs.Reading.{compared, applied, closed, behind_name, predicate, named, leaf_reading}
+use Rattle.tv_formula.specs.Reading.{negated, begins_binder, existence, universality, transitive, binder}
+use Rattle.tv_formula.specs.Reading.{bound, grouped, unary_step, imp_step, joined_step, behind_step, chosen}
+use Rattle.tv_formula.specs.Reading.{whole_step, reading}
 
 predicate_sound : (ts : List SpecToken) → IfSome (predicate ts) (λ x. Leaf ts x.0 x.1)
 unfolding predicate behind_name applied closed

@@ -10,9 +10,13 @@ use Rattle.tv_tree.specs.Forms.{Form, FImp, FParen, FNot, FCond}
 use Rattle.tv_formula.specs.declared.binder.Binder.{Binder}
 use Rattle.tv_formula.specs.declared.link.Link.{Link}
 use Rattle.tv_formula.specs.declared.link.Link.TheVariants.{Iff, Or}
-use Rattle.tv_formula.specs.Grammar.{Production, Whole, Imp, Unary, Joined, Behind, mark_of, join, operand, arrow, over}
-use Rattle.tv_formula.specs.Reading.{Reader, step, reading, binder, joined_step, behind_step, unary_step, imp_step, whole_step, negated, grouped, begins_binder, bound, leaf_reading, chosen}
+use Rattle.tv_formula.specs.Grammar.{Production, Whole, Imp, Unary, Joined, Behind, mark_of, join, operand}
+use Rattle.tv_formula.specs.Grammar.{arrow, over}
+use Rattle.tv_formula.specs.Reading.{Reader, step, reading, binder, joined_step, behind_step, unary_step}
+use Rattle.tv_formula.specs.Reading.{imp_step, whole_step, negated, grouped, begins_binder, bound}
+use Rattle.tv_formula.specs.Reading.{leaf_reading, chosen}
 use Rattle.tv_phrases.specs.Repeated.{below}
+use Rattle.tv_phrases.proofs.Values.{told_more, refused_told}
 
 pub reading_steps : (n : ℕ) (p : Production) (ts : List SpecToken) → reading n p ts ≡ (below n >>= λ m. step (reading m) p ts)
 unfolding reading
@@ -52,16 +56,6 @@ no_behind n m link f ts us e begins read = rw (some_below n m (Behind link f) ts
 pub behind_ends : (n m : ℕ) (link : Link) (f : Form) (ts : List SpecToken) → below n ≡ Some m → after (mark_of link) ts ≡ None → reading n (Behind link f) ts ≡ taken f ts
 unfolding behind_step
 behind_ends n m link f ts e lacks = rw (some_below n m (Behind link f) ts e, lacks) refl
-
--- ---- what answers to one reading say of another
-
-pub refused_told : (e : PhraseError) (P Q : Type 0) → (P → Q) → Refuses e P → Told e Q
-refused_told (Unexpected at) P Q h p = h p
-refused_told Memory P Q h p = tt
-
-pub told_more : (e : PhraseError) (P Q : Type 0) → (P → Q) → Told e P → Told e Q
-told_more (Unexpected at) P Q h p = h p
-told_more Memory P Q h p = tt
 
 -- ---- formulas that `!`, `(` or a word begins
 

@@ -28,7 +28,8 @@ spell w = record { kind = kind_of w; bytes = w }
 abbrev pub spelled : List (List ℕ) → List SpecToken → List SpecToken
 spelled ws end = map spell ws ++ end
 
--- Behind a formula these tokens end it as those did: no mark and no arrow begins them that didn't begin those.
+-- Behind a formula these tokens end it as those did: no mark and no arrow begins them that didn't begin
+-- those.
 pub record EndsAlike (old new : List SpecToken) : Type 0 where
   pub marks : (mark : List ℕ) → after mark old ≡ None → after mark new ≡ None
   pub arrows : arrow old ≡ None → arrow new ≡ None

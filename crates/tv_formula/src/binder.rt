@@ -2,7 +2,7 @@
 
 ghost use Rattle.std.specs.Prelude.{◌≡◌, IfOk};
 ghost use Rattle.tv_lex.specs.Token.{text_of, spec_tokens};
-ghost use Rattle.tv_phrases.specs.Reading.{Gives};
+ghost use Rattle.tv_phrases.specs.Reading.{GivesReading};
 ghost use Rattle.tv_tree.specs.Copies.{form_of};
 ghost use Rattle.tv_formula.specs.Grammar.{over};
 ghost use Rattle.tv_formula.specs.Reading.{begins_binder, existence, universality, transitive, binder};
@@ -10,7 +10,7 @@ ghost use Rattle.tv_formula.specs.Reading.{begins_binder, existence, universalit
 use crate::words::{spelling, spellings};
 use std::alloc::{AllocError, Global};
 use tv_lex::Token;
-use tv_phrases::{PhraseError, after, expect, pair, variables};
+use tv_phrases::{Read, after, expect, pair, variables};
 use tv_tree::trees::{FormulaTree, Spelling, Spellings};
 
 /// What stands before a body, and says which of its variables are bound.
@@ -55,36 +55,27 @@ pub fn begins_binder(bytes: &[u8], tokens: &[Token]) -> bool
 }
 
 #[tactic(auto, unfolding(crate::specs::Reading::existence))]
-fn existence_at<'a>(
-    alloc: Global,
-    bytes: &[u8],
-    tokens: &'a [Token],
-) -> Result<(Binder, &'a [Token]), PhraseError<'a>>
-    ensures { Gives (λ x. (x.0, spec_tokens bytes.now x.1.now)) result (existence (spec_tokens bytes.now tokens.now)) }
+fn existence_at<'a>(alloc: Global, bytes: &[u8], tokens: &'a [Token]) -> Read<'a, Binder>
+    ensures { GivesReading (λ x. (x.0, spec_tokens bytes.now x.1.now)) result
+        (existence (spec_tokens bytes.now tokens.now)) }
 {
     let (words, rest) = variables(alloc, bytes, tokens)?;
     Ok((Binder::Exists(spellings(alloc, bytes, &words)?), rest))
 }
 
 #[tactic(auto, unfolding(crate::specs::Reading::universality))]
-fn universality_at<'a>(
-    alloc: Global,
-    bytes: &[u8],
-    tokens: &'a [Token],
-) -> Result<(Binder, &'a [Token]), PhraseError<'a>>
-    ensures { Gives (λ x. (x.0, spec_tokens bytes.now x.1.now)) result (universality (spec_tokens bytes.now tokens.now)) }
+fn universality_at<'a>(alloc: Global, bytes: &[u8], tokens: &'a [Token]) -> Read<'a, Binder>
+    ensures { GivesReading (λ x. (x.0, spec_tokens bytes.now x.1.now)) result
+        (universality (spec_tokens bytes.now tokens.now)) }
 {
     let (words, rest) = variables(alloc, bytes, tokens)?;
     Ok((Binder::Forall(spellings(alloc, bytes, &words)?), rest))
 }
 
 #[tactic(auto, unfolding(crate::specs::Reading::transitive))]
-fn closure_at<'a>(
-    alloc: Global,
-    bytes: &[u8],
-    tokens: &'a [Token],
-) -> Result<(Binder, &'a [Token]), PhraseError<'a>>
-    ensures { Gives (λ x. (x.0, spec_tokens bytes.now x.1.now)) result (transitive (spec_tokens bytes.now tokens.now)) }
+fn closure_at<'a>(alloc: Global, bytes: &[u8], tokens: &'a [Token]) -> Read<'a, Binder>
+    ensures { GivesReading (λ x. (x.0, spec_tokens bytes.now x.1.now)) result
+        (transitive (spec_tokens bytes.now tokens.now)) }
 {
     let ((from, to), next) = pair(bytes, tokens)?;
     let ((left, right), rest) = pair(bytes, next)?;
@@ -97,12 +88,9 @@ fn closure_at<'a>(
 
 /// `E`, `A` or `TC`, and the variables behind it.
 #[tactic(auto, unfolding(crate::specs::Reading::binder))]
-pub fn binder_at<'a>(
-    alloc: Global,
-    bytes: &[u8],
-    tokens: &'a [Token],
-) -> Result<(Binder, &'a [Token]), PhraseError<'a>>
-    ensures { Gives (λ x. (x.0, spec_tokens bytes.now x.1.now)) result (binder (spec_tokens bytes.now tokens.now)) }
+pub fn binder_at<'a>(alloc: Global, bytes: &[u8], tokens: &'a [Token]) -> Read<'a, Binder>
+    ensures { GivesReading (λ x. (x.0, spec_tokens bytes.now x.1.now)) result
+        (binder (spec_tokens bytes.now tokens.now)) }
 {
     if let Some(behind) = after(bytes, tokens, b"E") {
         return existence_at(alloc, bytes, behind);

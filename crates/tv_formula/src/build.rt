@@ -2,7 +2,7 @@
 
 ghost use Rattle.std.specs.Prelude.{◌≡◌, IfOk, None, codes};
 ghost use Rattle.tv_lex.specs.Token.{spec_tokens};
-ghost use Rattle.tv_phrases.specs.Reading.{choose, Gives, Takes, taken};
+ghost use Rattle.tv_phrases.specs.Reading.{choose, GivesReading, Takes, taken};
 ghost use Rattle.tv_phrases.specs.Tokens.{after};
 ghost use Rattle.tv_tree.specs.Copies.{form_of};
 ghost use Rattle.tv_tree.specs.Forms.{FParen, FNot, FImp, FCond};
@@ -10,7 +10,7 @@ ghost use Rattle.tv_tree.specs.Forms.{FParen, FNot, FImp, FCond};
 use crate::words::behind_arrow;
 use std::alloc::{AllocError, Global};
 use tv_lex::Token;
-use tv_phrases::{PhraseError, after};
+use tv_phrases::{PhraseError, Read, after};
 use tv_tree::trees::FormulaTree;
 
 /// The tokens behind a mark that stands behind a formula.
@@ -19,7 +19,8 @@ pub fn expect_behind<'a>(
     tokens: &'a [Token],
     mark: &[u8],
 ) -> Result<&'a [Token], PhraseError<'a>>
-    ensures { Takes (λ rest. spec_tokens bytes.now rest.now) result (after mark.now (spec_tokens bytes.now tokens.now)) }
+    ensures { Takes (λ rest. spec_tokens bytes.now rest.now) result
+        (after mark.now (spec_tokens bytes.now tokens.now)) }
 {
     match after(bytes, tokens, mark) {
         Some(rest) => Ok(rest),
@@ -33,8 +34,10 @@ pub fn closed<'a>(
     bytes: &[u8],
     inner: FormulaTree,
     tokens: &'a [Token],
-) -> Result<(FormulaTree, &'a [Token]), PhraseError<'a>>
-    ensures { Gives (λ x. (form_of x.0, spec_tokens bytes.now x.1.now)) result (choose (after (codes ")") (spec_tokens bytes.now tokens.now)) None (λ rest. taken (FParen (form_of inner)) rest)) }
+) -> Read<'a, FormulaTree>
+    ensures { GivesReading (λ x. (form_of x.0, spec_tokens bytes.now x.1.now)) result
+        (choose (after (codes ")") (spec_tokens bytes.now tokens.now)) None
+        (λ rest. taken (FParen (form_of inner)) rest)) }
 {
     let rest = expect_behind(bytes, tokens, b")")?;
     Ok((FormulaTree::Paren(Box::new(alloc, inner)?), rest))

@@ -2,15 +2,16 @@
 
 ghost use Rattle.std.specs.Prelude.{◌≡◌, IfOk};
 ghost use Rattle.tv_lex.specs.Token.{text_of, spec_tokens};
-ghost use Rattle.tv_phrases.specs.Reading.{Gives};
+ghost use Rattle.tv_phrases.specs.Reading.{GivesReading};
 ghost use Rattle.tv_tree.specs.Forms.{FSame, FDiffer, FStar, FPlus};
 ghost use Rattle.tv_tree.specs.Copies.{form_of, name_of};
-ghost use Rattle.tv_formula.specs.Reading.{compared, applied, closed, behind_name, predicate, named, leaf_reading};
+ghost use Rattle.tv_formula.specs.Reading.{compared, applied, closed, behind_name, predicate, named};
+ghost use Rattle.tv_formula.specs.Reading.{leaf_reading};
 
 use crate::words::{name_of_phrase, spelling, spellings};
 use std::alloc::Global;
 use tv_lex::Token;
-use tv_phrases::{PhraseError, after, identifier, name, pair, params};
+use tv_phrases::{Read, after, identifier, name, pair, params};
 use tv_tree::trees::{FormulaTree, Name};
 
 #[tactic(auto, unfolding(crate::specs::Reading::compared))]
@@ -19,8 +20,9 @@ fn same_at<'a>(
     bytes: &[u8],
     left: &Token,
     tokens: &'a [Token],
-) -> Result<(FormulaTree, &'a [Token]), PhraseError<'a>>
-    ensures { Gives (λ x. (form_of x.0, spec_tokens bytes.now x.1.now)) result (compared FSame (text_of bytes.now left.now) (spec_tokens bytes.now tokens.now)) }
+) -> Read<'a, FormulaTree>
+    ensures { GivesReading (λ x. (form_of x.0, spec_tokens bytes.now x.1.now)) result
+        (compared FSame (text_of bytes.now left.now) (spec_tokens bytes.now tokens.now)) }
 {
     let (right, rest) = identifier(bytes, tokens)?;
     let left = spelling(alloc, bytes, left)?;
@@ -34,8 +36,9 @@ fn differ_at<'a>(
     bytes: &[u8],
     left: &Token,
     tokens: &'a [Token],
-) -> Result<(FormulaTree, &'a [Token]), PhraseError<'a>>
-    ensures { Gives (λ x. (form_of x.0, spec_tokens bytes.now x.1.now)) result (compared FDiffer (text_of bytes.now left.now) (spec_tokens bytes.now tokens.now)) }
+) -> Read<'a, FormulaTree>
+    ensures { GivesReading (λ x. (form_of x.0, spec_tokens bytes.now x.1.now)) result
+        (compared FDiffer (text_of bytes.now left.now) (spec_tokens bytes.now tokens.now)) }
 {
     let (right, rest) = identifier(bytes, tokens)?;
     let left = spelling(alloc, bytes, left)?;
@@ -49,8 +52,9 @@ fn applied_at<'a>(
     bytes: &[u8],
     name: Name,
     tokens: &'a [Token],
-) -> Result<(FormulaTree, &'a [Token]), PhraseError<'a>>
-    ensures { Gives (λ x. (form_of x.0, spec_tokens bytes.now x.1.now)) result (applied (name_of name) (spec_tokens bytes.now tokens.now)) }
+) -> Read<'a, FormulaTree>
+    ensures { GivesReading (λ x. (form_of x.0, spec_tokens bytes.now x.1.now)) result
+        (applied (name_of name) (spec_tokens bytes.now tokens.now)) }
 {
     let (words, rest) = params(alloc, bytes, tokens)?;
     let arguments = spellings(alloc, bytes, &words)?;
@@ -63,8 +67,9 @@ fn star_at<'a>(
     bytes: &[u8],
     name: Name,
     tokens: &'a [Token],
-) -> Result<(FormulaTree, &'a [Token]), PhraseError<'a>>
-    ensures { Gives (λ x. (form_of x.0, spec_tokens bytes.now x.1.now)) result (closed FStar (name_of name) (spec_tokens bytes.now tokens.now)) }
+) -> Read<'a, FormulaTree>
+    ensures { GivesReading (λ x. (form_of x.0, spec_tokens bytes.now x.1.now)) result
+        (closed FStar (name_of name) (spec_tokens bytes.now tokens.now)) }
 {
     let ((from, to), rest) = pair(bytes, tokens)?;
     let from = spelling(alloc, bytes, &from)?;
@@ -78,8 +83,9 @@ fn plus_at<'a>(
     bytes: &[u8],
     name: Name,
     tokens: &'a [Token],
-) -> Result<(FormulaTree, &'a [Token]), PhraseError<'a>>
-    ensures { Gives (λ x. (form_of x.0, spec_tokens bytes.now x.1.now)) result (closed FPlus (name_of name) (spec_tokens bytes.now tokens.now)) }
+) -> Read<'a, FormulaTree>
+    ensures { GivesReading (λ x. (form_of x.0, spec_tokens bytes.now x.1.now)) result
+        (closed FPlus (name_of name) (spec_tokens bytes.now tokens.now)) }
 {
     let ((from, to), rest) = pair(bytes, tokens)?;
     let from = spelling(alloc, bytes, &from)?;
@@ -93,8 +99,9 @@ fn behind_name<'a>(
     bytes: &[u8],
     name: Name,
     tokens: &'a [Token],
-) -> Result<(FormulaTree, &'a [Token]), PhraseError<'a>>
-    ensures { Gives (λ x. (form_of x.0, spec_tokens bytes.now x.1.now)) result (behind_name (name_of name) (spec_tokens bytes.now tokens.now)) }
+) -> Read<'a, FormulaTree>
+    ensures { GivesReading (λ x. (form_of x.0, spec_tokens bytes.now x.1.now)) result
+        (behind_name (name_of name) (spec_tokens bytes.now tokens.now)) }
 {
     if let Some(behind) = after(bytes, tokens, b"*") {
         return star_at(alloc, bytes, name, behind);
@@ -106,12 +113,9 @@ fn behind_name<'a>(
 }
 
 #[tactic(auto, unfolding(crate::specs::Reading::predicate))]
-fn predicate_at<'a>(
-    alloc: Global,
-    bytes: &[u8],
-    tokens: &'a [Token],
-) -> Result<(FormulaTree, &'a [Token]), PhraseError<'a>>
-    ensures { Gives (λ x. (form_of x.0, spec_tokens bytes.now x.1.now)) result (predicate (spec_tokens bytes.now tokens.now)) }
+fn predicate_at<'a>(alloc: Global, bytes: &[u8], tokens: &'a [Token]) -> Read<'a, FormulaTree>
+    ensures { GivesReading (λ x. (form_of x.0, spec_tokens bytes.now x.1.now)) result
+        (predicate (spec_tokens bytes.now tokens.now)) }
 {
     let (phrase, behind) = name(alloc, bytes, tokens)?;
     let name = name_of_phrase(alloc, bytes, &phrase)?;
@@ -119,12 +123,9 @@ fn predicate_at<'a>(
 }
 
 #[tactic(auto, unfolding(crate::specs::Reading::named))]
-fn named_at<'a>(
-    alloc: Global,
-    bytes: &[u8],
-    tokens: &'a [Token],
-) -> Result<(FormulaTree, &'a [Token]), PhraseError<'a>>
-    ensures { Gives (λ x. (form_of x.0, spec_tokens bytes.now x.1.now)) result (named (spec_tokens bytes.now tokens.now)) }
+fn named_at<'a>(alloc: Global, bytes: &[u8], tokens: &'a [Token]) -> Read<'a, FormulaTree>
+    ensures { GivesReading (λ x. (form_of x.0, spec_tokens bytes.now x.1.now)) result
+        (named (spec_tokens bytes.now tokens.now)) }
 {
     let (word, behind) = identifier(bytes, tokens)?;
     if let Some(right) = after(bytes, behind, b"==") {
@@ -138,12 +139,9 @@ fn named_at<'a>(
 
 /// A constant, an equality, an atom or a closed predicate.
 #[tactic(auto, unfolding(crate::specs::Reading::leaf_reading))]
-pub fn leaf_at<'a>(
-    alloc: Global,
-    bytes: &[u8],
-    tokens: &'a [Token],
-) -> Result<(FormulaTree, &'a [Token]), PhraseError<'a>>
-    ensures { Gives (λ x. (form_of x.0, spec_tokens bytes.now x.1.now)) result (leaf_reading (spec_tokens bytes.now tokens.now)) }
+pub fn leaf_at<'a>(alloc: Global, bytes: &[u8], tokens: &'a [Token]) -> Read<'a, FormulaTree>
+    ensures { GivesReading (λ x. (form_of x.0, spec_tokens bytes.now x.1.now)) result
+        (leaf_reading (spec_tokens bytes.now tokens.now)) }
 {
     if let Some(rest) = after(bytes, tokens, b"0") {
         return Ok((FormulaTree::Zero, rest));

@@ -1,9 +1,10 @@
-//! The reader of formulas. It goes down where a connective, a quantifier or a parenthesis opens, and along `&`, `|` and
-//! `<->` in a loop. So it goes no deeper than such constructs are open at one place, times the levels of the grammar.
+//! The reader of formulas. It goes down where a connective, a quantifier or a parenthesis opens, and along
+//! `&`, `|` and `<->` in a loop. So it goes no deeper than such constructs are open at one place, times the
+//! levels of the grammar.
 
 ghost use Rattle.std.specs.Prelude.{◌≡◌, ◌<◌, IfOk, IfErr};
 ghost use Rattle.tv_lex.specs.Token.{spec_tokens};
-ghost use Rattle.tv_phrases.specs.Reading.{Gives, Takes, Told};
+ghost use Rattle.tv_phrases.specs.Reading.{GivesReading, Takes, Told};
 ghost use Rattle.tv_phrases.specs.Tokens.{after};
 ghost use Rattle.tv_tree.specs.Copies.{form_of};
 ghost use Rattle.tv_formula.specs.Grammar.{Whole, Imp, Unary, Joined, operand, IsFormula, NoFormula};
@@ -17,7 +18,7 @@ use crate::link::Link;
 use crate::words::arrow;
 use std::alloc::Global;
 use tv_lex::Token;
-use tv_phrases::{PhraseError, after};
+use tv_phrases::{PhraseError, Read, after};
 use tv_tree::trees::FormulaTree;
 
 fn below(depth: usize, tokens: &[Token]) -> Result<usize, PhraseError<'_>>
@@ -37,8 +38,9 @@ fn bound_at<'a>(
     bytes: &[u8],
     depth: usize,
     tokens: &'a [Token],
-) -> Result<(FormulaTree, &'a [Token]), PhraseError<'a>>
-    ensures { Gives (λ x. (form_of x.0, spec_tokens bytes.now x.1.now)) result (bound (reading depth) (spec_tokens bytes.now tokens.now)) }
+) -> Read<'a, FormulaTree>
+    ensures { GivesReading (λ x. (form_of x.0, spec_tokens bytes.now x.1.now)) result
+        (bound (reading depth) (spec_tokens bytes.now tokens.now)) }
 {
     let (binder, behind) = binder_at(alloc, bytes, tokens)?;
     let (body, rest) = formula_at(alloc, bytes, depth, behind)?;
@@ -52,8 +54,9 @@ fn group_at<'a>(
     bytes: &[u8],
     depth: usize,
     tokens: &'a [Token],
-) -> Result<(FormulaTree, &'a [Token]), PhraseError<'a>>
-    ensures { Gives (λ x. (form_of x.0, spec_tokens bytes.now x.1.now)) result (grouped (reading depth) (spec_tokens bytes.now tokens.now)) }
+) -> Read<'a, FormulaTree>
+    ensures { GivesReading (λ x. (form_of x.0, spec_tokens bytes.now x.1.now)) result
+        (grouped (reading depth) (spec_tokens bytes.now tokens.now)) }
 {
     let (inner, end) = formula_at(alloc, bytes, depth, tokens)?;
     closed(alloc, bytes, inner, end)
@@ -66,8 +69,9 @@ fn negation_at<'a>(
     bytes: &[u8],
     depth: usize,
     tokens: &'a [Token],
-) -> Result<(FormulaTree, &'a [Token]), PhraseError<'a>>
-    ensures { Gives (λ x. (form_of x.0, spec_tokens bytes.now x.1.now)) result (negated (reading depth) (spec_tokens bytes.now tokens.now)) }
+) -> Read<'a, FormulaTree>
+    ensures { GivesReading (λ x. (form_of x.0, spec_tokens bytes.now x.1.now)) result
+        (negated (reading depth) (spec_tokens bytes.now tokens.now)) }
 {
     let (inner, rest) = unary_at(alloc, bytes, depth, tokens)?;
     Ok((negation(alloc, inner)?, rest))
@@ -80,8 +84,9 @@ fn unary_at<'a>(
     bytes: &[u8],
     depth: usize,
     tokens: &'a [Token],
-) -> Result<(FormulaTree, &'a [Token]), PhraseError<'a>>
-    ensures { Gives (λ x. (form_of x.0, spec_tokens bytes.now x.1.now)) result (reading depth Unary (spec_tokens bytes.now tokens.now)) }
+) -> Read<'a, FormulaTree>
+    ensures { GivesReading (λ x. (form_of x.0, spec_tokens bytes.now x.1.now)) result
+        (reading depth Unary (spec_tokens bytes.now tokens.now)) }
 {
     let inner = below(depth, tokens)?;
     if let Some(behind) = after(bytes, tokens, b"!") {
@@ -106,8 +111,9 @@ fn operand_at<'a>(
     depth: usize,
     link: Link,
     tokens: &'a [Token],
-) -> Result<(FormulaTree, &'a [Token]), PhraseError<'a>>
-    ensures { Gives (λ x. (form_of x.0, spec_tokens bytes.now x.1.now)) result (reading depth (operand link) (spec_tokens bytes.now tokens.now)) }
+) -> Read<'a, FormulaTree>
+    ensures { GivesReading (λ x. (form_of x.0, spec_tokens bytes.now x.1.now)) result
+        (reading depth (operand link) (spec_tokens bytes.now tokens.now)) }
 {
     match link {
         Link::Iff => implication_at(alloc, bytes, depth, tokens),
@@ -124,8 +130,9 @@ fn joined_at<'a>(
     depth: usize,
     link: Link,
     tokens: &'a [Token],
-) -> Result<(FormulaTree, &'a [Token]), PhraseError<'a>>
-    ensures { Gives (λ x. (form_of x.0, spec_tokens bytes.now x.1.now)) result (reading depth (Joined link) (spec_tokens bytes.now tokens.now)) }
+) -> Read<'a, FormulaTree>
+    ensures { GivesReading (λ x. (form_of x.0, spec_tokens bytes.now x.1.now)) result
+        (reading depth (Joined link) (spec_tokens bytes.now tokens.now)) }
 {
     let mut left = below(depth, tokens)?;
     let (mut tree, mut rest) = operand_at(alloc, bytes, left, link, tokens)?;
@@ -148,8 +155,9 @@ fn implication_at<'a>(
     bytes: &[u8],
     depth: usize,
     tokens: &'a [Token],
-) -> Result<(FormulaTree, &'a [Token]), PhraseError<'a>>
-    ensures { Gives (λ x. (form_of x.0, spec_tokens bytes.now x.1.now)) result (reading depth Imp (spec_tokens bytes.now tokens.now)) }
+) -> Read<'a, FormulaTree>
+    ensures { GivesReading (λ x. (form_of x.0, spec_tokens bytes.now x.1.now)) result
+        (reading depth Imp (spec_tokens bytes.now tokens.now)) }
 {
     let inner = below(depth, tokens)?;
     let (left, end) = joined_at(alloc, bytes, inner, Link::Or, tokens)?;
@@ -168,8 +176,9 @@ fn chosen_at<'a>(
     depth: usize,
     test: FormulaTree,
     tokens: &'a [Token],
-) -> Result<(FormulaTree, &'a [Token]), PhraseError<'a>>
-    ensures { Gives (λ x. (form_of x.0, spec_tokens bytes.now x.1.now)) result (chosen (reading depth) (form_of test) (spec_tokens bytes.now tokens.now)) }
+) -> Read<'a, FormulaTree>
+    ensures { GivesReading (λ x. (form_of x.0, spec_tokens bytes.now x.1.now)) result
+        (chosen (reading depth) (form_of test) (spec_tokens bytes.now tokens.now)) }
 {
     let (yes, end) = formula_at(alloc, bytes, depth, tokens)?;
     let behind = expect_behind(bytes, end, b":")?;
@@ -184,8 +193,9 @@ fn formula_at<'a>(
     bytes: &[u8],
     depth: usize,
     tokens: &'a [Token],
-) -> Result<(FormulaTree, &'a [Token]), PhraseError<'a>>
-    ensures { Gives (λ x. (form_of x.0, spec_tokens bytes.now x.1.now)) result (reading depth Whole (spec_tokens bytes.now tokens.now)) }
+) -> Read<'a, FormulaTree>
+    ensures { GivesReading (λ x. (form_of x.0, spec_tokens bytes.now x.1.now)) result
+        (reading depth Whole (spec_tokens bytes.now tokens.now)) }
 {
     let inner = below(depth, tokens)?;
     let (test, rest) = joined_at(alloc, bytes, inner, Link::Iff, tokens)?;
@@ -197,26 +207,21 @@ fn formula_at<'a>(
 
 // At a depth that suffices.
 #[tactic(auto, unfolding(crate::specs::Reading::formula_reading))]
-fn read_formula<'a>(
-    alloc: Global,
-    bytes: &[u8],
-    tokens: &'a [Token],
-) -> Result<(FormulaTree, &'a [Token]), PhraseError<'a>>
-    ensures { Gives (λ x. (form_of x.0, spec_tokens bytes.now x.1.now)) result (formula_reading (spec_tokens bytes.now tokens.now)) }
+fn read_formula<'a>(alloc: Global, bytes: &[u8], tokens: &'a [Token]) -> Read<'a, FormulaTree>
+    ensures { GivesReading (λ x. (form_of x.0, spec_tokens bytes.now x.1.now)) result
+        (formula_reading (spec_tokens bytes.now tokens.now)) }
 {
     formula_at(alloc, bytes, 6 * tokens.len() + 6, tokens)
 }
 
-/// A formula, and the tokens behind it. It reaches as far as it can. Its tokens go in one reading, and the calls nest as
-/// deep as parentheses, `!`, quantifiers, `->` and `?` do.
+/// A formula, and the tokens behind it. It reaches as far as it can. Its tokens go in one reading, and the
+/// calls nest as deep as parentheses, `!`, quantifiers, `->` and `?` do.
 #[tactic(auto, using(crate::proofs::FormulaLaws::read_is_formula, crate::proofs::FormulaLaws::unread_is_none))]
-pub fn formula<'a>(
-    alloc: Global,
-    bytes: &[u8],
-    tokens: &'a [Token],
-) -> Result<(FormulaTree, &'a [Token]), PhraseError<'a>>
-    ensures reading { Gives (λ x. (form_of x.0, spec_tokens bytes.now x.1.now)) result (formula_reading (spec_tokens bytes.now tokens.now)) }
-    ensures formula { IfOk result (λ x. IsFormula (spec_tokens bytes.now tokens.now) (form_of x.0) (spec_tokens bytes.now x.1.now)) }
+pub fn formula<'a>(alloc: Global, bytes: &[u8], tokens: &'a [Token]) -> Read<'a, FormulaTree>
+    ensures reading { GivesReading (λ x. (form_of x.0, spec_tokens bytes.now x.1.now)) result
+        (formula_reading (spec_tokens bytes.now tokens.now)) }
+    ensures formula { IfOk result
+        (λ x. IsFormula (spec_tokens bytes.now tokens.now) (form_of x.0) (spec_tokens bytes.now x.1.now)) }
     ensures none { IfErr result (λ e. Told e (NoFormula (spec_tokens bytes.now tokens.now))) }
 {
     read_formula(alloc, bytes, tokens)

@@ -32,7 +32,8 @@ pub fn spellings(alloc: Global, bytes: &[u8], tokens: &[Token]) -> Result<Spelli
 
 /// The name whose tokens these are.
 pub fn name_of_phrase(alloc: Global, bytes: &[u8], phrase: &NamePhrase) -> Result<Name, AllocError>
-    ensures { IfOk result (λ n. name_of n ≡ name_form (text_of bytes.now phrase.now.first, map (text_of bytes.now) phrase.now.brackets.items)) }
+    ensures { IfOk result (λ n. name_of n
+        ≡ name_form (text_of bytes.now phrase.now.first, map (text_of bytes.now) phrase.now.brackets.items)) }
 {
     Ok(Name {
         first: spelling(alloc, bytes, &phrase.first)?,
@@ -43,7 +44,8 @@ pub fn name_of_phrase(alloc: Global, bytes: &[u8], phrase: &NamePhrase) -> Resul
 /// The tokens behind an arrow, where an implication takes it: one that no string stands behind.
 #[tactic(auto, unfolding(crate::specs::Grammar::arrow))]
 pub fn arrow<'a>(bytes: &[u8], tokens: &'a [Token]) -> Option<&'a [Token]>
-    ensures { option_map (λ rest. spec_tokens bytes.now rest.now) result ≡ arrow (spec_tokens bytes.now tokens.now) }
+    ensures { option_map (λ rest. spec_tokens bytes.now rest.now) result
+        ≡ arrow (spec_tokens bytes.now tokens.now) }
 {
     let rest = after(bytes, tokens, b"->")?;
     if begins_string(bytes, rest) {
@@ -53,8 +55,8 @@ pub fn arrow<'a>(bytes: &[u8], tokens: &'a [Token]) -> Option<&'a [Token]>
     }
 }
 
-/// Behind a formula that no continuation follows: the tokens from the first one on that can't stand there. That is the
-/// string behind an arrow, since the arrow alone could go on.
+/// Behind a formula that no continuation follows: the tokens from the first one on that can't stand there.
+/// That is the string behind an arrow, since the arrow alone could go on.
 pub fn behind_arrow<'a>(bytes: &[u8], tokens: &'a [Token]) -> &'a [Token] {
     match after(bytes, tokens, b"->") {
         Some(rest) if begins_string(bytes, rest) => rest,

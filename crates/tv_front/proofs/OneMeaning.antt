@@ -4,8 +4,8 @@ use Rattle.tv_lex.specs.Token.{SpecToken, spec_tokens}
 use Rattle.tv_lex.specs.Pieces.{Reads}
 use Rattle.tv_lex.specs.declared.token.Token.{Token}
 use Rattle.tv_lex.specs.declared.token.LexError.{LexError}
-use Rattle.tv_parse.specs.declared.error.ParseError.{ParseError}
-use Rattle.tv_parse.specs.declared.error.ParseError.TheVariants as parsing
+use Rattle.tv_phrases.specs.declared.error.SyntaxError.{SyntaxError}
+use Rattle.tv_phrases.specs.declared.error.SyntaxError.TheVariants as parsing
 use Rattle.tv_parse.specs.Height.{IsTooDeep}
 use Rattle.tv_parse.specs.Grammar.{IsProgram}
 use Rattle.tv_tree.specs.Forms.{ProgramForm as TreeForm}
@@ -15,55 +15,42 @@ use Rattle.tv_expand.specs.declared.error.ExpandError.{ExpandError}
 use Rattle.tv_model.specs.Program.{ProgramForm}
 use Rattle.tv_names.specs.declared.refusal.ResolveError.{ResolveError}
 use Rattle.tv_vocab.specs.Resolution.{program}
-use Rattle.tv_front.specs.Meaning.{HasTokens, HasTree, HasFlatForm, Means, IsRefusedParsing, IsRefusedExpansion, IsRefusedResolution, IsRefused}
+use Rattle.tv_front.specs.Meaning.{HasTokens, HasTree, HasFlatForm, Means, IsRefusedParsing}
+use Rattle.tv_front.specs.Meaning.{IsRefusedExpansion, IsRefusedResolution, IsRefused}
 use Rattle.tv_front.specs.declared.fault.ProgramFault.{ProgramFault}
 use Rattle.tv_front.specs.declared.fault.ProgramFault.TheVariants.{Lexing, Parsing, Expansion, Resolution}
-
-given : {A E : Type 0} → A → Result A E → A
-given a (Ok x) = x
-given a (Err e) = a
-
-abbrev IsGiven : {A E : Type 0} → Result A E → Type 0
-IsGiven (Ok x) = Unit {0}
-IsGiven (Err e) = ⊥
-
-same_given : {A E : Type 0} (x y : A) → (let r : Result A E = Ok x in r) ≡ Ok y → x ≡ y
-unfolding given
-same_given x y h = ap (given x) h
-
-pub not_refused : {A E : Type 0} (x : A) (e : E) → (let r : Result A E = Ok x in r) ≡ Err e → ⊥
-not_refused x e h = subst IsGiven h tt
+use Rattle.tv_lemmas.proofs.Options.{same_Ok, Ok-Err}
 
 module _
     (reading : (text : List ℕ) (a b : Result (List Token) LexError) → Reads text a → Reads text b → a ≡ b)
     (tree : (ts : List SpecToken) (t u : TreeForm) → IsProgram ts t → IsProgram ts u → t ≡ u)
   where
     pub one_tokens : (text : List ℕ) (ts us : List SpecToken) → HasTokens text ts → HasTokens text us → ts ≡ us
-    one_tokens text ts us (a, is, e) (b, are, d) = e ∙ ap (spec_tokens text) (same_given a b (reading text (Ok a) (Ok b) is are)) ∙ sym d
+    one_tokens text ts us (a, is, e) (b, are, d) = e ∙ ap (spec_tokens text) (same_Ok a b (reading text (Ok a) (Ok b) is are)) ∙ sym d
 
     pub one_tree : (text : List ℕ) (t u : TreeForm) → HasTree text t → HasTree text u → t ≡ u
     one_tree text t u (ts, has, low, is) (us, have, flat, are) =
         tree ts t u is (subst (λ xs. IsProgram xs u) (one_tokens text us ts have has) are)
 
     pub one_flat_form : (text : List ℕ) (f g : FlatForm) → HasFlatForm text f → HasFlatForm text g → f ≡ g
-    one_flat_form text f g (t, is, e) (u, are, d) = same_given f g (sym e ∙ ap expansion (one_tree text t u is are) ∙ d)
+    one_flat_form text f g (t, is, e) (u, are, d) = same_Ok f g (sym e ∙ ap expansion (one_tree text t u is are) ∙ d)
 
     pub one_program : (text : List ℕ) (p q : ProgramForm) → Means text p → Means text q → p ≡ q
-    one_program text p q (f, is, e) (g, are, d) = same_given p q (sym e ∙ ap program (one_flat_form text f g is are) ∙ d)
+    one_program text p q (f, is, e) (g, are, d) = same_Ok p q (sym e ∙ ap program (one_flat_form text f g is are) ∙ d)
 
     has_tokens : (text : List ℕ) (p : ProgramForm) → Means text p → (ts : List SpecToken) × HasTokens text ts × (¬ IsTooDeep ts) × ((t : TreeForm) × IsProgram ts t)
     has_tokens text p (f, (t, (ts, has, low, is), e), d) = (ts, has, low, (t, is))
 
     lexing_unrefused : (text : List ℕ) (p : ProgramForm) (e : LexError) → Means text p → Reads text (Err e) → ⊥
-    lexing_unrefused text p e (f, (t, (ts, (a, is, c), low, has), d), b) h = not_refused a e (reading text (Ok a) (Err e) is h)
+    lexing_unrefused text p e (f, (t, (ts, (a, is, c), low, has), d), b) h = Ok-Err a e (reading text (Ok a) (Err e) is h)
 
     expansion_unrefused : (text : List ℕ) (p : ProgramForm) (e : ExpandError) → Means text p → IsRefusedExpansion text e → ⊥
-    expansion_unrefused text p e (f, (t, is, d), c) (u, are, h) = not_refused f e (sym d ∙ ap expansion (one_tree text t u is are) ∙ h)
+    expansion_unrefused text p e (f, (t, is, d), c) (u, are, h) = Ok-Err f e (sym d ∙ ap expansion (one_tree text t u is are) ∙ h)
 
     resolution_unrefused : (text : List ℕ) (p : ProgramForm) (e : ResolveError) → Means text p → IsRefusedResolution text e → ⊥
-    resolution_unrefused text p e (f, is, d) (g, are, h) = not_refused p e (sym d ∙ ap program (one_flat_form text f g is are) ∙ h)
+    resolution_unrefused text p e (f, is, d) (g, are, h) = Ok-Err p e (sym d ∙ ap program (one_flat_form text f g is are) ∙ h)
 
-    parsing_unrefused : (text : List ℕ) (p : ProgramForm) (e : ParseError) → Means text p → IsRefusedParsing text e → ⊥
+    parsing_unrefused : (text : List ℕ) (p : ProgramForm) (e : SyntaxError) → Means text p → IsRefusedParsing text e → ⊥
     parsing_unrefused text p parsing.TooDeep m (us, have, deep) =
         let h = has_tokens text p m in h.2 (subst IsTooDeep (one_tokens text us h.0 have h.1) deep)
     parsing_unrefused text p (parsing.Syntax place) m (us, have, low, none) =

@@ -1,40 +1,42 @@
 -- What each stage gives or refuses, as a fact about the text.
 use Rattle.std.proofs.Common.{◌≡◌, ℕ, Bool, true, false, List, Ok, refl}
 use Rattle.tv_lex.specs.Token.{spec_tokens}
+use Rattle.tv_lex.specs.Places.{StopsAtToken}
 use Rattle.tv_lex.specs.Pieces.{Reads, Cause as LexCause}
 use Rattle.tv_lex.specs.declared.token.Token.{Token}
 use Rattle.tv_lex.specs.declared.token.LexError.{LexError}
 use Rattle.tv_lex.specs.declared.token.LexError.TheVariants as lexing
 use Rattle.tv_parse.specs.Height.{IsTooDeep}
 use Rattle.tv_parse.specs.Grammar.{IsProgram}
-use Rattle.tv_parse.specs.Outcome.{Cause as ParseCause, StopsAtToken as ParseStopsAtToken}
-use Rattle.tv_parse.specs.declared.error.ParseError.{ParseError}
-use Rattle.tv_parse.specs.declared.error.ParseError.TheVariants as parsing
+use Rattle.tv_phrases.specs.Refused.{HaveNoTree, syntax_place}
+use Rattle.tv_parse.specs.Grammar.{IsProgram}
+use Rattle.tv_phrases.specs.declared.error.SyntaxError.{SyntaxError}
+use Rattle.tv_phrases.specs.declared.error.SyntaxError.TheVariants as parsing
 use Rattle.tv_tree.specs.Forms.{ProgramForm as TreeForm}
 use Rattle.tv_flat.specs.FlatForm.{FlatForm}
 use Rattle.tv_expand.specs.Expansion.{expansion}
 use Rattle.tv_tree.specs.Steps.{Unless}
-use Rattle.tv_expand.specs.Outcome.{Fails, is_memory as expansion_memory}
+use Rattle.tv_expand.specs.Outcome.{FailsExpansion, is_memory as expansion_memory}
 use Rattle.tv_expand.specs.declared.error.ExpandError.{ExpandError}
 use Rattle.tv_model.specs.Program.{ProgramForm}
 use Rattle.tv_names.specs.Refusal.{Refuses, is_memory as resolution_memory}
 use Rattle.tv_names.specs.declared.refusal.ResolveError.{ResolveError}
 use Rattle.tv_vocab.specs.Resolution.{program}
-use Rattle.tv_front.specs.Meaning.{HasTree, HasFlatForm, Means, IsCause, StopsAtToken}
+use Rattle.tv_front.specs.Meaning.{HasTree, HasFlatForm, Means, IsProgramCause, StopsInText}
 use Rattle.tv_front.specs.declared.fault.ProgramFault.TheVariants.{Lexing, Parsing, Expansion, Resolution}
 
-pub lexing_refused : (text : List ℕ) (e : LexError) → LexCause text e → IsCause text (Lexing e)
+pub lexing_refused : (text : List ℕ) (e : LexError) → LexCause text e → IsProgramCause text (Lexing e)
 lexing_refused text lexing.BadByte h = h
 lexing_refused text lexing.Unended h = h
 lexing_refused text lexing.Memory h = tt
 
-pub parsing_refused : (text : List ℕ) (tokens : List Token) (e : ParseError) → Reads text (Ok tokens) → ParseCause (spec_tokens text tokens) e → IsCause text (Parsing e)
+pub parsing_refused : (text : List ℕ) (tokens : List Token) (e : SyntaxError) → Reads text (Ok tokens) → HaveNoTree IsTooDeep IsProgram (spec_tokens text tokens) e → IsProgramCause text (Parsing e)
 parsing_refused text tokens (parsing.Syntax place) reads h = (spec_tokens text tokens, (tokens, reads, refl), h.0, h.1)
 parsing_refused text tokens parsing.TooDeep reads h = (spec_tokens text tokens, (tokens, reads, refl), h)
 parsing_refused text tokens parsing.Memory reads h = tt
 
-pub parsing_stopped : (text : List ℕ) (tokens : List Token) (e : ParseError) → Reads text (Ok tokens) → ParseStopsAtToken text tokens e
-    → StopsAtToken text (Parsing e)
+pub parsing_stopped : (text : List ℕ) (tokens : List Token) (e : SyntaxError) → Reads text (Ok tokens) → StopsAtToken syntax_place text tokens e
+    → StopsInText text (Parsing e)
 parsing_stopped text tokens (parsing.Syntax place) reads h = (tokens, reads, h)
 parsing_stopped text tokens parsing.TooDeep reads h = tt
 parsing_stopped text tokens parsing.Memory reads h = tt
@@ -46,10 +48,10 @@ unless : {P Q : Type 0} (memory : Bool) → (P → Q) → Unless memory P → Un
 unless true f h = tt
 unless false f h = f h
 
-pub expansion_refused : (text : List ℕ) (t : TreeForm) (e : ExpandError) → HasTree text t → Fails e (expansion t) → IsCause text (Expansion e)
+pub expansion_refused : (text : List ℕ) (t : TreeForm) (e : ExpandError) → HasTree text t → FailsExpansion e (expansion t) → IsProgramCause text (Expansion e)
 expansion_refused text t e has h = unless (expansion_memory e) (λ is. (t, has, is)) h
 
-pub resolution_refused : (text : List ℕ) (f : FlatForm) (e : ResolveError) → HasFlatForm text f → Refuses e (program f) → IsCause text (Resolution e)
+pub resolution_refused : (text : List ℕ) (f : FlatForm) (e : ResolveError) → HasFlatForm text f → Refuses e (program f) → IsProgramCause text (Resolution e)
 resolution_refused text f e has h = unless (resolution_memory e) (λ is. (f, has, is)) h
 
 pub flat_form_given : (text : List ℕ) (t : TreeForm) (f : FlatForm) → HasTree text t → expansion t ≡ Ok f → HasFlatForm text f

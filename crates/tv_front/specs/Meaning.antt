@@ -1,7 +1,7 @@
--- What the text of a program means. It is cut into tokens; these are the tokens of a tree; the tree has a flat form, in which
--- sets, foreach and parameters are put in; and the flat form says a program, in which names are numbers. The first of these
--- steps that can't be taken refuses the text.
-use Rattle.std.specs.Prelude.{◌≡◌, ℕ, Bool, true, false, List, Ok, Err}
+-- What the text of a program means. It is cut into tokens; these are the tokens of a tree; the tree has a
+-- flat form, in which sets, foreach and parameters are put in; and the flat form says a program, in which
+-- names are numbers. The first of these steps that can't be taken refuses the text.
+use Rattle.std.specs.Prelude.{◌≡◌, ℕ, Bool, true, false, List, Option, Some, None, Ok, Err, IfSome}
 use Rattle.tv_tree.specs.Steps.{Unless}
 use Rattle.tv_expand.specs.Outcome.{is_memory as expansion_memory}
 use Rattle.tv_names.specs.Refusal.{is_memory as resolution_memory}
@@ -12,8 +12,9 @@ use Rattle.tv_lex.specs.declared.token.Token.{Token}
 use Rattle.tv_lex.specs.declared.token.Place.{Place}
 use Rattle.tv_lex.specs.declared.token.LexError.{LexError}
 use Rattle.tv_lex.specs.declared.token.LexError.TheVariants as lexing
-use Rattle.tv_parse.specs.declared.error.ParseError.{ParseError}
-use Rattle.tv_parse.specs.declared.error.ParseError.TheVariants as parsing
+use Rattle.tv_phrases.specs.declared.error.SyntaxError.{SyntaxError}
+use Rattle.tv_phrases.specs.declared.error.SyntaxError.TheVariants as parsing
+use Rattle.tv_phrases.specs.Refused.{syntax_place}
 use Rattle.tv_parse.specs.Height.{IsTooDeep}
 use Rattle.tv_parse.specs.Grammar.{IsProgram}
 use Rattle.tv_tree.specs.Forms.{ProgramForm as TreeForm}
@@ -42,11 +43,12 @@ HasFlatForm text f = (t : TreeForm) × HasTree text t × (expansion t ≡ Ok f)
 abbrev pub Means : List ℕ → ProgramForm → Type 0
 Means text p = (f : FlatForm) × HasFlatForm text f × (program f ≡ Ok p)
 
--- The text has tokens, and they have no tree for this: over 200 constructs are open at one place, else they are those of no
--- program.
-abbrev pub IsRefusedParsing : List ℕ → ParseError → Type 0
+-- The text has tokens, and they have no tree for this: over 200 constructs are open at one place, else they
+-- are those of no program.
+abbrev pub IsRefusedParsing : List ℕ → SyntaxError → Type 0
 IsRefusedParsing text parsing.TooDeep = (ts : List SpecToken) × HasTokens text ts × IsTooDeep ts
-IsRefusedParsing text (parsing.Syntax place) = (ts : List SpecToken) × HasTokens text ts × (¬ IsTooDeep ts) × ((t : TreeForm) → ¬ IsProgram ts t)
+IsRefusedParsing text (parsing.Syntax place) =
+    (ts : List SpecToken) × HasTokens text ts × (¬ IsTooDeep ts) × ((t : TreeForm) → ¬ IsProgram ts t)
 IsRefusedParsing text parsing.Memory = ⊥
 
 -- the text has a tree, and its expansion is refused for this
@@ -61,7 +63,7 @@ abbrev pub is_memory_of_lexing : LexError → Bool
 is_memory_of_lexing lexing.Memory = true
 is_memory_of_lexing e = false
 
-abbrev pub is_memory_of_parsing : ParseError → Bool
+abbrev pub is_memory_of_parsing : SyntaxError → Bool
 is_memory_of_parsing parsing.Memory = true
 is_memory_of_parsing e = false
 
@@ -80,29 +82,28 @@ is_memory (Expansion e) = expansion_memory e
 is_memory (Resolution e) = resolution_memory e
 
 -- why a call gives no program: the text is refused for this, or memory ran out
-abbrev pub IsCause : List ℕ → ProgramFault → Type 0
-IsCause text fault = Unless (is_memory fault) (IsRefused text fault)
+abbrev pub IsProgramCause : List ℕ → ProgramFault → Type 0
+IsProgramCause text fault = Unless (is_memory fault) (IsRefused text fault)
 
 abbrev pub start_of_text : Place
 start_of_text = record { line = 1; column = 1 }
 
-abbrev pub at_start : ParseError → ParseError
+abbrev pub at_start : SyntaxError → SyntaxError
 at_start (parsing.Syntax place) = parsing.Syntax start_of_text
-at_start parsing.TooDeep = parsing.TooDeep
-at_start parsing.Memory = parsing.Memory
+at_start other = other
 
 -- the refusal, wherever it stands
 abbrev pub without_place : ProgramFault → ProgramFault
-without_place (Lexing e) = Lexing e
 without_place (Parsing e) = Parsing (at_start e)
-without_place (Expansion e) = Expansion e
-without_place (Resolution e) = Resolution e
+without_place other = other
 
--- the place that a refusal carries is that of the start of one of the text's tokens, or of the end of the text
-abbrev pub StopsAtToken : List ℕ → ProgramFault → Type 0
-StopsAtToken text (Lexing e) = Unit {0}
-StopsAtToken text (Parsing parsing.TooDeep) = Unit {0}
-StopsAtToken text (Parsing (parsing.Syntax place)) = (tokens : List Token) × Reads text (Ok tokens) × IsTokenPlace text tokens place
-StopsAtToken text (Parsing parsing.Memory) = Unit {0}
-StopsAtToken text (Expansion e) = Unit {0}
-StopsAtToken text (Resolution e) = Unit {0}
+-- the place that the refusal tells
+abbrev pub program_place : ProgramFault → Option Place
+program_place (Parsing e) = syntax_place e
+program_place other = None
+
+-- it is that of the start of one of the text's tokens, or of the end of the text
+abbrev pub StopsInText : List ℕ → ProgramFault → Type 0
+StopsInText text fault =
+    IfSome (program_place fault)
+    (λ place. (tokens : List Token) × Reads text (Ok tokens) × IsTokenPlace text tokens place)

@@ -1,16 +1,17 @@
 //! Why a text means no program.
 
 ghost use Rattle.std.specs.Prelude.{◌≡◌};
-ghost use Rattle.tv_front.specs.declared.fault.ProgramFault.TheVariants.{Lexing, Parsing, Expansion, Resolution};
+ghost use Rattle.tv_front.specs.declared.fault.ProgramFault.TheVariants.{Lexing, Parsing, Expansion};
+ghost use Rattle.tv_front.specs.declared.fault.ProgramFault.TheVariants.{Resolution};
 
 use thiserror::Error;
 use tv_expand::ExpandError;
 use tv_lex::LexError;
 use tv_names::ResolveError;
-use tv_parse::ParseError;
+use tv_phrases::SyntaxError;
 
-/// Why a text means no program: the refusal of the first stage that refuses it, in the order of lexing, parsing,
-/// expansion and resolution. Any of them may run out of memory.
+/// Why a text means no program: the refusal of the first stage that refuses it, in the order of lexing,
+/// parsing, expansion and resolution. Any of them may run out of memory.
 #[derive(Clone, Copy, Debug, PartialEq, Eq, Error)]
 pub enum ProgramFault {
     /// The bytes make no tokens.
@@ -18,7 +19,7 @@ pub enum ProgramFault {
     Lexing(LexError),
     /// The tokens are those of no program, or over 200 constructs are open at one place.
     #[error("the tokens make no tree: {0:?}")]
-    Parsing(ParseError),
+    Parsing(SyntaxError),
     /// The tree has no flat form.
     #[error("{0}")]
     Expansion(ExpandError),
@@ -35,10 +36,10 @@ impl From<LexError> for ProgramFault {
     }
 }
 
-impl From<ParseError> for ProgramFault {
+impl From<SyntaxError> for ProgramFault {
     ghost from_gives = { λ e fault. fault ≡ Parsing e };
 
-    fn from(e: ParseError) -> ProgramFault {
+    fn from(e: SyntaxError) -> ProgramFault {
         ProgramFault::Parsing(e)
     }
 }

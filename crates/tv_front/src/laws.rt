@@ -11,7 +11,8 @@ use tv_parse::one_tree;
 /// A text means one program at most, and none where it is refused.
 pub fn one_meaning()
     ensures one { (text : List ℕ) (p q : ProgramForm) → Means text p → Means text q → p ≡ q }
-    ensures unrefused { (text : List ℕ) (p : ProgramForm) (fault : ProgramFault) → Means text p → ¬ IsRefused text fault }
+    ensures unrefused { (text : List ℕ) (p : ProgramForm) (fault : ProgramFault) → Means text p
+        → ¬ IsRefused text fault }
 {
     one_reading();
     one_tree();
@@ -19,7 +20,8 @@ pub fn one_meaning()
 
 /// A text is refused for one reason, its place aside.
 pub fn one_refusal()
-    ensures { (text : List ℕ) (d e : ProgramFault) → IsRefused text d → IsRefused text e → without_place d ≡ without_place e }
+    ensures { (text : List ℕ) (d e : ProgramFault) → IsRefused text d → IsRefused text e
+        → without_place d ≡ without_place e }
 {
     one_reading();
     one_tree();

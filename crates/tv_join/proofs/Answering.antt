@@ -1,8 +1,10 @@
 -- The last round is closed, and its messages are reported.
-use Rattle.std.proofs.Common.{ℕ, ◌≡◌, ◌≢◌, ◌<◌, ◌≤◌, ◌+◌, ◌⊎◌, zero, suc, Some, inl, inr, List, [], ◌∷◌, length, get_or, take, refl, sym, ap, subst, ◌∙◌, arith}
+use Rattle.std.proofs.Common.{ℕ, ◌≡◌, ◌≢◌, ◌<◌, ◌≤◌, ◌+◌, ◌⊎◌, zero, suc, Some, inl, inr, List, [], ◌∷◌}
+use Rattle.std.proofs.Common.{length, get_or, take, refl, sym, ap, subst, ◌∙◌, arith}
 use Rattle.std.specs.Prelude.{All, Contains, slice_get}
 use Rattle.std.proofs.lemmas.Bool.{cases_lt}
-use Rattle.std.proofs.lemmas.List.{get_or_default, get_or-take, length-map, length-take-le, take_all, take_more}
+use Rattle.std.proofs.lemmas.List.{get_or_default, get_or-take, length-map, length-take-le, take_all}
+use Rattle.std.proofs.lemmas.List.{take_more}
 use Rattle.std.proofs.lemmas.List.Elements.{All-contains, Contains-get_or}
 use Rattle.std.proofs.lemmas.Option.{slice_get-get_or, same_Some}
 use Rattle.tv_kleene.specs.declared.K3.{K3}
@@ -16,10 +18,10 @@ use Rattle.tv_model.proofs.Lists.{All-from_contains}
 use Rattle.tv_listing.specs.ListingForm.{AreSorted, HasEqual, at_node}
 use Rattle.tv_listing.specs.declared.analysis.MessageLine.{MessageLine}
 use Rattle.tv_struct.specs.StructureForm.{StructureForm, IsStructure, IsOver}
-use Rattle.tv_transfer.specs.Closed.{IsClosed, IsCovered, IsOpened, IsFollowed as IsFollowedBy, CoversRuns}
-use Rattle.tv_transfer.proofs.Runs.{closed_listings_cover_runs}
-use Rattle.tv_keys.specs.Members.{MembersForm}
-use Rattle.tv_keys.proofs.Indexing.{at-contains}
+use Rattle.tv_step_laws.specs.Closed.{IsClosed, IsCovered, IsOpened, IsFollowed as IsFollowedBy, CoversRuns}
+use Rattle.tv_step_laws.proofs.Runs.{closed_listings_cover_runs}
+use Rattle.tv_join.specs.Members.{MembersForm}
+use Rattle.tv_join.proofs.Indexing.{at-contains}
 use Rattle.tv_work.specs.Analysed.{IsSaid, KeepAllBudgets}
 use Rattle.tv_work.specs.Reach.{Point, IsListed}
 use Rattle.tv_work.specs.Search.{IsOnce}

@@ -1,7 +1,9 @@
 -- Structures are opened and followed.
-use Rattle.std.proofs.Common.{ℕ, ◌≡◌, ◌<◌, ◌⊎◌, inl, inr, List, [], ◌∷◌, ◌++◌, length, get_or, None, Some, refl, sym, ap, subst, ◌∙◌, arith}
+use Rattle.std.proofs.Common.{ℕ, ◌≡◌, ◌<◌, ◌⊎◌, inl, inr, List, [], ◌∷◌, ◌++◌, length, get_or, None, Some}
+use Rattle.std.proofs.Common.{refl, sym, ap, subst, ◌∙◌, arith}
 use Rattle.std.specs.Prelude.{All, Any, Contains, slice_get}
-use Rattle.std.proofs.lemmas.List.Elements.{All-contains, All-push, Contains-append_left, Contains-push, Contains-push_cases}
+use Rattle.std.proofs.lemmas.List.Elements.{All-contains, All-push, Contains-append_left, Contains-push}
+use Rattle.std.proofs.lemmas.List.Elements.{Contains-push_cases}
 use Rattle.std.proofs.lemmas.Option.{none-some, same_Some, get_or_from_slice_get}
 use Rattle.tv_kleene.specs.declared.K3.{K3}
 use Rattle.tv_model.specs.declared.program.Edge.{Edge}
@@ -10,22 +12,26 @@ use Rattle.tv_model.specs.Valid.{IsValid, IsEdge}
 use Rattle.tv_model.proofs.Lists.{Contains-none, slice_get-contains}
 use Rattle.tv_struct.specs.StructureForm.{StructureForm}
 use Rattle.tv_struct.specs.declared.analysis.StageError.{StageError}
-use Rattle.tv_struct.specs.declared.analysis.StageError.TheVariants.{Splits as splits, Individuals as individuals, Memory as memory}
-use Rattle.tv_transfer.specs.Budgets.{IsStepCause, KeepsBudgets}
-use Rattle.tv_transfer.specs.Settled.{IsSettled}
-use Rattle.tv_transfer.specs.Transfer.{AreMessageValues, AreResults, IsOpening}
-use Rattle.tv_keys.specs.Members.{MembersForm}
-use Rattle.tv_keys.proofs.Indexing.{at-contains}
+use Rattle.tv_struct.specs.declared.analysis.StageError.TheVariants.{Splits as splits}
+use Rattle.tv_struct.specs.declared.analysis.StageError.TheVariants.{Individuals as individuals}
+use Rattle.tv_struct.specs.declared.analysis.StageError.TheVariants.{Memory as memory}
+use Rattle.tv_step_laws.specs.Budgets.{IsStepCause, KeepsBudgets}
+use Rattle.tv_step_laws.specs.Settled.{IsSettled}
+use Rattle.tv_step_laws.specs.Transfer.{AreMessageValues, AreResults, IsOpening}
+use Rattle.tv_join.specs.Members.{MembersForm}
+use Rattle.tv_join.proofs.Indexing.{at-contains}
 use Rattle.tv_work.specs.Analysed.{IsAtSource}
 use Rattle.tv_work.specs.Leaving.{LeavesBy}
 use Rattle.tv_work.specs.Reach.{Point, IsStartPoint}
 use Rattle.tv_work.specs.Task.{TaskForm}
 use Rattle.tv_join.specs.Flags.{IsPlain}
 use Rattle.tv_join.specs.Joined.{join_error}
-use Rattle.tv_join.specs.Places.{place_of}
+use Rattle.tv_join.specs.Places.{member_place}
 use Rattle.tv_join.specs.Rounds.{point}
-use Rattle.tv_join.specs.State.{IsIn, IsFound, StandsAt, members_at}
-use Rattle.tv_join.specs.Stepped.{AreFollowed, AreOpenings, AreResultsOf, ChangesFrom, Finds, FindsOpening, GatheredForm, Gathers, IsFollowCause, IsFollowedAlong, IsFollowedAt, IsFollowedFrom, IsOpenable, IsOpeningPoint, IsResultOf}
+use Rattle.tv_join.specs.State.{IsIn, IsAmongFound, StandsAt, members_at}
+use Rattle.tv_join.specs.Stepped.{AreFollowed, AreOpenings, AreResultsOf, ChangesFrom, Finds, FindsOpening}
+use Rattle.tv_join.specs.Stepped.{GatheredForm, Gathers, IsFollowCause, IsFollowedAlong, IsFollowedAt}
+use Rattle.tv_join.specs.Stepped.{IsFollowedFrom, IsOpenable, IsOpeningPoint, IsResultOf}
 use Rattle.tv_join.specs.Values.{values_at, ChangesAlong}
 use Rattle.tv_join.specs.declared.joins.Found.{Found}
 use Rattle.tv_join.specs.declared.places.Place.{Place}
@@ -61,21 +67,21 @@ finds-next node structures s old middle new finds e =
     f : Found
     f = record { node = node; structure = s }
 
-    keeps : (x : Point) → IsFound middle x → IsFound (middle ++ f ∷ []) x
+    keeps : (x : Point) → IsAmongFound middle x → IsAmongFound (middle ++ f ∷ []) x
     keeps x has = Contains-append_left middle (f ∷ []) (record { node = x.node; structure = x.structure }) has
 
-    all : (x : Point) → x.node ≡ node → Contains structures x.structure ⊎ (s ≡ x.structure) → IsFound (middle ++ f ∷ []) x
+    all : (x : Point) → x.node ≡ node → Contains structures x.structure ⊎ (s ≡ x.structure) → IsAmongFound (middle ++ f ∷ []) x
     all x at (inl has) = keeps x (finds.all x (at, has))
     all x at (inr same) =
         subst (Contains (middle ++ f ∷ [])) (same-found f x (sym at) same) (Contains-push middle f)
 
     only : (x : Point) → Contains middle (record { node = x.node; structure = x.structure })
         ⊎ (f ≡ record { node = x.node; structure = x.structure })
-        → IsFound old x ⊎ ((x.node ≡ node) × Contains (structures ++ s ∷ []) x.structure)
+        → IsAmongFound old x ⊎ ((x.node ≡ node) × Contains (structures ++ s ∷ []) x.structure)
     only x (inl has) = by (finds.only x has)
       where
-        by : IsFound old x ⊎ ((x.node ≡ node) × Contains structures x.structure)
-            → IsFound old x ⊎ ((x.node ≡ node) × Contains (structures ++ s ∷ []) x.structure)
+        by : IsAmongFound old x ⊎ ((x.node ≡ node) × Contains structures x.structure)
+            → IsAmongFound old x ⊎ ((x.node ≡ node) × Contains (structures ++ s ∷ []) x.structure)
         by (inl before) = inl before
         by (inr (at, has)) = inr (at, Contains-append_left structures (s ∷ []) x.structure has)
     only x (inr same) =
@@ -115,7 +121,7 @@ open-some t s u found new opening settled only e =
     f = record { node = 0; structure = u }
 
     by : (x : Point) → Contains found (record { node = x.node; structure = x.structure })
-        ⊎ (f ≡ record { node = x.node; structure = x.structure }) → IsFound found x ⊎ IsOpeningPoint t s x
+        ⊎ (f ≡ record { node = x.node; structure = x.structure }) → IsAmongFound found x ⊎ IsOpeningPoint t s x
     by x (inl has) = inl has
     by x (inr same) =
         let structure : u ≡ x.structure = ap (λ (g : Found). g.structure) same
@@ -144,19 +150,19 @@ openings-more t structures s found new are openable finds = record {
   only = λ x has. only x (finds.only x has);
 }
   where
-    all : (x : Point) → IsStartPoint t.program (structures ++ s ∷ []) x → IsFound new x
+    all : (x : Point) → IsStartPoint t.program (structures ++ s ∷ []) x → IsAmongFound new x
     all x start = by start.opens
       where
-        by : Any (λ r. IsOpening t.program r x.structure) (structures ++ s ∷ []) → IsFound new x
+        by : Any (λ r. IsOpening t.program r x.structure) (structures ++ s ∷ []) → IsAmongFound new x
         by (k, r, lt, at, opening) = cases (Contains-push_cases structures s r (k, lt, at))
           where
-            cases : Contains structures r ⊎ (s ≡ r) → IsFound new x
+            cases : Contains structures r ⊎ (s ≡ r) → IsAmongFound new x
             cases (inl has) =
                 finds.kept x (are.all x (record { node = start.node; opens = (has.0, r, has.1, has.2, opening) }))
             cases (inr same) =
                 finds.all x start.node (subst (λ q. IsOpening t.program q x.structure) (sym same) opening)
 
-    only : (x : Point) → IsFound found x ⊎ IsOpeningPoint t s x
+    only : (x : Point) → IsAmongFound found x ⊎ IsOpeningPoint t s x
         → IsStartPoint t.program (structures ++ s ∷ []) x × IsSettled t.program x.structure
     only x (inl has) =
         let before = are.only x has
@@ -196,7 +202,7 @@ gathers-on t nodes a b c first second = record {
   only = λ x has. by x (second.only x has);
 }
   where
-    by : (x : Point) → IsFound b x ⊎ IsResultOf t nodes x → IsFound a x ⊎ IsResultOf t nodes x
+    by : (x : Point) → IsAmongFound b x ⊎ IsResultOf t nodes x → IsAmongFound a x ⊎ IsResultOf t nodes x
     by x (inl has) = first.only x has
     by x (inr is) = inr is
 
@@ -228,7 +234,7 @@ stands-in nodes w s stands =
 
 -- and each that is listed stands at some place
 pub in-stands : (nodes : List MembersForm) (node : ℕ) (s : StructureForm) → IsIn nodes (point node s)
-    → (at : ℕ) × StandsAt nodes (place_of node at) s
+    → (at : ℕ) × StandsAt nodes (member_place node at) s
 in-stands nodes node s has =
     at-contains (members_at nodes node).structures s (subst (λ xs. Contains xs s) (listing-at nodes node) has)
 
@@ -248,8 +254,8 @@ module _ (t : TaskForm) (valid : IsValid t.program) (nodes : List MembersForm) (
   pub follow-gathers : Gathers t nodes found new
   follow-gathers = record { kept = finds.kept; only = λ x is. by x (finds.only x is) }
     where
-      by : (x : Point) → IsFound found x ⊎ ((x.node ≡ to) × Contains results x.structure)
-          → IsFound found x ⊎ IsResultOf t nodes x
+      by : (x : Point) → IsAmongFound found x ⊎ ((x.node ≡ to) × Contains results x.structure)
+          → IsAmongFound found x ⊎ IsResultOf t nodes x
       by x (inl before) = inl before
       by x (inr (node, is)) =
           inr (
@@ -276,11 +282,11 @@ module _ (t : TaskForm) (valid : IsValid t.program) (nodes : List MembersForm) (
           )
 
   pub follow-along : (values : List (List (List K3))) → AreMessageValues t.program edge s (values_at values edge w.at)
-      → KeepsBudgets t.program edge s → IsFollowedAlong t nodes (IsFound new) values w edge
+      → KeepsBudgets t.program edge s → IsFollowedAlong t nodes (IsAmongFound new) values w edge
   follow-along values are_values budgets other at r stands_r =
       let same : leaves.0 ≡ other = same_Some leaves.0 other (sym leaves.1 ∙ at)
       in let one : s ≡ r = same_Some s r (sym stands ∙ stands_r)
-      in subst (IsFollowedAt t (IsFound new) values edge other w.at) one (record {
+      in subst (IsFollowedAt t (IsAmongFound new) values edge other w.at) one (record {
         results = results;
         are_results = are;
         covered = λ u is. finds.all (point other.to u) (sym (enters ∙ ap (λ (e : Edge). e.to) same), is);
@@ -327,14 +333,14 @@ aside-more edges edge at old middle new before changes = record {
 module _ (t : TaskForm) (nodes : List MembersForm) (w : Place) (found new : List Found) (old values : List (List (List K3)))
     (gathers : Gathers t nodes found new) where
   -- what was followed along some edges still is
-  pub along-kept : (edge : ℕ) → ChangesAlong edge w.at old values → IsFollowedAlong t nodes (IsFound new) values w edge
-      → (e : ℕ) → IsFollowedAlong t nodes (IsFound found) old w e → IsFollowedAlong t nodes (IsFound new) values w e
+  pub along-kept : (edge : ℕ) → ChangesAlong edge w.at old values → IsFollowedAlong t nodes (IsAmongFound new) values w edge
+      → (e : ℕ) → IsFollowedAlong t nodes (IsAmongFound found) old w e → IsFollowedAlong t nodes (IsAmongFound new) values w e
   along-kept edge changes here e before = by (changes.others e w.at)
     where
       by : ((e ≡ edge) × (w.at ≡ w.at)) ⊎ (values_at values e w.at ≡ values_at old e w.at)
-          → IsFollowedAlong t nodes (IsFound new) values w e
-      by (inl (is, at)) = subst (IsFollowedAlong t nodes (IsFound new) values w) (sym is) here
-      by (inr same) = along-weaker t nodes (IsFound found) (IsFound new) old values gathers.kept w e same before
+          → IsFollowedAlong t nodes (IsAmongFound new) values w e
+      by (inl (is, at)) = subst (IsFollowedAlong t nodes (IsAmongFound new) values w) (sym is) here
+      by (inr same) = along-weaker t nodes (IsAmongFound found) (IsAmongFound new) old values gathers.kept w e same before
 
 -- in the end only values of edges from the place are changed, for it
 pub changes-from : (t : TaskForm) (edges : List ℕ) (w : Place) (old new : List (List (List K3)))
@@ -359,7 +365,7 @@ pub record AreFollowedBut (t : TaskForm) (nodes : List MembersForm) (places left
   pub among : (w : Place) → Contains left w → Contains places w
   pub count : length g.values ≡ length before
   pub only : AreResultsOf t nodes g.found
-  pub done : (w : Place) → Contains places w → Contains left w ⊎ IsFollowedFrom t nodes (IsFound g.found) g.values w
+  pub done : (w : Place) → Contains places w → Contains left w ⊎ IsFollowedFrom t nodes (IsAmongFound g.found) g.values w
   pub others : (w : Place) (edge : ℕ) → LeavesBy t.program.edges w.node edge
       → Contains places w ⊎ (values_at g.values edge w.at ≡ values_at before edge w.at)
 
@@ -376,7 +382,7 @@ but-all t nodes places values = record {
 pub but-next : (t : TaskForm) (nodes : List MembersForm) (places left : List Place) (w : Place) (old new : GatheredForm)
     (before : List (List (List K3))) → AreFollowedBut t nodes places (w ∷ left) old before
     → Gathers t nodes old.found new.found → length new.values ≡ length before → ChangesFrom t w old.values new.values
-    → IsFollowedFrom t nodes (IsFound new.found) new.values w → AreFollowedBut t nodes places left new before
+    → IsFollowedFrom t nodes (IsAmongFound new.found) new.values w → AreFollowedBut t nodes places left new before
 but-next t nodes places left w old new before are gathers count changes here = record {
   among = λ v has. are.among v (contains-behind w left v has);
   count = count;
@@ -385,28 +391,28 @@ but-next t nodes places left w old new before are gathers count changes here = r
   others = λ v edge leaves. others v edge (changes v edge leaves) (are.others v edge leaves);
 }
   where
-    only : (x : Point) → IsFound old.found x ⊎ IsResultOf t nodes x → IsResultOf t nodes x
+    only : (x : Point) → IsAmongFound old.found x ⊎ IsResultOf t nodes x → IsResultOf t nodes x
     only x (inl has) = are.only x has
     only x (inr is) = is
 
-    at-one : (v : Place) → w ≡ v → IsFollowedFrom t nodes (IsFound new.found) new.values v
-    at-one v e = subst (IsFollowedFrom t nodes (IsFound new.found) new.values) e here
+    at-one : (v : Place) → w ≡ v → IsFollowedFrom t nodes (IsAmongFound new.found) new.values v
+    at-one v e = subst (IsFollowedFrom t nodes (IsAmongFound new.found) new.values) e here
 
-    along : (v : Place) (edge : ℕ) → IsFollowedAlong t nodes (IsFound old.found) old.values v edge
+    along : (v : Place) (edge : ℕ) → IsFollowedAlong t nodes (IsAmongFound old.found) old.values v edge
         → LeavesBy t.program.edges v.node edge
         → (v ≡ w) ⊎ (values_at new.values edge v.at ≡ values_at old.values edge v.at)
-        → IsFollowedAlong t nodes (IsFound new.found) new.values v edge
+        → IsFollowedAlong t nodes (IsAmongFound new.found) new.values v edge
     along v edge followed leaves (inl e) = at-one v (sym e) edge leaves
     along v edge followed leaves (inr same) =
-        along-weaker t nodes (IsFound old.found) (IsFound new.found) old.values new.values gathers.kept v edge same followed
+        along-weaker t nodes (IsAmongFound old.found) (IsAmongFound new.found) old.values new.values gathers.kept v edge same followed
 
     rest : (v : Place) → (w ≡ v) ⊎ Contains left v
-        → Contains left v ⊎ IsFollowedFrom t nodes (IsFound new.found) new.values v
+        → Contains left v ⊎ IsFollowedFrom t nodes (IsAmongFound new.found) new.values v
     rest v (inl e) = inr (at-one v e)
     rest v (inr has) = inl has
 
-    done : (v : Place) → Contains (w ∷ left) v ⊎ IsFollowedFrom t nodes (IsFound old.found) old.values v
-        → Contains left v ⊎ IsFollowedFrom t nodes (IsFound new.found) new.values v
+    done : (v : Place) → Contains (w ∷ left) v ⊎ IsFollowedFrom t nodes (IsAmongFound old.found) old.values v
+        → Contains left v ⊎ IsFollowedFrom t nodes (IsAmongFound new.found) new.values v
     done v (inl has) = rest v (contains-cases w left v has)
     done v (inr followed) =
         inr (λ edge leaves. along v edge (followed edge leaves) leaves (changes v edge leaves))
@@ -427,7 +433,7 @@ but-none t nodes places left g before are none = record {
   others = are.others;
 }
   where
-    by : (w : Place) → Contains left w ⊎ IsFollowedFrom t nodes (IsFound g.found) g.values w
-        → IsFollowedFrom t nodes (IsFound g.found) g.values w
+    by : (w : Place) → Contains left w ⊎ IsFollowedFrom t nodes (IsAmongFound g.found) g.values w
+        → IsFollowedFrom t nodes (IsAmongFound g.found) g.values w
     by w (inl has) = absurd (Contains-none w (subst (λ ws. Contains ws w) none has))
     by w (inr followed) = followed

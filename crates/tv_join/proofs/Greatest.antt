@@ -1,5 +1,7 @@
 -- The values of messages that are kept are told.
-use Rattle.std.proofs.Common.{ℕ, ◌≡◌, ◌<◌, ◌≤◌, ◌+◌, ◌⊎◌, inl, inr, Bool, true, false, if◌then◌else◌, ◌==◌, List, [], ◌∷◌, length, get_or, replicate, Some, refl, sym, ap, subst, ◌∙◌, arith}
+use Rattle.std.proofs.Common.{ℕ, ◌≡◌, ◌<◌, ◌≤◌, ◌+◌, ◌⊎◌, inl, inr, Bool, true, false, if◌then◌else◌, ◌==◌}
+use Rattle.std.proofs.Common.{List, [], ◌∷◌, length, get_or, replicate, Some, refl, sym, ap, subst, ◌∙◌}
+use Rattle.std.proofs.Common.{arith}
 use Rattle.std.specs.Prelude.{slice_get}
 use Rattle.std.proofs.lemmas.Bool.{cases_lt}
 use Rattle.std.proofs.lemmas.List.{get_or_past, get_or-replicate, length-replicate}
@@ -11,8 +13,8 @@ use Rattle.tv_model.specs.declared.program.Edge.{Edge}
 use Rattle.tv_model.specs.Program.{ProgramForm}
 use Rattle.tv_model.specs.Valid.{IsValid}
 use Rattle.tv_struct.specs.StructureForm.{StructureForm}
-use Rattle.tv_transfer.specs.Transfer.{AreMessageValues}
-use Rattle.tv_keys.specs.Members.{MembersForm}
+use Rattle.tv_step_laws.specs.Transfer.{AreMessageValues}
+use Rattle.tv_join.specs.Members.{MembersForm}
 use Rattle.tv_work.specs.Analysed.{IsAtSource}
 use Rattle.tv_work.specs.Explored.{AreSaid}
 use Rattle.tv_work.specs.Reach.{Point}
@@ -20,7 +22,7 @@ use Rattle.tv_work.specs.Task.{TaskForm}
 use Rattle.tv_work.specs.Told.{told_value, IsNoted}
 use Rattle.tv_work.proofs.Larger.{larger-self, larger-trans}
 use Rattle.tv_work.proofs.Saying.{noted-rises, noted-tells, said-noted, values-few}
-use Rattle.tv_join.specs.Places.{place_of}
+use Rattle.tv_join.specs.Places.{member_place}
 use Rattle.tv_join.specs.Rounds.{point}
 use Rattle.tv_join.specs.State.{IsIn, StandsAt, listing_of, members_at}
 use Rattle.tv_join.specs.Stepped.{AreAllFollowed, AreStepped, AreToldOf, IsFollowedAt, IsToldAlong, Tells}
@@ -66,7 +68,7 @@ pub record AreToldTo (t : TaskForm) (nodes : List MembersForm) (edge n : ℕ) (f
   pub said : AreSaid t (listing_of nodes) now
   pub tells : Tells first now
   pub told : (taken : Edge) → slice_get t.program.edges edge ≡ Some taken → (at : ℕ) → at < n → (s : StructureForm)
-      → StandsAt nodes (place_of taken.from at) s → AreToldOf t.program now edge s
+      → StandsAt nodes (member_place taken.from at) s → AreToldOf t.program now edge s
 
 pub to-none : (t : TaskForm) (nodes : List MembersForm) (edge : ℕ) (told : List (List K3))
     → AreSaid t (listing_of nodes) told → AreToldTo t nodes edge 0 told told
@@ -79,10 +81,10 @@ to-none t nodes edge told said = record {
 module _ (t : TaskForm) (valid : IsValid t.program) (nodes : List MembersForm) (A : Point → Type 0)
     (values : List (List (List K3))) (followed : AreAllFollowed t nodes A values) (edge : ℕ) (taken : Edge)
     (is : slice_get t.program.edges edge ≡ Some taken) (at : ℕ) (s : StructureForm)
-    (stands : StandsAt nodes (place_of taken.from at) s) where
+    (stands : StandsAt nodes (member_place taken.from at) s) where
   -- the values that are kept are those of the structure
   pub kept-values : AreMessageValues t.program edge s (values_at values edge at)
-  kept-values = (followed (place_of taken.from at) edge (taken, is, refl) taken is s stands).messages
+  kept-values = (followed (member_place taken.from at) edge (taken, is, refl) taken is s stands).messages
 
   pub kept-few : length (values_at values edge at) ≤ 65536
   kept-few = values-few t.program valid edge s (values_at values edge at) kept-values
@@ -102,7 +104,7 @@ module _ (t : TaskForm) (valid : IsValid t.program) (nodes : List MembersForm) (
         taken = taken;
         is_edge = is;
         leaves = refl;
-        has = stands-in nodes (place_of taken.from at) s stands;
+        has = stands-in nodes (member_place taken.from at) s stands;
       }
 
       rises : Tells old new
@@ -112,7 +114,7 @@ module _ (t : TaskForm) (valid : IsValid t.program) (nodes : List MembersForm) (
       here = noted-tells edge (values_at values edge at) old new noted t.program s kept-values
 
       by : (other : Edge) → slice_get t.program.edges edge ≡ Some other → (i : ℕ) (r : StructureForm)
-          → StandsAt nodes (place_of other.from i) r → i < at + 1 → (i < at) ⊎ (at ≤ i) → AreToldOf t.program new edge r
+          → StandsAt nodes (member_place other.from i) r → i < at + 1 → (i < at) ⊎ (at ≤ i) → AreToldOf t.program new edge r
       by other is_other i r stands_r lt (inl less) =
           told-weaker t.program old new rises edge r (before.told other is_other i less r stands_r)
       by other is_other i r stands_r lt (inr past) =
@@ -125,11 +127,11 @@ module _ (t : TaskForm) (valid : IsValid t.program) (nodes : List MembersForm) (
 
 -- where a place is within, a structure stands there
 pub there-stands : (nodes : List MembersForm) (node at : ℕ) → at < length (members_at nodes node).structures
-    → (s : StructureForm) × StandsAt nodes (place_of node at) s
+    → (s : StructureForm) × StandsAt nodes (member_place node at) s
 there-stands nodes node at lt = by (members_at nodes node).structures refl
   where
     by : (xs : List StructureForm) → xs ≡ (members_at nodes node).structures
-        → (s : StructureForm) × StandsAt nodes (place_of node at) s
+        → (s : StructureForm) × StandsAt nodes (member_place node at) s
     by [] e = absurd (omega (arith, lt, ap length e))
     by (d ∷ xs) e = (
       get_or (members_at nodes node).structures at d,
@@ -178,7 +180,7 @@ up-all t nodes A values followed n told are all = record {
   done = λ edge taken is s has.
       let stands = in-stands nodes taken.from s has
       in let one : IsFollowedAt t A values edge taken stands.0 s
-      = followed (place_of taken.from stands.0) edge (taken, is, refl) taken is s stands.1
+      = followed (member_place taken.from stands.0) edge (taken, is, refl) taken is s stands.1
       in record {
         results = one.results;
         are_results = one.are_results;

@@ -1,5 +1,6 @@
 -- Joins of structures with the same individuals.
-use Rattle.std.proofs.Common.{ℕ, ◌≡◌, ◌<◌, ◌≤◌, ◌⊎◌, inl, inr, Bool, true, false, ◌||◌, List, refl, sym, ap, subst, ◌∙◌, arith, true≢false}
+use Rattle.std.proofs.Common.{ℕ, ◌≡◌, ◌<◌, ◌≤◌, ◌⊎◌, inl, inr, Bool, true, false, ◌||◌, List, refl, sym, ap}
+use Rattle.std.proofs.Common.{subst, ◌∙◌, arith, true≢false}
 use Rattle.std.specs.Prelude.{IsTrue}
 use Rattle.std.proofs.lemmas.Bool.{cases_lt}
 use Rattle.tv_kleene.specs.declared.K3.{K3}
@@ -7,18 +8,19 @@ use Rattle.tv_kleene.specs.declared.K3.TheVariants.{No}
 use Rattle.tv_kleene.specs.Kleene.{LiesUnder, join_of}
 use Rattle.tv_kleene.proofs.Lattice.{LiesUnder-trans, LiesUnder-antisym, join-left, join-right, join_least}
 use Rattle.tv_model.specs.Program.{ProgramForm}
-use Rattle.tv_frame.specs.Embedding.{IsEmbedded}
-use Rattle.tv_frame.proofs.EmbeddingLaws.{IsBelow-values}
+use Rattle.tv_embedding_laws.specs.Embedding.{IsEmbedded}
+use Rattle.tv_embedding_laws.proofs.EmbeddingLaws.{IsBelow-values}
 use Rattle.std.specs.List.{range_with_len}
 use Rattle.tv_struct.specs.TableForm.{HasEntry}
-use Rattle.tv_struct.specs.StructureForm.{StructureForm, IsStructure, structure_of, table_of, arities_of, value_at, summary_at}
+use Rattle.tv_struct.specs.StructureForm.{StructureForm, IsStructure, structure_of, table_of, arities_of}
+use Rattle.tv_struct.specs.StructureForm.{value_at, summary_at}
 use Rattle.tv_struct.proofs.DrawnLaws.{summary_at-past}
 use Rattle.tv_struct.proofs.StructureLaws.{same_structure}
 use Rattle.tv_blur.specs.Merged.{IsJoin}
 use Rattle.tv_blur.proofs.MergedLaws.{IsJoin-one, IsJoin-same, IsJoin-like}
-use Rattle.tv_keys.specs.Keyed.{SameKey}
-use Rattle.tv_keys.specs.Joined.{IsUnder, IsJoined}
-use Rattle.tv_keys.proofs.Entries.{entry_or_No, entry-like, same-everywhere}
+use Rattle.tv_join.specs.Keyed.{SameKey}
+use Rattle.tv_join.specs.Pairwise.{IsUnder, IsJoined}
+use Rattle.tv_join.proofs.Entries.{entry_or_No, entry-like, same-everywhere}
 use Rattle.tv_join.specs.Flags.{key_flags, IsPlain}
 use Rattle.tv_join.specs.Keys.{Key, key_of, IsValueIn, IsJoinOf, HasKey}
 use Rattle.tv_join.proofs.KeyLaws.{key-from_same, same-from_key}

@@ -1,9 +1,11 @@
 -- The values of messages are kept by edge and place.
-use Rattle.std.proofs.Common.{ℕ, ◌≡◌, ◌≢◌, ◌<◌, ◌≤◌, ◌⊎◌, inl, inr, List, [], ◌∷◌, ◌++◌, length, get_or, set, sym, ap, ◌∙◌, arith}
+use Rattle.std.proofs.Common.{ℕ, ◌≡◌, ◌≢◌, ◌<◌, ◌≤◌, ◌⊎◌, inl, inr, List, [], ◌∷◌, ◌++◌, length, get_or, set}
+use Rattle.std.proofs.Common.{sym, ap, ◌∙◌, arith}
 use Rattle.std.proofs.lemmas.Bool.{cases_eq, cases_lt}
-use Rattle.std.proofs.lemmas.List.{get_or_append_left, get_or_past, get_or_push, get_or-set_other, get_or-set_same, length-set, length_push}
+use Rattle.std.proofs.lemmas.List.{get_or_append_left, get_or_past, get_or_push, get_or-set_other}
+use Rattle.std.proofs.lemmas.List.{get_or-set_same, length-set, length_push}
 use Rattle.tv_kleene.specs.declared.K3.{K3}
-use Rattle.tv_join.specs.Values.{values_at, ChangesAlong, ChangesPlace, Keeps}
+use Rattle.tv_join.specs.Values.{values_at, ChangesAlong, ChangesPlace, AreValuesAsBefore}
 
 -- where nothing stands there are no values
 pub none-past : (row : List (List K3)) (place : ℕ) (values : List K3) → length values ≡ 0 → length row ≤ place
@@ -12,7 +14,7 @@ none-past row place [] none past = get_or_past row place [] past
 none-past row place (k ∷ ks) none past = absurd (omega (arith, none))
 
 -- a place without values changes nothing
-pub none-pushed : (row : List (List K3)) → Keeps row (row ++ [] ∷ [])
+pub none-pushed : (row : List (List K3)) → AreValuesAsBefore row (row ++ [] ∷ [])
 none-pushed row p = by (cases_lt p (length row)) (cases_eq p (length row))
   where
     by : (p < length row) ⊎ (length row ≤ p) → (p ≡ length row) ⊎ (p ≢ length row)
@@ -24,10 +26,10 @@ none-pushed row p = by (cases_lt p (length row)) (cases_eq p (length row))
         get_or_past (row ++ [] ∷ []) p [] (omega (arith, past, apart, length_push row []))
         ∙ sym (get_or_past row p [] past)
 
-pub keeps-on : (a b c : List (List K3)) → Keeps a b → Keeps b c → Keeps a c
+pub keeps-on : (a b c : List (List K3)) → AreValuesAsBefore a b → AreValuesAsBefore b c → AreValuesAsBefore a c
 keeps-on a b c first second p = second p ∙ first p
 
-module _ (old row : List (List K3)) (place : ℕ) (values : List K3) (same : Keeps old row) (within : place < length row) where
+module _ (old row : List (List K3)) (place : ℕ) (values : List K3) (same : AreValuesAsBefore old row) (within : place < length row) where
   pub put-here : get_or (set row place values) place [] ≡ values
   put-here = get_or-set_same row place values [] within
 

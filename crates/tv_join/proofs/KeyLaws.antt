@@ -1,5 +1,7 @@
 -- Structures have one key exactly where they agree on the predicates that count.
-use Rattle.std.proofs.Common.{ℕ, zero, suc, ◌≡◌, ◌<◌, ◌≤◌, ◌+◌, ◌⊎◌, inl, inr, Bool, true, false, ◌==◌, ◌||◌, ◌&&◌, List, [], ◌∷◌, length, get_or, map, Some, refl, sym, ap, subst, ◌∙◌, arith, eqb-true, true≢false}
+use Rattle.std.proofs.Common.{ℕ, zero, suc, ◌≡◌, ◌<◌, ◌≤◌, ◌+◌, ◌⊎◌, inl, inr, Bool, true, false, ◌==◌, ◌||◌}
+use Rattle.std.proofs.Common.{◌&&◌, List, [], ◌∷◌, length, get_or, map, Some, refl, sym, ap, subst, ◌∙◌}
+use Rattle.std.proofs.Common.{arith, eqb-true, true≢false}
 use Rattle.std.specs.Prelude.{Contains, slice_get}
 use Rattle.std.specs.List.{range_with_len}
 use Rattle.std.proofs.lemmas.Bool.{cases_lt}
@@ -15,9 +17,9 @@ use Rattle.tv_struct.specs.StructureRows.{HasArity}
 use Rattle.tv_struct.proofs.Library.{fits_or_No}
 use Rattle.tv_struct.proofs.OriginLaws.{IsKept, kept_found, kept_flag}
 use Rattle.tv_struct.proofs.StructureLaws.{value_at-past}
-use Rattle.tv_blur.specs.Names.{name_of}
-use Rattle.tv_transfer.specs.Shaped.{is_telling, telling_preds}
-use Rattle.tv_keys.specs.Keyed.{Counts, AreFlags, SameKey}
+use Rattle.tv_blur.specs.Names.{canonical_name}
+use Rattle.tv_step_laws.specs.Shaped.{is_telling, telling_preds}
+use Rattle.tv_join.specs.Keyed.{Counts, AreFlags, SameKey}
 use Rattle.tv_join.specs.Flags.{is_counted, key_flags, IsPlain}
 use Rattle.tv_join.specs.Keys.{Key, key_of, nullary_preds}
 
@@ -155,13 +157,13 @@ module _ (p : ProgramForm) where
       let nullary : (key_of p s).nullary ≡ (key_of p t).nullary
       = map-agreed (λ pred. value_at s pred []) (λ pred. value_at t pred []) (nullary_preds p)
       (λ pred has. key.values pred (nullary-counts pred has) [])
-      in let name : (u : ℕ) → name_of (telling_preds p) (structure_of s) u ≡ name_of (telling_preds p) (structure_of t) u
+      in let name : (u : ℕ) → canonical_name (telling_preds p) (structure_of s) u ≡ canonical_name (telling_preds p) (structure_of t) u
       = λ u. map-agreed (λ pred. value_at s pred (u ∷ [])) (λ pred. value_at t pred (u ∷ [])) (telling_preds p)
       (λ pred has. key.values pred (telling-counts pred has) (u ∷ []))
       in let names : (key_of p s).names ≡ (key_of p t).names
-      = map-agreed (name_of (telling_preds p) (structure_of s)) (name_of (telling_preds p) (structure_of t))
+      = map-agreed (canonical_name (telling_preds p) (structure_of s)) (canonical_name (telling_preds p) (structure_of t))
       (range_with_len 0 s.size) (λ u has. name u)
-      ∙ ap (λ n. map (name_of (telling_preds p) (structure_of t)) (range_with_len 0 n)) key.size
+      ∙ ap (λ n. map (canonical_name (telling_preds p) (structure_of t)) (range_with_len 0 n)) key.size
       in λ i. record { nullary = nullary i; names = names i }
 
   module _ (s t : StructureForm) (plain_s : IsPlain p s) (plain_t : IsPlain p t) (key : key_of p s ≡ key_of p t) where
@@ -170,15 +172,15 @@ module _ (p : ProgramForm) where
         map-at (λ q. value_at s q []) (λ q. value_at t q []) (nullary_preds p) (ap (λ (k : Key). k.nullary) key) pred has
 
     same-size : s.size ≡ t.size
-    same-size = sym (length-map-range_with_len (name_of (telling_preds p) (structure_of s)) 0 s.size)
-        ∙ ap (λ (k : Key). length k.names) key ∙ length-map-range_with_len (name_of (telling_preds p) (structure_of t)) 0 t.size
+    same-size = sym (length-map-range_with_len (canonical_name (telling_preds p) (structure_of s)) 0 s.size)
+        ∙ ap (λ (k : Key). length k.names) key ∙ length-map-range_with_len (canonical_name (telling_preds p) (structure_of t)) 0 t.size
 
     same-name : (u : ℕ) → u < s.size
-        → name_of (telling_preds p) (structure_of s) u ≡ name_of (telling_preds p) (structure_of t) u
+        → canonical_name (telling_preds p) (structure_of s) u ≡ canonical_name (telling_preds p) (structure_of t) u
     same-name u lt =
-        sym (get_or-map-range_with_len (name_of (telling_preds p) (structure_of s)) 0 s.size u u [] lt (omega arith))
+        sym (get_or-map-range_with_len (canonical_name (telling_preds p) (structure_of s)) 0 s.size u u [] lt (omega arith))
         ∙ ap (λ (k : Key). get_or k.names u []) key
-        ∙ get_or-map-range_with_len (name_of (telling_preds p) (structure_of t)) 0 t.size u u [] (omega (arith, lt, same-size)) (omega arith)
+        ∙ get_or-map-range_with_len (canonical_name (telling_preds p) (structure_of t)) 0 t.size u u [] (omega (arith, lt, same-size)) (omega arith)
 
     same-telling : (pred : ℕ) → Contains (telling_preds p) pred → (u : ℕ) → u < s.size
         → value_at s pred (u ∷ []) ≡ value_at t pred (u ∷ [])

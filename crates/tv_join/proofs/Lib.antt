@@ -9,4 +9,9 @@ pub mod Meeting
 pub mod Following
 pub mod Greatest
 pub mod Rounding
+mod Single
 pub mod Answering
+pub mod Entries
+pub mod Copying
+pub mod Joining
+pub mod Indexing

@@ -1,5 +1,7 @@
 -- What was found is joined into what is listed, one structure after the other.
-use Rattle.std.proofs.Common.{ℕ, ◌≡◌, ◌≢◌, ◌<◌, ◌≤◌, ◌+◌, ◌⊎◌, zero, suc, inl, inr, Bool, true, false, List, [], ◌∷◌, ◌++◌, length, get_or, set, Option, None, Some, refl, sym, ap, subst, ◌∙◌, arith}
+use Rattle.std.proofs.Common.{ℕ, ◌≡◌, ◌≢◌, ◌<◌, ◌≤◌, ◌+◌, ◌⊎◌, zero, suc, inl, inr, Bool, true, false, List}
+use Rattle.std.proofs.Common.{[], ◌∷◌, ◌++◌, length, get_or, set, Option, None, Some, refl, sym, ap, subst}
+use Rattle.std.proofs.Common.{◌∙◌, arith}
 use Rattle.std.specs.Prelude.{Contains, MatchBool, sum_by, slice_get}
 use Rattle.std.proofs.lemmas.Bool.{cases_eq}
 use Rattle.std.proofs.lemmas.List.{length-set, length_push, set-get_or, length-map}
@@ -10,17 +12,18 @@ use Rattle.tv_model.proofs.Lists.{Contains-none, slice_get-contains}
 use Rattle.tv_listing.specs.ListingForm.{at_node}
 use Rattle.tv_struct.specs.StructureForm.{StructureForm}
 use Rattle.tv_step.specs.Setting.{IsStableIn}
-use Rattle.tv_keys.specs.Members.{MembersForm, IsRaised, Puts}
-use Rattle.tv_keys.specs.declared.members.Put.{Put}
-use Rattle.tv_keys.specs.declared.members.Put.TheVariants.{Known, Raised, Added}
-use Rattle.tv_keys.proofs.Indexing.{push-at, set-at}
+use Rattle.tv_join.specs.Members.{MembersForm, IsRaised, Puts}
+use Rattle.tv_join.specs.declared.members.Put.{Put}
+use Rattle.tv_join.specs.declared.members.Put.TheVariants.{Known, Raised, Added}
+use Rattle.tv_join.proofs.Indexing.{push-at, set-at}
 use Rattle.tv_work.specs.Reach.{Point}
 use Rattle.tv_work.specs.Task.{TaskForm}
 use Rattle.tv_join.specs.Flags.{key_flags, IsPlain}
 use Rattle.tv_join.specs.Listed.{AreJoins}
-use Rattle.tv_join.specs.Places.{place_of}
+use Rattle.tv_join.specs.Places.{member_place}
 use Rattle.tv_join.specs.Rounds.{point}
-use Rattle.tv_join.specs.State.{JoinsForm, IsFound, IsIn, IsKept, IsMet, IsNode, HasRoom, NotesPut, NotesRaised, StandsAt, listing_of, members_at, room_after, total_of}
+use Rattle.tv_join.specs.State.{JoinsForm, IsAmongFound, IsIn, IsJoinState, IsMet, IsNode, HasRoom, NotesPut}
+use Rattle.tv_join.specs.State.{NotesRaised, StandsAt, listing_of, members_at, room_after, total_of}
 use Rattle.tv_join.specs.Stepped.{HaveMet, IsPlaced, IsPlacedFound, Rises, Stay}
 use Rattle.tv_join.specs.Weight.{structure_weight, structures_weight, listing_weight}
 use Rattle.tv_join.specs.declared.joins.Found.{Found}
@@ -32,11 +35,11 @@ use Rattle.tv_join.proofs.Weights.{rises-strictly}
 
 -- ---- what is listed is plain, and nothing is met twice
 
-pub listed-plain : (t : TaskForm) (j : JoinsForm) → IsKept t j → (x : Point) → IsIn j.nodes x → IsPlain t.program x.structure
+pub listed-plain : (t : TaskForm) (j : JoinsForm) → IsJoinState t j → (x : Point) → IsIn j.nodes x → IsPlain t.program x.structure
 listed-plain t j kept x has =
     (kept.each x.node).plain x.structure (subst (λ xs. Contains xs x.structure) (listing-at j.nodes x.node) has)
 
-pub risen-or-stable : (t : TaskForm) (j : JoinsForm) → IsKept t j → (w : Place) (s : StructureForm)
+pub risen-or-stable : (t : TaskForm) (j : JoinsForm) → IsJoinState t j → (w : Place) (s : StructureForm)
     → StandsAt j.nodes w s → (has_risen : Bool) → MatchBool has_risen (Contains j.raised w) (¬ Contains j.raised w)
     → (has_risen ≡ true) ⊎ IsStableIn t.program s
 risen-or-stable t j kept w s stands true is = inl refl
@@ -47,7 +50,7 @@ risen-or-stable t j kept w s stands false isnt = by (kept.stable w s stands)
     by (inr is) = inr is
 
 -- what is listed is the joins by key of itself
-pub listed-joins : (t : TaskForm) (j : JoinsForm) → IsKept t j → (k : ℕ)
+pub listed-joins : (t : TaskForm) (j : JoinsForm) → IsJoinState t j → (k : ℕ)
     → AreJoins t.program (λ s. IsIn j.nodes (point k s)) (at_node (listing_of j.nodes) k)
 listed-joins t j kept k =
     let node : IsNode t.program (members_at j.nodes k) = kept.each k
@@ -71,7 +74,7 @@ room-met max total count more Added (Some zero) has known raised added new e = o
 room-met max total count more Added (Some (suc left)) has known raised added new e = omega (arith, has, added refl, e)
 room-met max total count more Added None has known raised added new e = omega (arith, has, added refl, e)
 
-module _ (t : TaskForm) (old new : JoinsForm) (k : ℕ) (s : StructureForm) (kept : IsKept t old) (lt : k < length old.nodes)
+module _ (t : TaskForm) (old new : JoinsForm) (k : ℕ) (s : StructureForm) (kept : IsJoinState t old) (lt : k < length old.nodes)
     (plain : IsPlain t.program s) (met : IsMet (key_flags t.program) old k s new) where
   abbrev before : List StructureForm
   before = (members_at old.nodes k).structures
@@ -180,7 +183,7 @@ module _ (t : TaskForm) (old new : JoinsForm) (k : ℕ) (s : StructureForm) (kep
           (subst (λ (m : MembersForm). w.at < length m.structures) (sym node-here) there)
       by (inr apart) = subst (λ (m : MembersForm). w.at < length m.structures) (sym (node-other w.node apart)) lt-old
 
-  in-after : (at : ℕ) → at < length after → (w : Place) → w ≡ place_of k at
+  in-after : (at : ℕ) → at < length after → (w : Place) → w ≡ member_place k at
       → w.at < length (members_at new.nodes w.node).structures
   in-after at lt-after w e =
       subst (λ (v : Place). v.at < length (members_at new.nodes v.node).structures) (sym e)
@@ -192,7 +195,7 @@ module _ (t : TaskForm) (old new : JoinsForm) (k : ℕ) (s : StructureForm) (kep
   places-met Known known notes w has = still-in w (kept.places w (subst (λ ws. Contains ws w) notes has))
   places-met (Raised at) raise notes w has = by (notes.only w has)
     where
-      by : Contains old.changed w ⊎ (w ≡ place_of k at) → w.at < length (members_at new.nodes w.node).structures
+      by : Contains old.changed w ⊎ (w ≡ member_place k at) → w.at < length (members_at new.nodes w.node).structures
       by (inl was) = still-in w (kept.places w was)
       by (inr e) =
           in-after at (omega (
@@ -203,7 +206,7 @@ module _ (t : TaskForm) (old new : JoinsForm) (k : ℕ) (s : StructureForm) (kep
           )) w e
   places-met Added add notes w has = by (notes.only w has)
     where
-      by : Contains old.changed w ⊎ (w ≡ place_of k (length before))
+      by : Contains old.changed w ⊎ (w ≡ member_place k (length before))
           → w.at < length (members_at new.nodes w.node).structures
       by (inl was) = still-in w (kept.places w was)
       by (inr e) = in-after (length before) (omega (arith, ap length add.pushed, length_push before s)) w e
@@ -249,10 +252,10 @@ module _ (t : TaskForm) (old new : JoinsForm) (k : ℕ) (s : StructureForm) (kep
       Noted : Put → Type 0
       Noted put = NotesPut k (length before) put old.changed new.changed
 
-      noted : (at : ℕ) → w.node ≡ k → w.at ≡ at → Contains new.changed (place_of k at) → Contains new.changed w
+      noted : (at : ℕ) → w.node ≡ k → w.at ≡ at → Contains new.changed (member_place k at) → Contains new.changed w
       noted at same same_at has =
-          subst (λ n. Contains new.changed (place_of n w.at)) (sym same)
-          (subst (λ i. Contains new.changed (place_of k i)) (sym same_at) has)
+          subst (λ n. Contains new.changed (member_place n w.at)) (sym same)
+          (subst (λ i. Contains new.changed (member_place k i)) (sym same_at) has)
 
       here : w.node ≡ k → (slice_get before w.at ≡ Some r)
           ⊎ ((met.put ≡ Raised w.at) ⊎ ((met.put ≡ Added) × (w.at ≡ length before) × (s ≡ r)))
@@ -285,7 +288,7 @@ module _ (t : TaskForm) (old new : JoinsForm) (k : ℕ) (s : StructureForm) (kep
           → Contains new.raised w ⊎ IsStableIn t.program r
       here same (inl was) = earlier (kept.stable w r (at-before w r same was))
       here same (inr (inl raised)) =
-          inl (subst (λ n. Contains new.raised (place_of n w.at)) (sym same)
+          inl (subst (λ n. Contains new.raised (member_place n w.at)) (sym same)
           (subst (λ put. NotesRaised k put old.raised new.raised) raised met.raised).has)
       here same (inr (inr (added, at, e))) = inr (subst (IsStableIn t.program) e found)
 
@@ -304,7 +307,7 @@ module _ (t : TaskForm) (old new : JoinsForm) (k : ℕ) (s : StructureForm) (kep
       by (inl has) = inl has
       by (inr was) = earlier (before-this w r was)
 
-  pub kept-met : IsStableIn t.program s → IsKept t new
+  pub kept-met : IsStableIn t.program s → IsJoinState t new
   kept-met found = record {
     nodes = ap length met.set ∙ length-set old.nodes k met.node ∙ kept.nodes;
     each = λ j. each-kept j (cases_eq j k);
@@ -392,12 +395,12 @@ module _ (t : TaskForm) (old new : JoinsForm) (k : ℕ) (s : StructureForm) (kep
       )
   rises-by first (Raised place) raise notes before-this =
       inr (
-        some-noted (place_of k place) new.changed notes.has,
+        some-noted (member_place k place) new.changed notes.has,
         omega (arith, weight-sum, raised-weight place raise, least first before-this),
       )
   rises-by first Added add notes before-this =
       inr (
-        some-noted (place_of k (length before)) new.changed notes.has,
+        some-noted (member_place k (length before)) new.changed notes.has,
         omega (arith, weight-sum, added-weight add.pushed, least first before-this),
       )
 
@@ -409,37 +412,37 @@ module _ (t : TaskForm) (old new : JoinsForm) (k : ℕ) (s : StructureForm) (kep
 -- the first of what was found are joined in
 pub record IsMeeting (t : TaskForm) (first : JoinsForm) (taken : List Found) (j : JoinsForm) : Type 0 where
   pub met : HaveMet t first taken j
-  pub placed : (x : Point) → IsFound taken x → IsPlaced t x
+  pub placed : (x : Point) → IsAmongFound taken x → IsPlaced t x
 
-nothing-met : (t : TaskForm) (old : JoinsForm) → IsKept t old → old.changed ≡ [] → HaveMet t old [] old
+nothing-met : (t : TaskForm) (old : JoinsForm) → IsJoinState t old → old.changed ≡ [] → HaveMet t old [] old
 nothing-met t old kept none = record {
   kept = kept;
   joins = λ k. joins-like t.program (λ s. IsIn old.nodes (point k s))
-      (λ s. IsIn old.nodes (point k s) ⊎ IsFound [] (point k s)) (at_node (listing_of old.nodes) k) (λ s has. inl has)
+      (λ s. IsIn old.nodes (point k s) ⊎ IsAmongFound [] (point k s)) (at_node (listing_of old.nodes) k) (λ s has. inl has)
       (λ s has. from k s has) (listed-joins t old kept k);
   rises = inl (none, refl);
   stay = λ w s stands. inr stands;
 }
   where
-    from : (k : ℕ) (s : StructureForm) → IsIn old.nodes (point k s) ⊎ IsFound [] (point k s) → IsIn old.nodes (point k s)
+    from : (k : ℕ) (s : StructureForm) → IsIn old.nodes (point k s) ⊎ IsAmongFound [] (point k s) → IsIn old.nodes (point k s)
     from k s (inl has) = has
     from k s (inr none) = absurd (Contains-none (record { node = k; structure = s }) none)
 
-pub met-none : (t : TaskForm) (old : JoinsForm) → IsKept t old → old.changed ≡ [] → IsMeeting t old [] old
+pub met-none : (t : TaskForm) (old : JoinsForm) → IsJoinState t old → old.changed ≡ [] → IsMeeting t old [] old
 met-none t old kept none = record {
   met = nothing-met t old kept none;
   placed = λ x has. absurd (Contains-none (record { node = x.node; structure = x.structure }) has);
 }
 
-one-met : (t : TaskForm) (first old new : JoinsForm) (taken : List Found) (f : Found) → IsKept t first
+one-met : (t : TaskForm) (first old new : JoinsForm) (taken : List Found) (f : Found) → IsJoinState t first
     → HaveMet t first taken old
-    → ((x : Point) → IsFound taken x → IsPlaced t x) → IsPlacedFound t f
+    → ((x : Point) → IsAmongFound taken x → IsPlaced t x) → IsPlacedFound t f
     → IsMet (key_flags t.program) old f.node f.structure new → HaveMet t first (taken ++ f ∷ []) new
 one-met t first old new taken f kept have placed placed_f met = record {
   kept = kept-met t old new f.node f.structure have.kept lt placed_f.plain met placed_f.stable;
   joins = λ k. joins-like t.program
-      (λ s. (IsIn first.nodes (point k s) ⊎ IsFound taken (point k s)) ⊎ (point k s ≡ point f.node f.structure))
-      (λ s. IsIn first.nodes (point k s) ⊎ IsFound (taken ++ f ∷ []) (point k s))
+      (λ s. (IsIn first.nodes (point k s) ⊎ IsAmongFound taken (point k s)) ⊎ (point k s ≡ point f.node f.structure))
+      (λ s. IsIn first.nodes (point k s) ⊎ IsAmongFound (taken ++ f ∷ []) (point k s))
       (at_node (listing_of new.nodes) k) (λ s has. to k s has) (λ s has. from k s has)
       (joins-at t old new f.node f.structure have.kept lt placed_f.plain met X X-plain k (have.joins k) (cases_eq k f.node));
   rises = rises-met t old new f.node f.structure have.kept lt placed_f.plain met (listing_of first.nodes) have.rises;
@@ -447,7 +450,7 @@ one-met t first old new taken f kept have placed placed_f met = record {
 }
   where
     X : Point → Type 0
-    X x = IsIn first.nodes x ⊎ IsFound taken x
+    X x = IsIn first.nodes x ⊎ IsAmongFound taken x
 
     X-plain : (x : Point) → X x → IsPlain t.program x.structure
     X-plain x (inl has) = listed-plain t first kept x has
@@ -457,8 +460,8 @@ one-met t first old new taken f kept have placed placed_f met = record {
     lt = omega (arith, placed_f.node, have.kept.nodes)
 
     to : (k : ℕ) (s : StructureForm)
-        → (IsIn first.nodes (point k s) ⊎ IsFound taken (point k s)) ⊎ (point k s ≡ point f.node f.structure)
-        → IsIn first.nodes (point k s) ⊎ IsFound (taken ++ f ∷ []) (point k s)
+        → (IsIn first.nodes (point k s) ⊎ IsAmongFound taken (point k s)) ⊎ (point k s ≡ point f.node f.structure)
+        → IsIn first.nodes (point k s) ⊎ IsAmongFound (taken ++ f ∷ []) (point k s)
     to k s (inl (inl has)) = inl has
     to k s (inl (inr has)) = inr (Contains-append_left taken (f ∷ []) (record { node = k; structure = s }) has)
     to k s (inr e) =
@@ -466,13 +469,13 @@ one-met t first old new taken f kept have placed placed_f met = record {
         = λ i. record { node = (sym (ap (λ (x : Point). x.node) e)) i; structure = (sym (ap (λ (x : Point). x.structure) e)) i }
         in inr (subst (Contains (taken ++ f ∷ [])) same (Contains-push taken f))
 
-    from : (k : ℕ) (s : StructureForm) → IsIn first.nodes (point k s) ⊎ IsFound (taken ++ f ∷ []) (point k s)
-        → (IsIn first.nodes (point k s) ⊎ IsFound taken (point k s)) ⊎ (point k s ≡ point f.node f.structure)
+    from : (k : ℕ) (s : StructureForm) → IsIn first.nodes (point k s) ⊎ IsAmongFound (taken ++ f ∷ []) (point k s)
+        → (IsIn first.nodes (point k s) ⊎ IsAmongFound taken (point k s)) ⊎ (point k s ≡ point f.node f.structure)
     from k s (inl has) = inl (inl has)
     from k s (inr has) = by (Contains-push_cases taken f (record { node = k; structure = s }) has)
       where
         by : Contains taken (record { node = k; structure = s }) ⊎ (f ≡ record { node = k; structure = s })
-            → (IsIn first.nodes (point k s) ⊎ IsFound taken (point k s)) ⊎ (point k s ≡ point f.node f.structure)
+            → (IsIn first.nodes (point k s) ⊎ IsAmongFound taken (point k s)) ⊎ (point k s ≡ point f.node f.structure)
         by (inl old-one) = inl (inr old-one)
         by (inr e) =
             inr (λ i. record {
@@ -480,7 +483,7 @@ one-met t first old new taken f kept have placed placed_f met = record {
               structure = (sym (ap (λ (x : Found). x.structure) e)) i;
             })
 
-pub met-next : (t : TaskForm) (first old new : JoinsForm) (taken : List Found) (f : Found) → IsKept t first
+pub met-next : (t : TaskForm) (first old new : JoinsForm) (taken : List Found) (f : Found) → IsJoinState t first
     → IsMeeting t first taken old → IsPlacedFound t f → IsMet (key_flags t.program) old f.node f.structure new
     → IsMeeting t first (taken ++ f ∷ []) new
 met-next t first old new taken f kept so-far placed_f met = record {
@@ -495,8 +498,8 @@ met-next t first old new taken f kept so-far placed_f met = record {
         subst (λ (y : Point). IsPlaced t y)
         (λ i. record { node = (ap (λ (g : Found). g.node) e) i; structure = (ap (λ (g : Found). g.structure) e) i }) placed_f
 
-pub room-some : (t : TaskForm) (j : JoinsForm) (more : ℕ) → IsKept t j → j.room ≡ Some more → total_of j.nodes ≤ t.max
+pub room-some : (t : TaskForm) (j : JoinsForm) (more : ℕ) → IsJoinState t j → j.room ≡ Some more → total_of j.nodes ≤ t.max
 room-some t j more kept is = omega (arith, subst (HasRoom t.max (total_of j.nodes)) is kept.room)
 
-pub room-none : (t : TaskForm) (j : JoinsForm) → IsKept t j → j.room ≡ None → t.max < total_of j.nodes
+pub room-none : (t : TaskForm) (j : JoinsForm) → IsJoinState t j → j.room ≡ None → t.max < total_of j.nodes
 room-none t j kept is = subst (HasRoom t.max (total_of j.nodes)) is kept.room

@@ -1,14 +1,17 @@
 -- What is listed at nodes, and what changes where one node does.
-use Rattle.std.proofs.Common.{ℕ, ◌≡◌, ◌≢◌, ◌<◌, ◌≤◌, ◌+◌, ◌⊎◌, inl, inr, List, [], ◌∷◌, ◌++◌, length, get_or, set, replicate, refl, sym, ap, subst, ◌∙◌, arith}
+use Rattle.std.proofs.Common.{ℕ, ◌≡◌, ◌≢◌, ◌<◌, ◌≤◌, ◌+◌, ◌⊎◌, inl, inr, List, [], ◌∷◌, ◌++◌, length, get_or}
+use Rattle.std.proofs.Common.{set, replicate, refl, sym, ap, subst, ◌∙◌, arith}
 use Rattle.std.proofs.lemmas.Bool.{cases_eq, cases_lt}
-use Rattle.std.proofs.lemmas.List.{get_or-map, get_or_past, get_or-set_same, get_or-set_other, set-get_or, set-set, get_or_append_left, get_or_push, length_push, get_or-replicate, length-replicate, length-map, length-set, same_lists, get_or_default}
+use Rattle.std.proofs.lemmas.List.{get_or-map, get_or_past, get_or-set_same, get_or-set_other, set-get_or}
+use Rattle.std.proofs.lemmas.List.{set-set, get_or_append_left, get_or_push, length_push, get_or-replicate}
+use Rattle.std.proofs.lemmas.List.{length-replicate, length-map, length-set, same_lists, get_or_default}
 use Rattle.std.proofs.lemmas.Option.{slice_get_within}
 use Rattle.tv_model.specs.Program.{ProgramForm}
 use Rattle.tv_model.proofs.Lists.{Contains-none}
 use Rattle.tv_listing.specs.ListingForm.{at_node}
 use Rattle.tv_struct.specs.StructureForm.{StructureForm}
-use Rattle.tv_keys.specs.Members.{MembersForm}
-use Rattle.tv_keys.proofs.Indexing.{indexed-none}
+use Rattle.tv_join.specs.Members.{MembersForm}
+use Rattle.tv_join.proofs.Indexing.{indexed-none}
 use Rattle.tv_join.specs.Flags.{key_flags}
 use Rattle.tv_join.specs.State.{no_members, members_at, listing_of, IsNode}
 

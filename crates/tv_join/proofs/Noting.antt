@@ -1,5 +1,6 @@
 -- A place is noted among others.
-use Rattle.std.proofs.Common.{ℕ, ◌≡◌, ◌<◌, ◌⊎◌, ◌∙◌, zero, suc, inl, inr, Bool, true, false, true≢false, List, [], ◌∷◌, refl, sym, ap, subst, arith}
+use Rattle.std.proofs.Common.{ℕ, ◌≡◌, ◌<◌, ◌⊎◌, ◌∙◌, zero, suc, inl, inr, Bool, true, false, true≢false, List}
+use Rattle.std.proofs.Common.{[], ◌∷◌, refl, sym, ap, subst, arith}
 use Rattle.std.specs.Prelude.{Any, Contains, MatchBool}
 use Rattle.std.specs.List.{list_any}
 use Rattle.std.specs.BTreeSet.{insert_key}

@@ -1,21 +1,24 @@
 -- One structure after the other is joined into what is listed.
-use Rattle.std.proofs.Common.{ℕ, ◌≡◌, ◌≢◌, ◌⊎◌, inl, inr, List, [], ◌∷◌, ◌++◌, length, set, Some, refl, sym, ap, subst, ◌∙◌, arith}
+use Rattle.std.proofs.Common.{ℕ, ◌≡◌, ◌≢◌, ◌⊎◌, inl, inr, List, [], ◌∷◌, ◌++◌, length, set, Some, refl, sym}
+use Rattle.std.proofs.Common.{ap, subst, ◌∙◌, arith}
 use Rattle.std.specs.Prelude.{Contains, slice_get, ◌↔◌}
 use Rattle.std.proofs.lemmas.Bool.{cases_eq}
 use Rattle.std.proofs.lemmas.Option.{same_Some, slice_get_within}
 use Rattle.tv_model.specs.Program.{ProgramForm}
 use Rattle.tv_struct.specs.StructureForm.{StructureForm}
-use Rattle.tv_keys.specs.Keyed.{SameKey}
-use Rattle.tv_keys.specs.Joined.{IsUnder, IsJoined}
-use Rattle.tv_keys.specs.Members.{Puts}
-use Rattle.tv_keys.specs.declared.members.Put.{Put}
-use Rattle.tv_keys.specs.declared.members.Put.TheVariants.{Known, Raised, Added}
-use Rattle.tv_keys.proofs.Indexing.{Contains-at, at-contains, push-at, push-keeps, push-there, set-at, set-keeps, set-there}
+use Rattle.tv_join.specs.Keyed.{SameKey}
+use Rattle.tv_join.specs.Pairwise.{IsUnder, IsJoined}
+use Rattle.tv_join.specs.Members.{Puts}
+use Rattle.tv_join.specs.declared.members.Put.{Put}
+use Rattle.tv_join.specs.declared.members.Put.TheVariants.{Known, Raised, Added}
+use Rattle.tv_join.proofs.Indexing.{Contains-at, at-contains, push-at, push-keeps, push-there, set-at}
+use Rattle.tv_join.proofs.Indexing.{set-keeps, set-there}
 use Rattle.tv_join.specs.Flags.{key_flags, IsPlain}
 use Rattle.tv_join.specs.Keys.{Key, key_of, IsJoinOf, HasKey, IsJoinByKey}
 use Rattle.tv_join.specs.Listed.{AreJoins}
 use Rattle.tv_join.proofs.KeyLaws.{key-from_same, same-from_key}
-use Rattle.tv_join.proofs.JoinLaws.{join-one, join-like, join-more, join-absorbs, join-above, join-key, join-once, join-plain}
+use Rattle.tv_join.proofs.JoinLaws.{join-one, join-like, join-more, join-absorbs, join-above, join-key}
+use Rattle.tv_join.proofs.JoinLaws.{join-once, join-plain}
 
 -- ---- what is known of joins by key
 

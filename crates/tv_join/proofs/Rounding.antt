@@ -1,5 +1,6 @@
 -- One round after the other.
-use Rattle.std.proofs.Common.{ℕ, ◌≡◌, ◌≢◌, ◌<◌, ◌≤◌, ◌+◌, ◌-◌, ◌*◌, ◌⊎◌, zero, suc, inl, inr, List, [], ◌∷◌, length, get_or, replicate, Option, None, Some, refl, sym, ap, subst, ◌∙◌, arith}
+use Rattle.std.proofs.Common.{ℕ, ◌≡◌, ◌≢◌, ◌<◌, ◌≤◌, ◌+◌, ◌-◌, ◌*◌, ◌⊎◌, zero, suc, inl, inr, List, [], ◌∷◌}
+use Rattle.std.proofs.Common.{length, get_or, replicate, Option, None, Some, refl, sym, ap, subst, ◌∙◌, arith}
 use Rattle.std.specs.Prelude.{All, AllPairs, Contains, slice_get, ◌↔◌}
 use Rattle.std.proofs.lemmas.Bool.{cases_lt}
 use Rattle.std.proofs.lemmas.List.{get_or_default, length-replicate}
@@ -11,10 +12,10 @@ use Rattle.tv_model.specs.Valid.{IsValid}
 use Rattle.tv_model.proofs.Lists.{All-from_contains, Contains-none}
 use Rattle.tv_listing.specs.ListingForm.{at_node}
 use Rattle.tv_struct.specs.StructureForm.{StructureForm}
-use Rattle.tv_transfer.specs.Budgets.{MeetsSplits, MeetsIndividuals}
-use Rattle.tv_transfer.proofs.Exact.{results-once}
-use Rattle.tv_keys.specs.Joined.{IsUnder}
-use Rattle.tv_keys.specs.Members.{MembersForm}
+use Rattle.tv_step_laws.specs.Budgets.{MeetsSplits, MeetsIndividuals}
+use Rattle.tv_step_laws.proofs.Exact.{results-once}
+use Rattle.tv_join.specs.Pairwise.{IsUnder}
+use Rattle.tv_join.specs.Members.{MembersForm}
 use Rattle.tv_work.specs.Analysed.{KeepAllBudgets, Meets}
 use Rattle.tv_work.specs.Reach.{Point, IsStartPoint}
 use Rattle.tv_work.specs.Task.{TaskForm}
@@ -22,10 +23,14 @@ use Rattle.tv_work.proofs.Advancing.{start-node}
 use Rattle.tv_join.specs.Flags.{IsPlain}
 use Rattle.tv_join.specs.Joined.{AreAtMost, IsJoinCause}
 use Rattle.tv_join.specs.Keys.{key_of, HasKey, IsJoinByKey}
-use Rattle.tv_join.specs.Places.{place_of}
+use Rattle.tv_join.specs.Places.{member_place}
 use Rattle.tv_join.specs.Rounds.{point, IsFollowed}
-use Rattle.tv_join.specs.State.{JoinsForm, no_members, IsAbsorbed, IsFound, IsIn, IsKept, IsNode, StandsAt, listing_of, members_at, total_of}
-use Rattle.tv_join.specs.Stepped.{AreAllFollowed, AreFollowed, AreIn, AreJoinsOf, AreOpenings, AreStepped, GatheredForm, HaveBeenFollowed, HaveMet, IsAtLastRound, IsAtRound, IsAtSomeRound, IsFollowCause, IsFollowedAlong, IsFollowedAt, IsFollowedFrom, IsMeetingCause, IsPlaced, IsPlacedFound, IsRoundOn, Rises}
+use Rattle.tv_join.specs.State.{JoinsForm, no_members, IsAbsorbed, IsAmongFound, IsIn, IsJoinState, IsNode}
+use Rattle.tv_join.specs.State.{StandsAt, listing_of, members_at, total_of}
+use Rattle.tv_join.specs.Stepped.{AreAllFollowed, AreFollowed, AreIn, AreJoinsOf, AreOpenings, AreStepped}
+use Rattle.tv_join.specs.Stepped.{GatheredForm, HaveBeenFollowed, HaveMet, IsAtLastRound, IsAtRound}
+use Rattle.tv_join.specs.Stepped.{IsAtSomeRound, IsFollowCause, IsFollowedAlong, IsFollowedAt, IsFollowedFrom}
+use Rattle.tv_join.specs.Stepped.{IsMeetingCause, IsPlaced, IsPlacedFound, IsRoundOn, Rises}
 use Rattle.tv_join.specs.Task.{round_in}
 use Rattle.tv_join.specs.Values.{values_at}
 use Rattle.tv_join.specs.Weight.{listing_weight, most_structure}
@@ -78,16 +83,16 @@ next-round t round P to from x = (
 -- ---- what is joined is absorbed
 
 module _ (t : TaskForm) (old new : List MembersForm) (found : List Found)
-    (plain : (x : Point) → IsIn old x → IsPlain t.program x.structure) (placed : (x : Point) → IsFound found x → IsPlaced t x)
+    (plain : (x : Point) → IsIn old x → IsPlain t.program x.structure) (placed : (x : Point) → IsAmongFound found x → IsPlaced t x)
     (joins : AreJoinsOf t old new found) where
-  met-plain : (k : ℕ) (s : StructureForm) → IsIn old (point k s) ⊎ IsFound found (point k s) → IsPlain t.program s
+  met-plain : (k : ℕ) (s : StructureForm) → IsIn old (point k s) ⊎ IsAmongFound found (point k s) → IsPlain t.program s
   met-plain k s (inl has) = plain (point k s) has
   met-plain k s (inr has) = (placed (point k s) has).plain
 
   -- what was listed or found lies under what is listed
-  pub met-absorbed : (x : Point) → IsIn old x ⊎ IsFound found x → IsAbsorbed t.program new x
+  pub met-absorbed : (x : Point) → IsIn old x ⊎ IsAmongFound found x → IsAbsorbed t.program new x
   met-absorbed x has =
-      let above = joins-above t.program (λ s. IsIn old (point x.node s) ⊎ IsFound found (point x.node s)) (met-plain x.node)
+      let above = joins-above t.program (λ s. IsIn old (point x.node s) ⊎ IsAmongFound found (point x.node s)) (met-plain x.node)
       (at_node (listing_of new) x.node) (joins x.node) x.structure has
       in (above.0, above.1, above.2, above.3)
 
@@ -99,8 +104,8 @@ module _ (t : TaskForm) (old new : List MembersForm) (found : List Found)
 
   -- where all that is found are results of what was listed, and all others of these are absorbed, the next round is
   -- listed
-  pub met-round : ((x : Point) → IsFollowed t.program t.mode (IsIn old) x → IsFound found x ⊎ IsAbsorbed t.program old x)
-      → ((x : Point) → IsFound found x → IsFollowed t.program t.mode (IsIn old) x) → (x : Point)
+  pub met-round : ((x : Point) → IsFollowed t.program t.mode (IsIn old) x → IsAmongFound found x ⊎ IsAbsorbed t.program old x)
+      → ((x : Point) → IsAmongFound found x → IsFollowed t.program t.mode (IsIn old) x) → (x : Point)
       → IsIn new x
       ↔ IsJoinByKey t.program (λ s. IsIn old (point x.node s) ⊎ IsFollowed t.program t.mode (IsIn old) (point x.node s)) x.structure
   met-round all only x = (
@@ -109,7 +114,7 @@ module _ (t : TaskForm) (old new : List MembersForm) (found : List Found)
   )
     where
       X : StructureForm → Type 0
-      X s = IsIn old (point x.node s) ⊎ IsFound found (point x.node s)
+      X s = IsIn old (point x.node s) ⊎ IsAmongFound found (point x.node s)
 
       Y : StructureForm → Type 0
       Y s = IsIn old (point x.node s) ⊎ IsFollowed t.program t.mode (IsIn old) (point x.node s)
@@ -118,7 +123,7 @@ module _ (t : TaskForm) (old new : List MembersForm) (found : List Found)
       Z s = X s ⊎ IsFollowed t.program t.mode (IsIn old) (point x.node s)
 
       -- a result lies under what was listed or found
-      under : (s : StructureForm) → IsFound found (point x.node s) ⊎ IsAbsorbed t.program old (point x.node s)
+      under : (s : StructureForm) → IsAmongFound found (point x.node s) ⊎ IsAbsorbed t.program old (point x.node s)
           → (r : StructureForm) × X r × (key_of t.program s ≡ key_of t.program r) × IsUnder s r
       under s (inl has) = (s, inr has, refl, under-itself s)
       under s (inr (r, has, key, up)) = (r, inl has, key, up)
@@ -140,7 +145,7 @@ module _ (t : TaskForm) (old new : List MembersForm) (found : List Found)
 -- ---- the first round
 
 pub starts-placed : (t : TaskForm) → IsValid t.program → (found : List Found) → AreOpenings t t.initial found → (x : Point)
-    → IsFound found x → IsPlaced t x
+    → IsAmongFound found x → IsPlaced t x
 starts-placed t valid found are x has =
     let only = are.only x has
     in record {
@@ -149,7 +154,7 @@ starts-placed t valid found are x has =
       stable = only.1.stable;
     }
 
-pub placed-found : (t : TaskForm) (found : List Found) → ((x : Point) → IsFound found x → IsPlaced t x)
+pub placed-found : (t : TaskForm) (found : List Found) → ((x : Point) → IsAmongFound found x → IsPlaced t x)
     → All (IsPlacedFound t) found
 placed-found t found placed =
     All-from_contains (IsPlacedFound t) found (λ f has. placed (record { node = f.node; structure = f.structure }) has)
@@ -165,8 +170,8 @@ nothing-in n x has =
 
 -- nothing is listed at first
 pub nothing-kept : (t : TaskForm) (n : ℕ) (j : JoinsForm) → n ≡ length t.program.nodes
-    → j ≡ record { nodes = replicate n no_members; room = Some t.max; changed = []; raised = [] } → IsKept t j
-nothing-kept t n j count e = subst (IsKept t) (sym e) (record {
+    → j ≡ record { nodes = replicate n no_members; room = Some t.max; changed = []; raised = [] } → IsJoinState t j
+nothing-kept t n j count e = subst (IsJoinState t) (sym e) (record {
   nodes = length-replicate n no_members ∙ count;
   each = λ k. subst (IsNode t.program) (sym (none-at n k)) (node-none t.program);
   room = omega (arith, nothing-total n);
@@ -186,7 +191,7 @@ module _ (t : TaskForm) (valid : IsValid t.program) (n : ℕ) (old new : JoinsFo
 
   first-exact : (x : Point) → IsIn new.nodes x ↔ round_in t 0 x
   first-exact x =
-      let X : StructureForm → Type 0 = λ s. IsIn old.nodes (point x.node s) ⊎ IsFound found (point x.node s)
+      let X : StructureForm → Type 0 = λ s. IsIn old.nodes (point x.node s) ⊎ IsAmongFound found (point x.node s)
       in let Y : StructureForm → Type 0 = λ s. IsStartPoint t.program t.initial (point x.node s)
       in let exact = joins-exact t.program X (at_node (listing_of new.nodes) x.node) (met.joins x.node) x.structure
       in (
@@ -194,7 +199,7 @@ module _ (t : TaskForm) (valid : IsValid t.program) (n : ℕ) (old new : JoinsFo
         λ is. exact.1 (by-key-like t.program Y X (λ s is'. inr (are.all (point x.node s) is')) (λ s is'. up s is') x.structure is),
       )
     where
-      up : (s : StructureForm) → IsIn old.nodes (point x.node s) ⊎ IsFound found (point x.node s)
+      up : (s : StructureForm) → IsIn old.nodes (point x.node s) ⊎ IsAmongFound found (point x.node s)
           → IsStartPoint t.program t.initial (point x.node s)
       up s (inl has) = absurd (none-in (point x.node s) has)
       up s (inr has) = (are.only (point x.node s) has).0
@@ -236,7 +241,7 @@ module _ (t : TaskForm) (valid : IsValid t.program) (n : ℕ) (old new : JoinsFo
           (record { found = listing_of new.nodes; all = λ x. (first-exact x).1; most = within })
 
 -- more than may be listed are different structures that the round lists
-pub too-many : (t : TaskForm) (j : JoinsForm) (round : ℕ) → IsKept t j → ((x : Point) → IsIn j.nodes x → round_in t round x)
+pub too-many : (t : TaskForm) (j : JoinsForm) (round : ℕ) → IsJoinState t j → ((x : Point) → IsIn j.nodes x → round_in t round x)
     → t.max < total_of j.nodes → IsJoinCause t.program t.mode t.initial t.max Structures
 too-many t j round kept listed more = (
   round,
@@ -270,23 +275,23 @@ first-cause t valid n old new found e are met more =
 module _ (t : TaskForm) (j : JoinsForm) (A : Point → Type 0) (found : List Found) (old new : List (List (List K3)))
     (before : HaveBeenFollowed t j A old)
     (are : AreFollowed t j.nodes j.changed (record { found = found; values = new }) old) where
-  pub all-followed : AreAllFollowed t j.nodes (λ x. IsFound found x ⊎ A x) new
+  pub all-followed : AreAllFollowed t j.nodes (λ x. IsAmongFound found x ⊎ A x) new
   all-followed w edge leaves = by (are.others w edge leaves)
     where
-      now : Contains j.changed w → IsFollowedAlong t j.nodes (λ x. IsFound found x ⊎ A x) new w edge
+      now : Contains j.changed w → IsFollowedAlong t j.nodes (λ x. IsAmongFound found x ⊎ A x) new w edge
       now has =
-          along-weaker t j.nodes (IsFound found) (λ x. IsFound found x ⊎ A x) new new (λ x is. inl is) w edge refl
+          along-weaker t j.nodes (IsAmongFound found) (λ x. IsAmongFound found x ⊎ A x) new new (λ x is. inl is) w edge refl
           (are.done w has edge leaves)
 
       earlier : values_at new edge w.at ≡ values_at old edge w.at
           → Contains j.changed w ⊎ IsFollowedFrom t j.nodes A old w
-          → IsFollowedAlong t j.nodes (λ x. IsFound found x ⊎ A x) new w edge
+          → IsFollowedAlong t j.nodes (λ x. IsAmongFound found x ⊎ A x) new w edge
       earlier same (inl has) = now has
       earlier same (inr followed) =
-          along-weaker t j.nodes A (λ x. IsFound found x ⊎ A x) old new (λ x is. inr is) w edge same (followed edge leaves)
+          along-weaker t j.nodes A (λ x. IsAmongFound found x ⊎ A x) old new (λ x is. inr is) w edge same (followed edge leaves)
 
       by : Contains j.changed w ⊎ (values_at new edge w.at ≡ values_at old edge w.at)
-          → IsFollowedAlong t j.nodes (λ x. IsFound found x ⊎ A x) new w edge
+          → IsFollowedAlong t j.nodes (λ x. IsAmongFound found x ⊎ A x) new w edge
       by (inl has) = now has
       by (inr same) = earlier same (before w)
 
@@ -306,7 +311,7 @@ module _ (t : TaskForm) (valid : IsValid t.program) (nodes : List MembersForm) (
   results-have x (before, has, (edge, taken, leads)) =
       let stands = in-stands nodes before.node before.structure has
       in let one : IsFollowedAt t A values edge taken stands.0 before.structure
-      = followed (place_of before.node stands.0) edge (taken, leads.is_edge, leads.leaves) taken leads.is_edge
+      = followed (member_place before.node stands.0) edge (taken, leads.is_edge, leads.leaves) taken leads.is_edge
       before.structure stands.1
       in let same = results-once t.program valid t.mode edge before.structure leads.result.0 one.results leads.result.1
       one.are_results
@@ -317,7 +322,7 @@ module _ (t : TaskForm) (valid : IsValid t.program) (nodes : List MembersForm) (
   pub budgets-kept : KeepAllBudgets t.program (IsIn nodes)
   budgets-kept edge x source =
       let stands = in-stands nodes x.node x.structure source.has
-      in (followed (place_of x.node stands.0) edge (source.taken, source.is_edge, source.leaves) source.taken source.is_edge
+      in (followed (member_place x.node stands.0) edge (source.taken, source.is_edge, source.leaves) source.taken source.is_edge
       x.structure stands.1).budgets
 
 all-budgets : (p : ProgramForm) (P Q : Point → Type 0) → ((x : Point) → Q x → P x) → KeepAllBudgets p P → KeepAllBudgets p Q
@@ -332,12 +337,12 @@ module _ (t : TaskForm) (valid : IsValid t.program) (round : ℕ) (old middle ne
     (are : AreFollowed t old.nodes old.changed (record { found = found; values = values }) before)
     (nodes : middle.nodes ≡ old.nodes) (met-middle : HaveMet t middle found new) where
   abbrev A : Point → Type 0
-  A x = IsFound found x ⊎ IsAbsorbed t.program old.nodes x
+  A x = IsAmongFound found x ⊎ IsAbsorbed t.program old.nodes x
 
   old-plain : (x : Point) → IsIn old.nodes x → IsPlain t.program x.structure
   old-plain = listed-plain t old at.kept
 
-  placed : (x : Point) → IsFound found x → IsPlaced t x
+  placed : (x : Point) → IsAmongFound found x → IsPlaced t x
   placed x has = (are.only x has).1
 
   all-are : AreAllFollowed t old.nodes A values
@@ -492,8 +497,8 @@ module _ (t : TaskForm) (old new : JoinsForm) (places : List Place) (taken : pla
   pub taken-nodes : new.nodes ≡ old.nodes
   taken-nodes = ap (λ (j : JoinsForm). j.nodes) left
 
-  pub taken-kept : IsKept t old → IsKept t new
-  taken-kept kept = subst (IsKept t) (sym left) (record {
+  pub taken-kept : IsJoinState t old → IsJoinState t new
+  taken-kept kept = subst (IsJoinState t) (sym left) (record {
     nodes = kept.nodes;
     each = kept.each;
     room = kept.room;
@@ -501,7 +506,7 @@ module _ (t : TaskForm) (old new : JoinsForm) (places : List Place) (taken : pla
     stable = kept.stable;
   })
 
-  pub taken-in : IsKept t old → AreIn new.nodes places
+  pub taken-in : IsJoinState t old → AreIn new.nodes places
   taken-in kept w has =
       subst (λ ns. w.at < length (members_at ns w.node).structures) (sym taken-nodes)
       (kept.places w (subst (λ ws. Contains ws w) taken has))

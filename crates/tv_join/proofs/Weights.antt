@@ -1,5 +1,6 @@
 -- How far structures have risen.
-use Rattle.std.proofs.Common.{ℕ, ◌≡◌, ◌≢◌, ◌<◌, ◌≤◌, ◌+◌, ◌*◌, ◌⊎◌, zero, suc, inl, inr, Bool, true, false, List, [], ◌∷◌, length, get_or, refl, sym, ap, subst, ◌∙◌, arith, true≢false}
+use Rattle.std.proofs.Common.{ℕ, ◌≡◌, ◌≢◌, ◌<◌, ◌≤◌, ◌+◌, ◌*◌, ◌⊎◌, zero, suc, inl, inr, Bool, true, false}
+use Rattle.std.proofs.Common.{List, [], ◌∷◌, length, get_or, refl, sym, ap, subst, ◌∙◌, arith, true≢false}
 use Rattle.std.specs.Prelude.{All, IsTrue, sum_by}
 use Rattle.std.specs.List.{AllZip}
 use Rattle.std.proofs.lemmas.Bool.{cases_lt}
@@ -12,11 +13,12 @@ use Rattle.tv_kleene.specs.declared.K3.TheVariants.{No, Half, Yes}
 use Rattle.tv_kleene.specs.Kleene.{LiesUnder}
 use Rattle.tv_model.specs.Program.{PredForm}
 use Rattle.tv_struct.specs.Halves.{half_of, half_of_flag, row_halves, plane_halves, half_count}
-use Rattle.tv_struct.specs.TableForm.{PlaneForm, IsPlane, no_plane, value_in, cell, row_of, column_of, row_count, column_count}
+use Rattle.tv_struct.specs.TableForm.{PlaneForm, IsPlane, no_plane, value_in, cell, row_of, column_of}
+use Rattle.tv_struct.specs.TableForm.{row_count, column_count}
 use Rattle.tv_struct.specs.StructureForm.{StructureForm, IsStructure}
 use Rattle.tv_struct.proofs.StructureLaws.{value_in-fits}
 use Rattle.tv_work.specs.Task.{TaskForm}
-use Rattle.tv_keys.specs.Joined.{IsUnder}
+use Rattle.tv_join.specs.Pairwise.{IsUnder}
 use Rattle.tv_join.specs.Flags.{IsPlain}
 use Rattle.tv_join.specs.Weight.{structure_weight, structures_weight, listing_weight, most_structure}
 

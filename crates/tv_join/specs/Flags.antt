@@ -2,7 +2,7 @@
 use Rattle.std.specs.Prelude.{◌≡◌, ◌==◌, ◌||◌, Bool, List, None, map}
 use Rattle.tv_model.specs.Program.{ProgramForm, PredForm}
 use Rattle.tv_struct.specs.StructureForm.{StructureForm, IsStructure}
-use Rattle.tv_transfer.specs.Shaped.{IsShaped, is_telling}
+use Rattle.tv_step_laws.specs.Shaped.{IsShaped, is_telling}
 
 -- the predicate counts for keys: it is nullary, or names tell it
 abbrev pub is_counted : PredForm → Bool

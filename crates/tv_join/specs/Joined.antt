@@ -7,9 +7,11 @@ use Rattle.tv_model.specs.Program.{ProgramForm}
 use Rattle.tv_listing.specs.declared.analysis.MessageLine.{MessageLine}
 use Rattle.tv_struct.specs.Order.{structure_cmp}
 use Rattle.tv_struct.specs.declared.analysis.StageError.{StageError}
-use Rattle.tv_struct.specs.declared.analysis.StageError.TheVariants.{Splits as splits, Individuals as individuals, Memory as memory}
+use Rattle.tv_struct.specs.declared.analysis.StageError.TheVariants.{Splits as splits}
+use Rattle.tv_struct.specs.declared.analysis.StageError.TheVariants.{Individuals as individuals}
+use Rattle.tv_struct.specs.declared.analysis.StageError.TheVariants.{Memory as memory}
 use Rattle.tv_struct.specs.StructureForm.{StructureForm}
-use Rattle.tv_transfer.specs.Budgets.{MeetsSplits, MeetsIndividuals}
+use Rattle.tv_step_laws.specs.Budgets.{MeetsSplits, MeetsIndividuals}
 use Rattle.tv_work.specs.Analysed.{IsReported, IsBefore, KeepAllBudgets, Meets}
 use Rattle.tv_work.specs.Reach.{Point, IsListed, AreMoreThan}
 use Rattle.tv_join.specs.Keys.{key_of}

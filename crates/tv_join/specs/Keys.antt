@@ -6,10 +6,11 @@ use Rattle.std.specs.List.{range_with_len}
 use Rattle.tv_kleene.specs.declared.K3.{K3}
 use Rattle.tv_model.specs.Program.{ProgramForm}
 use Rattle.tv_struct.specs.TableForm.{HasEntry}
-use Rattle.tv_struct.specs.StructureForm.{StructureForm, IsStructure, structure_of, table_of, value_at, summary_at, kept_from}
+use Rattle.tv_struct.specs.StructureForm.{StructureForm, IsStructure, structure_of, table_of, value_at}
+use Rattle.tv_struct.specs.StructureForm.{summary_at, kept_from}
 use Rattle.tv_blur.specs.Merged.{IsJoin}
-use Rattle.tv_blur.specs.Names.{name_of}
-use Rattle.tv_transfer.specs.Shaped.{IsShaped, telling_preds}
+use Rattle.tv_blur.specs.Names.{canonical_name}
+use Rattle.tv_step_laws.specs.Shaped.{IsShaped, telling_preds}
 
 -- the program's nullary predicates, by number
 abbrev pub nullary_preds : ProgramForm → List ℕ
@@ -24,7 +25,7 @@ pub record Key : Type 0 where
 abbrev pub key_of : ProgramForm → StructureForm → Key
 key_of p s = record {
   nullary = map (λ pred. value_at s pred []) (nullary_preds p);
-  names = map (name_of (telling_preds p) (structure_of s)) (range_with_len 0 s.size);
+  names = map (canonical_name (telling_preds p) (structure_of s)) (range_with_len 0 s.size);
 }
 
 -- k is the value at the tuple in one of the structures

@@ -1,6 +1,7 @@
 pub mod Keys
 pub mod Rounds
 pub mod Joined
+pub mod Laws
 pub mod Flags
 pub mod Listed
 pub mod Places
@@ -9,3 +10,6 @@ pub mod Values
 pub mod Weight
 pub mod Task
 pub mod Stepped
+pub mod Keyed
+pub mod Pairwise
+pub mod Members

@@ -2,8 +2,8 @@
 use Rattle.std.specs.Prelude.{ℕ, ◌≡◌, ◌⊎◌, List, Contains}
 use Rattle.tv_join.specs.declared.places.Place.{Place}
 
-abbrev pub place_of : (node at : ℕ) → Place
-place_of node at = record { node = node; at = at }
+abbrev pub member_place : (node at : ℕ) → Place
+member_place node at = record { node = node; at = at }
 
 -- the place is noted beside those before
 pub record Notes (place : Place) (old new : List Place) : Type 0 where

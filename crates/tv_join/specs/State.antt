@@ -1,17 +1,18 @@
 -- What is listed between two rounds.
-use Rattle.std.specs.Prelude.{ℕ, ◌≡◌, ◌<◌, ◌+◌, ◌⊎◌, zero, suc, Bool, List, [], length, sum_by, map, Option, Some, None, Contains, slice_get, slice_set, slice_index_or}
+use Rattle.std.specs.Prelude.{ℕ, ◌≡◌, ◌<◌, ◌+◌, ◌⊎◌, zero, suc, Bool, List, [], length, sum_by, map, Option}
+use Rattle.std.specs.Prelude.{Some, None, Contains, slice_get, slice_set, slice_index_or}
 use Rattle.tv_model.specs.Program.{ProgramForm}
 use Rattle.tv_struct.specs.StructureForm.{StructureForm}
 use Rattle.tv_step.specs.Setting.{IsStableIn}
 use Rattle.tv_work.specs.Reach.{Point, IsListed}
 use Rattle.tv_work.specs.Task.{TaskForm}
-use Rattle.tv_keys.specs.Members.{MembersForm, IsIndexed, Puts}
-use Rattle.tv_keys.specs.Joined.{IsUnder}
-use Rattle.tv_keys.specs.declared.members.Put.{Put}
-use Rattle.tv_keys.specs.declared.members.Put.TheVariants.{Known, Raised, Added}
+use Rattle.tv_join.specs.Members.{MembersForm, IsIndexed, Puts}
+use Rattle.tv_join.specs.Pairwise.{IsUnder}
+use Rattle.tv_join.specs.declared.members.Put.{Put}
+use Rattle.tv_join.specs.declared.members.Put.TheVariants.{Known, Raised, Added}
 use Rattle.tv_join.specs.Flags.{key_flags, IsPlain}
 use Rattle.tv_join.specs.Keys.{key_of}
-use Rattle.tv_join.specs.Places.{place_of, Notes}
+use Rattle.tv_join.specs.Places.{member_place, Notes}
 use Rattle.tv_join.specs.Rounds.{point}
 use Rattle.tv_join.specs.declared.joins.Found.{Found}
 use Rattle.tv_join.specs.declared.places.Place.{Place}
@@ -29,7 +30,8 @@ members_at nodes k = slice_index_or nodes k no_members
 pub record IsNode (p : ProgramForm) (m : MembersForm) : Type 0 where
   pub indexed : IsIndexed (key_flags p) m
   pub plain : (s : StructureForm) → Contains m.structures s → IsPlain p s
-  pub own : (i j : ℕ) (s t : StructureForm) → slice_get m.structures i ≡ Some s → slice_get m.structures j ≡ Some t
+  pub own : (i j : ℕ) (s t : StructureForm) → slice_get m.structures i ≡ Some s
+      → slice_get m.structures j ≡ Some t
       → key_of p s ≡ key_of p t → i ≡ j
 
 -- what is listed
@@ -61,12 +63,13 @@ abbrev pub HasRoom : (max total : ℕ) → Option ℕ → Type 0
 HasRoom max total (Some more) = total + more ≡ max
 HasRoom max total None = max < total
 
-pub record IsKept (t : TaskForm) (j : JoinsForm) : Type 0 where
+pub record IsJoinState (t : TaskForm) (j : JoinsForm) : Type 0 where
   pub nodes : length j.nodes ≡ length t.program.nodes
   pub each : (k : ℕ) → IsNode t.program (members_at j.nodes k)
   pub room : HasRoom t.max (total_of j.nodes) j.room
   pub places : (w : Place) → Contains j.changed w → w.at < length (members_at j.nodes w.node).structures
-  pub stable : (w : Place) (s : StructureForm) → StandsAt j.nodes w s → Contains j.raised w ⊎ IsStableIn t.program s
+  pub stable : (w : Place) (s : StructureForm) → StandsAt j.nodes w s
+      → Contains j.raised w ⊎ IsStableIn t.program s
 
 -- ---- structures are put
 
@@ -84,17 +87,18 @@ room_after Added room = less room
 -- what became of a structure that was put at the node, which had so many, is noted
 abbrev pub NotesPut : (node count : ℕ) → Put → (old new : List Place) → Type 0
 NotesPut node count Known old new = new ≡ old
-NotesPut node count (Raised at) old new = Notes (place_of node at) old new
-NotesPut node count Added old new = Notes (place_of node count) old new
+NotesPut node count (Raised at) old new = Notes (member_place node at) old new
+NotesPut node count Added old new = Notes (member_place node count) old new
 
 -- and where it was raised, its place is noted too
 abbrev pub NotesRaised : (node : ℕ) → Put → (old new : List Place) → Type 0
 NotesRaised node Known old new = new ≡ old
-NotesRaised node (Raised at) old new = Notes (place_of node at) old new
+NotesRaised node (Raised at) old new = Notes (member_place node at) old new
 NotesRaised node Added old new = new ≡ old
 
 -- the structure is put at the node, and this comes of it
-pub record IsPut (counted : List Bool) (old : JoinsForm) (k : ℕ) (s : StructureForm) (new : JoinsForm) (put : Put) : Type
+pub record IsPut (counted : List Bool) (old : JoinsForm) (k : ℕ) (s : StructureForm) (new : JoinsForm)
+    (put : Put) : Type
     0 where
   pub node : MembersForm
   pub set : new.nodes ≡ slice_set old.nodes k node
@@ -105,7 +109,8 @@ pub record IsPut (counted : List Bool) (old : JoinsForm) (k : ℕ) (s : Structur
   pub raised : new.raised ≡ old.raised
 
 -- and that is noted
-pub record IsMet (counted : List Bool) (old : JoinsForm) (k : ℕ) (s : StructureForm) (new : JoinsForm) : Type 0
+pub record IsMet (counted : List Bool) (old : JoinsForm) (k : ℕ) (s : StructureForm)
+    (new : JoinsForm) : Type 0
   where
     pub node : MembersForm
     pub put : Put
@@ -119,8 +124,8 @@ pub record IsMet (counted : List Bool) (old : JoinsForm) (k : ℕ) (s : Structur
 -- ---- what was found
 
 -- it is among what was found
-abbrev pub IsFound : List Found → Point → Type 0
-IsFound found x = Contains found (record { node = x.node; structure = x.structure })
+abbrev pub IsAmongFound : List Found → Point → Type 0
+IsAmongFound found x = Contains found (record { node = x.node; structure = x.structure })
 
 -- a listed structure of its key lies above it
 abbrev pub IsAbsorbed : ProgramForm → List MembersForm → Point → Type 0

@@ -5,11 +5,11 @@ use Rattle.tv_kleene.specs.Kleene.{larger_of}
 use Rattle.tv_model.specs.declared.program.Edge.{Edge}
 use Rattle.tv_model.specs.Program.{ProgramForm}
 use Rattle.tv_struct.specs.StructureForm.{StructureForm}
-use Rattle.tv_transfer.specs.Budgets.{KeepsBudgets, MeetsSplits, MeetsIndividuals}
+use Rattle.tv_step_laws.specs.Budgets.{KeepsBudgets, MeetsSplits, MeetsIndividuals}
 use Rattle.tv_step.specs.Setting.{IsStableIn}
-use Rattle.tv_transfer.specs.Settled.{IsSettled}
-use Rattle.tv_transfer.specs.Transfer.{AreMessageValues, AreResults, IsMessageValue, IsOpening, HasNoOpening}
-use Rattle.tv_keys.specs.Members.{MembersForm}
+use Rattle.tv_step_laws.specs.Settled.{IsSettled}
+use Rattle.tv_step_laws.specs.Transfer.{AreMessageValues, AreResults, IsMessageValue, IsOpening, HasNoOpening}
+use Rattle.tv_join.specs.Members.{MembersForm}
 use Rattle.tv_work.specs.Analysed.{KeepAllBudgets, Meets}
 use Rattle.tv_work.specs.Explored.{AreSaid}
 use Rattle.tv_work.specs.Leaving.{LeavesBy}
@@ -21,7 +21,8 @@ use Rattle.tv_join.specs.Flags.{IsPlain}
 use Rattle.tv_join.specs.Joined.{AreAtMost}
 use Rattle.tv_join.specs.Listed.{AreJoins}
 use Rattle.tv_join.specs.Rounds.{point, IsFollowed, IsLast}
-use Rattle.tv_join.specs.State.{JoinsForm, IsAbsorbed, IsFound, IsIn, IsKept, StandsAt, listing_of, members_at, total_of}
+use Rattle.tv_join.specs.State.{JoinsForm, IsAbsorbed, IsAmongFound, IsIn, IsJoinState, StandsAt, listing_of}
+use Rattle.tv_join.specs.State.{members_at, total_of}
 use Rattle.tv_join.specs.Task.{round_in}
 use Rattle.tv_join.specs.Values.{values_at}
 use Rattle.tv_join.specs.Weight.{listing_weight}
@@ -47,17 +48,17 @@ IsResultOf t nodes x = IsFollowed t.program t.mode (IsIn nodes) x × IsPlaced t 
 
 -- from what was found before to what is found now: nothing is lost, and what has the property is added
 pub record Finds (P : Point → Type 0) (old new : List Found) : Type 0 where
-  pub kept : (x : Point) → IsFound old x → IsFound new x
-  pub all : (x : Point) → P x → IsFound new x
-  pub only : (x : Point) → IsFound new x → IsFound old x ⊎ P x
+  pub kept : (x : Point) → IsAmongFound old x → IsAmongFound new x
+  pub all : (x : Point) → P x → IsAmongFound new x
+  pub only : (x : Point) → IsAmongFound new x → IsAmongFound old x ⊎ P x
 
 -- ---- steps
 
 -- from what was found before to what is found now: nothing is lost, and only results of what is listed are
 -- found
 pub record Gathers (t : TaskForm) (nodes : List MembersForm) (old new : List Found) : Type 0 where
-  pub kept : (x : Point) → IsFound old x → IsFound new x
-  pub only : (x : Point) → IsFound new x → IsFound old x ⊎ IsResultOf t nodes x
+  pub kept : (x : Point) → IsAmongFound old x → IsAmongFound new x
+  pub only : (x : Point) → IsAmongFound new x → IsAmongFound old x ⊎ IsResultOf t nodes x
 
 -- the structure at that place of the edge's source is followed along the edge: its results have the property
 -- at the edge's target, and the values of its messages are kept
@@ -97,7 +98,7 @@ AreIn nodes places = (w : Place) → Contains places w → w.at < length (member
 
 -- only results of what is listed are found
 abbrev pub AreResultsOf : TaskForm → (nodes : List MembersForm) → List Found → Type 0
-AreResultsOf t nodes found = (x : Point) → IsFound found x → IsResultOf t nodes x
+AreResultsOf t nodes found = (x : Point) → IsAmongFound found x → IsResultOf t nodes x
 
 -- what was found, and the values that are kept
 pub record GatheredForm : Type 0 where
@@ -109,7 +110,7 @@ pub record GatheredForm : Type 0 where
 pub record AreFollowed (t : TaskForm) (nodes : List MembersForm) (places : List Place) (now : GatheredForm)
     (before : List (List (List K3))) : Type 0 where
   pub only : AreResultsOf t nodes now.found
-  pub done : (w : Place) → Contains places w → IsFollowedFrom t nodes (IsFound now.found) now.values w
+  pub done : (w : Place) → Contains places w → IsFollowedFrom t nodes (IsAmongFound now.found) now.values w
   pub others : (w : Place) (edge : ℕ) → LeavesBy t.program.edges w.node edge
       → Contains places w ⊎ (values_at now.values edge w.at ≡ values_at before edge w.at)
 
@@ -146,7 +147,8 @@ pub record IsDoneAlong (t : TaskForm) (A : Point → Type 0) (told : List (List 
   pub budgets : KeepsBudgets t.program edge s
 
 -- all that is listed is followed along all edges
-pub record AreStepped (t : TaskForm) (nodes : List MembersForm) (A : Point → Type 0) (told : List (List K3)) : Type
+pub record AreStepped (t : TaskForm) (nodes : List MembersForm) (A : Point → Type 0)
+    (told : List (List K3)) : Type
     0 where
   pub done : (edge : ℕ) (taken : Edge) → slice_get t.program.edges edge ≡ Some taken → (s : StructureForm)
       → IsIn nodes (point taken.from s) → IsDoneAlong t A told edge taken s
@@ -156,7 +158,8 @@ pub record AreStepped (t : TaskForm) (nodes : List MembersForm) (A : Point → T
 
 -- what is listed are the joins by key of what was listed and what was found
 abbrev pub AreJoinsOf : TaskForm → (old new : List MembersForm) → List Found → Type 0
-AreJoinsOf t old new found = (k : ℕ) → AreJoins t.program (λ s. IsIn old (point k s) ⊎ IsFound found (point k s))
+AreJoinsOf t old new found =
+    (k : ℕ) → AreJoins t.program (λ s. IsIn old (point k s) ⊎ IsAmongFound found (point k s))
     (at_node (listing_of new) k)
 
 -- nothing changed, or what is listed has risen
@@ -166,10 +169,11 @@ Rises old new = ((new.changed ≡ []) × (listing_of new.nodes ≡ old))
 
 -- what stands at a place whose change isn't noted stood there before
 abbrev pub Stay : (old : List MembersForm) → (new : JoinsForm) → Type 0
-Stay old new = (w : Place) (s : StructureForm) → StandsAt new.nodes w s → Contains new.changed w ⊎ StandsAt old w s
+Stay old new =
+    (w : Place) (s : StructureForm) → StandsAt new.nodes w s → Contains new.changed w ⊎ StandsAt old w s
 
 pub record HaveMet (t : TaskForm) (old : JoinsForm) (found : List Found) (new : JoinsForm) : Type 0 where
-  pub kept : IsKept t new
+  pub kept : IsJoinState t new
   pub joins : AreJoinsOf t old.nodes new.nodes found
   pub rises : Rises (listing_of old.nodes) new
   pub stay : Stay old.nodes new
@@ -188,15 +192,16 @@ pub record IsOpeningPoint (t : TaskForm) (s : StructureForm) (x : Point) : Type 
 
 -- the opening of the structure, if there is one, is found beside what was found before
 pub record FindsOpening (t : TaskForm) (s : StructureForm) (old new : List Found) : Type 0 where
-  pub kept : (x : Point) → IsFound old x → IsFound new x
-  pub all : (x : Point) → x.node ≡ 0 → IsOpening t.program s x.structure → IsFound new x
-  pub only : (x : Point) → IsFound new x → IsFound old x ⊎ IsOpeningPoint t s x
+  pub kept : (x : Point) → IsAmongFound old x → IsAmongFound new x
+  pub all : (x : Point) → x.node ≡ 0 → IsOpening t.program s x.structure → IsAmongFound new x
+  pub only : (x : Point) → IsAmongFound new x → IsAmongFound old x ⊎ IsOpeningPoint t s x
 
 -- exactly the openings of the structures are found
 pub record AreOpenings (t : TaskForm) (structures : List StructureForm) (found : List Found) : Type 0 where
   pub any : All (IsOpenable t.program) structures
-  pub all : (x : Point) → IsStartPoint t.program structures x → IsFound found x
-  pub only : (x : Point) → IsFound found x → IsStartPoint t.program structures x × IsSettled t.program x.structure
+  pub all : (x : Point) → IsStartPoint t.program structures x → IsAmongFound found x
+  pub only : (x : Point) → IsAmongFound found x
+      → IsStartPoint t.program structures x × IsSettled t.program x.structure
 
 -- ---- rounds
 
@@ -207,7 +212,7 @@ pub record AreOpened (t : TaskForm) (A : Point → Type 0) : Type 0 where
 
 -- what the round lists is listed, and no round up to this one lists too many
 pub record IsAtRound (t : TaskForm) (round : ℕ) (j : JoinsForm) : Type 0 where
-  pub kept : IsKept t j
+  pub kept : IsJoinState t j
   pub listed : (x : Point) → IsIn j.nodes x → round_in t round x
   pub all : (x : Point) → round_in t round x → IsIn j.nodes x
   pub within : total_of j.nodes ≤ t.max

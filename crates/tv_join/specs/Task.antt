@@ -21,9 +21,9 @@ task_of x = record { program = form_in x; mode = x.mode; initial = x.initial.now
 abbrev pub round_in : TaskForm → (round : ℕ) → Point → Type 0
 round_in t round = IsInRound t.program t.mode t.initial round
 
--- the program is valid, the engine is that of the program and the mode, the edges are listed by their sources,
--- the flags are those of its keys, the initial structures are over the vocabulary, and the scratch was made for
--- the program
+-- the program is valid, the engine is that of the program and the mode, the edges are listed by their
+-- sources, the flags are those of its keys, the initial structures are over the vocabulary, and the scratch
+-- was made for the program
 pub record IsReady (x : Task) (scratch : ScratchForm) : Type 0 where
   pub valid : IsValid (form_in x)
   pub engine : x.engine.now ≡ record { program = x.program.now; mode = x.mode }

@@ -16,5 +16,5 @@ abbrev pub ChangesPlace : (place : ℕ) → (old new : List (List K3)) → Type 
 ChangesPlace place old new = (p : ℕ) → (p ≡ place) ⊎ (slice_index_or new p [] ≡ slice_index_or old p [])
 
 -- at each place there are the values that were there before
-abbrev pub Keeps : (old new : List (List K3)) → Type 0
-Keeps old new = (p : ℕ) → slice_index_or new p [] ≡ slice_index_or old p []
+abbrev pub AreValuesAsBefore : (old new : List (List K3)) → Type 0
+AreValuesAsBefore old new = (p : ℕ) → slice_index_or new p [] ≡ slice_index_or old p []

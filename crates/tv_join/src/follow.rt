@@ -1,14 +1,10 @@
 //! Structures are opened and followed.
 
-ghost use Rattle.std.specs.Prelude.{◌≡◌, ◌<◌, ◌⊎◌, true, All, Contains, IfOk, IfErr, OnOk, length};
-ghost use Rattle.tv_step.specs.Setting.{IsStableIn};
-ghost use Rattle.tv_struct.specs.StructureForm.{IsOver};
-ghost use Rattle.tv_transfer.specs.Budgets.{IsStepCause, KeepsBudgets};
-ghost use Rattle.tv_transfer.specs.Settled.{IsSettled};
-ghost use Rattle.tv_transfer.specs.Transfer.{AreMessageValues, AreResults};
+ghost use Rattle.std.specs.Prelude.{◌≡◌, ◌<◌, Contains, IfOk, IfErr, OnOk, length};
 ghost use Rattle.tv_work.specs.Leaving.{LeavesBy};
-ghost use Rattle.tv_join.specs.State.{IsKept, IsIn, IsFound, members_at};
-ghost use Rattle.tv_join.specs.Stepped.{AreFollowed, AreIn, AreOpenings, ChangesFrom, Finds, FindsOpening, Gathers, IsFollowCause, IsFollowedAlong, IsFollowedFrom, IsOpenable};
+ghost use Rattle.tv_join.specs.State.{IsJoinState, IsIn, IsAmongFound, members_at};
+ghost use Rattle.tv_join.specs.Stepped.{AreFollowed, AreIn, AreOpenings, ChangesFrom, Finds, FindsOpening};
+ghost use Rattle.tv_join.specs.Stepped.{Gathers, IsFollowCause, IsFollowedAlong, IsFollowedFrom, IsOpenable};
 ghost use Rattle.tv_join.specs.Task.{form_in, task_of, IsReady};
 ghost use Rattle.tv_join.specs.Values.{ChangesAlong};
 
@@ -19,8 +15,7 @@ use crate::task::Task;
 use crate::values::MessageValues;
 use std::alloc::AllocError;
 use tv_eval::Scratch;
-use tv_step::StepOut;
-use tv_struct::{StageError, Structure, Structures};
+use tv_struct::{Structure, Structures};
 
 /// The openings of the initial structures, for the start node.
 pub(crate) fn openings(x: &Task, scratch: &mut Scratch) -> Result<Vec<Found>, AllocError>
@@ -57,8 +52,8 @@ fn open(
     }
 }
 
-/// Follows the structures at these places along all edges that leave their nodes: what is found, and the values
-/// of their messages, which are kept.
+/// Follows the structures at these places along all edges that leave their nodes: what is found, and the
+/// values of their messages, which are kept.
 pub(crate) fn follow_all(
     x: &Task,
     joins: &Joins,
@@ -67,7 +62,7 @@ pub(crate) fn follow_all(
     values: &mut MessageValues,
 ) -> Result<Vec<Found>, JoinError>
     requires ready { IsReady x.now scratch.old }
-    requires kept { IsKept (task_of x.now) joins.now }
+    requires kept { IsJoinState (task_of x.now) joins.now }
     requires places { AreIn joins.now.nodes places }
     requires edges { length values.old ≡ length x.now.program.now.edges }
     ensures followed { IfOk result (λ found. AreFollowed (task_of x.now) joins.now.nodes places
@@ -94,13 +89,14 @@ fn follow(
     values: &mut MessageValues,
 ) -> Result<(), JoinError>
     requires ready { IsReady x.now scratch.old }
-    requires kept { IsKept (task_of x.now) joins.now }
+    requires kept { IsJoinState (task_of x.now) joins.now }
     requires place { w.at < length (members_at joins.now.nodes w.node).structures }
     requires edges { length values.old ≡ length x.now.program.now.edges }
     ensures gathers { OnOk result (Gathers (task_of x.now) joins.now.nodes found.old.items found.new.items) }
     ensures edges { OnOk result (length values.new ≡ length x.now.program.now.edges) }
     ensures others { OnOk result (ChangesFrom (task_of x.now) w values.old values.new) }
-    ensures followed { OnOk result (IsFollowedFrom (task_of x.now) joins.now.nodes (IsFound found.new.items)
+    ensures followed { OnOk result
+        (IsFollowedFrom (task_of x.now) joins.now.nodes (IsAmongFound found.new.items)
         values.new w) }
     ensures cause { IfErr result (IsFollowCause (form_in x.now) (IsIn joins.now.nodes)) }
     ensures scratch { scratch.new ≡ scratch.old }
@@ -123,50 +119,25 @@ fn follow_edge(
     values: &mut MessageValues,
 ) -> Result<(), JoinError>
     requires ready { IsReady x.now scratch.old }
-    requires kept { IsKept (task_of x.now) joins.now }
+    requires kept { IsJoinState (task_of x.now) joins.now }
     requires place { w.at < length (members_at joins.now.nodes w.node).structures }
     requires edge { LeavesBy x.now.program.now.edges w.node edge }
     requires edges { length values.old ≡ length x.now.program.now.edges }
     ensures gathers { OnOk result (Gathers (task_of x.now) joins.now.nodes found.old.items found.new.items) }
     ensures others { OnOk result (ChangesAlong edge w.at values.old values.new) }
-    ensures followed { OnOk result (IsFollowedAlong (task_of x.now) joins.now.nodes (IsFound found.new.items)
+    ensures followed { OnOk result
+        (IsFollowedAlong (task_of x.now) joins.now.nodes (IsAmongFound found.new.items)
         values.new w edge) }
     ensures cause { IfErr result (IsFollowCause (form_in x.now) (IsIn joins.now.nodes)) }
     ensures scratch { scratch.new ≡ scratch.old }
 {
     let to = x.program.edges.as_slice()[edge as usize].to;
     let s = joins.at(w);
-    let out = step(x, edge, s, joins.has_risen(w), scratch)?;
+    // one that stands as it was found is stable
+    let out = x.engine.step_of(edge, s, !joins.has_risen(w), scratch)?;
     values.keep(x.alloc, edge, w.at, out.messages)?;
     push_found(to, out.results, found)?;
     Ok(())
-}
-
-/// The step of the structure along the edge. One that stands as it was found is stable, and needs no coerce to
-/// begin with.
-fn step(
-    x: &Task,
-    edge: u32,
-    s: &Structure,
-    has_risen: bool,
-    scratch: &mut Scratch,
-) -> Result<StepOut, StageError>
-    requires ready { IsReady x.now scratch.old }
-    requires edge { edge < length x.now.program.now.edges }
-    requires over { IsOver x.now.program.now.vocab s.now }
-    requires stable { (has_risen ≡ true) ⊎ IsStableIn (form_in x.now) s.now }
-    ensures results { IfOk result (λ out. AreResults (form_in x.now) x.now.mode edge s.now out.results) }
-    ensures values { IfOk result (λ out. AreMessageValues (form_in x.now) edge s.now out.messages) }
-    ensures settled { IfOk result (λ out. All (IsSettled (form_in x.now)) out.results) }
-    ensures budgets { OnOk result (KeepsBudgets (form_in x.now) edge s.now) }
-    ensures cause { IfErr result (IsStepCause (form_in x.now) edge s.now) }
-    ensures scratch { scratch.new ≡ scratch.old }
-{
-    if has_risen {
-        x.engine.step(edge, s, scratch)
-    } else {
-        x.engine.stable_step(edge, s, scratch)
-    }
 }
 
 /// Puts the structures, found for the node, behind what was found before.

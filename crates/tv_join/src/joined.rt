@@ -5,7 +5,7 @@ ghost use Rattle.tv_listing.specs.ListingForm.{AreSorted};
 ghost use Rattle.tv_model.specs.Program.{pred_of, program_of};
 ghost use Rattle.tv_model.specs.Valid.{IsValid};
 ghost use Rattle.tv_struct.specs.StructureForm.{IsStructure, IsOver};
-ghost use Rattle.tv_transfer.specs.Closed.{IsClosed, CoversRuns};
+ghost use Rattle.tv_step_laws.specs.Closed.{IsClosed, CoversRuns};
 ghost use Rattle.tv_work.specs.Told.{AreLines};
 ghost use Rattle.tv_join.specs.Flags.{is_counted, key_flags};
 ghost use Rattle.tv_join.specs.Joined.{IsJoined, IsJoinCause};
@@ -17,10 +17,10 @@ use crate::task::Task;
 use std::alloc::{AllocError, Global};
 use tv_eval::Scratch;
 use tv_listing::Analysis;
-use tv_model::{Items, Mode, Pred, Program};
+use tv_model::{Mode, Pred, Program};
 use tv_step::Engine;
 use tv_struct::Structures;
-use tv_work::leaving_edges;
+use tv_work::{analysis_of, leaving_edges};
 
 /// For each predicate whether it counts for keys: it is nullary, or individuals are told apart by it.
 fn key_flags(alloc: Global, program: &Program) -> Result<Vec<bool>, AllocError>
@@ -49,11 +49,7 @@ fn answer(alloc: Global, ended: Ended) -> Result<Analysis, AllocError>
 {
     let Ended { joins, told } = ended;
     let listing = joins.into_listing(alloc)?;
-    Ok(Analysis {
-        listing: listing.sorted()?,
-        messages: told.lines(alloc)?,
-        maps: Items::new(alloc),
-    })
+    analysis_of(alloc, listing, told)
 }
 
 /// What the rounds of the joined analysis come to, and the messages that may be true there; it names no

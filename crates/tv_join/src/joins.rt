@@ -1,21 +1,23 @@
 //! What is listed, at all nodes.
 
-ghost use Rattle.std.specs.Prelude.{◌≡◌, ◌≢◌, ◌<◌, ◌≤◌, ◌^◌, ℕ, [], All, Contains, None, Some, IfOk, IfErr, MatchBool, OnOk, length, replicate, slice_set};
+ghost use Rattle.std.specs.Prelude.{◌≡◌, ◌≢◌, ◌<◌, ◌≤◌, ◌^◌, ℕ, [], All, Contains, None, Some, IfOk, IfErr};
+ghost use Rattle.std.specs.Prelude.{MatchBool, OnOk, length, replicate, slice_set};
 ghost use Rattle.tv_listing.specs.ListingForm.{at_node};
-ghost use Rattle.tv_keys.specs.Keyed.{AreFlags};
-ghost use Rattle.tv_keys.specs.Members.{IsIndexed};
+ghost use Rattle.tv_join.specs.Keyed.{AreFlags};
+ghost use Rattle.tv_join.specs.Members.{IsIndexed};
 ghost use Rattle.tv_join.specs.Flags.{key_flags};
-ghost use Rattle.tv_join.specs.State.{JoinsForm, no_members, members_at, less, room_after, NotesPut, NotesRaised, IsPut, IsMet, IsKept, StandsAt, total_of};
+ghost use Rattle.tv_join.specs.State.{JoinsForm, no_members, members_at, less, room_after, NotesPut};
+ghost use Rattle.tv_join.specs.State.{NotesRaised, IsPut, IsMet, IsJoinState, StandsAt, total_of};
 ghost use Rattle.tv_join.specs.Stepped.{IsPlacedFound, HaveMet, IsMeetingCause};
 ghost use Rattle.tv_join.specs.Task.{task_of, form_in};
 
 use crate::JoinError;
+use crate::members::{Members, Put};
 use crate::places::{Place, Places};
 use crate::task::Task;
 use std::alloc::{AllocError, Global};
 use std::marker::Model;
 use std::mem;
-use tv_keys::{Members, Put};
 use tv_listing::Listing;
 use tv_struct::Structure;
 
@@ -88,7 +90,7 @@ impl Joins {
     /// changes. `Structures` where too many are then listed.
     pub fn meet_all(&mut self, x: &Task, found: Vec<Found>) -> Result<(), JoinError>
         requires flags { x.now.counted.now ≡ key_flags (form_in x.now) }
-        requires kept { IsKept (task_of x.now) self.old }
+        requires kept { IsJoinState (task_of x.now) self.old }
         requires none { self.old.changed ≡ [] }
         requires placed { All (IsPlacedFound (task_of x.now)) found.items }
         ensures met { OnOk result (HaveMet (task_of x.now) self.old found.items self.new) }

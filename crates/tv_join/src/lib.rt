@@ -6,6 +6,10 @@ mod error;
 mod follow;
 mod joined;
 mod joins;
+mod key;
+mod laws;
+mod members;
+mod pairwise;
 mod places;
 mod rounds;
 mod task;
@@ -14,3 +18,4 @@ mod values;
 
 pub use error::JoinError;
 pub use joined::analyse_joined;
+pub use laws::joined_analyses_are_one;

@@ -36,8 +36,8 @@ fn start(x: &Task, scratch: &mut Scratch) -> Result<Joins, JoinError>
     Ok(joins)
 }
 
-/// Goes one round on. Only what changed is followed: the results of all else are absorbed, so joining them once
-/// more would change nothing.
+/// Goes one round on. Only what changed is followed: the results of all else are absorbed, so joining them
+/// once more would change nothing.
 fn round(
     x: &Task,
     scratch: &mut Scratch,

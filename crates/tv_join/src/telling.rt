@@ -4,7 +4,7 @@ ghost use Rattle.std.specs.Prelude.{◌≡◌, ◌<◌, ◌≤◌, IfOk, OnOk, l
 ghost use Rattle.tv_model.specs.Valid.{IsValid};
 ghost use Rattle.tv_work.specs.Explored.{AreSaid};
 ghost use Rattle.tv_work.specs.Told.{IsNoted};
-ghost use Rattle.tv_join.specs.State.{IsAbsorbed, IsKept, listing_of};
+ghost use Rattle.tv_join.specs.State.{IsAbsorbed, IsJoinState, listing_of};
 ghost use Rattle.tv_join.specs.Stepped.{AreAllFollowed, AreStepped, IsToldAlong, Tells};
 ghost use Rattle.tv_join.specs.Task.{form_in, task_of};
 ghost use Rattle.tv_join.specs.Values.{values_at};
@@ -19,9 +19,10 @@ use tv_work::Told;
 /// which was followed.
 pub(crate) fn tell_all(x: &Task, joins: &Joins, values: &MessageValues) -> Result<Told, AllocError>
     requires valid { IsValid (form_in x.now) }
-    requires kept { IsKept (task_of x.now) joins.now }
+    requires kept { IsJoinState (task_of x.now) joins.now }
     requires edges { length values.now ≡ length x.now.program.now.edges }
-    requires followed { AreAllFollowed (task_of x.now) joins.now.nodes (IsAbsorbed (form_in x.now) joins.now.nodes)
+    requires followed { AreAllFollowed (task_of x.now) joins.now.nodes
+        (IsAbsorbed (form_in x.now) joins.now.nodes)
         values.now }
     ensures { IfOk result (AreStepped (task_of x.now) joins.now.nodes
         (IsAbsorbed (form_in x.now) joins.now.nodes)) }
@@ -43,10 +44,11 @@ fn tell_edge(
     told: &mut Told,
 ) -> Result<(), AllocError>
     requires valid { IsValid (form_in x.now) }
-    requires kept { IsKept (task_of x.now) joins.now }
+    requires kept { IsJoinState (task_of x.now) joins.now }
     requires edge { edge < length x.now.program.now.edges }
     requires edges { length values.now ≡ length x.now.program.now.edges }
-    requires followed { AreAllFollowed (task_of x.now) joins.now.nodes (IsAbsorbed (form_in x.now) joins.now.nodes)
+    requires followed { AreAllFollowed (task_of x.now) joins.now.nodes
+        (IsAbsorbed (form_in x.now) joins.now.nodes)
         values.now }
     requires said { AreSaid (task_of x.now) (listing_of joins.now.nodes) told.old }
     ensures said { OnOk result (AreSaid (task_of x.now) (listing_of joins.now.nodes) told.new) }

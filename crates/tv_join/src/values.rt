@@ -1,7 +1,8 @@
 //! The values of messages that steps told, kept for each structure.
 
-ghost use Rattle.std.specs.Prelude.{◌≡◌, ◌<◌, [], IfOk, IfSome, IfNone, OnOk, length, replicate, slice_index_or};
-ghost use Rattle.tv_join.specs.Values.{values_at, ChangesAlong, ChangesPlace, Keeps};
+ghost use Rattle.std.specs.Prelude.{◌≡◌, ◌<◌, [], IfOk, IfSome, IfNone, OnOk, length, replicate};
+ghost use Rattle.std.specs.Prelude.{slice_index_or};
+ghost use Rattle.tv_join.specs.Values.{values_at, ChangesAlong, ChangesPlace, AreValuesAsBefore};
 
 use std::alloc::{AllocError, Global};
 use std::marker::Model;
@@ -11,11 +12,11 @@ use tv_step::Values;
 /// The values of an edge's messages at the structures of its source, by place; there may be fewer than
 /// structures, and where there are none, none were told.
 #[derive(Drop)]
-struct Row {
+struct ValuesByPlace {
     places: Vec<Values>,
 }
 
-impl Model for Row {
+impl Model for ValuesByPlace {
     ghost use Rattle.std.specs.Prelude.{List};
     ghost use Rattle.tv_kleene.specs.declared.K3.{K3};
 
@@ -24,12 +25,12 @@ impl Model for Row {
     ghost view = { λ r. r.places.items };
 }
 
-impl Row {
+impl ValuesByPlace {
     /// No values; takes no memory.
-    fn new(alloc: Global) -> Row
+    fn new(alloc: Global) -> ValuesByPlace
         ensures { result ≡ [] }
     {
-        Row {
+        ValuesByPlace {
             places: Vec::new(alloc),
         }
     }
@@ -59,7 +60,7 @@ impl Row {
 /// Goes on with places without values until there is this one.
 fn reach(alloc: Global, places: &mut Vec<Values>, place: usize) -> Result<(), AllocError>
     ensures long { OnOk result (place < length places.new.items) }
-    ensures same { OnOk result (Keeps places.old.items places.new.items) }
+    ensures same { OnOk result (AreValuesAsBefore places.old.items places.new.items) }
 {
     while places.len() <= place {
         places.push(Items::new(alloc))?;
@@ -71,7 +72,7 @@ fn reach(alloc: Global, places: &mut Vec<Values>, place: usize) -> Result<(), Al
 /// structure was followed last.
 #[derive(Drop)]
 pub(crate) struct MessageValues {
-    rows: Vec<Row>,
+    rows: Vec<ValuesByPlace>,
 }
 
 impl Model for MessageValues {
@@ -90,7 +91,7 @@ impl MessageValues {
     {
         let mut rows = Vec::with_capacity(alloc, edges)?;
         for _ in 0..edges {
-            rows.push(Row::new(alloc))?;
+            rows.push(ValuesByPlace::new(alloc))?;
         }
         Ok(MessageValues { rows })
     }

@@ -4,7 +4,8 @@ use Rattle.tv_listing.specs.declared.analysis.Item.TheVariants as item
 use Rattle.tv_listing.specs.declared.analysis.Rejection.TheVariants as rejection
 use Rattle.tv_struct.specs.declared.analysis.StageError.{StageError}
 use Rattle.tv_struct.specs.declared.analysis.StageError.TheVariants.{Splits, Individuals, Memory}
-use Rattle.tv_judge.specs.Judged.{Case, IsClosedReport, KeepsAllBudgets, Demand, Covering, Stepping, Saying, Fails, IsJudgeCause}
+use Rattle.tv_judge.specs.Judged.{Case, IsClosedReport, KeepsAllBudgets, Demand, Covering, Stepping, Saying}
+use Rattle.tv_judge.specs.Judged.{FailsDemand, IsJudgeCause}
 use Rattle.tv_judge.specs.Laws.{ClosedReportsAreAccepted}
 use Rattle.tv_judge.specs.Verdicts.{IsVerdict, IsAcceptance}
 use Rattle.tv_judge.specs.declared.verdict.Verdict.{Verdict}
@@ -12,7 +13,7 @@ use Rattle.tv_judge.specs.declared.verdict.Verdict.TheVariants.{Accepted, Reject
 use Rattle.tv_judge.proofs.Stopping.{keeps-not}
 
 module _ (c : Case) (closed : IsClosedReport c) (keeps : KeepsAllBudgets c) where
-  fails-none : (d : Demand) → ¬ Fails c d
+  fails-none : (d : Demand) → ¬ FailsDemand c d
   fails-none (Covering i) fails = fails.unmet (closed.items i fails.s fails.targets fails.there)
   fails-none (Stepping edge structure) fails =
       keeps-not c.program edge fails.from

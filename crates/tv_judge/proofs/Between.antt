@@ -1,17 +1,18 @@
 -- What stands between two bounds.
-use Rattle.std.proofs.Common.{ℕ, ◌≡◌, ◌<◌, ◌≤◌, ◌+◌, ◌⊎◌, inl, inr, zero, suc, List, [], ◌∷◌, ◌++◌, get_or, length, refl, sym, ap, subst, arith}
+use Rattle.std.proofs.Common.{ℕ, ◌≡◌, ◌<◌, ◌≤◌, ◌+◌, ◌⊎◌, inl, inr, zero, suc, List, [], ◌∷◌, ◌++◌, get_or}
+use Rattle.std.proofs.Common.{length, refl, sym, ap, subst, arith}
 use Rattle.std.proofs.lemmas.Bool.{cases_lt}
 use Rattle.tv_listing.specs.declared.analysis.Item.TheVariants as item
-use Rattle.tv_judge.specs.Judged.{Demand, Covering, Stepping, Saying, place_of, StandsBefore}
+use Rattle.tv_judge.specs.Judged.{Demand, Covering, Stepping, Saying, demand_order, StandsBefore}
 use Rattle.tv_judge.proofs.Orders.{before-next, before-front, before-zero}
 
 -- a demand stands before the bound, or P holds of it
 abbrev pub IsBeforeOr : (Demand → Type 0) → List ℕ → Demand → Type 0
-IsBeforeOr P b d = StandsBefore (place_of d) b ⊎ P d
+IsBeforeOr P b d = StandsBefore (demand_order d) b ⊎ P d
 
 -- the place goes on behind the front with this number
 abbrev GoesOn : List ℕ → ℕ → Demand → Type 0
-GoesOn front k d = (rest : List ℕ) × (place_of d ≡ front ++ k ∷ rest)
+GoesOn front k d = (rest : List ℕ) × (demand_order d ≡ front ++ k ∷ rest)
 
 -- numbers of equal lists are equal
 same-at : (x y : List ℕ) (i : ℕ) → x ≡ y → get_or x i 0 ≡ get_or y i 0
@@ -19,27 +20,27 @@ same-at x y i e = ap (λ l. get_or l i 0) e
 
 -- ---- places that are no demand's
 
-no-edges : (d : Demand) → place_of d ≡ 1 ∷ [] → ⊥
+no-edges : (d : Demand) → demand_order d ≡ 1 ∷ [] → ⊥
 no-edges (Covering (item.Initial number)) e = let h : 2 ≡ 1 = ap length e in omega (arith, h)
 no-edges (Covering (item.Result edge structure result)) e = let h : 5 ≡ 1 = ap length e in omega (arith, h)
 no-edges (Stepping edge structure) e = let h : 4 ≡ 1 = ap length e in omega (arith, h)
 no-edges (Saying edge structure number) e = let h : 5 ≡ 1 = ap length e in omega (arith, h)
 
-no-edge : (d : Demand) (a : ℕ) → place_of d ≡ 1 ∷ a ∷ [] → ⊥
+no-edge : (d : Demand) (a : ℕ) → demand_order d ≡ 1 ∷ a ∷ [] → ⊥
 no-edge (Covering (item.Initial number)) a e = let h : 0 ≡ 1 = same-at (0 ∷ number ∷ []) (1 ∷ a ∷ []) 0 e
     in omega (arith, h)
 no-edge (Covering (item.Result edge structure result)) a e = let h : 5 ≡ 2 = ap length e in omega (arith, h)
 no-edge (Stepping edge structure) a e = let h : 4 ≡ 2 = ap length e in omega (arith, h)
 no-edge (Saying edge structure number) a e = let h : 5 ≡ 2 = ap length e in omega (arith, h)
 
-no-structure : (d : Demand) (a s : ℕ) → place_of d ≡ 1 ∷ a ∷ s ∷ [] → ⊥
+no-structure : (d : Demand) (a s : ℕ) → demand_order d ≡ 1 ∷ a ∷ s ∷ [] → ⊥
 no-structure (Covering (item.Initial number)) a s e = let h : 2 ≡ 3 = ap length e in omega (arith, h)
 no-structure (Covering (item.Result edge structure result)) a s e = let h : 5 ≡ 3 = ap length e
     in omega (arith, h)
 no-structure (Stepping edge structure) a s e = let h : 4 ≡ 3 = ap length e in omega (arith, h)
 no-structure (Saying edge structure number) a s e = let h : 5 ≡ 3 = ap length e in omega (arith, h)
 
-no-part : (d : Demand) (a s n : ℕ) → place_of d ≡ 1 ∷ a ∷ s ∷ (n + 1) ∷ [] → ⊥
+no-part : (d : Demand) (a s n : ℕ) → demand_order d ≡ 1 ∷ a ∷ s ∷ (n + 1) ∷ [] → ⊥
 no-part (Covering (item.Initial number)) a s n e = let h : 2 ≡ 4 = ap length e in omega (arith, h)
 no-part (Covering (item.Result edge structure result)) a s n e = let h : 5 ≡ 4 = ap length e
     in omega (arith, h)
@@ -49,12 +50,12 @@ no-part (Stepping edge structure) a s n e =
 no-part (Saying edge structure number) a s n e = let h : 5 ≡ 4 = ap length e in omega (arith, h)
 
 -- what stands before a front with 0 behind it stands before the front
-opened : (front : List ℕ) (d : Demand) → (place_of d ≡ front → ⊥)
-    → StandsBefore (place_of d) (front ++ 0 ∷ [])
-    → StandsBefore (place_of d) front
-opened front d never before = by (before-zero front (place_of d) before)
+opened : (front : List ℕ) (d : Demand) → (demand_order d ≡ front → ⊥)
+    → StandsBefore (demand_order d) (front ++ 0 ∷ [])
+    → StandsBefore (demand_order d) front
+opened front d never before = by (before-zero front (demand_order d) before)
   where
-    by : StandsBefore (place_of d) front ⊎ (place_of d ≡ front) → StandsBefore (place_of d) front
+    by : StandsBefore (demand_order d) front ⊎ (demand_order d ≡ front) → StandsBefore (demand_order d) front
     by (inl b) = b
     by (inr e) = absurd (never e)
 
@@ -62,10 +63,10 @@ opened front d never before = by (before-zero front (place_of d) before)
 
 -- over the item of an initial structure
 pub over-initial : (P : Demand → Type 0) (n : ℕ) → P (Covering (item.Initial n))
-    → (d : Demand) → StandsBefore (place_of d) (0 ∷ (n + 1) ∷ []) → IsBeforeOr P (0 ∷ n ∷ []) d
-over-initial P n is d before = by d (before-next (0 ∷ []) (place_of d) n before)
+    → (d : Demand) → StandsBefore (demand_order d) (0 ∷ (n + 1) ∷ []) → IsBeforeOr P (0 ∷ n ∷ []) d
+over-initial P n is d before = by d (before-next (0 ∷ []) (demand_order d) n before)
   where
-    by : (d : Demand) → StandsBefore (place_of d) (0 ∷ n ∷ []) ⊎ GoesOn (0 ∷ []) n d
+    by : (d : Demand) → StandsBefore (demand_order d) (0 ∷ n ∷ []) ⊎ GoesOn (0 ∷ []) n d
         → IsBeforeOr P (0 ∷ n ∷ []) d
     by d (inl b) = inl b
     by (Covering (item.Initial number)) (inr (rest, e)) =
@@ -83,15 +84,15 @@ over-initial P n is d before = by d (before-next (0 ∷ []) (place_of d) n befor
 
 -- over all initial structures from this number on
 pub over-initials : (P : Demand → Type 0) (n : ℕ) → ((m : ℕ) → n ≤ m → P (Covering (item.Initial m)))
-    → (d : Demand) → StandsBefore (place_of d) (1 ∷ 0 ∷ []) → IsBeforeOr P (0 ∷ n ∷ []) d
-over-initials P n past d before = by d (before-next [] (place_of d) 0 (opened (1 ∷ []) d (no-edges d) before))
+    → (d : Demand) → StandsBefore (demand_order d) (1 ∷ 0 ∷ []) → IsBeforeOr P (0 ∷ n ∷ []) d
+over-initials P n past d before = by d (before-next [] (demand_order d) 0 (opened (1 ∷ []) d (no-edges d) before))
   where
     number : (m : ℕ) → (m < n) ⊎ (n ≤ m) → IsBeforeOr P (0 ∷ n ∷ []) (Covering (item.Initial m))
     number m (inl less) = inl (inr (refl, inl less))
     number m (inr more) = inr (past m more)
 
-    by : (d : Demand) → StandsBefore (place_of d) (0 ∷ []) ⊎ GoesOn [] 0 d → IsBeforeOr P (0 ∷ n ∷ []) d
-    by d (inl b) = inl (before-front (0 ∷ []) (n ∷ []) (place_of d) b)
+    by : (d : Demand) → StandsBefore (demand_order d) (0 ∷ []) ⊎ GoesOn [] 0 d → IsBeforeOr P (0 ∷ n ∷ []) d
+    by d (inl b) = inl (before-front (0 ∷ []) (n ∷ []) (demand_order d) b)
     by (Covering (item.Initial m)) (inr (rest, e)) = number m (cases_lt m n)
     by (Covering (item.Result edge structure result)) (inr (rest, e)) =
         let h : 1 ≡ 0 = same-at (1 ∷ edge ∷ structure ∷ 1 ∷ result ∷ []) (0 ∷ rest) 0 e
@@ -106,18 +107,18 @@ over-initials P n past d before = by d (before-next [] (place_of d) 0 (opened (1
 
 module _ (P : Demand → Type 0) (a s : ℕ) where
   -- from the structure to its step
-  pub to-step : (d : Demand) → StandsBefore (place_of d) (1 ∷ a ∷ s ∷ 0 ∷ [])
+  pub to-step : (d : Demand) → StandsBefore (demand_order d) (1 ∷ a ∷ s ∷ 0 ∷ [])
       → IsBeforeOr P (1 ∷ a ∷ s ∷ []) d
   to-step d before = inl (opened (1 ∷ a ∷ s ∷ []) d (no-structure d a s) before)
 
   -- over the step
-  pub over-step : P (Stepping a s) → (d : Demand) → StandsBefore (place_of d) (1 ∷ a ∷ s ∷ 1 ∷ 0 ∷ [])
+  pub over-step : P (Stepping a s) → (d : Demand) → StandsBefore (demand_order d) (1 ∷ a ∷ s ∷ 1 ∷ 0 ∷ [])
       → IsBeforeOr P (1 ∷ a ∷ s ∷ []) d
   over-step is d before =
-      by d (before-next (1 ∷ a ∷ s ∷ []) (place_of d) 0
+      by d (before-next (1 ∷ a ∷ s ∷ []) (demand_order d) 0
       (opened (1 ∷ a ∷ s ∷ 1 ∷ []) d (no-part d a s 0) before))
     where
-      by : (d : Demand) → StandsBefore (place_of d) (1 ∷ a ∷ s ∷ 0 ∷ []) ⊎ GoesOn (1 ∷ a ∷ s ∷ []) 0 d
+      by : (d : Demand) → StandsBefore (demand_order d) (1 ∷ a ∷ s ∷ 0 ∷ []) ⊎ GoesOn (1 ∷ a ∷ s ∷ []) 0 d
           → IsBeforeOr P (1 ∷ a ∷ s ∷ []) d
       by d (inl b) = inl (opened (1 ∷ a ∷ s ∷ []) d (no-structure d a s) b)
       by (Covering (item.Initial m)) (inr (rest, e)) =
@@ -136,11 +137,11 @@ module _ (P : Demand → Type 0) (a s : ℕ) where
 
   -- over a result
   pub over-result : (r : ℕ) → P (Covering (item.Result a s r))
-      → (d : Demand) → StandsBefore (place_of d) (1 ∷ a ∷ s ∷ 1 ∷ (r + 1) ∷ [])
+      → (d : Demand) → StandsBefore (demand_order d) (1 ∷ a ∷ s ∷ 1 ∷ (r + 1) ∷ [])
       → IsBeforeOr P (1 ∷ a ∷ s ∷ 1 ∷ r ∷ []) d
-  over-result r is d before = by d (before-next (1 ∷ a ∷ s ∷ 1 ∷ []) (place_of d) r before)
+  over-result r is d before = by d (before-next (1 ∷ a ∷ s ∷ 1 ∷ []) (demand_order d) r before)
     where
-      by : (d : Demand) → StandsBefore (place_of d) (1 ∷ a ∷ s ∷ 1 ∷ r ∷ []) ⊎ GoesOn (1 ∷ a ∷ s ∷ 1 ∷ []) r d
+      by : (d : Demand) → StandsBefore (demand_order d) (1 ∷ a ∷ s ∷ 1 ∷ r ∷ []) ⊎ GoesOn (1 ∷ a ∷ s ∷ 1 ∷ []) r d
           → IsBeforeOr P (1 ∷ a ∷ s ∷ 1 ∷ r ∷ []) d
       by d (inl b) = inl b
       by (Covering (item.Initial m)) (inr (rest, e)) =
@@ -161,10 +162,10 @@ module _ (P : Demand → Type 0) (a s : ℕ) where
 
   -- over all results from this number on
   pub over-results : (r : ℕ) → ((q : ℕ) → r ≤ q → P (Covering (item.Result a s q)))
-      → (d : Demand) → StandsBefore (place_of d) (1 ∷ a ∷ s ∷ 2 ∷ 0 ∷ [])
+      → (d : Demand) → StandsBefore (demand_order d) (1 ∷ a ∷ s ∷ 2 ∷ 0 ∷ [])
       → IsBeforeOr P (1 ∷ a ∷ s ∷ 1 ∷ r ∷ []) d
   over-results r past d before =
-      by d (before-next (1 ∷ a ∷ s ∷ []) (place_of d) 1
+      by d (before-next (1 ∷ a ∷ s ∷ []) (demand_order d) 1
       (opened (1 ∷ a ∷ s ∷ 2 ∷ []) d (no-part d a s 1) before))
     where
       number : (f t q : ℕ) → f ≡ a → t ≡ s → (q < r) ⊎ (r ≤ q)
@@ -174,9 +175,9 @@ module _ (P : Demand → Type 0) (a s : ℕ) where
           inr (subst (λ g. P (Covering (item.Result g t q))) (sym is-a)
           (subst (λ u. P (Covering (item.Result a u q))) (sym is-s) (past q more)))
 
-      by : (d : Demand) → StandsBefore (place_of d) (1 ∷ a ∷ s ∷ 1 ∷ []) ⊎ GoesOn (1 ∷ a ∷ s ∷ []) 1 d
+      by : (d : Demand) → StandsBefore (demand_order d) (1 ∷ a ∷ s ∷ 1 ∷ []) ⊎ GoesOn (1 ∷ a ∷ s ∷ []) 1 d
           → IsBeforeOr P (1 ∷ a ∷ s ∷ 1 ∷ r ∷ []) d
-      by d (inl b) = inl (before-front (1 ∷ a ∷ s ∷ 1 ∷ []) (r ∷ []) (place_of d) b)
+      by d (inl b) = inl (before-front (1 ∷ a ∷ s ∷ 1 ∷ []) (r ∷ []) (demand_order d) b)
       by (Covering (item.Initial m)) (inr (rest, e)) =
           let h : 0 ≡ 1 = same-at (0 ∷ m ∷ []) (1 ∷ a ∷ s ∷ 1 ∷ rest) 0 e in absurd (omega (arith, h))
       by (Covering (item.Result edge structure result)) (inr (rest, e)) =
@@ -192,17 +193,17 @@ module _ (P : Demand → Type 0) (a s : ℕ) where
 
   -- over the messages below this number
   pub over-messages : (n : ℕ) → ((m : ℕ) → m < n → P (Saying a s m))
-      → (d : Demand) → StandsBefore (place_of d) (1 ∷ a ∷ s ∷ 2 ∷ n ∷ [])
+      → (d : Demand) → StandsBefore (demand_order d) (1 ∷ a ∷ s ∷ 2 ∷ n ∷ [])
       → IsBeforeOr P (1 ∷ a ∷ s ∷ 2 ∷ 0 ∷ []) d
   over-messages zero said d before = inl before
   over-messages (suc n) said d before =
       by (over-messages n (λ m less. said m (omega (arith, less)))) d
-      (before-next (1 ∷ a ∷ s ∷ 2 ∷ []) (place_of d) n
-      (subst (λ k. StandsBefore (place_of d) (1 ∷ a ∷ s ∷ 2 ∷ k ∷ [])) (omega arith) before))
+      (before-next (1 ∷ a ∷ s ∷ 2 ∷ []) (demand_order d) n
+      (subst (λ k. StandsBefore (demand_order d) (1 ∷ a ∷ s ∷ 2 ∷ k ∷ [])) (omega arith) before))
     where
-      by : ((d : Demand) → StandsBefore (place_of d) (1 ∷ a ∷ s ∷ 2 ∷ n ∷ [])
+      by : ((d : Demand) → StandsBefore (demand_order d) (1 ∷ a ∷ s ∷ 2 ∷ n ∷ [])
           → IsBeforeOr P (1 ∷ a ∷ s ∷ 2 ∷ 0 ∷ []) d)
-          → (d : Demand) → StandsBefore (place_of d) (1 ∷ a ∷ s ∷ 2 ∷ n ∷ [])
+          → (d : Demand) → StandsBefore (demand_order d) (1 ∷ a ∷ s ∷ 2 ∷ n ∷ [])
           ⊎ GoesOn (1 ∷ a ∷ s ∷ 2 ∷ []) n d
           → IsBeforeOr P (1 ∷ a ∷ s ∷ 2 ∷ 0 ∷ []) d
       by on d (inl b) = on d b
@@ -224,13 +225,13 @@ module _ (P : Demand → Type 0) (a s : ℕ) where
 
   -- over all messages
   pub over-all-messages : ((m : ℕ) → P (Saying a s m))
-      → (d : Demand) → StandsBefore (place_of d) (1 ∷ a ∷ (s + 1) ∷ [])
+      → (d : Demand) → StandsBefore (demand_order d) (1 ∷ a ∷ (s + 1) ∷ [])
       → IsBeforeOr P (1 ∷ a ∷ s ∷ 2 ∷ 0 ∷ []) d
-  over-all-messages said d before = by d (before-next (1 ∷ a ∷ []) (place_of d) s before)
+  over-all-messages said d before = by d (before-next (1 ∷ a ∷ []) (demand_order d) s before)
     where
-      by : (d : Demand) → StandsBefore (place_of d) (1 ∷ a ∷ s ∷ []) ⊎ GoesOn (1 ∷ a ∷ []) s d
+      by : (d : Demand) → StandsBefore (demand_order d) (1 ∷ a ∷ s ∷ []) ⊎ GoesOn (1 ∷ a ∷ []) s d
           → IsBeforeOr P (1 ∷ a ∷ s ∷ 2 ∷ 0 ∷ []) d
-      by d (inl b) = inl (before-front (1 ∷ a ∷ s ∷ []) (2 ∷ 0 ∷ []) (place_of d) b)
+      by d (inl b) = inl (before-front (1 ∷ a ∷ s ∷ []) (2 ∷ 0 ∷ []) (demand_order d) b)
       by (Covering (item.Initial m)) (inr (rest, e)) =
           let h : 0 ≡ 1 = same-at (0 ∷ m ∷ []) (1 ∷ a ∷ s ∷ rest) 0 e in absurd (omega (arith, h))
       by (Covering (item.Result edge structure result)) (inr (rest, e)) =
@@ -268,23 +269,23 @@ pub record HoldsAt (P : Demand → Type 0) (a s : ℕ) : Type 0 where
   pub messages : (m : ℕ) → P (Saying a s m)
 
 -- to the first structure of an edge
-pub to-structures : (P : Demand → Type 0) (a : ℕ) (d : Demand) → StandsBefore (place_of d) (1 ∷ a ∷ 0 ∷ [])
+pub to-structures : (P : Demand → Type 0) (a : ℕ) (d : Demand) → StandsBefore (demand_order d) (1 ∷ a ∷ 0 ∷ [])
     → IsBeforeOr P (1 ∷ a ∷ []) d
 to-structures P a d before = inl (opened (1 ∷ a ∷ []) d (no-edge d a) before)
 
 -- over all structures from this place on
 pub over-structures : (P : Demand → Type 0) (a s : ℕ) → ((t : ℕ) → s ≤ t → HoldsAt P a t)
-    → (d : Demand) → StandsBefore (place_of d) (1 ∷ (a + 1) ∷ []) → IsBeforeOr P (1 ∷ a ∷ s ∷ []) d
-over-structures P a s past d before = by d (before-next (1 ∷ []) (place_of d) a before)
+    → (d : Demand) → StandsBefore (demand_order d) (1 ∷ (a + 1) ∷ []) → IsBeforeOr P (1 ∷ a ∷ s ∷ []) d
+over-structures P a s past d before = by d (before-next (1 ∷ []) (demand_order d) a before)
   where
-    chosen : (d : Demand) (t : ℕ) → (t < s → StandsBefore (place_of d) (1 ∷ a ∷ s ∷ [])) → (s ≤ t → P d)
+    chosen : (d : Demand) (t : ℕ) → (t < s → StandsBefore (demand_order d) (1 ∷ a ∷ s ∷ [])) → (s ≤ t → P d)
         → (t < s) ⊎ (s ≤ t) → IsBeforeOr P (1 ∷ a ∷ s ∷ []) d
     chosen d t before holds (inl less) = inl (before less)
     chosen d t before holds (inr more) = inr (holds more)
 
-    by : (d : Demand) → StandsBefore (place_of d) (1 ∷ a ∷ []) ⊎ GoesOn (1 ∷ []) a d
+    by : (d : Demand) → StandsBefore (demand_order d) (1 ∷ a ∷ []) ⊎ GoesOn (1 ∷ []) a d
         → IsBeforeOr P (1 ∷ a ∷ s ∷ []) d
-    by d (inl b) = inl (before-front (1 ∷ a ∷ []) (s ∷ []) (place_of d) b)
+    by d (inl b) = inl (before-front (1 ∷ a ∷ []) (s ∷ []) (demand_order d) b)
     by (Covering (item.Initial m)) (inr (rest, e)) =
         let h : 0 ≡ 1 = same-at (0 ∷ m ∷ []) (1 ∷ a ∷ rest) 0 e in absurd (omega (arith, h))
     by (Covering (item.Result f t q)) (inr (rest, e)) =
@@ -303,16 +304,16 @@ over-structures P a s past d before = by d (before-next (1 ∷ []) (place_of d) 
 
 -- over all edges from this number on
 pub over-edges : (P : Demand → Type 0) (a : ℕ) → ((f : ℕ) → a ≤ f → (t : ℕ) → HoldsAt P f t)
-    → (d : Demand) → StandsBefore (place_of d) (2 ∷ []) → IsBeforeOr P (1 ∷ a ∷ []) d
-over-edges P a past d before = by d (before-next [] (place_of d) 1 before)
+    → (d : Demand) → StandsBefore (demand_order d) (2 ∷ []) → IsBeforeOr P (1 ∷ a ∷ []) d
+over-edges P a past d before = by d (before-next [] (demand_order d) 1 before)
   where
-    chosen : (d : Demand) (f : ℕ) → (f < a → StandsBefore (place_of d) (1 ∷ a ∷ [])) → (a ≤ f → P d)
+    chosen : (d : Demand) (f : ℕ) → (f < a → StandsBefore (demand_order d) (1 ∷ a ∷ [])) → (a ≤ f → P d)
         → (f < a) ⊎ (a ≤ f) → IsBeforeOr P (1 ∷ a ∷ []) d
     chosen d f before holds (inl less) = inl (before less)
     chosen d f before holds (inr more) = inr (holds more)
 
-    by : (d : Demand) → StandsBefore (place_of d) (1 ∷ []) ⊎ GoesOn [] 1 d → IsBeforeOr P (1 ∷ a ∷ []) d
-    by d (inl b) = inl (before-front (1 ∷ []) (a ∷ []) (place_of d) b)
+    by : (d : Demand) → StandsBefore (demand_order d) (1 ∷ []) ⊎ GoesOn [] 1 d → IsBeforeOr P (1 ∷ a ∷ []) d
+    by d (inl b) = inl (before-front (1 ∷ []) (a ∷ []) (demand_order d) b)
     by (Covering (item.Initial m)) (inr (rest, e)) =
         let h : 0 ≡ 1 = same-at (0 ∷ m ∷ []) (1 ∷ rest) 0 e in absurd (omega (arith, h))
     by (Covering (item.Result f t q)) (inr (rest, e)) =

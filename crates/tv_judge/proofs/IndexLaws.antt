@@ -1,5 +1,7 @@
 -- Indexes of lines.
-use Rattle.std.proofs.Common.{ℕ, ◌≡◌, ◌<◌, ◌≤◌, ◌+◌, ◌&&◌, ◌||◌, ◌==◌, ◌↔◌, IsTrue, Bool, true, false, cond, List, [], ◌∷◌, ◌++◌, length, get_or, take, drop, Option, None, Some, refl, sym, ap, subst, ◌∙◌}
+use Rattle.std.proofs.Common.{ℕ, ◌≡◌, ◌<◌, ◌≤◌, ◌+◌, ◌&&◌, ◌||◌, ◌==◌, ◌↔◌, IsTrue, Bool, true, false, cond}
+use Rattle.std.proofs.Common.{List, [], ◌∷◌, ◌++◌, length, get_or, take, drop, Option, None, Some, refl, sym}
+use Rattle.std.proofs.Common.{ap, subst, ◌∙◌}
 use Rattle.std.specs.Prelude.{if◌then◌else◌, is_some, Any}
 use Rattle.std.specs.Borrow.{Bor}
 use Rattle.std.specs.Option.{option_map, option_or}
@@ -14,7 +16,7 @@ use Rattle.tv_listing.specs.declared.analysis.Item.{Item}
 use Rattle.tv_listing.specs.declared.analysis.Item.TheVariants.{Initial, Result}
 use Rattle.tv_listing.specs.declared.analysis.MapLine.{MapLine}
 use Rattle.tv_listing.specs.declared.analysis.MessageLine.{MessageLine}
-use Rattle.tv_transfer.specs.Closed.{HasLine}
+use Rattle.tv_step_laws.specs.Closed.{HasLine}
 use Rattle.tv_judge.specs.Items.{is_same_item, own_line}
 use Rattle.tv_judge.specs.Index.{line_at, line_for, NotesLine, IsLineIndex, is_said, IsMessageIndex}
 

@@ -1,5 +1,6 @@
 -- Demands that are met, one after the other.
-use Rattle.std.proofs.Common.{ℕ, ◌≡◌, ◌<◌, ◌≤◌, ◌+◌, ◌⊎◌, inl, inr, List, [], ◌∷◌, ◌++◌, length, Some, refl, sym, subst, arith}
+use Rattle.std.proofs.Common.{ℕ, ◌≡◌, ◌<◌, ◌≤◌, ◌+◌, ◌⊎◌, inl, inr, List, [], ◌∷◌, ◌++◌, length, Some, refl}
+use Rattle.std.proofs.Common.{sym, subst, arith}
 use Rattle.std.specs.Prelude.{slice_get}
 use Rattle.std.proofs.lemmas.Bool.{cases_lt}
 use Rattle.std.proofs.lemmas.List.Elements.{Contains-push}
@@ -11,32 +12,37 @@ use Rattle.tv_listing.specs.declared.analysis.Item.{Item}
 use Rattle.tv_listing.specs.declared.analysis.Item.TheVariants as item
 use Rattle.tv_listing.specs.declared.analysis.MapLine.{MapLine}
 use Rattle.tv_struct.specs.StructureForm.{StructureForm}
-use Rattle.tv_transfer.specs.Budgets.{KeepsBudgets}
-use Rattle.tv_transfer.specs.Closed.{HasLine}
-use Rattle.tv_transfer.specs.Transfer.{IsOpening, HasNoOpening, AreResults}
+use Rattle.tv_step_laws.specs.Budgets.{KeepsBudgets}
+use Rattle.tv_step_laws.specs.Closed.{HasLine}
+use Rattle.tv_step_laws.specs.Transfer.{IsOpening, HasNoOpening, AreResults}
 use Rattle.tv_judge.specs.Items.{IsSource, own_line}
-use Rattle.tv_judge.specs.Judged.{Case, IsThere, MaySay, Demand, Covering, place_of, StandsBefore, IsMapBy}
-use Rattle.tv_judge.specs.Progress.{IsLineFor, IsDoneItem, IsOpened, HasStep, IsDone, IsDoneTo, behind, AreResultsAt, AreValuesAt, AreSaidBelow}
-use Rattle.tv_judge.proofs.Between.{IsBeforeOr, HoldsAt, over-initial, over-initials, over-step, over-result, over-results, over-all-messages, to-structures, over-structures, over-edges}
+use Rattle.tv_judge.specs.Judged.{Case, IsThere, MaySay, Demand, Covering, demand_order, StandsBefore}
+use Rattle.tv_judge.specs.Judged.{IsMapBy}
+use Rattle.tv_judge.specs.Progress.{IsLineFor, IsDoneItem, IsOpened, HasStep, MeetsDemand, IsDoneTo, behind}
+use Rattle.tv_judge.specs.Progress.{AreResultsAt, AreValuesAt, AreSaidBelow}
+use Rattle.tv_judge.proofs.Between.{IsBeforeOr, HoldsAt, over-initial, over-initials, over-step, over-result}
+use Rattle.tv_judge.proofs.Between.{over-results, over-all-messages, to-structures, over-structures}
+use Rattle.tv_judge.proofs.Between.{over-edges}
 use Rattle.tv_judge.proofs.Progressing.{done-on, done-line}
-use Rattle.tv_judge.proofs.Reports.{one-there, none-past, source-once, no-opening, there-once, result-past, say-value}
+use Rattle.tv_judge.proofs.Reports.{one-there, none-past, source-once, no-opening, there-once, result-past}
+use Rattle.tv_judge.proofs.Reports.{say-value}
 
 -- ---- items
 
-item-ahead : (i : Item) → StandsBefore (place_of (Covering i)) (behind i)
+item-ahead : (i : Item) → StandsBefore (demand_order (Covering i)) (behind i)
 item-ahead (item.Initial number) = inr (refl, inl (omega arith))
 item-ahead (item.Result edge structure result) = inr
     (refl, inr (refl, inr (refl, inr (refl, inl (omega arith)))))
 
 over-item : (P : Demand → Type 0) (i : Item) → P (Covering i) → (d : Demand)
-    → StandsBefore (place_of d) (behind i)
-    → IsBeforeOr P (place_of (Covering i)) d
+    → StandsBefore (demand_order d) (behind i)
+    → IsBeforeOr P (demand_order (Covering i)) d
 over-item P (item.Initial number) is d before = over-initial P number is d before
 over-item P (item.Result edge structure result) is d before = over-result P edge structure result is d before
 
 item-done : (c : Case) (lines : List MapLine) (i : Item) (s : StructureForm) (targets : List StructureForm)
     → IsThere c i s targets
-    → IsDoneItem c lines i → IsDone c lines (Covering i)
+    → IsDoneItem c lines i → MeetsDemand c lines (Covering i)
 item-done c lines (item.Initial number) s targets there done = (
   (λ first is. inr (
     s,
@@ -63,13 +69,13 @@ kept-last c valid lines i line s targets there is-line t others also =
 pub item-passes : (c : Case) → IsValid c.program
     → (lines : List MapLine) (i : Item) (line : MapLine) (s : StructureForm)
     (targets : List StructureForm) → IsThere c i s targets → IsLineFor c.analysis.maps i targets s line
-    → IsDoneTo c (place_of (Covering i)) lines → IsDoneTo c (behind i) (lines ++ line ∷ [])
+    → IsDoneTo c (demand_order (Covering i)) lines → IsDoneTo c (behind i) (lines ++ line ∷ [])
 item-passes c valid lines i line s targets there is-line so-far =
     done-line c (behind i) lines line
-    (subst (λ j. StandsBefore (place_of (Covering j)) (behind i)) (sym is-line.item_is) (item-ahead i))
-    (λ d before. subst (λ j. IsBeforeOr (IsDone c (lines ++ line ∷ [])) (place_of (Covering j)) d)
+    (subst (λ j. StandsBefore (demand_order (Covering j)) (behind i)) (sym is-line.item_is) (item-ahead i))
+    (λ d before. subst (λ j. IsBeforeOr (MeetsDemand c (lines ++ line ∷ [])) (demand_order (Covering j)) d)
     (sym is-line.item_is)
-    (over-item (IsDone c (lines ++ line ∷ [])) i
+    (over-item (MeetsDemand c (lines ++ line ∷ [])) i
     (item-done c (lines ++ line ∷ []) i s targets there
     (kept-last c valid lines i line s targets there is-line)) d before))
     (record {
@@ -79,7 +85,7 @@ item-passes c valid lines i line s targets there is-line so-far =
       map = subst (λ j. IsMapBy (own_line c.analysis.maps j) targets s line)
           (sym is-line.item_is) is-line.map;
     })
-    (subst (λ j. IsDoneTo c (place_of (Covering j)) lines) (sym is-line.item_is) so-far)
+    (subst (λ j. IsDoneTo c (demand_order (Covering j)) lines) (sym is-line.item_is) so-far)
 
 -- ---- openings
 
@@ -89,7 +95,7 @@ pub none-passes : (c : Case) (lines : List MapLine) (number : ℕ) (s : Structur
     → HasNoOpening c.program s → IsDoneTo c (0 ∷ number ∷ []) lines → IsDoneTo c (0 ∷ (number + 1) ∷ []) lines
 none-passes c lines number s is none so-far =
     done-on c (0 ∷ number ∷ []) (0 ∷ (number + 1) ∷ []) lines (inr (refl, inl (omega arith)))
-    (over-initial (IsDone c lines) number (opened, kept)) so-far
+    (over-initial (MeetsDemand c lines) number (opened, kept)) so-far
   where
     opened : IsOpened c number
     opened first at = inl (subst (HasNoOpening c.program)
@@ -106,7 +112,7 @@ pub initials-pass : (c : Case) (lines : List MapLine) (number : ℕ) → length 
     → IsDoneTo c (0 ∷ number ∷ []) lines → IsDoneTo c (1 ∷ 0 ∷ []) lines
 initials-pass c lines number past so-far =
     done-on c (0 ∷ number ∷ []) (1 ∷ 0 ∷ []) lines (inl (omega arith))
-    (over-initials (IsDone c lines) number (λ m more. (
+    (over-initials (MeetsDemand c lines) number (λ m more. (
       (λ first is. absurd (none-past c.initial m first (omega (arith, past, more)) is)),
       (λ s targets there. absurd (none-past c.initial m there.first
           (omega (arith, past, more)) there.is_initial)),
@@ -123,7 +129,7 @@ pub step-passes : (c : Case) (lines : List MapLine) (edge structure : ℕ) (take
 step-passes c lines edge structure taken from results source budgets are so-far =
     done-on c (1 ∷ edge ∷ structure ∷ []) (1 ∷ edge ∷ structure ∷ 1 ∷ 0 ∷ []) lines
     (inr (refl, inr (refl, inr (refl, tt))))
-    (over-step (IsDone c lines) edge structure
+    (over-step (MeetsDemand c lines) edge structure
     (λ t f also. subst (HasStep c edge)
     (source-once c.program c.analysis.listing edge taken t structure from f source also).1
     (record { budgets = budgets; results = results; are_results = are }))) so-far
@@ -137,7 +143,7 @@ pub results-pass : (c : Case) → IsValid c.program
 results-pass c valid lines edge structure node result results at past so-far =
     done-on c (1 ∷ edge ∷ structure ∷ 1 ∷ result ∷ []) (1 ∷ edge ∷ structure ∷ 2 ∷ 0 ∷ []) lines
     (inr (refl, inr (refl, inr (refl, inl (omega arith)))))
-    (over-results (IsDone c lines) edge structure result (λ q more s targets there.
+    (over-results (MeetsDemand c lines) edge structure result (λ q more s targets there.
     absurd (result-past c valid edge structure node q results at
     (omega (arith, past, more)) s targets there))) so-far
 
@@ -149,7 +155,7 @@ pub messages-pass : (c : Case) (lines : List MapLine) (edge structure : ℕ) (va
 messages-pass c lines edge structure values at said so-far =
     done-on c (1 ∷ edge ∷ structure ∷ 2 ∷ 0 ∷ []) (1 ∷ edge ∷ (structure + 1) ∷ []) lines
     (inr (refl, inr (refl, inl (omega arith))))
-    (over-all-messages (IsDone c lines) edge structure
+    (over-all-messages (MeetsDemand c lines) edge structure
     (λ m say. by m say (cases_lt m (length values)))) so-far
   where
     by : (m : ℕ) → MaySay c edge structure m → (m < length values) ⊎ (length values ≤ m)
@@ -163,7 +169,7 @@ messages-pass c lines edge structure values at said so-far =
 none-listed : (c : Case) (lines : List MapLine) (edge structure : ℕ)
     → ((taken : Edge) (from : StructureForm)
     → IsSource c.program c.analysis.listing edge taken structure from → ⊥)
-    → HoldsAt (IsDone c lines) edge structure
+    → HoldsAt (MeetsDemand c lines) edge structure
 none-listed c lines edge structure none = record {
   step = λ taken from source. absurd (none taken from source);
   results = λ r s targets there. absurd (none there.taken there.from there.source);
@@ -174,7 +180,7 @@ pub edge-begins : (c : Case) (lines : List MapLine) (edge : ℕ) → IsDoneTo c 
     → IsDoneTo c (1 ∷ edge ∷ 0 ∷ []) lines
 edge-begins c lines edge so-far =
     done-on c (1 ∷ edge ∷ []) (1 ∷ edge ∷ 0 ∷ []) lines (inr (refl, inr (refl, tt)))
-    (to-structures (IsDone c lines) edge) so-far
+    (to-structures (MeetsDemand c lines) edge) so-far
 
 -- all structures at the edge's source are done
 pub structures-pass : (c : Case) (lines : List MapLine) (edge structure : ℕ) (taken : Edge)
@@ -183,7 +189,7 @@ pub structures-pass : (c : Case) (lines : List MapLine) (edge structure : ℕ) (
     → IsDoneTo c (1 ∷ edge ∷ structure ∷ []) lines → IsDoneTo c (1 ∷ (edge + 1) ∷ []) lines
 structures-pass c lines edge structure taken is past so-far =
     done-on c (1 ∷ edge ∷ structure ∷ []) (1 ∷ (edge + 1) ∷ []) lines (inr (refl, inl (omega arith)))
-    (over-structures (IsDone c lines) edge structure
+    (over-structures (MeetsDemand c lines) edge structure
     (λ t more. none-listed c lines edge t (none t more))) so-far
   where
     none : (t : ℕ) → structure ≤ t → (other : Edge) (from : StructureForm)
@@ -199,6 +205,6 @@ pub edges-pass : (c : Case) (lines : List MapLine) (edge : ℕ) → length c.pro
     → IsDoneTo c (1 ∷ edge ∷ []) lines → IsDoneTo c (2 ∷ []) lines
 edges-pass c lines edge past so-far =
     done-on c (1 ∷ edge ∷ []) (2 ∷ []) lines (inl (omega arith))
-    (over-edges (IsDone c lines) edge (λ f more t. none-listed c lines f t
+    (over-edges (MeetsDemand c lines) edge (λ f more t. none-listed c lines f t
     (λ taken from source. none-past c.program.edges f taken (omega (arith, past, more)) source.is_edge)))
     so-far

@@ -5,8 +5,9 @@ use Rattle.std.proofs.lemmas.List.Quantifiers.{all_pairs_push}
 use Rattle.tv_listing.specs.declared.analysis.Item.{Item}
 use Rattle.tv_listing.specs.declared.analysis.Item.TheVariants as item
 use Rattle.tv_listing.specs.declared.analysis.MapLine.{MapLine}
-use Rattle.tv_judge.specs.Judged.{Case, Demand, Covering, Stepping, Saying, place_of, StandsBefore, IsBefore, IsMapLine}
-use Rattle.tv_judge.specs.Progress.{IsDoneItem, IsDone, IsDoneTo}
+use Rattle.tv_judge.specs.Judged.{Case, Demand, Covering, Stepping, Saying, demand_order, StandsBefore}
+use Rattle.tv_judge.specs.Judged.{IsBefore, IsMapLine}
+use Rattle.tv_judge.specs.Progress.{IsDoneItem, MeetsDemand, IsDoneTo}
 use Rattle.tv_judge.proofs.Orders.{before-trans}
 
 -- ---- more lines
@@ -22,8 +23,8 @@ kept-more c lines line item done s targets there =
       is_line = kept.is_line;
     }
 
-done-more : (c : Case) (lines : List MapLine) (line : MapLine) (d : Demand) → IsDone c lines d
-    → IsDone c (lines ++ line ∷ []) d
+done-more : (c : Case) (lines : List MapLine) (line : MapLine) (d : Demand) → MeetsDemand c lines d
+    → MeetsDemand c (lines ++ line ∷ []) d
 done-more c lines line (Covering (item.Initial number)) done =
     (done.0, kept-more c lines line (item.Initial number) done.1)
 done-more c lines line (Covering (item.Result edge structure result)) done =
@@ -45,7 +46,7 @@ done-none c = record {
     no-less : (k : ℕ) → k < 0 → ⊥
     no-less k l = omega (arith, l)
 
-    never : (d : Demand) → StandsBefore (place_of d) (0 ∷ 0 ∷ []) → ⊥
+    never : (d : Demand) → StandsBefore (demand_order d) (0 ∷ 0 ∷ []) → ⊥
     never (Covering (item.Initial number)) (inl l) = no-less 0 l
     never (Covering (item.Initial number)) (inr (e, inl l)) = no-less number l
     never (Covering (item.Initial number)) (inr (e, inr (f, none))) = none
@@ -58,7 +59,7 @@ done-none c = record {
 
 -- the bound is moved over demands that are met
 pub done-on : (c : Case) (b b' : List ℕ) (lines : List MapLine) → StandsBefore b b'
-    → ((d : Demand) → StandsBefore (place_of d) b' → StandsBefore (place_of d) b ⊎ IsDone c lines d)
+    → ((d : Demand) → StandsBefore (demand_order d) b' → StandsBefore (demand_order d) b ⊎ MeetsDemand c lines d)
     → IsDoneTo c b lines → IsDoneTo c b' lines
 done-on c b b' lines ahead between so-far = record {
   done = λ d before. by d (between d before);
@@ -67,30 +68,30 @@ done-on c b b' lines ahead between so-far = record {
   ordered = so-far.ordered;
 }
   where
-    by : (d : Demand) → StandsBefore (place_of d) b ⊎ IsDone c lines d → IsDone c lines d
+    by : (d : Demand) → StandsBefore (demand_order d) b ⊎ MeetsDemand c lines d → MeetsDemand c lines d
     by d (inl before) = so-far.done d before
     by d (inr done) = done
 
 -- the bound is moved over the item of a line, and the line is put behind the others
 pub done-line : (c : Case) (b' : List ℕ) (lines : List MapLine) (line : MapLine)
-    → StandsBefore (place_of (Covering line.item)) b'
-    → ((d : Demand) → StandsBefore (place_of d) b'
-    → StandsBefore (place_of d) (place_of (Covering line.item)) ⊎ IsDone c (lines ++ line ∷ []) d)
+    → StandsBefore (demand_order (Covering line.item)) b'
+    → ((d : Demand) → StandsBefore (demand_order d) b'
+    → StandsBefore (demand_order d) (demand_order (Covering line.item)) ⊎ MeetsDemand c (lines ++ line ∷ []) d)
     → IsMapLine c line
-    → IsDoneTo c (place_of (Covering line.item)) lines → IsDoneTo c b' (lines ++ line ∷ [])
+    → IsDoneTo c (demand_order (Covering line.item)) lines → IsDoneTo c b' (lines ++ line ∷ [])
 done-line c b' lines line ahead between is-line so-far = record {
   done = λ d before. by d (between d before);
   only = All-push (IsMapLine c) lines line so-far.only is-line;
-  before = All-push (λ l. StandsBefore (place_of (Covering l.item)) b') lines line
-      (λ k d within. before-trans _ (place_of (Covering line.item)) b'
+  before = All-push (λ l. StandsBefore (demand_order (Covering l.item)) b') lines line
+      (λ k d within. before-trans _ (demand_order (Covering line.item)) b'
       (so-far.before k d within) ahead) ahead;
   ordered = all_pairs_push (λ (x : MapLine) (y : MapLine). IsBefore (Covering x.item)
       (Covering y.item)) lines line so-far.ordered
       (λ k d within. so-far.before k d within);
 }
   where
-    by : (d : Demand) → StandsBefore (place_of d) (place_of (Covering line.item))
-        ⊎ IsDone c (lines ++ line ∷ []) d
-        → IsDone c (lines ++ line ∷ []) d
+    by : (d : Demand) → StandsBefore (demand_order d) (demand_order (Covering line.item))
+        ⊎ MeetsDemand c (lines ++ line ∷ []) d
+        → MeetsDemand c (lines ++ line ∷ []) d
     by d (inl before) = done-more c lines line d (so-far.done d before)
     by d (inr done) = done

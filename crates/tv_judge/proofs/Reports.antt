@@ -1,9 +1,12 @@
 -- What stands in a report: items, steps and messages.
-use Rattle.std.proofs.Common.{ℕ, ◌≡◌, ◌≢◌, ◌<◌, ◌≤◌, ◌+◌, ◌⊎◌, ◌↔◌, inl, inr, Bool, true, false, true≢false, not, IsTrue, List, [], ◌∷◌, length, get_or, Option, Some, None, refl, sym, ap, subst, ◌∙◌, arith}
+use Rattle.std.proofs.Common.{ℕ, ◌≡◌, ◌≢◌, ◌<◌, ◌≤◌, ◌+◌, ◌⊎◌, ◌↔◌, inl, inr, Bool, true, false, true≢false}
+use Rattle.std.proofs.Common.{not, IsTrue, List, [], ◌∷◌, length, get_or, Option, Some, None, refl, sym, ap}
+use Rattle.std.proofs.Common.{subst, ◌∙◌, arith}
 use Rattle.std.specs.Prelude.{All, slice_get, unwrap_or, if◌then◌else◌}
 use Rattle.std.proofs.lemmas.Bool.{cases_lt}
 use Rattle.std.proofs.lemmas.List.{get_or_default}
-use Rattle.std.proofs.lemmas.Option.{slice_get_within, get_or_from_slice_get, slice_get-get_or, slice_get_cases}
+use Rattle.std.proofs.lemmas.Option.{slice_get_within, get_or_from_slice_get, slice_get-get_or}
+use Rattle.std.proofs.lemmas.Option.{slice_get_cases}
 use Rattle.tv_kleene.specs.declared.K3.{K3}
 use Rattle.tv_kleene.specs.declared.K3.TheVariants.{No}
 use Rattle.tv_model.specs.declared.program.Edge.{Edge}
@@ -18,10 +21,10 @@ use Rattle.tv_listing.specs.declared.analysis.MapLine.{MapLine}
 use Rattle.tv_listing.specs.declared.analysis.MessageLine.{MessageLine}
 use Rattle.tv_struct.specs.StructureForm.{StructureForm, arities_of, structure_of}
 use Rattle.tv_embed.specs.Maps.{image_of}
-use Rattle.tv_transfer.specs.Closed.{IsCovered, HasLine}
-use Rattle.tv_transfer.specs.Transfer.{IsOpening, HasNoOpening, AreResults, AreMessageValues}
-use Rattle.tv_transfer.proofs.Exact.{opening-once, results-once, values-once}
-use Rattle.tv_transfer.proofs.Shapes.{same-arities}
+use Rattle.tv_step_laws.specs.Closed.{IsCovered, HasLine}
+use Rattle.tv_step_laws.specs.Transfer.{IsOpening, HasNoOpening, AreResults, AreMessageValues}
+use Rattle.tv_step_laws.proofs.Exact.{opening-once, results-once, values-once}
+use Rattle.tv_step_laws.proofs.Shapes.{same-arities}
 use Rattle.tv_judge.specs.Index.{is_said, IsMessageIndex}
 use Rattle.tv_judge.specs.Items.{IsSource, Covers, IsMetBy, IsMet, is_same_item, own_line}
 use Rattle.tv_judge.specs.Judged.{Case, IsThere, MaySay, IsMapBy}

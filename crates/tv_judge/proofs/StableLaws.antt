@@ -1,11 +1,12 @@
 -- What is noted as stable is.
-use Rattle.std.proofs.Common.{ℕ, ◌≡◌, ◌&&◌, ◌==◌, Bool, true, false, List, [], ◌∷◌, ◌++◌, refl, sym, subst, ◌∙◌}
+use Rattle.std.proofs.Common.{ℕ, ◌≡◌, ◌&&◌, ◌==◌, Bool, true, false, List, [], ◌∷◌, ◌++◌, refl, sym, subst}
+use Rattle.std.proofs.Common.{◌∙◌}
 use Rattle.std.specs.Prelude.{All, None, Some, slice_get, if◌then◌else◌}
 use Rattle.std.proofs.lemmas.Bool.{eqb-true}
 use Rattle.std.proofs.lemmas.List.Elements.{All-nil, All-head, All-tail, All-push, All-weaker}
 use Rattle.tv_listing.specs.ListingForm.{at_node}
 use Rattle.tv_struct.specs.StructureForm.{StructureForm, unmarked}
-use Rattle.tv_transfer.specs.Settled.{IsSettled}
+use Rattle.tv_step_laws.specs.Settled.{IsSettled}
 use Rattle.tv_judge.specs.Found.{IsStableIn, IsStableAt, IsTestedTo}
 use Rattle.tv_judge.specs.Index.{is_said}
 use Rattle.tv_judge.specs.Judged.{Case}

@@ -10,26 +10,27 @@ use Rattle.tv_listing.specs.declared.analysis.Item.{Item}
 use Rattle.tv_listing.specs.declared.analysis.Item.TheVariants as item
 use Rattle.tv_listing.specs.declared.analysis.MapLine.{MapLine}
 use Rattle.tv_struct.specs.StructureForm.{StructureForm}
-use Rattle.tv_transfer.specs.Closed.{IsCovered, IsOpened as IsOpenedIn, IsFollowed, IsClosed}
-use Rattle.tv_transfer.specs.Transfer.{IsOpening, HasNoOpening}
-use Rattle.tv_transfer.proofs.Exact.{opening-once, results-once}
-use Rattle.tv_transfer.proofs.Runs.{closed_listings_cover_runs}
+use Rattle.tv_step_laws.specs.Closed.{IsCovered, IsOpened as IsOpenedIn, IsFollowed, IsClosed}
+use Rattle.tv_step_laws.specs.Transfer.{IsOpening, HasNoOpening}
+use Rattle.tv_step_laws.proofs.Exact.{opening-once, results-once}
+use Rattle.tv_step_laws.proofs.Runs.{closed_listings_cover_runs}
 use Rattle.tv_judge.specs.Items.{IsSource, IsMet}
-use Rattle.tv_judge.specs.Judged.{Case, IsThere, IsClosedReport, KeepsAllBudgets, Demand, Covering, Stepping, Saying, place_of, StandsBefore, AreMapsOf}
+use Rattle.tv_judge.specs.Judged.{Case, IsThere, IsClosedReport, KeepsAllBudgets, Demand, Covering, Stepping}
+use Rattle.tv_judge.specs.Judged.{Saying, demand_order, StandsBefore, AreMapsOf}
 use Rattle.tv_judge.specs.Laws.{ClosedListingsAreClosedReports}
-use Rattle.tv_judge.specs.Progress.{IsDoneItem, IsDone, IsDoneTo}
+use Rattle.tv_judge.specs.Progress.{IsDoneItem, MeetsDemand, IsDoneTo}
 use Rattle.tv_judge.specs.Verdicts.{IsSound}
 use Rattle.tv_judge.proofs.Reports.{all-at, covered, line-meets, no-opening}
 
 -- each demand stands before the end
-before-end : (d : Demand) → StandsBefore (place_of d) (2 ∷ [])
+before-end : (d : Demand) → StandsBefore (demand_order d) (2 ∷ [])
 before-end (Covering (item.Initial number)) = inl (omega arith)
 before-end (Covering (item.Result edge structure result)) = inl (omega arith)
 before-end (Stepping edge structure) = inl (omega arith)
 before-end (Saying edge structure number) = inl (omega arith)
 
 module _ (c : Case) (lines : List MapLine) (done : IsDoneTo c (2 ∷ []) lines) where
-  all-done : (d : Demand) → IsDone c lines d
+  all-done : (d : Demand) → MeetsDemand c lines d
   all-done d = done.done d (before-end d)
 
   items-done : (i : Item) → IsDoneItem c lines i

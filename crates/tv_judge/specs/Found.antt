@@ -2,7 +2,7 @@
 use Rattle.std.specs.Prelude.{ℕ, ◌≡◌, List, All, Some, slice_get}
 use Rattle.tv_listing.specs.ListingForm.{at_node}
 use Rattle.tv_rules.specs.Closing.{closed_rules}
-use Rattle.tv_stable.specs.Stable.{IsStable}
+use Rattle.tv_stable_laws.specs.Stable.{IsStable}
 use Rattle.tv_struct.specs.StructureForm.{StructureForm, structure_of}
 use Rattle.tv_judge.specs.Judged.{Case}
 use Rattle.tv_judge.specs.Progress.{IsDoneTo}

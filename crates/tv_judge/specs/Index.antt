@@ -7,7 +7,7 @@ use Rattle.std.specs.List.{list_any}
 use Rattle.tv_listing.specs.declared.analysis.Item.{Item}
 use Rattle.tv_listing.specs.declared.analysis.MapLine.{MapLine}
 use Rattle.tv_listing.specs.declared.analysis.MessageLine.{MessageLine}
-use Rattle.tv_transfer.specs.Closed.{HasLine}
+use Rattle.tv_step_laws.specs.Closed.{HasLine}
 use Rattle.tv_judge.specs.Items.{is_same_item, own_line}
 
 -- the line that an index has for the item

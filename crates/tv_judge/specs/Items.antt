@@ -1,5 +1,6 @@
 -- What has to be covered where a report is closed, and by what.
-use Rattle.std.specs.Prelude.{ℕ, ◌≡◌, ◌==◌, ◌&&◌, Bool, false, if◌then◌else◌, List, [], ◌∷◌, Option, None, Some, slice_get}
+use Rattle.std.specs.Prelude.{ℕ, ◌≡◌, ◌==◌, ◌&&◌, Bool, false, if◌then◌else◌, List, [], ◌∷◌, Option, None}
+use Rattle.std.specs.Prelude.{Some, slice_get}
 use Rattle.tv_model.specs.declared.program.Edge.{Edge}
 use Rattle.tv_model.specs.declared.program.Mode.{Mode}
 use Rattle.tv_model.specs.Program.{ProgramForm}
@@ -9,8 +10,8 @@ use Rattle.tv_listing.specs.declared.analysis.Item.TheVariants.{Initial, Result}
 use Rattle.tv_listing.specs.declared.analysis.MapLine.{MapLine}
 use Rattle.tv_struct.specs.StructureForm.{StructureForm}
 use Rattle.tv_embed.specs.Maps.{IsEmbedding}
-use Rattle.tv_transfer.specs.Closed.{IsCovered}
-use Rattle.tv_transfer.specs.Transfer.{IsOpening, AreResults}
+use Rattle.tv_step_laws.specs.Closed.{IsCovered}
+use Rattle.tv_step_laws.specs.Transfer.{IsOpening, AreResults}
 
 -- the structure stands at this place among those that are listed at the edge's source
 pub record IsSource (p : ProgramForm) (listing : List (List StructureForm)) (edge : ℕ) (taken : Edge)

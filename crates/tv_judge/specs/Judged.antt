@@ -1,5 +1,6 @@
 -- When a report is closed, and what is the first demand that it doesn't meet.
-use Rattle.std.specs.Prelude.{ℕ, ◌≡◌, ◌≢◌, ◌<◌, ◌⊎◌, List, [], ◌∷◌, Option, None, Some, All, AllPairs, Contains}
+use Rattle.std.specs.Prelude.{ℕ, ◌≡◌, ◌≢◌, ◌<◌, ◌⊎◌, List, [], ◌∷◌, Option, None, Some, All, AllPairs}
+use Rattle.std.specs.Prelude.{Contains}
 use Rattle.tv_kleene.specs.declared.K3.{K3}
 use Rattle.tv_kleene.specs.declared.K3.TheVariants.{No}
 use Rattle.tv_model.specs.declared.program.Edge.{Edge}
@@ -14,10 +15,10 @@ use Rattle.tv_listing.specs.declared.analysis.Rejection.TheVariants as rejection
 use Rattle.tv_struct.specs.StructureForm.{StructureForm}
 use Rattle.tv_struct.specs.declared.analysis.StageError.{StageError}
 use Rattle.tv_struct.specs.declared.analysis.StageError.TheVariants.{Splits, Individuals, Memory}
-use Rattle.tv_targets.specs.Covers.{IsFirstCover}
-use Rattle.tv_transfer.specs.Budgets.{KeepsBudgets, MeetsSplits, MeetsIndividuals}
-use Rattle.tv_transfer.specs.Closed.{HasLine}
-use Rattle.tv_transfer.specs.Transfer.{IsMessageValue}
+use Rattle.tv_cover.specs.Covers.{IsFirstCover}
+use Rattle.tv_step_laws.specs.Budgets.{KeepsBudgets, MeetsSplits, MeetsIndividuals}
+use Rattle.tv_step_laws.specs.Closed.{HasLine}
+use Rattle.tv_step_laws.specs.Transfer.{IsMessageValue}
 use Rattle.tv_judge.specs.Items.{IsSource, IsItem, IsMet, own_line}
 
 -- what is judged: a report on a program with initial structures, in a mode
@@ -62,11 +63,11 @@ pub data Demand : Type 0 where
 
 -- initial structures come first; then the edges, for each of them the structures at its source, and for each
 -- of these the step, its results, its messages
-abbrev pub place_of : Demand → List ℕ
-place_of (Covering (item.Initial number)) = 0 ∷ number ∷ []
-place_of (Stepping edge structure) = 1 ∷ edge ∷ structure ∷ 0 ∷ []
-place_of (Covering (item.Result edge structure result)) = 1 ∷ edge ∷ structure ∷ 1 ∷ result ∷ []
-place_of (Saying edge structure number) = 1 ∷ edge ∷ structure ∷ 2 ∷ number ∷ []
+abbrev pub demand_order : Demand → List ℕ
+demand_order (Covering (item.Initial number)) = 0 ∷ number ∷ []
+demand_order (Stepping edge structure) = 1 ∷ edge ∷ structure ∷ 0 ∷ []
+demand_order (Covering (item.Result edge structure result)) = 1 ∷ edge ∷ structure ∷ 1 ∷ result ∷ []
+demand_order (Saying edge structure number) = 1 ∷ edge ∷ structure ∷ 2 ∷ number ∷ []
 
 -- the lexicographic order of lists of numbers
 abbrev pub StandsBefore : List ℕ → List ℕ → Type 0
@@ -75,7 +76,7 @@ StandsBefore [] (y ∷ ys) = Unit {0}
 StandsBefore (x ∷ xs) (y ∷ ys) = (x < y) ⊎ ((x ≡ y) × StandsBefore xs ys)
 
 abbrev pub IsBefore : Demand → Demand → Type 0
-IsBefore d e = StandsBefore (place_of d) (place_of e)
+IsBefore d e = StandsBefore (demand_order d) (demand_order e)
 
 -- the step of the listed structure of this place meets the budget
 pub record StepMeets (c : Case) (Budget : ProgramForm → ℕ → StructureForm → Type 0) (edge structure : ℕ)
@@ -96,16 +97,16 @@ pub record IsUnmet (c : Case) (item : Item) : Type 0 where
   pub unmet : ¬ IsMet c.analysis.maps item targets s
 
 -- the report doesn't meet the demand
-abbrev pub Fails : Case → Demand → Type 0
-Fails c (Covering item) = IsUnmet c item
-Fails c (Stepping edge structure) = StepMeets c MeetsAny edge structure
-Fails c (Saying edge structure number) =
+abbrev pub FailsDemand : Case → Demand → Type 0
+FailsDemand c (Covering item) = IsUnmet c item
+FailsDemand c (Stepping edge structure) = StepMeets c MeetsAny edge structure
+FailsDemand c (Saying edge structure number) =
     MaySay c edge structure number × (¬ HasLine c.analysis.messages edge number)
 
 -- it meets each demand that comes before this one, and not this one
 pub record FailsFirst (c : Case) (d : Demand) : Type 0 where
-  pub fails : Fails c d
-  pub first : (other : Demand) → IsBefore other d → ¬ Fails c other
+  pub fails : FailsDemand c d
+  pub first : (other : Demand) → IsBefore other d → ¬ FailsDemand c other
 
 -- ---- the answers
 

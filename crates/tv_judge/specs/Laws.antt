@@ -3,7 +3,7 @@ use Rattle.std.specs.Prelude.{◌≡◌, []}
 use Rattle.tv_struct.specs.declared.analysis.StageError.{StageError}
 use Rattle.tv_struct.specs.declared.analysis.StageError.TheVariants.{Memory}
 use Rattle.tv_model.specs.Valid.{IsValid}
-use Rattle.tv_transfer.specs.Closed.{IsClosed}
+use Rattle.tv_step_laws.specs.Closed.{IsClosed}
 use Rattle.tv_judge.specs.Judged.{Case, IsClosedReport, KeepsAllBudgets, IsJudgeCause}
 use Rattle.tv_judge.specs.Verdicts.{IsVerdict, IsAcceptance}
 use Rattle.tv_judge.specs.declared.verdict.Verdict.{Verdict}

@@ -8,11 +8,13 @@ use Rattle.tv_listing.specs.declared.analysis.MapLine.{MapLine}
 use Rattle.tv_listing.specs.declared.analysis.Rejection.{Rejection}
 use Rattle.tv_listing.specs.declared.analysis.Rejection.TheVariants as rejection
 use Rattle.tv_struct.specs.StructureForm.{StructureForm}
-use Rattle.tv_transfer.specs.Budgets.{KeepsBudgets}
-use Rattle.tv_transfer.specs.Closed.{HasLine}
-use Rattle.tv_transfer.specs.Transfer.{IsOpening, HasNoOpening, AreResults, AreMessageValues}
+use Rattle.tv_step_laws.specs.Budgets.{KeepsBudgets}
+use Rattle.tv_step_laws.specs.Closed.{HasLine}
+use Rattle.tv_step_laws.specs.Transfer.{IsOpening, HasNoOpening, AreResults, AreMessageValues}
 use Rattle.tv_judge.specs.Items.{IsSource, Covers, own_line}
-use Rattle.tv_judge.specs.Judged.{Case, IsThere, MaySay, Demand, Covering, Stepping, Saying, place_of, StandsBefore, IsBefore, Fails, IsRejection, IsJudgeCause, IsMapBy, IsMapLine}
+use Rattle.tv_judge.specs.Judged.{Case, IsThere, MaySay, Demand, Covering, Stepping, Saying, demand_order}
+use Rattle.tv_judge.specs.Judged.{StandsBefore, IsBefore, FailsDemand, IsRejection, IsJudgeCause, IsMapBy}
+use Rattle.tv_judge.specs.Judged.{IsMapLine}
 use Rattle.tv_judge.specs.declared.setting.Stop.{Stop}
 use Rattle.tv_judge.specs.declared.setting.Stop.TheVariants.{Rejected, Stage}
 
@@ -26,7 +28,7 @@ pub record IsLineFor (lines : List MapLine) (item : Item) (targets : List Struct
   pub covers : Covers targets s line.target line.map
 
 -- if the item is there, its line is among these
-pub record IsKept (c : Case) (lines : List MapLine) (item : Item) (s : StructureForm)
+pub record HasItemLine (c : Case) (lines : List MapLine) (item : Item) (s : StructureForm)
     (targets : List StructureForm) : Type 0 where
   pub line : MapLine
   pub among : Contains lines line
@@ -35,7 +37,7 @@ pub record IsKept (c : Case) (lines : List MapLine) (item : Item) (s : Structure
 abbrev pub IsDoneItem : Case → List MapLine → Item → Type 0
 IsDoneItem c lines item =
     (s : StructureForm) (targets : List StructureForm) → IsThere c item s targets
-    → IsKept c lines item s targets
+    → HasItemLine c lines item s targets
 
 -- ---- demands
 
@@ -55,19 +57,20 @@ IsStepped c edge structure = (taken : Edge) (from : StructureForm)
     → IsSource c.program c.analysis.listing edge taken structure from → HasStep c edge from
 
 -- the demand is met, with these lines
-abbrev pub IsDone : Case → List MapLine → Demand → Type 0
-IsDone c lines (Covering (item.Initial number)) = IsOpened c number × IsDoneItem c lines (item.Initial number)
-IsDone c lines (Covering (item.Result edge structure result)) =
+abbrev pub MeetsDemand : Case → List MapLine → Demand → Type 0
+MeetsDemand c lines (Covering (item.Initial number)) =
+    IsOpened c number × IsDoneItem c lines (item.Initial number)
+MeetsDemand c lines (Covering (item.Result edge structure result)) =
     IsDoneItem c lines (item.Result edge structure result)
-IsDone c lines (Stepping edge structure) = IsStepped c edge structure
-IsDone c lines (Saying edge structure number) =
+MeetsDemand c lines (Stepping edge structure) = IsStepped c edge structure
+MeetsDemand c lines (Saying edge structure number) =
     MaySay c edge structure number → HasLine c.analysis.messages edge number
 
 -- the demands before the bound are met, and these are the lines of their items
 pub record IsDoneTo (c : Case) (bound : List ℕ) (lines : List MapLine) : Type 0 where
-  pub done : (d : Demand) → StandsBefore (place_of d) bound → IsDone c lines d
+  pub done : (d : Demand) → StandsBefore (demand_order d) bound → MeetsDemand c lines d
   pub only : All (IsMapLine c) lines
-  pub before : All (λ line. StandsBefore (place_of (Covering line.item)) bound) lines
+  pub before : All (λ line. StandsBefore (demand_order (Covering line.item)) bound) lines
   pub ordered : AllPairs (λ a b. IsBefore (Covering a.item) (Covering b.item)) lines
 
 -- the bound behind an item
@@ -99,7 +102,7 @@ AreSaidBelow c edge structure number =
 
 -- this is the first message that may be true and has no line
 pub record IsFirstUnsaid (c : Case) (edge structure number : ℕ) : Type 0 where
-  pub fails : Fails c (Saying edge structure number)
+  pub fails : FailsDemand c (Saying edge structure number)
   pub first : AreSaidBelow c edge structure number
 
 -- ---- answers

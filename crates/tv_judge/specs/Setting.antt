@@ -18,7 +18,7 @@ abbrev pub case_in : Setting → Case
 case_in x = case_of x.program.now x.mode x.initial.now x.analysis.now
 
 -- what `judge` asks for, and what is made of it before the tests
-pub record IsReady (x : Setting) : Type 0 where
+pub record IsReadyToJudge (x : Setting) : Type 0 where
   pub valid : IsValid (form_in x)
   pub initial : All (IsOver x.program.now.vocab) x.initial.now
   pub few : length x.initial.now < 2 ^ 32

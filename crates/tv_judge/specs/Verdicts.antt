@@ -5,7 +5,7 @@ use Rattle.tv_model.specs.Program.{program_of}
 use Rattle.std.specs.Prelude.{List}
 use Rattle.tv_struct.specs.StructureForm.{StructureForm}
 use Rattle.tv_listing.specs.declared.analysis.Analysis.{Analysis}
-use Rattle.tv_transfer.specs.Closed.{IsClosed, CoversRuns}
+use Rattle.tv_step_laws.specs.Closed.{IsClosed, CoversRuns}
 use Rattle.tv_judge.specs.Judged.{Case, IsClosedReport, KeepsAllBudgets, IsRejection, AreMapsOf}
 use Rattle.tv_judge.specs.declared.verdict.Verdict.{Verdict}
 use Rattle.tv_judge.specs.declared.verdict.Verdict.TheVariants.{Accepted, Rejected}

@@ -15,7 +15,7 @@ pub type LinesByItem<'a> = IndexMap<Item, &'a MapLine>;
 pub type Said = IndexSet<(u32, u32)>;
 
 /// The first place at a node of a listed structure with that signature.
-pub type Places = IndexMap<(u32, u64), u32>;
+pub type PlacesBySignature = IndexMap<(u32, u64), u32>;
 
 /// Notes the line where there is none for its item yet.
 fn note_line<'a>(index: &mut LinesByItem<'a>, line: &'a MapLine) -> Result<(), AllocError>
@@ -57,7 +57,11 @@ pub fn said_in(alloc: Global, lines: &[MessageLine]) -> Result<Said, AllocError>
 }
 
 /// Notes the place of a signature at a node where there is none yet.
-fn note_place(places: &mut Places, key: (u32, u64), place: u32) -> Result<(), AllocError> {
+fn note_place(
+    places: &mut PlacesBySignature,
+    key: (u32, u64),
+    place: u32,
+) -> Result<(), AllocError> {
     if !places.contains_key(&key) {
         places.insert(key, place)?;
     }
@@ -65,7 +69,7 @@ fn note_place(places: &mut Places, key: (u32, u64), place: u32) -> Result<(), Al
 }
 
 /// Notes the places of all structures at the node.
-fn note_node(places: &mut Places, listing: &Listing, node: u32) -> Result<(), AllocError>
+fn note_node(places: &mut PlacesBySignature, listing: &Listing, node: u32) -> Result<(), AllocError>
     requires node { node < length listing.now }
     requires counts { All (λ structures. length structures < 2 ^ 32) listing.now }
 {
@@ -81,7 +85,7 @@ pub fn places_by_signature(
     alloc: Global,
     listing: &Listing,
     nodes: usize,
-) -> Result<Places, AllocError>
+) -> Result<PlacesBySignature, AllocError>
     requires nodes { nodes ≡ length listing.now }
     requires few { nodes < 2 ^ 32 }
     requires counts { All (λ structures. length structures < 2 ^ 32) listing.now }

@@ -4,13 +4,13 @@ ghost use Rattle.std.specs.Prelude.{◌≡◌, ◌<◌, ◌↔◌, IsTrue, All, 
 ghost use Rattle.tv_listing.specs.ListingForm.{at_node};
 ghost use Rattle.tv_model.specs.Valid.{program_arities};
 ghost use Rattle.tv_struct.specs.StructureForm.{arities_of};
-ghost use Rattle.tv_transfer.specs.Closed.{IsCovered};
-ghost use Rattle.tv_targets.specs.Covers.{IsFirstCover};
+ghost use Rattle.tv_step_laws.specs.Closed.{IsCovered};
+ghost use Rattle.tv_cover.specs.Covers.{IsFirstCover};
 ghost use Rattle.tv_judge.specs.Items.{Covers, IsMet};
-ghost use Rattle.tv_judge.specs.Judged.{IsThere, place_of, Covering};
+ghost use Rattle.tv_judge.specs.Judged.{IsThere, demand_order, Covering};
 ghost use Rattle.tv_judge.specs.Found.{IsStableIn, IsTestedTo};
 ghost use Rattle.tv_judge.specs.Progress.{IsLineFor, IsStop, behind, rejection_for};
-ghost use Rattle.tv_judge.specs.Setting.{IsReady, case_in, form_in};
+ghost use Rattle.tv_judge.specs.Setting.{IsReadyToJudge, case_in, form_in};
 
 use crate::found::{Found, note_stable};
 use crate::index::line_of;
@@ -46,12 +46,13 @@ fn copied(alloc: Global, line: &MapLine) -> Result<MapLine, AllocError>
 ///
 /// Even where `s` itself is listed, an earlier structure may cover it.
 fn first_cover(x: &Setting, node: u32, s: &Structure) -> Result<Option<(u32, Numbers)>, AllocError>
-    requires ready { IsReady x.now }
+    requires ready { IsReadyToJudge x.now }
     requires node { node < length x.now.analysis.now.listing }
     requires over { arities_of s.now ≡ program_arities (form_in x.now) }
     ensures some { IfOk result (λ found. IfSome found (λ y.
         IsFirstCover (at_node x.now.analysis.now.listing node) s.now y.0 y.1)) }
-    ensures none { IfOk result (λ found. IfNone found (¬ IsCovered (at_node x.now.analysis.now.listing node) s.now)) }
+    ensures none { IfOk result
+        (λ found. IfNone found (¬ IsCovered (at_node x.now.analysis.now.listing node) s.now)) }
 {
     x.targets[node as usize].first_cover(x.alloc, s)
 }
@@ -64,7 +65,7 @@ fn owed_line(
     node: u32,
     s: &Structure,
 ) -> Result<Option<MapLine>, AllocError>
-    requires ready { IsReady x.now }
+    requires ready { IsReadyToJudge x.now }
     requires node { node < length x.now.analysis.now.listing }
     requires over { arities_of s.now ≡ program_arities (form_in x.now) }
     ensures some { IfOk result (λ found. IfSome found (IsLineFor x.now.analysis.now.maps item
@@ -108,12 +109,12 @@ pub fn test_item(
     s: &Structure,
     found: &mut Found,
 ) -> Result<(), Stop>
-    requires ready { IsReady x.now }
+    requires ready { IsReadyToJudge x.now }
     requires node { node < length x.now.analysis.now.listing }
     requires over { arities_of s.now ≡ program_arities (form_in x.now) }
     requires stable { IsStableIn (case_in x.now) s.now }
     requires there { IsThere (case_in x.now) item s.now (at_node x.now.analysis.now.listing node) }
-    requires so_far { IsTestedTo (case_in x.now) (place_of (Covering item)) found.old }
+    requires so_far { IsTestedTo (case_in x.now) (demand_order (Covering item)) found.old }
     ensures next { OnOk result (IsTestedTo (case_in x.now) (behind item) found.new) }
     ensures stop { IfErr result (IsStop (case_in x.now)) }
 {

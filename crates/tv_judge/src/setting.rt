@@ -4,16 +4,16 @@ ghost use Rattle.std.specs.Prelude.{◌≡◌};
 ghost use Rattle.tv_struct.specs.declared.analysis.StageError.TheVariants.{Memory};
 ghost use Rattle.tv_judge.specs.declared.setting.Stop.TheVariants.{Stage};
 
-use crate::index::{LinesByItem, Places, Said};
+use crate::index::{LinesByItem, PlacesBySignature, Said};
 use std::alloc::{AllocError, AllocFailed, Global};
+use tv_cover::Targets;
 use tv_listing::{Analysis, Rejection};
 use tv_model::{Mode, Program};
 use tv_step::Engine;
 use tv_struct::{StageError, Structures};
-use tv_targets::Targets;
 
-/// A report on a program with initial structures, the engine of the program's steps, the report's lines, where
-/// its structures are listed, and the structures of each node.
+/// A report on a program with initial structures, the engine of the program's steps, the report's lines,
+/// where its structures are listed, and the structures of each node.
 #[derive(Clone, Copy)]
 pub struct Setting<'a, 'b> {
     pub alloc: Global,
@@ -24,7 +24,7 @@ pub struct Setting<'a, 'b> {
     pub engine: &'b Engine<'a>,
     pub lines: &'b LinesByItem<'a>,
     pub said: &'b Said,
-    pub places: &'b Places,
+    pub places: &'b PlacesBySignature,
     pub targets: &'b [Targets<'a>],
 }
 

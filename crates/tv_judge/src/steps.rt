@@ -1,19 +1,20 @@
 //! The tests of openings and steps, in the order of demands.
 
-ghost use Rattle.std.specs.Prelude.{◌≡◌, ◌≢◌, ◌<◌, ◌≤◌, ◌+◌, ◌∷◌, [], ◌↔◌, IsTrue, All, length, slice_get, Some, IfOk, IfErr, IfSome, IfNone, OnOk};
+ghost use Rattle.std.specs.Prelude.{◌≡◌, ◌≢◌, ◌<◌, ◌+◌, ◌∷◌, [], ◌↔◌, IsTrue, All, length, slice_get, Some};
+ghost use Rattle.std.specs.Prelude.{IfOk, IfErr, IfSome, IfNone, OnOk};
 ghost use Rattle.tv_kleene.specs.declared.K3.TheVariants.{No};
 ghost use Rattle.tv_eval.specs.ScratchForm.{IsMadeFor};
 ghost use Rattle.tv_listing.specs.ListingForm.{at_node};
 ghost use Rattle.tv_model.specs.Valid.{program_arities};
 ghost use Rattle.tv_struct.specs.StructureForm.{IsOver, arities_of};
-ghost use Rattle.tv_transfer.specs.Budgets.{IsStepCause, KeepsBudgets};
-ghost use Rattle.tv_transfer.specs.Closed.{HasLine};
-ghost use Rattle.tv_transfer.specs.Settled.{IsSettled};
-ghost use Rattle.tv_transfer.specs.Transfer.{AreMessageValues, AreResults, HasNoOpening, IsOpening};
-ghost use Rattle.tv_judge.specs.Judged.{IsRejection};
+ghost use Rattle.tv_step_laws.specs.Closed.{HasLine};
+ghost use Rattle.tv_step_laws.specs.Settled.{IsSettled};
+ghost use Rattle.tv_step_laws.specs.Transfer.{HasNoOpening, IsOpening};
 ghost use Rattle.tv_judge.specs.Found.{IsStableIn, IsTestedTo};
-ghost use Rattle.tv_judge.specs.Progress.{AreResultsAt, AreSaidBelow, AreValuesAt, IsDoneTo, IsFirstUnsaid, IsStop};
-ghost use Rattle.tv_judge.specs.Setting.{IsReady, case_in, form_in};
+ghost use Rattle.tv_judge.specs.Progress.{AreResultsAt, AreSaidBelow, AreValuesAt, IsDoneTo, IsFirstUnsaid};
+ghost use Rattle.tv_judge.specs.Progress.{IsStop};
+ghost use Rattle.tv_judge.specs.Setting.{IsReadyToJudge, case_in, form_in};
+ghost use Rattle.tv_step.specs.StepAnswer.{AnswersStep};
 
 use crate::found::Found;
 use crate::items::test_item;
@@ -40,7 +41,7 @@ fn opening_of(
     s: &Structure,
     scratch: &mut Scratch,
 ) -> Result<Option<Structure>, AllocError>
-    requires ready { IsReady x.now }
+    requires ready { IsReadyToJudge x.now }
     requires over { IsOver x.now.program.now.vocab s.now }
     requires room { IsMadeFor (form_in x.now) 256 scratch.old }
     ensures some { IfOk result (λ found. IfSome found (IsOpening (form_in x.now) s.now)) }
@@ -58,7 +59,7 @@ fn test_opening(
     scratch: &mut Scratch,
     found: &mut Found,
 ) -> Result<(), Stop>
-    requires ready { IsReady x.now }
+    requires ready { IsReadyToJudge x.now }
     requires number { number < length x.now.initial.now }
     requires room { IsMadeFor (form_in x.now) 256 scratch.old }
     requires so_far { IsTestedTo (case_in x.now) (0 ∷ number ∷ []) found.old }
@@ -75,7 +76,7 @@ fn test_opening(
 
 /// Tests the openings of all initial structures.
 fn test_openings(x: &Setting, scratch: &mut Scratch, found: &mut Found) -> Result<(), Stop>
-    requires ready { IsReady x.now }
+    requires ready { IsReadyToJudge x.now }
     requires room { IsMadeFor (form_in x.now) 256 scratch.old }
     requires so_far { IsTestedTo (case_in x.now) (0 ∷ 0 ∷ []) found.old }
     ensures next { OnOk result (IsTestedTo (case_in x.now) (1 ∷ 0 ∷ []) found.new) }
@@ -95,13 +96,14 @@ fn test_results(
     results: &[Structure],
     found: &mut Found,
 ) -> Result<(), Stop>
-    requires ready { IsReady x.now }
+    requires ready { IsReadyToJudge x.now }
     requires results { AreResultsAt (case_in x.now) at.edge at.structure at.to results.now }
     requires over { All (λ s. arities_of s ≡ program_arities (form_in x.now)) results.now }
     requires stable { All (IsStableIn (case_in x.now)) results.now }
     requires node { at.to < length x.now.analysis.now.listing }
     requires so_far { IsTestedTo (case_in x.now) (1 ∷ at.edge ∷ at.structure ∷ 1 ∷ 0 ∷ []) found.old }
-    ensures next { OnOk result (IsTestedTo (case_in x.now) (1 ∷ at.edge ∷ at.structure ∷ 2 ∷ 0 ∷ []) found.new) }
+    ensures next { OnOk result
+        (IsTestedTo (case_in x.now) (1 ∷ at.edge ∷ at.structure ∷ 2 ∷ 0 ∷ []) found.new) }
     ensures stop { IfErr result (IsStop (case_in x.now)) }
 {
     for result in 0..results.len() {
@@ -128,7 +130,7 @@ fn may_be_true(value: K3) -> bool
 
 /// Whether a message with this value may be true and has no line.
 fn is_unsaid(x: &Setting, edge: u32, number: u32, value: K3) -> bool
-    requires { IsReady x.now }
+    requires { IsReadyToJudge x.now }
     ensures { IsTrue result ↔ ((value ≢ No) × (¬ HasLine x.now.analysis.now.messages edge number)) }
 {
     may_be_true(value) && !x.said.contains(&(edge, number))
@@ -136,7 +138,7 @@ fn is_unsaid(x: &Setting, edge: u32, number: u32, value: K3) -> bool
 
 /// The first message that may be true and has no line.
 fn first_unsaid(x: &Setting, at: Source, values: &[K3]) -> Option<u32>
-    requires ready { IsReady x.now }
+    requires ready { IsReadyToJudge x.now }
     requires values { AreValuesAt (case_in x.now) at.edge at.structure values.now }
     ensures some { IfSome result (IsFirstUnsaid (case_in x.now) at.edge at.structure) }
     ensures none { IfNone result (AreSaidBelow (case_in x.now) at.edge at.structure (length values.now)) }
@@ -157,23 +159,15 @@ fn step_of(
     is_stable: bool,
     scratch: &mut Scratch,
 ) -> Result<StepOut, StageError>
-    requires ready { IsReady x.now }
+    requires ready { IsReadyToJudge x.now }
     requires edge { edge < length x.now.program.now.edges }
     requires over { IsOver x.now.program.now.vocab from.now }
     requires stable { IsTrue is_stable → IsStableIn (case_in x.now) from.now }
     requires room { IsMadeFor (form_in x.now) 256 scratch.old }
-    ensures results { IfOk result (λ out. AreResults (form_in x.now) x.now.mode edge from.now out.results) }
-    ensures values { IfOk result (λ out. AreMessageValues (form_in x.now) edge from.now out.messages) }
-    ensures settled { IfOk result (λ out. All (IsSettled (form_in x.now)) out.results) }
-    ensures budgets { OnOk result (KeepsBudgets (form_in x.now) edge from.now) }
-    ensures cause { IfErr result (IsStepCause (form_in x.now) edge from.now) }
+    ensures step { AnswersStep (form_in x.now) x.now.mode edge from.now result }
     ensures scratch { scratch.new ≡ scratch.old }
 {
-    if is_stable {
-        x.engine.stable_step(edge, from, scratch)
-    } else {
-        x.engine.step(edge, from, scratch)
-    }
+    x.engine.step_of(edge, from, is_stable, scratch)
 }
 
 /// Tests the step of the listed structure of this place along the edge, its results and its messages.
@@ -185,7 +179,7 @@ fn test_step(
     scratch: &mut Scratch,
     found: &mut Found,
 ) -> Result<(), Stop>
-    requires ready { IsReady x.now }
+    requires ready { IsReadyToJudge x.now }
     requires edge { slice_get x.now.program.now.edges edge ≡ Some taken }
     requires structure { structure < length (at_node x.now.analysis.now.listing taken.from) }
     requires room { IsMadeFor (form_in x.now) 256 scratch.old }
@@ -219,7 +213,7 @@ fn edge_at(program: &Program, edge: u32) -> Edge
 
 /// Tests the steps of all listed structures along the edge.
 fn test_edge(x: &Setting, edge: u32, scratch: &mut Scratch, found: &mut Found) -> Result<(), Stop>
-    requires ready { IsReady x.now }
+    requires ready { IsReadyToJudge x.now }
     requires edge { edge < length x.now.program.now.edges }
     requires room { IsMadeFor (form_in x.now) 256 scratch.old }
     requires so_far { IsTestedTo (case_in x.now) (1 ∷ edge ∷ []) found.old }
@@ -236,7 +230,7 @@ fn test_edge(x: &Setting, edge: u32, scratch: &mut Scratch, found: &mut Found) -
 
 /// Tests all demands in order, and gives the lines of all items.
 pub fn test_report(x: &Setting, scratch: &mut Scratch) -> Result<MapLines, Stop>
-    requires ready { IsReady x.now }
+    requires ready { IsReadyToJudge x.now }
     requires room { IsMadeFor (form_in x.now) 256 scratch.old }
     ensures done { IfOk result (IsDoneTo (case_in x.now) (2 ∷ [])) }
     ensures stop { IfErr result (IsStop (case_in x.now)) }

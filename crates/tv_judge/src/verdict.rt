@@ -13,12 +13,12 @@ use crate::index::{lines_by_item, places_by_signature, said_in};
 use crate::setting::{Setting, Stop};
 use crate::steps::test_report;
 use std::alloc::Global;
+use tv_cover::all_targets;
 use tv_eval::Scratch;
 use tv_listing::{Analysis, MapLines, Rejection};
 use tv_model::{Mode, Program};
 use tv_step::Engine;
 use tv_struct::{StageError, Structures};
-use tv_targets::all_targets;
 
 /// What the checker says of a report: accepted, with a map for each item that has to be covered, or
 /// rejected, with the first demand that isn't met.

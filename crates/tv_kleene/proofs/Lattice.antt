@@ -1,9 +1,9 @@
 -- Laws of the operations on truth values, for the crates above: the order of truth is a lattice with
 -- negation, and in the order of information a join is the least value above.
-use Rattle.std.proofs.Common.{◌≡◌, ◌⊎◌, inl, inr, refl, sym, ◌∙◌}
+use Rattle.std.proofs.Common.{◌≡◌, ◌≢◌, ◌⊎◌, Bool, not, IsTrue, ◌↔◌, inl, inr, refl, sym, ap, ◌∙◌}
 use Rattle.tv_kleene.specs.declared.K3.{K3}
 use Rattle.tv_kleene.specs.declared.K3.TheVariants.{No, Half, Yes}
-use Rattle.tv_kleene.specs.Kleene.{LiesUnder, smaller_of, larger_of, negation_of, join_of}
+use Rattle.tv_kleene.specs.Kleene.{LiesUnder, smaller_of, larger_of, negation_of, join_of, are_same}
 
 -- ---- the order of truth
 
@@ -34,6 +34,36 @@ pub smaller-yes : (x : K3) → smaller_of x Yes ≡ x
 smaller-yes No = refl
 smaller-yes Half = refl
 smaller-yes Yes = refl
+
+pub larger-yes : (x : K3) → larger_of x Yes ≡ Yes
+larger-yes No = refl
+larger-yes Half = refl
+larger-yes Yes = refl
+
+pub smaller-no : (x : K3) → smaller_of x No ≡ No
+smaller-no No = refl
+smaller-no Half = refl
+smaller-no Yes = refl
+
+pub both-yes : (x y : K3) → smaller_of x y ≡ Yes → (x ≡ Yes) × (y ≡ Yes)
+both-yes No y e = cc
+both-yes Half No e = cc
+both-yes Half Half e = cc
+both-yes Half Yes e = cc
+both-yes Yes y e = (refl, e)
+
+pub yes-both : (x y : K3) → x ≡ Yes → y ≡ Yes → smaller_of x y ≡ Yes
+yes-both x y e f = ap (λ z. smaller_of z y) e ∙ f
+
+-- values other than Half are equal where they are Yes at once
+pub same-definite : (x y : K3) → x ≢ Half → y ≢ Half → x ≡ Yes ↔ y ≡ Yes → x ≡ y
+same-definite No No p q e = refl
+same-definite No Half p q e = absurd (q refl)
+same-definite No Yes p q e = e.1 refl
+same-definite Half y p q e = absurd (p refl)
+same-definite Yes No p q e = sym (e.0 refl)
+same-definite Yes Half p q e = absurd (q refl)
+same-definite Yes Yes p q e = refl
 
 -- a value is one of the three
 pub value-decided : (x y : K3) → (x ≡ y) ⊎ (¬ (x ≡ y))
@@ -88,3 +118,31 @@ pub join_least : (x y z : K3) → LiesUnder x z → LiesUnder y z → LiesUnder 
 join_least x y z (inr half) other = inr half
 join_least x y z (inl e) (inr half) = inr half
 join_least x y z (inl e) (inl d) = inl (rw (e, d) (join-same z))
+
+-- ---- sameness
+
+pub are_same-iff : (x y : K3) → IsTrue (are_same x y) ↔ (x ≡ y)
+are_same-iff No No = (λ t. refl, λ e. refl)
+are_same-iff No Half = (λ t. cc, λ e. cc)
+are_same-iff No Yes = (λ t. cc, λ e. cc)
+are_same-iff Half No = (λ t. cc, λ e. cc)
+are_same-iff Half Half = (λ t. refl, λ e. refl)
+are_same-iff Half Yes = (λ t. cc, λ e. cc)
+are_same-iff Yes No = (λ t. cc, λ e. cc)
+are_same-iff Yes Half = (λ t. cc, λ e. cc)
+are_same-iff Yes Yes = (λ t. refl, λ e. refl)
+
+-- what a test for sameness tells, and its negation
+pub same-told : (b : Bool) (x y : K3) → b ≡ are_same x y → IsTrue b ↔ (x ≡ y)
+same-told b x y e = rw e (are_same-iff x y)
+
+pub different-told : (b : Bool) (x y : K3) → b ≡ not (are_same x y) → IsTrue b ↔ (x ≢ y)
+different-told b No No e = rw e (λ t. cc, λ ne. absurd (ne refl))
+different-told b No Half e = rw e (λ t. λ same. cc, λ ne. refl)
+different-told b No Yes e = rw e (λ t. λ same. cc, λ ne. refl)
+different-told b Half No e = rw e (λ t. λ same. cc, λ ne. refl)
+different-told b Half Half e = rw e (λ t. cc, λ ne. absurd (ne refl))
+different-told b Half Yes e = rw e (λ t. λ same. cc, λ ne. refl)
+different-told b Yes No e = rw e (λ t. λ same. cc, λ ne. refl)
+different-told b Yes Half e = rw e (λ t. λ same. cc, λ ne. refl)
+different-told b Yes Yes e = rw e (λ t. cc, λ ne. absurd (ne refl))

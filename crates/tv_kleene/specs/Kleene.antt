@@ -1,6 +1,6 @@
 -- Kleene's strong three-valued logic, and the order of information in which Half lies above both
 -- definite values (Kleene 1952, section 64; Sagiv, Reps and Wilhelm 2002, section 4.1).
-use Rattle.std.specs.Prelude.{◌≡◌, ◌⊎◌}
+use Rattle.std.specs.Prelude.{◌≡◌, ◌⊎◌, Bool, true, false}
 use Rattle.tv_kleene.specs.declared.K3.{K3}
 use Rattle.tv_kleene.specs.declared.K3.TheVariants.{No, Half, Yes}
 
@@ -43,3 +43,15 @@ join_of Half _ = Half
 join_of Yes No = Half
 join_of Yes Half = Half
 join_of Yes Yes = Yes
+
+-- whether two values are the same
+abbrev pub are_same : K3 → K3 → Bool
+are_same No No = true
+are_same No Half = false
+are_same No Yes = false
+are_same Half No = false
+are_same Half Half = true
+are_same Half Yes = false
+are_same Yes No = false
+are_same Yes Half = false
+are_same Yes Yes = true

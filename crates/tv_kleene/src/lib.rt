@@ -7,13 +7,15 @@
 //! "Parametric shape analysis via 3-valued logic" (2002), section 4.1.
 #![tactic(auto)]
 
-ghost use Rattle.std.specs.Prelude.{◌≡◌, IsTrue, ◌↔◌};
-ghost use Rattle.tv_kleene.specs.Kleene.{smaller_of, larger_of, negation_of, join_of, LiesUnder};
+ghost use Rattle.std.specs.Prelude.{◌≡◌, ◌≢◌, IsTrue, MatchBool, ◌↔◌};
+ghost use Rattle.std.proofs.Common.{rules};
+ghost use Rattle.std.specs.Cmp.Rules.{comparing};
+ghost use Rattle.tv_kleene.specs.Kleene.{smaller_of, larger_of, negation_of, join_of, are_same, LiesUnder};
 
 /// A truth value: false, unknown or true.
 ///
 /// The derived order is that of truth, `No < Half < Yes`.
-#[derive(Clone, Copy, PartialEq, Eq, PartialOrd, Ord, Hash, Debug)]
+#[derive(Clone, Copy, Eq, PartialOrd, Ord, Hash, Debug)]
 pub enum K3 {
     /// False.
     No,
@@ -21,6 +23,22 @@ pub enum K3 {
     Half,
     /// True.
     Yes,
+}
+
+impl PartialEq for K3 {
+    ghost eq = { are_same };
+
+    ghost laws = { Prim.search (comparing, rules) };
+
+    fn eq(&self, other: &K3) -> bool
+        ensures computes { result ≡ are_same self.now other.now }
+        ensures same { MatchBool result (self.now ≡ other.now) (self.now ≢ other.now) }
+    {
+        match (self, other) {
+            (K3::No, K3::No) | (K3::Half, K3::Half) | (K3::Yes, K3::Yes) => true,
+            _ => false,
+        }
+    }
 }
 
 impl K3 {

@@ -1,5 +1,6 @@
 -- Steps of a search for `*/`.
-use Rattle.std.proofs.Common.{◌≡◌, ℕ, ◌+◌, ◌<◌, ◌≤◌, List, Option, Some, None, cond, ◌&&◌, eqb, length, get_or, drop, ap, refl, ◌∙◌, add-zero, zero-add, arith, get_or-drop}
+use Rattle.std.proofs.Common.{◌≡◌, ℕ, ◌+◌, ◌<◌, ◌≤◌, List, Option, Some, None, cond, ◌&&◌, eqb, length}
+use Rattle.std.proofs.Common.{get_or, drop, ap, refl, ◌∙◌, add-zero, zero-add, arith, get_or-drop}
 use Rattle.std.specs.Option.{option_map}
 use Rattle.std.proofs.lemmas.List.{drop_more, drop_all}
 use Rattle.std.proofs.lemmas.Bool.{ne_eqb, and_left, and_right}

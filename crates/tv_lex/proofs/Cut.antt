@@ -1,7 +1,10 @@
 -- A text cut from its front on, piece by piece.
-use Rattle.std.proofs.Common.{◌≡◌, ℕ, ◌+◌, ◌-◌, ◌<◌, ◌≤◌, List, [], ◌∷◌, ◌++◌, Option, Some, None, Ok, Err, length, drop, ap, sym, ◌∙◌, subst, arith, append_assoc, length-append, length-drop, take-append-drop}
+use Rattle.std.proofs.Common.{◌≡◌, ℕ, ◌+◌, ◌-◌, ◌<◌, ◌≤◌, List, [], ◌∷◌, ◌++◌, Option, Some, None, Ok, Err}
+use Rattle.std.proofs.Common.{length, drop, ap, sym, ◌∙◌, subst, arith, append_assoc, length-append}
+use Rattle.std.proofs.Common.{length-drop, take-append-drop}
 use Rattle.std.proofs.lemmas.List.{append-nil, drop-drop, length-take-le}
-use Rattle.tv_lex.specs.Pieces.{Piece, Fits, AllFit, joined, placed, placed_one, Cause, AreInOrder, IsRefused}
+use Rattle.tv_lex.specs.Pieces.{Piece, Fits, AllFit, joined_pieces, placed, placed_one, Cause, AreInOrder}
+use Rattle.tv_lex.specs.Pieces.{IsRefused}
 use Rattle.tv_lex.specs.Front.{front}
 use Rattle.tv_lex.specs.declared.front.Front.{Front}
 use Rattle.tv_lex.specs.declared.token.Token.{Token}
@@ -10,21 +13,21 @@ use Rattle.tv_lex.specs.declared.token.LexError.{LexError}
 use Rattle.tv_lex.specs.declared.token.LexError.TheVariants.{BadByte, Unended, Memory}
 use Rattle.tv_lex.proofs.Good.{taken, first_piece, refused}
 
-joined-push : (ps : List Piece) (p : Piece) (after : List ℕ) → joined (ps ++ p ∷ []) ++ after ≡ joined ps ++ (p.bytes ++ after)
+joined-push : (ps : List Piece) (p : Piece) (after : List ℕ) → joined_pieces (ps ++ p ∷ []) ++ after ≡ joined_pieces ps ++ (p.bytes ++ after)
 joined-push [] p after = ap (λ l. l ++ after) (append-nil p.bytes)
 joined-push (q ∷ qs) p after =
-    append_assoc q.bytes (joined (qs ++ p ∷ [])) after ∙ ap (λ l. q.bytes ++ l) (joined-push qs p after) ∙ sym (append_assoc q.bytes (joined qs) (p.bytes ++ after))
+    append_assoc q.bytes (joined_pieces (qs ++ p ∷ [])) after ∙ ap (λ l. q.bytes ++ l) (joined-push qs p after) ∙ sym (append_assoc q.bytes (joined_pieces qs) (p.bytes ++ after))
 
 AllFit-push : (ps : List Piece) (p : Piece) (after : List ℕ) → AllFit ps (p.bytes ++ after) → Fits p after → AllFit (ps ++ p ∷ []) after
 AllFit-push [] p after fit last = (last, tt)
 AllFit-push (q ∷ qs) p after fit last = (subst (Fits q) (sym (joined-push qs p after)) fit.0, AllFit-push qs p after fit.1 last)
 
-placed-push : (at : ℕ) (ps : List Piece) (p : Piece) → placed at (ps ++ p ∷ []) ≡ placed at ps ++ placed_one p.kind (at + length (joined ps)) (at + length (joined ps) + length p.bytes)
+placed-push : (at : ℕ) (ps : List Piece) (p : Piece) → placed at (ps ++ p ∷ []) ≡ placed at ps ++ placed_one p.kind (at + length (joined_pieces ps)) (at + length (joined_pieces ps) + length p.bytes)
 placed-push at [] p =
     let here : at ≡ at + 0 = omega arith in
     append-nil (placed_one p.kind at (at + length p.bytes)) ∙ ap (λ a. placed_one p.kind a (a + length p.bytes)) here
 placed-push at (q ∷ qs) p =
-    let there : at + length q.bytes + length (joined qs) ≡ at + length (q.bytes ++ joined qs) = omega (arith, length-append q.bytes (joined qs)) in
+    let there : at + length q.bytes + length (joined_pieces qs) ≡ at + length (q.bytes ++ joined_pieces qs) = omega (arith, length-append q.bytes (joined_pieces qs)) in
     let first = placed_one q.kind at (at + length q.bytes) in
     ap (λ l. first ++ l) (placed-push (at + length q.bytes) qs p ∙ ap (λ a. placed (at + length q.bytes) qs ++ placed_one p.kind a (a + length p.bytes)) there)
     ∙ sym (append_assoc first (placed (at + length q.bytes) qs) _)
@@ -42,8 +45,8 @@ AreInOrder-placed a (t ∷ ts) mid end (Some kind) order more = (order.0, order.
 pub record CutBefore (text : List ℕ) (at : ℕ) (tokens : List Token) : Type 0 where
   pub pieces : List Piece
   pub fit : AllFit pieces (drop at text)
-  pub joins : joined pieces ++ drop at text ≡ text
-  pub long : length (joined pieces) ≡ at
+  pub joins : joined_pieces pieces ++ drop at text ≡ text
+  pub long : length (joined_pieces pieces) ≡ at
   pub spelled : tokens ≡ placed 0 pieces
   pub order : AreInOrder 0 tokens at
   pub bounded : at ≤ length text
@@ -58,15 +61,15 @@ cut_more text at tokens f cut more e =
     let after : drop f.len rest ≡ drop (at + f.len) text = drop-drop f.len at text in
     let whole : p.bytes ++ drop (at + f.len) text ≡ rest = ap (λ l. p.bytes ++ l) (sym after) ∙ take-append-drop f.len rest in
     let p_len : length p.bytes ≡ f.len = length-take-le f.len rest first.bounded in
-    let starts : at ≡ 0 + length (joined cut.pieces) = omega (arith, cut.long) in
+    let starts : at ≡ 0 + length (joined_pieces cut.pieces) = omega (arith, cut.long) in
     record {
       pieces = cut.pieces ++ p ∷ [];
       fit = AllFit-push cut.pieces p (drop (at + f.len) text) (subst (AllFit cut.pieces) (sym whole) cut.fit) (subst (Fits p) after first.fits);
-      joins = joined-push cut.pieces p (drop (at + f.len) text) ∙ ap (λ l. joined cut.pieces ++ l) whole ∙ cut.joins;
+      joins = joined-push cut.pieces p (drop (at + f.len) text) ∙ ap (λ l. joined_pieces cut.pieces ++ l) whole ∙ cut.joins;
       long =
-          let both : length (joined (cut.pieces ++ p ∷ []) ++ []) ≡ length (joined cut.pieces ++ (p.bytes ++ [])) = ap length (joined-push cut.pieces p []) in
-          let left : length (joined (cut.pieces ++ p ∷ []) ++ []) ≡ length (joined (cut.pieces ++ p ∷ [])) + 0 = length-append (joined (cut.pieces ++ p ∷ [])) [] in
-          let right : length (joined cut.pieces ++ (p.bytes ++ [])) ≡ length (joined cut.pieces) + length (p.bytes ++ []) = length-append (joined cut.pieces) (p.bytes ++ []) in
+          let both : length (joined_pieces (cut.pieces ++ p ∷ []) ++ []) ≡ length (joined_pieces cut.pieces ++ (p.bytes ++ [])) = ap length (joined-push cut.pieces p []) in
+          let left : length (joined_pieces (cut.pieces ++ p ∷ []) ++ []) ≡ length (joined_pieces (cut.pieces ++ p ∷ [])) + 0 = length-append (joined_pieces (cut.pieces ++ p ∷ [])) [] in
+          let right : length (joined_pieces cut.pieces ++ (p.bytes ++ [])) ≡ length (joined_pieces cut.pieces) + length (p.bytes ++ []) = length-append (joined_pieces cut.pieces) (p.bytes ++ []) in
           let last : length (p.bytes ++ []) ≡ length p.bytes + 0 = length-append p.bytes [] in
           omega (arith, cut.long);
       spelled = ap (λ l. l ++ placed_one f.kind at (at + f.len)) cut.spelled ∙ (λ i. placed 0 cut.pieces ++ placed_one f.kind (starts i) (starts i + sym p_len i)) ∙ sym (placed-push 0 cut.pieces p);

@@ -1,18 +1,26 @@
 -- Steps of gathering a text.
-use Rattle.std.proofs.Common.{◌≡◌, ℕ, zero, suc, ◌+◌, ◌-◌, ◌<◌, ◌≤◌, List, [], ◌∷◌, ◌++◌, Option, Some, None, Result, Ok, Err, Bool, false, eqb, is_some, length, take, drop, min, ap, sym, refl, ◌∙◌, subst, inl, inr, zero-add, arith, append_assoc, length-append}
+use Rattle.std.proofs.Common.{◌≡◌, ℕ, zero, suc, ◌+◌, ◌-◌, ◌<◌, ◌≤◌, List, [], ◌∷◌, ◌++◌, Option, Some, None}
+use Rattle.std.proofs.Common.{Result, Ok, Err, Bool, false, eqb, is_some, length, take, drop, min, ap, sym}
+use Rattle.std.proofs.Common.{refl, ◌∙◌, subst, inl, inr, zero-add, arith, append_assoc, length-append}
 use Rattle.std.specs.List.{prefix_len}
-use Rattle.std.proofs.lemmas.Bool.{cases_Bool, cond-true, cond-false, lt-ltb, le-ltb, eqb-true, not_from_true, not_from_false}
+use Rattle.std.proofs.lemmas.Bool.{cases_Bool, cond-true, cond-false, lt-ltb, le-ltb, eqb-true, not_from_true}
+use Rattle.std.proofs.lemmas.Bool.{not_from_false}
 use Rattle.std.proofs.lemmas.List.{append-nil}
 use Rattle.tv_outside.specs.Told.{Held, content_of, HoldsName, IsContent}
 use Rattle.tv_outside.specs.Count.{count_max, counted}
 use Rattle.tv_outside.specs.Outcome.{ReadCause}
 use Rattle.tv_outside.specs.declared.read.ReadError.{ReadError}
-use Rattle.tv_outside.specs.declared.read.ReadError.TheVariants.{Failed as ReadFailed, TooLong as ReadTooLong, Memory as ReadMemory}
+use Rattle.tv_outside.specs.declared.read.ReadError.TheVariants.{Failed as ReadFailed, TooLong as ReadTooLong}
+use Rattle.tv_outside.specs.declared.read.ReadError.TheVariants.{Memory as ReadMemory}
 use Rattle.tv_lex.specs.Bytes.{stays_on_line}
 use Rattle.tv_lex.specs.Include.{lines_of, onto, include_name, inner_name}
-use Rattle.tv_lex.specs.Gather.{longest_gathered, deepest_include, Event, Begin, Give, Refuse, begun, BeginsEach, gathered, GivesBytes, Puts, PutCause, Gathers, GatherCause, file_events, content_events, line_events, one_line, opens, named_events, included, below, gather_error}
+use Rattle.tv_lex.specs.Gather.{longest_gathered, deepest_include, Event, Begin, Give, Refuse, begun}
+use Rattle.tv_lex.specs.Gather.{BeginsEach, gathered, GivesBytes, Puts, PutCause, Gathers, GatherCause}
+use Rattle.tv_lex.specs.Gather.{file_events, content_events, line_events, one_line, opens, named_events}
+use Rattle.tv_lex.specs.Gather.{included, below, gather_error}
 use Rattle.tv_lex.specs.declared.gatherer.GatherError.{GatherError}
-use Rattle.tv_lex.specs.declared.gatherer.GatherError.TheVariants.{Failed, TooLong, Unended, IncludeForm, IncludeDepth, Memory}
+use Rattle.tv_lex.specs.declared.gatherer.GatherError.TheVariants.{Failed, TooLong, Unended, IncludeForm}
+use Rattle.tv_lex.specs.declared.gatherer.GatherError.TheVariants.{IncludeDepth, Memory}
 
 pub gives_bytes : (old bytes new : List ℕ) → new ≡ old ++ bytes → length old + length bytes ≤ longest_gathered → GivesBytes old bytes (Ok new)
 gives_bytes old bytes new e fits after =

@@ -1,12 +1,18 @@
 -- What the reader takes from the front of a text is the longest piece that fits there; where it takes nothing, nothing fits.
-use Rattle.std.proofs.Common.{◌≡◌, ℕ, zero, suc, ◌+◌, ◌<◌, ◌≤◌, List, [], ◌∷◌, ◌++◌, ◌⊎◌, Option, Some, None, Result, Ok, Err, Bool, true, false, cond, ◌&&◌, ◌||◌, eqb, leb, length, get_or, take, drop, map, ap, sym, refl, ◌∙◌, subst, inl, inr, add-zero, arith, length-append, get_or-drop, take-append-drop}
+use Rattle.std.proofs.Common.{◌≡◌, ℕ, zero, suc, ◌+◌, ◌<◌, ◌≤◌, List, [], ◌∷◌, ◌++◌, ◌⊎◌, Option, Some, None}
+use Rattle.std.proofs.Common.{Result, Ok, Err, Bool, true, false, cond, ◌&&◌, ◌||◌, eqb, leb, length, get_or}
+use Rattle.std.proofs.Common.{take, drop, map, ap, sym, refl, ◌∙◌, subst, inl, inr, add-zero, arith}
+use Rattle.std.proofs.Common.{length-append, get_or-drop, take-append-drop}
 use Rattle.std.specs.List.{prefix_len, list_all, list_any}
-use Rattle.std.proofs.lemmas.Bool.{and_parts, or_cases, false≢true, cond-true, cond-false, cond_both, eqb-true, leb-true, not-true, or_left, or_right, le-leb}
+use Rattle.std.proofs.lemmas.Bool.{and_parts, or_cases, false≢true, cond-true, cond-false, cond_both}
+use Rattle.std.proofs.lemmas.Bool.{eqb-true, leb-true, not-true, or_left, or_right, le-leb}
 use Rattle.std.proofs.lemmas.List.{take_more, drop_all, get_or_past, length-take-le, get_or_at}
 use Rattle.std.proofs.lemmas.List.Sums.{prefix_len-le-length}
 use Rattle.tv_lex.specs.Bytes.{is_blank, is_word_byte, is_letter, is_text_byte, stays_on_line}
-use Rattle.tv_lex.specs.Pieces.{Stands, Piece, Fits, IsOneOf, IsRunOf, punctuations, single_punctuations, close_at, IsOpen, NothingFits, IsRefused}
-use Rattle.tv_lex.specs.Front.{front, gap, token, is_half, word_front, string_front, block_front, comment_front, percent_front, punct_front, is_triple, is_pair, is_single}
+use Rattle.tv_lex.specs.Pieces.{Stands, Piece, Fits, IsOneOf, IsRunOf, punctuations, single_punctuations}
+use Rattle.tv_lex.specs.Pieces.{close_at, IsOpen, NothingFits, IsRefused}
+use Rattle.tv_lex.specs.Front.{front, gap, token, is_half, word_front, string_front, block_front}
+use Rattle.tv_lex.specs.Front.{comment_front, percent_front, punct_front, is_triple, is_pair, is_single}
 use Rattle.tv_lex.specs.declared.front.Front.{Front}
 use Rattle.tv_lex.specs.declared.token.TokenKind.TheVariants.{Half, Text, Punct}
 use Rattle.tv_lex.specs.declared.token.LexError.{LexError}

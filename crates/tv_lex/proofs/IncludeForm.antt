@@ -1,13 +1,17 @@
 -- The name in an include line is read exactly from lines of that form.
-use Rattle.std.proofs.Common.{◌≡◌, ℕ, suc, ◌<◌, List, [], ◌∷◌, ◌++◌, Option, Some, None, ◌⊎◌, ◌↔◌, true, ◌&&◌, eqb, ltb, length, take, drop, ap, sym, refl, ◌∙◌, subst, inl, inr, arith, take-append-drop, IsUtf8}
+use Rattle.std.proofs.Common.{◌≡◌, ℕ, suc, ◌<◌, List, [], ◌∷◌, ◌++◌, Option, Some, None, ◌⊎◌, ◌↔◌, true, ◌&&◌}
+use Rattle.std.proofs.Common.{eqb, ltb, length, take, drop, ap, sym, refl, ◌∙◌, subst, inl, inr, arith}
+use Rattle.std.proofs.Common.{take-append-drop, IsUtf8}
 use Rattle.std.specs.List.{prefix_len, list_all}
 use Rattle.std.specs.Str.{is_utf8}
 use Rattle.std.specs.Cmp.Lexicographic.{pointwise, bytes_decides}
 use Rattle.std.proofs.lemmas.Str.{is_utf8-from_IsUtf8, IsUtf8-from_is_utf8}
-use Rattle.std.proofs.lemmas.Bool.{and_parts, and_from, or_cases, cases_Bool, cond-true, cond-false, ltb-true, lt-ltb, eqb-true}
+use Rattle.std.proofs.lemmas.Bool.{and_parts, and_from, or_cases, cases_Bool, cond-true, cond-false, ltb-true}
+use Rattle.std.proofs.lemmas.Bool.{lt-ltb, eqb-true}
 use Rattle.std.proofs.lemmas.List.{drop_at, take_at}
 use Rattle.tv_lex.specs.Pieces.{IsOneOf}
-use Rattle.tv_lex.specs.Include.{is_gap, without_gaps, behind_mark, is_feed, ends_line, is_not_quote, text_if, checked_name, include_word, include_name, IsIncludeLine}
+use Rattle.tv_lex.specs.Include.{is_gap, without_gaps, behind_mark, is_feed, ends_line, is_not_quote, text_if}
+use Rattle.tv_lex.specs.Include.{checked_name, include_word, include_name, IsIncludeLine}
 use Rattle.tv_lex.specs.Options.{◌>>=◌}
 use Rattle.tv_lex.proofs.Runs.{prefix_len-append-stop, list_all-take-prefix_len}
 

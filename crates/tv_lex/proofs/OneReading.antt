@@ -1,7 +1,8 @@
 -- A text has one reading at most.
-use Rattle.std.proofs.Common.{◌≡◌, ℕ, ◌<◌, ◌≤◌, List, [], ◌∷◌, ◌++◌, Result, Ok, Err, length, take, drop, ap, sym, refl, ◌∙◌, subst, arith, append_assoc, take-append-drop}
+use Rattle.std.proofs.Common.{◌≡◌, ℕ, ◌<◌, ◌≤◌, List, [], ◌∷◌, ◌++◌, Result, Ok, Err, length, take, drop, ap}
+use Rattle.std.proofs.Common.{sym, refl, ◌∙◌, subst, arith, append_assoc, take-append-drop}
 use Rattle.std.proofs.lemmas.List.{append-nil, take_at, drop_at, length-take-le}
-use Rattle.tv_lex.specs.Pieces.{Piece, Fits, AllFit, joined, placed, Reads, NothingFits, IsRefused}
+use Rattle.tv_lex.specs.Pieces.{Piece, Fits, AllFit, joined_pieces, placed, Reads, NothingFits, IsRefused}
 use Rattle.tv_lex.specs.Front.{front}
 use Rattle.tv_lex.specs.declared.front.Front.{Front}
 use Rattle.tv_lex.specs.declared.token.Token.{Token}
@@ -43,14 +44,14 @@ same_first p q after behind fits_p fits_q same =
     let kind : p.kind ≡ q.kind = sym of_p.2 ∙ ap (λ (f : Front). f.kind) front_is ∙ of_q.2 in
     ((λ i. record { kind = kind i; bytes = bytes i }), rest)
 
-same_cut : (ps qs : List Piece) (r s : List ℕ) → AllFit ps r → AllFit qs s → NothingFits r → NothingFits s → joined ps ++ r ≡ joined qs ++ s → (ps ≡ qs) × (r ≡ s)
+same_cut : (ps qs : List Piece) (r s : List ℕ) → AllFit ps r → AllFit qs s → NothingFits r → NothingFits s → joined_pieces ps ++ r ≡ joined_pieces qs ++ s → (ps ≡ qs) × (r ≡ s)
 same_cut [] [] r s fit_p fit_q end_p end_q same = (refl, same)
 same_cut [] (q ∷ qs) r s fit_p fit_q end_p end_q same =
-    absurd (end_p q.kind q.bytes (joined qs ++ s) (sym (append_assoc q.bytes (joined qs) s) ∙ sym same) fit_q.0.stands)
+    absurd (end_p q.kind q.bytes (joined_pieces qs ++ s) (sym (append_assoc q.bytes (joined_pieces qs) s) ∙ sym same) fit_q.0.stands)
 same_cut (p ∷ ps) [] r s fit_p fit_q end_p end_q same =
-    absurd (end_q p.kind p.bytes (joined ps ++ r) (sym (append_assoc p.bytes (joined ps) r) ∙ same) fit_p.0.stands)
+    absurd (end_q p.kind p.bytes (joined_pieces ps ++ r) (sym (append_assoc p.bytes (joined_pieces ps) r) ∙ same) fit_p.0.stands)
 same_cut (p ∷ ps) (q ∷ qs) r s fit_p fit_q end_p end_q same =
-    let first = same_first p q (joined ps ++ r) (joined qs ++ s) fit_p.0 fit_q.0 (sym (append_assoc p.bytes (joined ps) r) ∙ same ∙ append_assoc q.bytes (joined qs) s) in
+    let first = same_first p q (joined_pieces ps ++ r) (joined_pieces qs ++ s) fit_p.0 fit_q.0 (sym (append_assoc p.bytes (joined_pieces ps) r) ∙ same ∙ append_assoc q.bytes (joined_pieces qs) s) in
     let others = same_cut ps qs r s fit_p.1 fit_q.1 end_p end_q first.1 in
     ((λ i. first.0 i ∷ others.0 i), others.1)
 
@@ -71,13 +72,13 @@ same_fault Memory f text a b = absurd a
 ends_not : (text : List ℕ) (tokens : List Token) (fault : LexError) → Reads text (Ok tokens) → Reads text (Err fault) → ⊥
 ends_not text tokens fault a b =
     let stops = refused_stops fault b.1 b.4 in
-    let same = same_cut a.0 b.0 [] b.1 a.1 b.2 nothing-nil stops.1 (append-nil (joined a.0) ∙ a.2 ∙ sym b.3) in
+    let same = same_cut a.0 b.0 [] b.1 a.1 b.2 nothing-nil stops.1 (append-nil (joined_pieces a.0) ∙ a.2 ∙ sym b.3) in
     let len : 0 ≡ length b.1 = ap (λ (l : List ℕ). length l) same.1 in
     omega (arith, stops.0)
 
 pub one_reading : (text : List ℕ) (a b : Result (List Token) LexError) → Reads text a → Reads text b → a ≡ b
 one_reading text (Ok ts) (Ok us) a b =
-    let same = same_cut a.0 b.0 [] [] a.1 b.1 nothing-nil nothing-nil (append-nil (joined a.0) ∙ a.2 ∙ sym b.2 ∙ sym (append-nil (joined b.0))) in
+    let same = same_cut a.0 b.0 [] [] a.1 b.1 nothing-nil nothing-nil (append-nil (joined_pieces a.0) ∙ a.2 ∙ sym b.2 ∙ sym (append-nil (joined_pieces b.0))) in
     ap Ok (a.3 ∙ ap (placed 0) same.0 ∙ sym b.3)
 one_reading text (Ok ts) (Err f) a b = absurd (ends_not text ts f a b)
 one_reading text (Err e) (Ok us) a b = absurd (ends_not text us e b a)

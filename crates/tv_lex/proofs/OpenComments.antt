@@ -1,16 +1,21 @@
 -- The automaton of include lines follows the block comments of a text that has tokens.
-use Rattle.std.proofs.Common.{◌≡◌, ℕ, ◌+◌, ◌<◌, ◌≤◌, List, [], ◌∷◌, ◌++◌, Bool, true, false, Option, Some, None, length, refl, sym, ◌∙◌, ap, subst, inl, inr, arith, append_assoc, length-append}
+use Rattle.std.proofs.Common.{◌≡◌, ℕ, ◌+◌, ◌<◌, ◌≤◌, List, [], ◌∷◌, ◌++◌, Bool, true, false, Option, Some}
+use Rattle.std.proofs.Common.{None, length, refl, sym, ◌∙◌, ap, subst, inl, inr, arith, append_assoc}
+use Rattle.std.proofs.Common.{length-append}
 use Rattle.std.specs.Prelude.{◌↔◌, ◌⊎◌, ◌&&◌, ◌==◌, not, if◌then◌else◌}
 use Rattle.std.specs.List.{fold, list_all}
 use Rattle.std.specs.Option.{option_map}
-use Rattle.std.proofs.lemmas.Bool.{and_parts, and_from, and_right, cases_Bool, cases_lt, cond-true, cond-false, false≢true, eqb-true, ne_eqb, not-true, not_from_false}
+use Rattle.std.proofs.lemmas.Bool.{and_parts, and_from, and_right, cases_Bool, cases_lt, cond-true}
+use Rattle.std.proofs.lemmas.Bool.{cond-false, false≢true, eqb-true, ne_eqb, not-true, not_from_false}
 use Rattle.std.proofs.lemmas.List.{append-nil}
 use Rattle.tv_lex.specs.Bytes.{is_blank, is_word_byte, is_letter, is_text_byte, stays_on_line}
-use Rattle.tv_lex.specs.Pieces.{Piece, Stands, Fits, AllFit, joined, IsOneOf, IsBlockComment, IsLineComment, IsBlank, close_at, punctuations}
+use Rattle.tv_lex.specs.Pieces.{Piece, Stands, Fits, AllFit, joined_pieces, IsOneOf, IsBlockComment}
+use Rattle.tv_lex.specs.Pieces.{IsLineComment, IsBlank, close_at, punctuations}
 use Rattle.tv_lex.specs.Include.{lines_of, onto, next_scan, scan_start, is_in_block}
 use Rattle.tv_lex.specs.Comments.{is_open_behind, IsWholeLines, IsInComment, CommentsAgree}
 use Rattle.tv_lex.specs.declared.include.Scan.{Scan}
-use Rattle.tv_lex.specs.declared.include.Scan.TheVariants.{Code, Slash, LineComment, BlockComment, Star, Quoted}
+use Rattle.tv_lex.specs.declared.include.Scan.TheVariants.{Code, Slash, LineComment, BlockComment, Star}
+use Rattle.tv_lex.specs.declared.include.Scan.TheVariants.{Quoted}
 use Rattle.tv_lex.specs.declared.token.TokenKind.{TokenKind}
 use Rattle.tv_lex.specs.declared.token.TokenKind.TheVariants.{Word, Half, Text, Directive, Parts, Punct}
 use Rattle.tv_lex.proofs.Runs.{option_map-suc}
@@ -389,24 +394,24 @@ in_later p ps at h = record {
   after = h.after;
   split = ap (λ qs. p ∷ qs) h.split;
   is_comment = h.is_comment;
-  behind_opening = omega (arith, h.behind_opening, length-append p.bytes (joined h.before));
-  before_end = omega (arith, h.before_end, length-append p.bytes (joined h.before));
+  behind_opening = omega (arith, h.behind_opening, length-append p.bytes (joined_pieces h.before));
+  before_end = omega (arith, h.before_end, length-append p.bytes (joined_pieces h.before));
 }
 
 of_first : (p : Piece) (ps : List Piece) (at : ℕ) → IsInComment (p ∷ ps) at → at < length p.bytes → ((p.kind ≡ None) × IsBlockComment p.bytes) × (2 ≤ at)
 of_first p ps at h below = go h.before h.comment h.after h.split h.is_comment h.behind_opening
   where
-    go : (before : List Piece) (comment : Piece) (after : List Piece) → p ∷ ps ≡ before ++ comment ∷ after → (comment.kind ≡ None) × IsBlockComment comment.bytes → length (joined before) + 2 ≤ at → ((p.kind ≡ None) × IsBlockComment p.bytes) × (2 ≤ at)
+    go : (before : List Piece) (comment : Piece) (after : List Piece) → p ∷ ps ≡ before ++ comment ∷ after → (comment.kind ≡ None) × IsBlockComment comment.bytes → length (joined_pieces before) + 2 ≤ at → ((p.kind ≡ None) × IsBlockComment p.bytes) × (2 ≤ at)
     go [] comment after split is opening = let same : comment ≡ p = cc in (subst (λ (q : Piece). (q.kind ≡ None) × IsBlockComment q.bytes) same is, omega (arith, opening))
     go (q ∷ before) comment after split is opening =
         let same : p ≡ q = cc in
         let len : length p.bytes ≡ length q.bytes = ap (λ (r : Piece). length r.bytes) same in
-        absurd (omega (arith, below, opening, len, length-append q.bytes (joined before)))
+        absurd (omega (arith, below, opening, len, length-append q.bytes (joined_pieces before)))
 
 of_later : (p : Piece) (ps : List Piece) (at : ℕ) → IsInComment (p ∷ ps) (length p.bytes + at) → IsInComment ps at
 of_later p ps at h = go h.before h.comment h.after h.split h.is_comment h.behind_opening h.before_end
   where
-    go : (before : List Piece) (comment : Piece) (after : List Piece) → p ∷ ps ≡ before ++ comment ∷ after → (comment.kind ≡ None) × IsBlockComment comment.bytes → length (joined before) + 2 ≤ length p.bytes + at → length p.bytes + at < length (joined before) + length comment.bytes → IsInComment ps at
+    go : (before : List Piece) (comment : Piece) (after : List Piece) → p ∷ ps ≡ before ++ comment ∷ after → (comment.kind ≡ None) × IsBlockComment comment.bytes → length (joined_pieces before) + 2 ≤ length p.bytes + at → length p.bytes + at < length (joined_pieces before) + length comment.bytes → IsInComment ps at
     go [] comment after split is opening ends =
         let same : comment ≡ p = cc in
         let len : length comment.bytes ≡ length p.bytes = ap (λ (r : Piece). length r.bytes) same in
@@ -421,8 +426,8 @@ of_later p ps at h = go h.before h.comment h.after h.split h.is_comment h.behind
           after = after;
           split = rest;
           is_comment = is;
-          behind_opening = omega (arith, opening, len, length-append q.bytes (joined before));
-          before_end = omega (arith, ends, len, length-append q.bytes (joined before));
+          behind_opening = omega (arith, opening, len, length-append q.bytes (joined_pieces before));
+          before_end = omega (arith, ends, len, length-append q.bytes (joined_pieces before));
         }
 
 nothing_in : (at : ℕ) → IsInComment [] at → ⊥
@@ -432,21 +437,21 @@ nothing_in at h = go h.before h.comment h.after h.split
     go [] comment after split = cc
     go (q ∷ before) comment after split = cc
 
-at_place : (pieces : List Piece) (front back : List ℕ) → AllFit pieces [] → joined pieces ≡ front ++ back → (is_in_block (run Code front) ≡ true) ↔ IsInComment pieces (length front)
+at_place : (pieces : List Piece) (front back : List ℕ) → AllFit pieces [] → joined_pieces pieces ≡ front ++ back → (is_in_block (run Code front) ≡ true) ↔ IsInComment pieces (length front)
 at_place [] [] back fit whole = (λ inside. absurd (false≢true inside), λ h. absurd (nothing_in 0 h))
 at_place [] (b ∷ bs) back fit whole = cc
 at_place (p ∷ ps) front back fit whole = elim (cases_lt (length front) (length p.bytes)) [
   | inl below ↦
-      let cut = cut_within p.bytes (joined ps) front back whole (omega (arith, below)) in
+      let cut = cut_within p.bytes (joined_pieces ps) front back whole (omega (arith, below)) in
       let some : 0 < length cut.0 = omega (arith, below, ap (λ (l : List ℕ). length l) cut.1, length-append front cut.0) in (
-        λ inside. in_first p ps (length front) (piece_inside p.kind p.bytes (joined ps ++ []) front cut.0 fit.0.stands cut.1 inside) below,
+        λ inside. in_first p ps (length front) (piece_inside p.kind p.bytes (joined_pieces ps ++ []) front cut.0 fit.0.stands cut.1 inside) below,
         λ h. let first = of_first p ps (length front) h below in in_comment p.bytes front cut.0 first.0.1 cut.1 some first.1,
       )
   | inr beyond ↦
-      let cut = cut_within front back p.bytes (joined ps) (sym whole) beyond in
-      let behind : joined ps ++ [] ≡ cut.0 ++ back = append-nil (joined ps) ∙ cut.2 in
+      let cut = cut_within front back p.bytes (joined_pieces ps) (sym whole) beyond in
+      let behind : joined_pieces ps ++ [] ≡ cut.0 ++ back = append-nil (joined_pieces ps) ∙ cut.2 in
       let over : is_in_block (run Code front) ≡ is_in_block (run Code cut.0) =
-      ap (λ l. is_in_block (run Code l)) cut.1 ∙ ap is_in_block (run-append Code p.bytes cut.0) ∙ left_over p.bytes cut.0 back (joined ps ++ []) (piece_leaves p.kind p.bytes (joined ps ++ []) fit.0) behind in
+      ap (λ l. is_in_block (run Code l)) cut.1 ∙ ap is_in_block (run-append Code p.bytes cut.0) ∙ left_over p.bytes cut.0 back (joined_pieces ps ++ []) (piece_leaves p.kind p.bytes (joined_pieces ps ++ []) fit.0) behind in
       let inner = at_place ps cut.0 back fit.1 cut.2 in
       let len : length front ≡ length p.bytes + length cut.0 = ap (λ (l : List ℕ). length l) cut.1 ∙ length-append p.bytes cut.0 in (
         λ inside. subst (IsInComment (p ∷ ps)) (sym len) (in_later p ps (length cut.0) (inner.0 (sym over ∙ inside))),

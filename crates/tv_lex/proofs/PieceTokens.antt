@@ -1,10 +1,11 @@
 -- The tokens among the pieces of a text, by their bytes: library of lemmas for the crates above.
-use Rattle.std.proofs.Common.{◌≡◌, ℕ, ◌+◌, ◌-◌, List, [], ◌∷◌, ◌++◌, Option, Some, None, Ok, length, take, drop, ap, sym, refl, ◌∙◌, subst, arith, append_assoc, length-append}
+use Rattle.std.proofs.Common.{◌≡◌, ℕ, ◌+◌, ◌-◌, List, [], ◌∷◌, ◌++◌, Option, Some, None, Ok, length, take}
+use Rattle.std.proofs.Common.{drop, ap, sym, refl, ◌∙◌, subst, arith, append_assoc, length-append}
 use Rattle.std.specs.Prelude.{All}
 use Rattle.std.proofs.lemmas.List.{append-nil, map-append, take_at, drop_at}
 use Rattle.std.proofs.lemmas.List.Elements.{All-nil, All-cons}
 use Rattle.tv_lex.specs.Token.{SpecToken, spec_token, spec_tokens}
-use Rattle.tv_lex.specs.Pieces.{Piece, Fits, AllFit, Stands, joined, placed, placed_one, Reads}
+use Rattle.tv_lex.specs.Pieces.{Piece, Fits, AllFit, Stands, joined_pieces, placed, placed_one, Reads}
 use Rattle.tv_lex.specs.Spaced.{IsToken}
 use Rattle.tv_lex.specs.Front.{front}
 use Rattle.tv_lex.specs.declared.token.Token.{Token}
@@ -42,14 +43,14 @@ one_placed (Some kind) before bytes after text is =
     λ i. record { kind = kind; bytes = there i } ∷ []
 
 -- the tokens of a text have the bytes of its pieces
-pub spec_tokens-placed : (before after text : List ℕ) (at : ℕ) (ps : List Piece) → at ≡ length before → text ≡ before ++ (joined ps ++ after) → spec_tokens text (placed at ps) ≡ tokens_of ps
+pub spec_tokens-placed : (before after text : List ℕ) (at : ℕ) (ps : List Piece) → at ≡ length before → text ≡ before ++ (joined_pieces ps ++ after) → spec_tokens text (placed at ps) ≡ tokens_of ps
 spec_tokens-placed before after text at [] here is = refl
 spec_tokens-placed before after text at (p ∷ ps) here is =
-    let whole : text ≡ before ++ (p.bytes ++ (joined ps ++ after)) = is ∙ ap (λ l. before ++ l) (append_assoc p.bytes (joined ps) after) in
-    let further : text ≡ before ++ p.bytes ++ (joined ps ++ after) = whole ∙ sym (append_assoc before p.bytes (joined ps ++ after)) in
+    let whole : text ≡ before ++ (p.bytes ++ (joined_pieces ps ++ after)) = is ∙ ap (λ l. before ++ l) (append_assoc p.bytes (joined_pieces ps) after) in
+    let further : text ≡ before ++ p.bytes ++ (joined_pieces ps ++ after) = whole ∙ sym (append_assoc before p.bytes (joined_pieces ps ++ after)) in
     let next : at + length p.bytes ≡ length (before ++ p.bytes) = omega (arith, here, length-append before p.bytes) in
     map-append (spec_token text) (placed_one p.kind at (at + length p.bytes)) (placed (at + length p.bytes) ps)
-    ∙ (λ i. (ap (λ a. spec_tokens text (placed_one p.kind a (a + length p.bytes))) here ∙ one_placed p.kind before p.bytes (joined ps ++ after) text whole) i
+    ∙ (λ i. (ap (λ a. spec_tokens text (placed_one p.kind a (a + length p.bytes))) here ∙ one_placed p.kind before p.bytes (joined_pieces ps ++ after) text whole) i
     ++ spec_tokens-placed (before ++ p.bytes) after text (at + length p.bytes) ps next further i)
 
 -- ---- a text by its tokens
@@ -58,17 +59,17 @@ spec_tokens-placed before after text at (p ∷ ps) here is =
 pub record Lexes (text : List ℕ) (ts : List SpecToken) : Type 0 where
   pub pieces : List Piece
   pub fit : AllFit pieces []
-  pub whole : joined pieces ≡ text
+  pub whole : joined_pieces pieces ≡ text
   pub are : tokens_of pieces ≡ ts
 
 pub lexes_read : (text : List ℕ) (ts : List SpecToken) → Lexes text ts → (tokens : List Token) × Reads text (Ok tokens) × (spec_tokens text tokens ≡ ts)
 lexes_read text ts l =
-    let whole : text ≡ [] ++ (joined l.pieces ++ []) = sym l.whole ∙ sym (append-nil (joined l.pieces)) in
+    let whole : text ≡ [] ++ (joined_pieces l.pieces ++ []) = sym l.whole ∙ sym (append-nil (joined_pieces l.pieces)) in
     (placed 0 l.pieces, (l.pieces, l.fit, l.whole, refl), spec_tokens-placed [] [] text 0 l.pieces refl whole ∙ l.are)
 
 pub read_lexes : (text : List ℕ) (tokens : List Token) → Reads text (Ok tokens) → Lexes text (spec_tokens text tokens)
 read_lexes text tokens r =
-    let whole : text ≡ [] ++ (joined r.0 ++ []) = sym r.2 ∙ sym (append-nil (joined r.0)) in
+    let whole : text ≡ [] ++ (joined_pieces r.0 ++ []) = sym r.2 ∙ sym (append-nil (joined_pieces r.0)) in
     record {
       pieces = r.0;
       fit = r.1;
@@ -93,7 +94,7 @@ in_front (Some k) bytes behind ts s are = All-cons IsToken (record { kind = k; b
 
 pieces_tokens : (ps : List Piece) (rest : List ℕ) → AllFit ps rest → All IsToken (tokens_of ps)
 pieces_tokens [] rest fit = All-nil IsToken
-pieces_tokens (p ∷ ps) rest fit = in_front p.kind p.bytes (joined ps ++ rest) (tokens_of ps) fit.0.stands (pieces_tokens ps rest fit.1)
+pieces_tokens (p ∷ ps) rest fit = in_front p.kind p.bytes (joined_pieces ps ++ rest) (tokens_of ps) fit.0.stands (pieces_tokens ps rest fit.1)
 
 pub lexed_tokens : (text : List ℕ) (tokens : List Token) → Reads text (Ok tokens) → All IsToken (spec_tokens text tokens)
 lexed_tokens text tokens reads = let l = read_lexes text tokens reads in subst (All IsToken) l.are (pieces_tokens l.pieces [] l.fit)

@@ -1,10 +1,12 @@
 -- Where the tokens of a text start, and the place at which a reader of them stops.
-use Rattle.std.proofs.Common.{◌≡◌, ℕ, zero, suc, ◌+◌, ◌-◌, ◌<◌, ◌≤◌, List, [], ◌∷◌, ◌++◌, Option, Some, None, Ok, length, ap, sym, refl, ◌∙◌, subst, inl, inr, arith, length-append, zero-add}
+use Rattle.std.proofs.Common.{◌≡◌, ℕ, zero, suc, ◌+◌, ◌-◌, ◌<◌, ◌≤◌, List, [], ◌∷◌, ◌++◌, Option, Some, None}
+use Rattle.std.proofs.Common.{Ok, length, ap, sym, refl, ◌∙◌, subst, inl, inr, arith, length-append, zero-add}
 use Rattle.std.specs.Prelude.{slice_get, nat_lt, true}
 use Rattle.std.specs.List.{list_all}
 use Rattle.std.proofs.lemmas.Bool.{and_parts, ltb-true}
 use Rattle.std.proofs.lemmas.Option.{slice_get_within, get_or_from_slice_get}
-use Rattle.tv_lex.specs.Pieces.{Piece, Stands, IsOneOf, punctuations, AllFit, joined, placed, placed_one, Reads, AreInOrder}
+use Rattle.tv_lex.specs.Pieces.{Piece, Stands, IsOneOf, punctuations, AllFit, joined_pieces, placed}
+use Rattle.tv_lex.specs.Pieces.{placed_one, Reads, AreInOrder}
 use Rattle.tv_lex.specs.Places.{place_at, first_place, IsTokenPlace}
 use Rattle.tv_lex.specs.declared.token.Token.{Token}
 use Rattle.tv_lex.specs.declared.token.Place.{Place}
@@ -84,15 +86,15 @@ order_one : (kind : Option TokenKind) (bytes behind : List ℕ) (at end : ℕ) (
 order_one None bytes behind at end ts s order = order_earlier at (at + length bytes) end ts (omega arith) order
 order_one (Some kind) bytes behind at end ts s order = (omega arith, omega (arith, token_length kind bytes behind s), order)
 
-placed_order : (at : ℕ) (ps : List Piece) (rest : List ℕ) → AllFit ps rest → AreInOrder at (placed at ps) (at + length (joined ps))
+placed_order : (at : ℕ) (ps : List Piece) (rest : List ℕ) → AllFit ps rest → AreInOrder at (placed at ps) (at + length (joined_pieces ps))
 placed_order at [] rest fit = omega arith
 placed_order at (p ∷ ps) rest fit =
-    let whole : at + length p.bytes + length (joined ps) ≡ at + length (p.bytes ++ joined ps) = omega (arith, length-append p.bytes (joined ps)) in
-    order_one p.kind p.bytes (joined ps ++ rest) at (at + length (p.bytes ++ joined ps)) (placed (at + length p.bytes) ps) fit.0.stands
+    let whole : at + length p.bytes + length (joined_pieces ps) ≡ at + length (p.bytes ++ joined_pieces ps) = omega (arith, length-append p.bytes (joined_pieces ps)) in
+    order_one p.kind p.bytes (joined_pieces ps ++ rest) at (at + length (p.bytes ++ joined_pieces ps)) (placed (at + length p.bytes) ps) fit.0.stands
     (subst (AreInOrder (at + length p.bytes) (placed (at + length p.bytes) ps)) whole (placed_order (at + length p.bytes) ps rest fit.1))
 
 pub reads_order : (text : List ℕ) (tokens : List Token) → Reads text (Ok tokens) → AreInOrder 0 tokens (length text)
 reads_order text tokens reads =
     let order = placed_order 0 reads.0 [] reads.1 in
-    let whole : 0 + length (joined reads.0) ≡ length text = zero-add (length (joined reads.0)) ∙ ap (λ (l : List ℕ). length l) reads.2 in
-    subst (λ n. AreInOrder 0 tokens n) whole (subst (λ ts. AreInOrder 0 ts (0 + length (joined reads.0))) (sym reads.3) order)
+    let whole : 0 + length (joined_pieces reads.0) ≡ length text = zero-add (length (joined_pieces reads.0)) ∙ ap (λ (l : List ℕ). length l) reads.2 in
+    subst (λ n. AreInOrder 0 tokens n) whole (subst (λ ts. AreInOrder 0 ts (0 + length (joined_pieces reads.0))) (sym reads.3) order)

@@ -1,11 +1,14 @@
 -- A text of tokens with a blank behind each is read as these tokens.
-use Rattle.std.proofs.Common.{◌≡◌, ℕ, suc, ◌+◌, List, [], ◌∷◌, ◌++◌, Some, None, Ok, true, false, eqb, length, get_or, ap, sym, refl, ◌∙◌, subst, inl, inr, arith, append_assoc, length-append}
+use Rattle.std.proofs.Common.{◌≡◌, ℕ, suc, ◌+◌, List, [], ◌∷◌, ◌++◌, Some, None, Ok, true, false, eqb, length}
+use Rattle.std.proofs.Common.{get_or, ap, sym, refl, ◌∙◌, subst, inl, inr, arith, append_assoc, length-append}
 use Rattle.std.specs.List.{prefix_len, list_all, AllByRecursion}
-use Rattle.std.proofs.lemmas.Bool.{and_parts, and_left, and_right, or_cases, false≢true, cond-true, cond-false, eqb-true, ne_eqb}
+use Rattle.std.proofs.lemmas.Bool.{and_parts, and_left, and_right, or_cases, false≢true, cond-true}
+use Rattle.std.proofs.lemmas.Bool.{cond-false, eqb-true, ne_eqb}
 use Rattle.std.proofs.lemmas.List.{append-nil, get_or_at}
 use Rattle.tv_lex.specs.Bytes.{is_blank, is_word_byte, is_letter, is_text_byte}
 use Rattle.tv_lex.specs.Token.{spec_tokens}
-use Rattle.tv_lex.specs.Pieces.{Piece, AllFit, Stands, IsOneOf, IsRunOf, punctuations, joined, placed, Reads}
+use Rattle.tv_lex.specs.Pieces.{Piece, AllFit, Stands, IsOneOf, IsRunOf, punctuations, joined_pieces, placed}
+use Rattle.tv_lex.specs.Pieces.{Reads}
 use Rattle.tv_lex.specs.Spaced.{Spaced, spaced_text, spaced_tokens}
 use Rattle.tv_lex.specs.Front.{front, token, is_half, word_front, string_front}
 use Rattle.tv_lex.specs.declared.token.Token.{Token}
@@ -122,7 +125,7 @@ spaced_pieces (s ∷ ss) = record { kind = Some s.token.kind; bytes = s.token.by
 spaced_fit : (ss : List Spaced) → AllFit (spaced_pieces ss) []
 spaced_fit [] = tt
 spaced_fit (s ∷ ss) =
-    let after = joined (spaced_pieces ss) ++ [] in (
+    let after = joined_pieces (spaced_pieces ss) ++ [] in (
       fits_as_taken (Some s.token.kind) s.token.bytes (s.blank ∷ after) (stands-spaced s.token.kind s.token.bytes after s.blank s.is_blank s.is_token) (front-spaced s.token.kind s.token.bytes after s.blank s.is_blank s.is_token),
       (
         fits_as_taken None (s.blank ∷ []) after (inl (s.blank, refl, s.is_blank)) (front-blank s.blank after s.is_blank),
@@ -130,7 +133,7 @@ spaced_fit (s ∷ ss) =
       ),
     )
 
-joined-spaced : (ss : List Spaced) → joined (spaced_pieces ss) ≡ spaced_text ss
+joined-spaced : (ss : List Spaced) → joined_pieces (spaced_pieces ss) ≡ spaced_text ss
 joined-spaced [] = refl
 joined-spaced (s ∷ ss) = ap (λ l. s.token.bytes ++ s.blank ∷ l) (joined-spaced ss) ∙ sym (append_assoc s.token.bytes (s.blank ∷ []) (spaced_text ss))
 
@@ -141,5 +144,5 @@ tokens_of-spaced (s ∷ ss) = ap (λ l. s.token ∷ l) (tokens_of-spaced ss)
 pub spaced_reads : (ss : List Spaced) → (tokens : List Token) × Reads (spaced_text ss) (Ok tokens) × (spec_tokens (spaced_text ss) tokens ≡ spaced_tokens ss)
 spaced_reads ss =
     let pieces = spaced_pieces ss in
-    let whole : spaced_text ss ≡ [] ++ (joined pieces ++ []) = sym (joined-spaced ss) ∙ sym (append-nil (joined pieces)) in
+    let whole : spaced_text ss ≡ [] ++ (joined_pieces pieces ++ []) = sym (joined-spaced ss) ∙ sym (append-nil (joined_pieces pieces)) in
     (placed 0 pieces, (pieces, spaced_fit ss, joined-spaced ss, refl), spec_tokens-placed [] [] (spaced_text ss) 0 pieces refl whole ∙ tokens_of-spaced ss)

@@ -1,11 +1,15 @@
 -- What stands at the front of a text is no longer than what the reader takes there, and of its kind where it is as long.
-use Rattle.std.proofs.Common.{◌≡◌, ℕ, suc, ◌+◌, ◌≤◌, List, [], ◌∷◌, ◌++◌, Option, Some, None, Result, Ok, Err, Bool, true, false, cond, eqb, length, get_or, ap, sym, refl, ◌∙◌, subst, inl, inr, arith, append_assoc, length-append}
+use Rattle.std.proofs.Common.{◌≡◌, ℕ, suc, ◌+◌, ◌≤◌, List, [], ◌∷◌, ◌++◌, Option, Some, None, Result, Ok, Err}
+use Rattle.std.proofs.Common.{Bool, true, false, cond, eqb, length, get_or, ap, sym, refl, ◌∙◌, subst, inl}
+use Rattle.std.proofs.Common.{inr, arith, append_assoc, length-append}
 use Rattle.std.specs.List.{prefix_len, list_all, AllByRecursion}
-use Rattle.std.proofs.lemmas.Bool.{and_parts, and_from, or_cases, false≢true, cases_Bool, cond-true, cond-false, eqb-true, ne_eqb}
+use Rattle.std.proofs.lemmas.Bool.{and_parts, and_from, or_cases, false≢true, cases_Bool, cond-true}
+use Rattle.std.proofs.lemmas.Bool.{cond-false, eqb-true, ne_eqb}
 use Rattle.std.proofs.lemmas.List.{get_or_at}
 use Rattle.tv_lex.specs.Bytes.{is_blank, is_word_byte, is_letter, is_text_byte, stays_on_line}
 use Rattle.tv_lex.specs.Pieces.{Stands, IsOneOf, IsRunOf, punctuations, close_at}
-use Rattle.tv_lex.specs.Front.{front, gap, token, is_half, word_front, string_front, block_front, comment_front, percent_front, punct_front, is_triple, is_pair, is_single}
+use Rattle.tv_lex.specs.Front.{front, gap, token, is_half, word_front, string_front, block_front}
+use Rattle.tv_lex.specs.Front.{comment_front, percent_front, punct_front, is_triple, is_pair, is_single}
 use Rattle.tv_lex.specs.declared.front.Front.{Front}
 use Rattle.tv_lex.specs.declared.token.TokenKind.{TokenKind}
 use Rattle.tv_lex.specs.declared.token.TokenKind.TheVariants.{Word, Half, Text, Directive, Parts, Punct}

@@ -1,5 +1,6 @@
 -- What the reader takes from the front of a text. That this is the longest piece that fits is proved.
-use Rattle.std.specs.Prelude.{ℕ, ◌+◌, List, Bool, if◌then◌else◌, ◌&&◌, ◌||◌, ◌==◌, not, nat_le, Option, Some, None, Result, Ok, Err, length, drop, slice_index}
+use Rattle.std.specs.Prelude.{ℕ, ◌+◌, List, Bool, if◌then◌else◌, ◌&&◌, ◌||◌, ◌==◌, not, nat_le, Option, Some}
+use Rattle.std.specs.Prelude.{None, Result, Ok, Err, length, drop, slice_index}
 use Rattle.std.specs.List.{prefix_len, list_any}
 use Rattle.tv_lex.specs.Bytes.{is_blank, is_word_byte, is_letter, is_text_byte, stays_on_line}
 use Rattle.tv_lex.specs.Pieces.{close_at, single_punctuations}
@@ -17,7 +18,9 @@ token k n = Ok (record { kind = Some k; len = n })
 
 -- `1/2`, and no longer word
 abbrev pub is_half : List ℕ → Bool
-is_half text = (slice_index text 0 == 49 && (slice_index text 1 == 47 && slice_index text 2 == 50)) && not (is_word_byte (slice_index text 3))
+is_half text =
+    (slice_index text 0 == 49 && (slice_index text 1 == 47 && slice_index text 2 == 50))
+    && not (is_word_byte (slice_index text 3))
 
 abbrev pub word_front : List ℕ → Result Front LexError
 word_front text = if is_half text then token Half 3 else token Word (prefix_len is_word_byte text)
@@ -41,7 +44,8 @@ comment_front text =
 abbrev pub percent_front : List ℕ → Result Front LexError
 percent_front text =
     if slice_index text 1 == 37 then token Parts 2
-    else (if is_letter (slice_index text 1) then token Directive (prefix_len is_letter (drop 1 text) + 1) else Err BadByte)
+    else (if is_letter (slice_index text 1) then token Directive (prefix_len is_letter (drop 1 text) + 1)
+    else Err BadByte)
 
 abbrev pub is_triple : ℕ → ℕ → ℕ → Bool
 is_triple a b c = (a == 61 && (b == 61 && c == 62)) || (a == 60 && (b == 45 && c == 62))

@@ -1,12 +1,15 @@
 -- A text with its includes put in.
-use Rattle.std.specs.Prelude.{◌≡◌, ℕ, zero, suc, ◌+◌, ◌≤◌, List, [], ◌∷◌, ◌++◌, Bool, false, if◌then◌else◌, nat_lt, Option, Some, None, Result, Ok, Err, length}
+use Rattle.std.specs.Prelude.{◌≡◌, ℕ, zero, suc, ◌+◌, ◌≤◌, List, [], ◌∷◌, ◌++◌, Bool, false, if◌then◌else◌}
+use Rattle.std.specs.Prelude.{nat_lt, Option, Some, None, Result, Ok, Err, length}
 use Rattle.tv_outside.specs.Told.{Held, content_of}
 use Rattle.tv_outside.specs.Count.{count_max, counted, Rose}
 use Rattle.tv_outside.specs.declared.read.ReadError.{ReadError}
-use Rattle.tv_outside.specs.declared.read.ReadError.TheVariants.{Failed as ReadFailed, TooLong as ReadTooLong, Memory as ReadMemory}
+use Rattle.tv_outside.specs.declared.read.ReadError.TheVariants.{Failed as ReadFailed, TooLong as ReadTooLong}
+use Rattle.tv_outside.specs.declared.read.ReadError.TheVariants.{Memory as ReadMemory}
 use Rattle.tv_lex.specs.Include.{lines_of, is_open_after, includes, include_name, inner_name}
 use Rattle.tv_lex.specs.declared.gatherer.GatherError.{GatherError}
-use Rattle.tv_lex.specs.declared.gatherer.GatherError.TheVariants.{Failed, TooLong, Unended, IncludeForm, IncludeDepth, Memory}
+use Rattle.tv_lex.specs.declared.gatherer.GatherError.TheVariants.{Failed, TooLong, Unended, IncludeForm}
+use Rattle.tv_lex.specs.declared.gatherer.GatherError.TheVariants.{IncludeDepth, Memory}
 
 -- the greatest number of bytes of a file and of a gathered text
 abbrev pub longest_gathered : ℕ
@@ -33,7 +36,8 @@ opens inside line = if includes inside line then false else is_open_after inside
 -- what the lines of a file give in their order
 abbrev pub line_events : (List ℕ → List Event) → Bool → List (List ℕ) → List Event
 line_events included inside [] = if inside then Refuse Unended ∷ [] else []
-line_events included inside (line ∷ lines) = one_line included inside line ++ line_events included (opens inside line) lines
+line_events included inside (line ∷ lines) =
+    one_line included inside line ++ line_events included (opens inside line) lines
 
 -- what an include line gives: what the named file gives, and a line feed
 abbrev pub named_events : (List ℕ → List Event) → List ℕ → Option (List ℕ) → List Event
@@ -46,19 +50,25 @@ included file name line = named_events file name (include_name line)
 -- what a file gives that holds this; Failed stands for a name that holds nothing
 abbrev pub content_events : (List ℕ → List Event) → Option (List ℕ) → List Event
 content_events include None = Refuse Failed ∷ []
-content_events include (Some content) = if nat_lt longest_gathered (length content) then Refuse TooLong ∷ [] else line_events include false (lines_of content)
+content_events include (Some content) =
+    if nat_lt longest_gathered (length content) then Refuse TooLong ∷ []
+    else line_events include false (lines_of content)
 
 -- what a file gives that may be this many includes above the deepest file
 unfoldable pub file_events : Held → ℕ → List ℕ → List Event
-file_events held zero name = Begin ∷ content_events (included (λ inner. Refuse IncludeDepth ∷ []) name) (content_of held name)
-file_events held (suc left) name = Begin ∷ content_events (included (file_events held left) name) (content_of held name)
+file_events held zero name =
+    Begin ∷ content_events (included (λ inner. Refuse IncludeDepth ∷ []) name) (content_of held name)
+file_events held (suc left) name =
+    Begin ∷ content_events (included (file_events held left) name) (content_of held name)
 
--- The text so far and what comes behind it, up to the first refusal, or up to the bytes with which it passes the limit.
+-- The text so far and what comes behind it, up to the first refusal, or up to the bytes with which it passes
+-- the limit.
 abbrev pub gathered : List ℕ → List Event → Result (List ℕ) GatherError
 gathered text [] = Ok text
 gathered text (Begin ∷ events) = gathered text events
 gathered text (Refuse fault ∷ events) = Err fault
-gathered text (Give bytes ∷ events) = if nat_lt longest_gathered (length (text ++ bytes)) then Err TooLong else gathered (text ++ bytes) events
+gathered text (Give bytes ∷ events) =
+    if nat_lt longest_gathered (length (text ++ bytes)) then Err TooLong else gathered (text ++ bytes) events
 
 -- how many times a file is begun
 abbrev pub begun : List Event → ℕ
@@ -77,8 +87,8 @@ abbrev pub Gathers : Option Held → List ℕ → Result (List ℕ) GatherError 
 Gathers None name answer = Unit {0}
 Gathers (Some held) name answer = gathered [] (file_events held deepest_include name) ≡ answer
 
--- Why a text wasn't gathered. At Failed a fault was counted, and on steady files a name that the text comes to, before
--- any other refusal, holds nothing. Of want of memory nothing is said.
+-- Why a text wasn't gathered. At Failed a fault was counted, and on steady files a name that the text comes
+-- to, before any other refusal, holds nothing. Of want of memory nothing is said.
 abbrev pub GatherCause : GatherError → Option Held → List ℕ → Type 0 → ℕ → ℕ → Type 0
 GatherCause Failed told name steady old new = Rose old new × (steady → Gathers told name (Err Failed))
 GatherCause TooLong told name steady old new = Gathers told name (Err TooLong)
@@ -111,7 +121,8 @@ continued (Err fault) after = Err fault
 -- behind the old text these events give the answer, whatever comes after them
 abbrev pub Puts : Option Held → (Held → List Event) → List ℕ → Result (List ℕ) GatherError → Type 0
 Puts None events old answer = Unit {0}
-Puts (Some held) events old answer = (after : List Event) → gathered old (events held ++ after) ≡ continued answer after
+Puts (Some held) events old answer =
+    (after : List Event) → gathered old (events held ++ after) ≡ continued answer after
 
 abbrev pub PutCause : GatherError → Option Held → (Held → List Event) → List ℕ → Type 0 → ℕ → ℕ → Type 0
 PutCause Failed told events text steady old new = Rose old new × (steady → Puts told events text (Err Failed))
@@ -123,7 +134,8 @@ PutCause Memory told events text steady old new = Unit {0}
 
 -- what bytes do to a text that is short enough, and to one that isn't
 abbrev pub GivesBytes : List ℕ → List ℕ → Result (List ℕ) GatherError → Type 0
-GivesBytes old bytes answer = (after : List Event) → gathered old (Give bytes ∷ after) ≡ continued answer after
+GivesBytes old bytes answer =
+    (after : List Event) → gathered old (Give bytes ∷ after) ≡ continued answer after
 
 abbrev pub BytesCause : GatherError → List ℕ → List ℕ → Type 0
 BytesCause Failed old bytes = ⊥

@@ -1,10 +1,13 @@
 -- The lines of a file, and the include lines among them.
-use Rattle.std.specs.Prelude.{◌≡◌, ℕ, ◌-◌, ◌<◌, List, [], ◌∷◌, ◌++◌, Bool, true, false, not, if◌then◌else◌, ◌&&◌, ◌||◌, ◌==◌, nat_eq, nat_lt, Option, Some, None, length, take, drop, slice_index, IsTrue}
+use Rattle.std.specs.Prelude.{◌≡◌, ℕ, ◌-◌, ◌<◌, List, [], ◌∷◌, ◌++◌, Bool, true, false, not, if◌then◌else◌}
+use Rattle.std.specs.Prelude.{◌&&◌, ◌||◌, ◌==◌, nat_eq, nat_lt, Option, Some, None, length, take, drop}
+use Rattle.std.specs.Prelude.{slice_index, IsTrue}
 use Rattle.std.specs.List.{prefix_len, suffix_len, starts_with, fold, list_all}
 use Rattle.std.specs.Str.{is_utf8, IsUtf8}
 use Rattle.tv_lex.specs.Pieces.{IsOneOf}
 use Rattle.tv_lex.specs.declared.include.Scan.{Scan}
-use Rattle.tv_lex.specs.declared.include.Scan.TheVariants.{Code, Slash, LineComment, BlockComment, Star, Quoted}
+use Rattle.tv_lex.specs.declared.include.Scan.TheVariants.{Code, Slash, LineComment, BlockComment, Star}
+use Rattle.tv_lex.specs.declared.include.Scan.TheVariants.{Quoted}
 use Rattle.tv_lex.specs.Options.{◌>>=◌}
 
 -- the byte in front of a line
@@ -22,7 +25,8 @@ lines_of (b ∷ bs) = if b == 10 then (10 ∷ []) ∷ lines_of bs else onto b (l
 -- behind one more byte
 abbrev pub next_scan : Scan → ℕ → Scan
 next_scan Code b = if b == 47 then Slash else (if b == 34 then Quoted else Code)
-next_scan Slash b = if b == 47 then LineComment else (if b == 42 then BlockComment else (if b == 34 then Quoted else Code))
+next_scan Slash b =
+    if b == 47 then LineComment else (if b == 42 then BlockComment else (if b == 34 then Quoted else Code))
 next_scan LineComment b = LineComment
 next_scan BlockComment b = if b == 42 then Star else BlockComment
 next_scan Star b = if b == 47 then Code else (if b == 42 then Star else BlockComment)
@@ -83,14 +87,15 @@ text_if bytes = if is_utf8 bytes then Some bytes else None
 
 -- the name, if it may stand in front of this rest of a line
 abbrev pub checked_name : List ℕ → List ℕ → Option (List ℕ)
-checked_name name rest = if nat_lt 0 (length name) && ends_line (without_gaps rest) then text_if name else None
+checked_name name rest =
+    if nat_lt 0 (length name) && ends_line (without_gaps rest) then text_if name else None
 
 -- `include`
 abbrev pub include_word : List ℕ
 include_word = 105 ∷ 110 ∷ 99 ∷ 108 ∷ 117 ∷ 100 ∷ 101 ∷ []
 
--- The name in an include line: `#`, `include` and the name in quotes, with spaces and tabs between and around them,
--- then at most a carriage return. The name has at least one byte and is UTF-8.
+-- The name in an include line: `#`, `include` and the name in quotes, with spaces and tabs between and around
+-- them, then at most a carriage return. The name has at least one byte and is UTF-8.
 unfoldable pub include_name : List ℕ → Option (List ℕ)
 include_name line = do
   word ← behind_mark (35 ∷ []) (without_gaps line)
@@ -99,16 +104,18 @@ include_name line = do
   rest ← behind_mark (34 ∷ []) (drop (prefix_len is_not_quote quoted) quoted)
   checked_name (take (prefix_len is_not_quote quoted) quoted) rest
 
--- The form of an include line with this name: spaces and tabs stand in front of `#`, behind it, behind `include` and
--- behind the name in its quotes, and the line ends there, maybe with a carriage return.
+-- The form of an include line with this name: spaces and tabs stand in front of `#`, behind it, behind
+-- `include` and behind the name in its quotes, and the line ends there, maybe with a carriage return.
 pub record IsIncludeLine (line name : List ℕ) : Type 0 where
   pub indent : List ℕ
   pub before_word : List ℕ
   pub before_name : List ℕ
   pub behind_name : List ℕ
   pub end : List ℕ
-  pub spelled : line ≡ indent ++ (35 ∷ before_word ++ (include_word ++ (before_name ++ (34 ∷ name ++ (34 ∷ behind_name ++ end)))))
-  pub gaps : IsTrue (list_all is_gap indent) × IsTrue (list_all is_gap before_word) × IsTrue (list_all is_gap before_name) × IsTrue (list_all is_gap behind_name)
+  pub spelled : line ≡ indent
+      ++ (35 ∷ before_word ++ (include_word ++ (before_name ++ (34 ∷ name ++ (34 ∷ behind_name ++ end)))))
+  pub gaps : IsTrue (list_all is_gap indent) × IsTrue (list_all is_gap before_word)
+      × IsTrue (list_all is_gap before_name) × IsTrue (list_all is_gap behind_name)
   pub ended : IsOneOf ([] ∷ (13 ∷ []) ∷ (10 ∷ []) ∷ (13 ∷ 10 ∷ []) ∷ []) end
   pub named : 0 < length name
   pub unquoted : IsTrue (list_all is_not_quote name)

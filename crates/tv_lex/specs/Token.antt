@@ -1,5 +1,5 @@
 -- Tokens as they are in mathematics: a kind and bytes, without where they stand.
-use Rattle.std.specs.Prelude.{ℕ, List, map, slice_range}
+use Rattle.std.specs.Prelude.{◌≡◌, ℕ, List, map, slice_range}
 use Rattle.tv_lex.specs.declared.token.Token.{Token}
 use Rattle.tv_lex.specs.declared.token.TokenKind.{TokenKind}
 
@@ -18,3 +18,7 @@ spec_token bytes t = record { kind = t.kind; bytes = text_of bytes t }
 -- tokens that were read from these bytes
 abbrev pub spec_tokens : List ℕ → List Token → List SpecToken
 spec_tokens bytes tokens = map (spec_token bytes) tokens
+
+-- tokens mean one thing at most
+abbrev pub HaveOneMeaning : {X : Type 0} → (List SpecToken → X → Type 0) → Type 0
+HaveOneMeaning {X} Means = (ts : List SpecToken) (x y : X) → Means ts x → Means ts y → x ≡ y

@@ -3,7 +3,9 @@ ghost use Rattle.std.specs.Prelude.{◌≡◌, ℕ, ◌<◌, ◌≤◌, ◌↔�
 ghost use Rattle.std.specs.List.{prefix_len};
 ghost use Rattle.tv_lex.specs.Bytes.{is_blank, is_word_byte, is_letter, is_text_byte, stays_on_line};
 ghost use Rattle.tv_lex.specs.Pieces.{close_at};
-ghost use Rattle.tv_lex.specs.Front.{front as front_of, word_front, string_front, block_front, comment_front, percent_front, punct_front, is_half as half_at, is_triple as triple, is_pair as pair, is_single as single};
+ghost use Rattle.tv_lex.specs.Front.{front as front_of, word_front, string_front, block_front, comment_front};
+ghost use Rattle.tv_lex.specs.Front.{percent_front, punct_front, is_half as half_at, is_triple as triple};
+ghost use Rattle.tv_lex.specs.Front.{is_pair as pair, is_single as single};
 
 use crate::token::{LexError, TokenKind};
 

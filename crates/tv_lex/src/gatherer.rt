@@ -1,7 +1,9 @@
 //! A text with its includes put in.
 ghost use Rattle.std.specs.Prelude.{◌≡◌, ◌≤◌, ◌∷◌, [], ◌++◌, length, vec_len, IfOk, IfErr, OnOk};
 ghost use Rattle.tv_lex.specs.Include.{include_name as name_in};
-ghost use Rattle.tv_lex.specs.Gather.{longest_gathered, deepest_include, UnlessFilesFail, Give, Gathers, BeginsEach, GatherCause, Puts, PutCause, GivesBytes, BytesCause, file_events, included, below, one_line, opens, gather_error};
+ghost use Rattle.tv_lex.specs.Gather.{longest_gathered, deepest_include, UnlessFilesFail, Give, Gathers};
+ghost use Rattle.tv_lex.specs.Gather.{BeginsEach, GatherCause, Puts, PutCause, GivesBytes, BytesCause};
+ghost use Rattle.tv_lex.specs.Gather.{file_events, included, below, one_line, opens, gather_error};
 ghost use Rattle.tv_lex.specs.declared.gatherer.GatherError.TheVariants.{Memory};
 
 use crate::include::{include_name, includes, inner_name, is_open_after, line_len};
@@ -90,9 +92,13 @@ fn put_include<F: Files>(
     ensures fits { OnOk result (vec_len out.new ≤ longest_gathered) }
     ensures count { F.faults files.old ≤ F.faults files.new }
     ensures holds { F.holds files.new ≡ F.holds files.old }
-    ensures begins { OnOk result (BeginsEach (F.holds files.old) (λ held. included (below held left) name.now line.now) (F.begins files.old) (F.begins files.new)) }
-    ensures put { OnOk result (Puts (F.holds files.old) (λ held. included (below held left) name.now line.now) out.old.items (Ok out.new.items)) }
-    ensures cause { IfErr result (λ e. PutCause e (F.holds files.old) (λ held. included (below held left) name.now line.now) out.old.items (F.steady files.old) (F.faults files.old) (F.faults files.new)) }
+    ensures begins { OnOk result (BeginsEach (F.holds files.old)
+        (λ held. included (below held left) name.now line.now) (F.begins files.old) (F.begins files.new)) }
+    ensures put { OnOk result (Puts (F.holds files.old)
+        (λ held. included (below held left) name.now line.now) out.old.items (Ok out.new.items)) }
+    ensures cause { IfErr result (λ e. PutCause e (F.holds files.old)
+        (λ held. included (below held left) name.now line.now) out.old.items (F.steady files.old)
+        (F.faults files.old) (F.faults files.new)) }
     ensures steady { F.steady files.old
         → UnlessFilesFail result (F.steady files.new × (F.faults files.new ≡ F.faults files.old)) }
 {
@@ -107,7 +113,8 @@ fn put_include<F: Files>(
     put_bytes(out, b"\n")
 }
 
-/// Puts a line behind the text, or what it includes. Gives whether the next line begins inside a block comment.
+/// Puts a line behind the text, or what it includes. Gives whether the next line begins inside a block
+/// comment.
 #[cycle(gathering)]
 fn put_line<F: Files>(
     alloc: Global,
@@ -123,9 +130,13 @@ fn put_line<F: Files>(
     ensures count { F.faults files.old ≤ F.faults files.new }
     ensures holds { F.holds files.new ≡ F.holds files.old }
     ensures next { IfOk result (λ next. next ≡ opens inside line.now) }
-    ensures begins { OnOk result (BeginsEach (F.holds files.old) (λ held. one_line (included (below held left) name.now) inside line.now) (F.begins files.old) (F.begins files.new)) }
-    ensures put { OnOk result (Puts (F.holds files.old) (λ held. one_line (included (below held left) name.now) inside line.now) out.old.items (Ok out.new.items)) }
-    ensures cause { IfErr result (λ e. PutCause e (F.holds files.old) (λ held. one_line (included (below held left) name.now) inside line.now) out.old.items (F.steady files.old) (F.faults files.old) (F.faults files.new)) }
+    ensures begins { OnOk result (BeginsEach (F.holds files.old) (λ held. one_line
+        (included (below held left) name.now) inside line.now) (F.begins files.old) (F.begins files.new)) }
+    ensures put { OnOk result (Puts (F.holds files.old) (λ held. one_line
+        (included (below held left) name.now) inside line.now) out.old.items (Ok out.new.items)) }
+    ensures cause { IfErr result (λ e. PutCause e (F.holds files.old)
+        (λ held. one_line (included (below held left) name.now) inside line.now) out.old.items
+        (F.steady files.old) (F.faults files.old) (F.faults files.new)) }
     ensures steady { F.steady files.old
         → UnlessFilesFail result (F.steady files.new × (F.faults files.new ≡ F.faults files.old)) }
 {
@@ -150,9 +161,12 @@ fn put_file<F: Files>(
     ensures fits { OnOk result (vec_len out.new ≤ longest_gathered) }
     ensures count { F.faults files.old ≤ F.faults files.new }
     ensures holds { F.holds files.new ≡ F.holds files.old }
-    ensures begins { OnOk result (BeginsEach (F.holds files.old) (λ held. file_events held left name.now) (F.begins files.old) (F.begins files.new)) }
-    ensures put { OnOk result (Puts (F.holds files.old) (λ held. file_events held left name.now) out.old.items (Ok out.new.items)) }
-    ensures cause { IfErr result (λ e. PutCause e (F.holds files.old) (λ held. file_events held left name.now) out.old.items (F.steady files.old) (F.faults files.old) (F.faults files.new)) }
+    ensures begins { OnOk result (BeginsEach (F.holds files.old) (λ held. file_events held left name.now)
+        (F.begins files.old) (F.begins files.new)) }
+    ensures put { OnOk result
+        (Puts (F.holds files.old) (λ held. file_events held left name.now) out.old.items (Ok out.new.items)) }
+    ensures cause { IfErr result (λ e. PutCause e (F.holds files.old) (λ held. file_events held left name.now)
+        out.old.items (F.steady files.old) (F.faults files.old) (F.faults files.new)) }
     ensures steady { F.steady files.old
         → UnlessFilesFail result (F.steady files.new × (F.faults files.new ≡ F.faults files.old)) }
 {
@@ -172,20 +186,23 @@ fn put_file<F: Files>(
 
 /// Gives the text of the file that `name` names, with its includes put in.
 ///
-/// A line whose first byte other than a space or a tab is `#`, and that doesn't begin inside a block comment, is an
-/// include line. The text of the file that it names and a line feed stand in its place. Each file is begun once for
-/// each place that includes it. The text has at most 4,194,304 bytes, whatever the files tell.
+/// A line whose first byte other than a space or a tab is `#`, and that doesn't begin inside a block comment,
+/// is an include line. The text of the file that it names and a line feed stand in its place. Each file is
+/// begun once for each place that includes it. The text has at most 4,194,304 bytes, whatever the files tell.
 ///
 /// # Errors
-/// `Failed` comes only where a call of `files` failed, and on steady files only where they don't hold this name, or
-/// that of an included file which is come to before any other refusal. The others come at the first place, in reading
-/// order, at which they stand. At any answer but `Failed` steady files are steady, with the same count of faults.
+/// `Failed` comes only where a call of `files` failed, and on steady files only where they don't hold this
+/// name, or that of an included file which is come to before any other refusal. The others come at the first
+/// place, in reading order, at which they stand. At any answer but `Failed` steady files are steady, with the
+/// same count of faults.
 pub fn gather<F: Files>(alloc: Global, files: &mut F, name: &str) -> Result<Gathered, GatherError>
     ensures count { F.faults files.old ≤ F.faults files.new }
     ensures holds { F.holds files.new ≡ F.holds files.old }
-    ensures begins { OnOk result (BeginsEach (F.holds files.old) (λ held. file_events held deepest_include name.now) (F.begins files.old) (F.begins files.new)) }
+    ensures begins { OnOk result (BeginsEach (F.holds files.old)
+        (λ held. file_events held deepest_include name.now) (F.begins files.old) (F.begins files.new)) }
     ensures text { IfOk result (λ g. Gathers (F.holds files.old) name.now (Ok g.bytes.items)) }
-    ensures cause { IfErr result (λ e. GatherCause e (F.holds files.old) name.now (F.steady files.old) (F.faults files.old) (F.faults files.new)) }
+    ensures cause { IfErr result (λ e. GatherCause e (F.holds files.old) name.now (F.steady files.old)
+        (F.faults files.old) (F.faults files.new)) }
     ensures size { IfOk result (λ g. vec_len g.bytes ≤ longest_gathered) }
     ensures steady { F.steady files.old
         → UnlessFilesFail result (F.steady files.new × (F.faults files.new ≡ F.faults files.old)) }

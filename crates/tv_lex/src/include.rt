@@ -4,7 +4,10 @@ ghost use Rattle.std.specs.List.{prefix_len, suffix_len};
 ghost use Rattle.std.specs.Option.{option_map};
 ghost use Rattle.std.specs.String.{string_bytes};
 ghost use Rattle.tv_lex.specs.Bytes.{stays_on_line};
-ghost use Rattle.tv_lex.specs.Include.{next_scan, scan_start, is_in_block, is_open_after, is_gap, without_gaps, behind_mark, is_include, includes, is_feed, ends_line, is_not_quote, text_if, checked_name, include_name as name_in, is_not_slash, folder_of, inner_name};
+ghost use Rattle.tv_lex.specs.Include.{next_scan, scan_start, is_in_block, is_open_after, is_gap};
+ghost use Rattle.tv_lex.specs.Include.{without_gaps, behind_mark, is_include, includes, is_feed, ends_line};
+ghost use Rattle.tv_lex.specs.Include.{is_not_quote, text_if, checked_name, include_name as name_in};
+ghost use Rattle.tv_lex.specs.Include.{is_not_slash, folder_of, inner_name};
 
 use crate::front::{behind, byte_at, on_line_len};
 use std::alloc::{AllocError, Global};

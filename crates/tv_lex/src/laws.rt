@@ -19,13 +19,15 @@ pub fn one_reading()
 /// The tokens of a text stand in it in order, and none is empty.
 #[tactic(auto, using(crate::proofs::PlaceLemmas::reads_order))]
 pub fn tokens_in_order()
-    ensures { (text : List ℕ) (tokens : List Token) → Reads text (Ok tokens) → AreInOrder 0 tokens (length text) }
+    ensures { (text : List ℕ) (tokens : List Token) → Reads text (Ok tokens)
+        → AreInOrder 0 tokens (length text) }
 {}
 
 /// The tokens of a text are tokens of their kinds.
 #[tactic(auto, using(crate::proofs::PieceTokens::lexed_tokens))]
 pub fn tokens_of_their_kinds()
-    ensures { (text : List ℕ) (tokens : List Token) → Reads text (Ok tokens) → All IsToken (spec_tokens text tokens) }
+    ensures { (text : List ℕ) (tokens : List Token) → Reads text (Ok tokens)
+        → All IsToken (spec_tokens text tokens) }
 {}
 
 /// A text of tokens with a blank behind each is read as these tokens.
@@ -40,14 +42,14 @@ pub fn include_lines()
     ensures { (line name : List ℕ) → (include_name line ≡ Some name) ↔ IsIncludeLine line name }
 {}
 
-/// Where a line of a file begins inside a block comment, as includes are looked for, is told by the pieces of its text,
-/// on texts that have tokens.
+/// Where a line of a file begins inside a block comment, as includes are looked for, is told by the pieces of
+/// its text, on texts that have tokens.
 pub fn comments_over_lines()
     ensures { CommentsAgree }
 {}
 
-/// The limits on texts, in numbers: a file is at most 16 includes deep, a file and a gathered text have at most 4,194,304
-/// bytes, and a text that is cut into tokens has at most 67,108,864.
+/// The limits on texts, in numbers: a file is at most 16 includes deep, a file and a gathered text have at
+/// most 4,194,304 bytes, and a text that is cut into tokens has at most 67,108,864.
 pub fn limits_are_told()
     ensures depth { deepest_include ≡ 16 }
     ensures gathered { longest_gathered ≡ 4194304 }

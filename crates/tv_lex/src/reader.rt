@@ -21,7 +21,8 @@ fn push_token(list: &mut Vec<Token>, found: Front, at: usize) -> Result<(), Allo
     Ok(())
 }
 
-/// The tokens of a text of at most 67,108,864 bytes. A place where no token, blank or comment stands ends the reading.
+/// The tokens of a text of at most 67,108,864 bytes. A place where no token, blank or comment stands ends the
+/// reading.
 pub fn lex(alloc: Global, bytes: &[u8]) -> Result<Tokens, LexError>
     requires { length bytes.now ≤ longest_text }
     ensures tokens { IfOk result (λ t. Reads bytes.now (Ok t.list.items)) }

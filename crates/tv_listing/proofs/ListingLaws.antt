@@ -1,15 +1,20 @@
 -- Looking up a structure by its signature.
-use Rattle.std.proofs.Common.{ℕ, ◌≡◌, ◌<◌, ◌≤◌, ◌+◌, ◌⊎◌, inl, inr, Bool, true, false, List, [], ◌∷◌, ◌++◌, length, get_or, map, take, Option, Some, None, MatchBool, true≢false, Result, Ok, Err, set, refl, sym, ap, subst, ◌∙◌, arith, ◌==◌, if◌then◌else◌, eq-eqb}
+use Rattle.std.proofs.Common.{ℕ, ◌≡◌, ◌<◌, ◌≤◌, ◌+◌, ◌⊎◌, inl, inr, Bool, true, false, List, [], ◌∷◌, ◌++◌}
+use Rattle.std.proofs.Common.{length, get_or, map, take, Option, Some, None, MatchBool, true≢false, Result}
+use Rattle.std.proofs.Common.{Ok, Err, set, refl, sym, ap, subst, ◌∙◌, arith, ◌==◌, if◌then◌else◌, eq-eqb}
 use Rattle.std.specs.Prelude.{Any, Contains, slice_get}
 use Rattle.std.specs.List.{list_any}
 use Rattle.std.specs.declared.alloc.AllocError.{AllocError}
 use Rattle.std.specs.Ordering.{is_eq}
 use Rattle.std.specs.Cmp.{Equal-is}
-use Rattle.std.proofs.lemmas.List.{get_or-map, length-map, get_or_append_left, get_or_at, length-append, length-take-le, map-append, take_all, take_more, take-append-le, set-get_or}
+use Rattle.std.proofs.lemmas.List.{get_or-map, length-map, get_or_append_left, get_or_at, length-append}
+use Rattle.std.proofs.lemmas.List.{length-take-le, map-append, take_all, take_more, take-append-le}
+use Rattle.std.proofs.lemmas.List.{set-get_or}
 use Rattle.std.proofs.lemmas.List.Folds.{Any-from_list_any, list_any_at}
 use Rattle.std.proofs.lemmas.Bool.{cases_lt, MatchBool-at_true, MatchBool-at_false}
 use Rattle.std.proofs.lemmas.Option.{slice_get_within, get_or_from_slice_get, slice_get-get_or}
-use Rattle.tv_listing.specs.ListingForm.{HasEqual, AreNoted, Adds, AddsAt, IsSortedFrom, at_node, equals, is_equal_at}
+use Rattle.tv_listing.specs.ListingForm.{HasEqual, AreNoted, Adds, AddsAt, IsSortedFrom, at_node, equals}
+use Rattle.tv_listing.specs.ListingForm.{is_equal_at}
 use Rattle.tv_struct.specs.Order.{structure_cmp}
 use Rattle.tv_struct.specs.Signature.{signature_of}
 use Rattle.tv_struct.specs.StructureForm.{StructureForm}

@@ -1,5 +1,7 @@
 -- Lists of structures, one for each node.
-use Rattle.std.specs.Prelude.{ℕ, ◌≡◌, ◌<◌, Bool, true, false, List, [], ◌∷◌, ◌++◌, length, Any, Contains, IsPermutation, Option, None, Some, Result, Ok, Err, slice_get, slice_index_or, slice_set}
+use Rattle.std.specs.Prelude.{ℕ, ◌≡◌, ◌<◌, Bool, true, false, List, [], ◌∷◌, ◌++◌, length, Any, Contains}
+use Rattle.std.specs.Prelude.{IsPermutation, Option, None, Some, Result, Ok, Err, slice_get, slice_index_or}
+use Rattle.std.specs.Prelude.{slice_set}
 use Rattle.std.specs.declared.alloc.AllocError.{AllocError}
 use Rattle.std.specs.List.Sorted.{IsSorted}
 use Rattle.std.specs.Ordering.{is_eq}
@@ -25,7 +27,8 @@ Adds old new s (Ok false) = HasEqual old s × (new ≡ old)
 Adds old new s (Err e) = new ≡ old
 
 -- and what adding it at a node does
-abbrev pub AddsAt : (old new : List (List StructureForm)) → ℕ → StructureForm → Result Bool AllocError → Type 0
+abbrev pub AddsAt : (old new : List (List StructureForm)) → ℕ → StructureForm → Result Bool AllocError
+    → Type 0
 AddsAt old new node s (Ok true) = (¬ HasEqual (at_node old node) s) × (new ≡ appended old node s)
 AddsAt old new node s (Ok false) = HasEqual (at_node old node) s × (new ≡ old)
 AddsAt old new node s (Err e) = new ≡ old

@@ -1,6 +1,7 @@
 //! Lists of structures, one for each node of a program.
 
-ghost use Rattle.std.specs.Prelude.{◌≡◌, ◌<◌, [], length, replicate, is_ok, if◌then◌else◌, slice_get, IfOk, Some};
+ghost use Rattle.std.specs.Prelude.{◌≡◌, ◌<◌, [], length, replicate, is_ok, if◌then◌else◌, slice_get, IfOk};
+ghost use Rattle.std.specs.Prelude.{Some};
 ghost use Rattle.tv_struct.specs.StructureForm.{IsStructure};
 ghost use Rattle.tv_listing.specs.ListingForm.{at_node, appended, AddsAt, AreSorted};
 

@@ -1,6 +1,7 @@
 //! The structures at one node of a listing.
 
-ghost use Rattle.std.specs.Prelude.{◌≡◌, ◌<◌, ◌≤◌, ℕ, [], ◌∷◌, ◌++◌, length, Contains, OnOk, OnErr, is_ok, if◌then◌else◌, unwrap_or, map, take, IfOk, ◌==◌};
+ghost use Rattle.std.specs.Prelude.{◌≡◌, ◌<◌, ◌≤◌, ℕ, [], ◌∷◌, ◌++◌, length, Contains, OnOk, OnErr, is_ok};
+ghost use Rattle.std.specs.Prelude.{if◌then◌else◌, unwrap_or, map, take, IfOk, ◌==◌};
 ghost use Rattle.std.specs.List.{list_any};
 ghost use Rattle.std.specs.Ordering.{nat_cmp};
 ghost use Rattle.std.specs.BTreeMap.{get};
@@ -40,7 +41,8 @@ impl Model for Node {
 
     ghost view = { λ n. n.structures.items };
 
-    ghost invariant = { λ n. (n.count ≤ length n.structures.items) × AreNoted (λ signature. unwrap_or (get nat_cmp n.noted signature) []) (map signature_of (take n.count n.structures.items)) };
+    ghost invariant = { λ n. (n.count ≤ length n.structures.items) × AreNoted (λ signature. unwrap_or
+        (get nat_cmp n.noted signature) []) (map signature_of (take n.count n.structures.items)) };
 }
 
 impl Node {
@@ -111,9 +113,12 @@ fn note_from(
     from: usize,
 ) -> Result<(), AllocError>
     requires from { from ≤ length structures.now }
-    requires noted { AreNoted (λ signature. unwrap_or (get nat_cmp noted.old signature) []) (map signature_of (take from structures.now)) }
-    ensures kept { AreNoted (λ signature. unwrap_or (get nat_cmp noted.new signature) []) (map signature_of (take from structures.now)) }
-    ensures ok { OnOk result (AreNoted (λ signature. unwrap_or (get nat_cmp noted.new signature) []) (map signature_of structures.now)) }
+    requires noted { AreNoted (λ signature. unwrap_or (get nat_cmp noted.old signature) [])
+        (map signature_of (take from structures.now)) }
+    ensures kept { AreNoted (λ signature. unwrap_or (get nat_cmp noted.new signature) [])
+        (map signature_of (take from structures.now)) }
+    ensures ok { OnOk result (AreNoted (λ signature. unwrap_or (get nat_cmp noted.new signature) [])
+        (map signature_of structures.now)) }
 {
     for place in from..structures.len() {
         note(alloc, noted, structures[place].signature(), place)?;
@@ -133,8 +138,11 @@ fn noted_at(noted: &Noted, signature: u64) -> &[usize]
 
 /// Notes the place for the signature, behind those that are noted for it.
 fn note(alloc: Global, noted: &mut Noted, signature: u64, place: usize) -> Result<(), AllocError>
-    ensures ok { OnOk result ((g : ℕ) → unwrap_or (get nat_cmp noted.new g) [] ≡ (if g == signature then unwrap_or (get nat_cmp noted.old g) [] ++ place ∷ [] else unwrap_or (get nat_cmp noted.old g) [])) }
-    ensures err { OnErr result ((g : ℕ) → unwrap_or (get nat_cmp noted.new g) [] ≡ unwrap_or (get nat_cmp noted.old g) []) }
+    ensures ok { OnOk result
+        ((g : ℕ) → unwrap_or (get nat_cmp noted.new g) [] ≡ (if g == signature then unwrap_or
+        (get nat_cmp noted.old g) [] ++ place ∷ [] else unwrap_or (get nat_cmp noted.old g) [])) }
+    ensures err { OnErr result
+        ((g : ℕ) → unwrap_or (get nat_cmp noted.new g) [] ≡ unwrap_or (get nat_cmp noted.old g) []) }
 {
     if let Some(places) = noted.get_mut(&signature) {
         return places.push(place);

@@ -1,6 +1,7 @@
 -- Lemmas on assignments, for the crates above: what an assignment gives once an individual is put for a
 -- variable.
-use Rattle.std.proofs.Common.{ℕ, ◌≡◌, ◌≢◌, List, map, get_or, ⊎_elim, sym, subst, ◌∙◌, All, Contains, eqb, eq-eqb, ne_eqb}
+use Rattle.std.proofs.Common.{ℕ, ◌≡◌, ◌≢◌, List, map, get_or, ⊎_elim, sym, subst, ◌∙◌, All, Contains, eqb}
+use Rattle.std.proofs.Common.{eq-eqb, ne_eqb}
 use Rattle.std.proofs.lemmas.Bool.{cases_eq, cond-true, cond-false}
 use Rattle.std.proofs.lemmas.List.Elements.{All-map, Contains-get_or}
 use Rattle.tv_model.specs.Truth.{Assignment, put}

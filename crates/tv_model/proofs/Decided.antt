@@ -1,6 +1,7 @@
 -- Lemmas on decided facts, for the crates above: the connectives keep them decided, and so do "there is"
 -- and "for all" over a list.
-use Rattle.std.proofs.Common.{ℕ, ◌≡◌, ◌⊎◌, ◌↔◌, List, [], ◌∷◌, Option, Some, None, inl, inr, ⊎_elim, sym, ap, subst, Contains}
+use Rattle.std.proofs.Common.{ℕ, ◌≡◌, ◌⊎◌, ◌↔◌, List, [], ◌∷◌, Option, Some, None, inl, inr, ⊎_elim, sym, ap}
+use Rattle.std.proofs.Common.{subst, Contains}
 use Rattle.std.proofs.lemmas.Bool.{cases_eq}
 use Rattle.tv_model.proofs.Lists.{Contains-here, Contains-there, Contains-cases, Contains-none}
 

@@ -5,7 +5,8 @@ use Rattle.tv_model.specs.Form.{Form}
 use Rattle.tv_model.specs.Program.{ProgramForm, KDefined, HeadForm, HNever, HAtom, HSame, CTo, ActionForm}
 use Rattle.tv_model.specs.Rules.{head_formula}
 use Rattle.tv_model.specs.Laws.{ValidFormulasFit}
-use Rattle.tv_model.specs.Valid.{IsFormula, IsPlainFormula, IsKind, IsPred, IsHead, IsRule, IsMessage, IsPrecondition, IsRetain, IsChange, IsUpdate, IsAction}
+use Rattle.tv_model.specs.Valid.{IsFormula, IsPlainFormula, IsKind, IsPred, IsHead, IsRule, IsMessage}
+use Rattle.tv_model.specs.Valid.{IsPrecondition, IsRetain, IsChange, IsUpdate, IsAction}
 
 head-fits : (p : ProgramForm) (head : HeadForm) → IsHead p head → IsFormula p (head_formula head)
 head-fits p HNever is = tt

@@ -1,6 +1,7 @@
 -- Lemmas on heaps of a program, for the crates above: predicates by their numbers and kinds, and what holds
 -- in a heap of the program.
-use Rattle.std.proofs.Common.{ℕ, ◌≡◌, ◌≤◌, ◌⊎◌, List, [], length, Option, Some, None, unwrap_or, slice_get, inl, inr, ⊎_elim, refl, subst, All, Contains, arith}
+use Rattle.std.proofs.Common.{ℕ, ◌≡◌, ◌≤◌, ◌⊎◌, List, [], length, Option, Some, None, unwrap_or, slice_get}
+use Rattle.std.proofs.Common.{inl, inr, ⊎_elim, refl, subst, All, Contains, arith}
 use Rattle.std.proofs.lemmas.List.Elements.{All-contains}
 use Rattle.tv_model.specs.Form.{Form}
 use Rattle.tv_model.specs.Heap.{Heap, Holds, IsTuple, extent}

@@ -1,7 +1,9 @@
 -- Lemmas on truth, for the crates above: it goes along a matching of individuals, and so depends only on
 -- what the formula sees.
-use Rattle.std.proofs.Common.{ℕ, ◌≡◌, ◌≢◌, ◌↔◌, List, map, Some, inl, inr, ⊎_elim, refl, sym, ap, subst, ◌∙◌, Contains}
-use Rattle.tv_model.specs.Form.{Form, FZero, FOne, FAtom, FIsNew, FSame, FNot, FAnd, FOr, FIff, FCond, FExists, FForall, FClosure, IsFree, Mentions}
+use Rattle.std.proofs.Common.{ℕ, ◌≡◌, ◌≢◌, ◌↔◌, List, map, Some, inl, inr, ⊎_elim, refl, sym, ap, subst, ◌∙◌}
+use Rattle.std.proofs.Common.{Contains}
+use Rattle.tv_model.specs.Form.{Form, FZero, FOne, FAtom, FIsNew, FSame, FNot, FAnd, FOr, FIff, FCond}
+use Rattle.tv_model.specs.Form.{FExists, FForall, FClosure, IsFree, Mentions}
 use Rattle.tv_model.specs.Heap.{Heap, Holds}
 use Rattle.tv_model.specs.Laws.{TruthIsLocal, TruthIsKept}
 use Rattle.tv_model.specs.Truth.{Assignment, Truth, ClosureEdge, put}

@@ -3,7 +3,8 @@ use Rattle.std.specs.Prelude.{ℕ, ◌≡◌, ◌≢◌, ◌⊎◌, ◌+◌, max
 use Rattle.tv_model.specs.declared.formula.Terms.{Terms}
 use Rattle.tv_model.specs.declared.formula.Terms.TheVariants.{Zero as none, One as one, Two as two}
 use Rattle.tv_model.specs.declared.formula.Formula.{Formula}
-use Rattle.tv_model.specs.declared.formula.Formula.TheVariants.{Zero, One, Atom, IsNew, Same, Not', And', Or', Iff', Cond', Exists', Forall', Closure'}
+use Rattle.tv_model.specs.declared.formula.Formula.TheVariants.{Zero, One, Atom, IsNew, Same, Not', And', Or'}
+use Rattle.tv_model.specs.declared.formula.Formula.TheVariants.{Iff', Cond', Exists', Forall', Closure'}
 
 -- a formula; variables and predicates are plain numbers, and an atom has the list of its variables
 pub data Form : Type 0 where

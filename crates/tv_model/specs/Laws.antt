@@ -2,7 +2,8 @@
 use Rattle.std.specs.Prelude.{ℕ, ◌≡◌, ◌↔◌, List, map, Some, All, Contains}
 use Rattle.tv_model.specs.Form.{Form, IsFree, Mentions}
 use Rattle.tv_model.specs.Heap.{Heap, Holds}
-use Rattle.tv_model.specs.Program.{ProgramForm, PredForm, KDefined, RuleForm, CTo, UpdateForm, RetainForm, MessageForm, ActionForm}
+use Rattle.tv_model.specs.Program.{ProgramForm, PredForm, KDefined, RuleForm, CTo, UpdateForm, RetainForm}
+use Rattle.tv_model.specs.Program.{MessageForm, ActionForm}
 use Rattle.tv_model.specs.Rules.{head_formula}
 use Rattle.tv_model.specs.Truth.{Assignment, Truth}
 use Rattle.tv_model.specs.Valid.{IsValid, IsFormula, NamesNew}
@@ -39,7 +40,8 @@ TruthIsKept =
 
 -- P holds of each formula that stands in the program
 pub record EachFormula (P : Form → Type 0) (p : ProgramForm) : Type 0 where
-  pub definitions : (d : PredForm) (vars : List ℕ) (body : Form) → Contains p.preds d → d.kind ≡ KDefined vars body
+  pub definitions : (d : PredForm) (vars : List ℕ) (body : Form) → Contains p.preds d
+      → d.kind ≡ KDefined vars body
       → P body
   pub rules : (rule : RuleForm) → Contains p.rules rule → P rule.body
   pub preconditions : (a : ActionForm) (f : Form) → Contains p.actions a → a.pre ≡ Some f → P f

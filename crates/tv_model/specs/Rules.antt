@@ -1,9 +1,11 @@
 -- Heaps over a program: their shape, their defined predicates, and the rules that they meet.
-use Rattle.std.specs.Prelude.{ℕ, ◌≡◌, ◌≢◌, ◌⊎◌, ◌↔◌, Bool, true, false, List, [], ◌∷◌, ◌++◌, length, None, All, AllPairs, Contains, if◌then◌else◌}
+use Rattle.std.specs.Prelude.{ℕ, ◌≡◌, ◌≢◌, ◌⊎◌, ◌↔◌, Bool, true, false, List, [], ◌∷◌, ◌++◌, length, None}
+use Rattle.std.specs.Prelude.{All, AllPairs, Contains, if◌then◌else◌}
 use Rattle.tv_model.specs.declared.program.Props.{Props}
 use Rattle.tv_model.specs.Form.{Form, FZero, FOne, FAtom, FSame, FNot, FAnd, IsFree}
 use Rattle.tv_model.specs.Heap.{Heap, Holds, IsTuple, extent}
-use Rattle.tv_model.specs.Program.{ProgramForm, EachPred, KindForm, KCore, KDefined, HeadForm, HNever, HAtom, HSame, RuleForm}
+use Rattle.tv_model.specs.Program.{ProgramForm, EachPred, KindForm, KCore, KDefined, HeadForm, HNever, HAtom}
+use Rattle.tv_model.specs.Program.{HSame, RuleForm}
 use Rattle.tv_model.specs.Truth.{Assignment, Truth, put_all}
 
 -- a heap over the program's vocabulary, with no individual marked as fresh
@@ -25,7 +27,8 @@ MeetsDefinition h q (KDefined vars body) tuple = Holds h q tuple ↔ Truth h (pu
 
 -- each defined predicate holds exactly of the tuples of individuals of which its definition is true
 abbrev pub IsConcrete : ProgramForm → Heap → Type 0
-IsConcrete p h = EachPred p.preds (λ q d. (tuple : List ℕ) → IsTuple h d.arity tuple → MeetsDefinition h q d.kind tuple)
+IsConcrete p h =
+    EachPred p.preds (λ q d. (tuple : List ℕ) → IsTuple h d.arity tuple → MeetsDefinition h q d.kind tuple)
 
 -- the formula where the flag is true, else its negation
 abbrev pub signed_form : Bool → Form → Form
@@ -55,7 +58,8 @@ IsOfIndividuals individuals rule a = (v : ℕ) → IsFreeInRule v rule → Conta
 -- wherever the body is true, so is the head
 abbrev pub MeetsRule : Heap → RuleForm → Type 0
 MeetsRule h rule =
-    (a : Assignment) → IsOfIndividuals h.individuals rule a → Truth h a rule.body → Truth h a (head_formula rule.head)
+    (a : Assignment) → IsOfIndividuals h.individuals rule a → Truth h a rule.body
+    → Truth h a (head_formula rule.head)
 
 -- the rules that the properties of the predicate p stand for, over the variables 0, 1 and 2
 abbrev pub unique_rule : ℕ → RuleForm
@@ -65,7 +69,8 @@ abbrev pub function_rule : ℕ → RuleForm
 function_rule p = record { body = FAnd (FAtom p (0 ∷ 1 ∷ [])) (FAtom p (0 ∷ 2 ∷ [])); head = HSame true 1 2 }
 
 abbrev pub invfunction_rule : ℕ → RuleForm
-invfunction_rule p = record { body = FAnd (FAtom p (1 ∷ 0 ∷ [])) (FAtom p (2 ∷ 0 ∷ [])); head = HSame true 1 2 }
+invfunction_rule p =
+    record { body = FAnd (FAtom p (1 ∷ 0 ∷ [])) (FAtom p (2 ∷ 0 ∷ [])); head = HSame true 1 2 }
 
 abbrev pub transitive_rule : ℕ → RuleForm
 transitive_rule p =

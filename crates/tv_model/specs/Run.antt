@@ -46,6 +46,7 @@ abbrev pub CoversRuns : (ℕ → Heap → Type 0) → Type 0
 CoversRuns Covered =
     (p : ProgramForm) (mode : Mode) (start : Heap) (stages : List Stage) → IsRun p mode start stages
     → Covered 0 start
-    → ((edge : Edge) (old new : Heap) → Contains p.edges edge → FairStep p mode edge old new → Covered edge.from old
+    → ((edge : Edge) (old new : Heap) → Contains p.edges edge → FairStep p mode edge old new
+    → Covered edge.from old
     → Covered edge.to new)
     → (node : ℕ) (h : Heap) → Brings start stages node h → Covered node h

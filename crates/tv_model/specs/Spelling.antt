@@ -1,5 +1,6 @@
 -- How names and texts of a program are spelled, as lists of ASCII codes.
-use Rattle.std.specs.Prelude.{ℕ, ◌≡◌, ◌≢◌, ◌≤◌, ◌<◌, ◌⊎◌, List, [], ◌∷◌, ◌++◌, length, All, Contains, slice_index, codes}
+use Rattle.std.specs.Prelude.{ℕ, ◌≡◌, ◌≢◌, ◌≤◌, ◌<◌, ◌⊎◌, List, [], ◌∷◌, ◌++◌, length, All, Contains}
+use Rattle.std.specs.Prelude.{slice_index, codes}
 use Rattle.std.specs.List.{join_with_byte}
 
 abbrev pub IsDigit : ℕ → Type 0
@@ -23,7 +24,8 @@ IsIdentifier bytes = IsWord bytes × (¬ IsDigit (slice_index bytes 0)) × (¬ C
 abbrev pub IsName : List ℕ → Type 0
 IsName bytes =
     IsIdentifier bytes
-    ⊎ ((first : List ℕ) × (inner : List (List ℕ)) × IsIdentifier first × (0 < length inner) × All IsIdentifier inner
+    ⊎ ((first : List ℕ) × (inner : List (List ℕ)) × IsIdentifier first × (0 < length inner)
+    × All IsIdentifier inner
     × (bytes ≡ first ++ codes "[" ++ join_with_byte 44 inner ++ codes "]"))
 
 -- printable ASCII without the double quote

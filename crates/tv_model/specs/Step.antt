@@ -1,10 +1,12 @@
 -- A step: how an action takes an old heap to a new heap, through a middle heap.
-use Rattle.std.specs.Prelude.{ℕ, ◌≡◌, ◌↔◌, ◌==◌, Bool, true, false, List, [], ◌∷◌, ◌++◌, Option, Some, None, All, Contains, IfSome, slice_get, find}
+use Rattle.std.specs.Prelude.{ℕ, ◌≡◌, ◌↔◌, ◌==◌, Bool, true, false, List, [], ◌∷◌, ◌++◌, Option, Some, None}
+use Rattle.std.specs.Prelude.{All, Contains, IfSome, slice_get, find}
 use Rattle.tv_model.specs.declared.program.Edge.{Edge}
 use Rattle.tv_model.specs.declared.program.Mode.{Mode}
 use Rattle.tv_model.specs.declared.program.Mode.TheVariants.{Given, Recompute}
 use Rattle.tv_model.specs.Heap.{Heap, Holds, IsTuple}
-use Rattle.tv_model.specs.Program.{ProgramForm, EachPred, KCore, ActionForm, RetainForm, UpdateForm, ChangeForm, CFree, CTo}
+use Rattle.tv_model.specs.Program.{ProgramForm, EachPred, KCore, ActionForm, RetainForm, UpdateForm}
+use Rattle.tv_model.specs.Program.{ChangeForm, CFree, CTo}
 use Rattle.tv_model.specs.Rules.{IsHeap, IsConcrete, MeetsProgram}
 use Rattle.tv_model.specs.Truth.{Assignment, Truth, put, put_all}
 
@@ -32,9 +34,11 @@ AllowsChange middle picked vars CFree tuple holds = Unit {0}
 AllowsChange middle picked vars (CTo f) tuple holds = holds ↔ Truth middle (put_all picked vars tuple) f
 
 -- the predicate q holds of the tuple in the new heap as its update says, or else as before
-abbrev pub FollowsUpdate : (q : ℕ) → (middle : Heap) → Assignment → Option UpdateForm → List ℕ → (new : Heap) → Type 0
+abbrev pub FollowsUpdate : (q : ℕ) → (middle : Heap) → Assignment → Option UpdateForm → List ℕ → (new : Heap)
+    → Type 0
 FollowsUpdate q middle picked None tuple new = Holds new q tuple ↔ Holds middle q tuple
-FollowsUpdate q middle picked (Some w) tuple new = AllowsChange middle picked w.vars w.change tuple (Holds new q tuple)
+FollowsUpdate q middle picked (Some w) tuple new =
+    AllowsChange middle picked w.vars w.change tuple (Holds new q tuple)
 
 -- an action takes an old heap to a new one through a middle heap, by an assignment of its picked variables
 pub record StepsThrough (p : ProgramForm) (action : ActionForm) (picked : Assignment) (old middle new : Heap)

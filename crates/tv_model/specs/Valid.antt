@@ -1,9 +1,14 @@
 -- Which programs are valid: what the front end promises of a program that it answers.
-use Rattle.std.specs.Prelude.{ℕ, ◌≡◌, ◌≢◌, ◌≤◌, ◌<◌, ◌⊎◌, Bool, not, ◌==◌, IsTrue, List, [], ◌∷◌, ◌++◌, length, map, filter, Option, Some, None, All, AllPairs, Contains, slice_get, codes}
+use Rattle.std.specs.Prelude.{ℕ, ◌≡◌, ◌≢◌, ◌≤◌, ◌<◌, ◌⊎◌, Bool, not, ◌==◌, IsTrue, List, [], ◌∷◌, ◌++◌}
+use Rattle.std.specs.Prelude.{length, map, filter, Option, Some, None, All, AllPairs, Contains, slice_get}
+use Rattle.std.specs.Prelude.{codes}
 use Rattle.tv_model.specs.declared.program.Edge.{Edge}
 use Rattle.tv_model.specs.declared.program.Props.{Props}
-use Rattle.tv_model.specs.Form.{Form, FZero, FOne, FAtom, FIsNew, FSame, FNot, FAnd, FOr, FIff, FCond, FExists, FForall, FClosure, IsFree, Mentions}
-use Rattle.tv_model.specs.Program.{ProgramForm, PredForm, EachPred, KindForm, KCore, KDefined, HeadForm, HNever, HAtom, HSame, RuleForm, ChangeForm, CFree, CTo, UpdateForm, RetainForm, MessageForm, ActionForm}
+use Rattle.tv_model.specs.Form.{Form, FZero, FOne, FAtom, FIsNew, FSame, FNot, FAnd, FOr, FIff, FCond}
+use Rattle.tv_model.specs.Form.{FExists, FForall, FClosure, IsFree, Mentions}
+use Rattle.tv_model.specs.Program.{ProgramForm, PredForm, EachPred, KindForm, KCore, KDefined, HeadForm}
+use Rattle.tv_model.specs.Program.{HNever, HAtom, HSame, RuleForm, ChangeForm, CFree, CTo, UpdateForm}
+use Rattle.tv_model.specs.Program.{RetainForm, MessageForm, ActionForm}
 use Rattle.tv_model.specs.Spelling.{IsName, IsText, IsWord}
 
 -- a variable's number
@@ -30,11 +35,13 @@ IsFormulaOver arities (FNot f) = IsFormulaOver arities f
 IsFormulaOver arities (FAnd f g) = IsFormulaOver arities f × IsFormulaOver arities g
 IsFormulaOver arities (FOr f g) = IsFormulaOver arities f × IsFormulaOver arities g
 IsFormulaOver arities (FIff f g) = IsFormulaOver arities f × IsFormulaOver arities g
-IsFormulaOver arities (FCond c f g) = IsFormulaOver arities c × IsFormulaOver arities f × IsFormulaOver arities g
+IsFormulaOver arities (FCond c f g) =
+    IsFormulaOver arities c × IsFormulaOver arities f × IsFormulaOver arities g
 IsFormulaOver arities (FExists v f) = IsVariable v × IsFormulaOver arities f
 IsFormulaOver arities (FForall v f) = IsVariable v × IsFormulaOver arities f
 IsFormulaOver arities (FClosure from to left right f) =
-    IsVariable from × IsVariable to × IsVariable left × IsVariable right × (left ≢ right) × IsFormulaOver arities f
+    IsVariable from × IsVariable to × IsVariable left × IsVariable right × (left ≢ right)
+    × IsFormulaOver arities f
 
 -- a formula over the program's vocabulary
 abbrev pub IsFormula : ProgramForm → Form → Type 0
@@ -86,7 +93,8 @@ free_occurrences (FIff f g) = free_occurrences f ++ free_occurrences g
 free_occurrences (FCond c f g) = free_occurrences c ++ free_occurrences f ++ free_occurrences g
 free_occurrences (FExists v f) = without v (free_occurrences f)
 free_occurrences (FForall v f) = without v (free_occurrences f)
-free_occurrences (FClosure from to left right f) = from ∷ to ∷ without left (without right (free_occurrences f))
+free_occurrences (FClosure from to left right f) =
+    from ∷ to ∷ without left (without right (free_occurrences f))
 
 -- each variable of the list once, in order of first occurrence
 abbrev pub first_occurrences : List ℕ → List ℕ

@@ -1,8 +1,13 @@
 -- Loops that take each item in its order, up to the first refusal.
-use Rattle.std.proofs.Common.{◌≡◌, ℕ, suc, ◌+◌, ◌<◌, ◌≤◌, get_or, List, ◌∷◌, length, map, drop, refl, ap, sym, ◌∙◌, add-one, drop-cons, Ok, Err}
+use Rattle.std.proofs.Common.{◌≡◌, ℕ, suc, ◌+◌, ◌<◌, ◌≤◌, get_or, List, ◌∷◌, length, map, drop, refl, ap, sym}
+use Rattle.std.proofs.Common.{◌∙◌, add-one, drop-cons, Ok, Err}
 use Rattle.std.proofs.lemmas.List.{drop_all}
 use Rattle.tv_names.specs.declared.refusal.ResolveError.{ResolveError}
-use Rattle.tv_names.specs.declared.refusal.ResolveError.TheVariants.{NameUnknown, NameTwice, ArityWrong, ArityTooLarge, Reserved, VariableUnbound, TooManyVariables, UpdateTwice, DefinitionCycle, HeadForm, HalfLiteral, TooMany, NoEdge, Memory}
+use Rattle.tv_names.specs.declared.refusal.ResolveError.TheVariants.{NameUnknown, NameTwice, ArityWrong}
+use Rattle.tv_names.specs.declared.refusal.ResolveError.TheVariants.{ArityTooLarge, Reserved, VariableUnbound}
+use Rattle.tv_names.specs.declared.refusal.ResolveError.TheVariants.{TooManyVariables, UpdateTwice}
+use Rattle.tv_names.specs.declared.refusal.ResolveError.TheVariants.{DefinitionCycle, HeadForm, HalfLiteral}
+use Rattle.tv_names.specs.declared.refusal.ResolveError.TheVariants.{TooMany, NoEdge, Memory}
 use Rattle.tv_names.specs.Refusal.{◌>>=◌, OrRefused, Refuses, one_by_one}
 
 -- what is left from the place i on

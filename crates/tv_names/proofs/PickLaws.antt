@@ -1,5 +1,6 @@
 -- Picks, gathered occurrence by occurrence.
-use Rattle.std.proofs.Common.{◌≡◌, ℕ, zero, suc, ◌<◌, Bool, true, false, not, ◌||◌, ◌==◌, get_or, set, List, [], ◌∷◌, ◌++◌, length, filter, refl, ap, sym, ◌∙◌, cond, append_assoc, inl, inr}
+use Rattle.std.proofs.Common.{◌≡◌, ℕ, zero, suc, ◌<◌, Bool, true, false, not, ◌||◌, ◌==◌, get_or, set, List}
+use Rattle.std.proofs.Common.{[], ◌∷◌, ◌++◌, length, filter, refl, ap, sym, ◌∙◌, cond, append_assoc, inl, inr}
 use Rattle.std.specs.List.{list_any, repeat}
 use Rattle.std.proofs.lemmas.Bool.{cases_Bool, eqb-true, eq-eqb, ne_eqb, true≢false}
 use Rattle.std.proofs.lemmas.List.{get_or-set_same, get_or-set_other, append-nil}

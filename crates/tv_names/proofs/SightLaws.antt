@@ -1,22 +1,31 @@
 -- Each part of a formula sees its sights, in reading order.
-use Rattle.std.proofs.Common.{◌≡◌, ℕ, ◌≤◌, Bool, true, false, not, ◌&&◌, ◌||◌, List, [], ◌∷◌, ◌++◌, length, map, refl, ap, sym, subst, ◌∙◌, arith, Option, Some, None, Ok, Err}
+use Rattle.std.proofs.Common.{◌≡◌, ℕ, ◌≤◌, Bool, true, false, not, ◌&&◌, ◌||◌, List, [], ◌∷◌, ◌++◌, length}
+use Rattle.std.proofs.Common.{map, refl, ap, sym, subst, ◌∙◌, arith, Option, Some, None, Ok, Err}
 use Rattle.std.specs.Prelude.{◌==◌, is_some, if◌then◌else◌}
 use Rattle.std.specs.Str.{bytes_eq}
 use Rattle.tv_tree.specs.Forms as tree
 use Rattle.tv_tree.specs.Forms.{NameForm}
 use Rattle.tv_tree.specs.Names.{is_among, name_text}
-use Rattle.tv_model.specs.Form.{Form, FAtom, FIsNew, FSame, FNot, FAnd, FOr, FIff, FCond, FExists, FForall, FClosure}
+use Rattle.tv_model.specs.Form.{Form, FAtom, FIsNew, FSame, FNot, FAnd, FOr, FIff, FCond, FExists, FForall}
+use Rattle.tv_model.specs.Form.{FClosure}
 use Rattle.tv_names.specs.declared.refusal.ResolveError.{ResolveError}
-use Rattle.tv_names.specs.declared.refusal.ResolveError.TheVariants.{NameUnknown, NameTwice, ArityWrong, Reserved, VariableUnbound, HalfLiteral, TooManyVariables}
+use Rattle.tv_names.specs.declared.refusal.ResolveError.TheVariants.{NameUnknown, NameTwice, ArityWrong}
+use Rattle.tv_names.specs.declared.refusal.ResolveError.TheVariants.{Reserved, VariableUnbound, HalfLiteral}
+use Rattle.tv_names.specs.declared.refusal.ResolveError.TheVariants.{TooManyVariables}
 use Rattle.tv_names.specs.declared.place.Others.{Others}
 use Rattle.tv_names.specs.declared.place.Others.TheVariants.{Any, Never, Once}
 use Rattle.tv_names.specs.Refusal.{◌>>=◌, OrRefused, refused_if, or_refused}
 use Rattle.tv_names.specs.Symbols.{KnownForm, is_sm, is_new_word, symbol_of}
-use Rattle.tv_names.specs.Naming.{SlotForm, Nameless, NamingForm, number_of, filled, sighted, two_more, own_at, own_pair}
-use Rattle.tv_names.specs.Numbers.{Sight, OfName, OfPair, sights, is_same_sight, is_numbered, vacant_count, filled_with, NumbersFollowSights, TooManyHaveNoRoom}
-use Rattle.tv_names.specs.Resolving.{PlaceForm, Numbered, is_known_at, is_the_further, noted, other_variable, occurrence, two_occurrences, terms, pred_at, new_atom, pred_atom, atom, closable, star_of, star, under, quantified, two_bound, resolved}
+use Rattle.tv_names.specs.Naming.{SlotForm, Nameless, NamingForm, number_of, filled, sighted, two_more}
+use Rattle.tv_names.specs.Naming.{own_at, own_pair}
+use Rattle.tv_names.specs.Numbers.{Sight, OfName, OfPair, sights, is_same_sight, is_numbered, vacant_count}
+use Rattle.tv_names.specs.Numbers.{filled_with, NumbersFollowSights, TooManyHaveNoRoom}
+use Rattle.tv_names.specs.Resolving.{PlaceForm, Numbered, is_known_at, is_the_further, noted, other_variable}
+use Rattle.tv_names.specs.Resolving.{occurrence, two_occurrences, terms, pred_at, new_atom, pred_atom, atom}
+use Rattle.tv_names.specs.Resolving.{closable, star_of, star, under, quantified, two_bound, resolved}
 use Rattle.tv_names.proofs.SlotFills.{fill_append, fill_count, filled_name}
-use Rattle.tv_names.proofs.Sightings.{Follows, Sees, IsFilled, Fills, fills, known_stays, sees_then, sees_map, sees_none, sees_guard, name_sees}
+use Rattle.tv_names.proofs.Sightings.{Follows, Sees, IsFilled, Fills, fills, known_stays, sees_then, sees_map}
+use Rattle.tv_names.proofs.Sightings.{sees_none, sees_guard, name_sees}
 
 -- ---- refusals of other kinds
 

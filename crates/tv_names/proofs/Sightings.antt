@@ -1,5 +1,6 @@
 -- What a step sees, and what it does to the numbers.
-use Rattle.std.proofs.Common.{◌≡◌, ℕ, ◌+◌, ◌<◌, ◌≤◌, Bool, true, false, ◌||◌, List, [], ◌∷◌, ◌++◌, length, refl, ap, sym, ◌∙◌, arith, length-append, Option, Some, None, Ok, Err, inl, inr}
+use Rattle.std.proofs.Common.{◌≡◌, ℕ, ◌+◌, ◌<◌, ◌≤◌, Bool, true, false, ◌||◌, List, [], ◌∷◌, ◌++◌, length}
+use Rattle.std.proofs.Common.{refl, ap, sym, ◌∙◌, arith, length-append, Option, Some, None, Ok, Err, inl, inr}
 use Rattle.std.specs.List.{list_any, flat_map, position}
 use Rattle.std.specs.Str.{bytes_eq}
 use Rattle.std.proofs.lemmas.Bool.{cases_Bool}
@@ -9,10 +10,13 @@ use Rattle.std.proofs.lemmas.List.Quantifiers.{position-Some}
 use Rattle.std.proofs.lemmas.Slice.Eq.{bytes_eq-Decides}
 use Rattle.tv_names.specs.declared.refusal.ResolveError.TheVariants.{TooManyVariables}
 use Rattle.tv_names.specs.Refusal.{◌>>=◌, OrRefused}
-use Rattle.tv_names.specs.Naming.{SlotForm, Vacant, Named, NamingForm, is_vacant, is_named, number_of, filled_at, filled, sighted_at, sighted}
-use Rattle.tv_names.specs.Numbers.{Sight, OfName, OfPair, is_same_sight, is_numbered, first_sights, variables_of, new_variables, vacant_count, filled_with}
+use Rattle.tv_names.specs.Naming.{SlotForm, Vacant, Named, NamingForm, is_vacant, is_named, number_of}
+use Rattle.tv_names.specs.Naming.{filled_at, filled, sighted_at, sighted}
+use Rattle.tv_names.specs.Numbers.{Sight, OfName, OfPair, is_same_sight, is_numbered, first_sights}
+use Rattle.tv_names.specs.Numbers.{variables_of, new_variables, vacant_count, filled_with}
 use Rattle.tv_names.specs.Resolving.{Numbered}
-use Rattle.tv_names.proofs.SlotFills.{fill_append, fill_count, first_vacant, none_passes, no_vacancy, filled_name}
+use Rattle.tv_names.proofs.SlotFills.{fill_append, fill_count, first_vacant, none_passes, no_vacancy}
+use Rattle.tv_names.proofs.SlotFills.{filled_name}
 
 -- ---- lists of sights
 

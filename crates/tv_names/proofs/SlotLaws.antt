@@ -1,11 +1,13 @@
 -- Steps over the numbers of an item.
-use Rattle.std.proofs.Common.{◌≡◌, ℕ, zero, suc, ◌+◌, ◌<◌, ◌≤◌, Bool, not, get_or, set, List, [], ◌∷◌, length, map, refl, ap, sym, ◌∙◌, cond, arith, zero-add}
+use Rattle.std.proofs.Common.{◌≡◌, ℕ, zero, suc, ◌+◌, ◌<◌, ◌≤◌, Bool, not, get_or, set, List, [], ◌∷◌, length}
+use Rattle.std.proofs.Common.{map, refl, ap, sym, ◌∙◌, cond, arith, zero-add}
 use Rattle.std.specs.List.{position_or_len, position}
 use Rattle.std.proofs.lemmas.List.{length-map, map-set, get_or-map}
 use Rattle.tv_names.specs.declared.naming.Slot.{Slot}
 use Rattle.tv_names.specs.Copies.{slot_of}
 use Rattle.std.proofs.Common.{Some, Ok, false}
-use Rattle.tv_names.specs.Naming.{SlotForm, NamingForm, is_vacant, filled, kept_slot, kept_from, hidden_slot, hidden}
+use Rattle.tv_names.specs.Naming.{SlotForm, NamingForm, is_vacant, filled, kept_slot, kept_from, hidden_slot}
+use Rattle.tv_names.specs.Naming.{hidden}
 
 position_or_len_over : {A B : Type 0} (f : A → B) (p : B → Bool) (xs : List A) → position_or_len p (map f xs) ≡ position_or_len (λ x. p (f x)) xs
 position_or_len_over f p [] = refl

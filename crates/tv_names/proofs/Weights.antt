@@ -1,6 +1,7 @@
 -- A measure of trees for the walk through a formula.
 use Rattle.std.proofs.Common.{ℕ, ◌+◌, length}
-use Rattle.tv_tree.specs.Forms.{Form, FZero, FOne, FHalf, FSame, FDiffer, FAtom, FStar, FPlus, FParen, FNot, FAnd, FOr, FImp, FIff, FCond, FExists, FForall, FTc}
+use Rattle.tv_tree.specs.Forms.{Form, FZero, FOne, FHalf, FSame, FDiffer, FAtom, FStar, FPlus, FParen, FNot}
+use Rattle.tv_tree.specs.Forms.{FAnd, FOr, FImp, FIff, FCond, FExists, FForall, FTc}
 
 abbrev pub weight : Form → ℕ
 weight FZero = 0

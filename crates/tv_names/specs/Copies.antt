@@ -24,5 +24,11 @@ slot_of (slot.Named word) = Named word.now
 abbrev pub naming_of : Naming → NamingForm
 naming_of n = record { slots = map slot_of n.slots; own = n.own; further = n.further }
 
-abbrev pub place_of : Place → PlaceForm
-place_of p = record { symbols = symbols_of p.symbols.now; with_new = p.with_new; known = p.known.flags; others = p.others }
+abbrev pub place_form : Place → PlaceForm
+place_form p =
+    record {
+      symbols = symbols_of p.symbols.now;
+      with_new = p.with_new;
+      known = p.known.flags;
+      others = p.others;
+    }

@@ -1,5 +1,6 @@
 -- The variables of one item: which name has which number.
-use Rattle.std.specs.Prelude.{ℕ, ◌+◌, get_or, Bool, true, false, List, [], ◌∷◌, map, Option, Some, None, Ok, Err, position, slice_set, if◌then◌else◌}
+use Rattle.std.specs.Prelude.{ℕ, ◌+◌, get_or, Bool, true, false, List, [], ◌∷◌, map, Option, Some, None, Ok}
+use Rattle.std.specs.Prelude.{Err, position, slice_set, if◌then◌else◌}
 use Rattle.std.specs.List.{repeat}
 use Rattle.std.specs.Str.{bytes_eq}
 use Rattle.tv_names.specs.declared.refusal.ResolveError.TheVariants.{TooManyVariables, ArityTooLarge}
@@ -10,8 +11,8 @@ pub data SlotForm : Type 0 where
   Vacant Nameless : SlotForm
   Named : List ℕ → SlotForm
 
--- The numbers from 0 to 31 in order. `own` has the two variables that all `p*` and `p+` of the item share, once there
--- is one; `further` the variable beside the known ones that stands free, where only one may.
+-- The numbers from 0 to 31 in order. `own` has the two variables that all `p*` and `p+` of the item share,
+-- once there is one; `further` the variable beside the known ones that stands free, where only one may.
 pub record NamingForm : Type 0 where
   pub slots : List SlotForm
   pub own : Option (ℕ × ℕ)

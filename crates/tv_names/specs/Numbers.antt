@@ -1,6 +1,8 @@
--- The variables of an item and their numbers, said of the list of what stands in its formulas: those that are new, in the
--- order of first sight, get the lowest numbers that stand for nothing yet, and there are 32 numbers.
-use Rattle.std.specs.Prelude.{ℕ, ◌≡◌, ◌+◌, ◌<◌, ◌≤◌, Bool, true, false, ◌||◌, List, [], ◌∷◌, ◌++◌, length, map, is_some, Ok, Err, if◌then◌else◌}
+-- The variables of an item and their numbers, said of the list of what stands in its formulas: those that are
+-- new, in the order of first sight, get the lowest numbers that stand for nothing yet, and there are 32
+-- numbers.
+use Rattle.std.specs.Prelude.{ℕ, ◌≡◌, ◌+◌, ◌<◌, ◌≤◌, Bool, true, false, ◌||◌, List, [], ◌∷◌, ◌++◌, length}
+use Rattle.std.specs.Prelude.{map, is_some, Ok, Err, if◌then◌else◌}
 use Rattle.std.specs.List.{list_any, flat_map}
 use Rattle.std.specs.Str.{bytes_eq}
 use Rattle.tv_model.specs.Form.{Form}
@@ -9,7 +11,8 @@ use Rattle.tv_names.specs.declared.refusal.ResolveError.TheVariants.{TooManyVari
 use Rattle.tv_names.specs.Naming.{SlotForm, Vacant, Nameless, Named, NamingForm, is_named}
 use Rattle.tv_names.specs.Resolving.{PlaceForm, resolved}
 
--- what asks for a number: a variable's name, or the own variables of `p*` and `p+`, which all of the item share
+-- what asks for a number: a variable's name, or the own variables of `p*` and `p+`, which all of the item
+-- share
 pub data Sight : Type 0 where
   OfName : List ℕ → Sight
   OfPair : Sight
@@ -49,7 +52,8 @@ is_numbered s OfPair = is_some s.own
 -- those that aren't known, each where it is seen first
 abbrev pub first_sights : (Sight → Bool) → List Sight → List Sight
 first_sights known [] = []
-first_sights known (x ∷ xs) = if known x then first_sights known xs else x ∷ first_sights (λ y. is_same_sight y x || known y) xs
+first_sights known (x ∷ xs) =
+    if known x then first_sights known xs else x ∷ first_sights (λ y. is_same_sight y x || known y) xs
 
 -- what it needs numbers for
 abbrev pub variables_of : Sight → List SlotForm
@@ -74,12 +78,13 @@ filled_with (Vacant ∷ slots) (x ∷ new) = x ∷ filled_with slots new
 filled_with (Nameless ∷ slots) (x ∷ new) = Nameless ∷ filled_with slots (x ∷ new)
 filled_with (Named name ∷ slots) (x ∷ new) = Named name ∷ filled_with slots (x ∷ new)
 
--- A formula that is resolved has numbers for all its variables: there was room for the new ones, and they got the lowest
--- vacant numbers in order of first sight.
+-- A formula that is resolved has numbers for all its variables: there was room for the new ones, and they got
+-- the lowest vacant numbers in order of first sight.
 abbrev pub NumbersFollowSights : Type 0
 NumbersFollowSights =
     (at : PlaceForm) (f : tree.Form) (s : NamingForm) (x : Form × NamingForm) → resolved at f s ≡ Ok x →
-    (x.1.slots ≡ filled_with s.slots (new_variables s (sights f))) × (length (new_variables s (sights f)) ≤ vacant_count s.slots)
+    (x.1.slots ≡ filled_with s.slots (new_variables s (sights f)))
+    × (length (new_variables s (sights f)) ≤ vacant_count s.slots)
 
 -- a formula has too many variables only where there is no room for the new ones
 abbrev pub TooManyHaveNoRoom : Type 0

@@ -1,5 +1,6 @@
 -- The variables that a step picks.
-use Rattle.std.specs.Prelude.{ℕ, ◌==◌, Bool, true, false, not, List, [], ◌∷◌, ◌++◌, fold, filter, get_or, slice_set, if◌then◌else◌}
+use Rattle.std.specs.Prelude.{ℕ, ◌==◌, Bool, true, false, not, List, [], ◌∷◌, ◌++◌, fold, filter, get_or}
+use Rattle.std.specs.Prelude.{slice_set, if◌then◌else◌}
 use Rattle.std.specs.List.{repeat, list_any}
 use Rattle.tv_model.specs.Form.{Form}
 use Rattle.tv_model.specs.Valid.{free_occurrences, first_occurrences}

@@ -19,8 +19,8 @@ abbrev pub Refuses : {Y : Type 0} → ResolveError → OrRefused Y → Type 0
 Refuses e defined = steps.Fails is_memory e defined
 
 -- what a function returned, seen by view, is what is defined, unless memory ran out
-abbrev pub Gives : {X Y : Type 0} → (X → Y) → OrRefused X → OrRefused Y → Type 0
-Gives view answer defined = steps.Gives is_memory view answer defined
+abbrev pub GivesOrRefuses : {X Y : Type 0} → (X → Y) → OrRefused X → OrRefused Y → Type 0
+GivesOrRefuses view answer defined = steps.Gives is_memory view answer defined
 
 -- each in its order, up to the first refusal
 abbrev pub one_by_one : {S A : Type 0} → (S → A → OrRefused S) → S → List A → OrRefused S

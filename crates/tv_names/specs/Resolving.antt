@@ -1,19 +1,22 @@
 -- Resolution of one formula: names become numbers, in reading order, and the first refusal decides.
-use Rattle.std.specs.Prelude.{ℕ, Bool, true, false, ◌&&◌, not, ◌==◌, List, [], ◌∷◌, ◌++◌, length, Option, Some, None, Ok, Err, get_or, slice_set, if◌then◌else◌}
+use Rattle.std.specs.Prelude.{ℕ, Bool, true, false, ◌&&◌, not, ◌==◌, List, [], ◌∷◌, ◌++◌, length, Option}
+use Rattle.std.specs.Prelude.{Some, None, Ok, Err, get_or, slice_set, if◌then◌else◌}
 use Rattle.std.specs.Str.{bytes_eq}
 use Rattle.tv_tree.specs.Forms as tree
 use Rattle.tv_tree.specs.Forms.{NameForm}
 use Rattle.tv_tree.specs.Names.{is_among, name_text}
-use Rattle.tv_model.specs.Form.{Form, FZero, FOne, FAtom, FIsNew, FSame, FNot, FAnd, FOr, FIff, FCond, FExists, FForall, FClosure}
-use Rattle.tv_names.specs.declared.refusal.ResolveError.TheVariants.{NameUnknown, NameTwice, ArityWrong, Reserved, VariableUnbound, HalfLiteral}
+use Rattle.tv_model.specs.Form.{Form, FZero, FOne, FAtom, FIsNew, FSame, FNot, FAnd, FOr, FIff, FCond}
+use Rattle.tv_model.specs.Form.{FExists, FForall, FClosure}
+use Rattle.tv_names.specs.declared.refusal.ResolveError.TheVariants.{NameUnknown, NameTwice, ArityWrong}
+use Rattle.tv_names.specs.declared.refusal.ResolveError.TheVariants.{Reserved, VariableUnbound, HalfLiteral}
 use Rattle.tv_names.specs.declared.place.Others.{Others}
 use Rattle.tv_names.specs.declared.place.Others.TheVariants.{Any, Never, Once}
 use Rattle.tv_names.specs.Refusal.{◌>>=◌, OrRefused, refused_if, or_refused}
 use Rattle.tv_names.specs.Symbols.{SymbolForm, is_sm, is_new_word, symbol_of}
 use Rattle.tv_names.specs.Naming.{NamingForm, number_of, sighted, own_pair}
 
--- Where a formula stands: the predicates, whether `isNew` is allowed, which variables are known, by number, since a
--- quantifier around binds them or they are allowed to be free, and which others may be free.
+-- Where a formula stands: the predicates, whether `isNew` is allowed, which variables are known, by number,
+-- since a quantifier around binds them or they are allowed to be free, and which others may be free.
 pub record PlaceForm : Type 0 where
   pub symbols : List SymbolForm
   pub with_new : Bool
@@ -41,7 +44,8 @@ abbrev pub other_variable : Others → List ℕ → NamingForm → Numbered ℕ
 other_variable Any name s = sighted name s
 other_variable Never name s = Err VariableUnbound
 other_variable Once name s =
-    if is_the_further s.further (number_of name s.slots) then (sighted name s >>= λ x. Ok (noted x)) else Err VariableUnbound
+    if is_the_further s.further (number_of name s.slots) then (sighted name s >>= λ x. Ok (noted x))
+    else Err VariableUnbound
 
 -- an occurrence of a variable
 unfoldable pub occurrence : PlaceForm → List ℕ → NamingForm → Numbered ℕ
@@ -113,7 +117,8 @@ abbrev pub under : PlaceForm → ℕ → PlaceForm
 under at n = record at { known = slice_set at.known n true }
 
 -- a body under quantifiers of these names, where the quantifiers before them have the earlier names
-abbrev pub quantified : (ℕ → Form → Form) → (PlaceForm → NamingForm → Numbered Form) → PlaceForm → (earlier names : List (List ℕ)) → NamingForm → Numbered Form
+abbrev pub quantified : (ℕ → Form → Form) → (PlaceForm → NamingForm → Numbered Form) → PlaceForm
+    → (earlier names : List (List ℕ)) → NamingForm → Numbered Form
 quantified quantifier body at earlier [] s = body at s
 quantified quantifier body at earlier (name ∷ names) s = do
   new ← refused_if (is_among earlier name) NameTwice

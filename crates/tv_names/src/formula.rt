@@ -1,16 +1,20 @@
 //! Resolution of one formula, in reading order.
 
-ghost use Rattle.std.specs.Prelude.{ℕ, ◌≡◌, ◌≤◌, Bool, Option, Some, None, map, length, get_or, take, drop, IfOk};
+ghost use Rattle.std.specs.Prelude.{ℕ, ◌≡◌, ◌≤◌, Bool, Option, Some, None, map, length, get_or, take, drop};
+ghost use Rattle.std.specs.Prelude.{IfOk};
 ghost use Rattle.tv_tree.specs.Copies.{name_of, form_of as tree_of};
 ghost use Rattle.tv_tree.specs.Forms.{FSame, FImp, FTc, FAtom, FStar, FPlus};
 ghost use Rattle.tv_model.specs.Form.{Form, form_of, vars_of, FExists, FForall};
 ghost use Rattle.tv_names.specs.declared.place.Others.TheVariants.{Once};
-ghost use Rattle.tv_names.specs.Refusal.{Gives};
+ghost use Rattle.tv_names.specs.Refusal.{GivesOrRefuses};
 ghost use Rattle.tv_names.specs.Quantifiers.{quantifier_of};
 ghost use Rattle.tv_tree.specs.Names.{name_text};
 ghost use Rattle.tv_names.specs.Naming.{number_of};
-ghost use Rattle.tv_names.specs.Copies.{naming_of, place_of};
-ghost use Rattle.tv_names.specs.Resolving.{is_known_at, is_the_further, other_variable, occurrence, two_occurrences, terms, pred_at, new_atom, pred_atom, atom, closable, star, star_of, closure_of, under, quantified, two_bound, resolved};
+ghost use Rattle.tv_names.specs.Copies.{naming_of, place_form};
+ghost use Rattle.tv_names.specs.Resolving.{is_known_at, is_the_further, other_variable, occurrence};
+ghost use Rattle.tv_names.specs.Resolving.{two_occurrences, terms, pred_at, new_atom, pred_atom, atom};
+ghost use Rattle.tv_names.specs.Resolving.{closable, star, star_of, closure_of, under, quantified, two_bound};
+ghost use Rattle.tv_names.specs.Resolving.{resolved};
 
 use crate::naming::Naming;
 use crate::place::{Others, Place};
@@ -21,7 +25,7 @@ use tv_model::{Formula, PredId, Terms, Var};
 use tv_tree::{FormulaTree, Name, Spelling, is_among, name_text};
 
 fn is_known(place: &Place<'_>, number: Option<u8>) -> bool
-    ensures { result ≡ is_known_at (place_of place.now).known number }
+    ensures { result ≡ is_known_at (place_form place.now).known number }
 {
     match number {
         None => false,
@@ -40,7 +44,8 @@ fn is_the_further(further: Option<u8>, number: Option<u8>) -> bool
 }
 
 fn further_variable<'a>(naming: &mut Naming<'a>, name: &'a [u8]) -> Result<u8, ResolveError>
-    ensures { Gives (λ n. (n, naming_of naming.new)) result (other_variable Once name.now (naming_of naming.old)) }
+    ensures { GivesOrRefuses (λ n. (n, naming_of naming.new)) result
+        (other_variable Once name.now (naming_of naming.old)) }
 {
     if !is_the_further(naming.further(), naming.number_of(name)) {
         return Err(ResolveError::VariableUnbound);
@@ -55,7 +60,8 @@ fn other_variable<'a>(
     naming: &mut Naming<'a>,
     name: &'a [u8],
 ) -> Result<u8, ResolveError>
-    ensures { Gives (λ n. (n, naming_of naming.new)) result (other_variable others name.now (naming_of naming.old)) }
+    ensures { GivesOrRefuses (λ n. (n, naming_of naming.new)) result
+        (other_variable others name.now (naming_of naming.old)) }
 {
     match others {
         Others::Any => naming.sight(name),
@@ -70,7 +76,8 @@ fn occurrence<'a>(
     name: &'a [u8],
     naming: &mut Naming<'a>,
 ) -> Result<u8, ResolveError>
-    ensures { Gives (λ n. (n, naming_of naming.new)) result (occurrence (place_of place.now) name.now (naming_of naming.old)) }
+    ensures { GivesOrRefuses (λ n. (n, naming_of naming.new)) result
+        (occurrence (place_form place.now) name.now (naming_of naming.old)) }
 {
     if is_known(place, naming.number_of(name)) {
         naming.sight(name)
@@ -86,7 +93,8 @@ fn two_occurrences<'a>(
     w: &'a Spelling,
     naming: &mut Naming<'a>,
 ) -> Result<(u8, u8), ResolveError>
-    ensures { Gives (λ n. (n, naming_of naming.new)) result (two_occurrences (place_of place.now) v.now w.now (naming_of naming.old)) }
+    ensures { GivesOrRefuses (λ n. (n, naming_of naming.new)) result
+        (two_occurrences (place_form place.now) v.now w.now (naming_of naming.old)) }
 {
     let a = occurrence(place, &v.0, naming)?;
     let b = occurrence(place, &w.0, naming)?;
@@ -98,7 +106,8 @@ fn terms_at<'a>(
     arguments: &'a [Spelling],
     naming: &mut Naming<'a>,
 ) -> Result<Terms, ResolveError>
-    ensures { Gives (λ ts. (vars_of ts, naming_of naming.new)) result (terms (place_of place.now) arguments.now (naming_of naming.old)) }
+    ensures { GivesOrRefuses (λ ts. (vars_of ts, naming_of naming.new)) result
+        (terms (place_form place.now) arguments.now (naming_of naming.old)) }
 {
     match arguments {
         [] => Ok(Terms::Zero),
@@ -113,7 +122,7 @@ fn terms_at<'a>(
 
 #[tactic(auto, unfolding(crate::specs::Resolving::pred_at))]
 fn pred_at(place: &Place<'_>, name: &[u8], arguments: usize) -> Result<PredId, ResolveError>
-    ensures { Gives (λ p. p.0) result (pred_at (place_of place.now) name.now arguments) }
+    ensures { GivesOrRefuses (λ p. p.0) result (pred_at (place_form place.now) name.now arguments) }
 {
     match place.symbols.find(name) {
         None => Err(ResolveError::NameUnknown),
@@ -132,7 +141,8 @@ fn new_atom<'a>(
     arguments: &'a [Spelling],
     naming: &mut Naming<'a>,
 ) -> Result<Formula, ResolveError>
-    ensures { Gives (λ f. (form_of f, naming_of naming.new)) result (new_atom (place_of place.now) arguments.now (naming_of naming.old)) }
+    ensures { GivesOrRefuses (λ f. (form_of f, naming_of naming.new)) result
+        (new_atom (place_form place.now) arguments.now (naming_of naming.old)) }
 {
     match arguments {
         [v] => Ok(Formula::IsNew(Var(occurrence(place, &v.0, naming)?))),
@@ -147,7 +157,8 @@ fn pred_atom<'a>(
     arguments: &'a [Spelling],
     naming: &mut Naming<'a>,
 ) -> Result<Formula, ResolveError>
-    ensures { Gives (λ f. (form_of f, naming_of naming.new)) result (pred_atom (place_of place.now) name.now arguments.now (naming_of naming.old)) }
+    ensures { GivesOrRefuses (λ f. (form_of f, naming_of naming.new)) result
+        (pred_atom (place_form place.now) name.now arguments.now (naming_of naming.old)) }
 {
     let pred = pred_at(place, name, arguments.len())?;
     let terms = terms_at(place, arguments, naming)?;
@@ -161,7 +172,8 @@ fn atom<'a>(
     arguments: &'a [Spelling],
     naming: &mut Naming<'a>,
 ) -> Result<Formula, ResolveError>
-    ensures { Gives (λ f. (form_of f, naming_of naming.new)) result (atom (place_of place.now) name.now arguments.now (naming_of naming.old)) }
+    ensures { GivesOrRefuses (λ f. (form_of f, naming_of naming.new)) result
+        (atom (place_form place.now) name.now arguments.now (naming_of naming.old)) }
 {
     if is_sm(name) {
         return Err(ResolveError::Reserved);
@@ -175,7 +187,7 @@ fn atom<'a>(
 
 #[tactic(auto, unfolding(crate::specs::Resolving::closable))]
 fn closable(place: &Place<'_>, name: &[u8]) -> Result<PredId, ResolveError>
-    ensures { Gives (λ p. p.0) result (closable (place_of place.now) name.now) }
+    ensures { GivesOrRefuses (λ p. p.0) result (closable (place_form place.now) name.now) }
 {
     if is_sm(name) {
         return Err(ResolveError::Reserved);
@@ -237,7 +249,9 @@ fn star_at<'a>(
     written: StarTree<'a>,
     naming: &mut Naming<'a>,
 ) -> Result<Formula, ResolveError>
-    ensures { Gives (λ f. (form_of f, naming_of naming.new)) result (star (place_of place.now) written.entry.reflexive (name_text (name_of written.entry.name.now)) written.entry.from.now written.entry.to.now (naming_of naming.old)) }
+    ensures { GivesOrRefuses (λ f. (form_of f, naming_of naming.new)) result
+        (star (place_form place.now) written.entry.reflexive (name_text (name_of written.entry.name.now))
+        written.entry.from.now written.entry.to.now (naming_of naming.old)) }
 {
     let name = name_text(alloc, written.name)?;
     let pred = closable(place, &name)?;
@@ -255,7 +269,8 @@ fn star<'a>(
     w: &'a Spelling,
     naming: &mut Naming<'a>,
 ) -> Result<Formula, ResolveError>
-    ensures { Gives (λ f. (form_of f, naming_of naming.new)) result (resolved (place_of place.now) (FStar (name_of name.now) v.now w.now) (naming_of naming.old)) }
+    ensures { GivesOrRefuses (λ f. (form_of f, naming_of naming.new)) result
+        (resolved (place_form place.now) (FStar (name_of name.now) v.now w.now) (naming_of naming.old)) }
 {
     let written = StarTree {
         reflexive: true,
@@ -275,7 +290,8 @@ fn plus<'a>(
     w: &'a Spelling,
     naming: &mut Naming<'a>,
 ) -> Result<Formula, ResolveError>
-    ensures { Gives (λ f. (form_of f, naming_of naming.new)) result (resolved (place_of place.now) (FPlus (name_of name.now) v.now w.now) (naming_of naming.old)) }
+    ensures { GivesOrRefuses (λ f. (form_of f, naming_of naming.new)) result
+        (resolved (place_form place.now) (FPlus (name_of name.now) v.now w.now) (naming_of naming.old)) }
 {
     let written = StarTree {
         reflexive: false,
@@ -294,7 +310,8 @@ fn named_atom<'a>(
     arguments: &'a [Spelling],
     naming: &mut Naming<'a>,
 ) -> Result<Formula, ResolveError>
-    ensures { Gives (λ f. (form_of f, naming_of naming.new)) result (resolved (place_of place.now) (FAtom (name_of name.now) arguments.now) (naming_of naming.old)) }
+    ensures { GivesOrRefuses (λ f. (form_of f, naming_of naming.new)) result
+        (resolved (place_form place.now) (FAtom (name_of name.now) arguments.now) (naming_of naming.old)) }
 {
     let name = name_text(alloc, name)?;
     atom(place, &name, arguments, naming)
@@ -307,7 +324,8 @@ fn same<'a>(
     w: &'a Spelling,
     naming: &mut Naming<'a>,
 ) -> Result<Formula, ResolveError>
-    ensures { Gives (λ f. (form_of f, naming_of naming.new)) result (resolved (place_of place.now) (FSame v.now w.now) (naming_of naming.old)) }
+    ensures { GivesOrRefuses (λ f. (form_of f, naming_of naming.new)) result
+        (resolved (place_form place.now) (FSame v.now w.now) (naming_of naming.old)) }
 {
     let (a, b) = two_occurrences(place, v, w, naming)?;
     Ok(Formula::Same(Var(a), Var(b)))
@@ -319,7 +337,8 @@ fn two_bound<'a>(
     right: &'a Spelling,
     naming: &mut Naming<'a>,
 ) -> Result<(u8, u8), ResolveError>
-    ensures { Gives (λ n. (n, naming_of naming.new)) result (two_bound left.now right.now (naming_of naming.old)) }
+    ensures { GivesOrRefuses (λ n. (n, naming_of naming.new)) result
+        (two_bound left.now right.now (naming_of naming.old)) }
 {
     let a = naming.sight(&left.0)?;
     if left.0.as_slice() == right.0.as_slice() {
@@ -355,7 +374,8 @@ fn boxed<'a>(
     f: &'a FormulaTree,
     naming: &mut Naming<'a>,
 ) -> Result<Box<Formula>, ResolveError>
-    ensures { Gives (λ g. (form_of g.value, naming_of naming.new)) result (resolved (place_of place.now) (tree_of f.now) (naming_of naming.old)) }
+    ensures { GivesOrRefuses (λ g. (form_of g.value, naming_of naming.new)) result
+        (resolved (place_form place.now) (tree_of f.now) (naming_of naming.old)) }
 {
     Ok(Box::new(alloc, resolve_formula(alloc, place, f, naming)?)?)
 }
@@ -372,7 +392,9 @@ fn quantified<'a>(
     naming: &mut Naming<'a>,
 ) -> Result<Formula, ResolveError>
     requires { at ≤ length names.now }
-    ensures { Gives (λ f. (form_of f, naming_of naming.new)) result (quantified (quantifier_of quantifier) (λ inner t. resolved inner (tree_of body.now) t) (place_of place.now) (take at names.now) (drop at names.now) (naming_of naming.old)) }
+    ensures { GivesOrRefuses (λ f. (form_of f, naming_of naming.new)) result
+        (quantified (quantifier_of quantifier) (λ inner t. resolved inner (tree_of body.now) t)
+        (place_form place.now) (take at names.now) (drop at names.now) (naming_of naming.old)) }
 {
     if at == names.len() {
         return resolve_formula(alloc, place, body, naming);
@@ -403,7 +425,8 @@ fn implication<'a>(
     g: &'a FormulaTree,
     naming: &mut Naming<'a>,
 ) -> Result<Formula, ResolveError>
-    ensures { Gives (λ h. (form_of h, naming_of naming.new)) result (resolved (place_of place.now) (FImp (tree_of f.now) (tree_of g.now)) (naming_of naming.old)) }
+    ensures { GivesOrRefuses (λ h. (form_of h, naming_of naming.new)) result
+        (resolved (place_form place.now) (FImp (tree_of f.now) (tree_of g.now)) (naming_of naming.old)) }
 {
     let left = Formula::Not(boxed(alloc, place, f, naming)?);
     let right = boxed(alloc, place, g, naming)?;
@@ -428,7 +451,9 @@ fn closure<'a>(
     body: &'a FormulaTree,
     naming: &mut Naming<'a>,
 ) -> Result<Formula, ResolveError>
-    ensures { Gives (λ h. (form_of h, naming_of naming.new)) result (resolved (place_of place.now) (FTc written.entry.from.now written.entry.to.now written.entry.left.now written.entry.right.now (tree_of body.now)) (naming_of naming.old)) }
+    ensures { GivesOrRefuses (λ h. (form_of h, naming_of naming.new)) result (resolved (place_form place.now)
+        (FTc written.entry.from.now written.entry.to.now written.entry.left.now written.entry.right.now
+        (tree_of body.now)) (naming_of naming.old)) }
 {
     let (from, to) = two_occurrences(place, written.from, written.to, naming)?;
     let (left, right) = two_bound(written.left, written.right, naming)?;
@@ -452,7 +477,8 @@ pub fn resolve_formula<'a>(
     f: &'a FormulaTree,
     naming: &mut Naming<'a>,
 ) -> Result<Formula, ResolveError>
-    ensures { Gives (λ g. (form_of g, naming_of naming.new)) result (resolved (place_of place.now) (tree_of f.now) (naming_of naming.old)) }
+    ensures { GivesOrRefuses (λ g. (form_of g, naming_of naming.new)) result
+        (resolved (place_form place.now) (tree_of f.now) (naming_of naming.old)) }
 {
     match f {
         FormulaTree::Zero => Ok(Formula::Zero),

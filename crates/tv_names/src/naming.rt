@@ -2,8 +2,10 @@
 
 ghost use Rattle.std.specs.Prelude.{◌≡◌, ◌<◌, ℕ, IfSome, Some, None, Option, map, position, slice_set, IfOk};
 ghost use Rattle.tv_model.specs.Form.{vars_of};
-ghost use Rattle.tv_names.specs.Refusal.{Gives};
-ghost use Rattle.tv_names.specs.Naming.{is_vacant, is_named, number_of, filled, Vacant, Named, Nameless, sighted, hidden, hidden_slot, declared, two_declared, declared_all, two_more, own_pair, no_names, kept_slot, kept_from};
+ghost use Rattle.tv_names.specs.Refusal.{GivesOrRefuses};
+ghost use Rattle.tv_names.specs.Naming.{is_vacant, is_named, number_of, filled, Vacant, Named, Nameless};
+ghost use Rattle.tv_names.specs.Naming.{sighted, hidden, hidden_slot, declared, two_declared, declared_all};
+ghost use Rattle.tv_names.specs.Naming.{two_more, own_pair, no_names, kept_slot, kept_from};
 ghost use Rattle.tv_names.specs.Copies.{slot_of, naming_of};
 
 use crate::place::Known;
@@ -143,7 +145,8 @@ impl<'a> Naming<'a> {
     /// A further variable: it gets the lowest number that stands for nothing yet.
     #[tactic(auto, unfolding(crate::specs::Naming::filled))]
     pub fn fill(&mut self, slot: Slot<'a>) -> Result<u8, ResolveError>
-        ensures { Gives (λ n. (n, naming_of self.new)) result (filled (slot_of slot.entry) (naming_of self.old)) }
+        ensures { GivesOrRefuses (λ n. (n, naming_of self.new)) result
+            (filled (slot_of slot.entry) (naming_of self.old)) }
     {
         match self.vacancy() {
             Some(n) => {
@@ -157,7 +160,8 @@ impl<'a> Naming<'a> {
     /// The number of a name that is seen: its own, or a new one.
     #[tactic(auto, unfolding(crate::specs::Naming::sighted))]
     pub fn sight(&mut self, name: &'a [u8]) -> Result<u8, ResolveError>
-        ensures { Gives (λ n. (n, naming_of self.new)) result (sighted name.now (naming_of self.old)) }
+        ensures { GivesOrRefuses (λ n. (n, naming_of self.new)) result
+            (sighted name.now (naming_of self.old)) }
     {
         match self.number_of(name) {
             Some(n) => Ok(n),
@@ -169,7 +173,8 @@ impl<'a> Naming<'a> {
     /// variable of the same name.
     #[tactic(auto, unfolding(crate::specs::Naming::declared))]
     pub fn declare(&mut self, name: &'a [u8]) -> Result<u8, ResolveError>
-        ensures { Gives (λ n. (n, naming_of self.new)) result (declared name.now (naming_of self.old)) }
+        ensures { GivesOrRefuses (λ n. (n, naming_of self.new)) result
+            (declared name.now (naming_of self.old)) }
     {
         hide(&mut self.slots, name);
         self.fill(Slot::Named(name))
@@ -177,7 +182,8 @@ impl<'a> Naming<'a> {
 
     #[tactic(auto, unfolding(crate::specs::Naming::two_declared))]
     fn declare_two(&mut self, v: &'a Spelling, w: &'a Spelling) -> Result<Terms, ResolveError>
-        ensures { Gives (λ ts. (vars_of ts, naming_of self.new)) result (two_declared v.now w.now (naming_of self.old)) }
+        ensures { GivesOrRefuses (λ ts. (vars_of ts, naming_of self.new)) result
+            (two_declared v.now w.now (naming_of self.old)) }
     {
         let a = self.declare(&v.0)?;
         let b = self.declare(&w.0)?;
@@ -186,7 +192,8 @@ impl<'a> Naming<'a> {
 
     /// The own variables of a definition or an update; no predicate has more than two.
     pub fn declare_all(&mut self, params: &'a [Spelling]) -> Result<Terms, ResolveError>
-        ensures { Gives (λ ts. (vars_of ts, naming_of self.new)) result (declared_all params.now (naming_of self.old)) }
+        ensures { GivesOrRefuses (λ ts. (vars_of ts, naming_of self.new)) result
+            (declared_all params.now (naming_of self.old)) }
     {
         match params {
             [] => Ok(Terms::Zero),
@@ -198,7 +205,7 @@ impl<'a> Naming<'a> {
 
     #[tactic(auto, unfolding(crate::specs::Naming::two_more))]
     fn two_more(&mut self) -> Result<(u8, u8), ResolveError>
-        ensures { Gives (λ pair. (pair, naming_of self.new)) result (two_more (naming_of self.old)) }
+        ensures { GivesOrRefuses (λ pair. (pair, naming_of self.new)) result (two_more (naming_of self.old)) }
     {
         let left = self.fill(Slot::Nameless)?;
         let right = self.fill(Slot::Nameless)?;
@@ -209,7 +216,7 @@ impl<'a> Naming<'a> {
     /// The two variables that all `p*` and `p+` of the item share.
     #[tactic(auto, unfolding(crate::specs::Naming::own_pair))]
     pub fn own_pair(&mut self) -> Result<(u8, u8), ResolveError>
-        ensures { Gives (λ pair. (pair, naming_of self.new)) result (own_pair (naming_of self.old)) }
+        ensures { GivesOrRefuses (λ pair. (pair, naming_of self.new)) result (own_pair (naming_of self.old)) }
     {
         match self.own {
             Some(pair) => Ok(pair),
@@ -219,7 +226,8 @@ impl<'a> Naming<'a> {
 
     /// Keeps the picked variables alone, with their names and numbers.
     pub fn keep_picks(&mut self, picks: Known)
-        ensures { naming_of self.new ≡ record no_names { slots = kept_from 0 picks.flags (naming_of self.old).slots } }
+        ensures { naming_of self.new
+            ≡ record no_names { slots = kept_from 0 picks.flags (naming_of self.old).slots } }
     {
         keep(&mut self.slots, picks);
         self.own = None;

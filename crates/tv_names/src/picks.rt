@@ -47,7 +47,8 @@ fn is_one_of(picks: &[Var], v: Var) -> bool
 }
 
 fn pick(bound: &Bound, v: Var, picks: &mut Vec<Var>) -> Result<(), AllocError>
-    ensures { OnOk result (picks_of picks.new.items ≡ with_picks (picks_of picks.old.items) (unbound bound.now.flags (v.0 ∷ []))) }
+    ensures { OnOk result (picks_of picks.new.items
+        ≡ with_picks (picks_of picks.old.items) (unbound bound.now.flags (v.0 ∷ []))) }
 {
     if !bound.has(v) && !is_one_of(picks, v) {
         picks.push(v)?;
@@ -57,14 +58,16 @@ fn pick(bound: &Bound, v: Var, picks: &mut Vec<Var>) -> Result<(), AllocError>
 
 #[tactic(auto, using(crate::proofs::PickLaws::picks_append, crate::proofs::PickLaws::picks_cons))]
 fn pick_two(bound: &Bound, v: Var, w: Var, picks: &mut Vec<Var>) -> Result<(), AllocError>
-    ensures { OnOk result (picks_of picks.new.items ≡ with_picks (picks_of picks.old.items) (unbound bound.now.flags (v.0 ∷ w.0 ∷ []))) }
+    ensures { OnOk result (picks_of picks.new.items
+        ≡ with_picks (picks_of picks.old.items) (unbound bound.now.flags (v.0 ∷ w.0 ∷ []))) }
 {
     pick(bound, v, picks)?;
     pick(bound, w, picks)
 }
 
 fn pick_terms(bound: &Bound, terms: &Terms, picks: &mut Vec<Var>) -> Result<(), AllocError>
-    ensures { OnOk result (picks_of picks.new.items ≡ with_picks (picks_of picks.old.items) (unbound bound.now.flags (vars_of terms.now))) }
+    ensures { OnOk result (picks_of picks.new.items
+        ≡ with_picks (picks_of picks.old.items) (unbound bound.now.flags (vars_of terms.now))) }
 {
     match terms {
         Terms::Zero => Ok(()),
@@ -75,7 +78,8 @@ fn pick_terms(bound: &Bound, terms: &Terms, picks: &mut Vec<Var>) -> Result<(), 
 
 #[cycle(pick)]
 fn pick_under(bound: &Bound, v: Var, f: &Formula, picks: &mut Vec<Var>) -> Result<(), AllocError>
-    ensures { OnOk result (picks_of picks.new.items ≡ with_picks (picks_of picks.old.items) (unbound bound.now.flags (without v.0 (free_occurrences (form_of f.now))))) }
+    ensures { OnOk result (picks_of picks.new.items ≡ with_picks (picks_of picks.old.items)
+        (unbound bound.now.flags (without v.0 (free_occurrences (form_of f.now))))) }
 {
     pick_all(&bound.with(v), f, picks)
 }
@@ -88,7 +92,8 @@ fn pick_under_two(
     f: &Formula,
     picks: &mut Vec<Var>,
 ) -> Result<(), AllocError>
-    ensures { OnOk result (picks_of picks.new.items ≡ with_picks (picks_of picks.old.items) (unbound bound.now.flags (without left.0 (without right.0 (free_occurrences (form_of f.now)))))) }
+    ensures { OnOk result (picks_of picks.new.items ≡ with_picks (picks_of picks.old.items)
+        (unbound bound.now.flags (without left.0 (without right.0 (free_occurrences (form_of f.now)))))) }
 {
     pick_under(&bound.with(left), right, f, picks)
 }
@@ -102,7 +107,9 @@ fn pick_closure(
     body: &Formula,
     picks: &mut Vec<Var>,
 ) -> Result<(), AllocError>
-    ensures { OnOk result (picks_of picks.new.items ≡ with_picks (picks_of picks.old.items) (unbound bound.now.flags ((ends.0.0 ∷ ends.1.0 ∷ []) ++ without own.0.0 (without own.1.0 (free_occurrences (form_of body.now)))))) }
+    ensures { OnOk result (picks_of picks.new.items
+        ≡ with_picks (picks_of picks.old.items) (unbound bound.now.flags ((ends.0.0 ∷ ends.1.0 ∷ [])
+        ++ without own.0.0 (without own.1.0 (free_occurrences (form_of body.now)))))) }
 {
     pick_two(bound, ends.0, ends.1, picks)?;
     pick_under_two(bound, own.0, own.1, body, picks)
@@ -111,7 +118,8 @@ fn pick_closure(
 #[cycle(pick)]
 #[tactic(auto, using(crate::proofs::PickLaws::picks_append))]
 fn pick_all(bound: &Bound, f: &Formula, picks: &mut Vec<Var>) -> Result<(), AllocError>
-    ensures { OnOk result (picks_of picks.new.items ≡ with_picks (picks_of picks.old.items) (unbound bound.now.flags (free_occurrences (form_of f.now)))) }
+    ensures { OnOk result (picks_of picks.new.items ≡ with_picks (picks_of picks.old.items)
+        (unbound bound.now.flags (free_occurrences (form_of f.now)))) }
 {
     match f {
         Formula::Zero | Formula::One => Ok(()),

@@ -5,7 +5,7 @@ ghost use Rattle.std.specs.List.{repeat};
 ghost use Rattle.tv_model.specs.Form.{vars_of};
 ghost use Rattle.tv_model.specs.Program.{picks_of};
 ghost use Rattle.tv_names.specs.Picks.{flagged, flags_of};
-ghost use Rattle.tv_names.specs.Copies.{place_of};
+ghost use Rattle.tv_names.specs.Copies.{place_form};
 ghost use Rattle.tv_names.specs.Resolving.{under};
 
 use crate::symbols::Symbols;
@@ -96,7 +96,7 @@ pub struct Place<'a> {
 impl<'a> Place<'a> {
     /// The place under a quantifier of this variable.
     pub fn under(&self, v: u8) -> Place<'a>
-        ensures { place_of result ≡ under (place_of self.now) v }
+        ensures { place_form result ≡ under (place_form self.now) v }
     {
         Place {
             symbols: self.symbols,

@@ -1,6 +1,7 @@
 //! The names of predicates, and the numbers that they have.
 
-ghost use Rattle.std.specs.Prelude.{ℕ, ◌≡◌, ◌+◌, ◌<◌, ◌≤◌, ◌++◌, ◌∷◌, [], length, Option, Some, None, IfOk, OnOk, MatchOption, codes};
+ghost use Rattle.std.specs.Prelude.{ℕ, ◌≡◌, ◌+◌, ◌<◌, ◌≤◌, ◌++◌, ◌∷◌, [], length, Option, Some, None, IfOk};
+ghost use Rattle.std.specs.Prelude.{OnOk, MatchOption, codes};
 ghost use Rattle.std.specs.Option.{option_map};
 ghost use Rattle.std.specs.Str.{bytes_eq};
 ghost use Rattle.tv_names.specs.Symbols.{is_sm, is_new_word, is_reserved, symbol_of, KnownForm};
@@ -70,7 +71,8 @@ impl Symbols {
 
     /// The predicate of this name.
     pub fn find(&self, name: &[u8]) -> Option<KnownSymbol>
-        ensures { option_map (λ k. record { pred = k.pred; arity = k.arity }) result ≡ symbol_of name.now (symbols_of self.now) }
+        ensures { option_map (λ k. record { pred = k.pred; arity = k.arity }) result
+            ≡ symbol_of name.now (symbols_of self.now) }
     {
         match self.entries.get_full(name) {
             Some((number, _, arity)) => Some(KnownSymbol {
@@ -85,7 +87,8 @@ impl Symbols {
     pub fn declare(&mut self, name: Vec<u8>, arity: u8) -> Result<(), AllocError>
         requires new { symbol_of name.items (symbols_of self.old) ≡ None }
         requires room { length (symbols_of self.old) < 512 }
-        ensures { OnOk result (symbols_of self.new ≡ symbols_of self.old ++ record { name = name.items; arity = arity } ∷ []) }
+        ensures { OnOk result
+            (symbols_of self.new ≡ symbols_of self.old ++ record { name = name.items; arity = arity } ∷ []) }
     {
         self.entries.insert(name, arity)?;
         Ok(())

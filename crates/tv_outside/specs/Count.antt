@@ -13,7 +13,7 @@ counted old n = min (old + n) count_max
 abbrev pub Rose : ℕ → ℕ → Type 0
 Rose old new = new < count_max → old < new
 
--- Of the calls in between exactly one failed, and it was the last one: the failures are one more, and since the
--- last failure no call has succeeded.
+-- Of the calls in between exactly one failed, and it was the last one: the failures are one more, and since
+-- the last failure no call has succeeded.
 abbrev pub FailedLast : ℕ → ℕ → ℕ → Type 0
 FailedLast old new since = (new ≡ counted old 1) × (since ≡ 0)

@@ -22,7 +22,8 @@ left_of contents (Some place) = drop place.at (get_or contents place.file [])
 -- the place is in one of the files
 abbrev pub IsWithin : List (List ℕ) → Option Place → Type 0
 IsWithin contents None = Unit {0}
-IsWithin contents (Some place) = (place.file < length contents) × (place.at ≤ length (get_or contents place.file []))
+IsWithin contents (Some place) =
+    (place.file < length contents) × (place.at ≤ length (get_or contents place.file []))
 
 -- a sink in memory, with the room that is left in it, how many of its calls have failed, and how many have
 -- succeeded since

@@ -1,5 +1,6 @@
 -- What files and sinks tell of their bytes. An untold meaning is `None`, and nothing is said of it.
-use Rattle.std.specs.Prelude.{◌≡◌, ℕ, ◌<◌, List, [], ◌∷◌, ◌++◌, length, Option, Some, None, IsSome, if◌then◌else◌}
+use Rattle.std.specs.Prelude.{◌≡◌, ℕ, ◌<◌, List, [], ◌∷◌, ◌++◌, length, Option, Some, None, IsSome}
+use Rattle.std.specs.Prelude.{if◌then◌else◌}
 use Rattle.std.specs.Str.{bytes_eq}
 
 -- a finite map from names to bytes; of two pairs with one name the first counts
@@ -24,7 +25,8 @@ IsContent (Some held) name bytes = content_of held name ≡ Some bytes
 -- the name holds more than this many bytes, where that is told
 abbrev pub IsLonger : Option Held → List ℕ → ℕ → Type 0
 IsLonger None name limit = Unit {0}
-IsLonger (Some held) name limit = (bytes : List ℕ) × (content_of held name ≡ Some bytes) × (limit < length bytes)
+IsLonger (Some held) name limit =
+    (bytes : List ℕ) × (content_of held name ≡ Some bytes) × (limit < length bytes)
 
 -- the current file is this name's, at its first byte: where it is told what the names hold, the name holds
 -- something, and that is what is left

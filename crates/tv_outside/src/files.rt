@@ -1,5 +1,6 @@
 //! Files by name, read piece by piece.
-ghost use Rattle.std.specs.Prelude.{◌≡◌, ℕ, ◌<◌, ◌≤◌, List, length, take, Option, IsOk, IsSome, IfOk, OnOk, OnErr};
+ghost use Rattle.std.specs.Prelude.{◌≡◌, ℕ, ◌<◌, ◌≤◌, List, length, take, Option, IsOk, IsSome, IfOk, OnOk};
+ghost use Rattle.std.specs.Prelude.{OnErr};
 ghost use Rattle.tv_outside.specs.Count.{count_max, counted, Rose};
 ghost use Rattle.tv_outside.specs.Told.{Held, HoldsName, BeginsAt, GaveFront, AtEnd};
 
@@ -45,8 +46,8 @@ pub trait Files {
         ensures held { steady self.old → HoldsName (holds self.old) name.now
             → IsOk result × (faults self.new ≡ faults self.old) };
 
-    /// Fills a front of `buf` with the next bytes of the current file and gives their number. For a `buf` that
-    /// isn't empty, 0 means the end of the file. Before the first `begin` nothing is left.
+    /// Fills a front of `buf` with the next bytes of the current file and gives their number. For a `buf`
+    /// that isn't empty, 0 means the end of the file. Before the first `begin` nothing is left.
     fn piece(&mut self, buf: &mut [u8]) -> Result<usize, Failed>
         ensures count { faults self.old ≤ faults self.new }
         ensures failed { OnErr result (Rose (faults self.old) (faults self.new)) }

@@ -1,5 +1,7 @@
 //! Files in memory.
-ghost use Rattle.std.specs.Prelude.{◌≡◌, ◌<◌, ◌≤◌, ◌+◌, ◌⊎◌, ◌↔◌, ◌++◌, min, map, length, take, drop, Option, Some, None, [], IsErr, IfOk, OnOk, OnErr, Contains, IfSome, IfNone, IsSome, IsTrue};
+ghost use Rattle.std.specs.Prelude.{◌≡◌, ◌<◌, ◌≤◌, ◌+◌, ◌⊎◌, ◌↔◌, ◌++◌, min, map, length, take, drop, Option};
+ghost use Rattle.std.specs.Prelude.{Some, None, [], IsErr, IfOk, OnOk, OnErr, Contains, IfSome, IfNone};
+ghost use Rattle.std.specs.Prelude.{IsSome, IsTrue};
 ghost use Rattle.std.specs.List.{zip, position_from};
 ghost use Rattle.std.specs.Str.{bytes_eq};
 ghost use Rattle.std.specs.String.{string_bytes};
@@ -62,8 +64,8 @@ impl MemFiles {
 
     /// Files of these names with these contents, in pairs. Of two pairs with one name the first counts.
     ///
-    /// One call of `piece` gives at most `step` bytes. `fail` has the numbers, from 1 on, of the calls of `begin`
-    /// and `piece` that are to fail.
+    /// One call of `piece` gives at most `step` bytes. `fail` has the numbers, from 1 on, of the calls of
+    /// `begin` and `piece` that are to fail.
     pub fn new(names: Vec<String>, bytes: Vec<Vec<u8>>, step: usize, fail: Vec<u64>) -> MemFiles
         requires pairs { length names.items ≡ length bytes.items }
         requires step { 1 ≤ step }
@@ -128,12 +130,13 @@ impl Files for MemFiles {
     fn begin(&mut self, name: &str) -> Result<(), Failed>
         ensures fails { IsErr result ↔ (Contains self.old.fail (counted self.old.calls 1)
             ⊎ (content_of self.old.held name.now ≡ None)) }
-        ensures ok { OnOk result (IfSome (content_of self.old.held name.now) (λ bytes. self.new ≡ record self.old {
-          left = bytes;
-          given = 0;
-          begins = counted self.old.begins 1;
-          calls = counted self.old.calls 1;
-        })) }
+        ensures ok { OnOk result
+            (IfSome (content_of self.old.held name.now) (λ bytes. self.new ≡ record self.old {
+              left = bytes;
+              given = 0;
+              begins = counted self.old.begins 1;
+              calls = counted self.old.calls 1;
+            })) }
         ensures err { OnErr result (self.new ≡ record self.old {
           begins = counted self.old.begins 1;
           calls = counted self.old.calls 1;
@@ -151,7 +154,8 @@ impl Files for MemFiles {
 
     fn piece(&mut self, buf: &mut [u8]) -> Result<usize, Failed>
         ensures fails { IsErr result ↔ Contains self.old.fail (counted self.old.calls 1) }
-        ensures number { IfOk result (λ n. n ≡ min (min (length self.old.left) self.old.step) (length buf.old)) }
+        ensures number { IfOk result
+            (λ n. n ≡ min (min (length self.old.left) self.old.step) (length buf.old)) }
         ensures bytes { IfOk result (λ n. buf.new ≡ take n self.old.left ++ drop n buf.old) }
         ensures ok { IfOk result (λ n. self.new ≡ record self.old {
           left = drop n self.old.left;

@@ -1,5 +1,6 @@
 //! A sink in memory.
-ghost use Rattle.std.specs.Prelude.{◌≡◌, ◌<◌, ◌≤◌, ◌⊎◌, ◌↔◌, ◌-◌, ◌++◌, min, length, take, Some, [], IsErr, IfOk, OnErr, Contains};
+ghost use Rattle.std.specs.Prelude.{◌≡◌, ◌<◌, ◌≤◌, ◌⊎◌, ◌↔◌, ◌-◌, ◌++◌, min, length, take, Some, [], IsErr};
+ghost use Rattle.std.specs.Prelude.{IfOk, OnErr, Contains};
 ghost use Rattle.tv_outside.specs.Count.{counted};
 
 use crate::files::Failed;
@@ -43,8 +44,8 @@ impl Model for MemSink {
 impl MemSink {
     /// A sink with room for `room` bytes, which it takes from memory here and nowhere else.
     ///
-    /// One `put` takes at most `step` bytes. `fail` has the numbers, from 1 on, of the calls of `put` that are to
-    /// fail.
+    /// One `put` takes at most `step` bytes. `fail` has the numbers, from 1 on, of the calls of `put` that
+    /// are to fail.
     pub fn new(
         alloc: Global,
         step: usize,

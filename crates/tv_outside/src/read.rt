@@ -48,7 +48,8 @@ const PIECE: usize = 4096;
 ///
 /// # Errors
 /// `Failed` comes only where a call of `files` failed, and on steady files only where the name holds nothing.
-/// `TooLong` comes exactly where the files gave more than `limit` bytes of this name. `Memory` is want of memory.
+/// `TooLong` comes exactly where the files gave more than `limit` bytes of this name. `Memory` is want of
+/// memory.
 pub fn read_all<F: Files>(
     alloc: Global,
     files: &mut F,

@@ -13,14 +13,15 @@ pub trait Sink {
     /// How many calls have failed.
     ghost faults: { Self → ℕ };
 
-    /// How many calls of `put` have answered `Failed`. Unlike `faults`, it rises by exactly one for each of them.
+    /// How many calls of `put` have answered `Failed`. Unlike `faults`, it rises by exactly one for each of
+    /// them.
     ghost failures: { Self → ℕ };
 
     /// How many calls of `put` have answered `Ok` since the last one that answered `Failed`.
     ghost since: { Self → ℕ };
 
-    /// Takes a front of `bytes` and gives its length, which is at least 1 where `bytes` isn't empty. At `Failed`
-    /// nothing was taken.
+    /// Takes a front of `bytes` and gives its length, which is at least 1 where `bytes` isn't empty. At
+    /// `Failed` nothing was taken.
     fn put(&mut self, bytes: &[u8]) -> Result<usize, Failed>
         ensures count { faults self.old ≤ faults self.new }
         ensures failed { OnErr result (Rose (faults self.old) (faults self.new)) }
@@ -31,5 +32,6 @@ pub trait Sink {
 
         ensures no_failure { OnOk result (failures self.new ≡ failures self.old) }
         ensures since { OnOk result (since self.new ≡ counted (since self.old) 1) }
-        ensures failed_last { OnErr result (FailedLast (failures self.old) (failures self.new) (since self.new)) };
+        ensures failed_last { OnErr result
+            (FailedLast (failures self.old) (failures self.new) (since self.new)) };
 }

@@ -10,8 +10,8 @@ use crate::sink::Sink;
 /// Gives all of `bytes` to the sink. It takes no memory.
 ///
 /// # Errors
-/// `Failed` comes only where a call of `sink` failed, and then a front of `bytes` was taken. It was the last call:
-/// a sink that has failed is given nothing more.
+/// `Failed` comes only where a call of `sink` failed, and then a front of `bytes` was taken. It was the last
+/// call: a sink that has failed is given nothing more.
 pub fn write_all<S: Sink>(sink: &mut S, bytes: &[u8]) -> Result<(), Failed>
     ensures count { S.faults sink.old ≤ S.faults sink.new }
     ensures all { OnOk result (S.taken sink.new ≡ appended (S.taken sink.old) bytes.now) }
@@ -32,8 +32,8 @@ pub fn write_all<S: Sink>(sink: &mut S, bytes: &[u8]) -> Result<(), Failed>
 /// Gives all of these parts to the sink, one after the other. It takes no memory.
 ///
 /// # Errors
-/// `Failed` comes only where a call of `sink` failed, and then a front of the joined parts was taken. It was the
-/// last call: a sink that has failed is given nothing more.
+/// `Failed` comes only where a call of `sink` failed, and then a front of the joined parts was taken. It was
+/// the last call: a sink that has failed is given nothing more.
 pub fn write_parts<S: Sink>(sink: &mut S, parts: &[&[u8]]) -> Result<(), Failed>
     ensures count { S.faults sink.old ≤ S.faults sink.new }
     ensures all { OnOk result (S.taken sink.new

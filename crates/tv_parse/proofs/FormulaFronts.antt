@@ -11,7 +11,11 @@ use Rattle.tv_tree.specs.Forms.{Form}
 use Rattle.tv_formula.specs.declared.binder.Binder.{Binder}
 use Rattle.tv_formula.specs.declared.link.Link.{Link}
 use Rattle.tv_formula.specs.declared.link.Link.TheVariants.{Iff, Or, And}
-use Rattle.tv_formula.specs.Grammar.{Production, Whole, Imp, Unary, Joined, Behind, operand, Leaf, zero_leaf, one_leaf, half_leaf, same_leaf, differ_leaf, atom_leaf, star_leaf, plus_leaf, Binds, binds_some, binds_all, binds_pairs, Reads, cond, no_cond, joined, further, no_further, imp, no_imp, negation, binding, parentheses, leaf}
+use Rattle.tv_formula.specs.Grammar.{Production, Whole, Imp, Unary, Joined, Behind, operand, Leaf, zero_leaf}
+use Rattle.tv_formula.specs.Grammar.{one_leaf, half_leaf, same_leaf, differ_leaf, atom_leaf, star_leaf}
+use Rattle.tv_formula.specs.Grammar.{plus_leaf, Binds, binds_some, binds_all, binds_pairs, Reads, cond}
+use Rattle.tv_formula.specs.Grammar.{no_cond, joined, further, no_further, imp, no_imp, negation, binding}
+use Rattle.tv_formula.specs.Grammar.{parentheses, leaf}
 use Rattle.tv_parse.specs.Kinds.{begins_formula}
 
 here : (a b : Bool) → a ≡ true → (a || b) ≡ true

@@ -1,12 +1,15 @@
 -- What is read is a phrase of the grammar, where formulas are.
-use Rattle.std.proofs.Common.{◌≡◌, ℕ, zero, suc, ◌+◌, List, [], ◌∷◌, ◌++◌, cond, length, Option, Some, None, refl, ◌∙◌, ap, subst, inl, inr}
+use Rattle.std.proofs.Common.{◌≡◌, ℕ, zero, suc, ◌+◌, List, [], ◌∷◌, ◌++◌, cond, length, Option, Some, None}
+use Rattle.std.proofs.Common.{refl, ◌∙◌, ap, subst, inl, inr}
 use Rattle.std.specs.Prelude.{codes, IsTrue}
 use Rattle.std.proofs.lemmas.Option.{same_Some}
 use Rattle.tv_lex.specs.Token.{SpecToken}
 use Rattle.tv_phrases.specs.Reading.{taken, ◌>>=◌, choose}
 use Rattle.tv_phrases.specs.Tokens.{after, first, identifier_item, word_item, text_item}
 use Rattle.tv_phrases.specs.Lists.{params, name, optional_list}
-use Rattle.tv_tree.specs.Forms.{NameForm, Form, DeclForm, DSet, DPred, DRule, PieceForm, Quoted, Spelled, UpdateForm, PartForm, PCaption, PFocus, PPre, PMessage, PNew, PRetain, PBlock, ActionForm, EdgeForm, ProgramForm}
+use Rattle.tv_tree.specs.Forms.{NameForm, Form, DeclForm, DSet, DPred, DRule, PieceForm, Quoted, Spelled}
+use Rattle.tv_tree.specs.Forms.{UpdateForm, PartForm, PCaption, PFocus, PPre, PMessage, PNew, PRetain, PBlock}
+use Rattle.tv_tree.specs.Forms.{ActionForm, EdgeForm, ProgramForm}
 use Rattle.tv_tree.specs.Copies.{nests}
 use Rattle.tv_tree.specs.declared.trees.PropWord.{PropWord}
 use Rattle.tv_formula.specs.Grammar.{IsFormula, name_form}
@@ -15,13 +18,21 @@ use Rattle.tv_parse.specs.declared.kinds.DeclKind.{DeclKind}
 use Rattle.tv_parse.specs.declared.kinds.DeclKind.TheVariants as decl
 use Rattle.tv_parse.specs.declared.kinds.PartKind.{PartKind}
 use Rattle.tv_parse.specs.declared.kinds.PartKind.TheVariants as part
-use Rattle.tv_parse.specs.Kinds.{decl_kind, part_kind, prop_item, begins_decl, begins_update, begins_formula, kind_of, may_follow}
-use Rattle.tv_parse.specs.Grammar.{IsSignature, begins_prop, begins_edge, IsProp, AreProps, IsOptional, IsDecl, IsUpdate, IsPiece, ArePieces, AreFormulas, IsPart, AreParts, IsAction, IsEdge, IsTail, IsProgram}
-use Rattle.tv_parse.specs.Reading.{signature, props_reading, skip, set_reading, set_decl, core_decl, defined_decl, rule_decl, decl_behind, decl_reading, decl_rows, update_reading, update_rows, piece_reading, pieces_reading, formulas_reading, caption_part, focus_part, formula_part, message_part, block_part, part_behind, part_turn, parts, action_reading, edge_reading, actions_reading, edges_reading, at_end, tail_reading, program_reading}
+use Rattle.tv_parse.specs.Kinds.{decl_kind, part_kind, prop_item, begins_decl, begins_update, begins_formula}
+use Rattle.tv_parse.specs.Kinds.{kind_of, may_follow}
+use Rattle.tv_parse.specs.Grammar.{IsSignature, begins_prop, begins_edge, IsProp, AreProps, IsOptional}
+use Rattle.tv_parse.specs.Grammar.{IsDecl, IsUpdate, IsPiece, ArePieces, AreFormulas, IsPart, AreParts}
+use Rattle.tv_parse.specs.Grammar.{IsAction, IsEdge, IsTail, IsProgram}
+use Rattle.tv_parse.specs.Reading.{signature, props_reading, skip, set_reading, set_decl, core_decl}
+use Rattle.tv_parse.specs.Reading.{defined_decl, rule_decl, decl_behind, decl_reading, decl_rows}
+use Rattle.tv_parse.specs.Reading.{update_reading, update_rows, piece_reading, pieces_reading}
+use Rattle.tv_parse.specs.Reading.{formulas_reading, caption_part, focus_part, formula_part, message_part}
+use Rattle.tv_parse.specs.Reading.{block_part, part_behind, part_turn, parts, action_reading, edge_reading}
+use Rattle.tv_parse.specs.Reading.{actions_reading, edges_reading, at_end, tail_reading, program_reading}
 use Rattle.tv_phrases.proofs.Values.{bind_some, chosen, tested}
 use Rattle.tv_parse.proofs.SetLaws.{set_sound}
 use Rattle.tv_parse.proofs.RowLaws.{rows_sound}
-use Rattle.tv_phrases.specs.Repeated.{begins_with, Joined, with_first, joined}
+use Rattle.tv_phrases.specs.Repeated.{begins_with, Joined, with_first, separated}
 use Rattle.tv_phrases.proofs.Repeats.{held, first_sound, many_sound, joined_sound}
 
 signature_sound : (ts rest : List SpecToken) (x : NameForm × List (List ℕ)) → signature ts ≡ taken x rest → IsSignature ts x.0 x.1 rest
@@ -150,7 +161,7 @@ module _ (formula_sound : (ts rest : List SpecToken) (f : Form) → formula_read
   unfolding formulas_reading
   formulas_sound ts rest fs e =
       let P : List Form → List SpecToken → Type 0 = λ y vs. AreFormulas ts y vs in
-      elim (tested (begins_formula ts) (joined (codes ",") formula_reading ts) (taken [] ts) (taken fs rest) e) [
+      elim (tested (begins_formula ts) (separated (codes ",") formula_reading ts) (taken [] ts) (taken fs rest) e) [
         | inl h ↦ some_formulas fs ts rest h.0 (joined_sound (codes ",") formula_reading IsFormula formula_sound ts rest fs h.1)
         | inr h ↦ held P [] fs ts rest h.1 (h.0, refl)
       ]

@@ -1,19 +1,27 @@
 -- What the grammar says is a phrase is read as that phrase, where formulas are.
-use Rattle.std.proofs.Common.{◌≡◌, ℕ, zero, suc, ◌+◌, ◌<◌, ◌≤◌, List, [], ◌∷◌, ◌++◌, length, Option, Some, None, refl, sym, inl, inr, arith}
+use Rattle.std.proofs.Common.{◌≡◌, ℕ, zero, suc, ◌+◌, ◌<◌, ◌≤◌, List, [], ◌∷◌, ◌++◌, length, Option, Some}
+use Rattle.std.proofs.Common.{None, refl, sym, inl, inr, arith}
 use Rattle.std.specs.Prelude.{codes, is_some, IsTrue}
 use Rattle.tv_lex.specs.Token.{SpecToken}
 use Rattle.tv_lex.specs.declared.token.TokenKind.{TokenKind}
 use Rattle.tv_lex.specs.declared.token.TokenKind.TheVariants as kind
 use Rattle.tv_phrases.specs.Reading.{taken, ◌>>=◌}
 use Rattle.tv_phrases.specs.Tokens.{first, identifier_item, word_item, text_item}
-use Rattle.tv_tree.specs.Forms.{NameForm, Form, DSet, DPred, DRule, PieceForm, Quoted, Spelled, PartForm, PCaption, PFocus, PPre, PMessage, PNew, PRetain, PBlock, ProgramForm}
+use Rattle.tv_tree.specs.Forms.{NameForm, Form, DSet, DPred, DRule, PieceForm, Quoted, Spelled, PartForm}
+use Rattle.tv_tree.specs.Forms.{PCaption, PFocus, PPre, PMessage, PNew, PRetain, PBlock, ProgramForm}
 use Rattle.tv_tree.specs.declared.trees.PropWord.{PropWord}
 use Rattle.tv_formula.specs.Grammar.{IsFormula}
 use Rattle.tv_formula.specs.Reading.{formula_reading}
 use Rattle.tv_parse.specs.declared.kinds.DeclKind.TheVariants as decl
 use Rattle.tv_parse.specs.Kinds.{decl_kind, part_kind, prop_item, begins_decl, begins_update, kind_of}
-use Rattle.tv_parse.specs.Grammar.{IsSignature, begins_prop, begins_edge, IsProp, AreProps, IsOptional, IsDecl, IsUpdate, IsPiece, ArePieces, AreFormulas, IsPart, AreParts, IsAction, IsEdge, IsTail, IsProgram}
-use Rattle.tv_parse.specs.Reading.{signature, props_reading, skip, set_decl, core_decl, defined_decl, rule_decl, decl_reading, update_reading, piece_reading, pieces_reading, formulas_reading, caption_part, focus_part, formula_part, message_part, block_part, part_behind, part_turn, parts, action_reading, edge_reading, tail_reading, program_reading}
+use Rattle.tv_parse.specs.Grammar.{IsSignature, begins_prop, begins_edge, IsProp, AreProps, IsOptional}
+use Rattle.tv_parse.specs.Grammar.{IsDecl, IsUpdate, IsPiece, ArePieces, AreFormulas, IsPart, AreParts}
+use Rattle.tv_parse.specs.Grammar.{IsAction, IsEdge, IsTail, IsProgram}
+use Rattle.tv_parse.specs.Reading.{signature, props_reading, skip, set_decl, core_decl, defined_decl}
+use Rattle.tv_parse.specs.Reading.{rule_decl, decl_reading, update_reading, piece_reading, pieces_reading}
+use Rattle.tv_parse.specs.Reading.{formulas_reading, caption_part, focus_part, formula_part, message_part}
+use Rattle.tv_parse.specs.Reading.{block_part, part_behind, part_turn, parts, action_reading, edge_reading}
+use Rattle.tv_parse.specs.Reading.{tail_reading, program_reading}
 use Rattle.tv_phrases.proofs.Takes.{after_takes, first_takes, params_take, name_takes}
 use Rattle.tv_parse.proofs.SetsRead.{set_read}
 use Rattle.tv_parse.proofs.RowsRead.{nests_listed, rows_read}

@@ -1,5 +1,6 @@
 -- Items one after the other, as the loops read them.
-use Rattle.std.proofs.Common.{◌≡◌, ℕ, zero, suc, ◌+◌, ◌<◌, ◌≤◌, drop, get_or, List, [], ◌∷◌, ◌++◌, Bool, true, false, length, map, Some, None, refl, sym, ◌∙◌, ap}
+use Rattle.std.proofs.Common.{◌≡◌, ℕ, zero, suc, ◌+◌, ◌<◌, ◌≤◌, drop, get_or, List, [], ◌∷◌, ◌++◌, Bool, true}
+use Rattle.std.proofs.Common.{false, length, map, Some, None, refl, sym, ◌∙◌, ap}
 use Rattle.std.proofs.lemmas.List.{map_push, drop_more, drop_all}
 use Rattle.std.specs.Prelude.{◌||◌}
 use Rattle.tv_lex.specs.Token.{SpecToken}
@@ -15,7 +16,8 @@ use Rattle.tv_parse.specs.Kinds.{part_kind, prop_item, kind_of, same_kind, has_k
 use Rattle.tv_parse.specs.Grammar.{begins_prop}
 use Rattle.tv_parse.specs.Reading.{nest, rows, part_turn, part_behind, parts}
 use Rattle.tv_phrases.specs.Repeated.{below, turn, many, all_of}
-use Rattle.tv_phrases.proofs.Repeats.{front_first, front_none, front_end, front_start, pushed, turn_more, turn_end, turn_break, many_step, many_end}
+use Rattle.tv_phrases.proofs.Repeats.{front_first, front_none, front_end, front_start, pushed, turn_more}
+use Rattle.tv_phrases.proofs.Repeats.{turn_end, turn_break, many_step, many_end}
 
 -- rows of nests
 rows_steps : {X : Type 0} (begins : List SpecToken → Bool) (single : List SpecToken → Reading X) (n : ℕ) (ts : List SpecToken) → rows begins single n ts ≡ (below n >>= λ m. turn begins (nest single (rows begins single m)) (rows begins single m) ts)

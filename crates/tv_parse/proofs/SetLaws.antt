@@ -14,7 +14,9 @@ use Rattle.tv_tree.specs.declared.trees.SetSign.TheVariants as sign
 use Rattle.tv_formula.specs.Grammar.{Lacks}
 use Rattle.tv_phrases.specs.Repeated.{begins_with}
 use Rattle.tv_parse.specs.Grammar.{IsSetTerm, IsSetFront, IsSet}
-use Rattle.tv_parse.specs.Reading.{SetPart, AllSets, Further, SetReader, signed, set_name, set_members, set_plain, set_paren, set_term, set_sign, set_start, set_behind, sets, set_reading}
+use Rattle.tv_parse.specs.Reading.{SetPart, AllSets, Further, SetReader, signed, set_name, set_members}
+use Rattle.tv_parse.specs.Reading.{set_plain, set_paren, set_term, set_sign, set_start, set_behind, sets}
+use Rattle.tv_parse.specs.Reading.{set_reading}
 use Rattle.tv_phrases.proofs.Values.{bind_some, chosen, tested}
 
 -- a fact about what was read

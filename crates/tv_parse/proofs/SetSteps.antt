@@ -5,14 +5,16 @@ use Rattle.tv_lex.specs.Token.{SpecToken}
 use Rattle.tv_phrases.specs.Reading.{Reading, taken, ◌>>=◌}
 use Rattle.tv_phrases.specs.Repeated.{below}
 use Rattle.tv_tree.specs.Forms.{SetForm, SPlus, SMinus}
-use Rattle.tv_tree.specs.Copies.{joined_set, term_of, step_of, set_of, term_step, further_step, set_step as tree_step}
+use Rattle.tv_tree.specs.Copies.{joined_set, term_of, step_of, set_of, term_step, further_step}
+use Rattle.tv_tree.specs.Copies.{set_step as tree_step}
 use Rattle.tv_tree.specs.declared.trees.SetSign.{SetSign}
 use Rattle.tv_tree.specs.declared.trees.SetSign.TheVariants as sign
 use Rattle.tv_tree.specs.declared.trees.SetStep.{SetStep}
 use Rattle.tv_tree.specs.declared.trees.SetTerm.{SetTerm}
 use Rattle.tv_tree.specs.declared.trees.SetTree.{SetTree, SetTree-F, roll-SetTree, fold-roll-SetTree}
 use Rattle.tv_tree.proofs.Unfolds.{step_of_parts}
-use Rattle.tv_parse.specs.Reading.{SetPart, AllSets, Further, signed, set_sign, set_term, set_start, set_behind, set_step, sets}
+use Rattle.tv_parse.specs.Reading.{SetPart, AllSets, Further, signed, set_sign, set_term, set_start}
+use Rattle.tv_parse.specs.Reading.{set_behind, set_step, sets}
 
 sets_steps : (n : ℕ) (p : SetPart) (ts : List SpecToken) → sets n p ts ≡ (below n >>= λ m. set_step (sets m) p ts)
 unfolding sets

@@ -1,5 +1,6 @@
 -- What the grammar says is a set is read as that set.
-use Rattle.std.proofs.Common.{◌≡◌, ℕ, zero, suc, ◌+◌, ◌<◌, ◌≤◌, List, true, length, Some, None, refl, ◌∙◌, arith}
+use Rattle.std.proofs.Common.{◌≡◌, ℕ, zero, suc, ◌+◌, ◌<◌, ◌≤◌, List, true, length, Some, None, refl, ◌∙◌}
+use Rattle.std.proofs.Common.{arith}
 use Rattle.std.specs.Prelude.{codes}
 use Rattle.tv_lex.specs.Token.{SpecToken}
 use Rattle.tv_phrases.specs.Reading.{taken, ◌>>=◌}
@@ -13,7 +14,8 @@ use Rattle.tv_tree.specs.declared.trees.SetSign.TheVariants as sign
 use Rattle.tv_formula.specs.Grammar.{Begins, Lacks}
 use Rattle.tv_phrases.specs.Repeated.{begins_with}
 use Rattle.tv_parse.specs.Grammar.{IsSetTerm, IsSetFront, IsSet, IsHead}
-use Rattle.tv_parse.specs.Reading.{AllSets, Further, signed, set_name, set_members, set_plain, set_paren, set_term, set_sign, set_start, set_behind, sets, set_reading, head_reading}
+use Rattle.tv_parse.specs.Reading.{AllSets, Further, signed, set_name, set_members, set_plain, set_paren}
+use Rattle.tv_parse.specs.Reading.{set_term, set_sign, set_start, set_behind, sets, set_reading, head_reading}
 use Rattle.tv_phrases.proofs.Facts.{other_mark, not_identifier}
 use Rattle.tv_phrases.proofs.Values.{bind_some}
 use Rattle.tv_phrases.proofs.Takes.{after_takes, first_takes, members_take}

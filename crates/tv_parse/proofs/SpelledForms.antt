@@ -10,8 +10,14 @@ use Rattle.tv_formula.specs.declared.binder.Binder.{Binder}
 use Rattle.tv_formula.specs.declared.binder.Binder.TheVariants.{Exists, Forall, Closure}
 use Rattle.tv_formula.specs.declared.link.Link.{Link}
 use Rattle.tv_formula.specs.declared.link.Link.TheVariants.{Iff, Or, And}
-use Rattle.tv_formula.specs.Grammar.{Production, Whole, Imp, Unary, Joined, Behind, mark_of, join, operand, over, Leaf, zero_leaf, one_leaf, half_leaf, same_leaf, differ_leaf, atom_leaf, star_leaf, plus_leaf, Binds, binds_some, binds_all, binds_pairs, Reads, cond, no_cond, joined, further, no_further, imp, no_imp, negation, binding, parentheses, leaf, IsFormula}
-use Rattle.tv_parse.proofs.SpelledPhrases.{Tokens, says_identifier, after_leaves, first_leaves, params_leave, variables_leave, pair_leaves, name_leaves, arrow_leaves}
+use Rattle.tv_formula.specs.Grammar.{Production, Whole, Imp, Unary, Joined, Behind, mark_of, join, operand}
+use Rattle.tv_formula.specs.Grammar.{over, Leaf, zero_leaf, one_leaf, half_leaf, same_leaf, differ_leaf}
+use Rattle.tv_formula.specs.Grammar.{atom_leaf, star_leaf, plus_leaf, Binds, binds_some, binds_all}
+use Rattle.tv_formula.specs.Grammar.{binds_pairs, Reads, cond, no_cond, joined, further, no_further, imp}
+use Rattle.tv_formula.specs.Grammar.{no_imp, negation, binding, parentheses, leaf, IsFormula}
+use Rattle.tv_phrases.proofs.LeftTokens.{Tokens, after_leaves}
+use Rattle.tv_parse.proofs.SpelledPhrases.{says_identifier, first_leaves, params_leave}
+use Rattle.tv_parse.proofs.SpelledPhrases.{variables_leave, pair_leaves, name_leaves, arrow_leaves}
 
 pub word_leaves : (ts us : List SpecToken) (w : List ℕ) → first identifier_item ts ≡ Some (w, us) → Tokens ts → IsIdentifier w × Tokens us
 word_leaves ts us w is are = first_leaves identifier_item IsIdentifier says_identifier ts us w is are

@@ -1,5 +1,7 @@
 -- The words of phrases are spelled as tokens spell them, and tokens are left behind the phrases.
-use Rattle.std.proofs.Common.{◌≡◌, ℕ, ◌-◌, ◌≤◌, ◌≢◌, List, [], ◌∷◌, ◌++◌, Bool, true, false, Option, Some, None, length, take, length-append, ◌⊎◌, inl, inr, refl, sym, ◌∙◌, ap, subst, arith}
+use Rattle.std.proofs.Common.{◌≡◌, ℕ, ◌-◌, ◌≤◌, ◌≢◌, List, [], ◌∷◌, ◌++◌, Bool, true, false, Option, Some}
+use Rattle.std.proofs.Common.{None, length, take, length-append, ◌⊎◌, inl, inr, refl, sym, ◌∙◌, ap, subst}
+use Rattle.std.proofs.Common.{arith}
 use lib.Seq.{take-append_seam}
 use Rattle.std.specs.Prelude.{codes, ◌&&◌, ◌==◌, IfSome, is_some, All, IsTrue, nat_le, not, ⊤}
 use Rattle.std.specs.List.{list_all, slice_index_or}
@@ -15,22 +17,17 @@ use Rattle.tv_lex.specs.declared.token.TokenKind.{TokenKind}
 use Rattle.tv_lex.specs.declared.token.TokenKind.TheVariants as kind
 use Rattle.tv_model.specs.Spelling.{IsLetter, IsDigit, IsIdentifier, IsWord, IsText}
 use Rattle.tv_phrases.specs.Reading.{Reading, taken}
-use Rattle.tv_phrases.specs.Tokens.{after, first, is_word, is_text, is_identifier, word_item, identifier_item, text_item, unquoted}
-use Rattle.tv_phrases.specs.Lists.{with_front, items_from, comma_list, optional_list, between, params, variables, optional_brackets, name, two_items, pair}
+use Rattle.tv_phrases.specs.Tokens.{after, first, is_word, is_text, is_identifier, word_item, identifier_item}
+use Rattle.tv_phrases.specs.Tokens.{text_item, unquoted}
+use Rattle.tv_phrases.specs.Lists.{with_front, items_from, comma_list, optional_list, between, params}
+use Rattle.tv_phrases.specs.Lists.{variables, optional_brackets, name, two_items, pair}
 use Rattle.tv_phrases.proofs.Facts.{on_read, on_choose, on_if, at_some}
 use Rattle.tv_phrases.proofs.WordTests.{identifier_is}
 use Rattle.tv_tree.specs.Spelled.{AreIdentifiers, IsSpelledName}
 use Rattle.tv_formula.specs.Grammar.{name_form, arrow}
+use Rattle.tv_phrases.proofs.LeftTokens.{Tokens, run_of, leaves_after}
 
 -- ---- one token
-
-run_of : (k : TokenKind) (b : List ℕ) → Stands (Some k) b [] → is_word k ≡ true → IsRunOf is_word_byte b
-run_of kind.Word b s e = s
-run_of kind.Half b s e = absurd cc
-run_of kind.Text b s e = absurd cc
-run_of kind.Directive b s e = absurd cc
-run_of kind.Parts b s e = absurd cc
-run_of kind.Punct b s e = absurd cc
 
 -- with an underscore in front, a word is an identifier
 word_is : (w : List ℕ) → IsRunOf is_word_byte w → IsWord w
@@ -86,23 +83,12 @@ says_nothing item t is = if_any (item t)
 
 -- ---- what stands behind a phrase is tokens too
 
-abbrev pub Tokens : List SpecToken → Type 0
-Tokens ts = All IsToken ts
-
 -- the value is such, and tokens are left
 abbrev pub Leaves : {X : Type 0} → (X → Type 0) → Reading X → Type 0
 Leaves P read = IfSome read (λ x. P x.0 × Tokens x.1)
 
 pub left : {X : Type 0} (read : Reading X) (P : X → Type 0) (x : X) (us : List SpecToken) → Leaves P read → read ≡ taken x us → P x × Tokens us
 left read P x us leaves is = at_some read (λ y. P y.0 × Tokens y.1) (x, us) leaves is
-
-leaves_after : (m : List ℕ) (ts : List SpecToken) → Tokens ts → IfSome (after m ts) Tokens
-unfolding after
-leaves_after m [] are = tt
-leaves_after m (t ∷ ts) are = on_if (bytes_eq t.bytes m) (Some ts) None Tokens (λ e. All-tail IsToken t ts are) (λ e. tt)
-
-pub after_leaves : (m : List ℕ) (ts us : List SpecToken) → after m ts ≡ Some us → Tokens ts → Tokens us
-after_leaves m ts us is are = at_some (after m ts) Tokens us (leaves_after m ts are) is
 
 leaves_first : {X : Type 0} (item : SpecToken → Option X) (P : X → Type 0) → Says item P → (ts : List SpecToken) → Tokens ts → Leaves P (first item ts)
 unfolding first

@@ -1,5 +1,6 @@
 -- The words of the grammar's programs are spelled as tokens spell them, and each kind of part stands once in an action.
-use Rattle.std.proofs.Common.{◌≡◌, ℕ, ◌+◌, ◌≤◌, List, [], ◌∷◌, ◌++◌, Bool, true, false, Option, Some, None, refl, sym, subst, ◌⊎◌, inl, inr, arith}
+use Rattle.std.proofs.Common.{◌≡◌, ℕ, ◌+◌, ◌≤◌, List, [], ◌∷◌, ◌++◌, Bool, true, false, Option, Some, None}
+use Rattle.std.proofs.Common.{refl, sym, subst, ◌⊎◌, inl, inr, arith}
 use lib.Seq.{append_snoc}
 use Rattle.std.specs.Prelude.{codes, IsTrue, ◌||◌, not, All, ⊤}
 use Rattle.std.proofs.lemmas.Bool.{or_cases, not-true}
@@ -7,17 +8,30 @@ use Rattle.std.proofs.lemmas.List.Elements.{All-nil, All-cons}
 use Rattle.tv_lex.specs.Token.{SpecToken}
 use Rattle.tv_model.specs.Spelling.{IsIdentifier, IsWord, IsText}
 use Rattle.tv_phrases.specs.Tokens.{word_item, text_item}
-use Rattle.tv_tree.specs.Forms.{NameForm, SetForm, SNamed, SMembers, SParen, SPlus, SMinus, Form, Nest, Single, Foreach, Nests, no_nest, with_nest, DSet, DPred, DRule, PieceForm, Quoted, Spelled, PartForm, PCaption, PFocus, PPre, PMessage, PNew, PRetain, PBlock, ProgramForm}
-use Rattle.tv_tree.specs.Spelled.{AreIdentifiers, IsSpelledName, IsSpelledSet, IsSpelledForm, IsSpelledBody, IsSpelledPred, IsSpelledNest, AreSpelledNests, IsSpelledDecl, IsSpelledPiece, IsSpelledUpdate, IsSpelledPart, one_of_kind, count_of_kind, HasPartsOnce, IsSpelledAction, IsSpelledEdge, IsSpelledTail, IsSpelled}
+use Rattle.tv_tree.specs.Forms.{NameForm, SetForm, SNamed, SMembers, SParen, SPlus, SMinus, Form, Nest}
+use Rattle.tv_tree.specs.Forms.{Single, Foreach, Nests, no_nest, with_nest, DSet, DPred, DRule, PieceForm}
+use Rattle.tv_tree.specs.Forms.{Quoted, Spelled, PartForm, PCaption, PFocus, PPre, PMessage, PNew, PRetain}
+use Rattle.tv_tree.specs.Forms.{PBlock, ProgramForm}
+use Rattle.tv_tree.specs.Spelled.{AreIdentifiers, IsSpelledName, IsSpelledSet, IsSpelledForm, IsSpelledBody}
+use Rattle.tv_tree.specs.Spelled.{IsSpelledPred, IsSpelledNest, AreSpelledNests, IsSpelledDecl}
+use Rattle.tv_tree.specs.Spelled.{IsSpelledPiece, IsSpelledUpdate, IsSpelledPart, one_of_kind, count_of_kind}
+use Rattle.tv_tree.specs.Spelled.{HasPartsOnce, IsSpelledAction, IsSpelledEdge, IsSpelledTail, IsSpelled}
 use Rattle.tv_tree.specs.Spelled as kinds
 use Rattle.tv_tree.specs.declared.trees.PropWord.{PropWord}
 use Rattle.tv_formula.specs.Grammar.{IsFormula}
 use Rattle.tv_parse.specs.declared.kinds.PartKind.{PartKind}
 use Rattle.tv_parse.specs.declared.kinds.PartKind.TheVariants as part
-use Rattle.tv_parse.specs.Kinds.{decl_kind, part_kind, prop_item, begins_decl, begins_update, kind_of, same_kind, has_kind, may_follow}
-use Rattle.tv_parse.specs.Grammar.{IsSetTerm, IsSetFront, IsSet, IsHead, IsNest, AreNests, IsSignature, begins_prop, IsProp, AreProps, IsOptional, IsPredEnd, pred_kind, IsDecl, IsUpdate, IsPiece, ArePieces, AreFormulas, IsPart, AreParts, IsAction, IsEdge, begins_edge, IsTail, IsProgram}
+use Rattle.tv_parse.specs.Kinds.{decl_kind, part_kind, prop_item, begins_decl, begins_update, kind_of}
+use Rattle.tv_parse.specs.Kinds.{same_kind, has_kind, may_follow}
+use Rattle.tv_parse.specs.Grammar.{IsSetTerm, IsSetFront, IsSet, IsHead, IsNest, AreNests, IsSignature}
+use Rattle.tv_parse.specs.Grammar.{begins_prop, IsProp, AreProps, IsOptional, IsPredEnd, pred_kind, IsDecl}
+use Rattle.tv_parse.specs.Grammar.{IsUpdate, IsPiece, ArePieces, AreFormulas, IsPart, AreParts, IsAction}
+use Rattle.tv_parse.specs.Grammar.{IsEdge, begins_edge, IsTail, IsProgram}
 use Rattle.tv_phrases.specs.Repeated.{begins_with, Repeated, Behind, Joined}
-use Rattle.tv_parse.proofs.SpelledPhrases.{Tokens, says_word, says_text, says_nothing, after_leaves, first_leaves, optional_leaves, params_leave, members_leave, name_leaves}
+use Rattle.tv_phrases.proofs.LeftTokens.{Tokens, after_leaves}
+use Rattle.tv_parse.proofs.SpelledPhrases.{says_word, says_text, says_nothing}
+use Rattle.tv_parse.proofs.SpelledPhrases.{first_leaves, optional_leaves, params_leave, members_leave}
+use Rattle.tv_parse.proofs.SpelledPhrases.{name_leaves}
 use Rattle.tv_parse.proofs.SpelledForms.{word_leaves, formula_spelled}
 
 -- ---- items in a row

@@ -9,13 +9,19 @@ use Rattle.tv_formula.specs.Grammar.{Whole, IsFormula}
 use Rattle.tv_formula.proofs.Complete.{shorter}
 use Rattle.tv_formula.proofs.FormulaLaws.{formula_is_read}
 use Rattle.tv_parse.specs.Kinds.{begins_decl, begins_update, kind_of}
-use Rattle.tv_parse.specs.Grammar.{IsSetTerm, IsSet, IsHead, IsNest, AreNests, IsSignature, AreProps, IsDecl, AreDecls, IsUpdate, AreUpdates, IsPiece, ArePieces, AreFormulas, IsPart, AreParts, IsAction, IsEdge, begins_edge}
-use Rattle.tv_parse.specs.Reading.{set_term, sets, set_reading, head_reading, nest, rows, signature, props_reading, decl_reading, update_reading, piece_reading, pieces_reading, formulas_reading, part_behind, parts, action_reading, edge_reading}
+use Rattle.tv_parse.specs.Grammar.{IsSetTerm, IsSet, IsHead, IsNest, AreNests, IsSignature, AreProps, IsDecl}
+use Rattle.tv_parse.specs.Grammar.{AreDecls, IsUpdate, AreUpdates, IsPiece, ArePieces, AreFormulas, IsPart}
+use Rattle.tv_parse.specs.Grammar.{AreParts, IsAction, IsEdge, begins_edge}
+use Rattle.tv_parse.specs.Reading.{set_term, sets, set_reading, head_reading, nest, rows, signature}
+use Rattle.tv_parse.specs.Reading.{props_reading, decl_reading, update_reading, piece_reading, pieces_reading}
+use Rattle.tv_parse.specs.Reading.{formulas_reading, part_behind, parts, action_reading, edge_reading}
 use Rattle.tv_parse.proofs.SetsRead.{set_read, term_read, head_read}
 use Rattle.tv_parse.proofs.RowsRead.{listed, nests_listed, nest_read, rows_read}
 use Rattle.tv_phrases.specs.Repeated.{begins_with, HasOne, Repeated}
 use Rattle.tv_phrases.proofs.Repeats.{IsRead}
-use Rattle.tv_parse.proofs.GrammarRead.{signature_read, props_read, piece_read, pieces_read, edge_read, decl_read, update_read, formulas_read, part_read, parts_read, action_read}
+use Rattle.tv_parse.proofs.GrammarRead.{signature_read, props_read, piece_read, pieces_read, edge_read}
+use Rattle.tv_parse.proofs.GrammarRead.{decl_read, update_read, formulas_read, part_read, parts_read}
+use Rattle.tv_parse.proofs.GrammarRead.{action_read}
 use Rattle.tv_phrases.proofs.Repeats.{one_of, one_list}
 
 formula_shorter : (ts rest : List SpecToken) (f : Form) → IsFormula ts f rest → length rest ≤ length ts

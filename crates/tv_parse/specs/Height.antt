@@ -1,5 +1,6 @@
 -- The height of a text: how many constructs are open at once. A stack is kept along the tokens.
-use Rattle.std.specs.Prelude.{ℕ, List, [], ◌∷◌, Bool, true, false, ◌||◌, nat_lt, length, codes, if◌then◌else◌, IsTrue}
+use Rattle.std.specs.Prelude.{ℕ, List, [], ◌∷◌, Bool, true, false, ◌||◌, nat_lt, length, codes, if◌then◌else◌}
+use Rattle.std.specs.Prelude.{IsTrue}
 use Rattle.std.specs.List.{list_any}
 use Rattle.std.specs.Str.{bytes_eq}
 use Rattle.tv_lex.specs.Token.{SpecToken}
@@ -8,7 +9,8 @@ use Rattle.tv_lex.specs.declared.token.TokenKind.TheVariants as kind
 use Rattle.tv_parse.specs.declared.height.Open.{Open}
 use Rattle.tv_parse.specs.declared.height.Open.TheVariants.{Bracket, Mark}
 use Rattle.tv_parse.specs.declared.height.Effect.{Effect}
-use Rattle.tv_parse.specs.declared.height.Effect.TheVariants.{OpensBracket, OpensMark, ClosesBracket, ClosesMarks, Nothing}
+use Rattle.tv_parse.specs.declared.height.Effect.TheVariants.{OpensBracket, OpensMark, ClosesBracket}
+use Rattle.tv_parse.specs.declared.height.Effect.TheVariants.{ClosesMarks, Nothing}
 use Rattle.tv_phrases.specs.Repeated.{begins_with}
 
 abbrev pub is_one_of : List (List ℕ) → List ℕ → Bool
@@ -68,7 +70,8 @@ changed Nothing stack = stack
 -- the stack holds over 200 entries after some of the tokens
 abbrev pub passes_height : List Open → List SpecToken → Bool
 passes_height stack [] = false
-passes_height stack (t ∷ ts) = nat_lt 200 (length (changed (effect t ts) stack)) || passes_height (changed (effect t ts) stack) ts
+passes_height stack (t ∷ ts) =
+    nat_lt 200 (length (changed (effect t ts) stack)) || passes_height (changed (effect t ts) stack) ts
 
 -- the constructs that are open at one place are more than 200
 abbrev pub IsTooDeep : List SpecToken → Type 0

@@ -2,4 +2,3 @@ pub mod Kinds
 pub mod Grammar
 pub mod Reading
 pub mod Height
-pub mod Outcome

@@ -1,6 +1,7 @@
--- How programs are read, as functions on lists of tokens, with bounds on the turns and the depth. That they read the
--- grammar is proved.
-use Rattle.std.specs.Prelude.{ℕ, zero, suc, ◌+◌, List, [], ◌∷◌, ◌++◌, Bool, length, Option, Some, None, if◌then◌else◌, codes}
+-- How programs are read, as functions on lists of tokens, with bounds on the turns and the depth. That they
+-- read the grammar is proved.
+use Rattle.std.specs.Prelude.{ℕ, zero, suc, ◌+◌, List, [], ◌∷◌, ◌++◌, Bool, length, Option, Some, None}
+use Rattle.std.specs.Prelude.{if◌then◌else◌, codes}
 use Rattle.tv_lex.specs.Token.{SpecToken}
 use Rattle.tv_phrases.specs.Reading.{Reading, taken, ◌>>=◌, choose}
 use Rattle.tv_phrases.specs.Tokens.{after, first, identifier_item, word_item, text_item}
@@ -9,7 +10,10 @@ use Rattle.tv_phrases.specs.declared.kinds.Brackets.TheVariants as brackets
 use Rattle.tv_phrases.specs.declared.kinds.Item.TheVariants as item
 use Rattle.tv_formula.specs.Grammar.{name_form}
 use Rattle.tv_formula.specs.Reading.{formula_reading}
-use Rattle.tv_tree.specs.Forms.{NameForm, SetForm, SNamed, SMembers, SParen, SPlus, SMinus, Form, Nest, Single, Foreach, DeclForm, DSet, DPred, DRule, PieceForm, Quoted, Spelled, UpdateForm, PartForm, PCaption, PFocus, PPre, PMessage, PNew, PRetain, PBlock, ActionForm, EdgeForm, ProgramForm}
+use Rattle.tv_tree.specs.Forms.{NameForm, SetForm, SNamed, SMembers, SParen, SPlus, SMinus, Form, Nest}
+use Rattle.tv_tree.specs.Forms.{Single, Foreach, DeclForm, DSet, DPred, DRule, PieceForm, Quoted, Spelled}
+use Rattle.tv_tree.specs.Forms.{UpdateForm, PartForm, PCaption, PFocus, PPre, PMessage, PNew, PRetain, PBlock}
+use Rattle.tv_tree.specs.Forms.{ActionForm, EdgeForm, ProgramForm}
 use Rattle.tv_tree.specs.Copies.{nests}
 use Rattle.tv_tree.specs.declared.trees.PropWord.{PropWord}
 use Rattle.tv_tree.specs.declared.trees.SetSign.{SetSign}
@@ -18,10 +22,11 @@ use Rattle.tv_parse.specs.declared.kinds.DeclKind.{DeclKind}
 use Rattle.tv_parse.specs.declared.kinds.DeclKind.TheVariants as decl
 use Rattle.tv_parse.specs.declared.kinds.PartKind.{PartKind}
 use Rattle.tv_parse.specs.declared.kinds.PartKind.TheVariants as part
-use Rattle.tv_parse.specs.Kinds.{decl_kind, part_kind, prop_item, begins_decl, begins_update, begins_formula, may_follow}
+use Rattle.tv_parse.specs.Kinds.{decl_kind, part_kind, prop_item, begins_decl, begins_update, begins_formula}
+use Rattle.tv_parse.specs.Kinds.{may_follow}
 use Rattle.tv_phrases.specs.Repeated.{begins_with}
 use Rattle.tv_parse.specs.Grammar.{begins_prop, begins_edge}
-use Rattle.tv_phrases.specs.Repeated.{with_first, turn, all_of, joined}
+use Rattle.tv_phrases.specs.Repeated.{with_first, turn, all_of, separated}
 
 -- a whole set, or what may stand behind this one
 pub data SetPart : Type 0 where
@@ -52,10 +57,12 @@ signed sign.Minus s t = SMinus s t
 
 -- the sign in front, if there is one
 unfoldable pub set_sign : List SpecToken → Option (SetSign × List SpecToken)
-set_sign ts = choose (after (codes "+") ts) (choose (after (codes "-") ts) None (taken sign.Minus)) (taken sign.Plus)
+set_sign ts =
+    choose (after (codes "+") ts) (choose (after (codes "-") ts) None (taken sign.Minus)) (taken sign.Plus)
 
 unfoldable pub set_behind : SetReader → SetForm → List SpecToken → Reading SetForm
-set_behind read s ts = choose (set_sign ts) (taken s ts) (λ x. set_term read x.1 >>= λ t. read (Further (signed x.0 s t.0)) t.1)
+set_behind read s ts =
+    choose (set_sign ts) (taken s ts) (λ x. set_term read x.1 >>= λ t. read (Further (signed x.0 s t.0)) t.1)
 
 unfoldable pub set_start : SetReader → List SpecToken → Reading SetForm
 set_start read ts = set_term read ts >>= λ t. read (Further t.0) t.1
@@ -86,18 +93,21 @@ head_reading ts = do
 unfoldable pub lone : {X : Type 0} → Reading X → Reading (Nest X)
 lone read = read >>= λ x. taken (Single x.0) x.1
 
-unfoldable pub foreach_nest : {X : Type 0} → (List SpecToken → Reading (List (Nest X))) → List SpecToken → Reading (Nest X)
+unfoldable pub foreach_nest : {X : Type 0} → (List SpecToken → Reading (List (Nest X))) → List SpecToken
+    → Reading (Nest X)
 foreach_nest read ts = do
   head ← head_reading ts
   body ← read head.1
   rest ← after (codes "}") body.1
   taken (Foreach head.0.0 head.0.1 (nests body.0)) rest
 
-unfoldable pub nest : {X : Type 0} → (List SpecToken → Reading X) → (List SpecToken → Reading (List (Nest X))) → List SpecToken → Reading (Nest X)
+unfoldable pub nest : {X : Type 0} → (List SpecToken → Reading X) → (List SpecToken → Reading (List (Nest X)))
+    → List SpecToken → Reading (Nest X)
 nest single read ts = choose (after (codes "foreach") ts) (lone (single ts)) (foreach_nest read)
 
 -- those that stand in a row, by themselves or in a foreach
-unfoldable pub rows : {X : Type 0} → (List SpecToken → Bool) → (List SpecToken → Reading X) → ℕ → List SpecToken → Reading (List (Nest X))
+unfoldable pub rows : {X : Type 0} → (List SpecToken → Bool) → (List SpecToken → Reading X) → ℕ
+    → List SpecToken → Reading (List (Nest X))
 rows begins single zero ts = None
 rows begins single (suc n) ts = turn begins (nest single (rows begins single n)) (rows begins single n) ts
 
@@ -113,10 +123,13 @@ abbrev pub skip : List ℕ → List SpecToken → List SpecToken
 skip mark ts = choose (after mark ts) ts (λ us. us)
 
 unfoldable pub set_decl : List SpecToken → Reading DeclForm
-set_decl ts = first identifier_item ts >>= λ w. set_reading (skip (codes "=") w.1) >>= λ s. taken (DSet w.0 s.0) s.1
+set_decl ts =
+    first identifier_item ts >>= λ w. set_reading (skip (codes "=") w.1) >>= λ s. taken (DSet w.0 s.0) s.1
 
 unfoldable pub core_decl : List SpecToken → Reading DeclForm
-core_decl ts = signature ts >>= λ n. props_reading n.1 >>= λ ps. taken (DPred (record { name = n.0.0; params = n.0.1; body = None; props = ps.0 })) ps.1
+core_decl ts =
+    signature ts >>= λ n. props_reading n.1 >>= λ ps. taken
+    (DPred (record { name = n.0.0; params = n.0.1; body = None; props = ps.0 })) ps.1
 
 unfoldable pub defined_decl : List SpecToken → Reading DeclForm
 defined_decl ts = do
@@ -127,7 +140,9 @@ defined_decl ts = do
   taken (DPred (record { name = n.0.0; params = n.0.1; body = Some f.0; props = ps.0 })) ps.1
 
 unfoldable pub rule_decl : List SpecToken → Reading DeclForm
-rule_decl ts = formula_reading ts >>= λ f. after (codes "==>") f.1 >>= λ us. formula_reading us >>= λ g. taken (DRule f.0 g.0) g.1
+rule_decl ts =
+    formula_reading ts >>= λ f. after (codes "==>") f.1 >>= λ us. formula_reading us >>= λ g. taken
+    (DRule f.0 g.0) g.1
 
 abbrev pub decl_behind : DeclKind → List SpecToken → Reading DeclForm
 decl_behind decl.Set ts = set_decl ts
@@ -152,19 +167,23 @@ abbrev pub update_rows : ℕ → List SpecToken → Reading (List (Nest UpdateFo
 update_rows n ts = rows begins_update update_reading n ts
 
 unfoldable pub piece_reading : List SpecToken → Reading PieceForm
-piece_reading ts = choose (first text_item ts) (first identifier_item ts >>= λ w. taken (Spelled w.0) w.1) (λ s. taken (Quoted s.0) s.1)
+piece_reading ts =
+    choose (first text_item ts) (first identifier_item ts >>= λ w. taken (Spelled w.0) w.1)
+    (λ s. taken (Quoted s.0) s.1)
 
 abbrev pub pieces_reading : List SpecToken → Reading (List PieceForm)
-pieces_reading ts = joined (codes "+") piece_reading ts
+pieces_reading ts = separated (codes "+") piece_reading ts
 
 unfoldable pub formulas_reading : List SpecToken → Reading (List Form)
-formulas_reading ts = if begins_formula ts then joined (codes ",") formula_reading ts else taken [] ts
+formulas_reading ts = if begins_formula ts then separated (codes ",") formula_reading ts else taken [] ts
 
 unfoldable pub caption_part : List SpecToken → Reading PartForm
 caption_part ts = pieces_reading ts >>= λ ps. taken (PCaption ps.0) ps.1
 
 unfoldable pub focus_part : List SpecToken → Reading PartForm
-focus_part ts = after (codes "{") ts >>= λ us. formulas_reading us >>= λ fs. after (codes "}") fs.1 >>= λ rest. taken (PFocus fs.0) rest
+focus_part ts =
+    after (codes "{") ts >>= λ us. formulas_reading us >>= λ fs. after (codes "}") fs.1 >>= λ rest. taken
+    (PFocus fs.0) rest
 
 -- a formula, made into a part
 unfoldable pub formula_part : (Form → PartForm) → List SpecToken → Reading PartForm
@@ -179,7 +198,9 @@ message_part ts = do
   taken (PMessage f.0 ps.0) ps.1
 
 unfoldable pub block_part : List SpecToken → Reading PartForm
-block_part ts = update_rows (length ts + 1) ts >>= λ us. after (codes "}") us.1 >>= λ rest. taken (PBlock (nests us.0)) rest
+block_part ts =
+    update_rows (length ts + 1) ts >>= λ us. after (codes "}") us.1 >>= λ rest. taken
+    (PBlock (nests us.0)) rest
 
 abbrev pub part_behind : PartKind → List SpecToken → Reading PartForm
 part_behind part.Caption ts = caption_part ts
@@ -191,10 +212,12 @@ part_behind part.Retain ts = formula_part PRetain ts
 part_behind part.Block ts = block_part ts
 
 -- one turn of the parts behind others
-unfoldable pub part_turn : List PartForm → (List PartForm → List SpecToken → Reading (List PartForm)) → List SpecToken → Reading (List PartForm)
+unfoldable pub part_turn : List PartForm → (List PartForm → List SpecToken → Reading (List PartForm))
+    → List SpecToken → Reading (List PartForm)
 part_turn before read ts =
     choose (first part_kind ts) (taken [] ts)
-    (λ k. if may_follow before k.0 then (part_behind k.0 k.1 >>= λ p. with_first p.0 (read (before ++ p.0 ∷ []) p.1)) else None)
+    (λ k. if may_follow before k.0
+    then (part_behind k.0 k.1 >>= λ p. with_first p.0 (read (before ++ p.0 ∷ []) p.1)) else None)
 
 unfoldable pub parts : ℕ → List PartForm → List SpecToken → Reading (List PartForm)
 parts zero before ts = None
@@ -230,7 +253,9 @@ at_end x [] = Some x
 at_end x (t ∷ ts) = None
 
 unfoldable pub tail_reading : List SpecToken → Option (Option (List (List ℕ)))
-tail_reading ts = choose (after (codes "%%") ts) (at_end None ts) (λ us. optional_list word_item us >>= λ ws. at_end (Some ws.0) ws.1)
+tail_reading ts =
+    choose (after (codes "%%") ts) (at_end None ts)
+    (λ us. optional_list word_item us >>= λ ws. at_end (Some ws.0) ws.1)
 
 -- the program of all the tokens
 unfoldable pub program_reading : List SpecToken → Option ProgramForm

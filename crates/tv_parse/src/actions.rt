@@ -2,29 +2,30 @@
 
 ghost use Rattle.std.specs.Prelude.{◌≡◌, ◌+◌, [], ◌∷◌, length, map, codes};
 ghost use Rattle.tv_lex.specs.Token.{spec_tokens};
-ghost use Rattle.tv_phrases.specs.Reading.{Gives};
+ghost use Rattle.tv_phrases.specs.Reading.{GivesReading};
 ghost use Rattle.tv_tree.specs.Copies.{form_of, piece_of, part_of, action_of};
 ghost use Rattle.tv_tree.specs.Forms.{PPre, PRetain};
 ghost use Rattle.tv_parse.specs.Kinds.{kind_of, same_kind, has_kind, may_follow};
-ghost use Rattle.tv_parse.specs.Reading.{piece_reading, pieces_reading, formulas_reading, caption_part, focus_part, formula_part, message_part, block_part, part_behind, parts, action_reading};
-ghost use Rattle.tv_phrases.specs.Repeated.{behind, joined};
+ghost use Rattle.tv_parse.specs.Reading.{piece_reading, pieces_reading, formulas_reading, caption_part};
+ghost use Rattle.tv_parse.specs.Reading.{focus_part, formula_part, message_part, block_part, part_behind};
+ghost use Rattle.tv_parse.specs.Reading.{parts, action_reading};
+ghost use Rattle.tv_phrases.specs.Repeated.{behind, separated};
 ghost use Rattle.tv_formula.specs.Reading.{formula_reading};
 
-use crate::kinds::{PartKind, begins_formula, below, expect_behind, part_kind};
+use crate::kinds::{PartKind, begins_formula, expect_behind, part_kind};
 use crate::updates::{end_in_formula, updates};
 use std::alloc::Global;
 use tv_formula::{formula, spelling, spellings};
 use tv_lex::{Token, text};
-use tv_phrases::{PhraseError, after, begins_string, expect, identifier, params, string, unquoted};
+use tv_phrases::{
+    PhraseError, Read, after, begins_string, below, expect, identifier, params, string, unquoted,
+};
 use tv_tree::trees::{ActionTree, FormulaTrees, Part, Parts, Piece, Pieces, Spelling};
 
 #[tactic(auto, unfolding(crate::specs::Reading::piece_reading))]
-fn piece<'a>(
-    alloc: Global,
-    bytes: &[u8],
-    tokens: &'a [Token],
-) -> Result<(Piece, &'a [Token]), PhraseError<'a>>
-    ensures { Gives (λ x. (piece_of x.0, spec_tokens bytes.now x.1.now)) result (piece_reading (spec_tokens bytes.now tokens.now)) }
+fn piece<'a>(alloc: Global, bytes: &[u8], tokens: &'a [Token]) -> Read<'a, Piece>
+    ensures { GivesReading (λ x. (piece_of x.0, spec_tokens bytes.now x.1.now)) result
+        (piece_reading (spec_tokens bytes.now tokens.now)) }
 {
     if begins_string(bytes, tokens) {
         let (token, rest) = string(bytes, tokens)?;
@@ -37,12 +38,9 @@ fn piece<'a>(
 
 // Pieces with `+` between them.
 #[tactic(auto, using(tv_phrases::proofs::Repeats::joined_start, tv_phrases::proofs::Repeats::no_joined, tv_phrases::proofs::Repeats::joined_end, tv_phrases::proofs::Repeats::joined_break, tv_phrases::proofs::Repeats::many_out))]
-fn pieces<'a>(
-    alloc: Global,
-    bytes: &[u8],
-    tokens: &'a [Token],
-) -> Result<(Pieces, &'a [Token]), PhraseError<'a>>
-    ensures { Gives (λ x. (map piece_of x.0, spec_tokens bytes.now x.1.now)) result (pieces_reading (spec_tokens bytes.now tokens.now)) }
+fn pieces<'a>(alloc: Global, bytes: &[u8], tokens: &'a [Token]) -> Read<'a, Pieces>
+    ensures { GivesReading (λ x. (map piece_of x.0, spec_tokens bytes.now x.1.now)) result
+        (pieces_reading (spec_tokens bytes.now tokens.now)) }
 {
     let (first, mut rest) = piece(alloc, bytes, tokens)?;
     let mut left = rest.len() + 1;
@@ -61,12 +59,9 @@ fn pieces<'a>(
 
 // Formulas with `,` between them.
 #[tactic(auto, using(tv_phrases::proofs::Repeats::joined_start, tv_phrases::proofs::Repeats::no_joined, tv_phrases::proofs::Repeats::joined_end, tv_phrases::proofs::Repeats::joined_break, tv_phrases::proofs::Repeats::many_out))]
-fn some_formulas<'a>(
-    alloc: Global,
-    bytes: &[u8],
-    tokens: &'a [Token],
-) -> Result<(FormulaTrees, &'a [Token]), PhraseError<'a>>
-    ensures { Gives (λ x. (map form_of x.0, spec_tokens bytes.now x.1.now)) result (joined (codes ",") formula_reading (spec_tokens bytes.now tokens.now)) }
+fn some_formulas<'a>(alloc: Global, bytes: &[u8], tokens: &'a [Token]) -> Read<'a, FormulaTrees>
+    ensures { GivesReading (λ x. (map form_of x.0, spec_tokens bytes.now x.1.now)) result
+        (separated (codes ",") formula_reading (spec_tokens bytes.now tokens.now)) }
 {
     let (first, mut rest) = formula(alloc, bytes, tokens)?;
     let mut left = rest.len() + 1;
@@ -84,12 +79,9 @@ fn some_formulas<'a>(
 }
 
 #[tactic(auto, unfolding(crate::specs::Reading::formulas_reading))]
-fn formulas<'a>(
-    alloc: Global,
-    bytes: &[u8],
-    tokens: &'a [Token],
-) -> Result<(FormulaTrees, &'a [Token]), PhraseError<'a>>
-    ensures { Gives (λ x. (map form_of x.0, spec_tokens bytes.now x.1.now)) result (formulas_reading (spec_tokens bytes.now tokens.now)) }
+fn formulas<'a>(alloc: Global, bytes: &[u8], tokens: &'a [Token]) -> Read<'a, FormulaTrees>
+    ensures { GivesReading (λ x. (map form_of x.0, spec_tokens bytes.now x.1.now)) result
+        (formulas_reading (spec_tokens bytes.now tokens.now)) }
 {
     if begins_formula(bytes, tokens) {
         some_formulas(alloc, bytes, tokens)
@@ -99,24 +91,18 @@ fn formulas<'a>(
 }
 
 #[tactic(auto, unfolding(crate::specs::Reading::caption_part))]
-fn caption<'a>(
-    alloc: Global,
-    bytes: &[u8],
-    tokens: &'a [Token],
-) -> Result<(Part, &'a [Token]), PhraseError<'a>>
-    ensures { Gives (λ x. (part_of x.0, spec_tokens bytes.now x.1.now)) result (caption_part (spec_tokens bytes.now tokens.now)) }
+fn caption<'a>(alloc: Global, bytes: &[u8], tokens: &'a [Token]) -> Read<'a, Part>
+    ensures { GivesReading (λ x. (part_of x.0, spec_tokens bytes.now x.1.now)) result
+        (caption_part (spec_tokens bytes.now tokens.now)) }
 {
     let (text, rest) = pieces(alloc, bytes, tokens)?;
     Ok((Part::Caption(text), rest))
 }
 
 #[tactic(auto, unfolding(crate::specs::Reading::focus_part))]
-fn focus<'a>(
-    alloc: Global,
-    bytes: &[u8],
-    tokens: &'a [Token],
-) -> Result<(Part, &'a [Token]), PhraseError<'a>>
-    ensures { Gives (λ x. (part_of x.0, spec_tokens bytes.now x.1.now)) result (focus_part (spec_tokens bytes.now tokens.now)) }
+fn focus<'a>(alloc: Global, bytes: &[u8], tokens: &'a [Token]) -> Read<'a, Part>
+    ensures { GivesReading (λ x. (part_of x.0, spec_tokens bytes.now x.1.now)) result
+        (focus_part (spec_tokens bytes.now tokens.now)) }
 {
     let inside = expect(bytes, tokens, b"{")?;
     let (list, end) = formulas(alloc, bytes, inside)?;
@@ -125,36 +111,27 @@ fn focus<'a>(
 }
 
 #[tactic(auto, unfolding(crate::specs::Reading::formula_part))]
-fn precondition<'a>(
-    alloc: Global,
-    bytes: &[u8],
-    tokens: &'a [Token],
-) -> Result<(Part, &'a [Token]), PhraseError<'a>>
-    ensures { Gives (λ x. (part_of x.0, spec_tokens bytes.now x.1.now)) result (formula_part PPre (spec_tokens bytes.now tokens.now)) }
+fn precondition<'a>(alloc: Global, bytes: &[u8], tokens: &'a [Token]) -> Read<'a, Part>
+    ensures { GivesReading (λ x. (part_of x.0, spec_tokens bytes.now x.1.now)) result
+        (formula_part PPre (spec_tokens bytes.now tokens.now)) }
 {
     let (test, rest) = formula(alloc, bytes, tokens)?;
     Ok((Part::Pre(test), rest))
 }
 
 #[tactic(auto, unfolding(crate::specs::Reading::formula_part))]
-fn retain<'a>(
-    alloc: Global,
-    bytes: &[u8],
-    tokens: &'a [Token],
-) -> Result<(Part, &'a [Token]), PhraseError<'a>>
-    ensures { Gives (λ x. (part_of x.0, spec_tokens bytes.now x.1.now)) result (formula_part PRetain (spec_tokens bytes.now tokens.now)) }
+fn retain<'a>(alloc: Global, bytes: &[u8], tokens: &'a [Token]) -> Read<'a, Part>
+    ensures { GivesReading (λ x. (part_of x.0, spec_tokens bytes.now x.1.now)) result
+        (formula_part PRetain (spec_tokens bytes.now tokens.now)) }
 {
     let (keep, rest) = formula(alloc, bytes, tokens)?;
     Ok((Part::Retain(keep), rest))
 }
 
 #[tactic(auto, unfolding(crate::specs::Reading::message_part))]
-fn message<'a>(
-    alloc: Global,
-    bytes: &[u8],
-    tokens: &'a [Token],
-) -> Result<(Part, &'a [Token]), PhraseError<'a>>
-    ensures { Gives (λ x. (part_of x.0, spec_tokens bytes.now x.1.now)) result (message_part (spec_tokens bytes.now tokens.now)) }
+fn message<'a>(alloc: Global, bytes: &[u8], tokens: &'a [Token]) -> Read<'a, Part>
+    ensures { GivesReading (λ x. (part_of x.0, spec_tokens bytes.now x.1.now)) result
+        (message_part (spec_tokens bytes.now tokens.now)) }
 {
     let (cond, end) = formula(alloc, bytes, tokens)?;
     let behind = expect(bytes, end, b"->")?;
@@ -164,12 +141,9 @@ fn message<'a>(
 }
 
 #[tactic(auto, using(tv_tree::proofs::Unfolds::updates_of_items), unfolding(crate::specs::Reading::block_part))]
-fn block<'a>(
-    alloc: Global,
-    bytes: &[u8],
-    tokens: &'a [Token],
-) -> Result<(Part, &'a [Token]), PhraseError<'a>>
-    ensures { Gives (λ x. (part_of x.0, spec_tokens bytes.now x.1.now)) result (block_part (spec_tokens bytes.now tokens.now)) }
+fn block<'a>(alloc: Global, bytes: &[u8], tokens: &'a [Token]) -> Read<'a, Part>
+    ensures { GivesReading (λ x. (part_of x.0, spec_tokens bytes.now x.1.now)) result
+        (block_part (spec_tokens bytes.now tokens.now)) }
 {
     let (list, end) = updates(alloc, bytes, tokens)?;
     let rest = expect_behind(bytes, end, b"}", end_in_formula(&list))?;
@@ -182,8 +156,9 @@ fn part_behind<'a>(
     bytes: &[u8],
     kind: PartKind,
     tokens: &'a [Token],
-) -> Result<(Part, &'a [Token]), PhraseError<'a>>
-    ensures { Gives (λ x. (part_of x.0, spec_tokens bytes.now x.1.now)) result (part_behind kind (spec_tokens bytes.now tokens.now)) }
+) -> Read<'a, Part>
+    ensures { GivesReading (λ x. (part_of x.0, spec_tokens bytes.now x.1.now)) result
+        (part_behind kind (spec_tokens bytes.now tokens.now)) }
 {
     match kind {
         PartKind::Caption => caption(alloc, bytes, tokens),
@@ -236,8 +211,8 @@ fn has_kind(parts: &[Part], kind: PartKind) -> bool
     false
 }
 
-// Messages stand any number of times, and the other parts once. At most six parts are no messages, so few walks go along
-// the parts.
+// Messages stand any number of times, and the other parts once. At most six parts are no messages, so few
+// walks go along the parts.
 fn may_follow(before: &[Part], kind: PartKind) -> bool
     ensures { result ≡ may_follow (map part_of before.now) kind }
 {
@@ -245,12 +220,9 @@ fn may_follow(before: &[Part], kind: PartKind) -> bool
 }
 
 #[tactic(auto, using(crate::proofs::Lists::parts_end, crate::proofs::Lists::parts_again, crate::proofs::Lists::parts_break, crate::proofs::Lists::parts_out))]
-fn parts<'a>(
-    alloc: Global,
-    bytes: &[u8],
-    tokens: &'a [Token],
-) -> Result<(Parts, &'a [Token]), PhraseError<'a>>
-    ensures { Gives (λ x. (map part_of x.0, spec_tokens bytes.now x.1.now)) result (parts (length (spec_tokens bytes.now tokens.now) + 1) [] (spec_tokens bytes.now tokens.now)) }
+fn parts<'a>(alloc: Global, bytes: &[u8], tokens: &'a [Token]) -> Read<'a, Parts>
+    ensures { GivesReading (λ x. (map part_of x.0, spec_tokens bytes.now x.1.now)) result
+        (parts (length (spec_tokens bytes.now tokens.now) + 1) [] (spec_tokens bytes.now tokens.now)) }
 {
     let mut list = Vec::new(alloc);
     let mut left = tokens.len() + 1;
@@ -279,12 +251,9 @@ fn last_is_formula(parts: &Parts) -> bool {
 
 /// An action, and the tokens behind it.
 #[tactic(auto, unfolding(crate::specs::Reading::action_reading))]
-pub fn action<'a>(
-    alloc: Global,
-    bytes: &[u8],
-    tokens: &'a [Token],
-) -> Result<(ActionTree, &'a [Token]), PhraseError<'a>>
-    ensures { Gives (λ x. (action_of x.0, spec_tokens bytes.now x.1.now)) result (action_reading (spec_tokens bytes.now tokens.now)) }
+pub fn action<'a>(alloc: Global, bytes: &[u8], tokens: &'a [Token]) -> Read<'a, ActionTree>
+    ensures { GivesReading (λ x. (action_of x.0, spec_tokens bytes.now x.1.now)) result
+        (action_reading (spec_tokens bytes.now tokens.now)) }
 {
     let next = expect(bytes, tokens, b"%action")?;
     let (word, behind) = identifier(bytes, next)?;

@@ -3,19 +3,21 @@
 ghost use Rattle.std.specs.Prelude.{◌≡◌, ◌+◌, length, map, Some, None};
 ghost use Rattle.std.specs.Option.{option_map};
 ghost use Rattle.tv_lex.specs.Token.{spec_tokens};
-ghost use Rattle.tv_phrases.specs.Reading.{Gives};
+ghost use Rattle.tv_phrases.specs.Reading.{GivesReading};
 ghost use Rattle.tv_phrases.specs.Tokens.{after};
 ghost use Rattle.tv_tree.specs.Copies.{name_of, set_of, form_of, pred_of, decl_of};
 ghost use Rattle.tv_tree.specs.Forms.{DPred, DSet, DRule, Single};
 ghost use Rattle.tv_parse.specs.Kinds.{begins_decl};
-ghost use Rattle.tv_parse.specs.Reading.{signature, props_reading, skip, set_decl, core_decl, defined_decl, rule_decl, decl_behind, decl_reading, lone, foreach_nest, nest, decl_rows};
+ghost use Rattle.tv_parse.specs.Reading.{signature, props_reading, skip, set_decl, core_decl, defined_decl};
+ghost use Rattle.tv_parse.specs.Reading.{rule_decl, decl_behind, decl_reading, lone, foreach_nest, nest};
+ghost use Rattle.tv_parse.specs.Reading.{decl_rows};
 
-use crate::kinds::{DeclKind, begins_decl, below, decl_kind, expect_behind, prop};
+use crate::kinds::{DeclKind, begins_decl, decl_kind, expect_behind, prop};
 use crate::sets::{Head, head_at, set};
 use std::alloc::Global;
 use tv_formula::{formula, name_of_phrase, spelling, spellings};
 use tv_lex::Token;
-use tv_phrases::{PhraseError, after, expect, identifier, name, params};
+use tv_phrases::{PhraseError, Read, after, below, expect, identifier, name, params};
 use tv_tree::trees::{Decl, Decls, Name, PredDecl, PropWords, RuleDecl, Spellings};
 
 /// A name with its parameters.
@@ -27,12 +29,9 @@ pub struct Signature {
 
 /// A name with its parameters, and the tokens behind it.
 #[tactic(auto, unfolding(crate::specs::Reading::signature))]
-pub fn signature_at<'a>(
-    alloc: Global,
-    bytes: &[u8],
-    tokens: &'a [Token],
-) -> Result<(Signature, &'a [Token]), PhraseError<'a>>
-    ensures { Gives (λ x. ((name_of x.0.name, x.0.params), spec_tokens bytes.now x.1.now)) result (signature (spec_tokens bytes.now tokens.now)) }
+pub fn signature_at<'a>(alloc: Global, bytes: &[u8], tokens: &'a [Token]) -> Read<'a, Signature>
+    ensures { GivesReading (λ x. ((name_of x.0.name, x.0.params), spec_tokens bytes.now x.1.now)) result
+        (signature (spec_tokens bytes.now tokens.now)) }
 {
     let (phrase, behind) = name(alloc, bytes, tokens)?;
     let (words, rest) = params(alloc, bytes, behind)?;
@@ -43,12 +42,9 @@ pub fn signature_at<'a>(
 
 // The properties of a predicate: as many as stand there.
 #[tactic(auto, using(crate::proofs::Lists::props_end, tv_phrases::proofs::Repeats::many_out))]
-fn props_at<'a>(
-    alloc: Global,
-    bytes: &[u8],
-    tokens: &'a [Token],
-) -> Result<(PropWords, &'a [Token]), PhraseError<'a>>
-    ensures { Gives (λ x. (x.0, spec_tokens bytes.now x.1.now)) result (props_reading (spec_tokens bytes.now tokens.now)) }
+fn props_at<'a>(alloc: Global, bytes: &[u8], tokens: &'a [Token]) -> Read<'a, PropWords>
+    ensures { GivesReading (λ x. (x.0, spec_tokens bytes.now x.1.now)) result
+        (props_reading (spec_tokens bytes.now tokens.now)) }
 {
     let mut list = Vec::new(alloc);
     let mut left = tokens.len() + 1;
@@ -73,12 +69,9 @@ fn skip<'a>(bytes: &[u8], tokens: &'a [Token], mark: &[u8]) -> &'a [Token]
 }
 
 #[tactic(auto, using(tv_tree::proofs::Unfolds::decl_of_set), unfolding(crate::specs::Reading::set_decl, crate::specs::Reading::lone))]
-fn set_decl<'a>(
-    alloc: Global,
-    bytes: &[u8],
-    tokens: &'a [Token],
-) -> Result<(Decl, &'a [Token]), PhraseError<'a>>
-    ensures { Gives (λ x. (decl_of x.0, spec_tokens bytes.now x.1.now)) result (lone (set_decl (spec_tokens bytes.now tokens.now))) }
+fn set_decl<'a>(alloc: Global, bytes: &[u8], tokens: &'a [Token]) -> Read<'a, Decl>
+    ensures { GivesReading (λ x. (decl_of x.0, spec_tokens bytes.now x.1.now)) result
+        (lone (set_decl (spec_tokens bytes.now tokens.now))) }
 {
     let (word, next) = identifier(bytes, tokens)?;
     let (members, rest) = set(alloc, bytes, skip(bytes, next, b"="))?;
@@ -87,12 +80,9 @@ fn set_decl<'a>(
 }
 
 #[tactic(auto, unfolding(crate::specs::Reading::core_decl))]
-fn core_decl<'a>(
-    alloc: Global,
-    bytes: &[u8],
-    tokens: &'a [Token],
-) -> Result<(PredDecl, &'a [Token]), PhraseError<'a>>
-    ensures { Gives (λ x. (DPred (pred_of x.0), spec_tokens bytes.now x.1.now)) result (core_decl (spec_tokens bytes.now tokens.now)) }
+fn core_decl<'a>(alloc: Global, bytes: &[u8], tokens: &'a [Token]) -> Read<'a, PredDecl>
+    ensures { GivesReading (λ x. (DPred (pred_of x.0), spec_tokens bytes.now x.1.now)) result
+        (core_decl (spec_tokens bytes.now tokens.now)) }
 {
     let (Signature { name, params }, behind) = signature_at(alloc, bytes, tokens)?;
     let (props, rest) = props_at(alloc, bytes, behind)?;
@@ -109,12 +99,9 @@ fn core_decl<'a>(
 }
 
 #[tactic(auto, unfolding(crate::specs::Reading::defined_decl))]
-fn defined_decl<'a>(
-    alloc: Global,
-    bytes: &[u8],
-    tokens: &'a [Token],
-) -> Result<(PredDecl, &'a [Token]), PhraseError<'a>>
-    ensures { Gives (λ x. (DPred (pred_of x.0), spec_tokens bytes.now x.1.now)) result (defined_decl (spec_tokens bytes.now tokens.now)) }
+fn defined_decl<'a>(alloc: Global, bytes: &[u8], tokens: &'a [Token]) -> Read<'a, PredDecl>
+    ensures { GivesReading (λ x. (DPred (pred_of x.0), spec_tokens bytes.now x.1.now)) result
+        (defined_decl (spec_tokens bytes.now tokens.now)) }
 {
     let (Signature { name, params }, next) = signature_at(alloc, bytes, tokens)?;
     let behind = expect(bytes, next, b"=")?;
@@ -133,12 +120,9 @@ fn defined_decl<'a>(
 }
 
 #[tactic(auto, unfolding(crate::specs::Reading::rule_decl))]
-fn rule_decl<'a>(
-    alloc: Global,
-    bytes: &[u8],
-    tokens: &'a [Token],
-) -> Result<(RuleDecl, &'a [Token]), PhraseError<'a>>
-    ensures { Gives (λ x. (DRule (form_of x.0.body) (form_of x.0.head), spec_tokens bytes.now x.1.now)) result (rule_decl (spec_tokens bytes.now tokens.now)) }
+fn rule_decl<'a>(alloc: Global, bytes: &[u8], tokens: &'a [Token]) -> Read<'a, RuleDecl>
+    ensures { GivesReading (λ x. (DRule (form_of x.0.body) (form_of x.0.head), spec_tokens bytes.now x.1.now))
+        result (rule_decl (spec_tokens bytes.now tokens.now)) }
 {
     let (body, end) = formula(alloc, bytes, tokens)?;
     let behind = expect_behind(bytes, end, b"==>", true)?;
@@ -152,8 +136,9 @@ fn decl_behind<'a>(
     bytes: &[u8],
     kind: DeclKind,
     tokens: &'a [Token],
-) -> Result<(Decl, &'a [Token]), PhraseError<'a>>
-    ensures { Gives (λ x. (decl_of x.0, spec_tokens bytes.now x.1.now)) result (lone (decl_behind kind (spec_tokens bytes.now tokens.now))) }
+) -> Read<'a, Decl>
+    ensures { GivesReading (λ x. (decl_of x.0, spec_tokens bytes.now x.1.now)) result
+        (lone (decl_behind kind (spec_tokens bytes.now tokens.now))) }
 {
     match kind {
         DeclKind::Set => set_decl(alloc, bytes, tokens),
@@ -174,12 +159,9 @@ fn decl_behind<'a>(
 
 // A declaration other than a `foreach`.
 #[tactic(auto, unfolding(crate::specs::Reading::decl_reading, crate::specs::Reading::lone))]
-fn single_decl<'a>(
-    alloc: Global,
-    bytes: &[u8],
-    tokens: &'a [Token],
-) -> Result<(Decl, &'a [Token]), PhraseError<'a>>
-    ensures { Gives (λ x. (decl_of x.0, spec_tokens bytes.now x.1.now)) result (lone (decl_reading (spec_tokens bytes.now tokens.now))) }
+fn single_decl<'a>(alloc: Global, bytes: &[u8], tokens: &'a [Token]) -> Read<'a, Decl>
+    ensures { GivesReading (λ x. (decl_of x.0, spec_tokens bytes.now x.1.now)) result
+        (lone (decl_reading (spec_tokens bytes.now tokens.now))) }
 {
     match decl_kind(bytes, tokens) {
         Some((kind, behind)) => decl_behind(alloc, bytes, kind, behind),
@@ -198,13 +180,9 @@ pub fn end_in_formula(decls: &Decls) -> bool {
 
 #[cycle(decls)]
 #[tactic(auto, using(tv_tree::proofs::Unfolds::decl_of_foreach, tv_tree::proofs::Unfolds::decls_of_items), unfolding(crate::specs::Reading::foreach_nest))]
-fn foreach_at<'a>(
-    alloc: Global,
-    bytes: &[u8],
-    depth: usize,
-    tokens: &'a [Token],
-) -> Result<(Decl, &'a [Token]), PhraseError<'a>>
-    ensures { Gives (λ x. (decl_of x.0, spec_tokens bytes.now x.1.now)) result (foreach_nest (decl_rows depth) (spec_tokens bytes.now tokens.now)) }
+fn foreach_at<'a>(alloc: Global, bytes: &[u8], depth: usize, tokens: &'a [Token]) -> Read<'a, Decl>
+    ensures { GivesReading (λ x. (decl_of x.0, spec_tokens bytes.now x.1.now)) result
+        (foreach_nest (decl_rows depth) (spec_tokens bytes.now tokens.now)) }
 {
     let (Head { var, members }, behind) = head_at(alloc, bytes, tokens)?;
     let (body, end) = decls_at(alloc, bytes, depth, behind)?;
@@ -214,13 +192,9 @@ fn foreach_at<'a>(
 
 #[cycle(decls)]
 #[tactic(auto, unfolding(crate::specs::Reading::nest))]
-fn decl_at<'a>(
-    alloc: Global,
-    bytes: &[u8],
-    depth: usize,
-    tokens: &'a [Token],
-) -> Result<(Decl, &'a [Token]), PhraseError<'a>>
-    ensures { Gives (λ x. (decl_of x.0, spec_tokens bytes.now x.1.now)) result (nest decl_reading (decl_rows depth) (spec_tokens bytes.now tokens.now)) }
+fn decl_at<'a>(alloc: Global, bytes: &[u8], depth: usize, tokens: &'a [Token]) -> Read<'a, Decl>
+    ensures { GivesReading (λ x. (decl_of x.0, spec_tokens bytes.now x.1.now)) result
+        (nest decl_reading (decl_rows depth) (spec_tokens bytes.now tokens.now)) }
 {
     match after(bytes, tokens, b"foreach") {
         Some(behind) => foreach_at(alloc, bytes, depth, behind),
@@ -230,13 +204,9 @@ fn decl_at<'a>(
 
 #[cycle(decls)]
 #[tactic(auto, using(crate::proofs::Lists::rows_end, crate::proofs::Lists::rows_break, crate::proofs::Lists::rows_out))]
-fn decls_at<'a>(
-    alloc: Global,
-    bytes: &[u8],
-    depth: usize,
-    tokens: &'a [Token],
-) -> Result<(Decls, &'a [Token]), PhraseError<'a>>
-    ensures { Gives (λ x. (map decl_of x.0.items.items, spec_tokens bytes.now x.1.now)) result (decl_rows depth (spec_tokens bytes.now tokens.now)) }
+fn decls_at<'a>(alloc: Global, bytes: &[u8], depth: usize, tokens: &'a [Token]) -> Read<'a, Decls>
+    ensures { GivesReading (λ x. (map decl_of x.0.items.items, spec_tokens bytes.now x.1.now)) result
+        (decl_rows depth (spec_tokens bytes.now tokens.now)) }
 {
     let mut items = Vec::new(alloc);
     let mut left = depth;
@@ -253,12 +223,9 @@ fn decls_at<'a>(
 }
 
 /// As many declarations as stand here, and the tokens behind them.
-pub fn decls<'a>(
-    alloc: Global,
-    bytes: &[u8],
-    tokens: &'a [Token],
-) -> Result<(Decls, &'a [Token]), PhraseError<'a>>
-    ensures { Gives (λ x. (map decl_of x.0.items.items, spec_tokens bytes.now x.1.now)) result (decl_rows (length (spec_tokens bytes.now tokens.now) + 1) (spec_tokens bytes.now tokens.now)) }
+pub fn decls<'a>(alloc: Global, bytes: &[u8], tokens: &'a [Token]) -> Read<'a, Decls>
+    ensures { GivesReading (λ x. (map decl_of x.0.items.items, spec_tokens bytes.now x.1.now)) result
+        (decl_rows (length (spec_tokens bytes.now tokens.now) + 1) (spec_tokens bytes.now tokens.now)) }
 {
     decls_at(alloc, bytes, tokens.len() + 1, tokens)
 }

@@ -2,12 +2,13 @@
 
 ghost use Rattle.std.specs.Prelude.{◌≡◌, [], IfOk, OnOk, reverse};
 ghost use Rattle.tv_lex.specs.Token.{spec_tokens, spec_token};
-ghost use Rattle.tv_parse.specs.Height.{is_one_of, opening_brackets, closing_brackets, connectives, quantifiers, separators, is_directive, effect, without_marks, changed, passes_height};
+ghost use Rattle.tv_parse.specs.Height.{is_one_of, opening_brackets, closing_brackets, connectives};
+ghost use Rattle.tv_parse.specs.Height.{quantifiers, separators, is_directive, effect, without_marks};
+ghost use Rattle.tv_parse.specs.Height.{changed, passes_height};
 
-use crate::kinds::begins_with;
 use std::alloc::{AllocError, Global};
 use tv_lex::{Token, TokenKind, text};
-use tv_phrases::is_spelled;
+use tv_phrases::{begins_with, is_spelled};
 
 /// What is open at a place.
 #[derive(Clone, Copy, Debug, PartialEq, Eq)]

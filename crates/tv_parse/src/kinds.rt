@@ -1,16 +1,17 @@
 //! What the first token of a declaration, a part of an action, or a property tells.
 
-ghost use Rattle.std.specs.Prelude.{◌≡◌, ◌<◌, length, is_some, IfOk};
+ghost use Rattle.std.specs.Prelude.{◌≡◌, ◌<◌};
 ghost use Rattle.std.specs.Option.{option_map};
 ghost use Rattle.tv_lex.specs.Token.{spec_tokens};
-ghost use Rattle.tv_phrases.specs.Tokens.{after, first, identifier_item};
+ghost use Rattle.tv_phrases.specs.Tokens.{after, first};
 ghost use Rattle.tv_phrases.specs.Reading.{Takes};
-ghost use Rattle.tv_parse.specs.Kinds.{looked_up, decl_marks, part_marks, prop_words, decl_kind, part_kind, prop_item, begins_decl, begins_update, begins_formula, same_kind};
-ghost use Rattle.tv_phrases.specs.Repeated.{below, begins_with};
+ghost use Rattle.tv_parse.specs.Kinds.{looked_up, decl_marks, part_marks, prop_words, decl_kind, part_kind};
+ghost use Rattle.tv_parse.specs.Kinds.{prop_item, begins_decl, begins_update, begins_formula};
+ghost use Rattle.tv_phrases.specs.Repeated.{begins_with};
 
 use tv_formula::behind_arrow;
 use tv_lex::{Token, text};
-use tv_phrases::{Item, PhraseError, after, begins_item, is_spelled};
+use tv_phrases::{Item, PhraseError, after, begins_item, begins_with, is_spelled};
 use tv_tree::trees::PropWord;
 
 /// A declaration, `foreach` aside.
@@ -114,7 +115,8 @@ fn property(word: &[u8]) -> Option<PropWord>
 /// The kind of the declaration that begins here, and the tokens behind its directive.
 #[tactic(auto, unfolding(tv_phrases::specs::Tokens::first))]
 pub fn decl_kind<'a>(bytes: &[u8], tokens: &'a [Token]) -> Option<(DeclKind, &'a [Token])>
-    ensures { option_map (λ x. (x.0, spec_tokens bytes.now x.1.now)) result ≡ first decl_kind (spec_tokens bytes.now tokens.now) }
+    ensures { option_map (λ x. (x.0, spec_tokens bytes.now x.1.now)) result
+        ≡ first decl_kind (spec_tokens bytes.now tokens.now) }
 {
     let (token, rest) = tokens.split_first()?;
     match kind_of_decl(text(bytes, token)) {
@@ -126,7 +128,8 @@ pub fn decl_kind<'a>(bytes: &[u8], tokens: &'a [Token]) -> Option<(DeclKind, &'a
 /// The kind of the part that begins here, and the tokens behind its first one.
 #[tactic(auto, unfolding(tv_phrases::specs::Tokens::first))]
 pub fn part_kind<'a>(bytes: &[u8], tokens: &'a [Token]) -> Option<(PartKind, &'a [Token])>
-    ensures { option_map (λ x. (x.0, spec_tokens bytes.now x.1.now)) result ≡ first part_kind (spec_tokens bytes.now tokens.now) }
+    ensures { option_map (λ x. (x.0, spec_tokens bytes.now x.1.now)) result
+        ≡ first part_kind (spec_tokens bytes.now tokens.now) }
 {
     let (token, rest) = tokens.split_first()?;
     match kind_of_part(text(bytes, token)) {
@@ -138,22 +141,13 @@ pub fn part_kind<'a>(bytes: &[u8], tokens: &'a [Token]) -> Option<(PartKind, &'a
 /// The property that stands here, and the tokens behind it.
 #[tactic(auto, unfolding(tv_phrases::specs::Tokens::first))]
 pub fn prop<'a>(bytes: &[u8], tokens: &'a [Token]) -> Option<(PropWord, &'a [Token])>
-    ensures { option_map (λ x. (x.0, spec_tokens bytes.now x.1.now)) result ≡ first prop_item (spec_tokens bytes.now tokens.now) }
+    ensures { option_map (λ x. (x.0, spec_tokens bytes.now x.1.now)) result
+        ≡ first prop_item (spec_tokens bytes.now tokens.now) }
 {
     let (token, rest) = tokens.split_first()?;
     match property(text(bytes, token)) {
         Some(word) => Some((word, rest)),
         None => None,
-    }
-}
-
-/// Whether the first token is spelled like the mark.
-pub fn begins_with(bytes: &[u8], tokens: &[Token], mark: &[u8]) -> bool
-    ensures { result ≡ begins_with mark.now (spec_tokens bytes.now tokens.now) }
-{
-    match after(bytes, tokens, mark) {
-        Some(_) => true,
-        None => false,
     }
 }
 
@@ -189,26 +183,16 @@ pub fn begins_formula(bytes: &[u8], tokens: &[Token]) -> bool
         || begins_item(bytes, tokens, Item::Identifier)
 }
 
-/// One level or turn less, if there is one. There always is, since each takes a token at least.
-pub fn below(depth: usize, tokens: &[Token]) -> Result<usize, PhraseError<'_>>
-    ensures value { Takes (λ inner. inner) result (below depth) }
-    ensures less { IfOk result (λ inner. inner < depth) }
-{
-    match depth.checked_sub(1) {
-        Some(inner) => Ok(inner),
-        None => Err(PhraseError::Unexpected(tokens)),
-    }
-}
-
-/// The tokens behind a mark that has to stand here. Behind a formula, an arrow in front of a string could go on, so the
-/// string is what can't stand there.
+/// The tokens behind a mark that has to stand here. Behind a formula, an arrow in front of a string could go
+/// on, so the string is what can't stand there.
 pub fn expect_behind<'a>(
     bytes: &[u8],
     tokens: &'a [Token],
     mark: &[u8],
     formula_before: bool,
 ) -> Result<&'a [Token], PhraseError<'a>>
-    ensures { Takes (λ rest. spec_tokens bytes.now rest.now) result (after mark.now (spec_tokens bytes.now tokens.now)) }
+    ensures { Takes (λ rest. spec_tokens bytes.now rest.now) result
+        (after mark.now (spec_tokens bytes.now tokens.now)) }
 {
     match after(bytes, tokens, mark) {
         Some(rest) => Ok(rest),

@@ -5,7 +5,9 @@ ghost use Rattle.tv_lex.specs.Spaced.{IsToken};
 ghost use Rattle.tv_tree.specs.Forms.{Form, NameForm, PartForm, ProgramForm, SetForm};
 ghost use Rattle.tv_tree.specs.Spelled.{IsSpelled};
 ghost use Rattle.tv_formula.specs.Grammar.{IsFormula};
-ghost use Rattle.tv_parse.specs.Grammar.{IsProgram, IsSetTerm, IsSet, IsHead, IsNest, IsSignature, AreProps, IsDecl, AreDecls, IsUpdate, AreUpdates, IsPiece, ArePieces, AreFormulas, IsPart, AreParts, IsAction, IsEdge, begins_edge};
+ghost use Rattle.tv_parse.specs.Grammar.{IsProgram, IsSetTerm, IsSet, IsHead, IsNest, IsSignature, AreProps};
+ghost use Rattle.tv_parse.specs.Grammar.{IsDecl, AreDecls, IsUpdate, AreUpdates, IsPiece, ArePieces};
+ghost use Rattle.tv_parse.specs.Grammar.{AreFormulas, IsPart, AreParts, IsAction, IsEdge, begins_edge};
 ghost use Rattle.tv_parse.specs.Kinds.{begins_formula, begins_decl, begins_update, kind_of};
 ghost use Rattle.tv_phrases.specs.Repeated.{HasOne, Repeated, begins_with};
 ghost use Rattle.tv_parse.specs.Reading.{program_reading};
@@ -57,7 +59,8 @@ pub fn one_action()
     ensures piece { HasOne IsPiece }
     ensures pieces { HasOne ArePieces }
     ensures formulas { HasOne AreFormulas }
-    ensures part { (ts us vs : List SpecToken) (p q : PartForm) → kind_of p ≡ kind_of q → IsPart ts p us → IsPart ts q vs → (p ≡ q) × (us ≡ vs) }
+    ensures part { (ts us vs : List SpecToken) (p q : PartForm) → kind_of p ≡ kind_of q → IsPart ts p us
+        → IsPart ts q vs → (p ≡ q) × (us ≡ vs) }
     ensures parts { (before : List PartForm) → HasOne (AreParts before) }
     ensures action { HasOne IsAction }
     ensures row { HasOne (Repeated (begins_with (codes "%action")) IsAction) }

@@ -3,7 +3,6 @@
 
 mod actions;
 mod decls;
-mod error;
 mod height;
 mod kinds;
 mod laws;
@@ -11,7 +10,6 @@ mod program;
 mod sets;
 mod updates;
 
-pub use error::ParseError;
 pub use laws::{
     formulas_begin, one_action, one_declaration, one_edge, one_set, one_tree, one_update,
     programs_are_read, programs_are_spelled,

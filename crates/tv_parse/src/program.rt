@@ -1,37 +1,36 @@
 //! Programs: declarations, actions, edges and the words behind them.
 
-ghost use Rattle.std.specs.Prelude.{◌≡◌, ◌≤◌, length, map, Ok, IfOk, IfErr};
+ghost use Rattle.std.specs.Prelude.{◌≤◌, length, map, Ok, IfOk, IfErr};
+ghost use Rattle.tv_lex.specs.Places.{StopsAtToken};
 ghost use Rattle.tv_lex.specs.Bytes.{longest_text};
 ghost use Rattle.tv_lex.specs.Token.{spec_tokens};
 ghost use Rattle.tv_lex.specs.Pieces.{Reads};
-ghost use Rattle.tv_phrases.specs.Reading.{Gives};
+ghost use Rattle.tv_phrases.specs.Refused.{HaveNoTree, syntax_place};
+ghost use Rattle.tv_phrases.specs.Reading.{GivesReading};
 ghost use Rattle.tv_tree.specs.Copies.{action_of, edge_of, program_of};
 ghost use Rattle.tv_tree.specs.Spelled.{IsSpelled};
-ghost use Rattle.tv_parse.specs.Reading.{edge_reading, actions_reading, edges_reading, tail_reading, program_reading};
+ghost use Rattle.tv_parse.specs.Reading.{edge_reading, actions_reading, edges_reading, tail_reading};
+ghost use Rattle.tv_parse.specs.Reading.{program_reading};
 ghost use Rattle.tv_parse.specs.Height.{IsTooDeep};
 ghost use Rattle.tv_parse.specs.Grammar.{IsProgram};
-ghost use Rattle.tv_parse.specs.Outcome.{Cause, StopsAtToken};
 
 use crate::actions::action;
 use crate::decls::{decls, end_in_formula};
-use crate::error::ParseError;
 use crate::height::is_too_deep;
-use crate::kinds::{begins_with, below, expect_behind};
+use crate::kinds::expect_behind;
 use std::alloc::Global;
 use tv_formula::{spelling, spellings};
 use tv_lex::{Token, Tokens, stop_place};
 use tv_phrases::{
-    Item, PhraseError, after, begins_item, expect, identifier, optional_list, params, word,
+    Item, PhraseError, Read, SyntaxError, after, begins_item, begins_with, below, expect,
+    identifier, optional_list, params, word,
 };
 use tv_tree::trees::{ActionTrees, EdgeTree, EdgeTrees, Spellings, Tree};
 
 #[tactic(auto, unfolding(crate::specs::Reading::edge_reading))]
-fn edge<'a>(
-    alloc: Global,
-    bytes: &[u8],
-    tokens: &'a [Token],
-) -> Result<(EdgeTree, &'a [Token]), PhraseError<'a>>
-    ensures { Gives (λ x. (edge_of x.0, spec_tokens bytes.now x.1.now)) result (edge_reading (spec_tokens bytes.now tokens.now)) }
+fn edge<'a>(alloc: Global, bytes: &[u8], tokens: &'a [Token]) -> Read<'a, EdgeTree>
+    ensures { GivesReading (λ x. (edge_of x.0, spec_tokens bytes.now x.1.now)) result
+        (edge_reading (spec_tokens bytes.now tokens.now)) }
 {
     let (source, next) = word(bytes, tokens)?;
     let (name, behind) = identifier(bytes, next)?;
@@ -47,12 +46,9 @@ fn edge<'a>(
 }
 
 #[tactic(auto, using(tv_phrases::proofs::Repeats::many_end, tv_phrases::proofs::Repeats::many_break, tv_phrases::proofs::Repeats::many_out))]
-fn actions<'a>(
-    alloc: Global,
-    bytes: &[u8],
-    tokens: &'a [Token],
-) -> Result<(ActionTrees, &'a [Token]), PhraseError<'a>>
-    ensures { Gives (λ x. (map action_of x.0, spec_tokens bytes.now x.1.now)) result (actions_reading (spec_tokens bytes.now tokens.now)) }
+fn actions<'a>(alloc: Global, bytes: &[u8], tokens: &'a [Token]) -> Read<'a, ActionTrees>
+    ensures { GivesReading (λ x. (map action_of x.0, spec_tokens bytes.now x.1.now)) result
+        (actions_reading (spec_tokens bytes.now tokens.now)) }
 {
     let mut list = Vec::new(alloc);
     let mut left = tokens.len() + 1;
@@ -69,12 +65,9 @@ fn actions<'a>(
 }
 
 #[tactic(auto, using(tv_phrases::proofs::Repeats::many_end, tv_phrases::proofs::Repeats::many_break, tv_phrases::proofs::Repeats::many_out))]
-fn edges<'a>(
-    alloc: Global,
-    bytes: &[u8],
-    tokens: &'a [Token],
-) -> Result<(EdgeTrees, &'a [Token]), PhraseError<'a>>
-    ensures { Gives (λ x. (map edge_of x.0, spec_tokens bytes.now x.1.now)) result (edges_reading (spec_tokens bytes.now tokens.now)) }
+fn edges<'a>(alloc: Global, bytes: &[u8], tokens: &'a [Token]) -> Read<'a, EdgeTrees>
+    ensures { GivesReading (λ x. (map edge_of x.0, spec_tokens bytes.now x.1.now)) result
+        (edges_reading (spec_tokens bytes.now tokens.now)) }
 {
     let mut list = Vec::new(alloc);
     let mut left = tokens.len() + 1;
@@ -97,7 +90,7 @@ fn tail<'a>(
     bytes: &[u8],
     tokens: &'a [Token],
 ) -> Result<Option<Spellings>, PhraseError<'a>>
-    ensures { Gives (λ x. x) result (tail_reading (spec_tokens bytes.now tokens.now)) }
+    ensures { GivesReading (λ x. x) result (tail_reading (spec_tokens bytes.now tokens.now)) }
 {
     let Some(behind) = after(bytes, tokens, b"%%") else {
         return if tokens.is_empty() {
@@ -116,7 +109,7 @@ fn tail<'a>(
 
 #[tactic(auto, using(tv_tree::proofs::Unfolds::decls_of_items), unfolding(crate::specs::Reading::program_reading))]
 fn program<'a>(alloc: Global, bytes: &[u8], tokens: &'a [Token]) -> Result<Tree, PhraseError<'a>>
-    ensures { Gives program_of result (program_reading (spec_tokens bytes.now tokens.now)) }
+    ensures { GivesReading program_of result (program_reading (spec_tokens bytes.now tokens.now)) }
 {
     let (list, end) = decls(alloc, bytes, tokens)?;
     let behind = expect_behind(bytes, end, b"%%", end_in_formula(&list))?;
@@ -132,27 +125,28 @@ fn program<'a>(alloc: Global, bytes: &[u8], tokens: &'a [Token]) -> Result<Tree,
     })
 }
 
-/// The tree of a program's tokens, which are those of `bytes`. Over 200 constructs that are open at one place are
-/// refused first. The place of a refusal is that of the first token that no continuation of the grammar allows, or of
-/// the end of the text. Calls nest as deep as constructs are open.
+/// The tree of a program's tokens, which are those of `bytes`. Over 200 constructs that are open at one place
+/// are refused first. The place of a refusal is that of the first token that no continuation of the grammar
+/// allows, or of the end of the text. Calls nest as deep as constructs are open.
 #[tactic(auto, using(tv_lex::proofs::PlaceLemmas::reads_order, crate::proofs::ProgramLaws::read_is_program, crate::proofs::ProgramLaws::unread_is_none))]
-pub fn parse_program(alloc: Global, bytes: &[u8], tokens: &Tokens) -> Result<Tree, ParseError>
+pub fn parse_program(alloc: Global, bytes: &[u8], tokens: &Tokens) -> Result<Tree, SyntaxError>
     requires size { length bytes.now ≤ longest_text }
     requires read { Reads bytes.now (Ok tokens.now.list.items) }
     ensures tree { IfOk result (λ t. IsProgram (spec_tokens bytes.now tokens.now.list.items) (program_of t)) }
     ensures spelled { IfOk result (λ t. IsSpelled (program_of t)) }
     ensures low { IfOk result (λ t. ¬ IsTooDeep (spec_tokens bytes.now tokens.now.list.items)) }
-    ensures fault { IfErr result (Cause (spec_tokens bytes.now tokens.now.list.items)) }
-    ensures place { IfErr result (StopsAtToken bytes.now tokens.now.list.items) }
+    ensures fault { IfErr result
+        (HaveNoTree IsTooDeep IsProgram (spec_tokens bytes.now tokens.now.list.items)) }
+    ensures place { IfErr result (StopsAtToken syntax_place bytes.now tokens.now.list.items) }
 {
     if is_too_deep(alloc, bytes, &tokens.list)? {
-        return Err(ParseError::TooDeep);
+        return Err(SyntaxError::TooDeep);
     }
     match program(alloc, bytes, &tokens.list) {
         Ok(tree) => Ok(tree),
         Err(PhraseError::Unexpected(at)) => {
-            Err(ParseError::Syntax(stop_place(bytes, &tokens.list, at)))
+            Err(SyntaxError::Syntax(stop_place(bytes, &tokens.list, at)))
         }
-        Err(PhraseError::Memory) => Err(ParseError::Memory),
+        Err(PhraseError::Memory) => Err(SyntaxError::Memory),
     }
 }

@@ -1,5 +1,6 @@
 -- What one reading says of another at the same place, and of the tokens that are left.
-use Rattle.std.proofs.Common.{◌≡◌, ℕ, ◌<◌, ◌≤◌, List, [], ◌∷◌, Bool, true, false, Option, Some, None, length, refl, subst, arith}
+use Rattle.std.proofs.Common.{◌≡◌, ℕ, ◌<◌, ◌≤◌, List, [], ◌∷◌, Bool, true, false, Option, Some, None, length}
+use Rattle.std.proofs.Common.{refl, subst, arith}
 use Rattle.std.specs.Prelude.{codes, if◌then◌else◌, ◌&&◌, IfSome}
 use Rattle.std.specs.Str.{bytes_eq}
 use Rattle.std.proofs.lemmas.Slice.Eq.{bytes_eq-Decides}
@@ -7,8 +8,9 @@ use Rattle.tv_lex.specs.Token.{SpecToken}
 use Rattle.tv_phrases.specs.Reading.{◌>>=◌, choose, taken}
 use Rattle.tv_phrases.specs.Tokens.{after, first, is_word, is_identifier, identifier_item}
 use Rattle.tv_phrases.specs.Lists.{comma_list, between, params, variables, optional_brackets, name, pair}
-use Rattle.tv_phrases.proofs.Values.{some_same}
-use Rattle.tv_phrases.proofs.Takes.{after_takes, first_takes, params_take, variables_take, pair_takes, name_takes}
+use Rattle.std.proofs.lemmas.Option.{same_Some}
+use Rattle.tv_phrases.proofs.Takes.{after_takes, first_takes, params_take, variables_take, pair_takes}
+use Rattle.tv_phrases.proofs.Takes.{name_takes}
 
 -- ---- tools over readings
 
@@ -40,7 +42,7 @@ on_all (Some x) Q h = h x
 -- what holds of the value of a reading
 pub at_some : {A : Type 0} (o : Option A) (P : A → Type 0) (x : A) → IfSome o P → o ≡ Some x → P x
 at_some None P x p e = absurd (cc)
-at_some (Some y) P x p e = subst P (some_same y x e) p
+at_some (Some y) P x p e = subst P (same_Some y x e) p
 
 -- ---- one token
 

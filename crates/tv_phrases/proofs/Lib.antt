@@ -6,5 +6,8 @@ pub mod Repeats
 pub mod Facts
 pub mod WordTests
 pub mod Numerals
+pub mod Marks
+pub mod LeftTokens
 -- Lemmas of this crate's own.
 mod CommaLists
+mod Turns

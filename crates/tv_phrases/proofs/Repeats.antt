@@ -1,13 +1,15 @@
 -- Items one after the other: how the loops read them, that the reading gives what the grammar says and nothing else, and
 -- that it is the only list there.
-use Rattle.std.proofs.Common.{◌≡◌, ℕ, zero, suc, ◌+◌, ◌<◌, ◌≤◌, List, [], ◌∷◌, ◌++◌, Bool, true, false, map, length, Some, None, refl, sym, ◌∙◌, ap, subst, inl, inr, arith, append_assoc}
+use Rattle.std.proofs.Common.{◌≡◌, ℕ, zero, suc, ◌+◌, ◌<◌, ◌≤◌, List, [], ◌∷◌, ◌++◌, Bool, true, false, map}
+use Rattle.std.proofs.Common.{length, Some, None, refl, sym, ◌∙◌, ap, subst, inl, inr, arith, append_assoc}
 use Rattle.std.proofs.lemmas.List.{map_push, append-nil}
 use Rattle.std.proofs.lemmas.Option.{same_Some}
 use Rattle.tv_lex.specs.Token.{SpecToken}
 use Rattle.tv_phrases.specs.Reading.{Reading, taken, ◌>>=◌}
 use Rattle.tv_phrases.specs.Tokens.{after}
 use Rattle.tv_phrases.specs.Lists.{with_front}
-use Rattle.tv_phrases.specs.Repeated.{begins_with, HasOne, Repeated, Behind, Joined, below, with_first, turn, many, all_of, behind, joined}
+use Rattle.tv_phrases.specs.Repeated.{begins_with, HasOne, Repeated, Behind, Joined, below, with_first, turn}
+use Rattle.tv_phrases.specs.Repeated.{many, all_of, behind, separated}
 use Rattle.tv_phrases.proofs.Values.{bind_some, tested, same_value, same_rest}
 use Rattle.tv_phrases.proofs.Takes.{after_takes}
 
@@ -68,14 +70,14 @@ pub many_out : {X : Type 0} (xs : List X) (begins : List SpecToken → Bool) (it
 many_out xs begins item n ts e = front_none xs (many begins item n ts) (rw (many_steps begins item n ts, e) refl)
 
 -- items behind a first one
-pub joined_start : {A X : Type 0} (f : A → X) (none list : List A) (a : A) (mark : List ℕ) (item : List SpecToken → Reading X) (k : ℕ) (ts us : List SpecToken) → none ≡ [] → list ≡ none ++ a ∷ [] → k ≡ length us + 1 → item ts ≡ taken (f a) us → joined mark item ts ≡ with_front (map f list) (many (begins_with mark) (behind mark item) k us)
-unfolding joined
+pub joined_start : {A X : Type 0} (f : A → X) (none list : List A) (a : A) (mark : List ℕ) (item : List SpecToken → Reading X) (k : ℕ) (ts us : List SpecToken) → none ≡ [] → list ≡ none ++ a ∷ [] → k ≡ length us + 1 → item ts ≡ taken (f a) us → separated mark item ts ≡ with_front (map f list) (many (begins_with mark) (behind mark item) k us)
+unfolding separated
 joined_start f none list a mark item k ts us n p e i =
     let single : list ≡ [] ++ a ∷ [] = p ∙ ap (λ (xs : List _). xs ++ a ∷ []) n in
     rw (i, e) (front_start (with_first (f a) (many (begins_with mark) (behind mark item) (length us + 1) us)) ∙ pushed f [] list a (many (begins_with mark) (behind mark item) (length us + 1) us) single)
 
-pub no_joined : {X : Type 0} (mark : List ℕ) (item : List SpecToken → Reading X) (ts : List SpecToken) → item ts ≡ None → joined mark item ts ≡ None
-unfolding joined
+pub no_joined : {X : Type 0} (mark : List ℕ) (item : List SpecToken → Reading X) (ts : List SpecToken) → item ts ≡ None → separated mark item ts ≡ None
+unfolding separated
 no_joined mark item ts i = rw i refl
 
 pub begun : (mark : List ℕ) (ts us : List SpecToken) → after mark ts ≡ Some us → begins_with mark ts ≡ true
@@ -127,8 +129,8 @@ behind_sound mark item Item one ts us x e =
     let a = bind_some (after mark ts) item (x, us) e in
     (a.0, a.1, one a.0 us x a.2)
 
-pub joined_sound : {X : Type 0} (mark : List ℕ) (item : List SpecToken → Reading X) (Item : List SpecToken → X → List SpecToken → Type 0) → ((ts us : List SpecToken) (x : X) → item ts ≡ taken x us → Item ts x us) → (ts rest : List SpecToken) (xs : List X) → joined mark item ts ≡ taken xs rest → Joined mark Item ts xs rest
-unfolding joined
+pub joined_sound : {X : Type 0} (mark : List ℕ) (item : List SpecToken → Reading X) (Item : List SpecToken → X → List SpecToken → Type 0) → ((ts us : List SpecToken) (x : X) → item ts ≡ taken x us → Item ts x us) → (ts rest : List SpecToken) (xs : List X) → separated mark item ts ≡ taken xs rest → Joined mark Item ts xs rest
+unfolding separated
 joined_sound {X} mark item Item one ts rest xs e =
     let a = bind_some (item ts) (λ x. with_first x.0 (all_of (begins_with mark) (behind mark item) x.1)) (xs, rest) e in
     let P : List X → List SpecToken → Type 0 = λ ys us. Joined mark Item ts ys us in
@@ -159,8 +161,8 @@ behind_read mark item Item one ts us x h =
     let k : length us ≤ length h.0 = a.1 in
     (rw h.1 a.0, omega arith)
 
-pub joined_read : {X : Type 0} (mark : List ℕ) (item : List SpecToken → Reading X) (Item : List SpecToken → X → List SpecToken → Type 0) → ((ts us : List SpecToken) (x : X) → Item ts x us → (item ts ≡ taken x us) × (length us ≤ length ts)) → (xs : List X) (ts rest : List SpecToken) → Joined mark Item ts xs rest → (joined mark item ts ≡ taken xs rest) × (length rest ≤ length ts)
-unfolding joined with_first
+pub joined_read : {X : Type 0} (mark : List ℕ) (item : List SpecToken → Reading X) (Item : List SpecToken → X → List SpecToken → Type 0) → ((ts us : List SpecToken) (x : X) → Item ts x us → (item ts ≡ taken x us) × (length us ≤ length ts)) → (xs : List X) (ts rest : List SpecToken) → Joined mark Item ts xs rest → (separated mark item ts ≡ taken xs rest) × (length rest ≤ length ts)
+unfolding separated with_first
 joined_read mark item Item one [] ts rest h = elim h [ ]
 joined_read mark item Item one (x ∷ xs) ts rest h =
     let a = one ts h.0 x h.1 in

@@ -1,11 +1,13 @@
 -- Phrases take tokens.
-use Rattle.std.proofs.Common.{◌≡◌, ℕ, ◌<◌, ◌≤◌, List, [], ◌∷◌, ◌++◌, Bool, true, false, cond, length, Option, Some, None, ap, inl, inr, arith}
+use Rattle.std.proofs.Common.{◌≡◌, ℕ, ◌<◌, ◌≤◌, List, [], ◌∷◌, ◌++◌, Bool, true, false, cond, length, Option}
+use Rattle.std.proofs.Common.{Some, None, ap, inl, inr, arith}
 use Rattle.std.specs.Prelude.{codes, is_some}
 use Rattle.std.specs.Str.{bytes_eq}
 use Rattle.tv_lex.specs.Token.{SpecToken}
 use Rattle.tv_phrases.specs.Reading.{Reading, taken, ◌>>=◌}
 use Rattle.tv_phrases.specs.Tokens.{after, first, identifier_item}
-use Rattle.tv_phrases.specs.Lists.{with_front, items_from, comma_list, optional_list, between, params, variables, name, optional_brackets, optional_list_in, two_items, pair}
+use Rattle.tv_phrases.specs.Lists.{with_front, items_from, comma_list, optional_list, between, params}
+use Rattle.tv_phrases.specs.Lists.{variables, name, optional_brackets, optional_list_in, two_items, pair}
 use Rattle.tv_phrases.specs.declared.kinds.Brackets.TheVariants as brackets
 use Rattle.tv_phrases.specs.declared.kinds.Item.TheVariants as kind
 use Rattle.tv_phrases.proofs.Values.{same_rest, bind_some, chosen, tested}

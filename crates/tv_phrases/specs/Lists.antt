@@ -1,5 +1,6 @@
 -- Phrases of several tokens: comma lists, what stands in brackets, and names.
-use Rattle.std.specs.Prelude.{ℕ, List, [], ◌∷◌, ◌++◌, Bool, true, false, Option, Some, None, is_some, if◌then◌else◌, codes}
+use Rattle.std.specs.Prelude.{ℕ, List, [], ◌∷◌, ◌++◌, Bool, true, false, Option, Some, None, is_some}
+use Rattle.std.specs.Prelude.{if◌then◌else◌, codes}
 use Rattle.tv_lex.specs.Token.{SpecToken}
 use Rattle.tv_phrases.specs.declared.kinds.Brackets.{Brackets}
 use Rattle.tv_phrases.specs.declared.kinds.Brackets.TheVariants.{Round, Square, Curly}
@@ -16,7 +17,8 @@ unfoldable pub items_from : {X : Type 0} → (SpecToken → Option X) → Bool �
 items_from item true [] = None
 items_from item true (t ∷ ts) = item t >>= λ x. with_front (x ∷ []) (items_from item false ts)
 items_from item false [] = Some ([], [])
-items_from item false (t ∷ ts) = choose (after (codes ",") (t ∷ ts)) (Some ([], t ∷ ts)) (λ us. items_from item true ts)
+items_from item false (t ∷ ts) =
+    choose (after (codes ",") (t ∷ ts)) (Some ([], t ∷ ts)) (λ us. items_from item true ts)
 
 -- one item or more, with commas between them
 abbrev pub comma_list : {X : Type 0} → (SpecToken → Option X) → List SpecToken → Reading (List X)
@@ -27,7 +29,8 @@ unfoldable pub optional_list : {X : Type 0} → (SpecToken → Option X) → Lis
 optional_list item ts = if is_some (first item ts) then comma_list item ts else Some ([], ts)
 
 -- a phrase between two marks
-unfoldable pub between : {X : Type 0} → List ℕ → List ℕ → (List SpecToken → Reading X) → List SpecToken → Reading X
+unfoldable pub between : {X : Type 0} → List ℕ → List ℕ → (List SpecToken → Reading X) → List SpecToken
+    → Reading X
 between open_mark close_mark read ts = do
   us ← after open_mark ts
   x ← read us
@@ -50,7 +53,8 @@ list_in brackets item ts = between (opening brackets) (closing brackets) (comma_
 
 -- any number of items between brackets
 abbrev pub optional_list_in : Brackets → Item → List SpecToken → Reading (List (List ℕ))
-optional_list_in brackets item ts = between (opening brackets) (closing brackets) (optional_list (item_of item)) ts
+optional_list_in brackets item ts =
+    between (opening brackets) (closing brackets) (optional_list (item_of item)) ts
 
 -- parameters: identifiers between parentheses, or none
 abbrev pub params : List SpecToken → Reading (List (List ℕ))
@@ -62,7 +66,9 @@ variables ts = between (codes "(") (codes ")") (comma_list identifier_item) ts
 
 -- identifiers in brackets, taken exactly where `[` stands
 unfoldable pub optional_brackets : List SpecToken → Reading (List (List ℕ))
-optional_brackets ts = choose (after (codes "[") ts) (Some ([], ts)) (λ us. between (codes "[") (codes "]") (comma_list identifier_item) ts)
+optional_brackets ts =
+    choose (after (codes "[") ts) (Some ([], ts))
+    (λ us. between (codes "[") (codes "]") (comma_list identifier_item) ts)
 
 -- an identifier, and those in brackets behind it
 unfoldable pub name : List SpecToken → Reading (List ℕ × List (List ℕ))

@@ -1,4 +1,5 @@
--- Readings: functions that take a phrase off the front of the tokens, and give its value and the tokens behind it.
+-- Readings: functions that take a phrase off the front of the tokens, and give its value and the tokens
+-- behind it.
 use Rattle.std.specs.Prelude.{◌≡◌, List, Option, Some, None, Result, Ok, Err}
 pub use Rattle.tv_lex.specs.Options.{◌>>=◌}
 use Rattle.tv_lex.specs.Token.{SpecToken}
@@ -23,9 +24,9 @@ abbrev pub Told : PhraseError → Type 0 → Type 0
 Told (Unexpected at) none = none
 Told Memory none = Unit {0}
 
-abbrev pub Gives : {R X : Type 0} → (R → X) → Result R PhraseError → Option X → Type 0
-Gives view (Ok x) read = read ≡ Some (view x)
-Gives view (Err fault) read = Told fault (read ≡ None)
+abbrev pub GivesReading : {R X : Type 0} → (R → X) → Result R PhraseError → Option X → Type 0
+GivesReading view (Ok x) read = read ≡ Some (view x)
+GivesReading view (Err fault) read = Told fault (read ≡ None)
 
 -- the same of an answer that is never want of memory
 abbrev pub Refuses : PhraseError → Type 0 → Type 0

@@ -1,6 +1,8 @@
--- Items one after the other: any number of them, or with a mark between them. The relations say it of the grammar, the
--- readings take them off the front of the tokens, with a bound on the turns; that both agree is proved.
-use Rattle.std.specs.Prelude.{◌≡◌, ℕ, zero, suc, ◌+◌, List, [], ◌∷◌, Bool, length, Option, Some, None, is_some, IsTrue, IsFalse, if◌then◌else◌}
+-- Items one after the other: any number of them, or with a mark between them. The relations say it of the
+-- grammar, the readings take them off the front of the tokens, with a bound on the turns; that both agree is
+-- proved.
+use Rattle.std.specs.Prelude.{◌≡◌, ℕ, zero, suc, ◌+◌, List, [], ◌∷◌, Bool, length, Option, Some, None}
+use Rattle.std.specs.Prelude.{is_some, IsTrue, IsFalse, if◌then◌else◌}
 use Rattle.tv_lex.specs.Token.{SpecToken}
 use Rattle.tv_phrases.specs.Reading.{Reading, taken, ◌>>=◌}
 use Rattle.tv_phrases.specs.Tokens.{after}
@@ -14,18 +16,23 @@ abbrev pub HasOne : {X : Type 0} → (List SpecToken → X → List SpecToken �
 HasOne {X} Item = (ts us vs : List SpecToken) (x y : X) → Item ts x us → Item ts y vs → (x ≡ y) × (us ≡ vs)
 
 -- any number of items: a further one is taken exactly where the first token can begin it
-abbrev pub Repeated : {X : Type 0} → (List SpecToken → Bool) → (List SpecToken → X → List SpecToken → Type 0) → List SpecToken → List X → List SpecToken → Type 0
+abbrev pub Repeated : {X : Type 0} → (List SpecToken → Bool) → (List SpecToken → X → List SpecToken → Type 0)
+    → List SpecToken → List X → List SpecToken → Type 0
 Repeated begins Item ts [] rest = IsFalse (begins ts) × (rest ≡ ts)
-Repeated begins Item ts (x ∷ xs) rest = (us : List SpecToken) × IsTrue (begins ts) × Item ts x us × Repeated begins Item us xs rest
+Repeated begins Item ts (x ∷ xs) rest =
+    (us : List SpecToken) × IsTrue (begins ts) × Item ts x us × Repeated begins Item us xs rest
 
 -- an item behind a mark
-abbrev pub Behind : {X : Type 0} → List ℕ → (List SpecToken → X → List SpecToken → Type 0) → List SpecToken → X → List SpecToken → Type 0
+abbrev pub Behind : {X : Type 0} → List ℕ → (List SpecToken → X → List SpecToken → Type 0) → List SpecToken
+    → X → List SpecToken → Type 0
 Behind mark Item ts x rest = (us : List SpecToken) × after mark ts ≡ Some us × Item us x rest
 
 -- items with a mark between them
-abbrev pub Joined : {X : Type 0} → List ℕ → (List SpecToken → X → List SpecToken → Type 0) → List SpecToken → List X → List SpecToken → Type 0
+abbrev pub Joined : {X : Type 0} → List ℕ → (List SpecToken → X → List SpecToken → Type 0) → List SpecToken
+    → List X → List SpecToken → Type 0
 Joined mark Item ts [] rest = ⊥
-Joined mark Item ts (x ∷ xs) rest = (us : List SpecToken) × Item ts x us × Repeated (begins_with mark) (Behind mark Item) us xs rest
+Joined mark Item ts (x ∷ xs) rest =
+    (us : List SpecToken) × Item ts x us × Repeated (begins_with mark) (Behind mark Item) us xs rest
 
 -- ---- readings
 
@@ -39,21 +46,25 @@ unfoldable pub with_first : {X : Type 0} → X → Reading (List X) → Reading 
 with_first x read = read >>= λ more. taken (x ∷ more.0) more.1
 
 -- one turn: an item where one begins, and what the reader gives behind it
-unfoldable pub turn : {X : Type 0} → (List SpecToken → Bool) → (List SpecToken → Reading X) → (List SpecToken → Reading (List X)) → List SpecToken → Reading (List X)
+unfoldable pub turn : {X : Type 0} → (List SpecToken → Bool) → (List SpecToken → Reading X)
+    → (List SpecToken → Reading (List X)) → List SpecToken → Reading (List X)
 turn begins item read ts = if begins ts then (item ts >>= λ x. with_first x.0 (read x.1)) else taken [] ts
 
 -- items, for as long as one begins
-unfoldable pub many : {X : Type 0} → (List SpecToken → Bool) → (List SpecToken → Reading X) → ℕ → List SpecToken → Reading (List X)
+unfoldable pub many : {X : Type 0} → (List SpecToken → Bool) → (List SpecToken → Reading X) → ℕ
+    → List SpecToken → Reading (List X)
 many begins item zero ts = None
 many begins item (suc n) ts = turn begins item (many begins item n) ts
 
 -- as many turns as suffice
-abbrev pub all_of : {X : Type 0} → (List SpecToken → Bool) → (List SpecToken → Reading X) → List SpecToken → Reading (List X)
+abbrev pub all_of : {X : Type 0} → (List SpecToken → Bool) → (List SpecToken → Reading X) → List SpecToken
+    → Reading (List X)
 all_of begins item ts = many begins item (length ts + 1) ts
 
 unfoldable pub behind : {X : Type 0} → List ℕ → (List SpecToken → Reading X) → List SpecToken → Reading X
 behind mark item ts = after mark ts >>= item
 
 -- items with a mark between them
-unfoldable pub joined : {X : Type 0} → List ℕ → (List SpecToken → Reading X) → List SpecToken → Reading (List X)
-joined mark item ts = item ts >>= λ x. with_first x.0 (all_of (begins_with mark) (behind mark item) x.1)
+unfoldable pub separated : {X : Type 0} → List ℕ → (List SpecToken → Reading X) → List SpecToken
+    → Reading (List X)
+separated mark item ts = item ts >>= λ x. with_first x.0 (all_of (begins_with mark) (behind mark item) x.1)

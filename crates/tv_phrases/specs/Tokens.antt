@@ -1,5 +1,7 @@
 -- Phrases of one token.
-use Rattle.std.specs.Prelude.{ℕ, List, [], ◌∷◌, Bool, true, false, not, ◌&&◌, ◌||◌, ◌==◌, Option, Some, None, if◌then◌else◌, ◌-◌, ◌^◌, nat_lt, length, slice_index, slice_range, codes, decimal}
+use Rattle.std.specs.Prelude.{ℕ, List, [], ◌∷◌, Bool, true, false, not, ◌&&◌, ◌||◌, ◌==◌, Option, Some, None}
+use Rattle.std.specs.Prelude.{if◌then◌else◌, ◌-◌, ◌^◌, nat_lt, length, slice_index, slice_range, codes}
+use Rattle.std.specs.Prelude.{decimal}
 use Rattle.std.specs.Str.{bytes_eq}
 use Rattle.std.specs.Str.Parse.{digits_value}
 use Rattle.tv_lex.specs.Bytes.{is_letter}
@@ -38,7 +40,9 @@ is_text kind.Punct = false
 
 -- the words that are no identifiers
 abbrev pub is_reserved : List ℕ → Bool
-is_reserved w = bytes_eq w (codes "E") || bytes_eq w (codes "A") || bytes_eq w (codes "TC") || bytes_eq w (codes "foreach") || bytes_eq w (codes "in")
+is_reserved w =
+    bytes_eq w (codes "E") || bytes_eq w (codes "A") || bytes_eq w (codes "TC")
+    || bytes_eq w (codes "foreach") || bytes_eq w (codes "in")
 
 -- it begins with a letter or `_`
 abbrev pub begins_name : List ℕ → Bool
@@ -69,7 +73,9 @@ text_item t = if is_text t.kind then Some (unquoted t.bytes) else None
 
 -- the number below 2 ^ 32 that is written so in decimal
 abbrev pub number_in : List ℕ → Option ℕ
-number_in w = if nat_lt (digits_value 10 w) (2 ^ 32) && bytes_eq (decimal (digits_value 10 w)) w then Some (digits_value 10 w) else None
+number_in w =
+    if nat_lt (digits_value 10 w) (2 ^ 32) && bytes_eq (decimal (digits_value 10 w)) w
+    then Some (digits_value 10 w) else None
 
 -- the value of a word that is such a number
 abbrev pub number_item : SpecToken → Option ℕ

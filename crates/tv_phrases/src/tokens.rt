@@ -5,9 +5,11 @@ ghost use Rattle.std.specs.Option.{option_map};
 ghost use Rattle.std.specs.Str.{bytes_eq};
 ghost use Rattle.tv_lex.specs.Token.{text_of, spec_token, spec_tokens};
 ghost use Rattle.tv_phrases.specs.Reading.{Takes};
-ghost use Rattle.tv_phrases.specs.Tokens.{after, first, is_word, is_text, is_reserved, is_identifier, item_of, word_item, identifier_item, text_item, unquoted};
+ghost use Rattle.tv_phrases.specs.Repeated.{begins_with, below};
+ghost use Rattle.tv_phrases.specs.Tokens.{after, first, is_word, is_text, is_reserved, is_identifier};
+ghost use Rattle.tv_phrases.specs.Tokens.{item_of, word_item, identifier_item, text_item, unquoted};
 
-use crate::error::PhraseError;
+use crate::error::{PhraseError, Read};
 use crate::kinds::Item;
 use tv_lex::{Token, TokenKind, text};
 
@@ -21,7 +23,8 @@ pub fn is_spelled(word: &[u8], mark: &[u8]) -> bool
 /// The tokens behind the first one, where it is spelled like the mark.
 #[tactic(auto, unfolding(crate::specs::Tokens::after))]
 pub fn after<'a>(bytes: &[u8], tokens: &'a [Token], mark: &[u8]) -> Option<&'a [Token]>
-    ensures value { option_map (λ rest. spec_tokens bytes.now rest.now) result ≡ after mark.now (spec_tokens bytes.now tokens.now) }
+    ensures value { option_map (λ rest. spec_tokens bytes.now rest.now) result
+        ≡ after mark.now (spec_tokens bytes.now tokens.now) }
     ensures shorter { IfSome result (λ rest. length rest.now < length tokens.now) }
 {
     let (first, rest) = tokens.split_first()?;
@@ -32,13 +35,32 @@ pub fn after<'a>(bytes: &[u8], tokens: &'a [Token], mark: &[u8]) -> Option<&'a [
     }
 }
 
+/// Whether the first token is spelled like the mark.
+pub fn begins_with(bytes: &[u8], tokens: &[Token], mark: &[u8]) -> bool
+    ensures { result ≡ begins_with mark.now (spec_tokens bytes.now tokens.now) }
+{
+    after(bytes, tokens, mark).is_some()
+}
+
+/// One level or turn less, if there is one. There always is, since each takes a token at least.
+pub fn below(depth: usize, tokens: &[Token]) -> Result<usize, PhraseError<'_>>
+    ensures value { Takes (λ inner. inner) result (below depth) }
+    ensures less { IfOk result (λ inner. inner < depth) }
+{
+    match depth.checked_sub(1) {
+        Some(inner) => Ok(inner),
+        None => Err(PhraseError::Unexpected(tokens)),
+    }
+}
+
 /// The tokens behind the first one, which has to be spelled like the mark.
 pub fn expect<'a>(
     bytes: &[u8],
     tokens: &'a [Token],
     mark: &[u8],
 ) -> Result<&'a [Token], PhraseError<'a>>
-    ensures value { Takes (λ rest. spec_tokens bytes.now rest.now) result (after mark.now (spec_tokens bytes.now tokens.now)) }
+    ensures value { Takes (λ rest. spec_tokens bytes.now rest.now) result
+        (after mark.now (spec_tokens bytes.now tokens.now)) }
     ensures shorter { IfOk result (λ rest. length rest.now < length tokens.now) }
 {
     match after(bytes, tokens, mark) {
@@ -73,7 +95,8 @@ fn is_identifier(word: &[u8]) -> bool
 }
 
 fn is_item(bytes: &[u8], token: &Token, item: Item) -> bool
-    ensures { item_of item (spec_token bytes.now token.now) ≡ (if result then Some (text_of bytes.now token.now) else None) }
+    ensures { item_of item (spec_token bytes.now token.now)
+        ≡ (if result then Some (text_of bytes.now token.now) else None) }
 {
     match item {
         Item::Word => is_word(token.kind),
@@ -94,12 +117,9 @@ pub fn begins_item(bytes: &[u8], tokens: &[Token], item: Item) -> bool
 
 /// The first token, which has to be such an item, and the tokens behind it.
 #[tactic(auto, unfolding(crate::specs::Tokens::first))]
-pub fn item<'a>(
-    bytes: &[u8],
-    tokens: &'a [Token],
-    item: Item,
-) -> Result<(Token, &'a [Token]), PhraseError<'a>>
-    ensures value { Takes (λ x. (text_of bytes.now x.0, spec_tokens bytes.now x.1.now)) result (first (item_of item) (spec_tokens bytes.now tokens.now)) }
+pub fn item<'a>(bytes: &[u8], tokens: &'a [Token], item: Item) -> Read<'a, Token>
+    ensures value { Takes (λ x. (text_of bytes.now x.0, spec_tokens bytes.now x.1.now)) result
+        (first (item_of item) (spec_tokens bytes.now tokens.now)) }
     ensures shorter { IfOk result (λ x. length x.1.now < length tokens.now) }
 {
     match tokens.split_first() {
@@ -109,19 +129,18 @@ pub fn item<'a>(
 }
 
 /// A word, and the tokens behind it.
-pub fn word<'a>(bytes: &[u8], tokens: &'a [Token]) -> Result<(Token, &'a [Token]), PhraseError<'a>>
-    ensures value { Takes (λ x. (text_of bytes.now x.0, spec_tokens bytes.now x.1.now)) result (first word_item (spec_tokens bytes.now tokens.now)) }
+pub fn word<'a>(bytes: &[u8], tokens: &'a [Token]) -> Read<'a, Token>
+    ensures value { Takes (λ x. (text_of bytes.now x.0, spec_tokens bytes.now x.1.now)) result
+        (first word_item (spec_tokens bytes.now tokens.now)) }
     ensures shorter { IfOk result (λ x. length x.1.now < length tokens.now) }
 {
     item(bytes, tokens, Item::Word)
 }
 
 /// An identifier, and the tokens behind it.
-pub fn identifier<'a>(
-    bytes: &[u8],
-    tokens: &'a [Token],
-) -> Result<(Token, &'a [Token]), PhraseError<'a>>
-    ensures value { Takes (λ x. (text_of bytes.now x.0, spec_tokens bytes.now x.1.now)) result (first identifier_item (spec_tokens bytes.now tokens.now)) }
+pub fn identifier<'a>(bytes: &[u8], tokens: &'a [Token]) -> Read<'a, Token>
+    ensures value { Takes (λ x. (text_of bytes.now x.0, spec_tokens bytes.now x.1.now)) result
+        (first identifier_item (spec_tokens bytes.now tokens.now)) }
     ensures shorter { IfOk result (λ x. length x.1.now < length tokens.now) }
 {
     item(bytes, tokens, Item::Identifier)
@@ -154,13 +173,12 @@ pub fn begins_string(bytes: &[u8], tokens: &[Token]) -> bool
     }
 }
 
-/// A string, as its token, and the tokens behind it. Its value is what stands between its quotes (`unquoted`).
+/// A string, as its token, and the tokens behind it. Its value is what stands between its quotes
+/// (`unquoted`).
 #[tactic(auto, unfolding(crate::specs::Tokens::first))]
-pub fn string<'a>(
-    bytes: &[u8],
-    tokens: &'a [Token],
-) -> Result<(Token, &'a [Token]), PhraseError<'a>>
-    ensures value { Takes (λ x. (unquoted (text_of bytes.now x.0), spec_tokens bytes.now x.1.now)) result (first text_item (spec_tokens bytes.now tokens.now)) }
+pub fn string<'a>(bytes: &[u8], tokens: &'a [Token]) -> Read<'a, Token>
+    ensures value { Takes (λ x. (unquoted (text_of bytes.now x.0), spec_tokens bytes.now x.1.now)) result
+        (first text_item (spec_tokens bytes.now tokens.now)) }
     ensures shorter { IfOk result (λ x. length x.1.now < length tokens.now) }
 {
     match tokens.split_first() {

@@ -1,2 +1,7 @@
 mod Stages
 mod Once
+mod ArcSteps
+mod Ranges
+mod Sights
+mod Sizes
+mod Small

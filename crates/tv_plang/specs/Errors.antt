@@ -1,12 +1,13 @@
 -- The refusals of the stages.
-use Rattle.tv_compile.specs.declared.whole.CompileError.{CompileError}
-use Rattle.tv_compile.specs.declared.whole.CompileError.TheVariants as compiling
-use Rattle.tv_source_names.specs.declared.error.ReadError.{ReadError}
-use Rattle.tv_source_names.specs.declared.error.ReadError.TheVariants as reading
+use Rattle.tv_plang.specs.declared.whole.CompileError.{CompileError}
+use Rattle.tv_plang.specs.declared.whole.CompileError.TheVariants as compiling
+use Rattle.tv_source_names.specs.declared.error.SourceReadError.{SourceReadError}
+use Rattle.tv_source_names.specs.declared.error.SourceReadError.TheVariants as reading
 use Rattle.tv_plang.specs.declared.error.SourceError.{SourceError}
-use Rattle.tv_plang.specs.declared.error.SourceError.TheVariants.{TooDeep, Syntax, Reserved, NameTwice, NameUnknown, TooMany, Memory}
+use Rattle.tv_plang.specs.declared.error.SourceError.TheVariants.{TooDeep, Syntax, Reserved, NameTwice}
+use Rattle.tv_plang.specs.declared.error.SourceError.TheVariants.{NameUnknown, TooMany, Memory}
 
-abbrev pub of_reading : ReadError → SourceError
+abbrev pub of_reading : SourceReadError → SourceError
 of_reading reading.TooDeep = TooDeep
 of_reading (reading.Syntax place) = Syntax place
 of_reading reading.Reserved = Reserved

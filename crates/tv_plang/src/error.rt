@@ -3,19 +3,20 @@
 ghost use Rattle.std.specs.Prelude.{◌≡◌};
 ghost use Rattle.tv_plang.specs.Errors.{of_compiling, of_reading};
 
+use crate::whole::CompileError;
 use thiserror::Error;
-use tv_compile::CompileError;
 use tv_lex::Place;
-use tv_source_names::ReadError;
+use tv_source_names::SourceReadError;
 
-/// Why a text isn't compiled: how many are open at a place is looked at first, then the grammar of the whole text, then names in
-/// the order in which they stand, then how large the program is.
+/// Why a text isn't compiled: how many are open at a place is looked at first, then the grammar of the whole
+/// text, then names in the order in which they stand, then how large the program is.
 #[derive(Clone, Copy, Debug, PartialEq, Eq, Error)]
 pub enum SourceError {
     /// Over 200 parentheses and braces are open at one place.
     #[error("over 200 parentheses and braces are open at one place")]
     TooDeep,
-    /// The tokens aren't of the grammar. This is the place of the first token that can't stand there, or of the end of the text.
+    /// The tokens aren't of the grammar. This is the place of the first token that can't stand there, or of
+    /// the end of the text.
     #[error("no program goes on so at line {}, column {}", .0.line, .0.column)]
     Syntax(Place),
     /// A declared name is `sm` or `isNew`.
@@ -35,17 +36,17 @@ pub enum SourceError {
     Memory,
 }
 
-impl From<ReadError> for SourceError {
+impl From<SourceReadError> for SourceError {
     ghost from_gives = { λ e fault. fault ≡ of_reading e };
 
-    fn from(e: ReadError) -> SourceError {
+    fn from(e: SourceReadError) -> SourceError {
         match e {
-            ReadError::TooDeep => SourceError::TooDeep,
-            ReadError::Syntax(place) => SourceError::Syntax(place),
-            ReadError::Reserved => SourceError::Reserved,
-            ReadError::NameTwice => SourceError::NameTwice,
-            ReadError::NameUnknown => SourceError::NameUnknown,
-            ReadError::Memory => SourceError::Memory,
+            SourceReadError::TooDeep => SourceError::TooDeep,
+            SourceReadError::Syntax(place) => SourceError::Syntax(place),
+            SourceReadError::Reserved => SourceError::Reserved,
+            SourceReadError::NameTwice => SourceError::NameTwice,
+            SourceReadError::NameUnknown => SourceError::NameUnknown,
+            SourceReadError::Memory => SourceError::Memory,
         }
     }
 }

@@ -1,10 +1,10 @@
 //! Laws about what texts mean. Each function does nothing of its own: its clause is what it shows.
 
-ghost use Rattle.tv_plang.specs.Laws.{HaveOneMeaning, HaveOneRefusal};
+ghost use Rattle.tv_plang.specs.Laws.{HaveOneProgram, HaveOneRefusal};
 
 /// Tokens mean one program at most, and none where they are refused.
 pub fn one_meaning()
-    ensures { HaveOneMeaning }
+    ensures { HaveOneProgram }
 {
     tv_source_names::one_meaning();
     tv_source_syntax::one_source();

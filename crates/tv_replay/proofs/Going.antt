@@ -1,5 +1,6 @@
 -- States, one after the other.
-use Rattle.std.proofs.Common.{ℕ, suc, zero, ◌≡◌, ◌<◌, ◌≤◌, ◌+◌, ◌-◌, ◌++◌, List, [], ◌∷◌, length, map, take, take_all, get_or, Some, None, refl, sym, ap, subst, ◌∙◌, arith, All}
+use Rattle.std.proofs.Common.{ℕ, suc, zero, ◌≡◌, ◌<◌, ◌≤◌, ◌+◌, ◌-◌, ◌++◌, List, [], ◌∷◌, length, map, take}
+use Rattle.std.proofs.Common.{take_all, get_or, Some, None, refl, sym, ap, subst, ◌∙◌, arith, All}
 use Rattle.std.specs.Prelude.{slice_get}
 use Rattle.std.proofs.lemmas.List.{length-append, take_more}
 use Rattle.std.proofs.lemmas.List.Elements.{All-get_or, All-push}
@@ -8,16 +9,16 @@ use Rattle.tv_model.specs.Program.{ProgramForm, PredForm, pred_of, program_of}
 use Rattle.tv_model.specs.Valid.{IsValid}
 use Rattle.tv_model.specs.declared.program.Program.{Program}
 use Rattle.tv_model.proofs.Lists.{map-compose}
-use Rattle.tv_replayed.specs.Runs.{ShowsGivenRun, ShowsRecomputedRun}
-use Rattle.tv_replayed.proofs.OneEnding.{goes-through, starts-at}
-use Rattle.tv_replayed.proofs.Shown.{replays_show_runs}
-use Rattle.tv_replayed.specs.States.{AreNextStates, IsFirstState, IsNextState, IsReplay, standing}
-use Rattle.tv_replayed.specs.Stuck.{Fails, GoesThrough, IsCause, Taken, last_of, start_at}
-use Rattle.tv_replayed.specs.declared.state.ReplayError.{ReplayError}
-use Rattle.tv_replayed.specs.declared.state.ReplayError.TheVariants as error
-use Rattle.tv_replayed.specs.declared.state.State.{State}
-use Rattle.tv_stepping.specs.Stepped.{Halts}
-use Rattle.tv_stepping.specs.declared.moved.Halt.{Halt}
+use Rattle.tv_replay_laws.specs.Runs.{ShowsGivenRun, ShowsRecomputedRun}
+use Rattle.tv_replay_laws.proofs.OneEnding.{goes-through, starts-at}
+use Rattle.tv_replay_laws.proofs.Shown.{replays_show_runs}
+use Rattle.tv_replay_laws.specs.States.{AreNextStates, IsFirstState, IsNextState, IsReplay, standing}
+use Rattle.tv_replay_laws.specs.Stuck.{IsFirstFailure, GoesThrough, IsReplayCause, Taken, last_of, start_at}
+use Rattle.tv_replay_laws.specs.declared.state.ReplayError.{ReplayError}
+use Rattle.tv_replay_laws.specs.declared.state.ReplayError.TheVariants as error
+use Rattle.tv_replay_laws.specs.declared.state.State.{State}
+use Rattle.tv_replay_step.specs.Stepped.{Halts}
+use Rattle.tv_replay_step.specs.declared.moved.Halt.{Halt}
 use Rattle.tv_struct.specs.StructureForm.{StructureForm, IsOver, IsStructure}
 use Rattle.tv_trace.specs.declared.trace.Move.{Move}
 use Rattle.tv_two_valued.specs.TwoValued.{IsTwoValued}
@@ -109,10 +110,10 @@ module _ (judge : Judge) (initial : List StructureForm) (start : StructureForm) 
     }
 
     pub stuck : (before : State) (m : Move) (halt : Halt) (e : ReplayError) → before ≡ get_or states n before → n < length moves → m ≡ get_or moves n m
-        → Halts (program_in judge) m (standing before) halt → IsFaultOf n halt e → IsCause (program_in judge) start moves e
+        → Halts (program_in judge) m (standing before) halt → IsFaultOf n halt e → IsReplayCause (program_in judge) start moves e
     stuck before m halt error.Memory is below m_is halts fault = tt
     stuck before m halt (error.Stuck step w) is below m_is halts fault =
-        let fails : (t : Taken (program_in judge) m) × Fails (standing before) m t w = subst (Halts (program_in judge) m (standing before)) fault.0 halts
+        let fails : (t : Taken (program_in judge) m) × IsFirstFailure (standing before) m t w = subst (Halts (program_in judge) m (standing before)) fault.0 halts
         in let number : step - 1 ≡ n = let number_is = fault.1 in omega (arith, number_is)
         in record {
           before = map standing so.later;
@@ -123,7 +124,7 @@ module _ (judge : Judge) (initial : List StructureForm) (start : StructureForm) 
           there = ap (slice_get moves) number ∙ slice_get-get_or moves n m below ∙ ap Some (sym m_is);
           counted = let number_is = fault.1 in omega (arith, number_is);
           taken = fails.0;
-          fails = subst (λ at. Fails at m fails.0 w)
+          fails = subst (λ at. IsFirstFailure at m fails.0 w)
               (ap standing (last-is before is) ∙ sym (last-standing so.first so.later) ∙ ap (λ at. last_of at (map standing so.later)) start-is)
               fails.1;
         }

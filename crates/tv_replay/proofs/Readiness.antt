@@ -3,23 +3,23 @@ use Rattle.std.proofs.Common.{ℕ, ◌≡◌, ◌<◌, List, [], length, sym, su
 use Rattle.std.specs.Prelude.{◌^◌}
 use Rattle.std.proofs.lemmas.List.Elements.{All-contains, All-get_or}
 use Rattle.tv_eval.specs.ScratchForm.{ScratchForm}
-use Rattle.tv_findings.specs.Ready.{IsReady}
+use Rattle.tv_replay_judge.specs.Ready.{IsReadyToEvaluate}
 use Rattle.tv_listing.specs.ListingForm.{at_node}
 use Rattle.tv_model.specs.Program.{ProgramForm, PredForm, pred_of}
 use Rattle.tv_model.specs.declared.program.Edge.{Edge}
 use Rattle.tv_model.proofs.Lists.{map-compose, slice_get-contains}
 use Rattle.tv_model.specs.Valid.{IsEdge, IsValid}
-use Rattle.tv_replayed.specs.States.{standing}
-use Rattle.tv_replayed.specs.declared.state.State.{State}
-use Rattle.tv_stepping.specs.Stepped.{IsMoved}
-use Rattle.tv_stepping.specs.declared.moved.Moved.{Moved}
+use Rattle.tv_replay_laws.specs.States.{standing}
+use Rattle.tv_replay_laws.specs.declared.state.State.{State}
+use Rattle.tv_replay_step.specs.Stepped.{IsMoved}
+use Rattle.tv_replay_step.specs.declared.moved.Moved.{Moved}
 use Rattle.tv_trace.specs.declared.trace.Move.{Move}
 use Rattle.tv_struct.specs.StructureForm.{StructureForm, IsStructure, IsOver, arities_of}
 use Rattle.tv_replay.specs.Judging.{CanJudge, IsHeapAt, IsStateAt, program_in}
 use Rattle.tv_replay.specs.declared.states.Judge.{Judge}
 
 module _ (judge : Judge) (scratch : ScratchForm) (can : CanJudge judge scratch) (node : ℕ) (s : StructureForm) (at : IsHeapAt judge node s) where
-  pub ready : IsReady (program_in judge) s scratch
+  pub ready : IsReadyToEvaluate (program_in judge) s scratch
   ready = record {
     valid = can.valid;
     structure = at.structure;

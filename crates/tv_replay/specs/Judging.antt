@@ -4,12 +4,12 @@ use Rattle.tv_eval.specs.ScratchForm.{ScratchForm, IsMadeFor}
 use Rattle.tv_listing.specs.Listed.{IsListing}
 use Rattle.tv_model.specs.Program.{ProgramForm, pred_of, program_of, rule_of}
 use Rattle.tv_model.specs.Valid.{IsValid}
-use Rattle.tv_replayed.specs.JudgedRules.{rules_of_properties}
-use Rattle.tv_replayed.specs.declared.state.State.{State}
-use Rattle.tv_replayed.specs.declared.state.ReplayError.{ReplayError}
-use Rattle.tv_replayed.specs.declared.state.ReplayError.TheVariants as error
-use Rattle.tv_stepping.specs.declared.moved.Halt.{Halt}
-use Rattle.tv_stepping.specs.declared.moved.Halt.TheVariants.{Stuck}
+use Rattle.tv_replay_laws.specs.JudgedRules.{rules_of_properties}
+use Rattle.tv_replay_laws.specs.declared.state.State.{State}
+use Rattle.tv_replay_laws.specs.declared.state.ReplayError.{ReplayError}
+use Rattle.tv_replay_laws.specs.declared.state.ReplayError.TheVariants as error
+use Rattle.tv_replay_step.specs.declared.moved.Halt.{Halt}
+use Rattle.tv_replay_step.specs.declared.moved.Halt.TheVariants.{Stuck}
 use Rattle.tv_struct.specs.StructureForm.{StructureForm, IsStructure, IsOver}
 use Rattle.tv_two_valued.specs.TwoValued.{IsTwoValued}
 use Rattle.tv_replay.specs.declared.states.Judge.{Judge}
@@ -20,7 +20,8 @@ program_in judge = program_of judge.program.now
 -- the properties and the listing are the program's, and there is room to evaluate its formulas
 pub record CanJudge (judge : Judge) (scratch : ScratchForm) : Type 0 where
   pub valid : IsValid (program_in judge)
-  pub properties : map rule_of judge.properties.now ≡ rules_of_properties 0 (map pred_of judge.program.now.vocab.preds)
+  pub properties : map rule_of judge.properties.now
+      ≡ rules_of_properties 0 (map pred_of judge.program.now.vocab.preds)
   pub listing : IsListing judge.program.now judge.listing.now
   pub made : IsMadeFor (program_in judge) 256 scratch
 

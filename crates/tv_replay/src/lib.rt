@@ -3,5 +3,7 @@
 
 mod run;
 mod states;
+mod write;
 
 pub use run::replay;
+pub use write::{write_states, write_stuck};

@@ -4,9 +4,9 @@ ghost use Rattle.std.specs.Prelude.{◌≡◌, ◌<◌, ◌^◌, None, All, IfOk
 ghost use Rattle.tv_listing.specs.Listed.{IsListing};
 ghost use Rattle.tv_model.specs.Program.{program_of};
 ghost use Rattle.tv_model.specs.Valid.{IsValid};
-ghost use Rattle.tv_replayed.specs.Runs.{ShowsGivenRun, ShowsRecomputedRun};
-ghost use Rattle.tv_replayed.specs.States.{IsReplay};
-ghost use Rattle.tv_replayed.specs.Stuck.{IsCause};
+ghost use Rattle.tv_replay_laws.specs.Runs.{ShowsGivenRun, ShowsRecomputedRun};
+ghost use Rattle.tv_replay_laws.specs.States.{IsReplay};
+ghost use Rattle.tv_replay_laws.specs.Stuck.{IsReplayCause};
 ghost use Rattle.tv_struct.specs.StructureForm.{IsStructure, IsOver};
 ghost use Rattle.tv_trace.specs.Meaning.{IsMoveOn, IsTraceOn};
 ghost use Rattle.tv_two_valued.specs.TwoValued.{IsTwoValued};
@@ -15,19 +15,19 @@ ghost use Rattle.tv_replay.specs.Judging.{CanJudge, IsFaultOf, IsHeapAt, program
 use crate::states::{Judge, first_state, next_state};
 use std::alloc::Global;
 use tv_eval::Scratch;
-use tv_findings::property_rules;
 use tv_listing::Listing;
 use tv_model::{Items, Program};
-use tv_replayed::{ReplayError, StateList, States};
-use tv_stepping::Halt;
+use tv_replay_judge::property_rules;
+use tv_replay_laws::{ReplayError, StateList, States};
+use tv_replay_step::Halt;
 use tv_struct::{Structure, Structures, Table};
 use tv_trace::{Move, Trace};
 
 /// The most individuals of a heap.
 const MAX_INDIVIDUALS: u32 = 256;
 
-/// Why the step of that number, counted from 0, leads nowhere. A step whose number doesn't fit is told as want
-/// of memory.
+/// Why the step of that number, counted from 0, leads nowhere. A step whose number doesn't fit is told as
+/// want of memory.
 fn fault(number: usize, halt: Halt) -> ReplayError
     ensures { IsFaultOf number halt result }
 {
@@ -60,8 +60,9 @@ fn all_states(
     requires few { length above.now < 2 ^ 32 }
     requires start { IsHeapAt judge.now 0 start.now }
     requires moves { All (IsMoveOn judge.now.program.now judge.now.program.now.vocab) moves.now }
-    ensures states { IfOk result (IsReplay (program_in judge.now) above.now start.now moves.now judge.now.listing.now) }
-    ensures fault { IfErr result (IsCause (program_in judge.now) start.now moves.now) }
+    ensures states { IfOk result
+        (IsReplay (program_in judge.now) above.now start.now moves.now judge.now.listing.now) }
+    ensures fault { IfErr result (IsReplayCause (program_in judge.now) start.now moves.now) }
 {
     let mut states = Items::new(alloc);
     states.push(first_state(alloc, judge, above, start, scratch)?)?;
@@ -104,7 +105,7 @@ pub fn replay(
         states.list) }
     ensures recomputed { IfOk result (λ states. ShowsRecomputedRun (program_of program.now) initial.now
         trace.now.moves states.list) }
-    ensures fault { IfErr result (IsCause (program_of program.now) start.now trace.now.moves) }
+    ensures fault { IfErr result (IsReplayCause (program_of program.now) start.now trace.now.moves) }
 {
     let _ = start.size();
     let properties = property_rules(alloc, program.vocab.preds.as_slice())?;

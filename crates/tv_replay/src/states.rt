@@ -2,10 +2,10 @@
 
 ghost use Rattle.std.specs.Prelude.{◌≡◌, ◌<◌, ◌^◌, All, IfOk, IfErr, length};
 ghost use Rattle.tv_listing.specs.ListingForm.{at_node};
-ghost use Rattle.tv_replayed.specs.Above.{IsFirstAbove};
-ghost use Rattle.tv_replayed.specs.JudgedRules.{IsFirstUnmet, judged_rules};
-ghost use Rattle.tv_replayed.specs.States.{IsFirstState, IsNextState, standing};
-ghost use Rattle.tv_stepping.specs.Stepped.{Halts};
+ghost use Rattle.tv_replay_laws.specs.Above.{IsFirstAbove};
+ghost use Rattle.tv_replay_laws.specs.JudgedRules.{IsFirstUnmet, judged_rules};
+ghost use Rattle.tv_replay_laws.specs.States.{IsFirstState, IsNextState, standing};
+ghost use Rattle.tv_replay_step.specs.Stepped.{Halts};
 ghost use Rattle.tv_struct.specs.StructureForm.{IsStructure, IsOver};
 ghost use Rattle.tv_trace.specs.Meaning.{IsMoveOn};
 ghost use Rattle.tv_two_valued.specs.TwoValued.{heap_of};
@@ -13,11 +13,11 @@ ghost use Rattle.tv_replay.specs.Judging.{CanJudge, IsHeapAt, IsStateAt, program
 
 use std::alloc::{AllocError, Global};
 use tv_eval::Scratch;
-use tv_findings::{first_above, first_listed, first_unlike, first_unmet};
 use tv_listing::Listing;
 use tv_model::{Program, Rules};
-use tv_replayed::{Place2, State};
-use tv_stepping::{Halt, Moved, next};
+use tv_replay_judge::{first_above, first_listed, first_unlike, first_unmet};
+use tv_replay_laws::{Place2, State};
+use tv_replay_step::{Halt, Moved, next};
 use tv_struct::{Structure, Structures};
 use tv_trace::Move;
 
@@ -46,7 +46,8 @@ fn judge_heap(
 ) -> Result<Judged, AllocError>
     requires judge { CanJudge judge.now scratch.old }
     requires heap { IsHeapAt judge.now node heap.now }
-    ensures rule { IfOk result (λ x. IsFirstUnmet (heap_of heap.now) (judged_rules (program_in judge.now)) x.rule) }
+    ensures rule { IfOk result
+        (λ x. IsFirstUnmet (heap_of heap.now) (judged_rules (program_in judge.now)) x.rule) }
     ensures listed { IfOk result (λ x. IsFirstAbove heap.now (at_node judge.now.listing.now node) x.listed) }
     ensures scratch { scratch.new ≡ scratch.old }
 {
@@ -67,7 +68,8 @@ pub fn first_state(
     requires initial { All (λ s. IsStructure s × IsOver judge.now.program.now.vocab s) initial.now }
     requires few { length initial.now < 2 ^ 32 }
     requires start { IsHeapAt judge.now 0 start.now }
-    ensures first { IfOk result (IsFirstState (program_in judge.now) initial.now start.now judge.now.listing.now) }
+    ensures first { IfOk result
+        (IsFirstState (program_in judge.now) initial.now start.now judge.now.listing.now) }
     ensures at { IfOk result (IsStateAt judge.now) }
     ensures scratch { scratch.new ≡ scratch.old }
 {
@@ -95,7 +97,8 @@ pub fn next_state(
     requires judge { CanJudge judge.now scratch.old }
     requires before { IsStateAt judge.now before.now }
     requires step { IsMoveOn judge.now.program.now judge.now.program.now.vocab step.now }
-    ensures next { IfOk result (IsNextState (program_in judge.now) judge.now.listing.now step.now before.now) }
+    ensures next { IfOk result
+        (IsNextState (program_in judge.now) judge.now.listing.now step.now before.now) }
     ensures at { IfOk result (IsStateAt judge.now) }
     ensures halt { IfErr result (Halts (program_in judge.now) step.now (standing before.now)) }
     ensures scratch { scratch.new ≡ scratch.old }

@@ -1,5 +1,6 @@
 -- What is written of an analysis is read as the same analysis, marks aside.
-use Rattle.std.proofs.Common.{◌≡◌, ◌≢◌, ℕ, suc, ◌<◌, ◌^◌, List, [], ◌∷◌, ◌++◌, false, Option, Some, None, length, map, get_or, ap, sym, refl, ◌∙◌, subst, ◌⊎◌, inl, inr, arith}
+use Rattle.std.proofs.Common.{◌≡◌, ◌≢◌, ℕ, suc, ◌<◌, ◌^◌, List, [], ◌∷◌, ◌++◌, false, Option, Some, None}
+use Rattle.std.proofs.Common.{length, map, get_or, ap, sym, refl, ◌∙◌, subst, ◌⊎◌, inl, inr, arith}
 use Rattle.std.specs.Prelude.{codes, All, AllPairs, Contains, IsSome, is_some, slice_get}
 use Rattle.std.specs.List.{flat_map, zip}
 use Rattle.std.specs.Option.{option_and_then}
@@ -7,7 +8,7 @@ use Rattle.std.proofs.lemmas.Bool.{cases_lt, false≢true}
 use Rattle.std.proofs.lemmas.List.{length-map, get_or-map, get_or_past}
 use Rattle.std.proofs.lemmas.List.Elements.{All-map, Contains-get_or}
 use Rattle.std.proofs.lemmas.Option.{slice_get_within, slice_get-get_or, get_or_from_slice_get}
-use Rattle.tv_lex.specs.Token.{SpecToken}
+use Rattle.tv_lex.specs.Token.{SpecToken, HaveOneMeaning}
 use Rattle.tv_listing.specs.Listed.{IsListing}
 use Rattle.tv_listing.specs.ListingForm.{at_node}
 use Rattle.tv_listing.specs.declared.analysis.Item.{Item}
@@ -23,20 +24,22 @@ use Rattle.tv_phrases.specs.Repeated.{begins_with}
 use Rattle.tv_phrases.specs.Tokens.{after}
 use Rattle.tv_phrases.proofs.Facts.{other_mark}
 use Rattle.tv_struct.specs.StructureForm.{StructureForm, unmarked}
-use Rattle.tv_tvs.proofs.Lexing.{Lexes, lexes_read, word}
+use Rattle.tv_lex.proofs.PieceTokens.{Lexes, lexes_read}
+use Rattle.tv_tvs.proofs.Lexing.{word}
 use Rattle.tv_tvs.proofs.Valid.{valid_fits}
 use Rattle.tv_report.specs.Grammar.{IsMessage, IsMap, IsReport, IsHead}
-use Rattle.tv_report.specs.Laws.{IsShort, IsShortItem, without_marks, ReportsAreReadAgain, HaveOneMeaning}
+use Rattle.tv_report.specs.Laws.{IsShort, IsShortItem, without_marks, ReportsAreReadAgain}
 use Rattle.tv_report.specs.Lines.{message_at, IsMessageLine, LeadsTo, IsMapLine}
-use Rattle.tv_report.specs.Meaning.{NamedNode, named_node, node_name, IsListed, MeansReport}
+use Rattle.tv_report.specs.Meaning.{NamedNode, named_node, node_name, ListsNodes, MeansReport}
 use Rattle.tv_report.specs.Text.{message_text, map_text, report_text, said}
 use Rattle.tv_report.specs.Tree.{ReportTree}
 use Rattle.tv_report.proofs.Lists.{zipped_at, zipped_length}
 use Rattle.tv_report.proofs.NodeLaws.{one_place, same_listing}
-use Rattle.tv_report.proofs.OnceLaws.{all_found}
+use Rattle.tv_lemmas.proofs.Lists.{All-found}
 use Rattle.tv_report.proofs.OneReport.{one_report}
 use Rattle.tv_report.proofs.WordTexts.{name_word, spaced, ended}
-use Rattle.tv_report.proofs.Written.{fronts, Listed, listed_text, as_named, IsListedNode, IsGood, node_first, node_trees, IsShortMessage, message_first, IsShortMap, map_first}
+use Rattle.tv_report.proofs.Written.{fronts, Listed, listed_text, as_named, IsListedNode, IsGood, node_first}
+use Rattle.tv_report.proofs.Written.{node_trees, IsShortMessage, message_first, IsShortMap, map_first}
 
 -- ---- messages
 
@@ -71,8 +74,8 @@ message_found p edge number some = of_edge (slice_get p.edges edge) refl
 short_message : (p : ProgramForm) → IsValid p → (line : MessageLine) → IsMessageLine p line → IsShortMessage p line
 short_message p valid line is =
     let found = message_found p line.edge line.number is.0
-    in let action : IsAction p found.action = all_found (IsAction p) p.actions found.taken.action found.action valid.actions found.is_action
-    in let message : IsValidMessage p found.message = all_found (IsValidMessage p) found.action.messages line.number found.message action.messages found.is_message
+    in let action : IsAction p found.action = All-found (IsAction p) p.actions found.taken.action found.action valid.actions found.is_action
+    in let message : IsValidMessage p found.message = All-found (IsValidMessage p) found.action.messages line.number found.message action.messages found.is_message
     in let few_edges = valid.edge_count
     in let few_messages = action.message_count
     in let edge = slice_get_within p.edges line.edge found.taken found.is_edge
@@ -158,7 +161,7 @@ module _ (names : List (List ℕ)) (listing : List (List StructureForm)) (same :
       in (in_names, get_or_from_slice_get (zip names listing) k (pair_at k) d is)
 
 nodes_listed : (program : Program) → AllPairs ◌≢◌ program.nodes → (listing : List (List StructureForm)) → length listing ≡ length program.nodes
-    → IsListed program (map as_named (zip program.nodes listing)) (map (map unmarked) listing)
+    → ListsNodes program (map as_named (zip program.nodes listing)) (map (map unmarked) listing)
 nodes_listed program differ listing same = record {
   names = (
     All-map (λ (n : NamedNode). Contains program.nodes n.name) as_named (zip program.nodes listing) (λ k d lt.
@@ -256,7 +259,7 @@ read_again program a valid readable =
     in let means : MeansReport program tokens (without_marks a) = record {
       tree = tree;
       is = is;
-      listing = subst (λ ns. IsListed program ns (map (map unmarked) a.listing)) (sym trees.named) (nodes_listed program valid.node_names_differ a.listing readable.listing.nodes);
+      listing = subst (λ ns. ListsNodes program ns (map (map unmarked) a.listing)) (sym trees.named) (nodes_listed program valid.node_names_differ a.listing readable.listing.nodes);
       messages = (λ k d lt. (readable.messages.0 k d lt).0, readable.messages.1);
       maps = (λ k d lt. leads_again p a.listing (get_or a.maps k d).item (get_or a.maps k d).target (readable.maps.0 k d lt), readable.maps.1);
       same_messages = refl;
@@ -266,13 +269,13 @@ read_again program a valid readable =
 
 -- ---- one meaning
 
-pub one_meaning : HaveOneMeaning
+pub one_meaning : (program : Program) → HaveOneMeaning (MeansReport program)
 one_meaning program tokens a b left right =
     let same : left.tree ≡ right.tree = one_report tokens left.tree right.tree left.is right.is
     in let nodes : map (named_node program.vocab) left.tree.nodes ≡ map (named_node program.vocab) right.tree.nodes
     = ap (λ (t : ReportTree). map (named_node program.vocab) t.nodes) same
     in let listing : a.listing ≡ b.listing
-    = same_listing program (map (named_node program.vocab) right.tree.nodes) a.listing b.listing (subst (λ ns. IsListed program ns a.listing) nodes left.listing) right.listing
+    = same_listing program (map (named_node program.vocab) right.tree.nodes) a.listing b.listing (subst (λ ns. ListsNodes program ns a.listing) nodes left.listing) right.listing
     in let messages : a.messages ≡ b.messages = left.same_messages ∙ ap (λ (t : ReportTree). t.messages) same ∙ sym right.same_messages
     in let maps : a.maps ≡ b.maps = left.same_maps ∙ ap (λ (t : ReportTree). t.maps) same ∙ sym right.same_maps
     in ap (λ l. record { listing = l; messages = a.messages; maps = a.maps }) listing

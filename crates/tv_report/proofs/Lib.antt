@@ -1,6 +1,5 @@
 pub mod Lists
 pub mod Skips
-pub mod Turns
 pub mod Marks
 pub mod Phrases
 pub mod Reports

@@ -1,5 +1,6 @@
 -- Nodes whose structures weren't read yet, and the nodes that they stand for.
-use Rattle.std.proofs.Common.{◌≡◌, ℕ, zero, suc, ◌≤◌, List, [], ◌∷◌, length, Some, refl, sym, ap, ◌∙◌, subst, arith}
+use Rattle.std.proofs.Common.{◌≡◌, ℕ, zero, suc, ◌≤◌, List, [], ◌∷◌, length, Some, refl, sym, ap, ◌∙◌, subst}
+use Rattle.std.proofs.Common.{arith}
 use Rattle.std.specs.Prelude.{Bool, codes}
 use Rattle.std.proofs.lemmas.Option.{same_Some}
 use Rattle.tv_lex.specs.Token.{SpecToken}
@@ -17,6 +18,8 @@ use Rattle.tv_tvs.proofs.Complete.{struct_complete, struct_shorter}
 use Rattle.tv_report.specs.Tree.{NodeTree}
 use Rattle.tv_report.specs.Grammar.{AreStructures, IsNode}
 use Rattle.tv_report.specs.Reading.{NodeMark, structures_end, node_at}
+use Rattle.std.specs.List.{AllZip}
+use Rattle.tv_phrases.proofs.Marks.{trees_for, marks_for}
 
 -- ---- structures that are passed over
 
@@ -103,10 +106,7 @@ pub record IsMarked (m : NodeMark) (t : NodeTree) : Type 0 where
   pub are : AreStructures m.structures t.structures behind
 
 abbrev pub AreMarked : List NodeMark → List NodeTree → Type 0
-AreMarked [] [] = Unit {0}
-AreMarked [] (t ∷ trees) = ⊥
-AreMarked (m ∷ marks) [] = ⊥
-AreMarked (m ∷ marks) (t ∷ trees) = IsMarked m t × AreMarked marks trees
+AreMarked = AllZip IsMarked
 
 abbrev node_with : List ℕ → List StructTree → NodeTree
 node_with name structures = record { name = name; structures = structures }
@@ -142,18 +142,12 @@ mark_of_tree ts rest t is = (
 
 -- ---- lists of them
 
-pub trees_of_marks : (begins : List SpecToken → Bool) (ts rest : List SpecToken) (marks : List NodeMark) → Repeated begins IsMarkedNode ts marks rest
+pub trees_of_marks : (begins : List SpecToken → Bool) (ts rest : List SpecToken) (marks : List NodeMark)
+    → Repeated begins IsMarkedNode ts marks rest
     → (trees : List NodeTree) × Repeated begins IsNode ts trees rest × AreMarked marks trees
-trees_of_marks begins ts rest [] are = ([], are, tt)
-trees_of_marks begins ts rest (m ∷ marks) are =
-    let one = tree_of_mark ts are.0 m are.2
-    in let others = trees_of_marks begins are.0 rest marks are.3
-    in (one.0 ∷ others.0, (are.0, are.1, one.1, others.1), (one.2, others.2))
+trees_of_marks begins = trees_for begins IsMarkedNode IsNode IsMarked tree_of_mark
 
-pub marks_of_trees : (begins : List SpecToken → Bool) (ts rest : List SpecToken) (trees : List NodeTree) → Repeated begins IsNode ts trees rest
+pub marks_of_trees : (begins : List SpecToken → Bool) (ts rest : List SpecToken) (trees : List NodeTree)
+    → Repeated begins IsNode ts trees rest
     → (marks : List NodeMark) × Repeated begins IsMarkedNode ts marks rest × AreMarked marks trees
-marks_of_trees begins ts rest [] are = ([], are, tt)
-marks_of_trees begins ts rest (t ∷ trees) are =
-    let one = mark_of_tree ts are.0 t are.2
-    in let others = marks_of_trees begins are.0 rest trees are.3
-    in (one.0 ∷ others.0, (are.0, are.1, one.1, others.1), (one.2, others.2))
+marks_of_trees begins = marks_for begins IsMarkedNode IsNode IsMarked mark_of_tree

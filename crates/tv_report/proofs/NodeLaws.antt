@@ -1,8 +1,12 @@
 -- Nodes that are listed one after the other.
-use Rattle.std.proofs.Common.{◌≡◌, ◌≢◌, ℕ, suc, ◌+◌, ◌-◌, ◌<◌, ◌≤◌, List, [], ◌∷◌, ◌++◌, length, map, get_or, set, replicate, Option, Some, None, refl, sym, ap, ◌∙◌, subst, ◌⊎◌, inl, inr, arith, append_assoc}
+use Rattle.std.proofs.Common.{◌≡◌, ◌≢◌, ℕ, suc, ◌+◌, ◌-◌, ◌<◌, ◌≤◌, List, [], ◌∷◌, ◌++◌, length, map, get_or}
+use Rattle.std.proofs.Common.{set, replicate, Option, Some, None, refl, sym, ap, ◌∙◌, subst, ◌⊎◌, inl, inr}
+use Rattle.std.proofs.Common.{arith, append_assoc}
 use Rattle.std.specs.Prelude.{All, AllPairs, Contains, slice_get}
 use Rattle.std.proofs.lemmas.Bool.{cases_eq, cases_lt}
-use Rattle.std.proofs.lemmas.List.{map_push, length-map, length-append, length_push, get_or_at, get_or-map, get_or-set_same, get_or-set_other, get_or-replicate, set-set, length-set, set-get_or, append-nil, length-replicate, ext_get_or}
+use Rattle.std.proofs.lemmas.List.{map_push, length-map, length-append, length_push, get_or_at, get_or-map}
+use Rattle.std.proofs.lemmas.List.{get_or-set_same, get_or-set_other, get_or-replicate, set-set, length-set}
+use Rattle.std.proofs.lemmas.List.{set-get_or, append-nil, length-replicate, ext_get_or}
 use Rattle.std.proofs.lemmas.List.Elements.{All-push, Contains-append_left, Contains-append_right}
 use Rattle.std.proofs.lemmas.Option.{same_Some, slice_get_within, slice_get-get_or, get_or_from_slice_get}
 use Rattle.tv_lex.specs.Token.{SpecToken}
@@ -15,7 +19,7 @@ use Rattle.tv_phrases.specs.declared.error.PhraseError.TheVariants.{Unexpected, 
 use Rattle.tv_struct.specs.StructureForm.{StructureForm}
 use Rattle.tv_tvs.specs.Reading.{structure_at}
 use Rattle.tv_tvs.specs.Targets.{IsRead}
-use Rattle.tv_report.specs.Meaning.{NamedNode, IsListed, node_name}
+use Rattle.tv_report.specs.Meaning.{NamedNode, ListsNodes, node_name}
 use Rattle.tv_report.specs.Nodes.{AreRead, IsPut, CannotPut}
 use Rattle.tv_report.specs.Reading.{structures_at}
 use Rattle.tv_report.proofs.OnceLaws.{goes_once, goes_keys, breaks_once, contains_or}
@@ -127,7 +131,7 @@ one_place names i j name differ a b = at (cases_eq i j)
     ]
 
 pub no_nodes : (program : Program) (listing : List (List StructureForm)) (n : ℕ) → n ≡ length program.nodes → listing ≡ replicate n []
-    → IsListed program [] listing
+    → ListsNodes program [] listing
 no_nodes program listing n count is = record {
   names = (λ k d lt. absurd (omega (arith, lt)), λ i j d less lt. absurd (omega (arith, less, lt)));
   count = ap length is ∙ length-replicate n [] ∙ count;
@@ -137,7 +141,7 @@ no_nodes program listing n count is = record {
       in ap (λ l. at_node l number) is ∙ get_or-replicate n number [] [] lt;
 }
 
-module _ (program : Program) (differ : AllPairs ◌≢◌ program.nodes) (nodes : List NamedNode) (node : NamedNode) (old new : List (List ℕ)) (before after : List (List StructureForm)) (seen : old ≡ map node_name nodes) (listed : IsListed program nodes before) (put : IsPut program.nodes old new before after node) where
+module _ (program : Program) (differ : AllPairs ◌≢◌ program.nodes) (nodes : List NamedNode) (node : NamedNode) (old new : List (List ℕ)) (before after : List (List StructureForm)) (seen : old ≡ map node_name nodes) (listed : ListsNodes program nodes before) (put : IsPut program.nodes old new before after node) where
   abbrev Known : NamedNode → Type 0
   Known n = Contains program.nodes n.name
 
@@ -173,7 +177,7 @@ module _ (program : Program) (differ : AllPairs ◌≢◌ program.nodes) (nodes 
       let same : number ≡ put.number = one_place program.nodes number put.number node.name differ at put.found
       in put.meant ∙ ap Some (sym here ∙ ap (at_node after) (sym same))
 
-  pub listed_more : IsListed program (nodes ++ node ∷ []) after
+  pub listed_more : ListsNodes program (nodes ++ node ∷ []) after
   listed_more = record {
     names = goes_once Known node_name nodes node old new listed.names seen put.goes_on;
     count = ap length put.put ∙ length-set before put.number (at_node before put.number ++ put.structures) ∙ listed.count;
@@ -205,7 +209,7 @@ kept_none vocab listing n is = subst (All (AreRead vocab)) (sym is) each
 
 -- a node that can't be put
 pub cannot_list : (program : Program) (all before after : List NamedNode) (node : NamedNode) (old : List (List ℕ)) → all ≡ before ++ node ∷ after
-    → old ≡ map node_name before → CannotPut program.nodes old node → (listing : List (List StructureForm)) → ¬ IsListed program all listing
+    → old ≡ map node_name before → CannotPut program.nodes old node → (listing : List (List StructureForm)) → ¬ ListsNodes program all listing
 cannot_list program all before after node old whole seen (inl broken) listing listed =
     breaks_once (λ n. Contains program.nodes n.name) node_name all before after node old whole seen broken listed.names
 cannot_list program all before after node old whole seen (inr none) listing listed =
@@ -225,7 +229,7 @@ cannot_list program all before after node old whole seen (inr none) listing list
 nameless : NamedNode
 nameless = record { name = []; structures = None }
 
-pub same_listing : (program : Program) (nodes : List NamedNode) (l m : List (List StructureForm)) → IsListed program nodes l → IsListed program nodes m → l ≡ m
+pub same_listing : (program : Program) (nodes : List NamedNode) (l m : List (List StructureForm)) → ListsNodes program nodes l → ListsNodes program nodes m → l ≡ m
 same_listing program nodes l m a b =
     ext_get_or [] l m (a.count ∙ sym b.count) (λ number lt. at number lt (contains_or (map node_name nodes) (get_or program.nodes number [])))
   where

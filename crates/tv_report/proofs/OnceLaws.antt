@@ -1,11 +1,14 @@
 -- Lists whose elements have keys that differ: one more element, and one that breaks them; and sets of keys.
-use Rattle.std.proofs.Common.{◌≡◌, ◌≢◌, ℕ, ◌+◌, ◌<◌, Bool, true, false, not, List, [], ◌∷◌, ◌++◌, length, map, take, get_or, Option, Some, None, refl, sym, ap, ◌∙◌, subst, ◌⊎◌, inl, inr, arith, Bor}
+use Rattle.std.proofs.Common.{◌≡◌, ◌≢◌, ℕ, ◌+◌, ◌<◌, Bool, true, false, not, List, [], ◌∷◌, ◌++◌, length, map}
+use Rattle.std.proofs.Common.{take, get_or, Option, Some, None, refl, sym, ap, ◌∙◌, subst, ◌⊎◌, inl, inr}
+use Rattle.std.proofs.Common.{arith, Bor}
 use Rattle.std.specs.Prelude.{All, AllPairs, Contains, MatchOption, position, slice_get, is_some, ◌&&◌, ◌==◌}
 use Rattle.std.specs.Iterator.{Yields}
 use Rattle.std.specs.List.{list_any}
 use Rattle.std.specs.Str.{bytes_eq}
 use Rattle.std.proofs.lemmas.Bool.{both_ways, eqb-true, eq-eqb}
-use Rattle.std.proofs.lemmas.List.{map_push, map-append, length-append, length-take-le, get_or_append_left, get_or_at, get_or-take, get_or_default, take_more}
+use Rattle.std.proofs.lemmas.List.{map_push, map-append, length-append, length-take-le, get_or_append_left}
+use Rattle.std.proofs.lemmas.List.{get_or_at, get_or-take, get_or_default, take_more}
 use Rattle.std.proofs.lemmas.List.Elements.{All-push}
 use Rattle.std.proofs.lemmas.List.Folds.{list_any_at}
 use Rattle.std.proofs.lemmas.List.Quantifiers.{all_pairs_push, position-Some}
@@ -141,24 +144,3 @@ item_sound (item.Result a b c) (item.Result u v w) e =
 pub item_self : (x : Item) → same_item x x ≡ true
 item_self (item.Initial n) = eq-eqb n n refl
 item_self (item.Result a b c) = rw (eq-eqb a a refl, eq-eqb b b refl, eq-eqb c c refl) refl
-
--- ---- loops over the elements of a list
-
-pub all_found : {X : Type 0} (P : X → Type 0) (xs : List X) (i : ℕ) (x : X) → All P xs → slice_get xs i ≡ Some x → P x
-all_found P xs i x all is = subst P (get_or_from_slice_get xs i x x is) (all i x (slice_get_within xs i x is))
-
--- what calls of an iterator have given, and what is left
-module _ {S A : Type 0} (steps : S → Option A → S → Type 0) (left : S → List A) (one : (s t : S) (x : A) → steps s (Some x) t → left s ≡ x ∷ left t) where
-  yielded_left : (s t : S) (xs : List A) → Yields steps s xs t → left s ≡ xs ++ left t
-  yielded_left s t [] y = ap left y
-  yielded_left s t (x ∷ xs) y = one s y.0 x y.1 ∙ ap (λ zs. x ∷ zs) (yielded_left y.0 t xs y.2)
-
-  pub yielded_split : (all : List A) (s t u : S) (xs : List A) (x : A) (r : Option A) → left s ≡ all → Yields steps s xs t → r ≡ Some x → steps t r u
-      → all ≡ xs ++ x ∷ left u
-  yielded_split all s t u xs x r start y is step =
-      sym start ∙ yielded_left s t xs y ∙ ap (λ zs. xs ++ zs) (one t u x (subst (λ o. steps t o u) is step))
-
--- what is told of a fault, in other words
-pub told_so : (e : PhraseError) (A B : Type 0) → (A → B) → Told e A → Told e B
-told_so (Unexpected at) A B so a = so a
-told_so Memory A B so a = tt

@@ -9,6 +9,7 @@ use Rattle.tv_report.specs.Grammar.{AreStructures, IsReport}
 use Rattle.tv_report.specs.Reading.{NodeMark, ReportMarks}
 use Rattle.tv_report.proofs.Marks.{IsMarked, AreMarked}
 use Rattle.tv_report.proofs.Reports.{IsMarkedReport, report_read}
+use Rattle.tv_lemmas.proofs.Zips.{same_partners}
 
 pub same_structures : (xs ys : List StructTree) (ts r s : List SpecToken) → AreStructures ts xs r → AreStructures ts ys s → length xs ≡ length ys → xs ≡ ys
 same_structures [] [] ts r s a b e = refl
@@ -26,13 +27,7 @@ same_node m t u a b =
     in ap (λ n. record { name = n; structures = t.structures }) name ∙ ap (λ ss. record { name = u.name; structures = ss }) structures
 
 same_nodes : (marks : List NodeMark) (ts us : List NodeTree) → AreMarked marks ts → AreMarked marks us → ts ≡ us
-same_nodes [] [] [] a b = refl
-same_nodes [] [] (u ∷ us) a b = elim b [ ]
-same_nodes [] (t ∷ ts) us a b = elim a [ ]
-same_nodes (m ∷ marks) [] us a b = elim a [ ]
-same_nodes (m ∷ marks) (t ∷ ts) [] a b = elim b [ ]
-same_nodes (m ∷ marks) (t ∷ ts) (u ∷ us) a b =
-    ap (λ z. z ∷ ts) (same_node m t u a.0 b.0) ∙ ap (λ zs. u ∷ zs) (same_nodes marks ts us a.1 b.1)
+same_nodes = same_partners IsMarked same_node
 
 same_report : (marks : ReportMarks) (t u : ReportTree) → IsMarkedReport marks t → IsMarkedReport marks u → t ≡ u
 same_report marks t u a b =

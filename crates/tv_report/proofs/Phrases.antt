@@ -14,7 +14,7 @@ use Rattle.tv_listing.specs.declared.analysis.Item.{Item}
 use Rattle.tv_listing.specs.declared.analysis.Item.TheVariants as item
 use Rattle.tv_listing.specs.declared.analysis.MapLine.{MapLine}
 use Rattle.tv_listing.specs.declared.analysis.MessageLine.{MessageLine}
-use Rattle.tv_report.specs.Grammar.{message_value, IsMessage, IsItem, IsMap}
+use Rattle.tv_report.specs.Grammar.{message_value, IsMessage, IsItemPhrase, IsMap}
 use Rattle.tv_report.specs.Reading.{line_at, initial_at, result_at, item_at, braces_at, map_at}
 
 -- ---- messages
@@ -45,26 +45,26 @@ line_read ts rest line is =
 
 -- ---- items
 
-result_sound : (ts rest : List SpecToken) (x : Item) → result_at ts ≡ taken x rest → IsItem ts x rest
+result_sound : (ts rest : List SpecToken) (x : Item) → result_at ts ≡ taken x rest → IsItemPhrase ts x rest
 unfolding result_at
 result_sound ts rest x e =
     let a = bind_some (after (codes "edge") ts) _ (x, rest) e
     in let b = bind_some (first number_item a.0) _ (x, rest) a.2
     in let c = bind_some (first number_item b.0.1) _ (x, rest) b.2
     in let d = bind_some (first number_item c.0.1) _ (x, rest) c.2
-    in held (λ (y : Item) us. IsItem ts y us) (item.Result b.0.0 c.0.0 d.0.0) x d.0.1 rest d.2 (a.0, b.0.1, c.0.1, a.1, b.1, c.1, d.1)
+    in held (λ (y : Item) us. IsItemPhrase ts y us) (item.Result b.0.0 c.0.0 d.0.0) x d.0.1 rest d.2 (a.0, b.0.1, c.0.1, a.1, b.1, c.1, d.1)
 
-item_sound : (ts rest : List SpecToken) (x : Item) → item_at ts ≡ taken x rest → IsItem ts x rest
+item_sound : (ts rest : List SpecToken) (x : Item) → item_at ts ≡ taken x rest → IsItemPhrase ts x rest
 unfolding item_at initial_at
 item_sound ts rest x e =
     elim (chosen (after (codes "initial") ts) (result_at ts) initial_at (taken x rest) e) [
       | inl h ↦ result_sound ts rest x h.1
       | inr h ↦
           let a = bind_some (first number_item h.0) _ (x, rest) h.2
-          in held (λ (y : Item) us. IsItem ts y us) (item.Initial a.0.0) x a.0.1 rest a.2 (h.0, h.1, a.1)
+          in held (λ (y : Item) us. IsItemPhrase ts y us) (item.Initial a.0.0) x a.0.1 rest a.2 (h.0, h.1, a.1)
     ]
 
-item_read : IsRead item_at IsItem
+item_read : IsRead item_at IsItemPhrase
 unfolding item_at initial_at result_at
 item_read ts rest (item.Initial n) is =
     let la = after_takes (codes "initial") ts is.0 is.1

@@ -1,5 +1,6 @@
 -- Analyses that are read, and reports that aren't.
-use Rattle.std.proofs.Common.{◌≡◌, List, [], ◌∷◌, length, map, Some, None, Result, Ok, Err, refl, sym, ap, ◌∙◌, subst}
+use Rattle.std.proofs.Common.{◌≡◌, List, [], ◌∷◌, length, map, Some, None, Result, Ok, Err, refl, sym, ap}
+use Rattle.std.proofs.Common.{◌∙◌, subst}
 use Rattle.std.specs.Prelude.{All}
 use Rattle.std.specs.Result.{result_ok}
 use Rattle.tv_lex.specs.Token.{SpecToken}
@@ -17,7 +18,7 @@ use Rattle.tv_tvs.specs.declared.error.TvsError.{TvsError}
 use Rattle.tv_tvs.proofs.Complete.{struct_complete}
 use Rattle.tv_report.specs.Grammar.{AreStructures}
 use Rattle.tv_report.specs.Lines.{AreMessageLines, AreMapLines}
-use Rattle.tv_report.specs.Meaning.{named_node, IsListed, MeansReport, IsNoReport}
+use Rattle.tv_report.specs.Meaning.{named_node, ListsNodes, MeansReport, IsNoReport}
 use Rattle.tv_report.specs.Nodes.{AreRead}
 use Rattle.tv_report.specs.Reading.{NodeMark, ReportMarks, structures_at, marked_node, report_at}
 use Rattle.tv_report.specs.Tree.{NodeTree, ReportTree}
@@ -63,7 +64,7 @@ nodes_same vocab (m ∷ marks) (t ∷ trees) are =
 -- ---- what is read
 
 pub report_meant : (program : Program) (ts : List SpecToken) (marks : ReportMarks) (a : Analysis) → report_at ts ≡ Some marks
-    → IsListed program (map (marked_node program.vocab) marks.nodes) a.listing
+    → ListsNodes program (map (marked_node program.vocab) marks.nodes) a.listing
     → AreMessageLines (program_of program) a.messages → a.messages ≡ marks.messages
     → AreMapLines (program_of program) a.listing a.maps → a.maps ≡ marks.maps → MeansReport program ts a
 report_meant program ts marks a is listed messages same_messages maps same_maps =
@@ -71,7 +72,7 @@ report_meant program ts marks a is listed messages same_messages maps same_maps 
     in record {
       tree = found.0;
       is = found.1;
-      listing = subst (λ ns. IsListed program ns a.listing) (nodes_same program.vocab marks.nodes found.0.nodes found.2.nodes) listed;
+      listing = subst (λ ns. ListsNodes program ns a.listing) (nodes_same program.vocab marks.nodes found.0.nodes found.2.nodes) listed;
       messages = messages;
       maps = maps;
       same_messages = same_messages ∙ found.2.messages;
@@ -101,7 +102,7 @@ no_report program ts none a means =
 
 -- an analysis that the tokens mean has what their marks say
 marks_meant : (program : Program) (ts : List SpecToken) (marks : ReportMarks) (a : Analysis) → report_at ts ≡ Some marks → MeansReport program ts a
-    → IsListed program (map (marked_node program.vocab) marks.nodes) a.listing
+    → ListsNodes program (map (marked_node program.vocab) marks.nodes) a.listing
     × (AreMessageLines (program_of program) marks.messages × AreMapLines (program_of program) a.listing marks.maps)
 marks_meant program ts marks a is means =
     let found = report_sound ts marks is
@@ -111,12 +112,12 @@ marks_meant program ts marks a is means =
     in let messages : a.messages ≡ marks.messages = means.same_messages ∙ ap (λ (t : ReportTree). t.messages) same ∙ sym found.2.messages
     in let maps : a.maps ≡ marks.maps = means.same_maps ∙ ap (λ (t : ReportTree). t.maps) same ∙ sym found.2.maps
     in (
-      subst (λ ns. IsListed program ns a.listing) nodes means.listing,
+      subst (λ ns. ListsNodes program ns a.listing) nodes means.listing,
       (subst (AreMessageLines (program_of program)) messages means.messages, subst (AreMapLines (program_of program) a.listing) maps means.maps),
     )
 
 pub no_listing : (program : Program) (ts : List SpecToken) (marks : ReportMarks) → report_at ts ≡ Some marks
-    → ((l : List (List StructureForm)) → ¬ IsListed program (map (marked_node program.vocab) marks.nodes) l) → IsNoReport program ts
+    → ((l : List (List StructureForm)) → ¬ ListsNodes program (map (marked_node program.vocab) marks.nodes) l) → IsNoReport program ts
 no_listing program ts marks is none a means = none a.listing (marks_meant program ts marks a is means).0
 
 pub no_messages : (program : Program) (ts : List SpecToken) (marks : ReportMarks) → report_at ts ≡ Some marks
@@ -124,7 +125,7 @@ pub no_messages : (program : Program) (ts : List SpecToken) (marks : ReportMarks
 no_messages program ts marks is none a means = none (marks_meant program ts marks a is means).1.0
 
 pub no_maps : (program : Program) (ts : List SpecToken) (marks : ReportMarks) (listing : List (List StructureForm)) → report_at ts ≡ Some marks
-    → IsListed program (map (marked_node program.vocab) marks.nodes) listing
+    → ListsNodes program (map (marked_node program.vocab) marks.nodes) listing
     → (¬ AreMapLines (program_of program) listing marks.maps) → IsNoReport program ts
 no_maps program ts marks listing is listed none a means =
     let meant = marks_meant program ts marks a is means

@@ -1,5 +1,6 @@
 -- Whole reports: what is read is what the grammar says, and what the grammar says is read.
-use Rattle.std.proofs.Common.{◌≡◌, ℕ, ◌+◌, Bool, true, false, List, [], ◌∷◌, length, Some, None, refl, sym, ap, ◌∙◌, subst, inl, inr, arith}
+use Rattle.std.proofs.Common.{◌≡◌, ℕ, ◌+◌, Bool, true, false, List, [], ◌∷◌, length, Some, None, refl, sym}
+use Rattle.std.proofs.Common.{ap, ◌∙◌, subst, inl, inr, arith}
 use Rattle.std.specs.Prelude.{codes, ◌==◌}
 use Rattle.std.proofs.lemmas.Bool.{eqb-true}
 use Rattle.std.proofs.lemmas.Option.{same_Some, cond_some}
@@ -14,8 +15,10 @@ use Rattle.tv_listing.specs.declared.analysis.MapLine.{MapLine}
 use Rattle.tv_listing.specs.declared.analysis.MessageLine.{MessageLine}
 use Rattle.tv_report.specs.Tree.{NodeTree, ReportTree}
 use Rattle.tv_report.specs.Grammar.{IsNode, IsMessage, IsMap, IsHead, AreMaps, IsReport}
-use Rattle.tv_report.specs.Reading.{NodeMark, ReportMarks, node_at, line_at, map_at, nodes_at, lines_at, version_at, head_at, maps_if, end_at, report_at}
-use Rattle.tv_report.proofs.Marks.{IsMarkedNode, AreMarked, node_sound, node_read, trees_of_marks, marks_of_trees}
+use Rattle.tv_report.specs.Reading.{NodeMark, ReportMarks, node_at, line_at, map_at, nodes_at, lines_at}
+use Rattle.tv_report.specs.Reading.{version_at, head_at, maps_if, end_at, report_at}
+use Rattle.tv_report.proofs.Marks.{IsMarkedNode, AreMarked, node_sound, node_read, trees_of_marks}
+use Rattle.tv_report.proofs.Marks.{marks_of_trees}
 use Rattle.tv_report.proofs.Phrases.{line_sound, line_read, map_sound, map_read}
 
 -- ---- versions

@@ -1,5 +1,6 @@
 -- Words, numbers and strings in front of a text.
-use Rattle.std.proofs.Common.{◌≡◌, ℕ, suc, ◌+◌, ◌<◌, ◌^◌, List, [], ◌∷◌, ◌++◌, Some, true, ◌||◌, eqb, length, get_or, ap, sym, refl, ◌∙◌, subst, ◌⊎◌, inl, inr, arith, append_assoc}
+use Rattle.std.proofs.Common.{◌≡◌, ℕ, suc, ◌+◌, ◌<◌, ◌^◌, List, [], ◌∷◌, ◌++◌, Some, true, ◌||◌, eqb, length}
+use Rattle.std.proofs.Common.{get_or, ap, sym, refl, ◌∙◌, subst, ◌⊎◌, inl, inr, arith, append_assoc}
 use Rattle.std.specs.Prelude.{decimal, All, not, ◌&&◌, nat_le, ◌==◌}
 use Rattle.std.specs.Char.{is_ascii_alphanumeric, is_ascii_digit}
 use Rattle.std.specs.Int.{is_in_range}
@@ -9,7 +10,7 @@ use Rattle.std.proofs.lemmas.Fmt.{decimal_nonempty}
 use Rattle.std.proofs.lemmas.List.{length-append, get_or_at, append-nil}
 use Rattle.tv_lex.specs.Bytes.{is_word_byte, is_text_byte}
 use Rattle.tv_lex.specs.Front.{front, token, string_front}
-use Rattle.tv_lex.specs.Pieces.{Piece, Fits, joined}
+use Rattle.tv_lex.specs.Pieces.{Piece, Fits, joined_pieces}
 use Rattle.tv_lex.specs.Token.{SpecToken}
 use Rattle.tv_lex.specs.declared.token.TokenKind.TheVariants as kind
 use Rattle.tv_lex.proofs.Runs.{prefix_len-append-stop}
@@ -18,7 +19,8 @@ use Rattle.tv_model.specs.Spelling.{IsDigit, IsLetter, IsWord, IsText}
 use Rattle.tv_phrases.specs.Reading.{taken}
 use Rattle.tv_phrases.specs.Tokens.{first, number_item, text_item, unquoted}
 use Rattle.tv_phrases.proofs.Numerals.{digits_written, number_written}
-use Rattle.tv_tvs.proofs.Lexing.{Lexes, IsWordText, word, word_first, space_first, feed_first}
+use Rattle.tv_lex.proofs.PieceTokens.{Lexes}
+use Rattle.tv_tvs.proofs.Lexing.{IsWordText, word, word_first, space_first, feed_first}
 use Rattle.tv_tvs.proofs.Spelled.{in_range}
 
 -- ---- which bytes words have
@@ -102,7 +104,7 @@ string_first inside rest ts is l =
           let takes : Takes (token kind.Text (length (quoted inside))) other (length more) = subst (λ r. Takes r other (length more)) (ap front same ∙ front_is) (front_takes other more behind stands)
           in takes.0;
     }
-    in let behind : rest ≡ joined l.pieces ++ [] = sym l.whole ∙ sym (append-nil (joined l.pieces))
+    in let behind : rest ≡ joined_pieces l.pieces ++ [] = sym l.whole ∙ sym (append-nil (joined_pieces l.pieces))
     in record {
       pieces = piece ∷ l.pieces;
       fit = (subst (Fits piece) behind fits, l.fit);

@@ -1,5 +1,6 @@
 -- What is written of an analysis, phrase by phrase, in front of a text: its tokens are those of the phrase.
-use Rattle.std.proofs.Common.{◌≡◌, ◌≢◌, ℕ, suc, ◌<◌, ◌^◌, List, [], ◌∷◌, ◌++◌, false, Some, Ok, length, map, ap, sym, refl, ◌∙◌, subst, ◌⊎◌, inl, inr, arith, append_assoc}
+use Rattle.std.proofs.Common.{◌≡◌, ◌≢◌, ℕ, suc, ◌<◌, ◌^◌, List, [], ◌∷◌, ◌++◌, false, Some, Ok, length, map}
+use Rattle.std.proofs.Common.{ap, sym, refl, ◌∙◌, subst, ◌⊎◌, inl, inr, arith, append_assoc}
 use Rattle.std.specs.Prelude.{codes, decimal, All}
 use Rattle.std.specs.List.{flat_map, AllByRecursion}
 use Rattle.std.specs.Result.{result_ok}
@@ -25,15 +26,18 @@ use Rattle.tv_tvs.specs.Laws.{IsSpelled}
 use Rattle.tv_tvs.specs.Meaning.{IsVocabulary, MeansStruct, structs_meant}
 use Rattle.tv_tvs.specs.Tree.{StructTree}
 use Rattle.tv_tvs.proofs.LaidOut.{comma_items, more_items, comma_lexes, spell_word, spell_value}
-use Rattle.tv_tvs.proofs.Lexing.{Lexes, lexes_read, read_lexes, Clear, IsWordText, mark, word, word_first, half_first, space_first, feed_first, open_brace_first, close_brace_first}
+use Rattle.tv_lex.proofs.PieceTokens.{Lexes, lexes_read, read_lexes}
+use Rattle.tv_tvs.proofs.Lexing.{Clear, IsWordText, mark, word, word_first, half_first, space_first}
+use Rattle.tv_tvs.proofs.Lexing.{feed_first, open_brace_first, close_brace_first}
 use Rattle.tv_tvs.proofs.RoundTrip.{read_again}
-use Rattle.tv_report.specs.Grammar.{message_value, AreStructures, IsNode, IsMessage, IsItem, IsMap}
+use Rattle.tv_report.specs.Grammar.{message_value, AreStructures, IsNode, IsMessage, IsItemPhrase, IsMap}
 use Rattle.tv_report.specs.Laws.{IsShort, IsShortItem}
 use Rattle.tv_report.specs.Lines.{message_at}
 use Rattle.tv_report.specs.Meaning.{NamedNode, named_node}
 use Rattle.tv_report.specs.Text.{node_line, node_text, message_text, item_text, map_text, said}
 use Rattle.tv_report.specs.Tree.{NodeTree}
-use Rattle.tv_report.proofs.WordTexts.{number_word, number_first, spaced, ended, quoted, string, string_first, text_first}
+use Rattle.tv_report.proofs.WordTexts.{number_word, number_first, spaced, ended, quoted, string, string_first}
+use Rattle.tv_report.proofs.WordTexts.{text_first}
 
 -- ---- structures
 
@@ -273,7 +277,7 @@ numbers_first ns good rest ts clear l =
 record ItemFirst (x : Item) (rest : List ℕ) (ts : List SpecToken) : Type 0 where
   tokens : List SpecToken
   lexes : Lexes (item_text x ++ 32 ∷ rest) tokens
-  is : IsItem tokens x ts
+  is : IsItemPhrase tokens x ts
 
 item_first : (x : Item) → IsShortItem x → ((edge structure result : ℕ) → x ≡ item.Result edge structure result → IsShort edge × IsShort structure)
     → (rest : List ℕ) (ts : List SpecToken) → Lexes rest ts → ItemFirst x rest ts

@@ -1,5 +1,6 @@
--- The grammar of reports. `{ }` is any number of times, `[ ]` is optional; a comma list of X is X, then any number of `,` X.
--- What is optional or repeated is taken exactly where the token at its place can begin it. (Structures: `tv_tvs`.)
+-- The grammar of reports. `{ }` is any number of times, `[ ]` is optional; a comma list of X is X, then any
+-- number of `,` X. What is optional or repeated is taken exactly where the token at its place can begin it.
+-- (Structures: `tv_tvs`.)
 --
 --   Report  = `tvla` `report` `1` {Node} {Message} `end`
 --           | `tvla` `report` `2` {Node} {Message} {Map} `end`
@@ -29,7 +30,8 @@ use Rattle.tv_report.specs.Tree.{NodeTree, ReportTree}
 -- structures one behind the other
 abbrev pub AreStructures : List SpecToken → List StructTree → List SpecToken → Type 0
 AreStructures ts [] rest = rest ≡ ts
-AreStructures ts (s ∷ structures) rest = (us : List SpecToken) × IsStruct ts s us × AreStructures us structures rest
+AreStructures ts (s ∷ structures) rest =
+    (us : List SpecToken) × IsStruct ts s us × AreStructures us structures rest
 
 abbrev pub IsNode : List SpecToken → NodeTree → List SpecToken → Type 0
 IsNode ts node rest = (us vs ws xs : List SpecToken)
@@ -39,7 +41,8 @@ IsNode ts node rest = (us vs ws xs : List SpecToken)
 
 -- `1` or `1/2`
 abbrev pub value_spelled : List ℕ → Option K3
-value_spelled w = if bytes_eq w (codes "1") then Some Yes else (if bytes_eq w (codes "1/2") then Some Half else None)
+value_spelled w =
+    if bytes_eq w (codes "1") then Some Yes else (if bytes_eq w (codes "1/2") then Some Half else None)
 
 abbrev pub message_value : SpecToken → Option K3
 message_value t = value_spelled t.bytes
@@ -50,15 +53,16 @@ IsMessage ts line rest = (us vs ws xs : List SpecToken) × (text : List ℕ)
     × (first number_item vs ≡ taken line.number ws) × (first message_value ws ≡ taken line.value xs)
     × (first text_item xs ≡ taken text rest)
 
-abbrev pub IsItem : List SpecToken → Item → List SpecToken → Type 0
-IsItem ts (item.Initial n) rest = (us : List SpecToken) × (after (codes "initial") ts ≡ Some us) × (first number_item us ≡ taken n rest)
-IsItem ts (item.Result edge structure result) rest = (us vs ws : List SpecToken)
+abbrev pub IsItemPhrase : List SpecToken → Item → List SpecToken → Type 0
+IsItemPhrase ts (item.Initial n) rest =
+    (us : List SpecToken) × (after (codes "initial") ts ≡ Some us) × (first number_item us ≡ taken n rest)
+IsItemPhrase ts (item.Result edge structure result) rest = (us vs ws : List SpecToken)
     × (after (codes "edge") ts ≡ Some us) × (first number_item us ≡ taken edge vs)
     × (first number_item vs ≡ taken structure ws) × (first number_item ws ≡ taken result rest)
 
 abbrev pub IsMap : List SpecToken → MapLine → List SpecToken → Type 0
 IsMap ts line rest = (us vs ws xs ys zs : List SpecToken)
-    × (after (codes "map") ts ≡ Some us) × IsItem us line.item vs
+    × (after (codes "map") ts ≡ Some us) × IsItemPhrase us line.item vs
     × (after (codes "to") vs ≡ Some ws) × (first number_item ws ≡ taken line.target xs)
     × (after (codes "{") xs ≡ Some ys) × (optional_list number_item ys ≡ taken line.map zs)
     × (after (codes "}") zs ≡ Some rest)
@@ -66,12 +70,14 @@ IsMap ts line rest = (us vs ws xs ys zs : List SpecToken)
 -- `tvla report` and the version
 abbrev pub IsHead : (version : List ℕ) → List SpecToken → List SpecToken → Type 0
 IsHead version ts rest = (us vs : List SpecToken)
-    × (after (codes "tvla") ts ≡ Some us) × (after (codes "report") us ≡ Some vs) × (after version vs ≡ Some rest)
+    × (after (codes "tvla") ts ≡ Some us) × (after (codes "report") us ≡ Some vs)
+    × (after version vs ≡ Some rest)
 
 -- the first version has no maps
 abbrev pub AreMaps : (version : List ℕ) → List SpecToken → List MapLine → List SpecToken → Type 0
 AreMaps version ts maps rest =
-    ((version ≡ codes "1") × (maps ≡ []) × (rest ≡ ts)) ⊎ ((version ≡ codes "2") × Repeated (begins_with (codes "map")) IsMap ts maps rest)
+    ((version ≡ codes "1") × (maps ≡ []) × (rest ≡ ts))
+    ⊎ ((version ≡ codes "2") × Repeated (begins_with (codes "map")) IsMap ts maps rest)
 
 -- the tokens are those of this report
 abbrev pub IsReport : List SpecToken → ReportTree → Type 0

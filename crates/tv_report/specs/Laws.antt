@@ -1,6 +1,5 @@
 -- Laws of reports, as statements.
-use Rattle.std.specs.Prelude.{ℕ, ◌≡◌, ◌<◌, ◌^◌, List, map, All}
-use Rattle.tv_lex.specs.Token.{SpecToken}
+use Rattle.std.specs.Prelude.{ℕ, ◌<◌, ◌^◌, List, map, All}
 use Rattle.tv_model.specs.Program.{program_of}
 use Rattle.tv_model.specs.Valid.{IsValid}
 use Rattle.tv_model.specs.declared.program.Program.{Program}
@@ -10,21 +9,10 @@ use Rattle.tv_listing.specs.declared.analysis.Analysis.{Analysis}
 use Rattle.tv_listing.specs.declared.analysis.Item.{Item}
 use Rattle.tv_listing.specs.declared.analysis.Item.TheVariants as item
 use Rattle.tv_listing.specs.declared.analysis.MapLine.{MapLine}
-use Rattle.tv_report.specs.Tree.{ReportTree}
-use Rattle.tv_report.specs.Grammar.{IsReport}
 use Rattle.tv_report.specs.Lines.{IsMessageLine, message_key, AreMapLines}
-use Rattle.tv_report.specs.Meaning.{MeansReport, IsReportText}
+use Rattle.tv_report.specs.Meaning.{IsReportText}
 use Rattle.tv_report.specs.Once.{AreOnce}
 use Rattle.tv_report.specs.Text.{report_text}
-
--- tokens are a report in one way at most
-abbrev pub HaveOneReading : Type 0
-HaveOneReading = (tokens : List SpecToken) (t u : ReportTree) → IsReport tokens t → IsReport tokens u → t ≡ u
-
--- tokens mean one analysis at most
-abbrev pub HaveOneMeaning : Type 0
-HaveOneMeaning =
-    (program : Program) (tokens : List SpecToken) (a b : Analysis) → MeansReport program tokens a → MeansReport program tokens b → a ≡ b
 
 -- the analysis without marks
 abbrev pub without_marks : Analysis → Analysis
@@ -42,9 +30,9 @@ IsShortItem (item.Result edge structure result) = IsShort result
 abbrev pub IsShortLine : MapLine → Type 0
 IsShortLine line = IsShortItem line.item × All IsShort line.map
 
--- What is asked of an analysis so that its report is read again: its listing is one of the program's, a message line names a
--- message that may be true, and no other line names it, and each map line has an item of its own, leads from and to listed
--- structures, and has no number of 2 ^ 32 or more.
+-- What is asked of an analysis so that its report is read again: its listing is one of the program's, a
+-- message line names a message that may be true, and no other line names it, and each map line has an item of
+-- its own, leads from and to listed structures, and has no number of 2 ^ 32 or more.
 pub record IsReadable (program : Program) (a : Analysis) : Type 0 where
   pub listing : IsListing program a.listing
   pub messages : AreOnce (IsMessageLine (program_of program)) message_key a.messages
@@ -54,4 +42,5 @@ pub record IsReadable (program : Program) (a : Analysis) : Type 0 where
 -- what is written of an analysis is read as the same analysis, marks aside
 abbrev pub ReportsAreReadAgain : Type 0
 ReportsAreReadAgain =
-    (program : Program) (a : Analysis) → IsValid (program_of program) → IsReadable program a → IsReportText program (report_text program a) (without_marks a)
+    (program : Program) (a : Analysis) → IsValid (program_of program) → IsReadable program a
+    → IsReportText program (report_text program a) (without_marks a)

@@ -15,7 +15,8 @@ use Rattle.tv_report.specs.Once.{AreOnce}
 -- the message of an edge's action, by both numbers
 abbrev pub message_at : ProgramForm → (edge number : ℕ) → Option MessageForm
 message_at p edge number =
-    option_and_then (λ (e : Edge). option_and_then (λ action. slice_get action.messages number) (slice_get p.actions e.action)) (slice_get p.edges edge)
+    option_and_then (λ (e : Edge). option_and_then (λ action. slice_get action.messages number)
+    (slice_get p.actions e.action)) (slice_get p.edges edge)
 
 -- the line names a message of an edge
 abbrev pub NamesMessage : ProgramForm → MessageLine → Type 0
@@ -29,10 +30,12 @@ IsMessageLine p line = NamesMessage p line × (line.value ≢ No)
 abbrev pub message_key : MessageLine → ℕ × ℕ
 message_key line = (line.edge, line.number)
 
--- the structure that a result comes from is listed at the edge's source, and the target where the item leads to
+-- the structure that a result comes from is listed at the edge's source, and the target where the item leads
+-- to
 abbrev pub LeadsTo : ProgramForm → (listing : List (List StructureForm)) → Item → (target : ℕ) → Type 0
 LeadsTo p listing (item.Initial n) target = target < length (at_node listing 0)
-LeadsTo p listing (item.Result edge structure result) target = (taken : Edge) × (slice_get p.edges edge ≡ Some taken)
+LeadsTo p listing (item.Result edge structure result) target =
+    (taken : Edge) × (slice_get p.edges edge ≡ Some taken)
     × (structure < length (at_node listing taken.from)) × (target < length (at_node listing taken.to))
 
 abbrev pub IsMapLine : ProgramForm → (listing : List (List StructureForm)) → MapLine → Type 0

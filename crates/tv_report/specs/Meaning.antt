@@ -1,8 +1,7 @@
 -- What a report means: an analysis of a program.
-use Rattle.std.specs.Prelude.{ℕ, ◌≡◌, List, [], map, length, Ok, Option, Some, All, Contains, slice_get, ⊤}
+use Rattle.std.specs.Prelude.{ℕ, ◌≡◌, List, [], map, length, Ok, Option, Some, All, Contains, slice_get}
 use Rattle.std.specs.Result.{result_ok}
 use Rattle.tv_lex.specs.Pieces.{Reads}
-use Rattle.tv_lex.specs.Places.{IsTokenPlace}
 use Rattle.tv_lex.specs.Token.{SpecToken, spec_tokens}
 use Rattle.tv_lex.specs.declared.token.Token.{Token}
 use Rattle.tv_model.specs.Program.{program_of}
@@ -16,8 +15,6 @@ use Rattle.tv_report.specs.Tree.{NodeTree, ReportTree}
 use Rattle.tv_report.specs.Grammar.{IsReport}
 use Rattle.tv_report.specs.Lines.{AreMessageLines, AreMapLines}
 use Rattle.tv_report.specs.Once.{AreOnce}
-use Rattle.tv_report.specs.declared.error.ReportError.{ReportError}
-use Rattle.tv_report.specs.declared.error.ReportError.TheVariants.{ReportForm, Memory}
 
 -- a node that a report names, and its structures, where each of them means one
 pub record NamedNode : Type 0 where
@@ -25,25 +22,29 @@ pub record NamedNode : Type 0 where
   pub structures : Option (List StructureForm)
 
 abbrev pub named_node : Vocab → NodeTree → NamedNode
-named_node vocab node = record { name = node.name; structures = result_ok (structs_meant vocab.preds node.structures) }
+named_node vocab node =
+    record { name = node.name; structures = result_ok (structs_meant vocab.preds node.structures) }
 
 abbrev pub node_name : NamedNode → List ℕ
 node_name node = node.name
 
--- each named node is one of the program's, and is named once; it has the structures that are meant, and a node that isn't
--- named has none
-pub record IsListed (program : Program) (nodes : List NamedNode) (listing : List (List StructureForm)) : Type 0 where
+-- each named node is one of the program's, and is named once; it has the structures that are meant, and a
+-- node that isn't named has none
+pub record ListsNodes (program : Program) (nodes : List NamedNode)
+    (listing : List (List StructureForm)) : Type 0 where
   pub names : AreOnce (λ node. Contains program.nodes node.name) node_name nodes
   pub count : length listing ≡ length program.nodes
-  pub named : (number : ℕ) → All (λ node. slice_get program.nodes number ≡ Some node.name → node.structures ≡ Some (at_node listing number)) nodes
-  pub others : (number : ℕ) (name : List ℕ) → slice_get program.nodes number ≡ Some name → ¬ Contains (map node_name nodes) name
+  pub named : (number : ℕ) → All (λ node. slice_get program.nodes number ≡ Some node.name
+      → node.structures ≡ Some (at_node listing number)) nodes
+  pub others : (number : ℕ) (name : List ℕ) → slice_get program.nodes number ≡ Some name
+      → ¬ Contains (map node_name nodes) name
       → at_node listing number ≡ []
 
 -- the tokens are a report on the program, and this is what it means
 pub record MeansReport (program : Program) (tokens : List SpecToken) (a : Analysis) : Type 0 where
   pub tree : ReportTree
   pub is : IsReport tokens tree
-  pub listing : IsListed program (map (named_node program.vocab) tree.nodes) a.listing
+  pub listing : ListsNodes program (map (named_node program.vocab) tree.nodes) a.listing
   pub messages : AreMessageLines (program_of program) a.messages
   pub maps : AreMapLines (program_of program) a.listing a.maps
   pub same_messages : a.messages ≡ tree.messages
@@ -51,18 +52,9 @@ pub record MeansReport (program : Program) (tokens : List SpecToken) (a : Analys
 
 -- the text is a report on the program, and this is what it means
 abbrev pub IsReportText : Program → (text : List ℕ) → Analysis → Type 0
-IsReportText program text a = (tokens : List Token) × Reads text (Ok tokens) × MeansReport program (spec_tokens text tokens) a
+IsReportText program text a =
+    (tokens : List Token) × Reads text (Ok tokens) × MeansReport program (spec_tokens text tokens) a
 
 -- the tokens are no report on the program
 abbrev pub IsNoReport : Program → List SpecToken → Type 0
 IsNoReport program tokens = (a : Analysis) → ¬ MeansReport program tokens a
-
--- why there is no analysis
-abbrev pub IsCause : Program → List SpecToken → ReportError → Type 0
-IsCause program tokens (ReportForm place) = IsNoReport program tokens
-IsCause program tokens Memory = ⊤
-
--- the place that is told is that of the start of one of the tokens, or of the end of the text
-abbrev pub StopsAtToken : List ℕ → List Token → ReportError → Type 0
-StopsAtToken text tokens (ReportForm place) = IsTokenPlace text tokens place
-StopsAtToken text tokens Memory = ⊤

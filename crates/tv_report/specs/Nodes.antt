@@ -1,5 +1,6 @@
 -- What the reader does with one node of a report.
-use Rattle.std.specs.Prelude.{ℕ, ◌≡◌, ◌<◌, ◌^◌, ◌⊎◌, List, ◌++◌, length, Some, None, All, Contains, slice_get, slice_set}
+use Rattle.std.specs.Prelude.{ℕ, ◌≡◌, ◌<◌, ◌^◌, ◌⊎◌, List, ◌++◌, length, Some, None, All, Contains, slice_get}
+use Rattle.std.specs.Prelude.{slice_set}
 use Rattle.tv_model.specs.declared.program.Vocab.{Vocab}
 use Rattle.tv_listing.specs.ListingForm.{at_node}
 use Rattle.tv_struct.specs.StructureForm.{StructureForm}
@@ -12,7 +13,8 @@ abbrev pub AreRead : Vocab → List StructureForm → Type 0
 AreRead vocab structures = All (IsRead vocab) structures × (length structures < 2 ^ 32)
 
 -- the node's structures are put behind those that are listed at its number, and its name behind the old ones
-pub record IsPut (nodes old new : List (List ℕ)) (before after : List (List StructureForm)) (node : NamedNode) : Type 0 where
+pub record IsPut (nodes old new : List (List ℕ)) (before after : List (List StructureForm))
+    (node : NamedNode) : Type 0 where
   pub goes_on : GoesOn (λ (n : NamedNode). Contains nodes n.name) node_name old new node
   pub number : ℕ
   pub found : slice_get nodes number ≡ Some node.name
@@ -22,4 +24,5 @@ pub record IsPut (nodes old new : List (List ℕ)) (before after : List (List St
 
 -- why it can't be
 abbrev pub CannotPut : (nodes old : List (List ℕ)) → NamedNode → Type 0
-CannotPut nodes old node = Breaks (λ (n : NamedNode). Contains nodes n.name) node_name old node ⊎ (node.structures ≡ None)
+CannotPut nodes old node =
+    Breaks (λ (n : NamedNode). Contains nodes n.name) node_name old node ⊎ (node.structures ≡ None)

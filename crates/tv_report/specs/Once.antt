@@ -1,5 +1,6 @@
 -- Lists whose elements have keys that differ, and sets of the keys that were seen.
-use Rattle.std.specs.Prelude.{◌≡◌, ◌≢◌, ◌⊎◌, Bool, true, false, List, [], ◌∷◌, ◌++◌, map, All, AllPairs, Contains}
+use Rattle.std.specs.Prelude.{◌≡◌, ◌≢◌, ◌⊎◌, Bool, true, false, List, [], ◌∷◌, ◌++◌, map, All, AllPairs}
+use Rattle.std.specs.Prelude.{Contains}
 
 -- each element is good, and no two have one key
 abbrev pub AreOnce : {X K : Type 0} → (X → Type 0) → (X → K) → List X → Type 0

@@ -1,6 +1,7 @@
--- The reader of reports, as functions on lists of tokens. Structures are passed over at first, and their tokens kept. That
--- the functions read what the grammar says is proved.
-use Rattle.std.specs.Prelude.{ℕ, zero, suc, List, [], ◌∷◌, Bool, true, false, Option, Some, None, length, ◌==◌, if◌then◌else◌, codes}
+-- The reader of reports, as functions on lists of tokens. Structures are passed over at first, and their
+-- tokens kept. That the functions read what the grammar says is proved.
+use Rattle.std.specs.Prelude.{ℕ, zero, suc, List, [], ◌∷◌, Bool, true, false, Option, Some, None, length}
+use Rattle.std.specs.Prelude.{◌==◌, if◌then◌else◌, codes}
 use Rattle.tv_lex.specs.Token.{SpecToken}
 use Rattle.tv_model.specs.declared.program.Vocab.{Vocab}
 use Rattle.tv_phrases.specs.Reading.{Reading, ◌>>=◌, choose}
@@ -94,7 +95,8 @@ maps_at ts = all_of (begins_with (codes "map")) map_at ts
 
 -- whether there may be maps, by the version
 unfoldable pub version_at : List SpecToken → Reading Bool
-version_at ts = choose (after (codes "1") ts) (after (codes "2") ts >>= λ us. Some (true, us)) (λ us. Some (false, us))
+version_at ts =
+    choose (after (codes "1") ts) (after (codes "2") ts >>= λ us. Some (true, us)) (λ us. Some (false, us))
 
 unfoldable pub head_at : List SpecToken → Reading Bool
 head_at ts = after (codes "tvla") ts >>= λ us. after (codes "report") us >>= λ vs. version_at vs
@@ -121,7 +123,8 @@ report_at ts = do
 -- the structures that so many texts mean
 unfoldable pub structures_at : Vocab → ℕ → List SpecToken → Option (List StructureForm)
 structures_at vocab zero ts = Some []
-structures_at vocab (suc n) ts = structure_at vocab ts >>= λ x. structures_at vocab n x.1 >>= λ ss. Some (x.0 ∷ ss)
+structures_at vocab (suc n) ts =
+    structure_at vocab ts >>= λ x. structures_at vocab n x.1 >>= λ ss. Some (x.0 ∷ ss)
 
 abbrev pub marked_node : Vocab → NodeMark → NamedNode
 marked_node vocab m = record { name = m.name; structures = structures_at vocab m.count m.structures }

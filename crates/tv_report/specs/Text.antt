@@ -19,7 +19,8 @@ node_line name count = codes "node " ++ (name ++ (codes " structures " ++ (decim
 
 -- a node's line and the canonical texts of its structures
 abbrev pub node_text : Vocab → (name : List ℕ) → List StructureForm → List ℕ
-node_text vocab name structures = node_line name (length structures) ++ flat_map (canonical_text vocab) structures
+node_text vocab name structures =
+    node_line name (length structures) ++ flat_map (canonical_text vocab) structures
 
 -- the nodes by number
 abbrev pub nodes_text : Vocab → (names : List (List ℕ)) → (listing : List (List StructureForm)) → List ℕ
@@ -32,7 +33,8 @@ said (Some m) = m.text
 -- `message EDGE NUMBER VALUE "TEXT"`
 abbrev pub message_text : ProgramForm → MessageLine → List ℕ
 message_text p line =
-    codes "message " ++ (decimal line.edge ++ (codes " " ++ (decimal line.number ++ (codes " " ++ (value_text line.value
+    codes "message "
+    ++ (decimal line.edge ++ (codes " " ++ (decimal line.number ++ (codes " " ++ (value_text line.value
     ++ (codes " \"" ++ (said (message_at p line.edge line.number) ++ codes "\"\n")))))))
 
 abbrev pub item_text : Item → List ℕ
@@ -50,4 +52,5 @@ map_text line =
 abbrev pub report_text : Program → Analysis → List ℕ
 report_text program a =
     codes "tvla report 2\n" ++ (nodes_text program.vocab program.nodes a.listing
-    ++ (flat_map (message_text (program_of program)) a.messages ++ (flat_map map_text a.maps ++ codes "end\n")))
+    ++ (flat_map (message_text (program_of program)) a.messages
+    ++ (flat_map map_text a.maps ++ codes "end\n")))

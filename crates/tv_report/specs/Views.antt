@@ -10,7 +10,12 @@ use Rattle.tv_report.specs.declared.syntax.ReportText.{ReportText}
 use Rattle.tv_report.specs.Reading.{NodeMark, ReportMarks}
 
 abbrev pub node_mark : List ℕ → NodeText → NodeMark
-node_mark bytes node = record { name = text_of bytes node.name; count = node.count; structures = spec_tokens bytes node.structures.now }
+node_mark bytes node =
+    record {
+      name = text_of bytes node.name;
+      count = node.count;
+      structures = spec_tokens bytes node.structures.now;
+    }
 
 abbrev pub node_marks : List ℕ → List NodeText → List NodeMark
 node_marks bytes nodes = map (node_mark bytes) nodes

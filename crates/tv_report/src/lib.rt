@@ -1,7 +1,6 @@
 //! Reports of an analysis, as they are written and read.
 #![tactic(auto)]
 
-mod error;
 mod laws;
 mod lines;
 mod names;
@@ -11,7 +10,6 @@ mod read;
 mod syntax;
 mod write;
 
-pub use error::ReportError;
 pub use laws::{one_meaning, one_reading, reports_are_read_again};
 pub use read::read_report;
 pub use write::write_report;

@@ -5,7 +5,8 @@ ghost use Rattle.tv_listing.specs.ListingForm.{at_node};
 ghost use Rattle.tv_model.specs.Program.{program_of};
 ghost use Rattle.tv_model.specs.Valid.{IsValid};
 ghost use Rattle.tv_phrases.specs.Reading.{Told};
-ghost use Rattle.tv_report.specs.Lines.{NamesMessage, IsMapLine, LeadsTo, message_key, map_key, AreMessageLines, AreMapLines};
+ghost use Rattle.tv_report.specs.Lines.{NamesMessage, IsMapLine, LeadsTo, message_key, map_key};
+ghost use Rattle.tv_report.specs.Lines.{AreMessageLines, AreMapLines};
 ghost use Rattle.tv_report.specs.Once.{GoesOn, Breaks};
 ghost use Rattle.tv_report.specs.Views.{message_lines, map_lines};
 
@@ -24,8 +25,10 @@ fn note_message<'a>(
     seen: &mut Pairs,
     found: &MessageText<'a>,
 ) -> Result<(), PhraseError<'a>>
-    ensures noted { OnOk result (GoesOn (NamesMessage (program_of program.now)) message_key seen.old.keys seen.new.keys found.now.line) }
-    ensures fault { IfErr result (λ e. Told e (Breaks (NamesMessage (program_of program.now)) message_key seen.old.keys found.now.line)) }
+    ensures noted { OnOk result (GoesOn (NamesMessage (program_of program.now)) message_key seen.old.keys
+        seen.new.keys found.now.line) }
+    ensures fault { IfErr result (λ e. Told e
+        (Breaks (NamesMessage (program_of program.now)) message_key seen.old.keys found.now.line)) }
 {
     let line = found.line;
     if message(program, line.edge, line.number).is_none() {
@@ -45,7 +48,8 @@ pub(crate) fn message_list<'a>(
 ) -> Result<MessageLines, PhraseError<'a>>
     ensures same { IfOk result (λ lines. lines ≡ message_lines messages.entry.items) }
     ensures kept { IfOk result (AreMessageLines (program_of program.now)) }
-    ensures fault { IfErr result (λ e. Told e (¬ AreMessageLines (program_of program.now) (message_lines messages.entry.items))) }
+    ensures fault { IfErr result
+        (λ e. Told e (¬ AreMessageLines (program_of program.now) (message_lines messages.entry.items))) }
 {
     let mut seen = IndexSet::new(alloc);
     let mut lines = Items::new(alloc);
@@ -75,7 +79,8 @@ fn edge_at(program: &Program, number: u32) -> Option<Edge>
 fn leads_to(program: &Program, listing: &Listing, item: Item, target: u32) -> bool
     requires valid { IsValid (program_of program.now) }
     requires nodes { length listing.now ≡ length program.now.nodes }
-    ensures { MatchBool result (LeadsTo (program_of program.now) listing.now item target) (¬ LeadsTo (program_of program.now) listing.now item target) }
+    ensures { MatchBool result (LeadsTo (program_of program.now) listing.now item target)
+        (¬ LeadsTo (program_of program.now) listing.now item target) }
 {
     match item {
         Item::Initial(_) => is_listed(listing, 0, target),
@@ -101,8 +106,10 @@ fn note_map<'a>(
 ) -> Result<(), PhraseError<'a>>
     requires valid { IsValid (program_of program.now) }
     requires nodes { length listing.now ≡ length program.now.nodes }
-    ensures noted { OnOk result (GoesOn (IsMapLine (program_of program.now) listing.now) map_key seen.old.keys seen.new.keys found.now.line) }
-    ensures fault { IfErr result (λ e. Told e (Breaks (IsMapLine (program_of program.now) listing.now) map_key seen.old.keys found.now.line)) }
+    ensures noted { OnOk result (GoesOn (IsMapLine (program_of program.now) listing.now) map_key seen.old.keys
+        seen.new.keys found.now.line) }
+    ensures fault { IfErr result (λ e. Told e
+        (Breaks (IsMapLine (program_of program.now) listing.now) map_key seen.old.keys found.now.line)) }
 {
     if !leads_to(program, listing, found.line.item, found.line.target) {
         return Err(PhraseError::Unexpected(found.here));
@@ -124,7 +131,8 @@ pub(crate) fn map_list<'a>(
     requires nodes { length listing.now ≡ length program.now.nodes }
     ensures same { IfOk result (λ lines. lines ≡ map_lines maps.entry.items) }
     ensures kept { IfOk result (AreMapLines (program_of program.now) listing.now) }
-    ensures fault { IfErr result (λ e. Told e (¬ AreMapLines (program_of program.now) listing.now (map_lines maps.entry.items))) }
+    ensures fault { IfErr result
+        (λ e. Told e (¬ AreMapLines (program_of program.now) listing.now (map_lines maps.entry.items))) }
 {
     let mut seen = IndexSet::new(alloc);
     let mut lines = Items::new(alloc);

@@ -10,7 +10,7 @@ use tv_listing::Item;
 use tv_model::Bytes;
 
 /// Names, each once; the number of a name is its place.
-pub(crate) type Names<'a> = IndexSet<&'a [u8]>;
+pub(crate) type NameSet<'a> = IndexSet<&'a [u8]>;
 
 /// Edges, each with the number of a message of its action.
 pub(crate) type Pairs = IndexSet<(u32, u32)>;
@@ -19,7 +19,7 @@ pub(crate) type Pairs = IndexSet<(u32, u32)>;
 pub(crate) type Keys = IndexSet<Item>;
 
 /// Puts a name behind the others, unless it is among them, and answers whether it wasn't.
-pub(crate) fn see_name<'a>(names: &mut Names<'a>, name: &'a [u8]) -> Result<bool, AllocError>
+pub(crate) fn see_name<'a>(names: &mut NameSet<'a>, name: &'a [u8]) -> Result<bool, AllocError>
     ensures { IfOk result (IsSeen (names_of names.old.keys) (names_of names.new.keys) name.now) }
 {
     let (_, new) = names.insert_full(name)?;
@@ -43,14 +43,15 @@ pub(crate) fn see_item(items: &mut Keys, item: Item) -> Result<bool, AllocError>
 }
 
 /// The number of a name.
-pub(crate) fn number_of(names: &Names<'_>, name: &[u8]) -> Option<usize>
-    ensures { MatchOption result (¬ Contains (names_of names.now.keys) name.now) (λ n. slice_get (names_of names.now.keys) n ≡ Some name.now) }
+pub(crate) fn number_of(names: &NameSet<'_>, name: &[u8]) -> Option<usize>
+    ensures { MatchOption result (¬ Contains (names_of names.now.keys) name.now)
+        (λ n. slice_get (names_of names.now.keys) n ≡ Some name.now) }
 {
     names.get_index_of(name)
 }
 
 /// Names of which no two are the same.
-pub(crate) fn all_names(alloc: Global, names: &[Bytes]) -> Result<Names<'_>, AllocError>
+pub(crate) fn all_names(alloc: Global, names: &[Bytes]) -> Result<NameSet<'_>, AllocError>
     requires { AllPairs ◌≢◌ names.now }
     ensures { IfOk result (λ found. names_of found.keys ≡ names.now) }
 {

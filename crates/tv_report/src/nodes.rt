@@ -1,43 +1,48 @@
 //! The nodes of a report, by the program's names, and their structures.
 
-ghost use Rattle.std.specs.Prelude.{◌≡◌, ◌≢◌, ◌<◌, ◌≤◌, ◌++◌, ◌⊎◌, ℕ, List, [], true, All, AllPairs, Contains, IfOk, IfErr, OnOk, Some, map, length, slice_get, slice_set};
+ghost use Rattle.std.specs.Prelude.{◌≡◌, ◌≢◌, ◌<◌, ◌≤◌, ◌++◌, ◌⊎◌, ℕ, List, [], true, All, AllPairs};
+ghost use Rattle.std.specs.Prelude.{Contains, IfOk, IfErr, OnOk, Some, map, length, slice_get, slice_set};
 ghost use Rattle.tv_lex.specs.Token.{text_of, spec_tokens};
 ghost use Rattle.tv_listing.specs.ListingForm.{at_node};
 ghost use Rattle.tv_model.specs.Program.{program_of};
 ghost use Rattle.tv_model.specs.Valid.{IsValid};
-ghost use Rattle.tv_phrases.specs.Reading.{Gives, Told};
+ghost use Rattle.tv_phrases.specs.Reading.{GivesReading, Told};
 ghost use Rattle.tv_struct.specs.StructureForm.{StructureForm};
 ghost use Rattle.tv_tvs.specs.Reading.{structure_at};
 ghost use Rattle.tv_tvs.specs.Targets.{IsRead};
 ghost use Rattle.tv_tvs.specs.Views.{names_of};
-ghost use Rattle.tv_report.specs.Meaning.{NamedNode, IsListed};
+ghost use Rattle.tv_report.specs.Meaning.{NamedNode, ListsNodes};
 ghost use Rattle.tv_report.specs.Nodes.{AreRead, IsPut, CannotPut};
 ghost use Rattle.tv_report.specs.Once.{IsSeen};
 ghost use Rattle.tv_report.specs.Reading.{structures_at, marked_node};
 ghost use Rattle.tv_report.specs.Views.{node_mark, node_marks};
 
-use crate::names::{Names, all_names, number_of, see_name};
+use crate::names::{NameSet, all_names, number_of, see_name};
 use crate::syntax::NodeText;
 use indexmap::IndexSet;
 use std::alloc::{AllocError, Global};
 use tv_lex::{Token, text};
 use tv_listing::Listing;
 use tv_model::Program;
-use tv_phrases::PhraseError;
+use tv_phrases::{PhraseError, Read};
 use tv_struct::Structure;
 use tv_tvs::StructureReader;
 
 /// The number of a node that is the program's and wasn't named before; now it was.
 fn new_number<'a, 'b>(
-    names: &Names<'_>,
-    seen: &mut Names<'b>,
+    names: &NameSet<'_>,
+    seen: &mut NameSet<'b>,
     bytes: &'b [u8],
     node: &NodeText<'a>,
 ) -> Result<u32, PhraseError<'a>>
     requires few { length names.now.keys ≤ 4096 }
-    ensures found { IfOk result (λ n. slice_get (names_of names.now.keys) n ≡ Some (text_of bytes.now node.now.name)) }
-    ensures seen { IfOk result (λ n. IsSeen (names_of seen.old.keys) (names_of seen.new.keys) (text_of bytes.now node.now.name) true) }
-    ensures fault { IfErr result (λ e. Told e ((¬ Contains (names_of names.now.keys) (text_of bytes.now node.now.name)) ⊎ Contains (names_of seen.old.keys) (text_of bytes.now node.now.name))) }
+    ensures found { IfOk result
+        (λ n. slice_get (names_of names.now.keys) n ≡ Some (text_of bytes.now node.now.name)) }
+    ensures seen { IfOk result (λ n. IsSeen (names_of seen.old.keys) (names_of seen.new.keys)
+        (text_of bytes.now node.now.name) true) }
+    ensures fault { IfErr result
+        (λ e. Told e ((¬ Contains (names_of names.now.keys) (text_of bytes.now node.now.name))
+        ⊎ Contains (names_of seen.old.keys) (text_of bytes.now node.now.name))) }
 {
     let name = text(bytes, &node.name);
     match number_of(names, name) {
@@ -60,8 +65,9 @@ fn structure<'a>(
     bytes: &[u8],
     tokens: &'a [Token],
     node: &'a [Token],
-) -> Result<(Structure, &'a [Token]), PhraseError<'a>>
-    ensures value { Gives (λ x. (x.0, spec_tokens bytes.now x.1.now)) result (structure_at reader.now (spec_tokens bytes.now tokens.now)) }
+) -> Read<'a, Structure>
+    ensures value { GivesReading (λ x. (x.0, spec_tokens bytes.now x.1.now)) result
+        (structure_at reader.now (spec_tokens bytes.now tokens.now)) }
     ensures kept { IfOk result (λ x. IsRead reader.now x.0) }
 {
     match reader.take_structure(alloc, bytes, tokens) {
@@ -78,7 +84,8 @@ fn structures<'a>(
     bytes: &[u8],
     node: &NodeText<'a>,
 ) -> Result<Vec<Structure>, PhraseError<'a>>
-    ensures value { Gives (λ x. x.items) result (structures_at reader.now node.now.count (spec_tokens bytes.now node.now.structures.now)) }
+    ensures value { GivesReading (λ x. x.items) result
+        (structures_at reader.now node.now.count (spec_tokens bytes.now node.now.structures.now)) }
     ensures kept { IfOk result (λ x. AreRead reader.now x.items) }
 {
     let mut list = Vec::new(alloc);
@@ -94,7 +101,8 @@ fn structures<'a>(
 /// Puts structures behind those that are listed at a node.
 fn list(listing: &mut Listing, node: u32, structures: Vec<Structure>) -> Result<(), AllocError>
     requires { node < length listing.old }
-    ensures { OnOk result (listing.new ≡ slice_set listing.old node (at_node listing.old node ++ structures.items)) }
+    ensures { OnOk result
+        (listing.new ≡ slice_set listing.old node (at_node listing.old node ++ structures.items)) }
 {
     for s in structures {
         listing.push(node, s)?;
@@ -106,8 +114,8 @@ fn list(listing: &mut Listing, node: u32, structures: Vec<Structure>) -> Result<
 fn put_node<'a, 'b>(
     alloc: Global,
     reader: &StructureReader<'_>,
-    names: &Names<'_>,
-    seen: &mut Names<'b>,
+    names: &NameSet<'_>,
+    seen: &mut NameSet<'b>,
     listing: &mut Listing,
     bytes: &'b [u8],
     node: &NodeText<'a>,
@@ -115,10 +123,15 @@ fn put_node<'a, 'b>(
     requires few { length names.now.keys ≤ 4096 }
     requires nodes { length listing.old ≡ length names.now.keys }
     requires kept { All (AreRead reader.now) listing.old }
-    requires empty { (number : ℕ) → slice_get (names_of names.now.keys) number ≡ Some (text_of bytes.now node.now.name) → ¬ Contains (names_of seen.old.keys) (text_of bytes.now node.now.name) → at_node listing.old number ≡ [] }
-    ensures put { OnOk result (IsPut (names_of names.now.keys) (names_of seen.old.keys) (names_of seen.new.keys) listing.old listing.new (marked_node reader.now (node_mark bytes.now node.now))) }
+    requires empty { (number : ℕ)
+        → slice_get (names_of names.now.keys) number ≡ Some (text_of bytes.now node.now.name) → ¬ Contains
+        (names_of seen.old.keys) (text_of bytes.now node.now.name) → at_node listing.old number ≡ [] }
+    ensures put { OnOk result (IsPut (names_of names.now.keys) (names_of seen.old.keys)
+        (names_of seen.new.keys) listing.old listing.new
+        (marked_node reader.now (node_mark bytes.now node.now))) }
     ensures kept { OnOk result (All (AreRead reader.now) listing.new) }
-    ensures fault { IfErr result (λ e. Told e (CannotPut (names_of names.now.keys) (names_of seen.old.keys) (marked_node reader.now (node_mark bytes.now node.now)))) }
+    ensures fault { IfErr result (λ e. Told e (CannotPut (names_of names.now.keys) (names_of seen.old.keys)
+        (marked_node reader.now (node_mark bytes.now node.now)))) }
 {
     let number = new_number(names, seen, bytes, node)?;
     let found = structures(alloc, reader, bytes, node)?;
@@ -134,9 +147,11 @@ pub(crate) fn listing<'a>(
     nodes: Vec<NodeText<'a>>,
 ) -> Result<Listing, PhraseError<'a>>
     requires valid { IsValid (program_of program.now) }
-    ensures listed { IfOk result (IsListed program.now (map (marked_node program.now.vocab) (node_marks bytes.now nodes.entry.items))) }
+    ensures listed { IfOk result (ListsNodes program.now
+        (map (marked_node program.now.vocab) (node_marks bytes.now nodes.entry.items))) }
     ensures kept { IfOk result (All (AreRead program.now.vocab)) }
-    ensures fault { IfErr result (λ e. Told e ((l : List (List StructureForm)) → ¬ IsListed program.now (map (marked_node program.now.vocab) (node_marks bytes.now nodes.entry.items)) l)) }
+    ensures fault { IfErr result (λ e. Told e ((l : List (List StructureForm)) → ¬ ListsNodes program.now
+        (map (marked_node program.now.vocab) (node_marks bytes.now nodes.entry.items)) l)) }
 {
     let reader = StructureReader::new(alloc, &program.vocab)?;
     let names = all_names(alloc, program.nodes.as_slice())?;

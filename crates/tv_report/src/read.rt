@@ -1,15 +1,16 @@
 //! Texts of reports to analyses.
 
 ghost use Rattle.std.specs.Prelude.{◌≡◌, ◌≤◌, All, IfOk, IfErr, length, None};
+ghost use Rattle.tv_lex.specs.Places.{StopsAtToken};
 ghost use Rattle.tv_lex.specs.Pieces.{AreInOrder};
 ghost use Rattle.tv_lex.specs.Token.{spec_tokens};
 ghost use Rattle.tv_listing.specs.Listed.{IsListing};
 ghost use Rattle.tv_model.specs.Program.{program_of};
 ghost use Rattle.tv_model.specs.Valid.{IsValid};
 ghost use Rattle.tv_phrases.specs.Reading.{Told};
-ghost use Rattle.tv_report.specs.Meaning.{MeansReport, IsNoReport, IsCause, StopsAtToken};
+ghost use Rattle.tv_phrases.specs.Refused.{IsUnread, form_place};
+ghost use Rattle.tv_report.specs.Meaning.{MeansReport, IsNoReport};
 
-use crate::error::ReportError;
 use crate::lines::{map_list, message_list};
 use crate::nodes::listing;
 use crate::syntax::report;
@@ -17,7 +18,7 @@ use std::alloc::Global;
 use tv_lex::{Token, Tokens, stop_place};
 use tv_listing::Analysis;
 use tv_model::Program;
-use tv_phrases::PhraseError;
+use tv_phrases::{FormError, PhraseError};
 
 /// The analysis that the tokens mean: their grammar first, then nodes, messages and maps in order.
 fn analysis<'a>(
@@ -49,29 +50,30 @@ fn analysis<'a>(
 /// program's. No individual is marked as fresh.
 ///
 /// # Errors
-/// `ReportForm` where the tokens are no report on the program, with the place of the start of a token or
+/// `Form` where the tokens are no report on the program, with the place of the start of a token or
 /// of the end of the text; `Memory` where there was none for the analysis.
 pub fn read_report(
     alloc: Global,
     program: &Program,
     bytes: &[u8],
     tokens: &Tokens,
-) -> Result<Analysis, ReportError>
+) -> Result<Analysis, FormError>
     requires valid { IsValid (program_of program.now) }
     requires size { length bytes.now ≤ 67108864 }
     requires order { AreInOrder 0 tokens.now.list.items (length bytes.now) }
     ensures meant { IfOk result (MeansReport program.now (spec_tokens bytes.now tokens.now.list.items)) }
     ensures kept { IfOk result (λ a. IsListing program.now a.listing) }
     ensures unmarked { IfOk result (λ a. All (All (λ s. s.fresh ≡ None)) a.listing) }
-    ensures fault { IfErr result (IsCause program.now (spec_tokens bytes.now tokens.now.list.items)) }
-    ensures place { IfErr result (StopsAtToken bytes.now tokens.now.list.items) }
+    ensures fault { IfErr result
+        (IsUnread (IsNoReport program.now (spec_tokens bytes.now tokens.now.list.items))) }
+    ensures place { IfErr result (StopsAtToken form_place bytes.now tokens.now.list.items) }
 {
     let list = tokens.list.as_slice();
     match analysis(alloc, program, bytes, list) {
         Ok(found) => Ok(found),
         Err(PhraseError::Unexpected(rest)) => {
-            Err(ReportError::ReportForm(stop_place(bytes, list, rest)))
+            Err(FormError::Form(stop_place(bytes, list, rest)))
         }
-        Err(PhraseError::Memory) => Err(ReportError::Memory),
+        Err(PhraseError::Memory) => Err(FormError::Memory),
     }
 }

@@ -1,21 +1,27 @@
 //! Tokens to reports whose structures aren't read yet.
 
-ghost use Rattle.std.specs.Prelude.{◌≡◌, ◌<◌, ◌-◌, ℕ, length, map, []};
-ghost use Rattle.std.specs.Str.{bytes_eq};
-ghost use Rattle.tv_lex.specs.Token.{text_of, spec_tokens};
-ghost use Rattle.tv_phrases.specs.Reading.{Gives, Takes};
+ghost use Rattle.std.specs.Prelude.{◌≡◌, [], codes};
+ghost use Rattle.tv_lex.specs.Token.{spec_tokens};
+ghost use Rattle.tv_listing.specs.declared.analysis.MapLine.{MapLine};
+ghost use Rattle.tv_listing.specs.declared.analysis.MessageLine.{MessageLine};
+ghost use Rattle.tv_phrases.specs.Reading.{GivesReading, Takes};
 ghost use Rattle.tv_phrases.specs.Repeated.{begins_with};
 ghost use Rattle.tv_phrases.specs.Tokens.{after, first};
 ghost use Rattle.tv_report.specs.Grammar.{value_spelled, message_value};
-ghost use Rattle.tv_report.specs.Reading.{structures_end, node_at, line_at, initial_at, result_at, item_at, braces_at, map_at, nodes_at, lines_at, maps_at, version_at, head_at, maps_if, end_at, report_at};
-ghost use Rattle.tv_report.specs.Views.{node_mark, node_marks, message_lines, map_lines, report_marks};
+ghost use Rattle.tv_report.specs.Reading.{NodeMark, structures_end, node_at, line_at, initial_at, result_at};
+ghost use Rattle.tv_report.specs.Reading.{item_at, braces_at, map_at, version_at, head_at, maps_if, end_at};
+ghost use Rattle.tv_report.specs.Reading.{report_at};
+ghost use Rattle.tv_report.specs.Views.{node_mark, map_lines, report_marks};
 
 use std::alloc::Global;
 use tv_kleene::K3;
 use tv_lex::{Token, text};
 use tv_listing::{Item, MapLine, MessageLine};
 use tv_model::Items;
-use tv_phrases::{PhraseError, after, expect, number, optional_numbers, string, word};
+use tv_phrases::{
+    Part, PhraseError, Read, after, all_parts, begins_with, expect, is_spelled, number,
+    optional_numbers, string, word,
+};
 use tv_struct::Numbers;
 use tv_tvs::skip_structure;
 
@@ -52,22 +58,6 @@ pub(crate) struct ReportText<'a> {
     pub maps: Vec<MapText<'a>>,
 }
 
-/// A part of the text and the tokens behind it, or why it isn't there.
-type Read<'a, X> = Result<(X, &'a [Token]), PhraseError<'a>>;
-
-/// Whether the first token is spelled like the mark.
-fn begins_with(bytes: &[u8], tokens: &[Token], mark: &[u8]) -> bool
-    ensures { result ≡ begins_with mark.now (spec_tokens bytes.now tokens.now) }
-{
-    after(bytes, tokens, mark).is_some()
-}
-
-fn is_spelled(word: &[u8], mark: &[u8]) -> bool
-    ensures { result ≡ bytes_eq word.now mark.now }
-{
-    word == mark
-}
-
 /// The tokens behind that many structures.
 #[tactic(auto, using(crate::proofs::Skips::one_skipped, crate::proofs::Skips::none_skipped, crate::proofs::Skips::all_skipped))]
 fn behind_structures<'a>(
@@ -76,7 +66,8 @@ fn behind_structures<'a>(
     tokens: &'a [Token],
     count: u32,
 ) -> Result<&'a [Token], PhraseError<'a>>
-    ensures { Gives (λ rest. spec_tokens bytes.now rest.now) result (structures_end count (spec_tokens bytes.now tokens.now)) }
+    ensures { GivesReading (λ rest. spec_tokens bytes.now rest.now) result
+        (structures_end count (spec_tokens bytes.now tokens.now)) }
 {
     let mut rest = tokens;
     for _ in 0..count {
@@ -87,7 +78,8 @@ fn behind_structures<'a>(
 
 #[tactic(auto, unfolding(crate::specs::Reading::node_at))]
 fn node<'a>(alloc: Global, bytes: &[u8], tokens: &'a [Token]) -> Read<'a, NodeText<'a>>
-    ensures { Gives (λ x. (node_mark bytes.now x.0, spec_tokens bytes.now x.1.now)) result (node_at (spec_tokens bytes.now tokens.now)) }
+    ensures { GivesReading (λ x. (node_mark bytes.now x.0, spec_tokens bytes.now x.1.now)) result
+        (node_at (spec_tokens bytes.now tokens.now)) }
 {
     let inside = expect(bytes, tokens, b"node")?;
     let (name, next) = word(bytes, inside)?;
@@ -118,7 +110,8 @@ fn value_in(word: &[u8]) -> Option<K3>
 /// `1` or `1/2`.
 #[tactic(auto, unfolding(tv_phrases::specs::Tokens::first))]
 fn value<'a>(bytes: &[u8], tokens: &'a [Token]) -> Read<'a, K3>
-    ensures { Takes (λ x. (x.0, spec_tokens bytes.now x.1.now)) result (first message_value (spec_tokens bytes.now tokens.now)) }
+    ensures { Takes (λ x. (x.0, spec_tokens bytes.now x.1.now)) result
+        (first message_value (spec_tokens bytes.now tokens.now)) }
 {
     match tokens.split_first() {
         None => Err(PhraseError::Unexpected(tokens)),
@@ -131,7 +124,8 @@ fn value<'a>(bytes: &[u8], tokens: &'a [Token]) -> Read<'a, K3>
 
 #[tactic(auto, unfolding(crate::specs::Reading::line_at))]
 fn message<'a>(bytes: &[u8], tokens: &'a [Token]) -> Read<'a, MessageText<'a>>
-    ensures { Takes (λ x. (x.0.line, spec_tokens bytes.now x.1.now)) result (line_at (spec_tokens bytes.now tokens.now)) }
+    ensures { Takes (λ x. (x.0.line, spec_tokens bytes.now x.1.now)) result
+        (line_at (spec_tokens bytes.now tokens.now)) }
 {
     let inside = expect(bytes, tokens, b"message")?;
     let (edge, next) = number(bytes, inside)?;
@@ -148,7 +142,8 @@ fn message<'a>(bytes: &[u8], tokens: &'a [Token]) -> Read<'a, MessageText<'a>>
 
 #[tactic(auto, unfolding(crate::specs::Reading::initial_at))]
 fn initial<'a>(bytes: &[u8], tokens: &'a [Token]) -> Read<'a, Item>
-    ensures { Takes (λ x. (x.0, spec_tokens bytes.now x.1.now)) result (initial_at (spec_tokens bytes.now tokens.now)) }
+    ensures { Takes (λ x. (x.0, spec_tokens bytes.now x.1.now)) result
+        (initial_at (spec_tokens bytes.now tokens.now)) }
 {
     let (n, rest) = number(bytes, tokens)?;
     Ok((Item::Initial(n), rest))
@@ -157,7 +152,8 @@ fn initial<'a>(bytes: &[u8], tokens: &'a [Token]) -> Read<'a, Item>
 /// The result of a listed structure along an edge.
 #[tactic(auto, unfolding(crate::specs::Reading::result_at))]
 fn step_result<'a>(bytes: &[u8], tokens: &'a [Token]) -> Read<'a, Item>
-    ensures { Takes (λ x. (x.0, spec_tokens bytes.now x.1.now)) result (result_at (spec_tokens bytes.now tokens.now)) }
+    ensures { Takes (λ x. (x.0, spec_tokens bytes.now x.1.now)) result
+        (result_at (spec_tokens bytes.now tokens.now)) }
 {
     let inside = expect(bytes, tokens, b"edge")?;
     let (edge, next) = number(bytes, inside)?;
@@ -173,7 +169,8 @@ fn step_result<'a>(bytes: &[u8], tokens: &'a [Token]) -> Read<'a, Item>
 
 #[tactic(auto, unfolding(crate::specs::Reading::item_at))]
 fn item<'a>(bytes: &[u8], tokens: &'a [Token]) -> Read<'a, Item>
-    ensures { Takes (λ x. (x.0, spec_tokens bytes.now x.1.now)) result (item_at (spec_tokens bytes.now tokens.now)) }
+    ensures { Takes (λ x. (x.0, spec_tokens bytes.now x.1.now)) result
+        (item_at (spec_tokens bytes.now tokens.now)) }
 {
     match after(bytes, tokens, b"initial") {
         None => step_result(bytes, tokens),
@@ -184,7 +181,8 @@ fn item<'a>(bytes: &[u8], tokens: &'a [Token]) -> Read<'a, Item>
 /// Numbers in braces.
 #[tactic(auto, unfolding(crate::specs::Reading::braces_at))]
 fn braces<'a>(alloc: Global, bytes: &[u8], tokens: &'a [Token]) -> Read<'a, Numbers>
-    ensures { Gives (λ x. (x.0, spec_tokens bytes.now x.1.now)) result (braces_at (spec_tokens bytes.now tokens.now)) }
+    ensures { GivesReading (λ x. (x.0, spec_tokens bytes.now x.1.now)) result
+        (braces_at (spec_tokens bytes.now tokens.now)) }
 {
     let inside = expect(bytes, tokens, b"{")?;
     let (numbers, end) = optional_numbers(alloc, bytes, inside)?;
@@ -194,7 +192,8 @@ fn braces<'a>(alloc: Global, bytes: &[u8], tokens: &'a [Token]) -> Read<'a, Numb
 
 #[tactic(auto, unfolding(crate::specs::Reading::map_at))]
 fn map_line<'a>(alloc: Global, bytes: &[u8], tokens: &'a [Token]) -> Read<'a, MapText<'a>>
-    ensures { Gives (λ x. (x.0.line, spec_tokens bytes.now x.1.now)) result (map_at (spec_tokens bytes.now tokens.now)) }
+    ensures { GivesReading (λ x. (x.0.line, spec_tokens bytes.now x.1.now)) result
+        (map_at (spec_tokens bytes.now tokens.now)) }
 {
     let inside = expect(bytes, tokens, b"map")?;
     let (item, next) = item(bytes, inside)?;
@@ -208,7 +207,8 @@ fn map_line<'a>(alloc: Global, bytes: &[u8], tokens: &'a [Token]) -> Read<'a, Ma
 /// Whether maps may follow, by the version.
 #[tactic(auto, unfolding(crate::specs::Reading::version_at))]
 fn version<'a>(bytes: &[u8], tokens: &'a [Token]) -> Read<'a, bool>
-    ensures { Takes (λ x. (x.0, spec_tokens bytes.now x.1.now)) result (version_at (spec_tokens bytes.now tokens.now)) }
+    ensures { Takes (λ x. (x.0, spec_tokens bytes.now x.1.now)) result
+        (version_at (spec_tokens bytes.now tokens.now)) }
 {
     match after(bytes, tokens, b"1") {
         Some(behind) => Ok((false, behind)),
@@ -221,62 +221,72 @@ fn version<'a>(bytes: &[u8], tokens: &'a [Token]) -> Read<'a, bool>
 
 #[tactic(auto, unfolding(crate::specs::Reading::head_at))]
 fn head<'a>(bytes: &[u8], tokens: &'a [Token]) -> Read<'a, bool>
-    ensures { Takes (λ x. (x.0, spec_tokens bytes.now x.1.now)) result (head_at (spec_tokens bytes.now tokens.now)) }
+    ensures { Takes (λ x. (x.0, spec_tokens bytes.now x.1.now)) result
+        (head_at (spec_tokens bytes.now tokens.now)) }
 {
     let inside = expect(bytes, tokens, b"tvla")?;
     let behind = expect(bytes, inside, b"report")?;
     version(bytes, behind)
 }
 
-/// Nodes, for as long as one begins.
-fn nodes<'a>(alloc: Global, bytes: &[u8], tokens: &'a [Token]) -> Read<'a, Vec<NodeText<'a>>>
-    ensures { Gives (λ x. (node_marks bytes.now x.0.items, spec_tokens bytes.now x.1.now)) result (nodes_at (spec_tokens bytes.now tokens.now)) }
-{
-    let mut list = Vec::new(alloc);
-    let mut rest = tokens;
-    for _ in 0..tokens.len() + 1 {
-        if !begins_with(bytes, rest, b"node") {
-            return Ok((list, rest));
-        }
-        let (found, behind) = node(alloc, bytes, rest)?;
-        list.push(found)?;
-        rest = behind;
+impl<'a> Part<'a> for NodeText<'a> {
+    ghost Tree = { NodeMark };
+
+    ghost starts = { begins_with (codes "node") };
+
+    ghost part_at = { node_at };
+
+    ghost tree = { node_mark };
+
+    fn begins(bytes: &[u8], tokens: &[Token]) -> bool
+        ensures { result ≡ begins_with (codes "node") (spec_tokens bytes.now tokens.now) }
+    {
+        begins_with(bytes, tokens, b"node")
     }
-    Err(PhraseError::Unexpected(rest))
+
+    fn read(alloc: Global, bytes: &[u8], tokens: &'a [Token]) -> Read<'a, NodeText<'a>> {
+        node(alloc, bytes, tokens)
+    }
 }
 
-/// Messages, for as long as one begins.
-fn messages<'a>(alloc: Global, bytes: &[u8], tokens: &'a [Token]) -> Read<'a, Vec<MessageText<'a>>>
-    ensures { Gives (λ x. (message_lines x.0.items, spec_tokens bytes.now x.1.now)) result (lines_at (spec_tokens bytes.now tokens.now)) }
-{
-    let mut list = Vec::new(alloc);
-    let mut rest = tokens;
-    for _ in 0..tokens.len() + 1 {
-        if !begins_with(bytes, rest, b"message") {
-            return Ok((list, rest));
-        }
-        let (found, behind) = message(bytes, rest)?;
-        list.push(found)?;
-        rest = behind;
+impl<'a> Part<'a> for MessageText<'a> {
+    ghost Tree = { MessageLine };
+
+    ghost starts = { begins_with (codes "message") };
+
+    ghost part_at = { line_at };
+
+    ghost tree = { λ _ found. found.line };
+
+    fn begins(bytes: &[u8], tokens: &[Token]) -> bool
+        ensures { result ≡ begins_with (codes "message") (spec_tokens bytes.now tokens.now) }
+    {
+        begins_with(bytes, tokens, b"message")
     }
-    Err(PhraseError::Unexpected(rest))
+
+    fn read(_alloc: Global, bytes: &[u8], tokens: &'a [Token]) -> Read<'a, MessageText<'a>> {
+        message(bytes, tokens)
+    }
 }
 
-/// Maps, for as long as one begins.
-fn maps<'a>(alloc: Global, bytes: &[u8], tokens: &'a [Token]) -> Read<'a, Vec<MapText<'a>>>
-    ensures { Gives (λ x. (map_lines x.0.items, spec_tokens bytes.now x.1.now)) result (maps_at (spec_tokens bytes.now tokens.now)) }
-{
-    let mut list = Vec::new(alloc);
-    let mut rest = tokens;
-    for _ in 0..tokens.len() + 1 {
-        if !begins_with(bytes, rest, b"map") {
-            return Ok((list, rest));
-        }
-        let (found, behind) = map_line(alloc, bytes, rest)?;
-        list.push(found)?;
-        rest = behind;
+impl<'a> Part<'a> for MapText<'a> {
+    ghost Tree = { MapLine };
+
+    ghost starts = { begins_with (codes "map") };
+
+    ghost part_at = { map_at };
+
+    ghost tree = { λ _ found. found.line };
+
+    fn begins(bytes: &[u8], tokens: &[Token]) -> bool
+        ensures { result ≡ begins_with (codes "map") (spec_tokens bytes.now tokens.now) }
+    {
+        begins_with(bytes, tokens, b"map")
     }
-    Err(PhraseError::Unexpected(rest))
+
+    fn read(alloc: Global, bytes: &[u8], tokens: &'a [Token]) -> Read<'a, MapText<'a>> {
+        map_line(alloc, bytes, tokens)
+    }
 }
 
 /// Maps in a text of the second version, and none in one of the first.
@@ -287,10 +297,11 @@ fn maps_if<'a>(
     tokens: &'a [Token],
     mapped: bool,
 ) -> Read<'a, Vec<MapText<'a>>>
-    ensures { Gives (λ x. (map_lines x.0.items, spec_tokens bytes.now x.1.now)) result (maps_if mapped (spec_tokens bytes.now tokens.now)) }
+    ensures { GivesReading (λ x. (map_lines x.0.items, spec_tokens bytes.now x.1.now)) result
+        (maps_if mapped (spec_tokens bytes.now tokens.now)) }
 {
     if mapped {
-        maps(alloc, bytes, tokens)
+        all_parts::<MapText<'a>>(alloc, bytes, tokens)
     } else {
         Ok((Vec::new(alloc), tokens))
     }
@@ -316,11 +327,11 @@ pub(crate) fn report<'a>(
     bytes: &[u8],
     tokens: &'a [Token],
 ) -> Result<ReportText<'a>, PhraseError<'a>>
-    ensures { Gives (report_marks bytes.now) result (report_at (spec_tokens bytes.now tokens.now)) }
+    ensures { GivesReading (report_marks bytes.now) result (report_at (spec_tokens bytes.now tokens.now)) }
 {
     let (mapped, inside) = head(bytes, tokens)?;
-    let (nodes, next) = nodes(alloc, bytes, inside)?;
-    let (messages, behind) = messages(alloc, bytes, next)?;
+    let (nodes, next) = all_parts::<NodeText<'a>>(alloc, bytes, inside)?;
+    let (messages, behind) = all_parts::<MessageText<'a>>(alloc, bytes, next)?;
     let (maps, last) = maps_if(alloc, bytes, behind, mapped)?;
     end(bytes, last)?;
     Ok(ReportText {

@@ -1,32 +1,26 @@
 //! Analyses to the texts of their reports.
 
-ghost use Rattle.std.specs.Prelude.{◌≡◌, ◌++◌, ◌<◌, ◌≤◌, ℕ, List, All, IfOk, OnOk, map, length, codes, decimal};
+ghost use Rattle.std.specs.Prelude.{◌≡◌, ◌++◌, ◌<◌, ◌≤◌, All, IfOk, OnOk, map, length, codes};
+ghost use Rattle.std.specs.Prelude.{decimal};
 ghost use Rattle.std.specs.List.{flat_map};
 ghost use Rattle.tv_model.specs.Program.{program_of};
 ghost use Rattle.tv_model.specs.Valid.{IsValid};
 ghost use Rattle.tv_listing.specs.Listed.{IsListing};
 ghost use Rattle.tv_listing.specs.ListingForm.{at_node};
-ghost use Rattle.tv_struct.specs.StructureForm.{IsStructure, IsOver};
-ghost use Rattle.tv_tvs.specs.Canonical.{canonical_text, comma_text, more_texts, value_text};
+ghost use Rattle.tv_struct.specs.StructureForm.{IsOver};
+ghost use Rattle.tv_tvs.specs.Canonical.{canonical_text, comma_text, value_text};
 ghost use Rattle.tv_tvs.specs.Meaning.{IsVocabulary};
 ghost use Rattle.tv_report.specs.Lines.{message_at};
-ghost use Rattle.tv_report.specs.Text.{node_line, node_text, nodes_text, message_text, item_text, map_text, report_text, said};
+ghost use Rattle.tv_report.specs.Text.{node_line, node_text, nodes_text, message_text, item_text, map_text};
+ghost use Rattle.tv_report.specs.Text.{report_text, said};
 ghost use Rattle.tv_listing.specs.declared.analysis.Item.TheVariants as item;
 
 use crate::program::message;
-use itoa::Buffer;
 use std::alloc::{AllocError, Global};
 use tv_kleene::K3;
 use tv_listing::{Analysis, Item, Listing, MapLine, MessageLine};
 use tv_model::{Program, Vocab};
-use tv_tvs::append_tvs;
-
-fn write_number(out: &mut Vec<u8>, n: u64) -> Result<(), AllocError>
-    ensures { OnOk result (out.new.items ≡ out.old.items ++ decimal n) }
-{
-    let mut digits = Buffer::new();
-    out.extend_from_slice(digits.format(n).as_bytes())
-}
+use tv_tvs::{append_tvs, write_number, write_numbers};
 
 fn write_node_line(out: &mut Vec<u8>, name: &[u8], count: usize) -> Result<(), AllocError>
     ensures { OnOk result (out.new.items ≡ out.old.items ++ node_line name.now count) }
@@ -49,7 +43,8 @@ fn write_structures(
     requires node { node < length listing.now }
     requires over { All (IsOver vocab.now) (at_node listing.now node) }
     requires vocabulary { IsVocabulary vocab.now }
-    ensures { OnOk result (out.new.items ≡ out.old.items ++ flat_map (canonical_text vocab.now) (at_node listing.now node)) }
+    ensures { OnOk result
+        (out.new.items ≡ out.old.items ++ flat_map (canonical_text vocab.now) (at_node listing.now node)) }
 {
     for i in 0..listing.count(node) {
         append_tvs(alloc, out, vocab, listing.at(node, i))?;
@@ -68,7 +63,8 @@ fn write_node(
     requires node { node < length listing.now }
     requires over { All (IsOver vocab.now) (at_node listing.now node) }
     requires vocabulary { IsVocabulary vocab.now }
-    ensures { OnOk result (out.new.items ≡ out.old.items ++ node_text vocab.now name.now (at_node listing.now node)) }
+    ensures { OnOk result
+        (out.new.items ≡ out.old.items ++ node_text vocab.now name.now (at_node listing.now node)) }
 {
     write_node_line(out, name, listing.count(node))?;
     write_structures(alloc, out, vocab, listing, node)
@@ -84,7 +80,8 @@ fn write_nodes(
     requires vocabulary { IsVocabulary program.now.vocab }
     requires few { length program.now.nodes ≤ 4096 }
     requires listing { IsListing program.now listing.now }
-    ensures { OnOk result (out.new.items ≡ out.old.items ++ nodes_text program.now.vocab program.now.nodes listing.now) }
+    ensures { OnOk result
+        (out.new.items ≡ out.old.items ++ nodes_text program.now.vocab program.now.nodes listing.now) }
 {
     let names = program.nodes.as_slice();
     for number in 0..names.len() {
@@ -107,7 +104,8 @@ fn write_value(out: &mut Vec<u8>, value: K3) -> Result<(), AllocError>
 
 /// Appends the text of the line's message; none where there is no such message.
 fn write_said(out: &mut Vec<u8>, program: &Program, line: &MessageLine) -> Result<(), AllocError>
-    ensures { OnOk result (out.new.items ≡ out.old.items ++ said (message_at (program_of program.now) line.now.edge line.now.number)) }
+    ensures { OnOk result (out.new.items
+        ≡ out.old.items ++ said (message_at (program_of program.now) line.now.edge line.now.number)) }
 {
     match message(program, line.edge, line.number) {
         Some(found) => out.extend_from_slice(found.text.as_slice()),
@@ -117,7 +115,8 @@ fn write_said(out: &mut Vec<u8>, program: &Program, line: &MessageLine) -> Resul
 
 /// Appends that text in quotes, and the line's end.
 fn write_quoted(out: &mut Vec<u8>, program: &Program, line: &MessageLine) -> Result<(), AllocError>
-    ensures { OnOk result (out.new.items ≡ out.old.items ++ (codes " \"" ++ (said (message_at (program_of program.now) line.now.edge line.now.number) ++ codes "\"\n"))) }
+    ensures { OnOk result (out.new.items ≡ out.old.items ++ (codes " \""
+        ++ (said (message_at (program_of program.now) line.now.edge line.now.number) ++ codes "\"\n"))) }
 {
     out.extend_from_slice(b" \"")?;
     write_said(out, program, line)?;
@@ -141,7 +140,8 @@ fn write_messages(
     program: &Program,
     lines: &[MessageLine],
 ) -> Result<(), AllocError>
-    ensures { OnOk result (out.new.items ≡ out.old.items ++ flat_map (message_text (program_of program.now)) lines.now) }
+    ensures { OnOk result
+        (out.new.items ≡ out.old.items ++ flat_map (message_text (program_of program.now)) lines.now) }
 {
     for line in lines {
         write_message(out, program, line)?;
@@ -176,37 +176,9 @@ fn write_item(out: &mut Vec<u8>, item: Item) -> Result<(), AllocError>
     }
 }
 
-fn write_next_number(out: &mut Vec<u8>, n: u32) -> Result<(), AllocError>
-    ensures { OnOk result (out.new.items ≡ out.old.items ++ (codes ", " ++ decimal n)) }
-{
-    out.extend_from_slice(b", ")?;
-    write_number(out, u64::from(n))
-}
-
-/// Appends numbers, with commas between them.
-fn write_numbers(out: &mut Vec<u8>, numbers: &[u32]) -> Result<(), AllocError>
-    ensures { OnOk result (out.new.items ≡ out.old.items ++ comma_text (map decimal numbers.now)) }
-{
-    match numbers.split_first() {
-        None => Ok(()),
-        Some((first, others)) => {
-            write_number(out, u64::from(*first))?;
-            write_next_numbers(out, others)
-        }
-    }
-}
-
-fn write_next_numbers(out: &mut Vec<u8>, numbers: &[u32]) -> Result<(), AllocError>
-    ensures { OnOk result (out.new.items ≡ out.old.items ++ more_texts (map decimal numbers.now)) }
-{
-    for n in numbers {
-        write_next_number(out, *n)?;
-    }
-    Ok(())
-}
-
 fn write_braces(out: &mut Vec<u8>, numbers: &[u32]) -> Result<(), AllocError>
-    ensures { OnOk result (out.new.items ≡ out.old.items ++ (codes " {" ++ (comma_text (map decimal numbers.now) ++ codes "}\n"))) }
+    ensures { OnOk result (out.new.items
+        ≡ out.old.items ++ (codes " {" ++ (comma_text (map decimal numbers.now) ++ codes "}\n"))) }
 {
     out.extend_from_slice(b" {")?;
     write_numbers(out, numbers)?;
@@ -232,9 +204,9 @@ fn write_maps(out: &mut Vec<u8>, lines: &[MapLine]) -> Result<(), AllocError>
     Ok(())
 }
 
-/// The report of an analysis, as version 2 of the format: the nodes by number, each with the canonical texts of its
-/// structures, then the messages and the maps in the analysis's order. A line that names no message of the program is
-/// written with an empty text.
+/// The report of an analysis, as version 2 of the format: the nodes by number, each with the canonical texts
+/// of its structures, then the messages and the maps in the analysis's order. A line that names no message of
+/// the program is written with an empty text.
 pub fn write_report(
     alloc: Global,
     program: &Program,

@@ -1,7 +1,10 @@
 -- Words and rows that are drawn run by run.
-use Rattle.std.proofs.Common.{ℕ, ◌≡◌, ◌≢◌, ◌<◌, ◌≤◌, ◌+◌, ◌-◌, ◌*◌, ◌/◌, ◌%◌, ◌⊎◌, inl, inr, ⊎_elim, Bool, true, false, ◌&&◌, cond, ltb, leb, List, [], ◌∷◌, ◌++◌, length, map, get_or, set, take, refl, sym, ap, ◌∙◌, arith}
+use Rattle.std.proofs.Common.{ℕ, ◌≡◌, ◌≢◌, ◌<◌, ◌≤◌, ◌+◌, ◌-◌, ◌*◌, ◌/◌, ◌%◌, ◌⊎◌, inl, inr, ⊎_elim, Bool}
+use Rattle.std.proofs.Common.{true, false, ◌&&◌, cond, ltb, leb, List, [], ◌∷◌, ◌++◌, length, map, get_or}
+use Rattle.std.proofs.Common.{set, take, refl, sym, ap, ◌∙◌, arith}
 use Rattle.std.proofs.lemmas.Bool.{cases_eq, cases_lt, lt-ltb, le-ltb, le-leb, lt-leb}
-use Rattle.std.proofs.lemmas.List.{length-set, length-map, get_or-map, get_or-set_same, get_or-set_other, get_or_past, get_or_default, ext_get_or}
+use Rattle.std.proofs.lemmas.List.{length-set, length-map, get_or-map, get_or-set_same, get_or-set_other}
+use Rattle.std.proofs.lemmas.List.{get_or_past, get_or_default, ext_get_or}
 use Rattle.std.proofs.lemmas.List.Elements.{All-set}
 use Rattle.std.proofs.lemmas.List.Sums.{fold_push, fold_more}
 use Rattle.tv_kleene.specs.declared.K3.{K3}
@@ -10,7 +13,7 @@ use Rattle.tv_row.specs.Bits.{bit, value_of, values_of, IsWord}
 use Rattle.tv_row.specs.BitLaws.{length-values_of, get_or-values_of}
 use Rattle.tv_row.specs.Places.{AreWords, word_at, value_in, row_of}
 use Rattle.tv_row.specs.RowForm.{HoldsRow}
-use Rattle.tv_row.specs.Drawing.{DrawingForm, drawn_from, covers, run_over, drawn_by, IsRun}
+use Rattle.tv_row.specs.Drawing.{DrawingForm, drawn_from, covers, run_over, drawn_by, IsRunOfColumns}
 use Rattle.tv_row.specs.declared.drawing.Run.{Run}
 use Rattle.tv_row.proofs.PlaceLaws.{length-row_of, get_or-row_of}
 
@@ -142,7 +145,7 @@ module _ (words source : List (List K3)) (at from : ℕ) (run : Run) (new : List
           ∙ sym (ap (λ b. cond b (value_in source from (run.from + (c - run.to))) (value_in words at c)) (covered run c le within))
 
 -- a run's word is one of its row's
-pub run_apart : (at width columns size p : ℕ) (run : Run) → IsRun columns size run → size ≤ 64 * width → (p < at) ⊎ (at + width ≤ p)
+pub run_apart : (at width columns size p : ℕ) (run : Run) → IsRunOfColumns columns size run → size ≤ 64 * width → (p < at) ⊎ (at + width ≤ p)
     → p ≢ at + run.to / 64
 run_apart at width columns size p run is room out e =
     ⊎_elim (λ before. absurd (omega (arith, e))) (λ past. absurd (omega (arith, e, is.some, is.to_end))) out
@@ -189,7 +192,7 @@ module _ (d : DrawingForm) (runs : List Run) (at : ℕ) (before : DrawnBefore d 
           ap (λ b. cond b (drawn_from value d c) No) (le-ltb c at le ∙ sym (le-ltb c (at + 1) (omega (arith, ne))))
 
   -- a run's columns are drawn
-  pub drawn_run : (run : Run) → IsRun d.columns (length d.origins) run → run.to ≡ at
+  pub drawn_run : (run : Run) → IsRunOfColumns d.columns (length d.origins) run → run.to ≡ at
       → ((i : ℕ) → i < run.count → get_or d.origins (at + i) 0 ≡ run.from + i) → DrawnBefore d (runs ++ run ∷ []) (at + run.count)
   drawn_run run is place same value c =
       fold_push (run_over value c) No runs run ∙ ap (λ k. run_over value c k run) (before value c)

@@ -1,6 +1,8 @@
 -- What the greatest and the least value say of all values.
-use Rattle.std.proofs.Common.{ℕ, ◌≡◌, ◌≢◌, ◌⊎◌, ◌↔◌, zero, suc, List, [], ◌∷◌, get_or, All, Any, refl, sym, ap, ◌∙◌, inl, inr, ⊎_elim, arith}
+use Rattle.std.proofs.Common.{ℕ, ◌≡◌, ◌≢◌, ◌⊎◌, ◌↔◌, zero, suc, List, [], ◌∷◌, get_or, All, Any, refl, sym}
+use Rattle.std.proofs.Common.{ap, ◌∙◌, inl, inr, ⊎_elim, arith}
 use Rattle.std.proofs.lemmas.List.{get_or_default}
+use Rattle.tv_kleene.proofs.Lattice.{smaller-no, both-yes}
 use Rattle.tv_kleene.specs.declared.K3.{K3}
 use Rattle.tv_kleene.specs.declared.K3.TheVariants.{No, Half, Yes}
 use Rattle.tv_kleene.specs.Kleene.{smaller_of, larger_of}
@@ -22,13 +24,6 @@ larger_no Half No e = cc
 larger_no Half Half e = cc
 larger_no Half Yes e = cc
 larger_no Yes y e = cc
-
-smaller_yes : (x y : K3) → smaller_of x y ≡ Yes → (x ≡ Yes) × (y ≡ Yes)
-smaller_yes No y e = cc
-smaller_yes Half No e = cc
-smaller_yes Half Half e = cc
-smaller_yes Half Yes e = cc
-smaller_yes Yes y e = (refl, e)
 
 smaller_no : (x y : K3) → smaller_of x y ≡ No → (x ≡ No) ⊎ (y ≡ No)
 smaller_no No y e = inl refl
@@ -75,8 +70,8 @@ any_possible xs = (
 
 each_yes : (xs : List K3) → least_in xs ≡ Yes → All (λ x. x ≡ Yes) xs
 each_yes [] e i d lt = absurd (omega arith)
-each_yes (x ∷ xs) e zero d lt = (smaller_yes x (least_in xs) e).0
-each_yes (x ∷ xs) e (suc i) d lt = each_yes xs (smaller_yes x (least_in xs) e).1 i d (omega arith)
+each_yes (x ∷ xs) e zero d lt = (both-yes x (least_in xs) e).0
+each_yes (x ∷ xs) e (suc i) d lt = each_yes xs (both-yes x (least_in xs) e).1 i d (omega arith)
 
 least_yes : (xs : List K3) → All (λ x. x ≡ Yes) xs → least_in xs ≡ Yes
 least_yes [] all = refl
@@ -85,16 +80,11 @@ least_yes (x ∷ xs) all = rw (all 0 No (omega arith), least_yes xs (λ i d lt. 
 pub all_yes : (xs : List K3) → (least_in xs ≡ Yes) ↔ All (λ x. x ≡ Yes) xs
 all_yes xs = (each_yes xs, least_yes xs)
 
-smaller-No : (x : K3) → smaller_of x No ≡ No
-smaller-No No = refl
-smaller-No Half = refl
-smaller-No Yes = refl
-
 each_possible : (xs : List K3) → least_in xs ≢ No → All (λ x. x ≢ No) xs
 each_possible [] n i d lt = absurd (omega arith)
 each_possible (x ∷ xs) n zero d lt = λ e. n (rw e refl)
 each_possible (x ∷ xs) n (suc i) d lt =
-    each_possible xs (λ e. n (ap (smaller_of x) e ∙ smaller-No x)) i d (omega arith)
+    each_possible xs (λ e. n (ap (smaller_of x) e ∙ smaller-no x)) i d (omega arith)
 
 least_possible : (xs : List K3) → All (λ x. x ≢ No) xs → least_in xs ≢ No
 least_possible [] all = λ e. cc
@@ -111,7 +101,7 @@ abbrev Between : K3 → List K3 → Type 0
 Between k xs = (smaller_of (least_in xs) k ≡ k) × (larger_of (greatest_in xs) k ≡ k)
 
 below_first : (x l k : K3) → smaller_of (smaller_of x l) k ≡ k → (smaller_of x k ≡ k) × (smaller_of l k ≡ k)
-below_first No l k e = (e, rw (sym e) (smaller-No l))
+below_first No l k e = (e, rw (sym e) (smaller-no l))
 below_first Half No k e = (rw (sym e) refl, e)
 below_first Half Half k e = (e, e)
 below_first Half Yes k e = (e, refl)

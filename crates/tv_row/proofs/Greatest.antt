@@ -1,7 +1,10 @@
 -- The greatest and the least value of rows.
-use Rattle.std.proofs.Common.{ℕ, ◌≡◌, ◌<◌, ◌+◌, ◌-◌, ◌*◌, ◌/◌, ◌%◌, zero, suc, List, [], ◌∷◌, ◌++◌, length, map, get_or, take, replicate, refl, sym, ap, ◌∙◌, ⊎_elim, arith}
+use Rattle.std.proofs.Common.{ℕ, ◌≡◌, ◌<◌, ◌+◌, ◌-◌, ◌*◌, ◌/◌, ◌%◌, zero, suc, List, [], ◌∷◌, ◌++◌, length}
+use Rattle.std.proofs.Common.{map, get_or, take, replicate, refl, sym, ap, ◌∙◌, ⊎_elim, arith}
 use Rattle.std.proofs.lemmas.Bool.{cases_lt}
-use Rattle.std.proofs.lemmas.List.{ext_get_or, length-append, get_or_append_left, get_or-append_right, take-map}
+use Rattle.std.proofs.lemmas.List.{ext_get_or, length-append, get_or_append_left, get_or-append_right}
+use Rattle.std.proofs.lemmas.List.{take-map}
+use Rattle.tv_kleene.proofs.Lattice.{larger-no}
 use Rattle.tv_kleene.specs.declared.K3.{K3}
 use Rattle.tv_kleene.specs.declared.K3.TheVariants.{No, Half, Yes}
 use Rattle.tv_kleene.specs.Kleene.{smaller_of, larger_of, negation_of}
@@ -26,13 +29,8 @@ greatest_none : (n : ℕ) → greatest_in (replicate n No) ≡ No
 greatest_none zero = refl
 greatest_none (suc n) = greatest_none n
 
-larger-No : (k : K3) → larger_of k No ≡ k
-larger-No No = refl
-larger-No Half = refl
-larger-No Yes = refl
-
 pub greatest_padded : (xs : List K3) (n : ℕ) → greatest_in (xs ++ replicate n No) ≡ greatest_in xs
-greatest_padded xs n = greatest-append xs (replicate n No) ∙ ap (larger_of (greatest_in xs)) (greatest_none n) ∙ larger-No (greatest_in xs)
+greatest_padded xs n = greatest-append xs (replicate n No) ∙ ap (larger_of (greatest_in xs)) (greatest_none n) ∙ larger-no (greatest_in xs)
 
 dual : (k g : K3) → negation_of (larger_of (negation_of k) g) ≡ smaller_of k (negation_of g)
 dual No No = refl

@@ -10,3 +10,4 @@ pub mod RowOps
 pub mod RowOrder
 pub mod DrawnBits
 pub mod DrawnRuns
+pub mod FlagLaws

@@ -1,27 +1,26 @@
 -- Places in rows of words.
-use Rattle.std.proofs.Common.{ℕ, ◌≡◌, ◌≢◌, ◌<◌, ◌≤◌, ◌+◌, ◌-◌, ◌*◌, ◌/◌, ◌%◌, suc, Bool, true, false, eqb, List, [], ◌∷◌, length, map, get_or, set, refl, sym, ap, ◌∙◌, inl, inr, ⊎_elim, ◌⊎◌, arith, replicate, ◌&&◌, eq-eqb, eqb-true}
+use Rattle.std.proofs.Common.{ℕ, ◌≡◌, ◌≢◌, ◌<◌, ◌≤◌, ◌+◌, ◌-◌, ◌*◌, ◌/◌, ◌%◌, suc, Bool, true, false, eqb}
+use Rattle.std.proofs.Common.{List, [], ◌∷◌, length, map, get_or, set, refl, sym, ap, ◌∙◌, inl, inr, ⊎_elim}
+use Rattle.std.proofs.Common.{◌⊎◌, arith, replicate, ◌&&◌, eq-eqb, eqb-true}
 use Rattle.std.proofs.lemmas.Bool.{cases_eq, cases_lt}
 use Rattle.std.proofs.lemmas.Nat.{same_from_place, row_fits}
-use Rattle.std.proofs.lemmas.List.{length-replicate, get_or-replicate, length-set, length-map, get_or-set_same, get_or-set_other, get_or_past, get_or_default}
+use Rattle.std.proofs.lemmas.List.{length-replicate, get_or-replicate, length-set, length-map}
+use Rattle.std.proofs.lemmas.List.{get_or-set_same, get_or-set_other, get_or_past, get_or_default}
 use Rattle.std.proofs.lemmas.List.FromFn.{length-map-range_with_len, get_or-map-range_with_len}
 use Rattle.tv_kleene.specs.declared.K3.{K3}
 use Rattle.tv_kleene.specs.declared.K3.TheVariants.{No, Half, Yes}
 use Rattle.tv_kleene.specs.Kleene.{smaller_of, larger_of}
 use Rattle.std.specs.Cmp.Lexicographic.{pointwise}
+use Rattle.tv_kleene.proofs.Lattice.{larger-no}
 use Rattle.tv_row.specs.Bits.{number_of, is_possible, is_certain}
 use Rattle.tv_row.specs.BitLaws.{same_numbers, numbers_tell}
 use Rattle.tv_row.specs.Places.{AreWords, word_at, value_in, with_value, raised, row_of, rows_of, HoldsRows}
 use Rattle.tv_row.proofs.WordOps.{length-paired}
 
-larger-No : (k : K3) → larger_of k No ≡ k
-larger-No No = refl
-larger-No Half = refl
-larger-No Yes = refl
-
 pub raised_by_no : (word other : List K3) → length word ≡ length other → raised No word other ≡ word
 raised_by_no [] other e = refl
 raised_by_no (k ∷ word) [] e = cc
-raised_by_no (k ∷ word) (other ∷ others) e = rw (larger-No k, raised_by_no word others (omega arith)) refl
+raised_by_no (k ∷ word) (other ∷ others) e = rw (larger-no k, raised_by_no word others (omega arith)) refl
 
 pub raised_none : (words : List (List K3)) (k : K3) (width to from v : ℕ) → k ≡ No → AreWords words
     → to + width ≤ length words → from + width ≤ length words → v < width

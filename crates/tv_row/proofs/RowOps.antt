@@ -1,12 +1,18 @@
 -- Rows whose words are filled one after the other.
-use Rattle.std.proofs.Common.{ℕ, ◌≡◌, ◌≢◌, ◌<◌, ◌≤◌, ◌+◌, ◌-◌, ◌*◌, ◌/◌, ◌%◌, min, cond, List, [], ◌++◌, set, length, map, get_or, take, replicate, refl, sym, ap, ◌∙◌, ◌⊎◌, inl, inr, ⊎_elim, subst, arith, ltb}
+use Rattle.std.proofs.Common.{Option, Some, None, IfSome, ◌^◌, ℕ, ◌≡◌, ◌≢◌, ◌<◌, ◌≤◌, ◌+◌, ◌-◌, ◌*◌, ◌/◌, ◌%◌}
+use Rattle.std.proofs.Common.{min, cond, List, [], ◌++◌, set, length, map, get_or, take, replicate, refl, sym}
+use Rattle.std.proofs.Common.{ap, ◌∙◌, ◌⊎◌, inl, inr, ⊎_elim, subst, arith, ltb}
 use Rattle.std.proofs.lemmas.Bool.{cases_eq, cases_lt, lt-ltb, le-ltb}
-use Rattle.std.proofs.lemmas.List.{ext_get_or, get_or_default, length-replicate, length-map, length-take-le, get_or-replicate, get_or-map, get_or-take, length-set, get_or-set_same, get_or-set_other, length-append, get_or_append_left, get_or-append_right}
+use Rattle.std.proofs.lemmas.List.{ext_get_or, get_or_default, length-replicate, length-map, length-take-le}
+use Rattle.std.proofs.lemmas.List.{get_or-replicate, get_or-map, get_or-take, length-set, get_or-set_same}
+use Rattle.std.proofs.lemmas.List.{get_or-set_other, length-append, get_or_append_left, get_or-append_right}
 use Rattle.std.proofs.Math.Seq.{take-length}
+use Rattle.tv_kleene.proofs.Lattice.{smaller-no}
 use Rattle.tv_kleene.specs.declared.K3.{K3}
 use Rattle.tv_kleene.specs.declared.K3.TheVariants.{No, Half, Yes}
 use Rattle.tv_kleene.specs.Kleene.{smaller_of, negation_of}
 use Rattle.tv_row.specs.Bits.{paired, padded, greatest_in}
+use Rattle.tv_row.specs.Firsts.{IsFirstFrom}
 use Rattle.tv_row.specs.Places.{AreWords, word_at, value_in, with_value, row_of}
 use Rattle.tv_row.specs.RowForm.{HoldsRow}
 use Rattle.tv_row.specs.RowLaws.{read_held}
@@ -20,6 +26,23 @@ FilledTo words p g =
     ((v : ℕ) → v < p → word_at words v ≡ g v)
     × ((v : ℕ) → p ≤ v → v < 4 → word_at words v ≡ padded 0 (replicate 64 No))
     × (length words ≡ 4)
+
+-- the next word filled
+pub filled_more : (words : List (List K3)) (p : ℕ) (g : ℕ → List K3) (word : List K3) → FilledTo words p g → p < 4 → word ≡ g p
+    → FilledTo (set words p word) (p + 1) g
+filled_more words p g word filled low e = (
+  λ v lt.
+      ⊎_elim
+      (λ same. ap (word_at (set words p word)) same ∙ get_or-set_same words p word [] (omega (arith, filled.2)) ∙ e ∙ ap g (sym same))
+      (λ other. get_or-set_other words p v word [] other ∙ filled.0 v (omega arith))
+      (cases_eq v p),
+  λ v le lt. get_or-set_other words p v word [] (λ same. omega arith) ∙ filled.1 v (omega arith) lt,
+  length-set words p word ∙ filled.2,
+)
+
+-- a row as it is seen is as long as its size says
+pub length_seen : (words : List (List K3)) (size : ℕ) (now : List K3) → row_of words size 0 ≡ now → length now ≡ size
+length_seen words size now view = ap length (sym view) ∙ length-row_of words size 0
 
 -- a word of No
 pub no_word : length (padded 0 (replicate 64 No)) ≡ 64
@@ -224,11 +247,6 @@ module _ (one words : List (List K3)) (size n : ℕ) (h : HoldsRow one size) (e 
       ∙ ap (map negation_of)
       (ap (λ m. take m (row_of one size 0)) (sym (length-row_of one size 0)) ∙ take-length (row_of one size 0))
 
-smaller-No : (k : K3) → smaller_of k No ≡ No
-smaller-No No = refl
-smaller-No Half = refl
-smaller-No Yes = refl
-
 -- a whole row capped
 module _ (one words : List (List K3)) (size n : ℕ) (k : K3) (h : HoldsRow one size) (e : n ≡ size / 64 + min 1 (size % 64))
     (filled : FilledTo words n (λ p. map (smaller_of k) (word_at one p))) where
@@ -249,7 +267,7 @@ module _ (one words : List (List K3)) (size n : ℕ) (k : K3) (h : HoldsRow one 
   capped_past : (c : ℕ) → size ≤ c → c < 64 * n → get_or (map (smaller_of k) (word_at one (c / 64))) (c % 64) No ≡ No
   capped_past c le lt =
       let low : c < 256 = omega (arith, h.small)
-      in capped_at c lt ∙ ap (smaller_of k) (read_held one size c h low ∙ h.unused c le low) ∙ smaller-No k
+      in capped_at c lt ∙ ap (smaller_of k) (read_held one size c h low ∙ h.unused c le low) ∙ smaller-no k
 
   pub capped_hold : HoldsRow words size
   capped_hold = filled_holds words size n (λ p. map (smaller_of k) (word_at one p)) filled e h.small capped_long capped_past
@@ -325,13 +343,13 @@ module _ (words : List (List K3)) (size n from : ℕ) (now : List K3) (h : Holds
   read_now c low = sym (ap (λ v. get_or v c No) view) ∙ read_held words size c h low
 
   long_now : length now ≡ size
-  long_now = ap length (sym view) ∙ length-row_of words size 0
+  long_now = length_seen words size now view
 
   -- a place that isn't No is one of the row's
   in_row : (u : ℕ) → u < 64 * n → value_in words 0 u ≢ No → u < size
   in_row u lt some = ⊎_elim (λ low. low) (λ past. absurd (some (h.unused u past (omega (arith, h.small))))) (cases_lt u size)
 
-  pub found_yes : (u : ℕ)
+  found_yes : (u : ℕ)
       → (from ≤ u) × (u < 64 * n) × (value_in words 0 u ≡ Yes) × ((c : ℕ) → from ≤ c → c < u → value_in words 0 c ≢ Yes)
       → (from ≤ u) × (u < length now) × (get_or now u No ≡ Yes) × ((c : ℕ) → from ≤ c → c < u → get_or now c No ≢ Yes)
   found_yes u found =
@@ -346,11 +364,11 @@ module _ (words : List (List K3)) (size n from : ℕ) (now : List K3) (h : Holds
       is_no : (k : K3) → k ≡ Yes → k ≡ No → ⊥
       is_no k y z = cc
 
-  pub none_yes : ((c : ℕ) → from ≤ c → c < 64 * n → value_in words 0 c ≢ Yes)
+  none_yes : ((c : ℕ) → from ≤ c → c < 64 * n → value_in words 0 c ≢ Yes)
       → (u : ℕ) → from ≤ u → u < length now → get_or now u No ≢ Yes
   none_yes none u le lt is_yes = none u le (omega (arith, long_now)) (sym (read_now u (omega (arith, long_now, h.small))) ∙ is_yes)
 
-  pub found_possible : (u : ℕ)
+  found_possible : (u : ℕ)
       → (from ≤ u) × (u < 64 * n) × (value_in words 0 u ≢ No) × ((c : ℕ) → from ≤ c → c < u → value_in words 0 c ≡ No)
       → (from ≤ u) × (u < length now) × (get_or now u No ≢ No) × ((c : ℕ) → from ≤ c → c < u → get_or now c No ≡ No)
   found_possible u found =
@@ -362,9 +380,25 @@ module _ (words : List (List K3)) (size n from : ℕ) (now : List K3) (h : Holds
         λ c le before. read_now c (omega (arith, h.small)) ∙ found.3 c le before,
       )
 
-  pub none_possible : ((c : ℕ) → from ≤ c → c < 64 * n → value_in words 0 c ≡ No)
+  none_possible : ((c : ℕ) → from ≤ c → c < 64 * n → value_in words 0 c ≡ No)
       → (u : ℕ) → from ≤ u → u < length now → get_or now u No ≡ No
   none_possible none u le lt = read_now u (omega (arith, long_now, h.small)) ∙ none u le (omega (arith, long_now))
+
+  pub first_yes_seen : (found : Option ℕ)
+      → IsFirstFrom (λ c. value_in words 0 c ≡ Yes) (λ c. value_in words 0 c ≢ Yes) from (64 * n) found
+      → IsFirstFrom (λ u. get_or now u No ≡ Yes) (λ u. get_or now u No ≢ Yes) from (length now) found
+  first_yes_seen (Some u) first = found_yes u first
+  first_yes_seen None none = none_yes none
+
+  pub first_possible_seen : (found : Option ℕ)
+      → IsFirstFrom (λ c. value_in words 0 c ≢ No) (λ c. value_in words 0 c ≡ No) from (64 * n) found
+      → IsFirstFrom (λ u. get_or now u No ≢ No) (λ u. get_or now u No ≡ No) from (length now) found
+  first_possible_seen (Some u) first = found_possible u first
+  first_possible_seen None none = none_possible none
+
+  pub place_below : (Is IsNot : ℕ → Type 0) (found : Option ℕ) → IsFirstFrom Is IsNot from (64 * n) found → IfSome found (λ u. u < 2 ^ 32)
+  place_below Is IsNot (Some u) first = omega (arith, first.1, h.small)
+  place_below Is IsNot None none = tt
 
 -- ---- rows read and written
 
@@ -391,7 +425,7 @@ module _ (own words after : List (List K3)) (start size n : ℕ) (now : List K3)
     (written : (v : ℕ) → v < n → word_at after (start + v) ≡ word_at own v)
     (rest : (q : ℕ) → (q < start) ⊎ (start + n ≤ q) → word_at after q ≡ word_at words q) where
   length_now : length now ≡ size
-  length_now = ap length (sym view) ∙ length-row_of own size 0
+  length_now = length_seen own size now view
 
   pub write_values : (c : ℕ) → c < 64 * (length now / 64 + min 1 (length now % 64)) → value_in after start c ≡ get_or now c No
   write_values c lt =

@@ -1,5 +1,6 @@
 -- Rows compare, and are mixed, as their words.
-use Rattle.std.proofs.Common.{ℕ, ◌≡◌, ◌*◌, ◌+◌, List, [], ◌∷◌, ◌<◌, ◌≤◌, length, get_or, take, fold, refl, sym, ap, ◌∙◌, arith, Less, Equal, Greater, min, ◌/◌, ◌%◌}
+use Rattle.std.proofs.Common.{ℕ, ◌≡◌, ◌*◌, ◌+◌, List, [], ◌∷◌, ◌<◌, ◌≤◌, length, get_or, take, fold, refl}
+use Rattle.std.proofs.Common.{sym, ap, ◌∙◌, arith, Less, Equal, Greater, min, ◌/◌, ◌%◌}
 use Rattle.std.specs.declared.cmp.Ordering.{Ordering}
 use Rattle.std.specs.Ordering.{ordering_then}
 use Rattle.std.specs.Cmp.Lexicographic.{slice_cmp}

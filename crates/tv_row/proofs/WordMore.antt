@@ -1,15 +1,19 @@
 -- More of what words say of their values.
-use Rattle.std.proofs.Common.{ℕ, ◌≡◌, ◌≢◌, ◌<◌, ◌≤◌, ◌+◌, ◌-◌, ◌*◌, ◌/◌, ◌%◌, ◌^◌, zero, suc, Bool, true, false, not, ◌&&◌, cond, eqb, ltb, List, [], ◌∷◌, length, map, get_or, replicate, Option, None, Some, refl, sym, ap, ◌∙◌, ⊎_elim, w64, arith}
+use Rattle.std.proofs.Common.{ℕ, ◌≡◌, ◌≢◌, ◌<◌, ◌≤◌, ◌+◌, ◌-◌, ◌*◌, ◌/◌, ◌%◌, ◌^◌, zero, suc, Bool, true}
+use Rattle.std.proofs.Common.{false, not, ◌&&◌, cond, eqb, ltb, List, [], ◌∷◌, length, map, get_or, replicate}
+use Rattle.std.proofs.Common.{Option, None, Some, refl, sym, ap, ◌∙◌, ⊎_elim, w64, arith}
 use Rattle.std.proofs.lemmas.Bool.{cases_lt, lt-ltb, le-ltb}
 use Rattle.std.proofs.lemmas.Nat.{and_le_l, one_shl, shr-shr, shr_le}
 use Rattle.std.proofs.lemmas.Nat.Bits.{bit_at_ones, bit_at_ones_above, bit_at-trailing_zeros, bit_at_above}
 use Rattle.std.proofs.lemmas.List.{get_or-map, get_or-replicate, length-replicate, length-map}
 use Rattle.std.specs.Prelude.{bit_and, MatchOption}
 use Rattle.std.specs.Int.{bit_at, bit_not, trailing_zeros}
+use Rattle.tv_kleene.proofs.Lattice.{larger-yes}
 use Rattle.tv_kleene.specs.declared.K3.{K3}
 use Rattle.tv_kleene.specs.declared.K3.TheVariants.{No, Half, Yes}
 use Rattle.tv_kleene.specs.Kleene.{smaller_of, larger_of, negation_of}
-use Rattle.tv_row.specs.Bits.{bit, value_of, value_at, values_of, IsWord, padded, is_possible, is_certain, greatest_in}
+use Rattle.tv_row.specs.Bits.{bit, value_of, value_at, values_of, IsWord, padded, is_possible, is_certain}
+use Rattle.tv_row.specs.Bits.{greatest_in}
 use Rattle.tv_row.specs.BitLaws.{bit-and, bit-not, bit-zero, length-values_of, get_or-values_of}
 use Rattle.tv_row.proofs.WordOps.{values_are, padded_values}
 
@@ -217,15 +221,10 @@ module _ (n ones : ℕ) (mask : (j : ℕ) → j < 64 → bit ones j ≡ ltb j n)
 
 -- ---- the greatest value
 
-larger-Yes : (k : K3) → larger_of k Yes ≡ Yes
-larger-Yes No = refl
-larger-Yes Half = refl
-larger-Yes Yes = refl
-
 pub greatest_yes : (values : List K3) (i : ℕ) → get_or values i No ≡ Yes → greatest_in values ≡ Yes
 greatest_yes [] i e = cc
 greatest_yes (k ∷ values) zero e = rw e refl
-greatest_yes (k ∷ values) (suc i) e = ap (larger_of k) (greatest_yes values i e) ∙ larger-Yes k
+greatest_yes (k ∷ values) (suc i) e = ap (larger_of k) (greatest_yes values i e) ∙ larger-yes k
 
 pub greatest_no : (values : List K3) → ((i : ℕ) → i < length values → get_or values i No ≡ No) → greatest_in values ≡ No
 greatest_no [] all = refl

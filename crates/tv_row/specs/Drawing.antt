@@ -1,5 +1,6 @@
 -- Rows whose columns come from columns of other rows.
-use Rattle.std.specs.Prelude.{ℕ, ◌≡◌, ◌+◌, ◌-◌, ◌%◌, ◌<◌, ◌≤◌, Bool, ◌&&◌, nat_lt, nat_le, if◌then◌else◌, List, length, fold, All, slice_index_or}
+use Rattle.std.specs.Prelude.{ℕ, ◌≡◌, ◌+◌, ◌-◌, ◌%◌, ◌<◌, ◌≤◌, Bool, ◌&&◌, nat_lt, nat_le, if◌then◌else◌}
+use Rattle.std.specs.Prelude.{List, length, fold, All, slice_index_or}
 use Rattle.tv_kleene.specs.declared.K3.{K3}
 use Rattle.tv_kleene.specs.declared.K3.TheVariants.{No}
 use Rattle.tv_row.specs.declared.drawing.Run.{Run}
@@ -12,7 +13,8 @@ pub record DrawingForm : Type 0 where
 -- the value at a column's origin, and No where there is none
 abbrev pub drawn_from : (value : ℕ → K3) → DrawingForm → (column : ℕ) → K3
 drawn_from value d column =
-    if nat_lt (slice_index_or d.origins column d.columns) d.columns then value (slice_index_or d.origins column d.columns) else No
+    if nat_lt (slice_index_or d.origins column d.columns) d.columns
+    then value (slice_index_or d.origins column d.columns) else No
 
 -- the run has the column
 abbrev pub covers : Run → (column : ℕ) → Bool
@@ -27,7 +29,7 @@ abbrev pub drawn_by : (value : ℕ → K3) → List Run → (column : ℕ) → K
 drawn_by value runs column = fold (run_over value column) No runs
 
 -- the run has columns, in one word of each row, before both ends
-pub record IsRun (columns size : ℕ) (run : Run) : Type 0 where
+pub record IsRunOfColumns (columns size : ℕ) (run : Run) : Type 0 where
   pub some : 0 < run.count
   pub to : run.to % 64 + run.count ≤ 64
   pub from : run.from % 64 + run.count ≤ 64
@@ -37,5 +39,5 @@ pub record IsRun (columns size : ℕ) (run : Run) : Type 0 where
 -- the runs give each column its origin's value
 pub record IsDrawing (d : DrawingForm) (runs : List Run) : Type 0 where
   pub small : length d.origins ≤ 256
-  pub each : All (IsRun d.columns (length d.origins)) runs
+  pub each : All (IsRunOfColumns d.columns (length d.origins)) runs
   pub values : (value : ℕ → K3) (column : ℕ) → drawn_by value runs column ≡ drawn_from value d column

@@ -6,3 +6,5 @@ pub mod RowForm
 pub mod RowLaws
 pub mod Mixed
 pub mod Drawing
+pub mod FlagWords
+pub mod Firsts

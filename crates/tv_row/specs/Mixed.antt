@@ -10,7 +10,8 @@ mixed hash n = (hash * 1099511628211 % 2 ^ 64 + n) % 2 ^ 64
 
 -- both planes of a word as one number, the second spread over all bits
 abbrev pub word_number : List K3 → ℕ
-word_number word = (number_of is_possible word + number_of is_certain word * 11400714819323198486 % 2 ^ 64) % 2 ^ 64
+word_number word =
+    (number_of is_possible word + number_of is_certain word * 11400714819323198486 % 2 ^ 64) % 2 ^ 64
 
 -- a word mixed in
 abbrev pub word_mixed : ℕ → List K3 → ℕ

@@ -1,5 +1,6 @@
 -- Places in a list of words of 64 values.
-use Rattle.std.specs.Prelude.{ℕ, ◌≡◌, ◌+◌, ◌*◌, ◌/◌, ◌%◌, ◌^◌, min, ◌<◌, ◌≤◌, ◌⊎◌, List, [], length, map, All, slice_index_or, slice_set}
+use Rattle.std.specs.Prelude.{ℕ, ◌≡◌, ◌+◌, ◌*◌, ◌/◌, ◌%◌, ◌^◌, min, ◌<◌, ◌≤◌, ◌⊎◌, List, [], length, map, All}
+use Rattle.std.specs.Prelude.{slice_index_or, slice_set}
 use Rattle.std.specs.List.{range_with_len}
 use Rattle.tv_kleene.specs.declared.K3.{K3}
 use Rattle.tv_kleene.specs.declared.K3.TheVariants.{No}
@@ -49,11 +50,13 @@ pub record HoldsRows (words : List (List K3)) (width rows columns : ℕ) : Type 
   pub as_many : length words ≡ rows * width
   pub room : columns ≤ 64 * width
   pub least : width ≡ columns / 64 + min 1 (columns % 64)
-  pub unused : (row column : ℕ) → row < rows → columns ≤ column → column < 64 * width → value_in words (row * width) column ≡ No
+  pub unused : (row column : ℕ) → row < rows → columns ≤ column → column < 64 * width
+      → value_in words (row * width) column ≡ No
 
 -- what comparing needs of it
 pub record HoldsCells (words : List (List K3)) (width rows columns : ℕ) : Type 0 where
   pub words_have : AreWords words
   pub as_many : length words ≡ rows * width
   pub room : columns ≤ 64 * width
-  pub unused : (row column : ℕ) → row < rows → columns ≤ column → column < 64 * width → value_in words (row * width) column ≡ No
+  pub unused : (row column : ℕ) → row < rows → columns ≤ column → column < 64 * width
+      → value_in words (row * width) column ≡ No

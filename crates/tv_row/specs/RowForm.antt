@@ -14,4 +14,5 @@ pub record HoldsRow (words : List (List K3)) (size : ℕ) : Type 0 where
 
 -- the four words that hold the values, with No behind them
 abbrev pub row_words : List K3 → List (List K3)
-row_words values = map (λ p. map (λ c. slice_index_or values (64 * p + c) No) (range_with_len 0 64)) (range_with_len 0 4)
+row_words values =
+    map (λ p. map (λ c. slice_index_or values (64 * p + c) No) (range_with_len 0 64)) (range_with_len 0 4)

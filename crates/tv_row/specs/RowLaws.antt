@@ -1,5 +1,6 @@
 -- A row is given back by its values.
-use Rattle.std.proofs.Common.{ℕ, ◌≡◌, ◌<◌, ◌+◌, ◌*◌, ◌/◌, ◌%◌, List, [], length, map, get_or, refl, sym, ap, ◌∙◌, ⊎_elim, arith}
+use Rattle.std.proofs.Common.{ℕ, ◌≡◌, ◌<◌, ◌+◌, ◌*◌, ◌/◌, ◌%◌, List, [], length, map, get_or, refl, sym, ap}
+use Rattle.std.proofs.Common.{◌∙◌, ⊎_elim, arith}
 use Rattle.std.specs.List.{range_with_len}
 use Rattle.std.proofs.lemmas.Bool.{cases_lt}
 use Rattle.std.proofs.lemmas.List.{get_or_past, ext_get_or}
@@ -14,7 +15,8 @@ length-row : (words : List (List K3)) (size : ℕ) → length (row_of words size
 unfolding row_of
 length-row words size = length-map-range_with_len (value_in words 0) 0 size
 
-read_row : (words : List (List K3)) (size c : ℕ) → c < size → get_or (row_of words size 0) c No ≡ value_in words 0 c
+read_row : (words : List (List K3)) (size c : ℕ) → c < size
+    → get_or (row_of words size 0) c No ≡ value_in words 0 c
 unfolding row_of
 read_row words size c lt = get_or-map-range_with_len (value_in words 0) 0 size c c No lt (omega arith)
 
@@ -28,7 +30,8 @@ read_held words size c h low =
     get_or_past (row_of words size 0) c No (omega (arith, length-row words size)) ∙ sym (h.unused c past low))
     (cases_lt c size)
 
-pub words_back : (words : List (List K3)) (size : ℕ) → HoldsRow words size → row_words (row_of words size 0) ≡ words
+pub words_back : (words : List (List K3)) (size : ℕ) → HoldsRow words size
+    → row_words (row_of words size 0) ≡ words
 words_back words size h =
     let values : List K3 = row_of words size 0
     in let column : ℕ → ℕ → K3 = λ p c. get_or values (64 * p + c) No
@@ -46,7 +49,8 @@ words_back words size h =
     in let low : (64 * p + c) % 64 ≡ c = omega arith
     in get_or-map-range_with_len (column p) 0 64 c c No lc (omega arith)
     ∙ read_held words size (64 * p + c) h (omega arith)
-    ∙ ap (λ q. get_or (word_at words q) ((64 * p + c) % 64) No) at ∙ ap (λ i. get_or (word_at words p) i No) low))
+    ∙ ap (λ q. get_or (word_at words q) ((64 * p + c) % 64) No) at
+    ∙ ap (λ i. get_or (word_at words p) i No) low))
 
 pub row_back : (r : Inside) → HoldsRow r.words r.size
     → record { words = row_words (row_of r.words r.size 0); size = length (row_of r.words r.size 0) } ≡ r

@@ -1,7 +1,7 @@
 //! Where the columns of drawn rows come from.
 
 ghost use Rattle.std.specs.Prelude.{◌≡◌, ℕ, ◌+◌, ◌%◌, ◌<◌, ◌≤◌, length, slice_index, IfOk};
-ghost use Rattle.tv_row.specs.Drawing.{DrawingForm, IsDrawing, IsRun};
+ghost use Rattle.tv_row.specs.Drawing.{DrawingForm, IsDrawing, IsRunOfColumns};
 
 use std::alloc::{AllocError, Global};
 use std::marker::Model;
@@ -14,8 +14,9 @@ pub struct Run {
     pub count: u32,
 }
 
-/// Where the columns of a drawn row come from: an origin for each, among the columns of the row that it is drawn from.
-/// Columns that go on together are drawn together. Which these are is found once, for all rows that are drawn so.
+/// Where the columns of a drawn row come from: an origin for each, among the columns of the row that it is
+/// drawn from. Columns that go on together are drawn together. Which these are is found once, for all rows
+/// that are drawn so.
 #[derive(Debug, Drop)]
 pub struct Drawing {
     origins: Vec<u32>,
@@ -30,10 +31,12 @@ impl Model for Drawing {
 
     ghost view = { λ d. record { origins = d.origins.items; columns = d.columns } };
 
-    ghost invariant = { λ d. IsDrawing (record { origins = d.origins.items; columns = d.columns }) d.runs.items };
+    ghost invariant = { λ d. IsDrawing
+        (record { origins = d.origins.items; columns = d.columns }) d.runs.items };
 }
 
-/// How many columns at most go on from `to`, which comes from `from`, within a word of each row and before the ends.
+/// How many columns at most go on from `to`, which comes from `from`, within a word of each row and before
+/// the ends.
 fn room(to: u32, from: u32, columns: u32, size: u32) -> u32
     requires to { to < size }
     requires from { from < columns }
@@ -51,7 +54,7 @@ fn run_from(origins: &[u32], to: usize, columns: u32) -> Run
     requires to { to < length origins.now }
     requires origin { slice_index origins.now to < columns }
     ensures place { (result.to ≡ to) × (result.from ≡ slice_index origins.now to) }
-    ensures fits { IsRun columns (length origins.now) result }
+    ensures fits { IsRunOfColumns columns (length origins.now) result }
     ensures origins { (i : ℕ) → i < result.count → slice_index origins.now (to + i) ≡ result.from + i }
 {
     let from = origins[to];
@@ -75,7 +78,8 @@ fn run_from(origins: &[u32], to: usize, columns: u32) -> Run
 /// The runs of all columns whose origin isn't past the end.
 fn runs_of(alloc: Global, origins: &[u32], columns: u32) -> Result<Vec<Run>, AllocError>
     requires { length origins.now ≤ 256 }
-    ensures { IfOk result (λ runs. IsDrawing (record { origins = origins.now; columns = columns }) runs.items) }
+    ensures { IfOk result
+        (λ runs. IsDrawing (record { origins = origins.now; columns = columns }) runs.items) }
 {
     let mut runs = Vec::new(alloc);
     let mut at = 0;
@@ -92,7 +96,8 @@ fn runs_of(alloc: Global, origins: &[u32], columns: u32) -> Result<Vec<Run>, All
 }
 
 impl Drawing {
-    /// One column for each of the origins, drawn from rows of that many columns; `No` for an origin past the end.
+    /// One column for each of the origins, drawn from rows of that many columns; `No` for an origin past the
+    /// end.
     pub fn new(alloc: Global, origins: Vec<u32>, columns: u32) -> Result<Drawing, AllocError>
         requires { length origins.items ≤ 256 }
         ensures { IfOk result (λ d. d ≡ record { origins = origins.items; columns = columns }) }

@@ -6,6 +6,7 @@
 
 mod bits;
 mod drawing;
+mod flags;
 mod mixed;
 mod row;
 mod slices;
@@ -13,6 +14,7 @@ mod word;
 mod words;
 
 pub use drawing::Drawing;
+pub use flags::Flags;
 pub use mixed::mix;
 pub use row::Row;
 pub use word::Word;

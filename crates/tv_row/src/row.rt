@@ -1,10 +1,14 @@
 //! Up to 256 truth values by value: those of the individuals of a structure.
 
-ghost use Rattle.std.specs.Prelude.{◌≡◌, ◌≢◌, ℕ, ◌<◌, ◌≤◌, ◌↔◌, ◌⊎◌, ◌+◌, ◌-◌, ◌*◌, ◌/◌, ◌%◌, min, length, map, replicate, take, slice_index_or, slice_set, All, Any, IsTrue, MatchOption};
+ghost use Rattle.std.specs.Prelude.{◌≡◌, ◌≢◌, ℕ, ◌<◌, ◌≤◌, ◌↔◌, ◌⊎◌, ◌+◌, ◌-◌, ◌*◌, ◌/◌, ◌%◌, ◌^◌, min};
+ghost use Rattle.std.specs.Prelude.{length, map, replicate, take, slice_index_or, slice_set, All, Any};
+ghost use Rattle.std.specs.Prelude.{IsTrue, IfSome};
+ghost use Rattle.tv_kleene.specs.declared.K3.{K3};
 ghost use Rattle.tv_kleene.specs.declared.K3.TheVariants.{No, Yes};
 ghost use Rattle.tv_kleene.specs.Kleene.{smaller_of, larger_of, join_of, negation_of};
 ghost use Rattle.std.specs.Cmp.Lexicographic.{slice_cmp};
-ghost use Rattle.tv_row.specs.Bits.{paired, greatest_in, least_in, value_cmp};
+ghost use Rattle.tv_row.specs.Firsts.{IsFirstFrom};
+ghost use Rattle.tv_row.specs.Bits.{paired, IsPairing, greatest_in, least_in, value_cmp};
 ghost use Rattle.tv_row.specs.Mixed.{row_mixed};
 ghost use Rattle.tv_row.specs.Places.{AreWords, word_at, value_in, row_of};
 
@@ -50,10 +54,15 @@ fn places_in(size: u32, p: u32) -> u32
     size.saturating_sub(64 * p).min(64)
 }
 
-fn is_same(x: K3, k: K3) -> bool
-    ensures { IsTrue result ↔ (x ≡ k) }
+/// The place of a row as a number of 32 bits.
+fn as_place(found: Option<usize>) -> Option<u32>
+    requires { IfSome found (λ u. u < 2 ^ 32) }
+    ensures { result ≡ found }
 {
-    x == k
+    match found {
+        Some(u) => Some(u as u32),
+        None => None,
+    }
 }
 
 impl Row {
@@ -74,7 +83,8 @@ impl Row {
         requires long { AreWords words.now }
         requires size { size ≤ 256 }
         requires words { start + (size / 64 + min 1 (size % 64)) ≤ length words.now }
-        requires unused { (c : ℕ) → size ≤ c → c < 64 * (size / 64 + min 1 (size % 64)) → value_in words.now start c ≡ No }
+        requires unused { (c : ℕ) → size ≤ c → c < 64 * (size / 64 + min 1 (size % 64))
+            → value_in words.now start c ≡ No }
         ensures { result ≡ row_of words.now size start }
     {
         let mut held = [Word::of(0, K3::No); 4];
@@ -89,7 +99,8 @@ impl Row {
         requires { start + (length self.now / 64 + min 1 (length self.now % 64)) ≤ length words.old }
         ensures values { (c : ℕ) → c < 64 * (length self.now / 64 + min 1 (length self.now % 64))
             → value_in words.new start c ≡ slice_index_or self.now c No }
-        ensures others { (p : ℕ) → (p < start) ⊎ (start + (length self.now / 64 + min 1 (length self.now % 64)) ≤ p)
+        ensures others { (p : ℕ)
+            → (p < start) ⊎ (start + (length self.now / 64 + min 1 (length self.now % 64)) ≤ p)
             → word_at words.new p ≡ word_at words.old p }
         ensures long { AreWords words.old → AreWords words.new }
         ensures length { length words.new ≡ length words.old }
@@ -178,19 +189,30 @@ impl Row {
         }
     }
 
-    /// The conjunction, place by place.
-    pub fn and(&self, other: &Row) -> Row
-        requires { length self.now ≡ length other.now }
-        ensures { result ≡ paired smaller_of self.now other.now }
+    /// The values of both rows under an operation on words.
+    fn word_by_word<F: Fn(Word, Word) -> Word>(&self, other: &Row, op: F) -> Row
+        requires callable { F.IsAlwaysCallable op }
+        requires lengths { length self.now ≡ length other.now }
+        requires pairing { (value : K3 → K3 → K3) × IsPairing value (F.post op) }
+        ensures { (value : K3 → K3 → K3) → IsPairing value (F.post op)
+            → result ≡ paired value self.now other.now }
     {
         let mut words = [Word::of(0, K3::No); 4];
         for p in 0..self.size.div_ceil(64) {
-            words[p as usize] = self.words[p as usize].and(other.words[p as usize]);
+            words[p as usize] = op(self.words[p as usize], other.words[p as usize]);
         }
         Row {
             words,
             size: self.size,
         }
+    }
+
+    /// The conjunction, place by place.
+    pub fn and(&self, other: &Row) -> Row
+        requires { length self.now ≡ length other.now }
+        ensures { result ≡ paired smaller_of self.now other.now }
+    {
+        self.word_by_word(other, Word::and)
     }
 
     /// The disjunction, place by place.
@@ -198,14 +220,7 @@ impl Row {
         requires { length self.now ≡ length other.now }
         ensures { result ≡ paired larger_of self.now other.now }
     {
-        let mut words = [Word::of(0, K3::No); 4];
-        for p in 0..self.size.div_ceil(64) {
-            words[p as usize] = self.words[p as usize].or(other.words[p as usize]);
-        }
-        Row {
-            words,
-            size: self.size,
-        }
+        self.word_by_word(other, Word::or)
     }
 
     /// The join in the order of information, place by place.
@@ -213,14 +228,7 @@ impl Row {
         requires { length self.now ≡ length other.now }
         ensures { result ≡ paired join_of self.now other.now }
     {
-        let mut words = [Word::of(0, K3::No); 4];
-        for p in 0..self.size.div_ceil(64) {
-            words[p as usize] = self.words[p as usize].join(other.words[p as usize]);
-        }
-        Row {
-            words,
-            size: self.size,
-        }
+        self.word_by_word(other, Word::join)
     }
 
     /// The greatest value in the order of truth, `No` where there is none.
@@ -237,75 +245,54 @@ impl Row {
         self.not().greatest().not()
     }
 
-    /// Whether each value is `k`.
-    pub fn are_all(&self, k: K3) -> bool
-        ensures { IsTrue result ↔ All (λ x. x ≡ k) self.now }
-    {
-        is_same(self.least().and(k), k) && is_same(self.greatest().or(k), k)
-    }
-
     /// Whether some value is `Yes`.
     pub fn has_yes(&self) -> bool
         ensures { IsTrue result ↔ Any (λ x. x ≡ Yes) self.now }
     {
-        is_same(self.greatest(), K3::Yes)
+        self.greatest() == K3::Yes
     }
 
     /// Whether some value isn't `No`.
     pub fn has_possible(&self) -> bool
         ensures { IsTrue result ↔ Any (λ x. x ≢ No) self.now }
     {
-        match self.greatest() {
-            K3::No => false,
-            _ => true,
-        }
+        self.greatest() != K3::No
     }
 
     /// Whether each value is `Yes`.
     pub fn are_yes(&self) -> bool
         ensures { IsTrue result ↔ All (λ x. x ≡ Yes) self.now }
     {
-        is_same(self.least(), K3::Yes)
+        self.least() == K3::Yes
     }
 
     /// Whether no value is `No`.
     pub fn are_possible(&self) -> bool
         ensures { IsTrue result ↔ All (λ x. x ≢ No) self.now }
     {
-        match self.least() {
-            K3::No => false,
-            _ => true,
-        }
+        self.least() != K3::No
     }
 
     /// The first place at or after `from` whose value is `Yes`.
     pub fn next_yes(&self, from: u32) -> Option<u32>
         requires { from ≤ length self.now }
-        ensures { MatchOption result
-            ((u : ℕ) → from ≤ u → u < length self.now → slice_index_or self.now u No ≢ Yes)
-            (λ u. (from ≤ u) × (u < length self.now) × (slice_index_or self.now u No ≡ Yes)
-            × ((v : ℕ) → from ≤ v → v < u → slice_index_or self.now v No ≢ Yes)) }
+        ensures { IsFirstFrom (λ u. slice_index_or self.now u No ≡ Yes)
+            (λ u. slice_index_or self.now u No ≢ Yes)
+            from (length self.now) result }
     {
         let width = self.size.div_ceil(64) as usize;
-        match slices::next_yes(&self.words[..], width, 0, from as usize) {
-            Some(u) => Some(u as u32),
-            None => None,
-        }
+        as_place(slices::next_yes(&self.words[..], width, 0, from as usize))
     }
 
     /// The first place at or after `from` whose value isn't `No`.
     pub fn next_possible(&self, from: u32) -> Option<u32>
         requires { from ≤ length self.now }
-        ensures { MatchOption result
-            ((u : ℕ) → from ≤ u → u < length self.now → slice_index_or self.now u No ≡ No)
-            (λ u. (from ≤ u) × (u < length self.now) × (slice_index_or self.now u No ≢ No)
-            × ((v : ℕ) → from ≤ v → v < u → slice_index_or self.now v No ≡ No)) }
+        ensures { IsFirstFrom (λ u. slice_index_or self.now u No ≢ No)
+            (λ u. slice_index_or self.now u No ≡ No)
+            from (length self.now) result }
     {
         let width = self.size.div_ceil(64) as usize;
-        match slices::next_possible(&self.words[..], width, 0, from as usize) {
-            Some(u) => Some(u as u32),
-            None => None,
-        }
+        as_place(slices::next_possible(&self.words[..], width, 0, from as usize))
     }
 
     /// Compares the values, place by place, with No < Half < Yes.
@@ -315,6 +302,19 @@ impl Row {
     {
         let used = self.size.div_ceil(64) as usize;
         slices::compare(&self.words[..used], &other.words[..used])
+    }
+
+    /// Whether both rows have the same values.
+    pub fn equals(&self, other: &Row) -> bool
+        ensures { IsTrue result ↔ (self.now ≡ other.now) }
+    {
+        if self.size() != other.size() {
+            return false;
+        }
+        match self.compare(other) {
+            Ordering::Equal => true,
+            _ => false,
+        }
     }
 
     /// The number with the values mixed in, word by word.

@@ -4,6 +4,7 @@ ghost use Rattle.std.specs.Prelude.{◌≡◌, ◌≢◌, ℕ, ◌+◌, ◌*◌,
 ghost use Rattle.std.specs.List.{range_with_len};
 ghost use Rattle.tv_kleene.specs.declared.K3.TheVariants.{No, Yes};
 ghost use Rattle.std.specs.Cmp.Lexicographic.{slice_cmp};
+ghost use Rattle.tv_row.specs.Firsts.{IsFirstFrom};
 ghost use Rattle.tv_row.specs.Bits.{value_cmp, greatest_in};
 ghost use Rattle.tv_row.specs.Drawing.{run_over, drawn_from};
 ghost use Rattle.tv_row.specs.Places.{AreWords, AreApart, word_at, value_in, with_value, raised, row_of};
@@ -51,7 +52,8 @@ fn draw_run(words: &mut [Word], at: usize, source: &[Word], from: usize, run: Ru
     requires from { run.from % 64 + run.count ≤ 64 }
     requires row { at + run.to / 64 < length words.old }
     requires source { from + run.from / 64 < length source.now }
-    ensures values { (c : ℕ) → value_in words.new at c ≡ run_over (value_in source.now from) c (value_in words.old at c) run }
+    ensures values { (c : ℕ)
+        → value_in words.new at c ≡ run_over (value_in source.now from) c (value_in words.old at c) run }
     ensures others { (p : ℕ) → p ≢ at + run.to / 64 → word_at words.new p ≡ word_at words.old p }
     ensures long { AreWords words.old → AreWords words.new }
     ensures length { length words.new ≡ length words.old }
@@ -73,7 +75,8 @@ pub fn draw(
     requires row { at + width ≤ length words.old }
     requires room { length drawing.now.origins ≤ 64 * width }
     requires source { (c : ℕ) → c < drawing.now.columns → from + c / 64 < length source.now }
-    ensures values { (c : ℕ) → c < 64 * width → value_in words.new at c ≡ drawn_from (value_in source.now from) drawing.now c }
+    ensures values { (c : ℕ) → c < 64 * width
+        → value_in words.new at c ≡ drawn_from (value_in source.now from) drawing.now c }
     ensures others { (p : ℕ) → (p < at) ⊎ (at + width ≤ p) → word_at words.new p ≡ word_at words.old p }
     ensures long { AreWords words.old → AreWords words.new }
     ensures length { length words.new ≡ length words.old }
@@ -138,10 +141,8 @@ pub fn next_yes(words: &[Word], width: usize, start: usize, from: usize) -> Opti
     requires words { start + width ≤ length words.now }
     requires width { width ≤ 4 }
     requires from { from ≤ 64 * width }
-    ensures { MatchOption result
-        ((c : ℕ) → from ≤ c → c < 64 * width → value_in words.now start c ≢ Yes)
-        (λ i. (from ≤ i) × (i < 64 * width) × (value_in words.now start i ≡ Yes)
-        × ((c : ℕ) → from ≤ c → c < i → value_in words.now start c ≢ Yes)) }
+    ensures { IsFirstFrom (λ c. value_in words.now start c ≡ Yes) (λ c. value_in words.now start c ≢ Yes)
+        from (64 * width) result }
 {
     let mut at = from;
     while at < 64 * width {
@@ -158,10 +159,8 @@ pub fn next_possible(words: &[Word], width: usize, start: usize, from: usize) ->
     requires words { start + width ≤ length words.now }
     requires width { width ≤ 4 }
     requires from { from ≤ 64 * width }
-    ensures { MatchOption result
-        ((c : ℕ) → from ≤ c → c < 64 * width → value_in words.now start c ≡ No)
-        (λ i. (from ≤ i) × (i < 64 * width) × (value_in words.now start i ≢ No)
-        × ((c : ℕ) → from ≤ c → c < i → value_in words.now start c ≡ No)) }
+    ensures { IsFirstFrom (λ c. value_in words.now start c ≢ No) (λ c. value_in words.now start c ≡ No)
+        from (64 * width) result }
 {
     let mut at = from;
     while at < 64 * width {

@@ -1,10 +1,13 @@
 //! Sixty-four truth values in two words.
 
-ghost use Rattle.std.specs.Prelude.{◌≡◌, ◌≢◌, ℕ, ◌+◌, ◌<◌, ◌≤◌, ◌⊎◌, length, slice_index_or, slice_set, map, replicate, MatchOption, take, IsTrue, ◌↔◌};
+ghost use Rattle.std.specs.Prelude.{◌≡◌, ◌≢◌, ℕ, ◌+◌, ◌<◌, ◌≤◌, ◌⊎◌, length, slice_index_or, slice_set, map};
+ghost use Rattle.std.specs.Prelude.{replicate, MatchOption, take};
 ghost use Rattle.tv_kleene.specs.declared.K3.TheVariants.{No, Yes};
 ghost use Rattle.tv_kleene.specs.Kleene.{smaller_of, larger_of, join_of, negation_of};
 ghost use Rattle.std.specs.Cmp.Lexicographic.{slice_cmp};
-ghost use Rattle.tv_row.specs.Bits.{value_cmp, value_of, paired, padded, greatest_in, least_in, is_possible, is_certain, number_of};
+ghost use Rattle.tv_row.specs.Firsts.{IsFirstFrom};
+ghost use Rattle.tv_row.specs.Bits.{value_cmp, value_of, paired, padded, greatest_in, least_in, is_possible};
+ghost use Rattle.tv_row.specs.Bits.{is_certain, number_of};
 
 use crate::bits::{first_from, has, ones_below, when, with, with_bits};
 use std::cmp::Ordering;
@@ -30,7 +33,8 @@ impl Model for Word {
 
     ghost invariant = { λ w. IsWord w.may w.must };
 
-    ghost inverse = { λ values. record { may = number_of is_possible values; must = number_of is_certain values } };
+    ghost inverse = { λ values.
+        record { may = number_of is_possible values; must = number_of is_certain values } };
 
     ghost use Rattle.tv_row.specs.WordLaws.{back};
 
@@ -135,30 +139,26 @@ impl Word {
     }
 
     /// The place of the first `Yes` at or after `from`.
-    pub fn first_yes(self, from: u32) -> Option<u32>
+    pub(crate) fn first_yes(self, from: u32) -> Option<u32>
         requires { from ≤ 64 }
-        ensures { MatchOption result
-            ((j : ℕ) → from ≤ j → j < 64 → slice_index_or self j No ≢ Yes)
-            (λ i. (from ≤ i) × (i < 64) × (slice_index_or self i No ≡ Yes)
-            × ((j : ℕ) → from ≤ j → j < i → slice_index_or self j No ≢ Yes)) }
+        ensures { IsFirstFrom (λ j. slice_index_or self j No ≡ Yes) (λ j. slice_index_or self j No ≢ Yes)
+            from 64 result }
     {
         first_from(self.must, from)
     }
 
     /// The place of the first value at or after `from` that isn't `No`.
-    pub fn first_possible(self, from: u32) -> Option<u32>
+    pub(crate) fn first_possible(self, from: u32) -> Option<u32>
         requires { from ≤ 64 }
-        ensures { MatchOption result
-            ((j : ℕ) → from ≤ j → j < 64 → slice_index_or self j No ≡ No)
-            (λ i. (from ≤ i) × (i < 64) × (slice_index_or self i No ≢ No)
-            × ((j : ℕ) → from ≤ j → j < i → slice_index_or self j No ≡ No)) }
+        ensures { IsFirstFrom (λ j. slice_index_or self j No ≢ No) (λ j. slice_index_or self j No ≡ No)
+            from 64 result }
     {
         first_from(self.may, from)
     }
 
     /// The number whose bits say which values aren't `No`, the first value's lowest.
     #[tactic(auto, using(crate::specs::BitLaws::may_back))]
-    pub fn possible_bits(self) -> u64
+    pub(crate) fn possible_bits(self) -> u64
         ensures { result ≡ number_of is_possible self }
     {
         self.may
@@ -166,7 +166,7 @@ impl Word {
 
     /// The number whose bits say which values are `Yes`, the first value's lowest.
     #[tactic(auto, using(crate::specs::BitLaws::must_back))]
-    pub fn certain_bits(self) -> u64
+    pub(crate) fn certain_bits(self) -> u64
         ensures { result ≡ number_of is_certain self }
     {
         self.must
@@ -192,12 +192,14 @@ impl Word {
     }
 
     /// The word with `count` values from `to` on that are those of another word from `from` on.
-    pub fn with_run(self, to: u32, other: Word, from: u32, count: u32) -> Word
+    pub(crate) fn with_run(self, to: u32, other: Word, from: u32, count: u32) -> Word
         requires some { 0 < count }
         requires to { to + count ≤ 64 }
         requires from { from + count ≤ 64 }
-        ensures taken { (i : ℕ) → i < count → slice_index_or result (to + i) No ≡ slice_index_or other (from + i) No }
-        ensures kept { (j : ℕ) → (j < to) ⊎ (to + count ≤ j) → slice_index_or result j No ≡ slice_index_or self j No }
+        ensures taken { (i : ℕ) → i < count
+            → slice_index_or result (to + i) No ≡ slice_index_or other (from + i) No }
+        ensures kept { (j : ℕ) → (j < to) ⊎ (to + count ≤ j)
+            → slice_index_or result j No ≡ slice_index_or self j No }
         ensures long { length result ≡ 64 }
     {
         Word {
@@ -246,13 +248,5 @@ impl Word {
         }
         let at = apart.trailing_zeros();
         self.get(at).cmp(&other.get(at))
-    }
-
-    /// Whether the values are equal.
-    #[tactic(auto, using(crate::specs::BitLaws::may_back, crate::specs::BitLaws::must_back))]
-    pub fn equals(self, other: Word) -> bool
-        ensures { IsTrue result ↔ (self ≡ other) }
-    {
-        self.may == other.may && self.must == other.must
     }
 }

@@ -1,9 +1,11 @@
 //! A list of words of truth values.
 
 ghost use Rattle.std.specs.List.{range_with_len};
-ghost use Rattle.std.specs.Prelude.{◌≡◌, ℕ, ◌+◌, ◌*◌, ◌/◌, ◌%◌, min, map, ◌<◌, ◌≤◌, ◌⊎◌, ◌≢◌, length, slice_index_or, replicate, fold, IfOk, IsTrue, ◌↔◌, MatchOption};
+ghost use Rattle.std.specs.Prelude.{◌≡◌, ℕ, ◌+◌, ◌*◌, ◌/◌, ◌%◌, min, map, ◌<◌, ◌≤◌, ◌⊎◌, ◌≢◌, length};
+ghost use Rattle.std.specs.Prelude.{slice_index_or, replicate, fold, IfOk, IsTrue, ◌↔◌, MatchOption};
 ghost use Rattle.tv_kleene.specs.declared.K3.TheVariants.{No, Yes};
 ghost use Rattle.std.specs.Cmp.Lexicographic.{slice_cmp};
+ghost use Rattle.tv_row.specs.Firsts.{IsFirstFrom};
 ghost use Rattle.tv_row.specs.Bits.{value_cmp, greatest_in};
 ghost use Rattle.tv_row.specs.Drawing.{drawn_from};
 ghost use Rattle.tv_row.specs.Mixed.{word_mixed};
@@ -95,10 +97,8 @@ impl Words {
         requires words { start + width ≤ length self.now }
         requires width { width ≤ 4 }
         requires from { from ≤ 64 * width }
-        ensures { MatchOption result
-            ((c : ℕ) → from ≤ c → c < 64 * width → value_in self.now start c ≢ Yes)
-            (λ i. (from ≤ i) × (i < 64 * width) × (value_in self.now start i ≡ Yes)
-            × ((c : ℕ) → from ≤ c → c < i → value_in self.now start c ≢ Yes)) }
+        ensures { IsFirstFrom (λ c. value_in self.now start c ≡ Yes) (λ c. value_in self.now start c ≢ Yes)
+            from (64 * width) result }
     {
         slices::next_yes(&self.items, width, start, from)
     }
@@ -108,10 +108,8 @@ impl Words {
         requires words { start + width ≤ length self.now }
         requires width { width ≤ 4 }
         requires from { from ≤ 64 * width }
-        ensures { MatchOption result
-            ((c : ℕ) → from ≤ c → c < 64 * width → value_in self.now start c ≡ No)
-            (λ i. (from ≤ i) × (i < 64 * width) × (value_in self.now start i ≢ No)
-            × ((c : ℕ) → from ≤ c → c < i → value_in self.now start c ≡ No)) }
+        ensures { IsFirstFrom (λ c. value_in self.now start c ≢ No) (λ c. value_in self.now start c ≡ No)
+            from (64 * width) result }
     {
         slices::next_possible(&self.items, width, start, from)
     }
@@ -145,7 +143,8 @@ impl Words {
     pub fn row(&self, start: usize, size: u32) -> Row
         requires size { size ≤ 256 }
         requires words { start + (size / 64 + min 1 (size % 64)) ≤ length self.now }
-        requires unused { (c : ℕ) → size ≤ c → c < 64 * (size / 64 + min 1 (size % 64)) → value_in self.now start c ≡ No }
+        requires unused { (c : ℕ) → size ≤ c → c < 64 * (size / 64 + min 1 (size % 64))
+            → value_in self.now start c ≡ No }
         ensures { result ≡ row_of self.now size start }
     {
         Row::read(&self.items, start, size)
@@ -156,7 +155,8 @@ impl Words {
         requires { start + (length row.now / 64 + min 1 (length row.now % 64)) ≤ length self.old }
         ensures values { (c : ℕ) → c < 64 * (length row.now / 64 + min 1 (length row.now % 64))
             → value_in self.new start c ≡ slice_index_or row.now c No }
-        ensures others { (p : ℕ) → (p < start) ⊎ (start + (length row.now / 64 + min 1 (length row.now % 64)) ≤ p)
+        ensures others { (p : ℕ)
+            → (p < start) ⊎ (start + (length row.now / 64 + min 1 (length row.now % 64)) ≤ p)
             → word_at self.new p ≡ word_at self.old p }
         ensures length { length self.new ≡ length self.old }
     {
@@ -174,14 +174,17 @@ impl Words {
         slices::column(&self.items, width, start, rows, column)
     }
 
-    /// Draws the values at the origins of another list's row, which begins there at word `from`, into the words from
-    /// `at` on, and `No` behind them in the last.
+    /// Draws the values at the origins of another list's row, which begins there at word `from`, into the
+    /// words from `at` on, and `No` behind them in the last.
     pub fn draw(&mut self, at: usize, source: &Words, from: usize, drawing: &Drawing)
-        requires row { at + (length drawing.now.origins / 64 + min 1 (length drawing.now.origins % 64)) ≤ length self.old }
+        requires row { at + (length drawing.now.origins / 64 + min 1 (length drawing.now.origins % 64))
+            ≤ length self.old }
         requires source { (c : ℕ) → c < drawing.now.columns → from + c / 64 < length source.now }
-        ensures values { (c : ℕ) → c < 64 * (length drawing.now.origins / 64 + min 1 (length drawing.now.origins % 64))
+        ensures values { (c : ℕ)
+            → c < 64 * (length drawing.now.origins / 64 + min 1 (length drawing.now.origins % 64))
             → value_in self.new at c ≡ drawn_from (value_in source.now from) drawing.now c }
-        ensures others { (p : ℕ) → (p < at) ⊎ (at + (length drawing.now.origins / 64 + min 1 (length drawing.now.origins % 64)) ≤ p)
+        ensures others { (p : ℕ) → (p < at)
+            ⊎ (at + (length drawing.now.origins / 64 + min 1 (length drawing.now.origins % 64)) ≤ p)
             → word_at self.new p ≡ word_at self.old p }
         ensures length { length self.new ≡ length self.old }
     {

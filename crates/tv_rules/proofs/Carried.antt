@@ -1,12 +1,14 @@
 -- What conjuncts carry of their formula.
 use Rattle.std.proofs.Common.{ℕ, ◌≡◌, ◌≤◌, List, [], ◌∷◌, ◌++◌, inl, inr, refl, ap, ◌∙◌, All, arith}
 use Rattle.std.proofs.lemmas.List.Elements.{All-nil, All-cons, All-append, All-head, All-tail}
+use Rattle.tv_kleene.proofs.Lattice.{both-yes, yes-both}
 use Rattle.tv_kleene.specs.declared.K3.{K3}
 use Rattle.tv_kleene.specs.declared.K3.TheVariants.{No, Half, Yes}
 use Rattle.tv_kleene.specs.Kleene.{smaller_of}
-use Rattle.tv_model.specs.Form.{Form, FZero, FOne, FAtom, FIsNew, FSame, FNot, FAnd, FOr, FIff, FCond, FExists, FForall, FClosure, IsFree, height}
+use Rattle.tv_model.specs.Form.{Form, FZero, FOne, FAtom, FIsNew, FSame, FNot, FAnd, FOr, FIff, FCond}
+use Rattle.tv_model.specs.Form.{FExists, FForall, FClosure, IsFree, height}
 use Rattle.tv_model.specs.Valid.{IsFormulaOver}
-use Rattle.tv_value.specs.Value.{value}
+use Rattle.tv_eval_laws.specs.Value.{value}
 use Rattle.tv_rules.specs.Closing.{conjuncts}
 use Rattle.tv_rules.specs.Laws.{ConjunctsCarryFormulas}
 use Rattle.tv_rules.proofs.MetByHeaps.{All-first}
@@ -50,20 +52,6 @@ from-conjuncts P both (FCond c f g) all = All-head P (FCond c f g) [] all
 from-conjuncts P both (FExists v f) all = All-head P (FExists v f) [] all
 from-conjuncts P both (FForall v f) all = All-head P (FForall v f) [] all
 from-conjuncts P both (FClosure from to left right f) all = All-head P (FClosure from to left right f) [] all
-
-both-yes : (x y : K3) → smaller_of x y ≡ Yes → (x ≡ Yes) × (y ≡ Yes)
-both-yes Yes Yes e = (refl, refl)
-both-yes Yes Half e = absurd (cc e)
-both-yes Yes No e = absurd (cc e)
-both-yes Half Yes e = absurd (cc e)
-both-yes Half Half e = absurd (cc e)
-both-yes Half No e = absurd (cc e)
-both-yes No Yes e = absurd (cc e)
-both-yes No Half e = absurd (cc e)
-both-yes No No e = absurd (cc e)
-
-yes-both : (x y : K3) → x ≡ Yes → y ≡ Yes → smaller_of x y ≡ Yes
-yes-both x y e d = ap (λ z. smaller_of z y) e ∙ ap (smaller_of Yes) d
 
 pub conjuncts_carry_formulas : ConjunctsCarryFormulas
 conjuncts_carry_formulas f = record {

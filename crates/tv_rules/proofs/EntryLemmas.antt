@@ -1,13 +1,16 @@
 -- Each entry stands for the closed rule of its number.
-use Rattle.std.proofs.Common.{ℕ, suc, ◌≡◌, ◌+◌, List, [], ◌∷◌, ◌++◌, map, Option, None, Some, slice_get, refl, ap, subst, arith}
+use Rattle.std.proofs.Common.{ℕ, suc, ◌≡◌, ◌+◌, List, [], ◌∷◌, ◌++◌, map, Option, None, Some, slice_get, refl}
+use Rattle.std.proofs.Common.{ap, subst, arith}
 use Rattle.std.specs.List.{AllZip, cons_option, filter_map, flat_map}
 use Rattle.tv_model.specs.Form.{Form}
 use Rattle.tv_model.specs.Program.{HeadForm, RuleForm}
 use Rattle.tv_model.specs.declared.program.Head.TheVariants.{Never}
 use Rattle.tv_rules.specs.declared.entries.Entry.{Entry}
-use Rattle.tv_rules.specs.Closing.{Swap, swaps, conjuncts, negated, negated_head, rule_with, further_rules, closed_set}
+use Rattle.tv_rules.specs.Closing.{Swap, swaps, conjuncts, negated, negated_head, rule_with, further_rules}
+use Rattle.tv_rules.specs.Closing.{closed_set}
 use Rattle.tv_rules.specs.Decoded.{IsEntry}
-use Rattle.tv_rules.specs.EntryForms.{EntryForm, base_entries, literal_entry, literal_entries, further_entries, closed_entries}
+use Rattle.tv_rules.specs.EntryForms.{EntryForm, base_entries, literal_entry, literal_entries}
+use Rattle.tv_rules.specs.EntryForms.{further_entries, closed_entries}
 use Rattle.tv_rules.proofs.Written.{swaps_are_of_conjuncts}
 
 pub AllZip-append : {X Y : Type 0} (R : X → Y → Type 0) (xs us : List X) (ys vs : List Y)

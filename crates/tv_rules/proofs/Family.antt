@@ -1,18 +1,23 @@
 -- What stands in a base rule stands in each of its further rules, and the other way round.
-use Rattle.std.proofs.Common.{ℕ, zero, suc, ◌≡◌, ◌<◌, ◌⊎◌, ◌↔◌, ◌∙◌, Bool, true, false, IsTrue, List, [], ◌∷◌, map, length, slice_index_or, Option, None, Some, slice_get, inl, inr, ⊎_elim, refl, sym, ap, subst, All}
+use Rattle.std.proofs.Common.{ℕ, zero, suc, ◌≡◌, ◌<◌, ◌⊎◌, ◌↔◌, ◌∙◌, Bool, true, false, IsTrue, List, [], ◌∷◌}
+use Rattle.std.proofs.Common.{map, length, slice_index_or, Option, None, Some, slice_get, inl, inr, ⊎_elim}
+use Rattle.std.proofs.Common.{refl, sym, ap, subst, All}
 use Rattle.std.specs.List.{AllZip}
 use Rattle.std.proofs.lemmas.Option.{slice_get_within}
 use Rattle.std.proofs.lemmas.List.Elements.{All-nil, All-cons, All-append, All-map, All-weaker}
-use Rattle.tv_model.specs.Form.{Form, FZero, FOne, FAtom, FIsNew, FSame, FNot, FAnd, FOr, FIff, FCond, FExists, FForall, FClosure, IsFree, Mentions}
+use Rattle.tv_model.specs.Form.{Form, FZero, FOne, FAtom, FIsNew, FSame, FNot, FAnd, FOr, FIff, FCond}
+use Rattle.tv_model.specs.Form.{FExists, FForall, FClosure, IsFree, Mentions}
 use Rattle.tv_model.specs.Program.{HeadForm, HNever, HAtom, HSame, RuleForm}
 use Rattle.tv_model.specs.Rules.{IsInHead}
 use Rattle.tv_model.specs.Rules.{IsFreeInRule}
-use Rattle.tv_rules.specs.Closing.{closed_set, Swap, swap_left, swap_right, swaps, signed_head, negated, negated_head}
+use Rattle.tv_rules.specs.Closing.{closed_set, Swap, swap_left, swap_right, swaps, signed_head, negated}
+use Rattle.tv_rules.specs.Closing.{negated_head}
 use Rattle.tv_rules.specs.Decoded.{IsRuleAbout, IsEntry}
 use Rattle.tv_rules.specs.EntryForms.{EntryForm, entry_of, closed_entries}
 use Rattle.tv_rules.specs.declared.entries.Entry.{Entry}
 use Rattle.tv_rules.specs.Flags.{Flags, base_flag, IsOfBase, IsOfBaseOrTwice, has_twice}
-use Rattle.tv_rules.specs.Standing.{StandsIn, IsHeadOf, HasEquality, IsEquality, HasEqualityIn, HasTwice, SeesSummaries}
+use Rattle.tv_rules.specs.Standing.{StandsIn, IsHeadOf, HasEquality, IsEquality, HasEqualityIn, HasTwice}
+use Rattle.tv_rules.specs.Standing.{SeesSummaries}
 use Rattle.tv_rules.proofs.Free.{or-parts, or-first, or-second}
 use Rattle.tv_rules.proofs.EntryLemmas.{entries-kept}
 use Rattle.tv_rules.proofs.MetByHeaps.{All-found, All-mapped}
@@ -27,32 +32,35 @@ pub record Reads (P : Form → Type 0) (H : HeadForm → Type 0) : Type 0 where
   one : ¬ P FOne
   never : ¬ H HNever
 
+itself : {A : Type 0} → A ↔ A
+itself = (λ k. k, λ k. k)
+
 pub mentions-read : (q : ℕ) → Reads (Mentions q) (IsHeadOf q)
 mentions-read q = record {
-  conjunction = λ f g. (λ k. k, λ k. k);
-  negation = λ f. (λ k. k, λ k. k);
-  atom = λ flag pred vars. (λ k. k, λ k. k);
-  equality = λ flag v w. (λ k. k, λ k. k);
+  conjunction = λ f g. itself;
+  negation = λ f. itself;
+  atom = λ flag pred vars. itself;
+  equality = λ flag v w. itself;
   one = λ k. k;
   never = λ k. k;
 }
 
 pub equalities-read : Reads HasEquality IsEquality
 equalities-read = record {
-  conjunction = λ f g. (λ k. k, λ k. k);
-  negation = λ f. (λ k. k, λ k. k);
-  atom = λ flag pred vars. (λ k. k, λ k. k);
-  equality = λ flag v w. (λ k. k, λ k. k);
+  conjunction = λ f g. itself;
+  negation = λ f. itself;
+  atom = λ flag pred vars. itself;
+  equality = λ flag v w. itself;
   one = λ k. k;
   never = λ k. k;
 }
 
 pub free-read : (v : ℕ) → Reads (IsFree v) (IsInHead v)
 free-read u = record {
-  conjunction = λ f g. (λ k. k, λ k. k);
-  negation = λ f. (λ k. k, λ k. k);
-  atom = λ flag pred vars. (λ k. k, λ k. k);
-  equality = λ flag v w. (λ k. k, λ k. k);
+  conjunction = λ f g. itself;
+  negation = λ f. itself;
+  atom = λ flag pred vars. itself;
+  equality = λ flag v w. itself;
   one = λ k. k;
   never = λ k. k;
 }

@@ -1,5 +1,7 @@
 -- The places of true flags, and the numbers of the rules that these are the flags of.
-use Rattle.std.proofs.Common.{ℕ, zero, suc, ◌≡◌, ◌<◌, ◌≤◌, ◌+◌, ◌↔◌, ◌∙◌, Bool, true, false, List, [], ◌∷◌, ◌++◌, length, drop, slice_index, Some, slice_get, Result, Ok, Err, IfOk, ⊎_elim, refl, sym, ap, subst, Contains, arith}
+use Rattle.std.proofs.Common.{ℕ, zero, suc, ◌≡◌, ◌<◌, ◌≤◌, ◌+◌, ◌↔◌, ◌∙◌, Bool, true, false, List, [], ◌∷◌}
+use Rattle.std.proofs.Common.{◌++◌, length, drop, slice_index, Some, slice_get, Result, Ok, Err, IfOk, ⊎_elim}
+use Rattle.std.proofs.Common.{refl, sym, ap, subst, Contains, arith}
 use Rattle.std.specs.List.{AllZip}
 use Rattle.std.specs.List.Sorted.{IsStrictlyIncreasing}
 use Rattle.std.proofs.lemmas.Bool.{false≢true}

@@ -1,14 +1,18 @@
 -- A further rule follows from its base rule.
-use Rattle.std.proofs.Common.{ℕ, ◌⊎◌, true, false, List, [], ◌∷◌, map, Option, None, Some, IfSome, inl, inr, ⊎_elim, All, Contains}
+use Rattle.std.proofs.Common.{ℕ, ◌⊎◌, true, false, List, [], ◌∷◌, map, Option, None, Some, IfSome, inl, inr}
+use Rattle.std.proofs.Common.{⊎_elim, All, Contains}
 use Rattle.std.specs.List.{filter_map, cons_option}
-use Rattle.std.proofs.lemmas.List.Elements.{All-nil, All-cons, All-head, All-tail, All-append, All-map, All-weaker}
-use Rattle.tv_model.specs.Form.{Form, FZero, FOne, FAtom, FIsNew, FSame, FNot, FAnd, FOr, FIff, FCond, FExists, FForall, FClosure, IsFree}
+use Rattle.std.proofs.lemmas.List.Elements.{All-nil, All-cons, All-head, All-tail, All-append, All-map}
+use Rattle.std.proofs.lemmas.List.Elements.{All-weaker}
+use Rattle.tv_model.specs.Form.{Form, FZero, FOne, FAtom, FIsNew, FSame, FNot, FAnd, FOr, FIff, FCond}
+use Rattle.tv_model.specs.Form.{FExists, FForall, FClosure, IsFree}
 use Rattle.tv_model.specs.Heap.{Heap}
 use Rattle.tv_model.specs.Program.{HeadForm, HNever, HAtom, HSame, RuleForm}
 use Rattle.tv_model.specs.Rules.{IsInHead, MeetsRule, head_formula}
 use Rattle.tv_model.specs.Truth.{Assignment, Truth}
-use Rattle.tv_value.proofs.InHeaps.{heaps_tell_truth}
-use Rattle.tv_rules.specs.Closing.{rule_of_parts, Swap, swap_left, swap_right, swaps, signed_head, negated, negated_head, rule_with}
+use Rattle.tv_eval_laws.proofs.InHeaps.{heaps_tell_truth}
+use Rattle.tv_rules.specs.Closing.{rule_of_parts, Swap, swap_left, swap_right, swaps, signed_head, negated}
+use Rattle.tv_rules.specs.Closing.{negated_head, rule_with}
 use Rattle.tv_rules.specs.Laws.{FurtherRulesFollow}
 
 -- what the body with x at a conjunct's place says of f, the body itself

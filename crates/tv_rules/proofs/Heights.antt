@@ -1,12 +1,17 @@
 -- How high the closed rules are.
-use Rattle.std.proofs.Common.{ℕ, ◌≡◌, ◌≤◌, ◌+◌, true, false, List, [], ◌∷◌, map, Option, None, Some, IfSome, slice_get, All, Bool, arith, if◌then◌else◌, refl}
+use Rattle.std.proofs.Common.{ℕ, ◌≡◌, ◌≤◌, ◌+◌, true, false, List, [], ◌∷◌, map, Option, None, Some, IfSome}
+use Rattle.std.proofs.Common.{slice_get, All, Bool, arith, if◌then◌else◌, refl}
 use Rattle.std.specs.List.{flat_map}
 use Rattle.std.proofs.lemmas.List.Elements.{All-nil, All-cons, All-append, All-map, All-weaker}
-use Rattle.tv_model.specs.Form.{Form, FZero, FOne, FAtom, FIsNew, FSame, FNot, FAnd, FOr, FIff, FCond, FExists, FForall, FClosure, height}
-use Rattle.tv_model.specs.Program.{ProgramForm, PredForm, KindForm, KCore, KDefined, HeadForm, HNever, HAtom, HSame, RuleForm}
+use Rattle.tv_model.specs.Form.{Form, FZero, FOne, FAtom, FIsNew, FSame, FNot, FAnd, FOr, FIff, FCond}
+use Rattle.tv_model.specs.Form.{FExists, FForall, FClosure, height}
+use Rattle.tv_model.specs.Program.{ProgramForm, PredForm, KindForm, KCore, KDefined, HeadForm, HNever, HAtom}
+use Rattle.tv_model.specs.Program.{HSame, RuleForm}
 use Rattle.tv_model.specs.Rules.{property_rules}
 use Rattle.tv_model.proofs.Lists.{All-from_contains, slice_get-contains}
-use Rattle.tv_rules.specs.Closing.{Swap, swap_left, swap_right, swaps, negated, negated_head, rule_with, rule_of_parts, may_drop, dropped, dropped_rule, further_rules, definition_rules, pred_rules, rules_from, base_rules, closed_rules}
+use Rattle.tv_rules.specs.Closing.{Swap, swap_left, swap_right, swaps, negated, negated_head, rule_with}
+use Rattle.tv_rules.specs.Closing.{rule_of_parts, may_drop, dropped, dropped_rule, further_rules}
+use Rattle.tv_rules.specs.Closing.{definition_rules, pred_rules, rules_from, base_rules, closed_rules}
 use Rattle.tv_rules.specs.Laws.{IsNoHigher}
 use Rattle.tv_rules.proofs.Further.{All-filter_map}
 use Rattle.tv_rules.proofs.MetByHeaps.{All-flat_map, rules_from-each}

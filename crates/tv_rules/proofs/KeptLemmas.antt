@@ -1,5 +1,7 @@
 -- The lists that stand beside the base rules.
-use Rattle.std.proofs.Common.{ℕ, zero, suc, ◌≡◌, ◌<◌, ◌+◌, ◌⊎◌, ◌↔◌, ◌∙◌, Bool, true, false, List, [], ◌∷◌, ◌++◌, length, map, Option, None, Some, IfSome, slice_get, slice_set, unwrap_or, inl, inr, ⊎_elim, refl, sym, ap, subst, All, Contains, arith}
+use Rattle.std.proofs.Common.{ℕ, zero, suc, ◌≡◌, ◌<◌, ◌+◌, ◌⊎◌, ◌↔◌, ◌∙◌, Bool, true, false, List, [], ◌∷◌}
+use Rattle.std.proofs.Common.{◌++◌, length, map, Option, None, Some, IfSome, slice_get, slice_set, unwrap_or}
+use Rattle.std.proofs.Common.{inl, inr, ⊎_elim, refl, sym, ap, subst, All, Contains, arith}
 use Rattle.std.specs.List.{AllZip}
 use Rattle.std.specs.Option.{option_map}
 use Rattle.std.specs.Borrow.{Bor}
@@ -9,22 +11,29 @@ use Rattle.tv_model.proofs.Lists.{Contains-none}
 use Rattle.tv_model.specs.declared.formula.Formula.{Formula}
 use Rattle.tv_model.specs.declared.formula.Var.{Var}
 use Rattle.tv_model.specs.declared.program.Rule.{Rule}
-use Rattle.tv_model.specs.Form.{Form, FZero, FOne, FAtom, FIsNew, FSame, FNot, FAnd, FOr, FIff, FCond, FExists, FForall, FClosure, form_of}
+use Rattle.tv_model.specs.Form.{Form, FZero, FOne, FAtom, FIsNew, FSame, FNot, FAnd, FOr, FIff, FCond}
+use Rattle.tv_model.specs.Form.{FExists, FForall, FClosure, form_of}
 use Rattle.tv_model.specs.Program.{HeadForm, HNever, HAtom, HSame, RuleForm, head_of, rule_of}
 use Rattle.tv_model.specs.Rules.{IsFreeInRule}
 use Rattle.tv_rules.specs.declared.entries.Entry.{Entry}
 use Rattle.tv_rules.specs.declared.shapes.Shape.{Shape}
-use Rattle.tv_rules.specs.Closing.{Swap, swaps, puttings, conjuncts, closed_set, negated, negated_head, negated_if, signed_head}
+use Rattle.tv_rules.specs.Closing.{Swap, swaps, puttings, conjuncts, closed_set, negated, negated_head}
+use Rattle.tv_rules.specs.Closing.{negated_if, signed_head}
 use Rattle.tv_rules.specs.Decoded.{IsRuleAbout, IsEntry}
 use Rattle.tv_rules.specs.Dues.{DueForm, AreDueFrom, IsDue, IsShape, denied_at, parts_of, put_at}
-use Rattle.tv_rules.specs.EntryForms.{EntryForm, forms_of, numbers_of, swapped_at, AreFreeIn, entry_of, closed_entries, rules_of}
-use Rattle.tv_rules.specs.Kept.{AreWatched, AreKept}
+use Rattle.tv_rules.specs.EntryForms.{EntryForm, forms_of, numbers_of, swapped_at, AreFreeIn, entry_of}
+use Rattle.tv_rules.specs.EntryForms.{closed_entries, rules_of}
+use Rattle.tv_rules.specs.Kept.{AreWatched, AreRuleLists}
 use Rattle.tv_rules.specs.Standing.{AreNumbersOf, StandsIn, SeesSummaries}
 use Rattle.tv_rules.proofs.DueLemmas.{put-due}
 use Rattle.tv_rules.proofs.EntryLemmas.{entries-kept}
 use Rattle.tv_rules.proofs.Family.{zip-at, zip-length, bases-below, free-alike}
 use Rattle.tv_rules.proofs.MetByHeaps.{All-found}
 use Rattle.tv_rules.proofs.Written.{swaps_are_of_conjuncts}
+
+-- what is read at a place of a list stands there in the same list
+pub read-at : {X : Type 0} (read items : List X) (n : ℕ) (x : X) → read ≡ items → slice_get read n ≡ Some x → slice_get items n ≡ Some x
+read-at read items n x same at = sym (ap (λ xs. slice_get xs n) same) ∙ at
 
 pushed-at : (lists : List (List ℕ)) (ns : List ℕ) (k : ℕ) (xs : List ℕ) → slice_get (lists ++ ns ∷ []) k ≡ Some xs
     → (slice_get lists k ≡ Some xs) ⊎ ((k ≡ length lists) × (ns ≡ xs))
@@ -60,7 +69,7 @@ pub are-kept : (bases : List Rule) (negations : List Formula) (shapes : List Sha
     → ((q : ℕ) (ns : List ℕ) → slice_get by_pred q ≡ Some ns → AreNumbersOf (StandsIn q) (closed_set (map rule_of p)) ns)
     → ((q k : ℕ) (rule : RuleForm) → slice_get (rules_of bases) k ≡ Some rule → StandsIn q rule → q < length by_pred)
     → AreNumbersOf SeesSummaries (closed_set (map rule_of s)) by_sm
-    → AreKept bases negations shapes entries by_pred by_sm
+    → AreRuleLists bases negations shapes entries by_pred by_sm
 are-kept bases negations shapes entries by_pred by_sm n v e p s en ev ee ep es negated shaped kept numbers places seeing = record {
   negated = subst (λ (rs : List Rule). map form_of negations ≡ map (λ (rule : RuleForm). negated_head rule.head) (map rule_of rs)) en negated;
   shaped = subst (λ (rs : List Rule). AllZip IsShape (map rule_of rs) shapes) ev shaped;
@@ -229,7 +238,7 @@ denied-about (Some k) base rule shape f ds is shaped same are = record {
     inside = omega (arith, slice_get_within (map F ds) k is.0.conjunct read, length-map ds F)
 
 module _ (bases : List Rule) (negations : List Formula) (shapes : List Shape) (entries : List Entry) (by_pred : List (List ℕ)) (by_sm : List ℕ)
-    (is : AreKept bases negations shapes entries by_pred by_sm) where
+    (is : AreRuleLists bases negations shapes entries by_pred by_sm) where
   zipped : AllZip (IsEntry (map rule_of bases)) (rules_of bases) (map entry_of entries)
   zipped =
       let Of : List EntryForm → Type 0 = λ es. AllZip (IsEntry (map rule_of bases)) (rules_of bases) es
@@ -237,6 +246,9 @@ module _ (bases : List Rule) (negations : List Formula) (shapes : List Shape) (e
 
   pub count-of : length (rules_of bases) ≡ length entries
   count-of = zip-length (IsEntry (map rule_of bases)) (rules_of bases) (map entry_of entries) zipped ∙ length-map entries entry_of
+
+  pub entries-below : (now : List Rule) → bases ≡ now → (n : ℕ) → n < length (rules_of now) → n < length entries
+  entries-below now same n lt = omega (arith, lt, count-of, ap (λ (b : List Rule). length (rules_of b)) same)
 
   pub entry-is : (n : ℕ) (rule : RuleForm) (e : Entry) → slice_get (rules_of bases) n ≡ Some rule → slice_get entries n ≡ Some e
       → IsEntry (map rule_of bases) rule (entry_of e)

@@ -1,15 +1,18 @@
 -- The closed rules of a program are met wherever its base rules are, and these by its concrete heaps.
-use Rattle.std.proofs.Common.{ℕ, zero, suc, ◌+◌, ◌≡◌, true, false, List, [], ◌∷◌, ◌++◌, map, Some, slice_get, inr, refl, sym, subst, ◌∙◌, All, Contains, arith}
+use Rattle.std.proofs.Common.{ℕ, zero, suc, ◌+◌, ◌≡◌, true, false, List, [], ◌∷◌, ◌++◌, map, Some, slice_get}
+use Rattle.std.proofs.Common.{inr, refl, sym, subst, ◌∙◌, All, Contains, arith}
 use Rattle.std.specs.List.{flat_map}
 use Rattle.std.proofs.lemmas.List.{length-map}
-use Rattle.std.proofs.lemmas.List.Elements.{All-nil, All-cons, All-head, All-tail, All-append, All-map, All-weaker, All-contains_itself}
+use Rattle.std.proofs.lemmas.List.Elements.{All-nil, All-cons, All-head, All-tail, All-append, All-map}
+use Rattle.std.proofs.lemmas.List.Elements.{All-weaker, All-contains_itself}
 use Rattle.tv_model.specs.Form.{FNot, IsFree}
 use Rattle.tv_model.specs.Heap.{Heap, IsTuple}
 use Rattle.tv_model.specs.Program.{ProgramForm, PredForm, KindForm, KCore, KDefined, HAtom, RuleForm}
 use Rattle.tv_model.specs.Rules.{MeetsRule, MeetsDefinition, blank, property_rules}
 use Rattle.tv_model.specs.Truth.{Assignment, put_all}
 use Rattle.tv_model.specs.Valid.{IsKind, IsPred}
-use Rattle.tv_rules.specs.Closing.{rule_of_parts, definition_rules, pred_rules, rules_from, base_rules, dropped_rule, further_rules, closed_rules}
+use Rattle.tv_rules.specs.Closing.{rule_of_parts, definition_rules, pred_rules, rules_from, base_rules}
+use Rattle.tv_rules.specs.Closing.{dropped_rule, further_rules, closed_rules}
 use Rattle.tv_rules.specs.Laws.{BaseRulesAreMet, ClosingKeepsMeaning, ClosedRulesAreMet}
 use Rattle.tv_rules.proofs.Free.{Truth-agreed, put_all-gives}
 use Rattle.tv_rules.proofs.Dropping.{dropping_keeps_meaning}

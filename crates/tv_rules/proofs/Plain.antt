@@ -1,15 +1,23 @@
 -- The closed rules of a valid program are valid rules.
-use Rattle.std.proofs.Common.{ℕ, ◌+◌, ◌≡◌, Bool, true, false, List, [], ◌∷◌, ◌++◌, length, map, Option, None, Some, IfSome, IsTrue, slice_get, inl, inr, ⊎_elim, refl, sym, ap, subst, ◌∙◌, All, arith, if◌then◌else◌}
+use Rattle.std.proofs.Common.{ℕ, ◌+◌, ◌≡◌, Bool, true, false, List, [], ◌∷◌, ◌++◌, length, map, Option, None}
+use Rattle.std.proofs.Common.{Some, IfSome, IsTrue, slice_get, inl, inr, ⊎_elim, refl, sym, ap, subst, ◌∙◌}
+use Rattle.std.proofs.Common.{All, arith, if◌then◌else◌}
 use Rattle.std.specs.List.{flat_map}
 use Rattle.std.specs.Option.{option_map}
 use Rattle.std.proofs.lemmas.List.Elements.{All-nil, All-cons, All-append, All-map, All-weaker}
 use Rattle.std.proofs.lemmas.Option.{slice_get-map}
 use Rattle.tv_model.specs.declared.program.Props.{Props}
-use Rattle.tv_model.specs.Form.{Form, FZero, FOne, FAtom, FIsNew, FSame, FNot, FAnd, FOr, FIff, FCond, FExists, FForall, FClosure}
-use Rattle.tv_model.specs.Program.{ProgramForm, PredForm, KindForm, KCore, KDefined, HeadForm, HNever, HAtom, HSame, RuleForm}
-use Rattle.tv_model.specs.Rules.{property_rules, declared_rule, unique_rule, function_rule, invfunction_rule, transitive_rule, reflexive_rule, symmetric_rule}
-use Rattle.tv_model.specs.Valid.{IsValid, IsRule, IsHead, IsFormula, IsPlainFormula, IsVariable, IsKind, IsPred, arity_of}
-use Rattle.tv_rules.specs.Closing.{rule_of_parts, Swap, swap_left, swap_right, swaps, signed_head, negated, negated_head, rule_with, may_drop, dropped, dropped_rule, further_rules, definition_rules, pred_rules, rules_from, base_rules}
+use Rattle.tv_model.specs.Form.{Form, FZero, FOne, FAtom, FIsNew, FSame, FNot, FAnd, FOr, FIff, FCond}
+use Rattle.tv_model.specs.Form.{FExists, FForall, FClosure}
+use Rattle.tv_model.specs.Program.{ProgramForm, PredForm, KindForm, KCore, KDefined, HeadForm, HNever, HAtom}
+use Rattle.tv_model.specs.Program.{HSame, RuleForm}
+use Rattle.tv_model.specs.Rules.{property_rules, declared_rule, unique_rule, function_rule, invfunction_rule}
+use Rattle.tv_model.specs.Rules.{transitive_rule, reflexive_rule, symmetric_rule}
+use Rattle.tv_model.specs.Valid.{IsValid, IsRule, IsHead, IsFormula, IsPlainFormula, IsVariable, IsKind}
+use Rattle.tv_model.specs.Valid.{IsPred, arity_of}
+use Rattle.tv_rules.specs.Closing.{rule_of_parts, Swap, swap_left, swap_right, swaps, signed_head, negated}
+use Rattle.tv_rules.specs.Closing.{negated_head, rule_with, may_drop, dropped, dropped_rule, further_rules}
+use Rattle.tv_rules.specs.Closing.{definition_rules, pred_rules, rules_from, base_rules}
 use Rattle.tv_rules.specs.Laws.{ClosedRulesAreRules}
 use Rattle.tv_rules.proofs.MetByHeaps.{All-found, All-flat_map, rules_from-each}
 use Rattle.tv_rules.proofs.Further.{All-filter_map}

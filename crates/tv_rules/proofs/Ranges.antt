@@ -1,14 +1,17 @@
 -- The closed rules of a valid program: their predicates and variables are in range, and they are plain.
-use Rattle.std.proofs.Common.{ℕ, ◌≡◌, ◌<◌, ◌∙◌, List, length, map, Option, None, Some, slice_get, Result, Ok, Err, IfOk, ⊎_elim, refl, sym, ap, subst, All, Contains, arith}
+use Rattle.std.proofs.Common.{ℕ, ◌≡◌, ◌<◌, ◌∙◌, List, length, map, Option, None, Some, slice_get, Result, Ok}
+use Rattle.std.proofs.Common.{Err, IfOk, ⊎_elim, refl, sym, ap, subst, All, Contains, arith}
 use Rattle.std.specs.Option.{option_map}
 use Rattle.std.proofs.lemmas.Option.{slice_get-map, slice_get_within}
 use Rattle.std.proofs.lemmas.List.Elements.{All-contains, All-weaker}
-use Rattle.tv_model.specs.Form.{Form, FZero, FOne, FAtom, FIsNew, FSame, FNot, FAnd, FOr, FIff, FCond, FExists, FForall, FClosure, IsFree, Mentions}
+use Rattle.tv_model.specs.Form.{Form, FZero, FOne, FAtom, FIsNew, FSame, FNot, FAnd, FOr, FIff, FCond}
+use Rattle.tv_model.specs.Form.{FExists, FForall, FClosure, IsFree, Mentions}
 use Rattle.tv_model.specs.declared.program.Rule.{Rule}
 use Rattle.tv_model.specs.Program.{ProgramForm, PredForm, HeadForm, HNever, HAtom, HSame, RuleForm, rule_of}
 use Rattle.tv_model.specs.Rules.{IsInHead}
-use Rattle.tv_model.specs.Valid.{IsValid, IsPred, IsRule, IsHead, IsFormula, IsFormulaOver, IsVariable, arity_of, program_arities}
-use Rattle.tv_stable.specs.Laws.{IsPlainRule, IsShort}
+use Rattle.tv_model.specs.Valid.{IsValid, IsPred, IsRule, IsHead, IsFormula, IsFormulaOver, IsVariable}
+use Rattle.tv_model.specs.Valid.{arity_of, program_arities}
+use Rattle.tv_stable_laws.specs.Laws.{IsPlainRule, IsShort}
 use Rattle.tv_model.specs.Rules.{IsFreeInRule}
 use Rattle.tv_rules.specs.Closing.{base_rules, dropped_rule, closed_set, closed_rules}
 use Rattle.tv_rules.specs.EntryForms.{rules_of}

@@ -1,6 +1,7 @@
 -- The samples compute; and the conjuncts are those of the swaps.
 use Rattle.std.proofs.Common.{◌≡◌, List, [], ◌∷◌, ◌++◌, map, refl, sym, ap, ◌∙◌}
-use Rattle.tv_model.specs.Form.{Form, FZero, FOne, FAtom, FIsNew, FSame, FNot, FAnd, FOr, FIff, FCond, FExists, FForall, FClosure}
+use Rattle.tv_model.specs.Form.{Form, FZero, FOne, FAtom, FIsNew, FSame, FNot, FAnd, FOr, FIff, FCond}
+use Rattle.tv_model.specs.Form.{FExists, FForall, FClosure}
 use Rattle.tv_rules.specs.Closing.{swap_left, swap_right, swaps, conjuncts, puttings}
 use Rattle.tv_rules.specs.Laws.{SwapsAreOfConjuncts}
 use Rattle.tv_rules.specs.Samples.{Samples}

@@ -1,8 +1,11 @@
 -- The closed set of a program's rules: its base rules, and what follows from each of them about one
 -- conjunct of its body.
-use Rattle.std.specs.Prelude.{ℕ, suc, Bool, true, false, not, ◌==◌, ◌&&◌, ◌||◌, List, [], ◌∷◌, ◌++◌, map, flat_map, filter_map, Option, None, Some, if◌then◌else◌}
-use Rattle.tv_model.specs.Form.{Form, FZero, FOne, FAtom, FIsNew, FSame, FNot, FAnd, FOr, FIff, FCond, FExists, FForall, FClosure}
-use Rattle.tv_model.specs.Program.{ProgramForm, PredForm, KindForm, KCore, KDefined, HeadForm, HNever, HAtom, HSame, RuleForm}
+use Rattle.std.specs.Prelude.{ℕ, suc, Bool, true, false, not, ◌==◌, ◌&&◌, ◌||◌, List, [], ◌∷◌, ◌++◌, map}
+use Rattle.std.specs.Prelude.{flat_map, filter_map, Option, None, Some, if◌then◌else◌}
+use Rattle.tv_model.specs.Form.{Form, FZero, FOne, FAtom, FIsNew, FSame, FNot, FAnd, FOr, FIff, FCond}
+use Rattle.tv_model.specs.Form.{FExists, FForall, FClosure}
+use Rattle.tv_model.specs.Program.{ProgramForm, PredForm, KindForm, KCore, KDefined, HeadForm, HNever, HAtom}
+use Rattle.tv_model.specs.Program.{HSame, RuleForm}
 use Rattle.tv_model.specs.Rules.{property_rules}
 
 -- the list has the variable
@@ -37,7 +40,10 @@ is_in_head v (HSame flag w u) = (v == w) || (v == u)
 abbrev pub definition_rules : ℕ → KindForm → List RuleForm
 definition_rules q KCore = []
 definition_rules q (KDefined vars body) =
-    record { body = body; head = HAtom true q vars } ∷ record { body = FNot body; head = HAtom false q vars } ∷ []
+    record { body = body; head = HAtom true q vars } ∷ record {
+      body = FNot body;
+      head = HAtom false q vars;
+    } ∷ []
 
 abbrev pub pred_rules : ℕ → PredForm → List RuleForm
 pred_rules q d = property_rules q d.props ++ definition_rules q d.kind
@@ -121,7 +127,8 @@ rule_with body (Some head) = Some (record { body = body; head = head })
 -- for each conjunct that is a literal: where the rest of the body is true and the head isn't, the
 -- conjunct is false
 abbrev pub further_rules : RuleForm → List RuleForm
-further_rules rule = filter_map (λ s. rule_with s.body (negated s.conjunct)) (swaps (negated_head rule.head) rule.body)
+further_rules rule =
+    filter_map (λ s. rule_with s.body (negated s.conjunct)) (swaps (negated_head rule.head) rule.body)
 
 -- the base rules, then the further rules of each
 abbrev pub closed_set : List RuleForm → List RuleForm

@@ -1,5 +1,6 @@
 -- For how many of a rule's variables its conjuncts wait.
-use Rattle.std.specs.Prelude.{ℕ, ◌≡◌, ◌≤◌, ◌+◌, List, [], ◌∷◌, length, map, Option, None, Some, All, slice_index_or, slice_set}
+use Rattle.std.specs.Prelude.{ℕ, ◌≡◌, ◌≤◌, ◌+◌, List, [], ◌∷◌, length, map, Option, None, Some, All}
+use Rattle.std.specs.Prelude.{slice_index_or, slice_set}
 use Rattle.tv_model.specs.Form.{Form, form_of, IsFree}
 use Rattle.tv_model.specs.Program.{RuleForm}
 use Rattle.tv_rules.specs.Closing.{conjuncts, negated_head}
@@ -53,11 +54,13 @@ pub record AreDueFrom (forms : List Form) (vars : List ℕ) (ds : List DueForm) 
   pub due : AreDue forms vars ds
   pub most : All (λ d. d.left ≤ length vars) ds
 
--- the free variables of a base rule, its conjuncts, and for how many of the variables its negated head doesn't wait
+-- the free variables of a base rule, its conjuncts, and for how many of the variables its negated head
+-- doesn't wait
 pub record IsShape (rule : RuleForm) (shape : Shape) : Type 0 where
   pub free : AreFreeIn rule shape.variables
   pub due : AreDueFrom (conjuncts rule.body) (numbers_of shape.variables) (parts_of shape.conjuncts)
-  pub negated : IsDue (numbers_of shape.variables) (record { form = negated_head rule.head; left = shape.negated })
+  pub negated : IsDue (numbers_of shape.variables)
+      (record { form = negated_head rule.head; left = shape.negated })
   pub most : shape.negated ≤ length shape.variables
 
 -- the free variables of a rule, its conjuncts, and the negation of its head

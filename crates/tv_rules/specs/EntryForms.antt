@@ -41,7 +41,8 @@ entry_of e = record { base = e.base; conjunct = e.conjunct; head = head_of e.hea
 -- the base rules, numbered from n on
 abbrev pub base_entries : ℕ → List RuleForm → List EntryForm
 base_entries n [] = []
-base_entries n (rule ∷ rules) = record { base = n; conjunct = None; head = rule.head } ∷ base_entries (suc n) rules
+base_entries n (rule ∷ rules) =
+    record { base = n; conjunct = None; head = rule.head } ∷ base_entries (suc n) rules
 
 -- the further rule of the base rule b about its conjunct k, whose negation is the head, if there is one
 abbrev pub literal_entry : (b k : ℕ) → Option HeadForm → Option EntryForm

@@ -1,5 +1,6 @@
 -- Flags of rules, and their numbers.
-use Rattle.std.specs.Prelude.{ℕ, suc, ◌≡◌, ◌==◌, ◌||◌, ◌↔◌, Bool, true, false, IsTrue, List, [], ◌∷◌, Some, Contains, slice_get, slice_index_or, if◌then◌else◌}
+use Rattle.std.specs.Prelude.{ℕ, suc, ◌≡◌, ◌==◌, ◌||◌, ◌↔◌, Bool, true, false, IsTrue, List, [], ◌∷◌, Some}
+use Rattle.std.specs.Prelude.{Contains, slice_get, slice_index_or, if◌then◌else◌}
 use Rattle.std.specs.List.Sorted.{IsStrictlyIncreasing}
 use Rattle.tv_model.specs.Program.{HeadForm, HNever, HAtom, HSame, RuleForm}
 use Rattle.tv_rules.specs.EntryForms.{EntryForm}

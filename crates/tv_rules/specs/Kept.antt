@@ -15,10 +15,11 @@ use Rattle.tv_rules.specs.Standing.{AreNumbersOf, StandsIn, SeesSummaries}
 -- each predicate that stands in a rule has a place in the lists, and there the numbers of its rules
 pub record AreWatched (rules : List RuleForm) (by_pred : List (List ℕ)) : Type 0 where
   pub numbers : (q : ℕ) (ns : List ℕ) → slice_get by_pred q ≡ Some ns → AreNumbersOf (StandsIn q) rules ns
-  pub places : (q n : ℕ) (rule : RuleForm) → slice_get rules n ≡ Some rule → StandsIn q rule → q < length by_pred
+  pub places : (q n : ℕ) (rule : RuleForm) → slice_get rules n ≡ Some rule → StandsIn q rule
+      → q < length by_pred
 
 -- the lists that stand beside the base rules are right
-pub record AreKept (bases : List Rule) (negations : List Formula) (shapes : List Shape)
+pub record AreRuleLists (bases : List Rule) (negations : List Formula) (shapes : List Shape)
     (entries : List Entry) (by_pred : List (List ℕ)) (by_sm : List ℕ) : Type 0 where
   pub negated : map form_of negations ≡ map (λ rule. negated_head rule.head) (map rule_of bases)
   pub shaped : AllZip IsShape (map rule_of bases) shapes

@@ -8,19 +8,22 @@ use Rattle.tv_model.specs.Laws.{EachFormula}
 use Rattle.tv_model.specs.Truth.{Assignment}
 use Rattle.tv_model.specs.Valid.{IsValid, IsRule, IsFormulaOver}
 use Rattle.tv_kleene.specs.declared.K3.TheVariants.{Yes}
-use Rattle.tv_frame.specs.LogicalStructure.{LogicalStructure}
-use Rattle.tv_value.specs.Value.{value}
-use Rattle.tv_rules.specs.Closing.{is_free, is_in_head, conjuncts, puttings, swaps, base_rules, dropped_rule, further_rules, closed_rules}
+use Rattle.tv_embedding_laws.specs.LogicalStructure.{LogicalStructure}
+use Rattle.tv_eval_laws.specs.Value.{value}
+use Rattle.tv_rules.specs.Closing.{is_free, is_in_head, conjuncts, puttings, swaps, base_rules, dropped_rule}
+use Rattle.tv_rules.specs.Closing.{further_rules, closed_rules}
 
 -- a concrete heap that meets the program meets each of its closed rules
 abbrev pub ClosedRulesAreMet : Type 0
 ClosedRulesAreMet =
-    (p : ProgramForm) (h : Heap) → IsValid p → IsConcrete p h → MeetsProgram p h → All (MeetsRule h) (closed_rules p)
+    (p : ProgramForm) (h : Heap) → IsValid p → IsConcrete p h → MeetsProgram p h
+    → All (MeetsRule h) (closed_rules p)
 
 -- a concrete heap that meets the program meets each of its base rules
 abbrev pub BaseRulesAreMet : Type 0
 BaseRulesAreMet =
-    (p : ProgramForm) (h : Heap) → IsValid p → IsConcrete p h → MeetsProgram p h → All (MeetsRule h) (base_rules p)
+    (p : ProgramForm) (h : Heap) → IsValid p → IsConcrete p h → MeetsProgram p h
+    → All (MeetsRule h) (base_rules p)
 
 -- a heap meets the closed rules exactly where it meets the base rules
 abbrev pub ClosingKeepsMeaning : Type 0
@@ -63,7 +66,8 @@ IsNoHigher p n = EachFormula (λ f. height f ≤ n) p
 -- a formula's conjuncts carry it: its value is Yes exactly where those of all conjuncts are, and no conjunct
 -- has a free variable, a predicate or a height that the formula hasn't
 pub record CarryFormula (f : Form) : Type 0 where
-  pub yes : (s : LogicalStructure) (a : Assignment) → (value s a f ≡ Yes) ↔ All (λ g. value s a g ≡ Yes) (conjuncts f)
+  pub yes : (s : LogicalStructure) (a : Assignment) → (value s a f ≡ Yes)
+      ↔ All (λ g. value s a g ≡ Yes) (conjuncts f)
   pub free : All (λ g. (v : ℕ) → IsFree v g → IsFree v f) (conjuncts f)
   pub formulas : (arities : List ℕ) → IsFormulaOver arities f → All (IsFormulaOver arities) (conjuncts f)
   pub heights : All (λ g. height g ≤ height f) (conjuncts f)

@@ -1,9 +1,11 @@
 -- The rules that properties stand for, one by one.
 use Rattle.std.specs.Prelude.{ℕ}
 use Rattle.tv_rules.specs.declared.base.Property.{Property}
-use Rattle.tv_rules.specs.declared.base.Property.TheVariants.{Unique, Function, InverseFunction, Transitive, Reflexive, Symmetric}
+use Rattle.tv_rules.specs.declared.base.Property.TheVariants.{Unique, Function, InverseFunction, Transitive}
+use Rattle.tv_rules.specs.declared.base.Property.TheVariants.{Reflexive, Symmetric}
 use Rattle.tv_model.specs.Program.{RuleForm}
-use Rattle.tv_model.specs.Rules.{unique_rule, function_rule, invfunction_rule, transitive_rule, reflexive_rule, symmetric_rule}
+use Rattle.tv_model.specs.Rules.{unique_rule, function_rule, invfunction_rule, transitive_rule}
+use Rattle.tv_model.specs.Rules.{reflexive_rule, symmetric_rule}
 
 -- the rule that the property of the predicate p stands for
 abbrev pub rule_of_property : Property → ℕ → RuleForm

@@ -1,7 +1,8 @@
 -- The closed rules of small rules, written out.
 use Rattle.std.specs.Prelude.{ℕ, ◌≡◌, Bool, true, false, [], ◌∷◌}
 use Rattle.tv_model.specs.Form.{Form, FOne, FAtom, FSame, FNot, FAnd, FOr, FExists}
-use Rattle.tv_model.specs.Program.{ProgramForm, PredForm, KindForm, KCore, KDefined, HeadForm, HNever, HAtom, HSame, RuleForm}
+use Rattle.tv_model.specs.Program.{ProgramForm, PredForm, KindForm, KCore, KDefined, HeadForm, HNever, HAtom}
+use Rattle.tv_model.specs.Program.{HSame, RuleForm}
 use Rattle.tv_model.specs.declared.program.Props.{Props}
 use Rattle.tv_model.specs.Rules.{function_rule, invfunction_rule, reflexive_rule, unique_rule}
 use Rattle.tv_rules.specs.Closing.{base_rules, dropped_rule, further_rules}
@@ -35,7 +36,8 @@ pred arity kind props = record { name = []; arity = arity; kind = kind; abs = fa
 -- x is unique and defined by b, b is core, n is a function both ways; and one rule is declared
 abbrev pub program : ProgramForm
 program = record {
-  preds = pred 1 (KDefined (4 ∷ []) b) (properties true false false) ∷ pred 0 KCore (properties false false false)
+  preds =
+      pred 1 (KDefined (4 ∷ []) b) (properties true false false) ∷ pred 0 KCore (properties false false false)
       ∷ pred 2 KCore (properties false true true) ∷ [];
   rules = rule b HNever ∷ [];
   actions = [];
@@ -55,7 +57,8 @@ pub record Samples : Type 0 where
   -- One isn't a literal
   pub reflexive : further_rules (reflexive_rule 2) ≡ []
   -- Exists is dropped before the further rules are made
-  pub never : further_rules (dropped_rule (rule (FExists 0 (x 0)) HNever)) ≡ rule FOne (HAtom false 0 (0 ∷ [])) ∷ []
+  pub never : further_rules (dropped_rule (rule (FExists 0 (x 0)) HNever))
+      ≡ rule FOne (HAtom false 0 (0 ∷ [])) ∷ []
   -- no double negations
   pub negative : further_rules (rule (FNot (FSame 0 1)) (HAtom false 2 (0 ∷ 1 ∷ [])))
       ≡ rule (n 0 1) (HSame true 0 1) ∷ []
@@ -64,7 +67,8 @@ pub record Samples : Type 0 where
       ≡ rule (FAnd (FOr b (x 0)) (FAnd (FNot (FNot b)) (FNot (x 0)))) (HAtom false 1 []) ∷ []
   -- an Exists stays where its variable isn't free under it, and hides those below it
   pub bare : dropped_rule (rule (FExists 0 b) HNever) ≡ rule (FExists 0 b) HNever
-  pub twice : dropped_rule (rule (FExists 0 (FExists 0 (x 0))) HNever) ≡ rule (FExists 0 (FExists 0 (x 0))) HNever
+  pub twice : dropped_rule (rule (FExists 0 (FExists 0 (x 0))) HNever)
+      ≡ rule (FExists 0 (FExists 0 (x 0))) HNever
   -- it stays where its variable is the head's
   pub heads : dropped_rule (rule (FExists 0 (x 0)) (HAtom true 3 (0 ∷ [])))
       ≡ rule (FExists 0 (x 0)) (HAtom true 3 (0 ∷ []))

@@ -1,9 +1,10 @@
 -- In which rules a predicate stands, and which rules see whether an individual is a summary.
 use Rattle.std.specs.Prelude.{ℕ, ◌≡◌, ◌⊎◌, ◌↔◌, List, Some, Contains, slice_get}
 use Rattle.std.specs.List.Sorted.{IsStrictlyIncreasing}
-use Rattle.tv_model.specs.Form.{Form, FZero, FOne, FAtom, FIsNew, FSame, FNot, FAnd, FOr, FIff, FCond, FExists, FForall, FClosure, Mentions}
+use Rattle.tv_model.specs.Form.{Form, FZero, FOne, FAtom, FIsNew, FSame, FNot, FAnd, FOr, FIff, FCond}
+use Rattle.tv_model.specs.Form.{FExists, FForall, FClosure, Mentions}
 use Rattle.tv_model.specs.Program.{HeadForm, HNever, HAtom, HSame, RuleForm}
-use Rattle.tv_stable.specs.Stable.{IsTwice}
+use Rattle.tv_stable_laws.specs.Stable.{IsTwice}
 
 -- the head is an atom of the predicate q, negated or not
 abbrev pub IsHeadOf : ℕ → HeadForm → Type 0

@@ -5,7 +5,8 @@ ghost use Rattle.std.specs.Prelude.{◌≡◌, ◌≤◌, true, [], ◌∷◌, �
 ghost use Rattle.tv_model.specs.Form.{form_of, vars_of, FAnd, FAtom};
 ghost use Rattle.tv_model.specs.Program.{HSame, head_of, kind_of, pred_of, rule_of, program_of};
 ghost use Rattle.tv_model.specs.Rules.{property_rules, declared_rule};
-ghost use Rattle.tv_rules.specs.Closing.{base_rules, pred_rules, rules_from, definition_rules, dropped_rule, rule_of_parts};
+ghost use Rattle.tv_rules.specs.Closing.{base_rules, pred_rules, rules_from, definition_rules, dropped_rule};
+ghost use Rattle.tv_rules.specs.Closing.{rule_of_parts};
 ghost use Rattle.tv_rules.specs.PropertyForms.{rule_of_property};
 
 use crate::conjuncts::dropped;
@@ -35,7 +36,8 @@ pub enum Property {
 /// then the declared ones.
 pub fn base_rules(alloc: Global, program: &Program) -> Result<Rules, AllocError>
     requires { length program.now.vocab.preds ≤ 512 }
-    ensures { IfOk result (λ rules. map rule_of rules ≡ map dropped_rule (base_rules (program_of program.now))) }
+    ensures { IfOk result
+        (λ rules. map rule_of rules ≡ map dropped_rule (base_rules (program_of program.now))) }
 {
     let mut rules = Items::new(alloc);
     push_preds(alloc, program.vocab.preds.as_slice(), &mut rules)?;
@@ -72,7 +74,8 @@ fn push_pred(alloc: Global, p: PredId, pred: &Pred, rules: &mut Rules) -> Result
     push_definition(alloc, p, &pred.kind, rules)
 }
 
-fn push_properties(
+/// Puts the rules that the properties of the predicate stand for behind the list.
+pub fn push_properties(
     alloc: Global,
     p: PredId,
     props: Props,
@@ -146,7 +149,10 @@ fn unlike(
     w: Var,
 ) -> Result<Rule, AllocError>
     ensures { IfOk result (λ rule. rule_of rule
-        ≡ record { body = FAnd (FAtom p.0 (vars_of left)) (FAtom p.0 (vars_of right)); head = HSame true v.0 w.0 }) }
+        ≡ record {
+          body = FAnd (FAtom p.0 (vars_of left)) (FAtom p.0 (vars_of right));
+          head = HSame true v.0 w.0;
+        }) }
 {
     Ok(Rule {
         body: both(alloc, Formula::Atom(p, left), Formula::Atom(p, right))?,

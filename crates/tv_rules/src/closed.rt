@@ -1,18 +1,20 @@
 //! The closed rules of a program, kept by their base rules.
 
-ghost use Rattle.std.specs.Prelude.{ℕ, List, [], unwrap_or, IfSome, ◌≡◌, ◌<◌, ◌≤◌, ◌+◌, ◌↔◌, length, map, IfOk, OnOk, All, Some, slice_get, Contains};
+ghost use Rattle.std.specs.Prelude.{ℕ, List, [], unwrap_or, IfSome, ◌≡◌, ◌<◌, ◌≤◌, ◌+◌, ◌↔◌, length, map};
+ghost use Rattle.std.specs.Prelude.{IfOk, OnOk, All, Some, slice_get, Contains};
 ghost use Rattle.std.specs.List.{AllZip};
 ghost use Rattle.tv_model.specs.Form.{form_of, height};
 ghost use Rattle.tv_model.specs.Heap.{Heap};
 ghost use Rattle.tv_model.specs.Program.{RuleForm, head_of, rule_of, program_of};
 ghost use Rattle.tv_model.specs.Rules.{IsConcrete, MeetsProgram, MeetsRule};
 ghost use Rattle.tv_model.specs.Valid.{IsValid, IsRule};
-ghost use Rattle.tv_stable.specs.Laws.{IsPlainRule};
+ghost use Rattle.tv_stable_laws.specs.Laws.{IsPlainRule};
 ghost use Rattle.tv_model.specs.Rules.{IsFreeInRule};
 ghost use Rattle.tv_rules.specs.Closing.{closed_rules, closed_set, conjuncts, negated_head};
 ghost use Rattle.tv_rules.specs.Standing.{AreNumbersOf, StandsIn, SeesSummaries};
 ghost use Rattle.tv_rules.specs.Dues.{AreWaits, IsShape};
-ghost use Rattle.tv_rules.specs.EntryForms.{AreFreeIn, entry_of, closed_entries, forms_of, rules_of, swapped_at};
+ghost use Rattle.tv_rules.specs.EntryForms.{AreFreeIn, entry_of, closed_entries, forms_of, rules_of};
+ghost use Rattle.tv_rules.specs.EntryForms.{swapped_at};
 ghost use Rattle.tv_rules.specs.Laws.{IsNoHigher};
 
 use crate::base::base_rules;
@@ -51,11 +53,11 @@ impl Model for Closed {
 
     ghost coded = { Prim.hlevel (codes, formula.the_row.coded) };
 
-    ghost use Rattle.tv_rules.specs.Kept.{AreKept};
+    ghost use Rattle.tv_rules.specs.Kept.{AreRuleLists};
 
     ghost view = { λ c. c.bases };
 
-    ghost invariant = { λ c. AreKept c.bases c.negations c.shapes c.entries c.by_pred c.by_sm };
+    ghost invariant = { λ c. AreRuleLists c.bases c.negations c.shapes c.entries c.by_pred c.by_sm };
 }
 
 /// The closed rules of a valid program, base rules first.
@@ -80,7 +82,8 @@ fn closed_of(alloc: Global, bases: Rules, preds: usize) -> Result<Closed, AllocE
     requires count { preds ≤ 512 }
     requires preds { (q n : ℕ) (rule : RuleForm) → slice_get (rules_of bases) n ≡ Some rule → StandsIn q rule
         → q < preds }
-    requires variables { (v : ℕ) (rule : RuleForm) → Contains (map rule_of bases) rule → IsFreeInRule v rule → v < 32 }
+    requires variables { (v : ℕ) (rule : RuleForm) → Contains (map rule_of bases) rule → IsFreeInRule v rule
+        → v < 32 }
     ensures { IfOk result (λ c. c ≡ bases) }
 {
     let negations = negations(alloc, bases.as_slice())?;
@@ -110,7 +113,8 @@ fn negations(alloc: Global, bases: &[Rule]) -> Result<Formulas, AllocError>
 }
 
 fn shapes(alloc: Global, bases: &[Rule]) -> Result<Shapes, AllocError>
-    requires { (v : ℕ) (rule : RuleForm) → Contains (map rule_of bases.now) rule → IsFreeInRule v rule → v < 32 }
+    requires { (v : ℕ) (rule : RuleForm) → Contains (map rule_of bases.now) rule → IsFreeInRule v rule
+        → v < 32 }
     ensures { IfOk result (λ list. AllZip IsShape (map rule_of bases.now) list) }
 {
     let mut list = Items::new(alloc);
@@ -150,32 +154,35 @@ impl Closed {
     /// The head of a rule.
     pub fn head(&self, number: usize) -> Head
         requires { number < length (rules_of self.now) }
-        ensures { (rule : RuleForm) → slice_get (rules_of self.now) number ≡ Some rule → head_of result ≡ rule.head }
+        ensures { (rule : RuleForm) → slice_get (rules_of self.now) number ≡ Some rule
+            → head_of result ≡ rule.head }
     {
-        entry_at(self.entries.as_slice(), number).head
+        item_at(self.entries.as_slice(), number).head
     }
 
     /// The variables that are free in a rule, in its body or in its head.
     pub fn variables(&self, number: usize) -> &[Var]
         requires { number < length (rules_of self.now) }
-        ensures { (rule : RuleForm) → slice_get (rules_of self.now) number ≡ Some rule → AreFreeIn rule result.now }
+        ensures { (rule : RuleForm) → slice_get (rules_of self.now) number ≡ Some rule
+            → AreFreeIn rule result.now }
     {
-        let entry = entry_at(self.entries.as_slice(), number);
-        shape_at(self.shapes.as_slice(), entry.base)
+        let entry = item_at(self.entries.as_slice(), number);
+        item_at(self.shapes.as_slice(), entry.base)
             .variables
             .as_slice()
     }
 
-    /// The variables that are free in a rule, and the conjuncts of its body in order and the negation of its head,
-    /// each with how many of the last of these variables it doesn't wait for. Takes no memory.
+    /// The variables that are free in a rule, and the conjuncts of its body in order and the negation of its
+    /// head, each with how many of the last of these variables it doesn't wait for. Takes no memory.
     pub fn waits(&self, number: usize) -> Waits<'_>
         requires { number < length (rules_of self.now) }
-        ensures { (rule : RuleForm) → slice_get (rules_of self.now) number ≡ Some rule → AreWaits rule result }
+        ensures { (rule : RuleForm) → slice_get (rules_of self.now) number ≡ Some rule
+            → AreWaits rule result }
     {
-        let entry = entry_at(self.entries.as_slice(), number);
-        let shape = shape_at(self.shapes.as_slice(), entry.base);
+        let entry = item_at(self.entries.as_slice(), number);
+        let shape = item_at(self.shapes.as_slice(), entry.base);
         let other = Due {
-            formula: negation_at(self.negations.as_slice(), entry.base),
+            formula: item_at(self.negations.as_slice(), entry.base),
             left: shape.negated,
         };
         let parts = shape.conjuncts.as_slice();
@@ -196,9 +203,9 @@ impl Closed {
         ensures { IfOk result (λ fs. (rule : RuleForm) → slice_get (rules_of self.now) number ≡ Some rule
             → forms_of fs.items ≡ conjuncts rule.body) }
     {
-        let entry = entry_at(self.entries.as_slice(), number);
-        let base = base_at(self.bases.as_slice(), entry.base);
-        let negation = negation_at(self.negations.as_slice(), entry.base);
+        let entry = item_at(self.entries.as_slice(), number);
+        let base = item_at(self.bases.as_slice(), entry.base);
+        let negation = item_at(self.negations.as_slice(), entry.base);
         let list = conjuncts(alloc, &base.body)?;
         Ok(swapped(list, entry.conjunct, negation))
     }
@@ -219,32 +226,11 @@ impl Closed {
     }
 }
 
-fn entry_at(entries: &[Entry], number: usize) -> &Entry
-    requires { number < length entries.now }
-    ensures { slice_get entries.now number ≡ Some result.now }
+fn item_at<T>(items: &[T], number: usize) -> &T
+    requires { number < length items.now }
+    ensures { slice_get items.now number ≡ Some result.now }
 {
-    &entries[number]
-}
-
-fn base_at(bases: &[Rule], number: usize) -> &Rule
-    requires { number < length bases.now }
-    ensures { slice_get bases.now number ≡ Some result.now }
-{
-    &bases[number]
-}
-
-fn negation_at(negations: &[Formula], number: usize) -> &Formula
-    requires { number < length negations.now }
-    ensures { slice_get negations.now number ≡ Some result.now }
-{
-    &negations[number]
-}
-
-fn shape_at(shapes: &[Shape], number: usize) -> &Shape
-    requires { number < length shapes.now }
-    ensures { slice_get shapes.now number ≡ Some result.now }
-{
-    &shapes[number]
+    &items[number]
 }
 
 fn numbers_at(lists: &[Numbers], place: usize) -> &[usize]

@@ -1,6 +1,7 @@
 //! Conjuncts of a rule, and for how many of its variables each waits.
 
-ghost use Rattle.std.specs.Prelude.{◌≡◌, ◌≢◌, ◌≤◌, ◌<◌, ◌+◌, ◌∷◌, length, slice_get, Some, IfOk, IfSome, MatchBool};
+ghost use Rattle.std.specs.Prelude.{◌≡◌, ◌≢◌, ◌≤◌, ◌<◌, ◌+◌, ◌∷◌, length, slice_get, Some, IfOk, IfSome};
+ghost use Rattle.std.specs.Prelude.{MatchBool};
 ghost use Rattle.tv_model.specs.Form.{form_of};
 ghost use Rattle.tv_rules.specs.Dues.{AreDueFrom, IsDue, denied_at, due_of, dues_in, part_of, parts_of};
 ghost use Rattle.tv_rules.specs.EntryForms.{forms_of, numbers_of};
@@ -52,7 +53,8 @@ pub fn left_by(f: &Formula, vars: &[Var]) -> usize
     }
 }
 
-/// The conjuncts, each with the number of the last variables that it doesn't wait for, in memory of their own.
+/// The conjuncts, each with the number of the last variables that it doesn't wait for, in memory of their
+/// own.
 pub fn own_parts(alloc: Global, conjuncts: &[&Formula], vars: &[Var]) -> Result<Parts, AllocError>
     ensures { IfOk result (λ ps. AreDueFrom (forms_of conjuncts.now) (numbers_of vars.now) (parts_of ps)) }
 {
@@ -73,7 +75,8 @@ fn own_part(alloc: Global, f: &Formula, vars: &[Var]) -> Result<Part, AllocError
     Ok(Part { formula, left })
 }
 
-/// The conjuncts of a rule, where they stand: those of its base rule, with another one in a place, if there is one.
+/// The conjuncts of a rule, where they stand: those of its base rule, with another one in a place, if there
+/// is one.
 #[derive(Clone, Copy, Debug)]
 pub struct Dues<'a> {
     pub(crate) parts: &'a [Part],
@@ -122,8 +125,8 @@ fn part_at<'a>(parts: &'a [Part], number: usize) -> Due<'a>
     }
 }
 
-/// What a rule's head denies: of a base rule the negation of the head, and of another the conjunct of the base rule
-/// in whose place that stands.
+/// What a rule's head denies: of a base rule the negation of the head, and of another the conjunct of the
+/// base rule in whose place that stands.
 pub fn denied<'a>(parts: &'a [Part], place: Option<usize>, own: Due<'a>) -> Due<'a>
     requires { IfSome place (λ k. k < length parts.now) }
     ensures { due_of result ≡ denied_at place (due_of own.entry) (parts_of parts.now) }

@@ -5,7 +5,8 @@ ghost use Rattle.std.specs.Prelude.{◌≡◌, [], ◌∷◌, ◌++◌, map, IfO
 ghost use Rattle.tv_model.specs.Form.{form_of};
 ghost use Rattle.tv_model.specs.Program.{head_of, rule_of};
 ghost use Rattle.tv_rules.specs.Closing.{conjuncts};
-ghost use Rattle.tv_rules.specs.EntryForms.{entry_of, base_entries, literal_entries, further_entries, closed_entries, forms_of};
+ghost use Rattle.tv_rules.specs.EntryForms.{entry_of, base_entries, literal_entries, further_entries};
+ghost use Rattle.tv_rules.specs.EntryForms.{closed_entries, forms_of};
 
 use crate::conjuncts::{conjuncts, negated};
 use std::alloc::{AllocError, Global};

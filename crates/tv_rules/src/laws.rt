@@ -1,6 +1,8 @@
 //! Laws of the closed rules: functions that do nothing, and whose contracts are the laws.
 
-ghost use Rattle.tv_rules.specs.Laws.{BaseRulesAreMet, ClosingKeepsMeaning, ClosedRulesAreMet, FurtherRulesFollow, DroppingKeepsMeaning, TestsAreRight, SwapsAreOfConjuncts, ClosedRulesAreRules, ConjunctsCarryFormulas};
+ghost use Rattle.tv_rules.specs.Laws.{BaseRulesAreMet, ClosingKeepsMeaning, ClosedRulesAreMet};
+ghost use Rattle.tv_rules.specs.Laws.{FurtherRulesFollow, DroppingKeepsMeaning, TestsAreRight};
+ghost use Rattle.tv_rules.specs.Laws.{SwapsAreOfConjuncts, ClosedRulesAreRules, ConjunctsCarryFormulas};
 ghost use Rattle.tv_rules.specs.Samples.{Samples};
 
 /// Each further rule holds in every heap in which its base rule holds.

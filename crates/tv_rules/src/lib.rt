@@ -11,6 +11,7 @@ mod laws;
 mod shapes;
 mod watch;
 
+pub use base::push_properties;
 pub use closed::{Closed, close_rules};
 pub use dues::{Due, Dues};
 pub use laws::{

@@ -1,4 +1,5 @@
-//! What trying a rule goes by that doesn't depend on a structure: its variables in an order, and its conjuncts.
+//! What trying a rule goes by that doesn't depend on a structure: its variables in an order, and its
+//! conjuncts.
 
 ghost use Rattle.std.specs.Prelude.{ℕ, ◌≡◌, ◌<◌, ◌↔◌, ◌⊎◌, Contains, IfOk, IsTrue, OnOk};
 ghost use Rattle.tv_model.specs.Program.{rule_of};
@@ -50,8 +51,8 @@ pub fn shape_of(alloc: Global, rule: &Rule) -> Result<Shape, AllocError>
     })
 }
 
-/// The variables of the rule, of the 32 that there are: those first of which a conjunct of the body says something
-/// alone, since few individuals may pass there.
+/// The variables of the rule, of the 32 that there are: those first of which a conjunct of the body says
+/// something alone, since few individuals may pass there.
 fn rule_variables(alloc: Global, rule: &Rule) -> Result<Vars, AllocError>
     ensures { IfOk result (λ vars. (v : ℕ) → Contains (numbers_of vars) v
         ↔ ((v < 32) × IsFreeInRule v (rule_of rule.now))) }

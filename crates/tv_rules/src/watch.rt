@@ -5,7 +5,8 @@ ghost use Rattle.std.specs.List.{AllZip};
 ghost use Rattle.tv_model.specs.Form.{form_of};
 ghost use Rattle.tv_model.specs.Program.{head_of, rule_of};
 ghost use Rattle.tv_rules.specs.Closing.{closed_set};
-ghost use Rattle.tv_rules.specs.Standing.{AreNumbersOf, IsHeadOf, StandsIn, HasEquality, IsEquality, HasEqualityIn, SeesSummaries};
+ghost use Rattle.tv_rules.specs.Standing.{AreNumbersOf, IsHeadOf, StandsIn, HasEquality, IsEquality};
+ghost use Rattle.tv_rules.specs.Standing.{HasEqualityIn, SeesSummaries};
 ghost use Rattle.tv_rules.specs.EntryForms.{entry_of, closed_entries};
 ghost use Rattle.tv_rules.specs.Flags.{Flags, IsOfBase, IsOfBaseOrTwice, AreTrueAt, has_twice, true_places};
 
@@ -82,7 +83,8 @@ fn summary_flags(
     entries: &[Entry],
 ) -> Result<Vec<bool>, AllocError>
     requires { All (λ (e : Entry). e.base < length of_bases.now) entries.now }
-    ensures { IfOk result (λ flags. AllZip (IsOfBaseOrTwice of_bases.now) (map entry_of entries.now) flags.items) }
+    ensures { IfOk result
+        (λ flags. AllZip (IsOfBaseOrTwice of_bases.now) (map entry_of entries.now) flags.items) }
 {
     let mut flags = Vec::new(alloc);
     for entry in entries {
@@ -131,7 +133,8 @@ fn stands_in(rule: &Rule, p: PredId) -> bool
     mentions(&rule.body, p) || is_head_of(&rule.head, p)
 }
 
-fn is_head_of(head: &Head, p: PredId) -> bool
+/// Whether the head is about the predicate. Takes no memory.
+pub fn is_head_of(head: &Head, p: PredId) -> bool
     ensures { IsTrue result ↔ IsHeadOf p.0 (head_of head.now) }
 {
     match head {
@@ -146,7 +149,8 @@ fn has_equality_in(rule: &Rule) -> bool
     has_equality(&rule.body) || is_equality(&rule.head)
 }
 
-fn is_equality(head: &Head) -> bool
+/// Whether the head is an equality or its negation. Takes no memory.
+pub fn is_equality(head: &Head) -> bool
     ensures { IsTrue result ↔ IsEquality (head_of head.now) }
 {
     match head {
@@ -155,7 +159,8 @@ fn is_equality(head: &Head) -> bool
     }
 }
 
-fn has_equality(f: &Formula) -> bool
+/// Whether an equality stands in the formula. Takes no memory.
+pub fn has_equality(f: &Formula) -> bool
     ensures { IsTrue result ↔ HasEquality (form_of f.now) }
 {
     match f {
@@ -170,7 +175,8 @@ fn has_equality(f: &Formula) -> bool
     }
 }
 
-fn has_twice(head: &Head) -> bool
+/// Whether the head has one variable twice. Takes no memory.
+pub fn has_twice(head: &Head) -> bool
     ensures { result ≡ has_twice (head_of head.now) }
 {
     match head {

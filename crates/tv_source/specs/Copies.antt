@@ -1,6 +1,8 @@
 -- The plain data that each value of the code stands for.
 use Rattle.std.specs.Prelude.{List, [], ◌∷◌}
-use Rattle.tv_source.specs.Forms.{AssignForm, ANull, ANew, ACopy, ALoad, AStore, AClear, TestForm, TAny, TNull, TSame, Stmt, SAssign, SIf, SWhile, Stmts, no_stmts, with_stmt, SourceForm}
+use Rattle.tv_source.specs.Forms.{AssignForm, ANull, ANew, ACopy, ALoad, AStore, AClear, TestForm, TAny}
+use Rattle.tv_source.specs.Forms.{TNull, TSame, Stmt, SAssign, SIf, SWhile, Stmts, no_stmts, with_stmt}
+use Rattle.tv_source.specs.Forms.{SourceForm}
 use Rattle.tv_source.specs.declared.source.Assign.{Assign}
 use Rattle.tv_source.specs.declared.source.Assign.TheVariants as assign
 use Rattle.tv_source.specs.declared.source.Test.{Test}

@@ -1,4 +1,5 @@
--- Programs of the pointer language as plain data: variables and fields are numbers, by their places among those declared.
+-- Programs of the pointer language as plain data: variables and fields are numbers, by their places among
+-- those declared.
 use Rattle.std.specs.Prelude.{ℕ, Bool, List}
 
 -- x = null, x = new, x = y, x = y->f, x->f = y, x->f = null; the names in the order of the text

@@ -1,7 +1,9 @@
 -- Which programs of the pointer language are valid: names differ, and each number is that of a declared name.
 use Rattle.std.specs.Prelude.{ℕ, ◌≢◌, ◌<◌, List, ◌++◌, length, All, AllPairs, codes}
 use Rattle.tv_model.specs.Spelling.{IsIdentifier}
-use Rattle.tv_source.specs.Forms.{AssignForm, ANull, ANew, ACopy, ALoad, AStore, AClear, TestForm, TAny, TNull, TSame, Stmt, SAssign, SIf, SWhile, Stmts, no_stmts, with_stmt, SourceForm}
+use Rattle.tv_source.specs.Forms.{AssignForm, ANull, ANew, ACopy, ALoad, AStore, AClear, TestForm, TAny}
+use Rattle.tv_source.specs.Forms.{TNull, TSame, Stmt, SAssign, SIf, SWhile, Stmts, no_stmts, with_stmt}
+use Rattle.tv_source.specs.Forms.{SourceForm}
 
 abbrev pub IsVariableOf : SourceForm → ℕ → Type 0
 IsVariableOf p x = x < length p.variables

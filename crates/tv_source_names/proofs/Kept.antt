@@ -1,5 +1,7 @@
 -- What a source program means is valid: its names may be declared and differ, and its numbers are those of names.
-use Rattle.std.proofs.Common.{◌≡◌, ◌≢◌, ℕ, ◌+◌, ◌<◌, ◌≤◌, ◌^◌, Bool, true, false, get_or, List, [], ◌∷◌, ◌++◌, Ok, Err, Result, Option, Some, None, length, refl, sym, ap, ◌∙◌, subst, append_assoc, arith, Bor}
+use Rattle.std.proofs.Common.{◌≡◌, ◌≢◌, ℕ, ◌+◌, ◌<◌, ◌≤◌, ◌^◌, Bool, true, false, get_or, List, [], ◌∷◌, ◌++◌}
+use Rattle.std.proofs.Common.{Ok, Err, Result, Option, Some, None, length, refl, sym, ap, ◌∙◌, subst}
+use Rattle.std.proofs.Common.{append_assoc, arith, Bor}
 use Rattle.std.specs.Prelude.{All, AllPairs, IfOk, map, codes, ◌||◌}
 use Rattle.std.specs.Str.{bytes_eq}
 use Rattle.std.proofs.lemmas.Bool.{both_ways}
@@ -15,9 +17,13 @@ use Rattle.tv_lex.specs.Token.{SpecToken, text_of, spec_token, spec_tokens}
 use Rattle.tv_lex.specs.declared.token.Token.{Token}
 use Rattle.tv_lex.proofs.PlaceLemmas.{reads_order}
 use Rattle.tv_lex.proofs.PieceTokens.{lexed_tokens}
-use Rattle.tv_source.specs.Forms.{AssignForm, ANull, ANew, ACopy, ALoad, AStore, AClear, TestForm, TAny, TNull, TSame, Stmt, SAssign, SIf, SWhile, Stmts, no_stmts, with_stmt, SourceForm}
+use Rattle.tv_source.specs.Forms.{AssignForm, ANull, ANew, ACopy, ALoad, AStore, AClear, TestForm, TAny}
+use Rattle.tv_source.specs.Forms.{TNull, TSame, Stmt, SAssign, SIf, SWhile, Stmts, no_stmts, with_stmt}
+use Rattle.tv_source.specs.Forms.{SourceForm}
 use Rattle.tv_source.specs.Valid.{IsAssignOf, IsTestOf, IsStmtOf, AreStmtsOf, HasStmts, IsSource}
-use Rattle.tv_source_syntax.specs.Forms.{AssignText, XNull, XNew, XCopy, XLoad, XStore, XClear, TestText, XAny, XIsNull, XSame, StatementText, XAssign, XIf, XWhile, BlockText, no_statement, with_statement, SourceText}
+use Rattle.tv_source_syntax.specs.Forms.{AssignText, XNull, XNew, XCopy, XLoad, XStore, XClear, TestText}
+use Rattle.tv_source_syntax.specs.Forms.{XAny, XIsNull, XSame, StatementText, XAssign, XIf, XWhile, BlockText}
+use Rattle.tv_source_syntax.specs.Forms.{no_statement, with_statement, SourceText}
 use Rattle.tv_source_syntax.specs.Grammar.{HasStatement, IsSource as IsSourceText}
 use Rattle.tv_source.specs.Copies.{source_of as source_form}
 use Rattle.tv_source.specs.declared.source.Source.{Source}
@@ -29,16 +35,18 @@ use Rattle.tv_tree.specs.Names.{is_among}
 use Rattle.tv_tree.specs.Steps.{◌>>=◌, refused_if, or_refused}
 use Rattle.tv_source_names.specs.Answers.{Answers, names_of}
 use Rattle.tv_source_names.specs.Outcome.{MeansSource}
-use Rattle.tv_source_names.specs.declared.error.ReadError.{ReadError}
-use Rattle.tv_source_names.specs.declared.error.ReadError.TheVariants.{Reserved, NameTwice, NameUnknown}
-use Rattle.tv_source_names.specs.Meaning.{is_taken, may_be_declared, declared, number_of, numbered, assign_meant, test_meant, statement_meant, block_meant, source_meant}
+use Rattle.tv_source_names.specs.declared.error.SourceReadError.{SourceReadError}
+use Rattle.tv_source_names.specs.declared.error.SourceReadError.TheVariants.{Reserved, NameTwice, NameUnknown}
+use Rattle.tv_source_names.specs.Meaning.{is_taken, may_be_declared, declared, number_of, numbered}
+use Rattle.tv_source_names.specs.Meaning.{assign_meant, test_meant, statement_meant, block_meant}
+use Rattle.tv_source_names.specs.Meaning.{source_meant}
 
 -- the value of a step that wasn't refused
-pub bind_ok : {A B : Type 0} (r : Result A ReadError) (g : A → Result B ReadError) (y : B) → (r >>= g) ≡ Ok y → (x : A) × (r ≡ Ok x) × (g x ≡ Ok y)
+pub bind_ok : {A B : Type 0} (r : Result A SourceReadError) (g : A → Result B SourceReadError) (y : B) → (r >>= g) ≡ Ok y → (x : A) × (r ≡ Ok x) × (g x ≡ Ok y)
 bind_ok (Ok x) g y e = (x, refl, e)
 bind_ok (Err fault) g y e = absurd cc
 
-abbrev good : {A : Type 0} → A → Result A ReadError
+abbrev good : {A : Type 0} → A → Result A SourceReadError
 good x = Ok x
 
 same_ok : {A : Type 0} (x y : A) → good x ≡ good y → x ≡ y
@@ -226,7 +234,7 @@ keys_few keys bytes tokens given same are few =
     omega (arith, words, spelled, both, all, few)
 
 -- what is answered is valid
-pub kept_answer : (r : Result Source ReadError) (bytes : List ℕ) (tokens : List Token) (t : SourceText) → Reads bytes (Ok tokens)
+pub kept_answer : (r : Result Source SourceReadError) (bytes : List ℕ) (tokens : List Token) (t : SourceText) → Reads bytes (Ok tokens)
     → IsSourceText (spec_tokens bytes tokens) t → Answers source_form r (source_meant t) → IfOk r (λ s. IsSource (source_form s))
 kept_answer (Ok s) bytes tokens t reads is meant = source_kept (spec_tokens bytes tokens) t (source_form s) (lexed_tokens bytes tokens reads) is meant
 kept_answer (Err e) bytes tokens t reads is meant = tt

@@ -1,5 +1,6 @@
 -- Declared names, one after the other.
-use Rattle.std.proofs.Common.{◌≡◌, ℕ, ◌+◌, ◌<◌, Bool, false, not, cond, get_or, List, [], ◌∷◌, ◌++◌, Ok, Result, length, map, take, drop, refl, sym, ap, ◌∙◌, subst, append_assoc, Bor}
+use Rattle.std.proofs.Common.{◌≡◌, ℕ, ◌+◌, ◌<◌, Bool, false, not, cond, get_or, List, [], ◌∷◌, ◌++◌, Ok}
+use Rattle.std.proofs.Common.{Result, length, map, take, drop, refl, sym, ap, ◌∙◌, subst, append_assoc, Bor}
 use Rattle.std.specs.Prelude.{position}
 use Rattle.std.specs.List.{list_any, position_or_len}
 use Rattle.std.specs.Str.{bytes_eq}
@@ -7,10 +8,11 @@ use Rattle.std.proofs.lemmas.List.{map_push, length-map, take_more, drop_more}
 use Rattle.indexmap.specs.IndexSet.{insert_key}
 use Rattle.tv_tree.specs.Names.{is_among}
 use Rattle.tv_tree.specs.Steps.{◌>>=◌}
-use Rattle.tv_source_names.specs.declared.error.ReadError.{ReadError}
-use Rattle.tv_source_names.specs.declared.error.ReadError.TheVariants.{TooDeep, Syntax, Reserved, NameTwice, NameUnknown, Memory}
+use Rattle.tv_source_names.specs.declared.error.SourceReadError.{SourceReadError}
+use Rattle.tv_source_names.specs.declared.error.SourceReadError.TheVariants.{TooDeep, Syntax, Reserved}
+use Rattle.tv_source_names.specs.declared.error.SourceReadError.TheVariants.{NameTwice, NameUnknown, Memory}
 use Rattle.tv_source_names.specs.Meaning.{may_be_declared, declared}
-use Rattle.tv_source_names.specs.Answers.{Fails, names_of}
+use Rattle.tv_source_names.specs.Answers.{RefusesSource, names_of}
 
 -- ---- what a set of words says
 
@@ -24,16 +26,9 @@ module _ (same : Bor (List ℕ) → Bor (List ℕ) → Bool) (means : (a b : Bor
       → names_of (insert_key same ks k) ≡ names_of ks ++ k.now ∷ []
   names_added ks k new = rw new (map_push (λ name. name.now) ks k)
 
-position_or_len-map : {A B : Type 0} (f : A → B) (p : B → Bool) (xs : List A) → position_or_len p (map f xs) ≡ position_or_len (λ x. p (f x)) xs
-position_or_len-map f p [] = refl
-position_or_len-map f p (x ∷ xs) = ap (λ n. cond (not (p (f x))) (1 + n) 0) (position_or_len-map f p xs)
-
-pub position-map : {A B : Type 0} (f : A → B) (p : B → Bool) (xs : List A) → position p (map f xs) ≡ position (λ x. p (f x)) xs
-position-map f p xs = rw (position_or_len-map f p xs, length-map xs f) refl
-
 -- ---- refusals are handed on
 
-pub fails_bind : {A B : Type 0} (e : ReadError) (r : Result A ReadError) (g : A → Result B ReadError) → Fails e r → Fails e (r >>= g)
+pub fails_bind : {A B : Type 0} (e : SourceReadError) (r : Result A SourceReadError) (g : A → Result B SourceReadError) → RefusesSource e r → RefusesSource e (r >>= g)
 fails_bind TooDeep r g h = absurd h
 fails_bind (Syntax place) r g h = absurd h
 fails_bind Reserved r g h = ap (λ q. q >>= g) h
@@ -41,8 +36,8 @@ fails_bind NameTwice r g h = ap (λ q. q >>= g) h
 fails_bind NameUnknown r g h = ap (λ q. q >>= g) h
 fails_bind Memory r g h = tt
 
-pub fails_along : {A : Type 0} (e : ReadError) (q r : Result A ReadError) → q ≡ r → Fails e r → Fails e q
-fails_along e q r same h = subst (Fails e) (sym same) h
+pub fails_along : {A : Type 0} (e : SourceReadError) (q r : Result A SourceReadError) → q ≡ r → RefusesSource e r → RefusesSource e q
+fails_along e q r same h = subst (RefusesSource e) (sym same) h
 
 -- ---- the loop
 
@@ -59,7 +54,7 @@ module _ {X : Type 0} (f : X → List ℕ) (xs : List X) (i : ℕ) (x : X) (lt :
       let behind : (before ++ names) ++ f x ∷ [] ≡ before ++ more = regrouped ∙ ap (λ ns. before ++ ns) (sym grown) in
       declared_at (before ++ names) ∙ rw one (ap (λ ns. declared ns (map f (drop (i + 1) xs))) behind)
 
-  pub declared_fails : (before : List (List ℕ)) (e : ReadError) → Fails e (may_be_declared before (f x)) → Fails e (declared before (map f (drop i xs)))
+  pub declared_fails : (before : List (List ℕ)) (e : SourceReadError) → RefusesSource e (may_be_declared before (f x)) → RefusesSource e (declared before (map f (drop i xs)))
   declared_fails before e h = fails_along e _ _ (declared_at before) (fails_bind e _ (λ one. declared (before ++ f x ∷ []) (map f (drop (i + 1) xs))) h)
 
   pub names_more : (names more : List (List ℕ)) → names ≡ map f (take i xs) → more ≡ names ++ f x ∷ [] → more ≡ map f (take (i + 1) xs)

@@ -2,4 +2,3 @@ pub mod Meaning
 pub mod Answers
 pub mod Scopes
 pub mod Outcome
-pub mod Laws

@@ -6,7 +6,7 @@ ghost use Rattle.tv_tree.specs.Names.{is_among};
 ghost use Rattle.tv_source_names.specs.Meaning.{number_of, is_taken, may_be_declared, declared};
 ghost use Rattle.tv_source_names.specs.Answers.{Answers, names_of};
 
-use crate::error::ReadError;
+use crate::error::SourceReadError;
 use indexmap::IndexSet;
 use std::alloc::{AllocError, Global};
 use tv_lex::{Token, text};
@@ -18,7 +18,8 @@ pub(crate) type Declared<'a> = IndexSet<&'a [u8]>;
 /// Puts a name behind the others, unless it is among them, and answers whether it wasn't.
 fn add<'a>(names: &mut Declared<'a>, name: &'a [u8]) -> Result<bool, AllocError>
     ensures added { IfOk result (λ new. new ≡ not (is_among (names_of names.old.keys) name.now)) }
-    ensures keys { IfOk result (λ new. new ≡ true → names_of names.new.keys ≡ names_of names.old.keys ++ name.now ∷ []) }
+    ensures keys { IfOk result
+        (λ new. new ≡ true → names_of names.new.keys ≡ names_of names.old.keys ++ name.now ∷ []) }
 {
     let (_, new) = names.insert_full(name)?;
     Ok(new)
@@ -51,21 +52,22 @@ fn declare<'a>(
     names: &mut Declared<'a>,
     before: &Declared<'_>,
     name: &'a [u8],
-) -> Result<(), ReadError>
-    ensures fault { Answers (λ _. tt) result (may_be_declared (names_of before.now.keys ++ names_of names.old.keys) name.now) }
+) -> Result<(), SourceReadError>
+    ensures fault { Answers (λ _. tt) result
+        (may_be_declared (names_of before.now.keys ++ names_of names.old.keys) name.now) }
     ensures keys { OnOk result (names_of names.new.keys ≡ names_of names.old.keys ++ name.now ∷ []) }
 {
     if is_taken(name) {
-        return Err(ReadError::Reserved);
+        return Err(SourceReadError::Reserved);
     }
     if contains(before, name) {
-        return Err(ReadError::NameTwice);
+        return Err(SourceReadError::NameTwice);
     }
     let new = add(names, name)?;
     if new {
         Ok(())
     } else {
-        Err(ReadError::NameTwice)
+        Err(SourceReadError::NameTwice)
     }
 }
 
@@ -75,8 +77,9 @@ pub(crate) fn declared<'a>(
     bytes: &'a [u8],
     before: &Declared<'_>,
     tokens: &[Token],
-) -> Result<Declared<'a>, ReadError>
-    ensures fault { Answers (λ _. tt) result (declared (names_of before.now.keys) (map (text_of bytes.now) tokens.now)) }
+) -> Result<Declared<'a>, SourceReadError>
+    ensures fault { Answers (λ _. tt) result
+        (declared (names_of before.now.keys) (map (text_of bytes.now) tokens.now)) }
     ensures keys { IfOk result (λ names. names_of names.keys ≡ map (text_of bytes.now) tokens.now) }
 {
     let mut names = IndexSet::new(alloc);

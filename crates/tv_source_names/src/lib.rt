@@ -7,6 +7,6 @@ mod laws;
 mod number;
 mod read;
 
-pub use error::ReadError;
+pub use error::SourceReadError;
 pub use laws::one_meaning;
 pub use read::read_source;

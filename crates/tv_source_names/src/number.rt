@@ -3,13 +3,15 @@
 ghost use Rattle.std.specs.Prelude.{◌≡◌, ◌<◌, ◌^◌, length};
 ghost use Rattle.tv_lex.specs.Token.{text_of};
 ghost use Rattle.tv_source.specs.Copies.{assign_of, test_of, stmt_of, block_of};
-ghost use Rattle.tv_source_syntax.specs.Copies.{assign_of as assign_text, test_of as test_text, statement_of as statement_text, block_of as block_text};
-ghost use Rattle.tv_source_names.specs.Meaning.{numbered, assign_meant, test_meant, statement_meant, block_meant};
+ghost use Rattle.tv_source_syntax.specs.Copies.{assign_of as assign_text, test_of as test_text};
+ghost use Rattle.tv_source_syntax.specs.Copies.{statement_of as statement_text, block_of as block_text};
+ghost use Rattle.tv_source_names.specs.Meaning.{numbered, assign_meant, test_meant, statement_meant};
+ghost use Rattle.tv_source_names.specs.Meaning.{block_meant};
 ghost use Rattle.tv_source_names.specs.Answers.{Answers, names_of};
 ghost use Rattle.tv_source_names.specs.Scopes.{variables_of, fields_of, HasFew};
 
 use crate::declare::{Declared, number_of};
-use crate::error::ReadError;
+use crate::error::SourceReadError;
 use std::alloc::Global;
 use tv_lex::{Token, text};
 use tv_source::{Assign, Block, FieldId, Statement, Test, VarId};
@@ -23,36 +25,39 @@ pub(crate) struct Scope<'s, 'a> {
     pub fields: &'s Declared<'a>,
 }
 
-fn number(names: &Declared<'_>, bytes: &[u8], token: &Token) -> Result<u32, ReadError>
+fn number(names: &Declared<'_>, bytes: &[u8], token: &Token) -> Result<u32, SourceReadError>
     requires { length names.now.keys < 2 ^ 32 }
     ensures { Answers (λ n. n) result (numbered (names_of names.now.keys) (text_of bytes.now token.now)) }
 {
     match number_of(names, text(bytes, token)) {
         Some(n) => Ok(n as u32),
-        None => Err(ReadError::NameUnknown),
+        None => Err(SourceReadError::NameUnknown),
     }
 }
 
-fn variable(scope: &Scope<'_, '_>, token: &Token) -> Result<VarId, ReadError>
+fn variable(scope: &Scope<'_, '_>, token: &Token) -> Result<VarId, SourceReadError>
     requires { HasFew scope.now }
-    ensures { Answers (λ x. x.0) result (numbered (variables_of scope.now) (text_of scope.now.bytes.now token.now)) }
+    ensures { Answers (λ x. x.0) result
+        (numbered (variables_of scope.now) (text_of scope.now.bytes.now token.now)) }
 {
     let found = number(scope.variables, scope.bytes, token)?;
     Ok(VarId(found))
 }
 
-fn field(scope: &Scope<'_, '_>, token: &Token) -> Result<FieldId, ReadError>
+fn field(scope: &Scope<'_, '_>, token: &Token) -> Result<FieldId, SourceReadError>
     requires { HasFew scope.now }
-    ensures { Answers (λ x. x.0) result (numbered (fields_of scope.now) (text_of scope.now.bytes.now token.now)) }
+    ensures { Answers (λ x. x.0) result
+        (numbered (fields_of scope.now) (text_of scope.now.bytes.now token.now)) }
 {
     let found = number(scope.fields, scope.bytes, token)?;
     Ok(FieldId(found))
 }
 
 #[tactic(auto, unfolding(crate::specs::Meaning::assign_meant))]
-fn assign(scope: &Scope<'_, '_>, tree: &AssignTree) -> Result<Assign, ReadError>
+fn assign(scope: &Scope<'_, '_>, tree: &AssignTree) -> Result<Assign, SourceReadError>
     requires { HasFew scope.now }
-    ensures { Answers assign_of result (assign_meant (variables_of scope.now) (fields_of scope.now) (assign_text scope.now.bytes.now tree.now)) }
+    ensures { Answers assign_of result (assign_meant (variables_of scope.now) (fields_of scope.now)
+        (assign_text scope.now.bytes.now tree.now)) }
 {
     match tree {
         AssignTree::Null(x) => Ok(Assign::Null(variable(scope, x)?)),
@@ -73,9 +78,10 @@ fn assign(scope: &Scope<'_, '_>, tree: &AssignTree) -> Result<Assign, ReadError>
 }
 
 #[tactic(auto, unfolding(crate::specs::Meaning::test_meant))]
-fn test(scope: &Scope<'_, '_>, tree: &TestTree) -> Result<Test, ReadError>
+fn test(scope: &Scope<'_, '_>, tree: &TestTree) -> Result<Test, SourceReadError>
     requires { HasFew scope.now }
-    ensures { Answers test_of result (test_meant (variables_of scope.now) (fields_of scope.now) (test_text scope.now.bytes.now tree.now)) }
+    ensures { Answers test_of result
+        (test_meant (variables_of scope.now) (fields_of scope.now) (test_text scope.now.bytes.now tree.now)) }
 {
     match tree {
         TestTree::Any => Ok(Test::Any),
@@ -93,9 +99,10 @@ fn statement(
     alloc: Global,
     scope: &Scope<'_, '_>,
     tree: &StatementTree,
-) -> Result<Statement, ReadError>
+) -> Result<Statement, SourceReadError>
     requires { HasFew scope.now }
-    ensures { Answers stmt_of result (statement_meant (variables_of scope.now) (fields_of scope.now) (statement_text scope.now.bytes.now tree.now)) }
+    ensures { Answers stmt_of result (statement_meant (variables_of scope.now) (fields_of scope.now)
+        (statement_text scope.now.bytes.now tree.now)) }
 {
     match tree {
         StatementTree::Assign(a) => Ok(Statement::Assign(assign(scope, a)?)),
@@ -120,9 +127,10 @@ pub(crate) fn block(
     alloc: Global,
     scope: &Scope<'_, '_>,
     tree: &BlockTree,
-) -> Result<Block, ReadError>
+) -> Result<Block, SourceReadError>
     requires { HasFew scope.now }
-    ensures { Answers block_of result (block_meant (variables_of scope.now) (fields_of scope.now) (block_text scope.now.bytes.now tree.now)) }
+    ensures { Answers block_of result (block_meant (variables_of scope.now) (fields_of scope.now)
+        (block_text scope.now.bytes.now tree.now)) }
 {
     let mut items = Vec::new(alloc);
     for one in &tree.items {

@@ -1,5 +1,6 @@
 -- What the grammar says is read, and takes tokens.
-use Rattle.std.proofs.Common.{◌≡◌, ℕ, zero, suc, ◌+◌, ◌<◌, ◌≤◌, List, [], ◌∷◌, Bool, true, false, length, Some, None, refl, sym, ◌∙◌, ap, subst, inl, inr, arith}
+use Rattle.std.proofs.Common.{◌≡◌, ℕ, zero, suc, ◌+◌, ◌<◌, ◌≤◌, List, [], ◌∷◌, Bool, true, false, length}
+use Rattle.std.proofs.Common.{Some, None, refl, sym, ◌∙◌, ap, subst, inl, inr, arith}
 use Rattle.std.specs.Prelude.{◌==◌, ◌&&◌, codes, if◌then◌else◌}
 use Rattle.std.specs.Str.{bytes_eq}
 use Rattle.std.proofs.lemmas.Slice.Eq.{bytes_eq-Decides}
@@ -12,10 +13,17 @@ use Rattle.tv_phrases.proofs.Takes.{after_takes, first_takes}
 use Rattle.tv_phrases.proofs.Facts.{other_mark, not_identifier}
 use Rattle.tv_phrases.proofs.Repeats.{IsRead, joined_read, one_of}
 use Rattle.tv_source_syntax.specs.Copies.{in_a_row}
-use Rattle.tv_source_syntax.specs.Forms.{AssignText, XNull, XNew, XCopy, XLoad, XStore, XClear, XAny, XIsNull, XSame, StatementText, XAssign, XIf, XWhile, BlockText, no_statement, with_statement, SourceText}
+use Rattle.tv_source_syntax.specs.Forms.{AssignText, XNull, XNew, XCopy, XLoad, XStore, XClear, XAny, XIsNull}
+use Rattle.tv_source_syntax.specs.Forms.{XSame, StatementText, XAssign, XIf, XWhile, BlockText, no_statement}
+use Rattle.tv_source_syntax.specs.Forms.{with_statement, SourceText}
 use Rattle.tv_source_syntax.specs.Words.{is_own_word, name_at}
-use Rattle.tv_source_syntax.specs.Grammar.{Begins, IsName, AreNames, IsAssign, relation_mark, IsTest, IsTestIn, InBraces, BehindElse, IsStatement, AreStatements, HasStatement, IsSource}
-use Rattle.tv_source_syntax.specs.Reading.{names_in, loaded_at, copied_at, value_at, stored_at, store_at, assign_behind, assign_at, relation_at, compared_at, compare_at, test_at, test_in, BlockReader, lone_at, block_at, else_at, if_at, while_at, closed_at, statement_at, statements, body_at, source_at}
+use Rattle.tv_source_syntax.specs.Grammar.{Begins, IsName, AreNames, IsAssign, relation_mark, IsTest}
+use Rattle.tv_source_syntax.specs.Grammar.{IsTestIn, InBraces, BehindElse, IsStatement, AreStatements}
+use Rattle.tv_source_syntax.specs.Grammar.{HasStatement, IsSource}
+use Rattle.tv_source_syntax.specs.Reading.{names_in, loaded_at, copied_at, value_at, stored_at, store_at}
+use Rattle.tv_source_syntax.specs.Reading.{assign_behind, assign_at, relation_at, compared_at, compare_at}
+use Rattle.tv_source_syntax.specs.Reading.{test_at, test_in, BlockReader, lone_at, block_at, else_at, if_at}
+use Rattle.tv_source_syntax.specs.Reading.{while_at, closed_at, statement_at, statements, body_at, source_at}
 
 -- ---- names
 

@@ -1,5 +1,6 @@
 -- The declared names: they are spelled as identifiers are, and there are no more than tokens.
-use Rattle.std.proofs.Common.{◌≡◌, ℕ, ◌+◌, ◌≤◌, List, [], ◌∷◌, ◌++◌, true, length, Some, None, subst, sym, arith}
+use Rattle.std.proofs.Common.{◌≡◌, ℕ, ◌+◌, ◌≤◌, List, [], ◌∷◌, ◌++◌, true, length, Some, None, subst, sym}
+use Rattle.std.proofs.Common.{arith}
 use Rattle.std.specs.Prelude.{codes, ◌&&◌, IfSome, All}
 use Rattle.std.specs.Str.{bytes_eq}
 use Rattle.std.proofs.lemmas.Bool.{and_parts}
@@ -19,24 +20,14 @@ use Rattle.tv_phrases.proofs.WordTests.{identifier_is}
 use Rattle.tv_source_syntax.specs.Forms.{SourceText}
 use Rattle.tv_source_syntax.specs.Grammar.{IsName, AreNames, IsSource}
 use Rattle.tv_source_syntax.proofs.Complete.{name_parts, name_takes}
+use Rattle.tv_phrases.proofs.LeftTokens.{Tokens, run_of, after_leaves}
 
 -- ---- how they are spelled
-
-run_of : (k : TokenKind) (b : List ℕ) → Stands (Some k) b [] → is_word k ≡ true → IsRunOf is_word_byte b
-run_of kind.Word b s e = s
-run_of kind.Half b s e = absurd cc
-run_of kind.Text b s e = absurd cc
-run_of kind.Directive b s e = absurd cc
-run_of kind.Parts b s e = absurd cc
-run_of kind.Punct b s e = absurd cc
 
 says_identifier : (t : SpecToken) → IsToken t → IfSome (identifier_item t) IsIdentifier
 says_identifier t is =
     on_if (is_word t.kind && is_identifier t.bytes) (Some t.bytes) None IsIdentifier
     (λ e. let both = and_parts (is_word t.kind) (is_identifier t.bytes) e in identifier_is t.bytes (run_of t.kind t.bytes is both.0) both.1) (λ e. tt)
-
-abbrev Tokens : List SpecToken → Type 0
-Tokens ts = All IsToken ts
 
 first_leaves : (ts : List SpecToken) → Tokens ts → IfSome (first identifier_item ts) (λ x. IsIdentifier x.0 × Tokens x.1)
 unfolding first
@@ -46,21 +37,13 @@ first_leaves (t ∷ ts) are = on_read (identifier_item t) _ IsIdentifier _ (says
 name_spelled : (ts us : List SpecToken) (x : List ℕ) → Tokens ts → IsName ts x us → IsIdentifier x × Tokens us
 name_spelled ts us x are is = at_some (first identifier_item ts) (λ y. IsIdentifier y.0 × Tokens y.1) (x, us) (first_leaves ts are) (name_parts ts us x is).0
 
-after_leaves : (m : List ℕ) (ts : List SpecToken) → Tokens ts → IfSome (after m ts) Tokens
-unfolding after
-after_leaves m [] are = tt
-after_leaves m (t ∷ ts) are = on_if (bytes_eq t.bytes m) (Some ts) None Tokens (λ e. All-tail IsToken t ts are) (λ e. tt)
-
-after_spelled : (m : List ℕ) (ts us : List SpecToken) → after m ts ≡ Some us → Tokens ts → Tokens us
-after_spelled m ts us is are = at_some (after m ts) Tokens us (after_leaves m ts are) is
-
 abbrev MoreNames : List SpecToken → List (List ℕ) → List SpecToken → Type 0
 MoreNames ts xs rest = Repeated (begins_with (codes ",")) (Behind (codes ",") IsName) ts xs rest
 
 more_spelled : (xs : List (List ℕ)) (ts rest : List SpecToken) → MoreNames ts xs rest → Tokens ts → All IsIdentifier xs × Tokens rest
 more_spelled [] ts rest h are = (All-nil IsIdentifier, subst Tokens (sym h.1) are)
 more_spelled (x ∷ xs) ts rest h are =
-    let one = name_spelled h.2.0 h.0 x (after_spelled (codes ",") ts h.2.0 h.2.1 are) h.2.2 in
+    let one = name_spelled h.2.0 h.0 x (after_leaves (codes ",") ts h.2.0 h.2.1 are) h.2.2 in
     let others = more_spelled xs h.0 rest h.3 one.1 in
     (All-cons IsIdentifier x xs one.0 others.0, others.1)
 
@@ -73,9 +56,9 @@ joined_spelled (x ∷ xs) ts rest h are =
 
 names_spelled : (word : List ℕ) (xs : List (List ℕ)) (ts rest : List SpecToken) → AreNames word ts xs rest → Tokens ts → All IsIdentifier xs × Tokens rest
 names_spelled word xs ts rest h are =
-    let inside = after_spelled (codes "{") h.0 h.1 h.4 (after_spelled word ts h.0 h.3 are) in
+    let inside = after_leaves (codes "{") h.0 h.1 h.4 (after_leaves word ts h.0 h.3 are) in
     let names = joined_spelled xs h.1 h.2 h.5 inside in
-    (names.0, after_spelled (codes "}") h.2 rest h.6 names.1)
+    (names.0, after_leaves (codes "}") h.2 rest h.6 names.1)
 
 pub source_spelled : (ts : List SpecToken) (s : SourceText) → IsSource ts s → Tokens ts → All IsIdentifier (s.variables ++ s.fields)
 source_spelled ts s h are =

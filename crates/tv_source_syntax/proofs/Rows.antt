@@ -1,10 +1,12 @@
 -- Statements in a row, as the loop reads them.
-use Rattle.std.proofs.Common.{◌≡◌, ℕ, zero, suc, List, [], ◌∷◌, ◌++◌, true, false, map, Some, None, refl, sym, ◌∙◌, ap}
+use Rattle.std.proofs.Common.{◌≡◌, ℕ, zero, suc, List, [], ◌∷◌, ◌++◌, true, false, map, Some, None, refl, sym}
+use Rattle.std.proofs.Common.{◌∙◌, ap}
 use Rattle.tv_lex.specs.Token.{SpecToken}
 use Rattle.tv_phrases.specs.Reading.{taken, ◌>>=◌}
 use Rattle.tv_phrases.specs.Lists.{with_front}
 use Rattle.tv_phrases.specs.Repeated.{below, turn}
-use Rattle.tv_phrases.proofs.Repeats.{front_none, front_end, front_start, pushed, turn_more, turn_end, turn_break}
+use Rattle.tv_phrases.proofs.Repeats.{front_none, front_end, front_start, pushed, turn_more, turn_end}
+use Rattle.tv_phrases.proofs.Repeats.{turn_break}
 use Rattle.tv_source_syntax.specs.Forms.{StatementText}
 use Rattle.tv_source_syntax.specs.Reading.{begins_statement, statement_at, statements}
 

@@ -1,5 +1,6 @@
 -- What is read is what the grammar says.
-use Rattle.std.proofs.Common.{◌≡◌, ℕ, zero, suc, ◌+◌, List, [], ◌∷◌, Bool, true, false, length, Some, None, refl, subst, inl, inr}
+use Rattle.std.proofs.Common.{◌≡◌, ℕ, zero, suc, ◌+◌, List, [], ◌∷◌, Bool, true, false, length, Some, None}
+use Rattle.std.proofs.Common.{refl, subst, inl, inr}
 use Rattle.std.specs.Prelude.{◌==◌, codes, if◌then◌else◌}
 use Rattle.std.proofs.lemmas.Bool.{eqb-true}
 use Rattle.std.proofs.lemmas.Option.{same_Some}
@@ -10,10 +11,18 @@ use Rattle.tv_phrases.specs.Repeated.{turn, with_first}
 use Rattle.tv_phrases.proofs.Values.{bind_some, chosen, tested}
 use Rattle.tv_phrases.proofs.Repeats.{held, first_sound, joined_sound}
 use Rattle.tv_source_syntax.specs.Copies.{in_a_row}
-use Rattle.tv_source_syntax.specs.Forms.{AssignText, XNull, XNew, XCopy, XLoad, XStore, XClear, TestText, XAny, XIsNull, XSame, StatementText, XAssign, XIf, XWhile, BlockText, SourceText}
+use Rattle.tv_source_syntax.specs.Forms.{AssignText, XNull, XNew, XCopy, XLoad, XStore, XClear, TestText}
+use Rattle.tv_source_syntax.specs.Forms.{XAny, XIsNull, XSame, StatementText, XAssign, XIf, XWhile, BlockText}
+use Rattle.tv_source_syntax.specs.Forms.{SourceText}
 use Rattle.tv_source_syntax.specs.Words.{name_at}
-use Rattle.tv_source_syntax.specs.Grammar.{Begins, IsName, AreNames, IsAssign, relation_mark, IsTest, IsTestIn, begins_statement, InBraces, BehindElse, IsStatement, AreStatements, HasStatement, IsSource}
-use Rattle.tv_source_syntax.specs.Reading.{names_at, names_in, loaded_at, copied_at, value_at, stored_at, store_at, assign_behind, assign_at, relation_at, compared_at, compare_at, test_at, test_in, BlockReader, lone_at, block_at, else_at, if_at, while_at, closed_at, statement_at, statements, body_at, source_at}
+use Rattle.tv_source_syntax.specs.Grammar.{Begins, IsName, AreNames, IsAssign, relation_mark, IsTest}
+use Rattle.tv_source_syntax.specs.Grammar.{IsTestIn, begins_statement, InBraces, BehindElse, IsStatement}
+use Rattle.tv_source_syntax.specs.Grammar.{AreStatements, HasStatement, IsSource}
+use Rattle.tv_source_syntax.specs.Reading.{names_at, names_in, loaded_at, copied_at, value_at, stored_at}
+use Rattle.tv_source_syntax.specs.Reading.{store_at, assign_behind, assign_at, relation_at, compared_at}
+use Rattle.tv_source_syntax.specs.Reading.{compare_at, test_at, test_in, BlockReader, lone_at, block_at}
+use Rattle.tv_source_syntax.specs.Reading.{else_at, if_at, while_at, closed_at, statement_at, statements}
+use Rattle.tv_source_syntax.specs.Reading.{body_at, source_at}
 
 -- ---- declared names
 

@@ -1,12 +1,14 @@
 -- What the plain data of each statement is.
 use Rattle.std.proofs.Common.{◌≡◌, ℕ, List, map, sym, ◌∙◌, ap}
 use Rattle.tv_source_syntax.specs.Forms.{StatementText, XAssign, XIf, XWhile, BlockText}
-use Rattle.tv_source_syntax.specs.Copies.{assign_of, test_of, in_a_row, statement_step, block_step, statement_of, block_of}
+use Rattle.tv_source_syntax.specs.Copies.{assign_of, test_of, in_a_row, statement_step, block_step}
+use Rattle.tv_source_syntax.specs.Copies.{statement_of, block_of}
 use Rattle.tv_source_syntax.specs.declared.tree.AssignTree.{AssignTree}
 use Rattle.tv_source_syntax.specs.declared.tree.TestTree.{TestTree}
 use Rattle.tv_source_syntax.specs.declared.tree.StatementTree.TheVariants as at
 use Rattle.tv_source_syntax.specs.declared.tree.StatementTree.TheOpen as one
-use Rattle.tv_source_syntax.specs.declared.tree.StatementTree.TheFolds.{fold-roll-StatementTree, fold_out-BlockTree}
+use Rattle.tv_source_syntax.specs.declared.tree.StatementTree.TheFolds.{fold-roll-StatementTree}
+use Rattle.tv_source_syntax.specs.declared.tree.StatementTree.TheFolds.{fold_out-BlockTree}
 use Rattle.tv_source_syntax.specs.declared.tree.BlockTree.{BlockTree}
 
 pub statement_of_assign : (bytes : List ℕ) (a : AssignTree) → statement_of bytes (at.Assign a) ≡ XAssign (assign_of bytes a)

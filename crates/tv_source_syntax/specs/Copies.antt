@@ -1,7 +1,9 @@
 -- The plain data that each tree of the code stands for. The names are spelled in these bytes.
 use Rattle.std.specs.Prelude.{ℕ, List, [], ◌∷◌, map}
 use Rattle.tv_lex.specs.Token.{text_of}
-use Rattle.tv_source_syntax.specs.Forms.{AssignText, XNull, XNew, XCopy, XLoad, XStore, XClear, TestText, XAny, XIsNull, XSame, StatementText, XAssign, XIf, XWhile, BlockText, no_statement, with_statement, SourceText}
+use Rattle.tv_source_syntax.specs.Forms.{AssignText, XNull, XNew, XCopy, XLoad, XStore, XClear, TestText}
+use Rattle.tv_source_syntax.specs.Forms.{XAny, XIsNull, XSame, StatementText, XAssign, XIf, XWhile, BlockText}
+use Rattle.tv_source_syntax.specs.Forms.{no_statement, with_statement, SourceText}
 use Rattle.tv_source_syntax.specs.declared.tree.AssignTree.{AssignTree}
 use Rattle.tv_source_syntax.specs.declared.tree.AssignTree.TheVariants as assign
 use Rattle.tv_source_syntax.specs.declared.tree.TestTree.{TestTree}
@@ -45,4 +47,9 @@ abbrev pub block_of : List ℕ → BlockTree → BlockText
 block_of bytes = fold-BlockTree StatementText BlockText (statement_step bytes) block_step
 
 abbrev pub source_of : List ℕ → SourceTree → SourceText
-source_of bytes t = record { variables = map (text_of bytes) t.variables; fields = map (text_of bytes) t.fields; body = block_of bytes t.body }
+source_of bytes t =
+    record {
+      variables = map (text_of bytes) t.variables;
+      fields = map (text_of bytes) t.fields;
+      body = block_of bytes t.body;
+    }

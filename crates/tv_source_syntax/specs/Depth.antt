@@ -1,6 +1,7 @@
--- How many parentheses and braces are open at once. One that closes closes the last one that is open, of either kind, if
--- there is one.
-use Rattle.std.specs.Prelude.{ℕ, ◌+◌, ◌-◌, List, [], ◌∷◌, Bool, false, ◌||◌, nat_lt, codes, if◌then◌else◌, IsTrue}
+-- How many parentheses and braces are open at once. One that closes closes the last one that is open, of
+-- either kind, if there is one.
+use Rattle.std.specs.Prelude.{ℕ, ◌+◌, ◌-◌, List, [], ◌∷◌, Bool, false, ◌||◌, nat_lt, codes, if◌then◌else◌}
+use Rattle.std.specs.Prelude.{IsTrue}
 use Rattle.std.specs.Str.{bytes_eq}
 use Rattle.tv_lex.specs.Token.{SpecToken}
 

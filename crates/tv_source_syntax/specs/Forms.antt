@@ -1,5 +1,5 @@
--- The trees of source programs as plain data: what clauses compare, where a tree of the code holds vectors. A name is its
--- spelling, and names stand in the order of the text.
+-- The trees of source programs as plain data: what clauses compare, where a tree of the code holds vectors. A
+-- name is its spelling, and names stand in the order of the text.
 use Rattle.std.specs.Prelude.{ℕ, List, Bool}
 
 -- an assignment

@@ -4,4 +4,3 @@ pub mod Depth
 pub mod Words
 pub mod Grammar
 pub mod Reading
-pub mod Outcome

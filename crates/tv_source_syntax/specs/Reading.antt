@@ -1,19 +1,22 @@
--- How source programs are read, as functions on lists of tokens, with bounds on the turns and the depth. That they read
--- the grammar is proved.
-use Rattle.std.specs.Prelude.{ℕ, zero, suc, ◌+◌, ◌==◌, List, [], Bool, true, false, length, Option, Some, None, if◌then◌else◌, codes}
+-- How source programs are read, as functions on lists of tokens, with bounds on the turns and the depth. That
+-- they read the grammar is proved.
+use Rattle.std.specs.Prelude.{ℕ, zero, suc, ◌+◌, ◌==◌, List, [], Bool, true, false, length, Option, Some}
+use Rattle.std.specs.Prelude.{None, if◌then◌else◌, codes}
 use Rattle.tv_lex.specs.Token.{SpecToken}
 use Rattle.tv_phrases.specs.Reading.{Reading, taken, ◌>>=◌, choose}
 use Rattle.tv_phrases.specs.Tokens.{after}
-use Rattle.tv_phrases.specs.Repeated.{turn, joined}
+use Rattle.tv_phrases.specs.Repeated.{turn, separated}
 use Rattle.tv_source_syntax.specs.Copies.{in_a_row}
-use Rattle.tv_source_syntax.specs.Forms.{AssignText, XNull, XNew, XCopy, XLoad, XStore, XClear, TestText, XAny, XIsNull, XSame, StatementText, XAssign, XIf, XWhile, SourceText}
+use Rattle.tv_source_syntax.specs.Forms.{AssignText, XNull, XNew, XCopy, XLoad, XStore, XClear, TestText}
+use Rattle.tv_source_syntax.specs.Forms.{XAny, XIsNull, XSame, StatementText, XAssign, XIf, XWhile}
+use Rattle.tv_source_syntax.specs.Forms.{SourceText}
 use Rattle.tv_source_syntax.specs.Words.{name_at}
 pub use Rattle.tv_source_syntax.specs.Grammar.{begins_statement}
 
 -- ---- declared names
 
 abbrev pub names_at : List SpecToken → Reading (List (List ℕ))
-names_at ts = joined (codes ",") name_at ts
+names_at ts = separated (codes ",") name_at ts
 
 unfoldable pub names_in : List ℕ → List SpecToken → Reading (List (List ℕ))
 names_in word ts = do
@@ -29,19 +32,24 @@ unfoldable pub loaded_at : List ℕ → List ℕ → List SpecToken → Reading 
 loaded_at x y ts = name_at ts >>= λ f. taken (XLoad x y f.0) f.1
 
 unfoldable pub copied_at : List ℕ → List SpecToken → Reading AssignText
-copied_at x ts = name_at ts >>= λ y. choose (after (codes "->") y.1) (taken (XCopy x y.0) y.1) (loaded_at x y.0)
+copied_at x ts =
+    name_at ts >>= λ y. choose (after (codes "->") y.1) (taken (XCopy x y.0) y.1) (loaded_at x y.0)
 
 unfoldable pub value_at : List ℕ → List SpecToken → Reading AssignText
-value_at x ts = choose (after (codes "null") ts) (choose (after (codes "new") ts) (copied_at x ts) (taken (XNew x))) (taken (XNull x))
+value_at x ts =
+    choose (after (codes "null") ts) (choose (after (codes "new") ts) (copied_at x ts) (taken (XNew x)))
+    (taken (XNull x))
 
 unfoldable pub stored_at : List ℕ → List ℕ → List SpecToken → Reading AssignText
-stored_at x f ts = choose (after (codes "null") ts) (name_at ts >>= λ y. taken (XStore x f y.0) y.1) (taken (XClear x f))
+stored_at x f ts =
+    choose (after (codes "null") ts) (name_at ts >>= λ y. taken (XStore x f y.0) y.1) (taken (XClear x f))
 
 unfoldable pub store_at : List ℕ → List SpecToken → Reading AssignText
 store_at x ts = name_at ts >>= λ f. after (codes "=") f.1 >>= λ us. stored_at x f.0 us
 
 unfoldable pub assign_behind : List ℕ → List SpecToken → Reading AssignText
-assign_behind x ts = choose (after (codes "->") ts) (after (codes "=") ts >>= λ us. value_at x us) (store_at x)
+assign_behind x ts =
+    choose (after (codes "->") ts) (after (codes "=") ts >>= λ us. value_at x us) (store_at x)
 
 unfoldable pub assign_at : List SpecToken → Reading AssignText
 assign_at ts = name_at ts >>= λ x. assign_behind x.0 x.1
@@ -52,7 +60,9 @@ unfoldable pub relation_at : List SpecToken → Reading Bool
 relation_at ts = choose (after (codes "==") ts) (after (codes "!=") ts >>= λ us. taken false us) (taken true)
 
 unfoldable pub compared_at : Bool → List ℕ → List SpecToken → Reading TestText
-compared_at equal x ts = choose (after (codes "null") ts) (name_at ts >>= λ y. taken (XSame equal x y.0) y.1) (taken (XIsNull equal x))
+compared_at equal x ts =
+    choose (after (codes "null") ts) (name_at ts >>= λ y. taken (XSame equal x y.0) y.1)
+    (taken (XIsNull equal x))
 
 unfoldable pub compare_at : List SpecToken → Reading TestText
 compare_at ts = name_at ts >>= λ x. relation_at x.1 >>= λ equal. compared_at equal.0 x.0 equal.1
@@ -110,7 +120,9 @@ statements (suc n) ts = turn begins_statement (statement_at (statements n)) (sta
 
 -- one statement or more, up to the end
 unfoldable pub body_at : List SpecToken → Option (List StatementText)
-body_at ts = statements (length ts + 1) ts >>= λ body. if length body.0 == 0 then None else (if length body.1 == 0 then Some body.0 else None)
+body_at ts =
+    statements (length ts + 1) ts >>= λ body. if length body.0 == 0 then None
+    else (if length body.1 == 0 then Some body.0 else None)
 
 unfoldable pub source_at : List SpecToken → Option SourceText
 source_at ts = do

@@ -7,7 +7,8 @@ use Rattle.tv_phrases.specs.Tokens.{first, identifier_item}
 
 abbrev pub is_own_word : List ℕ → Bool
 is_own_word w =
-    bytes_eq w (codes "vars") || bytes_eq w (codes "fields") || bytes_eq w (codes "null") || bytes_eq w (codes "new")
+    bytes_eq w (codes "vars") || bytes_eq w (codes "fields") || bytes_eq w (codes "null")
+    || bytes_eq w (codes "new")
     || bytes_eq w (codes "if") || bytes_eq w (codes "else") || bytes_eq w (codes "while")
 
 -- a name, and the tokens behind it

@@ -4,19 +4,17 @@ ghost use Rattle.std.specs.Prelude.{◌≡◌};
 ghost use Rattle.tv_lex.specs.Token.{text_of, spec_tokens};
 ghost use Rattle.tv_phrases.specs.Reading.{Takes};
 ghost use Rattle.tv_source_syntax.specs.Copies.{assign_of};
-ghost use Rattle.tv_source_syntax.specs.Reading.{loaded_at, copied_at, value_at, stored_at, store_at, assign_behind, assign_at};
+ghost use Rattle.tv_source_syntax.specs.Reading.{loaded_at, copied_at, value_at, stored_at, store_at};
+ghost use Rattle.tv_source_syntax.specs.Reading.{assign_behind, assign_at};
 
 use crate::tree::AssignTree;
 use crate::words::name;
 use tv_lex::Token;
-use tv_phrases::{PhraseError, after, expect};
-
-/// An assignment and the tokens behind it, or why it isn't there.
-type Read<'a> = Result<(AssignTree, &'a [Token]), PhraseError<'a>>;
+use tv_phrases::{Read, after, expect};
 
 // Behind `x = y ->`.
 #[tactic(auto, unfolding(crate::specs::Reading::loaded_at))]
-fn loaded<'a>(bytes: &[u8], tokens: &'a [Token], to: Token, from: Token) -> Read<'a>
+fn loaded<'a>(bytes: &[u8], tokens: &'a [Token], to: Token, from: Token) -> Read<'a, AssignTree>
     ensures { Takes (λ x. (assign_of bytes.now x.0, spec_tokens bytes.now x.1.now)) result
         (loaded_at (text_of bytes.now to) (text_of bytes.now from) (spec_tokens bytes.now tokens.now)) }
 {
@@ -26,7 +24,7 @@ fn loaded<'a>(bytes: &[u8], tokens: &'a [Token], to: Token, from: Token) -> Read
 
 // Behind `x =`, where neither `null` nor `new` stands.
 #[tactic(auto, unfolding(crate::specs::Reading::copied_at))]
-fn copied<'a>(bytes: &[u8], tokens: &'a [Token], to: Token) -> Read<'a>
+fn copied<'a>(bytes: &[u8], tokens: &'a [Token], to: Token) -> Read<'a, AssignTree>
     ensures { Takes (λ x. (assign_of bytes.now x.0, spec_tokens bytes.now x.1.now)) result
         (copied_at (text_of bytes.now to) (spec_tokens bytes.now tokens.now)) }
 {
@@ -39,7 +37,7 @@ fn copied<'a>(bytes: &[u8], tokens: &'a [Token], to: Token) -> Read<'a>
 
 // Behind `x =`.
 #[tactic(auto, unfolding(crate::specs::Reading::value_at))]
-fn value<'a>(bytes: &[u8], tokens: &'a [Token], to: Token) -> Read<'a>
+fn value<'a>(bytes: &[u8], tokens: &'a [Token], to: Token) -> Read<'a, AssignTree>
     ensures { Takes (λ x. (assign_of bytes.now x.0, spec_tokens bytes.now x.1.now)) result
         (value_at (text_of bytes.now to) (spec_tokens bytes.now tokens.now)) }
 {
@@ -54,7 +52,7 @@ fn value<'a>(bytes: &[u8], tokens: &'a [Token], to: Token) -> Read<'a>
 
 // Behind `x->f =`.
 #[tactic(auto, unfolding(crate::specs::Reading::stored_at))]
-fn stored<'a>(bytes: &[u8], tokens: &'a [Token], at: Token, field: Token) -> Read<'a>
+fn stored<'a>(bytes: &[u8], tokens: &'a [Token], at: Token, field: Token) -> Read<'a, AssignTree>
     ensures { Takes (λ x. (assign_of bytes.now x.0, spec_tokens bytes.now x.1.now)) result
         (stored_at (text_of bytes.now at) (text_of bytes.now field) (spec_tokens bytes.now tokens.now)) }
 {
@@ -67,7 +65,7 @@ fn stored<'a>(bytes: &[u8], tokens: &'a [Token], at: Token, field: Token) -> Rea
 
 // Behind `x ->`.
 #[tactic(auto, unfolding(crate::specs::Reading::store_at))]
-fn store<'a>(bytes: &[u8], tokens: &'a [Token], at: Token) -> Read<'a>
+fn store<'a>(bytes: &[u8], tokens: &'a [Token], at: Token) -> Read<'a, AssignTree>
     ensures { Takes (λ x. (assign_of bytes.now x.0, spec_tokens bytes.now x.1.now)) result
         (store_at (text_of bytes.now at) (spec_tokens bytes.now tokens.now)) }
 {
@@ -78,7 +76,7 @@ fn store<'a>(bytes: &[u8], tokens: &'a [Token], at: Token) -> Read<'a>
 
 // Behind the first name.
 #[tactic(auto, unfolding(crate::specs::Reading::assign_behind))]
-fn behind_name<'a>(bytes: &[u8], tokens: &'a [Token], first: Token) -> Read<'a>
+fn behind_name<'a>(bytes: &[u8], tokens: &'a [Token], first: Token) -> Read<'a, AssignTree>
     ensures { Takes (λ x. (assign_of bytes.now x.0, spec_tokens bytes.now x.1.now)) result
         (assign_behind (text_of bytes.now first) (spec_tokens bytes.now tokens.now)) }
 {
@@ -91,7 +89,7 @@ fn behind_name<'a>(bytes: &[u8], tokens: &'a [Token], first: Token) -> Read<'a>
 
 /// An assignment, and the tokens behind it.
 #[tactic(auto, unfolding(crate::specs::Reading::assign_at))]
-pub fn assign<'a>(bytes: &[u8], tokens: &'a [Token]) -> Read<'a>
+pub fn assign<'a>(bytes: &[u8], tokens: &'a [Token]) -> Read<'a, AssignTree>
     ensures { Takes (λ x. (assign_of bytes.now x.0, spec_tokens bytes.now x.1.now)) result
         (assign_at (spec_tokens bytes.now tokens.now)) }
 {

@@ -3,7 +3,6 @@
 
 mod assign;
 mod depth;
-mod error;
 mod laws;
 mod source;
 mod statements;
@@ -11,7 +10,6 @@ mod test;
 mod tree;
 mod words;
 
-pub use error::SyntaxError;
 pub use laws::{one_source, one_statement};
 pub use source::parse_source;
 pub use tree::{AssignTree, BlockTree, NameTokens, SourceTree, StatementTree, TestTree};

@@ -1,29 +1,30 @@
 //! Whole source programs.
 
-ghost use Rattle.std.specs.Prelude.{◌≡◌, ◌≤◌, length, map, Ok, IfOk, IfErr};
+ghost use Rattle.std.specs.Prelude.{◌≤◌, length, map, Ok, IfOk, IfErr};
+ghost use Rattle.tv_lex.specs.Places.{StopsAtToken};
 ghost use Rattle.tv_lex.specs.Bytes.{longest_text};
 ghost use Rattle.tv_lex.specs.Token.{spec_tokens};
 ghost use Rattle.tv_lex.specs.Pieces.{Reads};
-ghost use Rattle.tv_phrases.specs.Reading.{Gives};
+ghost use Rattle.tv_phrases.specs.Refused.{HaveNoTree, syntax_place};
+ghost use Rattle.tv_phrases.specs.Reading.{GivesReading};
 ghost use Rattle.tv_source_syntax.specs.Copies.{source_of, statement_of};
 ghost use Rattle.tv_source_syntax.specs.Depth.{IsTooDeep};
 ghost use Rattle.tv_source_syntax.specs.Grammar.{IsSource};
-ghost use Rattle.tv_source_syntax.specs.Outcome.{Cause, StopsAtToken};
 ghost use Rattle.tv_source_syntax.specs.Reading.{source_at, body_at};
 
 use crate::depth::is_too_deep;
-use crate::error::SyntaxError;
 use crate::statements::statements;
 use crate::tree::{BlockTree, SourceTree};
 use crate::words::names_in;
 use std::alloc::Global;
 use tv_lex::{Token, Tokens, stop_place};
-use tv_phrases::PhraseError;
+use tv_phrases::{PhraseError, SyntaxError};
 
 // One statement or more, up to the end.
 #[tactic(auto, unfolding(crate::specs::Reading::body_at))]
 fn body<'a>(alloc: Global, bytes: &[u8], tokens: &'a [Token]) -> Result<BlockTree, PhraseError<'a>>
-    ensures { Gives (λ x. map (statement_of bytes.now) x.items.items) result (body_at (spec_tokens bytes.now tokens.now)) }
+    ensures { GivesReading (λ x. map (statement_of bytes.now) x.items.items) result
+        (body_at (spec_tokens bytes.now tokens.now)) }
 {
     let (body, rest) = statements(alloc, bytes, tokens.len() + 1, tokens)?;
     if body.items.is_empty() || !rest.is_empty() {
@@ -38,7 +39,7 @@ fn source<'a>(
     bytes: &[u8],
     tokens: &'a [Token],
 ) -> Result<SourceTree, PhraseError<'a>>
-    ensures { Gives (source_of bytes.now) result (source_at (spec_tokens bytes.now tokens.now)) }
+    ensures { GivesReading (source_of bytes.now) result (source_at (spec_tokens bytes.now tokens.now)) }
 {
     let (variables, next) = names_in(alloc, bytes, tokens, b"vars")?;
     let (fields, behind) = names_in(alloc, bytes, next, b"fields")?;
@@ -50,9 +51,9 @@ fn source<'a>(
     })
 }
 
-/// The tree of a source program's tokens, which are those of `bytes`. Over 200 parentheses and braces that are open at
-/// one place are refused first. The place of a refusal is that of the first token that no continuation of the grammar
-/// allows, or of the end of the text. Calls nest as deep as braces are open.
+/// The tree of a source program's tokens, which are those of `bytes`. Over 200 parentheses and braces that
+/// are open at one place are refused first. The place of a refusal is that of the first token that no
+/// continuation of the grammar allows, or of the end of the text. Calls nest as deep as braces are open.
 ///
 /// # Errors
 /// `TooDeep`; `Syntax` where the tokens aren't of the grammar; `Memory` where there was none for the tree.
@@ -60,10 +61,12 @@ fn source<'a>(
 pub fn parse_source(alloc: Global, bytes: &[u8], tokens: &Tokens) -> Result<SourceTree, SyntaxError>
     requires size { length bytes.now ≤ longest_text }
     requires read { Reads bytes.now (Ok tokens.now.list.items) }
-    ensures tree { IfOk result (λ t. IsSource (spec_tokens bytes.now tokens.now.list.items) (source_of bytes.now t)) }
+    ensures tree { IfOk result
+        (λ t. IsSource (spec_tokens bytes.now tokens.now.list.items) (source_of bytes.now t)) }
     ensures low { IfOk result (λ t. ¬ IsTooDeep (spec_tokens bytes.now tokens.now.list.items)) }
-    ensures fault { IfErr result (Cause (spec_tokens bytes.now tokens.now.list.items)) }
-    ensures place { IfErr result (StopsAtToken bytes.now tokens.now.list.items) }
+    ensures fault { IfErr result
+        (HaveNoTree IsTooDeep IsSource (spec_tokens bytes.now tokens.now.list.items)) }
+    ensures place { IfErr result (StopsAtToken syntax_place bytes.now tokens.now.list.items) }
 {
     if is_too_deep(bytes, &tokens.list) {
         return Err(SyntaxError::TooDeep);

@@ -1,22 +1,20 @@
-//! Statements, read off the front of tokens. Blocks are gone down into, and statements in a row are a loop. So calls nest
-//! as deep as braces are open.
+//! Statements, read off the front of tokens. Blocks are gone down into, and statements in a row are a loop.
+//! So calls nest as deep as braces are open.
 
 ghost use Rattle.std.specs.Prelude.{◌≡◌, map};
 ghost use Rattle.tv_lex.specs.Token.{spec_tokens};
-ghost use Rattle.tv_phrases.specs.Reading.{Gives};
+ghost use Rattle.tv_phrases.specs.Reading.{GivesReading};
 ghost use Rattle.tv_source_syntax.specs.Copies.{statement_of};
-ghost use Rattle.tv_source_syntax.specs.Reading.{begins_statement, lone_at, block_at, else_at, if_at, while_at, closed_at, statement_at, statements};
+ghost use Rattle.tv_source_syntax.specs.Reading.{begins_statement, lone_at, block_at, else_at, if_at};
+ghost use Rattle.tv_source_syntax.specs.Reading.{while_at, closed_at, statement_at, statements};
 
 use crate::assign::assign;
 use crate::test::test_in;
 use crate::tree::{BlockTree, StatementTree};
-use crate::words::{begins_name, begins_with, below};
+use crate::words::begins_name;
 use std::alloc::Global;
 use tv_lex::Token;
-use tv_phrases::{PhraseError, after, expect};
-
-/// A part of the text and the tokens behind it, or why it isn't there.
-type Read<'a, X> = Result<(X, &'a [Token]), PhraseError<'a>>;
+use tv_phrases::{Read, after, begins_with, below, expect};
 
 /// Whether a statement can begin here.
 fn begins_statement(bytes: &[u8], tokens: &[Token]) -> bool
@@ -30,7 +28,7 @@ fn begins_statement(bytes: &[u8], tokens: &[Token]) -> bool
 // An assignment by itself.
 #[tactic(auto, using(crate::proofs::Unfolds::statement_of_assign), unfolding(crate::specs::Reading::lone_at))]
 fn lone<'a>(bytes: &[u8], tokens: &'a [Token]) -> Read<'a, StatementTree>
-    ensures { Gives (λ x. (statement_of bytes.now x.0, spec_tokens bytes.now x.1.now)) result
+    ensures { GivesReading (λ x. (statement_of bytes.now x.0, spec_tokens bytes.now x.1.now)) result
         (lone_at (spec_tokens bytes.now tokens.now)) }
 {
     let (assign, rest) = assign(bytes, tokens)?;
@@ -41,7 +39,8 @@ fn lone<'a>(bytes: &[u8], tokens: &'a [Token]) -> Read<'a, StatementTree>
 #[cycle(statements)]
 #[tactic(auto, unfolding(crate::specs::Reading::block_at))]
 fn block<'a>(alloc: Global, bytes: &[u8], depth: usize, tokens: &'a [Token]) -> Read<'a, BlockTree>
-    ensures { Gives (λ x. (map (statement_of bytes.now) x.0.items.items, spec_tokens bytes.now x.1.now)) result
+    ensures { GivesReading
+        (λ x. (map (statement_of bytes.now) x.0.items.items, spec_tokens bytes.now x.1.now)) result
         (block_at (statements depth) (spec_tokens bytes.now tokens.now)) }
 {
     let inside = expect(bytes, tokens, b"{")?;
@@ -59,7 +58,8 @@ fn otherwise<'a>(
     depth: usize,
     tokens: &'a [Token],
 ) -> Read<'a, BlockTree>
-    ensures { Gives (λ x. (map (statement_of bytes.now) x.0.items.items, spec_tokens bytes.now x.1.now)) result
+    ensures { GivesReading
+        (λ x. (map (statement_of bytes.now) x.0.items.items, spec_tokens bytes.now x.1.now)) result
         (else_at (statements depth) (spec_tokens bytes.now tokens.now)) }
 {
     match after(bytes, tokens, b"else") {
@@ -82,7 +82,7 @@ fn branch<'a>(
     depth: usize,
     tokens: &'a [Token],
 ) -> Read<'a, StatementTree>
-    ensures { Gives (λ x. (statement_of bytes.now x.0, spec_tokens bytes.now x.1.now)) result
+    ensures { GivesReading (λ x. (statement_of bytes.now x.0, spec_tokens bytes.now x.1.now)) result
         (if_at (statements depth) (spec_tokens bytes.now tokens.now)) }
 {
     let (test, behind) = test_in(bytes, tokens)?;
@@ -100,7 +100,7 @@ fn repeat<'a>(
     depth: usize,
     tokens: &'a [Token],
 ) -> Read<'a, StatementTree>
-    ensures { Gives (λ x. (statement_of bytes.now x.0, spec_tokens bytes.now x.1.now)) result
+    ensures { GivesReading (λ x. (statement_of bytes.now x.0, spec_tokens bytes.now x.1.now)) result
         (while_at (statements depth) (spec_tokens bytes.now tokens.now)) }
 {
     let (test, behind) = test_in(bytes, tokens)?;
@@ -117,7 +117,7 @@ fn closed<'a>(
     depth: usize,
     tokens: &'a [Token],
 ) -> Read<'a, StatementTree>
-    ensures { Gives (λ x. (statement_of bytes.now x.0, spec_tokens bytes.now x.1.now)) result
+    ensures { GivesReading (λ x. (statement_of bytes.now x.0, spec_tokens bytes.now x.1.now)) result
         (closed_at (statements depth) (spec_tokens bytes.now tokens.now)) }
 {
     match after(bytes, tokens, b"while") {
@@ -134,7 +134,7 @@ fn statement<'a>(
     depth: usize,
     tokens: &'a [Token],
 ) -> Read<'a, StatementTree>
-    ensures { Gives (λ x. (statement_of bytes.now x.0, spec_tokens bytes.now x.1.now)) result
+    ensures { GivesReading (λ x. (statement_of bytes.now x.0, spec_tokens bytes.now x.1.now)) result
         (statement_at (statements depth) (spec_tokens bytes.now tokens.now)) }
 {
     match after(bytes, tokens, b"if") {
@@ -152,7 +152,8 @@ pub fn statements<'a>(
     depth: usize,
     tokens: &'a [Token],
 ) -> Read<'a, BlockTree>
-    ensures { Gives (λ x. (map (statement_of bytes.now) x.0.items.items, spec_tokens bytes.now x.1.now)) result
+    ensures { GivesReading
+        (λ x. (map (statement_of bytes.now) x.0.items.items, spec_tokens bytes.now x.1.now)) result
         (statements depth (spec_tokens bytes.now tokens.now)) }
 {
     let mut items = Vec::new(alloc);

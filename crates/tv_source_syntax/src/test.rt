@@ -10,15 +10,13 @@ ghost use Rattle.tv_source_syntax.specs.Reading.{relation_at, compared_at, compa
 use crate::tree::TestTree;
 use crate::words::name;
 use tv_lex::Token;
-use tv_phrases::{PhraseError, after, expect};
-
-/// A test and the tokens behind it, or why it isn't there.
-type Read<'a> = Result<(TestTree, &'a [Token]), PhraseError<'a>>;
+use tv_phrases::{Read, after, expect};
 
 // `==`, which is true, or `!=`.
 #[tactic(auto, unfolding(crate::specs::Reading::relation_at))]
-fn relation<'a>(bytes: &[u8], tokens: &'a [Token]) -> Result<(bool, &'a [Token]), PhraseError<'a>>
-    ensures { Takes (λ x. (x.0, spec_tokens bytes.now x.1.now)) result (relation_at (spec_tokens bytes.now tokens.now)) }
+fn relation<'a>(bytes: &[u8], tokens: &'a [Token]) -> Read<'a, bool>
+    ensures { Takes (λ x. (x.0, spec_tokens bytes.now x.1.now)) result
+        (relation_at (spec_tokens bytes.now tokens.now)) }
 {
     if let Some(rest) = after(bytes, tokens, b"==") {
         return Ok((true, rest));
@@ -29,7 +27,7 @@ fn relation<'a>(bytes: &[u8], tokens: &'a [Token]) -> Result<(bool, &'a [Token])
 
 // Behind a variable and a relation.
 #[tactic(auto, unfolding(crate::specs::Reading::compared_at))]
-fn compared<'a>(bytes: &[u8], tokens: &'a [Token], equal: bool, left: Token) -> Read<'a>
+fn compared<'a>(bytes: &[u8], tokens: &'a [Token], equal: bool, left: Token) -> Read<'a, TestTree>
     ensures { Takes (λ x. (test_of bytes.now x.0, spec_tokens bytes.now x.1.now)) result
         (compared_at equal (text_of bytes.now left) (spec_tokens bytes.now tokens.now)) }
 {
@@ -41,7 +39,7 @@ fn compared<'a>(bytes: &[u8], tokens: &'a [Token], equal: bool, left: Token) -> 
 }
 
 #[tactic(auto, unfolding(crate::specs::Reading::compare_at))]
-fn compare<'a>(bytes: &[u8], tokens: &'a [Token]) -> Read<'a>
+fn compare<'a>(bytes: &[u8], tokens: &'a [Token]) -> Read<'a, TestTree>
     ensures { Takes (λ x. (test_of bytes.now x.0, spec_tokens bytes.now x.1.now)) result
         (compare_at (spec_tokens bytes.now tokens.now)) }
 {
@@ -51,7 +49,7 @@ fn compare<'a>(bytes: &[u8], tokens: &'a [Token]) -> Read<'a>
 }
 
 #[tactic(auto, unfolding(crate::specs::Reading::test_at))]
-fn test<'a>(bytes: &[u8], tokens: &'a [Token]) -> Read<'a>
+fn test<'a>(bytes: &[u8], tokens: &'a [Token]) -> Read<'a, TestTree>
     ensures { Takes (λ x. (test_of bytes.now x.0, spec_tokens bytes.now x.1.now)) result
         (test_at (spec_tokens bytes.now tokens.now)) }
 {
@@ -63,7 +61,7 @@ fn test<'a>(bytes: &[u8], tokens: &'a [Token]) -> Read<'a>
 
 /// A test in parentheses, and the tokens behind them.
 #[tactic(auto, unfolding(crate::specs::Reading::test_in))]
-pub fn test_in<'a>(bytes: &[u8], tokens: &'a [Token]) -> Read<'a>
+pub fn test_in<'a>(bytes: &[u8], tokens: &'a [Token]) -> Read<'a, TestTree>
     ensures { Takes (λ x. (test_of bytes.now x.0, spec_tokens bytes.now x.1.now)) result
         (test_in (spec_tokens bytes.now tokens.now)) }
 {

@@ -1,9 +1,9 @@
 //! Names and marks of the language.
 
-ghost use Rattle.std.specs.Prelude.{◌≡◌, ◌<◌, IfOk, is_some, map};
+ghost use Rattle.std.specs.Prelude.{◌≡◌, ◌<◌, is_some, map};
 ghost use Rattle.tv_lex.specs.Token.{text_of, spec_tokens};
-ghost use Rattle.tv_phrases.specs.Reading.{Gives, Takes};
-ghost use Rattle.tv_phrases.specs.Repeated.{below, begins_with};
+ghost use Rattle.tv_phrases.specs.Reading.{GivesReading, Takes};
+ghost use Rattle.tv_phrases.specs.Repeated.{below};
 ghost use Rattle.tv_source_syntax.specs.Words.{is_own_word, name_at};
 ghost use Rattle.tv_source_syntax.specs.Reading.{names_at, names_in};
 
@@ -11,7 +11,7 @@ use crate::tree::NameTokens;
 use std::alloc::Global;
 use tv_lex::{Token, text};
 use tv_model::Items;
-use tv_phrases::{PhraseError, after, expect, identifier, is_spelled};
+use tv_phrases::{PhraseError, Read, after, below, expect, identifier, is_spelled};
 
 /// Whether it is a word of the language, which can't be a name.
 fn is_own_word(word: &[u8]) -> bool
@@ -28,8 +28,9 @@ fn is_own_word(word: &[u8]) -> bool
 
 /// A name, and the tokens behind it.
 #[tactic(auto, unfolding(crate::specs::Words::name_at))]
-pub fn name<'a>(bytes: &[u8], tokens: &'a [Token]) -> Result<(Token, &'a [Token]), PhraseError<'a>>
-    ensures { Takes (λ x. (text_of bytes.now x.0, spec_tokens bytes.now x.1.now)) result (name_at (spec_tokens bytes.now tokens.now)) }
+pub fn name<'a>(bytes: &[u8], tokens: &'a [Token]) -> Read<'a, Token>
+    ensures { Takes (λ x. (text_of bytes.now x.0, spec_tokens bytes.now x.1.now)) result
+        (name_at (spec_tokens bytes.now tokens.now)) }
 {
     let (word, rest) = identifier(bytes, tokens)?;
     if is_own_word(text(bytes, &word)) {
@@ -45,32 +46,11 @@ pub fn begins_name(bytes: &[u8], tokens: &[Token]) -> bool
     name(bytes, tokens).is_ok()
 }
 
-/// Whether the first token is spelled like the mark.
-pub fn begins_with(bytes: &[u8], tokens: &[Token], mark: &[u8]) -> bool
-    ensures { result ≡ begins_with mark.now (spec_tokens bytes.now tokens.now) }
-{
-    after(bytes, tokens, mark).is_some()
-}
-
-/// One turn less, if there is one. There always is, since each takes a token at least.
-pub fn below(depth: usize, tokens: &[Token]) -> Result<usize, PhraseError<'_>>
-    ensures value { Takes (λ inner. inner) result (below depth) }
-    ensures less { IfOk result (λ inner. inner < depth) }
-{
-    match depth.checked_sub(1) {
-        Some(inner) => Ok(inner),
-        None => Err(PhraseError::Unexpected(tokens)),
-    }
-}
-
 // One name or more, with commas between them.
 #[tactic(auto, using(tv_phrases::proofs::Repeats::joined_start, tv_phrases::proofs::Repeats::no_joined, tv_phrases::proofs::Repeats::joined_end, tv_phrases::proofs::Repeats::joined_break, tv_phrases::proofs::Repeats::many_out))]
-fn names<'a>(
-    alloc: Global,
-    bytes: &[u8],
-    tokens: &'a [Token],
-) -> Result<(Vec<Token>, &'a [Token]), PhraseError<'a>>
-    ensures { Gives (λ x. (map (text_of bytes.now) x.0.items, spec_tokens bytes.now x.1.now)) result (names_at (spec_tokens bytes.now tokens.now)) }
+fn names<'a>(alloc: Global, bytes: &[u8], tokens: &'a [Token]) -> Read<'a, Vec<Token>>
+    ensures { GivesReading (λ x. (map (text_of bytes.now) x.0.items, spec_tokens bytes.now x.1.now)) result
+        (names_at (spec_tokens bytes.now tokens.now)) }
 {
     let (first, mut rest) = name(bytes, tokens)?;
     let mut left = rest.len() + 1;
@@ -94,8 +74,9 @@ pub fn names_in<'a>(
     bytes: &[u8],
     tokens: &'a [Token],
     mark: &[u8],
-) -> Result<(NameTokens, &'a [Token]), PhraseError<'a>>
-    ensures { Gives (λ x. (map (text_of bytes.now) x.0, spec_tokens bytes.now x.1.now)) result (names_in mark.now (spec_tokens bytes.now tokens.now)) }
+) -> Read<'a, NameTokens>
+    ensures { GivesReading (λ x. (map (text_of bytes.now) x.0, spec_tokens bytes.now x.1.now)) result
+        (names_in mark.now (spec_tokens bytes.now tokens.now)) }
 {
     let behind = expect(bytes, tokens, mark)?;
     let inside = expect(bytes, behind, b"{")?;

@@ -2,6 +2,7 @@
 use Rattle.std.specs.Prelude.{ℕ, List, [], ◌∷◌, ◌++◌, Option, None, Some, codes, decimal}
 use Rattle.tv_expand.specs.declared.error.ExpandError.{ExpandError}
 use Rattle.tv_expand.specs.declared.error.ExpandError.TheVariants as expanding
+use Rattle.tv_front.specs.Meaning.{program_place}
 use Rattle.tv_front.specs.declared.fault.ProgramFault.{ProgramFault}
 use Rattle.tv_front.specs.declared.fault.ProgramFault.TheVariants as program
 use Rattle.tv_lex.specs.declared.gatherer.GatherError.{GatherError}
@@ -11,10 +12,12 @@ use Rattle.tv_lex.specs.declared.token.LexError.TheVariants as lexing
 use Rattle.tv_lex.specs.declared.token.Place.{Place}
 use Rattle.tv_names.specs.declared.refusal.ResolveError.{ResolveError}
 use Rattle.tv_names.specs.declared.refusal.ResolveError.TheVariants as resolving
-use Rattle.tv_parse.specs.declared.error.ParseError.{ParseError}
-use Rattle.tv_parse.specs.declared.error.ParseError.TheVariants as parsing
+use Rattle.tv_phrases.specs.declared.error.SyntaxError.{SyntaxError}
+use Rattle.tv_phrases.specs.declared.error.SyntaxError.TheVariants as parsing
+use Rattle.tv_plang.specs.Meaning.{source_place}
 use Rattle.tv_plang.specs.declared.error.SourceError.{SourceError}
 use Rattle.tv_plang.specs.declared.error.SourceError.TheVariants as source
+use Rattle.tv_tvs.specs.Meaning.{structures_place}
 use Rattle.tv_tvs.specs.declared.error.TvsError.{TvsError}
 use Rattle.tv_tvs.specs.declared.error.TvsError.TheVariants as structures
 use Rattle.tv_status.specs.declared.status.FileKind.{FileKind}
@@ -22,7 +25,9 @@ use Rattle.tv_status.specs.declared.status.FileKind.TheVariants as kind
 use Rattle.tv_status.specs.declared.status.Role.{Role}
 use Rattle.tv_status.specs.declared.status.Role.TheVariants as role
 use Rattle.tv_status.specs.declared.status.Status.{Status}
-use Rattle.tv_status.specs.declared.status.Status.TheVariants.{Done, Rejected, Stuck, Usage, FileFault, Structures, TooManySplits, TooManyIndividuals, ReadFault, WriteFault, Memory}
+use Rattle.tv_status.specs.declared.status.Status.TheVariants.{Done, Rejected, Stuck, Usage, FileFault}
+use Rattle.tv_status.specs.declared.status.Status.TheVariants.{Structures, TooManySplits, TooManyIndividuals}
+use Rattle.tv_status.specs.declared.status.Status.TheVariants.{ReadFault, WriteFault, Memory}
 
 -- the exit code of the process
 abbrev pub code_of : Status → ℕ
@@ -60,7 +65,7 @@ lexing_name lexing.BadByte = codes "BadByte"
 lexing_name lexing.Unended = codes "Unended"
 lexing_name lexing.Memory = codes "Memory"
 
-abbrev pub parsing_name : ParseError → List ℕ
+abbrev pub parsing_name : SyntaxError → List ℕ
 parsing_name (parsing.Syntax place) = codes "Syntax"
 parsing_name parsing.TooDeep = codes "TooDeep"
 parsing_name parsing.Memory = codes "Memory"
@@ -125,25 +130,6 @@ kind_name (kind.TraceForm place) = codes "TraceForm"
 kind_name (kind.Source error) = source_name error
 
 -- the place that a fault carries
-abbrev pub parsing_place : ParseError → Option Place
-parsing_place (parsing.Syntax place) = Some place
-parsing_place parsing.TooDeep = None
-parsing_place parsing.Memory = None
-
-abbrev pub program_place : ProgramFault → Option Place
-program_place (program.Lexing error) = None
-program_place (program.Parsing error) = parsing_place error
-program_place (program.Expansion error) = None
-program_place (program.Resolution error) = None
-
-abbrev pub structures_place : TvsError → Option Place
-structures_place (structures.Syntax place) = Some place
-structures_place _ = None
-
-abbrev pub source_place : SourceError → Option Place
-source_place (source.Syntax place) = Some place
-source_place _ = None
-
 abbrev pub place_of : FileKind → Option Place
 place_of kind.TooLong = None
 place_of (kind.Gathering error) = None

@@ -1,14 +1,16 @@
 //! The words for roles and kinds of faults in error texts, and the places that faults carry.
 
 ghost use Rattle.std.specs.Prelude.{◌≡◌};
-ghost use Rattle.tv_status.specs.Status.{role_name, gathering_name, lexing_name, parsing_name, expanding_name, resolving_name, program_name, structures_name, kind_name, program_place, structures_place, source_name, place_of};
+ghost use Rattle.tv_status.specs.Status.{role_name, gathering_name, lexing_name, parsing_name};
+ghost use Rattle.tv_status.specs.Status.{expanding_name, resolving_name, program_name, structures_name};
+ghost use Rattle.tv_status.specs.Status.{kind_name, source_name, place_of};
 
 use crate::status::{FileKind, Role};
 use tv_expand::ExpandError;
 use tv_front::ProgramFault;
 use tv_lex::{GatherError, LexError, Place};
 use tv_names::ResolveError;
-use tv_parse::ParseError;
+use tv_phrases::SyntaxError;
 use tv_plang::SourceError;
 use tv_tvs::TvsError;
 
@@ -35,13 +37,13 @@ fn lexing_name(error: LexError) -> &'static [u8]
     }
 }
 
-fn parsing_name(error: ParseError) -> &'static [u8]
+fn parsing_name(error: SyntaxError) -> &'static [u8]
     ensures { result.now ≡ parsing_name error }
 {
     match error {
-        ParseError::Syntax(_) => b"Syntax",
-        ParseError::TooDeep => b"TooDeep",
-        ParseError::Memory => b"Memory",
+        SyntaxError::Syntax(_) => b"Syntax",
+        SyntaxError::TooDeep => b"TooDeep",
+        SyntaxError::Memory => b"Memory",
     }
 }
 
@@ -157,7 +159,7 @@ impl FileKind {
         ensures { result ≡ place_of self }
     {
         match self {
-            FileKind::Program(ProgramFault::Parsing(ParseError::Syntax(place)))
+            FileKind::Program(ProgramFault::Parsing(SyntaxError::Syntax(place)))
             | FileKind::Structures(TvsError::Syntax(place))
             | FileKind::ReportForm(place)
             | FileKind::Source(SourceError::Syntax(place))

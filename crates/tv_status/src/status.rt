@@ -7,7 +7,7 @@ use tv_front::ProgramFault;
 use tv_lex::{GatherError, LexError, Place};
 use tv_listing::Rejection;
 use tv_plang::SourceError;
-use tv_replayed::Why;
+use tv_replay_laws::Why;
 use tv_tvs::TvsError;
 
 /// Which of the files of a command.

@@ -1,10 +1,11 @@
 -- Lists to which what comes of elements is put.
-use Rattle.std.proofs.Common.{ℕ, ◌≡◌, ◌∙◌, ◌<◌, ◌+◌, List, [], ◌∷◌, ◌++◌, length, take, refl, sym, ap, subst, append_assoc, get_or, add-one, All, Contains}
+use Rattle.std.proofs.Common.{ℕ, ◌≡◌, ◌∙◌, ◌<◌, ◌+◌, List, [], ◌∷◌, ◌++◌, length, take, refl, sym, ap, subst}
+use Rattle.std.proofs.Common.{append_assoc, get_or, add-one, All, Contains}
 use Rattle.std.specs.Prelude.{Result, Ok, Err, IfErr, IsErrAnd, OnOk}
 use Rattle.std.proofs.lemmas.List.Elements.{All-nil, All-cons, All-append}
 use Rattle.std.proofs.lemmas.List.{append-nil}
 use Rattle.std.proofs.Math.Seq.{take-suc}
-use Rattle.tv_transfer.specs.Parts.{AreFrom}
+use Rattle.tv_step_laws.specs.Parts.{AreFrom}
 use Rattle.tv_step.specs.Steps.{Adds}
 
 pub from-append : {X Y : Type 0} (R : X → List Y → Type 0) (xs zs : List X) (ys ws : List Y) → AreFrom R xs ys

@@ -1,5 +1,6 @@
 -- Which individuals may be picked, as a row of the precondition tells.
-use Rattle.std.proofs.Common.{ℕ, ◌≡◌, ◌∙◌, ◌<◌, ◌⊎◌, false, List, [], ◌∷◌, length, map, replicate, Option, None, Some, ⊎_elim, sym, ap, subst, arith, get_or, slice_get, All, Contains}
+use Rattle.std.proofs.Common.{ℕ, ◌≡◌, ◌∙◌, ◌<◌, ◌⊎◌, false, List, [], ◌∷◌, length, map, replicate, Option}
+use Rattle.std.proofs.Common.{None, Some, ⊎_elim, sym, ap, subst, arith, get_or, slice_get, All, Contains}
 use Rattle.std.specs.List.{range_with_len}
 use Rattle.std.proofs.lemmas.List.{get_or-replicate, length-replicate}
 use Rattle.std.proofs.lemmas.List.FromFn.{fill_by_all, get_or-map-range_with_len, length-map-range_with_len}
@@ -10,13 +11,13 @@ use Rattle.tv_model.specs.Program.{ProgramForm, ActionForm}
 use Rattle.tv_model.specs.Truth.{Assignment, put}
 use Rattle.tv_model.specs.Valid.{IsValid, IsFormulaOver, IsVariable, free_occurrences}
 use Rattle.tv_model.proofs.Lists.{All-from_contains, Contains-cases, Contains-none}
-use Rattle.tv_applied.specs.Picks.{isnt_no, precondition_value}
-use Rattle.tv_applied.proofs.Preconditions.{first-occurs, free-occurs}
+use Rattle.tv_update_laws.specs.Picks.{isnt_no, precondition_value}
+use Rattle.tv_update_laws.proofs.Preconditions.{first-occurs, free-occurs}
 use Rattle.tv_eval.specs.Along.{values_along}
 use Rattle.tv_eval.specs.AssignmentForm.{IsAssigned}
 use Rattle.tv_eval.specs.Formulas.{AreAssigned}
 use Rattle.tv_struct.specs.StructureForm.{StructureForm, structure_of, arities_of}
-use Rattle.tv_transfer.specs.Shaped.{IsShaped}
+use Rattle.tv_step_laws.specs.Shaped.{IsShaped}
 use Rattle.tv_step.specs.Allowed.{precondition_values}
 use Rattle.tv_step.specs.Steps.{passes}
 use Rattle.tv_step.proofs.Picking.{precondition-is}

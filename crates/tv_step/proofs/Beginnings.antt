@@ -4,16 +4,17 @@ use Rattle.tv_model.specs.declared.program.Program.{Program}
 use Rattle.tv_model.specs.Program.{RuleForm, program_of}
 use Rattle.tv_model.specs.Valid.{IsValid}
 use Rattle.tv_rules.specs.Closing.{closed_rules}
-use Rattle.tv_stable.specs.Stable.{IsGreatestStable, HasNoStable}
+use Rattle.tv_stable_laws.specs.Stable.{IsGreatestStable, HasNoStable}
 use Rattle.tv_struct.specs.StructureForm.{StructureForm, IsStructure, structure_of}
 use Rattle.tv_blur.specs.Blur.{IsBlur}
 use Rattle.tv_blur.specs.Names.{abstraction_preds}
 use Rattle.tv_coerce.specs.Coerced.{IsCoercedTable, CoercesTo}
-use Rattle.tv_transfer.specs.Shaped.{IsShaped}
-use Rattle.tv_transfer.specs.Transfer.{IsOpening, HasNoOpening}
-use Rattle.tv_transfer.proofs.Exact.{opening-once}
-use Rattle.tv_transfer.proofs.Heaps.{opening-heap}
+use Rattle.tv_step_laws.specs.Shaped.{IsShaped}
+use Rattle.tv_step_laws.specs.Transfer.{IsOpening, HasNoOpening}
+use Rattle.tv_step_laws.proofs.Exact.{opening-once}
+use Rattle.tv_step_laws.proofs.Heaps.{opening-heap}
 use Rattle.tv_step.specs.Starts.{HasStarts}
+use Rattle.tv_step.proofs.Coercing.{table-coerced}
 use Rattle.tv_step.proofs.Finishing.{same-preds}
 
 pub no-opening : (program : Program) (rules : List RuleForm) (s : StructureForm)
@@ -44,16 +45,7 @@ some-opening program rules s found t u same shaped to is blur kept =
     let table : IsCoercedTable rules s t = subst (CoercesTo rules s) is to
     in (
       t,
-      record {
-        greatest = subst (λ rs. IsGreatestStable rs (structure_of s) (structure_of t)) same table.greatest;
-        shaped = record {
-          over = table.over
-              ∙ shaped.over;
-          planes = table.is.table.planes;
-          summaries = table.is.summaries;
-        };
-        mark = table.mark;
-      },
+      table-coerced (program_of program) rules s t same shaped table,
       (
         record {
           over = blur.1.over ∙ table.over ∙ shaped.over;

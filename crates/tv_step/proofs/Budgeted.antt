@@ -1,18 +1,22 @@
 -- A step that has an answer keeps its budgets, and one that has none meets one of them, or memory is short.
-use Rattle.std.proofs.Common.{ℕ, ◌≡◌, ◌≤◌, ◌⊎◌, List, [], ◌∷◌, ◌++◌, length, inl, inr, refl, subst, arith, All, Contains}
+use Rattle.std.proofs.Common.{ℕ, ◌≡◌, ◌≤◌, ◌⊎◌, List, [], ◌∷◌, ◌++◌, length, inl, inr, refl, subst, arith}
+use Rattle.std.proofs.Common.{Contains}
+use Rattle.std.proofs.Common.{All, Contains}
 use Rattle.std.proofs.lemmas.List.Elements.{All-contains}
 use Rattle.tv_model.specs.Program.{ProgramForm, ActionForm}
-use Rattle.tv_applied.specs.Picks.{picks_of, passing_picks}
+use Rattle.tv_update_laws.specs.Picks.{picks_of, passing_picks}
 use Rattle.tv_focus.specs.Stage.{IsWithinLimits as KeepsStageLimits}
 use Rattle.tv_update.specs.Update.{IsWithinLimits}
 use Rattle.tv_struct.specs.StructureForm.{StructureForm, structure_of}
 use Rattle.tv_struct.specs.declared.analysis.StageError.{StageError}
 use Rattle.tv_struct.specs.declared.analysis.StageError.TheVariants.{Splits, Individuals, Memory}
-use Rattle.tv_transfer.specs.Budgets.{HasTurn, IsFocused, IsPassed, HasManyFoci, HasManyPicks, HasManyKept, HasLargeChoice, HasLargeMiddle, KeepsBudgets, IsStepCause}
-use Rattle.tv_transfer.specs.Transfer.{FocusPlace, focus_places, choices_at, Coerces, AreFocused, IsActionOf}
-use Rattle.tv_transfer.proofs.Exact.{at_hand-once}
-use Rattle.tv_transfer.proofs.Heaps.{action-once}
-use Rattle.tv_step.specs.Steps.{KeepsLimits, AreFocusedWithin, KeepsUpdateLimits, IsCauseOfUpdate, IsCauseOfStep}
+use Rattle.tv_step_laws.specs.Budgets.{HasTurn, IsFocused, IsPassed, HasManyFoci, HasManyPicks, HasManyKept}
+use Rattle.tv_step_laws.specs.Budgets.{HasLargeChoice, HasLargeMiddle, KeepsBudgets, IsStepCause}
+use Rattle.tv_step_laws.specs.Transfer.{FocusPlace, focus_places, choices_at, Coerces, AreFocused, IsActionOf}
+use Rattle.tv_step_laws.proofs.Exact.{at_hand-once}
+use Rattle.tv_step_laws.proofs.Heaps.{action-once}
+use Rattle.tv_step.specs.Steps.{KeepsLimits, AreFocusedWithin, KeepsUpdateLimits, IsCauseOfUpdate}
+use Rattle.tv_step.specs.Steps.{FailsAt, IsCauseOfStep}
 use Rattle.tv_step.proofs.Turns.{focused-are}
 
 -- ---- budgets that are kept
@@ -110,6 +114,20 @@ budgets-kept p edge s action start at_hand is coerces focused updates = record {
 
 -- ---- budgets that are met
 
+-- the atom at whose turn focus fails has its turn
+fails-turn : (p : ProgramForm) (action : ActionForm) (s : StructureForm) (start : List StructureForm)
+    (Cause : FocusPlace → List StructureForm → Type 0) → Coerces p s start
+    → (fails : FailsAt p (focus_places action.focus) start Cause) → (t : StructureForm) → Contains fails.at_hand t
+    → HasTurn p action s fails.place t
+fails-turn p action s start Cause coerces fails t there = record {
+  before = fails.before;
+  after = fails.after;
+  turn = fails.turn;
+  at_hand = fails.at_hand;
+  are_at_hand = (start, coerces, fails.are_focused);
+  there = there;
+}
+
 focus-splits : (p : ProgramForm) (action : ActionForm) (s : StructureForm) (start : List StructureForm)
     → Coerces p s start → IsCauseOfStep p action start Splits
     → HasManyFoci p action s ⊎ HasManyPicks p action s ⊎ HasManyKept p action s
@@ -118,14 +136,7 @@ focus-splits p action s start coerces (inl fails) =
     in inl (
       fails.place,
       found.1,
-      record {
-        before = fails.before;
-        after = fails.after;
-        turn = fails.turn;
-        at_hand = fails.at_hand;
-        are_at_hand = (start, coerces, fails.are_focused);
-        there = (found.0, found.2, found.3);
-      },
+      fails-turn p action s start _ coerces fails found.1 (found.0, found.2, found.3),
       found.4,
     )
 focus-splits p action s start coerces (inr fails) =
@@ -147,14 +158,7 @@ focus-individuals p action s start coerces (inl fails) =
     in inl (
       fails.place,
       found.1,
-      record {
-        before = fails.before;
-        after = fails.after;
-        turn = fails.turn;
-        at_hand = fails.at_hand;
-        are_at_hand = (start, coerces, fails.are_focused);
-        there = (found.0, found.2, found.3);
-      },
+      fails-turn p action s start _ coerces fails found.1 (found.0, found.2, found.3),
       found.4,
     )
 focus-individuals p action s start coerces (inr fails) =

@@ -1,5 +1,7 @@
 -- What two structures have in common, as rows tell, and the rules that see no difference.
-use Rattle.std.proofs.Common.{ℕ, ◌≡◌, ◌≢◌, ◌∙◌, ◌<◌, ◌≤◌, ◌+◌, Bool, true, false, List, [], ◌∷◌, length, Some, inl, inr, ⊎_elim, refl, sym, ap, subst, arith, get_or, slice_get, replicate, Contains, Less, Equal, Greater}
+use Rattle.std.proofs.Common.{ℕ, ◌≡◌, ◌≢◌, ◌∙◌, ◌<◌, ◌≤◌, ◌+◌, Bool, true, false, List, [], ◌∷◌, length, Some}
+use Rattle.std.proofs.Common.{inl, inr, ⊎_elim, refl, sym, ap, subst, arith, get_or, slice_get, replicate}
+use Rattle.std.proofs.Common.{Contains, Less, Equal, Greater}
 use Rattle.std.specs.List.{range_with_len}
 use Rattle.std.specs.declared.cmp.Ordering.{Ordering}
 use Rattle.std.specs.Ordering.{ordering_then}
@@ -15,12 +17,12 @@ use Rattle.tv_model.specs.Program.{ProgramForm, RuleForm}
 use Rattle.tv_model.specs.Valid.{IsValid}
 use Rattle.tv_model.proofs.Lists.{slice_get-contains}
 use Rattle.tv_row.specs.Bits.{value_cmp}
-use Rattle.tv_stable.specs.Laws.{IsPlainRule}
-use Rattle.tv_stable.specs.Stable.{IsStable, IsStableUnder}
+use Rattle.tv_stable_laws.specs.Laws.{IsPlainRule}
+use Rattle.tv_stable_laws.specs.Stable.{IsStable, IsStableUnder}
 use Rattle.tv_rules.specs.Closing.{closed_rules}
 use Rattle.tv_rules.specs.Standing.{StandsIn}
 use Rattle.tv_rules.proofs.Ranges.{rules_are_plain}
-use Rattle.tv_splits.proofs.Untouched.{untouched_rules_stay_stable}
+use Rattle.tv_coerce_laws.proofs.Untouched.{untouched_rules_stay_stable}
 use Rattle.tv_struct.specs.TableForm.{AreIndividuals}
 use Rattle.tv_struct.specs.StructureForm.{StructureForm, structure_of, arities_of, value_at, summary_at}
 use Rattle.tv_struct.specs.StructureRows.{HasArity, unary_row, row_at, summary_row, flag_value}

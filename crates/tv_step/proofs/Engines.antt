@@ -9,25 +9,27 @@ use Rattle.tv_eval.specs.ScratchForm.{ScratchForm, IsMadeFor}
 use Rattle.tv_rules.specs.Closing.{closed_rules}
 use Rattle.tv_rules.specs.EntryForms.{rules_of}
 use Rattle.tv_coerce.specs.Coerced.{CoercesTo}
-use Rattle.tv_stable.specs.Stable.{IsStable}
+use Rattle.tv_stable_laws.specs.Stable.{IsStable}
 use Rattle.tv_struct.specs.StructureForm.{StructureForm, IsOver, IsStructure, structure_of}
 use Rattle.tv_struct.specs.declared.analysis.StageError.{StageError}
-use Rattle.tv_transfer.specs.Shaped.{IsShaped}
-use Rattle.tv_transfer.specs.Transfer.{Coerces, IsActionOf}
-use Rattle.tv_transfer.proofs.Settled.{stable-coerces}
-use Rattle.tv_transfer.proofs.Shapes.{over-shaped}
+use Rattle.tv_step_laws.specs.Shaped.{IsShaped}
+use Rattle.tv_step_laws.specs.Transfer.{Coerces, IsActionOf}
+use Rattle.tv_step_laws.proofs.Settled.{stable-coerces}
+use Rattle.tv_step_laws.proofs.Shapes.{over-shaped}
 use Rattle.tv_step.specs.declared.job.Job.{Job}
 use Rattle.tv_step.specs.declared.setting.Setting.{Setting}
 use Rattle.tv_step.specs.declared.step.StepOut.{StepOut}
 use Rattle.tv_step.specs.Job.{action_in, IsJob}
-use Rattle.tv_step.specs.Setting.{form_in, IsReady}
+use Rattle.tv_step.specs.EngineForm.{EngineForm}
+use Rattle.tv_step.specs.Setting.{form_in, IsReadyToStep}
 use Rattle.tv_step.specs.Steps.{AreResultsOf, AreValuesOf, IsCauseOfStep}
 use Rattle.tv_step.proofs.Coercing.{none-coerces, some-coerces}
-use Rattle.tv_step.proofs.Said.{IsSaid, step-said}
+use Rattle.tv_step.specs.StepAnswer.{AnswersStep}
+use Rattle.tv_step.proofs.Said.{step-said}
 
 pub ready-in : (x : Setting) (program : Program) (scratch : ScratchForm) → x.program.now ≡ program
     → IsValid (form_in x) → rules_of x.closed.now ≡ closed_rules (form_in x)
-    → IsMadeFor (program_of program) 256 scratch → IsReady x scratch
+    → IsMadeFor (program_of program) 256 scratch → IsReadyToStep x scratch
 ready-in x program scratch same valid rules room = record {
   valid = valid;
   rules = rules;
@@ -72,10 +74,17 @@ pub said-in : (x : Setting) (program : Program) (mode : Mode) (edge : ℕ) (s : 
     → IfOk answer (λ out. AreResultsOf (form_in x) x.mode (action_in job) start out.results)
     → IfOk answer (λ out. AreValuesOf (form_in x) (action_in job) start out.messages)
     → IfErr answer (IsCauseOfStep (form_in x) (action_in job) start)
-    → IsSaid (program_of program) mode edge s answer
+    → AnswersStep (program_of program) mode edge s answer
 said-in x program mode edge s job start answer same same_mode valid is coerces results values cause =
-    subst (λ m. IsSaid (program_of program) m edge s answer) same_mode
-    (subst (λ q. IsSaid (program_of q) x.mode edge s answer) same
+    subst (λ m. AnswersStep (program_of program) m edge s answer) same_mode
+    (subst (λ q. AnswersStep (program_of q) x.mode edge s answer) same
     (step-said (form_in x) valid x.mode edge s (action_in job) start
     (subst (λ q. IsActionOf (program_of q) edge (action_in job)) (sym same) is) coerces answer results values
     cause))
+
+-- what is said of an engine's step holds of the program and the mode that it was made for
+pub engine-answers : (engine made : EngineForm) (edge : ℕ) (s : StructureForm) (answer : Result StepOut StageError)
+    → engine ≡ made → AnswersStep (program_of engine.program) engine.mode edge s answer
+    → AnswersStep (program_of made.program) made.mode edge s answer
+engine-answers engine made edge s answer same is =
+    subst (λ (e : EngineForm). AnswersStep (program_of e.program) e.mode edge s answer) same is

@@ -1,5 +1,6 @@
 -- Formulas of the program can be evaluated in a step.
-use Rattle.std.proofs.Common.{ℕ, ◌≡◌, ◌∙◌, ◌<◌, ◌≤◌, ◌+◌, List, length, take, Option, None, refl, ap, arith, add-one, get_or}
+use Rattle.std.proofs.Common.{ℕ, ◌≡◌, ◌∙◌, ◌<◌, ◌≤◌, ◌+◌, List, length, take, Option, None, refl, ap, arith}
+use Rattle.std.proofs.Common.{add-one, get_or}
 use Rattle.std.specs.Prelude.{unwrap_or}
 use Rattle.std.proofs.lemmas.List.{map-append}
 use Rattle.std.proofs.Math.Seq.{take-suc}
@@ -11,27 +12,27 @@ use Rattle.tv_model.specs.Program.{ProgramForm, MessageForm}
 use Rattle.tv_model.specs.Rules.{blank}
 use Rattle.tv_model.specs.Valid.{IsMessage}
 use Rattle.tv_model.proofs.Lists.{Contains-none}
-use Rattle.tv_value.specs.Value.{value}
+use Rattle.tv_eval_laws.specs.Value.{value}
 use Rattle.tv_row.proofs.Greatest.{greatest-append}
 use Rattle.tv_struct.specs.StructureForm.{StructureForm, structure_of}
-use Rattle.tv_eval.specs.AssignmentForm.{place_of, assignment_of}
+use Rattle.tv_eval.specs.AssignmentForm.{individual_for, assignment_of}
 use Rattle.tv_eval.specs.Formulas.{AreAssigned}
-use Rattle.tv_eval.specs.ScratchForm.{ScratchForm, Fits}
+use Rattle.tv_eval.specs.ScratchForm.{ScratchForm, HasScratchFor}
 use Rattle.tv_eval.proofs.Programs.{made_scratches_fit}
-use Rattle.tv_transfer.specs.Transfer.{message_value}
+use Rattle.tv_step_laws.specs.Transfer.{message_value}
 use Rattle.tv_step.specs.declared.setting.Setting.{Setting}
-use Rattle.tv_step.specs.Setting.{form_in, IsReady}
+use Rattle.tv_step.specs.Setting.{form_in, IsReadyToStep}
 use Rattle.tv_step.specs.Steps.{HasRoomFor}
 
 -- there is room for the formula in each structure
-pub room-fits : (x : Setting) (scratch : ScratchForm) (f : Form) (m : ℕ) → IsReady x scratch
+pub room-fits : (x : Setting) (scratch : ScratchForm) (f : Form) (m : ℕ) → IsReadyToStep x scratch
     → HasRoomFor (form_in x) f → m ≤ 256
-    → Fits scratch f m
+    → HasScratchFor scratch f m
 room-fits x scratch f m ready room few =
     made_scratches_fit (form_in x) 256 m scratch f ready.room (omega (arith, room)) few
 
 -- an assignment of nobody is blank
-pub nobody-blank : (places : List (Option ℕ)) → ((v : ℕ) → place_of places v ≡ None)
+pub nobody-blank : (places : List (Option ℕ)) → ((v : ℕ) → individual_for places v ≡ None)
     → assignment_of places ≡ blank
 nobody-blank places none = λ i v. unwrap_or (none v i) 0
 
@@ -49,7 +50,7 @@ larger-none Yes = refl
 -- the value in one more structure
 pub message-next : (ss : List StructureForm) (i : ℕ) (s : StructureForm) (m : MessageForm)
     (places : List (Option ℕ)) (k v r : K3)
-    → i < length ss → s ≡ get_or ss i s → ((w : ℕ) → place_of places w ≡ None)
+    → i < length ss → s ≡ get_or ss i s → ((w : ℕ) → individual_for places w ≡ None)
     → k ≡ message_value (take i ss) m → v ≡ value (structure_of s) (assignment_of places) m.cond
     → r ≡ larger_of k v
     → r ≡ message_value (take (i + 1) ss) m

@@ -10,9 +10,9 @@ use Rattle.tv_struct.specs.StructureForm.{StructureForm, IsStructure, arities_of
 use Rattle.tv_blur.specs.Blur.{IsBlur}
 use Rattle.tv_blur.specs.Names.{abstraction_preds}
 use Rattle.tv_coerce.specs.Coerced.{IsCoercedTable, CoercesTo}
-use Rattle.tv_transfer.specs.Shaped.{IsShaped, is_telling, telling_preds}
-use Rattle.tv_transfer.specs.Transfer.{Coerces, IsBlurOf}
-use Rattle.tv_transfer.proofs.Settled.{stable-coerces}
+use Rattle.tv_step_laws.specs.Shaped.{IsShaped, is_telling, telling_preds}
+use Rattle.tv_step_laws.specs.Transfer.{Coerces, IsBlurOf}
+use Rattle.tv_step_laws.proofs.Settled.{stable-coerces}
 use Rattle.tv_step.specs.declared.coerced.Ending.{Ending}
 use Rattle.tv_step.specs.declared.coerced.Ending.TheVariants.{Open, Blurred}
 use Rattle.tv_step.specs.Ending.{Becomes, IsEndOf}

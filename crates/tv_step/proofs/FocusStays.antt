@@ -1,5 +1,6 @@
 -- A choice of focus on a stable structure is stable under the rules about other predicates.
-use Rattle.std.proofs.Common.{ℕ, ◌≡◌, ◌≢◌, ◌∙◌, ◌<◌, List, [], ◌∷◌, ◌++◌, length, map, Bool, Some, inl, inr, ⊎_elim, refl, sym, ap, subst, ne_eqb, get_or, slice_get, All, Contains}
+use Rattle.std.proofs.Common.{ℕ, ◌≡◌, ◌≢◌, ◌∙◌, ◌<◌, List, [], ◌∷◌, ◌++◌, length, map, Bool, Some, inl, inr}
+use Rattle.std.proofs.Common.{⊎_elim, refl, sym, ap, subst, ne_eqb, get_or, slice_get, All, Contains}
 use Rattle.std.specs.Prelude.{◌==◌}
 use Rattle.std.specs.List.{AllZip}
 use Rattle.std.proofs.lemmas.Bool.{cond-false}
@@ -7,31 +8,35 @@ use Rattle.std.proofs.lemmas.List.{length-map, map-id}
 use Rattle.std.proofs.lemmas.List.Elements.{All-nil, All-cons, All-append, All-contains, All-map}
 use Rattle.std.proofs.lemmas.Option.{slice_get_within}
 use Rattle.tv_kleene.specs.declared.K3.{K3}
-use Rattle.tv_model.specs.Form.{Form, FZero, FOne, FAtom, FIsNew, FSame, FNot, FAnd, FOr, FIff, FCond, FExists, FForall, FClosure, Mentions}
+use Rattle.tv_model.specs.Form.{Form, FZero, FOne, FAtom, FIsNew, FSame, FNot, FAnd, FOr, FIff, FCond}
+use Rattle.tv_model.specs.Form.{FExists, FForall, FClosure, Mentions}
 use Rattle.tv_model.specs.Program.{ProgramForm, RuleForm}
 use Rattle.tv_model.specs.Valid.{IsValid}
-use Rattle.tv_model.proofs.Lists.{All-from_contains, Contains-cases, Contains-here, Contains-there, Contains-map_back, Contains-none, slice_get-contains}
-use Rattle.tv_frame.specs.LogicalStructure.{LogicalStructure}
-use Rattle.tv_stable.specs.Laws.{IsPlainRule}
-use Rattle.tv_stable.specs.Stable.{IsStableUnder}
+use Rattle.tv_model.proofs.Lists.{All-from_contains, Contains-cases, Contains-here, Contains-there}
+use Rattle.tv_model.proofs.Lists.{Contains-map_back, Contains-none, slice_get-contains}
+use Rattle.tv_embedding_laws.specs.LogicalStructure.{LogicalStructure}
+use Rattle.tv_stable_laws.specs.Laws.{IsPlainRule}
+use Rattle.tv_stable_laws.specs.Stable.{IsStableUnder}
 use Rattle.tv_rules.specs.Closing.{closed_rules}
 use Rattle.tv_rules.specs.Standing.{StandsIn, SeesSummaries}
 use Rattle.tv_rules.proofs.Ranges.{rules_are_plain}
-use Rattle.tv_splits.specs.Split.{KeepsValues, IsRuleOfTuples}
-use Rattle.tv_splits.proofs.Splits.{splits_are_stable}
+use Rattle.tv_coerce_laws.specs.Split.{KeepsValues, IsRuleOfTuples}
+use Rattle.tv_coerce_laws.proofs.Splits.{splits_are_stable}
 use Rattle.tv_struct.specs.StructureForm.{StructureForm, structure_of, arities_of, value_at}
 use Rattle.tv_struct.proofs.Library.{AreIndividuals-range, Contains-range, below-range}
-use Rattle.tv_choices.specs.FocusAtoms.{AtomForm, focus_atoms}
-use Rattle.tv_choices.specs.Choices.{AimForm, ChoiceForm, MemberForm, SplitForm, Nothing, Whole, Each, choices, chosen, definite, focused_value, member_at, members, members_of, copy_of}
-use Rattle.tv_choices.specs.Stages.{atom_at, no_atom, split_at, split_structures, whole_value, with_whole}
-use Rattle.tv_choices.specs.Tables.{Shows}
-use Rattle.tv_choices.proofs.ChosenTables.{Copies, copies-are}
-use Rattle.tv_choices.proofs.Tables.{Fits, fits-or_No}
+use Rattle.tv_focus_laws.specs.FocusAtoms.{AtomForm, focus_atoms}
+use Rattle.tv_focus_laws.specs.Choices.{AimForm, ChoiceForm, MemberForm, SplitForm, Nothing, Whole, Each}
+use Rattle.tv_focus_laws.specs.Choices.{choices, chosen, definite, focused_value, member_at, members}
+use Rattle.tv_focus_laws.specs.Choices.{members_of, copy_of}
+use Rattle.tv_focus_laws.specs.Stages.{atom_at, no_atom, split_at, split_structures, whole_value, with_whole}
+use Rattle.tv_focus_laws.specs.Tables.{Shows}
+use Rattle.tv_focus_laws.proofs.ChosenTables.{Copies, copies-are}
+use Rattle.tv_focus_laws.proofs.Tables.{Fits, fits-or_No}
 use Rattle.tv_focus.specs.Anchored.{AreAtomsOver}
 use Rattle.tv_coerce.specs.RuleSets.{IsStableBut}
-use Rattle.tv_transfer.specs.Shaped.{IsShaped}
-use Rattle.tv_transfer.specs.Transfer.{FocusPlace, choices_at, IsTableOf}
-use Rattle.tv_transfer.proofs.From.{zip-there}
+use Rattle.tv_step_laws.specs.Shaped.{IsShaped}
+use Rattle.tv_step_laws.specs.Transfer.{FocusPlace, choices_at, IsTableOf}
+use Rattle.tv_step_laws.proofs.From.{zip-there}
 use Rattle.tv_step.specs.Setting.{IsStableIn}
 use Rattle.tv_step.specs.Waiting.{WaitsAt}
 

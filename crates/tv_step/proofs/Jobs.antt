@@ -1,5 +1,6 @@
 -- Actions that are made ready, one after the other.
-use Rattle.std.proofs.Common.{ℕ, ◌≡◌, ◌∙◌, ◌<◌, ◌⊎◌, ◌^◌, ◌-◌, zero, suc, List, [], ◌∷◌, ◌++◌, length, min, inl, inr, ⊎_elim, refl, sym, ap, subst, arith, Some, slice_get}
+use Rattle.std.proofs.Common.{ℕ, ◌≡◌, ◌∙◌, ◌<◌, ◌⊎◌, ◌^◌, ◌-◌, zero, suc, List, [], ◌∷◌, ◌++◌, length, min}
+use Rattle.std.proofs.Common.{inl, inr, ⊎_elim, refl, sym, ap, subst, arith, Some, slice_get}
 use Rattle.std.proofs.lemmas.List.{length-map}
 use Rattle.std.proofs.lemmas.List.Elements.{All-contains}
 use Rattle.tv_model.specs.declared.program.Edge.{Edge}
@@ -9,7 +10,7 @@ use Rattle.tv_model.specs.Program.{action_of, program_of}
 use Rattle.tv_model.specs.Valid.{IsEdge, IsValid}
 use Rattle.tv_model.proofs.Lists.{slice_get-contains}
 use Rattle.tv_step.specs.declared.job.Job.{Job}
-use Rattle.tv_transfer.specs.Transfer.{IsActionOf}
+use Rattle.tv_step_laws.specs.Transfer.{IsActionOf}
 use Rattle.tv_step.specs.Job.{action_in, AreJobs, IsJob}
 
 -- what stands in a list with one element more stood there before, or is that one

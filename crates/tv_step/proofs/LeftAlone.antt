@@ -1,32 +1,38 @@
 -- What an action gives from a stable structure is stable under the rules that it leaves alone.
-use Rattle.std.proofs.Common.{ℕ, ◌≡◌, ◌∙◌, ◌<◌, true, false, Bool, List, [], ◌∷◌, length, map, filter, Option, None, Some, ⊎_elim, refl, sym, ap, subst, arith, ne_eqb, eq-eqb, get_or, slice_get, All, Contains}
+use Rattle.std.proofs.Common.{ℕ, ◌≡◌, ◌∙◌, ◌<◌, true, false, Bool, List, [], ◌∷◌, length, map, filter, Option}
+use Rattle.std.proofs.Common.{None, Some, ⊎_elim, refl, sym, ap, subst, arith, ne_eqb, eq-eqb, get_or}
+use Rattle.std.proofs.Common.{slice_get, All, Contains}
 use Rattle.std.specs.Prelude.{◌==◌, ◌||◌, is_some, find}
 use Rattle.std.specs.List.{AllZip, range_with_len}
 use Rattle.std.proofs.lemmas.Bool.{cond-true, cond-false}
 use Rattle.std.proofs.lemmas.List.Elements.{All-contains, All-head, All-tail}
 use Rattle.std.proofs.lemmas.List.Folds.{list_any_at}
-use Rattle.std.proofs.lemmas.List.FromFn.{get_or-map-range_with_len, get_or-range_with_len, length-map-range_with_len, length-range_with_len}
+use Rattle.std.proofs.lemmas.List.FromFn.{get_or-map-range_with_len, get_or-range_with_len}
+use Rattle.std.proofs.lemmas.List.FromFn.{length-map-range_with_len, length-range_with_len}
 use Rattle.tv_model.specs.declared.program.Mode.{Mode}
 use Rattle.tv_model.specs.declared.program.Mode.TheVariants.{Given, Recompute}
-use Rattle.tv_model.specs.Program.{ProgramForm, RuleForm, ActionForm, UpdateForm, RetainForm, KindForm, KCore, KDefined}
+use Rattle.tv_model.specs.Program.{ProgramForm, RuleForm, ActionForm, UpdateForm, RetainForm, KindForm, KCore}
+use Rattle.tv_model.specs.Program.{KDefined}
 use Rattle.tv_model.specs.Step.{update_for}
 use Rattle.tv_model.specs.Truth.{Assignment}
 use Rattle.tv_model.specs.Valid.{IsValid}
-use Rattle.tv_model.proofs.Lists.{All-from_contains, Contains-cases, Contains-here, Contains-map, Contains-none, Contains-there, slice_get-contains}
-use Rattle.tv_frame.specs.LogicalStructure.{LogicalStructure}
-use Rattle.tv_stable.specs.Laws.{IsPlainRule}
-use Rattle.tv_stable.specs.Stable.{IsStable, IsStableUnder}
+use Rattle.tv_model.proofs.Lists.{All-from_contains, Contains-cases, Contains-here, Contains-map}
+use Rattle.tv_model.proofs.Lists.{Contains-none, Contains-there, slice_get-contains}
+use Rattle.tv_embedding_laws.specs.LogicalStructure.{LogicalStructure}
+use Rattle.tv_stable_laws.specs.Laws.{IsPlainRule}
+use Rattle.tv_stable_laws.specs.Stable.{IsStable, IsStableUnder}
 use Rattle.tv_rules.specs.Closing.{closed_rules}
 use Rattle.tv_rules.proofs.Ranges.{rules_are_plain}
 use Rattle.tv_rules.specs.Standing.{StandsIn}
-use Rattle.tv_splits.specs.Split.{IsUntouched}
-use Rattle.tv_splits.proofs.Untouched.{untouched_rules_stay_stable}
+use Rattle.tv_coerce_laws.specs.Split.{IsUntouched}
+use Rattle.tv_coerce_laws.proofs.Untouched.{untouched_rules_stay_stable}
 use Rattle.tv_struct.specs.StructureForm.{StructureForm, structure_of}
 use Rattle.tv_struct.proofs.Library.{below-range}
-use Rattle.tv_applied.specs.Applied.{kind_at, update_at, used_update, new_value, keep_value, IsMiddleOf, IsNew}
-use Rattle.tv_applied.specs.Choices.{choices_of, stays_in, AreGiven}
+use Rattle.tv_update_laws.specs.Applied.{kind_at, update_at, used_update, new_value, keep_value, IsMiddleOf}
+use Rattle.tv_update_laws.specs.Applied.{IsNew}
+use Rattle.tv_update_laws.specs.Choices.{choices_of, stays_in, AreGiven}
 use Rattle.tv_coerce.specs.RuleSets.{IsStableBut}
-use Rattle.tv_transfer.proofs.From.{zip-back}
+use Rattle.tv_step_laws.proofs.From.{zip-back}
 use Rattle.tv_step.specs.Waiting.{IsLeftAlone, WaitsFor}
 
 -- ---- no individual comes or goes

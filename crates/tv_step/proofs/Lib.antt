@@ -4,7 +4,7 @@ mod Beginnings
 mod Budgeted
 mod Coercing
 mod Differing
-mod Engines
+pub mod Engines
 mod Evaluating
 mod Finishing
 mod FocusStays

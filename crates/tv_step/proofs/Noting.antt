@@ -1,5 +1,7 @@
 -- Sets of rules that wait after an update.
-use Rattle.std.proofs.Common.{ℕ, ◌≡◌, ◌∙◌, ◌<◌, ◌≤◌, ◌+◌, ◌⊎◌, false, Bool, List, [], ◌∷◌, length, map, ◌++◌, take, inl, inr, ⊎_elim, refl, ap, subst, arith, add-one, get_or, slice_get, Some, All, Contains}
+use Rattle.std.proofs.Common.{ℕ, ◌≡◌, ◌∙◌, ◌<◌, ◌≤◌, ◌+◌, ◌⊎◌, false, Bool, List, [], ◌∷◌, length, map, ◌++◌}
+use Rattle.std.proofs.Common.{take, inl, inr, ⊎_elim, refl, ap, subst, arith, add-one, get_or, slice_get}
+use Rattle.std.proofs.Common.{Some, All, Contains}
 use Rattle.std.specs.Prelude.{IsTrue}
 use Rattle.std.proofs.lemmas.Bool.{cases_lt}
 use Rattle.std.proofs.lemmas.List.{length-map, map-append}
@@ -9,10 +11,11 @@ use Rattle.tv_model.specs.declared.formula.Formula.{Formula}
 use Rattle.tv_model.specs.declared.program.Update.{Update}
 use Rattle.tv_model.specs.Form.{Form, form_of, Mentions}
 use Rattle.tv_model.specs.declared.program.Program.{Program}
-use Rattle.tv_model.specs.Program.{ProgramForm, RuleForm, ActionForm, KindForm, KCore, KDefined, pred_of, program_of}
+use Rattle.tv_model.specs.Program.{ProgramForm, RuleForm, ActionForm, KindForm, KCore, KDefined, pred_of}
+use Rattle.tv_model.specs.Program.{program_of}
 use Rattle.tv_model.proofs.Lists.{All-from_contains, pushed-cases, slice_get-past}
 use Rattle.tv_rules.specs.Standing.{StandsIn, SeesSummaries}
-use Rattle.tv_applied.specs.Applied.{kind_or_core, kind_at}
+use Rattle.tv_update_laws.specs.Applied.{kind_or_core, kind_at}
 use Rattle.tv_coerce.specs.RuleSets.{IsIn, HasMore, IsRuleThat}
 use Rattle.tv_update.specs.Plan.{IsDefined, moves_individuals}
 use Rattle.tv_step.specs.Waiting.{WaitsAt, WaitsFor, HasRulesOf}

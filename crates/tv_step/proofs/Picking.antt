@@ -1,10 +1,13 @@
 -- What an action gives under the individuals that it may pick.
-use Rattle.std.proofs.Common.{ℕ, ◌≡◌, ◌∙◌, ◌<◌, ◌≤◌, ◌+◌, ◌*◌, ◌⊎◌, zero, suc, true, false, List, [], ◌∷◌, ◌++◌, length, map, filter, min, mul_comm, Option, Some, inl, inr, ⊎_elim, refl, sym, ap, subst, arith, eq-eqb, ne_eqb, get_or, slice_get, All, Contains}
+use Rattle.std.proofs.Common.{ℕ, ◌≡◌, ◌∙◌, ◌<◌, ◌≤◌, ◌+◌, ◌*◌, ◌⊎◌, zero, suc, true, false, List, [], ◌∷◌}
+use Rattle.std.proofs.Common.{◌++◌, length, map, filter, min, mul_comm, Option, Some, inl, inr, ⊎_elim, refl}
+use Rattle.std.proofs.Common.{sym, ap, subst, arith, eq-eqb, ne_eqb, get_or, slice_get, All, Contains}
 use Rattle.std.specs.Prelude.{◌==◌, Any, IsSomeAnd, if◌then◌else◌}
 use Rattle.std.specs.List.{flat_map, range_with_len}
 use Rattle.std.proofs.lemmas.Bool.{cases_eq, cond-true, cond-false, cases_lt}
 use Rattle.std.proofs.lemmas.List.{append-nil, length-append, length-map}
-use Rattle.std.proofs.lemmas.List.Elements.{All-nil, All-cons, All-head, All-tail, All-append, All-contains, All-map}
+use Rattle.std.proofs.lemmas.List.Elements.{All-nil, All-cons, All-head, All-tail, All-append, All-contains}
+use Rattle.std.proofs.lemmas.List.Elements.{All-map}
 use Rattle.std.proofs.lemmas.Option.{get_or_from_slice_get}
 use Rattle.tv_model.specs.declared.program.Mode.{Mode}
 use Rattle.tv_model.specs.declared.program.Program.{Program}
@@ -12,27 +15,31 @@ use Rattle.tv_model.specs.Form.{Form, height}
 use Rattle.tv_model.specs.Program.{ProgramForm, ActionForm, program_of}
 use Rattle.tv_model.specs.Rules.{blank}
 use Rattle.tv_model.specs.Truth.{Assignment, put, put_all}
-use Rattle.tv_model.specs.Valid.{IsValid, IsAction, IsPrecondition, IsPlainFormula, free_occurrences, first_occurrences}
-use Rattle.tv_model.proofs.Lists.{Contains-cases, Contains-map, Contains-flat_map, Contains-filter, Contains-filter_back, All-from_contains, slice_get-contains}
-use Rattle.tv_value.proofs.Rounds.{range-push}
+use Rattle.tv_model.specs.Valid.{IsValid, IsAction, IsPrecondition, IsPlainFormula, free_occurrences}
+use Rattle.tv_model.specs.Valid.{first_occurrences}
+use Rattle.tv_model.proofs.Lists.{Contains-cases, Contains-map, Contains-flat_map, Contains-filter}
+use Rattle.tv_model.proofs.Lists.{Contains-filter_back, All-from_contains, slice_get-contains}
+use Rattle.tv_eval_laws.proofs.Rounds.{range-push}
 use Rattle.tv_struct.proofs.Library.{Contains-range}
-use Rattle.tv_eval.specs.AssignmentForm.{IsAssigned, place_of}
+use Rattle.tv_eval.specs.AssignmentForm.{IsAssigned, individual_for}
 use Rattle.tv_eval.specs.Formulas.{AreAssigned}
 use Rattle.tv_eval.specs.ScratchForm.{program_height}
 use Rattle.tv_eval.proofs.Programs.{within_height}
 use Rattle.tv_struct.specs.StructureForm.{StructureForm, IsStructure, structure_of}
 use Rattle.tv_struct.specs.declared.analysis.StageError.{StageError}
 use Rattle.tv_struct.specs.declared.analysis.StageError.TheVariants.{Splits, Individuals, Memory}
-use Rattle.tv_applied.specs.Choices.{AreGiven}
-use Rattle.tv_applied.specs.Picks.{picks_of, lists_of, passing_picks}
-use Rattle.tv_applied.specs.Tables.{HasManyChoices, IsTooLarge, IsGivenOver}
-use Rattle.tv_applied.proofs.Preconditions.{first-occurs, free-occurs}
+use Rattle.tv_update_laws.specs.Choices.{AreGiven}
+use Rattle.tv_update_laws.specs.Picks.{picks_of, lists_of, passing_picks}
+use Rattle.tv_update_laws.specs.Tables.{HasManyChoices, IsTooLarge, IsGivenOver}
+use Rattle.tv_update_laws.proofs.Preconditions.{first-occurs, free-occurs}
 use Rattle.tv_update.specs.Update.{action_at, no_action, IsWithinLimits, IsUpdateCause}
-use Rattle.tv_transfer.specs.Parts.{AreFrom}
-use Rattle.tv_transfer.specs.Shaped.{IsShaped}
-use Rattle.tv_transfer.specs.Transfer.{Gives, Finishes}
-use Rattle.tv_transfer.proofs.From.{from-all}
-use Rattle.tv_step.specs.Steps.{Adds, Ends, passes, PickGives, PicksGive, PickKeepsLimits, PicksKeepLimits, IsCauseOfPick, IsCauseOfPicks, StepsIn, KeepsUpdateLimits, IsCauseOfUpdate, IsCauseOfUpdates}
+use Rattle.tv_step_laws.specs.Parts.{AreFrom}
+use Rattle.tv_step_laws.specs.Shaped.{IsShaped}
+use Rattle.tv_step_laws.specs.Transfer.{GivesStructures, Finishes}
+use Rattle.tv_step_laws.proofs.From.{from-all}
+use Rattle.tv_step.specs.Steps.{Adds, Ends, passes, PickGives, PicksGive, PickKeepsLimits, PicksKeepLimits}
+use Rattle.tv_step.specs.Steps.{IsCauseOfPick, IsCauseOfPicks, StepsIn, KeepsUpdateLimits, IsCauseOfUpdate}
+use Rattle.tv_step.specs.Steps.{IsCauseOfUpdates}
 use Rattle.tv_step.proofs.Adding.{adds-more, each-unit, from-append, from-one, from-weaker}
 
 -- ---- the action
@@ -188,17 +195,17 @@ cut-next n (suc k) total r cut is =
 
 -- where an individual is put for the first variable that is left, one is left less
 pub picked-with : (picks left : List ℕ) (size v u : ℕ) (old new : List (Option ℕ))
-    → ((w : ℕ) → place_of new w ≡ (if w == v then Some u else place_of old w)) → u < size
+    → ((w : ℕ) → individual_for new w ≡ (if w == v then Some u else individual_for old w)) → u < size
     → ((w : ℕ) → Contains picks w → Contains (v ∷ left) w ⊎ IsAssigned size old w)
     → (w : ℕ) → Contains picks w → Contains left w ⊎ IsAssigned size new w
 picked-with picks left size v u old new is inside known w picked =
     ⊎_elim
     (λ same. inr
-    (subst Assigned (sym (is w ∙ ap (λ b. if b then Some u else place_of old w) (eq-eqb w v same))) inside))
+    (subst Assigned (sym (is w ∙ ap (λ b. if b then Some u else individual_for old w) (eq-eqb w v same))) inside))
     (λ other. ⊎_elim
     (λ among. ⊎_elim (λ e. absurd (other (sym e))) (λ later. inl later) (Contains-cases v w left among))
     (λ own. inr
-    (subst Assigned (sym (is w ∙ ap (λ b. if b then Some u else place_of old w) (ne_eqb w v other))) own))
+    (subst Assigned (sym (is w ∙ ap (λ b. if b then Some u else individual_for old w) (ne_eqb w v other))) own))
     (known w picked))
     (cases_eq w v)
   where
@@ -305,7 +312,7 @@ abbrev pub PassingGive : ProgramForm → Mode → ActionForm → StructureForm �
     → Type 0
 PassingGive p mode action s picks ts =
     (given : List StructureForm)
-    × AreFrom (Gives p mode action s) (filter (λ us. passes action s (picks_of action us)) picks) given
+    × AreFrom (GivesStructures p mode action s) (filter (λ us. passes action s (picks_of action us)) picks) given
     × AreFrom (Ends p) given ts
 
 passing-give : (p : ProgramForm) (mode : Mode) (action : ActionForm) (s : StructureForm)

@@ -1,6 +1,6 @@
 -- What is said of a step along an edge.
 use Rattle.std.proofs.Common.{ℕ, List, All}
-use Rattle.std.specs.Prelude.{Result, Ok, Err, IfOk, IfErr, OnOk}
+use Rattle.std.specs.Prelude.{Result, Ok, Err, IfOk, IfErr}
 use Rattle.std.proofs.lemmas.List.Elements.{All-contains}
 use Rattle.tv_kleene.specs.declared.K3.{K3}
 use Rattle.tv_model.specs.declared.program.Mode.{Mode}
@@ -9,26 +9,16 @@ use Rattle.tv_model.specs.Valid.{IsValid}
 use Rattle.tv_model.proofs.Lists.{All-from_contains}
 use Rattle.tv_struct.specs.StructureForm.{StructureForm, IsStructure}
 use Rattle.tv_struct.specs.declared.analysis.StageError.{StageError}
-use Rattle.tv_transfer.specs.Budgets.{KeepsBudgets, IsStepCause}
-use Rattle.tv_transfer.specs.Settled.{IsSettled}
-use Rattle.tv_transfer.specs.Sound.{KeepsNewHeaps, TellsMessages}
-use Rattle.tv_transfer.specs.Transfer.{Coerces, AreResults, AreMessageValues, IsActionOf}
-use Rattle.tv_transfer.proofs.Heaps.{any_heap, message-heap, result-heap}
-use Rattle.tv_transfer.proofs.Settled.{result-settled}
+use Rattle.tv_step_laws.specs.Budgets.{KeepsBudgets, IsStepCause}
+use Rattle.tv_step_laws.specs.Settled.{IsSettled}
+use Rattle.tv_step_laws.specs.Sound.{KeepsNewHeaps, TellsMessages}
+use Rattle.tv_step_laws.specs.Transfer.{Coerces, AreResults, AreMessageValues, IsActionOf}
+use Rattle.tv_step_laws.proofs.Heaps.{any_heap, message-heap, result-heap}
+use Rattle.tv_step_laws.proofs.Settled.{result-settled}
 use Rattle.tv_step.specs.declared.step.StepOut.{StepOut}
+use Rattle.tv_step.specs.StepAnswer.{AnswersStep}
 use Rattle.tv_step.specs.Steps.{AreResultsOf, AreValuesOf, IsCauseOfStep}
 use Rattle.tv_step.proofs.Budgeted.{budgets-kept, step-cause}
-
--- all that is said of an answer
-pub record IsSaid (p : ProgramForm) (mode : Mode) (edge : ℕ) (s : StructureForm)
-    (answer : Result StepOut StageError) : Type 0 where
-  pub results : IfOk answer (λ out. AreResults p mode edge s out.results)
-  pub values : IfOk answer (λ out. AreMessageValues p edge s out.messages)
-  pub settled : IfOk answer (λ out. All (IsSettled p) out.results)
-  pub heaps : IfOk answer (λ out. KeepsNewHeaps p mode edge s out.results)
-  pub truths : IfOk answer (λ out. TellsMessages p edge s out.messages)
-  pub budgets : OnOk answer (KeepsBudgets p edge s)
-  pub cause : IfErr answer (IsStepCause p edge s)
 
 results-are : (p : ProgramForm) (mode : Mode) (edge : ℕ) (s : StructureForm) (action : ActionForm)
     (start results : List StructureForm)
@@ -62,7 +52,7 @@ pub step-said : (p : ProgramForm) → IsValid p → (mode : Mode) (edge : ℕ) (
     → IsActionOf p edge action → Coerces p s start → (answer : Result StepOut StageError)
     → IfOk answer (λ out. AreResultsOf p mode action start out.results)
     → IfOk answer (λ out. AreValuesOf p action start out.messages)
-    → IfErr answer (IsCauseOfStep p action start) → IsSaid p mode edge s answer
+    → IfErr answer (IsCauseOfStep p action start) → AnswersStep p mode edge s answer
 step-said p valid mode edge s action start is coerces (Ok out) results values cause =
     let are : AreResults p mode edge s out.results
     = results-are p mode edge s action start out.results is coerces results

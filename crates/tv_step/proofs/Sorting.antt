@@ -1,5 +1,6 @@
 -- Structures that are sorted, and of which each is kept once.
-use Rattle.std.proofs.Common.{◌≡◌, ◌∙◌, ◌↔◌, ◌<◌, true, List, [], ◌∷◌, length, arith, None, refl, sym, ap, subst, All, Contains}
+use Rattle.std.proofs.Common.{◌≡◌, ◌∙◌, ◌↔◌, ◌<◌, true, List, [], ◌∷◌, length, arith, None, refl, sym, ap}
+use Rattle.std.proofs.Common.{subst, All, Contains}
 use Rattle.std.specs.Prelude.{Any}
 use Rattle.std.specs.Cmp.{eq_by_cmp_equiv, Equal-is}
 use Rattle.std.specs.Ordering.{eq_by_cmp}

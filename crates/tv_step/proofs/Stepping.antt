@@ -1,5 +1,6 @@
 -- The step, from its parts.
-use Rattle.std.proofs.Common.{ℕ, ◌≡◌, ◌↔◌, List, [], ◌∷◌, map, None, inl, inr, sym, subst, slice_get, Some, All, Contains}
+use Rattle.std.proofs.Common.{ℕ, ◌≡◌, ◌↔◌, List, [], ◌∷◌, map, None, inl, inr, sym, subst, slice_get, Some}
+use Rattle.std.proofs.Common.{All, Contains}
 use Rattle.std.specs.List.{range_with_len}
 use Rattle.std.specs.List.Sorted.{IsStrictlySortedBy}
 use Rattle.std.proofs.lemmas.List.Elements.{All-cons, All-contains, All-nil}
@@ -8,19 +9,22 @@ use Rattle.tv_model.specs.declared.program.Mode.{Mode}
 use Rattle.tv_model.specs.Form.{Form, form_of}
 use Rattle.tv_model.specs.Program.{ProgramForm, ActionForm, MessageForm, message_of}
 use Rattle.tv_model.specs.Valid.{IsValid, IsPlainFormula, IsMessage}
-use Rattle.tv_model.proofs.Lists.{All-from_contains, Contains-map, Contains-map_back, Contains-flat_map_back, slice_get-contains}
+use Rattle.tv_model.proofs.Lists.{All-from_contains, Contains-map, Contains-map_back, Contains-flat_map_back}
+use Rattle.tv_model.proofs.Lists.{slice_get-contains}
 use Rattle.tv_eval.proofs.Programs.{within_height}
 use Rattle.tv_struct.specs.Order.{structure_cmp}
 use Rattle.tv_struct.specs.StructureForm.{StructureForm, IsStructure}
 use Rattle.tv_struct.proofs.Library.{below-range}
-use Rattle.tv_transfer.specs.Parts.{AreFrom}
-use Rattle.tv_transfer.specs.Shaped.{IsShaped}
-use Rattle.tv_transfer.specs.Transfer.{FocusPlace, places_in, focus_places, Coerces, Focuses, Finishes, Steps, IsBlurOf}
-use Rattle.tv_transfer.proofs.From.{from-all, zip-all}
+use Rattle.tv_step_laws.specs.Parts.{AreFrom}
+use Rattle.tv_step_laws.specs.Shaped.{IsShaped}
+use Rattle.tv_step_laws.specs.Transfer.{FocusPlace, places_in, focus_places, Coerces, Focuses, Finishes}
+use Rattle.tv_step_laws.specs.Transfer.{Steps, IsBlurOf}
+use Rattle.tv_step_laws.proofs.From.{from-all, zip-all}
 use Rattle.tv_step.specs.declared.focus.Turn.{Turn}
-use Rattle.tv_step.specs.Places.{place_of}
+use Rattle.tv_step.specs.Places.{focus_place}
 use Rattle.tv_step.specs.Setting.{IsStableIn}
-use Rattle.tv_step.specs.Steps.{HasRoomFor, IsPlace, StepsIn, AreFocusedWithin, KeepsUpdateLimits, AreResultsOf}
+use Rattle.tv_step.specs.Steps.{HasRoomFor, IsPlace, StepsIn, AreFocusedWithin, KeepsUpdateLimits}
+use Rattle.tv_step.specs.Steps.{AreResultsOf}
 use Rattle.tv_step.proofs.Adding.{each-unit, from-weaker}
 use Rattle.tv_step.proofs.Picking.{action-of}
 use Rattle.tv_step.proofs.Turns.{at, focus-shaped, focused-are}
@@ -47,10 +51,10 @@ all-places p fs all =
 
 pub action-places : (p : ProgramForm) → IsValid p → (n : ℕ) (action : ActionForm)
     → slice_get p.actions n ≡ Some action
-    → (places : List Turn) → map place_of places ≡ focus_places action.focus
-    → All (λ place. IsPlace p (place_of place)) places
+    → (places : List Turn) → map focus_place places ≡ focus_places action.focus
+    → All (λ place. IsPlace p (focus_place place)) places
 action-places p valid n action there places are =
-    all-back (IsPlace p) place_of places
+    all-back (IsPlace p) focus_place places
     (subst (All (IsPlace p)) (sym are) (all-places p action.focus (action-of p valid n action there).focus))
 
 pub action-messages : (p : ProgramForm) → IsValid p → (n : ℕ) (action : ActionForm)

@@ -1,5 +1,7 @@
 -- Focus, atom by atom.
-use Rattle.std.proofs.Common.{ℕ, ◌≡◌, ◌∙◌, ◌<◌, ◌≤◌, ◌+◌, zero, suc, List, [], ◌∷◌, ◌++◌, length, map, take, drop, min, inl, inr, refl, sym, ap, subst, arith, add-one, append_assoc, get_or, All, Contains}
+use Rattle.std.proofs.Common.{ℕ, ◌≡◌, ◌∙◌, ◌<◌, ◌≤◌, ◌+◌, zero, suc, List, [], ◌∷◌, ◌++◌, length, map, take}
+use Rattle.std.proofs.Common.{drop, min, inl, inr, refl, sym, ap, subst, arith, add-one, append_assoc, get_or}
+use Rattle.std.proofs.Common.{All, Contains}
 use Rattle.std.specs.Prelude.{Any}
 use Rattle.std.specs.List.{AllZip, range_with_len}
 use Rattle.std.proofs.lemmas.List.{append-nil, length-append, length-map, map-append, take-append-drop}
@@ -7,9 +9,9 @@ use Rattle.std.proofs.lemmas.List.Elements.{All-nil, All-cons}
 use Rattle.std.proofs.lemmas.List.Concat.{flat_map-append}
 use Rattle.std.proofs.lemmas.List.FromFn.{length-range_with_len, map-range_with_len_more}
 use Rattle.std.proofs.Math.Seq.{drop-cons, take-suc}
-use Rattle.tv_frame.specs.LogicalStructure.{LogicalStructure}
-use Rattle.tv_choices.specs.FocusAtoms.{focus_atoms}
-use Rattle.tv_choices.specs.Tables.{ShowsOver}
+use Rattle.tv_embedding_laws.specs.LogicalStructure.{LogicalStructure}
+use Rattle.tv_focus_laws.specs.FocusAtoms.{focus_atoms}
+use Rattle.tv_focus_laws.specs.Tables.{ShowsOver}
 use Rattle.tv_focus.specs.Anchored.{AreAtomsOver}
 use Rattle.tv_focus.proofs.Limits.{atoms-over}
 use Rattle.tv_model.specs.declared.formula.Formula.{Formula}
@@ -17,15 +19,16 @@ use Rattle.tv_model.specs.Form.{Form, form_of}
 use Rattle.tv_model.specs.Program.{ProgramForm}
 use Rattle.tv_model.specs.Valid.{IsFormula}
 use Rattle.tv_struct.specs.StructureForm.{StructureForm, arities_of}
-use Rattle.tv_transfer.specs.Parts.{AreFrom}
-use Rattle.tv_transfer.specs.Shaped.{IsShaped}
-use Rattle.tv_transfer.specs.Transfer.{FocusPlace, places_in, focus_places, choices_at, IsTableOf, Coerces, Focuses, AreFocused}
+use Rattle.tv_step_laws.specs.Parts.{AreFrom}
+use Rattle.tv_step_laws.specs.Shaped.{IsShaped}
+use Rattle.tv_step_laws.specs.Transfer.{FocusPlace, places_in, focus_places, choices_at, IsTableOf, Coerces}
+use Rattle.tv_step_laws.specs.Transfer.{Focuses, AreFocused}
 use Rattle.tv_struct.specs.declared.analysis.StageError.{StageError}
 use Rattle.tv_struct.specs.declared.analysis.StageError.TheVariants.{Splits, Individuals, Memory}
 use Rattle.tv_step.specs.declared.focus.Turn.{Turn}
-use Rattle.tv_step.specs.Places.{place_of}
-use Rattle.tv_step.specs.Steps.{Adds, IsFocusCause, KeepsLimits, AreFocusedWithin, IsCauseOfFocus}
-use Rattle.tv_transfer.proofs.From.{from-all}
+use Rattle.tv_step.specs.Places.{focus_place}
+use Rattle.tv_step.specs.Steps.{Adds, IsFocusCause, KeepsLimits, AreFocusedWithin, FailsAt, IsCauseOfFocus}
+use Rattle.tv_step_laws.proofs.From.{from-all}
 use Rattle.tv_step.proofs.Adding.{each-unit}
 
 -- ---- the list of places
@@ -148,42 +151,41 @@ focus-shaped p place ss ts from =
 
 pub places-next : (places : List Turn) (i : ℕ) (place : Turn) → i < length places
     → place ≡ get_or places i place
-    → map place_of (take (i + 1) places) ≡ map place_of (take i places) ++ place_of place ∷ []
+    → map focus_place (take (i + 1) places) ≡ map focus_place (take i places) ++ focus_place place ∷ []
 places-next places i place lt is =
-    rw (add-one, take-suc places i place lt, ← is) (map-append place_of (take i places) (place ∷ []))
+    rw (add-one, take-suc places i place lt, ← is) (map-append focus_place (take i places) (place ∷ []))
 
 pub places-split : (places : List Turn) (i : ℕ) (place : Turn) → i < length places
     → place ≡ get_or places i place
-    → map place_of places ≡ map place_of (take i places) ++ place_of place ∷ map place_of
+    → map focus_place places ≡ map focus_place (take i places) ++ focus_place place ∷ map focus_place
     (drop (i + 1) places)
 places-split places i place lt is =
     let rest : drop i places ≡ place ∷ drop (i + 1) places
     = rw (add-one) (drop-cons places i place lt ∙ ap (λ x. x ∷ drop (suc i) places) (sym is))
-    in sym (ap (map place_of) (take-append-drop i places))
-    ∙ map-append place_of (take i places) (drop i places)
-    ∙ ap (λ xs. map place_of (take i places) ++ map place_of xs) rest
+    in sym (ap (map focus_place) (take-append-drop i places))
+    ∙ map-append focus_place (take i places) (drop i places)
+    ∙ ap (λ xs. map focus_place (take i places) ++ map focus_place xs) rest
+
+fails-at : (p : ProgramForm) (places : List Turn) (i : ℕ) (place : Turn) (ss ts : List StructureForm)
+    (Cause : FocusPlace → List StructureForm → Type 0)
+    → i < length places → place ≡ get_or places i place
+    → AreFocusedWithin p (map focus_place (take i places)) ss ts
+    → Cause (focus_place place) ts → FailsAt p (map focus_place places) ss Cause
+fails-at p places i place ss ts Cause lt is are cause = record {
+  before = map focus_place (take i places);
+  place = focus_place place;
+  after = map focus_place (drop (i + 1) places);
+  turn = places-split places i place lt is;
+  at_hand = ts;
+  are_focused = focused-are p (map focus_place (take i places)) ss ts are;
+  is_cause = cause;
+}
 
 pub focus-fails : (p : ProgramForm) (places : List Turn) (i : ℕ) (place : Turn) (ss ts : List StructureForm)
     (e : StageError)
     → i < length places → place ≡ get_or places i place
-    → AreFocusedWithin p (map place_of (take i places)) ss ts
-    → IsFocusCause (place_of place) ts e → IsCauseOfFocus p (map place_of places) ss e
-focus-fails p places i place ss ts Splits lt is are cause = record {
-  before = map place_of (take i places);
-  place = place_of place;
-  after = map place_of (drop (i + 1) places);
-  turn = places-split places i place lt is;
-  at_hand = ts;
-  are_focused = focused-are p (map place_of (take i places)) ss ts are;
-  is_cause = cause;
-}
-focus-fails p places i place ss ts Individuals lt is are cause = record {
-  before = map place_of (take i places);
-  place = place_of place;
-  after = map place_of (drop (i + 1) places);
-  turn = places-split places i place lt is;
-  at_hand = ts;
-  are_focused = focused-are p (map place_of (take i places)) ss ts are;
-  is_cause = cause;
-}
+    → AreFocusedWithin p (map focus_place (take i places)) ss ts
+    → IsFocusCause (focus_place place) ts e → IsCauseOfFocus p (map focus_place places) ss e
+focus-fails p places i place ss ts Splits lt is are cause = fails-at p places i place ss ts _ lt is are cause
+focus-fails p places i place ss ts Individuals lt is are cause = fails-at p places i place ss ts _ lt is are cause
 focus-fails p places i place ss ts Memory lt is are cause = tt

@@ -5,7 +5,7 @@ use Rattle.tv_kleene.specs.declared.K3.{K3}
 use Rattle.tv_model.specs.Program.{ActionForm}
 use Rattle.tv_model.specs.Truth.{Assignment, put}
 use Rattle.tv_struct.specs.StructureForm.{StructureForm, structure_of}
-use Rattle.tv_applied.specs.Picks.{precondition_value}
+use Rattle.tv_update_laws.specs.Picks.{precondition_value}
 
 -- the values of the precondition at each individual, put for v
 abbrev pub precondition_values : ActionForm → StructureForm → Assignment → (v : ℕ) → List K3

@@ -2,7 +2,7 @@
 use Rattle.std.specs.Prelude.{ℕ, ◌≡◌, ◌<◌, Bool, List, length, Some, slice_get}
 use Rattle.tv_model.specs.Program.{RuleForm}
 use Rattle.tv_rules.specs.Standing.{StandsIn}
-use Rattle.tv_splits.specs.Split.{IsUntouched}
+use Rattle.tv_coerce_laws.specs.Split.{IsUntouched}
 use Rattle.tv_struct.specs.StructureForm.{StructureForm, structure_of, summary_at, value_at}
 use Rattle.tv_struct.specs.TableForm.{AreIndividuals}
 use Rattle.tv_coerce.specs.RuleSets.{IsIn}

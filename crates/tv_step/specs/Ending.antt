@@ -5,7 +5,7 @@ use Rattle.tv_model.specs.Program.{ProgramForm}
 use Rattle.tv_blur.specs.Blur.{IsBlur}
 use Rattle.tv_blur.specs.Names.{abstraction_preds}
 use Rattle.tv_struct.specs.StructureForm.{StructureForm, IsStructure}
-use Rattle.tv_transfer.specs.Transfer.{Coerces}
+use Rattle.tv_step_laws.specs.Transfer.{Coerces}
 use Rattle.tv_step.specs.Steps.{Ends}
 use Rattle.tv_step.specs.declared.coerced.Ending.{Ending}
 use Rattle.tv_step.specs.declared.coerced.Ending.TheVariants.{Open, Blurred}

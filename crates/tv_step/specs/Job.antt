@@ -1,5 +1,6 @@
 -- An action as a step applies it, and a structure at hand to which it is applied.
-use Rattle.std.specs.Prelude.{ℕ, ◌≡◌, ◌⊎◌, ◌^◌, ◌-◌, List, Option, Some, length, map, min, All, Contains, slice_get}
+use Rattle.std.specs.Prelude.{ℕ, ◌≡◌, ◌⊎◌, ◌^◌, ◌-◌, List, Option, Some, length, map, min, All, Contains}
+use Rattle.std.specs.Prelude.{slice_get}
 use Rattle.tv_model.specs.declared.program.Mode.{Mode}
 use Rattle.tv_model.specs.declared.program.Program.{Program}
 use Rattle.tv_model.specs.Program.{ProgramForm, ActionForm, action_of, program_of}
@@ -7,25 +8,27 @@ use Rattle.tv_eval.specs.AssignmentForm.{IsAssigned}
 use Rattle.tv_eval.specs.ScratchForm.{ScratchForm}
 use Rattle.tv_rules.specs.Closing.{closed_rules}
 use Rattle.tv_struct.specs.StructureForm.{StructureForm, IsStructure}
-use Rattle.tv_transfer.specs.Shaped.{IsShaped}
-use Rattle.tv_transfer.specs.Transfer.{focus_places}
+use Rattle.tv_step_laws.specs.Shaped.{IsShaped}
+use Rattle.tv_step_laws.specs.Transfer.{focus_places}
 use Rattle.tv_update.specs.Plan.{IsPlanFor}
 use Rattle.tv_step.specs.declared.job.Job.{Job}
 use Rattle.tv_step.specs.declared.picks.Case.{Case}
-use Rattle.tv_step.specs.Places.{place_of, HasWaiting}
-use Rattle.tv_step.specs.Setting.{form_in, IsReady, IsStableIn}
+use Rattle.tv_step.specs.Places.{focus_place, HasWaiting}
+use Rattle.tv_step.specs.Setting.{form_in, IsReadyToStep, IsStableIn}
 use Rattle.tv_step.specs.Waiting.{WaitsFor}
 
 abbrev pub action_in : Job → ActionForm
 action_in job = action_of job.action.now
 
--- the job's action is the program's, by its number; its turns are the atoms of the action's focus formulas, and
--- the rules that wait are those that a choice of the atom and the action may leave unmet; the plan is that of the mode
+-- the job's action is the program's, by its number; its turns are the atoms of the action's focus formulas,
+-- and the rules that wait are those that a choice of the atom and the action may leave unmet; the plan is
+-- that of the mode
 pub record IsJob (program : Program) (mode : Mode) (job : Job) : Type 0 where
   pub action : slice_get (program_of program).actions job.number ≡ Some (action_in job)
-  pub places : map place_of job.turns.items ≡ focus_places (action_in job).focus
+  pub places : map focus_place job.turns.items ≡ focus_places (action_in job).focus
   pub waiting : All (HasWaiting program) job.turns.items
-  pub waits : WaitsFor (program_of program) (action_in job) (closed_rules (program_of program)) job.waiting.value
+  pub waits : WaitsFor (program_of program) (action_in job)
+      (closed_rules (program_of program)) job.waiting.value
   pub plan : IsPlanFor (program_of program) mode (action_in job) job.plan
 
 -- each action has such a job at its number; the greatest 32-bit number stands for all that are greater
@@ -48,7 +51,7 @@ case_structure c = c.from.now
 
 -- the case is one of the program and of a stable structure over it
 pub record IsCase (c : Case) (scratch : ScratchForm) : Type 0 where
-  pub ready : IsReady c.setting.now scratch
+  pub ready : IsReadyToStep c.setting.now scratch
   pub job : IsJob c.setting.now.program.now c.setting.now.mode c.job.now
   pub shaped : IsShaped (case_program c) (case_structure c)
   pub is : IsStructure (case_structure c)

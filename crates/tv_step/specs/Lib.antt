@@ -8,3 +8,4 @@ pub mod Setting
 pub mod Starts
 pub mod Steps
 pub mod Waiting
+pub mod StepAnswer

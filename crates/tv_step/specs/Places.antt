@@ -4,12 +4,12 @@ use Rattle.tv_model.specs.declared.program.Program.{Program}
 use Rattle.tv_model.specs.Form.{Form, form_of}
 use Rattle.tv_model.specs.Program.{program_of}
 use Rattle.tv_rules.specs.Closing.{closed_rules}
-use Rattle.tv_transfer.specs.Transfer.{FocusPlace}
+use Rattle.tv_step_laws.specs.Transfer.{FocusPlace}
 use Rattle.tv_step.specs.Waiting.{WaitsAt}
 use Rattle.tv_step.specs.declared.focus.Turn.{Turn}
 
-abbrev pub place_of : Turn → FocusPlace
-place_of turn = record { formula = form_of turn.formula.now; atom = turn.atom }
+abbrev pub focus_place : Turn → FocusPlace
+focus_place turn = record { formula = form_of turn.formula.now; atom = turn.atom }
 
 -- the rules that a choice of an atom of the formula may leave unmet are in the set
 abbrev pub AreWaitingAt : Program → Form → List Bool → Type 0

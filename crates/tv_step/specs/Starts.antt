@@ -2,9 +2,9 @@
 use Rattle.std.specs.Prelude.{Option, None, Some}
 use Rattle.tv_model.specs.Heap.{Heap}
 use Rattle.tv_model.specs.Program.{ProgramForm}
-use Rattle.tv_frame.specs.Embedding.{IsHeapOf}
+use Rattle.tv_embedding_laws.specs.Embedding.{IsHeapOf}
 use Rattle.tv_struct.specs.StructureForm.{StructureForm, structure_of}
-use Rattle.tv_transfer.specs.Sound.{IsStartOf}
+use Rattle.tv_step_laws.specs.Sound.{IsStartOf}
 
 -- each start heap of s embeds in the structure found, and where none was found there is no such heap
 abbrev pub HasStarts : ProgramForm → StructureForm → Option StructureForm → Type 0

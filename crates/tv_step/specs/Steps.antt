@@ -1,5 +1,6 @@
 -- What the parts of a step do, in the code's words.
-use Rattle.std.specs.Prelude.{ℕ, ◌≡◌, ◌<◌, ◌≤◌, ◌⊎◌, ◌↔◌, Bool, true, false, List, [], ◌∷◌, ◌++◌, length, map, Any, All, Contains}
+use Rattle.std.specs.Prelude.{ℕ, ◌≡◌, ◌<◌, ◌≤◌, ◌⊎◌, ◌↔◌, Bool, true, false, List, [], ◌∷◌, ◌++◌, length, map}
+use Rattle.std.specs.Prelude.{Any, All, Contains}
 use Rattle.std.specs.List.Sorted.{IsStrictlySortedBy}
 use Rattle.tv_kleene.specs.declared.K3.{K3}
 use Rattle.tv_model.specs.declared.program.Mode.{Mode}
@@ -8,19 +9,20 @@ use Rattle.tv_model.specs.Program.{ProgramForm, ActionForm}
 use Rattle.tv_model.specs.Truth.{Assignment, put_all}
 use Rattle.tv_model.specs.Valid.{IsFormula}
 use Rattle.tv_eval.specs.ScratchForm.{program_height}
-use Rattle.tv_choices.specs.FocusAtoms.{focus_atoms}
+use Rattle.tv_focus_laws.specs.FocusAtoms.{focus_atoms}
 use Rattle.tv_focus.specs.Stage.{IsWithinLimits as KeepsStageLimits}
 use Rattle.tv_struct.specs.Order.{structure_cmp}
 use Rattle.tv_struct.specs.StructureForm.{StructureForm, IsStructure, structure_of}
 use Rattle.tv_struct.specs.declared.analysis.StageError.{StageError}
 use Rattle.tv_struct.specs.declared.analysis.StageError.TheVariants.{Splits, Individuals, Memory}
-use Rattle.tv_applied.specs.Choices.{AreGiven}
-use Rattle.tv_applied.specs.Picks.{picks_of, lists_of, passing_picks, isnt_no, precondition_value}
-use Rattle.tv_applied.specs.Tables.{HasManyChoices, IsTooLarge}
+use Rattle.tv_update_laws.specs.Choices.{AreGiven}
+use Rattle.tv_update_laws.specs.Picks.{picks_of, lists_of, passing_picks, isnt_no, precondition_value}
+use Rattle.tv_update_laws.specs.Tables.{HasManyChoices, IsTooLarge}
 use Rattle.tv_update.specs.Update.{IsWithinLimits}
-use Rattle.tv_transfer.specs.Parts.{AreFrom}
-use Rattle.tv_transfer.specs.Shaped.{IsShaped}
-use Rattle.tv_transfer.specs.Transfer.{FocusPlace, focus_places, choices_at, Focuses, AreFocused, message_value, Finishes, Steps}
+use Rattle.tv_step_laws.specs.Parts.{AreFrom}
+use Rattle.tv_step_laws.specs.Shaped.{IsShaped}
+use Rattle.tv_step_laws.specs.Transfer.{FocusPlace, focus_places, choices_at, Focuses, AreFocused}
+use Rattle.tv_step_laws.specs.Transfer.{message_value, Finishes, Steps}
 
 -- what R makes of x is put behind the others
 abbrev pub Adds : {X Y : Type 0} → (X → List Y → Type 0) → X → (old new : List Y) → Type 0

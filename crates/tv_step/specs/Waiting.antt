@@ -1,15 +1,16 @@
 -- Which rules an action may leave unmet in a structure that was stable.
-use Rattle.std.specs.Prelude.{ℕ, ◌≡◌, ◌<◌, true, false, Bool, List, length, map, replicate, Some, Contains, slice_get}
+use Rattle.std.specs.Prelude.{ℕ, ◌≡◌, ◌<◌, true, false, Bool, List, length, map, replicate, Some, Contains}
+use Rattle.std.specs.Prelude.{slice_get}
 use Rattle.tv_model.specs.Form.{Form, Mentions}
 use Rattle.tv_model.specs.Program.{ProgramForm, RuleForm, ActionForm, KCore}
 use Rattle.tv_rules.specs.Standing.{StandsIn, SeesSummaries}
-use Rattle.tv_applied.specs.Applied.{kind_at}
+use Rattle.tv_update_laws.specs.Applied.{kind_at}
 use Rattle.tv_coerce.specs.RuleSets.{IsIn}
 use Rattle.tv_update.specs.Plan.{IsDefined, moves_individuals}
 use Rattle.tv_step.specs.declared.waiting.Shared.{Shared}
 
--- the action leaves the rule alone: no individual comes or goes, and each predicate that stands in the rule is
--- core and isn't updated
+-- the action leaves the rule alone: no individual comes or goes, and each predicate that stands in the rule
+-- is core and isn't updated
 pub record IsLeftAlone (p : ProgramForm) (action : ActionForm) (rule : RuleForm) : Type 0 where
   pub stays : moves_individuals action ≡ false
   pub core : (q : ℕ) → StandsIn q rule → kind_at p q ≡ KCore

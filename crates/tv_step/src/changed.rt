@@ -1,5 +1,5 @@
-//! The rules that may be unmet in a structure that came of a stable one over the same individuals: those about a
-//! predicate whose values differ.
+//! The rules that may be unmet in a structure that came of a stable one over the same individuals: those
+//! about a predicate whose values differ.
 
 ghost use Rattle.std.specs.Prelude.{◌≡◌, ◌<◌, ◌+◌, ℕ, length, IfOk, IfSome, IsTrue};
 ghost use Rattle.tv_coerce.specs.RuleSets.{IsStableBut};
@@ -115,8 +115,8 @@ fn none_waiting(x: &Setting, from: &Structure, s: &Structure) -> Result<RuleSet,
     RuleSet::of_none(x.alloc, x.closed)
 }
 
-/// The rules about a predicate whose values differ; none told where individuals came or went, or the summaries
-/// are others.
+/// The rules about a predicate whose values differ; none told where individuals came or went, or the
+/// summaries are others.
 fn waiting_between(
     x: &Setting,
     from: &Structure,
@@ -136,8 +136,8 @@ fn waiting_between(
     Ok(Some(waiting))
 }
 
-/// The rules that may be unmet in what came of the stable `from`, where only those that wait may be: fewer, where it is
-/// over the same individuals and summaries.
+/// The rules that may be unmet in what came of the stable `from`, where only those that wait may be: fewer,
+/// where it is over the same individuals and summaries.
 pub fn waiting_in(
     x: &Setting,
     waiting: &RuleSet,

@@ -4,10 +4,10 @@ ghost use Rattle.std.specs.Prelude.{◌≡◌, length, All, IfOk, IsTrue, OnOk};
 ghost use Rattle.tv_coerce.specs.RuleSets.{IsStableBut};
 ghost use Rattle.tv_rules.specs.EntryForms.{rules_of};
 ghost use Rattle.tv_struct.specs.StructureForm.{IsOver};
-ghost use Rattle.tv_transfer.specs.Parts.{AreFrom};
-ghost use Rattle.tv_transfer.specs.Shaped.{IsShaped};
+ghost use Rattle.tv_step_laws.specs.Parts.{AreFrom};
+ghost use Rattle.tv_step_laws.specs.Shaped.{IsShaped};
 ghost use Rattle.tv_step.specs.Ending.{Becomes, IsEndOf};
-ghost use Rattle.tv_step.specs.Setting.{form_in, IsReady, IsStableIn};
+ghost use Rattle.tv_step.specs.Setting.{form_in, IsReadyToStep, IsStableIn};
 ghost use Rattle.tv_step.specs.Steps.{Adds};
 
 use crate::changed::waiting_in;
@@ -48,7 +48,7 @@ fn push_in_place(
     scratch: &mut Scratch,
     out: &mut Structures,
 ) -> Result<(), AllocError>
-    requires ready { IsReady x.now scratch.old }
+    requires ready { IsReadyToStep x.now scratch.old }
     requires shaped { IsShaped (form_in x.now) s }
     requires count { length waiting ≡ length (rules_of x.now.closed.now) }
     requires rest { IsStableBut (rules_of x.now.closed.now) waiting s }
@@ -72,8 +72,9 @@ fn are_same(s: &Structure, t: &Structure) -> bool
     }
 }
 
-/// The same for a structure that came of the stable one `from`. Where it is that one again, no rule is tried, and
-/// where it is over the same individuals and summaries only the rules about a predicate whose values differ.
+/// The same for a structure that came of the stable one `from`. Where it is that one again, no rule is tried,
+/// and where it is over the same individuals and summaries only the rules about a predicate whose values
+/// differ.
 fn push_next(
     x: &Setting,
     ending: Ending,
@@ -83,7 +84,7 @@ fn push_next(
     scratch: &mut Scratch,
     out: &mut Structures,
 ) -> Result<(), AllocError>
-    requires ready { IsReady x.now scratch.old }
+    requires ready { IsReadyToStep x.now scratch.old }
     requires like { IsShaped (form_in x.now) from.now }
     requires from { IsStableIn (form_in x.now) from.now }
     requires shaped { IsShaped (form_in x.now) s }
@@ -109,7 +110,7 @@ pub fn push_all(
     scratch: &mut Scratch,
     out: &mut Structures,
 ) -> Result<(), AllocError>
-    requires ready { IsReady x.now scratch.old }
+    requires ready { IsReadyToStep x.now scratch.old }
     requires like { IsShaped (form_in x.now) from.now }
     requires from { IsStableIn (form_in x.now) from.now }
     requires shaped { All (IsShaped (form_in x.now)) structures }

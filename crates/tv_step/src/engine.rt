@@ -1,20 +1,19 @@
 //! The engine of abstract steps: a program in a mode, made ready once.
 
-ghost use Rattle.std.specs.Prelude.{◌≡◌, ◌<◌, ◌↔◌, All, Some, length, IfOk, IfErr, IfSome, IfNone, IsTrue, OnOk};
+ghost use Rattle.std.specs.Prelude.{◌≡◌, ◌<◌, Some, length, IfOk, IfSome, IfNone, IsTrue};
 ghost use Rattle.tv_eval.specs.ScratchForm.{IsMadeFor};
 ghost use Rattle.tv_model.specs.Program.{program_of};
 ghost use Rattle.tv_model.specs.Valid.{IsValid};
 ghost use Rattle.tv_rules.specs.Closing.{closed_rules};
 ghost use Rattle.tv_rules.specs.EntryForms.{rules_of};
-ghost use Rattle.tv_stable.specs.Stable.{IsStable};
+ghost use Rattle.tv_stable_laws.specs.Stable.{IsStable};
 ghost use Rattle.tv_struct.specs.StructureForm.{StructureForm, IsOver, structure_of};
-ghost use Rattle.tv_transfer.specs.Budgets.{KeepsBudgets, IsStepCause};
-ghost use Rattle.tv_transfer.specs.Settled.{IsSettled};
-ghost use Rattle.tv_transfer.specs.Sound.{KeepsNewHeaps, TellsMessages};
-ghost use Rattle.tv_transfer.specs.Transfer.{AreResults, AreMessageValues, IsOpening, HasNoOpening, IsActionOf};
+ghost use Rattle.tv_step_laws.specs.Settled.{IsSettled};
+ghost use Rattle.tv_step_laws.specs.Transfer.{IsOpening, HasNoOpening, IsActionOf};
 ghost use Rattle.tv_step.specs.Job.{action_in, IsJob};
 ghost use Rattle.tv_step.specs.Setting.{form_in};
 ghost use Rattle.tv_step.specs.Starts.{HasStarts};
+ghost use Rattle.tv_step.specs.StepAnswer.{AnswersStep};
 
 use crate::job::{Job, edge_at, job_at, jobs};
 use crate::opened;
@@ -29,8 +28,8 @@ use tv_model::{Mode, Program};
 use tv_rules::{Closed, close_rules};
 use tv_struct::{StageError, Structure};
 
-/// A program in a mode, made ready for abstract steps: what these need that depends on no structure is made once.
-/// A contract sees the program and the mode.
+/// A program in a mode, made ready for abstract steps: what these need that depends on no structure is made
+/// once. A contract sees the program and the mode.
 #[derive(Drop)]
 pub struct Engine<'a> {
     alloc: Global,
@@ -123,8 +122,10 @@ impl<'a> Engine<'a> {
         requires over { IsOver self.now.program.vocab s.now }
         requires scratch { IsMadeFor (program_of self.now.program) 256 scratch.old }
         ensures some { IfOk result (λ found. IfSome found (IsOpening (program_of self.now.program) s.now)) }
-        ensures none { IfOk result (λ found. IfNone found (HasNoOpening (program_of self.now.program) s.now)) }
-        ensures only { IfOk result (λ found. (t : StructureForm) → IsOpening (program_of self.now.program) s.now t
+        ensures none { IfOk result
+            (λ found. IfNone found (HasNoOpening (program_of self.now.program) s.now)) }
+        ensures only { IfOk result
+            (λ found. (t : StructureForm) → IsOpening (program_of self.now.program) s.now t
             → found ≡ Some t) }
         ensures settled { IfOk result (λ found. IfSome found (IsSettled (program_of self.now.program))) }
         ensures heaps { IfOk result (HasStarts (program_of self.now.program) s.now) }
@@ -135,7 +136,8 @@ impl<'a> Engine<'a> {
 
     /// The abstract step of a structure along an edge: its results, strictly sorted, and the values of the
     /// messages. `Splits` only where a stage of the step has over 4,096 choices, `Individuals` only where it
-    /// makes a structure of over 256 individuals; where it does either, the answer is one of the two or `Memory`.
+    /// makes a structure of over 256 individuals; where it does either, the answer is one of the two or
+    /// `Memory`.
     pub fn step(
         &self,
         edge: u32,
@@ -145,15 +147,7 @@ impl<'a> Engine<'a> {
         requires edge { edge < length self.now.program.edges }
         requires over { IsOver self.now.program.vocab s.now }
         requires scratch { IsMadeFor (program_of self.now.program) 256 scratch.old }
-        ensures results { IfOk result (λ out. AreResults (program_of self.now.program) self.now.mode edge s.now
-            out.results) }
-        ensures values { IfOk result (λ out. AreMessageValues (program_of self.now.program) edge s.now out.messages) }
-        ensures settled { IfOk result (λ out. All (IsSettled (program_of self.now.program)) out.results) }
-        ensures heaps { IfOk result (λ out. KeepsNewHeaps (program_of self.now.program) self.now.mode edge s.now
-            out.results) }
-        ensures truths { IfOk result (λ out. TellsMessages (program_of self.now.program) edge s.now out.messages) }
-        ensures budgets { OnOk result (KeepsBudgets (program_of self.now.program) edge s.now) }
-        ensures cause { IfErr result (IsStepCause (program_of self.now.program) edge s.now) }
+        ensures step { AnswersStep (program_of self.now.program) self.now.mode edge s.now result }
         ensures scratch { scratch.new ≡ scratch.old }
     {
         let x = self.setting();
@@ -173,19 +167,34 @@ impl<'a> Engine<'a> {
         requires over { IsOver self.now.program.vocab s.now }
         requires stable { IsStable (closed_rules (program_of self.now.program)) (structure_of s.now) }
         requires scratch { IsMadeFor (program_of self.now.program) 256 scratch.old }
-        ensures results { IfOk result (λ out. AreResults (program_of self.now.program) self.now.mode edge s.now
-            out.results) }
-        ensures values { IfOk result (λ out. AreMessageValues (program_of self.now.program) edge s.now out.messages) }
-        ensures settled { IfOk result (λ out. All (IsSettled (program_of self.now.program)) out.results) }
-        ensures heaps { IfOk result (λ out. KeepsNewHeaps (program_of self.now.program) self.now.mode edge s.now
-            out.results) }
-        ensures truths { IfOk result (λ out. TellsMessages (program_of self.now.program) edge s.now out.messages) }
-        ensures budgets { OnOk result (KeepsBudgets (program_of self.now.program) edge s.now) }
-        ensures cause { IfErr result (IsStepCause (program_of self.now.program) edge s.now) }
+        ensures step { AnswersStep (program_of self.now.program) self.now.mode edge s.now result }
         ensures scratch { scratch.new ≡ scratch.old }
     {
         let x = self.setting();
         let _ = s.size();
         step_from(&x, self.job(edge), slice::from_ref(s), scratch)
+    }
+
+    /// The same for a structure of which it may be known that it is stable.
+    pub fn step_of(
+        &self,
+        edge: u32,
+        s: &Structure,
+        is_stable: bool,
+        scratch: &mut Scratch,
+    ) -> Result<StepOut, StageError>
+        requires scratch { IsMadeFor (program_of self.now.program) 256 scratch.old }
+        requires over { IsOver self.now.program.vocab s.now }
+        requires edge { edge < length self.now.program.edges }
+        requires stable { IsTrue is_stable
+            → IsStable (closed_rules (program_of self.now.program)) (structure_of s.now) }
+        ensures step { AnswersStep (program_of self.now.program) self.now.mode edge s.now result }
+        ensures scratch { scratch.new ≡ scratch.old }
+    {
+        if is_stable {
+            self.stable_step(edge, s, scratch)
+        } else {
+            self.step(edge, s, scratch)
+        }
     }
 }

@@ -1,19 +1,20 @@
 //! Focus in a step: the structures at hand, atom by atom.
 
 ghost use Rattle.std.specs.Prelude.{◌≡◌, ◌≤◌, ◌++◌, [], ◌∷◌, length, map, unwrap_or, All, IfOk, IfErr, OnOk};
-ghost use Rattle.tv_choices.specs.FocusAtoms.{focus_atoms};
+ghost use Rattle.tv_focus_laws.specs.FocusAtoms.{focus_atoms};
 ghost use Rattle.tv_focus.specs.Stage.{IsWithinLimits};
 ghost use Rattle.tv_model.specs.declared.program.Program.{Program};
 ghost use Rattle.tv_model.specs.Form.{form_of};
 ghost use Rattle.tv_model.specs.Valid.{IsFormula};
-ghost use Rattle.tv_transfer.specs.Parts.{AreFrom};
-ghost use Rattle.tv_transfer.specs.Shaped.{IsShaped};
-ghost use Rattle.tv_transfer.specs.Transfer.{Focuses, focus_places, places_in};
+ghost use Rattle.tv_step_laws.specs.Parts.{AreFrom};
+ghost use Rattle.tv_step_laws.specs.Shaped.{IsShaped};
+ghost use Rattle.tv_step_laws.specs.Transfer.{Focuses, focus_places, places_in};
 ghost use Rattle.tv_rules.specs.Closing.{closed_rules};
 ghost use Rattle.tv_rules.specs.EntryForms.{rules_of};
-ghost use Rattle.tv_step.specs.Places.{place_of, AreWaitingAt, HasWaiting};
-ghost use Rattle.tv_step.specs.Setting.{form_in, IsReady, IsStableIn};
-ghost use Rattle.tv_step.specs.Steps.{Adds, IsPlace, KeepsLimits, IsFocusCause, AreFocusedWithin, IsCauseOfFocus};
+ghost use Rattle.tv_step.specs.Places.{focus_place, AreWaitingAt, HasWaiting};
+ghost use Rattle.tv_step.specs.Setting.{form_in, IsReadyToStep, IsStableIn};
+ghost use Rattle.tv_step.specs.Steps.{Adds, IsPlace, KeepsLimits, IsFocusCause, AreFocusedWithin};
+ghost use Rattle.tv_step.specs.Steps.{IsCauseOfFocus};
 
 use crate::coerced::{Ending, push_all};
 use crate::setting::Setting;
@@ -26,8 +27,8 @@ use tv_focus::{atom_count, focus_stage};
 use tv_model::Formula;
 use tv_struct::{StageError, Structure, Structures};
 
-/// An atom of a focus formula, by its number, and the rules that a choice of it may leave unmet in a structure
-/// that was stable: the atoms of an action share them.
+/// An atom of a focus formula, by its number, and the rules that a choice of it may leave unmet in a
+/// structure that was stable: the atoms of an action share them.
 #[derive(Drop)]
 pub struct Turn<'a> {
     pub formula: &'a Formula,
@@ -39,7 +40,8 @@ pub struct Turn<'a> {
 pub fn turns<'a>(x: &Setting, formulas: &'a [Formula]) -> Result<Vec<Turn<'a>>, AllocError>
     requires few { length x.now.program.now.vocab.preds ≤ 512 }
     requires rules { rules_of x.now.closed.now ≡ closed_rules (form_in x.now) }
-    ensures places { IfOk result (λ turns. map place_of turns.items ≡ focus_places (map form_of formulas.now)) }
+    ensures places { IfOk result
+        (λ turns. map focus_place turns.items ≡ focus_places (map form_of formulas.now)) }
     ensures waiting { IfOk result (λ turns. All (HasWaiting x.now.program.now) turns.items) }
 {
     let waiting = Rc::new(x.alloc, waiting_at(x, formulas)?)?;
@@ -56,9 +58,10 @@ fn push_turns<'a>(
     waiting: &Rc<RuleSet>,
     turns: &mut Vec<Turn<'a>>,
 ) -> Result<(), AllocError>
-    ensures places { OnOk result (map place_of turns.new.items
-        ≡ map place_of turns.old.items ++ places_in (form_of formula.now)) }
-    ensures waiting { OnOk result ((program : Program) → AreWaitingAt program (form_of formula.now) waiting.now.value
+    ensures places { OnOk result (map focus_place turns.new.items
+        ≡ map focus_place turns.old.items ++ places_in (form_of formula.now)) }
+    ensures waiting { OnOk result
+        ((program : Program) → AreWaitingAt program (form_of formula.now) waiting.now.value
         → All (HasWaiting program) turns.old.items → All (HasWaiting program) turns.new.items) }
 {
     for atom in 0..atom_count(formula) {
@@ -81,14 +84,14 @@ fn push_focused(
     scratch: &mut Scratch,
     out: &mut Structures,
 ) -> Result<(), StageError>
-    requires ready { IsReady x.now scratch.old }
-    requires place { IsPlace (form_in x.now) (place_of turn.now) }
+    requires ready { IsReadyToStep x.now scratch.old }
+    requires place { IsPlace (form_in x.now) (focus_place turn.now) }
     requires waiting { HasWaiting x.now.program.now turn.now }
     requires shaped { IsShaped (form_in x.now) s.now }
     requires stable { IsStableIn (form_in x.now) s.now }
-    ensures out { OnOk result (Adds (Focuses (form_in x.now) (place_of turn.now)) s.now out.old out.new) }
-    ensures within { OnOk result (IsWithinLimits s.now (place_of turn.now).formula turn.now.atom) }
-    ensures cause { IfErr result (IsFocusCause (place_of turn.now) (s.now ∷ [])) }
+    ensures out { OnOk result (Adds (Focuses (form_in x.now) (focus_place turn.now)) s.now out.old out.new) }
+    ensures within { OnOk result (IsWithinLimits s.now (focus_place turn.now).formula turn.now.atom) }
+    ensures cause { IfErr result (IsFocusCause (focus_place turn.now) (s.now ∷ [])) }
     ensures scratch { scratch.new ≡ scratch.old }
 {
     let vocab = &x.program.vocab;
@@ -104,14 +107,14 @@ fn focus_all(
     at_hand: &[Structure],
     scratch: &mut Scratch,
 ) -> Result<Structures, StageError>
-    requires ready { IsReady x.now scratch.old }
-    requires place { IsPlace (form_in x.now) (place_of turn.now) }
+    requires ready { IsReadyToStep x.now scratch.old }
+    requires place { IsPlace (form_in x.now) (focus_place turn.now) }
     requires waiting { HasWaiting x.now.program.now turn.now }
     requires shaped { All (IsShaped (form_in x.now)) at_hand.now }
     requires stable { All (IsStableIn (form_in x.now)) at_hand.now }
-    ensures out { IfOk result (AreFrom (Focuses (form_in x.now) (place_of turn.now)) at_hand.now) }
-    ensures within { OnOk result (KeepsLimits (place_of turn.now) at_hand.now) }
-    ensures cause { IfErr result (IsFocusCause (place_of turn.now) at_hand.now) }
+    ensures out { IfOk result (AreFrom (Focuses (form_in x.now) (focus_place turn.now)) at_hand.now) }
+    ensures within { OnOk result (KeepsLimits (focus_place turn.now) at_hand.now) }
+    ensures cause { IfErr result (IsFocusCause (focus_place turn.now) at_hand.now) }
     ensures scratch { scratch.new ≡ scratch.old }
 {
     let mut out = Structures::new(x.alloc);
@@ -139,14 +142,14 @@ pub fn focused(
     start: &[Structure],
     scratch: &mut Scratch,
 ) -> Result<Option<Structures>, StageError>
-    requires ready { IsReady x.now scratch.old }
-    requires places { All (λ turn. IsPlace (form_in x.now) (place_of turn)) turns.now }
+    requires ready { IsReadyToStep x.now scratch.old }
+    requires places { All (λ turn. IsPlace (form_in x.now) (focus_place turn)) turns.now }
     requires waiting { All (HasWaiting x.now.program.now) turns.now }
     requires shaped { All (IsShaped (form_in x.now)) start.now }
     requires stable { All (IsStableIn (form_in x.now)) start.now }
-    ensures out { IfOk result (λ found. AreFocusedWithin (form_in x.now) (map place_of turns.now) start.now
+    ensures out { IfOk result (λ found. AreFocusedWithin (form_in x.now) (map focus_place turns.now) start.now
         (unwrap_or found start.now)) }
-    ensures cause { IfErr result (IsCauseOfFocus (form_in x.now) (map place_of turns.now) start.now) }
+    ensures cause { IfErr result (IsCauseOfFocus (form_in x.now) (map focus_place turns.now) start.now) }
     ensures scratch { scratch.new ≡ scratch.old }
 {
     let mut found = None;

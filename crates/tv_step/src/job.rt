@@ -25,7 +25,8 @@ pub struct Job<'a> {
     pub number: u32,
     /// The atoms of its focus formulas, in order.
     pub turns: Vec<Turn<'a>>,
-    /// The rules that it may leave unmet in a structure that was stable: actions that may leave all so share them.
+    /// The rules that it may leave unmet in a structure that was stable: actions that may leave all so share
+    /// them.
     pub waiting: Rc<RuleSet>,
     pub plan: Plan,
 }

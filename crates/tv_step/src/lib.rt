@@ -1,5 +1,5 @@
 //! Abstract steps: what an action makes of a structure along an edge, and openings (Sagiv, Reps and Wilhelm
-//! 2002, section 6). What they are is defined in `tv_transfer`.
+//! 2002, section 6). What they are is defined in `tv_step_laws`.
 #![tactic(auto)]
 
 mod changed;

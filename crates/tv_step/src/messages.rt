@@ -4,9 +4,9 @@ ghost use Rattle.std.specs.Prelude.{◌≡◌, map, All, IfOk};
 ghost use Rattle.tv_model.specs.Form.{form_of, IsFree};
 ghost use Rattle.tv_model.specs.Program.{message_of};
 ghost use Rattle.tv_model.specs.Valid.{IsMessage};
-ghost use Rattle.tv_transfer.specs.Shaped.{IsShaped};
-ghost use Rattle.tv_transfer.specs.Transfer.{message_value};
-ghost use Rattle.tv_step.specs.Setting.{form_in, IsReady};
+ghost use Rattle.tv_step_laws.specs.Shaped.{IsShaped};
+ghost use Rattle.tv_step_laws.specs.Transfer.{message_value};
+ghost use Rattle.tv_step.specs.Setting.{form_in, IsReadyToStep};
 ghost use Rattle.tv_step.specs.Steps.{HasRoomFor};
 
 use crate::setting::Setting;
@@ -21,7 +21,7 @@ pub type Values = Items<K3>;
 
 /// The greatest value of the message's condition in the structures.
 fn value_of(x: &Setting, message: &Message, at_hand: &[Structure], scratch: &mut Scratch) -> K3
-    requires ready { IsReady x.now scratch.old }
+    requires ready { IsReadyToStep x.now scratch.old }
     requires message { IsMessage (form_in x.now) (message_of message.now) }
     requires room { HasRoomFor (form_in x.now) (form_of message.now.cond) }
     requires shaped { All (IsShaped (form_in x.now)) at_hand.now }
@@ -44,7 +44,7 @@ pub fn values_of(
     at_hand: &[Structure],
     scratch: &mut Scratch,
 ) -> Result<Values, AllocError>
-    requires ready { IsReady x.now scratch.old }
+    requires ready { IsReadyToStep x.now scratch.old }
     requires messages { All (λ m. IsMessage (form_in x.now) (message_of m)) messages.now }
     requires room { All (λ m. HasRoomFor (form_in x.now) (form_of m.cond)) messages.now }
     requires shaped { All (IsShaped (form_in x.now)) at_hand.now }

@@ -7,8 +7,8 @@ ghost use Rattle.tv_model.specs.Valid.{IsValid};
 ghost use Rattle.tv_rules.specs.Closing.{closed_rules};
 ghost use Rattle.tv_rules.specs.EntryForms.{rules_of};
 ghost use Rattle.tv_struct.specs.StructureForm.{StructureForm, IsOver};
-ghost use Rattle.tv_transfer.specs.Settled.{IsSettled};
-ghost use Rattle.tv_transfer.specs.Transfer.{IsOpening, HasNoOpening};
+ghost use Rattle.tv_step_laws.specs.Settled.{IsSettled};
+ghost use Rattle.tv_step_laws.specs.Transfer.{IsOpening, HasNoOpening};
 ghost use Rattle.tv_step.specs.Starts.{HasStarts};
 
 use std::alloc::{AllocError, Global};

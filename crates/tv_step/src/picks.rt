@@ -4,12 +4,15 @@ ghost use Rattle.std.specs.Prelude.{◌≡◌, ◌<◌, ◌≤◌, ◌↔◌, �
 ghost use Rattle.tv_kleene.specs.declared.K3.TheVariants.{No};
 ghost use Rattle.tv_struct.specs.StructureForm.{structure_of};
 ghost use Rattle.std.specs.List.{range_with_len};
-ghost use Rattle.tv_applied.specs.Picks.{lists_of, precondition_value};
+ghost use Rattle.tv_update_laws.specs.Picks.{lists_of, precondition_value};
 ghost use Rattle.tv_eval.specs.AssignmentForm.{assignment_of};
 ghost use Rattle.tv_model.specs.Program.{picks_of};
 ghost use Rattle.tv_model.specs.Valid.{IsVariable};
-ghost use Rattle.tv_step.specs.Job.{IsCase, ArePicked, ArePickedBut, case_program, case_action, case_mode, case_structure};
-ghost use Rattle.tv_step.specs.Steps.{Adds, passes, PickGives, PicksGive, PickKeepsLimits, PicksKeepLimits, IsCauseOfPick, IsCauseOfPicks, StepsIn, KeepsUpdateLimits, IsCauseOfUpdate};
+ghost use Rattle.tv_step.specs.Job.{IsCase, ArePicked, ArePickedBut, case_program, case_action, case_mode};
+ghost use Rattle.tv_step.specs.Job.{case_structure};
+ghost use Rattle.tv_step.specs.Steps.{Adds, passes, PickGives, PicksGive, PickKeepsLimits, PicksKeepLimits};
+ghost use Rattle.tv_step.specs.Steps.{IsCauseOfPick, IsCauseOfPicks, StepsIn, KeepsUpdateLimits};
+ghost use Rattle.tv_step.specs.Steps.{IsCauseOfUpdate};
 ghost use Rattle.tv_step.specs.Allowed.{precondition_values};
 
 use crate::coerced::{Ending, push_all};
@@ -157,8 +160,8 @@ fn push_unless_no(
     push_given(c, picks, scratch, out)
 }
 
-/// The same where each individual is put for the last variable: only those are tried under which the precondition
-/// isn't `No`, which one row of its values tells.
+/// The same where each individual is put for the last variable: only those are tried under which the
+/// precondition isn't `No`, which one row of its values tells.
 fn push_last(
     c: &Case,
     v: Var,

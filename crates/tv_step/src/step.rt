@@ -7,15 +7,13 @@ ghost use Rattle.tv_model.specs.Valid.{IsValid};
 ghost use Rattle.tv_rules.specs.Closing.{closed_rules};
 ghost use Rattle.tv_rules.specs.EntryForms.{rules_of};
 ghost use Rattle.tv_struct.specs.StructureForm.{IsOver};
-ghost use Rattle.tv_transfer.specs.Budgets.{KeepsBudgets, IsStepCause};
-ghost use Rattle.tv_transfer.specs.Parts.{AreFrom};
-ghost use Rattle.tv_transfer.specs.Settled.{IsSettled};
-ghost use Rattle.tv_transfer.specs.Shaped.{IsShaped};
-ghost use Rattle.tv_transfer.specs.Sound.{KeepsNewHeaps, TellsMessages};
-ghost use Rattle.tv_transfer.specs.Transfer.{AreResults, AreMessageValues};
+ghost use Rattle.tv_step_laws.specs.Parts.{AreFrom};
+ghost use Rattle.tv_step_laws.specs.Shaped.{IsShaped};
 ghost use Rattle.tv_step.specs.Job.{action_in, IsJob};
-ghost use Rattle.tv_step.specs.Setting.{form_in, IsReady, IsStableIn};
-ghost use Rattle.tv_step.specs.Steps.{AreResultsOf, AreValuesOf, IsCauseOfStep, IsCauseOfUpdates, KeepsUpdateLimits, StepsIn};
+ghost use Rattle.tv_step.specs.Setting.{form_in, IsReadyToStep, IsStableIn};
+ghost use Rattle.tv_step.specs.Steps.{AreResultsOf, AreValuesOf, IsCauseOfStep, IsCauseOfUpdates};
+ghost use Rattle.tv_step.specs.Steps.{KeepsUpdateLimits, StepsIn};
+ghost use Rattle.tv_step.specs.StepAnswer.{AnswersStep};
 
 use crate::focus::{at_hand, focused};
 use crate::job::{Job, edge_at, job_of};
@@ -45,7 +43,7 @@ fn given<'a>(
     at_hand: &'a [Structure],
     scratch: &mut Scratch,
 ) -> Result<Structures, StageError>
-    requires ready { IsReady x.now scratch.old }
+    requires ready { IsReadyToStep x.now scratch.old }
     requires job { IsJob x.now.program.now x.now.mode job.now }
     requires shaped { All (IsShaped (form_in x.now)) at_hand.now }
     requires stable { All (IsStableIn (form_in x.now)) at_hand.now }
@@ -74,13 +72,14 @@ pub fn step_from(
     start: &[Structure],
     scratch: &mut Scratch,
 ) -> Result<StepOut, StageError>
-    requires ready { IsReady x.now scratch.old }
+    requires ready { IsReadyToStep x.now scratch.old }
     requires job { IsJob x.now.program.now x.now.mode job.now }
     requires shaped { All (IsShaped (form_in x.now)) start.now }
     requires stable { All (IsStableIn (form_in x.now)) start.now }
     ensures results { IfOk result
         (λ out. AreResultsOf (form_in x.now) x.now.mode (action_in job.now) start.now out.results) }
-    ensures values { IfOk result (λ out. AreValuesOf (form_in x.now) (action_in job.now) start.now out.messages) }
+    ensures values { IfOk result
+        (λ out. AreValuesOf (form_in x.now) (action_in job.now) start.now out.messages) }
     ensures cause { IfErr result (IsCauseOfStep (form_in x.now) (action_in job.now) start.now) }
     ensures scratch { scratch.new ≡ scratch.old }
 {
@@ -94,8 +93,8 @@ pub fn step_from(
 
 /// The abstract step of a structure along an edge: its results, strictly sorted, and the values of the
 /// messages. `Splits` only where a stage of the step has over 4,096 choices, `Individuals` only where it
-/// makes a structure of over 256 individuals; where it does either, the answer is one of the two or `Memory`. For many steps an `Engine` makes once what
-/// this makes anew.
+/// makes a structure of over 256 individuals; where it does either, the answer is one of the two or `Memory`.
+/// For many steps an `Engine` makes once what this makes anew.
 pub fn abstract_step(
     alloc: Global,
     program: &Program,
@@ -110,13 +109,7 @@ pub fn abstract_step(
     requires edge { edge < length program.now.edges }
     requires over { IsOver program.now.vocab s.now }
     requires scratch { IsMadeFor (program_of program.now) 256 scratch.old }
-    ensures results { IfOk result (λ out. AreResults (program_of program.now) mode edge s.now out.results) }
-    ensures values { IfOk result (λ out. AreMessageValues (program_of program.now) edge s.now out.messages) }
-    ensures settled { IfOk result (λ out. All (IsSettled (program_of program.now)) out.results) }
-    ensures heaps { IfOk result (λ out. KeepsNewHeaps (program_of program.now) mode edge s.now out.results) }
-    ensures truths { IfOk result (λ out. TellsMessages (program_of program.now) edge s.now out.messages) }
-    ensures budgets { OnOk result (KeepsBudgets (program_of program.now) edge s.now) }
-    ensures cause { IfErr result (IsStepCause (program_of program.now) edge s.now) }
+    ensures step { AnswersStep (program_of program.now) mode edge s.now result }
     ensures scratch { scratch.new ≡ scratch.old }
 {
     let x = Setting {

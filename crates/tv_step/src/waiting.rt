@@ -1,7 +1,7 @@
 //! The rules that are tried again after focus and after an update.
 
 ghost use Rattle.std.specs.Prelude.{◌≡◌, ◌<◌, ◌≤◌, ◌↔◌, length, map, All, Contains, IfOk, IsTrue};
-ghost use Rattle.tv_applied.specs.Applied.{kind_at};
+ghost use Rattle.tv_update_laws.specs.Applied.{kind_at};
 ghost use Rattle.tv_model.specs.Form.{form_of, Mentions};
 ghost use Rattle.tv_model.specs.Program.{action_of};
 ghost use Rattle.tv_rules.specs.EntryForms.{rules_of};
@@ -81,8 +81,9 @@ fn add_mentioned(x: &Setting, formula: &Formula, waiting: &mut RuleSet)
     }
 }
 
-/// The rules that a choice of focus on an atom of one of the formulas may leave unmet, where the structure was
-/// stable: those that see which individuals are summaries, and those about a predicate that a formula mentions.
+/// The rules that a choice of focus on an atom of one of the formulas may leave unmet, where the structure
+/// was stable: those that see which individuals are summaries, and those about a predicate that a formula
+/// mentions.
 pub fn waiting_at(x: &Setting, formulas: &[Formula]) -> Result<RuleSet, AllocError>
     requires { length x.now.program.now.vocab.preds ≤ 512 }
     ensures { IfOk result (λ set. All (λ f. WaitsAt (length x.now.program.now.vocab.preds) (form_of f)

@@ -1,5 +1,6 @@
 -- Structures drawn from others: how they read, and what they keep.
-use Rattle.std.proofs.Common.{ℕ, ◌≡◌, ◌<◌, ◌≤◌, ◌+◌, false, List, length, get_or, Option, Some, take, ap, subst, ◌∙◌, arith, zero-add}
+use Rattle.std.proofs.Common.{ℕ, ◌≡◌, ◌<◌, ◌≤◌, ◌+◌, false, List, length, get_or, Option, Some, take, ap}
+use Rattle.std.proofs.Common.{subst, ◌∙◌, arith, zero-add}
 use Rattle.std.specs.Prelude.{All, sum}
 use Rattle.std.proofs.lemmas.List.{get_or-map, get_or_past}
 use Rattle.tv_struct.specs.StructureForm.{StructureForm, IsMark, IsStructure, summary_at, drawn, copies_from}

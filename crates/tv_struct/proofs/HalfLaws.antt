@@ -1,5 +1,6 @@
 -- How much a structure leaves open, and what lies below it.
-use Rattle.std.proofs.Common.{ℕ, ◌≡◌, ◌≢◌, ◌<◌, ◌+◌, ◌⊎◌, inl, inr, Bool, false, List, [], ◌∷◌, length, get_or, set, refl, sym, ap, ◌∙◌, arith, true≢false}
+use Rattle.std.proofs.Common.{ℕ, ◌≡◌, ◌≢◌, ◌<◌, ◌+◌, ◌⊎◌, inl, inr, Bool, false, List, [], ◌∷◌, length}
+use Rattle.std.proofs.Common.{get_or, set, refl, sym, ap, ◌∙◌, arith, true≢false}
 use Rattle.std.specs.Prelude.{IsTrue}
 use Rattle.std.specs.List.{sum_by}
 use Rattle.std.proofs.lemmas.Bool.{cases_eq}
@@ -7,11 +8,13 @@ use Rattle.std.proofs.lemmas.List.Sums.{sum_by-set}
 use Rattle.tv_kleene.specs.declared.K3.{K3}
 use Rattle.tv_kleene.specs.declared.K3.TheVariants.{No}
 use Rattle.tv_kleene.specs.Kleene.{LiesUnder}
-use Rattle.tv_frame.specs.Embedding.{IsBelow}
-use Rattle.tv_frame.proofs.EmbeddingLaws.{IsBelow-values}
+use Rattle.tv_embedding_laws.specs.Embedding.{IsBelow}
+use Rattle.tv_embedding_laws.proofs.EmbeddingLaws.{IsBelow-values}
 use Rattle.tv_struct.specs.Halves.{half_of, half_of_flag, row_halves, plane_halves, half_count}
-use Rattle.tv_struct.specs.TableForm.{PlaneForm, HasEntry, plane_at, no_plane, row_of, column_of, cell, with_cell}
-use Rattle.tv_struct.specs.StructureForm.{StructureForm, IsStructure, table_of, value_at, summary_at, with_value, with_summary, structure_of}
+use Rattle.tv_struct.specs.TableForm.{PlaneForm, HasEntry, plane_at, no_plane, row_of, column_of, cell}
+use Rattle.tv_struct.specs.TableForm.{with_cell}
+use Rattle.tv_struct.specs.StructureForm.{StructureForm, IsStructure, table_of, value_at, summary_at}
+use Rattle.tv_struct.specs.StructureForm.{with_value, with_summary, structure_of}
 use Rattle.tv_struct.specs.Laws.{WritesOneEntry, WritesOneSummary}
 use Rattle.tv_struct.proofs.TableLaws.{HasEntry-lt, HasEntry-arity, entry_row-lt, entry_column-lt}
 use Rattle.tv_struct.proofs.StructureLaws.{value_in-fits, writes_one_entry, writes_one_summary}

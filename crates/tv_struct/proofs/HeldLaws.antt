@@ -1,17 +1,24 @@
 -- Tables that are held in one list of words.
-use Rattle.std.proofs.Common.{ℕ, ◌≡◌, ◌≢◌, ◌<◌, ◌≤◌, ◌+◌, ◌*◌, ◌/◌, ◌%◌, ◌^◌, zero, suc, min, true, false, Bool, if◌then◌else◌, ◌==◌, List, [], ◌∷◌, ◌++◌, length, map, get_or, set, take, replicate, refl, sym, ap, subst, add-zero, ◌∙◌, inl, inr, ⊎_elim, ◌⊎◌, arith}
+use Rattle.std.proofs.Common.{ℕ, ◌≡◌, ◌≢◌, ◌<◌, ◌≤◌, ◌+◌, ◌*◌, ◌/◌, ◌%◌, ◌^◌, zero, suc, min, true, false}
+use Rattle.std.proofs.Common.{Bool, if◌then◌else◌, ◌==◌, List, [], ◌∷◌, ◌++◌, length, map, get_or, set, take}
+use Rattle.std.proofs.Common.{replicate, refl, sym, ap, subst, add-zero, ◌∙◌, inl, inr, ⊎_elim, ◌⊎◌, arith}
 use Rattle.std.specs.Prelude.{All}
 use Rattle.std.specs.List.{range_with_len}
 use Rattle.std.proofs.lemmas.Bool.{cases_eq, cases_lt}
 use Rattle.std.proofs.lemmas.Nat.{row_fits}
-use Rattle.std.proofs.lemmas.List.{length-set, length-map, length-replicate, get_or-set_same, get_or-set_other, get_or-replicate, get_or_past, get_or_default, take_more, length-take-le, ext_get_or}
+use Rattle.std.proofs.lemmas.List.{length-set, length-map, length-replicate, get_or-set_same}
+use Rattle.std.proofs.lemmas.List.{get_or-set_other, get_or-replicate, get_or_past, get_or_default, take_more}
+use Rattle.std.proofs.lemmas.List.{length-take-le, ext_get_or}
 use Rattle.std.proofs.lemmas.List.FromFn.{length-map-range_with_len, get_or-map-range_with_len}
 use Rattle.tv_kleene.specs.declared.K3.{K3}
 use Rattle.tv_kleene.specs.declared.K3.TheVariants.{No}
 use Rattle.tv_row.specs.Places.{AreWords, word_at, value_in, with_value, row_of}
 use Rattle.tv_row.proofs.PlaceLaws.{length-row_of, get_or-row_of, no_value, put_same, put_other}
-use Rattle.tv_struct.specs.TableForm.{PlaneForm, TableForm, IsPlane, IsTable, no_plane, plane_at, row_in, column_in, cell, row_count, column_count, plane_of_no, table_of_no, table_with_row, arities_in, selected}
-use Rattle.tv_struct.specs.LayoutForm.{LayoutForm, IsLayout, words_for, starts_from, end_from, row_place, plane_held, planes_held, table_held, NoBeyond, HoldsTable}
+use Rattle.tv_struct.specs.TableForm.{PlaneForm, TableForm, IsPlane, IsTable, no_plane, plane_at, row_in}
+use Rattle.tv_struct.specs.TableForm.{column_in, cell, row_count, column_count, plane_of_no, table_of_no}
+use Rattle.tv_struct.specs.TableForm.{table_with_row, arities_in, selected}
+use Rattle.tv_struct.specs.LayoutForm.{LayoutForm, IsLayout, words_for, starts_from, end_from, row_place}
+use Rattle.tv_struct.specs.LayoutForm.{plane_held, planes_held, table_held, NoBeyond, HoldsTable}
 
 -- ---- rows of words
 

@@ -1,5 +1,7 @@
 -- Where rows lie, counted by predicates that have one row alone.
-use Rattle.std.proofs.Common.{ℕ, ◌≡◌, ◌<◌, ◌≤◌, ◌+◌, ◌-◌, ◌*◌, ◌^◌, ◌==◌, ◌&&◌, zero, suc, Bool, true, false, IsTrue, nat_eq, if◌then◌else◌, List, [], ◌∷◌, length, get_or, take, refl, sym, ap, ◌∙◌, arith, eqb-true}
+use Rattle.std.proofs.Common.{ℕ, ◌≡◌, ◌<◌, ◌≤◌, ◌+◌, ◌-◌, ◌*◌, ◌^◌, ◌==◌, ◌&&◌, zero, suc, Bool, true, false}
+use Rattle.std.proofs.Common.{IsTrue, nat_eq, if◌then◌else◌, List, [], ◌∷◌, length, get_or, take, refl, sym}
+use Rattle.std.proofs.Common.{ap, ◌∙◌, arith, eqb-true}
 use Rattle.std.specs.Cmp.Lexicographic.{pointwise}
 use Rattle.std.proofs.lemmas.List.{length-take-le, get_or_read}
 use Rattle.tv_struct.specs.TableForm.{row_count}

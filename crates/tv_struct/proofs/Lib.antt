@@ -7,7 +7,6 @@ pub mod ListLaws
 pub mod OrderLaws
 pub mod OriginLaws
 pub mod PlaneDraws
-pub mod PutRows
 pub mod RowLaws
 pub mod StructureLaws
 pub mod TableLaws

@@ -1,5 +1,7 @@
 -- Linked lists embed in structures of one and of two individuals.
-use Rattle.std.proofs.Common.{ℕ, ◌≡◌, ◌≢◌, ◌<◌, ◌≤◌, ◌+◌, ◌-◌, ◌==◌, inl, inr, Bool, true, false, List, [], ◌∷◌, length, get_or, map, zero, suc, refl, sym, ap, ◌∙◌, arith, if◌then◌else◌, eqb-true, true≢false}
+use Rattle.std.proofs.Common.{ℕ, ◌≡◌, ◌≢◌, ◌<◌, ◌≤◌, ◌+◌, ◌-◌, ◌==◌, inl, inr, Bool, true, false, List, []}
+use Rattle.std.proofs.Common.{◌∷◌, length, get_or, map, zero, suc, refl, sym, ap, ◌∙◌, arith, if◌then◌else◌}
+use Rattle.std.proofs.Common.{eqb-true, true≢false}
 use Rattle.std.specs.Prelude.{Contains, IsTrue}
 use Rattle.std.specs.List.{range_with_len}
 use Rattle.std.proofs.lemmas.List.{get_or-map, length-map}
@@ -7,12 +9,12 @@ use Rattle.tv_kleene.specs.declared.K3.{K3}
 use Rattle.tv_kleene.specs.declared.K3.TheVariants.{No, Half, Yes}
 use Rattle.tv_kleene.specs.Kleene.{LiesUnder}
 use Rattle.tv_model.specs.Heap.{Heap, Holds}
-use Rattle.tv_frame.specs.LogicalStructure.{heap_structure}
-use Rattle.tv_frame.specs.Embedding.{Embeds}
+use Rattle.tv_embedding_laws.specs.LogicalStructure.{heap_structure}
+use Rattle.tv_embedding_laws.specs.Embedding.{Embeds}
 use Rattle.tv_struct.specs.TableForm.{PlaneForm, value_in, cell, row_of, column_of}
 use Rattle.tv_struct.specs.StructureForm.{structure_of, value_at, summary_at}
 use Rattle.tv_struct.specs.Lists.{list_heap, one_summary, head_and_rest, head_or_rest}
-use Rattle.tv_frame.proofs.EmbeddingLaws.{reads_heap}
+use Rattle.tv_embedding_laws.proofs.EmbeddingLaws.{reads_heap}
 use Rattle.tv_struct.proofs.Library.{Contains-range, below-range}
 use Rattle.tv_struct.proofs.StructureLaws.{value_in-no_plane}
 

@@ -1,5 +1,6 @@
 -- What compares as equal is equal.
-use Rattle.std.proofs.Common.{ℕ, ◌≡◌, ◌<◌, ◌≤◌, ◌⊎◌, inl, inr, ◌∙◌, length, drop, min, arith, ne_eqb, true, false, List, [], ◌∷◌, None, refl, sym, subst, Less, Equal, Greater}
+use Rattle.std.proofs.Common.{ℕ, ◌≡◌, ◌<◌, ◌≤◌, ◌⊎◌, inl, inr, ◌∙◌, length, drop, min, arith, ne_eqb, true}
+use Rattle.std.proofs.Common.{false, List, [], ◌∷◌, None, refl, sym, subst, Less, Equal, Greater}
 use Rattle.std.specs.Prelude.{◌↔◌}
 use Rattle.std.specs.declared.cmp.Ordering.{Ordering}
 use Rattle.std.specs.Ordering.{nat_cmp, bool_cmp, ordering_then}

@@ -1,8 +1,11 @@
 -- The lists of origins.
-use Rattle.std.proofs.Common.{ℕ, ◌≡◌, ◌<◌, ◌≤◌, ◌+◌, ◌-◌, ◌⊎◌, inl, inr, Bool, true, false, cond, subst, true≢false, List, [], ◌∷◌, ◌++◌, length, get_or, replicate, take, refl, sym, ap, ◌∙◌, arith, append_assoc, append-nil, add-zero, zero-add, zero, suc}
+use Rattle.std.proofs.Common.{ℕ, ◌≡◌, ◌<◌, ◌≤◌, ◌+◌, ◌-◌, ◌⊎◌, inl, inr, Bool, true, false, cond, subst}
+use Rattle.std.proofs.Common.{true≢false, List, [], ◌∷◌, ◌++◌, length, get_or, replicate, take, refl, sym, ap}
+use Rattle.std.proofs.Common.{◌∙◌, arith, append_assoc, append-nil, add-zero, zero-add, zero, suc}
 use Rattle.std.specs.Prelude.{Contains, sum, count_by, if◌then◌else◌}
 use Rattle.std.specs.List.{range_with_len}
-use Rattle.std.proofs.lemmas.List.{length-append, length-replicate, length-take-le, take_more, map-id, get_or_append_left, get_or-replicate, get_or-append-add, get_or_default}
+use Rattle.std.proofs.lemmas.List.{length-append, length-replicate, length-take-le, take_more, map-id}
+use Rattle.std.proofs.lemmas.List.{get_or_append_left, get_or-replicate, get_or-append-add, get_or_default}
 use Rattle.std.proofs.lemmas.List.Sums.{sum_by-cons}
 use Rattle.std.proofs.lemmas.List.FromFn.{map-range_with_len_more}
 use Rattle.std.proofs.lemmas.Bool.{cases_lt}

@@ -1,11 +1,15 @@
 -- Tables drawn from others, plane by plane and row by row.
-use Rattle.std.proofs.Common.{ℕ, ◌≡◌, ◌<◌, ◌≤◌, ◌≢◌, ◌+◌, ◌==◌, Bool, true, false, if◌then◌else◌, List, [], ◌∷◌, ◌++◌, length, map, get_or, set, take, drop, replicate, ne_eqb, Some, refl, sym, ap, ◌∙◌, zero, suc, arith}
+use Rattle.std.proofs.Common.{ℕ, ◌≡◌, ◌<◌, ◌≤◌, ◌≢◌, ◌+◌, ◌==◌, Bool, true, false, if◌then◌else◌, List, []}
+use Rattle.std.proofs.Common.{◌∷◌, ◌++◌, length, map, get_or, set, take, drop, replicate, ne_eqb, Some, refl}
+use Rattle.std.proofs.Common.{sym, ap, ◌∙◌, zero, suc, arith}
 use Rattle.std.proofs.lemmas.List.{length-map, get_or-map, get_or-set_same, get_or_past, set-set}
 use Rattle.std.specs.Prelude.{slice_get}
 use Rattle.std.proofs.lemmas.Option.{get_or_from_slice_get}
 use Rattle.tv_kleene.specs.declared.K3.{K3}
 use Rattle.tv_kleene.specs.declared.K3.TheVariants.{No}
-use Rattle.tv_struct.specs.TableForm.{PlaneForm, TableForm, IsTable, no_plane, plane_at, row_in, row_count, column_count, plane_of_no, table_with_row, plane_drawn, arities_in, selected}
+use Rattle.tv_struct.specs.TableForm.{PlaneForm, TableForm, IsTable, no_plane, plane_at, row_in, row_count}
+use Rattle.tv_struct.specs.TableForm.{column_count, plane_of_no, table_with_row, plane_drawn, arities_in}
+use Rattle.tv_struct.specs.TableForm.{selected}
 use Rattle.tv_struct.proofs.RowLaws.{overwritten_more, overwritten_all}
 
 -- the table in which the first i rows of a predicate are these

@@ -1,16 +1,22 @@
 -- Rows of tables and of structures.
-use Rattle.std.proofs.Common.{ℕ, ◌≡◌, ◌≢◌, ◌<◌, ◌≤◌, ◌+◌, ◌==◌, ◌⊎◌, inl, inr, List, [], ◌∷◌, ◌++◌, length, get_or, set, map, take, drop, replicate, Option, Some, None, zero, suc, refl, sym, ap, ◌∙◌, arith, if◌then◌else◌}
+use Rattle.std.proofs.Common.{ℕ, ◌≡◌, ◌≢◌, ◌<◌, ◌≤◌, ◌+◌, ◌==◌, ◌⊎◌, inl, inr, List, [], ◌∷◌, ◌++◌, length}
+use Rattle.std.proofs.Common.{get_or, set, map, take, drop, replicate, Option, Some, None, zero, suc, refl}
+use Rattle.std.proofs.Common.{sym, ap, ◌∙◌, arith, if◌then◌else◌}
 use Rattle.std.specs.Prelude.{slice_get}
 use Rattle.std.specs.List.{range_with_len}
 use Rattle.std.proofs.lemmas.Bool.{cases_eq}
-use Rattle.std.proofs.lemmas.List.{length-set, length-map, get_or-map, ext_get_or, get_or-set_same, get_or-set_other, length-append, length-take-le, length-drop, length-replicate, take_all, drop_all, append-nil}
+use Rattle.std.proofs.lemmas.List.{length-set, length-map, get_or-map, ext_get_or, get_or-set_same}
+use Rattle.std.proofs.lemmas.List.{get_or-set_other, length-append, length-take-le, length-drop}
+use Rattle.std.proofs.lemmas.List.{length-replicate, take_all, drop_all, append-nil}
 use Rattle.std.proofs.lemmas.List.Elements.{All-set}
 use Rattle.std.proofs.lemmas.List.FromFn.{length-map-range_with_len, get_or-map-range_with_len}
 use Rattle.std.proofs.lemmas.Option.{slice_get_within, get_or_from_slice_get}
 use Rattle.std.proofs.Math.Seq.{map-set_same}
 use Rattle.tv_kleene.specs.declared.K3.{K3}
 use Rattle.tv_kleene.specs.declared.K3.TheVariants.{No}
-use Rattle.tv_struct.specs.TableForm.{PlaneForm, TableForm, IsPlane, IsTable, row_of, column_of, cell, value_in, no_plane, plane_at, row_in, row_count, column_count, table_with_row}
+use Rattle.tv_struct.specs.TableForm.{PlaneForm, TableForm, IsPlane, IsTable, row_of, column_of, cell}
+use Rattle.tv_struct.specs.TableForm.{value_in, no_plane, plane_at, row_in, row_count, column_count}
+use Rattle.tv_struct.specs.TableForm.{table_with_row}
 use Rattle.tv_struct.specs.StructureForm.{StructureForm, IsStructure, IsMark, table_of, value_at, arities_of}
 use Rattle.tv_struct.specs.StructureRows.{HasArity, unary_row, row_at, with_row}
 use Rattle.tv_struct.proofs.StructureLaws.{value_in-fits}

@@ -1,16 +1,22 @@
 -- How structures read, and that their entries determine them.
-use Rattle.std.proofs.Common.{All, ℕ, ◌≡◌, ◌<◌, ◌≤◌, ◌+◌, ◌==◌, ◌⊎◌, inl, inr, Bool, true, false, List, [], ◌∷◌, length, get_or, map, replicate, Option, Some, zero, suc, refl, sym, ap, subst, ◌∙◌, arith, eq-eqb, eqb-true, if◌then◌else◌}
+use Rattle.std.proofs.Common.{All, ℕ, ◌≡◌, ◌<◌, ◌≤◌, ◌+◌, ◌==◌, ◌⊎◌, inl, inr, Bool, true, false, List, []}
+use Rattle.std.proofs.Common.{◌∷◌, length, get_or, map, replicate, Option, Some, zero, suc, refl, sym, ap}
+use Rattle.std.proofs.Common.{subst, ◌∙◌, arith, eq-eqb, eqb-true, if◌then◌else◌}
 use Rattle.std.specs.Prelude.{slice_get}
 use Rattle.std.proofs.lemmas.Option.{slice_get-get_or}
 use Rattle.std.specs.List.{range_with_len}
 use Rattle.std.proofs.lemmas.Bool.{cases_lt}
-use Rattle.std.proofs.lemmas.List.{length-map, get_or-map, get_or_past, same_lists, get_or_default, get_or-set_same, get_or-set_other, get_or-replicate, length-replicate}
+use Rattle.std.proofs.lemmas.List.{length-map, get_or-map, get_or_past, same_lists, get_or_default}
+use Rattle.std.proofs.lemmas.List.{get_or-set_same, get_or-set_other, get_or-replicate, length-replicate}
 use Rattle.std.proofs.Math.Seq.{map-set_same}
 use Rattle.std.proofs.lemmas.List.FromFn.{length-range_with_len, get_or-range_with_len}
 use Rattle.tv_kleene.specs.declared.K3.{K3}
 use Rattle.tv_kleene.specs.declared.K3.TheVariants.{No}
-use Rattle.tv_struct.specs.TableForm.{PlaneForm, IsPlane, HasEntry, AreIndividuals, row_of, column_of, row_count, column_count, no_plane, cell, value_in, plane_drawn, plane_of_no, selected}
-use Rattle.tv_struct.specs.StructureForm.{StructureForm, IsStructure, table_of, value_at, summary_at, with_value, with_new, drawn, arities_of, structure_of_no}
+use Rattle.tv_struct.specs.TableForm.{PlaneForm, IsPlane, HasEntry, AreIndividuals, row_of, column_of}
+use Rattle.tv_struct.specs.TableForm.{row_count, column_count, no_plane, cell, value_in, plane_drawn}
+use Rattle.tv_struct.specs.TableForm.{plane_of_no, selected}
+use Rattle.tv_struct.specs.StructureForm.{StructureForm, IsStructure, table_of, value_at, summary_at}
+use Rattle.tv_struct.specs.StructureForm.{with_value, with_new, drawn, arities_of, structure_of_no}
 use Rattle.tv_struct.specs.Laws.{origins_of, WritesOneEntry, WritesOneSummary, IsAllNo, DrawnReads}
 use Rattle.tv_struct.proofs.TableLaws.{entry-with_entry, entry-with_entry_other}
 use Rattle.tv_struct.proofs.DrawnLaws.{summary_at-drawn}

@@ -1,13 +1,18 @@
 -- What tables keep, and how their entries read.
-use Rattle.std.proofs.Common.{ℕ, ◌≡◌, ◌≢◌, ◌<◌, ◌≤◌, ◌⊎◌, inl, inr, Bool, true, false, List, [], ◌∷◌, length, get_or, set, refl, sym, ap, ◌∙◌, arith, ◌==◌, eq-eqb, eqb-true, if◌then◌else◌}
+use Rattle.std.proofs.Common.{ℕ, ◌≡◌, ◌≢◌, ◌<◌, ◌≤◌, ◌⊎◌, inl, inr, Bool, true, false, List, [], ◌∷◌, length}
+use Rattle.std.proofs.Common.{get_or, set, refl, sym, ap, ◌∙◌, arith, ◌==◌, eq-eqb, eqb-true, if◌then◌else◌}
 use Rattle.std.specs.Prelude.{All}
-use Rattle.std.proofs.lemmas.List.{length-set, length-replicate, length-map, get_or-map, get_or-set_same, get_or-set_other}
+use Rattle.std.proofs.lemmas.List.{length-set, length-replicate, length-map, get_or-map, get_or-set_same}
+use Rattle.std.proofs.lemmas.List.{get_or-set_other}
 use Rattle.std.proofs.lemmas.List.Elements.{All-map, All-replicate, All-set}
 use Rattle.std.proofs.lemmas.Bool.{cases_eq}
 use Rattle.std.proofs.lemmas.Option.{slice_get_within, get_or_from_slice_get}
 use Rattle.tv_kleene.specs.declared.K3.{K3}
 use Rattle.tv_kleene.specs.declared.K3.TheVariants.{No}
-use Rattle.tv_struct.specs.TableForm.{PlaneForm, TableForm, IsPlane, IsTable, HasEntry, AreIndividuals, arities_in, row_of, column_of, column_count, plane_of_no, table_of_no, plane_at, no_plane, cell, with_cell, value_in, entry, with_entry, plane_drawn, table_drawn}
+use Rattle.tv_struct.specs.TableForm.{PlaneForm, TableForm, IsPlane, IsTable, HasEntry, AreIndividuals}
+use Rattle.tv_struct.specs.TableForm.{arities_in, row_of, column_of, column_count, plane_of_no, table_of_no}
+use Rattle.tv_struct.specs.TableForm.{plane_at, no_plane, cell, with_cell, value_in, entry, with_entry}
+use Rattle.tv_struct.specs.TableForm.{plane_drawn, table_drawn}
 
 -- a tuple's row is one of the plane's
 pub row_of-lt : (size : ℕ) (plane : PlaneForm) (tuple : List ℕ) → IsPlane size plane → length tuple ≡ plane.arity

@@ -1,5 +1,7 @@
 -- The words of a table: those of its rows, one row after another; and how they compare.
-use Rattle.std.proofs.Common.{ℕ, ◌≡◌, ◌<◌, ◌≤◌, ◌+◌, ◌*◌, ◌/◌, ◌%◌, ⊎_elim, zero, suc, List, [], ◌∷◌, ◌++◌, length, map, get_or, take, drop, refl, sym, ap, subst, ◌∙◌, arith, Less, Equal, Greater, append-nil}
+use Rattle.std.proofs.Common.{ℕ, ◌≡◌, ◌<◌, ◌≤◌, ◌+◌, ◌*◌, ◌/◌, ◌%◌, ⊎_elim, zero, suc, List, [], ◌∷◌, ◌++◌}
+use Rattle.std.proofs.Common.{length, map, get_or, take, drop, refl, sym, ap, subst, ◌∙◌, arith, Less, Equal}
+use Rattle.std.proofs.Common.{Greater, append-nil}
 use Rattle.std.specs.List.{range_with_len}
 use Rattle.std.specs.declared.cmp.Ordering.{Ordering}
 use Rattle.std.specs.Ordering.{ordering_then}
@@ -7,7 +9,9 @@ use Rattle.std.specs.Cmp.{nat_cmp_total}
 use Rattle.std.specs.Cmp.Lexicographic.{slice_cmp}
 use Rattle.std.proofs.lemmas.Bool.{cases_lt}
 use Rattle.std.proofs.lemmas.Cmp.{tied_itself}
-use Rattle.std.proofs.lemmas.List.{ext_get_or, length-append, length-take-le, length-drop, get_or-take, get_or-drop, get_or_past, get_or_default, take-append-drop, drop-drop, drop_all, append_assoc}
+use Rattle.std.proofs.lemmas.List.{ext_get_or, length-append, length-take-le, length-drop, get_or-take}
+use Rattle.std.proofs.lemmas.List.{get_or-drop, get_or_past, get_or_default, take-append-drop, drop-drop}
+use Rattle.std.proofs.lemmas.List.{drop_all, append_assoc}
 use Rattle.std.proofs.lemmas.List.FromFn.{length-map-range_with_len, get_or-map-range_with_len}
 use Rattle.tv_kleene.specs.declared.K3.{K3}
 use Rattle.tv_kleene.specs.declared.K3.TheVariants.{No}
@@ -17,7 +21,8 @@ use Rattle.tv_row.specs.RowForm.{row_words}
 use Rattle.tv_row.proofs.CompareRows.{words_as_rows}
 use Rattle.tv_row.proofs.PlaceLaws.{length-row_of, get_or-row_of, length-rows_of, get_or-rows_of}
 use Rattle.tv_struct.specs.TableForm.{row_count, column_count}
-use Rattle.tv_struct.specs.LayoutForm.{LayoutForm, HoldsTable, NoBeyond, words_for, end_from, plane_held, planes_held, table_held}
+use Rattle.tv_struct.specs.LayoutForm.{LayoutForm, HoldsTable, NoBeyond, words_for, end_from, plane_held}
+use Rattle.tv_struct.specs.LayoutForm.{planes_held, table_held}
 use Rattle.tv_struct.specs.Order.{plane_cmp, planes_cmp}
 use Rattle.tv_struct.specs.Signature.{rows_words, planes_words, table_words}
 use Rattle.tv_struct.proofs.HeldLaws.{few_words, columns_fit, end_above}

@@ -4,9 +4,10 @@ use Rattle.std.specs.List.{sum_by}
 use Rattle.tv_kleene.specs.declared.K3.{K3}
 use Rattle.tv_kleene.specs.declared.K3.TheVariants.{No, Half, Yes}
 use Rattle.tv_kleene.specs.Kleene.{LiesUnder}
-use Rattle.tv_frame.specs.Embedding.{IsBelow}
+use Rattle.tv_embedding_laws.specs.Embedding.{IsBelow}
 use Rattle.tv_struct.specs.TableForm.{PlaneForm, HasEntry}
-use Rattle.tv_struct.specs.StructureForm.{StructureForm, IsStructure, table_of, value_at, summary_at, with_value, with_summary, structure_of}
+use Rattle.tv_struct.specs.StructureForm.{StructureForm, IsStructure, table_of, value_at, summary_at}
+use Rattle.tv_struct.specs.StructureForm.{with_value, with_summary, structure_of}
 
 -- 1 where a value is unknown
 abbrev pub half_of : K3 → ℕ
@@ -31,7 +32,8 @@ half_count s = sum_by plane_halves s.planes + sum_by half_of_flag s.summaries
 
 -- a write changes the count by what it writes and what stood there, and by nothing else
 pub record HalvesAreCounted : Type 0 where
-  pub entries : (s : StructureForm) (pred : ℕ) (tuple : List ℕ) (k : K3) → IsStructure s → HasEntry (table_of s) pred tuple
+  pub entries : (s : StructureForm) (pred : ℕ) (tuple : List ℕ) (k : K3) → IsStructure s
+      → HasEntry (table_of s) pred tuple
       → half_count (with_value s pred tuple k) + half_of (value_at s pred tuple) ≡ half_count s + half_of k
   pub summaries : (s : StructureForm) (u : ℕ) (on : Bool) → IsStructure s → u < s.size
       → half_count (with_summary s u on) + half_of_flag (summary_at s u) ≡ half_count s + half_of_flag on
@@ -39,7 +41,9 @@ pub record HalvesAreCounted : Type 0 where
 -- where an entry gets a value that lies under its own, or a summary becomes an ordinary individual, the
 -- new structure lies below the old one
 pub record LoweringGoesBelow : Type 0 where
-  pub entries : (s : StructureForm) (pred : ℕ) (tuple : List ℕ) (k : K3) → IsStructure s → HasEntry (table_of s) pred tuple
-      → LiesUnder k (value_at s pred tuple) → IsBelow (structure_of (with_value s pred tuple k)) (structure_of s)
+  pub entries : (s : StructureForm) (pred : ℕ) (tuple : List ℕ) (k : K3) → IsStructure s
+      → HasEntry (table_of s) pred tuple
+      → LiesUnder k (value_at s pred tuple)
+      → IsBelow (structure_of (with_value s pred tuple k)) (structure_of s)
   pub summaries : (s : StructureForm) (u : ℕ) → IsStructure s → u < s.size
       → IsBelow (structure_of (with_summary s u false)) (structure_of s)

@@ -3,7 +3,9 @@ use Rattle.std.specs.Prelude.{ℕ, ◌≡◌, ◌≢◌, ◌<◌, ◌+◌, Bool,
 use Rattle.tv_kleene.specs.declared.K3.{K3}
 use Rattle.tv_kleene.specs.declared.K3.TheVariants.{No}
 use Rattle.tv_struct.specs.TableForm.{HasEntry, AreIndividuals}
-use Rattle.tv_struct.specs.StructureForm.{StructureForm, IsStructure, table_of, value_at, summary_at, with_value, with_summary, with_new, drawn, arities_of, structure_of_no}
+use Rattle.tv_struct.specs.StructureForm.{StructureForm, IsStructure, table_of, value_at, summary_at}
+use Rattle.tv_struct.specs.StructureForm.{with_value, with_summary, with_new, drawn, arities_of}
+use Rattle.tv_struct.specs.StructureForm.{structure_of_no}
 
 -- writing an entry gives it the value, and changes no other; the arities stay
 pub record WritesOneEntry (s : StructureForm) (pred : ℕ) (tuple : List ℕ) (k : K3) : Type 0 where
@@ -18,9 +20,11 @@ pub record WritesOneSummary (s : StructureForm) (u : ℕ) (on : Bool) : Type 0 w
   pub others : (w : ℕ) → w ≢ u → summary_at (with_summary s u on) w ≡ summary_at s w
 
 pub record EntriesAreSeparate : Type 0 where
-  pub values : (s : StructureForm) (pred : ℕ) (tuple : List ℕ) (k : K3) → IsStructure s → HasEntry (table_of s) pred tuple
+  pub values : (s : StructureForm) (pred : ℕ) (tuple : List ℕ) (k : K3) → IsStructure s
+      → HasEntry (table_of s) pred tuple
       → WritesOneEntry s pred tuple k
-  pub summaries : (s : StructureForm) (u : ℕ) (on : Bool) → IsStructure s → u < s.size → WritesOneSummary s u on
+  pub summaries : (s : StructureForm) (u : ℕ) (on : Bool) → IsStructure s → u < s.size
+      → WritesOneSummary s u on
 
 -- a new structure has the given arities, No everywhere and no summary
 pub record IsAllNo (arities : List ℕ) (s : StructureForm) : Type 0 where
@@ -35,7 +39,8 @@ NewStructuresAreNo = (size : ℕ) (arities : List ℕ) → IsAllNo arities (stru
 abbrev pub EntriesDetermineStructures : Type 0
 EntriesDetermineStructures =
     (s t : StructureForm) → IsStructure s → IsStructure t → s.size ≡ t.size → arities_of s ≡ arities_of t
-    → ((pred : ℕ) (tuple : List ℕ) → HasEntry (table_of s) pred tuple → value_at s pred tuple ≡ value_at t pred tuple)
+    → ((pred : ℕ) (tuple : List ℕ) → HasEntry (table_of s) pred tuple
+    → value_at s pred tuple ≡ value_at t pred tuple)
     → ((u : ℕ) → u < s.size → summary_at s u ≡ summary_at t u) → s.fresh ≡ t.fresh → s ≡ t
 
 -- where each member of a tuple comes from
@@ -45,7 +50,8 @@ origins_of origins tuple = map (λ u. slice_index origins u) tuple
 -- a drawn structure has the origins' values and summaries; the structure with a new individual keeps
 -- the values of the others; and a tuple past the end has the value No
 pub record DrawnReads (s : StructureForm) : Type 0 where
-  pub values : (origins : List ℕ) (fresh : Option ℕ) (pred : ℕ) (tuple : List ℕ) → AreIndividuals (length origins) tuple
+  pub values : (origins : List ℕ) (fresh : Option ℕ) (pred : ℕ) (tuple : List ℕ)
+      → AreIndividuals (length origins) tuple
       → value_at (drawn origins fresh s) pred tuple ≡ value_at s pred (origins_of origins tuple)
   pub summaries : (origins : List ℕ) (fresh : Option ℕ) (u : ℕ) → u < length origins
       → summary_at (drawn origins fresh s) u ≡ summary_at s (slice_index origins u)

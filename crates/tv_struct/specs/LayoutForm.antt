@@ -1,6 +1,7 @@
 -- How a table is held in one list of words: the rows of each predicate behind those of the predicate
 -- before, each row in equally many words.
-use Rattle.std.specs.Prelude.{ℕ, ◌≡◌, ◌<◌, ◌≤◌, ◌+◌, ◌*◌, ◌/◌, ◌%◌, min, max, List, [], ◌∷◌, length, map, All, slice_index}
+use Rattle.std.specs.Prelude.{ℕ, ◌≡◌, ◌<◌, ◌≤◌, ◌+◌, ◌*◌, ◌/◌, ◌%◌, min, max, List, [], ◌∷◌, length, map, All}
+use Rattle.std.specs.Prelude.{slice_index}
 use Rattle.std.specs.List.{range_with_len}
 use Rattle.tv_kleene.specs.declared.K3.{K3}
 use Rattle.tv_kleene.specs.declared.K3.TheVariants.{No}
@@ -39,17 +40,22 @@ row_place l pred row = slice_index (starts_from l.size 0 l.arities) pred + row
 unfoldable pub plane_held : (words : List (List K3)) → (width size start arity : ℕ) → PlaneForm
 plane_held words width size start arity = record {
   arity = arity;
-  rows = map (λ row. row_of words (column_count size arity) ((start + row) * width)) (range_with_len 0 (row_count size arity));
+  rows =
+      map (λ row. row_of words (column_count size arity) ((start + row) * width))
+      (range_with_len 0 (row_count size arity));
 }
 
-abbrev pub planes_held : (words : List (List K3)) → (width size start : ℕ) → (arities : List ℕ) → List PlaneForm
+abbrev pub planes_held : (words : List (List K3)) → (width size start : ℕ) → (arities : List ℕ)
+    → List PlaneForm
 planes_held words width size start [] = []
 planes_held words width size start (arity ∷ arities) =
-    plane_held words width size start arity ∷ planes_held words width size (start + row_count size arity) arities
+    plane_held words width size start arity ∷ planes_held words width size
+    (start + row_count size arity) arities
 
 -- the table that the words hold
 abbrev pub table_held : LayoutForm → List (List K3) → TableForm
-table_held l words = record { size = l.size; planes = planes_held words (words_for l.size) l.size 0 l.arities }
+table_held l words =
+    record { size = l.size; planes = planes_held words (words_for l.size) l.size 0 l.arities }
 
 -- No where a row has no column
 abbrev pub NoBeyond : (words : List (List K3)) → (width size start : ℕ) → (arities : List ℕ) → Type 0

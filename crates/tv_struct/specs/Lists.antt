@@ -3,8 +3,8 @@ use Rattle.std.specs.Prelude.{ℕ, ◌≤◌, ◌+◌, ◌-◌, zero, suc, true,
 use Rattle.std.specs.List.{range_with_len}
 use Rattle.tv_kleene.specs.declared.K3.TheVariants.{No, Half, Yes}
 use Rattle.tv_model.specs.Heap.{Heap}
-use Rattle.tv_frame.specs.LogicalStructure.{heap_structure}
-use Rattle.tv_frame.specs.Embedding.{Embeds}
+use Rattle.tv_embedding_laws.specs.LogicalStructure.{heap_structure}
+use Rattle.tv_embedding_laws.specs.Embedding.{Embeds}
 use Rattle.tv_struct.specs.StructureForm.{StructureForm, structure_of}
 
 -- the heap of a list of that many cells: predicate 0 holds of the first cell, and predicate 1 of each cell
@@ -42,6 +42,7 @@ head_or_rest (suc u) = 1
 
 -- lists of any length embed in structures of one and of two individuals
 pub record ListsEmbed : Type 0 where
-  pub in_one : (cells : ℕ) → 1 ≤ cells → Embeds (λ u. 0) (heap_structure (list_heap cells)) (structure_of one_summary)
+  pub in_one : (cells : ℕ) → 1 ≤ cells
+      → Embeds (λ u. 0) (heap_structure (list_heap cells)) (structure_of one_summary)
   pub in_two : (cells : ℕ) → 2 ≤ cells
       → Embeds head_or_rest (heap_structure (list_heap cells)) (structure_of head_and_rest)

@@ -10,7 +10,8 @@ use Rattle.tv_struct.specs.StructureForm.{StructureForm}
 
 -- by arity, then tuple by tuple in lexicographic order: row by row, and from column to column
 abbrev pub plane_cmp : PlaneForm → PlaneForm → Ordering
-plane_cmp = then_cmp (on (λ plane. plane.arity) nat_cmp) (on (λ plane. plane.rows) (slice_cmp (slice_cmp value_cmp)))
+plane_cmp =
+    then_cmp (on (λ plane. plane.arity) nat_cmp) (on (λ plane. plane.rows) (slice_cmp (slice_cmp value_cmp)))
 
 -- predicate by predicate
 abbrev pub planes_cmp : List PlaneForm → List PlaneForm → Ordering

@@ -1,5 +1,6 @@
 -- Which individuals of a structure those of a further one come from.
-use Rattle.std.specs.Prelude.{ℕ, ◌≡◌, ◌<◌, ◌+◌, ◌↔◌, Bool, false, List, length, Contains, IsTrue, slice_index, slice_index_or, sum, take, count_by}
+use Rattle.std.specs.Prelude.{ℕ, ◌≡◌, ◌<◌, ◌+◌, ◌↔◌, Bool, false, List, length, Contains, IsTrue, slice_index}
+use Rattle.std.specs.Prelude.{slice_index_or, sum, take, count_by}
 use Rattle.std.specs.List.Sorted.{IsStrictlyIncreasing}
 use Rattle.tv_struct.specs.StructureForm.{kept_from, copies_from}
 

@@ -1,11 +1,13 @@
 -- The structures that the analysis works on: a table of values, the summaries, and the fresh individual.
-use Rattle.std.specs.Prelude.{ℕ, ◌≡◌, ◌<◌, ◌+◌, Bool, true, false, List, [], ◌∷◌, ◌++◌, length, map, Option, Some, None, slice_index_or, slice_set, replicate, sum, take}
+use Rattle.std.specs.Prelude.{ℕ, ◌≡◌, ◌<◌, ◌+◌, Bool, true, false, List, [], ◌∷◌, ◌++◌, length, map, Option}
+use Rattle.std.specs.Prelude.{Some, None, slice_index_or, slice_set, replicate, sum, take}
 use Rattle.std.specs.List.{range_with_len}
 use Rattle.std.specs.Option.{option_map}
 use Rattle.tv_kleene.specs.declared.K3.{K3}
 use Rattle.tv_model.specs.declared.program.Vocab.{Vocab}
-use Rattle.tv_frame.specs.LogicalStructure.{LogicalStructure}
-use Rattle.tv_struct.specs.TableForm.{PlaneForm, TableForm, IsTable, arities_in, entry, with_entry, table_of_no, plane_drawn, selected}
+use Rattle.tv_embedding_laws.specs.LogicalStructure.{LogicalStructure}
+use Rattle.tv_struct.specs.TableForm.{PlaneForm, TableForm, IsTable, arities_in, entry, with_entry}
+use Rattle.tv_struct.specs.TableForm.{table_of_no, plane_drawn, selected}
 
 -- a structure over the individuals 0 to size - 1: whether each is a summary, the values of each
 -- predicate, and the fresh individual

@@ -4,7 +4,7 @@ use Rattle.std.specs.List.{range_with_len}
 use Rattle.tv_kleene.specs.declared.K3.{K3}
 use Rattle.tv_kleene.specs.declared.K3.TheVariants.{No, Half}
 use Rattle.tv_row.specs.Bits.{is_possible}
-use Rattle.tv_struct.specs.TableForm.{IsPlane, table_with_row, table_with_rows}
+use Rattle.tv_struct.specs.TableForm.{table_with_row}
 use Rattle.tv_struct.specs.StructureForm.{StructureForm, table_of, value_at, summary_at, arities_of}
 
 -- the predicate is one of the structure's and has that arity
@@ -39,12 +39,3 @@ flags_of row = map is_possible row
 -- with first member u of a binary one
 abbrev pub with_row : StructureForm → (pred row : ℕ) → (values : List K3) → StructureForm
 with_row s pred row values = record s { planes = (table_with_row (table_of s) pred row values).planes }
-
--- rows of values for a predicate of that arity, as many and as long as a structure of that size has: one row of one
--- value, one row, or a row for each individual
-abbrev pub AreRows : (size arity : ℕ) → (rows : List (List K3)) → Type 0
-AreRows size arity rows = IsPlane size (record { arity = arity; rows = rows })
-
--- the structure with these rows as the values of a predicate
-abbrev pub with_rows : StructureForm → (pred : ℕ) → (rows : List (List K3)) → StructureForm
-with_rows s pred rows = record s { planes = (table_with_rows (table_of s) pred rows).planes }

@@ -1,5 +1,6 @@
 -- Tables of truth values: for each predicate a value at each tuple of its arity over the individuals.
-use Rattle.std.specs.Prelude.{ℕ, ◌≡◌, ◌<◌, ◌≤◌, ◌==◌, List, [], ◌∷◌, length, map, Some, All, slice_get, if◌then◌else◌, slice_index_or, slice_set, replicate}
+use Rattle.std.specs.Prelude.{ℕ, ◌≡◌, ◌<◌, ◌≤◌, ◌==◌, List, [], ◌∷◌, length, map, Some, All, slice_get}
+use Rattle.std.specs.Prelude.{if◌then◌else◌, slice_index_or, slice_set, replicate}
 use Rattle.std.specs.List.{AllByRecursion, range_with_len}
 use Rattle.tv_kleene.specs.declared.K3.{K3}
 use Rattle.tv_kleene.specs.declared.K3.TheVariants.{No}
@@ -35,7 +36,8 @@ with_cell rows row column k = slice_set rows row (slice_set (slice_index_or rows
 
 -- the value at a tuple, No where it hasn't the predicate's arity
 abbrev pub value_in : PlaneForm → List ℕ → K3
-value_in plane tuple = if length tuple == plane.arity then cell plane.rows (row_of tuple) (column_of tuple) else No
+value_in plane tuple =
+    if length tuple == plane.arity then cell plane.rows (row_of tuple) (column_of tuple) else No
 
 -- what stands for the values of a predicate that isn't there
 abbrev pub no_plane : PlaneForm
@@ -65,22 +67,19 @@ pub record HasEntry (t : TableForm) (pred : ℕ) (tuple : List ℕ) : Type 0 whe
 abbrev pub with_entry : TableForm → (pred : ℕ) → (tuple : List ℕ) → K3 → TableForm
 with_entry t pred tuple k = record t {
   planes = slice_set t.planes pred
-      (record (plane_at t pred) { rows = with_cell (plane_at t pred).rows (row_of tuple) (column_of tuple) k });
+      (record (plane_at t pred) {
+        rows = with_cell (plane_at t pred).rows (row_of tuple)
+            (column_of tuple) k;
+      });
 }
 
 -- the table with the values put into a row of a predicate
 abbrev pub table_with_row : TableForm → (pred row : ℕ) → (values : List K3) → TableForm
 table_with_row t pred row values = record t {
-  planes = slice_set t.planes pred (record (plane_at t pred) { rows = slice_set (plane_at t pred).rows row values });
+  planes =
+      slice_set t.planes pred
+      (record (plane_at t pred) { rows = slice_set (plane_at t pred).rows row values });
 }
-
--- the predicate with other values, row by row
-abbrev pub with_lines : PlaneForm → (rows : List (List K3)) → PlaneForm
-with_lines plane rows = record plane { rows = rows }
-
--- the table with these rows as the values of a predicate
-abbrev pub table_with_rows : TableForm → (pred : ℕ) → (rows : List (List K3)) → TableForm
-table_with_rows t pred rows = record t { planes = slice_set t.planes pred (with_lines (plane_at t pred) rows) }
 
 -- the values in a row of a plane
 abbrev pub row_in : PlaneForm → (row : ℕ) → List K3
@@ -127,7 +126,9 @@ selected d xs places = map (λ place. slice_index_or xs place d) places
 abbrev pub plane_drawn : (origins : List ℕ) → PlaneForm → PlaneForm
 plane_drawn origins plane = record {
   arity = plane.arity;
-  rows = map (λ row. selected No (slice_index_or plane.rows row []) (if plane.arity == 0 then 0 ∷ [] else origins))
+  rows =
+      map
+      (λ row. selected No (slice_index_or plane.rows row []) (if plane.arity == 0 then 0 ∷ [] else origins))
       (if plane.arity == 2 then origins else 0 ∷ []);
 }
 

@@ -17,7 +17,8 @@ impl Planes {
         requires other { p.0 < length other.now.planes }
         requires size { self.now.size ≡ other.now.size }
         requires arity { (plane_at self.now p.0).arity ≡ (plane_at other.now p.0).arity }
-        ensures { result ≡ slice_cmp (slice_cmp value_cmp) (plane_at self.now p.0).rows (plane_at other.now p.0).rows }
+        ensures { result
+            ≡ slice_cmp (slice_cmp value_cmp) (plane_at self.now p.0).rows (plane_at other.now p.0).rows }
     {
         let rows = self.row_total(p).min(other.row_total(p));
         for row in 0..rows {

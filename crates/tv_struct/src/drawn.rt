@@ -1,8 +1,10 @@
 //! Tables drawn from others: over one individual for each of a list of origins.
 
-ghost use Rattle.std.specs.Prelude.{◌≡◌, ◌<◌, ◌≤◌, ◌==◌, [], ◌∷◌, length, IfOk, if◌then◌else◌, slice_index_or, slice_set};
+ghost use Rattle.std.specs.Prelude.{◌≡◌, ◌<◌, ◌≤◌, ◌==◌, [], ◌∷◌, length, IfOk, if◌then◌else◌};
+ghost use Rattle.std.specs.Prelude.{slice_index_or, slice_set};
 ghost use Rattle.tv_kleene.specs.declared.K3.TheVariants.{No};
-ghost use Rattle.tv_struct.specs.TableForm.{IsTable, plane_at, plane_drawn, table_drawn, table_with_row, row_in, selected};
+ghost use Rattle.tv_struct.specs.TableForm.{IsTable, plane_at, plane_drawn, table_drawn, table_with_row};
+ghost use Rattle.tv_struct.specs.TableForm.{row_in, selected};
 
 use crate::layout::column_count;
 use crate::planes::Planes;
@@ -20,8 +22,8 @@ fn row_origins(arity: u8, origins: &[u32]) -> &[u32]
 }
 
 impl Planes {
-    /// Draws a row of the predicate `p` from a row of another table, `No` everywhere where that is past the end. The
-    /// one value of a nullary predicate is copied.
+    /// Draws a row of the predicate `p` from a row of another table, `No` everywhere where that is past the
+    /// end. The one value of a nullary predicate is copied.
     fn draw_row(&mut self, p: PredId, row: u32, source: &Planes, from: u32, drawing: &Drawing)
         requires table { IsTable self.old }
         requires size { self.old.size ≡ length drawing.now.origins }
@@ -30,7 +32,9 @@ impl Planes {
         requires row { row < length (plane_at self.old p.0).rows }
         requires source { p.0 < length source.now.planes }
         requires arity { (plane_at self.old p.0).arity ≡ (plane_at source.now p.0).arity }
-        ensures value { self.new ≡ table_with_row self.old p.0 row (selected No (row_in (plane_at source.now p.0) from) (if (plane_at source.now p.0).arity == 0 then 0 ∷ [] else drawing.now.origins)) }
+        ensures value { self.new
+            ≡ table_with_row self.old p.0 row (selected No (row_in (plane_at source.now p.0) from)
+            (if (plane_at source.now p.0).arity == 0 then 0 ∷ [] else drawing.now.origins)) }
         ensures kept { IsTable self.new }
     {
         let _ = source.size();
@@ -52,7 +56,10 @@ impl Planes {
         requires predicate { p.0 < length self.old.planes }
         requires source { p.0 < length source.now.planes }
         requires arity { (plane_at self.old p.0).arity ≡ (plane_at source.now p.0).arity }
-        ensures value { self.new ≡ record self.old { planes = slice_set self.old.planes p.0 (plane_drawn drawing.now.origins (plane_at source.now p.0)) } }
+        ensures value { self.new ≡ record self.old {
+          planes = slice_set self.old.planes p.0
+              (plane_drawn drawing.now.origins (plane_at source.now p.0));
+        } }
         ensures kept { IsTable self.new }
     {
         let rows = row_origins(source.arity(p), drawing.origins());

@@ -1,6 +1,7 @@
 //! Flags of individuals, kept as a row of truth values.
 
-ghost use Rattle.std.specs.Prelude.{◌≡◌, ◌<◌, ◌≤◌, false, length, map, replicate, if◌then◌else◌, slice_index_or, slice_set};
+ghost use Rattle.std.specs.Prelude.{◌≡◌, ◌<◌, ◌≤◌, false, length, map, replicate, if◌then◌else◌};
+ghost use Rattle.std.specs.Prelude.{slice_index_or, slice_set};
 ghost use Rattle.std.specs.Cmp.Lexicographic.{slice_cmp};
 ghost use Rattle.std.specs.Ordering.{bool_cmp};
 ghost use Rattle.tv_kleene.specs.declared.K3.TheVariants.{No, Half};
@@ -14,11 +15,11 @@ use tv_row::{Drawing, Row};
 
 /// A flag for each of up to 256 individuals: `Half` in the row where it is true, else `No`.
 #[derive(Debug, Drop)]
-pub struct Flags {
+pub struct Summaries {
     row: Row,
 }
 
-impl Model for Flags {
+impl Model for Summaries {
     ghost use Rattle.std.specs.Prelude.{List, Bool};
     ghost use Rattle.tv_struct.specs.StructureRows.{flags_of};
 
@@ -39,22 +40,22 @@ fn value_of(on: bool) -> K3
     if on { K3::Half } else { K3::No }
 }
 
-impl Flags {
+impl Summaries {
     /// `size` flags, all false.
-    pub fn none(size: u32) -> Flags
+    pub fn none(size: u32) -> Summaries
         requires { size ≤ 256 }
         ensures { result ≡ replicate size false }
     {
-        Flags {
+        Summaries {
             row: Row::of(size, K3::No),
         }
     }
 
     /// The same flags.
-    pub fn copied(&self) -> Flags
+    pub fn copied(&self) -> Summaries
         ensures { result ≡ self.now }
     {
-        Flags { row: self.row }
+        Summaries { row: self.row }
     }
 
     /// The flag of the individual `u`.
@@ -74,11 +75,11 @@ impl Flags {
     }
 
     /// The flags at the origins, in their order, and false for an origin past the end.
-    pub fn drawn(&self, drawing: &Drawing) -> Flags
+    pub fn drawn(&self, drawing: &Drawing) -> Summaries
         requires { drawing.now.columns ≡ length self.now }
         ensures { result ≡ selected false self.now drawing.now.origins }
     {
-        Flags {
+        Summaries {
             row: self.row.drawn(drawing),
         }
     }
@@ -91,7 +92,7 @@ impl Flags {
     }
 
     /// Compares flag by flag, with false < true.
-    pub fn compare(&self, other: &Flags) -> Ordering
+    pub fn compare(&self, other: &Summaries) -> Ordering
         requires { length self.now ≡ length other.now }
         ensures { result ≡ slice_cmp bool_cmp self.now other.now }
     {

@@ -1,6 +1,7 @@
 //! Laws of structures: functions that do nothing, and whose contracts are the laws.
 
-ghost use Rattle.tv_struct.specs.Laws.{EntriesAreSeparate, NewStructuresAreNo, EntriesDetermineStructures, DrawnStructuresRead};
+ghost use Rattle.tv_struct.specs.Laws.{EntriesAreSeparate, NewStructuresAreNo, EntriesDetermineStructures};
+ghost use Rattle.tv_struct.specs.Laws.{DrawnStructuresRead};
 ghost use Rattle.tv_struct.specs.Lists.{ListsEmbed};
 ghost use Rattle.tv_struct.specs.Halves.{HalvesAreCounted, LoweringGoesBelow};
 ghost use Rattle.tv_struct.specs.Origins.{KeptIndividualsAreFlagged, PlacesAreCopies};
@@ -43,8 +44,8 @@ pub fn lowering_goes_below()
     ensures { LoweringGoesBelow }
 {}
 
-/// The individuals that `without` keeps are those with a true flag, in increasing order; those of a split structure
-/// are the copies, each of one individual.
+/// The individuals that `without` keeps are those with a true flag, in increasing order; those of a split
+/// structure are the copies, each of one individual.
 pub fn origins_are_told()
     ensures kept { KeptIndividualsAreFlagged }
     ensures copies { PlacesAreCopies }

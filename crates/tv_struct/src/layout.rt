@@ -1,7 +1,8 @@
 //! Where the rows of each predicate of a table lie in its words.
 
 ghost use Rattle.std.specs.Prelude.{◌≡◌, ◌<◌, ◌≤◌, ◌+◌, ◌-◌, ◌*◌, length, map, IfOk, IsTrue, slice_index};
-ghost use Rattle.tv_struct.specs.LayoutForm.{LayoutForm, IsLayout, words_for, starts_from, end_from, row_place};
+ghost use Rattle.tv_struct.specs.LayoutForm.{LayoutForm, IsLayout, words_for, starts_from, end_from};
+ghost use Rattle.tv_struct.specs.LayoutForm.{row_place};
 ghost use Rattle.tv_struct.specs.TableForm.{row_count, column_count};
 
 use std::alloc::{AllocError, Global};
@@ -9,10 +10,10 @@ use std::marker::Model;
 use std::rc::Rc;
 use tv_model::Pred;
 
-/// The arity of each predicate, how many of the predicates before it have one row alone, and how many of all have: what
-/// doesn't depend on the number of individuals.
+/// The arity of each predicate, how many of the predicates before it have one row alone, and how many of all
+/// have: what doesn't depend on the number of individuals.
 #[derive(Debug, Drop)]
-pub struct Places {
+pub struct RowOffsets {
     arities: Vec<u8>,
     singles: Vec<usize>,
     single: usize,
@@ -24,7 +25,7 @@ pub struct Places {
 pub struct Layout {
     size: u32,
     width: usize,
-    places: Rc<Places>,
+    places: Rc<RowOffsets>,
 }
 
 impl Model for Layout {
@@ -34,7 +35,8 @@ impl Model for Layout {
 
     ghost view = { λ l. record { size = l.size; arities = l.places.value.arities.items } };
 
-    ghost invariant = { λ l. IsLaid (record { size = l.size; arities = l.places.value.arities.items }) l.width l.places.value.singles.items l.places.value.single };
+    ghost invariant = { λ l. IsLaid (record { size = l.size; arities = l.places.value.arities.items }) l.width
+        l.places.value.singles.items l.places.value.single };
 }
 
 /// The number of rows of a predicate of that arity over `size` individuals.
@@ -52,12 +54,13 @@ pub fn column_count(size: u32, arity: u8) -> u32
 }
 
 /// The place of each predicate, and how many have one row alone.
-fn laid(alloc: Global, preds: &[Pred]) -> Result<Places, AllocError>
+fn laid(alloc: Global, preds: &[Pred]) -> Result<RowOffsets, AllocError>
     requires { length preds.now ≤ 4294967295 }
     ensures arities { IfOk result (λ places. places.arities.items ≡ map (λ pred. pred.arity) preds.now) }
     ensures singles { IfOk result
         (λ places. places.singles.items ≡ starts_from 0 0 (map (λ pred. pred.arity) preds.now)) }
-    ensures total { IfOk result (λ places. places.single ≡ end_from 0 0 (map (λ pred. pred.arity) preds.now)) }
+    ensures total { IfOk result
+        (λ places. places.single ≡ end_from 0 0 (map (λ pred. pred.arity) preds.now)) }
 {
     let mut arities = Vec::with_capacity(alloc, preds.len())?;
     let mut singles = Vec::with_capacity(alloc, preds.len())?;
@@ -67,7 +70,7 @@ fn laid(alloc: Global, preds: &[Pred]) -> Result<Places, AllocError>
         singles.push(single)?;
         single += row_count(0, pred.arity) as usize;
     }
-    Ok(Places {
+    Ok(RowOffsets {
         arities,
         singles,
         single,
@@ -96,7 +99,8 @@ impl Layout {
     /// The layout of a table of these predicates over `size` individuals.
     pub fn new(alloc: Global, preds: &[Pred], size: u32) -> Result<Layout, AllocError>
         requires { IsLayout (record { size = size; arities = map (λ pred. pred.arity) preds.now }) }
-        ensures { IfOk result (λ l. l ≡ record { size = size; arities = map (λ pred. pred.arity) preds.now }) }
+        ensures { IfOk result
+            (λ l. l ≡ record { size = size; arities = map (λ pred. pred.arity) preds.now }) }
     {
         match Rc::new(alloc, laid(alloc, preds)?) {
             Ok(places) => Ok(Layout {

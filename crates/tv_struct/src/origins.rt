@@ -1,6 +1,7 @@
 //! Which individuals of a structure those of a further one come from.
 
-ghost use Rattle.std.specs.Prelude.{◌≡◌, ◌<◌, ◌≤◌, ◌+◌, ◌++◌, ◌^◌, length, IfOk, OnErr, OnOk, sum, take, replicate, [], ◌∷◌, if◌then◌else◌};
+ghost use Rattle.std.specs.Prelude.{◌≡◌, ◌<◌, ◌≤◌, ◌+◌, ◌++◌, ◌^◌, length, IfOk, OnErr, OnOk, sum, take};
+ghost use Rattle.std.specs.Prelude.{replicate, [], ◌∷◌, if◌then◌else◌};
 ghost use Rattle.std.specs.List.{range_with_len};
 ghost use Rattle.tv_struct.specs.StructureForm.{kept_from, copies_from};
 

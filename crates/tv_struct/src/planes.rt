@@ -1,11 +1,14 @@
 //! A table in planes of bits: one list of words for the values of all predicates.
 
-ghost use Rattle.std.specs.Prelude.{◌≡◌, ◌<◌, ◌≤◌, ◌+◌, ℕ, [], ◌∷◌, length, map, fold, All, IfOk, Some, slice_get, slice_index, slice_index_or, slice_set};
+ghost use Rattle.std.specs.Prelude.{◌≡◌, ◌<◌, ◌≤◌, length, map, fold, All, IfOk, Some, slice_get};
+ghost use Rattle.std.specs.Prelude.{slice_index_or, slice_set};
 ghost use Rattle.tv_struct.specs.LayoutForm.{IsLayout};
-ghost use Rattle.tv_struct.specs.TableForm.{TableForm, IsPlane, IsTable, HasEntry, entry, with_entry, table_of_no, table_drawn, table_with_row, table_with_rows, with_lines, plane_at, plane_drawn, row_in, column_in, row_of, column_of, arities_in, row_count, column_count, selected};
+ghost use Rattle.tv_struct.specs.TableForm.{TableForm, IsTable, table_of_no, table_with_row, plane_at};
+ghost use Rattle.tv_struct.specs.TableForm.{row_in, column_in, row_of, column_of, arities_in, row_count};
+ghost use Rattle.tv_struct.specs.TableForm.{column_count, selected};
 ghost use Rattle.tv_kleene.specs.declared.K3.TheVariants.{No};
 ghost use Rattle.tv_row.specs.Mixed.{word_mixed};
-ghost use Rattle.tv_struct.specs.Order.{planes_cmp, plane_cmp};
+ghost use Rattle.tv_struct.specs.Order.{planes_cmp};
 ghost use Rattle.tv_struct.specs.Signature.{table_words};
 ghost use Rattle.tv_struct.specs.TupleForm.{tuple_of};
 
@@ -150,40 +153,32 @@ impl Planes {
         requires predicate { p.0 < length self.old.planes }
         requires row { row < length (plane_at self.old p.0).rows }
         requires column { column < length (row_in (plane_at self.old p.0) row) }
-        ensures value { self.new ≡ table_with_row self.old p.0 row (slice_set (row_in (plane_at self.old p.0) row) column k) }
+        ensures value { self.new
+            ≡ table_with_row self.old p.0 row (slice_set (row_in (plane_at self.old p.0) row) column k) }
         ensures kept { IsTable self.new }
     {
         let start = self.layout.start(p.0 as usize, row as usize);
         self.words.put(start, column as usize, k);
     }
 
-    /// Draws a row of the predicate `p` from a row that it has in another table, in words, and changes nothing else.
+    /// Draws a row of the predicate `p` from a row that it has in another table, in words, and changes
+    /// nothing else.
     pub fn draw_words(&mut self, p: PredId, row: u32, source: &Planes, from: u32, drawing: &Drawing)
         requires predicate { p.0 < length self.old.planes }
         requires row { row < length (plane_at self.old p.0).rows }
         requires source { p.0 < length source.now.planes }
         requires from { from < length (plane_at source.now p.0).rows }
-        requires size { length drawing.now.origins ≡ column_count self.old.size (plane_at self.old p.0).arity }
-        requires columns { drawing.now.columns ≡ column_count source.now.size (plane_at source.now p.0).arity }
-        ensures value { self.new ≡ table_with_row self.old p.0 row (selected No (row_in (plane_at source.now p.0) from) drawing.now.origins) }
+        requires size { length drawing.now.origins
+            ≡ column_count self.old.size (plane_at self.old p.0).arity }
+        requires columns { drawing.now.columns
+            ≡ column_count source.now.size (plane_at source.now p.0).arity }
+        ensures value { self.new ≡ table_with_row self.old p.0 row
+            (selected No (row_in (plane_at source.now p.0) from) drawing.now.origins) }
         ensures kept { IsTable self.new }
     {
         let at = self.layout.start(p.0 as usize, row as usize);
         let start = source.layout.start(p.0 as usize, from as usize);
         self.words.draw(at, &source.words, start, drawing);
-    }
-
-    /// Puts the rows into the predicate `p`, which has as many of the same length, and changes nothing else.
-    pub fn put_rows(&mut self, p: PredId, rows: &[Row])
-        requires predicate { p.0 < length self.old.planes }
-        requires rows { IsPlane self.old.size (with_lines (plane_at self.old p.0) rows.now) }
-        ensures value { self.new ≡ table_with_rows self.old p.0 rows.now }
-        ensures kept { IsTable self.new }
-    {
-        let _ = self.size();
-        for (row, values) in rows.iter().enumerate() {
-            self.put_row(p, row as u32, values);
-        }
     }
 
     /// An equal table in memory of its own.

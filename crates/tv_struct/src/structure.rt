@@ -1,17 +1,21 @@
 //! Three-valued structures of at most 256 individuals.
 
-ghost use Rattle.std.specs.Prelude.{◌≡◌, ◌≢◌, ◌<◌, ◌≤◌, ◌↔◌, ℕ, List, [], ◌∷◌, length, map, All, IfOk, IsTrue, IfSome, sum, slice_get, slice_index, if◌then◌else◌, refl};
+ghost use Rattle.std.specs.Prelude.{◌≡◌, ◌≢◌, ◌<◌, ◌≤◌, ◌↔◌, ℕ, List, length, map, All, IfOk, IsTrue, IfSome};
+ghost use Rattle.std.specs.Prelude.{sum, slice_get, slice_index, if◌then◌else◌, refl};
 ghost use Rattle.std.specs.Cmp.{partial_equiv_from_equiv, eq_by_cmp_equiv, po};
 ghost use Rattle.std.specs.Ordering.{eq_by_cmp, as_partial_cmp};
 ghost use Rattle.tv_kleene.specs.declared.K3.TheVariants.{No, Half};
 ghost use Rattle.tv_struct.specs.Order.{structure_cmp, structure_cmp_total};
 ghost use Rattle.tv_struct.specs.Signature.{signature_of};
-ghost use Rattle.tv_struct.specs.StructureForm.{StructureForm, IsStructure, IsMark, IsOver, arities_of, table_of, value_at, summary_at, structure_of_no, with_value, with_summary, with_new, without, split, drawn, unmarked};
-ghost use Rattle.tv_struct.specs.StructureRows.{HasArity, AreRows, unary_row, row_at, column_at, summary_row, with_row, with_rows};
-ghost use Rattle.tv_struct.specs.TableForm.{HasEntry, cell, column_of, row_of};
+ghost use Rattle.tv_struct.specs.StructureForm.{StructureForm, IsStructure, IsMark, IsOver, arities_of};
+ghost use Rattle.tv_struct.specs.StructureForm.{table_of, value_at, summary_at, structure_of_no, with_value};
+ghost use Rattle.tv_struct.specs.StructureForm.{with_summary, with_new, without, split, drawn, unmarked};
+ghost use Rattle.tv_struct.specs.StructureRows.{HasArity, unary_row, row_at, column_at, summary_row};
+ghost use Rattle.tv_struct.specs.StructureRows.{with_row};
+ghost use Rattle.tv_struct.specs.TableForm.{HasEntry, row_of};
 ghost use Rattle.tv_struct.specs.TupleForm.{tuple_of};
 
-use crate::flags::Flags;
+use crate::flags::Summaries;
 use crate::origins;
 use crate::planes::Planes;
 use crate::table::{Table, Tuple};
@@ -28,7 +32,7 @@ use tv_row::{Drawing, Row};
 #[derive(Debug, Drop)]
 pub struct Structure {
     table: Planes,
-    summaries: Flags,
+    summaries: Summaries,
     fresh: Option<u32>,
 }
 
@@ -40,9 +44,11 @@ impl Model for Structure {
 
     ghost Value = { StructureForm };
 
-    ghost view = { λ s. record { size = s.table.size; summaries = s.summaries; planes = s.table.planes; fresh = s.fresh } };
+    ghost view = { λ s.
+        record { size = s.table.size; summaries = s.summaries; planes = s.table.planes; fresh = s.fresh } };
 
-    ghost invariant = { λ s. IsStructure (record { size = s.table.size; summaries = s.summaries; planes = s.table.planes; fresh = s.fresh }) };
+    ghost invariant = { λ s. IsStructure
+        (record { size = s.table.size; summaries = s.summaries; planes = s.table.planes; fresh = s.fresh }) };
 }
 
 impl Structure {
@@ -52,13 +58,14 @@ impl Structure {
     pub fn new(alloc: Global, vocab: &Vocab, size: u32) -> Result<Structure, AllocError>
         requires size { size ≤ 256 }
         requires arities { All (λ pred. pred.arity ≤ 2) vocab.now.preds }
-        ensures value { IfOk result (λ s. s ≡ structure_of_no size (map (λ pred. pred.arity) vocab.now.preds)) }
+        ensures value { IfOk result
+            (λ s. s ≡ structure_of_no size (map (λ pred. pred.arity) vocab.now.preds)) }
         ensures over { IfOk result (IsOver vocab.now) }
         ensures kept { IfOk result IsStructure }
     {
         Ok(Structure {
             table: Planes::of_no(alloc, vocab.preds.as_slice(), size)?,
-            summaries: Flags::none(size),
+            summaries: Summaries::none(size),
             fresh: None,
         })
     }
@@ -74,7 +81,7 @@ impl Structure {
     {
         Ok(Structure {
             table: like.table.emptied(alloc, size)?,
-            summaries: Flags::none(size),
+            summaries: Summaries::none(size),
             fresh: None,
         })
     }
@@ -155,7 +162,8 @@ impl Structure {
         requires size { length values.now ≡ self.old.size }
         ensures value { self.new ≡ with_row self.old p.0 0 values.now }
         ensures row { unary_row self.new p.0 ≡ values.now }
-        ensures others { (q : ℕ) (tuple : List ℕ) → q ≢ p.0 → value_at self.new q tuple ≡ value_at self.old q tuple }
+        ensures others { (q : ℕ) (tuple : List ℕ) → q ≢ p.0
+            → value_at self.new q tuple ≡ value_at self.old q tuple }
         ensures over { arities_of self.new ≡ arities_of self.old }
         ensures kept { IsStructure self.new }
     {
@@ -176,21 +184,6 @@ impl Structure {
         ensures kept { IsStructure self.new }
     {
         self.table.put_row(p, u, values);
-    }
-
-    /// Puts the values into the predicate `p`, and changes no other entry: one row of one value where it is nullary,
-    /// one row where it is unary, and where it is binary a row for each first member of a pair, by the second.
-    pub fn set_rows(&mut self, p: PredId, rows: &[Row])
-        requires pred { p.0 < length (arities_of self.old) }
-        requires rows { AreRows self.old.size (slice_index (arities_of self.old) p.0) rows.now }
-        ensures value { self.new ≡ with_rows self.old p.0 rows.now }
-        ensures entries { (tuple : List ℕ) → HasArity self.old p.0 (length tuple)
-            → value_at self.new p.0 tuple ≡ cell rows.now (row_of tuple) (column_of tuple) }
-        ensures others { (q : ℕ) (tuple : List ℕ) → q ≢ p.0 → value_at self.new q tuple ≡ value_at self.old q tuple }
-        ensures over { arities_of self.new ≡ arities_of self.old }
-        ensures kept { IsStructure self.new }
-    {
-        self.table.put_rows(p, rows);
     }
 
     /// Of each individual `Half` where it is a summary, else `No`.

@@ -1,7 +1,7 @@
 //! Finite differencing, by whole calls.
 
-use crate::call::{Row, wrong_part};
 use std::test::Fail;
+use tv_test_call::{PLAIN, Row, wrong_part};
 
 /// A conjunction of which one part is set.
 const BOTH: &str = "%p b()
@@ -69,9 +69,8 @@ static ROWS: [Row; 6] = [
     Row {
         words: &["analyze", "--delta", "p", "i"],
         files: &[("p", BOTH), ("i", "%n = {} %p = { c = 1/2 }")],
-        code: 0,
         out: BOTH_REPORT,
-        err: "",
+        ..PLAIN
     },
     Row {
         words: &["check", "p", "i", "r", "--delta"],
@@ -80,23 +79,20 @@ static ROWS: [Row; 6] = [
             ("i", "%n = {} %p = { c = 1/2 }"),
             ("r", BOTH_REPORT),
         ],
-        code: 0,
         out: "accepted\n",
-        err: "",
+        ..PLAIN
     },
     Row {
         words: &["analyze", "p", "i"],
         files: &[("p", WRONG), ("i", "%n = {} %p = { c = 1 }")],
-        code: 0,
         out: WRONG_REPORT,
-        err: "",
+        ..PLAIN
     },
     Row {
         words: &["analyze", "p", "i", "--delta"],
         files: &[("p", WRONG), ("i", "%n = {} %p = { c = 1 }")],
-        code: 0,
         out: RIGHT_REPORT,
-        err: "",
+        ..PLAIN
     },
     Row {
         words: &["check", "--delta", "p", "i", "r"],
@@ -107,14 +103,14 @@ static ROWS: [Row; 6] = [
         ],
         code: 1,
         out: "rejected: edge 0 structure 0 result 0\n",
-        err: "",
+        ..PLAIN
     },
     Row {
         words: &["analyze", "--delta", "p", "i"],
         files: &[("i", "%n = {} %p = {}")],
         code: 5,
-        out: "",
         err: "tvla: read fault\n",
+        ..PLAIN
     },
 ];
 

@@ -1,7 +1,7 @@
 //! The joined analysis, by whole calls.
 
-use crate::call::{Row, wrong_part};
 use std::test::Fail;
+use tv_test_call::{FLIP, FLIP_INITIAL, FLIP_REPORT, PLAIN, Row, wrong_part};
 
 /// A program that adds individuals without end; a structure without individuals.
 const NEW: &str = "%p x(v)
@@ -31,13 +31,6 @@ node L0 structures 3
 end
 ";
 
-const FLIP: &str = "%p b()
-%%
-%action Flip() { { b() = !b() } }
-%%
-L0 Flip() L1
-";
-
 /// Thirteen individuals that may stay: over 4,096 choices.
 const RETAIN: &str = "%p a(v) %p b(v) %p c(v) %p d(v) %p x(v)
 %%
@@ -56,8 +49,8 @@ const CROWD: &str = "%n = {u0, u1, u2, u3, u4, u5, u6, u7, u8, u9, u10, u11, u12
 }
 ";
 
-/// The value of a nullary predicate is a part of the key, that of one that names don't tell isn't. What is listed
-/// first is followed once, and its message told in the end.
+/// The value of a nullary predicate is a part of the key, that of one that names don't tell isn't. What is
+/// listed first is followed once, and its message told in the end.
 const TURN: &str = "%p b() %p z(v) nonabs
 %%
 %action Turn() {
@@ -82,8 +75,8 @@ message 0 0 1 \"on\"
 end
 ";
 
-/// A message is told of what is listed in the end: it is true of the structure that was listed first, and unknown
-/// of that which it became.
+/// A message is told of what is listed in the end: it is true of the structure that was listed first, and
+/// unknown of that which it became.
 const SAY: &str = "%p z(v) nonabs
 %%
 %action Turn() {
@@ -108,83 +101,66 @@ static ROWS: [Row; 10] = [
     Row {
         words: &["join", "p", "i"],
         files: &[("p", NEW), ("i", NOBODY)],
-        code: 0,
         out: JOINED,
-        err: "",
+        ..PLAIN
     },
     Row {
         words: &["check", "p", "i", "r"],
         files: &[("p", NEW), ("i", NOBODY), ("r", JOINED)],
-        code: 0,
         out: "accepted\n",
-        err: "",
+        ..PLAIN
     },
     Row {
         words: &["join", "--max-structures=2", "p", "i"],
         files: &[("p", NEW), ("i", NOBODY)],
         code: 4,
-        out: "",
         err: "tvla: more than 2 structures\n",
+        ..PLAIN
     },
     Row {
         words: &["join", "p", "--recompute", "i", "--max-structures", "3"],
         files: &[("p", NEW), ("i", NOBODY)],
-        code: 0,
         out: JOINED,
-        err: "",
+        ..PLAIN
     },
     Row {
         words: &["join", "p", "i"],
-        files: &[("p", FLIP), ("i", "%n = {} %p = { b = 1 }")],
-        code: 0,
-        out: "tvla report 2
-node L0 structures 1
-%n = {}
-%p = {
-  b = 1
-}
-node L1 structures 1
-%n = {}
-%p = {
-}
-end
-",
-        err: "",
+        files: &[("p", FLIP), ("i", FLIP_INITIAL)],
+        out: FLIP_REPORT,
+        ..PLAIN
     },
     Row {
         words: &["join", "p", "i"],
         files: &[("p", TURN), ("i", "%n = {u} %p = { b = 1 z = {u} }")],
-        code: 0,
         out: TURNED,
-        err: "",
+        ..PLAIN
     },
     Row {
         words: &["join", "p", "i"],
         files: &[("p", SAY), ("i", "%n = {u} %p = { z = {u} }")],
-        code: 0,
         out: SAID,
-        err: "",
+        ..PLAIN
     },
     Row {
         words: &["join", "p", "i"],
         files: &[("p", RETAIN), ("i", CROWD)],
         code: 4,
-        out: "",
         err: "tvla: too many splits\n",
+        ..PLAIN
     },
     Row {
         words: &["join", "p", "i"],
         files: &[("p", FLIP)],
         code: 5,
-        out: "",
         err: "tvla: read fault\n",
+        ..PLAIN
     },
     Row {
         words: &["join", "p", "i"],
         files: &[("p", FLIP), ("i", "%n = {u} %p = { sm = {u:1} }")],
         code: 3,
-        out: "",
         err: "tvla: initial: BadSm\n",
+        ..PLAIN
     },
 ];
 

@@ -2,8 +2,6 @@
 #![tactic(auto)]
 
 #[cfg(test)]
-mod call;
-#[cfg(test)]
 mod delta;
 #[cfg(test)]
 mod join;

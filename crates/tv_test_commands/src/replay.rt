@@ -1,9 +1,9 @@
-//! Replays, by whole calls. What is wanted was worked out by a plain reference of the definitions, and by hand.
+//! Replays, by whole calls. What is wanted was worked out by a plain reference of the definitions, and by
+//! hand.
 
 use std::alloc::{AllocError, Global};
 use std::test::Fail;
-use tv_outside::{MemFiles, MemSink};
-use tv_top::tvla;
+use tv_test_call::{CALM, called, files_of};
 
 /// Programs, heaps and traces, with `;` behind each, and what is written; `~` stands between rows.
 const RUNS: &str = "%p x(v) unique %% %action Act() {} %% L Act() L;
@@ -619,6 +619,11 @@ node L1 structures 1 %n = {} %p = {}
 end;
 exit 5
 tvla: read fault
+~
+%p x(v) %% %action Act() {} %% L Act() L;
+%n = {a, b} %p = { x = {a} sm = {b:1/2} };step 0;
+exit 3
+tvla: start: NotHeap
 ";
 
 /// Numbers of cells in a row, traces, and what is written.
@@ -640,7 +645,23 @@ exit 1
 ~256;step 0;
 stuck: step 1 individuals
 exit 1
+~257;step 0;
+exit 3
+tvla: start: TooManyIndividuals
 ";
+
+/// How many individuals a freely updated predicate's structure has, for a heap of three, and what is written.
+const CROWDS: &str = "256;
+stuck: step 1 values
+exit 1
+~257;
+exit 3
+tvla: trace: TraceForm at 1:1
+";
+
+/// A program with a free update, and a heap.
+const FREE: &str =
+    "%p x(v) %% %action Act() { { x(v) = 1/2 } } %% L Act() L;%n = {a, b, c} %p = {}";
 
 /// A program whose action adds an individual, with a rule of four variables.
 const GROWING: &str = "%p n(v, w) function %r n(v, w) & n(w, u) & n(u, z) ==> !n(z, v)
@@ -652,35 +673,19 @@ const NAMES: [&str; 5] = ["p", "s", "t", "i", "r"];
 /// The initial structures, in which no heap of these rows embeds, and a report that lists nothing.
 const OTHERS: [&str; 2] = ["%n = {} %p = {}", "tvla report 2 end"];
 
-/// The names of the files of a row, and their contents.
-fn files(alloc: Global, texts: &[&str]) -> Result<(Vec<String>, Vec<Vec<u8>>), AllocError> {
-    let mut names = Vec::new(alloc);
-    let mut contents = Vec::new(alloc);
-    for (name, text) in NAMES.iter().zip(texts.iter().chain(OTHERS.iter())) {
-        if *text != "-" {
-            names.push(String::from_str(alloc, name)?)?;
-            contents.push(Vec::from_slice(alloc, text.as_bytes())?)?;
-        }
-    }
-    Ok((names, contents))
-}
-
 /// What the replay of these texts writes, and its exit code.
 fn told(alloc: Global, texts: &[&str]) -> Result<String, AllocError> {
-    let mut words = Vec::new(alloc);
-    for word in ["replay", "p", "i", "s", "t", "r"] {
-        words.push(String::from_str(alloc, word)?)?;
+    let mut held = Vec::new(alloc);
+    for (name, text) in NAMES.iter().zip(texts.iter().chain(OTHERS.iter())) {
+        if *text != "-" {
+            held.push((*name, *text))?;
+        }
     }
-    let mut out = MemSink::new(alloc, 65_536, Vec::new(alloc), 65_536)?;
-    let mut err = MemSink::new(alloc, 65_536, Vec::new(alloc), 65_536)?;
-    let (names, contents) = files(alloc, texts)?;
-    if names.len() != contents.len() {
-        return String::from_str(alloc, "names and contents aren't as many");
-    }
-    let mut files = MemFiles::new(names, contents, 65_536, Vec::new(alloc));
-    let code = tvla(alloc, &words, &mut files, &mut out, &mut err).code();
-    let out = String::from_utf8_lossy(alloc, out.taken())?;
-    let err = String::from_utf8_lossy(alloc, err.taken())?;
+    let files = files_of(alloc, &held, &CALM)?;
+    let found = called(alloc, &["replay", "p", "i", "s", "t", "r"], files, &CALM)?;
+    let code = found.code;
+    let out = String::from_utf8_lossy(alloc, found.out.taken())?;
+    let err = String::from_utf8_lossy(alloc, found.err.taken())?;
     format!(in alloc; "\n{out}exit {code}\n{err}")
 }
 
@@ -707,12 +712,36 @@ fn chain(alloc: Global, count: u32) -> Result<String, AllocError> {
     format!(in alloc; "%n = {{u0{cells}}} %p = {{ n = {{u0->u0:0{pairs}}} }}")
 }
 
+/// A number of individuals at the limit.
+fn number(count: &str) -> u32 {
+    match count {
+        "255" => 255,
+        "257" => 257,
+        _ => 256,
+    }
+}
+
+/// Whether a step with so many individuals for a free update is told as the row says.
+fn is_met_by_crowds(alloc: Global, row: &str) -> Result<bool, AllocError> {
+    let Some((count, rest)) = row.split_once(';') else {
+        return Ok(false);
+    };
+    let mut cells = String::new(alloc);
+    for cell in 1..number(count) {
+        cells.push_str(&format!(in alloc; ", u{cell}")?)?;
+    }
+    let row = format!(in alloc;
+        "{FREE};step 0 free %n = {{u0{cells}}} %p = {{ x = {{u0}} }};{rest}"
+    )?;
+    is_met(alloc, &row)
+}
+
 /// Whether the run of a chain is told as the row says.
 fn is_met_by_chains(alloc: Global, row: &str) -> Result<bool, AllocError> {
     let Some((count, rest)) = row.split_once(';') else {
         return Ok(false);
     };
-    let start = chain(alloc, if count == "255" { 255 } else { 256 })?;
+    let start = chain(alloc, number(count))?;
     let row = format!(in alloc; "{GROWING};{start};{rest}")?;
     is_met(alloc, &row)
 }
@@ -724,6 +753,9 @@ fn replays_end_as_they_should(rt: HostRuntime) -> Result<(), Fail> {
     }
     for row in CHAINS.split('~') {
         assert!(rt; is_met_by_chains(rt.alloc(), row)?, "{row}");
+    }
+    for row in CROWDS.split('~') {
+        assert!(rt; is_met_by_crowds(rt.alloc(), row)?, "{row}");
     }
     Ok(())
 }

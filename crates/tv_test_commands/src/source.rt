@@ -1,7 +1,7 @@
 //! Source programs, by whole calls.
 
-use crate::call::{Row, wrong_part};
 use std::test::Fail;
+use tv_test_call::{PLAIN, Row, wrong_part};
 
 /// No cells: `x` and `y` are null.
 const NOBODY: &str = "%n = {} %p = {}";
@@ -41,44 +41,41 @@ static ROWS: [Row; 6] = [
     Row {
         words: &["source", "s", "i"],
         files: &[("s", WALK), ("i", NOBODY)],
-        code: 0,
         out: WALKED,
-        err: "",
+        ..PLAIN
     },
     Row {
         words: &["source", "s", "--max-structures=3", "i"],
         files: &[("s", WALK), ("i", NOBODY)],
-        code: 0,
         out: WALKED,
-        err: "",
+        ..PLAIN
     },
     Row {
         words: &["source", "--max-structures", "2", "s", "i"],
         files: &[("s", WALK), ("i", NOBODY)],
         code: 4,
-        out: "",
         err: "tvla: more than 2 structures\n",
+        ..PLAIN
     },
     Row {
         words: &["source", "s", "i"],
         files: &[("s", "vars {y} fields {n} y = y->n"), ("i", NOBODY)],
-        code: 0,
         out: FOLLOWED,
-        err: "",
+        ..PLAIN
     },
     Row {
         words: &["source", "s", "i"],
         files: &[("i", NOBODY)],
         code: 5,
-        out: "",
         err: "tvla: read fault\n",
+        ..PLAIN
     },
     Row {
         words: &["source", "s", "i"],
         files: &[("s", WALK)],
         code: 5,
-        out: "",
         err: "tvla: read fault\n",
+        ..PLAIN
     },
 ];
 
@@ -127,8 +124,8 @@ fn refused(files: &'static [(&'static str, &'static str)], err: &'static str) ->
         words: &["source", "s", "i"],
         files,
         code: 3,
-        out: "",
         err,
+        ..PLAIN
     }
 }
 

@@ -2,8 +2,8 @@
 
 use tv_model::{Change, Formula, Terms, Update, Var};
 
-/// How many binders were passed, and for each variable the number of the last one that binds it, 0 where it is
-/// free.
+/// How many binders were passed, and for each variable the number of the last one that binds it, 0 where it
+/// is free.
 #[derive(Clone, Copy)]
 struct Binders {
     count: u32,

@@ -4,6 +4,7 @@ ghost use Rattle.std.specs.Prelude.{◌≡◌, ◌<◌, slice_get, length, Some,
 ghost use Rattle.tv_model.specs.Program.{program_of};
 ghost use Rattle.tv_model.specs.Valid.{IsValid};
 
+use crate::rows::{are_all_same, first_updates};
 use std::alloc::Global;
 use std::process::Abort;
 use std::test::Fail;
@@ -50,5 +51,33 @@ fn false_definitions_are_opened_once(rt: HostRuntime) -> Result<(), Fail> {
     let text = doubled(rt.alloc(), 60, "b() & 0", "")?;
     let count = update_count(rt.alloc(), text.as_str())?;
     assert!(rt; count == 61, "{count}");
+    Ok(())
+}
+
+/// A conjunction of so many doublings of `c()`, in balanced parentheses.
+fn balanced(alloc: Global, doublings: u32) -> Result<String, Fail> {
+    let mut text = String::from_str(alloc, "c()")?;
+    for _ in 0..doublings {
+        text = format!(in alloc; "({text} & {text})")?;
+    }
+    Ok(text)
+}
+
+/// The updates that differencing gives the action `{ b() = 1 }`, and those of an action with these.
+fn are_updates(alloc: Global, declared: &str, wanted: &str) -> Result<bool, Fail> {
+    let given = program(alloc, declared, "{ b() = 1 }")?;
+    let made = differenced(alloc, &given)?;
+    let meant = program(alloc, declared, wanted)?;
+    Ok(are_all_same(first_updates(&made), first_updates(&meant)))
+}
+
+/// A definition has an update of 32,772 nodes, though the whole would have 65,540 after the step: that is to
+/// be small only where a connective or a quantifier speaks of it.
+#[test]
+fn the_whole_may_be_large_after_the_step(rt: HostRuntime) -> Result<(), Fail> {
+    let half = balanced(rt.alloc(), 14)?;
+    let declared = format!(in rt.alloc(); "%p b() %p c() %i d() = b() & {half}")?;
+    let wanted = format!(in rt.alloc(); "{{ b() = 1 d() = d() | (!b() & {half}) }}")?;
+    assert!(rt; are_updates(rt.alloc(), declared.as_str(), wanted.as_str())?);
     Ok(())
 }

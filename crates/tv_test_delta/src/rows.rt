@@ -84,14 +84,14 @@ fn with_updates(
     program(alloc, declarations.as_str(), action.as_str())
 }
 
-fn first_updates(p: &Program) -> &[Update] {
+pub fn first_updates(p: &Program) -> &[Update] {
     match p.actions.as_slice() {
         [] => &[],
         [action, ..] => action.updates.as_slice(),
     }
 }
 
-fn are_all_same(a: &[Update], b: &[Update]) -> bool {
+pub fn are_all_same(a: &[Update], b: &[Update]) -> bool {
     match (a, b) {
         ([], []) => true,
         ([x, later @ ..], [y, others @ ..]) => are_same(x, y) && are_all_same(later, others),

@@ -1,5 +1,5 @@
-//! Rows of focus, embeddings and blur, of closed rules, of coerce and of updates, through the public calls of the
-//! crates below.
+//! Rows of focus, embeddings and blur, of closed rules, of coerce and of updates, through the public calls of
+//! the crates below.
 #![tactic(auto)]
 
 #[cfg(test)]

@@ -1,10 +1,7 @@
 //! One call over files and sinks in memory, and how it ends.
 
-ghost use Rattle.std.specs.Prelude.{◌≤◌};
-
 use std::alloc::{AllocError, Global};
-use tv_outside::{MemFiles, MemSink};
-use tv_top::tvla;
+use tv_test_call::{Ending, Found, Outside, called, files_of};
 
 /// The words of a call; the texts of the files `p`, `i` and `r`; and further files, by name.
 #[derive(Clone, Copy)]
@@ -25,102 +22,20 @@ pub const ANALYZE: Call<'static, 'static, 'static, 'static> = Call {
     more: &[],
 };
 
-/// How many bytes one call outside moves at most, and which calls are to fail, counted from 1.
-#[derive(Clone, Copy)]
-pub struct Outside<'a> {
-    pub files_step: usize,
-    pub files_fail: &'a [u64],
-    pub sink_step: usize,
-    pub out_fail: &'a [u64],
-    pub err_fail: &'a [u64],
-}
-
-/// Files and sinks that move all at once and never fail.
-pub const CALM: Outside<'static> = Outside {
-    files_step: 67_108_864,
-    files_fail: &[],
-    sink_step: 67_108_864,
-    out_fail: &[],
-    err_fail: &[],
-};
-
-/// How a call is to end: its exit code, and what both sinks take.
-#[derive(Clone, Copy)]
-pub struct Ending<'o, 'e> {
-    pub code: u8,
-    pub out: &'o str,
-    pub err: &'e str,
-}
-
-/// How a call ended.
-#[derive(Drop)]
-pub struct Found {
-    pub code: u8,
-    pub out: MemSink,
-    pub err: MemSink,
-}
-
-impl Found {
-    /// Which part of the ending isn't the wanted one.
-    pub fn wrong_part(&self, wanted: &Ending<'_, '_>) -> Option<&'static str> {
-        if self.code != wanted.code {
-            Some("code")
-        } else if self.out.taken() != wanted.out.as_bytes() {
-            Some("out")
-        } else if self.err.taken() != wanted.err.as_bytes() {
-            Some("err")
-        } else {
-            None
-        }
-    }
-}
-
-fn owned(alloc: Global, words: &[&str]) -> Result<Vec<String>, AllocError> {
-    let mut all = Vec::new(alloc);
-    for word in words {
-        all.push(String::from_str(alloc, word)?)?;
-    }
-    Ok(all)
-}
-
-/// The files of a call.
-fn files_of(
-    alloc: Global,
-    call: &Call<'_, '_, '_, '_>,
-    outside: &Outside<'_>,
-) -> Result<MemFiles, AllocError> {
-    let mut names = Vec::new(alloc);
-    let mut contents = Vec::new(alloc);
-    names.push(String::from_str(alloc, "p")?)?;
-    contents.push(Vec::from_slice(alloc, call.program.as_bytes())?)?;
-    names.push(String::from_str(alloc, "i")?)?;
-    contents.push(Vec::from_slice(alloc, call.initial.as_bytes())?)?;
-    names.push(String::from_str(alloc, "r")?)?;
-    contents.push(Vec::from_slice(alloc, call.report.as_bytes())?)?;
-    for (name, content) in call.more {
-        names.push(String::from_str(alloc, name)?)?;
-        contents.push(Vec::from_slice(alloc, content.as_bytes())?)?;
-    }
-    let fail = Vec::from_slice(alloc, outside.files_fail)?;
-    Ok(MemFiles::new(names, contents, outside.files_step.max(1), fail))
-}
-
-fn sink(alloc: Global, step: usize, fail: &[u64], room: usize) -> Result<MemSink, AllocError> {
-    MemSink::new(alloc, step.max(1), Vec::from_slice(alloc, fail)?, room)
-}
-
 /// Calls, and gives how it ended.
 pub fn ended(
     alloc: Global,
     call: &Call<'_, '_, '_, '_>,
     outside: &Outside<'_>,
 ) -> Result<Found, AllocError> {
-    let words = owned(alloc, call.words)?;
-    let mut files = files_of(alloc, call, outside)?;
-    let mut out = sink(alloc, outside.sink_step, outside.out_fail, 16_777_216)?;
-    let mut err = sink(alloc, outside.sink_step, outside.err_fail, 4096)?;
-    let code = tvla(alloc, &words, &mut files, &mut out, &mut err).code();
-    Ok(Found { code, out, err })
+    let mut held = Vec::new(alloc);
+    held.push(("p", call.program))?;
+    held.push(("i", call.initial))?;
+    held.push(("r", call.report))?;
+    for more in call.more {
+        held.push(*more)?;
+    }
+    called(alloc, call.words, files_of(alloc, &held, outside)?, outside)
 }
 
 /// Which part of a call's ending isn't the wanted one.

@@ -1,14 +1,15 @@
 //! Each call outside fails once, and the next try fails one call later, until none fails.
 
-use crate::call::{ANALYZE, CALM, Call, Ending, Outside, ended, wrong_part};
+use crate::call::{ANALYZE, Call, ended, wrong_part};
 use crate::list::{LIST_CALL, list_report};
 use crate::writer::front;
 use std::alloc::{AllocError, Global};
 use std::test::Fail;
+use tv_test_call::{CALM, Ending, FLIP, FLIP_INITIAL, FLIP_REPORT, Outside};
 
 const ANALYZE_FLIP: Call<'static, 'static, 'static, 'static> = Call {
-    program: "%p b()\n%%\n%action Flip() { { b() = !b() } }\n%%\nL0 Flip() L1\n",
-    initial: "%n = {} %p = { b = 1 }",
+    program: FLIP,
+    initial: FLIP_INITIAL,
     ..ANALYZE
 };
 
@@ -17,19 +18,6 @@ const CHECK_FLIP: Call<'static, 'static, 'static, 'static> = Call {
     report: FLIP_REPORT,
     ..ANALYZE_FLIP
 };
-
-const FLIP_REPORT: &str = "tvla report 2
-node L0 structures 1
-%n = {}
-%p = {
-  b = 1
-}
-node L1 structures 1
-%n = {}
-%p = {
-}
-end
-";
 
 const READ_FAULT: Ending<'static, 'static> = Ending {
     code: 5,
@@ -46,8 +34,8 @@ fn failing_files(fail: &[u64]) -> Outside<'_> {
     }
 }
 
-/// How many calls of the files there are before none fails that is to fail. None where a call that meets a fault
-/// doesn't end in a read fault, or the first that meets none doesn't end as it should.
+/// How many calls of the files there are before none fails that is to fail. None where a call that meets a
+/// fault doesn't end in a read fault, or the first that meets none doesn't end as it should.
 fn faults_met(
     alloc: Global,
     call: &Call<'_, '_, '_, '_>,

@@ -1,12 +1,13 @@
 //! Limits of structures and steps: within, and one past.
 
-use crate::call::{ANALYZE, CALM, Call, Ending, ended, wrong_part};
+use crate::call::{ANALYZE, Call, ended, wrong_part};
 use crate::writer::{crowd, numbered};
 use std::alloc::{AllocError, Global};
 use std::test::Fail;
+use tv_test_call::{CALM, Ending};
 
-/// A crowd of individuals as the one initial structure, and how the analysis ends: with so many structures at the
-/// two nodes together, or with a text to `err`.
+/// A crowd of individuals as the one initial structure, and how the analysis ends: with so many structures at
+/// the two nodes together, or with a text to `err`.
 struct Row {
     words: &'static [&'static str],
     program: &'static str,
@@ -27,8 +28,8 @@ const RETAIN: &str = "%p a(v) %p b(v) %p c(v) %p d(v) %p x(v)
 const NEW: &str = "%p a(v) %p b(v) %p c(v) %p d(v) %p e(v) %p f(v) %p g(v) %p h(v)
 %% %action New() { %new } %% L0 New() L1";
 
-/// Three choices for each of seven summaries; two for each of twelve or thirteen individuals; a new individual
-/// beside 255 or 256, also in joined analyses; a text of 256 or 257 individuals.
+/// Three choices for each of seven summaries; two for each of twelve or thirteen individuals; a new
+/// individual beside 255 or 256, also in joined analyses; a text of 256 or 257 individuals.
 static ROWS: [Row; 9] = [
     Row {
         words: &["analyze", "p", "i"],
@@ -127,7 +128,8 @@ fn structures_in(report: &[u8]) -> usize {
     report.iter().filter(|byte| **byte == b'%').count() / 2
 }
 
-/// Which part of the ending isn't the row's. A report isn't compared byte by byte: its structures are counted.
+/// Which part of the ending isn't the row's. A report isn't compared byte by byte: its structures are
+/// counted.
 fn wrong_limit(alloc: Global, row: &Row) -> Result<Option<&'static str>, AllocError> {
     let initial = crowd(alloc, row.count, row.definite, row.unknown)?;
     let call = Call {
@@ -157,8 +159,8 @@ fn limits_of_steps_are_kept(rt: HostRuntime) -> Result<(), Fail> {
     Ok(())
 }
 
-/// A report that lists eight summaries, with 3 to the power of 8 choices, and its judgement where so many of them
-/// are the initial structure, if any.
+/// A report that lists eight summaries, with 3 to the power of 8 choices, and its judgement where so many of
+/// them are the initial structure, if any.
 fn wrong_judgement(
     alloc: Global,
     initial: &str,

@@ -1,8 +1,9 @@
 //! The traversal of a list of two or more cells, as four files, and its report.
 
-use crate::call::{ANALYZE, CALM, Call, Ending, wrong_part};
+use crate::call::{ANALYZE, Call, wrong_part};
 use std::alloc::{AllocError, Global};
 use std::test::Fail;
+use tv_test_call::{CALM, Ending, LIST, LIST_PREDICATES};
 
 const GUARDED: &str = "/* Traversal of a list. */
 %s PVar {x, y}
@@ -26,20 +27,6 @@ L1 Copy_Var(y, x)    L2
 L2 uninterpreted()   L3
 L3 Get_Next_L(y, y)  L2
 L2 Is_Null_Var(y)    L4
-";
-
-const PREDICATES: &str = "foreach (z in PVar) {
-  %p z(v_1) unique box
-}
-%p n(v_1, v_2) function
-%i t[n](v_1, v_2) = n*(v_1, v_2) transitive reflexive
-foreach (z in PVar) {
-  %i r[n,z](v) = E(v_1) z(v_1) & t[n](v_1, v)
-}
-// Lists have no cycle.
-%r t[n](v_1, v_2) ==> !n(v_2, v_1)
-// What is reached from a cell, and isn't the cell, is reached from its successor.
-%r n(v_1, v_2) & t[n](v_1, v_3) & v_1 != v_3 ==> t[n](v_2, v_3)
 ";
 
 const ACTIONS: &str = "%action uninterpreted() {
@@ -75,16 +62,6 @@ const ACTIONS: &str = "%action uninterpreted() {
 ";
 
 const MESSAGE: &str = "%message !(E(v) rhs(v)) -> \"null dereference of \" + rhs";
-
-const LIST: &str = "%n = {h, u}
-%p = {
-  x = {h}
-  n = {h->u:1/2, u->u:1/2}
-  t[n] = {h->h, h->u, u->u:1/2}
-  r[n,x] = {h, u}
-  sm = {u:1/2}
-}
-";
 
 /// Two cells, and the pointer is null.
 const TWO: &str = "%n = {i0, i1}
@@ -235,14 +212,14 @@ pub fn list_report(alloc: Global) -> Result<String, AllocError> {
 }
 
 const INCLUDED: [(&str, &str); 3] = [
-    ("preds.tvp", PREDICATES),
+    ("preds.tvp", LIST_PREDICATES),
     ("actions.tvp", ACTIONS),
     ("message.tvp", MESSAGE),
 ];
 
 /// The same, and a list of two cells with a run that goes twice around the guarded loop.
 const REPLAYED: [(&str, &str); 5] = [
-    ("preds.tvp", PREDICATES),
+    ("preds.tvp", LIST_PREDICATES),
     ("actions.tvp", ACTIONS),
     ("message.tvp", MESSAGE),
     (
@@ -254,7 +231,7 @@ const REPLAYED: [(&str, &str); 5] = [
 
 /// The same without the message.
 const SILENT: [(&str, &str); 3] = [
-    ("preds.tvp", PREDICATES),
+    ("preds.tvp", LIST_PREDICATES),
     ("actions.tvp", ACTIONS),
     ("message.tvp", ""),
 ];

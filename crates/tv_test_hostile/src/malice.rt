@@ -1,26 +1,12 @@
 //! Texts that are cut off, too deep, too long or faulty in some other way.
 
-use crate::call::{ANALYZE, CALM, Call, Ending, wrong_part};
+use crate::call::{ANALYZE, Call, wrong_part};
 use crate::writer::{front, numbered, repeated};
 use std::alloc::{AllocError, Global};
 use std::test::Fail;
+use tv_test_call::{CALM, Ending, FLIP_INITIAL, FLIP_REPORT};
 
 const FLIP: &str = "%p b() %% %action Flip() { { b() = !b() } } %% L0 Flip() L1";
-
-const FLIP_INITIAL: &str = "%n = {} %p = { b = 1 }";
-
-const FLIP_REPORT: &str = "tvla report 2
-node L0 structures 1
-%n = {}
-%p = {
-  b = 1
-}
-node L1 structures 1
-%n = {}
-%p = {
-}
-end
-";
 
 /// PROGRAM, and the kind of its fault.
 static PROGRAMS: [(&str, &str); 26] = [
@@ -186,8 +172,8 @@ fn depth_and_variables_are_limited(rt: HostRuntime) -> Result<(), Fail> {
     Ok(())
 }
 
-/// Each file but the last includes the next twice, so the last one, of 64 blanks, is included 2 to the power of 16
-/// times.
+/// Each file but the last includes the next twice, so the last one, of 64 blanks, is included 2 to the power
+/// of 16 times.
 static DOUBLED: [(&str, &str); 17] = [
     ("d0", "#include \"d1\"\n#include \"d1\"\n"),
     ("d1", "#include \"d2\"\n#include \"d2\"\n"),
@@ -240,8 +226,8 @@ node L1 structures 1
 end
 ";
 
-/// Where the fault stands in the first 0, 1, .. 100 bytes of the report: the first token that nothing can go on
-/// from, or the end. A mark that is cut off is a bad byte.
+/// Where the fault stands in the first 0, 1, .. 100 bytes of the report: the first token that nothing can go
+/// on from, or the end. A mark that is cut off is a bad byte.
 const PLACES: &str = "1:1 1:1 1:1 1:1 1:5 1:6 1:6 1:6 1:6 1:6 1:6 1:12 1:13 1:14
 2:1 2:1 2:1 2:1 2:5 2:6 2:7 2:8 2:9 2:9 2:9 2:9 2:9 2:9 2:9 2:9 2:9 2:9 2:19 2:20 2:21
 3:1 BadByte 3:3 3:4 3:5 3:6 3:7 3:8 4:1 BadByte 4:3 4:4 4:5 4:6 4:7
@@ -286,8 +272,8 @@ fn wrong_report(
     wrong_check(alloc, report, &wanted)
 }
 
-/// The first front of the report, by its number of bytes, whose check doesn't end as it should, and how many there
-/// are.
+/// The first front of the report, by its number of bytes, whose check doesn't end as it should, and how many
+/// there are.
 fn wrong_front(alloc: Global) -> Result<(usize, Option<usize>), AllocError> {
     let mut count = 0;
     for (k, place) in PLACES.split_whitespace().enumerate() {

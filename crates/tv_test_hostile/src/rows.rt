@@ -1,11 +1,12 @@
 //! Small programs and structures, in several commands.
 
-use crate::call::{ANALYZE, CALM, Call, Ending, ended, wrong_part};
+use crate::call::{ANALYZE, Call, ended, wrong_part};
 use std::alloc::{AllocError, Global};
 use std::test::Fail;
+use tv_test_call::{CALM, Ending, FLIP_REPORT, USAGE};
 
-/// The words of a call, PROGRAM `p`, INITIAL `i` and REPORT `r`, with `;` behind each; then what is written, the exit
-/// code, and what is told. `~` stands between rows.
+/// The words of a call, PROGRAM `p`, INITIAL `i` and REPORT `r`, with `;` behind each; then what is written,
+/// the exit code, and what is told. `~` stands between rows.
 const ROWS: &str = "analyze p i;%p x(v) %p y(v) %% %action Any() { { y(v) = 1/2 } } %% L0 Any() L1;
 %n = {u} %p = { x = {u} };;
 tvla report 2
@@ -270,32 +271,15 @@ check p i
 demo 17
 demo 0";
 
-const USAGE: Ending<'static, 'static> = Ending {
+const MISUSED: Ending<'static, 'static> = Ending {
     code: 2,
     out: "",
-    err: "usage: tvla analyze PROGRAM INITIAL [--max-structures N] [--recompute | --delta]
-       tvla check PROGRAM INITIAL REPORT [--recompute | --delta] [--maps]
-       tvla demo NUMBER
-       tvla replay PROGRAM INITIAL START TRACE REPORT
-       tvla source SOURCE INITIAL [--max-structures N]
-       tvla join PROGRAM INITIAL [--max-structures N] [--recompute]
-",
+    err: USAGE,
 };
 
 const FLIPPED: Ending<'static, 'static> = Ending {
     code: 0,
-    out: "tvla report 2
-node L0 structures 1
-%n = {}
-%p = {
-  b = 1
-}
-node L1 structures 1
-%n = {}
-%p = {
-}
-end
-",
+    out: FLIP_REPORT,
     err: "",
 };
 
@@ -317,7 +301,7 @@ fn words_are_read(rt: HostRuntime) -> Result<(), Fail> {
         assert!(rt; ends(rt.alloc(), line, &FLIPPED)?, "{line}");
     }
     for line in NO_COMMANDS.split('\n') {
-        assert!(rt; ends(rt.alloc(), line, &USAGE)?, "{line}");
+        assert!(rt; ends(rt.alloc(), line, &MISUSED)?, "{line}");
     }
     Ok(())
 }

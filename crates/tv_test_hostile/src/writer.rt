@@ -46,7 +46,8 @@ fn with_bit(alloc: Global, name: &str, count: u32, bit: u32) -> Result<String, A
     Ok(out)
 }
 
-/// The entries that make individuals differ: the first predicate holds for those with the lowest bit, and so on.
+/// The entries that make individuals differ: the first predicate holds for those with the lowest bit, and so
+/// on.
 fn values(alloc: Global, names: &[&str], count: u32) -> Result<String, AllocError> {
     let mut out = String::new(alloc);
     let mut bit: u32 = 0;
@@ -67,8 +68,8 @@ fn halves(alloc: Global, names: &[&str], count: u32) -> Result<String, AllocErro
     Ok(out)
 }
 
-/// A structure of so many individuals, of which those predicates have definite values that make them differ, and
-/// these are unknown.
+/// A structure of so many individuals, of which those predicates have definite values that make them differ,
+/// and these are unknown.
 pub fn crowd(
     alloc: Global,
     count: u32,

@@ -1,5 +1,5 @@
-//! Each statement and test both ways, blocks that are empty, loops in loops; each beside the program that it is
-//! compiled to, as it would be written by hand.
+//! Each statement and test both ways, blocks that are empty, loops in loops; each beside the program that it
+//! is compiled to, as it would be written by hand.
 
 use crate::texts::{compiled, written};
 use std::alloc::Global;

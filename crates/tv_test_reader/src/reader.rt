@@ -21,7 +21,7 @@ pub fn whole_program(alloc: Global, text: &str) -> Result<Program, Fail>
     ensures { IfOk result (λ p. IsValid (program_of p)) }
 {
     let bytes = text.as_bytes();
-    if bytes.len() > 100_000 {
+    if bytes.len() > 1_000_000 {
         return Err(Fail::new("too long"));
     }
     match read_program(alloc, bytes) {

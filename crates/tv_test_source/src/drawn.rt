@@ -8,10 +8,10 @@ use std::test::Fail;
 use tv_lex::{LexError, lex};
 use tv_model::Names;
 use tv_source::{Assign, Block, Source, Statement, Test};
-use tv_source_names::{ReadError, read_source};
+use tv_source_names::{SourceReadError, read_source};
 
 /// What a text is read as. `text` isn't longer than a file may be.
-pub fn read(alloc: Global, text: &[u8]) -> Result<Result<Source, ReadError>, Fail>
+pub fn read(alloc: Global, text: &[u8]) -> Result<Result<Source, SourceReadError>, Fail>
     requires { length text.now ≤ longest_text }
 {
     let tokens = match lex(alloc, text) {
@@ -94,12 +94,15 @@ pub fn answer(alloc: Global, text: &[u8]) -> Result<String, Fail>
             let body = block(alloc, &source.body)?;
             format!(in alloc; "{variables}| {fields}| {body}")?
         }
-        Err(ReadError::TooDeep) => format!(in alloc; "TooDeep")?,
-        Err(ReadError::Syntax(place)) => format!(in alloc; "{}:{}", place.line, place.column)?,
-        Err(ReadError::Reserved) => format!(in alloc; "Reserved")?,
-        Err(ReadError::NameTwice) => format!(in alloc; "NameTwice")?,
-        Err(ReadError::NameUnknown) => format!(in alloc; "NameUnknown")?,
-        Err(ReadError::Memory) => return Err(Fail::new("no memory")),
+        Err(SourceReadError::TooDeep) => format!(in alloc; "TooDeep")?,
+        Err(SourceReadError::Syntax(place)) => format!(in alloc;
+            "{}:{}",
+            place.line, place.column
+        )?,
+        Err(SourceReadError::Reserved) => format!(in alloc; "Reserved")?,
+        Err(SourceReadError::NameTwice) => format!(in alloc; "NameTwice")?,
+        Err(SourceReadError::NameUnknown) => format!(in alloc; "NameUnknown")?,
+        Err(SourceReadError::Memory) => return Err(Fail::new("no memory")),
     };
     Ok(found)
 }

@@ -3,7 +3,7 @@
 use crate::drawn::{answer, read};
 use std::alloc::{AllocError, Global};
 use std::test::Fail;
-use tv_source_names::ReadError;
+use tv_source_names::SourceReadError;
 
 /// A text that stands this often.
 fn repeated(alloc: Global, text: &str, count: u32) -> Result<String, AllocError> {
@@ -32,7 +32,8 @@ fn nested(alloc: Global, loops: u32, wanted: &str) -> Result<bool, Fail> {
     Ok(found.as_str() == wanted)
 }
 
-/// A front, what stands behind it so often, and what is answered. Where it is too deep, nothing else is looked at.
+/// A front, what stands behind it so often, and what is answered. Where it is too deep, nothing else is
+/// looked at.
 static DEEP: [(&str, &str, u32, &str); 9] = [
     ("", "(", 200, "1:1"),
     ("", "(", 201, "TooDeep"),
@@ -80,7 +81,7 @@ fn count(alloc: Global, one: &str, count: u32) -> Result<usize, Fail> {
     }
     match read(alloc, bytes)? {
         Ok(source) => Ok(source.body.items.len()),
-        Err(ReadError::Memory) => Err(Fail::new("no memory")),
+        Err(SourceReadError::Memory) => Err(Fail::new("no memory")),
         Err(_) => Err(Fail::new("refused")),
     }
 }

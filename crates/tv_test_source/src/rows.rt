@@ -1,5 +1,5 @@
-//! Source programs that are read, and texts that are refused. Programs and places were worked out by hand: a place
-//! is that of the first token that can't stand where it does, or of the end of the text.
+//! Source programs that are read, and texts that are refused. Programs and places were worked out by hand: a
+//! place is that of the first token that can't stand where it does, or of the end of the text.
 
 use crate::drawn::answer;
 use std::alloc::Global;

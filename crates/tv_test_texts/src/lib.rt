@@ -1,5 +1,5 @@
-//! Rows of files, include lines, tokens and places, and of structures, tables and texts of structures, through the
-//! public calls of the crates below.
+//! Rows of files, include lines, tokens and places, and of structures, tables and texts of structures,
+//! through the public calls of the crates below.
 #![tactic(auto)]
 
 #[cfg(test)]

@@ -1,57 +1,9 @@
 //! Rows of whole calls over the files and sinks in memory.
 
-ghost use Rattle.std.specs.Prelude.{◌≤◌};
-
-use std::alloc::{AllocError, Global};
 use std::test::Fail;
-use tv_outside::{MemFiles, MemSink};
-use tv_top::tvla;
-
-/// A call: its words, the files that are held, which calls of the files and of the output fail, the exit code,
-/// and what both sinks take.
-#[derive(Drop)]
-struct Row {
-    name: &'static str,
-    words: &'static [&'static str],
-    files: &'static [(&'static str, &'static str)],
-    files_fail: &'static [u64],
-    out_step: usize,
-    out_fail: &'static [u64],
-    code: u8,
-    out: &'static str,
-    err: &'static str,
-}
-
-const FLIP: &str = "%p b()
-%%
-%action Flip() { { b() = !b() } }
-%%
-L0 Flip() L1
-";
-
-const FLIP_INITIAL: &str = "%n = {} %p = { b = 1 }";
-
-const FLIP_REPORT: &str = "tvla report 2
-node L0 structures 1
-%n = {}
-%p = {
-  b = 1
-}
-node L1 structures 1
-%n = {}
-%p = {
-}
-end
-";
-
-const USAGE: &str =
-    "usage: tvla analyze PROGRAM INITIAL [--max-structures N] [--recompute | --delta]
-       tvla check PROGRAM INITIAL REPORT [--recompute | --delta] [--maps]
-       tvla demo NUMBER
-       tvla replay PROGRAM INITIAL START TRACE REPORT
-       tvla source SOURCE INITIAL [--max-structures N]
-       tvla join PROGRAM INITIAL [--max-structures N] [--recompute]
-";
+use tv_test_call::{
+    CALM, FLIP, FLIP_INITIAL, FLIP_REPORT, LIST_PREDICATES, Outside, PLAIN, Row, USAGE, wrong_part,
+};
 
 /// Universal and existential preconditions over no individual.
 const BOTH_QUANTIFIERS: &str = "%p x(v)
@@ -61,20 +13,6 @@ const BOTH_QUANTIFIERS: &str = "%p x(v)
 %%
 L0 All() L1
 L0 Any() L2
-";
-
-const PREDS: &str = "foreach (z in PVar) {
-  %p z(v_1) unique box
-}
-%p n(v_1, v_2) function
-%i t[n](v_1, v_2) = n*(v_1, v_2) transitive reflexive
-foreach (z in PVar) {
-  %i r[n,z](v) = E(v_1) z(v_1) & t[n](v_1, v)
-}
-// Lists have no cycle.
-%r t[n](v_1, v_2) ==> !n(v_2, v_1)
-// What is reached from a cell, and isn't the cell, is reached from its successor.
-%r n(v_1, v_2) & t[n](v_1, v_3) & v_1 != v_3 ==> t[n](v_2, v_3)
 ";
 
 /// Two cells or more in a program without edges of its own but `Skip`.
@@ -111,19 +49,6 @@ map initial 0 to 0 {0, 1}
 map edge 0 0 0 to 0 {0}
 end
 ";
-
-/// A row without failing calls, whose output takes all at once.
-const PLAIN: Row = Row {
-    name: "",
-    words: &[],
-    files: &[],
-    files_fail: &[],
-    out_step: 16_777_216,
-    out_fail: &[],
-    code: 0,
-    out: "",
-    err: "",
-};
 
 const FIRST_ROWS: [Row; 13] = [
     Row {
@@ -361,8 +286,12 @@ node L1 structures 1 %n = {} %p = { b = 1/2 } end",
         name: "an output that fails",
         words: &["analyze", "p", "i"],
         files: &[("p", FLIP), ("i", FLIP_INITIAL)],
-        out_step: 10,
-        out_fail: &[3],
+        outside: Outside {
+            files_step: 7,
+            sink_step: 10,
+            out_fail: &[3],
+            ..CALM
+        },
         code: 6,
         out: "tvla report 2\nnode L",
         err: "tvla: write fault\n",
@@ -372,7 +301,11 @@ node L1 structures 1 %n = {} %p = { b = 1/2 } end",
         name: "files that fail",
         words: &["analyze", "p", "i"],
         files: &[("p", FLIP), ("i", FLIP_INITIAL)],
-        files_fail: &[1],
+        outside: Outside {
+            files_step: 7,
+            files_fail: &[1],
+            ..CALM
+        },
         code: 5,
         err: "tvla: read fault\n",
         ..PLAIN
@@ -407,7 +340,7 @@ node L1 structures 1 %n = {} %p = { b = 1/2 } end",
                 "d/p",
                 "%s PVar {x}\n#include \"preds\"\n%%\n%action Skip() {}\n%%\nL0 Skip() L0\n",
             ),
-            ("d/preds", PREDS),
+            ("d/preds", LIST_PREDICATES),
             ("i", "%n = {} %p = {}"),
         ],
         out: "tvla report 2
@@ -427,7 +360,7 @@ end
                 "d/p",
                 "%s PVar {x}\n#include \"preds\"\n%%\n%action Skip() {}\n%%\nL0 Skip() L0\n",
             ),
-            ("preds", PREDS),
+            ("preds", LIST_PREDICATES),
             ("i", "%n = {} %p = {}"),
         ],
         code: 5,
@@ -590,44 +523,6 @@ end
         ..PLAIN
     },
 ];
-
-fn owned(alloc: Global, words: &[&str]) -> Result<Vec<String>, AllocError> {
-    let mut all = Vec::new(alloc);
-    for word in words {
-        all.push(String::from_str(alloc, word)?)?;
-    }
-    Ok(all)
-}
-
-/// The files of a row, of which a piece has at most seven bytes.
-fn files_of(alloc: Global, row: &Row) -> Result<MemFiles, AllocError> {
-    let mut names = Vec::new(alloc);
-    let mut contents = Vec::new(alloc);
-    for (name, content) in row.files {
-        names.push(String::from_str(alloc, name)?)?;
-        contents.push(Vec::from_slice(alloc, content.as_bytes())?)?;
-    }
-    Ok(MemFiles::new(names, contents, 7, Vec::from_slice(alloc, row.files_fail)?))
-}
-
-/// Which part of a call's ending isn't as the row has it: the exit code, what `out` took, or what `err` took.
-fn wrong_part(alloc: Global, row: &Row) -> Result<Option<&'static str>, AllocError> {
-    let words = owned(alloc, row.words)?;
-    let mut files = files_of(alloc, row)?;
-    let out_fail = Vec::from_slice(alloc, row.out_fail)?;
-    let mut out = MemSink::new(alloc, row.out_step.max(1), out_fail, 65_536)?;
-    let mut err = MemSink::new(alloc, 4096, Vec::new(alloc), 4096)?;
-    let status = tvla(alloc, &words, &mut files, &mut out, &mut err);
-    Ok(if status.code() != row.code {
-        Some("code")
-    } else if out.taken() != row.out.as_bytes() {
-        Some("out")
-    } else if err.taken() != row.err.as_bytes() {
-        Some("err")
-    } else {
-        None
-    })
-}
 
 #[test]
 fn first_calls_end_as_they_should(rt: HostRuntime) -> Result<(), Fail> {

@@ -1,5 +1,7 @@
 -- The formula that an update of a valid program sets its predicate to, and what its variables stand for.
-use Rattle.std.proofs.Common.{ℕ, ◌≡◌, ◌<◌, ◌≤◌, ◌⊎◌, inl, inr, zero, suc, ◌==◌, Bool, true, false, Option, Some, List, [], ◌∷◌, ◌++◌, length, map, get_or, All, Contains, arith, refl, sym, ap, subst}
+use Rattle.std.proofs.Common.{ℕ, ◌≡◌, ◌<◌, ◌≤◌, ◌⊎◌, inl, inr, zero, suc, ◌==◌, Bool, true, false, Option}
+use Rattle.std.proofs.Common.{Some, List, [], ◌∷◌, ◌++◌, length, map, get_or, All, Contains, arith, refl, sym}
+use Rattle.std.proofs.Common.{ap, subst}
 use Rattle.std.specs.Prelude.{IsSomeAnd, if◌then◌else◌}
 use Rattle.std.proofs.lemmas.Bool.{eq-eqb, false≢true}
 use Rattle.std.proofs.lemmas.List.Elements.{All-contains}
@@ -15,7 +17,7 @@ use Rattle.tv_model.specs.Form.{Form, FExists, form_of, vars_of, IsFree}
 use Rattle.tv_model.specs.Program.{ProgramForm, program_of, action_of, update_of, change_of}
 use Rattle.tv_model.specs.Valid.{IsValid, IsVariable, IsAction, IsUpdate, IsChange}
 use Rattle.tv_model.proofs.Lists.{Contains-map}
-use Rattle.tv_eval.specs.AssignmentForm.{place_of, IsAssigned}
+use Rattle.tv_eval.specs.AssignmentForm.{individual_for, IsAssigned}
 use Rattle.tv_eval.specs.Formulas.{AreAssigned}
 use Rattle.tv_eval.specs.Laws.{FormulasAreWithinHeight}
 use Rattle.tv_test_values.specs.Setting.{IsSetting}
@@ -95,14 +97,14 @@ put_assigned size o p false x is lt before = subst (λ q. IsSomeAnd q (λ n. n <
 
 -- an individual that is put for a variable is what it stands for
 pub put_here : (size : ℕ) (a b : List (Option ℕ)) (v u : ℕ)
-    → ((y : ℕ) → place_of b y ≡ (if y == v then Some u else place_of a y)) → u < size → IsAssigned size b v
+    → ((y : ℕ) → individual_for b y ≡ (if y == v then Some u else individual_for a y)) → u < size → IsAssigned size b v
 put_here size a b v u placed lt = here (v == v) (placed v) (eq-eqb v v refl)
   where
-    here : (t : Bool) → place_of b v ≡ (if t then Some u else place_of a v) → t ≡ true → IsAssigned size b v
+    here : (t : Bool) → individual_for b v ≡ (if t then Some u else individual_for a v) → t ≡ true → IsAssigned size b v
     here true is e = subst (λ q. IsSomeAnd q (λ n. n < size)) (sym is) lt
     here false is e = absurd (false≢true e)
 
 -- and what another variable stood for stays an individual
 pub put_there : (size : ℕ) (a b : List (Option ℕ)) (v w u : ℕ)
-    → ((y : ℕ) → place_of b y ≡ (if y == w then Some u else place_of a y)) → u < size → IsAssigned size a v → IsAssigned size b v
-put_there size a b v w u placed lt before = put_assigned size (place_of b v) (place_of a v) (v == w) u (placed v) lt before
+    → ((y : ℕ) → individual_for b y ≡ (if y == w then Some u else individual_for a y)) → u < size → IsAssigned size a v → IsAssigned size b v
+put_there size a b v w u placed lt before = put_assigned size (individual_for b v) (individual_for a v) (v == w) u (placed v) lt before

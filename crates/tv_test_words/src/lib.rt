@@ -1,5 +1,5 @@
-//! Rows of words and what they spell, of how calls end, and of the demonstration programs, through the public calls
-//! of `tv_words`, `tv_status` and `tv_demo`.
+//! Rows of words and what they spell, of how calls end, and of the demonstration programs, through the public
+//! calls of `tv_words`, `tv_status` and `tv_demo`.
 #![tactic(auto)]
 
 #[cfg(test)]

@@ -8,9 +8,9 @@ use tv_lex::{GatherError, LexError, Place};
 use tv_listing::Rejection;
 use tv_names::ResolveError;
 use tv_outside::MemSink;
-use tv_parse::ParseError;
+use tv_phrases::SyntaxError;
 use tv_plang::SourceError;
-use tv_replayed::Why;
+use tv_replay_laws::Why;
 use tv_status::{FileKind, Role, Status, write_status};
 use tv_tvs::TvsError;
 
@@ -27,7 +27,7 @@ const USAGE: &str =
 const FAULTS: [(Role, FileKind, &str); 19] = [
     (
         Role::Program,
-        FileKind::Program(ProgramFault::Parsing(ParseError::Syntax(Place { line: 1, column: 1 }))),
+        FileKind::Program(ProgramFault::Parsing(SyntaxError::Syntax(Place { line: 1, column: 1 }))),
         "tvla: program: Syntax at 1:1\n",
     ),
     (
@@ -60,7 +60,7 @@ const FAULTS: [(Role, FileKind, &str); 19] = [
     ),
     (
         Role::Program,
-        FileKind::Program(ProgramFault::Parsing(ParseError::TooDeep)),
+        FileKind::Program(ProgramFault::Parsing(SyntaxError::TooDeep)),
         "tvla: program: TooDeep\n",
     ),
     (

@@ -4,7 +4,8 @@ use std::test::Fail;
 use tv_model::Mode;
 use tv_words::{Command, read_words};
 
-/// Words divided by blanks, and what they spell: a command's files, numbers and options in a fixed order, or `none`.
+/// Words divided by blanks, and what they spell: a command's files, numbers and options in a fixed order, or
+/// `none`.
 static LINES: [(&str, &str); 84] = [
     ("", "none"),
     ("analyze", "none"),

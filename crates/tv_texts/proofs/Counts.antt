@@ -1,27 +1,22 @@
 -- A text has fewer structures than bytes.
-use Rattle.std.proofs.Common.{◌≡◌, ℕ, ◌+◌, ◌<◌, ◌≤◌, ◌^◌, List, [], ◌∷◌, length, None, Result, Ok, Err, refl, sym, ap, arith}
+use Rattle.std.proofs.Common.{◌≡◌, ℕ, ◌+◌, ◌<◌, ◌≤◌, ◌^◌, List, [], ◌∷◌, length, None, Result, Ok, Err, refl}
+use Rattle.std.proofs.Common.{sym, ap, arith}
 use Rattle.std.specs.Prelude.{All}
 use Rattle.std.proofs.lemmas.List.{length-map}
 use Rattle.tv_lex.specs.Pieces.{AreInOrder}
 use Rattle.tv_lex.specs.Token.{SpecToken, spec_token, spec_tokens}
 use Rattle.tv_lex.specs.declared.token.Token.{Token}
 use Rattle.tv_model.specs.declared.program.Pred.{Pred}
+use Rattle.tv_phrases.specs.Repeated.{Repeated}
 use Rattle.tv_struct.specs.StructureForm.{StructureForm, IsOver}
 use Rattle.tv_tree.specs.Steps.{◌>>=◌}
 use Rattle.tv_tvs.proofs.Complete.{struct_shorter}
-use Rattle.tv_tvs.specs.Grammar.{IsStruct, Many, begins_struct}
+use Rattle.tv_tvs.specs.Grammar.{IsStruct, begins_struct}
 use Rattle.tv_tvs.specs.Meaning.{MeansStructs, struct_meant, structs_meant}
 use Rattle.tv_tvs.specs.Tree.{StructTree}
 use Rattle.tv_tvs.specs.declared.error.TvsError.{TvsError}
 use Rattle.tv_model.specs.declared.program.Vocab.{Vocab}
-
-given : {A E : Type 0} → A → Result A E → A
-given a (Ok x) = x
-given a (Err e) = a
-
-pub same_ok : {A E : Type 0} (x y : A) → (let r : Result A E = Ok x in r) ≡ Ok y → x ≡ y
-unfolding given
-same_ok x y h = ap (given x) h
+use Rattle.tv_lemmas.proofs.Options.{same_Ok}
 
 -- what two steps give, step by step
 pub both_ok : {A B E : Type 0} (r : Result A E) (f : A → Result B E) (y : B) → (r >>= f) ≡ Ok y
@@ -30,18 +25,18 @@ both_ok (Ok x) f y e = (x, refl, e)
 both_ok (Err d) f y e = absurd cc
 
 many_counts : (ts : List SpecToken) (trees : List StructTree) (rest : List SpecToken)
-    → Many begins_struct IsStruct ts trees rest → length trees ≤ length ts
+    → Repeated begins_struct IsStruct ts trees rest → length trees ≤ length ts
 many_counts ts [] rest p = omega arith
 many_counts ts (t ∷ trees) rest p =
-    omega (arith, struct_shorter ts t p.1.0 p.1.1, many_counts p.1.0 trees rest p.1.2)
+    omega (arith, struct_shorter ts t p.0 p.2, many_counts p.0 trees rest p.3)
 
 meant_count : (preds : List Pred) (trees : List StructTree) (ss : List StructureForm)
     → structs_meant preds trees ≡ Ok ss → length ss ≡ length trees
-meant_count preds [] ss e = ap length (sym (same_ok {A = List StructureForm} {E = TvsError} [] ss e))
+meant_count preds [] ss e = ap length (sym (same_Ok {X = List StructureForm} {E = TvsError} [] ss e))
 meant_count preds (t ∷ ts) ss e =
     let b = both_ok (struct_meant preds t) (λ s. structs_meant preds ts >>= λ more. Ok (s ∷ more)) ss e in
     let d = both_ok (structs_meant preds ts) (λ more. Ok (b.0 ∷ more)) ss b.2 in
-    let same : length (b.0 ∷ d.0) ≡ length ss = ap length (same_ok {A = List StructureForm} {E = TvsError} (b.0 ∷ d.0) ss d.2) in
+    let same : length (b.0 ∷ d.0) ≡ length ss = ap length (same_Ok {X = List StructureForm} {E = TvsError} (b.0 ∷ d.0) ss d.2) in
     omega (arith, same, meant_count preds ts d.0 d.1)
 
 in_order_fits : (at : ℕ) (tokens : List Token) (end : ℕ) → AreInOrder at tokens end → at + length tokens ≤ end

@@ -15,7 +15,8 @@ use Rattle.tv_status.specs.declared.status.FileKind.TheVariants as kind
 use Rattle.tv_status.specs.declared.status.Role.{Role}
 use Rattle.tv_status.specs.declared.status.Role.TheVariants as role
 use Rattle.tv_texts.specs.Faults.{fault_of_gathering, fault_of_reading}
-use Rattle.tv_texts.specs.Files.{HoldsSuch, IsProgramFile, LacksFile, IsLong, IsFileCause, IsTextCause, UnlessNotRead}
+use Rattle.tv_texts.specs.Files.{HoldsSuch, IsProgramFile, LacksFile, IsLong, IsFileCause, IsTextCause}
+use Rattle.tv_texts.specs.Files.{UnlessNotRead}
 use Rattle.tv_texts.specs.Meaning.{MeansProgram}
 use Rattle.tv_texts.specs.declared.fault.TextFault.{TextFault}
 use Rattle.tv_texts.specs.declared.fault.TextFault.TheVariants.{Refused, NotRead, Memory}

@@ -1,5 +1,6 @@
 -- A text means one thing at most.
-use Rattle.std.proofs.Common.{◌≡◌, ◌≢◌, ℕ, ◌<◌, ◌≤◌, ◌⊎◌, List, [], ◌∷◌, Result, Ok, Err, refl, sym, ap, subst, inl, inr, ◌∙◌, arith}
+use Rattle.std.proofs.Common.{◌≡◌, ◌≢◌, ℕ, ◌<◌, ◌≤◌, ◌⊎◌, List, [], ◌∷◌, Result, Ok, Err, refl, sym, ap}
+use Rattle.std.proofs.Common.{subst, inl, inr, ◌∙◌, arith}
 use Rattle.std.specs.Prelude.{length}
 use Rattle.tv_front.specs.Meaning.{Means, IsRefused, without_place}
 use Rattle.tv_front.specs.declared.fault.ProgramFault.{ProgramFault}
@@ -14,17 +15,17 @@ use Rattle.tv_listing.specs.declared.analysis.Analysis.{Analysis}
 use Rattle.tv_model.specs.Program.{ProgramForm, program_of}
 use Rattle.tv_model.specs.declared.program.Program.{Program}
 use Rattle.tv_model.specs.declared.program.Vocab.{Vocab}
-use Rattle.tv_plang.specs.Laws.{HaveOneMeaning as HaveOneSource, HaveOneRefusal as HaveOneSourceRefusal}
-use Rattle.tv_plang.specs.Meaning.{IsCause as IsSourceCause, MeansProgram as MeansSourceProgram}
+use Rattle.tv_plang.specs.Laws.{HaveOneProgram as HaveOneSource, HaveOneRefusal as HaveOneSourceRefusal}
+use Rattle.tv_plang.specs.Meaning.{IsSourceCause, MeansProgram as MeansSourceProgram}
 use Rattle.tv_plang.specs.declared.error.SourceError.{SourceError}
 use Rattle.tv_plang.specs.declared.error.SourceError.TheVariants as source
 use Rattle.tv_report.specs.Meaning.{IsNoReport, MeansReport as MeansReportTokens}
 use Rattle.tv_status.specs.declared.status.FileKind.{FileKind}
 use Rattle.tv_status.specs.declared.status.FileKind.TheVariants as kind
 use Rattle.tv_struct.specs.StructureForm.{StructureForm}
-use Rattle.tv_texts.proofs.Counts.{same_ok}
 use Rattle.tv_texts.specs.Agreement.{Agree, GiveOne, SameProgram, placeless, at_start}
-use Rattle.tv_texts.specs.Meaning.{IsUnlexed, IsNoInitial, IsNoSource, AreOneHeap, MeansProgram, MeansInitial, MeansStart, MeansMoves, MeansReport, MeansSource}
+use Rattle.tv_texts.specs.Meaning.{IsUnlexed, IsNoInitial, IsNoSource, AreOneHeap, MeansProgram, MeansInitial}
+use Rattle.tv_texts.specs.Meaning.{MeansStart, MeansMoves, MeansReport, MeansSource}
 use Rattle.tv_trace.specs.Meaning.{MeansTrace, IsNoTrace}
 use Rattle.tv_trace.specs.declared.trace.Trace.{Trace}
 use Rattle.tv_tvs.specs.Grammar.{AreStructs}
@@ -32,19 +33,12 @@ use Rattle.tv_tvs.specs.Meaning.{MeansStructs, IsNoText, structs_meant}
 use Rattle.tv_tvs.specs.Tree.{StructTree}
 use Rattle.tv_tvs.specs.declared.error.TvsError.{TvsError}
 use Rattle.tv_tvs.specs.declared.error.TvsError.TheVariants as refusal
+use Rattle.tv_lemmas.proofs.Options.{same_Ok, same_Err}
 
 -- the first of a list
 abbrev head_or : List StructureForm → StructureForm → StructureForm
 head_or [] s = s
 head_or (t ∷ ts) s = t
-
-refused_with : {A E : Type 0} → E → Result A E → E
-refused_with e (Ok x) = e
-refused_with e (Err d) = d
-
-same_err : {A E : Type 0} (d e : E) → (let r : Result A E = Err d in r) ≡ Err e → d ≡ e
-unfolding refused_with
-same_err d e h = ap (refused_with d) h
 
 -- ---- programs
 
@@ -86,10 +80,10 @@ module _ (reading : (text : List ℕ) (a b : Result (List Token) LexError) → R
       no_ok same = absurd cc
 
   same_tokens : (text : List ℕ) (ts us : List Token) → Reads text (Ok ts) → Reads text (Ok us) → ts ≡ us
-  same_tokens text ts us h k = same_ok {A = List Token} {E = LexError} ts us (reading text (Ok ts) (Ok us) h k)
+  same_tokens text ts us h k = same_Ok {X = List Token} {E = LexError} ts us (reading text (Ok ts) (Ok us) h k)
 
   same_refusal : (text : List ℕ) (d e : LexError) → Reads text (Err d) → Reads text (Err e) → d ≡ e
-  same_refusal text d e h k = same_err {A = List Token} {E = LexError} d e (reading text (Err d) (Err e) h k)
+  same_refusal text d e h k = same_Err {X = List Token} {E = LexError} d e (reading text (Err d) (Err e) h k)
 
   one_view : {A : Type 0} (Same : A → A → Type 0) (limit : ℕ) (text : List ℕ) (Of : List Token → Result A FileKind → Type 0)
       → ((tokens : List Token) → GiveOne {A = A} Same (Of tokens) (Of tokens))
@@ -173,13 +167,13 @@ module _ (trees : (tokens : List SpecToken) (a b : List StructTree) → AreStruc
       both (inl a) (inr b) = absurd (a.0 b.trees b.are)
       both (inr a) (inl b) = absurd (b.0 a.trees a.are)
       both (inr a) (inr b) = ap at_start
-          (same_err {A = List StructureForm} {E = TvsError} d e (same_meaning vocab (spec_tokens text tokens) (Err d) (Err e) a b))
+          (same_Err {X = List StructureForm} {E = TvsError} d e (same_meaning vocab (spec_tokens text tokens) (Err d) (Err e) a b))
 
   one_structs : (vocab : Vocab) (text : List ℕ) (tokens : List Token)
       → GiveOne {A = List StructureForm} ◌≡◌ (OfStructs vocab text tokens) (OfStructs vocab text tokens)
   unfolding OfStructs
   one_structs vocab text tokens (Ok ss) (Ok us) h k =
-      same_ok {A = List StructureForm} {E = TvsError} ss us (same_meaning vocab (spec_tokens text tokens) (Ok ss) (Ok us) h k)
+      same_Ok {X = List StructureForm} {E = TvsError} ss us (same_meaning vocab (spec_tokens text tokens) (Ok ss) (Ok us) h k)
   one_structs vocab text tokens (Ok ss) (Err e) h k =
       let r = refused_structs vocab text tokens e k in absurd (structs_not_refused vocab text tokens ss r.0 h r.2)
   one_structs vocab text tokens (Err e) (Ok ss) h k =

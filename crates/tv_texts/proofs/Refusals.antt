@@ -1,36 +1,38 @@
 -- What the readers of tokens refuse, as refusals of a text.
 use Rattle.std.proofs.Common.{ℕ, ◌≤◌, Bool, true, false, List, Ok, Err, refl}
 use Rattle.std.specs.Prelude.{if◌then◌else◌, length}
-use Rattle.tv_front.specs.Meaning.{IsRefused, is_memory, IsCause as ProgramCause, StopsAtToken as ProgramStops}
+use Rattle.tv_front.specs.Meaning.{IsRefused, is_memory, IsProgramCause, StopsInText}
 use Rattle.tv_front.specs.declared.fault.ProgramFault.{ProgramFault}
 use Rattle.tv_lex.specs.Bytes.{longest_text}
 use Rattle.tv_lex.specs.Gather.{longest_gathered}
+use Rattle.tv_lex.specs.Places.{StopsAtToken}
 use Rattle.tv_lex.specs.Pieces.{Reads, Cause as LexCause}
 use Rattle.tv_lex.specs.Token.{spec_tokens}
 use Rattle.tv_lex.specs.declared.token.LexError.{LexError}
 use Rattle.tv_lex.specs.declared.token.LexError.TheVariants as lexing
 use Rattle.tv_lex.specs.declared.token.Token.{Token}
 use Rattle.tv_model.specs.declared.program.Program.{Program}
-use Rattle.tv_plang.specs.Meaning.{IsCause as SourceCause, StopsAtToken as SourceStops}
+use Rattle.tv_plang.specs.Meaning.{IsSourceCause, source_place}
 use Rattle.tv_plang.specs.declared.error.SourceError.{SourceError}
 use Rattle.tv_plang.specs.declared.error.SourceError.TheVariants as source
-use Rattle.tv_report.specs.Meaning.{IsCause as ReportCause, StopsAtToken as ReportStops}
-use Rattle.tv_report.specs.declared.error.ReportError.{ReportError}
-use Rattle.tv_report.specs.declared.error.ReportError.TheVariants as report
+use Rattle.tv_report.specs.Meaning.{IsNoReport}
+use Rattle.tv_phrases.specs.declared.error.FormError.{FormError}
+use Rattle.tv_phrases.specs.declared.error.FormError.TheVariants as form
+use Rattle.tv_phrases.specs.Refused.{IsUnread, form_place}
 use Rattle.tv_status.specs.declared.status.FileKind.{FileKind}
 use Rattle.tv_status.specs.declared.status.FileKind.TheVariants as kind
 use Rattle.tv_status.specs.declared.status.Role.{Role}
 use Rattle.tv_status.specs.declared.status.Role.TheVariants as role
-use Rattle.tv_texts.specs.Faults.{fault_of_program, fault_of_lexing, fault_of_structures, fault_of_report, fault_of_trace, fault_of_source}
+use Rattle.tv_texts.specs.Faults.{fault_of_program, fault_of_lexing, fault_of_structures, fault_of_report}
+use Rattle.tv_texts.specs.Faults.{fault_of_trace, fault_of_source}
 use Rattle.tv_texts.specs.Files.{IsTextCause}
-use Rattle.tv_texts.specs.Meaning.{IsUnlexed, MeansProgram, MeansInitial, MeansMoves, MeansReport, MeansSource}
+use Rattle.tv_texts.specs.Meaning.{IsUnlexed, MeansProgram, MeansInitial, MeansMoves, MeansReport}
+use Rattle.tv_texts.specs.Meaning.{MeansSource}
 use Rattle.tv_texts.specs.declared.fault.TextFault.{TextFault}
 use Rattle.tv_texts.specs.declared.fault.TextFault.TheVariants.{Refused, NotRead, Memory}
-use Rattle.tv_trace.specs.Meaning.{IsCause as TraceCause, StopsAtToken as TraceStops}
-use Rattle.tv_trace.specs.declared.error.TraceError.{TraceError}
-use Rattle.tv_trace.specs.declared.error.TraceError.TheVariants as trace
+use Rattle.tv_trace.specs.Meaning.{IsNoTrace}
 use Rattle.tv_tree.specs.Steps.{Unless}
-use Rattle.tv_tvs.specs.Meaning.{IsCause as StructuresCause, StopsAtToken as StructuresStops}
+use Rattle.tv_tvs.specs.Meaning.{IsStructuresCause, structures_place}
 use Rattle.tv_tvs.specs.declared.error.TvsError.{TvsError}
 use Rattle.tv_tvs.specs.declared.error.TvsError.TheVariants as structures
 
@@ -72,7 +74,7 @@ pub source_unlexed : (text : List ℕ) (fault : TextFault) → length text ≤ l
 source_unlexed text fault size h =
     unlexed_as text role.Source (λ k. MeansSource text (Err k)) fault (λ e is. (size, is)) h
 
-pub program_refused : (text : List ℕ) (fault : ProgramFault) → ProgramCause text fault → ProgramStops text fault
+pub program_refused : (text : List ℕ) (fault : ProgramFault) → IsProgramCause text fault → StopsInText text fault
     → IsTextCause role.Program (λ k. MeansProgram text (Err k)) (fault_of_program fault)
 program_refused text fault cause stops = told (is_memory fault) cause
   where
@@ -83,29 +85,29 @@ program_refused text fault cause stops = told (is_memory fault) cause
     told false c = (refl, (c, stops))
 
 pub structures_refused : (p : Program) (text : List ℕ) (tokens : List Token) (its_role : Role) (e : TvsError)
-    → length text ≤ longest_gathered → Reads text (Ok tokens) → StructuresCause p.vocab (spec_tokens text tokens) e
-    → StructuresStops text tokens e → IsTextCause its_role (λ k. MeansInitial p text (Err k)) (fault_of_structures its_role e)
+    → length text ≤ longest_gathered → Reads text (Ok tokens) → IsStructuresCause p.vocab (spec_tokens text tokens) e
+    → StopsAtToken structures_place text tokens e → IsTextCause its_role (λ k. MeansInitial p text (Err k)) (fault_of_structures its_role e)
 structures_refused p text tokens its_role (structures.Syntax place) size reads cause stops =
     (refl, (size, (tokens, reads, (cause, stops))))
 structures_refused p text tokens its_role structures.Memory size reads cause stops = tt
 structures_refused p text tokens its_role other size reads cause stops = (refl, (size, (tokens, reads, cause)))
 
-pub report_refused : (p : Program) (text : List ℕ) (tokens : List Token) (e : ReportError)
-    → length text ≤ longest_text → Reads text (Ok tokens) → ReportCause p (spec_tokens text tokens) e
-    → ReportStops text tokens e → IsTextCause role.Report (λ k. MeansReport p text (Err k)) (fault_of_report e)
-report_refused p text tokens (report.ReportForm place) size reads cause stops =
+pub report_refused : (p : Program) (text : List ℕ) (tokens : List Token) (e : FormError)
+    → length text ≤ longest_text → Reads text (Ok tokens) → IsUnread (IsNoReport p (spec_tokens text tokens)) e
+    → StopsAtToken form_place text tokens e → IsTextCause role.Report (λ k. MeansReport p text (Err k)) (fault_of_report e)
+report_refused p text tokens (form.Form place) size reads cause stops =
     (refl, (size, (tokens, reads, (cause, stops))))
-report_refused p text tokens report.Memory size reads cause stops = tt
+report_refused p text tokens form.Memory size reads cause stops = tt
 
-pub trace_refused : (p : Program) (text : List ℕ) (tokens : List Token) (e : TraceError)
-    → length text ≤ longest_gathered → Reads text (Ok tokens) → TraceCause p (spec_tokens text tokens) e
-    → TraceStops text tokens e → IsTextCause role.Trace (λ k. MeansMoves p text (Err k)) (fault_of_trace e)
-trace_refused p text tokens (trace.TraceForm place) size reads cause stops =
+pub trace_refused : (p : Program) (text : List ℕ) (tokens : List Token) (e : FormError)
+    → length text ≤ longest_gathered → Reads text (Ok tokens) → IsUnread (IsNoTrace p (spec_tokens text tokens)) e
+    → StopsAtToken form_place text tokens e → IsTextCause role.Trace (λ k. MeansMoves p text (Err k)) (fault_of_trace e)
+trace_refused p text tokens (form.Form place) size reads cause stops =
     (refl, (size, (tokens, reads, (cause, stops))))
-trace_refused p text tokens trace.Memory size reads cause stops = tt
+trace_refused p text tokens form.Memory size reads cause stops = tt
 
 pub source_refused : (text : List ℕ) (tokens : List Token) (e : SourceError)
-    → length text ≤ longest_gathered → Reads text (Ok tokens) → SourceCause (spec_tokens text tokens) e
-    → SourceStops text tokens e → IsTextCause role.Source (λ k. MeansSource text (Err k)) (fault_of_source e)
+    → length text ≤ longest_gathered → Reads text (Ok tokens) → IsSourceCause (spec_tokens text tokens) e
+    → StopsAtToken source_place text tokens e → IsTextCause role.Source (λ k. MeansSource text (Err k)) (fault_of_source e)
 source_refused text tokens source.Memory size reads cause stops = tt
 source_refused text tokens other size reads cause stops = (refl, (size, (tokens, reads, (cause, stops))))

@@ -1,5 +1,6 @@
 -- What texts of structures and reports mean depends on what a program says alone, wherever its parts lie.
-use Rattle.std.proofs.Common.{◌≡◌, ◌<◌, ℕ, List, [], ◌∷◌, map, Option, None, Some, Result, Ok, Err, refl, sym, ap, subst, ◌∙◌}
+use Rattle.std.proofs.Common.{◌≡◌, ◌<◌, ℕ, List, [], ◌∷◌, map, Option, None, Some, Result, Ok, Err, refl, sym}
+use Rattle.std.proofs.Common.{ap, subst, ◌∙◌}
 use Rattle.std.specs.Prelude.{slice_index, slice_get, length, All, Contains}
 use Rattle.tv_lex.specs.Token.{SpecToken, spec_tokens}
 use Rattle.tv_lex.specs.declared.token.Token.{Token}
@@ -8,22 +9,27 @@ use Rattle.tv_model.specs.Program.{PredForm, ProgramForm, pred_of}
 use Rattle.tv_model.specs.declared.program.Pred.{Pred}
 use Rattle.tv_model.specs.declared.program.Program.{Program}
 use Rattle.tv_report.specs.Lines.{AreMessageLines, AreMapLines}
-use Rattle.tv_report.specs.Meaning.{MeansReport, IsNoReport, IsListed, NamedNode, named_node}
+use Rattle.tv_report.specs.Meaning.{MeansReport, IsNoReport, ListsNodes, NamedNode, named_node}
 use Rattle.tv_report.specs.Tree.{NodeTree}
 use Rattle.tv_status.specs.declared.status.FileKind.{FileKind}
 use Rattle.tv_status.specs.declared.status.FileKind.TheVariants as kind
 use Rattle.tv_struct.specs.StructureForm.{StructureForm}
 use Rattle.tv_texts.specs.Agreement.{SameProgram}
-use Rattle.tv_texts.specs.Meaning.{IsNoInitial, MeansInitial, MeansStart, MeansMoves, MeansReport as MeansReportIn}
+use Rattle.tv_texts.specs.Meaning.{IsNoInitial, MeansInitial, MeansStart, MeansMoves}
+use Rattle.tv_texts.specs.Meaning.{MeansReport as MeansReportIn}
 use Rattle.tv_trace.specs.Meaning.{AreMeant, AreMoves, MeansTrace, IsNoTrace}
 use Rattle.tv_trace.specs.Tree.{StepTree}
 use Rattle.tv_trace.specs.declared.trace.Move.{Move}
 use Rattle.tv_trace.specs.declared.trace.Trace.{Trace}
 use Rattle.tv_tree.specs.Steps.{◌>>=◌, or_refused}
-use Rattle.tv_tvs.specs.Meaning.{number_of, predicate_at, subject_of, fitting_put, entry_put, entries_put, blank, all_different, struct_meant, structs_meant, arity_at, Subject, MeansStructs}
+use Rattle.tv_tvs.specs.Meaning.{number_of, predicate_at, subject_of, fitting_put, entry_put, entries_put}
+use Rattle.tv_tvs.specs.Meaning.{blank, all_different, struct_meant, structs_meant, arity_at, Subject}
+use Rattle.tv_tvs.specs.Meaning.{MeansStructs}
 use Rattle.tv_tvs.specs.Tree.{EntryTree, StructTree, name_text}
 use Rattle.tv_tvs.specs.declared.error.TvsError.{TvsError}
-use Rattle.tv_tvs.specs.declared.error.TvsError.TheVariants.{Syntax, IndividualUnknown, IndividualTwice, NameUnknown, ArityWrong, BadSm, TooManyIndividuals, Memory}
+use Rattle.tv_tvs.specs.declared.error.TvsError.TheVariants.{Syntax, IndividualUnknown, IndividualTwice}
+use Rattle.tv_tvs.specs.declared.error.TvsError.TheVariants.{NameUnknown, ArityWrong, BadSm}
+use Rattle.tv_tvs.specs.declared.error.TvsError.TheVariants.{TooManyIndividuals, Memory}
 
 names : List Pred → List (List ℕ)
 names preds = map (λ pred. pred.name) preds
@@ -132,7 +138,7 @@ pub report_also : (p q : Program) (ts : List SpecToken) (a : Analysis) → SameP
 report_also p q ts a same means = record {
   tree = means.tree;
   is = means.is;
-  listing = subst (λ ns. IsListed p ns a.listing) (sym (named_same p q same means.tree.nodes)) listed;
+  listing = subst (λ ns. ListsNodes p ns a.listing) (sym (named_same p q same means.tree.nodes)) listed;
   messages = subst (λ f. AreMessageLines f a.messages) (sym same) means.messages;
   maps = subst (λ f. AreMapLines f a.listing a.maps) (sym same) means.maps;
   same_messages = means.same_messages;
@@ -142,7 +148,7 @@ report_also p q ts a same means = record {
     nodes : q.nodes ≡ p.nodes
     nodes = ap (λ (f : ProgramForm). f.nodes) (sym same)
 
-    listed : IsListed p (map (named_node q.vocab) means.tree.nodes) a.listing
+    listed : ListsNodes p (map (named_node q.vocab) means.tree.nodes) a.listing
     listed = record {
       names = (
         subst (λ ns. All (λ (node : NamedNode). Contains ns node.name) (map (named_node q.vocab) means.tree.nodes)) nodes

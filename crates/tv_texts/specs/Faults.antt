@@ -10,15 +10,14 @@ use Rattle.tv_outside.specs.declared.read.ReadError.{ReadError}
 use Rattle.tv_outside.specs.declared.read.ReadError.TheVariants as reading
 use Rattle.tv_plang.specs.declared.error.SourceError.{SourceError}
 use Rattle.tv_plang.specs.declared.error.SourceError.TheVariants as source
-use Rattle.tv_report.specs.declared.error.ReportError.{ReportError}
-use Rattle.tv_report.specs.declared.error.ReportError.TheVariants as report
-use Rattle.tv_status.specs.declared.status.FileKind.TheVariants.{TooLong, Gathering, Lexing, Program, Structures, ReportForm, TraceForm, Source}
+use Rattle.tv_phrases.specs.declared.error.FormError.{FormError}
+use Rattle.tv_phrases.specs.declared.error.FormError.TheVariants as form
+use Rattle.tv_status.specs.declared.status.FileKind.TheVariants.{TooLong, Gathering, Lexing, Program}
+use Rattle.tv_status.specs.declared.status.FileKind.TheVariants.{Structures, ReportForm, TraceForm, Source}
 use Rattle.tv_status.specs.declared.status.Role.{Role}
 use Rattle.tv_status.specs.declared.status.Role.TheVariants as role
 use Rattle.tv_texts.specs.declared.fault.TextFault.{TextFault}
 use Rattle.tv_texts.specs.declared.fault.TextFault.TheVariants.{Refused, NotRead, Memory}
-use Rattle.tv_trace.specs.declared.error.TraceError.{TraceError}
-use Rattle.tv_trace.specs.declared.error.TraceError.TheVariants as trace
 use Rattle.tv_tvs.specs.declared.error.TvsError.{TvsError}
 use Rattle.tv_tvs.specs.declared.error.TvsError.TheVariants as structures
 
@@ -49,14 +48,14 @@ fault_of_structures its_role structures.Memory = Memory
 fault_of_structures its_role e = Refused its_role (Structures e)
 
 -- tokens that are no report
-abbrev pub fault_of_report : ReportError → TextFault
-fault_of_report report.Memory = Memory
-fault_of_report (report.ReportForm place) = Refused role.Report (ReportForm place)
+abbrev pub fault_of_report : FormError → TextFault
+fault_of_report form.Memory = Memory
+fault_of_report (form.Form place) = Refused role.Report (ReportForm place)
 
 -- tokens that are no trace
-abbrev pub fault_of_trace : TraceError → TextFault
-fault_of_trace trace.Memory = Memory
-fault_of_trace (trace.TraceForm place) = Refused role.Trace (TraceForm place)
+abbrev pub fault_of_trace : FormError → TextFault
+fault_of_trace form.Memory = Memory
+fault_of_trace (form.Form place) = Refused role.Trace (TraceForm place)
 
 -- tokens that mean no source program, or one too large
 abbrev pub fault_of_source : SourceError → TextFault

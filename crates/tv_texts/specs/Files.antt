@@ -11,7 +11,8 @@ use Rattle.tv_status.specs.declared.status.FileKind.TheVariants.{Gathering, TooL
 use Rattle.tv_status.specs.declared.status.Role.{Role}
 use Rattle.tv_struct.specs.StructureForm.{StructureForm}
 use Rattle.tv_trace.specs.declared.trace.Trace.{Trace}
-use Rattle.tv_texts.specs.Meaning.{MeansProgram, MeansInitial, MeansStart, MeansMoves, MeansReport, MeansSource}
+use Rattle.tv_texts.specs.Meaning.{MeansProgram, MeansInitial, MeansStart, MeansMoves, MeansReport}
+use Rattle.tv_texts.specs.Meaning.{MeansSource}
 use Rattle.tv_texts.specs.declared.fault.TextFault.{TextFault}
 use Rattle.tv_texts.specs.declared.fault.TextFault.TheVariants.{Refused, NotRead, Memory as NoMemory}
 

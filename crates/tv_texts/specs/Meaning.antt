@@ -1,11 +1,11 @@
--- What the texts of a call mean: a program, structures over its vocabulary, a heap, a trace and a report on it; or
--- the first refusal.
+-- What the texts of a call mean: a program, structures over its vocabulary, a heap, a trace and a report on
+-- it; or the first refusal.
 use Rattle.std.specs.Prelude.{ℕ, ◌≤◌, ◌<◌, List, [], ◌∷◌, length, Result, Ok, Err}
-use Rattle.tv_front.specs.Meaning.{Means, IsRefused, StopsAtToken}
+use Rattle.tv_front.specs.Meaning.{Means, IsRefused, StopsInText}
 use Rattle.tv_lex.specs.Bytes.{longest_text}
 use Rattle.tv_lex.specs.Gather.{longest_gathered}
 use Rattle.tv_lex.specs.Pieces.{Reads}
-use Rattle.tv_lex.specs.Places.{IsTokenPlace}
+use Rattle.tv_lex.specs.Places.{IsTokenPlace, StopsAtToken}
 use Rattle.tv_lex.specs.Token.{SpecToken, spec_tokens}
 use Rattle.tv_lex.specs.declared.token.Token.{Token}
 use Rattle.tv_lex.specs.declared.token.LexError.TheVariants as lexing
@@ -13,7 +13,7 @@ use Rattle.tv_listing.specs.declared.analysis.Analysis.{Analysis}
 use Rattle.tv_model.specs.Program.{program_of}
 use Rattle.tv_model.specs.declared.program.Program.{Program}
 use Rattle.tv_model.specs.declared.program.Vocab.{Vocab}
-use Rattle.tv_plang.specs.Meaning.{IsCause as IsSourceCause, MeansProgram as MeansSourceProgram, StopsAtToken as StopsSourceAt}
+use Rattle.tv_plang.specs.Meaning.{IsSourceCause, MeansProgram as MeansSourceProgram, source_place}
 use Rattle.tv_plang.specs.declared.error.SourceError.{SourceError}
 use Rattle.tv_plang.specs.declared.error.SourceError.TheVariants as source
 use Rattle.tv_report.specs.Meaning.{IsReportText, IsNoReport}
@@ -30,7 +30,7 @@ use Rattle.tv_two_valued.specs.TwoValued.{IsTwoValued}
 -- the text, in which includes are put in already, means this program, or is refused so
 abbrev pub MeansProgram : (text : List ℕ) → Result Program FileKind → Type 0
 MeansProgram text (Ok program) = Means text (program_of program)
-MeansProgram text (Err (kind.Program fault)) = IsRefused text fault × StopsAtToken text fault
+MeansProgram text (Err (kind.Program fault)) = IsRefused text fault × StopsInText text fault
 MeansProgram text (Err other) = ⊥
 
 -- the text has tokens, and this is so of them
@@ -80,7 +80,8 @@ abbrev pub MeansMoves : Program → (text : List ℕ) → Result Trace FileKind 
 MeansMoves program text (Ok trace) = (length text ≤ longest_gathered)
     × HasTokens text (λ tokens ts. MeansTrace program ts trace)
 MeansMoves program text (Err kind.TooLong) = longest_gathered < length text
-MeansMoves program text (Err (kind.Lexing e)) = (length text ≤ longest_gathered) × IsUnlexed text (kind.Lexing e)
+MeansMoves program text (Err (kind.Lexing e)) =
+    (length text ≤ longest_gathered) × IsUnlexed text (kind.Lexing e)
 MeansMoves program text (Err (kind.TraceForm place)) = (length text ≤ longest_gathered)
     × HasTokens text (λ tokens ts. IsNoTrace program ts × IsTokenPlace text tokens place)
 MeansMoves program text (Err other) = ⊥
@@ -97,7 +98,7 @@ MeansReport program text (Err other) = ⊥
 -- the tokens mean no source program, or one too large
 abbrev pub IsNoSource : (text : List ℕ) → SourceError → List Token → List SpecToken → Type 0
 IsNoSource text source.Memory tokens ts = ⊥
-IsNoSource text e tokens ts = IsSourceCause ts e × StopsSourceAt text tokens e
+IsNoSource text e tokens ts = IsSourceCause ts e × StopsAtToken source_place text tokens e
 
 -- the text of the pointer language is compiled to this program, or is refused so
 abbrev pub MeansSource : (text : List ℕ) → Result Program FileKind → Type 0

@@ -2,7 +2,9 @@
 
 ghost use Rattle.std.specs.Prelude.{◌≡◌};
 ghost use Rattle.tv_front.specs.Meaning.{is_memory};
-ghost use Rattle.tv_texts.specs.Faults.{fault_of_gathering, fault_of_program, fault_of_reading, fault_of_lexing, fault_of_structures, fault_of_report, fault_of_trace, fault_of_source};
+ghost use Rattle.tv_texts.specs.Faults.{fault_of_gathering, fault_of_program, fault_of_reading};
+ghost use Rattle.tv_texts.specs.Faults.{fault_of_lexing, fault_of_structures, fault_of_report};
+ghost use Rattle.tv_texts.specs.Faults.{fault_of_trace, fault_of_source};
 
 use thiserror::Error;
 use tv_expand::ExpandError;
@@ -10,11 +12,9 @@ use tv_front::ProgramFault;
 use tv_lex::{GatherError, LexError};
 use tv_names::ResolveError;
 use tv_outside::ReadError;
-use tv_parse::ParseError;
+use tv_phrases::{FormError, SyntaxError};
 use tv_plang::SourceError;
-use tv_report::ReportError;
 use tv_status::{FileKind, Role};
-use tv_trace::TraceError;
 use tv_tvs::TvsError;
 
 /// Why a text or a file gave nothing.
@@ -49,7 +49,7 @@ fn is_want_of_memory(fault: ProgramFault) -> bool
 {
     match fault {
         ProgramFault::Lexing(LexError::Memory) => true,
-        ProgramFault::Parsing(ParseError::Memory) => true,
+        ProgramFault::Parsing(SyntaxError::Memory) => true,
         ProgramFault::Expansion(ExpandError::Memory) => true,
         ProgramFault::Resolution(ResolveError::Memory) => true,
         _ => false,
@@ -78,19 +78,6 @@ pub(crate) fn fault_of_structures(error: TvsError, role: Role) -> TextFault
     }
 }
 
-impl From<TraceError> for TextFault {
-    ghost from_gives = { λ error fault. fault ≡ fault_of_trace error };
-
-    fn from(error: TraceError) -> TextFault {
-        match error {
-            TraceError::TraceForm(place) => {
-                TextFault::Refused(Role::Trace, FileKind::TraceForm(place))
-            }
-            TraceError::Memory => TextFault::Memory,
-        }
-    }
-}
-
 impl From<SourceError> for TextFault {
     ghost from_gives = { λ error fault. fault ≡ fault_of_source error };
 
@@ -102,16 +89,23 @@ impl From<SourceError> for TextFault {
     }
 }
 
-impl From<ReportError> for TextFault {
-    ghost from_gives = { λ error fault. fault ≡ fault_of_report error };
+/// The fault of a file whose tokens are no report.
+pub(crate) fn fault_of_report(error: FormError) -> TextFault
+    ensures { result ≡ fault_of_report error }
+{
+    match error {
+        FormError::Form(place) => TextFault::Refused(Role::Report, FileKind::ReportForm(place)),
+        FormError::Memory => TextFault::Memory,
+    }
+}
 
-    fn from(error: ReportError) -> TextFault {
-        match error {
-            ReportError::ReportForm(place) => {
-                TextFault::Refused(Role::Report, FileKind::ReportForm(place))
-            }
-            ReportError::Memory => TextFault::Memory,
-        }
+/// The fault of a file whose tokens are no trace.
+pub(crate) fn fault_of_trace(error: FormError) -> TextFault
+    ensures { result ≡ fault_of_trace error }
+{
+    match error {
+        FormError::Form(place) => TextFault::Refused(Role::Trace, FileKind::TraceForm(place)),
+        FormError::Memory => TextFault::Memory,
     }
 }
 

@@ -12,7 +12,8 @@ ghost use Rattle.tv_status.specs.declared.status.Role.TheVariants as role;
 ghost use Rattle.tv_struct.specs.StructureForm.{IsStructure, IsOver};
 ghost use Rattle.tv_trace.specs.Meaning.{IsTraceOn};
 ghost use Rattle.tv_two_valued.specs.TwoValued.{IsTwoValued};
-ghost use Rattle.tv_texts.specs.Files.{IsProgramFile, LacksFile, IsInitialFile, IsStartFile, IsTraceFile, IsReportFile, IsSourceFile, IsFileCause, IsLong, UnlessNotRead};
+ghost use Rattle.tv_texts.specs.Files.{IsProgramFile, LacksFile, IsInitialFile, IsStartFile, IsTraceFile};
+ghost use Rattle.tv_texts.specs.Files.{IsReportFile, IsSourceFile, IsFileCause, IsLong, UnlessNotRead};
 
 use crate::fault::{TextFault, fault_of_reading};
 use crate::texts::{initial_in, program_in, report_in, source_in, start_in, trace_in};
@@ -114,8 +115,8 @@ pub fn load_initial<F: Files>(
 /// The heap over a program's vocabulary that the named file means.
 ///
 /// # Errors
-/// It is refused where it means no structures, or others than one heap. It isn't read only where a call of `files`
-/// failed, and on steady files only where they lack it. Or memory ran out.
+/// It is refused where it means no structures, or others than one heap. It isn't read only where a call of
+/// `files` failed, and on steady files only where they lack it. Or memory ran out.
 #[tactic(auto, using(crate::proofs::Loading::too_long, crate::proofs::Loading::held_refused, crate::proofs::Loading::holds_such, crate::proofs::Loading::holds_anyway))]
 pub fn load_start<F: Files>(
     alloc: Global,
@@ -196,11 +197,12 @@ pub fn load_report<F: Files>(
     report_in(alloc, program, &bytes)
 }
 
-/// The program that the named file, a text of the pointer language, is compiled to; it is valid. Nothing is included.
+/// The program that the named file, a text of the pointer language, is compiled to; it is valid. Nothing is
+/// included.
 ///
 /// # Errors
-/// It is refused where it means no source program or one too large. It isn't read only where a call of `files`
-/// failed, and on steady files only where they lack it. Or memory ran out.
+/// It is refused where it means no source program or one too large. It isn't read only where a call of
+/// `files` failed, and on steady files only where they lack it. Or memory ran out.
 #[tactic(auto, using(crate::proofs::Loading::too_long, crate::proofs::Loading::held_refused, crate::proofs::Loading::holds_such, crate::proofs::Loading::holds_anyway))]
 pub fn load_source<F: Files>(alloc: Global, files: &mut F, name: &str) -> Result<Program, TextFault>
     ensures means { IfOk result (λ p. IsSourceFile (F.holds files.old) name.now (Ok p)) }

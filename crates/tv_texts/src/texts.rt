@@ -11,12 +11,15 @@ ghost use Rattle.tv_status.specs.declared.status.FileKind.TheVariants as kind;
 ghost use Rattle.tv_status.specs.declared.status.Role.TheVariants as role;
 ghost use Rattle.tv_struct.specs.StructureForm.{IsOver, IsStructure};
 ghost use Rattle.tv_texts.specs.Files.{IsTextCause};
-ghost use Rattle.tv_texts.specs.Meaning.{IsUnlexed, AreOneHeap, MeansProgram, MeansInitial, MeansStart, MeansMoves, MeansReport, MeansSource};
+ghost use Rattle.tv_texts.specs.Meaning.{IsUnlexed, AreOneHeap, MeansProgram, MeansInitial, MeansStart};
+ghost use Rattle.tv_texts.specs.Meaning.{MeansMoves, MeansReport, MeansSource};
 ghost use Rattle.tv_texts.specs.declared.fault.TextFault.TheVariants.{Refused};
 ghost use Rattle.tv_trace.specs.Meaning.{IsTraceOn};
 ghost use Rattle.tv_two_valued.specs.TwoValued.{IsTwoValued};
 
-use crate::fault::{TextFault, fault_of_lexing, fault_of_structures};
+use crate::fault::{
+    TextFault, fault_of_lexing, fault_of_report, fault_of_structures, fault_of_trace,
+};
 use std::alloc::Global;
 use tv_front::read_program;
 use tv_lex::{Tokens, lex};
@@ -58,8 +61,8 @@ pub fn program_in(alloc: Global, bytes: &[u8]) -> Result<Program, TextFault>
     Ok(read_program(alloc, bytes)?)
 }
 
-/// The structures over a program's vocabulary that a text of at most 4,194,304 bytes means, in a file that has this
-/// role.
+/// The structures over a program's vocabulary that a text of at most 4,194,304 bytes means, in a file that
+/// has this role.
 #[tactic(auto, using(crate::proofs::Refusals::initial_unlexed, crate::proofs::Refusals::structures_refused, crate::proofs::Counts::few_structures))]
 fn structures_in(
     alloc: Global,
@@ -104,7 +107,8 @@ pub fn initial_in(alloc: Global, program: &Program, bytes: &[u8]) -> Result<Stru
 /// The only one of the structures, where it is a heap.
 fn one_heap(structures: Structures) -> Result<Structure, TextFault>
     ensures heap { IfOk result (λ s. (structures ≡ s ∷ []) × IsTwoValued s) }
-    ensures fault { IfErr result (λ fault. (fault ≡ Refused role.Start kind.NotHeap) × (¬ AreOneHeap structures)) }
+    ensures fault { IfErr result
+        (λ fault. (fault ≡ Refused role.Start kind.NotHeap) × (¬ AreOneHeap structures)) }
 {
     let mut list = structures.into_vec();
     let Some(start) = list.pop() else {
@@ -148,10 +152,14 @@ pub(crate) fn trace_in(alloc: Global, program: &Program, bytes: &[u8]) -> Result
     requires size { length bytes.now ≤ longest_gathered }
     ensures means { IfOk result (λ t. MeansMoves program.now bytes.now (Ok t)) }
     ensures kept { IfOk result (IsTraceOn program.now) }
-    ensures cause { IfErr result (IsTextCause role.Trace (λ kind. MeansMoves program.now bytes.now (Err kind))) }
+    ensures cause { IfErr result
+        (IsTextCause role.Trace (λ kind. MeansMoves program.now bytes.now (Err kind))) }
 {
     let tokens = tokens_in(alloc, bytes, Role::Trace)?;
-    Ok(read_trace(alloc, program, bytes, &tokens)?)
+    match read_trace(alloc, program, bytes, &tokens) {
+        Ok(trace) => Ok(trace),
+        Err(error) => Err(fault_of_trace(error)),
+    }
 }
 
 /// The report on a program that a text of at most 67,108,864 bytes is.
@@ -168,7 +176,10 @@ pub fn report_in(alloc: Global, program: &Program, bytes: &[u8]) -> Result<Analy
         (Err kind))) }
 {
     let tokens = tokens_in(alloc, bytes, Role::Report)?;
-    Ok(read_report(alloc, program, bytes, &tokens)?)
+    match read_report(alloc, program, bytes, &tokens) {
+        Ok(analysis) => Ok(analysis),
+        Err(error) => Err(fault_of_report(error)),
+    }
 }
 
 /// The program that a text of the pointer language, of at most 4,194,304 bytes, is compiled to. It is valid.

@@ -1,5 +1,6 @@
 -- What an analysis wrote is read again, and is closed.
-use Rattle.std.proofs.Common.{◌≡◌, ◌≢◌, ◌<◌, ℕ, zero, suc, List, [], ◌∷◌, map, length, get_or, Option, None, Some, inl, inr, refl, sym, ap, subst, ◌∙◌, arith}
+use Rattle.std.proofs.Common.{◌≡◌, ◌≢◌, ◌<◌, ℕ, zero, suc, List, [], ◌∷◌, map, length, get_or, Option, None}
+use Rattle.std.proofs.Common.{Some, inl, inr, refl, sym, ap, subst, ◌∙◌, arith}
 use Rattle.std.specs.Prelude.{All, AllPairs, Any, Contains, IsSome, slice_get}
 use Rattle.std.proofs.lemmas.List.{length-map, get_or-map}
 use Rattle.std.proofs.lemmas.List.Elements.{All-head, All-tail}
@@ -21,8 +22,8 @@ use Rattle.tv_struct.specs.StructureForm.{StructureForm, unmarked}
 use Rattle.tv_top.specs.Answers.{IsFound, IsDone, case_for}
 use Rattle.tv_top.specs.Laws.{ReportsAreAccepted}
 use Rattle.tv_top.specs.Meaning.{Task, FilesMean}
-use Rattle.tv_transfer.proofs.From.{from-back, zip-back}
-use Rattle.tv_transfer.specs.Transfer.{IsOpening, IsResult, IsMessageValue, Steps, Finishes, IsBlurOf}
+use Rattle.tv_step_laws.proofs.From.{from-back, zip-back}
+use Rattle.tv_step_laws.specs.Transfer.{IsOpening, IsResult, IsMessageValue, Steps, Finishes, IsBlurOf}
 use Rattle.tv_words.specs.Words.{CommandForm, Analyzes, Checks, Spells}
 use Rattle.tv_work.specs.Analysed.{IsBefore}
 use Rattle.tv_work.specs.Reach.{Point, IsDerivation}

@@ -1,5 +1,6 @@
 -- The causes of the parts of the work, as those of a command.
-use Rattle.std.proofs.Common.{◌≡◌, ◌≤◌, ℕ, Bool, true, false, List, Option, Some, Result, Ok, Err, inl, inr, refl, sym, subst, arith}
+use Rattle.std.proofs.Common.{◌≡◌, ◌≤◌, ℕ, Bool, true, false, List, Option, Some, Result, Ok, Err, inl, inr}
+use Rattle.std.proofs.Common.{refl, sym, subst, arith}
 use Rattle.std.specs.Prelude.{IfOk, IfErr}
 use Rattle.tv_join.specs.Joined.{IsJoinCause}
 use Rattle.tv_join.specs.declared.error.JoinError.{JoinError}
@@ -17,23 +18,27 @@ use Rattle.tv_status.specs.declared.status.Role.TheVariants as role
 use Rattle.tv_struct.specs.StructureForm.{StructureForm}
 use Rattle.tv_struct.specs.declared.analysis.StageError.{StageError}
 use Rattle.tv_struct.specs.declared.analysis.StageError.TheVariants as stage
-use Rattle.tv_texts.specs.Files.{IsProgramFile, LacksFile, IsInitialFile, IsFileCause, IsTextCause, UnlessNotRead, IsSourceFile}
+use Rattle.tv_texts.specs.Files.{IsProgramFile, LacksFile, IsInitialFile, IsFileCause, IsTextCause}
+use Rattle.tv_texts.specs.Files.{UnlessNotRead, IsSourceFile}
 use Rattle.tv_texts.specs.Meaning.{MeansProgram, MeansInitial}
 use Rattle.tv_texts.specs.declared.fault.TextFault.{TextFault}
 use Rattle.tv_texts.specs.declared.fault.TextFault.TheVariants.{Refused, NotRead, Memory}
-use Rattle.tv_top.specs.Answers.{Reached, InRound, case_for, max_of, HasMoreThan, StepMeets, IsAnswer, IsDone, IsAccepted, IsAcceptedText, IsRejected, RunMeans, IsReplayed}
+use Rattle.tv_top.specs.Answers.{Reached, InRound, case_for, max_of, HasMoreThan, StepMeets, IsAnswer, IsDone}
+use Rattle.tv_top.specs.Answers.{IsAccepted, IsAcceptedText, IsRejected, RunMeans, IsReplayed}
 use Rattle.tv_top.specs.Call.{IsCause, IsCommandCause}
 use Rattle.tv_top.specs.Delivery.{SaidOf}
 use Rattle.tv_top.specs.Faults.{fault_of_work, fault_of_join, fault_of_stage, fault_of_text}
-use Rattle.tv_top.specs.Meaning.{Task, FilesMean, IsTakenProgram, GivesProgram, GivesInitial, GivesReport, LacksInitial, LacksProgram, LacksLater, IsRefused}
-use Rattle.tv_top.specs.Work.{Comes, Lacks, Names, role_of, IsSearchCause, IsJoinSearchCause, IsJudged, IsJudgementCause, UnlessReadFault, IsRun}
+use Rattle.tv_top.specs.Meaning.{Task, FilesMean, IsTakenProgram, GivesProgram, GivesInitial, GivesReport}
+use Rattle.tv_top.specs.Meaning.{LacksInitial, LacksProgram, LacksLater, IsRefused}
+use Rattle.tv_top.specs.Work.{Comes, Lacks, Names, role_of, IsSearchCause, IsJoinSearchCause, IsJudged}
+use Rattle.tv_top.specs.Work.{IsJudgementCause, UnlessReadFault, IsReplayAnswer}
 use Rattle.tv_top.specs.declared.fault.Answer.{Answer}
 use Rattle.tv_top.specs.declared.fault.Answer.TheVariants as answer
 use Rattle.tv_top.specs.declared.fault.Fault.{Fault}
 use Rattle.tv_top.specs.declared.fault.Fault.TheVariants as fault
 use Rattle.tv_top.specs.declared.inputs.Origin.{Origin}
 use Rattle.tv_top.specs.declared.inputs.Origin.TheVariants as origin
-use Rattle.tv_transfer.specs.Budgets.{MeetsSplits, MeetsIndividuals}
+use Rattle.tv_step_laws.specs.Budgets.{MeetsSplits, MeetsIndividuals}
 use Rattle.tv_listing.specs.declared.analysis.Rejection.{Rejection}
 use Rattle.tv_trace.specs.declared.trace.Trace.{Trace}
 use Rattle.tv_words.specs.Words.{CommandForm, Analyzes, Checks, Demos, Joins, Replays, Sources, Spells}
@@ -338,7 +343,7 @@ judged_answers told command task report maps (Err f) means gives done rejects h 
 pub run_answer : (told : Option Held) (command : CommandForm) (task : Task) (start : StructureForm) (trace : Trace) (report : Analysis)
     (a : Answer) → FilesMean told command task → RunMeans told command task.program start trace report
     → ((text : List ℕ) → IsReplayed told command task text → IsDone told command task text)
-    → SaidOf (IsRun task start trace report) a → SaidOf (IsAnswer told command) a
+    → SaidOf (IsReplayAnswer task start trace report) a → SaidOf (IsAnswer told command) a
 run_answer told command task start trace report (answer.Done text) means run done h =
     (task, means, done text.items (start, trace, report, run, h))
 run_answer told command task start trace report (answer.Rejected r text) means run done h = absurd h
@@ -348,7 +353,7 @@ run_answer told command task start trace report (answer.Stuck step why text) mea
 pub run_answers : (told : Option Held) (command : CommandForm) (task : Task) (start : StructureForm) (trace : Trace) (report : Analysis)
     (r : Result Answer Fault) → FilesMean told command task → RunMeans told command task.program start trace report
     → ((text : List ℕ) → IsReplayed told command task text → IsDone told command task text)
-    → IfOk r (SaidOf (IsRun task start trace report)) → IfOk r (SaidOf (IsAnswer told command))
+    → IfOk r (SaidOf (IsReplayAnswer task start trace report)) → IfOk r (SaidOf (IsAnswer told command))
 run_answers told command task start trace report (Ok a) means run done h = run_answer told command task start trace report a means run done h
 run_answers told command task start trace report (Err f) means run done h = h
 

@@ -1,7 +1,8 @@
 -- A report fails one demand first.
 use Rattle.std.proofs.Common.{◌≡◌, ◌≢◌, ◌<◌, ℕ, List, [], ◌∷◌, inl, inr, refl, sym, ap, ◌∙◌, arith}
 use Rattle.std.specs.Prelude.{slice_index}
-use Rattle.tv_judge.specs.Judged.{Case, Demand, Covering, Stepping, Saying, place_of, StandsBefore, FailsFirst, IsRejection, IsClosedReport}
+use Rattle.tv_judge.specs.Judged.{Case, Demand, Covering, Stepping, Saying, demand_order, StandsBefore}
+use Rattle.tv_judge.specs.Judged.{FailsFirst, IsRejection, IsClosedReport}
 use Rattle.tv_listing.specs.declared.analysis.Item.TheVariants as item
 use Rattle.tv_listing.specs.declared.analysis.Rejection.{Rejection}
 use Rattle.tv_listing.specs.declared.analysis.Rejection.TheVariants.{Initial, Result, Message}
@@ -19,15 +20,15 @@ same_lists (x ∷ xs) (y ∷ ys) h k =
     rw (first, rest) refl
 
 -- two demands that fail first stand at one place
-pub one_place : (c : Case) (d e : Demand) → FailsFirst c d → FailsFirst c e → place_of d ≡ place_of e
-one_place c d e h k = same_lists (place_of d) (place_of e)
+pub one_place : (c : Case) (d e : Demand) → FailsFirst c d → FailsFirst c e → demand_order d ≡ demand_order e
+one_place c d e h k = same_lists (demand_order d) (demand_order e)
     (λ before. k.first d before h.fails) (λ before. h.first e before k.fails)
 
 module _ (c : Case) where
   initials : (n m : ℕ) → FailsFirst c (Covering (item.Initial n)) → FailsFirst c (Covering (item.Initial m)) → n ≡ m
   initials n m h k = ap (λ xs. slice_index xs 1) (one_place c _ _ h k)
 
-  not_first : {A : Type 0} (d e : Demand) (i x y : ℕ) → slice_index (place_of d) i ≡ x → slice_index (place_of e) i ≡ y → x ≢ y
+  not_first : {A : Type 0} (d e : Demand) (i x y : ℕ) → slice_index (demand_order d) i ≡ x → slice_index (demand_order e) i ≡ y → x ≢ y
       → FailsFirst c d → FailsFirst c e → A
   not_first d e i x y p q differ h k =
       absurd (differ (sym p ∙ ap (λ xs. slice_index xs i) (one_place c d e h k) ∙ q))

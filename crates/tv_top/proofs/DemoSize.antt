@@ -3,7 +3,9 @@ use Rattle.std.proofs.Common.{◌≤◌, ◌+◌, ◌*◌, ◌++◌, ℕ, zero, 
 use Rattle.std.specs.Prelude.{codes, decimal}
 use Rattle.std.proofs.lemmas.Fmt.{length-decimal-le_succ}
 use Rattle.std.proofs.lemmas.List.{length-append}
-use Rattle.tv_demo.specs.Texts.{numbered, variables_text, copy_text, test_text, next_text, end_text, walk_text, walks_text, set_text, predicates_text, actions_text, program_text, lists_text}
+use Rattle.tv_demo.specs.Texts.{numbered, variables_text, copy_text, test_text, next_text, end_text}
+use Rattle.tv_demo.specs.Texts.{walk_text, walks_text, set_text, predicates_text, actions_text, program_text}
+use Rattle.tv_demo.specs.Texts.{lists_text}
 
 numbered_short : (text : List ℕ) (n : ℕ) → n ≤ 16 → length (numbered text n) ≤ length text + 17
 unfolding numbered

@@ -1,9 +1,10 @@
 -- What covers the runs of a differenced program covers those of the program that was read, evaluated anew.
-use Rattle.std.proofs.Common.{◌≡◌, ℕ, zero, suc, Bool, true, false, List, [], ◌∷◌, Option, Some, Ok, refl, ap, subst, ◌∙◌}
+use Rattle.std.proofs.Common.{◌≡◌, ℕ, zero, suc, Bool, true, false, List, [], ◌∷◌, Option, Some, Ok, refl, ap}
+use Rattle.std.proofs.Common.{subst, ◌∙◌}
 use Rattle.std.specs.Prelude.{slice_get}
 use Rattle.std.specs.List.{AllZip}
 use Rattle.tv_delta.specs.Answers.{HasRuns}
-use Rattle.tv_difference.specs.Differences.{IsDifferencedAction, IsDifferenced}
+use Rattle.tv_delta_laws.specs.Differences.{IsDifferencedAction, IsDifferenced}
 use Rattle.tv_listing.specs.declared.analysis.Analysis.{Analysis}
 use Rattle.tv_listing.specs.declared.analysis.MessageLine.{MessageLine}
 use Rattle.tv_model.specs.Program.{ProgramForm, MessageForm, program_of}
@@ -16,8 +17,8 @@ use Rattle.tv_texts.specs.Files.{IsProgramFile}
 use Rattle.tv_top.specs.Answers.{CoversReadRuns}
 use Rattle.tv_top.specs.Meaning.{IsTakenProgram}
 use Rattle.tv_top.specs.Work.{HasReadRuns, IsTakenFrom}
-use Rattle.tv_transfer.specs.Closed.{CoversRuns}
-use Rattle.tv_transfer.specs.Sound.{IsMessageOf}
+use Rattle.tv_step_laws.specs.Closed.{CoversRuns}
+use Rattle.tv_step_laws.specs.Sound.{IsMessageOf}
 use Rattle.tv_words.specs.Words.{GoTogether}
 
 zipped_at : {X Y : Type 0} (R : X → Y → Type 0) (xs : List X) (ys : List Y) → AllZip R xs ys → (k : ℕ) (x : X)

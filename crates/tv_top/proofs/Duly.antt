@@ -3,9 +3,11 @@ use Rattle.std.proofs.Common.{◌≡◌, ◌⊎◌, ℕ, List, Option, Result, O
 use Rattle.std.specs.Prelude.{IfOk, IfErr}
 use Rattle.tv_outside.specs.Told.{Held}
 use Rattle.tv_status.specs.declared.status.Status.{Status}
-use Rattle.tv_status.specs.declared.status.Status.TheVariants.{Done, Rejected, Stuck, ReadFault, WriteFault, Memory}
+use Rattle.tv_status.specs.declared.status.Status.TheVariants.{Done, Rejected, Stuck, ReadFault, WriteFault}
+use Rattle.tv_status.specs.declared.status.Status.TheVariants.{Memory}
 use Rattle.tv_top.specs.Call.{IsCause, EndsFor, EndsDuly, IsExcuse}
-use Rattle.tv_top.specs.Delivery.{OutTook, ErrTook, IsText, IsFault, EndsAs, SaidOf, answered, answer_text, status_of, GivesText}
+use Rattle.tv_top.specs.Delivery.{OutTook, ErrTook, IsText, IsFault, EndsAs, SaidOf, answered, answer_text}
+use Rattle.tv_top.specs.Delivery.{status_of, GivesText}
 use Rattle.tv_top.specs.Meaning.{Commands, IsMissing}
 use Rattle.tv_top.specs.Work.{UnlessReadFault}
 use Rattle.tv_top.specs.declared.fault.Answer.{Answer}

@@ -7,24 +7,33 @@ use Rattle.tv_model.specs.Program.{ProgramForm, program_of}
 use Rattle.tv_model.specs.declared.program.Program.{Program}
 use Rattle.tv_outside.specs.Told.{Held}
 use Rattle.tv_model.specs.Valid.{IsValid}
-use Rattle.tv_replayed.specs.Laws.{RunsHaveOneEnding}
-use Rattle.tv_replayed.specs.Stuck.{IsStuck}
-use Rattle.tv_replayed.specs.declared.state.Why.{Why}
+use Rattle.tv_replay_laws.specs.Laws.{RunsHaveOneEnding}
+use Rattle.tv_replay_laws.specs.Stuck.{IsStuck}
+use Rattle.tv_replay_laws.specs.declared.state.Why.{Why}
 use Rattle.tv_status.specs.declared.status.FileKind.{FileKind}
 use Rattle.tv_status.specs.declared.status.Role.{Role}
 use Rattle.tv_status.specs.declared.status.Status.{Status}
-use Rattle.tv_status.specs.declared.status.Status.TheVariants.{Done, Rejected, Stuck, Usage, FileFault, Structures, TooManySplits, TooManyIndividuals, ReadFault, WriteFault, Memory}
+use Rattle.tv_status.specs.declared.status.Status.TheVariants.{Done, Rejected, Stuck, Usage, FileFault}
+use Rattle.tv_status.specs.declared.status.Status.TheVariants.{Structures, TooManySplits, TooManyIndividuals}
+use Rattle.tv_status.specs.declared.status.Status.TheVariants.{ReadFault, WriteFault, Memory}
 use Rattle.tv_struct.specs.StructureForm.{StructureForm}
 use Rattle.tv_texts.specs.Agreement.{GiveOne, SameProgram, placeless}
 use Rattle.tv_top.proofs.Demands.{one_rejection, stops_unrejected, closed_unrejected}
-use Rattle.tv_top.proofs.Tasks.{SameTask, HasReport, same_case, rejected_report, run_report, one_task, one_reported, not_refused, one_refusal}
-use Rattle.tv_top.specs.Answers.{Reached, InRound, case_for, IsDone, IsRejected, IsAnswer, max_of, HasMoreThan, ReachesTooMuch, StepMeets, MeetsBudget, KeepsLimits, KeepsRoundLimits, CanBeDone, CanRun, RunMeans, StopsIn, demo_max}
-use Rattle.tv_top.specs.Call.{IsAnswerTo, IsCause, EndsFor, CommandCallsFor, CallsFor, CallsForRun, IsExcuse, IsRunEnding, without_place, EndsDuly, HoldsOperands}
+use Rattle.tv_top.proofs.Tasks.{SameTask, HasReport, same_case, rejected_report, run_report, one_task}
+use Rattle.tv_top.proofs.Tasks.{one_reported, not_refused, one_refusal}
+use Rattle.tv_top.specs.Answers.{Reached, InRound, case_for, IsDone, IsRejected, IsAnswer, max_of}
+use Rattle.tv_top.specs.Answers.{HasMoreThan, ReachesTooMuch, StepMeets, MeetsBudget, KeepsLimits}
+use Rattle.tv_top.specs.Answers.{KeepsRoundLimits, CanBeDone, CanRun, RunMeans, StopsIn, demo_max}
+use Rattle.tv_top.specs.Call.{IsAnswerTo, IsCause, EndsFor, CommandCallsFor, CallsFor, CallsForRun, IsExcuse}
+use Rattle.tv_top.specs.Call.{IsRunEnding, without_place, EndsDuly, HoldsOperands}
 use Rattle.tv_top.specs.Delivery.{OutTook}
-use Rattle.tv_top.specs.Meaning.{Task, Commands, FilesMean, GivesProgram, GivesInitial, GivesStart, GivesTrace, GivesReport, LacksLater, IsRefused, IsMissing, IsTold, HoldsFiles}
+use Rattle.tv_top.specs.Meaning.{Task, Commands, FilesMean, GivesProgram, GivesInitial, GivesStart}
+use Rattle.tv_top.specs.Meaning.{GivesTrace, GivesReport, LacksLater, IsRefused, IsMissing, IsTold}
+use Rattle.tv_top.specs.Meaning.{HoldsFiles}
 use Rattle.tv_trace.specs.declared.trace.Trace.{Trace}
-use Rattle.tv_transfer.specs.Budgets.{MeetsSplits, MeetsIndividuals, KeepsBudgets}
-use Rattle.tv_words.specs.Words.{CommandForm, Analyzes, Checks, Demos, Joins, Replays, Sources, Spells, SpellsNothing}
+use Rattle.tv_step_laws.specs.Budgets.{MeetsSplits, MeetsIndividuals, KeepsBudgets}
+use Rattle.tv_words.specs.Words.{CommandForm, Analyzes, Checks, Demos, Joins, Replays, Sources, Spells}
+use Rattle.tv_words.specs.Words.{SpellsNothing}
 use Rattle.tv_work.specs.Analysed.{Meets}
 use Rattle.tv_work.specs.Reach.{AreMoreThan}
 

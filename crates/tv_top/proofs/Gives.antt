@@ -1,7 +1,8 @@
 -- Each file of a command gives one thing at most, where it is told what files hold.
-use Rattle.std.proofs.Common.{Bool, true, false, ◌≡◌, ◌⊎◌, ℕ, List, Option, None, Some, Result, Ok, Err, inl, inr, refl, sym, subst, ◌∙◌}
+use Rattle.std.proofs.Common.{Bool, true, false, ◌≡◌, ◌⊎◌, ℕ, List, Option, None, Some, Result, Ok, Err, inl}
+use Rattle.std.proofs.Common.{inr, refl, sym, subst, ◌∙◌}
 use Rattle.std.specs.Prelude.{IsSome}
-use Rattle.tv_difference.specs.Differences.{IsDifferenced}
+use Rattle.tv_delta_laws.specs.Differences.{IsDifferenced}
 use Rattle.tv_demo.specs.Texts.{program_text, lists_text}
 use Rattle.tv_lex.specs.Gather.{Gathers}
 use Rattle.tv_lex.specs.declared.gatherer.GatherError.{GatherError}
@@ -15,9 +16,11 @@ use Rattle.tv_status.specs.declared.status.FileKind.TheVariants as kind
 use Rattle.tv_struct.specs.StructureForm.{StructureForm}
 use Rattle.tv_texts.specs.Agreement.{Agree, GiveOne, SameProgram}
 use Rattle.tv_texts.specs.Files.{HoldsSuch, IsUngathered, IsProgramFile}
-use Rattle.tv_texts.specs.Meaning.{MeansProgram, MeansInitial, MeansReport, MeansStart, MeansMoves, MeansSource}
+use Rattle.tv_texts.specs.Meaning.{MeansProgram, MeansInitial, MeansReport, MeansStart, MeansMoves}
+use Rattle.tv_texts.specs.Meaning.{MeansSource}
 use Rattle.tv_top.proofs.OneDifferenced.{one_differenced}
-use Rattle.tv_top.specs.Meaning.{IsTakenProgram, GivesProgram, GivesInitial, GivesReport, IsTold, GivesStart, GivesTrace}
+use Rattle.tv_top.specs.Meaning.{IsTakenProgram, GivesProgram, GivesInitial, GivesReport, IsTold, GivesStart}
+use Rattle.tv_top.specs.Meaning.{GivesTrace}
 use Rattle.tv_trace.specs.declared.trace.Trace.{Trace}
 use Rattle.tv_words.specs.Words.{CommandForm, Analyzes, Checks, Demos, Joins, Replays, Sources}
 

@@ -1,10 +1,12 @@
 -- What differencing makes of a program is one program.
-use Rattle.std.proofs.Common.{◌≡◌, ◌<◌, ◌∙◌, ℕ, Bool, true, false, List, [], ◌∷◌, length, get_or, inl, inr, refl, sym, ap, arith}
+use Rattle.std.proofs.Common.{◌≡◌, ◌<◌, ◌∙◌, ℕ, Bool, true, false, List, [], ◌∷◌, length, get_or, inl, inr}
+use Rattle.std.proofs.Common.{refl, sym, ap, arith}
 use Rattle.std.specs.List.{AllZip}
 use Rattle.std.proofs.lemmas.List.{same_lists, get_or_default}
 use Rattle.std.proofs.lemmas.Option.{slice_get_cases, unwrap_or-slice_get}
-use Rattle.tv_difference.specs.Deltas.{is_flagged}
-use Rattle.tv_difference.specs.Differences.{AreAffected, differenced_updates, with_updates, with_actions, IsDifferencedAction, IsDifferenced}
+use Rattle.tv_delta_laws.specs.Deltas.{is_flagged}
+use Rattle.tv_delta_laws.specs.Differences.{AreAffected, differenced_updates, with_updates, with_actions}
+use Rattle.tv_delta_laws.specs.Differences.{IsDifferencedAction, IsDifferenced}
 use Rattle.tv_model.specs.Program.{ProgramForm, ActionForm}
 
 same_truth : (a b : Bool) → ((a ≡ true) → (b ≡ true)) → ((b ≡ true) → (a ≡ true)) → a ≡ b

@@ -5,12 +5,12 @@ use Rattle.tv_listing.specs.declared.analysis.Analysis.{Analysis}
 use Rattle.tv_model.specs.Program.{program_of}
 use Rattle.tv_outside.specs.Told.{Held}
 use Rattle.tv_plang.specs.Meaning.{MeansProgram}
-use Rattle.tv_source_meaning.specs.Compiled.{IsSmall}
-use Rattle.tv_source_sound.specs.Laws.{CoveredRunsCoverSources}
+use Rattle.tv_plang_laws.specs.Compiled.{IsSmall}
+use Rattle.tv_source_laws.specs.Laws.{CoveredRunsCoverSources}
 use Rattle.tv_texts.specs.Files.{IsSourceFile}
 use Rattle.tv_top.specs.Answers.{IsFound, IsSourceSound, CoversSourceFile}
 use Rattle.tv_top.specs.Meaning.{Task}
-use Rattle.tv_transfer.specs.Closed.{CoversRuns}
+use Rattle.tv_step_laws.specs.Closed.{CoversRuns}
 
 -- what covers the runs of the compiled program covers those of the source program
 sound : CoveredRunsCoverSources → (task : Task) (max : ℕ) (a : Analysis) (ts : List SpecToken)

@@ -10,7 +10,8 @@ use Rattle.tv_status.specs.declared.status.Role.TheVariants as role
 use Rattle.tv_struct.specs.StructureForm.{StructureForm}
 use Rattle.tv_texts.specs.Agreement.{GiveOne, SameProgram, placeless}
 use Rattle.tv_top.specs.Answers.{CanRun, IsRejected, case_for}
-use Rattle.tv_top.specs.Meaning.{Task, FilesMean, GivesProgram, GivesInitial, GivesStart, GivesTrace, GivesReport, HasRun, IsRefused}
+use Rattle.tv_top.specs.Meaning.{Task, FilesMean, GivesProgram, GivesInitial, GivesStart, GivesTrace}
+use Rattle.tv_top.specs.Meaning.{GivesReport, HasStartAndTrace, IsRefused}
 use Rattle.tv_trace.specs.declared.trace.Trace.{Trace}
 use Rattle.tv_words.specs.Words.{CommandForm, Checks, Replays}
 
@@ -90,14 +91,14 @@ module _ (told : Option Held) (command : CommandForm)
     -- a heap that is read before the trace or the report isn't refused, nor is a trace that is read before the report
     run_start : (c : CommandForm) → (t u : Task) (k : FileKind) → SameProgram t.program u.program
         → ((p q : Program) → SameProgram p q → GiveOne {A = StructureForm} ◌≡◌ (GivesStart told c p) (GivesStart told c q))
-        → HasRun told c t.program → GivesStart told c u.program (Err k) → ⊥
+        → HasStartAndTrace told c t.program → GivesStart told c u.program (Err k) → ⊥
     run_start (Replays p i start trace report) t u k same one run refused =
         one t.program u.program same (Ok run.0) (Err k) run.1 refused
     run_start other t u k same one run refused = refused
 
     run_trace : (c : CommandForm) → (t u : Task) (k : FileKind) → SameProgram t.program u.program
         → ((p q : Program) → SameProgram p q → GiveOne {A = Trace} ◌≡◌ (GivesTrace told c p) (GivesTrace told c q))
-        → HasRun told c t.program → GivesTrace told c u.program (Err k) → ⊥
+        → HasStartAndTrace told c t.program → GivesTrace told c u.program (Err k) → ⊥
     run_trace (Replays p i start trace report) t u k same one run refused =
         one t.program u.program same (Ok run.2.0) (Err k) run.2.1 refused
     run_trace other t u k same one run refused = refused

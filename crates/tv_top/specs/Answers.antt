@@ -1,5 +1,6 @@
 -- What a command answers, and what it gives no answer for.
-use Rattle.std.specs.Prelude.{ℕ, ◌≡◌, List, [], ◌++◌, length, sum_by, Bool, true, false, Option, None, Some, Ok, codes, decimal}
+use Rattle.std.specs.Prelude.{ℕ, ◌≡◌, List, [], ◌++◌, length, sum_by, Bool, true, false, Option, None, Some}
+use Rattle.std.specs.Prelude.{Ok, codes, decimal}
 use Rattle.tv_judge.specs.Judged.{Case, IsClosedReport, KeepsAllBudgets, IsRejection, StopsAt, AreMapsOf}
 use Rattle.tv_judge.specs.Verdicts.{case_of}
 use Rattle.tv_join.specs.Joined.{IsJoined}
@@ -17,22 +18,22 @@ use Rattle.tv_model.specs.declared.program.Program.{Program}
 use Rattle.tv_outside.specs.Told.{Held}
 use Rattle.tv_report.specs.Text.{report_text}
 use Rattle.tv_source.specs.Forms.{SourceForm}
-use Rattle.tv_source_meaning.specs.Compiled.{compiled}
+use Rattle.tv_plang_laws.specs.Compiled.{compiled}
 use Rattle.tv_source_names.specs.Outcome.{MeansSource}
-use Rattle.tv_source_sound.specs.Covers.{CoversSource}
+use Rattle.tv_source_laws.specs.Covers.{CoversSource}
 use Rattle.tv_status.specs.declared.status.Status.{Status}
 use Rattle.tv_status.specs.declared.status.Status.TheVariants.{Done, Rejected, Stuck}
 use Rattle.tv_struct.specs.StructureForm.{StructureForm}
 use Rattle.tv_texts.specs.Files.{HoldsSuch, IsProgramFile}
 use Rattle.tv_texts.specs.Meaning.{HasTokens}
 use Rattle.tv_top.specs.Meaning.{Task, FilesMean, GivesReport, GivesStart, GivesTrace}
-use Rattle.tv_transfer.specs.Closed.{IsClosed, CoversRuns}
-use Rattle.tv_replayed.specs.Runs.{ShowsGivenRun, ShowsRecomputedRun}
-use Rattle.tv_replayed.specs.States.{IsReplay}
-use Rattle.tv_replayed.specs.Stuck.{GoesThrough, IsStuck, Standing, start_at}
-use Rattle.tv_replayed.specs.declared.state.State.{State}
-use Rattle.tv_replayed.specs.declared.state.Why.{Why}
-use Rattle.tv_states.specs.Text.{states_text, stuck_line}
+use Rattle.tv_step_laws.specs.Closed.{IsClosed, CoversRuns}
+use Rattle.tv_replay_laws.specs.Runs.{ShowsGivenRun, ShowsRecomputedRun}
+use Rattle.tv_replay_laws.specs.States.{IsReplay}
+use Rattle.tv_replay_laws.specs.Stuck.{GoesThrough, IsStuck, Standing, start_at}
+use Rattle.tv_replay_laws.specs.declared.state.State.{State}
+use Rattle.tv_replay_laws.specs.declared.state.Why.{Why}
+use Rattle.tv_replay.specs.Text.{states_text, stuck_line}
 use Rattle.tv_trace.specs.declared.trace.Trace.{Trace}
 use Rattle.tv_words.specs.Words.{CommandForm, Analyzes, Checks, Demos, Joins, Replays, Sources}
 use Rattle.tv_work.specs.Analysed.{IsAnalysis, KeepAllBudgets, Meets}
@@ -45,9 +46,10 @@ use Rattle.tv_work.specs.Reach.{Point, IsReached, AreMoreThan}
 abbrev pub IsSound : Task → Analysis → Type 0
 IsSound task a = CoversRuns (program_of task.program) task.mode task.initial a.listing a.messages
 
--- With `delta`, the listing covers all runs of the program that was read in which defined predicates are evaluated
--- anew: no update of that program need agree with a definition.
-abbrev pub CoversReadRuns : (delta : Bool) → Option Held → (name : List ℕ) → (initial : List StructureForm) → Analysis
+-- With `delta`, the listing covers all runs of the program that was read in which defined predicates are
+-- evaluated anew: no update of that program need agree with a definition.
+abbrev pub CoversReadRuns : (delta : Bool) → Option Held → (name : List ℕ) → (initial : List StructureForm)
+    → Analysis
     → Type 0
 CoversReadRuns false told name initial a = Unit {0}
 CoversReadRuns true told name initial a = (read : Program) × IsProgramFile told name (Ok read)
@@ -58,8 +60,8 @@ CoversReadRuns true told name initial a = (read : Program) × IsProgramFile told
 abbrev pub Reached : Task → Point → Type 0
 Reached task = IsReached (program_of task.program) task.mode task.initial
 
--- the analysis lists exactly the reached structures, at most so many, with the messages that may be true there;
--- it is closed, and covers all runs
+-- the analysis lists exactly the reached structures, at most so many, with the messages that may be true
+-- there; it is closed, and covers all runs
 pub record IsFound (task : Task) (max : ℕ) (a : Analysis) : Type 0 where
   pub valid : IsValid (program_of task.program)
   pub listing : IsListing task.program a.listing
@@ -74,8 +76,8 @@ pub record IsFound (task : Task) (max : ℕ) (a : Analysis) : Type 0 where
 abbrev pub InRound : Task → (round : ℕ) → Point → Type 0
 InRound task = IsInRound (program_of task.program) task.mode task.initial
 
--- the joined analysis lists what its rounds come to, at most so many structures, with the messages that may be
--- true there; it is closed, and covers all runs
+-- the joined analysis lists what its rounds come to, at most so many structures, with the messages that may
+-- be true there; it is closed, and covers all runs
 pub record IsJoinFound (task : Task) (max : ℕ) (a : Analysis) : Type 0 where
   pub valid : IsValid (program_of task.program)
   pub listing : IsListing task.program a.listing
@@ -141,9 +143,10 @@ pub record RunMeans (told : Option Held) (command : CommandForm) (meant : Progra
   pub gives_trace : GivesTrace told command meant (Ok trace)
   pub gives_report : GivesReport told command meant (Ok report)
 
--- these are the states of the trace from the heap, judged by the initial structures and by the report; and where
--- nothing is broken, there is a run of the program through their heaps
-pub record AreStates (task : Task) (start : StructureForm) (trace : Trace) (report : Analysis) (states : List State)
+-- these are the states of the trace from the heap, judged by the initial structures and by the report; and
+-- where nothing is broken, there is a run of the program through their heaps
+pub record AreStates (task : Task) (start : StructureForm) (trace : Trace) (report : Analysis)
+    (states : List State)
     : Type 0 where
   pub valid : IsValid (program_of task.program)
   pub are : IsReplay (program_of task.program) task.initial start trace.moves report.listing states
@@ -154,7 +157,8 @@ pub record AreStates (task : Task) (start : StructureForm) (trace : Trace) (repo
 abbrev pub IsReplayed : Option Held → CommandForm → Task → List ℕ → Type 0
 IsReplayed told command task text = (start : StructureForm) × (trace : Trace) × (report : Analysis)
     × RunMeans told command task.program start trace report
-    × ((states : List State) × AreStates task start trace report states × (text ≡ states_text task.program states))
+    × ((states : List State) × AreStates task start trace report states
+    × (text ≡ states_text task.program states))
 
 -- the trace can't go on at this step, for this reason
 abbrev pub StopsIn : Option Held → CommandForm → Task → (step : ℕ) → Why → Type 0
@@ -175,9 +179,9 @@ CanRun told command task = (start : StructureForm) × (trace : Trace) × (report
 
 -- ---- what is found of a source program
 
--- the tokens mean a source program, which the task's program is compiled from; what is listed covers its runs: the
--- heap of each state embeds in a structure listed at the node of its position, and a dereference whose message has
--- no line meets no null
+-- the tokens mean a source program, which the task's program is compiled from; what is listed covers its
+-- runs: the heap of each state embeds in a structure listed at the node of its position, and a dereference
+-- whose message has no line meets no null
 pub record IsSourceSound (task : Task) (a : Analysis) (ts : List SpecToken) : Type 0 where
   pub source : SourceForm
   pub meant : MeansSource ts source
@@ -225,7 +229,8 @@ IsAnswer told command Done text = (task : Task) × FilesMean told command task �
 IsAnswer told command (Rejected r) text =
     (task : Task) × FilesMean told command task × IsRejected told command task r × (text ≡ rejected_line r)
 IsAnswer told command (Stuck step why) text =
-    (task : Task) × FilesMean told command task × StopsIn told command task step why × (text ≡ stuck_line step why)
+    (task : Task) × FilesMean told command task × StopsIn told command task step why
+    × (text ≡ stuck_line step why)
     × IsValid (program_of task.program)
 IsAnswer told command other text = ⊥
 
@@ -284,7 +289,8 @@ pub record KeepsRoundLimits (task : Task) (max : ℕ) : Type 0 where
   pub few : (round : ℕ) → ¬ AreMoreThan max (InRound task round)
   pub budgets : (round : ℕ) → KeepAllBudgets (program_of task.program) (InRound task round)
 
--- nothing stands in the way of the job: the limits are kept, the report is closed, or the trace goes on to its end
+-- nothing stands in the way of the job: the limits are kept, the report is closed, or the trace goes on to
+-- its end
 abbrev pub CanBeDone : Option Held → CommandForm → Task → Type 0
 CanBeDone told (Analyzes program initial max mode delta) task = KeepsLimits task max
 CanBeDone told (Checks program initial report mode maps delta) task =

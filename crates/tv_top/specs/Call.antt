@@ -2,13 +2,16 @@
 use Rattle.std.specs.Prelude.{◌≡◌, ◌⊎◌, ℕ, List, Option}
 use Rattle.tv_outside.specs.Told.{Held}
 use Rattle.tv_status.specs.declared.status.Status.{Status}
-use Rattle.tv_status.specs.declared.status.Status.TheVariants.{Done, Rejected, Stuck, Usage, FileFault, Structures, TooManySplits, TooManyIndividuals, ReadFault, WriteFault, Memory}
+use Rattle.tv_status.specs.declared.status.Status.TheVariants.{Done, Rejected, Stuck, Usage, FileFault}
+use Rattle.tv_status.specs.declared.status.Status.TheVariants.{Structures, TooManySplits, TooManyIndividuals}
+use Rattle.tv_status.specs.declared.status.Status.TheVariants.{ReadFault, WriteFault, Memory}
 use Rattle.tv_texts.specs.Agreement.{placeless}
-use Rattle.tv_top.specs.Answers.{IsAnswer, IsRejected, CanBeDone, CanRun, StopsIn, ReachesTooMuch, MeetsBudget}
+use Rattle.tv_top.specs.Answers.{IsAnswer, IsRejected, CanBeDone, CanRun, StopsIn, ReachesTooMuch}
+use Rattle.tv_top.specs.Answers.{MeetsBudget}
 use Rattle.tv_top.specs.Meaning.{Task, Commands, FilesMean, IsRefused, IsMissing, HoldsFiles, IsTold}
 use Rattle.tv_top.specs.declared.fault.Fault.{Fault}
 use Rattle.tv_top.specs.declared.fault.Fault.TheVariants as fault
-use Rattle.tv_transfer.specs.Budgets.{MeetsSplits, MeetsIndividuals}
+use Rattle.tv_step_laws.specs.Budgets.{MeetsSplits, MeetsIndividuals}
 use Rattle.tv_words.specs.Words.{CommandForm, SpellsNothing}
 
 -- the text is what these words and files call for with this status
@@ -88,7 +91,8 @@ without_place (FileFault role kind) = FileFault role (placeless kind)
 without_place other = other
 
 -- the call ends as it is called for, or there is such an excuse
-pub record EndsDuly (words : List (List ℕ)) (told : Option Held) (status : Status) (excuse : Type 0) : Type 0 where
+pub record EndsDuly (words : List (List ℕ)) (told : Option Held) (status : Status)
+    (excuse : Type 0) : Type 0 where
   -- whatever ending is called for, this is the one, the place of a fault aside
   pub due : (due : Status) → CallsFor words told due → (without_place status ≡ without_place due) ⊎ excuse
   -- and a replay that is called for is done or stuck

@@ -4,7 +4,9 @@ use Rattle.tv_outside.specs.Count.{FailedLast}
 use Rattle.tv_outside.specs.Told.{appended, TookFront}
 use Rattle.tv_status.specs.Status.{text_of}
 use Rattle.tv_status.specs.declared.status.Status.{Status}
-use Rattle.tv_status.specs.declared.status.Status.TheVariants.{Done, Rejected, Stuck, Usage, FileFault, Structures, TooManySplits, TooManyIndividuals, ReadFault, WriteFault, Memory}
+use Rattle.tv_status.specs.declared.status.Status.TheVariants.{Done, Rejected, Stuck, Usage, FileFault}
+use Rattle.tv_status.specs.declared.status.Status.TheVariants.{Structures, TooManySplits, TooManyIndividuals}
+use Rattle.tv_status.specs.declared.status.Status.TheVariants.{ReadFault, WriteFault, Memory}
 use Rattle.tv_top.specs.declared.fault.Answer.{Answer}
 use Rattle.tv_top.specs.declared.fault.Answer.TheVariants as answer
 use Rattle.tv_top.specs.declared.fault.Fault.{Fault}
@@ -39,8 +41,8 @@ OutTook WriteFault IsText out_rose err_rose old new =
     (out_rose × TookFrontOf IsText old new) ⊎ (err_rose × (new ≡ old))
 OutTook other IsText out_rose err_rose old new = new ≡ old
 
--- What the standard error takes: nothing where the work was done, the report rejected or the replay stuck, else
--- the text of the status, of which only a front where the error output itself failed.
+-- What the standard error takes: nothing where the work was done, the report rejected or the replay stuck,
+-- else the text of the status, of which only a front where the error output itself failed.
 abbrev pub ErrTook : Status → (IsCause : Fault → Type 0) → (out_rose err_rose : Type 0)
     → (old new : Option (List ℕ)) → Type 0
 ErrTook Done IsCause out_rose err_rose old new = new ≡ old

@@ -7,7 +7,8 @@ use Rattle.tv_struct.specs.declared.analysis.StageError.TheVariants as stage
 use Rattle.tv_texts.specs.declared.fault.TextFault.{TextFault}
 use Rattle.tv_texts.specs.declared.fault.TextFault.TheVariants as text
 use Rattle.tv_top.specs.declared.fault.Fault.{Fault}
-use Rattle.tv_top.specs.declared.fault.Fault.TheVariants.{FileFault, Structures, TooManySplits, TooManyIndividuals, ReadFault, Memory}
+use Rattle.tv_top.specs.declared.fault.Fault.TheVariants.{FileFault, Structures, TooManySplits}
+use Rattle.tv_top.specs.declared.fault.Fault.TheVariants.{TooManyIndividuals, ReadFault, Memory}
 use Rattle.tv_work.specs.declared.error.WorkError.{WorkError}
 use Rattle.tv_work.specs.declared.error.WorkError.TheVariants as work
 

@@ -10,13 +10,15 @@ use Rattle.tv_words.specs.Words.{CommandForm, Analyzes, Checks, Spells}
 
 -- the numbers that words spell are within their limits
 abbrev pub CommandsAreBounded : Type 0
-CommandsAreBounded = (words : List (List ℕ)) (command : CommandForm) → Spells words command → IsBounded command
+CommandsAreBounded =
+    (words : List (List ℕ)) (command : CommandForm) → Spells words command → IsBounded command
 
--- where REPORT holds the report that `analyze` wrote, the other files and the mode are the same, and both have
--- `--delta` or neither, `check` is called to accept it
+-- where REPORT holds the report that `analyze` wrote, the other files and the mode are the same, and both
+-- have `--delta` or neither, `check` is called to accept it
 abbrev pub ReportsAreAccepted : Type 0
 ReportsAreAccepted = (words again : List (List ℕ)) (held : Held) (program initial report text : List ℕ)
     (max : ℕ) (mode : Mode) (maps delta : Bool)
-    → Spells words (Analyzes program initial max mode delta) → Spells again (Checks program initial report mode maps delta)
+    → Spells words (Analyzes program initial max mode delta)
+    → Spells again (Checks program initial report mode maps delta)
     → IsAnswerTo words (Some held) Done text → content_of held report ≡ Some text → length text ≤ longest_text
     → CallsFor again (Some held) Done

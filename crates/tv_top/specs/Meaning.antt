@@ -2,7 +2,7 @@
 -- them that means nothing.
 use Rattle.std.specs.Prelude.{ℕ, ◌≡◌, ◌⊎◌, Bool, true, false, List, Option, IsSome, Result, Ok, Err}
 use Rattle.tv_demo.specs.Texts.{program_text, lists_text}
-use Rattle.tv_difference.specs.Differences.{IsDifferenced}
+use Rattle.tv_delta_laws.specs.Differences.{IsDifferenced}
 use Rattle.tv_listing.specs.declared.analysis.Analysis.{Analysis}
 use Rattle.tv_model.specs.Program.{program_of}
 use Rattle.tv_model.specs.declared.program.Mode.{Mode}
@@ -13,7 +13,8 @@ use Rattle.tv_status.specs.declared.status.FileKind.{FileKind}
 use Rattle.tv_status.specs.declared.status.Role.{Role}
 use Rattle.tv_status.specs.declared.status.Role.TheVariants as role
 use Rattle.tv_struct.specs.StructureForm.{StructureForm}
-use Rattle.tv_texts.specs.Files.{IsProgramFile, LacksFile, IsInitialFile, IsStartFile, IsTraceFile, IsReportFile, IsSourceFile}
+use Rattle.tv_texts.specs.Files.{IsProgramFile, LacksFile, IsInitialFile, IsStartFile, IsTraceFile}
+use Rattle.tv_texts.specs.Files.{IsReportFile, IsSourceFile}
 use Rattle.tv_texts.specs.Meaning.{MeansProgram, MeansInitial}
 use Rattle.tv_trace.specs.declared.trace.Trace.{Trace}
 use Rattle.tv_words.specs.Words.{CommandForm, Analyzes, Checks, Demos, Joins, Replays, Sources, Spells}
@@ -24,8 +25,8 @@ Commands words IsSuch = (command : CommandForm) × Spells words command × IsSuc
 
 -- ---- the files of a command
 
--- the named file, with its includes put in, means this program, or, with `delta`, one of which differencing makes
--- it; or it is refused so
+-- the named file, with its includes put in, means this program, or, with `delta`, one of which differencing
+-- makes it; or it is refused so
 abbrev pub IsTakenProgram : (delta : Bool) → Option Held → (name : List ℕ) → Result Program FileKind → Type 0
 IsTakenProgram false told name answer = IsProgramFile told name answer
 IsTakenProgram true told name (Ok program) = (read : Program) × IsProgramFile told name (Ok read)
@@ -44,7 +45,8 @@ GivesProgram told (Sources source initial max) answer = IsSourceFile told source
 
 -- INITIAL means these structures over the program's vocabulary, or is refused so
 abbrev pub GivesInitial : Option Held → CommandForm → Program → Result (List StructureForm) FileKind → Type 0
-GivesInitial told (Analyzes program initial max mode delta) meant answer = IsInitialFile told initial meant answer
+GivesInitial told (Analyzes program initial max mode delta) meant answer =
+    IsInitialFile told initial meant answer
 GivesInitial told (Checks program initial report mode maps delta) meant answer =
     IsInitialFile told initial meant answer
 GivesInitial told (Demos number) meant answer = MeansInitial meant lists_text answer
@@ -59,7 +61,8 @@ GivesStart told (Analyzes program initial max mode delta) meant answer = ⊥
 GivesStart told (Checks program initial report mode maps delta) meant answer = ⊥
 GivesStart told (Demos number) meant answer = ⊥
 GivesStart told (Joins program initial max mode) meant answer = ⊥
-GivesStart told (Replays program initial start trace report) meant answer = IsStartFile told start meant answer
+GivesStart told (Replays program initial start trace report) meant answer =
+    IsStartFile told start meant answer
 GivesStart told (Sources source initial max) meant answer = ⊥
 
 -- TRACE, which `replay` alone has, is this trace on the program, or is refused so
@@ -68,7 +71,8 @@ GivesTrace told (Analyzes program initial max mode delta) meant answer = ⊥
 GivesTrace told (Checks program initial report mode maps delta) meant answer = ⊥
 GivesTrace told (Demos number) meant answer = ⊥
 GivesTrace told (Joins program initial max mode) meant answer = ⊥
-GivesTrace told (Replays program initial start trace report) meant answer = IsTraceFile told trace meant answer
+GivesTrace told (Replays program initial start trace report) meant answer =
+    IsTraceFile told trace meant answer
 GivesTrace told (Sources source initial max) meant answer = ⊥
 
 -- REPORT, which `check` and `replay` have, is this report on the program, or is refused so
@@ -78,7 +82,8 @@ GivesReport told (Checks program initial report mode maps delta) meant answer =
     IsReportFile told report meant answer
 GivesReport told (Demos number) meant answer = ⊥
 GivesReport told (Joins program initial max mode) meant answer = ⊥
-GivesReport told (Replays program initial start trace report) meant answer = IsReportFile told report meant answer
+GivesReport told (Replays program initial start trace report) meant answer =
+    IsReportFile told report meant answer
 GivesReport told (Sources source initial max) meant answer = ⊥
 
 abbrev pub mode_of : CommandForm → Mode
@@ -102,15 +107,15 @@ pub record FilesMean (told : Option Held) (command : CommandForm) (task : Task) 
   pub mode : task.mode ≡ mode_of command
 
 -- START and TRACE mean something, where the command has them
-abbrev pub HasRun : Option Held → CommandForm → Program → Type 0
-HasRun told (Analyzes program initial max mode delta) meant = Unit {0}
-HasRun told (Checks program initial report mode maps delta) meant = Unit {0}
-HasRun told (Demos number) meant = Unit {0}
-HasRun told (Joins program initial max mode) meant = Unit {0}
-HasRun told (Replays program initial start trace report) meant =
+abbrev pub HasStartAndTrace : Option Held → CommandForm → Program → Type 0
+HasStartAndTrace told (Analyzes program initial max mode delta) meant = Unit {0}
+HasStartAndTrace told (Checks program initial report mode maps delta) meant = Unit {0}
+HasStartAndTrace told (Demos number) meant = Unit {0}
+HasStartAndTrace told (Joins program initial max mode) meant = Unit {0}
+HasStartAndTrace told (Replays program initial start trace report) meant =
     (s : StructureForm) × IsStartFile told start meant (Ok s)
     × ((t : Trace) × IsTraceFile told trace meant (Ok t))
-HasRun told (Sources source initial max) meant = Unit {0}
+HasStartAndTrace told (Sources source initial max) meant = Unit {0}
 
 -- the file that the program comes from
 abbrev pub program_role : CommandForm → Role
@@ -136,7 +141,7 @@ IsRefused told command role.Trace kind = (task : Task) × FilesMean told command
     × ((s : StructureForm) × GivesStart told command task.program (Ok s))
     × GivesTrace told command task.program (Err kind)
 IsRefused told command role.Report kind = (task : Task) × FilesMean told command task
-    × HasRun told command task.program × GivesReport told command task.program (Err kind)
+    × HasStartAndTrace told command task.program × GivesReport told command task.program (Err kind)
 
 -- ---- files that aren't there
 
@@ -164,7 +169,7 @@ LacksLater told (Demos number) meant = ⊥
 LacksLater told (Joins program initial max mode) meant = ⊥
 LacksLater told (Replays program initial start trace report) meant = (¬ HoldsName told start)
     ⊎ ((((s : StructureForm) × IsStartFile told start meant (Ok s)) × (¬ HoldsName told trace))
-    ⊎ (HasRun told (Replays program initial start trace report) meant × (¬ HoldsName told report)))
+    ⊎ (HasStartAndTrace told (Replays program initial start trace report) meant × (¬ HoldsName told report)))
 LacksLater told (Sources source initial max) meant = ⊥
 
 -- the first file that means nothing isn't there: an operand, or a file that PROGRAM includes and that is come
@@ -177,7 +182,8 @@ IsMissing told command = LacksProgram told command
 -- each operand that names a file is there, and so is each file that PROGRAM includes and that is come to
 -- before any refusal
 abbrev pub HoldsFiles : Option Held → CommandForm → Type 0
-HoldsFiles told (Analyzes program initial max mode delta) = (¬ LacksFile told program) × HoldsName told initial
+HoldsFiles told (Analyzes program initial max mode delta) =
+    (¬ LacksFile told program) × HoldsName told initial
 HoldsFiles told (Checks program initial report mode maps delta) =
     (¬ LacksFile told program) × HoldsName told initial × HoldsName told report
 HoldsFiles told (Demos number) = Unit {0}

@@ -1,7 +1,8 @@
 -- What the parts of the work give.
-use Rattle.std.specs.Prelude.{ℕ, ◌≡◌, ◌<◌, ◌≤◌, ◌^◌, List, length, Bool, true, false, Option, Result, Ok, Err, All}
+use Rattle.std.specs.Prelude.{ℕ, ◌≡◌, ◌<◌, ◌≤◌, ◌^◌, List, length, Bool, true, false, Option, Result, Ok, Err}
+use Rattle.std.specs.Prelude.{All}
 use Rattle.tv_delta.specs.Answers.{HasRuns}
-use Rattle.tv_difference.specs.Differences.{IsDifferenced}
+use Rattle.tv_delta_laws.specs.Differences.{IsDifferenced}
 use Rattle.tv_judge.specs.Judged.{IsRejection, StopsAt}
 use Rattle.tv_listing.specs.declared.analysis.Analysis.{Analysis}
 use Rattle.tv_model.specs.Program.{program_of}
@@ -16,17 +17,18 @@ use Rattle.tv_status.specs.declared.status.Status.{Status}
 use Rattle.tv_status.specs.declared.status.Status.TheVariants.{Done, Rejected, Stuck}
 use Rattle.tv_struct.specs.StructureForm.{IsOver, StructureForm, IsStructure}
 use Rattle.tv_texts.specs.Files.{IsProgramFile, IsSourceFile, LacksFile}
-use Rattle.tv_top.specs.Answers.{Reached, InRound, IsAccepted, IsAcceptedText, case_for, rejected_line, AreStates}
+use Rattle.tv_top.specs.Answers.{Reached, InRound, IsAccepted, IsAcceptedText, case_for, rejected_line}
+use Rattle.tv_top.specs.Answers.{AreStates}
 use Rattle.tv_top.specs.Meaning.{Task, IsTakenProgram}
 use Rattle.tv_top.specs.declared.fault.Fault.{Fault}
 use Rattle.tv_top.specs.declared.fault.Fault.TheVariants as fault
 use Rattle.tv_top.specs.declared.inputs.Inputs.{Inputs}
 use Rattle.tv_top.specs.declared.inputs.Origin.{Origin}
 use Rattle.tv_top.specs.declared.inputs.Origin.TheVariants as origin
-use Rattle.tv_transfer.specs.Budgets.{MeetsSplits, MeetsIndividuals}
-use Rattle.tv_replayed.specs.Stuck.{IsStuck}
-use Rattle.tv_replayed.specs.declared.state.State.{State}
-use Rattle.tv_states.specs.Text.{states_text, stuck_line}
+use Rattle.tv_step_laws.specs.Budgets.{MeetsSplits, MeetsIndividuals}
+use Rattle.tv_replay_laws.specs.Stuck.{IsStuck}
+use Rattle.tv_replay_laws.specs.declared.state.State.{State}
+use Rattle.tv_replay.specs.Text.{states_text, stuck_line}
 use Rattle.tv_trace.specs.declared.trace.Trace.{Trace}
 use Rattle.tv_words.specs.Words.{CommandForm, Analyzes, Checks, Demos, Joins, Replays, Sources, GoTogether}
 use Rattle.tv_work.specs.Analysed.{Meets}
@@ -59,10 +61,12 @@ HasRunsOf (origin.Source name) told program = Unit {0}
 
 -- the command's program comes from there, and this file is its INITIAL
 abbrev pub Names : CommandForm → Origin → (initial : List ℕ) → Type 0
-Names (Analyzes program initial max mode delta) (origin.Program p d) i = (program ≡ p.now) × (initial ≡ i) × (delta ≡ d)
+Names (Analyzes program initial max mode delta) (origin.Program p d) i =
+    (program ≡ p.now) × (initial ≡ i) × (delta ≡ d)
 Names (Checks program initial report mode maps delta) (origin.Program p d) i =
     (program ≡ p.now) × (initial ≡ i) × (delta ≡ d)
-Names (Joins program initial max mode) (origin.Program p d) i = (program ≡ p.now) × (initial ≡ i) × (false ≡ d)
+Names (Joins program initial max mode) (origin.Program p d) i =
+    (program ≡ p.now) × (initial ≡ i) × (false ≡ d)
 Names (Replays program initial start trace report) (origin.Program p d) i =
     (program ≡ p.now) × (initial ≡ i) × (false ≡ d)
 Names (Sources source initial max) (origin.Source s) i = (source ≡ s.now) × (initial ≡ i)
@@ -89,7 +93,7 @@ abbrev pub task_of : Inputs → Mode → Task
 task_of inputs mode = record { program = inputs.program; initial = inputs.initial; mode = mode }
 
 -- an analysis and a judgement can take it
-pub record IsReady (inputs : Inputs) : Type 0 where
+pub record AreReadyInputs (inputs : Inputs) : Type 0 where
   pub valid : IsValid (program_of inputs.program)
   pub over : All (IsOver inputs.program.vocab) inputs.initial
   pub kept : All IsStructure inputs.initial
@@ -130,13 +134,14 @@ IsJudgementCause task report fault.Memory = Unit {0}
 IsJudgementCause task report other = ⊥
 
 -- what a replay says, and its text
-abbrev pub IsRun : Task → (start : StructureForm) → Trace → Analysis → Status → List ℕ → Type 0
-IsRun task start trace report Done text =
-    (states : List State) × AreStates task start trace report states × (text ≡ states_text task.program states)
-IsRun task start trace report (Stuck step why) text =
+abbrev pub IsReplayAnswer : Task → (start : StructureForm) → Trace → Analysis → Status → List ℕ → Type 0
+IsReplayAnswer task start trace report Done text =
+    (states : List State) × AreStates task start trace report states
+    × (text ≡ states_text task.program states)
+IsReplayAnswer task start trace report (Stuck step why) text =
     IsStuck (program_of task.program) start trace.moves step why × (text ≡ stuck_line step why)
     × IsValid (program_of task.program)
-IsRun task start trace report other text = ⊥
+IsReplayAnswer task start trace report other text = ⊥
 
 -- this holds at any answer but a read fault
 abbrev pub UnlessReadFault : {T : Type 0} → Result T Fault → Type 0 → Type 0

@@ -1,39 +1,40 @@
 //! What an analysis, a judgement and a replay give, as texts.
 
-ghost use Rattle.std.specs.Prelude.{◌≡◌, None, ◌<◌, ◌≤◌, ◌^◌, ◌++◌, sum_by, length, IfOk, IfErr, OnOk, decimal};
-ghost use Rattle.tv_judge.specs.Judged.{AreMapsOf};
+ghost use Rattle.std.specs.Prelude.{◌≡◌, None, ◌<◌, ◌≤◌, ◌++◌, sum_by, length, IfOk, IfErr, OnOk};
+ghost use Rattle.std.specs.Prelude.{decimal};
 ghost use Rattle.tv_listing.specs.Listed.{IsListing};
 ghost use Rattle.tv_listing.specs.declared.analysis.Rejection.TheVariants as rejection;
 ghost use Rattle.tv_model.specs.Program.{program_of};
 ghost use Rattle.tv_model.specs.Valid.{IsValid};
 ghost use Rattle.tv_model.specs.declared.program.Mode.TheVariants.{Given};
 ghost use Rattle.tv_struct.specs.StructureForm.{IsOver};
-ghost use Rattle.tv_top.specs.Answers.{IsFound, IsJoinFound, IsAcceptedText, accepted_text, rejected_item, rejected_line, demo_line};
+ghost use Rattle.tv_top.specs.Answers.{IsFound, IsJoinFound, accepted_text, rejected_item};
+ghost use Rattle.tv_top.specs.Answers.{rejected_line, demo_line};
 ghost use Rattle.tv_top.specs.Delivery.{SaidOf};
 ghost use Rattle.tv_top.specs.declared.fault.Fault.TheVariants.{Memory};
 ghost use Rattle.tv_trace.specs.Meaning.{IsTraceOn};
 ghost use Rattle.tv_two_valued.specs.TwoValued.{IsTwoValued};
-ghost use Rattle.tv_top.specs.Work.{IsReady, IsRun, IsSearchCause, IsJoinSearchCause, IsJudged, IsJudgementCause, task_of};
+ghost use Rattle.tv_top.specs.Work.{AreReadyInputs, IsReplayAnswer, IsSearchCause, IsJoinSearchCause};
+ghost use Rattle.tv_top.specs.Work.{IsJudged, IsJudgementCause, task_of};
 
 use crate::fault::{Answer, Fault, fault_of_join, fault_of_work};
 use crate::inputs::Inputs;
-use itoa::Buffer;
 use std::alloc::{AllocError, Global};
 use tv_join::analyse_joined;
 use tv_judge::{Verdict, judge};
 use tv_listing::{Analysis, Listing, MapLines, Rejection};
 use tv_model::{Mode, Program};
-use tv_replay::replay;
-use tv_replayed::ReplayError;
+use tv_replay::{replay, write_states, write_stuck};
+use tv_replay_laws::ReplayError;
 use tv_report::write_report;
-use tv_states::{write_states, write_stuck};
 use tv_struct::Structure;
 use tv_trace::Trace;
+use tv_tvs::write_number;
 use tv_work::analyse;
 
 /// What is reached from the inputs, at most `max` structures.
 pub fn search(alloc: Global, inputs: &Inputs, mode: Mode, max: u64) -> Result<Analysis, Fault>
-    requires ready { IsReady inputs.now }
+    requires ready { AreReadyInputs inputs.now }
     requires bounded { max ≤ 100000 }
     ensures found { IfOk result (IsFound (task_of inputs.now mode) max) }
     ensures listing { IfOk result (λ a. IsListing inputs.now.program a.listing) }
@@ -52,7 +53,7 @@ pub fn search_joined(
     mode: Mode,
     max: u64,
 ) -> Result<Analysis, Fault>
-    requires ready { IsReady inputs.now }
+    requires ready { AreReadyInputs inputs.now }
     requires bounded { max ≤ 100000 }
     ensures found { IfOk result (IsJoinFound (task_of inputs.now mode) max) }
     ensures cause { IfErr result (IsJoinSearchCause (task_of inputs.now mode) max) }
@@ -61,13 +62,6 @@ pub fn search_joined(
         Ok(found) => Ok(found),
         Err(error) => Err(fault_of_join(error, max)),
     }
-}
-
-fn write_number(out: &mut Vec<u8>, n: u64) -> Result<(), AllocError>
-    ensures { OnOk result (out.new.items ≡ out.old.items ++ decimal n) }
-{
-    let mut digits = Buffer::new();
-    out.extend_from_slice(digits.format(n).as_bytes())
 }
 
 /// Appends the label and the number behind it.
@@ -167,7 +161,7 @@ pub fn judgement(
     mode: Mode,
     maps: bool,
 ) -> Result<Answer, Fault>
-    requires ready { IsReady inputs.now }
+    requires ready { AreReadyInputs inputs.now }
     requires listing { IsListing inputs.now.program report.listing }
     ensures judged { IfOk result (SaidOf (IsJudged (task_of inputs.now mode) report maps)) }
     ensures cause { IfErr result (IsJudgementCause (task_of inputs.now mode) report) }
@@ -192,13 +186,14 @@ pub fn replayed(
     trace: &Trace,
     report: &Analysis,
 ) -> Result<Answer, Fault>
-    requires ready { IsReady inputs.now }
+    requires ready { AreReadyInputs inputs.now }
     requires over { IsOver inputs.now.program.vocab start.now }
     requires unmarked { start.now.fresh ≡ None }
     requires two_valued { IsTwoValued start.now }
     requires trace { IsTraceOn inputs.now.program trace.now }
     requires listing { IsListing inputs.now.program report.now.listing }
-    ensures run { IfOk result (SaidOf (IsRun (task_of inputs.now Given) start.now trace.now report.now)) }
+    ensures run { IfOk result
+        (SaidOf (IsReplayAnswer (task_of inputs.now Given) start.now trace.now report.now)) }
     ensures cause { IfErr result (λ fault. fault ≡ Memory) }
 {
     match replay(

@@ -8,7 +8,7 @@ ghost use Rattle.tv_top.specs.declared.fault.Fault.TheVariants.{Memory};
 use std::alloc::AllocError;
 use tv_join::JoinError;
 use tv_listing::Rejection;
-use tv_replayed::Why;
+use tv_replay_laws::Why;
 use tv_status::{FileKind, Role, Status};
 use tv_struct::StageError;
 use tv_texts::TextFault;

@@ -8,7 +8,8 @@ ghost use Rattle.tv_status.specs.declared.status.Role.TheVariants as role;
 ghost use Rattle.tv_texts.specs.Files.{LacksFile, IsFileCause, UnlessNotRead};
 ghost use Rattle.tv_top.specs.Call.{IsCommandCause};
 ghost use Rattle.tv_top.specs.Meaning.{FilesMean, IsTakenProgram, mode_of};
-ghost use Rattle.tv_top.specs.Work.{Comes, HasReadRuns, HasRunsOf, IsReady, IsTakenFrom, Lacks, Names, UnlessReadFault, role_of, task_of};
+ghost use Rattle.tv_top.specs.Work.{Comes, HasReadRuns, HasRunsOf, AreReadyInputs, IsTakenFrom, Lacks, Names};
+ghost use Rattle.tv_top.specs.Work.{UnlessReadFault, role_of, task_of};
 ghost use Rattle.tv_texts.specs.declared.fault.TextFault.TheVariants.{Memory};
 ghost use Rattle.tv_words.specs.Words.{CommandForm};
 
@@ -107,7 +108,7 @@ pub fn load_inputs<F: Files>(
     ensures meant { IfOk result (λ inputs. (command : CommandForm) → Names command origin.entry initial.now
         → FilesMean (F.holds files.old) command (task_of inputs (mode_of command))) }
     ensures runs { IfOk result (λ inputs. HasRunsOf origin.entry (F.holds files.old) inputs.program) }
-    ensures ready { IfOk result IsReady }
+    ensures ready { IfOk result AreReadyInputs }
     ensures cause { IfErr result (λ fault. (command : CommandForm) → Names command origin.entry initial.now
         → IsCommandCause (F.holds files.old) command (Rose (F.faults files.old) (F.faults files.new))
         (F.steady files.old) fault) }

@@ -11,8 +11,8 @@ pub fn commands_are_bounded()
     ensures { CommandsAreBounded }
 {}
 
-/// What `analyze` wrote is accepted by `check`, where REPORT holds it, the other files and the mode are the same, and
-/// both have `--delta` or neither.
+/// What `analyze` wrote is accepted by `check`, where REPORT holds it, the other files and the mode are the
+/// same, and both have `--delta` or neither.
 pub fn reports_are_accepted()
     ensures { ReportsAreAccepted }
 {

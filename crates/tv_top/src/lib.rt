@@ -17,7 +17,7 @@ mod work;
 pub use laws::reports_are_accepted;
 use std::alloc::Global;
 use tv_outside::{Files, Sink};
-use tv_replayed::runs_have_one_ending;
+use tv_replay_laws::runs_have_one_ending;
 pub use tv_status::{FileKind, Role, Status};
 use tv_texts::one_meaning_each;
 use tv_words::one_command;
@@ -25,9 +25,9 @@ use tv_words::one_command;
 /// Does all that the program does: `words` are the words after its name.
 ///
 /// The work is done in this order: the words are read; PROGRAM is gathered and understood, or SOURCE is read
-/// and compiled; INITIAL is read and understood; for `replay` START and TRACE are, for `check` and `replay` REPORT;
-/// the analysis, the judgement or the replay runs; its text is given to `out` whole. The first fault ends the call,
-/// and its text is given to `err`.
+/// and compiled; INITIAL is read and understood; for `replay` START and TRACE are, for `check` and `replay`
+/// REPORT; the analysis, the judgement or the replay runs; its text is given to `out` whole. The first fault
+/// ends the call, and its text is given to `err`.
 pub fn tvla<F: Files, O: Sink, E: Sink>(
     alloc: Global,
     words: &[String],

@@ -7,8 +7,9 @@ ghost use Rattle.tv_top.specs.Answers.{IsAnswer};
 ghost use Rattle.tv_top.specs.Call.{IsAnswerTo, IsCause, IsCommandCause};
 ghost use Rattle.tv_top.specs.Delivery.{SaidOf};
 ghost use Rattle.tv_top.specs.Meaning.{FilesMean};
-ghost use Rattle.tv_top.specs.Work.{IsBounded, IsReady, UnlessReadFault, task_of};
-ghost use Rattle.tv_words.specs.Words.{words_of, SpellsNothing, Analyzes, Checks, Demos, Joins, Replays, Sources, GoTogether, form_of};
+ghost use Rattle.tv_top.specs.Work.{IsBounded, AreReadyInputs, UnlessReadFault, task_of};
+ghost use Rattle.tv_words.specs.Words.{words_of, SpellsNothing, Analyzes, Checks, Demos, Joins, Replays};
+ghost use Rattle.tv_words.specs.Words.{Sources, GoTogether, form_of};
 
 use crate::answers::{demo_line, judgement, replayed, search, search_joined};
 use crate::fault::{Answer, Fault};
@@ -19,7 +20,7 @@ use tv_demo::demo_texts;
 use tv_model::Mode;
 use tv_outside::Files;
 use tv_report::write_report;
-use tv_source_sound::covered_runs_cover_sources;
+use tv_source_laws::covered_runs_cover_sources;
 use tv_texts::{initial_in, load_report, load_start, load_trace, program_in};
 use tv_words::{Command, read_words};
 
@@ -96,7 +97,7 @@ fn demo_inputs(alloc: Global, number: u64) -> Result<Inputs, Fault>
     requires most { number ≤ 16 }
     ensures meant { (told : Option Held) → IfOk result (λ inputs. FilesMean told (Demos number)
         (task_of inputs Mode.Given)) }
-    ensures ready { IfOk result IsReady }
+    ensures ready { IfOk result AreReadyInputs }
     ensures cause { (told : Option Held) → IfErr result (IsCommandCause told (Demos number) ⊥ ⊥) }
 {
     let texts = demo_texts(alloc, number)?;
@@ -148,8 +149,8 @@ fn join<F: Files>(
     Ok(Answer::Done(text))
 }
 
-/// The states of the third and fourth of the named files, as a heap and a trace on what the first two mean, judged by
-/// the fifth as a report.
+/// The states of the third and fourth of the named files, as a heap and a trace on what the first two mean,
+/// judged by the fifth as a report.
 #[tactic(auto, using(crate::proofs::Causes::holds_unless))]
 fn run<F: Files>(
     alloc: Global,

@@ -1,4 +1,3 @@
-pub mod Turns
 pub mod Marks
 pub mod Traces
 pub mod Moves

@@ -1,5 +1,6 @@
 -- Steps whose structures weren't read yet, and the steps that they stand for.
-use Rattle.std.proofs.Common.{◌≡◌, ℕ, ◌≤◌, List, [], ◌∷◌, length, Option, Some, None, refl, sym, ap, ◌∙◌, inl, inr, arith}
+use Rattle.std.proofs.Common.{◌≡◌, ℕ, ◌≤◌, List, [], ◌∷◌, length, Option, Some, None, refl, sym, ap, ◌∙◌, inl}
+use Rattle.std.proofs.Common.{inr, arith}
 use Rattle.std.specs.Prelude.{Bool, codes}
 use Rattle.tv_lex.specs.Token.{SpecToken}
 use Rattle.tv_phrases.specs.Reading.{taken, ◌>>=◌}
@@ -17,6 +18,9 @@ use Rattle.tv_tvs.proofs.Complete.{struct_complete, struct_shorter, one_struct}
 use Rattle.tv_trace.specs.Tree.{StepTree}
 use Rattle.tv_trace.specs.Grammar.{ArePicks, AreValues, IsStep}
 use Rattle.tv_trace.specs.Reading.{StepMark, closed_numbers_at, picks_at, passed_at, values_at, step_at}
+use Rattle.std.specs.List.{AllZip}
+use Rattle.tv_phrases.proofs.Marks.{trees_for, marks_for}
+use Rattle.tv_lemmas.proofs.Zips.{same_partners}
 
 -- ---- picks
 
@@ -128,10 +132,7 @@ pub record IsMarked (m : StepMark) (t : StepTree) : Type 0 where
   pub values : MarksValues m.values t.values
 
 abbrev pub AreMarked : List StepMark → List StepTree → Type 0
-AreMarked [] [] = Unit {0}
-AreMarked [] (t ∷ trees) = ⊥
-AreMarked (m ∷ marks) [] = ⊥
-AreMarked (m ∷ marks) (t ∷ trees) = IsMarked m t × AreMarked marks trees
+AreMarked = AllZip IsMarked
 
 abbrev step_with : ℕ → List ℕ → Option StructTree → StepTree
 step_with edge picks values = record { edge = edge; picks = picks; values = values }
@@ -174,21 +175,15 @@ mark_of_tree ts rest t is =
 
 -- ---- lists of them
 
-pub trees_of_marks : (begins : List SpecToken → Bool) (ts rest : List SpecToken) (marks : List StepMark) → Repeated begins IsMarkedStep ts marks rest
+pub trees_of_marks : (begins : List SpecToken → Bool) (ts rest : List SpecToken) (marks : List StepMark)
+    → Repeated begins IsMarkedStep ts marks rest
     → (trees : List StepTree) × Repeated begins IsStep ts trees rest × AreMarked marks trees
-trees_of_marks begins ts rest [] are = ([], are, tt)
-trees_of_marks begins ts rest (m ∷ marks) are =
-    let one = tree_of_mark ts are.0 m are.2
-    in let others = trees_of_marks begins are.0 rest marks are.3
-    in (one.0 ∷ others.0, (are.0, are.1, one.1, others.1), (one.2, others.2))
+trees_of_marks begins = trees_for begins IsMarkedStep IsStep IsMarked tree_of_mark
 
-pub marks_of_trees : (begins : List SpecToken → Bool) (ts rest : List SpecToken) (trees : List StepTree) → Repeated begins IsStep ts trees rest
+pub marks_of_trees : (begins : List SpecToken → Bool) (ts rest : List SpecToken) (trees : List StepTree)
+    → Repeated begins IsStep ts trees rest
     → (marks : List StepMark) × Repeated begins IsMarkedStep ts marks rest × AreMarked marks trees
-marks_of_trees begins ts rest [] are = ([], are, tt)
-marks_of_trees begins ts rest (t ∷ trees) are =
-    let one = mark_of_tree ts are.0 t are.2
-    in let others = marks_of_trees begins are.0 rest trees are.3
-    in (one.0 ∷ others.0, (are.0, are.1, one.1, others.1), (one.2, others.2))
+marks_of_trees begins = marks_for begins IsMarkedStep IsStep IsMarked mark_of_tree
 
 -- ---- one tree for a mark
 
@@ -208,10 +203,4 @@ same_step m t u a b =
     ∙ ap (λ v. step_with u.edge u.picks v) (same_values m.values t.values u.values a.values b.values)
 
 pub same_steps : (marks : List StepMark) (ts us : List StepTree) → AreMarked marks ts → AreMarked marks us → ts ≡ us
-same_steps [] [] [] a b = refl
-same_steps [] [] (u ∷ us) a b = elim b [ ]
-same_steps [] (t ∷ ts) us a b = elim a [ ]
-same_steps (m ∷ marks) [] us a b = elim a [ ]
-same_steps (m ∷ marks) (t ∷ ts) [] a b = elim b [ ]
-same_steps (m ∷ marks) (t ∷ ts) (u ∷ us) a b =
-    ap (λ z. z ∷ ts) (same_step m t u a.0 b.0) ∙ ap (λ zs. u ∷ zs) (same_steps marks ts us a.1 b.1)
+same_steps = same_partners IsMarked same_step

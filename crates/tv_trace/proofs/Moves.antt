@@ -1,11 +1,12 @@
 -- Steps to moves.
-use Rattle.std.proofs.Common.{◌≡◌, ℕ, ◌<◌, true, List, [], ◌∷◌, ◌++◌, length, Option, Some, None, Result, Ok, Err, refl, sym, ap, ◌∙◌, subst, inl, inr}
+use Rattle.std.proofs.Common.{◌≡◌, ℕ, ◌<◌, true, List, [], ◌∷◌, ◌++◌, length, Option, Some, None, Result, Ok}
+use Rattle.std.proofs.Common.{Err, refl, sym, ap, ◌∙◌, subst, inl, inr}
 use Rattle.std.specs.Iterator.{Yields}
 use Rattle.std.specs.Prelude.{nat_lt}
 use Rattle.std.specs.Result.{result_ok}
 use Rattle.std.proofs.lemmas.Bool.{ltb-true, lt-ltb}
 use Rattle.std.proofs.lemmas.Option.{same_Some}
-use Rattle.tv_lex.specs.Token.{SpecToken}
+use Rattle.tv_lex.specs.Token.{SpecToken, HaveOneMeaning}
 use Rattle.tv_model.specs.declared.program.Program.{Program}
 use Rattle.tv_model.specs.declared.program.Vocab.{Vocab}
 use Rattle.tv_phrases.specs.Reading.{taken, ◌>>=◌, Told}
@@ -19,7 +20,6 @@ use Rattle.tv_tvs.specs.Reading.{structure_at}
 use Rattle.tv_tvs.specs.Tree.{StructTree}
 use Rattle.tv_tvs.specs.declared.error.TvsError.{TvsError}
 use Rattle.tv_tvs.proofs.Complete.{struct_complete}
-use Rattle.tv_trace.specs.Laws.{HaveOneMeaning}
 use Rattle.tv_trace.specs.Meaning.{AreMeant, IsMove, AreMoves, MeansTrace, IsNoTrace}
 use Rattle.tv_trace.specs.Reading.{StepMark, structure_meant, values_meant, move_meant, moves_meant, trace_at}
 use Rattle.tv_trace.specs.Tree.{StepTree}
@@ -27,22 +27,6 @@ use Rattle.tv_trace.specs.declared.trace.Move.{Move}
 use Rattle.tv_trace.specs.declared.trace.Trace.{Trace}
 use Rattle.tv_trace.proofs.Marks.{IsMarked, AreMarked, MarksValues}
 use Rattle.tv_trace.proofs.Traces.{trace_sound, trace_read, one_trace}
-
--- ---- what calls of an iterator have given, and what is left
-module _ {S A : Type 0} (steps : S → Option A → S → Type 0) (left : S → List A) (one : (s t : S) (x : A) → steps s (Some x) t → left s ≡ x ∷ left t) where
-  yielded_left : (s t : S) (xs : List A) → Yields steps s xs t → left s ≡ xs ++ left t
-  yielded_left s t [] y = ap left y
-  yielded_left s t (x ∷ xs) y = one s y.0 x y.1 ∙ ap (λ zs. x ∷ zs) (yielded_left y.0 t xs y.2)
-
-  pub yielded_split : (all : List A) (s t u : S) (xs : List A) (x : A) (r : Option A) → left s ≡ all → Yields steps s xs t → r ≡ Some x → steps t r u
-      → all ≡ xs ++ x ∷ left u
-  yielded_split all s t u xs x r start y is step =
-      sym start ∙ yielded_left s t xs y ∙ ap (λ zs. xs ++ zs) (one t u x (subst (λ o. steps t o u) is step))
-
--- what is told of a fault, in other words
-pub told_so : (e : PhraseError) (A B : Type 0) → (A → B) → Told e A → Told e B
-told_so (Unexpected at) A B so a = so a
-told_so Memory A B so a = tt
 
 -- ---- lists of moves
 
@@ -209,7 +193,7 @@ no_moves program ts marks is none trace means =
     in let marked : AreMarked marks means.steps = subst (λ ms. AreMarked ms means.steps) same read.2
     in none_some (List Move) ⊥ trace.moves (sym none ∙ moves_back program marks means.steps trace.moves marked means.moves)
 
-pub one_meaning : HaveOneMeaning
+pub one_meaning : (program : Program) → HaveOneMeaning (MeansTrace program)
 one_meaning program tokens a b left right =
     let read = trace_read tokens left.steps left.are
     in let same : left.steps ≡ right.steps = one_trace tokens left.steps right.steps left.are right.are

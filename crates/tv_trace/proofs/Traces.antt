@@ -3,16 +3,16 @@ use Rattle.std.proofs.Common.{◌≡◌, ◌+◌, true, List, [], ◌∷◌, len
 use Rattle.std.specs.Prelude.{codes, ◌==◌}
 use Rattle.std.proofs.lemmas.Bool.{eqb-true}
 use Rattle.std.proofs.lemmas.Option.{same_Some, cond_some}
-use Rattle.tv_lex.specs.Token.{SpecToken}
+use Rattle.tv_lex.specs.Token.{SpecToken, HaveOneMeaning}
 use Rattle.tv_phrases.specs.Reading.{taken}
 use Rattle.tv_phrases.specs.Repeated.{Repeated, begins_with}
 use Rattle.tv_phrases.proofs.Values.{bind_some}
 use Rattle.tv_phrases.proofs.Repeats.{many_sound, many_read}
 use Rattle.tv_trace.specs.Grammar.{IsStep, IsTrace}
-use Rattle.tv_trace.specs.Laws.{HaveOneReading}
 use Rattle.tv_trace.specs.Reading.{StepMark, step_at, steps_at, trace_at}
 use Rattle.tv_trace.specs.Tree.{StepTree}
-use Rattle.tv_trace.proofs.Marks.{IsMarkedStep, AreMarked, step_sound, step_read, trees_of_marks, marks_of_trees, same_steps}
+use Rattle.tv_trace.proofs.Marks.{IsMarkedStep, AreMarked, step_sound, step_read, trees_of_marks}
+use Rattle.tv_trace.proofs.Marks.{marks_of_trees, same_steps}
 
 none_left : (ts : List SpecToken) → (length ts == 0) ≡ true → ts ≡ []
 none_left [] e = refl
@@ -40,7 +40,7 @@ trace_read ts steps is =
     = (many_read (begins_with (codes "step")) step_at IsMarkedStep step_read marks.0 ts [] marks.1 (length ts + 1) (omega arith)).0
     in (marks.0, rw read refl, marks.2)
 
-pub one_trace : HaveOneReading
+pub one_trace : HaveOneMeaning IsTrace
 one_trace tokens a b left right =
     let first = trace_read tokens a left
     in let second = trace_read tokens b right

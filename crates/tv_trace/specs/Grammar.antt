@@ -1,5 +1,6 @@
--- The grammar of traces. `{ }` is any number of times, `[ ]` is optional; a comma list of X is X, then any number of `,` X.
--- What is optional or repeated is taken exactly where the token at its place can begin it. (Structures: `tv_tvs`.)
+-- The grammar of traces. `{ }` is any number of times, `[ ]` is optional; a comma list of X is X, then any
+-- number of `,` X. What is optional or repeated is taken exactly where the token at its place can begin it.
+-- (Structures: `tv_tvs`.)
 --
 --   Trace = {Step}
 --   Step  = `step` number [`(` [comma list of numbers] `)`] [`free` structure]
@@ -19,7 +20,8 @@ use Rattle.tv_trace.specs.Tree.{StepTree}
 abbrev pub ArePicks : List SpecToken → List ℕ → List SpecToken → Type 0
 ArePicks ts picks rest =
     ((after (codes "(") ts ≡ None) × (picks ≡ []) × (rest ≡ ts))
-    ⊎ ((us vs : List SpecToken) × (after (codes "(") ts ≡ Some us) × (optional_list number_item us ≡ taken picks vs)
+    ⊎ ((us vs : List SpecToken) × (after (codes "(") ts ≡ Some us)
+    × (optional_list number_item us ≡ taken picks vs)
     × (after (codes ")") vs ≡ Some rest))
 
 -- nothing where no `free` stands, else `free` and a structure

@@ -1,8 +1,6 @@
 -- What a trace means: moves on a program.
-use Rattle.std.specs.Prelude.{ℕ, ◌≡◌, ◌<◌, List, [], ◌∷◌, length, Ok, Option, Some, None, All, IfSome, ⊤}
-use Rattle.tv_lex.specs.Places.{IsTokenPlace}
+use Rattle.std.specs.Prelude.{⊤, ◌≡◌, ◌<◌, List, [], ◌∷◌, length, Ok, Option, Some, None, All, IfSome}
 use Rattle.tv_lex.specs.Token.{SpecToken}
-use Rattle.tv_lex.specs.declared.token.Token.{Token}
 use Rattle.tv_model.specs.declared.program.Program.{Program}
 use Rattle.tv_model.specs.declared.program.Vocab.{Vocab}
 use Rattle.tv_struct.specs.StructureForm.{StructureForm}
@@ -11,8 +9,6 @@ use Rattle.tv_tvs.specs.Targets.{IsRead}
 use Rattle.tv_tvs.specs.Tree.{StructTree}
 use Rattle.tv_trace.specs.Grammar.{IsTrace}
 use Rattle.tv_trace.specs.Tree.{StepTree}
-use Rattle.tv_trace.specs.declared.error.TraceError.{TraceError}
-use Rattle.tv_trace.specs.declared.error.TraceError.TheVariants.{TraceForm, Memory}
 use Rattle.tv_trace.specs.declared.trace.Move.{Move}
 use Rattle.tv_trace.specs.declared.trace.Trace.{Trace}
 
@@ -46,16 +42,6 @@ pub record MeansTrace (program : Program) (tokens : List SpecToken) (trace : Tra
 -- the tokens are no trace on the program
 abbrev pub IsNoTrace : Program → List SpecToken → Type 0
 IsNoTrace program tokens = (trace : Trace) → ¬ MeansTrace program tokens trace
-
--- why there is no trace
-abbrev pub IsCause : Program → List SpecToken → TraceError → Type 0
-IsCause program tokens (TraceForm place) = IsNoTrace program tokens
-IsCause program tokens Memory = ⊤
-
--- the place that is told is that of the start of one of the tokens, or of the end of the text
-abbrev pub StopsAtToken : List ℕ → List Token → TraceError → Type 0
-StopsAtToken text tokens (TraceForm place) = IsTokenPlace text tokens place
-StopsAtToken text tokens Memory = ⊤
 
 -- an edge of the program, and, where there is one, a structure over the vocabulary without a mark
 abbrev pub IsMoveOn : Program → Vocab → Move → Type 0

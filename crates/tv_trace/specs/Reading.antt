@@ -1,6 +1,7 @@
--- The reader of traces, as functions on lists of tokens. Structures are passed over at first, and their tokens kept. That
--- the functions read what the grammar says is proved.
-use Rattle.std.specs.Prelude.{ℕ, List, [], ◌∷◌, Option, Some, None, length, nat_lt, ◌==◌, if◌then◌else◌, codes}
+-- The reader of traces, as functions on lists of tokens. Structures are passed over at first, and their
+-- tokens kept. That the functions read what the grammar says is proved.
+use Rattle.std.specs.Prelude.{ℕ, List, [], ◌∷◌, Option, Some, None, length, nat_lt, ◌==◌, if◌then◌else◌}
+use Rattle.std.specs.Prelude.{codes}
 use Rattle.tv_lex.specs.Token.{SpecToken}
 use Rattle.tv_model.specs.declared.program.Program.{Program}
 use Rattle.tv_model.specs.declared.program.Vocab.{Vocab}
@@ -62,7 +63,8 @@ values_meant vocab (Some ts) = structure_meant vocab ts >>= λ s. Some (Some s)
 unfoldable pub move_meant : Program → Vocab → StepMark → Option Move
 move_meant program vocab m =
     if nat_lt m.edge (length program.edges)
-    then (values_meant vocab m.values >>= λ values. Some (record { edge = m.edge; picks = m.picks; values = values })) else None
+    then (values_meant vocab m.values >>= λ values. Some
+    (record { edge = m.edge; picks = m.picks; values = values })) else None
 
 unfoldable pub moves_meant : Program → Vocab → List StepMark → Option (List Move)
 moves_meant program vocab [] = Some []

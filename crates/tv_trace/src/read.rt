@@ -1,24 +1,24 @@
 //! Texts of traces to traces.
 
 ghost use Rattle.std.specs.Prelude.{◌≡◌, ◌≤◌, All, IfOk, IfErr, IfSome, length, nat_lt};
+ghost use Rattle.tv_lex.specs.Places.{StopsAtToken};
 ghost use Rattle.tv_lex.specs.Pieces.{AreInOrder};
 ghost use Rattle.tv_lex.specs.Token.{spec_tokens};
 ghost use Rattle.tv_model.specs.Program.{program_of};
 ghost use Rattle.tv_model.specs.Valid.{IsValid};
-ghost use Rattle.tv_phrases.specs.Reading.{Gives, Told};
-ghost use Rattle.tv_tvs.specs.Reading.{structure_at};
+ghost use Rattle.tv_phrases.specs.Reading.{GivesReading, Told};
 ghost use Rattle.tv_tvs.specs.Targets.{IsRead};
-ghost use Rattle.tv_trace.specs.Meaning.{IsTraceOn, IsMoveOn, MeansTrace, IsNoTrace, IsCause, StopsAtToken};
+ghost use Rattle.tv_phrases.specs.Refused.{IsUnread, form_place};
+ghost use Rattle.tv_trace.specs.Meaning.{IsTraceOn, IsMoveOn, MeansTrace, IsNoTrace};
 ghost use Rattle.tv_trace.specs.Reading.{structure_meant, values_meant, move_meant, moves_meant};
 ghost use Rattle.tv_trace.specs.Views.{values_mark, step_mark, step_marks};
 
-use crate::error::TraceError;
 use crate::syntax::{StepText, trace};
 use crate::trace::{Move, Moves, Trace};
 use std::alloc::Global;
 use tv_lex::{Token, Tokens, stop_place};
 use tv_model::{Items, Program};
-use tv_phrases::PhraseError;
+use tv_phrases::{FormError, PhraseError};
 use tv_struct::Structure;
 use tv_tvs::StructureReader;
 
@@ -31,7 +31,8 @@ fn structure<'a>(
     tokens: &[Token],
     step: &'a [Token],
 ) -> Result<Structure, PhraseError<'a>>
-    ensures value { Gives (λ s. s) result (structure_meant reader.now (spec_tokens bytes.now tokens.now)) }
+    ensures value { GivesReading (λ s. s) result
+        (structure_meant reader.now (spec_tokens bytes.now tokens.now)) }
     ensures kept { IfOk result (IsRead reader.now) }
 {
     match reader.take_structure(alloc, bytes, tokens) {
@@ -50,7 +51,8 @@ fn values<'a>(
     tokens: Option<&[Token]>,
     step: &'a [Token],
 ) -> Result<Option<Structure>, PhraseError<'a>>
-    ensures value { Gives (λ v. v) result (values_meant reader.now (values_mark bytes.now tokens.entry)) }
+    ensures value { GivesReading (λ v. v) result
+        (values_meant reader.now (values_mark bytes.now tokens.entry)) }
     ensures kept { IfOk result (λ v. IfSome v (IsRead reader.now)) }
 {
     match tokens {
@@ -78,7 +80,8 @@ fn one_move<'a>(
     bytes: &[u8],
     step: StepText<'a>,
 ) -> Result<Move, PhraseError<'a>>
-    ensures value { Gives (λ m. m) result (move_meant program.now reader.now (step_mark bytes.now step.entry)) }
+    ensures value { GivesReading (λ m. m) result
+        (move_meant program.now reader.now (step_mark bytes.now step.entry)) }
     ensures kept { IfOk result (IsMoveOn program.now reader.now) }
 {
     let StepText {
@@ -106,7 +109,7 @@ fn moves<'a>(
     bytes: &[u8],
     steps: Vec<StepText<'a>>,
 ) -> Result<Moves, PhraseError<'a>>
-    ensures value { Gives (λ ms. ms) result
+    ensures value { GivesReading (λ ms. ms) result
         (moves_meant program.now reader.now (step_marks bytes.now steps.entry.items)) }
     ensures kept { IfOk result (All (IsMoveOn program.now reader.now)) }
 {
@@ -140,28 +143,29 @@ fn trace_of<'a>(
 /// text is read first, then its steps in order. No individual of a structure is marked as fresh.
 ///
 /// # Errors
-/// `TraceForm` where the tokens are no trace on the program, with the place of the start of a token or of
+/// `Form` where the tokens are no trace on the program, with the place of the start of a token or of
 /// the end of the text; `Memory` where there was none for the trace.
 pub fn read_trace(
     alloc: Global,
     program: &Program,
     bytes: &[u8],
     tokens: &Tokens,
-) -> Result<Trace, TraceError>
+) -> Result<Trace, FormError>
     requires valid { IsValid (program_of program.now) }
     requires size { length bytes.now ≤ 67108864 }
     requires order { AreInOrder 0 tokens.now.list.items (length bytes.now) }
     ensures meant { IfOk result (MeansTrace program.now (spec_tokens bytes.now tokens.now.list.items)) }
     ensures kept { IfOk result (IsTraceOn program.now) }
-    ensures fault { IfErr result (IsCause program.now (spec_tokens bytes.now tokens.now.list.items)) }
-    ensures place { IfErr result (StopsAtToken bytes.now tokens.now.list.items) }
+    ensures fault { IfErr result
+        (IsUnread (IsNoTrace program.now (spec_tokens bytes.now tokens.now.list.items))) }
+    ensures place { IfErr result (StopsAtToken form_place bytes.now tokens.now.list.items) }
 {
     let list = tokens.list.as_slice();
     match trace_of(alloc, program, bytes, list) {
         Ok(found) => Ok(found),
         Err(PhraseError::Unexpected(rest)) => {
-            Err(TraceError::TraceForm(stop_place(bytes, list, rest)))
+            Err(FormError::Form(stop_place(bytes, list, rest)))
         }
-        Err(PhraseError::Memory) => Err(TraceError::Memory),
+        Err(PhraseError::Memory) => Err(FormError::Memory),
     }
 }

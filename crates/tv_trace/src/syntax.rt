@@ -1,16 +1,19 @@
 //! Tokens to steps whose structures aren't read yet.
 
-ghost use Rattle.std.specs.Prelude.{◌≡◌};
+ghost use Rattle.std.specs.Prelude.{◌≡◌, codes};
 ghost use Rattle.tv_lex.specs.Token.{spec_tokens};
-ghost use Rattle.tv_phrases.specs.Reading.{Gives};
+ghost use Rattle.tv_phrases.specs.Reading.{GivesReading};
 ghost use Rattle.tv_phrases.specs.Repeated.{begins_with};
-ghost use Rattle.tv_trace.specs.Reading.{closed_numbers_at, picks_at, passed_at, values_at, step_at, steps_at, trace_at};
+ghost use Rattle.tv_trace.specs.Reading.{StepMark, closed_numbers_at, picks_at, passed_at, values_at};
+ghost use Rattle.tv_trace.specs.Reading.{step_at, trace_at};
 ghost use Rattle.tv_trace.specs.Views.{values_mark, step_mark, step_marks};
 
 use std::alloc::Global;
 use tv_lex::Token;
 use tv_model::Items;
-use tv_phrases::{PhraseError, after, expect, number, optional_numbers};
+use tv_phrases::{
+    Part, PhraseError, Read, after, all_parts, begins_with, expect, number, optional_numbers,
+};
 use tv_struct::Numbers;
 use tv_tvs::skip_structure;
 
@@ -23,20 +26,10 @@ pub(crate) struct StepText<'a> {
     pub values: Option<&'a [Token]>,
 }
 
-/// A part of the text and the tokens behind it, or why it isn't there.
-type Read<'a, X> = Result<(X, &'a [Token]), PhraseError<'a>>;
-
-/// Whether the first token is spelled like the mark.
-fn begins_with(bytes: &[u8], tokens: &[Token], mark: &[u8]) -> bool
-    ensures { result ≡ begins_with mark.now (spec_tokens bytes.now tokens.now) }
-{
-    after(bytes, tokens, mark).is_some()
-}
-
 /// Numbers and `)`.
 #[tactic(auto, unfolding(crate::specs::Reading::closed_numbers_at))]
 fn closed_numbers<'a>(alloc: Global, bytes: &[u8], tokens: &'a [Token]) -> Read<'a, Numbers>
-    ensures { Gives (λ x. (x.0, spec_tokens bytes.now x.1.now)) result
+    ensures { GivesReading (λ x. (x.0, spec_tokens bytes.now x.1.now)) result
         (closed_numbers_at (spec_tokens bytes.now tokens.now)) }
 {
     let (numbers, end) = optional_numbers(alloc, bytes, tokens)?;
@@ -47,7 +40,7 @@ fn closed_numbers<'a>(alloc: Global, bytes: &[u8], tokens: &'a [Token]) -> Read<
 /// Numbers in parentheses, or nothing.
 #[tactic(auto, unfolding(crate::specs::Reading::picks_at))]
 fn picks<'a>(alloc: Global, bytes: &[u8], tokens: &'a [Token]) -> Read<'a, Numbers>
-    ensures { Gives (λ x. (x.0, spec_tokens bytes.now x.1.now)) result
+    ensures { GivesReading (λ x. (x.0, spec_tokens bytes.now x.1.now)) result
         (picks_at (spec_tokens bytes.now tokens.now)) }
 {
     match after(bytes, tokens, b"(") {
@@ -59,7 +52,7 @@ fn picks<'a>(alloc: Global, bytes: &[u8], tokens: &'a [Token]) -> Read<'a, Numbe
 /// A structure that is passed over.
 #[tactic(auto, unfolding(crate::specs::Reading::passed_at))]
 fn passed<'a>(alloc: Global, bytes: &[u8], tokens: &'a [Token]) -> Read<'a, Option<&'a [Token]>>
-    ensures { Gives (λ x. (values_mark bytes.now x.0, spec_tokens bytes.now x.1.now)) result
+    ensures { GivesReading (λ x. (values_mark bytes.now x.0, spec_tokens bytes.now x.1.now)) result
         (passed_at (spec_tokens bytes.now tokens.now)) }
 {
     let rest = skip_structure(alloc, bytes, tokens)?;
@@ -69,7 +62,7 @@ fn passed<'a>(alloc: Global, bytes: &[u8], tokens: &'a [Token]) -> Read<'a, Opti
 /// `free` and a structure, or nothing.
 #[tactic(auto, unfolding(crate::specs::Reading::values_at))]
 fn values<'a>(alloc: Global, bytes: &[u8], tokens: &'a [Token]) -> Read<'a, Option<&'a [Token]>>
-    ensures { Gives (λ x. (values_mark bytes.now x.0, spec_tokens bytes.now x.1.now)) result
+    ensures { GivesReading (λ x. (values_mark bytes.now x.0, spec_tokens bytes.now x.1.now)) result
         (values_at (spec_tokens bytes.now tokens.now)) }
 {
     match after(bytes, tokens, b"free") {
@@ -80,7 +73,7 @@ fn values<'a>(alloc: Global, bytes: &[u8], tokens: &'a [Token]) -> Read<'a, Opti
 
 #[tactic(auto, unfolding(crate::specs::Reading::step_at))]
 fn step<'a>(alloc: Global, bytes: &[u8], tokens: &'a [Token]) -> Read<'a, StepText<'a>>
-    ensures { Gives (λ x. (step_mark bytes.now x.0, spec_tokens bytes.now x.1.now)) result
+    ensures { GivesReading (λ x. (step_mark bytes.now x.0, spec_tokens bytes.now x.1.now)) result
         (step_at (spec_tokens bytes.now tokens.now)) }
 {
     let inside = expect(bytes, tokens, b"step")?;
@@ -96,22 +89,24 @@ fn step<'a>(alloc: Global, bytes: &[u8], tokens: &'a [Token]) -> Read<'a, StepTe
     Ok((found, rest))
 }
 
-/// Steps, for as long as one begins.
-fn steps<'a>(alloc: Global, bytes: &[u8], tokens: &'a [Token]) -> Read<'a, Vec<StepText<'a>>>
-    ensures { Gives (λ x. (step_marks bytes.now x.0.items, spec_tokens bytes.now x.1.now)) result
-        (steps_at (spec_tokens bytes.now tokens.now)) }
-{
-    let mut list = Vec::new(alloc);
-    let mut rest = tokens;
-    for _ in 0..tokens.len() + 1 {
-        if !begins_with(bytes, rest, b"step") {
-            return Ok((list, rest));
-        }
-        let (found, behind) = step(alloc, bytes, rest)?;
-        list.push(found)?;
-        rest = behind;
+impl<'a> Part<'a> for StepText<'a> {
+    ghost Tree = { StepMark };
+
+    ghost starts = { begins_with (codes "step") };
+
+    ghost part_at = { step_at };
+
+    ghost tree = { step_mark };
+
+    fn begins(bytes: &[u8], tokens: &[Token]) -> bool
+        ensures { result ≡ begins_with (codes "step") (spec_tokens bytes.now tokens.now) }
+    {
+        begins_with(bytes, tokens, b"step")
     }
-    Err(PhraseError::Unexpected(rest))
+
+    fn read(alloc: Global, bytes: &[u8], tokens: &'a [Token]) -> Read<'a, StepText<'a>> {
+        step(alloc, bytes, tokens)
+    }
 }
 
 /// The steps of all the tokens.
@@ -121,9 +116,10 @@ pub(crate) fn trace<'a>(
     bytes: &[u8],
     tokens: &'a [Token],
 ) -> Result<Vec<StepText<'a>>, PhraseError<'a>>
-    ensures { Gives (λ x. step_marks bytes.now x.items) result (trace_at (spec_tokens bytes.now tokens.now)) }
+    ensures { GivesReading (λ x. step_marks bytes.now x.items) result
+        (trace_at (spec_tokens bytes.now tokens.now)) }
 {
-    let (list, rest) = steps(alloc, bytes, tokens)?;
+    let (list, rest) = all_parts::<StepText<'a>>(alloc, bytes, tokens)?;
     if rest.is_empty() {
         Ok(list)
     } else {

@@ -1,13 +1,19 @@
 -- Texts of tokens and lines, put together.
-use Rattle.std.proofs.Common.{◌≡◌, ℕ, suc, ◌+◌, ◌-◌, ◌<◌, ◌≤◌, List, [], ◌∷◌, ◌++◌, length, take, drop, get_or, refl, sym, ◌∙◌, ap, append_assoc, arith, length-append, add-one, drop-cons, map}
+use Rattle.std.proofs.Common.{◌≡◌, ℕ, suc, ◌+◌, ◌-◌, ◌<◌, ◌≤◌, List, [], ◌∷◌, ◌++◌, length, take, drop}
+use Rattle.std.proofs.Common.{get_or, refl, sym, ◌∙◌, ap, append_assoc, arith, length-append, add-one}
+use Rattle.std.proofs.Common.{drop-cons, map}
 use Rattle.std.specs.List.{flat_map}
 use Rattle.std.specs.Prelude.{codes}
 use Rattle.std.proofs.lemmas.List.{drop_more, drop_all}
 use Rattle.std.proofs.lemmas.List.Concat.{flat_map-cons}
 use Rattle.std.proofs.Math.Seq.{take-append-add}
 use Rattle.std.proofs.lemmas.Grind.{common_steps}
-use Rattle.tv_tree.specs.Printed.{sign_token, set_tokens, steps_tokens, spaced, ended, line_text, text_of_lines, more_tokens, joined_tokens, one_token, prop_token, formula_tokens, piece_tokens, nest_lines, nests_lines, decl_tokens, update_tokens, part_lines, action_lines, edge_lines}
-use Rattle.tv_tree.specs.Copies.{joined_set, term_of, step_of, set_of, form_of, piece_of, decl_of, nests, update_of, part_of, action_of, edge_of}
+use Rattle.tv_tree.specs.Printed.{sign_token, set_tokens, steps_tokens, spaced, ended, line_text}
+use Rattle.tv_tree.specs.Printed.{text_of_lines, more_tokens, joined_tokens, one_token, prop_token}
+use Rattle.tv_tree.specs.Printed.{formula_tokens, piece_tokens, nest_lines, nests_lines, decl_tokens}
+use Rattle.tv_tree.specs.Printed.{update_tokens, part_lines, action_lines, edge_lines}
+use Rattle.tv_tree.specs.Copies.{joined_set, term_of, step_of, set_of, form_of, piece_of, decl_of, nests}
+use Rattle.tv_tree.specs.Copies.{update_of, part_of, action_of, edge_of}
 use Rattle.tv_tree.specs.Forms.{SetForm, SPlus, SMinus}
 use Rattle.tv_tree.specs.declared.trees.SetSign.{SetSign}
 use Rattle.tv_tree.specs.declared.trees.SetSign.TheVariants as sign

@@ -1,7 +1,10 @@
 -- What the plain data of each declaration and update is.
 use Rattle.std.proofs.Common.{◌≡◌, List, map, sym, ◌∙◌, ap}
-use Rattle.tv_tree.specs.Forms.{SetForm, SNamed, SMembers, SParen, Nest, Single, Foreach, Nests, DeclForm, DSet, DPred, DRule, UpdateForm}
-use Rattle.tv_tree.specs.Copies.{name_of, joined_set, term_of, step_of, set_of, term_step, further_step, set_step, form_of, pred_of, nests, decl_of, decls_of, decl_step, decls_step, single_of, update_of, updates_of, update_step, updates_step}
+use Rattle.tv_tree.specs.Forms.{SetForm, SNamed, SMembers, SParen, Nest, Single, Foreach, Nests, DeclForm}
+use Rattle.tv_tree.specs.Forms.{DSet, DPred, DRule, UpdateForm}
+use Rattle.tv_tree.specs.Copies.{name_of, joined_set, term_of, step_of, set_of, term_step, further_step}
+use Rattle.tv_tree.specs.Copies.{set_step, form_of, pred_of, nests, decl_of, decls_of, decl_step, decls_step}
+use Rattle.tv_tree.specs.Copies.{single_of, update_of, updates_of, update_step, updates_step}
 use Rattle.tv_tree.specs.declared.trees.Name.{Name}
 use Rattle.std.specs.Prelude.{ℕ}
 use Rattle.std.specs.declared.boxed.Box.{Box}
@@ -10,7 +13,8 @@ use Rattle.tv_tree.specs.declared.trees.SetSign.{SetSign}
 use Rattle.tv_tree.specs.declared.trees.SetTerm.{SetTerm}
 use Rattle.tv_tree.specs.declared.trees.SetTerm.TheVariants as one
 use Rattle.tv_tree.specs.declared.trees.SetTerm.TheOpen as set
-use Rattle.tv_tree.specs.declared.trees.SetTerm.TheFolds.{fold-roll-SetTerm, fold_out-SetStep, fold_out-SetTree}
+use Rattle.tv_tree.specs.declared.trees.SetTerm.TheFolds.{fold-roll-SetTerm, fold_out-SetStep}
+use Rattle.tv_tree.specs.declared.trees.SetTerm.TheFolds.{fold_out-SetTree}
 use Rattle.tv_tree.specs.declared.trees.SetStep.{SetStep}
 use Rattle.tv_tree.specs.declared.trees.SetTree.{SetTree, out-SetTree}
 use Rattle.tv_tree.specs.declared.trees.FormulaTree.{FormulaTree}

@@ -1,6 +1,11 @@
 -- The plain data that each tree of the code stands for.
 use Rattle.std.specs.Prelude.{ℕ, List, [], ◌∷◌, Option, Some, None, map}
-use Rattle.tv_tree.specs.Forms.{NameForm, SetForm, SNamed, SMembers, SParen, SPlus, SMinus, Form, FZero, FOne, FHalf, FSame, FDiffer, FAtom, FStar, FPlus, FParen, FNot, FAnd, FOr, FImp, FIff, FCond, FExists, FForall, FTc, PredForm, Nest, Single, Foreach, Nests, no_nest, with_nest, DeclForm, DSet, DPred, DRule, PieceForm, Quoted, Spelled, UpdateForm, PartForm, PCaption, PFocus, PPre, PMessage, PNew, PRetain, PBlock, ActionForm, EdgeForm, ProgramForm}
+use Rattle.tv_tree.specs.Forms.{NameForm, SetForm, SNamed, SMembers, SParen, SPlus, SMinus, Form, FZero, FOne}
+use Rattle.tv_tree.specs.Forms.{FHalf, FSame, FDiffer, FAtom, FStar, FPlus, FParen, FNot, FAnd, FOr, FImp}
+use Rattle.tv_tree.specs.Forms.{FIff, FCond, FExists, FForall, FTc, PredForm, Nest, Single, Foreach, Nests}
+use Rattle.tv_tree.specs.Forms.{no_nest, with_nest, DeclForm, DSet, DPred, DRule, PieceForm, Quoted, Spelled}
+use Rattle.tv_tree.specs.Forms.{UpdateForm, PartForm, PCaption, PFocus, PPre, PMessage, PNew, PRetain, PBlock}
+use Rattle.tv_tree.specs.Forms.{ActionForm, EdgeForm, ProgramForm}
 use Rattle.tv_tree.specs.declared.trees.Name.{Name}
 use Rattle.tv_tree.specs.declared.trees.SetSign.{SetSign}
 use Rattle.tv_tree.specs.declared.trees.SetSign.TheVariants as sign
@@ -10,7 +15,9 @@ use Rattle.tv_tree.specs.declared.trees.SetTerm.TheFolds.{fold-SetTerm, fold-Set
 use Rattle.tv_tree.specs.declared.trees.SetStep.{SetStep}
 use Rattle.tv_tree.specs.declared.trees.SetTree.{SetTree}
 use Rattle.tv_tree.specs.declared.trees.FormulaTree.{FormulaTree}
-use Rattle.tv_tree.specs.declared.trees.FormulaTree.TheVariants.{Zero, One, Half, Same, Differ, Atom, Star, Plus, Paren', Not', And', Or', Imp', Iff', Cond', Exists', Forall', Tc'}
+use Rattle.tv_tree.specs.declared.trees.FormulaTree.TheVariants.{Zero, One, Half, Same, Differ, Atom, Star}
+use Rattle.tv_tree.specs.declared.trees.FormulaTree.TheVariants.{Plus, Paren', Not', And', Or', Imp', Iff'}
+use Rattle.tv_tree.specs.declared.trees.FormulaTree.TheVariants.{Cond', Exists', Forall', Tc'}
 use Rattle.tv_tree.specs.declared.trees.PredDecl.{PredDecl}
 use Rattle.tv_tree.specs.declared.trees.RuleDecl.{RuleDecl}
 use Rattle.tv_tree.specs.declared.trees.Decl.{Decl}
@@ -141,4 +148,10 @@ abbrev pub edge_of : EdgeTree → EdgeForm
 edge_of e = record { from = e.from; action = e.action; arguments = e.arguments; to = e.to }
 
 abbrev pub program_of : Tree → ProgramForm
-program_of t = record { decls = decls_of t.decls; actions = map action_of t.actions; edges = map edge_of t.edges; tail = t.tail }
+program_of t =
+    record {
+      decls = decls_of t.decls;
+      actions = map action_of t.actions;
+      edges = map edge_of t.edges;
+      tail = t.tail;
+    }

@@ -1,4 +1,5 @@
--- The trees of a program as plain data: what clauses compare, where a tree of the code holds boxes and vectors.
+-- The trees of a program as plain data: what clauses compare, where a tree of the code holds boxes and
+-- vectors.
 use Rattle.std.specs.Prelude.{ℕ, List, Option}
 use Rattle.tv_tree.specs.declared.trees.PropWord.{PropWord}
 

@@ -1,11 +1,18 @@
 -- The text of a program: its tokens in order, line by line.
 use Rattle.std.specs.Prelude.{ℕ, ◌-◌, List, [], ◌∷◌, ◌++◌, Option, Some, None, take, length, codes, map}
 use Rattle.std.specs.List.{flat_map}
-use Rattle.tv_tree.specs.Forms.{NameForm, SetForm, SNamed, SMembers, SParen, SPlus, SMinus, Form, FZero, FOne, FHalf, FSame, FDiffer, FAtom, FStar, FPlus, FParen, FNot, FAnd, FOr, FImp, FIff, FCond, FExists, FForall, FTc, PredForm, Nest, Single, Foreach, Nests, no_nest, with_nest, DeclForm, DSet, DPred, DRule, PieceForm, Quoted, Spelled, UpdateForm, PartForm, PCaption, PFocus, PPre, PMessage, PNew, PRetain, PBlock, ActionForm, EdgeForm, ProgramForm}
+use Rattle.tv_tree.specs.Forms.{NameForm, SetForm, SNamed, SMembers, SParen, SPlus, SMinus, Form, FZero, FOne}
+use Rattle.tv_tree.specs.Forms.{FHalf, FSame, FDiffer, FAtom, FStar, FPlus, FParen, FNot, FAnd, FOr, FImp}
+use Rattle.tv_tree.specs.Forms.{FIff, FCond, FExists, FForall, FTc, PredForm, Nest, Single, Foreach, Nests}
+use Rattle.tv_tree.specs.Forms.{no_nest, with_nest, DeclForm, DSet, DPred, DRule, PieceForm, Quoted, Spelled}
+use Rattle.tv_tree.specs.Forms.{UpdateForm, PartForm, PCaption, PFocus, PPre, PMessage, PNew, PRetain, PBlock}
+use Rattle.tv_tree.specs.Forms.{ActionForm, EdgeForm, ProgramForm}
 use Rattle.tv_tree.specs.declared.trees.SetSign.{SetSign}
 use Rattle.tv_tree.specs.declared.trees.SetSign.TheVariants as sign
 use Rattle.tv_tree.specs.declared.trees.PropWord.{PropWord}
-use Rattle.tv_tree.specs.declared.trees.PropWord.TheVariants.{Unique, Function, Invfunction, Abs, Nonabs, Transitive, Reflexive, Symmetric, Boxed, Pointer}
+use Rattle.tv_tree.specs.declared.trees.PropWord.TheVariants.{Unique, Function, Invfunction, Abs, Nonabs}
+use Rattle.tv_tree.specs.declared.trees.PropWord.TheVariants.{Transitive, Reflexive, Symmetric, Boxed}
+use Rattle.tv_tree.specs.declared.trees.PropWord.TheVariants.{Pointer}
 
 -- items behind the first one, each with a mark before it
 abbrev pub more_tokens : {T : Type 0} → List ℕ → (T → List (List ℕ)) → List T → List (List ℕ)
@@ -68,10 +75,12 @@ formula_tokens (FAnd f g) = formula_tokens f ++ codes "&" ∷ formula_tokens g
 formula_tokens (FOr f g) = formula_tokens f ++ codes "|" ∷ formula_tokens g
 formula_tokens (FImp f g) = formula_tokens f ++ codes "->" ∷ formula_tokens g
 formula_tokens (FIff f g) = formula_tokens f ++ codes "<->" ∷ formula_tokens g
-formula_tokens (FCond f g h) = formula_tokens f ++ codes "?" ∷ (formula_tokens g ++ codes ":" ∷ formula_tokens h)
+formula_tokens (FCond f g h) =
+    formula_tokens f ++ codes "?" ∷ (formula_tokens g ++ codes ":" ∷ formula_tokens h)
 formula_tokens (FExists xs f) = codes "E" ∷ (params_tokens xs ++ formula_tokens f)
 formula_tokens (FForall xs f) = codes "A" ∷ (params_tokens xs ++ formula_tokens f)
-formula_tokens (FTc from to left right f) = codes "TC" ∷ (pair_tokens from to ++ (pair_tokens left right ++ formula_tokens f))
+formula_tokens (FTc from to left right f) =
+    codes "TC" ∷ (pair_tokens from to ++ (pair_tokens left right ++ formula_tokens f))
 
 abbrev pub prop_token : PropWord → List ℕ
 prop_token Unique = codes "unique"
@@ -95,7 +104,9 @@ pred_directive None = codes "%p"
 pred_directive (Some f) = codes "%i"
 
 abbrev pub pred_tokens : PredForm → List (List ℕ)
-pred_tokens d = pred_directive d.body ∷ (name_tokens d.name ++ (params_tokens d.params ++ (body_tokens d.body ++ map prop_token d.props)))
+pred_tokens d =
+    pred_directive d.body
+    ∷ (name_tokens d.name ++ (params_tokens d.params ++ (body_tokens d.body ++ map prop_token d.props)))
 
 abbrev pub set_decl_tokens : List ℕ → SetForm → List (List ℕ)
 set_decl_tokens name members = codes "%s" ∷ name ∷ set_tokens members
@@ -105,7 +116,8 @@ rule_tokens f g = codes "%r" ∷ (formula_tokens f ++ codes "==>" ∷ formula_to
 
 -- the tokens from `foreach` to its brace
 abbrev pub foreach_tokens : List ℕ → SetForm → List (List ℕ)
-foreach_tokens var members = codes "foreach" ∷ codes "(" ∷ var ∷ codes "in" ∷ (set_tokens members ++ codes ")" ∷ codes "{" ∷ [])
+foreach_tokens var members =
+    codes "foreach" ∷ codes "(" ∷ var ∷ codes "in" ∷ (set_tokens members ++ codes ")" ∷ codes "{" ∷ [])
 
 -- a line of one token
 abbrev pub lone : List ℕ → List (List (List ℕ))
@@ -115,7 +127,8 @@ lone w = (w ∷ []) ∷ []
 abbrev mutual
   pub nest_lines : {X : Type 0} → (X → List (List ℕ)) → Nest X → List (List (List ℕ))
   nest_lines tokens (Single x) = tokens x ∷ []
-  nest_lines tokens (Foreach var members body) = foreach_tokens var members ∷ (nests_lines tokens body ++ lone (codes "}"))
+  nest_lines tokens (Foreach var members body) =
+      foreach_tokens var members ∷ (nests_lines tokens body ++ lone (codes "}"))
 
   pub nests_lines : {X : Type 0} → (X → List (List ℕ)) → Nests X → List (List (List ℕ))
   nests_lines tokens no_nest = []
@@ -138,7 +151,8 @@ update_tokens u = name_tokens u.name ++ (params_tokens u.params ++ codes "=" ∷
 
 abbrev pub part_lines : PartForm → List (List (List ℕ))
 part_lines (PCaption ps) = (codes "%t" ∷ pieces_tokens ps) ∷ []
-part_lines (PFocus fs) = (codes "%f" ∷ codes "{" ∷ (joined_tokens (codes ",") formula_tokens fs ++ codes "}" ∷ [])) ∷ []
+part_lines (PFocus fs) =
+    (codes "%f" ∷ codes "{" ∷ (joined_tokens (codes ",") formula_tokens fs ++ codes "}" ∷ [])) ∷ []
 part_lines (PPre f) = (codes "%p" ∷ formula_tokens f) ∷ []
 part_lines (PMessage f ps) = (codes "%message" ∷ (formula_tokens f ++ codes "->" ∷ pieces_tokens ps)) ∷ []
 part_lines PNew = lone (codes "%new")
@@ -167,7 +181,9 @@ tail_lines None = []
 tail_lines (Some xs) = lone (codes "%%") ++ tail_words xs
 
 abbrev pub program_lines : ProgramForm → List (List (List ℕ))
-program_lines t = nests_lines decl_tokens t.decls ++ lone (codes "%%") ++ flat_map action_lines t.actions ++ lone (codes "%%") ++ flat_map edge_lines t.edges ++ tail_lines t.tail
+program_lines t =
+    nests_lines decl_tokens t.decls ++ lone (codes "%%") ++ flat_map action_lines t.actions ++ lone
+    (codes "%%") ++ flat_map edge_lines t.edges ++ tail_lines t.tail
 
 -- tokens with a space behind each
 unfoldable pub spaced : List (List ℕ) → List ℕ

@@ -1,7 +1,12 @@
 -- Trees whose words are spelled as the text of a program spells them.
 use Rattle.std.specs.Prelude.{ℕ, ◌≡◌, ◌+◌, ◌≤◌, List, [], ◌∷◌, Option, Some, None, All, ⊤}
 use Rattle.tv_model.specs.Spelling.{IsIdentifier, IsWord, IsText}
-use Rattle.tv_tree.specs.Forms.{NameForm, SetForm, SNamed, SMembers, SParen, SPlus, SMinus, Form, FZero, FOne, FHalf, FSame, FDiffer, FAtom, FStar, FPlus, FParen, FNot, FAnd, FOr, FImp, FIff, FCond, FExists, FForall, FTc, PredForm, Nest, Single, Foreach, Nests, no_nest, with_nest, DeclForm, DSet, DPred, DRule, PieceForm, Quoted, Spelled, UpdateForm, PartForm, PCaption, PFocus, PPre, PMessage, PNew, PRetain, PBlock, ActionForm, EdgeForm, ProgramForm}
+use Rattle.tv_tree.specs.Forms.{NameForm, SetForm, SNamed, SMembers, SParen, SPlus, SMinus, Form, FZero, FOne}
+use Rattle.tv_tree.specs.Forms.{FHalf, FSame, FDiffer, FAtom, FStar, FPlus, FParen, FNot, FAnd, FOr, FImp}
+use Rattle.tv_tree.specs.Forms.{FIff, FCond, FExists, FForall, FTc, PredForm, Nest, Single, Foreach, Nests}
+use Rattle.tv_tree.specs.Forms.{no_nest, with_nest, DeclForm, DSet, DPred, DRule, PieceForm, Quoted, Spelled}
+use Rattle.tv_tree.specs.Forms.{UpdateForm, PartForm, PCaption, PFocus, PPre, PMessage, PNew, PRetain, PBlock}
+use Rattle.tv_tree.specs.Forms.{ActionForm, EdgeForm, ProgramForm}
 
 abbrev pub AreIdentifiers : List (List ℕ) → Type 0
 AreIdentifiers xs = All IsIdentifier xs
@@ -38,7 +43,8 @@ IsSpelledForm (FIff f g) = IsSpelledForm f × IsSpelledForm g
 IsSpelledForm (FCond f g h) = IsSpelledForm f × IsSpelledForm g × IsSpelledForm h
 IsSpelledForm (FExists xs f) = AreIdentifiers xs × IsSpelledForm f
 IsSpelledForm (FForall xs f) = AreIdentifiers xs × IsSpelledForm f
-IsSpelledForm (FTc from to left right f) = IsIdentifier from × IsIdentifier to × IsIdentifier left × IsIdentifier right × IsSpelledForm f
+IsSpelledForm (FTc from to left right f) =
+    IsIdentifier from × IsIdentifier to × IsIdentifier left × IsIdentifier right × IsSpelledForm f
 
 abbrev pub IsSpelledBody : Option Form → Type 0
 IsSpelledBody None = ⊤
@@ -54,7 +60,8 @@ pub record IsSpelledPred (d : PredForm) : Type 0 where
 abbrev mutual
   pub IsSpelledNest : {X : Type 0} → (X → Type 0) → Nest X → Type 0
   IsSpelledNest P (Single x) = P x
-  IsSpelledNest P (Foreach var members body) = IsIdentifier var × IsSpelledSet members × AreSpelledNests P body
+  IsSpelledNest P (Foreach var members body) =
+      IsIdentifier var × IsSpelledSet members × AreSpelledNests P body
 
   pub AreSpelledNests : {X : Type 0} → (X → Type 0) → Nests X → Type 0
   AreSpelledNests P no_nest = ⊤

@@ -3,8 +3,15 @@
 ghost use Rattle.std.specs.Prelude.{◌≡◌, ◌++◌, ◌∷◌, [], OnOk, IfOk, map, codes};
 ghost use Rattle.std.specs.List.{flat_map};
 ghost use Rattle.tv_tree.specs.Forms.{PredForm};
-ghost use Rattle.tv_tree.specs.Copies.{name_of, set_of, form_of, pred_of_body, pred_of, decl_of, decls_of, piece_of, single_of, update_of, updates_of, part_of, action_of, edge_of, program_of};
-ghost use Rattle.tv_tree.specs.Printed.{spaced, text_of_lines, lone, more_tokens, body_tokens, prop_token, pred_directive, pred_tokens, set_decl_tokens, rule_tokens, foreach_tokens, nest_lines, nests_lines, decl_tokens, formula_tokens, joined_tokens, piece_tokens, pieces_tokens, update_tokens, part_lines, action_tokens, action_lines, edge_tokens, edge_lines, tail_words, tail_lines, program_text};
+ghost use Rattle.tv_tree.specs.Copies.{name_of, set_of, form_of, pred_of_body, pred_of, decl_of, decls_of};
+ghost use Rattle.tv_tree.specs.Copies.{piece_of, single_of, update_of, updates_of, part_of, action_of};
+ghost use Rattle.tv_tree.specs.Copies.{edge_of, program_of};
+ghost use Rattle.tv_tree.specs.Printed.{spaced, text_of_lines, lone, more_tokens, body_tokens, prop_token};
+ghost use Rattle.tv_tree.specs.Printed.{pred_directive, pred_tokens, set_decl_tokens, rule_tokens};
+ghost use Rattle.tv_tree.specs.Printed.{foreach_tokens, nest_lines, nests_lines, decl_tokens, formula_tokens};
+ghost use Rattle.tv_tree.specs.Printed.{joined_tokens, piece_tokens, pieces_tokens, update_tokens};
+ghost use Rattle.tv_tree.specs.Printed.{part_lines, action_tokens, action_lines, edge_tokens, edge_lines};
+ghost use Rattle.tv_tree.specs.Printed.{tail_words, tail_lines, program_text};
 
 use crate::print::{
     end_line, print_formula, print_name, print_params, print_set, print_token, print_words,
@@ -85,7 +92,8 @@ fn print_pred(out: &mut Vec<u8>, decl: &PredDecl) -> Result<(), AllocError>
 
 #[tactic(auto, using(crate::proofs::Texts::spaced_push))]
 fn print_set_decl(out: &mut Vec<u8>, name: &Spelling, members: &SetTree) -> Result<(), AllocError>
-    ensures { OnOk result (out.new.items ≡ out.old.items ++ spaced (set_decl_tokens name.now (set_of members.now))) }
+    ensures { OnOk result
+        (out.new.items ≡ out.old.items ++ spaced (set_decl_tokens name.now (set_of members.now))) }
 {
     print_token(out, b"%s")?;
     print_token(out, &name.0)?;
@@ -94,7 +102,8 @@ fn print_set_decl(out: &mut Vec<u8>, name: &Spelling, members: &SetTree) -> Resu
 
 #[tactic(auto, using(crate::proofs::Texts::spaced_push, crate::proofs::Texts::spaced_between))]
 fn print_rule(out: &mut Vec<u8>, body: &FormulaTree, head: &FormulaTree) -> Result<(), AllocError>
-    ensures { OnOk result (out.new.items ≡ out.old.items ++ spaced (rule_tokens (form_of body.now) (form_of head.now))) }
+    ensures { OnOk result
+        (out.new.items ≡ out.old.items ++ spaced (rule_tokens (form_of body.now) (form_of head.now))) }
 {
     print_token(out, b"%r")?;
     print_formula(out, body)?;
@@ -105,7 +114,8 @@ fn print_rule(out: &mut Vec<u8>, body: &FormulaTree, head: &FormulaTree) -> Resu
 // The line from `foreach` to its brace.
 #[tactic(auto, using(crate::proofs::Texts::spaced_push, crate::proofs::Texts::spaced_between))]
 fn print_foreach(out: &mut Vec<u8>, var: &Spelling, members: &SetTree) -> Result<(), AllocError>
-    ensures { OnOk result (out.new.items ≡ out.old.items ++ spaced (foreach_tokens var.now (set_of members.now))) }
+    ensures { OnOk result
+        (out.new.items ≡ out.old.items ++ spaced (foreach_tokens var.now (set_of members.now))) }
 {
     print_token(out, b"foreach")?;
     print_token(out, b"(")?;
@@ -119,7 +129,8 @@ fn print_foreach(out: &mut Vec<u8>, var: &Spelling, members: &SetTree) -> Result
 #[cycle(decl)]
 #[tactic(auto, using(crate::proofs::Texts::line_done, crate::proofs::Texts::lines_push, crate::proofs::Unfolds::decl_of_set, crate::proofs::Unfolds::decl_of_pred, crate::proofs::Unfolds::decl_of_rule, crate::proofs::Unfolds::decl_of_foreach))]
 fn print_decl(out: &mut Vec<u8>, decl: &Decl) -> Result<(), AllocError>
-    ensures { OnOk result (out.new.items ≡ out.old.items ++ text_of_lines (nest_lines decl_tokens (decl_of decl.now))) }
+    ensures { OnOk result
+        (out.new.items ≡ out.old.items ++ text_of_lines (nest_lines decl_tokens (decl_of decl.now))) }
 {
     match decl {
         Decl::SetDecl { name, members } => {
@@ -146,7 +157,8 @@ fn print_decl(out: &mut Vec<u8>, decl: &Decl) -> Result<(), AllocError>
 #[cycle(decl)]
 #[tactic(auto, using(crate::proofs::Texts::decl_step_lines, crate::proofs::Texts::decl_lines_done, crate::proofs::Unfolds::decls_of_items))]
 fn print_decls(out: &mut Vec<u8>, decls: &Decls) -> Result<(), AllocError>
-    ensures { OnOk result (out.new.items ≡ out.old.items ++ text_of_lines (nests_lines decl_tokens (decls_of decls.now))) }
+    ensures { OnOk result
+        (out.new.items ≡ out.old.items ++ text_of_lines (nests_lines decl_tokens (decls_of decls.now))) }
 {
     for decl in &decls.items {
         print_decl(out, decl)?;
@@ -156,7 +168,8 @@ fn print_decls(out: &mut Vec<u8>, decls: &Decls) -> Result<(), AllocError>
 
 #[tactic(auto, using(crate::proofs::Texts::quoted_done))]
 fn print_quoted(out: &mut Vec<u8>, text: &[u8]) -> Result<(), AllocError>
-    ensures { OnOk result (out.new.items ≡ out.old.items ++ spaced ((codes "\"" ++ text.now ++ codes "\"") ∷ [])) }
+    ensures { OnOk result
+        (out.new.items ≡ out.old.items ++ spaced ((codes "\"" ++ text.now ++ codes "\"") ∷ [])) }
 {
     out.push(b'"')?;
     out.extend_from_slice(text)?;
@@ -174,7 +187,8 @@ fn print_piece(out: &mut Vec<u8>, piece: &Piece) -> Result<(), AllocError>
 
 #[tactic(auto, using(crate::proofs::Texts::pieces_step, crate::proofs::Texts::pieces_done))]
 fn print_more_pieces(out: &mut Vec<u8>, pieces: &[Piece]) -> Result<(), AllocError>
-    ensures { OnOk result (out.new.items ≡ out.old.items ++ spaced (more_tokens (codes "+") piece_tokens (map piece_of pieces.now))) }
+    ensures { OnOk result (out.new.items
+        ≡ out.old.items ++ spaced (more_tokens (codes "+") piece_tokens (map piece_of pieces.now))) }
 {
     for piece in pieces {
         print_token(out, b"+")?;
@@ -185,7 +199,8 @@ fn print_more_pieces(out: &mut Vec<u8>, pieces: &[Piece]) -> Result<(), AllocErr
 
 #[tactic(auto, using(crate::proofs::Texts::spaced_push, crate::proofs::Texts::pieces_none))]
 fn print_pieces(out: &mut Vec<u8>, pieces: &[Piece]) -> Result<(), AllocError>
-    ensures { OnOk result (out.new.items ≡ out.old.items ++ spaced (pieces_tokens (map piece_of pieces.now))) }
+    ensures { OnOk result
+        (out.new.items ≡ out.old.items ++ spaced (pieces_tokens (map piece_of pieces.now))) }
 {
     if let Some((first, more)) = pieces.split_first() {
         print_piece(out, first)?;
@@ -196,7 +211,8 @@ fn print_pieces(out: &mut Vec<u8>, pieces: &[Piece]) -> Result<(), AllocError>
 
 #[tactic(auto, using(crate::proofs::Texts::formulas_step, crate::proofs::Texts::formulas_done))]
 fn print_more_formulas(out: &mut Vec<u8>, formulas: &[FormulaTree]) -> Result<(), AllocError>
-    ensures { OnOk result (out.new.items ≡ out.old.items ++ spaced (more_tokens (codes ",") formula_tokens (map form_of formulas.now))) }
+    ensures { OnOk result (out.new.items
+        ≡ out.old.items ++ spaced (more_tokens (codes ",") formula_tokens (map form_of formulas.now))) }
 {
     for formula in formulas {
         print_token(out, b",")?;
@@ -207,7 +223,8 @@ fn print_more_formulas(out: &mut Vec<u8>, formulas: &[FormulaTree]) -> Result<()
 
 #[tactic(auto, using(crate::proofs::Texts::spaced_push, crate::proofs::Texts::formulas_none))]
 fn print_formulas(out: &mut Vec<u8>, formulas: &[FormulaTree]) -> Result<(), AllocError>
-    ensures { OnOk result (out.new.items ≡ out.old.items ++ spaced (joined_tokens (codes ",") formula_tokens (map form_of formulas.now))) }
+    ensures { OnOk result (out.new.items
+        ≡ out.old.items ++ spaced (joined_tokens (codes ",") formula_tokens (map form_of formulas.now))) }
 {
     if let Some((first, more)) = formulas.split_first() {
         print_formula(out, first)?;
@@ -223,7 +240,8 @@ fn print_single(
     params: &Spellings,
     body: &FormulaTree,
 ) -> Result<(), AllocError>
-    ensures { OnOk result (out.new.items ≡ out.old.items ++ spaced (update_tokens (single_of name.now params.now body.now))) }
+    ensures { OnOk result
+        (out.new.items ≡ out.old.items ++ spaced (update_tokens (single_of name.now params.now body.now))) }
 {
     print_name(out, name)?;
     print_params(out, params.as_slice())?;
@@ -234,7 +252,8 @@ fn print_single(
 #[cycle(update)]
 #[tactic(auto, using(crate::proofs::Texts::line_done, crate::proofs::Texts::lines_push, crate::proofs::Unfolds::update_of_single, crate::proofs::Unfolds::update_of_foreach))]
 fn print_update(out: &mut Vec<u8>, update: &UpdateTree) -> Result<(), AllocError>
-    ensures { OnOk result (out.new.items ≡ out.old.items ++ text_of_lines (nest_lines update_tokens (update_of update.now))) }
+    ensures { OnOk result
+        (out.new.items ≡ out.old.items ++ text_of_lines (nest_lines update_tokens (update_of update.now))) }
 {
     match update {
         UpdateTree::Single { name, params, body } => {
@@ -253,7 +272,8 @@ fn print_update(out: &mut Vec<u8>, update: &UpdateTree) -> Result<(), AllocError
 #[cycle(update)]
 #[tactic(auto, using(crate::proofs::Texts::update_step_lines, crate::proofs::Texts::update_lines_done, crate::proofs::Unfolds::updates_of_items))]
 fn print_updates(out: &mut Vec<u8>, updates: &UpdateTrees) -> Result<(), AllocError>
-    ensures { OnOk result (out.new.items ≡ out.old.items ++ text_of_lines (nests_lines update_tokens (updates_of updates.now))) }
+    ensures { OnOk result (out.new.items
+        ≡ out.old.items ++ text_of_lines (nests_lines update_tokens (updates_of updates.now))) }
 {
     for update in &updates.items {
         print_update(out, update)?;
@@ -263,7 +283,8 @@ fn print_updates(out: &mut Vec<u8>, updates: &UpdateTrees) -> Result<(), AllocEr
 
 #[tactic(auto, using(crate::proofs::Texts::spaced_push))]
 fn print_caption(out: &mut Vec<u8>, pieces: &[Piece]) -> Result<(), AllocError>
-    ensures { OnOk result (out.new.items ≡ out.old.items ++ spaced (codes "%t" ∷ pieces_tokens (map piece_of pieces.now))) }
+    ensures { OnOk result
+        (out.new.items ≡ out.old.items ++ spaced (codes "%t" ∷ pieces_tokens (map piece_of pieces.now))) }
 {
     print_token(out, b"%t")?;
     print_pieces(out, pieces)
@@ -271,7 +292,8 @@ fn print_caption(out: &mut Vec<u8>, pieces: &[Piece]) -> Result<(), AllocError>
 
 #[tactic(auto, using(crate::proofs::Texts::spaced_push, crate::proofs::Texts::spaced_between))]
 fn print_focus(out: &mut Vec<u8>, formulas: &[FormulaTree]) -> Result<(), AllocError>
-    ensures { OnOk result (out.new.items ≡ out.old.items ++ spaced (codes "%f" ∷ codes "{" ∷ (joined_tokens (codes ",") formula_tokens (map form_of formulas.now) ++ codes "}" ∷ []))) }
+    ensures { OnOk result (out.new.items ≡ out.old.items ++ spaced (codes "%f" ∷ codes "{"
+        ∷ (joined_tokens (codes ",") formula_tokens (map form_of formulas.now) ++ codes "}" ∷ []))) }
 {
     print_token(out, b"%f")?;
     print_token(out, b"{")?;
@@ -281,7 +303,8 @@ fn print_focus(out: &mut Vec<u8>, formulas: &[FormulaTree]) -> Result<(), AllocE
 
 #[tactic(auto, using(crate::proofs::Texts::spaced_push, crate::proofs::Texts::spaced_between))]
 fn print_message(out: &mut Vec<u8>, cond: &FormulaTree, pieces: &[Piece]) -> Result<(), AllocError>
-    ensures { OnOk result (out.new.items ≡ out.old.items ++ spaced (codes "%message" ∷ (formula_tokens (form_of cond.now) ++ codes "->" ∷ pieces_tokens (map piece_of pieces.now)))) }
+    ensures { OnOk result (out.new.items ≡ out.old.items ++ spaced (codes "%message"
+        ∷ (formula_tokens (form_of cond.now) ++ codes "->" ∷ pieces_tokens (map piece_of pieces.now)))) }
 {
     print_token(out, b"%message")?;
     print_formula(out, cond)?;
@@ -291,7 +314,8 @@ fn print_message(out: &mut Vec<u8>, cond: &FormulaTree, pieces: &[Piece]) -> Res
 
 #[tactic(auto, using(crate::proofs::Texts::spaced_push))]
 fn print_marked(out: &mut Vec<u8>, mark: &[u8], formula: &FormulaTree) -> Result<(), AllocError>
-    ensures { OnOk result (out.new.items ≡ out.old.items ++ spaced (mark.now ∷ formula_tokens (form_of formula.now))) }
+    ensures { OnOk result
+        (out.new.items ≡ out.old.items ++ spaced (mark.now ∷ formula_tokens (form_of formula.now))) }
 {
     print_token(out, mark)?;
     print_formula(out, formula)
@@ -299,7 +323,8 @@ fn print_marked(out: &mut Vec<u8>, mark: &[u8], formula: &FormulaTree) -> Result
 
 #[tactic(auto, using(crate::proofs::Texts::lines_push))]
 fn print_block(out: &mut Vec<u8>, updates: &UpdateTrees) -> Result<(), AllocError>
-    ensures { OnOk result (out.new.items ≡ out.old.items ++ text_of_lines (lone (codes "{") ++ nests_lines update_tokens (updates_of updates.now) ++ lone (codes "}"))) }
+    ensures { OnOk result (out.new.items ≡ out.old.items ++ text_of_lines
+        (lone (codes "{") ++ nests_lines update_tokens (updates_of updates.now) ++ lone (codes "}"))) }
 {
     print_lone(out, b"{")?;
     print_updates(out, updates)?;
@@ -338,7 +363,8 @@ fn print_part(out: &mut Vec<u8>, part: &Part) -> Result<(), AllocError>
 
 #[tactic(auto, using(crate::proofs::Texts::parts_step, crate::proofs::Texts::parts_done))]
 fn print_parts(out: &mut Vec<u8>, parts: &[Part]) -> Result<(), AllocError>
-    ensures { OnOk result (out.new.items ≡ out.old.items ++ text_of_lines (flat_map part_lines (map part_of parts.now))) }
+    ensures { OnOk result
+        (out.new.items ≡ out.old.items ++ text_of_lines (flat_map part_lines (map part_of parts.now))) }
 {
     for part in parts {
         print_part(out, part)?;
@@ -359,7 +385,8 @@ fn print_heading(out: &mut Vec<u8>, name: &Spelling, params: &[Spelling]) -> Res
 
 #[tactic(auto, using(crate::proofs::Texts::line_done, crate::proofs::Texts::lines_push))]
 fn print_action(out: &mut Vec<u8>, action: &ActionTree) -> Result<(), AllocError>
-    ensures { OnOk result (out.new.items ≡ out.old.items ++ text_of_lines (action_lines (action_of action.now))) }
+    ensures { OnOk result
+        (out.new.items ≡ out.old.items ++ text_of_lines (action_lines (action_of action.now))) }
 {
     print_heading(out, &action.name, action.params.as_slice())?;
     end_line(out)?;
@@ -369,7 +396,8 @@ fn print_action(out: &mut Vec<u8>, action: &ActionTree) -> Result<(), AllocError
 
 #[tactic(auto, using(crate::proofs::Texts::actions_step, crate::proofs::Texts::actions_done))]
 fn print_actions(out: &mut Vec<u8>, actions: &[ActionTree]) -> Result<(), AllocError>
-    ensures { OnOk result (out.new.items ≡ out.old.items ++ text_of_lines (flat_map action_lines (map action_of actions.now))) }
+    ensures { OnOk result
+        (out.new.items ≡ out.old.items ++ text_of_lines (flat_map action_lines (map action_of actions.now))) }
 {
     for action in actions {
         print_action(out, action)?;
@@ -397,7 +425,8 @@ fn print_edge(out: &mut Vec<u8>, edge: &EdgeTree) -> Result<(), AllocError>
 
 #[tactic(auto, using(crate::proofs::Texts::edges_step, crate::proofs::Texts::edges_done))]
 fn print_edges(out: &mut Vec<u8>, edges: &[EdgeTree]) -> Result<(), AllocError>
-    ensures { OnOk result (out.new.items ≡ out.old.items ++ text_of_lines (flat_map edge_lines (map edge_of edges.now))) }
+    ensures { OnOk result
+        (out.new.items ≡ out.old.items ++ text_of_lines (flat_map edge_lines (map edge_of edges.now))) }
 {
     for edge in edges {
         print_edge(out, edge)?;

@@ -2,8 +2,12 @@
 
 ghost use Rattle.std.specs.Prelude.{◌≡◌, ◌++◌, ◌∷◌, [], OnOk, map, codes};
 ghost use Rattle.std.specs.List.{flat_map};
-ghost use Rattle.tv_tree.specs.Copies.{name_of, set_of, term_of, form_of, pred_of, decl_of, decls_of, piece_of, update_of, updates_of, part_of, action_of, edge_of, program_of};
-ghost use Rattle.tv_tree.specs.Printed.{spaced, ended, words_tokens, more_tokens, one_token, params_tokens, brackets_tokens, name_tokens, sign_token, set_tokens, pair_tokens, formula_tokens};
+ghost use Rattle.tv_tree.specs.Copies.{name_of, set_of, term_of, form_of, pred_of, decl_of, decls_of};
+ghost use Rattle.tv_tree.specs.Copies.{piece_of, update_of, updates_of, part_of, action_of, edge_of};
+ghost use Rattle.tv_tree.specs.Copies.{program_of};
+ghost use Rattle.tv_tree.specs.Printed.{spaced, ended, words_tokens, more_tokens, one_token, params_tokens};
+ghost use Rattle.tv_tree.specs.Printed.{brackets_tokens, name_tokens, sign_token, set_tokens, pair_tokens};
+ghost use Rattle.tv_tree.specs.Printed.{formula_tokens};
 
 use crate::trees::{FormulaTree, Name, SetSign, SetTerm, SetTree, Spelling};
 use std::alloc::AllocError;
@@ -29,7 +33,8 @@ pub fn end_line(out: &mut Vec<u8>) -> Result<(), AllocError>
 
 #[tactic(auto, using(crate::proofs::Texts::words_step, crate::proofs::Texts::more_done))]
 pub fn print_more_words(out: &mut Vec<u8>, words: &[Spelling]) -> Result<(), AllocError>
-    ensures { OnOk result (out.new.items ≡ out.old.items ++ spaced (more_tokens (codes ",") one_token words.now)) }
+    ensures { OnOk result
+        (out.new.items ≡ out.old.items ++ spaced (more_tokens (codes ",") one_token words.now)) }
 {
     for word in words {
         print_token(out, b",")?;
@@ -133,7 +138,8 @@ fn print_between(
     mark: &[u8],
     right: &FormulaTree,
 ) -> Result<(), AllocError>
-    ensures { OnOk result (out.new.items ≡ out.old.items ++ spaced (formula_tokens (form_of left.now) ++ mark.now ∷ formula_tokens (form_of right.now))) }
+    ensures { OnOk result (out.new.items ≡ out.old.items ++ spaced
+        (formula_tokens (form_of left.now) ++ mark.now ∷ formula_tokens (form_of right.now))) }
 {
     print_formula(out, left)?;
     print_token(out, mark)?;
@@ -148,7 +154,8 @@ fn print_conditional(
     yes: &FormulaTree,
     no: &FormulaTree,
 ) -> Result<(), AllocError>
-    ensures { OnOk result (out.new.items ≡ out.old.items ++ spaced (formula_tokens (form_of test.now) ++ codes "?" ∷ (formula_tokens (form_of yes.now) ++ codes ":" ∷ formula_tokens (form_of no.now)))) }
+    ensures { OnOk result (out.new.items ≡ out.old.items ++ spaced (formula_tokens (form_of test.now)
+        ++ codes "?" ∷ (formula_tokens (form_of yes.now) ++ codes ":" ∷ formula_tokens (form_of no.now)))) }
 {
     print_formula(out, test)?;
     print_token(out, b"?")?;
@@ -173,7 +180,8 @@ fn print_words_between(
 
 #[tactic(auto, using(crate::proofs::Texts::spaced_push))]
 fn print_atom(out: &mut Vec<u8>, name: &Name, arguments: &[Spelling]) -> Result<(), AllocError>
-    ensures { OnOk result (out.new.items ≡ out.old.items ++ spaced (name_tokens (name_of name.now) ++ params_tokens arguments.now)) }
+    ensures { OnOk result (out.new.items
+        ≡ out.old.items ++ spaced (name_tokens (name_of name.now) ++ params_tokens arguments.now)) }
 {
     print_name(out, name)?;
     print_params(out, arguments)
@@ -187,7 +195,8 @@ fn print_closed(
     from: &Spelling,
     to: &Spelling,
 ) -> Result<(), AllocError>
-    ensures { OnOk result (out.new.items ≡ out.old.items ++ spaced (name_tokens (name_of name.now) ++ mark.now ∷ pair_tokens from.now to.now)) }
+    ensures { OnOk result (out.new.items ≡ out.old.items ++ spaced
+        (name_tokens (name_of name.now) ++ mark.now ∷ pair_tokens from.now to.now)) }
 {
     print_name(out, name)?;
     print_token(out, mark)?;
@@ -203,7 +212,8 @@ fn print_closure_head(
     left: &Spelling,
     right: &Spelling,
 ) -> Result<(), AllocError>
-    ensures { OnOk result (out.new.items ≡ out.old.items ++ spaced (codes "TC" ∷ (pair_tokens from.now to.now ++ pair_tokens left.now right.now))) }
+    ensures { OnOk result (out.new.items ≡ out.old.items ++ spaced
+        (codes "TC" ∷ (pair_tokens from.now to.now ++ pair_tokens left.now right.now))) }
 {
     print_token(out, b"TC")?;
     print_pair(out, from, to)?;
@@ -218,7 +228,8 @@ fn print_quantified(
     vars: &[Spelling],
     body: &FormulaTree,
 ) -> Result<(), AllocError>
-    ensures { OnOk result (out.new.items ≡ out.old.items ++ spaced (word.now ∷ (params_tokens vars.now ++ formula_tokens (form_of body.now)))) }
+    ensures { OnOk result (out.new.items ≡ out.old.items ++ spaced
+        (word.now ∷ (params_tokens vars.now ++ formula_tokens (form_of body.now)))) }
 {
     print_token(out, word)?;
     print_params(out, vars)?;
@@ -228,7 +239,8 @@ fn print_quantified(
 #[cycle(formula)]
 #[tactic(auto, using(crate::proofs::Texts::spaced_push, crate::proofs::Texts::spaced_between))]
 fn print_in_parentheses(out: &mut Vec<u8>, inner: &FormulaTree) -> Result<(), AllocError>
-    ensures { OnOk result (out.new.items ≡ out.old.items ++ spaced (codes "(" ∷ (formula_tokens (form_of inner.now) ++ codes ")" ∷ []))) }
+    ensures { OnOk result (out.new.items
+        ≡ out.old.items ++ spaced (codes "(" ∷ (formula_tokens (form_of inner.now) ++ codes ")" ∷ []))) }
 {
     print_token(out, b"(")?;
     print_formula(out, inner)?;
@@ -238,7 +250,8 @@ fn print_in_parentheses(out: &mut Vec<u8>, inner: &FormulaTree) -> Result<(), Al
 #[cycle(formula)]
 #[tactic(auto, using(crate::proofs::Texts::spaced_push))]
 fn print_negation(out: &mut Vec<u8>, inner: &FormulaTree) -> Result<(), AllocError>
-    ensures { OnOk result (out.new.items ≡ out.old.items ++ spaced (codes "!" ∷ formula_tokens (form_of inner.now))) }
+    ensures { OnOk result
+        (out.new.items ≡ out.old.items ++ spaced (codes "!" ∷ formula_tokens (form_of inner.now))) }
 {
     print_token(out, b"!")?;
     print_formula(out, inner)

@@ -51,8 +51,8 @@ pub struct SetStep {
     pub term: SetTerm,
 }
 
-/// An expression for a set of identifiers: its first set, and the others from left to right. These are a list, since a
-/// text may have millions of them, and each walk along them is a loop.
+/// An expression for a set of identifiers: its first set, and the others from left to right. These are a
+/// list, since a text may have millions of them, and each walk along them is a loop.
 #[cycle(set)]
 #[derive(Drop, Debug)]
 pub struct SetTree {

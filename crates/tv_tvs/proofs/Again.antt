@@ -1,16 +1,21 @@
 -- What is written of a structure means that structure.
-use Rattle.std.proofs.Common.{ℕ, zero, suc, ◌≡◌, ◌≢◌, ◌<◌, ◌≤◌, ◌+◌, ◌⊎◌, inl, inr, Bool, true, false, cond, List, [], ◌∷◌, ◌++◌, length, map, Some, Ok, refl, sym, ap, subst, ◌∙◌, arith, eqb}
+use Rattle.std.proofs.Common.{ℕ, zero, suc, ◌≡◌, ◌≢◌, ◌<◌, ◌≤◌, ◌+◌, ◌⊎◌, inl, inr, Bool, true, false, cond}
+use Rattle.std.proofs.Common.{List, [], ◌∷◌, ◌++◌, length, map, Some, Ok, refl, sym, ap, subst, ◌∙◌, arith}
+use Rattle.std.proofs.Common.{eqb}
 use Rattle.std.specs.Prelude.{slice_get, slice_index}
 use Rattle.std.specs.List.{flat_map, cons_option, range_with_len, AllByRecursion, list_all}
 use Rattle.std.proofs.lemmas.Bool.{cases_eq}
 use Rattle.tv_kleene.specs.declared.K3.{K3}
 use Rattle.tv_kleene.specs.declared.K3.TheVariants.{No, Half, Yes}
 use Rattle.tv_struct.specs.TableForm.{HasEntry, AreIndividuals}
-use Rattle.tv_struct.specs.StructureForm.{StructureForm, table_of, arities_of, value_at, summary_at, with_value, with_summary}
+use Rattle.tv_struct.specs.StructureForm.{StructureForm, table_of, arities_of, value_at, summary_at}
+use Rattle.tv_struct.specs.StructureForm.{with_value, with_summary}
 use Rattle.tv_tvs.specs.Tree.{ItemTree}
-use Rattle.tv_tvs.specs.Canonical.{individuals, tuples, tuple_item, written_item, written_items, summary_value}
-use Rattle.tv_tvs.specs.Meaning.{Subject, Summaries, Predicate, item_arity, item_value, tuple_of_item, item_put, items_put}
-use Rattle.tv_tvs.proofs.Numbers.{number_of_individual}
+use Rattle.tv_tvs.specs.Canonical.{individuals, tuples, tuple_item, written_item, written_items}
+use Rattle.tv_tvs.specs.Canonical.{summary_value}
+use Rattle.tv_tvs.specs.Meaning.{Subject, Summaries, Predicate, item_arity, item_value, tuple_of_item}
+use Rattle.tv_tvs.specs.Meaning.{item_put, items_put}
+use Rattle.tv_tvs.proofs.WrittenNumbers.{number_of_individual}
 use Rattle.tv_tvs.proofs.Filled.{IsPart, Grows, Grows-same, Grows-then, Step, value_put_again, mark_put_again}
 
 -- a tuple of one individual or two

@@ -1,5 +1,7 @@
 -- What the readers answer is what the tokens mean.
-use Rattle.std.proofs.Common.{◌≡◌, ℕ, zero, suc, ◌+◌, ◌-◌, ◌<◌, ◌≤◌, Bool, true, false, List, [], ◌∷◌, ◌++◌, length, drop, Option, Some, None, Result, Ok, Err, refl, sym, ap, subst, ◌∙◌, inl, inr, arith, append_assoc, length-append}
+use Rattle.std.proofs.Common.{◌≡◌, ℕ, zero, suc, ◌+◌, ◌-◌, ◌<◌, ◌≤◌, Bool, true, false, cond, List, [], ◌∷◌}
+use Rattle.std.proofs.Common.{◌++◌, length, drop, Option, Some, None, Result, Ok, Err, refl, sym, ap, subst}
+use Rattle.std.proofs.Common.{◌∙◌, inl, inr, arith, append_assoc, length-append}
 use Rattle.std.specs.Prelude.{codes, is_some}
 use Rattle.std.specs.Str.{bytes_eq}
 use Rattle.std.proofs.lemmas.Option.{same_Some, none-some}
@@ -18,13 +20,19 @@ use Rattle.tv_phrases.specs.Tokens.{after, first, word_item, identifier_item}
 use Rattle.tv_phrases.specs.Lists.{with_front, items_from, optional_list, optional_brackets, between, name}
 use Rattle.tv_struct.specs.StructureForm.{StructureForm}
 use Rattle.tv_tvs.specs.declared.error.TvsError.{TvsError}
-use Rattle.tv_tvs.specs.declared.error.TvsError.TheVariants.{Syntax, IndividualUnknown, IndividualTwice, NameUnknown, ArityWrong, BadSm, TooManyIndividuals, Memory}
+use Rattle.tv_tvs.specs.declared.error.TvsError.TheVariants.{Syntax, IndividualUnknown, IndividualTwice}
+use Rattle.tv_tvs.specs.declared.error.TvsError.TheVariants.{NameUnknown, ArityWrong, BadSm}
+use Rattle.tv_tvs.specs.declared.error.TvsError.TheVariants.{TooManyIndividuals, Memory}
 use Rattle.tv_tvs.specs.Tree.{OneValue, Listed, StructTree}
-use Rattle.tv_tvs.specs.Grammar.{Many, value_item, IsSecond, IsItemValue, IsItem, IsNextItem, AreItems, IsContent, IsEntry, IsOpening, IsStruct, begins_comma, begins_name}
+use Rattle.tv_tvs.specs.Grammar.{value_item, IsSecond, IsItemValue, IsItemTree, IsNextItem, AreItems}
+use Rattle.tv_tvs.specs.Grammar.{IsContent, IsEntry, IsOpening, IsStruct, begins_comma, begins_name}
 use Rattle.tv_tvs.specs.Reading.{struct_at, text_of_structs}
-use Rattle.tv_tvs.specs.Meaning.{struct_meant, structs_meant, MeansStructs, MeansStruct, IsCause, IsCauseOfOne, Fails, Answers, Refused}
-use Rattle.tv_tvs.proofs.Sound.{bind_some, chosen, choices, struct_sound, text_sound}
-use Rattle.tv_tvs.proofs.Complete.{struct_complete, text_complete, after_is, struct_shorter}
+use Rattle.tv_tvs.specs.Meaning.{struct_meant, structs_meant, MeansStructs, MeansStruct, IsStructuresCause}
+use Rattle.tv_tvs.specs.Meaning.{IsCauseOfOne, RefusesStructures, Answers, Refused}
+use Rattle.tv_phrases.specs.Repeated.{Repeated}
+use Rattle.tv_phrases.proofs.Values.{bind_some, chosen, tested}
+use Rattle.tv_tvs.proofs.Sound.{struct_sound, text_sound}
+use Rattle.tv_tvs.proofs.Complete.{struct_complete, text_complete, struct_shorter}
 
 -- ---- whole texts
 
@@ -33,13 +41,13 @@ pub structs_read : (vocab : Vocab) (tokens : List SpecToken) (trees : List Struc
 structs_read vocab tokens trees ss read meant = record { trees = trees; are = text_sound tokens trees read; meant = meant }
 
 pub no_text : (vocab : Vocab) (tokens : List SpecToken) (fault : PhraseError) (e : TvsError) → Refused fault e
-    → Told fault (text_of_structs tokens ≡ None) → IsCause vocab tokens e
+    → Told fault (text_of_structs tokens ≡ None) → IsStructuresCause vocab tokens e
 no_text vocab tokens (phrase.Unexpected at) e refused read =
-    subst (IsCause vocab tokens) (sym refused.1) (λ trees are. none-some trees (sym read ∙ text_complete tokens trees are))
-no_text vocab tokens phrase.Memory e refused read = subst (IsCause vocab tokens) (sym refused) tt
+    subst (IsStructuresCause vocab tokens) (sym refused.1) (λ trees are. none-some trees (sym read ∙ text_complete tokens trees are))
+no_text vocab tokens phrase.Memory e refused read = subst (IsStructuresCause vocab tokens) (sym refused) tt
 
 pub text_refused : (vocab : Vocab) (tokens : List SpecToken) (trees : List StructTree) (e : TvsError) → text_of_structs tokens ≡ Some trees
-    → Fails e (structs_meant vocab.preds trees) → IsCause vocab tokens e
+    → RefusesStructures e (structs_meant vocab.preds trees) → IsStructuresCause vocab tokens e
 text_refused vocab tokens trees (Syntax place) read meant = absurd meant
 text_refused vocab tokens trees IndividualUnknown read meant = record { trees = trees; are = text_sound tokens trees read; meant = meant }
 text_refused vocab tokens trees IndividualTwice read meant = record { trees = trees; are = text_sound tokens trees read; meant = meant }
@@ -62,7 +70,7 @@ none_begins vocab tokens (phrase.Unexpected at) e refused read =
 none_begins vocab tokens phrase.Memory e refused read = subst (IsCauseOfOne vocab tokens) (sym refused) tt
 
 pub struct_refused : (vocab : Vocab) (tokens rest : List SpecToken) (t : StructTree) (e : TvsError) → struct_at tokens ≡ Some (t, rest)
-    → Fails e (struct_meant vocab.preds t) → IsCauseOfOne vocab tokens e
+    → RefusesStructures e (struct_meant vocab.preds t) → IsCauseOfOne vocab tokens e
 struct_refused vocab tokens rest t (Syntax place) read meant = absurd meant
 struct_refused vocab tokens rest t IndividualUnknown read meant = (rest, record { tree = t; is = struct_sound tokens (t, rest) read; meant = meant })
 struct_refused vocab tokens rest t IndividualTwice read meant = (rest, record { tree = t; is = struct_sound tokens (t, rest) read; meant = meant })
@@ -97,10 +105,14 @@ after_ends : (mark : List ℕ) (ts us : List SpecToken) → after mark ts ≡ So
 unfolding after
 after_ends mark [] us e = absurd cc
 after_ends mark (t ∷ ts) us e =
-    elim (chosen (bytes_eq t.bytes mark) (Some ts) None (Some us) e) [
+    elim (tested (bytes_eq t.bytes mark) (Some ts) None (Some us) e) [
       | inl h ↦ (t ∷ [], ap (λ ws. t ∷ ws) (same_Some ts us h.1))
       | inr h ↦ absurd cc
     ]
+
+after_is : (t : SpecToken) (ts : List SpecToken) → after (codes ",") (t ∷ ts) ≡ cond (bytes_eq t.bytes (codes ",")) (Some ts) None
+unfolding after
+after_is t ts = refl
 
 items_from_ends : {X : Type 0} (item : SpecToken → Option X) (b : Bool) (ts : List SpecToken) (y : List X × List SpecToken)
     → items_from item b ts ≡ Some y → Ends ts y.1
@@ -113,7 +125,7 @@ items_from_ends {X} item true (t ∷ ts) y e =
     in let same : b.0.1 ≡ y.1 = ap (λ (z : List X × List SpecToken). z.1) (same_Some (a.0 ∷ b.0.0, b.0.1) y b.2)
     in ends_then (t ∷ ts) ts y.1 (t ∷ [], refl) (subst (Ends ts) same (items_from_ends item false ts b.0 b.1))
 items_from_ends {X} item false (t ∷ ts) y e =
-    elim (chosen (bytes_eq t.bytes (codes ",")) (Some ts) None (after (codes ",") (t ∷ ts)) (sym (after_is t ts))) [
+    elim (tested (bytes_eq t.bytes (codes ",")) (Some ts) None (after (codes ",") (t ∷ ts)) (sym (after_is t ts))) [
       | inl h ↦
           let read : items_from item true ts ≡ Some y = subst (λ o. choose o (Some ([], t ∷ ts)) (λ us. items_from item true ts) ≡ Some y) (sym h.1) e
           in ends_then (t ∷ ts) ts y.1 (t ∷ [], refl) (items_from_ends item true ts y read)
@@ -126,7 +138,7 @@ optional_list_ends : {X : Type 0} (item : SpecToken → Option X) (ts : List Spe
     → optional_list item ts ≡ Some y → Ends ts y.1
 unfolding optional_list
 optional_list_ends {X} item ts y e =
-    elim (chosen (is_some (first item ts)) (items_from item true ts) (Some ([], ts)) (Some y) e) [
+    elim (tested (is_some (first item ts)) (items_from item true ts) (Some ([], ts)) (Some y) e) [
       | inl h ↦ items_from_ends item true ts y h.1
       | inr h ↦ ends_same ts y.1 (ap (λ (z : List X × List SpecToken). z.1) (sym (same_Some ([], ts) y h.1)))
     ]
@@ -134,7 +146,7 @@ optional_list_ends {X} item ts y e =
 brackets_ends : (ts : List SpecToken) (y : List (List ℕ) × List SpecToken) → optional_brackets ts ≡ Some y → Ends ts y.1
 unfolding optional_brackets between
 brackets_ends ts y e =
-    elim (choices (after (codes "[") ts) (Some ([], ts)) (λ us. after (codes "[") ts >>= λ us. items_from identifier_item true us >>= λ x. after (codes "]") x.1 >>= λ rest. Some (x.0, rest)) (Some y) e) [
+    elim (chosen (after (codes "[") ts) (Some ([], ts)) (λ us. after (codes "[") ts >>= λ us. items_from identifier_item true us >>= λ x. after (codes "]") x.1 >>= λ rest. Some (x.0, rest)) (Some y) e) [
       | inl h ↦ ends_same ts y.1 (ap (λ (z : List (List ℕ) × List SpecToken). z.1) (sym (same_Some ([], ts) y h.1)))
       | inr h ↦
           let a = bind_some (after (codes "[") ts) (λ us. items_from identifier_item true us >>= λ x. after (codes "]") x.1 >>= λ rest. Some (x.0, rest)) y h.2
@@ -157,10 +169,10 @@ abbrev EndsAll : {X : Type 0} → (List SpecToken → X → List SpecToken → T
 EndsAll {X} Part = (ts : List SpecToken) (x : X) (us : List SpecToken) → Part ts x us → Ends ts us
 
 many_ends : {X : Type 0} (begins : List SpecToken → Bool) (Part : List SpecToken → X → List SpecToken → Type 0) → EndsAll Part
-    → (ts : List SpecToken) (xs : List X) (rest : List SpecToken) → Many begins Part ts xs rest → Ends ts rest
+    → (ts : List SpecToken) (xs : List X) (rest : List SpecToken) → Repeated begins Part ts xs rest → Ends ts rest
 many_ends begins Part ends ts [] rest m = ends_same ts rest m.1
 many_ends begins Part ends ts (x ∷ xs) rest m =
-    ends_then ts m.1.0 rest (ends ts x m.1.0 m.1.1) (many_ends begins Part ends m.1.0 xs rest m.1.2)
+    ends_then ts m.0 rest (ends ts x m.0 m.2) (many_ends begins Part ends m.0 xs rest m.3)
 
 second_ends : EndsAll IsSecond
 second_ends ts None us p = ends_same ts us p.1
@@ -170,7 +182,7 @@ item_value_ends : EndsAll IsItemValue
 item_value_ends ts None us p = ends_same ts us p.1
 item_value_ends ts (Some k) us p = ends_then ts p.0 us (after_ends (codes ":") ts p.0 p.1) (first_ends value_item p.0 k us p.2)
 
-item_ends : EndsAll IsItem
+item_ends : EndsAll IsItemTree
 item_ends ts item rest p =
     ends_then ts p.0 rest (first_ends word_item ts item.first p.0 p.2)
     (ends_then p.0 p.1 rest (second_ends p.0 item.second p.1 p.3) (item_value_ends p.1 item.value rest p.4))
@@ -225,7 +237,7 @@ text_answered vocab tokens trees (Ok ss) read meant = structs_read vocab tokens 
 text_answered vocab tokens trees (Err e) read meant = tt
 
 pub text_fault : (vocab : Vocab) (tokens : List SpecToken) (trees : List StructTree) (r : Result (List StructureForm) TvsError) → text_of_structs tokens ≡ Some trees
-    → Answers (λ (ss : List StructureForm). ss) r (structs_meant vocab.preds trees) → IfErr r (IsCause vocab tokens)
+    → Answers (λ (ss : List StructureForm). ss) r (structs_meant vocab.preds trees) → IfErr r (IsStructuresCause vocab tokens)
 text_fault vocab tokens trees (Ok ss) read meant = tt
 text_fault vocab tokens trees (Err e) read meant = text_refused vocab tokens trees e read meant
 
@@ -243,7 +255,7 @@ module _ (vocab : Vocab) (bytes : List ℕ) (all here : List Token) (at : ℕ) (
   none_here fault e refused read = subst (λ ts. IsCauseOfOne vocab ts e) tokens_here (none_begins vocab (spec_tokens bytes here) fault e refused read)
 
   module _ (rest : List Token) (t : StructTree) (read : struct_at (spec_tokens bytes here) ≡ Some (t, spec_tokens bytes rest)) where
-    pub refused_here : (e : TvsError) → Fails e (struct_meant vocab.preds t) → IsCauseOfOne vocab (drop at (spec_tokens bytes all)) e
+    pub refused_here : (e : TvsError) → RefusesStructures e (struct_meant vocab.preds t) → IsCauseOfOne vocab (drop at (spec_tokens bytes all)) e
     refused_here e fails = subst (λ ts. IsCauseOfOne vocab ts e) tokens_here (struct_refused vocab (spec_tokens bytes here) (spec_tokens bytes rest) t e read fails)
 
     shorter : length rest < length here

@@ -1,5 +1,7 @@
 -- Putting entries one after the other.
-use Rattle.std.proofs.Common.{◌≡◌, ℕ, zero, suc, ◌+◌, ◌<◌, Bool, true, not, ◌&&◌, eqb, List, [], ◌∷◌, ◌++◌, length, map, drop, get_or, Option, Some, None, Result, Ok, Err, refl, sym, ap, subst, ◌∙◌, arith, append_assoc}
+use Rattle.std.proofs.Common.{◌≡◌, ℕ, zero, suc, ◌+◌, ◌<◌, Bool, true, not, ◌&&◌, eqb, List, [], ◌∷◌, ◌++◌}
+use Rattle.std.proofs.Common.{length, map, drop, get_or, Option, Some, None, Result, Ok, Err, refl, sym, ap}
+use Rattle.std.proofs.Common.{subst, ◌∙◌, arith, append_assoc}
 use Rattle.std.specs.Prelude.{is_some}
 use Rattle.std.specs.List.{list_all}
 use Rattle.std.specs.Option.{option_map}
@@ -10,14 +12,17 @@ use Rattle.tv_struct.specs.StructureForm.{StructureForm}
 use Rattle.tv_tvs.specs.declared.build.Target.{Target}
 use Rattle.tv_tvs.specs.declared.build.Target.TheVariants.{Marks, Values}
 use Rattle.tv_tvs.specs.declared.error.TvsError.{TvsError}
-use Rattle.tv_tvs.specs.declared.error.TvsError.TheVariants.{Syntax, IndividualUnknown, IndividualTwice, NameUnknown, ArityWrong, BadSm, TooManyIndividuals, Memory}
+use Rattle.tv_tvs.specs.declared.error.TvsError.TheVariants.{Syntax, IndividualUnknown, IndividualTwice}
+use Rattle.tv_tvs.specs.declared.error.TvsError.TheVariants.{NameUnknown, ArityWrong, BadSm}
+use Rattle.tv_tvs.specs.declared.error.TvsError.TheVariants.{TooManyIndividuals, Memory}
 use Rattle.tv_tvs.specs.declared.syntax.ItemText.{ItemText}
 use Rattle.tv_tvs.specs.declared.syntax.ContentText.{ContentText}
 use Rattle.tv_tvs.specs.declared.syntax.ContentText.TheVariants.{OneValue as OneText}
 use Rattle.tv_tvs.specs.Tree.{ItemTree, EntryTree, StructTree}
 use Rattle.tv_tree.specs.Steps.{◌>>=◌}
-use Rattle.tv_tvs.specs.Meaning.{Subject, subject_arity, item_arity, fits, item_put, items_put, entry_put, entries_put, struct_meant, structs_meant, Fails}
-use Rattle.tv_tvs.specs.Targets.{subject_form, Has, HasPlace, Keeps}
+use Rattle.tv_tvs.specs.Meaning.{Subject, subject_arity, item_arity, fits, item_put, items_put, entry_put}
+use Rattle.tv_tvs.specs.Meaning.{entries_put, struct_meant, structs_meant, RefusesStructures}
+use Rattle.tv_tvs.specs.Targets.{subject_form, Has, HasPlace, KeepsFrame}
 use Rattle.tv_tvs.specs.Views.{text_arity, item_tree, item_trees, content_tree}
 use Rattle.tv_tvs.proofs.Twice.{drop_next}
 
@@ -74,7 +79,7 @@ listed_fits content items a r some test listed bytes =
 
 -- ---- refusals are handed on
 
-fails_bind : {A B : Type 0} (e : TvsError) (r : Result A TvsError) (g : A → Result B TvsError) → Fails e r → Fails e (r >>= g)
+fails_bind : {A B : Type 0} (e : TvsError) (r : Result A TvsError) (g : A → Result B TvsError) → RefusesStructures e r → RefusesStructures e (r >>= g)
 fails_bind (Syntax place) r g h = absurd h
 fails_bind IndividualUnknown r g h = ap (λ q. q >>= g) h
 fails_bind IndividualTwice r g h = ap (λ q. q >>= g) h
@@ -84,10 +89,10 @@ fails_bind BadSm r g h = ap (λ q. q >>= g) h
 fails_bind TooManyIndividuals r g h = ap (λ q. q >>= g) h
 fails_bind Memory r g h = tt
 
-pub fails_along : {A : Type 0} (e : TvsError) (q r : Result A TvsError) → q ≡ r → Fails e r → Fails e q
-fails_along e q r same h = subst (Fails e) (sym same) h
+pub fails_along : {A : Type 0} (e : TvsError) (q r : Result A TvsError) → q ≡ r → RefusesStructures e r → RefusesStructures e q
+fails_along e q r same h = subst (RefusesStructures e) (sym same) h
 
-pub keeps_then : (r s t : StructureForm) → Keeps r s → Keeps s t → Keeps r t
+pub keeps_then : (r s t : StructureForm) → KeepsFrame r s → KeepsFrame s t → KeepsFrame r t
 keeps_then r s t a b = record { size = b.size ∙ a.size; arities = b.arities ∙ a.arities; fresh = b.fresh ∙ a.fresh; structure = λ is. b.structure (a.structure is) }
 
 -- ---- items and entries
@@ -101,8 +106,8 @@ module _ (individuals : List (List ℕ)) (subject : Subject) (f : ItemText → I
       → items_put individuals subject s (map f (drop i items)) ≡ items_put individuals subject t (map f (drop (i + 1) items))
   items_more s t put = items_at s ∙ ap (λ r. r >>= λ t. items_put individuals subject t (map f (drop (i + 1) items))) put
 
-  pub items_fail : (s : StructureForm) (e : TvsError) → Fails e (item_put individuals subject s (f (get_or items i d)))
-      → Fails e (items_put individuals subject s (map f (drop i items)))
+  pub items_fail : (s : StructureForm) (e : TvsError) → RefusesStructures e (item_put individuals subject s (f (get_or items i d)))
+      → RefusesStructures e (items_put individuals subject s (map f (drop i items)))
   items_fail s e h = fails_along e _ _ (items_at s) (fails_bind e _ (λ t. items_put individuals subject t (map f (drop (i + 1) items))) h)
 
 module _ {X : Type 0} (preds : List Pred) (individuals : List (List ℕ)) (f : X → EntryTree) (entries : List X) (i : ℕ) (x : X) (lt : i < length entries) (at : x ≡ get_or entries i x) where
@@ -116,8 +121,8 @@ module _ {X : Type 0} (preds : List Pred) (individuals : List (List ℕ)) (f : X
       → entries_put preds individuals s (map f (drop i entries)) ≡ entries_put preds individuals t (map f (drop (i + 1) entries))
   entries_more s t put = entries_at s ∙ ap (λ r. r >>= λ t. entries_put preds individuals t (map f (drop (i + 1) entries))) put
 
-  pub entries_fail : (s : StructureForm) (e : TvsError) → Fails e (entry_put preds individuals s (f x))
-      → Fails e (entries_put preds individuals s (map f (drop i entries)))
+  pub entries_fail : (s : StructureForm) (e : TvsError) → RefusesStructures e (entry_put preds individuals s (f x))
+      → RefusesStructures e (entries_put preds individuals s (map f (drop i entries)))
   entries_fail s e h = fails_along e _ _ (entries_at s) (fails_bind e _ (λ t. entries_put preds individuals t (map f (drop (i + 1) entries))) h)
 
 -- ---- structures
@@ -142,8 +147,8 @@ module _ {X : Type 0} (preds : List Pred) (f : X → StructTree) (trees : List X
       ap (behind_all list) (structs_at ∙ ap (λ r. r >>= λ s. structs_meant preds (map f (drop (i + 1) trees)) >>= λ ss. Ok (s ∷ ss)) meant)
       ∙ one_behind list s (structs_meant preds (map f (drop (i + 1) trees)))
 
-  pub structs_fail : (list : List StructureForm) (e : TvsError) → Fails e (struct_meant preds (f x))
-      → Fails e (behind_all list (structs_meant preds (map f (drop i trees))))
+  pub structs_fail : (list : List StructureForm) (e : TvsError) → RefusesStructures e (struct_meant preds (f x))
+      → RefusesStructures e (behind_all list (structs_meant preds (map f (drop i trees))))
   structs_fail list e h =
       fails_bind e _ (λ ss. Ok (list ++ ss))
       (fails_along e _ _ structs_at (fails_bind e _ (λ s. structs_meant preds (map f (drop (i + 1) trees)) >>= λ ss. Ok (s ∷ ss)) h))

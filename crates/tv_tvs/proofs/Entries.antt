@@ -1,5 +1,7 @@
 -- The canonical tree of a structure means that structure.
-use Rattle.std.proofs.Common.{ℕ, zero, suc, ◌≡◌, ◌≢◌, ◌<◌, ◌≤◌, ◌+◌, inl, inr, true, false, not, List, [], ◌∷◌, ◌++◌, length, map, get_or, Option, Some, None, Result, Ok, Err, refl, sym, ap, subst, ◌∙◌, arith, append_assoc, length-append, eqb, ltb}
+use Rattle.std.proofs.Common.{ℕ, zero, suc, ◌≡◌, ◌≢◌, ◌<◌, ◌≤◌, ◌+◌, inl, inr, true, false, not, List, []}
+use Rattle.std.proofs.Common.{◌∷◌, ◌++◌, length, map, get_or, Option, Some, None, Result, Ok, Err, refl, sym}
+use Rattle.std.proofs.Common.{ap, subst, ◌∙◌, arith, append_assoc, length-append, eqb, ltb}
 use Rattle.std.specs.Prelude.{codes, slice_get, slice_index, All, AllPairs}
 use Rattle.std.specs.List.{list_all}
 use Rattle.std.specs.Str.{bytes_eq}
@@ -11,18 +13,24 @@ use Rattle.tv_kleene.specs.declared.K3.{K3}
 use Rattle.tv_kleene.specs.declared.K3.TheVariants.{No, Half, Yes}
 use Rattle.tv_model.specs.declared.program.Pred.{Pred}
 use Rattle.tv_struct.specs.TableForm.{PlaneForm, HasEntry, AreIndividuals}
-use Rattle.tv_struct.specs.StructureForm.{StructureForm, IsStructure, table_of, arities_of, value_at, summary_at, with_value, unmarked}
+use Rattle.tv_struct.specs.StructureForm.{StructureForm, IsStructure, table_of, arities_of, value_at}
+use Rattle.tv_struct.specs.StructureForm.{summary_at, with_value, unmarked}
 use Rattle.tv_struct.proofs.TableLaws.{IsTable-of_no}
 use Rattle.tv_struct.proofs.StructureLaws.{new_is_no}
 use Rattle.tv_tvs.specs.declared.error.TvsError.{TvsError}
 use Rattle.tv_tvs.specs.declared.error.TvsError.TheVariants.{NameUnknown, ArityWrong}
-use Rattle.tv_tvs.specs.Tree.{NameTree, ItemTree, ContentTree, OneValue, Listed, EntryTree, StructTree, name_text}
-use Rattle.tv_tvs.specs.Canonical.{individual, individuals, tuples, written_items, if_some, value_content, content_of, summary_value}
+use Rattle.tv_tvs.specs.Tree.{NameTree, ItemTree, ContentTree, OneValue, Listed, EntryTree, StructTree}
+use Rattle.tv_tvs.specs.Tree.{name_text}
+use Rattle.tv_tvs.specs.Canonical.{individual, individuals, tuples, written_items, if_some, value_content}
+use Rattle.tv_tvs.specs.Canonical.{content_of, summary_value}
 use Rattle.tv_tree.specs.Steps.{◌>>=◌, or_refused}
-use Rattle.tv_tvs.specs.Meaning.{Subject, Summaries, Predicate, subject_arity, subject_of, arity_at, item_arity, fits, items_put, fitting_put, entry_put, entries_put, number_of, has_twice, blank, struct_meant}
-use Rattle.tv_tvs.proofs.Numbers.{bytes_differ, number_is, not_among, individual_injective}
+use Rattle.tv_tvs.specs.Meaning.{Subject, Summaries, Predicate, subject_arity, subject_of, arity_at}
+use Rattle.tv_tvs.specs.Meaning.{item_arity, fits, items_put, fitting_put, entry_put, entries_put, number_of}
+use Rattle.tv_tvs.specs.Meaning.{has_twice, blank, struct_meant}
+use Rattle.tv_tvs.proofs.WrittenNumbers.{bytes_differ, number_is, not_among, individual_injective}
 use Rattle.tv_tvs.proofs.Filled.{IsPart, Grows-same, Grows-then, Step, value_put_again, filled}
-use Rattle.tv_tvs.proofs.Again.{IsTuple, tuples_all, items_fit, part_no, has_entry, values_again, marks_again, tuples_are}
+use Rattle.tv_tvs.proofs.Again.{IsTuple, tuples_all, items_fit, part_no, has_entry, values_again, marks_again}
+use Rattle.tv_tvs.proofs.Again.{tuples_are}
 
 -- ---- the canonical tree
 

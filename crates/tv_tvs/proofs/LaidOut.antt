@@ -1,5 +1,6 @@
 -- The canonical text is cut into the tokens of the canonical tree.
-use Rattle.std.proofs.Common.{◌≡◌, ℕ, List, [], ◌∷◌, ◌++◌, Option, Some, None, map, ap, sym, refl, ◌∙◌, subst, arith, append_assoc}
+use Rattle.std.proofs.Common.{◌≡◌, ℕ, List, [], ◌∷◌, ◌++◌, Option, Some, None, map, ap, sym, refl, ◌∙◌, subst}
+use Rattle.std.proofs.Common.{arith, append_assoc}
 use Rattle.std.specs.Prelude.{codes}
 use Rattle.std.specs.List.{flat_map, AllByRecursion, join_with_byte}
 use Rattle.std.proofs.lemmas.List.{append-nil}
@@ -7,9 +8,15 @@ use Rattle.tv_kleene.specs.declared.K3.{K3}
 use Rattle.tv_kleene.specs.declared.K3.TheVariants.{No, Half, Yes}
 use Rattle.tv_lex.specs.Token.{SpecToken}
 use Rattle.tv_tree.specs.Names.{brackets_text}
-use Rattle.tv_tvs.specs.Tree.{NameTree, name_text, ItemTree, ContentTree, OneValue, Listed, EntryTree, StructTree}
-use Rattle.tv_tvs.specs.Canonical.{more_texts, comma_text, value_text, second_text, item_value_text, item_text, content_text, line_text}
-use Rattle.tv_tvs.proofs.Lexing.{Lexes, Clear, IsWordText, mark, directive, word, half, word_first, half_first, space_first, feed_first, open_brace_first, close_brace_first, open_bracket_first, close_bracket_first, comma_first, colon_first, arrow_first, equals_first}
+use Rattle.tv_tvs.specs.Tree.{NameTree, name_text, ItemTree, ContentTree, OneValue, Listed, EntryTree}
+use Rattle.tv_tvs.specs.Tree.{StructTree}
+use Rattle.tv_tvs.specs.Canonical.{more_texts, comma_text, value_text, second_text, item_value_text}
+use Rattle.tv_tvs.specs.Canonical.{item_text, content_text, line_text}
+use Rattle.tv_lex.proofs.PieceTokens.{Lexes}
+use Rattle.tv_tvs.proofs.Lexing.{Clear, IsWordText, mark, directive, word, half, word_first, half_first}
+use Rattle.tv_tvs.proofs.Lexing.{space_first, feed_first, open_brace_first, close_brace_first}
+use Rattle.tv_tvs.proofs.Lexing.{open_bracket_first, close_bracket_first, comma_first, colon_first}
+use Rattle.tv_tvs.proofs.Lexing.{arrow_first, equals_first}
 use Rattle.tv_tvs.proofs.Entries.{entry_if}
 
 -- ---- the tokens of a tree

@@ -1,68 +1,30 @@
 -- The tokens of a text, put in front of one another.
-use Rattle.std.proofs.Common.{◌≡◌, ℕ, suc, ◌<◌, List, [], ◌∷◌, ◌++◌, Option, Some, None, Ok, true, false, eqb, length, get_or, ap, sym, refl, ◌∙◌, subst, inl, inr, arith}
+use Rattle.std.proofs.Common.{◌≡◌, ℕ, suc, ◌<◌, List, [], ◌∷◌, ◌++◌, Option, Some, None, Ok, true, false, eqb}
+use Rattle.std.proofs.Common.{length, get_or, ap, sym, refl, ◌∙◌, subst, inl, inr, arith}
 use Rattle.std.specs.Prelude.{codes}
 use Rattle.std.specs.List.{prefix_len, list_all}
 use Rattle.std.proofs.lemmas.Bool.{and_parts, and_left, and_right, false≢true, cond-false, ne_eqb}
 use Rattle.std.proofs.lemmas.List.{append-nil}
 use Rattle.tv_lex.specs.Bytes.{is_word_byte}
 use Rattle.tv_lex.specs.Token.{SpecToken, spec_tokens}
-use Rattle.tv_lex.specs.Pieces.{Piece, Fits, AllFit, Stands, joined, placed, Reads}
+use Rattle.tv_lex.specs.Pieces.{Piece, Fits, AllFit, Stands, joined_pieces, placed, Reads}
 use Rattle.tv_lex.specs.Front.{front, token, is_half, word_front}
 use Rattle.tv_lex.specs.declared.token.Token.{Token}
 use Rattle.tv_lex.specs.declared.token.TokenKind.{TokenKind}
 use Rattle.tv_lex.specs.declared.token.TokenKind.TheVariants as kind
 use Rattle.tv_lex.proofs.Runs.{prefix_len-append-stop}
 use Rattle.tv_lex.proofs.Taken.{Takes, front_takes, front-blank, front-word}
-use Rattle.tv_lex.proofs.SpacedTexts.{spec_tokens-placed}
-
--- the tokens among pieces
-abbrev piece_token : Option TokenKind → List ℕ → List SpecToken
-piece_token None bytes = []
-piece_token (Some kind) bytes = record { kind = kind; bytes = bytes } ∷ []
-
-abbrev piece_tokens : List Piece → List SpecToken
-piece_tokens [] = []
-piece_tokens (p ∷ ps) = piece_token p.kind p.bytes ++ piece_tokens ps
-
--- the text is cut into these tokens
-pub record Lexes (text : List ℕ) (ts : List SpecToken) : Type 0 where
-  pub pieces : List Piece
-  pub fit : AllFit pieces []
-  pub whole : joined pieces ≡ text
-  pub are : piece_tokens pieces ≡ ts
-
-pub lexes_read : (text : List ℕ) (ts : List SpecToken) → Lexes text ts → (tokens : List Token) × Reads text (Ok tokens) × (spec_tokens text tokens ≡ ts)
-lexes_read text ts l =
-    let whole : text ≡ [] ++ (joined l.pieces ++ []) = sym l.whole ∙ sym (append-nil (joined l.pieces))
-    in (placed 0 l.pieces, (l.pieces, l.fit, l.whole, refl), spec_tokens-placed [] [] text 0 l.pieces refl whole ∙ l.are)
-
-pub read_lexes : (text : List ℕ) (tokens : List Token) → Reads text (Ok tokens) → Lexes text (spec_tokens text tokens)
-read_lexes text tokens r =
-    let whole : text ≡ [] ++ (joined r.0 ++ []) = sym r.2 ∙ sym (append-nil (joined r.0))
-    in record {
-      pieces = r.0;
-      fit = r.1;
-      whole = r.2;
-      are = sym (ap (spec_tokens text) r.3 ∙ spec_tokens-placed [] [] text 0 r.0 refl whole);
-    }
-
-fits_as_taken : (kind : Option TokenKind) (bytes rest : List ℕ) → Stands kind bytes rest → front (bytes ++ rest) ≡ Ok (record { kind = kind; len = length bytes }) → Fits (record { kind = kind; bytes = bytes }) rest
-fits_as_taken kind bytes rest stands is = record {
-  stands = stands;
-  longest = λ other more behind same stands.
-      let takes : Takes (Ok (record { kind = kind; len = length bytes })) other (length more) = subst (λ r. Takes r other (length more)) (ap front same ∙ is) (front_takes other more behind stands)
-      in takes.0;
-}
+use Rattle.tv_lex.proofs.PieceTokens.{Lexes, fits_as_taken, token_of}
 
 piece_first : (kind : Option TokenKind) (bytes rest : List ℕ) (ts : List SpecToken) → Stands kind bytes rest
-    → front (bytes ++ rest) ≡ Ok (record { kind = kind; len = length bytes }) → Lexes rest ts → Lexes (bytes ++ rest) (piece_token kind bytes ++ ts)
+    → front (bytes ++ rest) ≡ Ok (record { kind = kind; len = length bytes }) → Lexes rest ts → Lexes (bytes ++ rest) (token_of kind bytes ++ ts)
 piece_first kind bytes rest ts stands is l =
-    let behind : rest ≡ joined l.pieces ++ [] = sym l.whole ∙ sym (append-nil (joined l.pieces))
+    let behind : rest ≡ joined_pieces l.pieces ++ [] = sym l.whole ∙ sym (append-nil (joined_pieces l.pieces))
     in record {
       pieces = record { kind = kind; bytes = bytes } ∷ l.pieces;
       fit = (subst (Fits (record { kind = kind; bytes = bytes })) behind (fits_as_taken kind bytes rest stands is), l.fit);
       whole = ap (λ t. bytes ++ t) l.whole;
-      are = ap (λ us. piece_token kind bytes ++ us) l.are;
+      are = ap (λ us. token_of kind bytes ++ us) l.are;
     }
 
 -- ---- blanks and marks

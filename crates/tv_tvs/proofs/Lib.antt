@@ -6,9 +6,8 @@ pub mod Entries
 pub mod Filled
 pub mod LaidOut
 pub mod Lexing
-pub mod Loops
 pub mod NameTexts
-pub mod Numbers
+pub mod WrittenNumbers
 pub mod RoundTrip
 pub mod Sound
 pub mod Spelled

@@ -1,5 +1,7 @@
 -- What is written of a structure is read as that structure again.
-use Rattle.std.proofs.Common.{◌≡◌, ◌≢◌, ℕ, zero, suc, ◌+◌, ◌<◌, ◌≤◌, ◌^◌, ◌%◌, List, [], ◌∷◌, ◌++◌, Option, Some, None, Ok, true, ◌||◌, eqb, length, map, get_or, ap, sym, refl, ◌∙◌, subst, ◌⊎◌, inl, inr, arith, append_assoc}
+use Rattle.std.proofs.Common.{◌≡◌, ◌≢◌, ℕ, zero, suc, ◌+◌, ◌<◌, ◌≤◌, ◌^◌, ◌%◌, List, [], ◌∷◌, ◌++◌, Option}
+use Rattle.std.proofs.Common.{Some, None, Ok, true, ◌||◌, eqb, length, map, get_or, ap, sym, refl, ◌∙◌, subst}
+use Rattle.std.proofs.Common.{◌⊎◌, inl, inr, arith, append_assoc}
 use Rattle.std.specs.Prelude.{codes, decimal, All, Contains}
 use Rattle.std.specs.List.{list_all, flat_map, AllByRecursion, join_with_byte, cons_option, range_with_len}
 use Rattle.std.specs.Char.{is_ascii_alphanumeric}
@@ -17,16 +19,23 @@ use Rattle.tv_model.specs.declared.program.Pred.{Pred}
 use Rattle.tv_model.specs.declared.program.Vocab.{Vocab}
 use Rattle.tv_struct.specs.StructureForm.{StructureForm, value_at, unmarked}
 use Rattle.tv_tvs.specs.Tree.{NameTree, name_text, ItemTree, ContentTree, EntryTree, StructTree}
-use Rattle.tv_tvs.specs.Canonical.{comma_text, individual, individuals, tuples, tuple_item, written_item, written_items, if_some, value_content, content_of, line_text, summary_value, preds_text, summaries_text, canonical_text}
+use Rattle.tv_tvs.specs.Canonical.{comma_text, individual, individuals, tuples, tuple_item, written_item}
+use Rattle.tv_tvs.specs.Canonical.{written_items, if_some, value_content, content_of, line_text}
+use Rattle.tv_tvs.specs.Canonical.{summary_value, preds_text, summaries_text, canonical_text}
 use Rattle.tv_tvs.specs.Grammar.{IsStruct, AreStructs}
 use Rattle.tv_phrases.specs.Tokens.{after}
 use Rattle.tv_tree.specs.Steps.{◌>>=◌}
 use Rattle.tv_tvs.specs.Meaning.{IsVocabulary, struct_meant, structs_meant}
 use Rattle.tv_tvs.specs.Laws.{HaveOneReading, IsSpelled, StructuresAreReadAgain}
-use Rattle.tv_tvs.proofs.Lexing.{Lexes, lexes_read, read_lexes, Clear, IsWordText, mark, space_first, feed_first, open_brace_first, close_brace_first, equals_first, n_first, p_first, word_first}
-use Rattle.tv_tvs.proofs.LaidOut.{comma_items, more_items, spell_word, spell_entry, spell_struct, spell_opening, IsItemText, IsContentText, IsNameText, comma_lexes, line_lexes}
+use Rattle.tv_lex.proofs.PieceTokens.{Lexes, lexes_read, read_lexes}
+use Rattle.tv_tvs.proofs.Lexing.{Clear, IsWordText, mark, space_first, feed_first, open_brace_first}
+use Rattle.tv_tvs.proofs.Lexing.{close_brace_first, equals_first, n_first, p_first, word_first}
+use Rattle.tv_tvs.proofs.LaidOut.{comma_items, more_items, spell_word, spell_entry, spell_struct}
+use Rattle.tv_tvs.proofs.LaidOut.{spell_opening, IsItemText, IsContentText, IsNameText, comma_lexes}
+use Rattle.tv_tvs.proofs.LaidOut.{line_lexes}
 use Rattle.tv_tvs.proofs.Spelled.{IsNameTree, struct_is, in_range}
-use Rattle.tv_tvs.proofs.Entries.{entry_if, pred_entries, sm_name, canonical_tree, AreNames, IsPlain, tree_again}
+use Rattle.tv_tvs.proofs.Entries.{entry_if, pred_entries, sm_name, canonical_tree, AreNames, IsPlain}
+use Rattle.tv_tvs.proofs.Entries.{tree_again}
 use Rattle.tv_tvs.proofs.Again.{IsTuple, tuples_are}
 use Rattle.tv_tvs.proofs.Complete.{one_struct, one_text}
 
@@ -275,7 +284,7 @@ plain vocab v spelled = record { names = v.names; arities = v.arities; no_sm = �
 
 structs_are : (t : StructTree) → AllByRecursion (λ (e : EntryTree). IsNameTree e.name) t.entries → AreStructs (spell_struct t []) (t ∷ [])
 unfolding after
-structs_are t all = (refl, ([], struct_is t all [], (refl, refl)))
+structs_are t all = ([], refl, struct_is t all [], (refl, refl))
 
 pub read_again : StructuresAreReadAgain
 read_again vocab s v spelled is over =

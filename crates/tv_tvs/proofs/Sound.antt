@@ -1,5 +1,6 @@
 -- What is read is what the grammar says.
-use Rattle.std.proofs.Common.{◌≡◌, ℕ, zero, suc, Bool, true, false, cond, List, [], ◌∷◌, length, Option, Some, None, refl, subst, ◌⊎◌, inl, inr, arith, eqb}
+use Rattle.std.proofs.Common.{◌≡◌, ℕ, ◌+◌, Bool, true, false, cond, List, [], ◌∷◌, length, Option, Some, None}
+use Rattle.std.proofs.Common.{refl, subst, ◌⊎◌, inl, inr, arith, eqb}
 use Rattle.std.specs.Prelude.{codes}
 use Rattle.std.proofs.lemmas.Option.{same_Some, cond_some}
 use Rattle.std.proofs.lemmas.Bool.{eqb-true}
@@ -8,45 +9,31 @@ use Rattle.tv_lex.specs.Token.{SpecToken}
 use Rattle.tv_phrases.specs.Reading.{Reading, ◌>>=◌, choose}
 use Rattle.tv_phrases.specs.Tokens.{after, first, word_item}
 use Rattle.tv_phrases.specs.Lists.{optional_list, name}
+use Rattle.tv_phrases.specs.Repeated.{Repeated, all_of}
+use Rattle.tv_phrases.proofs.Values.{bind_some, chosen, tested}
+use Rattle.tv_phrases.proofs.Repeats.{many_sound}
 use Rattle.tv_tvs.specs.Tree.{ItemTree, ContentTree, OneValue, Listed, EntryTree, StructTree}
-use Rattle.tv_tvs.specs.Grammar.{Many, value_item, IsSecond, IsItemValue, IsItem, IsNextItem, AreItems, IsContent, IsEntry, IsOpening, IsStruct, AreStructs, begins_comma, begins_word, begins_name, begins_struct}
-use Rattle.tv_tvs.specs.Reading.{many, second_at, item_value_at, item_at, next_item_at, next_items_at, one_or_more_at, items_at, one_value_at, braces_at, content_at, entry_at, entries_at, opening_at, struct_at, structs_at, text_of_structs}
-
-pub bind_some : {A B : Type 0} (o : Option A) (f : A → Option B) (y : B) → (o >>= f) ≡ Some y → (x : A) × (o ≡ Some x) × (f x ≡ Some y)
-bind_some None f y e = absurd cc
-bind_some (Some x) f y e = (x, refl, e)
-
-pub chosen : {A : Type 0} (b : Bool) (x y z : A) → cond b x y ≡ z → ((b ≡ true) × (x ≡ z)) ⊎ ((b ≡ false) × (y ≡ z))
-chosen true x y z e = inl (refl, e)
-chosen false x y z e = inr (refl, e)
-
-pub choices : {A B : Type 0} (o : Option A) (none : B) (some : A → B) (z : B) → choose o none some ≡ z
-    → ((o ≡ None) × (none ≡ z)) ⊎ ((x : A) × (o ≡ Some x) × (some x ≡ z))
-choices None none some z e = inl (refl, e)
-choices (Some x) none some z e = inr (x, refl, e)
+use Rattle.tv_tvs.specs.Grammar.{value_item, IsSecond, IsItemValue, IsItemTree, IsNextItem, AreItems}
+use Rattle.tv_tvs.specs.Grammar.{IsContent, IsEntry, IsOpening, IsStruct, AreStructs, begins_comma}
+use Rattle.tv_tvs.specs.Grammar.{begins_word, begins_name, begins_struct}
+use Rattle.tv_tvs.specs.Reading.{second_at, item_value_at, item_at, next_item_at, next_items_at}
+use Rattle.tv_tvs.specs.Reading.{one_or_more_at, items_at, one_value_at, braces_at, content_at, entry_at}
+use Rattle.tv_tvs.specs.Reading.{entries_at, opening_at, struct_at, structs_at, text_of_structs}
 
 -- what the reading gives is a phrase
 abbrev pub Sound : {X : Type 0} → (List SpecToken → Reading X) → (List SpecToken → X → List SpecToken → Type 0) → Type 0
 Sound {X} part Part = (ts : List SpecToken) (y : X × List SpecToken) → part ts ≡ Some y → Part ts y.0 y.1
 
-many_sound : {X : Type 0} (begins : List SpecToken → Bool) (part : List SpecToken → Reading X) (Part : List SpecToken → X → List SpecToken → Type 0)
-    → Sound part Part → (n : ℕ) → Sound (many begins part n) (Many begins Part)
-unfolding many
-many_sound begins part Part sound zero ts y e = absurd cc
-many_sound {X} begins part Part sound (suc n) ts y e =
-    elim (chosen (begins ts) (part ts >>= λ x. many begins part n x.1 >>= λ xs. Some (x.0 ∷ xs.0, xs.1)) (Some ([], ts)) (Some y) e) [
-      | inl h ↦
-          let b = bind_some (part ts) (λ x. many begins part n x.1 >>= λ xs. Some (x.0 ∷ xs.0, xs.1)) y h.1
-          in let d = bind_some (many begins part n b.0.1) (λ xs. Some (b.0.0 ∷ xs.0, xs.1)) y b.2
-          in subst (λ (z : List X × List SpecToken). Many begins Part ts z.0 z.1) (same_Some (b.0.0 ∷ d.0.0, d.0.1) y d.2)
-          (h.0, (b.0.1, sound ts b.0 b.1, many_sound begins part Part sound n b.0.1 d.0 d.1))
-      | inr h ↦ subst (λ (z : List X × List SpecToken). Many begins Part ts z.0 z.1) (same_Some ([], ts) y h.1) (h.0, refl)
-    ]
+-- the same of any number of parts
+parts_sound : {X : Type 0} (begins : List SpecToken → Bool) (part : List SpecToken → Reading X) (Part : List SpecToken → X → List SpecToken → Type 0)
+    → Sound part Part → Sound (all_of begins part) (Repeated begins Part)
+parts_sound begins part Part sound ts y e =
+    many_sound begins part Part (λ us vs x is. sound us (x, vs) is) (length ts + 1) ts y.1 y.0 e
 
 second_sound : Sound second_at IsSecond
 unfolding second_at
 second_sound ts y e =
-    elim (choices (after (codes "->") ts) (Some (None, ts)) (λ us. first word_item us >>= λ w. Some (Some w.0, w.1)) (Some y) e) [
+    elim (chosen (after (codes "->") ts) (Some (None, ts)) (λ us. first word_item us >>= λ w. Some (Some w.0, w.1)) (Some y) e) [
       | inl h ↦ subst (λ (z : Option (List ℕ) × List SpecToken). IsSecond ts z.0 z.1) (same_Some (None, ts) y h.1) (h.0, refl)
       | inr h ↦
           let b = bind_some (first word_item h.0) (λ w. Some (Some w.0, w.1)) y h.2
@@ -56,7 +43,7 @@ second_sound ts y e =
 item_value_sound : Sound item_value_at IsItemValue
 unfolding item_value_at
 item_value_sound ts y e =
-    elim (choices (after (codes ":") ts) (Some (None, ts)) (λ us. first value_item us >>= λ k. Some (Some k.0, k.1)) (Some y) e) [
+    elim (chosen (after (codes ":") ts) (Some (None, ts)) (λ us. first value_item us >>= λ k. Some (Some k.0, k.1)) (Some y) e) [
       | inl h ↦ subst (λ (z : Option K3 × List SpecToken). IsItemValue ts z.0 z.1) (same_Some (None, ts) y h.1) (h.0, refl)
       | inr h ↦
           let b = bind_some (first value_item h.0) (λ k. Some (Some k.0, k.1)) y h.2
@@ -66,13 +53,13 @@ item_value_sound ts y e =
 abbrev item_with : List ℕ → Option (List ℕ) → Option K3 → ItemTree
 item_with word second value = record { first = word; second = second; value = value }
 
-item_sound : Sound item_at IsItem
+item_sound : Sound item_at IsItemTree
 unfolding item_at
 item_sound ts y e =
     let a = bind_some (first word_item ts) (λ word. second_at word.1 >>= λ second. item_value_at second.1 >>= λ value. Some (item_with word.0 second.0 value.0, value.1)) y e
     in let b = bind_some (second_at a.0.1) (λ second. item_value_at second.1 >>= λ value. Some (item_with a.0.0 second.0 value.0, value.1)) y a.2
     in let c = bind_some (item_value_at b.0.1) (λ value. Some (item_with a.0.0 b.0.0 value.0, value.1)) y b.2
-    in subst (λ (z : ItemTree × List SpecToken). IsItem ts z.0 z.1) (same_Some (item_with a.0.0 b.0.0 c.0.0, c.0.1) y c.2)
+    in subst (λ (z : ItemTree × List SpecToken). IsItemTree ts z.0 z.1) (same_Some (item_with a.0.0 b.0.0 c.0.0, c.0.1) y c.2)
     (a.0.1, b.0.1, a.1, second_sound a.0.1 b.0 b.1, item_value_sound b.0.1 c.0 c.1)
 
 next_item_sound : Sound next_item_at IsNextItem
@@ -84,19 +71,19 @@ next_item_sound ts y e =
 items_sound : Sound items_at AreItems
 unfolding items_at one_or_more_at
 items_sound ts y e =
-    elim (chosen (begins_word ts) (one_or_more_at ts) (Some ([], ts)) (Some y) e) [
+    elim (tested (begins_word ts) (one_or_more_at ts) (Some ([], ts)) (Some y) e) [
       | inl h ↦
           let a = bind_some (item_at ts) (λ item. next_items_at item.1 >>= λ items. Some (item.0 ∷ items.0, items.1)) y h.1
           in let b = bind_some (next_items_at a.0.1) (λ items. Some (a.0.0 ∷ items.0, items.1)) y a.2
           in subst (λ (z : List ItemTree × List SpecToken). AreItems ts z.0 z.1) (same_Some (a.0.0 ∷ b.0.0, b.0.1) y b.2)
-          (a.0.1, item_sound ts a.0 a.1, many_sound begins_comma next_item_at IsNextItem next_item_sound _ a.0.1 b.0 b.1)
+          (a.0.1, item_sound ts a.0 a.1, parts_sound begins_comma next_item_at IsNextItem next_item_sound a.0.1 b.0 b.1)
       | inr h ↦ subst (λ (z : List ItemTree × List SpecToken). AreItems ts z.0 z.1) (same_Some ([], ts) y h.1) (h.0, refl)
     ]
 
 content_sound : Sound content_at IsContent
 unfolding content_at one_value_at braces_at
 content_sound ts y e =
-    elim (choices (after (codes "{") ts) (one_value_at ts) braces_at (Some y) e) [
+    elim (chosen (after (codes "{") ts) (one_value_at ts) braces_at (Some y) e) [
       | inl h ↦
           let a = bind_some (first value_item ts) (λ k. Some (OneValue k.0, k.1)) y h.1
           in subst (λ (z : ContentTree × List SpecToken). IsContent ts z.0 z.1) (same_Some (OneValue a.0.0, a.0.1) y a.2) (h.0, a.1)
@@ -149,7 +136,7 @@ struct_sound ts y e =
       words = b.1;
       closes = c.1;
       opens_entries = opening_sound (codes "%p") c.0 d.0 d.1;
-      are_entries = many_sound begins_name entry_at IsEntry entry_sound _ d.0 f.0 f.1;
+      are_entries = parts_sound begins_name entry_at IsEntry entry_sound d.0 f.0 f.1;
       closes_entries = g.1;
     })
 
@@ -162,5 +149,5 @@ unfolding text_of_structs
 text_sound ts trees e =
     let a = bind_some (structs_at ts) (λ x. cond (eqb (length x.1) 0) (Some x.0) None) trees e
     in let b = cond_some (eqb (length a.0.1) 0) a.0.0 trees a.2
-    in let all : Many begins_struct IsStruct ts a.0.0 a.0.1 = many_sound begins_struct struct_at IsStruct struct_sound _ ts a.0 a.1
-    in subst (λ us. Many begins_struct IsStruct ts trees us) (none_left a.0.1 b.0) (subst (λ xs. Many begins_struct IsStruct ts xs a.0.1) b.1 all)
+    in let all : Repeated begins_struct IsStruct ts a.0.0 a.0.1 = parts_sound begins_struct struct_at IsStruct struct_sound ts a.0 a.1
+    in subst (λ us. Repeated begins_struct IsStruct ts trees us) (none_left a.0.1 b.0) (subst (λ xs. Repeated begins_struct IsStruct ts xs a.0.1) b.1 all)

@@ -1,5 +1,7 @@
 -- The tokens that spell a tree are that tree.
-use Rattle.std.proofs.Common.{◌≡◌, ℕ, ◌<◌, ◌≤◌, List, [], ◌∷◌, ◌++◌, Option, Some, None, Bool, true, false, not, get_or, ap, sym, refl, ◌∙◌, subst, ◌⊎◌, inl, inr, arith, append_assoc, leb, eqb}
+use Rattle.std.proofs.Common.{◌≡◌, ℕ, ◌<◌, ◌≤◌, List, [], ◌∷◌, ◌++◌, Option, Some, None, Bool, true, false}
+use Rattle.std.proofs.Common.{not, get_or, ap, sym, refl, ◌∙◌, subst, ◌⊎◌, inl, inr, arith, append_assoc, leb}
+use Rattle.std.proofs.Common.{eqb}
 use Rattle.std.specs.Prelude.{codes, Contains}
 use Rattle.std.specs.List.{flat_map, AllByRecursion}
 use Rattle.std.specs.Int.{is_in_range}
@@ -11,12 +13,17 @@ use Rattle.tv_kleene.specs.declared.K3.TheVariants.{No, Half, Yes}
 use Rattle.tv_lex.specs.Bytes.{is_letter}
 use Rattle.tv_lex.specs.Token.{SpecToken}
 use Rattle.tv_model.specs.Spelling.{IsIdentifier, IsLetter, IsDigit, reserved_words}
-use Rattle.tv_phrases.specs.Tokens.{after, first, word_item, identifier_item, is_identifier, is_reserved, begins_name}
+use Rattle.tv_phrases.specs.Tokens.{after, first, word_item, identifier_item, is_identifier, is_reserved}
+use Rattle.tv_phrases.specs.Tokens.{begins_name}
 use Rattle.tv_phrases.specs.Lists.{with_front, items_from, optional_list, optional_brackets, between, name}
 use Rattle.tv_tvs.specs.Tree.{NameTree, ItemTree, ContentTree, OneValue, Listed, EntryTree, StructTree}
-use Rattle.tv_tvs.specs.Grammar.{Many, value_item, IsItem, IsNextItem, AreItems, IsContent, IsEntry, IsOpening, IsStruct, begins_comma, begins_name as begins_entry}
+use Rattle.tv_phrases.specs.Repeated.{Repeated}
+use Rattle.tv_tvs.specs.Grammar.{value_item, IsItemTree, IsNextItem, AreItems, IsContent, IsEntry, IsOpening}
+use Rattle.tv_tvs.specs.Grammar.{IsStruct, begins_comma, begins_name as begins_entry}
 use Rattle.tv_tvs.proofs.Lexing.{mark, directive, word}
-use Rattle.tv_tvs.proofs.LaidOut.{more_items, comma_items, spell_word, spell_brackets, spell_name, spell_value, spell_second, spell_item_value, spell_item, spell_content, spell_entry, spell_opening, spell_struct}
+use Rattle.tv_tvs.proofs.LaidOut.{more_items, comma_items, spell_word, spell_brackets, spell_name}
+use Rattle.tv_tvs.proofs.LaidOut.{spell_value, spell_second, spell_item_value, spell_item, spell_content}
+use Rattle.tv_tvs.proofs.LaidOut.{spell_entry, spell_opening, spell_struct}
 
 -- ---- identifiers
 
@@ -119,7 +126,7 @@ no_colon true ts = refl
 no_colon false ts = refl
 
 item_is_at : (w : List ℕ) (second : Option (List ℕ)) (value : Option K3) (b : Bool) (ts : List SpecToken)
-    → IsItem (word w ∷ (spell_second second ++ spell_item_value value) ++ separator b ∷ ts) (record { first = w; second = second; value = value }) (separator b ∷ ts)
+    → IsItemTree (word w ∷ (spell_second second ++ spell_item_value value) ++ separator b ∷ ts) (record { first = w; second = second; value = value }) (separator b ∷ ts)
 unfolding first after
 item_is_at w None None b ts = (separator b ∷ ts, separator b ∷ ts, refl, (no_arrow b ts, refl), (no_colon b ts, refl))
 item_is_at w None (Some k) b ts =
@@ -135,17 +142,17 @@ item_is_at w (Some v) (Some k) b ts =
 abbrev tail_tokens : List ItemTree → List SpecToken → List SpecToken
 tail_tokens items ts = more_items spell_item items ++ mark (codes "}") ∷ ts
 
-item_in_front : (item : ItemTree) (items : List ItemTree) (ts : List SpecToken) → IsItem (spell_item item ++ tail_tokens items ts) item (tail_tokens items ts)
+item_in_front : (item : ItemTree) (items : List ItemTree) (ts : List SpecToken) → IsItemTree (spell_item item ++ tail_tokens items ts) item (tail_tokens items ts)
 item_in_front item [] ts = item_is_at item.first item.second item.value false ts
 item_in_front item (next ∷ items) ts = item_is_at item.first item.second item.value true ((spell_item next ++ more_items spell_item items) ++ mark (codes "}") ∷ ts)
 
-next_items_are : (items : List ItemTree) (ts : List SpecToken) → Many begins_comma IsNextItem (tail_tokens items ts) items (mark (codes "}") ∷ ts)
+next_items_are : (items : List ItemTree) (ts : List SpecToken) → Repeated begins_comma IsNextItem (tail_tokens items ts) items (mark (codes "}") ∷ ts)
 unfolding after
 next_items_are [] ts = (refl, refl)
 next_items_are (item ∷ items) ts =
     let tokens : spell_item item ++ tail_tokens items ts ≡ (spell_item item ++ more_items spell_item items) ++ mark (codes "}") ∷ ts
     = sym (append_assoc (spell_item item) (more_items spell_item items) (mark (codes "}") ∷ ts))
-    in (refl, (tail_tokens items ts, (spell_item item ++ tail_tokens items ts, ap (λ us. Some us) (sym tokens), item_in_front item items ts), next_items_are items ts))
+    in (tail_tokens items ts, refl, (spell_item item ++ tail_tokens items ts, ap (λ us. Some us) (sym tokens), item_in_front item items ts), next_items_are items ts)
 
 items_are : (items : List ItemTree) (ts : List SpecToken) → AreItems (comma_items spell_item items ++ mark (codes "}") ∷ ts) items (mark (codes "}") ∷ ts)
 unfolding first
@@ -153,7 +160,7 @@ items_are [] ts = (refl, refl)
 items_are (item ∷ items) ts =
     let tokens : spell_item item ++ tail_tokens items ts ≡ (spell_item item ++ more_items spell_item items) ++ mark (codes "}") ∷ ts
     = sym (append_assoc (spell_item item) (more_items spell_item items) (mark (codes "}") ∷ ts))
-    in (tail_tokens items ts, subst (λ us. IsItem us item (tail_tokens items ts)) tokens (item_in_front item items ts), next_items_are items ts)
+    in (tail_tokens items ts, subst (λ us. IsItemTree us item (tail_tokens items ts)) tokens (item_in_front item items ts), next_items_are items ts)
 
 content_is : (c : ContentTree) (ts : List SpecToken) → IsContent (spell_content c ++ ts) c ts
 unfolding after
@@ -176,19 +183,18 @@ entry_is e is ts =
     in (mark (codes "=") ∷ (spell_content e.content ++ ts), spell_content e.content ++ ts, ap name tokens ∙ name_read e.name is (spell_content e.content ++ ts), refl, content_is e.content ts)
 
 entries_are : (es : List EntryTree) → AllByRecursion (λ e. IsNameTree e.name) es → (ts : List SpecToken)
-    → Many begins_entry IsEntry (flat_map spell_entry es ++ mark (codes "}") ∷ ts) es (mark (codes "}") ∷ ts)
+    → Repeated begins_entry IsEntry (flat_map spell_entry es ++ mark (codes "}") ∷ ts) es (mark (codes "}") ∷ ts)
 unfolding first
 entries_are [] is ts = (refl, refl)
 entries_are (e ∷ es) is ts =
     let tokens : spell_entry e ++ (flat_map spell_entry es ++ mark (codes "}") ∷ ts) ≡ flat_map spell_entry (e ∷ es) ++ mark (codes "}") ∷ ts
     = sym (append_assoc (spell_entry e) (flat_map spell_entry es) (mark (codes "}") ∷ ts))
     in (
+      flat_map spell_entry es ++ mark (codes "}") ∷ ts,
       rw (identifier_read e.name.0 is.0.0) refl,
-      (
-        flat_map spell_entry es ++ mark (codes "}") ∷ ts,
-        subst (λ us. IsEntry us e (flat_map spell_entry es ++ mark (codes "}") ∷ ts)) tokens (entry_is e is.0 (flat_map spell_entry es ++ mark (codes "}") ∷ ts)),
-        entries_are es is.1 ts,
-      ),
+      subst (λ us. IsEntry us e (flat_map spell_entry es ++ mark (codes "}") ∷ ts)) tokens
+          (entry_is e is.0 (flat_map spell_entry es ++ mark (codes "}") ∷ ts)),
+      entries_are es is.1 ts,
     )
 
 opening_is : (d : List ℕ) (ts : List SpecToken) → after d (directive d ∷ mark (codes "=") ∷ mark (codes "{") ∷ ts) ≡ Some (mark (codes "=") ∷ mark (codes "{") ∷ ts)

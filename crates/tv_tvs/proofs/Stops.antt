@@ -1,20 +1,21 @@
 -- Where the readers stop, and what they hand on of structures.
-use Rattle.std.proofs.Common.{ℕ, ◌+◌, ◌==◌, ◌≡◌, List, take, length, get_or, min, Some, Result, Ok, Err, ap, subst, ◌∙◌, inl}
+use Rattle.std.proofs.Common.{ℕ, ◌+◌, ◌==◌, ◌≡◌, List, take, length, get_or, min, Some, Result, Ok, Err, ap}
+use Rattle.std.proofs.Common.{subst, ◌∙◌, inl}
 use Rattle.std.specs.Prelude.{slice_get, IfErr, IfOk, All, None}
 use Rattle.std.proofs.lemmas.List.{take_min}
 use Rattle.std.proofs.lemmas.Option.{slice_get_within, get_or_from_slice_get}
 use Rattle.std.proofs.Math.Nat.{min_comm}
 use Rattle.std.specs.List.{count_by, suffix_len}
 use Rattle.tv_lex.specs.Bytes.{stays_on_line}
-use Rattle.tv_lex.specs.Places.{place_at, IsTokenPlace}
+use Rattle.tv_lex.specs.Places.{place_at, IsTokenPlace, StopsAtToken}
 use Rattle.tv_lex.specs.declared.token.Place.{Place}
 use Rattle.tv_lex.specs.declared.token.Token.{Token}
 use Rattle.tv_model.specs.declared.program.Vocab.{Vocab}
 use Rattle.tv_struct.specs.StructureForm.{StructureForm, IsStructure, IsOver}
 use Rattle.tv_tvs.specs.Targets.{IsRead}
 use Rattle.tv_tvs.specs.declared.error.TvsError.{TvsError}
-use Rattle.tv_tvs.specs.declared.error.TvsError.TheVariants.{Syntax, IndividualUnknown, IndividualTwice, NameUnknown, ArityWrong, BadSm, TooManyIndividuals, Memory}
-use Rattle.tv_tvs.specs.Meaning.{Answers, Fails, StopsAtToken}
+use Rattle.tv_tvs.specs.declared.error.TvsError.TheVariants.{Syntax}
+use Rattle.tv_tvs.specs.Meaning.{Answers, RefusesStructures, structures_place}
 
 -- the place behind these bytes
 place_behind : List ℕ → Place
@@ -28,19 +29,13 @@ start_place text tokens t i place is there =
     in inl (i, t, slice_get_within tokens i t is, get_or_from_slice_get tokens i t t is, there ∙ ap (place_behind) within)
 
 -- a refusal that is told of a tree has no place
-pub told_stops : {X : Type 0} (text : List ℕ) (tokens : List Token) (e : TvsError) (meaning : Result X TvsError) → Fails e meaning
-    → StopsAtToken text tokens e
+pub told_stops : {X : Type 0} (text : List ℕ) (tokens : List Token) (e : TvsError) (meaning : Result X TvsError) → RefusesStructures e meaning
+    → StopsAtToken structures_place text tokens e
 told_stops text tokens (Syntax place) meaning fails = absurd fails
-told_stops text tokens IndividualUnknown meaning fails = tt
-told_stops text tokens IndividualTwice meaning fails = tt
-told_stops text tokens NameUnknown meaning fails = tt
-told_stops text tokens ArityWrong meaning fails = tt
-told_stops text tokens BadSm meaning fails = tt
-told_stops text tokens TooManyIndividuals meaning fails = tt
-told_stops text tokens Memory meaning fails = tt
+told_stops text tokens other meaning fails = tt
 
 pub answer_stops : {R X : Type 0} (view : R → X) (text : List ℕ) (tokens : List Token) (r : Result R TvsError) (meaning : Result X TvsError)
-    → Answers view r meaning → IfErr r (StopsAtToken text tokens)
+    → Answers view r meaning → IfErr r (StopsAtToken structures_place text tokens)
 answer_stops view text tokens (Ok x) meaning answers = tt
 answer_stops view text tokens (Err e) meaning answers = told_stops text tokens e meaning answers
 

@@ -1,5 +1,6 @@
 -- Names that stand twice.
-use Rattle.std.proofs.Common.{◌≡◌, ◌≢◌, ℕ, zero, suc, ◌+◌, ◌<◌, Bool, true, false, not, ◌||◌, cond, get_or, List, [], ◌∷◌, ◌++◌, length, map, take, drop, refl, sym, ap, ◌∙◌, arith, Bor}
+use Rattle.std.proofs.Common.{◌≡◌, ◌≢◌, ℕ, zero, suc, ◌+◌, ◌<◌, Bool, true, false, not, ◌||◌, cond, get_or}
+use Rattle.std.proofs.Common.{List, [], ◌∷◌, ◌++◌, length, map, take, drop, refl, sym, ap, ◌∙◌, arith, Bor}
 use Rattle.std.specs.Prelude.{AllPairs, position}
 use Rattle.std.specs.List.{list_any, position_or_len}
 use Rattle.std.specs.Str.{bytes_eq}
@@ -21,13 +22,6 @@ module _ (same : Bor (List ℕ) → Bor (List ℕ) → Bool) (means : (a b : Bor
   pub names_added : (ks : List (Bor (List ℕ))) (k : Bor (List ℕ)) → list_any (same k) ks ≡ false
       → names_of (insert_key same ks k) ≡ names_of ks ++ k.now ∷ []
   names_added ks k new = rw new (map_push (λ name. name.now) ks k)
-
-position_or_len-map : {A B : Type 0} (f : A → B) (p : B → Bool) (xs : List A) → position_or_len p (map f xs) ≡ position_or_len (λ x. p (f x)) xs
-position_or_len-map f p [] = refl
-position_or_len-map f p (x ∷ xs) = ap (λ n. cond (not (p (f x))) (1 + n) 0) (position_or_len-map f p xs)
-
-pub position-map : {A B : Type 0} (f : A → B) (p : B → Bool) (xs : List A) → position p (map f xs) ≡ position (λ x. p (f x)) xs
-position-map f p xs = rw (position_or_len-map f p xs, length-map xs f) refl
 
 -- a name that none before it has
 pub among_not : (names : List (List ℕ)) (name : List ℕ) → ((k : ℕ) → k < length names → get_or names k [] ≡ name → ⊥) → is_among names name ≡ false

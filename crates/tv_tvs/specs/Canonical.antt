@@ -1,5 +1,6 @@
 -- The canonical text of a structure.
-use Rattle.std.specs.Prelude.{ℕ, zero, suc, ◌+◌, List, [], ◌∷◌, ◌++◌, map, Option, Some, None, slice_get, slice_index, if◌then◌else◌, codes, decimal}
+use Rattle.std.specs.Prelude.{ℕ, zero, suc, ◌+◌, List, [], ◌∷◌, ◌++◌, map, Option, Some, None, slice_get}
+use Rattle.std.specs.Prelude.{slice_index, if◌then◌else◌, codes, decimal}
 use Rattle.std.specs.List.{flat_map, filter_map, range_with_len}
 use Rattle.std.specs.Option.{option_map}
 use Rattle.tv_kleene.specs.declared.K3.{K3}
@@ -82,8 +83,10 @@ written_items value tuples = filter_map (λ tuple. written_item tuple (value tup
 -- what is written of one tuple, and of the pairs that begin with an individual
 abbrev pub written_one : (first : ℕ) → (second : Option ℕ) → K3 → List ItemTree
 written_one first second No = []
-written_one first second Half = record { first = individual first; second = option_map individual second; value = Some Half } ∷ []
-written_one first second Yes = record { first = individual first; second = option_map individual second; value = None } ∷ []
+written_one first second Half =
+    record { first = individual first; second = option_map individual second; value = Some Half } ∷ []
+written_one first second Yes =
+    record { first = individual first; second = option_map individual second; value = None } ∷ []
 
 abbrev pub row_items : (List ℕ → K3) → (size u : ℕ) → List ItemTree
 row_items value size u = written_items value (map (λ tuple. u ∷ tuple) (tuples 1 size))
@@ -121,8 +124,8 @@ preds_text s p (pred ∷ preds) = pred_text s p pred ++ preds_text s (p + 1) pre
 abbrev pub summaries_text : StructureForm → List ℕ
 summaries_text s = line_text (codes "sm") (content_of s.size 1 (summary_value s))
 
--- the canonical text: the individuals, a line for each predicate that isn't 0 everywhere, in declaration order, and one for
--- the summaries, if there are any
+-- the canonical text: the individuals, a line for each predicate that isn't 0 everywhere, in declaration
+-- order, and one for the summaries, if there are any
 abbrev pub canonical_text : Vocab → StructureForm → List ℕ
 canonical_text vocab s =
     codes "%n = {" ++ (comma_text (individuals s.size) ++ (codes "}\n%p = {\n"

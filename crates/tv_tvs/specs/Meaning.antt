@@ -1,5 +1,7 @@
 -- What structures in texts mean: structures over a vocabulary, or the first refusal.
-use Rattle.std.specs.Prelude.{ℕ, ◌≡◌, ◌≢◌, ◌≤◌, List, [], ◌∷◌, ◌++◌, Bool, true, false, not, ◌&&◌, ◌||◌, ◌==◌, nat_lt, Option, Some, None, Result, Ok, Err, length, map, is_some, unwrap_or, slice_index, All, AllPairs, position, if◌then◌else◌, codes}
+use Rattle.std.specs.Prelude.{ℕ, ◌≡◌, ◌≢◌, ◌≤◌, List, [], ◌∷◌, ◌++◌, Bool, true, false, not, ◌&&◌, ◌||◌, ◌==◌}
+use Rattle.std.specs.Prelude.{nat_lt, Option, Some, None, Result, Ok, Err, length, map, is_some, unwrap_or}
+use Rattle.std.specs.Prelude.{slice_index, All, AllPairs, position, if◌then◌else◌, codes}
 use Rattle.std.specs.List.{list_all}
 use Rattle.std.specs.Str.{bytes_eq}
 use Rattle.tv_kleene.specs.declared.K3.{K3}
@@ -10,13 +12,13 @@ use Rattle.tv_tree.specs.Names.{is_among}
 use Rattle.tv_tree.specs.Steps.{◌>>=◌, or_refused}
 use Rattle.tv_struct.specs.StructureForm.{StructureForm, structure_of_no, with_value, with_summary}
 use Rattle.tv_lex.specs.Token.{SpecToken}
-use Rattle.tv_lex.specs.Places.{IsTokenPlace}
 use Rattle.tv_lex.specs.declared.token.Place.{Place}
-use Rattle.tv_lex.specs.declared.token.Token.{Token}
 use Rattle.tv_phrases.specs.declared.error.PhraseError.{PhraseError}
 use Rattle.tv_phrases.specs.declared.error.PhraseError.TheVariants as phrase
 use Rattle.tv_tvs.specs.declared.error.TvsError.{TvsError}
-use Rattle.tv_tvs.specs.declared.error.TvsError.TheVariants.{Syntax, IndividualUnknown, IndividualTwice, NameUnknown, ArityWrong, BadSm, TooManyIndividuals, Memory}
+use Rattle.tv_tvs.specs.declared.error.TvsError.TheVariants.{Syntax, IndividualUnknown, IndividualTwice}
+use Rattle.tv_tvs.specs.declared.error.TvsError.TheVariants.{NameUnknown, ArityWrong, BadSm}
+use Rattle.tv_tvs.specs.declared.error.TvsError.TheVariants.{TooManyIndividuals, Memory}
 use Rattle.tv_tvs.specs.Tree.{ItemTree, ContentTree, OneValue, Listed, EntryTree, StructTree, name_text}
 use Rattle.tv_tvs.specs.Grammar.{AreStructs, IsStruct}
 
@@ -78,11 +80,13 @@ item_value item = unwrap_or item.value Yes
 
 abbrev pub pair_of : (individuals : List (List ℕ)) → (u : ℕ) → Option (List ℕ) → Result (List ℕ) TvsError
 pair_of individuals u None = Ok (u ∷ [])
-pair_of individuals u (Some w) = or_refused (number_of individuals w) IndividualUnknown >>= λ v. Ok (u ∷ v ∷ [])
+pair_of individuals u (Some w) =
+    or_refused (number_of individuals w) IndividualUnknown >>= λ v. Ok (u ∷ v ∷ [])
 
 -- the individuals of an item, by number
 abbrev pub tuple_of_item : (individuals : List (List ℕ)) → ItemTree → Result (List ℕ) TvsError
-tuple_of_item individuals item = or_refused (number_of individuals item.first) IndividualUnknown >>= λ u. pair_of individuals u item.second
+tuple_of_item individuals item =
+    or_refused (number_of individuals item.first) IndividualUnknown >>= λ u. pair_of individuals u item.second
 
 -- an individual is a summary or isn't, which is 1/2 or 0
 abbrev pub summary_put : StructureForm → ℕ → K3 → Result StructureForm TvsError
@@ -94,29 +98,39 @@ abbrev pub value_put : Subject → StructureForm → (tuple : List ℕ) → K3 �
 value_put Summaries s tuple k = summary_put s (slice_index tuple 0) k
 value_put (Predicate p arity) s tuple k = Ok (with_value s p tuple k)
 
-abbrev pub item_put : (individuals : List (List ℕ)) → Subject → StructureForm → ItemTree → Result StructureForm TvsError
-item_put individuals subject s item = tuple_of_item individuals item >>= λ tuple. value_put subject s tuple (item_value item)
+abbrev pub item_put : (individuals : List (List ℕ)) → Subject → StructureForm → ItemTree
+    → Result StructureForm TvsError
+item_put individuals subject s item =
+    tuple_of_item individuals item >>= λ tuple. value_put subject s tuple (item_value item)
 
 -- items in order: of several for one tuple, the last counts
-abbrev pub items_put : (individuals : List (List ℕ)) → Subject → StructureForm → List ItemTree → Result StructureForm TvsError
+abbrev pub items_put : (individuals : List (List ℕ)) → Subject → StructureForm → List ItemTree
+    → Result StructureForm TvsError
 items_put individuals subject s [] = Ok s
-items_put individuals subject s (item ∷ items) = item_put individuals subject s item >>= λ t. items_put individuals subject t items
+items_put individuals subject s (item ∷ items) =
+    item_put individuals subject s item >>= λ t. items_put individuals subject t items
 
-abbrev pub content_put : (individuals : List (List ℕ)) → Subject → StructureForm → ContentTree → Result StructureForm TvsError
+abbrev pub content_put : (individuals : List (List ℕ)) → Subject → StructureForm → ContentTree
+    → Result StructureForm TvsError
 content_put individuals subject s (OneValue k) = value_put subject s [] k
 content_put individuals subject s (Listed items) = items_put individuals subject s items
 
-abbrev pub fitting_put : (individuals : List (List ℕ)) → Subject → StructureForm → ContentTree → Result StructureForm TvsError
+abbrev pub fitting_put : (individuals : List (List ℕ)) → Subject → StructureForm → ContentTree
+    → Result StructureForm TvsError
 fitting_put individuals subject s content =
     if fits (subject_arity subject) content then content_put individuals subject s content else Err ArityWrong
 
-abbrev pub entry_put : List Pred → (individuals : List (List ℕ)) → StructureForm → EntryTree → Result StructureForm TvsError
+abbrev pub entry_put : List Pred → (individuals : List (List ℕ)) → StructureForm → EntryTree
+    → Result StructureForm TvsError
 entry_put preds individuals s entry =
-    or_refused (subject_of preds (name_text entry.name)) NameUnknown >>= λ subject. fitting_put individuals subject s entry.content
+    or_refused (subject_of preds (name_text entry.name)) NameUnknown >>= λ subject.
+    fitting_put individuals subject s entry.content
 
-abbrev pub entries_put : List Pred → (individuals : List (List ℕ)) → StructureForm → List EntryTree → Result StructureForm TvsError
+abbrev pub entries_put : List Pred → (individuals : List (List ℕ)) → StructureForm → List EntryTree
+    → Result StructureForm TvsError
 entries_put preds individuals s [] = Ok s
-entries_put preds individuals s (entry ∷ entries) = entry_put preds individuals s entry >>= λ t. entries_put preds individuals t entries
+entries_put preds individuals s (entry ∷ entries) =
+    entry_put preds individuals s entry >>= λ t. entries_put preds individuals t entries
 
 -- ---- structures
 
@@ -128,7 +142,8 @@ blank preds individuals = structure_of_no (length individuals) (map (λ pred. pr
 abbrev pub struct_meant : List Pred → StructTree → Result StructureForm TvsError
 struct_meant preds t =
     if nat_lt 256 (length t.individuals) then Err TooManyIndividuals
-    else (all_different t.individuals >>= λ individuals. entries_put preds individuals (blank preds individuals) t.entries)
+    else (all_different t.individuals >>= λ individuals. entries_put preds individuals
+    (blank preds individuals) t.entries)
 
 abbrev pub structs_meant : List Pred → List StructTree → Result (List StructureForm) TvsError
 structs_meant preds [] = Ok []
@@ -137,7 +152,8 @@ structs_meant preds (t ∷ ts) = struct_meant preds t >>= λ s. structs_meant pr
 -- ---- what the readers answer
 
 -- the tokens are structures, and this is what they mean
-pub record MeansStructs (vocab : Vocab) (tokens : List SpecToken) (meaning : Result (List StructureForm) TvsError) : Type 0 where
+pub record MeansStructs (vocab : Vocab) (tokens : List SpecToken)
+    (meaning : Result (List StructureForm) TvsError) : Type 0 where
   pub trees : List StructTree
   pub are : AreStructs tokens trees
   pub meant : structs_meant vocab.preds trees ≡ meaning
@@ -147,29 +163,24 @@ abbrev pub IsNoText : List SpecToken → Type 0
 IsNoText tokens = (trees : List StructTree) → ¬ AreStructs tokens trees
 
 -- why there are no structures
-abbrev pub IsCause : Vocab → List SpecToken → TvsError → Type 0
-IsCause vocab tokens (Syntax place) = IsNoText tokens
-IsCause vocab tokens IndividualUnknown = MeansStructs vocab tokens (Err IndividualUnknown)
-IsCause vocab tokens IndividualTwice = MeansStructs vocab tokens (Err IndividualTwice)
-IsCause vocab tokens NameUnknown = MeansStructs vocab tokens (Err NameUnknown)
-IsCause vocab tokens ArityWrong = MeansStructs vocab tokens (Err ArityWrong)
-IsCause vocab tokens BadSm = MeansStructs vocab tokens (Err BadSm)
-IsCause vocab tokens TooManyIndividuals = MeansStructs vocab tokens (Err TooManyIndividuals)
-IsCause vocab tokens Memory = Unit {0}
+abbrev pub IsStructuresCause : Vocab → List SpecToken → TvsError → Type 0
+IsStructuresCause vocab tokens (Syntax place) = IsNoText tokens
+IsStructuresCause vocab tokens IndividualUnknown = MeansStructs vocab tokens (Err IndividualUnknown)
+IsStructuresCause vocab tokens IndividualTwice = MeansStructs vocab tokens (Err IndividualTwice)
+IsStructuresCause vocab tokens NameUnknown = MeansStructs vocab tokens (Err NameUnknown)
+IsStructuresCause vocab tokens ArityWrong = MeansStructs vocab tokens (Err ArityWrong)
+IsStructuresCause vocab tokens BadSm = MeansStructs vocab tokens (Err BadSm)
+IsStructuresCause vocab tokens TooManyIndividuals = MeansStructs vocab tokens (Err TooManyIndividuals)
+IsStructuresCause vocab tokens Memory = Unit {0}
 
--- the place that is told is that of the start of one of the tokens, or of the end of the text
-abbrev pub StopsAtToken : List ℕ → List Token → TvsError → Type 0
-StopsAtToken text tokens (Syntax place) = IsTokenPlace text tokens place
-StopsAtToken text tokens IndividualUnknown = Unit {0}
-StopsAtToken text tokens IndividualTwice = Unit {0}
-StopsAtToken text tokens NameUnknown = Unit {0}
-StopsAtToken text tokens ArityWrong = Unit {0}
-StopsAtToken text tokens BadSm = Unit {0}
-StopsAtToken text tokens TooManyIndividuals = Unit {0}
-StopsAtToken text tokens Memory = Unit {0}
+-- the place that the error tells
+abbrev pub structures_place : TvsError → Option Place
+structures_place (Syntax place) = Some place
+structures_place other = None
 
 -- the tokens begin with a structure with these behind it, and this is what it means
-pub record MeansStruct (vocab : Vocab) (tokens rest : List SpecToken) (meaning : Result StructureForm TvsError) : Type 0 where
+pub record MeansStruct (vocab : Vocab) (tokens rest : List SpecToken)
+    (meaning : Result StructureForm TvsError) : Type 0 where
   pub tree : StructTree
   pub is : IsStruct tokens tree rest
   pub meant : struct_meant vocab.preds tree ≡ meaning
@@ -194,16 +205,17 @@ IsCauseOfOne vocab tokens Memory = Unit {0}
 
 -- ---- what the parts of the reader answer
 
--- what an answer, seen by view, says of a meaning: the same value, or the same refusal; want of memory says nothing
-abbrev pub Fails : {X : Type 0} → TvsError → Result X TvsError → Type 0
-Fails (Syntax place) meaning = ⊥
-Fails IndividualUnknown meaning = meaning ≡ Err IndividualUnknown
-Fails IndividualTwice meaning = meaning ≡ Err IndividualTwice
-Fails NameUnknown meaning = meaning ≡ Err NameUnknown
-Fails ArityWrong meaning = meaning ≡ Err ArityWrong
-Fails BadSm meaning = meaning ≡ Err BadSm
-Fails TooManyIndividuals meaning = meaning ≡ Err TooManyIndividuals
-Fails Memory meaning = Unit {0}
+-- what an answer, seen by view, says of a meaning: the same value, or the same refusal; want of memory says
+-- nothing
+abbrev pub RefusesStructures : {X : Type 0} → TvsError → Result X TvsError → Type 0
+RefusesStructures (Syntax place) meaning = ⊥
+RefusesStructures IndividualUnknown meaning = meaning ≡ Err IndividualUnknown
+RefusesStructures IndividualTwice meaning = meaning ≡ Err IndividualTwice
+RefusesStructures NameUnknown meaning = meaning ≡ Err NameUnknown
+RefusesStructures ArityWrong meaning = meaning ≡ Err ArityWrong
+RefusesStructures BadSm meaning = meaning ≡ Err BadSm
+RefusesStructures TooManyIndividuals meaning = meaning ≡ Err TooManyIndividuals
+RefusesStructures Memory meaning = Unit {0}
 
 -- what becomes of a phrase that wasn't read
 abbrev pub Refused : PhraseError → TvsError → Type 0
@@ -212,4 +224,4 @@ Refused phrase.Memory e = e ≡ Memory
 
 abbrev pub Answers : {R X : Type 0} → (R → X) → Result R TvsError → Result X TvsError → Type 0
 Answers view (Ok x) meaning = meaning ≡ Ok (view x)
-Answers view (Err e) meaning = Fails e meaning
+Answers view (Err e) meaning = RefusesStructures e meaning

@@ -1,10 +1,12 @@
 -- The reader of structures, as functions on lists of tokens. That they read what the grammar says is proved.
-use Rattle.std.specs.Prelude.{ℕ, zero, suc, ◌+◌, List, [], ◌∷◌, Bool, Option, Some, None, length, ◌==◌, if◌then◌else◌, codes}
+use Rattle.std.specs.Prelude.{ℕ, zero, suc, ◌+◌, List, [], ◌∷◌, Bool, Option, Some, None, length, ◌==◌}
+use Rattle.std.specs.Prelude.{if◌then◌else◌, codes}
 use Rattle.std.specs.Result.{result_ok}
 use Rattle.tv_kleene.specs.declared.K3.{K3}
 use Rattle.tv_lex.specs.Token.{SpecToken}
 use Rattle.tv_phrases.specs.Reading.{Reading, ◌>>=◌, choose}
 use Rattle.tv_phrases.specs.Tokens.{after, first, word_item}
+use Rattle.tv_phrases.specs.Repeated.{all_of}
 use Rattle.tv_phrases.specs.Lists.{optional_list, name}
 use Rattle.tv_tvs.specs.Tree.{ItemTree, ContentTree, OneValue, Listed, EntryTree, StructTree}
 use Rattle.tv_model.specs.declared.program.Vocab.{Vocab}
@@ -12,18 +14,13 @@ use Rattle.tv_struct.specs.StructureForm.{StructureForm}
 use Rattle.tv_tvs.specs.Meaning.{struct_meant}
 use Rattle.tv_tvs.specs.Grammar.{value_item, begins_comma, begins_word, begins_name, begins_struct}
 
--- fewer than n parts, for as long as one begins, and what is behind them
-unfoldable pub many : {X : Type 0} → (List SpecToken → Bool) → (List SpecToken → Reading X) → ℕ → List SpecToken → Reading (List X)
-many begins part zero ts = None
-many begins part (suc n) ts =
-    if begins ts then (part ts >>= λ x. many begins part n x.1 >>= λ xs. Some (x.0 ∷ xs.0, xs.1))
-    else Some ([], ts)
-
 unfoldable pub second_at : List SpecToken → Reading (Option (List ℕ))
-second_at ts = choose (after (codes "->") ts) (Some (None, ts)) (λ us. first word_item us >>= λ w. Some (Some w.0, w.1))
+second_at ts =
+    choose (after (codes "->") ts) (Some (None, ts)) (λ us. first word_item us >>= λ w. Some (Some w.0, w.1))
 
 unfoldable pub item_value_at : List SpecToken → Reading (Option K3)
-item_value_at ts = choose (after (codes ":") ts) (Some (None, ts)) (λ us. first value_item us >>= λ k. Some (Some k.0, k.1))
+item_value_at ts =
+    choose (after (codes ":") ts) (Some (None, ts)) (λ us. first value_item us >>= λ k. Some (Some k.0, k.1))
 
 unfoldable pub item_at : List SpecToken → Reading ItemTree
 item_at ts = do
@@ -36,7 +33,7 @@ unfoldable pub next_item_at : List SpecToken → Reading ItemTree
 next_item_at ts = after (codes ",") ts >>= item_at
 
 abbrev pub next_items_at : List SpecToken → Reading (List ItemTree)
-next_items_at ts = many begins_comma next_item_at (length ts + 1) ts
+next_items_at ts = all_of begins_comma next_item_at ts
 
 unfoldable pub one_or_more_at : List SpecToken → Reading (List ItemTree)
 one_or_more_at ts = do
@@ -67,7 +64,7 @@ entry_at ts = do
   Some (record { name = n.0; content = content.0 }, content.1)
 
 abbrev pub entries_at : List SpecToken → Reading (List EntryTree)
-entries_at ts = many begins_name entry_at (length ts + 1) ts
+entries_at ts = all_of begins_name entry_at ts
 
 unfoldable pub opening_at : List ℕ → List SpecToken → Option (List SpecToken)
 opening_at directive ts = do
@@ -86,7 +83,7 @@ struct_at ts = do
   Some (record { individuals = individuals.0; entries = entries.0 }, rest)
 
 abbrev pub structs_at : List SpecToken → Reading (List StructTree)
-structs_at ts = many begins_struct struct_at (length ts + 1) ts
+structs_at ts = all_of begins_struct struct_at ts
 
 -- the tokens behind a structure
 unfoldable pub struct_end : List SpecToken → Option (List SpecToken)

@@ -28,7 +28,7 @@ pub record IsRead (vocab : Vocab) (s : StructureForm) : Type 0 where
   pub structure : IsStructure s
 
 -- individuals, arities and mark stay, and what was a structure is one
-pub record Keeps (s t : StructureForm) : Type 0 where
+pub record KeepsFrame (s t : StructureForm) : Type 0 where
   pub size : t.size ≡ s.size
   pub arities : arities_of t ≡ arities_of s
   pub fresh : t.fresh ≡ s.fresh

@@ -15,7 +15,12 @@ use Rattle.tv_tvs.specs.Canonical.{individual, written_value}
 
 -- the item that is written of a tuple
 abbrev pub written_of : Written → ItemTree
-written_of w = record { first = individual w.first; second = option_map individual w.second; value = written_value w.value }
+written_of w =
+    record {
+      first = individual w.first;
+      second = option_map individual w.second;
+      value = written_value w.value;
+    }
 
 abbrev pub written_list : List Written → List ItemTree
 written_list ws = map written_of ws
@@ -26,7 +31,12 @@ abbrev pub name_tree : List ℕ → NamePhrase → NameTree
 name_tree bytes n = (text_of bytes n.first, map (text_of bytes) n.brackets.items)
 
 abbrev pub item_tree : List ℕ → ItemText → ItemTree
-item_tree bytes item = record { first = text_of bytes item.first; second = option_map (text_of bytes) item.second; value = item.value }
+item_tree bytes item =
+    record {
+      first = text_of bytes item.first;
+      second = option_map (text_of bytes) item.second;
+      value = item.value;
+    }
 
 -- how many individuals an item names
 abbrev pub text_arity : ItemText → ℕ
@@ -40,13 +50,18 @@ content_tree bytes (OneText k) = OneValue k
 content_tree bytes (ListedText items) = Listed (item_trees bytes items.items)
 
 abbrev pub entry_tree : List ℕ → EntryText → EntryTree
-entry_tree bytes entry = record { name = name_tree bytes entry.name; content = content_tree bytes entry.content }
+entry_tree bytes entry =
+    record { name = name_tree bytes entry.name; content = content_tree bytes entry.content }
 
 abbrev pub entry_trees : List ℕ → List EntryText → List EntryTree
 entry_trees bytes entries = map (entry_tree bytes) entries
 
 abbrev pub struct_tree : List ℕ → StructText → StructTree
-struct_tree bytes t = record { individuals = map (text_of bytes) t.individuals.items; entries = entry_trees bytes t.entries.items }
+struct_tree bytes t =
+    record {
+      individuals = map (text_of bytes) t.individuals.items;
+      entries = entry_trees bytes t.entries.items;
+    }
 
 abbrev pub struct_trees : List ℕ → List StructText → List StructTree
 struct_trees bytes ts = map (struct_tree bytes) ts

@@ -1,6 +1,7 @@
 //! Trees to structures.
 
-ghost use Rattle.std.specs.Prelude.{◌≡◌, ◌<◌, ◌≤◌, ◌==◌, ℕ, List, None, map, length, All, IfOk, IfSome, unwrap_or};
+ghost use Rattle.std.specs.Prelude.{◌≡◌, ◌<◌, ◌≤◌, ◌==◌, ℕ, List, None, map, length, All, IfOk, IfSome};
+ghost use Rattle.std.specs.Prelude.{unwrap_or};
 ghost use Rattle.std.specs.List.{list_all};
 ghost use Rattle.std.specs.Option.{option_map};
 ghost use Rattle.tv_kleene.specs.declared.K3.TheVariants.{Yes};
@@ -8,12 +9,15 @@ ghost use Rattle.tv_struct.specs.StructureForm.{StructureForm, arities_of};
 ghost use Rattle.tv_struct.specs.TableForm.{AreIndividuals};
 ghost use Rattle.tv_struct.specs.TupleForm.{tuple_of};
 ghost use Rattle.tv_tree.specs.Steps.{or_refused};
-ghost use Rattle.tv_tvs.specs.Meaning.{Answers, Summaries, number_of, subject_of, subject_arity, item_arity, fits, tuple_of_item, value_put, item_put, items_put, fitting_put, entry_put, entries_put, struct_meant, structs_meant};
-ghost use Rattle.tv_tvs.specs.Views.{names_of, text_arity, item_tree, item_trees, content_tree, entry_tree, entry_trees, struct_tree, struct_trees};
-ghost use Rattle.tv_tvs.specs.Targets.{subject_form, Has, HasPlace, IsRead, Keeps};
+ghost use Rattle.tv_tvs.specs.Meaning.{Answers, Summaries, number_of, subject_of, subject_arity, item_arity};
+ghost use Rattle.tv_tvs.specs.Meaning.{fits, tuple_of_item, value_put, item_put, items_put, fitting_put};
+ghost use Rattle.tv_tvs.specs.Meaning.{entry_put, entries_put, struct_meant, structs_meant};
+ghost use Rattle.tv_tvs.specs.Views.{names_of, text_arity, item_tree, item_trees, content_tree, entry_tree};
+ghost use Rattle.tv_tvs.specs.Views.{entry_trees, struct_tree, struct_trees};
+ghost use Rattle.tv_tvs.specs.Targets.{subject_form, Has, HasPlace, IsRead, KeepsFrame};
 
 use crate::error::TvsError;
-use crate::names::{Names, individual_names, name_text, number_of};
+use crate::names::{NameSet, individual_names, name_text, number_of};
 use crate::syntax::{ContentText, EntryText, ItemText, StructText};
 use std::alloc::Global;
 use tv_kleene::K3;
@@ -31,11 +35,12 @@ pub(crate) enum Target {
     Values(PredId, u8),
 }
 
-fn target_of(preds: &[Pred], names: &Names<'_>, name: &[u8]) -> Option<Target>
+fn target_of(preds: &[Pred], names: &NameSet<'_>, name: &[u8]) -> Option<Target>
     requires names { names_of names.now.keys ≡ map (λ pred. pred.name) preds.now }
     requires count { length preds.now ≤ 512 }
     ensures subject { option_map subject_form result ≡ subject_of preds.now name.now }
-    ensures known { IfSome result (λ t. (s : StructureForm) → arities_of s ≡ map (λ pred. pred.arity) preds.now → Has (subject_form t) s) }
+    ensures known { IfSome result (λ t. (s : StructureForm)
+        → arities_of s ≡ map (λ pred. pred.arity) preds.now → Has (subject_form t) s) }
 {
     if is_spelled(name, b"sm") {
         return Some(Target::Marks);
@@ -84,9 +89,10 @@ fn fits(arity: u8, content: &ContentText) -> bool
     }
 }
 
-fn number(individuals: &Names<'_>, word: &[u8]) -> Result<u32, TvsError>
+fn number(individuals: &NameSet<'_>, word: &[u8]) -> Result<u32, TvsError>
     requires { length individuals.now.keys ≤ 256 }
-    ensures number { Answers (λ (u : ℕ). u) result (or_refused (number_of (names_of individuals.now.keys) word.now) TvsError.IndividualUnknown) }
+    ensures number { Answers (λ (u : ℕ). u) result
+        (or_refused (number_of (names_of individuals.now.keys) word.now) TvsError.IndividualUnknown) }
     ensures within { IfOk result (λ u. u < length individuals.now.keys) }
 {
     match number_of(individuals, word) {
@@ -96,9 +102,10 @@ fn number(individuals: &Names<'_>, word: &[u8]) -> Result<u32, TvsError>
 }
 
 /// The individuals of an item, by number.
-fn tuple(individuals: &Names<'_>, bytes: &[u8], item: &ItemText) -> Result<Tuple, TvsError>
+fn tuple(individuals: &NameSet<'_>, bytes: &[u8], item: &ItemText) -> Result<Tuple, TvsError>
     requires { length individuals.now.keys ≤ 256 }
-    ensures tuple { Answers tuple_of result (tuple_of_item (names_of individuals.now.keys) (item_tree bytes.now item.now)) }
+    ensures tuple { Answers tuple_of result
+        (tuple_of_item (names_of individuals.now.keys) (item_tree bytes.now item.now)) }
     ensures within { IfOk result (λ t. AreIndividuals (length individuals.now.keys) (tuple_of t)) }
     ensures arity { IfOk result (λ t. length (tuple_of t) ≡ item_arity (item_tree bytes.now item.now)) }
 {
@@ -115,7 +122,7 @@ fn tuple(individuals: &Names<'_>, bytes: &[u8], item: &ItemText) -> Result<Tuple
 fn put_mark(s: &mut Structure, tuple: Tuple, value: K3) -> Result<(), TvsError>
     requires { HasPlace Summaries s.old (tuple_of tuple) }
     ensures put { Answers (λ _. s.new) result (value_put Summaries s.old (tuple_of tuple) value) }
-    ensures keeps { Keeps s.old s.new }
+    ensures keeps { KeepsFrame s.old s.new }
 {
     let u = match tuple {
         Tuple::Zero => 0,
@@ -132,7 +139,7 @@ fn put_mark(s: &mut Structure, tuple: Tuple, value: K3) -> Result<(), TvsError>
 fn put_value(s: &mut Structure, target: Target, tuple: Tuple, value: K3) -> Result<(), TvsError>
     requires { HasPlace (subject_form target) s.old (tuple_of tuple) }
     ensures put { Answers (λ _. s.new) result (value_put (subject_form target) s.old (tuple_of tuple) value) }
-    ensures keeps { Keeps s.old s.new }
+    ensures keeps { KeepsFrame s.old s.new }
 {
     match target {
         Target::Marks => put_mark(s, tuple, value),
@@ -151,7 +158,7 @@ fn written_or_one(value: Option<K3>) -> K3
 
 fn put_item(
     s: &mut Structure,
-    individuals: &Names<'_>,
+    individuals: &NameSet<'_>,
     bytes: &[u8],
     target: Target,
     item: &ItemText,
@@ -161,8 +168,9 @@ fn put_item(
     requires unmarked { s.old.fresh ≡ None }
     requires has { Has (subject_form target) s.old }
     requires fits { item_arity (item_tree bytes.now item.now) ≡ subject_arity (subject_form target) }
-    ensures put { Answers (λ _. s.new) result (item_put (names_of individuals.now.keys) (subject_form target) s.old (item_tree bytes.now item.now)) }
-    ensures keeps { Keeps s.old s.new }
+    ensures put { Answers (λ _. s.new) result (item_put (names_of individuals.now.keys)
+        (subject_form target) s.old (item_tree bytes.now item.now)) }
+    ensures keeps { KeepsFrame s.old s.new }
 {
     let tuple = tuple(individuals, bytes, item)?;
     put_value(s, target, tuple, written_or_one(item.value))
@@ -170,7 +178,7 @@ fn put_item(
 
 fn put_items(
     s: &mut Structure,
-    individuals: &Names<'_>,
+    individuals: &NameSet<'_>,
     bytes: &[u8],
     target: Target,
     items: &[ItemText],
@@ -179,9 +187,11 @@ fn put_items(
     requires few { length individuals.now.keys ≤ 256 }
     requires unmarked { s.old.fresh ≡ None }
     requires has { Has (subject_form target) s.old }
-    requires fits { All (λ item. item_arity (item_tree bytes.now item) ≡ subject_arity (subject_form target)) items.now }
-    ensures put { Answers (λ _. s.new) result (items_put (names_of individuals.now.keys) (subject_form target) s.old (item_trees bytes.now items.now)) }
-    ensures keeps { Keeps s.old s.new }
+    requires fits { All
+        (λ item. item_arity (item_tree bytes.now item) ≡ subject_arity (subject_form target)) items.now }
+    ensures put { Answers (λ _. s.new) result (items_put (names_of individuals.now.keys)
+        (subject_form target) s.old (item_trees bytes.now items.now)) }
+    ensures keeps { KeepsFrame s.old s.new }
 {
     for item in items {
         put_item(s, individuals, bytes, target, item)?;
@@ -191,7 +201,7 @@ fn put_items(
 
 fn put_content(
     s: &mut Structure,
-    individuals: &Names<'_>,
+    individuals: &NameSet<'_>,
     bytes: &[u8],
     target: Target,
     content: &ContentText,
@@ -200,8 +210,9 @@ fn put_content(
     requires few { length individuals.now.keys ≤ 256 }
     requires unmarked { s.old.fresh ≡ None }
     requires has { Has (subject_form target) s.old }
-    ensures put { Answers (λ _. s.new) result (fitting_put (names_of individuals.now.keys) (subject_form target) s.old (content_tree bytes.now content.now)) }
-    ensures keeps { Keeps s.old s.new }
+    ensures put { Answers (λ _. s.new) result (fitting_put (names_of individuals.now.keys)
+        (subject_form target) s.old (content_tree bytes.now content.now)) }
+    ensures keeps { KeepsFrame s.old s.new }
 {
     if !fits(arity(target), content) {
         return Err(TvsError::ArityWrong);
@@ -216,8 +227,8 @@ fn put_entry(
     alloc: Global,
     s: &mut Structure,
     preds: &[Pred],
-    names: &Names<'_>,
-    individuals: &Names<'_>,
+    names: &NameSet<'_>,
+    individuals: &NameSet<'_>,
     bytes: &[u8],
     entry: &EntryText,
 ) -> Result<(), TvsError>
@@ -227,8 +238,9 @@ fn put_entry(
     requires size { s.old.size ≡ length individuals.now.keys }
     requires few { length individuals.now.keys ≤ 256 }
     requires unmarked { s.old.fresh ≡ None }
-    ensures put { Answers (λ _. s.new) result (entry_put preds.now (names_of individuals.now.keys) s.old (entry_tree bytes.now entry.now)) }
-    ensures keeps { Keeps s.old s.new }
+    ensures put { Answers (λ _. s.new) result
+        (entry_put preds.now (names_of individuals.now.keys) s.old (entry_tree bytes.now entry.now)) }
+    ensures keeps { KeepsFrame s.old s.new }
 {
     let name = name_text(alloc, bytes, &entry.name)?;
     match target_of(preds, names, name.as_slice()) {
@@ -241,8 +253,8 @@ fn put_entries(
     alloc: Global,
     s: &mut Structure,
     preds: &[Pred],
-    names: &Names<'_>,
-    individuals: &Names<'_>,
+    names: &NameSet<'_>,
+    individuals: &NameSet<'_>,
     bytes: &[u8],
     entries: &[EntryText],
 ) -> Result<(), TvsError>
@@ -252,8 +264,9 @@ fn put_entries(
     requires size { s.old.size ≡ length individuals.now.keys }
     requires few { length individuals.now.keys ≤ 256 }
     requires unmarked { s.old.fresh ≡ None }
-    ensures put { Answers (λ _. s.new) result (entries_put preds.now (names_of individuals.now.keys) s.old (entry_trees bytes.now entries.now)) }
-    ensures keeps { Keeps s.old s.new }
+    ensures put { Answers (λ _. s.new) result
+        (entries_put preds.now (names_of individuals.now.keys) s.old (entry_trees bytes.now entries.now)) }
+    ensures keeps { KeepsFrame s.old s.new }
 {
     for entry in entries {
         put_entry(alloc, s, preds, names, individuals, bytes, entry)?;
@@ -265,7 +278,7 @@ fn put_entries(
 pub(crate) fn structure(
     alloc: Global,
     vocab: &Vocab,
-    names: &Names<'_>,
+    names: &NameSet<'_>,
     bytes: &[u8],
     tree: &StructText,
 ) -> Result<Structure, TvsError>
@@ -296,14 +309,15 @@ pub(crate) fn structure(
 pub(crate) fn structures(
     alloc: Global,
     vocab: &Vocab,
-    names: &Names<'_>,
+    names: &NameSet<'_>,
     bytes: &[u8],
     trees: &[StructText],
 ) -> Result<Structures, TvsError>
     requires names { names_of names.now.keys ≡ map (λ pred. pred.name) vocab.now.preds }
     requires count { length vocab.now.preds ≤ 512 }
     requires arities { All (λ pred. pred.arity ≤ 2) vocab.now.preds }
-    ensures meant { Answers (λ (ss : List StructureForm). ss) result (structs_meant vocab.now.preds (struct_trees bytes.now trees.now)) }
+    ensures meant { Answers (λ (ss : List StructureForm). ss) result
+        (structs_meant vocab.now.preds (struct_trees bytes.now trees.now)) }
     ensures over { IfOk result (λ ss. All (IsRead vocab.now) ss) }
 {
     let mut list = Vec::new(alloc);

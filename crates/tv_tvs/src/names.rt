@@ -1,6 +1,7 @@
 //! Names, looked up by hash.
 
-ghost use Rattle.std.specs.Prelude.{◌≡◌, ◌≢◌, ◌<◌, ◌++◌, ◌∷◌, [], true, not, map, length, AllPairs, IfOk, OnOk, IfSome};
+ghost use Rattle.std.specs.Prelude.{◌≡◌, ◌≢◌, ◌<◌, ◌++◌, ◌∷◌, [], true, not, map, length, AllPairs, IfOk};
+ghost use Rattle.std.specs.Prelude.{OnOk, IfSome};
 ghost use Rattle.std.specs.List.{flat_map};
 ghost use Rattle.tv_lex.specs.Token.{text_of};
 ghost use Rattle.tv_tree.specs.Names.{is_among, brackets_text};
@@ -16,19 +17,20 @@ use tv_model::Pred;
 use tv_phrases::NamePhrase;
 
 /// Names, each once; the number of a name is its place.
-pub(crate) type Names<'a> = IndexSet<&'a [u8]>;
+pub(crate) type NameSet<'a> = IndexSet<&'a [u8]>;
 
 /// Puts a name behind the others, unless it is among them, and answers whether it wasn't.
-pub(crate) fn add<'a>(names: &mut Names<'a>, name: &'a [u8]) -> Result<bool, AllocError>
+pub(crate) fn add<'a>(names: &mut NameSet<'a>, name: &'a [u8]) -> Result<bool, AllocError>
     ensures added { IfOk result (λ new. new ≡ not (is_among (names_of names.old.keys) name.now)) }
-    ensures keys { IfOk result (λ new. new ≡ true → names_of names.new.keys ≡ names_of names.old.keys ++ name.now ∷ []) }
+    ensures keys { IfOk result
+        (λ new. new ≡ true → names_of names.new.keys ≡ names_of names.old.keys ++ name.now ∷ []) }
 {
     let (_, new) = names.insert_full(name)?;
     Ok(new)
 }
 
 /// The number of a name.
-pub(crate) fn number_of(names: &Names<'_>, name: &[u8]) -> Option<usize>
+pub(crate) fn number_of(names: &NameSet<'_>, name: &[u8]) -> Option<usize>
     ensures number { result ≡ number_of (names_of names.now.keys) name.now }
     ensures within { IfSome result (λ n. n < length names.now.keys) }
 {
@@ -40,8 +42,9 @@ pub(crate) fn individual_names<'a>(
     alloc: Global,
     bytes: &'a [u8],
     individuals: &[Token],
-) -> Result<Names<'a>, TvsError>
-    ensures { Answers (λ names. names_of names.keys) result (all_different (map (text_of bytes.now) individuals.now)) }
+) -> Result<NameSet<'a>, TvsError>
+    ensures { Answers (λ names. names_of names.keys) result
+        (all_different (map (text_of bytes.now) individuals.now)) }
 {
     let mut names = IndexSet::new(alloc);
     for individual in individuals {
@@ -54,7 +57,7 @@ pub(crate) fn individual_names<'a>(
 }
 
 /// The names of predicates.
-pub(crate) fn predicate_names(alloc: Global, preds: &[Pred]) -> Result<Names<'_>, AllocError>
+pub(crate) fn predicate_names(alloc: Global, preds: &[Pred]) -> Result<NameSet<'_>, AllocError>
     requires { AllPairs ◌≢◌ (map (λ pred. pred.name) preds.now) }
     ensures { IfOk result (λ names. names_of names.keys ≡ map (λ pred. pred.name) preds.now) }
 {
@@ -66,7 +69,8 @@ pub(crate) fn predicate_names(alloc: Global, preds: &[Pred]) -> Result<Names<'_>
 }
 
 fn put_next(out: &mut Vec<u8>, bytes: &[u8], words: &[Token]) -> Result<(), AllocError>
-    ensures { OnOk result (out.new.items ≡ out.old.items ++ flat_map (λ t. 44 ∷ text_of bytes.now t) words.now) }
+    ensures { OnOk result
+        (out.new.items ≡ out.old.items ++ flat_map (λ t. 44 ∷ text_of bytes.now t) words.now) }
 {
     for word in words {
         out.push(b',')?;
@@ -76,7 +80,8 @@ fn put_next(out: &mut Vec<u8>, bytes: &[u8], words: &[Token]) -> Result<(), Allo
 }
 
 fn put_brackets(out: &mut Vec<u8>, bytes: &[u8], words: &[Token]) -> Result<(), AllocError>
-    ensures { OnOk result (out.new.items ≡ out.old.items ++ brackets_text (map (text_of bytes.now) words.now)) }
+    ensures { OnOk result
+        (out.new.items ≡ out.old.items ++ brackets_text (map (text_of bytes.now) words.now)) }
 {
     match words.split_first() {
         None => Ok(()),

@@ -3,18 +3,19 @@
 ghost use Rattle.std.specs.Prelude.{◌≡◌, ◌≤◌, All, IfOk, IfErr, Result, Ok, None, drop, length, ◌<◌, ◌-◌};
 ghost use Rattle.std.specs.Result.{result_ok};
 ghost use Rattle.tv_lex.specs.Pieces.{AreInOrder};
-ghost use Rattle.tv_lex.specs.Places.{IsTokenPlace};
+ghost use Rattle.tv_lex.specs.Places.{IsTokenPlace, StopsAtToken};
 ghost use Rattle.tv_lex.specs.Token.{spec_tokens};
 ghost use Rattle.tv_model.specs.declared.program.Vocab.{Vocab};
-ghost use Rattle.tv_phrases.specs.Reading.{Gives};
+ghost use Rattle.tv_phrases.specs.Reading.{GivesReading};
 ghost use Rattle.tv_struct.specs.StructureForm.{StructureForm, IsOver, IsStructure};
-ghost use Rattle.tv_tvs.specs.Meaning.{IsVocabulary, MeansStructs, MeansStruct, IsCause, IsCauseOfOne, Refused, StopsAtToken, Answers};
+ghost use Rattle.tv_tvs.specs.Meaning.{IsVocabulary, MeansStructs, MeansStruct, IsStructuresCause};
+ghost use Rattle.tv_tvs.specs.Meaning.{IsCauseOfOne, Refused, Answers, structures_place};
 ghost use Rattle.tv_tvs.specs.Reading.{struct_end, structure_at};
 ghost use Rattle.tv_tvs.specs.Targets.{IsRead};
 ghost use Rattle.tv_tvs.specs.declared.error.TvsError.{TvsError};
 
 use crate::error::TvsError;
-use crate::names::{Names, predicate_names};
+use crate::names::{NameSet, predicate_names};
 use crate::{build, syntax};
 use std::alloc::{AllocError, Global};
 use std::marker::Model;
@@ -31,8 +32,8 @@ pub struct OneRead {
     pub next: u32,
 }
 
-/// Where the reading of these tokens stopped: `rest` are the last of them, which it left. It is the place of the
-/// first of these, or of the end of the text where none is left.
+/// Where the reading of these tokens stopped: `rest` are the last of them, which it left. It is the place of
+/// the first of these, or of the end of the text where none is left.
 #[tactic(auto, using(crate::proofs::Stops::start_place, tv_lex::proofs::PlaceLemmas::end_place))]
 fn stop_of(bytes: &[u8], tokens: &[Token], rest: &[Token]) -> Place
     requires { length bytes.now ≤ 67108864 }
@@ -48,7 +49,7 @@ fn stop_of(bytes: &[u8], tokens: &[Token], rest: &[Token]) -> Place
 fn refusal(bytes: &[u8], tokens: &[Token], fault: PhraseError<'_>) -> TvsError
     requires { length bytes.now ≤ 67108864 }
     ensures refused { Refused fault.entry result }
-    ensures place { StopsAtToken bytes.now tokens.now result }
+    ensures place { StopsAtToken structures_place bytes.now tokens.now result }
 {
     match fault {
         PhraseError::Unexpected(rest) => TvsError::Syntax(stop_of(bytes, tokens, rest)),
@@ -79,7 +80,8 @@ pub fn skip_structure<'t>(
     bytes: &[u8],
     tokens: &'t [Token],
 ) -> Result<&'t [Token], PhraseError<'t>>
-    ensures { Gives (λ rest. spec_tokens bytes.now rest.now) result (struct_end (spec_tokens bytes.now tokens.now)) }
+    ensures { GivesReading (λ rest. spec_tokens bytes.now rest.now) result
+        (struct_end (spec_tokens bytes.now tokens.now)) }
 {
     let (_, rest) = syntax::structure(alloc, bytes, tokens)?;
     Ok(rest)
@@ -90,7 +92,8 @@ fn or_unexpected<'t>(
     found: Result<Structure, TvsError>,
     tokens: &'t [Token],
 ) -> Result<Structure, PhraseError<'t>>
-    ensures meant { (meaning : Result StructureForm TvsError) → Answers (λ s. s) found meaning → Gives (λ s. s) result (result_ok meaning) }
+    ensures meant { (meaning : Result StructureForm TvsError) → Answers (λ s. s) found meaning
+        → GivesReading (λ s. s) result (result_ok meaning) }
     ensures over { (vocab : Vocab) → IfOk found (IsRead vocab) → IfOk result (IsRead vocab) }
 {
     match found {
@@ -104,7 +107,7 @@ fn or_unexpected<'t>(
 #[derive(Drop)]
 pub struct StructureReader<'a> {
     vocab: &'a Vocab,
-    names: Names<'a>,
+    names: NameSet<'a>,
 }
 
 impl<'a> Model for StructureReader<'a> {
@@ -121,7 +124,8 @@ impl<'a> Model for StructureReader<'a> {
 
     ghost view = { λ r. r.vocab.now };
 
-    ghost invariant = { λ r. IsVocabulary r.vocab.now × (names_of r.names.keys ≡ map (λ pred. pred.name) r.vocab.now.preds) };
+    ghost invariant = { λ r. IsVocabulary r.vocab.now
+        × (names_of r.names.keys ≡ map (λ pred. pred.name) r.vocab.now.preds) };
 }
 
 impl<'a> StructureReader<'a> {
@@ -145,11 +149,13 @@ impl<'a> StructureReader<'a> {
         tokens: &Tokens,
     ) -> Result<Structures, TvsError>
         requires size { length bytes.now ≤ 67108864 }
-        ensures meant { IfOk result (λ ss. MeansStructs self.now (spec_tokens bytes.now tokens.now.list.items) (Ok ss)) }
+        ensures meant { IfOk result
+            (λ ss. MeansStructs self.now (spec_tokens bytes.now tokens.now.list.items) (Ok ss)) }
         ensures over { IfOk result (All (λ s. IsOver self.now s × (s.fresh ≡ None))) }
         ensures kept { IfOk result (All IsStructure) }
-        ensures fault { IfErr result (IsCause self.now (spec_tokens bytes.now tokens.now.list.items)) }
-        ensures place { IfErr result (StopsAtToken bytes.now tokens.now.list.items) }
+        ensures fault { IfErr result
+            (IsStructuresCause self.now (spec_tokens bytes.now tokens.now.list.items)) }
+        ensures place { IfErr result (StopsAtToken structures_place bytes.now tokens.now.list.items) }
     {
         match syntax::structures(alloc, bytes, tokens.list.as_slice()) {
             Err(fault) => Err(refusal(bytes, tokens.list.as_slice(), fault)),
@@ -157,8 +163,8 @@ impl<'a> StructureReader<'a> {
         }
     }
 
-    /// The structure that begins the tokens, read as `read_tvs` reads each, and the tokens behind it. Where one begins
-    /// them but means none, they are what is refused.
+    /// The structure that begins the tokens, read as `read_tvs` reads each, and the tokens behind it. Where
+    /// one begins them but means none, they are what is refused.
     #[tactic(auto, unfolding(crate::specs::Reading::structure_at))]
     pub fn take_structure<'t>(
         &self,
@@ -166,7 +172,8 @@ impl<'a> StructureReader<'a> {
         bytes: &[u8],
         tokens: &'t [Token],
     ) -> Result<(Structure, &'t [Token]), PhraseError<'t>>
-        ensures value { Gives (λ x. (x.0, spec_tokens bytes.now x.1.now)) result (structure_at self.now (spec_tokens bytes.now tokens.now)) }
+        ensures value { GivesReading (λ x. (x.0, spec_tokens bytes.now x.1.now)) result
+            (structure_at self.now (spec_tokens bytes.now tokens.now)) }
         ensures over { IfOk result (λ x. IsOver self.now x.0 × (x.0.fresh ≡ None)) }
         ensures kept { IfOk result (λ x. IsStructure x.0) }
     {
@@ -188,12 +195,15 @@ impl<'a> StructureReader<'a> {
     ) -> Result<OneRead, TvsError>
         requires size { length bytes.now ≤ 67108864 }
         requires order { AreInOrder 0 tokens.now.list.items (length bytes.now) }
-        ensures meant { IfOk result (λ one. MeansStruct self.now (drop at (spec_tokens bytes.now tokens.now.list.items)) (drop one.next (spec_tokens bytes.now tokens.now.list.items)) (Ok one.found)) }
+        ensures meant { IfOk result
+            (λ one. MeansStruct self.now (drop at (spec_tokens bytes.now tokens.now.list.items))
+            (drop one.next (spec_tokens bytes.now tokens.now.list.items)) (Ok one.found)) }
         ensures next { IfOk result (λ one. (at < one.next) × (one.next ≤ length tokens.now.list.items)) }
         ensures over { IfOk result (λ one. IsOver self.now one.found × (one.found.fresh ≡ None)) }
         ensures kept { IfOk result (λ one. IsStructure one.found) }
-        ensures fault { IfErr result (IsCauseOfOne self.now (drop at (spec_tokens bytes.now tokens.now.list.items))) }
-        ensures place { IfErr result (StopsAtToken bytes.now tokens.now.list.items) }
+        ensures fault { IfErr result
+            (IsCauseOfOne self.now (drop at (spec_tokens bytes.now tokens.now.list.items))) }
+        ensures place { IfErr result (StopsAtToken structures_place bytes.now tokens.now.list.items) }
     {
         let list = tokens.list.as_slice();
         let here = behind(list, at);
@@ -217,11 +227,12 @@ pub fn read_tvs(
 ) -> Result<Structures, TvsError>
     requires vocabulary { IsVocabulary vocab.now }
     requires size { length bytes.now ≤ 67108864 }
-    ensures meant { IfOk result (λ ss. MeansStructs vocab.now (spec_tokens bytes.now tokens.now.list.items) (Ok ss)) }
+    ensures meant { IfOk result
+        (λ ss. MeansStructs vocab.now (spec_tokens bytes.now tokens.now.list.items) (Ok ss)) }
     ensures over { IfOk result (All (λ s. IsOver vocab.now s × (s.fresh ≡ None))) }
     ensures kept { IfOk result (All IsStructure) }
-    ensures fault { IfErr result (IsCause vocab.now (spec_tokens bytes.now tokens.now.list.items)) }
-    ensures place { IfErr result (StopsAtToken bytes.now tokens.now.list.items) }
+    ensures fault { IfErr result (IsStructuresCause vocab.now (spec_tokens bytes.now tokens.now.list.items)) }
+    ensures place { IfErr result (StopsAtToken structures_place bytes.now tokens.now.list.items) }
 {
     StructureReader::new(alloc, vocab)?.read_tvs(alloc, bytes, tokens)
 }
@@ -238,12 +249,15 @@ pub fn read_one(
     requires vocabulary { IsVocabulary vocab.now }
     requires size { length bytes.now ≤ 67108864 }
     requires order { AreInOrder 0 tokens.now.list.items (length bytes.now) }
-    ensures meant { IfOk result (λ one. MeansStruct vocab.now (drop at (spec_tokens bytes.now tokens.now.list.items)) (drop one.next (spec_tokens bytes.now tokens.now.list.items)) (Ok one.found)) }
+    ensures meant { IfOk result
+        (λ one. MeansStruct vocab.now (drop at (spec_tokens bytes.now tokens.now.list.items))
+        (drop one.next (spec_tokens bytes.now tokens.now.list.items)) (Ok one.found)) }
     ensures next { IfOk result (λ one. (at < one.next) × (one.next ≤ length tokens.now.list.items)) }
     ensures over { IfOk result (λ one. IsOver vocab.now one.found × (one.found.fresh ≡ None)) }
     ensures kept { IfOk result (λ one. IsStructure one.found) }
-    ensures fault { IfErr result (IsCauseOfOne vocab.now (drop at (spec_tokens bytes.now tokens.now.list.items))) }
-    ensures place { IfErr result (StopsAtToken bytes.now tokens.now.list.items) }
+    ensures fault { IfErr result
+        (IsCauseOfOne vocab.now (drop at (spec_tokens bytes.now tokens.now.list.items))) }
+    ensures place { IfErr result (StopsAtToken structures_place bytes.now tokens.now.list.items) }
 {
     StructureReader::new(alloc, vocab)?.read_one(alloc, bytes, tokens, at)
 }

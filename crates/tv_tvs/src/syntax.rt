@@ -1,20 +1,26 @@
 //! Tokens to the trees of structures.
 
-ghost use Rattle.std.specs.Prelude.{◌≡◌, ◌+◌, ◌<◌, length, map, IfOk, is_some};
+ghost use Rattle.std.specs.Prelude.{◌≡◌};
 ghost use Rattle.std.specs.Option.{option_map};
 ghost use Rattle.tv_lex.specs.Token.{text_of, spec_tokens};
-ghost use Rattle.tv_phrases.specs.Reading.{Gives, Takes};
+ghost use Rattle.tv_phrases.specs.Reading.{GivesReading, Takes};
 ghost use Rattle.tv_phrases.specs.Tokens.{after, first};
-ghost use Rattle.tv_tvs.specs.Grammar.{value_in, value_item, begins_comma, begins_word, begins_name, begins_struct};
-ghost use Rattle.tv_tvs.specs.Reading.{second_at, item_value_at, item_at, next_item_at, next_items_at, one_or_more_at, items_at, one_value_at, braces_at, content_at, entry_at, entries_at, opening_at, struct_at, structs_at, text_of_structs};
-ghost use Rattle.tv_tvs.specs.Views.{item_tree, item_trees, content_tree, entry_tree, entry_trees, struct_tree, struct_trees};
+ghost use Rattle.tv_tvs.specs.Grammar.{value_in, value_item, begins_comma, begins_name};
+ghost use Rattle.tv_tvs.specs.Grammar.{begins_struct};
+ghost use Rattle.tv_tvs.specs.Reading.{second_at, item_value_at, item_at, next_item_at};
+ghost use Rattle.tv_tvs.specs.Reading.{one_or_more_at, items_at, one_value_at, braces_at, content_at};
+ghost use Rattle.tv_tvs.specs.Reading.{entry_at, opening_at, struct_at};
+ghost use Rattle.tv_tvs.specs.Reading.{text_of_structs};
+ghost use Rattle.tv_tvs.specs.Tree.{ItemTree, EntryTree, StructTree};
+ghost use Rattle.tv_tvs.specs.Views.{item_tree, item_trees, content_tree, entry_tree};
+ghost use Rattle.tv_tvs.specs.Views.{struct_tree, struct_trees};
 
 use std::alloc::Global;
 use tv_kleene::K3;
 use tv_lex::{Token, text};
 use tv_phrases::{
-    Item, NamePhrase, PhraseError, after, begins_item, expect, is_spelled, name, optional_list,
-    word,
+    Item, NamePhrase, Part, PhraseError, Read, after, all_parts, begins_item, begins_with, expect,
+    is_spelled, name, optional_list, word,
 };
 
 /// An item of an entry: a word, maybe a second one, and the value that is written behind, if one is.
@@ -48,9 +54,6 @@ pub(crate) struct StructText {
     pub entries: Vec<EntryText>,
 }
 
-/// A part of the text and the tokens behind it, or why it isn't there.
-type Read<'a, X> = Result<(X, &'a [Token]), PhraseError<'a>>;
-
 fn value_in(word: &[u8]) -> Option<K3>
     ensures { result ≡ value_in word.now }
 {
@@ -69,7 +72,8 @@ fn value_in(word: &[u8]) -> Option<K3>
 /// `0`, `1` or `1/2`.
 #[tactic(auto, unfolding(tv_phrases::specs::Tokens::first))]
 fn value<'a>(bytes: &[u8], tokens: &'a [Token]) -> Read<'a, K3>
-    ensures { Takes (λ x. (x.0, spec_tokens bytes.now x.1.now)) result (first value_item (spec_tokens bytes.now tokens.now)) }
+    ensures { Takes (λ x. (x.0, spec_tokens bytes.now x.1.now)) result
+        (first value_item (spec_tokens bytes.now tokens.now)) }
 {
     match tokens.split_first() {
         None => Err(PhraseError::Unexpected(tokens)),
@@ -83,7 +87,8 @@ fn value<'a>(bytes: &[u8], tokens: &'a [Token]) -> Read<'a, K3>
 /// `->` and a word where `->` stands.
 #[tactic(auto, unfolding(crate::specs::Reading::second_at))]
 fn second<'a>(bytes: &[u8], tokens: &'a [Token]) -> Read<'a, Option<Token>>
-    ensures { Takes (λ x. (option_map (text_of bytes.now) x.0, spec_tokens bytes.now x.1.now)) result (second_at (spec_tokens bytes.now tokens.now)) }
+    ensures { Takes (λ x. (option_map (text_of bytes.now) x.0, spec_tokens bytes.now x.1.now)) result
+        (second_at (spec_tokens bytes.now tokens.now)) }
 {
     match after(bytes, tokens, b"->") {
         None => Ok((None, tokens)),
@@ -97,7 +102,8 @@ fn second<'a>(bytes: &[u8], tokens: &'a [Token]) -> Read<'a, Option<Token>>
 /// `:` and a value where `:` stands.
 #[tactic(auto, unfolding(crate::specs::Reading::item_value_at))]
 fn item_value<'a>(bytes: &[u8], tokens: &'a [Token]) -> Read<'a, Option<K3>>
-    ensures { Takes (λ x. (x.0, spec_tokens bytes.now x.1.now)) result (item_value_at (spec_tokens bytes.now tokens.now)) }
+    ensures { Takes (λ x. (x.0, spec_tokens bytes.now x.1.now)) result
+        (item_value_at (spec_tokens bytes.now tokens.now)) }
 {
     match after(bytes, tokens, b":") {
         None => Ok((None, tokens)),
@@ -110,7 +116,8 @@ fn item_value<'a>(bytes: &[u8], tokens: &'a [Token]) -> Read<'a, Option<K3>>
 
 #[tactic(auto, unfolding(crate::specs::Reading::item_at))]
 fn item<'a>(bytes: &[u8], tokens: &'a [Token]) -> Read<'a, ItemText>
-    ensures { Takes (λ x. (item_tree bytes.now x.0, spec_tokens bytes.now x.1.now)) result (item_at (spec_tokens bytes.now tokens.now)) }
+    ensures { Takes (λ x. (item_tree bytes.now x.0, spec_tokens bytes.now x.1.now)) result
+        (item_at (spec_tokens bytes.now tokens.now)) }
 {
     let (first, behind) = word(bytes, tokens)?;
     let (second, end) = second(bytes, behind)?;
@@ -126,44 +133,38 @@ fn item<'a>(bytes: &[u8], tokens: &'a [Token]) -> Read<'a, ItemText>
 /// An item behind a comma.
 #[tactic(auto, unfolding(crate::specs::Reading::next_item_at))]
 fn next_item<'a>(bytes: &[u8], tokens: &'a [Token]) -> Read<'a, ItemText>
-    ensures { Takes (λ x. (item_tree bytes.now x.0, spec_tokens bytes.now x.1.now)) result (next_item_at (spec_tokens bytes.now tokens.now)) }
+    ensures { Takes (λ x. (item_tree bytes.now x.0, spec_tokens bytes.now x.1.now)) result
+        (next_item_at (spec_tokens bytes.now tokens.now)) }
 {
     let behind = expect(bytes, tokens, b",")?;
     item(bytes, behind)
 }
 
-fn begins_with(bytes: &[u8], tokens: &[Token], mark: &[u8]) -> bool
-    ensures { result ≡ is_some (after mark.now (spec_tokens bytes.now tokens.now)) }
-{
-    match after(bytes, tokens, mark) {
-        None => false,
-        Some(_) => true,
-    }
-}
+impl<'a> Part<'a> for ItemText {
+    ghost Tree = { ItemTree };
 
-/// Items, each behind a comma, for as long as a comma stands there.
-fn next_items<'a>(alloc: Global, bytes: &[u8], tokens: &'a [Token]) -> Read<'a, Vec<ItemText>>
-    ensures { Gives (λ x. (item_trees bytes.now x.0.items, spec_tokens bytes.now x.1.now)) result (next_items_at (spec_tokens bytes.now tokens.now)) }
-{
-    let mut items = Vec::new(alloc);
-    let mut rest = tokens;
-    for _ in 0..tokens.len() + 1 {
-        if !begins_with(bytes, rest, b",") {
-            return Ok((items, rest));
-        }
-        let (item, behind) = next_item(bytes, rest)?;
-        items.push(item)?;
-        rest = behind;
+    ghost starts = { begins_comma };
+
+    ghost part_at = { next_item_at };
+
+    ghost tree = { item_tree };
+
+    fn begins(bytes: &[u8], tokens: &[Token]) -> bool {
+        begins_with(bytes, tokens, b",")
     }
-    Err(PhraseError::Unexpected(rest))
+
+    fn read(_alloc: Global, bytes: &[u8], tokens: &'a [Token]) -> Read<'a, ItemText> {
+        next_item(bytes, tokens)
+    }
 }
 
 #[tactic(auto, unfolding(crate::specs::Reading::one_or_more_at))]
 fn one_or_more<'a>(alloc: Global, bytes: &[u8], tokens: &'a [Token]) -> Read<'a, Vec<ItemText>>
-    ensures { Gives (λ x. (item_trees bytes.now x.0.items, spec_tokens bytes.now x.1.now)) result (one_or_more_at (spec_tokens bytes.now tokens.now)) }
+    ensures { GivesReading (λ x. (item_trees bytes.now x.0.items, spec_tokens bytes.now x.1.now)) result
+        (one_or_more_at (spec_tokens bytes.now tokens.now)) }
 {
     let (first, behind) = item(bytes, tokens)?;
-    let (mut items, rest) = next_items(alloc, bytes, behind)?;
+    let (mut items, rest) = all_parts::<ItemText>(alloc, bytes, behind)?;
     items.insert(0, first)?;
     Ok((items, rest))
 }
@@ -171,7 +172,8 @@ fn one_or_more<'a>(alloc: Global, bytes: &[u8], tokens: &'a [Token]) -> Read<'a,
 /// Items with commas between them where a word stands.
 #[tactic(auto, unfolding(crate::specs::Reading::items_at))]
 fn items<'a>(alloc: Global, bytes: &[u8], tokens: &'a [Token]) -> Read<'a, Vec<ItemText>>
-    ensures { Gives (λ x. (item_trees bytes.now x.0.items, spec_tokens bytes.now x.1.now)) result (items_at (spec_tokens bytes.now tokens.now)) }
+    ensures { GivesReading (λ x. (item_trees bytes.now x.0.items, spec_tokens bytes.now x.1.now)) result
+        (items_at (spec_tokens bytes.now tokens.now)) }
 {
     if begins_item(bytes, tokens, Item::Word) {
         one_or_more(alloc, bytes, tokens)
@@ -182,7 +184,8 @@ fn items<'a>(alloc: Global, bytes: &[u8], tokens: &'a [Token]) -> Read<'a, Vec<I
 
 #[tactic(auto, unfolding(crate::specs::Reading::one_value_at))]
 fn one_value<'a>(bytes: &[u8], tokens: &'a [Token]) -> Read<'a, ContentText>
-    ensures { Takes (λ x. (content_tree bytes.now x.0, spec_tokens bytes.now x.1.now)) result (one_value_at (spec_tokens bytes.now tokens.now)) }
+    ensures { Takes (λ x. (content_tree bytes.now x.0, spec_tokens bytes.now x.1.now)) result
+        (one_value_at (spec_tokens bytes.now tokens.now)) }
 {
     let (value, rest) = value(bytes, tokens)?;
     Ok((ContentText::OneValue(value), rest))
@@ -191,7 +194,8 @@ fn one_value<'a>(bytes: &[u8], tokens: &'a [Token]) -> Read<'a, ContentText>
 /// Items and the `}` behind them.
 #[tactic(auto, unfolding(crate::specs::Reading::braces_at))]
 fn braces<'a>(alloc: Global, bytes: &[u8], tokens: &'a [Token]) -> Read<'a, ContentText>
-    ensures { Gives (λ x. (content_tree bytes.now x.0, spec_tokens bytes.now x.1.now)) result (braces_at (spec_tokens bytes.now tokens.now)) }
+    ensures { GivesReading (λ x. (content_tree bytes.now x.0, spec_tokens bytes.now x.1.now)) result
+        (braces_at (spec_tokens bytes.now tokens.now)) }
 {
     let (items, end) = items(alloc, bytes, tokens)?;
     let rest = expect(bytes, end, b"}")?;
@@ -200,7 +204,8 @@ fn braces<'a>(alloc: Global, bytes: &[u8], tokens: &'a [Token]) -> Read<'a, Cont
 
 #[tactic(auto, unfolding(crate::specs::Reading::content_at))]
 fn content<'a>(alloc: Global, bytes: &[u8], tokens: &'a [Token]) -> Read<'a, ContentText>
-    ensures { Gives (λ x. (content_tree bytes.now x.0, spec_tokens bytes.now x.1.now)) result (content_at (spec_tokens bytes.now tokens.now)) }
+    ensures { GivesReading (λ x. (content_tree bytes.now x.0, spec_tokens bytes.now x.1.now)) result
+        (content_at (spec_tokens bytes.now tokens.now)) }
 {
     match after(bytes, tokens, b"{") {
         None => one_value(bytes, tokens),
@@ -210,7 +215,8 @@ fn content<'a>(alloc: Global, bytes: &[u8], tokens: &'a [Token]) -> Read<'a, Con
 
 #[tactic(auto, unfolding(crate::specs::Reading::entry_at))]
 fn entry<'a>(alloc: Global, bytes: &[u8], tokens: &'a [Token]) -> Read<'a, EntryText>
-    ensures { Gives (λ x. (entry_tree bytes.now x.0, spec_tokens bytes.now x.1.now)) result (entry_at (spec_tokens bytes.now tokens.now)) }
+    ensures { GivesReading (λ x. (entry_tree bytes.now x.0, spec_tokens bytes.now x.1.now)) result
+        (entry_at (spec_tokens bytes.now tokens.now)) }
 {
     let (name, behind) = name(alloc, bytes, tokens)?;
     let end = expect(bytes, behind, b"=")?;
@@ -218,21 +224,22 @@ fn entry<'a>(alloc: Global, bytes: &[u8], tokens: &'a [Token]) -> Read<'a, Entry
     Ok((EntryText { name, content }, rest))
 }
 
-/// Entries, for as long as a name stands there.
-fn entries<'a>(alloc: Global, bytes: &[u8], tokens: &'a [Token]) -> Read<'a, Vec<EntryText>>
-    ensures { Gives (λ x. (entry_trees bytes.now x.0.items, spec_tokens bytes.now x.1.now)) result (entries_at (spec_tokens bytes.now tokens.now)) }
-{
-    let mut entries = Vec::new(alloc);
-    let mut rest = tokens;
-    for _ in 0..tokens.len() + 1 {
-        if !begins_item(bytes, rest, Item::Identifier) {
-            return Ok((entries, rest));
-        }
-        let (entry, behind) = entry(alloc, bytes, rest)?;
-        entries.push(entry)?;
-        rest = behind;
+impl<'a> Part<'a> for EntryText {
+    ghost Tree = { EntryTree };
+
+    ghost starts = { begins_name };
+
+    ghost part_at = { entry_at };
+
+    ghost tree = { entry_tree };
+
+    fn begins(bytes: &[u8], tokens: &[Token]) -> bool {
+        begins_item(bytes, tokens, Item::Identifier)
     }
-    Err(PhraseError::Unexpected(rest))
+
+    fn read(alloc: Global, bytes: &[u8], tokens: &'a [Token]) -> Read<'a, EntryText> {
+        entry(alloc, bytes, tokens)
+    }
 }
 
 /// The directive, `=` and `{`.
@@ -242,7 +249,8 @@ fn opening<'a>(
     tokens: &'a [Token],
     directive: &[u8],
 ) -> Result<&'a [Token], PhraseError<'a>>
-    ensures { Takes (λ rest. spec_tokens bytes.now rest.now) result (opening_at directive.now (spec_tokens bytes.now tokens.now)) }
+    ensures { Takes (λ rest. spec_tokens bytes.now rest.now) result
+        (opening_at directive.now (spec_tokens bytes.now tokens.now)) }
 {
     let behind = expect(bytes, tokens, directive)?;
     let end = expect(bytes, behind, b"=")?;
@@ -256,13 +264,14 @@ pub(crate) fn structure<'a>(
     bytes: &[u8],
     tokens: &'a [Token],
 ) -> Read<'a, StructText>
-    ensures { Gives (λ x. (struct_tree bytes.now x.0, spec_tokens bytes.now x.1.now)) result (struct_at (spec_tokens bytes.now tokens.now)) }
+    ensures { GivesReading (λ x. (struct_tree bytes.now x.0, spec_tokens bytes.now x.1.now)) result
+        (struct_at (spec_tokens bytes.now tokens.now)) }
 {
     let inside = opening(bytes, tokens, b"%n")?;
     let (individuals, end) = optional_list(alloc, bytes, inside, Item::Word)?;
     let behind = expect(bytes, end, b"}")?;
     let within = opening(bytes, behind, b"%p")?;
-    let (entries, last) = entries(alloc, bytes, within)?;
+    let (entries, last) = all_parts::<EntryText>(alloc, bytes, within)?;
     let rest = expect(bytes, last, b"}")?;
     let found = StructText {
         individuals,
@@ -271,21 +280,22 @@ pub(crate) fn structure<'a>(
     Ok((found, rest))
 }
 
-/// Structures, for as long as one begins.
-fn leading<'a>(alloc: Global, bytes: &[u8], tokens: &'a [Token]) -> Read<'a, Vec<StructText>>
-    ensures { Gives (λ x. (struct_trees bytes.now x.0.items, spec_tokens bytes.now x.1.now)) result (structs_at (spec_tokens bytes.now tokens.now)) }
-{
-    let mut list = Vec::new(alloc);
-    let mut rest = tokens;
-    for _ in 0..tokens.len() + 1 {
-        if !begins_with(bytes, rest, b"%n") {
-            return Ok((list, rest));
-        }
-        let (found, behind) = structure(alloc, bytes, rest)?;
-        list.push(found)?;
-        rest = behind;
+impl<'a> Part<'a> for StructText {
+    ghost Tree = { StructTree };
+
+    ghost starts = { begins_struct };
+
+    ghost part_at = { struct_at };
+
+    ghost tree = { struct_tree };
+
+    fn begins(bytes: &[u8], tokens: &[Token]) -> bool {
+        begins_with(bytes, tokens, b"%n")
     }
-    Err(PhraseError::Unexpected(rest))
+
+    fn read(alloc: Global, bytes: &[u8], tokens: &'a [Token]) -> Read<'a, StructText> {
+        structure(alloc, bytes, tokens)
+    }
 }
 
 /// The structures of all the tokens.
@@ -295,9 +305,10 @@ pub(crate) fn structures<'a>(
     bytes: &[u8],
     tokens: &'a [Token],
 ) -> Result<Vec<StructText>, PhraseError<'a>>
-    ensures { Gives (λ x. struct_trees bytes.now x.items) result (text_of_structs (spec_tokens bytes.now tokens.now)) }
+    ensures { GivesReading (λ x. struct_trees bytes.now x.items) result
+        (text_of_structs (spec_tokens bytes.now tokens.now)) }
 {
-    let (list, rest) = leading(alloc, bytes, tokens)?;
+    let (list, rest) = all_parts::<StructText>(alloc, bytes, tokens)?;
     if !rest.is_empty() {
         return Err(PhraseError::Unexpected(rest));
     }

@@ -1,10 +1,14 @@
 //! Structures to their canonical texts.
 
-ghost use Rattle.std.specs.Prelude.{◌≡◌, ◌++◌, ◌+◌, ◌<◌, ◌≤◌, ◌∷◌, [], ℕ, All, IfOk, OnOk, map, codes, length, slice_get, drop};
+ghost use Rattle.std.specs.Prelude.{◌≡◌, ◌++◌, ◌+◌, ◌<◌, ◌≤◌, ◌∷◌, [], ℕ, All, IfOk, OnOk, map, codes};
+ghost use Rattle.std.specs.Prelude.{length, slice_get, drop};
 ghost use Rattle.std.specs.List.{range_with_len};
 ghost use Rattle.std.specs.Option.{option_map};
 ghost use Rattle.tv_struct.specs.StructureForm.{IsOver, arities_of, value_at};
-ghost use Rattle.tv_tvs.specs.Canonical.{canonical_text, comma_text, more_texts, individual, individuals, tuples, item_text, item_value_text, second_text, written_value, written_items, written_one, row_items, summary_value, value_content, if_some, line_text, pred_text, preds_text, summaries_text};
+ghost use Rattle.tv_tvs.specs.Canonical.{canonical_text, comma_text, more_texts, individual, individuals};
+ghost use Rattle.tv_tvs.specs.Canonical.{tuples, item_text, item_value_text, second_text, written_value};
+ghost use Rattle.tv_tvs.specs.Canonical.{written_items, written_one, row_items, summary_value, value_content};
+ghost use Rattle.tv_tvs.specs.Canonical.{if_some, line_text, pred_text, preds_text, summaries_text};
 ghost use Rattle.tv_tvs.specs.Views.{written_of, written_list};
 
 use itoa::Buffer;
@@ -88,7 +92,8 @@ fn write_next_item(out: &mut Vec<u8>, item: &Written) -> Result<(), AllocError>
 }
 
 fn write_next_items(out: &mut Vec<u8>, items: &[Written]) -> Result<(), AllocError>
-    ensures { OnOk result (out.new.items ≡ out.old.items ++ more_texts (map item_text (written_list items.now))) }
+    ensures { OnOk result
+        (out.new.items ≡ out.old.items ++ more_texts (map item_text (written_list items.now))) }
 {
     for item in items {
         write_next_item(out, item)?;
@@ -98,7 +103,8 @@ fn write_next_items(out: &mut Vec<u8>, items: &[Written]) -> Result<(), AllocErr
 
 /// Appends the line of a predicate with these tuples; none where there is no tuple.
 fn write_items(out: &mut Vec<u8>, name: &[u8], items: &[Written]) -> Result<(), AllocError>
-    ensures { OnOk result (out.new.items ≡ out.old.items ++ line_text name.now (if_some (written_list items.now))) }
+    ensures { OnOk result
+        (out.new.items ≡ out.old.items ++ line_text name.now (if_some (written_list items.now))) }
 {
     match items.split_first() {
         None => Ok(()),
@@ -134,7 +140,8 @@ fn push_written(
     second: Option<u32>,
     value: K3,
 ) -> Result<(), AllocError>
-    ensures { OnOk result (written_list list.new.items ≡ written_list list.old.items ++ written_one first second value) }
+    ensures { OnOk result
+        (written_list list.new.items ≡ written_list list.old.items ++ written_one first second value) }
 {
     match value {
         K3::No => Ok(()),
@@ -152,7 +159,8 @@ fn push_written(
 /// The tuples of a unary predicate whose value isn't `No`.
 fn singles(alloc: Global, s: &Structure, p: PredId) -> Result<Vec<Written>, AllocError>
     requires { slice_get (arities_of s.now) p.0 ≡ Some 1 }
-    ensures { IfOk result (λ list. written_list list.items ≡ written_items (value_at s.now p.0) (tuples 1 s.now.size)) }
+    ensures { IfOk result
+        (λ list. written_list list.items ≡ written_items (value_at s.now p.0) (tuples 1 s.now.size)) }
 {
     let mut list = Vec::new(alloc);
     for u in 0..s.size() {
@@ -165,7 +173,8 @@ fn singles(alloc: Global, s: &Structure, p: PredId) -> Result<Vec<Written>, Allo
 fn push_row(list: &mut Vec<Written>, s: &Structure, p: PredId, u: u32) -> Result<(), AllocError>
     requires arity { slice_get (arities_of s.now) p.0 ≡ Some 2 }
     requires individual { u < s.now.size }
-    ensures { OnOk result (written_list list.new.items ≡ written_list list.old.items ++ row_items (value_at s.now p.0) s.now.size u) }
+    ensures { OnOk result (written_list list.new.items
+        ≡ written_list list.old.items ++ row_items (value_at s.now p.0) s.now.size u) }
 {
     for w in 0..s.size() {
         push_written(list, u, Some(w), s.get(p, Tuple::Two(u, w)))?;
@@ -176,7 +185,8 @@ fn push_row(list: &mut Vec<Written>, s: &Structure, p: PredId, u: u32) -> Result
 /// The tuples of a binary predicate whose value isn't `No`.
 fn pairs(alloc: Global, s: &Structure, p: PredId) -> Result<Vec<Written>, AllocError>
     requires { slice_get (arities_of s.now) p.0 ≡ Some 2 }
-    ensures { IfOk result (λ list. written_list list.items ≡ written_items (value_at s.now p.0) (tuples 2 s.now.size)) }
+    ensures { IfOk result
+        (λ list. written_list list.items ≡ written_items (value_at s.now p.0) (tuples 2 s.now.size)) }
 {
     let mut list = Vec::new(alloc);
     for u in 0..s.size() {
@@ -195,7 +205,8 @@ fn summary_of(s: &Structure, u: u32) -> K3
 
 /// The summaries, each as a tuple with the value `Half`.
 fn summaries(alloc: Global, s: &Structure) -> Result<Vec<Written>, AllocError>
-    ensures { IfOk result (λ list. written_list list.items ≡ written_items (summary_value s.now) (tuples 1 s.now.size)) }
+    ensures { IfOk result
+        (λ list. written_list list.items ≡ written_items (summary_value s.now) (tuples 1 s.now.size)) }
 {
     let mut list = Vec::new(alloc);
     for u in 0..s.size() {

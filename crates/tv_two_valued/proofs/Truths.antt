@@ -1,21 +1,22 @@
 -- Truth in the heap of a two-valued structure.
-use Rattle.std.proofs.Common.{ℕ, ◌≡◌, ◌<◌, ◌↔◌, Bool, true, false, List, Option, IsTrue, if◌then◌else◌, refl, sym, ap, subst}
+use Rattle.std.proofs.Common.{ℕ, ◌≡◌, ◌<◌, ◌↔◌, Bool, true, false, List, Option, IsTrue, if◌then◌else◌, refl}
+use Rattle.std.proofs.Common.{sym, ap, subst}
 use Rattle.std.specs.Prelude.{Contains, Some, None, IsSomeAnd, unwrap_or}
 use Rattle.std.specs.List.{range_with_len}
 use Rattle.tv_kleene.specs.declared.K3.{K3}
 use Rattle.tv_kleene.specs.declared.K3.TheVariants.{No, Half, Yes}
-use Rattle.tv_eval.specs.AssignmentForm.{assignment_of, place_of}
+use Rattle.tv_eval.specs.AssignmentForm.{assignment_of, individual_for}
 use Rattle.tv_eval.specs.Formulas.{AreAssigned}
-use Rattle.tv_frame.specs.LogicalStructure.{heap_structure}
-use Rattle.tv_frame.proofs.EmbeddingLaws.{reads_heap}
+use Rattle.tv_embedding_laws.specs.LogicalStructure.{heap_structure}
+use Rattle.tv_embedding_laws.proofs.EmbeddingLaws.{reads_heap}
 use Rattle.tv_model.specs.Form.{Form}
 use Rattle.tv_model.specs.Truth.{Assignment, Truth}
 use Rattle.tv_struct.specs.StructureForm.{StructureForm, IsStructure, structure_of, value_at}
 use Rattle.tv_struct.proofs.Library.{Contains-range, below-range}
-use Rattle.tv_value.specs.Laws.{GivesIndividuals, LooksAlike, TellsTruth}
-use Rattle.tv_value.specs.Value.{value}
-use Rattle.tv_value.proofs.InHeaps.{heaps_tell_truth}
-use Rattle.tv_value.proofs.Embedded.{values_are_local}
+use Rattle.tv_eval_laws.specs.Laws.{GivesIndividuals, LooksAlike, TellsTruth}
+use Rattle.tv_eval_laws.specs.Value.{value}
+use Rattle.tv_eval_laws.proofs.InHeaps.{heaps_tell_truth}
+use Rattle.tv_eval_laws.proofs.Embedded.{values_are_local}
 use Rattle.tv_two_valued.specs.TwoValued.{IsTwoValued, heap_of, is_yes}
 use Rattle.tv_two_valued.specs.Laws.{TruthIsTold}
 use Rattle.tv_two_valued.proofs.Heaps.{heap-told}
@@ -70,7 +71,7 @@ from-assigned n (Some u) lt = Contains-range n u lt
 
 pub gives-assigned : (s : StructureForm) (places : List (Option ℕ)) (f : Form) → AreAssigned s.size places f
     → GivesIndividuals (heap_of s).individuals f (assignment_of places)
-gives-assigned s places f assigned v free = from-assigned s.size (place_of places v) (assigned v free)
+gives-assigned s places f assigned v free = from-assigned s.size (individual_for places v) (assigned v free)
 
 pub answers_truth : (s : StructureForm) (places : List (Option ℕ)) (f : Form) → IsStructure s → IsTwoValued s → AreAssigned s.size places f
     → IsTrue (is_yes (value (structure_of s) (assignment_of places) f)) ↔ Truth (heap_of s) (assignment_of places) f

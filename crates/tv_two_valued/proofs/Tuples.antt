@@ -1,7 +1,9 @@
 -- The lists of n individuals are exactly those of that length.
-use Rattle.std.proofs.Common.{ℕ, ◌≡◌, List, [], ◌∷◌, length, map, All, Contains, refl, arith, subst, ap, suc, zero, ⊎_elim}
+use Rattle.std.proofs.Common.{ℕ, ◌≡◌, List, [], ◌∷◌, length, map, All, Contains, refl, arith, subst, ap, suc}
+use Rattle.std.proofs.Common.{zero, ⊎_elim}
 use Rattle.std.proofs.lemmas.List.Elements.{All-nil, All-cons, All-head, All-tail}
-use Rattle.tv_model.proofs.Lists.{Contains-here, Contains-cases, Contains-none, Contains-map, Contains-map_back, Contains-flat_map, Contains-flat_map_back}
+use Rattle.tv_model.proofs.Lists.{Contains-here, Contains-cases, Contains-none, Contains-map}
+use Rattle.tv_model.proofs.Lists.{Contains-map_back, Contains-flat_map, Contains-flat_map_back}
 use Rattle.tv_two_valued.specs.TwoValued.{lists_of}
 
 pub list-fits : (xs : List ℕ) (n : ℕ) (us : List ℕ) → Contains (lists_of xs n) us → (length us ≡ n) × All (Contains xs) us

@@ -7,8 +7,8 @@ use Rattle.tv_model.specs.Program.{ProgramForm}
 use Rattle.tv_model.specs.Rules.{IsHeap}
 use Rattle.tv_model.specs.Truth.{Assignment, Truth}
 use Rattle.tv_struct.specs.StructureForm.{StructureForm, IsStructure, arities_of, value_at, structure_of}
-use Rattle.tv_value.specs.Laws.{GivesIndividuals}
-use Rattle.tv_value.specs.Value.{value}
+use Rattle.tv_eval_laws.specs.Laws.{GivesIndividuals}
+use Rattle.tv_eval_laws.specs.Value.{value}
 use Rattle.tv_two_valued.specs.TwoValued.{IsTwoValued, heap_of}
 
 -- the individuals of a structure's heap are the structure's, and a predicate holds where it is Yes

@@ -1,5 +1,5 @@
--- Heaps as two-valued structures, and the heap that a structure stands for (Sagiv, Reps and Wilhelm, TOPLAS 24(3),
--- 2002, section 2).
+-- Heaps as two-valued structures, and the heap that a structure stands for (Sagiv, Reps and Wilhelm, TOPLAS
+-- 24(3), 2002, section 2).
 use Rattle.std.specs.Prelude.{ℕ, zero, suc, ◌≡◌, ◌≢◌, ◌<◌, Bool, true, false, List, [], ◌∷◌, map}
 use Rattle.std.specs.List.{range_with_len, flat_map}
 use Rattle.std.specs.Prelude.{filter}
@@ -25,7 +25,8 @@ is_yes Yes = true
 
 -- the tuples of individuals at which the predicate is Yes
 abbrev pub yes_tuples : StructureForm → (pred arity : ℕ) → List (List ℕ)
-yes_tuples s pred arity = filter (λ tuple. is_yes (value_at s pred tuple)) (lists_of (range_with_len 0 s.size) arity)
+yes_tuples s pred arity =
+    filter (λ tuple. is_yes (value_at s pred tuple)) (lists_of (range_with_len 0 s.size) arity)
 
 -- the same for predicates of these arities, the first of which has the number pred
 abbrev pub extents_from : StructureForm → (pred : ℕ) → (arities : List ℕ) → List (List (List ℕ))

@@ -4,7 +4,7 @@ ghost use Rattle.std.specs.Prelude.{◌≡◌, ◌↔◌, IsTrue};
 ghost use Rattle.tv_eval.specs.AssignmentForm.{assignment_of};
 ghost use Rattle.tv_eval.specs.Bound.{IsBound, bound_structure, bound_room};
 ghost use Rattle.tv_eval.specs.Formulas.{AreAssigned};
-ghost use Rattle.tv_eval.specs.ScratchForm.{Fits};
+ghost use Rattle.tv_eval.specs.ScratchForm.{HasScratchFor};
 ghost use Rattle.tv_model.specs.Form.{form_of};
 ghost use Rattle.tv_model.specs.Truth.{Truth};
 ghost use Rattle.tv_model.specs.Valid.{IsFormulaOver};
@@ -23,8 +23,10 @@ pub fn holds<'a>(evaluator: &mut Evaluator<'a>, f: &'a Formula, a: &Assignment) 
     requires two_valued { IsTwoValued (bound_structure evaluator.old) }
     requires formula { IsFormulaOver (arities_of (bound_structure evaluator.old)) (form_of f.now) }
     requires assigned { AreAssigned (bound_structure evaluator.old).size a.now (form_of f.now) }
-    requires fits { Fits (bound_room evaluator.old) (form_of f.now) (bound_structure evaluator.old).size }
-    ensures truth { IsTrue result ↔ Truth (heap_of (bound_structure evaluator.old)) (assignment_of a.now) (form_of f.now) }
+    requires fits { HasScratchFor (bound_room evaluator.old) (form_of f.now)
+        (bound_structure evaluator.old).size }
+    ensures truth { IsTrue result
+        ↔ Truth (heap_of (bound_structure evaluator.old)) (assignment_of a.now) (form_of f.now) }
     ensures bound { IsBound evaluator.new }
     ensures structure { bound_structure evaluator.new ≡ bound_structure evaluator.old }
     ensures room { bound_room evaluator.new ≡ bound_room evaluator.old }

@@ -1,5 +1,7 @@
 -- What is said of the tables of an update.
-use Rattle.std.proofs.Common.{ℕ, ◌≡◌, ◌≢◌, ◌<◌, ◌≤◌, ◌+◌, ◌⊎◌, inl, inr, Bool, true, false, List, length, get_or, map, Option, Some, None, refl, sym, ap, subst, ◌∙◌, arith, All, Contains}
+use Rattle.std.proofs.Common.{ℕ, ◌≡◌, ◌≢◌, ◌<◌, ◌≤◌, ◌+◌, ◌⊎◌, inl, inr, Bool, true, false, List, length}
+use Rattle.std.proofs.Common.{get_or, map, Option, Some, None, refl, sym, ap, subst, ◌∙◌, arith, All}
+use Rattle.std.proofs.Common.{Contains}
 use Rattle.std.specs.Prelude.{IsSomeAnd}
 use Rattle.std.specs.List.{range_with_len}
 use Rattle.std.proofs.lemmas.Bool.{cases_eq}
@@ -13,16 +15,17 @@ use Rattle.tv_model.specs.Truth.{Assignment}
 use Rattle.tv_model.specs.Valid.{IsValid}
 use Rattle.tv_model.proofs.Lists.{Contains-map}
 use Rattle.tv_struct.specs.Halves.{row_halves}
-use Rattle.tv_struct.specs.StructureForm.{StructureForm, IsStructure, IsOver, structure_of, arities_of, with_new}
+use Rattle.tv_struct.specs.StructureForm.{StructureForm, IsStructure, IsOver, structure_of, arities_of}
+use Rattle.tv_struct.specs.StructureForm.{with_new}
 use Rattle.tv_struct.specs.Laws.{DrawnReads}
 use Rattle.tv_struct.specs.declared.analysis.StageError.{StageError}
 use Rattle.tv_struct.specs.declared.analysis.StageError.TheVariants.{Splits, Individuals, Memory}
 use Rattle.tv_struct.proofs.StructureLaws.{drawn_reads}
-use Rattle.tv_eval.specs.AssignmentForm.{assignment_of, IsAssigned, place_of}
+use Rattle.tv_eval.specs.AssignmentForm.{assignment_of, IsAssigned, individual_for}
 use Rattle.tv_eval.specs.ScratchForm.{ScratchForm, IsMadeFor}
-use Rattle.tv_applied.specs.Choices.{AreGiven}
-use Rattle.tv_applied.specs.Tables.{middle_table, IsGivenOver}
-use Rattle.tv_applied.proofs.Tables.{tables_are_middle}
+use Rattle.tv_update_laws.specs.Choices.{AreGiven}
+use Rattle.tv_update_laws.specs.Tables.{middle_table, IsGivenOver}
+use Rattle.tv_update_laws.proofs.Tables.{tables_are_middle}
 use Rattle.tv_update.specs.Update.{no_action, action_at, IsFull, IsUpdateCause, IsGivenOf, IsAnswer}
 use Rattle.tv_update.specs.Updated.{CanApply, IsPrepareCause, keep_values}
 use Rattle.tv_update.proofs.Limits.{too_large, picks_inside, few_are_not_many, many_are_many}
@@ -108,7 +111,7 @@ can_apply_middle program action places s room is can room_left = record {
   is_action = can.is_action;
   over = over-middle (action_of action).fresh s is ∙ can.over;
   small = small (action_of action).fresh refl;
-  picks = λ k d lt. wider (action_of action).fresh (place_of places _) (can.picks k d lt);
+  picks = λ k d lt. wider (action_of action).fresh (individual_for places _) (can.picks k d lt);
   made = can.made;
 }
   where

@@ -1,5 +1,6 @@
 -- What an action of a valid program asks for where it is applied.
-use Rattle.std.proofs.Common.{ℕ, ◌≡◌, ◌≢◌, ◌≤◌, ◌+◌, List, [], ◌∷◌, map, replicate, Option, None, Some, inl, inr, ⊎_elim, refl, sym, ap, subst, ◌∙◌, arith, All, Contains, zero, suc}
+use Rattle.std.proofs.Common.{ℕ, ◌≡◌, ◌≢◌, ◌≤◌, ◌+◌, List, [], ◌∷◌, map, replicate, Option, None, Some, inl}
+use Rattle.std.proofs.Common.{inr, ⊎_elim, refl, sym, ap, subst, ◌∙◌, arith, All, Contains, zero, suc}
 use Rattle.std.specs.List.{AllByRecursion, range_with_len}
 use Rattle.std.proofs.lemmas.List.Elements.{All-contains, All-replicate, Contains-append_cases}
 use Rattle.tv_kleene.specs.declared.K3.TheVariants.{Yes}
@@ -7,13 +8,15 @@ use Rattle.tv_model.specs.declared.program.Action.{Action}
 use Rattle.tv_model.specs.declared.program.Program.{Program}
 use Rattle.tv_model.specs.declared.program.Retain.{Retain}
 use Rattle.tv_model.specs.Form.{Form, IsFree, form_of, height}
-use Rattle.tv_model.specs.Program.{ProgramForm, PredForm, ActionForm, RetainForm, UpdateForm, ChangeForm, CFree, CTo, action_of, program_of, retain_of, update_of}
+use Rattle.tv_model.specs.Program.{ProgramForm, PredForm, ActionForm, RetainForm, UpdateForm, ChangeForm}
+use Rattle.tv_model.specs.Program.{CFree, CTo, action_of, program_of, retain_of, update_of}
 use Rattle.tv_model.specs.Truth.{Assignment}
-use Rattle.tv_model.specs.Valid.{IsAction, IsRetain, IsUpdate, IsChange, IsVariable, IsFormulaOver, AreVariables}
+use Rattle.tv_model.specs.Valid.{IsAction, IsRetain, IsUpdate, IsChange, IsVariable, IsFormulaOver}
+use Rattle.tv_model.specs.Valid.{AreVariables}
 use Rattle.tv_model.proofs.Lists.{Contains-here, Contains-there, Contains-cases, Contains-map}
 use Rattle.tv_struct.specs.StructureForm.{StructureForm, arities_of}
 use Rattle.tv_eval.specs.AssignmentForm.{IsAssigned}
-use Rattle.tv_eval.specs.ScratchForm.{ScratchForm, Fits, program_height}
+use Rattle.tv_eval.specs.ScratchForm.{ScratchForm, HasScratchFor, program_height}
 use Rattle.tv_eval.proofs.Programs.{within_height, made_scratches_fit, program_formulas_are_over}
 use Rattle.tv_update.specs.Updated.{CanApply, CanChange, CanMake, keep_values}
 use Rattle.tv_update.proofs.Defines.{pred_arity}
@@ -32,7 +35,7 @@ module _ (program : Program) (action : Action) (places : List (Option ℕ)) (s :
   picked : (v : ℕ) → Contains a.picks v → IsAssigned s.size places v
   picked v at = All-contains (IsAssigned s.size places) a.picks v can.picks at
 
-  high-enough : (f : Form) → height f ≤ program_height p → Fits room f s.size
+  high-enough : (f : Form) → height f ≤ program_height p → HasScratchFor room f s.size
   high-enough f high = made_scratches_fit p 256 s.size room f can.made (omega (arith, high)) can.small
 
   change-can : (d : PredForm) (w : UpdateForm) → Contains a.updates w → AreVariables d.arity w.vars
@@ -74,7 +77,7 @@ pub record CanRetain (places : List (Option ℕ)) (s : StructureForm) (room : Sc
     (keep : Form) : Type 0 where
   pub formula : IsVariable var × IsFormulaOver (arities_of s) keep
   pub assigned : (v : ℕ) → (v ≢ var) × IsFree v keep → IsAssigned s.size places v
-  pub fits : Fits room keep s.size
+  pub fits : HasScratchFor room keep s.size
 
 pub can_retain : (program : Program) (action : Action) (places : List (Option ℕ)) (s : StructureForm)
     (room : ScratchForm)

@@ -1,5 +1,7 @@
 -- Definitions that are evaluated one after the other.
-use Rattle.std.proofs.Common.{ℕ, ◌≡◌, ◌<◌, ◌≤◌, ◌-◌, false, List, [], ◌∷◌, length, get_or, take, take_all, drop, map, Option, Some, slice_get, inl, ⊎_elim, refl, sym, ap, subst, ◌∙◌, eqb, eq-eqb, ne_eqb, arith, Contains}
+use Rattle.std.proofs.Common.{ℕ, ◌≡◌, ◌<◌, ◌≤◌, ◌-◌, false, List, [], ◌∷◌, length, get_or, take, take_all}
+use Rattle.std.proofs.Common.{drop, map, Option, Some, slice_get, inl, ⊎_elim, refl, sym, ap, subst, ◌∙◌, eqb}
+use Rattle.std.proofs.Common.{eq-eqb, ne_eqb, arith, Contains}
 use Rattle.std.specs.List.{range_with_len}
 use Rattle.std.proofs.lemmas.Bool.{cases_eq, cond-true, cond-false}
 use Rattle.std.proofs.lemmas.List.{map-id}
@@ -15,21 +17,22 @@ use Rattle.tv_model.specs.Program.{ProgramForm, PredForm, KCore, KDefined, kind_
 use Rattle.tv_model.specs.Rules.{blank}
 use Rattle.tv_model.specs.Truth.{put_all}
 use Rattle.tv_model.specs.Valid.{IsValid, IsKind}
-use Rattle.tv_model.proofs.Lists.{map-compose, Contains-here, Contains-there, Contains-none, Contains-cases, slice_get-contains}
+use Rattle.tv_model.proofs.Lists.{map-compose, Contains-here, Contains-there, Contains-none, Contains-cases}
+use Rattle.tv_model.proofs.Lists.{slice_get-contains}
 use Rattle.tv_model.proofs.Decided.{Contains-decided}
 use Rattle.tv_struct.specs.TableForm.{AreIndividuals}
 use Rattle.tv_struct.specs.StructureForm.{StructureForm, IsOver, structure_of, arities_of, value_at}
 use Rattle.tv_struct.specs.StructureRows.{HasArity}
 use Rattle.tv_struct.proofs.Library.{All-individuals}
 use Rattle.tv_update.proofs.Misfits.{value_at-misfit}
-use Rattle.tv_value.specs.Value.{value}
-use Rattle.tv_value.specs.Laws.{LooksAlike, AgreesOn}
-use Rattle.tv_value.proofs.Embedded.{values_are_local}
+use Rattle.tv_eval_laws.specs.Value.{value}
+use Rattle.tv_eval_laws.specs.Laws.{LooksAlike, AgreesOn}
+use Rattle.tv_eval_laws.proofs.Embedded.{values_are_local}
 use Rattle.tv_eval.specs.ScratchForm.{ScratchForm, IsMadeFor, program_height}
 use Rattle.tv_eval.proofs.Programs.{within_height, made_scratches_fit, program_formulas_are_over}
-use Rattle.tv_applied.specs.Applied.{defined_value, kind_or_core, kind_at}
-use Rattle.tv_applied.proofs.Predicates.{defined-found, valid-pred}
-use Rattle.tv_applied.proofs.Puts.{put_all-goes}
+use Rattle.tv_update_laws.specs.Applied.{defined_value, kind_or_core, kind_at}
+use Rattle.tv_update_laws.proofs.Predicates.{defined-found, valid-pred}
+use Rattle.tv_update_laws.proofs.Puts.{put_all-goes}
 use Rattle.tv_update.specs.Defined.{IsEvaluated, AreEvaluated}
 use Rattle.tv_update.specs.Plan.{IsOrdered}
 use Rattle.tv_update.specs.Rows.{CanFill, IsLike, HasRows, rows_for}

@@ -1,5 +1,6 @@
 -- What the making of the new structures asks for.
-use Rattle.std.proofs.Common.{ℕ, ◌≡◌, ◌<◌, List, length, map, Option, None, Some, slice_get, refl, subst, ◌∙◌, arith, Contains}
+use Rattle.std.proofs.Common.{ℕ, ◌≡◌, ◌<◌, List, length, map, Option, None, Some, slice_get, refl, subst, ◌∙◌}
+use Rattle.std.proofs.Common.{arith, Contains}
 use Rattle.std.proofs.lemmas.List.{length-map}
 use Rattle.std.proofs.lemmas.Option.{slice_get_within}
 use Rattle.tv_model.specs.declared.formula.PredId.{PredId}
@@ -7,13 +8,14 @@ use Rattle.tv_model.specs.declared.program.Action.{Action}
 use Rattle.tv_model.specs.declared.program.Mode.{Mode}
 use Rattle.tv_model.specs.declared.program.Program.{Program}
 use Rattle.tv_model.specs.Form.{Form}
-use Rattle.tv_model.specs.Program.{ProgramForm, PredForm, KindForm, KCore, KDefined, ActionForm, UpdateForm, action_of, pred_of, program_of}
+use Rattle.tv_model.specs.Program.{ProgramForm, PredForm, KindForm, KCore, KDefined, ActionForm, UpdateForm}
+use Rattle.tv_model.specs.Program.{action_of, pred_of, program_of}
 use Rattle.tv_model.specs.Truth.{Assignment}
 use Rattle.tv_model.proofs.Lists.{Contains-map}
 use Rattle.tv_struct.specs.StructureForm.{StructureForm}
 use Rattle.tv_eval.specs.ScratchForm.{ScratchForm}
-use Rattle.tv_applied.specs.Applied.{kind_at, IsChanged}
-use Rattle.tv_applied.proofs.Predicates.{defined-found}
+use Rattle.tv_update_laws.specs.Applied.{kind_at, IsChanged}
+use Rattle.tv_update_laws.proofs.Predicates.{defined-found}
 use Rattle.tv_update.specs.New.{CanFinish}
 use Rattle.tv_update.specs.Plan.{IsPlan}
 use Rattle.tv_update.specs.Updated.{CanApply, AreMade}

@@ -1,5 +1,7 @@
 -- What is made of a middle structure is what the action gives.
-use Rattle.std.proofs.Common.{ℕ, ◌≡◌, ◌+◌, Bool, true, false, List, [], ◌∷◌, length, get_or, map, filter, replicate, Option, None, Some, ⊎_elim, refl, sym, ap, subst, ◌∙◌, arith, All, Contains, IsTrue}
+use Rattle.std.proofs.Common.{ℕ, ◌≡◌, ◌+◌, Bool, true, false, List, [], ◌∷◌, length, get_or, map, filter}
+use Rattle.std.proofs.Common.{replicate, Option, None, Some, ⊎_elim, refl, sym, ap, subst, ◌∙◌, arith, All}
+use Rattle.std.proofs.Common.{Contains, IsTrue}
 use Rattle.std.specs.List.{range_with_len, AllZip}
 use Rattle.std.proofs.lemmas.Bool.{cases_Bool, cond-true, cond-false, false≢true}
 use Rattle.std.proofs.lemmas.List.Elements.{All-map, All-nil, All-cons, All-append, All-contains}
@@ -12,18 +14,20 @@ use Rattle.tv_model.specs.Truth.{Assignment}
 use Rattle.tv_model.proofs.Decided.{Contains-decided}
 use Rattle.tv_model.proofs.Lists.{Contains-here, Contains-there}
 use Rattle.tv_struct.specs.Origins.{AreKept}
-use Rattle.tv_struct.specs.StructureForm.{StructureForm, IsStructure, structure_of, value_at, without, kept_from}
+use Rattle.tv_struct.specs.StructureForm.{StructureForm, IsStructure, structure_of, value_at, without}
+use Rattle.tv_struct.specs.StructureForm.{kept_from}
 use Rattle.tv_struct.specs.Laws.{DrawnReads}
 use Rattle.tv_struct.proofs.Library.{AreIndividuals-range}
 use Rattle.tv_struct.proofs.OriginLaws.{are_kept}
 use Rattle.tv_struct.proofs.StructureLaws.{drawn_reads}
-use Rattle.tv_applied.specs.Applied.{keep_value, defined_value, kind_at, update_at, IsChanged, new_value, IsNew}
-use Rattle.tv_applied.specs.Choices.{stays_in}
-use Rattle.tv_applied.specs.Tables.{flag_at, origin_at, IsKeptPart, IsGivenOver}
-use Rattle.tv_applied.proofs.Choices.{IsNew-same}
-use Rattle.tv_applied.proofs.Facts.{any-found, any-none}
-use Rattle.tv_applied.proofs.Filters.{kept-origin}
-use Rattle.tv_applied.proofs.Tables.{tables_are_kept}
+use Rattle.tv_update_laws.specs.Applied.{keep_value, defined_value, kind_at, update_at, IsChanged, new_value}
+use Rattle.tv_update_laws.specs.Applied.{IsNew}
+use Rattle.tv_update_laws.specs.Choices.{stays_in}
+use Rattle.tv_update_laws.specs.Tables.{flag_at, origin_at, IsKeptPart, IsGivenOver}
+use Rattle.tv_update_laws.proofs.Choices.{IsNew-same}
+use Rattle.tv_update_laws.proofs.Facts.{any-found, any-none}
+use Rattle.tv_update_laws.proofs.Filters.{kept-origin}
+use Rattle.tv_update_laws.proofs.Tables.{tables_are_kept}
 use Rattle.tv_update.specs.Kept.{with_flag, flag_choices}
 use Rattle.tv_update.specs.New.{IsFinished, AreFinished}
 use Rattle.tv_update.specs.Plan.{IsPlan}

@@ -1,5 +1,6 @@
 -- Choices as flags, and as lists of those that stay.
-use Rattle.std.proofs.Common.{ℕ, ◌≡◌, ◌+◌, Bool, true, false, List, [], ◌∷◌, ◌++◌, length, map, replicate, refl, sym, ap, ◌∙◌, append_assoc, All}
+use Rattle.std.proofs.Common.{ℕ, ◌≡◌, ◌+◌, Bool, true, false, List, [], ◌∷◌, ◌++◌, length, map, replicate}
+use Rattle.std.proofs.Common.{refl, sym, ap, ◌∙◌, append_assoc, All}
 use Rattle.std.specs.List.{range_with_len}
 use Rattle.std.proofs.lemmas.List.{map-append, map-id}
 use Rattle.std.proofs.lemmas.List.Elements.{All-head, All-tail}
@@ -8,7 +9,7 @@ use Rattle.tv_kleene.specs.declared.K3.TheVariants.{No, Half, Yes}
 use Rattle.tv_model.proofs.Lists.{map-compose, map-agreed}
 use Rattle.tv_struct.specs.Halves.{row_halves}
 use Rattle.tv_struct.specs.StructureForm.{kept_from}
-use Rattle.tv_applied.specs.Choices.{with_choice, choices_of}
+use Rattle.tv_update_laws.specs.Choices.{with_choice, choices_of}
 use Rattle.tv_update.specs.Kept.{with_flag, flag_choices}
 
 -- what begins with one more flag

@@ -1,5 +1,6 @@
 -- The limits of an update.
-use Rattle.std.proofs.Common.{ℕ, ◌≡◌, ◌<◌, ◌≤◌, ◌+◌, Bool, true, false, List, [], ◌∷◌, length, Option, Some, None, unwrap_or, refl, sym, ap, subst, ◌∙◌, arith, All, Contains, IsTrue}
+use Rattle.std.proofs.Common.{ℕ, ◌≡◌, ◌<◌, ◌≤◌, ◌+◌, Bool, true, false, List, [], ◌∷◌, length, Option, Some}
+use Rattle.std.proofs.Common.{None, unwrap_or, refl, sym, ap, subst, ◌∙◌, arith, All, Contains, IsTrue}
 use Rattle.std.specs.Prelude.{◌^◌, IsSomeAnd}
 use Rattle.std.specs.List.{range_with_len}
 use Rattle.std.proofs.lemmas.List.{length-append}
@@ -10,16 +11,17 @@ use Rattle.tv_model.specs.Program.{ProgramForm, ActionForm}
 use Rattle.tv_model.specs.Truth.{Assignment}
 use Rattle.tv_model.specs.Valid.{IsValid}
 use Rattle.tv_model.proofs.Lists.{All-from_contains}
-use Rattle.tv_frame.specs.LogicalStructure.{LogicalStructure}
+use Rattle.tv_embedding_laws.specs.LogicalStructure.{LogicalStructure}
 use Rattle.tv_struct.specs.Halves.{row_halves}
 use Rattle.tv_struct.specs.StructureForm.{StructureForm, IsStructure, structure_of}
 use Rattle.tv_struct.proofs.Library.{Contains-range}
-use Rattle.tv_eval.specs.AssignmentForm.{assignment_of, IsAssigned, place_of}
-use Rattle.tv_applied.specs.Applied.{keep_value, IsMiddleOf}
-use Rattle.tv_applied.specs.Tables.{middle_table, kept_choices, IsTooLarge, HasManyChoices, MiddlesAreAlike}
-use Rattle.tv_applied.proofs.Counts.{choices_are_counted}
-use Rattle.tv_applied.proofs.Middles.{one_middle_is_as_good}
-use Rattle.tv_applied.proofs.Tables.{tables_are_middle}
+use Rattle.tv_eval.specs.AssignmentForm.{assignment_of, IsAssigned, individual_for}
+use Rattle.tv_update_laws.specs.Applied.{keep_value, IsMiddleOf}
+use Rattle.tv_update_laws.specs.Tables.{middle_table, kept_choices, IsTooLarge, HasManyChoices}
+use Rattle.tv_update_laws.specs.Tables.{MiddlesAreAlike}
+use Rattle.tv_update_laws.proofs.Counts.{choices_are_counted}
+use Rattle.tv_update_laws.proofs.Middles.{one_middle_is_as_good}
+use Rattle.tv_update_laws.proofs.Tables.{tables_are_middle}
 use Rattle.tv_update.specs.Update.{IsFull}
 use Rattle.tv_update.specs.Updated.{keep_values}
 
@@ -74,7 +76,7 @@ many-choices h lt =
 -- the variable stands for an individual
 assigned-inside : (size : ℕ) (places : List (Option ℕ)) (v : ℕ) → IsAssigned size places v
     → assignment_of places v < size
-assigned-inside size places v is = go (place_of places v) is
+assigned-inside size places v is = go (individual_for places v) is
   where
     go : (o : Option ℕ) → IsSomeAnd o (λ u. u < size) → unwrap_or o 0 < size
     go (Some u) lt = lt

@@ -1,5 +1,7 @@
 -- Updates that are made one after the other.
-use Rattle.std.proofs.Common.{ℕ, ◌≡◌, ◌≢◌, ◌≤◌, ◌⊎◌, ◌-◌, List, [], ◌∷◌, length, get_or, take, take_all, drop, map, Option, None, Some, slice_get, inl, inr, ⊎_elim, refl, sym, ap, subst, ◌∙◌, eqb, eq-eqb, ne_eqb, arith}
+use Rattle.std.proofs.Common.{ℕ, ◌≡◌, ◌≢◌, ◌≤◌, ◌⊎◌, ◌-◌, List, [], ◌∷◌, length, get_or, take, take_all, drop}
+use Rattle.std.proofs.Common.{map, Option, None, Some, slice_get, inl, inr, ⊎_elim, refl, sym, ap, subst, ◌∙◌}
+use Rattle.std.proofs.Common.{eqb, eq-eqb, ne_eqb, arith}
 use Rattle.std.specs.List.{AllByRecursion}
 use Rattle.std.proofs.lemmas.Bool.{cases_eq, cond-true, cond-false}
 use Rattle.tv_kleene.specs.declared.K3.TheVariants.{No}
@@ -15,7 +17,7 @@ use Rattle.tv_struct.specs.StructureForm.{StructureForm, structure_of, arities_o
 use Rattle.tv_struct.specs.StructureRows.{HasArity}
 use Rattle.tv_update.proofs.Misfits.{value_at-misfit}
 use Rattle.tv_eval.specs.ScratchForm.{ScratchForm}
-use Rattle.tv_applied.specs.Applied.{changed_value, updated_value, used_update, kind_at}
+use Rattle.tv_update_laws.specs.Applied.{changed_value, updated_value, used_update, kind_at}
 use Rattle.tv_update.specs.Rows.{IsLike, HasRows, change_rows}
 use Rattle.tv_update.specs.Updated.{used_in, updated_or, AreMade, CanMake}
 use Rattle.tv_update.proofs.RowLaws.{change_rows_values, few_vars}

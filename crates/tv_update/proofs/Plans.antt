@@ -1,8 +1,12 @@
 -- How the plan of an action is made.
-use Rattle.std.proofs.Common.{ℕ, ◌≡◌, ◌≢◌, ◌<◌, ◌≤◌, ◌+◌, ◌⊎◌, ◌↔◌, ◌&&◌, ◌||◌, ◌++◌, Bool, true, false, List, [], ◌∷◌, length, get_or, set, take, map, replicate, Option, None, Some, slice_get, inl, inr, ⊎_elim, refl, sym, ap, subst, ◌∙◌, cond, eqb, eq-eqb, ne_eqb, append-nil, arith, zero, suc, Contains, IsTrue}
+use Rattle.std.proofs.Common.{ℕ, ◌≡◌, ◌≢◌, ◌<◌, ◌≤◌, ◌+◌, ◌⊎◌, ◌↔◌, ◌&&◌, ◌||◌, ◌++◌, Bool, true, false, List}
+use Rattle.std.proofs.Common.{[], ◌∷◌, length, get_or, set, take, map, replicate, Option, None, Some}
+use Rattle.std.proofs.Common.{slice_get, inl, inr, ⊎_elim, refl, sym, ap, subst, ◌∙◌, cond, eqb, eq-eqb}
+use Rattle.std.proofs.Common.{ne_eqb, append-nil, arith, zero, suc, Contains, IsTrue}
 use Rattle.std.specs.Prelude.{is_some}
 use Rattle.std.proofs.lemmas.Bool.{cases_eq, cases_lt, false≢true}
-use Rattle.std.proofs.lemmas.List.{get_or-set_same, get_or-set_other, get_or_past, get_or-replicate, length-map, length-replicate, length-set, map-append, take_more}
+use Rattle.std.proofs.lemmas.List.{get_or-set_same, get_or-set_other, get_or_past, get_or-replicate}
+use Rattle.std.proofs.lemmas.List.{length-map, length-replicate, length-set, map-append, take_more}
 use Rattle.std.proofs.lemmas.Option.{slice_get_within}
 use Rattle.std.proofs.lemmas.List.Elements.{All-contains, Contains-append_left, Contains-append_cases}
 use Rattle.tv_model.specs.declared.program.Action.{Action}
@@ -12,14 +16,18 @@ use Rattle.tv_model.specs.declared.program.Program.{Program}
 use Rattle.tv_model.specs.declared.program.Update.{Update}
 use Rattle.tv_model.specs.declared.formula.PredId.{PredId}
 use Rattle.tv_model.specs.Form.{Form, Mentions}
-use Rattle.tv_model.specs.Program.{ProgramForm, PredForm, KindForm, KCore, KDefined, ActionForm, UpdateForm, action_of, pred_of, program_of, update_of}
+use Rattle.tv_model.specs.Program.{ProgramForm, PredForm, KindForm, KCore, KDefined, ActionForm, UpdateForm}
+use Rattle.tv_model.specs.Program.{action_of, pred_of, program_of, update_of}
 use Rattle.tv_model.specs.Step.{update_for}
 use Rattle.tv_model.specs.Valid.{IsValid, IsAction, IsUpdate}
-use Rattle.tv_model.proofs.Lists.{Contains-none, Contains-here, Contains-cases, Contains-there, Contains-map, pushed-cases, pushed-old, pushed-last, slice_get-past}
-use Rattle.tv_applied.specs.Applied.{used_update, kind_or_core, kind_at, update_at, MovesIndividuals, IsChanged}
-use Rattle.tv_applied.proofs.Predicates.{defined-found}
-use Rattle.tv_applied.proofs.Updates.{UpdateOf, used-update-of}
-use Rattle.tv_update.specs.Plan.{IsFreeOf, IsOrdered, IsPlan, is_set, RestsOn, IsDefined, moves_individuals, AreUpdated, AreWaiting}
+use Rattle.tv_model.proofs.Lists.{Contains-none, Contains-here, Contains-cases, Contains-there, Contains-map}
+use Rattle.tv_model.proofs.Lists.{pushed-cases, pushed-old, pushed-last, slice_get-past}
+use Rattle.tv_update_laws.specs.Applied.{used_update, kind_or_core, kind_at, update_at, MovesIndividuals}
+use Rattle.tv_update_laws.specs.Applied.{IsChanged}
+use Rattle.tv_update_laws.proofs.Predicates.{defined-found}
+use Rattle.tv_update_laws.proofs.Updates.{UpdateOf, used-update-of}
+use Rattle.tv_update.specs.Plan.{IsFreeOf, IsOrdered, IsPlan, is_set, RestsOn, IsDefined, moves_individuals}
+use Rattle.tv_update.specs.Plan.{AreUpdated, AreWaiting}
 use Rattle.tv_update.specs.Updated.{used_in}
 use Rattle.tv_update.proofs.Made.{none-used}
 

@@ -1,5 +1,6 @@
 -- The rows of a change: their shape, and their values.
-use Rattle.std.proofs.Common.{ℕ, ◌≡◌, ◌<◌, ◌≤◌, List, [], ◌∷◌, length, get_or, replicate, refl, ap, subst, ◌∙◌, All, arith}
+use Rattle.std.proofs.Common.{ℕ, ◌≡◌, ◌<◌, ◌≤◌, List, [], ◌∷◌, length, get_or, replicate, refl, ap, subst}
+use Rattle.std.proofs.Common.{◌∙◌, All, arith}
 use Rattle.std.specs.List.{range_with_len}
 use Rattle.std.proofs.lemmas.List.{get_or-replicate, length-replicate}
 use Rattle.std.proofs.lemmas.List.Elements.{All-nil, All-cons, All-map, All-replicate}
@@ -13,9 +14,9 @@ use Rattle.tv_model.specs.Program.{ChangeForm, CFree, CTo}
 use Rattle.tv_model.specs.Truth.{Assignment, put, put_all}
 use Rattle.tv_struct.specs.TableForm.{AreIndividuals, cell, row_of, column_of, row_count, column_count}
 use Rattle.tv_struct.specs.StructureForm.{StructureForm, structure_of}
-use Rattle.tv_value.specs.Value.{value}
+use Rattle.tv_eval_laws.specs.Value.{value}
 use Rattle.tv_eval.specs.Along.{values_along}
-use Rattle.tv_applied.specs.Applied.{changed_value}
+use Rattle.tv_update_laws.specs.Applied.{changed_value}
 use Rattle.tv_update.specs.Rows.{AreRows, rows_for, half_rows, change_rows}
 
 along-length : (s : StructureForm) (a : Assignment) (v : ℕ) (f : Form)

@@ -7,14 +7,14 @@ use Rattle.tv_model.specs.Program.{ProgramForm, ActionForm}
 use Rattle.tv_model.specs.Truth.{Assignment}
 use Rattle.tv_model.specs.Valid.{IsValid}
 use Rattle.tv_model.proofs.Lists.{Contains-map_back}
-use Rattle.tv_frame.specs.LogicalStructure.{LogicalStructure}
-use Rattle.tv_frame.specs.Embedding.{IsHeapOf}
+use Rattle.tv_embedding_laws.specs.LogicalStructure.{LogicalStructure}
+use Rattle.tv_embedding_laws.specs.Embedding.{IsHeapOf}
 use Rattle.tv_struct.specs.StructureForm.{StructureForm, structure_of}
 use Rattle.tv_struct.proofs.StructureLaws.{same_structure}
-use Rattle.tv_applied.specs.Choices.{AreGiven}
-use Rattle.tv_applied.specs.Tables.{IsGivenOver, SaysSame}
-use Rattle.tv_applied.proofs.Choices.{update_loses_no_heap}
-use Rattle.tv_applied.proofs.OneTables.{given_tables_are_one}
+use Rattle.tv_update_laws.specs.Choices.{AreGiven}
+use Rattle.tv_update_laws.specs.Tables.{IsGivenOver, SaysSame}
+use Rattle.tv_update_laws.proofs.Choices.{update_loses_no_heap}
+use Rattle.tv_update_laws.proofs.OneTables.{given_tables_are_one}
 use Rattle.tv_update.specs.Update.{IsSole, KeepsSteps}
 
 -- tables over the same predicates that say the same are one

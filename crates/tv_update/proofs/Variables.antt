@@ -2,9 +2,11 @@
 use Rattle.std.proofs.Common.{ℕ, List, [], ◌∷◌, ◌++◌, Option, None, Some, sym, subst, All}
 use Rattle.std.proofs.lemmas.List.Elements.{All-nil, All-cons, All-head, All-tail, All-append, All-contains}
 use Rattle.std.specs.Prelude.{◌==◌, not}
-use Rattle.tv_model.specs.Form.{Form, FZero, FOne, FAtom, FIsNew, FSame, FNot, FAnd, FOr, FIff, FCond, FExists, FForall, FClosure}
+use Rattle.tv_model.specs.Form.{Form, FZero, FOne, FAtom, FIsNew, FSame, FNot, FAnd, FOr, FIff, FCond}
+use Rattle.tv_model.specs.Form.{FExists, FForall, FClosure}
 use Rattle.tv_model.specs.Program.{ProgramForm}
-use Rattle.tv_model.specs.Valid.{IsVariable, IsFormulaOver, IsPrecondition, free_occurrences, first_occurrences, without}
+use Rattle.tv_model.specs.Valid.{IsVariable, IsFormulaOver, IsPrecondition, free_occurrences}
+use Rattle.tv_model.specs.Valid.{first_occurrences, without}
 use Rattle.tv_model.proofs.Lists.{Contains-filter_back, All-from_contains}
 
 without-all : (P : ℕ → Type 0) (v : ℕ) (xs : List ℕ) → All P xs → All P (without v xs)

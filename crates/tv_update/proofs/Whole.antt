@@ -1,5 +1,6 @@
 -- Where all individuals stay and none is marked, the structure stays as it is.
-use Rattle.std.proofs.Common.{ℕ, ◌≡◌, ◌∙◌, ◌<◌, ◌+◌, true, false, Bool, List, [], ◌∷◌, length, map, replicate, None, refl, sym, ap, subst, get_or, All, zero, suc}
+use Rattle.std.proofs.Common.{ℕ, ◌≡◌, ◌∙◌, ◌<◌, ◌+◌, true, false, Bool, List, [], ◌∷◌, length, map, replicate}
+use Rattle.std.proofs.Common.{None, refl, sym, ap, subst, get_or, All, zero, suc}
 use Rattle.std.specs.Prelude.{◌==◌, IsTrue, if◌then◌else◌}
 use Rattle.std.specs.List.{AllByRecursion, range_with_len}
 use Rattle.std.proofs.lemmas.List.{length-replicate}

@@ -4,7 +4,7 @@ use Rattle.tv_model.specs.Form.{Form}
 use Rattle.tv_model.specs.Program.{ProgramForm, KDefined}
 use Rattle.tv_struct.specs.TableForm.{AreIndividuals}
 use Rattle.tv_struct.specs.StructureForm.{StructureForm, structure_of, value_at}
-use Rattle.tv_applied.specs.Applied.{defined_value, kind_at}
+use Rattle.tv_update_laws.specs.Applied.{defined_value, kind_at}
 use Rattle.tv_update.specs.Rows.{IsLike}
 
 -- t is s, in which the predicate has the values of its definition in s, if it has one

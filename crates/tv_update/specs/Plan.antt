@@ -1,10 +1,11 @@
 -- Which defined predicates an action changes, in an order in which they can be evaluated.
-use Rattle.std.specs.Prelude.{ℕ, ◌≡◌, ◌↔◌, ◌<◌, ◌||◌, Bool, false, List, [], ◌∷◌, length, map, None, is_some, Contains, IsTrue, slice_index_or}
+use Rattle.std.specs.Prelude.{ℕ, ◌≡◌, ◌↔◌, ◌<◌, ◌||◌, Bool, false, List, [], ◌∷◌, length, map, None, is_some}
+use Rattle.std.specs.Prelude.{Contains, IsTrue, slice_index_or}
 use Rattle.tv_model.specs.declared.formula.PredId.{PredId}
 use Rattle.tv_model.specs.declared.program.Mode.{Mode}
 use Rattle.tv_model.specs.Form.{Form, Mentions}
 use Rattle.tv_model.specs.Program.{ProgramForm, KindForm, KCore, KDefined, ActionForm}
-use Rattle.tv_applied.specs.Applied.{kind_at, update_at, AreChanged}
+use Rattle.tv_update_laws.specs.Applied.{kind_at, update_at, AreChanged}
 
 -- the definition of q, if it has one, doesn't mention r
 abbrev pub IsFreeOf : ProgramForm → (q r : ℕ) → Type 0

@@ -9,10 +9,10 @@ use Rattle.tv_model.specs.Truth.{Assignment, put}
 use Rattle.tv_model.specs.Valid.{IsVariable, IsFormulaOver}
 use Rattle.tv_struct.specs.TableForm.{AreIndividuals, cell, row_of, column_of, row_count, column_count}
 use Rattle.tv_struct.specs.StructureForm.{StructureForm, structure_of, arities_of, value_at}
-use Rattle.tv_value.specs.Value.{value}
+use Rattle.tv_eval_laws.specs.Value.{value}
 use Rattle.tv_eval.specs.Along.{values_along}
 use Rattle.tv_eval.specs.AssignmentForm.{IsAssigned}
-use Rattle.tv_eval.specs.ScratchForm.{ScratchForm, Fits}
+use Rattle.tv_eval.specs.ScratchForm.{ScratchForm, HasScratchFor}
 
 -- the formula's values at the tuples that its variables may stand for: one value, a row, or a row for each
 -- individual that the first may stand for
@@ -57,4 +57,4 @@ pub record CanFill (s : StructureForm) (places : List (Option ℕ)) (vars : List
   pub formula : IsFormulaOver (arities_of s) f
   pub variables : All IsVariable vars
   pub assigned : (v : ℕ) → IsFree v f → Contains vars v ⊎ IsAssigned s.size places v
-  pub fits : Fits room f s.size
+  pub fits : HasScratchFor room f s.size

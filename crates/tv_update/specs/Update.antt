@@ -5,13 +5,13 @@ use Rattle.tv_model.specs.declared.program.Program.{Program}
 use Rattle.tv_model.specs.Heap.{Heap}
 use Rattle.tv_model.specs.Program.{ProgramForm, ActionForm, program_of}
 use Rattle.tv_model.specs.Truth.{Assignment}
-use Rattle.tv_frame.specs.Embedding.{IsHeapOf}
+use Rattle.tv_embedding_laws.specs.Embedding.{IsHeapOf}
 use Rattle.tv_struct.specs.StructureForm.{StructureForm, structure_of}
 use Rattle.tv_struct.specs.declared.analysis.StageError.{StageError}
 use Rattle.tv_struct.specs.declared.analysis.StageError.TheVariants.{Splits, Individuals, Memory}
-use Rattle.tv_applied.specs.Choices.{AreNew, AreGiven}
-use Rattle.tv_applied.specs.Laws.{StepsFrom}
-use Rattle.tv_applied.specs.Tables.{IsGivenOver, IsTooLarge, HasManyChoices}
+use Rattle.tv_update_laws.specs.Choices.{AreNew, AreGiven}
+use Rattle.tv_update_laws.specs.Laws.{StepsFrom}
+use Rattle.tv_update_laws.specs.Tables.{IsGivenOver, IsTooLarge, HasManyChoices}
 
 -- what stands for an action that isn't there
 abbrev pub no_action : ActionForm

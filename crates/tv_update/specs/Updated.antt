@@ -5,11 +5,12 @@ use Rattle.tv_kleene.specs.declared.K3.{K3}
 use Rattle.tv_model.specs.declared.program.Mode.{Mode}
 use Rattle.tv_model.specs.declared.program.Action.{Action}
 use Rattle.tv_model.specs.declared.program.Program.{Program}
-use Rattle.tv_model.specs.Program.{ProgramForm, RetainForm, UpdateForm, ChangeForm, CFree, CTo, action_of, program_of}
+use Rattle.tv_model.specs.Program.{ProgramForm, RetainForm, UpdateForm, ChangeForm, CFree, CTo, action_of}
+use Rattle.tv_model.specs.Program.{program_of}
 use Rattle.tv_model.specs.Step.{update_for}
 use Rattle.tv_model.specs.Truth.{Assignment}
 use Rattle.tv_model.specs.Valid.{IsValid}
-use Rattle.tv_frame.specs.LogicalStructure.{LogicalStructure}
+use Rattle.tv_embedding_laws.specs.LogicalStructure.{LogicalStructure}
 use Rattle.tv_struct.specs.declared.analysis.StageError.{StageError}
 use Rattle.tv_struct.specs.declared.analysis.StageError.TheVariants.{Splits, Individuals, Memory}
 use Rattle.tv_struct.specs.Halves.{row_halves}
@@ -18,7 +19,7 @@ use Rattle.tv_struct.specs.StructureForm.{StructureForm, IsOver, structure_of, v
 use Rattle.tv_struct.specs.StructureRows.{HasArity}
 use Rattle.tv_eval.specs.AssignmentForm.{IsAssigned}
 use Rattle.tv_eval.specs.ScratchForm.{ScratchForm, IsMadeFor}
-use Rattle.tv_applied.specs.Applied.{keep_value, updated_value, used_update, kind_at}
+use Rattle.tv_update_laws.specs.Applied.{keep_value, updated_value, used_update, kind_at}
 use Rattle.tv_update.specs.Rows.{IsLike, CanFill}
 
 -- of these updates, that of the predicate q, if it counts

@@ -9,7 +9,7 @@ use tv_kleene::K3;
 use tv_model::Items;
 
 /// A flag for each individual: whether it stays.
-pub type Flags = Items<bool>;
+pub type StayFlags = Items<bool>;
 
 /// Which individuals stay.
 #[derive(Debug, Drop)]
@@ -39,7 +39,7 @@ fn push_choices(
     alloc: Global,
     values: &[K3],
     begun: &mut Vec<bool>,
-    out: &mut Vec<Flags>,
+    out: &mut Vec<StayFlags>,
 ) -> Result<(), AllocError>
     ensures out { OnOk result (out.new.items
         ≡ out.old.items ++ map (λ later. begun.old.items ++ later) (flag_choices values.now)) }
@@ -47,7 +47,7 @@ fn push_choices(
 {
     match values {
         [] => {
-            out.push(Flags::from_vec(Vec::from_slice(alloc, begun.as_slice())?))?;
+            out.push(StayFlags::from_vec(Vec::from_slice(alloc, begun.as_slice())?))?;
             Ok(())
         }
         [K3::No, later @ ..] => push_with(alloc, false, later, begun, out),
@@ -66,7 +66,7 @@ fn push_with(
     stays: bool,
     later: &[K3],
     begun: &mut Vec<bool>,
-    out: &mut Vec<Flags>,
+    out: &mut Vec<StayFlags>,
 ) -> Result<(), AllocError>
     ensures out { OnOk result (out.new.items ≡ out.old.items ++ map (λ flags. begun.old.items ++ flags)
         (map (λ flags. stays ∷ flags) (flag_choices later.now))) }
@@ -81,7 +81,7 @@ fn push_with(
 /// The choices of the individuals that stay, by the values of the retain formula: `Yes` stays and
 /// `No` is dropped; at `Half` either may be, dropped before kept. They come in the lexicographic
 /// order of the individuals.
-pub fn choices(alloc: Global, values: &[K3]) -> Result<Vec<Flags>, AllocError>
+pub fn choices(alloc: Global, values: &[K3]) -> Result<Vec<StayFlags>, AllocError>
     ensures { IfOk result (λ choices. choices.items ≡ flag_choices values.now) }
 {
     let mut out = Vec::new(alloc);

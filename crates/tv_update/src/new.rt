@@ -6,7 +6,7 @@ ghost use Rattle.tv_struct.specs.StructureForm.{IsStructure};
 ghost use Rattle.tv_update.specs.New.{CanFinish, IsFinished, AreFinished};
 
 use crate::define::define_all;
-use crate::kept::Flags;
+use crate::kept::StayFlags;
 use crate::rows::Rows;
 use std::alloc::{AllocError, Global};
 use tv_eval::Scratch;
@@ -48,7 +48,7 @@ fn new_structure(
 pub fn new_structures(
     alloc: Global,
     recipe: &Recipe,
-    choices: &[Flags],
+    choices: &[StayFlags],
     scratch: &mut Scratch,
 ) -> Result<Structures, AllocError>
     requires can { CanFinish recipe.now.program.now recipe.now.order.now recipe.now.updated.now

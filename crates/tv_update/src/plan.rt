@@ -1,12 +1,14 @@
 //! Which defined predicates an action changes, in an order in which they can be evaluated.
 
-ghost use Rattle.std.specs.Prelude.{ℕ, ◌≡◌, ◌↔◌, ◌⊎◌, ◌<◌, ◌≤◌, ◌++◌, [], ◌∷◌, length, map, IsTrue, IfOk, OnOk, IfSome, IfNone, if◌then◌else◌};
+ghost use Rattle.std.specs.Prelude.{ℕ, ◌≡◌, ◌↔◌, ◌⊎◌, ◌<◌, ◌≤◌, ◌++◌, [], ◌∷◌, length, map, IsTrue, IfOk};
+ghost use Rattle.std.specs.Prelude.{OnOk, IfSome, IfNone, if◌then◌else◌};
 ghost use Rattle.tv_model.specs.Form.{form_of, Mentions};
 ghost use Rattle.tv_model.specs.Program.{program_of, action_of};
 ghost use Rattle.tv_model.specs.Valid.{IsValid, IsAction};
-ghost use Rattle.tv_applied.specs.Applied.{kind_at};
+ghost use Rattle.tv_update_laws.specs.Applied.{kind_at};
 ghost use Rattle.tv_update.specs.Applying.{IsPlanOf};
-ghost use Rattle.tv_update.specs.Plan.{IsPlanFor, is_set, RestsOn, IsDefined, moves_individuals, AreUpdated, AreWaiting};
+ghost use Rattle.tv_update.specs.Plan.{IsPlanFor, is_set, RestsOn, IsDefined, moves_individuals, AreUpdated};
+ghost use Rattle.tv_update.specs.Plan.{AreWaiting};
 ghost use Rattle.tv_update.specs.Update.{action_at};
 
 use crate::application::Application;
@@ -159,9 +161,9 @@ pub fn changed_definitions(alloc: Global, applied: &Application) -> Result<Vec<P
     Ok(order)
 }
 
-/// The plan of an action of the program in a mode, for any structure and any individuals that are picked: those
-/// without an update that counts whose definition mentions a changed predicate, or all, where individuals may
-/// come or go.
+/// The plan of an action of the program in a mode, for any structure and any individuals that are picked:
+/// those without an update that counts whose definition mentions a changed predicate, or all, where
+/// individuals may come or go.
 pub fn plan_for(
     alloc: Global,
     program: &Program,

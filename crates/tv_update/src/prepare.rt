@@ -157,7 +157,8 @@ pub fn prepare<'a>(
     requires bound { IsBound e.old }
     requires structure { bound_structure e.old ≡ middle.now }
     requires can { CanBeApplied applied.now middle.now (bound_room e.old) }
-    ensures staying { IfOk result (λ x. IsStaying middle.now (values_to_keep applied.now middle.now) x.staying) }
+    ensures staying { IfOk result
+        (λ x. IsStaying middle.now (values_to_keep applied.now middle.now) x.staying) }
     ensures few { OnOk result (row_halves (values_to_keep applied.now middle.now) ≤ 12) }
     ensures made { IfOk result (λ x. IsUpdated applied.now middle.now x.updated) }
     ensures cause { IfErr result (IsPrepareCause (values_to_keep applied.now middle.now)) }

@@ -7,12 +7,14 @@ ghost use Rattle.tv_struct.specs.Halves.{row_halves};
 ghost use Rattle.tv_struct.specs.StructureForm.{IsOver, structure_of};
 ghost use Rattle.tv_eval.specs.AssignmentForm.{IsAssigned, assignment_of};
 ghost use Rattle.tv_eval.specs.ScratchForm.{IsMadeFor};
-ghost use Rattle.tv_applied.specs.Choices.{AreGiven};
-ghost use Rattle.tv_applied.specs.Tables.{middle_table, IsGivenOver};
-ghost use Rattle.tv_update.specs.Applying.{CanBeApplied, IsUpdated, IsPlanOf, IsGivenBy, IsAnswerTo, IsCauseFor, values_to_keep};
+ghost use Rattle.tv_update_laws.specs.Choices.{AreGiven};
+ghost use Rattle.tv_update_laws.specs.Tables.{middle_table, IsGivenOver};
+ghost use Rattle.tv_update.specs.Applying.{CanBeApplied, IsUpdated, IsPlanOf, IsGivenBy, IsAnswerTo};
+ghost use Rattle.tv_update.specs.Applying.{IsCauseFor, values_to_keep};
 ghost use Rattle.tv_update.specs.Plan.{IsPlanFor};
 ghost use Rattle.tv_update.specs.Staying.{IsStaying, StaysWhole};
-ghost use Rattle.tv_update.specs.Update.{action_at, IsWithinLimits, IsUpdateCause, IsSole, KeepsSteps, IsFull, IsGivenOf};
+ghost use Rattle.tv_update.specs.Update.{action_at, IsWithinLimits, IsUpdateCause, IsSole, KeepsSteps};
+ghost use Rattle.tv_update.specs.Update.{IsFull, IsGivenOf};
 ghost use Rattle.tv_update.specs.Updated.{IsPrepareCause, keep_values};
 
 use crate::application::Application;
@@ -37,7 +39,8 @@ fn read(
     scratch: &mut Scratch,
 ) -> Result<Prepared, StageError>
     requires can { CanBeApplied applied.now middle.now scratch.old }
-    ensures staying { IfOk result (λ x. IsStaying middle.now (values_to_keep applied.now middle.now) x.staying) }
+    ensures staying { IfOk result
+        (λ x. IsStaying middle.now (values_to_keep applied.now middle.now) x.staying) }
     ensures few { OnOk result (row_halves (values_to_keep applied.now middle.now) ≤ 12) }
     ensures made { IfOk result (λ x. IsUpdated applied.now middle.now x.updated) }
     ensures cause { IfErr result (IsPrepareCause (values_to_keep applied.now middle.now)) }

@@ -6,7 +6,7 @@ ghost use Rattle.tv_model.specs.Program.{UpdateForm, program_of, update_of};
 ghost use Rattle.tv_struct.specs.StructureForm.{IsOver};
 ghost use Rattle.tv_eval.specs.AssignmentForm.{assignment_of};
 ghost use Rattle.tv_eval.specs.Bound.{IsBound, bound_structure, bound_room};
-ghost use Rattle.tv_applied.specs.Applied.{used_update, kind_at};
+ghost use Rattle.tv_update_laws.specs.Applied.{used_update, kind_at};
 ghost use Rattle.tv_update.specs.Applying.{AreMadeIn};
 ghost use Rattle.tv_update.specs.Held.{rows_held};
 ghost use Rattle.tv_update.specs.Rows.{HasRows, IsLike, change_rows};
@@ -45,7 +45,8 @@ fn fill_change<'a>(
     requires bound { IsBound e.old }
     requires can { CanMake (bound_structure e.old) picks.now (bound_room e.old) (update_of w.now) }
     requires size { (rows.old.size ≡ (bound_structure e.old).size) × (rows.old.size ≤ 256) }
-    ensures values { OnOk result (rows_held rows.new (update_of w.now).vars ≡ change_rows (bound_structure e.old)
+    ensures values { OnOk result
+        (rows_held rows.new (update_of w.now).vars ≡ change_rows (bound_structure e.old)
         (assignment_of picks.now) (update_of w.now).vars (update_of w.now).change) }
     ensures size { rows.new.size ≡ rows.old.size }
     ensures bound { IsBound e.new }

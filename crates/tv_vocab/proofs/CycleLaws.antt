@@ -1,11 +1,13 @@
 -- Cycles of definitions: the decision is right, and without one there are ranks.
-use Rattle.std.proofs.Common.{◌≡◌, ℕ, zero, suc, ◌+◌, ◌<◌, ◌≤◌, ◌⊎◌, inl, inr, Bool, true, false, ◌&&◌, ◌||◌, cond, get_or, List, [], ◌∷◌, ◌++◌, length, refl, ap, sym, subst, ◌∙◌, arith}
+use Rattle.std.proofs.Common.{◌≡◌, ℕ, zero, suc, ◌+◌, ◌<◌, ◌≤◌, ◌⊎◌, inl, inr, Bool, true, false, ◌&&◌, ◌||◌}
+use Rattle.std.proofs.Common.{cond, get_or, List, [], ◌∷◌, ◌++◌, length, refl, ap, sym, subst, ◌∙◌, arith}
 use Rattle.std.specs.Prelude.{Contains, nat_lt, ◌==◌}
 use Rattle.std.specs.List.{list_any}
 use Rattle.std.proofs.lemmas.Bool.{true≢false, false≢true}
 use Rattle.std.proofs.lemmas.Bool.Decides.{nat_tests}
 use Rattle.tv_model.specs.Truth.{IsWalk}
-use Rattle.tv_vocab.specs.Cycles.{mentioned_at, MentionsPred, RestsOn, HasCycle, HasRanks, rests_below, some_below, has_cycle, CyclesAreFound, AcyclicHasRanks}
+use Rattle.tv_vocab.specs.Cycles.{mentioned_at, MentionsPred, RestsOn, HasCycle, HasRanks, rests_below}
+use Rattle.tv_vocab.specs.Cycles.{some_below, has_cycle, CyclesAreFound, AcyclicHasRanks}
 
 -- ---- tests
 

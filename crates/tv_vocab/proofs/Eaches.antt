@@ -2,7 +2,11 @@
 use Rattle.std.proofs.Common.{◌≡◌, ℕ, ◌+◌, ◌<◌, get_or, List, [], ◌∷◌, ◌++◌, length, map, ap, Ok}
 use Rattle.std.proofs.lemmas.List.{map_push}
 use Rattle.tv_names.specs.declared.refusal.ResolveError.{ResolveError}
-use Rattle.tv_names.specs.declared.refusal.ResolveError.TheVariants.{NameUnknown, NameTwice, ArityWrong, ArityTooLarge, Reserved, VariableUnbound, TooManyVariables, UpdateTwice, DefinitionCycle, HeadForm, HalfLiteral, TooMany, NoEdge, Memory}
+use Rattle.tv_names.specs.declared.refusal.ResolveError.TheVariants.{NameUnknown, NameTwice, ArityWrong}
+use Rattle.tv_names.specs.declared.refusal.ResolveError.TheVariants.{ArityTooLarge, Reserved, VariableUnbound}
+use Rattle.tv_names.specs.declared.refusal.ResolveError.TheVariants.{TooManyVariables, UpdateTwice}
+use Rattle.tv_names.specs.declared.refusal.ResolveError.TheVariants.{DefinitionCycle, HeadForm, HalfLiteral}
+use Rattle.tv_names.specs.declared.refusal.ResolveError.TheVariants.{TooMany, NoEdge, Memory}
 use Rattle.tv_names.specs.Refusal.{◌>>=◌, OrRefused, Refuses, put_behind}
 use Rattle.tv_names.proofs.Loops.{left, go_on, stopped}
 

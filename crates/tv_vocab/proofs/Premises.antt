@@ -2,7 +2,8 @@
 use Rattle.std.proofs.Common.{List, [], ◌∷◌, get_or}
 use Rattle.std.specs.Prelude.{All}
 use Rattle.std.proofs.lemmas.List.Elements.{All-nil, All-cons}
-use Rattle.tv_tree.specs.Forms.{PieceForm, Quoted, Spelled, PartForm, PCaption, PFocus, PPre, PMessage, PNew, PRetain, PBlock}
+use Rattle.tv_tree.specs.Forms.{PieceForm, Quoted, Spelled, PartForm, PCaption, PFocus, PPre, PMessage, PNew}
+use Rattle.tv_tree.specs.Forms.{PRetain, PBlock}
 use Rattle.tv_flat.specs.FlatForm.{FlatForm, IsFlat, IsFlatPart, IsOneText}
 use Rattle.tv_vocab.specs.Premise.{IsTextPiece, HasTexts, IsResolvable}
 

@@ -1,5 +1,6 @@
 -- The steps of a depth-first walk of definitions.
-use Rattle.std.proofs.Common.{◌≡◌, ◌≢◌, ℕ, zero, suc, ◌+◌, ◌<◌, ◌≤◌, ◌⊎◌, inl, inr, List, [], ◌∷◌, ◌++◌, length, Option, Some, None, refl, ap, sym, subst, ◌∙◌, arith, add-one}
+use Rattle.std.proofs.Common.{◌≡◌, ◌≢◌, ℕ, zero, suc, ◌+◌, ◌<◌, ◌≤◌, ◌⊎◌, inl, inr, List, [], ◌∷◌, ◌++◌}
+use Rattle.std.proofs.Common.{length, Option, Some, None, refl, ap, sym, subst, ◌∙◌, arith, add-one}
 use Rattle.std.specs.Prelude.{Contains, slice_get, reverse, Result, Ok, Err, Bool, IfOk}
 use Rattle.std.specs.Option.{option_map}
 use Rattle.std.specs.declared.alloc.AllocError.{AllocError}
@@ -9,7 +10,9 @@ use Rattle.std.proofs.lemmas.List.Sums.{sum_by_push}
 use Rattle.std.proofs.lemmas.Option.{slice_get-get_or}
 use Rattle.tv_model.specs.Truth.{IsWalk}
 use Rattle.tv_vocab.specs.Cycles.{mentioned_at, MentionsPred, RestsOn, HasCycle}
-use Rattle.tv_vocab.specs.Walk.{mark_at, IsDone, mention_at, seen_next, next_mention, AreDone, ComesTo, LeadsTo, IsPath, StandsOn, IsSettled, AreMarks, KeepsSeen, AllUnseen, step_work, mark_work, marks_work, work}
+use Rattle.tv_vocab.specs.Walk.{mark_at, IsMarkedDone, mention_at, seen_next, next_mention, AreDone, ComesTo}
+use Rattle.tv_vocab.specs.Walk.{LeadsTo, IsPath, StandsOn, IsSettled, AreMarks, KeepsSeen, AllUnseen}
+use Rattle.tv_vocab.specs.Walk.{step_work, mark_work, marks_work, work}
 use Rattle.tv_vocab.specs.declared.walk.Mark.{Mark}
 use Rattle.tv_vocab.specs.declared.walk.Mark.TheVariants.{Unseen, Open, Done}
 use Rattle.tv_vocab.specs.declared.walk.Step.{Step}
@@ -57,12 +60,12 @@ unseen_inside [] p h = absurd (not_unseen Done refl h)
 unseen_inside (x ∷ marks) zero h = omega arith
 unseen_inside (x ∷ marks) (suc p) h = let lt = unseen_inside marks p h in omega (arith, lt)
 
-pub outside_done : (marks : List Mark) (p : ℕ) → length marks ≤ p → IsDone marks p
+pub outside_done : (marks : List Mark) (p : ℕ) → length marks ≤ p → IsMarkedDone marks p
 outside_done [] p le = refl
 outside_done (x ∷ marks) zero le = absurd (omega arith)
 outside_done (x ∷ marks) (suc p) le = outside_done marks p (omega arith)
 
-done_or_inside : (marks : List Mark) (p : ℕ) → AllUnseen marks → IsDone marks p → length marks ≤ p
+done_or_inside : (marks : List Mark) (p : ℕ) → AllUnseen marks → IsMarkedDone marks p → length marks ≤ p
 done_or_inside [] p all d = omega arith
 done_or_inside (x ∷ marks) zero all d = absurd (not_unseen x d all.0)
 done_or_inside (x ∷ marks) (suc p) all d = let le = done_or_inside marks p all.1 d in omega (arith, le)
@@ -87,7 +90,7 @@ mark_cases Done u o = refl
 -- ---- what is done stays done
 
 abbrev Kept : List Mark → List Mark → Type 0
-Kept old new = (q : ℕ) → IsDone old q → IsDone new q
+Kept old new = (q : ℕ) → IsMarkedDone old q → IsMarkedDone new q
 
 module _ (uses : List (List ℕ)) where
   comes_kept : (old new : List Mark) → Kept old new → (step : Step) (q : ℕ) → ComesTo uses old step q → ComesTo uses new step q
@@ -130,7 +133,7 @@ module _ (uses : List (List ℕ)) where
   mentions_at p k q h = contains_at (mentioned_at uses p) k q h
 
   -- all mentions are done where all were seen
-  all_done : (marks : List Mark) (p n : ℕ) → AreDone uses marks p n → mention_at uses p n ≡ None → (q : ℕ) → MentionsPred uses p q → IsDone marks q
+  all_done : (marks : List Mark) (p n : ℕ) → AreDone uses marks p n → mention_at uses p n ≡ None → (q : ℕ) → MentionsPred uses p q → IsMarkedDone marks q
   all_done marks p n h none q m =
       let le = past_none (mentioned_at uses p) n none in
       let lt = m.1 in
@@ -138,13 +141,13 @@ module _ (uses : List (List ℕ)) where
 
   -- ---- the path
 
-  one_more : (marks : List Mark) (step : Step) (q : ℕ) (c : ComesTo uses marks step q) → IsDone marks q → (k r : ℕ) → mention_at uses step.pred k ≡ Some r → (k < c.last) ⊎ (k ≡ c.last) → IsDone marks r
+  one_more : (marks : List Mark) (step : Step) (q : ℕ) (c : ComesTo uses marks step q) → IsMarkedDone marks q → (k r : ℕ) → mention_at uses step.pred k ≡ Some r → (k < c.last) ⊎ (k ≡ c.last) → IsMarkedDone marks r
   one_more marks step q c d k r is (inl lt) = c.before k r lt is
   one_more marks step q c d k r is (inr same) =
-      subst (IsDone marks) (some_is q r (sym c.mentions ∙ ap (mention_at uses step.pred) (sym same) ∙ is)) d
+      subst (IsMarkedDone marks) (some_is q r (sym c.mentions ∙ ap (mention_at uses step.pred) (sym same) ∙ is)) d
 
   -- where what the path has come to is done, its last step may go on
-  arrived : (marks : List Mark) (steps : List Step) (q : ℕ) → LeadsTo uses marks steps q → IsDone marks q → IsPath uses marks steps
+  arrived : (marks : List Mark) (steps : List Step) (q : ℕ) → LeadsTo uses marks steps q → IsMarkedDone marks q → IsPath uses marks steps
   arrived marks [] q h d = tt
   arrived marks (step ∷ steps) q h d =
       (λ k r lt is. one_more marks step q h.0 d k r is (less_or_last k h.0.last (subst (λ (n : ℕ). k < n) h.0.is lt)), h.1)
@@ -160,25 +163,25 @@ module _ (uses : List (List ℕ)) where
 
   -- ---- a predicate is done
 
-  module _ (marks : List Mark) (done : (p : ℕ) → IsDone marks p → IsSettled uses marks p) where
-    walk_done : (p q : ℕ) (stops : List ℕ) → IsWalk (MentionsPred uses) p stops q → IsDone marks p → IsDone marks q
+  module _ (marks : List Mark) (done : (p : ℕ) → IsMarkedDone marks p → IsSettled uses marks p) where
+    walk_done : (p q : ℕ) (stops : List ℕ) → IsWalk (MentionsPred uses) p stops q → IsMarkedDone marks p → IsMarkedDone marks q
     walk_done p q [] h d = (done p d).mentions q h
     walk_done p q (x ∷ stops) h d = walk_done x q stops h.1 ((done p d).mentions x h.0)
 
-    back : (p : ℕ) (stops : List ℕ) → ((q : ℕ) → MentionsPred uses p q → IsDone marks q) → IsWalk (MentionsPred uses) p stops p → IsDone marks p
+    back : (p : ℕ) (stops : List ℕ) → ((q : ℕ) → MentionsPred uses p q → IsMarkedDone marks q) → IsWalk (MentionsPred uses) p stops p → IsMarkedDone marks p
     back p [] all h = all p h
     back p (x ∷ stops) all h = walk_done x p stops h.1 (all x h.0)
 
-    not_itself : (p : ℕ) → ((q : ℕ) → MentionsPred uses p q → IsDone marks q) → ¬ RestsOn uses p p
+    not_itself : (p : ℕ) → ((q : ℕ) → MentionsPred uses p q → IsMarkedDone marks q) → ¬ RestsOn uses p p
     not_itself p all r = (done p (back p r.0 all r.1)).acyclic r
 
   done_keeps : (marks : List Mark) (p : ℕ) → Kept marks (set marks p Done)
   done_keeps marks p q d = elim (same_or_not q p) [
-    | inl e ↦ subst (IsDone (set marks p Done)) (sym e) (set_done marks p)
+    | inl e ↦ subst (IsMarkedDone (set marks p Done)) (sym e) (set_done marks p)
     | inr ne ↦ set_other marks p q Done ne ∙ d
   ]
 
-  settles : (marks : List Mark) (p : ℕ) → ((q : ℕ) → IsDone marks q → IsSettled uses marks q) → ((q : ℕ) → MentionsPred uses p q → IsDone marks q) → (q : ℕ) → IsDone (set marks p Done) q → (q ≡ p) ⊎ (q ≢ p) → IsSettled uses (set marks p Done) q
+  settles : (marks : List Mark) (p : ℕ) → ((q : ℕ) → IsMarkedDone marks q → IsSettled uses marks q) → ((q : ℕ) → MentionsPred uses p q → IsMarkedDone marks q) → (q : ℕ) → IsMarkedDone (set marks p Done) q → (q ≡ p) ⊎ (q ≢ p) → IsSettled uses (set marks p Done) q
   settles marks p done all q d (inl e) =
       subst (IsSettled uses (set marks p Done)) (sym e)
       (record { mentions = λ r m. done_keeps marks p r (all r m); acyclic = not_itself marks done p all })
@@ -189,7 +192,7 @@ module _ (uses : List (List ℕ)) where
   still_on step steps q ne (inr s) = s
 
   open_left : (marks : List Mark) (step : Step) (steps : List Step) → AreMarks uses marks (step ∷ steps) → (q : ℕ) → mark_at (set marks step.pred Done) q ≡ Open → (q ≡ step.pred) ⊎ (q ≢ step.pred) → StandsOn steps q
-  open_left marks step steps are q o (inl e) = absurd (not_open (mark_at (set marks step.pred Done) q) (subst (IsDone (set marks step.pred Done)) (sym e) (set_done marks step.pred)) o)
+  open_left marks step steps are q o (inl e) = absurd (not_open (mark_at (set marks step.pred Done) q) (subst (IsMarkedDone (set marks step.pred Done)) (sym e) (set_done marks step.pred)) o)
   open_left marks step steps are q o (inr ne) = still_on step steps q ne (are.open_ones q (sym (set_other marks step.pred q Done ne) ∙ o))
 
   pub closed_marks : (marks : List Mark) (step : Step) (steps : List Step) → AreMarks uses marks (step ∷ steps) → AreDone uses marks step.pred step.seen → mention_at uses step.pred step.seen ≡ None → AreMarks uses (set marks step.pred Done) steps
@@ -207,13 +210,13 @@ module _ (uses : List (List ℕ)) where
 
   open_keeps : (marks : List Mark) (p : ℕ) → mark_at marks p ≡ Unseen → Kept marks (set marks p Open)
   open_keeps marks p u q d = elim (same_or_not q p) [
-    | inl e ↦ absurd (not_unseen (mark_at marks p) (subst (IsDone marks) e d) u)
+    | inl e ↦ absurd (not_unseen (mark_at marks p) (subst (IsMarkedDone marks) e d) u)
     | inr ne ↦ set_other marks p q Open ne ∙ d
   ]
 
-  settled_still : (marks : List Mark) (p : ℕ) → mark_at marks p ≡ Unseen → ((q : ℕ) → IsDone marks q → IsSettled uses marks q) → (q : ℕ) → IsDone (set marks p Open) q → (q ≡ p) ⊎ (q ≢ p) → IsSettled uses (set marks p Open) q
+  settled_still : (marks : List Mark) (p : ℕ) → mark_at marks p ≡ Unseen → ((q : ℕ) → IsMarkedDone marks q → IsSettled uses marks q) → (q : ℕ) → IsMarkedDone (set marks p Open) q → (q ≡ p) ⊎ (q ≢ p) → IsSettled uses (set marks p Open) q
   settled_still marks p u done q d (inl e) =
-      absurd (open_not_done (mark_at (set marks p Open) p) (set_same marks p Open (unseen_inside marks p u)) (subst (IsDone (set marks p Open)) e d))
+      absurd (open_not_done (mark_at (set marks p Open) p) (set_same marks p Open (unseen_inside marks p u)) (subst (IsMarkedDone (set marks p Open)) e d))
   settled_still marks p u done q d (inr ne) = settled_kept marks (set marks p Open) (open_keeps marks p u) q (done q (sym (set_other marks p q Open ne) ∙ d))
 
   open_more : (marks : List Mark) (step : Step) (steps : List Step) → AreMarks uses marks steps → (q : ℕ) → mark_at (set marks step.pred Open) q ≡ Open → (q ≡ step.pred) ⊎ (q ≢ step.pred) → StandsOn (step ∷ steps) q
@@ -250,10 +253,10 @@ module _ (uses : List (List ℕ)) where
     open_ones = λ p o. absurd (none_open marks p all o);
   }
     where
-      outside : (p q : ℕ) → IsDone marks p → MentionsPred uses p q → ⊥
+      outside : (p q : ℕ) → IsMarkedDone marks p → MentionsPred uses p q → ⊥
       outside p q d m = let le = done_or_inside marks p all d in let lt = inside uses p q m in absurd (omega (arith, le, lt, count))
 
-      outside_walk : (p : ℕ) (stops : List ℕ) → IsDone marks p → IsWalk (MentionsPred uses) p stops p → ⊥
+      outside_walk : (p : ℕ) (stops : List ℕ) → IsMarkedDone marks p → IsWalk (MentionsPred uses) p stops p → ⊥
       outside_walk p [] d h = outside p p d h
       outside_walk p (x ∷ stops) d h = outside p x d h.0
 
@@ -267,7 +270,7 @@ module _ (uses : List (List ℕ)) where
       less_or_past zero (suc n) = inl (omega arith)
       less_or_past (suc p) (suc n) = elim (less_or_past p n) [ inl e ↦ inl (omega (arith, e)) | inr e ↦ inr (omega (arith, e)) ]
 
-      is_done : (p : ℕ) → (p < length uses) ⊎ (length uses ≤ p) → IsDone marks p
+      is_done : (p : ℕ) → (p < length uses) ⊎ (length uses ≤ p) → IsMarkedDone marks p
       is_done p (inl lt) = mark_cases (mark_at marks p) (seen p lt) (λ o. are.open_ones p o)
       is_done p (inr le) = outside_done marks p (let same = are.count in omega (arith, le, same))
 

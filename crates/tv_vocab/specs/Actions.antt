@@ -1,13 +1,18 @@
 -- The actions of a flat program.
-use Rattle.std.specs.Prelude.{ℕ, Bool, true, false, not, ◌&&◌, ◌==◌, List, [], ◌∷◌, ◌++◌, length, Option, Some, None, Ok, slice_get, if◌then◌else◌}
+use Rattle.std.specs.Prelude.{ℕ, Bool, true, false, not, ◌&&◌, ◌==◌, List, [], ◌∷◌, ◌++◌, length, Option}
+use Rattle.std.specs.Prelude.{Some, None, Ok, slice_get, if◌then◌else◌}
 use Rattle.std.specs.List.{list_any, flat_map}
 use Rattle.tv_tree.specs.Forms as tree
 use Rattle.tv_tree.specs.Names.{name_text}
-use Rattle.tv_tree.specs.Forms.{Nest, Nests, no_nest, with_nest, Single, Foreach, UpdateForm, PieceForm, Quoted, Spelled, PartForm, PCaption, PFocus, PPre, PMessage, PNew, PRetain, PBlock}
+use Rattle.tv_tree.specs.Forms.{Nest, Nests, no_nest, with_nest, Single, Foreach, UpdateForm, PieceForm}
+use Rattle.tv_tree.specs.Forms.{Quoted, Spelled, PartForm, PCaption, PFocus, PPre, PMessage, PNew, PRetain}
+use Rattle.tv_tree.specs.Forms.{PBlock}
 use Rattle.tv_model.specs.Form.{Form}
 use Rattle.tv_model.specs.Program as model
-use Rattle.tv_model.specs.Program.{PredForm, KindForm, KCore, KDefined, ChangeForm, CFree, CTo, RetainForm, MessageForm, ActionForm}
-use Rattle.tv_names.specs.declared.refusal.ResolveError.TheVariants.{NameUnknown, NameTwice, ArityWrong, Reserved, UpdateTwice}
+use Rattle.tv_model.specs.Program.{PredForm, KindForm, KCore, KDefined, ChangeForm, CFree, CTo, RetainForm}
+use Rattle.tv_model.specs.Program.{MessageForm, ActionForm}
+use Rattle.tv_names.specs.declared.refusal.ResolveError.TheVariants.{NameUnknown, NameTwice, ArityWrong}
+use Rattle.tv_names.specs.declared.refusal.ResolveError.TheVariants.{Reserved, UpdateTwice}
 use Rattle.tv_names.specs.declared.place.Others.TheVariants.{Never, Once}
 use Rattle.tv_names.specs.Refusal.{◌>>=◌, OrRefused, refused_if, or_refused, one_by_one}
 use Rattle.tv_names.specs.Symbols.{SymbolForm, KnownForm, is_reserved, symbol_of}
@@ -85,8 +90,8 @@ resolved_all at fs s = one_by_one (with_formula at) ([], s) fs
 abbrev pub focused : List SymbolForm → List tree.Form → OrRefused (List Form)
 focused symbols fs = resolved_all (anywhere symbols) fs no_names >>= λ x. Ok x.0
 
--- The precondition, the variables that a step picks, and the numbering with which retain formula and updates begin:
--- the picked variables keep their names and numbers.
+-- The precondition, the variables that a step picks, and the numbering with which retain formula and updates
+-- begin: the picked variables keep their names and numbers.
 pub record PickingForm : Type 0 where
   pub pre : Option Form
   pub picks : List ℕ
@@ -137,10 +142,12 @@ further_number None s = filled Nameless s >>= λ x. Ok x.0
 
 -- where the retain formula stands: the picked variables and one further may be free
 abbrev pub retaining : List SymbolForm → (fresh : Bool) → (picks : List ℕ) → PlaceForm
-retaining symbols fresh picks = record { symbols = symbols; with_new = fresh; known = flags_of picks; others = Once }
+retaining symbols fresh picks =
+    record { symbols = symbols; with_new = fresh; known = flags_of picks; others = Once }
 
 -- the further free variable stands for the individual; without one, a variable that stands nowhere else
-abbrev pub retain : List SymbolForm → (fresh : Bool) → PickingForm → Option tree.Form → OrRefused (Option RetainForm)
+abbrev pub retain : List SymbolForm → (fresh : Bool) → PickingForm → Option tree.Form
+    → OrRefused (Option RetainForm)
 retain symbols fresh picking None = Ok None
 retain symbols fresh picking (Some f) = do
   x ← resolved (retaining symbols fresh picking.picks) f picking.picked
@@ -151,7 +158,8 @@ retain symbols fresh picking (Some f) = do
 
 -- where the formula of an update stands: its own variables and the picked ones may be free
 abbrev pub updating : List SymbolForm → (fresh : Bool) → (vars picks : List ℕ) → PlaceForm
-updating symbols fresh vars picks = record { symbols = symbols; with_new = fresh; known = flagged (flags_of vars) picks; others = Never }
+updating symbols fresh vars picks =
+    record { symbols = symbols; with_new = fresh; known = flagged (flags_of vars) picks; others = Never }
 
 abbrev pub is_half : tree.Form → Bool
 is_half tree.FZero = false
@@ -189,24 +197,30 @@ abbrev pub change : PlaceForm → (core : Bool) → tree.Form → NamingForm →
 change at core f s = if is_half f && core then Ok CFree else (resolved at f s >>= λ x. Ok (CTo x.0))
 
 -- an update of this predicate, behind those that are done
-unfoldable pub update_of_pred : List SymbolForm → List PredForm → (fresh : Bool) → PickingForm → (done : List model.UpdateForm) → KnownForm → (params : List (List ℕ)) → (body : tree.Form) → OrRefused model.UpdateForm
+unfoldable pub update_of_pred : List SymbolForm → List PredForm → (fresh : Bool) → PickingForm
+    → (done : List model.UpdateForm) → KnownForm → (params : List (List ℕ)) → (body : tree.Form)
+    → OrRefused model.UpdateForm
 update_of_pred symbols preds fresh picking done known params body = do
   a ← refused_if (not (length params == known.arity)) ArityWrong
   b ← refused_if (twice params) NameTwice
   c ← refused_if (is_updated done known.pred) UpdateTwice
   vars ← declared_all params picking.picked
-  to ← change (updating symbols fresh vars.0 picking.picks) (is_core_pred (slice_get preds known.pred)) body vars.1
+  to ← change (updating symbols fresh vars.0 picking.picks)
+      (is_core_pred (slice_get preds known.pred)) body vars.1
   Ok (record { pred = known.pred; vars = vars.0; change = to })
 
-unfoldable pub update : List SymbolForm → List PredForm → (fresh : Bool) → PickingForm → (done : List model.UpdateForm) → UpdateForm → OrRefused model.UpdateForm
+unfoldable pub update : List SymbolForm → List PredForm → (fresh : Bool) → PickingForm
+    → (done : List model.UpdateForm) → UpdateForm → OrRefused model.UpdateForm
 update symbols preds fresh picking done u = do
   a ← refused_if (is_reserved (name_text u.name)) Reserved
   known ← or_refused (symbol_of (name_text u.name) symbols) NameUnknown
   update_of_pred symbols preds fresh picking done known u.params u.body
 
 -- a flat block has no foreach
-abbrev pub with_update : List SymbolForm → List PredForm → (fresh : Bool) → PickingForm → List model.UpdateForm → Nest UpdateForm → OrRefused (List model.UpdateForm)
-with_update symbols preds fresh picking done (Single u) = update symbols preds fresh picking done u >>= λ w. Ok (done ++ w ∷ [])
+abbrev pub with_update : List SymbolForm → List PredForm → (fresh : Bool) → PickingForm
+    → List model.UpdateForm → Nest UpdateForm → OrRefused (List model.UpdateForm)
+with_update symbols preds fresh picking done (Single u) =
+    update symbols preds fresh picking done u >>= λ w. Ok (done ++ w ∷ [])
 with_update symbols preds fresh picking done (Foreach var members body) = Ok done
 
 -- ---- actions

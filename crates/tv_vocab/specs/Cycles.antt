@@ -1,5 +1,7 @@
--- Definitions that rest on themselves. The predicates that each definition mentions are given as lists, by number.
-use Rattle.std.specs.Prelude.{ℕ, zero, suc, ◌<◌, ◌↔◌, Bool, false, IsTrue, ◌&&◌, ◌||◌, ◌==◌, List, [], length, Contains, slice_get, unwrap_or}
+-- Definitions that rest on themselves. The predicates that each definition mentions are given as lists, by
+-- number.
+use Rattle.std.specs.Prelude.{ℕ, zero, suc, ◌<◌, ◌↔◌, Bool, false, IsTrue, ◌&&◌, ◌||◌, ◌==◌, List, [], length}
+use Rattle.std.specs.Prelude.{Contains, slice_get, unwrap_or}
 use Rattle.std.specs.List.{list_any}
 use Rattle.tv_model.specs.Truth.{IsWalk}
 

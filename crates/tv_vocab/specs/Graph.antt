@@ -15,7 +15,9 @@ pub record GraphForm : Type 0 where
 
 -- the nodes, with this one behind them if it is new
 unfoldable pub with_node : List ℕ → List (List ℕ) → OrRefused (List (List ℕ))
-with_node name nodes = if is_among nodes name then Ok nodes else (if nat_le 4096 (length nodes) then Err TooMany else Ok (nodes ++ name ∷ []))
+with_node name nodes =
+    if is_among nodes name then Ok nodes
+    else (if nat_le 4096 (length nodes) then Err TooMany else Ok (nodes ++ name ∷ []))
 
 abbrev pub node_number : List ℕ → List (List ℕ) → ℕ
 node_number name nodes = position_or_len (bytes_eq name) nodes
@@ -26,7 +28,11 @@ with_edge graph e = do
   left ← with_node e.from graph.nodes
   both ← with_node e.to left
   a ← refused_if (nat_le 16384 (length graph.edges)) TooMany
-  Ok (record { nodes = both; edges = graph.edges ++ record { from = node_number e.from both; action = e.action; to = node_number e.to both } ∷ [] })
+  Ok (record {
+    nodes = both;
+    edges = graph.edges
+        ++ record { from = node_number e.from both; action = e.action; to = node_number e.to both } ∷ [];
+  })
 
 abbrev pub no_graph : GraphForm
 no_graph = record { nodes = []; edges = [] }

@@ -1,4 +1,5 @@
--- What validity rests on: the limits of a flat form, its names, node words and texts, and the numbers of its actions.
+-- What validity rests on: the limits of a flat form, its names, node words and texts, and the numbers of its
+-- actions.
 use Rattle.std.specs.Prelude.{◌≤◌, length, All, ⊤}
 use Rattle.tv_model.specs.Spelling.{IsText}
 use Rattle.tv_tree.specs.Forms.{PieceForm, PartForm, PCaption, PFocus, PPre, PMessage, PNew, PRetain, PBlock}
@@ -19,8 +20,9 @@ HasTexts PNew = ⊤
 HasTexts (PRetain f) = ⊤
 HasTexts (PBlock us) = ⊤
 
--- There are at most 65,536 items; the names of the declared predicates, the words of nodes and the texts of messages are
--- well spelled; and the action of each edge is there. What expansion gives of a program that was read is so.
+-- There are at most 65,536 items; the names of the declared predicates, the words of nodes and the texts of
+-- messages are well spelled; and the action of each edge is there. What expansion gives of a program that was
+-- read is so.
 pub record IsResolvable (f : FlatForm) : Type 0 where
   pub items : item_count f ≤ 65536
   pub names : All (λ d. IsSpelledName d.name) f.preds

@@ -14,4 +14,10 @@ program flat = do
   rules ← each (λ r. rule declared.0 r.body r.head) flat.rules
   actions ← each (action declared.0 declared.1) flat.actions
   drawn ← graph flat.edges
-  Ok (record { preds = declared.1; rules = rules; actions = actions; edges = drawn.edges; nodes = drawn.nodes })
+  Ok (record {
+    preds = declared.1;
+    rules = rules;
+    actions = actions;
+    edges = drawn.edges;
+    nodes = drawn.nodes;
+  })

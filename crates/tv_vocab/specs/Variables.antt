@@ -1,5 +1,6 @@
 -- The variables of an item: how many there are, and that there are too many exactly where they are over 32.
-use Rattle.std.specs.Prelude.{ℕ, ◌≡◌, ◌+◌, ◌<◌, ◌≤◌, Bool, false, not, List, [], ◌∷◌, ◌++◌, length, filter, Option, Some, None, Ok, Err, if◌then◌else◌}
+use Rattle.std.specs.Prelude.{ℕ, ◌≡◌, ◌+◌, ◌<◌, ◌≤◌, Bool, false, not, List, [], ◌∷◌, ◌++◌, length, filter}
+use Rattle.std.specs.Prelude.{Option, Some, None, Ok, Err, if◌then◌else◌}
 use Rattle.std.specs.List.{flat_map, list_all}
 use Rattle.tv_tree.specs.Forms as tree
 use Rattle.tv_tree.specs.Forms.{PieceForm}
@@ -50,13 +51,13 @@ abbrev pub is_known : List (List ℕ) → Sight → Bool
 is_known names (OfName name) = is_among names name
 is_known names OfPair = false
 
--- how many variables stand there beside those of these names: each name counts once, and so do the two that all
--- `p*` and `p+` share
+-- how many variables stand there beside those of these names: each name counts once, and so do the two that
+-- all `p*` and `p+` share
 abbrev pub further_variables : List (List ℕ) → List Sight → ℕ
 further_variables names xs = length (flat_map variables_of (first_sights (is_known names) xs))
 
--- The variables of an item: those that a step picks, the own ones of a definition or an update, and those of its
--- formulas. An own variable counts for itself where it has the name of a picked one.
+-- The variables of an item: those that a step picks, the own ones of a definition or an update, and those of
+-- its formulas. An own variable counts for itself where it has the name of a picked one.
 abbrev pub variable_count : (picks : ℕ) → (picked own : List (List ℕ)) → List Sight → ℕ
 variable_count picks picked own xs = picks + length own + further_variables (picked ++ own) xs
 
@@ -66,7 +67,8 @@ one_more picked f = if list_all (is_among picked) (free_names f) then 1 else 0
 
 -- ---- 32 variables
 
--- so many variables are given numbers only where there are at most 32, and are too many only where there are more
+-- so many variables are given numbers only where there are at most 32, and are too many only where there are
+-- more
 abbrev pub HasRoom : {A : Type 0} → ℕ → OrRefused A → Type 0
 HasRoom n (Ok x) = n ≤ 32
 HasRoom n (Err e) = e ≡ TooManyVariables → 32 < n

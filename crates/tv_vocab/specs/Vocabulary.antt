@@ -1,14 +1,21 @@
 -- The predicates of a flat program, their definitions, and its rules.
-use Rattle.std.specs.Prelude.{ℕ, Bool, true, false, not, ◌||◌, ◌==◌, nat_lt, nat_le, List, [], ◌∷◌, ◌++◌, length, map, fold, Option, Some, None, Ok, Err, is_some, if◌then◌else◌}
+use Rattle.std.specs.Prelude.{ℕ, Bool, true, false, not, ◌||◌, ◌==◌, nat_lt, nat_le, List, [], ◌∷◌, ◌++◌}
+use Rattle.std.specs.Prelude.{length, map, fold, Option, Some, None, Ok, Err, is_some, if◌then◌else◌}
 use Rattle.std.specs.List.{list_all}
 use Rattle.tv_tree.specs.Forms as tree
 use Rattle.tv_tree.specs.Names.{is_among, name_text}
 use Rattle.tv_tree.specs.declared.trees.PropWord.{PropWord}
-use Rattle.tv_tree.specs.declared.trees.PropWord.TheVariants.{Unique, Function, Invfunction, Abs, Nonabs, Transitive, Reflexive, Symmetric, Boxed, Pointer}
+use Rattle.tv_tree.specs.declared.trees.PropWord.TheVariants.{Unique, Function, Invfunction, Abs, Nonabs}
+use Rattle.tv_tree.specs.declared.trees.PropWord.TheVariants.{Transitive, Reflexive, Symmetric, Boxed}
+use Rattle.tv_tree.specs.declared.trees.PropWord.TheVariants.{Pointer}
 use Rattle.tv_model.specs.declared.program.Props.{Props}
-use Rattle.tv_model.specs.Form.{Form, FZero, FOne, FAtom, FIsNew, FSame, FNot, FAnd, FOr, FIff, FCond, FExists, FForall, FClosure}
-use Rattle.tv_model.specs.Program.{PredForm, KindForm, KCore, KDefined, RuleForm, HeadForm, HNever, HAtom, HSame}
-use Rattle.tv_names.specs.declared.refusal.ResolveError.TheVariants.{DefinitionCycle, NameTwice, ArityWrong, ArityTooLarge, Reserved, TooMany, HeadForm as BadHead}
+use Rattle.tv_model.specs.Form.{Form, FZero, FOne, FAtom, FIsNew, FSame, FNot, FAnd, FOr, FIff, FCond}
+use Rattle.tv_model.specs.Form.{FExists, FForall, FClosure}
+use Rattle.tv_model.specs.Program.{PredForm, KindForm, KCore, KDefined, RuleForm, HeadForm, HNever, HAtom}
+use Rattle.tv_model.specs.Program.{HSame}
+use Rattle.tv_names.specs.declared.refusal.ResolveError.TheVariants.{DefinitionCycle, NameTwice, ArityWrong}
+use Rattle.tv_names.specs.declared.refusal.ResolveError.TheVariants.{ArityTooLarge, Reserved, TooMany}
+use Rattle.tv_names.specs.declared.refusal.ResolveError.TheVariants.{HeadForm as BadHead}
 use Rattle.tv_names.specs.declared.place.Others.TheVariants.{Any, Never}
 use Rattle.tv_names.specs.Refusal.{◌>>=◌, OrRefused, refused_if, one_by_one, each}
 use Rattle.tv_names.specs.Symbols.{SymbolForm, is_reserved, symbol_of}
@@ -37,7 +44,15 @@ fits arity Boxed = true
 fits arity Pointer = true
 
 abbrev pub no_props : Props
-no_props = record { unique = false; function = false; invfunction = false; transitive = false; reflexive = false; symmetric = false }
+no_props =
+    record {
+      unique = false;
+      function = false;
+      invfunction = false;
+      transitive = false;
+      reflexive = false;
+      symmetric = false;
+    }
 
 abbrev pub with_prop : Props → PropWord → Props
 with_prop props Unique = record props { unique = true }
@@ -126,7 +141,13 @@ arity_of (v ∷ w ∷ more) = 2
 unfoldable pub predicate : List SymbolForm → tree.PredForm → OrRefused PredForm
 predicate symbols d = do
   k ← kind symbols d.params d.body
-  Ok (record { name = name_text d.name; arity = arity_of d.params; kind = k; abs = abs_at (arity_of d.params) d.props; props = props_of d.props })
+  Ok (record {
+    name = name_text d.name;
+    arity = arity_of d.params;
+    kind = k;
+    abs = abs_at (arity_of d.params) d.props;
+    props = props_of d.props;
+  })
 
 -- the predicates that the atoms of a formula have, in reading order
 abbrev pub mentioned : Form → List ℕ

@@ -1,5 +1,6 @@
 -- What a depth-first walk of the definitions knows on its way. A path is given from its end.
-use Rattle.std.specs.Prelude.{ℕ, suc, ◌+◌, ◌-◌, ◌≡◌, ◌<◌, ◌≢◌, ◌⊎◌, List, [], ◌∷◌, length, sum_by, Option, Some, slice_get, unwrap_or}
+use Rattle.std.specs.Prelude.{ℕ, suc, ◌+◌, ◌-◌, ◌≡◌, ◌<◌, ◌≢◌, ◌⊎◌, List, [], ◌∷◌, length, sum_by, Option}
+use Rattle.std.specs.Prelude.{Some, slice_get, unwrap_or}
 use Rattle.std.specs.Option.{option_map}
 use Rattle.tv_vocab.specs.Cycles.{mentioned_at, MentionsPred, RestsOn}
 use Rattle.tv_vocab.specs.declared.walk.Mark.{Mark}
@@ -10,8 +11,8 @@ use Rattle.tv_vocab.specs.declared.walk.Step.{Step}
 abbrev pub mark_at : List Mark → ℕ → Mark
 mark_at marks p = unwrap_or (slice_get marks p) Done
 
-abbrev pub IsDone : List Mark → ℕ → Type 0
-IsDone marks p = mark_at marks p ≡ Done
+abbrev pub IsMarkedDone : List Mark → ℕ → Type 0
+IsMarkedDone marks p = mark_at marks p ≡ Done
 
 -- the mention of number k in the definition of p
 abbrev pub mention_at : List (List ℕ) → ℕ → ℕ → Option ℕ
@@ -27,7 +28,7 @@ next_mention uses step = option_map (λ q. (q, seen_next step)) (mention_at uses
 
 -- the first n mentions of p are done
 abbrev pub AreDone : List (List ℕ) → List Mark → ℕ → ℕ → Type 0
-AreDone uses marks p n = (k q : ℕ) → k < n → mention_at uses p k ≡ Some q → IsDone marks q
+AreDone uses marks p n = (k q : ℕ) → k < n → mention_at uses p k ≡ Some q → IsMarkedDone marks q
 
 -- the step has come to q by its last mention, and those before it are done
 pub record ComesTo (uses : List (List ℕ)) (marks : List Mark) (step : Step) (q : ℕ) : Type 0 where
@@ -52,13 +53,13 @@ StandsOn (step ∷ steps) p = (p ≡ step.pred) ⊎ StandsOn steps p
 
 -- a predicate that is done rests on predicates alone that are done, and not on itself
 pub record IsSettled (uses : List (List ℕ)) (marks : List Mark) (p : ℕ) : Type 0 where
-  pub mentions : (q : ℕ) → MentionsPred uses p q → IsDone marks q
+  pub mentions : (q : ℕ) → MentionsPred uses p q → IsMarkedDone marks q
   pub acyclic : ¬ RestsOn uses p p
 
 -- the marks say what was found, and what is open stands on the path
 pub record AreMarks (uses : List (List ℕ)) (marks : List Mark) (steps : List Step) : Type 0 where
   pub count : length marks ≡ length uses
-  pub done : (p : ℕ) → IsDone marks p → IsSettled uses marks p
+  pub done : (p : ℕ) → IsMarkedDone marks p → IsSettled uses marks p
   pub open_ones : (p : ℕ) → mark_at marks p ≡ Open → StandsOn steps p
 
 -- what was seen stays seen

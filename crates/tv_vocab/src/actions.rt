@@ -6,13 +6,15 @@ ghost use Rattle.std.specs.List.{flat_map};
 ghost use Rattle.tv_tree.specs.Copies.{form_of as tree_of, part_of, piece_of};
 ghost use Rattle.tv_model.specs.Form.{form_of};
 ghost use Rattle.tv_model.specs.Program.{pred_of, message_of, retain_of, action_of};
-ghost use Rattle.tv_names.specs.Refusal.{Gives, one_by_one, each};
-ghost use Rattle.tv_names.specs.Copies.{symbols_of, place_of, naming_of};
+ghost use Rattle.tv_names.specs.Refusal.{GivesOrRefuses, one_by_one, each};
+ghost use Rattle.tv_names.specs.Copies.{symbols_of, place_form, naming_of};
 ghost use Rattle.tv_names.specs.Naming.{no_names};
 ghost use Rattle.tv_flat.specs.FlatForm.{parts_of};
 ghost use Rattle.tv_vocab.specs.Copies.{picking_of};
 ghost use Rattle.tv_vocab.specs.Vocabulary.{over};
-ghost use Rattle.tv_vocab.specs.Actions.{with_formula, resolved_all, focused, picking, precondition, piece_text, message, with_part, messages, further_number, retaining, retain, action};
+ghost use Rattle.tv_vocab.specs.Actions.{with_formula, resolved_all, focused, picking, precondition};
+ghost use Rattle.tv_vocab.specs.Actions.{piece_text, message, with_part, messages, further_number, retaining};
+ghost use Rattle.tv_vocab.specs.Actions.{retain, action};
 
 use crate::parts::{adds_new, block_in, focus_in, pre_in, retain_in};
 use crate::rules::anywhere;
@@ -41,7 +43,9 @@ fn put_formula<'a>(
     naming: &mut Naming<'a>,
     f: &'a FormulaTree,
 ) -> Result<(), ResolveError>
-    ensures { Gives (λ _. (map form_of done.new.items, naming_of naming.new)) result (with_formula (place_of place.now) (map form_of done.old.items, naming_of naming.old) (tree_of f.now)) }
+    ensures { GivesOrRefuses (λ _. (map form_of done.new.items, naming_of naming.new)) result
+        (with_formula (place_form place.now) (map form_of done.old.items, naming_of naming.old)
+        (tree_of f.now)) }
 {
     let formula = resolve_formula(alloc, place, f, naming)?;
     done.push(formula)?;
@@ -53,7 +57,8 @@ fn focus(
     symbols: &Symbols,
     formulas: &[FormulaTree],
 ) -> Result<Vec<Formula>, ResolveError>
-    ensures { Gives (λ done. map form_of done.items) result (focused (symbols_of symbols.now) (map tree_of formulas.now)) }
+    ensures { GivesOrRefuses (λ done. map form_of done.items) result
+        (focused (symbols_of symbols.now) (map tree_of formulas.now)) }
 {
     let place = anywhere(symbols);
     let mut naming = Naming::new();
@@ -69,7 +74,8 @@ fn picking_of_form<'a>(
     symbols: &Symbols,
     f: &'a FormulaTree,
 ) -> Result<Picking<'a>, ResolveError>
-    ensures { Gives picking_of result (precondition (symbols_of symbols.now) (Some (tree_of f.now))) }
+    ensures { GivesOrRefuses picking_of result
+        (precondition (symbols_of symbols.now) (Some (tree_of f.now))) }
 {
     let place = anywhere(symbols);
     let mut naming = Naming::new();
@@ -88,7 +94,8 @@ fn precondition<'a>(
     symbols: &Symbols,
     f: Option<&'a FormulaTree>,
 ) -> Result<Picking<'a>, ResolveError>
-    ensures { Gives picking_of result (precondition (symbols_of symbols.now) (option_map (λ g. tree_of g.now) f.entry)) }
+    ensures { GivesOrRefuses picking_of result
+        (precondition (symbols_of symbols.now) (option_map (λ g. tree_of g.now) f.entry)) }
 {
     match f {
         Some(f) => picking_of_form(alloc, symbols, f),
@@ -126,7 +133,8 @@ fn message(
     cond: &FormulaTree,
     pieces: &[Piece],
 ) -> Result<Message, ResolveError>
-    ensures { Gives message_of result (message (symbols_of symbols.now) (tree_of cond.now) (map piece_of pieces.now)) }
+    ensures { GivesOrRefuses message_of result
+        (message (symbols_of symbols.now) (tree_of cond.now) (map piece_of pieces.now)) }
 {
     let place = over_none(symbols);
     let mut naming = Naming::new();
@@ -140,7 +148,7 @@ fn message(
 
 // Where no variables may be free.
 fn over_none(symbols: &Symbols) -> Place<'_>
-    ensures { place_of result ≡ over (symbols_of symbols.now) [] }
+    ensures { place_form result ≡ over (symbols_of symbols.now) [] }
 {
     Place {
         symbols,
@@ -156,7 +164,8 @@ fn put_message(
     done: &mut Vec<Message>,
     part: &Part,
 ) -> Result<(), ResolveError>
-    ensures { Gives (λ _. map message_of done.new.items) result (with_part (symbols_of symbols.now) (map message_of done.old.items) (part_of part.now)) }
+    ensures { GivesOrRefuses (λ _. map message_of done.new.items) result
+        (with_part (symbols_of symbols.now) (map message_of done.old.items) (part_of part.now)) }
 {
     if let Part::Message { cond, text } = part {
         let message = message(alloc, symbols, cond, text.as_slice())?;
@@ -166,7 +175,8 @@ fn put_message(
 }
 
 fn messages(alloc: Global, symbols: &Symbols, parts: &[Part]) -> Result<Vec<Message>, ResolveError>
-    ensures { Gives (λ done. map message_of done.items) result (messages (symbols_of symbols.now) (map part_of parts.now)) }
+    ensures { GivesOrRefuses (λ done. map message_of done.items) result
+        (messages (symbols_of symbols.now) (map part_of parts.now)) }
 {
     let mut done = Vec::new(alloc);
     for part in parts {
@@ -176,7 +186,8 @@ fn messages(alloc: Global, symbols: &Symbols, parts: &[Part]) -> Result<Vec<Mess
 }
 
 fn further_number(naming: &mut Naming<'_>) -> Result<Var, ResolveError>
-    ensures { Gives (λ v. v.0) result (further_number (naming_of naming.old).further (naming_of naming.old)) }
+    ensures { GivesOrRefuses (λ v. v.0) result
+        (further_number (naming_of naming.old).further (naming_of naming.old)) }
 {
     match naming.further() {
         Some(v) => Ok(Var(v)),
@@ -191,7 +202,8 @@ fn retain_by<'a>(
     picking: &Picking<'a>,
     f: &'a FormulaTree,
 ) -> Result<Retain, ResolveError>
-    ensures { Gives (λ r. retain_of (Some r)) result (retain (symbols_of symbols.now) fresh (picking_of picking.now) (Some (tree_of f.now))) }
+    ensures { GivesOrRefuses (λ r. retain_of (Some r)) result
+        (retain (symbols_of symbols.now) fresh (picking_of picking.now) (Some (tree_of f.now))) }
 {
     let place = Place {
         symbols,
@@ -212,7 +224,8 @@ fn retain<'a>(
     picking: &Picking<'a>,
     f: Option<&'a FormulaTree>,
 ) -> Result<Option<Retain>, ResolveError>
-    ensures { Gives retain_of result (retain (symbols_of symbols.now) fresh (picking_of picking.now) (option_map (λ g. tree_of g.now) f.entry)) }
+    ensures { GivesOrRefuses retain_of result (retain (symbols_of symbols.now) fresh (picking_of picking.now)
+        (option_map (λ g. tree_of g.now) f.entry)) }
 {
     match f {
         None => Ok(None),
@@ -228,7 +241,8 @@ pub fn action(
     preds: &[Pred],
     parts: &[Part],
 ) -> Result<Action, ResolveError>
-    ensures { Gives action_of result (action (symbols_of symbols.now) (map pred_of preds.now) (map part_of parts.now)) }
+    ensures { GivesOrRefuses action_of result
+        (action (symbols_of symbols.now) (map pred_of preds.now) (map part_of parts.now)) }
 {
     let focus = focus(alloc, symbols, focus_in(parts))?;
     let picking = precondition(alloc, symbols, pre_in(parts))?;
@@ -264,7 +278,8 @@ pub fn actions(
     preds: &[Pred],
     flat: &[FlatAction],
 ) -> Result<Vec<Action>, ResolveError>
-    ensures { Gives (λ done. map action_of done.items) result (each (action (symbols_of symbols.now) (map pred_of preds.now)) (map parts_of flat.now)) }
+    ensures { GivesOrRefuses (λ done. map action_of done.items) result
+        (each (action (symbols_of symbols.now) (map pred_of preds.now)) (map parts_of flat.now)) }
 {
     let mut done = Vec::new(alloc);
     for item in flat {

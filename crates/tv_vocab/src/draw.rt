@@ -1,7 +1,7 @@
 //! The graph of a program.
 
 ghost use Rattle.std.specs.Prelude.{◌≡◌, map};
-ghost use Rattle.tv_names.specs.Refusal.{Gives, one_by_one};
+ghost use Rattle.tv_names.specs.Refusal.{GivesOrRefuses, one_by_one};
 ghost use Rattle.tv_flat.specs.FlatForm.{flat_edge_of};
 ghost use Rattle.tv_vocab.specs.Views.{drawn_of};
 ghost use Rattle.tv_vocab.specs.Graph.{with_edge, no_graph, graph};
@@ -20,7 +20,7 @@ pub struct Drawn {
 }
 
 fn draw_some(alloc: Global, edges: &[FlatEdge]) -> Result<Drawn, ResolveError>
-    ensures { Gives drawn_of result (one_by_one with_edge no_graph (map flat_edge_of edges.now)) }
+    ensures { GivesOrRefuses drawn_of result (one_by_one with_edge no_graph (map flat_edge_of edges.now)) }
 {
     let graph = Graph::of(alloc, edges)?;
     let nodes = graph.nodes.names(alloc)?;
@@ -33,7 +33,7 @@ fn draw_some(alloc: Global, edges: &[FlatEdge]) -> Result<Drawn, ResolveError>
 
 /// The nodes and edges of a program.
 pub fn draw(alloc: Global, edges: &[FlatEdge]) -> Result<Drawn, ResolveError>
-    ensures { Gives drawn_of result (graph (map flat_edge_of edges.now)) }
+    ensures { GivesOrRefuses drawn_of result (graph (map flat_edge_of edges.now)) }
 {
     match edges {
         [] => Err(ResolveError::NoEdge),

@@ -2,7 +2,7 @@
 
 ghost use Rattle.std.specs.Prelude.{ℕ, ◌≡◌, ◌≤◌, ◌<◌, ◌++◌, ◌∷◌, [], false, map, length, IfOk, OnOk};
 ghost use Rattle.std.specs.List.{position_or_len};
-ghost use Rattle.tv_names.specs.Refusal.{Gives, one_by_one};
+ghost use Rattle.tv_names.specs.Refusal.{GivesOrRefuses, one_by_one};
 ghost use Rattle.tv_tree.specs.Names.{is_among};
 ghost use Rattle.tv_flat.specs.FlatForm.{flat_edge_of};
 ghost use Rattle.tv_vocab.specs.Graph.{with_node, node_number, with_edge, no_graph};
@@ -65,7 +65,7 @@ impl Nodes {
     // Puts the node behind the others if it is new.
     #[tactic(auto, unfolding(crate::specs::Graph::with_node))]
     fn see(&mut self, alloc: Global, name: &[u8]) -> Result<(), ResolveError>
-        ensures { Gives (λ _. nodes_of self.new) result (with_node name.now (nodes_of self.old)) }
+        ensures { GivesOrRefuses (λ _. nodes_of self.new) result (with_node name.now (nodes_of self.old)) }
     {
         if self.has(name) {
             return Ok(());
@@ -102,7 +102,8 @@ impl Graph {
 
     #[tactic(auto, unfolding(crate::specs::Graph::with_edge))]
     fn put(&mut self, alloc: Global, edge: &FlatEdge) -> Result<(), ResolveError>
-        ensures { Gives (λ _. graph_of self.new) result (with_edge (graph_of self.old) (flat_edge_of edge.now)) }
+        ensures { GivesOrRefuses (λ _. graph_of self.new) result
+            (with_edge (graph_of self.old) (flat_edge_of edge.now)) }
     {
         self.nodes.see(alloc, &edge.from.0)?;
         self.nodes.see(alloc, &edge.to.0)?;
@@ -120,7 +121,8 @@ impl Graph {
 
     /// The nodes and edges of these edges.
     pub fn of(alloc: Global, edges: &[FlatEdge]) -> Result<Graph, ResolveError>
-        ensures { Gives graph_of result (one_by_one with_edge no_graph (map flat_edge_of edges.now)) }
+        ensures { GivesOrRefuses graph_of result
+            (one_by_one with_edge no_graph (map flat_edge_of edges.now)) }
     {
         let mut graph = Graph {
             nodes: Nodes::new(alloc),

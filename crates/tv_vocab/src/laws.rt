@@ -23,10 +23,11 @@ pub fn flat_forms_are_resolvable()
     ensures { (f : FlatForm) → IsFlat f → IsResolvable f }
 {}
 
-/// An item of at most 32 variables isn't refused for their number, and one of more isn't resolved: `TooManyVariables`
-/// comes exactly where there are more than 32 and no other refusal comes first. Each name counts once; so do the
-/// variables that a step picks, each own variable of a definition or an update, the two that all `p*` and `p+` of
-/// the item share, and the one that stands for the individual in a retain formula where none but picked ones is free.
+/// An item of at most 32 variables isn't refused for their number, and one of more isn't resolved:
+/// `TooManyVariables` comes exactly where there are more than 32 and no other refusal comes first. Each name
+/// counts once; so do the variables that a step picks, each own variable of a definition or an update, the
+/// two that all `p*` and `p+` of the item share, and the one that stands for the individual in a retain
+/// formula where none but picked ones is free.
 #[tactic(auto, using(crate::proofs::items::Rooms::items_have_room))]
 pub fn items_have_32_variables()
     ensures { ItemsHave32Variables }

@@ -4,7 +4,7 @@ ghost use Rattle.std.specs.Prelude.{◌≡◌, map, IfOk};
 ghost use Rattle.tv_model.specs.Program.{program_of};
 ghost use Rattle.tv_model.specs.Valid.{IsValid};
 ghost use Rattle.tv_flat.specs.FlatForm.{flat_of};
-ghost use Rattle.tv_names.specs.Refusal.{Gives};
+ghost use Rattle.tv_names.specs.Refusal.{GivesOrRefuses};
 ghost use Rattle.tv_vocab.specs.Premise.{IsResolvable};
 ghost use Rattle.tv_vocab.specs.Resolution.{program};
 
@@ -19,7 +19,7 @@ use tv_names::ResolveError;
 
 #[tactic(auto, unfolding(crate::specs::Resolution::program))]
 fn flat_program(alloc: Global, flat: &Flat) -> Result<Program, ResolveError>
-    ensures { Gives program_of result (program (flat_of flat.now)) }
+    ensures { GivesOrRefuses program_of result (program (flat_of flat.now)) }
 {
     let declared = vocabulary(alloc, flat.preds.as_slice())?;
     let rules = rules(alloc, &declared.symbols, flat.rules.as_slice())?;
@@ -44,7 +44,7 @@ fn flat_program(alloc: Global, flat: &Flat) -> Result<Program, ResolveError>
 /// there are at most 65,536 items, names, node words and texts are well spelled, and each edge's action is
 /// there, as in what expansion gives of a tree that was read.
 pub fn resolve(alloc: Global, flat: &Flat) -> Result<Program, ResolveError>
-    ensures program { Gives program_of result (program (flat_of flat.now)) }
+    ensures program { GivesOrRefuses program_of result (program (flat_of flat.now)) }
     ensures valid { IsResolvable (flat_of flat.now) → IfOk result (λ p. IsValid (program_of p)) }
 {
     flat_program(alloc, flat)

@@ -4,8 +4,8 @@ ghost use Rattle.std.specs.Prelude.{◌≡◌, map};
 ghost use Rattle.tv_tree.specs.Copies.{form_of as tree_of};
 ghost use Rattle.tv_model.specs.Form.{form_of};
 ghost use Rattle.tv_model.specs.Program.{head_of as head_form, rule_of};
-ghost use Rattle.tv_names.specs.Refusal.{Gives, each};
-ghost use Rattle.tv_names.specs.Copies.{symbols_of, place_of};
+ghost use Rattle.tv_names.specs.Refusal.{GivesOrRefuses, each};
+ghost use Rattle.tv_names.specs.Copies.{symbols_of, place_form};
 ghost use Rattle.tv_flat.specs.FlatForm.{rule_of as decl_of};
 ghost use Rattle.tv_vocab.specs.Vocabulary.{anywhere, negated_head, head_of, rule};
 
@@ -16,7 +16,7 @@ use tv_tree::trees::{FormulaTree, RuleDecl};
 
 /// Where any variables may be free.
 pub fn anywhere(symbols: &Symbols) -> Place<'_>
-    ensures { place_of result ≡ anywhere (symbols_of symbols.now) }
+    ensures { place_form result ≡ anywhere (symbols_of symbols.now) }
 {
     Place {
         symbols,
@@ -27,7 +27,7 @@ pub fn anywhere(symbols: &Symbols) -> Place<'_>
 }
 
 fn negated_head(f: &Formula) -> Result<Head, ResolveError>
-    ensures { Gives head_form result (negated_head (form_of f.now)) }
+    ensures { GivesOrRefuses head_form result (negated_head (form_of f.now)) }
 {
     match f {
         Formula::Atom(pred, terms) => Ok(Head::Atom(false, *pred, *terms)),
@@ -38,7 +38,7 @@ fn negated_head(f: &Formula) -> Result<Head, ResolveError>
 
 // What a head's formula demands.
 fn head_of(f: &Formula) -> Result<Head, ResolveError>
-    ensures { Gives head_form result (head_of (form_of f.now)) }
+    ensures { GivesOrRefuses head_form result (head_of (form_of f.now)) }
 {
     match f {
         Formula::Zero => Ok(Head::Never),
@@ -56,7 +56,8 @@ fn rule(
     body: &FormulaTree,
     head: &FormulaTree,
 ) -> Result<Rule, ResolveError>
-    ensures { Gives rule_of result (rule (symbols_of symbols.now) (tree_of body.now) (tree_of head.now)) }
+    ensures { GivesOrRefuses rule_of result
+        (rule (symbols_of symbols.now) (tree_of body.now) (tree_of head.now)) }
 {
     let place = anywhere(symbols);
     let mut naming = Naming::new();
@@ -72,7 +73,8 @@ pub fn rules(
     symbols: &Symbols,
     decls: &[RuleDecl],
 ) -> Result<Vec<Rule>, ResolveError>
-    ensures { Gives (λ rules. map rule_of rules.items) result (each (λ r. rule (symbols_of symbols.now) r.body r.head) (map decl_of decls.now)) }
+    ensures { GivesOrRefuses (λ rules. map rule_of rules.items) result
+        (each (λ r. rule (symbols_of symbols.now) r.body r.head) (map decl_of decls.now)) }
 {
     let mut rules = Vec::new(alloc);
     for decl in decls {

@@ -5,11 +5,12 @@ ghost use Rattle.std.specs.List.{list_any};
 ghost use Rattle.tv_tree.specs.Copies.{form_of as tree_of, single_of, update_of as nest_of, name_of};
 ghost use Rattle.tv_model.specs.Form.{form_of, vars_of};
 ghost use Rattle.tv_model.specs.Program.{pred_of, change_of, update_of, picks_of, kind_of};
-ghost use Rattle.tv_names.specs.Refusal.{Gives, one_by_one};
+ghost use Rattle.tv_names.specs.Refusal.{GivesOrRefuses, one_by_one};
 ghost use Rattle.tv_names.specs.Symbols.{KnownForm};
-ghost use Rattle.tv_names.specs.Copies.{symbols_of, place_of, naming_of};
+ghost use Rattle.tv_names.specs.Copies.{symbols_of, place_form, naming_of};
 ghost use Rattle.tv_vocab.specs.Copies.{picking_of};
-ghost use Rattle.tv_vocab.specs.Actions.{is_half, is_core_kind, is_core_pred, is_updated, change, updating, update_of_pred, update, with_update};
+ghost use Rattle.tv_vocab.specs.Actions.{is_half, is_core_kind, is_core_pred, is_updated, change, updating};
+ghost use Rattle.tv_vocab.specs.Actions.{update_of_pred, update, with_update};
 
 use crate::actions::Picking;
 use crate::vocabulary::twice;
@@ -69,7 +70,8 @@ fn change<'a>(
     f: &'a FormulaTree,
     naming: &mut Naming<'a>,
 ) -> Result<Change, ResolveError>
-    ensures { Gives change_of result (change (place_of place.now) core (tree_of f.now) (naming_of naming.old)) }
+    ensures { GivesOrRefuses change_of result
+        (change (place_form place.now) core (tree_of f.now) (naming_of naming.old)) }
 {
     if is_half(f) && core {
         return Ok(Change::Free);
@@ -78,7 +80,8 @@ fn change<'a>(
 }
 
 fn update_place<'a>(at: Updating<'a>, vars: &Terms, picks: &[Var]) -> Place<'a>
-    ensures { place_of result ≡ updating (symbols_of at.entry.symbols.now) at.entry.fresh (vars_of vars.now) (picks_of picks.now) }
+    ensures { place_form result
+        ≡ updating (symbols_of at.entry.symbols.now) at.entry.fresh (vars_of vars.now) (picks_of picks.now) }
 {
     Place {
         symbols: at.symbols,
@@ -98,7 +101,9 @@ fn update_of_pred<'a>(
     params: &'a [Spelling],
     body: &'a FormulaTree,
 ) -> Result<Update, ResolveError>
-    ensures { Gives update_of result (update_of_pred (symbols_of at.entry.symbols.now) (map pred_of at.entry.preds.now) at.entry.fresh (picking_of picking.now) (map update_of done.now) (record { pred = known.pred; arity = known.arity }) params.now (tree_of body.now)) }
+    ensures { GivesOrRefuses update_of result (update_of_pred (symbols_of at.entry.symbols.now)
+        (map pred_of at.entry.preds.now) at.entry.fresh (picking_of picking.now) (map update_of done.now)
+        (record { pred = known.pred; arity = known.arity }) params.now (tree_of body.now)) }
 {
     if params.len() != known.arity as usize {
         return Err(ResolveError::ArityWrong);
@@ -131,7 +136,9 @@ fn update<'a>(
     params: &'a [Spelling],
     body: &'a FormulaTree,
 ) -> Result<Update, ResolveError>
-    ensures { Gives update_of result (update (symbols_of at.entry.symbols.now) (map pred_of at.entry.preds.now) at.entry.fresh (picking_of picking.now) (map update_of done.now) (single_of name.now params.now body.now)) }
+    ensures { GivesOrRefuses update_of result
+        (update (symbols_of at.entry.symbols.now) (map pred_of at.entry.preds.now) at.entry.fresh
+        (picking_of picking.now) (map update_of done.now) (single_of name.now params.now body.now)) }
 {
     let text = name_text(alloc, name)?;
     if is_reserved(&text) {
@@ -150,7 +157,9 @@ fn put_update<'a>(
     done: &mut Vec<Update>,
     item: &'a UpdateTree,
 ) -> Result<(), ResolveError>
-    ensures { Gives (λ _. map update_of done.new.items) result (with_update (symbols_of at.entry.symbols.now) (map pred_of at.entry.preds.now) at.entry.fresh (picking_of picking.now) (map update_of done.old.items) (nest_of item.now)) }
+    ensures { GivesOrRefuses (λ _. map update_of done.new.items) result
+        (with_update (symbols_of at.entry.symbols.now) (map pred_of at.entry.preds.now) at.entry.fresh
+        (picking_of picking.now) (map update_of done.old.items) (nest_of item.now)) }
 {
     match item {
         UpdateTree::Single { name, params, body } => {
@@ -177,7 +186,9 @@ pub fn updates<'a>(
     picking: &Picking<'a>,
     block: &'a [UpdateTree],
 ) -> Result<Vec<Update>, ResolveError>
-    ensures { Gives (λ updates. map update_of updates.items) result (one_by_one (with_update (symbols_of at.entry.symbols.now) (map pred_of at.entry.preds.now) at.entry.fresh (picking_of picking.now)) [] (map nest_of block.now)) }
+    ensures { GivesOrRefuses (λ updates. map update_of updates.items) result
+        (one_by_one (with_update (symbols_of at.entry.symbols.now) (map pred_of at.entry.preds.now)
+        at.entry.fresh (picking_of picking.now)) [] (map nest_of block.now)) }
 {
     let mut done = Vec::new(alloc);
     for item in block {

@@ -4,10 +4,12 @@ ghost use Rattle.std.specs.Prelude.{ℕ, ◌≡◌, ◌<◌, [], map, length, Op
 ghost use Rattle.std.specs.List.{list_all};
 ghost use Rattle.tv_tree.specs.Copies.{pred_of as decl_of, form_of as tree_of, pred_of_body};
 ghost use Rattle.tv_model.specs.Program.{pred_of, kind_of};
-ghost use Rattle.tv_names.specs.Refusal.{Gives, one_by_one, each};
+ghost use Rattle.tv_names.specs.Refusal.{GivesOrRefuses, one_by_one, each};
 ghost use Rattle.tv_names.specs.Symbols.{symbol_of};
 ghost use Rattle.tv_names.specs.Copies.{symbols_of};
-ghost use Rattle.tv_vocab.specs.Vocabulary.{twice, fits, with_prop, props_of, abs_after, abs_of, abs_at, with_symbol, symbol_checked, symbols, definition, kind, arity_of, predicate, vocabulary};
+ghost use Rattle.tv_vocab.specs.Vocabulary.{twice, fits, with_prop, props_of, abs_after, abs_of, abs_at};
+ghost use Rattle.tv_vocab.specs.Vocabulary.{with_symbol, symbol_checked, symbols, definition, kind, arity_of};
+ghost use Rattle.tv_vocab.specs.Vocabulary.{predicate, vocabulary};
 ghost use Rattle.tv_vocab.specs.Views.{declared_of};
 
 use crate::cycles::has_cycle;
@@ -110,7 +112,8 @@ pub fn twice(names: &[Spelling]) -> bool
 // The arity of a predicate that may be declared behind these under this name.
 #[tactic(auto, unfolding(crate::specs::Vocabulary::symbol_checked))]
 fn checked_arity(seen: &Symbols, name: &[u8], decl: &PredDecl) -> Result<u8, ResolveError>
-    ensures checked { Gives (λ arity. arity) result (symbol_checked (symbols_of seen.now) name.now (decl_of decl.now)) }
+    ensures checked { GivesOrRefuses (λ arity. arity) result
+        (symbol_checked (symbols_of seen.now) name.now (decl_of decl.now)) }
     ensures new { IfOk result (λ _. symbol_of name.now (symbols_of seen.now) ≡ None) }
     ensures room { IfOk result (λ _. length (symbols_of seen.now) < 512) }
 {
@@ -138,7 +141,8 @@ fn checked_arity(seen: &Symbols, name: &[u8], decl: &PredDecl) -> Result<u8, Res
 
 #[tactic(auto, unfolding(crate::specs::Vocabulary::with_symbol))]
 fn declare_symbol(alloc: Global, seen: &mut Symbols, decl: &PredDecl) -> Result<(), ResolveError>
-    ensures { Gives (λ _. symbols_of seen.new) result (with_symbol (symbols_of seen.old) (decl_of decl.now)) }
+    ensures { GivesOrRefuses (λ _. symbols_of seen.new) result
+        (with_symbol (symbols_of seen.old) (decl_of decl.now)) }
 {
     let name = name_text(alloc, &decl.name)?;
     let arity = checked_arity(seen, &name, decl)?;
@@ -148,7 +152,7 @@ fn declare_symbol(alloc: Global, seen: &mut Symbols, decl: &PredDecl) -> Result<
 
 // The predicates, numbered in the order of their declarations.
 fn symbols(alloc: Global, decls: &[PredDecl]) -> Result<Symbols, ResolveError>
-    ensures { Gives symbols_of result (symbols (map decl_of decls.now)) }
+    ensures { GivesOrRefuses symbols_of result (symbols (map decl_of decls.now)) }
 {
     let mut seen = Symbols::new(alloc);
     for decl in decls {
@@ -164,7 +168,8 @@ fn definition(
     params: &[Spelling],
     body: &FormulaTree,
 ) -> Result<Kind, ResolveError>
-    ensures { Gives kind_of result (definition (symbols_of symbols.now) params.now (tree_of body.now)) }
+    ensures { GivesOrRefuses kind_of result
+        (definition (symbols_of symbols.now) params.now (tree_of body.now)) }
 {
     let mut naming = Naming::new();
     let vars = naming.declare_all(params)?;
@@ -184,7 +189,8 @@ fn kind(
     params: &[Spelling],
     body: &Option<FormulaTree>,
 ) -> Result<Kind, ResolveError>
-    ensures { Gives kind_of result (kind (symbols_of symbols.now) params.now (pred_of_body body.now)) }
+    ensures { GivesOrRefuses kind_of result
+        (kind (symbols_of symbols.now) params.now (pred_of_body body.now)) }
 {
     match body {
         None => Ok(Kind::Core),
@@ -205,7 +211,7 @@ fn arity_of(params: &[Spelling]) -> u8
 
 #[tactic(auto, unfolding(crate::specs::Vocabulary::predicate))]
 fn predicate(alloc: Global, symbols: &Symbols, decl: &PredDecl) -> Result<Pred, ResolveError>
-    ensures { Gives pred_of result (predicate (symbols_of symbols.now) (decl_of decl.now)) }
+    ensures { GivesOrRefuses pred_of result (predicate (symbols_of symbols.now) (decl_of decl.now)) }
 {
     let params = decl.params.as_slice();
     let kind = kind(alloc, symbols, params, &decl.body)?;
@@ -226,7 +232,8 @@ fn predicates(
     symbols: &Symbols,
     decls: &[PredDecl],
 ) -> Result<Vec<Pred>, ResolveError>
-    ensures { Gives (λ preds. map pred_of preds.items) result (each (predicate (symbols_of symbols.now)) (map decl_of decls.now)) }
+    ensures { GivesOrRefuses (λ preds. map pred_of preds.items) result
+        (each (predicate (symbols_of symbols.now)) (map decl_of decls.now)) }
 {
     let mut preds = Vec::new(alloc);
     for decl in decls {
@@ -245,7 +252,7 @@ pub struct Declared {
 /// The predicates with their definitions, where no definition rests on itself.
 #[tactic(auto, unfolding(crate::specs::Vocabulary::vocabulary))]
 pub fn vocabulary(alloc: Global, decls: &[PredDecl]) -> Result<Declared, ResolveError>
-    ensures { Gives declared_of result (vocabulary (map decl_of decls.now)) }
+    ensures { GivesOrRefuses declared_of result (vocabulary (map decl_of decls.now)) }
 {
     let symbols = symbols(alloc, decls)?;
     let preds = predicates(alloc, &symbols, decls)?;

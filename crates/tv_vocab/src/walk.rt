@@ -1,6 +1,7 @@
 //! A depth-first walk along what definitions mention: whether one rests on itself.
 
-ghost use Rattle.std.specs.Prelude.{◌≡◌, ◌≢◌, ◌+◌, ◌<◌, ◌≤◌, ◌∷◌, ◌++◌, [], true, false, map, length, reverse, IfOk, Option, Some, None};
+ghost use Rattle.std.specs.Prelude.{◌≡◌, ◌≢◌, ◌+◌, ◌<◌, ◌≤◌, ◌∷◌, ◌++◌, [], true, false, map, length};
+ghost use Rattle.std.specs.Prelude.{reverse, IfOk, Option, Some, None};
 ghost use Rattle.std.specs.Bool.{OnTrue, OnFalse};
 ghost use Rattle.tv_vocab.specs.Cycles.{HasCycle, has_cycle};
 ghost use Rattle.tv_vocab.specs.Walk.{next_mention};
@@ -73,14 +74,20 @@ impl Walk {
 
     // Comes to a predicate from the end of the path: whether that closes a cycle.
     fn come_to(&mut self, uses: &[Vec<u32>], pred: usize) -> Result<bool, AllocError>
-        requires marks { AreMarks (map (λ one. one.items) uses.now) self.old.marks.items (reverse self.old.path.items) }
-        requires leads { LeadsTo (map (λ one. one.items) uses.now) self.old.marks.items (reverse self.old.path.items) pred }
+        requires marks { AreMarks (map (λ one. one.items) uses.now) self.old.marks.items
+            (reverse self.old.path.items) }
+        requires leads { LeadsTo (map (λ one. one.items) uses.now) self.old.marks.items
+            (reverse self.old.path.items) pred }
         ensures cycle { IfOk result (λ found. OnTrue found (HasCycle (map (λ one. one.items) uses.now))) }
-        ensures marks { IfOk result (λ found. OnFalse found (AreMarks (map (λ one. one.items) uses.now) self.new.marks.items (reverse self.new.path.items))) }
-        ensures path { IfOk result (λ found. OnFalse found (IsPath (map (λ one. one.items) uses.now) self.new.marks.items (reverse self.new.path.items))) }
+        ensures marks { IfOk result (λ found. OnFalse found
+            (AreMarks (map (λ one. one.items) uses.now) self.new.marks.items (reverse self.new.path.items))) }
+        ensures path { IfOk result (λ found. OnFalse found
+            (IsPath (map (λ one. one.items) uses.now) self.new.marks.items (reverse self.new.path.items))) }
         ensures seen { IfOk result (λ found. OnFalse found (mark_at self.new.marks.items pred ≢ Unseen)) }
         ensures kept { IfOk result (λ found. KeepsSeen self.old.marks.items self.new.marks.items) }
-        ensures work { IfOk result (λ found. work (map (λ one. one.items) uses.now) self.new.marks.items self.new.path.items ≤ work (map (λ one. one.items) uses.now) self.old.marks.items self.old.path.items) }
+        ensures work { IfOk result
+            (λ found. work (map (λ one. one.items) uses.now) self.new.marks.items self.new.path.items
+            ≤ work (map (λ one. one.items) uses.now) self.old.marks.items self.old.path.items) }
     {
         match self.mark(pred) {
             Mark::Done => Ok(false),
@@ -95,13 +102,19 @@ impl Walk {
 
     // Goes on with a step that was taken off the end of the path: whether that closes a cycle.
     fn advance(&mut self, uses: &[Vec<u32>], step: Step) -> Result<bool, AllocError>
-        requires marks { AreMarks (map (λ one. one.items) uses.now) self.old.marks.items (step ∷ reverse self.old.path.items) }
-        requires path { IsPath (map (λ one. one.items) uses.now) self.old.marks.items (step ∷ reverse self.old.path.items) }
+        requires marks { AreMarks (map (λ one. one.items) uses.now) self.old.marks.items
+            (step ∷ reverse self.old.path.items) }
+        requires path { IsPath (map (λ one. one.items) uses.now) self.old.marks.items
+            (step ∷ reverse self.old.path.items) }
         ensures cycle { IfOk result (λ found. OnTrue found (HasCycle (map (λ one. one.items) uses.now))) }
-        ensures marks { IfOk result (λ found. OnFalse found (AreMarks (map (λ one. one.items) uses.now) self.new.marks.items (reverse self.new.path.items))) }
-        ensures path { IfOk result (λ found. OnFalse found (IsPath (map (λ one. one.items) uses.now) self.new.marks.items (reverse self.new.path.items))) }
+        ensures marks { IfOk result (λ found. OnFalse found
+            (AreMarks (map (λ one. one.items) uses.now) self.new.marks.items (reverse self.new.path.items))) }
+        ensures path { IfOk result (λ found. OnFalse found
+            (IsPath (map (λ one. one.items) uses.now) self.new.marks.items (reverse self.new.path.items))) }
         ensures kept { IfOk result (λ found. KeepsSeen self.old.marks.items self.new.marks.items) }
-        ensures work { IfOk result (λ found. work (map (λ one. one.items) uses.now) self.new.marks.items self.new.path.items < work (map (λ one. one.items) uses.now) self.old.marks.items (self.old.path.items ++ step ∷ [])) }
+        ensures work { IfOk result
+            (λ found. work (map (λ one. one.items) uses.now) self.new.marks.items self.new.path.items < work
+            (map (λ one. one.items) uses.now) self.old.marks.items (self.old.path.items ++ step ∷ [])) }
     {
         match next_mention(uses, step) {
             None => {
@@ -117,10 +130,13 @@ impl Walk {
 
     // Goes on until the path is at its end: whether a cycle is found.
     fn finish(&mut self, uses: &[Vec<u32>]) -> Result<bool, AllocError>
-        requires marks { AreMarks (map (λ one. one.items) uses.now) self.old.marks.items (reverse self.old.path.items) }
-        requires path { IsPath (map (λ one. one.items) uses.now) self.old.marks.items (reverse self.old.path.items) }
+        requires marks { AreMarks (map (λ one. one.items) uses.now) self.old.marks.items
+            (reverse self.old.path.items) }
+        requires path { IsPath (map (λ one. one.items) uses.now) self.old.marks.items
+            (reverse self.old.path.items) }
         ensures cycle { IfOk result (λ found. OnTrue found (HasCycle (map (λ one. one.items) uses.now))) }
-        ensures marks { IfOk result (λ found. OnFalse found (AreMarks (map (λ one. one.items) uses.now) self.new.marks.items [])) }
+        ensures marks { IfOk result
+            (λ found. OnFalse found (AreMarks (map (λ one. one.items) uses.now) self.new.marks.items [])) }
         ensures path { IfOk result (λ found. OnFalse found (self.new.path.items ≡ [])) }
         ensures kept { IfOk result (λ found. KeepsSeen self.old.marks.items self.new.marks.items) }
     {
@@ -137,7 +153,8 @@ impl Walk {
         requires marks { AreMarks (map (λ one. one.items) uses.now) self.old.marks.items [] }
         requires path { self.old.path.items ≡ [] }
         ensures cycle { IfOk result (λ found. OnTrue found (HasCycle (map (λ one. one.items) uses.now))) }
-        ensures marks { IfOk result (λ found. OnFalse found (AreMarks (map (λ one. one.items) uses.now) self.new.marks.items [])) }
+        ensures marks { IfOk result
+            (λ found. OnFalse found (AreMarks (map (λ one. one.items) uses.now) self.new.marks.items [])) }
         ensures path { IfOk result (λ found. OnFalse found (self.new.path.items ≡ [])) }
         ensures seen { IfOk result (λ found. OnFalse found (mark_at self.new.marks.items pred ≢ Unseen)) }
         ensures kept { IfOk result (λ found. KeepsSeen self.old.marks.items self.new.marks.items) }

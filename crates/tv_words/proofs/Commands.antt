@@ -1,5 +1,6 @@
 -- From what stands on a line to the command that it says, or to none.
-use Rattle.std.proofs.Common.{◌≡◌, ◌∙◌, ◌<◌, ◌≤◌, ◌^◌, ℕ, Bool, true, false, refl, sym, ap, ap₂, subst, arith, List, [], ◌∷◌, min}
+use Rattle.std.proofs.Common.{◌≡◌, ◌∙◌, ◌<◌, ◌≤◌, ◌^◌, ℕ, Bool, true, false, refl, sym, ap, ap₂, subst, arith}
+use Rattle.std.proofs.Common.{List, [], ◌∷◌, min}
 use Rattle.std.specs.Prelude.{codes, drop, Option, Some, None, Result, Ok, Err, IfOk, IfSome, IfNone}
 use Rattle.std.specs.List.{slice_index_or}
 use Rattle.std.proofs.lemmas.Fmt.{decimal_injective}
@@ -8,7 +9,9 @@ use Rattle.tv_model.specs.declared.program.Mode.TheVariants.{Given, Recompute}
 use Rattle.clap.specs.declared.parser.matches.ArgMatches.{ArgMatches}
 use Rattle.tv_words.specs.Line.{IsLine}
 use Rattle.tv_words.specs.Setup.{HasLine, HasNoLine, IsSaid, NoneSaid, told_line}
-use Rattle.tv_words.specs.Words.{HasFlags, IsMax, IsNumberUpTo, LineForm, Says, StandsOn, line_of, line_flags, line_settings, recomputes, once, CommandForm, Analyzes, Checks, Demos, Joins, Replays, Sources, name_of, Spells, SpellsNothing, form_of}
+use Rattle.tv_words.specs.Words.{HasFlags, IsMax, IsNumberUpTo, LineForm, Says, StandsOn, line_of, line_flags}
+use Rattle.tv_words.specs.Words.{line_settings, recomputes, once, CommandForm, Analyzes, Checks, Demos, Joins}
+use Rattle.tv_words.specs.Words.{Replays, Sources, command_word, Spells, SpellsNothing, form_of}
 use Rattle.tv_words.specs.declared.words.Command.{Command}
 use Rattle.tv_words.proofs.Reading.{one_line}
 
@@ -82,9 +85,9 @@ one_form words a b x y =
 
 module _ (name : List ℕ) (words rest : List (List ℕ)) (whole : words ≡ name ∷ rest) where
   -- the rest of the command's words is what stands behind the name
-  behind_name : (command : CommandForm) (other : List (List ℕ)) → words ≡ name_of command ∷ other → (name_of command ≡ name) × (other ≡ rest)
+  behind_name : (command : CommandForm) (other : List (List ℕ)) → words ≡ command_word command ∷ other → (command_word command ≡ name) × (other ≡ rest)
   behind_name command other f =
-      let both : name_of command ∷ other ≡ name ∷ rest = sym f ∙ whole in
+      let both : command_word command ∷ other ≡ name ∷ rest = sym f ∙ whole in
       (ap (λ ws. slice_index_or ws 0 []) both, ap (drop 1) both)
 
   pub none_without_line : HasNoLine line_flags line_settings rest → SpellsNothing words
@@ -168,7 +171,7 @@ abbrev operand : ℕ → List (List ℕ) → List ℕ
 operand k words = slice_index_or words k []
 
 -- a line says one command of a name
-one_said : (line : LineForm) (a b : CommandForm) → name_of a ≡ name_of b → Says line a → Says line b → a ≡ b
+one_said : (line : LineForm) (a b : CommandForm) → command_word a ≡ command_word b → Says line a → Says line b → a ≡ b
 one_said line (Analyzes program initial max mode delta) (Analyzes program' initial' max' mode' delta') named a b =
     let names : program ∷ initial ∷ [] ≡ program' ∷ initial' ∷ [] = sym a.0 ∙ b.0 in
     let modes = one_mode mode mode' (sym a.1.0.0 ∙ b.1.0.0) in
@@ -202,8 +205,8 @@ one_said line a b named x y = let n = ap first_byte named in absurd (omega (arit
 
 pub one_spelled : (words : List (List ℕ)) (a b : CommandForm) → Spells words a → Spells words b → a ≡ b
 one_spelled words a b (rest, e, h) (rest', f, k) =
-    let both : name_of a ∷ rest ≡ name_of b ∷ rest' = sym e ∙ f in
-    let named : name_of a ≡ name_of b = ap (operand 0) both in
+    let both : command_word a ∷ rest ≡ command_word b ∷ rest' = sym e ∙ f in
+    let named : command_word a ≡ command_word b = ap (operand 0) both in
     let behind : rest ≡ rest' = ap (drop 1) both in
     let line : h.line ≡ k.line = one_form rest' h.line k.line (subst (λ ws. StandsOn ws h.line) behind h.stands) k.stands in
     one_said k.line a b named (subst (λ l. Says l a) line h.says) k.says

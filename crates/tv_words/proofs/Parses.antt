@@ -1,21 +1,26 @@
 -- A parse of `clap` refuses exactly the words that are no line, and else tells what stands on it.
-use Rattle.std.proofs.Common.{◌≡◌, ◌∙◌, ◌+◌, ◌&&◌, ℕ, Bool, cond, true, false, not, refl, sym, ap, ap₂, subst, arith, List, [], ◌∷◌, ◌++◌, map, min, Option, Some, None}
+use Rattle.std.proofs.Common.{◌≡◌, ◌∙◌, ◌+◌, ◌&&◌, ℕ, Bool, cond, true, false, not, refl, sym, ap, ap₂, subst}
+use Rattle.std.proofs.Common.{arith, List, [], ◌∷◌, ◌++◌, map, min, Option, Some, None}
 use Rattle.std.specs.Prelude.{codes, fold, is_some}
 use Rattle.std.specs.Prelude.{IfSome}
 use Rattle.std.specs.List.{list_all, list_any}
 use Rattle.std.proofs.lemmas.Bool.{and_from, and_parts, not-true, or_parts}
 use Rattle.clap.specs.Matches.{found_of}
 use Rattle.clap.specs.declared.parser.matches.ArgMatches.{ArgMatches}
-use Rattle.clap.specs.Walk.{is_early_multiple, rows_of, rows_after, Row, Rule, Text, count_of, finished, nothing_held, settled, walk, walk_from, with_default}
-use Rattle.clap.specs.Simple.{App, is_buildable, is_in_order, is_ready, is_ready_leaf, entered, matches_of, names_of}
+use Rattle.clap.specs.Walk.{is_early_multiple, rows_of, rows_after, Row, Rule, Text, count_of, finished}
+use Rattle.clap.specs.Walk.{nothing_held, settled, walk, walk_from, with_default}
+use Rattle.clap.specs.Simple.{App, is_buildable, is_in_order, is_ready, is_ready_leaf, entered, matches_of}
+use Rattle.clap.specs.Simple.{names_of}
 use Rattle.clap.specs.Kinds.{Kinds, or_else}
-use Rattle.clap.specs.Faults.{is_free_app, is_simple_and_free, built_fault, entered_fault, fault_of, level_fault, settle_fault, walk_fault}
+use Rattle.clap.specs.Faults.{is_free_app, is_simple_and_free, built_fault, entered_fault, fault_of}
+use Rattle.clap.specs.Faults.{level_fault, settle_fault, walk_fault}
 use Rattle.tv_words.specs.Line.{is_among, IsLine}
 use Rattle.tv_words.proofs.Reader.{Line, read}
 use Rattle.tv_words.specs.Setup.{flag_rule, setting_rule, is_fit, line_app, Finds, HasLine, HasNoLine}
 use Rattle.tv_words.proofs.Reading.{line_read, no_flag, read_said}
 use Rattle.tv_words.proofs.Rows.{texts_of, no_default, zero_default, other_default}
-use Rattle.tv_words.proofs.Shapes.{built_app, built_flag, built_operand, built_is, built_options, built_rules, built_setting, built_shape}
+use Rattle.tv_words.proofs.Shapes.{built_app, built_flag, built_operand, built_is, built_options, built_rules}
+use Rattle.tv_words.proofs.Shapes.{built_setting, built_shape}
 use Rattle.tv_words.proofs.Uses.{Grown, no_default_fault, no_check_fault}
 use Rattle.tv_words.proofs.Walks.{Agrees, AllText, faults, from_nothing, rows_then}
 

@@ -1,5 +1,6 @@
 -- Lines, read word by word.
-use Rattle.std.proofs.Common.{◌≡◌, ◌∙◌, ◌==◌, ◌⊎◌, ℕ, cond, true, false, zero, suc, refl, sym, ap, subst, arith, List, [], ◌∷◌, ◌++◌, Option, Some, None, inl, inr}
+use Rattle.std.proofs.Common.{◌≡◌, ◌∙◌, ◌==◌, ◌⊎◌, ℕ, cond, true, false, zero, suc, refl, sym, ap, subst}
+use Rattle.std.proofs.Common.{arith, List, [], ◌∷◌, ◌++◌, Option, Some, None, inl, inr}
 use Rattle.std.specs.Prelude.{codes, slice_get, option_and_then}
 use Rattle.std.specs.Str.{bytes_eq, IsUtf8}
 use Rattle.std.specs.Str.{chars, encode_utf8_all as encodes}
@@ -9,7 +10,8 @@ use Rattle.clap.proofs.CutLemmas.{Lacks}
 use Rattle.clap.proofs.LexerLemmas.{name_and_value-at, name_and_value-without}
 use Rattle.std.proofs.lemmas.Bool.{cases_eq, cases_Bool, eqb-true, not_from_false, not-true}
 use Rattle.clap.specs.Lexer.{long_of, long_of_rest, name_and_value, short_of, short_of_rest, strip_byte}
-use Rattle.tv_words.specs.Line.{Part, Operand, Flag, Setting, is_operand, dashed, assigned as assigned_word, is_among}
+use Rattle.tv_words.specs.Line.{Part, Operand, Flag, Setting, is_operand, dashed, assigned as assigned_word}
+use Rattle.tv_words.specs.Line.{is_among}
 
 -- what a word is where no value is awaited
 pub data Class : Type 0 where

@@ -1,5 +1,6 @@
 -- The reader of lines gives exactly the line that the words are.
-use Rattle.std.proofs.Common.{◌≡◌, ◌∙◌, ℕ, Bool, true, false, not, refl, sym, ap, subst, List, [], ◌∷◌, ◌++◌, Option, Some, None, inl, inr}
+use Rattle.std.proofs.Common.{◌≡◌, ◌∙◌, ℕ, Bool, true, false, not, refl, sym, ap, subst, List, [], ◌∷◌, ◌++◌}
+use Rattle.std.proofs.Common.{Option, Some, None, inl, inr}
 use Rattle.std.specs.Prelude.{IfSome}
 use Rattle.std.specs.List.{list_all}
 use Rattle.std.specs.Str.{bytes_eq}
@@ -8,9 +9,12 @@ use Rattle.std.proofs.lemmas.Slice.Eq.{bytes_eq-Decides}
 use Rattle.clap.proofs.CutLemmas.{Lacks, list_any-at}
 use Rattle.clap.specs.Lexer.{has_byte, name_and_value}
 use Rattle.clap.proofs.LexerLemmas.{name_and_value-at, name_and_value-without}
-use Rattle.tv_words.specs.Line.{Part, Operand, Flag, Setting, IsSpelled, Spells, IsLine, is_operand, dashed, assigned as assigned_word, is_among, is_allowed}
+use Rattle.tv_words.specs.Line.{Part, Operand, Flag, Setting, IsSpelled, Spells, IsLine, is_operand, dashed}
+use Rattle.tv_words.specs.Line.{assigned as assigned_word, is_among, is_allowed}
 use Rattle.tv_words.specs.Setup.{is_name, are_names}
-use Rattle.tv_words.proofs.Reader.{Class, dashes, flag, setting, assigned, plain, unknown, Line, Tells, Cut, cut, class_of, named_class, class_tells, class_plain, with_part, step_open, step, read}
+use Rattle.tv_words.proofs.Reader.{Class, dashes, flag, setting, assigned, plain, unknown, Line, Tells, Cut}
+use Rattle.tv_words.proofs.Reader.{cut, class_of, named_class, class_tells, class_plain, with_part, step_open}
+use Rattle.tv_words.proofs.Reader.{step, read}
 
 -- ---- what is read is spelled
 

@@ -1,11 +1,13 @@
 -- What the rows of `clap` tell of an argument, and how a use of one changes it.
-use Rattle.std.proofs.Common.{◌≡◌, ◌∙◌, ℕ, cond, true, false, refl, ap, subst, List, [], ◌∷◌, ◌++◌, Option, Some, None, inl, inr}
+use Rattle.std.proofs.Common.{◌≡◌, ◌∙◌, ℕ, cond, true, false, refl, ap, subst, List, [], ◌∷◌, ◌++◌, Option}
+use Rattle.std.proofs.Common.{Some, None, inl, inr}
 use Rattle.std.specs.Prelude.{codes, find, unwrap_or, option_map}
 use Rattle.std.specs.Option.{option_map_or}
 use Rattle.std.specs.Str.{bytes_eq}
 use Rattle.std.proofs.lemmas.Bool.{cases_Bool, or_parts}
 use Rattle.std.proofs.lemmas.Slice.Eq.{bytes_eq-Decides}
-use Rattle.clap.specs.Walk.{Row, Rule, all_of, at_row, count_of, default_rows, first_as_count, has_row, reading_by, stronger, with_count, with_default, with_values, without}
+use Rattle.clap.specs.Walk.{Row, Rule, all_of, at_row, count_of, default_rows, first_as_count, has_row}
+use Rattle.clap.specs.Walk.{reading_by, stronger, with_count, with_default, with_values, without}
 use Rattle.clap.specs.Matches.{count_text}
 use Rattle.clap.specs.declared.builder.value_parser.Reading.{Reading}
 use Rattle.clap.specs.declared.parser.matches.ValueSource.{ValueSource}

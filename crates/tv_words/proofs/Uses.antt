@@ -1,5 +1,6 @@
 -- What a use of an argument changes, and that it is never refused.
-use Rattle.std.proofs.Common.{◌≡◌, ◌∙◌, ◌+◌, ◌&&◌, ℕ, Bool, true, false, not, refl, sym, ap, subst, arith, List, [], ◌∷◌, ◌++◌, map, min, inl, inr, append-nil, append_assoc}
+use Rattle.std.proofs.Common.{◌≡◌, ◌∙◌, ◌+◌, ◌&&◌, ℕ, Bool, true, false, not, refl, sym, ap, subst, arith}
+use Rattle.std.proofs.Common.{List, [], ◌∷◌, ◌++◌, map, min, inl, inr, append-nil, append_assoc}
 use Rattle.std.specs.Prelude.{codes, pos}
 use Rattle.std.specs.List.{list_any}
 use Rattle.std.specs.Str.{bytes_eq}
@@ -19,8 +20,10 @@ use Rattle.tv_words.specs.Line.{Part, Operand, Flag, Setting, is_among, operands
 use Rattle.tv_words.proofs.Reader.{Line}
 use Rattle.tv_words.specs.Setup.{is_fit}
 use Rattle.tv_words.proofs.Reading.{no_flag}
-use Rattle.tv_words.proofs.Rows.{itself, texts_of, texts_grow, texts_stay, count_stays, counted_as, texts_not_counted, count_not_counted}
-use Rattle.tv_words.proofs.Shapes.{built_operand, built_flag, built_setting, built_options, built_rules, built_shape}
+use Rattle.tv_words.proofs.Rows.{itself, texts_of, texts_grow, texts_stay, count_stays, counted_as}
+use Rattle.tv_words.proofs.Rows.{texts_not_counted, count_not_counted}
+use Rattle.tv_words.proofs.Shapes.{built_operand, built_flag, built_setting, built_options, built_rules}
+use Rattle.tv_words.proofs.Shapes.{built_shape}
 
 -- ---- no use is refused
 

@@ -1,22 +1,31 @@
 -- The walk of `clap` over a line reads it as the reader of lines does.
-use Rattle.std.proofs.Common.{◌≡◌, ◌∙◌, ◌==◌, ◌&&◌, ℕ, Bool, cond, true, false, refl, sym, ap, ap₂, subst, List, [], ◌∷◌, Option, Some, None, inl, inr}
+use Rattle.std.proofs.Common.{◌≡◌, ◌∙◌, ◌==◌, ◌&&◌, ℕ, Bool, cond, true, false, refl, sym, ap, ap₂, subst}
+use Rattle.std.proofs.Common.{List, [], ◌∷◌, Option, Some, None, inl, inr}
 use Rattle.std.specs.Prelude.{codes, fold}
 use Rattle.std.specs.Option.{option_map_or}
 use Rattle.std.specs.Str.{bytes_eq, IsUtf8}
 use Rattle.std.proofs.lemmas.Bool.{cases_Bool, cond-true, cond-false, eqb-true}
 use Rattle.clap.specs.Lexer.{long_of, short_of}
-use Rattle.clap.specs.Walk.{Held, Row, Rule, Text, Waiting, Walk, idle, nothing_held, option, positional, after_step, arg_by_id, arg_by_long, arg_by_short, is_pending, long_or_other, positional_held, settled, settled_rows, subcommand_met, used, used_by_id, walk_from, walked}
+use Rattle.clap.specs.Walk.{Held, Row, Rule, Text, Waiting, Walk, idle, nothing_held, option, positional}
+use Rattle.clap.specs.Walk.{after_step, arg_by_id, arg_by_long, arg_by_short, is_pending, long_or_other}
+use Rattle.clap.specs.Walk.{positional_held, settled, settled_rows, subcommand_met, used, used_by_id}
+use Rattle.clap.specs.Walk.{walk_from, walked}
 use Rattle.clap.specs.Simple.{Shape}
 use Rattle.clap.specs.Kinds.{Kinds, or_else}
 use Rattle.clap.specs.declared.error.kind.ErrorKind.{ErrorKind}
 use Rattle.clap.specs.declared.error.kind.ErrorKind.TheVariants.{TooManyValues, UnknownArgument}
-use Rattle.clap.specs.Faults.{bundle_fault, flags_fault, flag_word_fault, positional_fault, settle_fault, step_fault, turn_fault, use_fault, walk_fault}
+use Rattle.clap.specs.Faults.{bundle_fault, flags_fault, flag_word_fault, positional_fault, settle_fault}
+use Rattle.clap.specs.Faults.{step_fault, turn_fault, use_fault, walk_fault}
 use Rattle.tv_words.specs.Line.{Part, Operand, Flag, Setting, is_among}
-use Rattle.tv_words.proofs.Reader.{Class, Line, Shows, char_behind, class_shows, class_of, dashes, flag, setting, assigned, plain, unknown, read, step, with_part}
+use Rattle.tv_words.proofs.Reader.{Class, Line, Shows, char_behind, class_shows, class_of, dashes, flag}
+use Rattle.tv_words.proofs.Reader.{setting, assigned, plain, unknown, read, step, with_part}
 use Rattle.tv_words.specs.Setup.{is_fit}
 use Rattle.tv_words.proofs.Rows.{itself}
-use Rattle.tv_words.proofs.Shapes.{built_operand, built_flag, built_setting, built_rules, built_shape, by_id, by_long, by_short}
-use Rattle.tv_words.proofs.Uses.{Grown, grown_not, add_part, add_behind, operand_fault, setting_fault, flag_fault, missing_value, operand_used, behind_used, flag_used, setting_used, no_flag_of, setting_apart}
+use Rattle.tv_words.proofs.Shapes.{built_operand, built_flag, built_setting, built_rules, built_shape, by_id}
+use Rattle.tv_words.proofs.Shapes.{by_long, by_short}
+use Rattle.tv_words.proofs.Uses.{Grown, grown_not, add_part, add_behind, operand_fault, setting_fault}
+use Rattle.tv_words.proofs.Uses.{flag_fault, missing_value, operand_used, behind_used, flag_used}
+use Rattle.tv_words.proofs.Uses.{setting_used, no_flag_of, setting_apart}
 
 -- ---- several steps
 

@@ -1,5 +1,6 @@
 -- How a line of words is told to `clap`, and what `clap` tells of one.
-use Rattle.std.specs.Prelude.{◌≡◌, ◌&&◌, ℕ, Bool, true, false, not, IsTrue, List, [], ◌∷◌, ◌++◌, map, min, option_map, unwrap_or, Option, None, Some, codes}
+use Rattle.std.specs.Prelude.{◌≡◌, ◌&&◌, ℕ, Bool, true, false, not, IsTrue, List, [], ◌∷◌, ◌++◌, map, min}
+use Rattle.std.specs.Prelude.{option_map, unwrap_or, Option, None, Some, codes}
 use Rattle.std.specs.Borrow.{Bor}
 use Rattle.std.specs.List.{list_all}
 use Rattle.clap.specs.Lexer.{has_byte}
@@ -9,7 +10,7 @@ use Rattle.clap.specs.declared.parser.matches.ArgMatches.{ArgMatches}
 use Rattle.clap.specs.Simple.{App, new_rule, new_shape}
 use Rattle.clap.specs.declared.builder.action.ArgAction.TheVariants.{Append, Count}
 use Rattle.tv_words.specs.Line.{Part, IsLine, is_among, operands_of, uses_of, values_of}
-use Rattle.tv_words.specs.Words.{CommandForm, LineForm, Says, name_of}
+use Rattle.tv_words.specs.Words.{CommandForm, LineForm, Says, command_word}
 use Rattle.tv_words.specs.declared.line.Line.{Line}
 
 -- any number of operands, one behind the other
@@ -115,7 +116,7 @@ line_in line = record {
 
 -- the line says this command, which has the name
 abbrev pub IsSaid : (name : List ℕ) → LineForm → CommandForm → Type 0
-IsSaid name line command = (name_of command ≡ name) × Says line command
+IsSaid name line command = (command_word command ≡ name) × Says line command
 
 -- it says no command of that name
 abbrev pub NoneSaid : (name : List ℕ) → LineForm → Type 0

@@ -1,5 +1,6 @@
 -- What the words of a call spell.
-use Rattle.std.specs.Prelude.{◌≡◌, ◌≤◌, ℕ, Bool, true, false, List, [], ◌∷◌, ◌++◌, map, codes, decimal, string_bytes, String}
+use Rattle.std.specs.Prelude.{◌≡◌, ◌≤◌, ℕ, Bool, true, false, List, [], ◌∷◌, ◌++◌, map, codes, decimal}
+use Rattle.std.specs.Prelude.{string_bytes, String}
 use Rattle.std.specs.declared.alloc.Global.{Global}
 use Rattle.tv_model.specs.declared.program.Mode.{Mode}
 use Rattle.tv_model.specs.declared.program.Mode.TheVariants.{Given, Recompute}
@@ -37,8 +38,8 @@ GoTogether mode false = Unit {0}
 GoTogether Given true = Unit {0}
 GoTogether Recompute true = ⊥
 
--- how often `--recompute` and `--delta` stand for this mode, with or without differencing: each once at most, and
--- not together
+-- how often `--recompute` and `--delta` stand for this mode, with or without differencing: each once at most,
+-- and not together
 abbrev pub AreUses : (recompute delta : ℕ) → Mode → (differenced : Bool) → Type 0
 AreUses recompute delta mode differenced = (recompute ≡ recomputes mode) × (delta ≡ once differenced)
     × GoTogether mode differenced
@@ -50,8 +51,8 @@ line_flags = codes "recompute" ∷ codes "delta" ∷ codes "maps" ∷ []
 abbrev pub line_settings : List (List ℕ)
 line_settings = codes "max-structures" ∷ []
 
--- what stands on a line: its operands in order, how often each option without a value stands, and the values of
--- `--max-structures`
+-- what stands on a line: its operands in order, how often each option without a value stands, and the values
+-- of `--max-structures`
 pub record LineForm : Type 0 where
   pub operands : List (List ℕ)
   pub recompute : ℕ
@@ -101,19 +102,20 @@ abbrev pub SaidOf : (CommandForm → Type 0) → Command → Type 0
 SaidOf Says command = Says (form_of command)
 
 -- the first word
-abbrev pub name_of : CommandForm → List ℕ
-name_of (Analyzes program initial max mode delta) = codes "analyze"
-name_of (Checks program initial report mode maps delta) = codes "check"
-name_of (Demos number) = codes "demo"
-name_of (Joins program initial max mode) = codes "join"
-name_of (Replays program initial start trace report) = codes "replay"
-name_of (Sources source initial max) = codes "source"
+abbrev pub command_word : CommandForm → List ℕ
+command_word (Analyzes program initial max mode delta) = codes "analyze"
+command_word (Checks program initial report mode maps delta) = codes "check"
+command_word (Demos number) = codes "demo"
+command_word (Joins program initial max mode) = codes "join"
+command_word (Replays program initial start trace report) = codes "replay"
+command_word (Sources source initial max) = codes "source"
 
 -- the options without a value say this mode, and whether updates are differenced and maps asked for
 abbrev pub HasFlags : LineForm → Mode → (delta maps : Bool) → Type 0
 HasFlags line mode delta maps = AreUses line.recompute line.delta mode delta × (line.maps ≡ once maps)
 
--- a line says a command: it has the command's operands, each option of the command once at most, and no other option
+-- a line says a command: it has the command's operands, each option of the command once at most, and no other
+-- option
 abbrev pub Says : LineForm → CommandForm → Type 0
 Says line (Analyzes program initial max mode delta) = (line.operands ≡ program ∷ initial ∷ [])
     × HasFlags line mode delta false × IsMax line.max max
@@ -137,7 +139,7 @@ pub record IsRest (words : List (List ℕ)) (command : CommandForm) : Type 0 whe
 
 -- the words spell this command: its name, and the rest behind it
 abbrev pub Spells : List (List ℕ) → CommandForm → Type 0
-Spells words command = (rest : List (List ℕ)) × (words ≡ name_of command ∷ rest) × IsRest rest command
+Spells words command = (rest : List (List ℕ)) × (words ≡ command_word command ∷ rest) × IsRest rest command
 
 -- the words spell no command
 abbrev pub SpellsNothing : List (List ℕ) → Type 0

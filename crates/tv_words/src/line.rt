@@ -2,7 +2,8 @@
 
 ghost use Rattle.std.specs.Prelude.{◌≡◌, ℕ, List, IsTrue, false, codes, IfOk};
 ghost use Rattle.clap.specs.Words.{app_of, rule_of};
-ghost use Rattle.tv_words.specs.Setup.{bare_app, line_app, operand_rule, flag_rule, setting_rule, is_fit, told_texts, texts_in, told_line, line_in, Reads};
+ghost use Rattle.tv_words.specs.Setup.{bare_app, line_app, operand_rule, flag_rule, setting_rule, is_fit};
+ghost use Rattle.tv_words.specs.Setup.{told_texts, texts_in, told_line, line_in, Reads};
 ghost use Rattle.tv_words.specs.Words.{words_of, line_flags, line_settings};
 
 use clap::error::ErrorKind;
@@ -83,8 +84,8 @@ fn texts<'m, 'a>(matches: &'m ArgMatches<'a>, id: &str) -> Option<&'m [&'a str]>
     matches.get_raw(id)
 }
 
-/// What stands on a line: its operands in order, how often each option without a value stands, and the values of
-/// `--max-structures`. A count stops at 255.
+/// What stands on a line: its operands in order, how often each option without a value stands, and the values
+/// of `--max-structures`. A count stops at 255.
 #[derive(Clone, Copy)]
 pub struct Line<'m, 'a> {
     pub operands: Option<&'m [&'a str]>,

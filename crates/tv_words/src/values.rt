@@ -79,8 +79,8 @@ pub fn stands(uses: u8) -> Option<bool>
     }
 }
 
-/// The mode, and whether updates are differenced, by how often `--recompute` and `--delta` stand: each once at
-/// most, and not together.
+/// The mode, and whether updates are differenced, by how often `--recompute` and `--delta` stand: each once
+/// at most, and not together.
 pub fn updating(recompute: u8, delta: u8) -> Option<(Mode, bool)>
     ensures some { IfSome result (λ found. AreUses recompute delta found.0 found.1) }
     ensures none { IfNone result ((mode : Mode) (differenced : Bool) → ¬ AreUses recompute delta mode

@@ -25,8 +25,8 @@ pub enum Command {
         mode: Mode,
         delta: bool,
     },
-    /// Judges a report on a program and initial structures; `maps` asks for the report with its maps; `delta` is
-    /// as for `Analyze`.
+    /// Judges a report on a program and initial structures; `maps` asks for the report with its maps; `delta`
+    /// is as for `Analyze`.
     Check {
         program: String,
         initial: String,
@@ -73,7 +73,8 @@ fn has_no_flags(line: &Line<'_, '_>) -> bool
 
 /// The command of the name `analyze` that the line says.
 fn analyze(alloc: Global, line: &Line<'_, '_>) -> Result<Option<Command>, AllocError>
-    ensures some { IfOk result (λ found. IfSome found (SaidOf (IsSaid (codes "analyze") (line_in line.now)))) }
+    ensures some { IfOk result
+        (λ found. IfSome found (SaidOf (IsSaid (codes "analyze") (line_in line.now)))) }
     ensures none { IfOk result (λ found. IfNone found (NoneSaid (codes "analyze") (line_in line.now))) }
 {
     let Some((program, initial)) = two(line.operands) else {

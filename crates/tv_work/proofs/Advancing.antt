@@ -1,5 +1,6 @@
 -- How a search advances.
-use Rattle.std.proofs.Common.{ℕ, ◌≡◌, ◌<◌, ◌≤◌, ◌⊎◌, inl, inr, List, [], ◌∷◌, ◌++◌, length, get_or, replicate, zero, suc, None, Some, refl, sym, ap, subst, ◌∙◌, arith}
+use Rattle.std.proofs.Common.{ℕ, ◌≡◌, ◌<◌, ◌≤◌, ◌⊎◌, inl, inr, List, [], ◌∷◌, ◌++◌, length, get_or, replicate}
+use Rattle.std.proofs.Common.{zero, suc, None, Some, refl, sym, ap, subst, ◌∙◌, arith}
 use Rattle.std.specs.Prelude.{All, Contains, sum_by, slice_get}
 use Rattle.std.proofs.lemmas.Bool.{cases_lt}
 use Rattle.std.proofs.lemmas.List.{length-replicate, get_or-replicate, get_or_default, get_or_past}
@@ -14,11 +15,12 @@ use Rattle.tv_model.specs.Valid.{IsEdge, IsValid}
 use Rattle.tv_model.proofs.Lists.{Contains-none, slice_get-contains}
 use Rattle.tv_listing.specs.ListingForm.{at_node}
 use Rattle.tv_struct.specs.StructureForm.{StructureForm}
-use Rattle.tv_transfer.specs.Budgets.{KeepsBudgets}
-use Rattle.tv_transfer.specs.Settled.{IsSettled}
-use Rattle.tv_transfer.specs.Transfer.{AreResults, IsMessageValue, IsOpening}
+use Rattle.tv_step_laws.specs.Budgets.{KeepsBudgets}
+use Rattle.tv_step_laws.specs.Settled.{IsSettled}
+use Rattle.tv_step_laws.specs.Transfer.{AreResults, IsMessageValue, IsOpening}
 use Rattle.tv_work.specs.Analysed.{IsAtSource}
-use Rattle.tv_work.specs.Explored.{IsKept, AreSaid, Advances, IsOpenedIn, IsDone, IsDoneAlong, AreDone, DoesAlong, Does, KeepsListed, IsExplored}
+use Rattle.tv_work.specs.Explored.{IsSearchState, AreSaid, Advances, IsOpenedIn, AreStepsDone, IsDoneAlong}
+use Rattle.tv_work.specs.Explored.{AreDone, DoesAlong, Does, KeepsListed, IsExplored}
 use Rattle.tv_work.specs.Reach.{Point, IsListed}
 use Rattle.tv_work.specs.Search.{SearchForm, StandsFor, Waits, IsOnce, IsWithin, Grows, ListsOnly}
 use Rattle.tv_work.specs.Task.{TaskForm, reached_in}
@@ -56,7 +58,7 @@ stands-once listing w x y a b =
 -- ---- what a search keeps
 
 pub kept-none : (t : TaskForm)
-    → IsKept t (record { listing = replicate (length t.program.nodes) []; waiting = []; count = 0 })
+    → IsSearchState t (record { listing = replicate (length t.program.nodes) []; waiting = []; count = 0 })
 kept-none t = record {
   nodes = length-replicate (length t.program.nodes) [];
   within = record { count = sym (none (length t.program.nodes)); most = omega arith };
@@ -69,11 +71,11 @@ kept-none t = record {
     none (suc n) = omega (arith, sum_by-cons {X = List StructureForm} length [] (replicate n []), none n)
 
 -- what is new is reached and settled
-pub kept-more : (t : TaskForm) (P : Point → Type 0) (old new : SearchForm) → IsKept t old → Grows old new
+pub kept-more : (t : TaskForm) (P : Point → Type 0) (old new : SearchForm) → IsSearchState t old → Grows old new
     → IsWithin t.max new
     → ListsOnly P old new → ((x : Point) → P x → reached_in t x)
     → ((x : Point) → P x → IsSettled t.program x.structure)
-    → IsKept t new
+    → IsSearchState t new
 kept-more t P old new kept grows within only reached settled = record {
   nodes = grows.nodes ∙ kept.nodes;
   within = within;
@@ -108,13 +110,13 @@ start-reached t s u (k, within, at) opening = record {
 module _ (t : TaskForm) (s u : StructureForm) (initial : Contains t.initial s)
     (opening : IsOpening t.program s u)
     (is_settled : IsSettled t.program u) where
-  pub open-reached : (old : SearchForm) → IsKept t old → (x : Point)
+  pub open-reached : (old : SearchForm) → IsSearchState t old → (x : Point)
       → IsListed old.listing x ⊎ (x ≡ record { node = 0; structure = u }) → reached_in t x
   open-reached old kept x (inl has) = kept.reached x has
   open-reached old kept x (inr e) = subst (reached_in t) (sym e) (start-reached t s u initial opening)
 
-  pub open-kept : (old new : SearchForm) → IsKept t old → Grows old new
-      → ListsOnly (λ x. x ≡ record { node = 0; structure = u }) old new → IsWithin t.max new → IsKept t new
+  pub open-kept : (old new : SearchForm) → IsSearchState t old → Grows old new
+      → ListsOnly (λ x. x ≡ record { node = 0; structure = u }) old new → IsWithin t.max new → IsSearchState t new
   open-kept old new kept grows only within = kept-more t (λ x. x ≡ record { node = 0; structure = u }) old new
       kept grows within only
       (λ x e. open-reached old kept x (inr e)) (λ x e. subst (λ (y : Point). IsSettled t.program y.structure)
@@ -175,7 +177,7 @@ module _ (t : TaskForm) (old new : List (List StructureForm)) (told more : List 
     budgets = done.budgets;
   }
 
-  pub done-kept : (x : Point) → IsDone t old told x → IsDone t new more x
+  pub done-kept : (x : Point) → AreStepsDone t old told x → AreStepsDone t new more x
   done-kept x done edge taken at leaves = along-kept edge taken x.structure (done edge taken at leaves)
 
 pub advances-on : (a b c : SearchForm) (k l m : List (List K3)) → Advances a k b l → Advances b l c m
@@ -194,7 +196,7 @@ pub all-wait : (t : TaskForm) (nodes : ℕ) (s : SearchForm) (told : List (List 
     → Grows (record { listing = replicate nodes []; waiting = []; count = 0 }) s → AreDone t s told
 all-wait t nodes s told grows x has = by (grows.fresh x has)
   where
-    by : IsListed (replicate nodes []) x ⊎ Waits s x → Waits s x ⊎ IsDone t s.listing told x
+    by : IsListed (replicate nodes []) x ⊎ Waits s x → Waits s x ⊎ AreStepsDone t s.listing told x
     by (inl none) = absurd (nothing-listed nodes x none)
     by (inr waits) = inl waits
 
@@ -209,26 +211,26 @@ pub done-next : (t : TaskForm) (popped new : SearchForm) (told more : List (List
 done-next t popped new told more w done advances does x has = by (advances.grows.fresh x has)
   where
     waited : (v : Waiting) → Contains popped.waiting v ⊎ (w ≡ v) → StandsFor popped.listing v x
-        → Waits new x ⊎ IsDone t new.listing more x
+        → Waits new x ⊎ AreStepsDone t new.listing more x
     waited v (inl still) stands = inl (waits-on popped new x advances.grows (v, still, stands))
     waited v (inr e) stands = inr (does x (subst (λ u. StandsFor popped.listing u x) (sym e) stands))
 
-    before : Waits (with_last popped w) x ⊎ IsDone t popped.listing told x → Waits new x
-        ⊎ IsDone t new.listing more x
+    before : Waits (with_last popped w) x ⊎ AreStepsDone t popped.listing told x → Waits new x
+        ⊎ AreStepsDone t new.listing more x
     before (inl (v, has_it, stands)) = waited v (Contains-push_cases popped.waiting w v has_it) stands
     before (inr is) = inr (done-kept t popped.listing new.listing told more advances.grows.kept advances.rises
         x is)
 
-    by : IsListed popped.listing x ⊎ Waits new x → Waits new x ⊎ IsDone t new.listing more x
+    by : IsListed popped.listing x ⊎ Waits new x → Waits new x ⊎ AreStepsDone t new.listing more x
     by (inl listed) = before (done x listed)
     by (inr waits) = inl waits
 
 -- where nothing waits all is done
 pub all-done : (t : TaskForm) (s : SearchForm) (told : List (List K3)) → AreDone t s told → s.waiting ≡ []
-    → (x : Point) → IsListed s.listing x → IsDone t s.listing told x
+    → (x : Point) → IsListed s.listing x → AreStepsDone t s.listing told x
 all-done t s told done none x has = by (done x has)
   where
-    by : Waits s x ⊎ IsDone t s.listing told x → IsDone t s.listing told x
+    by : Waits s x ⊎ AreStepsDone t s.listing told x → AreStepsDone t s.listing told x
     by (inl (w, waits, stands)) = absurd (Contains-none w (subst (λ l. Contains l w) none waits))
     by (inr is) = is
 
@@ -255,7 +257,7 @@ module _ (t : TaskForm) (edge to : ℕ) (taken : Edge) (x : Point) (results : Li
   abbrev pub Arrives : Point → Type 0
   Arrives y = (y.node ≡ to) × Contains results y.structure
 
-  pub arrived-reached : (old : SearchForm) → IsKept t old → IsListed old.listing x → (y : Point)
+  pub arrived-reached : (old : SearchForm) → IsSearchState t old → IsListed old.listing x → (y : Point)
       → IsListed old.listing y ⊎ Arrives y → reached_in t y
   arrived-reached old kept has y (inl listed) = kept.reached y listed
   arrived-reached old kept has y (inr (here, among)) =
@@ -263,9 +265,9 @@ module _ (t : TaskForm) (edge to : ℕ) (taken : Edge) (x : Point) (results : Li
       (record { taken = taken; is_edge = is_edge; leaves = leaves; has = kept.reached x has })
       results are y (here ∙ enters) among
 
-  pub arrived-kept : (old new : SearchForm) → IsKept t old → IsListed old.listing x → Grows old new
+  pub arrived-kept : (old new : SearchForm) → IsSearchState t old → IsListed old.listing x → Grows old new
       → ListsOnly Arrives old new
-      → IsWithin t.max new → IsKept t new
+      → IsWithin t.max new → IsSearchState t new
   arrived-kept old new kept has grows only within = kept-more t Arrives old new kept grows within only
       (λ y among. arrived-reached old kept has y (inr among))
       (λ y among. All-contains (IsSettled t.program) results y.structure all_settled among.1)
@@ -334,7 +336,7 @@ pub leaving-at : (lists : List (List ℕ)) (node : ℕ) (list items : List ℕ) 
     → items ≡ get_or lists node list → items ≡ get_or lists node []
 leaving-at lists node list items within is = is ∙ get_or_default lists node list [] within
 
-pub kept-popped : (t : TaskForm) (s : SearchForm) (w : Waiting) → IsKept t (with_last s w) → IsKept t s
+pub kept-popped : (t : TaskForm) (s : SearchForm) (w : Waiting) → IsSearchState t (with_last s w) → IsSearchState t s
 kept-popped t s w kept = record {
   nodes = kept.nodes;
   within = record { count = kept.within.count; most = kept.within.most };
@@ -343,7 +345,7 @@ kept-popped t s w kept = record {
 }
 
 -- where nothing waits all is explored
-pub explored-all : (t : TaskForm) (first s : SearchForm) (told : List (List K3)) → IsKept t s
+pub explored-all : (t : TaskForm) (first s : SearchForm) (told : List (List K3)) → IsSearchState t s
     → AreSaid t s.listing told
     → AreDone t s told → s.waiting ≡ [] → ((node : ℕ) → IsOnce (at_node s.listing node))
     → KeepsListed first.listing s.listing

@@ -2,8 +2,10 @@
 use Rattle.std.proofs.Common.{ℕ, Result, Ok, Err, IfErr, OnOk}
 use Rattle.tv_model.specs.Program.{ProgramForm}
 use Rattle.tv_struct.specs.declared.analysis.StageError.{StageError}
-use Rattle.tv_struct.specs.declared.analysis.StageError.TheVariants.{Splits as splits, Individuals as individuals, Memory as memory}
-use Rattle.tv_transfer.specs.Budgets.{IsStepCause}
+use Rattle.tv_struct.specs.declared.analysis.StageError.TheVariants.{Splits as splits}
+use Rattle.tv_struct.specs.declared.analysis.StageError.TheVariants.{Individuals as individuals}
+use Rattle.tv_struct.specs.declared.analysis.StageError.TheVariants.{Memory as memory}
+use Rattle.tv_step_laws.specs.Budgets.{IsStepCause}
 use Rattle.tv_work.specs.Analysed.{IsAtSource, IsWorkCause, IsMeetCause, work_error}
 use Rattle.tv_work.specs.Reach.{Point, AreMoreThan}
 use Rattle.tv_work.specs.declared.error.WorkError.{WorkError}

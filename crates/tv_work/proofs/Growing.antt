@@ -1,15 +1,18 @@
 -- How a search grows.
-use Rattle.std.proofs.Common.{ℕ, ◌≡◌, ◌≢◌, ◌<◌, ◌+◌, ◌-◌, ◌⊎◌, inl, inr, List, [], ◌∷◌, ◌++◌, length, get_or, None, refl, sym, ap, subst, ◌∙◌, arith}
+use Rattle.std.proofs.Common.{ℕ, ◌≡◌, ◌≢◌, ◌<◌, ◌+◌, ◌-◌, ◌⊎◌, inl, inr, List, [], ◌∷◌, ◌++◌, length, get_or}
+use Rattle.std.proofs.Common.{None, refl, sym, ap, subst, ◌∙◌, arith}
 use Rattle.std.specs.Prelude.{All, AllPairs, Contains}
 use Rattle.std.proofs.lemmas.List.{length-append, length-set, get_or_default}
-use Rattle.std.proofs.lemmas.List.Elements.{Contains-append_left, Contains-push, Contains-push_cases, All-push}
+use Rattle.std.proofs.lemmas.List.Elements.{Contains-append_left, Contains-push, Contains-push_cases}
+use Rattle.std.proofs.lemmas.List.Elements.{All-push}
 use Rattle.tv_listing.specs.ListingForm.{at_node, appended, HasEqual}
 use Rattle.tv_struct.specs.StructureForm.{StructureForm, unmarked}
 use Rattle.tv_work.specs.Reach.{Point, IsListed, AreMoreThan}
 use Rattle.tv_work.specs.Search.{SearchForm, Waits, IsOnce, IsSearch, IsWithin, Grows, ListsOnly}
 use Rattle.tv_work.specs.declared.search.Waiting.{Waiting}
 use Rattle.tv_work.proofs.Once.{once-push, once-different}
-use Rattle.tv_work.proofs.Meeting.{at-same, at-each, listed-kept, listed-cases, stands-kept, stands-last, longer, total-more}
+use Rattle.tv_work.proofs.Meeting.{at-same, at-each, listed-kept, listed-cases, stands-kept, stands-last}
+use Rattle.tv_work.proofs.Meeting.{longer, total-more}
 
 pub grows-none : (s : SearchForm) → Grows s s
 grows-none s = record {

@@ -1,9 +1,12 @@
 -- Edges are put behind those of their sources, one after the other.
-use Rattle.std.proofs.Common.{ℕ, ◌≡◌, ◌≢◌, ◌<◌, ◌≤◌, ◌+◌, ◌⊎◌, inl, inr, List, [], ◌∷◌, ◌++◌, length, get_or, set, Some, refl, sym, ap, subst, ◌∙◌, arith}
-use Rattle.std.specs.Prelude.{◌↔◌, Contains, slice_get}
+use Rattle.std.proofs.Common.{ℕ, ◌≡◌, ◌≢◌, ◌<◌, ◌≤◌, ◌+◌, ◌⊎◌, inl, inr, List, [], ◌∷◌, ◌++◌, length, get_or}
+use Rattle.std.proofs.Common.{set, Some, refl, sym, ap, subst, ◌∙◌, arith}
+use Rattle.std.specs.Prelude.{◌↔◌, AllPairs, Contains, slice_get}
 use Rattle.std.proofs.lemmas.Bool.{cases_eq, cases_lt}
 use Rattle.std.proofs.lemmas.List.{get_or-set_same, get_or-set_other, length-set}
-use Rattle.std.proofs.lemmas.List.Elements.{Contains-append_left, Contains-push, Contains-push_cases}
+use Rattle.std.proofs.lemmas.List.Elements.{Contains-append_left, Contains-get_or, Contains-push}
+use Rattle.std.proofs.lemmas.List.Elements.{Contains-push_cases}
+use Rattle.std.proofs.lemmas.List.Quantifiers.{all_pairs_push}
 use Rattle.std.proofs.lemmas.Option.{slice_get_read, slice_get_within, same_Some}
 use Rattle.tv_model.specs.declared.program.Edge.{Edge}
 use Rattle.tv_work.specs.Leaving.{AreLeaving, LeavesBy}
@@ -13,6 +16,7 @@ pub record AreLeavingTo (edges : List Edge) (nodes number : ℕ) (lists : List (
   pub count : length lists ≡ nodes
   pub each : (node edge : ℕ) → Contains (get_or lists node []) edge
       ↔ ((edge < number) × LeavesBy edges node edge)
+  pub ordered : (node : ℕ) → AllPairs ◌<◌ (get_or lists node [])
 
 pub leaving-all : (edges : List Edge) (nodes number : ℕ) (lists : List (List ℕ))
     → AreLeavingTo edges nodes number lists
@@ -26,6 +30,7 @@ leaving-all edges nodes number lists all past = record {
       (taken, at, from),
     ),
   );
+  ordered = all.ordered;
 }
 
 module _ (edges : List Edge) (lists : List (List ℕ)) (number : ℕ) (taken : Edge)
@@ -99,4 +104,14 @@ module _ (edges : List Edge) (lists : List (List ℕ)) (number : ℕ) (taken : E
   leaving-next nodes all = record {
     count = length-set lists taken.from (own ++ number ∷ []) ∙ all.count;
     each = at-each all.each;
+    ordered = λ node. by node (cases_eq node taken.from);
   }
+    where
+      by : (node : ℕ) → (node ≡ taken.from) ⊎ (node ≢ taken.from) → AllPairs ◌<◌ (get_or more node [])
+      by node (inl same) =
+          subst (λ n. AllPairs ◌<◌ (get_or more n [])) (sym same)
+          (subst (AllPairs ◌<◌) (sym (get_or-set_same lists taken.from (own ++ number ∷ []) [] has_node))
+          (all_pairs_push ◌<◌ own number (all.ordered taken.from)
+          (λ k d lt. ((all.each taken.from (get_or own k d)).0 (Contains-get_or own k d lt)).0)))
+      by node (inr differs) =
+          subst (AllPairs ◌<◌) (sym (get_or-set_other lists taken.from node (own ++ number ∷ []) [] differs)) (all.ordered node)

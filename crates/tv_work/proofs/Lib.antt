@@ -2,6 +2,7 @@ pub mod Once
 pub mod Meeting
 pub mod Growing
 pub mod Leaves
+pub mod Single
 pub mod Larger
 pub mod Saying
 pub mod Lines

@@ -1,5 +1,6 @@
 -- Structures of which none stands twice.
-use Rattle.std.proofs.Common.{ℕ, ◌≡◌, ◌≢◌, ◌<◌, ◌≤◌, ◌+◌, suc, Bool, true, false, true≢false, List, [], ◌∷◌, ◌++◌, length, get_or, take, refl, sym, ap, ◌∙◌, arith, if◌then◌else◌}
+use Rattle.std.proofs.Common.{ℕ, ◌≡◌, ◌≢◌, ◌<◌, ◌≤◌, ◌+◌, suc, Bool, true, false, true≢false, List, [], ◌∷◌}
+use Rattle.std.proofs.Common.{◌++◌, length, get_or, take, refl, sym, ap, ◌∙◌, arith, if◌then◌else◌}
 use Rattle.std.specs.Prelude.{AllPairs, sum_by, IsPermutation, IsSorted}
 use Rattle.std.specs.List.Sorted.{IsStrictlySortedBy}
 use Rattle.std.specs.Ordering.{is_eq, is_lt, ordering_reverse}

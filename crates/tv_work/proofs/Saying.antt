@@ -1,5 +1,6 @@
 -- Values of messages are noted.
-use Rattle.std.proofs.Common.{ℕ, ◌≡◌, ◌≢◌, ◌<◌, ◌≤◌, ◌⊎◌, inl, inr, List, length, get_or, Some, refl, sym, ap, subst, ◌∙◌, eq-eqb, arith}
+use Rattle.std.proofs.Common.{ℕ, ◌≡◌, ◌≢◌, ◌<◌, ◌≤◌, ◌⊎◌, inl, inr, List, length, get_or, Some, refl, sym, ap}
+use Rattle.std.proofs.Common.{subst, ◌∙◌, eq-eqb, arith}
 use Rattle.std.specs.Prelude.{slice_get}
 use Rattle.std.proofs.lemmas.Bool.{cases_eq, cases_lt, ne_eqb}
 use Rattle.std.proofs.lemmas.List.{get_or_past, length-map}
@@ -12,8 +13,8 @@ use Rattle.tv_model.specs.Program.{ProgramForm}
 use Rattle.tv_model.specs.Valid.{IsAction, IsValid}
 use Rattle.tv_model.proofs.Lists.{slice_get-contains}
 use Rattle.tv_struct.specs.StructureForm.{StructureForm}
-use Rattle.tv_transfer.specs.Transfer.{AreMessageValues, IsMessageValue, message_value}
-use Rattle.tv_transfer.proofs.Exact.{values-once}
+use Rattle.tv_step_laws.specs.Transfer.{AreMessageValues, IsMessageValue, message_value}
+use Rattle.tv_step_laws.proofs.Exact.{values-once}
 use Rattle.tv_work.specs.Analysed.{IsAtSource, IsSaid}
 use Rattle.tv_work.specs.Explored.{AreSaid, KeepsListed}
 use Rattle.tv_work.specs.Reach.{Point, IsListed}

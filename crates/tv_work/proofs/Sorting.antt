@@ -1,5 +1,6 @@
 -- What is known of a listing is known of it in order.
-use Rattle.std.proofs.Common.{ℕ, ◌≡◌, ◌<◌, ◌≤◌, ◌⊎◌, inl, inr, List, [], length, get_or, map, sym, ap, subst, ◌∙◌, arith}
+use Rattle.std.proofs.Common.{ℕ, ◌≡◌, ◌<◌, ◌≤◌, ◌⊎◌, inl, inr, List, [], length, get_or, map, sym, ap, subst}
+use Rattle.std.proofs.Common.{◌∙◌, arith}
 use Rattle.std.specs.Prelude.{All, Contains, sum_by, sum}
 use Rattle.std.specs.List.Sorted.{IsStrictlySortedBy}
 use Rattle.std.proofs.lemmas.Bool.{cases_lt}
@@ -14,8 +15,8 @@ use Rattle.tv_model.proofs.Lists.{All-from_contains, Contains-none}
 use Rattle.tv_listing.specs.ListingForm.{at_node, AreSorted}
 use Rattle.tv_struct.specs.Order.{structure_cmp}
 use Rattle.tv_struct.specs.StructureForm.{StructureForm, IsStructure, IsOver}
-use Rattle.tv_transfer.specs.Shaped.{IsShaped}
-use Rattle.tv_transfer.proofs.Shapes.{shaped-over}
+use Rattle.tv_step_laws.specs.Shaped.{IsShaped}
+use Rattle.tv_step_laws.proofs.Shapes.{shaped-over}
 use Rattle.tv_work.specs.Explored.{IsExplored, IsOpenedIn, KeepsListed}
 use Rattle.tv_work.specs.Reach.{Point, IsListed}
 use Rattle.tv_work.specs.Search.{IsOnce}

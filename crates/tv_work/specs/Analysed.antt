@@ -1,5 +1,6 @@
 -- What an analysis answers: exactly the reached points and the messages that may be true at them.
-use Rattle.std.specs.Prelude.{ℕ, ◌≡◌, ◌≢◌, ◌<◌, ◌≤◌, ◌⊎◌, ◌↔◌, List, length, sum_by, Some, All, AllPairs, Contains, slice_get}
+use Rattle.std.specs.Prelude.{ℕ, ◌≡◌, ◌≢◌, ◌<◌, ◌≤◌, ◌⊎◌, ◌↔◌, List, length, sum_by, Some, All, AllPairs}
+use Rattle.std.specs.Prelude.{Contains, slice_get}
 use Rattle.std.specs.List.Sorted.{IsStrictlySortedBy}
 use Rattle.tv_kleene.specs.declared.K3.{K3}
 use Rattle.tv_kleene.specs.declared.K3.TheVariants.{No}
@@ -12,9 +13,11 @@ use Rattle.tv_struct.specs.Order.{structure_cmp}
 use Rattle.tv_struct.specs.StructureForm.{StructureForm}
 use Rattle.tv_listing.specs.declared.analysis.MessageLine.{MessageLine}
 use Rattle.tv_struct.specs.declared.analysis.StageError.{StageError}
-use Rattle.tv_struct.specs.declared.analysis.StageError.TheVariants.{Splits as splits, Individuals as individuals, Memory as memory}
-use Rattle.tv_transfer.specs.Transfer.{IsMessageValue}
-use Rattle.tv_transfer.specs.Budgets.{KeepsBudgets, MeetsSplits, MeetsIndividuals}
+use Rattle.tv_struct.specs.declared.analysis.StageError.TheVariants.{Splits as splits}
+use Rattle.tv_struct.specs.declared.analysis.StageError.TheVariants.{Individuals as individuals}
+use Rattle.tv_struct.specs.declared.analysis.StageError.TheVariants.{Memory as memory}
+use Rattle.tv_step_laws.specs.Transfer.{IsMessageValue}
+use Rattle.tv_step_laws.specs.Budgets.{KeepsBudgets, MeetsSplits, MeetsIndividuals}
 use Rattle.tv_work.specs.Reach.{Point, IsReached, AreMoreThan}
 use Rattle.tv_work.specs.declared.error.WorkError.{WorkError}
 use Rattle.tv_work.specs.declared.error.WorkError.TheVariants.{Structures, Splits, Individuals, Memory}

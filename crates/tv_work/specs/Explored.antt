@@ -6,9 +6,9 @@ use Rattle.tv_kleene.specs.Kleene.{larger_of}
 use Rattle.tv_model.specs.declared.program.Edge.{Edge}
 use Rattle.tv_listing.specs.ListingForm.{at_node}
 use Rattle.tv_struct.specs.StructureForm.{StructureForm}
-use Rattle.tv_transfer.specs.Budgets.{KeepsBudgets}
-use Rattle.tv_transfer.specs.Settled.{IsSettled}
-use Rattle.tv_transfer.specs.Transfer.{AreResults, IsMessageValue, IsOpening, HasNoOpening}
+use Rattle.tv_step_laws.specs.Budgets.{KeepsBudgets}
+use Rattle.tv_step_laws.specs.Settled.{IsSettled}
+use Rattle.tv_step_laws.specs.Transfer.{AreResults, IsMessageValue, IsOpening, HasNoOpening}
 use Rattle.tv_work.specs.Analysed.{IsSaid}
 use Rattle.tv_work.specs.Reach.{Point, IsListed}
 use Rattle.tv_work.specs.Search.{SearchForm, StandsFor, Waits, IsWithin, IsOnce, Grows}
@@ -17,7 +17,7 @@ use Rattle.tv_work.specs.Told.{told_value}
 use Rattle.tv_work.specs.declared.search.Waiting.{Waiting}
 
 -- only reached structures are listed, each of them settled
-pub record IsKept (t : TaskForm) (s : SearchForm) : Type 0 where
+pub record IsSearchState (t : TaskForm) (s : SearchForm) : Type 0 where
   pub nodes : length s.listing ≡ length t.program.nodes
   pub within : IsWithin t.max s
   pub reached : (x : Point) → IsListed s.listing x → reached_in t x
@@ -56,14 +56,14 @@ pub record IsDoneAlong (t : TaskForm) (listing : List (List StructureForm)) (tol
   pub budgets : KeepsBudgets t.program edge s
 
 -- so are all its steps
-abbrev pub IsDone : TaskForm → (listing : List (List StructureForm)) → (told : List (List K3)) → Point
+abbrev pub AreStepsDone : TaskForm → (listing : List (List StructureForm)) → (told : List (List K3)) → Point
     → Type 0
-IsDone t listing told x = (edge : ℕ) (taken : Edge) → slice_get t.program.edges edge ≡ Some taken
+AreStepsDone t listing told x = (edge : ℕ) (taken : Edge) → slice_get t.program.edges edge ≡ Some taken
     → taken.from ≡ x.node → IsDoneAlong t listing told edge taken x.structure
 
 -- each listed structure waits or is done
 abbrev pub AreDone : TaskForm → SearchForm → (told : List (List K3)) → Type 0
-AreDone t s told = (x : Point) → IsListed s.listing x → Waits s x ⊎ IsDone t s.listing told x
+AreDone t s told = (x : Point) → IsListed s.listing x → Waits s x ⊎ AreStepsDone t s.listing told x
 
 -- what was listed at the place is then done along the edge
 abbrev pub DoesAlong : TaskForm → Waiting → (edge : ℕ) → (old new : SearchForm) → (told : List (List K3))
@@ -73,7 +73,7 @@ DoesAlong t w edge old new told = (x : Point) (taken : Edge) → StandsFor old.l
 
 -- and along all edges
 abbrev pub Does : TaskForm → Waiting → (old new : SearchForm) → (told : List (List K3)) → Type 0
-Does t w old new told = (x : Point) → StandsFor old.listing w x → IsDone t new.listing told x
+Does t w old new told = (x : Point) → StandsFor old.listing w x → AreStepsDone t new.listing told x
 
 -- what is listed stays listed
 abbrev pub KeepsListed : (old new : List (List StructureForm)) → Type 0
@@ -89,4 +89,4 @@ pub record IsExplored (t : TaskForm) (listing : List (List StructureForm)) (told
     pub settled : (x : Point) → IsListed listing x → IsSettled t.program x.structure
     pub opened : All (IsOpenedIn t listing) t.initial
     pub said : AreSaid t listing told
-    pub done : (x : Point) → IsListed listing x → IsDone t listing told x
+    pub done : (x : Point) → IsListed listing x → AreStepsDone t listing told x

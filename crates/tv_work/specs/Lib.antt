@@ -1,6 +1,7 @@
 pub mod Reach
 pub mod Analysed
 pub mod Task
+pub mod Laws
 pub mod Leaving
 pub mod Search
 pub mod Told

@@ -1,12 +1,13 @@
 -- What abstract steps reach: structures at nodes, and the derivations that lead to them (Sagiv, Reps and
 -- Wilhelm 2002, section 6: the least set that is closed under the steps).
-use Rattle.std.specs.Prelude.{ℕ, ◌≡◌, ◌≢◌, ◌<◌, List, [], ◌∷◌, length, Some, sum_by, Any, All, AllPairs, Contains, slice_get}
+use Rattle.std.specs.Prelude.{ℕ, ◌≡◌, ◌≢◌, ◌<◌, List, [], ◌∷◌, length, Some, sum_by, Any, All, AllPairs}
+use Rattle.std.specs.Prelude.{Contains, slice_get}
 use Rattle.tv_model.specs.declared.program.Edge.{Edge}
 use Rattle.tv_model.specs.declared.program.Mode.{Mode}
 use Rattle.tv_model.specs.Program.{ProgramForm}
 use Rattle.tv_listing.specs.ListingForm.{at_node}
 use Rattle.tv_struct.specs.StructureForm.{StructureForm}
-use Rattle.tv_transfer.specs.Transfer.{IsOpening, IsResult}
+use Rattle.tv_step_laws.specs.Transfer.{IsOpening, IsResult}
 
 -- a structure at a node
 pub record Point : Type 0 where

@@ -5,7 +5,7 @@ ghost use Rattle.tv_listing.specs.ListingForm.{AreSorted};
 ghost use Rattle.tv_model.specs.Program.{program_of};
 ghost use Rattle.tv_model.specs.Valid.{IsValid};
 ghost use Rattle.tv_struct.specs.StructureForm.{IsStructure, IsOver};
-ghost use Rattle.tv_transfer.specs.Closed.{IsClosed, CoversRuns};
+ghost use Rattle.tv_step_laws.specs.Closed.{IsClosed, CoversRuns};
 ghost use Rattle.tv_work.specs.Analysed.{IsAnalysis, IsWorkCause};
 ghost use Rattle.tv_work.specs.Explored.{IsExplored};
 ghost use Rattle.tv_work.specs.Reach.{IsReached};
@@ -48,6 +48,21 @@ fn explore(x: &Task, scratch: &mut Scratch) -> Result<Found, WorkError>
     })
 }
 
+/// The listing in order, with a line for each message that was told; it names no maps. The only error is want
+/// of memory.
+pub fn analysis_of(alloc: Global, listing: Listing, told: Told) -> Result<Analysis, AllocError>
+    requires { length told ≤ 16384 }
+    ensures listing { IfOk result (λ a. AreSorted listing a.listing) }
+    ensures messages { IfOk result (λ a. AreLines told a.messages) }
+    ensures maps { IfOk result (λ a. a.maps ≡ []) }
+{
+    Ok(Analysis {
+        listing: listing.sorted()?,
+        messages: told.lines(alloc)?,
+        maps: Items::new(alloc),
+    })
+}
+
 /// The same in order, with a line for each message that may be true.
 fn answer(alloc: Global, found: Found) -> Result<Analysis, AllocError>
     requires { length found.told ≤ 16384 }
@@ -56,11 +71,7 @@ fn answer(alloc: Global, found: Found) -> Result<Analysis, AllocError>
     ensures maps { IfOk result (λ a. a.maps ≡ []) }
 {
     let Found { listing, told } = found;
-    Ok(Analysis {
-        listing: listing.sorted()?,
-        messages: told.lines(alloc)?,
-        maps: Items::new(alloc),
-    })
+    analysis_of(alloc, listing, told)
 }
 
 /// All that abstract steps reach from the openings of the initial structures, listed by node, and the

@@ -8,7 +8,8 @@ ghost use Rattle.tv_work.specs.Leaving.{LeavesBy};
 ghost use Rattle.tv_work.specs.Reach.{Point};
 ghost use Rattle.tv_work.specs.Search.{Grows, StandsFor};
 ghost use Rattle.tv_work.specs.Task.{form_in, task_of, IsReady, reached_in};
-ghost use Rattle.tv_work.specs.Explored.{IsKept, AreSaid, Advances, IsOpenedIn, AreDone, DoesAlong, Does, KeepsListed};
+ghost use Rattle.tv_work.specs.Explored.{IsSearchState, AreSaid, Advances, IsOpenedIn, AreDone, DoesAlong};
+ghost use Rattle.tv_work.specs.Explored.{Does, KeepsListed};
 
 use crate::WorkError;
 use crate::search::{Search, Waiting};
@@ -26,8 +27,8 @@ fn open(
 ) -> Result<(), WorkError>
     requires ready { IsReady x.now scratch.old }
     requires initial { Contains x.now.initial.now s.now }
-    requires kept { IsKept (task_of x.now) search.old }
-    ensures kept { OnOk result (IsKept (task_of x.now) search.new) }
+    requires kept { IsSearchState (task_of x.now) search.old }
+    ensures kept { OnOk result (IsSearchState (task_of x.now) search.new) }
     ensures grows { OnOk result (Grows search.old search.new) }
     ensures opened { OnOk result (IsOpenedIn (task_of x.now) search.new.listing s.now) }
     ensures cause { IfErr result (IsWorkCause (form_in x.now) x.now.max (reached_in (task_of x.now))) }
@@ -42,8 +43,8 @@ fn open(
 /// The same for all initial structures.
 pub fn open_all(x: &Task, scratch: &mut Scratch, search: &mut Search) -> Result<(), WorkError>
     requires ready { IsReady x.now scratch.old }
-    requires kept { IsKept (task_of x.now) search.old }
-    ensures kept { OnOk result (IsKept (task_of x.now) search.new) }
+    requires kept { IsSearchState (task_of x.now) search.old }
+    ensures kept { OnOk result (IsSearchState (task_of x.now) search.new) }
     ensures grows { OnOk result (Grows search.old search.new) }
     ensures opened { OnOk result (All (IsOpenedIn (task_of x.now) search.new.listing) x.now.initial.now) }
     ensures cause { IfErr result (IsWorkCause (form_in x.now) x.now.max (reached_in (task_of x.now))) }
@@ -68,9 +69,9 @@ fn follow_edge(
     requires ready { IsReady x.now scratch.old }
     requires place { w.place < length (at_node search.old.listing w.node) }
     requires edge { LeavesBy x.now.program.now.edges w.node edge }
-    requires kept { IsKept (task_of x.now) search.old }
+    requires kept { IsSearchState (task_of x.now) search.old }
     requires said { AreSaid (task_of x.now) search.old.listing told.old }
-    ensures kept { OnOk result (IsKept (task_of x.now) search.new) }
+    ensures kept { OnOk result (IsSearchState (task_of x.now) search.new) }
     ensures said { OnOk result (AreSaid (task_of x.now) search.new.listing told.new) }
     ensures advances { OnOk result (Advances search.old told.old search.new told.new) }
     ensures done { OnOk result (DoesAlong (task_of x.now) w edge search.old search.new told.new) }
@@ -93,9 +94,9 @@ fn follow(
 ) -> Result<(), WorkError>
     requires ready { IsReady x.now scratch.old }
     requires place { w.place < length (at_node search.old.listing w.node) }
-    requires kept { IsKept (task_of x.now) search.old }
+    requires kept { IsSearchState (task_of x.now) search.old }
     requires said { AreSaid (task_of x.now) search.old.listing told.old }
-    ensures kept { OnOk result (IsKept (task_of x.now) search.new) }
+    ensures kept { OnOk result (IsSearchState (task_of x.now) search.new) }
     ensures said { OnOk result (AreSaid (task_of x.now) search.new.listing told.new) }
     ensures advances { OnOk result (Advances search.old told.old search.new told.new) }
     ensures done { OnOk result (Does (task_of x.now) w search.old search.new told.new) }
@@ -116,10 +117,10 @@ pub fn follow_all(
     told: &mut Told,
 ) -> Result<(), WorkError>
     requires ready { IsReady x.now scratch.old }
-    requires kept { IsKept (task_of x.now) search.old }
+    requires kept { IsSearchState (task_of x.now) search.old }
     requires said { AreSaid (task_of x.now) search.old.listing told.old }
     requires done { AreDone (task_of x.now) search.old told.old }
-    ensures kept { OnOk result (IsKept (task_of x.now) search.new) }
+    ensures kept { OnOk result (IsSearchState (task_of x.now) search.new) }
     ensures said { OnOk result (AreSaid (task_of x.now) search.new.listing told.new) }
     ensures listed { OnOk result (KeepsListed search.old.listing search.new.listing) }
     ensures done { OnOk result (AreDone (task_of x.now) search.new told.new) }

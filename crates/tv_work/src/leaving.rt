@@ -1,6 +1,7 @@
 //! The edges that leave each node.
 
-ghost use Rattle.std.specs.Prelude.{◌≡◌, ◌<◌, [], ◌∷◌, ◌++◌, length, replicate, slice_set, slice_index_or, IfOk, OnOk};
+ghost use Rattle.std.specs.Prelude.{◌≡◌, ◌<◌, [], ◌∷◌, ◌++◌, length, replicate, slice_set, slice_index_or};
+ghost use Rattle.std.specs.Prelude.{IfOk, OnOk};
 ghost use Rattle.tv_model.specs.Program.{program_of};
 ghost use Rattle.tv_model.specs.Valid.{IsValid};
 ghost use Rattle.tv_work.specs.Leaving.{AreLeaving};
@@ -9,7 +10,7 @@ use std::alloc::{AllocError, Global};
 use tv_model::{Items, Program};
 use tv_struct::Numbers;
 
-/// For each node the numbers of the edges that leave it, in order.
+/// For each node the numbers of the edges that leave it, strictly ascending.
 pub fn leaving_edges(alloc: Global, program: &Program) -> Result<Vec<Numbers>, AllocError>
     requires valid { IsValid (program_of program.now) }
     ensures { IfOk result (λ lists. AreLeaving program.now.edges (length program.now.nodes) lists.items) }

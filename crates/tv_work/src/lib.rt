@@ -4,12 +4,14 @@
 mod analysis;
 mod error;
 mod follow;
+mod laws;
 mod leaving;
 mod search;
 mod task;
 mod told;
 
-pub use analysis::analyse;
+pub use analysis::{analyse, analysis_of};
 pub use error::WorkError;
+pub use laws::analyses_are_one;
 pub use leaving::leaving_edges;
 pub use told::Told;

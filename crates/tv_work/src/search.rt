@@ -1,6 +1,7 @@
 //! The worklist: what is listed so far, and what of it still waits to be followed.
 
-ghost use Rattle.std.specs.Prelude.{ℕ, ◌≡◌, ◌<◌, ◌≤◌, ◌⊎◌, [], ◌∷◌, ◌++◌, length, replicate, OnOk, OnErr, IfOk, IfErr, IfSome, IfNone, Contains, Some, None, All, Any, slice_get};
+ghost use Rattle.std.specs.Prelude.{ℕ, ◌≡◌, ◌<◌, ◌≤◌, ◌⊎◌, [], ◌∷◌, ◌++◌, length, replicate, OnOk, OnErr};
+ghost use Rattle.std.specs.Prelude.{IfOk, IfErr, IfSome, IfNone, Contains, Some, None, All, Any, slice_get};
 ghost use Rattle.tv_listing.specs.ListingForm.{at_node};
 ghost use Rattle.tv_struct.specs.StructureForm.{StructureForm, IsStructure};
 ghost use Rattle.tv_work.specs.Reach.{Point, IsListed};

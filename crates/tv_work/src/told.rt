@@ -1,6 +1,7 @@
 //! The greatest values of messages so far.
 
-ghost use Rattle.std.specs.Prelude.{◌≡◌, ◌<◌, ◌≤◌, ◌+◌, ℕ, [], ◌++◌, length, replicate, slice_index_or, max, IfOk, OnOk, OnErr};
+ghost use Rattle.std.specs.Prelude.{◌≡◌, ◌<◌, ◌≤◌, ◌+◌, ℕ, [], ◌++◌, length, replicate, slice_index_or, max};
+ghost use Rattle.std.specs.Prelude.{IfOk, OnOk, OnErr};
 ghost use Rattle.tv_kleene.specs.declared.K3.TheVariants.{No};
 ghost use Rattle.tv_kleene.specs.Kleene.{larger_of};
 ghost use Rattle.tv_work.specs.Told.{IsNoted, IsRaised, AreLines, AreLinesTo, line_of};
@@ -14,11 +15,11 @@ use tv_step::Values;
 
 /// The greatest values so far of the messages of one edge, by number; behind the last they are `No`.
 #[derive(Drop)]
-struct Row {
+struct GreatestValues {
     values: Vec<K3>,
 }
 
-impl Model for Row {
+impl Model for GreatestValues {
     ghost use Rattle.std.specs.Prelude.{List};
     ghost use Rattle.tv_kleene.specs.declared.K3.{K3};
 
@@ -27,12 +28,12 @@ impl Model for Row {
     ghost view = { λ r. r.values.items };
 }
 
-impl Row {
+impl GreatestValues {
     /// No values; takes no memory.
-    fn new(alloc: Global) -> Row
+    fn new(alloc: Global) -> GreatestValues
         ensures { result ≡ [] }
     {
-        Row {
+        GreatestValues {
             values: Vec::new(alloc),
         }
     }
@@ -76,7 +77,7 @@ impl Row {
 /// is `No`.
 #[derive(Drop)]
 pub struct Told {
-    rows: Vec<Row>,
+    rows: Vec<GreatestValues>,
 }
 
 impl Model for Told {
@@ -138,12 +139,12 @@ impl Told {
 }
 
 /// So many empty rows.
-fn no_rows(alloc: Global, count: usize) -> Result<Vec<Row>, AllocError>
+fn no_rows(alloc: Global, count: usize) -> Result<Vec<GreatestValues>, AllocError>
     ensures { IfOk result (λ rows. rows.items ≡ replicate count []) }
 {
     let mut rows = Vec::with_capacity(alloc, count)?;
     for _ in 0..count {
-        rows.push(Row::new(alloc))?;
+        rows.push(GreatestValues::new(alloc))?;
     }
     Ok(rows)
 }

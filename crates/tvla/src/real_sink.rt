@@ -56,7 +56,8 @@ impl<W: Write> RealSink<W> {
         self.faults = self.faults.saturating_add(1);
     }
 
-    /// Gives the writer these bytes until a write fails or takes nothing, and gives the number of those taken.
+    /// Gives the writer these bytes until a write fails or takes nothing, and gives the number of those
+    /// taken.
     fn write_front(&mut self, bytes: &[u8]) -> usize
         ensures front { result ≤ length bytes.now }
         ensures count { self.old.faults ≤ self.new.faults }

@@ -7,7 +7,7 @@ syntax match tvsMark '->\|[=:]'
 syntax match tvsDirective '%[np][A-Za-z]\@!'
 syntax match tvsSummary '\<sm\>\ze\s*='
 syntax match tvsValue '\%([:=]\s*\)\@<=\%(0\|1/2\|1\)\>'
-syntax keyword tvsReport tvla report node structures message map initial edge to end
+syntax keyword tvsReport tvla report node structures message map initial edge to end step free
 syntax region tvsText start='"' end='"' oneline
 syntax match tvsLineComment '//.*$'
 syntax region tvsComment start='/\*' end='\*/'

@@ -68,9 +68,9 @@ fn wrong(alloc: Global, rows: &str) -> Shown {
     out
 }
 
-// A row: how often the part stands; what stands before; the part; its end; what stands behind; and how many predicates,
-// rules, actions, edges and nodes come of it, or the refusal. The numbers of the parts stand in comments where they
-// aren't wanted.
+// A row: how often the part stands; what stands before; the part; its end; what stands behind; and how many
+// predicates, rules, actions, edges and nodes come of it, or the refusal. The numbers of the parts stand in
+// comments where they aren't wanted.
 static PREDICATES_AND_NODES: &str = "512\t\t%p q\t() \t %% %action a() {} %% L a() L\t512;0;1;1;1;
 513\t\t%p q\t() \t %% %action a() {} %% L a() L\tTooMany
 512\t\t%p q\t() \t%p sm(v) %% %action a() {} %% L a() L\tReserved

@@ -9,7 +9,8 @@ const DECLARATIONS: Frame = Frame {
     view: View::Preds,
 };
 
-// A predicate is shown as its name, its arity, a letter for each property, `-` where it is `nonabs`, and its definition.
+// A predicate is shown as its name, its arity, a letter for each property, `-` where it is `nonabs`, and its
+// definition.
 static PREDICATES: &[u8] = b"%p b()\tb/0;
 %p x(v) unique\tx/1U;
 %p n(v, w) function\tn/2F;

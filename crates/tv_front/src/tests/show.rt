@@ -5,7 +5,8 @@ use tv_model::{
     Update, Var,
 };
 
-/// A text that is written from its front to its end. Where memory runs out it is lost, and says so at the end.
+/// A text that is written from its front to its end. Where memory runs out it is lost, and says so at the
+/// end.
 #[derive(Drop)]
 pub struct Shown {
     alloc: Global,

@@ -2,7 +2,8 @@
 use std::alloc::Global;
 use std::test::Fail;
 use tv_lex::lex;
-use tv_parse::{ParseError, parse_program};
+use tv_parse::parse_program;
+use tv_phrases::SyntaxError;
 use tv_tree::print_program;
 
 // Texts and their printed trees.
@@ -102,11 +103,11 @@ fn shown(alloc: Global, text: &[u8]) -> Result<Vec<u8>, Fail> {
     let tokens = lex(alloc, text)?;
     match parse_program(alloc, text, &tokens) {
         Ok(tree) => Ok(print_program(alloc, &tree)?),
-        Err(ParseError::Syntax(place)) => {
+        Err(SyntaxError::Syntax(place)) => {
             Ok(format!(in alloc; "{}:{}", place.line, place.column)?.into_bytes())
         }
-        Err(ParseError::TooDeep) => Ok(b"TooDeep".to_vec(alloc)?),
-        Err(ParseError::Memory) => Ok(b"Memory".to_vec(alloc)?),
+        Err(SyntaxError::TooDeep) => Ok(b"TooDeep".to_vec(alloc)?),
+        Err(SyntaxError::Memory) => Ok(b"Memory".to_vec(alloc)?),
     }
 }
 

@@ -1,7 +1,7 @@
 //! What small structures coerce to, worked out by hand or by a second program.
 //!
-//! A text has predicates and rules in its first line, and in each other line a structure and what it coerces to:
-//! nothing where no stable structure lies below. Lines that begin with `//` are remarks.
+//! A text has predicates and rules in its first line, and in each other line a structure and what it coerces
+//! to: nothing where no stable structure lies below. Lines that begin with `//` are remarks.
 
 use super::coerced::coerced;
 use std::alloc::Global;

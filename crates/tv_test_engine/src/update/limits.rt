@@ -21,8 +21,8 @@ fn unknown(alloc: Global, size: u32, first: u32) -> Result<String, AllocError> {
     Ok(text)
 }
 
-/// Whether this is how many structures the action gives from so many individuals, the first ones of which have `x`
-/// unknown, and how many individuals the first and the last one have; or why there are none.
+/// Whether this is how many structures the action gives from so many individuals, the first ones of which
+/// have `x` unknown, and how many individuals the first and the last one have; or why there are none.
 fn is_met(alloc: Global, parts: &str, size: u32, first: u32, wanted: &str) -> Result<bool, Fail> {
     let program = program(alloc, "%p x(v)", parts)?;
     let s = structure(alloc, &program, unknown(alloc, size, first)?.as_str())?;

@@ -1,7 +1,7 @@
 //! What small structures become, worked out by hand and by a second program.
 //!
-//! A line has the parts of an action, the individuals that are picked, a structure, and the structures that the action
-//! gives. The first line of a text has the declarations. Lines that begin with `//` are remarks.
+//! A line has the parts of an action, the individuals that are picked, a structure, and the structures that
+//! the action gives. The first line of a text has the declarations. Lines that begin with `//` are remarks.
 
 ghost use Rattle.tv_model.specs.Program.{program_of};
 ghost use Rattle.tv_model.specs.Valid.{IsValid};

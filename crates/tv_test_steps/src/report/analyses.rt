@@ -1,8 +1,8 @@
 //! Small programs.
 //!
-//! The first line of a text has a program. Each other line has a node, initial structures, and the structures that
-//! are listed at the node; or how many structures may be listed, initial structures, and how many are at each node
-//! and which messages are told, or why there is no answer.
+//! The first line of a text has a program. Each other line has a node, initial structures, and the structures
+//! that are listed at the node; or how many structures may be listed, initial structures, and how many are at
+//! each node and which messages are told, or why there is no answer.
 
 use super::analysed::{lists, outcome};
 use std::alloc::Global;
@@ -71,7 +71,8 @@ const ROWS: [&str; 9] = [
     TELL,
 ];
 
-/// Whether the structures at the node of that number are these, or the answer where so many may be listed is this one.
+/// Whether the structures at the node of that number are these, or the answer where so many may be listed is
+/// this one.
 fn is_met(alloc: Global, program: &str, line: &str) -> Result<bool, Fail> {
     let mut cells = line.split(';');
     let (Some(head), Some(initial), Some(wanted)) = (cells.next(), cells.next(), cells.next())

@@ -27,8 +27,8 @@ fn put_values(alloc: Global, out: &mut String, names: &str, count: u32) -> Resul
     Ok(())
 }
 
-/// How many individuals there are, the predicates that make them differ, the predicates that are unknown, what is done
-/// to them along the one edge, and what comes.
+/// How many individuals there are, the predicates that make them differ, the predicates that are unknown,
+/// what is done to them along the one edge, and what comes.
 #[derive(Clone, Copy)]
 struct Row<'a> {
     count: u32,

@@ -7,7 +7,8 @@ use std::alloc::Global;
 use std::test::Fail;
 use tv_lex::{LexError, lex};
 use tv_model::Program;
-use tv_report::{ReportError, read_report, write_report};
+use tv_phrases::FormError;
+use tv_report::{read_report, write_report};
 
 /// What is read of a report: its own report again, or the place where it is none.
 pub fn answer(alloc: Global, program: &Program, text: &[u8]) -> Result<Vec<u8>, Fail>
@@ -23,10 +24,10 @@ pub fn answer(alloc: Global, program: &Program, text: &[u8]) -> Result<Vec<u8>, 
     };
     match read_report(alloc, program, text, &tokens) {
         Ok(analysis) => Ok(write_report(alloc, program, &analysis)?),
-        Err(ReportError::ReportForm(place)) => {
+        Err(FormError::Form(place)) => {
             let found = format!(in alloc; "{}:{}", place.line, place.column)?;
             Ok(found.into_bytes())
         }
-        Err(ReportError::Memory) => Err(Fail::new("no memory")),
+        Err(FormError::Memory) => Err(Fail::new("no memory")),
     }
 }

@@ -1,5 +1,5 @@
-//! Reports that are read, and reports that are refused. Places and texts were worked out by hand: each place is that
-//! of the first token of a node, message or map, or of the token that can't stand where it does.
+//! Reports that are read, and reports that are refused. Places and texts were worked out by hand: each place
+//! is that of the first token of a node, message or map, or of the token that can't stand where it does.
 
 use super::read::answer;
 use std::alloc::Global;

@@ -7,8 +7,9 @@ use std::alloc::Global;
 use std::test::Fail;
 use tv_lex::{LexError, lex};
 use tv_model::Program;
+use tv_phrases::FormError;
 use tv_struct::Table;
-use tv_trace::{Move, TraceError, read_trace};
+use tv_trace::{Move, read_trace};
 
 /// The edge of a move and the individuals that it picks.
 fn numbers(alloc: Global, one: &Move, out: &mut Vec<u8>) -> Result<(), Fail> {
@@ -46,10 +47,10 @@ pub fn answer(alloc: Global, program: &Program, text: &[u8]) -> Result<Vec<u8>, 
             }
             Ok(out)
         }
-        Err(TraceError::TraceForm(place)) => {
+        Err(FormError::Form(place)) => {
             let found = format!(in alloc; "{}:{}", place.line, place.column)?;
             Ok(found.into_bytes())
         }
-        Err(TraceError::Memory) => Err(Fail::new("no memory")),
+        Err(FormError::Memory) => Err(Fail::new("no memory")),
     }
 }

@@ -1,7 +1,7 @@
 //! Rows of small programs.
 //!
-//! The first line of a text has a program. Each other line has initial structures, a report, and what is wanted of it.
-//! Lines that begin with `//` are remarks.
+//! The first line of a text has a program. Each other line has initial structures, a report, and what is
+//! wanted of it. Lines that begin with `//` are remarks.
 
 use super::judged::verdict;
 use std::alloc::Global;

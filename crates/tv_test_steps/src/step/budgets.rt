@@ -8,12 +8,12 @@ use tv_model::Mode;
 use tv_struct::StageError;
 use tv_test_reader::{individuals, program, put_list, structure};
 
-/// How many individuals of unknown value and whether they are summaries, the parts of the action, and the cause, if
-/// any.
+/// How many individuals of unknown value and whether they are summaries, the parts of the action, and the
+/// cause, if any.
 type Row = (u32, bool, &'static str, Option<StageError>);
 
-/// Each of eight summaries has none of a cell, all, and some: 3 ^ 8 choices. Lists of individuals count, whether or
-/// not they pass.
+/// Each of eight summaries has none of a cell, all, and some: 3 ^ 8 choices. Lists of individuals count,
+/// whether or not they pass.
 const ROWS: [Row; 8] = [
     (7, true, "%f { x(v) }", None),
     (8, true, "%f { x(v) }", SPLITS),

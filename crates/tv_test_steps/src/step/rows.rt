@@ -1,7 +1,7 @@
 //! What small structures give along an edge, worked out by hand or by a second program.
 //!
-//! A line has predicates and rules, the parts of the action, the values of the messages (`y`, `n` or `h`), a structure
-//! and its results. Lines that begin with `//` are remarks.
+//! A line has predicates and rules, the parts of the action, the values of the messages (`y`, `n` or `h`), a
+//! structure and its results. Lines that begin with `//` are remarks.
 
 ghost use Rattle.tv_model.specs.Program.{program_of};
 ghost use Rattle.tv_model.specs.Valid.{IsValid};

@@ -1,6 +1,7 @@
 //! A second implementation of a table: for each predicate, vectors of values in a vector.
 
-ghost use Rattle.std.specs.Prelude.{◌≡◌, ◌<◌, ◌≤◌, List, [], length, map, All, IfOk, slice_index_or, slice_set};
+ghost use Rattle.std.specs.Prelude.{◌≡◌, ◌<◌, ◌≤◌, List, [], length, map, All, IfOk, slice_index_or};
+ghost use Rattle.std.specs.Prelude.{slice_set};
 ghost use Rattle.tv_struct.specs.TableForm.{TableForm, IsTable, cell, with_cell, row_of, column_of};
 ghost use Rattle.tv_struct.specs.TableForm.{plane_of_no, table_of_no};
 ghost use Rattle.tv_struct.specs.TupleForm.{tuple_of};
@@ -52,7 +53,8 @@ impl<T: Drop> Line<Line<T>> {
     fn put_cell(&mut self, row: usize, column: usize, value: T)
         requires row { row < length self.old }
         requires column { column < length (slice_index_or self.old row []) }
-        ensures { self.new ≡ slice_set self.old row (slice_set (slice_index_or self.old row []) column value) }
+        ensures { self.new
+            ≡ slice_set self.old row (slice_set (slice_index_or self.old row []) column value) }
     {
         let line = &mut self.items[row];
         line.put(column, value);

@@ -14,8 +14,8 @@ use tv_struct::Structure;
 use tv_test_reader::unfolded;
 use tv_tvs::{TvsError, read_one, read_tvs, write_tvs};
 
-/// A line has a text and, behind a tab, what is written of its structures, or why it is refused. `;` stands for a
-/// line feed. Lines that begin with `//` are remarks.
+/// A line has a text and, behind a tab, what is written of its structures, or why it is refused. `;` stands
+/// for a line feed. Lines that begin with `//` are remarks.
 static TEXTS: &str = "\t
  // nothing;\t
 %n = {} %p = {}\t%n = {};%p = {;};
@@ -172,8 +172,8 @@ fn is_met(alloc: Global, row: &str) -> Result<bool, Fail> {
     Ok(found.as_slice() == unfolded(alloc, wanted)?.as_slice())
 }
 
-/// A number of a token, a text, and what `read_one` answers there: the number of the token behind, and what is
-/// written of the structure, or the refusal.
+/// A number of a token, a text, and what `read_one` answers there: the number of the token behind, and what
+/// is written of the structure, or the refusal.
 static PLACES: &str = "1\ttvla %n = {} %p = { b = 1 } %x\t12 %n = {};%p = {;  b = 1;};
 0\ttvla %n = {} %p = { b = 1 } %x\tSyntax 1:1
 12\ttvla %n = {} %p = { b = 1 } %x\tSyntax 1:29
@@ -240,7 +240,8 @@ fn many(alloc: Global, size: u32, step: u32) -> Result<Vec<u8>, AllocError> {
     Ok(text)
 }
 
-/// Whether a text of so many individuals, numbered in steps, is written again as it is, or refused as too large.
+/// Whether a text of so many individuals, numbered in steps, is written again as it is, or refused as too
+/// large.
 fn is_limited(alloc: Global, size: u32, step: u32) -> Result<bool, Fail> {
     let vocab = vocabulary(alloc)?;
     let text = many(alloc, size, step)?;

@@ -5,8 +5,8 @@ use std::test::Fail;
 use tv_lex::{GatherError, Gathered, MAX_TEXT, gather};
 use tv_outside::MemFiles;
 
-/// A line has files, divided by `~`, each with its name in front of `=`, and behind `$` the text of the first one,
-/// gathered, or the refusal. `;` stands for a line feed.
+/// A line has files, divided by `~`, each with its name in front of `=`, and behind `$` the text of the first
+/// one, gathered, or the refusal. `;` stands for a line feed.
 static FILES: &[u8] = b"a=$
 a=x$x
 a=x;$x;
@@ -134,8 +134,8 @@ fn chain(alloc: Global, count: usize, times: usize, last: &[u8]) -> Result<MemFi
     Ok(MemFiles::new(names, contents, 4096, Vec::new(alloc)))
 }
 
-/// How many files there are, how often each includes the next, how long the last is, the refusal, and how long the
-/// text is, or what is shown of the refusal.
+/// How many files there are, how often each includes the next, how long the last is, the refusal, and how
+/// long the text is, or what is shown of the refusal.
 const DEPTHS: [(usize, usize, usize, &str, usize); 5] = [
     (17, 1, 1, "", 17),
     (18, 1, 1, "!IncludeDepth", 13),
@@ -168,8 +168,8 @@ fn depths_and_lengths_by_example(rt: HostRuntime) -> Result<(), Fail> {
     Ok(())
 }
 
-/// Whether the call of that number is handed on where it fails: one begin and three pieces of `a`, one begin and two
-/// pieces of `b`.
+/// Whether the call of that number is handed on where it fails: one begin and three pieces of `a`, one begin
+/// and two pieces of `b`.
 fn is_handed_on(alloc: Global, k: u64) -> Result<bool, Fail> {
     let fail = vec![in alloc; k]?;
     let (mut files, name) = files_of(alloc, b"a=#include \"b\"\n~b=x", fail)?;

@@ -30,8 +30,8 @@ fn failing(alloc: Global, call: usize) -> Result<Vec<u64>, AllocError> {
     Ok(calls)
 }
 
-/// A file; how many bytes a call gives at most, which call fails, and how many bytes may be read; and what is read,
-/// behind `=`, or the refusal.
+/// A file; how many bytes a call gives at most, which call fails, and how many bytes may be read; and what is
+/// read, behind `=`, or the refusal.
 static READS: &str = "greeting 7 0 5 =hello
 greeting 5 0 100 =hello
 greeting 1 0 5 =hello
@@ -83,8 +83,8 @@ fn is_read(alloc: Global, line: &str) -> Result<bool, Fail> {
     }
 }
 
-/// What is written; how many bytes a call takes at most, which call fails, and how many bytes the sink has room for;
-/// and what it has taken, behind `=`, or behind `!` where the answer is a failure.
+/// What is written; how many bytes a call takes at most, which call fails, and how many bytes the sink has
+/// room for; and what it has taken, behind `=`, or behind `!` where the answer is a failure.
 static WRITES: &str = "hello 7 0 5 =hello
 hello 2 0 100 =hello
 hello 2 4 5 =hello

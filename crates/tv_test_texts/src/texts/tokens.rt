@@ -4,8 +4,8 @@ use std::alloc::{AllocError, Global};
 use std::test::Fail;
 use tv_lex::{LexError, Place, Token, TokenKind, lex, place, text};
 
-/// A line has a text, and behind `$` its tokens, a letter for each kind and the token's bytes; or the refusal. `;`
-/// stands for a line feed.
+/// A line has a text, and behind `$` its tokens, a letter for each kind and the token's bytes; or the
+/// refusal. `;` stands for a line feed.
 static TEXTS: &[u8] = b"$
  \t\r;$
 ==> <-> -> == != ( ) { } [ ] , : + - * = ! & | ?$P==> P<-> P-> P== P!= P( P) P{ P} P[ P] P, P: P+ P- P* P= P! P& P| P?

@@ -5,12 +5,13 @@ use std::alloc::Global;
 use std::process::Abort;
 use std::test::Fail;
 use tv_concrete::{HeapList, Values, is_fair_through};
+use tv_fair::fairly_steps;
 use tv_model::{Action, Mode, Program};
-use tv_stepper::fairly_steps;
 
-/// A line has the parts of an action, the individuals that it picks, an old, a middle and a new heap, and whether the
-/// step is fair (`+`) or not (`-`) where given updates count, and where defined predicates are worked out anew. `x` is
-/// unique, and `e(v)` is defined as `E(w) n(v, w)`. Lines that begin with `//` are remarks.
+/// A line has the parts of an action, the individuals that it picks, an old, a middle and a new heap, and
+/// whether the step is fair (`+`) or not (`-`) where given updates count, and where defined predicates are
+/// worked out anew. `x` is unique, and `e(v)` is defined as `E(w) n(v, w)`. Lines that begin with `//` are
+/// remarks.
 static STEPS: &str = "// An update is followed, and without one nothing changes.
 { x(v) = E(w) x(w) & n(w, v) }; ; 1 2 x(1) n(1,2) e(1); 1 2 x(1) n(1,2) e(1); 1 2 x(2) n(1,2) e(1); ++
 { x(v) = E(w) x(w) & n(w, v) }; ; 1 2 x(1) n(1,2) e(1); 1 2 x(1) n(1,2) e(1); 1 2 x(1) n(1,2) e(1); --

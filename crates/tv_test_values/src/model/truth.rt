@@ -17,8 +17,8 @@ static HEAPS: [(&str, &str); 6] = [
     ("0 1 2 x(0) x(2) n(0,1) n(2,1) new(2)", "012"),
 ];
 
-/// A line has a formula, and whether it is true in each of the heaps (`+`) or not (`-`). Lines that begin with `//`
-/// are remarks.
+/// A line has a formula, and whether it is true in each of the heaps (`+`) or not (`-`). Lines that begin
+/// with `//` are remarks.
 static FORMULAS: &str = "0; ------
 1; ++++++
 b(); -+--+-

@@ -1,7 +1,7 @@
 //! Values of formulas in structures, worked out by hand and by a second program.
 //!
-//! A text has a structure in its first line, and in each other line a formula and its value there, or its values with
-//! v and w at each pair of individuals.
+//! A text has a structure in its first line, and in each other line a formula and its value there, or its
+//! values with v and w at each pair of individuals.
 
 use super::setting::program_with;
 use super::values::{Way, values};

@@ -1,5 +1,6 @@
 -- What stands free in a part of a formula: by names in the text, and by numbers in what was resolved.
-use Rattle.std.proofs.Common.{◌≡◌, ℕ, Bool, true, false, not, cond, ◌||◌, ◌&&◌, ◌==◌, get_or, List, [], ◌∷◌, ◌++◌, length, refl, ap, sym, ◌∙◌, inl, inr, ◌⊎◌, Option, Some, None}
+use Rattle.std.proofs.Common.{◌≡◌, ℕ, Bool, true, false, not, cond, ◌||◌, ◌&&◌, ◌==◌, get_or, List, [], ◌∷◌}
+use Rattle.std.proofs.Common.{◌++◌, length, refl, ap, sym, ◌∙◌, inl, inr, ◌⊎◌, Option, Some, None}
 use Rattle.std.specs.Prelude.{is_some}
 use Rattle.std.specs.List.{list_any}
 use Rattle.std.specs.Str.{bytes_eq}
@@ -14,7 +15,8 @@ use Rattle.tv_names.specs.Picks.{is_one_of}
 use Rattle.tv_names.specs.Resolving.{PlaceForm, is_known_at, under}
 use Rattle.tv_vocab.specs.Variables.{without_names}
 use Rattle.tv_vocab.proofs.valid.Refusals.{some_is}
-use Rattle.tv_vocab.proofs.items.Numbered.{same_name, Later, IsQuiet, IsSeen, seen_later, Knows, knows_quiet, knows_seen, knows_over}
+use Rattle.tv_vocab.proofs.items.Numbered.{same_name, Later, IsQuiet, IsSeen, seen_later, Knows, knows_quiet}
+use Rattle.tv_vocab.proofs.items.Numbered.{knows_seen, knows_over}
 
 -- whether a name that isn't known is among these
 abbrev pub has_other : (List ℕ → Bool) → List (List ℕ) → Bool

@@ -1,5 +1,7 @@
 -- The variables that a step picks: they keep their names and numbers, and the other numbers are vacant.
-use Rattle.std.proofs.Common.{◌≡◌, ℕ, zero, suc, ◌+◌, ◌<◌, Bool, true, false, not, cond, ◌||◌, ◌&&◌, ◌==◌, get_or, set, List, [], ◌∷◌, length, refl, ap, sym, subst, ◌∙◌, arith, Ok, Option, Some, None}
+use Rattle.std.proofs.Common.{◌≡◌, ℕ, zero, suc, ◌+◌, ◌<◌, Bool, true, false, not, cond, ◌||◌, ◌&&◌, ◌==◌}
+use Rattle.std.proofs.Common.{get_or, set, List, [], ◌∷◌, length, refl, ap, sym, subst, ◌∙◌, arith, Ok}
+use Rattle.std.proofs.Common.{Option, Some, None}
 use Rattle.std.specs.Prelude.{is_some}
 use Rattle.std.specs.List.{list_any, repeat}
 use Rattle.std.proofs.lemmas.Bool.{eq-eqb, eqb-true, true≢false, false≢true}
@@ -13,7 +15,8 @@ use Rattle.tv_tree.specs.Names.{is_among}
 use Rattle.tv_model.specs.Form.{Form}
 use Rattle.tv_model.specs.Valid.{without, free_occurrences, first_occurrences}
 use Rattle.tv_names.specs.Symbols.{SymbolForm}
-use Rattle.tv_names.specs.Naming.{SlotForm, Vacant, Nameless, Named, NamingForm, is_vacant, is_named, number_of, no_names, kept_slot, kept_from}
+use Rattle.tv_names.specs.Naming.{SlotForm, Vacant, Nameless, Named, NamingForm, is_vacant, is_named}
+use Rattle.tv_names.specs.Naming.{number_of, no_names, kept_slot, kept_from}
 use Rattle.tv_names.specs.Numbers.{Sight, OfName, OfPair, is_numbered, vacant_count}
 use Rattle.tv_names.specs.Picks.{picks_in, flagged, flags_of, is_one_of}
 use Rattle.tv_names.specs.Resolving.{PlaceForm, is_known_at, resolved}

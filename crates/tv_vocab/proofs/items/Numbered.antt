@@ -1,5 +1,6 @@
 -- Which names have which numbers, as numbers are given.
-use Rattle.std.proofs.Common.{◌≡◌, ℕ, zero, suc, ◌<◌, Bool, true, false, ◌||◌, get_or, set, List, [], ◌∷◌, length, refl, ap, sym, subst, ◌∙◌, arith, inl, inr, ◌⊎◌, Ok, Option, Some, None}
+use Rattle.std.proofs.Common.{◌≡◌, ℕ, zero, suc, ◌<◌, Bool, true, false, ◌||◌, get_or, set, List, [], ◌∷◌}
+use Rattle.std.proofs.Common.{length, refl, ap, sym, subst, ◌∙◌, arith, inl, inr, ◌⊎◌, Ok, Option, Some, None}
 use Rattle.std.specs.List.{position, position_or_len, list_any}
 use Rattle.std.specs.Str.{bytes_eq}
 use Rattle.std.proofs.lemmas.Bool.{cases_Bool, or_parts, lt-ltb, true≢false, false≢true}
@@ -8,7 +9,9 @@ use Rattle.std.proofs.lemmas.List.Folds.{position_or_len-set}
 use Rattle.std.proofs.lemmas.List.Quantifiers.{position-Some}
 use Rattle.std.proofs.lemmas.Slice.Eq.{bytes_eq-Decides}
 use Rattle.tv_names.specs.declared.refusal.ResolveError.TheVariants.{TooManyVariables}
-use Rattle.tv_names.specs.Naming.{SlotForm, Vacant, Nameless, Named, NamingForm, is_vacant, is_named, number_of, filled_at, filled, sighted_at, sighted, two_more, own_at, own_pair}
+use Rattle.tv_names.specs.Naming.{SlotForm, Vacant, Nameless, Named, NamingForm, is_vacant, is_named}
+use Rattle.tv_names.specs.Naming.{number_of, filled_at, filled, sighted_at, sighted, two_more, own_at}
+use Rattle.tv_names.specs.Naming.{own_pair}
 use Rattle.tv_names.specs.Refusal.{◌>>=◌}
 use Rattle.tv_names.specs.Resolving.{is_known_at}
 use Rattle.tv_names.proofs.SlotFills.{none_passes}

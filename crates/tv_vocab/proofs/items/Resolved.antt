@@ -1,24 +1,32 @@
 -- What stands free in a formula, by names, is what stands free in what it is resolved to, by numbers.
-use Rattle.std.proofs.Common.{◌≡◌, ℕ, Bool, true, false, cond, ◌||◌, ◌&&◌, ◌==◌, List, [], ◌∷◌, ◌++◌, length, refl, ap, sym, subst, ◌∙◌, append_assoc, inl, inr, Ok, Err}
+use Rattle.std.proofs.Common.{◌≡◌, ℕ, Bool, true, false, cond, ◌||◌, ◌&&◌, ◌==◌, List, [], ◌∷◌, ◌++◌, length}
+use Rattle.std.proofs.Common.{refl, ap, sym, subst, ◌∙◌, append_assoc, inl, inr, Ok, Err}
 use Rattle.std.specs.Prelude.{is_some}
 use Rattle.std.specs.Str.{bytes_eq}
 use Rattle.std.proofs.lemmas.Bool.{cases_Bool, eq-eqb}
 use Rattle.tv_tree.specs.Forms as tree
 use Rattle.tv_tree.specs.Names.{is_among, name_text}
-use Rattle.tv_model.specs.Form.{Form, FZero, FOne, FAtom, FIsNew, FSame, FNot, FAnd, FOr, FIff, FCond, FExists, FForall, FClosure}
+use Rattle.tv_model.specs.Form.{Form, FZero, FOne, FAtom, FIsNew, FSame, FNot, FAnd, FOr, FIff, FCond}
+use Rattle.tv_model.specs.Form.{FExists, FForall, FClosure}
 use Rattle.tv_model.specs.Valid.{without, free_occurrences}
 use Rattle.tv_names.specs.declared.place.Others.{Others}
 use Rattle.tv_names.specs.declared.place.Others.TheVariants.{Any, Never, Once}
-use Rattle.tv_names.specs.declared.refusal.ResolveError.TheVariants.{NameTwice, ArityWrong, Reserved, VariableUnbound, HalfLiteral}
+use Rattle.tv_names.specs.declared.refusal.ResolveError.TheVariants.{NameTwice, ArityWrong, Reserved}
+use Rattle.tv_names.specs.declared.refusal.ResolveError.TheVariants.{VariableUnbound, HalfLiteral}
 use Rattle.tv_names.specs.Refusal.{◌>>=◌, refused_if}
 use Rattle.tv_names.specs.Symbols.{is_sm, is_new_word}
 use Rattle.tv_names.specs.Naming.{NamingForm, number_of, sighted, own_pair}
 use Rattle.tv_names.specs.Picks.{is_one_of}
-use Rattle.tv_names.specs.Resolving.{PlaceForm, Numbered, is_known_at, is_the_further, noted, other_variable, occurrence, two_occurrences, terms, pred_at, new_atom, pred_atom, atom, closable, closure_of, star_of, star, under, quantified, two_bound, resolved}
+use Rattle.tv_names.specs.Resolving.{PlaceForm, Numbered, is_known_at, is_the_further, noted, other_variable}
+use Rattle.tv_names.specs.Resolving.{occurrence, two_occurrences, terms, pred_at, new_atom, pred_atom, atom}
+use Rattle.tv_names.specs.Resolving.{closable, closure_of, star_of, star, under, quantified, two_bound}
+use Rattle.tv_names.specs.Resolving.{resolved}
 use Rattle.tv_vocab.specs.Variables.{without_names, free_names}
 use Rattle.tv_vocab.proofs.valid.Refusals.{ok_is, not_given, went}
-use Rattle.tv_vocab.proofs.items.Numbered.{IsSeen, sighted_seen, seen_later, pair_quiet, Knows, knows_seen, knows_under}
-use Rattle.tv_vocab.proofs.items.Frees.{Frees, frees_none, frees_quiet, frees_both, frees_as, frees_seen, frees_bound, frees_behind, without_more}
+use Rattle.tv_vocab.proofs.items.Numbered.{IsSeen, sighted_seen, seen_later, pair_quiet, Knows, knows_seen}
+use Rattle.tv_vocab.proofs.items.Numbered.{knows_under}
+use Rattle.tv_vocab.proofs.items.Frees.{Frees, frees_none, frees_quiet, frees_both, frees_as, frees_seen}
+use Rattle.tv_vocab.proofs.items.Frees.{frees_bound, frees_behind, without_more}
 
 -- ---- occurrences
 

@@ -1,5 +1,7 @@
 -- Each item has room for 32 variables.
-use Rattle.std.proofs.Common.{◌≡◌, ℕ, ◌+◌, ◌<◌, Bool, true, false, not, cond, ◌||◌, ◌&&◌, ◌==◌, List, [], ◌∷◌, ◌++◌, length, refl, ap, sym, subst, ◌∙◌, arith, append_assoc, Ok, Err, Option, Some, None}
+use Rattle.std.proofs.Common.{◌≡◌, ℕ, ◌+◌, ◌<◌, Bool, true, false, not, cond, ◌||◌, ◌&&◌, ◌==◌, List, [], ◌∷◌}
+use Rattle.std.proofs.Common.{◌++◌, length, refl, ap, sym, subst, ◌∙◌, arith, append_assoc, Ok, Err, Option}
+use Rattle.std.proofs.Common.{Some, None}
 use Rattle.std.specs.Prelude.{is_some, slice_get}
 use Rattle.std.specs.List.{flat_map, list_any, list_all}
 use Rattle.std.specs.Str.{bytes_eq}
@@ -10,21 +12,30 @@ use Rattle.tv_tree.specs.Forms as tree
 use Rattle.tv_tree.specs.Forms.{PieceForm}
 use Rattle.tv_tree.specs.Names.{is_among}
 use Rattle.tv_model.specs.Form.{Form, FZero, FAtom, FSame, FNot}
-use Rattle.tv_model.specs.Program.{PredForm, KindForm, KDefined, RuleForm, HeadForm, ChangeForm, CFree, CTo, RetainForm, MessageForm}
+use Rattle.tv_model.specs.Program.{PredForm, KindForm, KDefined, RuleForm, HeadForm, ChangeForm, CFree, CTo}
+use Rattle.tv_model.specs.Program.{RetainForm, MessageForm}
 use Rattle.tv_model.specs.Program as model
 use Rattle.tv_names.specs.declared.refusal.ResolveError.{ResolveError}
-use Rattle.tv_names.specs.declared.refusal.ResolveError.TheVariants.{TooManyVariables, ArityTooLarge, ArityWrong, NameTwice, UpdateTwice, HeadForm as BadHead}
+use Rattle.tv_names.specs.declared.refusal.ResolveError.TheVariants.{TooManyVariables, ArityTooLarge}
+use Rattle.tv_names.specs.declared.refusal.ResolveError.TheVariants.{ArityWrong, NameTwice, UpdateTwice}
+use Rattle.tv_names.specs.declared.refusal.ResolveError.TheVariants.{HeadForm as BadHead}
 use Rattle.tv_names.specs.Refusal.{◌>>=◌, OrRefused, refused_if, one_by_one}
 use Rattle.tv_names.specs.Symbols.{SymbolForm, KnownForm}
-use Rattle.tv_names.specs.Naming.{SlotForm, Vacant, Nameless, Named, NamingForm, is_named, hidden, filled, declared, two_declared, declared_all, no_names}
-use Rattle.tv_names.specs.Numbers.{Sight, OfName, OfPair, sights, is_numbered, variables_of, new_variables, vacant_count, filled_with}
+use Rattle.tv_names.specs.Naming.{SlotForm, Vacant, Nameless, Named, NamingForm, is_named, hidden, filled}
+use Rattle.tv_names.specs.Naming.{declared, two_declared, declared_all, no_names}
+use Rattle.tv_names.specs.Numbers.{Sight, OfName, OfPair, sights, is_numbered, variables_of, new_variables}
+use Rattle.tv_names.specs.Numbers.{vacant_count, filled_with}
 use Rattle.tv_names.specs.Resolving.{PlaceForm, Numbered, resolved}
 use Rattle.tv_names.proofs.SlotFills.{fill_count, filled_name}
-use Rattle.tv_names.proofs.Sightings.{Follows, Sees, Fills, fills, first_alike, left_over, sees_then, sees_map, sees_none}
+use Rattle.tv_names.proofs.Sightings.{Follows, Sees, Fills, fills, first_alike, left_over, sees_then}
+use Rattle.tv_names.proofs.Sightings.{sees_map, sees_none}
 use Rattle.tv_names.proofs.SightLaws.{resolved_sees}
 use Rattle.tv_vocab.specs.Vocabulary.{twice, over, anywhere, definition, negated_head, head_of, rule}
-use Rattle.tv_vocab.specs.Actions.{with_formula, resolved_all, focused, PickingForm, picking, precondition, piece_text, message, further_number, retaining, retain, updating, is_half, is_core_pred, is_updated, change, update_of_pred}
-use Rattle.tv_vocab.specs.Variables.{free_names, picked_names, is_known, further_variables, variable_count, one_more, HasRoom, ItemsHave32Variables}
+use Rattle.tv_vocab.specs.Actions.{with_formula, resolved_all, focused, PickingForm, picking, precondition}
+use Rattle.tv_vocab.specs.Actions.{piece_text, message, further_number, retaining, retain, updating, is_half}
+use Rattle.tv_vocab.specs.Actions.{is_core_pred, is_updated, change, update_of_pred}
+use Rattle.tv_vocab.specs.Variables.{free_names, picked_names, is_known, further_variables, variable_count}
+use Rattle.tv_vocab.specs.Variables.{one_more, HasRoom, ItemsHave32Variables}
 use Rattle.std.proofs.lemmas.Slice.Eq.{bytes_eq-Decides}
 use Rattle.tv_vocab.proofs.items.Frees.{has_other}
 use Rattle.tv_vocab.proofs.items.Resolved.{formula_free}

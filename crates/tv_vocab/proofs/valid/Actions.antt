@@ -11,7 +11,8 @@ use Rattle.tv_flat.specs.FlatForm.{part_items}
 use Rattle.tv_vocab.specs.Premise.{HasTexts}
 use Rattle.tv_names.specs.Refusal.{◌>>=◌, OrRefused, one_by_one, each}
 use Rattle.tv_names.specs.Symbols.{SymbolForm}
-use Rattle.tv_vocab.specs.Actions.{PickingForm, focus_in, pre_in, retain_in, adds_new, updates_in, focused, precondition, messages, retain, with_update, action}
+use Rattle.tv_vocab.specs.Actions.{PickingForm, focus_in, pre_in, retain_in, adds_new, updates_in, focused}
+use Rattle.tv_vocab.specs.Actions.{precondition, messages, retain, with_update, action}
 use Rattle.tv_vocab.proofs.valid.Refusals.{ok_is, went}
 use Rattle.tv_vocab.proofs.valid.Parts.{AreSymbols}
 use Rattle.tv_vocab.proofs.valid.Zips.{each_zip, zip_all}

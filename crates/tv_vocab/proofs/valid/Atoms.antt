@@ -1,5 +1,7 @@
 -- Atoms, and the closures of predicates.
-use Rattle.std.proofs.Common.{◌≡◌, ◌≢◌, ℕ, zero, suc, ◌<◌, Bool, true, false, not, ◌&&◌, ◌==◌, get_or, List, [], ◌∷◌, length, refl, ap, sym, subst, ◌∙◌, arith, inl, inr, ◌⊎◌, Ok, Err, Some, cond}
+use Rattle.std.proofs.Common.{◌≡◌, ◌≢◌, ℕ, zero, suc, ◌<◌, Bool, true, false, not, ◌&&◌, ◌==◌, get_or, List}
+use Rattle.std.proofs.Common.{[], ◌∷◌, length, refl, ap, sym, subst, ◌∙◌, arith, inl, inr, ◌⊎◌, Ok, Err, Some}
+use Rattle.std.proofs.Common.{cond}
 use Rattle.std.specs.Prelude.{All, Contains}
 use Rattle.std.proofs.lemmas.Bool.{and_parts, not-false, eqb-true}
 use Rattle.std.proofs.lemmas.List.Elements.{All-cons, All-nil}
@@ -10,10 +12,12 @@ use Rattle.tv_names.specs.declared.refusal.ResolveError.TheVariants.{NameUnknown
 use Rattle.tv_names.specs.Refusal.{◌>>=◌, refused_if, or_refused}
 use Rattle.tv_names.specs.Symbols.{symbol_of, is_sm, is_new_word}
 use Rattle.tv_names.specs.Naming.{NamingForm, own_pair}
-use Rattle.tv_names.specs.Resolving.{PlaceForm, occurrence, two_occurrences, terms, pred_at, new_atom, pred_atom, atom, closable, closure_of, star_of, star}
+use Rattle.tv_names.specs.Resolving.{PlaceForm, occurrence, two_occurrences, terms, pred_at, new_atom}
+use Rattle.tv_names.specs.Resolving.{pred_atom, atom, closable, closure_of, star_of, star}
 use Rattle.tv_vocab.proofs.valid.Refusals.{ok_is, not_given, went, not_refused, was_some}
 use Rattle.tv_vocab.proofs.valid.Numbers.{AreOwn, own_pair_is}
-use Rattle.tv_vocab.proofs.valid.Parts.{AreSymbols, Stands, IsPart, Gives, GivesForm, part_after, reshaped, behind, given_as}
+use Rattle.tv_vocab.proofs.valid.Parts.{AreSymbols, Stands, IsPart, Gives, GivesForm, part_after, reshaped}
+use Rattle.tv_vocab.proofs.valid.Parts.{behind, given_as}
 use Rattle.tv_vocab.proofs.valid.Occurrences.{occurrence_given, two_given}
 
 pub pred_given : (p : ProgramForm) (at : PlaceForm) (name : List ℕ) (n q : ℕ) → AreSymbols p at.symbols → pred_at at name n ≡ Ok q → arity_of p q ≡ Some n

@@ -1,5 +1,6 @@
 -- The flags of variables: which variables are known where a formula stands.
-use Rattle.std.proofs.Common.{◌≡◌, ℕ, zero, suc, ◌<◌, Bool, true, false, get_or, set, List, [], ◌∷◌, ◌++◌, length, refl, ap, sym, subst, ◌∙◌, arith, inl, inr, ◌⊎◌}
+use Rattle.std.proofs.Common.{◌≡◌, ℕ, zero, suc, ◌<◌, Bool, true, false, get_or, set, List, [], ◌∷◌, ◌++◌}
+use Rattle.std.proofs.Common.{length, refl, ap, sym, subst, ◌∙◌, arith, inl, inr, ◌⊎◌}
 use Rattle.std.specs.Prelude.{Contains}
 use Rattle.std.specs.List.{repeat}
 use Rattle.std.proofs.lemmas.Bool.{cases_eq, false≢true}

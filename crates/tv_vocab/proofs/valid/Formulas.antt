@@ -1,9 +1,11 @@
 -- What resolution gives for a formula is a formula of the program, with only allowed variables free.
-use Rattle.std.proofs.Common.{◌≡◌, ◌≢◌, ℕ, true, false, get_or, List, [], ◌∷◌, ◌++◌, ap, sym, subst, ◌∙◌, inl, inr, ◌⊎◌, Ok}
+use Rattle.std.proofs.Common.{◌≡◌, ◌≢◌, ℕ, true, false, get_or, List, [], ◌∷◌, ◌++◌, ap, sym, subst, ◌∙◌, inl}
+use Rattle.std.proofs.Common.{inr, ◌⊎◌, Ok}
 use Rattle.std.specs.Str.{bytes_eq}
 use Rattle.std.proofs.lemmas.Bool.{true≢false}
 use Rattle.tv_tree.specs.Forms as tree
-use Rattle.tv_model.specs.Form.{Form, FZero, FOne, FSame, FNot, FAnd, FOr, FIff, FCond, FExists, FForall, FClosure, IsFree}
+use Rattle.tv_model.specs.Form.{Form, FZero, FOne, FSame, FNot, FAnd, FOr, FIff, FCond, FExists, FForall}
+use Rattle.tv_model.specs.Form.{FClosure, IsFree}
 use Rattle.tv_model.specs.Program.{ProgramForm}
 use Rattle.tv_model.specs.Valid.{IsFormula, NamesNew, IsVariable}
 use Rattle.tv_names.specs.declared.refusal.ResolveError.TheVariants.{NameTwice, HalfLiteral}
@@ -11,11 +13,14 @@ use Rattle.tv_names.specs.Refusal.{◌>>=◌, refused_if}
 use Rattle.tv_tree.specs.Names.{name_text}
 use Rattle.tv_names.specs.Naming.{Vacant, is_named, NamingForm, sighted}
 use Rattle.tv_tree.specs.Names.{is_among}
-use Rattle.tv_names.specs.Resolving.{PlaceForm, Numbered, two_occurrences, under, quantified, two_bound, resolved}
+use Rattle.tv_names.specs.Resolving.{PlaceForm, Numbered, two_occurrences, under, quantified, two_bound}
+use Rattle.tv_names.specs.Resolving.{resolved}
 use Rattle.std.proofs.lemmas.List.Quantifiers.{position-Some}
 use Rattle.tv_vocab.proofs.valid.Refusals.{ok_is, not_given, went, not_refused}
-use Rattle.tv_vocab.proofs.valid.Numbers.{IsHeld, IsAfter, after_then, IsSighted, sighted_is, named_same, not_held}
-use Rattle.tv_vocab.proofs.valid.Parts.{Stands, stands_then, stands_under, part_after, Gives, GivesForm, given_as, both, reshaped, before, bound}
+use Rattle.tv_vocab.proofs.valid.Numbers.{IsHeld, IsAfter, after_then, IsSighted, sighted_is, named_same}
+use Rattle.tv_vocab.proofs.valid.Numbers.{not_held}
+use Rattle.tv_vocab.proofs.valid.Parts.{Stands, stands_then, stands_under, part_after, Gives, GivesForm}
+use Rattle.tv_vocab.proofs.valid.Parts.{given_as, both, reshaped, before, bound}
 use Rattle.tv_vocab.proofs.valid.Occurrences.{two_given}
 use Rattle.tv_vocab.proofs.valid.Atoms.{part_itself, atom_given, star_given}
 

@@ -1,12 +1,15 @@
 -- The focus formulas, messages and retain formulas that resolution gives.
-use Rattle.std.proofs.Common.{◌≡◌, ℕ, ◌+◌, ◌<◌, ◌≤◌, Bool, false, get_or, List, [], ◌∷◌, ◌++◌, length, refl, ap, sym, subst, ◌∙◌, arith, length-append, inl, inr, ◌⊎◌, Ok, Option, Some, None, ◌≢◌}
+use Rattle.std.proofs.Common.{◌≡◌, ℕ, ◌+◌, ◌<◌, ◌≤◌, Bool, false, get_or, List, [], ◌∷◌, ◌++◌, length, refl}
+use Rattle.std.proofs.Common.{ap, sym, subst, ◌∙◌, arith, length-append, inl, inr, ◌⊎◌, Ok, Option, Some}
+use Rattle.std.proofs.Common.{None, ◌≢◌}
 use Rattle.std.specs.Prelude.{All, Contains, sum_by}
 use Rattle.std.specs.List.{flat_map}
 use Rattle.std.proofs.lemmas.Bool.{true≢false}
 use Rattle.std.proofs.lemmas.List.Elements.{All-nil, All-head, All-tail, All-append, All-push}
 use Rattle.std.proofs.lemmas.List.Sums.{sum_by-cons}
 use Rattle.tv_tree.specs.Forms as tree
-use Rattle.tv_tree.specs.Forms.{PieceForm, Quoted, Spelled, PartForm, PCaption, PFocus, PPre, PMessage, PNew, PRetain, PBlock}
+use Rattle.tv_tree.specs.Forms.{PieceForm, Quoted, Spelled, PartForm, PCaption, PFocus, PPre, PMessage, PNew}
+use Rattle.tv_tree.specs.Forms.{PRetain, PBlock}
 use Rattle.tv_model.specs.Form.{Form}
 use Rattle.tv_model.specs.Spelling.{IsText}
 use Rattle.tv_model.specs.Program.{ProgramForm, MessageForm, RetainForm, ActionForm}
@@ -20,7 +23,8 @@ use Rattle.tv_names.specs.Naming.{NamingForm, Nameless, filled, no_names}
 use Rattle.tv_names.specs.Picks.{flags_of}
 use Rattle.tv_names.specs.Resolving.{resolved}
 use Rattle.tv_vocab.specs.Vocabulary.{anywhere, over}
-use Rattle.tv_vocab.specs.Actions.{PickingForm, with_formula, resolved_all, focused, piece_text, message, with_part, messages, further_number, retaining, retain}
+use Rattle.tv_vocab.specs.Actions.{PickingForm, with_formula, resolved_all, focused, piece_text, message}
+use Rattle.tv_vocab.specs.Actions.{with_part, messages, further_number, retaining, retain}
 use Rattle.tv_vocab.proofs.valid.Refusals.{ok_is, some_is, not_none, went, after_each}
 use Rattle.tv_vocab.proofs.valid.Numbers.{IsHeld, IsSound, not_held, filled_new, no_names_sound}
 use Rattle.tv_vocab.proofs.valid.Parts.{AreSymbols, Stands, stands_then, IsAllowed, AsKnown, AsAny, AsFurther}

@@ -1,5 +1,7 @@
 -- The numbers of an item: they are below 32, and what has a number keeps it.
-use Rattle.std.proofs.Common.{◌≡◌, ◌≢◌, ℕ, zero, suc, ◌<◌, Bool, true, false, get_or, set, List, [], ◌∷◌, length, refl, ap, sym, subst, ◌∙◌, arith, inl, inr, ◌⊎◌, Ok, Option, Some, None, cond}
+use Rattle.std.proofs.Common.{◌≡◌, ◌≢◌, ℕ, zero, suc, ◌<◌, Bool, true, false, get_or, set, List, [], ◌∷◌}
+use Rattle.std.proofs.Common.{length, refl, ap, sym, subst, ◌∙◌, arith, inl, inr, ◌⊎◌, Ok, Option, Some, None}
+use Rattle.std.proofs.Common.{cond}
 use Rattle.std.specs.List.{position}
 use Rattle.std.proofs.lemmas.Bool.{cases_eq, true≢false, false≢true}
 use Rattle.std.proofs.lemmas.List.{length-set, length-map, get_or-set_same, get_or-set_other}
@@ -8,7 +10,9 @@ use Rattle.std.specs.Str.{bytes_eq}
 use Rattle.std.proofs.lemmas.Slice.Eq.{bytes_eq-Decides}
 use Rattle.tv_names.specs.Refusal.{◌>>=◌}
 use Rattle.tv_names.specs.declared.refusal.ResolveError.TheVariants.{TooManyVariables, ArityTooLarge}
-use Rattle.tv_names.specs.Naming.{SlotForm, Vacant, Nameless, Named, NamingForm, is_vacant, is_named, number_of, filled_at, filled, sighted_at, sighted, hidden_slot, hidden, declared, two_declared, declared_all, two_more, own_at, own_pair, no_names}
+use Rattle.tv_names.specs.Naming.{SlotForm, Vacant, Nameless, Named, NamingForm, is_vacant, is_named}
+use Rattle.tv_names.specs.Naming.{number_of, filled_at, filled, sighted_at, sighted, hidden_slot, hidden}
+use Rattle.tv_names.specs.Naming.{declared, two_declared, declared_all, two_more, own_at, own_pair, no_names}
 use Rattle.tv_vocab.proofs.valid.Refusals.{ok_is, some_is, not_none, not_given, went}
 
 -- the number stands for something

@@ -1,5 +1,6 @@
 -- Occurrences of variables: each is allowed where it stands.
-use Rattle.std.proofs.Common.{◌≡◌, ℕ, ◌<◌, Bool, true, false, get_or, List, refl, ap, sym, subst, ◌∙◌, inl, inr, ◌⊎◌, Ok, Err, Option, Some, None, cond}
+use Rattle.std.proofs.Common.{◌≡◌, ℕ, ◌<◌, Bool, true, false, get_or, List, refl, ap, sym, subst, ◌∙◌, inl}
+use Rattle.std.proofs.Common.{inr, ◌⊎◌, Ok, Err, Option, Some, None, cond}
 use Rattle.std.proofs.lemmas.Bool.{cases_Bool, eqb-true, true≢false, false≢true}
 use Rattle.tv_model.specs.Program.{ProgramForm}
 use Rattle.tv_model.specs.Valid.{IsVariable}
@@ -8,10 +9,12 @@ use Rattle.tv_names.specs.declared.place.Others.TheVariants.{Any, Never, Once}
 use Rattle.tv_names.specs.declared.refusal.ResolveError.TheVariants.{VariableUnbound}
 use Rattle.tv_names.specs.Refusal.{◌>>=◌}
 use Rattle.tv_names.specs.Naming.{NamingForm, number_of, sighted}
-use Rattle.tv_names.specs.Resolving.{PlaceForm, is_known_at, is_the_further, noted, other_variable, occurrence, two_occurrences}
+use Rattle.tv_names.specs.Resolving.{PlaceForm, is_known_at, is_the_further, noted, other_variable}
+use Rattle.tv_names.specs.Resolving.{occurrence, two_occurrences}
 use Rattle.tv_vocab.proofs.valid.Refusals.{ok_is, some_is, not_none, not_given, went}
 use Rattle.tv_vocab.proofs.valid.Numbers.{IsHeld, IsSighted, sighted_is}
-use Rattle.tv_vocab.proofs.valid.Parts.{Stands, IsPart, IsAllowed, AsKnown, AsAny, AsFurther, Gives, part_after, both, stands_then}
+use Rattle.tv_vocab.proofs.valid.Parts.{Stands, IsPart, IsAllowed, AsKnown, AsAny, AsFurther, Gives}
+use Rattle.tv_vocab.proofs.valid.Parts.{part_after, both, stands_then}
 
 -- a lone variable
 abbrev pub GivesOne : PlaceForm → NamingForm → ℕ × NamingForm → Type 0

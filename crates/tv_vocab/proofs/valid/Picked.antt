@@ -1,10 +1,13 @@
 -- The variables that a step picks: they are free in the precondition, and keep their numbers.
-use Rattle.std.proofs.Common.{◌≡◌, ◌≢◌, ℕ, zero, suc, ◌+◌, Bool, true, false, not, ◌==◌, get_or, List, [], ◌∷◌, ◌++◌, length, refl, ap, sym, subst, ◌∙◌, arith, inl, inr, Ok, Option, Some, None, cond}
+use Rattle.std.proofs.Common.{◌≡◌, ◌≢◌, ℕ, zero, suc, ◌+◌, Bool, true, false, not, ◌==◌, get_or, List, []}
+use Rattle.std.proofs.Common.{◌∷◌, ◌++◌, length, refl, ap, sym, subst, ◌∙◌, arith, inl, inr, Ok, Option, Some}
+use Rattle.std.proofs.Common.{None, cond}
 use Rattle.std.specs.Prelude.{Contains}
 use Rattle.std.proofs.lemmas.Bool.{eq-eqb, true≢false}
 use Rattle.std.proofs.lemmas.List.Elements.{Contains-append_cases}
 use Rattle.tv_tree.specs.Forms as tree
-use Rattle.tv_model.specs.Form.{Form, FZero, FOne, FAtom, FIsNew, FSame, FNot, FAnd, FOr, FIff, FCond, FExists, FForall, FClosure, IsFree}
+use Rattle.tv_model.specs.Form.{Form, FZero, FOne, FAtom, FIsNew, FSame, FNot, FAnd, FOr, FIff, FCond}
+use Rattle.tv_model.specs.Form.{FExists, FForall, FClosure, IsFree}
 use Rattle.tv_model.specs.Program.{ProgramForm}
 use Rattle.tv_model.specs.Valid.{without, free_occurrences, first_occurrences, IsPrecondition}
 use Rattle.tv_names.specs.Symbols.{SymbolForm}

@@ -1,5 +1,6 @@
 -- The predicates that resolution gives, with their definitions.
-use Rattle.std.proofs.Common.{◌≡◌, ◌≢◌, ℕ, ◌<◌, ◌≤◌, false, get_or, List, [], ◌∷◌, ◌++◌, length, map, refl, ap, sym, subst, ◌∙◌, arith, inl, inr, Ok, Option, Some, None}
+use Rattle.std.proofs.Common.{◌≡◌, ◌≢◌, ℕ, ◌<◌, ◌≤◌, false, get_or, List, [], ◌∷◌, ◌++◌, length, map, refl}
+use Rattle.std.proofs.Common.{ap, sym, subst, ◌∙◌, arith, inl, inr, Ok, Option, Some, None}
 use Rattle.std.specs.Prelude.{All, AllPairs, Contains, slice_get, unwrap_or}
 use Rattle.std.specs.Option.{option_map}
 use Rattle.std.proofs.lemmas.Bool.{false≢true}
@@ -7,7 +8,8 @@ use Rattle.std.proofs.lemmas.List.{length-map}
 use Rattle.std.proofs.lemmas.List.Elements.{Contains-append_left, Contains-append_right}
 use Rattle.std.proofs.lemmas.Option.{slice_get-map}
 use Rattle.tv_tree.specs.Forms as tree
-use Rattle.tv_model.specs.Form.{Form, FZero, FOne, FAtom, FIsNew, FSame, FNot, FAnd, FOr, FIff, FCond, FExists, FForall, FClosure, Mentions}
+use Rattle.tv_model.specs.Form.{Form, FZero, FOne, FAtom, FIsNew, FSame, FNot, FAnd, FOr, FIff, FCond}
+use Rattle.tv_model.specs.Form.{FExists, FForall, FClosure, Mentions}
 use Rattle.tv_model.specs.Program.{ProgramForm, PredForm, KindForm, KCore, KDefined}
 use Rattle.tv_model.specs.Valid.{IsPlainFormula, IsOver, AreVariables, IsKind, IsPred, IsRank, AreProperties}
 use Rattle.tv_tree.specs.Spelled.{IsSpelledName}
@@ -18,7 +20,8 @@ use Rattle.tv_names.specs.Symbols.{SymbolForm, symbol_of}
 use Rattle.tv_names.specs.Naming.{NamingForm, declared_all, no_names}
 use Rattle.tv_names.specs.Resolving.{resolved}
 use Rattle.tv_vocab.specs.Vocabulary as vocabulary
-use Rattle.tv_vocab.specs.Vocabulary.{over, definition, kind, predicate, mentioned, mentioned_by, uses_of, symbols, abs_at, props_of}
+use Rattle.tv_vocab.specs.Vocabulary.{over, definition, kind, predicate, mentioned, mentioned_by, uses_of}
+use Rattle.tv_vocab.specs.Vocabulary.{symbols, abs_at, props_of}
 use Rattle.tv_vocab.specs.Cycles.{MentionsPred, has_cycle}
 use Rattle.tv_vocab.proofs.CycleLaws.{ranks_unless_found}
 use Rattle.tv_vocab.proofs.valid.Refusals.{ok_is, went}
@@ -27,7 +30,8 @@ use Rattle.tv_vocab.proofs.valid.Parts.{AreSymbols, IsAllowed, AsKnown, AsAny, A
 use Rattle.tv_vocab.proofs.valid.Formulas.{formula_given}
 use Rattle.tv_vocab.proofs.valid.Flags.{known_from}
 use Rattle.tv_vocab.proofs.valid.Zips.{each_zip, zip_all, zip_map, zip_also}
-use Rattle.tv_vocab.proofs.valid.Symbols.{IsDeclared, symbols_given, symbol_for, name_of, name_given, not_reserved, properties_given, arities_given}
+use Rattle.tv_vocab.proofs.valid.Symbols.{IsDeclared, symbols_given, symbol_for, name_of, name_given}
+use Rattle.tv_vocab.proofs.valid.Symbols.{not_reserved, properties_given, arities_given}
 
 -- ---- formulas over some variables
 

@@ -9,7 +9,7 @@ use Rattle.tv_model.specs.Valid.{IsValid}
 use Rattle.tv_flat.specs.FlatForm.{FlatForm, part_items}
 use Rattle.tv_vocab.specs.Premise.{IsResolvable}
 use Rattle.tv_names.specs.declared.refusal.ResolveError.TheVariants.{DefinitionCycle}
-use Rattle.tv_names.specs.Refusal.{◌>>=◌, OrRefused, Gives, refused_if, each}
+use Rattle.tv_names.specs.Refusal.{◌>>=◌, OrRefused, GivesOrRefuses, refused_if, each}
 use Rattle.tv_names.specs.Symbols.{SymbolForm}
 use Rattle.tv_vocab.specs.Vocabulary.{symbols, predicate, uses_of, vocabulary, rule}
 use Rattle.tv_vocab.specs.Cycles.{has_cycle}
@@ -82,6 +82,6 @@ program_valid flat p is h =
     })
 
 -- what a call answers where it gives what is defined
-pub valid_given : (flat : FlatForm) (r : OrRefused Program) → Gives program_of r (program flat) → IsResolvable flat → IfOk r (λ p. IsValid (program_of p))
+pub valid_given : (flat : FlatForm) (r : OrRefused Program) → GivesOrRefuses program_of r (program flat) → IsResolvable flat → IfOk r (λ p. IsValid (program_of p))
 valid_given flat (Ok p) given is = program_valid flat (program_of p) is given
 valid_given flat (Err e) given is = tt

@@ -1,10 +1,13 @@
 -- The predicates that are declared: their names, arities and properties.
-use Rattle.std.proofs.Common.{◌≡◌, ◌≢◌, ℕ, zero, suc, ◌+◌, ◌<◌, ◌≤◌, Bool, true, false, not, get_or, List, [], ◌∷◌, ◌++◌, length, map, fold, refl, ap, sym, subst, ◌∙◌, arith, append_assoc, length-append, inl, inr, Ok, Option, Some, None, cond}
+use Rattle.std.proofs.Common.{◌≡◌, ◌≢◌, ℕ, zero, suc, ◌+◌, ◌<◌, ◌≤◌, Bool, true, false, not, get_or, List, []}
+use Rattle.std.proofs.Common.{◌∷◌, ◌++◌, length, map, fold, refl, ap, sym, subst, ◌∙◌, arith, append_assoc}
+use Rattle.std.proofs.Common.{length-append, inl, inr, Ok, Option, Some, None, cond}
 use Rattle.std.specs.Prelude.{All, AllPairs, codes, nat_lt, nat_le, is_some, slice_get}
 use Rattle.std.specs.Option.{option_map}
 use Rattle.std.specs.List.{list_all, join_with_byte, AllZip}
 use Rattle.std.specs.Str.{bytes_eq}
-use Rattle.std.proofs.lemmas.Bool.{and_parts, or_parts, not-false, ltb-false, leb-false, eqb-true, true≢false, false≢true}
+use Rattle.std.proofs.lemmas.Bool.{and_parts, or_parts, not-false, ltb-false, leb-false, eqb-true, true≢false}
+use Rattle.std.proofs.lemmas.Bool.{false≢true}
 use Rattle.std.proofs.lemmas.List.{append-nil, map_push}
 use Rattle.std.proofs.lemmas.List.Elements.{All-nil, All-cons}
 use Rattle.std.proofs.lemmas.List.Quantifiers.{all_pairs_push}
@@ -12,17 +15,22 @@ use Rattle.std.proofs.lemmas.Slice.Eq.{bytes_eq-Decides}
 use Rattle.tv_tree.specs.Forms as tree
 use Rattle.tv_tree.specs.Forms.{NameForm}
 use Rattle.tv_tree.specs.declared.trees.PropWord.{PropWord}
-use Rattle.tv_tree.specs.declared.trees.PropWord.TheVariants.{Unique, Function, Invfunction, Abs, Nonabs, Transitive, Reflexive, Symmetric, Boxed, Pointer}
+use Rattle.tv_tree.specs.declared.trees.PropWord.TheVariants.{Unique, Function, Invfunction, Abs, Nonabs}
+use Rattle.tv_tree.specs.declared.trees.PropWord.TheVariants.{Transitive, Reflexive, Symmetric, Boxed}
+use Rattle.tv_tree.specs.declared.trees.PropWord.TheVariants.{Pointer}
 use Rattle.tv_model.specs.declared.program.Props.{Props}
 use Rattle.tv_model.specs.Spelling.{IsIdentifier, IsName}
 use Rattle.tv_model.specs.Program.{PredForm}
 use Rattle.tv_model.specs.Valid.{AreProperties}
 use Rattle.tv_tree.specs.Spelled.{IsSpelledName}
-use Rattle.tv_names.specs.declared.refusal.ResolveError.TheVariants.{NameTwice, ArityWrong, ArityTooLarge, Reserved, TooMany}
+use Rattle.tv_names.specs.declared.refusal.ResolveError.TheVariants.{NameTwice, ArityWrong, ArityTooLarge}
+use Rattle.tv_names.specs.declared.refusal.ResolveError.TheVariants.{Reserved, TooMany}
 use Rattle.tv_names.specs.Refusal.{◌>>=◌, OrRefused, refused_if, one_by_one}
 use Rattle.tv_tree.specs.Names.{name_text, brackets_text}
-use Rattle.tv_names.specs.Symbols.{SymbolForm, KnownForm, is_sm, is_new_word, is_reserved, symbol_of, behind_one}
-use Rattle.tv_vocab.specs.Vocabulary.{twice, fits, with_prop, no_props, props_of, symbol_checked, with_symbol, symbols}
+use Rattle.tv_names.specs.Symbols.{SymbolForm, KnownForm, is_sm, is_new_word, is_reserved, symbol_of}
+use Rattle.tv_names.specs.Symbols.{behind_one}
+use Rattle.tv_vocab.specs.Vocabulary.{twice, fits, with_prop, no_props, props_of, symbol_checked, with_symbol}
+use Rattle.tv_vocab.specs.Vocabulary.{symbols}
 use Rattle.tv_vocab.proofs.valid.Refusals.{ok_is, some_is, not_none, went, not_refused}
 
 -- ---- names

@@ -1,5 +1,7 @@
 -- The updates that resolution gives.
-use Rattle.std.proofs.Common.{◌≡◌, ◌≢◌, ℕ, zero, suc, ◌<◌, Bool, true, false, not, ◌&&◌, ◌==◌, get_or, List, [], ◌∷◌, ◌++◌, length, map, refl, ap, sym, subst, ◌∙◌, arith, inl, inr, Ok, Option, Some, None, cond}
+use Rattle.std.proofs.Common.{◌≡◌, ◌≢◌, ℕ, zero, suc, ◌<◌, Bool, true, false, not, ◌&&◌, ◌==◌, get_or, List}
+use Rattle.std.proofs.Common.{[], ◌∷◌, ◌++◌, length, map, refl, ap, sym, subst, ◌∙◌, arith, inl, inr, Ok}
+use Rattle.std.proofs.Common.{Option, Some, None, cond}
 use Rattle.std.specs.Prelude.{All, AllPairs, Contains, slice_get}
 use Rattle.std.specs.Option.{option_map}
 use Rattle.std.proofs.lemmas.Bool.{eqb-true, eq-eqb, true≢false, false≢true, and_parts, or_parts, not-false}
@@ -9,16 +11,19 @@ use Rattle.std.proofs.lemmas.List.Elements.{All-nil, All-push, Contains-append_c
 use Rattle.std.proofs.lemmas.List.Quantifiers.{all_pairs_push}
 use Rattle.tv_tree.specs.Forms as tree
 use Rattle.tv_tree.specs.Forms.{Nest, Single, Foreach}
-use Rattle.tv_model.specs.Program.{ProgramForm, PredForm, KindForm, KCore, KDefined, ChangeForm, CFree, CTo, UpdateForm, ActionForm}
+use Rattle.tv_model.specs.Program.{ProgramForm, PredForm, KindForm, KCore, KDefined, ChangeForm, CFree, CTo}
+use Rattle.tv_model.specs.Program.{UpdateForm, ActionForm}
 use Rattle.tv_model.specs.Valid.{IsChange, IsUpdate, AreVariables, arity_of}
-use Rattle.tv_names.specs.declared.refusal.ResolveError.TheVariants.{NameUnknown, NameTwice, ArityWrong, Reserved, UpdateTwice}
+use Rattle.tv_names.specs.declared.refusal.ResolveError.TheVariants.{NameUnknown, NameTwice, ArityWrong}
+use Rattle.tv_names.specs.declared.refusal.ResolveError.TheVariants.{Reserved, UpdateTwice}
 use Rattle.tv_names.specs.Refusal.{◌>>=◌, OrRefused, refused_if, or_refused, one_by_one}
 use Rattle.tv_tree.specs.Names.{name_text}
 use Rattle.tv_names.specs.Symbols.{SymbolForm, KnownForm, is_reserved, symbol_of}
 use Rattle.tv_names.specs.Naming.{NamingForm, declared_all}
 use Rattle.tv_names.specs.Resolving.{resolved}
 use Rattle.tv_vocab.specs.Vocabulary.{twice}
-use Rattle.tv_vocab.specs.Actions.{PickingForm, updating, is_half, is_core_kind, is_core_pred, is_updated, change, update_of_pred, update, with_update}
+use Rattle.tv_vocab.specs.Actions.{PickingForm, updating, is_half, is_core_kind, is_core_pred, is_updated}
+use Rattle.tv_vocab.specs.Actions.{change, update_of_pred, update, with_update}
 use Rattle.tv_vocab.proofs.valid.Refusals.{ok_is, some_is, not_none, went, not_refused, was_some, after_each}
 use Rattle.tv_vocab.proofs.valid.Numbers.{declared_are}
 use Rattle.tv_vocab.proofs.valid.Parts.{AreSymbols, Stands, IsAllowed, AsKnown, AsAny, AsFurther}

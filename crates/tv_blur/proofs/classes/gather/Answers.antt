@@ -2,7 +2,7 @@ use Rattle.std.proofs.Common.{ℕ, [], ◌∷◌, ◌++◌, ◌≡◌, ◌∙◌
 use Rattle.std.specs.List.{insert}
 use Rattle.std.proofs.lemmas.List.{get_or_read}
 use Rattle.tv_blur.specs.Names.{name_cmp}
-use Rattle.tv_blur.specs.Naming.{class_name, name_in}
+use Rattle.tv_blur.specs.Naming.{class_name, canonical_name_in}
 use Rattle.tv_blur.proofs.Gathered.{gathered_known, gathered_new}
 use Rattle.tv_blur.proofs.classes.gather.Goals as goal
 
@@ -11,7 +11,7 @@ returns-in_ok-add c =
     let classes : List (List ℕ) = c.args.classes.now.items
     in let place : ℕ = c.place_for-place.result
     in let known : (place < length classes)
-    × (name_cmp (class_name c.args.names.now classes place) (name_in c.args.names.now c.args.u) ≡ Equal)
+    × (name_cmp (class_name c.args.names.now classes place) (canonical_name_in c.args.names.now c.args.u) ≡ Equal)
     = rw c.deref-2.ensures.value at c.if-has_name.ensures
     in gathered_known c.args.names.now c.args.u place classes (set classes place c.add.new.self) c.requires.gathered known.0
     known.1

@@ -1,8 +1,9 @@
-use Rattle.std.proofs.Common.{ℕ, [], ◌≡◌, ◌≢◌, ◌∙◌, ◌<◌, ◌+◌, ◌-◌, ◌/◌, true, false, length, get_or, Less, sym, ap, subst, arith}
+use Rattle.std.proofs.Common.{ℕ, [], ◌≡◌, ◌≢◌, ◌∙◌, ◌<◌, ◌+◌, ◌-◌, ◌/◌, true, false, length, get_or, Less}
+use Rattle.std.proofs.Common.{sym, ap, subst, arith}
 use Rattle.std.proofs.lemmas.List.{get_or_read}
 use Rattle.tv_blur.specs.Names.{name_cmp}
 use Rattle.tv_blur.specs.Classes.{class_at}
-use Rattle.tv_blur.specs.Naming.{class_name, name_in}
+use Rattle.tv_blur.specs.Naming.{class_name, canonical_name_in}
 use Rattle.tv_blur.proofs.Gathered.{first_within, search_above, search_below}
 use Rattle.tv_blur.proofs.classes.place_for.Goals as goal
 
@@ -28,8 +29,8 @@ loop-low-preserved-then-is_below c =
     = c.first.ensures
     ∙ ap (λ xs. get_or xs 0 0)
     (get_or_read c.args.classes.now middle c.index-classes-middle.result lt c.index-classes-middle.is [])
-    in let less : name_cmp (class_name c.args.names.now c.args.classes.now middle) (name_in c.args.names.now c.args.u) ≡ Less
-    = subst (λ v. name_cmp (name_in c.args.names.now v) (name_in c.args.names.now c.args.u) ≡ Less) first
+    in let less : name_cmp (class_name c.args.names.now c.args.classes.now middle) (canonical_name_in c.args.names.now c.args.u) ≡ Less
+    = subst (λ v. name_cmp (canonical_name_in c.args.names.now v) (canonical_name_in c.args.names.now c.args.u) ≡ Less) first
     (c.is_below.ensures.0 c.if-is_below.true)
     in (
       omega (arith, c.loop-low-test.true),
@@ -46,11 +47,11 @@ loop-low-preserved c =
     = c.first.ensures
     ∙ ap (λ xs. get_or xs 0 0)
     (get_or_read c.args.classes.now middle c.index-classes-middle.result lt c.index-classes-middle.is [])
-    in let not_less : name_cmp (class_name c.args.names.now c.args.classes.now middle) (name_in c.args.names.now c.args.u) ≢ Less
+    in let not_less : name_cmp (class_name c.args.names.now c.args.classes.now middle) (canonical_name_in c.args.names.now c.args.u) ≢ Less
     = λ less.
     let is : c.is_below.result ≡ true
     = c.is_below.ensures.1
-    (subst (λ v. name_cmp (name_in c.args.names.now v) (name_in c.args.names.now c.args.u) ≡ Less) (sym first) less)
+    (subst (λ v. name_cmp (canonical_name_in c.args.names.now v) (canonical_name_in c.args.names.now c.args.u) ≡ Less) (sym first) less)
     in let f : true ≡ false = sym is ∙ c.if-is_below.false
     in cc
     in (

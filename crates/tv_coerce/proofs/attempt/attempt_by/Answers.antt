@@ -1,19 +1,19 @@
 use Rattle.std.proofs.Common.{◌∙◌, subst, sym}
 use Rattle.tv_rules.specs.EntryForms.{rules_of}
-use Rattle.tv_coerce.specs.Trying.{IsFound, rule_at}
+use Rattle.tv_coerce.specs.Trying.{IsTrialResult, rule_at}
 use Rattle.tv_coerce.proofs.Attempting.{attempted-all, attempted-asked, attempted-more}
 use Rattle.tv_coerce.proofs.attempt.attempt_by.Goals as goal
 
 pub returns-then-has_some-clause-attempted : goal.returns-then-has_some-clause-attempted
 returns-then-has_some-clause-attempted c =
-    let found = subst (IsFound c.args.s.now (rule_at c.args.closed.now c.in-Some.number)) c.in-Some-2.is c.in_ok-find.ensures.found
+    let found = subst (IsTrialResult c.args.s.now (rule_at c.args.closed.now c.in-Some.number)) c.in-Some-2.is c.in_ok-find.ensures.found
     in attempted-asked c.args.closed.now c.args.s.now c.in-Some.number c.loop-number.waiting c.take.new.self c.args.evaluator.now
     c.loop-number.evaluator c.find.new.evaluator c.loop-number.invariant c.in-Some.ensures.0 c.in-Some.ensures.1 c.in_ok-find.ensures.stays
     c.in-Some-2.changes.items found.0 (λ e. c.if-has_some.ensures (c.as_slice.ensures.value ∙ e))
 
 pub loop-number-preserved : goal.loop-number-preserved
 loop-number-preserved c =
-    let found = subst (IsFound c.args.s.now (rule_at c.args.closed.now c.in-Some.number)) c.in-Some-2.is c.in_ok-find.ensures.found
+    let found = subst (IsTrialResult c.args.s.now (rule_at c.args.closed.now c.in-Some.number)) c.in-Some-2.is c.in_ok-find.ensures.found
     in attempted-more c.args.closed.now c.args.s.now c.in-Some.number c.loop-number.waiting c.take.new.self c.args.evaluator.now
     c.loop-number.evaluator c.find.new.evaluator c.loop-number.invariant c.in-Some.ensures.0 c.in-Some.ensures.1 c.in_ok-find.ensures.stays
     c.in-Some-2.changes.items found.1 (sym c.as_slice.ensures.value ∙ c.if-has_some.ensures)

@@ -6,7 +6,7 @@ use Rattle.tv_rules.proofs.Carried.{conjuncts_carry_formulas}
 use Rattle.tv_rules.specs.Dues.{dues_in}
 use Rattle.tv_rules.specs.EntryForms.{numbers_of}
 use Rattle.tv_struct.specs.StructureForm.{arities_of}
-use Rattle.tv_coerce.specs.Trying.{IsFound, IsTold, rule_at}
+use Rattle.tv_coerce.specs.Trying.{IsTrialResult, IsTold, rule_at}
 use Rattle.tv_coerce.proofs.Idling.{found-none, nowhere-stable}
 use Rattle.tv_coerce.proofs.Walking.{can-try, due-formula, found-told, rule-found, walk-begins}
 use Rattle.tv_coerce.proofs.finding.find_by_walk.Goals as goal
@@ -54,7 +54,7 @@ returns-clause-found c =
     let rule = rule_at c.args.closed.now c.args.number
     in let waits = c.waits-waits.ensures rule (rule-found c.args.closed.now c.args.number c.requires.number)
     in let vars = c.waits-waits.result.variables.now
-    in subst (IsFound c.args.s.now rule) (sym c.answer.ensures)
+    in subst (IsTrialResult c.args.s.now rule) (sym c.answer.ensures)
     (found-told c.args.s.now rule vars (assignment_of c.new-a.result) c.new-noted.result.list.items
     c.into_list.result c.in_ok-outcome.outcome waits.free c.new-noted.ensures
     (subst (λ list. IsTold c.args.s.now rule (numbers_of vars) (assignment_of c.new-a.result)

@@ -1,4 +1,5 @@
-use Rattle.std.proofs.Common.{◌≡◌, ◌<◌, ◌≤◌, ◌+◌, ◌-◌, [], ◌∷◌, length, take, drop, get_or, sym, ap, subst, arith}
+use Rattle.std.proofs.Common.{◌≡◌, ◌<◌, ◌≤◌, ◌+◌, ◌-◌, [], ◌∷◌, length, take, drop, get_or, sym, ap, subst}
+use Rattle.std.proofs.Common.{arith}
 use Rattle.std.specs.Prelude.{All, IfOk}
 use Rattle.std.proofs.lemmas.List.Elements.{All-head}
 use Rattle.std.proofs.lemmas.Result.{IfOk-weaker}
@@ -8,9 +9,10 @@ use Rattle.tv_eval.specs.AssignmentForm.{assignment_of}
 use Rattle.tv_eval.specs.Bound.{bound_room}
 use Rattle.tv_rules.specs.EntryForms.{numbers_of}
 use Rattle.tv_rules.specs.Dues.{IsDue, due_of, dues_in}
-use Rattle.tv_coerce.specs.Trying.{AreKept, CanTry, IsTold, IsWalk, trial_rule}
+use Rattle.tv_coerce.specs.Trying.{DifferOnlyAt, CanTry, IsTold, IsTrialStart, trial_rule}
 use Rattle.tv_coerce.specs.declared.trial.Outcome.TheVariants.{Possible}
-use Rattle.tv_coerce.proofs.Walking.{split-vars, told-noted, body-yes, kept-more, put-kept, walk-on, walked-all, walked-more, rule-variable, stays-on, tail-shorter, none-at}
+use Rattle.tv_coerce.proofs.Walking.{split-vars, told-noted, body-yes, kept-more, put-kept, walk-on}
+use Rattle.tv_coerce.proofs.Walking.{walked-all, walked-more, rule-variable, stays-on, tail-shorter, none-at}
 use Rattle.tv_coerce.proofs.trial.+walk.Goals as goal
 
 pub set-requires : goal.set-requires
@@ -48,8 +50,8 @@ walk-requires t c =
               subst (CanTry rule s) (sym stays.room) c.requires.ready,
               (
                 walk-on s rule ds v tail c.args.a.now c.set.new.self c.in-Some.u
-                    (subst (IsWalk rule s ds (v ∷ tail) c.args.a.now) one-more
-                    (subst (λ vs. IsWalk rule s ds vs c.args.a.now (length vs)) split c.requires.walk)) within
+                    (subst (IsTrialStart rule s ds (v ∷ tail) c.args.a.now) one-more
+                    (subst (λ vs. IsTrialStart rule s ds vs c.args.a.now (length vs)) split c.requires.walk)) within
                     (put-kept v tail c.in-Some.u c.args.a.now c.loop-u.a c.set.new.self c.loop-u.invariant.1 c.set.ensures.places)
                     (c.places_for-places.ensures.places.yes c.in-Some.u within c.in-Some.ensures.2),
                 (subst (λ vs. IsDue vs (due_of c.args.trial.now.denied)) split c.requires.due).1,
@@ -67,7 +69,7 @@ returns-in_err-walk-in-len1-up-clause-keeps t c =
     in let v = (get_or rest 0 d).0
     in let tail = numbers_of (take (length rest - 1) (drop 1 rest))
     in let split : numbers_of rest ≡ v ∷ tail = split-vars rest d (omega (arith, c.in-len1-up.len_at_least))
-    in subst (λ vs. AreKept vs c.args.a.now c.walk.new.a) (sym split)
+    in subst (λ vs. DifferOnlyAt vs c.args.a.now c.walk.new.a) (sym split)
     (kept-more v tail c.in-Some.u c.args.a.now c.loop-u.a c.set.new.self c.walk.new.a c.loop-u.invariant.1 c.set.ensures.places
     c.in_err-walk-in-len1-up.ensures.keeps)
 
@@ -100,7 +102,7 @@ returns-in-Impossible-clause-keeps t c =
     in let v = (get_or rest 0 d).0
     in let tail = numbers_of (take (length rest - 1) (drop 1 rest))
     in let split : numbers_of rest ≡ v ∷ tail = split-vars rest d (omega (arith, c.in-len1-up.len_at_least))
-    in subst (λ vs. AreKept vs c.args.a.now c.walk.new.a) (sym split)
+    in subst (λ vs. DifferOnlyAt vs c.args.a.now c.walk.new.a) (sym split)
     (kept-more v tail c.in-Some.u c.args.a.now c.loop-u.a c.set.new.self c.walk.new.a c.loop-u.invariant.1 c.set.ensures.places
     c.in_ok-walk-in-len1-up.ensures.keeps)
 
@@ -111,7 +113,7 @@ returns-then-has_more-clause-keeps t c =
     in let v = (get_or rest 0 d).0
     in let tail = numbers_of (take (length rest - 1) (drop 1 rest))
     in let split : numbers_of rest ≡ v ∷ tail = split-vars rest d (omega (arith, c.in-len1-up.len_at_least))
-    in subst (λ vs. AreKept vs c.args.a.now c.walk.new.a) (sym split)
+    in subst (λ vs. DifferOnlyAt vs c.args.a.now c.walk.new.a) (sym split)
     (kept-more v tail c.in-Some.u c.args.a.now c.loop-u.a c.set.new.self c.walk.new.a c.loop-u.invariant.1 c.set.ensures.places
     c.in_ok-walk-in-len1-up.ensures.keeps)
 
@@ -122,7 +124,7 @@ returns-in-empty-clause-told t c =
     in let ds = dues_in c.args.conjuncts.now
     in let a = c.args.a.now
     in let none : numbers_of c.args.rest.now ≡ [] = ap numbers_of (none-at c.args.rest.now c.in-empty.len_below)
-    in let walk : IsWalk rule s ds [] a 0 = subst (λ vs. IsWalk rule s ds vs a (length vs)) none c.requires.walk
+    in let walk : IsTrialStart rule s ds [] a 0 = subst (λ vs. IsTrialStart rule s ds vs a (length vs)) none c.requires.walk
     in let body = body-yes s rule ds a walk
     in subst (λ vs. IfOk c.note.result (IsTold s rule vs (assignment_of a) c.args.noted.now.list.items c.note.new.noted.list.items)) (sym none)
     (IfOk-weaker c.note.result _ _ (λ outcome noted. told-noted s rule a (bound_room c.args.evaluator.now) c.args.noted.now.list.items
@@ -151,4 +153,4 @@ returns-in_default-clause-keeps t c =
     in let v = (get_or rest 0 d).0
     in let tail = numbers_of (take (length rest - 1) (drop 1 rest))
     in let split : numbers_of rest ≡ v ∷ tail = split-vars rest d (omega (arith, c.in-len1-up.len_at_least))
-    in subst (λ vs. AreKept vs c.args.a.now c.loop-u.a) (sym split) c.loop-u.invariant.1
+    in subst (λ vs. DifferOnlyAt vs c.args.a.now c.loop-u.a) (sym split) c.loop-u.invariant.1

@@ -1,7 +1,7 @@
 use Rattle.std.proofs.Common.{◌≡◌, inr, refl, subst}
 use Rattle.tv_model.specs.Program.{head_of}
 use Rattle.tv_model.specs.Rules.{IsInHead}
-use Rattle.tv_stable.specs.Stable.{IsHeadMet}
+use Rattle.tv_stable_laws.specs.Stable.{IsHeadMet}
 use Rattle.tv_eval.specs.AssignmentForm.{assignment_of}
 use Rattle.tv_rules.specs.EntryForms.{numbers_of}
 use Rattle.tv_struct.specs.StructureForm.{structure_of}

@@ -1,6 +1,7 @@
 -- Each property's answer is a part of the whole.
 use Rattle.std.proofs.Common.{All}
-use Rattle.tv_model.specs.Rules.{MeetsRule, declared_rule, property_rules, unique_rule, function_rule, invfunction_rule, transitive_rule, reflexive_rule, symmetric_rule}
+use Rattle.tv_model.specs.Rules.{MeetsRule, declared_rule, property_rules, unique_rule, function_rule}
+use Rattle.tv_model.specs.Rules.{invfunction_rule, transitive_rule, reflexive_rule, symmetric_rule}
 use Rattle.tv_concrete.specs.Lists.{heap_of}
 use Rattle.tv_concrete.proofs.PropertyLemmas.{each-of_all, all-of_each, part-fails, part-holds, result-answer}
 use Rattle.tv_concrete.proofs.properties.meets_properties.Goals as goal

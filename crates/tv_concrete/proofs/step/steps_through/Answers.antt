@@ -4,7 +4,8 @@ use Rattle.tv_model.specs.declared.formula.Var.{Var}
 use Rattle.tv_model.specs.declared.program.Pred.{Pred}
 use Rattle.tv_model.specs.declared.program.Update.{Update}
 use Rattle.tv_model.specs.Heap.{IsTuple}
-use Rattle.tv_model.specs.Program.{KCore, action_of, picks_of, pred_of, program_of, retain_of, update_of, EachPred}
+use Rattle.tv_model.specs.Program.{KCore, action_of, picks_of, pred_of, program_of, retain_of, update_of}
+use Rattle.tv_model.specs.Program.{EachPred}
 use Rattle.tv_model.specs.Rules.{IsConcrete}
 use Rattle.tv_model.specs.Step.{FollowsUpdate, Keeps, StepsThrough, update_for}
 use Rattle.tv_concrete.specs.Lists.{assignment_of, heap_of}

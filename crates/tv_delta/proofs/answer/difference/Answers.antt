@@ -18,7 +18,7 @@ returns-clause-exact c =
     (λ x says. differs p c.args.action q (action_of c.index-as_slice-action.result) c.in_ok-affected.affected.items
     c.deref.result.now (pred_of c.index-as_slice-pred.result) x at found c.requires.defined c.deref.ensures.value
     c.in_ok-affected.ensures says)
-    c.answer_at.ensures
+    c.answer_at.ensures.says
 
 pub returns-clause-keep : goal.returns-clause-keep
 returns-clause-keep c =

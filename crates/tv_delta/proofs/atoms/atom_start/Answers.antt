@@ -1,5 +1,5 @@
 use Rattle.std.proofs.Common.{◌≡◌, true, rules}
-use Rattle.tv_difference.specs.Deltas.{is_flagged}
+use Rattle.tv_delta_laws.specs.Deltas.{is_flagged}
 use Rattle.tv_delta.proofs.atoms.atom_start.Goals as goal
 
 pub returns-in-None : goal.returns-in-None

@@ -1,8 +1,9 @@
-use Rattle.std.proofs.Common.{ℕ, ◌≡◌, ◌∙◌, ◌<◌, ◌+◌, Bool, true, false, not, cond, List, length, map, set, get_or, arith, subst, sym, ap}
+use Rattle.std.proofs.Common.{ℕ, ◌≡◌, ◌∙◌, ◌<◌, ◌+◌, Bool, true, false, not, cond, List, length, map, set}
+use Rattle.std.proofs.Common.{get_or, arith, subst, sym, ap}
 use Rattle.std.proofs.lemmas.List.Sums.{sum_by-set}
 use Rattle.std.specs.Prelude.{count_by}
 use Rattle.tv_model.specs.Program.{pred_of}
-use Rattle.tv_difference.specs.Deltas.{is_flagged}
+use Rattle.tv_delta_laws.specs.Deltas.{is_flagged}
 use Rattle.tv_delta.specs.Flags.{rests_at}
 use Rattle.tv_delta.proofs.Marks.{get-flag, marking_more}
 use Rattle.tv_delta.proofs.flags.mark.Goals as goal

@@ -1,6 +1,6 @@
 use Rattle.std.proofs.Common.{ℕ, ◌≡◌, ◌<◌, map, true}
 use Rattle.tv_model.specs.Program.{pred_of}
-use Rattle.tv_difference.specs.Deltas.{is_flagged}
+use Rattle.tv_delta_laws.specs.Deltas.{is_flagged}
 use Rattle.tv_delta.specs.Flags.{rests_at}
 use Rattle.tv_delta.proofs.flags.next_affected.Given as goal
 

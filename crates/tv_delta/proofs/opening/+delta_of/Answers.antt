@@ -1,9 +1,10 @@
 use Rattle.std.proofs.Common.{◌≡◌, ◌+◌, ◌-◌, arith, ap, sym, subst}
 use Rattle.tv_model.specs.Form.{form_of}
 use Rattle.tv_model.specs.Program.{program_of}
-use Rattle.tv_difference.specs.Simple.{nodes}
-use Rattle.tv_forming.proofs.DeltaSteps.{and_stops, or_stops, alike_stops, choice_stops, choice_stops_second}
-use Rattle.tv_forming.specs.Views.{Gives, delta_form}
+use Rattle.tv_delta_laws.specs.Simple.{nodes}
+use Rattle.tv_delta_form.proofs.DeltaSteps.{and_stops, or_stops, alike_stops, choice_stops}
+use Rattle.tv_delta_form.proofs.DeltaSteps.{choice_stops_second}
+use Rattle.tv_delta_form.specs.Views.{GivesFormed, delta_form}
 use Rattle.tv_delta.specs.Opening.{delta_at, EndsWithin}
 use Rattle.tv_delta.proofs.opening.+delta_of.Goals as goal
 
@@ -28,13 +29,13 @@ returns-in-Inside-clause-delta t c =
     let ends = rw c.in-Atom.is at c.requires.ends
     in let starts = c.in-Inside.ensures c.args.depth ends
     in let made = c.atom_end.ensures.delta (delta_at c.args.o.now (form_of c.in-Inside.x)) c.delta_of-d.ensures.delta
-    in rw c.in-Atom.is (subst (λ o. Gives delta_form c.atom_end.result o) (sym starts.4) made)
+    in rw c.in-Atom.is (subst (λ o. GivesFormed delta_form c.atom_end.result o) (sym starts.4) made)
 
 pub returns-in-Inside-clause-known : goal.returns-in-Inside-clause-known
 returns-in-Inside-clause-known t c =
     let ends = rw c.in-Atom.is at c.requires.ends
     in let starts = c.in-Inside.ensures c.args.depth ends
-    in c.atom_end.ensures.known c.args.o.now (delta_at c.args.o.now (form_of c.in-Inside.x)) c.delta_of-d.ensures.known
+    in c.atom_end.ensures.known (delta_at c.args.o.now (form_of c.in-Inside.x)) c.delta_of-d.ensures.known
     c.delta_of-d.ensures.delta starts.4
 
 -- ---- parts are smaller, and known atoms stay known
@@ -44,9 +45,9 @@ delta_of-requires t c =
     let part = rw c.in-Not.is at c.requires.ends
     in let whole : nodes (form_of c.args.f.now) ≡ nodes (form_of c.in-Not.g.value) + 1
     = ap (λ x. nodes (form_of x)) c.in-Not.is
-    in let its : nodes (form_of c.deref-in-Not.result.now) ≡ nodes (form_of c.in-Not.g.value)
-    = ap (λ x. nodes (form_of x)) c.deref-in-Not.ensures
-    in (omega (arith, c.decreases, whole, its), (c.requires.known, rw c.deref-in-Not.ensures (part.0, part.1)))
+    in let its : nodes (form_of c.deref.result.now) ≡ nodes (form_of c.in-Not.g.value)
+    = ap (λ x. nodes (form_of x)) c.deref.ensures
+    in (omega (arith, c.decreases, whole, its), (c.requires.known, rw c.deref.ensures (part.0, part.1)))
 
 pub delta_of-requires-in-And : goal.delta_of-requires-in-And
 delta_of-requires-in-And t c =

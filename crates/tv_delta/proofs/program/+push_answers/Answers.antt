@@ -17,6 +17,9 @@ push_answers-requires t c =
       omega (arith, c.decreases, c.in-len1-up.len_at_least, fewer),
       (
         omega (arith, c.requires.count, c.in-len1-up.len_at_least, fewer),
-        (c.requires.valid, others_are (program_of c.args.a.now.program.now) preds c.requires.preds),
+        (
+          c.requires.valid,
+          (others_are (program_of c.args.a.now.program.now) preds c.requires.preds, c.in_ok-x-in-len1-up.ensures.known),
+        ),
       ),
     )

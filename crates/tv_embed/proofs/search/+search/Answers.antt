@@ -2,7 +2,8 @@ use Rattle.std.proofs.Common.{ℕ, ◌≡◌, ◌<◌, ◌+◌, ◌-◌, ◌*◌
 use Rattle.std.proofs.lemmas.List.{get_or_read, length_push}
 use Rattle.tv_embed.specs.Fits.{IsCandidate, FitsSoFar}
 use Rattle.tv_embed.proofs.FitLaws.{FitsSoFar-push}
-use Rattle.tv_embed.proofs.SearchLaws.{trying_none, trying_more, trying_found, trying_all, trying_fits, searched_case, searched_none, none_joins}
+use Rattle.tv_embed.proofs.SearchLaws.{trying_none, trying_more, trying_found, trying_all, trying_fits}
+use Rattle.tv_embed.proofs.SearchLaws.{searched_case, searched_none, none_joins}
 use Rattle.tv_embed.proofs.search.+search.Goals as goal
 
 pub search-loop-w-init : goal.search-loop-w-init

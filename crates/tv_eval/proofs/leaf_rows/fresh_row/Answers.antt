@@ -2,7 +2,7 @@ use Rattle.std.proofs.Common.{map, replicate, Some, None, refl, sym, ap, subst, 
 use Rattle.std.specs.List.{range_with_len}
 use Rattle.tv_kleene.specs.declared.K3.TheVariants.{No}
 use Rattle.tv_struct.specs.StructureForm.{IsMark}
-use Rattle.tv_value.specs.Value.{mark_value}
+use Rattle.tv_eval_laws.specs.Value.{mark_value}
 use Rattle.tv_eval.proofs.AlongLaws.{copies-map}
 use Rattle.tv_eval.proofs.leaf_rows.fresh_row.Goals as goal
 

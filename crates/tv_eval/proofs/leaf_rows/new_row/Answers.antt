@@ -1,7 +1,7 @@
 use Rattle.std.proofs.Common.{ap, sym, ◌∙◌}
 use Rattle.std.specs.List.{range_with_len}
 use Rattle.tv_model.specs.Truth.{put}
-use Rattle.tv_value.specs.Value.{mark_value}
+use Rattle.tv_eval_laws.specs.Value.{mark_value}
 use Rattle.tv_eval.specs.AssignmentForm.{assignment_of}
 use Rattle.tv_eval.proofs.AlongLaws.{copies-map, same-map, put_same, put_other}
 use Rattle.tv_eval.proofs.leaf_rows.new_row.Goals as goal

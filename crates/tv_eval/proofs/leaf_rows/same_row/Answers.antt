@@ -3,9 +3,10 @@ use Rattle.std.specs.List.{range_with_len}
 use Rattle.tv_kleene.specs.Kleene.{negation_of}
 use Rattle.tv_model.specs.Truth.{put}
 use Rattle.tv_struct.specs.StructureForm.{structure_of}
-use Rattle.tv_value.specs.Value.{same_value}
+use Rattle.tv_eval_laws.specs.Value.{same_value}
 use Rattle.tv_eval.specs.AssignmentForm.{assignment_of}
-use Rattle.tv_eval.proofs.AlongLaws.{copies-map, same-map, same_two, same_turned, same_itself, put_same, put_other}
+use Rattle.tv_eval.proofs.AlongLaws.{copies-map, same-map, same_two, same_turned, same_itself, put_same}
+use Rattle.tv_eval.proofs.AlongLaws.{put_other}
 use Rattle.tv_eval.proofs.leaf_rows.same_row.Goals as goal
 
 pub returns-then-y-v : goal.returns-then-y-v

@@ -1,5 +1,6 @@
 -- The values of the parts make up the value of the whole.
-use Rattle.std.proofs.Common.{rules, ℕ, ◌≡◌, ◌<◌, ◌+◌, ◌-◌, ◌∙◌, inl, inr, [], length, map, get_or, All, refl, sym, ap, subst, arith}
+use Rattle.std.proofs.Common.{rules, ℕ, ◌≡◌, ◌<◌, ◌+◌, ◌-◌, ◌∙◌, inl, inr, [], length, map, get_or, All, refl}
+use Rattle.std.proofs.Common.{sym, ap, subst, arith}
 use Rattle.std.specs.List.{range_with_len}
 use Rattle.std.proofs.lemmas.List.{length-replicate, get_or-replicate, length-map}
 use Rattle.std.proofs.lemmas.List.FromFn.{length-map-range_with_len}
@@ -11,18 +12,22 @@ use Rattle.tv_model.specs.Truth.{put}
 use Rattle.tv_row.specs.Bits.{greatest_in, least_in}
 use Rattle.tv_row.specs.Places.{entry_in}
 use Rattle.tv_struct.specs.StructureForm.{structure_of}
-use Rattle.tv_value.specs.Value.{value, greatest_of, least_of, best_walk}
+use Rattle.tv_eval_laws.specs.Value.{value, greatest_of, least_of, best_walk}
 use Rattle.tv_eval.specs.Along.{values_along}
 use Rattle.tv_eval.specs.AssignmentForm.{assignment_of}
 use Rattle.tv_eval.specs.CanEvaluate.{CanEvaluate}
 use Rattle.tv_eval.specs.Formulas.{sizes_of, nesting}
 use Rattle.tv_eval.specs.HoldsClosure.{HoldsClosure}
-use Rattle.tv_relation.specs.Rows.{IsSquare, part_at}
-use Rattle.tv_relation.specs.declared.relation.Part.TheVariants.{From, To, Diagonal}
-use Rattle.tv_eval.proofs.AlongLaws.{paired-map, mapped-map, greatest-map, least-map, copies-map, same-map, all_set, none-both, all-either, all-then, none-then, alike-map, choice-map, joined-next, set_next, rows_put, read_from, paired_long, put_same, put_other, puts_commute, closure_at}
+use Rattle.tv_eval.specs.Rows.{IsSquare, part_at}
+use Rattle.tv_eval.specs.declared.relation.Part.TheVariants.{From, To, Diagonal}
+use Rattle.tv_eval.proofs.AlongLaws.{paired-map, mapped-map, greatest-map, least-map, copies-map, same-map}
+use Rattle.tv_eval.proofs.AlongLaws.{all_set, none-both, all-either, all-then, none-then, alike-map}
+use Rattle.tv_eval.proofs.AlongLaws.{choice-map, joined-next, set_next, rows_put, read_from, paired_long}
+use Rattle.tv_eval.proofs.AlongLaws.{put_same, put_other, puts_commute, closure_at}
 use Rattle.tv_eval.proofs.Keeping.{closed_are_held, part_held}
 use Rattle.tv_eval.proofs.Loops.{greatest-next, least-next, greatest-end, least-end}
-use Rattle.tv_eval.proofs.Parts.{individual_of, rooms-split, SplitsRooms, can-put, like-itself, like-again, put-again, total-again, row-and, row-or, row-iff, row-cond, row-put}
+use Rattle.tv_eval.proofs.Parts.{individual_of, rooms-split, SplitsRooms, can-put, like-itself, like-again}
+use Rattle.tv_eval.proofs.Parts.{put-again, total-again, row-and, row-or, row-iff, row-cond, row-put}
 use Rattle.tv_eval.proofs.values.+values.Goals as goal
 
 pub value_of-returns-in-Exists-clause-exact : goal.value_of-returns-in-Exists-clause-exact

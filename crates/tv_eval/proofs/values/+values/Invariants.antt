@@ -5,13 +5,13 @@ use Rattle.tv_model.specs.Form.{form_of, height}
 use Rattle.tv_model.specs.Truth.{put}
 use Rattle.tv_row.specs.Places.{entry_in}
 use Rattle.tv_struct.specs.StructureForm.{structure_of}
-use Rattle.tv_value.specs.Value.{value, greatest_of, least_of}
+use Rattle.tv_eval_laws.specs.Value.{value, greatest_of, least_of}
 use Rattle.std.specs.List.{range_with_len}
 use Rattle.tv_kleene.specs.declared.K3.{K3}
 use Rattle.tv_kleene.specs.Kleene.{smaller_of, larger_of}
 use Rattle.tv_eval.specs.AssignmentForm.{assignment_of}
 use Rattle.tv_eval.specs.Formulas.{sizes_of}
-use Rattle.tv_eval.specs.Keeps.{Keeps}
+use Rattle.tv_eval.specs.Keeps.{HoldsClosures}
 use Rattle.tv_eval.proofs.Parts.{IsLike}
 use Rattle.tv_eval.proofs.values.+values.Given as goal
 
@@ -68,7 +68,7 @@ decreases-rows_either l = 8 * max (height (form_of l.g.now)) (height (form_of l.
 abbrev pub invariant-fill-loop-u : goal.invariant-fill-loop-u
 invariant-fill-loop-u l =
     (sizes_of l.rooms ≡ sizes_of l.initial.rooms)
-    × Keeps l.s l.kept l.shared
+    × HoldsClosures l.s l.kept l.shared
     × (length l.relation ≡ length l.initial.relation)
     × ((v : ℕ) → v < l.u → length (get_or l.relation v []) ≡ l.s.size)
     × ((v x : ℕ) → v < l.u → x < l.s.size
@@ -81,7 +81,7 @@ invariant-fill-loop-u l =
 abbrev pub invariant-by_values-loop-u : goal.invariant-by_values-loop-u
 invariant-by_values-loop-u l =
     (sizes_of l.rooms ≡ sizes_of l.initial.rooms)
-    × Keeps l.s l.kept l.shared
+    × HoldsClosures l.s l.kept l.shared
     × (length l.values ≡ l.s.size)
     × ((x : ℕ) → x < l.u → get_or l.values x No ≡ value (structure_of l.s) (put (assignment_of l.a) l.v.0 x)
     (form_of l.f))
@@ -109,7 +109,7 @@ invariant-rows_greatest-loop-x l =
     let g : ℕ → ℕ → K3 = λ u x. value (structure_of l.s) (put (put (assignment_of l.a) l.v.0 u) l.w.0 x)
     (form_of l.body)
     in (sizes_of l.rooms ≡ sizes_of l.initial.rooms)
-    × Keeps l.s l.kept l.shared
+    × HoldsClosures l.s l.kept l.shared
     × (length l.found ≡ l.s.size)
     × ((u : ℕ) → u < l.s.size
     → larger_of (get_or l.found u No) (greatest_of (g u) (range_with_len l.x (l.s.size - l.x))) ≡ greatest_of
@@ -122,7 +122,7 @@ invariant-rows_least-loop-x l =
     let g : ℕ → ℕ → K3 = λ u x. value (structure_of l.s) (put (put (assignment_of l.a) l.v.0 u) l.w.0 x)
     (form_of l.body)
     in (sizes_of l.rooms ≡ sizes_of l.initial.rooms)
-    × Keeps l.s l.kept l.shared
+    × HoldsClosures l.s l.kept l.shared
     × (length l.found ≡ l.s.size)
     × ((u : ℕ) → u < l.s.size
     → smaller_of (get_or l.found u No) (least_of (g u) (range_with_len l.x (l.s.size - l.x))) ≡ least_of (g u)

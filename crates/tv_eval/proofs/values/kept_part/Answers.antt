@@ -1,7 +1,7 @@
 use Rattle.std.proofs.Common.{◌∙◌, sym, subst}
 use Rattle.tv_model.specs.Form.{form_of}
 use Rattle.tv_eval.specs.AssignmentForm.{assignment_of}
-use Rattle.tv_relation.specs.Rows.{IsSquare}
+use Rattle.tv_eval.specs.Rows.{IsSquare}
 use Rattle.tv_eval.proofs.Keeping.{part_held}
 use Rattle.tv_eval.proofs.values.kept_part.Goals as goal
 

@@ -2,8 +2,8 @@ use Rattle.std.proofs.Common.{◌≡◌, ◌∙◌, List, [], ◌∷◌, ◌++�
 use Rattle.std.specs.List.{flat_map, between}
 use Rattle.std.proofs.lemmas.Slice.{first_rest}
 use Rattle.tv_struct.specs.StructureForm.{StructureForm}
-use Rattle.tv_choices.specs.Choices.{ChoiceForm, VectorSet}
-use Rattle.tv_choices.specs.Written.{chosen_table}
+use Rattle.tv_focus_laws.specs.Choices.{ChoiceForm, VectorSet}
+use Rattle.tv_focus_laws.specs.Written.{chosen_table}
 use Rattle.tv_focus.specs.Puts.{chosen_tables}
 use Rattle.tv_focus.specs.Seen.{aim_of}
 use Rattle.tv_focus.proofs.ChosenTables.{one_more}

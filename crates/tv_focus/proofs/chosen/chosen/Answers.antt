@@ -1,7 +1,7 @@
 use Rattle.std.proofs.Common.{◌≡◌, ◌∙◌, ◌++◌, ap, sym, arith}
 use Rattle.tv_struct.specs.StructureForm.{StructureForm, split}
-use Rattle.tv_choices.specs.Tables.{parts_of}
-use Rattle.tv_choices.specs.Written.{written}
+use Rattle.tv_focus_laws.specs.Tables.{parts_of}
+use Rattle.tv_focus_laws.specs.Written.{written}
 use Rattle.tv_focus.specs.Puts.{choice_writes, aim_in}
 use Rattle.tv_focus.specs.Seen.{aim_of}
 use Rattle.tv_focus.proofs.Parts.{parts-are, split-size, aims-within, aim-over}

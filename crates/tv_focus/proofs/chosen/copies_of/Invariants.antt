@@ -1,5 +1,5 @@
 use Rattle.std.proofs.Common.{◌≡◌, map, take, sum}
-use Rattle.tv_choices.specs.Tables.{parts_of}
+use Rattle.tv_focus_laws.specs.Tables.{parts_of}
 use Rattle.tv_focus.proofs.chosen.copies_of.Given as goal
 
 abbrev pub invariant-loop-a : goal.invariant-loop-a

@@ -1,6 +1,6 @@
 use Rattle.std.proofs.Common.{ℕ, ◌≤◌, ◌<◌, ◌∙◌, ◌+◌, ap, sym, subst, arith}
 use Rattle.tv_struct.specs.StructureForm.{structure_of, summary_at}
-use Rattle.tv_choices.specs.Counts.{vector_count, halves_at}
+use Rattle.tv_focus_laws.specs.Counts.{vector_count, halves_at}
 use Rattle.tv_focus.specs.Seen.{aim_of}
 use Rattle.tv_focus.proofs.Few.{few_halves}
 use Rattle.tv_focus.proofs.Folds.{sum_range_more}

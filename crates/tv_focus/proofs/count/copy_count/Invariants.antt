@@ -1,7 +1,7 @@
 use Rattle.std.proofs.Common.{◌≡◌, ◌≤◌, ◌*◌, map, sum}
 use Rattle.std.specs.List.{range_with_len}
 use Rattle.tv_struct.specs.StructureForm.{structure_of, summary_at}
-use Rattle.tv_choices.specs.Counts.{vector_count, halves_at}
+use Rattle.tv_focus_laws.specs.Counts.{vector_count, halves_at}
 use Rattle.tv_focus.specs.Seen.{aim_of}
 use Rattle.tv_focus.proofs.count.copy_count.Given as goal
 

@@ -1,7 +1,7 @@
 use Rattle.std.proofs.Common.{◌∙◌, ◌++◌, [], ap}
 use Rattle.tv_struct.specs.StructureForm.{structure_of}
-use Rattle.tv_choices.specs.Choices.{sets_in}
-use Rattle.tv_choices.specs.Written.{chosen_table}
+use Rattle.tv_focus_laws.specs.Choices.{sets_in}
+use Rattle.tv_focus_laws.specs.Written.{chosen_table}
 use Rattle.tv_focus.specs.Puts.{IsChoiceOf, chosen_tables}
 use Rattle.tv_focus.specs.Seen.{aim_of}
 use Rattle.tv_focus.proofs.ChosenTables.{all_chosen, tables_are}

@@ -1,7 +1,7 @@
 use Rattle.std.proofs.Common.{◌≡◌, map}
 use Rattle.std.specs.List.{range_with_len}
 use Rattle.tv_struct.specs.StructureForm.{structure_of, summary_at}
-use Rattle.tv_choices.specs.Choices.{sets_of, aimed}
+use Rattle.tv_focus_laws.specs.Choices.{sets_of, aimed}
 use Rattle.tv_focus.specs.Seen.{aim_of}
 use Rattle.tv_focus.proofs.stage.all_sets.Given as goal
 

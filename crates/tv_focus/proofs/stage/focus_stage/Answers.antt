@@ -1,7 +1,7 @@
 use Rattle.std.proofs.Common.{◌≡◌, subst, sym}
 use Rattle.std.specs.Prelude.{IfSome}
 use Rattle.tv_model.specs.Form.{form_of}
-use Rattle.tv_choices.specs.Written.{stage_tables}
+use Rattle.tv_focus_laws.specs.Written.{stage_tables}
 use Rattle.tv_focus.specs.Stage.{KeepsHeaps}
 use Rattle.tv_focus.proofs.Limits.{tables-keep-heaps}
 use Rattle.tv_focus.proofs.stage.focus_stage.Goals as goal

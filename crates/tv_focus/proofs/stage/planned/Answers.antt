@@ -2,8 +2,8 @@ use Rattle.std.proofs.Common.{ℕ, ◌≡◌, ◌∙◌, ◌<◌, List, ◌++◌
 use Rattle.std.proofs.lemmas.List.{length-map, get_or-map}
 use Rattle.tv_model.specs.Form.{form_of}
 use Rattle.tv_struct.specs.StructureForm.{arities_of}
-use Rattle.tv_choices.specs.FocusAtoms.{AtomForm, focus_atoms}
-use Rattle.tv_choices.specs.Stages.{no_atom}
+use Rattle.tv_focus_laws.specs.FocusAtoms.{AtomForm, focus_atoms}
+use Rattle.tv_focus_laws.specs.Stages.{no_atom}
 use Rattle.tv_focus.specs.Seen.{atom_of}
 use Rattle.tv_focus.specs.Anchored.{IsAtomOver}
 use Rattle.tv_focus.specs.declared.atoms.FocusAtom.{FocusAtom}

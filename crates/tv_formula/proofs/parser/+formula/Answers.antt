@@ -5,7 +5,12 @@ use Rattle.tv_lex.specs.Token.{spec_tokens}
 use Rattle.tv_tree.specs.Copies.{form_of}
 use Rattle.tv_formula.specs.Grammar.{Whole, Imp, Unary, Joined, Behind}
 use Rattle.tv_formula.specs.Reading.{reading}
-use Rattle.tv_formula.proofs.Steps.{marked, joined_steps, behind_steps, behind_ends, unary_negation, unary_group, unary_bound, unary_leaf, imp_lone, imp_whole, whole_lone, whole_chosen, negated_some, grouped_some, bound_some, chosen_some, told_below, told_negated, told_grouped, told_unbound, told_bound, told_yes, told_colon, told_no, told_left, told_right, told_test, told_first, told_depth, told_part}
+use Rattle.tv_formula.proofs.Steps.{marked, joined_steps, behind_steps, behind_ends, unary_negation}
+use Rattle.tv_formula.proofs.Steps.{unary_group, unary_bound, unary_leaf, imp_lone, imp_whole, whole_lone}
+use Rattle.tv_formula.proofs.Steps.{whole_chosen, negated_some, grouped_some, bound_some, chosen_some}
+use Rattle.tv_formula.proofs.Steps.{told_below, told_negated, told_grouped, told_unbound, told_bound}
+use Rattle.tv_formula.proofs.Steps.{told_yes, told_colon, told_no, told_left, told_right, told_test}
+use Rattle.tv_formula.proofs.Steps.{told_first, told_depth, told_part}
 use Rattle.tv_formula.proofs.parser.+formula.Goals as goal
 
 -- ---- quantifiers

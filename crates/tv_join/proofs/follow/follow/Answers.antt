@@ -1,12 +1,14 @@
-use Rattle.std.proofs.Common.{ℕ, ◌≡◌, ◌<◌, ◌+◌, ◌∙◌, ◌++◌, ◌∷◌, [], List, arith, get_or, length, subst, sym, take}
+use Rattle.std.proofs.Common.{ℕ, ◌≡◌, ◌<◌, ◌+◌, ◌∙◌, ◌++◌, ◌∷◌, [], List, arith, get_or, length, subst, sym}
+use Rattle.std.proofs.Common.{take}
 use Rattle.std.specs.Prelude.{All, Contains}
 use Rattle.std.proofs.lemmas.List.{take_all, take_more}
 use Rattle.std.proofs.lemmas.List.Elements.{All-contains, All-more, All-weaker, Contains-get_or}
 use Rattle.tv_work.proofs.Advancing.{leaving-at}
-use Rattle.tv_join.specs.State.{IsFound}
+use Rattle.tv_join.specs.State.{IsAmongFound}
 use Rattle.tv_join.specs.Stepped.{IsFollowedAlong}
 use Rattle.tv_join.specs.Task.{task_of}
-use Rattle.tv_join.proofs.Following.{AreAside, along-kept, aside-more, aside-none, changes-from, gathers-none, gathers-on}
+use Rattle.tv_join.proofs.Following.{AreAside, along-kept, aside-more, aside-none, changes-from, gathers-none}
+use Rattle.tv_join.proofs.Following.{gathers-on}
 use Rattle.tv_join.proofs.Nodes.{member-within}
 use Rattle.tv_join.proofs.follow.follow.Goals as goal
 
@@ -49,8 +51,8 @@ loop-edge-preserved c =
     in let new = c.follow_edge.new.found.items
     in let values = c.follow_edge.new.values
     in let here = c.in_ok-follow_edge.ensures.followed
-    in let Before : ℕ → Type 0 = λ e. IsFollowedAlong t nodes (IsFound old) c.loop-edge.values w e
-    in let Now : ℕ → Type 0 = λ e. IsFollowedAlong t nodes (IsFound new) values w e
+    in let Before : ℕ → Type 0 = λ e. IsFollowedAlong t nodes (IsAmongFound old) c.loop-edge.values w e
+    in let Now : ℕ → Type 0 = λ e. IsFollowedAlong t nodes (IsAmongFound new) values w e
     in let earlier : All Now (take c.loop-edge.edge-index items)
     = All-weaker Before Now
     (along-kept t nodes w old new c.loop-edge.values values c.in_ok-follow_edge.ensures.gathers edge
@@ -103,6 +105,6 @@ returns-clause-followed c = λ edge leaves.
     in let same = leaving-at lists c.args.w.node c.index-x-w.result items within c.as_slice-edge-items.ensures
     in let has = subst (λ (l : List ℕ). Contains l edge) (sym same) ((c.requires.ready.leaving.each c.args.w.node edge).1 leaves)
     in let Now : ℕ → Type 0
-    = λ e. IsFollowedAlong t c.args.joins.now.nodes (IsFound c.loop-edge.found.items) c.loop-edge.values c.args.w e
+    = λ e. IsFollowedAlong t c.args.joins.now.nodes (IsAmongFound c.loop-edge.found.items) c.loop-edge.values c.args.w e
     in All-contains Now items edge
     (subst (All Now) (take_all c.loop-edge.edge-index items c.loop-edge-test.false) c.loop-edge.invariant.followed) has

@@ -1,8 +1,10 @@
-use Rattle.std.proofs.Common.{arith, subst, sym}
+use Rattle.std.proofs.Common.{◌≡◌, true, not, ⊎_elim, arith, subst, sym}
+use Rattle.std.proofs.lemmas.Bool.{false≢true}
 use Rattle.std.proofs.lemmas.Option.{slice_get_within}
 use Rattle.std.proofs.lemmas.Result.{err_from_is_err_and}
-use Rattle.tv_transfer.specs.Transfer.{AreMessageValues}
-use Rattle.tv_transfer.proofs.Shapes.{shaped-over}
+use Rattle.tv_step_laws.specs.Transfer.{AreMessageValues}
+use Rattle.tv_step_laws.proofs.Shapes.{shaped-over}
+use Rattle.tv_step.proofs.Engines.{engine-answers}
 use Rattle.tv_work.proofs.Advancing.{target-is, target_at}
 use Rattle.tv_join.specs.Rounds.{point}
 use Rattle.tv_join.specs.State.{IsIn}
@@ -11,20 +13,27 @@ use Rattle.tv_join.proofs.Following.{follow-along, follow-gathers, stands-in, st
 use Rattle.tv_join.proofs.Meeting.{listed-plain, risen-or-stable}
 use Rattle.tv_join.proofs.follow.follow_edge.Goals as goal
 
-pub step-requires-clause-edge : goal.step-requires-clause-edge
-step-requires-clause-edge c =
-    slice_get_within (form_in c.args.x.now).edges c.args.edge c.requires.edge.0 c.requires.edge.1
+pub step_of-requires-clause-edge : goal.step_of-requires-clause-edge
+step_of-requires-clause-edge c =
+    rw c.requires.ready.engine
+    (slice_get_within (form_in c.args.x.now).edges c.args.edge c.requires.edge.0 c.requires.edge.1)
 
-pub step-requires-clause-over : goal.step-requires-clause-over
-step-requires-clause-over c =
-    shaped-over c.args.x.now.program.now c.at-s.result.now
+pub step_of-requires-clause-over : goal.step_of-requires-clause-over
+step_of-requires-clause-over c =
+    rw c.requires.ready.engine
+    (shaped-over c.args.x.now.program.now c.at-s.result.now
     (listed-plain (task_of c.args.x.now) c.args.joins.now c.requires.kept (point c.args.w.node c.at-s.result.now)
-    (stands-in c.args.joins.now.nodes c.args.w c.at-s.result.now c.at-s.ensures)).shaped
+    (stands-in c.args.joins.now.nodes c.args.w c.at-s.result.now c.at-s.ensures)).shaped)
 
-pub step-requires-clause-stable : goal.step-requires-clause-stable
-step-requires-clause-stable c =
-    risen-or-stable (task_of c.args.x.now) c.args.joins.now c.requires.kept c.args.w c.at-s.result.now c.at-s.ensures
-    c.has_risen.result c.has_risen.ensures
+pub step_of-requires-clause-scratch : goal.step_of-requires-clause-scratch
+step_of-requires-clause-scratch c = rw c.requires.ready.engine c.requires.ready.room
+
+pub step_of-requires-clause-stable : goal.step_of-requires-clause-stable
+step_of-requires-clause-stable c = λ still.
+    rw c.requires.ready.engine
+    (⊎_elim (λ risen. absurd (false≢true (subst (λ b. not b ≡ true) risen still))) (λ stable. stable)
+    (risen-or-stable (task_of c.args.x.now) c.args.joins.now c.requires.kept c.args.w c.at-s.result.now c.at-s.ensures
+    c.has_risen.result c.has_risen.ensures))
 
 pub keep-requires : goal.keep-requires
 keep-requires c =
@@ -41,7 +50,7 @@ returns-in_err-out-clause-cause c =
     in rw (p.1, p.2)
     (step-fault (form_in c.args.x.now) c.args.edge (IsIn nodes) (point c.requires.edge.0.from c.at-s.result.now)
     (stands-source (task_of c.args.x.now) nodes c.args.w c.args.edge c.requires.edge c.at-s.result.now c.at-s.ensures)
-    c.in_err-out.field-0.0 c.in_err-out.ensures.cause)
+    c.in_err-out.field-0.0 (engine-answers _ _ _ _ _ c.requires.ready.engine c.in_err-out.ensures.step).cause)
 
 pub returns-clause-gathers : goal.returns-clause-gathers
 returns-clause-gathers c =
@@ -49,7 +58,7 @@ returns-clause-gathers c =
     (target_at c.as_slice.result.now c.args.edge) c.requires.edge c.at-s.result.now c.at-s.ensures
     (target-is c.args.x.now.program.now.edges c.as_slice.result.now c.args.edge c.requires.edge.0 c.as_slice.ensures
     c.requires.edge.1)
-    c.in_ok-out.out.results c.in_ok-out.ensures.results c.in_ok-out.ensures.settled c.args.found.now.items
+    c.in_ok-out.out.results (engine-answers _ _ _ _ _ c.requires.ready.engine c.in_ok-out.ensures.step).results (engine-answers _ _ _ _ _ c.requires.ready.engine c.in_ok-out.ensures.step).settled c.args.found.now.items
     c.push_found.new.found.items c.in_ok-push_found.ensures
 
 pub returns-clause-followed : goal.returns-clause-followed
@@ -58,8 +67,8 @@ returns-clause-followed c =
     (target_at c.as_slice.result.now c.args.edge) c.requires.edge c.at-s.result.now c.at-s.ensures
     (target-is c.args.x.now.program.now.edges c.as_slice.result.now c.args.edge c.requires.edge.0 c.as_slice.ensures
     c.requires.edge.1)
-    c.in_ok-out.out.results c.in_ok-out.ensures.results c.in_ok-out.ensures.settled c.args.found.now.items
+    c.in_ok-out.out.results (engine-answers _ _ _ _ _ c.requires.ready.engine c.in_ok-out.ensures.step).results (engine-answers _ _ _ _ _ c.requires.ready.engine c.in_ok-out.ensures.step).settled c.args.found.now.items
     c.push_found.new.found.items c.in_ok-push_found.ensures c.keep.new.self
     (subst (AreMessageValues (form_in c.args.x.now) c.args.edge c.at-s.result.now) (sym c.in_ok-keep.ensures.here)
-    c.in_ok-out.ensures.values)
-    c.in_ok-out.ensures.budgets
+    (engine-answers _ _ _ _ _ c.requires.ready.engine c.in_ok-out.ensures.step).values)
+    (engine-answers _ _ _ _ _ c.requires.ready.engine c.in_ok-out.ensures.step).budgets

@@ -3,8 +3,8 @@ use Rattle.std.proofs.lemmas.List.Elements.{All-contains}
 use Rattle.tv_model.specs.Program.{ProgramForm, program_of}
 use Rattle.tv_step.specs.EngineForm.{EngineForm}
 use Rattle.tv_struct.specs.StructureForm.{IsOver}
-use Rattle.tv_transfer.specs.Settled.{IsSettled}
-use Rattle.tv_transfer.specs.Transfer.{IsOpening, HasNoOpening}
+use Rattle.tv_step_laws.specs.Settled.{IsSettled}
+use Rattle.tv_step_laws.specs.Transfer.{IsOpening, HasNoOpening}
 use Rattle.tv_join.specs.Task.{task_of}
 use Rattle.tv_join.proofs.Following.{open-none, open-some}
 use Rattle.tv_join.proofs.follow.open.Goals as goal

@@ -3,7 +3,8 @@ use Rattle.std.proofs.lemmas.Result.{err_from_is_err_and}
 use Rattle.tv_join.specs.State.{JoinsForm}
 use Rattle.tv_join.specs.Stepped.{GatheredForm}
 use Rattle.tv_join.specs.Task.{task_of}
-use Rattle.tv_join.proofs.Rounding.{follow-cause, on-cause, placed-found, round-on, taken-cause, taken-followed, taken-in, taken-kept, taken-nodes}
+use Rattle.tv_join.proofs.Rounding.{follow-cause, on-cause, placed-found, round-on, taken-cause}
+use Rattle.tv_join.proofs.Rounding.{taken-followed, taken-in, taken-kept, taken-nodes}
 use Rattle.tv_join.proofs.rounds.round.Goals as goal
 
 pub follow_all-requires-clause-kept : goal.follow_all-requires-clause-kept

@@ -3,8 +3,8 @@ use Rattle.std.specs.Prelude.{IfOk, IfSome, IfNone}
 use Rattle.tv_eval.specs.ScratchForm.{IsMadeFor}
 use Rattle.tv_model.specs.Program.{program_of}
 use Rattle.tv_struct.specs.StructureForm.{IsOver}
-use Rattle.tv_transfer.specs.Settled.{IsSettled}
-use Rattle.tv_transfer.specs.Transfer.{IsOpening, HasNoOpening}
+use Rattle.tv_step_laws.specs.Settled.{IsSettled}
+use Rattle.tv_step_laws.specs.Transfer.{IsOpening, HasNoOpening}
 use Rattle.tv_step.specs.EngineForm.{EngineForm}
 use Rattle.tv_judge.proofs.steps.opening_of.Goals as goal
 

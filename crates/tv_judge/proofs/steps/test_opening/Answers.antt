@@ -1,6 +1,6 @@
 use Rattle.std.proofs.Common.{subst, refl}
 use Rattle.std.specs.Prelude.{IfSome, IfNone}
-use Rattle.tv_transfer.specs.Transfer.{IsOpening, HasNoOpening}
+use Rattle.tv_step_laws.specs.Transfer.{IsOpening, HasNoOpening}
 use Rattle.tv_judge.specs.Setting.{case_in, form_in}
 use Rattle.tv_judge.proofs.Passing.{none-passes}
 use Rattle.tv_judge.proofs.Reports.{index-at, start-within}

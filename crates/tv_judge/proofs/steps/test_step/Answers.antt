@@ -15,7 +15,7 @@ returns-in_err-out-clause-stop c =
     let p = err_from_is_err_and c.from_residual.result c.from_residual.ensures.1
     in rw (p.1, p.2) (step-stops (case_in c.args.x.now) c.args.found.now.maps c.args.edge c.args.structure
     c.args.taken c.at-from.result.now c.in_err-out.field-0.0
-    (record { is_edge = c.requires.edge; listed = c.at-from.ensures.value }) c.in_err-out.ensures.cause
+    (record { is_edge = c.requires.edge; listed = c.at-from.ensures.value }) c.in_err-out.ensures.step.cause
     c.requires.so_far.done)
 
 pub step_of-requires-clause-stable : goal.step_of-requires-clause-stable
@@ -26,7 +26,7 @@ step_of-requires-clause-stable c = λ noted.
 pub test_results-requires-clause-stable : goal.test_results-requires-clause-stable
 test_results-requires-clause-stable c =
     subst (All (IsStableIn (case_in c.args.x.now))) (sym c.as_slice.ensures)
-    (settled-stable (case_in c.args.x.now) c.in_ok-out.out.results c.in_ok-out.ensures.settled)
+    (settled-stable (case_in c.args.x.now) c.in_ok-out.out.results c.in_ok-out.ensures.step.settled)
 
 pub test_results-requires-clause-node : goal.test_results-requires-clause-node
 test_results-requires-clause-node c =
@@ -38,8 +38,8 @@ test_results-requires-clause-so_far c = record {
   done =
       step-passes (case_in c.args.x.now) c.args.found.now.maps c.args.edge c.args.structure c.args.taken
       c.at-from.result.now c.in_ok-out.out.results
-      (record { is_edge = c.requires.edge; listed = c.at-from.ensures.value }) c.in_ok-out.ensures.budgets
-      c.in_ok-out.ensures.results c.requires.so_far.done;
+      (record { is_edge = c.requires.edge; listed = c.at-from.ensures.value }) c.in_ok-out.ensures.step.budgets
+      c.in_ok-out.ensures.step.results c.requires.so_far.done;
   stable = c.requires.so_far.stable;
 }
 
@@ -54,7 +54,7 @@ returns-in-None-clause-next c = record {
         source = record
             { is_edge = c.requires.edge; listed = c.at-from.ensures.value };
         are_values =
-            c.in_ok-out.ensures.values;
+            c.in_ok-out.ensures.step.values;
       })
       (subst (λ vs. AreSaidBelow (case_in c.args.x.now) c.args.edge c.args.structure
       (length vs)) c.as_slice-2.ensures c.in-None.ensures.none)

@@ -2,7 +2,9 @@ use Rattle.std.proofs.Common.{rules, ◌≡◌, ◌<◌, ◌≤◌, ◌-◌, Ok,
 use Rattle.std.proofs.lemmas.Result.{err_from_is_err_and, on_ok_weaker}
 use Rattle.tv_lex.specs.Include.{inner_name}
 use Rattle.tv_lex.specs.Gather.{file_events, included, below}
-use Rattle.tv_lex.proofs.Gathering.{read_cause, putting_start, beginning_start, beginning_more, line_cause, line_more, line_cut, cause_within, include_put, include_begins, include_refused}
+use Rattle.tv_lex.proofs.Gathering.{read_cause, putting_start, beginning_start, beginning_more, line_cause}
+use Rattle.tv_lex.proofs.Gathering.{line_more, line_cut, cause_within, include_put, include_begins}
+use Rattle.tv_lex.proofs.Gathering.{include_refused}
 use Rattle.tv_lex.proofs.gatherer.+gathering.Goals as goal
 
 pub put_file-returns-in_err-content-clause-cause :

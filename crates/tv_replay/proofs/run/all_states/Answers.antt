@@ -1,5 +1,5 @@
 use Rattle.std.proofs.Common.{List, get_or, sym, ap, subst, ◌∙◌, ◌+◌, arith}
-use Rattle.tv_replayed.specs.declared.state.State.{State}
+use Rattle.tv_replay_laws.specs.declared.state.State.{State}
 use Rattle.tv_replay.specs.Judging.{CanJudge}
 use Rattle.tv_replay.proofs.Going.{SoFar, all-made, goes-more, stuck}
 use Rattle.tv_replay.proofs.run.all_states.Goals as goal

@@ -1,6 +1,6 @@
 use Rattle.std.proofs.Common.{List, subst}
 use Rattle.tv_model.specs.Program.{program_of}
-use Rattle.tv_replayed.specs.States.{IsReplay}
+use Rattle.tv_replay_laws.specs.States.{IsReplay}
 use Rattle.tv_trace.specs.declared.trace.Move.{Move}
 use Rattle.tv_replay.proofs.Going.{shows}
 use Rattle.tv_replay.proofs.Readiness.{some-node}

@@ -5,7 +5,9 @@ use Rattle.std.specs.Vec.Iter.{into_iter_steps, into_iter_items}
 use Rattle.tv_model.specs.Program.{program_of}
 use Rattle.tv_report.specs.Lines.{NamesMessage, message_key, AreMessageLines}
 use Rattle.tv_report.specs.Views.{message_lines}
-use Rattle.tv_report.proofs.OnceLaws.{goes_keys, goes_once, breaks_once, told_so, yielded_split}
+use Rattle.tv_phrases.proofs.Values.{told_more}
+use Rattle.tv_lemmas.proofs.Calls.{yielded_split}
+use Rattle.tv_report.proofs.OnceLaws.{goes_keys, goes_once, breaks_once}
 use Rattle.tv_report.proofs.lines.message_list.Goals as goal
 
 pub returns-in_err-note_message-clause-fault : goal.returns-in_err-note_message-clause-fault
@@ -15,7 +17,7 @@ returns-in_err-note_message-clause-fault c =
     c.loop-found.yielded c.in-Some.found c.next.result c.into_iter-found-iterator.ensures.into_iter_gives.0 c.loop-found.yielded_by c.in-Some.is c.next.ensures.steps
     in let whole = ap message_lines split ∙ map-append (λ m. m.line) c.loop-found.yielded (c.in-Some.found ∷ into_iter_items c.next.new.self)
     in rw (p.1, p.2)
-    (told_so c.in_err-note_message.field-0.0 _ _
+    (told_more c.in_err-note_message.field-0.0 _ _
     (λ broken. breaks_once (NamesMessage (program_of c.args.program.now)) message_key (message_lines c.args.messages.items) (message_lines c.loop-found.yielded) (message_lines (into_iter_items c.next.new.self))
     c.in-Some.found.line c.loop-found.seen.keys whole c.loop-found.invariant.seen broken) c.in_err-note_message.ensures.fault)
 

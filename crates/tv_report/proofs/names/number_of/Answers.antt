@@ -1,7 +1,8 @@
 use Rattle.std.proofs.Common.{sym, refl, ◌∙◌}
 use Rattle.std.specs.Str.{bytes_eq}
 use Rattle.tv_tvs.specs.Views.{names_of}
-use Rattle.tv_tvs.proofs.Twice.{among_names, position-map}
+use Rattle.tv_lemmas.proofs.Lists.{position-map}
+use Rattle.tv_tvs.proofs.Twice.{among_names}
 use Rattle.tv_report.proofs.OnceLaws.{name_found}
 use Rattle.tv_report.proofs.names.number_of.Goals as goal
 

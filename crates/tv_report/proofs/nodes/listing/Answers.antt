@@ -6,12 +6,13 @@ use Rattle.std.specs.Vec.Iter.{into_iter_steps, into_iter_items}
 use Rattle.tv_lex.specs.Token.{text_of}
 use Rattle.tv_tvs.specs.Views.{names_of}
 use Rattle.tv_tvs.proofs.Valid.{valid_fits}
-use Rattle.tv_report.specs.Meaning.{NamedNode, IsListed, node_name}
+use Rattle.tv_report.specs.Meaning.{NamedNode, ListsNodes, node_name}
 use Rattle.tv_report.specs.Nodes.{AreRead, IsPut, CannotPut}
 use Rattle.tv_report.specs.Reading.{marked_node}
 use Rattle.tv_report.specs.Views.{node_mark, node_marks}
 use Rattle.tv_report.proofs.NodeLaws.{no_nodes, kept_none, listed_more, seen_more, cannot_list}
-use Rattle.tv_report.proofs.OnceLaws.{told_so, yielded_split}
+use Rattle.tv_phrases.proofs.Values.{told_more}
+use Rattle.tv_lemmas.proofs.Calls.{yielded_split}
 use Rattle.tv_report.proofs.nodes.listing.Goals as goal
 
 pub new-requires : goal.new-requires
@@ -45,7 +46,7 @@ loop-node-preserved c =
     in record {
       seen = seen_more c.args.program.now c.requires.valid.node_names_differ nodes node old new c.loop-node.listing c.put_node.new.listing c.loop-node.invariant.seen c.loop-node.invariant.listed put
           ∙ ap (map node_name) (sym next);
-      listed = subst (λ ns. IsListed c.args.program.now ns c.put_node.new.listing) (sym next)
+      listed = subst (λ ns. ListsNodes c.args.program.now ns c.put_node.new.listing) (sym next)
           (listed_more c.args.program.now c.requires.valid.node_names_differ nodes node old new c.loop-node.listing c.put_node.new.listing c.loop-node.invariant.seen c.loop-node.invariant.listed put);
       kept = subst (λ v. All (AreRead v) c.put_node.new.listing) c.in_ok-reader.ensures c.in_ok-put_node.ensures.kept;
     }
@@ -63,7 +64,7 @@ returns-in_err-put_node-clause-fault c =
     ∙ ap (map (marked_node vocab)) (map-append (node_mark c.args.bytes.now) c.loop-node.yielded (c.in-Some.node ∷ rest))
     ∙ map-append (marked_node vocab) (node_marks c.args.bytes.now c.loop-node.yielded) (node_marks c.args.bytes.now (c.in-Some.node ∷ rest))
     in rw (p.1, p.2)
-    (told_so c.in_err-put_node.field-0.0 _ _
+    (told_more c.in_err-put_node.field-0.0 _ _
     (λ cannot. cannot_list c.args.program.now (map (marked_node vocab) (node_marks c.args.bytes.now c.args.nodes.items)) (map (marked_node vocab) (node_marks c.args.bytes.now c.loop-node.yielded))
     (map (marked_node vocab) (node_marks c.args.bytes.now rest)) (marked_node vocab mark) old whole c.loop-node.invariant.seen
     (subst (λ ns. CannotPut ns old (marked_node vocab mark)) (c.in_ok-names.ensures ∙ c.as_slice.ensures)

@@ -5,7 +5,7 @@ use Rattle.tv_model.specs.Heap.{Heap}
 use Rattle.tv_model.specs.Program.{RuleForm, pred_of, program_of}
 use Rattle.tv_model.specs.Rules.{IsConcrete, MeetsProgram, MeetsRule}
 use Rattle.tv_model.specs.Valid.{IsRule}
-use Rattle.tv_stable.specs.Laws.{IsPlainRule}
+use Rattle.tv_stable_laws.specs.Laws.{IsPlainRule}
 use Rattle.tv_rules.specs.EntryForms.{rules_of}
 use Rattle.tv_rules.specs.Laws.{IsNoHigher}
 use Rattle.tv_rules.proofs.Heights.{closed-low}

@@ -1,6 +1,6 @@
 use Rattle.std.proofs.Common.{sym, ◌∙◌}
 use Rattle.std.specs.Str.{bytes_eq}
-use Rattle.tv_source_names.proofs.Names.{position-map}
+use Rattle.tv_lemmas.proofs.Lists.{position-map}
 use Rattle.tv_source_names.proofs.declare.number_of.Goals as goal
 
 pub returns-clause-number : goal.returns-clause-number

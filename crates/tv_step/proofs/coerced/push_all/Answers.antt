@@ -4,7 +4,7 @@ use Rattle.std.proofs.lemmas.Iterator.Consumers.{YieldsList-turn}
 use Rattle.std.proofs.lemmas.List.Elements.{All-contains}
 use Rattle.tv_coerce.specs.RuleSets.{IsStableBut}
 use Rattle.tv_rules.specs.EntryForms.{rules_of}
-use Rattle.tv_transfer.specs.Shaped.{IsShaped}
+use Rattle.tv_step_laws.specs.Shaped.{IsShaped}
 use Rattle.tv_step.specs.Ending.{Becomes}
 use Rattle.tv_step.specs.Setting.{form_in}
 use Rattle.tv_step.proofs.Adding.{adds-more}

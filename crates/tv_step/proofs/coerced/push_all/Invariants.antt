@@ -1,5 +1,5 @@
 use Rattle.std.proofs.Common.{◌≡◌}
-use Rattle.tv_transfer.specs.Parts.{AreFrom}
+use Rattle.tv_step_laws.specs.Parts.{AreFrom}
 use Rattle.tv_step.specs.Ending.{Becomes}
 use Rattle.tv_step.specs.Setting.{form_in}
 use Rattle.tv_step.specs.Steps.{Adds}

@@ -1,6 +1,6 @@
 use Rattle.std.proofs.Common.{◌∙◌, []}
 use Rattle.tv_rules.specs.EntryForms.{rules_of}
-use Rattle.tv_transfer.proofs.Shapes.{shaped-over}
+use Rattle.tv_step_laws.proofs.Shapes.{shaped-over}
 use Rattle.tv_step.specs.Ending.{Becomes}
 use Rattle.tv_step.specs.Setting.{form_in}
 use Rattle.tv_step.proofs.Adding.{nothing-added}

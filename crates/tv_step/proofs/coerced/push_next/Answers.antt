@@ -1,7 +1,7 @@
 use Rattle.std.proofs.Common.{◌∙◌, sym}
 use Rattle.tv_step.specs.Ending.{Becomes}
 use Rattle.tv_step.specs.Setting.{form_in}
-use Rattle.tv_transfer.proofs.Shapes.{shaped-over}
+use Rattle.tv_step_laws.proofs.Shapes.{shaped-over}
 use Rattle.tv_step.proofs.Coercing.{push-adds}
 use Rattle.tv_step.proofs.Finishing.{itself-becomes}
 use Rattle.tv_step.proofs.coerced.push_next.Goals as goal

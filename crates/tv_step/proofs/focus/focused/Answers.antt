@@ -1,8 +1,8 @@
 use Rattle.std.proofs.Common.{map, take, sym, subst, All}
-use Rattle.tv_transfer.specs.Parts.{AreFrom}
-use Rattle.tv_transfer.specs.Shaped.{IsShaped}
-use Rattle.tv_transfer.specs.Transfer.{Focuses}
-use Rattle.tv_step.specs.Places.{place_of}
+use Rattle.tv_step_laws.specs.Parts.{AreFrom}
+use Rattle.tv_step_laws.specs.Shaped.{IsShaped}
+use Rattle.tv_step_laws.specs.Transfer.{Focuses}
+use Rattle.tv_step.specs.Places.{focus_place}
 use Rattle.tv_step.specs.Setting.{form_in, IsStableIn}
 use Rattle.tv_step.specs.Steps.{IsCauseOfFocus, IsFocusCause, KeepsLimits}
 use Rattle.tv_step.proofs.Adding.{handed-on}
@@ -24,22 +24,22 @@ returns-in_err-next-clause-cause c =
     in let turns = c.args.turns.now
     in let e = c.in_err-next.field-0.0
     in handed-on
-    (IsCauseOfFocus p (map place_of turns) c.args.start.now) c.from_residual.result e c.from_residual.ensures.1
+    (IsCauseOfFocus p (map focus_place turns) c.args.start.now) c.from_residual.result e c.from_residual.ensures.1
     (focus-fails p turns c.loop-turn.turn-index c.turn-item.result c.args.start.now _ e
     c.loop-turn-test.true c.turn-item.is c.loop-turn.invariant.are
-    (subst (λ ss. IsFocusCause (place_of c.turn-item.result) ss e) c.at_hand.ensures c.in_err-next.ensures.cause))
+    (subst (λ ss. IsFocusCause (focus_place c.turn-item.result) ss e) c.at_hand.ensures c.in_err-next.ensures.cause))
 
 pub loop-turn-preserved : goal.loop-turn-preserved
 loop-turn-preserved c =
     let p = form_in c.args.x.now
     in let turns = c.args.turns.now
-    in let place = place_of c.turn-item.result
+    in let place = focus_place c.turn-item.result
     in let i = c.loop-turn.turn-index
     in let new = c.in_ok-next.next
     in let made = subst (λ ss. AreFrom (Focuses p place) ss new) c.at_hand.ensures c.in_ok-next.ensures.out
     in record {
       are = rw (places-next turns i c.turn-item.result c.loop-turn-test.true c.turn-item.is)
-          (focused-next p (map place_of (take i turns)) place c.args.start.now _ new c.loop-turn.invariant.are made
+          (focused-next p (map focus_place (take i turns)) place c.args.start.now _ new c.loop-turn.invariant.are made
           (subst (KeepsLimits place) c.at_hand.ensures c.in_ok-next.ensures.within));
       shaped = focus-shaped p place _ new made;
       stable = focus-stable p place _ new made;

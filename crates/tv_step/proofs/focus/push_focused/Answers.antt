@@ -3,11 +3,11 @@ use Rattle.std.proofs.lemmas.List.{length-map}
 use Rattle.tv_rules.specs.EntryForms.{rules_of}
 use Rattle.tv_model.specs.Form.{form_of}
 use Rattle.tv_coerce.specs.RuleSets.{IsStableBut}
-use Rattle.tv_step.specs.Places.{place_of}
+use Rattle.tv_step.specs.Places.{focus_place}
 use Rattle.tv_step.specs.Setting.{form_in}
 use Rattle.tv_step.specs.Waiting.{WaitsAt}
-use Rattle.tv_transfer.specs.Transfer.{choices_at}
-use Rattle.tv_transfer.proofs.Shapes.{shaped-over}
+use Rattle.tv_step_laws.specs.Transfer.{choices_at}
+use Rattle.tv_step_laws.proofs.Shapes.{shaped-over}
 use Rattle.tv_step.proofs.FocusStays.{focus-rest}
 use Rattle.tv_step.proofs.Turns.{atoms-fit, focus-adds, tables-of, tables-shaped}
 use Rattle.tv_step.proofs.focus.push_focused.Goals as goal
@@ -24,7 +24,7 @@ pub push_all-requires-clause-shaped : goal.push_all-requires-clause-shaped
 push_all-requires-clause-shaped c =
     let p = form_in c.args.x.now
     in let choices = c.in_ok-choices.choices
-    in let ls = choices_at c.args.s.now (place_of c.args.turn.now)
+    in let ls = choices_at c.args.s.now (focus_place c.args.turn.now)
     in tables-shaped p choices ls
     (tables-of p c.args.s.now c.requires.shaped choices ls c.in_ok-choices.ensures.stage)
 
@@ -37,7 +37,7 @@ push_all-requires-clause-rest c =
     let x = c.args.x.now
     in let p = form_in x
     in let s = c.args.s.now
-    in let place = place_of c.args.turn.now
+    in let place = focus_place c.args.turn.now
     in let choices = c.in_ok-choices.choices
     in subst (λ set. All (IsStableBut (rules_of x.closed.now) set) choices) (sym c.deref.ensures)
     (focus-rest p c.requires.ready.valid s place choices (length x.program.now.vocab.preds)
@@ -53,7 +53,7 @@ pub returns-clause-out : goal.returns-clause-out
 returns-clause-out c =
     let p = form_in c.args.x.now
     in let choices = c.in_ok-choices.choices
-    in let place = place_of c.args.turn.now
+    in let place = focus_place c.args.turn.now
     in focus-adds p place c.args.s.now choices c.args.out.now c.push_all.new.out
     (tables-of p c.args.s.now c.requires.shaped choices
     (choices_at c.args.s.now place) c.in_ok-choices.ensures.stage)

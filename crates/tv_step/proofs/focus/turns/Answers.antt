@@ -2,7 +2,7 @@ use Rattle.std.proofs.Common.{◌∙◌, ◌++◌, length, ap, sym, subst}
 use Rattle.std.proofs.lemmas.List.Elements.{All-contains}
 use Rattle.tv_model.specs.Form.{form_of}
 use Rattle.tv_rules.specs.EntryForms.{rules_of}
-use Rattle.tv_transfer.specs.Transfer.{places_in}
+use Rattle.tv_step_laws.specs.Transfer.{places_in}
 use Rattle.tv_step.specs.Places.{AreWaitingAt}
 use Rattle.tv_step.specs.Waiting.{WaitsAt}
 use Rattle.tv_step.proofs.Adding.{item-there}

@@ -2,7 +2,7 @@ use Rattle.std.proofs.Common.{◌∙◌, ◌≤◌, map, ap, subst}
 use Rattle.std.proofs.lemmas.List.{length-map}
 use Rattle.tv_model.specs.Form.{form_of}
 use Rattle.tv_model.specs.Program.{action_of, pred_of}
-use Rattle.tv_transfer.specs.Transfer.{focus_places}
+use Rattle.tv_step_laws.specs.Transfer.{focus_places}
 use Rattle.tv_update.specs.Plan.{IsPlanFor}
 use Rattle.tv_step.specs.Setting.{form_in}
 use Rattle.tv_step.specs.Waiting.{WaitsFor}

@@ -1,7 +1,7 @@
 use Rattle.std.proofs.Common.{sym, subst}
 use Rattle.tv_model.specs.Form.{form_of}
 use Rattle.tv_model.specs.Program.{message_of}
-use Rattle.tv_eval.specs.ScratchForm.{Fits}
+use Rattle.tv_eval.specs.ScratchForm.{HasScratchFor}
 use Rattle.tv_step.specs.Setting.{form_in}
 use Rattle.tv_step.proofs.Evaluating.{message-next, nobody-assigned, room-fits}
 use Rattle.tv_step.proofs.messages.value_of.Goals as goal
@@ -14,7 +14,7 @@ eval-requires-clause-assigned c =
 
 pub eval-requires-clause-fits : goal.eval-requires-clause-fits
 eval-requires-clause-fits c =
-    subst (λ scratch. Fits scratch (form_of c.args.message.now.cond) c.s-item.result.size)
+    subst (λ scratch. HasScratchFor scratch (form_of c.args.message.now.cond) c.s-item.result.size)
     (sym c.loop-s.invariant.scratch)
     (room-fits c.args.x.now c.args.scratch.now
     (form_of c.args.message.now.cond) c.s-item.result.size c.requires.ready

@@ -3,10 +3,11 @@ use Rattle.tv_model.specs.Program.{program_of}
 use Rattle.tv_rules.specs.EntryForms.{rules_of}
 use Rattle.tv_coerce.specs.Ready.{CanCoerce}
 use Rattle.tv_coerce.proofs.Ready.{closed_rules_can_be_tried}
-use Rattle.tv_transfer.proofs.Settled.{opening-settled}
-use Rattle.tv_step.proofs.Beginnings.{no-opening, none-only, none-starts, some-only, some-opening, some-starts}
+use Rattle.tv_step_laws.proofs.Settled.{opening-settled}
+use Rattle.tv_step.proofs.Beginnings.{no-opening, none-only, none-starts, some-only, some-opening}
+use Rattle.tv_step.proofs.Beginnings.{some-starts}
 use Rattle.tv_step.proofs.Finishing.{coerced-over}
-use Rattle.tv_transfer.proofs.Shapes.{over-shaped}
+use Rattle.tv_step_laws.proofs.Shapes.{over-shaped}
 use Rattle.tv_step.proofs.opened.opening.Goals as goal
 
 pub coerce-requires : goal.coerce-requires

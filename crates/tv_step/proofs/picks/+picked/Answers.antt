@@ -1,4 +1,5 @@
-use Rattle.std.proofs.Common.{◌≡◌, ◌∙◌, suc, true, eqb-true, Bool, List, [], ◌∷◌, length, get_or, ◌<◌, ◌≤◌, refl, ap, sym, subst, arith, All}
+use Rattle.std.proofs.Common.{◌≡◌, ◌∙◌, suc, true, eqb-true, Bool, List, [], ◌∷◌, length, get_or, ◌<◌, ◌≤◌}
+use Rattle.std.proofs.Common.{refl, ap, sym, subst, arith, All}
 use Rattle.std.specs.List.{between}
 use Rattle.std.specs.Prelude.{◌==◌, IfErr, OnOk}
 use Rattle.std.proofs.lemmas.List.{length-map}
@@ -9,9 +10,11 @@ use Rattle.tv_model.specs.declared.formula.Var.{Var}
 use Rattle.tv_model.specs.Program.{picks_of}
 use Rattle.tv_model.specs.Valid.{IsVariable}
 use Rattle.tv_step.specs.Job.{IsCase, ArePickedBut, case_program, case_action, case_mode, case_structure}
-use Rattle.tv_step.specs.Steps.{Adds, PickGives, PicksGive, PickKeepsLimits, PicksKeepLimits, IsCauseOfPick, IsCauseOfPicks}
+use Rattle.tv_step.specs.Steps.{Adds, PickGives, PicksGive, PickKeepsLimits, PicksKeepLimits, IsCauseOfPick}
+use Rattle.tv_step.specs.Steps.{IsCauseOfPicks}
 use Rattle.tv_step.proofs.Adding.{handed-on, on_err-weaker, on_ok-weaker}
-use Rattle.tv_step.proofs.Picking.{picked-with, picks-next, picks-done, limits-next, limits-done, cause-first, picks-none, limits-none, cause-none}
+use Rattle.tv_step.proofs.Picking.{picked-with, picks-next, picks-done, limits-next, limits-done, cause-first}
+use Rattle.tv_step.proofs.Picking.{picks-none, limits-none, cause-none}
 use Rattle.tv_step.proofs.picks.+picked.Goals as goal
 
 -- ---- one variable

@@ -3,7 +3,7 @@ use Rattle.std.specs.List.{range_with_len}
 use Rattle.tv_eval.specs.AssignmentForm.{assignment_of}
 use Rattle.tv_model.specs.Program.{picks_of}
 use Rattle.tv_model.specs.Truth.{put}
-use Rattle.tv_transfer.specs.Parts.{AreFrom}
+use Rattle.tv_step_laws.specs.Parts.{AreFrom}
 use Rattle.tv_step.specs.Job.{case_program, case_action, case_mode, case_structure}
 use Rattle.tv_step.specs.Steps.{Adds, PicksGive, PicksKeepLimits}
 use Rattle.tv_step.proofs.picks.+picked.Given as goal

@@ -1,7 +1,7 @@
 use Rattle.std.proofs.Common.{length, add-one}
 use Rattle.std.specs.List.{range_with_len}
 use Rattle.std.proofs.lemmas.List.FromFn.{length-range_with_len}
-use Rattle.tv_applied.specs.Picks.{lists_of}
+use Rattle.tv_update_laws.specs.Picks.{lists_of}
 use Rattle.tv_step.proofs.Picking.{cut-next, lists-count}
 use Rattle.tv_step.proofs.picks.are_few.Goals as goal
 

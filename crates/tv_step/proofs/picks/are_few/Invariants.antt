@@ -1,6 +1,6 @@
 use Rattle.std.proofs.Common.{◌≡◌, length, min}
 use Rattle.std.specs.List.{range_with_len}
-use Rattle.tv_applied.specs.Picks.{lists_of}
+use Rattle.tv_update_laws.specs.Picks.{lists_of}
 use Rattle.tv_step.proofs.picks.are_few.Given as goal
 
 abbrev pub invariant-loop : goal.invariant-loop

@@ -5,7 +5,7 @@ use Rattle.tv_model.specs.Program.{pre_of}
 use Rattle.tv_eval.specs.AssignmentForm.{assignment_of}
 use Rattle.tv_eval.specs.Bound.{bound_room}
 use Rattle.tv_eval.specs.Formulas.{AreAssigned}
-use Rattle.tv_eval.specs.ScratchForm.{Fits}
+use Rattle.tv_eval.specs.ScratchForm.{HasScratchFor}
 use Rattle.tv_step.specs.Job.{case_program, case_action, case_structure}
 use Rattle.tv_step.proofs.Allowing.{precondition-assigned-but, row-of-none}
 use Rattle.tv_step.proofs.Evaluating.{room-fits}
@@ -22,9 +22,9 @@ row-row-requires-clause-assigned c =
 
 pub row-row-requires-clause-fits : goal.row-row-requires-clause-fits
 row-row-requires-clause-fits c =
-    subst (λ s. Fits (bound_room c.new-evaluator.result) (form_of c.in-Some.pre) s.size)
+    subst (λ s. HasScratchFor (bound_room c.new-evaluator.result) (form_of c.in-Some.pre) s.size)
     (sym c.new-evaluator.ensures.structure)
-    (subst (λ room. Fits room (form_of c.in-Some.pre) c.args.c.now.from.now.size)
+    (subst (λ room. HasScratchFor room (form_of c.in-Some.pre) c.args.c.now.from.now.size)
     (sym c.new-evaluator.ensures.room)
     (room-fits c.args.c.now.setting.now c.args.scratch.now (form_of c.in-Some.pre) c.args.c.now.from.now.size
     c.requires.case.ready

@@ -1,6 +1,6 @@
 use Rattle.std.proofs.Common.{◌∙◌, All, length, map, ap, sym, subst}
 use Rattle.tv_eval.specs.AssignmentForm.{IsAssigned, assignment_of}
-use Rattle.tv_applied.specs.Choices.{AreGiven}
+use Rattle.tv_update_laws.specs.Choices.{AreGiven}
 use Rattle.tv_coerce.specs.RuleSets.{IsStableBut}
 use Rattle.tv_rules.specs.EntryForms.{rules_of}
 use Rattle.tv_struct.specs.StructureForm.{structure_of}
@@ -12,7 +12,7 @@ use Rattle.tv_step.specs.Waiting.{WaitsFor}
 use Rattle.tv_step.proofs.Adding.{handed-on}
 use Rattle.tv_step.proofs.LeftAlone.{given-rest}
 use Rattle.tv_step.proofs.Picking.{given-adds, given-shaped, pick-cause, same-action}
-use Rattle.tv_transfer.proofs.Shapes.{shaped-over}
+use Rattle.tv_step_laws.proofs.Shapes.{shaped-over}
 use Rattle.tv_step.proofs.picks.push_given.Goals as goal
 
 pub update_by_plan-requires-clause-over : goal.update_by_plan-requires-clause-over

@@ -4,7 +4,8 @@ use Rattle.tv_step.specs.Job.{IsCase, case_program, case_action, case_mode, case
 use Rattle.tv_step.specs.Steps.{IsCauseOfPicks}
 use Rattle.tv_step.proofs.Adding.{handed-on}
 use Rattle.tv_step.proofs.Allowing.{all-picked, row-length, row-tells}
-use Rattle.tv_step.proofs.Picking.{picked-with, picks-next, picks-done, limits-next, limits-done, cause-first, picks-none, limits-none, cause-none}
+use Rattle.tv_step.proofs.Picking.{picked-with, picks-next, picks-done, limits-next, limits-done, cause-first}
+use Rattle.tv_step.proofs.Picking.{picks-none, limits-none, cause-none}
 use Rattle.tv_step.proofs.picks.push_last.Goals as goal
 
 pub get-requires : goal.get-requires

@@ -1,12 +1,13 @@
 use Rattle.std.proofs.Common.{◌∙◌, ◌≤◌, length, ap, sym, subst, All}
 use Rattle.std.specs.List.{range_with_len}
 use Rattle.std.proofs.lemmas.List.{length-map}
-use Rattle.tv_applied.specs.Picks.{lists_of}
+use Rattle.tv_update_laws.specs.Picks.{lists_of}
 use Rattle.tv_eval.specs.AssignmentForm.{assignment_of}
 use Rattle.tv_model.specs.Program.{picks_of}
 use Rattle.tv_model.specs.Valid.{IsVariable}
 use Rattle.tv_step.specs.Job.{case_program, case_action, case_mode, case_structure}
-use Rattle.tv_step.specs.Steps.{Adds, PicksGive, PicksKeepLimits, StepsIn, KeepsUpdateLimits, IsCauseOfPicks, IsCauseOfUpdate}
+use Rattle.tv_step.specs.Steps.{Adds, PicksGive, PicksKeepLimits, StepsIn, KeepsUpdateLimits, IsCauseOfPicks}
+use Rattle.tv_step.specs.Steps.{IsCauseOfUpdate}
 use Rattle.tv_step.proofs.Adding.{on_err-weaker, on_ok-weaker}
 use Rattle.tv_step.proofs.Evaluating.{nobody-blank}
 use Rattle.tv_step.proofs.Picking.{steps-add, steps-cause, steps-within}

@@ -4,7 +4,7 @@ use Rattle.tv_model.specs.Program.{pred_of, program_of}
 use Rattle.tv_coerce.specs.Ready.{CanCoerce}
 use Rattle.tv_coerce.proofs.Ready.{closed_rules_can_be_tried}
 use Rattle.tv_step.specs.declared.setting.Setting.{Setting}
-use Rattle.tv_transfer.proofs.Shapes.{over-shaped}
+use Rattle.tv_step_laws.proofs.Shapes.{over-shaped}
 use Rattle.tv_step.proofs.Engines.{found-coerces, said-in}
 use Rattle.tv_step.proofs.Jobs.{job-taken-by, taken-within}
 use Rattle.tv_step.proofs.Stepping.{coerces-stable}
@@ -27,12 +27,7 @@ job_of-requires-clause-number c =
 
 pub step_from-requires : goal.step_from-requires
 step_from-requires c =
-    let x : Setting = record {
-      alloc = c.args.alloc;
-      program = c.args.program;
-      mode = c.args.mode;
-      closed = c.args.closed;
-    }
+    let x : Setting = record { alloc = c.args.alloc; program = c.args.program; mode = c.args.mode; closed = c.args.closed }
     in let s = c.args.s.now
     in let start = c.as_slice.result.now
     in let coerces = found-coerces x s c.in_ok-start.start start c.requires.closed
@@ -51,29 +46,17 @@ step_from-requires c =
 
 pub returns : goal.returns
 returns c =
-    let x : Setting = record {
-      alloc = c.args.alloc;
-      program = c.args.program;
-      mode = c.args.mode;
-      closed = c.args.closed;
-    }
+    let x : Setting = record { alloc = c.args.alloc; program = c.args.program; mode = c.args.mode; closed = c.args.closed }
     in let s = c.args.s.now
     in let start = c.as_slice.result.now
-    in let said = said-in x c.args.program.now c.args.mode c.args.edge s c.in_ok-job.job start
-    c.step_from.result refl refl c.requires.valid
-    (job-taken-by c.args.program.now c.args.mode c.args.edge c.edge_at.result c.in_ok-job.job
-    c.in_ok-job.ensures.job c.edge_at.ensures c.in_ok-job.ensures.number)
-    (found-coerces x s c.in_ok-start.start start c.requires.closed
-    (over-shaped c.args.program.now s c.requires.over c.size.ensures.kept)
-    c.in_ok-start.ensures.exact c.as_slice.ensures)
-    c.step_from.ensures.results c.step_from.ensures.values c.step_from.ensures.cause
     in record {
-      results = said.results;
-      values = said.values;
-      settled = said.settled;
-      heaps = said.heaps;
-      truths = said.truths;
-      budgets = said.budgets;
-      cause = said.cause;
+      step = said-in x c.args.program.now c.args.mode c.args.edge s c.in_ok-job.job start
+          c.step_from.result refl refl c.requires.valid
+          (job-taken-by c.args.program.now c.args.mode c.args.edge c.edge_at.result c.in_ok-job.job
+          c.in_ok-job.ensures.job c.edge_at.ensures c.in_ok-job.ensures.number)
+          (found-coerces x s c.in_ok-start.start start c.requires.closed
+          (over-shaped c.args.program.now s c.requires.over c.size.ensures.kept)
+          c.in_ok-start.ensures.exact c.as_slice.ensures)
+          c.step_from.ensures.results c.step_from.ensures.values c.step_from.ensures.cause;
       scratch = c.step_from.ensures.scratch ∙ c.in_ok-start.ensures.scratch;
     }

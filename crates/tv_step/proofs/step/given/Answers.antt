@@ -1,9 +1,9 @@
 use Rattle.std.proofs.Common.{[], sym, subst, All}
 use Rattle.std.proofs.lemmas.List.{take_all}
 use Rattle.std.proofs.lemmas.List.Elements.{All-contains}
-use Rattle.tv_transfer.specs.Shaped.{IsShaped}
+use Rattle.tv_step_laws.specs.Shaped.{IsShaped}
 use Rattle.tv_step.specs.Job.{action_in}
-use Rattle.tv_step.specs.Setting.{form_in, IsReady, IsStableIn}
+use Rattle.tv_step.specs.Setting.{form_in, IsReadyToStep, IsStableIn}
 use Rattle.tv_step.specs.Steps.{IsCauseOfUpdates, KeepsUpdateLimits, StepsIn}
 use Rattle.tv_step.proofs.Adding.{adds-next, all-next, handed-on, item-there}
 use Rattle.tv_step.proofs.Picking.{updates-cause}
@@ -12,7 +12,7 @@ use Rattle.tv_step.proofs.step.given.Goals as goal
 pub push_steps-requires : goal.push_steps-requires
 push_steps-requires c = record {
   case = record {
-    ready = subst (IsReady c.args.x.now) (sym c.loop-from.invariant.scratch) c.requires.ready;
+    ready = subst (IsReadyToStep c.args.x.now) (sym c.loop-from.invariant.scratch) c.requires.ready;
     job = c.requires.job;
     shaped = All-contains
         (IsShaped (form_in c.args.x.now)) c.args.at_hand.now c.from-item.result c.requires.shaped

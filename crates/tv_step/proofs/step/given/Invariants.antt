@@ -1,5 +1,5 @@
 use Rattle.std.proofs.Common.{[], ◌≡◌, take, All}
-use Rattle.tv_transfer.specs.Parts.{AreFrom}
+use Rattle.tv_step_laws.specs.Parts.{AreFrom}
 use Rattle.tv_step.specs.Job.{action_in}
 use Rattle.tv_step.specs.Setting.{form_in}
 use Rattle.tv_step.specs.Steps.{Adds, KeepsUpdateLimits, StepsIn}

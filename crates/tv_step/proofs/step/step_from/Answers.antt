@@ -4,31 +4,32 @@ use Rattle.tv_model.specs.Program.{message_of}
 use Rattle.tv_step.specs.declared.focus.Turn.{Turn}
 use Rattle.tv_step.specs.declared.job.Job.{Job}
 use Rattle.tv_step.specs.Job.{action_in, IsJob}
-use Rattle.tv_step.specs.Places.{place_of, HasWaiting}
+use Rattle.tv_step.specs.Places.{focus_place, HasWaiting}
 use Rattle.tv_step.specs.Setting.{form_in}
 use Rattle.tv_step.specs.Steps.{AreFocusedWithin, IsCauseOfStep}
 use Rattle.tv_model.specs.Program.{ProgramForm}
 use Rattle.tv_model.specs.declared.program.Mode.{Mode}
 use Rattle.tv_model.specs.declared.program.Program.{Program}
 use Rattle.tv_struct.specs.StructureForm.{StructureForm}
-use Rattle.tv_transfer.specs.Transfer.{focus_places, message_value}
+use Rattle.tv_step_laws.specs.Transfer.{focus_places, message_value}
 use Rattle.tv_step.proofs.Adding.{handed-on}
-use Rattle.tv_step.proofs.Stepping.{action-messages, action-places, action-room, given-unmarked, results-of, within-shaped, within-stable}
+use Rattle.tv_step.proofs.Stepping.{action-messages, action-places, action-room, given-unmarked, results-of}
+use Rattle.tv_step.proofs.Stepping.{within-shaped, within-stable}
 use Rattle.tv_step.proofs.Turns.{focused-are}
 use Rattle.tv_step.proofs.step.step_from.Goals as goal
 
 -- the turns that are taken are the action's
 turns-are : (program : Program) (mode : Mode) (job : Job) (turns : List Turn) → IsJob program mode job → turns ≡ job.turns.items
-    → map place_of turns ≡ focus_places (action_in job).focus
-turns-are program mode job turns is same = ap (map place_of) same ∙ is.places
+    → map focus_place turns ≡ focus_places (action_in job).focus
+turns-are program mode job turns is same = ap (map focus_place) same ∙ is.places
 
 -- what is at hand after them
 at-hand : (p : ProgramForm) (program : Program) (mode : Mode) (job : Job) (turns : List Turn) (start found at_hand : List StructureForm)
-    → IsJob program mode job → turns ≡ job.turns.items → AreFocusedWithin p (map place_of turns) start found
+    → IsJob program mode job → turns ≡ job.turns.items → AreFocusedWithin p (map focus_place turns) start found
     → at_hand ≡ found → AreFocusedWithin p (focus_places (action_in job).focus) start at_hand
 at-hand p program mode job turns start found at_hand is same within there =
     subst (λ places. AreFocusedWithin p places start at_hand) (turns-are program mode job turns is same)
-    (subst (AreFocusedWithin p (map place_of turns) start) (sym there) within)
+    (subst (AreFocusedWithin p (map focus_place turns) start) (sym there) within)
 
 pub focused-requires-clause-places : goal.focused-requires-clause-places
 focused-requires-clause-places c =
@@ -56,23 +57,17 @@ values_of-requires-clause-room c =
 pub values_of-requires-clause-shaped : goal.values_of-requires-clause-shaped
 values_of-requires-clause-shaped c =
     within-shaped (form_in c.args.x.now) _ c.args.start.now c.at_hand-at_hand.result.now
-    (at-hand (form_in c.args.x.now) c.args.x.now.program.now c.args.x.now.mode c.args.job.now c.as_slice.result.now c.args.start.now _
-    c.at_hand-at_hand.result.now c.requires.job c.as_slice.ensures.value c.in_ok-found.ensures.out
-    c.at_hand-at_hand.ensures) c.requires.shaped
+    (at-hand _ _ _ _ _ _ _ _ c.requires.job c.as_slice.ensures.value c.in_ok-found.ensures.out c.at_hand-at_hand.ensures) c.requires.shaped
 
 pub given-requires-clause-stable : goal.given-requires-clause-stable
 given-requires-clause-stable c =
     within-stable (form_in c.args.x.now) _ c.args.start.now c.at_hand-at_hand.result.now
-    (at-hand (form_in c.args.x.now) c.args.x.now.program.now c.args.x.now.mode c.args.job.now c.as_slice.result.now c.args.start.now _
-    c.at_hand-at_hand.result.now c.requires.job c.as_slice.ensures.value c.in_ok-found.ensures.out
-    c.at_hand-at_hand.ensures) c.requires.stable
+    (at-hand _ _ _ _ _ _ _ _ c.requires.job c.as_slice.ensures.value c.in_ok-found.ensures.out c.at_hand-at_hand.ensures) c.requires.stable
 
 pub given-requires-clause-shaped : goal.given-requires-clause-shaped
 given-requires-clause-shaped c =
     within-shaped (form_in c.args.x.now) _ c.args.start.now c.at_hand-at_hand.result.now
-    (at-hand (form_in c.args.x.now) c.args.x.now.program.now c.args.x.now.mode c.args.job.now c.as_slice.result.now c.args.start.now _
-    c.at_hand-at_hand.result.now c.requires.job c.as_slice.ensures.value c.in_ok-found.ensures.out
-    c.at_hand-at_hand.ensures) c.requires.shaped
+    (at-hand _ _ _ _ _ _ _ _ c.requires.job c.as_slice.ensures.value c.in_ok-found.ensures.out c.at_hand-at_hand.ensures) c.requires.shaped
 
 pub returns-in_err-given-clause-cause : goal.returns-in_err-given-clause-cause
 returns-in_err-given-clause-cause c =
@@ -82,8 +77,7 @@ returns-in_err-given-clause-cause c =
     in let start = c.args.start.now
     in let at_hand = c.at_hand-at_hand.result.now
     in let e = c.in_err-given.field-0.0
-    in let within = at-hand p c.args.x.now.program.now c.args.x.now.mode job c.as_slice.result.now start _ at_hand c.requires.job
-    c.as_slice.ensures.value c.in_ok-found.ensures.out c.at_hand-at_hand.ensures
+    in let within = at-hand _ _ _ _ _ _ _ _ c.requires.job c.as_slice.ensures.value c.in_ok-found.ensures.out c.at_hand-at_hand.ensures
     in handed-on (IsCauseOfStep p action start) c.from_residual-in_err-given.result e
     c.from_residual-in_err-given.ensures.1
     (inr (record {
@@ -105,8 +99,7 @@ returns-clause-results c =
     in let action = action_in job
     in let start = c.args.start.now
     in let at_hand = c.at_hand-at_hand.result.now
-    in let within = at-hand p c.args.x.now.program.now c.args.x.now.mode job c.as_slice.result.now start _ at_hand c.requires.job
-    c.as_slice.ensures.value c.in_ok-found.ensures.out c.at_hand-at_hand.ensures
+    in let within = at-hand _ _ _ _ _ _ _ _ c.requires.job c.as_slice.ensures.value c.in_ok-found.ensures.out c.at_hand-at_hand.ensures
     in results-of p c.args.x.now.mode action start at_hand c.in_ok-given.given c.in_ok-results.results within
     c.in_ok-given.ensures.out c.in_ok-given.ensures.within c.in_ok-results.ensures.same
     c.in_ok-results.ensures.order
@@ -118,8 +111,7 @@ returns-clause-values c =
     in let action = action_in job
     in let start = c.args.start.now
     in let at_hand = c.at_hand-at_hand.result.now
-    in let within = at-hand p c.args.x.now.program.now c.args.x.now.mode job c.as_slice.result.now start _ at_hand c.requires.job
-    c.as_slice.ensures.value c.in_ok-found.ensures.out c.at_hand-at_hand.ensures
+    in let within = at-hand _ _ _ _ _ _ _ _ c.requires.job c.as_slice.ensures.value c.in_ok-found.ensures.out c.at_hand-at_hand.ensures
     in record {
       at_hand = at_hand;
       are_focused = focused-are p (focus_places action.focus) start at_hand within;

@@ -1,6 +1,6 @@
 use Rattle.std.proofs.Common.{◌≡◌, ◌<◌, ◌≤◌, ◌+◌, subst}
 use Rattle.std.specs.Prelude.{IsTrue}
-use Rattle.tv_applied.specs.Applied.{kind_at}
+use Rattle.tv_update_laws.specs.Applied.{kind_at}
 use Rattle.tv_rules.specs.EntryForms.{rules_of}
 use Rattle.tv_update.specs.Plan.{IsDefined}
 use Rattle.tv_step.specs.Setting.{form_in}

@@ -1,5 +1,5 @@
 use Rattle.std.proofs.Common.{◌<◌}
-use Rattle.tv_applied.specs.Applied.{kind_at}
+use Rattle.tv_update_laws.specs.Applied.{kind_at}
 use Rattle.tv_rules.specs.EntryForms.{rules_of}
 use Rattle.tv_update.specs.Plan.{IsDefined}
 use Rattle.tv_step.specs.Setting.{form_in}

@@ -1,6 +1,6 @@
 use Rattle.std.proofs.Common.{◌∙◌, false, length, map, replicate, ap, sym, subst, Contains}
 use Rattle.std.proofs.lemmas.List.{length-replicate}
-use Rattle.tv_applied.specs.Applied.{kind_at}
+use Rattle.tv_update_laws.specs.Applied.{kind_at}
 use Rattle.tv_model.specs.Program.{action_of, update_of}
 use Rattle.tv_model.proofs.Lists.{map-compose}
 use Rattle.tv_rules.specs.EntryForms.{rules_of}

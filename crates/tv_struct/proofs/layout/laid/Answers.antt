@@ -1,4 +1,5 @@
-use Rattle.std.proofs.Common.{ℕ, ◌≡◌, ◌<◌, ◌≤◌, ◌+◌, ◌*◌, ◌∙◌, List, [], ◌∷◌, ◌++◌, length, map, take, get_or, ap, sym, arith}
+use Rattle.std.proofs.Common.{ℕ, ◌≡◌, ◌<◌, ◌≤◌, ◌+◌, ◌*◌, ◌∙◌, List, [], ◌∷◌, ◌++◌, length, map, take, get_or}
+use Rattle.std.proofs.Common.{ap, sym, arith}
 use Rattle.std.proofs.lemmas.List.{length-map, get_or-map, get_or_read, take_more}
 use Rattle.tv_model.specs.declared.program.Pred.{Pred}
 use Rattle.tv_struct.specs.LayoutForm.{starts_from, end_from}

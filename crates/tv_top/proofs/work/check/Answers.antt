@@ -2,7 +2,8 @@ use Rattle.std.proofs.Common.{◌≡◌, refl}
 use Rattle.std.proofs.lemmas.Result.{err_from_is_err_and}
 use Rattle.tv_listing.specs.declared.analysis.Analysis.{Analysis}
 use Rattle.tv_status.specs.declared.status.Role.TheVariants as role
-use Rattle.tv_top.proofs.Causes.{rose_later, still, unless_not_read, later_fault, judged_causes, judged_answers}
+use Rattle.tv_top.proofs.Causes.{rose_later, still, unless_not_read, later_fault, judged_causes}
+use Rattle.tv_top.proofs.Causes.{judged_answers}
 use Rattle.tv_top.proofs.Differenced.{covers_read_runs}
 use Rattle.tv_top.specs.Work.{task_of}
 use Rattle.tv_top.specs.declared.fault.Answer.{Answer}

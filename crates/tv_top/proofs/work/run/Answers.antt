@@ -5,7 +5,7 @@ use Rattle.tv_model.specs.declared.program.Mode.TheVariants.{Given}
 use Rattle.tv_status.specs.declared.status.Role.TheVariants as role
 use Rattle.tv_struct.specs.StructureForm.{StructureForm}
 use Rattle.tv_top.proofs.Causes.{rose_later, still, unless_not_read, later_fault, run_answers, run_causes}
-use Rattle.tv_top.specs.Meaning.{HasRun}
+use Rattle.tv_top.specs.Meaning.{HasStartAndTrace}
 use Rattle.tv_top.specs.Work.{task_of}
 use Rattle.tv_top.specs.declared.fault.Answer.{Answer}
 use Rattle.tv_trace.specs.declared.trace.Trace.{Trace}
@@ -79,7 +79,7 @@ returns-in_err-reported-clause-cause g c =
     let p = err_from_is_err_and c.from_residual-in_err-reported.result c.from_residual-in_err-reported.ensures.1 in
     let start = rw c.in_ok-inputs.ensures.holds at c.in_ok-start.ensures.means in
     let trace = rw (c.in_ok-start.ensures.holds, c.in_ok-inputs.ensures.holds) at c.in_ok-trace.ensures.means in
-    let run : HasRun (g.F.Files.holds c.args.files.now) command task.program = (c.in_ok-start.start, start, (c.in_ok-trace.trace, trace)) in
+    let run : HasStartAndTrace (g.F.Files.holds c.args.files.now) command task.program = (c.in_ok-start.start, start, (c.in_ok-trace.trace, trace)) in
     let cause = rw (c.in_ok-trace.ensures.holds, c.in_ok-start.ensures.holds, c.in_ok-inputs.ensures.holds)
     at c.in_err-reported.ensures.cause in
     rw (p.1, p.2) (later_fault _ command task role.Report _ _ _ _ _ _ _ means

@@ -7,7 +7,9 @@ use Rattle.std.specs.Vec.Iter.{into_iter_steps, into_iter_items}
 use Rattle.tv_trace.specs.Meaning.{IsMoveOn}
 use Rattle.tv_trace.specs.Reading.{moves_meant}
 use Rattle.tv_trace.specs.Views.{step_mark, step_marks}
-use Rattle.tv_trace.proofs.Moves.{yielded_split, told_so, meant_nil, moves_more, moves_break}
+use Rattle.tv_phrases.proofs.Values.{told_more}
+use Rattle.tv_lemmas.proofs.Calls.{yielded_split}
+use Rattle.tv_trace.proofs.Moves.{meant_nil, moves_more, moves_break}
 use Rattle.tv_trace.proofs.read.moves.Goals as goal
 
 pub loop-step-init : goal.loop-step-init
@@ -24,7 +26,7 @@ returns-in_err-found-clause-value c =
     in let rest = into_iter_items c.next.new.self
     in let whole = ap (step_marks c.args.bytes.now) split ∙ map-append (step_mark c.args.bytes.now) c.loop-step.yielded (c.in-Some.step ∷ rest)
     in rw (p.1, p.2)
-    (told_so c.in_err-found.field-0.0 _ _
+    (told_more c.in_err-found.field-0.0 _ _
     (λ none. ap (moves_meant c.args.program.now c.args.reader.now) whole
     ∙ moves_break c.args.program.now c.args.reader.now (step_marks c.args.bytes.now c.loop-step.yielded) (step_marks c.args.bytes.now rest) (step_mark c.args.bytes.now c.in-Some.step) none)
     c.in_err-found.ensures.value)

@@ -1,6 +1,6 @@
 use Rattle.std.proofs.Common.{◌≡◌, drop}
 use Rattle.tv_tvs.specs.Meaning.{items_put}
-use Rattle.tv_tvs.specs.Targets.{subject_form, Keeps}
+use Rattle.tv_tvs.specs.Targets.{subject_form, KeepsFrame}
 use Rattle.tv_tvs.specs.Views.{names_of, item_trees}
 use Rattle.tv_tvs.proofs.build.put_items.Given as goal
 
@@ -8,5 +8,5 @@ abbrev pub invariant-loop-item : goal.invariant-loop-item
 invariant-loop-item l = record {
   left : items_put (names_of l.individuals.keys) (subject_form l.target) l.initial.s (item_trees l.bytes l.items)
       ≡ items_put (names_of l.individuals.keys) (subject_form l.target) l.s (item_trees l.bytes (drop l.item-index l.items));
-  keeps : Keeps l.initial.s l.s;
+  keeps : KeepsFrame l.initial.s l.s;
 }

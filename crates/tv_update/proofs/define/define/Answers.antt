@@ -3,7 +3,7 @@ use Rattle.std.proofs.lemmas.Result.{on_ok_weaker}
 use Rattle.tv_model.specs.declared.program.Kind.TheVariants.{Core, Defined}
 use Rattle.tv_model.specs.Form.{form_of, vars_of}
 use Rattle.tv_model.specs.Program.{KDefined, program_of}
-use Rattle.tv_applied.specs.Applied.{kind_at}
+use Rattle.tv_update_laws.specs.Applied.{kind_at}
 use Rattle.tv_update.proofs.Defines.{can_define, defined_arity, is_evaluated, kind_there, core_evaluated}
 use Rattle.tv_update.proofs.RowLaws.{few_vars}
 use Rattle.tv_update.proofs.define.define.Goals as goal

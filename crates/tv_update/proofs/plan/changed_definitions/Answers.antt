@@ -1,6 +1,6 @@
 use Rattle.std.proofs.Common.{ℕ, ◌<◌, ◌⊎◌, ◌↔◌, refl, Bool, List, IsTrue, length, map, subst, sym}
 use Rattle.tv_model.specs.Program.{ProgramForm, ActionForm, program_of, action_of}
-use Rattle.tv_applied.specs.Applied.{kind_at}
+use Rattle.tv_update_laws.specs.Applied.{kind_at}
 use Rattle.tv_update.specs.Plan.{is_set, moves_individuals, RestsOn, AreWaiting}
 use Rattle.tv_update.proofs.Plans.{IsPlanSoFar, plan_start, settle_one, plan_done}
 use Rattle.tv_update.proofs.plan.changed_definitions.Goals as goal

@@ -1,7 +1,7 @@
 use Rattle.std.proofs.Common.{ℕ, ◌<◌}
 use Rattle.std.specs.Prelude.{IsTrue}
 use Rattle.tv_model.specs.Program.{program_of}
-use Rattle.tv_applied.specs.Applied.{kind_at}
+use Rattle.tv_update_laws.specs.Applied.{kind_at}
 use Rattle.tv_update.specs.Plan.{is_set, RestsOn}
 use Rattle.tv_update.proofs.plan.ready.Given as goal
 

@@ -4,8 +4,8 @@ use Rattle.std.specs.Result.{IfOk, IfErr}
 use Rattle.tv_model.specs.Program.{ActionForm, program_of, action_of}
 use Rattle.tv_struct.specs.StructureForm.{structure_of}
 use Rattle.tv_eval.specs.AssignmentForm.{assignment_of}
-use Rattle.tv_applied.specs.Choices.{AreGiven}
-use Rattle.tv_applied.specs.Tables.{IsGivenOver}
+use Rattle.tv_update_laws.specs.Choices.{AreGiven}
+use Rattle.tv_update_laws.specs.Tables.{IsGivenOver}
 use Rattle.tv_update.specs.Plan.{IsPlanFor}
 use Rattle.tv_update.specs.Update.{action_at, IsWithinLimits, IsUpdateCause, IsSole, KeepsSteps, IsAnswer}
 use Rattle.tv_update.proofs.Answered.{action_is, can_apply_at}

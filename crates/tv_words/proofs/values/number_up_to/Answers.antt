@@ -5,7 +5,9 @@ use Rattle.std.proofs.lemmas.Fmt.{parse-decimal}
 use Rattle.std.proofs.lemmas.Slice.Eq.{bytes_eq-Decides}
 use Rattle.tv_words.specs.Words.{IsNumberUpTo}
 use Rattle.tv_words.proofs.values.number_up_to.Goals as goal
-use Rattle.tv_words.proofs.values.number_up_to.Goals.{else-eq-via-then-eq+then-number-ge1+else-number-most, else-eq-via-then-eq+else-number-ge1, else-eq-via-else-eq}
+use Rattle.tv_words.proofs.values.number_up_to.Goals.{else-eq-via-then-eq+then-number-ge1+else-number-most}
+use Rattle.tv_words.proofs.values.number_up_to.Goals.{else-eq-via-then-eq+else-number-ge1}
+use Rattle.tv_words.proofs.values.number_up_to.Goals.{else-eq-via-else-eq}
 
 -- a number's text is parsed as that number
 read_back : {E : Type 0} (most n : ℕ) (word : _) (r : Result ℕ E) → most < 2 ^ 64 → IsNumberUpTo most word n

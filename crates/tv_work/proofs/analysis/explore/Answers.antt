@@ -1,7 +1,7 @@
 use Rattle.std.proofs.Common.{ℕ, ◌∙◌, [], ap, replicate, subst, sym, List}
 use Rattle.tv_listing.specs.ListingForm.{at_node}
 use Rattle.tv_struct.specs.StructureForm.{StructureForm}
-use Rattle.tv_work.specs.Explored.{IsKept, IsExplored}
+use Rattle.tv_work.specs.Explored.{IsSearchState, IsExplored}
 use Rattle.tv_work.specs.Search.{SearchForm, Grows, IsOnce}
 use Rattle.tv_work.specs.Task.{task_of}
 use Rattle.tv_work.proofs.Advancing.{all-wait, explored-all, kept-none}
@@ -10,7 +10,7 @@ use Rattle.tv_work.proofs.analysis.explore.Goals as goal
 pub open_all-requires-clause-kept : goal.open_all-requires-clause-kept
 open_all-requires-clause-kept c =
     let start : ℕ → SearchForm = λ n. record { listing = replicate n []; waiting = []; count = 0 }
-    in subst (IsKept (task_of c.args.x.now)) (sym (c.in_ok-search.ensures ∙ ap start c.len.ensures))
+    in subst (IsSearchState (task_of c.args.x.now)) (sym (c.in_ok-search.ensures ∙ ap start c.len.ensures))
     (kept-none (task_of c.args.x.now))
 
 pub follow_all-requires-clause-done : goal.follow_all-requires-clause-done

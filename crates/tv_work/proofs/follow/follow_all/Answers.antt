@@ -1,5 +1,5 @@
 use Rattle.std.proofs.Common.{subst, sym}
-use Rattle.tv_work.specs.Explored.{IsKept, AreDone, KeepsListed}
+use Rattle.tv_work.specs.Explored.{IsSearchState, AreDone, KeepsListed}
 use Rattle.tv_work.specs.Reach.{IsListed}
 use Rattle.tv_work.specs.Search.{SearchForm}
 use Rattle.tv_work.specs.Task.{task_of}
@@ -9,7 +9,7 @@ use Rattle.tv_work.proofs.follow.follow_all.Goals as goal
 pub follow-requires-clause-kept : goal.follow-requires-clause-kept
 follow-requires-clause-kept c =
     kept-popped (task_of c.args.x.now) c.pop.new.self c.in-Some.w
-    (subst (IsKept (task_of c.args.x.now)) c.in-Some.ensures.some.1 c.loop-w.invariant.kept)
+    (subst (IsSearchState (task_of c.args.x.now)) c.in-Some.ensures.some.1 c.loop-w.invariant.kept)
 
 pub loop-w-preserved : goal.loop-w-preserved
 loop-w-preserved c =

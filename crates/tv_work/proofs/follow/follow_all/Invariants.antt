@@ -1,11 +1,11 @@
 use Rattle.std.proofs.Common.{◌≡◌, ◌+◌, ◌-◌, length}
-use Rattle.tv_work.specs.Explored.{IsKept, AreSaid, AreDone, KeepsListed}
+use Rattle.tv_work.specs.Explored.{IsSearchState, AreSaid, AreDone, KeepsListed}
 use Rattle.tv_work.specs.Task.{task_of}
 use Rattle.tv_work.proofs.follow.follow_all.Given as goal
 
 abbrev pub invariant-loop-w : goal.invariant-loop-w
 invariant-loop-w l = record {
-  kept : IsKept (task_of l.x) l.search;
+  kept : IsSearchState (task_of l.x) l.search;
   said : AreSaid (task_of l.x) l.search.listing l.told;
   listed : KeepsListed l.initial.search.listing l.search.listing;
   done : AreDone (task_of l.x) l.search l.told;

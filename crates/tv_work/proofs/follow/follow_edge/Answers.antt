@@ -5,15 +5,16 @@ use Rattle.std.proofs.lemmas.Result.{err_from_is_err_and, on_ok_weaker}
 use Rattle.tv_model.specs.declared.program.Edge.{Edge}
 use Rattle.tv_model.specs.Program.{program_of}
 use Rattle.tv_step.specs.EngineForm.{EngineForm}
-use Rattle.tv_transfer.specs.Budgets.{IsStepCause, KeepsBudgets}
-use Rattle.tv_transfer.specs.Settled.{IsSettled}
-use Rattle.tv_transfer.specs.Transfer.{AreMessageValues, AreResults}
-use Rattle.tv_transfer.proofs.Shapes.{shaped-over}
+use Rattle.tv_step_laws.specs.Budgets.{IsStepCause, KeepsBudgets}
+use Rattle.tv_step_laws.specs.Settled.{IsSettled}
+use Rattle.tv_step_laws.specs.Transfer.{AreMessageValues, AreResults}
+use Rattle.tv_step_laws.proofs.Shapes.{shaped-over}
 use Rattle.tv_work.specs.Analysed.{IsMeetCause, IsWorkCause, IsAtSource}
 use Rattle.tv_work.specs.Reach.{Point, IsListed}
 use Rattle.tv_work.specs.Search.{StandsFor}
 use Rattle.tv_work.specs.Task.{form_in, task_of, reached_in}
-use Rattle.tv_work.proofs.Advancing.{stands-listed, target_at, target-is, arrived-reached, arrived-kept, does-along}
+use Rattle.tv_work.proofs.Advancing.{stands-listed, target_at, target-is, arrived-reached, arrived-kept}
+use Rattle.tv_work.proofs.Advancing.{does-along}
 use Rattle.tv_work.proofs.Causes.{ok-three, err-weaker, meet-cause, step-cause}
 use Rattle.tv_work.proofs.Saying.{values-few, noted-rises, noted-tells, said-kept, said-noted}
 use Rattle.tv_work.proofs.follow.follow_edge.Goals as goal
@@ -58,14 +59,14 @@ returns-in_err-out-clause-cause c =
     in rw (p.1, p.2)
     (step-cause (form_in c.args.x.now) c.args.x.now.max c.args.edge (reached_in t) x source fault
     (subst (λ (e : EngineForm). IsStepCause (program_of e.program) c.args.edge x.structure fault)
-    c.requires.ready.engine c.in_err-out.ensures.cause))
+    c.requires.ready.engine c.in_err-out.ensures.step.cause))
 
 pub note-requires-clause-few : goal.note-requires-clause-few
 note-requires-clause-few c =
     let values = c.in_ok-out.out.messages
     in values-few (form_in c.args.x.now) c.requires.ready.valid c.args.edge c.at.result.now values
     (subst (λ (e : EngineForm). AreMessageValues (program_of e.program) c.args.edge c.at.result.now values)
-    c.requires.ready.engine c.in_ok-out.ensures.values)
+    c.requires.ready.engine c.in_ok-out.ensures.step.values)
 
 pub returns : goal.returns
 returns c =
@@ -89,15 +90,15 @@ returns c =
     in let is = c.requires.ready.engine
     in let results : AreResults t.program t.mode edge x.structure rs
     = subst (λ (e : EngineForm). AreResults (program_of e.program) e.mode edge x.structure rs) is
-    c.in_ok-out.ensures.results
+    c.in_ok-out.ensures.step.results
     in let settled : All (IsSettled t.program) rs
-    = subst (λ (e : EngineForm). All (IsSettled (program_of e.program)) rs) is c.in_ok-out.ensures.settled
+    = subst (λ (e : EngineForm). All (IsSettled (program_of e.program)) rs) is c.in_ok-out.ensures.step.settled
     in let values : AreMessageValues t.program edge x.structure ks
     = subst (λ (e : EngineForm). AreMessageValues (program_of e.program) edge x.structure ks) is
-    c.in_ok-out.ensures.values
+    c.in_ok-out.ensures.step.values
     in let budgets : KeepsBudgets t.program edge x.structure
     = subst (λ (e : EngineForm). KeepsBudgets (program_of e.program) edge x.structure) is
-    c.in_ok-out.ensures.budgets
+    c.in_ok-out.ensures.step.budgets
     in let noted = c.in_ok-note.ensures.noted
     in let source : IsAtSource t.program edge (IsListed old.listing) x
     = record { taken = taken; is_edge = at; leaves = from; has = has }

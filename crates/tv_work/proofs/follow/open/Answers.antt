@@ -5,8 +5,8 @@ use Rattle.std.proofs.lemmas.Result.{on_ok_weaker}
 use Rattle.tv_model.specs.Program.{ProgramForm, program_of}
 use Rattle.tv_step.specs.EngineForm.{EngineForm}
 use Rattle.tv_struct.specs.StructureForm.{IsOver}
-use Rattle.tv_transfer.specs.Settled.{IsSettled}
-use Rattle.tv_transfer.specs.Transfer.{HasNoOpening, IsOpening}
+use Rattle.tv_step_laws.specs.Settled.{IsSettled}
+use Rattle.tv_step_laws.specs.Transfer.{HasNoOpening, IsOpening}
 use Rattle.tv_work.specs.Analysed.{IsMeetCause, IsWorkCause}
 use Rattle.tv_work.specs.Reach.{Point, IsListed}
 use Rattle.tv_work.specs.Task.{form_in, task_of, reached_in}

@@ -1,4 +1,5 @@
-use Rattle.std.proofs.Common.{◌≡◌, ◌<◌, ◌+◌, ◌++◌, ◌∷◌, ◌∙◌, [], ap, arith, length, get_or, set, subst, sym, List}
+use Rattle.std.proofs.Common.{◌≡◌, ◌<◌, ◌+◌, ◌++◌, ◌∷◌, ◌∙◌, [], ap, arith, length, get_or, set, subst, sym}
+use Rattle.std.proofs.Common.{List}
 use Rattle.std.proofs.lemmas.List.{get_or_default}
 use Rattle.tv_model.specs.declared.program.Edge.{Edge}
 use Rattle.tv_work.proofs.Leaves.{AreLeavingTo, leaving-next, leaving-all}

@@ -3,7 +3,7 @@ use Rattle.tv_kleene.specs.declared.K3.{K3}
 use Rattle.tv_model.specs.Form.{form_of}
 use Rattle.tv_eval.specs.Bound.{bound_room}
 use Rattle.tv_eval.specs.Formulas.{HasRooms, nesting, sizes_of}
-use Rattle.tv_eval.specs.Keeps.{Keeps}
+use Rattle.tv_eval.specs.Keeps.{HoldsClosures}
 use Rattle.tv_eval.proofs.Rooms.{rooms_for, written_items, written_back}
 use Rattle.tv_eval.proofs.evaluator.Evaluator.row.Goals as goal
 
@@ -25,7 +25,7 @@ returns-clause-bound c =
     let sizes : sizes_of c.row_of.new.rooms ≡ sizes_of c.args.self.now.rooms.items =
     c.row_of.ensures.rooms ∙ ap sizes_of c.as_mut_slice.ensures.value
     in record {
-      keeps = subst (Keeps c.args.self.now.structure.now c.row_of.new.kept)
+      keeps = subst (HoldsClosures c.args.self.now.structure.now c.row_of.new.kept)
           (sym (written_items c.args.self.now.shared.len c.row_of.new.shared c.args.self.now.shared.items
           (omega arith)
           (c.row_of.auto.shared ∙ ap length c.as_mut_slice-2.ensures.value)))

@@ -5,7 +5,7 @@ use Rattle.tv_struct.specs.StructureForm.{structure_of}
 use Rattle.tv_eval.specs.AssignmentForm.{assignment_of}
 use Rattle.tv_eval.specs.Bound.{bound_structure, bound_room}
 use Rattle.tv_eval.specs.Formulas.{HasRooms, nesting, sizes_of}
-use Rattle.tv_eval.specs.Keeps.{Keeps}
+use Rattle.tv_eval.specs.Keeps.{HoldsClosures}
 use Rattle.tv_eval.proofs.Covers.{covers}
 use Rattle.tv_eval.proofs.Rooms.{rooms_for, written_items, written_back}
 use Rattle.tv_eval.proofs.evaluator.Evaluator.value.Goals as goal
@@ -28,7 +28,7 @@ returns-clause-bound c =
     let sizes : sizes_of c.value_of.new.rooms ≡ sizes_of c.args.self.now.rooms.items =
     c.value_of.ensures.rooms ∙ ap sizes_of c.as_mut_slice.ensures.value
     in record {
-      keeps = subst (Keeps c.args.self.now.structure.now c.value_of.new.kept)
+      keeps = subst (HoldsClosures c.args.self.now.structure.now c.value_of.new.kept)
           (sym (written_items c.args.self.now.shared.len c.value_of.new.shared c.args.self.now.shared.items
           (omega arith)
           (c.value_of.auto.shared ∙ ap length c.as_mut_slice-2.ensures.value)))

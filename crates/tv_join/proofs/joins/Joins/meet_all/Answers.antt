@@ -1,10 +1,11 @@
-use Rattle.std.proofs.Common.{ℕ, ◌≡◌, List, Bool, MatchBool, length, rules, sym, subst, ◌∙◌, arith, None, Some}
+use Rattle.std.proofs.Common.{ℕ, ◌≡◌, List, Bool, MatchBool, length, rules, sym, subst, ◌∙◌, arith, None}
+use Rattle.std.proofs.Common.{Some}
 use Rattle.std.proofs.lemmas.Iterator.Adapters.{YieldsList-from_vec}
 use Rattle.std.proofs.lemmas.Iterator.Consumers.{YieldsList-end, YieldsList-turn}
 use Rattle.std.proofs.lemmas.List.{map-id}
 use Rattle.std.proofs.lemmas.List.Elements.{All-contains}
-use Rattle.tv_keys.specs.Keyed.{AreFlags}
-use Rattle.tv_keys.specs.Members.{IsIndexed}
+use Rattle.tv_join.specs.Keyed.{AreFlags}
+use Rattle.tv_join.specs.Members.{IsIndexed}
 use Rattle.tv_join.specs.State.{IsMet, members_at}
 use Rattle.tv_join.specs.Stepped.{HaveMet, IsPlacedFound}
 use Rattle.tv_join.specs.Task.{form_in, task_of}

@@ -5,7 +5,8 @@ use Rattle.std.specs.BTreeMap.{get}
 use Rattle.tv_listing.specs.ListingForm.{AreNoted}
 use Rattle.tv_struct.specs.Signature.{signature_of}
 use Rattle.tv_struct.specs.StructureForm.{StructureForm}
-use Rattle.tv_listing.proofs.ListingLaws.{AreNoted-same, AreNoted-kept, AreNoted-append, all_noted, Adds-known, Adds-new}
+use Rattle.tv_listing.proofs.ListingLaws.{AreNoted-same, AreNoted-kept, AreNoted-append, all_noted}
+use Rattle.tv_listing.proofs.ListingLaws.{Adds-known, Adds-new}
 use Rattle.tv_listing.proofs.node.Node.add.Goals as goal
 
 pub note_from-requires-clause-noted : goal.note_from-requires-clause-noted

@@ -3,8 +3,7 @@ use Rattle.std.proofs.lemmas.List.{length-replicate}
 use Rattle.std.proofs.lemmas.List.Elements.{All-replicate}
 use Rattle.tv_row.specs.Places.{row_of}
 use Rattle.tv_row.specs.RowForm.{HoldsRow}
-use Rattle.tv_row.proofs.PlaceLaws.{length-row_of}
-use Rattle.tv_row.proofs.RowOps.{no_word}
+use Rattle.tv_row.proofs.RowOps.{no_word, length_seen}
 use Rattle.tv_row.proofs.DrawnRuns.{drawn_holds, drawn_row}
 use Rattle.tv_row.proofs.row.Row.drawn.Goals as goal
 
@@ -13,16 +12,7 @@ draw-requires-clause-room c = omega (arith, c.origins.ensures.small)
 
 pub draw-requires-clause-source : goal.draw-requires-clause-source
 draw-requires-clause-source c =
-    λ column lt.
-    omega (
-      arith,
-      lt,
-      c.requires,
-      c.self.invariant.small,
-      c.self.invariant.as_many,
-      length-row_of c.self.inside.words c.self.inside.size 0,
-      ap length c.self.view_is,
-    )
+    λ column lt. omega (arith, lt, c.requires, c.self.invariant.small, c.self.invariant.as_many, length_seen _ _ _ c.self.view_is)
 
 pub invariant_of-result : goal.invariant_of-result
 invariant_of-result c =

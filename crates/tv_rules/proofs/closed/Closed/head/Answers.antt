@@ -3,8 +3,8 @@ use Rattle.tv_rules.specs.EntryForms.{rules_of}
 use Rattle.tv_rules.proofs.KeptLemmas.{count-of, head-is}
 use Rattle.tv_rules.proofs.closed.Closed.head.Goals as goal
 
-pub entry_at-requires : goal.entry_at-requires
-entry_at-requires c =
+pub item_at-requires : goal.item_at-requires
+item_at-requires c =
     let count = count-of c.self.inside.bases c.self.inside.negations c.self.inside.shapes c.self.inside.entries c.self.inside.by_pred
     c.self.inside.by_sm c.self.invariant
     in let same = ap (λ bases. length (rules_of bases)) c.self.view_is
@@ -15,6 +15,6 @@ pub returns : goal.returns
 returns c =
     λ rule there. head-is c.self.inside.bases c.self.inside.negations c.self.inside.shapes c.self.inside.entries c.self.inside.by_pred
     c.self.inside.by_sm c.self.invariant
-    c.args.number rule c.entry_at.result.now
+    c.args.number rule c.item_at.result.now
     (ap (λ bases. slice_get (rules_of bases) c.args.number) c.self.view_is ∙ there)
-    (sym (ap (λ entries. slice_get entries c.args.number) c.as_slice.ensures) ∙ c.entry_at.ensures)
+    (sym (ap (λ entries. slice_get entries c.args.number) c.as_slice.ensures) ∙ c.item_at.ensures)

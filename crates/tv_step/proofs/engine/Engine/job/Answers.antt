@@ -1,6 +1,6 @@
 use Rattle.std.proofs.Common.{◌≡◌, length, arith, ap, subst, Some, slice_get}
 use Rattle.tv_model.specs.Program.{program_of}
-use Rattle.tv_transfer.specs.Transfer.{IsActionOf}
+use Rattle.tv_step_laws.specs.Transfer.{IsActionOf}
 use Rattle.tv_step.specs.EngineForm.{EngineForm}
 use Rattle.tv_step.specs.Job.{action_in, IsJob}
 use Rattle.tv_step.proofs.Jobs.{job-taken, taken-within}

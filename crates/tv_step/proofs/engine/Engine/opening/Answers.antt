@@ -2,7 +2,7 @@ use Rattle.std.proofs.Common.{◌≡◌, Some, subst}
 use Rattle.std.specs.Prelude.{IfNone, IfOk}
 use Rattle.tv_model.specs.Program.{program_of}
 use Rattle.tv_struct.specs.StructureForm.{StructureForm}
-use Rattle.tv_transfer.specs.Transfer.{IsOpening, HasNoOpening}
+use Rattle.tv_step_laws.specs.Transfer.{IsOpening, HasNoOpening}
 use Rattle.tv_step.specs.EngineForm.{EngineForm}
 use Rattle.tv_step.proofs.engine.Engine.opening.Goals as goal
 

@@ -25,19 +25,12 @@ returns c =
     let x = c.setting-x.result
     in let s = c.args.s.now
     in let start = c.from_ref.result.now
-    in let said = said-in x c.args.self.now.program c.args.self.now.mode c.args.edge s c.job.result.now start
-    c.step_from.result c.setting-x.ensures.program c.setting-x.ensures.mode c.setting-x.ensures.valid
-    c.job.ensures.action
-    (stable-in x c.args.self.now.program s start c.setting-x.ensures.program c.requires.over
-    c.size.ensures.kept c.requires.stable c.from_ref.ensures.value)
-    c.step_from.ensures.results c.step_from.ensures.values c.step_from.ensures.cause
     in record {
-      results = said.results;
-      values = said.values;
-      settled = said.settled;
-      heaps = said.heaps;
-      truths = said.truths;
-      budgets = said.budgets;
-      cause = said.cause;
+      step = said-in x c.args.self.now.program c.args.self.now.mode c.args.edge s c.job.result.now start
+          c.step_from.result c.setting-x.ensures.program c.setting-x.ensures.mode c.setting-x.ensures.valid
+          c.job.ensures.action
+          (stable-in x c.args.self.now.program s start c.setting-x.ensures.program c.requires.over
+          c.size.ensures.kept c.requires.stable c.from_ref.ensures.value)
+          c.step_from.ensures.results c.step_from.ensures.values c.step_from.ensures.cause;
       scratch = c.step_from.ensures.scratch;
     }

@@ -37,20 +37,13 @@ returns c =
     let x = c.setting-x.result
     in let s = c.args.s.now
     in let start = c.as_slice.result.now
-    in let said = said-in x c.args.self.now.program c.args.self.now.mode c.args.edge s c.job.result.now start
-    c.step_from.result c.setting-x.ensures.program c.setting-x.ensures.mode c.setting-x.ensures.valid
-    c.job.ensures.action
-    (found-coerces x s c.in_ok-start.start start c.setting-x.ensures.rules
-    (shaped-in x c.args.self.now.program s c.setting-x.ensures.program c.requires.over c.size.ensures.kept)
-    c.in_ok-start.ensures.exact c.as_slice.ensures)
-    c.step_from.ensures.results c.step_from.ensures.values c.step_from.ensures.cause
     in record {
-      results = said.results;
-      values = said.values;
-      settled = said.settled;
-      heaps = said.heaps;
-      truths = said.truths;
-      budgets = said.budgets;
-      cause = said.cause;
+      step = said-in x c.args.self.now.program c.args.self.now.mode c.args.edge s c.job.result.now start
+          c.step_from.result c.setting-x.ensures.program c.setting-x.ensures.mode c.setting-x.ensures.valid
+          c.job.ensures.action
+          (found-coerces x s c.in_ok-start.start start c.setting-x.ensures.rules
+          (shaped-in x c.args.self.now.program s c.setting-x.ensures.program c.requires.over c.size.ensures.kept)
+          c.in_ok-start.ensures.exact c.as_slice.ensures)
+          c.step_from.ensures.results c.step_from.ensures.values c.step_from.ensures.cause;
       scratch = c.step_from.ensures.scratch ∙ c.in_ok-start.ensures.scratch;
     }

@@ -3,7 +3,8 @@ use Rattle.tv_row.specs.Places.{value_in}
 use Rattle.tv_row.specs.Drawing.{drawn_from}
 use Rattle.tv_row.proofs.DrawnRuns.{drawn_reads}
 use Rattle.tv_struct.specs.TableForm.{row_in, plane_at}
-use Rattle.tv_struct.proofs.HeldLaws.{IsTable-held, ReadsRow, now_listed, now_row, now_columns, now_cell, now_seen, now_read, now_drawn}
+use Rattle.tv_struct.proofs.HeldLaws.{IsTable-held, ReadsRow, now_listed, now_row, now_columns, now_cell}
+use Rattle.tv_struct.proofs.HeldLaws.{now_seen, now_read, now_drawn}
 use Rattle.tv_struct.proofs.planes.Planes.draw_words.Goals as goal
 
 pub start-at-requires-clause-predicate : goal.start-at-requires-clause-predicate

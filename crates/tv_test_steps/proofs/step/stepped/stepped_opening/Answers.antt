@@ -2,7 +2,7 @@ use Rattle.std.proofs.Common.{◌∙◌, subst}
 use Rattle.std.specs.Prelude.{IfSome}
 use Rattle.tv_model.specs.Program.{pred_of, program_of}
 use Rattle.tv_model.proofs.Lists.{map-compose}
-use Rattle.tv_transfer.specs.Settled.{IsSettled}
+use Rattle.tv_step_laws.specs.Settled.{IsSettled}
 use Rattle.tv_test_steps.proofs.step.stepped.stepped_opening.Goals as goal
 
 pub stable_step-requires-clause-over : goal.stable_step-requires-clause-over

@@ -3,7 +3,7 @@ use Rattle.tv_model.specs.Form.{form_of, FExists}
 use Rattle.tv_model.specs.Program.{program_of}
 use Rattle.tv_eval.specs.Bound.{bound_room}
 use Rattle.tv_eval.specs.Formulas.{AreAssigned}
-use Rattle.tv_eval.specs.ScratchForm.{Fits}
+use Rattle.tv_eval.specs.ScratchForm.{HasScratchFor}
 use Rattle.tv_test_values.proofs.Settings.{row_assigned}
 use Rattle.tv_test_values.proofs.values.values.row_of.Goals as goal
 
@@ -17,8 +17,8 @@ row-row-requires-clause-assigned c =
 
 pub row-row-requires-clause-fits : goal.row-row-requires-clause-fits
 row-row-requires-clause-fits c =
-    subst (λ s. Fits (bound_room c.new-e.result) (form_of c.args.found.now.formula.now) s.size) (sym c.new-e.ensures.structure)
-    (subst (λ room. Fits room (form_of c.args.found.now.formula.now) c.args.s.now.size) (sym c.new-e.ensures.room)
+    subst (λ s. HasScratchFor (bound_room c.new-e.result) (form_of c.args.found.now.formula.now) s.size) (sym c.new-e.ensures.structure)
+    (subst (λ room. HasScratchFor room (form_of c.args.found.now.formula.now) c.args.s.now.size) (sym c.new-e.ensures.room)
     (c.made_scratches_fit.ensures.fit (program_of c.args.program.now) c.args.s.now.size c.args.s.now.size
     c.args.scratch.now (form_of c.args.found.now.formula.now) c.requires.made
     (omega (arith, c.requires.setting.height)) (omega arith)))

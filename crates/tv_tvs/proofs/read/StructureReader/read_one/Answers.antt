@@ -1,6 +1,7 @@
 use Rattle.std.proofs.Common.{◌≡◌, ◌-◌, ◌∙◌, Ok, ap, subst, drop, length, arith}
 use Rattle.std.proofs.lemmas.Result.{err_from_is_err_and}
-use Rattle.tv_tvs.specs.Meaning.{Fails, StopsAtToken, struct_meant}
+use Rattle.tv_lex.specs.Places.{StopsAtToken}
+use Rattle.tv_tvs.specs.Meaning.{structures_place, RefusesStructures, struct_meant}
 use Rattle.tv_tvs.specs.Targets.{IsRead}
 use Rattle.tv_tvs.specs.Views.{struct_tree}
 use Rattle.tv_tvs.proofs.Answering.{none_here, refused_here, within, behind_at, read_here, count_in_order}
@@ -19,7 +20,7 @@ returns-in_err-found-in-Ok-clause-fault c =
     (refused_here c.args.self.now c.args.bytes.now c.args.tokens.now.list.items c.behind-here.result.now c.args.at
     (c.behind-here.ensures ∙ ap (drop c.args.at) c.as_slice-list.ensures.value) c.in-Ok.rest.now (struct_tree c.args.bytes.now c.in-Ok.tree) c.in-Ok.ensures
     c.in_err-found-in-Ok.field-0.0
-    (subst (λ v. Fails c.in_err-found-in-Ok.field-0.0 (struct_meant v.preds (struct_tree c.args.bytes.now c.in-Ok.tree))) c.self.view_is c.in_err-found-in-Ok.ensures.meant))
+    (subst (λ v. RefusesStructures c.in_err-found-in-Ok.field-0.0 (struct_meant v.preds (struct_tree c.args.bytes.now c.in-Ok.tree))) c.self.view_is c.in_err-found-in-Ok.ensures.meant))
 
 pub count_before-next-requires-clause-end : goal.count_before-next-requires-clause-end
 count_before-next-requires-clause-end c =
@@ -57,7 +58,7 @@ returns-in_ok-found-in-Ok-clause-kept c = c.in_ok-found-in-Ok.ensures.over.struc
 
 pub returns-in-Err-clause-place : goal.returns-in-Err-clause-place
 returns-in-Err-clause-place c =
-    subst (λ ts. StopsAtToken c.args.bytes.now ts c.refusal.result) c.as_slice-list.ensures.value c.refusal.ensures.place
+    subst (λ ts. StopsAtToken structures_place c.args.bytes.now ts c.refusal.result) c.as_slice-list.ensures.value c.refusal.ensures.place
 
 pub returns-in_err-found-in-Ok-clause-place : goal.returns-in_err-found-in-Ok-clause-place
 returns-in_err-found-in-Ok-clause-place c =

@@ -2,7 +2,8 @@ use Rattle.std.proofs.Common.{subst, List, Ok}
 use Rattle.std.specs.Prelude.{IfOk, IfErr}
 use Rattle.tv_lex.specs.Token.{spec_tokens}
 use Rattle.tv_struct.specs.StructureForm.{StructureForm}
-use Rattle.tv_tvs.specs.Meaning.{Answers, IsCause, MeansStructs, StopsAtToken, structs_meant}
+use Rattle.tv_lex.specs.Places.{StopsAtToken}
+use Rattle.tv_tvs.specs.Meaning.{structures_place, Answers, IsStructuresCause, MeansStructs, structs_meant}
 use Rattle.tv_tvs.specs.Views.{struct_trees}
 use Rattle.tv_tvs.proofs.Answering.{no_text, text_answered, text_fault}
 use Rattle.tv_tvs.proofs.Stops.{answer_stops, read_over, read_kept}
@@ -10,12 +11,12 @@ use Rattle.tv_tvs.proofs.read.StructureReader.read_tvs.Goals as goal
 
 pub returns-in-Err-clause-fault : goal.returns-in-Err-clause-fault
 returns-in-Err-clause-fault c =
-    subst (λ ts. IsCause c.args.self.now (spec_tokens c.args.bytes.now ts) c.refusal.result) c.as_slice.ensures.value
+    subst (λ ts. IsStructuresCause c.args.self.now (spec_tokens c.args.bytes.now ts) c.refusal.result) c.as_slice.ensures.value
     (no_text c.args.self.now (spec_tokens c.args.bytes.now c.as_slice.result.now) c.in-Err.fault c.refusal.result c.refusal.ensures.refused c.in-Err.ensures)
 
 pub returns-in-Err-clause-place : goal.returns-in-Err-clause-place
 returns-in-Err-clause-place c =
-    subst (λ ts. StopsAtToken c.args.bytes.now ts c.refusal.result) c.as_slice-in-Err.ensures.value c.refusal.ensures.place
+    subst (λ ts. StopsAtToken structures_place c.args.bytes.now ts c.refusal.result) c.as_slice-in-Err.ensures.value c.refusal.ensures.place
 
 pub returns-in-Ok-clause-meant : goal.returns-in-Ok-clause-meant
 returns-in-Ok-clause-meant c =
@@ -31,7 +32,7 @@ returns-in-Ok-clause-fault c =
     let told : Answers (λ (ss : List StructureForm). ss) c.structures-in-Ok.result (structs_meant c.self.inside.vocab.now.preds (struct_trees c.args.bytes.now c.in-Ok.trees.items))
     = subst (λ ts. Answers (λ (ss : List StructureForm). ss) c.structures-in-Ok.result (structs_meant c.self.inside.vocab.now.preds (struct_trees c.args.bytes.now ts)))
     c.as_slice-in-Ok.ensures.value c.structures-in-Ok.ensures.meant
-    in subst (λ ts. IfErr c.structures-in-Ok.result (IsCause c.args.self.now (spec_tokens c.args.bytes.now ts))) c.as_slice.ensures.value
+    in subst (λ ts. IfErr c.structures-in-Ok.result (IsStructuresCause c.args.self.now (spec_tokens c.args.bytes.now ts))) c.as_slice.ensures.value
     (text_fault c.args.self.now (spec_tokens c.args.bytes.now c.as_slice.result.now) (struct_trees c.args.bytes.now c.in-Ok.trees.items) c.structures-in-Ok.result c.in-Ok.ensures
     (subst (λ v. Answers (λ (ss : List StructureForm). ss) c.structures-in-Ok.result (structs_meant v.preds (struct_trees c.args.bytes.now c.in-Ok.trees.items))) c.self.view_is told))
 

@@ -1,7 +1,8 @@
 use Rattle.std.proofs.Common.{ℕ, [], ◌∷◌, ◌++◌, sym, ◌∙◌, map}
 use Rattle.std.specs.Global.{Vec}
 use Rattle.tv_vocab.specs.Walk.{work}
-use Rattle.tv_vocab.proofs.WalkLaws.{closed_marks_are, closed_path_is, closed_keeps, closed_less, seen_marks_are, seen_leads_to, seen_less, less_if}
+use Rattle.tv_vocab.proofs.WalkLaws.{closed_marks_are, closed_path_is, closed_keeps, closed_less}
+use Rattle.tv_vocab.proofs.WalkLaws.{seen_marks_are, seen_leads_to, seen_less, less_if}
 use Rattle.tv_vocab.proofs.walk.Walk.advance.Goals as goal
 
 pub returns-in-None-clause-marks : goal.returns-in-None-clause-marks

@@ -1,7 +1,8 @@
 use Rattle.std.proofs.Common.{ℕ, sym, ◌∙◌, map}
 use Rattle.std.specs.Prelude.{reverse}
 use Rattle.std.specs.Global.{Vec}
-use Rattle.tv_vocab.proofs.WalkLaws.{found, opened_marks_are, opened_path_is, opened_is_seen, opened_keeps, opened_even}
+use Rattle.tv_vocab.proofs.WalkLaws.{found, opened_marks_are, opened_path_is, opened_is_seen, opened_keeps}
+use Rattle.tv_vocab.proofs.WalkLaws.{opened_even}
 use Rattle.tv_vocab.proofs.walk.Walk.come_to.Goals as goal
 
 pub returns-in-Open-clause-cycle : goal.returns-in-Open-clause-cycle

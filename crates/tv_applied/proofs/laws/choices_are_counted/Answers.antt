@@ -1,5 +1,0 @@
-use Rattle.tv_applied.proofs.Counts.{choices_are_counted}
-use Rattle.tv_applied.proofs.laws.choices_are_counted.Goals as goal
-
-pub returns : goal.returns
-returns c = choices_are_counted

@@ -1,5 +1,0 @@
-use Rattle.tv_applied.proofs.ExactChoices.{choices_are_exact}
-use Rattle.tv_applied.proofs.laws.choices_are_exact.Goals as goal
-
-pub returns : goal.returns
-returns c = λ middle picks retain apart us. choices_are_exact middle picks retain apart us

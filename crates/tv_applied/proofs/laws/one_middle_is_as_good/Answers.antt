@@ -1,5 +1,0 @@
-use Rattle.tv_applied.proofs.Middles.{one_middle_is_as_good}
-use Rattle.tv_applied.proofs.laws.one_middle_is_as_good.Goals as goal
-
-pub returns : goal.returns
-returns c = one_middle_is_as_good

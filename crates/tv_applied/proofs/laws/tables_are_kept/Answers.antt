@@ -1,5 +1,0 @@
-use Rattle.tv_applied.proofs.Tables.{tables_are_kept}
-use Rattle.tv_applied.proofs.laws.tables_are_kept.Goals as goal
-
-pub returns : goal.returns
-returns c = tables_are_kept

@@ -1,9 +1,0 @@
-use Rattle.std.proofs.Common.{refl}
-use Rattle.tv_blur.proofs.names.Names.of.Goals as goal
-
-pub returns : goal.returns
-returns c = record {
-  by = refl;
-  of = refl;
-  holds = record { unary = c.requires; rows = rw c.min.ensures at c.in_ok-rows.ensures };
-}

@@ -1,5 +1,0 @@
-mod ArcSteps
-mod Ranges
-mod Sights
-mod Sizes
-mod Small

@@ -1,0 +1,13 @@
+use Rattle.tv_cover.specs.declared.noted.Noted.{Noted}
+use Rattle.tv_cover.proofs.CoverLaws.{on_ok}
+use Rattle.tv_cover.proofs.NotedLaws.{notes}
+use Rattle.tv_cover.proofs.noted.Noted.add.Goals as goal
+
+pub returns : goal.returns
+returns c =
+    let new : Noted = record { known = c.add_row.new.rows; places = c.note.new.places }
+    in on_ok c.note.result
+    (λ all.
+    notes c.args.self.now new c.args.glance.now c.known-known.result c.number.result c.args.place
+    c.in_ok-add_row.ensures.kept c.in_ok-add_row.ensures.added c.known-known.ensures c.number.ensures all)
+    c.note.ensures

@@ -1,0 +1,133 @@
+-- Sizes tell which formulas are small.
+use Rattle.std.proofs.Common.{ℕ, ◌≡◌, ◌∙◌, ◌+◌, ◌≤◌, min, max, Bool, true, false, refl, sym, ap, cond, arith}
+use Rattle.std.specs.Prelude.{◌&&◌, ◌||◌, nat_le}
+use Rattle.std.proofs.lemmas.Bool.Decides.{nat_tests}
+use Rattle.tv_model.specs.Form.{Form, FNot, FAnd, FOr, FIff, FCond, FExists, FForall, FClosure, height}
+use Rattle.tv_delta_laws.specs.Simple.{nodes, is_small}
+use Rattle.tv_delta_form.specs.declared.shape.Shape.{Shape}
+use Rattle.tv_delta_form.specs.declared.size.Size.{Size}
+use Rattle.tv_delta_form.specs.Shapes.{shape_form}
+use Rattle.tv_delta_form.specs.Sizes.{size_of, is_small_size, node_over}
+
+capped : (a c : ℕ) → min (a + 1) c ≡ min (min a c + 1) c
+capped a c = omega arith
+
+capped-two : (a b c : ℕ) → min (a + b + 1) c ≡ min (min a c + min b c + 1) c
+capped-two a b c = omega arith
+
+capped-three : (a b d c : ℕ) → min (a + b + d + 1) c ≡ min (min a c + min b c + min d c + 1) c
+capped-three a b d c = omega arith
+
+higher-two : (a b c : ℕ) → min (max a b + 1) c ≡ min (max (min a c) (min b c) + 1) c
+higher-two a b c = omega arith
+
+higher-three : (a b d c : ℕ) → min (max a (max b d) + 1) c ≡ min (max (min a c) (max (min b c) (min d c)) + 1) c
+higher-three a b d c = omega arith
+
+within : (n c : ℕ) → nat_le (min n (c + 1)) c ≡ nat_le n c
+within n c = grind (arith, nat_tests)
+
+pub small_form : (f : Form) → is_small_size (size_of f) ≡ is_small f
+small_form f = cc (within (nodes f) 65536, within (height f) 1000)
+
+pub small_sized : (s : Size) (f : Form) → s ≡ size_of f → is_small_size s ≡ is_small f
+small_sized s f is = ap is_small_size is ∙ small_form f
+
+pub not-size : (f : Form) → size_of (FNot f) ≡ node_over (size_of f).nodes (size_of f).height
+not-size f = cc (capped (nodes f) 65537, capped (height f) 1001)
+
+pub not_sized : (t s : Size) (x y : Shape) → t ≡ node_over s.nodes s.height → s ≡ size_of (shape_form x)
+    → y ≡ x → t ≡ size_of (FNot (shape_form y))
+not_sized t s x y over is same =
+    over ∙ ap (λ (z : Size). node_over z.nodes z.height) is ∙ sym (not-size (shape_form x))
+    ∙ ap (λ z. size_of (FNot (shape_form z))) (sym same)
+
+pub and-size : (f g : Form)
+    → size_of (FAnd f g) ≡ node_over ((size_of f).nodes + (size_of g).nodes) (max (size_of f).height (size_of g).height)
+and-size f g = cc (capped-two (nodes f) (nodes g) 65537, higher-two (height f) (height g) 1001)
+
+pub and_sized : (t s u : Size) (x y z w : Shape) → t ≡ node_over (s.nodes + u.nodes) (max s.height u.height)
+    → s ≡ size_of (shape_form x) → u ≡ size_of (shape_form y) → z ≡ x → w ≡ y
+    → t ≡ size_of (FAnd (shape_form z) (shape_form w))
+and_sized t s u x y z w over is its same alike =
+    over ∙ ap (λ (a : Size). node_over (a.nodes + u.nodes) (max a.height u.height)) is
+    ∙ ap (λ (a : Size). node_over ((size_of (shape_form x)).nodes + a.nodes) (max (size_of (shape_form x)).height a.height)) its
+    ∙ sym (and-size (shape_form x) (shape_form y))
+    ∙ ap (λ a. size_of (FAnd (shape_form a) (shape_form y))) (sym same)
+    ∙ ap (λ a. size_of (FAnd (shape_form z) (shape_form a))) (sym alike)
+
+pub or-size : (f g : Form)
+    → size_of (FOr f g) ≡ node_over ((size_of f).nodes + (size_of g).nodes) (max (size_of f).height (size_of g).height)
+or-size f g = cc (capped-two (nodes f) (nodes g) 65537, higher-two (height f) (height g) 1001)
+
+pub or_sized : (t s u : Size) (x y z w : Shape) → t ≡ node_over (s.nodes + u.nodes) (max s.height u.height)
+    → s ≡ size_of (shape_form x) → u ≡ size_of (shape_form y) → z ≡ x → w ≡ y
+    → t ≡ size_of (FOr (shape_form z) (shape_form w))
+or_sized t s u x y z w over is its same alike =
+    over ∙ ap (λ (a : Size). node_over (a.nodes + u.nodes) (max a.height u.height)) is
+    ∙ ap (λ (a : Size). node_over ((size_of (shape_form x)).nodes + a.nodes) (max (size_of (shape_form x)).height a.height)) its
+    ∙ sym (or-size (shape_form x) (shape_form y))
+    ∙ ap (λ a. size_of (FOr (shape_form a) (shape_form y))) (sym same)
+    ∙ ap (λ a. size_of (FOr (shape_form z) (shape_form a))) (sym alike)
+
+pub iff-size : (f g : Form)
+    → size_of (FIff f g) ≡ node_over ((size_of f).nodes + (size_of g).nodes) (max (size_of f).height (size_of g).height)
+iff-size f g = cc (capped-two (nodes f) (nodes g) 65537, higher-two (height f) (height g) 1001)
+
+pub iff_sized : (t s u : Size) (x y z w : Shape) → t ≡ node_over (s.nodes + u.nodes) (max s.height u.height)
+    → s ≡ size_of (shape_form x) → u ≡ size_of (shape_form y) → z ≡ x → w ≡ y
+    → t ≡ size_of (FIff (shape_form z) (shape_form w))
+iff_sized t s u x y z w over is its same alike =
+    over ∙ ap (λ (a : Size). node_over (a.nodes + u.nodes) (max a.height u.height)) is
+    ∙ ap (λ (a : Size). node_over ((size_of (shape_form x)).nodes + a.nodes) (max (size_of (shape_form x)).height a.height)) its
+    ∙ sym (iff-size (shape_form x) (shape_form y))
+    ∙ ap (λ a. size_of (FIff (shape_form a) (shape_form y))) (sym same)
+    ∙ ap (λ a. size_of (FIff (shape_form z) (shape_form a))) (sym alike)
+
+pub exists-size : (v : ℕ) (f : Form) → size_of (FExists v f) ≡ node_over (size_of f).nodes (size_of f).height
+exists-size v f = cc (capped (nodes f) 65537, capped (height f) 1001)
+
+pub exists_sized : (t s : Size) (v : ℕ) (x y : Shape) → t ≡ node_over s.nodes s.height → s ≡ size_of (shape_form x)
+    → y ≡ x → t ≡ size_of (FExists v (shape_form y))
+exists_sized t s v x y over is same =
+    over ∙ ap (λ (z : Size). node_over z.nodes z.height) is ∙ sym (exists-size v (shape_form x))
+    ∙ ap (λ z. size_of (FExists v (shape_form z))) (sym same)
+
+pub forall-size : (v : ℕ) (f : Form) → size_of (FForall v f) ≡ node_over (size_of f).nodes (size_of f).height
+forall-size v f = cc (capped (nodes f) 65537, capped (height f) 1001)
+
+pub forall_sized : (t s : Size) (v : ℕ) (x y : Shape) → t ≡ node_over s.nodes s.height → s ≡ size_of (shape_form x)
+    → y ≡ x → t ≡ size_of (FForall v (shape_form y))
+forall_sized t s v x y over is same =
+    over ∙ ap (λ (z : Size). node_over z.nodes z.height) is ∙ sym (forall-size v (shape_form x))
+    ∙ ap (λ z. size_of (FForall v (shape_form z))) (sym same)
+
+pub closure-size : (from to left right : ℕ) (f : Form) → size_of (FClosure from to left right f) ≡ node_over (size_of f).nodes (size_of f).height
+closure-size from to left right f = cc (capped (nodes f) 65537, capped (height f) 1001)
+
+pub closure_sized : (t s : Size) (from to left right : ℕ) (x y : Shape) → t ≡ node_over s.nodes s.height → s ≡ size_of (shape_form x)
+    → y ≡ x → t ≡ size_of (FClosure from to left right (shape_form y))
+closure_sized t s from to left right x y over is same =
+    over ∙ ap (λ (z : Size). node_over z.nodes z.height) is ∙ sym (closure-size from to left right (shape_form x))
+    ∙ ap (λ z. size_of (FClosure from to left right (shape_form z))) (sym same)
+
+pub cond-size : (c f g : Form)
+    → size_of (FCond c f g) ≡ node_over ((size_of c).nodes + (size_of f).nodes + (size_of g).nodes)
+    (max (size_of c).height (max (size_of f).height (size_of g).height))
+cond-size c f g =
+    cc (capped-three (nodes c) (nodes f) (nodes g) 65537, higher-three (height c) (height f) (height g) 1001)
+
+abbrev over-three : Size → Size → Size → Size
+over-three r s u = node_over (r.nodes + s.nodes + u.nodes) (max r.height (max s.height u.height))
+
+pub cond_sized : (t r s u : Size) (a x y b z w : Shape)
+    → t ≡ node_over (r.nodes + s.nodes + u.nodes) (max r.height (max s.height u.height))
+    → r ≡ size_of (shape_form a) → s ≡ size_of (shape_form x) → u ≡ size_of (shape_form y) → b ≡ a → z ≡ x → w ≡ y
+    → t ≡ size_of (FCond (shape_form b) (shape_form z) (shape_form w))
+cond_sized t r s u a x y b z w over here is its guard same alike =
+    over ∙ ap (λ k. over-three k s u) here ∙ ap (λ k. over-three (size_of (shape_form a)) k u) is
+    ∙ ap (λ k. over-three (size_of (shape_form a)) (size_of (shape_form x)) k) its
+    ∙ sym (cond-size (shape_form a) (shape_form x) (shape_form y))
+    ∙ ap (λ k. size_of (FCond (shape_form k) (shape_form x) (shape_form y))) (sym guard)
+    ∙ ap (λ k. size_of (FCond (shape_form b) (shape_form k) (shape_form y))) (sym same)
+    ∙ ap (λ k. size_of (FCond (shape_form b) (shape_form z) (shape_form k))) (sym alike)

@@ -1,5 +1,0 @@
-use Rattle.tv_difference.proofs.FitUpdates.{differenced_is_valid}
-use Rattle.tv_difference.proofs.laws.differenced_is_valid.Goals as goal
-
-pub returns : goal.returns
-returns c = differenced_is_valid

@@ -1,9 +1,0 @@
-use Rattle.std.proofs.Common.{refl}
-use Rattle.tv_findings.specs.Trying.{IsFreeIn, trial_of}
-use Rattle.tv_findings.proofs.Walked.{noted-free}
-use Rattle.tv_findings.proofs.rule.note.Goals as goal
-
-pub returns-in_ok-push-clause-free : goal.returns-in_ok-push-clause-free
-returns-in_ok-push-clause-free c =
-    noted-free (λ w. IsFreeIn w (trial_of c.args.trial.now)) c.args.vars.now c.push.new.self c.args.v c.in_ok-push.ensures
-    (c.if-is_free_in.ensures.0 refl)

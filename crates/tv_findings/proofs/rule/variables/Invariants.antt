@@ -1,9 +1,0 @@
-use Rattle.std.proofs.Common.{ℕ, ◌<◌, All, Contains}
-use Rattle.tv_findings.specs.Trying.{IsFreeIn, numbers_of, trial_of}
-use Rattle.tv_findings.proofs.rule.variables.Given as goal
-
-abbrev pub invariant-loop-v : goal.invariant-loop-v
-invariant-loop-v l = record {
-  free : All (λ w. IsFreeIn w (trial_of l.trial)) (numbers_of l.vars);
-  found : (w : ℕ) → w < l.v → IsFreeIn w (trial_of l.trial) → Contains (numbers_of l.vars) w;
-}

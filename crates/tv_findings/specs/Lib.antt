@@ -1,4 +1,0 @@
-pub mod PropertyForms
-pub mod Ready
-pub mod Same
-pub mod Trying

@@ -1,0 +1,5 @@
+use Rattle.tv_focus_laws.proofs.Counts.{choices_are_counted}
+use Rattle.tv_focus_laws.proofs.laws.choices_are_counted.Goals as goal
+
+pub returns : goal.returns
+returns c = choices_are_counted

@@ -1,0 +1,17 @@
+use Rattle.std.proofs.Common.{refl}
+use Rattle.tv_focus_laws.proofs.laws.examples_are_right.Goals as goal
+
+pub returns : goal.returns
+returns c = record {
+  three = refl;
+  copies = refl;
+  seven = refl;
+  seven_few = refl;
+  eight = refl;
+  eight_few = refl;
+  anchors = refl;
+  first = refl;
+  second = refl;
+  following = refl;
+  most = refl;
+}

@@ -1,5 +1,0 @@
-pub mod DeltaSteps
-pub mod Likes
-mod PutSteps
-mod PuttingLemmas
-pub mod Steps

@@ -1,5 +1,0 @@
-use Rattle.std.proofs.Common.{length}
-use Rattle.tv_forming.proofs.putting.+captures.Given as goal
-
-abbrev pub decreases-captures : goal.decreases-captures
-decreases-captures l = length l.m.now

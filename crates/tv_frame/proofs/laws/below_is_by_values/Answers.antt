@@ -1,5 +1,0 @@
-use Rattle.tv_frame.proofs.EmbeddingLaws.{IsBelow-values}
-use Rattle.tv_frame.proofs.laws.below_is_by_values.Goals as goal
-
-pub returns : goal.returns
-returns c = IsBelow-values

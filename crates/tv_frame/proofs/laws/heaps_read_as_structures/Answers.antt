@@ -1,5 +1,0 @@
-use Rattle.tv_frame.proofs.EmbeddingLaws.{reads_heap}
-use Rattle.tv_frame.proofs.laws.heaps_read_as_structures.Goals as goal
-
-pub returns : goal.returns
-returns c = reads_heap

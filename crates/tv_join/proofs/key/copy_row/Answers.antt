@@ -1,0 +1,21 @@
+use Rattle.std.proofs.Common.{◌∙◌, ap, length, sym}
+use Rattle.std.specs.Prelude.{slice_get}
+use Rattle.tv_struct.specs.StructureForm.{StructureForm}
+use Rattle.tv_blur.proofs.RowLaws.{length-unary_row}
+use Rattle.tv_join.proofs.Copying.{copied-row}
+use Rattle.tv_join.proofs.Entries.{same-everywhere}
+use Rattle.tv_join.proofs.key.copy_row.Goals as goal
+
+pub set_unary_row-requires-clause-size : goal.set_unary_row-requires-clause-size
+set_unary_row-requires-clause-size c =
+    ap length c.unary_row-row.ensures ∙ length-unary_row c.args.s.now c.args.p.0 ∙ sym c.requires.size
+
+pub returns-clause-values : goal.returns-clause-values
+returns-clause-values c =
+    let new = c.set_unary_row.new.self
+    in let size = sym (ap (λ (x : StructureForm). x.size) c.set_unary_row.ensures.value ∙ c.requires.size)
+    in let over = sym (c.set_unary_row.ensures.over ∙ c.requires.over)
+    in same-everywhere c.args.s.now new c.size.ensures.kept c.set_unary_row.ensures.kept size over c.args.p.0
+    (copied-row c.args.s.now new c.args.p.0 size
+    (ap (λ x. slice_get x c.args.p.0) (c.set_unary_row.ensures.over ∙ c.requires.over) ∙ c.requires.arity)
+    (c.set_unary_row.ensures.row ∙ c.unary_row-row.ensures))

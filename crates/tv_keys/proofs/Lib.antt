@@ -1,4 +1,0 @@
-pub mod Entries
-pub mod Copying
-pub mod Joining
-pub mod Indexing

@@ -1,5 +1,0 @@
-use Rattle.tv_keys.proofs.Joining.{HasJoined}
-use Rattle.tv_keys.proofs.joined.join_into.Given as goal
-
-abbrev pub invariant-loop-p : goal.invariant-loop-p
-invariant-loop-p l = HasJoined l.p l.fn.s l.t l.s

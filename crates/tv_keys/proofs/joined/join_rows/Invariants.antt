@@ -1,5 +1,0 @@
-use Rattle.tv_keys.proofs.Joining.{HasJoinedRows}
-use Rattle.tv_keys.proofs.joined.join_rows.Given as goal
-
-abbrev pub invariant-loop-u : goal.invariant-loop-u
-invariant-loop-u l = HasJoinedRows l.p.0 l.u l.initial.s l.t l.s

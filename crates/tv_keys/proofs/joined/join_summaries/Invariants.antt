@@ -1,5 +1,0 @@
-use Rattle.tv_keys.proofs.Joining.{HasJoinedFlags}
-use Rattle.tv_keys.proofs.joined.join_summaries.Given as goal
-
-abbrev pub invariant-loop-u : goal.invariant-loop-u
-invariant-loop-u l = HasJoinedFlags l.u l.initial.s l.t l.s

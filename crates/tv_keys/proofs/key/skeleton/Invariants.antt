@@ -1,5 +1,0 @@
-use Rattle.tv_keys.specs.Keyed.{HasCopied}
-use Rattle.tv_keys.proofs.key.skeleton.Given as goal
-
-abbrev pub invariant-loop-p : goal.invariant-loop-p
-invariant-loop-p l = HasCopied l.counted l.s l.p l.bare

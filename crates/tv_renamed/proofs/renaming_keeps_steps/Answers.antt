@@ -1,5 +1,0 @@
-use Rattle.tv_renamed.proofs.Steps.{renaming_keeps_steps}
-use Rattle.tv_renamed.proofs.renaming_keeps_steps.Goals as goal
-
-pub returns : goal.returns
-returns c = renaming_keeps_steps

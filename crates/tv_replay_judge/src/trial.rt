@@ -1,0 +1,302 @@
+//! A rule is tried in a heap: its variables get individuals one after the other, and an individual is passed
+//! over as soon as a conjunct of the body is false, or the head is true, whatever the variables that are left
+//! stand for. The values for all individuals that a variable may stand for are found by rows.
+
+ghost use Rattle.std.specs.Prelude.{◌≡◌, ◌↔◌, ◌<◌, ℕ, [], ◌∷◌, IsTrue, IsFalse, Contains};
+ghost use Rattle.tv_eval.specs.AssignmentForm.{assignment_of};
+ghost use Rattle.tv_eval.specs.Bound.{IsBound, bound_structure, bound_room};
+ghost use Rattle.tv_model.specs.Form.{form_of, IsFree};
+ghost use Rattle.tv_model.specs.Truth.{Truth, put};
+ghost use Rattle.tv_two_valued.specs.TwoValued.{heap_of};
+ghost use Rattle.tv_replay_judge.specs.Trying.{ArePlaced, CanTell, CanTry, IsGranted, IsMetFrom, IsMetUnder};
+ghost use Rattle.tv_replay_judge.specs.Trying.{IsRowOf, IsRuledOut, IsCheckStart, StaysBound, numbers_of};
+ghost use Rattle.tv_replay_judge.specs.Trying.{implication_of};
+
+use tv_eval::{Assignment, Evaluator};
+use tv_kleene::K3;
+use tv_model::{Formula, Var, free};
+use tv_row::Row;
+use tv_struct::{Structure, Table};
+use tv_two_valued::holds;
+
+/// A rule's body, and its head as a formula.
+#[derive(Clone, Copy)]
+pub(crate) struct Implication<'a> {
+    pub body: &'a Formula,
+    pub head: &'a Formula,
+}
+
+/// Whether none of the variables is free in the formula.
+fn is_settled(f: &Formula, rest: &[Var]) -> bool
+    ensures { IsTrue result → (v : ℕ) → Contains (numbers_of rest.now) v → ¬ IsFree v (form_of f.now) }
+{
+    for v in rest {
+        if free(f, *v) {
+            return false;
+        }
+    }
+    true
+}
+
+// ---- before any variable stands for an individual
+
+/// Whether the formula is true whatever the variables that are left stand for. It may be so where this isn't
+/// seen.
+fn is_granted<'a>(
+    s: &Structure,
+    evaluator: &mut Evaluator<'a>,
+    f: &'a Formula,
+    rest: &[Var],
+    a: &Assignment,
+) -> bool
+    requires bound { IsBound evaluator.old }
+    requires structure { bound_structure evaluator.old ≡ s.now }
+    requires can { CanTell s.now (bound_room evaluator.old) (form_of f.now) }
+    requires placed { ArePlaced s.now.size (numbers_of rest.now) a.now (form_of f.now) }
+    ensures granted { IsTrue result
+        → IsGranted (heap_of s.now) (numbers_of rest.now) (assignment_of a.now) (form_of f.now) }
+    ensures stays { StaysBound s.now evaluator.old evaluator.new }
+{
+    is_settled(f, rest) && holds(evaluator, f, a)
+}
+
+/// Whether the formula may be true once the variables that are left stand for individuals.
+fn may_hold_whole<'a>(
+    s: &Structure,
+    evaluator: &mut Evaluator<'a>,
+    f: &'a Formula,
+    rest: &[Var],
+    a: &Assignment,
+) -> bool
+    requires bound { IsBound evaluator.old }
+    requires structure { bound_structure evaluator.old ≡ s.now }
+    requires can { CanTell s.now (bound_room evaluator.old) (form_of f.now) }
+    requires placed { ArePlaced s.now.size (numbers_of rest.now) a.now (form_of f.now) }
+    ensures out { IsFalse result
+        → IsRuledOut (heap_of s.now) (numbers_of rest.now) (assignment_of a.now) (form_of f.now) }
+    ensures stays { StaysBound s.now evaluator.old evaluator.new }
+{
+    !is_settled(f, rest) || holds(evaluator, f, a)
+}
+
+/// Whether each conjunct of the formula may be true once the variables that are left stand for individuals.
+fn may_hold<'a>(
+    s: &Structure,
+    evaluator: &mut Evaluator<'a>,
+    f: &'a Formula,
+    rest: &[Var],
+    a: &Assignment,
+) -> bool
+    requires bound { IsBound evaluator.old }
+    requires structure { bound_structure evaluator.old ≡ s.now }
+    requires can { CanTell s.now (bound_room evaluator.old) (form_of f.now) }
+    requires placed { ArePlaced s.now.size (numbers_of rest.now) a.now (form_of f.now) }
+    ensures out { IsFalse result
+        → IsRuledOut (heap_of s.now) (numbers_of rest.now) (assignment_of a.now) (form_of f.now) }
+    ensures stays { StaysBound s.now evaluator.old evaluator.new }
+{
+    match f {
+        Formula::And(g, h) => {
+            may_hold(s, evaluator, g, rest, a) && may_hold(s, evaluator, h, rest, a)
+        }
+        _ => may_hold_whole(s, evaluator, f, rest, a),
+    }
+}
+
+// ---- by rows
+
+/// Whether the variable is the last that the formula waits for.
+fn is_last(f: &Formula, v: Var, rest: &[Var]) -> bool
+    ensures { IsTrue result → (w : ℕ) → Contains (numbers_of rest.now) w → ¬ IsFree w (form_of f.now) }
+{
+    free(f, v) && is_settled(f, rest)
+}
+
+/// Where the formula may be true, by the individuals that the variable may stand for: `Yes` wherever it may.
+fn row_whole<'a>(
+    s: &Structure,
+    evaluator: &mut Evaluator<'a>,
+    f: &'a Formula,
+    v: Var,
+    rest: &[Var],
+    a: &Assignment,
+) -> Row
+    requires bound { IsBound evaluator.old }
+    requires structure { bound_structure evaluator.old ≡ s.now }
+    requires can { CanTell s.now (bound_room evaluator.old) (form_of f.now) }
+    requires variable { v.0 < 32 }
+    requires placed { ArePlaced s.now.size (v.0 ∷ numbers_of rest.now) a.now (form_of f.now) }
+    ensures row { IsRowOf s.now.size
+        (λ u. IsRuledOut (heap_of s.now) (numbers_of rest.now) (put (assignment_of a.now) v.0 u)
+        (form_of f.now)) result }
+    ensures stays { StaysBound s.now evaluator.old evaluator.new }
+{
+    if is_last(f, v, rest) {
+        evaluator.row(f, v, a)
+    } else {
+        Row::of(s.size(), K3::Yes)
+    }
+}
+
+/// Where each conjunct of the formula may be true.
+fn body_row<'a>(
+    s: &Structure,
+    evaluator: &mut Evaluator<'a>,
+    f: &'a Formula,
+    v: Var,
+    rest: &[Var],
+    a: &Assignment,
+) -> Row
+    requires bound { IsBound evaluator.old }
+    requires structure { bound_structure evaluator.old ≡ s.now }
+    requires can { CanTell s.now (bound_room evaluator.old) (form_of f.now) }
+    requires variable { v.0 < 32 }
+    requires placed { ArePlaced s.now.size (v.0 ∷ numbers_of rest.now) a.now (form_of f.now) }
+    ensures row { IsRowOf s.now.size
+        (λ u. IsRuledOut (heap_of s.now) (numbers_of rest.now) (put (assignment_of a.now) v.0 u)
+        (form_of f.now)) result }
+    ensures stays { StaysBound s.now evaluator.old evaluator.new }
+{
+    match f {
+        Formula::And(g, h) => {
+            let left = body_row(s, evaluator, g, v, rest, a);
+            let right = body_row(s, evaluator, h, v, rest, a);
+            left.and(&right)
+        }
+        _ => row_whole(s, evaluator, f, v, rest, a),
+    }
+}
+
+/// Where the formula may be false, by the individuals that the variable may stand for: `Yes` wherever it may.
+fn lacking_row<'a>(
+    s: &Structure,
+    evaluator: &mut Evaluator<'a>,
+    f: &'a Formula,
+    v: Var,
+    rest: &[Var],
+    a: &Assignment,
+) -> Row
+    requires bound { IsBound evaluator.old }
+    requires structure { bound_structure evaluator.old ≡ s.now }
+    requires can { CanTell s.now (bound_room evaluator.old) (form_of f.now) }
+    requires variable { v.0 < 32 }
+    requires placed { ArePlaced s.now.size (v.0 ∷ numbers_of rest.now) a.now (form_of f.now) }
+    ensures row { IsRowOf s.now.size
+        (λ u. IsGranted (heap_of s.now) (numbers_of rest.now) (put (assignment_of a.now) v.0 u)
+        (form_of f.now)) result }
+    ensures stays { StaysBound s.now evaluator.old evaluator.new }
+{
+    if is_last(f, v, rest) {
+        evaluator.row(f, v, a).not()
+    } else {
+        Row::of(s.size(), K3::Yes)
+    }
+}
+
+/// The individuals that the variable has to be tried with: those at which the rule may be broken.
+fn places_for<'a>(
+    s: &Structure,
+    evaluator: &mut Evaluator<'a>,
+    trial: &Implication<'a>,
+    v: Var,
+    rest: &[Var],
+    a: &Assignment,
+) -> Row
+    requires bound { IsBound evaluator.old }
+    requires structure { bound_structure evaluator.old ≡ s.now }
+    requires ready { CanTry s.now (bound_room evaluator.old) (implication_of trial.now) }
+    requires variable { v.0 < 32 }
+    requires walk { IsCheckStart s.now.size (implication_of trial.now) (v.0 ∷ numbers_of rest.now) a.now }
+    ensures row { IsRowOf s.now.size
+        (λ u. IsMetFrom (heap_of s.now) (implication_of trial.now) (numbers_of rest.now)
+        (put (assignment_of a.now) v.0 u)) result }
+    ensures stays { StaysBound s.now evaluator.old evaluator.new }
+{
+    let body = body_row(s, evaluator, trial.body, v, rest, a);
+    if !body.has_yes() {
+        return body;
+    }
+    let lacking = lacking_row(s, evaluator, trial.head, v, rest, a);
+    body.and(&lacking)
+}
+
+// ---- the walk
+
+/// Whether the head is true, or the body isn't.
+fn is_met<'a>(
+    s: &Structure,
+    evaluator: &mut Evaluator<'a>,
+    trial: &Implication<'a>,
+    a: &Assignment,
+) -> bool
+    requires bound { IsBound evaluator.old }
+    requires structure { bound_structure evaluator.old ≡ s.now }
+    requires ready { CanTry s.now (bound_room evaluator.old) (implication_of trial.now) }
+    requires walk { IsCheckStart s.now.size (implication_of trial.now) [] a.now }
+    ensures met { IsTrue result
+        ↔ IsMetUnder (heap_of s.now) (implication_of trial.now) (assignment_of a.now) }
+    ensures stays { StaysBound s.now evaluator.old evaluator.new }
+{
+    if holds(evaluator, trial.body, a) {
+        holds(evaluator, trial.head, a)
+    } else {
+        true
+    }
+}
+
+/// Whether the rule is met however the variables that are left get individuals.
+fn is_met_from<'a>(
+    s: &Structure,
+    evaluator: &mut Evaluator<'a>,
+    trial: &Implication<'a>,
+    rest: &[Var],
+    a: &Assignment,
+) -> bool
+    requires bound { IsBound evaluator.old }
+    requires structure { bound_structure evaluator.old ≡ s.now }
+    requires ready { CanTry s.now (bound_room evaluator.old) (implication_of trial.now) }
+    requires walk { IsCheckStart s.now.size (implication_of trial.now) (numbers_of rest.now) a.now }
+    ensures met { IsTrue result
+        ↔ IsMetFrom (heap_of s.now) (implication_of trial.now) (numbers_of rest.now) (assignment_of a.now) }
+    ensures stays { StaysBound s.now evaluator.old evaluator.new }
+{
+    match rest {
+        [] => is_met(s, evaluator, trial, a),
+        [v, rest @ ..] => {
+            let places = places_for(s, evaluator, trial, *v, rest, a);
+            let mut from = 0;
+            while let Some(u) = places.next_yes(from) {
+                if !is_met_from(s, evaluator, trial, rest, &a.with(*v, u)) {
+                    return false;
+                }
+                from = u + 1;
+            }
+            true
+        }
+    }
+}
+
+/// The same, where no variable of the rule stands for an individual yet.
+pub(crate) fn is_met_by_all<'a>(
+    s: &Structure,
+    evaluator: &mut Evaluator<'a>,
+    trial: &Implication<'a>,
+    vars: &[Var],
+    a: &Assignment,
+) -> bool
+    requires bound { IsBound evaluator.old }
+    requires structure { bound_structure evaluator.old ≡ s.now }
+    requires ready { CanTry s.now (bound_room evaluator.old) (implication_of trial.now) }
+    requires walk { IsCheckStart s.now.size (implication_of trial.now) (numbers_of vars.now) a.now }
+    ensures met { IsTrue result
+        ↔ IsMetFrom (heap_of s.now) (implication_of trial.now) (numbers_of vars.now) (assignment_of a.now) }
+    ensures stays { StaysBound s.now evaluator.old evaluator.new }
+{
+    if !may_hold(s, evaluator, trial.body, vars, a) {
+        return true;
+    }
+    if is_granted(s, evaluator, trial.head, vars, a) {
+        return true;
+    }
+    is_met_from(s, evaluator, trial, vars, a)
+}

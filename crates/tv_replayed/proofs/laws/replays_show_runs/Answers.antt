@@ -1,5 +1,0 @@
-use Rattle.tv_replayed.proofs.Shown.{replays_show_runs}
-use Rattle.tv_replayed.proofs.laws.replays_show_runs.Goals as goal
-
-pub returns : goal.returns
-returns c = replays_show_runs

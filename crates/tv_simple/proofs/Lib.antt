@@ -1,2 +1,0 @@
--- The library of lemmas on sizes, for the crates above.
-pub mod SizeLaws

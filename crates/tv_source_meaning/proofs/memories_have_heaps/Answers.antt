@@ -1,5 +1,0 @@
-use Rattle.tv_source_meaning.proofs.Memories.{memories_have_heaps}
-use Rattle.tv_source_meaning.proofs.memories_have_heaps.Goals as goal
-
-pub returns : goal.returns
-returns c = memories_have_heaps c.at_least_one_is_concrete.ensures

@@ -1,5 +1,0 @@
-use Rattle.tv_source_meaning.proofs.Nulls.{nulls_are_told}
-use Rattle.tv_source_meaning.proofs.nulls_are_told.Goals as goal
-
-pub returns : goal.returns
-returns c = nulls_are_told

@@ -1,5 +1,0 @@
-use Rattle.tv_splits.proofs.Limits.{split_limits}
-use Rattle.tv_splits.proofs.laws.splits_have_limits.Goals as goal
-
-pub returns : goal.returns
-returns c = split_limits

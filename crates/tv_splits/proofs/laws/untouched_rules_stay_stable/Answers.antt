@@ -1,5 +1,0 @@
-use Rattle.tv_splits.proofs.Untouched.{untouched_rules_stay_stable}
-use Rattle.tv_splits.proofs.laws.untouched_rules_stay_stable.Goals as goal
-
-pub returns : goal.returns
-returns c = untouched_rules_stay_stable

@@ -1,5 +1,0 @@
-use Rattle.tv_stable.proofs.Joined.{sharpening_loses_no_stable}
-use Rattle.tv_stable.proofs.laws.sharpening_loses_no_stable.Goals as goal
-
-pub returns : goal.returns
-returns c = sharpening_loses_no_stable

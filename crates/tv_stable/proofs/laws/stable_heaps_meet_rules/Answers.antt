@@ -1,5 +1,0 @@
-use Rattle.tv_stable.proofs.InHeaps.{stable_heaps_meet_rules}
-use Rattle.tv_stable.proofs.laws.stable_heaps_meet_rules.Goals as goal
-
-pub returns : goal.returns
-returns c = stable_heaps_meet_rules

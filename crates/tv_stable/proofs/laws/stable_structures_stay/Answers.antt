@@ -1,5 +1,0 @@
-use Rattle.tv_stable.proofs.Joined.{stable_structures_stay}
-use Rattle.tv_stable.proofs.laws.stable_structures_stay.Goals as goal
-
-pub returns : goal.returns
-returns c = stable_structures_stay

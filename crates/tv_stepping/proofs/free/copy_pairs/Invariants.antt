@@ -1,5 +1,0 @@
-use Rattle.tv_stepping.proofs.Copied.{HasRowsOf}
-use Rattle.tv_stepping.proofs.free.copy_pairs.Given as goal
-
-abbrev pub invariant-loop-u : goal.invariant-loop-u
-invariant-loop-u l = HasRowsOf l.values l.initial.t l.t l.p.0 l.u

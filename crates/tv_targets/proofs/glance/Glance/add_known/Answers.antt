@@ -1,7 +1,0 @@
-use Rattle.tv_targets.proofs.GlanceLaws.{known-more}
-use Rattle.tv_targets.proofs.glance.Glance.add_known.Goals as goal
-
-pub returns-then-is_known : goal.returns-then-is_known
-returns-then-is_known c =
-    known-more c.args.self.now c.args.known.now c.set.new.self c.args.p c.set.ensures
-    (c.is_known.ensures.nullary c.if-is_known.true) (c.is_known.ensures.unary c.if-is_known.true) c.requires.so_far

@@ -1,5 +1,0 @@
-use Rattle.tv_targets.specs.Glance.{AreKnown}
-use Rattle.tv_targets.proofs.glance.Glance.known.Given as goal
-
-abbrev pub invariant-loop-p : goal.invariant-loop-p
-invariant-loop-p l = AreKnown l.self l.known

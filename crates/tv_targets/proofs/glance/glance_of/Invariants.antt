@@ -1,7 +1,0 @@
-use Rattle.std.proofs.Common.{◌≡◌, map}
-use Rattle.std.specs.List.{range_with_len}
-use Rattle.tv_targets.specs.Glance.{profile_of, value_near}
-use Rattle.tv_targets.proofs.glance.glance_of.Given as goal
-
-abbrev pub invariant-loop-u : goal.invariant-loop-u
-invariant-loop-u l = l.unary.items ≡ map (λ u. profile_of l.s (value_near l.s u)) (range_with_len 0 l.u)

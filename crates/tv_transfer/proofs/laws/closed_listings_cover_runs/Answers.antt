@@ -1,5 +1,0 @@
-use Rattle.tv_transfer.proofs.Runs.{closed_listings_cover_runs}
-use Rattle.tv_transfer.proofs.laws.closed_listings_cover_runs.Goals as goal
-
-pub returns : goal.returns
-returns c = closed_listings_cover_runs

@@ -1,5 +1,0 @@
-use Rattle.tv_value.proofs.Walks.{closures_are_greatest}
-use Rattle.tv_value.proofs.laws.closures_are_greatest.Goals as goal
-
-pub returns : goal.returns
-returns c = λ s a from to left right f. closures_are_greatest s a from to left right f

@@ -1,5 +1,0 @@
-use Rattle.tv_value.proofs.Preimages.{definite_values_come_down}
-use Rattle.tv_value.proofs.laws.definite_values_come_down.Goals as goal
-
-pub returns : goal.returns
-returns c = λ f m s t a b e takes. definite_values_come_down f m s t a b e takes

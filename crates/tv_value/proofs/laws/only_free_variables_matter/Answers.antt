@@ -1,5 +1,0 @@
-use Rattle.tv_value.proofs.Agreed.{only_free_variables_matter}
-use Rattle.tv_value.proofs.laws.only_free_variables_matter.Goals as goal
-
-pub returns : goal.returns
-returns c = λ s f a b same. only_free_variables_matter s f a b same
