@@ -26,14 +26,14 @@ impl Shared {
     }
 
     /// Whether it is false.
-    pub fn is_zero(&self) -> bool
+    pub(crate) fn is_zero(&self) -> bool
         ensures { result ≡ is_zero (form_at self.now) }
     {
         self.size.zero
     }
 
     /// Whether it is true.
-    pub fn is_one(&self) -> bool
+    pub(crate) fn is_one(&self) -> bool
         ensures { result ≡ is_one (form_at self.now) }
     {
         self.size.one
@@ -41,7 +41,7 @@ impl Shared {
 
     /// Whether it has at most 65,536 nodes and is at most 1,000 high.
     #[tactic(auto, using(crate::proofs::SizeLaws::small_sized))]
-    pub fn is_small(&self) -> bool
+    pub(crate) fn is_small(&self) -> bool
         ensures { result ≡ is_small (form_at self.now) }
     {
         is_small_size(self.size)

@@ -15,4 +15,4 @@ pub use naming::{Naming, Slot};
 pub use picks::picks_in;
 pub use place::{Known, Others, Place};
 pub use refusal::ResolveError;
-pub use symbols::{KnownSymbol, Symbols, is_new_word, is_reserved, is_sm};
+pub use symbols::{KnownSymbol, Symbols, is_reserved};

@@ -215,7 +215,7 @@ impl<'a> Naming<'a> {
 
     /// The two variables that all `p*` and `p+` of the item share.
     #[tactic(auto, unfolding(crate::specs::Naming::own_pair))]
-    pub fn own_pair(&mut self) -> Result<(u8, u8), ResolveError>
+    pub(crate) fn own_pair(&mut self) -> Result<(u8, u8), ResolveError>
         ensures { GivesOrRefuses (λ pair. (pair, naming_of self.new)) result (own_pair (naming_of self.old)) }
     {
         match self.own {

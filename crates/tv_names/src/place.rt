@@ -69,7 +69,7 @@ impl Known {
     }
 
     /// Whether the variable of this number is in the set.
-    pub fn has_at(&self, n: usize) -> bool
+    pub(crate) fn has_at(&self, n: usize) -> bool
         ensures { result ≡ get_or self.now.flags n false }
     {
         if n < 32 { self.flags[n] } else { false }
