@@ -1,6 +1,7 @@
 -- Rows whose words are filled one after the other.
 use Rattle.std.proofs.Common.{Option, Some, None, IfSome, ◌^◌, ℕ, ◌≡◌, ◌≢◌, ◌<◌, ◌≤◌, ◌+◌, ◌-◌, ◌*◌, ◌/◌, ◌%◌}
-use Rattle.std.proofs.Common.{min, cond, List, [], ◌++◌, set, length, map, get_or, take, replicate, refl, sym}
+use Rattle.std.proofs.Common.{zero, suc, ◌∷◌, min, cond, List, [], ◌++◌, set, length, map, get_or, take}
+use Rattle.std.proofs.Common.{replicate, refl, sym}
 use Rattle.std.proofs.Common.{ap, ◌∙◌, ◌⊎◌, inl, inr, ⊎_elim, subst, arith, ltb}
 use Rattle.std.proofs.lemmas.Bool.{cases_eq, cases_lt, lt-ltb, le-ltb}
 use Rattle.std.proofs.lemmas.List.{ext_get_or, get_or_default, length-replicate, length-map, length-take-le}
@@ -9,7 +10,7 @@ use Rattle.std.proofs.lemmas.List.{get_or-set_other, length-append, get_or_appen
 use Rattle.std.proofs.Math.Seq.{take-length}
 use Rattle.tv_kleene.proofs.Lattice.{smaller-no}
 use Rattle.tv_kleene.specs.declared.K3.{K3}
-use Rattle.tv_kleene.specs.declared.K3.TheVariants.{No, Half, Yes}
+use Rattle.tv_kleene.specs.declared.K3.TheVariants.{No, Yes}
 use Rattle.tv_kleene.specs.Kleene.{smaller_of, negation_of}
 use Rattle.tv_row.specs.Bits.{paired, padded, greatest_in}
 use Rattle.tv_row.specs.Firsts.{IsFirstFrom}
@@ -40,6 +41,29 @@ filled_more words p g word filled low e = (
   length-set words p word ∙ filled.2,
 )
 
+-- one word, and No behind it
+pub alone_filled : (words : List (List K3)) (g : ℕ → List K3) (word : List K3)
+    → words ≡ word ∷ replicate 3 (padded 0 (replicate 64 No)) → word ≡ g 0 → FilledTo words 1 g
+alone_filled words g word e same =
+    subst (λ ws. FilledTo ws 1 g) (sym e)
+    (λ v lt. (let z : v ≡ 0 = omega arith in ap (word_at (word ∷ replicate 3 (padded 0 (replicate 64 No)))) z ∙ same ∙ ap g (sym z)), behind, refl)
+  where
+    behind : (v : ℕ) → 1 ≤ v → v < 4 → word_at (word ∷ replicate 3 (padded 0 (replicate 64 No))) v ≡ padded 0 (replicate 64 No)
+    behind zero le lt = absurd (omega arith)
+    behind (suc v) le lt = get_or-replicate 3 v (padded 0 (replicate 64 No)) [] (omega arith)
+
+-- all four words
+pub four_filled : (a b c d : List K3) (g : ℕ → List K3) → a ≡ g 0 → b ≡ g 1 → c ≡ g 2 → d ≡ g 3
+    → FilledTo (a ∷ b ∷ c ∷ d ∷ []) 4 g
+four_filled a b c d g ea eb ec ed = (each, λ v le lt. absurd (omega arith), refl)
+  where
+    each : (v : ℕ) → v < 4 → word_at (a ∷ b ∷ c ∷ d ∷ []) v ≡ g v
+    each zero lt = ea
+    each (suc zero) lt = eb
+    each (suc (suc zero)) lt = ec
+    each (suc (suc (suc zero))) lt = ed
+    each (suc (suc (suc (suc v)))) lt = absurd (omega arith)
+
 -- a row as it is seen is as long as its size says
 pub length_seen : (words : List (List K3)) (size : ℕ) (now : List K3) → row_of words size 0 ≡ now → length now ≡ size
 length_seen words size now view = ap length (sym view) ∙ length-row_of words size 0
@@ -53,7 +77,7 @@ no_place i low =
     get_or-padded 0 (replicate 64 No) i (omega arith) (length-replicate 64 No) low
     ∙ ap (λ t. cond t (get_or (replicate 64 No) i No) No) (le-ltb i 0 (omega arith))
 
-module _ (words : List (List K3)) (size n : ℕ) (g : ℕ → List K3) (filled : FilledTo words n g) (e : n ≡ size / 64 + min 1 (size % 64))
+module _ (words : List (List K3)) (size n : ℕ) (g : ℕ → List K3) (filled : FilledTo words n g) (room : size ≤ 64 * n)
     (small : size ≤ 256) (long : (p : ℕ) → p < n → length (g p) ≡ 64)
     (past : (c : ℕ) → size ≤ c → c < 64 * n → get_or (g (c / 64)) (c % 64) No ≡ No) where
   filled_value : (c : ℕ) → c < 64 * n → value_in words 0 c ≡ get_or (g (c / 64)) (c % 64) No
@@ -90,7 +114,7 @@ module _ (words : List (List K3)) (size n : ℕ) (g : ℕ → List K3) (filled :
 -- ---- the words of two rows, place by place
 
 module _ (one other words : List (List K3)) (size n : ℕ) (op : K3 → K3 → K3) (none : op No No ≡ No) (h : HoldsRow one size) (k : HoldsRow other size)
-    (filled : FilledTo words n (λ p. paired op (word_at one p) (word_at other p))) (e : n ≡ size / 64 + min 1 (size % 64)) where
+    (filled : FilledTo words n (λ p. paired op (word_at one p) (word_at other p))) (room : size ≤ 64 * n) (few : n ≤ 4) where
   pair_value : (c : ℕ) → c < 256
       → get_or (paired op (word_at one (c / 64)) (word_at other (c / 64))) (c % 64) No ≡ op (get_or (row_of one size 0) c No) (get_or (row_of other size 0) c No)
   pair_value c low =
@@ -112,13 +136,13 @@ module _ (one other words : List (List K3)) (size n : ℕ) (op : K3 → K3 → K
       in length-paired op (word_at one p) (word_at other p) (a ∙ sym (k.words_have p [] (omega (arith, h.small, k.as_many)))) ∙ a
 
   pub pair_holds : HoldsRow words size
-  pair_holds = filled_holds words size n (λ p. paired op (word_at one p) (word_at other p)) filled e h.small pair_long pair_past
+  pair_holds = filled_holds words size n (λ p. paired op (word_at one p) (word_at other p)) filled room h.small pair_long pair_past
 
   pub pair_row : row_of words size 0 ≡ paired op (row_of one size 0) (row_of other size 0)
   pair_row =
       let a : length (row_of one size 0) ≡ size = length-row_of one size 0
       in let b : length (row_of other size 0) ≡ size = length-row_of other size 0
-      in filled_row words size n (λ p. paired op (word_at one p) (word_at other p)) filled e h.small pair_long pair_past
+      in filled_row words size n (λ p. paired op (word_at one p) (word_at other p)) filled room h.small pair_long pair_past
       (paired op (row_of one size 0) (row_of other size 0)) (length-paired op (row_of one size 0) (row_of other size 0) (a ∙ sym b) ∙ a)
       (λ c lt.
       pair_value c (omega (arith, h.small))
@@ -128,7 +152,7 @@ module _ (one other words : List (List K3)) (size n : ℕ) (op : K3 → K3 → K
 module _ (one other words : List (List K3)) (size size' n : ℕ) (now others : List K3) (op : K3 → K3 → K3) (none : op No No ≡ No)
     (h : HoldsRow one size) (k : HoldsRow other size') (view : row_of one size 0 ≡ now) (view' : row_of other size' 0 ≡ others)
     (same : length now ≡ length others) (filled : FilledTo words n (λ p. paired op (word_at one p) (word_at other p)))
-    (e : n ≡ size / 64 + min 1 (size % 64)) where
+    (room : size ≤ 64 * n) (few : n ≤ 4) where
   sizes : size' ≡ size
   sizes = sym (length-row_of other size' 0) ∙ ap length view' ∙ sym same ∙ ap length (sym view) ∙ length-row_of one size 0
 
@@ -136,18 +160,18 @@ module _ (one other words : List (List K3)) (size size' n : ℕ) (now others : L
   as_long = subst (HoldsRow other) sizes k
 
   pub both_hold : HoldsRow words size
-  both_hold = pair_holds one other words size n op none h as_long filled e
+  both_hold = pair_holds one other words size n op none h as_long filled room few
 
   pub both_rows : row_of words size 0 ≡ paired op now others
   both_rows =
-      pair_row one other words size n op none h as_long filled e
+      pair_row one other words size n op none h as_long filled room few
       ∙ ap (λ z. paired op (row_of one size 0) (row_of other z 0)) (sym sizes)
       ∙ (rw (view, view') refl)
 
 -- ---- each word made alone
 
 -- the words of copies of one value
-module _ (words : List (List K3)) (size n : ℕ) (k : K3) (small : size ≤ 256) (e : n ≡ size / 64 + min 1 (size % 64))
+module _ (words : List (List K3)) (size n : ℕ) (k : K3) (small : size ≤ 256) (room : size ≤ 64 * n)
     (filled : FilledTo words n (λ p. padded (min 64 (size - 64 * p)) (replicate 64 k))) where
   copies_long : (p : ℕ) → p < n → length (padded (min 64 (size - 64 * p)) (replicate 64 k)) ≡ 64
   copies_long p lt = length-padded (min 64 (size - 64 * p)) (replicate 64 k) (omega arith) (length-replicate 64 k)
@@ -165,11 +189,11 @@ module _ (words : List (List K3)) (size n : ℕ) (k : K3) (small : size ≤ 256)
 
   pub copies_hold : HoldsRow words size
   copies_hold =
-      filled_holds words size n (λ p. padded (min 64 (size - 64 * p)) (replicate 64 k)) filled e small copies_long copies_past
+      filled_holds words size n (λ p. padded (min 64 (size - 64 * p)) (replicate 64 k)) filled room small copies_long copies_past
 
   pub copies_row : row_of words size 0 ≡ replicate size k
   copies_row =
-      filled_row words size n (λ p. padded (min 64 (size - 64 * p)) (replicate 64 k)) filled e small copies_long copies_past
+      filled_row words size n (λ p. padded (min 64 (size - 64 * p)) (replicate 64 k)) filled room small copies_long copies_past
       (replicate size k) (length-replicate size k)
       (λ c lt.
       copies_at (c / 64) (c % 64) (omega arith)
@@ -178,7 +202,7 @@ module _ (words : List (List K3)) (size n : ℕ) (k : K3) (small : size ≤ 256)
 
 -- the words of another row, each value changed by f, and only the first of them
 module _ (one words : List (List K3)) (size count n : ℕ) (now : List K3) (f : K3 → K3) (h : HoldsRow one size)
-    (view : row_of one size 0 ≡ now) (le : count ≤ length now) (e : n ≡ count / 64 + min 1 (count % 64)) (op : List K3 → List K3)
+    (view : row_of one size 0 ≡ now) (le : count ≤ length now) (room : count ≤ 64 * n) (few : n ≤ 4) (op : List K3 → List K3)
     (op_long : (word : List K3) → length word ≡ 64 → length (op word) ≡ 64)
     (op_at : (word : List K3) (i : ℕ) → length word ≡ 64 → i < 64 → get_or (op word) i No ≡ f (get_or word i No))
     (filled : FilledTo words n (λ p. padded (min 64 (count - 64 * p)) (op (word_at one p)))) where
@@ -209,13 +233,13 @@ module _ (one words : List (List K3)) (size count n : ℕ) (now : List K3) (f : 
 
   pub front_holds : HoldsRow words count
   front_holds =
-      filled_holds words count n (λ p. padded (min 64 (count - 64 * p)) (op (word_at one p))) filled e small_count front_long
+      filled_holds words count n (λ p. padded (min 64 (count - 64 * p)) (op (word_at one p))) filled room small_count front_long
       front_past
 
   pub front_row : row_of words count 0 ≡ map f (take count now)
   front_row =
       let len : length (take count now) ≡ count = length-take-le count now le
-      in filled_row words count n (λ p. padded (min 64 (count - 64 * p)) (op (word_at one p))) filled e small_count front_long
+      in filled_row words count n (λ p. padded (min 64 (count - 64 * p)) (op (word_at one p))) filled room small_count front_long
       front_past (map f (take count now)) (length-map (take count now) f ∙ len)
       (λ c lt.
       let at : 0 + c / 64 ≡ c / 64 = omega arith
@@ -227,7 +251,7 @@ module _ (one words : List (List K3)) (size count n : ℕ) (now : List K3) (f : 
       ∙ sym (get_or-map f (take count now) c No No (omega arith)))
 
 -- a whole row negated
-module _ (one words : List (List K3)) (size n : ℕ) (h : HoldsRow one size) (e : n ≡ size / 64 + min 1 (size % 64))
+module _ (one words : List (List K3)) (size n : ℕ) (h : HoldsRow one size) (room : size ≤ 64 * n) (few : n ≤ 4)
     (filled : FilledTo words n (λ p. padded (min 64 (size - 64 * p)) (map negation_of (word_at one p)))) where
   negated_long : (word : List K3) → length word ≡ 64 → length (map negation_of word) ≡ 64
   negated_long word len = length-map word negation_of ∙ len
@@ -237,18 +261,18 @@ module _ (one words : List (List K3)) (size n : ℕ) (h : HoldsRow one size) (e 
 
   pub negated_hold : HoldsRow words size
   negated_hold =
-      front_holds one words size size n (row_of one size 0) negation_of h refl (omega (arith, length-row_of one size 0)) e
+      front_holds one words size size n (row_of one size 0) negation_of h refl (omega (arith, length-row_of one size 0)) room few
       (map negation_of) negated_long negated_at filled
 
   pub negated_row : row_of words size 0 ≡ map negation_of (row_of one size 0)
   negated_row =
-      front_row one words size size n (row_of one size 0) negation_of h refl (omega (arith, length-row_of one size 0)) e
+      front_row one words size size n (row_of one size 0) negation_of h refl (omega (arith, length-row_of one size 0)) room few
       (map negation_of) negated_long negated_at filled
       ∙ ap (map negation_of)
       (ap (λ m. take m (row_of one size 0)) (sym (length-row_of one size 0)) ∙ take-length (row_of one size 0))
 
 -- a whole row capped
-module _ (one words : List (List K3)) (size n : ℕ) (k : K3) (h : HoldsRow one size) (e : n ≡ size / 64 + min 1 (size % 64))
+module _ (one words : List (List K3)) (size n : ℕ) (k : K3) (h : HoldsRow one size) (room : size ≤ 64 * n) (few : n ≤ 4)
     (filled : FilledTo words n (λ p. map (smaller_of k) (word_at one p))) where
   whole : (p : ℕ) → p < n → length (word_at one p) ≡ 64
   whole p lt = h.words_have p [] (omega (arith, h.small, h.as_many))
@@ -270,11 +294,11 @@ module _ (one words : List (List K3)) (size n : ℕ) (k : K3) (h : HoldsRow one 
       in capped_at c lt ∙ ap (smaller_of k) (read_held one size c h low ∙ h.unused c le low) ∙ smaller-no k
 
   pub capped_hold : HoldsRow words size
-  capped_hold = filled_holds words size n (λ p. map (smaller_of k) (word_at one p)) filled e h.small capped_long capped_past
+  capped_hold = filled_holds words size n (λ p. map (smaller_of k) (word_at one p)) filled room h.small capped_long capped_past
 
   pub capped_row : row_of words size 0 ≡ map (smaller_of k) (row_of one size 0)
   capped_row =
-      filled_row words size n (λ p. map (smaller_of k) (word_at one p)) filled e h.small capped_long capped_past
+      filled_row words size n (λ p. map (smaller_of k) (word_at one p)) filled room h.small capped_long capped_past
       (map (smaller_of k) (row_of one size 0)) (length-map (row_of one size 0) (smaller_of k) ∙ length-row_of one size 0)
       (λ c lt.
       capped_at c (omega arith) ∙ sym (get_or-map (smaller_of k) (row_of one size 0) c No No (omega (arith, length-row_of one size 0))))
@@ -315,11 +339,10 @@ module _ (words : List (List K3)) (size u : ℕ) (k : K3) (h : HoldsRow words si
       (cases_eq c u))
 
 -- the words have the row's values and No behind them
-pub greatest_held : (words : List (List K3)) (size n : ℕ) → HoldsRow words size → n ≡ size / 64 + min 1 (size % 64)
+pub greatest_held : (words : List (List K3)) (size n : ℕ) → HoldsRow words size → size ≤ 64 * n → n ≤ 4
     → greatest_in (row_of words (64 * n) 0) ≡ greatest_in (row_of words size 0)
-greatest_held words size n h e =
-    let room : size ≤ 64 * n = omega arith
-    in let len : length (row_of words size 0) ≡ size = length-row_of words size 0
+greatest_held words size n h room few =
+    let len : length (row_of words size 0) ≡ size = length-row_of words size 0
     in let none : List K3 = replicate (64 * n - size) No
     in ap greatest_in
     (ext_get_or No (row_of words (64 * n) 0) (row_of words size 0 ++ none)
@@ -335,10 +358,52 @@ greatest_held words size n h e =
     (cases_lt c size)))
     ∙ greatest_padded (row_of words size 0) (64 * n - size)
 
+-- ---- the first word of a row of at most 64 values
+
+pub first_place : (words : List (List K3)) (c : ℕ) → c < 64 → value_in words 0 c ≡ get_or (word_at words 0) c No
+first_place words c lt =
+    let at : 0 + c / 64 ≡ 0 = omega arith
+    in let low : c % 64 ≡ c = omega arith
+    in ap (λ p. get_or (word_at words p) (c % 64) No) at ∙ ap (λ i. get_or (word_at words 0) i No) low
+
+-- its values are those of the row, and No behind them
+pub first_word : (words : List (List K3)) → AreWords words → length words ≡ 4 → row_of words 64 0 ≡ word_at words 0
+first_word words long four =
+    let len : length (word_at words 0) ≡ 64 = long 0 [] (omega arith)
+    in ext_get_or No (row_of words 64 0) (word_at words 0) (length-row_of words 64 0 ∙ sym len)
+    (λ c l.
+    let lt : c < 64 = omega (arith, length-row_of words 64 0)
+    in get_or-row_of words 64 0 c lt ∙ first_place words c lt)
+
+-- its first values are the row
+pub first_values : (words : List (List K3)) (size : ℕ) → HoldsRow words size → size ≤ 64 → take size (word_at words 0) ≡ row_of words size 0
+first_values words size h low =
+    let long : length (word_at words 0) ≡ 64 = h.words_have 0 [] (omega (arith, h.as_many))
+    in let len : length (take size (word_at words 0)) ≡ size = length-take-le size (word_at words 0) (omega arith)
+    in ext_get_or No (take size (word_at words 0)) (row_of words size 0) (len ∙ sym (length-row_of words size 0))
+    (λ c l.
+    let lt : c < size = omega (arith, len)
+    in get_or-take size (word_at words 0) c No lt ∙ sym (first_place words c (omega arith)) ∙ sym (get_or-row_of words size 0 c lt))
+
+word_place : (words : List (List K3)) (word : List K3) (c : ℕ) → word ≡ word_at words 0 → c < 64 → get_or word c No ≡ value_in words 0 c
+word_place words word c e lt = ap (λ w. get_or w c No) e ∙ sym (first_place words c lt)
+
+-- the first place in the word is the first in the row
+pub first_in_word : (words : List (List K3)) (word : List K3) (from : ℕ) (Is IsNot : K3 → Type 0) (found : Option ℕ) → word ≡ word_at words 0
+    → IsFirstFrom (λ j. Is (get_or word j No)) (λ j. IsNot (get_or word j No)) from 64 found
+    → IsFirstFrom (λ c. Is (value_in words 0 c)) (λ c. IsNot (value_in words 0 c)) from (64 * 1) found
+first_in_word words word from Is IsNot (Some u) e first = (
+  first.0,
+  first.1,
+  subst Is (word_place words word u e first.1) first.2,
+  λ c le lt. subst IsNot (word_place words word c e (omega (arith, first.1))) (first.3 c le lt),
+)
+first_in_word words word from Is IsNot None e none = λ c le lt. subst IsNot (word_place words word c e lt) (none c le lt)
+
 -- ---- the next place
 
 module _ (words : List (List K3)) (size n from : ℕ) (now : List K3) (h : HoldsRow words size) (view : row_of words size 0 ≡ now)
-    (e : n ≡ size / 64 + min 1 (size % 64)) where
+    (room : size ≤ 64 * n) (few : n ≤ 4) where
   read_now : (c : ℕ) → c < 256 → get_or now c No ≡ value_in words 0 c
   read_now c low = sym (ap (λ v. get_or v c No) view) ∙ read_held words size c h low
 
@@ -413,11 +478,11 @@ module _ (words held : List (List K3)) (start size n : ℕ) (long : AreWords wor
   source_past c le lt = unused c le (omega arith)
 
   pub read_holds : HoldsRow held size
-  read_holds = filled_holds held size n (λ v. word_at words (start + v)) filled e small source_long source_past
+  read_holds = filled_holds held size n (λ v. word_at words (start + v)) filled (omega arith) small source_long source_past
 
   pub read_row : row_of held size 0 ≡ row_of words size start
   read_row =
-      filled_row held size n (λ v. word_at words (start + v)) filled e small source_long source_past (row_of words size start)
+      filled_row held size n (λ v. word_at words (start + v)) filled (omega arith) small source_long source_past (row_of words size start)
       (length-row_of words size start) (λ c lt. sym (get_or-row_of words size start c lt))
 
 module _ (own words after : List (List K3)) (start size n : ℕ) (now : List K3) (h : HoldsRow own size) (view : row_of own size 0 ≡ now)

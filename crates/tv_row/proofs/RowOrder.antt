@@ -8,7 +8,7 @@ use Rattle.std.proofs.lemmas.List.{ext_get_or, length-take-le, get_or-take}
 use Rattle.tv_kleene.specs.declared.K3.{K3}
 use Rattle.tv_kleene.specs.declared.K3.TheVariants.{No}
 use Rattle.tv_row.specs.Bits.{value_cmp}
-use Rattle.tv_row.specs.Places.{value_in, row_of, rows_of, HoldsCells}
+use Rattle.tv_row.specs.Places.{word_at, value_in, row_of, rows_of, HoldsCells}
 use Rattle.tv_row.specs.RowForm.{HoldsRow}
 use Rattle.tv_row.specs.RowLaws.{words_back}
 use Rattle.tv_row.specs.Mixed.{word_mixed, row_mixed}
@@ -21,10 +21,7 @@ then_nothing Equal = refl
 then_nothing Greater = refl
 
 -- the words that a row takes hold it
-module _ (words : List (List K3)) (size used : ℕ) (h : HoldsRow words size) (count : used ≡ size / 64 + min 1 (size % 64)) where
-  few : used ≤ 4
-  few = omega (arith, h.small)
-
+module _ (words : List (List K3)) (size used : ℕ) (h : HoldsRow words size) (room : size ≤ 64 * used) (few : used ≤ 4) where
   long : length (take used words) ≡ used
   long = length-take-le used words (omega (arith, few, h.as_many))
 
@@ -36,7 +33,7 @@ module _ (words : List (List K3)) (size used : ℕ) (h : HoldsRow words size) (c
     words_have = λ p d lt.
         ap length (get_or-take used words p d (omega (arith, long))) ∙ h.words_have p d (omega (arith, long, few, h.as_many));
     as_many = omega (arith, long);
-    room = omega arith;
+    room = room;
     unused = λ row column lr past low.
         (let none : 0 * used ≡ 0 = omega arith
         in let first : row * used ≡ 0 = ap (λ n. n * used) (let zeroth : row ≡ 0 = omega arith in zeroth) ∙ none
@@ -56,16 +53,30 @@ module _ (words : List (List K3)) (size used : ℕ) (h : HoldsRow words size) (c
       in get_or-row_of (take used words) size 0 c lt ∙ value_used c (omega arith) ∙ sym (get_or-row_of words size 0 c lt)))
 
 pub rows_compare : (words others : List (List K3)) (size size' used : ℕ) → HoldsRow words size → HoldsRow others size'
-    → length (row_of words size 0) ≡ length (row_of others size' 0) → used ≡ size / 64 + min 1 (size % 64)
+    → length (row_of words size 0) ≡ length (row_of others size' 0) → size ≤ 64 * used → used ≤ 4
     → slice_cmp (slice_cmp value_cmp) (take used words) (take used others) ≡ slice_cmp value_cmp (row_of words size 0) (row_of others size' 0)
-rows_compare words others size size' used h g same count =
+rows_compare words others size size' used h g same room few =
     let sizes : size' ≡ size = sym (length-row_of others size' 0) ∙ sym same ∙ length-row_of words size 0
     in let as_is : HoldsRow others size = rw (← sizes) g
-    in words_as_rows (take used words) (take used others) used 1 size (cells words size used h count) (cells others size used as_is count)
-    ∙ ap (λ rows. slice_cmp (slice_cmp value_cmp) rows (rows_of (take used others) used 1 size)) (row_used words size used h count)
-    ∙ ap (slice_cmp (slice_cmp value_cmp) (row_of words size 0 ∷ [])) (row_used others size used as_is count)
+    in words_as_rows (take used words) (take used others) used 1 size (cells words size used h room few) (cells others size used as_is room few)
+    ∙ ap (λ rows. slice_cmp (slice_cmp value_cmp) rows (rows_of (take used others) used 1 size)) (row_used words size used h room few)
+    ∙ ap (slice_cmp (slice_cmp value_cmp) (row_of words size 0 ∷ [])) (row_used others size used as_is room few)
     ∙ then_nothing (slice_cmp value_cmp (row_of words size 0) (row_of others size 0))
     ∙ ap (λ n. slice_cmp value_cmp (row_of words size 0) (row_of others n 0)) (sym sizes)
+
+-- rows of at most 64 values compare as their first words
+pub first_words_compare : (words others : List (List K3)) (size size' : ℕ) → HoldsRow words size → HoldsRow others size'
+    → length (row_of words size 0) ≡ length (row_of others size' 0) → size ≤ 64
+    → slice_cmp value_cmp (word_at words 0) (word_at others 0) ≡ slice_cmp value_cmp (row_of words size 0) (row_of others size' 0)
+first_words_compare words others size size' h g same low =
+    sym (ap (λ ws. slice_cmp (slice_cmp value_cmp) ws (take 1 others)) (take_first words (omega (arith, h.as_many)))
+    ∙ ap (slice_cmp (slice_cmp value_cmp) (word_at words 0 ∷ [])) (take_first others (omega (arith, g.as_many)))
+    ∙ then_nothing (slice_cmp value_cmp (word_at words 0) (word_at others 0)))
+    ∙ rows_compare words others size size' 1 h g same low (omega arith)
+  where
+    take_first : (ws : List (List K3)) → 0 < length ws → take 1 ws ≡ word_at ws 0 ∷ []
+    take_first [] some = absurd (omega arith)
+    take_first (w ∷ ws) some = refl
 
 pub rows_mixed : (hash : ℕ) (words : List (List K3)) (size used : ℕ) → HoldsRow words size → used ≡ size / 64 + min 1 (size % 64)
     → fold word_mixed hash (take used words) ≡ row_mixed hash (row_of words size 0)

@@ -1,14 +1,14 @@
 //! Up to 256 truth values by value: those of the individuals of a structure.
 
 ghost use Rattle.std.specs.Prelude.{◌≡◌, ◌≢◌, ℕ, ◌<◌, ◌≤◌, ◌↔◌, ◌⊎◌, ◌+◌, ◌-◌, ◌*◌, ◌/◌, ◌%◌, ◌^◌, min};
-ghost use Rattle.std.specs.Prelude.{length, map, replicate, take, slice_index_or, slice_set, All, Any};
+ghost use Rattle.std.specs.Prelude.{length, map, replicate, take, slice_index_or, slice_set, All, Any, ◌∷◌};
 ghost use Rattle.std.specs.Prelude.{IsTrue, IfSome};
 ghost use Rattle.tv_kleene.specs.declared.K3.{K3};
 ghost use Rattle.tv_kleene.specs.declared.K3.TheVariants.{No, Yes};
 ghost use Rattle.tv_kleene.specs.Kleene.{smaller_of, larger_of, join_of, negation_of};
 ghost use Rattle.std.specs.Cmp.Lexicographic.{slice_cmp};
 ghost use Rattle.tv_row.specs.Firsts.{IsFirstFrom};
-ghost use Rattle.tv_row.specs.Bits.{paired, IsPairing, greatest_in, least_in, value_cmp};
+ghost use Rattle.tv_row.specs.Bits.{paired, padded, IsPairing, greatest_in, least_in, value_cmp};
 ghost use Rattle.tv_row.specs.Mixed.{row_mixed};
 ghost use Rattle.tv_row.specs.Places.{AreWords, word_at, value_in, row_of};
 
@@ -54,6 +54,15 @@ fn places_in(size: u32, p: u32) -> u32
     size.saturating_sub(64 * p).min(64)
 }
 
+/// One word, and three of `No` behind it.
+#[inline(always)]
+fn alone(word: Word) -> [Word; 4]
+    ensures { result ≡ word ∷ replicate 3 (padded 0 (replicate 64 No)) }
+{
+    let none = Word::of(0, K3::No);
+    [word, none, none, none]
+}
+
 /// The place of a row as a number of 32 bits.
 fn as_place(found: Option<usize>) -> Option<u32>
     requires { IfSome found (λ u. u < 2 ^ 32) }
@@ -67,7 +76,22 @@ fn as_place(found: Option<usize>) -> Option<u32>
 
 impl Row {
     /// `size` values, each of them `k`.
+    #[inline(always)]
     pub fn of(size: u32, k: K3) -> Row
+        requires { size ≤ 256 }
+        ensures { result ≡ replicate size k }
+    {
+        if size <= 64 {
+            return Row {
+                words: alone(Word::of(size, k)),
+                size,
+            };
+        }
+        Row::of_more(size, k)
+    }
+
+    /// The same, word by word.
+    fn of_more(size: u32, k: K3) -> Row
         requires { size ≤ 256 }
         ensures { result ≡ replicate size k }
     {
@@ -79,7 +103,26 @@ impl Row {
     }
 
     /// The row of `size` values that begins at word `start`.
+    #[inline(always)]
     pub(crate) fn read(words: &[Word], start: usize, size: u32) -> Row
+        requires long { AreWords words.now }
+        requires size { size ≤ 256 }
+        requires words { start + (size / 64 + min 1 (size % 64)) ≤ length words.now }
+        requires unused { (c : ℕ) → size ≤ c → c < 64 * (size / 64 + min 1 (size % 64))
+            → value_in words.now start c ≡ No }
+        ensures { result ≡ row_of words.now size start }
+    {
+        if 0 < size && size <= 64 {
+            return Row {
+                words: alone(words[start]),
+                size,
+            };
+        }
+        Row::read_more(words, start, size)
+    }
+
+    /// The same, word by word.
+    fn read_more(words: &[Word], start: usize, size: u32) -> Row
         requires long { AreWords words.now }
         requires size { size ≤ 256 }
         requires words { start + (size / 64 + min 1 (size % 64)) ≤ length words.now }
@@ -112,6 +155,7 @@ impl Row {
     }
 
     /// The number of values, at most 256.
+    #[inline(always)]
     pub fn size(&self) -> u32
         ensures size { result ≡ length self.now }
         ensures bound { length self.now ≤ 256 }
@@ -120,6 +164,7 @@ impl Row {
     }
 
     /// The value at the place `u`.
+    #[inline(always)]
     pub fn get(&self, u: u32) -> K3
         requires { u < length self.now }
         ensures { result ≡ slice_index_or self.now u No }
@@ -128,6 +173,7 @@ impl Row {
     }
 
     /// Puts `k` at the place `u`, and changes nothing else.
+    #[inline(always)]
     pub fn set(&mut self, u: u32, k: K3)
         requires { u < length self.old }
         ensures { self.new ≡ slice_set self.old u k }
@@ -136,7 +182,22 @@ impl Row {
     }
 
     /// The values at the first `size` places.
+    #[inline(always)]
     pub fn first(&self, size: u32) -> Row
+        requires { size ≤ length self.now }
+        ensures { result ≡ take size self.now }
+    {
+        if size <= 64 {
+            return Row {
+                words: alone(self.words[0].first(size)),
+                size,
+            };
+        }
+        self.first_more(size)
+    }
+
+    /// The same, word by word.
+    fn first_more(&self, size: u32) -> Row
         requires { size ≤ length self.now }
         ensures { result ≡ take size self.now }
     {
@@ -162,7 +223,21 @@ impl Row {
     }
 
     /// Each value negated.
+    #[inline(always)]
     pub fn not(&self) -> Row
+        ensures { result ≡ map negation_of self.now }
+    {
+        if self.size <= 64 {
+            return Row {
+                words: alone(self.words[0].not(self.size)),
+                size: self.size,
+            };
+        }
+        self.not_more()
+    }
+
+    /// The same, word by word.
+    fn not_more(&self) -> Row
         ensures { result ≡ map negation_of self.now }
     {
         let mut words = [Word::of(0, K3::No); 4];
@@ -176,20 +251,23 @@ impl Row {
     }
 
     /// The smaller of each value and `k`.
+    #[inline(always)]
     pub fn capped(&self, k: K3) -> Row
         ensures { result ≡ map (smaller_of k) self.now }
     {
-        let mut words = [Word::of(0, K3::No); 4];
-        for p in 0..self.size.div_ceil(64) {
-            words[p as usize] = self.words[p as usize].capped(k);
-        }
         Row {
-            words,
+            words: [
+                self.words[0].capped(k),
+                self.words[1].capped(k),
+                self.words[2].capped(k),
+                self.words[3].capped(k),
+            ],
             size: self.size,
         }
     }
 
     /// The values of both rows under an operation on words.
+    #[inline(always)]
     fn word_by_word<F: Fn(Word, Word) -> Word>(&self, other: &Row, op: F) -> Row
         requires callable { F.IsAlwaysCallable op }
         requires lengths { length self.now ≡ length other.now }
@@ -197,17 +275,19 @@ impl Row {
         ensures { (value : K3 → K3 → K3) → IsPairing value (F.post op)
             → result ≡ paired value self.now other.now }
     {
-        let mut words = [Word::of(0, K3::No); 4];
-        for p in 0..self.size.div_ceil(64) {
-            words[p as usize] = op(self.words[p as usize], other.words[p as usize]);
-        }
         Row {
-            words,
+            words: [
+                op(self.words[0], other.words[0]),
+                op(self.words[1], other.words[1]),
+                op(self.words[2], other.words[2]),
+                op(self.words[3], other.words[3]),
+            ],
             size: self.size,
         }
     }
 
     /// The conjunction, place by place.
+    #[inline(always)]
     pub fn and(&self, other: &Row) -> Row
         requires { length self.now ≡ length other.now }
         ensures { result ≡ paired smaller_of self.now other.now }
@@ -216,6 +296,7 @@ impl Row {
     }
 
     /// The disjunction, place by place.
+    #[inline(always)]
     pub fn or(&self, other: &Row) -> Row
         requires { length self.now ≡ length other.now }
         ensures { result ≡ paired larger_of self.now other.now }
@@ -224,6 +305,7 @@ impl Row {
     }
 
     /// The join in the order of information, place by place.
+    #[inline(always)]
     pub fn join(&self, other: &Row) -> Row
         requires { length self.now ≡ length other.now }
         ensures { result ≡ paired join_of self.now other.now }
@@ -232,20 +314,29 @@ impl Row {
     }
 
     /// The greatest value in the order of truth, `No` where there is none.
+    #[inline(always)]
     pub fn greatest(&self) -> K3
         ensures { result ≡ greatest_in self.now }
     {
+        if self.size <= 64 {
+            return self.words[0].greatest();
+        }
         slices::greatest(&self.words[..], self.size.div_ceil(64) as usize, 0)
     }
 
     /// The least value in the order of truth, `Yes` where there is none.
+    #[inline(always)]
     pub fn least(&self) -> K3
         ensures { result ≡ least_in self.now }
     {
-        self.not().greatest().not()
+        if self.size <= 64 {
+            return self.words[0].least(self.size);
+        }
+        self.not_more().greatest().not()
     }
 
     /// Whether some value is `Yes`.
+    #[inline(always)]
     pub fn has_yes(&self) -> bool
         ensures { IsTrue result ↔ Any (λ x. x ≡ Yes) self.now }
     {
@@ -253,6 +344,7 @@ impl Row {
     }
 
     /// Whether some value isn't `No`.
+    #[inline(always)]
     pub fn has_possible(&self) -> bool
         ensures { IsTrue result ↔ Any (λ x. x ≢ No) self.now }
     {
@@ -260,6 +352,7 @@ impl Row {
     }
 
     /// Whether each value is `Yes`.
+    #[inline(always)]
     pub fn are_yes(&self) -> bool
         ensures { IsTrue result ↔ All (λ x. x ≡ Yes) self.now }
     {
@@ -267,6 +360,7 @@ impl Row {
     }
 
     /// Whether no value is `No`.
+    #[inline(always)]
     pub fn are_possible(&self) -> bool
         ensures { IsTrue result ↔ All (λ x. x ≢ No) self.now }
     {
@@ -274,37 +368,50 @@ impl Row {
     }
 
     /// The first place at or after `from` whose value is `Yes`.
+    #[inline(always)]
     pub fn next_yes(&self, from: u32) -> Option<u32>
         requires { from ≤ length self.now }
         ensures { IsFirstFrom (λ u. slice_index_or self.now u No ≡ Yes)
             (λ u. slice_index_or self.now u No ≢ Yes)
             from (length self.now) result }
     {
+        if self.size <= 64 {
+            return self.words[0].first_yes(from);
+        }
         let width = self.size.div_ceil(64) as usize;
         as_place(slices::next_yes(&self.words[..], width, 0, from as usize))
     }
 
     /// The first place at or after `from` whose value isn't `No`.
+    #[inline(always)]
     pub fn next_possible(&self, from: u32) -> Option<u32>
         requires { from ≤ length self.now }
         ensures { IsFirstFrom (λ u. slice_index_or self.now u No ≢ No)
             (λ u. slice_index_or self.now u No ≡ No)
             from (length self.now) result }
     {
+        if self.size <= 64 {
+            return self.words[0].first_possible(from);
+        }
         let width = self.size.div_ceil(64) as usize;
         as_place(slices::next_possible(&self.words[..], width, 0, from as usize))
     }
 
     /// Compares the values, place by place, with No < Half < Yes.
+    #[inline(always)]
     pub fn compare(&self, other: &Row) -> Ordering
         requires { length self.now ≡ length other.now }
         ensures { result ≡ slice_cmp value_cmp self.now other.now }
     {
+        if self.size <= 64 {
+            return self.words[0].compare(other.words[0]);
+        }
         let used = self.size.div_ceil(64) as usize;
         slices::compare(&self.words[..used], &other.words[..used])
     }
 
     /// Whether both rows have the same values.
+    #[inline(always)]
     pub fn equals(&self, other: &Row) -> bool
         ensures { IsTrue result ↔ (self.now ≡ other.now) }
     {

@@ -16,6 +16,7 @@ use std::cmp::Ordering;
 use tv_kleene::K3;
 
 /// The value in a column of the row that begins at word `start`.
+#[inline(always)]
 pub fn get(words: &[Word], start: usize, column: usize) -> K3
     requires { start + column / 64 < length words.now }
     ensures { result ≡ value_in words.now start column }
@@ -24,6 +25,7 @@ pub fn get(words: &[Word], start: usize, column: usize) -> K3
 }
 
 /// Puts `k` into a column of the row that begins at word `start`.
+#[inline(always)]
 pub fn put(words: &mut [Word], start: usize, column: usize, k: K3)
     requires { start + column / 64 < length words.old }
     ensures { words.new ≡ with_value words.old start column k }

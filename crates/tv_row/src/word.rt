@@ -42,6 +42,7 @@ impl Model for Word {
 }
 
 /// The value whose bits are given.
+#[inline(always)]
 pub fn value(may: bool, must: bool) -> K3
     ensures { result ≡ value_of may must }
 {
@@ -54,12 +55,14 @@ pub fn value(may: bool, must: bool) -> K3
     }
 }
 
+#[inline(always)]
 pub fn is_possible(k: K3) -> bool
     ensures { result ≡ is_possible k }
 {
     k != K3::No
 }
 
+#[inline(always)]
 pub fn is_certain(k: K3) -> bool
     ensures { result ≡ is_certain k }
 {
@@ -68,6 +71,7 @@ pub fn is_certain(k: K3) -> bool
 
 impl Word {
     /// The first `n` values `k`, and `No` behind them.
+    #[inline(always)]
     pub fn of(n: u32, k: K3) -> Word
         requires { n ≤ 64 }
         ensures { result ≡ padded n (replicate 64 k) }
@@ -80,6 +84,7 @@ impl Word {
     }
 
     /// The first `n` values negated, and `No` behind them.
+    #[inline(always)]
     pub fn not(self, n: u32) -> Word
         requires { n ≤ 64 }
         ensures { result ≡ padded n (map negation_of self) }
@@ -92,6 +97,7 @@ impl Word {
     }
 
     /// The first `n` values, and `No` behind them.
+    #[inline(always)]
     pub fn first(self, n: u32) -> Word
         requires { n ≤ 64 }
         ensures { result ≡ padded n self }
@@ -104,6 +110,7 @@ impl Word {
     }
 
     /// The lesser of each value and `k`.
+    #[inline(always)]
     pub fn capped(self, k: K3) -> Word
         ensures { result ≡ map (smaller_of k) self }
     {
@@ -118,6 +125,7 @@ impl Word {
     }
 
     /// The greatest value.
+    #[inline(always)]
     pub fn greatest(self) -> K3
         ensures { result ≡ greatest_in self }
     {
@@ -131,6 +139,7 @@ impl Word {
     }
 
     /// The least of the first `n` values.
+    #[inline(always)]
     pub fn least(self, n: u32) -> K3
         requires { n ≤ 64 }
         ensures { result ≡ least_in (take n self) }
@@ -139,6 +148,7 @@ impl Word {
     }
 
     /// The place of the first `Yes` at or after `from`.
+    #[inline(always)]
     pub(crate) fn first_yes(self, from: u32) -> Option<u32>
         requires { from ≤ 64 }
         ensures { IsFirstFrom (λ j. slice_index_or self j No ≡ Yes) (λ j. slice_index_or self j No ≢ Yes)
@@ -148,6 +158,7 @@ impl Word {
     }
 
     /// The place of the first value at or after `from` that isn't `No`.
+    #[inline(always)]
     pub(crate) fn first_possible(self, from: u32) -> Option<u32>
         requires { from ≤ 64 }
         ensures { IsFirstFrom (λ j. slice_index_or self j No ≢ No) (λ j. slice_index_or self j No ≡ No)
@@ -158,6 +169,7 @@ impl Word {
 
     /// The number whose bits say which values aren't `No`, the first value's lowest.
     #[tactic(auto, using(crate::specs::BitLaws::may_back))]
+    #[inline(always)]
     pub(crate) fn possible_bits(self) -> u64
         ensures { result ≡ number_of is_possible self }
     {
@@ -166,6 +178,7 @@ impl Word {
 
     /// The number whose bits say which values are `Yes`, the first value's lowest.
     #[tactic(auto, using(crate::specs::BitLaws::must_back))]
+    #[inline(always)]
     pub(crate) fn certain_bits(self) -> u64
         ensures { result ≡ number_of is_certain self }
     {
@@ -173,6 +186,7 @@ impl Word {
     }
 
     /// The value at `i`.
+    #[inline(always)]
     pub fn get(self, i: u32) -> K3
         requires { i < 64 }
         ensures { result ≡ slice_index_or self i No }
@@ -181,6 +195,7 @@ impl Word {
     }
 
     /// The word with `k` at `i`.
+    #[inline(always)]
     pub fn with(self, i: u32, k: K3) -> Word
         requires { i < 64 }
         ensures { result ≡ slice_set self i k }
@@ -192,6 +207,7 @@ impl Word {
     }
 
     /// The word with `count` values from `to` on that are those of another word from `from` on.
+    #[inline(always)]
     pub(crate) fn with_run(self, to: u32, other: Word, from: u32, count: u32) -> Word
         requires some { 0 < count }
         requires to { to + count ≤ 64 }
@@ -209,6 +225,7 @@ impl Word {
     }
 
     /// The lesser values.
+    #[inline(always)]
     pub fn and(self, other: Word) -> Word
         ensures { result ≡ paired smaller_of self other }
     {
@@ -219,6 +236,7 @@ impl Word {
     }
 
     /// The greater values.
+    #[inline(always)]
     pub fn or(self, other: Word) -> Word
         ensures { result ≡ paired larger_of self other }
     {
@@ -229,6 +247,7 @@ impl Word {
     }
 
     /// The joined values.
+    #[inline(always)]
     pub fn join(self, other: Word) -> Word
         ensures { result ≡ paired join_of self other }
     {
@@ -239,6 +258,7 @@ impl Word {
     }
 
     /// Compares the values, the first that differ.
+    #[inline(always)]
     pub fn compare(self, other: Word) -> Ordering
         ensures { result ≡ slice_cmp value_cmp self other }
     {

@@ -115,6 +115,7 @@ impl Words {
     }
 
     /// The value in a column of the row that begins at word `start`.
+    #[inline(always)]
     pub fn get(&self, start: usize, column: usize) -> K3
         requires { start + column / 64 < length self.now }
         ensures { result ≡ value_in self.now start column }
@@ -123,6 +124,7 @@ impl Words {
     }
 
     /// Puts `k` into a column of the row that begins at word `start`.
+    #[inline(always)]
     pub fn put(&mut self, start: usize, column: usize, k: K3)
         requires { start + column / 64 < length self.old }
         ensures value { self.new ≡ with_value self.old start column k }
@@ -132,6 +134,7 @@ impl Words {
     }
 
     /// The word at a place.
+    #[inline(always)]
     pub fn word(&self, place: usize) -> Word
         requires { place < length self.now }
         ensures { result ≡ word_at self.now place }
@@ -140,6 +143,7 @@ impl Words {
     }
 
     /// The row of `size` values that begins at word `start`.
+    #[inline(always)]
     pub fn row(&self, start: usize, size: u32) -> Row
         requires size { size ≤ 256 }
         requires words { start + (size / 64 + min 1 (size % 64)) ≤ length self.now }

@@ -1,32 +1,27 @@
-use Rattle.std.proofs.Common.{◌≡◌, ◌∙◌, length, take, ap, sym, refl, arith}
-use Rattle.std.proofs.Math.Seq.{take-length}
-use Rattle.std.proofs.lemmas.List.{map-id}
-use Rattle.tv_row.proofs.PlaceLaws.{length-row_of}
-use Rattle.tv_row.proofs.RowOps.{front_holds, front_row}
+use Rattle.std.proofs.Common.{◌∙◌, ◌-◌, ◌*◌, min, take, ap, refl, arith, []}
+use Rattle.std.proofs.lemmas.List.{get_or_default, map-id}
+use Rattle.tv_row.specs.Bits.{padded}
+use Rattle.tv_row.specs.Places.{word_at}
+use Rattle.tv_row.proofs.RowOps.{FilledTo, alone_filled, front_holds, front_row}
 use Rattle.tv_row.proofs.row.Row.first.Goals as goal
 
-pub returns-then-size-self : goal.returns-then-size-self
-returns-then-size-self c =
-    let all : c.args.size ≡ length c.args.self.now = omega (
-      arith,
-      c.requires,
-      length-row_of c.self.inside.words c.self.inside.size 0,
-      ap length c.self.view_is,
-    )
-    in c.self.view_is ∙ sym (ap (λ n. take n c.args.self.now) all ∙ take-length c.args.self.now)
+filled : (c : goal.After-alone) → FilledTo c.alone.result 1 (λ p. padded (min 64 (c.args.size - 64 * p)) (word_at c.self.inside.words p))
+filled c =
+    alone_filled c.alone.result (λ p. padded (min 64 (c.args.size - 64 * p)) (word_at c.self.inside.words p)) c.first.result
+    c.alone.ensures
+    (c.first.ensures
+    ∙ ap (padded c.args.size) (get_or_default c.self.inside.words 0 c.index-self-0.result [] (omega (arith, c.self.invariant.as_many)))
+    ∙ ap (λ n. padded n (word_at c.self.inside.words 0)) (omega (arith, c.if-size-le64.true)))
 
 pub invariant_of-result : goal.invariant_of-result
-invariant_of-result c = c.self.invariant
+invariant_of-result c =
+    front_holds c.self.inside.words c.alone.result c.self.inside.size c.args.size 1 c.args.self.now (λ k. k) c.self.invariant
+    c.self.view_is c.requires (omega (arith, c.if-size-le64.true)) (omega arith) (λ word. word) (λ word e. e)
+    (λ word i e low. refl) (filled c)
 
-pub invariant_of-result-2 : goal.invariant_of-result-2
-invariant_of-result-2 c =
-    front_holds c.self.inside.words c.loop-p.words c.self.inside.size c.args.size c.loop-p.p c.args.self.now (λ k. k) c.self.invariant
-    c.self.view_is c.requires (omega (arith, c.div_ceil-p-end.ensures)) (λ word. word) (λ word e. e) (λ word i e low. refl)
-    c.loop-p.invariant
-
-pub returns : goal.returns
-returns c =
-    front_row c.self.inside.words c.loop-p.words c.self.inside.size c.args.size c.loop-p.p c.args.self.now (λ k. k) c.self.invariant
-    c.self.view_is c.requires (omega (arith, c.div_ceil-p-end.ensures)) (λ word. word) (λ word e. e) (λ word i e low. refl)
-    c.loop-p.invariant
+pub returns-then-size-le64 : goal.returns-then-size-le64
+returns-then-size-le64 c =
+    front_row c.self.inside.words c.alone.result c.self.inside.size c.args.size 1 c.args.self.now (λ k. k) c.self.invariant
+    c.self.view_is c.requires (omega (arith, c.if-size-le64.true)) (omega arith) (λ word. word) (λ word e. e)
+    (λ word i e low. refl) (filled c)
     ∙ map-id (take c.args.size c.args.self.now)

@@ -3,7 +3,7 @@ use Rattle.tv_kleene.specs.Kleene.{negation_of}
 use Rattle.tv_row.specs.Bits.{padded}
 use Rattle.tv_row.specs.Places.{word_at}
 use Rattle.tv_row.proofs.RowOps.{FilledTo}
-use Rattle.tv_row.proofs.row.Row.not.Given as goal
+use Rattle.tv_row.proofs.row.Row.not_more.Given as goal
 
 abbrev pub invariant-loop-p : goal.invariant-loop-p
 invariant-loop-p l =

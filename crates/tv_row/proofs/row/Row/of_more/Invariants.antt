@@ -1,7 +1,7 @@
 use Rattle.std.proofs.Common.{◌-◌, ◌*◌, min, replicate}
 use Rattle.tv_row.specs.Bits.{padded}
 use Rattle.tv_row.proofs.RowOps.{FilledTo}
-use Rattle.tv_row.proofs.row.Row.of.Given as goal
+use Rattle.tv_row.proofs.row.Row.of_more.Given as goal
 
 abbrev pub invariant-loop-p : goal.invariant-loop-p
 invariant-loop-p l =
