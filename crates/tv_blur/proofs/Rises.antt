@@ -1,10 +1,10 @@
 -- How names compare to the next ones', predicate after predicate.
 use Rattle.std.proofs.Common.{ℕ, Bool, true, false, take, ◌≡◌, ◌≢◌, ◌⊎◌, ◌<◌, ◌+◌, ◌-◌, inl, inr, List, []}
 use Rattle.std.proofs.Common.{◌∷◌, ◌++◌, get_or, length, map, replicate, Less, Equal, Greater, refl, sym, ap}
-use Rattle.std.proofs.Common.{subst, ◌∙◌, arith, drop, All}
+use Rattle.std.proofs.Common.{subst, ◌∙◌, arith, drop, All, ◌≤◌, ⊎_elim}
 use Rattle.std.specs.declared.cmp.Ordering.{Ordering}
 use Rattle.std.specs.Ordering.{ordering_then}
-use Rattle.std.proofs.lemmas.Bool.{cases_eq}
+use Rattle.std.proofs.lemmas.Bool.{cases_eq, cases_lt}
 use Rattle.std.specs.Prelude.{IsTrue, MatchBool, if◌then◌else◌}
 use Rattle.std.proofs.lemmas.List.{append-nil, get_or-replicate, length-map, length-replicate, map-append}
 use Rattle.std.proofs.lemmas.List.{take-append-drop, get_or_default}
@@ -65,6 +65,23 @@ adds_more values n old rises new adds long here others = record {
         subst (λ x. order_to_next new x ≡ ordering_then (order_to_next old x) (values_to_next values x)) (sym same)
         (here ∙ ap (λ k. ordering_then (order_told k) (values_to_next values n)) (adds.rest n (omega arith)))
     first u lt (inr differ) = ap order_told (others u differ) ∙ adds.first u (omega (arith, lt, differ))
+
+-- individuals whose values are those of the next ones tell nothing
+pub adds_past : (values : List K3) (n m : ℕ) (old rises : List K3) → AddsRises values n old rises → n ≤ m
+    → ((w : ℕ) → n ≤ w → w < m → values_to_next values w ≡ Equal) → AddsRises values m old rises
+adds_past values n m old rises adds le same = record {
+  long = adds.long;
+  first = λ u lt. ⊎_elim (λ before. adds.first u before)
+      (λ past. ap order_told (adds.rest u past) ∙ sym (then_equal (order_to_next old u))
+      ∙ ap (ordering_then (order_to_next old u)) (sym (same u past lt)))
+      (cases_lt u n);
+  rest = λ u past. adds.rest u (omega (arith, le, past));
+}
+
+-- values that are both No compare as equal
+pub no_values : (values : List K3) (w : ℕ) → get_or values w No ≡ No → get_or values (w + 1) No ≡ No
+    → values_to_next values w ≡ Equal
+no_values values w e f = rw (e, f) refl
 
 -- ---- one predicate after the other
 

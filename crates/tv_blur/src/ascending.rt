@@ -1,8 +1,8 @@
 //! Whether a structure is blurred already.
 
-ghost use Rattle.std.specs.Prelude.{◌≡◌, ◌≢◌, ◌<◌, ◌↔◌, ◌+◌, ◌-◌, ℕ, IsTrue, MatchBool, Some, length};
-ghost use Rattle.std.specs.Prelude.{slice_get, slice_index_or};
-ghost use Rattle.std.specs.declared.cmp.Ordering.TheVariants.{Greater};
+ghost use Rattle.std.specs.Prelude.{◌≡◌, ◌≢◌, ◌<◌, ◌≤◌, ◌↔◌, ◌+◌, ◌-◌, ℕ, IsTrue, MatchBool, Some, length};
+ghost use Rattle.std.specs.Prelude.{slice_get, slice_index_or, MatchOption};
+ghost use Rattle.std.specs.declared.cmp.Ordering.TheVariants.{Equal, Greater};
 ghost use Rattle.std.specs.Ordering.{ordering_then};
 ghost use Rattle.tv_kleene.specs.declared.K3.TheVariants.{No};
 ghost use Rattle.tv_struct.specs.StructureForm.{IsOver, arities_of, structure_of};
@@ -44,16 +44,38 @@ fn add_rise(rises: &mut Row, values: &Row, u: u32) -> bool
     }
 }
 
+/// The first individual at or after `from`, other than the last, that or the next of which has a value that
+/// isn't `No`. Others have the value of the next one.
+fn next_told(values: &Row, from: u32) -> Option<u32>
+    requires { from ≤ length values.now }
+    ensures { MatchOption result
+        ((w : ℕ) → from ≤ w → w + 1 < length values.now → values_to_next values.now w ≡ Equal)
+        (λ u. (from ≤ u) × (u + 1 < length values.now)
+        × ((w : ℕ) → from ≤ w → w < u → values_to_next values.now w ≡ Equal)) }
+{
+    let size = values.size();
+    let possible = values.next_possible(from)?;
+    let u = if from < possible {
+        possible - 1
+    } else {
+        possible
+    };
+    if u + 1 < size { Some(u) } else { None }
+}
+
 /// The same of each individual but the last.
 fn add_rises(rises: &mut Row, values: &Row) -> bool
     requires { length rises.old ≡ length values.now - 1 }
     ensures { MatchBool result (AddsRises values.now (length rises.old) rises.old rises.new)
         (Falls values.now rises.old) }
 {
-    for u in 0..rises.size() {
+    let _ = values.size();
+    let mut from = 0;
+    while let Some(u) = next_told(values, from) {
         if !add_rise(rises, values, u) {
             return false;
         }
+        from = u + 1;
     }
     true
 }
