@@ -6,6 +6,7 @@ ghost use Rattle.tv_kleene.specs.declared.K3.TheVariants.{No};
 ghost use Rattle.tv_blur.specs.Classes.{IsAmongMembers};
 ghost use Rattle.tv_blur.specs.Merged.{IsJoin};
 
+use smallvec::SmallVec;
 use std::alloc::{AllocError, Global};
 use std::marker::Model;
 use tv_kleene::K3;
@@ -14,12 +15,15 @@ use tv_row::Row;
 /// So many members are joined one by one sooner than by words.
 const FEW: usize = 16;
 
+/// So many members behind the first are kept in the class itself.
+const INSIDE: usize = 6;
+
 /// Some individuals, at least one, seen by contracts as their list, and kept as bits too, so that values of
-/// many of them are joined word by word. One alone takes no memory.
+/// many of them are joined word by word. A class of few takes no memory.
 #[derive(Drop)]
 pub struct Class {
     first: u32,
-    others: Vec<u32>,
+    others: SmallVec<u32, INSIDE>,
     mask: Row,
 }
 
@@ -44,7 +48,7 @@ impl Class {
         mask.set(u, K3::Yes);
         Class {
             first: u,
-            others: Vec::new(alloc),
+            others: SmallVec::new(alloc),
             mask,
         }
     }
@@ -77,7 +81,7 @@ impl Class {
     pub fn has_several(&self) -> bool
         ensures { result ≡ nat_lt 1 (length self.now) }
     {
-        !self.others.is_empty()
+        !self.others.as_slice().is_empty()
     }
 
     /// The join of the row's values at the individuals.

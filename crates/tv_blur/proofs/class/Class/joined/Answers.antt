@@ -8,12 +8,12 @@ use Rattle.tv_blur.proofs.class.Class.joined.Goals as goal
 pub joined_each-requires : goal.joined_each-requires
 joined_each-requires c =
     let Within : List ℕ → Type 0 = λ members. All (λ u. u < length c.args.row.now) members
-    in subst Within (sym (ap (λ us. c.self.inside.first ∷ us) c.as_slice.ensures.value ∙ c.self.view_is)) c.requires
+    in subst Within (sym (ap (λ us. c.self.inside.first ∷ us) c.as_slice.ensures ∙ c.self.view_is)) c.requires
 
 pub returns-then-len-lt-FEW : goal.returns-then-len-lt-FEW
 returns-then-len-lt-FEW c =
     let Joins : List ℕ → Type 0 = λ members. IsJoin (IsAmongMembers (λ u j. get_or c.args.row.now u No ≡ j) members) c.joined_each.result
-    in subst Joins (ap (λ us. c.self.inside.first ∷ us) c.as_slice.ensures.value ∙ c.self.view_is) c.joined_each.ensures
+    in subst Joins (ap (λ us. c.self.inside.first ∷ us) c.as_slice.ensures ∙ c.self.view_is) c.joined_each.ensures
 
 pub returns : goal.returns
 returns c =
