@@ -1,152 +1,95 @@
--- Looking up a structure by its signature.
-use Rattle.std.proofs.Common.{ℕ, ◌≡◌, ◌<◌, ◌≤◌, ◌+◌, ◌⊎◌, inl, inr, Bool, true, false, List, [], ◌∷◌, ◌++◌}
-use Rattle.std.proofs.Common.{length, get_or, map, take, Option, Some, None, MatchBool, true≢false, Result}
-use Rattle.std.proofs.Common.{Ok, Err, set, refl, sym, ap, subst, ◌∙◌, arith, ◌==◌, if◌then◌else◌, eq-eqb}
-use Rattle.std.specs.Prelude.{Any, Contains, slice_get}
+-- Looking for an equal structure, and what it says of adding.
+use Rattle.std.proofs.Common.{ℕ, ◌≡◌, ◌<◌, ◌≤◌, ◌+◌, ◌-◌, ◌⊎◌, inl, inr, Bool, true, false, ◌||◌, not, List}
+use Rattle.std.proofs.Common.{[], ◌∷◌}
+use Rattle.std.proofs.Common.{◌++◌, length, get_or, true≢false, Result, Ok, Err, set, refl, sym, ap, subst}
+use Rattle.std.proofs.Common.{◌∙◌, arith, if◌then◌else◌}
+use Rattle.std.specs.Prelude.{Any, ◌↔◌, IsTrue}
 use Rattle.std.specs.List.{list_any}
 use Rattle.std.specs.declared.alloc.AllocError.{AllocError}
-use Rattle.std.specs.Ordering.{is_eq}
+use Rattle.std.specs.Ordering.{is_eq, eq_by_cmp}
 use Rattle.std.specs.Cmp.{Equal-is}
-use Rattle.std.proofs.lemmas.List.{get_or-map, length-map, get_or_append_left, get_or_at, length-append}
-use Rattle.std.proofs.lemmas.List.{length-take-le, map-append, take_all, take_more, take-append-le}
-use Rattle.std.proofs.lemmas.List.{set-get_or}
+use Rattle.std.proofs.lemmas.List.{get_or_append_left, get_or-append_right, get_or-append-add, get_or_at}
+use Rattle.std.proofs.lemmas.List.{length-append, append-nil, set-get_or}
 use Rattle.std.proofs.lemmas.List.Folds.{Any-from_list_any, list_any_at}
-use Rattle.std.proofs.lemmas.Bool.{cases_lt, MatchBool-at_true, MatchBool-at_false}
-use Rattle.std.proofs.lemmas.Option.{slice_get_within, get_or_from_slice_get, slice_get-get_or}
-use Rattle.tv_listing.specs.ListingForm.{HasEqual, AreNoted, Adds, AddsAt, IsSortedFrom, at_node, equals}
-use Rattle.tv_listing.specs.ListingForm.{is_equal_at}
+use Rattle.std.proofs.lemmas.Bool.{cases_lt}
+use Rattle.indexmap.specs.IndexSet.{insert_key}
+use Rattle.tv_listing.specs.ListingForm.{HasEqual, Adds, AddsAt, IsSortedFrom, at_node}
 use Rattle.tv_struct.specs.Order.{structure_cmp}
-use Rattle.tv_struct.specs.Signature.{signature_of}
-use Rattle.tv_struct.specs.StructureForm.{StructureForm}
+use Rattle.tv_struct.specs.StructureForm.{StructureForm, unmarked}
 use Rattle.tv_struct.proofs.OrderLaws.{structure_cmp-Equal, Equal-from_unmarked}
 
-Contains-append : (xs : List ℕ) (x y : ℕ) → Contains xs x → Contains (xs ++ y ∷ []) x
-Contains-append xs x y (k, lt, at) =
-    (k, rw (length-append xs (y ∷ [])) (omega arith), get_or_append_left xs (y ∷ []) x k lt ∙ at)
+-- equal, marks aside, as the order decides it
+abbrev pub same : StructureForm → StructureForm → Bool
+same = eq_by_cmp structure_cmp
 
-Contains-last : (xs : List ℕ) (x : ℕ) → Contains (xs ++ x ∷ []) x
-Contains-last xs x = (length xs, rw (length-append xs (x ∷ [])) (omega arith), get_or_at xs x [] x (length xs) refl)
+same-unmarked : (a b : StructureForm) → same a b ≡ true → unmarked a ≡ unmarked b
+same-unmarked a b e = structure_cmp-Equal a b ((Equal-is (structure_cmp a b)).0 e)
 
--- nothing is lost where a place is noted
-Contains-noted : (b : Bool) (xs : List ℕ) (x y : ℕ) → Contains xs x → Contains (if b then xs ++ y ∷ [] else xs) x
-Contains-noted true xs x y has = Contains-append xs x y has
-Contains-noted false xs x y has = has
+unmarked-same : (a b : StructureForm) → unmarked a ≡ unmarked b → same a b ≡ true
+unmarked-same a b e = ap is_eq (Equal-from_unmarked a b e)
 
-pub AreNoted-same : (noted later : ℕ → List ℕ) (signatures : List ℕ) → AreNoted noted signatures
-    → ((g : ℕ) → later g ≡ noted g) → AreNoted later signatures
-AreNoted-same noted later signatures all same place lt =
-    let P : List ℕ → Type 0 = λ places. Contains places place
-    in subst P (sym (same (get_or signatures place 0))) (all place lt)
+-- a search by such a test finds an equal structure exactly where there is one
+module _ (structures : List StructureForm) (s : StructureForm) where
+  pub has_from_search : list_any (λ t. same t s) structures ≡ true → HasEqual structures s
+  has_from_search e =
+      let hit : Any (λ t. same t s ≡ true) structures = Any-from_list_any (λ t. same t s) structures e
+      in (hit.0, hit.1, hit.2, hit.3, same-unmarked hit.1 s hit.4)
 
--- a place is noted that no structure takes
-pub AreNoted-kept : (noted later : ℕ → List ℕ) (signatures : List ℕ) (signature n : ℕ) → AreNoted noted signatures
-    → ((g : ℕ) → later g ≡ (if g == signature then noted g ++ n ∷ [] else noted g)) → AreNoted later signatures
-AreNoted-kept noted later signatures signature n all new place lt =
-    let P : List ℕ → Type 0 = λ places. Contains places place
-    in let g : ℕ = get_or signatures place 0
-    in subst P (sym (new g)) (Contains-noted (g == signature) (noted g) place n (all place lt))
+  pub search_from_has : HasEqual structures s → list_any (λ t. same t s) structures ≡ true
+  search_from_has (k, t, lt, at, e) =
+      list_any_at (λ t. same t s) structures k t lt (ap (λ x. same x s) at ∙ unmarked-same t s e)
 
--- the next structure's place is noted for its signature
-pub AreNoted-append : (noted later : ℕ → List ℕ) (signatures : List ℕ) (signature n : ℕ) → AreNoted noted signatures
-    → n ≡ length signatures → ((g : ℕ) → later g ≡ (if g == signature then noted g ++ n ∷ [] else noted g))
-    → AreNoted later (signatures ++ signature ∷ [])
-AreNoted-append noted later signatures signature n all count new place lt =
-    at (cases_lt place (length signatures))
+  pub has_from_hash : list_any (same s) structures ≡ true → HasEqual structures s
+  has_from_hash e =
+      let hit : Any (λ t. same s t ≡ true) structures = Any-from_list_any (same s) structures e
+      in (hit.0, hit.1, hit.2, hit.3, sym (same-unmarked s hit.1 hit.4))
+
+  pub hash_from_has : HasEqual structures s → list_any (same s) structures ≡ true
+  hash_from_has (k, t, lt, at, e) =
+      list_any_at (same s) structures k t lt (ap (λ x. same s x) at ∙ unmarked-same s t (sym e))
+
+-- an equal structure stands among the first or among those behind them
+HasEqual-left : (ks ps : List StructureForm) (s : StructureForm) → HasEqual ks s → HasEqual (ks ++ ps) s
+HasEqual-left ks ps s (k, t, lt, at, e) =
+    (k, t, omega (arith, lt, length-append ks ps), get_or_append_left ks ps t k lt ∙ at, e)
+
+HasEqual-right : (ks ps : List StructureForm) (s : StructureForm) → HasEqual ps s → HasEqual (ks ++ ps) s
+HasEqual-right ks ps s (k, t, lt, at, e) =
+    (length ks + k, t, omega (arith, lt, length-append ks ps), get_or-append-add ks ps k t ∙ at, e)
+
+HasEqual-either : (ks ps : List StructureForm) (s : StructureForm) → HasEqual (ks ++ ps) s → HasEqual ks s ⊎ HasEqual ps s
+HasEqual-either ks ps s (k, t, lt, at, e) = by (cases_lt k (length ks))
   where
-    at : (place < length signatures) ⊎ (length signatures ≤ place)
-        → Contains (later (get_or (signatures ++ signature ∷ []) place 0)) place
-    at (inl before) =
-        rw (get_or_append_left signatures (signature ∷ []) 0 place before)
-        (AreNoted-kept noted later signatures signature n all new place before)
-    at (inr last) =
-        let here : length signatures ≡ place
-        = omega (arith, length-append signatures (signature ∷ []))
-        in let full : later signature ≡ noted signature ++ place ∷ []
-        = new signature ∙ (rw (eq-eqb signature signature refl, count, here) refl)
-        in rw (get_or_at signatures signature [] 0 place here, full) (Contains-last (noted signature) place)
+    by : (k < length ks) ⊎ (length ks ≤ k) → HasEqual ks s ⊎ HasEqual ps s
+    by (inl before) = inl (k, t, before, sym (get_or_append_left ks ps t k before) ∙ at, e)
+    by (inr behind) =
+        inr (k - length ks, t, omega (arith, lt, behind, length-append ks ps), sym (get_or-append_right ks ps (length ks) k t refl behind) ∙ at, e)
 
--- the places of one more structure are noted
-pub AreNoted-more : (noted later : ℕ → List ℕ) (structures : List StructureForm) (place signature : ℕ) (d : StructureForm)
-    → place < length structures → signature ≡ signature_of (get_or structures place d)
-    → AreNoted noted (map signature_of (take place structures))
-    → ((g : ℕ) → later g ≡ (if g == signature then noted g ++ place ∷ [] else noted g))
-    → AreNoted later (map signature_of (take (place + 1) structures))
-AreNoted-more noted later structures place signature d lt is all new =
-    let step : map signature_of (take (place + 1) structures) ≡ map signature_of (take place structures) ++ signature ∷ []
-    = ap (map signature_of) (take_more structures place d lt)
-    ∙ map-append signature_of (take place structures) (get_or structures place d ∷ [])
-    ∙ ap (λ x. map signature_of (take place structures) ++ x ∷ []) (sym is)
-    in rw step
-    (AreNoted-append noted later (map signature_of (take place structures)) signature place all
-    (rw (length-map (take place structures) signature_of) (omega (arith, length-take-le place structures))) new)
-
--- what is found among the noted places is an equal structure
-found : (structures : List StructureForm) (s : StructureForm) (places : List ℕ)
-    → list_any (is_equal_at structures s) places ≡ true → HasEqual structures s
-found structures s places e =
-    let hit : Any (λ place. is_equal_at structures s place ≡ true) places = Any-from_list_any (is_equal_at structures s) places e
-    in from hit.1 (slice_get structures hit.1) refl hit.4
+-- what a search by hash among the first, and one by one among those behind them, says of all
+pub has_either : (ks ps : List StructureForm) (s : StructureForm) (b c : Bool) → b ≡ list_any (same s) ks
+    → c ≡ list_any (λ t. same t s) ps → IsTrue (b || c) ↔ HasEqual (ks ++ ps) s
+has_either ks ps s true c e f = ((λ _. HasEqual-left ks ps s (has_from_hash ks s (sym e))), (λ _. refl))
+has_either ks ps s false true e f = ((λ _. HasEqual-right ks ps s (has_from_search ps s (sym f))), (λ _. refl))
+has_either ks ps s false false e f = ((λ x. absurd (true≢false (sym x))), (λ has. absurd (by (HasEqual-either ks ps s has))))
   where
-    from : (place : ℕ) (o : Option StructureForm) → slice_get structures place ≡ o → equals o s ≡ true → HasEqual structures s
-    from place None is e = absurd (true≢false (sym e))
-    from place (Some t) is e = (
-      place,
-      t,
-      slice_get_within structures place t is,
-      get_or_from_slice_get structures place t t is,
-      structure_cmp-Equal t s ((Equal-is (structure_cmp t s)).0 e),
-    )
+    by : HasEqual ks s ⊎ HasEqual ps s → ⊥
+    by (inl has) = true≢false (sym (hash_from_has ks s has) ∙ sym e)
+    by (inr has) = true≢false (sym (search_from_has ps s has) ∙ sym f)
 
--- and an equal structure is found
-not_missed : (structures : List StructureForm) (s : StructureForm) (noted : ℕ → List ℕ)
-    → AreNoted noted (map signature_of structures) → HasEqual structures s
-    → list_any (is_equal_at structures s) (noted (signature_of s)) ≡ true
-not_missed structures s noted all (k, t, lt, at, same) =
-    let P : ℕ → Type 0 = λ signature. Contains (noted signature) k
-    in let read : get_or (map signature_of structures) k 0 ≡ signature_of s
-    = get_or-map signature_of structures k t 0 lt ∙ ap signature_of at ∙ ap signature_of same
-    in let here : Contains (noted (signature_of s)) k
-    = subst P read (all k (rw (length-map structures signature_of) lt))
-    in let equal : is_equal_at structures s k ≡ true
-    = ap (λ o. equals o s) (slice_get-get_or structures k t lt)
-    ∙ ap (λ x. is_eq (structure_cmp x s)) at ∙ ap is_eq (Equal-from_unmarked t s same)
-    in list_any_at (is_equal_at structures s) (noted (signature_of s)) here.0 k here.1 (rw here.2 equal)
-
-pub HasEqual-found : (structures : List StructureForm) (s : StructureForm) (noted : ℕ → List ℕ)
-    → AreNoted noted (map signature_of structures) → (r : Bool)
-    → r ≡ list_any (is_equal_at structures s) (noted (signature_of s))
-    → MatchBool r (HasEqual structures s) (¬ HasEqual structures s)
-HasEqual-found structures s noted all true e = found structures s (noted (signature_of s)) (sym e)
-HasEqual-found structures s noted all false e = λ has. true≢false (sym (not_missed structures s noted all has) ∙ sym e)
-
--- the first n structures are all that there are
-pub all_noted : (noted : ℕ → List ℕ) (structures : List StructureForm) (n : ℕ) → n ≡ length structures
-    → AreNoted noted (map signature_of structures) → (n ≤ length structures) × AreNoted noted (map signature_of (take n structures))
-all_noted noted structures n count all =
-    let Of : List StructureForm → Type 0 = λ known. AreNoted noted (map signature_of known)
-    in (omega arith, subst Of (sym (take_all n structures (omega arith))) all)
-
--- a structure that is put behind the others isn't noted yet
-pub noted_behind : (noted : ℕ → List ℕ) (structures : List StructureForm) (s : StructureForm) (n : ℕ)
-    → (n ≤ length structures) × AreNoted noted (map signature_of (take n structures))
-    → (n ≤ length (structures ++ s ∷ [])) × AreNoted noted (map signature_of (take n (structures ++ s ∷ [])))
-noted_behind noted structures s n h =
-    let Of : List StructureForm → Type 0 = λ known. AreNoted noted (map signature_of known)
-    in (
-      omega (arith, h.0, length-append structures (s ∷ [])),
-      subst Of (sym (take-append-le n structures (s ∷ []) h.0)) h.1,
-    )
-
--- what a search among the noted places says of adding
-module _ (structures : List StructureForm) (s : StructureForm) (noted : ℕ → List ℕ) (all : AreNoted noted (map signature_of structures)) (r : Bool)
-    (e : r ≡ list_any (is_equal_at structures s) (noted (signature_of s))) where
-  pub Adds-known : r ≡ true → Adds structures structures s (Ok false)
-  Adds-known hit =
-      (MatchBool-at_true (HasEqual structures s) (¬ HasEqual structures s) hit (HasEqual-found structures s noted all r e), refl)
-
-  pub Adds-new : r ≡ false → Adds structures (structures ++ s ∷ []) s (Ok true)
-  Adds-new missed =
-      (MatchBool-at_false (HasEqual structures s) (¬ HasEqual structures s) missed (HasEqual-found structures s noted all r e), refl)
+-- what putting in by hash says of adding, where there are none behind
+pub Adds-inserted : (ks new ps : List StructureForm) (s : StructureForm) (r : Bool) → ps ≡ []
+    → r ≡ not (list_any (same s) ks) → new ≡ insert_key same ks s → Adds (ks ++ ps) (new ++ ps) s (Ok r)
+Adds-inserted ks new ps s r none told keys =
+    let before : ks ++ ps ≡ ks = ap (λ xs. ks ++ xs) none ∙ append-nil ks
+    in let after : new ++ ps ≡ insert_key same ks s = ap (λ xs. new ++ xs) none ∙ append-nil new ∙ keys
+    in let Old : List StructureForm → Type 0 = λ xs. Adds xs (new ++ ps) s (Ok r)
+    in let New : List StructureForm → Type 0 = λ xs. Adds ks xs s (Ok r)
+    in let Told : Bool → Type 0 = λ b. Adds ks (insert_key same ks s) s (Ok b)
+    in subst Old (sym before) (subst New (sym after) (subst Told (sym told) (by (list_any (same s) ks) refl)))
+  where
+    by : (b : Bool) → list_any (same s) ks ≡ b → Adds ks (if b then ks else ks ++ s ∷ []) s (Ok (not b))
+    by true e = (has_from_hash ks s e, refl)
+    by false e = ((λ has. true≢false (sym (hash_from_has ks s has) ∙ e)), refl)
 
 -- from the list at the node to the listing
 pub AddsAt-from_list : (old : List (List StructureForm)) (node : ℕ) (list new : List StructureForm) (s : StructureForm)

@@ -1,10 +1,8 @@
 -- Lists of structures, one for each node.
-use Rattle.std.specs.Prelude.{ℕ, ◌≡◌, ◌<◌, Bool, true, false, List, [], ◌∷◌, ◌++◌, length, Any, Contains}
-use Rattle.std.specs.Prelude.{IsPermutation, Option, None, Some, Result, Ok, Err, slice_get, slice_index_or}
-use Rattle.std.specs.Prelude.{slice_set}
+use Rattle.std.specs.Prelude.{ℕ, ◌≡◌, ◌<◌, Bool, true, false, List, [], ◌∷◌, ◌++◌, length, Any}
+use Rattle.std.specs.Prelude.{IsPermutation, Result, Ok, Err, slice_index_or, slice_set}
 use Rattle.std.specs.declared.alloc.AllocError.{AllocError}
 use Rattle.std.specs.List.Sorted.{IsSorted}
-use Rattle.std.specs.Ordering.{is_eq}
 use Rattle.tv_struct.specs.Order.{structure_cmp}
 use Rattle.tv_struct.specs.StructureForm.{StructureForm, unmarked}
 
@@ -42,17 +40,3 @@ pub record IsSortedFrom (old new : List StructureForm) : Type 0 where
 pub record AreSorted (old new : List (List StructureForm)) : Type 0 where
   pub nodes : length new ≡ length old
   pub each : (node : ℕ) → node < length old → IsSortedFrom (at_node old node) (at_node new node)
-
--- each structure's place is among those that are noted for its signature
-abbrev pub AreNoted : (noted : ℕ → List ℕ) → (signatures : List ℕ) → Type 0
-AreNoted noted signatures =
-    (place : ℕ) → place < length signatures → Contains (noted (slice_index_or signatures place 0)) place
-
--- whether a structure is equal to s, marks aside
-abbrev pub equals : Option StructureForm → StructureForm → Bool
-equals None s = false
-equals (Some t) s = is_eq (structure_cmp t s)
-
--- whether the structure at the place is equal to s
-abbrev pub is_equal_at : List StructureForm → StructureForm → ℕ → Bool
-is_equal_at structures s place = equals (slice_get structures place) s

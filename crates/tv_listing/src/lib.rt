@@ -2,6 +2,7 @@
 #![tactic(auto)]
 
 mod analysis;
+mod hashed;
 mod listing;
 mod node;
 

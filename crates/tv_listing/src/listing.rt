@@ -46,7 +46,7 @@ impl Listing {
         requires { node < length self.now }
         ensures { result ≡ length (at_node self.now node) }
     {
-        self.nodes[node as usize].as_slice().len()
+        self.nodes[node as usize].len()
     }
 
     /// The structure at place `i` of the node.
@@ -56,7 +56,7 @@ impl Listing {
         ensures value { slice_get (at_node self.now node) i ≡ Some result.now }
         ensures kept { IsStructure result.now }
     {
-        let s = &self.nodes[node as usize].as_slice()[i];
+        let s = self.nodes[node as usize].at(i);
         let _ = s.size();
         s
     }
@@ -77,9 +77,8 @@ impl Listing {
         requires { node < length self.old }
         ensures { AddsAt self.old self.new node s result }
     {
-        let alloc = self.alloc;
         let list = &mut self.nodes[node as usize];
-        list.add(alloc, s)
+        list.add(s)
     }
 
     /// The listing with each node's structures in ascending order. No structure is copied.
