@@ -11,15 +11,18 @@ use Rattle.tv_replay_laws.specs.declared.state.ReplayError.TheVariants as error
 use Rattle.tv_replay_step.specs.declared.moved.Halt.{Halt}
 use Rattle.tv_replay_step.specs.declared.moved.Halt.TheVariants.{Stuck}
 use Rattle.tv_struct.specs.StructureForm.{StructureForm, IsStructure, IsOver}
+use Rattle.tv_update.specs.Redefined.{AreAllDefined}
 use Rattle.tv_two_valued.specs.TwoValued.{IsTwoValued}
 use Rattle.tv_replay.specs.declared.states.Judge.{Judge}
 
 abbrev pub program_in : Judge → ProgramForm
 program_in judge = program_of judge.program.now
 
--- the properties and the listing are the program's, and there is room to evaluate its formulas
+-- the order is of all definitions, the properties and the listing are the program's, and there is room to
+-- evaluate its formulas
 pub record CanJudge (judge : Judge) (scratch : ScratchForm) : Type 0 where
   pub valid : IsValid (program_in judge)
+  pub order : AreAllDefined (program_in judge) (map (λ p. p.0) judge.order.now)
   pub properties : map rule_of judge.properties.now
       ≡ rules_of_properties 0 (map pred_of judge.program.now.vocab.preds)
   pub listing : IsListing judge.program.now judge.listing.now

@@ -22,6 +22,7 @@ use tv_replay_laws::{ReplayError, StateList, States};
 use tv_replay_step::Halt;
 use tv_struct::{Structure, Structures, Table};
 use tv_trace::{Move, Trace};
+use tv_update::order_of;
 
 /// The most individuals of a heap.
 const MAX_INDIVIDUALS: u32 = 256;
@@ -109,9 +110,11 @@ pub fn replay(
 {
     let _ = start.size();
     let properties = property_rules(alloc, program.vocab.preds.as_slice())?;
+    let order = order_of(alloc, program)?;
     let mut scratch = Scratch::new(alloc, program, MAX_INDIVIDUALS)?;
     let judge = Judge {
         program,
+        order: &order,
         properties: &properties,
         listing,
     };

@@ -20,11 +20,14 @@ use tv_replay_laws::{Place2, State};
 use tv_replay_step::{Halt, Moved, next};
 use tv_struct::{Structure, Structures};
 use tv_trace::Move;
+use tv_update::Order;
 
-/// What states are judged by: a program, the rules of its properties, and a listing.
+/// What states are judged by: a program, an order of its definitions, the rules of its properties, and a
+/// listing.
 #[derive(Clone, Copy)]
 pub struct Judge<'a> {
     pub program: &'a Program,
+    pub order: &'a Order,
     pub properties: &'a Rules,
     pub listing: &'a Listing,
 }
@@ -106,6 +109,7 @@ pub fn next_state(
     let Moved { node, heap, broken } = next(
         alloc,
         judge.program,
+        judge.order,
         before.node,
         &before.heap,
         step,

@@ -18,6 +18,7 @@ use Rattle.tv_model.specs.Program.{ProgramForm, PredForm, ActionForm, UpdateForm
 use Rattle.tv_model.specs.Program.{pred_of, update_of}
 use Rattle.tv_model.specs.Truth.{Assignment, Truth, put_all}
 use Rattle.tv_model.specs.Valid.{IsAction, IsEdge, IsPrecondition, IsUpdate, IsValid, free_occurrences}
+use Rattle.tv_model.specs.declared.formula.PredId.{PredId}
 use Rattle.tv_model.specs.declared.formula.Var.{Var}
 use Rattle.tv_model.specs.declared.program.Action.{Action}
 use Rattle.tv_model.specs.declared.program.Edge.{Edge}
@@ -34,6 +35,7 @@ use Rattle.tv_struct.specs.StructureForm.{StructureForm, IsOver, IsStructure, ar
 use Rattle.tv_trace.specs.declared.trace.Move.{Move}
 use Rattle.tv_tvs.specs.Targets.{IsRead}
 use Rattle.tv_two_valued.specs.TwoValued.{IsTwoValued, heap_of}
+use Rattle.tv_update.specs.Redefined.{AreAllDefined}
 use Rattle.tv_update.specs.Update.{action_at, no_action}
 use Rattle.tv_update.proofs.Variables.{picks-in_range}
 use Rattle.tv_replay_step.specs.Free.{CanCopy, GivesAll, GivesValues, IsFinished}
@@ -259,12 +261,13 @@ its-action turn s move room ready =
     = subst (λ n. turn.edge.now.action < n) (sym (length-map turn.program.now.actions action_of)) ready.number
     in slice_get-get_or (program_in turn).actions turn.edge.now.action no_action number ∙ ap Some ready.its_action
 
-pub ready-for : (turn : EdgeAction) (s : StructureForm) (move : Move) (room : ScratchForm) → IsValid (program_in turn) → IsStructure s → IsTwoValued s
+pub ready-for : (turn : EdgeAction) (s : StructureForm) (move : Move) (room : ScratchForm) → IsValid (program_in turn)
+    → AreAllDefined (program_in turn) (map (λ (q : PredId). q.0) turn.order.now) → IsStructure s → IsTwoValued s
     → IsOver turn.program.now.vocab s → s.fresh ≡ None → IfSome move.values (IsRead turn.program.now.vocab) → IsMadeFor (program_in turn) 256 room
     → slice_get (program_in turn).edges move.edge ≡ Some turn.edge.now
     → (actions : List Action) → actions ≡ turn.program.now.actions → turn.action.now ≡ get_or actions turn.edge.now.action turn.action.now
     → IsReadyFor turn s move room
-ready-for turn s move room valid is two over unmarked values made found actions same at_action = record {
+ready-for turn s move room valid order is two over unmarked values made found actions same at_action = record {
   heap = record {
     valid = valid;
     structure = is;
@@ -273,6 +276,7 @@ ready-for turn s move room valid is two over unmarked values made found actions 
   };
   over = over;
   number = subst (λ n. turn.edge.now.action < n) (length-map turn.program.now.actions action_of) number;
+  order = order;
   its_action = there;
   is_action = subst (Contains (program_in turn).actions) there
       (Contains-get_or (program_in turn).actions turn.edge.now.action no_action number);

@@ -1,5 +1,5 @@
 -- What an action of a program makes of a heap under individuals for its picked variables.
-use Rattle.std.specs.Prelude.{ℕ, ◌≡◌, ◌<◌, List, length, Option, None, Contains, IfSome, ⊤}
+use Rattle.std.specs.Prelude.{ℕ, ◌≡◌, ◌<◌, List, length, map, Option, None, Contains, IfSome, ⊤}
 use Rattle.tv_eval.specs.AssignmentForm.{assignment_of, individual_for}
 use Rattle.tv_eval.specs.ScratchForm.{ScratchForm, IsMadeFor}
 use Rattle.tv_model.specs.Program.{ProgramForm, ActionForm, action_of, program_of}
@@ -15,6 +15,7 @@ use Rattle.tv_struct.specs.StructureForm.{StructureForm, IsOver, IsStructure, ar
 use Rattle.tv_trace.specs.declared.trace.Move.{Move}
 use Rattle.tv_tvs.specs.Targets.{IsRead}
 use Rattle.tv_two_valued.specs.TwoValued.{IsTwoValued, heap_of}
+use Rattle.tv_update.specs.Redefined.{AreAllDefined}
 use Rattle.tv_update.specs.Update.{action_at}
 use Rattle.tv_replay_step.specs.Picked.{PutsPicked}
 use Rattle.tv_replay_step.specs.Ready.{CanAct, IsHeapFor}
@@ -30,13 +31,14 @@ program_in turn = program_of turn.program.now
 abbrev pub action_in : EdgeAction → ActionForm
 action_in turn = action_of turn.action.now
 
--- the turn's action is that of its edge, a number of the program; s is a heap of the program, and the values
--- of the move are over it
+-- the turn's action is that of its edge, a number of the program, and its order is of all definitions; s is a
+-- heap of the program, and the values of the move are over it
 pub record IsReadyFor (turn : EdgeAction) (s : StructureForm) (move : Move)
     (room : ScratchForm) : Type 0 where
   pub heap : IsHeapFor (program_in turn) s
   pub over : IsOver turn.program.now.vocab s
   pub number : turn.edge.now.action < length turn.program.now.actions
+  pub order : AreAllDefined (program_in turn) (map (λ p. p.0) turn.order.now)
   pub its_action : action_at turn.program.now turn.edge.now.action ≡ action_in turn
   pub is_action : Contains (program_in turn).actions (action_in turn)
   pub values : IfSome move.values (IsRead turn.program.now.vocab)

@@ -6,6 +6,7 @@ ghost use Rattle.tv_eval.specs.ScratchForm.{IsMadeFor};
 ghost use Rattle.tv_model.specs.Program.{program_of, update_of};
 ghost use Rattle.tv_model.specs.Valid.{IsValid};
 ghost use Rattle.tv_struct.specs.StructureForm.{IsOver};
+ghost use Rattle.tv_update.specs.Redefined.{AreAllDefined};
 ghost use Rattle.tv_replay_step.specs.Free.{CanCopy, IsFinished, IsFree};
 
 use crate::free::put_free;
@@ -14,18 +15,20 @@ use tv_eval::Scratch;
 use tv_model::{Program, Update};
 use tv_struct::Structure;
 use tv_trace::Move;
-use tv_update::redefine;
+use tv_update::{Order, redefine};
 
 /// The given structure with the values for what the updates leave free, and with each definition evaluated.
 pub fn finished(
     alloc: Global,
     program: &Program,
+    order: &Order,
     updates: &[Update],
     step: &Move,
     given: &Structure,
     scratch: &mut Scratch,
 ) -> Result<Structure, AllocError>
     requires valid { IsValid (program_of program.now) }
+    requires order { AreAllDefined (program_of program.now) (map (λ p. p.0) order.now) }
     requires over { IsOver program.now.vocab given.now }
     requires values { IfSome step.now.values (λ s. AllByRecursion (λ w.
         IsFree (update_of w) → CanCopy s given.now w.pred.0) updates.now) }
@@ -38,6 +41,6 @@ pub fn finished(
     if let Some(values) = &step.values {
         put_free(values, updates, &mut heap);
     }
-    redefine(alloc, program, &mut heap, scratch)?;
+    redefine(alloc, program, order, &mut heap, scratch)?;
     Ok(heap)
 }

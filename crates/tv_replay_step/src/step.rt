@@ -1,6 +1,6 @@
 //! One step of a run.
 
-ghost use Rattle.std.specs.Prelude.{◌≡◌, ◌↔◌, None, IfOk, IfErr, IsTrue};
+ghost use Rattle.std.specs.Prelude.{◌≡◌, ◌↔◌, None, IfOk, IfErr, IsTrue, map};
 ghost use Rattle.tv_eval.specs.AssignmentForm.{assignment_of};
 ghost use Rattle.tv_eval.specs.ScratchForm.{IsMadeFor};
 ghost use Rattle.tv_model.specs.Program.{action_of, program_of};
@@ -9,6 +9,7 @@ ghost use Rattle.tv_model.specs.Valid.{IsValid};
 ghost use Rattle.tv_struct.specs.StructureForm.{IsOver};
 ghost use Rattle.tv_trace.specs.Meaning.{IsMoveOn};
 ghost use Rattle.tv_two_valued.specs.TwoValued.{IsTwoValued};
+ghost use Rattle.tv_update.specs.Redefined.{AreAllDefined};
 ghost use Rattle.tv_replay_step.specs.Stepped.{Halts, IsMoved};
 ghost use Rattle.tv_replay_step.specs.Turns.{Acts, CanTurn, IsPickedFor, IsReadyFor, StaysFor, TurnFails};
 ghost use Rattle.tv_replay_step.specs.Turns.{Turns, action_in};
@@ -26,14 +27,16 @@ use tv_replay_judge::first_differing;
 use tv_replay_laws::Why;
 use tv_struct::{Structure, Table};
 use tv_trace::Move;
+use tv_update::Order;
 
 /// The most individuals of a heap.
 const MAX_INDIVIDUALS: u32 = 256;
 
-/// An edge of a program and its action.
+/// An edge of a program and its action, and an order of the program's definitions.
 #[derive(Clone, Copy)]
 pub struct EdgeAction<'a> {
     pub program: &'a Program,
+    pub order: &'a Order,
     pub edge: &'a Edge,
     pub action: &'a Action,
 }
@@ -57,11 +60,28 @@ fn act(
     let action = turn.action;
     let updates = action.updates.as_slice();
     let number = turn.edge.action;
-    let given = updated(alloc, turn.program, number, action.fresh, s, picks, scratch)?;
+    let given = updated(
+        alloc,
+        turn.program,
+        turn.order,
+        number,
+        action.fresh,
+        s,
+        picks,
+        scratch,
+    )?;
     if !gives_all(step, updates, given.size()) {
         return Err(Halt::Stuck(Why::Values));
     }
-    let heap = finished(alloc, turn.program, updates, step, &given, scratch)?;
+    let heap = finished(
+        alloc,
+        turn.program,
+        turn.order,
+        updates,
+        step,
+        &given,
+        scratch,
+    )?;
     let broken = first_differing(turn.program, action, &given, &heap);
     let node = turn.edge.to;
     Ok(Moved { node, heap, broken })
@@ -124,7 +144,8 @@ fn make_turn(
 }
 
 /// The heap to which the step leads from the heap `s` at the node: along its edge, under its picks and with
-/// its values. The scratch is given back as it was.
+/// its values. The definitions are evaluated anew in an order of the program's that was found before. The
+/// scratch is given back as it was.
 ///
 /// # Errors
 /// `Stuck` exactly where the step can't be made, with the first reason that holds; `Memory` where there was
@@ -132,12 +153,14 @@ fn make_turn(
 pub fn next(
     alloc: Global,
     program: &Program,
+    order: &Order,
     node: u32,
     s: &Structure,
     step: &Move,
     scratch: &mut Scratch,
 ) -> Result<Moved, Halt>
     requires valid { IsValid (program_of program.now) }
+    requires order { AreAllDefined (program_of program.now) (map (λ p. p.0) order.now) }
     requires over { IsOver program.now.vocab s.now }
     requires unmarked { s.now.fresh ≡ None }
     requires two_valued { IsTwoValued s.now }
@@ -157,6 +180,7 @@ pub fn next(
     let action = &program.actions.as_slice()[edge.action as usize];
     let turn = EdgeAction {
         program,
+        order,
         edge,
         action,
     };

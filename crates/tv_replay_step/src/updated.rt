@@ -19,7 +19,7 @@ use std::alloc::Global;
 use tv_eval::{Assignment, Scratch};
 use tv_model::{Mode, Program};
 use tv_struct::{StageError, Structure, Structures, Table};
-use tv_update::update_middle;
+use tv_update::{Order, update_middle};
 
 /// The only structure of the list.
 fn only(all: Structures) -> Structure
@@ -36,6 +36,7 @@ fn only(all: Structures) -> Structure
 fn updated_in(
     alloc: Global,
     program: &Program,
+    order: &Order,
     action: u32,
     middle: &Structure,
     picks: &Assignment,
@@ -55,7 +56,16 @@ fn updated_in(
     ensures memory { IfErr result (λ e. e ≡ Memory) }
     ensures scratch { scratch.new ≡ scratch.old }
 {
-    match update_middle(alloc, program, action, Mode::Given, middle, picks, scratch) {
+    match update_middle(
+        alloc,
+        program,
+        order,
+        action,
+        Mode::Given,
+        middle,
+        picks,
+        scratch,
+    ) {
         Ok(all) => Ok(only(all)),
         Err(StageError::Memory) => Err(Halt::Memory),
         Err(StageError::Splits | StageError::Individuals) => unreachable!(),
@@ -67,6 +77,7 @@ fn updated_in(
 pub fn updated(
     alloc: Global,
     program: &Program,
+    order: &Order,
     action: u32,
     fresh: bool,
     s: &Structure,
@@ -85,8 +96,8 @@ pub fn updated(
 {
     if fresh {
         let middle = s.with_new(alloc)?;
-        updated_in(alloc, program, action, &middle, picks, scratch)
+        updated_in(alloc, program, order, action, &middle, picks, scratch)
     } else {
-        updated_in(alloc, program, action, s, picks, scratch)
+        updated_in(alloc, program, order, action, s, picks, scratch)
     }
 }

@@ -16,7 +16,7 @@ use std::alloc::AllocError;
 use std::rc::Rc;
 use tv_coerce::RuleSet;
 use tv_model::{Action, Edge, Program};
-use tv_update::{Plan, plan_for};
+use tv_update::{Order, Plan, order_of, plan_for};
 
 /// An action, made ready for steps: what these need of it that depends on no structure.
 #[derive(Drop)]
@@ -43,7 +43,12 @@ fn action_at(program: &Program, number: u32) -> &Action
 }
 
 /// The action of this number, made ready.
-pub fn job_of<'a>(x: &Setting<'a, '_>, shared: &Shared, number: u32) -> Result<Job<'a>, AllocError>
+pub fn job_of<'a>(
+    x: &Setting<'a, '_>,
+    shared: &Shared,
+    order: &Order,
+    number: u32,
+) -> Result<Job<'a>, AllocError>
     requires valid { IsValid (form_in x.now) }
     requires rules { rules_of x.now.closed.now ≡ closed_rules (form_in x.now) }
     requires shared { IsShared (form_in x.now) (rules_of x.now.closed.now) shared.now }
@@ -54,7 +59,7 @@ pub fn job_of<'a>(x: &Setting<'a, '_>, shared: &Shared, number: u32) -> Result<J
     let action = action_at(x.program, number);
     let turns = turns(x, action.focus.as_slice())?;
     let waiting = waiting_after(x, shared, action)?;
-    let plan = plan_for(x.alloc, x.program, number, x.mode)?;
+    let plan = plan_for(x.alloc, x.program, order, number, x.mode)?;
     Ok(Job {
         action,
         number,
@@ -72,9 +77,10 @@ pub fn jobs<'a>(x: &Setting<'a, '_>) -> Result<Vec<Job<'a>>, AllocError>
 {
     let count = x.program.actions.len();
     let shared = shared_sets(x)?;
+    let order = order_of(x.alloc, x.program)?;
     let mut jobs = Vec::with_capacity(x.alloc, count)?;
     for number in 0..count {
-        jobs.push(job_of(x, &shared, number.min(MAX_NUMBER) as u32)?)?;
+        jobs.push(job_of(x, &shared, &order, number.min(MAX_NUMBER) as u32)?)?;
     }
     Ok(jobs)
 }

@@ -28,6 +28,7 @@ use tv_eval::Scratch;
 use tv_model::{Mode, Program};
 use tv_rules::Closed;
 use tv_struct::{StageError, Structure, Structures};
+use tv_update::order_of;
 
 /// What an abstract step gives: its results, strictly sorted, and the value of each message of the action.
 #[derive(Debug, Drop)]
@@ -120,7 +121,8 @@ pub fn abstract_step(
     };
     let _ = s.size();
     let start = coerce(alloc, closed, s, scratch)?;
+    let order = order_of(alloc, program)?;
     let shared = shared_sets(&x)?;
-    let job = job_of(&x, &shared, edge_at(program, edge).action)?;
+    let job = job_of(&x, &shared, &order, edge_at(program, edge).action)?;
     step_from(&x, &job, start.as_slice(), scratch)
 }

@@ -27,7 +27,7 @@ use Rattle.tv_update_laws.specs.Applied.{IsChanged}
 use Rattle.tv_update_laws.proofs.Predicates.{defined-found}
 use Rattle.tv_update_laws.proofs.Updates.{UpdateOf, used-update-of}
 use Rattle.tv_update.specs.Plan.{IsFreeOf, IsOrdered, IsPlan, is_set, RestsOn, IsDefined, moves_individuals}
-use Rattle.tv_update.specs.Plan.{AreUpdated, AreWaiting}
+use Rattle.tv_update.specs.Plan.{AreUpdated, AreWaiting, IsPlanSoFar, CanSettle}
 use Rattle.tv_update.specs.Updated.{used_in}
 use Rattle.tv_update.proofs.Made.{none-used}
 
@@ -152,31 +152,14 @@ item_below program action ws i w valid same lt at =
 
 -- ---- flags
 
-set-below : (flags : List Bool) (q : ℕ) → IsTrue (is_set flags q) → q < length flags
-set-below flags q on =
+pub set_below : (flags : List Bool) (q : ℕ) → IsTrue (is_set flags q) → q < length flags
+set_below flags q on =
     ⊎_elim (λ lt. lt) (λ past. absurd (false≢true (sym (get_or_past flags q false past) ∙ on)))
     (cases_lt q (length flags))
 
 not-set : (b : Bool) → (IsTrue b → ⊥) → b ≡ false
 not-set true never = absurd (never refl)
 not-set false never = refl
-
--- ---- the plan so far: some predicates wait, and what is known of the others stays so
-
-pub record IsPlanSoFar (p : ProgramForm) (mode : Mode) (action : ActionForm) (waiting changed : List Bool)
-    (order : List ℕ) : Type 0 where
-  pub waiting_count : length waiting ≡ length p.preds
-  pub changed_count : length changed ≡ length p.preds
-  pub opened : (q : ℕ) → IsTrue (is_set waiting q)
-      → (update_at p mode action q ≡ None) × IsDefined (kind_at p q) × (is_set changed q ≡ false)
-  pub settled : (q : ℕ) → is_set waiting q ≡ false
-      → IsTrue (is_set changed q)
-      ↔ IsChanged action (is_set changed) (update_at p mode action q) (kind_at p q)
-  pub closed : (q : ℕ) → is_set waiting q ≡ false → update_at p mode action q ≡ None
-      → ¬ RestsOn waiting (kind_at p q)
-  pub members : (q : ℕ) → Contains order q ↔ (IsTrue (is_set changed q) × (update_at p mode action q ≡ None))
-  pub ordered : IsOrdered p order
-  pub apart : (q : ℕ) → Contains order q → (r : ℕ) → IsTrue (is_set waiting r) → IsFreeOf p q r
 
 -- ---- the start
 
@@ -205,7 +188,7 @@ plan_start p mode action waiting changed valid updated opens = record {
   waiting_count = opens.count;
   changed_count = updated.count;
   opened = λ q on.
-      let below : q < length p.preds = omega (arith, set-below waiting q on, opens.count)
+      let below : q < length p.preds = omega (arith, set_below waiting q on, opens.count)
       in let both : IsDefined (kind_at p q) × (is_set changed q ≡ false) = (opens.each q below).0 on
       in (not-some (update_at p mode action q) (sym (updated.each q below) ∙ both.1), both.0, both.1);
   settled = λ q off. known q off (cases_lt q (length p.preds));
@@ -262,14 +245,44 @@ plan_start p mode action waiting changed valid updated opens = record {
     unlisted q both (inl below) = false≢true (sym (updated.each q below ∙ ap is_some both.1) ∙ both.0)
     unlisted q both (inr past) = false≢true (sym (unset q past) ∙ both.0)
 
--- ---- one more predicate is settled
-
 or-is : (b c : Bool) → IsTrue (b || c) ↔ (IsTrue b ⊎ IsTrue c)
 or-is true c = (λ on. inl refl, λ either. refl)
 or-is false c = (λ on. inr on, λ either. ⊎_elim (λ never. absurd (false≢true never)) (λ on. on) either)
 
 moves-same : (action : ActionForm) → IsTrue (moves_individuals action) ↔ MovesIndividuals action
 moves-same action = or-is action.fresh (is_some action.retain)
+
+-- ---- where no update counts and no individual comes or goes, nothing is changed
+
+pub plan_none : (p : ProgramForm) (mode : Mode) (action : ActionForm) (flags : List Bool)
+    → IsAction p action → AreUpdated p mode action flags → moves_individuals action ≡ false
+    → ((q : ℕ) → is_set flags q ≡ false) → IsPlan p mode action []
+plan_none p mode action flags valid updated stays clear = record {
+  changed = λ q. false;
+  are_changed = λ q. (
+    λ on. absurd (false≢true on),
+    λ is. absurd (unchanged (update_at p mode action q) (kind_at p q) (none q) is),
+  );
+  members = λ q. (λ at. absurd (Contains-none q at), λ both. absurd (false≢true both.0));
+  ordered = tt;
+}
+  where
+    none : (q : ℕ) → update_at p mode action q ≡ None
+    none q =
+        ⊎_elim
+        (λ below. not-some (update_at p mode action q) (sym (updated.each q below) ∙ clear q))
+        (λ past. past-update p mode action valid q past)
+        (cases_lt q (length p.preds))
+
+    unchanged : (o : Option UpdateForm) (kind : KindForm) → o ≡ None → ¬ IsChanged action (λ q. false) o kind
+    unchanged (Some w) kind e is = absurd (cc e)
+    unchanged None KCore e is = is
+    unchanged None (KDefined vars body) e is =
+        ⊎_elim
+        (λ moves. false≢true (sym stays ∙ (moves-same action).1 moves))
+        (λ m. false≢true m.2) is
+
+-- ---- one more predicate is settled
 
 push-ordered : (p : ProgramForm) (order : List ℕ) (q : ℕ) → IsOrdered p order
     → ((r : ℕ) → Contains order r → IsFreeOf p r q) → IsFreeOf p q q → IsOrdered p (order ++ q ∷ [])
@@ -299,7 +312,7 @@ module _ (p : ProgramForm) (mode : Mode) (action : ActionForm) (waiting changed 
   changed_after = set changed q on
 
   below : q < length waiting
-  below = set-below waiting q is_waiting
+  below = set_below waiting q is_waiting
 
   waits-here : is_set waiting_after q ≡ false
   waits-here = get_or-set_same waiting q false false below
@@ -505,21 +518,23 @@ plan_done p valid mode action waiting changed order so_far each = record {
   ordered = so_far.ordered;
 }
 
--- the same with the order as the code has it
+-- the same as the code has it
 pub settle_one : (p : ProgramForm) (mode : Mode) (action : ActionForm) (waiting changed : List Bool)
-    (olds news : List PredId)
-    (r : PredId) (q : ℕ) (on : Bool) → IsPlanSoFar p mode action waiting changed (map (λ x. x.0) olds)
-    → news ≡ olds ++ cond on (r ∷ []) [] → r.0 ≡ q → IsTrue (is_set waiting q)
-    → ¬ RestsOn waiting (kind_at p q)
-    → IsTrue on ↔ (IsTrue (moves_individuals action) ⊎ RestsOn changed (kind_at p q))
-    → IsPlanSoFar p mode action (set waiting q false) (set changed q on) (map (λ x. x.0) news)
-settle_one p mode action waiting changed olds news r q on so_far pushed same is_waiting none counts =
-    subst (IsPlanSoFar p mode action (set waiting q false) (set changed q on))
+    (olds news : List PredId) (r : PredId) (is_touched on : Bool)
+    → IsPlanSoFar p mode action waiting changed (map (λ x. x.0) olds)
+    → CanSettle p waiting changed r.0 is_touched → news ≡ olds ++ cond on (r ∷ []) []
+    → IsTrue on ↔ (IsTrue (moves_individuals action) ⊎ IsTrue is_touched)
+    → IsPlanSoFar p mode action (set waiting r.0 false) (set changed r.0 on) (map (λ x. x.0) news)
+settle_one p mode action waiting changed olds news r is_touched on so_far can pushed same =
+    subst (IsPlanSoFar p mode action (set waiting r.0 false) (set changed r.0 on))
     (ap (λ xs. map (λ x. x.0) olds ++ xs) (sym (one on))
     ∙ sym (map-append (λ x. x.0) olds (cond on (r ∷ []) []))
     ∙ ap (map (λ x. x.0)) (sym pushed))
-    (plan_more p mode action waiting changed (map (λ x. x.0) olds) q on so_far is_waiting none counts)
+    (plan_more p mode action waiting changed (map (λ x. x.0) olds) r.0 on so_far can.waits can.free (
+      λ is. ⊎_elim (λ moves. inl moves) (λ touched. inr (can.touched.0 touched)) (same.0 is),
+      λ either. same.1 (⊎_elim (λ moves. inl moves) (λ rests. inr (can.touched.1 rests)) either),
+    ))
   where
-    one : (b : Bool) → map (λ (x : PredId). x.0) (cond b (r ∷ []) []) ≡ cond b (q ∷ []) []
-    one true = ap (λ n. n ∷ []) same
+    one : (b : Bool) → map (λ (x : PredId). x.0) (cond b (r ∷ []) []) ≡ cond b (r.0 ∷ []) []
+    one true = refl
     one false = refl

@@ -1,5 +1,6 @@
 pub mod Applying
 pub mod Defined
+pub mod Drafts
 pub mod Held
 pub mod Kept
 pub mod New

@@ -9,7 +9,8 @@ ghost use Rattle.tv_update.specs.Redefined.{AreAllDefined, IsRedefined, adding_a
 
 use crate::application::Application;
 use crate::define::define_all;
-use crate::plan::changed_definitions;
+use crate::order::likely_order;
+use crate::plan::{Order, changed_definitions};
 use crate::rows::Rows;
 use std::alloc::{AllocError, Global};
 use tv_eval::{Assignment, Scratch};
@@ -31,11 +32,13 @@ fn adding(alloc: Global) -> Action
     }
 }
 
-/// The predicates that have a definition, in an order in which each rests on none behind it.
-fn all_definitions(alloc: Global, program: &Program) -> Result<Vec<PredId>, AllocError>
+/// The predicates that have a definition, in an order in which each rests on none behind it. It is found in
+/// the time that reading the definitions takes.
+pub fn order_of(alloc: Global, program: &Program) -> Result<Order, AllocError>
     requires valid { IsValid (program_of program.now) }
-    ensures { IfOk result (λ order. AreAllDefined (program_of program.now) (map (λ p. p.0) order.items)) }
+    ensures { IfOk result (λ order. AreAllDefined (program_of program.now) (map (λ p. p.0) order)) }
 {
+    let likely = likely_order(alloc, program)?;
     let adding = adding(alloc);
     let applied = Application {
         program,
@@ -43,24 +46,27 @@ fn all_definitions(alloc: Global, program: &Program) -> Result<Vec<PredId>, Allo
         mode: Mode::Recompute,
         picks: &Assignment::new(),
     };
-    changed_definitions(alloc, &applied)
+    let order = changed_definitions(alloc, &applied, likely.as_slice())?;
+    Ok(Order::from_vec(order))
 }
 
 /// Gives each predicate of `t` that has a definition the values of the definition in the structure that comes
-/// of it. All else stays. Where there is no memory, `t` may be in between.
+/// of it, by an order of the definitions that `order_of` gives. All else stays. Where there is no memory, `t`
+/// may be in between.
 pub fn redefine(
     alloc: Global,
     program: &Program,
+    order: &Order,
     t: &mut Structure,
     scratch: &mut Scratch,
 ) -> Result<(), AllocError>
     requires valid { IsValid (program_of program.now) }
+    requires order { AreAllDefined (program_of program.now) (map (λ p. p.0) order.now) }
     requires over { IsOver program.now.vocab t.old }
     requires scratch { IsMadeFor (program_of program.now) 256 scratch.old }
     ensures redefined { OnOk result (IsRedefined (program_of program.now) t.old t.new) }
     ensures scratch { scratch.new ≡ scratch.old }
 {
-    let order = all_definitions(alloc, program)?;
     let mut rows = Rows::new(alloc, t.size());
     define_all(program, order.as_slice(), t, &mut rows, scratch)
 }

@@ -5,14 +5,16 @@
 mod application;
 mod define;
 mod definitions;
+mod draft;
 mod kept;
 mod new;
+mod order;
 mod plan;
 mod prepare;
 mod rows;
 mod stage;
 mod updates;
 
-pub use definitions::redefine;
-pub use plan::{Plan, plan_for};
+pub use definitions::{order_of, redefine};
+pub use plan::{Order, Plan, plan_for};
 pub use stage::{update, update_by_plan, update_middle};

@@ -1,77 +1,27 @@
 //! Which defined predicates an action changes, in an order in which they can be evaluated.
 
-ghost use Rattle.std.specs.Prelude.{ℕ, ◌≡◌, ◌↔◌, ◌⊎◌, ◌<◌, ◌≤◌, ◌++◌, [], ◌∷◌, length, map, IsTrue, IfOk};
-ghost use Rattle.std.specs.Prelude.{OnOk, IfSome, IfNone, if◌then◌else◌};
-ghost use Rattle.tv_model.specs.Form.{form_of, Mentions};
+ghost use Rattle.std.specs.Prelude.{ℕ, ◌≡◌, ◌↔◌, ◌<◌, false, length, IsTrue, IfOk};
 ghost use Rattle.tv_model.specs.Program.{program_of, action_of};
 ghost use Rattle.tv_model.specs.Valid.{IsValid, IsAction};
 ghost use Rattle.tv_update_laws.specs.Applied.{kind_at};
 ghost use Rattle.tv_update.specs.Applying.{IsPlanOf};
-ghost use Rattle.tv_update.specs.Plan.{IsPlanFor, is_set, RestsOn, IsDefined, moves_individuals, AreUpdated};
-ghost use Rattle.tv_update.specs.Plan.{AreWaiting};
+ghost use Rattle.tv_update.specs.Plan.{IsPlanFor, is_set, IsDefined, AreUpdated, AreWaiting};
+ghost use Rattle.tv_update.specs.Plan.{moves_individuals};
 ghost use Rattle.tv_update.specs.Update.{action_at};
 
 use crate::application::Application;
+use crate::draft::{Draft, moves, settle_hinted, settle_rest};
 use crate::updates::counts;
 use std::alloc::{AllocError, Global};
 use tv_eval::Assignment;
-use tv_model::{Action, Formula, Items, Kind, Mode, PredId, Program};
+use tv_model::{Action, Items, Kind, Mode, PredId, Program};
+
+/// The defined predicates of a program, each behind those that its definition rests on.
+pub type Order = Items<PredId>;
 
 /// The predicates whose definitions an action evaluates anew, in an order in which they can be: each
 /// rests on none behind it.
 pub type Plan = Items<PredId>;
-
-/// Whether the flag of the predicate is set.
-fn is_set(flags: &[bool], p: PredId) -> bool
-    ensures { result ≡ is_set flags.now p.0 }
-{
-    flags.get(p.0 as usize).copied().unwrap_or(false)
-}
-
-/// Whether an atom of the formula has a predicate whose flag is set.
-fn mentions_set(f: &Formula, flags: &[bool]) -> bool
-    ensures { IsTrue result ↔ ((r : ℕ) × Mentions r (form_of f.now) × IsTrue (is_set flags.now r)) }
-{
-    match f {
-        Formula::Zero | Formula::One | Formula::IsNew(_) | Formula::Same(_, _) => false,
-        Formula::Atom(p, _) => is_set(flags, *p),
-        Formula::Not(g) | Formula::Exists(_, g) | Formula::Forall(_, g) => mentions_set(g, flags),
-        Formula::And(g, h) | Formula::Or(g, h) | Formula::Iff(g, h) => {
-            mentions_set(g, flags) || mentions_set(h, flags)
-        }
-        Formula::Cond(c, g, h) => {
-            mentions_set(c, flags) || mentions_set(g, flags) || mentions_set(h, flags)
-        }
-        Formula::Closure { body, .. } => mentions_set(body, flags),
-    }
-}
-
-/// Whether the predicate has a definition that mentions one whose flag is set.
-fn rests_on(program: &Program, p: usize, flags: &[bool]) -> bool
-    requires { p < length program.now.vocab.preds }
-    ensures { IsTrue result ↔ RestsOn flags.now (kind_at (program_of program.now) p) }
-{
-    match &program.vocab.preds.as_slice()[p].kind {
-        Kind::Core => false,
-        Kind::Defined { body, .. } => mentions_set(body, flags),
-    }
-}
-
-/// The first waiting predicate whose definition rests on no waiting one.
-fn ready(program: &Program, waiting: &[bool]) -> Option<usize>
-    requires { length waiting.now ≡ length program.now.vocab.preds }
-    ensures some { IfSome result (λ p. (p < length waiting.now) × IsTrue (is_set waiting.now p)
-        × (¬ RestsOn waiting.now (kind_at (program_of program.now) p))) }
-    ensures none { IfNone result ((p : ℕ) → IsTrue (is_set waiting.now p)
-        → RestsOn waiting.now (kind_at (program_of program.now) p)) }
-{
-    for p in 0..waiting.len() {
-        if waiting[p] && !rests_on(program, p, waiting) {
-            return Some(p);
-        }
-    }
-    None
-}
 
 /// The flags of the predicates with an update that counts.
 fn updated_flags(alloc: Global, applied: &Application) -> Result<Vec<bool>, AllocError>
@@ -110,63 +60,64 @@ fn waiting_flags(
     Ok(flags)
 }
 
-/// Puts the predicate behind the others if the flag is set.
-fn push_if(order: &mut Vec<PredId>, p: PredId, on: bool) -> Result<(), AllocError>
-    ensures { OnOk result (order.new.items ≡ order.old.items ++ (if on then p ∷ [] else [])) }
+/// Whether none of the flags is set.
+fn are_clear(flags: &[bool]) -> bool
+    ensures { IsTrue result → (q : ℕ) → is_set flags.now q ≡ false }
 {
-    if on {
-        order.push(p)?;
-        return Ok(());
+    for flag in flags {
+        if *flag {
+            return false;
+        }
     }
-    Ok(())
+    true
 }
 
-/// Whether the action adds individuals or drops some.
-fn moves(action: &Action) -> bool
-    ensures { result ≡ moves_individuals (action_of action.now) }
+/// Whether no individual comes or goes, and none of the flags is set.
+fn changes_nothing(action: &Action, changed: &[bool]) -> bool
+    ensures stays { IsTrue result → moves_individuals (action_of action.now) ≡ false }
+    ensures clear { IsTrue result → (q : ℕ) → is_set changed.now q ≡ false }
 {
-    action.fresh || action.retain.is_some()
-}
-
-/// Whether a predicate without an update that counts is changed: where individuals may come or go,
-/// or where its definition rests on a changed one.
-fn is_changed(program: &Program, p: usize, moves: bool, changed: &[bool]) -> bool
-    requires { p < length program.now.vocab.preds }
-    ensures { IsTrue result
-        ↔ (IsTrue moves ⊎ RestsOn changed.now (kind_at (program_of program.now) p)) }
-{
-    moves || rests_on(program, p, changed)
+    !moves(action) && are_clear(changed)
 }
 
 /// The predicates whose definitions are evaluated anew, in an order in which they can be: each
 /// rests on none behind it. They are those without an update that counts whose definition mentions
-/// a changed predicate, or all, where individuals may come or go.
-pub fn changed_definitions(alloc: Global, applied: &Application) -> Result<Vec<PredId>, AllocError>
+/// a changed predicate, or all, where individuals may come or go. They are looked for in the order of the
+/// hint, and then in any.
+pub fn changed_definitions(
+    alloc: Global,
+    applied: &Application,
+    hint: &[PredId],
+) -> Result<Vec<PredId>, AllocError>
     requires valid { IsValid (program_of applied.now.program.now) }
     requires action { IsAction (program_of applied.now.program.now)
         (action_of applied.now.action.now) }
     ensures { IfOk result (λ order. IsPlanOf applied.now order.items) }
 {
-    let program = applied.program;
-    let moves = moves(applied.action);
-    let mut changed = updated_flags(alloc, applied)?;
-    let mut waiting = waiting_flags(alloc, program, changed.as_slice())?;
-    let mut order = Vec::new(alloc);
-    while let Some(p) = ready(program, waiting.as_slice()) {
-        let on = is_changed(program, p, moves, changed.as_slice());
-        waiting[p] = false;
-        changed[p] = on;
-        push_if(&mut order, PredId(p as u32), on)?;
+    let changed = updated_flags(alloc, applied)?;
+    if changes_nothing(applied.action, changed.as_slice()) {
+        return Ok(Vec::new(alloc));
     }
-    Ok(order)
+    let waiting = waiting_flags(alloc, applied.program, changed.as_slice())?;
+    let mut draft = Draft {
+        waiting,
+        changed,
+        plan: Vec::new(alloc),
+    };
+    settle_hinted(applied, hint, &mut draft)?;
+    settle_rest(applied, &mut draft)?;
+    let Draft { plan, .. } = draft;
+    Ok(plan)
 }
 
 /// The plan of an action of the program in a mode, for any structure and any individuals that are picked:
 /// those without an update that counts whose definition mentions a changed predicate, or all, where
-/// individuals may come or go.
+/// individuals may come or go. By an order of the program's definitions, of which no clause speaks, it takes
+/// no longer than reading these.
 pub fn plan_for(
     alloc: Global,
     program: &Program,
+    order: &Order,
     action: u32,
     mode: Mode,
 ) -> Result<Plan, AllocError>
@@ -180,6 +131,6 @@ pub fn plan_for(
         mode,
         picks: &Assignment::new(),
     };
-    let order = changed_definitions(alloc, &applied)?;
-    Ok(Plan::from_vec(order))
+    let plan = changed_definitions(alloc, &applied, order.as_slice())?;
+    Ok(Plan::from_vec(plan))
 }

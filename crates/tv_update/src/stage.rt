@@ -18,9 +18,10 @@ ghost use Rattle.tv_update.specs.Update.{IsFull, IsGivenOf};
 ghost use Rattle.tv_update.specs.Updated.{IsPrepareCause, keep_values};
 
 use crate::application::Application;
+use crate::definitions::order_of;
 use crate::kept::{Staying, choices};
 use crate::new::{Recipe, new_structures, whole_structure};
-use crate::plan::{Plan, plan_for};
+use crate::plan::{Order, Plan, plan_for};
 use crate::prepare::{Prepared, prepare};
 use std::alloc::{AllocError, Global};
 use tv_eval::{Assignment, Evaluator, Scratch};
@@ -240,7 +241,8 @@ pub fn update(
         (action_at program.now action) s.now (assignment_of picks.now)) }
     ensures scratch { scratch.new ≡ scratch.old }
 {
-    let plan = plan_for(alloc, program, action, mode)?;
+    let order = order_of(alloc, program)?;
+    let plan = plan_for(alloc, program, &order, action, mode)?;
     update_by_plan(alloc, program, action, mode, &plan, s, picks, scratch)
 }
 
@@ -292,6 +294,7 @@ pub fn update_by_plan(
 pub fn update_middle(
     alloc: Global,
     program: &Program,
+    order: &Order,
     action: u32,
     mode: Mode,
     middle: &Structure,
@@ -310,7 +313,7 @@ pub fn update_middle(
     ensures scratch { scratch.new ≡ scratch.old }
 {
     let _ = middle.size();
-    let plan = plan_for(alloc, program, action, mode)?;
+    let plan = plan_for(alloc, program, order, action, mode)?;
     let applied = Application {
         program,
         action: &program.actions.as_slice()[action as usize],

@@ -14,7 +14,7 @@ returns-then-edge-node-clause-halt c = (
 
 pub make_turn-requires : goal.make_turn-requires
 make_turn-requires c = record {
-  ready = ready-for _ c.args.s.now c.args.step.now c.args.scratch.now c.requires.valid c.size.ensures.kept c.requires.two_valued c.requires.over
+  ready = ready-for _ c.args.s.now c.args.step.now c.args.scratch.now c.requires.valid c.requires.order c.size.ensures.kept c.requires.two_valued c.requires.over
       c.requires.unmarked c.requires.step.1 c.requires.scratch
       (edge-at c.args.program.now.edges c.as_slice.result.now c.args.step.now.edge (record { from = 0; action = 0; to = 0 }) c.as_slice.ensures
       c.requires.step.0)
@@ -24,7 +24,7 @@ make_turn-requires c = record {
 pub returns-clause-moved : goal.returns-clause-moved
 returns-clause-moved c =
     moved-if _ c.args.s.now c.args.step.now c.args.scratch.now c.args.node
-    (ready-for _ c.args.s.now c.args.step.now c.args.scratch.now c.requires.valid c.size.ensures.kept c.requires.two_valued c.requires.over
+    (ready-for _ c.args.s.now c.args.step.now c.args.scratch.now c.requires.valid c.requires.order c.size.ensures.kept c.requires.two_valued c.requires.over
     c.requires.unmarked c.requires.step.1 c.requires.scratch
     (edge-at c.args.program.now.edges c.as_slice.result.now c.args.step.now.edge (record { from = 0; action = 0; to = 0 }) c.as_slice.ensures
     c.requires.step.0)
@@ -36,7 +36,7 @@ returns-clause-moved c =
 pub returns-clause-halt : goal.returns-clause-halt
 returns-clause-halt c =
     halts-if _ c.args.s.now c.args.step.now c.args.scratch.now c.args.node
-    (ready-for _ c.args.s.now c.args.step.now c.args.scratch.now c.requires.valid c.size.ensures.kept c.requires.two_valued c.requires.over
+    (ready-for _ c.args.s.now c.args.step.now c.args.scratch.now c.requires.valid c.requires.order c.size.ensures.kept c.requires.two_valued c.requires.over
     c.requires.unmarked c.requires.step.1 c.requires.scratch
     (edge-at c.args.program.now.edges c.as_slice.result.now c.args.step.now.edge (record { from = 0; action = 0; to = 0 }) c.as_slice.ensures
     c.requires.step.0)

@@ -19,4 +19,4 @@ returns c =
     (action_is c.args.program.now c.as_slice.result.now c.args.action c.index-as_slice-action.result
     c.as_slice.ensures c.requires.action c.index-as_slice-action.is)
     (subst (IsPlanFor (program_of c.args.program.now) c.args.mode (action_of c.index-as_slice-action.result))
-    (sym c.from_vec.ensures) c.in_ok-order.ensures)
+    (sym c.from_vec.ensures) c.in_ok-plan.ensures)
