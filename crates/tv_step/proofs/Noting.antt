@@ -1,10 +1,12 @@
 -- Sets of rules that wait after an update.
-use Rattle.std.proofs.Common.{ℕ, ◌≡◌, ◌∙◌, ◌<◌, ◌≤◌, ◌+◌, ◌⊎◌, false, Bool, List, [], ◌∷◌, length, map, ◌++◌}
+use Rattle.std.proofs.Common.{ℕ, ◌≡◌, ◌∙◌, ◌<◌, ◌≤◌, ◌+◌, ◌⊎◌, true, false, Bool, List, [], ◌∷◌, length, map}
+use Rattle.std.proofs.Common.{◌++◌}
 use Rattle.std.proofs.Common.{take, inl, inr, ⊎_elim, refl, ap, subst, arith, add-one, get_or, slice_get}
-use Rattle.std.proofs.Common.{Some, All, Contains}
+use Rattle.std.proofs.Common.{Some, All, Contains, replicate}
 use Rattle.std.specs.Prelude.{IsTrue}
 use Rattle.std.proofs.lemmas.Bool.{cases_lt}
-use Rattle.std.proofs.lemmas.List.{length-map, map-append}
+use Rattle.std.proofs.lemmas.List.{get_or-replicate, length-map, length-replicate, map-append}
+use Rattle.std.proofs.lemmas.Option.{slice_get_within}
 use Rattle.std.proofs.Math.Seq.{take-suc}
 use Rattle.std.proofs.lemmas.List.Elements.{All-contains}
 use Rattle.tv_model.specs.declared.formula.Formula.{Formula}
@@ -18,7 +20,7 @@ use Rattle.tv_rules.specs.Standing.{StandsIn, SeesSummaries}
 use Rattle.tv_update_laws.specs.Applied.{kind_or_core, kind_at}
 use Rattle.tv_coerce.specs.RuleSets.{IsIn, HasMore, IsRuleThat}
 use Rattle.tv_update.specs.Plan.{IsDefined, moves_individuals}
-use Rattle.tv_step.specs.Waiting.{WaitsAt, WaitsFor, HasRulesOf}
+use Rattle.tv_step.specs.Waiting.{WaitsAfter, WaitsAt, WaitsFor, HasRulesOf}
 use Rattle.tv_step.proofs.Adding.{all-next}
 
 -- no predicate is asked for
@@ -101,21 +103,42 @@ defined-below program n q all defined =
     = defined-within (program_of program) q defined (cases_lt q (length (program_of program).preds))
     in (omega (arith, within, all, length-map program.vocab.preds pred_of), defined)
 
--- what was put into a set leaves the others alone
-pub others-alone : (p : ProgramForm) (action : ActionForm) (rules : List RuleForm)
-    (none defined set : List Bool)
-    → moves_individuals action ≡ false → length none ≡ length rules
-    → HasRulesOf (λ q. IsDefined (kind_at p q)) rules none defined
-    → HasRulesOf (Contains (map (λ w. w.pred) action.updates)) rules defined set → WaitsFor p action rules set
-others-alone p action rules none defined set stays count defines updates = record {
+-- what was put into a set for updates is right after them
+pub waits-after : (p : ProgramForm) (preds : List ℕ) (rules : List RuleForm) (none defined set : List Bool)
+    → length none ≡ length rules → HasRulesOf (λ q. IsDefined (kind_at p q)) rules none defined
+    → HasRulesOf (Contains preds) rules defined set → WaitsAfter p preds rules set
+waits-after p preds rules none defined set count defines updates = record {
   count = updates.count ∙ defines.count ∙ count;
+  core = λ n q rule there out stands. core-undefined (kind_at p q)
+      (λ is. out (updates.more n (defines.standing n q rule there stands is)));
+  kept = λ n q rule there out stands at. out (updates.standing n q rule there stands at);
+}
+
+-- what is right after an action's updates leaves the others alone, where no individual comes or goes
+pub waits-for : (p : ProgramForm) (action : ActionForm) (rules : List RuleForm) (set : List Bool)
+    → moves_individuals action ≡ false → WaitsAfter p (map (λ w. w.pred) action.updates) rules set
+    → WaitsFor p action rules set
+waits-for p action rules set stays after = record {
+  count = after.count;
   alone = λ n rule there out. record {
     stays = stays;
-    core = λ q stands. core-undefined (kind_at p q)
-        (λ is. out (updates.more n (defines.standing n q rule there stands is)));
-    kept = λ q stands at. out (updates.standing n q rule there stands at);
+    core = λ q stands. after.core n q rule there out stands;
+    kept = λ q stands. after.kept n q rule there out stands;
   };
 }
+
+-- all rules wait
+pub all-wait : (p : ProgramForm) (action : ActionForm) (rules : List RuleForm) (set : List Bool)
+    → set ≡ replicate (length rules) true → WaitsFor p action rules set
+all-wait p action rules set same = record {
+  count = ap length same ∙ length-replicate (length rules) true;
+  alone = λ n rule there out. absurd (out (in-all n rule there));
+}
+  where
+    in-all : (n : ℕ) (rule : RuleForm) → slice_get rules n ≡ Some rule → IsIn set n
+    in-all n rule there =
+        ap (λ flags. get_or flags n false) same
+        ∙ get_or-replicate (length rules) n true false (slice_get_within rules n rule there)
 
 -- ---- the rules that wait at focus atoms
 

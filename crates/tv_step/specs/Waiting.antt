@@ -1,12 +1,13 @@
 -- Which rules an action may leave unmet in a structure that was stable.
 use Rattle.std.specs.Prelude.{ℕ, ◌≡◌, ◌<◌, true, false, Bool, List, length, map, replicate, Some, Contains}
-use Rattle.std.specs.Prelude.{slice_get}
+use Rattle.std.specs.Prelude.{slice_get, IfSome}
 use Rattle.tv_model.specs.Form.{Form, Mentions}
 use Rattle.tv_model.specs.Program.{ProgramForm, RuleForm, ActionForm, KCore}
 use Rattle.tv_rules.specs.Standing.{StandsIn, SeesSummaries}
 use Rattle.tv_update_laws.specs.Applied.{kind_at}
 use Rattle.tv_coerce.specs.RuleSets.{IsIn}
 use Rattle.tv_update.specs.Plan.{IsDefined, moves_individuals}
+use Rattle.tv_step.specs.declared.waiting.Known.{Known}
 use Rattle.tv_step.specs.declared.waiting.Shared.{Shared}
 
 -- the action leaves the rule alone: no individual comes or goes, and each predicate that stands in the rule
@@ -30,10 +31,24 @@ pub record HasRulesOf (P : ℕ → Type 0) (rules : List RuleForm) (old new : Li
       → IsIn new n
   pub count : length new ≡ length old
 
--- all rules are in the one, and those in which a defined predicate stands in the other
+-- the predicates that stand in a rule whose number isn't in the set are core, and none of these
+pub record WaitsAfter (p : ProgramForm) (preds : List ℕ) (rules : List RuleForm)
+    (set : List Bool) : Type 0 where
+  pub count : length set ≡ length rules
+  pub core : (n q : ℕ) (rule : RuleForm) → slice_get rules n ≡ Some rule → ¬ IsIn set n → StandsIn q rule
+      → kind_at p q ≡ KCore
+  pub kept : (n q : ℕ) (rule : RuleForm) → slice_get rules n ≡ Some rule → ¬ IsIn set n → StandsIn q rule
+      → ¬ Contains preds q
+
+-- the set is right after updates of these predicates
+abbrev pub IsKnown : ProgramForm → List RuleForm → Known → Type 0
+IsKnown p rules known = WaitsAfter p (map (λ w. w.pred.0) known.updates.now) rules known.set.value
+
+-- all rules are in the first, and those in which a defined predicate stands in the second; the last is right
 pub record IsShared (p : ProgramForm) (rules : List RuleForm) (sets : Shared) : Type 0 where
   pub all : sets.all.value ≡ replicate (length rules) true
   pub defined : HasRulesOf (λ q. IsDefined (kind_at p q)) rules (replicate (length rules) false) sets.defined
+  pub last : IfSome sets.last (IsKnown p rules)
 
 -- each rule whose number isn't in the set doesn't see which individuals are summaries, and is about none of
 -- the predicates below n that the formula mentions

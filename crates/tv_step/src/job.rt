@@ -1,6 +1,6 @@
 //! Actions, made ready for steps.
 
-ghost use Rattle.std.specs.Prelude.{◌≡◌, ◌<◌, ◌^◌, length, slice_get, IfOk, Some};
+ghost use Rattle.std.specs.Prelude.{◌≡◌, ◌<◌, ◌^◌, length, slice_get, IfOk, OnOk, Some};
 ghost use Rattle.tv_model.specs.Program.{action_of, program_of};
 ghost use Rattle.tv_model.specs.Valid.{IsValid};
 ghost use Rattle.tv_rules.specs.Closing.{closed_rules};
@@ -12,7 +12,7 @@ ghost use Rattle.tv_step.specs.Waiting.{IsShared};
 use crate::focus::{Turn, turns};
 use crate::setting::Setting;
 use crate::waiting::{Shared, shared_sets, waiting_after};
-use std::alloc::AllocError;
+use std::alloc::{AllocError, Global};
 use std::rc::Rc;
 use tv_coerce::RuleSet;
 use tv_model::{Action, Edge, Program};
@@ -45,20 +45,22 @@ fn action_at(program: &Program, number: u32) -> &Action
 /// The action of this number, made ready.
 pub fn job_of<'a>(
     x: &Setting<'a, '_>,
-    shared: &Shared,
+    shared: &mut Shared<'a>,
     order: &Order,
     number: u32,
+    is_named: bool,
 ) -> Result<Job<'a>, AllocError>
     requires valid { IsValid (form_in x.now) }
     requires rules { rules_of x.now.closed.now ≡ closed_rules (form_in x.now) }
-    requires shared { IsShared (form_in x.now) (rules_of x.now.closed.now) shared.now }
+    requires shared { IsShared (form_in x.now) (rules_of x.now.closed.now) shared.old }
     requires number { number < length x.now.program.now.actions }
     ensures job { IfOk result (IsJob x.now.program.now x.now.mode) }
     ensures number { IfOk result (λ job. job.number ≡ number) }
+    ensures shared { OnOk result (IsShared (form_in x.now) (rules_of x.now.closed.now) shared.new) }
 {
     let action = action_at(x.program, number);
     let turns = turns(x, action.focus.as_slice())?;
-    let waiting = waiting_after(x, shared, action)?;
+    let waiting = waiting_after(x, shared, action, is_named)?;
     let plan = plan_for(x.alloc, x.program, order, number, x.mode)?;
     Ok(Job {
         action,
@@ -69,6 +71,22 @@ pub fn job_of<'a>(
     })
 }
 
+/// For each action whether an edge names it.
+fn named_flags(alloc: Global, program: &Program) -> Result<Vec<bool>, AllocError> {
+    let mut named = vec![in alloc; false; program.actions.len()]?;
+    for edge in program.edges.as_slice() {
+        if let Some(flag) = named.get_mut(edge.action as usize) {
+            *flag = true;
+        }
+    }
+    Ok(named)
+}
+
+/// Whether the flag of this number is set.
+fn is_set(flags: &[bool], number: usize) -> bool {
+    flags.get(number).copied().unwrap_or(false)
+}
+
 /// All actions of the program, made ready, by their numbers.
 pub fn jobs<'a>(x: &Setting<'a, '_>) -> Result<Vec<Job<'a>>, AllocError>
     requires valid { IsValid (form_in x.now) }
@@ -76,11 +94,19 @@ pub fn jobs<'a>(x: &Setting<'a, '_>) -> Result<Vec<Job<'a>>, AllocError>
     ensures { IfOk result (λ jobs. AreJobs x.now.program.now x.now.mode jobs.items) }
 {
     let count = x.program.actions.len();
-    let shared = shared_sets(x)?;
+    let mut shared = shared_sets(x)?;
     let order = order_of(x.alloc, x.program)?;
+    let named = named_flags(x.alloc, x.program)?;
     let mut jobs = Vec::with_capacity(x.alloc, count)?;
     for number in 0..count {
-        jobs.push(job_of(x, &shared, &order, number.min(MAX_NUMBER) as u32)?)?;
+        let is_named = is_set(named.as_slice(), number);
+        jobs.push(job_of(
+            x,
+            &mut shared,
+            &order,
+            number.min(MAX_NUMBER) as u32,
+            is_named,
+        )?)?;
     }
     Ok(jobs)
 }

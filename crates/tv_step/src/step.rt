@@ -122,7 +122,7 @@ pub fn abstract_step(
     let _ = s.size();
     let start = coerce(alloc, closed, s, scratch)?;
     let order = order_of(alloc, program)?;
-    let shared = shared_sets(&x)?;
-    let job = job_of(&x, &shared, &order, edge_at(program, edge).action)?;
+    let mut shared = shared_sets(&x)?;
+    let job = job_of(&x, &mut shared, &order, edge_at(program, edge).action, true)?;
     step_from(&x, &job, start.as_slice(), scratch)
 }

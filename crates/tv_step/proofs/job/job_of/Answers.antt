@@ -23,7 +23,7 @@ returns-clause-job c =
       places = c.in_ok-turns.ensures.places ∙ ap (λ fs. focus_places (map form_of fs)) c.as_slice.ensures;
       waiting = c.in_ok-turns.ensures.waiting;
       waits = subst (λ rules. WaitsFor p action rules c.in_ok-waiting.waiting.value) c.requires.rules
-          c.in_ok-waiting.ensures;
+          c.in_ok-waiting.ensures.waits;
       plan = subst (λ act. IsPlanFor p x.mode act c.in_ok-plan.plan)
           (same-action x.program.now c.args.number action c.action_at-action.ensures) c.in_ok-plan.ensures;
     }

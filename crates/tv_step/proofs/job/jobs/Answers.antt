@@ -17,4 +17,5 @@ loop-number-preserved c = record {
       (jobs-next c.args.x.now.program.now c.args.x.now.mode c.loop-number.jobs.items c.in_ok-job_of.field-0
       c.loop-number.number c.loop-number.invariant.count c.loop-number.invariant.each
       (c.in_ok-job_of.ensures.number ∙ c.min.ensures) c.in_ok-job_of.ensures.job);
+  shared = c.in_ok-job_of.ensures.shared;
 }

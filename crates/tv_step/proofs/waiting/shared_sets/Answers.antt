@@ -19,4 +19,5 @@ returns c =
       defined = subst
           (λ none. HasRulesOf (λ q. IsDefined (kind_at (form_in c.args.x.now) q)) rules none c.add_defined.new.waiting)
           c.in_ok-defined.ensures c.add_defined.ensures;
+      last = tt;
     }
