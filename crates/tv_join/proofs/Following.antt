@@ -25,7 +25,7 @@ use Rattle.tv_work.specs.Leaving.{LeavesBy}
 use Rattle.tv_work.specs.Reach.{Point, IsStartPoint}
 use Rattle.tv_work.specs.Task.{TaskForm}
 use Rattle.tv_join.specs.Flags.{IsPlain}
-use Rattle.tv_join.specs.Joined.{join_error}
+use Rattle.tv_work.specs.Analysed.{work_error}
 use Rattle.tv_join.specs.Places.{member_place}
 use Rattle.tv_join.specs.Rounds.{point}
 use Rattle.tv_join.specs.State.{IsIn, IsAmongFound, StandsAt, members_at}
@@ -296,7 +296,7 @@ module _ (t : TaskForm) (valid : IsValid t.program) (nodes : List MembersForm) (
 
 -- why a step has no answer
 pub step-fault : (p : ProgramForm) (edge : ℕ) (P : Point → Type 0) (x : Point) → IsAtSource p edge P x → (fault : StageError)
-    → IsStepCause p edge x.structure fault → IsFollowCause p P (join_error fault)
+    → IsStepCause p edge x.structure fault → IsFollowCause p P (work_error fault)
 step-fault p edge P x source splits cause = record { edge = edge; at = x; source = source; budget = cause }
 step-fault p edge P x source individuals cause = record { edge = edge; at = x; source = source; budget = cause }
 step-fault p edge P x source memory cause = tt

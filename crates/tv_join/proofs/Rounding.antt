@@ -34,8 +34,8 @@ use Rattle.tv_join.specs.Stepped.{IsMeetingCause, IsPlaced, IsPlacedFound, IsRou
 use Rattle.tv_join.specs.Task.{round_in}
 use Rattle.tv_join.specs.Values.{values_at}
 use Rattle.tv_join.specs.Weight.{listing_weight, most_structure}
-use Rattle.tv_join.specs.declared.error.JoinError.{JoinError}
-use Rattle.tv_join.specs.declared.error.JoinError.TheVariants.{Structures, Splits, Individuals, Memory}
+use Rattle.tv_work.specs.declared.error.WorkError.{WorkError}
+use Rattle.tv_work.specs.declared.error.WorkError.TheVariants.{Structures, Splits, Individuals, Memory}
 use Rattle.tv_join.specs.declared.joins.Found.{Found}
 use Rattle.tv_join.specs.declared.places.Place.{Place}
 use Rattle.tv_join.proofs.Following.{along-weaker, followed-weaker, in-stands, settled-plain, stands-in}
@@ -469,7 +469,7 @@ meets-weaker p Budget P Q to meets = record {
   budget = meets.budget;
 }
 
-pub follow-cause : (t : TaskForm) (round : ℕ) (j : JoinsForm) → IsAtRound t round j → (e : JoinError)
+pub follow-cause : (t : TaskForm) (round : ℕ) (j : JoinsForm) → IsAtRound t round j → (e : WorkError)
     → IsFollowCause t.program (IsIn j.nodes) e → IsJoinCause t.program t.mode t.initial t.max e
 follow-cause t round j at Structures cause = absurd cause
 follow-cause t round j at Splits cause =
@@ -516,13 +516,13 @@ module _ (t : TaskForm) (old new : JoinsForm) (places : List Place) (taken : pla
   taken-followed g before are =
       subst (λ ws. AreFollowed t old.nodes ws g before) taken (subst (λ ns. AreFollowed t ns places g before) taken-nodes are)
 
-  pub taken-cause : (e : JoinError) → IsFollowCause t.program (IsIn new.nodes) e → IsFollowCause t.program (IsIn old.nodes) e
+  pub taken-cause : (e : WorkError) → IsFollowCause t.program (IsIn new.nodes) e → IsFollowCause t.program (IsIn old.nodes) e
   taken-cause e cause = subst (λ ns. IsFollowCause t.program (IsIn ns) e) taken-nodes cause
 
 pub start-cause : (t : TaskForm) (valid : IsValid t.program) (n : ℕ) (old new : JoinsForm) (found : List Found)
     → old ≡ record { nodes = replicate n no_members; room = Some t.max; changed = []; raised = [] }
     → AreOpenings t t.initial found
-    → (e : JoinError) → IsMeetingCause t old found new e → IsJoinCause t.program t.mode t.initial t.max e
+    → (e : WorkError) → IsMeetingCause t old found new e → IsJoinCause t.program t.mode t.initial t.max e
 start-cause t valid n old new found e are Structures (met, more) = first-cause t valid n old new found e are met more
 start-cause t valid n old new found e are Splits cause = absurd cause
 start-cause t valid n old new found e are Individuals cause = absurd cause
@@ -531,7 +531,7 @@ start-cause t valid n old new found e are Memory cause = tt
 pub on-cause : (t : TaskForm) (valid : IsValid t.program) (old middle new : JoinsForm) (found : List Found)
     (before values : List (List (List K3))) (some : IsAtSomeRound t old before)
     → AreFollowed t old.nodes old.changed (record { found = found; values = values }) before
-    → middle.nodes ≡ old.nodes → (e : JoinError) → IsMeetingCause t middle found new e
+    → middle.nodes ≡ old.nodes → (e : WorkError) → IsMeetingCause t middle found new e
     → IsJoinCause t.program t.mode t.initial t.max e
 on-cause t valid old middle new found before values some are nodes Structures (met, more) =
     round-cause t valid some.round old middle new found before values some.at some.followed are nodes met more

@@ -6,18 +6,14 @@ use Rattle.tv_model.specs.declared.program.Mode.{Mode}
 use Rattle.tv_model.specs.Program.{ProgramForm}
 use Rattle.tv_listing.specs.declared.analysis.MessageLine.{MessageLine}
 use Rattle.tv_struct.specs.Order.{structure_cmp}
-use Rattle.tv_struct.specs.declared.analysis.StageError.{StageError}
-use Rattle.tv_struct.specs.declared.analysis.StageError.TheVariants.{Splits as splits}
-use Rattle.tv_struct.specs.declared.analysis.StageError.TheVariants.{Individuals as individuals}
-use Rattle.tv_struct.specs.declared.analysis.StageError.TheVariants.{Memory as memory}
 use Rattle.tv_struct.specs.StructureForm.{StructureForm}
 use Rattle.tv_step_laws.specs.Budgets.{MeetsSplits, MeetsIndividuals}
 use Rattle.tv_work.specs.Analysed.{IsReported, IsBefore, KeepAllBudgets, Meets}
 use Rattle.tv_work.specs.Reach.{Point, IsListed, AreMoreThan}
 use Rattle.tv_join.specs.Keys.{key_of}
 use Rattle.tv_join.specs.Rounds.{IsInRound, IsLast}
-use Rattle.tv_join.specs.declared.error.JoinError.{JoinError}
-use Rattle.tv_join.specs.declared.error.JoinError.TheVariants.{Structures, Splits, Individuals, Memory}
+use Rattle.tv_work.specs.declared.error.WorkError.{WorkError}
+use Rattle.tv_work.specs.declared.error.WorkError.TheVariants.{Structures, Splits, Individuals, Memory}
 
 -- no two of the structures have one key
 abbrev pub HaveOwnKeys : ProgramForm → List StructureForm → Type 0
@@ -48,15 +44,9 @@ pub record IsJoined (p : ProgramForm) (mode : Mode) (initial : List StructureFor
   pub budgets : (before : ℕ) → before ≤ round → KeepAllBudgets p (IsInRound p mode initial before)
 
 -- what an error says of the rounds
-abbrev pub IsJoinCause : ProgramForm → Mode → (initial : List StructureForm) → (max : ℕ) → JoinError → Type 0
+abbrev pub IsJoinCause : ProgramForm → Mode → (initial : List StructureForm) → (max : ℕ) → WorkError → Type 0
 IsJoinCause p mode initial max Structures = (round : ℕ) × AreMoreThan max (IsInRound p mode initial round)
 IsJoinCause p mode initial max Splits = (round : ℕ) × Meets p (MeetsSplits p) (IsInRound p mode initial round)
 IsJoinCause p mode initial max Individuals =
     (round : ℕ) × Meets p (MeetsIndividuals p) (IsInRound p mode initial round)
 IsJoinCause p mode initial max Memory = Unit {0}
-
--- the fault of a step, as one of the joined analysis
-abbrev pub join_error : StageError → JoinError
-join_error splits = Splits
-join_error individuals = Individuals
-join_error memory = Memory

@@ -28,8 +28,8 @@ use Rattle.tv_join.specs.Values.{values_at}
 use Rattle.tv_join.specs.Weight.{listing_weight}
 use Rattle.tv_join.specs.declared.joins.Found.{Found}
 use Rattle.tv_join.specs.declared.places.Place.{Place}
-use Rattle.tv_join.specs.declared.error.JoinError.{JoinError}
-use Rattle.tv_join.specs.declared.error.JoinError.TheVariants.{Structures, Splits, Individuals, Memory}
+use Rattle.tv_work.specs.declared.error.WorkError.{WorkError}
+use Rattle.tv_work.specs.declared.error.WorkError.TheVariants.{Structures, Splits, Individuals, Memory}
 
 -- ---- what is found
 
@@ -243,14 +243,14 @@ pub record IsRoundOn (t : TaskForm) (old new : JoinsForm) (values : List (List (
 -- ---- causes
 
 -- why a structure's steps have no answer
-abbrev pub IsFollowCause : ProgramForm → (Point → Type 0) → JoinError → Type 0
+abbrev pub IsFollowCause : ProgramForm → (Point → Type 0) → WorkError → Type 0
 IsFollowCause p P Structures = ⊥
 IsFollowCause p P Splits = Meets p (MeetsSplits p) P
 IsFollowCause p P Individuals = Meets p (MeetsIndividuals p) P
 IsFollowCause p P Memory = Unit {0}
 
 -- why what was found isn't all listed
-abbrev pub IsMeetingCause : TaskForm → (old : JoinsForm) → List Found → (new : JoinsForm) → JoinError → Type 0
+abbrev pub IsMeetingCause : TaskForm → (old : JoinsForm) → List Found → (new : JoinsForm) → WorkError → Type 0
 IsMeetingCause t old found new Structures = HaveMet t old found new × (t.max < total_of new.nodes)
 IsMeetingCause t old found new Splits = ⊥
 IsMeetingCause t old found new Individuals = ⊥

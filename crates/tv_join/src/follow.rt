@@ -8,7 +8,6 @@ ghost use Rattle.tv_join.specs.Stepped.{Gathers, IsFollowCause, IsFollowedAlong,
 ghost use Rattle.tv_join.specs.Task.{form_in, task_of, IsReady};
 ghost use Rattle.tv_join.specs.Values.{ChangesAlong};
 
-use crate::JoinError;
 use crate::joins::{Found, Joins};
 use crate::places::{Place, Places};
 use crate::task::Task;
@@ -16,6 +15,7 @@ use crate::values::MessageValues;
 use std::alloc::AllocError;
 use tv_eval::Scratch;
 use tv_struct::{Structure, Structures};
+use tv_work::WorkError;
 
 /// The openings of the initial structures, for the start node.
 pub(crate) fn openings(x: &Task, scratch: &mut Scratch) -> Result<Vec<Found>, AllocError>
@@ -60,7 +60,7 @@ pub(crate) fn follow_all(
     places: Places,
     scratch: &mut Scratch,
     values: &mut MessageValues,
-) -> Result<Vec<Found>, JoinError>
+) -> Result<Vec<Found>, WorkError>
     requires ready { IsReady x.now scratch.old }
     requires kept { IsJoinState (task_of x.now) joins.now }
     requires places { AreIn joins.now.nodes places }
@@ -87,7 +87,7 @@ fn follow(
     scratch: &mut Scratch,
     found: &mut Vec<Found>,
     values: &mut MessageValues,
-) -> Result<(), JoinError>
+) -> Result<(), WorkError>
     requires ready { IsReady x.now scratch.old }
     requires kept { IsJoinState (task_of x.now) joins.now }
     requires place { w.at < length (members_at joins.now.nodes w.node).structures }
@@ -117,7 +117,7 @@ fn follow_edge(
     scratch: &mut Scratch,
     found: &mut Vec<Found>,
     values: &mut MessageValues,
-) -> Result<(), JoinError>
+) -> Result<(), WorkError>
     requires ready { IsReady x.now scratch.old }
     requires kept { IsJoinState (task_of x.now) joins.now }
     requires place { w.at < length (members_at joins.now.nodes w.node).structures }

@@ -11,7 +11,6 @@ ghost use Rattle.tv_join.specs.Flags.{is_counted, key_flags};
 ghost use Rattle.tv_join.specs.Joined.{IsJoined, IsJoinCause};
 ghost use Rattle.tv_join.specs.State.{listing_of};
 
-use crate::JoinError;
 use crate::rounds::{Ended, all_rounds};
 use crate::task::Task;
 use std::alloc::{AllocError, Global};
@@ -20,7 +19,7 @@ use tv_listing::Analysis;
 use tv_model::{Mode, Pred, Program};
 use tv_step::Engine;
 use tv_struct::Structures;
-use tv_work::{analysis_of, leaving_edges};
+use tv_work::{WorkError, analysis_of, leaving_edges};
 
 /// For each predicate whether it counts for keys: it is nullary, or individuals are told apart by it.
 fn key_flags(alloc: Global, program: &Program) -> Result<Vec<bool>, AllocError>
@@ -62,7 +61,7 @@ pub fn analyse_joined(
     initial: &Structures,
     mode: Mode,
     max: u64,
-) -> Result<Analysis, JoinError>
+) -> Result<Analysis, WorkError>
     requires valid { IsValid (program_of program.now) }
     requires initial { All (IsOver program.now.vocab) initial.now }
     ensures exact { IfOk result (λ a. IsJoined (program_of program.now) mode initial.now max a.listing

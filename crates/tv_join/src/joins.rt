@@ -11,7 +11,6 @@ ghost use Rattle.tv_join.specs.State.{NotesRaised, IsPut, IsMet, IsJoinState, St
 ghost use Rattle.tv_join.specs.Stepped.{IsPlacedFound, HaveMet, IsMeetingCause};
 ghost use Rattle.tv_join.specs.Task.{task_of, form_in};
 
-use crate::JoinError;
 use crate::members::{Members, Put};
 use crate::places::{Place, Places};
 use crate::task::Task;
@@ -20,6 +19,7 @@ use std::marker::Model;
 use std::mem;
 use tv_listing::Listing;
 use tv_struct::Structure;
+use tv_work::WorkError;
 
 /// A structure that was found for a node.
 #[derive(Debug, Drop)]
@@ -88,7 +88,7 @@ impl Joins {
 
     /// Joins what was found into what is listed, where nothing has changed, and notes the places of what
     /// changes. `Structures` where too many are then listed.
-    pub fn meet_all(&mut self, x: &Task, found: Vec<Found>) -> Result<(), JoinError>
+    pub fn meet_all(&mut self, x: &Task, found: Vec<Found>) -> Result<(), WorkError>
         requires flags { x.now.counted.now ≡ key_flags (form_in x.now) }
         requires kept { IsJoinState (task_of x.now) self.old }
         requires none { self.old.changed ≡ [] }
@@ -101,7 +101,7 @@ impl Joins {
             self.meet(x, f)?;
         }
         if self.is_over() {
-            return Err(JoinError::Structures);
+            return Err(WorkError::Structures);
         }
         Ok(())
     }

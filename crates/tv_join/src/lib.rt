@@ -2,7 +2,6 @@
 //! nullary values, so that programs whose exact listing is too large can still be answered.
 #![tactic(auto)]
 
-mod error;
 mod follow;
 mod joined;
 mod joins;
@@ -16,6 +15,5 @@ mod task;
 mod telling;
 mod values;
 
-pub use error::JoinError;
 pub use joined::analyse_joined;
 pub use laws::joined_analyses_are_one;

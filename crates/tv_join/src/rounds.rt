@@ -6,14 +6,13 @@ ghost use Rattle.tv_join.specs.Joined.{IsJoinCause};
 ghost use Rattle.tv_join.specs.Stepped.{IsAtSomeRound, IsAtLastRound, IsRoundOn};
 ghost use Rattle.tv_join.specs.Task.{form_in, task_of, IsReady};
 
-use crate::JoinError;
 use crate::follow::{follow_all, openings};
 use crate::joins::Joins;
 use crate::task::Task;
 use crate::telling::tell_all;
 use crate::values::MessageValues;
 use tv_eval::Scratch;
-use tv_work::Told;
+use tv_work::{Told, WorkError};
 
 /// What the last round lists, and the values of its messages.
 #[derive(Drop)]
@@ -23,7 +22,7 @@ pub(crate) struct Ended {
 }
 
 /// What the first round lists; none of it was followed.
-fn start(x: &Task, scratch: &mut Scratch) -> Result<Joins, JoinError>
+fn start(x: &Task, scratch: &mut Scratch) -> Result<Joins, WorkError>
     requires { IsReady x.now scratch.old }
     ensures at { IfOk result (λ joins. (values : List (List (List K3)))
         → IsAtSomeRound (task_of x.now) joins values) }
@@ -43,7 +42,7 @@ fn round(
     scratch: &mut Scratch,
     joins: &mut Joins,
     values: &mut MessageValues,
-) -> Result<(), JoinError>
+) -> Result<(), WorkError>
     requires ready { IsReady x.now scratch.old }
     requires edges { length values.old ≡ length x.now.program.now.edges }
     requires at { IsAtSomeRound (task_of x.now) joins.old values.old }
@@ -60,7 +59,7 @@ fn round(
 
 /// Goes on while anything changes. Each such round lists more, or structures that say less, and of both there
 /// is an end.
-pub(crate) fn all_rounds(x: &Task, scratch: &mut Scratch) -> Result<Ended, JoinError>
+pub(crate) fn all_rounds(x: &Task, scratch: &mut Scratch) -> Result<Ended, WorkError>
     requires { IsReady x.now scratch.old }
     ensures last { IfOk result (λ ended. IsAtLastRound (task_of x.now) ended.joins ended.told) }
     ensures cause { IfErr result (IsJoinCause (form_in x.now) x.now.mode x.now.initial.now x.now.max) }

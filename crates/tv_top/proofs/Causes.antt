@@ -3,8 +3,6 @@ use Rattle.std.proofs.Common.{◌≡◌, ◌≤◌, ℕ, Bool, true, false, List
 use Rattle.std.proofs.Common.{refl, sym, subst, arith}
 use Rattle.std.specs.Prelude.{IfOk, IfErr}
 use Rattle.tv_join.specs.Joined.{IsJoinCause}
-use Rattle.tv_join.specs.declared.error.JoinError.{JoinError}
-use Rattle.tv_join.specs.declared.error.JoinError.TheVariants as join
 use Rattle.tv_judge.specs.Judged.{IsJudgeCause, StopsAt, IsRejection}
 use Rattle.tv_listing.specs.declared.analysis.Analysis.{Analysis}
 use Rattle.tv_model.specs.Program.{ProgramForm, program_of}
@@ -27,7 +25,7 @@ use Rattle.tv_top.specs.Answers.{Reached, InRound, case_for, max_of, HasMoreThan
 use Rattle.tv_top.specs.Answers.{IsAccepted, IsAcceptedText, IsRejected, RunMeans, IsReplayed}
 use Rattle.tv_top.specs.Call.{IsCause, IsCommandCause}
 use Rattle.tv_top.specs.Delivery.{SaidOf}
-use Rattle.tv_top.specs.Faults.{fault_of_work, fault_of_join, fault_of_stage, fault_of_text}
+use Rattle.tv_top.specs.Faults.{fault_of_work, fault_of_stage, fault_of_text}
 use Rattle.tv_top.specs.Meaning.{Task, FilesMean, IsTakenProgram, GivesProgram, GivesInitial, GivesReport}
 use Rattle.tv_top.specs.Meaning.{LacksInitial, LacksProgram, LacksLater, IsRefused}
 use Rattle.tv_top.specs.Work.{Comes, Lacks, Names, role_of, IsSearchCause, IsJoinSearchCause, IsJudged}
@@ -227,12 +225,12 @@ work_fault task max work.Splits h = h
 work_fault task max work.Individuals h = h
 work_fault task max work.Memory h = tt
 
-pub join_fault : (task : Task) (max : ℕ) (e : JoinError)
-    → IsJoinCause (program_of task.program) task.mode task.initial max e → IsJoinSearchCause task max (fault_of_join max e)
-join_fault task max join.Structures h = (refl, h)
-join_fault task max join.Splits h = h
-join_fault task max join.Individuals h = h
-join_fault task max join.Memory h = tt
+pub join_fault : (task : Task) (max : ℕ) (e : WorkError)
+    → IsJoinCause (program_of task.program) task.mode task.initial max e → IsJoinSearchCause task max (fault_of_work max e)
+join_fault task max work.Structures h = (refl, h)
+join_fault task max work.Splits h = h
+join_fault task max work.Individuals h = h
+join_fault task max work.Memory h = tt
 
 pub stage_fault : (task : Task) (report : Analysis) (e : StageError) → IsJudgeCause (case_for task report) e
     → IsJudgementCause task report (fault_of_stage e)

@@ -1,7 +1,5 @@
 -- The faults of the layers below, as those of a call.
 use Rattle.std.specs.Prelude.{ℕ}
-use Rattle.tv_join.specs.declared.error.JoinError.{JoinError}
-use Rattle.tv_join.specs.declared.error.JoinError.TheVariants as join
 use Rattle.tv_struct.specs.declared.analysis.StageError.{StageError}
 use Rattle.tv_struct.specs.declared.analysis.StageError.TheVariants as stage
 use Rattle.tv_texts.specs.declared.fault.TextFault.{TextFault}
@@ -12,19 +10,12 @@ use Rattle.tv_top.specs.declared.fault.Fault.TheVariants.{TooManyIndividuals, Re
 use Rattle.tv_work.specs.declared.error.WorkError.{WorkError}
 use Rattle.tv_work.specs.declared.error.WorkError.TheVariants as work
 
--- the fault of an analysis
+-- the fault of an analysis, joined or not
 abbrev pub fault_of_work : (max : ℕ) → WorkError → Fault
 fault_of_work max work.Structures = Structures max
 fault_of_work max work.Splits = TooManySplits
 fault_of_work max work.Individuals = TooManyIndividuals
 fault_of_work max work.Memory = Memory
-
--- the fault of a joined analysis
-abbrev pub fault_of_join : (max : ℕ) → JoinError → Fault
-fault_of_join max join.Structures = Structures max
-fault_of_join max join.Splits = TooManySplits
-fault_of_join max join.Individuals = TooManyIndividuals
-fault_of_join max join.Memory = Memory
 
 -- the fault of a judgement
 abbrev pub fault_of_stage : StageError → Fault

@@ -17,7 +17,7 @@ ghost use Rattle.tv_two_valued.specs.TwoValued.{IsTwoValued};
 ghost use Rattle.tv_top.specs.Work.{AreReadyInputs, IsReplayAnswer, IsSearchCause, IsJoinSearchCause};
 ghost use Rattle.tv_top.specs.Work.{IsJudged, IsJudgementCause, task_of};
 
-use crate::fault::{Answer, Fault, fault_of_join, fault_of_work};
+use crate::fault::{Answer, Fault, fault_of_work};
 use crate::inputs::Inputs;
 use std::alloc::{AllocError, Global};
 use tv_join::analyse_joined;
@@ -60,7 +60,7 @@ pub fn search_joined(
 {
     match analyse_joined(alloc, &inputs.program, &inputs.initial, mode, max) {
         Ok(found) => Ok(found),
-        Err(error) => Err(fault_of_join(error, max)),
+        Err(error) => Err(fault_of_work(error, max)),
     }
 }
 

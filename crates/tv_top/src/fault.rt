@@ -2,11 +2,10 @@
 
 ghost use Rattle.std.specs.Prelude.{◌≡◌};
 ghost use Rattle.tv_top.specs.Delivery.{status_of};
-ghost use Rattle.tv_top.specs.Faults.{fault_of_work, fault_of_join, fault_of_stage, fault_of_text};
+ghost use Rattle.tv_top.specs.Faults.{fault_of_work, fault_of_stage, fault_of_text};
 ghost use Rattle.tv_top.specs.declared.fault.Fault.TheVariants.{Memory};
 
 use std::alloc::AllocError;
-use tv_join::JoinError;
 use tv_listing::Rejection;
 use tv_replay_laws::Why;
 use tv_status::{FileKind, Role, Status};
@@ -68,7 +67,7 @@ impl From<AllocError> for Fault {
     }
 }
 
-/// The fault of an analysis that may list so many structures.
+/// The fault of an analysis, joined or not, that may list so many structures.
 pub fn fault_of_work(error: WorkError, max: u64) -> Fault
     ensures { result ≡ fault_of_work max error }
 {
@@ -77,18 +76,6 @@ pub fn fault_of_work(error: WorkError, max: u64) -> Fault
         WorkError::Splits => Fault::TooManySplits,
         WorkError::Individuals => Fault::TooManyIndividuals,
         WorkError::Memory => Fault::Memory,
-    }
-}
-
-/// The fault of a joined analysis that may list so many structures.
-pub fn fault_of_join(error: JoinError, max: u64) -> Fault
-    ensures { result ≡ fault_of_join max error }
-{
-    match error {
-        JoinError::Structures => Fault::Structures(max),
-        JoinError::Splits => Fault::TooManySplits,
-        JoinError::Individuals => Fault::TooManyIndividuals,
-        JoinError::Memory => Fault::Memory,
     }
 }
 

@@ -1,4 +1,4 @@
-//! Why an analysis has no answer.
+//! Why an analysis, joined or not, has no answer.
 
 ghost use Rattle.std.specs.Prelude.{◌≡◌};
 ghost use Rattle.tv_work.specs.declared.error.WorkError.TheVariants.{Memory};
@@ -7,16 +7,16 @@ use std::alloc::{AllocError, AllocFailed};
 use thiserror::Error;
 use tv_struct::StageError;
 
-/// Why an analysis gave no answer.
+/// Why an analysis gave no answer, one that lists all that is reached or a joined one, of which a round counts.
 #[derive(Clone, Copy, Debug, PartialEq, Eq, Error)]
 pub enum WorkError {
-    /// More structures are reached than were allowed.
-    #[error("more structures are reached than were allowed")]
+    /// More structures are reached, or listed by a round, than were allowed.
+    #[error("more structures are listed than were allowed")]
     Structures,
-    /// The step of a reached structure has a stage of over 4,096 choices.
+    /// The step of such a structure has a stage of over 4,096 choices.
     #[error("over 4,096 choices at one stage")]
     Splits,
-    /// The step of a reached structure makes one of over 256 individuals.
+    /// The step of such a structure makes one of over 256 individuals.
     #[error("over 256 individuals in one structure")]
     Individuals,
     /// There isn't enough memory.

@@ -19,4 +19,4 @@ returns-in-Ok-clause-found c = record {
 
 pub returns-in-Err-clause-cause : goal.returns-in-Err-clause-cause
 returns-in-Err-clause-cause c =
-    rw c.fault_of_join.ensures (join_fault (task_of c.args.inputs.now c.args.mode) c.args.max c.in-Err.error c.in-Err.ensures.cause)
+    rw c.fault_of_work.ensures (join_fault (task_of c.args.inputs.now c.args.mode) c.args.max c.in-Err.error c.in-Err.ensures.cause)
