@@ -1,48 +1,30 @@
 //! The program `tvla`: the analyzer over real files, standard output and standard error.
 #![tactic(auto)]
 
+mod call;
 mod real_files;
 mod real_sink;
 
+use call::{Streams, called};
 use real_files::RealFiles;
 use real_sink::RealSink;
-use std::io::ErrorKind;
+use std::env;
+use std::io::{Stderr, Stdout};
 use std::process::ExitCode;
-use std::rt::Env;
-use std::{env, io};
-use tv_outside::Sink;
-use tv_status::{Status, write_status};
-use tv_top::tvla;
 
 fn main(rt: HostRuntime) -> ExitCode {
-    let mut err = RealSink::new(rt.stderr());
-    let words = match words_behind_the_name(&rt) {
-        Ok(words) => words,
-        Err(error) if error.kind() == ErrorKind::OutOfMemory => {
-            return ExitCode::from(without_memory(&mut err).code());
-        }
-        // Words that can't be told as text spell no command.
-        Err(_) => Vec::new(rt.alloc()),
-    };
-    let mut files = RealFiles::new(&rt);
-    let mut out = RealSink::new(rt.stdout());
-    let status = tvla(rt.alloc(), &words, &mut files, &mut out, &mut err);
-    ExitCode::from(status.code())
+    called(
+        rt.alloc(),
+        env::args(&rt),
+        &mut RealFiles::new(&rt),
+        &mut standard(&rt),
+    )
 }
 
-/// Tells that there is no memory, not even for the words.
-fn without_memory<E: Sink>(err: &mut E) -> Status {
-    match write_status(err, Status::Memory) {
-        Ok(()) => Status::Memory,
-        Err(_) => Status::WriteFault,
+/// Standard output and standard error, each of a type of its own.
+fn standard(rt: &HostRuntime) -> Streams<RealSink<Stdout>, RealSink<Stderr>> {
+    Streams {
+        out: RealSink::new(rt.stdout()),
+        err: RealSink::new(rt.stderr()),
     }
-}
-
-/// The words of the command line behind the program's name.
-fn words_behind_the_name<R: Env + AllocGlobal>(rt: &R) -> io::Result<Vec<String>> {
-    let mut words = Vec::new(rt.alloc());
-    for word in env::args(rt)?.skip(1) {
-        words.push(word)?;
-    }
-    Ok(words)
 }

@@ -1,11 +1,14 @@
 //! Writers of the system, of whose content nothing is told.
-ghost use Rattle.std.specs.Prelude.{◌≡◌, ℕ, ◌<◌, ◌≤◌, None, length, OnOk, OnErr};
+ghost use Rattle.std.specs.Prelude.{◌≡◌, ℕ, ◌<◌, ◌≤◌, None, length, take, IfOk, OnOk, OnErr};
+ghost use Rattle.std.specs.Io.KnownBytes.{Appends};
 ghost use Rattle.tv_outside.specs.Count.{counted, Rose, FailedLast};
+ghost use Rattle.tv_outside.specs.Told.{appended};
 
 use std::io::Write;
 use tv_outside::{Failed, Sink};
 
-/// A sink over a writer, flushed at every `put`. It tells nothing of content.
+/// A sink over a writer, flushed at every `put`. It tells nothing of content, since a writer of the system
+/// doesn't; what a writer takes that tells it is said of each call.
 #[derive(Drop)]
 pub struct RealSink<W> {
     writer: W,
@@ -36,6 +39,7 @@ impl<W: Write> RealSink<W> {
         ensures no_failure { OnOk given (self.new.failures ≡ self.old.failures) }
         ensures since { OnOk given (self.new.since ≡ counted self.old.since 1) }
         ensures failed_last { OnErr given (FailedLast self.old.failures self.new.failures self.new.since) }
+        ensures writer { self.new.writer ≡ self.old.writer }
     {
         match given {
             Ok(_) => self.since = self.since.saturating_add(1),
@@ -52,18 +56,21 @@ impl<W: Write> RealSink<W> {
         ensures rose { Rose self.old.faults self.new.faults }
         ensures failures { self.new.failures ≡ self.old.failures }
         ensures since { self.new.since ≡ self.old.since }
+        ensures writer { self.new.writer ≡ self.old.writer }
     {
         self.faults = self.faults.saturating_add(1);
     }
 
-    /// Gives the writer these bytes until a write fails or takes nothing, and gives the number of those
-    /// taken.
+    /// Gives the writer these bytes until a write fails or takes nothing, after a short write those that
+    /// follow, and gives the number of those taken.
     fn write_front(&mut self, bytes: &[u8]) -> usize
         ensures front { result ≤ length bytes.now }
         ensures count { self.old.faults ≤ self.new.faults }
         ensures stopped { result < length bytes.now → Rose self.old.faults self.new.faults }
         ensures failures { self.new.failures ≡ self.old.failures }
         ensures since { self.new.since ≡ self.old.since }
+        ensures taken { Appends (W.contents self.old.writer) (W.contents self.new.writer)
+            (take result bytes.now) }
     {
         let mut taken = 0;
         while taken < bytes.len() {
@@ -88,7 +95,21 @@ impl<W: Write> Sink for RealSink<W> {
 
     ghost since = { λ s. s.since };
 
-    fn put(&mut self, bytes: &[u8]) -> Result<usize, Failed> {
+    fn put(&mut self, bytes: &[u8]) -> Result<usize, Failed>
+        ensures count { self.old.faults ≤ self.new.faults }
+        ensures failed { OnErr result (Rose self.old.faults self.new.faults) }
+        ensures fits { IfOk result (λ n. n ≤ length bytes.now) }
+        ensures some { IfOk result (λ n. 0 < length bytes.now → 0 < n) }
+        ensures front { IfOk result (λ n. None ≡ appended None (take n bytes.now)) }
+
+        // What the writer takes is what is said to be taken.
+        ensures taken { IfOk result (λ n. Appends (W.contents self.old.writer) (W.contents self.new.writer)
+            (take n bytes.now)) }
+
+        ensures no_failure { OnOk result (self.new.failures ≡ self.old.failures) }
+        ensures since { OnOk result (self.new.since ≡ counted self.old.since 1) }
+        ensures failed_last { OnErr result (FailedLast self.old.failures self.new.failures self.new.since) }
+    {
         let taken = self.write_front(bytes);
         if self.writer.flush().is_err() {
             self.count_fault();
