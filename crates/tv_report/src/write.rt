@@ -20,7 +20,7 @@ use std::alloc::{AllocError, Global};
 use tv_kleene::K3;
 use tv_listing::{Analysis, Item, Listing, MapLine, MessageLine};
 use tv_model::{Program, Vocab};
-use tv_tvs::{append_tvs, write_number, write_numbers};
+use tv_tvs::{StructureWriter, write_number, write_numbers};
 
 fn write_node_line(out: &mut Vec<u8>, name: &[u8], count: usize) -> Result<(), AllocError>
     ensures { OnOk result (out.new.items ≡ out.old.items ++ node_line name.now count) }
@@ -34,7 +34,7 @@ fn write_node_line(out: &mut Vec<u8>, name: &[u8], count: usize) -> Result<(), A
 
 /// Appends the canonical texts of the structures of a node.
 fn write_structures(
-    alloc: Global,
+    writer: &mut StructureWriter,
     out: &mut Vec<u8>,
     vocab: &Vocab,
     listing: &Listing,
@@ -47,13 +47,13 @@ fn write_structures(
         (out.new.items ≡ out.old.items ++ flat_map (canonical_text vocab.now) (at_node listing.now node)) }
 {
     for i in 0..listing.count(node) {
-        append_tvs(alloc, out, vocab, listing.at(node, i))?;
+        writer.append(out, vocab, listing.at(node, i))?;
     }
     Ok(())
 }
 
 fn write_node(
-    alloc: Global,
+    writer: &mut StructureWriter,
     out: &mut Vec<u8>,
     vocab: &Vocab,
     name: &[u8],
@@ -67,7 +67,7 @@ fn write_node(
         (out.new.items ≡ out.old.items ++ node_text vocab.now name.now (at_node listing.now node)) }
 {
     write_node_line(out, name, listing.count(node))?;
-    write_structures(alloc, out, vocab, listing, node)
+    write_structures(writer, out, vocab, listing, node)
 }
 
 /// Appends the nodes by number, each with its structures.
@@ -83,11 +83,12 @@ fn write_nodes(
     ensures { OnOk result
         (out.new.items ≡ out.old.items ++ nodes_text program.now.vocab program.now.nodes listing.now) }
 {
+    let mut writer = StructureWriter::new(alloc)?;
     let names = program.nodes.as_slice();
     for number in 0..names.len() {
         let node = number as u32;
         let name = names[number].as_slice();
-        write_node(alloc, out, &program.vocab, name, listing, node)?;
+        write_node(&mut writer, out, &program.vocab, name, listing, node)?;
     }
     Ok(())
 }

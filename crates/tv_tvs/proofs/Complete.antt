@@ -1,14 +1,12 @@
 -- What the grammar says is read, so that it says one thing at most.
-use Rattle.std.proofs.Common.{◌≡◌, ℕ, zero, suc, ◌+◌, ◌<◌, ◌≤◌, Bool, true, false, cond, List, [], ◌∷◌}
-use Rattle.std.proofs.Common.{length, Option, Some, None, refl, sym, ap, subst, ◌∙◌, inl, inr, arith}
-use Rattle.std.specs.Prelude.{codes, is_some}
-use Rattle.std.specs.Str.{bytes_eq}
+use Rattle.std.proofs.Common.{◌≡◌, ℕ, ◌+◌, ◌<◌, ◌≤◌, Bool, true, List, [], ◌∷◌}
+use Rattle.std.proofs.Common.{length, Option, Some, None, refl, sym, ap, ◌∙◌, arith}
+use Rattle.std.specs.Prelude.{codes}
 use Rattle.std.proofs.lemmas.Option.{same_Some}
 use Rattle.tv_kleene.specs.declared.K3.{K3}
 use Rattle.tv_lex.specs.Token.{SpecToken}
 use Rattle.tv_phrases.specs.Reading.{Reading, taken}
-use Rattle.tv_phrases.specs.Tokens.{after, first, word_item, identifier_item}
-use Rattle.tv_phrases.specs.Lists.{with_front, items_from, optional_list, optional_brackets, between, name}
+use Rattle.tv_phrases.specs.Tokens.{word_item}
 use Rattle.tv_tvs.specs.Tree.{ItemTree, ContentTree, OneValue, Listed, StructTree}
 use Rattle.tv_tvs.specs.Grammar.{value_item, IsSecond, IsItemValue, IsItemTree, IsNextItem, AreItems}
 use Rattle.tv_tvs.specs.Grammar.{IsContent, IsEntry, IsOpening, IsStruct, AreStructs, begins_comma}

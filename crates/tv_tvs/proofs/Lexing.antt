@@ -6,14 +6,13 @@ use Rattle.std.specs.List.{prefix_len, list_all}
 use Rattle.std.proofs.lemmas.Bool.{and_parts, and_left, and_right, false≢true, cond-false, ne_eqb}
 use Rattle.std.proofs.lemmas.List.{append-nil}
 use Rattle.tv_lex.specs.Bytes.{is_word_byte}
-use Rattle.tv_lex.specs.Token.{SpecToken, spec_tokens}
-use Rattle.tv_lex.specs.Pieces.{Piece, Fits, AllFit, Stands, joined_pieces, placed, Reads}
+use Rattle.tv_lex.specs.Token.{SpecToken}
+use Rattle.tv_lex.specs.Pieces.{Fits, Stands, joined_pieces}
 use Rattle.tv_lex.specs.Front.{front, token, is_half, word_front}
-use Rattle.tv_lex.specs.declared.token.Token.{Token}
 use Rattle.tv_lex.specs.declared.token.TokenKind.{TokenKind}
 use Rattle.tv_lex.specs.declared.token.TokenKind.TheVariants as kind
 use Rattle.tv_lex.proofs.Runs.{prefix_len-append-stop}
-use Rattle.tv_lex.proofs.Taken.{Takes, front_takes, front-blank, front-word}
+use Rattle.tv_lex.proofs.Taken.{front-blank, front-word}
 use Rattle.tv_lex.proofs.PieceTokens.{Lexes, fits_as_taken, token_of}
 
 piece_first : (kind : Option TokenKind) (bytes rest : List ℕ) (ts : List SpecToken) → Stands kind bytes rest

@@ -7,11 +7,14 @@ pub mod Filled
 pub mod LaidOut
 pub mod Lexing
 pub mod NameTexts
-pub mod WrittenNumbers
+pub mod PredLines
+pub mod Rooms
 pub mod RoundTrip
+pub mod RowTexts
 pub mod Sound
 pub mod Spelled
 pub mod Stops
 pub mod Twice
 pub mod Valid
 pub mod Written
+pub mod WrittenNumbers

@@ -1,12 +1,12 @@
 -- What is read is what the grammar says.
-use Rattle.std.proofs.Common.{◌≡◌, ℕ, ◌+◌, Bool, true, false, cond, List, [], ◌∷◌, length, Option, Some, None}
-use Rattle.std.proofs.Common.{refl, subst, ◌⊎◌, inl, inr, arith, eqb}
+use Rattle.std.proofs.Common.{◌≡◌, ℕ, ◌+◌, Bool, true, cond, List, [], ◌∷◌, length, Option, Some, None}
+use Rattle.std.proofs.Common.{refl, subst, inl, inr, arith, eqb}
 use Rattle.std.specs.Prelude.{codes}
 use Rattle.std.proofs.lemmas.Option.{same_Some, cond_some}
 use Rattle.std.proofs.lemmas.Bool.{eqb-true}
 use Rattle.tv_kleene.specs.declared.K3.{K3}
 use Rattle.tv_lex.specs.Token.{SpecToken}
-use Rattle.tv_phrases.specs.Reading.{Reading, ◌>>=◌, choose}
+use Rattle.tv_phrases.specs.Reading.{Reading, ◌>>=◌}
 use Rattle.tv_phrases.specs.Tokens.{after, first, word_item}
 use Rattle.tv_phrases.specs.Lists.{optional_list, name}
 use Rattle.tv_phrases.specs.Repeated.{Repeated, all_of}

@@ -1,15 +1,13 @@
 -- What is written of a predicate, tuple by tuple.
-use Rattle.std.proofs.Common.{ℕ, ◌≡◌, ◌<◌, ◌+◌, ◌-◌, suc, List, [], ◌∷◌, ◌++◌, map, Option, Some, None, refl}
-use Rattle.std.proofs.Common.{sym, ap, ◌∙◌, arith}
-use Rattle.std.specs.Prelude.{codes}
+use Rattle.std.proofs.Common.{ℕ, ◌≡◌, ◌+◌, List, [], ◌∷◌, ◌++◌, map, Option, Some, None, refl}
+use Rattle.std.proofs.Common.{sym, ap, ◌∙◌}
 use Rattle.std.specs.List.{flat_map, filter_map, cons_option, range_with_len}
 use Rattle.std.proofs.lemmas.List.{flat_map_more, map-id}
 use Rattle.std.proofs.lemmas.List.FromFn.{map-range_with_len_more}
 use Rattle.std.proofs.lemmas.List.Elements.{filter_map-append}
 use Rattle.tv_kleene.specs.declared.K3.{K3}
 use Rattle.tv_kleene.specs.declared.K3.TheVariants.{No, Half, Yes}
-use Rattle.tv_tvs.specs.Canonical.{individual, written_item, written_items, written_one, row_items, tuples}
-use Rattle.tv_tvs.specs.Canonical.{comma_text, individuals}
+use Rattle.tv_tvs.specs.Canonical.{written_item, written_items, written_one, row_items, tuples}
 
 pub range_more : (a n : ℕ) → range_with_len a (n + 1) ≡ range_with_len a n ++ (a + n) ∷ []
 range_more a n =
@@ -72,13 +70,3 @@ rows_written value size =
 pub flat_map-map : {X Y : Type 0} (g : X → Y) (f : Y → List ℕ) (xs : List X) → flat_map f (map g xs) ≡ flat_map (λ x. f (g x)) xs
 flat_map-map g f [] = refl
 flat_map-map g f (x ∷ xs) = ap (λ t. f (g x) ++ t) (flat_map-map g f xs)
-
-map-range : (f : ℕ → List ℕ) (a n : ℕ) → flat_map (λ u. codes ", " ++ f u) (range_with_len a n) ≡ flat_map (λ t. codes ", " ++ t) (map f (range_with_len a n))
-map-range f a n = sym (flat_map-map f (λ t. codes ", " ++ t) (range_with_len a n))
-
--- the names of one individual or more
-pub individuals_written : (size : ℕ) → 0 < size
-    → individual 0 ++ flat_map (λ u. codes ", " ++ individual u) (range_with_len 1 (size - 1)) ≡ comma_text (individuals size)
-individuals_written size some =
-    let e : size ≡ suc (size - 1) = omega arith
-    in ap (λ t. individual 0 ++ t) (map-range individual 1 (size - 1)) ∙ ap (λ n. comma_text (individuals n)) (sym e)

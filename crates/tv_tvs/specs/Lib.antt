@@ -2,6 +2,7 @@ pub mod Tree
 pub mod Grammar
 pub mod Meaning
 pub mod Canonical
+pub mod Rows
 pub mod Laws
 pub mod Reading
 pub mod Views

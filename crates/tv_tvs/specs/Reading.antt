@@ -1,5 +1,5 @@
 -- The reader of structures, as functions on lists of tokens. That they read what the grammar says is proved.
-use Rattle.std.specs.Prelude.{ℕ, zero, suc, ◌+◌, List, [], ◌∷◌, Bool, Option, Some, None, length, ◌==◌}
+use Rattle.std.specs.Prelude.{ℕ, List, [], ◌∷◌, Option, Some, None, length, ◌==◌}
 use Rattle.std.specs.Prelude.{if◌then◌else◌, codes}
 use Rattle.std.specs.Result.{result_ok}
 use Rattle.tv_kleene.specs.declared.K3.{K3}

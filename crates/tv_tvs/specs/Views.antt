@@ -4,26 +4,12 @@ use Rattle.std.specs.Option.{option_map}
 use Rattle.std.specs.Borrow.{Bor}
 use Rattle.tv_lex.specs.Token.{text_of}
 use Rattle.tv_phrases.specs.declared.lists.NamePhrase.{NamePhrase}
-use Rattle.tv_tvs.specs.declared.write.Written.{Written}
 use Rattle.tv_tvs.specs.declared.syntax.ItemText.{ItemText}
 use Rattle.tv_tvs.specs.declared.syntax.ContentText.{ContentText}
 use Rattle.tv_tvs.specs.declared.syntax.ContentText.TheVariants.{OneValue as OneText, Listed as ListedText}
 use Rattle.tv_tvs.specs.declared.syntax.EntryText.{EntryText}
 use Rattle.tv_tvs.specs.declared.syntax.StructText.{StructText}
 use Rattle.tv_tvs.specs.Tree.{NameTree, ItemTree, ContentTree, OneValue, Listed, EntryTree, StructTree}
-use Rattle.tv_tvs.specs.Canonical.{individual, written_value}
-
--- the item that is written of a tuple
-abbrev pub written_of : Written → ItemTree
-written_of w =
-    record {
-      first = individual w.first;
-      second = option_map individual w.second;
-      value = written_value w.value;
-    }
-
-abbrev pub written_list : List Written → List ItemTree
-written_list ws = map written_of ws
 
 -- ---- the trees that are read from these bytes
 

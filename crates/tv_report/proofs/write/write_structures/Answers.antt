@@ -7,6 +7,6 @@ use Rattle.tv_report.proofs.write.write_structures.Goals as goal
 
 pub loop-i-preserved : goal.loop-i-preserved
 loop-i-preserved c =
-    ap (λ t. t ++ flat_map (canonical_text c.args.vocab.now) (drop (c.loop-i.i + 1) (at_node c.args.listing.now c.args.node))) c.in_ok-append_tvs.ensures
+    ap (λ t. t ++ flat_map (canonical_text c.args.vocab.now) (drop (c.loop-i.i + 1) (at_node c.args.listing.now c.args.node))) c.in_ok-append.ensures
     ∙ one_turn (canonical_text c.args.vocab.now) (at_node c.args.listing.now c.args.node) c.loop-i.i c.at.result.now c.loop-i.out.items _ c.at.ensures.value
     c.loop-i.invariant

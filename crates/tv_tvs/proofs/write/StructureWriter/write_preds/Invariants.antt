@@ -1,6 +1,6 @@
 use Rattle.std.proofs.Common.{◌≡◌, ◌++◌, drop}
 use Rattle.tv_tvs.specs.Canonical.{preds_text}
-use Rattle.tv_tvs.proofs.write.write_preds.Given as goal
+use Rattle.tv_tvs.proofs.write.StructureWriter.write_preds.Given as goal
 
 abbrev pub invariant-loop-p : goal.invariant-loop-p
 invariant-loop-p l =

@@ -1,0 +1,24 @@
+-- The lines of predicates whose values are read off by rows.
+use Rattle.std.proofs.Common.{ℕ, ◌≡◌, List, ap, ◌∙◌, sym}
+use Rattle.std.specs.Prelude.{codes}
+use Rattle.tv_kleene.specs.declared.K3.{K3}
+use Rattle.tv_struct.specs.StructureForm.{StructureForm, value_at}
+use Rattle.tv_struct.specs.StructureRows.{unary_row, summary_row}
+use Rattle.tv_tvs.specs.Canonical.{content_of, if_some, line_text, summaries_text, summary_value}
+use Rattle.tv_tvs.specs.Rows.{single_items}
+use Rattle.tv_tvs.proofs.RowTexts.{single_items_of}
+
+-- the line of a unary predicate
+pub unary_line : (s : StructureForm) (p arity : ℕ) (text name : List ℕ) (row : List K3) → text ≡ name → arity ≡ 1
+    → row ≡ unary_row s p
+    → line_text text (if_some (single_items row)) ≡ line_text name (content_of s.size arity (value_at s p))
+unary_line s p arity text name row named is same =
+    (λ i. line_text (named i) (if_some (single_items (same i))))
+    ∙ ap (λ items. line_text name (if_some items)) (single_items_of (value_at s p) s.size)
+    ∙ ap (λ n. line_text name (content_of s.size n (value_at s p))) (sym is)
+
+-- the line of the summaries
+pub summaries_line : (s : StructureForm) (row : List K3) → row ≡ summary_row s
+    → line_text (codes "sm") (if_some (single_items row)) ≡ summaries_text s
+summaries_line s row same =
+    ap (λ items. line_text (codes "sm") (if_some items)) (ap single_items same ∙ single_items_of (summary_value s) s.size)
