@@ -15,7 +15,7 @@ mod sets;
 mod stage;
 mod vector;
 
-pub use atoms::atom_count;
+pub use atoms::{FocusAtoms, atom_count};
 pub use focused::Focused;
 pub use laws::{formulas_have_atoms_over, sharp_atoms_stay};
 pub use stage::{focus_stage, into_focused};

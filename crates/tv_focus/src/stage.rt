@@ -17,7 +17,7 @@ ghost use Rattle.tv_focus.specs.Seen.{aim_of, split_form};
 
 use crate::aim::{Aim, Split, split_of};
 use crate::anchors::{Place, pair};
-use crate::atoms::gather;
+use crate::atoms::FocusAtoms;
 use crate::chosen::choose;
 use crate::count::{MAX_CHOICES, copy_count, few_choices};
 use crate::focused::Focused;
@@ -213,17 +213,21 @@ struct StagePlan {
 }
 
 /// What focus does with an atom of the formula.
-fn planned(alloc: Global, f: &Formula, atom: usize, s: &Structure) -> Result<StagePlan, AllocError>
+fn planned(
+    alloc: Global,
+    f: &FocusAtoms<'_>,
+    atom: usize,
+    s: &Structure,
+) -> Result<StagePlan, AllocError>
     requires formula { AreAtomsOver (arities_of s.now) (form_of f.now) }
     requires atom { atom < length (focus_atoms (form_of f.now)) }
     ensures pred { IfOk result (λ plan. plan.pred.0 ≡ (atom_at (form_of f.now) atom).pred) }
     ensures split { IfOk result
         (λ plan. split_form plan.split ≡ split_at (structure_of s.now) (form_of f.now) atom) }
 {
-    let mut atoms = Vec::new(alloc);
-    gather(f, &mut atoms)?;
+    let atoms = f.as_slice();
     let one = atoms[atom];
-    let split = split_of(alloc, s, atoms.as_slice(), one.terms)?;
+    let split = split_of(alloc, s, atoms, one.terms)?;
     Ok(StagePlan {
         pred: one.pred,
         split,
@@ -234,7 +238,7 @@ fn planned(alloc: Global, f: &Formula, atom: usize, s: &Structure) -> Result<Sta
 /// are known.
 fn staged(
     alloc: Global,
-    f: &Formula,
+    f: &FocusAtoms<'_>,
     atom: usize,
     s: &Structure,
 ) -> Result<Option<Structures>, StageError>
@@ -284,7 +288,8 @@ pub fn focus_stage(
     ensures heaps { IfOk result (KeepsHeaps s.now) }
 {
     let _ = vocab;
-    match staged(alloc, f, atom, s)? {
+    let atoms = FocusAtoms::new(alloc, f)?;
+    match staged(alloc, &atoms, atom, s)? {
         None => Ok(one(alloc, s)?),
         Some(structures) => Ok(structures),
     }
@@ -294,7 +299,7 @@ pub fn focus_stage(
 /// as it is. Refusals are those of `focus_stage`.
 pub fn into_focused(
     alloc: Global,
-    f: &Formula,
+    f: &FocusAtoms<'_>,
     atom: usize,
     s: Structure,
 ) -> Result<Focused, StageError>

@@ -57,6 +57,10 @@ nothing-added ys = sym (append-nil ys)
 pub all-more : {X : Type 0} (P : X → Type 0) (xs : List X) (x : X) → All P xs → P x → All P (xs ++ x ∷ [])
 all-more P xs x before own = All-append P xs (x ∷ []) before (All-cons P x [] own (All-nil P))
 
+pub take-next : {X : Type 0} (xs : List X) (i : ℕ) (x : X) → i < length xs → x ≡ get_or xs i x
+    → take (i + 1) xs ≡ take i xs ++ x ∷ []
+take-next xs i x lt is = rw (add-one, take-suc xs i x lt, ← is) refl
+
 -- what comes of the next of a list's elements is put
 pub adds-next : {X Y : Type 0} (R : X → List Y → Type 0) (xs : List X) (i : ℕ) (x : X) (ys zs ws : List Y)
     → i < length xs

@@ -1,11 +1,12 @@
 -- Which individuals may be picked, as a row of the precondition tells.
-use Rattle.std.proofs.Common.{ℕ, ◌≡◌, ◌∙◌, ◌<◌, ◌⊎◌, false, List, [], ◌∷◌, length, map, replicate, Option}
-use Rattle.std.proofs.Common.{None, Some, ⊎_elim, sym, ap, subst, arith, get_or, slice_get, All, Contains}
+use Rattle.std.proofs.Common.{ℕ, ◌≡◌, ◌≢◌, ◌∙◌, ◌<◌, ◌⊎◌, false, true, List, [], ◌∷◌, length, map, replicate}
+use Rattle.std.proofs.Common.{Option, None, Some, ⊎_elim, refl, sym, ap, subst, arith, get_or, slice_get, All}
+use Rattle.std.proofs.Common.{Contains}
 use Rattle.std.specs.List.{range_with_len}
 use Rattle.std.proofs.lemmas.List.{get_or-replicate, length-replicate}
 use Rattle.std.proofs.lemmas.List.FromFn.{fill_by_all, get_or-map-range_with_len, length-map-range_with_len}
 use Rattle.tv_kleene.specs.declared.K3.{K3}
-use Rattle.tv_kleene.specs.declared.K3.TheVariants.{No, Yes}
+use Rattle.tv_kleene.specs.declared.K3.TheVariants.{No, Half, Yes}
 use Rattle.tv_model.specs.Form.{Form, FExists}
 use Rattle.tv_model.specs.Program.{ProgramForm, ActionForm}
 use Rattle.tv_model.specs.Truth.{Assignment, put}
@@ -72,7 +73,7 @@ row-length action s a v row is =
     ap length is
     ∙ length-map-range_with_len (λ u. precondition_value (structure_of s) (put a v u) action.pre) 0 s.size
 
-pub row-tells : (action : ActionForm) (s : StructureForm) (a b : Assignment) (v u : ℕ) (row : List K3) (k : K3)
+row-tells : (action : ActionForm) (s : StructureForm) (a b : Assignment) (v u : ℕ) (row : List K3) (k : K3)
     → row ≡ precondition_values action s a v → u < s.size → b ≡ put a v u → k ≡ get_or row u No
     → k ≡ precondition_value (structure_of s) b action.pre
 row-tells action s a b v u row k is lt same at =
@@ -81,9 +82,27 @@ row-tells action s a b v u row k is lt same at =
     lt (omega arith)
     ∙ ap (λ c. precondition_value (structure_of s) c action.pre) (sym same)
 
-pub no-fails : (action : ActionForm) (s : StructureForm) (a : Assignment) (k : K3)
+no-fails : (action : ActionForm) (s : StructureForm) (a : Assignment) (k : K3)
     → k ≡ precondition_value (structure_of s) a action.pre → k ≡ No → passes action s a ≡ false
 no-fails action s a k is none = ap isnt_no (sym is ∙ none)
+
+pub row-fails : (action : ActionForm) (s : StructureForm) (a : Assignment) (v u : ℕ) (row : List K3)
+    → row ≡ precondition_values action s a v → u < s.size → get_or row u No ≡ No
+    → passes action s (put a v u) ≡ false
+row-fails action s a v u row is lt none =
+    no-fails action s (put a v u) (get_or row u No)
+    (row-tells action s a (put a v u) v u row (get_or row u No) is lt refl refl) none
+
+isnt-no : (k : K3) → k ≢ No → isnt_no k ≡ true
+isnt-no No ne = absurd (ne refl)
+isnt-no Half ne = refl
+isnt-no Yes ne = refl
+
+pub row-passes : (action : ActionForm) (s : StructureForm) (a b : Assignment) (v u : ℕ) (row : List K3)
+    → row ≡ precondition_values action s a v → u < s.size → b ≡ put a v u → get_or row u No ≢ No
+    → passes action s b ≡ true
+row-passes action s a b v u row is lt same ne =
+    ap isnt_no (sym (row-tells action s a b v u row (get_or row u No) is lt same refl)) ∙ isnt-no (get_or row u No) ne
 
 -- all picked variables stand for individuals, where none is left
 pub all-picked : (picks left : List ℕ) (size : ℕ) (places : List (Option ℕ)) → left ≡ []

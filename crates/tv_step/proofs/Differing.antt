@@ -1,63 +1,33 @@
 -- What two structures have in common, as rows tell, and the rules that see no difference.
-use Rattle.std.proofs.Common.{ℕ, ◌≡◌, ◌≢◌, ◌∙◌, ◌<◌, ◌≤◌, ◌+◌, Bool, true, false, List, [], ◌∷◌, length, Some}
-use Rattle.std.proofs.Common.{inl, inr, ⊎_elim, refl, sym, ap, subst, arith, get_or, slice_get, replicate}
-use Rattle.std.proofs.Common.{Contains, Less, Equal, Greater}
+use Rattle.std.proofs.Common.{ℕ, ◌≡◌, ◌≢◌, ◌∙◌, ◌<◌, ◌≤◌, ◌+◌, Bool, true, false, List, [], ◌∷◌, ◌++◌, length}
+use Rattle.std.proofs.Common.{map, take, Option, None, Some, inl, inr, ⊎_elim, refl, sym, ap, subst, arith}
+use Rattle.std.proofs.Common.{add-one, append_assoc, get_or, slice_get, replicate, Contains}
 use Rattle.std.specs.List.{range_with_len}
-use Rattle.std.specs.declared.cmp.Ordering.{Ordering}
-use Rattle.std.specs.Ordering.{ordering_then}
-use Rattle.std.specs.Cmp.Lexicographic.{slice_cmp}
 use Rattle.std.proofs.lemmas.Bool.{cases_eq, cases_lt}
-use Rattle.std.proofs.lemmas.List.{length-replicate}
+use Rattle.std.proofs.lemmas.List.{get_or-replicate, get_or_default, length-replicate, map-append}
 use Rattle.std.proofs.lemmas.List.Elements.{All-contains}
 use Rattle.std.proofs.lemmas.List.FromFn.{get_or-map-range_with_len}
-use Rattle.std.proofs.lemmas.Option.{slice_get_within}
-use Rattle.tv_kleene.specs.declared.K3.{K3}
-use Rattle.tv_kleene.specs.declared.K3.TheVariants.{No, Half, Yes}
+use Rattle.std.proofs.lemmas.Option.{slice_get_within, slice_get-get_or}
+use Rattle.std.proofs.Math.Seq.{take-suc}
+use Rattle.tv_kleene.specs.declared.K3.TheVariants.{No}
+use Rattle.tv_model.specs.declared.formula.PredId.{PredId}
 use Rattle.tv_model.specs.Program.{ProgramForm, RuleForm}
 use Rattle.tv_model.specs.Valid.{IsValid}
-use Rattle.tv_model.proofs.Lists.{slice_get-contains}
-use Rattle.tv_row.specs.Bits.{value_cmp}
+use Rattle.tv_model.proofs.Lists.{Contains-none, pushed-cases, slice_get-contains}
 use Rattle.tv_stable_laws.specs.Laws.{IsPlainRule}
 use Rattle.tv_stable_laws.specs.Stable.{IsStable, IsStableUnder}
 use Rattle.tv_rules.specs.Closing.{closed_rules}
 use Rattle.tv_rules.specs.Standing.{StandsIn}
 use Rattle.tv_rules.proofs.Ranges.{rules_are_plain}
+use Rattle.tv_coerce_laws.specs.Split.{IsUntouched}
 use Rattle.tv_coerce_laws.proofs.Untouched.{untouched_rules_stay_stable}
 use Rattle.tv_struct.specs.TableForm.{AreIndividuals}
 use Rattle.tv_struct.specs.StructureForm.{StructureForm, structure_of, arities_of, value_at, summary_at}
 use Rattle.tv_struct.specs.StructureRows.{HasArity, unary_row, row_at, summary_row, flag_value}
-use Rattle.tv_struct.proofs.Library.{AreIndividuals-range, below-range, fits_or_No}
-use Rattle.tv_coerce.specs.RuleSets.{IsStableBut, HasMore, IsRuleThat}
-use Rattle.tv_step.specs.Changed.{AreAlike, HasSameValues, WaitsBelow, WaitsBetween}
-
--- ---- rows that compare as equal are equal
-
-then-Equal : (a b : Ordering) → ordering_then a b ≡ Equal → (a ≡ Equal) × (b ≡ Equal)
-then-Equal Less b e = (e, cc)
-then-Equal Equal b e = (refl, e)
-then-Equal Greater b e = (e, cc)
-
-same-values : (x y : K3) → value_cmp x y ≡ Equal → x ≡ y
-same-values No No e = refl
-same-values No Half e = cc
-same-values No Yes e = cc
-same-values Half No e = cc
-same-values Half Half e = refl
-same-values Half Yes e = cc
-same-values Yes No e = cc
-same-values Yes Half e = cc
-same-values Yes Yes e = refl
-
-pub same-rows : (xs ys : List K3) → slice_cmp value_cmp xs ys ≡ Equal → xs ≡ ys
-same-rows [] [] e = refl
-same-rows [] (y ∷ ys) e = cc
-same-rows (x ∷ xs) [] e = cc
-same-rows (x ∷ xs) (y ∷ ys) e =
-    let both : (value_cmp x y ≡ Equal) × (slice_cmp value_cmp xs ys ≡ Equal)
-    = then-Equal (value_cmp x y) (slice_cmp value_cmp xs ys) e
-    in let head : x ≡ y = same-values x y both.0
-    in let tail : xs ≡ ys = same-rows xs ys both.1
-    in λ i. head i ∷ tail i
+use Rattle.tv_struct.proofs.Library.{AreIndividuals-range, Contains-range, below-range, fits_or_No}
+use Rattle.tv_coerce.specs.RuleSets.{IsIn, IsStableBut, HasMore, IsRuleThat}
+use Rattle.tv_step.specs.Changed.{AreAlike, AreAlikeBut, HasSameValues, IsFew, WaitsAmong, set_of}
+use Rattle.tv_step.specs.Setting.{IsStableIn}
 
 -- ---- summaries
 
@@ -133,39 +103,6 @@ same-binary s t pred over arity size same = by-arity s t pred 2 over arity each
         (omega (arith, later.0, size)) (omega arith)
     each (u ∷ w ∷ x ∷ us) e within = absurd (omega (arith, e))
 
--- ---- sets of rules
-
-pub none-below : (rules : List RuleForm) (s t : StructureForm) (set : List Bool)
-    → set ≡ replicate (length rules) false → WaitsBelow 0 rules s t set
-none-below rules s t set is = record {
-  count = ap length is ∙ length-replicate (length rules) false;
-  same = λ k q rule there out lt stands. absurd (omega (arith, lt));
-}
-
--- nothing is put in where the values are the same
-pub below-same : (n : ℕ) (rules : List RuleForm) (s t : StructureForm) (set : List Bool)
-    → WaitsBelow n rules s t set → HasSameValues n s t → WaitsBelow (n + 1) rules s t set
-below-same n rules s t set before same = record {
-  count = before.count;
-  same = λ k q rule there out lt stands. ⊎_elim
-      (λ below. before.same k q rule there out below stands)
-      (λ past. let is : q ≡ n = omega (arith, lt, past) in subst (λ r. HasSameValues r s t) (sym is) same)
-      (cases_lt q n);
-}
-
--- else the rules about the predicate are
-pub below-more : (n : ℕ) (rules : List RuleForm) (s t : StructureForm) (old new : List Bool)
-    → WaitsBelow n rules s t old → HasMore (IsRuleThat (StandsIn n) rules) old new
-    → WaitsBelow (n + 1) rules s t new
-below-more n rules s t old new before more = record {
-  count = more.count ∙ before.count;
-  same = λ k q rule there out lt stands. ⊎_elim
-      (λ below. before.same k q rule there (λ was. out ((more.exact k).1 (inl was))) below stands)
-      (λ past. let is : q ≡ n = omega (arith, lt, past)
-      in absurd (out ((more.exact k).1 (inr (rule, there, subst (λ r. StandsIn r rule) is stands)))))
-      (cases_lt q n);
-}
-
 -- past the last predicate there are no values
 past-all : (s : StructureForm) (pred : ℕ) → length (arities_of s) ≤ pred → (tuple : List ℕ)
     → value_at s pred tuple ≡ No
@@ -173,36 +110,11 @@ past-all s pred past tuple =
     ⊎_elim (λ fits. absurd (omega (arith, past, slice_get_within (arities_of s) pred (length tuple) fits)))
     (λ no. no) (fits_or_No s pred tuple)
 
-pub all-below : (n : ℕ) (rules : List RuleForm) (s t : StructureForm) (set : List Bool)
-    → arities_of s ≡ arities_of t → AreAlike s t → length (arities_of s) ≤ n → WaitsBelow n rules s t set
-    → WaitsBetween rules s t set
-all-below n rules s t set over alike all below = record {
-  count = below.count;
-  untouched = λ k rule there out. record {
-    individuals = λ u. (
-      λ at. subst (λ m. Contains (range_with_len 0 m) u) alike.size at,
-      λ at. subst (λ m. Contains (range_with_len 0 m) u) (sym alike.size) at,
-    );
-    values = λ pred stands tuple inside. ⊎_elim
-        (λ lt. below.same k pred rule there out lt stands tuple (AreIndividuals-range s.size tuple inside))
-        (λ past. past-all s pred (omega (arith, past, all)) tuple
-        ∙ sym (past-all t pred (subst (λ arities. length arities ≤ pred) over (omega (arith, past, all))) tuple))
-        (cases_lt pred n);
-    summaries = λ u at. alike.summaries u (below-range s.size u at);
-  };
-}
-
--- what a stable structure became is stable under the rules that see no difference
-pub between-rest : (p : ProgramForm) → IsValid p → (s t : StructureForm) (rules : List RuleForm) (set : List Bool)
-    → rules ≡ closed_rules p → IsStable (closed_rules p) (structure_of s) → WaitsBetween rules s t set
-    → IsStableBut rules set t
-between-rest p valid s t rules set same stable waits n rule there out =
-    let in_closed : Contains (closed_rules p) rule
-    = slice_get-contains (closed_rules p) n rule (subst (λ rs. slice_get rs n ≡ Some rule) same there)
-    in untouched_rules_stay_stable (structure_of s) (structure_of t) rule
-    (All-contains IsPlainRule (closed_rules p) rule (rules_are_plain p valid) in_closed).unmarked
-    (waits.untouched n rule there out)
-    (All-contains (IsStableUnder (structure_of s)) (closed_rules p) rule stable in_closed)
+pub same-past : (s t : StructureForm) (pred : ℕ) → arities_of s ≡ arities_of t → length (arities_of s) ≤ pred
+    → HasSameValues pred s t
+same-past s t pred over past tuple within =
+    past-all s pred past tuple
+    ∙ sym (past-all t pred (subst (λ arities. length arities ≤ pred) over past) tuple)
 
 -- one row more
 pub next-row : (s t : StructureForm) (pred u : ℕ) → ((k : ℕ) → k < u → row_at s pred k ≡ row_at t pred k)
@@ -212,3 +124,102 @@ next-row s t pred u before here k lt =
     (λ past. let same : k ≡ u = omega (arith, lt, past)
     in subst (λ x. row_at s pred x ≡ row_at t pred x) (sym same) here)
     (cases_lt k u)
+
+-- alike structures differ in their predicates alone
+pub alike-anywhere : (s t : StructureForm) → arities_of s ≡ arities_of t → AreAlike s t
+    → AreAlikeBut (range_with_len 0 (length (arities_of s))) s t
+alike-anywhere s t over alike = record {
+  alike = alike;
+  others = λ q. ⊎_elim (λ lt. inl (Contains-range (length (arities_of s)) q lt))
+      (λ past. inr (same-past s t q over past)) (cases_lt q (length (arities_of s)));
+}
+
+-- ---- sets of rules
+
+pub none-among : (rules : List RuleForm) (s t : StructureForm) → WaitsAmong [] rules s t None
+none-among rules s t = record {
+  count = length-replicate (length rules) false;
+  same = λ k q rule there out at stands. absurd (Contains-none q at);
+}
+
+-- nothing is found where the values are the same
+pub same-among : (preds : List ℕ) (r : ℕ) (rules : List RuleForm) (s t : StructureForm)
+    (found : Option (List Bool))
+    → WaitsAmong preds rules s t found → HasSameValues r s t → WaitsAmong (preds ++ r ∷ []) rules s t found
+same-among preds r rules s t found before same = record {
+  count = before.count;
+  same = λ k q rule there out at stands. ⊎_elim
+      (λ earlier. before.same k q rule there out earlier stands)
+      (λ is. subst (λ z. HasSameValues z s t) (sym is) same)
+      (pushed-cases preds r q at);
+}
+
+-- else the rules about the predicate are
+pub more-among : (preds : List ℕ) (r : ℕ) (rules : List RuleForm) (s t : StructureForm)
+    (found : Option (List Bool)) (old new : List Bool)
+    → WaitsAmong preds rules s t found → old ≡ set_of rules found → HasMore (IsRuleThat (StandsIn r) rules) old new
+    → WaitsAmong (preds ++ r ∷ []) rules s t (Some new)
+more-among preds r rules s t found old new before is more = record {
+  count = more.count ∙ ap length is ∙ before.count;
+  same = λ k q rule there out at stands. ⊎_elim
+      (λ earlier. before.same k q rule there
+      (λ was. out ((more.exact k).1 (inl (subst (λ set. IsIn set k) (sym is) was)))) earlier stands)
+      (λ e. absurd (out ((more.exact k).1 (inr (rule, there, subst (λ z. StandsIn z rule) e stands)))))
+      (pushed-cases preds r q at);
+}
+
+-- one element more of a list that is gone along
+pub map-next : {X Y : Type 0} (f : X → Y) (xs : List X) (i : ℕ) (x : X) → i < length xs → x ≡ get_or xs i x
+    → map f (take (i + 1) xs) ≡ map f (take i xs) ++ f x ∷ []
+map-next f xs i x lt is = rw (add-one, take-suc xs i x lt, ← is) (map-append f (take i xs) (x ∷ []))
+
+pub preds-next : (qs : List ℕ) (preds : List PredId) (i : ℕ) (d : PredId) → i < length preds
+    → (qs ++ map (λ p. p.0) (take i preds)) ++ (get_or preds i d).0 ∷ [] ≡ qs ++ map (λ p. p.0) (take (i + 1) preds)
+preds-next qs preds i d lt =
+    append_assoc qs (map (λ p. p.0) (take i preds)) ((get_or preds i d).0 ∷ [])
+    ∙ ap (λ rs. qs ++ rs) (sym (map-next (λ p. p.0) preds i (get_or preds i d) lt
+    (get_or_default preds i d (get_or preds i d) lt)))
+
+-- what came of a stable structure is stable but for the rules that are found
+found-rest : (p : ProgramForm) → IsValid p → (s t : StructureForm) (preds : List ℕ) (rules : List RuleForm)
+    (found : Option (List Bool))
+    → rules ≡ closed_rules p → IsStable (closed_rules p) (structure_of s) → AreAlikeBut preds s t
+    → WaitsAmong preds rules s t found → IsStableBut rules (set_of rules found) t
+found-rest p valid s t preds rules found same stable but waits n rule there out =
+    untouched_rules_stay_stable (structure_of s) (structure_of t) rule
+    (All-contains IsPlainRule (closed_rules p) rule (rules_are_plain p valid) in_closed).unmarked untouched
+    (All-contains (IsStableUnder (structure_of s)) (closed_rules p) rule stable in_closed)
+  where
+    in_closed : Contains (closed_rules p) rule
+    in_closed = slice_get-contains (closed_rules p) n rule (subst (λ rs. slice_get rs n ≡ Some rule) same there)
+
+    untouched : IsUntouched rule (structure_of s) (structure_of t)
+    untouched = record {
+      individuals = λ u. (
+        λ at. subst (λ m. Contains (range_with_len 0 m) u) but.alike.size at,
+        λ at. subst (λ m. Contains (range_with_len 0 m) u) (sym but.alike.size) at,
+      );
+      values = λ q stands tuple inside. ⊎_elim
+          (λ among. waits.same n q rule there out among stands tuple (AreIndividuals-range s.size tuple inside))
+          (λ kept. kept tuple (AreIndividuals-range s.size tuple inside))
+          (but.others q);
+      summaries = λ u at. but.alike.summaries u (below-range s.size u at);
+    }
+
+-- no rule waits
+stable-all : (p : ProgramForm) (rules : List RuleForm) (t : StructureForm) → rules ≡ closed_rules p
+    → IsStableBut rules (replicate (length rules) false) t → IsStableIn p t
+stable-all p rules t same rest =
+    subst (λ rs. IsStable rs (structure_of t)) same
+    (λ k d lt. rest k (get_or rules k d) (slice_get-get_or rules k d lt)
+    (λ at. let out : get_or (replicate (length rules) false) k false ≡ false
+    = get_or-replicate (length rules) k false false lt
+    in absurd (cc (at, out))))
+
+pub few-found : (p : ProgramForm) → IsValid p → (s t : StructureForm) (preds : List ℕ) (rules : List RuleForm)
+    → rules ≡ closed_rules p → IsStableIn p s → AreAlikeBut preds s t
+    → (found : Option (List Bool)) → WaitsAmong preds rules s t found → IsFew p rules t found
+few-found p valid s t preds rules same stable but None waits =
+    stable-all p rules t same (found-rest p valid s t preds rules None same stable but waits)
+few-found p valid s t preds rules same stable but (Some set) waits =
+    (waits.count, found-rest p valid s t preds rules (Some set) same stable but waits)

@@ -53,10 +53,8 @@ some-becomes Blurred program s t u coerced over (blur, kept) =
     in ((t ∷ [], coerced, (blurred, tt)), All-cons IsStructure u [] kept (All-nil IsStructure))
 
 -- a stable structure is what coerce makes of it
-pub itself-becomes : (ending : Ending) (program : Program) (s from u : StructureForm) → s ≡ from
-    → IsShaped (program_of program) s → IsStableIn (program_of program) from → IsEndOf ending program s u
+pub itself-becomes : (ending : Ending) (program : Program) (s u : StructureForm)
+    → IsShaped (program_of program) s → IsStableIn (program_of program) s → IsEndOf ending program s u
     → Becomes ending (program_of program) s (u ∷ [])
-itself-becomes ending program s from u same shaped stable end =
-    some-becomes ending program s s u
-    (stable-coerces (program_of program) s shaped
-    (subst (IsStableIn (program_of program)) (sym same) stable)) shaped.over end
+itself-becomes ending program s u shaped stable end =
+    some-becomes ending program s s u (stable-coerces (program_of program) s shaped stable) shaped.over end

@@ -1,21 +1,27 @@
--- What an action gives from a stable structure is stable under the rules that it leaves alone.
-use Rattle.std.proofs.Common.{ℕ, ◌≡◌, ◌∙◌, ◌<◌, true, false, Bool, List, [], ◌∷◌, length, map, filter, Option}
-use Rattle.std.proofs.Common.{None, Some, ⊎_elim, refl, sym, ap, subst, arith, ne_eqb, eq-eqb, get_or}
-use Rattle.std.proofs.Common.{slice_get, All, Contains}
+-- What an action gives from a stable structure is stable under the rules that it leaves alone, and differs from
+-- it in what the action updates and evaluates anew.
+use Rattle.std.proofs.Common.{ℕ, zero, suc, ◌≡◌, ◌∙◌, ◌<◌, true, false, Bool, List, [], ◌∷◌, ◌++◌, length}
+use Rattle.std.proofs.Common.{map}
+use Rattle.std.proofs.Common.{filter, Option, None, Some, inl, inr, ⊎_elim, refl, sym, ap, subst, arith}
+use Rattle.std.proofs.Common.{ne_eqb, eq-eqb, get_or, slice_get, All, Contains, IsTrue}
 use Rattle.std.specs.Prelude.{◌==◌, ◌||◌, is_some, find}
 use Rattle.std.specs.List.{AllZip, range_with_len}
 use Rattle.std.proofs.lemmas.Bool.{cond-true, cond-false}
-use Rattle.std.proofs.lemmas.List.Elements.{All-contains, All-head, All-tail}
+use Rattle.std.proofs.lemmas.List.Elements.{All-contains, All-head, All-tail, Contains-append_left}
+use Rattle.std.proofs.lemmas.List.Elements.{Contains-append_right}
 use Rattle.std.proofs.lemmas.List.Folds.{list_any_at}
 use Rattle.std.proofs.lemmas.List.FromFn.{get_or-map-range_with_len, get_or-range_with_len}
 use Rattle.std.proofs.lemmas.List.FromFn.{length-map-range_with_len, length-range_with_len}
+use Rattle.tv_model.specs.declared.formula.PredId.{PredId}
 use Rattle.tv_model.specs.declared.program.Mode.{Mode}
+use Rattle.tv_model.specs.Form.{Form}
 use Rattle.tv_model.specs.declared.program.Mode.TheVariants.{Given, Recompute}
 use Rattle.tv_model.specs.Program.{ProgramForm, RuleForm, ActionForm, UpdateForm, RetainForm, KindForm, KCore}
 use Rattle.tv_model.specs.Program.{KDefined}
 use Rattle.tv_model.specs.Step.{update_for}
 use Rattle.tv_model.specs.Truth.{Assignment}
 use Rattle.tv_model.specs.Valid.{IsValid}
+use Rattle.tv_model.proofs.Decided.{Contains-decided}
 use Rattle.tv_model.proofs.Lists.{All-from_contains, Contains-cases, Contains-here, Contains-map}
 use Rattle.tv_model.proofs.Lists.{Contains-none, Contains-there, slice_get-contains}
 use Rattle.tv_embedding_laws.specs.LogicalStructure.{LogicalStructure}
@@ -26,13 +32,19 @@ use Rattle.tv_rules.proofs.Ranges.{rules_are_plain}
 use Rattle.tv_rules.specs.Standing.{StandsIn}
 use Rattle.tv_coerce_laws.specs.Split.{IsUntouched}
 use Rattle.tv_coerce_laws.proofs.Untouched.{untouched_rules_stay_stable}
-use Rattle.tv_struct.specs.StructureForm.{StructureForm, structure_of}
-use Rattle.tv_struct.proofs.Library.{below-range}
+use Rattle.tv_struct.specs.StructureForm.{StructureForm, structure_of, summary_at, value_at}
+use Rattle.tv_struct.specs.TableForm.{AreIndividuals}
+use Rattle.tv_struct.proofs.Library.{All-individuals, AreIndividuals-range, Contains-range, below-range}
 use Rattle.tv_update_laws.specs.Applied.{kind_at, update_at, used_update, new_value, keep_value, IsMiddleOf}
-use Rattle.tv_update_laws.specs.Applied.{IsNew}
+use Rattle.tv_update_laws.specs.Applied.{defined_value, IsChanged, AreChanged, IsNew}
 use Rattle.tv_update_laws.specs.Choices.{choices_of, stays_in, AreGiven}
+use Rattle.tv_update_laws.proofs.Predicates.{defined-found}
 use Rattle.tv_coerce.specs.RuleSets.{IsStableBut}
+use Rattle.tv_update.specs.Plan.{IsPlan, IsPlanFor, moves_individuals}
 use Rattle.tv_step_laws.proofs.From.{zip-back}
+use Rattle.tv_step.specs.declared.changed.Reach.{Reach}
+use Rattle.tv_step.specs.declared.changed.Reach.TheVariants.{Anywhere, Of}
+use Rattle.tv_step.specs.Changed.{AreAlike, AreAlikeBut, DiffersWithin, HasSameValues, IsReachOf}
 use Rattle.tv_step.specs.Waiting.{IsLeftAlone, WaitsFor}
 
 -- ---- no individual comes or goes
@@ -85,10 +97,13 @@ none-used Recompute (KDefined vars body) = refl
 
 kept-value : (middle new : LogicalStructure) (a : Assignment) (changed : Bool) (w : Option UpdateForm)
     (kind : KindForm) (q : ℕ) (origin tuple : List ℕ)
-    → w ≡ None → kind ≡ KCore → new_value middle new a changed w kind q origin tuple ≡ middle.value q origin
-kept-value middle new a changed w kind q origin tuple none core =
-    ap (λ o. new_value middle new a changed o kind q origin tuple) none
-    ∙ ap (λ k. new_value middle new a changed None k q origin tuple) core
+    → w ≡ None → ((vars : List ℕ) (body : Form) → kind ≡ KDefined vars body → changed ≡ false)
+    → new_value middle new a changed w kind q origin tuple ≡ middle.value q origin
+kept-value middle new a changed w KCore q origin tuple none quiet =
+    ap (λ o. new_value middle new a changed o KCore q origin tuple) none
+kept-value middle new a changed w (KDefined vars body) q origin tuple none quiet =
+    ap (λ o. new_value middle new a changed o (KDefined vars body) q origin tuple) none
+    ∙ cond-false changed (defined_value new vars body tuple) (middle.value q origin) (quiet vars body refl)
 
 -- ---- individuals that stay
 
@@ -114,72 +129,87 @@ tuple-stays f us (u ∷ tuple) each all =
 
 -- ---- the new structure
 
-new-stable : (p : ProgramForm) (mode : Mode) (action : ActionForm) (a : Assignment)
-    (middle new : LogicalStructure) (n k : ℕ) (rule : RuleForm)
-    → middle.individuals ≡ range_with_len 0 n → new.individuals ≡ range_with_len 0 k
-    → IsPlainRule rule → IsLeftAlone p action rule
-    → IsNew p mode action a middle (stays_in middle.individuals) new
-    → IsStableUnder middle rule → IsStableUnder new rule
-new-stable p mode action a middle new n k rule there here plain alone is before =
-    untouched_rules_stay_stable middle new rule plain.unmarked untouched before
-  where
-    ranges : (k ≡ n) × ((u : ℕ) → u < k → is.origin u ≡ u)
-    ranges = ranges-stay is.origin k n
-        (subst (λ us. map is.origin us ≡ range_with_len 0 n) here
-        (is.origins ∙ all-stay middle.individuals ∙ there))
-
-    same : middle.individuals ≡ new.individuals
-    same = there ∙ ap (range_with_len 0) (sym ranges.0) ∙ sym here
-
-    into : (u : ℕ) → Contains middle.individuals u → Contains new.individuals u
-    into u at = subst (λ us. Contains us u) same at
-
-    inside : (tuple : List ℕ) → All (Contains middle.individuals) tuple → All (Contains new.individuals) tuple
-    inside tuple all = subst (λ us. All (Contains us) tuple) same all
-
-    stays : (u : ℕ) → Contains new.individuals u → is.origin u ≡ u
-    stays u at = ranges.1 u (below-range k u (subst (λ us. Contains us u) here at))
-
-    kept : (q : ℕ) → StandsIn q rule → (tuple : List ℕ) → All (Contains new.individuals) tuple
-        → new.value q tuple ≡ middle.value q tuple
-    kept q stands tuple within =
-        is.values q tuple within
-        ∙ kept-value middle new a (is.changed q) (update_at p mode action q) (kind_at p q) q
-        (map is.origin tuple) tuple
-        (ap (used_update mode (kind_at p q)) (no-update q action.updates (alone.kept q stands))
-        ∙ none-used mode (kind_at p q)) (alone.core q stands)
-        ∙ ap (middle.value q) (tuple-stays is.origin new.individuals tuple stays within)
-
-    untouched : IsUntouched rule middle new
-    untouched = record {
-      individuals = λ u. (into u, λ at. subst (λ us. Contains us u) (sym same) at);
-      values = λ q stands tuple all. sym (kept q stands tuple (inside tuple all));
-      summaries = λ u at. sym (is.summaries u (into u at) ∙ ap middle.is_summary (stays u (into u at)));
-    }
-
-given-stable : (p : ProgramForm) (mode : Mode) (action : ActionForm) (s t : StructureForm) (a : Assignment)
-    (ts : List StructureForm) (rule : RuleForm)
-    → IsPlainRule rule → IsLeftAlone p action rule → IsStableUnder (structure_of s) rule
-    → AreGiven p mode action (structure_of s) a (map structure_of ts)
-    → Contains ts t → IsStableUnder (structure_of t) rule
-given-stable p mode action s t a ts rule plain alone stable (middle, of_s, news) at =
+-- where no individual comes or goes, the middle structure is the old one, and there is one choice
+given-new : (p : ProgramForm) (mode : Mode) (action : ActionForm) (s t : StructureForm) (a : Assignment)
+    (ts : List StructureForm) → moves_individuals action ≡ false
+    → AreGiven p mode action (structure_of s) a (map structure_of ts) → Contains ts t
+    → IsNew p mode action a (structure_of s) (stays_in (structure_of s).individuals) (structure_of t)
+given-new p mode action s t a ts stays (middle, of_s, news) at =
     let same : middle ≡ structure_of s
-    = subst (λ fresh. IsMiddleOf fresh (structure_of s) middle)
-    (not-fresh action.fresh action.retain alone.stays) of_s
+    = subst (λ fresh. IsMiddleOf fresh (structure_of s) middle) (not-fresh action.fresh action.retain stays) of_s
     in let ls : List LogicalStructure = map structure_of ts
     in let R : List ℕ → LogicalStructure → Type 0 = λ us l. IsNew p mode action a middle (stays_in us) l
     in let one : choices_of (keep_value middle a action.retain) middle.individuals ≡ middle.individuals ∷ []
-    = one-choice middle a action.retain (no-retain action.fresh action.retain alone.stays) middle.individuals
+    = one-choice middle a action.retain (no-retain action.fresh action.retain stays) middle.individuals
     in let found = zip-back R (middle.individuals ∷ []) ls (subst (λ uss. AllZip R uss ls) one news)
     (structure_of t)
     (Contains-map structure_of t ts at)
     in let all : middle.individuals ≡ found.0
     = ⊎_elim (λ e. e) (λ none. absurd (Contains-none found.0 none))
     (Contains-cases middle.individuals found.0 [] found.1)
-    in new-stable p mode action a middle (structure_of t) s.size t.size rule
-    (ap (λ (m : LogicalStructure). m.individuals) same) refl plain alone
+    in subst (λ (m : LogicalStructure). IsNew p mode action a m (stays_in m.individuals) (structure_of t)) same
     (subst (λ us. R us (structure_of t)) (sym all) found.2)
-    (subst (λ m. IsStableUnder m rule) (sym same) stable)
+
+module _ (p : ProgramForm) (mode : Mode) (action : ActionForm) (a : Assignment) (s t : StructureForm)
+    (is : IsNew p mode action a (structure_of s) (stays_in (structure_of s).individuals) (structure_of t)) where
+  ranges : (t.size ≡ s.size) × ((u : ℕ) → u < t.size → is.origin u ≡ u)
+  ranges = ranges-stay is.origin t.size s.size (is.origins ∙ all-stay (structure_of s).individuals)
+
+  same-value : (q : ℕ) → update_at p mode action q ≡ None
+      → ((vars : List ℕ) (body : Form) → kind_at p q ≡ KDefined vars body → is.changed q ≡ false)
+      → HasSameValues q s t
+  same-value q none quiet tuple within =
+      let all : All (Contains (structure_of t).individuals) tuple
+      = All-individuals t.size tuple (subst (λ n. AreIndividuals n tuple) (sym ranges.0) within)
+      in sym (is.values q tuple all
+      ∙ kept-value (structure_of s) (structure_of t) a (is.changed q) (update_at p mode action q) (kind_at p q) q
+      (map is.origin tuple) tuple none quiet
+      ∙ ap (value_at s q) (tuple-stays is.origin (structure_of t).individuals tuple
+      (λ u at. ranges.1 u (below-range t.size u at)) all))
+
+  alike : AreAlike s t
+  alike = record {
+    size = sym ranges.0;
+    summaries = λ u lt. let inside : u < t.size = omega (arith, lt, ranges.0)
+        in sym (is.summaries u (Contains-range t.size u inside) ∙ ap (summary_at s) (ranges.1 u inside));
+  }
+
+-- a predicate without an update has none that counts
+none-counts : (p : ProgramForm) (mode : Mode) (action : ActionForm) (q : ℕ)
+    → ¬ Contains (map (λ w. w.pred) action.updates) q → update_at p mode action q ≡ None
+none-counts p mode action q none =
+    ap (used_update mode (kind_at p q)) (no-update q action.updates none) ∙ none-used mode (kind_at p q)
+
+given-stable : (p : ProgramForm) (mode : Mode) (action : ActionForm) (s t : StructureForm) (a : Assignment)
+    (ts : List StructureForm) (rule : RuleForm)
+    → IsPlainRule rule → IsLeftAlone p action rule → IsStableUnder (structure_of s) rule
+    → AreGiven p mode action (structure_of s) a (map structure_of ts)
+    → Contains ts t → IsStableUnder (structure_of t) rule
+given-stable p mode action s t a ts rule plain alone stable given at =
+    untouched_rules_stay_stable (structure_of s) (structure_of t) rule plain.unmarked untouched stable
+  where
+    is : IsNew p mode action a (structure_of s) (stays_in (structure_of s).individuals) (structure_of t)
+    is = given-new p mode action s t a ts alone.stays given at
+
+    like : AreAlike s t
+    like = alike p mode action a s t is
+
+    core : (q : ℕ) → StandsIn q rule → (vars : List ℕ) (body : Form) → kind_at p q ≡ KDefined vars body
+        → is.changed q ≡ false
+    core q stands vars body defined = let clash : KCore ≡ KDefined vars body = sym (alone.core q stands) ∙ defined
+        in absurd (cc)
+
+    untouched : IsUntouched rule (structure_of s) (structure_of t)
+    untouched = record {
+      individuals = λ u. (
+        λ here. subst (λ n. Contains (range_with_len 0 n) u) like.size here,
+        λ here. subst (λ n. Contains (range_with_len 0 n) u) (sym like.size) here,
+      );
+      values = λ q stands tuple all.
+          same-value p mode action a s t is q (none-counts p mode action q (alone.kept q stands))
+          (core q stands) tuple (AreIndividuals-range s.size tuple all);
+      summaries = λ u here. like.summaries u (below-range s.size u here);
+    }
 
 -- only the rules that wait may be unmet in what the action gives
 pub given-rest : (p : ProgramForm) → IsValid p → (mode : Mode) (action : ActionForm) (s : StructureForm)
@@ -195,3 +225,73 @@ given-rest p valid mode action s a ts rules set same stable given waits =
     (All-contains IsPlainRule (closed_rules p) rule (rules_are_plain p valid) in_closed)
     (waits.alone n rule there out)
     (All-contains (IsStableUnder (structure_of s)) (closed_rules p) rule stable in_closed) given at)
+
+-- ---- the predicates that may differ
+
+-- what one set of changed predicates has, each has: definitions are ranked
+also-changed : (p : ProgramForm) (valid : IsValid p) (mode : Mode) (action : ActionForm) (one other : ℕ → Bool)
+    → AreChanged p mode action one → AreChanged p mode action other
+    → (n q : ℕ) → valid.rank q < n → IsTrue (one q) → IsTrue (other q)
+also-changed p valid mode action one other are too zero q below is = absurd (omega (arith, below))
+also-changed p valid mode action one other are too (suc n) q below is =
+    (too q).1 (by_kind (also-changed p valid mode action one other are too n) (update_at p mode action q)
+    (kind_at p q) refl ((are q).0 is))
+  where
+    by_kind : ((r : ℕ) → valid.rank r < n → IsTrue (one r) → IsTrue (other r))
+        → (used : Option UpdateForm) (kind : KindForm) → kind_at p q ≡ kind → IsChanged action one used kind
+        → IsChanged action other used kind
+    by_kind lower (Some w) kind k changed = tt
+    by_kind lower None KCore k changed = changed
+    by_kind lower None (KDefined vars body) k (inl moves) = inl moves
+    by_kind lower None (KDefined vars body) k (inr (r, mention, rest)) =
+        let found = defined-found p q vars body k
+        in let falls : valid.rank r < valid.rank q
+        = valid.no_cycle.falls q found.0 found.1 vars body found.2 r mention
+        in inr (r, mention, lower r (omega (arith, below, falls)) rest)
+
+isnt-true : (b : Bool) → (b ≡ true → ⊥) → b ≡ false
+isnt-true false never = refl
+isnt-true true never = absurd (never refl)
+
+-- what isn't updated and isn't in the plan has the same values
+given-alike : (p : ProgramForm) → IsValid p → (mode : Mode) (action : ActionForm) (s t : StructureForm)
+    (a : Assignment) (ts : List StructureForm) (order : List ℕ) → IsPlan p mode action order
+    → moves_individuals action ≡ false
+    → AreGiven p mode action (structure_of s) a (map structure_of ts) → Contains ts t
+    → AreAlikeBut (map (λ w. w.pred) action.updates ++ order) s t
+given-alike p valid mode action s t a ts order plan stays given at = record {
+  alike = alike p mode action a s t is;
+  others = λ q. ⊎_elim (λ among. inl (Contains-append_left updated order q among))
+      (λ none. ⊎_elim (λ among. inl (Contains-append_right updated order q among))
+      (λ out. inr (same-value p mode action a s t is q (none-counts p mode action q none)
+      (λ vars body defined. isnt-true (is.changed q)
+      (λ changed. out ((plan.members q).1 (
+        also-changed p valid mode action is.changed plan.changed is.are_changed
+            plan.are_changed (suc (valid.rank q)) q (omega arith) changed,
+        none-counts p mode action q none,
+      ))))))
+      (Contains-decided order q))
+      (Contains-decided updated q);
+}
+  where
+    updated : List ℕ
+    updated = map (λ w. w.pred) action.updates
+
+    is : IsNew p mode action a (structure_of s) (stays_in (structure_of s).individuals) (structure_of t)
+    is = given-new p mode action s t a ts stays given at
+
+-- what the action gives differs within its reach
+pub given-within : (p : ProgramForm) → IsValid p → (mode : Mode) (action : ActionForm) (s : StructureForm)
+    (a : Assignment) (ts : List StructureForm) (plan : List PredId) → IsPlanFor p mode action plan
+    → AreGiven p mode action (structure_of s) a (map structure_of ts)
+    → (reach : Reach) → IsReachOf action plan reach → All (DiffersWithin reach s) ts
+given-within p valid mode action s a ts plan is_plan given Anywhere of = λ k d lt. tt
+given-within p valid mode action s a ts plan is_plan given (Of updates preds) (stays, same, planned) =
+    subst (λ qs. All (AreAlikeBut qs s) ts) reached
+    (All-from_contains (AreAlikeBut (map (λ w. w.pred) action.updates ++ map (λ x. x.0) plan) s) ts
+    (λ t at. given-alike p valid mode action s t a ts (map (λ x. x.0) plan) is_plan stays given at))
+  where
+    reached : map (λ w. w.pred) action.updates ++ map (λ x. x.0) plan
+        ≡ map (λ w. w.pred.0) updates.now ++ map (λ x. x.0) preds.now
+    reached = ap (λ qs. qs ++ map (λ x. x.0) plan) (sym same)
+        ∙ ap (λ xs. map (λ w. w.pred.0) updates.now ++ map (λ x. x.0) xs) (sym planned)

@@ -20,7 +20,7 @@ use Rattle.tv_model.specs.Valid.{first_occurrences}
 use Rattle.tv_model.proofs.Lists.{Contains-cases, Contains-map, Contains-flat_map, Contains-filter}
 use Rattle.tv_model.proofs.Lists.{Contains-filter_back, All-from_contains, slice_get-contains}
 use Rattle.tv_eval_laws.proofs.Rounds.{range-push}
-use Rattle.tv_struct.proofs.Library.{Contains-range}
+use Rattle.tv_struct.proofs.Library.{Contains-range, below-range}
 use Rattle.tv_eval.specs.AssignmentForm.{IsAssigned, individual_for}
 use Rattle.tv_eval.specs.Formulas.{AreAssigned}
 use Rattle.tv_eval.specs.ScratchForm.{program_height}
@@ -258,6 +258,32 @@ limits-done action s v vars a u all limits =
     limits-first action s v vars a
     (subst (λ n. All (λ w. PicksKeepLimits action s vars (put a v w)) (range_with_len 0 n)) all limits)
 
+-- the individuals from n on and below m are passed over
+pub picks-skipped : {Y : Type 0} (R : ℕ → List Y → Type 0) (n m : ℕ) (old new : List Y) → n ≤ m
+    → ((k : ℕ) → n ≤ k → k < m → R k [])
+    → Adds (AreFrom R) (range_with_len 0 n) old new → Adds (AreFrom R) (range_with_len 0 m) old new
+picks-skipped R n zero old new le none added =
+    let same : n ≡ 0 = omega (arith, le) in subst (λ j. Adds (AreFrom R) (range_with_len 0 j) old new) same added
+picks-skipped R n (suc m) old new le none added =
+    ⊎_elim
+    (λ below. let before : Adds (AreFrom R) (range_with_len 0 m) old new
+    = picks-skipped R n m old new (omega (arith, below)) (λ k from lt. none k from (omega (arith, lt))) added
+    in let next : Adds (AreFrom R) (range_with_len 0 (m + 1)) old new
+    = rw (range-push m) (adds-more R (range_with_len 0 m) m old new new before
+    ([], none m (omega (arith, below)) (omega arith), sym (append-nil new)))
+    in let same : m + 1 ≡ suc m = omega arith
+    in subst (λ j. Adds (AreFrom R) (range_with_len 0 j) old new) same next)
+    (λ past. let same : n ≡ suc m = omega (arith, le, past)
+    in subst (λ j. Adds (AreFrom R) (range_with_len 0 j) old new) same added)
+    (cases_lt n (suc m))
+
+pub limits-skipped : (P : ℕ → Type 0) (n m : ℕ) → ((k : ℕ) → n ≤ k → k < m → P k)
+    → All P (range_with_len 0 n) → All P (range_with_len 0 m)
+limits-skipped P n m none all =
+    All-from_contains P (range_with_len 0 m)
+    (λ k at. ⊎_elim (λ below. All-contains P (range_with_len 0 n) k all (Contains-range n k below))
+    (λ past. none k past (below-range m k at)) (cases_lt k n))
+
 any-first : (Q : Assignment → Type 0) (us : List ℕ) (v : ℕ) (vars : List ℕ) (a : Assignment) (u : ℕ)
     → Contains us u
     → Any (λ ws. Q (put_all (put a v u) vars ws)) (lists_of us (length vars))
@@ -305,6 +331,16 @@ cause-none action s vars a Splits none cause =
 cause-none action s vars a Individuals none cause =
     subst (λ vs. IsCauseOfPicks action s vs a Individuals) (sym none) (0, [], omega arith, refl, cause)
 cause-none action s vars a Memory none cause = tt
+
+-- nothing is given where the assignment doesn't pass
+pub pick-fails : (p : ProgramForm) (mode : Mode) (action : ActionForm) (s : StructureForm) (a : Assignment)
+    → passes action s a ≡ false → PicksGive p mode action s [] a []
+pick-fails p mode action s a fails =
+    from-one (λ us part. PickGives p mode action s (put_all a [] us) part) [] [] (inl (fails, refl))
+
+pub limit-fails : (action : ActionForm) (s : StructureForm) (a : Assignment)
+    → passes action s a ≡ false → PicksKeepLimits action s [] a
+limit-fails action s a fails = limits-none action s [] a refl (λ passed. absurd (cc (passed, fails)))
 
 -- ---- all that an action may pick
 

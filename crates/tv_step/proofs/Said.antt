@@ -1,5 +1,5 @@
 -- What is said of a step along an edge.
-use Rattle.std.proofs.Common.{ℕ, List, All}
+use Rattle.std.proofs.Common.{ℕ, List}
 use Rattle.std.specs.Prelude.{Result, Ok, Err, IfOk, IfErr}
 use Rattle.std.proofs.lemmas.List.Elements.{All-contains}
 use Rattle.tv_kleene.specs.declared.K3.{K3}
@@ -9,9 +9,7 @@ use Rattle.tv_model.specs.Valid.{IsValid}
 use Rattle.tv_model.proofs.Lists.{All-from_contains}
 use Rattle.tv_struct.specs.StructureForm.{StructureForm, IsStructure}
 use Rattle.tv_struct.specs.declared.analysis.StageError.{StageError}
-use Rattle.tv_step_laws.specs.Budgets.{KeepsBudgets, IsStepCause}
 use Rattle.tv_step_laws.specs.Settled.{IsSettled}
-use Rattle.tv_step_laws.specs.Sound.{KeepsNewHeaps, TellsMessages}
 use Rattle.tv_step_laws.specs.Transfer.{Coerces, AreResults, AreMessageValues, IsActionOf}
 use Rattle.tv_step_laws.proofs.Heaps.{any_heap, message-heap, result-heap}
 use Rattle.tv_step_laws.proofs.Settled.{result-settled}

@@ -16,7 +16,7 @@ use Rattle.tv_struct.specs.StructureForm.{StructureForm, unmarked}
 use Rattle.tv_struct.proofs.OrderLaws.{structure_cmp-Equal}
 
 -- structures without marks are equal where they compare as equal
-pub same-unmarked : (s t : StructureForm) → s.fresh ≡ None → t.fresh ≡ None
+same-unmarked : (s t : StructureForm) → s.fresh ≡ None → t.fresh ≡ None
     → eq_by_cmp structure_cmp s t ≡ true → t ≡ s
 same-unmarked s t no_mark none equal =
     let as_it_is : (u : StructureForm) → u.fresh ≡ None → u ≡ unmarked u

@@ -1,18 +1,21 @@
 -- Focus, atom by atom.
-use Rattle.std.proofs.Common.{ℕ, ◌≡◌, ◌∙◌, ◌<◌, ◌≤◌, ◌+◌, zero, suc, List, [], ◌∷◌, ◌++◌, length, map, take}
-use Rattle.std.proofs.Common.{drop, min, inl, inr, refl, sym, ap, subst, arith, add-one, append_assoc, get_or}
+use Rattle.std.proofs.Common.{ℕ, ◌≡◌, ◌∙◌, ◌<◌, ◌+◌, zero, suc, List, [], ◌∷◌, ◌++◌, length, map, take}
+use Rattle.std.proofs.Common.{drop, inl, inr, refl, sym, ap, subst, arith, add-one, append_assoc, get_or}
 use Rattle.std.proofs.Common.{All, Contains}
 use Rattle.std.specs.Prelude.{Any}
 use Rattle.std.specs.List.{AllZip, range_with_len}
-use Rattle.std.proofs.lemmas.List.{append-nil, length-append, length-map, map-append, take-append-drop}
+use Rattle.std.proofs.lemmas.List.{append-nil, map-append, take-append-drop}
 use Rattle.std.proofs.lemmas.List.Elements.{All-nil, All-cons}
 use Rattle.std.proofs.lemmas.List.Concat.{flat_map-append}
-use Rattle.std.proofs.lemmas.List.FromFn.{length-range_with_len, map-range_with_len_more}
+use Rattle.std.proofs.lemmas.List.FromFn.{map-range_with_len_more}
 use Rattle.std.proofs.Math.Seq.{drop-cons, take-suc}
 use Rattle.tv_embedding_laws.specs.LogicalStructure.{LogicalStructure}
 use Rattle.tv_focus_laws.specs.FocusAtoms.{focus_atoms}
-use Rattle.tv_focus_laws.specs.Tables.{ShowsOver}
+use Rattle.tv_focus_laws.specs.Tables.{AreStage, ShowsOver}
 use Rattle.tv_focus.specs.Anchored.{AreAtomsOver}
+use Rattle.tv_focus.specs.Focused.{focused_from, structures_in}
+use Rattle.tv_focus.specs.Stage.{IsStageCause}
+use Rattle.tv_focus.specs.declared.focused.Focused.{Focused}
 use Rattle.tv_focus.proofs.Limits.{atoms-over}
 use Rattle.tv_model.specs.declared.formula.Formula.{Formula}
 use Rattle.tv_model.specs.Form.{Form, form_of}
@@ -27,9 +30,11 @@ use Rattle.tv_struct.specs.declared.analysis.StageError.{StageError}
 use Rattle.tv_struct.specs.declared.analysis.StageError.TheVariants.{Splits, Individuals, Memory}
 use Rattle.tv_step.specs.declared.focus.Turn.{Turn}
 use Rattle.tv_step.specs.Places.{focus_place}
+use Rattle.tv_step.specs.Setting.{IsStableIn}
 use Rattle.tv_step.specs.Steps.{Adds, IsFocusCause, KeepsLimits, AreFocusedWithin, FailsAt, IsCauseOfFocus}
 use Rattle.tv_step_laws.proofs.From.{from-all}
-use Rattle.tv_step.proofs.Adding.{each-unit}
+use Rattle.tv_step_laws.proofs.Settled.{stable-coerces}
+use Rattle.tv_step.proofs.Adding.{each-unit, from-one}
 
 -- ---- the list of places
 
@@ -43,16 +48,9 @@ places-more f items old n is =
     ap (λ xs. xs ++ at f n ∷ []) is ∙ append_assoc old (map (at f) (range_with_len 0 n)) (at f n ∷ [])
     ∙ ap (λ xs. old ++ xs) (sym (map-range_with_len_more (at f) 0 n n (omega arith)))
 
--- a list that fits in memory has all places
-pub places-all : (f : Form) (items old : List FocusPlace) (n limit cap : ℕ)
-    → items ≡ old ++ map (at f) (range_with_len 0 n) → length items ≤ cap → cap < limit
-    → n ≡ min (length (focus_atoms f)) limit → items ≡ old ++ places_in f
-places-all f items old n limit cap is few small e =
-    let count : length items ≡ length old + n
-    = ap length is ∙ length-append old (map (at f) (range_with_len 0 n))
-    ∙ ap (λ k. length old + k) (length-map (range_with_len 0 n) (at f) ∙ length-range_with_len 0 n)
-    in let exact : n ≡ length (focus_atoms f) = omega (arith, count, few, small, e)
-    in is ∙ ap (λ k. old ++ map (at f) (range_with_len 0 k)) exact
+pub places-all : (f : Form) (items old : List FocusPlace) (n : ℕ)
+    → items ≡ old ++ map (at f) (range_with_len 0 n) → n ≡ length (focus_atoms f) → items ≡ old ++ places_in f
+places-all f items old n is all = is ∙ ap (λ k. old ++ map (at f) (range_with_len 0 k)) all
 
 formulas-more : (fs : List Form) (f : Form) → focus_places (fs ++ f ∷ []) ≡ focus_places fs ++ places_in f
 formulas-more fs f = flat_map-append places_in fs (f ∷ [])
@@ -102,6 +100,38 @@ pub focus-adds : (p : ProgramForm) (place : FocusPlace) (s : StructureForm) (ts 
     → AllZip (IsTableOf p) ts (choices_at s place) → Adds (AreFrom (Coerces p)) ts old new
     → Adds (Focuses p place) s old new
 focus-adds p place s ts old new zip (own, from, is) = (own, (ts, zip, from), is)
+
+-- a structure whose atom is known is what focus makes of it, and a stable one is what coerce makes of it
+pub focus-itself : (p : ProgramForm) (place : FocusPlace) (s t : StructureForm) (old new : List StructureForm)
+    → IsShaped p s → IsStableIn p s → t ≡ s → AllZip (IsTableOf p) (t ∷ []) (choices_at s place)
+    → new ≡ old ++ t ∷ [] → Adds (Focuses p place) s old new
+focus-itself p place s t old new shaped stable same zip is = (
+  t ∷ [],
+  (
+    t ∷ [],
+    zip,
+    from-one (Coerces p) t (t ∷ [])
+        (stable-coerces p t (subst (IsShaped p) (sym same) shaped) (subst (IsStableIn p) (sym same) stable)),
+  ),
+  is,
+)
+
+-- what became of the structure, in the words of the turn
+pub made-stage : (s : StructureForm) (f g : Formula) (k : ℕ) (focused m : Focused) → f ≡ g → focused ≡ m
+    → AreStage s (form_of f) k (structures_in focused) → AreStage s (form_of g) k (structures_in m)
+made-stage s f g k focused m same is are =
+    subst (λ x. AreStage s (form_of g) k (structures_in x)) is
+    (subst (λ h. AreStage s (form_of h) k (structures_in focused)) same are)
+
+pub made-from : (s : StructureForm) (focused m : Focused) → focused ≡ m → focused_from focused ≡ s
+    → focused_from m ≡ s
+made-from s focused m is from = subst (λ x. focused_from x ≡ s) is from
+
+pub focus-cause : (s : StructureForm) (place : FocusPlace) (e : StageError)
+    → IsStageCause s place.formula place.atom e → IsFocusCause place (s ∷ []) e
+focus-cause s place Splits cause = (0, s, omega arith, refl, cause)
+focus-cause s place Individuals cause = (0, s, omega arith, refl, cause.1)
+focus-cause s place Memory cause = tt
 
 -- ---- all structures at hand
 

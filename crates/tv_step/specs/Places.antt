@@ -9,7 +9,7 @@ use Rattle.tv_step.specs.Waiting.{WaitsAt}
 use Rattle.tv_step.specs.declared.focus.Turn.{Turn}
 
 abbrev pub focus_place : Turn → FocusPlace
-focus_place turn = record { formula = form_of turn.formula.now; atom = turn.atom }
+focus_place turn = record { formula = form_of turn.formula.value; atom = turn.atom }
 
 -- the rules that a choice of an atom of the formula may leave unmet are in the set
 abbrev pub AreWaitingAt : Program → Form → List Bool → Type 0
@@ -17,4 +17,4 @@ AreWaitingAt program f set = WaitsAt (length program.vocab.preds) f (closed_rule
 
 -- those that a choice of the turn's atom may leave unmet wait
 abbrev pub HasWaiting : Program → Turn → Type 0
-HasWaiting program turn = AreWaitingAt program (form_of turn.formula.now) turn.waiting.value
+HasWaiting program turn = AreWaitingAt program (form_of turn.formula.value) turn.waiting.value

@@ -1,24 +1,39 @@
 //! The rules that may be unmet in a structure that came of a stable one over the same individuals: those
 //! about a predicate whose values differ.
 
-ghost use Rattle.std.specs.Prelude.{◌≡◌, ◌<◌, ◌+◌, ℕ, length, IfOk, IfSome, IsTrue};
+ghost use Rattle.std.specs.Prelude.{◌≡◌, ◌++◌, ◌∷◌, [], ℕ, List, length, map, IfOk, IsTrue};
+ghost use Rattle.std.specs.List.{range_with_len};
 ghost use Rattle.tv_coerce.specs.RuleSets.{IsStableBut};
 ghost use Rattle.tv_model.specs.Valid.{IsValid};
 ghost use Rattle.tv_rules.specs.Closing.{closed_rules};
 ghost use Rattle.tv_rules.specs.EntryForms.{rules_of};
 ghost use Rattle.tv_struct.specs.StructureForm.{arities_of};
 ghost use Rattle.tv_struct.specs.StructureRows.{HasArity};
-ghost use Rattle.tv_step.specs.Changed.{AreAlike, HasSameValues, WaitsBelow, WaitsBetween};
+ghost use Rattle.tv_step.specs.Changed.{AreAlike, DiffersWithin, HasSameValues, IsFew, WaitsAmong, set_of};
 ghost use Rattle.tv_step.specs.Setting.{form_in, IsStableIn};
 
 use crate::setting::Setting;
 use std::alloc::AllocError;
-use std::cmp::Ordering;
 use tv_coerce::RuleSet;
 use tv_kleene::K3;
-use tv_model::PredId;
-use tv_row::Row;
+use tv_model::{PredId, Update};
 use tv_struct::{Structure, Tuple};
+
+/// Where a structure may differ from the one that it came of.
+#[derive(Clone, Copy)]
+pub enum Reach<'a> {
+    /// In its individuals, in its summaries, and in each predicate.
+    Anywhere,
+    /// In the predicates of the updates and in the further predicates.
+    Of(&'a [Update], &'a [PredId]),
+}
+
+/// A stable structure, and where those that came of it may differ from it.
+#[derive(Clone, Copy)]
+pub struct Parent<'a> {
+    pub from: &'a Structure,
+    pub reach: Reach<'a>,
+}
 
 fn is_same(j: K3, k: K3) -> bool
     ensures { IsTrue result → j ≡ k }
@@ -26,21 +41,11 @@ fn is_same(j: K3, k: K3) -> bool
     j == k
 }
 
-fn are_equal(row: &Row, other: &Row) -> bool
-    requires { length row.now ≡ length other.now }
-    ensures { IsTrue result → row.now ≡ other.now }
-{
-    match row.compare(other) {
-        Ordering::Equal => true,
-        Ordering::Less | Ordering::Greater => false,
-    }
-}
-
 /// Whether the structures have the same individuals and the same summaries.
 fn are_alike(s: &Structure, t: &Structure) -> bool
     ensures { IsTrue result → AreAlike s.now t.now }
 {
-    s.size() == t.size() && are_equal(&s.summary_row(), &t.summary_row())
+    s.size() == t.size() && s.summary_row().equals(&t.summary_row())
 }
 
 /// Whether the nullary predicate has the same value in both.
@@ -61,7 +66,7 @@ fn has_same_row(s: &Structure, t: &Structure, p: PredId) -> bool
     requires other { HasArity t.now p.0 1 }
     ensures { IsTrue result → HasSameValues p.0 s.now t.now }
 {
-    are_equal(&s.unary_row(p), &t.unary_row(p))
+    s.unary_row(p).equals(&t.unary_row(p))
 }
 
 /// Whether the binary predicate has the same values in both.
@@ -73,20 +78,22 @@ fn has_same_rows(s: &Structure, t: &Structure, p: PredId) -> bool
     ensures { IsTrue result → HasSameValues p.0 s.now t.now }
 {
     for u in 0..s.size() {
-        if !are_equal(&s.row(p, u), &t.row(p, u)) {
+        if !s.row(p, u).equals(&t.row(p, u)) {
             return false;
         }
     }
     true
 }
 
-/// Whether the predicate has the same values in both.
+/// Whether the predicate has the same values in both. What is no predicate of theirs has none.
 fn has_same_values(s: &Structure, t: &Structure, p: PredId) -> bool
     requires size { s.now.size ≡ t.now.size }
     requires over { arities_of s.now ≡ arities_of t.now }
-    requires pred { p.0 < length (arities_of s.now) }
     ensures { IsTrue result → HasSameValues p.0 s.now t.now }
 {
+    if p.0 >= s.pred_count() {
+        return true;
+    }
     match s.arity(p) {
         0 => has_same_value(s, t, p),
         1 => has_same_row(s, t, p),
@@ -94,67 +101,121 @@ fn has_same_values(s: &Structure, t: &Structure, p: PredId) -> bool
     }
 }
 
-/// Puts the rules in which the predicate stands into the set, unless its values are the same.
-fn add_unless_same(x: &Setting, from: &Structure, s: &Structure, p: PredId, waiting: &mut RuleSet)
+/// The rules found so far, none at first.
+fn set_or_none(x: &Setting, found: Option<RuleSet>) -> Result<RuleSet, AllocError>
+    ensures { IfOk result (λ set. set ≡ set_of (rules_of x.now.closed.now) found) }
+{
+    match found {
+        None => RuleSet::of_none(x.alloc, x.closed),
+        Some(set) => Ok(set),
+    }
+}
+
+/// The rules found so far and those in which the predicate stands, unless its values are the same.
+fn with_changed(
+    x: &Setting,
+    from: &Structure,
+    s: &Structure,
+    p: PredId,
+    found: Option<RuleSet>,
+) -> Result<Option<RuleSet>, AllocError>
     requires size { from.now.size ≡ s.now.size }
     requires over { arities_of from.now ≡ arities_of s.now }
-    requires pred { p.0 < length (arities_of from.now) }
-    requires below { WaitsBelow p.0 (rules_of x.now.closed.now) from.now s.now waiting.old }
-    ensures { WaitsBelow (p.0 + 1) (rules_of x.now.closed.now) from.now s.now waiting.new }
+    requires count { length (set_of (rules_of x.now.closed.now) found) ≡ length (rules_of x.now.closed.now) }
+    ensures { IfOk result (λ more. (preds : List ℕ)
+        → WaitsAmong preds (rules_of x.now.closed.now) from.now s.now found
+        → WaitsAmong (preds ++ p.0 ∷ []) (rules_of x.now.closed.now) from.now s.now more) }
 {
     if has_same_values(from, s, p) {
-        return;
+        return Ok(found);
     }
-    waiting.add_pred(x.closed, p);
+    let mut set = set_or_none(x, found)?;
+    set.add_pred(x.closed, p);
+    Ok(Some(set))
 }
 
-/// No rules yet.
-fn none_waiting(x: &Setting, from: &Structure, s: &Structure) -> Result<RuleSet, AllocError>
-    ensures { IfOk result (WaitsBelow 0 (rules_of x.now.closed.now) from.now s.now) }
-{
-    RuleSet::of_none(x.alloc, x.closed)
-}
-
-/// The rules about a predicate whose values differ; none told where individuals came or went, or the
-/// summaries are others.
-fn waiting_between(
+/// The rules about any predicate whose values differ.
+fn waiting_in_all(
     x: &Setting,
     from: &Structure,
     s: &Structure,
 ) -> Result<Option<RuleSet>, AllocError>
-    requires { arities_of from.now ≡ arities_of s.now }
-    ensures { IfOk result (λ found. IfSome found
-        (WaitsBetween (rules_of x.now.closed.now) from.now s.now)) }
+    requires size { from.now.size ≡ s.now.size }
+    requires over { arities_of from.now ≡ arities_of s.now }
+    ensures { IfOk result (WaitsAmong (range_with_len 0 (length (arities_of from.now)))
+        (rules_of x.now.closed.now) from.now s.now) }
 {
-    if !are_alike(from, s) {
-        return Ok(None);
-    }
-    let mut waiting = none_waiting(x, from, s)?;
+    let mut found = None;
     for number in 0..from.pred_count() {
-        add_unless_same(x, from, s, PredId(number), &mut waiting);
+        found = with_changed(x, from, s, PredId(number), found)?;
     }
-    Ok(Some(waiting))
+    Ok(found)
 }
 
-/// The rules that may be unmet in what came of the stable `from`, where only those that wait may be: fewer,
-/// where it is over the same individuals and summaries.
+/// The rules about an updated predicate whose values differ.
+fn waiting_in_updated(
+    x: &Setting,
+    from: &Structure,
+    s: &Structure,
+    updates: &[Update],
+) -> Result<Option<RuleSet>, AllocError>
+    requires size { from.now.size ≡ s.now.size }
+    requires over { arities_of from.now ≡ arities_of s.now }
+    ensures { IfOk result (WaitsAmong (map (λ w. w.pred.0) updates.now)
+        (rules_of x.now.closed.now) from.now s.now) }
+{
+    let mut found = None;
+    for update in updates {
+        found = with_changed(x, from, s, update.pred, found)?;
+    }
+    Ok(found)
+}
+
+/// The same, and the rules about one of the further predicates whose values differ.
+fn waiting_in_some(
+    x: &Setting,
+    from: &Structure,
+    s: &Structure,
+    updates: &[Update],
+    preds: &[PredId],
+) -> Result<Option<RuleSet>, AllocError>
+    requires size { from.now.size ≡ s.now.size }
+    requires over { arities_of from.now ≡ arities_of s.now }
+    ensures { IfOk result (WaitsAmong (map (λ w. w.pred.0) updates.now ++ map (λ p. p.0) preds.now)
+        (rules_of x.now.closed.now) from.now s.now) }
+{
+    let mut found = waiting_in_updated(x, from, s, updates)?;
+    for p in preds {
+        found = with_changed(x, from, s, *p, found)?;
+    }
+    Ok(found)
+}
+
+/// The rules that may be unmet in what came of a stable structure, where only those that wait may be: fewer,
+/// where it is over the same individuals and summaries, and none told where no value differs, so that it is
+/// stable.
 pub fn waiting_in(
     x: &Setting,
     waiting: &RuleSet,
-    from: &Structure,
+    parent: Parent<'_>,
     s: &Structure,
-) -> Result<RuleSet, AllocError>
+) -> Result<Option<RuleSet>, AllocError>
     requires valid { IsValid (form_in x.now) }
     requires rules { rules_of x.now.closed.now ≡ closed_rules (form_in x.now) }
-    requires like { arities_of from.now ≡ arities_of s.now }
-    requires from { IsStableIn (form_in x.now) from.now }
+    requires like { arities_of parent.from.now ≡ arities_of s.now }
+    requires from { IsStableIn (form_in x.now) parent.from.now }
+    requires within { DiffersWithin parent.reach parent.from.now s.now }
     requires count { length waiting.now ≡ length (rules_of x.now.closed.now) }
     requires rest { IsStableBut (rules_of x.now.closed.now) waiting.now s.now }
-    ensures count { IfOk result (λ set. length set ≡ length (rules_of x.now.closed.now)) }
-    ensures rest { IfOk result (λ set. IsStableBut (rules_of x.now.closed.now) set s.now) }
+    ensures { IfOk result (IsFew (form_in x.now) (rules_of x.now.closed.now) s.now) }
 {
-    match waiting_between(x, from, s)? {
-        Some(few) => Ok(few),
-        None => waiting.copy(x.alloc),
+    match parent.reach {
+        Reach::Anywhere => {
+            if !are_alike(parent.from, s) {
+                return Ok(Some(waiting.copy(x.alloc)?));
+            }
+            waiting_in_all(x, parent.from, s)
+        }
+        Reach::Of(updates, preds) => waiting_in_some(x, parent.from, s, updates, preds),
     }
 }

@@ -1,16 +1,17 @@
 //! Coerce in a step.
 
-ghost use Rattle.std.specs.Prelude.{◌≡◌, length, All, IfOk, IsTrue, OnOk};
+ghost use Rattle.std.specs.Prelude.{◌≡◌, length, All, IfOk, OnOk};
 ghost use Rattle.tv_coerce.specs.RuleSets.{IsStableBut};
 ghost use Rattle.tv_rules.specs.EntryForms.{rules_of};
 ghost use Rattle.tv_struct.specs.StructureForm.{IsOver};
 ghost use Rattle.tv_step_laws.specs.Parts.{AreFrom};
 ghost use Rattle.tv_step_laws.specs.Shaped.{IsShaped};
+ghost use Rattle.tv_step.specs.Changed.{DiffersWithin};
 ghost use Rattle.tv_step.specs.Ending.{Becomes, IsEndOf};
 ghost use Rattle.tv_step.specs.Setting.{form_in, IsReadyToStep, IsStableIn};
 ghost use Rattle.tv_step.specs.Steps.{Adds};
 
-use crate::changed::waiting_in;
+use crate::changed::{Parent, waiting_in};
 use crate::setting::Setting;
 use std::alloc::AllocError;
 use tv_blur::into_blurred;
@@ -62,42 +63,31 @@ fn push_in_place(
     }
 }
 
-/// Whether two structures without marks are the same.
-fn are_same(s: &Structure, t: &Structure) -> bool
-    ensures { IsTrue result → s.now ≡ t.now }
-{
-    match (s.fresh(), t.fresh()) {
-        (None, None) => s == t,
-        _ => false,
-    }
-}
-
-/// The same for a structure that came of the stable one `from`. Where it is that one again, no rule is tried,
-/// and where it is over the same individuals and summaries only the rules about a predicate whose values
-/// differ.
+/// The same for a structure that came of a stable one. Where no value differs no rule is tried, and where it
+/// is over the same individuals and summaries only the rules about a predicate whose values differ.
 fn push_next(
     x: &Setting,
     ending: Ending,
     waiting: &RuleSet,
-    from: &Structure,
+    parent: Parent<'_>,
     s: Structure,
     scratch: &mut Scratch,
     out: &mut Structures,
 ) -> Result<(), AllocError>
     requires ready { IsReadyToStep x.now scratch.old }
-    requires like { IsShaped (form_in x.now) from.now }
-    requires from { IsStableIn (form_in x.now) from.now }
+    requires like { IsShaped (form_in x.now) parent.from.now }
+    requires from { IsStableIn (form_in x.now) parent.from.now }
     requires shaped { IsShaped (form_in x.now) s }
+    requires within { DiffersWithin parent.reach parent.from.now s }
     requires count { length waiting.now ≡ length (rules_of x.now.closed.now) }
     requires rest { IsStableBut (rules_of x.now.closed.now) waiting.now s }
     ensures out { OnOk result (Adds (Becomes ending (form_in x.now)) s out.old out.new) }
     ensures scratch { scratch.new ≡ scratch.old }
 {
-    if are_same(&s, from) {
-        return out.push(ended(x, ending, s)?);
+    match waiting_in(x, waiting, parent, &s)? {
+        None => out.push(ended(x, ending, s)?),
+        Some(few) => push_in_place(x, ending, few, s, scratch, out),
     }
-    let few = waiting_in(x, waiting, from, &s)?;
-    push_in_place(x, ending, few, s, scratch, out)
 }
 
 /// The same for each of the structures that came of it; each goes as soon as it is coerced.
@@ -105,22 +95,23 @@ pub fn push_all(
     x: &Setting,
     ending: Ending,
     waiting: &RuleSet,
-    from: &Structure,
+    parent: Parent<'_>,
     structures: Structures,
     scratch: &mut Scratch,
     out: &mut Structures,
 ) -> Result<(), AllocError>
     requires ready { IsReadyToStep x.now scratch.old }
-    requires like { IsShaped (form_in x.now) from.now }
-    requires from { IsStableIn (form_in x.now) from.now }
+    requires like { IsShaped (form_in x.now) parent.from.now }
+    requires from { IsStableIn (form_in x.now) parent.from.now }
     requires shaped { All (IsShaped (form_in x.now)) structures }
+    requires within { All (DiffersWithin parent.reach parent.from.now) structures }
     requires count { length waiting.now ≡ length (rules_of x.now.closed.now) }
     requires rest { All (IsStableBut (rules_of x.now.closed.now) waiting.now) structures }
     ensures out { OnOk result (Adds (AreFrom (Becomes ending (form_in x.now))) structures out.old out.new) }
     ensures scratch { scratch.new ≡ scratch.old }
 {
     for s in structures.into_vec() {
-        push_next(x, ending, waiting, from, s, scratch, out)?;
+        push_next(x, ending, waiting, parent, s, scratch, out)?;
     }
     Ok(())
 }

@@ -16,6 +16,7 @@ ghost use Rattle.tv_step.specs.Setting.{form_in, IsReadyToStep, IsStableIn};
 ghost use Rattle.tv_step.specs.Steps.{Adds, IsPlace, KeepsLimits, IsFocusCause, AreFocusedWithin};
 ghost use Rattle.tv_step.specs.Steps.{IsCauseOfFocus};
 
+use crate::changed::{Parent, Reach};
 use crate::coerced::{Ending, push_all};
 use crate::setting::Setting;
 use crate::waiting::waiting_at;
@@ -23,15 +24,15 @@ use std::alloc::AllocError;
 use std::rc::Rc;
 use tv_coerce::RuleSet;
 use tv_eval::Scratch;
-use tv_focus::{atom_count, focus_stage};
+use tv_focus::{FocusAtoms, Focused, into_focused};
 use tv_model::Formula;
 use tv_struct::{StageError, Structure, Structures};
 
 /// An atom of a focus formula, by its number, and the rules that a choice of it may leave unmet in a
-/// structure that was stable: the atoms of an action share them.
+/// structure that was stable. The atoms of a formula share its list, and those of an action the rules.
 #[derive(Drop)]
 pub struct Turn<'a> {
-    pub formula: &'a Formula,
+    pub formula: Rc<FocusAtoms<'a>>,
     pub atom: usize,
     pub waiting: Rc<RuleSet>,
 }
@@ -47,24 +48,26 @@ pub fn turns<'a>(x: &Setting, formulas: &'a [Formula]) -> Result<Vec<Turn<'a>>, 
     let waiting = Rc::new(x.alloc, waiting_at(x, formulas)?)?;
     let mut turns = Vec::new(x.alloc);
     for formula in formulas {
-        push_turns(formula, &waiting, &mut turns)?;
+        let atoms = Rc::new(x.alloc, FocusAtoms::new(x.alloc, formula)?)?;
+        push_turns(&atoms, &waiting, &mut turns)?;
     }
     Ok(turns)
 }
 
 /// Puts the atoms of the formula behind the others, each with these rules.
 fn push_turns<'a>(
-    formula: &'a Formula,
+    atoms: &Rc<FocusAtoms<'a>>,
     waiting: &Rc<RuleSet>,
     turns: &mut Vec<Turn<'a>>,
 ) -> Result<(), AllocError>
     ensures places { OnOk result (map focus_place turns.new.items
-        ≡ map focus_place turns.old.items ++ places_in (form_of formula.now)) }
+        ≡ map focus_place turns.old.items ++ places_in (form_of atoms.now.value)) }
     ensures waiting { OnOk result
-        ((program : Program) → AreWaitingAt program (form_of formula.now) waiting.now.value
+        ((program : Program) → AreWaitingAt program (form_of atoms.now.value) waiting.now.value
         → All (HasWaiting program) turns.old.items → All (HasWaiting program) turns.new.items) }
 {
-    for atom in 0..atom_count(formula) {
+    for atom in 0..atoms.count() {
+        let formula = atoms.clone()?;
         let waiting = waiting.clone()?;
         turns.push(Turn {
             formula,
@@ -75,53 +78,92 @@ fn push_turns<'a>(
     Ok(())
 }
 
-/// Puts what focus on the atom makes of the stable `s` behind the others: its choices, each coerced or
-/// dropped.
+/// Puts what focus on the atom makes of the stable `s` behind the others: `s` itself where the atom's values
+/// are known, and else its choices, each coerced or dropped.
 fn push_focused(
     x: &Setting,
     turn: &Turn<'_>,
-    s: &Structure,
+    s: Structure,
     scratch: &mut Scratch,
     out: &mut Structures,
 ) -> Result<(), StageError>
     requires ready { IsReadyToStep x.now scratch.old }
     requires place { IsPlace (form_in x.now) (focus_place turn.now) }
     requires waiting { HasWaiting x.now.program.now turn.now }
-    requires shaped { IsShaped (form_in x.now) s.now }
-    requires stable { IsStableIn (form_in x.now) s.now }
-    ensures out { OnOk result (Adds (Focuses (form_in x.now) (focus_place turn.now)) s.now out.old out.new) }
-    ensures within { OnOk result (IsWithinLimits s.now (focus_place turn.now).formula turn.now.atom) }
-    ensures cause { IfErr result (IsFocusCause (focus_place turn.now) (s.now ∷ [])) }
+    requires shaped { IsShaped (form_in x.now) s }
+    requires stable { IsStableIn (form_in x.now) s }
+    ensures out { OnOk result (Adds (Focuses (form_in x.now) (focus_place turn.now)) s out.old out.new) }
+    ensures within { OnOk result (IsWithinLimits s (focus_place turn.now).formula turn.now.atom) }
+    ensures cause { IfErr result (IsFocusCause (focus_place turn.now) (s ∷ [])) }
     ensures scratch { scratch.new ≡ scratch.old }
 {
-    let vocab = &x.program.vocab;
-    let choices = focus_stage(x.alloc, vocab, turn.formula, turn.atom, s)?;
-    push_all(x, Ending::Open, &turn.waiting, s, choices, scratch, out)?;
-    Ok(())
+    match into_focused(x.alloc, &turn.formula, turn.atom, s)? {
+        Focused::Same(s) => Ok(out.push(s)?),
+        Focused::Choices(from, choices) => {
+            let parent = Parent {
+                from: &from,
+                reach: Reach::Anywhere,
+            };
+            Ok(push_all(
+                x,
+                Ending::Open,
+                &turn.waiting,
+                parent,
+                choices,
+                scratch,
+                out,
+            )?)
+        }
+    }
 }
 
 /// The structures at hand after the atom, of those before it.
 fn focus_all(
     x: &Setting,
     turn: &Turn<'_>,
-    at_hand: &[Structure],
+    at_hand: Structures,
     scratch: &mut Scratch,
 ) -> Result<Structures, StageError>
     requires ready { IsReadyToStep x.now scratch.old }
     requires place { IsPlace (form_in x.now) (focus_place turn.now) }
     requires waiting { HasWaiting x.now.program.now turn.now }
-    requires shaped { All (IsShaped (form_in x.now)) at_hand.now }
-    requires stable { All (IsStableIn (form_in x.now)) at_hand.now }
-    ensures out { IfOk result (AreFrom (Focuses (form_in x.now) (focus_place turn.now)) at_hand.now) }
-    ensures within { OnOk result (KeepsLimits (focus_place turn.now) at_hand.now) }
-    ensures cause { IfErr result (IsFocusCause (focus_place turn.now) at_hand.now) }
+    requires shaped { All (IsShaped (form_in x.now)) at_hand }
+    requires stable { All (IsStableIn (form_in x.now)) at_hand }
+    ensures out { IfOk result (AreFrom (Focuses (form_in x.now) (focus_place turn.now)) at_hand) }
+    ensures within { OnOk result (KeepsLimits (focus_place turn.now) at_hand) }
+    ensures cause { IfErr result (IsFocusCause (focus_place turn.now) at_hand) }
     ensures scratch { scratch.new ≡ scratch.old }
 {
     let mut out = Structures::new(x.alloc);
-    for s in at_hand {
+    for s in at_hand.into_vec() {
         push_focused(x, turn, s, scratch, &mut out)?;
     }
     Ok(out)
+}
+
+/// Copies of the structures.
+fn copies(x: &Setting, structures: &[Structure]) -> Result<Structures, AllocError>
+    ensures { IfOk result (λ ss. ss ≡ structures.now) }
+{
+    let mut out = Structures::new(x.alloc);
+    for s in structures {
+        out.push(s.copy(x.alloc)?)?;
+    }
+    Ok(out)
+}
+
+/// The structures at hand in memory of their own, so that focus can take them over.
+fn own_at_hand(
+    x: &Setting,
+    found: Option<Structures>,
+    start: &[Structure],
+) -> Result<Structures, AllocError>
+    ensures { IfOk result (λ ss. ss ≡ unwrap_or found start.now) }
+{
+    match found {
+        None => copies(x, start),
+        Some(structures) => Ok(structures),
+    }
 }
 
 /// The structures at hand: those that focus made, if there was an atom, and else those to begin with.
@@ -154,8 +196,8 @@ pub fn focused(
 {
     let mut found = None;
     for turn in turns {
-        let next = focus_all(x, turn, at_hand(&found, start), scratch)?;
-        found = Some(next);
+        let at_hand = own_at_hand(x, found, start)?;
+        found = Some(focus_all(x, turn, at_hand, scratch)?);
     }
     Ok(found)
 }

@@ -1,23 +1,25 @@
 //! The individuals that an action picks in a structure, and what it gives under them.
 
 ghost use Rattle.std.specs.Prelude.{◌≡◌, ◌<◌, ◌≤◌, ◌↔◌, ◌^◌, All, IsTrue, IfErr, OnOk, [], ◌∷◌, length, min};
-ghost use Rattle.tv_kleene.specs.declared.K3.TheVariants.{No};
-ghost use Rattle.tv_struct.specs.StructureForm.{structure_of};
+ghost use Rattle.std.specs.Prelude.{true};
 ghost use Rattle.std.specs.List.{range_with_len};
-ghost use Rattle.tv_update_laws.specs.Picks.{lists_of, precondition_value};
+ghost use Rattle.tv_update_laws.specs.Picks.{lists_of};
 ghost use Rattle.tv_eval.specs.AssignmentForm.{assignment_of};
 ghost use Rattle.tv_model.specs.Program.{picks_of};
 ghost use Rattle.tv_model.specs.Valid.{IsVariable};
 ghost use Rattle.tv_step.specs.Job.{IsCase, ArePicked, ArePickedBut, case_program, case_action, case_mode};
-ghost use Rattle.tv_step.specs.Job.{case_structure};
+ghost use Rattle.tv_step.specs.Job.{action_in, case_structure};
+ghost use Rattle.tv_step.specs.Changed.{IsReachOf};
 ghost use Rattle.tv_step.specs.Steps.{Adds, passes, PickGives, PicksGive, PickKeepsLimits, PicksKeepLimits};
 ghost use Rattle.tv_step.specs.Steps.{IsCauseOfPick, IsCauseOfPicks, StepsIn, KeepsUpdateLimits};
 ghost use Rattle.tv_step.specs.Steps.{IsCauseOfUpdate};
 ghost use Rattle.tv_step.specs.Allowed.{precondition_values};
 
+use crate::changed::{Parent, Reach};
 use crate::coerced::{Ending, push_all};
 use crate::job::Job;
 use crate::setting::Setting;
+use crate::waiting::moves;
 use tv_eval::{Assignment, Evaluator, Scratch, eval};
 use tv_kleene::K3;
 use tv_model::Var;
@@ -30,9 +32,9 @@ const MAX_PICKS: u32 = 4096;
 
 /// An action that is applied to a stable structure at hand.
 #[derive(Clone, Copy)]
-pub struct Case<'a> {
+pub struct Case<'a, 'b> {
     pub setting: &'a Setting<'a, 'a>,
-    pub job: &'a Job<'a>,
+    pub job: &'a Job<'b>,
     pub from: &'a Structure,
 }
 
@@ -64,9 +66,64 @@ fn is_passed(c: &Case, picks: &Assignment, scratch: &mut Scratch) -> bool
     }
 }
 
-/// Puts what the action gives under the picked individuals, coerced and blurred, behind the others; nothing
-/// where the precondition is `No`.
+/// Where what the action gives may differ from a structure that it is applied to.
+fn reach_of<'a>(job: &'a Job<'_>) -> Reach<'a>
+    ensures { IsReachOf (action_in job.now) job.now.plan result }
+{
+    if moves(job.action) {
+        return Reach::Anywhere;
+    }
+    Reach::Of(job.action.updates.as_slice(), job.plan.as_slice())
+}
+
+/// Puts what the action gives under the picked individuals, which pass the precondition, behind the others:
+/// coerced and blurred.
 fn push_given(
+    c: &Case,
+    picks: &Assignment,
+    scratch: &mut Scratch,
+    out: &mut Structures,
+) -> Result<(), StageError>
+    requires case { IsCase c.now scratch.old }
+    requires picks { ArePicked c.now picks.now }
+    requires passed { passes (case_action c.now) (case_structure c.now) (assignment_of picks.now) ≡ true }
+    ensures out { OnOk result (Adds (PickGives (case_program c.now) (case_mode c.now) (case_action c.now)
+        (case_structure c.now)) (assignment_of picks.now) out.old out.new) }
+    ensures within { OnOk result
+        (PickKeepsLimits (case_action c.now) (case_structure c.now) (assignment_of picks.now)) }
+    ensures cause { IfErr result
+        (IsCauseOfPick (case_action c.now) (case_structure c.now) (assignment_of picks.now)) }
+    ensures scratch { scratch.new ≡ scratch.old }
+{
+    let x = c.setting;
+    let given = update_by_plan(
+        x.alloc,
+        x.program,
+        c.job.number,
+        x.mode,
+        &c.job.plan,
+        c.from,
+        picks,
+        scratch,
+    )?;
+    let parent = Parent {
+        from: c.from,
+        reach: reach_of(c.job),
+    };
+    push_all(
+        x,
+        Ending::Blurred,
+        &c.job.waiting,
+        parent,
+        given,
+        scratch,
+        out,
+    )?;
+    Ok(())
+}
+
+/// The same where nothing is told of the precondition: nothing is put where it is `No`.
+fn push_passed(
     c: &Case,
     picks: &Assignment,
     scratch: &mut Scratch,
@@ -85,27 +142,7 @@ fn push_given(
     if !is_passed(c, picks, scratch) {
         return Ok(());
     }
-    let x = c.setting;
-    let given = update_by_plan(
-        x.alloc,
-        x.program,
-        c.job.number,
-        c.setting.mode,
-        &c.job.plan,
-        c.from,
-        picks,
-        scratch,
-    )?;
-    push_all(
-        x,
-        Ending::Blurred,
-        &c.job.waiting,
-        c.from,
-        given,
-        scratch,
-        out,
-    )?;
-    Ok(())
+    push_given(c, picks, scratch, out)
 }
 
 /// The values of the precondition for all individuals, put for `v`; `Yes` where there is none.
@@ -126,38 +163,6 @@ fn precondition_row(c: &Case, v: Var, picks: &Assignment, scratch: &mut Scratch)
             row
         }
     }
-}
-
-fn is_no(k: K3) -> bool
-    ensures { IsTrue result → k ≡ No }
-{
-    k == K3::No
-}
-
-/// The same as `push_given`, where the precondition has the value `k`.
-fn push_unless_no(
-    c: &Case,
-    k: K3,
-    picks: &Assignment,
-    scratch: &mut Scratch,
-    out: &mut Structures,
-) -> Result<(), StageError>
-    requires case { IsCase c.now scratch.old }
-    requires picks { ArePicked c.now picks.now }
-    requires value { k ≡ precondition_value (structure_of (case_structure c.now)) (assignment_of picks.now)
-        (case_action c.now).pre }
-    ensures out { OnOk result (Adds (PickGives (case_program c.now) (case_mode c.now) (case_action c.now)
-        (case_structure c.now)) (assignment_of picks.now) out.old out.new) }
-    ensures within { OnOk result
-        (PickKeepsLimits (case_action c.now) (case_structure c.now) (assignment_of picks.now)) }
-    ensures cause { IfErr result
-        (IsCauseOfPick (case_action c.now) (case_structure c.now) (assignment_of picks.now)) }
-    ensures scratch { scratch.new ≡ scratch.old }
-{
-    if is_no(k) {
-        return Ok(());
-    }
-    push_given(c, picks, scratch, out)
 }
 
 /// The same where each individual is put for the last variable: only those are tried under which the
@@ -181,8 +186,12 @@ fn push_last(
     ensures scratch { scratch.new ≡ scratch.old }
 {
     let row = precondition_row(c, v, picks, scratch);
-    for u in 0..c.from.size() {
-        push_unless_no(c, row.get(u), &picks.with(v, u), scratch, out)?;
+    let mut here = *picks;
+    let mut from = 0;
+    while let Some(u) = row.next_possible(from) {
+        here.set(v, u);
+        push_given(c, &here, scratch, out)?;
+        from = u + 1;
     }
     Ok(())
 }
@@ -192,23 +201,23 @@ fn push_last(
 fn push_picked(
     c: &Case,
     left: &[Var],
-    picks: Assignment,
+    picks: &Assignment,
     scratch: &mut Scratch,
     out: &mut Structures,
 ) -> Result<(), StageError>
     requires case { IsCase c.now scratch.old }
     requires left { All IsVariable (picks_of left.now) }
-    requires picks { ArePickedBut c.now (picks_of left.now) picks }
+    requires picks { ArePickedBut c.now (picks_of left.now) picks.now }
     ensures out { OnOk result (Adds (PicksGive (case_program c.now) (case_mode c.now) (case_action c.now)
-        (case_structure c.now) (picks_of left.now)) (assignment_of picks) out.old out.new) }
+        (case_structure c.now) (picks_of left.now)) (assignment_of picks.now) out.old out.new) }
     ensures within { OnOk result (PicksKeepLimits (case_action c.now) (case_structure c.now)
-        (picks_of left.now) (assignment_of picks)) }
+        (picks_of left.now) (assignment_of picks.now)) }
     ensures cause { IfErr result (IsCauseOfPicks (case_action c.now) (case_structure c.now)
-        (picks_of left.now) (assignment_of picks)) }
+        (picks_of left.now) (assignment_of picks.now)) }
     ensures scratch { scratch.new ≡ scratch.old }
 {
     match left {
-        [] => push_given(c, &picks, scratch, out),
+        [] => push_passed(c, picks, scratch, out),
         [v, rest @ ..] => push_each(c, *v, rest, picks, scratch, out),
     }
 }
@@ -219,27 +228,29 @@ fn push_each(
     c: &Case,
     v: Var,
     left: &[Var],
-    picks: Assignment,
+    picks: &Assignment,
     scratch: &mut Scratch,
     out: &mut Structures,
 ) -> Result<(), StageError>
     requires case { IsCase c.now scratch.old }
     requires variable { IsVariable v.0 }
     requires left { All IsVariable (picks_of left.now) }
-    requires picks { ArePickedBut c.now (v.0 ∷ picks_of left.now) picks }
+    requires picks { ArePickedBut c.now (v.0 ∷ picks_of left.now) picks.now }
     ensures out { OnOk result (Adds (PicksGive (case_program c.now) (case_mode c.now) (case_action c.now)
-        (case_structure c.now) (v.0 ∷ picks_of left.now)) (assignment_of picks) out.old out.new) }
+        (case_structure c.now) (v.0 ∷ picks_of left.now)) (assignment_of picks.now) out.old out.new) }
     ensures within { OnOk result (PicksKeepLimits (case_action c.now) (case_structure c.now)
-        (v.0 ∷ picks_of left.now) (assignment_of picks)) }
+        (v.0 ∷ picks_of left.now) (assignment_of picks.now)) }
     ensures cause { IfErr result (IsCauseOfPicks (case_action c.now) (case_structure c.now)
-        (v.0 ∷ picks_of left.now) (assignment_of picks)) }
+        (v.0 ∷ picks_of left.now) (assignment_of picks.now)) }
     ensures scratch { scratch.new ≡ scratch.old }
 {
     if left.is_empty() {
-        return push_last(c, v, &picks, scratch, out);
+        return push_last(c, v, picks, scratch, out);
     }
+    let mut here = *picks;
     for u in 0..c.from.size() {
-        push_picked(c, left, picks.with(v, u), scratch, out)?;
+        here.set(v, u);
+        push_picked(c, left, &here, scratch, out)?;
     }
     Ok(())
 }
@@ -257,5 +268,5 @@ pub fn push_steps(c: &Case, scratch: &mut Scratch, out: &mut Structures) -> Resu
     if !are_few(c.from.size(), picked.len()) {
         return Err(StageError::Splits);
     }
-    push_picked(c, picked, Assignment::new(), scratch, out)
+    push_picked(c, picked, &Assignment::new(), scratch, out)
 }

@@ -38,9 +38,9 @@ pub struct StepOut {
 }
 
 /// What the structures at hand give, one after the other.
-fn given<'a>(
+fn given<'a, 'b>(
     x: &'a Setting<'a, 'a>,
-    job: &'a Job<'a>,
+    job: &'a Job<'b>,
     at_hand: &'a [Structure],
     scratch: &mut Scratch,
 ) -> Result<Structures, StageError>

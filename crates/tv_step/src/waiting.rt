@@ -17,7 +17,7 @@ use tv_coerce::RuleSet;
 use tv_model::{Action, Formula, Kind, PredId, Update, mentions};
 
 /// Whether individuals may come or go.
-fn moves(action: &Action) -> bool
+pub fn moves(action: &Action) -> bool
     ensures { result ≡ moves_individuals (action_of action.now) }
 {
     action.fresh || action.retain.is_some()

@@ -7,7 +7,8 @@ use std::alloc::{AllocError, AllocFailed};
 use thiserror::Error;
 use tv_struct::StageError;
 
-/// Why an analysis gave no answer, one that lists all that is reached or a joined one, of which a round counts.
+/// Why an analysis gave no answer, one that lists all that is reached or a joined one, of which a round
+/// counts.
 #[derive(Clone, Copy, Debug, PartialEq, Eq, Error)]
 pub enum WorkError {
     /// More structures are reached, or listed by a round, than were allowed.

@@ -5,7 +5,7 @@ use Rattle.tv_step.proofs.changed.has_same_rows.Goals as goal
 pub loop-u-preserved : goal.loop-u-preserved
 loop-u-preserved c =
     next-row c.args.s.now c.args.t.now c.args.p.0 c.loop-u.u c.loop-u.invariant
-    (sym c.row.ensures ∙ c.are_equal.ensures c.if-not-are_equal.false ∙ c.row-in-loop-u.ensures)
+    (sym c.row.ensures ∙ c.equals.ensures.0 c.if-not-equals.false ∙ c.row-in-loop-u.ensures)
 
 pub returns : goal.returns
 returns c same =

@@ -1,37 +1,46 @@
-use Rattle.std.proofs.Common.{◌≡◌, ◌∙◌, length, ap, subst, sym}
-use Rattle.std.specs.Prelude.{IfSome}
+use Rattle.std.proofs.Common.{◌∙◌, ◌++◌, length, ap, map, subst, sym}
+use Rattle.std.specs.List.{range_with_len}
 use Rattle.std.proofs.lemmas.Result.{IfOk-weaker}
 use Rattle.tv_rules.specs.EntryForms.{rules_of}
 use Rattle.tv_coerce.specs.RuleSets.{IsStableBut}
-use Rattle.tv_step.specs.Changed.{WaitsBetween}
+use Rattle.tv_struct.specs.StructureForm.{arities_of}
+use Rattle.tv_step.specs.Changed.{DiffersWithin, IsFew, WaitsAmong}
 use Rattle.tv_step.specs.Setting.{form_in}
-use Rattle.tv_step.proofs.Differing.{between-rest}
+use Rattle.tv_step.proofs.Differing.{alike-anywhere, few-found}
 use Rattle.tv_step.proofs.changed.waiting_in.Goals as goal
 
-pub returns-in-Some-clause-count : goal.returns-in-Some-clause-count
-returns-in-Some-clause-count c =
-    let rules = rules_of c.args.x.now.closed.now
-    in let waits : WaitsBetween rules c.args.from.now c.args.s.now c.in-Some.few
-    = subst (λ found. IfSome found (WaitsBetween rules c.args.from.now c.args.s.now)) c.in-Some.is
-    c.in_ok-few.ensures
-    in waits.count
+pub returns-then-not-are_alike : goal.returns-then-not-are_alike
+returns-then-not-are_alike c = (
+  ap length c.in_ok-copy-in-Anywhere.ensures ∙ c.requires.count,
+  subst (λ set. IsStableBut (rules_of c.args.x.now.closed.now) set c.args.s.now) (sym c.in_ok-copy-in-Anywhere.ensures)
+      c.requires.rest,
+)
 
-pub returns-in-Some-clause-rest : goal.returns-in-Some-clause-rest
-returns-in-Some-clause-rest c =
-    let rules = rules_of c.args.x.now.closed.now
-    in between-rest (form_in c.args.x.now) c.requires.valid c.args.from.now c.args.s.now rules c.in-Some.few
-    c.requires.rules c.requires.from
-    (subst (λ found. IfSome found (WaitsBetween rules c.args.from.now c.args.s.now)) c.in-Some.is
-    c.in_ok-few.ensures)
+pub waiting_in_all-requires-clause-size : goal.waiting_in_all-requires-clause-size
+waiting_in_all-requires-clause-size c = (c.are_alike.ensures c.if-not-are_alike.false).size
 
-pub returns-in-None-clause-count : goal.returns-in-None-clause-count
-returns-in-None-clause-count c =
-    IfOk-weaker c.copy.result (λ set. set ≡ c.args.waiting.now)
-    (λ set. length set ≡ length (rules_of c.args.x.now.closed.now))
-    (λ set is. ap length is ∙ c.requires.count) c.copy.ensures
-
-pub returns-in-None-clause-rest : goal.returns-in-None-clause-rest
-returns-in-None-clause-rest c =
+pub returns-else-not-are_alike : goal.returns-else-not-are_alike
+returns-else-not-are_alike c =
     let rules = rules_of c.args.x.now.closed.now
-    in IfOk-weaker c.copy.result (λ set. set ≡ c.args.waiting.now) (λ set. IsStableBut rules set c.args.s.now)
-    (λ set is. subst (λ flags. IsStableBut rules flags c.args.s.now) (sym is) c.requires.rest) c.copy.ensures
+    in let p = form_in c.args.x.now
+    in let from = c.args.parent.from.now
+    in let preds = range_with_len 0 (length (arities_of from))
+    in IfOk-weaker c.waiting_in_all.result (WaitsAmong preds rules from c.args.s.now) (IsFew p rules c.args.s.now)
+    (λ found waits. few-found p c.requires.valid from c.args.s.now preds rules c.requires.rules c.requires.from
+    (alike-anywhere from c.args.s.now c.requires.like (c.are_alike.ensures c.if-not-are_alike.false)) found waits)
+    c.waiting_in_all.ensures
+
+pub waiting_in_some-requires-clause-size : goal.waiting_in_some-requires-clause-size
+waiting_in_some-requires-clause-size c =
+    (subst (λ reach. DiffersWithin reach c.args.parent.from.now c.args.s.now) c.in-Of.is c.requires.within).alike.size
+
+pub returns-in-Of : goal.returns-in-Of
+returns-in-Of c =
+    let rules = rules_of c.args.x.now.closed.now
+    in let p = form_in c.args.x.now
+    in let from = c.args.parent.from.now
+    in let preds = map (λ w. w.pred.0) c.in-Of.updates.now ++ map (λ p. p.0) c.in-Of.preds.now
+    in IfOk-weaker c.waiting_in_some.result (WaitsAmong preds rules from c.args.s.now) (IsFew p rules c.args.s.now)
+    (λ found waits. few-found p c.requires.valid from c.args.s.now preds rules c.requires.rules c.requires.from
+    (subst (λ reach. DiffersWithin reach from c.args.s.now) c.in-Of.is c.requires.within) found waits)
+    c.waiting_in_some.ensures

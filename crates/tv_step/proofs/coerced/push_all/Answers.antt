@@ -5,6 +5,7 @@ use Rattle.std.proofs.lemmas.List.Elements.{All-contains}
 use Rattle.tv_coerce.specs.RuleSets.{IsStableBut}
 use Rattle.tv_rules.specs.EntryForms.{rules_of}
 use Rattle.tv_step_laws.specs.Shaped.{IsShaped}
+use Rattle.tv_step.specs.Changed.{DiffersWithin}
 use Rattle.tv_step.specs.Ending.{Becomes}
 use Rattle.tv_step.specs.Setting.{form_in}
 use Rattle.tv_step.proofs.Adding.{adds-more}
@@ -18,6 +19,15 @@ push_next-requires-clause-shaped c =
     c.in-Some.is c.next.ensures.steps
     in All-contains (IsShaped (form_in c.args.x.now)) c.args.structures c.in-Some.s c.requires.shaped
     (length c.loop-s.yielded, turn.0, sym turn.1)
+
+pub push_next-requires-clause-within : goal.push_next-requires-clause-within
+push_next-requires-clause-within c =
+    let turn = YieldsList-turn
+    (YieldsList-from_vec {s = c.into_iter-s-iterator.result} c.args.structures (search rules) (search rules))
+    c.loop-s.yielded c.loop-s.s-iterator c.loop-s.yielded_by c.next.result c.next.new.self c.in-Some.s
+    c.in-Some.is c.next.ensures.steps
+    in All-contains (DiffersWithin c.args.parent.reach c.args.parent.from.now) c.args.structures c.in-Some.s
+    c.requires.within (length c.loop-s.yielded, turn.0, sym turn.1)
 
 pub push_next-requires-clause-rest : goal.push_next-requires-clause-rest
 push_next-requires-clause-rest c =

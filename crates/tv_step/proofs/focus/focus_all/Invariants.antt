@@ -1,4 +1,4 @@
-use Rattle.std.proofs.Common.{[], ◌≡◌, take}
+use Rattle.std.proofs.Common.{[], ◌≡◌}
 use Rattle.tv_step_laws.specs.Parts.{AreFrom}
 use Rattle.tv_step_laws.specs.Transfer.{Focuses}
 use Rattle.tv_step.specs.Places.{focus_place}
@@ -8,7 +8,7 @@ use Rattle.tv_step.proofs.focus.focus_all.Given as goal
 
 abbrev pub invariant-loop-s : goal.invariant-loop-s
 invariant-loop-s l = record {
-  out : Adds (AreFrom (Focuses (form_in l.x) (focus_place l.turn))) (take l.s-index l.at_hand) [] l.out;
-  within : KeepsLimits (focus_place l.turn) (take l.s-index l.at_hand);
+  out : Adds (AreFrom (Focuses (form_in l.x) (focus_place l.turn))) l.yielded [] l.out;
+  within : KeepsLimits (focus_place l.turn) l.yielded;
   scratch : l.scratch ≡ l.fn.scratch;
 }

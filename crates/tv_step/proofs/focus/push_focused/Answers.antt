@@ -1,60 +1,120 @@
-use Rattle.std.proofs.Common.{◌∙◌, All, length, ap, sym, subst}
+use Rattle.std.proofs.Common.{◌∙◌, [], ◌∷◌, All, length, ap, sym, subst}
 use Rattle.std.proofs.lemmas.List.{length-map}
 use Rattle.tv_rules.specs.EntryForms.{rules_of}
 use Rattle.tv_model.specs.Form.{form_of}
+use Rattle.tv_struct.specs.StructureForm.{arities_of}
+use Rattle.tv_focus.specs.Anchored.{AreAtomsOver}
+use Rattle.tv_focus.specs.Stage.{IsStageCause, IsWithinLimits}
 use Rattle.tv_coerce.specs.RuleSets.{IsStableBut}
 use Rattle.tv_step.specs.Places.{focus_place}
-use Rattle.tv_step.specs.Setting.{form_in}
+use Rattle.tv_step.specs.Setting.{form_in, IsStableIn}
+use Rattle.tv_step.specs.Steps.{IsFocusCause}
 use Rattle.tv_step.specs.Waiting.{WaitsAt}
+use Rattle.tv_step_laws.specs.Shaped.{IsShaped}
 use Rattle.tv_step_laws.specs.Transfer.{choices_at}
 use Rattle.tv_step_laws.proofs.Shapes.{shaped-over}
+use Rattle.tv_step.proofs.Adding.{handed-on}
 use Rattle.tv_step.proofs.FocusStays.{focus-rest}
-use Rattle.tv_step.proofs.Turns.{atoms-fit, focus-adds, tables-of, tables-shaped}
+use Rattle.tv_step.proofs.Turns.{atoms-fit, focus-adds, focus-cause, focus-itself, made-from, made-stage}
+use Rattle.tv_step.proofs.Turns.{tables-of}
+use Rattle.tv_step.proofs.Turns.{tables-shaped}
 use Rattle.tv_step.proofs.focus.push_focused.Goals as goal
 
-pub focus_stage-requires-clause-over : goal.focus_stage-requires-clause-over
-focus_stage-requires-clause-over c = shaped-over c.args.x.now.program.now c.args.s.now c.requires.shaped
+pub into_focused-requires-clause-formula : goal.into_focused-requires-clause-formula
+into_focused-requires-clause-formula c =
+    subst (λ f. AreAtomsOver (arities_of c.args.s) (form_of f)) (sym c.deref.ensures)
+    (atoms-fit (form_in c.args.x.now) c.args.s (form_of c.args.turn.now.formula.value) c.requires.shaped
+    c.requires.place.formula)
 
-pub focus_stage-requires-clause-formula : goal.focus_stage-requires-clause-formula
-focus_stage-requires-clause-formula c =
-    atoms-fit (form_in c.args.x.now) c.args.s.now
-    (form_of c.args.turn.now.formula.now) c.requires.shaped c.requires.place.formula
+pub into_focused-requires-clause-atom : goal.into_focused-requires-clause-atom
+into_focused-requires-clause-atom c = rw (c.deref.ensures) c.requires.place.atom
+
+pub returns-in_err-s-clause-cause : goal.returns-in_err-s-clause-cause
+returns-in_err-s-clause-cause c =
+    let place = focus_place c.args.turn.now
+    in let e = c.in_err-s.field-0.0
+    in handed-on (IsFocusCause place (c.args.s ∷ [])) c.from_residual.result e c.from_residual.ensures.1
+    (focus-cause c.args.s place e
+    (subst (λ f. IsStageCause c.args.s (form_of f) c.args.turn.now.atom e) c.deref.ensures
+    c.in_err-s.ensures.cause))
+
+pub returns-in_ok-push-in-Same-clause-out : goal.returns-in_ok-push-in-Same-clause-out
+returns-in_ok-push-in-Same-clause-out c =
+    let p = form_in c.args.x.now
+    in let place = focus_place c.args.turn.now
+    in let s = c.args.s
+    in let same = c.in-Same.s
+    in focus-itself p place s same c.args.out.now c.push.new.self c.requires.shaped c.requires.stable
+    (made-from s _ _ c.in-Same.is c.in_ok-s.ensures.from)
+    (tables-of p s c.requires.shaped (same ∷ []) (choices_at s place)
+    (made-stage s c.deref.result.now c.args.turn.now.formula.value c.args.turn.now.atom _ _
+    c.deref.ensures c.in-Same.is c.in_ok-s.ensures.stage)) c.in_ok-push-in-Same.ensures
+
+pub returns-in_ok-push-in-Same-clause-within : goal.returns-in_ok-push-in-Same-clause-within
+returns-in_ok-push-in-Same-clause-within c =
+    subst (λ f. IsWithinLimits c.args.s (form_of f) c.args.turn.now.atom) c.deref.ensures
+    c.in_ok-s.ensures.within
+
+pub push_all-requires-clause-like : goal.push_all-requires-clause-like
+push_all-requires-clause-like c =
+    subst (IsShaped (form_in c.args.x.now))
+    (sym (made-from c.args.s _ _ c.in-Choices.is c.in_ok-s.ensures.from))
+    c.requires.shaped
+
+pub push_all-requires-clause-from : goal.push_all-requires-clause-from
+push_all-requires-clause-from c =
+    subst (IsStableIn (form_in c.args.x.now))
+    (sym (made-from c.args.s _ _ c.in-Choices.is c.in_ok-s.ensures.from))
+    c.requires.stable
 
 pub push_all-requires-clause-shaped : goal.push_all-requires-clause-shaped
 push_all-requires-clause-shaped c =
     let p = form_in c.args.x.now
-    in let choices = c.in_ok-choices.choices
-    in let ls = choices_at c.args.s.now (focus_place c.args.turn.now)
+    in let choices = c.in-Choices.choices
+    in let ls = choices_at c.args.s (focus_place c.args.turn.now)
     in tables-shaped p choices ls
-    (tables-of p c.args.s.now c.requires.shaped choices ls c.in_ok-choices.ensures.stage)
+    (tables-of p c.args.s c.requires.shaped choices ls
+    (made-stage c.args.s c.deref.result.now c.args.turn.now.formula.value c.args.turn.now.atom
+    _ _ c.deref.ensures c.in-Choices.is c.in_ok-s.ensures.stage))
+
+pub push_all-requires-clause-within : goal.push_all-requires-clause-within
+push_all-requires-clause-within c = λ k d lt. tt
 
 pub push_all-requires-clause-count : goal.push_all-requires-clause-count
 push_all-requires-clause-count c =
-    ap length c.deref.ensures ∙ c.requires.waiting.count ∙ ap length (sym c.requires.ready.rules)
+    ap length c.deref-in-Choices.ensures ∙ c.requires.waiting.count ∙ ap length (sym c.requires.ready.rules)
 
 pub push_all-requires-clause-rest : goal.push_all-requires-clause-rest
 push_all-requires-clause-rest c =
     let x = c.args.x.now
     in let p = form_in x
-    in let s = c.args.s.now
+    in let s = c.args.s
     in let place = focus_place c.args.turn.now
-    in let choices = c.in_ok-choices.choices
-    in subst (λ set. All (IsStableBut (rules_of x.closed.now) set) choices) (sym c.deref.ensures)
+    in let choices = c.in-Choices.choices
+    in subst (λ set. All (IsStableBut (rules_of x.closed.now) set) choices) (sym c.deref-in-Choices.ensures)
     (focus-rest p c.requires.ready.valid s place choices (length x.program.now.vocab.preds)
     (rules_of x.closed.now) c.args.turn.now.waiting.value c.requires.ready.rules c.requires.shaped c.requires.stable
-    (tables-of p s c.requires.shaped choices (choices_at s place) c.in_ok-choices.ensures.stage)
+    (tables-of p s c.requires.shaped choices (choices_at s place)
+    (made-stage s c.deref.result.now c.args.turn.now.formula.value c.args.turn.now.atom _ _
+    c.deref.ensures c.in-Choices.is c.in_ok-s.ensures.stage))
     (atoms-fit p s place.formula c.requires.shaped c.requires.place.formula) c.requires.place.atom
     (ap length (shaped-over x.program.now s c.requires.shaped)
     ∙ length-map x.program.now.vocab.preds (λ pred. pred.arity))
     (subst (λ rules. WaitsAt (length x.program.now.vocab.preds) place.formula rules c.args.turn.now.waiting.value)
     (sym c.requires.ready.rules) c.requires.waiting))
 
-pub returns-clause-out : goal.returns-clause-out
-returns-clause-out c =
+pub returns-in_ok-push_all-in-Choices-clause-out : goal.returns-in_ok-push_all-in-Choices-clause-out
+returns-in_ok-push_all-in-Choices-clause-out c =
     let p = form_in c.args.x.now
-    in let choices = c.in_ok-choices.choices
+    in let s = c.args.s
+    in let choices = c.in-Choices.choices
     in let place = focus_place c.args.turn.now
-    in focus-adds p place c.args.s.now choices c.args.out.now c.push_all.new.out
-    (tables-of p c.args.s.now c.requires.shaped choices
-    (choices_at c.args.s.now place) c.in_ok-choices.ensures.stage)
-    c.in_ok-push_all.ensures.out
+    in focus-adds p place s choices c.args.out.now c.push_all.new.out
+    (tables-of p s c.requires.shaped choices (choices_at s place)
+    (made-stage s c.deref.result.now c.args.turn.now.formula.value c.args.turn.now.atom _ _
+    c.deref.ensures c.in-Choices.is c.in_ok-s.ensures.stage)) c.in_ok-push_all-in-Choices.ensures.out
+
+pub returns-in_ok-push_all-in-Choices-clause-within : goal.returns-in_ok-push_all-in-Choices-clause-within
+returns-in_ok-push_all-in-Choices-clause-within c =
+    subst (λ f. IsWithinLimits c.args.s (form_of f) c.args.turn.now.atom) c.deref.ensures
+    c.in_ok-s.ensures.within

@@ -9,7 +9,7 @@ abbrev pub invariant-loop-atom : goal.invariant-loop-atom
 invariant-loop-atom l = record {
   places : map focus_place l.turns.items
       ≡ map focus_place l.fn.turns.items
-      ++ map (λ k. record { formula = form_of l.formula; atom = k }) (range_with_len 0 l.atom);
-  waiting : (program : Program) → AreWaitingAt program (form_of l.formula) l.fn.waiting.value
+      ++ map (λ k. record { formula = form_of l.atoms.value; atom = k }) (range_with_len 0 l.atom);
+  waiting : (program : Program) → AreWaitingAt program (form_of l.atoms.value) l.fn.waiting.value
       → All (HasWaiting program) l.fn.turns.items → All (HasWaiting program) l.turns.items;
 }

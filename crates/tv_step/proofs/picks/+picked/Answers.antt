@@ -3,21 +3,36 @@ use Rattle.std.proofs.Common.{refl, ap, sym, subst, arith, All}
 use Rattle.std.specs.List.{between}
 use Rattle.std.specs.Prelude.{◌==◌, IfErr, OnOk}
 use Rattle.std.proofs.lemmas.List.{length-map}
-use Rattle.std.proofs.lemmas.List.Elements.{All-head, All-tail}
+use Rattle.std.proofs.lemmas.List.Elements.{All-head, All-nil, All-tail}
 use Rattle.std.proofs.lemmas.Slice.{first_rest}
 use Rattle.tv_eval.specs.AssignmentForm.{assignment_of}
+use Rattle.tv_eval.proofs.Parts.{like-again, like-itself, put-again, total-again}
 use Rattle.tv_model.specs.declared.formula.Var.{Var}
 use Rattle.tv_model.specs.Program.{picks_of}
+use Rattle.tv_model.specs.Truth.{put}
 use Rattle.tv_model.specs.Valid.{IsVariable}
 use Rattle.tv_step.specs.Job.{IsCase, ArePickedBut, case_program, case_action, case_mode, case_structure}
 use Rattle.tv_step.specs.Steps.{Adds, PickGives, PicksGive, PickKeepsLimits, PicksKeepLimits, IsCauseOfPick}
 use Rattle.tv_step.specs.Steps.{IsCauseOfPicks}
-use Rattle.tv_step.proofs.Adding.{handed-on, on_err-weaker, on_ok-weaker}
+use Rattle.tv_step.proofs.Adding.{adds-none, handed-on, on_err-weaker, on_ok-weaker}
 use Rattle.tv_step.proofs.Picking.{picked-with, picks-next, picks-done, limits-next, limits-done, cause-first}
 use Rattle.tv_step.proofs.Picking.{picks-none, limits-none, cause-none}
 use Rattle.tv_step.proofs.picks.+picked.Goals as goal
 
 -- ---- one variable
+
+pub push_each-loop-u-init : goal.push_each-loop-u-init
+push_each-loop-u-init t c =
+    let a = assignment_of c.args.picks.now
+    in let vars = picks_of c.args.left.now
+    in record {
+      like = like-itself c.args.picks.now c.args.v.0;
+      out = adds-none (λ u own. PicksGive (case_program c.args.c.now) (case_mode c.args.c.now)
+          (case_action c.args.c.now) (case_structure c.args.c.now) vars (put a c.args.v.0 u) own) c.args.out.now;
+      within = All-nil (λ u. PicksKeepLimits (case_action c.args.c.now) (case_structure c.args.c.now) vars
+          (put a c.args.v.0 u));
+      scratch = refl;
+    }
 
 pub push_each-push_picked-requires : goal.push_each-push_picked-requires
 push_each-push_picked-requires t c = (
@@ -28,7 +43,9 @@ push_each-push_picked-requires t c = (
       c.requires.left,
       picked-with (case_action c.args.c.now).picks (picks_of c.args.left.now)
           (case_structure c.args.c.now).size
-          c.args.v.0 c.loop-u.u c.args.picks c.with.result c.with.ensures.places
+          c.args.v.0 c.loop-u.u c.args.picks.now c.set.new.self
+          (put-again c.args.picks.now c.loop-u.here c.set.new.self c.args.v.0 c.loop-u.u c.loop-u.invariant.like
+          c.set.ensures.places).places
           (omega (arith, c.loop-u-test.true, c.size-u-end.ensures.size)) c.requires.picks,
     ),
   ),
@@ -39,11 +56,13 @@ push_each-returns-in_err-push_picked-clause-cause t c =
     let action = case_action c.args.c.now
     in let s = case_structure c.args.c.now
     in let vars = picks_of c.args.left.now
-    in let a = assignment_of c.args.picks
+    in let a = assignment_of c.args.picks.now
     in let e = c.in_err-push_picked.field-0.0
     in handed-on
     (IsCauseOfPicks action s (c.args.v.0 ∷ vars) a) c.from_residual.result e c.from_residual.ensures.1
-    (cause-first action s c.args.v.0 vars a (assignment_of c.with.result) c.loop-u.u e c.with.ensures.total
+    (cause-first action s c.args.v.0 vars a (assignment_of c.set.new.self) c.loop-u.u e
+    (total-again c.args.picks.now c.loop-u.here c.set.new.self c.args.v.0 c.loop-u.u c.loop-u.invariant.like
+    c.set.ensures.places)
     (omega (arith, c.loop-u-test.true, c.size-u-end.ensures.size)) c.in_err-push_picked.ensures.cause)
 
 pub push_each-loop-u-preserved : goal.push_each-loop-u-preserved
@@ -51,15 +70,18 @@ push_each-loop-u-preserved t c =
     let action = case_action c.args.c.now
     in let s = case_structure c.args.c.now
     in let vars = picks_of c.args.left.now
-    in let a = assignment_of c.args.picks
+    in let a = assignment_of c.args.picks.now
+    in let b = assignment_of c.set.new.self
+    in let same = total-again c.args.picks.now c.loop-u.here c.set.new.self c.args.v.0 c.loop-u.u
+    c.loop-u.invariant.like c.set.ensures.places
     in record {
-      out = picks-next (case_program c.args.c.now) (case_mode c.args.c.now) action s c.args.v.0 vars a
-          (assignment_of c.with.result) c.loop-u.u c.args.out.now c.loop-u.out c.push_picked.new.out
-          c.with.ensures.total
-          c.loop-u.invariant.out c.in_ok-push_picked.ensures.out;
-      within = limits-next action s c.args.v.0 vars a
-          (assignment_of c.with.result) c.loop-u.u c.with.ensures.total
-          c.loop-u.invariant.within c.in_ok-push_picked.ensures.within;
+      like = like-again c.args.picks.now c.loop-u.here c.set.new.self c.args.v.0 c.loop-u.u c.loop-u.invariant.like
+          c.set.ensures.places;
+      out = picks-next (case_program c.args.c.now) (case_mode c.args.c.now) action s c.args.v.0 vars a b c.loop-u.u
+          c.args.out.now c.loop-u.out c.push_picked.new.out same c.loop-u.invariant.out
+          c.in_ok-push_picked.ensures.out;
+      within = limits-next action s c.args.v.0 vars a b c.loop-u.u same c.loop-u.invariant.within
+          c.in_ok-push_picked.ensures.within;
       scratch = cc;
     }
 
@@ -67,14 +89,14 @@ pub push_each-returns-clause-out : goal.push_each-returns-clause-out
 push_each-returns-clause-out t c =
     picks-done (case_program c.args.c.now) (case_mode c.args.c.now) (case_action c.args.c.now)
     (case_structure c.args.c.now)
-    c.args.v.0 (picks_of c.args.left.now) (assignment_of c.args.picks) c.loop-u.u c.args.out.now c.loop-u.out
+    c.args.v.0 (picks_of c.args.left.now) (assignment_of c.args.picks.now) c.loop-u.u c.args.out.now c.loop-u.out
     (omega (arith, c.loop-u-test.false, c.loop-u.auto.u-end, c.size-u-end.ensures.size))
     c.loop-u.invariant.out
 
 pub push_each-returns-clause-within : goal.push_each-returns-clause-within
 push_each-returns-clause-within t c =
     limits-done (case_action c.args.c.now) (case_structure c.args.c.now) c.args.v.0 (picks_of c.args.left.now)
-    (assignment_of c.args.picks) c.loop-u.u
+    (assignment_of c.args.picks.now) c.loop-u.u
     (omega (arith, c.loop-u-test.false, c.loop-u.auto.u-end, c.size-u-end.ensures.size))
     c.loop-u.invariant.within
 
@@ -86,7 +108,7 @@ last (v ∷ left) r is holds = absurd (omega (arith, eqb-true (suc (length left)
 
 pub push_each-push_last-requires-clause-picks : goal.push_each-push_last-requires-clause-picks
 push_each-push_last-requires-clause-picks t c =
-    subst (λ vars. ArePickedBut c.args.c.now (c.args.v.0 ∷ vars) c.args.picks)
+    subst (λ vars. ArePickedBut c.args.c.now (c.args.v.0 ∷ vars) c.args.picks.now)
     (last c.args.left.now c.is_empty.result c.is_empty.ensures c.if-is_empty.true) c.requires.picks
 
 pub push_each-returns-then-is_empty-clause-out : goal.push_each-returns-then-is_empty-clause-out
@@ -96,7 +118,7 @@ push_each-returns-then-is_empty-clause-out t c =
     in let action = case_action c.args.c.now
     in let s = case_structure c.args.c.now
     in subst (λ vars. OnOk c.push_last.result
-    (Adds (PicksGive p mode action s (c.args.v.0 ∷ vars)) (assignment_of c.args.picks) c.args.out.now
+    (Adds (PicksGive p mode action s (c.args.v.0 ∷ vars)) (assignment_of c.args.picks.now) c.args.out.now
     c.push_last.new.out))
     (sym (last c.args.left.now c.is_empty.result c.is_empty.ensures c.if-is_empty.true)) c.push_last.ensures.out
 
@@ -104,14 +126,14 @@ pub push_each-returns-then-is_empty-clause-within : goal.push_each-returns-then-
 push_each-returns-then-is_empty-clause-within t c =
     subst (λ vars. OnOk c.push_last.result
     (PicksKeepLimits (case_action c.args.c.now) (case_structure c.args.c.now) (c.args.v.0 ∷ vars)
-    (assignment_of c.args.picks)))
+    (assignment_of c.args.picks.now)))
     (sym (last c.args.left.now c.is_empty.result c.is_empty.ensures c.if-is_empty.true)) c.push_last.ensures.within
 
 pub push_each-returns-then-is_empty-clause-cause : goal.push_each-returns-then-is_empty-clause-cause
 push_each-returns-then-is_empty-clause-cause t c =
     subst (λ vars. IfErr c.push_last.result
     (IsCauseOfPicks (case_action c.args.c.now) (case_structure c.args.c.now) (c.args.v.0 ∷ vars)
-    (assignment_of c.args.picks)))
+    (assignment_of c.args.picks.now)))
     (sym (last c.args.left.now c.is_empty.result c.is_empty.ensures c.if-is_empty.true)) c.push_last.ensures.cause
 
 -- ---- all that are left
@@ -143,7 +165,7 @@ push_picked-push_each-requires t c =
           All-head IsVariable (get_or left 0 nobody).0 (picks_of rest) are,
           (
             All-tail IsVariable (get_or left 0 nobody).0 (picks_of rest) are,
-            subst (λ vars. ArePickedBut c.args.c.now vars c.args.picks) whole c.requires.picks,
+            subst (λ vars. ArePickedBut c.args.c.now vars c.args.picks.now) whole c.requires.picks,
           ),
         ),
       ),
@@ -156,32 +178,32 @@ push_picked-returns-in-empty-clause-out t c =
     in let action = case_action c.args.c.now
     in let s = case_structure c.args.c.now
     in let vars = picks_of c.args.left.now
-    in let a = assignment_of c.args.picks
-    in on_ok-weaker c.push_given.result
-    (Adds (PickGives p mode action s) a c.args.out.now c.push_given.new.out)
-    (Adds (PicksGive p mode action s vars) a c.args.out.now c.push_given.new.out)
-    (picks-none p mode action s vars a c.args.out.now c.push_given.new.out
+    in let a = assignment_of c.args.picks.now
+    in on_ok-weaker c.push_passed.result
+    (Adds (PickGives p mode action s) a c.args.out.now c.push_passed.new.out)
+    (Adds (PicksGive p mode action s vars) a c.args.out.now c.push_passed.new.out)
+    (picks-none p mode action s vars a c.args.out.now c.push_passed.new.out
     (none c.args.left.now c.in-empty.len_below))
-    c.push_given.ensures.out
+    c.push_passed.ensures.out
 
 pub push_picked-returns-in-empty-clause-within : goal.push_picked-returns-in-empty-clause-within
 push_picked-returns-in-empty-clause-within t c =
     let action = case_action c.args.c.now
     in let s = case_structure c.args.c.now
     in let vars = picks_of c.args.left.now
-    in let a = assignment_of c.args.picks
-    in on_ok-weaker c.push_given.result (PickKeepsLimits action s a) (PicksKeepLimits action s vars a)
-    (limits-none action s vars a (none c.args.left.now c.in-empty.len_below)) c.push_given.ensures.within
+    in let a = assignment_of c.args.picks.now
+    in on_ok-weaker c.push_passed.result (PickKeepsLimits action s a) (PicksKeepLimits action s vars a)
+    (limits-none action s vars a (none c.args.left.now c.in-empty.len_below)) c.push_passed.ensures.within
 
 pub push_picked-returns-in-empty-clause-cause : goal.push_picked-returns-in-empty-clause-cause
 push_picked-returns-in-empty-clause-cause t c =
     let action = case_action c.args.c.now
     in let s = case_structure c.args.c.now
     in let vars = picks_of c.args.left.now
-    in let a = assignment_of c.args.picks
-    in on_err-weaker c.push_given.result (IsCauseOfPick action s a) (IsCauseOfPicks action s vars a)
+    in let a = assignment_of c.args.picks.now
+    in on_err-weaker c.push_passed.result (IsCauseOfPick action s a) (IsCauseOfPicks action s vars a)
     (λ e cause. cause-none action s vars a e (none c.args.left.now c.in-empty.len_below) cause)
-    c.push_given.ensures.cause
+    c.push_passed.ensures.cause
 
 pub push_picked-returns-in-len1-up-clause-out : goal.push_picked-returns-in-len1-up-clause-out
 push_picked-returns-in-len1-up-clause-out t c =
@@ -191,7 +213,7 @@ push_picked-returns-in-len1-up-clause-out t c =
     in let s = case_structure c.args.c.now
     in let whole = parts c.args.left.now nobody (omega (arith, c.in-len1-up.len_at_least))
     in subst (λ vars. OnOk c.push_each.result
-    (Adds (PicksGive p mode action s vars) (assignment_of c.args.picks) c.args.out.now c.push_each.new.out))
+    (Adds (PicksGive p mode action s vars) (assignment_of c.args.picks.now) c.args.out.now c.push_each.new.out))
     (sym whole) c.push_each.ensures.out
 
 pub push_picked-returns-in-len1-up-clause-within : goal.push_picked-returns-in-len1-up-clause-within
@@ -199,11 +221,11 @@ push_picked-returns-in-len1-up-clause-within t c =
     let whole = parts c.args.left.now nobody (omega (arith, c.in-len1-up.len_at_least))
     in subst (λ vars. OnOk c.push_each.result
     (PicksKeepLimits (case_action c.args.c.now) (case_structure c.args.c.now) vars
-    (assignment_of c.args.picks))) (sym whole) c.push_each.ensures.within
+    (assignment_of c.args.picks.now))) (sym whole) c.push_each.ensures.within
 
 pub push_picked-returns-in-len1-up-clause-cause : goal.push_picked-returns-in-len1-up-clause-cause
 push_picked-returns-in-len1-up-clause-cause t c =
     let whole = parts c.args.left.now nobody (omega (arith, c.in-len1-up.len_at_least))
     in subst (λ vars. IfErr c.push_each.result
     (IsCauseOfPicks (case_action c.args.c.now) (case_structure c.args.c.now) vars
-    (assignment_of c.args.picks))) (sym whole) c.push_each.ensures.cause
+    (assignment_of c.args.picks.now))) (sym whole) c.push_each.ensures.cause

@@ -1,6 +1,7 @@
 use Rattle.std.proofs.Common.{◌≡◌, ◌+◌, ◌*◌, All, length}
 use Rattle.std.specs.List.{range_with_len}
 use Rattle.tv_eval.specs.AssignmentForm.{assignment_of}
+use Rattle.tv_eval.proofs.Parts.{IsLike}
 use Rattle.tv_model.specs.Program.{picks_of}
 use Rattle.tv_model.specs.Truth.{put}
 use Rattle.tv_step_laws.specs.Parts.{AreFrom}
@@ -16,6 +17,7 @@ decreases-push_each l = 2 * length l.left.now + 1
 
 abbrev pub invariant-push_each-loop-u : goal.invariant-push_each-loop-u
 invariant-push_each-loop-u l = record {
+  like : IsLike l.picks l.v.0 l.here;
   out : Adds (AreFrom
       (λ u own. PicksGive (case_program l.c) (case_mode l.c) (case_action l.c) (case_structure l.c)
       (picks_of l.left) (put (assignment_of l.picks) l.v.0 u) own)) (range_with_len 0 l.u) l.fn.out l.out;

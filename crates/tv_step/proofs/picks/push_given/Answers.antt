@@ -10,7 +10,7 @@ use Rattle.tv_step.specs.Job.{case_program, case_action, case_mode, case_structu
 use Rattle.tv_step.specs.Steps.{IsCauseOfPick}
 use Rattle.tv_step.specs.Waiting.{WaitsFor}
 use Rattle.tv_step.proofs.Adding.{handed-on}
-use Rattle.tv_step.proofs.LeftAlone.{given-rest}
+use Rattle.tv_step.proofs.LeftAlone.{given-rest, given-within}
 use Rattle.tv_step.proofs.Picking.{given-adds, given-shaped, pick-cause, same-action}
 use Rattle.tv_step_laws.proofs.Shapes.{shaped-over}
 use Rattle.tv_step.proofs.picks.push_given.Goals as goal
@@ -41,13 +41,27 @@ returns-in_err-given-clause-cause c =
     in let same = same-action c.args.c.now.setting.now.program.now c.args.c.now.job.now.number action
     c.requires.case.job.action
     in handed-on (IsCauseOfPick action s a) c.from_residual.result e c.from_residual.ensures.1
-    (pick-cause action s a e (sym c.is_passed.ensures.value ∙ c.if-not-is_passed.false)
+    (pick-cause action s a e c.requires.passed
     (subst (λ act. IsUpdateCause act s a e) same c.in_err-given.ensures.cause))
 
 pub push_all-requires-clause-shaped : goal.push_all-requires-clause-shaped
 push_all-requires-clause-shaped c =
     given-shaped (case_program c.args.c.now) (case_structure c.args.c.now) c.in_ok-given.given
     c.requires.case.shaped c.in_ok-given.ensures.over
+
+pub push_all-requires-clause-within : goal.push_all-requires-clause-within
+push_all-requires-clause-within c =
+    let p = case_program c.args.c.now
+    in let action = case_action c.args.c.now
+    in let s = case_structure c.args.c.now
+    in let a = assignment_of c.args.picks.now
+    in let given = c.in_ok-given.given
+    in let same = same-action c.args.c.now.setting.now.program.now c.args.c.now.job.now.number action
+    c.requires.case.job.action
+    in given-within p c.requires.case.ready.valid (case_mode c.args.c.now) action s a given
+    c.args.c.now.job.now.plan c.requires.case.job.plan
+    (subst (λ act. AreGiven p (case_mode c.args.c.now) act (structure_of s) a (map structure_of given)) same
+    c.in_ok-given.ensures.given) c.reach_of.result c.reach_of.ensures
 
 pub push_all-requires-clause-rest : goal.push_all-requires-clause-rest
 push_all-requires-clause-rest c =
@@ -89,7 +103,7 @@ returns-clause-out c =
     in let same = same-action c.args.c.now.setting.now.program.now c.args.c.now.job.now.number action
     c.requires.case.job.action
     in given-adds p (case_mode c.args.c.now) action s a given c.args.out.now c.push_all.new.out
-    (sym c.is_passed.ensures.value ∙ c.if-not-is_passed.false)
+    c.requires.passed
     (subst (λ act. AreGiven p (case_mode c.args.c.now) act (structure_of s) a (map structure_of given)) same
     c.in_ok-given.ensures.given)
     (given-shaped p s given c.requires.case.shaped c.in_ok-given.ensures.over)
