@@ -1,0 +1,3 @@
+pub mod Trails
+pub mod Met
+pub mod Laws
