@@ -3,7 +3,6 @@ use Rattle.std.proofs.Common.{◌≡◌, ℕ, zero, suc, List, Option, Some, Non
 use Rattle.std.specs.Prelude.{codes}
 use Rattle.tv_lex.specs.Token.{SpecToken}
 use Rattle.tv_phrases.specs.declared.error.PhraseError.{PhraseError}
-use Rattle.tv_phrases.specs.declared.error.PhraseError.TheVariants.{Unexpected, Memory}
 use Rattle.tv_phrases.specs.Reading.{Reading, taken, ◌>>=◌, choose, Told, Refuses}
 use Rattle.tv_phrases.specs.Tokens.{after}
 use Rattle.tv_tree.specs.Forms.{Form, FImp, FParen, FNot, FCond}

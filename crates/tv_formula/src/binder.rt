@@ -7,6 +7,7 @@ ghost use Rattle.tv_tree.specs.Copies.{form_of};
 ghost use Rattle.tv_formula.specs.Grammar.{over};
 ghost use Rattle.tv_formula.specs.Reading.{begins_binder, existence, universality, transitive, binder};
 
+use crate::build::boxed;
 use crate::words::{spelling, spellings};
 use std::alloc::{AllocError, Global};
 use tv_lex::Token;
@@ -26,11 +27,11 @@ pub enum Binder {
 
 impl Binder {
     /// The formula with this body.
-    pub fn over(self, alloc: Global, body: FormulaTree) -> Result<FormulaTree, AllocError>
-        ensures { IfOk result (λ f. form_of f ≡ over self (form_of body)) }
+    #[inline(never)]
+    pub fn over(self, alloc: Global, body: Box<FormulaTree>) -> Result<Box<FormulaTree>, AllocError>
+        ensures { IfOk result (λ f. form_of f.value ≡ over self (form_of body.value)) }
     {
-        let body = Box::new(alloc, body)?;
-        Ok(match self {
+        let tree = match self {
             Binder::Exists(bound) => FormulaTree::Exists(bound, body),
             Binder::Forall(bound) => FormulaTree::Forall(bound, body),
             Binder::Closure(from, to, left, right) => FormulaTree::Tc {
@@ -40,7 +41,8 @@ impl Binder {
                 right,
                 body,
             },
-        })
+        };
+        boxed(alloc, tree)
     }
 }
 
@@ -87,6 +89,7 @@ fn closure_at<'a>(alloc: Global, bytes: &[u8], tokens: &'a [Token]) -> Read<'a, 
 }
 
 /// `E`, `A` or `TC`, and the variables behind it.
+#[inline(never)]
 #[tactic(auto, unfolding(crate::specs::Reading::binder))]
 pub fn binder_at<'a>(alloc: Global, bytes: &[u8], tokens: &'a [Token]) -> Read<'a, Binder>
     ensures { GivesReading (λ x. (x.0, spec_tokens bytes.now x.1.now)) result

@@ -13,6 +13,15 @@ use tv_lex::Token;
 use tv_phrases::{PhraseError, Read, after};
 use tv_tree::trees::FormulaTree;
 
+/// The formula in a box. What holds a whole formula, or what moves one, isn't inlined in a function that
+/// calls itself: its room would be taken again at each level.
+#[inline(never)]
+pub fn boxed(alloc: Global, f: FormulaTree) -> Result<Box<FormulaTree>, AllocError>
+    ensures { IfOk result (λ b. form_of b.value ≡ form_of f) }
+{
+    Ok(Box::new(alloc, f)?)
+}
+
 /// The tokens behind a mark that stands behind a formula.
 pub fn expect_behind<'a>(
     bytes: &[u8],
@@ -29,51 +38,51 @@ pub fn expect_behind<'a>(
 }
 
 /// The formula in parentheses, the second of which stands at the front of the tokens.
+#[inline(never)]
 pub fn closed<'a>(
     alloc: Global,
     bytes: &[u8],
-    inner: FormulaTree,
+    inner: Box<FormulaTree>,
     tokens: &'a [Token],
-) -> Read<'a, FormulaTree>
-    ensures { GivesReading (λ x. (form_of x.0, spec_tokens bytes.now x.1.now)) result
+) -> Read<'a, Box<FormulaTree>>
+    ensures { GivesReading (λ x. (form_of x.0.value, spec_tokens bytes.now x.1.now)) result
         (choose (after (codes ")") (spec_tokens bytes.now tokens.now)) None
-        (λ rest. taken (FParen (form_of inner)) rest)) }
+        (λ rest. taken (FParen (form_of inner.value)) rest)) }
 {
     let rest = expect_behind(bytes, tokens, b")")?;
-    Ok((FormulaTree::Paren(Box::new(alloc, inner)?), rest))
+    Ok((boxed(alloc, FormulaTree::Paren(inner))?, rest))
 }
 
 /// `!` before the formula.
-pub fn negation(alloc: Global, inner: FormulaTree) -> Result<FormulaTree, AllocError>
-    ensures { IfOk result (λ f. form_of f ≡ FNot (form_of inner)) }
+#[inline(never)]
+pub fn negation(alloc: Global, inner: Box<FormulaTree>) -> Result<Box<FormulaTree>, AllocError>
+    ensures { IfOk result (λ f. form_of f.value ≡ FNot (form_of inner.value)) }
 {
-    Ok(FormulaTree::Not(Box::new(alloc, inner)?))
+    boxed(alloc, FormulaTree::Not(inner))
 }
 
 /// `->` between the formulas.
+#[inline(never)]
 pub fn implication(
     alloc: Global,
-    left: FormulaTree,
-    right: FormulaTree,
-) -> Result<FormulaTree, AllocError>
-    ensures { IfOk result (λ f. form_of f ≡ FImp (form_of left) (form_of right)) }
+    left: Box<FormulaTree>,
+    right: Box<FormulaTree>,
+) -> Result<Box<FormulaTree>, AllocError>
+    ensures { IfOk result (λ f. form_of f.value ≡ FImp (form_of left.value) (form_of right.value)) }
 {
-    let left = Box::new(alloc, left)?;
-    let right = Box::new(alloc, right)?;
-    Ok(FormulaTree::Imp(left, right))
+    boxed(alloc, FormulaTree::Imp(left, right))
 }
 
 /// `?` and `:` between the formulas.
+#[inline(never)]
 pub fn conditional(
     alloc: Global,
-    test: FormulaTree,
-    yes: FormulaTree,
-    no: FormulaTree,
-) -> Result<FormulaTree, AllocError>
-    ensures { IfOk result (λ f. form_of f ≡ FCond (form_of test) (form_of yes) (form_of no)) }
+    test: Box<FormulaTree>,
+    yes: Box<FormulaTree>,
+    no: Box<FormulaTree>,
+) -> Result<Box<FormulaTree>, AllocError>
+    ensures { IfOk result
+        (λ f. form_of f.value ≡ FCond (form_of test.value) (form_of yes.value) (form_of no.value)) }
 {
-    let test = Box::new(alloc, test)?;
-    let yes = Box::new(alloc, yes)?;
-    let no = Box::new(alloc, no)?;
-    Ok(FormulaTree::Cond(test, yes, no))
+    boxed(alloc, FormulaTree::Cond(test, yes, no))
 }

@@ -8,6 +8,7 @@ ghost use Rattle.tv_tree.specs.Copies.{form_of, name_of};
 ghost use Rattle.tv_formula.specs.Reading.{compared, applied, closed, behind_name, predicate, named};
 ghost use Rattle.tv_formula.specs.Reading.{leaf_reading};
 
+use crate::build::boxed;
 use crate::words::{name_of_phrase, spelling, spellings};
 use std::alloc::Global;
 use tv_lex::Token;
@@ -137,9 +138,8 @@ fn named_at<'a>(alloc: Global, bytes: &[u8], tokens: &'a [Token]) -> Read<'a, Fo
     }
 }
 
-/// A constant, an equality, an atom or a closed predicate.
 #[tactic(auto, unfolding(crate::specs::Reading::leaf_reading))]
-pub fn leaf_at<'a>(alloc: Global, bytes: &[u8], tokens: &'a [Token]) -> Read<'a, FormulaTree>
+fn plain_at<'a>(alloc: Global, bytes: &[u8], tokens: &'a [Token]) -> Read<'a, FormulaTree>
     ensures { GivesReading (λ x. (form_of x.0, spec_tokens bytes.now x.1.now)) result
         (leaf_reading (spec_tokens bytes.now tokens.now)) }
 {
@@ -153,4 +153,14 @@ pub fn leaf_at<'a>(alloc: Global, bytes: &[u8], tokens: &'a [Token]) -> Read<'a,
         Some(rest) => Ok((FormulaTree::Half, rest)),
         None => named_at(alloc, bytes, tokens),
     }
+}
+
+/// A constant, an equality, an atom or a closed predicate.
+#[inline(never)]
+pub fn leaf_at<'a>(alloc: Global, bytes: &[u8], tokens: &'a [Token]) -> Read<'a, Box<FormulaTree>>
+    ensures { GivesReading (λ x. (form_of x.0.value, spec_tokens bytes.now x.1.now)) result
+        (leaf_reading (spec_tokens bytes.now tokens.now)) }
+{
+    let (leaf, rest) = plain_at(alloc, bytes, tokens)?;
+    Ok((boxed(alloc, leaf)?, rest))
 }

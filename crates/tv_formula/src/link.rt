@@ -4,6 +4,7 @@ ghost use Rattle.std.specs.Prelude.{◌≡◌, IfOk};
 ghost use Rattle.tv_tree.specs.Copies.{form_of};
 ghost use Rattle.tv_formula.specs.Grammar.{mark_of, join};
 
+use crate::build::boxed;
 use std::alloc::{AllocError, Global};
 use tv_tree::trees::FormulaTree;
 
@@ -31,20 +32,20 @@ impl Link {
     }
 
     /// The two formulas with the connective between them.
+    #[inline(never)]
     pub fn join(
         self,
         alloc: Global,
-        left: FormulaTree,
-        right: FormulaTree,
-    ) -> Result<FormulaTree, AllocError>
-        ensures { IfOk result (λ f. form_of f ≡ join self (form_of left) (form_of right)) }
+        left: Box<FormulaTree>,
+        right: Box<FormulaTree>,
+    ) -> Result<Box<FormulaTree>, AllocError>
+        ensures { IfOk result (λ f. form_of f.value ≡ join self (form_of left.value) (form_of right.value)) }
     {
-        let left = Box::new(alloc, left)?;
-        let right = Box::new(alloc, right)?;
-        Ok(match self {
+        let tree = match self {
             Link::Iff => FormulaTree::Iff(left, right),
             Link::Or => FormulaTree::Or(left, right),
             Link::And => FormulaTree::And(left, right),
-        })
+        };
+        boxed(alloc, tree)
     }
 }

@@ -32,14 +32,15 @@ fn below(depth: usize, tokens: &[Token]) -> Result<usize, PhraseError<'_>>
 }
 
 #[cycle(formula)]
+#[inline(never)]
 #[tactic(none)]
 fn bound_at<'a>(
     alloc: Global,
     bytes: &[u8],
     depth: usize,
     tokens: &'a [Token],
-) -> Read<'a, FormulaTree>
-    ensures { GivesReading (λ x. (form_of x.0, spec_tokens bytes.now x.1.now)) result
+) -> Read<'a, Box<FormulaTree>>
+    ensures { GivesReading (λ x. (form_of x.0.value, spec_tokens bytes.now x.1.now)) result
         (bound (reading depth) (spec_tokens bytes.now tokens.now)) }
 {
     let (binder, behind) = binder_at(alloc, bytes, tokens)?;
@@ -54,8 +55,8 @@ fn group_at<'a>(
     bytes: &[u8],
     depth: usize,
     tokens: &'a [Token],
-) -> Read<'a, FormulaTree>
-    ensures { GivesReading (λ x. (form_of x.0, spec_tokens bytes.now x.1.now)) result
+) -> Read<'a, Box<FormulaTree>>
+    ensures { GivesReading (λ x. (form_of x.0.value, spec_tokens bytes.now x.1.now)) result
         (grouped (reading depth) (spec_tokens bytes.now tokens.now)) }
 {
     let (inner, end) = formula_at(alloc, bytes, depth, tokens)?;
@@ -69,8 +70,8 @@ fn negation_at<'a>(
     bytes: &[u8],
     depth: usize,
     tokens: &'a [Token],
-) -> Read<'a, FormulaTree>
-    ensures { GivesReading (λ x. (form_of x.0, spec_tokens bytes.now x.1.now)) result
+) -> Read<'a, Box<FormulaTree>>
+    ensures { GivesReading (λ x. (form_of x.0.value, spec_tokens bytes.now x.1.now)) result
         (negated (reading depth) (spec_tokens bytes.now tokens.now)) }
 {
     let (inner, rest) = unary_at(alloc, bytes, depth, tokens)?;
@@ -84,8 +85,8 @@ fn unary_at<'a>(
     bytes: &[u8],
     depth: usize,
     tokens: &'a [Token],
-) -> Read<'a, FormulaTree>
-    ensures { GivesReading (λ x. (form_of x.0, spec_tokens bytes.now x.1.now)) result
+) -> Read<'a, Box<FormulaTree>>
+    ensures { GivesReading (λ x. (form_of x.0.value, spec_tokens bytes.now x.1.now)) result
         (reading depth Unary (spec_tokens bytes.now tokens.now)) }
 {
     let inner = below(depth, tokens)?;
@@ -111,8 +112,8 @@ fn operand_at<'a>(
     depth: usize,
     link: Link,
     tokens: &'a [Token],
-) -> Read<'a, FormulaTree>
-    ensures { GivesReading (λ x. (form_of x.0, spec_tokens bytes.now x.1.now)) result
+) -> Read<'a, Box<FormulaTree>>
+    ensures { GivesReading (λ x. (form_of x.0.value, spec_tokens bytes.now x.1.now)) result
         (reading depth (operand link) (spec_tokens bytes.now tokens.now)) }
 {
     match link {
@@ -130,8 +131,8 @@ fn joined_at<'a>(
     depth: usize,
     link: Link,
     tokens: &'a [Token],
-) -> Read<'a, FormulaTree>
-    ensures { GivesReading (λ x. (form_of x.0, spec_tokens bytes.now x.1.now)) result
+) -> Read<'a, Box<FormulaTree>>
+    ensures { GivesReading (λ x. (form_of x.0.value, spec_tokens bytes.now x.1.now)) result
         (reading depth (Joined link) (spec_tokens bytes.now tokens.now)) }
 {
     let mut left = below(depth, tokens)?;
@@ -155,8 +156,8 @@ fn implication_at<'a>(
     bytes: &[u8],
     depth: usize,
     tokens: &'a [Token],
-) -> Read<'a, FormulaTree>
-    ensures { GivesReading (λ x. (form_of x.0, spec_tokens bytes.now x.1.now)) result
+) -> Read<'a, Box<FormulaTree>>
+    ensures { GivesReading (λ x. (form_of x.0.value, spec_tokens bytes.now x.1.now)) result
         (reading depth Imp (spec_tokens bytes.now tokens.now)) }
 {
     let inner = below(depth, tokens)?;
@@ -169,16 +170,17 @@ fn implication_at<'a>(
 }
 
 #[cycle(formula)]
+#[inline(never)]
 #[tactic(none)]
 fn chosen_at<'a>(
     alloc: Global,
     bytes: &[u8],
     depth: usize,
-    test: FormulaTree,
+    test: Box<FormulaTree>,
     tokens: &'a [Token],
-) -> Read<'a, FormulaTree>
-    ensures { GivesReading (λ x. (form_of x.0, spec_tokens bytes.now x.1.now)) result
-        (chosen (reading depth) (form_of test) (spec_tokens bytes.now tokens.now)) }
+) -> Read<'a, Box<FormulaTree>>
+    ensures { GivesReading (λ x. (form_of x.0.value, spec_tokens bytes.now x.1.now)) result
+        (chosen (reading depth) (form_of test.value) (spec_tokens bytes.now tokens.now)) }
 {
     let (yes, end) = formula_at(alloc, bytes, depth, tokens)?;
     let behind = expect_behind(bytes, end, b":")?;
@@ -193,8 +195,8 @@ fn formula_at<'a>(
     bytes: &[u8],
     depth: usize,
     tokens: &'a [Token],
-) -> Read<'a, FormulaTree>
-    ensures { GivesReading (λ x. (form_of x.0, spec_tokens bytes.now x.1.now)) result
+) -> Read<'a, Box<FormulaTree>>
+    ensures { GivesReading (λ x. (form_of x.0.value, spec_tokens bytes.now x.1.now)) result
         (reading depth Whole (spec_tokens bytes.now tokens.now)) }
 {
     let inner = below(depth, tokens)?;
@@ -211,7 +213,8 @@ fn read_formula<'a>(alloc: Global, bytes: &[u8], tokens: &'a [Token]) -> Read<'a
     ensures { GivesReading (λ x. (form_of x.0, spec_tokens bytes.now x.1.now)) result
         (formula_reading (spec_tokens bytes.now tokens.now)) }
 {
-    formula_at(alloc, bytes, 6 * tokens.len() + 6, tokens)
+    let (tree, rest) = formula_at(alloc, bytes, 6 * tokens.len() + 6, tokens)?;
+    Ok((Box::into_inner(tree), rest))
 }
 
 /// A formula, and the tokens behind it. It reaches as far as it can. Its tokens go in one reading, and the

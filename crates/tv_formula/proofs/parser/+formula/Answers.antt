@@ -160,17 +160,17 @@ chosen_at-formula_at-requires-2 t c = search rules
 pub chosen_at-returns-in_err-yes : goal.chosen_at-returns-in_err-yes
 chosen_at-returns-in_err-yes t c =
     let p = err_from_is_err_and c.from_residual.result c.from_residual.ensures.1 in
-    rw (p.1, p.2) (told_yes c.in_err-yes.field-0.0 (reading c.args.depth) (form_of c.args.test) (spec_tokens c.args.bytes.now c.args.tokens.now) c.in_err-yes.ensures)
+    rw (p.1, p.2) (told_yes c.in_err-yes.field-0.0 (reading c.args.depth) (form_of c.args.test.value) (spec_tokens c.args.bytes.now c.args.tokens.now) c.in_err-yes.ensures)
 
 pub chosen_at-returns-in_err-behind : goal.chosen_at-returns-in_err-behind
 chosen_at-returns-in_err-behind t c =
     let p = err_from_is_err_and c.from_residual-in_err-behind.result c.from_residual-in_err-behind.ensures.1 in
-    rw (p.1, p.2) (told_colon c.in_err-behind.field-0.0 (reading c.args.depth) (form_of c.args.test) _ (spec_tokens c.args.bytes.now c.args.tokens.now) _ c.in_ok-yes.ensures c.in_err-behind.ensures)
+    rw (p.1, p.2) (told_colon c.in_err-behind.field-0.0 (reading c.args.depth) (form_of c.args.test.value) _ (spec_tokens c.args.bytes.now c.args.tokens.now) _ c.in_ok-yes.ensures c.in_err-behind.ensures)
 
 pub chosen_at-returns-in_err-no : goal.chosen_at-returns-in_err-no
 chosen_at-returns-in_err-no t c =
     let p = err_from_is_err_and c.from_residual-in_err-no.result c.from_residual-in_err-no.ensures.1 in
-    rw (p.1, p.2) (told_no c.in_err-no.field-0.0 (reading c.args.depth) (form_of c.args.test) _ (spec_tokens c.args.bytes.now c.args.tokens.now) _ _ c.in_ok-yes.ensures c.in_ok-behind.ensures c.in_err-no.ensures)
+    rw (p.1, p.2) (told_no c.in_err-no.field-0.0 (reading c.args.depth) (form_of c.args.test.value) _ (spec_tokens c.args.bytes.now c.args.tokens.now) _ _ c.in_ok-yes.ensures c.in_ok-behind.ensures c.in_err-no.ensures)
 
 pub chosen_at-returns-in_err-conditional : goal.chosen_at-returns-in_err-conditional
 chosen_at-returns-in_err-conditional t c =
@@ -228,12 +228,12 @@ joined_at-parts-init t c = record {
 pub joined_at-returns-in_err-inner : goal.joined_at-returns-in_err-inner
 joined_at-returns-in_err-inner t c =
     let p = err_from_is_err_and c.from_residual-in_err-inner.result c.from_residual-in_err-inner.ensures.1 in
-    rw (p.1, p.2) (told_depth c.in_err-inner.field-0.0 _ c.parts.left (Behind c.args.link (form_of c.parts.tree)) (spec_tokens c.args.bytes.now c.parts.rest.now) c.parts.invariant.read c.in_err-inner.ensures.inner)
+    rw (p.1, p.2) (told_depth c.in_err-inner.field-0.0 _ c.parts.left (Behind c.args.link (form_of c.parts.tree.value)) (spec_tokens c.args.bytes.now c.parts.rest.now) c.parts.invariant.read c.in_err-inner.ensures.inner)
 
 pub joined_at-returns-in_default : goal.joined_at-returns-in_default
 joined_at-returns-in_default t c =
     c.parts.invariant.read
-    ∙ behind_ends c.parts.left _ c.args.link (form_of c.parts.tree) (spec_tokens c.args.bytes.now c.parts.rest.now) c.in_ok-inner.ensures.inner (marked c.mark.result.now c.args.link (spec_tokens c.args.bytes.now c.parts.rest.now) _ c.mark.ensures c.in_default.ensures.value)
+    ∙ behind_ends c.parts.left _ c.args.link (form_of c.parts.tree.value) (spec_tokens c.args.bytes.now c.parts.rest.now) c.in_ok-inner.ensures.inner (marked c.mark.result.now c.args.link (spec_tokens c.args.bytes.now c.parts.rest.now) _ c.mark.ensures c.in_default.ensures.value)
 
 pub joined_at-operand_at-requires-in-parts : goal.joined_at-operand_at-requires-in-parts
 joined_at-operand_at-requires-in-parts t c = search rules
@@ -241,7 +241,7 @@ joined_at-operand_at-requires-in-parts t c = search rules
 pub joined_at-returns-in_err-right : goal.joined_at-returns-in_err-right
 joined_at-returns-in_err-right t c =
     let p = err_from_is_err_and c.from_residual-in_err-right.result c.from_residual-in_err-right.ensures.1 in
-    rw (p.1, p.2) (told_part c.in_err-right.field-0.0 _ c.parts.left _ c.args.link (form_of c.parts.tree) (spec_tokens c.args.bytes.now c.parts.rest.now) _ c.parts.invariant.read c.in_ok-inner.ensures.inner (marked c.mark.result.now c.args.link (spec_tokens c.args.bytes.now c.parts.rest.now) _ c.mark.ensures c.in-Some.ensures.value) c.in_err-right.ensures)
+    rw (p.1, p.2) (told_part c.in_err-right.field-0.0 _ c.parts.left _ c.args.link (form_of c.parts.tree.value) (spec_tokens c.args.bytes.now c.parts.rest.now) _ c.parts.invariant.read c.in_ok-inner.ensures.inner (marked c.mark.result.now c.args.link (spec_tokens c.args.bytes.now c.parts.rest.now) _ c.mark.ensures c.in-Some.ensures.value) c.in_err-right.ensures)
 
 pub joined_at-returns-in_err-tree-2 : goal.joined_at-returns-in_err-tree-2
 joined_at-returns-in_err-tree-2 t c =
@@ -252,7 +252,7 @@ pub joined_at-parts-preserved : goal.joined_at-parts-preserved
 joined_at-parts-preserved t c = record {
   read =
       c.parts.invariant.read
-      ∙ behind_steps c.parts.left _ c.args.link (form_of c.parts.tree) _ _ (spec_tokens c.args.bytes.now c.parts.rest.now) _ _ c.in_ok-inner.ensures.inner (marked c.mark.result.now c.args.link (spec_tokens c.args.bytes.now c.parts.rest.now) _ c.mark.ensures c.in-Some.ensures.value) c.in_ok-right.ensures c.in_ok-tree-2.ensures;
+      ∙ behind_steps c.parts.left _ c.args.link (form_of c.parts.tree.value) _ _ (spec_tokens c.args.bytes.now c.parts.rest.now) _ _ c.in_ok-inner.ensures.inner (marked c.mark.result.now c.args.link (spec_tokens c.args.bytes.now c.parts.rest.now) _ c.mark.ensures c.in-Some.ensures.value) c.in_ok-right.ensures c.in_ok-tree-2.ensures;
   below =
       let less : c.in_ok-inner.inner < c.parts.left = c.in_ok-inner.ensures.less in
       let before : c.parts.left < c.args.depth = c.parts.invariant.below in

@@ -35,7 +35,7 @@ decreases-formula_at l = 3 * l.depth
 -- the formula so far, and what is still to come, are read as the whole is
 abbrev pub invariant-joined_at-parts : goal.invariant-joined_at-parts
 invariant-joined_at-parts l = record {
-  read : reading l.depth (Joined l.link) (spec_tokens l.bytes l.tokens) ≡ reading l.left (Behind l.link (form_of l.tree)) (spec_tokens l.bytes l.rest);
+  read : reading l.depth (Joined l.link) (spec_tokens l.bytes l.tokens) ≡ reading l.left (Behind l.link (form_of l.tree.value)) (spec_tokens l.bytes l.rest);
   below : l.left < l.depth;
 }
 
