@@ -119,6 +119,7 @@ fn unaffected(alloc: Global, q: PredId, args: Terms) -> Result<Delta, Stop>
 }
 
 /// What is told of an atom.
+#[inline(never)]
 #[tactic(auto, using(crate::proofs::AtomSteps::unflagged_is, crate::proofs::AtomSteps::known_gives))]
 pub fn atom_start(alloc: Global, o: &Opening<'_>, memo: &Memo, q: PredId, args: Terms) -> Start
     requires known { AreKnownAt o.now memo.now.entries.items }
@@ -186,6 +187,7 @@ fn no_delta(o: &Opening<'_>, memo: &mut Memo, q: PredId, args: Terms) -> Result<
 }
 
 /// The delta of an atom over what was formed of its definition, put behind what is known.
+#[inline(never)]
 pub fn atom_end(
     alloc: Global,
     o: &Opening<'_>,

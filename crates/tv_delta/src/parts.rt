@@ -13,6 +13,7 @@ use tv_delta_form::{
 use tv_model::{Formula, Var};
 
 /// A formula that the step leaves as it is.
+#[inline(never)]
 #[tactic(auto, using(tv_delta_form::proofs::Steps::memory_fails))]
 pub fn still(alloc: Global, f: &Formula) -> Result<Delta, Stop>
     ensures { GivesFormed delta_form result (unchanged (form_of f.now)) }
@@ -22,6 +23,7 @@ pub fn still(alloc: Global, f: &Formula) -> Result<Delta, Stop>
 }
 
 /// The negation.
+#[inline(never)]
 #[tactic(auto, using(tv_delta_form::proofs::DeltaSteps::not_stops))]
 pub fn not_with(alloc: Global, d: Result<Delta, Stop>) -> Result<Delta, Stop>
     ensures { (o : Option DeltaForm) → GivesFormed delta_form d o
@@ -34,6 +36,7 @@ pub fn not_with(alloc: Global, d: Result<Delta, Stop>) -> Result<Delta, Stop>
 }
 
 /// That some individual makes it true.
+#[inline(never)]
 #[tactic(auto, using(tv_delta_form::proofs::DeltaSteps::some_stops))]
 pub fn some_with(alloc: Global, v: Var, d: Result<Delta, Stop>) -> Result<Delta, Stop>
     ensures { (o : Option DeltaForm) → GivesFormed delta_form d o
@@ -46,6 +49,7 @@ pub fn some_with(alloc: Global, v: Var, d: Result<Delta, Stop>) -> Result<Delta,
 }
 
 /// That every individual makes it true.
+#[inline(never)]
 #[tactic(auto, using(tv_delta_form::proofs::DeltaSteps::every_stops))]
 pub fn every_with(alloc: Global, v: Var, d: Result<Delta, Stop>) -> Result<Delta, Stop>
     ensures { (o : Option DeltaForm) → GivesFormed delta_form d o
@@ -58,6 +62,7 @@ pub fn every_with(alloc: Global, v: Var, d: Result<Delta, Stop>) -> Result<Delta
 }
 
 /// The conjunction.
+#[inline(never)]
 #[tactic(auto, using(tv_delta_form::proofs::DeltaSteps::and_stops_second))]
 pub fn and_with(alloc: Global, d: Delta, e: Result<Delta, Stop>) -> Result<Delta, Stop>
     ensures { (o p : Option DeltaForm) → o ≡ Some (delta_form d) → GivesFormed delta_form e p
@@ -70,6 +75,7 @@ pub fn and_with(alloc: Global, d: Delta, e: Result<Delta, Stop>) -> Result<Delta
 }
 
 /// The disjunction.
+#[inline(never)]
 #[tactic(auto, using(tv_delta_form::proofs::DeltaSteps::or_stops_second))]
 pub fn or_with(alloc: Global, d: Delta, e: Result<Delta, Stop>) -> Result<Delta, Stop>
     ensures { (o p : Option DeltaForm) → o ≡ Some (delta_form d) → GivesFormed delta_form e p
@@ -82,6 +88,7 @@ pub fn or_with(alloc: Global, d: Delta, e: Result<Delta, Stop>) -> Result<Delta,
 }
 
 /// The equivalence.
+#[inline(never)]
 #[tactic(auto, using(tv_delta_form::proofs::DeltaSteps::alike_stops_second))]
 pub fn iff_with(alloc: Global, d: Delta, e: Result<Delta, Stop>) -> Result<Delta, Stop>
     ensures { (o p : Option DeltaForm) → o ≡ Some (delta_form d) → GivesFormed delta_form e p
@@ -94,6 +101,7 @@ pub fn iff_with(alloc: Global, d: Delta, e: Result<Delta, Stop>) -> Result<Delta
 }
 
 /// The conditional.
+#[inline(never)]
 #[tactic(auto, using(tv_delta_form::proofs::DeltaSteps::choice_stops_third))]
 pub fn cond_with(alloc: Global, b: Delta, d: Delta, e: Result<Delta, Stop>) -> Result<Delta, Stop>
     ensures { (c o p : Option DeltaForm) → c ≡ Some (delta_form b) → o ≡ Some (delta_form d)

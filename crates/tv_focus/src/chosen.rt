@@ -106,6 +106,7 @@ fn split_by(alloc: Global, s: &Structure, parts: &[u32]) -> Result<Structure, Al
 }
 
 /// The structure of a choice.
+#[inline(never)]
 fn chosen(
     alloc: Global,
     s: &Structure,

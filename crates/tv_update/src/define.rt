@@ -46,6 +46,7 @@ fn evaluate(
 }
 
 /// Gives the predicate the values of its definition in `t`, if it has one.
+#[inline(never)]
 fn define(
     program: &Program,
     p: PredId,

@@ -60,6 +60,7 @@ fn fill_change<'a>(
 }
 
 /// Makes one update in `t`: its predicate gets the values that the evaluator has for it.
+#[inline(never)]
 #[tactic(auto, using(crate::proofs::RowLaws::change_rows_are_rows, crate::proofs::RowLaws::few_vars))]
 fn make<'a>(
     e: &mut Evaluator<'a>,
