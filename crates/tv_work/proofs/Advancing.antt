@@ -4,7 +4,7 @@ use Rattle.std.proofs.Common.{zero, suc, None, Some, refl, sym, ap, subst, ◌�
 use Rattle.std.specs.Prelude.{All, Contains, sum_by, slice_get}
 use Rattle.std.proofs.lemmas.Bool.{cases_lt}
 use Rattle.std.proofs.lemmas.List.{length-replicate, get_or-replicate, get_or_default, get_or_past}
-use Rattle.std.proofs.lemmas.List.Elements.{Contains-push_cases, All-contains, All-weaker}
+use Rattle.std.proofs.lemmas.List.Elements.{All-contains, All-weaker}
 use Rattle.std.proofs.lemmas.List.Sums.{sum_by-cons}
 use Rattle.std.proofs.lemmas.Option.{same_Some, slice_get-get_or, slice_get_within, get_or_from_slice_get}
 use Rattle.tv_kleene.specs.declared.K3.{K3}
@@ -201,23 +201,27 @@ all-wait t nodes s told grows x has = by (grows.fresh x has)
     by (inr waits) = inl waits
 
 -- the search before one that waits was taken out
-abbrev pub with_last : SearchForm → Waiting → SearchForm
-with_last s w = record { listing = s.listing; waiting = s.waiting ++ w ∷ []; count = s.count }
+abbrev pub with_first : SearchForm → Waiting → SearchForm
+with_first s w = record { listing = s.listing; waiting = w ∷ s.waiting; count = s.count }
 
 -- one that waits is taken out and done
 pub done-next : (t : TaskForm) (popped new : SearchForm) (told more : List (List K3)) (w : Waiting)
-    → AreDone t (with_last popped w) told
+    → AreDone t (with_first popped w) told
     → Advances popped told new more → Does t w popped new more → AreDone t new more
 done-next t popped new told more w done advances does x has = by (advances.grows.fresh x has)
   where
+    one-of : (v : Waiting) → Contains (w ∷ popped.waiting) v → Contains popped.waiting v ⊎ (w ≡ v)
+    one-of v (zero, inside, e) = inr e
+    one-of v (suc k, inside, e) = inl (k, omega (arith, inside), e)
+
     waited : (v : Waiting) → Contains popped.waiting v ⊎ (w ≡ v) → StandsFor popped.listing v x
         → Waits new x ⊎ AreStepsDone t new.listing more x
     waited v (inl still) stands = inl (waits-on popped new x advances.grows (v, still, stands))
     waited v (inr e) stands = inr (does x (subst (λ u. StandsFor popped.listing u x) (sym e) stands))
 
-    before : Waits (with_last popped w) x ⊎ AreStepsDone t popped.listing told x → Waits new x
+    before : Waits (with_first popped w) x ⊎ AreStepsDone t popped.listing told x → Waits new x
         ⊎ AreStepsDone t new.listing more x
-    before (inl (v, has_it, stands)) = waited v (Contains-push_cases popped.waiting w v has_it) stands
+    before (inl (v, has_it, stands)) = waited v (one-of v has_it) stands
     before (inr is) = inr (done-kept t popped.listing new.listing told more advances.grows.kept advances.rises
         x is)
 
@@ -336,7 +340,7 @@ pub leaving-at : (lists : List (List ℕ)) (node : ℕ) (list items : List ℕ) 
     → items ≡ get_or lists node list → items ≡ get_or lists node []
 leaving-at lists node list items within is = is ∙ get_or_default lists node list [] within
 
-pub kept-popped : (t : TaskForm) (s : SearchForm) (w : Waiting) → IsSearchState t (with_last s w) → IsSearchState t s
+pub kept-popped : (t : TaskForm) (s : SearchForm) (w : Waiting) → IsSearchState t (with_first s w) → IsSearchState t s
 kept-popped t s w kept = record {
   nodes = kept.nodes;
   within = record { count = kept.within.count; most = kept.within.most };

@@ -10,6 +10,7 @@ ghost use Rattle.tv_work.specs.Analysed.{IsMeetCause};
 
 use crate::WorkError;
 use std::alloc::{AllocError, Global};
+use std::collections::VecDeque;
 use std::marker::Model;
 use tv_listing::Listing;
 use tv_struct::{Structure, Structures};
@@ -21,11 +22,12 @@ pub(crate) struct Waiting {
     pub place: usize,
 }
 
-/// The structures that were met, and those of them that still wait to be followed, by their places.
+/// The structures that were met, and those of them that still wait to be followed, by their places, in the
+/// order in which they were met.
 #[derive(Drop)]
 pub(crate) struct Search {
     listing: Listing,
-    waiting: Vec<Waiting>,
+    waiting: VecDeque<Waiting>,
     count: u64,
 }
 
@@ -47,7 +49,7 @@ impl Search {
     {
         Ok(Search {
             listing: Listing::new(alloc, nodes)?,
-            waiting: Vec::new(alloc),
+            waiting: VecDeque::new(alloc),
             count: 0,
         })
     }
@@ -75,7 +77,7 @@ impl Search {
         }
         self.count += 1;
         let place = self.listing.count(node) - 1;
-        self.waiting.push(Waiting { node, place })?;
+        self.waiting.push_back(Waiting { node, place })?;
         Ok(())
     }
 
@@ -100,18 +102,19 @@ impl Search {
         Ok(())
     }
 
-    /// Takes out one that waits, if any does.
+    /// Takes out the one that has waited longest, if any waits: so structures are met in the order of the steps
+    /// that lead to them, small ones first.
     pub fn pop(&mut self) -> Option<Waiting>
         ensures some { IfSome result (λ w. (w.place < length (at_node self.old.listing w.node))
             × (self.old ≡ record {
               listing = self.new.listing;
-              waiting = self.new.waiting ++ w ∷ [];
+              waiting = w ∷ self.new.waiting;
               count
                   = self.new.count;
             })) }
         ensures none { IfNone result ((self.new ≡ self.old) × (length self.old.waiting ≡ 0)) }
     {
-        self.waiting.pop()
+        self.waiting.pop_front()
     }
 
     /// The structure that stands there.

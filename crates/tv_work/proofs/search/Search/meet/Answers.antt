@@ -51,8 +51,8 @@ returns-then-self-max-clause-cause c =
     (subst (IsWithin c.args.max) (sym c.self.view_is) c.requires.within) c.if-self-max.true)
 
 -- src/search.rt:72:9
-pub invariant_of-self-in_err-push : goal.invariant_of-self-in_err-push
-invariant_of-self-in_err-push c =
+pub invariant_of-self-in_err-push_back : goal.invariant_of-self-in_err-push_back
+invariant_of-self-in_err-push_back c =
     let old : SearchForm = record {
       listing = c.self.inside.listing;
       waiting = c.self.inside.waiting.items;
@@ -60,11 +60,11 @@ invariant_of-self-in_err-push c =
     }
     in let added = subst (λ b. AddsAt old.listing c.add.new.self c.args.node c.args.s (Ok b))
     c.if-not-branch.false c.in_ok-add.ensures
-    in subst (λ l. IsSearch (record { listing = l; waiting = c.push.new.self.items; count = old.count + 1 }))
+    in subst (λ l. IsSearch (record { listing = l; waiting = c.push_back.new.self.items; count = old.count + 1 }))
     (sym added.1)
     (subst (λ v. IsSearch
     (record { listing = appended old.listing c.args.node c.args.s; waiting = v; count = old.count + 1 }))
-    (sym c.in_err-push.ensures.items)
+    (sym c.in_err-push_back.ensures.items)
     (listed-more old c.args.node c.args.s (subst (λ (o : SearchForm). c.args.node < length o.listing)
     (sym c.self.view_is) c.requires.node) c.self.invariant c.requires.unmarked added.0 (old.count + 1)))
 
@@ -81,11 +81,11 @@ invariant_of-self-2 c =
     in let w : Waiting = record { node = c.args.node; place = c.count-place.result - 1 }
     in let place : w.place ≡ length (at_node (appended old.listing c.args.node c.args.s) c.args.node) - 1
     = ap (λ n. n - 1) c.count-place.ensures ∙ ap (λ l. length (at_node l c.args.node) - 1) added.1
-    in subst (λ l. IsSearch (record { listing = l; waiting = c.push.new.self.items; count = old.count + 1 }))
+    in subst (λ l. IsSearch (record { listing = l; waiting = c.push_back.new.self.items; count = old.count + 1 }))
     (sym added.1)
     (subst (λ v. IsSearch
     (record { listing = appended old.listing c.args.node c.args.s; waiting = v; count = old.count + 1 }))
-    (sym c.in_ok-push.ensures.items)
+    (sym c.in_ok-push_back.ensures.items)
     (waiting-more old c.args.node c.args.s (subst (λ (o : SearchForm). c.args.node < length o.listing)
     (sym c.self.view_is) c.requires.node) c.self.invariant c.requires.unmarked added.0 (old.count + 1) w
     refl place))
@@ -104,13 +104,13 @@ returns-clause-grows c =
     in let place : w.place ≡ length (at_node (appended old.listing c.args.node c.args.s) c.args.node) - 1
     = ap (λ n. n - 1) c.count-place.ensures ∙ ap (λ l. length (at_node l c.args.node) - 1) added.1
     in subst (λ (o : SearchForm).
-    Grows o (record { listing = c.add.new.self; waiting = c.push.new.self.items; count = old.count + 1 }))
+    Grows o (record { listing = c.add.new.self; waiting = c.push_back.new.self.items; count = old.count + 1 }))
     c.self.view_is
-    (subst (λ l. Grows old (record { listing = l; waiting = c.push.new.self.items; count = old.count + 1 }))
+    (subst (λ l. Grows old (record { listing = l; waiting = c.push_back.new.self.items; count = old.count + 1 }))
     (sym added.1)
     (subst (λ v. Grows old
     (record { listing = appended old.listing c.args.node c.args.s; waiting = v; count = old.count + 1 }))
-    (sym c.in_ok-push.ensures.items)
+    (sym c.in_ok-push_back.ensures.items)
     (met-grows old c.args.node c.args.s w (subst (λ (o : SearchForm). c.args.node < length o.listing)
     (sym c.self.view_is) c.requires.node) refl place)))
 
