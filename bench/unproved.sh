@@ -1,0 +1,39 @@
+#!/usr/bin/env bash
+# Builds a fast program of the sources as they stand, without a proof, to measure with: bench/unproved.sh PROGRAM. It is no program to
+# trust, and never the one that ./tvla takes. `rt try` compiles what it runs; a compiler put before the kit's keeps what it is given, which
+# is then compiled as a proved program is (some five minutes). Steps are still counted, so times are a tenth to a half above a proved one's.
+set -eu
+[ $# = 1 ] || { echo "usage: bench/unproved.sh PROGRAM" >&2; exit 64; }
+here="$(cd "$(dirname "$0")/.." && pwd)"
+kit="$(dirname "$(rt doc)")"
+to="$(cd "$(dirname "$1")" && pwd)/$(basename "$1")"
+room="$(mktemp -d)"
+trap 'rm -rf "$room"' EXIT
+mkdir -p "$room/kit/bin" "$room/kit/toolchain/bin"
+for it in "$kit"/*; do
+  case "$(basename "$it")" in bin | toolchain) ;; *) ln -s "$it" "$room/kit/" ;; esac
+done
+for it in "$kit"/bin/*; do ln -s "$it" "$room/kit/bin/"; done
+rm "$room/kit/bin/rt" "$room/kit/bin/rtlib.py" # these find their kit by where they lie
+cp "$kit/bin/rt" "$kit/bin/rtlib.py" "$room/kit/bin/"
+for it in "$kit"/toolchain/*; do
+  case "$(basename "$it")" in bin) ;; *) ln -s "$it" "$room/kit/toolchain/" ;; esac
+done
+for it in "$kit"/toolchain/bin/*; do ln -s "$it" "$room/kit/toolchain/bin/"; done
+rm "$room/kit/toolchain/bin/clang"
+cat > "$room/kit/toolchain/bin/clang" <<END
+#!/usr/bin/env bash
+for it in "\$@"; do
+  case "\$it" in *.bc) cp "\$it" "$room/\$\$.bc" ;; esac
+done
+exec "$kit/toolchain/bin/clang" "\$@"
+END
+chmod +x "$room/kit/toolchain/bin/clang"
+(cd "$here/crates/tvla" && "$room/kit/bin/rt" try --seconds 1 -- demo 1 >/dev/null 2>&1) || true
+module="$(find "$room" -maxdepth 1 -name '*.bc' -size +1M | head -1)"
+[ -n "$module" ] || { echo "bench/unproved.sh: rt try compiled nothing" >&2; exit 1; }
+"$kit/toolchain/bin/clang" --target=x86_64-unknown-linux-gnu --sysroot="$kit/toolchain" -march=x86-64 -ffunction-sections \
+  -fdata-sections --no-default-config -c -x ir "$module" -o "$room/module.o" -fPIE -O3
+"$kit/bin/rattle-link" --target x86_64-unknown-linux-gnu --toolchain "$kit/toolchain" -o "$to" "$room/module.o" \
+  "$kit/c/libos_c.a" "$kit/c/liblibc_c.a" >/dev/null
+echo "$to"
