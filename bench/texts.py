@@ -177,6 +177,14 @@ DEEP = {
     "quantifiers over a connective": lambda depth: "E(v) x(v) & " * (depth // 2) + "b()",
     "closures": lambda depth: "E(v, w) " + TURNED(depth - 1),
 }
+
+
+def many_variables(depth, count):
+    """So many quantifiers, one in the other, each of so many variables."""
+    names = ", ".join(f"a{k}" for k in range(count))
+    return f"E({names}) " * depth + "x(a0)"
+
+
 PREDS = "%p b()\n%p c()\n%p x(v)\n%p n(v, w)\n"
 # where a formula may stand: declarations and the parts of an action; the actions change what it speaks of
 PLACES = {
