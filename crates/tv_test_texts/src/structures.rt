@@ -1,5 +1,6 @@
-//! Rows of structures, tables and texts of structures.
+//! Rows of structures, tables, texts and lines of structures.
 
+mod lines;
 mod nested;
 mod reader;
 mod structures;

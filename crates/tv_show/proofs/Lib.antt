@@ -1,0 +1,6 @@
+mod Callings
+mod Parted
+mod Spelt
+mod Told
+mod Walked
+mod Whole

@@ -1,0 +1,8 @@
+use Rattle.std.proofs.Common.{◌≡◌, ◌++◌, drop}
+use Rattle.tv_show.specs.Rows.{each_pred, binary_marked}
+use Rattle.tv_show.proofs.line.append_arrows.Given as goal
+
+abbrev pub invariant-loop-p : goal.invariant-loop-p
+invariant-loop-p l =
+    l.out.items ++ each_pred 2 (binary_marked l.s l.targets l.u) l.p (drop l.p l.preds)
+    ≡ l.initial.out.items ++ each_pred 2 (binary_marked l.s l.targets l.u) 0 l.preds

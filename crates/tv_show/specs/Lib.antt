@@ -1,0 +1,4 @@
+pub mod Texts
+pub mod Line
+pub mod Laws
+pub mod Rows
