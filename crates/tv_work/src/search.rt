@@ -102,8 +102,8 @@ impl Search {
         Ok(())
     }
 
-    /// Takes out the one that has waited longest, if any waits: so structures are met in the order of the steps
-    /// that lead to them, small ones first.
+    /// Takes out the one that has waited longest, if any waits: so structures are met in the order of the
+    /// steps that lead to them, small ones first.
     pub fn pop(&mut self) -> Option<Waiting>
         ensures some { IfSome result (λ w. (w.place < length (at_node self.old.listing w.node))
             × (self.old ≡ record {
