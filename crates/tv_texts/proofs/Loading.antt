@@ -1,6 +1,6 @@
 -- What files give, from what reading them gives.
 use Rattle.std.proofs.Common.{ℕ, ◌<◌, List, Option, None, Some, Result, Ok, Err, refl}
-use Rattle.std.specs.Prelude.{length}
+use Rattle.std.specs.Prelude.{length, OnOk}
 use Rattle.tv_lex.specs.Gather.{Gathers, GatherCause}
 use Rattle.tv_lex.specs.declared.gatherer.GatherError.{GatherError}
 use Rattle.tv_lex.specs.declared.gatherer.GatherError.TheVariants as gathering
@@ -85,6 +85,10 @@ gathered_refused told name text lacks rose steady NotRead gathers h = absurd h.0
 gathered_refused told name text lacks rose steady Memory gathers h = tt
 
 -- what holds anyway
+pub holds_at_ok : {T : Type 0} (result : Result T TextFault) (P : Type 0) → P → OnOk result P
+holds_at_ok (Ok found) P h = h
+holds_at_ok (Err fault) P h = tt
+
 pub holds_anyway : {T : Type 0} (result : Result T TextFault) (P : Type 0) → P → UnlessNotRead result P
 holds_anyway (Ok found) P h = h
 holds_anyway (Err (Refused its k)) P h = h

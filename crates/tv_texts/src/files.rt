@@ -1,12 +1,12 @@
 //! What named files mean.
 
-ghost use Rattle.std.specs.Prelude.{◌≡◌, ◌≤◌, ◌<◌, ◌^◌, All, None, Ok, Err, length, IfOk, IfErr};
+ghost use Rattle.std.specs.Prelude.{◌≡◌, ◌≤◌, ◌<◌, ◌^◌, All, None, Ok, Err, length, IfOk, IfErr, OnOk};
 ghost use Rattle.tv_lex.specs.Bytes.{longest_text};
-ghost use Rattle.tv_lex.specs.Gather.{longest_gathered};
+ghost use Rattle.tv_lex.specs.Gather.{BeginsEach, deepest_include, file_events, longest_gathered};
 ghost use Rattle.tv_listing.specs.Listed.{IsListing};
 ghost use Rattle.tv_model.specs.Program.{program_of};
 ghost use Rattle.tv_model.specs.Valid.{IsValid};
-ghost use Rattle.tv_outside.specs.Count.{Rose};
+ghost use Rattle.tv_outside.specs.Count.{Rose, counted};
 ghost use Rattle.tv_outside.specs.Told.{HoldsName, IsContent};
 ghost use Rattle.tv_status.specs.declared.status.Role.TheVariants as role;
 ghost use Rattle.tv_struct.specs.StructureForm.{IsStructure, IsOver};
@@ -29,7 +29,7 @@ use tv_trace::Trace;
 /// The greatest number of bytes of a report.
 pub const MAX_REPORT: usize = 67_108_864;
 
-/// The content of the file of this role, where it has at most `limit` bytes.
+/// The content of the file of this role, where it has at most `limit` bytes. It is begun once.
 #[tactic(auto, using(crate::proofs::Loading::not_read))]
 fn read_file<F: Files>(
     alloc: Global,
@@ -45,6 +45,7 @@ fn read_file<F: Files>(
         (¬ HoldsName (F.holds files.old) name.now)
         (Rose (F.faults files.old) (F.faults files.new)) (F.steady files.old)) }
     ensures holds { F.holds files.new ≡ F.holds files.old }
+    ensures begins { F.begins files.new ≡ counted (F.begins files.old) 1 }
     ensures count { F.faults files.old ≤ F.faults files.new }
     ensures steady { F.steady files.old → UnlessNotRead result (F.steady files.new
         × (F.faults files.new ≡ F.faults files.old)) }
@@ -61,7 +62,7 @@ fn read_file<F: Files>(
 /// It is refused where it means no program. It isn't read only where a call of `files` failed, and on steady
 /// files only where they lack it, or a file that it includes and that is come to before any refusal. Or
 /// memory ran out.
-#[tactic(auto, using(crate::proofs::Loading::not_gathered, crate::proofs::Loading::gathered_refused, crate::proofs::Loading::holds_anyway))]
+#[tactic(auto, using(crate::proofs::Loading::not_gathered, crate::proofs::Loading::gathered_refused, crate::proofs::Loading::holds_anyway, crate::proofs::Loading::holds_at_ok))]
 pub fn load_program<F: Files>(
     alloc: Global,
     files: &mut F,
@@ -74,6 +75,8 @@ pub fn load_program<F: Files>(
         (LacksFile (F.holds files.old) name.now) (Rose (F.faults files.old) (F.faults files.new))
         (F.steady files.old)) }
     ensures holds { F.holds files.new ≡ F.holds files.old }
+    ensures begins { OnOk result (BeginsEach (F.holds files.old)
+        (λ held. file_events held deepest_include name.now) (F.begins files.old) (F.begins files.new)) }
     ensures count { F.faults files.old ≤ F.faults files.new }
     ensures steady { F.steady files.old → UnlessNotRead result (F.steady files.new
         × (F.faults files.new ≡ F.faults files.old)) }
@@ -104,6 +107,7 @@ pub fn load_initial<F: Files>(
         (¬ HoldsName (F.holds files.old) name.now) (Rose (F.faults files.old) (F.faults files.new))
         (F.steady files.old)) }
     ensures holds { F.holds files.new ≡ F.holds files.old }
+    ensures begins { F.begins files.new ≡ counted (F.begins files.old) 1 }
     ensures count { F.faults files.old ≤ F.faults files.new }
     ensures steady { F.steady files.old → UnlessNotRead result (F.steady files.new
         × (F.faults files.new ≡ F.faults files.old)) }
@@ -133,6 +137,7 @@ pub fn load_start<F: Files>(
         (¬ HoldsName (F.holds files.old) name.now) (Rose (F.faults files.old) (F.faults files.new))
         (F.steady files.old)) }
     ensures holds { F.holds files.new ≡ F.holds files.old }
+    ensures begins { F.begins files.new ≡ counted (F.begins files.old) 1 }
     ensures count { F.faults files.old ≤ F.faults files.new }
     ensures steady { F.steady files.old → UnlessNotRead result (F.steady files.new
         × (F.faults files.new ≡ F.faults files.old)) }
@@ -161,6 +166,7 @@ pub fn load_trace<F: Files>(
         (¬ HoldsName (F.holds files.old) name.now) (Rose (F.faults files.old) (F.faults files.new))
         (F.steady files.old)) }
     ensures holds { F.holds files.new ≡ F.holds files.old }
+    ensures begins { F.begins files.new ≡ counted (F.begins files.old) 1 }
     ensures count { F.faults files.old ≤ F.faults files.new }
     ensures steady { F.steady files.old → UnlessNotRead result (F.steady files.new
         × (F.faults files.new ≡ F.faults files.old)) }
@@ -189,6 +195,7 @@ pub fn load_report<F: Files>(
         (¬ HoldsName (F.holds files.old) name.now) (Rose (F.faults files.old) (F.faults files.new))
         (F.steady files.old)) }
     ensures holds { F.holds files.new ≡ F.holds files.old }
+    ensures begins { F.begins files.new ≡ counted (F.begins files.old) 1 }
     ensures count { F.faults files.old ≤ F.faults files.new }
     ensures steady { F.steady files.old → UnlessNotRead result (F.steady files.new
         × (F.faults files.new ≡ F.faults files.old)) }
@@ -212,6 +219,7 @@ pub fn load_source<F: Files>(alloc: Global, files: &mut F, name: &str) -> Result
         (¬ HoldsName (F.holds files.old) name.now) (Rose (F.faults files.old) (F.faults files.new))
         (F.steady files.old)) }
     ensures holds { F.holds files.new ≡ F.holds files.old }
+    ensures begins { F.begins files.new ≡ counted (F.begins files.old) 1 }
     ensures count { F.faults files.old ≤ F.faults files.new }
     ensures steady { F.steady files.old → UnlessNotRead result (F.steady files.new
         × (F.faults files.new ≡ F.faults files.old)) }

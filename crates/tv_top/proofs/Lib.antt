@@ -1,4 +1,5 @@
 mod Again
+mod Begins
 mod Bounds
 mod Causes
 mod Demands

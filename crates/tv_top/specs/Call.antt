@@ -98,6 +98,12 @@ pub record EndsDuly (words : List (List ℕ)) (told : Option Held) (status : Sta
   -- and a replay that is called for is done or stuck
   pub run : CallsForRun words told → IsRunEnding status ⊎ excuse
 
+-- this holds unless a read or a write failed
+abbrev pub UnlessFault : Status → Type 0 → Type 0
+UnlessFault ReadFault P = Unit {0}
+UnlessFault WriteFault P = Unit {0}
+UnlessFault other P = P
+
 -- the files of the command are there
 abbrev pub HoldsOperands : List (List ℕ) → Option Held → Type 0
 HoldsOperands words told = Commands words (HoldsFiles told)

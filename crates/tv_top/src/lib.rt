@@ -3,8 +3,11 @@
 
 ghost use Rattle.std.specs.Prelude.{◌≡◌, ◌⊎◌, ◌≤◌};
 ghost use Rattle.tv_outside.specs.Count.{Rose};
+ghost use Rattle.tv_top.specs.Begins.{BeginsFor, OnAnswer};
 ghost use Rattle.tv_top.specs.Call.{IsAnswerTo, IsCause, EndsFor, EndsDuly, IsExcuse, HoldsOperands};
+ghost use Rattle.tv_top.specs.Call.{UnlessFault};
 ghost use Rattle.tv_top.specs.Delivery.{OutTook, ErrTook, StopsAtFailure};
+ghost use Rattle.tv_top.specs.Meaning.{Commands};
 ghost use Rattle.tv_words.specs.Words.{words_of, SpellsNothing};
 
 mod answers;
@@ -57,10 +60,14 @@ pub fn tvla<F: Files, O: Sink, E: Sink>(
     ensures out_stops { StopsAtFailure (O.failures out.old) (O.failures out.new) (O.since out.new) }
     ensures err_stops { StopsAtFailure (E.failures err.old) (E.failures err.new) (E.since err.new) }
 
-    // What was read: nothing without a command, and steady files that hold what is asked for don't fail.
+    // What was read: nothing without a command; where an answer is given, as many files were begun as the
+    // command asks for; and steady files that hold what is asked for don't fail and stay steady.
     ensures unread { SpellsNothing (words_of words.now) → files.new ≡ files.old }
     ensures held { F.steady files.old → HoldsOperands (words_of words.now) (F.holds files.old)
-        → F.faults files.new ≡ F.faults files.old }
+        → F.steady files.new × (F.faults files.new ≡ F.faults files.old) }
+    ensures begins { OnAnswer result (Commands (words_of words.now)
+        (BeginsFor (F.holds files.old) (F.begins files.old) (F.begins files.new))) }
+    ensures stays { F.steady files.old → UnlessFault result (F.steady files.new) }
 
     // No call changes what a name holds, and no count of faults falls.
     ensures holds { F.holds files.new ≡ F.holds files.old }

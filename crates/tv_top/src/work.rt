@@ -1,12 +1,13 @@
 //! The work of a command, up to the text that it gives.
 
-ghost use Rattle.std.specs.Prelude.{◌≡◌, ◌≤◌, Option, IfOk, IfErr};
+ghost use Rattle.std.specs.Prelude.{◌≡◌, ◌≤◌, Option, IfOk, IfErr, OnOk};
 ghost use Rattle.tv_outside.specs.Count.{Rose};
 ghost use Rattle.tv_outside.specs.Told.{Held};
 ghost use Rattle.tv_top.specs.Answers.{IsAnswer};
 ghost use Rattle.tv_top.specs.Call.{IsAnswerTo, IsCause, IsCommandCause};
 ghost use Rattle.tv_top.specs.Delivery.{SaidOf};
-ghost use Rattle.tv_top.specs.Meaning.{FilesMean};
+ghost use Rattle.tv_top.specs.Begins.{BeginsFor};
+ghost use Rattle.tv_top.specs.Meaning.{Commands, FilesMean};
 ghost use Rattle.tv_top.specs.Work.{IsBounded, AreReadyInputs, UnlessReadFault, task_of};
 ghost use Rattle.tv_words.specs.Words.{words_of, SpellsNothing, Analyzes, Checks, Demos, Joins, Replays};
 ghost use Rattle.tv_words.specs.Words.{Sources, GoTogether, form_of};
@@ -46,8 +47,11 @@ fn analyze<F: Files>(
         (Analyzes program.now initial.now max mode delta)
         (Rose (F.faults files.old) (F.faults files.new)) (F.steady files.old)) }
     ensures holds { F.holds files.new ≡ F.holds files.old }
+    ensures begins { OnOk result (BeginsFor (F.holds files.old) (F.begins files.old) (F.begins files.new)
+        (Analyzes program.now initial.now max mode delta)) }
     ensures count { F.faults files.old ≤ F.faults files.new }
-    ensures steady { F.steady files.old → UnlessReadFault result (F.faults files.new ≡ F.faults files.old) }
+    ensures steady { F.steady files.old → UnlessReadFault result (F.steady files.new
+        × (F.faults files.new ≡ F.faults files.old)) }
 {
     let origin = Origin::Program {
         name: program,
@@ -78,8 +82,11 @@ fn check<F: Files>(
         (Checks program.now initial.now report.now mode maps delta)
         (Rose (F.faults files.old) (F.faults files.new)) (F.steady files.old)) }
     ensures holds { F.holds files.new ≡ F.holds files.old }
+    ensures begins { OnOk result (BeginsFor (F.holds files.old) (F.begins files.old) (F.begins files.new)
+        (Checks program.now initial.now report.now mode maps delta)) }
     ensures count { F.faults files.old ≤ F.faults files.new }
-    ensures steady { F.steady files.old → UnlessReadFault result (F.faults files.new ≡ F.faults files.old) }
+    ensures steady { F.steady files.old → UnlessReadFault result (F.steady files.new
+        × (F.faults files.new ≡ F.faults files.old)) }
 {
     let origin = Origin::Program {
         name: program,
@@ -136,8 +143,11 @@ fn join<F: Files>(
         (Joins program.now initial.now max mode)
         (Rose (F.faults files.old) (F.faults files.new)) (F.steady files.old)) }
     ensures holds { F.holds files.new ≡ F.holds files.old }
+    ensures begins { OnOk result (BeginsFor (F.holds files.old) (F.begins files.old) (F.begins files.new)
+        (Joins program.now initial.now max mode)) }
     ensures count { F.faults files.old ≤ F.faults files.new }
-    ensures steady { F.steady files.old → UnlessReadFault result (F.faults files.new ≡ F.faults files.old) }
+    ensures steady { F.steady files.old → UnlessReadFault result (F.steady files.new
+        × (F.faults files.new ≡ F.faults files.old)) }
 {
     let origin = Origin::Program {
         name: program,
@@ -167,8 +177,11 @@ fn run<F: Files>(
         (Replays program.now initial.now start.now trace.now report.now)
         (Rose (F.faults files.old) (F.faults files.new)) (F.steady files.old)) }
     ensures holds { F.holds files.new ≡ F.holds files.old }
+    ensures begins { OnOk result (BeginsFor (F.holds files.old) (F.begins files.old) (F.begins files.new)
+        (Replays program.now initial.now start.now trace.now report.now)) }
     ensures count { F.faults files.old ≤ F.faults files.new }
-    ensures steady { F.steady files.old → UnlessReadFault result (F.faults files.new ≡ F.faults files.old) }
+    ensures steady { F.steady files.old → UnlessReadFault result (F.steady files.new
+        × (F.faults files.new ≡ F.faults files.old)) }
 {
     let origin = Origin::Program {
         name: program,
@@ -197,8 +210,11 @@ fn source<F: Files>(
         (Sources source.now initial.now max)
         (Rose (F.faults files.old) (F.faults files.new)) (F.steady files.old)) }
     ensures holds { F.holds files.new ≡ F.holds files.old }
+    ensures begins { OnOk result (BeginsFor (F.holds files.old) (F.begins files.old) (F.begins files.new)
+        (Sources source.now initial.now max)) }
     ensures count { F.faults files.old ≤ F.faults files.new }
-    ensures steady { F.steady files.old → UnlessReadFault result (F.faults files.new ≡ F.faults files.old) }
+    ensures steady { F.steady files.old → UnlessReadFault result (F.steady files.new
+        × (F.faults files.new ≡ F.faults files.old)) }
 {
     covered_runs_cover_sources();
     let inputs = load_inputs(alloc, files, Origin::Source(source), initial)?;
@@ -215,8 +231,11 @@ fn execute<F: Files>(alloc: Global, files: &mut F, command: &Command) -> Result<
     ensures cause { IfErr result (IsCommandCause (F.holds files.old) (form_of command.now)
         (Rose (F.faults files.old) (F.faults files.new)) (F.steady files.old)) }
     ensures holds { F.holds files.new ≡ F.holds files.old }
+    ensures begins { OnOk result (BeginsFor (F.holds files.old) (F.begins files.old) (F.begins files.new)
+        (form_of command.now)) }
     ensures count { F.faults files.old ≤ F.faults files.new }
-    ensures steady { F.steady files.old → UnlessReadFault result (F.faults files.new ≡ F.faults files.old) }
+    ensures steady { F.steady files.old → UnlessReadFault result (F.steady files.new
+        × (F.faults files.new ≡ F.faults files.old)) }
 {
     match command {
         Command::Analyze {
@@ -264,8 +283,11 @@ pub fn perform<F: Files>(alloc: Global, words: &[String], files: &mut F) -> Resu
         (Rose (F.faults files.old) (F.faults files.new)) (F.steady files.old)) }
     ensures unread { SpellsNothing (words_of words.now) → files.new ≡ files.old }
     ensures holds { F.holds files.new ≡ F.holds files.old }
+    ensures begins { OnOk result (Commands (words_of words.now)
+        (BeginsFor (F.holds files.old) (F.begins files.old) (F.begins files.new))) }
     ensures count { F.faults files.old ≤ F.faults files.new }
-    ensures steady { F.steady files.old → UnlessReadFault result (F.faults files.new ≡ F.faults files.old) }
+    ensures steady { F.steady files.old → UnlessReadFault result (F.steady files.new
+        × (F.faults files.new ≡ F.faults files.old)) }
 {
     commands_are_bounded();
     let Some(command) = read_words(alloc, words)? else {

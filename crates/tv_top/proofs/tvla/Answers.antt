@@ -1,3 +1,4 @@
+use Rattle.tv_top.proofs.Begins.{answered_begins, stays_steady}
 use Rattle.tv_top.proofs.Duly.{call_cause, out_took, err_took, ends_duly, no_fault}
 use Rattle.tv_top.proofs.Endings.{endings, none_missing}
 use Rattle.tv_top.proofs.Gives.{one_program, one_initial, one_report, one_start, one_trace}
@@ -21,6 +22,13 @@ returns-clause-held g c =
     (one_initial each.program each.source each.initial each.report) (one_report each.program each.source each.initial each.report)
     (one_start each.start each.trace) (one_trace each.start each.trace) _ _ holds) steady
     c.perform-found.ensures.cause (c.perform-found.ensures.steady steady)
+
+pub returns-clause-begins : goal.returns-clause-begins
+returns-clause-begins g c = answered_begins _ _ _ c.deliver.ensures.ends c.perform-found.ensures.begins
+
+pub returns-clause-stays : goal.returns-clause-stays
+returns-clause-stays g c = λ steady.
+    stays_steady _ _ _ _ c.deliver.ensures.ends (c.perform-found.ensures.steady steady)
 
 pub returns-clause-exact : goal.returns-clause-exact
 returns-clause-exact g c =

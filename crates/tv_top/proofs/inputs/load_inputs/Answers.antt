@@ -1,7 +1,9 @@
-use Rattle.std.proofs.Common.{◌≡◌, List, refl}
+use Rattle.std.proofs.Common.{◌≡◌, ◌+◌, List, refl}
 use Rattle.std.proofs.lemmas.Result.{err_from_is_err_and}
 use Rattle.tv_model.specs.declared.program.Program.{Program}
 use Rattle.tv_struct.specs.StructureForm.{StructureForm}
+use Rattle.tv_top.proofs.Begins.{one_more}
+use Rattle.tv_top.specs.Begins.{origin_begins}
 use Rattle.tv_top.proofs.Causes.{rose_later, still, unless_not_read, program_named, initial_named}
 use Rattle.tv_top.proofs.Causes.{program_fault, initial_fault}
 use Rattle.tv_top.specs.declared.inputs.Inputs.{Inputs}
@@ -59,3 +61,8 @@ returns-clause-ready g c = record {
 pub returns-clause-steady : goal.returns-clause-steady
 returns-clause-steady g c = λ s.
     let before = c.in_ok-program.ensures.steady s in still _ _ _ _ before.1 (c.in_ok-initial.ensures.steady before.0)
+
+pub returns-clause-begins : goal.returns-clause-begins
+returns-clause-begins g c =
+    one_more _ (λ held. origin_begins held c.args.origin) (λ held. origin_begins held c.args.origin + 1) _ _ _
+    (λ held. refl) c.in_ok-program.ensures.begins c.in_ok-initial.ensures.begins

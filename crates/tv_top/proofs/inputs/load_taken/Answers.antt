@@ -1,4 +1,5 @@
 use Rattle.std.proofs.lemmas.Result.{IfOk-weaker}
+use Rattle.tv_top.proofs.Begins.{always, gathered_begins}
 use Rattle.tv_top.proofs.Causes.{memory_fault, still_unless}
 use Rattle.tv_top.proofs.Differenced.{taken_means, taken_runs}
 use Rattle.tv_top.proofs.inputs.load_taken.Goals as goal
@@ -16,3 +17,7 @@ returns-clause-cause g c = memory_fault c.taken.result _ _ _ _ _ c.taken.ensures
 
 pub returns-clause-steady : goal.returns-clause-steady
 returns-clause-steady g c = λ s. still_unless c.taken.result _ (c.in_ok-read.ensures.steady s)
+
+pub returns-clause-begins : goal.returns-clause-begins
+returns-clause-begins g c =
+    always c.taken.result _ (gathered_begins _ c.args.name.now _ _ c.in_ok-read.ensures.begins)

@@ -2,7 +2,8 @@ use Rattle.std.proofs.Common.{◌≡◌, refl}
 use Rattle.std.proofs.lemmas.Result.{err_from_is_err_and}
 use Rattle.tv_listing.specs.declared.analysis.Analysis.{Analysis}
 use Rattle.tv_status.specs.declared.status.Role.TheVariants as role
-use Rattle.tv_top.proofs.Causes.{rose_later, still, unless_not_read, later_fault, judged_causes}
+use Rattle.tv_top.proofs.Begins.{always, another}
+use Rattle.tv_top.proofs.Causes.{rose_later, still, holds_unless, unless_not_read, later_fault, judged_causes}
 use Rattle.tv_top.proofs.Causes.{judged_answers}
 use Rattle.tv_top.proofs.Differenced.{covers_read_runs}
 use Rattle.tv_top.specs.Work.{task_of}
@@ -36,9 +37,18 @@ returns-in_err-report-clause-steady g c =
     rw (p.1, p.2) (λ s. let before = c.in_ok-inputs.ensures.steady s in
     unless_not_read Analysis Answer c.in_err-report.field-0.0
     (g.F.Files.steady new × (g.F.Files.faults new ≡ g.F.Files.faults mid))
-    (g.F.Files.faults new ≡ g.F.Files.faults old)
-    (λ h. (still (g.F.Files.faults old) (g.F.Files.faults mid) (g.F.Files.faults new) (g.F.Files.steady new) before.1 h).1)
+    (g.F.Files.steady new × (g.F.Files.faults new ≡ g.F.Files.faults old))
+    (λ h. still (g.F.Files.faults old) (g.F.Files.faults mid) (g.F.Files.faults new) (g.F.Files.steady new) before.1 h)
     (c.in_err-report.ensures.steady before.0))
+
+pub returns-clause-steady : goal.returns-clause-steady
+returns-clause-steady g c = λ s.
+    let before = c.in_ok-inputs.ensures.steady s in
+    holds_unless c.judgement.result _ (still _ _ _ _ before.1 (c.in_ok-report.ensures.steady before.0))
+
+pub returns-clause-begins : goal.returns-clause-begins
+returns-clause-begins g c = always c.judgement.result _
+    (another _ c.args.program.now 1 _ _ _ c.in_ok-inputs.ensures.begins c.in_ok-report.ensures.begins)
 
 pub returns-clause-found : goal.returns-clause-found
 returns-clause-found g c =

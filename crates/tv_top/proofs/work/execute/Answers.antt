@@ -1,4 +1,6 @@
-use Rattle.tv_top.proofs.Causes.{demo_causes}
+use Rattle.std.proofs.Common.{refl}
+use Rattle.tv_top.proofs.Begins.{always, never_begun}
+use Rattle.tv_top.proofs.Causes.{demo_causes, holds_unless}
 use Rattle.tv_top.proofs.work.execute.Goals as goal
 
 pub returns-in-Analyze-clause-cause : goal.returns-in-Analyze-clause-cause
@@ -15,6 +17,9 @@ returns-in-Demo-clause-found g c = rw c.in-Demo.is (c.demo.ensures.found (g.F.Fi
 pub returns-in-Demo-clause-cause : goal.returns-in-Demo-clause-cause
 returns-in-Demo-clause-cause g c =
     rw c.in-Demo.is (demo_causes _ c.in-Demo.number _ _ c.demo.result (c.demo.ensures.cause (g.F.Files.holds c.args.files.now)))
+
+pub returns-in-Demo-clause-steady : goal.returns-in-Demo-clause-steady
+returns-in-Demo-clause-steady g c = λ steady. holds_unless c.demo.result _ (steady, refl)
 
 pub returns-in-Join-clause-cause : goal.returns-in-Join-clause-cause
 returns-in-Join-clause-cause g c =
@@ -34,3 +39,21 @@ returns-in-Replay-clause-cause g c =
 pub returns-in-Source-clause-cause : goal.returns-in-Source-clause-cause
 returns-in-Source-clause-cause g c =
     rw (c.in-Source.is, ← c.deref-in-Source.ensures, ← c.deref-in-Source-2.ensures) c.source.ensures.cause
+
+pub returns-in-Analyze-clause-begins : goal.returns-in-Analyze-clause-begins
+returns-in-Analyze-clause-begins g c = rw (c.in-Analyze.is, ← c.deref.ensures) c.analyze.ensures.begins
+
+pub returns-in-Check-clause-begins : goal.returns-in-Check-clause-begins
+returns-in-Check-clause-begins g c = rw (c.in-Check.is, ← c.deref-in-Check.ensures) c.check.ensures.begins
+
+pub returns-in-Demo-clause-begins : goal.returns-in-Demo-clause-begins
+returns-in-Demo-clause-begins g c = rw c.in-Demo.is (always c.demo.result _ (never_begun _ _ _ refl))
+
+pub returns-in-Join-clause-begins : goal.returns-in-Join-clause-begins
+returns-in-Join-clause-begins g c = rw (c.in-Join.is, ← c.deref-in-Join.ensures) c.join.ensures.begins
+
+pub returns-in-Replay-clause-begins : goal.returns-in-Replay-clause-begins
+returns-in-Replay-clause-begins g c = rw (c.in-Replay.is, ← c.deref-in-Replay.ensures) c.run.ensures.begins
+
+pub returns-in-Source-clause-begins : goal.returns-in-Source-clause-begins
+returns-in-Source-clause-begins g c = rw c.in-Source.is c.source.ensures.begins

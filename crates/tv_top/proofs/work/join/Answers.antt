@@ -19,6 +19,9 @@ returns-in_err-found-clause-cause g c =
     (task_of c.in_ok-inputs.inputs c.args.mode) c.args.max _ _ _
     (c.in_ok-inputs.ensures.meant command (refl, refl, refl)) c.in_err-found.ensures.cause)
 
+pub returns-clause-begins : goal.returns-clause-begins
+returns-clause-begins g c = c.in_ok-inputs.ensures.begins
+
 pub returns-clause-found : goal.returns-clause-found
 returns-clause-found g c = (
   task_of c.in_ok-inputs.inputs c.args.mode,

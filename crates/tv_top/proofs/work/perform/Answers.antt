@@ -1,3 +1,5 @@
+use Rattle.tv_top.proofs.Begins.{spelled_begins}
+use Rattle.tv_top.specs.Begins.{BeginsFor}
 use Rattle.tv_words.specs.Words.{form_of}
 use Rattle.tv_top.proofs.work.perform.Goals as goal
 
@@ -5,3 +7,10 @@ pub returns-clause-unread : goal.returns-clause-unread
 returns-clause-unread g c =
     let spells = rw c.in-Some.is at c.in_ok-command.ensures.some in
     λ nothing. absurd (nothing (form_of c.in-Some.command) spells)
+
+pub returns-clause-begins : goal.returns-clause-begins
+returns-clause-begins g c =
+    let spells = rw c.in-Some.is at c.in_ok-command.ensures.some in
+    let told = g.F.Files.holds c.args.files.now in
+    let begins = BeginsFor told (g.F.Files.begins c.args.files.now) (g.F.Files.begins c.execute.new.files) in
+    spelled_begins c.execute.result _ (form_of c.in-Some.command) begins spells c.execute.ensures.begins

@@ -4,7 +4,9 @@ use Rattle.tv_listing.specs.declared.analysis.Analysis.{Analysis}
 use Rattle.tv_model.specs.declared.program.Mode.TheVariants.{Given}
 use Rattle.tv_status.specs.declared.status.Role.TheVariants as role
 use Rattle.tv_struct.specs.StructureForm.{StructureForm}
-use Rattle.tv_top.proofs.Causes.{rose_later, still, unless_not_read, later_fault, run_answers, run_causes}
+use Rattle.tv_top.proofs.Begins.{always, another}
+use Rattle.tv_top.proofs.Causes.{rose_later, still, holds_unless, unless_not_read, later_fault, run_answers}
+use Rattle.tv_top.proofs.Causes.{run_causes}
 use Rattle.tv_top.specs.Meaning.{HasStartAndTrace}
 use Rattle.tv_top.specs.Work.{task_of}
 use Rattle.tv_top.specs.declared.fault.Answer.{Answer}
@@ -38,8 +40,8 @@ returns-in_err-start-clause-steady g c =
     rw (p.1, p.2) (λ s. let before = c.in_ok-inputs.ensures.steady s in
     unless_not_read StructureForm Answer c.in_err-start.field-0.0
     (g.F.Files.steady new × (g.F.Files.faults new ≡ g.F.Files.faults mid))
-    (g.F.Files.faults new ≡ g.F.Files.faults old)
-    (λ h. (still (g.F.Files.faults old) (g.F.Files.faults mid) (g.F.Files.faults new) (g.F.Files.steady new) before.1 h).1)
+    (g.F.Files.steady new × (g.F.Files.faults new ≡ g.F.Files.faults old))
+    (λ h. still (g.F.Files.faults old) (g.F.Files.faults mid) (g.F.Files.faults new) (g.F.Files.steady new) before.1 h)
     (c.in_err-start.ensures.steady before.0))
 
 pub returns-in_err-trace-clause-cause : goal.returns-in_err-trace-clause-cause
@@ -67,8 +69,8 @@ returns-in_err-trace-clause-steady g c =
     (c.in_ok-start.ensures.steady before.0) in
     unless_not_read Trace Answer c.in_err-trace.field-0.0
     (g.F.Files.steady new × (g.F.Files.faults new ≡ g.F.Files.faults mid))
-    (g.F.Files.faults new ≡ g.F.Files.faults old)
-    (λ h. (still (g.F.Files.faults old) (g.F.Files.faults mid) (g.F.Files.faults new) (g.F.Files.steady new) behind.1 h).1)
+    (g.F.Files.steady new × (g.F.Files.faults new ≡ g.F.Files.faults old))
+    (λ h. still (g.F.Files.faults old) (g.F.Files.faults mid) (g.F.Files.faults new) (g.F.Files.steady new) behind.1 h)
     (c.in_err-trace.ensures.steady behind.0))
 
 pub returns-in_err-reported-clause-cause : goal.returns-in_err-reported-clause-cause
@@ -103,9 +105,23 @@ returns-in_err-reported-clause-steady g c =
     (c.in_ok-trace.ensures.steady then.0) in
     unless_not_read Analysis Answer c.in_err-reported.field-0.0
     (g.F.Files.steady new × (g.F.Files.faults new ≡ g.F.Files.faults mid))
-    (g.F.Files.faults new ≡ g.F.Files.faults old)
-    (λ h. (still (g.F.Files.faults old) (g.F.Files.faults mid) (g.F.Files.faults new) (g.F.Files.steady new) behind.1 h).1)
+    (g.F.Files.steady new × (g.F.Files.faults new ≡ g.F.Files.faults old))
+    (λ h. still (g.F.Files.faults old) (g.F.Files.faults mid) (g.F.Files.faults new) (g.F.Files.steady new) behind.1 h)
     (c.in_err-reported.ensures.steady behind.0))
+
+pub returns-clause-steady : goal.returns-clause-steady
+returns-clause-steady g c = λ s.
+    let before = c.in_ok-inputs.ensures.steady s in
+    let then = still _ _ _ _ before.1 (c.in_ok-start.ensures.steady before.0) in
+    let behind = still _ _ _ _ then.1 (c.in_ok-trace.ensures.steady then.0) in
+    holds_unless c.replayed.result _ (still _ _ _ _ behind.1 (c.in_ok-reported.ensures.steady behind.0))
+
+pub returns-clause-begins : goal.returns-clause-begins
+returns-clause-begins g c =
+    let name = c.args.program.now in
+    let two = another _ name 1 _ _ _ c.in_ok-inputs.ensures.begins c.in_ok-start.ensures.begins in
+    let three = another _ name 2 _ _ _ two c.in_ok-trace.ensures.begins in
+    always c.replayed.result _ (another _ name 3 _ _ _ three c.in_ok-reported.ensures.begins)
 
 pub returns-clause-found : goal.returns-clause-found
 returns-clause-found g c =

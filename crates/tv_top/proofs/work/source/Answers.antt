@@ -20,6 +20,9 @@ returns-in_err-found-clause-cause g c =
     rw (p.1, p.2) (search_fault _ command (task_of c.in_ok-inputs.inputs Given) c.args.max _ _ _
     (c.in_ok-inputs.ensures.meant command (refl, refl)) refl (λ most many. many) (λ Budget meets. meets) c.in_err-found.ensures.cause)
 
+pub returns-clause-begins : goal.returns-clause-begins
+returns-clause-begins g c = c.in_ok-inputs.ensures.begins
+
 pub returns-clause-found : goal.returns-clause-found
 returns-clause-found g c =
     let task = task_of c.in_ok-inputs.inputs Given in
