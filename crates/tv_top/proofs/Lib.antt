@@ -8,6 +8,7 @@ mod Differenced
 mod Duly
 mod Endings
 mod Gives
+mod Later
 mod OneDifferenced
 mod Sources
 mod Sums

@@ -1,24 +1,51 @@
 -- Laws of commands, as statements.
-use Rattle.std.specs.Prelude.{ℕ, ◌≡◌, ◌≤◌, List, Bool, Some, length}
+use Rattle.std.specs.Prelude.{ℕ, ◌≡◌, ◌≤◌, List, Bool, false, Some, Ok, length}
 use Rattle.tv_lex.specs.Bytes.{longest_text}
-use Rattle.tv_model.specs.declared.program.Mode.{Mode}
 use Rattle.tv_outside.specs.Told.{Held, content_of}
+use Rattle.tv_model.specs.declared.program.Mode.{Mode}
+use Rattle.tv_model.specs.declared.program.Mode.TheVariants.{Given}
+use Rattle.tv_model.specs.declared.program.Program.{Program}
 use Rattle.tv_status.specs.declared.status.Status.TheVariants.{Done}
+use Rattle.tv_texts.specs.Files.{IsProgramFile, IsSourceFile}
 use Rattle.tv_top.specs.Call.{IsAnswerTo, CallsFor}
 use Rattle.tv_top.specs.Work.{IsBounded}
-use Rattle.tv_words.specs.Words.{CommandForm, Analyzes, Checks, Spells}
+use Rattle.tv_words.specs.Words.{CommandForm, Analyzes, Checks, Joins, Sources, Spells}
 
 -- the numbers that words spell are within their limits
 abbrev pub CommandsAreBounded : Type 0
 CommandsAreBounded =
     (words : List (List ℕ)) (command : CommandForm) → Spells words command → IsBounded command
 
--- where REPORT holds the report that `analyze` wrote, the other files and the mode are the same, and both
--- have `--delta` or neither, `check` is called to accept it
+-- each name that holds something holds the same later
+abbrev pub KeepsNames : (held later : Held) → Type 0
+KeepsNames held later =
+    (name bytes : List ℕ) → content_of held name ≡ Some bytes → content_of later name ≡ Some bytes
+
+-- where REPORT holds the report that `analyze` wrote, names hold what they held, the mode is the same, and
+-- both have `--delta` or neither, `check` is called to accept it
 abbrev pub ReportsAreAccepted : Type 0
-ReportsAreAccepted = (words again : List (List ℕ)) (held : Held) (program initial report text : List ℕ)
-    (max : ℕ) (mode : Mode) (maps delta : Bool)
+ReportsAreAccepted = (words again : List (List ℕ)) (held later : Held)
+    (program initial report text : List ℕ) (max : ℕ) (mode : Mode) (maps delta : Bool)
     → Spells words (Analyzes program initial max mode delta)
     → Spells again (Checks program initial report mode maps delta)
-    → IsAnswerTo words (Some held) Done text → content_of held report ≡ Some text → length text ≤ longest_text
-    → CallsFor again (Some held) Done
+    → IsAnswerTo words (Some held) Done text → KeepsNames held later → content_of later report ≡ Some text
+    → length text ≤ longest_text → CallsFor again (Some later) Done
+
+-- the same of the report that `join` wrote
+abbrev pub JoinedReportsAreAccepted : Type 0
+JoinedReportsAreAccepted = (words again : List (List ℕ)) (held later : Held)
+    (program initial report text : List ℕ) (max : ℕ) (mode : Mode) (maps : Bool)
+    → Spells words (Joins program initial max mode)
+    → Spells again (Checks program initial report mode maps false)
+    → IsAnswerTo words (Some held) Done text → KeepsNames held later → content_of later report ≡ Some text
+    → length text ≤ longest_text → CallsFor again (Some later) Done
+
+-- and of the report that `source` wrote, where PROGRAM means the program that SOURCE is compiled to
+abbrev pub SourceReportsAreAccepted : Type 0
+SourceReportsAreAccepted = (words again : List (List ℕ)) (held later : Held)
+    (source initial program report text : List ℕ) (max : ℕ) (maps : Bool)
+    → Spells words (Sources source initial max)
+    → Spells again (Checks program initial report Given maps false)
+    → IsAnswerTo words (Some held) Done text → KeepsNames held later
+    → ((p : Program) → IsSourceFile (Some held) source (Ok p) → IsProgramFile (Some later) program (Ok p))
+    → content_of later report ≡ Some text → length text ≤ longest_text → CallsFor again (Some later) Done

@@ -17,7 +17,7 @@ mod inputs;
 mod laws;
 mod work;
 
-pub use laws::reports_are_accepted;
+pub use laws::{joined_reports_are_accepted, reports_are_accepted, source_reports_are_accepted};
 use std::alloc::Global;
 use tv_outside::{Files, Sink};
 use tv_replay_laws::runs_have_one_ending;
