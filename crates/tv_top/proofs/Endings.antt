@@ -68,7 +68,7 @@ call_view words told Memory h = inr h
 call_view words told other h = inr h
 
 -- how a call ends that reads all its files and keeps its memory
-abbrev CommandEnds : Option Held → CommandForm → Status → Type 0
+abbrev pub CommandEnds : Option Held → CommandForm → Status → Type 0
 CommandEnds told command Done = (text : List ℕ) × IsAnswer told command Done text
 CommandEnds told command (Rejected r) = (text : List ℕ) × IsAnswer told command (Rejected r) text
 CommandEnds told command (Stuck step why) = (text : List ℕ) × IsAnswer told command (Stuck step why) text
@@ -81,7 +81,7 @@ CommandEnds told command other = ⊥
 
 -- ---- each ending has read the report, where the command has one
 
-done_reported : (told : Option Held) (command : CommandForm) (task : Task) (text : List ℕ)
+pub done_reported : (told : Option Held) (command : CommandForm) (task : Task) (text : List ℕ)
     → IsDone told command task text → HasReport told command task
 done_reported told (Checks p i report mode maps delta) task text h = (h.0, h.1)
 done_reported told (Replays p i start trace report) task text h = (h.0, h.1, h.2, h.3)
@@ -92,13 +92,13 @@ can_reported told (Checks p i report mode maps delta) task h = (h.0, h.1)
 can_reported told (Replays p i start trace report) task h = (h.0, h.1, h.2, h.3)
 can_reported told other task h = tt
 
-many_reported : (told : Option Held) (command : CommandForm) (task : Task) (max : ℕ) → max_of command ≡ Some max
+pub many_reported : (told : Option Held) (command : CommandForm) (task : Task) (max : ℕ) → max_of command ≡ Some max
     → HasReport told command task
 many_reported told (Checks p i report mode maps delta) task max h = absurd cc
 many_reported told (Replays p i start trace report) task max h = absurd cc
 many_reported told other task max h = tt
 
-step_reported : (told : Option Held) (command : CommandForm) (task : Task) (Budget : ProgramForm → ℕ → StructureForm → Type 0)
+pub step_reported : (told : Option Held) (command : CommandForm) (task : Task) (Budget : ProgramForm → ℕ → StructureForm → Type 0)
     → StepMeets told command task Budget → HasReport told command task
 step_reported told (Checks p i report mode maps delta) task Budget h = (h.0, h.1)
 step_reported told (Replays p i start trace report) task Budget h = absurd h

@@ -23,7 +23,7 @@ use Rattle.tv_source_names.specs.Outcome.{MeansSource}
 use Rattle.tv_source_laws.specs.Covers.{CoversSource}
 use Rattle.tv_status.specs.declared.status.Status.{Status}
 use Rattle.tv_status.specs.declared.status.Status.TheVariants.{Done, Rejected, Stuck}
-use Rattle.tv_struct.specs.StructureForm.{StructureForm}
+use Rattle.tv_struct.specs.StructureForm.{StructureForm, IsStructure}
 use Rattle.tv_texts.specs.Files.{HoldsSuch, IsProgramFile}
 use Rattle.tv_texts.specs.Meaning.{HasTokens}
 use Rattle.tv_top.specs.Meaning.{Task, FilesMean, GivesReport, GivesStart, GivesTrace}
@@ -105,6 +105,7 @@ case_for task report = case_of task.program task.mode task.initial report
 
 -- the report is closed, all its steps keep the budgets, and it covers all runs
 pub record IsAccepted (task : Task) (report : Analysis) : Type 0 where
+  pub valid : IsValid (program_of task.program)
   pub closed : IsClosedReport (case_for task report)
   pub budgets : KeepsAllBudgets (case_for task report)
   pub sound : IsSound task report
@@ -149,6 +150,7 @@ pub record AreStates (task : Task) (start : StructureForm) (trace : Trace) (repo
     (states : List State)
     : Type 0 where
   pub valid : IsValid (program_of task.program)
+  pub is : IsStructure start
   pub are : IsReplay (program_of task.program) task.initial start trace.moves report.listing states
   pub given : ShowsGivenRun (program_of task.program) task.initial trace.moves states
   pub recomputed : ShowsRecomputedRun (program_of task.program) task.initial trace.moves states

@@ -1,13 +1,19 @@
 -- Laws of commands, as statements.
-use Rattle.std.specs.Prelude.{ℕ, ◌≡◌, ◌≤◌, List, Bool, false, Some, Ok, length}
+use Rattle.std.specs.Prelude.{ℕ, ◌≡◌, ◌≢◌, ◌≤◌, List, Bool, false, Some, Ok, length}
+use Rattle.tv_judge.specs.Judged.{Case}
+use Rattle.tv_judge.specs.Verdicts.{IsVerdict}
+use Rattle.tv_judge.specs.declared.verdict.Verdict.{Verdict}
 use Rattle.tv_lex.specs.Bytes.{longest_text}
+use Rattle.tv_model.specs.Valid.{IsValid}
 use Rattle.tv_outside.specs.Told.{Held, content_of}
 use Rattle.tv_model.specs.declared.program.Mode.{Mode}
 use Rattle.tv_model.specs.declared.program.Mode.TheVariants.{Given}
 use Rattle.tv_model.specs.declared.program.Program.{Program}
-use Rattle.tv_status.specs.declared.status.Status.TheVariants.{Done}
+use Rattle.tv_status.specs.declared.status.Status.{Status}
+use Rattle.tv_status.specs.declared.status.Status.TheVariants.{Done, Memory}
 use Rattle.tv_texts.specs.Files.{IsProgramFile, IsSourceFile}
 use Rattle.tv_top.specs.Call.{IsAnswerTo, CallsFor}
+use Rattle.tv_top.specs.One.{AreOne, HasEnded}
 use Rattle.tv_top.specs.Work.{IsBounded}
 use Rattle.tv_words.specs.Words.{CommandForm, Analyzes, Checks, Joins, Sources, Spells}
 
@@ -49,3 +55,15 @@ SourceReportsAreAccepted = (words again : List (List ℕ)) (held later : Held)
     → IsAnswerTo words (Some held) Done text → KeepsNames held later
     → ((p : Program) → IsSourceFile (Some held) source (Ok p) → IsProgramFile (Some later) program (Ok p))
     → content_of later report ≡ Some text → length text ≤ longest_text → CallsFor again (Some later) Done
+
+-- calls with the same words on steady files that hold the same have one answer, where their sinks don't fail
+-- and memory suffices
+abbrev pub AnswersAreOne : Type 0
+AnswersAreOne = (words : List (List ℕ)) (held : Held) (a b : Status) (text other : List ℕ)
+    → HasEnded words held a text → HasEnded words held b other → a ≢ Memory → b ≢ Memory
+    → AreOne a b text other
+
+-- a report on a valid program has one verdict, and one list of maps where it is accepted
+abbrev pub VerdictsAreOne : Type 0
+VerdictsAreOne =
+    (c : Case) → IsValid c.program → (v w : Verdict) → IsVerdict c v → IsVerdict c w → v ≡ w

@@ -3,6 +3,7 @@ pub mod Answers
 pub mod Call
 pub mod Delivery
 pub mod Begins
+pub mod One
 pub mod Faults
 pub mod Work
 pub mod Laws

@@ -196,6 +196,7 @@ pub fn replayed(
         (SaidOf (IsReplayAnswer (task_of inputs.now Given) start.now trace.now report.now)) }
     ensures cause { IfErr result (λ fault. fault ≡ Memory) }
 {
+    let _ = start.size();
     match replay(
         alloc,
         &inputs.program,

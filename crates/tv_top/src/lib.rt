@@ -1,13 +1,15 @@
 //! The whole program as one call over the outside.
 #![tactic(auto)]
 
-ghost use Rattle.std.specs.Prelude.{◌≡◌, ◌⊎◌, ◌≤◌};
+ghost use Rattle.std.specs.Prelude.{◌≡◌, ◌⊎◌, ◌≤◌, ◌++◌, ℕ, List, Some};
 ghost use Rattle.tv_outside.specs.Count.{Rose};
+ghost use Rattle.tv_outside.specs.Told.{Held};
 ghost use Rattle.tv_top.specs.Begins.{BeginsFor, OnAnswer};
 ghost use Rattle.tv_top.specs.Call.{IsAnswerTo, IsCause, EndsFor, EndsDuly, IsExcuse, HoldsOperands};
 ghost use Rattle.tv_top.specs.Call.{UnlessFault};
 ghost use Rattle.tv_top.specs.Delivery.{OutTook, ErrTook, StopsAtFailure};
 ghost use Rattle.tv_top.specs.Meaning.{Commands};
+ghost use Rattle.tv_top.specs.One.{HasEnded};
 ghost use Rattle.tv_words.specs.Words.{words_of, SpellsNothing};
 
 mod answers;
@@ -17,7 +19,10 @@ mod inputs;
 mod laws;
 mod work;
 
-pub use laws::{joined_reports_are_accepted, reports_are_accepted, source_reports_are_accepted};
+pub use laws::{
+    answers_are_one, joined_reports_are_accepted, reports_are_accepted,
+    source_reports_are_accepted, verdicts_are_one,
+};
 use std::alloc::Global;
 use tv_outside::{Files, Sink};
 use tv_replay_laws::runs_have_one_ending;
@@ -68,6 +73,12 @@ pub fn tvla<F: Files, O: Sink, E: Sink>(
     ensures begins { OnAnswer result (Commands (words_of words.now)
         (BeginsFor (F.holds files.old) (F.begins files.old) (F.begins files.new))) }
     ensures stays { F.steady files.old → UnlessFault result (F.steady files.new) }
+
+    // Where no sink fails, the words and what steady files hold fix the answer, as a law says.
+    ensures ended { (held : Held) (before text : List ℕ) → F.steady files.old
+        → F.holds files.old ≡ Some held → (¬ Rose (O.faults out.old) (O.faults out.new))
+        → (¬ Rose (E.faults err.old) (E.faults err.new)) → O.taken out.old ≡ Some before
+        → O.taken out.new ≡ Some (before ++ text) → HasEnded (words_of words.now) held result text }
 
     // No call changes what a name holds, and no count of faults falls.
     ensures holds { F.holds files.new ≡ F.holds files.old }

@@ -1,5 +1,6 @@
 use Rattle.tv_top.proofs.Begins.{answered_begins, stays_steady}
 use Rattle.tv_top.proofs.Duly.{call_cause, out_took, err_took, ends_duly, no_fault}
+use Rattle.tv_top.proofs.Ended.{has_ended}
 use Rattle.tv_top.proofs.Endings.{endings, none_missing}
 use Rattle.tv_top.proofs.Gives.{one_program, one_initial, one_report, one_start, one_trace}
 use Rattle.tv_top.proofs.tvla.Goals as goal
@@ -41,3 +42,7 @@ returns-clause-exact g c =
 pub returns-clause-complete : goal.returns-clause-complete
 returns-clause-complete g c = λ no_read no_out no_err.
     ends_duly _ _ _ _ _ _ _ no_read no_out no_err (returns-clause-cause g c) (returns-clause-exact g c)
+
+pub returns-clause-ended : goal.returns-clause-ended
+returns-clause-ended g c = λ held before text steady tells no_out no_err from to.
+    has_ended _ _ _ _ _ _ _ _ _ (returns-clause-cause g c) (returns-clause-out g c) held before text steady tells no_out no_err from to
