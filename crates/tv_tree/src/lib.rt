@@ -6,7 +6,7 @@ mod names;
 mod print;
 pub mod trees;
 
-pub use lines::print_program;
+pub use lines::{print_edge, print_program};
 pub use names::{is_among, name_text};
 pub use trees::{
     ActionTree, ActionTrees, Decl, Decls, EdgeTree, EdgeTrees, FormulaTree, FormulaTrees, Name,

@@ -415,8 +415,13 @@ fn print_edge_tokens(out: &mut Vec<u8>, edge: &EdgeTree) -> Result<(), AllocErro
     print_token(out, &edge.to.0)
 }
 
+/// Appends a control edge as one line of a program: its first node, its action with the arguments, its second
+/// node, with single spaces and a line feed at the end.
+///
+/// # Errors
+/// Want of memory.
 #[tactic(auto, using(crate::proofs::Texts::line_done))]
-fn print_edge(out: &mut Vec<u8>, edge: &EdgeTree) -> Result<(), AllocError>
+pub fn print_edge(out: &mut Vec<u8>, edge: &EdgeTree) -> Result<(), AllocError>
     ensures { OnOk result (out.new.items ≡ out.old.items ++ text_of_lines (edge_lines (edge_of edge.now))) }
 {
     print_edge_tokens(out, edge)?;
