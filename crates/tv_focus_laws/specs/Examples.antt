@@ -7,7 +7,7 @@ use Rattle.tv_model.specs.Form.{Form, FAtom, FAnd, FExists, FNot}
 use Rattle.tv_struct.specs.StructureForm.{StructureForm, structure_of}
 use Rattle.tv_focus_laws.specs.FocusAtoms.{AnchorsForm, focus_atoms, anchors_in}
 use Rattle.tv_focus_laws.specs.Choices.{AimForm, Alone, Before, Behind, SplitForm, Nothing, Whole, Each}
-use Rattle.tv_focus_laws.specs.Choices.{MemberForm, choices, members}
+use Rattle.tv_focus_laws.specs.Choices.{MemberForm, VectorSet, choices, members, sets_of}
 use Rattle.tv_focus_laws.specs.Stages.{split_at}
 use Rattle.tv_focus_laws.specs.Counts.{choice_count, copy_count, few_choices}
 
@@ -44,12 +44,51 @@ list_table = record {
 abbrev pub next_of_x : Form
 next_of_x = FExists 0 (FAnd (FAtom 0 (0 ∷ [])) (FAtom 1 (0 ∷ 1 ∷ [])))
 
+-- sets of vectors of one value: no cell, all cells, some of each
+abbrev pub none : VectorSet
+none = (No ∷ []) ∷ []
+
+abbrev pub all : VectorSet
+all = (Yes ∷ []) ∷ []
+
+abbrev pub some : VectorSet
+some = (No ∷ []) ∷ (Yes ∷ []) ∷ []
+
+-- the vectors of two values, in order
+abbrev pub no_no : List K3
+no_no = No ∷ No ∷ []
+
+abbrev pub no_yes : List K3
+no_yes = No ∷ Yes ∷ []
+
+abbrev pub yes_no : List K3
+yes_no = Yes ∷ No ∷ []
+
+abbrev pub yes_yes : List K3
+yes_yes = Yes ∷ Yes ∷ []
+
 pub record Examples : Type 0 where
   -- the three choices of one summary: none, all, some
   pub three : choices (structure_of one_summary) 0 Alone
       ≡ (((No ∷ []) ∷ []) ∷ []) ∷ (((Yes ∷ []) ∷ []) ∷ []) ∷ (((No ∷ []) ∷ (Yes ∷ []) ∷ []) ∷ []) ∷ []
   pub copies : members (0 ∷ []) (((No ∷ []) ∷ (Yes ∷ []) ∷ []) ∷ [])
       ≡ record { origin = 0; vector = No ∷ [] } ∷ record { origin = 0; vector = Yes ∷ [] } ∷ []
+  -- of two individuals the last one's sets differ first, whether or not it is a summary
+  pub two : choices (structure_of (all_half (false ∷ false ∷ []))) 0 Alone
+      ≡ (none ∷ none ∷ []) ∷ (none ∷ all ∷ []) ∷ (all ∷ none ∷ []) ∷ (all ∷ all ∷ []) ∷ []
+  pub before_a_summary : choices (structure_of (all_half (false ∷ true ∷ []))) 0 Alone
+      ≡ (none ∷ none ∷ []) ∷ (none ∷ all ∷ []) ∷ (none ∷ some ∷ [])
+      ∷ (all ∷ none ∷ []) ∷ (all ∷ all ∷ []) ∷ (all ∷ some ∷ []) ∷ []
+  pub behind_a_summary : choices (structure_of (all_half (true ∷ false ∷ []))) 0 Alone
+      ≡ (none ∷ none ∷ []) ∷ (none ∷ all ∷ []) ∷ (all ∷ none ∷ []) ∷ (all ∷ all ∷ [])
+      ∷ (some ∷ none ∷ []) ∷ (some ∷ all ∷ []) ∷ []
+  -- the sets of a summary with two unknown values: those of one vector, of two, of three, of all four
+  pub sets : sets_of true (Half ∷ Half ∷ [])
+      ≡ (no_no ∷ []) ∷ (no_yes ∷ []) ∷ (yes_no ∷ []) ∷ (yes_yes ∷ []) ∷ (no_no ∷ no_yes ∷ [])
+      ∷ (no_no ∷ yes_no ∷ []) ∷ (no_no ∷ yes_yes ∷ []) ∷ (no_yes ∷ yes_no ∷ []) ∷ (no_yes ∷ yes_yes ∷ [])
+      ∷ (yes_no ∷ yes_yes ∷ []) ∷ (no_no ∷ no_yes ∷ yes_no ∷ []) ∷ (no_no ∷ no_yes ∷ yes_yes ∷ [])
+      ∷ (no_no ∷ yes_no ∷ yes_yes ∷ []) ∷ (no_yes ∷ yes_no ∷ yes_yes ∷ [])
+      ∷ (no_no ∷ no_yes ∷ yes_no ∷ yes_yes ∷ []) ∷ []
   -- seven summaries have 2187 choices, eight too many
   pub seven : choice_count
       (structure_of (all_half (true ∷ true ∷ true ∷ true ∷ true ∷ true ∷ true ∷ []))) 0 Alone ≡ 2187

@@ -37,8 +37,8 @@ pub fn splits_show_choices()
     ensures { SplitsShowChoices }
 {}
 
-/// Focus on small structures, worked out by hand: one summary, seven and eight of them, and a list with an
-/// anchor.
+/// Focus on small structures, worked out by hand: one summary, seven and eight of them, two individuals, the
+/// sets of a summary with two unknown values, and a list with an anchor.
 pub fn examples_are_right()
     ensures { Examples }
 {}

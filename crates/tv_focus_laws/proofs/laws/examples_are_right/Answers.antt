@@ -5,6 +5,10 @@ pub returns : goal.returns
 returns c = record {
   three = refl;
   copies = refl;
+  two = refl;
+  before_a_summary = refl;
+  behind_a_summary = refl;
+  sets = refl;
   seven = refl;
   seven_few = refl;
   eight = refl;
