@@ -11,3 +11,6 @@ mod verdict;
 
 pub use laws::{closed_listings_are_closed_reports, closed_reports_are_accepted};
 pub use verdict::{Verdict, judge};
+
+/// What a report is rejected for.
+pub use tv_listing::Rejection;
