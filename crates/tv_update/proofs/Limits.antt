@@ -1,12 +1,14 @@
 -- The limits of an update.
 use Rattle.std.proofs.Common.{ℕ, ◌≡◌, ◌<◌, ◌≤◌, ◌+◌, Bool, true, false, List, [], ◌∷◌, length, Option, Some}
-use Rattle.std.proofs.Common.{None, unwrap_or, refl, sym, ap, subst, ◌∙◌, arith, All, Contains, IsTrue}
+use Rattle.std.proofs.Common.{None, map, unwrap_or, refl, sym, ap, subst, ◌∙◌, arith, All, Contains, IsTrue}
 use Rattle.std.specs.Prelude.{◌^◌, IsSomeAnd}
 use Rattle.std.specs.List.{range_with_len}
-use Rattle.std.proofs.lemmas.List.{length-append}
+use Rattle.std.proofs.lemmas.List.{length-append, length-map}
 use Rattle.std.proofs.lemmas.List.Elements.{All-contains}
 use Rattle.std.proofs.lemmas.List.FromFn.{length-range_with_len}
+use Rattle.std.proofs.lemmas.Slice.Zip.{AllZip-long}
 use Rattle.std.proofs.Math.Nat.{pow-le-pow_right}
+use Rattle.tv_model.specs.declared.program.Mode.{Mode}
 use Rattle.tv_model.specs.Program.{ProgramForm, ActionForm}
 use Rattle.tv_model.specs.Truth.{Assignment}
 use Rattle.tv_model.specs.Valid.{IsValid}
@@ -22,7 +24,7 @@ use Rattle.tv_update_laws.specs.Tables.{MiddlesAreAlike}
 use Rattle.tv_update_laws.proofs.Counts.{choices_are_counted}
 use Rattle.tv_update_laws.proofs.Middles.{one_middle_is_as_good}
 use Rattle.tv_update_laws.proofs.Tables.{tables_are_middle}
-use Rattle.tv_update.specs.Update.{IsFull}
+use Rattle.tv_update.specs.Update.{IsFull, IsGivenOf}
 use Rattle.tv_update.specs.Updated.{keep_values}
 
 -- ---- individuals
@@ -120,3 +122,16 @@ many_are_many action s is picks many = (
     many-choices (row_halves (keep_values (middle_table action.fresh s) picks action.retain)) many,
   ),
 )
+
+-- one table a choice
+pub few_tables : (p : ProgramForm) (mode : Mode) (action : ActionForm) (picks : Assignment) (m : StructureForm)
+    (ts : List StructureForm) → IsGivenOf p mode action picks m ts
+    → row_halves (keep_values m picks action.retain) ≤ 12 → length ts ≤ 4096
+few_tables p mode action picks m ts of few =
+    omega (
+      arith,
+      AllZip-long _ (kept_choices action (structure_of m) picks) (map structure_of ts) of.given,
+      length-map ts structure_of,
+      choice-count m picks action,
+      few-choices (row_halves (keep_values m picks action.retain)) few,
+    )

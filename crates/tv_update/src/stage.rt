@@ -164,6 +164,7 @@ fn in_middle(
     requires can { CanBeApplied applied.now middle.now scratch.old }
     requires plan { IsPlanOf applied.now plan.now }
     ensures given { IfOk result (IsGivenBy applied.now middle.now) }
+    ensures few { OnOk result (row_halves (values_to_keep applied.now middle.now) ≤ 12) }
     ensures cause { IfErr result (IsPrepareCause (values_to_keep applied.now middle.now)) }
     ensures scratch { scratch.new ≡ scratch.old }
 {
@@ -290,7 +291,8 @@ pub fn update_by_plan(
 /// What `update` gives where `middle` is the middle structure: the structure to start from, with the
 /// further individual where the action adds one. The picked individuals are some of `middle`.
 ///
-/// `Splits` comes where the retain formula has over 12 unknown values, which is over 4,096 choices.
+/// `Splits` comes exactly where the retain formula has over 12 unknown values, which is over 4,096 choices;
+/// so at most 4,096 structures are given.
 pub fn update_middle(
     alloc: Global,
     program: &Program,
@@ -308,6 +310,9 @@ pub fn update_middle(
     requires scratch { IsMadeFor (program_of program.now) 256 scratch.old }
     ensures given { IfOk result (IsGivenOf (program_of program.now) mode (action_at program.now action)
         (assignment_of picks.now) middle.now) }
+    ensures few { IfOk result (λ ts. length ts ≤ 4096) }
+    ensures within { OnOk result (row_halves (keep_values middle.now (assignment_of picks.now)
+        (action_at program.now action).retain) ≤ 12) }
     ensures cause { IfErr result (IsPrepareCause (keep_values middle.now (assignment_of picks.now)
         (action_at program.now action).retain)) }
     ensures scratch { scratch.new ≡ scratch.old }
