@@ -1,5 +1,6 @@
 mod Answered
 mod AtomSteps
+mod Causes
 mod Depth
 mod FormedLaws
 mod Known

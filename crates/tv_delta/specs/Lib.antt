@@ -1,4 +1,5 @@
 pub mod Answers
+pub mod Causes
 pub mod Flags
 pub mod Formed
 pub mod Laws

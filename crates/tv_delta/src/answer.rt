@@ -9,6 +9,7 @@ ghost use Rattle.tv_delta_laws.specs.Simple.{simple_not, simple_cond};
 ghost use Rattle.tv_delta_form.specs.Views.{GivesFormed, delta_form, small_form};
 ghost use Rattle.tv_delta.specs.Opening.{AreKnown, AreKnownAt};
 ghost use Rattle.tv_delta.specs.Answers.{IsDefined, IsDifference, KeepsWhere, TellsTruth, SaysAnswer};
+ghost use Rattle.tv_delta.specs.Causes.{EvaluatesWhere};
 ghost use Rattle.tv_delta.specs.Formed.{Forms, definition_delta, formula_for, formed_at};
 
 use crate::flags::{affected_flags, is_flagged, pred_count};
@@ -169,10 +170,12 @@ pub fn answer_at(
 
 /// The answer for the defined predicate `pred` at the action of this number. It is `Keep` exactly where
 /// the action neither affects the predicate nor adds or drops individuals; `Evaluate` exactly where the
-/// action adds or drops individuals, or where no update can be formed; and else the update that
-/// differencing forms, which tells in the heap before the step what the definition is after it.
-/// R. Paige and S. Koenig, Finite differencing of computable expressions, TOPLAS 4(3), 1982;
-/// T. Reps, M. Sagiv, A. Loginov, Finite differencing of logical formulas, TOPLAS 32(6), 2010.
+/// action adds or drops individuals, or where no update can be formed: since its definition rests on a freely
+/// updated predicate, since an affected one stands under a closure in it or in one that it rests on, for want
+/// of a slot, or since a formula is over the limits; and else the update that differencing forms, which tells
+/// in the heap before the step what the definition is after it. R. Paige and S. Koenig, Finite differencing
+/// of computable expressions, TOPLAS 4(3), 1982; T. Reps, M. Sagiv, A. Loginov, Finite differencing of
+/// logical formulas, TOPLAS 32(6), 2010.
 pub fn difference(
     alloc: Global,
     program: &Program,
@@ -184,6 +187,7 @@ pub fn difference(
     requires defined { IsDefined (program_of program.now) pred.0 }
     ensures exact { IfOk result (IsDifference (program_of program.now) action pred.0) }
     ensures keep { IfOk result (KeepsWhere (program_of program.now) action pred.0) }
+    ensures evaluate { IfOk result (EvaluatesWhere (program_of program.now) action pred.0) }
     ensures truth { IfOk result (TellsTruth (program_of program.now) action pred.0) }
 {
     updates_tell_the_truth();

@@ -2,6 +2,7 @@ use Rattle.std.proofs.Common.{refl}
 use Rattle.std.proofs.lemmas.Result.{IfOk-weaker}
 use Rattle.tv_model.specs.Program.{program_of, action_of, pred_of}
 use Rattle.tv_delta.proofs.Answered.{differs, place, in_vocabulary, keeps_where, tells_truth}
+use Rattle.tv_delta.proofs.Causes.{evaluates_where}
 use Rattle.tv_delta.proofs.answer.difference.Goals as goal
 
 pub returns-clause-exact : goal.returns-clause-exact
@@ -24,6 +25,12 @@ pub returns-clause-keep : goal.returns-clause-keep
 returns-clause-keep c =
     IfOk-weaker c.answer_at.result _ _
     (λ x is. keeps_where (program_of c.args.program.now) c.args.action c.args.pred.0 x is) (returns-clause-exact c)
+
+pub returns-clause-evaluate : goal.returns-clause-evaluate
+returns-clause-evaluate c =
+    IfOk-weaker c.answer_at.result _ _
+    (λ x is. evaluates_where (program_of c.args.program.now) c.args.action c.args.pred.0 x is)
+    (returns-clause-exact c)
 
 pub returns-clause-truth : goal.returns-clause-truth
 returns-clause-truth c =
