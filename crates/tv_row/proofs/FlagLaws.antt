@@ -2,7 +2,7 @@
 use Rattle.std.proofs.Common.{ℕ, ◌≡◌, ◌≢◌, ◌<◌, ◌≤◌, ◌+◌, ◌*◌, ◌/◌, ◌%◌, ◌⊎◌, inl, inr, ⊎_elim, Bool, true}
 use Rattle.std.proofs.Common.{false, cond, eqb, List, Option, Some, None, length, get_or, set, replicate, sym}
 use Rattle.std.proofs.Common.{ap, ◌∙◌, arith, eq-eqb, ne_eqb, ◌==◌, if◌then◌else◌}
-use Rattle.std.specs.Prelude.{MatchOption}
+use Rattle.std.specs.Prelude.{MatchOption, IfSome}
 use Rattle.std.proofs.lemmas.Bool.{cases_eq, cases_lt}
 use Rattle.std.proofs.lemmas.List.{ext_get_or, length-set, length-replicate, get_or-replicate}
 use Rattle.std.proofs.lemmas.List.{get_or-set_same, get_or-set_other, get_or_past}
@@ -122,6 +122,12 @@ found_below words count from at found number word r word_is number_is le none h 
       get_or-flags_in words count k lt ∙ ap (flag_at words) e ∙ here,
       λ n ln under. flag_false words count n (before n ln (omega (arith, e, under))),
     )
+
+-- it isn't below the number where the search begins
+pub found_from : (count from at found number : ℕ) (r : Option ℕ) → number ≡ at / 64 * 64 + found → from ≤ at → at % 64 ≤ found
+    → MatchOption r (count ≤ number) (λ n. (n ≡ number) × (n < count)) → IfSome r (λ k. from ≤ k)
+found_from count from at found number None is le low past = tt
+found_from count from at found number (Some k) is le low (e, lt) = omega arith
 
 -- a number of the flags as they are seen is below their count
 pub below_count : (words : List ℕ) (count number : ℕ) (flags : List Bool) → flags_in words count ≡ flags

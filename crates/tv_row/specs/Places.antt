@@ -1,11 +1,9 @@
 -- Places in a list of words of 64 values.
-use Rattle.std.specs.Prelude.{ℕ, ◌≡◌, ◌+◌, ◌*◌, ◌/◌, ◌%◌, ◌^◌, min, ◌<◌, ◌≤◌, ◌⊎◌, List, [], length, map, All}
+use Rattle.std.specs.Prelude.{ℕ, ◌≡◌, ◌+◌, ◌*◌, ◌/◌, ◌%◌, ◌^◌, min, ◌<◌, ◌≤◌, List, [], length, map, All}
 use Rattle.std.specs.Prelude.{slice_index_or, slice_set}
 use Rattle.std.specs.List.{range_with_len}
 use Rattle.tv_kleene.specs.declared.K3.{K3}
 use Rattle.tv_kleene.specs.declared.K3.TheVariants.{No}
-use Rattle.tv_kleene.specs.Kleene.{smaller_of, larger_of}
-use Rattle.tv_row.specs.Bits.{paired}
 
 -- each word has 64 values
 abbrev pub AreWords : List (List K3) → Type 0
@@ -22,14 +20,6 @@ value_in words start column = slice_index_or (word_at words (start + column / 64
 abbrev pub with_value : (words : List (List K3)) (start column : ℕ) → K3 → List (List K3)
 with_value words start column k =
     slice_set words (start + column / 64) (slice_set (word_at words (start + column / 64)) (column % 64) k)
-
--- the values of a word or'ed with those of another that are capped
-abbrev pub raised : K3 → List K3 → List K3 → List K3
-raised k word other = paired larger_of word (map (smaller_of k) other)
-
--- two rows of words are one, or have no word in common
-abbrev pub AreApart : (width to from : ℕ) → Type 0
-AreApart width to from = (from ≡ to) ⊎ ((from + width ≤ to) ⊎ (to + width ≤ from))
 
 -- the values of the row that begins at word `start`
 unfoldable pub row_of : (words : List (List K3)) (columns start : ℕ) → List K3

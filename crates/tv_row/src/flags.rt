@@ -1,7 +1,7 @@
 //! Flags of numbers, kept as bits of words.
 
 ghost use Rattle.std.specs.Prelude.{◌≡◌, ℕ, ◌<◌, ◌≤◌, ◌==◌, Bool, false, true, if◌then◌else◌, length};
-ghost use Rattle.std.specs.Prelude.{replicate, slice_index_or, slice_set, IfOk, MatchOption};
+ghost use Rattle.std.specs.Prelude.{replicate, slice_index_or, slice_set, IfOk, IfSome, MatchOption};
 ghost use Rattle.tv_row.specs.Bits.{bit};
 ghost use Rattle.tv_row.specs.FlagWords.{flag_at};
 
@@ -85,10 +85,11 @@ impl Flags {
 
     /// The first number at or after `from` whose flag is true.
     pub fn next_true(&self, from: usize) -> Option<usize>
-        ensures { MatchOption result
+        ensures first { MatchOption result
             ((n : ℕ) → from ≤ n → slice_index_or self.now n false ≡ false)
             (λ k. (k < length self.now) × (slice_index_or self.now k false ≡ true)
             × ((n : ℕ) → from ≤ n → n < k → slice_index_or self.now n false ≡ false)) }
+        ensures from { IfSome result (λ k. from ≤ k) }
     {
         let mut at = from;
         while at < self.count {

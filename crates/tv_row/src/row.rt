@@ -181,6 +181,33 @@ impl Row {
         slices::put(&mut self.words[..], 0, u as usize, k);
     }
 
+    /// The values from the place `64 * chunk` on, as many as there are, at most 64. What stands behind them
+    /// isn't told.
+    #[inline(always)]
+    pub fn word(&self, chunk: u32) -> Word
+        requires { chunk < 4 }
+        ensures values { (i : ℕ) → i < 64 → 64 * chunk + i < length self.now
+            → slice_index_or result i No ≡ slice_index_or self.now (64 * chunk + i) No }
+        ensures long { length result ≡ 64 }
+    {
+        self.words[chunk as usize]
+    }
+
+    /// Puts the word's values from the place `64 * chunk` on, as many as there are places, at most 64, and
+    /// changes nothing else.
+    #[inline(always)]
+    pub fn put_word(&mut self, chunk: u32, word: Word)
+        requires { 64 * chunk < length self.old }
+        ensures size { length self.new ≡ length self.old }
+        ensures values { (i : ℕ) → i < 64 → 64 * chunk + i < length self.old
+            → slice_index_or self.new (64 * chunk + i) No ≡ slice_index_or word i No }
+        ensures others { (u : ℕ) → (u < 64 * chunk) ⊎ (64 * chunk + 64 ≤ u)
+            → slice_index_or self.new u No ≡ slice_index_or self.old u No }
+    {
+        let count = places_in(self.size, chunk);
+        self.words[chunk as usize] = Word::of(0, K3::No).with_run(0, word, 0, count);
+    }
+
     /// The values at the first `size` places.
     #[inline(always)]
     pub fn first(&self, size: u32) -> Row

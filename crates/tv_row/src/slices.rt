@@ -1,13 +1,13 @@
 //! Rows of truth values in a slice of words.
 
-ghost use Rattle.std.specs.Prelude.{◌≡◌, ◌≢◌, ℕ, ◌+◌, ◌*◌, ◌/◌, ◌%◌, ◌<◌, ◌≤◌, ◌⊎◌, length, map, MatchOption};
+ghost use Rattle.std.specs.Prelude.{◌≡◌, ◌≢◌, ℕ, ◌+◌, ◌*◌, ◌/◌, ◌%◌, ◌<◌, ◌≤◌, ◌⊎◌, length, map};
 ghost use Rattle.std.specs.List.{range_with_len};
 ghost use Rattle.tv_kleene.specs.declared.K3.TheVariants.{No, Yes};
 ghost use Rattle.std.specs.Cmp.Lexicographic.{slice_cmp};
 ghost use Rattle.tv_row.specs.Firsts.{IsFirstFrom};
 ghost use Rattle.tv_row.specs.Bits.{value_cmp, greatest_in};
 ghost use Rattle.tv_row.specs.Drawing.{run_over, drawn_from};
-ghost use Rattle.tv_row.specs.Places.{AreWords, AreApart, word_at, value_in, with_value, raised, row_of};
+ghost use Rattle.tv_row.specs.Places.{AreWords, word_at, value_in, with_value, row_of};
 
 use crate::drawing::{Drawing, Run};
 use crate::row::Row;
@@ -87,27 +87,6 @@ pub fn draw(
     let runs = drawing.runs();
     for run in runs {
         draw_run(words, at, source, from, *run);
-    }
-}
-
-/// Or's each value of the row of `width` words that begins at `to` with the lesser of `k` and the
-/// value in that column of the row that begins at `from`.
-pub fn raise(words: &mut [Word], width: usize, to: usize, from: usize, k: K3)
-    requires words { AreWords words.old }
-    requires to { to + width ≤ length words.old }
-    requires from { from + width ≤ length words.old }
-    requires apart { AreApart width to from }
-    ensures row { (v : ℕ) → v < width
-        → word_at words.new (to + v) ≡ raised k (word_at words.old (to + v)) (word_at words.old (from + v)) }
-    ensures words { AreWords words.new }
-    ensures others { (p : ℕ) → (p < to) ⊎ (to + width ≤ p) → word_at words.new p ≡ word_at words.old p }
-{
-    if k == K3::No {
-        return;
-    }
-    for w in 0..width {
-        let past = words[from + w].capped(k);
-        words[to + w] = words[to + w].or(past);
     }
 }
 

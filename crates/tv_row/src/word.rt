@@ -149,7 +149,7 @@ impl Word {
 
     /// The place of the first `Yes` at or after `from`.
     #[inline(always)]
-    pub(crate) fn first_yes(self, from: u32) -> Option<u32>
+    pub fn first_yes(self, from: u32) -> Option<u32>
         requires { from ≤ 64 }
         ensures { IsFirstFrom (λ j. slice_index_or self j No ≡ Yes) (λ j. slice_index_or self j No ≢ Yes)
             from 64 result }
@@ -159,7 +159,7 @@ impl Word {
 
     /// The place of the first value at or after `from` that isn't `No`.
     #[inline(always)]
-    pub(crate) fn first_possible(self, from: u32) -> Option<u32>
+    pub fn first_possible(self, from: u32) -> Option<u32>
         requires { from ≤ 64 }
         ensures { IsFirstFrom (λ j. slice_index_or self j No ≢ No) (λ j. slice_index_or self j No ≡ No)
             from 64 result }

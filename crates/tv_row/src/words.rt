@@ -1,15 +1,14 @@
 //! A list of words of truth values.
 
 ghost use Rattle.std.specs.List.{range_with_len};
-ghost use Rattle.std.specs.Prelude.{◌≡◌, ℕ, ◌+◌, ◌*◌, ◌/◌, ◌%◌, min, map, ◌<◌, ◌≤◌, ◌⊎◌, ◌≢◌, length};
-ghost use Rattle.std.specs.Prelude.{slice_index_or, replicate, fold, IfOk, IsTrue, ◌↔◌, MatchOption};
-ghost use Rattle.tv_kleene.specs.declared.K3.TheVariants.{No, Yes};
+ghost use Rattle.std.specs.Prelude.{◌≡◌, ℕ, ◌+◌, ◌*◌, ◌/◌, ◌%◌, min, map, ◌<◌, ◌≤◌, ◌⊎◌, length};
+ghost use Rattle.std.specs.Prelude.{slice_index_or, replicate, fold, IfOk};
+ghost use Rattle.tv_kleene.specs.declared.K3.TheVariants.{No};
 ghost use Rattle.std.specs.Cmp.Lexicographic.{slice_cmp};
-ghost use Rattle.tv_row.specs.Firsts.{IsFirstFrom};
-ghost use Rattle.tv_row.specs.Bits.{value_cmp, greatest_in};
+ghost use Rattle.tv_row.specs.Bits.{value_cmp};
 ghost use Rattle.tv_row.specs.Drawing.{drawn_from};
 ghost use Rattle.tv_row.specs.Mixed.{word_mixed};
-ghost use Rattle.tv_row.specs.Places.{AreWords, AreApart, word_at, value_in, with_value, raised, row_of};
+ghost use Rattle.tv_row.specs.Places.{AreWords, word_at, value_in, with_value, row_of};
 
 use crate::drawing::Drawing;
 use crate::mixed::mix_words;
@@ -60,14 +59,6 @@ impl Words {
         })
     }
 
-    /// The greatest value of the row of `width` words that begins at `start`.
-    pub fn greatest(&self, width: usize, start: usize) -> K3
-        requires { start + width ≤ length self.now }
-        ensures { result ≡ greatest_in (row_of self.now (64 * width) start) }
-    {
-        slices::greatest(&self.items, width, start)
-    }
-
     /// Compares word by word.
     pub fn compare(&self, other: &Words) -> Ordering
         requires { length self.now ≡ length other.now }
@@ -83,35 +74,6 @@ impl Words {
         ensures words { AreWords self.now }
     {
         mix_words(hash, &self.items)
-    }
-
-    /// Whether the words are equal.
-    pub fn equals(&self, other: &Words) -> bool
-        ensures { IsTrue result ↔ (self.now ≡ other.now) }
-    {
-        self.items == other.items
-    }
-
-    /// The first column at or after `from` of the row of `width` words at `start` that is `Yes`.
-    pub fn next_yes(&self, width: usize, start: usize, from: usize) -> Option<usize>
-        requires words { start + width ≤ length self.now }
-        requires width { width ≤ 4 }
-        requires from { from ≤ 64 * width }
-        ensures { IsFirstFrom (λ c. value_in self.now start c ≡ Yes) (λ c. value_in self.now start c ≢ Yes)
-            from (64 * width) result }
-    {
-        slices::next_yes(&self.items, width, start, from)
-    }
-
-    /// The first column at or after `from` of the row of `width` words at `start` that isn't `No`.
-    pub fn next_possible(&self, width: usize, start: usize, from: usize) -> Option<usize>
-        requires words { start + width ≤ length self.now }
-        requires width { width ≤ 4 }
-        requires from { from ≤ 64 * width }
-        ensures { IsFirstFrom (λ c. value_in self.now start c ≢ No) (λ c. value_in self.now start c ≡ No)
-            from (64 * width) result }
-    {
-        slices::next_possible(&self.items, width, start, from)
     }
 
     /// The value in a column of the row that begins at word `start`.
@@ -137,7 +99,8 @@ impl Words {
     #[inline(always)]
     pub fn word(&self, place: usize) -> Word
         requires { place < length self.now }
-        ensures { result ≡ word_at self.now place }
+        ensures value { result ≡ word_at self.now place }
+        ensures long { length result ≡ 64 }
     {
         self.items[place]
     }
@@ -194,18 +157,5 @@ impl Words {
     {
         let width = drawing.origins().len().div_ceil(64);
         slices::draw(&mut self.items, width, at, &source.items, from, drawing);
-    }
-
-    /// Or's a row with another that is capped.
-    pub fn raise(&mut self, width: usize, to: usize, from: usize, k: K3)
-        requires to { to + width ≤ length self.old }
-        requires from { from + width ≤ length self.old }
-        requires apart { AreApart width to from }
-        ensures row { (v : ℕ) → v < width
-            → word_at self.new (to + v) ≡ raised k (word_at self.old (to + v)) (word_at self.old (from + v)) }
-        ensures others { (p : ℕ) → (p < to) ⊎ (to + width ≤ p) → word_at self.new p ≡ word_at self.old p }
-        ensures length { length self.new ≡ length self.old }
-    {
-        slices::raise(&mut self.items, width, to, from, k);
     }
 }
