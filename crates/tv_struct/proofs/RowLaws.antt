@@ -18,7 +18,7 @@ use Rattle.tv_struct.specs.TableForm.{PlaneForm, TableForm, IsPlane, IsTable, ro
 use Rattle.tv_struct.specs.TableForm.{value_in, no_plane, plane_at, row_in, row_count, column_count}
 use Rattle.tv_struct.specs.TableForm.{table_with_row}
 use Rattle.tv_struct.specs.StructureForm.{StructureForm, IsStructure, IsMark, table_of, value_at, arities_of}
-use Rattle.tv_struct.specs.StructureRows.{HasArity, unary_row, row_at, with_row}
+use Rattle.tv_struct.specs.StructureRows.{HasArity, unary_row, row_at, column_at, with_row}
 use Rattle.tv_struct.proofs.StructureLaws.{value_in-fits}
 
 -- ---- rows of tables
@@ -89,6 +89,14 @@ unary_row_is s pred is has = row_is s pred 1 0 (λ u. u ∷ []) is has refl (ome
 pub row_at_is : (s : StructureForm) (pred u : ℕ) → IsStructure s → HasArity s pred 2 → u < s.size
     → row_in (plane_at (table_of s) pred) u ≡ row_at s pred u
 row_at_is s pred u is has lt = row_is s pred 2 u (λ w. u ∷ w ∷ []) is has refl lt (λ w. (refl, refl, refl))
+
+-- what stands in a column, and how long it is
+module _ (s : StructureForm) (pred w : ℕ) where
+  pub column-long : length (column_at s pred w) ≡ s.size
+  column-long = length-map-range_with_len (λ u. value_at s pred (u ∷ w ∷ [])) 0 s.size
+
+  pub column-entry : (u : ℕ) → u < s.size → get_or (column_at s pred w) u No ≡ value_at s pred (u ∷ w ∷ [])
+  column-entry u lt = get_or-map-range_with_len (λ u. value_at s pred (u ∷ w ∷ [])) 0 s.size u u No lt (omega arith)
 
 -- ---- a row is written
 

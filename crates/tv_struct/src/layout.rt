@@ -79,6 +79,7 @@ fn laid(alloc: Global, preds: &[Pred]) -> Result<RowOffsets, AllocError>
 
 /// The number of rows of that many predicates, so many of which have one row alone, and each of the
 /// others `size` rows.
+#[inline(always)]
 fn rows_of(single: usize, preds: usize, size: u32) -> usize
     requires single { single ≤ preds }
     requires predicates { preds ≤ 4294967295 }
@@ -169,6 +170,7 @@ impl Layout {
     }
 
     /// The first word of a predicate's row.
+    #[inline(always)]
     pub fn start(&self, pred: usize, row: usize) -> usize
         requires predicate { pred < length self.now.arities }
         requires row { row < row_count self.now.size (slice_index self.now.arities pred) }

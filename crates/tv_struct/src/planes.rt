@@ -1,6 +1,7 @@
 //! A table in planes of bits: one list of words for the values of all predicates.
 
-ghost use Rattle.std.specs.Prelude.{◌≡◌, ◌<◌, ◌≤◌, length, map, fold, All, IfOk, Some, slice_get};
+ghost use Rattle.std.specs.Prelude.{ℕ, ◌≡◌, ◌<◌, ◌≤◌, ◌+◌, ◌*◌, length, map, fold, All, IfOk, Some};
+ghost use Rattle.std.specs.Prelude.{slice_get};
 ghost use Rattle.std.specs.Prelude.{slice_index_or, slice_set};
 ghost use Rattle.tv_struct.specs.LayoutForm.{IsLayout};
 ghost use Rattle.tv_struct.specs.TableForm.{TableForm, IsTable, table_of_no, table_with_row, plane_at};
@@ -19,7 +20,7 @@ use std::cmp::Ordering;
 use std::marker::Model;
 use tv_kleene::K3;
 use tv_model::{Pred, PredId};
-use tv_row::{Drawing, Row, Words};
+use tv_row::{Drawing, Row, Word, Words};
 
 /// A table whose values stand in one list of words: one row for a predicate of arity 0 or 1, and a row
 /// for each individual for a binary one.
@@ -108,6 +109,22 @@ impl Planes {
     {
         let start = self.layout.start(p.0 as usize, row as usize);
         self.words.get(start, column as usize)
+    }
+
+    /// The values in a row of the predicate `p` from the column `64 * chunk` on, at most 64. What stands
+    /// behind the last column isn't told.
+    #[inline(always)]
+    pub fn word(&self, p: PredId, row: u32, chunk: u32) -> Word
+        requires predicate { p.0 < length self.now.planes }
+        requires row { row < length (plane_at self.now p.0).rows }
+        requires chunk { 64 * chunk < length (row_in (plane_at self.now p.0) row) }
+        ensures long { length result ≡ 64 }
+        ensures values { (i : ℕ) → i < 64 → 64 * chunk + i < length (row_in (plane_at self.now p.0) row)
+            → slice_index_or result i No
+            ≡ slice_index_or (row_in (plane_at self.now p.0) row) (64 * chunk + i) No }
+    {
+        let start = self.layout.start(p.0 as usize, row as usize);
+        self.words.word(start + chunk as usize)
     }
 
     /// The values in a row of the predicate `p`.

@@ -1,7 +1,8 @@
 //! Three-valued structures of at most 256 individuals.
 
 ghost use Rattle.std.specs.Prelude.{◌≡◌, ◌≢◌, ◌<◌, ◌≤◌, ◌↔◌, ℕ, List, length, map, All, IfOk, IsTrue, IfSome};
-ghost use Rattle.std.specs.Prelude.{sum, slice_get, slice_index, if◌then◌else◌, refl};
+ghost use Rattle.std.specs.Prelude.{◌+◌, ◌*◌, [], ◌∷◌, sum, slice_get, slice_index, slice_index_or};
+ghost use Rattle.std.specs.Prelude.{if◌then◌else◌, refl};
 ghost use Rattle.std.specs.Cmp.{partial_equiv_from_equiv, eq_by_cmp_equiv, po};
 ghost use Rattle.std.specs.Ordering.{eq_by_cmp, as_partial_cmp};
 ghost use Rattle.tv_kleene.specs.declared.K3.TheVariants.{No, Half};
@@ -24,7 +25,7 @@ use std::cmp::Ordering;
 use std::marker::Model;
 use tv_kleene::K3;
 use tv_model::{Items, PredId, Vocab};
-use tv_row::{Drawing, Row};
+use tv_row::{Drawing, Row, Word};
 
 /// A three-valued logical structure (Sagiv, Reps and Wilhelm 2002, section 4) over the individuals 0
 /// to `size - 1`: the value of each predicate at each tuple, and which individuals are summaries,
@@ -153,6 +154,48 @@ impl Structure {
         ensures { result ≡ column_at self.now p.0 w }
     {
         self.table.column(p, w)
+    }
+
+    /// The values of the unary predicate `p` for the individuals from `64 * chunk` on, at most 64. What
+    /// stands behind the last individual isn't told.
+    #[inline(always)]
+    pub fn unary_word(&self, p: PredId, chunk: u32) -> Word
+        requires arity { HasArity self.now p.0 1 }
+        requires chunk { 64 * chunk < self.now.size }
+        ensures long { length result ≡ 64 }
+        ensures values { (i : ℕ) → i < 64 → 64 * chunk + i < self.now.size
+            → slice_index_or result i No ≡ value_at self.now p.0 ((64 * chunk + i) ∷ []) }
+    {
+        self.table.word(p, 0, chunk)
+    }
+
+    /// The values of the binary predicate `p` at the pairs with first member `u` and as second one the
+    /// individuals from `64 * chunk` on, at most 64. What stands behind the last individual isn't told.
+    #[inline(always)]
+    pub fn word(&self, p: PredId, u: u32, chunk: u32) -> Word
+        requires arity { HasArity self.now p.0 2 }
+        requires individual { u < self.now.size }
+        requires chunk { 64 * chunk < self.now.size }
+        ensures long { length result ≡ 64 }
+        ensures values { (i : ℕ) → i < 64 → 64 * chunk + i < self.now.size
+            → slice_index_or result i No ≡ value_at self.now p.0 (u ∷ (64 * chunk + i) ∷ []) }
+    {
+        self.table.word(p, u, chunk)
+    }
+
+    /// The values of the binary predicate `p` at the pairs with second member `w` and as first one the
+    /// individuals from `64 * chunk` on, at most 64. What stands behind the last individual isn't told.
+    #[inline(always)]
+    pub fn column_word(&self, p: PredId, w: u32, chunk: u32) -> Word
+        requires arity { HasArity self.now p.0 2 }
+        requires individual { w < self.now.size }
+        requires chunk { 64 * chunk < self.now.size }
+        ensures long { length result ≡ 64 }
+        ensures values { (i : ℕ) → i < 64 → 64 * chunk + i < self.now.size
+            → slice_index_or result i No ≡ value_at self.now p.0 ((64 * chunk + i) ∷ w ∷ []) }
+    {
+        let _ = self.size();
+        self.column(p, w).word(chunk)
     }
 
     /// Puts the values into the unary predicate `p`, individual by individual, and changes no other
