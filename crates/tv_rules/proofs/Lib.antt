@@ -16,3 +16,4 @@ mod Further
 mod KeptLemmas
 mod Loops
 mod RuleTests
+mod RunLemmas

@@ -6,5 +6,6 @@ pub mod Flags
 pub mod Kept
 pub mod Laws
 pub mod PropertyForms
+pub mod Runs
 pub mod Samples
 pub mod Standing
