@@ -1,9 +1,8 @@
 -- The lists that stand beside the base rules.
-use Rattle.std.proofs.Common.{ℕ, zero, suc, ◌≡◌, ◌<◌, ◌≤◌, ◌+◌, ◌⊎◌, ◌↔◌, ◌∙◌, Bool, true, false, List, []}
-use Rattle.std.proofs.Common.{◌∷◌}
+use Rattle.std.proofs.Common.{ℕ, zero, suc, ◌≡◌, ◌<◌, ◌+◌, ◌⊎◌, ◌↔◌, ◌∙◌, Bool, true, false, List, [], ◌∷◌}
 use Rattle.std.proofs.Common.{◌++◌, length, map, Option, None, Some, IfSome, slice_get, slice_set, unwrap_or}
 use Rattle.std.proofs.Common.{inl, inr, ⊎_elim, refl, sym, ap, subst, All, Contains, arith}
-use Rattle.std.specs.List.{AllZip, flat_map}
+use Rattle.std.specs.List.{AllZip}
 use Rattle.std.specs.Option.{option_map}
 use Rattle.std.specs.Borrow.{Bor}
 use Rattle.std.proofs.lemmas.List.{get_or-map, length-append, length-map}
@@ -17,23 +16,19 @@ use Rattle.tv_model.specs.Form.{FExists, FForall, FClosure, form_of}
 use Rattle.tv_model.specs.Program.{HeadForm, HNever, HAtom, HSame, RuleForm, head_of, rule_of}
 use Rattle.tv_model.specs.Rules.{IsFreeInRule}
 use Rattle.tv_rules.specs.declared.entries.Entry.{Entry}
-use Rattle.tv_rules.specs.declared.entries.Run.{Run}
 use Rattle.tv_rules.specs.declared.shapes.Shape.{Shape}
 use Rattle.tv_rules.specs.Closing.{Swap, swaps, puttings, conjuncts, closed_set, negated, negated_head}
-use Rattle.tv_rules.specs.Closing.{negated_if, signed_head, further_rules}
+use Rattle.tv_rules.specs.Closing.{negated_if, signed_head}
 use Rattle.tv_rules.specs.Decoded.{IsRuleAbout, IsEntry}
 use Rattle.tv_rules.specs.Dues.{DueForm, AreDueFrom, IsDue, IsShape, denied_at, parts_of, put_at}
 use Rattle.tv_rules.specs.EntryForms.{EntryForm, forms_of, numbers_of, swapped_at, AreFreeIn, entry_of}
 use Rattle.tv_rules.specs.EntryForms.{closed_entries, rules_of}
 use Rattle.tv_rules.specs.Kept.{AreWatched, AreRuleLists}
-use Rattle.tv_rules.specs.Runs.{StandBetween, IsInFamily, runs_from}
 use Rattle.tv_rules.specs.Standing.{AreNumbersOf, StandsIn, SeesSummaries}
 use Rattle.tv_rules.proofs.DueLemmas.{put-due}
 use Rattle.tv_rules.proofs.EntryLemmas.{entries-kept}
 use Rattle.tv_rules.proofs.Family.{zip-at, zip-length, bases-below, free-alike}
 use Rattle.tv_rules.proofs.MetByHeaps.{All-found}
-use Rattle.tv_rules.proofs.RunLemmas.{entry-family, base-itself, runs-length, run-stands, run-family}
-use Rattle.tv_rules.proofs.RunLemmas.{between-within}
 use Rattle.tv_rules.proofs.Written.{swaps_are_of_conjuncts}
 
 -- what is read at a place of a list stands there in the same list
@@ -66,21 +61,19 @@ watched-more rules q lists new ns before here put = (
         in subst Of is.1 (subst At same here)
 
 -- what was found of the rules as they were read, five times
-pub are-kept : (bases : List Rule) (negations : List Formula) (shapes : List Shape) (entries : List Entry) (runs : List Run) (by_pred : List (List ℕ)) (by_sm : List ℕ)
+pub are-kept : (bases : List Rule) (negations : List Formula) (shapes : List Shape) (entries : List Entry) (by_pred : List (List ℕ)) (by_sm : List ℕ)
     → (n v e p s : List Rule) → n ≡ bases → v ≡ bases → e ≡ bases → p ≡ bases → s ≡ bases
     → map form_of negations ≡ map (λ (rule : RuleForm). negated_head rule.head) (map rule_of n)
     → AllZip IsShape (map rule_of v) shapes
     → map entry_of entries ≡ closed_entries (map rule_of e)
-    → runs ≡ runs_from (length e) 0 (map rule_of e)
     → ((q : ℕ) (ns : List ℕ) → slice_get by_pred q ≡ Some ns → AreNumbersOf (StandsIn q) (closed_set (map rule_of p)) ns)
     → ((q k : ℕ) (rule : RuleForm) → slice_get (rules_of bases) k ≡ Some rule → StandsIn q rule → q < length by_pred)
     → AreNumbersOf SeesSummaries (closed_set (map rule_of s)) by_sm
-    → AreRuleLists bases negations shapes entries runs by_pred by_sm
-are-kept bases negations shapes entries runs by_pred by_sm n v e p s en ev ee ep es negated shaped kept run numbers places seeing = record {
+    → AreRuleLists bases negations shapes entries by_pred by_sm
+are-kept bases negations shapes entries by_pred by_sm n v e p s en ev ee ep es negated shaped kept numbers places seeing = record {
   negated = subst (λ (rs : List Rule). map form_of negations ≡ map (λ (rule : RuleForm). negated_head rule.head) (map rule_of rs)) en negated;
   shaped = subst (λ (rs : List Rule). AllZip IsShape (map rule_of rs) shapes) ev shaped;
   kept = subst (λ (rs : List Rule). map entry_of entries ≡ closed_entries (map rule_of rs)) ee kept;
-  run = subst (λ (rs : List Rule). runs ≡ runs_from (length rs) 0 (map rule_of rs)) ee run;
   watched = record {
     numbers = subst (λ (rs : List Rule). (q : ℕ) (ns : List ℕ) → slice_get by_pred q ≡ Some ns → AreNumbersOf (StandsIn q) (closed_set (map rule_of rs)) ns) ep numbers;
     places = places;
@@ -244,8 +237,8 @@ denied-about (Some k) base rule shape f ds is shaped same are = record {
     inside : k < length ds
     inside = omega (arith, slice_get_within (map F ds) k is.0.conjunct read, length-map ds F)
 
-module _ (bases : List Rule) (negations : List Formula) (shapes : List Shape) (entries : List Entry) (runs : List Run) (by_pred : List (List ℕ)) (by_sm : List ℕ)
-    (is : AreRuleLists bases negations shapes entries runs by_pred by_sm) where
+module _ (bases : List Rule) (negations : List Formula) (shapes : List Shape) (entries : List Entry) (by_pred : List (List ℕ)) (by_sm : List ℕ)
+    (is : AreRuleLists bases negations shapes entries by_pred by_sm) where
   zipped : AllZip (IsEntry (map rule_of bases)) (rules_of bases) (map entry_of entries)
   zipped =
       let Of : List EntryForm → Type 0 = λ es. AllZip (IsEntry (map rule_of bases)) (rules_of bases) es
@@ -389,50 +382,3 @@ module _ (bases : List Rule) (negations : List Formula) (shapes : List Shape) (e
       in subst At (length-map ds (λ (d : DueForm). d.form))
       (about-below e.conjunct entry.base rule.0 (map (λ (d : DueForm). d.form) ds) entry.about
       (ap (λ (es : List DueForm). map (λ (d : DueForm). d.form) es) are ∙ shaped.due.due.are))
-
-  -- ---- families
-
-  entry-there : (n : ℕ) (e : Entry) → slice_get entries n ≡ Some e → slice_get (closed_entries (map rule_of bases)) n ≡ Some (entry_of e)
-  entry-there n e at =
-      ap (λ (es : List EntryForm). slice_get es n) (sym is.kept) ∙ slice_get-map entry_of entries n ∙ ap (option_map entry_of) at
-
-  pub family-of : (n : ℕ) (e : Entry) → slice_get entries n ≡ Some e → IsInFamily (rules_of bases) e.base n
-  family-of n e at =
-      let below : n < length entries = slice_get_within entries n e at
-      in let rule : (r : RuleForm) × (slice_get (rules_of bases) n ≡ Some r) = some-at (rules_of bases) n (omega (arith, below, count-of))
-      in entry-family (map rule_of bases) n rule.0 (entry_of e) (entry-is n rule.0 e rule.1 at) rule.1
-
-  pub itself-of : (n : ℕ) (e : Entry) → n < length bases → slice_get entries n ≡ Some e → e.base ≡ n
-  itself-of n e below at =
-      base-itself (map rule_of bases) n (entry_of e) (omega (arith, below, length-map bases rule_of)) (entry-there n e at)
-
-  bases-counted : length bases ≤ length (rules_of bases)
-  bases-counted =
-      omega (arith, length-append (map rule_of bases) (flat_map further_rules (map rule_of bases)), length-map bases rule_of)
-
-  pub base-counted : (n : ℕ) (e : Entry) → slice_get entries n ≡ Some e → e.base < length (rules_of bases)
-  base-counted n e at = omega (arith, bases-below_count n e at, bases-counted)
-
-  -- ---- runs
-
-  run-count_of : length runs ≡ length bases
-  run-count_of =
-      runs-length (map rule_of bases) runs (length bases) (sym (length-map bases rule_of)) is.run ∙ length-map bases rule_of
-
-  pub runs-below : (now : List Rule) → bases ≡ now → (n : ℕ) → n < length now → n < length runs
-  runs-below now same n lt = omega (arith, lt, run-count_of, ap (λ (b : List Rule). length b) same)
-
-  pub stands-of : (k : ℕ) (run : Run) → slice_get runs k ≡ Some run → (rule : RuleForm) → slice_get (rules_of bases) k ≡ Some rule
-      → StandBetween (further_rules rule) (rules_of bases) run.start run.end
-  stands-of = run-stands (map rule_of bases) runs (length bases) (sym (length-map bases rule_of)) is.run
-
-  pub run-family_of : (k : ℕ) (run : Run) → slice_get runs k ≡ Some run → (n : ℕ) → run.start ≤ n → n < run.end
-      → IsInFamily (rules_of bases) k n
-  run-family_of = run-family (map rule_of bases) runs (length bases) (sym (length-map bases rule_of)) is.run
-
-  pub run-within_of : (k : ℕ) (run : Run) → slice_get runs k ≡ Some run → run.end ≤ length (rules_of bases)
-  run-within_of k run at =
-      let below : k < length runs = slice_get_within runs k run at
-      in let rule : (r : RuleForm) × (slice_get (rules_of bases) k ≡ Some r)
-      = some-at (rules_of bases) k (omega (arith, below, run-count_of, bases-counted))
-      in between-within (further_rules rule.0) (rules_of bases) run.start run.end (stands-of k run at rule.0 rule.1)

@@ -16,4 +16,3 @@ mod Further
 mod KeptLemmas
 mod Loops
 mod RuleTests
-mod RunLemmas

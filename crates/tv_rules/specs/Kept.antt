@@ -4,14 +4,12 @@ use Rattle.std.specs.List.{AllZip}
 use Rattle.tv_model.specs.declared.formula.Formula.{Formula}
 use Rattle.tv_model.specs.declared.program.Rule.{Rule}
 use Rattle.tv_rules.specs.declared.entries.Entry.{Entry}
-use Rattle.tv_rules.specs.declared.entries.Run.{Run}
 use Rattle.tv_rules.specs.declared.shapes.Shape.{Shape}
 use Rattle.tv_model.specs.Form.{form_of}
 use Rattle.tv_model.specs.Program.{RuleForm, rule_of}
 use Rattle.tv_rules.specs.Closing.{negated_head}
 use Rattle.tv_rules.specs.Dues.{IsShape}
 use Rattle.tv_rules.specs.EntryForms.{closed_entries, entry_of, rules_of}
-use Rattle.tv_rules.specs.Runs.{runs_from}
 use Rattle.tv_rules.specs.Standing.{AreNumbersOf, StandsIn, SeesSummaries}
 
 -- each predicate that stands in a rule has a place in the lists, and there the numbers of its rules
@@ -22,10 +20,9 @@ pub record AreWatched (rules : List RuleForm) (by_pred : List (List ℕ)) : Type
 
 -- the lists that stand beside the base rules are right
 pub record AreRuleLists (bases : List Rule) (negations : List Formula) (shapes : List Shape)
-    (entries : List Entry) (runs : List Run) (by_pred : List (List ℕ)) (by_sm : List ℕ) : Type 0 where
+    (entries : List Entry) (by_pred : List (List ℕ)) (by_sm : List ℕ) : Type 0 where
   pub negated : map form_of negations ≡ map (λ rule. negated_head rule.head) (map rule_of bases)
   pub shaped : AllZip IsShape (map rule_of bases) shapes
   pub kept : map entry_of entries ≡ closed_entries (map rule_of bases)
-  pub run : runs ≡ runs_from (length bases) 0 (map rule_of bases)
   pub watched : AreWatched (rules_of bases) by_pred
   pub seeing : AreNumbersOf SeesSummaries (rules_of bases) by_sm

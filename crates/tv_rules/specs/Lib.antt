@@ -6,6 +6,5 @@ pub mod Flags
 pub mod Kept
 pub mod Laws
 pub mod PropertyForms
-pub mod Runs
 pub mod Samples
 pub mod Standing

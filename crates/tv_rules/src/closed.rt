@@ -10,23 +10,21 @@ ghost use Rattle.tv_model.specs.Rules.{IsConcrete, MeetsProgram, MeetsRule};
 ghost use Rattle.tv_model.specs.Valid.{IsValid, IsRule};
 ghost use Rattle.tv_stable_laws.specs.Laws.{IsPlainRule};
 ghost use Rattle.tv_model.specs.Rules.{IsFreeInRule};
-ghost use Rattle.tv_rules.specs.Closing.{closed_rules, closed_set, conjuncts, further_rules, negated_head};
+ghost use Rattle.tv_rules.specs.Closing.{closed_rules, closed_set, conjuncts, negated_head};
 ghost use Rattle.tv_rules.specs.Standing.{AreNumbersOf, StandsIn, SeesSummaries};
 ghost use Rattle.tv_rules.specs.Dues.{AreWaits, IsShape};
 ghost use Rattle.tv_rules.specs.EntryForms.{AreFreeIn, entry_of, closed_entries, forms_of, rules_of};
 ghost use Rattle.tv_rules.specs.EntryForms.{swapped_at};
 ghost use Rattle.tv_rules.specs.Laws.{IsNoHigher};
-ghost use Rattle.tv_rules.specs.Runs.{IsInFamily, StandBetween};
 
 use crate::base::base_rules;
 use crate::conjuncts::{conjuncts, negated_head};
 use crate::dues::{Due, Dues, denied};
-use crate::entries::{Entries, Entry, Runs, closed_entries};
+use crate::entries::{Entries, Entry, closed_entries};
 use crate::shapes::{Shape, Shapes, Waits, shape_of};
 use crate::watch::{Numbers, seeing_summaries, standing};
 use std::alloc::{AllocError, Global};
 use std::marker::Model;
-use std::ops::Range;
 use tv_model::{Formula, Formulas, Head, Items, PredId, Program, Rule, Rules, Var};
 
 /// The closed rules of a program, and for each predicate the numbers of the rules in which it stands. A
@@ -40,8 +38,6 @@ pub struct Closed {
     /// For each base rule its free variables, and its conjuncts.
     shapes: Shapes,
     entries: Entries,
-    /// For each base rule where its further rules stand.
-    runs: Runs,
     by_pred: Items<Numbers>,
     by_sm: Numbers,
 }
@@ -61,7 +57,7 @@ impl Model for Closed {
 
     ghost view = { λ c. c.bases };
 
-    ghost invariant = { λ c. AreRuleLists c.bases c.negations c.shapes c.entries c.runs c.by_pred c.by_sm };
+    ghost invariant = { λ c. AreRuleLists c.bases c.negations c.shapes c.entries c.by_pred c.by_sm };
 }
 
 /// The closed rules of a valid program, base rules first.
@@ -92,7 +88,7 @@ fn closed_of(alloc: Global, bases: Rules, preds: usize) -> Result<Closed, AllocE
 {
     let negations = negations(alloc, bases.as_slice())?;
     let shapes = shapes(alloc, bases.as_slice())?;
-    let (entries, runs) = closed_entries(alloc, bases.as_slice())?;
+    let entries = closed_entries(alloc, bases.as_slice())?;
     let by_pred = watch_lists(alloc, bases.as_slice(), entries.as_slice(), preds)?;
     let by_sm = seeing_summaries(alloc, bases.as_slice(), entries.as_slice())?;
     Ok(Closed {
@@ -100,7 +96,6 @@ fn closed_of(alloc: Global, bases: Rules, preds: usize) -> Result<Closed, AllocE
         negations,
         shapes,
         entries,
-        runs,
         by_pred,
         by_sm,
     })
@@ -154,29 +149,6 @@ impl Closed {
         ensures { result ≡ length (rules_of self.now) }
     {
         self.entries.len()
-    }
-
-    /// The number of the base rule that a rule was made of: its own, if it is a base rule. Takes no memory.
-    pub fn base(&self, number: usize) -> usize
-        requires { number < length (rules_of self.now) }
-        ensures family { IsInFamily (rules_of self.now) result number }
-        ensures itself { number < length self.now → result ≡ number }
-        ensures below { result < length self.now }
-        ensures rule { result < length (rules_of self.now) }
-    {
-        item_at(self.entries.as_slice(), number).base
-    }
-
-    /// The numbers of the further rules of a base rule. Takes no memory.
-    pub fn further(&self, base: usize) -> Range<usize>
-        requires { base < length self.now }
-        ensures rules { (rule : RuleForm) → slice_get (rules_of self.now) base ≡ Some rule
-            → StandBetween (further_rules rule) (rules_of self.now) result.start result.end }
-        ensures family { (n : ℕ) → result.start ≤ n → n < result.end → IsInFamily (rules_of self.now) base n }
-        ensures below { result.end ≤ length (rules_of self.now) }
-    {
-        let run = item_at(self.runs.as_slice(), base);
-        run.start..run.end
     }
 
     /// The head of a rule.

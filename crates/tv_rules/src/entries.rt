@@ -1,13 +1,12 @@
 //! How closed rules are kept: by the number of their base rule, and the place of the conjunct that gives
 //! way to the negated head.
 
-ghost use Rattle.std.specs.Prelude.{◌≡◌, [], ◌∷◌, ◌++◌, length, map, IfOk, OnOk};
+ghost use Rattle.std.specs.Prelude.{◌≡◌, [], ◌∷◌, ◌++◌, map, IfOk, OnOk};
 ghost use Rattle.tv_model.specs.Form.{form_of};
 ghost use Rattle.tv_model.specs.Program.{head_of, rule_of};
 ghost use Rattle.tv_rules.specs.Closing.{conjuncts};
 ghost use Rattle.tv_rules.specs.EntryForms.{entry_of, base_entries, literal_entries, further_entries};
 ghost use Rattle.tv_rules.specs.EntryForms.{closed_entries, forms_of};
-ghost use Rattle.tv_rules.specs.Runs.{runs_from};
 
 use crate::conjuncts::{conjuncts, negated};
 use std::alloc::{AllocError, Global};
@@ -28,27 +27,15 @@ pub struct Entry {
 /// A list of closed rules, as they are kept.
 pub type Entries = Items<Entry>;
 
-/// Where the further rules of one base rule stand: at the numbers from `start` on, below `end`.
-#[derive(Clone, Copy, Debug)]
-pub struct Run {
-    pub start: usize,
-    pub end: usize,
-}
-
-/// A run for each base rule.
-pub type Runs = Items<Run>;
-
 /// The closed rules of these base rules: themselves, then for each of them a further rule for each
-/// conjunct that is a literal; and where the further rules of each stand.
-pub fn closed_entries(alloc: Global, bases: &[Rule]) -> Result<(Entries, Runs), AllocError>
-    ensures entries { IfOk result (λ found. map entry_of found.0 ≡ closed_entries (map rule_of bases.now)) }
-    ensures runs { IfOk result (λ found. found.1 ≡ runs_from (length bases.now) 0 (map rule_of bases.now)) }
+/// conjunct that is a literal.
+pub fn closed_entries(alloc: Global, bases: &[Rule]) -> Result<Entries, AllocError>
+    ensures { IfOk result (λ entries. map entry_of entries ≡ closed_entries (map rule_of bases.now)) }
 {
     let mut entries = Items::new(alloc);
-    let mut runs = Items::new(alloc);
     push_bases(bases, &mut entries)?;
-    push_further(alloc, bases, &mut entries, &mut runs)?;
-    Ok((entries, runs))
+    push_further(alloc, bases, &mut entries)?;
+    Ok(entries)
 }
 
 fn push_bases(bases: &[Rule], entries: &mut Entries) -> Result<(), AllocError>
@@ -65,24 +52,12 @@ fn push_bases(bases: &[Rule], entries: &mut Entries) -> Result<(), AllocError>
     Ok(())
 }
 
-fn push_further(
-    alloc: Global,
-    bases: &[Rule],
-    entries: &mut Entries,
-    runs: &mut Runs,
-) -> Result<(), AllocError>
-    ensures entries { OnOk result (map entry_of entries.new
+fn push_further(alloc: Global, bases: &[Rule], entries: &mut Entries) -> Result<(), AllocError>
+    ensures { OnOk result (map entry_of entries.new
         ≡ map entry_of entries.old ++ further_entries 0 (map rule_of bases.now)) }
-    ensures runs { OnOk result (runs.new
-        ≡ runs.old ++ runs_from (length entries.old) 0 (map rule_of bases.now)) }
 {
     for (base, rule) in bases.iter().enumerate() {
-        let start = entries.len();
         push_literals(base, conjuncts(alloc, &rule.body)?.as_slice(), entries)?;
-        runs.push(Run {
-            start,
-            end: entries.len(),
-        })?;
     }
     Ok(())
 }
