@@ -54,7 +54,7 @@ impl Noted {
         }
     }
 
-    /// Notes the change, unless it is known to stand there.
+    /// Notes the change, or passes it over, but only where some change is noted already.
     pub fn add(&mut self, change: Change) -> Result<(), AllocError>
         ensures { OnOk result (IsPushed change self.old.list.items self.new.list.items) }
     {

@@ -129,7 +129,7 @@ impl RuleSet {
         }
     }
 
-    /// Puts those of the rules into the set that see the changes which the head asks for.
+    /// Puts at least those of the rules into the set that see the changes which the head asks for.
     #[tactic(auto, using(crate::proofs::Seeing::least_none, crate::proofs::Seeing::least_next))]
     fn insert_all_seeing(&mut self, closed: &Closed, head: Head, numbers: &[usize])
         requires count { length self.old ≡ length (rules_of closed.now) }
@@ -146,7 +146,7 @@ impl RuleSet {
         }
     }
 
-    /// Puts the rules into the set that see what a rule with this head may change.
+    /// Puts at least the rules into the set that see what a rule with this head may change, and maybe others.
     pub(crate) fn add_watching(&mut self, closed: &Closed, head: Head)
         requires { length self.old ≡ length (rules_of closed.now) }
         ensures { HasAtLeast (IsRuleThat (Sees (head_of head)) (rules_of closed.now)) self.old self.new }
@@ -154,7 +154,7 @@ impl RuleSet {
         self.insert_all_seeing(closed, head, watching(closed, head));
     }
 
-    /// Takes the least number out of the set, if there is one.
+    /// Takes a number out of the set, if there is one.
     pub(crate) fn take(&mut self) -> Option<usize>
         ensures { MatchOption result
             (((n : ℕ) → ¬ IsIn self.old n) × (self.new ≡ self.old))
