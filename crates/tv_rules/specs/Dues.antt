@@ -11,12 +11,12 @@ use Rattle.tv_rules.specs.declared.dues.Part.{Part}
 use Rattle.tv_rules.specs.declared.shapes.Shape.{Shape}
 use Rattle.tv_rules.specs.declared.shapes.Waits.{Waits}
 
--- a conjunct, and how many variables at the end of the rule's list it doesn't wait for
+-- a conjunct, and how many variables at the end of the rule's list it surely doesn't wait for
 pub record DueForm : Type 0 where
   pub form : Form
   pub left : ℕ
 
--- none of the last variables for which the conjunct doesn't wait is free in it
+-- so many of the last variables are surely not free in the conjunct; a smaller number says less
 abbrev pub IsDue : List ℕ → DueForm → Type 0
 IsDue [] d = Unit {0}
 IsDue (v ∷ rest) d = (1 + length rest ≤ d.left → ¬ IsFree v d.form) × IsDue rest d

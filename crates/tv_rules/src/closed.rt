@@ -160,7 +160,8 @@ impl Closed {
         item_at(self.entries.as_slice(), number).head
     }
 
-    /// The variables that are free in a rule, in its body or in its head.
+    /// The variables that are free in a rule, in its body or in its head, each at least once, in an order
+    /// that isn't promised.
     pub fn variables(&self, number: usize) -> &[Var]
         requires { number < length (rules_of self.now) }
         ensures { (rule : RuleForm) → slice_get (rules_of self.now) number ≡ Some rule
@@ -173,7 +174,8 @@ impl Closed {
     }
 
     /// The variables that are free in a rule, and the conjuncts of its body in order and the negation of its
-    /// head, each with how many of the last of these variables it doesn't wait for. Takes no memory.
+    /// head, each with a number of last variables that it surely doesn't wait for, maybe fewer than could be.
+    /// Takes no memory.
     pub fn waits(&self, number: usize) -> Waits<'_>
         requires { number < length (rules_of self.now) }
         ensures { (rule : RuleForm) → slice_get (rules_of self.now) number ≡ Some rule
