@@ -18,12 +18,12 @@ use Rattle.tv_eval.specs.declared.kept.Kept.{Kept}
 use Rattle.tv_eval.specs.HoldsClosure.{HoldsClosure}
 use Rattle.tv_eval.specs.Keeps.{HoldsClosures, StandsAt}
 use Rattle.tv_row.specs.Places.{entry_in}
-use Rattle.tv_eval.specs.Rows.{IsSquare, IsPart, part_at, part_of}
+use Rattle.tv_eval.specs.Along.{IsWordOf}
+use Rattle.tv_eval.specs.Rows.{IsSquare, IsPart, part_at}
 use Rattle.tv_eval.specs.declared.relation.Part.{Part}
 use Rattle.tv_eval.specs.declared.relation.Part.TheVariants.{From, To, Diagonal}
-use Rattle.tv_kleene.specs.declared.K3.TheVariants.{No}
-use Rattle.std.proofs.lemmas.List.FromFn.{fill_by_all, length-map-range_with_len, get_or-map-range_with_len}
 use Rattle.tv_eval.proofs.FreeBelow.{free-below}
+use Rattle.tv_eval.proofs.AlongWords.{same-word}
 use Rattle.tv_eval.proofs.Loops.{closed-value}
 
 -- two assignments agree on the variables that are put
@@ -82,18 +82,15 @@ closed_are_held s a left right f filled closed square fills closes = record {
 }
 
 -- what is read of held edges are the closure's values
-pub part_held : (s : StructureForm) (a : Assignment) (left right : ℕ) (f : Form) (rows : List (List K3)) (n : ℕ)
-    (part : Part)
+pub part_held : (s : StructureForm) (a : Assignment) (left right : ℕ) (f : Form) (rows : List (List K3))
+    (n chunk : ℕ) (part : Part) (word : List K3)
     → n ≡ s.size → IsPart s.size part → HoldsClosure s a left right f rows
-    → part_of n part (entry_in rows)
-    ≡ part_of s.size part (best_walk (λ x y. value (structure_of s) (put (put a left x) right y) f)
-    (range_with_len 0 s.size))
-part_held s a left right f rows n part e is h =
-    ap (λ m. part_of m part (entry_in rows)) e
-    ∙ fill_by_all (part_at part closed) (part_of s.size part (entry_in rows)) s.size No
-    (length-map-range_with_len (part_at part (entry_in rows)) 0 s.size)
-    (λ u lt. get_or-map-range_with_len (part_at part (entry_in rows)) 0 s.size u u No lt (omega arith) ∙ each
-    part is u lt)
+    → IsWordOf n chunk (part_at part (entry_in rows)) word
+    → IsWordOf s.size chunk (part_at part (best_walk (λ x y. value (structure_of s) (put (put a left x) right y) f)
+    (range_with_len 0 s.size))) word
+part_held s a left right f rows n chunk part word e is h read =
+    same-word s.size chunk (part_at part (entry_in rows)) (part_at part closed) word
+    (subst (λ m. IsWordOf m chunk (part_at part (entry_in rows)) word) e read) (each part is)
   where
     closed : ℕ → ℕ → K3
     closed = best_walk (λ x y. value (structure_of s) (put (put a left x) right y) f) (range_with_len 0 s.size)

@@ -1,4 +1,5 @@
 pub mod AlongLaws
+pub mod AlongWords
 pub mod Covers
 pub mod Deepest
 pub mod FreeBelow
@@ -6,5 +7,6 @@ pub mod Keeping
 pub mod Loops
 pub mod Parts
 pub mod Programs
+pub mod Quantifying
 pub mod Rooms
 pub mod RowLaws

@@ -2,6 +2,7 @@
 use Rattle.std.proofs.Common.{ℕ, ◌≡◌, ◌<◌, ◌≤◌, ◌+◌, ◌-◌, ◌≢◌, ◌⊎◌, inl, inr, ⊎_elim, List, refl, sym, ap}
 use Rattle.std.proofs.Common.{subst, ◌∙◌, arith}
 use Rattle.std.specs.List.{range_with_len}
+use Rattle.std.specs.Prelude.{Bool, true, false, MatchBool}
 use Rattle.std.proofs.lemmas.List.FromFn.{length-range_with_len, get_or-range_with_len}
 use Rattle.std.proofs.lemmas.Bool.{cases_eq}
 use Rattle.tv_kleene.specs.declared.K3.{K3}
@@ -10,7 +11,12 @@ use Rattle.tv_kleene.specs.Kleene.{smaller_of, larger_of}
 use Rattle.tv_eval_laws.specs.Value.{greatest_of, least_of, best_walk}
 use Rattle.tv_eval.proofs.RowLaws.{range-front, best-agrees}
 
-larger-assoc : (x y z : K3) → larger_of (larger_of x y) z ≡ larger_of x (larger_of y z)
+-- what a comparison told
+pub told-equal : (x y : K3) (b : Bool) → MatchBool b (x ≡ y) (x ≢ y) → b ≡ true → x ≡ y
+told-equal x y true same e = same
+told-equal x y false same e = cc
+
+pub larger-assoc : (x y z : K3) → larger_of (larger_of x y) z ≡ larger_of x (larger_of y z)
 larger-assoc No y z = refl
 larger-assoc Yes y z = refl
 larger-assoc Half No z = refl
@@ -18,15 +24,6 @@ larger-assoc Half Half No = refl
 larger-assoc Half Half Half = refl
 larger-assoc Half Half Yes = refl
 larger-assoc Half Yes z = refl
-
-smaller-assoc : (x y z : K3) → smaller_of (smaller_of x y) z ≡ smaller_of x (smaller_of y z)
-smaller-assoc No y z = refl
-smaller-assoc Yes y z = refl
-smaller-assoc Half No z = refl
-smaller-assoc Half Half No = refl
-smaller-assoc Half Half Half = refl
-smaller-assoc Half Half Yes = refl
-smaller-assoc Half Yes z = refl
 
 -- the greatest value, of which the values below u are found, with one more found
 pub greatest-next : (g : ℕ → K3) (n u : ℕ) (found next whole : K3) → u < n
@@ -39,22 +36,7 @@ greatest-next g n u found next whole lt before is =
     ∙ ap (λ us. larger_of found (greatest_of g us)) (sym (range-front u n lt))
     ∙ before)
 
-pub least-next : (g : ℕ → K3) (n u : ℕ) (found next whole : K3) → u < n
-    → smaller_of found (least_of g (range_with_len u (n - u))) ≡ whole
-    → next ≡ smaller_of found (g u)
-    → smaller_of next (least_of g (range_with_len (u + 1) (n - (u + 1)))) ≡ whole
-least-next g n u found next whole lt before is =
-    rw is
-    (smaller-assoc found (g u) (least_of g (range_with_len (u + 1) (n - (u + 1))))
-    ∙ ap (λ us. smaller_of found (least_of g us)) (sym (range-front u n lt))
-    ∙ before)
-
-smaller-Yes : (x : K3) → smaller_of x Yes ≡ x
-smaller-Yes No = refl
-smaller-Yes Half = refl
-smaller-Yes Yes = refl
-
-larger-none : (x : K3) → larger_of x No ≡ x
+pub larger-none : (x : K3) → larger_of x No ≡ x
 larger-none No = refl
 larger-none Half = refl
 larger-none Yes = refl
@@ -67,24 +49,11 @@ greatest-end g n u found whole le before =
     in let At : ℕ → Type 0 = λ k. larger_of found (greatest_of g (range_with_len u k)) ≡ whole
     in sym (larger-none found) ∙ subst At none before
 
-pub least-end : (g : ℕ → K3) (n u : ℕ) (found whole : K3) → n ≤ u
-    → smaller_of found (least_of g (range_with_len u (n - u))) ≡ whole → found ≡ whole
-least-end g n u found whole le before =
-    let none : n - u ≡ 0 = omega arith
-    in let At : ℕ → Type 0 = λ k. smaller_of found (least_of g (range_with_len u k)) ≡ whole
-    in sym (smaller-Yes found) ∙ subst At none before
-
--- Yes is the greatest, and No the least
+-- Yes is the greatest
 pub greatest-yes : (g : ℕ → K3) (us : List ℕ) (next whole : K3) → larger_of next (greatest_of g us) ≡ whole →
     next ≡ Yes → next ≡ whole
 greatest-yes g us next whole before is =
     let At : K3 → Type 0 = λ k. larger_of k (greatest_of g us) ≡ whole
-    in is ∙ subst At is before
-
-pub least-no : (g : ℕ → K3) (us : List ℕ) (next whole : K3) → smaller_of next (least_of g us) ≡ whole → next ≡
-    No → next ≡ whole
-least-no g us next whole before is =
-    let At : K3 → Type 0 = λ k. smaller_of k (least_of g us) ≡ whole
     in is ∙ subst At is before
 
 -- a row with one more edge

@@ -263,6 +263,15 @@ row-put s a b sizes v w x f h lt put = record {
   rooms = h.rooms;
 }
 
+-- a formula that the variable isn't free in
+pub row-steady : (s : StructureForm) (a : List (Option ℕ)) (sizes : List ℕ) (v : ℕ) (f : Form)
+    → CanEvaluate s a sizes (FExists v f) → (¬ IsFree v f) → CanEvaluate s a sizes f
+row-steady s a sizes v f h steady = record {
+  formula = h.formula.1;
+  assigned = λ w free. h.assigned w (λ e. steady (subst (λ n. IsFree n f) e free), free);
+  rooms = h.rooms;
+}
+
 -- what a closure's body needs where its edges don't depend on the variable
 pub row-close : (s : StructureForm) (a : List (Option ℕ)) (sizes : List ℕ) (v from to left right : ℕ) (f : Form)
     → CanEvaluate s a sizes (FExists v (FClosure from to left right f)) → (¬ ((v ≢ left) × (v ≢ right) × IsFree v f))

@@ -6,6 +6,7 @@ pub mod Formulas
 pub mod HoldsClosure
 pub mod Keeps
 pub mod Laws
+pub mod Quantified
 pub mod ScratchForm
 pub mod Sound
 pub mod Rows

@@ -1,6 +1,5 @@
 -- Relations of individuals with three truth values, as rows of a square.
-use Rattle.std.specs.Prelude.{ℕ, ◌≡◌, ◌<◌, ◌≤◌, List, [], length, map, slice_index_or}
-use Rattle.std.specs.List.{range_with_len}
+use Rattle.std.specs.Prelude.{ℕ, ◌≡◌, ◌<◌, ◌≤◌, List, [], length, slice_index_or}
 use Rattle.tv_kleene.specs.declared.K3.{K3}
 use Rattle.tv_kleene.specs.Kleene.{smaller_of, larger_of}
 use Rattle.tv_eval.specs.declared.relation.Part.{Part}
@@ -26,7 +25,3 @@ abbrev pub part_at : Part → (edge : ℕ → ℕ → K3) → ℕ → K3
 part_at (From u) edge x = edge u x
 part_at (To w) edge x = edge x w
 part_at Diagonal edge x = edge x x
-
--- the part's values among the first n individuals
-abbrev pub part_of : (n : ℕ) → Part → (edge : ℕ → ℕ → K3) → List K3
-part_of n part edge = map (part_at part edge) (range_with_len 0 n)

@@ -1,7 +1,9 @@
 //! An evaluator that is bound to one structure.
 
-ghost use Rattle.std.specs.Prelude.{◌≡◌, ◌≤◌};
+ghost use Rattle.std.specs.Prelude.{ℕ, ◌≡◌, ◌<◌, ◌≤◌, length, slice_index_or};
+ghost use Rattle.tv_kleene.specs.declared.K3.TheVariants.{No};
 ghost use Rattle.tv_model.specs.Form.{form_of, FExists};
+ghost use Rattle.tv_model.specs.Truth.{put};
 ghost use Rattle.tv_model.specs.Valid.{IsFormulaOver};
 ghost use Rattle.tv_struct.specs.StructureForm.{structure_of, arities_of};
 ghost use Rattle.tv_eval_laws.specs.Value.{value};
@@ -16,10 +18,10 @@ use crate::Assignment;
 use crate::kept::Kept;
 use crate::relation::Relation;
 use crate::scratch::Scratch;
-use crate::values::{row_of, value_of};
+use crate::values::{row_of, value_of, word_of};
 use tv_kleene::K3;
 use tv_model::{Formula, Var};
-use tv_row::Row;
+use tv_row::{Row, Word};
 use tv_struct::Structure;
 
 /// An evaluator that is bound to one structure: a closure that depends on the structure alone is closed
@@ -104,6 +106,37 @@ impl<'a> Evaluator<'a> {
         row_of(
             f,
             v,
+            self.structure,
+            a,
+            self.rooms.as_mut_slice(),
+            &mut self.kept,
+            self.shared.as_mut_slice(),
+        )
+    }
+
+    /// The values of the formula for all individuals of a structure of at most 64, put for the variable in
+    /// turn, whatever it stood for: the word's first. Each is exactly the value under that assignment; what
+    /// stands behind the last isn't told. Takes no memory.
+    pub fn word(&mut self, f: &'a Formula, v: Var, a: &Assignment) -> Word
+        requires bound { IsBound self.old }
+        requires formula { IsFormulaOver (arities_of (bound_structure self.old))
+            (FExists v.0 (form_of f.now)) }
+        requires assigned { AreAssigned (bound_structure self.old).size a.now (FExists v.0 (form_of f.now)) }
+        requires fits { HasScratchFor (bound_room self.old) (form_of f.now) (bound_structure self.old).size }
+        requires some { 0 < (bound_structure self.old).size }
+        requires few { (bound_structure self.old).size ≤ 64 }
+        ensures exact { (u : ℕ) → u < (bound_structure self.old).size → slice_index_or result u No
+            ≡ value (structure_of (bound_structure self.old)) (put (assignment_of a.now) v.0 u)
+            (form_of f.now) }
+        ensures long { length result ≡ 64 }
+        ensures bound { IsBound self.new }
+        ensures structure { bound_structure self.new ≡ bound_structure self.old }
+        ensures room { bound_room self.new ≡ bound_room self.old }
+    {
+        word_of(
+            f,
+            v,
+            0,
             self.structure,
             a,
             self.rooms.as_mut_slice(),

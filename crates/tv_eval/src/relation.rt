@@ -1,15 +1,17 @@
 //! A relation of individuals with three truth values, and its transitive closure.
 
-ghost use Rattle.std.specs.Prelude.{ℕ, ◌≡◌, ◌≢◌, ◌<◌, ◌≤◌, [], length, map, IfOk, slice_index_or, slice_set};
+ghost use Rattle.std.specs.Prelude.{ℕ, ◌≡◌, ◌≢◌, ◌<◌, ◌≤◌, ◌*◌, [], length, IfOk, slice_index_or, slice_set};
 ghost use Rattle.std.specs.List.{range_with_len};
 ghost use Rattle.tv_row.specs.Places.{entry_in};
 ghost use Rattle.tv_eval_laws.specs.Value.{best_walk};
-ghost use Rattle.tv_eval.specs.Rows.{IsSquare, IsPart, through, part_of};
+ghost use Rattle.tv_eval.specs.Along.{IsWordOf};
+ghost use Rattle.tv_eval.specs.Rows.{IsSquare, IsPart, through, part_at};
 
+use crate::leaf_words::places;
 use std::alloc::{AllocError, Global};
 use std::marker::Model;
 use tv_kleene::K3;
-use tv_row::Row;
+use tv_row::{Row, Word};
 
 /// A row of values for each of some individuals: those of the pairs that it is the first of.
 #[derive(Debug, Drop)]
@@ -79,43 +81,38 @@ impl Relation {
         row.get(w)
     }
 
-    /// The part's values among the first `size` individuals.
-    pub fn part(&self, part: Part, size: u32) -> Row
+    /// The part's values among the first `size` individuals, from `64 * chunk` on: 64, or as many as there
+    /// are.
+    pub fn part(&self, part: Part, chunk: u32, size: u32) -> Word
         requires square { IsSquare size self.now }
         requires size { size ≤ 256 }
         requires part { IsPart size part }
-        ensures { result ≡ part_of size part (entry_in self.now) }
+        requires chunk { 64 * chunk < size }
+        ensures { IsWordOf size chunk (part_at part (entry_in self.now)) result }
+    {
+        if let Part::From(u) = part {
+            let row = &self.rows[u as usize];
+            return row.word(chunk);
+        }
+        let mut values = Word::of(64, K3::No);
+        for i in 0..places(size, chunk) {
+            values = values.with(i, self.part_value(part, 64 * chunk + i, size));
+        }
+        values
+    }
+
+    /// The part's value at the individual `x`.
+    fn part_value(&self, part: Part, x: u32, size: u32) -> K3
+        requires square { IsSquare size self.now }
+        requires part { IsPart size part }
+        requires individual { x < size }
+        ensures { result ≡ part_at part (entry_in self.now) x }
     {
         match part {
-            Part::From(u) => self.row(u),
-            Part::To(w) => self.column(w, size),
-            Part::Diagonal => self.diagonal(size),
+            Part::From(u) => self.get(u, x),
+            Part::To(w) => self.get(x, w),
+            Part::Diagonal => self.get(x, x),
         }
-    }
-
-    fn column(&self, w: u32, size: u32) -> Row
-        requires square { IsSquare size self.now }
-        requires size { size ≤ 256 }
-        requires to { w < size }
-        ensures { result ≡ map (λ u. entry_in self.now u w) (range_with_len 0 size) }
-    {
-        let mut values = Row::of(size, K3::No);
-        for u in 0..size {
-            values.set(u, self.get(u, w));
-        }
-        values
-    }
-
-    fn diagonal(&self, size: u32) -> Row
-        requires square { IsSquare size self.now }
-        requires size { size ≤ 256 }
-        ensures { result ≡ map (λ u. entry_in self.now u u) (range_with_len 0 size) }
-    {
-        let mut values = Row::of(size, K3::No);
-        for u in 0..size {
-            values.set(u, self.get(u, u));
-        }
-        values
     }
 
     /// Makes each value of the first `size` individuals that of a best walk past them: the greatest,

@@ -1,124 +1,64 @@
 -- The values of the parts make up the value of the whole.
-use Rattle.std.proofs.Common.{rules, ℕ, ◌≡◌, ◌<◌, ◌+◌, ◌-◌, ◌∙◌, inl, inr, [], length, map, get_or, All, refl}
+use Rattle.std.proofs.Common.{rules, List, ⊎_elim, ℕ, ◌≡◌, ◌<◌, ◌+◌, ◌-◌, ◌*◌, ◌∙◌, inl, inr, [], length, map, min, get_or}
+use Rattle.std.proofs.Common.{refl}
 use Rattle.std.proofs.Common.{sym, ap, subst, arith}
 use Rattle.std.specs.List.{range_with_len}
-use Rattle.std.proofs.lemmas.List.{length-replicate, get_or-replicate, length-map}
-use Rattle.std.proofs.lemmas.List.FromFn.{length-map-range_with_len}
+use Rattle.std.specs.Prelude.{true, false}
 use Rattle.tv_kleene.specs.declared.K3.{K3}
 use Rattle.tv_kleene.specs.declared.K3.TheVariants.{No, Yes}
 use Rattle.tv_kleene.specs.Kleene.{smaller_of, larger_of, negation_of}
 use Rattle.tv_model.specs.Form.{Form, FExists, FClosure, form_of}
 use Rattle.tv_model.specs.Truth.{put}
-use Rattle.tv_row.specs.Bits.{greatest_in, least_in}
 use Rattle.tv_row.specs.Places.{entry_in}
 use Rattle.tv_struct.specs.StructureForm.{structure_of}
-use Rattle.tv_eval_laws.specs.Value.{value, greatest_of, least_of, best_walk}
-use Rattle.tv_eval.specs.Along.{values_along}
+use Rattle.tv_eval_laws.specs.Value.{value, greatest_of, best_walk}
+use Rattle.tv_eval.specs.Along.{IsWordOf, values_along}
 use Rattle.tv_eval.specs.AssignmentForm.{assignment_of}
 use Rattle.tv_eval.specs.CanEvaluate.{CanEvaluate}
 use Rattle.tv_eval.specs.Formulas.{sizes_of, nesting}
 use Rattle.tv_eval.specs.HoldsClosure.{HoldsClosure}
+use Rattle.tv_eval.specs.Quantified.{quantified, turned}
 use Rattle.tv_eval.specs.Rows.{IsSquare, part_at}
 use Rattle.tv_eval.specs.declared.relation.Part.TheVariants.{From, To, Diagonal}
-use Rattle.tv_eval.proofs.AlongLaws.{paired-map, mapped-map, greatest-map, least-map, copies-map, same-map}
-use Rattle.tv_eval.proofs.AlongLaws.{all_set, none-both, all-either, all-then, none-then, alike-map}
-use Rattle.tv_eval.proofs.AlongLaws.{choice-map, joined-next, set_next, rows_put, read_from, paired_long}
-use Rattle.tv_eval.proofs.AlongLaws.{put_same, put_other, puts_commute, closure_at}
+use Rattle.tv_eval.proofs.AlongLaws.{rows_put, put_same, put_other, put_steady, puts_commute, closure_at}
+use Rattle.tv_eval.proofs.AlongWords.{JoinedTo, same-word, of-paired, of-mapped, mapped-word, filled-none}
+use Rattle.tv_eval.proofs.AlongWords.{filled-next, filled-all, both-none, either-all, then-all, then-none}
+use Rattle.tv_eval.proofs.AlongWords.{joined-none, joined-next, joined-all, joined-yes, greatest-chunk}
+use Rattle.tv_eval.proofs.AlongWords.{greatest-chunks, word-reads, words-none, words-next, words-all}
 use Rattle.tv_eval.proofs.Keeping.{closed_are_held, part_held}
-use Rattle.tv_eval.proofs.Loops.{greatest-next, least-next, greatest-end, least-end}
+use Rattle.tv_eval.proofs.Loops.{greatest-yes, told-equal}
 use Rattle.tv_eval.proofs.Parts.{individual_of, rooms-split, SplitsRooms, can-put, like-itself, like-again}
-use Rattle.tv_eval.proofs.Parts.{put-again, total-again, row-and, row-or, row-iff, row-cond, row-put}
+use Rattle.tv_eval.proofs.Parts.{put-again, total-again, row-and, row-or, row-iff, row-cond, row-put, row-steady}
+use Rattle.tv_eval.proofs.Quantifying.{quantified-value}
 use Rattle.tv_eval.proofs.values.+values.Goals as goal
 
 pub value_of-returns-in-Exists-clause-exact : goal.value_of-returns-in-Exists-clause-exact
 value_of-returns-in-Exists-clause-exact t c =
-    rw (c.in-Exists.is, ← c.deref-in-Exists.ensures) c.some.ensures.exact
-
-pub some-returns-clause-exact : goal.some-returns-clause-exact
-some-returns-clause-exact t c =
-    c.greatest.ensures ∙ ap greatest_in c.row_of.ensures.exact ∙ greatest-map _ (range_with_len 0 c.args.s.now.size)
+    rw (c.in-Exists.is, ← c.deref-in-Exists.ensures) c.quantify.ensures.exact
 
 pub value_of-returns-in-Forall-clause-exact : goal.value_of-returns-in-Forall-clause-exact
 value_of-returns-in-Forall-clause-exact t c =
-    rw (c.in-Forall.is, ← c.deref-in-Forall.ensures) c.every.ensures.exact
-
-pub every-returns-clause-exact : goal.every-returns-clause-exact
-every-returns-clause-exact t c =
-    c.least.ensures ∙ ap least_in c.row_of.ensures.exact ∙ least-map _ (range_with_len 0 c.args.s.now.size)
+    rw (c.in-Forall.is, ← c.deref-in-Forall.ensures) c.quantify-in-Forall.ensures.exact
 
 pub value_of-returns-in-Closure-clause-exact : goal.value_of-returns-in-Closure-clause-exact
 value_of-returns-in-Closure-clause-exact t c =
     rw (c.in-Closure.is, ← c.deref-in-Closure.ensures) c.closure.ensures.exact
 
-pub closure-get-requires : goal.closure-get-requires
-closure-get-requires t c =
-    omega (
-      arith,
-      c.at-2.ensures,
-      (individual_of c.args.s.now.size c.args.a.now c.args.to.0
-          (c.requires.parts.assigned c.args.to.0 (inr (inl refl)))),
-      ap length c.closed_part-row.ensures.exact,
-      length-map-range_with_len,
-    )
-
 pub closure-returns-clause-exact : goal.closure-returns-clause-exact
 closure-returns-clause-exact t c =
-    read_from c.args.s.now.size (best_walk (λ x y. value (structure_of c.args.s.now)
+    let edge : ℕ → ℕ → K3 = (best_walk (λ x y. value (structure_of c.args.s.now)
     (put (put (assignment_of c.args.a.now) c.args.edges.left.0 x) c.args.edges.right.0 y)
-    (form_of c.args.edges.body.now)) (range_with_len 0 c.args.s.now.size)) c.closed_part-row.result
-    (assignment_of c.args.a.now c.args.from.0) c.at.result c.at-2.result
-    (assignment_of c.args.a.now c.args.to.0) c.get.result
-    c.closed_part-row.ensures.exact c.at.ensures c.get.ensures c.at-2.ensures
-    (individual_of c.args.s.now.size c.args.a.now c.args.to.0
-    (c.requires.parts.assigned c.args.to.0 (inr (inl refl))))
-
-pub close_part-fill-requires : goal.close_part-fill-requires
-close_part-fill-requires t c =
-    let body : Form = form_of c.args.edges.body.now
-    in let parts : SplitsRooms c.args.s.now.size (nesting body) c.split_at_mut-own.result.0.now
-    c.split_at_mut-own.result.1.now =
-    rooms-split c.args.s.now.size (nesting body) c.args.rooms.now c.split_at_mut-own.result.0.now
-    c.split_at_mut-own.result.1.now c.split_at_mut-own.ensures.value c.split_at_mut-own.ensures.front_len
-    c.requires.room
-    in (
-      search rules,
-      (
-        record { formula = c.requires.body.formula; assigned = c.requires.body.assigned; rooms = parts.behind },
-        (parts.first _, c.requires.kept),
-      ),
-    )
-
-pub close_part-returns-clause-exact : goal.close_part-returns-clause-exact
-close_part-returns-clause-exact t c =
-    let n : ℕ = c.args.s.now.size
-    in let body : Form = form_of c.args.edges.body.now
-    in let Closed : ℕ → Type 0 = λ k. (x y : ℕ) → x < k → y < k
-    → entry_in c.close.new.self x y ≡ best_walk (entry_in c.fill.new.relation) (range_with_len 0 k) x y
-    in let held : HoldsClosure c.args.s.now (assignment_of c.args.a.now) c.args.edges.left.0
-    c.args.edges.right.0 body c.close.new.self =
-    closed_are_held c.args.s.now (assignment_of c.args.a.now) c.args.edges.left.0 c.args.edges.right.0 body
-    c.fill.new.relation c.close.new.self
-    (subst (λ k. IsSquare k c.close.new.self) c.size.ensures.size c.close.ensures.square) c.fill.ensures.edges
-    (subst Closed c.size.ensures.size c.close.ensures.closed)
-    in c.part-values.ensures
-    ∙ part_held c.args.s.now (assignment_of c.args.a.now) c.args.edges.left.0 c.args.edges.right.0 body
-    c.close.new.self c.size-2.result c.args.part
-    c.size-2.ensures.size c.requires.part held
-
-pub close_part-returns-clause-kept : goal.close_part-returns-clause-kept
-close_part-returns-clause-kept t c =
-    let n : ℕ = c.args.s.now.size
-    in let body : Form = form_of c.args.edges.body.now
-    in let Closed : ℕ → Type 0 = λ k. (x y : ℕ) → x < k → y < k
-    → entry_in c.close.new.self x y ≡ best_walk (entry_in c.fill.new.relation) (range_with_len 0 k) x y
-    in let held : HoldsClosure c.args.s.now (assignment_of c.args.a.now) c.args.edges.left.0
-    c.args.edges.right.0 body c.close.new.self =
-    closed_are_held c.args.s.now (assignment_of c.args.a.now) c.args.edges.left.0 c.args.edges.right.0 body
-    c.fill.new.relation c.close.new.self
-    (subst (λ k. IsSquare k c.close.new.self) c.size.ensures.size c.close.ensures.square) c.fill.ensures.edges
-    (subst Closed c.size.ensures.size c.close.ensures.closed)
-    in c.offer.ensures.kept c.args.s.now (assignment_of c.args.a.now) c.fill.ensures.kept
-    c.requires.body.formula.1.1 held
+    (form_of c.args.edges.body.now)) (range_with_len 0 c.args.s.now.size))
+    in word-reads c.args.s.now.size c.at-to.result (part_at (From c.at.result) edge) c.closed_part-word.result
+    c.get.result c.closed_part-word.ensures.exact c.get.ensures
+    (omega (
+      arith,
+      c.at-to.ensures,
+      individual_of c.args.s.now.size c.args.a.now c.args.to.0
+          (c.requires.parts.assigned c.args.to.0 (inr (inl refl))),
+    ))
+    ∙ ap (λ x. edge x c.at-to.result) c.at.ensures
+    ∙ ap (edge (assignment_of c.args.a.now c.args.from.0)) c.at-to.ensures
 
 pub fill-loop-u-init : goal.fill-loop-u-init
 fill-loop-u-init t c = (
@@ -169,496 +109,600 @@ fill-loop-u-preserved t c =
           c.set.ensures.places,
     )
 
-pub row_of-returns-in-Zero-clause-exact : goal.row_of-returns-in-Zero-clause-exact
-row_of-returns-in-Zero-clause-exact t c =
-    rw (c.in-Zero.is) (c.constant_row.ensures ∙ copies-map c.args.s.now.size No (λ u. No) (λ u. refl))
+pub row_of-loop-chunk-init : goal.row_of-loop-chunk-init
+row_of-loop-chunk-init t c = (
+  refl,
+  c.requires.kept,
+  words-none c.args.s.now.size c.size.result (λ u. value (structure_of c.args.s.now) (put (assignment_of c.args.a.now) c.args.v.0 u)
+      (form_of c.args.f.now))
+      c.of-values.result c.of-values.ensures c.size.ensures.size,
+)
 
-pub row_of-returns-in-One-clause-exact : goal.row_of-returns-in-One-clause-exact
-row_of-returns-in-One-clause-exact t c =
-    rw (c.in-One.is) (c.constant_row-in-One.ensures ∙ copies-map c.args.s.now.size Yes (λ u. Yes) (λ u. refl))
-
-pub row_of-returns-in-Not-clause-exact : goal.row_of-returns-in-Not-clause-exact
-row_of-returns-in-Not-clause-exact t c =
-    rw (c.in-Not.is, ← c.deref.ensures) c.rows_not.ensures.exact
-
-pub rows_not-row_of-requires : goal.rows_not-row_of-requires
-rows_not-row_of-requires t c = (
+pub row_of-word_of-word-requires : goal.row_of-word_of-word-requires
+row_of-word_of-word-requires t c = (
   search rules,
   (
-    record {
-      formula = c.requires.parts.formula;
-      assigned = c.requires.parts.assigned;
-      rooms = c.requires.parts.rooms;
-    },
-    c.requires.kept,
+    subst (λ sizes. CanEvaluate c.args.s.now c.args.a.now sizes
+        (FExists c.args.v.0 (form_of c.args.f.now))) (sym c.loop-chunk.invariant.0) c.requires.parts,
+    (omega (arith, c.chunks-chunk-end.ensures.each c.loop-chunk.chunk (omega arith), c.size-2.ensures.size), c.loop-chunk.invariant.1),
   ),
 )
 
-pub rows_not-returns-clause-exact : goal.rows_not-returns-clause-exact
-rows_not-returns-clause-exact t c =
-    c.not.ensures ∙ ap (map negation_of) c.row_of.ensures.exact ∙ mapped-map negation_of _
-    (range_with_len 0 c.args.s.now.size)
+pub row_of-loop-chunk-preserved : goal.row_of-loop-chunk-preserved
+row_of-loop-chunk-preserved t c = (
+  c.word_of-word.ensures.rooms ∙ c.loop-chunk.invariant.0,
+  c.word_of-word.ensures.kept,
+  words-next c.args.s.now.size c.loop-chunk.chunk (λ u. value (structure_of c.args.s.now) (put (assignment_of c.args.a.now) c.args.v.0 u)
+      (form_of c.args.f.now))
+      c.loop-chunk.values c.put_word.new.self c.word_of-word.result c.loop-chunk.invariant.2
+      c.word_of-word.ensures.exact c.put_word.ensures.size c.put_word.ensures.values c.put_word.ensures.others,
+)
 
-pub by_values-loop-u-init : goal.by_values-loop-u-init
-by_values-loop-u-init t c = (
+pub row_of-returns-clause-exact : goal.row_of-returns-clause-exact
+row_of-returns-clause-exact t c =
+    words-all c.args.s.now.size c.loop-chunk.chunk (λ u. value (structure_of c.args.s.now) (put (assignment_of c.args.a.now) c.args.v.0 u)
+    (form_of c.args.f.now))
+    c.loop-chunk.values c.loop-chunk.invariant.2 (omega (arith, c.chunks-chunk-end.ensures.all))
+
+pub word_of-returns-in-Zero-clause-exact : goal.word_of-returns-in-Zero-clause-exact
+word_of-returns-in-Zero-clause-exact t c =
+    rw c.in-Zero.is (c.constant_word.ensures c.args.s.now.size c.args.chunk)
+
+pub word_of-returns-in-One-clause-exact : goal.word_of-returns-in-One-clause-exact
+word_of-returns-in-One-clause-exact t c =
+    rw c.in-One.is (c.constant_word-in-One.ensures c.args.s.now.size c.args.chunk)
+
+pub word_of-returns-in-Not-clause-exact : goal.word_of-returns-in-Not-clause-exact
+word_of-returns-in-Not-clause-exact t c =
+    rw (c.in-Not.is, ← c.deref.ensures)
+    (of-mapped c.args.s.now.size c.args.chunk c.places.result negation_of
+    (λ u. value (structure_of c.args.s.now) (put (assignment_of c.args.a.now) c.args.v.0 u)
+    (form_of c.deref.result.now))
+    c.word_of.result c.not.result c.word_of.ensures.exact (c.places.ensures.value ∙ (rw c.size.ensures.size refl))
+    c.not.ensures)
+
+pub by_values-loop-i-init : goal.by_values-loop-i-init
+by_values-loop-i-init t c = (
   refl,
   c.requires.kept,
-  ap length c.of-values.ensures ∙ length-replicate c.size.result No ∙ c.size.ensures.size,
-  λ x lt. absurd (omega arith),
+  filled-none c.args.chunk (λ u. value (structure_of c.args.s.now) (put (assignment_of c.args.a.now) c.args.v.0 u)
+      (form_of c.args.f.now))
+      c.of-values.result c.of-values.ensures,
   like-itself c.args.a.now c.args.v.0,
 )
 
-pub by_values-value_of-requires : goal.by_values-value_of-requires
-by_values-value_of-requires t c = (
+pub by_values-value_of-requires-in-loop-i : goal.by_values-value_of-requires-in-loop-i
+by_values-value_of-requires-in-loop-i t c = (
   search rules,
   (
-    subst (λ sizes. CanEvaluate c.args.s.now c.set.new.self sizes (form_of c.args.f.now)) (sym c.loop-u.invariant.0)
-        (can-put c.args.s.now c.args.a.now c.set.new.self (sizes_of c.args.rooms.now) c.args.v.0 c.loop-u.u
-        (form_of c.args.f.now) c.requires.parts (omega arith)
-        (put-again c.args.a.now c.loop-u.here c.set.new.self c.args.v.0 c.loop-u.u c.loop-u.invariant.4
-        c.set.ensures.places)),
-    c.loop-u.invariant.1,
+    subst (λ sizes. CanEvaluate c.args.s.now c.set.new.self sizes (form_of c.args.f.now))
+        (sym c.loop-i.invariant.0)
+        (can-put c.args.s.now c.args.a.now c.set.new.self (sizes_of c.args.rooms.now) c.args.v.0
+        (64 * c.args.chunk + c.loop-i.i) (form_of c.args.f.now) c.requires.parts
+        (omega (arith, c.places-i-end.ensures.value, c.size.ensures.size))
+        (put-again c.args.a.now c.loop-i.here c.set.new.self c.args.v.0 (64 * c.args.chunk + c.loop-i.i)
+        c.loop-i.invariant.3 c.set.ensures.places)),
+    c.loop-i.invariant.1,
   ),
 )
 
-pub by_values-loop-u-preserved : goal.by_values-loop-u-preserved
-by_values-loop-u-preserved t c =
-    let g : ℕ → K3 = λ u. value (structure_of c.args.s.now) (put (assignment_of c.args.a.now) c.args.v.0 u)
-    (form_of c.args.f.now)
-    in let next : (length c.set-in-loop-u.new.self ≡ c.args.s.now.size)
-    × ((x : ℕ) → x < c.loop-u.u + 1 → get_or c.set-in-loop-u.new.self x No ≡ g x) =
-    set_next c.loop-u.values c.set-in-loop-u.new.self c.args.s.now.size c.loop-u.u c.value_of.result g
-    c.loop-u.invariant.2 (omega arith) c.loop-u.invariant.3 c.set-in-loop-u.ensures
-    (c.value_of.ensures.exact
-    ∙ ap (λ b. value (structure_of c.args.s.now) b (form_of c.args.f.now))
-    (total-again c.args.a.now c.loop-u.here c.set.new.self c.args.v.0 c.loop-u.u c.loop-u.invariant.4
-    c.set.ensures.places))
+pub by_values-loop-i-preserved : goal.by_values-loop-i-preserved
+by_values-loop-i-preserved t c =
+    let u : ℕ = 64 * c.args.chunk + c.loop-i.i
     in (
-      c.value_of.ensures.rooms ∙ c.loop-u.invariant.0,
-      c.value_of.ensures.kept,
-      next.0,
-      next.1,
-      like-again c.args.a.now c.loop-u.here c.set.new.self c.args.v.0 c.loop-u.u c.loop-u.invariant.4
+      c.value_of-in-loop-i.ensures.rooms ∙ c.loop-i.invariant.0,
+      c.value_of-in-loop-i.ensures.kept,
+      filled-next c.args.chunk c.loop-i.i (λ u. value (structure_of c.args.s.now) (put (assignment_of c.args.a.now) c.args.v.0 u)
+          (form_of c.args.f.now))
+          c.loop-i.values c.with-values.result c.value_of-in-loop-i.result c.loop-i.invariant.2
+          (omega (arith, c.places-i-end.ensures.small)) c.with-values.ensures
+          (c.value_of-in-loop-i.ensures.exact
+          ∙ ap (λ b. value (structure_of c.args.s.now) b (form_of c.args.f.now))
+          (total-again c.args.a.now c.loop-i.here c.set.new.self c.args.v.0 u c.loop-i.invariant.3
+          c.set.ensures.places)),
+      like-again c.args.a.now c.loop-i.here c.set.new.self c.args.v.0 u c.loop-i.invariant.3
           c.set.ensures.places,
     )
 
 pub by_values-returns-clause-exact : goal.by_values-returns-clause-exact
 by_values-returns-clause-exact t c =
-    all_set c.loop-u.values c.args.s.now.size c.loop-u.u
+    filled-all c.args.s.now.size c.args.chunk c.loop-i.i c.places-i-end.result (λ u. value (structure_of c.args.s.now) (put (assignment_of c.args.a.now) c.args.v.0 u)
+    (form_of c.args.f.now))
+    c.loop-i.values c.loop-i.invariant.2 (c.places-i-end.ensures.value ∙ (rw c.size.ensures.size refl)) (omega arith)
+
+pub words_both-returns-then-eq-clause-exact : goal.words_both-returns-then-eq-clause-exact
+words_both-returns-then-eq-clause-exact t c =
+    both-none c.args.s.now.size c.args.chunk (λ u. value (structure_of c.args.s.now) (put (assignment_of c.args.a.now) c.args.v.0 u)
+    (form_of c.args.g.now))
+    c.word_of-first.result c.word_of-first.ensures.exact
     (λ u. value (structure_of c.args.s.now) (put (assignment_of c.args.a.now) c.args.v.0 u)
-    (form_of c.args.f.now)) c.loop-u.invariant.2 (omega arith) c.loop-u.invariant.3
+    (form_of c.args.h.now))
+    (sym c.greatest.ensures ∙ told-equal c.greatest.result No c.eq.result c.eq.ensures.same c.if-eq.true)
 
-pub rows_both-returns-then-are_no-clause-exact : goal.rows_both-returns-then-are_no-clause-exact
-rows_both-returns-then-are_no-clause-exact t c =
-    c.row_of-first.ensures.exact
-    ∙ none-both (λ u. value (structure_of c.args.s.now) (put (assignment_of c.args.a.now) c.args.v.0 u)
-    (form_of c.args.g.now)) (λ u. value (structure_of c.args.s.now)
-    (put (assignment_of c.args.a.now) c.args.v.0 u) (form_of c.args.h.now)) (range_with_len 0 c.args.s.now.size)
-    (subst (All (λ x. x ≡ No)) c.row_of-first.ensures.exact (c.are_no.ensures.0 c.if-are_no.true))
-
-pub rows_both-row_of-second-requires : goal.rows_both-row_of-second-requires
-rows_both-row_of-second-requires t c = (
+pub words_both-word_of-second-requires : goal.words_both-word_of-second-requires
+words_both-word_of-second-requires t c = (
   search rules,
   (
     subst (λ sizes. CanEvaluate c.args.s.now c.args.a.now sizes (FExists c.args.v.0 (form_of c.args.h.now)))
-        (sym c.row_of-first.ensures.rooms)
+        (sym c.word_of-first.ensures.rooms)
         (row-and c.args.s.now c.args.a.now (sizes_of c.args.rooms.now) c.args.v.0 (form_of c.args.g.now)
         (form_of c.args.h.now) c.requires.parts).1,
-    c.row_of-first.ensures.kept,
+    (c.requires.chunk, c.word_of-first.ensures.kept),
   ),
 )
 
-pub rows_both-returns-clause-exact : goal.rows_both-returns-clause-exact
-rows_both-returns-clause-exact t c =
-    c.and.ensures ∙ (rw (c.row_of-first.ensures.exact, c.row_of-second.ensures.exact)
-    (paired-map smaller_of (λ u. value (structure_of c.args.s.now)
-    (put (assignment_of c.args.a.now) c.args.v.0 u) (form_of c.args.g.now))
+pub words_both-returns-clause-exact : goal.words_both-returns-clause-exact
+words_both-returns-clause-exact t c =
+    of-paired c.args.s.now.size c.args.chunk smaller_of (λ u. value (structure_of c.args.s.now) (put (assignment_of c.args.a.now) c.args.v.0 u)
+    (form_of c.args.g.now))
     (λ u. value (structure_of c.args.s.now) (put (assignment_of c.args.a.now) c.args.v.0 u)
-    (form_of c.args.h.now)) (range_with_len 0 c.args.s.now.size)))
+    (form_of c.args.h.now))
+    c.word_of-first.result c.word_of-second.result c.and.result c.word_of-first.ensures.exact
+    c.word_of-second.ensures.exact c.and.ensures
 
-pub rows_either-returns-then-are_yes-clause-exact : goal.rows_either-returns-then-are_yes-clause-exact
-rows_either-returns-then-are_yes-clause-exact t c =
-    c.row_of-first.ensures.exact
-    ∙ all-either (λ u. value (structure_of c.args.s.now) (put (assignment_of c.args.a.now) c.args.v.0 u)
-    (form_of c.args.g.now)) (λ u. value (structure_of c.args.s.now)
-    (put (assignment_of c.args.a.now) c.args.v.0 u) (form_of c.args.h.now)) (range_with_len 0 c.args.s.now.size)
-    (subst (All (λ x. x ≡ Yes)) c.row_of-first.ensures.exact (c.are_yes.ensures.0 c.if-are_yes.true))
+pub words_either-returns-then-eq-clause-exact : goal.words_either-returns-then-eq-clause-exact
+words_either-returns-then-eq-clause-exact t c =
+    either-all c.args.s.now.size c.args.chunk (λ u. value (structure_of c.args.s.now) (put (assignment_of c.args.a.now) c.args.v.0 u)
+    (form_of c.args.g.now))
+    c.word_of-first.result c.word_of-first.ensures.exact
+    (λ u. value (structure_of c.args.s.now) (put (assignment_of c.args.a.now) c.args.v.0 u)
+    (form_of c.args.h.now))
+    c.places.result (c.places.ensures.value ∙ (rw c.size.ensures.size refl)) (sym c.least.ensures ∙ told-equal c.least.result Yes c.eq.result c.eq.ensures.same c.if-eq.true)
 
-pub rows_either-row_of-second-requires : goal.rows_either-row_of-second-requires
-rows_either-row_of-second-requires t c = (
+pub words_either-word_of-second-requires : goal.words_either-word_of-second-requires
+words_either-word_of-second-requires t c = (
   search rules,
   (
     subst (λ sizes. CanEvaluate c.args.s.now c.args.a.now sizes (FExists c.args.v.0 (form_of c.args.h.now)))
-        (sym c.row_of-first.ensures.rooms)
+        (sym c.word_of-first.ensures.rooms)
         (row-or c.args.s.now c.args.a.now (sizes_of c.args.rooms.now) c.args.v.0 (form_of c.args.g.now)
         (form_of c.args.h.now) c.requires.parts).1,
-    c.row_of-first.ensures.kept,
+    (c.requires.chunk, c.word_of-first.ensures.kept),
   ),
 )
 
-pub rows_either-returns-clause-exact : goal.rows_either-returns-clause-exact
-rows_either-returns-clause-exact t c =
-    c.or.ensures ∙ (rw (c.row_of-first.ensures.exact, c.row_of-second.ensures.exact)
-    (paired-map larger_of (λ u. value (structure_of c.args.s.now)
-    (put (assignment_of c.args.a.now) c.args.v.0 u) (form_of c.args.g.now))
+pub words_either-returns-clause-exact : goal.words_either-returns-clause-exact
+words_either-returns-clause-exact t c =
+    of-paired c.args.s.now.size c.args.chunk larger_of (λ u. value (structure_of c.args.s.now) (put (assignment_of c.args.a.now) c.args.v.0 u)
+    (form_of c.args.g.now))
     (λ u. value (structure_of c.args.s.now) (put (assignment_of c.args.a.now) c.args.v.0 u)
-    (form_of c.args.h.now)) (range_with_len 0 c.args.s.now.size)))
+    (form_of c.args.h.now))
+    c.word_of-first.result c.word_of-second.result c.or.result c.word_of-first.ensures.exact
+    c.word_of-second.ensures.exact c.or.ensures
 
-pub rows_alike-row_of-second-requires : goal.rows_alike-row_of-second-requires
-rows_alike-row_of-second-requires t c = (
+pub words_alike-word_of-second-requires : goal.words_alike-word_of-second-requires
+words_alike-word_of-second-requires t c = (
   search rules,
   (
     subst (λ sizes. CanEvaluate c.args.s.now c.args.a.now sizes (FExists c.args.v.0 (form_of c.args.h.now)))
-        (sym c.row_of-first.ensures.rooms) (row-iff c.args.s.now c.args.a.now (sizes_of c.args.rooms.now)
-        c.args.v.0 (form_of c.args.g.now) (form_of c.args.h.now) c.requires.parts).1,
-    c.row_of-first.ensures.kept,
+        (sym c.word_of-first.ensures.rooms)
+        (row-iff c.args.s.now c.args.a.now (sizes_of c.args.rooms.now) c.args.v.0 (form_of c.args.g.now)
+        (form_of c.args.h.now) c.requires.parts).1,
+    (c.requires.chunk, c.word_of-first.ensures.kept),
   ),
 )
 
-pub rows_alike-returns-clause-exact : goal.rows_alike-returns-clause-exact
-rows_alike-returns-clause-exact t c =
-    c.and.ensures ∙ (rw (
-      c.or-forth.ensures,
-      c.or-back.ensures,
-      c.not.ensures,
-      c.not-2.ensures,
-      c.row_of-first.ensures.exact,
-      c.row_of-second.ensures.exact,
-    )
-    (alike-map (λ u. value (structure_of c.args.s.now) (put (assignment_of c.args.a.now) c.args.v.0 u)
-    (form_of c.args.g.now)) (λ u. value (structure_of c.args.s.now)
-    (put (assignment_of c.args.a.now) c.args.v.0 u) (form_of c.args.h.now)) (range_with_len 0 c.args.s.now.size)))
+pub words_alike-returns-clause-exact : goal.words_alike-returns-clause-exact
+words_alike-returns-clause-exact t c =
+    let n : ℕ = c.args.s.now.size
+    in let k : ℕ = c.args.chunk
+    in let g : ℕ → K3 = (λ u. value (structure_of c.args.s.now) (put (assignment_of c.args.a.now) c.args.v.0 u)
+    (form_of c.args.g.now))
+    in let h : ℕ → K3 = (λ u. value (structure_of c.args.s.now) (put (assignment_of c.args.a.now) c.args.v.0 u)
+    (form_of c.args.h.now))
+    in let count : c.places-count.result ≡ min 64 (n - 64 * k) = (c.places-count.ensures.value ∙ (rw c.size.ensures.size refl))
+    in of-paired n k smaller_of (λ u. larger_of (negation_of (g u)) (h u)) (λ u. larger_of (negation_of (h u)) (g u))
+    c.or-forth.result c.or-back.result c.and.result
+    (of-paired n k larger_of (λ u. negation_of (g u)) h c.not.result c.word_of-second.result c.or-forth.result
+    (of-mapped n k c.places-count.result negation_of g c.word_of-first.result c.not.result c.word_of-first.ensures.exact count
+    c.not.ensures) c.word_of-second.ensures.exact c.or-forth.ensures)
+    (of-paired n k larger_of (λ u. negation_of (h u)) g c.not-2.result c.word_of-first.result c.or-back.result
+    (of-mapped n k c.places-count.result negation_of h c.word_of-second.result c.not-2.result c.word_of-second.ensures.exact count
+    c.not-2.ensures) c.word_of-first.ensures.exact c.or-back.ensures)
+    c.and.ensures
 
-pub rows_choice-row_of-requires-then-are_no : goal.rows_choice-row_of-requires-then-are_no
-rows_choice-row_of-requires-then-are_no t c = (
-  search rules,
-  (
-    subst (λ sizes. CanEvaluate c.args.s.now c.args.a.now sizes (FExists c.args.v.0 (form_of c.args.h.now)))
-        (sym c.row_of-condition.ensures.rooms) (row-cond c.args.s.now c.args.a.now (sizes_of c.args.rooms.now)
-        c.args.v.0 (form_of c.args.c.now) (form_of c.args.g.now) (form_of c.args.h.now) c.requires.parts).2,
-    c.row_of-condition.ensures.kept,
-  ),
-)
-
-pub rows_choice-row_of-first-requires : goal.rows_choice-row_of-first-requires
-rows_choice-row_of-first-requires t c = (
+pub words_choice-word_of-requires : goal.words_choice-word_of-requires
+words_choice-word_of-requires t c = (
   search rules,
   (
     subst (λ sizes. CanEvaluate c.args.s.now c.args.a.now sizes (FExists c.args.v.0 (form_of c.args.g.now)))
-        (sym c.row_of-condition.ensures.rooms) (row-cond c.args.s.now c.args.a.now (sizes_of c.args.rooms.now)
-        c.args.v.0 (form_of c.args.c.now) (form_of c.args.g.now) (form_of c.args.h.now) c.requires.parts).1,
-    c.row_of-condition.ensures.kept,
+        (sym c.word_of-condition.ensures.rooms)
+        (row-cond c.args.s.now c.args.a.now (sizes_of c.args.rooms.now) c.args.v.0 (form_of c.args.c.now)
+        (form_of c.args.g.now) (form_of c.args.h.now) c.requires.parts).1,
+    (c.requires.chunk, c.word_of-condition.ensures.kept),
   ),
 )
 
-pub rows_choice-row_of-second-requires : goal.rows_choice-row_of-second-requires
-rows_choice-row_of-second-requires t c = (
+pub words_choice-word_of-requires-then-eq-2 : goal.words_choice-word_of-requires-then-eq-2
+words_choice-word_of-requires-then-eq-2 t c = (
   search rules,
   (
     subst (λ sizes. CanEvaluate c.args.s.now c.args.a.now sizes (FExists c.args.v.0 (form_of c.args.h.now)))
-        (sym (c.row_of-first.ensures.rooms ∙ c.row_of-condition.ensures.rooms))
+        (sym c.word_of-condition.ensures.rooms)
         (row-cond c.args.s.now c.args.a.now (sizes_of c.args.rooms.now) c.args.v.0 (form_of c.args.c.now)
         (form_of c.args.g.now) (form_of c.args.h.now) c.requires.parts).2,
-    c.row_of-first.ensures.kept,
+    (c.requires.chunk, c.word_of-condition.ensures.kept),
   ),
 )
 
-pub rows_choice-returns-then-are_yes-clause-exact : goal.rows_choice-returns-then-are_yes-clause-exact
-rows_choice-returns-then-are_yes-clause-exact t c =
-    c.row_of.ensures.exact ∙ all-then (λ u. value (structure_of c.args.s.now)
-    (put (assignment_of c.args.a.now) c.args.v.0 u) (form_of c.args.c.now))
-    (λ u. value (structure_of c.args.s.now) (put (assignment_of c.args.a.now) c.args.v.0 u)
-    (form_of c.args.g.now)) (λ u. value (structure_of c.args.s.now)
-    (put (assignment_of c.args.a.now) c.args.v.0 u) (form_of c.args.h.now))
-    (range_with_len 0 c.args.s.now.size) (subst (All (λ x. x ≡ Yes)) c.row_of-condition.ensures.exact
-    (c.are_yes.ensures.0 c.if-are_yes.true))
-
-pub rows_choice-returns-then-are_no-clause-exact : goal.rows_choice-returns-then-are_no-clause-exact
-rows_choice-returns-then-are_no-clause-exact t c =
-    c.row_of-then-are_no.ensures.exact ∙ none-then
-    (λ u. value (structure_of c.args.s.now) (put (assignment_of c.args.a.now) c.args.v.0 u)
-    (form_of c.args.c.now)) (λ u. value (structure_of c.args.s.now)
-    (put (assignment_of c.args.a.now) c.args.v.0 u) (form_of c.args.g.now))
-    (λ u. value (structure_of c.args.s.now) (put (assignment_of c.args.a.now) c.args.v.0 u)
-    (form_of c.args.h.now)) (range_with_len 0 c.args.s.now.size)
-    (subst (All (λ x. x ≡ No)) c.row_of-condition.ensures.exact (c.are_no.ensures.0 c.if-are_no.true))
-
-pub rows_choice-returns-clause-exact : goal.rows_choice-returns-clause-exact
-rows_choice-returns-clause-exact t c =
-    c.or.ensures ∙ (rw (
-      c.and-then.ensures,
-      c.and-otherwise.ensures,
-      c.not.ensures,
-      c.row_of-condition.ensures.exact,
-      c.row_of-first.ensures.exact,
-      c.row_of-second.ensures.exact,
-    )
-    (choice-map (λ u. value (structure_of c.args.s.now) (put (assignment_of c.args.a.now) c.args.v.0 u)
-    (form_of c.args.c.now)) (λ u. value (structure_of c.args.s.now)
-    (put (assignment_of c.args.a.now) c.args.v.0 u) (form_of c.args.g.now))
-    (λ u. value (structure_of c.args.s.now) (put (assignment_of c.args.a.now) c.args.v.0 u)
-    (form_of c.args.h.now)) (range_with_len 0 c.args.s.now.size)))
-
-pub rows_greatest-loop-x-init : goal.rows_greatest-loop-x-init
-rows_greatest-loop-x-init t c =
-    let g : ℕ → ℕ → K3 = (λ u x. value (structure_of c.args.s.now)
-    (put (put (assignment_of c.args.a.now) c.args.v.0 u) c.args.w.0 x) (form_of c.args.body.now))
-    in let whole : c.args.s.now.size - 0 ≡ c.args.s.now.size = omega arith
-    in (
-      refl,
-      c.requires.kept,
-      ap length c.of-found.ensures ∙ length-replicate c.size.result No ∙ c.size.ensures.size,
-      λ u lt. ap (λ m. larger_of (get_or c.of-found.result u No) (greatest_of (g u) (range_with_len 0 m))) whole
-          ∙ ap (λ k. larger_of k (greatest_of (g u) (range_with_len 0 c.args.s.now.size)))
-          (ap (λ r. get_or r u No) c.of-found.ensures ∙ get_or-replicate c.size.result u No No (omega arith)),
-      like-itself c.args.a.now c.args.w.0,
-    )
-
-pub rows_greatest-row_of-row-requires : goal.rows_greatest-row_of-row-requires
-rows_greatest-row_of-row-requires t c = (
+pub words_choice-word_of-first-requires : goal.words_choice-word_of-first-requires
+words_choice-word_of-first-requires t c = (
   search rules,
   (
-    subst (λ sizes. CanEvaluate c.args.s.now c.set.new.self sizes (FExists c.args.v.0 (form_of c.args.body.now)))
-        (sym c.loop-x.invariant.0)
-        (row-put c.args.s.now c.args.a.now c.set.new.self (sizes_of c.args.rooms.now) c.args.v.0 c.args.w.0 c.loop-x.x
-        (form_of c.args.body.now) c.requires.parts (omega arith)
-        (put-again c.args.a.now c.loop-x.here c.set.new.self c.args.w.0 c.loop-x.x c.loop-x.invariant.4
-        c.set.ensures.places)),
-    c.loop-x.invariant.1,
+    subst (λ sizes. CanEvaluate c.args.s.now c.args.a.now sizes (FExists c.args.v.0 (form_of c.args.g.now)))
+        (sym c.word_of-condition.ensures.rooms)
+        (row-cond c.args.s.now c.args.a.now (sizes_of c.args.rooms.now) c.args.v.0 (form_of c.args.c.now)
+        (form_of c.args.g.now) (form_of c.args.h.now) c.requires.parts).1,
+    (c.requires.chunk, c.word_of-condition.ensures.kept),
   ),
 )
 
-pub rows_greatest-loop-x-preserved : goal.rows_greatest-loop-x-preserved
-rows_greatest-loop-x-preserved t c =
-    let g : ℕ → ℕ → K3 = (λ u x. value (structure_of c.args.s.now)
-    (put (put (assignment_of c.args.a.now) c.args.v.0 u) c.args.w.0 x) (form_of c.args.body.now))
-    in let swapped : c.row_of-row.result ≡ map (λ u. g u c.loop-x.x) (range_with_len 0 c.args.s.now.size) =
-    c.row_of-row.ensures.exact
-    ∙ ap (λ b. values_along c.args.s.now b c.args.v.0 (form_of c.args.body.now))
-    (total-again c.args.a.now c.loop-x.here c.set.new.self c.args.w.0 c.loop-x.x c.loop-x.invariant.4
-    c.set.ensures.places)
-    ∙ same-map _ (λ u. g u c.loop-x.x) (range_with_len 0 c.args.s.now.size)
-    (λ u. puts_commute c.args.s.now (assignment_of c.args.a.now) c.args.v.0 c.args.w.0 u c.loop-x.x
-    (form_of c.args.body.now) c.requires.apart)
-    in let next : (length c.or-found.result ≡ c.args.s.now.size)
-    × ((u : ℕ) → u < c.args.s.now.size → get_or c.or-found.result u No ≡ larger_of (get_or c.loop-x.found u No)
-    (g u c.loop-x.x)) =
-    joined-next larger_of c.loop-x.found c.row_of-row.result c.or-found.result c.args.s.now.size
-    (λ u. g u c.loop-x.x) c.loop-x.invariant.2 swapped
-    c.or-found.ensures
-    in (
-      c.row_of-row.ensures.rooms ∙ c.loop-x.invariant.0,
-      c.row_of-row.ensures.kept,
-      next.0,
-      λ u lt. greatest-next (g u) c.args.s.now.size c.loop-x.x (get_or c.loop-x.found u No)
-          (get_or c.or-found.result u No)
-          (greatest_of (g u) (range_with_len 0 c.args.s.now.size)) (omega arith) (c.loop-x.invariant.3 u lt)
-          (next.1 u lt),
-      like-again c.args.a.now c.loop-x.here c.set.new.self c.args.w.0 c.loop-x.x c.loop-x.invariant.4
-          c.set.ensures.places,
-    )
-
-pub rows_greatest-returns-clause-exact : goal.rows_greatest-returns-clause-exact
-rows_greatest-returns-clause-exact t c =
-    let g : ℕ → ℕ → K3 = (λ u x. value (structure_of c.args.s.now)
-    (put (put (assignment_of c.args.a.now) c.args.v.0 u) c.args.w.0 x) (form_of c.args.body.now))
-    in all_set c.loop-x.found c.args.s.now.size c.args.s.now.size
-    (λ u. greatest_of (g u) (range_with_len 0 c.args.s.now.size)) c.loop-x.invariant.2 (omega arith)
-    (λ u lt. greatest-end (g u) c.args.s.now.size c.loop-x.x (get_or c.loop-x.found u No)
-    (greatest_of (g u) (range_with_len 0 c.args.s.now.size)) (omega arith) (c.loop-x.invariant.3 u lt))
-
-pub rows_least-loop-x-init : goal.rows_least-loop-x-init
-rows_least-loop-x-init t c =
-    let g : ℕ → ℕ → K3 = (λ u x. value (structure_of c.args.s.now)
-    (put (put (assignment_of c.args.a.now) c.args.v.0 u) c.args.w.0 x) (form_of c.args.body.now))
-    in let whole : c.args.s.now.size - 0 ≡ c.args.s.now.size = omega arith
-    in (
-      refl,
-      c.requires.kept,
-      ap length c.of-found.ensures ∙ length-replicate c.size.result Yes ∙ c.size.ensures.size,
-      λ u lt. ap (λ m. smaller_of (get_or c.of-found.result u No) (least_of (g u) (range_with_len 0 m))) whole
-          ∙ ap (λ k. smaller_of k (least_of (g u) (range_with_len 0 c.args.s.now.size)))
-          (ap (λ r. get_or r u No) c.of-found.ensures ∙ get_or-replicate c.size.result u Yes No (omega arith)),
-      like-itself c.args.a.now c.args.w.0,
-    )
-
-pub rows_least-row_of-row-requires : goal.rows_least-row_of-row-requires
-rows_least-row_of-row-requires t c = (
+pub words_choice-word_of-second-requires : goal.words_choice-word_of-second-requires
+words_choice-word_of-second-requires t c = (
   search rules,
   (
-    subst (λ sizes. CanEvaluate c.args.s.now c.set.new.self sizes (FExists c.args.v.0 (form_of c.args.body.now)))
-        (sym c.loop-x.invariant.0)
-        (row-put c.args.s.now c.args.a.now c.set.new.self (sizes_of c.args.rooms.now) c.args.v.0 c.args.w.0 c.loop-x.x
-        (form_of c.args.body.now) (record {
-          formula = c.requires.parts.formula;
-          assigned = c.requires.parts.assigned;
-          rooms = c.requires.parts.rooms;
-        }) (omega arith)
-        (put-again c.args.a.now c.loop-x.here c.set.new.self c.args.w.0 c.loop-x.x c.loop-x.invariant.4
-        c.set.ensures.places)),
-    c.loop-x.invariant.1,
+    subst (λ sizes. CanEvaluate c.args.s.now c.args.a.now sizes (FExists c.args.v.0 (form_of c.args.h.now)))
+        (sym (c.word_of-first.ensures.rooms ∙ c.word_of-condition.ensures.rooms))
+        (row-cond c.args.s.now c.args.a.now (sizes_of c.args.rooms.now) c.args.v.0 (form_of c.args.c.now)
+        (form_of c.args.g.now) (form_of c.args.h.now) c.requires.parts).2,
+    (c.requires.chunk, c.word_of-first.ensures.kept),
   ),
 )
 
-pub rows_least-loop-x-preserved : goal.rows_least-loop-x-preserved
-rows_least-loop-x-preserved t c =
-    let g : ℕ → ℕ → K3 = (λ u x. value (structure_of c.args.s.now)
-    (put (put (assignment_of c.args.a.now) c.args.v.0 u) c.args.w.0 x) (form_of c.args.body.now))
-    in let swapped : c.row_of-row.result ≡ map (λ u. g u c.loop-x.x) (range_with_len 0 c.args.s.now.size) =
-    c.row_of-row.ensures.exact
-    ∙ ap (λ b. values_along c.args.s.now b c.args.v.0 (form_of c.args.body.now))
-    (total-again c.args.a.now c.loop-x.here c.set.new.self c.args.w.0 c.loop-x.x c.loop-x.invariant.4
-    c.set.ensures.places)
-    ∙ same-map _ (λ u. g u c.loop-x.x) (range_with_len 0 c.args.s.now.size)
-    (λ u. puts_commute c.args.s.now (assignment_of c.args.a.now) c.args.v.0 c.args.w.0 u c.loop-x.x
-    (form_of c.args.body.now) c.requires.apart)
-    in let next : (length c.and-found.result ≡ c.args.s.now.size)
-    × ((u : ℕ) → u < c.args.s.now.size → get_or c.and-found.result u No ≡ smaller_of
-    (get_or c.loop-x.found u No) (g u c.loop-x.x)) =
-    joined-next smaller_of c.loop-x.found c.row_of-row.result c.and-found.result c.args.s.now.size
-    (λ u. g u c.loop-x.x) c.loop-x.invariant.2 swapped
-    c.and-found.ensures
-    in (
-      c.row_of-row.ensures.rooms ∙ c.loop-x.invariant.0,
-      c.row_of-row.ensures.kept,
-      next.0,
-      λ u lt. least-next (g u) c.args.s.now.size c.loop-x.x (get_or c.loop-x.found u No)
-          (get_or c.and-found.result u No)
-          (least_of (g u) (range_with_len 0 c.args.s.now.size)) (omega arith) (c.loop-x.invariant.3 u lt)
-          (next.1 u lt),
-      like-again c.args.a.now c.loop-x.here c.set.new.self c.args.w.0 c.loop-x.x c.loop-x.invariant.4
-          c.set.ensures.places,
-    )
-
-pub rows_least-returns-clause-exact : goal.rows_least-returns-clause-exact
-rows_least-returns-clause-exact t c =
-    let g : ℕ → ℕ → K3 = (λ u x. value (structure_of c.args.s.now)
-    (put (put (assignment_of c.args.a.now) c.args.v.0 u) c.args.w.0 x) (form_of c.args.body.now))
-    in all_set c.loop-x.found c.args.s.now.size c.args.s.now.size
-    (λ u. least_of (g u) (range_with_len 0 c.args.s.now.size)) c.loop-x.invariant.2 (omega arith)
-    (λ u lt. least-end (g u) c.args.s.now.size c.loop-x.x (get_or c.loop-x.found u No)
-    (least_of (g u) (range_with_len 0 c.args.s.now.size)) (omega arith) (c.loop-x.invariant.3 u lt))
-
-pub rows_alike-and-requires : goal.rows_alike-and-requires
-rows_alike-and-requires t c =
-    let first : length c.row_of-first.result ≡ c.args.s.now.size =
-    (ap length c.row_of-first.ensures.exact ∙ length-map-range_with_len
+pub words_choice-returns-then-eq-clause-exact : goal.words_choice-returns-then-eq-clause-exact
+words_choice-returns-then-eq-clause-exact t c =
+    then-all c.args.s.now.size c.args.chunk (λ u. value (structure_of c.args.s.now) (put (assignment_of c.args.a.now) c.args.v.0 u)
+    (form_of c.args.c.now))
+    c.word_of-condition.result c.word_of-condition.ensures.exact
     (λ u. value (structure_of c.args.s.now) (put (assignment_of c.args.a.now) c.args.v.0 u)
-    (form_of c.args.g.now)) 0 c.args.s.now.size)
-    in let second : length c.row_of-second.result ≡ c.args.s.now.size =
-    (ap length c.row_of-second.ensures.exact ∙ length-map-range_with_len
+    (form_of c.args.g.now))
     (λ u. value (structure_of c.args.s.now) (put (assignment_of c.args.a.now) c.args.v.0 u)
-    (form_of c.args.h.now)) 0 c.args.s.now.size)
-    in ap length c.or-forth.ensures
-    ∙ paired_long larger_of c.not.result c.row_of-second.result c.args.s.now.size
-    (ap length c.not.ensures ∙ length-map c.row_of-first.result negation_of ∙ first) second
-    ∙ sym (ap length c.or-back.ensures
-    ∙ paired_long larger_of c.not-2.result c.row_of-first.result c.args.s.now.size
-    (ap length c.not-2.ensures ∙ length-map c.row_of-second.result negation_of ∙ second) first)
+    (form_of c.args.h.now))
+    c.word_of.result c.places-count.result (c.places-count.ensures.value ∙ (rw c.size.ensures.size refl))
+    (sym c.least.ensures ∙ told-equal c.least.result Yes c.eq.result c.eq.ensures.same c.if-eq.true) c.word_of.ensures.exact
 
-pub rows_choice-or-requires : goal.rows_choice-or-requires
-rows_choice-or-requires t c =
-    let condition : length c.row_of-condition.result ≡ c.args.s.now.size =
-    (ap length c.row_of-condition.ensures.exact ∙ length-map-range_with_len
+pub words_choice-returns-then-eq-2-clause-exact : goal.words_choice-returns-then-eq-2-clause-exact
+words_choice-returns-then-eq-2-clause-exact t c =
+    then-none c.args.s.now.size c.args.chunk (λ u. value (structure_of c.args.s.now) (put (assignment_of c.args.a.now) c.args.v.0 u)
+    (form_of c.args.c.now))
+    c.word_of-condition.result c.word_of-condition.ensures.exact
     (λ u. value (structure_of c.args.s.now) (put (assignment_of c.args.a.now) c.args.v.0 u)
-    (form_of c.args.c.now)) 0 c.args.s.now.size)
-    in ap length c.and-then.ensures ∙ paired_long smaller_of c.row_of-condition.result c.row_of-first.result
-    c.args.s.now.size condition (ap length c.row_of-first.ensures.exact ∙ length-map-range_with_len
+    (form_of c.args.g.now))
     (λ u. value (structure_of c.args.s.now) (put (assignment_of c.args.a.now) c.args.v.0 u)
-    (form_of c.args.g.now)) 0 c.args.s.now.size)
-    ∙ sym (ap length c.and-otherwise.ensures
-    ∙ paired_long smaller_of c.not.result c.row_of-second.result c.args.s.now.size
-    (ap length c.not.ensures ∙ length-map c.row_of-condition.result negation_of ∙ condition)
-    (ap length c.row_of-second.ensures.exact ∙ length-map-range_with_len
-    (λ u. value (structure_of c.args.s.now) (put (assignment_of c.args.a.now) c.args.v.0 u)
-    (form_of c.args.h.now)) 0 c.args.s.now.size))
+    (form_of c.args.h.now))
+    c.word_of-then-eq-2.result (sym c.greatest.ensures ∙ told-equal c.greatest.result No c.eq-2.result c.eq-2.ensures.same c.if-eq-2.true)
+    c.word_of-then-eq-2.ensures.exact
 
-pub rows_greatest-or-found-requires : goal.rows_greatest-or-found-requires
-rows_greatest-or-found-requires t c =
-    c.loop-x.invariant.2 ∙ sym (ap length c.row_of-row.ensures.exact ∙ length-map-range_with_len
-    (λ u. value (structure_of c.args.s.now) (put (assignment_of c.set.new.self) c.args.v.0 u)
-    (form_of c.args.body.now)) 0 c.args.s.now.size)
+pub words_choice-returns-clause-exact : goal.words_choice-returns-clause-exact
+words_choice-returns-clause-exact t c =
+    let n : ℕ = c.args.s.now.size
+    in let k : ℕ = c.args.chunk
+    in let condition : ℕ → K3 = (λ u. value (structure_of c.args.s.now) (put (assignment_of c.args.a.now) c.args.v.0 u)
+    (form_of c.args.c.now))
+    in let g : ℕ → K3 = (λ u. value (structure_of c.args.s.now) (put (assignment_of c.args.a.now) c.args.v.0 u)
+    (form_of c.args.g.now))
+    in let h : ℕ → K3 = (λ u. value (structure_of c.args.s.now) (put (assignment_of c.args.a.now) c.args.v.0 u)
+    (form_of c.args.h.now))
+    in of-paired n k larger_of (λ u. smaller_of (condition u) (g u)) (λ u. smaller_of (negation_of (condition u)) (h u))
+    c.and-then.result c.and-otherwise.result c.or.result
+    (of-paired n k smaller_of condition g c.word_of-condition.result c.word_of-first.result c.and-then.result
+    c.word_of-condition.ensures.exact c.word_of-first.ensures.exact c.and-then.ensures)
+    (of-paired n k smaller_of (λ u. negation_of (condition u)) h c.not.result c.word_of-second.result
+    c.and-otherwise.result
+    (of-mapped n k c.places-count.result negation_of condition c.word_of-condition.result c.not.result
+    c.word_of-condition.ensures.exact (c.places-count.ensures.value ∙ (rw c.size.ensures.size refl)) c.not.ensures)
+    c.word_of-second.ensures.exact c.and-otherwise.ensures)
+    c.or.ensures
 
-pub rows_least-and-found-requires : goal.rows_least-and-found-requires
-rows_least-and-found-requires t c =
-    c.loop-x.invariant.2 ∙ sym (ap length c.row_of-row.ensures.exact ∙ length-map-range_with_len
-    (λ u. value (structure_of c.args.s.now) (put (assignment_of c.set.new.self) c.args.v.0 u)
-    (form_of c.args.body.now)) 0 c.args.s.now.size)
-
-pub closure_row-returns-then-to-v-clause-exact : goal.closure_row-returns-then-to-v-clause-exact
-closure_row-returns-then-to-v-clause-exact t c =
-    c.closed_part.ensures.exact
-    ∙ same-map (part_at Diagonal (best_walk (λ x y. value (structure_of c.args.s.now)
+pub closure_word-returns-then-to-v-clause-exact : goal.closure_word-returns-then-to-v-clause-exact
+closure_word-returns-then-to-v-clause-exact t c =
+    same-word c.args.s.now.size c.args.chunk (part_at (Diagonal) (best_walk (λ x y. value (structure_of c.args.s.now)
     (put (put (assignment_of c.args.a.now) c.args.edges.left.0 x) c.args.edges.right.0 y)
     (form_of c.args.edges.body.now)) (range_with_len 0 c.args.s.now.size)))
     (λ u. value (structure_of c.args.s.now) (put (assignment_of c.args.a.now) c.args.v.0 u)
     (FClosure c.args.from.0 c.args.to.0 c.args.edges.left.0 c.args.edges.right.0
-    (form_of c.args.edges.body.now))) (range_with_len 0 c.args.s.now.size)
-    (λ u. closure_at c.args.s.now (assignment_of c.args.a.now) c.args.v.0 u c.args.from.0 c.args.to.0
-    c.args.edges.left.0 c.args.edges.right.0
-    (form_of c.args.edges.body.now) c.requires.steady u u
+    (form_of c.args.edges.body.now)))
+    c.closed_part.result c.closed_part.ensures.exact
+    (λ u lt. closure_at c.args.s.now (assignment_of c.args.a.now) c.args.v.0 u c.args.from.0 c.args.to.0
+    c.args.edges.left.0 c.args.edges.right.0 (form_of c.args.edges.body.now) c.requires.steady u u
     (sym (put_same (assignment_of c.args.a.now) c.args.v.0 u c.args.from.0 c.if-from-v.true))
     (sym (put_same (assignment_of c.args.a.now) c.args.v.0 u c.args.to.0 c.if-to-v.true)))
 
-pub closure_row-returns-then-from-v-clause-exact : goal.closure_row-returns-then-from-v-clause-exact
-closure_row-returns-then-from-v-clause-exact t c =
-    c.closed_part-then-from-v.ensures.exact
-    ∙ same-map (part_at (To c.at.result) (best_walk
-    (λ x y. value (structure_of c.args.s.now) (put (put (assignment_of c.args.a.now) c.args.edges.left.0 x)
-    c.args.edges.right.0 y) (form_of c.args.edges.body.now)) (range_with_len 0 c.args.s.now.size)))
-    (λ u. value (structure_of c.args.s.now) (put (assignment_of c.args.a.now) c.args.v.0 u)
-    (FClosure c.args.from.0 c.args.to.0 c.args.edges.left.0 c.args.edges.right.0
-    (form_of c.args.edges.body.now))) (range_with_len 0 c.args.s.now.size)
-    (λ u. closure_at c.args.s.now (assignment_of c.args.a.now) c.args.v.0 u c.args.from.0 c.args.to.0
-    c.args.edges.left.0 c.args.edges.right.0
-    (form_of c.args.edges.body.now) c.requires.steady u c.at.result
-    (sym (put_same (assignment_of c.args.a.now) c.args.v.0 u c.args.from.0 c.if-from-v.true))
-    (c.at.ensures ∙ (sym (put_other (assignment_of c.args.a.now) c.args.v.0 u c.args.to.0 c.if-to-v.false))))
-
-pub closure_row-returns-then-to-v-2-clause-exact : goal.closure_row-returns-then-to-v-2-clause-exact
-closure_row-returns-then-to-v-2-clause-exact t c =
-    c.closed_part-row.ensures.exact
-    ∙ same-map (part_at (From c.at-2.result)
-    (best_walk (λ x y. value (structure_of c.args.s.now)
+pub closure_word-returns-then-from-v-clause-exact : goal.closure_word-returns-then-from-v-clause-exact
+closure_word-returns-then-from-v-clause-exact t c =
+    same-word c.args.s.now.size c.args.chunk (part_at (To c.at.result) (best_walk (λ x y. value (structure_of c.args.s.now)
     (put (put (assignment_of c.args.a.now) c.args.edges.left.0 x) c.args.edges.right.0 y)
     (form_of c.args.edges.body.now)) (range_with_len 0 c.args.s.now.size)))
     (λ u. value (structure_of c.args.s.now) (put (assignment_of c.args.a.now) c.args.v.0 u)
     (FClosure c.args.from.0 c.args.to.0 c.args.edges.left.0 c.args.edges.right.0
-    (form_of c.args.edges.body.now))) (range_with_len 0 c.args.s.now.size)
-    (λ u. closure_at c.args.s.now (assignment_of c.args.a.now) c.args.v.0 u c.args.from.0 c.args.to.0
-    c.args.edges.left.0 c.args.edges.right.0
-    (form_of c.args.edges.body.now) c.requires.steady c.at-2.result u
-    (c.at-2.ensures ∙ (sym (put_other (assignment_of c.args.a.now) c.args.v.0 u c.args.from.0
-    c.if-from-v.false))) (sym (put_same (assignment_of c.args.a.now) c.args.v.0 u c.args.to.0 c.if-to-v-2.true)))
+    (form_of c.args.edges.body.now)))
+    c.closed_part-then-from-v.result c.closed_part-then-from-v.ensures.exact
+    (λ u lt. closure_at c.args.s.now (assignment_of c.args.a.now) c.args.v.0 u c.args.from.0 c.args.to.0
+    c.args.edges.left.0 c.args.edges.right.0 (form_of c.args.edges.body.now) c.requires.steady u c.at.result
+    (sym (put_same (assignment_of c.args.a.now) c.args.v.0 u c.args.from.0 c.if-from-v.true))
+    (c.at.ensures ∙ sym (put_other (assignment_of c.args.a.now) c.args.v.0 u c.args.to.0 c.if-to-v.false)))
 
-pub closure_row-get-requires : goal.closure_row-get-requires
-closure_row-get-requires t c =
-    omega (
-      arith,
-      c.at-3.ensures,
-      (individual_of c.args.s.now.size c.args.a.now c.args.to.0
-          (c.requires.parts.assigned c.args.to.0 (c.if-to-v-2.false, inr (inl refl)))),
-      ap length
-          c.closed_part-row.ensures.exact,
-      length-map-range_with_len,
+pub closure_word-returns-then-to-v-2-clause-exact : goal.closure_word-returns-then-to-v-2-clause-exact
+closure_word-returns-then-to-v-2-clause-exact t c =
+    same-word c.args.s.now.size c.args.chunk (part_at (From c.at-then-to-v-2.result) (best_walk (λ x y. value (structure_of c.args.s.now)
+    (put (put (assignment_of c.args.a.now) c.args.edges.left.0 x) c.args.edges.right.0 y)
+    (form_of c.args.edges.body.now)) (range_with_len 0 c.args.s.now.size)))
+    (λ u. value (structure_of c.args.s.now) (put (assignment_of c.args.a.now) c.args.v.0 u)
+    (FClosure c.args.from.0 c.args.to.0 c.args.edges.left.0 c.args.edges.right.0
+    (form_of c.args.edges.body.now)))
+    c.closed_part-then-to-v-2.result c.closed_part-then-to-v-2.ensures.exact
+    (λ u lt. closure_at c.args.s.now (assignment_of c.args.a.now) c.args.v.0 u c.args.from.0 c.args.to.0
+    c.args.edges.left.0 c.args.edges.right.0 (form_of c.args.edges.body.now) c.requires.steady c.at-then-to-v-2.result u
+    (c.at-then-to-v-2.ensures ∙ sym (put_other (assignment_of c.args.a.now) c.args.v.0 u c.args.from.0 c.if-from-v.false))
+    (sym (put_same (assignment_of c.args.a.now) c.args.v.0 u c.args.to.0 c.if-to-v-2.true)))
+
+pub closure_word-returns-clause-exact : goal.closure_word-returns-clause-exact
+closure_word-returns-clause-exact t c =
+    let f : Form = FClosure c.args.from.0 c.args.to.0 c.args.edges.left.0 c.args.edges.right.0
+    (form_of c.args.edges.body.now)
+    in same-word c.args.s.now.size c.args.chunk (λ u. c.closure.result)
+    (λ u. value (structure_of c.args.s.now) (put (assignment_of c.args.a.now) c.args.v.0 u) f)
+    c.constant_word.result (c.constant_word.ensures c.args.s.now.size c.args.chunk)
+    (λ u lt. c.closure.ensures.exact
+    ∙ put_steady c.args.s.now (assignment_of c.args.a.now) c.args.v.0 u f
+    (⊎_elim (λ e. c.if-from-v.false (sym e))
+    (λ other. ⊎_elim (λ e. c.if-to-v-2.false (sym e)) c.requires.steady other)))
+
+pub quantify-loop-chunk-init : goal.quantify-loop-chunk-init
+quantify-loop-chunk-init t c =
+    let g : ℕ → K3 = λ u. turned c.args.q (value (structure_of c.args.s.now)
+    (put (assignment_of c.args.a.now) c.args.v.0 u) (form_of c.args.body.now))
+    in let whole : c.args.s.now.size - 64 * 0 ≡ c.args.s.now.size = omega arith
+    in (refl, c.requires.kept, ap (λ m. greatest_of g (range_with_len 0 m)) whole)
+
+pub quantify-word_of-word-requires : goal.quantify-word_of-word-requires
+quantify-word_of-word-requires t c = (
+  search rules,
+  (
+    subst (λ sizes. CanEvaluate c.args.s.now c.args.a.now sizes
+        (FExists c.args.v.0 (form_of c.args.body.now))) (sym c.loop-chunk.invariant.0) c.requires.parts,
+    (omega (arith, c.chunks-chunk-end.ensures.each c.loop-chunk.chunk (omega arith), c.size.ensures.size), c.loop-chunk.invariant.1),
+  ),
+)
+
+pub quantify-loop-chunk-preserved : goal.quantify-loop-chunk-preserved
+quantify-loop-chunk-preserved t c =
+    let h : ℕ → K3 = λ u. value (structure_of c.args.s.now) (put (assignment_of c.args.a.now) c.args.v.0 u)
+    (form_of c.args.body.now)
+    in let g : ℕ → K3 = λ u. turned c.args.q (h u)
+    in let all : List ℕ = range_with_len 0 c.args.s.now.size
+    in let k : ℕ = c.loop-chunk.chunk
+    in let next : larger_of c.or-found.result
+    (greatest_of g (range_with_len (64 * (k + 1)) (c.args.s.now.size - 64 * (k + 1)))) ≡ greatest_of g all =
+    greatest-chunk c.args.s.now.size k c.places.result g (map (turned c.args.q) c.word_of-word.result)
+    (omega (arith, c.chunks-chunk-end.ensures.each k (omega arith), c.size.ensures.size)) (c.places.ensures.value ∙ (rw c.size-in-loop-chunk.ensures.size refl))
+    (mapped-word c.args.s.now.size k (turned c.args.q) h c.word_of-word.result c.word_of-word.ensures.exact)
+    c.loop-chunk.found c.greatest.result c.or-found.result (greatest_of g all) c.turned_word-turned.result
+    c.turned_word-turned.ensures c.greatest.ensures c.or-found.ensures c.loop-chunk.invariant.2
+    in (c.word_of-word.ensures.rooms ∙ c.loop-chunk.invariant.0, c.word_of-word.ensures.kept, next)
+
+pub quantify-returns-then-eq-clause-exact : goal.quantify-returns-then-eq-clause-exact
+quantify-returns-then-eq-clause-exact t c =
+    let h : ℕ → K3 = λ u. value (structure_of c.args.s.now) (put (assignment_of c.args.a.now) c.args.v.0 u)
+    (form_of c.args.body.now)
+    in let g : ℕ → K3 = λ u. turned c.args.q (h u)
+    in let all : List ℕ = range_with_len 0 c.args.s.now.size
+    in let k : ℕ = c.loop-chunk.chunk
+    in let next : larger_of c.or-found.result
+    (greatest_of g (range_with_len (64 * (k + 1)) (c.args.s.now.size - 64 * (k + 1)))) ≡ greatest_of g all =
+    greatest-chunk c.args.s.now.size k c.places.result g (map (turned c.args.q) c.word_of-word.result)
+    (omega (arith, c.chunks-chunk-end.ensures.each k (omega arith), c.size.ensures.size)) (c.places.ensures.value ∙ (rw c.size-in-loop-chunk.ensures.size refl))
+    (mapped-word c.args.s.now.size k (turned c.args.q) h c.word_of-word.result c.word_of-word.ensures.exact)
+    c.loop-chunk.found c.greatest.result c.or-found.result (greatest_of g all) c.turned_word-turned.result
+    c.turned_word-turned.ensures c.greatest.ensures c.or-found.ensures c.loop-chunk.invariant.2
+    in c.turned.ensures
+    ∙ ap (turned c.args.q) (greatest-yes g (range_with_len (64 * (k + 1)) (c.args.s.now.size - 64 * (k + 1)))
+    c.or-found.result (greatest_of g all) next (told-equal c.or-found.result Yes c.eq.result c.eq.ensures.same c.if-eq.true))
+    ∙ quantified-value c.args.q (structure_of c.args.s.now) (assignment_of c.args.a.now) c.args.v.0
+    (form_of c.args.body.now)
+
+pub quantify-returns-clause-exact : goal.quantify-returns-clause-exact
+quantify-returns-clause-exact t c =
+    let g : ℕ → K3 = λ u. turned c.args.q (value (structure_of c.args.s.now)
+    (put (assignment_of c.args.a.now) c.args.v.0 u) (form_of c.args.body.now))
+    in c.turned-2.ensures
+    ∙ ap (turned c.args.q) (greatest-chunks c.args.s.now.size c.loop-chunk.chunk g c.loop-chunk.found
+    (greatest_of g (range_with_len 0 c.args.s.now.size)) (omega (arith, c.chunks-chunk-end.ensures.all, c.size.ensures.size))
+    c.loop-chunk.invariant.2)
+    ∙ quantified-value c.args.q (structure_of c.args.s.now) (assignment_of c.args.a.now) c.args.v.0
+    (form_of c.args.body.now)
+
+pub closed_part-fill-requires : goal.closed_part-fill-requires
+closed_part-fill-requires t c =
+    let body : Form = form_of c.args.edges.body.now
+    in let parts : SplitsRooms c.args.s.now.size (nesting body) c.split_at_mut-own.result.0.now
+    c.split_at_mut-own.result.1.now =
+    rooms-split c.args.s.now.size (nesting body) c.args.rooms.now c.split_at_mut-own.result.0.now
+    c.split_at_mut-own.result.1.now c.split_at_mut-own.ensures.value c.split_at_mut-own.ensures.front_len
+    c.requires.room
+    in (
+      search rules,
+      (
+        record { formula = c.requires.body.formula; assigned = c.requires.body.assigned; rooms = parts.behind },
+        (parts.first _, c.requires.kept),
+      ),
     )
 
-pub closure_row-returns-clause-exact : goal.closure_row-returns-clause-exact
-closure_row-returns-clause-exact t c =
-    c.of.ensures
-    ∙ (rw c.size.ensures.size (copies-map c.args.s.now.size c.get.result
+pub closed_part-returns-clause-exact : goal.closed_part-returns-clause-exact
+closed_part-returns-clause-exact t c =
+    let n : ℕ = c.args.s.now.size
+    in let body : Form = form_of c.args.edges.body.now
+    in let Closed : ℕ → Type 0 = λ k. (x y : ℕ) → x < k → y < k
+    → entry_in c.close.new.self x y ≡ best_walk (entry_in c.fill.new.relation) (range_with_len 0 k) x y
+    in let held : HoldsClosure c.args.s.now (assignment_of c.args.a.now) c.args.edges.left.0
+    c.args.edges.right.0 body c.close.new.self =
+    closed_are_held c.args.s.now (assignment_of c.args.a.now) c.args.edges.left.0 c.args.edges.right.0 body
+    c.fill.new.relation c.close.new.self
+    (subst (λ k. IsSquare k c.close.new.self) c.size-2.ensures.size c.close.ensures.square) c.fill.ensures.edges
+    (subst Closed c.size-2.ensures.size c.close.ensures.closed)
+    in part_held c.args.s.now (assignment_of c.args.a.now) c.args.edges.left.0 c.args.edges.right.0 body
+    c.close.new.self c.size-3.result c.args.chunk c.args.part c.part-word.result
+    c.size-3.ensures.size c.requires.part held c.part-word.ensures
+
+pub closed_part-returns-clause-kept : goal.closed_part-returns-clause-kept
+closed_part-returns-clause-kept t c =
+    let n : ℕ = c.args.s.now.size
+    in let body : Form = form_of c.args.edges.body.now
+    in let Closed : ℕ → Type 0 = λ k. (x y : ℕ) → x < k → y < k
+    → entry_in c.close.new.self x y ≡ best_walk (entry_in c.fill.new.relation) (range_with_len 0 k) x y
+    in let held : HoldsClosure c.args.s.now (assignment_of c.args.a.now) c.args.edges.left.0
+    c.args.edges.right.0 body c.close.new.self =
+    closed_are_held c.args.s.now (assignment_of c.args.a.now) c.args.edges.left.0 c.args.edges.right.0 body
+    c.fill.new.relation c.close.new.self
+    (subst (λ k. IsSquare k c.close.new.self) c.size-2.ensures.size c.close.ensures.square) c.fill.ensures.edges
+    (subst Closed c.size-2.ensures.size c.close.ensures.closed)
+    in c.offer.ensures.kept c.args.s.now (assignment_of c.args.a.now) c.fill.ensures.kept
+    c.requires.body.formula.1.1 held
+
+pub closed_part-part-requires-clause-square : goal.closed_part-part-requires-clause-square
+closed_part-part-requires-clause-square t c =
+    (subst (λ n. IsSquare n c.in-Some.closed.now) (sym c.size.ensures.size)
+    (c.in-Some.ensures.held c.args.s.now (assignment_of c.args.a.now) c.requires.kept).square)
+
+pub closed_part-returns-in-Some-clause-exact : goal.closed_part-returns-in-Some-clause-exact
+closed_part-returns-in-Some-clause-exact t c =
+    part_held c.args.s.now (assignment_of c.args.a.now) c.args.edges.left.0 c.args.edges.right.0
+    (form_of c.args.edges.body.now) c.in-Some.closed.now c.size.result c.args.chunk c.args.part c.part.result
+    c.size.ensures.size c.requires.part
+    (c.in-Some.ensures.held c.args.s.now (assignment_of c.args.a.now) c.requires.kept) c.part.ensures
+
+pub quantified_word-loop-x-init : goal.quantified_word-loop-x-init
+quantified_word-loop-x-init t c = (
+  refl,
+  c.requires.kept,
+  joined-none c.args.s.now.size c.args.chunk (λ u x. turned c.args.q (value (structure_of c.args.s.now)
+      (put (put (assignment_of c.args.a.now) c.args.v.0 u) c.args.w.0 x) (form_of c.args.body.now)))
+      c.of-found.result c.of-found.ensures,
+  like-itself c.args.a.now c.args.w.0,
+)
+
+pub quantified_word-word_of-word-requires : goal.quantified_word-word_of-word-requires
+quantified_word-word_of-word-requires t c = (
+  search rules,
+  (
+    subst (λ sizes. CanEvaluate c.args.s.now c.set.new.self sizes (FExists c.args.v.0 (form_of c.args.body.now)))
+        (sym c.loop-x.invariant.0)
+        (row-put c.args.s.now c.args.a.now c.set.new.self (sizes_of c.args.rooms.now) c.args.v.0 c.args.w.0
+        c.loop-x.x (form_of c.args.body.now) c.requires.parts (omega arith)
+        (put-again c.args.a.now c.loop-x.here c.set.new.self c.args.w.0 c.loop-x.x c.loop-x.invariant.3
+        c.set.ensures.places)),
+    (c.requires.chunk, c.loop-x.invariant.1),
+  ),
+)
+
+pub quantified_word-loop-x-preserved : goal.quantified_word-loop-x-preserved
+quantified_word-loop-x-preserved t c =
+    let g : ℕ → ℕ → K3 = λ u x. turned c.args.q (value (structure_of c.args.s.now)
+    (put (put (assignment_of c.args.a.now) c.args.v.0 u) c.args.w.0 x) (form_of c.args.body.now))
+    in let h : ℕ → K3 = λ u. value (structure_of c.args.s.now) (put (assignment_of c.set.new.self) c.args.v.0 u)
+    (form_of c.args.body.now)
+    in let here : (u : ℕ) → turned c.args.q (h u) ≡ g u c.loop-x.x = λ u. ap (turned c.args.q)
+    (ap (λ b. value (structure_of c.args.s.now) (put b c.args.v.0 u) (form_of c.args.body.now))
+    (total-again c.args.a.now c.loop-x.here c.set.new.self c.args.w.0 c.loop-x.x c.loop-x.invariant.3
+    c.set.ensures.places)
+    ∙ puts_commute c.args.s.now (assignment_of c.args.a.now) c.args.v.0 c.args.w.0 u c.loop-x.x
+    (form_of c.args.body.now) c.requires.apart)
+    in let count : c.places-count.result ≡ min 64 (c.args.s.now.size - 64 * c.args.chunk) =
+    c.places-count.ensures.value ∙ (rw c.size.ensures.size refl)
+    in let row : IsWordOf c.args.s.now.size c.args.chunk (λ u. g u c.loop-x.x) c.turned_word.result =
+    same-word c.args.s.now.size c.args.chunk (λ u. turned c.args.q (h u)) (λ u. g u c.loop-x.x)
+    c.turned_word.result
+    (of-mapped c.args.s.now.size c.args.chunk c.places-count.result (turned c.args.q) h c.word_of-word.result
+    c.turned_word.result c.word_of-word.ensures.exact count c.turned_word.ensures) (λ u lt. here u)
+    in let next : JoinedTo c.args.s.now.size c.args.chunk (c.loop-x.x + 1) g c.or-found.result =
+    joined-next c.args.s.now.size c.args.chunk c.loop-x.x g c.loop-x.found c.turned_word.result
+    c.or-found.result (omega arith) row c.loop-x.invariant.2 c.or-found.ensures
+    in (
+      c.word_of-word.ensures.rooms ∙ c.loop-x.invariant.0,
+      c.word_of-word.ensures.kept,
+      next,
+      like-again c.args.a.now c.loop-x.here c.set.new.self c.args.w.0 c.loop-x.x c.loop-x.invariant.3
+          c.set.ensures.places,
+    )
+
+pub quantified_word-returns-then-eq-clause-exact : goal.quantified_word-returns-then-eq-clause-exact
+quantified_word-returns-then-eq-clause-exact t c =
+    let g : ℕ → ℕ → K3 = λ u x. turned c.args.q (value (structure_of c.args.s.now)
+    (put (put (assignment_of c.args.a.now) c.args.v.0 u) c.args.w.0 x) (form_of c.args.body.now))
+    in let h : ℕ → K3 = λ u. value (structure_of c.args.s.now) (put (assignment_of c.set.new.self) c.args.v.0 u)
+    (form_of c.args.body.now)
+    in let here : (u : ℕ) → turned c.args.q (h u) ≡ g u c.loop-x.x = λ u. ap (turned c.args.q)
+    (ap (λ b. value (structure_of c.args.s.now) (put b c.args.v.0 u) (form_of c.args.body.now))
+    (total-again c.args.a.now c.loop-x.here c.set.new.self c.args.w.0 c.loop-x.x c.loop-x.invariant.3
+    c.set.ensures.places)
+    ∙ puts_commute c.args.s.now (assignment_of c.args.a.now) c.args.v.0 c.args.w.0 u c.loop-x.x
+    (form_of c.args.body.now) c.requires.apart)
+    in let count : c.places-count.result ≡ min 64 (c.args.s.now.size - 64 * c.args.chunk) =
+    c.places-count.ensures.value ∙ (rw c.size.ensures.size refl)
+    in let row : IsWordOf c.args.s.now.size c.args.chunk (λ u. g u c.loop-x.x) c.turned_word.result =
+    same-word c.args.s.now.size c.args.chunk (λ u. turned c.args.q (h u)) (λ u. g u c.loop-x.x)
+    c.turned_word.result
+    (of-mapped c.args.s.now.size c.args.chunk c.places-count.result (turned c.args.q) h c.word_of-word.result
+    c.turned_word.result c.word_of-word.ensures.exact count c.turned_word.ensures) (λ u lt. here u)
+    in let next : JoinedTo c.args.s.now.size c.args.chunk (c.loop-x.x + 1) g c.or-found.result =
+    joined-next c.args.s.now.size c.args.chunk c.loop-x.x g c.loop-x.found c.turned_word.result
+    c.or-found.result (omega arith) row c.loop-x.invariant.2 c.or-found.ensures
+    in same-word c.args.s.now.size c.args.chunk
+    (λ u. turned c.args.q (greatest_of (g u) (range_with_len 0 c.args.s.now.size)))
     (λ u. value (structure_of c.args.s.now) (put (assignment_of c.args.a.now) c.args.v.0 u)
-    (FClosure c.args.from.0 c.args.to.0 c.args.edges.left.0 c.args.edges.right.0 (form_of c.args.edges.body.now)))
-    (λ u. read_from c.args.s.now.size (best_walk (λ x y. value (structure_of c.args.s.now)
-    (put (put (assignment_of c.args.a.now) c.args.edges.left.0 x) c.args.edges.right.0 y)
-    (form_of c.args.edges.body.now)) (range_with_len 0 c.args.s.now.size)) c.closed_part-row.result
-    (assignment_of c.args.a.now c.args.from.0) c.at-2.result c.at-3.result
-    (assignment_of c.args.a.now c.args.to.0) c.get.result c.closed_part-row.ensures.exact c.at-2.ensures
-    c.get.ensures c.at-3.ensures (individual_of c.args.s.now.size c.args.a.now c.args.to.0
-    (c.requires.parts.assigned c.args.to.0 (c.if-to-v-2.false, inr (inl refl))))
-    ∙ closure_at c.args.s.now (assignment_of c.args.a.now) c.args.v.0 u c.args.from.0 c.args.to.0
-    c.args.edges.left.0 c.args.edges.right.0
-    (form_of c.args.edges.body.now) c.requires.steady (assignment_of c.args.a.now c.args.from.0)
-    (assignment_of c.args.a.now c.args.to.0) (sym
-    (put_other (assignment_of c.args.a.now) c.args.v.0 u c.args.from.0 c.if-from-v.false))
-    (sym (put_other (assignment_of c.args.a.now) c.args.v.0 u c.args.to.0 c.if-to-v-2.false)))))
+    (quantified c.args.q c.args.w.0 (form_of c.args.body.now))) c.turned_word-then-eq.result
+    (of-mapped c.args.s.now.size c.args.chunk c.places-count.result (turned c.args.q)
+    (λ u. greatest_of (g u) (range_with_len 0 c.args.s.now.size)) c.or-found.result c.turned_word-then-eq.result
+    (joined-yes c.args.s.now.size c.args.chunk (c.loop-x.x + 1) g c.or-found.result next
+    c.places-count.result count (sym c.least.ensures ∙ told-equal c.least.result Yes c.eq.result c.eq.ensures.same c.if-eq.true)) count c.turned_word-then-eq.ensures)
+    (λ u lt. quantified-value c.args.q (structure_of c.args.s.now) (put (assignment_of c.args.a.now) c.args.v.0 u)
+    c.args.w.0 (form_of c.args.body.now))
+
+pub quantified_word-returns-clause-exact : goal.quantified_word-returns-clause-exact
+quantified_word-returns-clause-exact t c =
+    let g : ℕ → ℕ → K3 = λ u x. turned c.args.q (value (structure_of c.args.s.now)
+    (put (put (assignment_of c.args.a.now) c.args.v.0 u) c.args.w.0 x) (form_of c.args.body.now))
+    in let count : c.places-count.result ≡ min 64 (c.args.s.now.size - 64 * c.args.chunk) =
+    c.places-count.ensures.value ∙ (rw c.size.ensures.size refl)
+    in same-word c.args.s.now.size c.args.chunk
+    (λ u. turned c.args.q (greatest_of (g u) (range_with_len 0 c.args.s.now.size)))
+    (λ u. value (structure_of c.args.s.now) (put (assignment_of c.args.a.now) c.args.v.0 u)
+    (quantified c.args.q c.args.w.0 (form_of c.args.body.now))) c.turned_word-2.result
+    (of-mapped c.args.s.now.size c.args.chunk c.places-count.result (turned c.args.q)
+    (λ u. greatest_of (g u) (range_with_len 0 c.args.s.now.size)) c.loop-x.found c.turned_word-2.result
+    (joined-all c.args.s.now.size c.args.chunk c.loop-x.x g c.loop-x.found c.loop-x.invariant.2
+    (omega arith)) count c.turned_word-2.ensures)
+    (λ u lt. quantified-value c.args.q (structure_of c.args.s.now) (put (assignment_of c.args.a.now) c.args.v.0 u)
+    c.args.w.0 (form_of c.args.body.now))
+
+pub by_values-value_of-requires : goal.by_values-value_of-requires
+by_values-value_of-requires t c = (
+  search rules,
+  (
+    row-steady c.args.s.now c.args.a.now (sizes_of c.args.rooms.now) c.args.v.0 (form_of c.args.f.now)
+        c.requires.parts (λ free. let yes : c.free.result ≡ true = c.free.ensures.1 free in let no : c.free.result ≡ false = c.if-not-free.true in cc),
+    c.requires.kept,
+  ),
+)
+
+pub by_values-returns-then-not-free-clause-exact : goal.by_values-returns-then-not-free-clause-exact
+by_values-returns-then-not-free-clause-exact t c =
+    same-word c.args.s.now.size c.args.chunk (λ u. c.value_of.result)
+    (λ u. value (structure_of c.args.s.now) (put (assignment_of c.args.a.now) c.args.v.0 u) (form_of c.args.f.now))
+    c.constant_word.result (c.constant_word.ensures c.args.s.now.size c.args.chunk)
+    (λ u lt. c.value_of.ensures.exact
+    ∙ put_steady c.args.s.now (assignment_of c.args.a.now) c.args.v.0 u (form_of c.args.f.now)
+    (λ free. let yes : c.free.result ≡ true = c.free.ensures.1 free in let no : c.free.result ≡ false = c.if-not-free.true in cc))
+
+pub closure_word-closure-requires : goal.closure_word-closure-requires
+closure_word-closure-requires t c = (
+  search rules,
+  (
+    row-steady c.args.s.now c.args.a.now (sizes_of c.args.rooms.now) c.args.v.0
+        (FClosure c.args.from.0 c.args.to.0 c.args.edges.left.0 c.args.edges.right.0
+        (form_of c.args.edges.body.now)) c.requires.parts
+        (⊎_elim (λ e. c.if-from-v.false (sym e))
+        (λ other. ⊎_elim (λ e. c.if-to-v-2.false (sym e)) c.requires.steady other)),
+    c.requires.kept,
+  ),
+)

@@ -1,13 +1,20 @@
-use Rattle.std.proofs.Common.{◌∙◌, get_or, [], refl, subst}
-use Rattle.std.proofs.lemmas.List.FromFn.{fill_by_all}
-use Rattle.tv_kleene.specs.declared.K3.TheVariants.{No}
+use Rattle.std.proofs.Common.{arith}
 use Rattle.tv_row.specs.Places.{entry_in}
-use Rattle.tv_eval.specs.Rows.{IsPart}
+use Rattle.tv_eval.specs.Rows.{part_at}
+use Rattle.tv_eval.proofs.AlongWords.{filled-none, filled-next, filled-all}
 use Rattle.tv_eval.proofs.relation.Relation.part.Goals as goal
 
-pub returns-in-From : goal.returns-in-From
-returns-in-From c =
-    c.row.ensures
-    ∙ fill_by_all (entry_in c.args.self.now c.in-From.u) (get_or c.args.self.now c.in-From.u []) c.args.size No
-    (c.requires.square.columns c.in-From.u (subst (IsPart c.args.size) c.in-From.is c.requires.part)) (λ k lt. refl)
-    ∙ (rw c.in-From.is refl)
+pub loop-i-init : goal.loop-i-init
+loop-i-init c =
+    filled-none c.args.chunk (part_at c.args.part (entry_in c.args.self.now)) c.of-values.result c.of-values.ensures
+
+pub loop-i-preserved : goal.loop-i-preserved
+loop-i-preserved c =
+    filled-next c.args.chunk c.loop-i.i (part_at c.args.part (entry_in c.args.self.now)) c.loop-i.values
+    c.with-values.result c.part_value.result c.loop-i.invariant (omega (arith, c.places-i-end.ensures.small))
+    c.with-values.ensures c.part_value.ensures
+
+pub returns : goal.returns
+returns c =
+    filled-all c.args.size c.args.chunk c.loop-i.i c.places-i-end.result (part_at c.args.part (entry_in c.args.self.now))
+    c.loop-i.values c.loop-i.invariant c.places-i-end.ensures.value (omega arith)

@@ -1,0 +1,193 @@
+//! The values of a formula without parts for 64 of the individuals that one variable may stand for.
+
+ghost use Rattle.std.specs.Prelude.{◌≡◌, ◌≤◌, ◌<◌, ◌*◌, ◌-◌, ℕ, [], ◌∷◌, min, ◌==◌, if◌then◌else◌};
+ghost use Rattle.tv_kleene.specs.declared.K3.TheVariants.{No};
+ghost use Rattle.tv_model.specs.Form.{vars_of, FAtom, FExists, FIsNew, FSame};
+ghost use Rattle.tv_struct.specs.StructureForm.{structure_of, value_at};
+ghost use Rattle.tv_struct.specs.StructureRows.{HasArity};
+ghost use Rattle.tv_eval_laws.specs.Value.{mark_value, same_value};
+ghost use Rattle.tv_eval.specs.Along.{IsWordAlong, IsWordOf};
+ghost use Rattle.tv_eval.specs.AssignmentForm.{assignment_of};
+ghost use Rattle.tv_eval.specs.CanEvaluate.{CanEvaluate};
+
+use crate::Assignment;
+use crate::leaves::{atom, is_new, same};
+use tv_kleene::K3;
+use tv_model::{Formula, PredId, Terms, Var, free};
+use tv_row::Word;
+use tv_struct::{Structure, Tuple};
+
+/// How many words hold a value for each of that many individuals.
+pub fn chunks(size: u32) -> u32
+    ensures each { (chunk : ℕ) → chunk < result → 64 * chunk < size }
+    ensures all { size ≤ 64 * result }
+{
+    size.div_ceil(64)
+}
+
+/// How many of that many individuals a word has values for.
+#[inline(always)]
+pub fn places(size: u32, chunk: u32) -> u32
+    requires { 64 * chunk < size }
+    ensures value { result ≡ min 64 (size - 64 * chunk) }
+    ensures small { result ≤ 64 }
+{
+    (size - 64 * chunk).min(64)
+}
+
+/// The same value for all individuals.
+#[inline(always)]
+pub fn constant_word(k: K3) -> Word
+    ensures { (n chunk : ℕ) → IsWordOf n chunk (λ _. k) result }
+{
+    Word::of(64, k)
+}
+
+/// The predicate's values, with `v` put for individuals in its terms.
+pub fn atom_word(
+    pred: PredId,
+    terms: &Terms,
+    v: Var,
+    chunk: u32,
+    s: &Structure,
+    a: &Assignment,
+) -> Word
+    requires parts { CanEvaluate s.now a.now [] (FExists v.0 (FAtom pred.0 (vars_of terms.now))) }
+    requires chunk { 64 * chunk < s.now.size }
+    ensures { IsWordAlong s.now (assignment_of a.now) v.0 chunk (FAtom pred.0 (vars_of terms.now)) result }
+{
+    match terms {
+        Terms::Zero => constant_word(s.get(pred, Tuple::Zero)),
+        Terms::One(x) => one_word(pred, *x, v, chunk, s, a),
+        Terms::Two(x, y) => two_word(pred, *x, *y, v, chunk, s, a),
+    }
+}
+
+fn one_word(pred: PredId, x: Var, v: Var, chunk: u32, s: &Structure, a: &Assignment) -> Word
+    requires parts { CanEvaluate s.now a.now [] (FExists v.0 (FAtom pred.0 (x.0 ∷ []))) }
+    requires chunk { 64 * chunk < s.now.size }
+    ensures { IsWordAlong s.now (assignment_of a.now) v.0 chunk (FAtom pred.0 (x.0 ∷ [])) result }
+{
+    if x.0 == v.0 {
+        return s.unary_word(pred, chunk);
+    }
+    constant_word(s.get(pred, Tuple::One(a.at(x))))
+}
+
+fn two_word(pred: PredId, x: Var, y: Var, v: Var, chunk: u32, s: &Structure, a: &Assignment) -> Word
+    requires parts { CanEvaluate s.now a.now [] (FExists v.0 (FAtom pred.0 (x.0 ∷ y.0 ∷ []))) }
+    requires chunk { 64 * chunk < s.now.size }
+    ensures { IsWordAlong s.now (assignment_of a.now) v.0 chunk (FAtom pred.0 (x.0 ∷ y.0 ∷ [])) result }
+{
+    if x.0 == v.0 {
+        if y.0 == v.0 {
+            return diagonal(pred, chunk, s);
+        }
+        return s.column_word(pred, a.at(y), chunk);
+    }
+    if y.0 == v.0 {
+        return s.word(pred, a.at(x), chunk);
+    }
+    constant_word(s.get(pred, Tuple::Two(a.at(x), a.at(y))))
+}
+
+/// The binary predicate's values at the pairs of an individual with itself.
+fn diagonal(pred: PredId, chunk: u32, s: &Structure) -> Word
+    requires arity { HasArity s.now pred.0 2 }
+    requires chunk { 64 * chunk < s.now.size }
+    ensures { IsWordOf s.now.size chunk (λ u. value_at s.now pred.0 (u ∷ u ∷ [])) result }
+{
+    let mut values = Word::of(64, K3::No);
+    for i in 0..places(s.size(), chunk) {
+        let u = 64 * chunk + i;
+        values = values.with(i, s.get(pred, Tuple::Two(u, u)));
+    }
+    values
+}
+
+/// Whether `w` stands for the fresh individual, with `v` put for individuals.
+pub fn new_word(w: Var, v: Var, chunk: u32, s: &Structure, a: &Assignment) -> Word
+    ensures { IsWordAlong s.now (assignment_of a.now) v.0 chunk (FIsNew w.0) result }
+{
+    if w.0 == v.0 {
+        return fresh_word(chunk, s);
+    }
+    constant_word(is_new(s, a.at(w)))
+}
+
+/// Whether each individual is the fresh one.
+fn fresh_word(chunk: u32, s: &Structure) -> Word
+    ensures { IsWordOf s.now.size chunk (mark_value s.now.fresh) result }
+{
+    match s.fresh() {
+        None => Word::of(64, K3::No),
+        Some(u) => alone_at(u, K3::Yes, chunk),
+    }
+}
+
+/// The value `k` at the individual `u`, and `No` at all others.
+#[inline(always)]
+fn alone_at(u: u32, k: K3, chunk: u32) -> Word
+    ensures { (n : ℕ) → IsWordOf n chunk (λ w. if w == u then k else No) result }
+{
+    let none = Word::of(64, K3::No);
+    if u / 64 != chunk {
+        return none;
+    }
+    none.with(u % 64, k)
+}
+
+/// Whether `x` and `y` stand for one cell, with `v` put for individuals.
+pub fn same_word(x: Var, y: Var, v: Var, chunk: u32, s: &Structure, a: &Assignment) -> Word
+    requires parts { CanEvaluate s.now a.now [] (FExists v.0 (FSame x.0 y.0)) }
+    requires chunk { 64 * chunk < s.now.size }
+    ensures { IsWordAlong s.now (assignment_of a.now) v.0 chunk (FSame x.0 y.0) result }
+{
+    if x.0 == v.0 {
+        if y.0 == v.0 {
+            let count = places(s.size(), chunk);
+            let summaries = s.summary_row().word(chunk);
+            return summaries.not(count);
+        }
+        return same_as(a.at(y), chunk, s);
+    }
+    if y.0 == v.0 {
+        return same_as(a.at(x), chunk, s);
+    }
+    constant_word(same(s, a.at(x), a.at(y)))
+}
+
+/// Whether each individual is one cell with `u`.
+fn same_as(u: u32, chunk: u32, s: &Structure) -> Word
+    requires { u < s.now.size }
+    ensures { IsWordOf s.now.size chunk (λ w. same_value (structure_of s.now) w u) result }
+{
+    alone_at(u, same(s, u, u), chunk)
+}
+
+/// Whether a quantifier over `w` takes longer with `v` put for all individuals at a time than one after the
+/// other: where `v` isn't free in its body, or more atoms are read as columns. A column takes longer than
+/// a row.
+pub fn is_slow_along(body: &Formula, v: Var, w: Var) -> bool {
+    if !free(body, v) {
+        return true;
+    }
+    let count = columns(body, v);
+    count > 0 && count > columns(body, w)
+}
+
+/// How many atoms are read as columns where the variable is put for all individuals: they have it first
+/// and another variable second.
+fn columns(f: &Formula, v: Var) -> usize {
+    match f {
+        Formula::Atom(_, Terms::Two(x, y)) => usize::from(x.0 == v.0 && y.0 != v.0),
+        Formula::Not(g) | Formula::Exists(_, g) | Formula::Forall(_, g) => columns(g, v),
+        Formula::And(g, h) | Formula::Or(g, h) | Formula::Iff(g, h) => {
+            columns(g, v).saturating_add(columns(h, v))
+        }
+        Formula::Cond(c, g, h) => columns(c, v).saturating_add(columns(g, v).saturating_add(columns(
+            h, v,
+        ))),
+        _ => 0,
+    }
+}

@@ -1,0 +1,42 @@
+//! Quantifiers, of which "for all" is "there is" with the values negated before and behind it.
+
+ghost use Rattle.std.specs.Prelude.{◌≡◌, ◌≤◌, map};
+ghost use Rattle.tv_row.specs.Bits.{padded};
+ghost use Rattle.tv_eval.specs.Quantified.{turned};
+
+use tv_kleene::K3;
+use tv_row::Word;
+
+/// A quantifier.
+#[derive(Clone, Copy, Debug)]
+pub enum Quantifier {
+    /// "There is": the greatest value.
+    Exists,
+    /// "For all": the least value, the greatest of the negated ones negated.
+    Forall,
+}
+
+impl Quantifier {
+    /// The value, negated for "for all".
+    #[inline(always)]
+    pub fn turned(self, k: K3) -> K3
+        ensures { result ≡ turned self k }
+    {
+        match self {
+            Quantifier::Exists => k,
+            Quantifier::Forall => k.not(),
+        }
+    }
+
+    /// The first `count` values, negated for "for all", and `No` behind them.
+    #[inline(always)]
+    pub fn turned_word(self, word: Word, count: u32) -> Word
+        requires { count ≤ 64 }
+        ensures { result ≡ padded count (map (turned self) word) }
+    {
+        match self {
+            Quantifier::Exists => word.first(count),
+            Quantifier::Forall => word.not(count),
+        }
+    }
+}
