@@ -1,8 +1,7 @@
 -- Words of values along a variable.
-use Rattle.std.proofs.Common.{ℕ, ◌≡◌, ◌<◌, ◌≤◌, ◌+◌, ◌-◌, ◌*◌, ◌/◌, ◌%◌, ◌≢◌, ◌⊎◌, ⊎_elim, inl, inr, zero}
-use Rattle.std.proofs.Common.{suc, cond, ltb, List}
+use Rattle.std.proofs.Common.{ℕ, ◌≡◌, ◌<◌, ◌≤◌, ◌+◌, ◌-◌, ◌*◌, ◌/◌, ◌%◌, ◌≢◌, ◌⊎◌, ⊎_elim, inl, zero}
+use Rattle.std.proofs.Common.{suc, cond, List}
 use Rattle.std.proofs.Common.{[], ◌∷◌, ◌++◌, length, map, get_or, set, take, replicate, min, refl, sym, ap}
-use Rattle.std.proofs.Common.{subst}
 use Rattle.std.proofs.Common.{◌∙◌, ◌==◌, if◌then◌else◌, eqb, eq-eqb, ne_eqb, arith}
 use Rattle.std.specs.List.{range_with_len}
 use Rattle.std.proofs.lemmas.Bool.{cases_eq, cases_lt, lt-ltb, cond-true, cond-false}
@@ -16,7 +15,7 @@ use Rattle.tv_row.specs.Bits.{paired, padded, greatest_in, least_in}
 use Rattle.tv_row.proofs.Extremes.{all_yes}
 use Rattle.tv_row.proofs.Greatest.{greatest_padded}
 use Rattle.tv_row.proofs.WordOps.{length-paired, get_or-paired, length-padded, get_or-padded}
-use Rattle.tv_eval_laws.specs.Value.{same_value, greatest_of, least_of}
+use Rattle.tv_eval_laws.specs.Value.{same_value, greatest_of}
 use Rattle.tv_embedding_laws.specs.LogicalStructure.{LogicalStructure}
 use Rattle.tv_eval.specs.Along.{IsWordOf}
 use Rattle.tv_eval.proofs.Loops.{larger-assoc, greatest-next, greatest-end, greatest-yes, larger-none}

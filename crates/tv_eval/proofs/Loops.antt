@@ -7,8 +7,8 @@ use Rattle.std.proofs.lemmas.List.FromFn.{length-range_with_len, get_or-range_wi
 use Rattle.std.proofs.lemmas.Bool.{cases_eq}
 use Rattle.tv_kleene.specs.declared.K3.{K3}
 use Rattle.tv_kleene.specs.declared.K3.TheVariants.{No, Half, Yes}
-use Rattle.tv_kleene.specs.Kleene.{smaller_of, larger_of}
-use Rattle.tv_eval_laws.specs.Value.{greatest_of, least_of, best_walk}
+use Rattle.tv_kleene.specs.Kleene.{larger_of}
+use Rattle.tv_eval_laws.specs.Value.{greatest_of, best_walk}
 use Rattle.tv_eval.proofs.RowLaws.{range-front, best-agrees}
 
 -- what a comparison told

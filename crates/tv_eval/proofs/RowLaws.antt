@@ -1,5 +1,5 @@
 -- How the entries of a relation read, and how walks grow by one stop after the other.
-use Rattle.std.proofs.Common.{ℕ, ◌≡◌, ◌≢◌, ◌<◌, ◌≤◌, ◌+◌, ◌-◌, ⊎_elim, zero, suc, List, [], ◌∷◌, length, map}
+use Rattle.std.proofs.Common.{ℕ, ◌≡◌, ◌≢◌, ◌<◌, ◌≤◌, ◌+◌, ◌-◌, ⊎_elim, suc, List, [], ◌∷◌, length, map}
 use Rattle.std.proofs.Common.{get_or, set, refl, sym, ap, ◌∙◌, arith}
 use Rattle.std.specs.List.{range_with_len}
 use Rattle.std.proofs.lemmas.Bool.{cases_eq, cases_lt}

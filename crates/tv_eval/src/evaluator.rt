@@ -1,13 +1,11 @@
 //! An evaluator that is bound to one structure.
 
-ghost use Rattle.std.specs.Prelude.{ℕ, ◌≡◌, ◌<◌, ◌≤◌, length, slice_index_or};
-ghost use Rattle.tv_kleene.specs.declared.K3.TheVariants.{No};
+ghost use Rattle.std.specs.Prelude.{◌≡◌, ◌<◌, ◌≤◌, ◌*◌};
 ghost use Rattle.tv_model.specs.Form.{form_of, FExists};
-ghost use Rattle.tv_model.specs.Truth.{put};
 ghost use Rattle.tv_model.specs.Valid.{IsFormulaOver};
 ghost use Rattle.tv_struct.specs.StructureForm.{structure_of, arities_of};
 ghost use Rattle.tv_eval_laws.specs.Value.{value};
-ghost use Rattle.tv_eval.specs.Along.{values_along};
+ghost use Rattle.tv_eval.specs.Along.{IsWordAlong, values_along};
 ghost use Rattle.tv_eval.specs.AssignmentForm.{assignment_of};
 ghost use Rattle.tv_eval.specs.Bound.{IsBound, bound_structure, bound_room};
 ghost use Rattle.tv_eval.specs.Formulas.{AreAssigned};
@@ -114,21 +112,18 @@ impl<'a> Evaluator<'a> {
         )
     }
 
-    /// The values of the formula for all individuals of a structure of at most 64, put for the variable in
-    /// turn, whatever it stood for: the word's first. Each is exactly the value under that assignment; what
+    /// The values of the formula for the individuals from `64 * chunk` on, 64 or as many as there are, put
+    /// for the variable in turn, whatever it stood for. Each is exactly the value under that assignment; what
     /// stands behind the last isn't told. Takes no memory.
-    pub fn word(&mut self, f: &'a Formula, v: Var, a: &Assignment) -> Word
+    pub fn word(&mut self, f: &'a Formula, v: Var, chunk: u32, a: &Assignment) -> Word
         requires bound { IsBound self.old }
         requires formula { IsFormulaOver (arities_of (bound_structure self.old))
             (FExists v.0 (form_of f.now)) }
         requires assigned { AreAssigned (bound_structure self.old).size a.now (FExists v.0 (form_of f.now)) }
         requires fits { HasScratchFor (bound_room self.old) (form_of f.now) (bound_structure self.old).size }
-        requires some { 0 < (bound_structure self.old).size }
-        requires few { (bound_structure self.old).size ≤ 64 }
-        ensures exact { (u : ℕ) → u < (bound_structure self.old).size → slice_index_or result u No
-            ≡ value (structure_of (bound_structure self.old)) (put (assignment_of a.now) v.0 u)
-            (form_of f.now) }
-        ensures long { length result ≡ 64 }
+        requires chunk { 64 * chunk < (bound_structure self.old).size }
+        ensures exact { IsWordAlong (bound_structure self.old) (assignment_of a.now) v.0 chunk
+            (form_of f.now) result }
         ensures bound { IsBound self.new }
         ensures structure { bound_structure self.new ≡ bound_structure self.old }
         ensures room { bound_room self.new ≡ bound_room self.old }
@@ -136,7 +131,7 @@ impl<'a> Evaluator<'a> {
         word_of(
             f,
             v,
-            0,
+            chunk,
             self.structure,
             a,
             self.rooms.as_mut_slice(),

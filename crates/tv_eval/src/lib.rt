@@ -16,4 +16,5 @@ mod values;
 pub use assignment::Assignment;
 pub use evaluator::{Evaluator, eval};
 pub use laws::{made_scratches_fit, program_formulas_are_over};
+pub use leaf_words::{chunks, places};
 pub use scratch::Scratch;

@@ -1,6 +1,5 @@
-use Rattle.std.proofs.Common.{ℕ, ◌==◌, if◌then◌else◌, eqb, eq-eqb, ne_eqb, refl, sym}
+use Rattle.std.proofs.Common.{◌==◌, if◌then◌else◌, eqb, eq-eqb, ne_eqb, refl, sym}
 use Rattle.std.proofs.lemmas.Bool.{cond-true, cond-false}
-use Rattle.tv_kleene.specs.declared.K3.{K3}
 use Rattle.tv_kleene.specs.declared.K3.TheVariants.{No}
 use Rattle.tv_eval.proofs.AlongWords.{alone-here, alone-elsewhere}
 use Rattle.tv_eval.proofs.leaf_words.alone_at.Goals as goal

@@ -1,5 +1,4 @@
-use Rattle.std.proofs.Common.{ℕ, ◌≡◌, ◌+◌, ◌-◌, ◌*◌, ◌∙◌, [], ◌∷◌, min, refl, arith}
-use Rattle.tv_kleene.specs.declared.K3.{K3}
+use Rattle.std.proofs.Common.{◌∙◌, [], ◌∷◌, refl, arith}
 use Rattle.tv_struct.specs.StructureForm.{value_at}
 use Rattle.tv_eval.proofs.AlongWords.{filled-none, filled-next, filled-all}
 use Rattle.tv_eval.proofs.leaf_words.diagonal.Goals as goal

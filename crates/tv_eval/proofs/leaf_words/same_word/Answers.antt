@@ -1,6 +1,4 @@
 use Rattle.std.proofs.Common.{ℕ, ◌∙◌, if◌then◌else◌, refl, sym, arith}
-use Rattle.std.specs.List.{range_with_len}
-use Rattle.std.proofs.lemmas.List.FromFn.{length-map-range_with_len, get_or-map-range_with_len}
 use Rattle.tv_kleene.specs.declared.K3.{K3}
 use Rattle.tv_kleene.specs.declared.K3.TheVariants.{No, Half}
 use Rattle.tv_kleene.specs.Kleene.{negation_of}

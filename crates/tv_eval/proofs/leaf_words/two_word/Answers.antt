@@ -1,5 +1,4 @@
 use Rattle.std.proofs.Common.{ℕ, ◌+◌, ◌*◌, ◌∙◌, [], ◌∷◌, sym}
-use Rattle.tv_kleene.specs.declared.K3.{K3}
 use Rattle.tv_model.specs.Truth.{put}
 use Rattle.tv_struct.specs.StructureForm.{value_at}
 use Rattle.tv_eval.specs.AssignmentForm.{assignment_of}

@@ -1,5 +1,6 @@
 -- The values of the parts make up the value of the whole.
-use Rattle.std.proofs.Common.{rules, List, ⊎_elim, ℕ, ◌≡◌, ◌<◌, ◌+◌, ◌-◌, ◌*◌, ◌∙◌, inl, inr, [], length, map, min, get_or}
+use Rattle.std.proofs.Common.{rules, List, ⊎_elim, ℕ, ◌≡◌, ◌<◌, ◌+◌, ◌-◌, ◌*◌, ◌∙◌, inl, inr, [], length, map}
+use Rattle.std.proofs.Common.{min, get_or}
 use Rattle.std.proofs.Common.{refl}
 use Rattle.std.proofs.Common.{sym, ap, subst, arith}
 use Rattle.std.specs.List.{range_with_len}
@@ -28,7 +29,8 @@ use Rattle.tv_eval.proofs.AlongWords.{greatest-chunks, word-reads, words-none, w
 use Rattle.tv_eval.proofs.Keeping.{closed_are_held, part_held}
 use Rattle.tv_eval.proofs.Loops.{greatest-yes, told-equal}
 use Rattle.tv_eval.proofs.Parts.{individual_of, rooms-split, SplitsRooms, can-put, like-itself, like-again}
-use Rattle.tv_eval.proofs.Parts.{put-again, total-again, row-and, row-or, row-iff, row-cond, row-put, row-steady}
+use Rattle.tv_eval.proofs.Parts.{put-again, total-again, row-and, row-or, row-iff, row-cond, row-put}
+use Rattle.tv_eval.proofs.Parts.{row-steady}
 use Rattle.tv_eval.proofs.Quantifying.{quantified-value}
 use Rattle.tv_eval.proofs.values.+values.Goals as goal
 

@@ -1,4 +1,4 @@
-use Rattle.std.proofs.Common.{ℕ, ◌+◌, ◌*◌, ◌≡◌, ◌∙◌, List, length, refl, sym, ap, subst, arith}
+use Rattle.std.proofs.Common.{◌+◌, ◌*◌, ◌≡◌, ◌∙◌, List, length, refl, sym, ap, subst, arith}
 use Rattle.tv_kleene.specs.declared.K3.{K3}
 use Rattle.tv_model.specs.Form.{form_of}
 use Rattle.tv_model.specs.Truth.{put}
@@ -38,13 +38,3 @@ returns-clause-bound c =
           c.args.self.now.rooms.items (omega arith)
           sizes c.requires.bound.sizes;
     }
-
-pub returns-clause-exact : goal.returns-clause-exact
-returns-clause-exact c = λ u lt.
-    let at : 64 * 0 + u ≡ u = omega arith
-    in c.word_of.ensures.exact.each u (omega arith) (omega arith)
-    ∙ ap (λ w. value (structure_of c.args.self.now.structure.now) (put (assignment_of c.args.a.now) c.args.v.0 w)
-    (form_of c.args.f.now)) at
-
-pub returns-clause-long : goal.returns-clause-long
-returns-clause-long c = c.word_of.ensures.exact.long
