@@ -1,10 +1,6 @@
-use Rattle.std.proofs.Common.{◌+◌, ◌*◌, ◌≡◌, ◌∙◌, List, length, refl, sym, ap, subst, arith}
+use Rattle.std.proofs.Common.{◌≡◌, ◌∙◌, List, length, refl, sym, ap, subst, arith}
 use Rattle.tv_kleene.specs.declared.K3.{K3}
 use Rattle.tv_model.specs.Form.{form_of}
-use Rattle.tv_model.specs.Truth.{put}
-use Rattle.tv_struct.specs.StructureForm.{structure_of}
-use Rattle.tv_eval_laws.specs.Value.{value}
-use Rattle.tv_eval.specs.AssignmentForm.{assignment_of}
 use Rattle.tv_eval.specs.Bound.{bound_room}
 use Rattle.tv_eval.specs.Formulas.{HasRooms, nesting, sizes_of}
 use Rattle.tv_eval.specs.Keeps.{HoldsClosures}
