@@ -77,8 +77,7 @@ impl Relation {
         requires to { w < length (slice_index_or self.now u []) }
         ensures { result ≡ entry_in self.now u w }
     {
-        let row = &self.rows[u as usize];
-        row.get(w)
+        self.rows[u as usize].get(w)
     }
 
     /// The part's values among the first `size` individuals, from `64 * chunk` on: 64, or as many as there
@@ -91,8 +90,7 @@ impl Relation {
         ensures { IsWordOf size chunk (part_at part (entry_in self.now)) result }
     {
         if let Part::From(u) = part {
-            let row = &self.rows[u as usize];
-            return row.word(chunk);
+            return self.rows[u as usize].word(chunk);
         }
         let mut values = Word::of(64, K3::No);
         for i in 0..places(size, chunk) {

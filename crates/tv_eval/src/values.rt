@@ -454,8 +454,7 @@ fn words_both<'f>(
     if first.greatest() == K3::No {
         return first;
     }
-    let second = word_of(h, v, chunk, s, a, rooms, kept, shared);
-    first.and(second)
+    first.and(word_of(h, v, chunk, s, a, rooms, kept, shared))
 }
 
 #[cycle(values)]
@@ -483,8 +482,7 @@ fn words_either<'f>(
     if first.least(places(s.size(), chunk)) == K3::Yes {
         return first;
     }
-    let second = word_of(h, v, chunk, s, a, rooms, kept, shared);
-    first.or(second)
+    first.or(word_of(h, v, chunk, s, a, rooms, kept, shared))
 }
 
 #[cycle(values)]
@@ -512,8 +510,7 @@ fn words_alike<'f>(
     let first = word_of(g, v, chunk, s, a, rooms, kept, shared);
     let second = word_of(h, v, chunk, s, a, rooms, kept, shared);
     let forth = first.not(count).or(second);
-    let back = second.not(count).or(first);
-    forth.and(back)
+    forth.and(second.not(count).or(first))
 }
 
 #[cycle(values)]

@@ -221,8 +221,8 @@ words_both-returns-then-eq-clause-exact t c =
     (form_of c.args.h.now))
     (sym c.greatest.ensures ∙ told-equal c.greatest.result No c.eq.result c.eq.ensures.same c.if-eq.true)
 
-pub words_both-word_of-second-requires : goal.words_both-word_of-second-requires
-words_both-word_of-second-requires t c = (
+pub words_both-word_of-requires : goal.words_both-word_of-requires
+words_both-word_of-requires t c = (
   search rules,
   (
     subst (λ sizes. CanEvaluate c.args.s.now c.args.a.now sizes (FExists c.args.v.0 (form_of c.args.h.now)))
@@ -239,8 +239,8 @@ words_both-returns-clause-exact t c =
     (form_of c.args.g.now))
     (λ u. value (structure_of c.args.s.now) (put (assignment_of c.args.a.now) c.args.v.0 u)
     (form_of c.args.h.now))
-    c.word_of-first.result c.word_of-second.result c.and.result c.word_of-first.ensures.exact
-    c.word_of-second.ensures.exact c.and.ensures
+    c.word_of-first.result c.word_of.result c.and.result c.word_of-first.ensures.exact
+    c.word_of.ensures.exact c.and.ensures
 
 pub words_either-returns-then-eq-clause-exact : goal.words_either-returns-then-eq-clause-exact
 words_either-returns-then-eq-clause-exact t c =
@@ -251,8 +251,8 @@ words_either-returns-then-eq-clause-exact t c =
     (form_of c.args.h.now))
     c.places.result (c.places.ensures.value ∙ (rw c.size.ensures.size refl)) (sym c.least.ensures ∙ told-equal c.least.result Yes c.eq.result c.eq.ensures.same c.if-eq.true)
 
-pub words_either-word_of-second-requires : goal.words_either-word_of-second-requires
-words_either-word_of-second-requires t c = (
+pub words_either-word_of-requires : goal.words_either-word_of-requires
+words_either-word_of-requires t c = (
   search rules,
   (
     subst (λ sizes. CanEvaluate c.args.s.now c.args.a.now sizes (FExists c.args.v.0 (form_of c.args.h.now)))
@@ -269,8 +269,8 @@ words_either-returns-clause-exact t c =
     (form_of c.args.g.now))
     (λ u. value (structure_of c.args.s.now) (put (assignment_of c.args.a.now) c.args.v.0 u)
     (form_of c.args.h.now))
-    c.word_of-first.result c.word_of-second.result c.or.result c.word_of-first.ensures.exact
-    c.word_of-second.ensures.exact c.or.ensures
+    c.word_of-first.result c.word_of.result c.or.result c.word_of-first.ensures.exact
+    c.word_of.ensures.exact c.or.ensures
 
 pub words_alike-word_of-second-requires : goal.words_alike-word_of-second-requires
 words_alike-word_of-second-requires t c = (
@@ -294,13 +294,13 @@ words_alike-returns-clause-exact t c =
     (form_of c.args.h.now))
     in let count : c.places-count.result ≡ min 64 (n - 64 * k) = (c.places-count.ensures.value ∙ (rw c.size.ensures.size refl))
     in of-paired n k smaller_of (λ u. larger_of (negation_of (g u)) (h u)) (λ u. larger_of (negation_of (h u)) (g u))
-    c.or-forth.result c.or-back.result c.and.result
+    c.or-forth.result c.or.result c.and.result
     (of-paired n k larger_of (λ u. negation_of (g u)) h c.not.result c.word_of-second.result c.or-forth.result
     (of-mapped n k c.places-count.result negation_of g c.word_of-first.result c.not.result c.word_of-first.ensures.exact count
     c.not.ensures) c.word_of-second.ensures.exact c.or-forth.ensures)
-    (of-paired n k larger_of (λ u. negation_of (h u)) g c.not-2.result c.word_of-first.result c.or-back.result
+    (of-paired n k larger_of (λ u. negation_of (h u)) g c.not-2.result c.word_of-first.result c.or.result
     (of-mapped n k c.places-count.result negation_of h c.word_of-second.result c.not-2.result c.word_of-second.ensures.exact count
-    c.not-2.ensures) c.word_of-first.ensures.exact c.or-back.ensures)
+    c.not-2.ensures) c.word_of-first.ensures.exact c.or.ensures)
     c.and.ensures
 
 pub words_choice-word_of-requires : goal.words_choice-word_of-requires
