@@ -15,4 +15,5 @@ mod Free
 mod Further
 mod KeptLemmas
 mod Loops
+mod NotingLaws
 mod RuleTests

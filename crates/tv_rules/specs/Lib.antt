@@ -5,6 +5,7 @@ pub mod EntryForms
 pub mod Flags
 pub mod Kept
 pub mod Laws
+pub mod Noting
 pub mod PropertyForms
 pub mod Samples
 pub mod Standing

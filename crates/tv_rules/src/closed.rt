@@ -21,6 +21,7 @@ use crate::base::base_rules;
 use crate::conjuncts::{conjuncts, negated_head};
 use crate::dues::{Due, Dues, denied};
 use crate::entries::{Entries, Entry, closed_entries};
+use crate::mentioned::rules_with;
 use crate::shapes::{Shape, Shapes, Waits, shape_of};
 use crate::watch::{Numbers, seeing_summaries, standing};
 use std::alloc::{AllocError, Global};
@@ -132,13 +133,17 @@ fn watch_lists(
 ) -> Result<Items<Numbers>, AllocError>
     requires count { preds ≤ 512 }
     requires entries { map entry_of entries.now ≡ closed_entries (map rule_of bases.now) }
+    requires preds { (q n : ℕ) (rule : RuleForm) → slice_get (map rule_of bases.now) n ≡ Some rule
+        → StandsIn q rule → q < preds }
     ensures count { IfOk result (λ lists. length lists ≡ preds) }
     ensures lists { IfOk result (λ lists. (q : ℕ) (ns : List ℕ) → slice_get lists q ≡ Some ns
         → AreNumbersOf (StandsIn q) (closed_set (map rule_of bases.now)) ns) }
 {
+    let with = rules_with(alloc, bases, preds)?;
     let mut lists = Items::new(alloc);
     for q in 0..preds {
-        lists.push(standing(alloc, bases, entries, PredId(q as u32))?)?;
+        let of_bases = with[q].as_slice();
+        lists.push(standing(alloc, bases, entries, PredId(q as u32), of_bases)?)?;
     }
     Ok(lists)
 }

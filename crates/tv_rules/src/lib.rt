@@ -8,6 +8,7 @@ mod conjuncts;
 mod dues;
 mod entries;
 mod laws;
+mod mentioned;
 mod shapes;
 mod watch;
 

@@ -8,26 +8,29 @@ ghost use Rattle.tv_rules.specs.Closing.{closed_set};
 ghost use Rattle.tv_rules.specs.Standing.{AreNumbersOf, IsHeadOf, StandsIn, HasEquality, IsEquality};
 ghost use Rattle.tv_rules.specs.Standing.{HasEqualityIn, SeesSummaries};
 ghost use Rattle.tv_rules.specs.EntryForms.{entry_of, closed_entries};
+ghost use Rattle.tv_rules.specs.Noting.{AreBasesWith};
 ghost use Rattle.tv_rules.specs.Flags.{Flags, IsOfBase, IsOfBaseOrTwice, AreTrueAt, has_twice, true_places};
 
 use crate::entries::Entry;
 use std::alloc::{AllocError, Global};
-use tv_model::{Formula, Head, Items, PredId, Rule, Terms, mentions};
+use tv_model::{Formula, Head, Items, PredId, Rule, Terms};
 
 /// Numbers of closed rules.
 pub type Numbers = Items<usize>;
 
-/// The numbers of the closed rules in which the predicate stands.
+/// The numbers of the closed rules in which the predicate `p` stands, of whose base rules those are given.
 pub fn standing(
     alloc: Global,
     bases: &[Rule],
     entries: &[Entry],
     p: PredId,
+    with: &[usize],
 ) -> Result<Numbers, AllocError>
-    requires { map entry_of entries.now ≡ closed_entries (map rule_of bases.now) }
+    requires entries { map entry_of entries.now ≡ closed_entries (map rule_of bases.now) }
+    requires with { AreBasesWith p.0 (map rule_of bases.now) with.now }
     ensures { IfOk result (AreNumbersOf (StandsIn p.0) (closed_set (map rule_of bases.now))) }
 {
-    let of_bases = standing_flags(alloc, bases, p)?;
+    let of_bases = standing_flags(alloc, bases, p, with)?;
     let flags = entry_flags(alloc, of_bases.as_slice(), entries)?;
     numbers(alloc, flags.as_slice())
 }
@@ -46,12 +49,19 @@ pub fn seeing_summaries(
     numbers(alloc, flags.as_slice())
 }
 
-fn standing_flags(alloc: Global, bases: &[Rule], p: PredId) -> Result<Vec<bool>, AllocError>
+/// For each base rule whether the predicate `p` stands in it, as it does in those that are given.
+fn standing_flags(
+    alloc: Global,
+    bases: &[Rule],
+    p: PredId,
+    with: &[usize],
+) -> Result<Vec<bool>, AllocError>
+    requires { AreBasesWith p.0 (map rule_of bases.now) with.now }
     ensures { IfOk result (λ flags. AllZip (Flags (StandsIn p.0)) (map rule_of bases.now) flags.items) }
 {
-    let mut flags = Vec::new(alloc);
-    for rule in bases {
-        flags.push(stands_in(rule, p))?;
+    let mut flags = vec![in alloc; false; bases.len()]?;
+    for number in with {
+        flags[*number] = true;
     }
     Ok(flags)
 }
@@ -125,22 +135,6 @@ fn note(flag: bool, number: usize, numbers: &mut Numbers) -> Result<(), AllocErr
         numbers.push(number)?;
     }
     Ok(())
-}
-
-fn stands_in(rule: &Rule, p: PredId) -> bool
-    ensures { IsTrue result ↔ StandsIn p.0 (rule_of rule.now) }
-{
-    mentions(&rule.body, p) || is_head_of(&rule.head, p)
-}
-
-/// Whether the head is about the predicate. Takes no memory.
-pub fn is_head_of(head: &Head, p: PredId) -> bool
-    ensures { IsTrue result ↔ IsHeadOf p.0 (head_of head.now) }
-{
-    match head {
-        Head::Never | Head::Same(_, _, _) => false,
-        Head::Atom(_, q, _) => p.0 == q.0,
-    }
 }
 
 fn has_equality_in(rule: &Rule) -> bool

@@ -1,9 +1,14 @@
 use Rattle.tv_rules.specs.EntryForms.{rules_of}
 use Rattle.tv_rules.proofs.KeptLemmas.{are-kept, below-count, range-of}
+use Rattle.tv_rules.proofs.NotingLaws.{bases-range}
 use Rattle.tv_rules.proofs.closed.closed_of.Goals as goal
 
 pub shapes-requires : goal.shapes-requires
 shapes-requires c = range-of c.args.bases c.as_slice-2.result.now c.as_slice-2.ensures c.requires.variables
+
+pub watch_lists-requires-clause-preds : goal.watch_lists-requires-clause-preds
+watch_lists-requires-clause-preds c =
+    bases-range c.args.bases c.as_slice-4.result.now c.args.preds c.as_slice-4.ensures c.requires.preds
 
 pub invariant_of-result : goal.invariant_of-result
 invariant_of-result c =

@@ -1,9 +1,7 @@
-use Rattle.std.proofs.Common.{take}
-use Rattle.std.specs.List.{AllZip}
-use Rattle.tv_model.specs.Program.{rule_of}
-use Rattle.tv_rules.specs.Standing.{StandsIn}
-use Rattle.tv_rules.specs.Flags.{Flags}
+use Rattle.std.proofs.Common.{ℕ, ◌≡◌, ◌↔◌, true, length, take, Some, slice_get, Contains}
 use Rattle.tv_rules.proofs.watch.standing_flags.Given as goal
 
-abbrev pub invariant-loop-rule : goal.invariant-loop-rule
-invariant-loop-rule l = AllZip (λ rule flag. Flags (StandsIn l.p.0) (rule_of rule) flag) (take l.rule-index l.bases) l.flags.items
+abbrev pub invariant-loop-number : goal.invariant-loop-number
+invariant-loop-number l =
+    (length l.flags.items ≡ length l.bases)
+    × ((n : ℕ) → (slice_get l.flags.items n ≡ Some true) ↔ Contains (take l.number-index l.with) n)
