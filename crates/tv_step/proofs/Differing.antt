@@ -154,6 +154,20 @@ same-among preds r rules s t found before same = record {
       (pushed-cases preds r q at);
 }
 
+-- nor where the predicate stands in no rule
+pub unruled-among : (preds : List ℕ) (r : ℕ) (rules : List RuleForm) (s t : StructureForm)
+    (found : Option (List Bool))
+    → WaitsAmong preds rules s t found
+    → ((k : ℕ) (rule : RuleForm) → slice_get rules k ≡ Some rule → ¬ StandsIn r rule)
+    → WaitsAmong (preds ++ r ∷ []) rules s t found
+unruled-among preds r rules s t found before nowhere = record {
+  count = before.count;
+  same = λ k q rule there out at stands. ⊎_elim
+      (λ earlier. before.same k q rule there out earlier stands)
+      (λ is. absurd (nowhere k rule there (subst (λ z. StandsIn z rule) is stands)))
+      (pushed-cases preds r q at);
+}
+
 -- else the rules about the predicate are
 pub more-among : (preds : List ℕ) (r : ℕ) (rules : List RuleForm) (s t : StructureForm)
     (found : Option (List Bool)) (old new : List Bool)

@@ -1,12 +1,14 @@
 //! The rules that may be unmet in a structure that came of a stable one over the same individuals: those
 //! about a predicate whose values differ.
 
-ghost use Rattle.std.specs.Prelude.{◌≡◌, ◌++◌, ◌∷◌, [], ℕ, List, length, map, IfOk, IsTrue};
+ghost use Rattle.std.specs.Prelude.{◌≡◌, ◌++◌, ◌∷◌, [], ℕ, List, length, map, Some, slice_get, IfOk, IsTrue};
 ghost use Rattle.std.specs.List.{range_with_len};
 ghost use Rattle.tv_coerce.specs.RuleSets.{IsStableBut};
+ghost use Rattle.tv_model.specs.Program.{RuleForm};
 ghost use Rattle.tv_model.specs.Valid.{IsValid};
 ghost use Rattle.tv_rules.specs.Closing.{closed_rules};
 ghost use Rattle.tv_rules.specs.EntryForms.{rules_of};
+ghost use Rattle.tv_rules.specs.Standing.{StandsIn};
 ghost use Rattle.tv_struct.specs.StructureForm.{arities_of};
 ghost use Rattle.tv_struct.specs.StructureRows.{HasArity};
 ghost use Rattle.tv_step.specs.Changed.{AreAlike, DiffersWithin, HasSameValues, IsFew, WaitsAmong, set_of};
@@ -17,6 +19,7 @@ use std::alloc::AllocError;
 use tv_coerce::RuleSet;
 use tv_kleene::K3;
 use tv_model::{PredId, Update};
+use tv_rules::Closed;
 use tv_struct::{Structure, Tuple};
 
 /// Where a structure may differ from the one that it came of.
@@ -101,6 +104,17 @@ fn has_same_values(s: &Structure, t: &Structure, p: PredId) -> bool
     }
 }
 
+/// Whether the predicate stands in no rule.
+fn stands_in_none(closed: &Closed, p: PredId) -> bool
+    ensures { IsTrue result → (k : ℕ) (rule : RuleForm) → slice_get (rules_of closed.now) k ≡ Some rule
+        → ¬ StandsIn p.0 rule }
+{
+    match closed.by_pred(p) {
+        [] => true,
+        [_, ..] => false,
+    }
+}
+
 /// The rules found so far, none at first.
 fn set_or_none(x: &Setting, found: Option<RuleSet>) -> Result<RuleSet, AllocError>
     ensures { IfOk result (λ set. set ≡ set_of (rules_of x.now.closed.now) found) }
@@ -126,6 +140,9 @@ fn with_changed(
         → WaitsAmong preds (rules_of x.now.closed.now) from.now s.now found
         → WaitsAmong (preds ++ p.0 ∷ []) (rules_of x.now.closed.now) from.now s.now more) }
 {
+    if stands_in_none(x.closed, p) {
+        return Ok(found);
+    }
     if has_same_values(from, s, p) {
         return Ok(found);
     }

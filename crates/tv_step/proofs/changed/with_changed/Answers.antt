@@ -1,7 +1,12 @@
 use Rattle.std.proofs.Common.{◌∙◌, length, ap}
 use Rattle.tv_rules.specs.EntryForms.{rules_of}
-use Rattle.tv_step.proofs.Differing.{more-among, same-among}
+use Rattle.tv_step.proofs.Differing.{more-among, same-among, unruled-among}
 use Rattle.tv_step.proofs.changed.with_changed.Goals as goal
+
+pub returns-then-stands_in_none : goal.returns-then-stands_in_none
+returns-then-stands_in_none c = λ preds before.
+    unruled-among preds c.args.p.0 (rules_of c.args.x.now.closed.now) c.args.from.now c.args.s.now c.args.found before
+    (c.stands_in_none.ensures c.if-stands_in_none.true)
 
 pub returns-then-has_same_values : goal.returns-then-has_same_values
 returns-then-has_same_values c = λ preds before.
