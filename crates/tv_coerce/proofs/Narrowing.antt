@@ -1,17 +1,18 @@
--- Rows of values: where all conjuncts are Yes that a variable is the last of, and where the head isn't met.
-use Rattle.std.proofs.Common.{ℕ, ◌≡◌, ◌≢◌, ◌<◌, ◌≤◌, ◌+◌, ◌⊎◌, inl, inr, ⊎_elim, zero, suc, true, false, List}
+-- Words of values: where all conjuncts are Yes that a variable is the last of, and where the head isn't met.
+use Rattle.std.proofs.Common.{ℕ, ◌≡◌, ◌≢◌, ◌<◌, ◌≤◌, ◌+◌, ◌*◌, ◌-◌, ◌⊎◌, inl, inr, ⊎_elim, zero, suc, true}
+use Rattle.std.proofs.Common.{false, List}
 use Rattle.std.proofs.Common.{◌∷◌, length, get_or, replicate, Option, Some, slice_get, refl, sym, ap, subst}
-use Rattle.std.proofs.Common.{◌∙◌, arith}
+use Rattle.std.proofs.Common.{◌∙◌, arith, cond, ltb, min}
 use Rattle.std.specs.Prelude.{Any, Contains}
-use Rattle.std.proofs.lemmas.Bool.{cases_eq}
+use Rattle.std.proofs.lemmas.Bool.{cases_eq, cases_lt, cond-true, cond-false, lt-ltb, le-ltb}
 use Rattle.std.proofs.lemmas.Option.{get_or_from_slice_get}
-use Rattle.std.proofs.lemmas.List.{get_or-replicate, get_or_default, length-map, length-replicate}
-use Rattle.std.proofs.lemmas.List.FromFn.{length-map-range_with_len, get_or-map-range_with_len}
+use Rattle.std.proofs.lemmas.List.{get_or-replicate, length-map, length-replicate}
 use Rattle.tv_kleene.specs.declared.K3.{K3}
 use Rattle.tv_kleene.specs.declared.K3.TheVariants.{No, Half, Yes}
 use Rattle.tv_kleene.specs.Kleene.{smaller_of, negation_of}
-use Rattle.tv_row.specs.Bits.{paired}
-use Rattle.tv_row.proofs.WordOps.{length-paired, get_or-paired}
+use Rattle.tv_row.specs.Bits.{greatest_in, padded, paired}
+use Rattle.tv_row.proofs.WordOps.{get_or-padded, length-padded, length-paired, get_or-paired}
+use Rattle.tv_row.proofs.WordMore.{greatest_yes}
 use Rattle.tv_model.specs.declared.formula.Var.{Var}
 use Rattle.tv_rules.specs.EntryForms.{numbers_of}
 use Rattle.tv_model.specs.Form.{Form, FAtom, FSame, FExists, IsFree}
@@ -21,31 +22,20 @@ use Rattle.tv_model.specs.Truth.{Assignment, put}
 use Rattle.tv_model.specs.Valid.{IsFormulaOver}
 use Rattle.tv_embedding_laws.specs.LogicalStructure.{LogicalStructure}
 use Rattle.tv_eval_laws.specs.Value.{value}
-use Rattle.tv_eval.specs.Along.{values_along}
+use Rattle.tv_eval.specs.Along.{IsWordAlong}
 use Rattle.tv_eval.specs.Bound.{IsBound, bound_structure}
 use Rattle.tv_eval.specs.Formulas.{AreAssigned, nesting}
 use Rattle.tv_eval.specs.ScratchForm.{ScratchForm, HasScratchFor}
 use Rattle.tv_rules.specs.Closing.{conjuncts, negated_head}
 use Rattle.tv_eval.specs.declared.evaluator.Evaluator.{Evaluator}
 use Rattle.tv_struct.specs.StructureForm.{StructureForm, arities_of, structure_of}
-use Rattle.tv_coerce.specs.ByRows.{ArePlaces, IsBodyRow, IsLackingRow, IsNarrowed}
+use Rattle.tv_coerce.specs.ByWords.{ArePlaces, IsBodyWord, IsLackingWord, IsNarrowed, IsSkipped}
 use Rattle.tv_coerce.specs.Ready.{IsHeadOver}
 use Rattle.tv_rules.specs.Dues.{AreDue, DueForm, IsDue}
-use Rattle.tv_coerce.specs.Trying.{ArePlaced, CanTry, FailsAt, PassesAt, StaysBound}
+use Rattle.tv_coerce.specs.Trying.{ArePlaced, CanTry, FailsAt, IsTried, PassesAt, StaysBound}
+use Rattle.tv_coerce.specs.declared.places.Candidates.{Candidates}
 use Rattle.tv_coerce.proofs.Testing.{due-some}
-use Rattle.tv_coerce.proofs.Walking.{given-up, not-left, tried-here}
-
-along-length : (s : StructureForm) (a : Assignment) (v : ℕ) (f : Form) → length (values_along s a v f) ≡ s.size
-along-length s a v f = length-map-range_with_len (λ u. value (structure_of s) (put a v u) f) 0 s.size
-
-along-value : (s : StructureForm) (a : Assignment) (v : ℕ) (f : Form) (u : ℕ) → u < s.size
-    → get_or (values_along s a v f) u No ≡ value (structure_of s) (put a v u) f
-along-value s a v f u within =
-    get_or-map-range_with_len (λ x. value (structure_of s) (put a v x) f) 0 s.size u u No within (omega arith)
-
-pub along-size : (s t : StructureForm) (a : Assignment) (v : ℕ) (f : Form) (row : List K3) → row ≡ values_along t a v f → t ≡ s
-    → length row ≡ s.size
-along-size s t a v f row is same = ap length is ∙ along-length t a v f ∙ ap (λ (r : StructureForm). r.size) same
+use Rattle.tv_coerce.proofs.Walking.{given-up, not-left, stays-on, tried-here}
 
 -- ---- values
 
@@ -69,90 +59,108 @@ negation-no No e = absurd (cc e)
 negation-no Half e = absurd (cc e)
 negation-no Yes e = refl
 
--- ---- a conjunct lowers the row
+-- ---- a conjunct lowers the word
 
-pub narrowed_kept : (s : StructureForm) (a : Assignment) (left v : ℕ) (d : DueForm) (row : List K3) → d.left ≢ left
-    → IsNarrowed s a left v d row row
-narrowed_kept s a left v d row apart = record {
-  size = refl;
-  yes = λ u within is. (is, λ here. absurd (apart here));
-  other = λ u within ne. inl ne;
-}
+module _ (s : StructureForm) (a : Assignment) (left v chunk : ℕ) (d : DueForm) (word : List K3) (long : length word ≡ 64) where
+  pub narrowed_kept : d.left ≢ left → IsNarrowed s a left v chunk d word word
+  narrowed_kept apart = record {
+    long = long;
+    yes = λ i low is. (is, λ within here. absurd (apart here));
+    other = λ i low within ne. inl ne;
+  }
 
-pub narrowed_none : (s : StructureForm) (a : Assignment) (left v : ℕ) (d : DueForm) (row : List K3) → ¬ Any (λ x. x ≡ Yes) row
-    → length row ≡ s.size → IsNarrowed s a left v d row row
-narrowed_none s a left v d row none size = record {
-  size = refl;
-  yes = λ u within is. absurd (none (u, Yes, omega (arith, within, size), get_or_default row u Yes No (omega (arith, within, size)) ∙ is, refl));
-  other = λ u within ne. inl ne;
-}
+  pub narrowed-and : (other : List K3) → d.left ≡ left → IsWordAlong s a v chunk d.form other
+      → IsNarrowed s a left v chunk d word (paired smaller_of word other)
+  narrowed-and along here is = record {
+    long = length-paired smaller_of word along (long ∙ sym is.long) ∙ long;
+    yes = λ i low e.
+        let both = smaller-yes (get_or word i No) (get_or along i No) (sym (pair-at i low) ∙ e)
+        in (both.0, λ within here'. sym (is.each i low within) ∙ both.1);
+    other = λ i low within ne. at i low within ne (yes-or-not (get_or word i No));
+  }
+    where
+      pair-at : (i : ℕ) → i < 64 → get_or (paired smaller_of word along) i No ≡ smaller_of (get_or word i No) (get_or along i No)
+      pair-at i low = get_or-paired smaller_of word along i (omega (arith, low, long)) (omega (arith, low, is.long))
 
-pub narrowed_and : (s : StructureForm) (a : Assignment) (left v : ℕ) (d : DueForm) (row : List K3) → d.left ≡ left → length row ≡ s.size
-    → IsNarrowed s a left v d row (paired smaller_of row (values_along s a v d.form))
-narrowed_and s a left v d row here size = record {
-  size = length-paired smaller_of row along (size ∙ sym (along-length s a v d.form));
-  yes = λ u within is.
-      let both = smaller-yes (get_or row u No) (get_or along u No) (sym (pair-at u within) ∙ is)
-      in (both.0, λ e. sym (along-value s a v d.form u within) ∙ both.1);
-  other = λ u within ne. at u within ne (yes-or-not (get_or row u No));
-}
-  where
-    along : List K3
-    along = values_along s a v d.form
-
-    pair-at : (u : ℕ) → u < s.size → get_or (paired smaller_of row along) u No ≡ smaller_of (get_or row u No) (get_or along u No)
-    pair-at u within = get_or-paired smaller_of row along u (omega (arith, within, size))
-        (omega (arith, within, along-length s a v d.form))
-
-    at : (u : ℕ) → u < s.size → get_or (paired smaller_of row along) u No ≢ Yes → (get_or row u No ≡ Yes) ⊎ (get_or row u No ≢ Yes)
-        → (get_or row u No ≢ Yes) ⊎ FailsAt s (put a v u) left d
-    at u within ne (inr not-yes) = inl not-yes
-    at u within ne (inl is) =
-        inr (here, λ e. ne (pair-at u within ∙ both-yes (get_or row u No) (get_or along u No) is (along-value s a v d.form u within ∙ e)))
+      at : (i : ℕ) → i < 64 → 64 * chunk + i < s.size → get_or (paired smaller_of word along) i No ≢ Yes
+          → (get_or word i No ≡ Yes) ⊎ (get_or word i No ≢ Yes)
+          → (get_or word i No ≢ Yes) ⊎ FailsAt s (put a v (64 * chunk + i)) left d
+      at i low within ne (inr not-yes) = inl not-yes
+      at i low within ne (inl f) = inr (
+        here,
+        λ e. ne (pair-at i low ∙ both-yes (get_or word i No) (get_or along i No) f (is.each i low within ∙ e)),
+      )
 
 -- ---- the conjuncts so far
 
-pub record BodyUpTo (s : StructureForm) (a : Assignment) (left v : ℕ) (ds : List DueForm) (count : ℕ) (old now : Evaluator) (row : List K3)
+pub record BodyUpTo (s : StructureForm) (a : Assignment) (left v chunk : ℕ) (ds : List DueForm) (count : ℕ) (old now : Evaluator)
+    (word : List K3)
     : Type 0 where
   pub stays : StaysBound s old now
-  pub size : length row ≡ s.size
-  pub yes : (u : ℕ) → u < s.size → get_or row u No ≡ Yes → (k : ℕ) (d : DueForm) → k < count → k < length ds
-      → PassesAt s (put a v u) left (get_or ds k d)
-  pub other : (u : ℕ) → u < s.size → get_or row u No ≢ Yes → Any (FailsAt s (put a v u) left) ds
+  pub long : length word ≡ 64
+  pub inside : (i : ℕ) → i < 64 → get_or word i No ≡ Yes → 64 * chunk + i < s.size
+  pub passed : (i : ℕ) → i < 64 → get_or word i No ≡ Yes → (k : ℕ) (d : DueForm) → k < count → k < length ds
+      → PassesAt s (put a v (64 * chunk + i)) left (get_or ds k d)
+  pub other : (i : ℕ) → i < 64 → 64 * chunk + i < s.size → get_or word i No ≢ Yes
+      → Any (FailsAt s (put a v (64 * chunk + i)) left) ds
 
-module _ (s : StructureForm) (a : Assignment) (left v : ℕ) (ds : List DueForm) where
-  pub body-begins : (now : Evaluator) → IsBound now → bound_structure now ≡ s
-      → BodyUpTo s a left v ds 0 now now (replicate s.size Yes)
-  body-begins now bound is = record {
-    stays = record { bound = bound; structure = is; room = refl };
-    size = length-replicate s.size Yes;
-    yes = λ u within e k d less inside. absurd (omega (arith, less));
-    other = λ u within ne. absurd (ne (get_or-replicate s.size u Yes No within));
-  }
-
-  pub body-more : (k : ℕ) (x : DueForm) (old now new : Evaluator) (row narrower : List K3) → slice_get ds k ≡ Some x
-      → BodyUpTo s a left v ds k old now row → StaysBound s now new → IsNarrowed s a left v x row narrower
-      → BodyUpTo s a left v ds (k + 1) old new narrower
-  body-more k x old now new row narrower is so_far stays narrowed = record {
-    stays = record { bound = stays.bound; structure = stays.structure; room = stays.room ∙ so_far.stays.room };
-    size = narrowed.size ∙ so_far.size;
-    yes = λ u lu e i d less inside. at u lu e i d less inside (cases_eq i k);
-    other = λ u lu ne. ⊎_elim (λ not-yes. so_far.other u lu not-yes)
-        (λ fails. due-some ds k x is (FailsAt s (put a v u) left) fails) (narrowed.other u lu ne);
+module _ (s : StructureForm) (a : Assignment) (left v chunk : ℕ) (ds : List DueForm) where
+  pub body-begins : (now : Evaluator) (count : ℕ) (word : List K3) → IsBound now → bound_structure now ≡ s
+      → count ≡ min 64 (s.size - 64 * chunk) → 64 * chunk < s.size → word ≡ padded count (replicate 64 Yes)
+      → BodyUpTo s a left v chunk ds 0 now now word
+  body-begins now count word bound same is some whole = record {
+    stays = record { bound = bound; structure = same; room = refl };
+    long = ap length whole ∙ length-padded count (replicate 64 Yes) few (length-replicate 64 Yes);
+    inside = λ i low e. inside i low e (cases_lt i count);
+    passed = λ i low e k d less within. absurd (omega (arith, less));
+    other = λ i low within ne. absurd (ne (value-at i low ∙ cond-true (ltb i count) (get_or (replicate 64 Yes) i No) No
+        (lt-ltb i count (omega (arith, is, low, within))) ∙ get_or-replicate 64 i Yes No low));
   }
     where
-      at : (u : ℕ) → u < s.size → get_or narrower u No ≡ Yes → (i : ℕ) (d : DueForm) → i < k + 1 → i < length ds
-          → (i ≡ k) ⊎ (i ≢ k) → PassesAt s (put a v u) left (get_or ds i d)
-      at u lu e i d less inside (inr ne) = so_far.yes u lu (narrowed.yes u lu e).0 i d (omega (arith, less, ne)) inside
-      at u lu e i d less inside (inl eq) =
-          subst (PassesAt s (put a v u) left) (sym (ap (λ j. get_or ds j d) eq ∙ get_or_from_slice_get ds k x d is))
-          (narrowed.yes u lu e).1
+      few : count ≤ 64
+      few = omega (arith, is)
 
-  pub body-whole : (count : ℕ) (old now : Evaluator) (row : List K3) → length ds ≤ count
-      → BodyUpTo s a left v ds count old now row → IsBodyRow s a left v ds row
-  body-whole count old now row whole all = record {
-    size = all.size;
-    yes = λ u within e k d inside. all.yes u within e k d (omega (arith, whole, inside)) inside;
+      value-at : (i : ℕ) → i < 64 → get_or word i No ≡ cond (ltb i count) (get_or (replicate 64 Yes) i No) No
+      value-at i low = ap (λ w. get_or w i No) whole ∙ get_or-padded count (replicate 64 Yes) i few (length-replicate 64 Yes) low
+
+      inside : (i : ℕ) → i < 64 → get_or word i No ≡ Yes → (i < count) ⊎ (count ≤ i) → 64 * chunk + i < s.size
+      inside i low e (inl less) = omega (arith, is, some, less)
+      inside i low e (inr after) =
+          let clash : No ≡ Yes = sym (cond-false (ltb i count) (get_or (replicate 64 Yes) i No) No (le-ltb i count after))
+          ∙ sym (value-at i low) ∙ e
+          in absurd (cc)
+
+  pub body-more : (k : ℕ) (x : DueForm) (old now new : Evaluator) (word narrower : List K3) → slice_get ds k ≡ Some x
+      → BodyUpTo s a left v chunk ds k old now word → StaysBound s now new → IsNarrowed s a left v chunk x word narrower
+      → BodyUpTo s a left v chunk ds (k + 1) old new narrower
+  body-more k x old now new word narrower is so_far stays narrowed = record {
+    stays = stays-on s old now new so_far.stays stays;
+    long = narrowed.long;
+    inside = λ i low e. so_far.inside i low (narrowed.yes i low e).0;
+    passed = λ i low e j d less inside. at i low e j d less inside (cases_eq j k);
+    other = λ i low within ne. ⊎_elim (λ not-yes. so_far.other i low within not-yes)
+        (λ fails. due-some ds k x is (FailsAt s (put a v (64 * chunk + i)) left) fails) (narrowed.other i low within ne);
+  }
+    where
+      at : (i : ℕ) → i < 64 → get_or narrower i No ≡ Yes → (j : ℕ) (d : DueForm) → j < k + 1 → j < length ds
+          → (j ≡ k) ⊎ (j ≢ k) → PassesAt s (put a v (64 * chunk + i)) left (get_or ds j d)
+      at i low e j d less inside (inr ne) = so_far.passed i low (narrowed.yes i low e).0 j d (omega (arith, less, ne)) inside
+      at i low e j d less inside (inl eq) =
+          subst (PassesAt s (put a v (64 * chunk + i)) left) (sym (ap (λ n. get_or ds n d) eq ∙ get_or_from_slice_get ds k x d is))
+          ((narrowed.yes i low e).1 (so_far.inside i low (narrowed.yes i low e).0))
+
+  pub body-whole : (count : ℕ) (old now : Evaluator) (word : List K3) → length ds ≤ count
+      → BodyUpTo s a left v chunk ds count old now word → IsBodyWord s a left v chunk ds word
+  body-whole count old now word whole all = record {
+    yes = λ i low e. (all.inside i low e, λ k d inside. all.passed i low e k d (omega (arith, whole, inside)) inside);
+    other = all.other;
+  }
+
+  -- where the word is Yes nowhere, the other conjuncts may be left
+  pub body-none : (count : ℕ) (old now : Evaluator) (word : List K3) → greatest_in word ≢ Yes
+      → BodyUpTo s a left v chunk ds count old now word → IsBodyWord s a left v chunk ds word
+  body-none count old now word none all = record {
+    yes = λ i low e. absurd (none (greatest_yes word i e));
     other = all.other;
   }
 
@@ -181,20 +189,21 @@ settled-out vars head d is due all w has at =
     not-left (numbers_of vars) d due (omega (arith, all, length-map vars (λ (v : Var). v.0))) w has
     (subst (IsFree w) (sym is) (head-free w head at))
 
-module _ (s : StructureForm) (rule : RuleForm) (v : ℕ) (rest : List ℕ) (a : Assignment) where
-  pub lacking-nowhere : IsLackingRow s rule rest v a (replicate s.size Yes)
-  lacking-nowhere = (
-    length-replicate s.size Yes,
-    λ u within e. let clash : Yes ≡ No = sym (get_or-replicate s.size u Yes No within) ∙ e in absurd (cc),
-  )
+module _ (s : StructureForm) (rule : RuleForm) (v chunk : ℕ) (rest : List ℕ) (a : Assignment) where
+  pub lacking-nowhere : (word : List K3) → word ≡ padded 64 (replicate 64 Yes) → IsLackingWord s rule rest v chunk a word
+  lacking-nowhere word is i low within e =
+      let clash : Yes ≡ No = sym (ap (λ w. get_or w i No) is
+      ∙ get_or-padded 64 (replicate 64 Yes) i (omega arith) (length-replicate 64 Yes) low
+      ∙ cond-true (ltb i 64) (get_or (replicate 64 Yes) i No) No (lt-ltb i 64 low)
+      ∙ get_or-replicate 64 i Yes No low) ∙ e
+      in absurd (cc)
 
-  pub lacking-denied : ((w : ℕ) → Contains rest w → ¬ IsInHead w rule.head)
-      → IsLackingRow s rule rest v a (values_along s a v (negated_head rule.head))
-  lacking-denied out = (
-    along-length s a v (negated_head rule.head),
-    λ u within e. tried-here s rule rest (put a v u) out (inl (denied-no (structure_of s) (put a v u) rule.head
-        (sym (along-value s a v (negated_head rule.head) u within) ∙ e))),
-  )
+  pub lacking-denied : (word : List K3) → ((w : ℕ) → Contains rest w → ¬ IsInHead w rule.head)
+      → IsWordAlong s a v chunk (negated_head rule.head) word → IsLackingWord s rule rest v chunk a word
+  lacking-denied word out is i low within e =
+      let u : ℕ = 64 * chunk + i
+      in tried-here s rule rest (put a v u) out (inl (denied-no (structure_of s) (put a v u) rule.head
+      (sym (is.each i low within) ∙ e)))
 
 -- what the head denies can be valued for all individuals, put for the last variable
 pub record CanDeny (t : StructureForm) (room : ScratchForm) (places : List (Option ℕ)) (v : ℕ) (f : Form) : Type 0 where
@@ -240,31 +249,39 @@ can-deny s t rule room places v rest f can variable placed out is same =
     alone w ne at (zero, inside, e) = ne (sym e)
     alone w ne at (suc k, inside, e) = out w (k, omega (arith, inside), e) at
 
--- ---- both rows
+-- ---- both words
 
-module _ (s : StructureForm) (rule : RuleForm) (ds : List DueForm) (rest : List ℕ) (v : ℕ) (a : Assignment)
+module _ (s : StructureForm) (rule : RuleForm) (ds : List DueForm) (rest : List ℕ) (v chunk : ℕ) (a : Assignment)
     (due : AreDue (conjuncts rule.body) (v ∷ rest) ds) where
   due-on : AreDue (conjuncts rule.body) rest ds
   due-on = record { are = due.are; due = λ k d within. (due.due k d within).1 }
 
-  pub places-none : (row : List K3) → IsBodyRow s a (length rest) v ds row → ¬ Any (λ x. x ≡ Yes) row
-      → ArePlaces s rule ds rest v a (record { body = row; lacking = row })
-  places-none row is none = record {
-    body = is.size;
-    lacking = is.size;
+  pub places-none : (word : List K3) → IsBodyWord s a (length rest) v chunk ds word → greatest_in word ≢ Yes
+      → ArePlaces s rule ds rest v chunk a (record { body = word; lacking = word })
+  places-none word is none = record {
     yes = is.yes;
-    skipped = λ u within skip. given-up s rule ds rest (put a v u) due-on (is.other u within (no-yes u within));
+    skipped = λ i low within skip. given-up s rule ds rest (put a v (64 * chunk + i)) due-on
+        (is.other i low within (λ e. none (greatest_yes word i e)));
   }
-    where
-      no-yes : (u : ℕ) → u < s.size → get_or row u No ≢ Yes
-      no-yes u within e =
-          none (u, Yes, omega (arith, within, is.size), get_or_default row u Yes No (omega (arith, within, is.size)) ∙ e, refl)
 
-  pub places-made : (row lack : List K3) → IsBodyRow s a (length rest) v ds row → IsLackingRow s rule rest v a lack
-      → ArePlaces s rule ds rest v a (record { body = row; lacking = lack })
-  places-made row lack is lacks = record {
-    body = is.size;
-    lacking = lacks.0;
+  pub places-made : (word lack : List K3) → IsBodyWord s a (length rest) v chunk ds word
+      → IsLackingWord s rule rest v chunk a lack
+      → ArePlaces s rule ds rest v chunk a (record { body = word; lacking = lack })
+  places-made word lack is lacks = record {
     yes = is.yes;
-    skipped = λ u within skip. ⊎_elim (λ ne. given-up s rule ds rest (put a v u) due-on (is.other u within ne)) (λ no. lacks.1 u within no) skip;
+    skipped = λ i low within skip. ⊎_elim
+        (λ ne. given-up s rule ds rest (put a v (64 * chunk + i)) due-on (is.other i low within ne))
+        (λ no. lacks i low within no) skip;
   }
+
+-- the individuals at places that are passed over are tried
+pub passed-over : (s : StructureForm) (rule : RuleForm) (ds : List DueForm) (rest : List ℕ) (v chunk : ℕ) (a : Assignment)
+    (places : Candidates) → ArePlaces s rule ds rest v chunk a places → (from end : ℕ) → end ≤ 64
+    → ((j : ℕ) → from ≤ j → j < end → IsSkipped places j)
+    → (w : ℕ) → 64 * chunk + from ≤ w → w < 64 * chunk + end → w < s.size → IsTried s rule rest (put a v w)
+passed-over s rule ds rest v chunk a places are from end few skipped w after before within =
+    let j : ℕ = w - 64 * chunk
+    in let is : 64 * chunk + j ≡ w = omega (arith, after)
+    in subst (λ x. IsTried s rule rest (put a v x)) is
+    (are.skipped j (omega (arith, is, before, few)) (omega (arith, is, within))
+    (skipped j (omega (arith, is, after)) (omega (arith, is, before))))

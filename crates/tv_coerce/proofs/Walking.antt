@@ -1,5 +1,6 @@
 -- Trying a rule, variable by variable.
-use Rattle.std.proofs.Common.{ℕ, ◌≡◌, ◌≢◌, ◌<◌, ◌≤◌, ◌+◌, ◌-◌, ◌⊎◌, ◌==◌, if◌then◌else◌, inl, inr, zero, suc}
+use Rattle.std.proofs.Common.{ℕ, ◌≡◌, ◌≢◌, ◌<◌, ◌≤◌, ◌+◌, ◌-◌, ◌⊎◌, ◌==◌, if◌then◌else◌, inl, inr, ⊎_elim}
+use Rattle.std.proofs.Common.{zero, suc}
 use Rattle.std.proofs.Common.{List, [], ◌∷◌, length, map, take, drop, get_or, Option, Some, refl, sym, ap}
 use Rattle.std.proofs.Common.{subst, ◌∙◌, arith}
 use Rattle.std.specs.Prelude.{All, Any, Contains, IsSomeAnd, slice_get, unwrap_or}
@@ -40,11 +41,12 @@ use Rattle.tv_eval.specs.ScratchForm.{ScratchForm}
 use Rattle.tv_eval.specs.declared.evaluator.Evaluator.{Evaluator}
 use Rattle.tv_struct.specs.StructureForm.{StructureForm, arities_of, structure_of}
 use Rattle.tv_struct.proofs.Library.{Contains-range, below-range}
-use Rattle.tv_coerce.specs.ByRows.{CanRow}
+use Rattle.tv_coerce.specs.ByWords.{CanValueAlong}
 use Rattle.tv_coerce.specs.Ready.{IsHeadOver, CanCoerce}
 use Rattle.tv_rules.specs.Dues.{AreDueFrom, DueForm, IsDue, AreDue}
 use Rattle.tv_coerce.specs.Trying.{DifferOnlyAt, ArePlaced, PassesAt, GoesOn, IsTried, IsForced, IsHopeless}
 use Rattle.tv_coerce.specs.Trying.{IsNeed, AreYes, CanTry, CanValue, IsTrialStart, IsNoted, IsTold}
+use Rattle.tv_coerce.specs.Trying.{IsToldAmong}
 use Rattle.tv_coerce.specs.Trying.{IsTrialResult, StaysBound, answer_of, rule_at}
 use Rattle.tv_coerce.specs.declared.trial.Outcome.{Outcome}
 use Rattle.tv_coerce.specs.declared.trial.Outcome.TheVariants.{Possible, Impossible}
@@ -187,10 +189,10 @@ walk-values s rule room ds rest places at_least can walk k d within =
     }
 
 -- and the next that wait for all but one can be valued for all individuals
-pub walk-rows : (s : StructureForm) (rule : RuleForm) (room : ScratchForm) (ds : List DueForm) (v : ℕ) (rest : List ℕ)
+pub walk-along : (s : StructureForm) (rule : RuleForm) (room : ScratchForm) (ds : List DueForm) (v : ℕ) (rest : List ℕ)
     (places : List (Option ℕ)) (at_least : ℕ) → CanTry rule s room → IsTrialStart rule s ds (v ∷ rest) places at_least
-    → All (CanRow s room (length rest) v places) ds
-walk-rows s rule room ds v rest places at_least can walk k d within =
+    → All (CanValueAlong s room (length rest) v places) ds
+walk-along s rule room ds v rest places at_least can walk k d within =
     let carried = conjuncts_carry_formulas rule.body
     in record {
       formula = (
@@ -294,6 +296,29 @@ module _ (v : ℕ) (rest : List ℕ) where
       at (inr ne) = ap (λ o. unwrap_or o 0) (is w none ∙ cond-false (w == v) (Some u) (individual_for old w) (ne_eqb w v ne))
           ∙ sym (put-other (assignment_of old) v u w ne)
 
+  pub puts-agree : (u : ℕ) (old new : List (Option ℕ)) → DifferOnlyAt (v ∷ rest) old new → (w : ℕ) → ¬ Contains rest w
+      → put (assignment_of new) v u w ≡ put (assignment_of old) v u w
+  puts-agree u old new kept w none = at (cases_eq w v)
+    where
+      at : (w ≡ v) ⊎ (w ≢ v) → put (assignment_of new) v u w ≡ put (assignment_of old) v u w
+      at (inl e) = put-same (assignment_of new) v u w e ∙ sym (put-same (assignment_of old) v u w e)
+      at (inr ne) = put-other (assignment_of new) v u w ne ∙ ap (λ o. unwrap_or o 0) (kept w (not-here w ne none))
+          ∙ sym (put-other (assignment_of old) v u w ne)
+
+-- what the variables that are left stand for doesn't matter where a walk over them begins
+pub start-kept : (s : StructureForm) (rule : RuleForm) (ds : List DueForm) (rest : List ℕ) (old new : List (Option ℕ)) (at_least : ℕ)
+    → length rest ≤ at_least → DifferOnlyAt rest old new → IsTrialStart rule s ds rest old at_least
+    → IsTrialStart rule s ds rest new at_least
+start-kept s rule ds rest old new at_least enough kept start = record {
+  due = start.due;
+  free = start.free;
+  placed = λ w free none. subst (λ o. IsSomeAnd o (λ x. x < s.size)) (sym (kept w none)) (start.placed w free none);
+  tested = λ k d within most. only_free_variables_matter (structure_of s) (get_or ds k d).form (assignment_of new) (assignment_of old)
+      (λ w free. ap (λ o. unwrap_or o 0) (kept w
+      (λ has. not-left rest (get_or ds k d) (start.due.due k d within) (omega (arith, enough, most)) w has free)))
+      ∙ start.tested k d within most;
+}
+
 module _ (s : StructureForm) (rule : RuleForm) (ds : List DueForm) (v : ℕ) (rest : List ℕ) (places new : List (Option ℕ)) (u : ℕ)
     (walk : IsTrialStart rule s ds (v ∷ rest) places (1 + length rest)) (within-size : u < s.size) (is-put : IsPut rest v u places new) where
   pub walk-on : All (PassesAt s (put (assignment_of places) v u) (length rest)) ds → IsTrialStart rule s ds rest new (length rest)
@@ -393,62 +418,67 @@ module _ (s : StructureForm) (rule : RuleForm) where
     tells = hopeless-here s rule places room can at body never;
   }
 
-  -- the first individuals were put for the variable
-  pub record IsWalkedUpTo (v : ℕ) (rest : List ℕ) (a : Assignment) (old now : List Change) (count : ℕ) : Type 0 where
-    pub forced : All (IsForced s rule) old → All (IsForced s rule) now
-    pub grows : length old ≤ length now
-    pub tried : now ≡ [] → (u : ℕ) → u < count → IsTried s rule rest (put a v u)
+  -- ---- the individuals that were put for the variable so far
 
-  pub walked-none : (v : ℕ) (rest : List ℕ) (a : Assignment) (old : List Change) → IsWalkedUpTo v rest a old old 0
-  walked-none v rest a old = record { forced = λ all. all; grows = omega arith; tried = λ none u less. absurd (omega (arith, less)) }
+  module _ (v : ℕ) (rest : List ℕ) (first : ℕ) where
+    pub among-more : (places new-places : List (Option ℕ)) (old now new : List Change) (from u : ℕ) → IsPut rest v u places new-places
+        → ((w : ℕ) → from ≤ w → w < u → w < s.size → IsTried s rule rest (put (assignment_of places) v w))
+        → IsToldAmong s rule rest v first from (assignment_of places) old now Possible
+        → IsTold s rule rest (assignment_of new-places) now new Possible
+        → IsToldAmong s rule rest v first (u + 1) (assignment_of places) old new Possible
+    among-more places new-places old now new from u is-put passed so_far told = record {
+      forced = λ all. told.forced (so_far.forced all);
+      grows = omega (arith, so_far.grows, told.grows);
+      tells = λ none w after before within. at none w after before within (cases_eq w u) (cases_lt w from);
+    }
+      where
+        at : new ≡ [] → (w : ℕ) → first ≤ w → w < u + 1 → w < s.size → (w ≡ u) ⊎ (w ≢ u) → (w < from) ⊎ (from ≤ w)
+            → IsTried s rule rest (put (assignment_of places) v w)
+        at none w after before within (inl e) side =
+            subst (λ x. IsTried s rule rest (put (assignment_of places) v x)) (sym e)
+            (tried-agreed s rule rest (assignment_of new-places) (put (assignment_of places) v u)
+            (put-agrees v rest u places new-places is-put) (told.tells none))
+        at none w after before within (inr ne) (inl less) = so_far.tells (none-less now new told.grows none) w after less within
+        at none w after before within (inr ne) (inr more) = passed w more (omega (arith, before, ne)) within
 
-  pub walked-more : (v : ℕ) (rest : List ℕ) (places new-places : List (Option ℕ)) (old now new : List Change) (from u : ℕ)
-      → IsPut rest v u places new-places → ((w : ℕ) → from ≤ w → w < u → IsTried s rule rest (put (assignment_of places) v w))
-      → IsWalkedUpTo v rest (assignment_of places) old now from → IsTold s rule rest (assignment_of new-places) now new Possible
-      → IsWalkedUpTo v rest (assignment_of places) old new (u + 1)
-  walked-more v rest places new-places old now new from u is-put passed so_far told = record {
-    forced = λ all. told.forced (so_far.forced all);
-    grows = omega (arith, so_far.grows, told.grows);
-    tried = λ none w less. at none w (cases_eq w u) less (cases_lt w from);
-  }
-    where
-      at : new ≡ [] → (w : ℕ) → (w ≡ u) ⊎ (w ≢ u) → w < u + 1 → (w < from) ⊎ (from ≤ w)
-          → IsTried s rule rest (put (assignment_of places) v w)
-      at none w (inl e) less side =
-          subst (λ x. IsTried s rule rest (put (assignment_of places) v x)) (sym e)
-          (tried-agreed s rule rest (assignment_of new-places) (put (assignment_of places) v u)
-          (put-agrees v rest u places new-places is-put) (told.tells none))
-      at none w (inr ne) less (inl before) = so_far.tried (none-less now new told.grows none) w before
-      at none w (inr ne) less (inr after) = passed w after (omega (arith, less, ne))
+    -- none of the others has to be tried
+    pub among-rest : (a : Assignment) (old now : List Change) (from end : ℕ)
+        → ((w : ℕ) → from ≤ w → w < end → w < s.size → IsTried s rule rest (put a v w))
+        → IsToldAmong s rule rest v first from a old now Possible → IsToldAmong s rule rest v first end a old now Possible
+    among-rest a old now from end passed so_far = record {
+      forced = so_far.forced;
+      grows = so_far.grows;
+      tells = λ none w after before within. ⊎_elim (λ less. so_far.tells none w after less within)
+          (λ more. passed w more before within) (cases_lt w from);
+    }
 
-  pub walked-all : (v : ℕ) (rest : List ℕ) (a : Assignment) (old now : List Change) (from : ℕ) → IsFreeInRule v rule
-      → IsWalkedUpTo v rest a old now from → ((w : ℕ) → from ≤ w → w < s.size → IsTried s rule rest (put a v w))
-      → IsTold s rule (v ∷ rest) a old now Possible
-  walked-all v rest a old now from free walked passed = record {
-    forced = walked.forced;
-    grows = walked.grows;
-    tells = λ none. tried-each s rule v rest a free (λ w less. at none w less (cases_lt w from));
-  }
-    where
-      at : now ≡ [] → (w : ℕ) → w < s.size → (w < from) ⊎ (from ≤ w) → IsTried s rule rest (put a v w)
-      at none w less (inl before) = walked.tried none w before
-      at none w less (inr after) = passed w after less
+    -- what is told of the next individuals, where v and what follows stood for others meanwhile
+    pub among-next : (places now-places : List (Option ℕ)) (old now new : List Change) (from end : ℕ)
+        → DifferOnlyAt (v ∷ rest) places now-places
+        → IsToldAmong s rule rest v first from (assignment_of places) old now Possible
+        → IsToldAmong s rule rest v from end (assignment_of now-places) now new Possible
+        → IsToldAmong s rule rest v first end (assignment_of places) old new Possible
+    among-next places now-places old now new from end kept so_far told = record {
+      forced = λ all. told.forced (so_far.forced all);
+      grows = omega (arith, so_far.grows, told.grows);
+      tells = λ none w after before within. ⊎_elim
+          (λ less. so_far.tells (none-less now new told.grows none) w after less within)
+          (λ more. tried-agreed s rule rest (put (assignment_of now-places) v w) (put (assignment_of places) v w)
+          (puts-agree v rest w places now-places kept) (told.tells none w more before within))
+          (cases_lt w from);
+    }
 
-  pub walked-some : (v : ℕ) (rest : List ℕ) (a b : Assignment) (old now new : List Change) (from : ℕ)
-      → IsWalkedUpTo v rest a old now from → IsTold s rule rest b now new Possible → new ≢ [] → IsTold s rule (v ∷ rest) a old new Possible
-  walked-some v rest a b old now new from so_far told some = record {
-    forced = λ all. told.forced (so_far.forced all);
-    grows = omega (arith, so_far.grows, told.grows);
-    tells = λ none. absurd (some none);
-  }
+  -- ---- all individuals
 
-  pub walked-never : (v : ℕ) (rest : List ℕ) (a b : Assignment) (old now new : List Change) (from : ℕ)
-      → IsWalkedUpTo v rest a old now from → IsTold s rule rest b now new Impossible → IsTold s rule (v ∷ rest) a old new Impossible
-  walked-never v rest a b old now new from so_far told = record {
-    forced = λ all. told.forced (so_far.forced all);
-    grows = omega (arith, so_far.grows, told.grows);
-    tells = told.tells;
-  }
+  module _ (v : ℕ) (rest : List ℕ) (a : Assignment) where
+    pub told-all : (old now : List Change) (end : ℕ) → IsFreeInRule v rule → s.size ≤ end
+        → IsToldAmong s rule rest v 0 end a old now Possible → IsTold s rule (v ∷ rest) a old now Possible
+    told-all old now end free whole told = record {
+      forced = told.forced;
+      grows = told.grows;
+      tells = λ none. tried-each s rule v rest a free
+          (λ w within. told.tells none w (omega arith) (omega (arith, within, whole)) within);
+    }
 
 take-whole : {X : Type 0} (xs : List X) → take (length xs) xs ≡ xs
 take-whole [] = refl
@@ -471,6 +501,9 @@ tail-shorter (v ∷ vars) some =
 pub none-at : {X : Type 0} (xs : List X) → length xs < 1 → xs ≡ []
 none-at [] few = refl
 none-at (x ∷ xs) few = absurd (omega (arith, few))
+
+pub differ-on : (rest : List ℕ) (old now new : List (Option ℕ)) → DifferOnlyAt rest old now → DifferOnlyAt rest now new → DifferOnlyAt rest old new
+differ-on rest old now new first second w none = second w none ∙ first w none
 
 pub stays-on : (s : StructureForm) (old now new : Evaluator) → StaysBound s old now → StaysBound s now new → StaysBound s old new
 stays-on s old now new first second = record { bound = second.bound; structure = second.structure; room = second.room ∙ first.room }

@@ -1,6 +1,7 @@
 -- Where a body can't be Yes, and where a head is met.
-use Rattle.std.specs.Prelude.{ℕ, ◌≢◌, ◌<◌}
-use Rattle.tv_kleene.specs.declared.K3.TheVariants.{Yes}
+use Rattle.std.specs.Prelude.{ℕ, ◌≡◌, ◌≢◌, ◌<◌}
+use Rattle.tv_kleene.specs.declared.K3.{K3}
+use Rattle.tv_kleene.specs.declared.K3.TheVariants.{No, Yes}
 use Rattle.tv_model.specs.Form.{Form, IsFree}
 use Rattle.tv_model.specs.Program.{HeadForm}
 use Rattle.tv_model.specs.Rules.{IsInHead}
@@ -8,6 +9,15 @@ use Rattle.tv_model.specs.Truth.{Assignment}
 use Rattle.tv_eval_laws.specs.Value.{value}
 use Rattle.tv_stable_laws.specs.Stable.{IsHeadMet}
 use Rattle.tv_struct.specs.StructureForm.{StructureForm, structure_of}
+use Rattle.tv_coerce.specs.declared.idle.Wanted.{Wanted}
+use Rattle.tv_coerce.specs.declared.idle.Wanted.TheVariants.{True, False, NotTrue, NotFalse}
+
+-- the value is what it is to be
+abbrev pub IsAsWanted : Wanted → K3 → Type 0
+IsAsWanted True k = k ≡ Yes
+IsAsWanted False k = k ≡ No
+IsAsWanted NotTrue k = k ≢ Yes
+IsAsWanted NotFalse k = k ≢ No
 
 -- the formula is Yes under no assignment of individuals
 abbrev pub IsNowhere : StructureForm → Form → Type 0

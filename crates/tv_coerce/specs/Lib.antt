@@ -1,5 +1,5 @@
 pub mod Attempts
-pub mod ByRows
+pub mod ByWords
 pub mod Changes
 pub mod Coerced
 pub mod Idle

@@ -8,7 +8,7 @@ use Rattle.tv_kleene.specs.declared.K3.TheVariants.{Yes}
 use Rattle.tv_model.specs.Form.{FOne, form_of}
 use Rattle.tv_model.specs.Program.{HeadForm, HNever, RuleForm}
 use Rattle.tv_model.specs.Rules.{IsFreeInRule, IsOfIndividuals}
-use Rattle.tv_model.specs.Truth.{Assignment}
+use Rattle.tv_model.specs.Truth.{Assignment, put}
 use Rattle.tv_model.specs.Valid.{IsFormulaOver}
 use Rattle.tv_embedding_laws.specs.LogicalStructure.{LogicalStructure}
 use Rattle.tv_embedding_laws.specs.Embedding.{IsBelow}
@@ -153,6 +153,21 @@ pub record IsTold (s : StructureForm) (rule : RuleForm) (rest : List ℕ) (a : A
   pub forced : All (IsForced s rule) old → All (IsForced s rule) new
   pub grows : length old ≤ length new
   pub tells : Tells s rule rest a new outcome
+
+-- the same where, before those that are left, v is put for the individuals from `from` on below `end` alone
+abbrev pub TellsAmong : StructureForm → RuleForm → (rest : List ℕ) → (v from end : ℕ) → Assignment
+    → List Change
+    → Outcome → Type 0
+TellsAmong s rule rest v from end a changes Possible =
+    changes ≡ [] → (u : ℕ) → from ≤ u → u < end → u < s.size → IsTried s rule rest (put a v u)
+TellsAmong s rule rest v from end a changes Impossible = IsHopeless s rule
+
+pub record IsToldAmong (s : StructureForm) (rule : RuleForm) (rest : List ℕ) (v from end : ℕ) (a : Assignment)
+    (old new : List Change) (outcome : Outcome)
+    : Type 0 where
+  pub forced : All (IsForced s rule) old → All (IsForced s rule) new
+  pub grows : length old ≤ length new
+  pub tells : TellsAmong s rule rest v from end a new outcome
 
 -- what trying a rule found: no structure below is stable under it; or what has to change, and where that is
 -- nothing the structure is stable

@@ -1,30 +1,69 @@
-//! Rules that ask for nothing, as single rows of the structure tell.
+//! Rules that ask for nothing, as words of the structure tell.
 
-ghost use Rattle.std.specs.Prelude.{◌≡◌, IsTrue, All, Any};
+ghost use Rattle.std.specs.Prelude.{◌≡◌, ◌<◌, ◌≤◌, ℕ, [], ◌∷◌, length, slice_index_or, IsTrue, All, Any};
+ghost use Rattle.tv_kleene.specs.declared.K3.{K3};
+ghost use Rattle.tv_kleene.specs.declared.K3.TheVariants.{No};
 ghost use Rattle.tv_model.specs.Form.{form_of, vars_of, FAtom, FNot};
 ghost use Rattle.tv_model.specs.Program.{head_of, HAtom};
 ghost use Rattle.tv_model.specs.Valid.{IsFormulaOver};
 ghost use Rattle.tv_rules.specs.Dues.{due_of, dues_in};
 ghost use Rattle.tv_stable_laws.proofs.Heads.{wanted};
-ghost use Rattle.tv_struct.specs.StructureForm.{arities_of};
-ghost use Rattle.tv_coerce.specs.Idle.{IsMetEverywhere, IsNowhere};
+ghost use Rattle.tv_struct.specs.StructureForm.{arities_of, value_at};
+ghost use Rattle.tv_struct.specs.StructureRows.{HasArity};
+ghost use Rattle.tv_coerce.specs.Idle.{IsAsWanted, IsMetEverywhere, IsNowhere};
 ghost use Rattle.tv_coerce.specs.Ready.{IsHeadOver};
 
+use crate::need::is_same;
+use tv_eval::{chunks, places};
+use tv_kleene::K3;
 use tv_model::{Formula, Head, PredId, Terms};
-use tv_row::Row;
+use tv_row::Word;
 use tv_rules::{Due, Dues};
 use tv_struct::Structure;
 
-/// Whether each value is what a head with this sign wants.
-#[tactic(auto, using(crate::proofs::Idling::all_no))]
-fn has_only(row: &Row, flag: bool) -> bool
-    ensures { IsTrue result → All (λ k. k ≡ wanted flag) row.now }
+/// What truth values are to be.
+#[derive(Clone, Copy, Debug)]
+enum Wanted {
+    True,
+    False,
+    NotTrue,
+    NotFalse,
+}
+
+/// What a head with this sign wants.
+fn wanted_by(flag: bool) -> Wanted
+    ensures { (k : K3) → IsAsWanted result k → k ≡ wanted flag }
 {
-    if flag {
-        return row.are_yes();
+    if flag { Wanted::True } else { Wanted::False }
+}
+
+/// Whether each of the first `n` values is as wanted.
+#[tactic(auto, using(crate::proofs::Idling::first_false))]
+fn are_all(word: Word, n: u32, wanted: Wanted) -> bool
+    requires few { n ≤ 64 }
+    requires long { length word ≡ 64 }
+    ensures { IsTrue result → (i : ℕ) → i < n → IsAsWanted wanted (slice_index_or word i No) }
+{
+    match wanted {
+        Wanted::True => is_same(word.least(n), K3::Yes),
+        Wanted::False => is_same(word.first(n).greatest(), K3::No),
+        Wanted::NotTrue => !is_same(word.first(n).greatest(), K3::Yes),
+        Wanted::NotFalse => !is_same(word.least(n), K3::No),
     }
-    if row.has_possible() {
-        return false;
+}
+
+/// Whether the unary predicate's value is as wanted for each individual.
+fn is_everywhere(s: &Structure, p: PredId, wanted: Wanted) -> bool
+    requires { HasArity s.now p.0 1 }
+    ensures { IsTrue result
+        → (u : ℕ) → u < s.now.size → IsAsWanted wanted (value_at s.now p.0 (u ∷ [])) }
+{
+    let size = s.size();
+    for chunk in 0..chunks(size) {
+        let word = s.unary_word(p, chunk);
+        if !are_all(word, places(size, chunk), wanted) {
+            return false;
+        }
     }
     true
 }
@@ -35,7 +74,7 @@ fn is_atom_met(s: &Structure, flag: bool, p: PredId, terms: Terms) -> bool
     ensures { IsTrue result → IsMetEverywhere s.now (HAtom flag p.0 (vars_of terms)) }
 {
     match terms {
-        Terms::One(_) => has_only(&s.unary_row(p), flag),
+        Terms::One(_) => is_everywhere(s, p, wanted_by(flag)),
         Terms::Zero | Terms::Two(_, _) => false,
     }
 }
@@ -57,7 +96,7 @@ fn is_yes_nowhere(s: &Structure, p: PredId, terms: Terms) -> bool
     ensures { IsTrue result → IsNowhere s.now (FAtom p.0 (vars_of terms)) }
 {
     match terms {
-        Terms::One(_) => !s.unary_row(p).has_yes(),
+        Terms::One(_) => is_everywhere(s, p, Wanted::NotTrue),
         Terms::Zero | Terms::Two(_, _) => false,
     }
 }
@@ -68,7 +107,7 @@ fn is_no_nowhere(s: &Structure, p: PredId, terms: Terms) -> bool
     ensures { IsTrue result → IsNowhere s.now (FNot (FAtom p.0 (vars_of terms))) }
 {
     match terms {
-        Terms::One(_) => s.unary_row(p).are_possible(),
+        Terms::One(_) => is_everywhere(s, p, Wanted::NotFalse),
         Terms::Zero | Terms::Two(_, _) => false,
     }
 }

@@ -44,7 +44,7 @@ fn wanted(flag: bool) -> K3
     if flag { K3::Yes } else { K3::No }
 }
 
-fn is_same(k: K3, wanted: K3) -> bool
+pub(crate) fn is_same(k: K3, wanted: K3) -> bool
     ensures { MatchBool result (k ≡ wanted) (k ≢ wanted) }
 {
     k == wanted

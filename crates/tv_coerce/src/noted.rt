@@ -88,11 +88,14 @@ impl Noted {
         self.asked
     }
 
-    /// Whether a change was asked for since that was so often.
-    pub fn has_more(&self, asked: usize) -> bool
+    /// Whether a change was asked for since that was so often, if a number is given.
+    pub fn has_more(&self, once: Option<usize>) -> bool
         ensures { IsTrue result → self.now.list.items ≢ [] }
     {
-        !self.list.is_empty() && self.asked != asked
+        match once {
+            Some(asked) => !self.list.is_empty() && self.asked != asked,
+            None => false,
+        }
     }
 
     /// The changes, in the order in which they were noted.

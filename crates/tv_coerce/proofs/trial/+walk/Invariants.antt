@@ -1,20 +1,32 @@
-use Rattle.std.proofs.Common.{◌≤◌, ◌-◌, ◌∷◌, length}
+use Rattle.std.proofs.Common.{◌≤◌, ◌+◌, ◌-◌, ◌*◌, ◌∷◌, length}
 use Rattle.tv_eval.specs.AssignmentForm.{assignment_of}
 use Rattle.tv_rules.specs.EntryForms.{numbers_of}
-use Rattle.tv_coerce.specs.Trying.{DifferOnlyAt, StaysBound, trial_rule}
-use Rattle.tv_coerce.proofs.Walking.{IsWalkedUpTo}
+use Rattle.tv_coerce.specs.Trying.{DifferOnlyAt, IsToldAmong, StaysBound, trial_rule}
+use Rattle.tv_coerce.specs.declared.trial.Outcome.TheVariants.{Possible}
 use Rattle.tv_coerce.proofs.trial.+walk.Given as goal
 
 abbrev pub decreases-walk : goal.decreases-walk
-decreases-walk l = length l.rest.now
+decreases-walk l = 2 * length l.rest.now
 
-abbrev pub invariant-loop-u : goal.invariant-loop-u
-invariant-loop-u l =
+abbrev pub decreases-walk_chunk : goal.decreases-walk_chunk
+decreases-walk_chunk l = 2 * length l.rest.now + 1
+
+-- the individuals of the chunks so far were put for the variable
+abbrev pub invariant-walk-loop-chunk : goal.invariant-walk-loop-chunk
+invariant-walk-loop-chunk l =
+    StaysBound l.trial.structure.now l.fn.evaluator l.evaluator
+    × DifferOnlyAt (l.v.0 ∷ numbers_of l.behind) l.fn.a l.a
+    × IsToldAmong l.trial.structure.now (trial_rule l.trial) (numbers_of l.behind) l.v.0 0 (64 * l.chunk) (assignment_of l.fn.a)
+    l.fn.noted.list.items l.noted.list.items Possible
+
+-- and the individuals so far of a chunk
+abbrev pub invariant-walk_chunk-loop-i : goal.invariant-walk_chunk-loop-i
+invariant-walk_chunk-loop-i l =
     StaysBound l.trial.structure.now l.fn.evaluator l.evaluator
     × DifferOnlyAt (l.v.0 ∷ numbers_of l.rest) l.fn.a l.a
-    × (l.from ≤ l.trial.structure.now.size)
-    × IsWalkedUpTo l.trial.structure.now (trial_rule l.trial) l.v.0 (numbers_of l.rest) (assignment_of l.fn.a) l.fn.noted.list.items
-    l.noted.list.items l.from
+    × (l.from ≤ 64)
+    × IsToldAmong l.trial.structure.now (trial_rule l.trial) (numbers_of l.rest) l.v.0 (64 * l.chunk) (64 * l.chunk + l.from)
+    (assignment_of l.fn.a) l.fn.noted.list.items l.noted.list.items Possible
 
-abbrev pub decreases-loop-u : goal.decreases-loop-u
-decreases-loop-u l = l.trial.structure.now.size - l.from
+abbrev pub decreases-walk_chunk-loop-i : goal.decreases-walk_chunk-loop-i
+decreases-walk_chunk-loop-i l = 64 - l.from

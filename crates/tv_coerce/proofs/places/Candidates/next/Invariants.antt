@@ -1,11 +1,11 @@
-use Rattle.std.proofs.Common.{ℕ, ◌<◌, ◌≤◌, ◌-◌, length}
-use Rattle.tv_coerce.specs.ByRows.{IsSkipped}
+use Rattle.std.proofs.Common.{ℕ, ◌<◌, ◌≤◌, ◌-◌}
+use Rattle.tv_coerce.specs.ByWords.{IsSkipped}
 use Rattle.tv_coerce.proofs.places.Candidates.next.Given as goal
 
--- the individuals so far are passed over
-abbrev pub invariant-loop-u : goal.invariant-loop-u
-invariant-loop-u l =
-    (l.from ≤ l.at) × (l.at ≤ length l.self.body) × ((w : ℕ) → l.from ≤ w → w < l.at → IsSkipped l.self w)
+-- the places so far are passed over
+abbrev pub invariant-loop-i : goal.invariant-loop-i
+invariant-loop-i l =
+    (l.from ≤ l.at) × (l.at ≤ 64) × ((j : ℕ) → l.from ≤ j → j < l.at → IsSkipped l.self j)
 
-abbrev pub decreases-loop-u : goal.decreases-loop-u
-decreases-loop-u l = length l.self.body - l.at
+abbrev pub decreases-loop-i : goal.decreases-loop-i
+decreases-loop-i l = 64 - l.at
