@@ -161,6 +161,19 @@ const BEHIND: &str = "0 -1000? s000??; 0 -10000 s000??, 0 -10001 s000??, 0 -1000
 0 -100001 -100000 -000000, 0 -100001 -100001 -000000
 0 -?000? s100??; 0 -?000? s100??";
 
+/// A summary that two individuals may lead to: one vector of two values, two of them, three, all four, those
+/// of one number in lexicographic order.
+const TWO_PLACES: &str = "0 -10000? -10000? s000000; 0 -100000 -100000 s000000, \
+0 -100000 -100001 s000000, 0 -100001 -100000 s000000, 0 -100001 -100001 s000000, \
+0 -1000000 -1000001 s0000000 s0000000, 0 -1000001 -1000000 s0000000 s0000000, \
+0 -1000001 -1000001 s0000000 s0000000, 0 -1000001 -1000010 s0000000 s0000000, \
+0 -1000001 -1000011 s0000000 s0000000, 0 -1000011 -1000001 s0000000 s0000000, \
+0 -10000001 -10000010 s00000000 s00000000 s00000000, \
+0 -10000001 -10000011 s00000000 s00000000 s00000000, \
+0 -10000011 -10000001 s00000000 s00000000 s00000000, \
+0 -10000011 -10000101 s00000000 s00000000 s00000000, \
+0 -100000011 -100000101 s000000000 s000000000 s000000000 s000000000";
+
 /// To the one individual at which `w` surely stands.
 const BEFORE: &str = "0 -10000 s000??; 0 -10000 s0000?, 0 -10000 s0001?, 0 -100000 s0000?? s0001??";
 
@@ -186,10 +199,11 @@ const BESIDE: &str = "0 -?00?; 0 -000?, 0 -100?
 0 -100?; 0 -100?";
 
 /// A formula, the number of an atom, and its rows.
-const ROWS: [(Focus, usize, &str); 12] = [
+const ROWS: [(Focus, usize, &str); 13] = [
     (Focus::Nullary, 0, NULLARY),
     (Focus::Unary, 0, UNARY),
     (Focus::Behind, 1, BEHIND),
+    (Focus::Behind, 1, TWO_PLACES),
     (Focus::Before, 1, BEFORE),
     (Focus::Both, 2, BOTH),
     (Focus::Chain, 2, CHAIN),

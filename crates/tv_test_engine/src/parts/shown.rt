@@ -115,12 +115,12 @@ fn put_word(s: &mut Structure, u: u32, word: &[u8])
     }
 }
 
-/// How many individuals the text shows, each behind a blank: at most four.
+/// How many individuals the text shows, each behind a blank: at most six.
 fn size_shown(text: &[u8]) -> u32
-    ensures { result ≤ 4 }
+    ensures { result ≤ 6 }
 {
     let blanks = text.iter().filter(|byte| **byte == b' ').count();
-    blanks.min(4) as u32
+    blanks.min(6) as u32
 }
 
 /// The structure that the text shows: the value of `b`, and a word for each individual.
