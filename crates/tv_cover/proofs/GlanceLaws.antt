@@ -1,11 +1,14 @@
 -- What a structure above another says at a glance.
-use Rattle.std.proofs.Common.{ℕ, ◌≡◌, ◌≢◌, ◌<◌, ◌≤◌, ◌+◌, ◌%◌, ◌⊎◌, suc, zero, inl, inr, List, [], ◌∷◌, ◌++◌}
-use Rattle.std.proofs.Common.{length, get_or, take, map, set, max, Equal, refl, sym, ap, subst, ◌∙◌, arith}
-use Rattle.std.specs.Prelude.{All, Any, Contains, min, fold, replicate, slice_index}
-use Rattle.std.specs.Cmp.Lexicographic.{slice_cmp}
+use Rattle.std.proofs.Common.{ℕ, ◌≡◌, ◌≢◌, ◌<◌, ◌≤◌, ◌+◌, ◌*◌, ◌%◌, ◌⊎◌, suc, zero, inl, inr, Bool, true}
+use Rattle.std.proofs.Common.{false}
+use Rattle.std.proofs.Common.{List, [], ◌∷◌, ◌++◌, length, get_or, take, map, set, max, refl, sym, ap, subst}
+use Rattle.std.proofs.Common.{◌∙◌}
+use Rattle.std.proofs.Common.{arith, add-one, eq-eqb, ◌==◌, ◌&&◌}
+use Rattle.std.specs.Prelude.{All, Any, Contains, IsTrue, fold, replicate, slice_index}
 use Rattle.std.specs.List.{range_with_len}
 use Rattle.std.proofs.lemmas.Bool.{cases_lt, cases_eq, cases_order}
 use Rattle.std.proofs.lemmas.List.{get_or_past, get_or_default, ext_get_or, length-set, length-replicate}
+use Rattle.std.proofs.lemmas.List.{length-map}
 use Rattle.std.proofs.lemmas.List.{get_or-replicate, get_or-set_other, get_or-set_same, get_or_append_left}
 use Rattle.std.proofs.lemmas.List.{get_or_push, length_push, take_all}
 use Rattle.std.proofs.lemmas.List.Sums.{fold_more}
@@ -15,13 +18,17 @@ use Rattle.std.proofs.lemmas.List.FromFn.{map-range_with_len_more}
 use Rattle.tv_kleene.specs.declared.K3.{K3}
 use Rattle.tv_kleene.specs.declared.K3.TheVariants.{No, Half, Yes}
 use Rattle.tv_kleene.specs.Kleene.{LiesUnder, smaller_of, larger_of, join_of}
-use Rattle.tv_row.specs.Bits.{paired, value_cmp}
+use Rattle.tv_row.specs.Bits.{paired, number_of, is_possible, is_certain}
 use Rattle.tv_row.specs.Mixed.{mixed, row_mixed}
 use Rattle.tv_embed.specs.Maps.{image_of, IsEmbedding}
 use Rattle.tv_embedding_laws.specs.Embedding.{Embeds, IsEmbedded}
-use Rattle.tv_struct.specs.StructureForm.{StructureForm, arities_of, structure_of, value_at}
+use Rattle.tv_struct.specs.StructureForm.{StructureForm, arities_of, structure_of, value_at, summary_at}
+use Rattle.tv_struct.specs.StructureRows.{flag_value}
+use Rattle.tv_struct.specs.TableForm.{PlaneForm, no_plane, value_in}
+use Rattle.tv_struct.proofs.StructureLaws.{value_in-no_plane}
 use Rattle.tv_struct.proofs.Library.{Contains-range, below-range}
-use Rattle.tv_cover.specs.Glance.{profile_of, nullary_value, value_near, GlanceForm, glance_of, LieUnder}
+use Rattle.tv_cover.specs.Glance.{profile_of, nullary_value, value_near, profile_near, GlanceForm, glance_of}
+use Rattle.tv_cover.specs.Glance.{LieUnder}
 use Rattle.tv_cover.specs.Glance.{MayEmbed, AreOnlyImages, IsOnlyMap, IsDefinite, AreKnown, profile_number}
 use Rattle.tv_cover.specs.Glance.{slots_of, greatest_of, glance_number}
 
@@ -55,54 +62,54 @@ known-same (x ∷ below) (y ∷ above) (m ∷ known) count under definite =
 -- ---- numbers of sets of rows
 
 slots-length : (number : List K3 → ℕ) (rows : List (List K3)) (slots : List K3)
-    → length (fold (λ slots row. set slots (number row % 256) Yes) slots rows) ≡ length slots
+    → length (fold (λ slots row. set slots (number row % 251) Yes) slots rows) ≡ length slots
 slots-length number [] slots = refl
 slots-length number (row ∷ rows) slots =
-    slots-length number rows (set slots (number row % 256) Yes) ∙ length-set slots (number row % 256) Yes
+    slots-length number rows (set slots (number row % 251) Yes) ∙ length-set slots (number row % 251) Yes
 
 -- Yes stays where it is
 slots-kept : (number : List K3 → ℕ) (rows : List (List K3)) (slots : List K3) (i : ℕ) → i < length slots
-    → get_or slots i No ≡ Yes → get_or (fold (λ slots row. set slots (number row % 256) Yes) slots rows) i No ≡ Yes
+    → get_or slots i No ≡ Yes → get_or (fold (λ slots row. set slots (number row % 251) Yes) slots rows) i No ≡ Yes
 slots-kept number [] slots i lt is = is
 slots-kept number (row ∷ rows) slots i lt is =
-    slots-kept number rows (set slots (number row % 256) Yes) i (rw (length-set slots (number row % 256) Yes) lt)
-    (at (cases_eq i (number row % 256)))
+    slots-kept number rows (set slots (number row % 251) Yes) i (rw (length-set slots (number row % 251) Yes) lt)
+    (at (cases_eq i (number row % 251)))
   where
-    at : (i ≡ number row % 256) ⊎ (i ≢ number row % 256) → get_or (set slots (number row % 256) Yes) i No ≡ Yes
+    at : (i ≡ number row % 251) ⊎ (i ≢ number row % 251) → get_or (set slots (number row % 251) Yes) i No ≡ Yes
     at (inl e) =
         ap (λ k. get_or (set slots k Yes) i No) (sym e) ∙ get_or-set_same slots i Yes No lt
-    at (inr ne) = get_or-set_other slots (number row % 256) i Yes No ne ∙ is
+    at (inr ne) = get_or-set_other slots (number row % 251) i Yes No ne ∙ is
 
 slots-put : (number : List K3 → ℕ) (rows : List (List K3)) (slots : List K3) (row : List K3) → length slots ≡ 256
-    → Contains rows row → get_or (fold (λ slots row. set slots (number row % 256) Yes) slots rows) (number row % 256) No ≡ Yes
+    → Contains rows row → get_or (fold (λ slots row. set slots (number row % 251) Yes) slots rows) (number row % 251) No ≡ Yes
 slots-put number [] slots row long (k, lt, at) = absurd (omega arith)
 slots-put number (other ∷ rows) slots row long (zero, lt, at) =
-    let within : number row % 256 < length slots = omega (arith, long)
-    in slots-kept number rows (set slots (number other % 256) Yes) (number row % 256)
-    (rw (length-set slots (number other % 256) Yes) within)
-    (ap (λ r. get_or (set slots (number r % 256) Yes) (number row % 256) No) at
-    ∙ get_or-set_same slots (number row % 256) Yes No within)
+    let within : number row % 251 < length slots = omega (arith, long)
+    in slots-kept number rows (set slots (number other % 251) Yes) (number row % 251)
+    (rw (length-set slots (number other % 251) Yes) within)
+    (ap (λ r. get_or (set slots (number r % 251) Yes) (number row % 251) No) at
+    ∙ get_or-set_same slots (number row % 251) Yes No within)
 slots-put number (other ∷ rows) slots row long (suc k, lt, at) =
-    slots-put number rows (set slots (number other % 256) Yes) row (length-set slots (number other % 256) Yes ∙ long)
+    slots-put number rows (set slots (number other % 251) Yes) row (length-set slots (number other % 251) Yes ∙ long)
     (k, omega arith, at)
 
 slots-only : (number : List K3 → ℕ) (rows : List (List K3)) (slots : List K3) (i : ℕ)
-    → (get_or (fold (λ slots row. set slots (number row % 256) Yes) slots rows) i No ≡ get_or slots i No)
-    ⊎ ((row : List K3) × Contains rows row × (number row % 256 ≡ i))
+    → (get_or (fold (λ slots row. set slots (number row % 251) Yes) slots rows) i No ≡ get_or slots i No)
+    ⊎ ((row : List K3) × Contains rows row × (number row % 251 ≡ i))
 slots-only number [] slots i = inl refl
 slots-only number (other ∷ rows) slots i =
-    at (slots-only number rows (set slots (number other % 256) Yes) i) (cases_eq i (number other % 256))
+    at (slots-only number rows (set slots (number other % 251) Yes) i) (cases_eq i (number other % 251))
   where
-    at : (get_or (fold (λ slots row. set slots (number row % 256) Yes) (set slots (number other % 256) Yes) rows) i No
-        ≡ get_or (set slots (number other % 256) Yes) i No)
-        ⊎ ((row : List K3) × Contains rows row × (number row % 256 ≡ i))
-        → (i ≡ number other % 256) ⊎ (i ≢ number other % 256)
-        → (get_or (fold (λ slots row. set slots (number row % 256) Yes) (set slots (number other % 256) Yes) rows) i No
+    at : (get_or (fold (λ slots row. set slots (number row % 251) Yes) (set slots (number other % 251) Yes) rows) i No
+        ≡ get_or (set slots (number other % 251) Yes) i No)
+        ⊎ ((row : List K3) × Contains rows row × (number row % 251 ≡ i))
+        → (i ≡ number other % 251) ⊎ (i ≢ number other % 251)
+        → (get_or (fold (λ slots row. set slots (number row % 251) Yes) (set slots (number other % 251) Yes) rows) i No
         ≡ get_or slots i No)
-        ⊎ ((row : List K3) × Contains (other ∷ rows) row × (number row % 256 ≡ i))
+        ⊎ ((row : List K3) × Contains (other ∷ rows) row × (number row % 251 ≡ i))
     at (inr (row, (k, lt, is), e)) which = inr (row, (suc k, omega arith, is), e)
     at (inl same) (inl e) = inr (other, (0, omega arith, refl), sym e)
-    at (inl same) (inr ne) = inl (same ∙ get_or-set_other slots (number other % 256) i Yes No ne)
+    at (inl same) (inr ne) = inl (same ∙ get_or-set_other slots (number other % 251) i Yes No ne)
 
 -- each row has one of the same number on the other side
 pub Matches : (number : List K3 → ℕ) → (rows others : List (List K3)) → Type 0
@@ -120,24 +127,24 @@ slots-same number rows others forth back =
     long : length (replicate 256 No) ≡ 256
     long = length-replicate 256 No
 
-    put : (rows : List (List K3)) (i : ℕ) (row : List K3) → Contains rows row → number row % 256 ≡ i
+    put : (rows : List (List K3)) (i : ℕ) (row : List K3) → Contains rows row → number row % 251 ≡ i
         → get_or (slots_of number rows) i No ≡ Yes
     put rows i row has e =
         subst (λ k. get_or (slots_of number rows) k No ≡ Yes) e (slots-put number rows (replicate 256 No) row long has)
 
     at : (i : ℕ)
         → (get_or (slots_of number rows) i No ≡ get_or (replicate 256 No) i No)
-        ⊎ ((row : List K3) × Contains rows row × (number row % 256 ≡ i))
+        ⊎ ((row : List K3) × Contains rows row × (number row % 251 ≡ i))
         → (get_or (slots_of number others) i No ≡ get_or (replicate 256 No) i No)
-        ⊎ ((row : List K3) × Contains others row × (number row % 256 ≡ i))
+        ⊎ ((row : List K3) × Contains others row × (number row % 251 ≡ i))
         → get_or (slots_of number rows) i No ≡ get_or (slots_of number others) i No
     at i (inl none) (inl empty) = none ∙ sym empty
     at i (inr (row, has, e)) which =
         let other = forth row has
-        in put rows i row has e ∙ sym (put others i other.0 other.1 (ap (λ n. n % 256) (sym other.2) ∙ e))
+        in put rows i row has e ∙ sym (put others i other.0 other.1 (ap (λ n. n % 251) (sym other.2) ∙ e))
     at i (inl none) (inr (row, has, e)) =
         let other = back row has
-        in put rows i other.0 other.1 (ap (λ n. n % 256) (sym other.2) ∙ e) ∙ sym (put others i row has e)
+        in put rows i other.0 other.1 (ap (λ n. n % 251) (sym other.2) ∙ e) ∙ sym (put others i row has e)
 
 greatest-start : (number : List K3 → ℕ) (rows : List (List K3)) (a : ℕ)
     → a ≤ fold (λ greatest row. max greatest (number row)) a rows
@@ -179,51 +186,112 @@ greatest-same number rows others forth back =
 
 -- ---- profiles
 
-pub length-profile : (s : StructureForm) (value : ℕ → K3) → length (profile_of s value) ≡ min (length (arities_of s)) 256
-length-profile s value = length-map-range_with_len value 0 (min (length (arities_of s)) 256)
+-- the value at a place of a profile
+pub placed : (first : K3) → (value : ℕ → K3) → (place : ℕ) → K3
+placed first value zero = first
+placed first value (suc pred) = value pred
 
-pub get_or-profile : (s : StructureForm) (value : ℕ → K3) (i : ℕ) → i < length (profile_of s value)
-    → get_or (profile_of s value) i No ≡ value i
-get_or-profile s value i lt =
-    get_or-map-range_with_len value 0 (min (length (arities_of s)) 256) i i No (rw (← length-profile s value) lt) (omega arith)
+pub length-profile : (first : K3) (value : ℕ → K3) → length (profile_of first value) ≡ 256
+length-profile first value = ap suc (length-map-range_with_len value 0 255)
 
--- the values of the first n predicates stand in the row
-pub record IsProfileTo (s : StructureForm) (value : ℕ → K3) (n : ℕ) (row : List K3) : Type 0 where
-  pub long : length row ≡ min (length (arities_of s)) 256
-  pub values : (i : ℕ) → i < n → get_or row i No ≡ value i
+get_or-profile : (first : K3) (value : ℕ → K3) (i : ℕ) → i < 256
+    → get_or (profile_of first value) i No ≡ placed first value i
+unfolding placed
+get_or-profile first value zero lt = refl
+get_or-profile first value (suc i) lt = get_or-map-range_with_len value 0 255 i i No (omega arith) (omega arith)
 
-pub profile-none : (s : StructureForm) (value : ℕ → K3) (row : List K3) → length row ≡ min (length (arities_of s)) 256
-    → IsProfileTo s value 0 row
-profile-none s value row count = record { long = count; values = λ i lt. absurd (omega arith) }
+-- the values at the first n places stand in the row, with No behind them
+pub record IsProfileTo (first : K3) (value : ℕ → K3) (n : ℕ) (row : List K3) : Type 0 where
+  pub long : length row ≡ 256
+  pub values : (i : ℕ) → i < n → get_or row i No ≡ placed first value i
+  pub rest : (i : ℕ) → n ≤ i → get_or row i No ≡ No
 
-pub profile-more : (s : StructureForm) (value : ℕ → K3) (n : ℕ) (row next : List K3) (k : K3) → IsProfileTo s value n row
-    → n < length row → next ≡ set row n k → k ≡ value n → IsProfileTo s value (n + 1) next
-profile-more s value n row next k before within is one = record {
+all-No : (n i : ℕ) → get_or (replicate n No) i No ≡ No
+all-No n i = at (cases_lt i n)
+  where
+    at : (i < n) ⊎ (n ≤ i) → get_or (replicate n No) i No ≡ No
+    at (inl below) = get_or-replicate n i No No below
+    at (inr past) = get_or_past (replicate n No) i No (rw (length-replicate n No) past)
+
+profile-none : (first : K3) (value : ℕ → K3) (row : List K3) → row ≡ replicate 256 No → IsProfileTo first value 0 row
+profile-none first value row is = record {
+  long = ap length is ∙ length-replicate 256 No;
+  values = λ i lt. absurd (omega arith);
+  rest = λ i le. ap (λ r. get_or r i No) is ∙ all-No 256 i;
+}
+
+-- one more value
+profile-put : (first : K3) (value : ℕ → K3) (n : ℕ) (row next : List K3) (k : K3) → IsProfileTo first value n row
+    → n < 256 → next ≡ set row n k → k ≡ placed first value n → IsProfileTo first value (n + 1) next
+profile-put first value n row next k before within is one = record {
   long = ap length is ∙ length-set row n k ∙ before.long;
   values = λ i lt. at i lt (cases_lt i n);
+  rest = λ i le. ap (λ r. get_or r i No) is ∙ get_or-set_other row n i k No (λ e. omega arith) ∙ before.rest i (omega arith);
 }
   where
-    at : (i : ℕ) → i < n + 1 → (i < n) ⊎ (n ≤ i) → get_or next i No ≡ value i
+    at : (i : ℕ) → i < n + 1 → (i < n) ⊎ (n ≤ i) → get_or next i No ≡ placed first value i
     at i lt (inl below) =
         ap (λ r. get_or r i No) is ∙ get_or-set_other row n i k No (λ e. omega arith) ∙ before.values i below
     at i lt (inr from) =
         let last : n ≡ i = omega arith
-        in subst (λ x. get_or next x No ≡ value x) last
-        (ap (λ r. get_or r n No) is ∙ get_or-set_same row n k No within ∙ one)
+        in subst (λ x. get_or next x No ≡ placed first value x) last
+        (ap (λ r. get_or r n No) is ∙ get_or-set_same row n k No (rw before.long within) ∙ one)
 
-pub profile-all : (s : StructureForm) (value : ℕ → K3) (n : ℕ) (row : List K3) → IsProfileTo s value n row
-    → length row ≤ n → row ≡ profile_of s value
-profile-all s value n row is all =
-    ext_get_or No row (profile_of s value) (is.long ∙ sym (length-profile s value))
-    (λ i lt.
-    is.values i (omega (arith, lt, all)) ∙ sym (get_or-profile s value i (omega (arith, lt, is.long, length-profile s value))))
+pub profile-more : (first : K3) (value : ℕ → K3) (n : ℕ) (row next : List K3) (k : K3) → IsProfileTo first value (n + 1) row
+    → n < 255 → next ≡ set row (n + 1) k → k ≡ value n → IsProfileTo first value (n + 1 + 1) next
+unfolding placed
+profile-more first value n row next k before within is one =
+    let here : placed first value (n + 1) ≡ value n = rw add-one refl
+    in profile-put first value (n + 1) row next k before (omega (arith, within)) is (one ∙ sym here)
+
+pub profile-first : (first : K3) (value : ℕ → K3) (row next : List K3) → row ≡ replicate 256 No → next ≡ set row 0 first
+    → IsProfileTo first value 1 next
+unfolding placed
+profile-first first value row next none is =
+    profile-put first value 0 row next first (profile-none first value row none) (omega arith) is refl
+
+pub profile-begun : (value : ℕ → K3) (row : List K3) → row ≡ replicate 256 No → IsProfileTo No value 1 row
+unfolding placed
+profile-begun value row is =
+    let none : IsProfileTo No value 0 row = profile-none No value row is
+    in record { long = none.long; values = λ i lt. at i (omega arith); rest = λ i le. none.rest i (omega arith) }
+  where
+    at : (i : ℕ) → i ≡ 0 → get_or row i No ≡ placed No value i
+    at zero e = ap (λ r. get_or r 0 No) is ∙ all-No 256 0
+    at (suc i) e = absurd (omega (arith, e))
+
+pub profile-all : (first : K3) (value : ℕ → K3) (n : ℕ) (row : List K3) → IsProfileTo first value (n + 1) row
+    → ((pred : ℕ) → n ≤ pred → pred < 255 → value pred ≡ No) → row ≡ profile_of first value
+unfolding placed
+profile-all first value n row is absent =
+    ext_get_or No row (profile_of first value) (is.long ∙ sym (length-profile first value))
+    (λ i lt. at i (omega (arith, lt, is.long)) ∙ sym (get_or-profile first value i (omega (arith, lt, is.long))))
+  where
+    past : (i : ℕ) → i < 256 → n + 1 ≤ i → No ≡ placed first value i
+    past zero lt le = absurd (omega (arith, le))
+    past (suc pred) lt le = sym (absent pred (omega (arith, le)) (omega (arith, lt)))
+
+    at : (i : ℕ) → i < 256 → get_or row i No ≡ placed first value i
+    at i lt = side (cases_lt i (n + 1))
+      where
+        side : (i < n + 1) ⊎ (n + 1 ≤ i) → get_or row i No ≡ placed first value i
+        side (inl below) = is.values i below
+        side (inr from) = is.rest i from ∙ past i lt from
+
+-- a predicate that isn't there has no value
+absent-value : (s : StructureForm) (pred : ℕ) (tuple : List ℕ) → length (arities_of s) ≤ pred → value_at s pred tuple ≡ No
+absent-value s pred tuple past =
+    let behind : length s.planes ≤ pred = omega (arith, past, length-map s.planes (λ (p : PlaneForm). p.arity))
+    in ap (λ p. value_in p tuple) (get_or_past s.planes pred no_plane behind) ∙ value_in-no_plane tuple
+
+pub absent-nullary : (s : StructureForm) (pred : ℕ) → length (arities_of s) ≤ pred → nullary_value s pred ≡ No
+absent-nullary s pred behind = absent-value s pred [] behind
+
+pub absent-near : (s : StructureForm) (u pred : ℕ) → length (arities_of s) ≤ pred → value_near s u pred ≡ No
+absent-near s u pred behind =
+    λ j. larger_of (absent-value s pred (u ∷ []) behind j) (absent-value s pred (u ∷ u ∷ []) behind j)
 
 -- ---- rows that lie under others
-
-value-equal : (k : K3) → value_cmp k k ≡ Equal
-value-equal No = refl
-value-equal Half = refl
-value-equal Yes = refl
 
 join-Half : (k : K3) → join_of k Half ≡ Half
 join-Half No = refl
@@ -239,11 +307,7 @@ join-above : (x y : K3) → LiesUnder x y → join_of x y ≡ y
 join-above x y (inl e) = ap (λ k. join_of k y) e ∙ join-self y
 join-above x y (inr half) = ap (join_of x) half ∙ join-Half x ∙ sym half
 
-rows-equal : (xs : List K3) → slice_cmp value_cmp xs xs ≡ Equal
-rows-equal [] = refl
-rows-equal (x ∷ xs) = rw (value-equal x) (rows-equal xs)
-
-join-rows : (xs ys : List K3) → length xs ≡ length ys → LieUnder xs ys → paired join_of xs ys ≡ ys
+pub join-rows : (xs ys : List K3) → length xs ≡ length ys → LieUnder xs ys → paired join_of xs ys ≡ ys
 join-rows [] [] count under = refl
 join-rows [] (y ∷ ys) count under = absurd (omega arith)
 join-rows (x ∷ xs) [] count under = absurd (omega arith)
@@ -252,15 +316,40 @@ join-rows (x ∷ xs) (y ∷ ys) count under =
     in let rest : paired join_of xs ys ≡ ys = join-rows xs ys (omega arith) (λ i. under (suc i))
     in λ i. first i ∷ rest i
 
-pub under-equal : (xs ys joined : List K3) → length xs ≡ length ys → joined ≡ paired join_of xs ys → LieUnder xs ys
-    → slice_cmp value_cmp joined ys ≡ Equal
-under-equal xs ys joined count is under =
-    ap (λ row. slice_cmp value_cmp row ys) (is ∙ join-rows xs ys count under) ∙ rows-equal ys
+-- words of equal values have equal bits
+pub word-equal : (xs ys : List K3) → xs ≡ ys
+    → ((number_of is_possible xs == number_of is_possible ys) && (number_of is_certain xs == number_of is_certain ys)) ≡ true
+word-equal xs ys e =
+    let possible : (number_of is_possible xs == number_of is_possible ys) ≡ true
+    = eq-eqb (number_of is_possible xs) (number_of is_possible ys) (ap (number_of is_possible) e)
+    in let certain : (number_of is_certain xs == number_of is_certain ys) ≡ true
+    = eq-eqb (number_of is_certain xs) (number_of is_certain ys) (ap (number_of is_certain) e)
+    in λ i. possible i && certain i
+
+-- where rows lie under others, so do their words
+pub word-under : (xs ys word other : List K3) (c : ℕ) → c < 4 → length xs ≡ 256 → length ys ≡ 256 → length word ≡ 64
+    → length other ≡ 64 → ((i : ℕ) → i < 64 → 64 * c + i < length xs → get_or word i No ≡ get_or xs (64 * c + i) No)
+    → ((i : ℕ) → i < 64 → 64 * c + i < length ys → get_or other i No ≡ get_or ys (64 * c + i) No)
+    → LieUnder xs ys → LieUnder word other
+word-under xs ys word other c few long wide count many here there under place = at (cases_lt place 64)
+  where
+    at : (place < 64) ⊎ (64 ≤ place) → LiesUnder (get_or word place No) (get_or other place No)
+    at (inl lt) =
+        subst (λ x. LiesUnder x (get_or other place No)) (sym (here place lt (omega (arith, few, lt, long))))
+        (subst (LiesUnder (get_or xs (64 * c + place) No)) (sym (there place lt (omega (arith, few, lt, wide))))
+        (under (64 * c + place)))
+    at (inr past) =
+        inl (get_or_past word place No (omega (arith, count, past)) ∙ sym (get_or_past other place No (omega (arith, many, past))))
 
 pub none-lie : (row : List K3) (others : List (List K3)) (n : ℕ) → length others ≤ n
     → ((k : ℕ) → k < n → ¬ LieUnder row (get_or others k [])) → Any (LieUnder row) others → ⊥
 none-lie row others n all none (k, other, lt, at, under) =
     none k (omega (arith, lt, all)) (subst (LieUnder row) (sym (get_or_default others k [] other lt ∙ at)) under)
+
+pub none-over : (other : List K3) (rows : List (List K3)) (n : ℕ) → length rows ≤ n
+    → ((k : ℕ) → k < n → ¬ LieUnder (get_or rows k []) other) → Any (λ row. LieUnder row other) rows → ⊥
+none-over other rows n all none (k, row, lt, at, under) =
+    none k (omega (arith, lt, all)) (subst (λ r. LieUnder r other) (sym (get_or_default rows k [] row lt ∙ at)) under)
 
 -- ---- where one row alone is above
 
@@ -333,29 +422,19 @@ definite-set known values p ne before pred is = at (cases_eq pred p)
     at (inl e) = subst (λ q. get_or values q No ≢ Half) (sym e) ne
     at (inr differ) = before pred (λ none. is (get_or-set_other known p pred Yes No differ ∙ none))
 
-pub known-none : (glance : GlanceForm) (known : List K3) (n : ℕ) → n ≡ length glance.nullary → known ≡ replicate n No
-    → AreKnown glance known
-known-none glance known n count is = record {
-  long = ap length is ∙ length-replicate n No ∙ count;
+pub known-none : (glance : GlanceForm) (known : List K3) → known ≡ replicate 256 No → AreKnown glance known
+known-none glance known is = record {
   nullary = never glance.nullary;
   unary = λ k d lt. never (get_or glance.unary k d);
 }
   where
-    none : (pred : ℕ) → get_or known pred No ≡ No
-    none pred = ap (λ row. get_or row pred No) is ∙ at (cases_lt pred n)
-      where
-        at : (pred < n) ⊎ (n ≤ pred) → get_or (replicate n No) pred No ≡ No
-        at (inl below) = get_or-replicate n pred No No below
-        at (inr past) = get_or_past (replicate n No) pred No (rw (length-replicate n No) past)
-
     never : (values : List K3) → IsDefinite known values
-    never values pred some = absurd (some (none pred))
+    never values place some = absurd (some (ap (λ row. get_or row place No) is ∙ all-No 256 place))
 
 pub known-more : (glance : GlanceForm) (known next : List K3) (p : ℕ) → next ≡ set known p Yes
     → get_or glance.nullary p No ≢ Half → All (λ row. get_or row p No ≢ Half) glance.unary → AreKnown glance known
     → AreKnown glance next
 known-more glance known next p is nullary unary before = record {
-  long = ap length is ∙ length-set known p Yes ∙ before.long;
   nullary = subst (λ row. IsDefinite row glance.nullary) (sym is) (definite-set known glance.nullary p nullary before.nullary);
   unary = λ k d lt.
       subst (λ row. IsDefinite row (get_or glance.unary k d)) (sym is)
@@ -365,32 +444,21 @@ known-more glance known next p is nullary unary before = record {
 -- ---- profiles and numbers, one individual after the other
 
 pub profiles-more : (s : StructureForm) (u : ℕ) (rows next : List (List K3)) (row : List K3)
-    → rows ≡ map (λ w. profile_of s (value_near s w)) (range_with_len 0 u) → next ≡ rows ++ row ∷ []
-    → row ≡ profile_of s (value_near s u) → next ≡ map (λ w. profile_of s (value_near s w)) (range_with_len 0 (u + 1))
+    → rows ≡ map (profile_near s) (range_with_len 0 u) → next ≡ rows ++ row ∷ [] → row ≡ profile_near s u
+    → next ≡ map (profile_near s) (range_with_len 0 (u + 1))
 profiles-more s u rows next row before put is =
-    put ∙ (λ j. before j ++ is j ∷ [])
-    ∙ sym (map-range_with_len_more (λ w. profile_of s (value_near s w)) 0 u u (omega arith))
-
-pub same-lengths : (s : StructureForm) (n : ℕ) (rows : List (List K3)) (first : List K3)
-    → rows ≡ map (λ w. profile_of s (value_near s w)) (range_with_len 0 n) → first ≡ profile_of s (nullary_value s)
-    → All (λ row. length row ≡ length first) rows
-same-lengths s n rows first are is k d lt =
-    let count : length rows ≡ n = ap length are ∙ length-map-range_with_len (λ w. profile_of s (value_near s w)) 0 n
-    in let at : get_or rows k d ≡ profile_of s (value_near s k)
-    = ap (λ xs. get_or xs k d) are
-    ∙ get_or-map-range_with_len (λ w. profile_of s (value_near s w)) 0 n k k d (omega (arith, lt, count)) (omega arith)
-    in ap length at ∙ length-profile s (value_near s k) ∙ sym (ap length is ∙ length-profile s (nullary_value s))
+    put ∙ (λ j. before j ++ is j ∷ []) ∙ sym (map-range_with_len_more (profile_near s) 0 u u (omega arith))
 
 pub length-slots : (number : List K3 → ℕ) (rows : List (List K3)) → length (slots_of number rows) ≡ 256
 length-slots number rows = slots-length number rows (replicate 256 No) ∙ length-replicate 256 No
 
 pub slots-more : (number : List K3 → ℕ) (rows : List (List K3)) (i n : ℕ) (row slots next : List K3) → i < length rows
-    → row ≡ get_or rows i [] → n ≡ number row → slots ≡ slots_of number (take i rows) → next ≡ set slots (n % 256) Yes
+    → row ≡ get_or rows i [] → n ≡ number row → slots ≡ slots_of number (take i rows) → next ≡ set slots (n % 251) Yes
     → next ≡ slots_of number (take (i + 1) rows)
 slots-more number rows i n row slots next lt at is before put =
-    put ∙ (λ j. set (before j) (is j % 256) Yes)
-    ∙ ap (λ r. set (slots_of number (take i rows)) (number r % 256) Yes) at
-    ∙ sym (fold_more (λ kept r. set kept (number r % 256) Yes) (replicate 256 No) rows i [] lt)
+    put ∙ (λ j. set (before j) (is j % 251) Yes)
+    ∙ ap (λ r. set (slots_of number (take i rows)) (number r % 251) Yes) at
+    ∙ sym (fold_more (λ kept r. set kept (number r % 251) Yes) (replicate 256 No) rows i [] lt)
 
 pub greatest-more : (number : List K3 → ℕ) (rows : List (List K3)) (i n : ℕ) (row : List K3) (greatest next : ℕ)
     → i < length rows → row ≡ get_or rows i [] → n ≡ number row → greatest ≡ greatest_of number (take i rows)
@@ -444,107 +512,125 @@ module _ (s t : StructureForm) (f : ℕ → ℕ) (e : Embeds f (structure_of s) 
       larger-under (value_at s pred (u ∷ [])) (value_at s pred (u ∷ u ∷ [])) (value_at t pred (f u ∷ []))
       (value_at t pred (f u ∷ f u ∷ [])) (e.values pred tt (u ∷ []) (one u lt)) (e.values pred tt (u ∷ u ∷ []) (two u lt))
 
-  count : (below above : ℕ → K3) → length (profile_of s below) ≡ length (profile_of t above)
-  count below above = length-profile s below ∙ ap (λ xs. min (length xs) 256) same ∙ sym (length-profile t above)
-
-  profile-under : (below above : ℕ → K3) → ((pred : ℕ) → LiesUnder (below pred) (above pred))
-      → LieUnder (profile_of s below) (profile_of t above)
-  profile-under below above under pred = at (cases_lt pred (length (profile_of s below)))
+  profile-under : (first last : K3) (below above : ℕ → K3) → LiesUnder first last
+      → ((pred : ℕ) → LiesUnder (below pred) (above pred)) → LieUnder (profile_of first below) (profile_of last above)
+  unfolding placed
+  profile-under first last below above start under place = at (cases_lt place 256)
     where
-      Under : K3 → K3 → Type 0
-      Under x y = LiesUnder x y
+      each : (i : ℕ) → LiesUnder (placed first below i) (placed last above i)
+      each zero = start
+      each (suc pred) = under pred
 
-      at : (pred < length (profile_of s below)) ⊎ (length (profile_of s below) ≤ pred)
-          → LiesUnder (get_or (profile_of s below) pred No) (get_or (profile_of t above) pred No)
+      at : (place < 256) ⊎ (256 ≤ place)
+          → LiesUnder (get_or (profile_of first below) place No) (get_or (profile_of last above) place No)
       at (inl lt) =
-          subst (Under (get_or (profile_of s below) pred No))
-          (sym (get_or-profile t above pred (omega (arith, count below above, lt))))
-          (subst (λ x. Under x (above pred)) (sym (get_or-profile s below pred lt)) (under pred))
+          subst (LiesUnder (get_or (profile_of first below) place No)) (sym (get_or-profile last above place lt))
+          (subst (λ x. LiesUnder x (placed last above place)) (sym (get_or-profile first below place lt)) (each place))
       at (inr past) =
-          inl (get_or_past (profile_of s below) pred No past
-          ∙ sym (get_or_past (profile_of t above) pred No (omega (arith, count below above, past))))
+          inl (get_or_past (profile_of first below) place No (omega (arith, length-profile first below, past))
+          ∙ sym (get_or_past (profile_of last above) place No (omega (arith, length-profile last above, past))))
 
-  member : (x : StructureForm) (u : ℕ) → u < x.size → Contains (glance_of x).unary (profile_of x (value_near x u))
+  member : (x : StructureForm) (u : ℕ) → u < x.size → Contains (glance_of x).unary (profile_near x u)
   member x u lt = (
     u,
-    rw (length-map-range_with_len (λ w. profile_of x (value_near x w)) 0 x.size) lt,
-    get_or-map-range_with_len (λ w. profile_of x (value_near x w)) 0 x.size u u (profile_of x (value_near x u)) lt
-        (omega arith),
+    rw (length-map-range_with_len (profile_near x) 0 x.size) lt,
+    get_or-map-range_with_len (profile_near x) 0 x.size u u (profile_near x u) lt (omega arith),
   )
 
   origin : (x : StructureForm) (row : List K3) → Contains (glance_of x).unary row
-      → (u : ℕ) × (u < x.size) × (row ≡ profile_of x (value_near x u))
+      → (u : ℕ) × (u < x.size) × (row ≡ profile_near x u)
   origin x row (k, lt, at) =
-      let within : k < x.size = rw (← length-map-range_with_len (λ w. profile_of x (value_near x w)) 0 x.size) lt
-      in (
-        k,
-        within,
-        sym at
-            ∙ get_or-map-range_with_len (λ w. profile_of x (value_near x w)) 0 x.size k k row within (omega arith),
-      )
+      let within : k < x.size = rw (← length-map-range_with_len (profile_near x) 0 x.size) lt
+      in (k, within, sym at ∙ get_or-map-range_with_len (profile_near x) 0 x.size k k row within (omega arith))
 
   image : (u : ℕ) → u < s.size → f u < t.size
   image u lt = below-range t.size (f u) (e.into u (Contains-range s.size u lt))
 
-  near-lies : (u : ℕ) → u < s.size → LieUnder (profile_of s (value_near s u)) (profile_of t (value_near t (f u)))
-  near-lies u lt = profile-under (value_near s u) (value_near t (f u)) (near-under u lt)
+  flag-under : (a b : Bool) → (IsTrue a → IsTrue b) → LiesUnder (flag_value a) (flag_value b)
+  flag-under false false on = inl refl
+  flag-under false true on = inr refl
+  flag-under true false on = absurd (cc (on refl))
+  flag-under true true on = inl refl
 
-  nullary-lies : LieUnder (profile_of s (nullary_value s)) (profile_of t (nullary_value t))
-  nullary-lies = profile-under (nullary_value s) (nullary_value t) (λ pred. e.values pred tt [] none)
+  near-lies : (u : ℕ) → u < s.size → LieUnder (profile_near s u) (profile_near t (f u))
+  near-lies u lt =
+      profile-under (flag_value (summary_at s u)) (flag_value (summary_at t (f u))) (value_near s u) (value_near t (f u))
+      (flag-under (summary_at s u) (summary_at t (f u)) (e.summaries u (Contains-range s.size u lt))) (near-under u lt)
+
+  nullary-lies : LieUnder (profile_of No (nullary_value s)) (profile_of No (nullary_value t))
+  nullary-lies = profile-under No No (nullary_value s) (nullary_value t) (inl refl) (λ pred. e.values pred tt [] none)
+
+  row-of : (x : StructureForm) (k : ℕ) (d : List K3) → k < length (glance_of x).unary
+      → (u : ℕ) × (u < x.size) × (get_or (glance_of x).unary k d ≡ profile_near x u)
+  row-of x k d lt =
+      origin x (get_or (glance_of x).unary k d)
+      (k, lt, get_or_default (glance_of x).unary k (get_or (glance_of x).unary k d) d lt)
 
   may : MayEmbed (glance_of s) (glance_of t)
   may = record {
     nullary = nullary-lies;
-    unary = λ k d lt. at k d (origin s (get_or (glance_of s).unary k d) (k, lt, get_or_default (glance_of s).unary k _ d lt));
+    into = λ k d lt. above k d (row-of s k d lt);
+    onto = λ k d lt. below k d (row-of t k d lt);
   }
     where
-      at : (k : ℕ) (d : List K3)
-          → ((u : ℕ) × (u < s.size) × (get_or (glance_of s).unary k d ≡ profile_of s (value_near s u)))
+      above : (k : ℕ) (d : List K3) → ((u : ℕ) × (u < s.size) × (get_or (glance_of s).unary k d ≡ profile_near s u))
           → Any (LieUnder (get_or (glance_of s).unary k d)) (glance_of t).unary
-      at k d (u, lt, is) =
-          let has : Contains (glance_of t).unary (profile_of t (value_near t (f u))) = member t (f u) (image u lt)
+      above k d (u, lt, is) =
+          let has : Contains (glance_of t).unary (profile_near t (f u)) = member t (f u) (image u lt)
           in (
             has.0,
-            profile_of t (value_near t (f u)),
+            profile_near t (f u),
             has.1,
             has.2,
-            subst (λ row. LieUnder row (profile_of t (value_near t (f u)))) (sym is) (near-lies u lt),
+            subst (λ row. LieUnder row (profile_near t (f u))) (sym is) (near-lies u lt),
           )
+
+      below : (k : ℕ) (d : List K3) → ((w : ℕ) × (w < t.size) × (get_or (glance_of t).unary k d ≡ profile_near t w))
+          → Any (λ row. LieUnder row (get_or (glance_of t).unary k d)) (glance_of s).unary
+      below k d (w, lt, is) =
+          let u = e.onto w (Contains-range t.size w lt)
+          in let low : u.0 < s.size = below-range s.size u.0 u.1
+          in let has : Contains (glance_of s).unary (profile_near s u.0) = member s u.0 low
+          in let same : profile_near t (f u.0) ≡ get_or (glance_of t).unary k d = ap (profile_near t) u.2 ∙ sym is
+          in (has.0, profile_near s u.0, has.1, has.2, subst (LieUnder (profile_near s u.0)) same (near-lies u.0 low))
 
   only-image : (images : List ℕ) → IsOnlyMap (glance_of s) (glance_of t) images → (u : ℕ) → u < s.size
       → f u ≡ slice_index images u
   only-image images is u lt =
-      let row : get_or (glance_of s).unary u [] ≡ profile_of s (value_near s u)
-      = get_or-map-range_with_len (λ w. profile_of s (value_near s w)) 0 s.size u u [] lt (omega arith)
-      in let other : get_or (glance_of t).unary (f u) [] ≡ profile_of t (value_near t (f u))
-      = get_or-map-range_with_len (λ w. profile_of t (value_near t w)) 0 t.size (f u) (f u) [] (image u lt) (omega arith)
-      in is.only u (f u) (rw (length-map-range_with_len (λ w. profile_of s (value_near s w)) 0 s.size) lt)
-      (rw (length-map-range_with_len (λ w. profile_of t (value_near t w)) 0 t.size) (image u lt))
+      let row : get_or (glance_of s).unary u [] ≡ profile_near s u
+      = get_or-map-range_with_len (profile_near s) 0 s.size u u [] lt (omega arith)
+      in let other : get_or (glance_of t).unary (f u) [] ≡ profile_near t (f u)
+      = get_or-map-range_with_len (profile_near t) 0 t.size (f u) (f u) [] (image u lt) (omega arith)
+      in is.only u (f u) (rw (length-map-range_with_len (profile_near s) 0 s.size) lt)
+      (rw (length-map-range_with_len (profile_near t) 0 t.size) (image u lt))
       (subst (LieUnder (get_or (glance_of s).unary u [])) (sym other)
-      (subst (λ r. LieUnder r (profile_of t (value_near t (f u)))) (sym row) (near-lies u lt)))
+      (subst (λ r. LieUnder r (profile_near t (f u))) (sym row) (near-lies u lt)))
 
   module _ (known : List K3) (are : AreKnown (glance_of t) known) where
-    number-under : (below above : ℕ → K3) → LieUnder (profile_of s below) (profile_of t above)
-        → IsDefinite known (profile_of t above)
-        → profile_number known (profile_of s below) ≡ profile_number known (profile_of t above)
-    number-under below above under definite =
-        ap (row_mixed 0)
-        (known-same (profile_of s below) (profile_of t above) known (count below above) (λ i lt. under i) definite)
+    number-under : (below above : List K3) → length below ≡ length above → LieUnder below above → IsDefinite known above
+        → profile_number known below ≡ profile_number known above
+    number-under below above count under definite =
+        ap (row_mixed 0) (known-same below above known count (λ i lt. under i) definite)
+
+    count : (first last : K3) (below above : ℕ → K3) → length (profile_of first below) ≡ length (profile_of last above)
+    count first last below above = length-profile first below ∙ sym (length-profile last above)
 
     near-same : (u : ℕ) → u < s.size
-        → profile_number known (profile_of s (value_near s u)) ≡ profile_number known (profile_of t (value_near t (f u)))
+        → profile_number known (profile_near s u) ≡ profile_number known (profile_near t (f u))
     near-same u lt =
-        let has : Contains (glance_of t).unary (profile_of t (value_near t (f u))) = member t (f u) (image u lt)
-        in let definite : IsDefinite known (profile_of t (value_near t (f u)))
-        = subst (IsDefinite known) has.2 (are.unary has.0 (profile_of t (value_near t (f u))) has.1)
-        in number-under (value_near s u) (value_near t (f u)) (near-lies u lt) definite
+        let has : Contains (glance_of t).unary (profile_near t (f u)) = member t (f u) (image u lt)
+        in let definite : IsDefinite known (profile_near t (f u))
+        = subst (IsDefinite known) has.2 (are.unary has.0 (profile_near t (f u)) has.1)
+        in number-under (profile_near s u) (profile_near t (f u))
+        (count (flag_value (summary_at s u)) (flag_value (summary_at t (f u))) (value_near s u) (value_near t (f u)))
+        (near-lies u lt) definite
 
     forth : Matches (profile_number known) (glance_of s).unary (glance_of t).unary
     unfolding Matches
     forth row has =
         let u = origin s row has
         in (
-          profile_of t (value_near t (f u.0)),
+          profile_near t (f u.0),
           member t (f u.0) (image u.0 u.1),
           ap (profile_number known) u.2 ∙ near-same u.0 u.1,
         )
@@ -556,16 +642,17 @@ module _ (s t : StructureForm) (f : ℕ → ℕ) (e : Embeds f (structure_of s) 
         in let u = e.onto w.0 (Contains-range t.size w.0 w.1)
         in let low : u.0 < s.size = below-range s.size u.0 u.1
         in (
-          profile_of s (value_near s u.0),
+          profile_near s u.0,
           member s u.0 low,
-          ap (profile_number known) w.2 ∙ ap (λ x. profile_number known (profile_of t (value_near t x))) (sym u.2)
+          ap (profile_number known) w.2 ∙ ap (λ x. profile_number known (profile_near t x)) (sym u.2)
               ∙ sym (near-same u.0 low),
         )
 
     number-same : glance_number known (glance_of s) ≡ glance_number known (glance_of t)
     number-same =
-        let nullary : profile_number known (profile_of s (nullary_value s)) ≡ profile_number known (profile_of t (nullary_value t))
-        = number-under (nullary_value s) (nullary_value t) nullary-lies are.nullary
+        let nullary : profile_number known (profile_of No (nullary_value s)) ≡ profile_number known (profile_of No (nullary_value t))
+        = number-under (profile_of No (nullary_value s)) (profile_of No (nullary_value t))
+        (count No No (nullary_value s) (nullary_value t)) nullary-lies are.nullary
         in let slots : slots_of (profile_number known) (glance_of s).unary ≡ slots_of (profile_number known) (glance_of t).unary
         = slots-same (profile_number known) (glance_of s).unary (glance_of t).unary forth back
         in let greatest : greatest_of (profile_number known) (glance_of s).unary
@@ -586,10 +673,5 @@ pub same-map : (s t : StructureForm) (images other : List ℕ) → arities_of s 
     → IsOnlyMap (glance_of s) (glance_of t) images → IsEmbedding s t other → other ≡ images
 same-map s t images other same is e =
     ext_get_or 0 other images
-    (e.0 ∙ sym (is.count ∙ length-map-range_with_len (λ w. profile_of s (value_near s w)) 0 s.size))
+    (e.0 ∙ sym (is.count ∙ length-map-range_with_len (profile_near s) 0 s.size))
     (λ u lt. only-image s t (image_of other) e.1 same images is u (omega (arith, lt, e.0)))
-
-pub glance-lengths : (s t : StructureForm) → arities_of s ≡ arities_of t
-    → length (glance_of s).nullary ≡ length (glance_of t).nullary
-glance-lengths s t same =
-    length-profile s (nullary_value s) ∙ ap (λ xs. min (length xs) 256) same ∙ sym (length-profile t (nullary_value t))

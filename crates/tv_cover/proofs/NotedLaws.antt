@@ -1,8 +1,9 @@
 -- Noted places.
 use Rattle.std.proofs.Common.{ℕ, ◌≡◌, ◌<◌, ◌≤◌, ◌+◌, ◌⊎◌, ◌==◌, inl, inr, Bool, true, false, List, [], ◌∷◌}
-use Rattle.std.proofs.Common.{◌++◌, length, get_or, Less, Equal, Greater, refl, sym, ap, subst, ◌∙◌, arith}
+use Rattle.std.proofs.Common.{◌++◌, length, get_or, refl, sym, ap, subst, ◌∙◌, arith}
 use Rattle.std.proofs.Common.{eq-eqb, unwrap_or}
-use Rattle.std.specs.Prelude.{Contains, Option, None, Some, IfSome, slice_get, if◌then◌else◌}
+use Rattle.std.specs.Prelude.{Contains, Option, None, Some, IfSome, Result, Ok, Err, OnOk, is_ok, slice_get}
+use Rattle.std.specs.Prelude.{if◌then◌else◌}
 use Rattle.std.specs.BTreeMap.{get}
 use Rattle.std.specs.Ordering.{nat_cmp}
 use Rattle.std.proofs.lemmas.Bool.{cases_lt}
@@ -10,18 +11,14 @@ use Rattle.std.proofs.lemmas.List.{get_or_default, get_or_past, get_or_append_le
 use Rattle.std.proofs.lemmas.List.{get_or-map, length-map}
 use Rattle.std.proofs.lemmas.List.Elements.{Contains-push, Contains-append_left, Contains-append_right}
 use Rattle.std.proofs.lemmas.Option.{slice_get_within, get_or_from_slice_get, slice_get-get_or}
-use Rattle.std.specs.Cmp.Lexicographic.{slice_cmp}
-use Rattle.std.specs.declared.cmp.Ordering.{Ordering}
 use Rattle.tv_kleene.specs.declared.K3.{K3}
-use Rattle.tv_kleene.specs.declared.K3.TheVariants.{No, Half, Yes}
-use Rattle.tv_row.specs.Bits.{value_cmp}
 use Rattle.tv_embedding_laws.specs.Embedding.{IsEmbedded}
 use Rattle.tv_struct.specs.StructureForm.{StructureForm, arities_of, structure_of}
 use Rattle.tv_cover.specs.Glance.{GlanceForm, glance_of, AreKnown, glance_number}
 use Rattle.tv_cover.specs.Noted.{IsNoted, Notes, noted_for}
 use Rattle.tv_cover.specs.Indexed.{AreIndexed, AreIndexedTo, AreKeptTo, glances_of}
 use Rattle.tv_cover.specs.declared.noted.Noted.{Noted}
-use Rattle.tv_cover.proofs.GlanceLaws.{glance-lengths, glance-same}
+use Rattle.tv_cover.proofs.GlanceLaws.{glance-same}
 
 -- ---- one more place
 
@@ -130,21 +127,20 @@ glance-at structures place t listed =
 
 pub found-place : (noted : Noted) (structures : List StructureForm) (s : StructureForm) (found : List ℕ)
     → AreIndexed noted (glances_of structures)
-    → ((known : List K3) → Contains noted.known.items known → length known ≡ length (glance_of s).nullary → (place : ℕ)
+    → ((known : List K3) → Contains noted.known.items known → (place : ℕ)
     → Contains (noted_for noted (glance_number known (glance_of s))) place → Contains found place)
     → (place : ℕ) (t : StructureForm) → slice_get structures place ≡ Some t → arities_of s ≡ arities_of t
     → IsEmbedded (structure_of s) (structure_of t) → Contains found place
 found-place noted structures s found indexed each place t listed same embedded =
     let is : IsNoted noted (glance_of t) place = indexed place (glance_of t) (glance-at structures place t listed)
     in let P : ℕ → Type 0 = λ number. Contains (noted_for noted number) place
-    in each is.known is.row (is.are_known.long ∙ sym (glance-lengths s t same)) place
+    in each is.known is.row place
     (subst P (sym (glance-same s t same embedded is.known is.are_known)) is.place_is)
 
 -- the rows so far were looked up
 pub AreLookedUp : Noted → (glance : GlanceForm) → (n : ℕ) → (found : List ℕ) → Type 0
 AreLookedUp noted glance n found =
-    (k : ℕ) → k < n → k < length noted.known.items → length (get_or noted.known.items k []) ≡ length glance.nullary
-    → (place : ℕ) → Contains (noted_for noted (glance_number (get_or noted.known.items k []) glance)) place
+    (k : ℕ) → k < n → k < length noted.known.items → (place : ℕ) → Contains (noted_for noted (glance_number (get_or noted.known.items k []) glance)) place
     → Contains found place
 
 pub looked-none : (noted : Noted) (glance : GlanceForm) (found : List ℕ) → AreLookedUp noted glance 0 found
@@ -153,31 +149,28 @@ looked-none noted glance found k lt within = absurd (omega arith)
 
 pub looked-more : (noted : Noted) (glance : GlanceForm) (n : ℕ) (row : List K3) (old new : List ℕ)
     → row ≡ get_or noted.known.items n [] → ((place : ℕ) → Contains old place → Contains new place)
-    → (length row ≡ length glance.nullary → (place : ℕ) → Contains (noted_for noted (glance_number row glance)) place
-    → Contains new place)
+    → ((place : ℕ) → Contains (noted_for noted (glance_number row glance)) place → Contains new place)
     → AreLookedUp noted glance n old → AreLookedUp noted glance (n + 1) new
 unfolding AreLookedUp
-looked-more noted glance n row old new is kept added before k lt within count place has = at (cases_lt k n)
+looked-more noted glance n row old new is kept added before k lt within place has = at (cases_lt k n)
   where
     at : (k < n) ⊎ (n ≤ k) → Contains new place
-    at (inl below) = kept place (before k below within count place has)
+    at (inl below) = kept place (before k below within place has)
     at (inr from) =
         let here : k ≡ n = omega arith
         in let same : get_or noted.known.items k [] ≡ row = ap (λ i. get_or noted.known.items i []) here ∙ sym is
-        in let P : List K3 → Type 0 = λ x. length x ≡ length glance.nullary
         in let Q : List K3 → Type 0 = λ x. Contains (noted_for noted (glance_number x glance)) place
-        in added (subst P same count) place (subst Q same has)
+        in added place (subst Q same has)
 
 pub looked-all : (noted : Noted) (glance : GlanceForm) (n : ℕ) (found : List ℕ) → length noted.known.items ≤ n
     → AreLookedUp noted glance n found
-    → (known : List K3) → Contains noted.known.items known → length known ≡ length glance.nullary → (place : ℕ)
+    → (known : List K3) → Contains noted.known.items known → (place : ℕ)
     → Contains (noted_for noted (glance_number known glance)) place → Contains found place
 unfolding AreLookedUp
-looked-all noted glance n found all before known (k, lt, at) count place has =
+looked-all noted glance n found all before known (k, lt, at) place has =
     let same : known ≡ get_or noted.known.items k [] = sym at ∙ get_or_default noted.known.items k known [] lt
-    in let P : List K3 → Type 0 = λ x. length x ≡ length glance.nullary
     in let Q : List K3 → Type 0 = λ x. Contains (noted_for noted (glance_number x glance)) place
-    in before k (omega (arith, lt, all)) lt (subst P same count) place (subst Q same has)
+    in before k (omega (arith, lt, all)) lt place (subst Q same has)
 
 -- ---- rows
 
@@ -190,35 +183,17 @@ pub row-at : (rows all : List (List K3)) (n : ℕ) (row : List K3) → row ≡ g
 row-at rows all n row is same lt =
     is ∙ get_or_default rows n row [] lt ∙ ap (λ xs. get_or xs n []) same
 
-pub found-there : (found new places : List ℕ) (place : ℕ) → new ≡ found ++ places → Contains places place → Contains new place
+found-there : (found new places : List ℕ) (place : ℕ) → new ≡ found ++ places → Contains places place → Contains new place
 found-there found new places place is has =
     let P : List ℕ → Type 0 = λ xs. Contains xs place
     in subst P (sym is) (Contains-append_right found places place has)
 
-value-exact : (x y : K3) → value_cmp x y ≡ Equal → x ≡ y
-value-exact No No e = refl
-value-exact No Half e = cc
-value-exact No Yes e = cc
-value-exact Half No e = cc
-value-exact Half Half e = refl
-value-exact Half Yes e = cc
-value-exact Yes No e = cc
-value-exact Yes Half e = cc
-value-exact Yes Yes e = refl
-
--- rows that compare as equal are equal
-pub row-exact : (xs ys : List K3) → slice_cmp value_cmp xs ys ≡ Equal → xs ≡ ys
-row-exact [] [] e = refl
-row-exact [] (y ∷ ys) e = cc
-row-exact (x ∷ xs) [] e = cc
-row-exact (x ∷ xs) (y ∷ ys) e = at (value_cmp x y) refl (λ rest. row-exact xs ys rest) e
-  where
-    at : (o : Ordering) → value_cmp x y ≡ o → (slice_cmp value_cmp xs ys ≡ Equal → xs ≡ ys)
-        → slice_cmp value_cmp (x ∷ xs) (y ∷ ys) ≡ Equal → x ∷ xs ≡ y ∷ ys
-    at Less is later e = absurd (let f : Less ≡ Equal = rw is at e in cc)
-    at Equal is later e =
-        let head : x ≡ y = value-exact x y is
-        in let rest : slice_cmp value_cmp xs ys ≡ Equal = rw is at e
-        in let tail : xs ≡ ys = later rest
-        in λ i. head i ∷ tail i
-    at Greater is later e = absurd (let f : Greater ≡ Equal = rw is at e in cc)
+-- where places for a number are put behind others, these are among all
+pub added-there : {E : Type 0} (noted : Noted) (known : List K3) (glance : GlanceForm) (found new places : List ℕ) (number : ℕ)
+    (added : Result (Unit {0}) E) → number ≡ glance_number known glance → places ≡ unwrap_or (get nat_cmp noted.places number) []
+    → new ≡ (if is_ok added then found ++ places else found)
+    → OnOk added ((place : ℕ) → Contains (noted_for noted (glance_number known glance)) place → Contains new place)
+added-there noted known glance found new places number (Err e) is are put = tt
+added-there noted known glance found new places number (Ok x) is are put = λ place has.
+    found-there found new places place put
+    (subst (λ (xs : List ℕ). Contains xs place) (sym (are ∙ ap (noted_for noted) is)) has)

@@ -1,6 +1,5 @@
--- What a structure says at a glance: the values that are about no individual or about one, and a number for
--- them.
-use Rattle.std.specs.Prelude.{ℕ, ◌≡◌, ◌≢◌, ◌%◌, ◌<◌, List, [], ◌∷◌, length, map, min, max, fold, replicate}
+-- What a structure says at a glance: what is about no individual or about one, and a number for it.
+use Rattle.std.specs.Prelude.{ℕ, ◌≡◌, ◌≢◌, ◌%◌, ◌<◌, List, [], ◌∷◌, length, map, max, fold, replicate}
 use Rattle.std.specs.Prelude.{All, Any, slice_set, slice_index, slice_index_or}
 use Rattle.std.specs.List.{range_with_len}
 use Rattle.tv_kleene.specs.declared.K3.{K3}
@@ -8,11 +7,12 @@ use Rattle.tv_kleene.specs.declared.K3.TheVariants.{No, Half, Yes}
 use Rattle.tv_kleene.specs.Kleene.{LiesUnder, larger_of, smaller_of}
 use Rattle.tv_row.specs.Bits.{paired}
 use Rattle.tv_row.specs.Mixed.{mixed, row_mixed}
-use Rattle.tv_struct.specs.StructureForm.{StructureForm, arities_of, value_at}
+use Rattle.tv_struct.specs.StructureForm.{StructureForm, value_at, summary_at}
+use Rattle.tv_struct.specs.StructureRows.{flag_value}
 
--- a value of each of the first 256 predicates
-abbrev pub profile_of : StructureForm → (value : ℕ → K3) → List K3
-profile_of s value = map value (range_with_len 0 (min (length (arities_of s)) 256))
+-- 256 values: a first one, and behind it one of each of the first 255 predicates
+abbrev pub profile_of : (first : K3) → (value : ℕ → K3) → List K3
+profile_of first value = first ∷ map value (range_with_len 0 255)
 
 -- a predicate's value where it is nullary, else No
 abbrev pub nullary_value : StructureForm → (pred : ℕ) → K3
@@ -23,25 +23,32 @@ nullary_value s pred = value_at s pred []
 abbrev pub value_near : StructureForm → (u pred : ℕ) → K3
 value_near s u pred = larger_of (value_at s pred (u ∷ [])) (value_at s pred (u ∷ u ∷ []))
 
--- the values about no individual, and those about each one
+-- what is said about an individual: Half for a summary, else No, and the values of predicates
+abbrev pub profile_near : StructureForm → (u : ℕ) → List K3
+profile_near s u = profile_of (flag_value (summary_at s u)) (value_near s u)
+
+-- what is said about no individual, and about each one
 pub record GlanceForm : Type 0 where
   pub nullary : List K3
   pub unary : List (List K3)
 
 abbrev pub glance_of : StructureForm → GlanceForm
 glance_of s = record {
-  nullary = profile_of s (nullary_value s);
-  unary = map (λ u. profile_of s (value_near s u)) (range_with_len 0 s.size);
+  nullary = profile_of No (nullary_value s);
+  unary = map (profile_near s) (range_with_len 0 s.size);
 }
 
 -- each value lies under that of the other list
 abbrev pub LieUnder : (below above : List K3) → Type 0
-LieUnder below above = (pred : ℕ) → LiesUnder (slice_index_or below pred No) (slice_index_or above pred No)
+LieUnder below above =
+    (place : ℕ) → LiesUnder (slice_index_or below place No) (slice_index_or above place No)
 
--- what is said about each individual lies under what is said about one of the others
+-- what is said about each individual lies under what is said about one of the others, and what is said about
+-- each of these lies above what is said about one of the first
 pub record MayEmbed (below above : GlanceForm) : Type 0 where
   pub nullary : LieUnder below.nullary above.nullary
-  pub unary : All (λ row. Any (LieUnder row) above.unary) below.unary
+  pub into : All (λ row. Any (LieUnder row) above.unary) below.unary
+  pub onto : All (λ other. Any (λ row. LieUnder row other) below.unary) above.unary
 
 -- each row has one image, and lies under no other row
 pub record AreOnlyImages (rows others : List (List K3)) (images : List ℕ) : Type 0 where
@@ -53,30 +60,29 @@ pub record AreOnlyImages (rows others : List (List K3)) (images : List ℕ) : Ty
 abbrev pub IsOnlyMap : (below above : GlanceForm) → (images : List ℕ) → Type 0
 IsOnlyMap below above images = AreOnlyImages below.unary above.unary images
 
--- no value is Half of a predicate that is known
+-- no value is Half at a place that is known
 abbrev pub IsDefinite : (known values : List K3) → Type 0
 IsDefinite known values =
-    (pred : ℕ) → slice_index_or known pred No ≢ No → slice_index_or values pred No ≢ Half
+    (place : ℕ) → slice_index_or known place No ≢ No → slice_index_or values place No ≢ Half
 
--- each predicate that isn't No is known: none of its values at a glance is Half
+-- each place that isn't No is known: none of the values there is Half
 pub record AreKnown (glance : GlanceForm) (known : List K3) : Type 0 where
-  pub long : length known ≡ length glance.nullary
   pub nullary : IsDefinite known glance.nullary
   pub unary : All (IsDefinite known) glance.unary
 
--- a number for the values of the predicates that are known
+-- a number for the values at the places that are known
 abbrev pub profile_number : (known values : List K3) → ℕ
 profile_number known values = row_mixed 0 (paired smaller_of values known)
 
--- Yes at the remainder by 256 of the number of each individual's values, else No
+-- Yes at the remainder by 251, a prime, of the number of each individual's values, else No
 abbrev pub slots_of : (number : List K3 → ℕ) → List (List K3) → List K3
-slots_of number rows = fold (λ slots row. slice_set slots (number row % 256) Yes) (replicate 256 No) rows
+slots_of number rows = fold (λ slots row. slice_set slots (number row % 251) Yes) (replicate 256 No) rows
 
 -- the greatest of these numbers
 abbrev pub greatest_of : (number : List K3 → ℕ) → List (List K3) → ℕ
 greatest_of number rows = fold (λ greatest row. max greatest (number row)) 0 rows
 
--- a number for what is said at a glance, as far as predicates are known: it doesn't tell how many individuals
+-- a number for what is said at a glance, as far as places are known: it doesn't tell how many individuals
 -- have equal values, nor which of them come first
 abbrev pub glance_number : (known : List K3) → GlanceForm → ℕ
 glance_number known glance =

@@ -1,5 +1,5 @@
 -- The structures of a node, with what is kept of what they say at a glance.
-use Rattle.std.specs.Prelude.{◌≡◌, ◌<◌, List, length}
+use Rattle.std.specs.Prelude.{◌<◌, List, length}
 use Rattle.tv_listing.specs.ListingForm.{at_node}
 use Rattle.tv_struct.specs.StructureForm.{StructureForm}
 use Rattle.tv_cover.specs.Indexed.{AreGlances}

@@ -1,41 +1,45 @@
 //! What a structure says at a glance.
 
-ghost use Rattle.std.specs.Prelude.{◌≡◌, ◌≢◌, ◌<◌, ◌≤◌, ℕ, [], length, max, All, Any, IfOk, IfNone, IfSome};
-ghost use Rattle.std.specs.Prelude.{IsTrue, slice_index_or};
+ghost use Rattle.std.specs.Prelude.{◌≡◌, ◌≢◌, ◌<◌, ◌≤◌, ℕ, [], length, max, All, Any, IfOk, IfNone};
+ghost use Rattle.std.specs.Prelude.{IfSome, IsTrue, slice_index_or};
 ghost use Rattle.tv_kleene.specs.declared.K3.TheVariants.{No, Half};
-ghost use Rattle.tv_struct.specs.StructureForm.{arities_of, value_at};
+ghost use Rattle.tv_struct.specs.StructureForm.{arities_of, value_at, summary_at};
+ghost use Rattle.tv_struct.specs.StructureRows.{flag_value};
 ghost use Rattle.tv_struct.specs.TableForm.{AreIndividuals};
 ghost use Rattle.tv_struct.specs.TupleForm.{tuple_of};
 ghost use Rattle.tv_cover.specs.Glance.{AreKnown, AreOnlyImages, IsOnlyMap, LieUnder, MayEmbed};
-ghost use Rattle.tv_cover.specs.Glance.{glance_number, glance_of, nullary_value, profile_number, profile_of};
-ghost use Rattle.tv_cover.specs.Glance.{value_near};
+ghost use Rattle.tv_cover.specs.Glance.{glance_number, glance_of, nullary_value, profile_near};
+ghost use Rattle.tv_cover.specs.Glance.{profile_of, value_near};
 
 use crate::noted::has_row;
+use crate::profile::Profile;
 use std::alloc::{AllocError, Global};
-use std::cmp::Ordering;
 use std::marker::Model;
 use tv_kleene::K3;
 use tv_model::PredId;
 use tv_row::{Row, mix};
 use tv_struct::{Numbers, Structure, Tuple};
 
-/// The values of the first 256 predicates that are about no individual, and those about each one: of unary
-/// predicates there, of binary ones at the pair of it with itself.
+/// What a structure says of no individual, of nullary predicates, and of each individual: whether it is a
+/// summary, and the values of unary predicates at it, and of binary ones at the pair of it with itself. The
+/// value of one of the first 255 predicates stands at the place behind its number; all others are `No` from
+/// the place `64 * chunks` on.
 #[derive(Drop)]
 pub struct Glance {
-    nullary: Row,
-    unary: Vec<Row>,
+    nullary: Profile,
+    unary: Vec<Profile>,
+    chunks: u32,
 }
 
 impl Model for Glance {
-    ghost use Rattle.std.specs.Prelude.{◌≡◌, All, length};
+    ghost use Rattle.std.specs.Prelude.{◌≤◌};
     ghost use Rattle.tv_cover.specs.Glance.{GlanceForm};
 
     ghost Value = { GlanceForm };
 
     ghost view = { λ g. record { nullary = g.nullary; unary = g.unary.items } };
 
-    ghost invariant = { λ g. All (λ row. length row ≡ length g.nullary) g.unary.items };
+    ghost invariant = { λ g. g.chunks ≤ 4 };
 }
 
 fn arity_of(t: Tuple) -> u8
@@ -60,6 +64,14 @@ fn value_or_no(s: &Structure, p: PredId, t: Tuple) -> K3
     s.get(p, t)
 }
 
+/// `Half` for a summary, else `No`.
+fn summary_value(s: &Structure, u: u32) -> K3
+    requires { u < s.now.size }
+    ensures { result ≡ flag_value (summary_at s.now u) }
+{
+    if s.summary(u) { K3::Half } else { K3::No }
+}
+
 /// The predicate's value at the individual where it is unary, at the pair of it with itself where it is
 /// binary, else `No`.
 fn value_near(s: &Structure, u: u32, p: PredId) -> K3
@@ -70,27 +82,26 @@ fn value_near(s: &Structure, u: u32, p: PredId) -> K3
     value_or_no(s, p, Tuple::One(u)).or(value_or_no(s, p, Tuple::Two(u, u)))
 }
 
-/// The values of the first 256 predicates that are nullary.
-fn nullary_profile(s: &Structure) -> Row
-    ensures { result ≡ profile_of s.now (nullary_value s.now) }
+/// What is said of no individual.
+fn nullary_profile(s: &Structure) -> Profile
+    ensures { result ≡ profile_of No (nullary_value s.now) }
 {
-    let count = s.pred_count().min(256);
-    let mut profile = Row::of(count, K3::No);
-    for p in 0..count {
-        profile.set(p, value_or_no(s, PredId(p), Tuple::Zero));
+    let mut profile = Profile::of_no();
+    for p in 0..s.pred_count().min(255) {
+        profile.put(p + 1, value_or_no(s, PredId(p), Tuple::Zero));
     }
     profile
 }
 
-/// The values of the first 256 predicates about the individual.
-fn profile_near(s: &Structure, u: u32) -> Row
+/// What is said of the individual.
+fn profile_near(s: &Structure, u: u32) -> Profile
     requires { u < s.now.size }
-    ensures { result ≡ profile_of s.now (value_near s.now u) }
+    ensures { result ≡ profile_near s.now u }
 {
-    let count = s.pred_count().min(256);
-    let mut profile = Row::of(count, K3::No);
-    for p in 0..count {
-        profile.set(p, value_near(s, u, PredId(p)));
+    let mut profile = Profile::of_no();
+    profile.put(0, summary_value(s, u));
+    for p in 0..s.pred_count().min(255) {
+        profile.put(p + 1, value_near(s, u, PredId(p)));
     }
     profile
 }
@@ -100,60 +111,91 @@ pub fn glance_of(alloc: Global, s: &Structure) -> Result<Glance, AllocError>
     ensures { IfOk result (λ glance. glance ≡ glance_of s.now) }
 {
     let nullary = nullary_profile(s);
+    let chunks = s.pred_count().min(255) / 64 + 1;
     let size = s.size();
     let mut unary = Vec::with_capacity(alloc, size as usize)?;
     for u in 0..size {
         unary.push(profile_near(s, u))?;
     }
-    Ok(Glance { nullary, unary })
+    Ok(Glance {
+        nullary,
+        unary,
+        chunks,
+    })
 }
 
-/// Whether each value lies under that of the other row.
-fn lie_under(row: &Row, other: &Row) -> bool
-    requires { length row.now ≡ length other.now }
-    ensures { LieUnder row.now other.now → IsTrue result }
-{
-    match row.join(other).compare(other) {
-        Ordering::Equal => true,
-        Ordering::Less => false,
-        Ordering::Greater => false,
-    }
-}
-
-/// The same where rows of another length aren't told apart.
-fn may_lie_under(row: &Row, other: &Row) -> bool
-    ensures { LieUnder row.now other.now → IsTrue result }
-{
-    row.size() != other.size() || lie_under(row, other)
-}
-
-/// Whether the values may lie under those of one of the rows.
-fn lie_under_some(row: &Row, others: &[Row]) -> bool
+/// Whether the values may lie under those of one of the others; that at `first` is tried first.
+fn lies_under_some(row: &Profile, others: &[Profile], first: usize, chunks: u32) -> bool
+    requires { chunks ≤ 4 }
     ensures { Any (LieUnder row.now) others.now → IsTrue result }
 {
+    if first < others.len() && row.may_lie_under(&others[first], chunks) {
+        return true;
+    }
     for other in others {
-        if may_lie_under(row, other) {
+        if row.may_lie_under(other, chunks) {
             return true;
         }
     }
     false
 }
 
-/// Whether the values of each row lie under those of one of the others.
-fn lie_under_others(rows: &[Row], others: &[Row]) -> bool
+/// Whether the values of one of the rows may lie under these; that at `first` is tried first.
+fn lies_over_some(other: &Profile, rows: &[Profile], first: usize, chunks: u32) -> bool
+    requires { chunks ≤ 4 }
+    ensures { Any (λ row. LieUnder row other.now) rows.now → IsTrue result }
+{
+    if first < rows.len() && rows[first].may_lie_under(other, chunks) {
+        return true;
+    }
+    for row in rows {
+        if row.may_lie_under(other, chunks) {
+            return true;
+        }
+    }
+    false
+}
+
+/// Whether the values of each row may lie under those of one of the others.
+fn lie_under_others(rows: &[Profile], others: &[Profile], chunks: u32) -> bool
+    requires { chunks ≤ 4 }
     ensures { All (λ row. Any (LieUnder row) others.now) rows.now → IsTrue result }
 {
-    for row in rows {
-        if !lie_under_some(row, others) {
+    for u in 0..rows.len() {
+        if !lies_under_some(&rows[u], others, u, chunks) {
             return false;
         }
     }
     true
 }
 
+/// Whether those of each of the others may lie over those of one of the rows.
+fn lie_over_rows(others: &[Profile], rows: &[Profile], chunks: u32) -> bool
+    requires { chunks ≤ 4 }
+    ensures { All (λ other. Any (λ row. LieUnder row other) rows.now) others.now → IsTrue result }
+{
+    for w in 0..others.len() {
+        if !lies_over_some(&others[w], rows, w, chunks) {
+            return false;
+        }
+    }
+    true
+}
+
+/// Whether there may be a map of the rows onto the others under which the values of each lie under those of
+/// its image.
+fn may_go_onto(rows: &[Profile], others: &[Profile], chunks: u32) -> bool
+    requires { chunks ≤ 4 }
+    ensures { All (λ row. Any (LieUnder row) others.now) rows.now
+        → All (λ other. Any (λ row. LieUnder row other) rows.now) others.now → IsTrue result }
+{
+    lie_under_others(rows, others, chunks) && lie_over_rows(others, rows, chunks)
+}
+
 /// The first place at or after `from` of a row that the values may lie under.
-fn next_above(row: &Row, others: &[Row], from: usize) -> Option<usize>
-    requires { from ≤ length others.now }
+fn next_above(row: &Profile, others: &[Profile], from: usize, chunks: u32) -> Option<usize>
+    requires from { from ≤ length others.now }
+    requires chunks { chunks ≤ 4 }
     ensures none { IfNone result ((w : ℕ) → from ≤ w → w < length others.now
         → ¬ LieUnder row.now (slice_index_or others.now w [])) }
     ensures within { IfSome result (λ i. i < length others.now) }
@@ -161,7 +203,7 @@ fn next_above(row: &Row, others: &[Row], from: usize) -> Option<usize>
         → ¬ LieUnder row.now (slice_index_or others.now w [])) }
 {
     for i in from..others.len() {
-        if may_lie_under(row, &others[i]) {
+        if row.may_lie_under(&others[i], chunks) {
             return Some(i);
         }
     }
@@ -169,15 +211,16 @@ fn next_above(row: &Row, others: &[Row], from: usize) -> Option<usize>
 }
 
 /// The place of the row that the values lie under, where they may lie under one alone.
-fn only_above(row: &Row, others: &[Row]) -> Option<usize>
+fn only_above(row: &Profile, others: &[Profile], chunks: u32) -> Option<usize>
+    requires { chunks ≤ 4 }
     ensures within { IfSome result (λ i. i < length others.now) }
     ensures only { IfSome result (λ i. (w : ℕ) → w < length others.now
         → LieUnder row.now (slice_index_or others.now w []) → w ≡ i) }
 {
-    let Some(i) = next_above(row, others, 0) else {
+    let Some(i) = next_above(row, others, 0, chunks) else {
         return None;
     };
-    match next_above(row, others, i + 1) {
+    match next_above(row, others, i + 1, chunks) {
         None => Some(i),
         Some(_) => None,
     }
@@ -185,7 +228,13 @@ fn only_above(row: &Row, others: &[Row]) -> Option<usize>
 
 /// For each row the place of the only other one that its values may lie under, if there is one alone for
 /// each.
-fn only_images(alloc: Global, rows: &[Row], others: &[Row]) -> Result<Option<Numbers>, AllocError>
+fn only_images(
+    alloc: Global,
+    rows: &[Profile],
+    others: &[Profile],
+    chunks: u32,
+) -> Result<Option<Numbers>, AllocError>
+    requires { chunks ≤ 4 }
     ensures { IfOk result (λ found. IfSome found (AreOnlyImages rows.now others.now)) }
 {
     if others.len() > 256 {
@@ -193,20 +242,12 @@ fn only_images(alloc: Global, rows: &[Row], others: &[Row]) -> Result<Option<Num
     }
     let mut images = Vec::with_capacity(alloc, rows.len())?;
     for row in rows {
-        let Some(w) = only_above(row, others) else {
+        let Some(w) = only_above(row, others, chunks) else {
             return Ok(None);
         };
         images.push(w as u32)?;
     }
     Ok(Some(Numbers::from_vec(images)))
-}
-
-/// A number for the values of the predicates that are known.
-fn profile_number(known: &Row, values: &Row) -> u64
-    requires { length values.now ≡ length known.now }
-    ensures { result ≡ profile_number known.now values.now }
-{
-    values.and(known).mix(0)
 }
 
 fn larger(m: u64, n: u64) -> u64
@@ -227,50 +268,41 @@ fn is_definite(k: K3) -> bool
 }
 
 impl Glance {
-    /// The number of predicates.
-    pub fn pred_count(&self) -> u32
-        ensures count { result ≡ length self.now.nullary }
-        ensures bound { length self.now.nullary ≤ 256 }
+    /// Whether no value at the place is unknown.
+    fn is_known(&self, place: u32) -> bool
+        requires { place < 256 }
+        ensures nullary { IsTrue result → slice_index_or self.now.nullary place No ≢ Half }
+        ensures unary { IsTrue result → All (λ row. slice_index_or row place No ≢ Half) self.now.unary }
     {
-        self.nullary.size()
-    }
-
-    /// Whether no value of the predicate is unknown.
-    fn is_known(&self, p: u32) -> bool
-        requires { p < length self.now.nullary }
-        ensures nullary { IsTrue result → slice_index_or self.now.nullary p No ≢ Half }
-        ensures unary { IsTrue result → All (λ row. slice_index_or row p No ≢ Half) self.now.unary }
-    {
-        if !is_definite(self.nullary.get(p)) {
+        if !is_definite(self.nullary.get(place)) {
             return false;
         }
         for row in self.unary.as_slice() {
-            if !is_definite(row.get(p)) {
+            if !is_definite(row.get(place)) {
                 return false;
             }
         }
         true
     }
 
-    /// Makes the predicate known where it has no unknown value.
-    fn add_known(&self, known: &mut Row, p: u32)
-        requires pred { p < length self.now.nullary }
+    /// Makes the place known where it has no unknown value.
+    fn add_known(&self, known: &mut Profile, place: u32)
+        requires place { place < 256 }
         requires so_far { AreKnown self.now known.old }
         ensures { AreKnown self.now known.new }
     {
-        if self.is_known(p) {
-            known.set(p, K3::Yes);
+        if self.is_known(place) {
+            known.put(place, K3::Yes);
         }
     }
 
-    /// Which predicates have no unknown value: `Yes` for these, and else `No`.
-    pub fn known(&self) -> Row
+    /// At which places no value is unknown: `Yes` at these, and else `No`.
+    pub fn known(&self) -> Profile
         ensures { AreKnown self.now result }
     {
-        let count = self.pred_count();
-        let mut known = Row::of(count, K3::No);
-        for p in 0..count {
-            self.add_known(&mut known, p);
+        let mut known = Profile::of_no();
+        for place in 0..64 * self.chunks {
+            self.add_known(&mut known, place);
         }
         known
     }
@@ -292,7 +324,8 @@ impl Glance {
     {
         let rows = self.unary.as_slice();
         let others = above.unary.as_slice();
-        lie_under_some(&self.nullary, &[above.nullary]) && lie_under_others(rows, others)
+        self.nullary.may_lie_under(&above.nullary, self.chunks)
+            && may_go_onto(rows, others, self.chunks)
     }
 
     /// The map that takes each individual to the only one about which more may be said, if there is one alone
@@ -302,22 +335,21 @@ impl Glance {
     {
         let rows = self.unary.as_slice();
         let others = above.unary.as_slice();
-        only_images(alloc, rows, others)
+        only_images(alloc, rows, others, self.chunks)
     }
 
-    /// A number that depends on the values of the predicates that are known, individual by individual, but
+    /// A number that depends on the values at the places that are known, individual by individual, but
     /// neither on the order of individuals nor on how many have equal values.
-    pub fn number(&self, known: &Row) -> u64
-        requires { length known.now ≡ length self.now.nullary }
+    pub fn number(&self, known: &Profile) -> u64
         ensures { result ≡ glance_number known.now self.now }
     {
         let mut slots = Row::of(256, K3::No);
         let mut greatest = 0;
         for row in self.unary.as_slice() {
-            let number = profile_number(known, row);
-            slots.set((number % 256) as u32, K3::Yes);
+            let number = row.number(known);
+            slots.set((number % 251) as u32, K3::Yes);
             greatest = larger(greatest, number);
         }
-        mix(slots.mix(profile_number(known, &self.nullary)), greatest)
+        mix(slots.mix(self.nullary.number(known)), greatest)
     }
 }

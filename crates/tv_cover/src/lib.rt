@@ -4,6 +4,7 @@
 
 mod glance;
 mod noted;
+mod profile;
 mod targets;
 
 pub use targets::{Targets, all_targets};

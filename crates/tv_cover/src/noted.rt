@@ -10,20 +10,19 @@ ghost use Rattle.tv_cover.specs.Glance.{glance_number};
 ghost use Rattle.tv_cover.specs.Noted.{IsNoted, Notes, noted_for};
 
 use crate::glance::Glance;
+use crate::profile::Profile;
 use std::alloc::{AllocError, Global};
-use std::cmp::Ordering;
 use std::collections::BTreeMap;
 use tv_model::Items;
-use tv_row::Row;
 
 /// Places, by the number for what is said at a glance.
 pub type PlacesByGlance = BTreeMap<u64, Items<usize>>;
 
-/// Places of structures by what these say at a glance, and of which predicates that was known: each row of
-/// known predicates once.
+/// Places of structures by what these say at a glance, and at which places of it that was known: each profile
+/// of known ones once.
 #[derive(Drop)]
 pub struct Noted {
-    pub known: Vec<Row>,
+    pub known: Vec<Profile>,
     pub places: PlacesByGlance,
 }
 
@@ -56,24 +55,12 @@ fn note(
     Ok(())
 }
 
-fn is_same(row: &Row, other: &Row) -> bool
-    ensures { IsTrue result → row.now ≡ other.now }
-{
-    if row.size() != other.size() {
-        return false;
-    }
-    match row.compare(other) {
-        Ordering::Equal => true,
-        Ordering::Less | Ordering::Greater => false,
-    }
-}
-
 /// Whether the row is among these.
-pub fn has_row(rows: &[Row], row: &Row) -> bool
+pub fn has_row(rows: &[Profile], row: &Profile) -> bool
     ensures { IsTrue result → Contains rows.now row.now }
 {
     for other in rows {
-        if is_same(other, row) {
+        if other.equals(row) {
             return true;
         }
     }
@@ -81,23 +68,13 @@ pub fn has_row(rows: &[Row], row: &Row) -> bool
 }
 
 /// Puts the row behind the others where it isn't among them.
-fn add_row(rows: &mut Vec<Row>, row: Row) -> Result<(), AllocError>
+fn add_row(rows: &mut Vec<Profile>, row: Profile) -> Result<(), AllocError>
     ensures kept { OnOk result
         ((other : List K3) → Contains rows.old.items other → Contains rows.new.items other) }
     ensures added { OnOk result (Contains rows.new.items row) }
 {
     if !has_row(rows.as_slice(), &row) {
         rows.push(row)?;
-    }
-    Ok(())
-}
-
-/// Puts the places behind the others.
-fn add_places(found: &mut Vec<usize>, places: &[usize]) -> Result<(), AllocError>
-    ensures { OnOk result (found.new.items ≡ found.old.items ++ places.now) }
-{
-    for place in places {
-        found.push(*place)?;
     }
     Ok(())
 }
@@ -116,36 +93,32 @@ impl Noted {
         ensures { OnOk result (Notes self.old self.new glance.now place) }
     {
         let known = glance.known();
+        let number = glance.number(&known);
         add_row(&mut self.known, known)?;
-        note(alloc, &mut self.places, glance.number(&known), place)
+        note(alloc, &mut self.places, number, place)
     }
 
-    /// Puts behind the others the places of structures that say the same at a glance of these predicates.
+    /// Puts behind the others the places of structures that say the same at a glance as far as this is known.
     fn add_alike(
         &self,
         found: &mut Vec<usize>,
         glance: &Glance,
-        known: &Row,
+        known: &Profile,
     ) -> Result<(), AllocError>
         ensures kept { OnOk result
             ((place : ℕ) → Contains found.old.items place → Contains found.new.items place) }
-        ensures added { OnOk result (length known.now ≡ length glance.now.nullary → (place : ℕ)
+        ensures added { OnOk result ((place : ℕ)
             → Contains (noted_for self.now (glance_number known.now glance.now)) place
             → Contains found.new.items place) }
     {
-        if known.size() != glance.pred_count() {
-            return Ok(());
-        }
-        add_places(found, places_at(&self.places, glance.number(known)))?;
-        Ok(())
+        found.extend_from_slice(places_at(&self.places, glance.number(known)))
     }
 
-    /// The places of structures that say the same at a glance of the predicates that are known in them, in
-    /// ascending order.
+    /// The places of structures that say the same at a glance as far as it is known in them, in ascending
+    /// order.
     pub fn places(&self, alloc: Global, glance: &Glance) -> Result<Vec<usize>, AllocError>
         ensures each { IfOk result (λ found. (known : List K3) → Contains self.now.known.items known
-            → length known ≡ length glance.now.nullary → (place : ℕ)
-            → Contains (noted_for self.now (glance_number known glance.now)) place
+            → (place : ℕ) → Contains (noted_for self.now (glance_number known glance.now)) place
             → Contains found.items place) }
         ensures order { IfOk result (λ found. IsNonDecreasing found.items) }
     {

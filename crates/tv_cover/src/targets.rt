@@ -1,14 +1,14 @@
 //! The structures of a node, and the first of them that covers a structure.
 
 ghost use Rattle.std.specs.Prelude.{◌≡◌, ◌<◌, ◌^◌, ℕ, length, All, Any, Contains, Some, slice_get, IfOk};
-ghost use Rattle.std.specs.Prelude.{IfSome, IfNone};
+ghost use Rattle.std.specs.Prelude.{IfSome, IfNone, IsTrue};
 ghost use Rattle.std.specs.List.Sorted.{IsNonDecreasing};
 ghost use Rattle.tv_embed.specs.Maps.{IsLeastEmbedding};
 ghost use Rattle.tv_embedding_laws.specs.Embedding.{IsEmbedded};
 ghost use Rattle.tv_listing.specs.ListingForm.{at_node};
 ghost use Rattle.tv_struct.specs.StructureForm.{StructureForm, arities_of, structure_of};
 ghost use Rattle.tv_cover.specs.Covers.{IsFirstCover, IsCoverAt, HasNoCoverAt, HasCoversAmong};
-ghost use Rattle.tv_cover.specs.Glance.{IsOnlyMap, glance_of};
+ghost use Rattle.tv_cover.specs.Glance.{IsOnlyMap, MayEmbed, glance_of};
 ghost use Rattle.tv_cover.specs.Indexed.{AreIndexed, AreGlances, glances_of};
 ghost use Rattle.tv_cover.specs.Listed.{AreListed, structures_in};
 
@@ -135,9 +135,6 @@ fn least_embedding(
     ensures none { IfOk result
         (λ found. IfNone found (¬ IsEmbedded (structure_of s.now) (structure_of t.now))) }
 {
-    if !below.may_embed(above) {
-        return Ok(None);
-    }
     match below.only_map(alloc, above)? {
         Some(map) => Ok(checked(s, t, map)),
         None => find(alloc, s, t),
@@ -165,6 +162,16 @@ fn embedding_in(
     }
 }
 
+/// Whether a structure that says this at a glance may embed in one of which that is kept or nothing.
+fn may_embed_in(glance: &Glance, kept: &Option<Glance>) -> bool
+    ensures { IfSome kept.now (MayEmbed glance.now) → IsTrue result }
+{
+    match kept {
+        Some(above) => glance.may_embed(above),
+        None => true,
+    }
+}
+
 /// The least embedding in the structure at the place.
 fn cover_at(
     alloc: Global,
@@ -179,11 +186,15 @@ fn cover_at(
     ensures some { IfOk result (λ found. IfSome found (IsCoverAt (structures_in x.now) s.now place)) }
     ensures none { IfOk result (λ found. IfNone found (HasNoCoverAt (structures_in x.now) s.now place)) }
 {
-    if place >= x.listing.count(x.node) {
+    if place >= x.kept.len() {
+        return Ok(None);
+    }
+    let kept = &x.kept[place];
+    if !may_embed_in(glance, kept) {
         return Ok(None);
     }
     let t = x.listing.at(x.node, place);
-    embedding_in(alloc, s, glance, t, &x.kept[place])
+    embedding_in(alloc, s, glance, t, kept)
 }
 
 /// The first structure of the node in which `s` embeds, by its place, with the least embedding.

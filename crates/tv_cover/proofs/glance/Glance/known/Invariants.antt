@@ -1,5 +1,5 @@
 use Rattle.tv_cover.specs.Glance.{AreKnown}
 use Rattle.tv_cover.proofs.glance.Glance.known.Given as goal
 
-abbrev pub invariant-loop-p : goal.invariant-loop-p
-invariant-loop-p l = AreKnown l.self l.known
+abbrev pub invariant-loop-place : goal.invariant-loop-place
+invariant-loop-place l = AreKnown l.self l.known

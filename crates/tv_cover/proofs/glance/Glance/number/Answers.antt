@@ -23,20 +23,20 @@ loop-row-preserved c =
     c.loop-row-test.true
     in record {
       slots = slots-more (profile_number c.args.known.now) c.args.self.now.unary c.loop-row.row-index
-          c.profile_number-number.result c.row-item.result c.loop-row.slots c.set.new.self within at
-          c.profile_number-number.ensures c.loop-row.invariant.slots c.set.ensures;
+          c.number-number.result c.row-item.result c.loop-row.slots c.set.new.self within at
+          c.number-number.ensures c.loop-row.invariant.slots c.set.ensures;
       greatest = greatest-more (profile_number c.args.known.now) c.args.self.now.unary c.loop-row.row-index
-          c.profile_number-number.result c.row-item.result c.loop-row.greatest c.larger-greatest.result within at
-          c.profile_number-number.ensures c.loop-row.invariant.greatest c.larger-greatest.ensures;
+          c.number-number.result c.row-item.result c.loop-row.greatest c.larger-greatest.result within at
+          c.number-number.ensures c.loop-row.invariant.greatest c.larger-greatest.ensures;
     }
 
 pub returns : goal.returns
 returns c =
     let same : c.as_slice-row-items.result.now ≡ c.args.self.now.unary
     = c.as_slice-row-items.ensures.value ∙ ap (λ (g : GlanceForm). g.unary) c.self.view_is
-    in number-all c.args.known.now c.args.self.now c.loop-row.row-index c.loop-row.greatest c.profile_number.result
+    in number-all c.args.known.now c.args.self.now c.loop-row.row-index c.loop-row.greatest c.number.result
     c.mix.result c.mix-2.result c.loop-row.slots
     (subst (λ (rows : List (List K3)). length rows ≤ c.loop-row.row-index) same c.loop-row-test.false)
     c.loop-row.invariant.slots c.loop-row.invariant.greatest
-    (c.profile_number.ensures ∙ ap (λ (g : GlanceForm). profile_number c.args.known.now g.nullary) c.self.view_is)
+    (c.number.ensures ∙ ap (λ (g : GlanceForm). profile_number c.args.known.now g.nullary) c.self.view_is)
     c.mix.ensures c.mix-2.ensures

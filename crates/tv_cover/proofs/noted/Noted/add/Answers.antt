@@ -8,6 +8,6 @@ returns c =
     let new : Noted = record { known = c.add_row.new.rows; places = c.note.new.places }
     in on_ok c.note.result
     (λ all.
-    notes c.args.self.now new c.args.glance.now c.known-known.result c.number.result c.args.place
-    c.in_ok-add_row.ensures.kept c.in_ok-add_row.ensures.added c.known-known.ensures c.number.ensures all)
+    notes c.args.self.now new c.args.glance.now c.known-known.result c.number-number.result c.args.place
+    c.in_ok-add_row.ensures.kept c.in_ok-add_row.ensures.added c.known-known.ensures c.number-number.ensures all)
     c.note.ensures

@@ -1,5 +1,5 @@
 use Rattle.tv_cover.proofs.GlanceLaws.{none-lie}
-use Rattle.tv_cover.proofs.glance.lie_under_some.Goals as goal
+use Rattle.tv_cover.proofs.glance.lies_under_some.Goals as goal
 
 pub returns : goal.returns
 returns c = λ any.
