@@ -20,10 +20,10 @@ use tv_model::PredId;
 use tv_row::{Row, mix};
 use tv_struct::{Numbers, Structure, Tuple};
 
-/// What a structure says at a glance: the values of nullary predicates, and of each individual whether it is a
-/// summary, and the values of unary predicates at it and of binary ones at the pair of it with itself. The
-/// value of one of the first 255 predicates stands at the place behind its number. All values are `No` from the
-/// place `64 * chunks` on, so that only the words before it are compared.
+/// What a structure says at a glance: the values of nullary predicates, and of each individual whether it is
+/// a summary, and the values of unary predicates at it and of binary ones at the pair of it with itself. The
+/// value of one of the first 255 predicates stands at the place behind its number. All values are `No` from
+/// the place `64 * chunks` on, so that only the words before it are compared.
 #[derive(Drop)]
 pub struct Glance {
     nullary: Profile,
