@@ -1,0 +1,8 @@
+//! The words of a call that asks for an explanation.
+#![tactic(auto)]
+
+mod laws;
+mod words;
+
+pub use laws::one_command;
+pub use words::{Command, read_words};
