@@ -1,0 +1,10 @@
+use Rattle.std.proofs.Common.{◌≡◌, ◌++◌, drop, map}
+use Rattle.tv_model.specs.Program.{program_of}
+use Rattle.tv_tree.specs.Copies.{edge_of}
+use Rattle.tv_explain_text.specs.Texts.{edges_text}
+use Rattle.tv_explain_text.proofs.edges.edges_text.Given as goal
+
+abbrev pub invariant-loop-number : goal.invariant-loop-number
+invariant-loop-number l =
+    l.out.items ++ edges_text (program_of l.program) l.number (map edge_of (drop l.number l.edges))
+    ≡ edges_text (program_of l.program) 0 (map edge_of l.edges)
