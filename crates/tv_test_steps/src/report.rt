@@ -11,4 +11,5 @@ mod read;
 mod reports;
 mod traced;
 mod traces;
+mod trails;
 mod verdicts;

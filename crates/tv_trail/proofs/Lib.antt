@@ -1,0 +1,9 @@
+mod Placing
+mod Adding
+mod Kept
+mod Stepping
+mod Aiming
+mod Following
+mod Levelling
+mod Walking
+mod Answering

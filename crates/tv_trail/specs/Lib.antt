@@ -1,0 +1,4 @@
+pub mod Aims
+pub mod Searched
+pub mod Asked
+pub mod Over

@@ -1,0 +1,108 @@
+//! Shortest trails.
+
+ghost use Rattle.std.specs.Prelude.{ℕ, ◌≡◌, ◌<◌, length, IfOk, IfErr, IfSome, IfNone, All};
+ghost use Rattle.tv_model.specs.Program.{program_of};
+ghost use Rattle.tv_model.specs.Valid.{IsValid};
+ghost use Rattle.tv_struct.specs.StructureForm.{IsOver};
+ghost use Rattle.tv_work.specs.Analysed.{IsWorkCause};
+ghost use Rattle.tv_work.specs.Reach.{Point, IsReached};
+ghost use Rattle.tv_work.specs.Task.{reached_in};
+ghost use Rattle.tv_trail.specs.Asked.{form_in, task_of, goal_of, IsReady};
+ghost use Rattle.tv_trail.specs.Over.{IsTrailOver};
+ghost use Rattle.tv_trail.specs.Searched.{IsState, AnswersTrail};
+ghost use Rattle.tv_trail_laws.specs.Met.{IsTrailFrom};
+ghost use Rattle.tv_trail_laws.specs.Trails.{IsShortest, IsGoal};
+
+use crate::follow::open_all;
+use crate::level::find;
+use crate::search::Search;
+use crate::task::Task;
+use std::alloc::{AllocError, Global};
+use tv_eval::Scratch;
+use tv_model::{Items, Mode, Program};
+use tv_step::Engine;
+use tv_struct::{Structure, Structures};
+use tv_trail_laws::{Goal, Link, Origin, Trail};
+use tv_work::{WorkError, leaving_edges};
+
+/// The trail to what was met at the place. The only error is want of memory.
+fn trail_to(x: &Task, search: &Search, place: usize) -> Result<Trail, AllocError>
+    requires place { place < length search.now.found }
+    requires kept { IsState (task_of x.now) search.now }
+    ensures trail { IfOk result (IsTrailFrom (task_of x.now) search.now.found place) }
+    ensures over { IfOk result (IsTrailOver x.now.program.now.vocab) }
+{
+    let mut links = Vec::new(x.alloc);
+    let mut last = place;
+    loop {
+        let seen = search.at(last);
+        let structure = seen.structure.copy(x.alloc)?;
+        match seen.origin {
+            Origin::Initial(initial) => {
+                links.reverse();
+                return Ok(Trail {
+                    initial,
+                    opening: structure,
+                    links: Items::from_vec(links),
+                });
+            }
+            Origin::Step { before, edge } => {
+                links.push(Link { edge, structure })?;
+                last = before;
+            }
+        }
+    }
+}
+
+/// The trail that the task asks for.
+fn search_for(x: &Task, scratch: &mut Scratch) -> Result<Option<Trail>, WorkError>
+    requires { IsReady x.now scratch.old }
+    ensures answer { IfOk result (AnswersTrail (task_of x.now) (goal_of x.now)) }
+    ensures over { IfOk result (λ found. IfSome found (IsTrailOver x.now.program.now.vocab)) }
+    ensures cause { IfErr result (IsWorkCause (form_in x.now) x.now.max (reached_in (task_of x.now))) }
+{
+    let mut search = Search::new(x.alloc, x.program.nodes.len() as u32)?;
+    open_all(x, scratch, &mut search)?;
+    match find(x, scratch, &mut search)? {
+        None => Ok(None),
+        Some(place) => Ok(Some(trail_to(x, &search, place)?)),
+    }
+}
+
+/// The trail to a goal that is met in as few steps as any, none where no goal is reached. `Structures` only
+/// where over `max` structures are reached, `Splits` and `Individuals` only where the step of a reached
+/// structure meets that budget.
+pub fn shortest_trail(
+    alloc: Global,
+    program: &Program,
+    initial: &Structures,
+    mode: Mode,
+    max: u64,
+    goal: &Goal,
+) -> Result<Option<Trail>, WorkError>
+    requires valid { IsValid (program_of program.now) }
+    requires initial { All (IsOver program.now.vocab) initial.now }
+    ensures some { IfOk result (λ found. IfSome found (IsShortest (program_of program.now) mode initial.now
+        (IsGoal (program_of program.now) goal.now))) }
+    ensures none { IfOk result (λ found. IfNone found ((x : Point)
+        → IsReached (program_of program.now) mode initial.now x
+        → ¬ IsGoal (program_of program.now) goal.now x)) }
+    ensures over { IfOk result (λ found. IfSome found (IsTrailOver program.now.vocab)) }
+    ensures cause { IfErr result (IsWorkCause (program_of program.now) max
+        (IsReached (program_of program.now) mode initial.now)) }
+{
+    let engine = Engine::new(alloc, program, mode)?;
+    let leaving = leaving_edges(alloc, program)?;
+    let mut scratch = Scratch::new(alloc, program, 256)?;
+    let task = Task {
+        alloc,
+        program,
+        engine: &engine,
+        leaving: &leaving,
+        initial: initial.as_slice(),
+        mode,
+        max,
+        goal: *goal,
+    };
+    search_for(&task, &mut scratch)
+}
