@@ -1,8 +1,8 @@
 -- One more is met: what is then known of the search.
-use Rattle.std.proofs.Common.{ℕ, ◌≡◌, ◌<◌, ◌≤◌, ◌-◌, ◌+◌, ◌⊎◌, inl, inr, List, [], ◌∷◌, ◌++◌, length, map}
+use Rattle.std.proofs.Common.{ℕ, ◌≡◌, ◌<◌, ◌-◌, ◌⊎◌, inl, inr, List, [], ◌∷◌, ◌++◌, length, map}
 use Rattle.std.proofs.Common.{None, Some}
 use Rattle.std.proofs.Common.{zero, suc, refl, sym, ap, subst, ◌∙◌, arith}
-use Rattle.std.specs.Prelude.{All, Contains, slice_get, sum_by}
+use Rattle.std.specs.Prelude.{All, slice_get}
 use Rattle.std.proofs.lemmas.List.{length-append, length-map, length-set, get_or_at}
 use Rattle.std.proofs.lemmas.Option.{slice_get-get_or}
 use Rattle.tv_listing.specs.ListingForm.{at_node, appended, HasEqual}
@@ -11,7 +11,6 @@ use Rattle.tv_work.specs.Reach.{Point, IsListed, AreMoreThan}
 use Rattle.tv_work.proofs.Causes.{more-weaker}
 use Rattle.tv_work.proofs.Meeting.{listed-cases, total-more}
 use Rattle.tv_trail_laws.specs.Met.{Found, IsMet}
-use Rattle.tv_trail_laws.specs.declared.trail.Origin.{Origin}
 use Rattle.tv_trail_laws.proofs.Places.{met-more}
 use Rattle.tv_trail.specs.declared.search.Met.{Met}
 use Rattle.tv_trail.specs.Searched.{TraceForm, found_in, IsPlaced, AreListedMet, Meets}

@@ -1,8 +1,8 @@
 -- What a search keeps while it meets more.
-use Rattle.std.proofs.Common.{ℕ, ◌≡◌, ◌<◌, ◌≤◌, ◌+◌, ◌-◌, ◌⊎◌, inl, inr, List, [], ◌∷◌, ◌++◌, length}
+use Rattle.std.proofs.Common.{ℕ, ◌≡◌, ◌≤◌, ◌⊎◌, inl, inr, List, [], ◌∷◌, ◌++◌, length}
 use Rattle.std.proofs.Common.{replicate}
 use Rattle.std.proofs.Common.{zero, suc, Some, refl, sym, ap, subst, ◌∙◌, arith}
-use Rattle.std.specs.Prelude.{All, Contains, slice_get, sum_by}
+use Rattle.std.specs.Prelude.{Contains, slice_get, sum_by}
 use Rattle.std.proofs.lemmas.List.{append-nil, append_assoc, length-append, length-replicate}
 use Rattle.std.proofs.lemmas.List.Elements.{All-append, All-contains, All-weaker, Contains-push_cases}
 use Rattle.std.proofs.lemmas.List.Sums.{sum_by-cons}
@@ -15,7 +15,7 @@ use Rattle.tv_work.proofs.Advancing.{nothing-listed}
 use Rattle.tv_trail_laws.specs.declared.trail.Origin.{Origin}
 use Rattle.tv_trail_laws.specs.declared.trail.Origin.TheVariants.{Initial, Step}
 use Rattle.tv_trail_laws.specs.Met.{Found, IsAt, IsMet, AreOpenedIn, IsOrigin, IsPassed, AreTraced}
-use Rattle.tv_trail_laws.proofs.Places.{at-cases, is_at-more, met-more}
+use Rattle.tv_trail_laws.proofs.Places.{at-cases, is_at-more}
 use Rattle.tv_trail.specs.Searched.{TraceForm, AreListedMet, Meets, IsFollowedAlong, IsTraced, IsState}
 
 -- ---- what was met stays

@@ -1,8 +1,8 @@
 -- What was met stands where it was put, while the listing grows.
-use Rattle.std.proofs.Common.{ℕ, ◌≡◌, ◌<◌, ◌-◌, ◌+◌, ◌⊎◌, List, [], ◌∷◌, ◌++◌, length, get_or, map, None}
+use Rattle.std.proofs.Common.{ℕ, ◌≡◌, ◌<◌, ◌-◌, ◌⊎◌, List, [], ◌∷◌, ◌++◌, length, get_or, map, None}
 use Rattle.std.proofs.Common.{Some}
-use Rattle.std.proofs.Common.{suc, refl, sym, ap, ◌∙◌, arith}
-use Rattle.std.specs.Prelude.{All, Contains, slice_get, sum_by}
+use Rattle.std.proofs.Common.{suc, refl, ap, ◌∙◌, arith}
+use Rattle.std.specs.Prelude.{All, slice_get, sum_by}
 use Rattle.std.proofs.lemmas.List.{length-append, map-append}
 use Rattle.std.proofs.lemmas.List.Elements.{All-push}
 use Rattle.std.proofs.lemmas.Option.{slice_get-get_or, get_or_from_slice_get}

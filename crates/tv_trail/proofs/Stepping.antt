@@ -1,5 +1,5 @@
 -- What is met of an opening, and of a step.
-use Rattle.std.proofs.Common.{ℕ, ◌≡◌, ◌<◌, ◌≤◌, ◌⊎◌, inl, inr, List, ◌∷◌, length, Some, refl, sym, ap, subst}
+use Rattle.std.proofs.Common.{ℕ, ◌≡◌, ◌≤◌, ◌⊎◌, inl, inr, List, ◌∷◌, length, Some, refl, sym, ap, subst}
 use Rattle.std.proofs.Common.{◌∙◌}
 use Rattle.std.specs.Prelude.{All, Contains, slice_get}
 use Rattle.std.proofs.lemmas.List.Elements.{All-contains}

@@ -1,7 +1,4 @@
 -- A walk back: what stands on it is over the vocabulary.
-use Rattle.std.proofs.Common.{◌≡◌, List, reverse, sym, subst}
-use Rattle.std.specs.Prelude.{All}
-use Rattle.std.proofs.lemmas.List.Elements.{All-push}
 use Rattle.tv_model.specs.declared.program.Program.{Program}
 use Rattle.tv_model.specs.Program.{program_of}
 use Rattle.tv_struct.specs.StructureForm.{StructureForm, IsStructure, IsOver}

@@ -1,5 +1,5 @@
 -- What a search is asked.
-use Rattle.std.specs.Prelude.{ℕ, ◌≡◌, length, All}
+use Rattle.std.specs.Prelude.{◌≡◌, length, All}
 use Rattle.tv_eval.specs.ScratchForm.{ScratchForm, IsMadeFor}
 use Rattle.tv_model.specs.Program.{ProgramForm, program_of}
 use Rattle.tv_model.specs.Valid.{IsValid}

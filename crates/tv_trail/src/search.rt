@@ -15,7 +15,7 @@ use tv_trail_laws::Origin;
 use tv_work::WorkError;
 
 /// A structure that was met, by its node and its place there, and how it was met.
-#[derive(Clone, Copy, Debug, PartialEq, Eq)]
+#[derive(Clone, Copy)]
 pub(crate) struct Met {
     pub node: u32,
     pub place: usize,

@@ -1,4 +1,4 @@
-use Rattle.std.proofs.Common.{ℕ, ◌≡◌, ◌<◌, ◌⊎◌, length, refl, sym, ap, subst, List, Some, Contains}
+use Rattle.std.proofs.Common.{◌≡◌, ◌<◌, ◌⊎◌, length, sym, subst, List, Some, Contains}
 use Rattle.std.specs.Prelude.{All, slice_get}
 use Rattle.std.proofs.lemmas.Option.{slice_get_within}
 use Rattle.std.proofs.lemmas.Result.{err_from_is_err_and}
@@ -10,14 +10,14 @@ use Rattle.tv_step_laws.specs.Budgets.{IsStepCause}
 use Rattle.tv_step_laws.specs.Settled.{IsSettled}
 use Rattle.tv_step_laws.specs.Transfer.{AreMessageValues, AreResults}
 use Rattle.tv_step_laws.proofs.Shapes.{shaped-over}
-use Rattle.tv_work.specs.Analysed.{IsAtSource, IsWorkCause}
+use Rattle.tv_work.specs.Analysed.{IsAtSource}
 use Rattle.tv_work.specs.Reach.{Point}
 use Rattle.tv_work.specs.Task.{reached_in}
 use Rattle.tv_work.proofs.Advancing.{target_at, target-is}
 use Rattle.tv_work.proofs.Causes.{meet-cause, step-cause}
 use Rattle.tv_trail_laws.specs.Met.{IsAt, IsMet}
 use Rattle.tv_trail.specs.Aims.{Raises}
-use Rattle.tv_trail.specs.Asked.{form_in, task_of}
+use Rattle.tv_trail.specs.Asked.{task_of}
 use Rattle.tv_trail.proofs.Aiming.{goal-along, raised-along, along-raised}
 use Rattle.tv_trail.proofs.Kept.{at-on, at-settled, met-reached}
 use Rattle.tv_trail.proofs.Stepping.{Arrives, arrived-along, arrived-from, arrived-reached, arrived-state}

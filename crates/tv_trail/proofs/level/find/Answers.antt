@@ -1,4 +1,4 @@
-use Rattle.std.proofs.Common.{◌≡◌, ◌<◌, ◌≤◌, ◌+◌, ◌-◌, arith, length, subst, Some, None}
+use Rattle.std.proofs.Common.{◌+◌, arith, subst}
 use Rattle.tv_trail_laws.specs.Met.{IsFromBelow}
 use Rattle.tv_trail_laws.proofs.Levels.{level-none}
 use Rattle.tv_trail.specs.Asked.{task_of, goal_of}

@@ -1,4 +1,4 @@
-use Rattle.std.proofs.Common.{◌≡◌, ◌<◌, ◌≤◌, arith, false, length, subst}
+use Rattle.std.proofs.Common.{arith, subst}
 use Rattle.tv_trail_laws.specs.Met.{Found, IsFromBelow}
 use Rattle.tv_trail.specs.Asked.{task_of, goal_of}
 use Rattle.tv_trail.specs.Searched.{IsFrom, AnswersHere}

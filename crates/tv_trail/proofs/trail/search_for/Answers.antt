@@ -1,4 +1,4 @@
-use Rattle.std.proofs.Common.{ℕ, ◌≡◌, ◌∙◌, [], ap, length, replicate, subst, sym, Some, None}
+use Rattle.std.proofs.Common.{ℕ, ◌∙◌, [], ap, replicate, subst, sym}
 use Rattle.tv_trail_laws.proofs.Places.{at-place}
 use Rattle.tv_trail_laws.proofs.Walking.{nearest-shortest}
 use Rattle.tv_trail.specs.Asked.{task_of, goal_of}

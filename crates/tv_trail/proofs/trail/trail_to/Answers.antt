@@ -6,7 +6,6 @@ use Rattle.tv_struct.specs.StructureForm.{StructureForm, IsStructure, IsOver}
 use Rattle.tv_work.specs.Reach.{Point}
 use Rattle.tv_trail_laws.specs.declared.trail.Link.{Link}
 use Rattle.tv_trail_laws.specs.declared.trail.Origin.{Origin}
-use Rattle.tv_trail_laws.specs.declared.trail.Origin.TheVariants.{Initial, Step}
 use Rattle.tv_trail_laws.specs.Met.{IsTrailFrom}
 use Rattle.tv_trail_laws.proofs.Walking.{ComesFrom, comes-next, comes-trail, goes-back}
 use Rattle.tv_trail.specs.Asked.{task_of}

@@ -1,4 +1,3 @@
-use Rattle.std.proofs.Common.{ℕ, ◌≡◌}
 use Rattle.std.specs.Prelude.{All}
 use Rattle.tv_struct.specs.StructureForm.{IsStructure, IsOver}
 use Rattle.tv_trail_laws.proofs.Walking.{ComesFrom}

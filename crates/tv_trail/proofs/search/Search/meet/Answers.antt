@@ -1,6 +1,5 @@
-use Rattle.std.proofs.Common.{◌≡◌, ◌<◌, ◌-◌, ◌⊎◌, ◌∙◌, List, length, refl, sym, ap, subst, Ok, arith}
+use Rattle.std.proofs.Common.{◌≡◌, ◌<◌, ◌-◌, ◌⊎◌, ◌∙◌, length, refl, sym, ap, subst, Ok, arith}
 use Rattle.tv_listing.specs.ListingForm.{at_node, appended, AddsAt}
-use Rattle.tv_struct.specs.StructureForm.{StructureForm}
 use Rattle.tv_work.specs.Reach.{AreMoreThan}
 use Rattle.tv_trail_laws.specs.Met.{Found, IsMet}
 use Rattle.tv_trail.specs.declared.search.Met.{Met}
