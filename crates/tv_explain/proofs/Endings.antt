@@ -1,0 +1,50 @@
+-- What holds of a call by how it ends.
+use Rattle.std.proofs.Common.{◌≡◌, ◌⊎◌, ℕ, List, Option, Result, Ok, Err, inl, inr}
+use Rattle.std.specs.Prelude.{IfErr}
+use Rattle.std.specs.declared.alloc.Global.{Global}
+use Rattle.std.specs.declared.vec.Vec.{Vec}
+use Rattle.tv_outside.specs.Told.{Held}
+use Rattle.tv_status.specs.declared.status.Status.{Status}
+use Rattle.tv_explain.specs.Call.{Commands, HoldsOperands, IsCause, UnlessFault, UnlessReadFault}
+use Rattle.tv_explain.specs.Delivery.{IsDelivered}
+use Rattle.tv_explain.specs.Meaning.{HoldsFiles, IsMissing}
+use Rattle.tv_explain.specs.declared.fault.Fault.{Fault}
+use Rattle.tv_explain.specs.declared.fault.Fault.TheVariants.{Usage, FileFault, ReadFault, Memory}
+use Rattle.tv_explain_words.specs.Words.{CommandForm, Shows, ListsEdges, Spells}
+
+module _ (told : Option Held) where
+  not_missing : (command : CommandForm) → HoldsFiles told command → IsMissing told command → ⊥
+  not_missing (Shows program report) holds (inl lacks) = holds.0 lacks
+  not_missing (Shows program report) holds (inr later) = later.2 holds.1
+  not_missing (ListsEdges program) holds lacks = holds lacks
+
+  -- no file is missing where all that the command asks for are there
+  pub none_missing : ((words : List (List ℕ)) (a b : CommandForm) → Spells words a → Spells words b → a ≡ b)
+      → (words : List (List ℕ)) → HoldsOperands words told → Commands words (IsMissing told) → ⊥
+  none_missing one words (command, spells, holds) (other, also, missing) =
+      not_missing command holds (rw (one words command other spells also) missing)
+
+  -- and then no reading fails
+  pub no_fault : (words : List (List ℕ)) (rose steady P : Type 0) (result : Result (Vec ℕ Global) Fault)
+      → (Commands words (IsMissing told) → ⊥) → steady → IfErr result (IsCause words told rose steady)
+      → UnlessReadFault result P → P
+  no_fault words rose steady P (Ok t) none is cause h = h
+  no_fault words rose steady P (Err Usage) none is cause h = h
+  no_fault words rose steady P (Err (FileFault r k)) none is cause h = h
+  no_fault words rose steady P (Err ReadFault) none is cause h =
+      absurd (none (cause.0, cause.1, cause.2.1 is))
+  no_fault words rose steady P (Err Memory) none is cause h = h
+
+-- files that were steady are, unless a call outside failed
+pub stays_steady : (found : Result (Vec ℕ Global) Fault) (status : Status) (out_rose err_rose : Type 0)
+    (out_old out_new err_old err_new : Option (List ℕ)) (P Q : Type 0)
+    → IsDelivered found status out_rose err_rose out_old out_new err_old err_new → UnlessReadFault found (P × Q)
+    → UnlessFault status P
+stays_steady (Ok t) status or er oo on eo en P Q (inl (e, given, same)) h = rw e h.0
+stays_steady (Ok t) status or er oo on eo en P Q (inr (rose, front, inl (e, taken))) h = rw e tt
+stays_steady (Ok t) status or er oo on eo en P Q (inr (rose, front, inr (e, its, taken))) h = rw e tt
+stays_steady (Err Usage) status or er oo on eo en P Q (same, inl (e, taken)) h = rw e h.0
+stays_steady (Err (FileFault r k)) status or er oo on eo en P Q (same, inl (e, taken)) h = rw e h.0
+stays_steady (Err ReadFault) status or er oo on eo en P Q (same, inl (e, taken)) h = rw e tt
+stays_steady (Err Memory) status or er oo on eo en P Q (same, inl (e, taken)) h = rw e h.0
+stays_steady (Err met) status or er oo on eo en P Q (same, inr (e, its, taken)) h = rw e tt

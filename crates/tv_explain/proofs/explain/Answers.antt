@@ -1,0 +1,19 @@
+use Rattle.tv_explain.proofs.Causes.{found}
+use Rattle.tv_explain.proofs.Endings.{none_missing, no_fault, stays_steady}
+use Rattle.tv_explain.proofs.explain.Goals as goal
+
+pub returns-clause-done : goal.returns-clause-done
+returns-clause-done g c = record {
+  found = c.perform-found.result;
+  is = found _ _ _ _ c.perform-found.result c.perform-found.ensures.found c.perform-found.ensures.cause;
+  gives = c.deliver.ensures.gives;
+}
+
+pub returns-clause-held : goal.returns-clause-held
+returns-clause-held g c = λ steady holds.
+    no_fault _ _ _ _ _ c.perform-found.result (none_missing _ c.one_command.ensures _ holds) steady
+    c.perform-found.ensures.cause (c.perform-found.ensures.steady steady)
+
+pub returns-clause-stays : goal.returns-clause-stays
+returns-clause-stays g c = λ steady.
+    stays_steady c.perform-found.result _ _ _ _ _ _ _ _ _ c.deliver.ensures.gives (c.perform-found.ensures.steady steady)

@@ -1,0 +1,62 @@
+use Rattle.std.proofs.Common.{◌≡◌, ℕ, refl, inl}
+use Rattle.std.proofs.lemmas.Result.{err_from_is_err_and}
+use Rattle.std.specs.declared.alloc.Global.{Global}
+use Rattle.std.specs.declared.vec.Vec.{Vec}
+use Rattle.tv_listing.specs.declared.analysis.Analysis.{Analysis}
+use Rattle.tv_model.specs.declared.program.Program.{Program}
+use Rattle.tv_explain.proofs.Causes.{program_fault, report_fault, rose_later, still, unless_not_read}
+use Rattle.tv_explain_words.specs.Words.{Shows}
+use Rattle.tv_explain.proofs.work.show.Goals as goal
+
+pub returns-in_err-program-clause-cause : goal.returns-in_err-program-clause-cause
+returns-in_err-program-clause-cause g c =
+    let p = err_from_is_err_and c.from_residual.result c.from_residual.ensures.1 in
+    rw (p.1, p.2) (program_fault _ (Shows c.args.program.now c.args.report.now) _ _ _ (λ lacks. inl lacks)
+    c.in_err-program.ensures.cause)
+
+pub returns-in_err-program-clause-steady : goal.returns-in_err-program-clause-steady
+returns-in_err-program-clause-steady g c =
+    let p = err_from_is_err_and c.from_residual.result c.from_residual.ensures.1 in
+    let new = c.load_program.new.files in
+    let old = c.args.files.now in
+    rw (p.1, p.2) (λ s. unless_not_read Program (Vec ℕ Global) c.in_err-program.field-0.0
+    (g.F.Files.steady new × (g.F.Files.faults new ≡ g.F.Files.faults old))
+    (g.F.Files.steady new × (g.F.Files.faults new ≡ g.F.Files.faults old)) (λ h. h)
+    (c.in_err-program.ensures.steady s))
+
+pub returns-in_err-report-clause-cause : goal.returns-in_err-report-clause-cause
+returns-in_err-report-clause-cause g c =
+    let p = err_from_is_err_and c.from_residual-in_err-report.result c.from_residual-in_err-report.ensures.1 in
+    let cause = rw c.in_ok-program.ensures.holds at c.in_err-report.ensures.cause in
+    rw (p.1, p.2) (report_fault _ c.args.program.now c.args.report.now c.in_ok-program.program _ _ _ _ _
+    c.in_ok-program.ensures.means (rose_later _ _ _ c.in_ok-program.ensures.count)
+    (λ s. (c.in_ok-program.ensures.steady s).0) cause)
+
+pub returns-in_err-report-clause-steady : goal.returns-in_err-report-clause-steady
+returns-in_err-report-clause-steady g c =
+    let p = err_from_is_err_and c.from_residual-in_err-report.result c.from_residual-in_err-report.ensures.1 in
+    let new = c.load_report.new.files in
+    let mid = c.load_program.new.files in
+    let old = c.args.files.now in
+    rw (p.1, p.2) (λ s. let before = c.in_ok-program.ensures.steady s in
+    unless_not_read Analysis (Vec ℕ Global) c.in_err-report.field-0.0
+    (g.F.Files.steady new × (g.F.Files.faults new ≡ g.F.Files.faults mid))
+    (g.F.Files.steady new × (g.F.Files.faults new ≡ g.F.Files.faults old))
+    (λ h. still (g.F.Files.faults old) (g.F.Files.faults mid) (g.F.Files.faults new) (g.F.Files.steady new) before.1
+    h)
+    (c.in_err-report.ensures.steady before.0))
+
+pub returns-clause-steady : goal.returns-clause-steady
+returns-clause-steady g c = λ s.
+    let before = c.in_ok-program.ensures.steady s in still _ _ _ _ before.1 (c.in_ok-report.ensures.steady before.0)
+
+pub returns-clause-found : goal.returns-clause-found
+returns-clause-found g c = (
+  c.in_ok-program.program,
+  c.in_ok-program.ensures.means,
+  (
+    c.in_ok-report.report,
+    rw c.in_ok-program.ensures.holds at c.in_ok-report.ensures.means,
+    c.in_ok-shown_text.ensures,
+  ),
+)

@@ -1,0 +1,4 @@
+pub mod Faults
+pub mod Meaning
+pub mod Call
+pub mod Delivery

@@ -1,0 +1,58 @@
+//! The program that explains as one call over the outside.
+#![tactic(auto)]
+
+ghost use Rattle.std.specs.Prelude.{◌≡◌, ◌≤◌};
+ghost use Rattle.tv_outside.specs.Count.{Rose};
+ghost use Rattle.tv_explain.specs.Call.{HasDone, HoldsOperands, UnlessFault};
+ghost use Rattle.tv_explain.specs.Delivery.{StopsAtFailure};
+ghost use Rattle.tv_explain_words.specs.Words.{words_of, SpellsNothing};
+
+mod delivery;
+mod fault;
+mod inputs;
+mod work;
+
+use std::alloc::Global;
+use tv_explain_words::one_command;
+use tv_outside::{Files, Sink};
+pub use tv_status::{FileKind, Role, Status};
+
+/// Does all that the program does: `words` are the words after its name.
+///
+/// The work is done in this order: the words are read; PROGRAM is gathered and understood; for `show` REPORT
+/// is read and understood; the text is put together and given to `out` whole. The first fault ends the call,
+/// and its text is given to `err`.
+pub fn explain<F: Files, O: Sink, E: Sink>(
+    alloc: Global,
+    words: &[String],
+    files: &mut F,
+    out: &mut O,
+    err: &mut E,
+) -> Status
+    // What was found, and where it was given.
+    ensures done { HasDone (words_of words.now) (F.holds files.old)
+        (Rose (F.faults files.old) (F.faults files.new)) (F.steady files.old)
+        (Rose (O.faults out.old) (O.faults out.new)) (Rose (E.faults err.old) (E.faults err.new))
+        (O.taken out.old) (O.taken out.new) (E.taken err.old) (E.taken err.new) result }
+
+    // A sink that has failed is given nothing more.
+    ensures out_stops { StopsAtFailure (O.failures out.old) (O.failures out.new) (O.since out.new) }
+    ensures err_stops { StopsAtFailure (E.failures err.old) (E.failures err.new) (E.since err.new) }
+
+    // What was read: nothing without a command; and steady files that hold what is asked for don't fail, and
+    // stay steady.
+    ensures unread { SpellsNothing (words_of words.now) → files.new ≡ files.old }
+    ensures held { F.steady files.old → HoldsOperands (words_of words.now) (F.holds files.old)
+        → F.steady files.new × (F.faults files.new ≡ F.faults files.old) }
+    ensures stays { F.steady files.old → UnlessFault result (F.steady files.new) }
+
+    // No call changes what a name holds, and no count of faults falls.
+    ensures holds { F.holds files.new ≡ F.holds files.old }
+    ensures files_count { F.faults files.old ≤ F.faults files.new }
+    ensures out_count { O.faults out.old ≤ O.faults out.new }
+    ensures err_count { E.faults err.old ≤ E.faults err.new }
+{
+    one_command();
+    let found = work::perform(alloc, words, files);
+    delivery::deliver(found, out, err)
+}

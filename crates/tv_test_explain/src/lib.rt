@@ -1,0 +1,11 @@
+//! Rows of whole calls of the program that explains, over files and sinks in memory.
+#![tactic(auto)]
+
+#[cfg(test)]
+mod call;
+#[cfg(test)]
+mod faults;
+#[cfg(test)]
+mod rows;
+#[cfg(test)]
+mod texts;

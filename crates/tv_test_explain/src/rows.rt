@@ -1,0 +1,143 @@
+//! Calls on files that don't fail: what is asked for, and each refusal.
+
+use crate::call::{PLAIN, Row, wrong_part};
+use crate::texts::{EDGES, PROGRAM, REPORT, SHOWN, USAGE};
+use std::test::Fail;
+
+const FAULT: Row<'static, 'static, 'static, 'static> = Row { code: 3, ..PLAIN };
+
+const NOT_READ: Row<'static, 'static, 'static, 'static> = Row {
+    code: 5,
+    err: "tvla: read fault\n",
+    ..PLAIN
+};
+
+const NO_COMMAND: Row<'static, 'static, 'static, 'static> = Row {
+    files: &[("p", PROGRAM), ("r", REPORT), ("-p", PROGRAM)],
+    code: 2,
+    err: USAGE,
+    ..PLAIN
+};
+
+static ROWS: [Row<'static, 'static, 'static, 'static>; 21] = [
+    Row {
+        words: &["show", "p", "r"],
+        files: &[("p", PROGRAM), ("r", REPORT)],
+        out: SHOWN,
+        ..PLAIN
+    },
+    Row {
+        words: &["edges", "p"],
+        files: &[("p", PROGRAM)],
+        out: EDGES,
+        ..PLAIN
+    },
+    Row {
+        words: &["edges", "main"],
+        files: &[
+            ("main", "%p b() %%\n#include \"go\"\n%%\nL0 Go() L0"),
+            ("go", "%action Go() { }"),
+        ],
+        out: "edge 0  L0 Go ( ) L0\n",
+        ..PLAIN
+    },
+    Row {
+        words: &[],
+        ..NO_COMMAND
+    },
+    Row {
+        words: &["frob", "p"],
+        ..NO_COMMAND
+    },
+    Row {
+        words: &["show", "p"],
+        ..NO_COMMAND
+    },
+    Row {
+        words: &["show", "p", "r", "r"],
+        ..NO_COMMAND
+    },
+    Row {
+        words: &["edges"],
+        ..NO_COMMAND
+    },
+    Row {
+        words: &["edges", "p", "r"],
+        ..NO_COMMAND
+    },
+    Row {
+        words: &["edges", "-p"],
+        ..NO_COMMAND
+    },
+    Row {
+        words: &["edges", "p"],
+        files: &[("p", "%p x( %% %%")],
+        err: "tvla: program: Syntax at 1:7\n",
+        ..FAULT
+    },
+    Row {
+        words: &["show", "p", "r"],
+        files: &[("p", "%p x( %% %%"), ("r", "")],
+        err: "tvla: program: Syntax at 1:7\n",
+        ..FAULT
+    },
+    Row {
+        words: &["edges", "p"],
+        files: &[("p", "%s S T %% %%")],
+        err: "tvla: program: NameUnknown\n",
+        ..FAULT
+    },
+    Row {
+        words: &["edges", "p"],
+        files: &[("p", "%r b() ==> 0 %% %%")],
+        err: "tvla: program: NameUnknown\n",
+        ..FAULT
+    },
+    Row {
+        words: &["edges", "p"],
+        files: &[("p", "%p b() %% %% $")],
+        err: "tvla: program: BadByte\n",
+        ..FAULT
+    },
+    Row {
+        words: &["edges", "p"],
+        files: &[("p", "#include q\n")],
+        err: "tvla: program: IncludeForm\n",
+        ..FAULT
+    },
+    Row {
+        words: &["show", "p", "r"],
+        files: &[("p", PROGRAM), ("r", "tvla report 2")],
+        err: "tvla: report: ReportForm at 1:14\n",
+        ..FAULT
+    },
+    Row {
+        words: &["show", "p", "r"],
+        files: &[("p", PROGRAM), ("r", "$")],
+        err: "tvla: report: BadByte\n",
+        ..FAULT
+    },
+    Row {
+        words: &["edges", "p"],
+        files: &[("r", REPORT)],
+        ..NOT_READ
+    },
+    Row {
+        words: &["edges", "p"],
+        files: &[("p", "#include \"q\"\n")],
+        ..NOT_READ
+    },
+    Row {
+        words: &["show", "p", "r"],
+        files: &[("p", PROGRAM)],
+        ..NOT_READ
+    },
+];
+
+#[test]
+fn calls_end_as_they_should(rt: HostRuntime) -> Result<(), Fail> {
+    for number in 0..ROWS.len() {
+        assert_eq!(rt; wrong_part(rt.alloc(), &ROWS[number])?, None, "{number}");
+    }
+    Ok(())
+}
