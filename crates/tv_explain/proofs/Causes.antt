@@ -1,6 +1,6 @@
 -- The causes of the parts of the work, as those of a command and of a call.
-use Rattle.std.proofs.Common.{◌≡◌, ◌≤◌, ℕ, List, Option, Result, Ok, Err, inl, inr, refl, sym, subst, arith}
-use Rattle.std.specs.Prelude.{IfOk, IfErr, ◌⊎◌}
+use Rattle.std.proofs.Common.{◌≡◌, ◌≤◌, ℕ, List, Option, Result, Ok, Err, inr, refl, sym, subst, arith}
+use Rattle.std.specs.Prelude.{IfOk, IfErr}
 use Rattle.std.specs.declared.alloc.Global.{Global}
 use Rattle.std.specs.declared.vec.Vec.{Vec}
 use Rattle.tv_model.specs.declared.program.Program.{Program}
@@ -10,12 +10,12 @@ use Rattle.tv_status.specs.declared.status.Role.TheVariants as role
 use Rattle.tv_texts.specs.Files.{IsFileCause, IsProgramFile, IsReportFile, LacksFile, UnlessNotRead}
 use Rattle.tv_texts.specs.declared.fault.TextFault.{TextFault}
 use Rattle.tv_texts.specs.declared.fault.TextFault.TheVariants as text
-use Rattle.tv_explain.specs.Call.{Commands, IsAnswerTo, IsCause, IsCommandCause, IsFound, UnlessReadFault}
+use Rattle.tv_explain.specs.Call.{IsAnswerTo, IsCause, IsCommandCause, IsFound, UnlessReadFault}
 use Rattle.tv_explain.specs.Faults.{fault_of_text}
 use Rattle.tv_explain.specs.Meaning.{IsAnswer, IsMissing, IsRefused, program_name}
 use Rattle.tv_explain.specs.declared.fault.Fault.{Fault}
 use Rattle.tv_explain.specs.declared.fault.Fault.TheVariants.{Usage, FileFault, ReadFault, Memory}
-use Rattle.tv_explain_words.specs.Words.{CommandForm, Shows, ListsEdges, Spells}
+use Rattle.tv_explain_words.specs.Words.{CommandForm, Shows, Spells}
 
 -- ---- counts and steadiness
 
