@@ -4,6 +4,7 @@ pub mod Decided
 pub mod Heads
 pub mod Lists
 pub mod Programs
+pub mod Quantifying
 pub mod Runs
 pub mod Truths
 pub mod Walks

@@ -8,6 +8,7 @@ mod formula;
 mod items;
 mod laws;
 mod program;
+mod quantifiers;
 mod walk;
 
 pub use formula::{Formula, Formulas, PredId, Terms, Var, Vars};

@@ -2,7 +2,9 @@
 
 ghost use Rattle.std.specs.Prelude.{◌≡◌, ◌↔◌, ◌+◌, min, Contains, IsTrue, IfOk};
 ghost use Rattle.tv_model.specs.Form.{form_of, vars_of, IsFree, Mentions, height};
+ghost use Rattle.tv_model.specs.Quantifiers.{bound};
 
+use crate::quantifiers::{Binding, at_head, bound_by};
 use crate::{Formula, PredId, Terms, Var};
 use std::alloc::{AllocError, Global};
 
@@ -73,8 +75,8 @@ pub fn copy(alloc: Global, f: &Formula) -> Result<Formula, AllocError>
         Formula::Cond(c, g, h) => {
             Formula::Cond(boxed(alloc, c)?, boxed(alloc, g)?, boxed(alloc, h)?)
         }
-        Formula::Exists(v, g) => Formula::Exists(*v, boxed(alloc, g)?),
-        Formula::Forall(v, g) => Formula::Forall(*v, boxed(alloc, g)?),
+        Formula::Exists(v, g) => copy_under(alloc, Binding::Exists(*v), g)?,
+        Formula::Forall(v, g) => copy_under(alloc, Binding::Forall(*v), g)?,
         Formula::Closure {
             from,
             to,
@@ -96,6 +98,16 @@ fn boxed(alloc: Global, f: &Formula) -> Result<Box<Formula>, AllocError>
     ensures { IfOk result (λ g. form_of g.value ≡ form_of f.now) }
 {
     Ok(Box::new(alloc, copy(alloc, f)?)?)
+}
+
+// A copy of the body under a copy of the quantifier.
+#[cycle(copy)]
+fn copy_under(alloc: Global, outermost: Binding, f: &Formula) -> Result<Formula, AllocError>
+    ensures { IfOk result (λ g. form_of g ≡ bound outermost (form_of f.now)) }
+{
+    let (bindings, body) = at_head(alloc, f)?;
+    let inner = bound_by(alloc, bindings, copy(alloc, body)?)?;
+    outermost.over(alloc, inner)
 }
 
 /// The height of the formula's tree, 1 for a leaf; a height past `usize::MAX` counts as that. Takes
