@@ -103,6 +103,9 @@ fn are_ascending(vocab: &Vocab, s: &Structure) -> bool
         ↔ FollowsNames (abstraction_preds vocab.now) (structure_of s.now) s.now.size (λ u. u) }
 {
     let _ = s.pred_count();
+    if s.size() < 2 {
+        return true;
+    }
     let mut rises = Row::of(s.size().saturating_sub(1), K3::No);
     for (p, pred) in vocab.preds.as_slice().iter().enumerate() {
         if !add_pred(&mut rises, s, p as u32, pred) {

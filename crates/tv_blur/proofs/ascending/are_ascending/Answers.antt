@@ -1,4 +1,4 @@
-use Rattle.std.proofs.Common.{◌≡◌, true, false, List, ap, subst, arith, length, map, get_or}
+use Rattle.std.proofs.Common.{◌≡◌, true, false, List, ap, refl, subst, arith, length, map, get_or}
 use Rattle.std.proofs.lemmas.List.{take_all, length-map}
 use Rattle.tv_kleene.specs.declared.K3.TheVariants.{No}
 use Rattle.tv_model.specs.declared.program.Pred.{Pred}
@@ -42,3 +42,10 @@ returns c =
       λ follows. c.are_possible.ensures.1
           (all_rise (abstraction_preds c.args.vocab.now) c.args.s.now c.loop-p.rises tells follows),
     )
+
+pub returns-then-size-lt2 : goal.returns-then-size-lt2
+returns-then-size-lt2 c = (
+  λ holds. ascending-follows (abstraction_preds c.args.vocab.now) (structure_of c.args.s.now) c.args.s.now.size
+      (λ k lt. absurd (omega (arith, lt, c.if-size-lt2.true))),
+  λ follows. refl,
+)
