@@ -11,5 +11,6 @@ mod Cut
 mod OneReading
 mod Names
 mod Gathering
+mod Parting
 mod IncludeForm
 mod OpenComments

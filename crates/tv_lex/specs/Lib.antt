@@ -7,4 +7,5 @@ pub mod Front
 pub mod Include
 pub mod Comments
 pub mod Gather
+pub mod Parts
 pub mod Spaced

@@ -1,9 +1,12 @@
 //! A text with its includes put in.
-ghost use Rattle.std.specs.Prelude.{◌≡◌, ◌≤◌, ◌∷◌, [], ◌++◌, length, vec_len, IfOk, IfErr, OnOk};
+ghost use Rattle.std.specs.Prelude.{◌≡◌, ℕ, ◌+◌, ◌≤◌, ◌∷◌, [], ◌++◌, List, Option, false, vec_len};
+ghost use Rattle.std.specs.Prelude.{IfOk, IfErr, OnOk};
+ghost use Rattle.tv_outside.specs.Told.{Held};
 ghost use Rattle.tv_lex.specs.Include.{include_name as name_in};
 ghost use Rattle.tv_lex.specs.Gather.{longest_gathered, deepest_include, UnlessFilesFail, Give, Gathers};
 ghost use Rattle.tv_lex.specs.Gather.{BeginsEach, GatherCause, Puts, PutCause, GivesBytes, BytesCause};
 ghost use Rattle.tv_lex.specs.Gather.{file_events, included, below, one_line, opens, gather_error};
+ghost use Rattle.tv_lex.specs.Parts.{AreParts, IsOpen, IsLineBefore, KeepsParts};
 ghost use Rattle.tv_lex.specs.declared.gatherer.GatherError.TheVariants.{Memory};
 
 use crate::include::{include_name, includes, inner_name, is_open_after, line_len};
@@ -60,15 +63,43 @@ impl From<AllocError> for GatherError {
     }
 }
 
-/// A text with its includes put in.
+/// Lines of a gathered text that stand so, one after the other, in one file.
+#[derive(Debug, Drop)]
+pub struct Part {
+    /// The name of the file.
+    pub name: String,
+    /// The number of the line in the file with which the part begins, counted from 1.
+    pub line: u32,
+    /// The place of the part's first byte in the text, counted from 0.
+    pub start: u32,
+    /// The place behind its last byte.
+    pub end: u32,
+}
+
+/// A text with its includes put in, and the parts of which it is made.
 #[derive(Debug, Drop)]
 pub struct Gathered {
     pub bytes: Vec<u8>,
+    pub parts: Vec<Part>,
+}
+
+/// Where the reading of a file stands, in front of a line.
+#[derive(Clone, Copy, Debug, PartialEq, Eq)]
+struct Reading {
+    /// Whether the line begins inside a block comment.
+    inside: bool,
+    /// The number of the line.
+    number: u32,
+    /// The place in the text from which on it has lines of the file that are in no part yet.
+    start: u32,
+    /// The number of the first of these, or of the line.
+    first: u32,
 }
 
 #[tactic(auto, using(crate::proofs::Gathering::gives_bytes, crate::proofs::Gathering::gives_too_long))]
 fn put_bytes(out: &mut Vec<u8>, bytes: &[u8]) -> Result<(), GatherError>
     ensures fits { OnOk result (vec_len out.new ≤ longest_gathered) }
+    ensures value { OnOk result (out.new.items ≡ out.old.items ++ bytes.now) }
     ensures put { OnOk result (GivesBytes out.old.items bytes.now (Ok out.new.items)) }
     ensures cause { IfErr result (λ e. BytesCause e out.old.items bytes.now) }
 {
@@ -79,6 +110,46 @@ fn put_bytes(out: &mut Vec<u8>, bytes: &[u8]) -> Result<(), GatherError>
     Ok(())
 }
 
+/// The reading in front of the line of this number, where all of the text is in parts.
+fn reading_at(number: u32, out: &Gathered) -> Reading
+    requires { vec_len out.now.bytes ≤ longest_gathered }
+    ensures { result
+        ≡ record { inside = false; number = number; start = vec_len out.now.bytes; first = number } }
+{
+    Reading {
+        inside: false,
+        number,
+        start: out.bytes.len() as u32,
+        first: number,
+    }
+}
+
+/// Makes a part of the lines that are in none yet.
+fn close_part(
+    alloc: Global,
+    name: &str,
+    reading: Reading,
+    out: &mut Gathered,
+) -> Result<(), AllocError>
+    requires { vec_len out.old.bytes ≤ longest_gathered }
+    ensures bytes { out.new.bytes ≡ out.old.bytes }
+    ensures parts { OnOk result ((told : Option Held) (rest : List ℕ)
+        → IsOpen told name.now rest out.old.bytes.items out.old.parts.items reading
+        → AreParts told 0 out.new.parts.items out.new.bytes.items) }
+{
+    let end = out.bytes.len() as u32;
+    if reading.start < end {
+        let name = String::from_str(alloc, name)?;
+        out.parts.push(Part {
+            name,
+            line: reading.first,
+            start: reading.start,
+            end,
+        })?;
+    }
+    Ok(())
+}
+
 #[cycle(gathering)]
 fn put_include<F: Files>(
     alloc: Global,
@@ -86,18 +157,20 @@ fn put_include<F: Files>(
     name: &str,
     line: &[u8],
     left: u32,
-    out: &mut Vec<u8>,
+    out: &mut Gathered,
 ) -> Result<(), GatherError>
-    requires { vec_len out.old ≤ longest_gathered }
-    ensures fits { OnOk result (vec_len out.new ≤ longest_gathered) }
+    requires { vec_len out.old.bytes ≤ longest_gathered }
+    ensures fits { OnOk result (vec_len out.new.bytes ≤ longest_gathered) }
     ensures count { F.faults files.old ≤ F.faults files.new }
     ensures holds { F.holds files.new ≡ F.holds files.old }
     ensures begins { OnOk result (BeginsEach (F.holds files.old)
         (λ held. included (below held left) name.now line.now) (F.begins files.old) (F.begins files.new)) }
     ensures put { OnOk result (Puts (F.holds files.old)
-        (λ held. included (below held left) name.now line.now) out.old.items (Ok out.new.items)) }
+        (λ held. included (below held left) name.now line.now) out.old.bytes.items
+        (Ok out.new.bytes.items)) }
+    ensures parts { OnOk result (KeepsParts (F.holds files.old) out.old out.new) }
     ensures cause { IfErr result (λ e. PutCause e (F.holds files.old)
-        (λ held. included (below held left) name.now line.now) out.old.items (F.steady files.old)
+        (λ held. included (below held left) name.now line.now) out.old.bytes.items (F.steady files.old)
         (F.faults files.old) (F.faults files.new)) }
     ensures steady { F.steady files.old
         → UnlessFilesFail result (F.steady files.new × (F.faults files.new ≡ F.faults files.old)) }
@@ -110,42 +183,54 @@ fn put_include<F: Files>(
     }
     let inner = inner_name(alloc, name, written)?;
     put_file(alloc, files, inner.as_str(), left - 1, out)?;
-    put_bytes(out, b"\n")
+    put_bytes(&mut out.bytes, b"\n")
 }
 
-/// Puts a line behind the text, or what it includes. Gives whether the next line begins inside a block
-/// comment.
+/// Puts a line behind the text, or what it includes. Gives the reading in front of the next line.
 #[cycle(gathering)]
 fn put_line<F: Files>(
     alloc: Global,
     files: &mut F,
     name: &str,
-    inside: bool,
+    reading: Reading,
     line: &[u8],
     left: u32,
-    out: &mut Vec<u8>,
-) -> Result<bool, GatherError>
-    requires { vec_len out.old ≤ longest_gathered }
-    ensures fits { OnOk result (vec_len out.new ≤ longest_gathered) }
+    out: &mut Gathered,
+) -> Result<Reading, GatherError>
+    requires size { vec_len out.old.bytes ≤ longest_gathered }
+    requires number { reading.number ≤ longest_gathered }
+    ensures fits { OnOk result (vec_len out.new.bytes ≤ longest_gathered) }
     ensures count { F.faults files.old ≤ F.faults files.new }
     ensures holds { F.holds files.new ≡ F.holds files.old }
-    ensures next { IfOk result (λ next. next ≡ opens inside line.now) }
-    ensures begins { OnOk result (BeginsEach (F.holds files.old) (λ held. one_line
-        (included (below held left) name.now) inside line.now) (F.begins files.old) (F.begins files.new)) }
-    ensures put { OnOk result (Puts (F.holds files.old) (λ held. one_line
-        (included (below held left) name.now) inside line.now) out.old.items (Ok out.new.items)) }
+    ensures next { IfOk result (λ next. next.inside ≡ opens reading.inside line.now) }
+    ensures number { IfOk result (λ next. next.number ≡ reading.number + 1) }
+    ensures begins { OnOk result (BeginsEach (F.holds files.old)
+        (λ held. one_line (included (below held left) name.now) reading.inside line.now)
+        (F.begins files.old) (F.begins files.new)) }
+    ensures put { OnOk result (Puts (F.holds files.old)
+        (λ held. one_line (included (below held left) name.now) reading.inside line.now)
+        out.old.bytes.items (Ok out.new.bytes.items)) }
+    ensures parts { IfOk result (λ next. (behind : List ℕ) → IsLineBefore behind line.now
+        → IsOpen (F.holds files.old) name.now (line.now ++ behind) out.old.bytes.items out.old.parts.items
+        reading
+        → IsOpen (F.holds files.old) name.now behind out.new.bytes.items out.new.parts.items next) }
     ensures cause { IfErr result (λ e. PutCause e (F.holds files.old)
-        (λ held. one_line (included (below held left) name.now) inside line.now) out.old.items
-        (F.steady files.old) (F.faults files.old) (F.faults files.new)) }
+        (λ held. one_line (included (below held left) name.now) reading.inside line.now)
+        out.old.bytes.items (F.steady files.old) (F.faults files.old) (F.faults files.new)) }
     ensures steady { F.steady files.old
         → UnlessFilesFail result (F.steady files.new × (F.faults files.new ≡ F.faults files.old)) }
 {
-    if includes(inside, line) {
+    if includes(reading.inside, line) {
+        close_part(alloc, name, reading, out)?;
         put_include(alloc, files, name, line, left, out)?;
-        return Ok(false);
+        return Ok(reading_at(reading.number + 1, out));
     }
-    put_bytes(out, line)?;
-    Ok(is_open_after(inside, line))
+    put_bytes(&mut out.bytes, line)?;
+    Ok(Reading {
+        inside: is_open_after(reading.inside, line),
+        number: reading.number + 1,
+        ..reading
+    })
 }
 
 /// Puts what a file gives behind the text.
@@ -155,32 +240,34 @@ fn put_file<F: Files>(
     files: &mut F,
     name: &str,
     left: u32,
-    out: &mut Vec<u8>,
+    out: &mut Gathered,
 ) -> Result<(), GatherError>
-    requires { vec_len out.old ≤ longest_gathered }
-    ensures fits { OnOk result (vec_len out.new ≤ longest_gathered) }
+    requires { vec_len out.old.bytes ≤ longest_gathered }
+    ensures fits { OnOk result (vec_len out.new.bytes ≤ longest_gathered) }
     ensures count { F.faults files.old ≤ F.faults files.new }
     ensures holds { F.holds files.new ≡ F.holds files.old }
     ensures begins { OnOk result (BeginsEach (F.holds files.old) (λ held. file_events held left name.now)
         (F.begins files.old) (F.begins files.new)) }
-    ensures put { OnOk result
-        (Puts (F.holds files.old) (λ held. file_events held left name.now) out.old.items (Ok out.new.items)) }
+    ensures put { OnOk result (Puts (F.holds files.old) (λ held. file_events held left name.now)
+        out.old.bytes.items (Ok out.new.bytes.items)) }
+    ensures parts { OnOk result (KeepsParts (F.holds files.old) out.old out.new) }
     ensures cause { IfErr result (λ e. PutCause e (F.holds files.old) (λ held. file_events held left name.now)
-        out.old.items (F.steady files.old) (F.faults files.old) (F.faults files.new)) }
+        out.old.bytes.items (F.steady files.old) (F.faults files.old) (F.faults files.new)) }
     ensures steady { F.steady files.old
         → UnlessFilesFail result (F.steady files.new × (F.faults files.new ≡ F.faults files.old)) }
 {
     let content = read_all(alloc, files, name, MAX_TEXT)?;
     let mut rest = content.as_slice();
-    let mut inside = false;
+    let mut reading = reading_at(1, out);
     while !rest.is_empty() {
         let (line, behind) = rest.split_at(line_len(rest));
-        inside = put_line(alloc, files, name, inside, line, left, out)?;
+        reading = put_line(alloc, files, name, reading, line, left, out)?;
         rest = behind;
     }
-    if inside {
+    if reading.inside {
         return Err(GatherError::Unended);
     }
+    close_part(alloc, name, reading, out)?;
     Ok(())
 }
 
@@ -189,6 +276,7 @@ fn put_file<F: Files>(
 /// A line whose first byte other than a space or a tab is `#`, and that doesn't begin inside a block comment,
 /// is an include line. The text of the file that it names and a line feed stand in its place. Each file is
 /// begun once for each place that includes it. The text has at most 4,194,304 bytes, whatever the files tell.
+/// Each of its parts stands so in its file; all else in it is line feeds.
 ///
 /// # Errors
 /// `Failed` comes only where a call of `files` failed, and on steady files only where they don't hold this
@@ -201,13 +289,17 @@ pub fn gather<F: Files>(alloc: Global, files: &mut F, name: &str) -> Result<Gath
     ensures begins { OnOk result (BeginsEach (F.holds files.old)
         (λ held. file_events held deepest_include name.now) (F.begins files.old) (F.begins files.new)) }
     ensures text { IfOk result (λ g. Gathers (F.holds files.old) name.now (Ok g.bytes.items)) }
+    ensures parts { IfOk result (λ g. AreParts (F.holds files.old) 0 g.parts.items g.bytes.items) }
     ensures cause { IfErr result (λ e. GatherCause e (F.holds files.old) name.now (F.steady files.old)
         (F.faults files.old) (F.faults files.new)) }
     ensures size { IfOk result (λ g. vec_len g.bytes ≤ longest_gathered) }
     ensures steady { F.steady files.old
         → UnlessFilesFail result (F.steady files.new × (F.faults files.new ≡ F.faults files.old)) }
 {
-    let mut bytes = Vec::new(alloc);
-    put_file(alloc, files, name, MAX_DEPTH, &mut bytes)?;
-    Ok(Gathered { bytes })
+    let mut gathered = Gathered {
+        bytes: Vec::new(alloc),
+        parts: Vec::new(alloc),
+    };
+    put_file(alloc, files, name, MAX_DEPTH, &mut gathered)?;
+    Ok(gathered)
 }

@@ -9,7 +9,7 @@ mod places;
 mod reader;
 mod token;
 
-pub use gatherer::{GatherError, Gathered, MAX_DEPTH, MAX_TEXT, gather};
+pub use gatherer::{GatherError, Gathered, MAX_DEPTH, MAX_TEXT, Part, gather};
 pub use laws::{
     comments_over_lines, include_lines, limits_are_told, one_reading, spaced_texts,
     tokens_in_order, tokens_of_their_kinds,

@@ -1,10 +1,17 @@
-use Rattle.std.proofs.Common.{rules, ◌≡◌, ◌<◌, ◌≤◌, ◌-◌, Ok, sym, ◌∙◌, arith, length, false-eqb}
+use Rattle.std.proofs.Common.{rules, ◌≡◌, ◌<◌, ◌≤◌, ◌-◌, ◌++◌, Ok, sym, refl, ap, subst, ◌∙◌, arith, length}
+use Rattle.std.proofs.Common.{false}
+use Rattle.std.proofs.Common.{false-eqb, vec_len}
 use Rattle.std.proofs.lemmas.Result.{err_from_is_err_and, on_ok_weaker}
 use Rattle.tv_lex.specs.Include.{inner_name}
 use Rattle.tv_lex.specs.Gather.{file_events, included, below}
 use Rattle.tv_lex.proofs.Gathering.{read_cause, putting_start, beginning_start, beginning_more, line_cause}
 use Rattle.tv_lex.proofs.Gathering.{line_more, line_cut, cause_within, include_put, include_begins}
-use Rattle.tv_lex.proofs.Gathering.{include_refused}
+use Rattle.tv_lex.proofs.Gathering.{include_refused, Putting, Beginning}
+use Rattle.tv_lex.specs.Parts.{AreParts}
+use Rattle.tv_lex.specs.declared.gatherer.Reading.{Reading}
+use Rattle.tv_lex.proofs.Parting.{feed_more, file_begins, include_put as include_opens, line_in_front}
+use Rattle.tv_lex.proofs.Parting.{line_put}
+use Rattle.tv_lex.proofs.Parting.{line_read, rest_is, rest_shorter}
 use Rattle.tv_lex.proofs.gatherer.+gathering.Goals as goal
 
 pub put_file-returns-in_err-content-clause-cause :
@@ -12,45 +19,56 @@ pub put_file-returns-in_err-content-clause-cause :
 put_file-returns-in_err-content-clause-cause g t c =
     let p = err_from_is_err_and c.from_residual.result c.from_residual.ensures.1 in
     let f = g.F.Files in
-    rw (p.1, p.2) (read_cause c.in_err-content.field-0.0 (f.holds c.args.files.now) c.args.name.now c.args.out.now.items c.args.left (f.steady c.args.files.now) (f.faults c.args.files.now) _ c.in_err-content.ensures.cause)
+    rw (p.1, p.2) (read_cause c.in_err-content.field-0.0 (f.holds c.args.files.now) c.args.name.now c.args.out.now.bytes.items c.args.left (f.steady c.args.files.now) (f.faults c.args.files.now) _ c.in_err-content.ensures.cause)
 
 pub put_file-loop-rest-init : goal.put_file-loop-rest-init
 put_file-loop-rest-init g t c =
     let f = g.F.Files in
     let told = c.in_ok-content.ensures in
-    let fits : length c.in_ok-content.content.items ≤ 4194304 = omega (arith, told.given) in (
-      rw c.as_slice-rest.ensures.value (putting_start (f.holds c.args.files.now) c.args.name.now c.args.out.now.items c.in_ok-content.content.items c.args.left told.content fits),
-      beginning_start (f.holds c.args.files.now) c.args.name.now c.as_slice-rest.result.now c.args.left (f.begins c.args.files.now) (f.begins c.read_all.new.files) (rw c.as_slice-rest.ensures.value told.content) (rw c.as_slice-rest.ensures.value fits) told.begins_once,
+    let fits : length c.in_ok-content.content.items ≤ 4194304 = omega (arith, told.given) in
+    let short : length c.as_slice-rest.result.now ≤ 4194304 = rw c.as_slice-rest.ensures.value fits in
+    let inside : c.reading_at-reading.result.inside ≡ false = ap (λ (r : Reading). r.inside) c.reading_at-reading.ensures in
+    let number : c.reading_at-reading.result.number ≡ 1 = ap (λ (r : Reading). r.number) c.reading_at-reading.ensures in
+    let from : c.reading_at-reading.result.start ≡ vec_len c.args.out.now.bytes = ap (λ (r : Reading). r.start) c.reading_at-reading.ensures in
+    let start : c.reading_at-reading.result.start ≡ length c.args.out.now.bytes.items = omega (arith, from) in (
+      subst (λ b. Putting (f.holds c.args.files.now) c.args.name.now c.args.left c.args.out.now.bytes.items b c.as_slice-rest.result.now c.args.out.now.bytes.items) (sym inside) (rw c.as_slice-rest.ensures.value (putting_start (f.holds c.args.files.now) c.args.name.now c.args.out.now.bytes.items c.in_ok-content.content.items c.args.left told.content fits)),
+      subst (λ b. Beginning (f.holds c.args.files.now) c.args.name.now c.args.left b c.as_slice-rest.result.now (f.begins c.args.files.now) (f.begins c.read_all.new.files)) (sym inside) (beginning_start (f.holds c.args.files.now) c.args.name.now c.as_slice-rest.result.now c.args.left (f.begins c.args.files.now) (f.begins c.read_all.new.files) (rw c.as_slice-rest.ensures.value told.content) (rw c.as_slice-rest.ensures.value fits) told.begins_once),
       told.count,
       told.holds,
       told.steady,
       search rules,
+      omega (arith, number, short),
+      λ parted. file_begins (f.holds c.args.files.now) c.args.name.now c.as_slice-rest.result.now c.args.out.now.bytes.items c.args.out.now.parts.items c.reading_at-reading.result (rw c.as_slice-rest.ensures.value told.content) short parted start (ap (λ (r : Reading). r.first) c.reading_at-reading.ensures) number,
     )
 
-pub put_file-returns-in_err-inside-clause-cause : goal.put_file-returns-in_err-inside-clause-cause
-put_file-returns-in_err-inside-clause-cause g t c =
-    let p = err_from_is_err_and c.from_residual-in_err-inside.result c.from_residual-in_err-inside.ensures.1 in
+pub put_file-returns-in_err-reading-clause-cause : goal.put_file-returns-in_err-reading-clause-cause
+put_file-returns-in_err-reading-clause-cause g t c =
+    let p = err_from_is_err_and c.from_residual-in_err-reading.result c.from_residual-in_err-reading.ensures.1 in
     let f = g.F.Files in
     let inv = c.loop-rest.invariant in
     let rest = c.loop-rest.rest.now in
     let some : 0 < length rest = omega (arith, false-eqb (length rest) 0 c.loop-rest-test.ensures) in
     let cut = line_cut rest c.split_at.result.0.now c.split_at.result.1.now c.line_len.result some c.line_len.ensures c.split_at.ensures.front c.split_at.ensures.back in
-    rw (p.1, p.2) (line_cause c.in_err-inside.field-0.0 (f.holds c.args.files.now) (f.holds c.loop-rest.files) c.args.name.now c.args.out.now.items rest c.loop-rest.out.items c.split_at.result.0.now c.split_at.result.1.now c.args.left c.loop-rest.inside (f.steady c.loop-rest.files) (f.steady c.args.files.now) (f.faults c.args.files.now) (f.faults c.loop-rest.files) _ inv.3 inv.0 cut c.in_err-inside.ensures.cause (λ s. (inv.4 s).0) inv.2)
+    rw (p.1, p.2) (line_cause c.in_err-reading.field-0.0 (f.holds c.args.files.now) (f.holds c.loop-rest.files) c.args.name.now c.args.out.now.bytes.items rest c.loop-rest.out.bytes.items c.split_at.result.0.now c.split_at.result.1.now c.args.left c.loop-rest.reading.inside (f.steady c.loop-rest.files) (f.steady c.args.files.now) (f.faults c.args.files.now) (f.faults c.loop-rest.files) _ inv.3 inv.0 cut c.in_err-reading.ensures.cause (λ s. (inv.4 s).0) inv.2)
 
 pub put_file-loop-rest-preserved : goal.put_file-loop-rest-preserved
 put_file-loop-rest-preserved g t c =
     let f = g.F.Files in
     let inv = c.loop-rest.invariant in
-    let said = c.in_ok-inside.ensures in
+    let said = c.in_ok-reading.ensures in
     let rest = c.loop-rest.rest.now in
     let some : 0 < length rest = omega (arith, false-eqb (length rest) 0 c.loop-rest-test.ensures) in
-    let cut = line_cut rest c.split_at.result.0.now c.split_at.result.1.now c.line_len.result some c.line_len.ensures c.split_at.ensures.front c.split_at.ensures.back in (
-      line_more (f.holds c.args.files.now) (f.holds c.loop-rest.files) c.args.name.now c.args.out.now.items rest c.loop-rest.out.items c.split_at.result.0.now c.split_at.result.1.now c.put_line.new.out.items c.args.left c.loop-rest.inside c.in_ok-inside.inside inv.3 inv.0 cut said.next said.put,
-      beginning_more (f.holds c.args.files.now) (f.holds c.loop-rest.files) c.args.name.now rest c.split_at.result.0.now c.split_at.result.1.now c.args.left c.loop-rest.inside c.in_ok-inside.inside (f.begins c.args.files.now) (f.begins c.loop-rest.files) (f.begins c.put_line.new.files) inv.3 inv.1 cut said.next said.begins,
+    let cut = line_cut rest c.split_at.result.0.now c.split_at.result.1.now c.line_len.result some c.line_len.ensures c.split_at.ensures.front c.split_at.ensures.back in
+    let split = rest_is rest c.split_at.result.0.now c.split_at.result.1.now c.line_len.result c.split_at.ensures.front c.split_at.ensures.back in
+    let is_line = line_in_front rest c.split_at.result.0.now c.split_at.result.1.now c.line_len.result some c.line_len.ensures c.split_at.ensures.front c.split_at.ensures.back in (
+      line_more (f.holds c.args.files.now) (f.holds c.loop-rest.files) c.args.name.now c.args.out.now.bytes.items rest c.loop-rest.out.bytes.items c.split_at.result.0.now c.split_at.result.1.now c.put_line.new.out.bytes.items c.args.left c.loop-rest.reading.inside c.in_ok-reading.reading.inside inv.3 inv.0 cut said.next said.put,
+      beginning_more (f.holds c.args.files.now) (f.holds c.loop-rest.files) c.args.name.now rest c.split_at.result.0.now c.split_at.result.1.now c.args.left c.loop-rest.reading.inside c.in_ok-reading.reading.inside (f.begins c.args.files.now) (f.begins c.loop-rest.files) (f.begins c.put_line.new.files) inv.3 inv.1 cut said.next said.begins,
       omega (arith, inv.2, said.count),
       said.holds ∙ inv.3,
       λ s. let before = inv.4 s in let now = said.steady before.0 in (now.0, now.1 ∙ before.1),
       said.fits,
+      rest_shorter rest c.split_at.result.0.now c.split_at.result.1.now c.loop-rest.reading.number c.in_ok-reading.reading.number split is_line.0 said.number inv.6,
+      λ parted. line_read (f.holds c.args.files.now) (f.holds c.loop-rest.files) c.args.name.now rest c.split_at.result.0.now c.split_at.result.1.now c.loop-rest.out.bytes.items c.put_line.new.out.bytes.items c.loop-rest.out.parts.items c.put_line.new.out.parts.items c.loop-rest.reading c.in_ok-reading.reading inv.3 split is_line (inv.7 parted) said.parts,
     )
 
 pub put_include-returns-in_err-put_file-clause-cause :
@@ -61,7 +79,7 @@ put_include-returns-in_err-put_file-clause-cause g t c =
     let told = f.holds c.args.files.now in
     let name = c.args.name.now in
     let line = c.args.line.now in
-    let old = c.args.out.now.items in
+    let old = c.args.out.now.bytes.items in
     let left = c.args.left in
     let written = c.in-Some.written.now in
     let inner = c.as_str.result.now in
@@ -78,7 +96,7 @@ put_include-returns-clause-put g t c =
     let some : 0 < c.args.left = omega (arith, c.if-left-eq0.false) in
     let named : c.as_str.result.now ≡ inner_name c.args.name.now c.in-Some.written.now = ◌∙◌ {c = inner_name c.args.name.now c.in-Some.written.now} c.as_str.ensures.value c.in_ok-inner.ensures in
     on_ok_weaker c.put_bytes.result
-    (λ gives. include_put told c.args.name.now c.args.line.now c.args.out.now.items c.put_file.new.out.items c.in-Some.written.now c.as_str.result.now c.args.left (Ok c.put_bytes.new.out.items) (sym c.in-Some.ensures) some named c.in_ok-put_file.ensures.put gives)
+    (λ gives. include_put told c.args.name.now c.args.line.now c.args.out.now.bytes.items c.put_file.new.out.bytes.items c.in-Some.written.now c.as_str.result.now c.args.left (Ok c.put_bytes.new.out.items) (sym c.in-Some.ensures) some named c.in_ok-put_file.ensures.put gives)
     c.put_bytes.ensures.put
 
 pub put_include-returns-clause-begins : goal.put_include-returns-clause-begins
@@ -90,3 +108,25 @@ put_include-returns-clause-begins g t c =
     on_ok_weaker c.put_bytes.result
     (λ gives. include_begins told c.args.name.now c.args.line.now c.in-Some.written.now c.as_str.result.now c.args.left (f.begins c.args.files.now) (f.begins c.put_file.new.files) (sym c.in-Some.ensures) some named c.in_ok-put_file.ensures.begins)
     c.put_bytes.ensures.put
+
+pub put_include-returns-clause-parts : goal.put_include-returns-clause-parts
+put_include-returns-clause-parts g t c =
+    let told = g.F.Files.holds c.args.files.now in
+    let parts = c.put_file.new.out.parts.items in
+    on_ok_weaker c.put_bytes.result
+    (λ is. λ parted. subst (AreParts told 0 parts) (sym is) (feed_more told 0 parts c.put_file.new.out.bytes.items (c.in_ok-put_file.ensures.parts parted)))
+    c.put_bytes.ensures.value
+
+pub put_line-returns-then-includes-clause-parts : goal.put_line-returns-then-includes-clause-parts
+put_line-returns-then-includes-clause-parts g t c = λ behind is_line its.
+    let told = g.F.Files.holds c.args.files.now in
+    let more = c.put_include.new.out.bytes.items in
+    let closed = c.in_ok-close_part.ensures.parts told (c.args.line.now ++ behind) its in
+    let from : c.reading_at.result.start ≡ vec_len c.put_include.new.out.bytes = ap (λ (r : Reading). r.start) c.reading_at.ensures in
+    let start : c.reading_at.result.start ≡ length more = omega (arith, from) in
+    include_opens told c.args.name.now c.args.line.now behind c.args.out.now.bytes.items more c.args.out.now.parts.items c.put_include.new.out.parts.items c.args.reading c.reading_at.result is_line its (c.in_ok-put_include.ensures.parts closed) start (ap (λ (r : Reading). r.first) c.reading_at.ensures) (ap (λ (r : Reading). r.number) c.reading_at.ensures)
+
+pub put_line-returns-clause-parts : goal.put_line-returns-clause-parts
+put_line-returns-clause-parts g t c = λ behind is_line its.
+    let told = g.F.Files.holds c.args.files.now in
+    line_put told c.args.name.now c.args.line.now behind c.args.out.now.bytes.items c.put_bytes.new.out.items c.args.out.now.parts.items c.args.reading _ is_line its c.in_ok-put_bytes.ensures.value refl refl refl

@@ -1,5 +1,6 @@
 use Rattle.std.proofs.Common.{◌≡◌, ◌+◌, ◌*◌, ◌≤◌, length, vec_len}
 use Rattle.tv_lex.specs.Gather.{longest_gathered}
+use Rattle.tv_lex.specs.Parts.{AreParts, IsOpen}
 use Rattle.tv_lex.proofs.Gathering.{Putting, Beginning}
 use Rattle.tv_lex.proofs.gatherer.+gathering.Given as goal
 
@@ -16,12 +17,15 @@ decreases-put_line g l = 3 * l.left + 1
 abbrev pub invariant-put_file-loop-rest : goal.invariant-put_file-loop-rest
 invariant-put_file-loop-rest g l =
     let f = g.F.Files in
-    Putting (f.holds l.fn.files) l.name l.left l.fn.out.items l.inside l.rest l.out.items
-    × Beginning (f.holds l.fn.files) l.name l.left l.inside l.rest (f.begins l.fn.files) (f.begins l.files)
+    Putting (f.holds l.fn.files) l.name l.left l.fn.out.bytes.items l.reading.inside l.rest l.out.bytes.items
+    × Beginning (f.holds l.fn.files) l.name l.left l.reading.inside l.rest (f.begins l.fn.files) (f.begins l.files)
     × (f.faults l.fn.files ≤ f.faults l.files)
     × (f.holds l.files ≡ f.holds l.fn.files)
     × (f.steady l.fn.files → f.steady l.files × (f.faults l.files ≡ f.faults l.fn.files))
-    × (vec_len l.out ≤ longest_gathered)
+    × (vec_len l.out.bytes ≤ longest_gathered)
+    × (l.reading.number + length l.rest ≤ longest_gathered + 1)
+    × (AreParts (f.holds l.fn.files) 0 l.fn.out.parts.items l.fn.out.bytes.items
+    → IsOpen (f.holds l.fn.files) l.name l.rest l.out.bytes.items l.out.parts.items l.reading)
 
 abbrev pub decreases-put_file-loop-rest : goal.decreases-put_file-loop-rest
 decreases-put_file-loop-rest g l = length l.rest
