@@ -2,15 +2,12 @@
 #![tactic(auto)]
 
 mod call;
-mod real_files;
-mod real_sink;
 
-use call::{Streams, called};
-use real_files::RealFiles;
-use real_sink::RealSink;
+use call::called;
 use std::env;
 use std::io::{Stderr, Stdout};
 use std::process::ExitCode;
+use tv_real::{RealFiles, RealSink, Streams};
 
 fn main(rt: HostRuntime) -> ExitCode {
     called(

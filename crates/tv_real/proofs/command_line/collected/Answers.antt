@@ -1,7 +1,7 @@
 use Rattle.std.proofs.Common.{ap, sym, ◌∙◌}
 use Rattle.std.specs.Vec.Iter.{into_iter_items}
-use Rattle.tvla.proofs.Collected.{all_given}
-use Rattle.tvla.proofs.call.collected.Goals as goal
+use Rattle.tv_real.proofs.Collected.{all_given}
+use Rattle.tv_real.proofs.command_line.collected.Goals as goal
 
 pub returns : goal.returns
 returns c =

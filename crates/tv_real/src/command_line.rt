@@ -1,0 +1,71 @@
+//! The arguments of a program, and its two streams.
+
+ghost use Rattle.std.specs.Prelude.{◌≡◌, ◌⊎◌, drop, IfOk};
+ghost use Rattle.std.specs.Vec.Iter.{into_iter_items};
+ghost use Rattle.tv_outside.specs.Count.{Rose};
+ghost use Rattle.tv_outside.specs.Told.{TookFront, appended};
+ghost use Rattle.tv_status.specs.Status.{text_of};
+ghost use Rattle.tv_real.specs.Ended.{AreArguments};
+
+use std::alloc::{AllocError, Global};
+use std::env::Args;
+use std::io;
+use std::io::ErrorKind;
+use tv_outside::Sink;
+use tv_status::{Status, write_status};
+
+/// The streams that a call gives its texts to.
+#[derive(Drop)]
+pub struct Streams<O, E> {
+    /// Takes what was asked for.
+    pub out: O,
+    /// Takes why it isn't given.
+    pub err: E,
+}
+
+/// The arguments in order, none where they can't be told as text.
+///
+/// # Errors
+/// Want of memory, also where it kept the arguments from being told.
+pub fn arguments(alloc: Global, args: io::Result<Args>) -> Result<Vec<String>, AllocError>
+    ensures { IfOk result (λ all. AreArguments args all.items) }
+{
+    match args {
+        Ok(args) => collected(alloc, args),
+        Err(error) if error.kind() == ErrorKind::OutOfMemory => Err(AllocError),
+        Err(_) => Ok(Vec::new(alloc)),
+    }
+}
+
+fn collected(alloc: Global, args: Args) -> Result<Vec<String>, AllocError>
+    ensures { IfOk result (λ all. all.items ≡ into_iter_items args) }
+{
+    let mut all = Vec::new(alloc);
+    for word in args {
+        all.push(word)?;
+    }
+    Ok(all)
+}
+
+/// All but the first of the arguments, which is the program's name.
+pub fn behind_the_name(all: &[String]) -> &[String]
+    ensures { result.now ≡ drop 1 all.now }
+{
+    match all {
+        [] => all,
+        [_, words @ ..] => words,
+    }
+}
+
+/// Tells that there is no memory, not even for the words.
+pub fn without_memory<E: Sink>(err: &mut E) -> Status
+    ensures { ((result ≡ Status.Memory)
+        × (E.taken err.new ≡ appended (E.taken err.old) (text_of Status.Memory)))
+        ⊎ ((result ≡ Status.WriteFault) × Rose (E.faults err.old) (E.faults err.new)
+        × TookFront (E.taken err.old) (E.taken err.new) (text_of Status.Memory)) }
+{
+    match write_status(err, Status::Memory) {
+        Ok(()) => Status::Memory,
+        Err(_) => Status::WriteFault,
+    }
+}
