@@ -8,3 +8,4 @@ mod SlotLaws
 mod SymbolLaws
 mod Weights
 mod PickLaws
+mod BindingLaws

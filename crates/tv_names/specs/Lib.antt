@@ -5,4 +5,5 @@ pub mod Resolving
 pub mod Picks
 pub mod Copies
 pub mod Quantifiers
+pub mod Binding
 pub mod Numbers

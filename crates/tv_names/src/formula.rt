@@ -8,6 +8,7 @@ ghost use Rattle.tv_model.specs.Form.{Form, form_of, vars_of, FExists, FForall};
 ghost use Rattle.tv_names.specs.declared.place.Others.TheVariants.{Once};
 ghost use Rattle.tv_names.specs.Refusal.{GivesOrRefuses};
 ghost use Rattle.tv_names.specs.Quantifiers.{quantifier_of};
+ghost use Rattle.tv_names.specs.Binding.{quantified_in_turn};
 ghost use Rattle.tv_tree.specs.Names.{name_text};
 ghost use Rattle.tv_names.specs.Naming.{number_of};
 ghost use Rattle.tv_names.specs.Copies.{naming_of, place_form};
@@ -16,6 +17,7 @@ ghost use Rattle.tv_names.specs.Resolving.{two_occurrences, terms, pred_at, new_
 ghost use Rattle.tv_names.specs.Resolving.{closable, star, star_of, closure_of, under, quantified, two_bound};
 ghost use Rattle.tv_names.specs.Resolving.{resolved};
 
+use crate::binding::{Quantifier, bind_all};
 use crate::naming::Naming;
 use crate::place::{Others, Place};
 use crate::refusal::ResolveError;
@@ -348,25 +350,6 @@ fn two_bound<'a>(
     Ok((a, b))
 }
 
-/// A quantifier.
-#[derive(Clone, Copy, Debug)]
-enum Quantifier {
-    Exists,
-    Forall,
-}
-
-impl Quantifier {
-    fn over(self, alloc: Global, v: u8, body: Formula) -> Result<Formula, AllocError>
-        ensures { IfOk result (λ f. form_of f ≡ quantifier_of self v (form_of body)) }
-    {
-        let body = Box::new(alloc, body)?;
-        Ok(match self {
-            Quantifier::Exists => Formula::Exists(Var(v), body),
-            Quantifier::Forall => Formula::Forall(Var(v), body),
-        })
-    }
-}
-
 #[cycle(resolve)]
 fn boxed<'a>(
     alloc: Global,
@@ -380,40 +363,23 @@ fn boxed<'a>(
     Ok(Box::new(alloc, resolve_formula(alloc, place, f, naming)?)?)
 }
 
-// The body under quantifiers of the names from this one on.
+// The body under quantifiers of the names.
 #[cycle(resolve)]
 fn quantified<'a>(
     alloc: Global,
     place: &Place<'_>,
     quantifier: Quantifier,
     names: &'a [Spelling],
-    at: usize,
     body: &'a FormulaTree,
     naming: &mut Naming<'a>,
 ) -> Result<Formula, ResolveError>
-    requires { at ≤ length names.now }
     ensures { GivesOrRefuses (λ f. (form_of f, naming_of naming.new)) result
-        (quantified (quantifier_of quantifier) (λ inner t. resolved inner (tree_of body.now) t)
-        (place_form place.now) (take at names.now) (drop at names.now) (naming_of naming.old)) }
+        (quantified_in_turn (quantifier_of quantifier) (λ inner t. resolved inner (tree_of body.now) t)
+        (place_form place.now) names.now (naming_of naming.old)) }
 {
-    if at == names.len() {
-        return resolve_formula(alloc, place, body, naming);
-    }
-    let name = &names[at];
-    if is_among(&names[..at], &name.0) {
-        return Err(ResolveError::NameTwice);
-    }
-    let v = naming.sight(&name.0)?;
-    let inner = quantified(
-        alloc,
-        &place.under(v),
-        quantifier,
-        names,
-        at + 1,
-        body,
-        naming,
-    )?;
-    Ok(quantifier.over(alloc, v, inner)?)
+    let bound = bind_all(alloc, place, names, naming)?;
+    let f = resolve_formula(alloc, &bound.place, body, naming)?;
+    Ok(quantifier.over_all(alloc, bound.vars, f)?)
 }
 
 #[cycle(resolve)]
@@ -523,7 +489,6 @@ pub fn resolve_formula<'a>(
             place,
             Quantifier::Exists,
             names.as_slice(),
-            0,
             g,
             naming,
         ),
@@ -532,7 +497,6 @@ pub fn resolve_formula<'a>(
             place,
             Quantifier::Forall,
             names.as_slice(),
-            0,
             g,
             naming,
         ),

@@ -1,6 +1,7 @@
 //! The numbers of predicates and of variables, and the resolution of one formula.
 #![tactic(auto)]
 
+mod binding;
 mod formula;
 mod laws;
 mod naming;

@@ -1,4 +1,4 @@
-use Rattle.std.proofs.Common.{◌+◌, ◌-◌, length}
+use Rattle.std.proofs.Common.{◌+◌}
 use Rattle.tv_tree.specs.Copies.{form_of}
 use Rattle.tv_names.proofs.Weights.{weight}
 use Rattle.tv_names.proofs.formula.+resolve.Given as goal
@@ -7,7 +7,7 @@ abbrev pub decreases-boxed : goal.decreases-boxed
 decreases-boxed l = weight (form_of l.f.now) + 1
 
 abbrev pub decreases-quantified : goal.decreases-quantified
-decreases-quantified l = (length l.names.now - l.at) + weight (form_of l.body.now) + 1
+decreases-quantified l = weight (form_of l.body.now) + 1
 
 abbrev pub decreases-implication : goal.decreases-implication
 decreases-implication l = weight (form_of l.f.now) + weight (form_of l.g.now) + 2
