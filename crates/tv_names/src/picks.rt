@@ -1,8 +1,8 @@
 //! The variables that a step picks.
 
-ghost use Rattle.std.specs.Prelude.{ℕ, List, ◌≡◌, ◌==◌, ◌∷◌, ◌++◌, [], OnOk, IfOk, get_or, false};
+ghost use Rattle.std.specs.Prelude.{ℕ, List, ◌≡◌, ◌≤◌, ◌==◌, ◌∷◌, ◌++◌, [], OnOk, IfOk, get_or, false};
 ghost use Rattle.std.specs.List.{list_any};
-ghost use Rattle.tv_model.specs.Form.{form_of, vars_of};
+ghost use Rattle.tv_model.specs.Form.{form_of, height, vars_of};
 ghost use Rattle.tv_model.specs.Program.{picks_of};
 ghost use Rattle.tv_model.specs.Valid.{free_occurrences, without};
 ghost use Rattle.tv_names.specs.Picks.{picks_in, is_one_of, with_pick, with_picks, unbound};
@@ -76,12 +76,29 @@ fn pick_terms(bound: &Bound, terms: &Terms, picks: &mut Vec<Var>) -> Result<(), 
     }
 }
 
+// What the quantifiers over `v` and at the head of `f` bind too, and what stands under them; without
+// recursion, since a text may have thousands of them one in the other.
+fn below<'f>(bound: &Bound, v: Var, f: &'f Formula) -> (Bound, &'f Formula)
+    ensures occurrences { unbound result.0.flags (free_occurrences (form_of result.1.now))
+        ≡ unbound bound.now.flags (without v.0 (free_occurrences (form_of f.now))) }
+    ensures part { height (form_of result.1.now) ≤ height (form_of f.now) }
+{
+    let mut inner = bound.with(v);
+    let mut body = f;
+    while let Formula::Exists(w, g) | Formula::Forall(w, g) = body {
+        inner = inner.with(*w);
+        body = g;
+    }
+    (inner, body)
+}
+
 #[cycle(pick)]
 fn pick_under(bound: &Bound, v: Var, f: &Formula, picks: &mut Vec<Var>) -> Result<(), AllocError>
     ensures { OnOk result (picks_of picks.new.items ≡ with_picks (picks_of picks.old.items)
         (unbound bound.now.flags (without v.0 (free_occurrences (form_of f.now))))) }
 {
-    pick_all(&bound.with(v), f, picks)
+    let (inner, body) = below(bound, v, f);
+    pick_all(&inner, body, picks)
 }
 
 #[cycle(pick)]
