@@ -7,6 +7,6 @@ pub mod Keeping
 pub mod Loops
 pub mod Parts
 pub mod Programs
-pub mod Quantifying
 pub mod Rooms
+pub mod Runs
 pub mod RowLaws

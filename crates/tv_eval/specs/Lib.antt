@@ -6,7 +6,8 @@ pub mod Formulas
 pub mod HoldsClosure
 pub mod Keeps
 pub mod Laws
-pub mod Quantified
+pub use Rattle.tv_quantifiers.specs.Quantified
+pub use Rattle.tv_quantifiers.specs.Runs
 pub mod ScratchForm
 pub mod Sound
 pub mod Rows

@@ -1,11 +1,16 @@
 //! What the variables of a formula stand for.
 
-ghost use Rattle.std.specs.Prelude.{ℕ, ◌≡◌, ◌<◌, ◌==◌, Some, None, if◌then◌else◌, slice_set};
+ghost use Rattle.std.specs.Prelude.{ℕ, ◌≡◌, ◌<◌, ◌==◌, List, Some, None, if◌then◌else◌, slice_set};
+ghost use Rattle.tv_model.specs.Form.{Form};
 ghost use Rattle.tv_model.specs.Truth.{put};
+ghost use Rattle.tv_struct.specs.StructureForm.{StructureForm};
+ghost use Rattle.tv_quantifiers.specs.Runs.{AreVariables, AreWithin, placed, under_run};
 ghost use Rattle.tv_eval.specs.AssignmentForm.{individual_for, assignment_of};
+ghost use Rattle.tv_eval.specs.CanEvaluate.{CanEvaluate};
 
 use std::marker::Model;
 use tv_model::Var;
+use tv_quantifiers::Level;
 
 /// A finite map from the 32 variables of formulas to individuals.
 #[derive(Clone, Copy, Debug)]
@@ -54,6 +59,19 @@ impl Assignment {
         ensures total { assignment_of self.new ≡ put (assignment_of self.old) v.0 u }
     {
         self.places[v.0 as usize] = Some(u);
+    }
+
+    /// The assignment with the individuals at hand put for the variables of a run.
+    pub(crate) fn at_hand(&self, levels: &[Level]) -> Assignment
+        requires { AreVariables levels.now }
+        ensures total { assignment_of result ≡ placed (assignment_of self.now) levels.now }
+        ensures parts { (s : StructureForm) (sizes : List ℕ) (f : Form) → AreWithin s.size levels.now
+            → CanEvaluate s self.now sizes (under_run levels.now f) → CanEvaluate s result sizes f }
+    {
+        match levels.split_first() {
+            None => *self,
+            Some((level, inner)) => (*self).with(level.var, level.at).at_hand(inner),
+        }
     }
 
     /// The individual that the variable stands for, if there is one.

@@ -13,7 +13,7 @@ ghost use Rattle.tv_eval.specs.CanEvaluate.{CanEvaluate};
 use crate::Assignment;
 use crate::leaves::{atom, is_new, same};
 use tv_kleene::K3;
-use tv_model::{Formula, PredId, Terms, Var, free};
+use tv_model::{PredId, Terms, Var};
 use tv_row::Word;
 use tv_struct::{Structure, Tuple};
 
@@ -163,31 +163,4 @@ fn same_as(u: u32, chunk: u32, s: &Structure) -> Word
     ensures { IsWordOf s.now.size chunk (λ w. same_value (structure_of s.now) w u) result }
 {
     alone_at(u, same(s, u, u), chunk)
-}
-
-/// Whether a quantifier over `w` takes longer with `v` put for all individuals at a time than one after the
-/// other: where `v` isn't free in its body, or more atoms are read as columns. A column takes longer than
-/// a row.
-pub fn is_slow_along(body: &Formula, v: Var, w: Var) -> bool {
-    if !free(body, v) {
-        return true;
-    }
-    let count = columns(body, v);
-    count > 0 && count > columns(body, w)
-}
-
-/// How many atoms are read as columns where the variable is put for all individuals: they have it first
-/// and another variable second.
-fn columns(f: &Formula, v: Var) -> usize {
-    match f {
-        Formula::Atom(_, Terms::Two(x, y)) => usize::from(x.0 == v.0 && y.0 != v.0),
-        Formula::Not(g) | Formula::Exists(_, g) | Formula::Forall(_, g) => columns(g, v),
-        Formula::And(g, h) | Formula::Or(g, h) | Formula::Iff(g, h) => {
-            columns(g, v).saturating_add(columns(h, v))
-        }
-        Formula::Cond(c, g, h) => columns(c, v).saturating_add(columns(g, v).saturating_add(columns(
-            h, v,
-        ))),
-        _ => 0,
-    }
 }

@@ -12,19 +12,17 @@ ghost use Rattle.tv_eval.specs.AssignmentForm.{assignment_of};
 ghost use Rattle.tv_eval.specs.CanEvaluate.{CanEvaluate};
 ghost use Rattle.tv_eval.specs.Formulas.{HasRooms, nesting, sizes_of};
 ghost use Rattle.tv_eval.specs.Keeps.{HoldsClosures};
-ghost use Rattle.tv_eval.specs.Quantified.{quantified};
+ghost use Rattle.tv_quantifiers.specs.Quantified.{quantified};
 ghost use Rattle.tv_eval.specs.Rows.{IsPart, IsSquare, part_at};
 
 use crate::Assignment;
 use crate::kept::{Edges, Kept, has_outer};
-use crate::leaf_words::{
-    atom_word, chunks, constant_word, is_slow_along, new_word, places, same_word,
-};
+use crate::leaf_words::{atom_word, chunks, constant_word, new_word, places, same_word};
 use crate::leaves::{atom, is_new, same};
-use crate::quantifier::Quantifier;
 use crate::relation::{Part, Relation};
 use tv_kleene::K3;
 use tv_model::{Formula, Var, free};
+use tv_quantifiers::{Quantifier, advance, begins_long_run, is_slow_along, opened};
 use tv_row::{Row, Word};
 use tv_struct::Structure;
 
@@ -194,6 +192,9 @@ fn quantify<'f>(
     ensures rooms { sizes_of rooms.new ≡ sizes_of rooms.old }
     ensures kept { HoldsClosures s.now kept.new shared.new }
 {
+    if s.size() > 0 && begins_long_run(body) {
+        return run(q, v, body, s, a, rooms, kept, shared);
+    }
     let mut found = K3::No;
     for chunk in 0..chunks(s.size()) {
         let word = word_of(body, v, chunk, s, a, rooms, kept, shared);
@@ -204,6 +205,38 @@ fn quantify<'f>(
         }
     }
     q.turned(found)
+}
+
+/// The same, where many quantifiers stand one in the other: without recursion, one list of individuals after
+/// the other.
+#[cycle(values)]
+#[inline(never)]
+fn run<'f>(
+    q: Quantifier,
+    v: Var,
+    body: &'f Formula,
+    s: &Structure,
+    a: &Assignment,
+    rooms: &mut [Relation],
+    kept: &mut Kept<'f>,
+    shared: &mut [Relation],
+) -> K3
+    requires parts { CanEvaluate s.now a.now (sizes_of rooms.old) (FExists v.0 (form_of body.now)) }
+    requires some { 0 < s.now.size }
+    requires kept { HoldsClosures s.now kept.old shared.old }
+    ensures exact { result
+        ≡ value (structure_of s.now) (assignment_of a.now) (quantified q v.0 (form_of body.now)) }
+    ensures rooms { sizes_of rooms.new ≡ sizes_of rooms.old }
+    ensures kept { HoldsClosures s.now kept.new shared.new }
+{
+    let (mut levels, part) = opened(q, v, body);
+    loop {
+        let here = a.at_hand(levels.as_slice());
+        let value = value_of(part, s, &here, rooms, kept, shared);
+        if let Some(whole) = advance(levels.as_mut_slice(), value, s.size()) {
+            return whole;
+        }
+    }
 }
 
 /// The value of a transitive closure.

@@ -11,14 +11,14 @@ use Rattle.tv_kleene.specs.Kleene.{smaller_of, larger_of, negation_of}
 use Rattle.tv_model.specs.Form.{Form, FExists, FClosure, form_of}
 use Rattle.tv_model.specs.Truth.{put}
 use Rattle.tv_row.specs.Places.{entry_in}
-use Rattle.tv_struct.specs.StructureForm.{structure_of}
+use Rattle.tv_struct.specs.StructureForm.{arities_of, structure_of}
 use Rattle.tv_eval_laws.specs.Value.{value, greatest_of, best_walk}
 use Rattle.tv_eval.specs.Along.{IsWordOf, values_along}
 use Rattle.tv_eval.specs.AssignmentForm.{assignment_of}
 use Rattle.tv_eval.specs.CanEvaluate.{CanEvaluate}
 use Rattle.tv_eval.specs.Formulas.{sizes_of, nesting}
 use Rattle.tv_eval.specs.HoldsClosure.{HoldsClosure}
-use Rattle.tv_eval.specs.Quantified.{quantified, turned}
+use Rattle.tv_quantifiers.specs.Quantified.{quantified, turned}
 use Rattle.tv_eval.specs.Rows.{IsSquare, part_at}
 use Rattle.tv_eval.specs.declared.relation.Part.TheVariants.{From, To, Diagonal}
 use Rattle.tv_eval.proofs.AlongLaws.{rows_put, put_same, put_other, put_steady, puts_commute, closure_at}
@@ -31,7 +31,10 @@ use Rattle.tv_eval.proofs.Loops.{greatest-yes, told-equal}
 use Rattle.tv_eval.proofs.Parts.{individual_of, rooms-split, SplitsRooms, can-put, like-itself, like-again}
 use Rattle.tv_eval.proofs.Parts.{put-again, total-again, row-and, row-or, row-iff, row-cond, row-put}
 use Rattle.tv_eval.proofs.Parts.{row-steady}
-use Rattle.tv_eval.proofs.Quantifying.{quantified-value}
+use Rattle.tv_quantifiers.proofs.Quantifying.{quantified-value}
+use Rattle.tv_quantifiers.specs.Runs.{AreVariables, AreWithin, under_run}
+use Rattle.tv_quantifiers.proofs.Running.{fresh-within}
+use Rattle.tv_eval.proofs.Runs.{are-variables, can-open, owed-first}
 use Rattle.tv_eval.proofs.values.+values.Goals as goal
 
 pub value_of-returns-in-Exists-clause-exact : goal.value_of-returns-in-Exists-clause-exact
@@ -708,3 +711,46 @@ closure_word-closure-requires t c = (
     c.requires.kept,
   ),
 )
+
+pub run-loop-whole-init : goal.run-loop-whole-init
+run-loop-whole-init t c = (
+  refl,
+  c.requires.kept,
+  fresh-within c.args.s.now.size c.opened-levels.result.0.items c.requires.some c.opened-levels.ensures.run.fresh,
+  can-open c.args.q c.args.s.now c.args.a.now (sizes_of c.args.rooms.now) c.args.v.0 (form_of c.args.body.now)
+      (form_of c.opened-levels.result.1.now) c.opened-levels.result.0.items c.requires.parts
+      c.opened-levels.ensures.run,
+  c.opened-levels.ensures.part,
+  owed-first c.args.q c.args.s.now c.args.a.now c.args.v.0 (form_of c.args.body.now)
+      (form_of c.opened-levels.result.1.now) c.opened-levels.result.0.items c.requires.some
+      c.opened-levels.ensures.run,
+)
+
+pub run-at_hand-here-requires : goal.run-at_hand-here-requires
+run-at_hand-here-requires t c =
+    subst AreVariables (sym c.as_slice.ensures.value)
+    (are-variables (arities_of c.args.s.now) c.loop-whole.levels.items (form_of c.opened-levels.result.1.now)
+    c.loop-whole.invariant.3.formula)
+
+pub run-value_of-value-requires : goal.run-value_of-value-requires
+run-value_of-value-requires t c = (
+  omega (arith, c.loop-whole.invariant.4, c.decreases),
+  (
+    subst (λ sizes. CanEvaluate c.args.s.now c.at_hand-here.result sizes (form_of c.opened-levels.result.1.now))
+        (sym c.loop-whole.invariant.0)
+        (c.at_hand-here.ensures.parts c.args.s.now (sizes_of c.args.rooms.now)
+        (form_of c.opened-levels.result.1.now)
+        (subst (AreWithin c.args.s.now.size) (sym c.as_slice.ensures.value) c.loop-whole.invariant.2)
+        (subst (λ ls. CanEvaluate c.args.s.now c.args.a.now (sizes_of c.args.rooms.now)
+        (under_run ls (form_of c.opened-levels.result.1.now))) (sym c.as_slice.ensures.value)
+        c.loop-whole.invariant.3)),
+    c.loop-whole.invariant.1,
+  ),
+)
+
+pub run-advance-requires : goal.run-advance-requires
+run-advance-requires t c =
+    rw (c.as_mut_slice.ensures.value, c.size.ensures.size) c.loop-whole.invariant.2
+
+pub run-returns-in-Some-clause-rooms : goal.run-returns-in-Some-clause-rooms
+run-returns-in-Some-clause-rooms t c = c.value_of-value.ensures.rooms ∙ c.loop-whole.invariant.0

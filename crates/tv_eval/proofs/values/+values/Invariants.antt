@@ -1,5 +1,5 @@
 -- Each function goes down the formula.
-use Rattle.std.proofs.Common.{ℕ, ◌≡◌, ◌+◌, ◌-◌, ◌*◌, ◌<◌, max, [], length, get_or}
+use Rattle.std.proofs.Common.{ℕ, ◌≡◌, ◌+◌, ◌-◌, ◌*◌, ◌<◌, ◌≤◌, max, [], length, get_or}
 use Rattle.tv_model.specs.Form.{form_of, height}
 use Rattle.tv_model.specs.Truth.{put}
 use Rattle.tv_row.specs.Places.{entry_in}
@@ -11,7 +11,9 @@ use Rattle.tv_kleene.specs.Kleene.{larger_of}
 use Rattle.tv_eval.specs.AssignmentForm.{assignment_of}
 use Rattle.tv_eval.specs.Formulas.{sizes_of}
 use Rattle.tv_eval.specs.Keeps.{HoldsClosures}
-use Rattle.tv_eval.specs.Quantified.{turned}
+use Rattle.tv_eval.specs.CanEvaluate.{CanEvaluate}
+use Rattle.tv_quantifiers.specs.Quantified.{quantified, turned}
+use Rattle.tv_quantifiers.specs.Runs.{AreWithin, left, owed, placed, under_run}
 use Rattle.tv_eval.proofs.AlongWords.{FilledTo, HasWords, JoinedTo}
 use Rattle.tv_eval.proofs.Parts.{IsLike}
 use Rattle.tv_eval.proofs.values.+values.Given as goal
@@ -119,3 +121,21 @@ invariant-quantified_word-loop-x l =
     (λ u x. turned l.q (value (structure_of l.s) (put (put (assignment_of l.a) l.v.0 u) l.w.0 x) (form_of l.body)))
     l.found
     × IsLike l.a l.w.0 l.here
+
+abbrev pub decreases-run : goal.decreases-run
+decreases-run l = 8 * height (form_of l.body.now) + 6
+
+-- what is found with what is owed gives the whole
+abbrev pub invariant-run-loop-whole : goal.invariant-run-loop-whole
+invariant-run-loop-whole l =
+    (sizes_of l.rooms ≡ sizes_of l.initial.rooms)
+    × HoldsClosures l.s l.kept l.shared
+    × AreWithin l.s.size l.levels.items
+    × CanEvaluate l.s l.a (sizes_of l.initial.rooms) (under_run l.levels.items (form_of l.part))
+    × (height (form_of l.part) ≤ height (form_of l.body))
+    × (owed (structure_of l.s) l.s.size (assignment_of l.a) l.levels.items (form_of l.part)
+    (value (structure_of l.s) (placed (assignment_of l.a) l.levels.items) (form_of l.part))
+    ≡ value (structure_of l.s) (assignment_of l.a) (quantified l.fn.q l.fn.v.0 (form_of l.body)))
+
+abbrev pub decreases-run-loop-whole : goal.decreases-run-loop-whole
+decreases-run-loop-whole l = left l.s.size l.levels.items

@@ -7,9 +7,9 @@ use Rattle.tv_model.specs.Form.{Form}
 use Rattle.tv_model.specs.Truth.{Assignment, put}
 use Rattle.tv_embedding_laws.specs.LogicalStructure.{LogicalStructure}
 use Rattle.tv_eval_laws.specs.Value.{value, greatest_of, least_of}
-use Rattle.tv_eval.specs.Quantified.{quantified, turned}
-use Rattle.tv_eval.specs.declared.quantifier.Quantifier.{Quantifier}
-use Rattle.tv_eval.specs.declared.quantifier.Quantifier.TheVariants.{Exists, Forall}
+use Rattle.tv_quantifiers.specs.Quantified.{quantified, turned}
+use Rattle.tv_quantifiers.specs.declared.quantifier.Quantifier.{Quantifier}
+use Rattle.tv_quantifiers.specs.declared.quantifier.Quantifier.TheVariants.{Exists, Forall}
 
 pub map-turned : (xs : List K3) → xs ≡ map (turned Exists) xs
 map-turned [] = refl

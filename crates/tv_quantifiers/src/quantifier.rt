@@ -2,7 +2,7 @@
 
 ghost use Rattle.std.specs.Prelude.{◌≡◌, ◌≤◌, map};
 ghost use Rattle.tv_row.specs.Bits.{padded};
-ghost use Rattle.tv_eval.specs.Quantified.{turned};
+ghost use Rattle.tv_quantifiers.specs.Quantified.{turned};
 
 use tv_kleene::K3;
 use tv_row::Word;

@@ -1,0 +1,3 @@
+pub mod Quantifying
+pub mod Running
+pub mod Opening
