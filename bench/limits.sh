@@ -22,8 +22,8 @@ import argparse, filecmp, os, shutil, sys, tempfile
 sys.path.insert(0, "bench")
 import texts
 from call import measured
-from texts import (BLOCKS, DEEP, DEEPEST, EMPTY, ONE, PLACES, TAIL, analyze, at_places, chain, check, deep,
-                   fill, individuals, names_apart, replay, source)
+from texts import (BLOCKS, DEEP, DEEPEST, EMPTY, ONE, PLACES, TAIL, analyze, chain, check, deep, fill,
+                   individuals, names_apart, replay, source)
 
 MIB4, MIB64 = 4_194_304, 67_108_864
 FACTOR, ENOUGH = 10, 2.0  # so many times the other's time, or so many seconds, are no fault
@@ -89,8 +89,6 @@ for kind in DEEP:
         lambda size, kind=kind: deep(kind, ["definition"], size, "--delta"))
     row(f"{DEEPEST} deep: {kind}, at each place, without individuals, joined", DEEPEST)(
         lambda size, kind=kind: (["join", "p", "i"], deep(kind, PLACES, size, initial=EMPTY)[1]))
-row("30 quantifiers of 31 variables, one in the other", 30)(
-    lambda size: analyze(at_places(texts.many_variables(size, 31), ["precondition"]), ONE))
 for kind in BLOCKS:
     row(f"source: {kind}, 199 deep", 199)(lambda size, kind=kind: texts.blocks(kind, size))
 for text in ("!", "(", "E(v) ", "TC(a, b)(c, d) ", "b() & ", "b() ? "):

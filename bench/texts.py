@@ -155,6 +155,15 @@ def by_turns(first, second, atom):
     return lambda depth: (first + second) * (depth // 2) + atom
 
 
+MANY = [f"a{k}" for k in range(31)]  # as many variables as a quantifier may have beside one that is free
+ALL_USED = "(" + " | ".join(f"{v} == {w}" for v, w in zip(MANY, MANY[1:])) + ")"
+
+
+def of_many(marks, behind=""):
+    """Quantifiers of many variables by turns, each with the same behind it."""
+    return [f"{mark}({', '.join(MANY)}) {behind}" for mark in marks]
+
+
 TURNED = by_turns("TC(v, w)(a, b) ", "TC(a, b)(v, w) ", "n(v, w)")
 DEEP = {
     "!": before("!", "b()"),
@@ -176,13 +185,12 @@ DEEP = {
     "! and E": by_turns("!", "E(v) ", "x(v)"),
     "quantifiers over a connective": lambda depth: "E(v) x(v) & " * (depth // 2) + "b()",
     "closures": lambda depth: "E(v, w) " + TURNED(depth - 1),
+    "E of 31 variables": before(*of_many("E"), "x(a0)"),
+    "E and A of 31 variables": by_turns(*of_many("EA"), "x(a0)"),
+    # each body has all 31 variables, so that none of the quantifiers can be passed over
+    "E and A of 31 variables, all used":
+        lambda depth: by_turns(*of_many("EA", ALL_USED + " & "), "b()")(max(0, (depth - len(MANY)) // 2 - 2)),
 }
-
-
-def many_variables(depth, count):
-    """So many quantifiers, one in the other, each of so many variables."""
-    names = ", ".join(f"a{k}" for k in range(count))
-    return f"E({names}) " * depth + "x(a0)"
 
 
 PREDS = "%p b()\n%p c()\n%p x(v)\n%p n(v, w)\n"
