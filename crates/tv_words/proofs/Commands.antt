@@ -30,14 +30,14 @@ once_few true = omega arith
 once_few false = omega arith
 
 -- lines that are the same but for counts of 255 and more
-record AreAlike (a b : LineForm) : Type 0 where
-  operands : a.operands ≡ b.operands
-  recompute : min a.recompute 255 ≡ min b.recompute 255
-  delta : min a.delta 255 ≡ min b.delta 255
-  maps : min a.maps 255 ≡ min b.maps 255
-  max : a.max ≡ b.max
+pub record AreAlike (a b : LineForm) : Type 0 where
+  pub operands : a.operands ≡ b.operands
+  pub recompute : min a.recompute 255 ≡ min b.recompute 255
+  pub delta : min a.delta 255 ≡ min b.delta 255
+  pub maps : min a.maps 255 ≡ min b.maps 255
+  pub max : a.max ≡ b.max
 
-turned : (a b : LineForm) → AreAlike a b → AreAlike b a
+pub turned : (a b : LineForm) → AreAlike a b → AreAlike b a
 turned a b alike = record {
   operands = sym alike.operands;
   recompute = sym alike.recompute;
@@ -48,7 +48,7 @@ turned a b alike = record {
 
 -- say the same
 module _ (a b : LineForm) (alike : AreAlike a b) where
-  same_flags : (mode : Mode) (delta maps : Bool) → HasFlags a mode delta maps → HasFlags b mode delta maps
+  pub same_flags : (mode : Mode) (delta maps : Bool) → HasFlags a mode delta maps → HasFlags b mode delta maps
   same_flags mode delta maps h = (
     (
       few_uses a.recompute b.recompute (recomputes mode) alike.recompute h.0.0 (recomputes_few mode),
@@ -58,7 +58,7 @@ module _ (a b : LineForm) (alike : AreAlike a b) where
     few_uses a.maps b.maps (once maps) alike.maps h.1 (once_few maps),
   )
 
-  same_max : (max : ℕ) → IsMax a.max max → IsMax b.max max
+  pub same_max : (max : ℕ) → IsMax a.max max → IsMax b.max max
   same_max max is = subst (λ vs. IsMax vs max) alike.max is
 
   same_said : (command : CommandForm) → Says a command → Says b command
@@ -78,10 +78,24 @@ module _ (a b : LineForm) (alike : AreAlike a b) where
 -- ---- what stands on the words
 
 -- it is one line
-one_form : (words : List (List ℕ)) (a b : LineForm) → StandsOn words a → StandsOn words b → a ≡ b
+pub one_form : (words : List (List ℕ)) (a b : LineForm) → StandsOn words a → StandsOn words b → a ≡ b
 one_form words a b x y =
     let same = one_line line_flags line_settings refl words x.parts y.parts x.behind y.behind x.spelled y.spelled in
     x.is ∙ ap₂ line_of same.0 same.1 ∙ sym y.is
+
+-- `clap` tells what stands there, but for counts of 255 and more
+module _ (words : List (List ℕ)) (m : ArgMatches) (h : HasLine line_flags line_settings words m) where
+  pub there : StandsOn words (line_of h.parts h.behind)
+  there = record { parts = h.parts; behind = h.behind; spelled = h.line; is = refl }
+
+  pub told : AreAlike (told_line m) (line_of h.parts h.behind)
+  told = record {
+    operands = h.finds.operands;
+    recompute = h.finds.uses (codes "recompute") refl;
+    delta = h.finds.uses (codes "delta") refl;
+    maps = h.finds.uses (codes "maps") refl;
+    max = h.finds.values (codes "max-structures") refl;
+  }
 
 module _ (name : List ℕ) (words rest : List (List ℕ)) (whole : words ≡ name ∷ rest) where
   -- the rest of the command's words is what stands behind the name
@@ -96,20 +110,7 @@ module _ (name : List ℕ) (words rest : List (List ℕ)) (whole : words ≡ nam
       none is.stands.parts is.stands.behind
       (subst (λ ws. IsLine line_flags line_settings is.stands.parts is.stands.behind ws) same is.stands.spelled)
 
-  -- `clap` tells what stands there, but for counts of 255 and more
   module _ (m : ArgMatches) (h : HasLine line_flags line_settings rest m) where
-    there : StandsOn rest (line_of h.parts h.behind)
-    there = record { parts = h.parts; behind = h.behind; spelled = h.line; is = refl }
-
-    told : AreAlike (told_line m) (line_of h.parts h.behind)
-    told = record {
-      operands = h.finds.operands;
-      recompute = h.finds.uses (codes "recompute") refl;
-      delta = h.finds.uses (codes "delta") refl;
-      maps = h.finds.uses (codes "maps") refl;
-      max = h.finds.values (codes "max-structures") refl;
-    }
-
     pub spelled : {E : Type 0} (r : Result (Option Command) E)
         → IfOk r (λ found. IfSome found (λ command. IsSaid name (told_line m) (form_of command)))
         → IfOk r (λ found. IfSome found (λ command. Spells words (form_of command)))
@@ -118,8 +119,8 @@ module _ (name : List ℕ) (words rest : List (List ℕ)) (whole : words ≡ nam
       whole ∙ ap (λ n. n ∷ rest) (sym said.0),
       record {
         line = line_of h.parts h.behind;
-        stands = there;
-        says = same_said (told_line m) (line_of h.parts h.behind) told (form_of command) said.1;
+        stands = there rest m h;
+        says = same_said (told_line m) (line_of h.parts h.behind) (told rest m h) (form_of command) said.1;
       },
     )
     spelled (Ok None) said = said
@@ -131,23 +132,23 @@ module _ (name : List ℕ) (words rest : List (List ℕ)) (whole : words ≡ nam
     unspelled (Ok None) none = λ command spells.
         let same = behind_name command spells.0 spells.1 in
         let line : spells.2.line ≡ line_of h.parts h.behind =
-        one_form rest spells.2.line (line_of h.parts h.behind) (subst (λ ws. StandsOn ws spells.2.line) same.1 spells.2.stands) there in
+        one_form rest spells.2.line (line_of h.parts h.behind) (subst (λ ws. StandsOn ws spells.2.line) same.1 spells.2.stands) (there rest m h) in
         none command (
           same.0,
-          same_said (line_of h.parts h.behind) (told_line m) (turned (told_line m) (line_of h.parts h.behind) told) command
+          same_said (line_of h.parts h.behind) (told_line m) (turned (told_line m) (line_of h.parts h.behind) (told rest m h)) command
               (subst (λ l. Says l command) line spells.2.says),
         )
     unspelled (Err e) none = none
 
 -- ---- the words spell one command at most
 
-one_mode : (a b : Mode) → recomputes a ≡ recomputes b → a ≡ b
+pub one_mode : (a b : Mode) → recomputes a ≡ recomputes b → a ≡ b
 one_mode Given Given e = refl
 one_mode Given Recompute e = cc
 one_mode Recompute Given e = cc
 one_mode Recompute Recompute e = refl
 
-one_bool : (a b : Bool) → once a ≡ once b → a ≡ b
+pub one_bool : (a b : Bool) → once a ≡ once b → a ≡ b
 one_bool true true e = refl
 one_bool true false e = cc
 one_bool false true e = cc
@@ -158,7 +159,7 @@ one_number : (most : ℕ) (word : List ℕ) (a b : ℕ) → most < 2 ^ 64 → Is
 one_number most word a b fits is also = decimal_injective a b (omega (arith, is.2)) (omega (arith, also.2))
     (sym is.0 ∙ also.0)
 
-one_max : (values : List (List ℕ)) (a b : ℕ) → IsMax values a → IsMax values b → a ≡ b
+pub one_max : (values : List (List ℕ)) (a b : ℕ) → IsMax values a → IsMax values b → a ≡ b
 one_max [] a b is also = is ∙ sym also
 one_max (value ∷ []) a b is also = one_number 100000 value a b (omega arith) is also
 one_max (value ∷ second ∷ rest) a b is also = absurd is
@@ -167,7 +168,7 @@ abbrev first_byte : List ℕ → ℕ
 first_byte word = slice_index_or word 0 0
 
 -- operand k of a line
-abbrev operand : ℕ → List (List ℕ) → List ℕ
+abbrev pub operand : ℕ → List (List ℕ) → List ℕ
 operand k words = slice_index_or words k []
 
 -- a line says one command of a name

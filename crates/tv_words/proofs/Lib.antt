@@ -5,4 +5,4 @@ mod Shapes
 mod Uses
 mod Walks
 mod Parses
-mod Commands
+pub mod Commands

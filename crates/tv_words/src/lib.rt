@@ -1,4 +1,5 @@
-//! The words of a call, and the command that they spell.
+//! The words of a call, and the command that they spell; and the line of options and operands behind a name,
+//! for other programs whose commands have these.
 #![tactic(auto)]
 
 mod laws;
@@ -7,4 +8,6 @@ mod values;
 mod words;
 
 pub use laws::one_command;
-pub use words::{Command, read_words};
+pub use line::{Line, command_line, read_line, told_line};
+pub use values::{four, has_values, max_of, one, two, updating};
+pub use words::{Command, has_no_flags, read_words};

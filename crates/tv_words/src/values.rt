@@ -127,6 +127,19 @@ pub fn three<'a>(operands: Option<&[&'a str]>) -> Option<(&'a str, &'a str, &'a 
     }
 }
 
+/// The operands, where there are exactly four.
+pub fn four<'a>(operands: Option<&[&'a str]>) -> Option<(&'a str, &'a str, &'a str, &'a str)>
+    ensures some { IfSome result (λ w. told_texts operands.entry
+        ≡ w.0.now ∷ w.1.now ∷ w.2.now ∷ w.3.now ∷ []) }
+    ensures none { IfNone result ((a b c d : List ℕ)
+        → ¬ (told_texts operands.entry ≡ a ∷ b ∷ c ∷ d ∷ [])) }
+{
+    match operands {
+        Some([first, second, third, fourth]) => Some((first, second, third, fourth)),
+        _ => None,
+    }
+}
+
 /// The operands, where there are exactly five.
 pub fn five<'a>(
     operands: Option<&[&'a str]>,

@@ -65,7 +65,7 @@ pub enum Command {
 }
 
 /// Whether no option without a value stands.
-fn has_no_flags(line: &Line<'_, '_>) -> bool
+pub fn has_no_flags(line: &Line<'_, '_>) -> bool
     ensures { IsTrue result ↔ HasFlags (line_in line.now) Given false false }
 {
     line.recompute == 0 && line.delta == 0 && line.maps == 0
