@@ -1,0 +1,4 @@
+mod Exactly
+mod Losing
+mod Telling
+mod Answering

@@ -1,0 +1,102 @@
+use Rattle.std.proofs.Common.{◌≡◌, ◌∙◌, [], length, refl, subst, sym, ap}
+use Rattle.std.proofs.lemmas.Option.{slice_get_within}
+use Rattle.std.proofs.lemmas.Result.{err_from_is_err_and}
+use Rattle.tv_model.proofs.Lists.{slice_get-contains}
+use Rattle.tv_eval.specs.ScratchForm.{IsMadeFor}
+use Rattle.tv_model.specs.Program.{action_of, program_of}
+use Rattle.tv_struct.specs.StructureForm.{IsOver}
+use Rattle.tv_step_laws.specs.Budgets.{IsStepCause}
+use Rattle.tv_step_laws.specs.Transfer.{AreResults}
+use Rattle.tv_enabled.specs.Enabled.{IsEnabledAtHand}
+use Rattle.tv_work.specs.Reach.{Point}
+use Rattle.tv_work.proofs.Causes.{step-cause}
+use Rattle.tv_losses.specs.Losses.{IsLost}
+use Rattle.tv_losses.specs.Tasks.{form_in, mode_in, reached_in}
+use Rattle.tv_losses.proofs.Losing.{are-none, are-some, at-source, focus-step, isnt-so, listed-over}
+use Rattle.tv_losses.proofs.Losing.{lost-enabled, not-lost, same-answer}
+use Rattle.tv_losses.proofs.along.is_lost.Goals as goal
+
+pub step-requires-clause-edge : goal.step-requires-clause-edge
+step-requires-clause-edge c =
+    rw c.requires.ready.engine
+    (slice_get_within c.args.x.now.program.now.edges c.args.number c.args.edge c.requires.edge)
+
+pub step-requires-clause-over : goal.step-requires-clause-over
+step-requires-clause-over c =
+    rw c.requires.ready.engine
+    (listed-over c.args.x.now c.args.scratch.now c.requires.ready c.args.number c.args.edge c.requires.edge
+    c.args.s.now c.requires.listed)
+
+pub step-requires-clause-scratch : goal.step-requires-clause-scratch
+step-requires-clause-scratch c = rw c.requires.ready.engine c.requires.ready.room
+
+pub returns-in_err-out-clause-cause : goal.returns-in_err-out-clause-cause
+returns-in_err-out-clause-cause c =
+    let x = c.args.x.now
+    in let s = c.args.s.now
+    in let fault = c.in_err-out.field-0.0
+    in let p = err_from_is_err_and c.from_residual.result c.from_residual.ensures.1
+    in rw (p.1, p.2)
+    (λ max. step-cause (form_in x) max c.args.number (reached_in x)
+    (record { node = c.args.edge.from; structure = s })
+    (at-source x c.args.scratch.now c.requires.ready c.args.number c.args.edge c.requires.edge s c.requires.listed)
+    fault
+    (subst (λ program. IsStepCause (program_of program) c.args.number s fault) c.requires.ready.engine
+    c.in_err-out.ensures.step.cause))
+
+pub returns-then-not-is_empty-clause-lost : goal.returns-then-not-is_empty-clause-lost
+returns-then-not-is_empty-clause-lost c =
+    let x = c.args.x.now
+    in let s = c.args.s.now
+    in let rs = c.in_ok-out.out.results
+    in isnt-so (IsLost (form_in x) (mode_in x) c.args.number s)
+    (not-lost (form_in x) c.requires.ready.valid (mode_in x) c.args.number s rs
+    (subst (λ program. AreResults (program_of program) (mode_in x) c.args.number s rs) c.requires.ready.engine
+    c.in_ok-out.ensures.step.results)
+    (are-some rs c.as_slice.result.now c.is_empty.result c.as_slice.ensures c.is_empty.ensures
+    c.if-not-is_empty.true))
+
+pub action_at-action-requires-clause-number : goal.action_at-action-requires-clause-number
+action_at-action-requires-clause-number c =
+    slice_get_within c.args.x.now.program.now.edges c.args.number c.args.edge c.requires.edge
+
+pub is_enabled_at_hand-requires-clause-action : goal.is_enabled_at_hand-requires-clause-action
+is_enabled_at_hand-requires-clause-action c =
+    let p = form_in c.args.x.now
+    in let its = c.action_at-action.ensures
+    in slice_get-contains p.actions its.taken.action (action_of c.action_at-action.result.now) its.its_action
+
+pub is_enabled_at_hand-requires-clause-over : goal.is_enabled_at_hand-requires-clause-over
+is_enabled_at_hand-requires-clause-over c =
+    listed-over c.args.x.now c.args.scratch.now c.requires.ready c.args.number c.args.edge c.requires.edge
+    c.args.s.now c.requires.listed
+
+pub returns-in_err-is_enabled_at_hand-clause-cause : goal.returns-in_err-is_enabled_at_hand-clause-cause
+returns-in_err-is_enabled_at_hand-clause-cause c =
+    let x = c.args.x.now
+    in let s = c.args.s.now
+    in let fault = c.in_err-is_enabled_at_hand.field-0.0
+    in let p = err_from_is_err_and c.from_residual-in_err-is_enabled_at_hand.result
+    c.from_residual-in_err-is_enabled_at_hand.ensures.1
+    in rw (p.1, p.2)
+    (λ max. step-cause (form_in x) max c.args.number (reached_in x)
+    (record { node = c.args.edge.from; structure = s })
+    (at-source x c.args.scratch.now c.requires.ready c.args.number c.args.edge c.requires.edge s c.requires.listed)
+    fault
+    (focus-step (form_in x) c.args.number (action_of c.action_at-action.result.now) s fault
+    c.action_at-action.ensures c.in_err-is_enabled_at_hand.ensures.cause))
+
+pub returns-clause-lost : goal.returns-clause-lost
+returns-clause-lost c =
+    let x = c.args.x.now
+    in let s = c.args.s.now
+    in let rs = c.in_ok-out.out.results
+    in let action = action_of c.action_at-action.result.now
+    in same-answer (IsEnabledAtHand (form_in x) action s) (IsLost (form_in x) (mode_in x) c.args.number s)
+    c.in_ok-is_enabled_at_hand.field-0 c.in_ok-is_enabled_at_hand.ensures.value
+    (lost-enabled (form_in x) (mode_in x) c.args.number s action rs
+    (subst (λ program. AreResults (program_of program) (mode_in x) c.args.number s rs) c.requires.ready.engine
+    c.in_ok-out.ensures.step.results)
+    (are-none rs c.as_slice.result.now c.is_empty.result c.as_slice.ensures c.is_empty.ensures
+    c.if-not-is_empty.false)
+    c.action_at-action.ensures)

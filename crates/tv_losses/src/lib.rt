@@ -1,0 +1,13 @@
+//! What an analysis may owe its silence to: initial structures without an opening, nodes at which nothing is
+//! listed, and edges along which rules drop all that an action gives.
+#![tactic(auto)]
+
+mod along;
+mod analysed;
+mod apart;
+mod edges;
+mod task;
+mod told;
+
+pub use analysed::losses;
+pub use told::{EdgeLoss, EdgeLosses, Losses, Places};
