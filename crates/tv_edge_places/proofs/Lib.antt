@@ -1,0 +1,6 @@
+mod Ends
+mod FormulaEnds
+mod ProgramEnds
+mod WidthLaws
+mod Standing
+mod OnLines
