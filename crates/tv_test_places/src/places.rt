@@ -11,8 +11,8 @@ use tv_lex::{Gathered, MAX_TEXT, gather, lex};
 use tv_outside::MemFiles;
 use tv_parse::parse_program;
 
-/// A line has files, divided by `~`, each with its name in front of `=`, and behind `$` the places of the edges
-/// of the first one. `;` stands for a line feed.
+/// A line has files, divided by `~`, each with its name in front of `=`, and behind `$` the places of the
+/// edges of the first one. `;` stands for a line feed.
 static FILES: &[u8] = b"a=%%%%$
 a=%%;%action B() {};%%;L1 B() L2;L2 B() L3;$a:4 a:5
 a=%% %action B() {} %% L1 B() L2 L3 B() L4 %% L1, L2, L3$a:1 a:1
