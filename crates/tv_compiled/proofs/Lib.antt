@@ -1,0 +1,4 @@
+mod Alike
+mod Meanings
+mod Noted
+mod Turns

@@ -1,0 +1,7 @@
+use Rattle.std.proofs.Common.{◌≡◌, length, map, take}
+use Rattle.tv_model.specs.Program.{action_of}
+use Rattle.tv_compiled.proofs.same.are_same_actions.Given as goal
+
+-- both begin alike
+abbrev pub invariant-loop-i : goal.invariant-loop-i
+invariant-loop-i l = (length l.a ≡ length l.b) × (map action_of (take l.i l.a) ≡ map action_of (take l.i l.b))

@@ -1,0 +1,15 @@
+//! Compiled programs as texts that mean them again: what is written is read, and given only where it is read
+//! as the same program.
+#![tactic(auto)]
+
+mod compiled;
+mod error;
+mod formula;
+mod notes;
+mod parts;
+mod program;
+mod same;
+
+pub use compiled::compiled_text;
+pub use error::CompiledError;
+pub use same::is_same_program;
