@@ -12,7 +12,7 @@ use tv_model::{Message, Program};
 use tv_tree::{EdgeTree, print_edge};
 
 /// The messages of the action of the edge that has this number.
-fn messages_at(program: &Program, number: usize) -> &[Message]
+pub fn messages_at(program: &Program, number: usize) -> &[Message]
     ensures { map message_of result.now ≡ messages_at (program_of program.now) number }
 {
     let Some(edge) = program.edges.as_slice().get(number) else {
@@ -45,7 +45,11 @@ fn append_messages(out: &mut Vec<u8>, messages: &[Message]) -> Result<(), AllocE
 }
 
 /// Appends an edge, behind its number.
-fn append_edge_line(out: &mut Vec<u8>, number: usize, edge: &EdgeTree) -> Result<(), AllocError>
+pub(crate) fn append_edge_line(
+    out: &mut Vec<u8>,
+    number: usize,
+    edge: &EdgeTree,
+) -> Result<(), AllocError>
     ensures { OnOk result (out.new.items ≡ out.old.items ++ edge_line number (edge_of edge.now)) }
 {
     append_numbered(out, b"edge ", number)?;

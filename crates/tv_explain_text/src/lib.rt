@@ -1,9 +1,12 @@
-//! Texts that explain: the structures of a listing, each in one line, and the control edges of a program.
+//! Texts that explain: the structures of a listing and those of a trail, each in one line, and the control
+//! edges of a program.
 #![tactic(auto)]
 
 mod edges;
 mod numbered;
 mod shown;
+mod trails;
 
-pub use edges::edges_text;
+pub use edges::{edges_text, messages_at};
 pub use shown::shown_text;
+pub use trails::{Told, raised_text, trail_text};
