@@ -2,12 +2,15 @@
 #![tactic(auto)]
 
 mod call;
+mod real_files;
+mod real_sink;
 
-use call::called;
+use call::{Streams, called};
+use real_files::RealFiles;
+use real_sink::RealSink;
 use std::env;
 use std::io::{Stderr, Stdout};
 use std::process::ExitCode;
-use tv_real::{RealFiles, RealSink, Streams};
 
 fn main(rt: HostRuntime) -> ExitCode {
     called(

@@ -3,11 +3,11 @@
 
 mod call;
 
-use call::called;
+use call::{Streams, called};
 use std::env;
 use std::io::{Stderr, Stdout};
 use std::process::ExitCode;
-use tv_real::{RealFiles, RealSink, Streams};
+use tv_real::{RealFiles, RealSink};
 
 fn main(rt: HostRuntime) -> ExitCode {
     called(
