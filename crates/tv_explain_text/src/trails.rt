@@ -147,11 +147,7 @@ fn append_value(out: &mut Vec<u8>, value: K3) -> Result<(), AllocError>
 }
 
 /// Appends the edge of a message and behind it the message with its value.
-fn append_raised(
-    out: &mut Vec<u8>,
-    edges: &[EdgeTree],
-    told: &Told<'_>,
-) -> Result<(), AllocError>
+fn append_raised(out: &mut Vec<u8>, edges: &[EdgeTree], told: &Told<'_>) -> Result<(), AllocError>
     ensures { OnOk result (out.new.items ≡ out.old.items ++ raised_line (map edge_of edges.now)
         told.now.edge told.now.number told.now.value told.now.text.now) }
 {
