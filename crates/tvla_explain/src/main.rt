@@ -3,11 +3,11 @@
 
 mod call;
 
-use call::{Streams, called};
+use call::called;
 use std::env;
 use std::io::{Stderr, Stdout};
 use std::process::ExitCode;
-use tv_real::{RealFiles, RealSink};
+use tv_real::{RealFiles, RealSink, Streams};
 
 fn main(rt: HostRuntime) -> ExitCode {
     called(
