@@ -6,7 +6,6 @@ use Rattle.tv_outside.specs.Told.{Held}
 use Rattle.tv_real.specs.Ended.{EndsWithoutMemory, HasWords}
 use Rattle.tv_status.specs.declared.status.Status.{Status}
 use Rattle.tv_explain.specs.Call.{HasDone}
-use Rattle.tv_explain.specs.Faults.{code_of}
 use Rattle.tv_explain.specs.declared.fault.Ending.{Ending}
 use Rattle.tv_explain.specs.declared.fault.Ending.TheVariants.{As}
 use Rattle.tv_words.specs.Words.{words_of}
@@ -27,7 +26,3 @@ EndsSo args told read_rose steady out_rose err_rose out_old out_new err_old err_
     HasWords args (λ words. HasDone
     (words_of words) told read_rose steady out_rose err_rose out_old out_new err_old err_new ending)
     ⊎ LacksMemory err_rose out_old out_new err_old err_new ending
-
--- the exit code is that of an ending of which this is so
-abbrev pub HasCodeOf : (code : ℕ) → (Ending → Type 0) → Type 0
-HasCodeOf code IsSo = (ending : Ending) × (code ≡ code_of ending) × IsSo ending

@@ -2,7 +2,9 @@
 
 ghost use Rattle.std.specs.Process.{exit_status};
 ghost use Rattle.tv_outside.specs.Count.{Rose};
-ghost use Rattle.tvla_explain.specs.Ended.{EndsSo, HasCodeOf};
+ghost use Rattle.tv_real.specs.Ended.{HasCodeOf};
+ghost use Rattle.tv_explain.specs.Faults.{code_of};
+ghost use Rattle.tvla_explain.specs.Ended.{EndsSo};
 
 use std::alloc::{AllocError, Global};
 use std::env::Args;
@@ -20,7 +22,7 @@ pub fn called<F: Files, O: Sink, E: Sink>(
     files: &mut F,
     streams: &mut Streams<O, E>,
 ) -> ExitCode
-    ensures ended { HasCodeOf (exit_status result) (EndsSo args (F.holds files.old)
+    ensures ended { HasCodeOf code_of (exit_status result) (EndsSo args (F.holds files.old)
         (Rose (F.faults files.old) (F.faults files.new)) (F.steady files.old)
         (Rose (O.faults streams.old.out) (O.faults streams.new.out))
         (Rose (E.faults streams.old.err) (E.faults streams.new.err))
