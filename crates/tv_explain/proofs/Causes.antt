@@ -1,21 +1,34 @@
 -- The causes of the parts of the work, as those of a command and of a call.
-use Rattle.std.proofs.Common.{◌≡◌, ◌≤◌, ℕ, List, Option, Result, Ok, Err, inr, refl, sym, subst, arith}
+use Rattle.std.proofs.Common.{◌≡◌, ◌≤◌, ℕ, List, Option, Result, Ok, Err, inl, inr, refl, sym, subst, arith}
 use Rattle.std.specs.Prelude.{IfOk, IfErr}
 use Rattle.std.specs.declared.alloc.Global.{Global}
 use Rattle.std.specs.declared.vec.Vec.{Vec}
 use Rattle.tv_model.specs.declared.program.Program.{Program}
 use Rattle.tv_outside.specs.Count.{Rose}
 use Rattle.tv_outside.specs.Told.{Held, HoldsName}
+use Rattle.tv_status.specs.declared.status.FileKind.{FileKind}
+use Rattle.tv_status.specs.declared.status.Role.{Role}
 use Rattle.tv_status.specs.declared.status.Role.TheVariants as role
-use Rattle.tv_texts.specs.Files.{IsFileCause, IsProgramFile, IsReportFile, LacksFile, UnlessNotRead}
+use Rattle.tv_texts.specs.Files.{IsFileCause, IsInitialFile, IsProgramFile, IsReportFile, LacksFile}
+use Rattle.tv_texts.specs.Files.{UnlessNotRead}
 use Rattle.tv_texts.specs.declared.fault.TextFault.{TextFault}
 use Rattle.tv_texts.specs.declared.fault.TextFault.TheVariants as text
-use Rattle.tv_explain.specs.Call.{IsAnswerTo, IsCause, IsCommandCause, IsFound, UnlessReadFault}
-use Rattle.tv_explain.specs.Faults.{fault_of_text}
-use Rattle.tv_explain.specs.Meaning.{IsAnswer, IsMissing, IsRefused, program_name}
+use Rattle.tv_work.specs.Analysed.{IsWorkCause}
+use Rattle.tv_work.specs.declared.error.WorkError.{WorkError}
+use Rattle.tv_work.specs.declared.error.WorkError.TheVariants as work
+use Rattle.tv_explain.specs.Answers.{FilesMeanSuch, IsAnswer, IsStopped, Reached}
+use Rattle.tv_explain.specs.Call.{IsAnswerTo, IsCause, IsCommandCause, IsFound, IsOwed, UnlessReadFault}
+use Rattle.tv_explain.specs.Faults.{fault_of_text, fault_of_work}
+use Rattle.tv_explain.specs.Meaning.{FilesMean, IsDrawnFile, IsMissing, IsRefused, LacksInputs, form_in}
+use Rattle.tv_explain.specs.Meaning.{program_name}
+use Rattle.tv_explain.specs.Work.{IsInputsCause}
 use Rattle.tv_explain.specs.declared.fault.Fault.{Fault}
-use Rattle.tv_explain.specs.declared.fault.Fault.TheVariants.{Usage, FileFault, ReadFault, Memory}
-use Rattle.tv_explain_words.specs.Words.{CommandForm, Shows, Spells}
+use Rattle.tv_explain.specs.declared.fault.Fault.TheVariants.{Usage, FileFault, Structures, TooManySplits}
+use Rattle.tv_explain.specs.declared.fault.Fault.TheVariants.{TooManyIndividuals, NotThere, ReadFault, Memory}
+use Rattle.tv_explain.specs.declared.inputs.Drawn.{Drawn}
+use Rattle.tv_explain.specs.declared.inputs.Inputs.{Inputs}
+use Rattle.tv_explain_words.specs.Words.{AnalyzedForm, CommandForm, Shows, TellsMessage, TellsStructure}
+use Rattle.tv_explain_words.specs.Words.{Spells}
 
 -- ---- counts and steadiness
 
@@ -26,6 +39,10 @@ pub holds_unless : {T : Type 0} (result : Result T Fault) (P : Type 0) → P →
 holds_unless (Ok found) P h = h
 holds_unless (Err Usage) P h = h
 holds_unless (Err (FileFault r k)) P h = h
+holds_unless (Err (Structures max)) P h = h
+holds_unless (Err TooManySplits) P h = h
+holds_unless (Err TooManyIndividuals) P h = h
+holds_unless (Err (NotThere what)) P h = h
 holds_unless (Err ReadFault) P h = tt
 holds_unless (Err Memory) P h = h
 
@@ -35,6 +52,12 @@ pub unless_not_read : (T U : Type 0) (e : TextFault) (P Q : Type 0) → (P → Q
 unless_not_read T U (text.Refused r k) P Q f h = f h
 unless_not_read T U text.NotRead P Q f h = tt
 unless_not_read T U text.Memory P Q f h = f h
+
+pub memory_fault : {T : Type 0} (result : Result T TextFault) (its_role : Role) (Refuses : FileKind → Type 0)
+    (lacks rose steady : Type 0) → IfErr result (λ e. e ≡ text.Memory)
+    → IfErr result (IsFileCause its_role Refuses lacks rose steady)
+memory_fault (Ok found) its_role Refuses lacks rose steady h = h
+memory_fault (Err e) its_role Refuses lacks rose steady h = rw h tt
 
 -- what two steps on steady files give
 pub still : (old mid new : ℕ) (steady : Type 0) → mid ≡ old → steady × (new ≡ mid) → steady × (new ≡ old)
@@ -64,6 +87,93 @@ module _ (told : Option Held) where
   report_fault program report p rose steady late_rose late_steady text.NotRead means earlier stays h =
       (earlier h.0, λ s. inr (p, means, h.1 (stays s)))
   report_fault program report p rose steady late_rose late_steady text.Memory means earlier stays h = tt
+      -- PROGRAM of an analysis isn't had
+
+  pub taken_fault : (of : AnalyzedForm) (rose steady : Type 0) (e : TextFault)
+      → IsFileCause role.Program (λ k. IsProgramFile told of.program (Err k)) (LacksFile told of.program) rose
+      steady e → IsInputsCause told of rose steady (fault_of_text e)
+  taken_fault of rose steady (text.Refused its k) h =
+      subst (λ r. IsInputsCause told of rose steady (FileFault r k)) (sym h.0) h.1
+  taken_fault of rose steady text.NotRead h = (h.0, λ s. inl (h.1 s))
+  taken_fault of rose steady text.Memory h = tt
+
+  -- INITIAL isn't had
+  pub initial_fault : (of : AnalyzedForm) (drawn : Drawn) (rose steady late_rose late_steady : Type 0)
+      (e : TextFault) → IsDrawnFile told of.delta of.program drawn → (late_rose → rose)
+      → (steady → late_steady)
+      → IsFileCause role.Initial (λ k. IsInitialFile told of.initial drawn.program (Err k))
+      (¬ HoldsName told of.initial) late_rose late_steady e
+      → IsInputsCause told of rose steady (fault_of_text e)
+  initial_fault of drawn rose steady late_rose late_steady (text.Refused its k) means earlier stays h =
+      subst (λ r. IsInputsCause told of rose steady (FileFault r k)) (sym h.0) (drawn, means, h.1)
+  initial_fault of drawn rose steady late_rose late_steady text.NotRead means earlier stays h =
+      (earlier h.0, λ s. inr (drawn, means, h.1 (stays s)))
+  initial_fault of drawn rose steady late_rose late_steady text.Memory means earlier stays h = tt
+
+  -- ---- analyses
+
+  -- the files of an analysis aren't had, of a command that takes them
+  pub inputs_cause : (command : CommandForm) (of : AnalyzedForm) (rose steady : Type 0) (f : Fault)
+      → ((k : FileKind) → IsInputsCause told of rose steady (FileFault role.Program k)
+      → IsRefused told command role.Program k)
+      → ((k : FileKind) → IsInputsCause told of rose steady (FileFault role.Initial k)
+      → IsRefused told command role.Initial k)
+      → (LacksInputs told of → IsMissing told command)
+      → IsInputsCause told of rose steady f → IsCommandCause told command rose steady f
+  inputs_cause command of rose steady (FileFault role.Program k) program initial lacks h = program k h
+  inputs_cause command of rose steady (FileFault role.Initial k) program initial lacks h = initial k h
+  inputs_cause command of rose steady ReadFault program initial lacks h = (h.0, λ s. lacks (h.1 s))
+  inputs_cause command of rose steady Memory program initial lacks h = tt
+  inputs_cause command of rose steady Usage program initial lacks h = absurd h
+  inputs_cause command of rose steady (FileFault role.Report k) program initial lacks h = absurd h
+  inputs_cause command of rose steady (FileFault role.Start k) program initial lacks h = absurd h
+  inputs_cause command of rose steady (FileFault role.Trace k) program initial lacks h = absurd h
+  inputs_cause command of rose steady (FileFault role.Source k) program initial lacks h = absurd h
+  inputs_cause command of rose steady (Structures max) program initial lacks h = absurd h
+  inputs_cause command of rose steady TooManySplits program initial lacks h = absurd h
+  inputs_cause command of rose steady TooManyIndividuals program initial lacks h = absurd h
+  inputs_cause command of rose steady (NotThere what) program initial lacks h = absurd h
+
+  pub message_unread : (of : AnalyzedForm) (edge number : ℕ) (rose steady : Type 0) (f : Fault)
+      → IsInputsCause told of rose steady f → IsCommandCause told (TellsMessage of edge number) rose steady f
+  message_unread of edge number rose steady f h =
+      inputs_cause (TellsMessage of edge number) of rose steady f (λ k r. r) (λ k r. r) (λ l. l) h
+
+  pub structure_unread : (of : AnalyzedForm) (node : List ℕ) (index : ℕ) (rose steady : Type 0) (f : Fault)
+      → IsInputsCause told of rose steady f → IsCommandCause told (TellsStructure of node index) rose steady f
+  structure_unread of node index rose steady f h =
+      inputs_cause (TellsStructure of node index) of rose steady f (λ k r. r) (λ k r. r) (λ l. l) h
+
+  -- what stops the work behind the files stops the command
+  stopped_cause : (command : CommandForm) (of : AnalyzedForm) (inputs : Inputs) (rose steady : Type 0)
+      (f : Fault)
+      → ((P : AnalyzedForm → Inputs → Type 0) → P of inputs → FilesMeanSuch told command P)
+      → IsStopped command of inputs f → IsCommandCause told command rose steady f
+  stopped_cause command of inputs rose steady Usage mean h = absurd h
+  stopped_cause command of inputs rose steady (FileFault r k) mean h = absurd h
+  stopped_cause command of inputs rose steady (Structures max) mean h =
+      mean (λ o i. IsStopped command o i (Structures max)) h
+  stopped_cause command of inputs rose steady TooManySplits mean h =
+      mean (λ o i. IsStopped command o i TooManySplits) h
+  stopped_cause command of inputs rose steady TooManyIndividuals mean h =
+      mean (λ o i. IsStopped command o i TooManyIndividuals) h
+  stopped_cause command of inputs rose steady (NotThere what) mean h =
+      mean (λ o i. IsStopped command o i (NotThere what)) h
+  stopped_cause command of inputs rose steady ReadFault mean h = absurd h
+  stopped_cause command of inputs rose steady Memory mean h = tt
+
+  pub message_stopped : (of : AnalyzedForm) (edge number : ℕ) (inputs : Inputs) (rose steady : Type 0)
+      (f : Fault) → FilesMean told of inputs → IsStopped (TellsMessage of edge number) of inputs f
+      → IsCommandCause told (TellsMessage of edge number) rose steady f
+  message_stopped of edge number inputs rose steady f means h =
+      stopped_cause (TellsMessage of edge number) of inputs rose steady f (λ P is. (inputs, means, is)) h
+
+  pub structure_stopped : (of : AnalyzedForm) (node : List ℕ) (index : ℕ) (inputs : Inputs)
+      (rose steady : Type 0) (f : Fault) → FilesMean told of inputs
+      → IsStopped (TellsStructure of node index) of inputs f
+      → IsCommandCause told (TellsStructure of node index) rose steady f
+  structure_stopped of node index inputs rose steady f means h =
+      stopped_cause (TellsStructure of node index) of inputs rose steady f (λ P is. (inputs, means, is)) h
 
   -- ---- words
 
@@ -73,17 +183,33 @@ module _ (told : Option Held) where
   spelled_answer words command (Ok t) spells h = (command, spells, h)
   spelled_answer words command (Err e) spells h = tt
 
-  pub spelled_cause : (words : List (List ℕ)) (command : CommandForm) (rose steady : Type 0)
+  -- words spell one command at most, so where that isn't given, none is
+  pub spelled_cause : ((words : List (List ℕ)) (a b : CommandForm) → Spells words a → Spells words b → a ≡ b)
+      → (words : List (List ℕ)) (command : CommandForm) (rose steady : Type 0)
       (result : Result (Vec ℕ Global) Fault) → Spells words command
       → IfErr result (IsCommandCause told command rose steady) → IfErr result (IsCause words told rose steady)
-  spelled_cause words command rose steady (Ok t) spells h = tt
-  spelled_cause words command rose steady (Err Usage) spells h = absurd h
-  spelled_cause words command rose steady (Err (FileFault r k)) spells h = (command, spells, h)
-  spelled_cause words command rose steady (Err ReadFault) spells h = (command, spells, h)
-  spelled_cause words command rose steady (Err Memory) spells h = tt
+  spelled_cause one words command rose steady (Ok t) spells h = tt
+  spelled_cause one words command rose steady (Err Usage) spells h =
+      λ other also. subst IsOwed (one words command other spells also) h
+  spelled_cause one words command rose steady (Err (FileFault r k)) spells h = (command, spells, h)
+  spelled_cause one words command rose steady (Err (Structures max)) spells h = (command, spells, h)
+  spelled_cause one words command rose steady (Err TooManySplits) spells h = (command, spells, h)
+  spelled_cause one words command rose steady (Err TooManyIndividuals) spells h = (command, spells, h)
+  spelled_cause one words command rose steady (Err (NotThere what)) spells h = (command, spells, h)
+  spelled_cause one words command rose steady (Err ReadFault) spells h = (command, spells, h)
+  spelled_cause one words command rose steady (Err Memory) spells h = tt
 
   pub found : (words : List (List ℕ)) (rose steady : Type 0) (result : Result (Vec ℕ Global) Fault)
       → IfOk result (λ t. IsAnswerTo words told t.items) → IfErr result (IsCause words told rose steady)
       → IsFound words told rose steady result
   found words rose steady (Ok t) answer cause = answer
   found words rose steady (Err e) answer cause = cause
+
+-- why a search finds nothing
+pub work_stopped : (command : CommandForm) (of : AnalyzedForm) (inputs : Inputs) (e : WorkError)
+    → IsWorkCause (form_in inputs) of.max (Reached of inputs) e
+    → IsStopped command of inputs (fault_of_work of.max e)
+work_stopped command of inputs work.Structures h = (refl, h)
+work_stopped command of inputs work.Splits h = h
+work_stopped command of inputs work.Individuals h = h
+work_stopped command of inputs work.Memory h = tt

@@ -4,19 +4,28 @@ use Rattle.std.specs.Prelude.{IfErr}
 use Rattle.std.specs.declared.alloc.Global.{Global}
 use Rattle.std.specs.declared.vec.Vec.{Vec}
 use Rattle.tv_outside.specs.Told.{Held}
-use Rattle.tv_status.specs.declared.status.Status.{Status}
 use Rattle.tv_explain.specs.Call.{Commands, HoldsOperands, IsCause, UnlessFault, UnlessReadFault}
 use Rattle.tv_explain.specs.Delivery.{IsDelivered}
-use Rattle.tv_explain.specs.Meaning.{HoldsFiles, IsMissing}
+use Rattle.tv_explain.specs.Meaning.{HoldsFiles, HoldsInputs, IsMissing, LacksInputs}
+use Rattle.tv_explain.specs.declared.fault.Ending.{Ending}
 use Rattle.tv_explain.specs.declared.fault.Fault.{Fault}
-use Rattle.tv_explain.specs.declared.fault.Fault.TheVariants.{Usage, FileFault, ReadFault, Memory}
-use Rattle.tv_explain_words.specs.Words.{CommandForm, Shows, ListsEdges, Spells}
+use Rattle.tv_explain.specs.declared.fault.Fault.TheVariants.{Usage, FileFault, Structures, TooManySplits}
+use Rattle.tv_explain.specs.declared.fault.Fault.TheVariants.{TooManyIndividuals, NotThere, ReadFault, Memory}
+use Rattle.tv_explain_words.specs.Words.{AnalyzedForm, CommandForm, Shows, ListsEdges, TellsMessage}
+use Rattle.tv_explain_words.specs.Words.{TellsStructure, TellsLosses, Spells}
 
 module _ (told : Option Held) where
+  inputs_not_missing : (of : AnalyzedForm) → HoldsInputs told of → LacksInputs told of → ⊥
+  inputs_not_missing of holds (inl lacks) = holds.0 lacks
+  inputs_not_missing of holds (inr later) = later.2 holds.1
+
   not_missing : (command : CommandForm) → HoldsFiles told command → IsMissing told command → ⊥
   not_missing (Shows program report) holds (inl lacks) = holds.0 lacks
   not_missing (Shows program report) holds (inr later) = later.2 holds.1
   not_missing (ListsEdges program) holds lacks = holds lacks
+  not_missing (TellsMessage of edge number) holds lacks = inputs_not_missing of holds lacks
+  not_missing (TellsStructure of node index) holds lacks = inputs_not_missing of holds lacks
+  not_missing (TellsLosses of) holds lacks = inputs_not_missing of holds lacks
 
   -- no file is missing where all that the command asks for are there
   pub none_missing : ((words : List (List ℕ)) (a b : CommandForm) → Spells words a → Spells words b → a ≡ b)
@@ -31,20 +40,28 @@ module _ (told : Option Held) where
   no_fault words rose steady P (Ok t) none is cause h = h
   no_fault words rose steady P (Err Usage) none is cause h = h
   no_fault words rose steady P (Err (FileFault r k)) none is cause h = h
+  no_fault words rose steady P (Err (Structures max)) none is cause h = h
+  no_fault words rose steady P (Err TooManySplits) none is cause h = h
+  no_fault words rose steady P (Err TooManyIndividuals) none is cause h = h
+  no_fault words rose steady P (Err (NotThere what)) none is cause h = h
   no_fault words rose steady P (Err ReadFault) none is cause h =
       absurd (none (cause.0, cause.1, cause.2.1 is))
   no_fault words rose steady P (Err Memory) none is cause h = h
 
 -- files that were steady are, unless a call outside failed
-pub stays_steady : (found : Result (Vec ℕ Global) Fault) (status : Status) (out_rose err_rose : Type 0)
+pub stays_steady : (found : Result (Vec ℕ Global) Fault) (ending : Ending) (out_rose err_rose : Type 0)
     (out_old out_new err_old err_new : Option (List ℕ)) (P Q : Type 0)
-    → IsDelivered found status out_rose err_rose out_old out_new err_old err_new → UnlessReadFault found (P × Q)
-    → UnlessFault status P
-stays_steady (Ok t) status or er oo on eo en P Q (inl (e, given, same)) h = rw e h.0
-stays_steady (Ok t) status or er oo on eo en P Q (inr (rose, front, inl (e, taken))) h = rw e tt
-stays_steady (Ok t) status or er oo on eo en P Q (inr (rose, front, inr (e, its, taken))) h = rw e tt
-stays_steady (Err Usage) status or er oo on eo en P Q (same, inl (e, taken)) h = rw e h.0
-stays_steady (Err (FileFault r k)) status or er oo on eo en P Q (same, inl (e, taken)) h = rw e h.0
-stays_steady (Err ReadFault) status or er oo on eo en P Q (same, inl (e, taken)) h = rw e tt
-stays_steady (Err Memory) status or er oo on eo en P Q (same, inl (e, taken)) h = rw e h.0
-stays_steady (Err met) status or er oo on eo en P Q (same, inr (e, its, taken)) h = rw e tt
+    → IsDelivered found ending out_rose err_rose out_old out_new err_old err_new → UnlessReadFault found (P × Q)
+    → UnlessFault ending P
+stays_steady (Ok t) ending or er oo on eo en P Q (inl (e, given, same)) h = rw e h.0
+stays_steady (Ok t) ending or er oo on eo en P Q (inr (rose, front, inl (e, taken))) h = rw e tt
+stays_steady (Ok t) ending or er oo on eo en P Q (inr (rose, front, inr (e, its, taken))) h = rw e tt
+stays_steady (Err Usage) ending or er oo on eo en P Q (same, inl (e, taken)) h = rw e h.0
+stays_steady (Err (FileFault r k)) ending or er oo on eo en P Q (same, inl (e, taken)) h = rw e h.0
+stays_steady (Err (Structures max)) ending or er oo on eo en P Q (same, inl (e, taken)) h = rw e h.0
+stays_steady (Err TooManySplits) ending or er oo on eo en P Q (same, inl (e, taken)) h = rw e h.0
+stays_steady (Err TooManyIndividuals) ending or er oo on eo en P Q (same, inl (e, taken)) h = rw e h.0
+stays_steady (Err (NotThere what)) ending or er oo on eo en P Q (same, inl (e, taken)) h = rw e h.0
+stays_steady (Err ReadFault) ending or er oo on eo en P Q (same, inl (e, taken)) h = rw e tt
+stays_steady (Err Memory) ending or er oo on eo en P Q (same, inl (e, taken)) h = rw e h.0
+stays_steady (Err met) ending or er oo on eo en P Q (same, inr (e, its, taken)) h = rw e tt

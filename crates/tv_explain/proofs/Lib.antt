@@ -1,3 +1,4 @@
+mod Begins
 mod Causes
 mod Endings
 mod Trees

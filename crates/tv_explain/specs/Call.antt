@@ -3,13 +3,16 @@ use Rattle.std.specs.Prelude.{ℕ, List, Option, Result, Ok, Err}
 use Rattle.std.specs.declared.alloc.Global.{Global}
 use Rattle.std.specs.declared.vec.Vec.{Vec}
 use Rattle.tv_outside.specs.Told.{Held}
-use Rattle.tv_status.specs.declared.status.Status.{Status}
 use Rattle.tv_status.specs.declared.status.Status.TheVariants as status
+use Rattle.tv_explain.specs.Answers.{FilesMeanSuch, IsAnswer, IsStopped}
 use Rattle.tv_explain.specs.Delivery.{IsDelivered}
-use Rattle.tv_explain.specs.Meaning.{HoldsFiles, IsAnswer, IsMissing, IsRefused}
+use Rattle.tv_explain.specs.Meaning.{HoldsFiles, IsMissing, IsRefused}
+use Rattle.tv_explain.specs.declared.fault.Ending.{Ending}
+use Rattle.tv_explain.specs.declared.fault.Ending.TheVariants.{As}
 use Rattle.tv_explain.specs.declared.fault.Fault.{Fault}
-use Rattle.tv_explain.specs.declared.fault.Fault.TheVariants.{Usage, FileFault, ReadFault, Memory}
-use Rattle.tv_explain_words.specs.Words.{CommandForm, Spells, SpellsNothing}
+use Rattle.tv_explain.specs.declared.fault.Fault.TheVariants.{Usage, FileFault, Structures, TooManySplits}
+use Rattle.tv_explain.specs.declared.fault.Fault.TheVariants.{TooManyIndividuals, NotThere, ReadFault, Memory}
+use Rattle.tv_explain_words.specs.Words.{CommandForm, TellsLosses, Spells}
 
 -- the words spell such a command
 abbrev pub Commands : List (List ℕ) → (CommandForm → Type 0) → Type 0
@@ -19,17 +22,28 @@ Commands words IsSuch = (command : CommandForm) × Spells words command × IsSuc
 abbrev pub IsAnswerTo : List (List ℕ) → Option Held → (text : List ℕ) → Type 0
 IsAnswerTo words told text = Commands words (λ command. IsAnswer told command text)
 
+-- a command that isn't given yet
+abbrev pub IsOwed : CommandForm → Type 0
+IsOwed (TellsLosses of) = Unit {0}
+IsOwed other = ⊥
+
+-- the words spell no command that is given
+abbrev pub SpellsNoneGiven : List (List ℕ) → Type 0
+SpellsNoneGiven words = (command : CommandForm) → Spells words command → IsOwed command
+
 -- why a command gives no text; `rose` says that the count of the files' faults rose
 abbrev pub IsCommandCause : Option Held → CommandForm → (rose steady : Type 0) → Fault → Type 0
-IsCommandCause told command rose steady Usage = ⊥
+IsCommandCause told command rose steady Usage = IsOwed command
 IsCommandCause told command rose steady (FileFault role kind) = IsRefused told command role kind
 IsCommandCause told command rose steady ReadFault = rose × (steady → IsMissing told command)
 IsCommandCause told command rose steady Memory = Unit {0}
+IsCommandCause told command rose steady other =
+    FilesMeanSuch told command (λ of inputs. IsStopped command of inputs other)
 
--- Why there is no text: the words spell no command; memory ran out; or the command that they spell gives
--- none.
+-- Why there is no text: the words spell no command that is given; memory ran out; or the command that they
+-- spell gives none.
 abbrev pub IsCause : List (List ℕ) → Option Held → (rose steady : Type 0) → Fault → Type 0
-IsCause words told rose steady Usage = SpellsNothing words
+IsCause words told rose steady Usage = SpellsNoneGiven words
 IsCause words told rose steady Memory = Unit {0}
 IsCause words told rose steady other = Commands words
     (λ command. IsCommandCause told command rose steady other)
@@ -42,10 +56,10 @@ IsFound words told rose steady (Err fault) = IsCause words told rose steady faul
 
 -- the call found what is called for, and gave it
 pub record HasDone (words : List (List ℕ)) (told : Option Held) (read_rose steady out_rose err_rose : Type 0)
-    (out_old out_new err_old err_new : Option (List ℕ)) (status : Status) : Type 0 where
+    (out_old out_new err_old err_new : Option (List ℕ)) (ending : Ending) : Type 0 where
   pub found : Result (Vec ℕ Global) Fault
   pub is : IsFound words told read_rose steady found
-  pub gives : IsDelivered found status out_rose err_rose out_old out_new err_old err_new
+  pub gives : IsDelivered found ending out_rose err_rose out_old out_new err_old err_new
 
 -- this holds at any answer but a read fault
 abbrev pub UnlessReadFault : {T : Type 0} → Result T Fault → Type 0 → Type 0
@@ -54,9 +68,9 @@ UnlessReadFault (Err ReadFault) P = Unit {0}
 UnlessReadFault (Err other) P = P
 
 -- this holds unless a read or a write failed
-abbrev pub UnlessFault : Status → Type 0 → Type 0
-UnlessFault status.ReadFault P = Unit {0}
-UnlessFault status.WriteFault P = Unit {0}
+abbrev pub UnlessFault : Ending → Type 0 → Type 0
+UnlessFault (As status.ReadFault) P = Unit {0}
+UnlessFault (As status.WriteFault) P = Unit {0}
 UnlessFault other P = P
 
 -- the files of the command are there

@@ -4,9 +4,10 @@ use Rattle.std.specs.declared.alloc.Global.{Global}
 use Rattle.std.specs.declared.vec.Vec.{Vec}
 use Rattle.tv_outside.specs.Count.{FailedLast}
 use Rattle.tv_outside.specs.Told.{appended, TookFront}
-use Rattle.tv_status.specs.declared.status.Status.{Status}
 use Rattle.tv_status.specs.declared.status.Status.TheVariants.{Done, WriteFault}
-use Rattle.tv_explain.specs.Faults.{status_of, text_of}
+use Rattle.tv_explain.specs.Faults.{ending_of, text_of}
+use Rattle.tv_explain.specs.declared.fault.Ending.{Ending}
+use Rattle.tv_explain.specs.declared.fault.Ending.TheVariants.{As}
 use Rattle.tv_explain.specs.declared.fault.Fault.{Fault}
 
 -- of the calls on a sink in between none failed, or exactly one did and it was the last: a sink that has
@@ -16,25 +17,25 @@ StopsAtFailure old_failures new_failures since =
     (new_failures ≡ old_failures) ⊎ FailedLast old_failures new_failures since
 
 -- the whole text was taken and the call ends so, or a front of it, and the call ends in a write fault
-abbrev pub Takes : (text : List ℕ) → (due ends : Status) → (rose : Type 0) → (old new : Option (List ℕ))
+abbrev pub Takes : (text : List ℕ) → (due ends : Ending) → (rose : Type 0) → (old new : Option (List ℕ))
     → Type 0
 Takes text due ends rose old new =
-    ((ends ≡ due) × (new ≡ appended old text)) ⊎ ((ends ≡ WriteFault) × rose × TookFront old new text)
+    ((ends ≡ due) × (new ≡ appended old text)) ⊎ ((ends ≡ As WriteFault) × rose × TookFront old new text)
 
 -- the output took the whole text, and the error output nothing; or it failed and took a front, which the
 -- error output is told
-abbrev pub GivesText : (text : List ℕ) → (ends : Status) → (out_rose err_rose : Type 0)
+abbrev pub GivesText : (text : List ℕ) → (ends : Ending) → (out_rose err_rose : Type 0)
     → (out_old out_new err_old err_new : Option (List ℕ)) → Type 0
 GivesText text ends out_rose err_rose out_old out_new err_old err_new =
-    ((ends ≡ Done) × (out_new ≡ appended out_old text) × (err_new ≡ err_old))
+    ((ends ≡ As Done) × (out_new ≡ appended out_old text) × (err_new ≡ err_old))
     ⊎ (out_rose × TookFront out_old out_new text
-    × Takes (text_of WriteFault) WriteFault ends err_rose err_old err_new)
+    × Takes (text_of (As WriteFault)) (As WriteFault) ends err_rose err_old err_new)
 
 -- what was found was given: a text to the output; a fault's text to the error output, and nothing to the
 -- output
-abbrev pub IsDelivered : Result (Vec ℕ Global) Fault → (ends : Status) → (out_rose err_rose : Type 0)
+abbrev pub IsDelivered : Result (Vec ℕ Global) Fault → (ends : Ending) → (out_rose err_rose : Type 0)
     → (out_old out_new err_old err_new : Option (List ℕ)) → Type 0
 IsDelivered (Ok text) ends out_rose err_rose out_old out_new err_old err_new =
     GivesText text.items ends out_rose err_rose out_old out_new err_old err_new
 IsDelivered (Err fault) ends out_rose err_rose out_old out_new err_old err_new = (out_new ≡ out_old)
-    × Takes (text_of (status_of fault)) (status_of fault) ends err_rose err_old err_new
+    × Takes (text_of (ending_of fault)) (ending_of fault) ends err_rose err_old err_new

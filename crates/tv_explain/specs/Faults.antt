@@ -1,12 +1,18 @@
 -- The faults of a call: those of the layers below, and what tells them.
 use Rattle.std.specs.Prelude.{ℕ, List, ◌++◌, codes}
-use Rattle.tv_status.specs.Status.{line, text_of as told_text}
-use Rattle.tv_status.specs.declared.status.Status.{Status}
+use Rattle.tv_status.specs.Status.{code_of as status_code, line, text_of as told_text}
 use Rattle.tv_status.specs.declared.status.Status.TheVariants as status
 use Rattle.tv_texts.specs.declared.fault.TextFault.{TextFault}
 use Rattle.tv_texts.specs.declared.fault.TextFault.TheVariants as text
+use Rattle.tv_work.specs.declared.error.WorkError.{WorkError}
+use Rattle.tv_work.specs.declared.error.WorkError.TheVariants as work
+use Rattle.tv_explain.specs.declared.fault.Ending.{Ending}
+use Rattle.tv_explain.specs.declared.fault.Ending.TheVariants.{As, Absent}
 use Rattle.tv_explain.specs.declared.fault.Fault.{Fault}
-use Rattle.tv_explain.specs.declared.fault.Fault.TheVariants.{Usage, FileFault, ReadFault, Memory}
+use Rattle.tv_explain.specs.declared.fault.Fault.TheVariants.{Usage, FileFault, Structures, TooManySplits}
+use Rattle.tv_explain.specs.declared.fault.Fault.TheVariants.{TooManyIndividuals, NotThere, ReadFault, Memory}
+use Rattle.tv_explain.specs.declared.fault.Sought.{Sought}
+use Rattle.tv_explain.specs.declared.fault.Sought.TheVariants as sought
 
 -- the fault of a file's text
 abbrev pub fault_of_text : TextFault → Fault
@@ -14,19 +20,49 @@ fault_of_text (text.Refused role kind) = FileFault role kind
 fault_of_text text.NotRead = ReadFault
 fault_of_text text.Memory = Memory
 
--- the status of a call whose work ended in this fault
-abbrev pub status_of : Fault → Status
-status_of Usage = status.Usage
-status_of (FileFault role kind) = status.FileFault role kind
-status_of ReadFault = status.ReadFault
-status_of Memory = status.Memory
+-- the fault of an analysis or a search that may list so many structures
+abbrev pub fault_of_work : (max : ℕ) → WorkError → Fault
+fault_of_work max work.Structures = Structures max
+fault_of_work max work.Splits = TooManySplits
+fault_of_work max work.Individuals = TooManyIndividuals
+fault_of_work max work.Memory = Memory
+
+-- the ending of a call whose work ended in this fault
+abbrev pub ending_of : Fault → Ending
+ending_of Usage = As status.Usage
+ending_of (FileFault role kind) = As (status.FileFault role kind)
+ending_of (Structures max) = As (status.Structures max)
+ending_of TooManySplits = As status.TooManySplits
+ending_of TooManyIndividuals = As status.TooManyIndividuals
+ending_of (NotThere what) = Absent what
+ending_of ReadFault = As status.ReadFault
+ending_of Memory = As status.Memory
+
+-- the exit code of the process: as of `tvla`; words that name what isn't there end as those that spell no
+-- command
+abbrev pub code_of : Ending → ℕ
+code_of (As it) = status_code it
+code_of (Absent what) = 2
 
 -- the lines of all commands
 unfoldable pub usage_text : List ℕ
 usage_text =
-    line (codes "usage: tvla-explain show PROGRAM REPORT") ++ line (codes "       tvla-explain edges PROGRAM")
+    line (codes
+    "usage: tvla-explain message PROGRAM INITIAL EDGE NUMBER [--max-structures N] [--recompute | --delta]")
+    ++ line (codes
+    "       tvla-explain structure PROGRAM INITIAL NODE INDEX [--max-structures N] [--recompute | --delta]")
+    ++ line (codes "       tvla-explain show PROGRAM REPORT")
+    ++ line (codes "       tvla-explain edges PROGRAM")
 
--- the text that tells a status to whom called: as of `tvla`, but for the words
-abbrev pub text_of : Status → List ℕ
-text_of status.Usage = usage_text
-text_of other = told_text other
+-- what isn't there
+abbrev pub absent_text : Sought → List ℕ
+absent_text sought.Edge = line (codes "tvla: no such edge")
+absent_text sought.Message = line (codes "tvla: no such message")
+absent_text sought.Node = line (codes "tvla: no such node")
+absent_text sought.Structure = line (codes "tvla: no such structure")
+
+-- the text that tells an ending to whom called: as of `tvla`, but for the words and what they name
+abbrev pub text_of : Ending → List ℕ
+text_of (As status.Usage) = usage_text
+text_of (As other) = told_text other
+text_of (Absent what) = absent_text what

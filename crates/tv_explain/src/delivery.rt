@@ -4,13 +4,16 @@ ghost use Rattle.std.specs.Prelude.{◌≡◌, ◌≤◌, OnOk, OnErr};
 ghost use Rattle.tv_outside.specs.Count.{Rose, FailedLast};
 ghost use Rattle.tv_outside.specs.Told.{appended, TookFront};
 ghost use Rattle.tv_explain.specs.Delivery.{GivesText, IsDelivered, StopsAtFailure, Takes};
-ghost use Rattle.tv_explain.specs.Faults.{text_of, usage_text};
+ghost use Rattle.tv_explain.specs.Faults.{absent_text, text_of, usage_text};
 
-use crate::fault::Fault;
+use crate::fault::{Ending, Fault, Sought};
 use tv_outside::{Failed, Sink, write_all};
 use tv_status::{Status, write_status};
 
-const USAGE: &[u8] = b"usage: tvla-explain show PROGRAM REPORT
+const USAGE: &[u8] =
+    b"usage: tvla-explain message PROGRAM INITIAL EDGE NUMBER [--max-structures N] [--recompute | --delta]
+       tvla-explain structure PROGRAM INITIAL NODE INDEX [--max-structures N] [--recompute | --delta]
+       tvla-explain show PROGRAM REPORT
        tvla-explain edges PROGRAM
 ";
 
@@ -27,37 +30,56 @@ fn write_usage<E: Sink>(err: &mut E) -> Result<(), Failed>
     write_all(err, USAGE)
 }
 
-/// Gives the text of the status to the sink; takes no memory.
-fn write_text<E: Sink>(err: &mut E, status: Status) -> Result<(), Failed>
-    ensures all { OnOk result (E.taken err.new ≡ appended (E.taken err.old) (text_of status)) }
+/// Gives the text that tells what isn't there to the sink; takes no memory.
+fn write_absent<E: Sink>(err: &mut E, what: Sought) -> Result<(), Failed>
+    ensures all { OnOk result (E.taken err.new ≡ appended (E.taken err.old) (absent_text what)) }
     ensures failed { OnErr result (Rose (E.faults err.old) (E.faults err.new)) }
-    ensures front { OnErr result (TookFront (E.taken err.old) (E.taken err.new) (text_of status)) }
+    ensures front { OnErr result (TookFront (E.taken err.old) (E.taken err.new) (absent_text what)) }
     ensures no_failure { OnOk result (E.failures err.new ≡ E.failures err.old) }
     ensures failed_last { OnErr result
         (FailedLast (E.failures err.old) (E.failures err.new) (E.since err.new)) }
     ensures count { E.faults err.old ≤ E.faults err.new }
 {
-    match status {
-        Status::Usage => write_usage(err),
-        _ => write_status(err, status),
+    match what {
+        Sought::Edge => write_all(err, b"tvla: no such edge\n"),
+        Sought::Message => write_all(err, b"tvla: no such message\n"),
+        Sought::Node => write_all(err, b"tvla: no such node\n"),
+        Sought::Structure => write_all(err, b"tvla: no such structure\n"),
     }
 }
 
-/// Gives the text of the status to `err` and gives the status back, or `WriteFault` where `err` failed.
-fn tell<E: Sink>(err: &mut E, status: Status) -> Status
-    ensures tells { Takes (text_of status) status result (Rose (E.faults err.old) (E.faults err.new))
+/// Gives the text of the ending to the sink; takes no memory.
+fn write_text<E: Sink>(err: &mut E, ending: Ending) -> Result<(), Failed>
+    ensures all { OnOk result (E.taken err.new ≡ appended (E.taken err.old) (text_of ending)) }
+    ensures failed { OnErr result (Rose (E.faults err.old) (E.faults err.new)) }
+    ensures front { OnErr result (TookFront (E.taken err.old) (E.taken err.new) (text_of ending)) }
+    ensures no_failure { OnOk result (E.failures err.new ≡ E.failures err.old) }
+    ensures failed_last { OnErr result
+        (FailedLast (E.failures err.old) (E.failures err.new) (E.since err.new)) }
+    ensures count { E.faults err.old ≤ E.faults err.new }
+{
+    match ending {
+        Ending::As(Status::Usage) => write_usage(err),
+        Ending::As(status) => write_status(err, status),
+        Ending::Absent(what) => write_absent(err, what),
+    }
+}
+
+/// Gives the text of the ending to `err` and gives the ending back, or `WriteFault` where `err` failed.
+fn tell<E: Sink>(err: &mut E, ending: Ending) -> Ending
+    ensures tells { Takes (text_of ending) ending result (Rose (E.faults err.old) (E.faults err.new))
         (E.taken err.old) (E.taken err.new) }
     ensures stops { StopsAtFailure (E.failures err.old) (E.failures err.new) (E.since err.new) }
     ensures count { E.faults err.old ≤ E.faults err.new }
 {
-    match write_text(err, status) {
-        Ok(()) => status,
-        Err(_) => Status::WriteFault,
+    match write_text(err, ending) {
+        Ok(()) => ending,
+        Err(_) => Ending::As(Status::WriteFault),
     }
 }
 
 /// Gives the text to `out`, or tells `err` that `out` failed.
-fn give<O: Sink, E: Sink>(text: &[u8], out: &mut O, err: &mut E) -> Status
+fn give<O: Sink, E: Sink>(text: &[u8], out: &mut O, err: &mut E) -> Ending
     ensures gives { GivesText text.now result (Rose (O.faults out.old) (O.faults out.new)) (Rose
         (E.faults err.old) (E.faults err.new)) (O.taken out.old) (O.taken out.new) (E.taken err.old)
         (E.taken err.new) }
@@ -67,13 +89,13 @@ fn give<O: Sink, E: Sink>(text: &[u8], out: &mut O, err: &mut E) -> Status
     ensures err_count { E.faults err.old ≤ E.faults err.new }
 {
     match write_all(out, text) {
-        Ok(()) => Status::Done,
-        Err(_) => tell(err, Status::WriteFault),
+        Ok(()) => Ending::As(Status::Done),
+        Err(_) => tell(err, Ending::As(Status::WriteFault)),
     }
 }
 
 /// Gives the text that was found to `out`, or tells `err` why there is none or why it couldn't be written.
-pub fn deliver<O: Sink, E: Sink>(found: Result<Vec<u8>, Fault>, out: &mut O, err: &mut E) -> Status
+pub fn deliver<O: Sink, E: Sink>(found: Result<Vec<u8>, Fault>, out: &mut O, err: &mut E) -> Ending
     ensures gives { IsDelivered found result (Rose (O.faults out.old) (O.faults out.new)) (Rose
         (E.faults err.old) (E.faults err.new)) (O.taken out.old) (O.taken out.new) (E.taken err.old)
         (E.taken err.new) }
@@ -84,6 +106,6 @@ pub fn deliver<O: Sink, E: Sink>(found: Result<Vec<u8>, Fault>, out: &mut O, err
 {
     match found {
         Ok(text) => give(&text, out, err),
-        Err(fault) => tell(err, Status::from(fault)),
+        Err(fault) => tell(err, Ending::from(fault)),
     }
 }

@@ -1,12 +1,26 @@
-//! Why the work of a call gives no text.
+//! Why the work of a call gives no text, and how the call ends.
 
 ghost use Rattle.std.specs.Prelude.{◌≡◌};
-ghost use Rattle.tv_explain.specs.Faults.{fault_of_text, status_of};
+ghost use Rattle.tv_explain.specs.Faults.{code_of, ending_of, fault_of_text, fault_of_work};
 ghost use Rattle.tv_explain.specs.declared.fault.Fault.TheVariants.{Memory};
 
 use std::alloc::AllocError;
 use tv_status::{FileKind, Role, Status};
 use tv_texts::TextFault;
+use tv_work::WorkError;
+
+/// What the words name.
+#[derive(Clone, Copy, Debug, PartialEq, Eq)]
+pub enum Sought {
+    /// A control edge, by its number.
+    Edge,
+    /// A message, by its number among those of the edge's action.
+    Message,
+    /// A node, by its name.
+    Node,
+    /// A structure, by its place among those that are listed at the node.
+    Structure,
+}
 
 /// Why the work gave no text.
 #[derive(Clone, Copy, Debug, PartialEq, Eq)]
@@ -15,21 +29,54 @@ pub enum Fault {
     Usage,
     /// A file means nothing.
     FileFault(Role, FileKind),
+    /// There are more than so many structures.
+    Structures(u64),
+    /// A step splits a structure too often.
+    TooManySplits,
+    /// A step makes a structure of too many individuals.
+    TooManyIndividuals,
+    /// What the words name isn't there.
+    NotThere(Sought),
     /// A file could not be read.
     ReadFault,
     /// Memory ran out.
     Memory,
 }
 
-impl From<Fault> for Status {
-    ghost from_gives = { λ fault status. status ≡ status_of fault };
+/// How a call ends.
+#[derive(Clone, Copy, Debug, PartialEq, Eq)]
+pub enum Ending {
+    /// As a call of `tvla` with this status.
+    As(Status),
+    /// What the words name isn't there.
+    Absent(Sought),
+}
 
-    fn from(fault: Fault) -> Status {
+impl Ending {
+    /// The exit code of the process: that of `tvla`'s status; 2 where the words name what isn't there.
+    pub fn code(&self) -> u8
+        ensures { result ≡ code_of self.now }
+    {
+        match self {
+            Ending::As(status) => status.code(),
+            Ending::Absent(_) => 2,
+        }
+    }
+}
+
+impl From<Fault> for Ending {
+    ghost from_gives = { λ fault ending. ending ≡ ending_of fault };
+
+    fn from(fault: Fault) -> Ending {
         match fault {
-            Fault::Usage => Status::Usage,
-            Fault::FileFault(role, kind) => Status::FileFault(role, kind),
-            Fault::ReadFault => Status::ReadFault,
-            Fault::Memory => Status::Memory,
+            Fault::Usage => Ending::As(Status::Usage),
+            Fault::FileFault(role, kind) => Ending::As(Status::FileFault(role, kind)),
+            Fault::Structures(max) => Ending::As(Status::Structures(max)),
+            Fault::TooManySplits => Ending::As(Status::TooManySplits),
+            Fault::TooManyIndividuals => Ending::As(Status::TooManyIndividuals),
+            Fault::NotThere(what) => Ending::Absent(what),
+            Fault::ReadFault => Ending::As(Status::ReadFault),
+            Fault::Memory => Ending::As(Status::Memory),
         }
     }
 }
@@ -39,6 +86,18 @@ impl From<AllocError> for Fault {
 
     fn from(_error: AllocError) -> Fault {
         Fault::Memory
+    }
+}
+
+/// The fault of an analysis or a search that may list so many structures.
+pub fn fault_of_work(error: WorkError, max: u64) -> Fault
+    ensures { result ≡ fault_of_work max error }
+{
+    match error {
+        WorkError::Structures => Fault::Structures(max),
+        WorkError::Splits => Fault::TooManySplits,
+        WorkError::Individuals => Fault::TooManyIndividuals,
+        WorkError::Memory => Fault::Memory,
     }
 }
 

@@ -3,15 +3,18 @@
 
 ghost use Rattle.std.specs.Prelude.{◌≡◌, ◌≤◌};
 ghost use Rattle.tv_outside.specs.Count.{Rose};
-ghost use Rattle.tv_explain.specs.Call.{HasDone, HoldsOperands, UnlessFault};
+ghost use Rattle.tv_explain.specs.Begins.{BeginsFor, OnAnswer};
+ghost use Rattle.tv_explain.specs.Call.{Commands, HasDone, HoldsOperands, SpellsNoneGiven, UnlessFault};
 ghost use Rattle.tv_explain.specs.Delivery.{StopsAtFailure};
-ghost use Rattle.tv_explain_words.specs.Words.{words_of, SpellsNothing};
+ghost use Rattle.tv_words.specs.Words.{words_of};
 
+mod answers;
 mod delivery;
 mod fault;
 mod inputs;
 mod work;
 
+pub use fault::{Ending, Sought};
 use std::alloc::Global;
 use tv_explain_words::one_command;
 use tv_outside::{Files, Sink};
@@ -20,15 +23,16 @@ pub use tv_status::{FileKind, Role, Status};
 /// Does all that the program does: `words` are the words after its name.
 ///
 /// The work is done in this order: the words are read; PROGRAM is gathered and understood; for `show` REPORT
-/// is read and understood; the text is put together and given to `out` whole. The first fault ends the call,
-/// and its text is given to `err`.
+/// is read and understood, for `message` and `structure` INITIAL; what the words name is looked for, and the
+/// analysis runs; the text is put together and given to `out` whole. The first fault ends the call, and its
+/// text is given to `err`.
 pub fn explain<F: Files, O: Sink, E: Sink>(
     alloc: Global,
     words: &[String],
     files: &mut F,
     out: &mut O,
     err: &mut E,
-) -> Status
+) -> Ending
     // What was found, and where it was given.
     ensures done { HasDone (words_of words.now) (F.holds files.old)
         (Rose (F.faults files.old) (F.faults files.new)) (F.steady files.old)
@@ -39,11 +43,13 @@ pub fn explain<F: Files, O: Sink, E: Sink>(
     ensures out_stops { StopsAtFailure (O.failures out.old) (O.failures out.new) (O.since out.new) }
     ensures err_stops { StopsAtFailure (E.failures err.old) (E.failures err.new) (E.since err.new) }
 
-    // What was read: nothing without a command; and steady files that hold what is asked for don't fail, and
-    // stay steady.
-    ensures unread { SpellsNothing (words_of words.now) → files.new ≡ files.old }
+    // What was read: nothing without a command; where an answer is given, as many files were begun as the
+    // command asks for; and steady files that hold what is asked for don't fail, and stay steady.
+    ensures unread { SpellsNoneGiven (words_of words.now) → files.new ≡ files.old }
     ensures held { F.steady files.old → HoldsOperands (words_of words.now) (F.holds files.old)
         → F.steady files.new × (F.faults files.new ≡ F.faults files.old) }
+    ensures begins { OnAnswer result (Commands (words_of words.now)
+        (BeginsFor (F.holds files.old) (F.begins files.old) (F.begins files.new))) }
     ensures stays { F.steady files.old → UnlessFault result (F.steady files.new) }
 
     // No call changes what a name holds, and no count of faults falls.

@@ -1,16 +1,21 @@
 //! The work of a command, up to the text that it gives.
 
-ghost use Rattle.std.specs.Prelude.{◌≡◌, ◌≤◌, IfOk, IfErr};
+ghost use Rattle.std.specs.Prelude.{◌≡◌, ◌≤◌, IfOk, IfErr, OnOk};
 ghost use Rattle.tv_outside.specs.Count.{Rose};
-ghost use Rattle.tv_explain.specs.Call.{IsAnswerTo, IsCause, IsCommandCause, UnlessReadFault};
-ghost use Rattle.tv_explain.specs.Meaning.{IsAnswer};
-ghost use Rattle.tv_explain_words.specs.Words.{words_of, SpellsNothing, Shows, ListsEdges, form_of};
+ghost use Rattle.tv_explain.specs.Call.{Commands, IsAnswerTo, IsCause, IsCommandCause, IsOwed};
+ghost use Rattle.tv_explain.specs.Call.{SpellsNoneGiven, UnlessReadFault};
+ghost use Rattle.tv_explain.specs.Begins.{BeginsFor};
+ghost use Rattle.tv_explain.specs.Answers.{IsAnswer};
+ghost use Rattle.tv_explain_words.specs.Words.{Shows, ListsEdges, TellsMessage, TellsStructure};
+ghost use Rattle.tv_explain_words.specs.Words.{analyzed_of, form_of};
+ghost use Rattle.tv_words.specs.Words.{words_of};
 
+use crate::answers::{message_text, structure_text};
 use crate::fault::Fault;
-use crate::inputs::load_drawn;
+use crate::inputs::{load_drawn, load_inputs};
 use std::alloc::Global;
 use tv_explain_text::{edges_text, shown_text};
-use tv_explain_words::{Command, read_words};
+use tv_explain_words::{Analyzed, Command, one_command, read_words};
 use tv_outside::Files;
 use tv_texts::{load_program, load_report};
 
@@ -27,6 +32,8 @@ fn show<F: Files>(
     ensures cause { IfErr result (IsCommandCause (F.holds files.old) (Shows program.now report.now)
         (Rose (F.faults files.old) (F.faults files.new)) (F.steady files.old)) }
     ensures holds { F.holds files.new ≡ F.holds files.old }
+    ensures begins { OnOk result (BeginsFor (F.holds files.old) (F.begins files.old) (F.begins files.new)
+        (Shows program.now report.now)) }
     ensures count { F.faults files.old ≤ F.faults files.new }
     ensures steady { F.steady files.old → UnlessReadFault result (F.steady files.new
         × (F.faults files.new ≡ F.faults files.old)) }
@@ -44,6 +51,8 @@ fn edges<F: Files>(alloc: Global, files: &mut F, program: &str) -> Result<Vec<u8
     ensures cause { IfErr result (IsCommandCause (F.holds files.old) (ListsEdges program.now)
         (Rose (F.faults files.old) (F.faults files.new)) (F.steady files.old)) }
     ensures holds { F.holds files.new ≡ F.holds files.old }
+    ensures begins { OnOk result (BeginsFor (F.holds files.old) (F.begins files.old) (F.begins files.new)
+        (ListsEdges program.now)) }
     ensures count { F.faults files.old ≤ F.faults files.new }
     ensures steady { F.steady files.old → UnlessReadFault result (F.steady files.new
         × (F.faults files.new ≡ F.faults files.old)) }
@@ -52,13 +61,66 @@ fn edges<F: Files>(alloc: Global, files: &mut F, program: &str) -> Result<Vec<u8
     Ok(edges_text(alloc, &drawn.program, drawn.tree.edges.as_slice())?)
 }
 
+/// A shortest abstract run to the message of this number among those of the edge's action.
+#[tactic(auto, using(crate::proofs::Causes::holds_unless))]
+fn message<F: Files>(
+    alloc: Global,
+    files: &mut F,
+    of: &Analyzed,
+    edge: u32,
+    number: u32,
+) -> Result<Vec<u8>, Fault>
+    ensures found { IfOk result (λ text. IsAnswer (F.holds files.old)
+        (TellsMessage (analyzed_of of.now) edge number) text.items) }
+    ensures cause { IfErr result (IsCommandCause (F.holds files.old)
+        (TellsMessage (analyzed_of of.now) edge number)
+        (Rose (F.faults files.old) (F.faults files.new)) (F.steady files.old)) }
+    ensures holds { F.holds files.new ≡ F.holds files.old }
+    ensures begins { OnOk result (BeginsFor (F.holds files.old) (F.begins files.old) (F.begins files.new)
+        (TellsMessage (analyzed_of of.now) edge number)) }
+    ensures count { F.faults files.old ≤ F.faults files.new }
+    ensures steady { F.steady files.old → UnlessReadFault result (F.steady files.new
+        × (F.faults files.new ≡ F.faults files.old)) }
+{
+    let inputs = load_inputs(alloc, files, of)?;
+    message_text(alloc, &inputs, of, edge, number)
+}
+
+/// A shortest abstract run to the structure at this place among those that are listed at the node.
+#[tactic(auto, using(crate::proofs::Causes::holds_unless))]
+fn structure<F: Files>(
+    alloc: Global,
+    files: &mut F,
+    of: &Analyzed,
+    node: &str,
+    index: u32,
+) -> Result<Vec<u8>, Fault>
+    ensures found { IfOk result (λ text. IsAnswer (F.holds files.old)
+        (TellsStructure (analyzed_of of.now) node.now index) text.items) }
+    ensures cause { IfErr result (IsCommandCause (F.holds files.old)
+        (TellsStructure (analyzed_of of.now) node.now index)
+        (Rose (F.faults files.old) (F.faults files.new)) (F.steady files.old)) }
+    ensures holds { F.holds files.new ≡ F.holds files.old }
+    ensures begins { OnOk result (BeginsFor (F.holds files.old) (F.begins files.old) (F.begins files.new)
+        (TellsStructure (analyzed_of of.now) node.now index)) }
+    ensures count { F.faults files.old ≤ F.faults files.new }
+    ensures steady { F.steady files.old → UnlessReadFault result (F.steady files.new
+        × (F.faults files.new ≡ F.faults files.old)) }
+{
+    let inputs = load_inputs(alloc, files, of)?;
+    structure_text(alloc, &inputs, of, node, index)
+}
+
 /// What the command gives.
 fn execute<F: Files>(alloc: Global, files: &mut F, command: &Command) -> Result<Vec<u8>, Fault>
     ensures found { IfOk result
         (λ text. IsAnswer (F.holds files.old) (form_of command.now) text.items) }
     ensures cause { IfErr result (IsCommandCause (F.holds files.old) (form_of command.now)
         (Rose (F.faults files.old) (F.faults files.new)) (F.steady files.old)) }
+    ensures unread { IsOwed (form_of command.now) → files.new ≡ files.old }
     ensures holds { F.holds files.new ≡ F.holds files.old }
+    ensures begins { OnOk result (BeginsFor (F.holds files.old) (F.begins files.old) (F.begins files.new)
+        (form_of command.now)) }
     ensures count { F.faults files.old ≤ F.faults files.new }
     ensures steady { F.steady files.old → UnlessReadFault result (F.steady files.new
         × (F.faults files.new ≡ F.faults files.old)) }
@@ -66,22 +128,28 @@ fn execute<F: Files>(alloc: Global, files: &mut F, command: &Command) -> Result<
     match command {
         Command::Show { program, report } => show(alloc, files, program, report),
         Command::Edges { program } => edges(alloc, files, program),
+        Command::Message { of, edge, number } => message(alloc, files, of, *edge, *number),
+        Command::Structure { of, node, index } => structure(alloc, files, of, node, *index),
+        Command::Losses { .. } => Err(Fault::Usage),
     }
 }
 
 /// What the words ask for, or why they get nothing.
-#[tactic(auto, using(crate::proofs::Causes::spelled_answer, crate::proofs::Causes::spelled_cause, crate::proofs::Causes::holds_unless))]
+#[tactic(auto, using(crate::proofs::Causes::spelled_answer, crate::proofs::Causes::holds_unless))]
 pub fn perform<F: Files>(alloc: Global, words: &[String], files: &mut F) -> Result<Vec<u8>, Fault>
     ensures found { IfOk result
         (λ text. IsAnswerTo (words_of words.now) (F.holds files.old) text.items) }
     ensures cause { IfErr result (IsCause (words_of words.now) (F.holds files.old)
         (Rose (F.faults files.old) (F.faults files.new)) (F.steady files.old)) }
-    ensures unread { SpellsNothing (words_of words.now) → files.new ≡ files.old }
+    ensures unread { SpellsNoneGiven (words_of words.now) → files.new ≡ files.old }
     ensures holds { F.holds files.new ≡ F.holds files.old }
+    ensures begins { OnOk result (Commands (words_of words.now)
+        (BeginsFor (F.holds files.old) (F.begins files.old) (F.begins files.new))) }
     ensures count { F.faults files.old ≤ F.faults files.new }
     ensures steady { F.steady files.old → UnlessReadFault result (F.steady files.new
         × (F.faults files.new ≡ F.faults files.old)) }
 {
+    one_command();
     let Some(command) = read_words(alloc, words)? else {
         return Err(Fault::Usage);
     };

@@ -1,1 +1,1 @@
-mod Operands
+mod Commands

@@ -1,28 +1,44 @@
 -- What the words of a call spell.
-use Rattle.std.specs.Prelude.{◌≡◌, ◌==◌, ℕ, Bool, true, not, IsTrue, List, [], ◌∷◌, map, codes}
-use Rattle.std.specs.Prelude.{string_bytes, String}
-use Rattle.std.specs.List.{list_all}
-use Rattle.std.specs.declared.alloc.Global.{Global}
+use Rattle.std.specs.Prelude.{◌≡◌, ◌<◌, ◌^◌, ℕ, Bool, false, List, [], ◌∷◌, codes, decimal}
+use Rattle.std.specs.Prelude.{string_bytes}
+use Rattle.tv_model.specs.declared.program.Mode.{Mode}
+use Rattle.tv_model.specs.declared.program.Mode.TheVariants.{Given}
+use Rattle.tv_words.specs.Words.{HasFlags, IsMax, LineForm, StandsOn}
+use Rattle.tv_explain_words.specs.declared.words.Analyzed.{Analyzed}
 use Rattle.tv_explain_words.specs.declared.words.Command.{Command}
-use Rattle.tv_explain_words.specs.declared.words.Command.TheVariants.{Show, Edges}
+use Rattle.tv_explain_words.specs.declared.words.Command.TheVariants.{Show, Edges, Message, Structure, Losses}
 
--- the bytes of the words
-abbrev pub words_of : List (String Global) → List (List ℕ)
-words_of words = map (λ word. string_bytes word) words
+-- what an analysis is asked, its files named by bytes: as for `tvla analyze`
+pub record AnalyzedForm : Type 0 where
+  pub program : List ℕ
+  pub initial : List ℕ
+  pub max : ℕ
+  pub mode : Mode
+  pub delta : Bool
 
--- a word that doesn't begin with a hyphen
-abbrev pub is_operand : List ℕ → Bool
-is_operand [] = true
-is_operand (first ∷ rest) = not (first == 45)
+abbrev pub analyzed_of : Analyzed → AnalyzedForm
+analyzed_of a = record {
+  program = string_bytes a.program;
+  initial = string_bytes a.initial;
+  max = a.max;
+  mode = a.mode;
+  delta = a.delta;
+}
 
--- a command, its files named by bytes
+-- a command, its files and nodes named by bytes
 pub data CommandForm : Type 0 where
   Shows : (program report : List ℕ) → CommandForm
   ListsEdges : (program : List ℕ) → CommandForm
+  TellsMessage : (of : AnalyzedForm) → (edge number : ℕ) → CommandForm
+  TellsStructure : (of : AnalyzedForm) → (node : List ℕ) → (index : ℕ) → CommandForm
+  TellsLosses : (of : AnalyzedForm) → CommandForm
 
 abbrev pub form_of : Command → CommandForm
 form_of (Show program report) = Shows (string_bytes program) (string_bytes report)
 form_of (Edges program) = ListsEdges (string_bytes program)
+form_of (Message of edge number) = TellsMessage (analyzed_of of) edge number
+form_of (Structure of node index) = TellsStructure (analyzed_of of) (string_bytes node) index
+form_of (Losses of) = TellsLosses (analyzed_of of)
 
 -- this is said of the command
 abbrev pub SaidOf : (CommandForm → Type 0) → Command → Type 0
@@ -32,24 +48,62 @@ SaidOf Says command = Says (form_of command)
 abbrev pub command_word : CommandForm → List ℕ
 command_word (Shows program report) = codes "show"
 command_word (ListsEdges program) = codes "edges"
+command_word (TellsMessage of edge number) = codes "message"
+command_word (TellsStructure of node index) = codes "structure"
+command_word (TellsLosses of) = codes "losses"
 
--- the words behind it
-abbrev pub operands_of : CommandForm → List (List ℕ)
-operands_of (Shows program report) = program ∷ report ∷ []
-operands_of (ListsEdges program) = program ∷ []
+-- the word is this number, without sign or leading zero
+abbrev pub IsNumber : (word : List ℕ) → (number : ℕ) → Type 0
+IsNumber word number = (word ≡ decimal number) × (number < 2 ^ 32)
 
--- the name and the operands are those of the command
-abbrev pub IsSaid : (name : List ℕ) → (operands : List (List ℕ)) → CommandForm → Type 0
-IsSaid name operands command = (command_word command ≡ name) × (operands_of command ≡ operands)
+-- the line has no options
+abbrev pub IsPlain : LineForm → Type 0
+IsPlain line = HasFlags line Given false false × (line.max ≡ [])
 
-abbrev pub NoneSaid : (name : List ℕ) → (operands : List (List ℕ)) → Type 0
-NoneSaid name operands = (command : CommandForm) → ¬ IsSaid name operands command
+-- the line's options are those of the analysis
+abbrev pub HasOptions : LineForm → AnalyzedForm → Type 0
+HasOptions line of = HasFlags line of.mode of.delta false × IsMax line.max of.max
 
--- the words spell this command: its name, and behind it its operands, of which none begins with a hyphen
-pub record Spells (words : List (List ℕ)) (command : CommandForm) : Type 0 where
-  pub is : words ≡ command_word command ∷ operands_of command
-  pub fit : IsTrue (list_all is_operand (operands_of command))
+-- a line says a command: it has the command's operands, each option of the command once at most, and no other
+-- option
+abbrev pub Says : LineForm → CommandForm → Type 0
+Says line (Shows program report) = (line.operands ≡ program ∷ report ∷ []) × IsPlain line
+Says line (ListsEdges program) = (line.operands ≡ program ∷ []) × IsPlain line
+Says line (TellsMessage of edge number) = (e n : List ℕ)
+    × (line.operands ≡ of.program ∷ of.initial ∷ e ∷ n ∷ []) × HasOptions line of × IsNumber e edge
+    × IsNumber n number
+Says line (TellsStructure of node index) = (n : List ℕ)
+    × (line.operands ≡ of.program ∷ of.initial ∷ node ∷ n ∷ []) × HasOptions line of × IsNumber n index
+Says line (TellsLosses of) = (line.operands ≡ of.program ∷ of.initial ∷ []) × HasOptions line of
+
+-- a line that stands on the words says the command
+pub record IsRest (words : List (List ℕ)) (command : CommandForm) : Type 0 where
+  pub line : LineForm
+  pub stands : StandsOn words line
+  pub says : Says line command
+
+-- the words spell this command: its name, and the rest behind it
+abbrev pub Spells : List (List ℕ) → CommandForm → Type 0
+Spells words command = (rest : List (List ℕ)) × (words ≡ command_word command ∷ rest) × IsRest rest command
 
 -- the words spell no command
 abbrev pub SpellsNothing : List (List ℕ) → Type 0
 SpellsNothing words = (command : CommandForm) → ¬ Spells words command
+
+-- ---- parts of a line
+
+-- the line says this command, which has the name
+abbrev pub IsSaid : (name : List ℕ) → LineForm → CommandForm → Type 0
+IsSaid name line command = (command_word command ≡ name) × Says line command
+
+-- it says no command of that name
+abbrev pub NoneSaid : (name : List ℕ) → LineForm → Type 0
+NoneSaid name line = (command : CommandForm) → ¬ IsSaid name line command
+
+-- the analysis has these files, and the line its options
+abbrev pub IsAsked : (program initial : List ℕ) → LineForm → AnalyzedForm → Type 0
+IsAsked program initial line of = (of.program ≡ program) × (of.initial ≡ initial) × HasOptions line of
+
+-- the line has the options of no analysis
+abbrev pub AsksNothing : LineForm → Type 0
+AsksNothing line = (of : AnalyzedForm) → ¬ HasOptions line of

@@ -4,7 +4,6 @@ ghost use Rattle.std.specs.Prelude.{ℕ, ◌≡◌, List};
 ghost use Rattle.tv_explain_words.specs.Words.{CommandForm, Spells};
 
 /// Words spell one command at most.
-#[tactic(auto, using(crate::proofs::Operands::one_spelled))]
 pub fn one_command()
     ensures { (words : List (List ℕ)) (a b : CommandForm) → Spells words a → Spells words b → a ≡ b }
 {}

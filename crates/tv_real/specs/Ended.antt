@@ -4,7 +4,7 @@ use Rattle.std.specs.Vec.Iter.{into_iter_items}
 use Rattle.std.specs.declared.alloc.Global.{Global}
 use Rattle.std.specs.declared.vec.IntoIter.{IntoIter}
 use Rattle.tv_outside.specs.Told.{TookFront, appended}
-use Rattle.tv_status.specs.Status.{code_of, text_of}
+use Rattle.tv_status.specs.Status.{text_of}
 use Rattle.tv_status.specs.declared.status.Status.{Status}
 use Rattle.tv_status.specs.declared.status.Status.TheVariants.{Memory, WriteFault}
 
@@ -27,6 +27,6 @@ abbrev pub HasWords : {E : Type 0} → Result (IntoIter (String Global) Global) 
     → (List (String Global) → Type 0) → Type 0
 HasWords args AreSuch = (all : List (String Global)) × AreArguments args all × AreSuch (drop 1 all)
 
--- the exit code is that of a status of which this is so
-abbrev pub HasCodeOf : (code : ℕ) → (Status → Type 0) → Type 0
-HasCodeOf code IsSo = (status : Status) × (code ≡ code_of status) × IsSo status
+-- the exit code is that of an ending of which this is so
+abbrev pub HasCodeOf : {S : Type 0} → (code_of : S → ℕ) → (code : ℕ) → (S → Type 0) → Type 0
+HasCodeOf {S} code_of code IsSo = (ending : S) × (code ≡ code_of ending) × IsSo ending

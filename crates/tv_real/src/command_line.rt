@@ -7,10 +7,11 @@ ghost use Rattle.tv_outside.specs.Told.{TookFront, appended};
 ghost use Rattle.tv_status.specs.Status.{text_of};
 ghost use Rattle.tv_real.specs.Ended.{AreArguments};
 
+use crate::real_sink::RealSink;
 use std::alloc::{AllocError, Global};
 use std::env::Args;
 use std::io;
-use std::io::ErrorKind;
+use std::io::{ErrorKind, Stderr, Stdout};
 use tv_outside::Sink;
 use tv_status::{Status, write_status};
 
@@ -21,6 +22,17 @@ pub struct Streams<O, E> {
     pub out: O,
     /// Takes why it isn't given.
     pub err: E,
+}
+
+/// Standard output and standard error, each of a type of its own.
+pub fn standard(rt: &HostRuntime) -> Streams<RealSink<Stdout>, RealSink<Stderr>>
+    ensures out { result.out.faults ≡ 0 }
+    ensures err { result.err.faults ≡ 0 }
+{
+    Streams {
+        out: RealSink::new(rt.stdout()),
+        err: RealSink::new(rt.stderr()),
+    }
 }
 
 /// The arguments in order, none where they can't be told as text.

@@ -52,6 +52,9 @@ node L2 structures 1
 ";
 
 /// What a call with wrong words is told.
-pub const USAGE: &str = "usage: tvla-explain show PROGRAM REPORT
+pub const USAGE: &str = "usage: \
+tvla-explain message PROGRAM INITIAL EDGE NUMBER [--max-structures N] [--recompute | --delta]
+       tvla-explain structure PROGRAM INITIAL NODE INDEX [--max-structures N] [--recompute | --delta]
+       tvla-explain show PROGRAM REPORT
        tvla-explain edges PROGRAM
 ";

@@ -2,15 +2,11 @@
 #![tactic(auto)]
 
 mod call;
-mod real_files;
-mod real_sink;
 
-use call::{Streams, called};
-use real_files::RealFiles;
-use real_sink::RealSink;
+use call::called;
 use std::env;
-use std::io::{Stderr, Stdout};
 use std::process::ExitCode;
+use tv_real::{RealFiles, standard};
 
 fn main(rt: HostRuntime) -> ExitCode {
     called(
@@ -19,12 +15,4 @@ fn main(rt: HostRuntime) -> ExitCode {
         &mut RealFiles::new(&rt),
         &mut standard(&rt),
     )
-}
-
-/// Standard output and standard error, each of a type of its own.
-fn standard(rt: &HostRuntime) -> Streams<RealSink<Stdout>, RealSink<Stderr>> {
-    Streams {
-        out: RealSink::new(rt.stdout()),
-        err: RealSink::new(rt.stderr()),
-    }
 }

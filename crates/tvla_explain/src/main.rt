@@ -3,11 +3,10 @@
 
 mod call;
 
-use call::{Streams, called};
+use call::called;
 use std::env;
-use std::io::{Stderr, Stdout};
 use std::process::ExitCode;
-use tv_real::{RealFiles, RealSink};
+use tv_real::{RealFiles, standard};
 
 fn main(rt: HostRuntime) -> ExitCode {
     called(
@@ -16,12 +15,4 @@ fn main(rt: HostRuntime) -> ExitCode {
         &mut RealFiles::new(&rt),
         &mut standard(&rt),
     )
-}
-
-/// Standard output and standard error, each of a type of its own.
-fn standard(rt: &HostRuntime) -> Streams<RealSink<Stdout>, RealSink<Stderr>> {
-    Streams {
-        out: RealSink::new(rt.stdout()),
-        err: RealSink::new(rt.stderr()),
-    }
 }

@@ -1,3 +1,4 @@
+use Rattle.tv_explain.proofs.Begins.{answered_begins}
 use Rattle.tv_explain.proofs.Causes.{found}
 use Rattle.tv_explain.proofs.Endings.{none_missing, no_fault, stays_steady}
 use Rattle.tv_explain.proofs.explain.Goals as goal
@@ -17,3 +18,7 @@ returns-clause-held g c = λ steady holds.
 pub returns-clause-stays : goal.returns-clause-stays
 returns-clause-stays g c = λ steady.
     stays_steady c.perform-found.result _ _ _ _ _ _ _ _ _ c.deliver.ensures.gives (c.perform-found.ensures.steady steady)
+
+pub returns-clause-begins : goal.returns-clause-begins
+returns-clause-begins g c =
+    answered_begins c.perform-found.result _ _ _ _ _ _ _ _ c.deliver.ensures.gives c.perform-found.ensures.begins

@@ -17,3 +17,8 @@ pub returns-clause-means : goal.returns-clause-means
 returns-clause-means c =
     drawn c.edges_are_kept.ensures c.args.bytes.now c.in_ok-tree.tree (flat_of c.in_ok-flat.flat) c.in_ok-program.program
     c.in_ok-tree.ensures.tree c.in_ok-flat.ensures.exact c.in_ok-program.ensures.program
+
+pub returns-clause-valid : goal.returns-clause-valid
+returns-clause-valid c =
+    c.in_ok-program.ensures.valid
+    (c.flat_forms_are_resolvable.ensures _ (c.in_ok-flat.ensures.flat c.in_ok-tree.ensures.spelled))

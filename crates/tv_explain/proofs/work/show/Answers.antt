@@ -4,6 +4,7 @@ use Rattle.std.specs.declared.alloc.Global.{Global}
 use Rattle.std.specs.declared.vec.Vec.{Vec}
 use Rattle.tv_listing.specs.declared.analysis.Analysis.{Analysis}
 use Rattle.tv_model.specs.declared.program.Program.{Program}
+use Rattle.tv_explain.proofs.Begins.{gathered_begins, one_more}
 use Rattle.tv_explain.proofs.Causes.{program_fault, report_fault, rose_later, still, unless_not_read}
 use Rattle.tv_explain_words.specs.Words.{Shows}
 use Rattle.tv_explain.proofs.work.show.Goals as goal
@@ -60,3 +61,8 @@ returns-clause-found g c = (
     c.in_ok-shown_text.ensures,
   ),
 )
+
+pub returns-clause-begins : goal.returns-clause-begins
+returns-clause-begins g c =
+    one_more _ c.args.program.now _ _ _ (gathered_begins _ c.args.program.now _ _ c.in_ok-program.ensures.begins)
+    c.in_ok-report.ensures.begins

@@ -1,0 +1,75 @@
+use Rattle.std.proofs.Common.{◌≡◌, List, Err, subst}
+use Rattle.std.proofs.lemmas.Result.{err_from_is_err_and}
+use Rattle.tv_outside.specs.Count.{Rose}
+use Rattle.tv_status.specs.declared.status.Role.TheVariants as role
+use Rattle.tv_struct.specs.StructureForm.{StructureForm}
+use Rattle.tv_texts.specs.Files.{IsFileCause, IsProgramFile, LacksFile}
+use Rattle.tv_explain.proofs.Begins.{one_more}
+use Rattle.tv_explain.proofs.Causes.{initial_fault, rose_later, still, taken_fault, unless_not_read}
+use Rattle.tv_explain.specs.declared.inputs.Drawn.{Drawn}
+use Rattle.tv_explain.specs.declared.inputs.Inputs.{Inputs}
+use Rattle.tv_explain_words.specs.Words.{analyzed_of}
+use Rattle.tv_explain.proofs.inputs.load_inputs.Goals as goal
+
+pub returns-in_err-drawn-clause-cause : goal.returns-in_err-drawn-clause-cause
+returns-in_err-drawn-clause-cause g c =
+    let p = err_from_is_err_and c.from_residual.result c.from_residual.ensures.1 in
+    let told = g.F.Files.holds c.args.files.now in
+    let rose = Rose (g.F.Files.faults c.args.files.now) (g.F.Files.faults c.load_taken.new.files) in
+    let steady = g.F.Files.steady c.args.files.now in
+    rw (p.1, p.2) (taken_fault told (analyzed_of c.args.of.now) rose steady c.in_err-drawn.field-0.0
+    (subst (λ n. IsFileCause role.Program (λ k. IsProgramFile told n (Err k)) (LacksFile told n) rose steady
+    c.in_err-drawn.field-0.0) c.deref.ensures c.in_err-drawn.ensures.cause))
+
+pub returns-in_err-drawn-clause-steady : goal.returns-in_err-drawn-clause-steady
+returns-in_err-drawn-clause-steady g c =
+    let p = err_from_is_err_and c.from_residual.result c.from_residual.ensures.1 in
+    let new = c.load_taken.new.files in
+    let old = c.args.files.now in
+    rw (p.1, p.2) (λ s. unless_not_read Drawn Inputs c.in_err-drawn.field-0.0
+    (g.F.Files.steady new × (g.F.Files.faults new ≡ g.F.Files.faults old))
+    (g.F.Files.steady new × (g.F.Files.faults new ≡ g.F.Files.faults old)) (λ h. h)
+    (c.in_err-drawn.ensures.steady s))
+
+pub returns-in_err-initial-clause-cause : goal.returns-in_err-initial-clause-cause
+returns-in_err-initial-clause-cause g c =
+    let p = err_from_is_err_and c.from_residual-in_err-initial.result c.from_residual-in_err-initial.ensures.1 in
+    let cause = rw (c.in_ok-drawn.ensures.holds, c.deref-2.ensures) at c.in_err-initial.ensures.cause in
+    rw (p.1, p.2) (initial_fault _ (analyzed_of c.args.of.now) c.in_ok-drawn.drawn _ _ _ _ _
+    (rw c.deref.ensures at c.in_ok-drawn.ensures.means) (rose_later _ _ _ c.in_ok-drawn.ensures.count)
+    (λ s. (c.in_ok-drawn.ensures.steady s).0) cause)
+
+pub returns-in_err-initial-clause-steady : goal.returns-in_err-initial-clause-steady
+returns-in_err-initial-clause-steady g c =
+    let p = err_from_is_err_and c.from_residual-in_err-initial.result c.from_residual-in_err-initial.ensures.1 in
+    let new = c.load_initial.new.files in
+    let mid = c.load_taken.new.files in
+    let old = c.args.files.now in
+    rw (p.1, p.2) (λ s. let before = c.in_ok-drawn.ensures.steady s in
+    unless_not_read (List StructureForm) Inputs c.in_err-initial.field-0.0
+    (g.F.Files.steady new × (g.F.Files.faults new ≡ g.F.Files.faults mid))
+    (g.F.Files.steady new × (g.F.Files.faults new ≡ g.F.Files.faults old))
+    (λ h. still (g.F.Files.faults old) (g.F.Files.faults mid) (g.F.Files.faults new) (g.F.Files.steady new) before.1
+    h)
+    (c.in_err-initial.ensures.steady before.0))
+
+pub returns-clause-means : goal.returns-clause-means
+returns-clause-means g c = record {
+  drawn = rw c.deref.ensures at c.in_ok-drawn.ensures.means;
+  initial = rw (c.in_ok-drawn.ensures.holds, c.deref-2.ensures) at c.in_ok-initial.ensures.means;
+}
+
+pub returns-clause-ready : goal.returns-clause-ready
+returns-clause-ready g c = record {
+  valid = c.in_ok-drawn.ensures.valid;
+  over = c.in_ok-initial.ensures.over;
+}
+
+pub returns-clause-steady : goal.returns-clause-steady
+returns-clause-steady g c = λ s.
+    let before = c.in_ok-drawn.ensures.steady s in still _ _ _ _ before.1 (c.in_ok-initial.ensures.steady before.0)
+
+pub returns-clause-begins : goal.returns-clause-begins
+returns-clause-begins g c =
+    one_more _ (analyzed_of c.args.of.now).program _ _ _ (rw c.deref.ensures at c.in_ok-drawn.ensures.begins)
+    c.in_ok-initial.ensures.begins

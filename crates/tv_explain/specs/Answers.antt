@@ -1,0 +1,113 @@
+-- What a command answers, and what it gives no answer for.
+use Rattle.std.specs.Prelude.{ℕ, ◌≡◌, ◌⊎◌, ◌<◌, ◌≤◌, false, List, ◌++◌, Option, Some, Ok, length, slice_get}
+use Rattle.std.specs.Prelude.{codes}
+use Rattle.std.specs.Prelude.{Contains}
+use Rattle.tv_kleene.specs.declared.K3.{K3}
+use Rattle.tv_listing.specs.declared.analysis.Analysis.{Analysis}
+use Rattle.tv_model.specs.Program.{MessageForm, program_of}
+use Rattle.tv_model.specs.declared.program.Program.{Program}
+use Rattle.tv_outside.specs.Told.{Held}
+use Rattle.tv_reasons.specs.Reasons.{HasNone, IsLedToBy, IsNeverRaised, IsRaisedBy}
+use Rattle.tv_step_laws.specs.Budgets.{MeetsIndividuals, MeetsSplits}
+use Rattle.tv_texts.specs.Files.{IsProgramFile, IsReportFile}
+use Rattle.tv_trail_laws.specs.declared.trail.Trail.{Trail}
+use Rattle.tv_tree.specs.Copies.{program_of as tree_of}
+use Rattle.tv_work.specs.Analysed.{Meets}
+use Rattle.tv_work.specs.Reach.{AreMoreThan, IsReached, Point}
+use Rattle.tv_explain.specs.Meaning.{FilesMean, IsDrawnFile, edges_in, form_in}
+use Rattle.tv_explain.specs.declared.fault.Fault.{Fault}
+use Rattle.tv_explain.specs.declared.fault.Fault.TheVariants.{Memory, NotThere, Structures}
+use Rattle.tv_explain.specs.declared.fault.Fault.TheVariants.{TooManyIndividuals}
+use Rattle.tv_explain.specs.declared.fault.Fault.TheVariants.{TooManySplits}
+use Rattle.tv_explain.specs.declared.fault.Sought.{Sought}
+use Rattle.tv_explain.specs.declared.fault.Sought.TheVariants as sought
+use Rattle.tv_explain.specs.declared.inputs.Drawn.{Drawn}
+use Rattle.tv_explain.specs.declared.inputs.Inputs.{Inputs}
+use Rattle.tv_explain_text.specs.Texts.{edges_text, messages_at, shown_text}
+use Rattle.tv_explain_text.specs.Trails.{raised_line, trail_text}
+use Rattle.tv_explain_words.specs.Words.{AnalyzedForm, CommandForm, Shows, ListsEdges, TellsMessage}
+use Rattle.tv_explain_words.specs.Words.{TellsStructure, TellsLosses}
+
+-- ---- messages and structures
+
+-- the trail's lines: the initial structure's opening, and edge by edge what comes of it
+abbrev pub trail_lines : Inputs → Trail → List ℕ
+trail_lines inputs trail = trail_text inputs.drawn.program.vocab (edges_in inputs) trail
+
+-- The text is that of a shortest trail to the message and of its value there; or that there is none, where no
+-- reached structure raises the message.
+abbrev pub TellsOfMessage : AnalyzedForm → Inputs → (edge number : ℕ) → MessageForm → (text : List ℕ) → Type 0
+TellsOfMessage of inputs edge number message text =
+    ((trail : Trail) × (value : K3)
+    × IsRaisedBy (form_in inputs) of.mode inputs.initial edge number trail value
+    × (text
+    ≡ trail_lines inputs trail ++ raised_line (edges_in inputs) edge number value message.text))
+    ⊎ (IsNeverRaised (form_in inputs) of.mode inputs.initial edge number × (text ≡ codes "no message\n"))
+
+-- the message of this number among those of the edge's action is told of
+abbrev pub IsMessageText : AnalyzedForm → Inputs → (edge number : ℕ) → (text : List ℕ) → Type 0
+IsMessageText of inputs edge number text = (message : MessageForm)
+    × (slice_get (messages_at (form_in inputs) edge) number ≡ Some message)
+    × TellsOfMessage of inputs edge number message text
+
+-- the text is that of a shortest trail to the structure at this place of the node of this name
+abbrev pub IsStructureText : AnalyzedForm → Inputs → (node : List ℕ) → (index : ℕ) → (text : List ℕ) → Type 0
+IsStructureText of inputs node index text = (place : ℕ)
+    × (slice_get (form_in inputs).nodes place ≡ Some node)
+    × ((trail : Trail) × IsLedToBy (form_in inputs) of.mode inputs.initial of.max place index trail
+    × (text ≡ trail_lines inputs trail))
+
+-- ---- answers
+
+-- The text is what the command gives: the structures of REPORT, a report on PROGRAM; the control edges of
+-- PROGRAM as its text has them, with the messages of their actions; or a shortest trail.
+abbrev pub IsAnswer : Option Held → CommandForm → (text : List ℕ) → Type 0
+IsAnswer told (Shows program report) text = (p : Program) × IsProgramFile told program (Ok p)
+    × ((a : Analysis) × IsReportFile told report p (Ok a) × (text ≡ shown_text p a.listing))
+IsAnswer told (ListsEdges program) text = (drawn : Drawn) × IsDrawnFile told false program drawn
+    × (text ≡ edges_text (program_of drawn.program) 0 (tree_of drawn.tree).edges)
+IsAnswer told (TellsMessage of edge number) text = (inputs : Inputs) × FilesMean told of inputs
+    × IsMessageText of inputs edge number text
+IsAnswer told (TellsStructure of node index) text = (inputs : Inputs) × FilesMean told of inputs
+    × IsStructureText of inputs node index text
+IsAnswer told (TellsLosses of) text = ⊥
+
+-- ---- limits, and what isn't there
+
+-- the points that the analysis reaches
+abbrev pub Reached : AnalyzedForm → Inputs → Point → Type 0
+Reached of inputs = IsReached (form_in inputs) of.mode inputs.initial
+
+-- what the words name isn't there: the program has no edge of that number, the edge's action no such message,
+-- the program no node of that name, or the analysis no structure at that place of it
+abbrev pub NamesNothing : CommandForm → AnalyzedForm → Inputs → Sought → Type 0
+NamesNothing (TellsMessage asked edge number) of inputs sought.Edge = length (form_in inputs).edges ≤ edge
+NamesNothing (TellsMessage asked edge number) of inputs sought.Message =
+    (edge < length (form_in inputs).edges) × (length (messages_at (form_in inputs) edge) ≤ number)
+NamesNothing (TellsStructure asked node index) of inputs sought.Node = ¬ Contains (form_in inputs).nodes node
+NamesNothing (TellsStructure asked node index) of inputs sought.Structure = (place : ℕ)
+    × (slice_get (form_in inputs).nodes place ≡ Some node)
+    × HasNone (form_in inputs) of.mode inputs.initial of.max place index
+NamesNothing command of inputs other = ⊥
+
+-- why the command gives no text where its files mean these: more structures are reached than may be listed,
+-- the step of a reached structure meets a budget, what is named isn't there, or memory ran out
+abbrev pub IsStopped : CommandForm → AnalyzedForm → Inputs → Fault → Type 0
+IsStopped command of inputs (Structures max) = (max ≡ of.max) × AreMoreThan max (Reached of inputs)
+IsStopped command of inputs TooManySplits =
+    Meets (form_in inputs) (MeetsSplits (form_in inputs)) (Reached of inputs)
+IsStopped command of inputs TooManyIndividuals =
+    Meets (form_in inputs) (MeetsIndividuals (form_in inputs)) (Reached of inputs)
+IsStopped command of inputs (NotThere what) = NamesNothing command of inputs what
+IsStopped command of inputs Memory = Unit {0}
+IsStopped command of inputs other = ⊥
+
+-- it is a command on an analysis, whose files mean such
+abbrev pub FilesMeanSuch : Option Held → CommandForm → (AnalyzedForm → Inputs → Type 0) → Type 0
+FilesMeanSuch told (Shows program report) AreSuch = ⊥
+FilesMeanSuch told (ListsEdges program) AreSuch = ⊥
+FilesMeanSuch told (TellsMessage of edge number) AreSuch =
+    (inputs : Inputs) × FilesMean told of inputs × AreSuch of inputs
+FilesMeanSuch told (TellsStructure of node index) AreSuch =
+    (inputs : Inputs) × FilesMean told of inputs × AreSuch of inputs
+FilesMeanSuch told (TellsLosses of) AreSuch = (inputs : Inputs) × FilesMean told of inputs × AreSuch of inputs

@@ -1,0 +1,35 @@
+-- What the parts of the work give.
+use Rattle.std.specs.Prelude.{◌≡◌, Bool, true, false, List, Option, Err, All}
+use Rattle.tv_delta_laws.specs.Differences.{IsDifferenced}
+use Rattle.tv_model.specs.Program.{program_of}
+use Rattle.tv_model.specs.Valid.{IsValid}
+use Rattle.tv_outside.specs.Told.{Held}
+use Rattle.tv_status.specs.declared.status.Role.TheVariants as role
+use Rattle.tv_struct.specs.StructureForm.{IsOver}
+use Rattle.tv_texts.specs.Files.{IsProgramFile}
+use Rattle.tv_tree.specs.Copies.{program_of as tree_of}
+use Rattle.tv_explain.specs.Meaning.{IsNoInitial, LacksInputs}
+use Rattle.tv_explain.specs.declared.fault.Fault.{Fault}
+use Rattle.tv_explain.specs.declared.fault.Fault.TheVariants.{FileFault, ReadFault, Memory}
+use Rattle.tv_explain.specs.declared.inputs.Drawn.{Drawn}
+use Rattle.tv_explain.specs.declared.inputs.Inputs.{Inputs}
+use Rattle.tv_explain_words.specs.Words.{AnalyzedForm}
+
+-- what is taken where this was read
+abbrev pub IsTakenFrom : (delta : Bool) → (read taken : Drawn) → Type 0
+IsTakenFrom false read taken = taken ≡ read
+IsTakenFrom true read taken = IsDifferenced (program_of read.program) (program_of taken.program)
+    × (taken.tree ≡ read.tree)
+
+-- an analysis can take it
+pub record AreReady (inputs : Inputs) : Type 0 where
+  pub valid : IsValid (program_of inputs.drawn.program)
+  pub over : All (IsOver inputs.drawn.program.vocab) inputs.initial
+
+-- why the files of an analysis mean nothing; `rose` says that the count of the files' faults rose
+abbrev pub IsInputsCause : Option Held → AnalyzedForm → (rose steady : Type 0) → Fault → Type 0
+IsInputsCause told of rose steady (FileFault role.Program kind) = IsProgramFile told of.program (Err kind)
+IsInputsCause told of rose steady (FileFault role.Initial kind) = IsNoInitial told of kind
+IsInputsCause told of rose steady ReadFault = rose × (steady → LacksInputs told of)
+IsInputsCause told of rose steady Memory = Unit {0}
+IsInputsCause told of rose steady other = ⊥

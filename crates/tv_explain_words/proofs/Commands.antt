@@ -1,0 +1,143 @@
+-- From what stands on a line to the command that it says, or to none.
+use Rattle.std.proofs.Common.{◌≡◌, ◌∙◌, ℕ, false, sym, ap, subst, arith, List, [], ◌∷◌}
+use Rattle.std.specs.Prelude.{drop, Option, Some, None, Result, Ok, Err, IfOk, IfSome, IfNone}
+use Rattle.std.specs.List.{slice_index_or}
+use Rattle.std.proofs.lemmas.Fmt.{decimal_injective}
+use Rattle.tv_model.specs.declared.program.Mode.TheVariants.{Given}
+use Rattle.clap.specs.declared.parser.matches.ArgMatches.{ArgMatches}
+use Rattle.tv_words.specs.Line.{IsLine}
+use Rattle.tv_words.specs.Setup.{HasLine, HasNoLine, told_line}
+use Rattle.tv_words.specs.Words.{LineForm, StandsOn, line_of, line_flags, line_settings}
+use Rattle.tv_words.proofs.Commands.{AreAlike, turned, same_flags, same_max, one_form, there, told, one_mode}
+use Rattle.tv_words.proofs.Commands.{one_bool, one_max, operand}
+use Rattle.tv_explain_words.specs.Words.{AnalyzedForm, CommandForm, Shows, ListsEdges, TellsMessage}
+use Rattle.tv_explain_words.specs.Words.{TellsStructure, TellsLosses, HasOptions, IsNumber, IsPlain, Says}
+use Rattle.tv_explain_words.specs.Words.{IsSaid, NoneSaid, Spells, SpellsNothing, command_word, form_of}
+use Rattle.tv_explain_words.specs.declared.words.Command.{Command}
+
+-- lines that are alike say the same
+module _ (a b : LineForm) (alike : AreAlike a b) where
+  same_plain : IsPlain a → IsPlain b
+  same_plain h = (same_flags a b alike Given false false h.0, sym alike.max ∙ h.1)
+
+  same_options : (of : AnalyzedForm) → HasOptions a of → HasOptions b of
+  same_options of h =
+      (same_flags a b alike of.mode of.delta false h.0, same_max a b alike of.max h.1)
+
+  same_said : (command : CommandForm) → Says a command → Says b command
+  same_said (Shows program report) h = (sym alike.operands ∙ h.0, same_plain h.1)
+  same_said (ListsEdges program) h = (sym alike.operands ∙ h.0, same_plain h.1)
+  same_said (TellsMessage of edge number) h =
+      (h.0, h.1, sym alike.operands ∙ h.2, same_options of h.3, h.4, h.5)
+  same_said (TellsStructure of node index) h = (h.0, sym alike.operands ∙ h.1, same_options of h.2, h.3)
+  same_said (TellsLosses of) h = (sym alike.operands ∙ h.0, same_options of h.1)
+
+-- ---- what stands on the words
+
+module _ (name : List ℕ) (words rest : List (List ℕ)) (whole : words ≡ name ∷ rest) where
+  -- the rest of the command's words is what stands behind the name
+  behind_name : (command : CommandForm) (other : List (List ℕ)) → words ≡ command_word command ∷ other
+      → (command_word command ≡ name) × (other ≡ rest)
+  behind_name command other f =
+      let both : command_word command ∷ other ≡ name ∷ rest = sym f ∙ whole in
+      (ap (λ ws. slice_index_or ws 0 []) both, ap (drop 1) both)
+
+  pub none_without_line : HasNoLine line_flags line_settings rest → SpellsNothing words
+  none_without_line none command (other, f, is) =
+      let same = (behind_name command other f).1 in
+      none is.stands.parts is.stands.behind
+      (subst (λ ws. IsLine line_flags line_settings is.stands.parts is.stands.behind ws) same is.stands.spelled)
+
+  module _ (m : ArgMatches) (h : HasLine line_flags line_settings rest m) where
+    pub spelled : {E : Type 0} (r : Result (Option Command) E)
+        → IfOk r (λ found. IfSome found (λ command. IsSaid name (told_line m) (form_of command)))
+        → IfOk r (λ found. IfSome found (λ command. Spells words (form_of command)))
+    spelled (Ok (Some command)) said = (
+      rest,
+      whole ∙ ap (λ n. n ∷ rest) (sym said.0),
+      record {
+        line = line_of h.parts h.behind;
+        stands = there rest m h;
+        says = same_said (told_line m) (line_of h.parts h.behind) (told rest m h) (form_of command) said.1;
+      },
+    )
+    spelled (Ok None) said = said
+    spelled (Err e) said = said
+
+    pub unspelled : {E : Type 0} (r : Result (Option Command) E)
+        → IfOk r (λ found. IfNone found (NoneSaid name (told_line m)))
+        → IfOk r (λ found. IfNone found (SpellsNothing words))
+    unspelled (Ok (Some command)) none = none
+    unspelled (Ok None) none = λ command spells.
+        let same = behind_name command spells.0 spells.1 in
+        let line : spells.2.line ≡ line_of h.parts h.behind =
+        one_form rest spells.2.line (line_of h.parts h.behind)
+        (subst (λ ws. StandsOn ws spells.2.line) same.1 spells.2.stands) (there rest m h) in
+        none command (
+          same.0,
+          same_said (line_of h.parts h.behind) (told_line m)
+              (turned (told_line m) (line_of h.parts h.behind) (told rest m h)) command
+              (subst (λ l. Says l command) line spells.2.says),
+        )
+    unspelled (Err e) none = none
+
+-- ---- the words spell one command at most
+
+one_number : (v w : List ℕ) (a b : ℕ) → v ≡ w → IsNumber v a → IsNumber w b → a ≡ b
+one_number v w a b same is also =
+    decimal_injective a b (omega (arith, is.1)) (omega (arith, also.1)) (sym is.0 ∙ same ∙ also.0)
+
+one_asked : (line : LineForm) (a b : AnalyzedForm) → a.program ≡ b.program → a.initial ≡ b.initial
+    → HasOptions line a → HasOptions line b → a ≡ b
+one_asked line a b programs initials x y =
+    let modes = one_mode a.mode b.mode (sym x.0.0.0 ∙ y.0.0.0) in
+    let deltas = one_bool a.delta b.delta (sym x.0.0.1 ∙ y.0.0.1) in
+    let maxes = one_max line.max a.max b.max x.1 y.1 in
+    λ i. record {
+      program = programs i;
+      initial = initials i;
+      max = maxes i;
+      mode = modes i;
+      delta = deltas i;
+    }
+
+abbrev first_byte : List ℕ → ℕ
+first_byte word = slice_index_or word 0 0
+
+abbrev second_byte : List ℕ → ℕ
+second_byte word = slice_index_or word 1 0
+
+one_said : (line : LineForm) (a b : CommandForm) → command_word a ≡ command_word b → Says line a → Says line b
+    → a ≡ b
+one_said line (Shows program report) (Shows program' report') named a b =
+    let names : program ∷ report ∷ [] ≡ program' ∷ report' ∷ [] = sym a.0 ∙ b.0 in
+    λ i. Shows (operand 0 (names i)) (operand 1 (names i))
+one_said line (ListsEdges program) (ListsEdges program') named a b =
+    let names : program ∷ [] ≡ program' ∷ [] = sym a.0 ∙ b.0 in
+    λ i. ListsEdges (operand 0 (names i))
+one_said line (TellsMessage of edge number) (TellsMessage of' edge' number') named a b =
+    let names : of.program ∷ of.initial ∷ a.0 ∷ a.1 ∷ [] ≡ of'.program ∷ of'.initial ∷ b.0 ∷ b.1 ∷ []
+    = sym a.2 ∙ b.2 in
+    let same = one_asked line of of' (ap (operand 0) names) (ap (operand 1) names) a.3 b.3 in
+    let edges = one_number a.0 b.0 edge edge' (ap (operand 2) names) a.4 b.4 in
+    let numbers = one_number a.1 b.1 number number' (ap (operand 3) names) a.5 b.5 in
+    λ i. TellsMessage (same i) (edges i) (numbers i)
+one_said line (TellsStructure of node index) (TellsStructure of' node' index') named a b =
+    let names : of.program ∷ of.initial ∷ node ∷ a.0 ∷ [] ≡ of'.program ∷ of'.initial ∷ node' ∷ b.0 ∷ []
+    = sym a.1 ∙ b.1 in
+    let same = one_asked line of of' (ap (operand 0) names) (ap (operand 1) names) a.2 b.2 in
+    let places = one_number a.0 b.0 index index' (ap (operand 3) names) a.3 b.3 in
+    λ i. TellsStructure (same i) (operand 2 (names i)) (places i)
+one_said line (TellsLosses of) (TellsLosses of') named a b =
+    let names : of.program ∷ of.initial ∷ [] ≡ of'.program ∷ of'.initial ∷ [] = sym a.0 ∙ b.0 in
+    ap TellsLosses (one_asked line of of' (ap (operand 0) names) (ap (operand 1) names) a.1 b.1)
+one_said line a b named x y = absurd (omega (arith, ap first_byte named, ap second_byte named))
+
+pub one_spelled : (words : List (List ℕ)) (a b : CommandForm) → Spells words a → Spells words b → a ≡ b
+one_spelled words a b (rest, e, h) (rest', f, k) =
+    let both : command_word a ∷ rest ≡ command_word b ∷ rest' = sym e ∙ f in
+    let named : command_word a ≡ command_word b = ap (operand 0) both in
+    let behind : rest ≡ rest' = ap (drop 1) both in
+    let line : h.line ≡ k.line =
+    one_form rest' h.line k.line (subst (λ ws. StandsOn ws h.line) behind h.stands) k.stands in
+    one_said k.line a b named (subst (λ l. Says l a) line h.says) k.says

@@ -1,0 +1,332 @@
+//! Chains to messages and to structures, and what isn't there.
+
+use crate::call::{PLAIN, Row, wrong_part};
+use crate::texts::{PROGRAM, USAGE};
+use std::test::Fail;
+
+/// A structure without individuals in which `b` is false, and so as the program has it.
+const OFF: &str = "%n = {} %p = {}";
+
+/// Two of them: in the first `b` is true.
+const BOTH: &str = "%n = {} %p = { b = 1 } %n = {} %p = {}";
+
+const ASKED: Row<'static, 'static, 'static, 'static> = Row {
+    files: &[("p", PROGRAM), ("i", OFF)],
+    ..PLAIN
+};
+
+/// What is asked of both structures.
+const ASKED_OF_BOTH: Row<'static, 'static, 'static, 'static> = Row {
+    files: &[("p", PROGRAM), ("i", BOTH)],
+    ..PLAIN
+};
+
+const ABSENT: Row<'static, 'static, 'static, 'static> = Row { code: 2, ..ASKED };
+
+const NO_COMMAND: Row<'static, 'static, 'static, 'static> = Row {
+    code: 2,
+    err: USAGE,
+    ..ASKED
+};
+
+/// `b` is false at `L0` and true at `L1`, but for the second structure.
+static CHAINS: [Row<'static, 'static, 'static, 'static>; 15] = [
+    Row {
+        words: &["message", "p", "i", "3", "0"],
+        out: "initial 0
+edge 0  L0 Go ( ) L1  b
+edge 3  L1 Say ( ) L2  message 0 is 1: \"still on\"
+",
+        ..ASKED
+    },
+    Row {
+        words: &["message", "p", "i", "2", "1"],
+        out: "initial 0
+edge 0  L0 Go ( ) L1  b
+edge 2  L1 Go ( ) L0  message 1 is 1: \"on\"
+",
+        ..ASKED
+    },
+    // at L0 `b` is never true
+    Row {
+        words: &["message", "p", "i", "0", "1"],
+        out: "no message\n",
+        ..ASKED
+    },
+    // there are no individuals
+    Row {
+        words: &["message", "p", "i", "2", "0"],
+        out: "no message\n",
+        ..ASKED
+    },
+    // of the initial structures that from which fewer steps lead there
+    Row {
+        words: &["message", "p", "i", "3", "0"],
+        out: "initial 1
+edge 0  L0 Go ( ) L1  b
+edge 3  L1 Say ( ) L2  message 0 is 1: \"still on\"
+",
+        ..ASKED_OF_BOTH
+    },
+    // no step at all
+    Row {
+        words: &["message", "p", "i", "0", "1"],
+        out: "initial 0  b
+edge 0  L0 Go ( ) L1  message 1 is 1: \"on\"
+",
+        ..ASKED_OF_BOTH
+    },
+    // a value that isn't known
+    Row {
+        words: &["message", "p", "i", "0", "0"],
+        files: &[
+            ("p", PROGRAM),
+            (
+                "i",
+                "%n = {u, v} %p = { x = {u:1/2} n = {u->v, v->v:1/2} sm = {v:1/2} }",
+            ),
+        ],
+        out: "initial 0  ((#0))-n?->((#0))  (#1&x?)-n->((#0))
+edge 0  L0 Go ( ) L1  message 0 is 1/2: \"x is somewhere\"
+",
+        ..PLAIN
+    },
+    // options stand anywhere
+    Row {
+        words: &[
+            "message",
+            "--recompute",
+            "p",
+            "i",
+            "--max-structures",
+            "2",
+            "3",
+            "0",
+        ],
+        out: "initial 0
+edge 0  L0 Go ( ) L1  b
+edge 3  L1 Say ( ) L2  message 0 is 1: \"still on\"
+",
+        ..ASKED
+    },
+    Row {
+        words: &[
+            "message",
+            "p",
+            "i",
+            "0",
+            "1",
+            "--delta",
+            "--max-structures=1",
+        ],
+        out: "initial 0  b
+edge 0  L0 Go ( ) L1  message 1 is 1: \"on\"
+",
+        files: &[("p", PROGRAM), ("i", "%n = {} %p = { b = 1 }")],
+        ..PLAIN
+    },
+    Row {
+        words: &["structure", "p", "i", "L0", "0"],
+        out: "initial 0\n",
+        ..ASKED
+    },
+    Row {
+        words: &["structure", "p", "i", "L2", "0"],
+        out: "initial 0
+edge 0  L0 Go ( ) L1  b
+edge 3  L1 Say ( ) L2  b
+",
+        ..ASKED
+    },
+    // both are listed at each node, that in which `b` is false first
+    Row {
+        words: &["structure", "p", "i", "L1", "0"],
+        out: "initial 0  b
+edge 0  L0 Go ( ) L1
+",
+        ..ASKED_OF_BOTH
+    },
+    Row {
+        words: &["structure", "--delta", "--", "p", "i", "L1", "1"],
+        out: "initial 1
+edge 0  L0 Go ( ) L1  b
+",
+        ..ASKED_OF_BOTH
+    },
+    // a structure that contradicts a rule has no opening, and keeps its number
+    Row {
+        words: &["message", "p", "i", "0", "0"],
+        files: &[
+            (
+                "p",
+                "%p b() %r b() ==> 0 %% %action Say() { %message !b() -> \"off\" } %% L Say() L",
+            ),
+            ("i", BOTH),
+        ],
+        out: "initial 1
+edge 0  L Say ( ) L  message 0 is 1: \"off\"
+",
+        ..PLAIN
+    },
+    // and where there is no other, nothing is reached
+    Row {
+        words: &["message", "p", "i", "0", "0"],
+        files: &[
+            (
+                "p",
+                "%p b() %r b() ==> 0 %% %action Say() { %message !b() -> \"off\" } %% L Say() L",
+            ),
+            ("i", "%n = {} %p = { b = 1 }"),
+        ],
+        out: "no message\n",
+        ..PLAIN
+    },
+];
+
+#[test]
+fn chains_are_told(rt: HostRuntime) -> Result<(), Fail> {
+    for number in 0..CHAINS.len() {
+        assert_eq!(rt; wrong_part(rt.alloc(), &CHAINS[number])?, None, "{number}");
+    }
+    Ok(())
+}
+
+static REFUSALS: [Row<'static, 'static, 'static, 'static>; 25] = [
+    Row {
+        words: &["message", "p", "i", "4", "0"],
+        err: "tvla: no such edge\n",
+        ..ABSENT
+    },
+    Row {
+        words: &["message", "p", "i", "4294967295", "0"],
+        err: "tvla: no such edge\n",
+        ..ABSENT
+    },
+    Row {
+        words: &["message", "p", "i", "1", "0"],
+        err: "tvla: no such message\n",
+        ..ABSENT
+    },
+    Row {
+        words: &["message", "p", "i", "3", "1"],
+        err: "tvla: no such message\n",
+        ..ABSENT
+    },
+    Row {
+        words: &["structure", "p", "i", "L3", "0"],
+        err: "tvla: no such node\n",
+        ..ABSENT
+    },
+    Row {
+        words: &["structure", "p", "i", "L1", "1"],
+        err: "tvla: no such structure\n",
+        ..ABSENT
+    },
+    Row {
+        words: &["message", "p", "i", "3", "0", "--max-structures", "1"],
+        code: 4,
+        err: "tvla: more than 1 structures\n",
+        ..ASKED
+    },
+    Row {
+        words: &["structure", "p", "i", "L0", "0", "--max-structures", "2"],
+        code: 4,
+        err: "tvla: more than 2 structures\n",
+        ..ASKED
+    },
+    Row {
+        words: &["message", "p", "i", "0", "0"],
+        files: &[("p", PROGRAM), ("i", "%n = {} %p = { c = 1 }")],
+        code: 3,
+        err: "tvla: initial: NameUnknown\n",
+        ..PLAIN
+    },
+    Row {
+        words: &["structure", "p", "i", "L0", "0"],
+        files: &[("p", PROGRAM), ("i", "%n")],
+        code: 3,
+        err: "tvla: initial: Syntax at 1:3\n",
+        ..PLAIN
+    },
+    Row {
+        words: &["message", "p", "i", "0", "0"],
+        files: &[("p", "%p x( %% %%"), ("i", "%n")],
+        code: 3,
+        err: "tvla: program: Syntax at 1:7\n",
+        ..PLAIN
+    },
+    Row {
+        words: &["structure", "p", "i", "L0", "0"],
+        files: &[("i", OFF)],
+        code: 5,
+        err: "tvla: read fault\n",
+        ..PLAIN
+    },
+    Row {
+        words: &["message", "p", "i", "9", "0"],
+        files: &[("p", PROGRAM)],
+        code: 5,
+        err: "tvla: read fault\n",
+        ..PLAIN
+    },
+    Row {
+        words: &["message", "p", "i", "0"],
+        ..NO_COMMAND
+    },
+    Row {
+        words: &["message", "p", "i", "0", "0", "0"],
+        ..NO_COMMAND
+    },
+    Row {
+        words: &["message", "p", "i", "L0", "0"],
+        ..NO_COMMAND
+    },
+    Row {
+        words: &["message", "p", "i", "00", "0"],
+        ..NO_COMMAND
+    },
+    Row {
+        words: &["message", "p", "i", "0", "+0"],
+        ..NO_COMMAND
+    },
+    Row {
+        words: &["message", "p", "i", "4294967296", "0"],
+        ..NO_COMMAND
+    },
+    Row {
+        words: &["message", "p", "i", "0", "0", "--max-structures=0"],
+        ..NO_COMMAND
+    },
+    Row {
+        words: &["message", "p", "i", "0", "0", "--delta", "--recompute"],
+        ..NO_COMMAND
+    },
+    Row {
+        words: &["structure", "p", "i", "L0", "0", "--maps"],
+        ..NO_COMMAND
+    },
+    Row {
+        words: &["structure", "p", "i", "L0", "first"],
+        ..NO_COMMAND
+    },
+    Row {
+        words: &["edges", "p", "--delta"],
+        ..NO_COMMAND
+    },
+    Row {
+        words: &["show", "p", "i", "--max-structures", "5"],
+        ..NO_COMMAND
+    },
+];
+
+#[test]
+fn chains_are_refused(rt: HostRuntime) -> Result<(), Fail> {
+    for number in 0..REFUSALS.len() {
+        assert_eq!(rt;
+            wrong_part(rt.alloc(), &REFUSALS[number])?,
+            None,
+            "{number}"
+        );
+    }
+    Ok(())
+}
