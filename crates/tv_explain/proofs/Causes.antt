@@ -1,6 +1,6 @@
 -- The causes of the parts of the work, as those of a command and of a call.
 use Rattle.std.proofs.Common.{◌≡◌, ◌≤◌, ℕ, List, Option, Result, Ok, Err, inl, inr, refl, sym, subst, arith}
-use Rattle.std.specs.Prelude.{false, IfOk, IfErr, OnOk}
+use Rattle.std.specs.Prelude.{false, IfOk, IfErr}
 use Rattle.std.specs.declared.alloc.Global.{Global}
 use Rattle.std.specs.declared.vec.Vec.{Vec}
 use Rattle.tv_model.specs.declared.program.Program.{Program}
@@ -16,7 +16,7 @@ use Rattle.tv_texts.specs.declared.fault.TextFault.TheVariants as text
 use Rattle.tv_work.specs.Analysed.{IsWorkCause}
 use Rattle.tv_work.specs.declared.error.WorkError.{WorkError}
 use Rattle.tv_work.specs.declared.error.WorkError.TheVariants as work
-use Rattle.tv_explain.specs.Answers.{FilesMeanSuch, IsAnswer, IsStopped, IsText, Reached}
+use Rattle.tv_explain.specs.Answers.{FilesMeanSuch, IsAnswer, IsStopped, Reached}
 use Rattle.tv_explain.specs.Call.{IsAnswerTo, IsCause, IsCommandCause, IsFound, UnlessReadFault}
 use Rattle.tv_explain.specs.Faults.{fault_of_text, fault_of_work}
 use Rattle.tv_explain.specs.Meaning.{FilesMean, IsDrawnFile, IsMissing, IsRefused, LacksInputs, form_in}
@@ -232,19 +232,3 @@ plain_text P (Err e) h = tt
 pub plain_cause : (P : Fault → Type 0) (r : Result (Vec ℕ Global) Fault) → IfErr r P → IfErr (plain r) P
 plain_cause P (Ok t) h = tt
 plain_cause P (Err e) h = h
-
-pub plain_done : (P : Type 0) (r : Result (Vec ℕ Global) Fault) → OnOk r P → OnOk (plain r) P
-plain_done P (Ok t) h = h
-plain_done P (Err e) h = tt
-
-pub plain_unless : (P : Type 0) (r : Result (Vec ℕ Global) Fault) → UnlessReadFault r P
-    → UnlessReadFault (plain r) P
-plain_unless P (Ok t) h = h
-plain_unless P (Err Usage) h = h
-plain_unless P (Err (FileFault r k)) h = h
-plain_unless P (Err (Structures max)) h = h
-plain_unless P (Err TooManySplits) h = h
-plain_unless P (Err TooManyIndividuals) h = h
-plain_unless P (Err (NotThere what)) h = h
-plain_unless P (Err ReadFault) h = tt
-plain_unless P (Err Memory) h = h

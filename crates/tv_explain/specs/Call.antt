@@ -9,8 +9,8 @@ use Rattle.tv_explain.specs.declared.fault.Answer.{Answer}
 use Rattle.tv_explain.specs.declared.fault.Ending.{Ending}
 use Rattle.tv_explain.specs.declared.fault.Ending.TheVariants.{As}
 use Rattle.tv_explain.specs.declared.fault.Fault.{Fault}
-use Rattle.tv_explain.specs.declared.fault.Fault.TheVariants.{Usage, FileFault, Structures, TooManySplits}
-use Rattle.tv_explain.specs.declared.fault.Fault.TheVariants.{TooManyIndividuals, NotThere, ReadFault, Memory}
+use Rattle.tv_explain.specs.declared.fault.Fault.TheVariants.{Usage, FileFault}
+use Rattle.tv_explain.specs.declared.fault.Fault.TheVariants.{ReadFault, Memory}
 use Rattle.tv_explain_words.specs.Words.{CommandForm, Spells, SpellsNothing}
 
 -- the words spell such a command

@@ -1,5 +1,5 @@
 -- What the parts of the work give.
-use Rattle.std.specs.Prelude.{ℕ, ◌≡◌, Bool, true, false, List, Option, Result, Ok, Err, All}
+use Rattle.std.specs.Prelude.{ℕ, ◌≡◌, Bool, true, false, Option, Result, Ok, Err, All}
 use Rattle.std.specs.declared.alloc.Global.{Global}
 use Rattle.std.specs.declared.vec.Vec.{Vec}
 use Rattle.tv_delta_laws.specs.Differences.{IsDifferenced}
@@ -9,7 +9,6 @@ use Rattle.tv_outside.specs.Told.{Held}
 use Rattle.tv_status.specs.declared.status.Role.TheVariants as role
 use Rattle.tv_struct.specs.StructureForm.{IsOver}
 use Rattle.tv_texts.specs.Files.{IsProgramFile}
-use Rattle.tv_tree.specs.Copies.{program_of as tree_of}
 use Rattle.tv_explain.specs.Meaning.{IsNoInitial, LacksInputs}
 use Rattle.tv_explain.specs.declared.fault.Answer.{Answer}
 use Rattle.tv_explain.specs.declared.fault.Fault.{Fault}
