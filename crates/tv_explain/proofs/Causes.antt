@@ -1,6 +1,6 @@
 -- The causes of the parts of the work, as those of a command and of a call.
 use Rattle.std.proofs.Common.{◌≡◌, ◌≤◌, ℕ, List, Option, Result, Ok, Err, inl, inr, refl, sym, subst, arith}
-use Rattle.std.specs.Prelude.{IfOk, IfErr}
+use Rattle.std.specs.Prelude.{false, IfOk, IfErr}
 use Rattle.std.specs.declared.alloc.Global.{Global}
 use Rattle.std.specs.declared.vec.Vec.{Vec}
 use Rattle.tv_model.specs.declared.program.Program.{Program}
@@ -17,18 +17,19 @@ use Rattle.tv_work.specs.Analysed.{IsWorkCause}
 use Rattle.tv_work.specs.declared.error.WorkError.{WorkError}
 use Rattle.tv_work.specs.declared.error.WorkError.TheVariants as work
 use Rattle.tv_explain.specs.Answers.{FilesMeanSuch, IsAnswer, IsStopped, Reached}
-use Rattle.tv_explain.specs.Call.{IsAnswerTo, IsCause, IsCommandCause, IsFound, IsOwed, UnlessReadFault}
+use Rattle.tv_explain.specs.Call.{IsAnswerTo, IsCause, IsCommandCause, IsFound, UnlessReadFault}
 use Rattle.tv_explain.specs.Faults.{fault_of_text, fault_of_work}
 use Rattle.tv_explain.specs.Meaning.{FilesMean, IsDrawnFile, IsMissing, IsRefused, LacksInputs, form_in}
 use Rattle.tv_explain.specs.Meaning.{program_name}
-use Rattle.tv_explain.specs.Work.{IsInputsCause}
+use Rattle.tv_explain.specs.Work.{IsInputsCause, plain}
+use Rattle.tv_explain.specs.declared.fault.Answer.{Answer}
 use Rattle.tv_explain.specs.declared.fault.Fault.{Fault}
 use Rattle.tv_explain.specs.declared.fault.Fault.TheVariants.{Usage, FileFault, Structures, TooManySplits}
 use Rattle.tv_explain.specs.declared.fault.Fault.TheVariants.{TooManyIndividuals, NotThere, ReadFault, Memory}
 use Rattle.tv_explain.specs.declared.inputs.Drawn.{Drawn}
 use Rattle.tv_explain.specs.declared.inputs.Inputs.{Inputs}
-use Rattle.tv_explain_words.specs.Words.{AnalyzedForm, CommandForm, Shows, TellsMessage, TellsStructure}
-use Rattle.tv_explain_words.specs.Words.{Spells}
+use Rattle.tv_explain_words.specs.Words.{AnalyzedForm, CommandForm, Shows, TellsLosses, TellsMessage}
+use Rattle.tv_explain_words.specs.Words.{TellsStructure, Spells}
 
 -- ---- counts and steadiness
 
@@ -144,6 +145,11 @@ module _ (told : Option Held) where
   structure_unread of node index rose steady f h =
       inputs_cause (TellsStructure of node index) of rose steady f (λ k r. r) (λ k r. r) (λ l. l) h
 
+  pub losses_unread : (of : AnalyzedForm) (rose steady : Type 0) (f : Fault)
+      → IsInputsCause told of rose steady f → IsCommandCause told (TellsLosses of) rose steady f
+  losses_unread of rose steady f h =
+      inputs_cause (TellsLosses of) of rose steady f (λ k r. r) (λ k r. r) (λ l. l) h
+
   -- what stops the work behind the files stops the command
   stopped_cause : (command : CommandForm) (of : AnalyzedForm) (inputs : Inputs) (rose steady : Type 0)
       (f : Fault)
@@ -175,32 +181,34 @@ module _ (told : Option Held) where
   structure_stopped of node index inputs rose steady f means h =
       stopped_cause (TellsStructure of node index) of inputs rose steady f (λ P is. (inputs, means, is)) h
 
+  pub losses_stopped : (of : AnalyzedForm) (inputs : Inputs) (rose steady : Type 0) (f : Fault)
+      → FilesMean told of inputs → IsStopped (TellsLosses of) of inputs f
+      → IsCommandCause told (TellsLosses of) rose steady f
+  losses_stopped of inputs rose steady f means h =
+      stopped_cause (TellsLosses of) of inputs rose steady f (λ P is. (inputs, means, is)) h
+
   -- ---- words
 
-  pub spelled_answer : (words : List (List ℕ)) (command : CommandForm) (result : Result (Vec ℕ Global) Fault)
-      → Spells words command → IfOk result (λ t. IsAnswer told command t.items)
-      → IfOk result (λ t. IsAnswerTo words told t.items)
+  pub spelled_answer : (words : List (List ℕ)) (command : CommandForm) (result : Result Answer Fault)
+      → Spells words command → IfOk result (IsAnswer told command) → IfOk result (IsAnswerTo words told)
   spelled_answer words command (Ok t) spells h = (command, spells, h)
   spelled_answer words command (Err e) spells h = tt
 
-  -- words spell one command at most, so where that isn't given, none is
-  pub spelled_cause : ((words : List (List ℕ)) (a b : CommandForm) → Spells words a → Spells words b → a ≡ b)
-      → (words : List (List ℕ)) (command : CommandForm) (rose steady : Type 0)
-      (result : Result (Vec ℕ Global) Fault) → Spells words command
+  pub spelled_cause : (words : List (List ℕ)) (command : CommandForm) (rose steady : Type 0)
+      (result : Result Answer Fault) → Spells words command
       → IfErr result (IsCommandCause told command rose steady) → IfErr result (IsCause words told rose steady)
-  spelled_cause one words command rose steady (Ok t) spells h = tt
-  spelled_cause one words command rose steady (Err Usage) spells h =
-      λ other also. subst IsOwed (one words command other spells also) h
-  spelled_cause one words command rose steady (Err (FileFault r k)) spells h = (command, spells, h)
-  spelled_cause one words command rose steady (Err (Structures max)) spells h = (command, spells, h)
-  spelled_cause one words command rose steady (Err TooManySplits) spells h = (command, spells, h)
-  spelled_cause one words command rose steady (Err TooManyIndividuals) spells h = (command, spells, h)
-  spelled_cause one words command rose steady (Err (NotThere what)) spells h = (command, spells, h)
-  spelled_cause one words command rose steady (Err ReadFault) spells h = (command, spells, h)
-  spelled_cause one words command rose steady (Err Memory) spells h = tt
+  spelled_cause words command rose steady (Ok t) spells h = tt
+  spelled_cause words command rose steady (Err Usage) spells h = absurd h
+  spelled_cause words command rose steady (Err (FileFault r k)) spells h = (command, spells, h)
+  spelled_cause words command rose steady (Err (Structures max)) spells h = (command, spells, h)
+  spelled_cause words command rose steady (Err TooManySplits) spells h = (command, spells, h)
+  spelled_cause words command rose steady (Err TooManyIndividuals) spells h = (command, spells, h)
+  spelled_cause words command rose steady (Err (NotThere what)) spells h = (command, spells, h)
+  spelled_cause words command rose steady (Err ReadFault) spells h = (command, spells, h)
+  spelled_cause words command rose steady (Err Memory) spells h = tt
 
-  pub found : (words : List (List ℕ)) (rose steady : Type 0) (result : Result (Vec ℕ Global) Fault)
-      → IfOk result (λ t. IsAnswerTo words told t.items) → IfErr result (IsCause words told rose steady)
+  pub found : (words : List (List ℕ)) (rose steady : Type 0) (result : Result Answer Fault)
+      → IfOk result (IsAnswerTo words told) → IfErr result (IsCause words told rose steady)
       → IsFound words told rose steady result
   found words rose steady (Ok t) answer cause = answer
   found words rose steady (Err e) answer cause = cause
@@ -213,3 +221,14 @@ work_stopped command of inputs work.Structures h = (refl, h)
 work_stopped command of inputs work.Splits h = h
 work_stopped command of inputs work.Individuals h = h
 work_stopped command of inputs work.Memory h = tt
+
+-- ---- texts alone
+
+pub plain_text : (P : List ℕ → Type 0) (r : Result (Vec ℕ Global) Fault) → IfOk r (λ t. P t.items)
+    → IfOk (plain r) (λ answer. P answer.text.items × (answer.is_lost ≡ false))
+plain_text P (Ok t) h = (h, refl)
+plain_text P (Err e) h = tt
+
+pub plain_cause : (P : Fault → Type 0) (r : Result (Vec ℕ Global) Fault) → IfErr r P → IfErr (plain r) P
+plain_cause P (Ok t) h = tt
+plain_cause P (Err e) h = h

@@ -4,6 +4,7 @@ use Rattle.std.specs.Prelude.{codes}
 use Rattle.std.specs.Prelude.{Contains}
 use Rattle.tv_kleene.specs.declared.K3.{K3}
 use Rattle.tv_listing.specs.declared.analysis.Analysis.{Analysis}
+use Rattle.tv_losses_text.specs.Reports.{IsLossReport}
 use Rattle.tv_model.specs.Program.{MessageForm, program_of}
 use Rattle.tv_model.specs.declared.program.Program.{Program}
 use Rattle.tv_outside.specs.Told.{Held}
@@ -15,6 +16,7 @@ use Rattle.tv_tree.specs.Copies.{program_of as tree_of}
 use Rattle.tv_work.specs.Analysed.{Meets}
 use Rattle.tv_work.specs.Reach.{AreMoreThan, IsReached, Point}
 use Rattle.tv_explain.specs.Meaning.{FilesMean, IsDrawnFile, edges_in, form_in}
+use Rattle.tv_explain.specs.declared.fault.Answer.{Answer}
 use Rattle.tv_explain.specs.declared.fault.Fault.{Fault}
 use Rattle.tv_explain.specs.declared.fault.Fault.TheVariants.{Memory, NotThere, Structures}
 use Rattle.tv_explain.specs.declared.fault.Fault.TheVariants.{TooManyIndividuals}
@@ -57,20 +59,35 @@ IsStructureText of inputs node index text = (place : ℕ)
     × ((trail : Trail) × IsLedToBy (form_in inputs) of.mode inputs.initial of.max place index trail
     × (text ≡ trail_lines inputs trail))
 
+-- ---- losses
+
+-- the answer is the report on what the analysis loses, and says whether it loses anything
+abbrev pub TellsOfLosses : AnalyzedForm → Inputs → Answer → Type 0
+TellsOfLosses of inputs answer = IsLossReport (form_in inputs) (edges_in inputs) of.mode inputs.initial of.max
+    (record { text = answer.text; is_any = answer.is_lost })
+
 -- ---- answers
 
--- The text is what the command gives: the structures of REPORT, a report on PROGRAM; the control edges of
--- PROGRAM as its text has them, with the messages of their actions; or a shortest trail.
-abbrev pub IsAnswer : Option Held → CommandForm → (text : List ℕ) → Type 0
-IsAnswer told (Shows program report) text = (p : Program) × IsProgramFile told program (Ok p)
+-- The text is what the command gives, where that is a text alone: the structures of REPORT, a report on
+-- PROGRAM; the control edges of PROGRAM as its text has them, with the messages of their actions; or a
+-- shortest trail.
+abbrev pub IsText : Option Held → CommandForm → (text : List ℕ) → Type 0
+IsText told (Shows program report) text = (p : Program) × IsProgramFile told program (Ok p)
     × ((a : Analysis) × IsReportFile told report p (Ok a) × (text ≡ shown_text p a.listing))
-IsAnswer told (ListsEdges program) text = (drawn : Drawn) × IsDrawnFile told false program drawn
+IsText told (ListsEdges program) text = (drawn : Drawn) × IsDrawnFile told false program drawn
     × (text ≡ edges_text (program_of drawn.program) 0 (tree_of drawn.tree).edges)
-IsAnswer told (TellsMessage of edge number) text = (inputs : Inputs) × FilesMean told of inputs
+IsText told (TellsMessage of edge number) text = (inputs : Inputs) × FilesMean told of inputs
     × IsMessageText of inputs edge number text
-IsAnswer told (TellsStructure of node index) text = (inputs : Inputs) × FilesMean told of inputs
+IsText told (TellsStructure of node index) text = (inputs : Inputs) × FilesMean told of inputs
     × IsStructureText of inputs node index text
-IsAnswer told (TellsLosses of) text = ⊥
+IsText told (TellsLosses of) text = ⊥
+
+-- The answer is what the command gives: of `losses` what the analysis loses; of each other a text, and that
+-- nothing is lost.
+abbrev pub IsAnswer : Option Held → CommandForm → Answer → Type 0
+IsAnswer told (TellsLosses of) answer = (inputs : Inputs) × FilesMean told of inputs
+    × TellsOfLosses of inputs answer
+IsAnswer told other answer = IsText told other answer.text.items × (answer.is_lost ≡ false)
 
 -- ---- limits, and what isn't there
 

@@ -5,7 +5,7 @@ use Rattle.tv_outside.specs.Count.{count_max, counted}
 use Rattle.tv_outside.specs.Told.{Held}
 use Rattle.tv_status.specs.declared.status.Status.TheVariants.{Done}
 use Rattle.tv_explain.specs.declared.fault.Ending.{Ending}
-use Rattle.tv_explain.specs.declared.fault.Ending.TheVariants.{As}
+use Rattle.tv_explain.specs.declared.fault.Ending.TheVariants.{As, Lost}
 use Rattle.tv_explain_words.specs.Words.{CommandForm, Shows, ListsEdges, TellsMessage, TellsStructure}
 use Rattle.tv_explain_words.specs.Words.{TellsLosses}
 
@@ -33,4 +33,5 @@ BeginsFor told old new command = BeginsBy told (λ held. begins_of held command)
 -- this holds where the call gave an answer
 abbrev pub OnAnswer : Ending → Type 0 → Type 0
 OnAnswer (As Done) P = P
+OnAnswer Lost P = P
 OnAnswer other P = Unit {0}

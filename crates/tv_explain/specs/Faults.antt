@@ -1,5 +1,5 @@
 -- The faults of a call: those of the layers below, and what tells them.
-use Rattle.std.specs.Prelude.{ℕ, List, ◌++◌, codes}
+use Rattle.std.specs.Prelude.{ℕ, Bool, true, false, List, [], ◌++◌, codes}
 use Rattle.tv_status.specs.Status.{code_of as status_code, line, text_of as told_text}
 use Rattle.tv_status.specs.declared.status.Status.TheVariants as status
 use Rattle.tv_texts.specs.declared.fault.TextFault.{TextFault}
@@ -7,7 +7,7 @@ use Rattle.tv_texts.specs.declared.fault.TextFault.TheVariants as text
 use Rattle.tv_work.specs.declared.error.WorkError.{WorkError}
 use Rattle.tv_work.specs.declared.error.WorkError.TheVariants as work
 use Rattle.tv_explain.specs.declared.fault.Ending.{Ending}
-use Rattle.tv_explain.specs.declared.fault.Ending.TheVariants.{As, Absent}
+use Rattle.tv_explain.specs.declared.fault.Ending.TheVariants.{As, Lost, Absent}
 use Rattle.tv_explain.specs.declared.fault.Fault.{Fault}
 use Rattle.tv_explain.specs.declared.fault.Fault.TheVariants.{Usage, FileFault, Structures, TooManySplits}
 use Rattle.tv_explain.specs.declared.fault.Fault.TheVariants.{TooManyIndividuals, NotThere, ReadFault, Memory}
@@ -38,10 +38,16 @@ ending_of (NotThere what) = Absent what
 ending_of ReadFault = As status.ReadFault
 ending_of Memory = As status.Memory
 
--- the exit code of the process: as of `tvla`; words that name what isn't there end as those that spell no
--- command
+-- the ending of a call whose answer was given, which says whether something is lost
+abbrev pub ending_with : (is_lost : Bool) → Ending
+ending_with true = Lost
+ending_with false = As status.Done
+
+-- the exit code of the process: as of `tvla`; a loss ends as a rejected report does, and words that name what
+-- isn't there end as those that spell no command
 abbrev pub code_of : Ending → ℕ
 code_of (As it) = status_code it
+code_of Lost = 1
 code_of (Absent what) = 2
 
 -- the lines of all commands
@@ -51,6 +57,8 @@ usage_text =
     "usage: tvla-explain message PROGRAM INITIAL EDGE NUMBER [--max-structures N] [--recompute | --delta]")
     ++ line (codes
     "       tvla-explain structure PROGRAM INITIAL NODE INDEX [--max-structures N] [--recompute | --delta]")
+    ++ line (codes
+    "       tvla-explain losses PROGRAM INITIAL [--max-structures N] [--recompute | --delta]")
     ++ line (codes "       tvla-explain show PROGRAM REPORT")
     ++ line (codes "       tvla-explain edges PROGRAM")
 
@@ -65,4 +73,5 @@ absent_text sought.Structure = line (codes "tvla: no such structure")
 abbrev pub text_of : Ending → List ℕ
 text_of (As status.Usage) = usage_text
 text_of (As other) = told_text other
+text_of Lost = []
 text_of (Absent what) = absent_text what

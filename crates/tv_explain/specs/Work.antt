@@ -1,5 +1,7 @@
 -- What the parts of the work give.
-use Rattle.std.specs.Prelude.{◌≡◌, Bool, true, false, List, Option, Err, All}
+use Rattle.std.specs.Prelude.{ℕ, ◌≡◌, Bool, true, false, Option, Result, Ok, Err, All}
+use Rattle.std.specs.declared.alloc.Global.{Global}
+use Rattle.std.specs.declared.vec.Vec.{Vec}
 use Rattle.tv_delta_laws.specs.Differences.{IsDifferenced}
 use Rattle.tv_model.specs.Program.{program_of}
 use Rattle.tv_model.specs.Valid.{IsValid}
@@ -7,8 +9,8 @@ use Rattle.tv_outside.specs.Told.{Held}
 use Rattle.tv_status.specs.declared.status.Role.TheVariants as role
 use Rattle.tv_struct.specs.StructureForm.{IsOver}
 use Rattle.tv_texts.specs.Files.{IsProgramFile}
-use Rattle.tv_tree.specs.Copies.{program_of as tree_of}
 use Rattle.tv_explain.specs.Meaning.{IsNoInitial, LacksInputs}
+use Rattle.tv_explain.specs.declared.fault.Answer.{Answer}
 use Rattle.tv_explain.specs.declared.fault.Fault.{Fault}
 use Rattle.tv_explain.specs.declared.fault.Fault.TheVariants.{FileFault, ReadFault, Memory}
 use Rattle.tv_explain.specs.declared.inputs.Drawn.{Drawn}
@@ -33,3 +35,8 @@ IsInputsCause told of rose steady (FileFault role.Initial kind) = IsNoInitial to
 IsInputsCause told of rose steady ReadFault = rose × (steady → LacksInputs told of)
 IsInputsCause told of rose steady Memory = Unit {0}
 IsInputsCause told of rose steady other = ⊥
+
+-- the text that was found, as an answer that tells of nothing lost
+abbrev pub plain : Result (Vec ℕ Global) Fault → Result Answer Fault
+plain (Ok text) = Ok (record { text = text; is_lost = false })
+plain (Err fault) = Err fault

@@ -1,7 +1,8 @@
-//! Why the work of a call gives no text, and how the call ends.
+//! What the work of a call gives, or why it gives nothing, and how the call ends.
 
 ghost use Rattle.std.specs.Prelude.{◌≡◌};
-ghost use Rattle.tv_explain.specs.Faults.{code_of, ending_of, fault_of_text, fault_of_work};
+ghost use Rattle.tv_explain.specs.Faults.{code_of, ending_of, ending_with, fault_of_text, fault_of_work};
+ghost use Rattle.tv_explain.specs.Work.{plain};
 ghost use Rattle.tv_explain.specs.declared.fault.Fault.TheVariants.{Memory};
 
 use std::alloc::AllocError;
@@ -22,7 +23,25 @@ pub enum Sought {
     Structure,
 }
 
-/// Why the work gave no text.
+/// What a command gives: a text, and whether that tells of anything lost, as `losses` alone may do.
+#[derive(Debug, Drop)]
+pub struct Answer {
+    pub text: Vec<u8>,
+    pub is_lost: bool,
+}
+
+/// The text that was found as an answer that tells of nothing lost.
+pub fn plain(found: Result<Vec<u8>, Fault>) -> Result<Answer, Fault>
+    ensures { result ≡ plain found }
+{
+    let text = found?;
+    Ok(Answer {
+        text,
+        is_lost: false,
+    })
+}
+
+/// Why the work gave no answer.
 #[derive(Clone, Copy, Debug, PartialEq, Eq)]
 pub enum Fault {
     /// The words spell no command.
@@ -48,17 +67,32 @@ pub enum Fault {
 pub enum Ending {
     /// As a call of `tvla` with this status.
     As(Status),
+    /// As done, but what was given tells of a loss.
+    Lost,
     /// What the words name isn't there.
     Absent(Sought),
 }
 
 impl Ending {
-    /// The exit code of the process: that of `tvla`'s status; 2 where the words name what isn't there.
+    /// The ending of a call whose answer was given, which tells of a loss or doesn't.
+    pub fn with(is_lost: bool) -> Ending
+        ensures { result ≡ ending_with is_lost }
+    {
+        if is_lost {
+            Ending::Lost
+        } else {
+            Ending::As(Status::Done)
+        }
+    }
+
+    /// The exit code of the process: that of `tvla`'s status; 1 where something is lost, 2 where the words
+    /// name what isn't there.
     pub fn code(&self) -> u8
         ensures { result ≡ code_of self.now }
     {
         match self {
             Ending::As(status) => status.code(),
+            Ending::Lost => 1,
             Ending::Absent(_) => 2,
         }
     }

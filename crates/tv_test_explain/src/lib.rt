@@ -8,6 +8,8 @@ mod chains;
 #[cfg(test)]
 mod faults;
 #[cfg(test)]
+mod losses;
+#[cfg(test)]
 mod rows;
 #[cfg(test)]
 mod texts;
