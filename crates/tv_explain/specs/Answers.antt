@@ -2,6 +2,10 @@
 use Rattle.std.specs.Prelude.{ℕ, ◌≡◌, ◌⊎◌, ◌<◌, ◌≤◌, false, List, ◌++◌, Option, Some, Ok, length, slice_get}
 use Rattle.std.specs.Prelude.{codes}
 use Rattle.std.specs.Prelude.{Contains}
+use Rattle.tv_compiled.specs.Compiled.{IsCause, written}
+use Rattle.tv_compiled.specs.declared.error.CompiledError.TheVariants as compiled
+use Rattle.tv_explain_source.specs.Sources.{IsSourceText}
+use Rattle.tv_explain_source.specs.declared.source.SourceText.{SourceText}
 use Rattle.tv_kleene.specs.declared.K3.{K3}
 use Rattle.tv_listing.specs.declared.analysis.Analysis.{Analysis}
 use Rattle.tv_model.specs.Program.{MessageForm, program_of}
@@ -10,6 +14,7 @@ use Rattle.tv_outside.specs.Told.{Held}
 use Rattle.tv_reasons.specs.Reasons.{HasNone, IsLedToBy, IsNeverRaised, IsRaisedBy}
 use Rattle.tv_step_laws.specs.Budgets.{MeetsIndividuals, MeetsSplits}
 use Rattle.tv_texts.specs.Files.{IsProgramFile, IsReportFile}
+use Rattle.tv_texts.specs.Meaning.{MeansProgram}
 use Rattle.tv_trail_laws.specs.declared.trail.Trail.{Trail}
 use Rattle.tv_tree.specs.Copies.{program_of as tree_of}
 use Rattle.tv_work.specs.Analysed.{Meets}
@@ -21,12 +26,14 @@ use Rattle.tv_explain.specs.declared.fault.Fault.TheVariants.{TooManyIndividuals
 use Rattle.tv_explain.specs.declared.fault.Fault.TheVariants.{TooManySplits}
 use Rattle.tv_explain.specs.declared.fault.Sought.{Sought}
 use Rattle.tv_explain.specs.declared.fault.Sought.TheVariants as sought
+use Rattle.tv_explain.specs.declared.fault.Unwritten.{Unwritten}
+use Rattle.tv_explain.specs.declared.fault.Unwritten.TheVariants as unwritten
 use Rattle.tv_explain.specs.declared.inputs.Drawn.{Drawn}
 use Rattle.tv_explain.specs.declared.inputs.Inputs.{Inputs}
 use Rattle.tv_explain_text.specs.Texts.{edges_text, messages_at, shown_text}
 use Rattle.tv_explain_text.specs.Trails.{raised_line, trail_text}
 use Rattle.tv_explain_words.specs.Words.{AnalyzedForm, CommandForm, Shows, ListsEdges, TellsMessage}
-use Rattle.tv_explain_words.specs.Words.{TellsStructure, TellsLosses}
+use Rattle.tv_explain_words.specs.Words.{TellsStructure, TellsLosses, Compiles}
 
 -- ---- messages and structures
 
@@ -57,10 +64,26 @@ IsStructureText of inputs node index text = (place : ℕ)
     × ((trail : Trail) × IsLedToBy (form_in inputs) of.mode inputs.initial of.max place index trail
     × (text ≡ trail_lines inputs trail))
 
+-- ---- compiled programs
+
+-- the program as it is written, with the statements of its source program noted at the actions
+abbrev pub compiled_lines : SourceText → List ℕ
+compiled_lines source = written source.bytes.items source.tokens.list.items (program_of source.program)
+
+-- the program is written, and what is written means it
+abbrev pub IsCompiledText : SourceText → (text : List ℕ) → Type 0
+IsCompiledText source text = (text ≡ compiled_lines source) × MeansProgram text (Ok source.program)
+
+-- the program isn't written: its text would be too long, or doesn't mean it
+abbrev pub HasNoText : SourceText → Unwritten → Type 0
+HasNoText source unwritten.TooLong = IsCause source.program (compiled_lines source) compiled.TooLong
+HasNoText source unwritten.Differs = IsCause source.program (compiled_lines source) compiled.Differs
+
 -- ---- answers
 
 -- The text is what the command gives: the structures of REPORT, a report on PROGRAM; the control edges of
--- PROGRAM as its text has them, with the messages of their actions; or a shortest trail.
+-- PROGRAM as its text has them, with the messages of their actions; a shortest trail; or the program that
+-- SOURCE is compiled to.
 abbrev pub IsAnswer : Option Held → CommandForm → (text : List ℕ) → Type 0
 IsAnswer told (Shows program report) text = (p : Program) × IsProgramFile told program (Ok p)
     × ((a : Analysis) × IsReportFile told report p (Ok a) × (text ≡ shown_text p a.listing))
@@ -71,6 +94,8 @@ IsAnswer told (TellsMessage of edge number) text = (inputs : Inputs) × FilesMea
 IsAnswer told (TellsStructure of node index) text = (inputs : Inputs) × FilesMean told of inputs
     × IsStructureText of inputs node index text
 IsAnswer told (TellsLosses of) text = ⊥
+IsAnswer told (Compiles source) text =
+    (read : SourceText) × IsSourceText told source read × IsCompiledText read text
 
 -- ---- limits, and what isn't there
 
@@ -111,3 +136,10 @@ FilesMeanSuch told (TellsMessage of edge number) AreSuch =
 FilesMeanSuch told (TellsStructure of node index) AreSuch =
     (inputs : Inputs) × FilesMean told of inputs × AreSuch of inputs
 FilesMeanSuch told (TellsLosses of) AreSuch = (inputs : Inputs) × FilesMean told of inputs × AreSuch of inputs
+FilesMeanSuch told (Compiles source) AreSuch = ⊥
+
+-- it is a command on a source program, which is compiled and isn't written, for this reason
+abbrev pub IsUnwritten : Option Held → CommandForm → Unwritten → Type 0
+IsUnwritten told (Compiles source) why =
+    (read : SourceText) × IsSourceText told source read × HasNoText read why
+IsUnwritten told other why = ⊥

@@ -6,7 +6,7 @@ ghost use Rattle.tv_explain.specs.Call.{Commands, IsAnswerTo, IsCause, IsCommand
 ghost use Rattle.tv_explain.specs.Call.{SpellsNoneGiven, UnlessReadFault};
 ghost use Rattle.tv_explain.specs.Begins.{BeginsFor};
 ghost use Rattle.tv_explain.specs.Answers.{IsAnswer};
-ghost use Rattle.tv_explain_words.specs.Words.{Shows, ListsEdges, TellsMessage, TellsStructure};
+ghost use Rattle.tv_explain_words.specs.Words.{Shows, ListsEdges, TellsMessage, TellsStructure, Compiles};
 ghost use Rattle.tv_explain_words.specs.Words.{analyzed_of, form_of};
 ghost use Rattle.tv_words.specs.Words.{words_of};
 
@@ -14,6 +14,8 @@ use crate::answers::{message_text, structure_text};
 use crate::fault::Fault;
 use crate::inputs::{load_drawn, load_inputs};
 use std::alloc::Global;
+use tv_compiled::compiled_text;
+use tv_explain_source::load_source_text;
 use tv_explain_text::{edges_text, shown_text};
 use tv_explain_words::{Analyzed, Command, one_command, read_words};
 use tv_outside::Files;
@@ -111,6 +113,24 @@ fn structure<F: Files>(
     structure_text(alloc, &inputs, of, node, index)
 }
 
+/// The program that the source program of the named file is compiled to.
+#[tactic(auto, using(crate::proofs::Causes::holds_unless))]
+fn compiled<F: Files>(alloc: Global, files: &mut F, source: &str) -> Result<Vec<u8>, Fault>
+    ensures found { IfOk result
+        (λ text. IsAnswer (F.holds files.old) (Compiles source.now) text.items) }
+    ensures cause { IfErr result (IsCommandCause (F.holds files.old) (Compiles source.now)
+        (Rose (F.faults files.old) (F.faults files.new)) (F.steady files.old)) }
+    ensures holds { F.holds files.new ≡ F.holds files.old }
+    ensures begins { OnOk result (BeginsFor (F.holds files.old) (F.begins files.old) (F.begins files.new)
+        (Compiles source.now)) }
+    ensures count { F.faults files.old ≤ F.faults files.new }
+    ensures steady { F.steady files.old → UnlessReadFault result (F.steady files.new
+        × (F.faults files.new ≡ F.faults files.old)) }
+{
+    let read = load_source_text(alloc, files, source)?;
+    Ok(compiled_text(alloc, &read.bytes, &read.tokens, &read.program)?)
+}
+
 /// What the command gives.
 fn execute<F: Files>(alloc: Global, files: &mut F, command: &Command) -> Result<Vec<u8>, Fault>
     ensures found { IfOk result
@@ -131,6 +151,7 @@ fn execute<F: Files>(alloc: Global, files: &mut F, command: &Command) -> Result<
         Command::Message { of, edge, number } => message(alloc, files, of, *edge, *number),
         Command::Structure { of, node, index } => structure(alloc, files, of, node, *index),
         Command::Losses { .. } => Err(Fault::Usage),
+        Command::Compiled { source } => compiled(alloc, files, source),
     }
 }
 

@@ -57,4 +57,5 @@ tvla-explain message PROGRAM INITIAL EDGE NUMBER [--max-structures N] [--recompu
        tvla-explain structure PROGRAM INITIAL NODE INDEX [--max-structures N] [--recompute | --delta]
        tvla-explain show PROGRAM REPORT
        tvla-explain edges PROGRAM
+       tvla-explain compiled SOURCE
 ";
