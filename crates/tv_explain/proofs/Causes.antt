@@ -1,13 +1,15 @@
 -- The causes of the parts of the work, as those of a command and of a call.
 use Rattle.std.proofs.Common.{◌≡◌, ◌≤◌, ℕ, List, Option, Result, Ok, Err, inl, inr, refl, sym, subst, arith}
-use Rattle.std.specs.Prelude.{IfOk, IfErr}
+use Rattle.std.specs.Prelude.{IfOk, IfErr, length}
 use Rattle.std.specs.declared.alloc.Global.{Global}
 use Rattle.std.specs.declared.vec.Vec.{Vec}
 use Rattle.tv_compiled.specs.Compiled.{IsCause as IsWritingCause}
 use Rattle.tv_compiled.specs.declared.error.CompiledError.{CompiledError}
 use Rattle.tv_compiled.specs.declared.error.CompiledError.TheVariants as compiled
+use Rattle.tv_compiled_laws.specs.Laws.{CompiledTextsArePrograms, MeansInFiles}
 use Rattle.tv_explain_source.specs.Sources.{IsSourceText}
 use Rattle.tv_explain_source.specs.declared.source.SourceText.{SourceText}
+use Rattle.tv_lex.specs.Gather.{longest_gathered}
 use Rattle.tv_model.specs.declared.program.Program.{Program}
 use Rattle.tv_outside.specs.Count.{Rose}
 use Rattle.tv_outside.specs.Told.{Held, HoldsName}
@@ -16,12 +18,14 @@ use Rattle.tv_status.specs.declared.status.Role.{Role}
 use Rattle.tv_status.specs.declared.status.Role.TheVariants as role
 use Rattle.tv_texts.specs.Files.{IsFileCause, IsInitialFile, IsProgramFile, IsReportFile, LacksFile}
 use Rattle.tv_texts.specs.Files.{IsSourceFile, UnlessNotRead}
+use Rattle.tv_texts.specs.Meaning.{MeansProgram}
 use Rattle.tv_texts.specs.declared.fault.TextFault.{TextFault}
 use Rattle.tv_texts.specs.declared.fault.TextFault.TheVariants as text
 use Rattle.tv_work.specs.Analysed.{IsWorkCause}
 use Rattle.tv_work.specs.declared.error.WorkError.{WorkError}
 use Rattle.tv_work.specs.declared.error.WorkError.TheVariants as work
-use Rattle.tv_explain.specs.Answers.{FilesMeanSuch, IsAnswer, IsStopped, Reached, compiled_lines}
+use Rattle.tv_explain.specs.Answers.{FilesMeanSuch, IsAnswer, IsCompiledText, IsStopped, Reached}
+use Rattle.tv_explain.specs.Answers.{compiled_lines}
 use Rattle.tv_explain.specs.Call.{IsAnswerTo, IsCause, IsCommandCause, IsFound, IsOwed, UnlessReadFault}
 use Rattle.tv_explain.specs.Faults.{fault_of_text, fault_of_work, fault_of_writing}
 use Rattle.tv_explain.specs.Meaning.{FilesMean, IsDrawnFile, IsMissing, IsRefused, LacksInputs, form_in}
@@ -233,6 +237,22 @@ module _ (told : Option Held) where
       → IsFound words told rose steady result
   found words rose steady (Ok t) answer cause = answer
   found words rose steady (Err e) answer cause = cause
+
+-- a compiled program that is written
+pub written_text : CompiledTextsArePrograms → (source : SourceText) (result : Result (Vec ℕ Global) CompiledError)
+    → IfOk result (λ t. t.items ≡ compiled_lines source)
+    → IfOk result (λ t. MeansProgram t.items (Ok source.program))
+    → IfOk result (λ t. length t.items ≤ longest_gathered)
+    → IfOk result (λ t. IsCompiledText source t.items)
+written_text law source (Ok t) is means size = record {
+  is = is;
+  means = means;
+  holders = subst (λ text. MeansInFiles text source.program) (sym is)
+      (law source.bytes.items source.tokens.list.items source.program
+      (subst (λ (text : List ℕ). length text ≤ longest_gathered) is size)
+      (subst (λ text. MeansProgram text (Ok source.program)) is means));
+}
+written_text law source (Err e) is means size = tt
 
 -- why a search finds nothing
 pub work_stopped : (command : CommandForm) (of : AnalyzedForm) (inputs : Inputs) (e : WorkError)

@@ -4,6 +4,7 @@ use Rattle.std.specs.Prelude.{codes}
 use Rattle.std.specs.Prelude.{Contains}
 use Rattle.tv_compiled.specs.Compiled.{IsCause, written}
 use Rattle.tv_compiled.specs.declared.error.CompiledError.TheVariants as compiled
+use Rattle.tv_compiled_laws.specs.Laws.{MeansInFiles}
 use Rattle.tv_explain_source.specs.Sources.{IsSourceText}
 use Rattle.tv_explain_source.specs.declared.source.SourceText.{SourceText}
 use Rattle.tv_kleene.specs.declared.K3.{K3}
@@ -70,9 +71,11 @@ IsStructureText of inputs node index text = (place : ℕ)
 abbrev pub compiled_lines : SourceText → List ℕ
 compiled_lines source = written source.bytes.items source.tokens.list.items (program_of source.program)
 
--- the program is written, and what is written means it
-abbrev pub IsCompiledText : SourceText → (text : List ℕ) → Type 0
-IsCompiledText source text = (text ≡ compiled_lines source) × MeansProgram text (Ok source.program)
+-- the program is written, and what is written means it, in each file that holds it too
+pub record IsCompiledText (source : SourceText) (text : List ℕ) : Type 0 where
+  pub is : text ≡ compiled_lines source
+  pub means : MeansProgram text (Ok source.program)
+  pub holders : MeansInFiles text source.program
 
 -- the program isn't written: its text would be too long, or doesn't mean it
 abbrev pub HasNoText : SourceText → Unwritten → Type 0

@@ -15,6 +15,7 @@ use crate::fault::Fault;
 use crate::inputs::{load_drawn, load_inputs};
 use std::alloc::Global;
 use tv_compiled::compiled_text;
+use tv_compiled_laws::compiled_texts_are_programs;
 use tv_explain_source::load_source_text;
 use tv_explain_text::{edges_text, shown_text};
 use tv_explain_words::{Analyzed, Command, one_command, read_words};
@@ -127,6 +128,7 @@ fn compiled<F: Files>(alloc: Global, files: &mut F, source: &str) -> Result<Vec<
     ensures steady { F.steady files.old → UnlessReadFault result (F.steady files.new
         × (F.faults files.new ≡ F.faults files.old)) }
 {
+    compiled_texts_are_programs();
     let read = load_source_text(alloc, files, source)?;
     Ok(compiled_text(alloc, &read.bytes, &read.tokens, &read.program)?)
 }

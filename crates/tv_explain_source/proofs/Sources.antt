@@ -1,5 +1,5 @@
 -- What files of source programs give, from what reading, cutting and compiling them gives.
-use Rattle.std.proofs.Common.{◌≡◌, ◌<◌, ◌≤◌, ℕ, List, Option, None, Some, Result, Ok, Err, refl, subst}
+use Rattle.std.proofs.Common.{◌≡◌, ◌≤◌, ℕ, List, Option, None, Some, Result, Ok, Err, refl}
 use Rattle.std.specs.Prelude.{length}
 use Rattle.tv_lex.specs.Gather.{longest_gathered}
 use Rattle.tv_lex.specs.Pieces.{Reads, Cause as LexCause}
@@ -20,7 +20,7 @@ use Rattle.tv_status.specs.declared.status.FileKind.{FileKind}
 use Rattle.tv_status.specs.declared.status.FileKind.TheVariants as kind
 use Rattle.tv_status.specs.declared.status.Role.TheVariants as role
 use Rattle.tv_texts.specs.Faults.{fault_of_lexing, fault_of_reading, fault_of_source}
-use Rattle.tv_texts.specs.Files.{HoldsSuch, IsFileCause, IsSourceFile, IsTextCause, UnlessNotRead}
+use Rattle.tv_texts.specs.Files.{IsFileCause, IsSourceFile, IsTextCause, UnlessNotRead}
 use Rattle.tv_texts.specs.Meaning.{MeansSource}
 use Rattle.tv_texts.specs.declared.fault.TextFault.{TextFault}
 use Rattle.tv_texts.specs.declared.fault.TextFault.TheVariants.{Refused, NotRead, Memory}

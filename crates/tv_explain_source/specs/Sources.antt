@@ -1,6 +1,5 @@
 -- Texts of source programs, with what comes of them.
-use Rattle.std.specs.Prelude.{ℕ, ◌≤◌, List, length, Option, Ok}
-use Rattle.tv_lex.specs.Gather.{longest_gathered}
+use Rattle.std.specs.Prelude.{ℕ, List, Option, Ok}
 use Rattle.tv_lex.specs.Pieces.{Reads}
 use Rattle.tv_outside.specs.Told.{Held, IsContent}
 use Rattle.tv_texts.specs.Meaning.{MeansSource}

@@ -100,7 +100,7 @@ fn source_in(alloc: Global, bytes: Vec<u8>) -> Result<SourceText, TextFault>
 /// # Errors
 /// It is refused where it means no source program or one too large. It isn't read only where a call of
 /// `files` failed, and on steady files only where they lack it. Or memory ran out.
-#[tactic(auto, using(crate::proofs::Sources::held, crate::proofs::Sources::held_refused, crate::proofs::Sources::holds_anyway))]
+#[tactic(auto, using(crate::proofs::Sources::held, crate::proofs::Sources::holds_anyway))]
 pub fn load_source_text<F: Files>(
     alloc: Global,
     files: &mut F,
