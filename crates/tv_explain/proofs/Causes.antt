@@ -239,20 +239,17 @@ module _ (told : Option Held) where
   found words rose steady (Err e) answer cause = cause
 
 -- a compiled program that is written
-pub written_text : CompiledTextsArePrograms → (source : SourceText) (result : Result (Vec ℕ Global) CompiledError)
-    → IfOk result (λ t. t.items ≡ compiled_lines source)
-    → IfOk result (λ t. MeansProgram t.items (Ok source.program))
-    → IfOk result (λ t. length t.items ≤ longest_gathered)
-    → IfOk result (λ t. IsCompiledText source t.items)
-written_text law source (Ok t) is means size = record {
+pub written_text : CompiledTextsArePrograms → (source : SourceText) (text : List ℕ)
+    → text ≡ compiled_lines source → MeansProgram text (Ok source.program) → length text ≤ longest_gathered
+    → IsCompiledText source text
+written_text law source text is means size = record {
   is = is;
   means = means;
-  holders = subst (λ text. MeansInFiles text source.program) (sym is)
+  holders = subst (λ t. MeansInFiles t source.program) (sym is)
       (law source.bytes.items source.tokens.list.items source.program
-      (subst (λ (text : List ℕ). length text ≤ longest_gathered) is size)
-      (subst (λ text. MeansProgram text (Ok source.program)) is means));
+      (subst (λ (t : List ℕ). length t ≤ longest_gathered) is size)
+      (subst (λ t. MeansProgram t (Ok source.program)) is means));
 }
-written_text law source (Err e) is means size = tt
 
 -- why a search finds nothing
 pub work_stopped : (command : CommandForm) (of : AnalyzedForm) (inputs : Inputs) (e : WorkError)

@@ -4,7 +4,7 @@ use Rattle.std.specs.declared.alloc.Global.{Global}
 use Rattle.std.specs.declared.vec.Vec.{Vec}
 use Rattle.tv_explain_source.specs.declared.source.SourceText.{SourceText}
 use Rattle.tv_explain.proofs.Begins.{one_file}
-use Rattle.tv_explain.proofs.Causes.{source_fault, unless_not_read, writing_fault}
+use Rattle.tv_explain.proofs.Causes.{source_fault, unless_not_read, writing_fault, written_text}
 use Rattle.tv_explain.proofs.work.compiled.Goals as goal
 
 pub returns-in_err-read-clause-cause : goal.returns-in_err-read-clause-cause
@@ -24,3 +24,19 @@ returns-in_err-read-clause-steady g c =
 
 pub returns-clause-begins : goal.returns-clause-begins
 returns-clause-begins g c = one_file _ _ _ c.in_ok-read.ensures.begins
+
+pub returns-in_err-compiled_text-clause-cause : goal.returns-in_err-compiled_text-clause-cause
+returns-in_err-compiled_text-clause-cause g c =
+    let p = err_from_is_err_and c.from_residual-in_err-compiled_text.result
+    c.from_residual-in_err-compiled_text.ensures.1 in
+    rw (p.1, p.2) (writing_fault _ c.args.source.now c.in_ok-read.read _ _ c.in_err-compiled_text.field-0.0
+    c.in_ok-read.ensures.means (rw c.deref.ensures.value at c.in_err-compiled_text.ensures.fault))
+
+pub returns-clause-found : goal.returns-clause-found
+returns-clause-found g c = (
+  c.in_ok-read.read,
+  c.in_ok-read.ensures.means,
+  written_text c.compiled_texts_are_programs.ensures c.in_ok-read.read c.in_ok-compiled_text.field-0.items
+      (rw c.deref.ensures.value at c.in_ok-compiled_text.ensures.text) c.in_ok-compiled_text.ensures.means
+      c.in_ok-compiled_text.ensures.size,
+)
