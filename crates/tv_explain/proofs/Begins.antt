@@ -13,7 +13,8 @@ use Rattle.tv_explain.specs.declared.fault.Answer.{Answer}
 use Rattle.tv_explain.specs.declared.fault.Ending.{Ending}
 use Rattle.tv_explain.specs.declared.fault.Fault.{Fault}
 use Rattle.tv_explain.specs.declared.fault.Fault.TheVariants.{Usage, FileFault, Structures, TooManySplits}
-use Rattle.tv_explain.specs.declared.fault.Fault.TheVariants.{TooManyIndividuals, NotThere, ReadFault, Memory}
+use Rattle.tv_explain.specs.declared.fault.Fault.TheVariants.{TooManyIndividuals, NotThere, NotWritten}
+use Rattle.tv_explain.specs.declared.fault.Fault.TheVariants.{ReadFault, Memory}
 use Rattle.tv_explain_words.specs.Words.{CommandForm, Spells}
 
 capped : (a m n top : ℕ) → min (min (a + m) top + n) top ≡ min (a + (m + n)) top
@@ -35,6 +36,12 @@ unfolding BeginsBy
 one_more None program old mid new before h = tt
 one_more (Some held) program old mid new before h = λ below.
     h ∙ ap (λ k. counted k 1) (before below) ∙ capped old (program_begins held program) 1 count_max
+
+-- one file alone
+pub one_file : (told : Option Held) (old new : ℕ) → new ≡ counted old 1 → BeginsBy told (λ held. 1) old new
+unfolding BeginsBy
+one_file None old new h = tt
+one_file (Some held) old new h = λ below. h
 
 pub always : {T E : Type 0} (result : Result T E) (P : Type 0) → P → OnOk result P
 always (Ok found) P h = h
@@ -65,6 +72,7 @@ answered_begins (Err (Structures max)) ending or er oo on eo en P (same, inl (e,
 answered_begins (Err TooManySplits) ending or er oo on eo en P (same, inl (e, taken)) h = rw e tt
 answered_begins (Err TooManyIndividuals) ending or er oo on eo en P (same, inl (e, taken)) h = rw e tt
 answered_begins (Err (NotThere what)) ending or er oo on eo en P (same, inl (e, taken)) h = rw e tt
+answered_begins (Err (NotWritten why)) ending or er oo on eo en P (same, inl (e, taken)) h = rw e tt
 answered_begins (Err ReadFault) ending or er oo on eo en P (same, inl (e, taken)) h = rw e tt
 answered_begins (Err Memory) ending or er oo on eo en P (same, inl (e, taken)) h = rw e tt
 answered_begins (Err met) ending or er oo on eo en P (same, inr (e, its, taken)) h = rw e tt

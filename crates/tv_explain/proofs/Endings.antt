@@ -10,9 +10,10 @@ use Rattle.tv_explain.specs.declared.fault.Answer.{Answer}
 use Rattle.tv_explain.specs.declared.fault.Ending.{Ending}
 use Rattle.tv_explain.specs.declared.fault.Fault.{Fault}
 use Rattle.tv_explain.specs.declared.fault.Fault.TheVariants.{Usage, FileFault, Structures, TooManySplits}
-use Rattle.tv_explain.specs.declared.fault.Fault.TheVariants.{TooManyIndividuals, NotThere, ReadFault, Memory}
+use Rattle.tv_explain.specs.declared.fault.Fault.TheVariants.{TooManyIndividuals, NotThere, NotWritten}
+use Rattle.tv_explain.specs.declared.fault.Fault.TheVariants.{ReadFault, Memory}
 use Rattle.tv_explain_words.specs.Words.{AnalyzedForm, CommandForm, Shows, ListsEdges, TellsMessage}
-use Rattle.tv_explain_words.specs.Words.{TellsStructure, TellsLosses, Spells}
+use Rattle.tv_explain_words.specs.Words.{TellsStructure, TellsLosses, Compiles, Spells}
 
 module _ (told : Option Held) where
   inputs_not_missing : (of : AnalyzedForm) → HoldsInputs told of → LacksInputs told of → ⊥
@@ -26,6 +27,7 @@ module _ (told : Option Held) where
   not_missing (TellsMessage of edge number) holds lacks = inputs_not_missing of holds lacks
   not_missing (TellsStructure of node index) holds lacks = inputs_not_missing of holds lacks
   not_missing (TellsLosses of) holds lacks = inputs_not_missing of holds lacks
+  not_missing (Compiles source) holds lacks = lacks holds
 
   -- no file is missing where all that the command asks for are there
   pub none_missing : ((words : List (List ℕ)) (a b : CommandForm) → Spells words a → Spells words b → a ≡ b)
@@ -44,6 +46,7 @@ module _ (told : Option Held) where
   no_fault words rose steady P (Err TooManySplits) none is cause h = h
   no_fault words rose steady P (Err TooManyIndividuals) none is cause h = h
   no_fault words rose steady P (Err (NotThere what)) none is cause h = h
+  no_fault words rose steady P (Err (NotWritten why)) none is cause h = h
   no_fault words rose steady P (Err ReadFault) none is cause h =
       absurd (none (cause.0, cause.1, cause.2.1 is))
   no_fault words rose steady P (Err Memory) none is cause h = h
@@ -66,6 +69,7 @@ stays_steady (Err (Structures max)) ending or er oo on eo en P Q (same, inl (e, 
 stays_steady (Err TooManySplits) ending or er oo on eo en P Q (same, inl (e, taken)) h = rw e h.0
 stays_steady (Err TooManyIndividuals) ending or er oo on eo en P Q (same, inl (e, taken)) h = rw e h.0
 stays_steady (Err (NotThere what)) ending or er oo on eo en P Q (same, inl (e, taken)) h = rw e h.0
+stays_steady (Err (NotWritten why)) ending or er oo on eo en P Q (same, inl (e, taken)) h = rw e h.0
 stays_steady (Err ReadFault) ending or er oo on eo en P Q (same, inl (e, taken)) h = rw e tt
 stays_steady (Err Memory) ending or er oo on eo en P Q (same, inl (e, taken)) h = rw e h.0
 stays_steady (Err met) ending or er oo on eo en P Q (same, inr (e, its, taken)) h = rw e tt

@@ -2,7 +2,7 @@
 use Rattle.std.specs.Prelude.{ℕ, List, Option, Result, Ok, Err}
 use Rattle.tv_outside.specs.Told.{Held}
 use Rattle.tv_status.specs.declared.status.Status.TheVariants as status
-use Rattle.tv_explain.specs.Answers.{FilesMeanSuch, IsAnswer, IsStopped}
+use Rattle.tv_explain.specs.Answers.{FilesMeanSuch, IsAnswer, IsStopped, IsUnwritten}
 use Rattle.tv_explain.specs.Delivery.{IsDelivered}
 use Rattle.tv_explain.specs.Meaning.{HoldsFiles, IsMissing, IsRefused}
 use Rattle.tv_explain.specs.declared.fault.Answer.{Answer}
@@ -10,7 +10,7 @@ use Rattle.tv_explain.specs.declared.fault.Ending.{Ending}
 use Rattle.tv_explain.specs.declared.fault.Ending.TheVariants.{As}
 use Rattle.tv_explain.specs.declared.fault.Fault.{Fault}
 use Rattle.tv_explain.specs.declared.fault.Fault.TheVariants.{Usage, FileFault}
-use Rattle.tv_explain.specs.declared.fault.Fault.TheVariants.{ReadFault, Memory}
+use Rattle.tv_explain.specs.declared.fault.Fault.TheVariants.{NotWritten, ReadFault, Memory}
 use Rattle.tv_explain_words.specs.Words.{CommandForm, Spells, SpellsNothing}
 
 -- the words spell such a command
@@ -27,6 +27,7 @@ IsCommandCause told command rose steady Usage = ⊥
 IsCommandCause told command rose steady (FileFault role kind) = IsRefused told command role kind
 IsCommandCause told command rose steady ReadFault = rose × (steady → IsMissing told command)
 IsCommandCause told command rose steady Memory = Unit {0}
+IsCommandCause told command rose steady (NotWritten why) = IsUnwritten told command why
 IsCommandCause told command rose steady other =
     FilesMeanSuch told command (λ of inputs. IsStopped command of inputs other)
 

@@ -4,9 +4,9 @@ ghost use Rattle.std.specs.Prelude.{◌≡◌, ◌≤◌, OnOk, OnErr};
 ghost use Rattle.tv_outside.specs.Count.{Rose, FailedLast};
 ghost use Rattle.tv_outside.specs.Told.{appended, TookFront};
 ghost use Rattle.tv_explain.specs.Delivery.{GivesText, IsDelivered, StopsAtFailure, Takes};
-ghost use Rattle.tv_explain.specs.Faults.{absent_text, ending_with, text_of, usage_text};
+ghost use Rattle.tv_explain.specs.Faults.{absent_text, ending_with, text_of, unwritten_text, usage_text};
 
-use crate::fault::{Answer, Ending, Fault, Sought};
+use crate::fault::{Answer, Ending, Fault, Sought, Unwritten};
 use tv_outside::{Failed, Sink, write_all};
 use tv_status::{Status, write_status};
 
@@ -16,6 +16,7 @@ const USAGE: &[u8] =
        tvla-explain losses PROGRAM INITIAL [--max-structures N] [--recompute | --delta]
        tvla-explain show PROGRAM REPORT
        tvla-explain edges PROGRAM
+       tvla-explain compiled SOURCE
 ";
 
 /// Gives the usage text to the sink; takes no memory.
@@ -49,6 +50,32 @@ fn write_absent<E: Sink>(err: &mut E, what: Sought) -> Result<(), Failed>
     }
 }
 
+/// Gives the text that tells why a compiled program isn't written to the sink; takes no memory.
+fn write_unwritten<E: Sink>(err: &mut E, why: Unwritten) -> Result<(), Failed>
+    ensures all { OnOk result (E.taken err.new ≡ appended (E.taken err.old) (unwritten_text why)) }
+    ensures failed { OnErr result (Rose (E.faults err.old) (E.faults err.new)) }
+    ensures front { OnErr result (TookFront (E.taken err.old) (E.taken err.new) (unwritten_text why)) }
+    ensures no_failure { OnOk result (E.failures err.new ≡ E.failures err.old) }
+    ensures failed_last { OnErr result
+        (FailedLast (E.failures err.old) (E.failures err.new) (E.since err.new)) }
+    ensures count { E.faults err.old ≤ E.faults err.new }
+{
+    match why {
+        Unwritten::TooLong => {
+            write_all(
+                err,
+                b"tvla: the compiled program is too long to be written\n",
+            )
+        }
+        Unwritten::Differs => {
+            write_all(
+                err,
+                b"tvla: the compiled program can't be written as a text\n",
+            )
+        }
+    }
+}
+
 /// Gives the text of the ending to the sink; takes no memory.
 fn write_text<E: Sink>(err: &mut E, ending: Ending) -> Result<(), Failed>
     ensures all { OnOk result (E.taken err.new ≡ appended (E.taken err.old) (text_of ending)) }
@@ -64,6 +91,7 @@ fn write_text<E: Sink>(err: &mut E, ending: Ending) -> Result<(), Failed>
         Ending::As(status) => write_status(err, status),
         Ending::Lost => write_all(err, b""),
         Ending::Absent(what) => write_absent(err, what),
+        Ending::NotWritten(why) => write_unwritten(err, why),
     }
 }
 

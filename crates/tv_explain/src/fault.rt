@@ -2,10 +2,12 @@
 
 ghost use Rattle.std.specs.Prelude.{◌≡◌};
 ghost use Rattle.tv_explain.specs.Faults.{code_of, ending_of, ending_with, fault_of_text, fault_of_work};
+ghost use Rattle.tv_explain.specs.Faults.{fault_of_writing};
 ghost use Rattle.tv_explain.specs.Work.{plain};
 ghost use Rattle.tv_explain.specs.declared.fault.Fault.TheVariants.{Memory};
 
 use std::alloc::AllocError;
+use tv_compiled::CompiledError;
 use tv_status::{FileKind, Role, Status};
 use tv_texts::TextFault;
 use tv_work::WorkError;
@@ -41,6 +43,15 @@ pub fn plain(found: Result<Vec<u8>, Fault>) -> Result<Answer, Fault>
     })
 }
 
+/// Why a compiled program isn't written.
+#[derive(Clone, Copy, Debug, PartialEq, Eq)]
+pub enum Unwritten {
+    /// Its text has more bytes than a file may have that is read as a program.
+    TooLong,
+    /// Its text doesn't mean it.
+    Differs,
+}
+
 /// Why the work gave no answer.
 #[derive(Clone, Copy, Debug, PartialEq, Eq)]
 pub enum Fault {
@@ -56,6 +67,8 @@ pub enum Fault {
     TooManyIndividuals,
     /// What the words name isn't there.
     NotThere(Sought),
+    /// A compiled program isn't written.
+    NotWritten(Unwritten),
     /// A file could not be read.
     ReadFault,
     /// Memory ran out.
@@ -71,6 +84,8 @@ pub enum Ending {
     Lost,
     /// What the words name isn't there.
     Absent(Sought),
+    /// A compiled program isn't written.
+    NotWritten(Unwritten),
 }
 
 impl Ending {
@@ -86,7 +101,7 @@ impl Ending {
     }
 
     /// The exit code of the process: that of `tvla`'s status; 1 where something is lost, 2 where the words
-    /// name what isn't there.
+    /// name what isn't there, 4 where a compiled program isn't written.
     pub fn code(&self) -> u8
         ensures { result ≡ code_of self.now }
     {
@@ -94,6 +109,7 @@ impl Ending {
             Ending::As(status) => status.code(),
             Ending::Lost => 1,
             Ending::Absent(_) => 2,
+            Ending::NotWritten(_) => 4,
         }
     }
 }
@@ -109,6 +125,7 @@ impl From<Fault> for Ending {
             Fault::TooManySplits => Ending::As(Status::TooManySplits),
             Fault::TooManyIndividuals => Ending::As(Status::TooManyIndividuals),
             Fault::NotThere(what) => Ending::Absent(what),
+            Fault::NotWritten(why) => Ending::NotWritten(why),
             Fault::ReadFault => Ending::As(Status::ReadFault),
             Fault::Memory => Ending::As(Status::Memory),
         }
@@ -143,6 +160,18 @@ impl From<TextFault> for Fault {
             TextFault::Refused(role, kind) => Fault::FileFault(role, kind),
             TextFault::NotRead => Fault::ReadFault,
             TextFault::Memory => Fault::Memory,
+        }
+    }
+}
+
+impl From<CompiledError> for Fault {
+    ghost from_gives = { λ error fault. fault ≡ fault_of_writing error };
+
+    fn from(error: CompiledError) -> Fault {
+        match error {
+            CompiledError::TooLong => Fault::NotWritten(Unwritten::TooLong),
+            CompiledError::Differs => Fault::NotWritten(Unwritten::Differs),
+            CompiledError::Memory => Fault::Memory,
         }
     }
 }

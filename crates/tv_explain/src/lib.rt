@@ -15,7 +15,7 @@ mod fault;
 mod inputs;
 mod work;
 
-pub use fault::{Ending, Sought};
+pub use fault::{Ending, Sought, Unwritten};
 use std::alloc::Global;
 use tv_explain_words::one_command;
 use tv_outside::{Files, Sink};
@@ -23,10 +23,11 @@ pub use tv_status::{FileKind, Role, Status};
 
 /// Does all that the program does: `words` are the words after its name.
 ///
-/// The work is done in this order: the words are read; PROGRAM is gathered and understood; for `show` REPORT
-/// is read and understood, for `message`, `structure` and `losses` INITIAL; what the words name is looked
-/// for, and the analysis runs; the text is put together and given to `out` whole. The first fault ends the
-/// call, and its text is given to `err`. Where the text tells of a loss the call ends as `Lost`.
+/// The work is done in this order: the words are read; PROGRAM is gathered and understood, or for `compiled`
+/// SOURCE is read and compiled; for `show` REPORT is read and understood, for `message`, `structure` and
+/// `losses` INITIAL; what the words name is looked for, and the analysis runs; the text is put together and
+/// given to `out` whole. The first fault ends the call, and its text is given to `err`. Where the text tells
+/// of a loss the call ends as `Lost`.
 pub fn explain<F: Files, O: Sink, E: Sink>(
     alloc: Global,
     words: &[String],

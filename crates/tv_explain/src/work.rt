@@ -5,7 +5,7 @@ ghost use Rattle.tv_outside.specs.Count.{Rose};
 ghost use Rattle.tv_explain.specs.Call.{Commands, IsAnswerTo, IsCause, IsCommandCause, UnlessReadFault};
 ghost use Rattle.tv_explain.specs.Begins.{BeginsFor};
 ghost use Rattle.tv_explain.specs.Answers.{IsAnswer, IsText};
-ghost use Rattle.tv_explain_words.specs.Words.{Shows, ListsEdges, SpellsNothing, TellsLosses};
+ghost use Rattle.tv_explain_words.specs.Words.{Shows, ListsEdges, Compiles, SpellsNothing, TellsLosses};
 ghost use Rattle.tv_explain_words.specs.Words.{TellsMessage, TellsStructure, analyzed_of, form_of};
 ghost use Rattle.tv_words.specs.Words.{words_of};
 
@@ -13,6 +13,9 @@ use crate::answers::{losses_answer, message_text, structure_text};
 use crate::fault::{Answer, Fault, plain};
 use crate::inputs::{load_drawn, load_inputs};
 use std::alloc::Global;
+use tv_compiled::compiled_text;
+use tv_compiled_laws::compiled_texts_are_programs;
+use tv_explain_source::load_source_text;
 use tv_explain_text::{edges_text, shown_text};
 use tv_explain_words::{Analyzed, Command, read_words};
 use tv_outside::Files;
@@ -127,6 +130,25 @@ fn losses<F: Files>(alloc: Global, files: &mut F, of: &Analyzed) -> Result<Answe
     losses_answer(alloc, &inputs, of)
 }
 
+/// The program that the source program of the named file is compiled to.
+#[tactic(auto, using(crate::proofs::Causes::holds_unless))]
+fn compiled<F: Files>(alloc: Global, files: &mut F, source: &str) -> Result<Vec<u8>, Fault>
+    ensures found { IfOk result
+        (λ text. IsText (F.holds files.old) (Compiles source.now) text.items) }
+    ensures cause { IfErr result (IsCommandCause (F.holds files.old) (Compiles source.now)
+        (Rose (F.faults files.old) (F.faults files.new)) (F.steady files.old)) }
+    ensures holds { F.holds files.new ≡ F.holds files.old }
+    ensures begins { OnOk result (BeginsFor (F.holds files.old) (F.begins files.old) (F.begins files.new)
+        (Compiles source.now)) }
+    ensures count { F.faults files.old ≤ F.faults files.new }
+    ensures steady { F.steady files.old → UnlessReadFault result (F.steady files.new
+        × (F.faults files.new ≡ F.faults files.old)) }
+{
+    compiled_texts_are_programs();
+    let read = load_source_text(alloc, files, source)?;
+    Ok(compiled_text(alloc, &read.bytes, &read.tokens, &read.program)?)
+}
+
 /// What the command gives.
 fn execute<F: Files>(alloc: Global, files: &mut F, command: &Command) -> Result<Answer, Fault>
     ensures found { IfOk result (IsAnswer (F.holds files.old) (form_of command.now)) }
@@ -145,6 +167,7 @@ fn execute<F: Files>(alloc: Global, files: &mut F, command: &Command) -> Result<
         Command::Message { of, edge, number } => plain(message(alloc, files, of, *edge, *number)),
         Command::Structure { of, node, index } => plain(structure(alloc, files, of, node, *index)),
         Command::Losses { of } => losses(alloc, files, of),
+        Command::Compiled { source } => plain(compiled(alloc, files, source)),
     }
 }
 

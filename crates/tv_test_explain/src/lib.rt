@@ -6,6 +6,8 @@ mod call;
 #[cfg(test)]
 mod chains;
 #[cfg(test)]
+mod compiled;
+#[cfg(test)]
 mod faults;
 #[cfg(test)]
 mod losses;

@@ -58,4 +58,5 @@ tvla-explain message PROGRAM INITIAL EDGE NUMBER [--max-structures N] [--recompu
        tvla-explain losses PROGRAM INITIAL [--max-structures N] [--recompute | --delta]
        tvla-explain show PROGRAM REPORT
        tvla-explain edges PROGRAM
+       tvla-explain compiled SOURCE
 ";
