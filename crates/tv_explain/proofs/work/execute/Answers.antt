@@ -3,7 +3,7 @@ use Rattle.tv_outside.specs.Count.{Rose}
 use Rattle.tv_explain.specs.Answers.{IsText}
 use Rattle.tv_explain.specs.Call.{IsCommandCause}
 use Rattle.tv_explain.proofs.Causes.{plain_cause, plain_text}
-use Rattle.tv_explain_words.specs.Words.{ListsEdges, TellsMessage, TellsStructure, analyzed_of}
+use Rattle.tv_explain_words.specs.Words.{Compiles, ListsEdges, TellsMessage, TellsStructure, analyzed_of}
 use Rattle.tv_explain.proofs.work.execute.Goals as goal
 
 pub returns-in-Edges-clause-found : goal.returns-in-Edges-clause-found
@@ -42,3 +42,10 @@ returns-in-Structure-clause-cause g c =
     rw (c.in-Structure.is, c.plain-in-Structure.ensures) (plain_cause _ c.structure.result (subst
     (λ name. IfErr c.structure.result (IsCommandCause told (TellsStructure of name c.in-Structure.index) rose steady))
     c.deref-in-Structure.ensures c.structure.ensures.cause))
+
+pub returns-in-Compiled-clause-found : goal.returns-in-Compiled-clause-found
+returns-in-Compiled-clause-found g c =
+    let told = g.F.Files.holds c.args.files.now in
+    rw (c.in-Compiled.is, c.plain-in-Compiled.ensures) (plain_text _ c.compiled.result (subst
+    (λ name. IfOk c.compiled.result (λ text. IsText told (Compiles name) text.items))
+    c.deref-in-Compiled.ensures c.compiled.ensures.found))
