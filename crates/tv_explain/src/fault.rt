@@ -67,8 +67,8 @@ pub enum Ending {
 }
 
 impl Ending {
-    /// The exit code of the process: that of `tvla`'s status; 2 where the words name what isn't there, 4 where
-    /// a compiled program isn't written.
+    /// The exit code of the process: that of `tvla`'s status; 2 where the words name what isn't there, 4
+    /// where a compiled program isn't written.
     pub fn code(&self) -> u8
         ensures { result ≡ code_of self.now }
     {
