@@ -8,7 +8,7 @@ use Rattle.tv_edge_heads.specs.Heads.{AreHeads}
 use Rattle.tv_edge_laws.specs.Edges.{EdgesAreKept, IsEdgeOf}
 use Rattle.tv_expand.specs.Expansion.{expansion}
 use Rattle.tv_flat.specs.FlatForm.{FlatForm}
-use Rattle.tv_front.specs.Meaning.{HasTree, IsProgramCause, IsRefused, StopsInText, is_memory}
+use Rattle.tv_front.specs.Meaning.{IsProgramCause, IsRefused, StopsInText, is_memory}
 use Rattle.tv_front.specs.declared.fault.ProgramFault.{ProgramFault}
 use Rattle.tv_front.proofs.Stages.{tree_read}
 use Rattle.tv_lex.specs.Gather.{Gathers, GatherCause}
@@ -20,7 +20,6 @@ use Rattle.tv_lex.specs.declared.gatherer.GatherError.{GatherError}
 use Rattle.tv_lex.specs.declared.gatherer.GatherError.TheVariants as gathering
 use Rattle.tv_model.specs.Program.{ProgramForm, program_of}
 use Rattle.tv_model.specs.declared.program.Edge.{Edge}
-use Rattle.tv_model.specs.declared.program.Program.{Program}
 use Rattle.tv_parse.specs.Grammar.{IsProgram}
 use Rattle.tv_parse.specs.Height.{IsTooDeep}
 use Rattle.tv_outside.specs.Count.{Rose}

@@ -1,5 +1,5 @@
 -- What the files of a command mean.
-use Rattle.std.specs.Prelude.{ℕ, ◌≡◌, ◌⊎◌, Bool, true, false, List, Option, Ok, Err}
+use Rattle.std.specs.Prelude.{ℕ, ◌⊎◌, Bool, true, false, List, Option, Ok, Err}
 use Rattle.std.specs.List.{AllZip}
 use Rattle.tv_delta_laws.specs.Differences.{IsDifferenced}
 use Rattle.tv_edge_heads.specs.Heads.{AreHeads}

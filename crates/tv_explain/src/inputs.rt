@@ -61,7 +61,7 @@ pub struct Inputs {
 
 /// What a text is understood as, stage by stage, as `read_program` of `tv_front` goes through it.
 #[tactic(auto, using(tv_front::proofs::Stages::lexing_refused, tv_front::proofs::Stages::parsing_refused, tv_front::proofs::Stages::tree_read, tv_front::proofs::Stages::parsing_stopped, tv_front::proofs::Stages::expansion_refused))]
-fn understood(alloc: Global, bytes: &[u8]) -> Result<Understood, ProgramFault>
+fn understand(alloc: Global, bytes: &[u8]) -> Result<Understood, ProgramFault>
     requires { length bytes.now ≤ longest_text }
     ensures means { IfOk result (IsUnderstood bytes.now) }
     ensures valid { IfOk result (λ read. IsValid (program_of read.program)) }
@@ -94,7 +94,7 @@ fn drawn_in(alloc: Global, gathered: &Gathered) -> Result<Drawn, TextFault>
         tokens,
         tree,
         program,
-    } = understood(alloc, &gathered.bytes)?;
+    } = understand(alloc, &gathered.bytes)?;
     match edge_heads(alloc, gathered, &tokens, &tree) {
         Ok(heads) => Ok(Drawn { program, heads }),
         Err(_) => Err(TextFault::Memory),

@@ -1,4 +1,3 @@
-use Rattle.std.proofs.Common.{IfErr}
 use Rattle.std.proofs.lemmas.Result.{IfErr-weaker, IfOk-weaker, err_from_is_err_and}
 use Rattle.tv_explain.proofs.Begins.{always}
 use Rattle.tv_explain.proofs.Causes.{structure_stopped, structure_unread}

@@ -3,7 +3,8 @@ use Rattle.tv_flat.specs.FlatForm.{flat_of}
 use Rattle.tv_front.proofs.Stages.{flat_form_given, resolution_refused, tree_read}
 use Rattle.tv_tree.specs.Copies.{program_of as tree_of}
 use Rattle.tv_explain.proofs.Trees.{understood}
-use Rattle.tv_explain.proofs.inputs.understood.Goals as goal
+use Rattle.tv_explain.proofs.inputs.understand.Goals as goal
+use Rattle.tv_explain.specs.declared.inputs.Understood.{Understood}
 
 pub returns-in_err-program-clause-cause : goal.returns-in_err-program-clause-cause
 returns-in_err-program-clause-cause c =
@@ -18,7 +19,12 @@ returns-in_err-program-clause-cause c =
 
 pub returns-clause-means : goal.returns-clause-means
 returns-clause-means c =
-    understood c.edges_are_kept.ensures c.args.bytes.now c.returned (flat_of c.in_ok-flat.flat) c.in_ok-tokens.ensures.tokens
+    let read : Understood = record {
+      tokens = c.in_ok-tokens.tokens;
+      tree = c.in_ok-tree.tree;
+      program = c.in_ok-program.program;
+    } in
+    understood c.edges_are_kept.ensures c.args.bytes.now read (flat_of c.in_ok-flat.flat) c.in_ok-tokens.ensures.tokens
     c.in_ok-tree.ensures.low c.in_ok-tree.ensures.tree c.in_ok-flat.ensures.exact c.in_ok-program.ensures.program
 
 pub returns-clause-valid : goal.returns-clause-valid
