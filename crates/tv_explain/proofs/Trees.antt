@@ -1,18 +1,27 @@
--- Texts of programs that have no tree, as files that mean nothing.
+-- Programs with their heads, and texts that have no tree, as files that mean nothing.
 use Rattle.std.proofs.Common.{◌≡◌, ℕ, Bool, true, false, List, Option, Result, Ok, Err, refl, sym, ap, subst}
 use Rattle.std.specs.List.{AllZip}
 use Rattle.std.specs.Prelude.{if◌then◌else◌}
+use Rattle.std.specs.declared.alloc.Global.{Global}
+use Rattle.std.specs.declared.vec.Vec.{Vec}
+use Rattle.tv_edge_heads.specs.Heads.{AreHeads}
 use Rattle.tv_edge_laws.specs.Edges.{EdgesAreKept, IsEdgeOf}
 use Rattle.tv_expand.specs.Expansion.{expansion}
 use Rattle.tv_flat.specs.FlatForm.{FlatForm}
-use Rattle.tv_front.specs.Meaning.{HasTree, IsProgramCause, IsRefused, StopsInText, is_memory}
+use Rattle.tv_front.specs.Meaning.{IsProgramCause, IsRefused, StopsInText, is_memory}
 use Rattle.tv_front.specs.declared.fault.ProgramFault.{ProgramFault}
+use Rattle.tv_front.proofs.Stages.{tree_read}
 use Rattle.tv_lex.specs.Gather.{Gathers, GatherCause}
+use Rattle.tv_lex.specs.Parts.{AreParts}
+use Rattle.tv_lex.specs.Pieces.{Reads}
+use Rattle.tv_lex.specs.Token.{spec_tokens}
+use Rattle.tv_lex.specs.declared.gatherer.Gathered.{Gathered}
 use Rattle.tv_lex.specs.declared.gatherer.GatherError.{GatherError}
 use Rattle.tv_lex.specs.declared.gatherer.GatherError.TheVariants as gathering
 use Rattle.tv_model.specs.Program.{ProgramForm, program_of}
 use Rattle.tv_model.specs.declared.program.Edge.{Edge}
-use Rattle.tv_model.specs.declared.program.Program.{Program}
+use Rattle.tv_parse.specs.Grammar.{IsProgram}
+use Rattle.tv_parse.specs.Height.{IsTooDeep}
 use Rattle.tv_outside.specs.Count.{Rose}
 use Rattle.tv_outside.specs.Told.{Held}
 use Rattle.tv_status.specs.declared.status.FileKind.TheVariants as kind
@@ -24,20 +33,39 @@ use Rattle.tv_texts.specs.declared.fault.TextFault.{TextFault}
 use Rattle.tv_texts.specs.declared.fault.TextFault.TheVariants.{Refused, NotRead, Memory}
 use Rattle.tv_tree.specs.Copies.{program_of as tree_of}
 use Rattle.tv_tree.specs.Steps.{Unless}
-use Rattle.tv_tree.specs.declared.trees.Tree.{Tree}
 use Rattle.tv_vocab.specs.Resolution.{program as resolution}
 use Rattle.tv_explain.specs.Meaning.{IsDrawnFile, IsDrawnText}
-use Rattle.tv_explain.specs.Work.{IsTakenFrom}
+use Rattle.tv_explain.specs.Work.{IsDrawnWhereParted, IsTakenFrom, IsUnderstood}
 use Rattle.tv_explain.specs.declared.inputs.Drawn.{Drawn}
+use Rattle.tv_explain.specs.declared.inputs.Understood.{Understood}
 
 -- a text, its tree, and the program that comes of it
-pub drawn : EdgesAreKept → (text : List ℕ) (tree : Tree) (flat : FlatForm) (program : Program)
-    → HasTree text (tree_of tree) → expansion (tree_of tree) ≡ Ok flat → resolution flat ≡ Ok (program_of program)
-    → IsDrawnText false text (record { program = program; tree = tree })
-drawn kept text tree flat program has expands resolves = record {
-  means = (flat, (tree_of tree, has, expands), resolves);
-  tree = has;
-  edges = kept (tree_of tree) flat (program_of program) expands resolves;
+pub understood : EdgesAreKept → (text : List ℕ) (u : Understood) (flat : FlatForm)
+    → Reads text (Ok u.tokens.list.items) → (¬ IsTooDeep (spec_tokens text u.tokens.list.items))
+    → IsProgram (spec_tokens text u.tokens.list.items) (tree_of u.tree) → expansion (tree_of u.tree) ≡ Ok flat
+    → resolution flat ≡ Ok (program_of u.program) → IsUnderstood text u
+understood kept text u flat reads low grammar expands resolves =
+    let has = tree_read text u.tokens.list.items (tree_of u.tree) reads low grammar in
+    record {
+      means = (flat, (tree_of u.tree, has, expands), resolves);
+      reads = reads;
+      grammar = grammar;
+      has = has;
+      edges = kept (tree_of u.tree) flat (program_of u.program) expands resolves;
+    }
+
+-- and its heads
+pub drawn : (gathered : Gathered) (u : Understood) (heads : Vec (List ℕ) Global)
+    → IsUnderstood gathered.bytes.items u
+    → ((told : Option Held) → AreParts told 0 gathered.parts.items gathered.bytes.items
+    → AreHeads told gathered.bytes.items (tree_of u.tree) heads.items)
+    → IsDrawnWhereParted gathered (record { program = u.program; heads = heads })
+drawn gathered u heads is stand = λ told parted. record {
+  means = is.means;
+  tree = tree_of u.tree;
+  has = is.has;
+  edges = is.edges;
+  heads = stand told parted;
 }
 
 -- a text without a tree
@@ -80,20 +108,21 @@ holds_anyway (Err Memory) P h = h
 -- ---- what differencing makes of a program
 
 -- its edges and nodes stay
-taken_text : (delta : Bool) (text : List ℕ) (read drawn : Drawn) → IsTakenFrom delta read drawn
-    → IsDrawnText false text read → IsDrawnText delta text drawn
-taken_text false text read drawn same is = subst (IsDrawnText false text) (sym same) is
-taken_text true text read drawn (differs, trees) is = record {
+taken_text : (told : Option Held) (delta : Bool) (text : List ℕ) (read drawn : Drawn) → IsTakenFrom delta read drawn
+    → IsDrawnText told false text read → IsDrawnText told delta text drawn
+taken_text told false text read drawn same is = subst (IsDrawnText told false text) (sym same) is
+taken_text told true text read drawn (differs, heads) is = record {
   means = (read.program, is.means, differs);
-  tree = subst (λ t. HasTree text (tree_of t)) (sym trees) is.tree;
-  edges = subst (λ t. AllZip (IsEdgeOf drawn.program.nodes) (tree_of t).edges drawn.program.edges) (sym trees)
-      (subst (λ (es : List Edge). AllZip (IsEdgeOf drawn.program.nodes) (tree_of read.tree).edges es)
+  tree = is.tree;
+  has = is.has;
+  edges = subst (λ (es : List Edge). AllZip (IsEdgeOf drawn.program.nodes) is.tree.edges es)
       (sym (ap (λ (p : ProgramForm). p.edges) differs.rest))
-      (subst (λ (ns : List (List ℕ)). AllZip (IsEdgeOf ns) (tree_of read.tree).edges read.program.edges)
-      (sym (ap (λ (p : ProgramForm). p.nodes) differs.rest)) is.edges));
+      (subst (λ (ns : List (List ℕ)). AllZip (IsEdgeOf ns) is.tree.edges read.program.edges)
+      (sym (ap (λ (p : ProgramForm). p.nodes) differs.rest)) is.edges);
+  heads = subst (λ (hs : Vec (List ℕ) Global). AreHeads told text is.tree hs.items) (sym heads) is.heads;
 }
 
 pub taken_file : (told : Option Held) (delta : Bool) (name : List ℕ) (read drawn : Drawn)
     → IsDrawnFile told false name read → IsTakenFrom delta read drawn → IsDrawnFile told delta name drawn
 taken_file told delta name read drawn (text, gathers, is) taken =
-    (text, gathers, taken_text delta text read drawn taken is)
+    (text, gathers, taken_text told delta text read drawn taken is)

@@ -18,10 +18,9 @@ use Rattle.tv_step_laws.specs.Budgets.{MeetsIndividuals, MeetsSplits}
 use Rattle.tv_texts.specs.Files.{IsProgramFile, IsReportFile}
 use Rattle.tv_texts.specs.Meaning.{MeansProgram}
 use Rattle.tv_trail_laws.specs.declared.trail.Trail.{Trail}
-use Rattle.tv_tree.specs.Copies.{program_of as tree_of}
 use Rattle.tv_work.specs.Analysed.{Meets}
 use Rattle.tv_work.specs.Reach.{AreMoreThan, IsReached, Point}
-use Rattle.tv_explain.specs.Meaning.{FilesMean, IsDrawnFile, edges_in, form_in}
+use Rattle.tv_explain.specs.Meaning.{FilesMean, IsDrawnFile, form_in, heads_in}
 use Rattle.tv_explain.specs.declared.fault.Answer.{Answer}
 use Rattle.tv_explain.specs.declared.fault.Fault.{Fault}
 use Rattle.tv_explain.specs.declared.fault.Fault.TheVariants.{Memory, NotThere, Structures}
@@ -42,7 +41,7 @@ use Rattle.tv_explain_words.specs.Words.{TellsStructure, TellsLosses, Compiles}
 
 -- the trail's lines: the initial structure's opening, and edge by edge what comes of it
 abbrev pub trail_lines : Inputs → Trail → List ℕ
-trail_lines inputs trail = trail_text inputs.drawn.program.vocab (edges_in inputs) trail
+trail_lines inputs trail = trail_text inputs.drawn.program.vocab (heads_in inputs) trail
 
 -- The text is that of a shortest trail to the message and of its value there; or that there is none, where no
 -- reached structure raises the message.
@@ -51,7 +50,7 @@ TellsOfMessage of inputs edge number message text =
     ((trail : Trail) × (value : K3)
     × IsRaisedBy (form_in inputs) of.mode inputs.initial edge number trail value
     × (text
-    ≡ trail_lines inputs trail ++ raised_line (edges_in inputs) edge number value message.text))
+    ≡ trail_lines inputs trail ++ raised_line (heads_in inputs) edge number value message.text))
     ⊎ (IsNeverRaised (form_in inputs) of.mode inputs.initial edge number × (text ≡ codes "no message\n"))
 
 -- the message of this number among those of the edge's action is told of
@@ -71,7 +70,7 @@ IsStructureText of inputs node index text = (place : ℕ)
 
 -- the answer is the report on what the analysis loses, and says whether it loses anything
 abbrev pub TellsOfLosses : AnalyzedForm → Inputs → Answer → Type 0
-TellsOfLosses of inputs answer = IsLossReport (form_in inputs) (edges_in inputs) of.mode inputs.initial of.max
+TellsOfLosses of inputs answer = IsLossReport (form_in inputs) (heads_in inputs) of.mode inputs.initial of.max
     (record { text = answer.text; is_any = answer.is_lost })
 
 -- ---- compiled programs
@@ -100,7 +99,7 @@ abbrev pub IsText : Option Held → CommandForm → (text : List ℕ) → Type 0
 IsText told (Shows program report) text = (p : Program) × IsProgramFile told program (Ok p)
     × ((a : Analysis) × IsReportFile told report p (Ok a) × (text ≡ shown_text p a.listing))
 IsText told (ListsEdges program) text = (drawn : Drawn) × IsDrawnFile told false program drawn
-    × (text ≡ edges_text (program_of drawn.program) 0 (tree_of drawn.tree).edges)
+    × (text ≡ edges_text (program_of drawn.program) 0 drawn.heads.items)
 IsText told (TellsMessage of edge number) text = (inputs : Inputs) × FilesMean told of inputs
     × IsMessageText of inputs edge number text
 IsText told (TellsStructure of node index) text = (inputs : Inputs) × FilesMean told of inputs

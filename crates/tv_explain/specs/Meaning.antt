@@ -2,6 +2,7 @@
 use Rattle.std.specs.Prelude.{ℕ, ◌⊎◌, Bool, true, false, List, Option, Ok, Err}
 use Rattle.std.specs.List.{AllZip}
 use Rattle.tv_delta_laws.specs.Differences.{IsDifferenced}
+use Rattle.tv_edge_heads.specs.Heads.{AreHeads}
 use Rattle.tv_edge_laws.specs.Edges.{IsEdgeOf}
 use Rattle.tv_front.specs.Meaning.{HasTree}
 use Rattle.tv_model.specs.Program.{ProgramForm, program_of}
@@ -13,8 +14,7 @@ use Rattle.tv_status.specs.declared.status.Role.TheVariants as role
 use Rattle.tv_texts.specs.Files.{GathersSuch, IsInitialFile, IsProgramFile, IsReportFile, IsSourceFile}
 use Rattle.tv_texts.specs.Files.{LacksFile}
 use Rattle.tv_texts.specs.Meaning.{MeansProgram}
-use Rattle.tv_tree.specs.Copies.{program_of as tree_of}
-use Rattle.tv_tree.specs.Forms.{EdgeForm}
+use Rattle.tv_tree.specs.Forms.{ProgramForm as TreeForm}
 use Rattle.tv_explain.specs.declared.inputs.Drawn.{Drawn}
 use Rattle.tv_explain.specs.declared.inputs.Inputs.{Inputs}
 use Rattle.tv_explain_words.specs.Words.{AnalyzedForm, CommandForm, Shows, ListsEdges, TellsMessage}
@@ -29,7 +29,7 @@ program_name (TellsStructure of node index) = of.program
 program_name (TellsLosses of) = of.program
 program_name (Compiles source) = source
 
--- ---- a program with its tree
+-- ---- a program with its edges as they are written
 
 -- the text means this program, or, with `delta`, one of which differencing makes it
 abbrev pub MeansTaken : (delta : Bool) → (text : List ℕ) → Program → Type 0
@@ -37,20 +37,23 @@ MeansTaken false text program = MeansProgram text (Ok program)
 MeansTaken true text program = (read : Program) × MeansProgram text (Ok read)
     × IsDifferenced (program_of read) (program_of program)
 
--- The text means the program, and has the tree. The edges of the program are those of the tree, in their
--- order: each leaves and enters the nodes of the names that stand there.
-pub record IsDrawnText (delta : Bool) (text : List ℕ) (drawn : Drawn) : Type 0 where
+-- The text means the program. The program's edges are those of the text's tree, in their order: each leaves
+-- and enters the nodes of the names that stand there. So are the heads: each is the edge as it is printed,
+-- behind the file and line in which it stands.
+pub record IsDrawnText (told : Option Held) (delta : Bool) (text : List ℕ) (drawn : Drawn) : Type 0 where
   pub means : MeansTaken delta text drawn.program
-  pub tree : HasTree text (tree_of drawn.tree)
-  pub edges : AllZip (IsEdgeOf drawn.program.nodes) (tree_of drawn.tree).edges drawn.program.edges
+  pub tree : TreeForm
+  pub has : HasTree text tree
+  pub edges : AllZip (IsEdgeOf drawn.program.nodes) tree.edges drawn.program.edges
+  pub heads : AreHeads told text tree drawn.heads.items
 
 -- so does the text of the named file, with its includes put in
 abbrev pub IsDrawnFile : Option Held → (delta : Bool) → (name : List ℕ) → Drawn → Type 0
-IsDrawnFile told delta name drawn = GathersSuch told name (λ text. IsDrawnText delta text drawn)
+IsDrawnFile told delta name drawn = GathersSuch told name (λ text. IsDrawnText told delta text drawn)
 
 -- ---- what is analyzed
 
--- PROGRAM means the program with its tree, and INITIAL these structures over its vocabulary
+-- PROGRAM means the program with its heads, and INITIAL these structures over its vocabulary
 pub record FilesMean (told : Option Held) (of : AnalyzedForm) (inputs : Inputs) : Type 0 where
   pub drawn : IsDrawnFile told of.delta of.program inputs.drawn
   pub initial : IsInitialFile told of.initial inputs.drawn.program (Ok inputs.initial)
@@ -58,9 +61,9 @@ pub record FilesMean (told : Option Held) (of : AnalyzedForm) (inputs : Inputs) 
 abbrev pub form_in : Inputs → ProgramForm
 form_in inputs = program_of inputs.drawn.program
 
--- the edges of the program, as they are written
-abbrev pub edges_in : Inputs → List EdgeForm
-edges_in inputs = (tree_of inputs.drawn.tree).edges
+-- the edges of the program, as they are written, each behind its place
+abbrev pub heads_in : Inputs → List (List ℕ)
+heads_in inputs = inputs.drawn.heads.items
 
 -- ---- files that mean nothing, or aren't there
 

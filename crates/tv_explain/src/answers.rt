@@ -6,7 +6,7 @@ ghost use Rattle.tv_model.specs.Program.{message_of};
 ghost use Rattle.tv_trail.specs.Over.{IsTrailOver};
 ghost use Rattle.tv_explain.specs.Answers.{IsMessageText, IsStopped, IsStructureText, NamesNothing};
 ghost use Rattle.tv_explain.specs.Answers.{TellsOfLosses, trail_lines};
-ghost use Rattle.tv_explain.specs.Meaning.{edges_in, form_in};
+ghost use Rattle.tv_explain.specs.Meaning.{form_in, heads_in};
 ghost use Rattle.tv_explain.specs.Work.{AreReady};
 ghost use Rattle.tv_explain_text.specs.Texts.{messages_at};
 ghost use Rattle.tv_explain_text.specs.Trails.{raised_line};
@@ -59,7 +59,7 @@ fn raised_answer(
     requires ready { AreReady inputs.now }
     requires over { IsTrailOver inputs.now.drawn.program.vocab raised.now.trail }
     ensures { IfOk result (λ text. text.items ≡ trail_lines inputs.now raised.now.trail
-        ++ raised_line (edges_in inputs.now) edge number raised.now.value message.now.text) }
+        ++ raised_line (heads_in inputs.now) edge number raised.now.value message.now.text) }
 {
     let told = Told {
         edge,
@@ -70,7 +70,7 @@ fn raised_answer(
     raised_text(
         alloc,
         &inputs.drawn.program,
-        inputs.drawn.tree.edges.as_slice(),
+        &inputs.drawn.heads,
         &raised.trail,
         &told,
     )
@@ -160,10 +160,7 @@ pub fn structure_text(
     ) {
         Err(error) => Err(fault_of_work(error, of.max)),
         Ok(None) => Err(Fault::NotThere(Sought::Structure)),
-        Ok(Some(trail)) => {
-            let edges = inputs.drawn.tree.edges.as_slice();
-            Ok(trail_text(alloc, program, edges, &trail)?)
-        }
+        Ok(Some(trail)) => Ok(trail_text(alloc, program, &inputs.drawn.heads, &trail)?),
     }
 }
 
@@ -175,8 +172,8 @@ pub fn losses_answer(alloc: Global, inputs: &Inputs, of: &Analyzed) -> Result<An
         (IsStopped (TellsLosses (analyzed_of of.now)) (analyzed_of of.now) inputs.now) }
 {
     let program = &inputs.drawn.program;
-    let edges = inputs.drawn.tree.edges.as_slice();
-    match explain_losses(alloc, program, edges, &inputs.initial, of.mode, of.max) {
+    let heads = &inputs.drawn.heads;
+    match explain_losses(alloc, program, heads, &inputs.initial, of.mode, of.max) {
         Err(error) => Err(fault_of_work(error, of.max)),
         Ok(report) => Ok(Answer {
             text: report.text,

@@ -1,4 +1,4 @@
-//! A program, with the tree of its text, and the initial structures of an analysis.
+//! A program, with its edges as they are written, and the initial structures of an analysis.
 
 ghost use Rattle.std.specs.Prelude.{◌≡◌, ◌≤◌, ◌+◌, false, IfOk, IfErr, OnOk, Err, length};
 ghost use Rattle.tv_front.specs.Meaning.{HasTree, IsProgramCause, StopsInText};
@@ -15,18 +15,20 @@ ghost use Rattle.tv_tree.specs.Spelled.{IsSpelled};
 ghost use Rattle.tv_explain.specs.Begins.{BeginsBy, program_begins};
 ghost use Rattle.tv_explain.specs.Call.{UnlessReadFault};
 ghost use Rattle.tv_explain.specs.Meaning.{FilesMean, IsDrawnFile, IsDrawnText};
-ghost use Rattle.tv_explain.specs.Work.{AreReady, IsInputsCause, IsTakenFrom};
+ghost use Rattle.tv_explain.specs.Work.{AreReady, IsDrawnWhereParted, IsInputsCause, IsTakenFrom};
+ghost use Rattle.tv_explain.specs.Work.{IsUnderstood};
 ghost use Rattle.tv_explain_words.specs.Words.{analyzed_of};
 
 use crate::fault::Fault;
 use std::alloc::Global;
 use tv_delta::differenced;
+use tv_edge_heads::edge_heads;
 use tv_edge_laws::edges_are_kept;
 use tv_expand::expand;
 use tv_explain_words::Analyzed;
 use tv_front::ProgramFault;
-use tv_lex::{gather, lex};
-use tv_model::Program;
+use tv_lex::{Gathered, Tokens, gather, lex};
+use tv_model::{Bytes, Program};
 use tv_outside::Files;
 use tv_parse::parse_program;
 use tv_struct::Structures;
@@ -34,11 +36,20 @@ use tv_texts::{TextFault, load_initial};
 use tv_tree::Tree;
 use tv_vocab::{flat_forms_are_resolvable, resolve};
 
-/// A program, and the tree of its text.
+/// The tokens and the tree of a text, and the program that it means.
+#[derive(Drop)]
+struct Understood {
+    tokens: Tokens,
+    tree: Tree,
+    program: Program,
+}
+
+/// A program, and its edges in their order: each as it is printed, behind the file and line in which it
+/// stands.
 #[derive(Drop)]
 pub struct Drawn {
     pub program: Program,
-    pub tree: Tree,
+    pub heads: Vec<Bytes>,
 }
 
 /// What is analyzed.
@@ -48,48 +59,49 @@ pub struct Inputs {
     pub initial: Structures,
 }
 
-/// The tree of a text.
-#[tactic(auto, using(tv_front::proofs::Stages::lexing_refused, tv_front::proofs::Stages::parsing_refused, tv_front::proofs::Stages::tree_read, tv_front::proofs::Stages::parsing_stopped))]
-fn tree(alloc: Global, bytes: &[u8]) -> Result<Tree, ProgramFault>
+/// What a text is understood as, stage by stage, as `read_program` of `tv_front` goes through it.
+#[tactic(auto, using(tv_front::proofs::Stages::lexing_refused, tv_front::proofs::Stages::parsing_refused, tv_front::proofs::Stages::tree_read, tv_front::proofs::Stages::parsing_stopped, tv_front::proofs::Stages::expansion_refused))]
+fn understand(alloc: Global, bytes: &[u8]) -> Result<Understood, ProgramFault>
     requires { length bytes.now ≤ longest_text }
-    ensures tree { IfOk result (λ t. HasTree bytes.now (tree_of t)) }
-    ensures spelled { IfOk result (λ t. IsSpelled (tree_of t)) }
-    ensures cause { IfErr result (IsProgramCause bytes.now) }
-    ensures place { IfErr result (StopsInText bytes.now) }
-{
-    let tokens = lex(alloc, bytes)?;
-    Ok(parse_program(alloc, bytes, &tokens)?)
-}
-
-/// The program that a text means, as `read_program` of `tv_front` gives it, and the text's tree.
-#[tactic(auto, using(tv_front::proofs::Stages::expansion_refused))]
-fn read_drawn(alloc: Global, bytes: &[u8]) -> Result<Drawn, ProgramFault>
-    requires { length bytes.now ≤ longest_text }
-    ensures means { IfOk result (IsDrawnText false bytes.now) }
-    ensures valid { IfOk result (λ drawn. IsValid (program_of drawn.program)) }
+    ensures means { IfOk result (IsUnderstood bytes.now) }
+    ensures valid { IfOk result (λ read. IsValid (program_of read.program)) }
     ensures cause { IfErr result (IsProgramCause bytes.now) }
     ensures place { IfErr result (StopsInText bytes.now) }
 {
     edges_are_kept();
     flat_forms_are_resolvable();
-    let tree = tree(alloc, bytes)?;
+    let tokens = lex(alloc, bytes)?;
+    let tree = parse_program(alloc, bytes, &tokens)?;
     let flat = expand(alloc, &tree)?;
     let program = resolve(alloc, &flat)?;
-    Ok(Drawn { program, tree })
+    Ok(Understood {
+        tokens,
+        tree,
+        program,
+    })
 }
 
-/// The program that a text means, with the text's tree.
+/// The program that a gathered text means, with its heads.
 #[tactic(auto, using(crate::proofs::Trees::tree_refused))]
-fn drawn_in(alloc: Global, bytes: &[u8]) -> Result<Drawn, TextFault>
-    requires { length bytes.now ≤ longest_text }
-    ensures means { IfOk result (IsDrawnText false bytes.now) }
+fn drawn_in(alloc: Global, gathered: &Gathered) -> Result<Drawn, TextFault>
+    requires { length gathered.now.bytes.items ≤ longest_text }
+    ensures means { IfOk result (IsDrawnWhereParted gathered.now) }
     ensures valid { IfOk result (λ drawn. IsValid (program_of drawn.program)) }
-    ensures cause { IfErr result (IsTextCause role.Program (λ kind. MeansProgram bytes.now (Err kind))) }
+    ensures cause { IfErr result
+        (IsTextCause role.Program (λ kind. MeansProgram gathered.now.bytes.items (Err kind))) }
 {
-    Ok(read_drawn(alloc, bytes)?)
+    let Understood {
+        tokens,
+        tree,
+        program,
+    } = understand(alloc, &gathered.bytes)?;
+    match edge_heads(alloc, gathered, &tokens, &tree) {
+        Ok(heads) => Ok(Drawn { program, heads }),
+        Err(_) => Err(TextFault::Memory),
+    }
 }
 
-/// The program that the named file means, with its includes put in, and the tree of that text.
+/// The program that the named file means, with its includes put in, and its heads.
 #[tactic(auto, using(crate::proofs::Trees::not_gathered, crate::proofs::Trees::gathered_refused, crate::proofs::Trees::holds_anyway))]
 pub fn load_drawn<F: Files>(alloc: Global, files: &mut F, name: &str) -> Result<Drawn, TextFault>
     ensures means { IfOk result (IsDrawnFile (F.holds files.old) false name.now) }
@@ -106,7 +118,7 @@ pub fn load_drawn<F: Files>(alloc: Global, files: &mut F, name: &str) -> Result<
         × (F.faults files.new ≡ F.faults files.old)) }
 {
     let gathered = gather(alloc, files, name)?;
-    drawn_in(alloc, &gathered.bytes)
+    drawn_in(alloc, &gathered)
 }
 
 /// What is taken where this was read: with `delta`, what differencing makes of the program.
@@ -119,14 +131,14 @@ fn taken(alloc: Global, read: Drawn, delta: bool) -> Result<Drawn, TextFault>
     if !delta {
         return Ok(read);
     }
-    let Drawn { program, tree } = read;
+    let Drawn { program, heads } = read;
     match differenced(alloc, &program) {
-        Ok(program) => Ok(Drawn { program, tree }),
+        Ok(program) => Ok(Drawn { program, heads }),
         Err(_) => Err(TextFault::Memory),
     }
 }
 
-/// The program that the named file means, with its tree; with `delta`, what differencing makes of it.
+/// The program that the named file means, with its heads; with `delta`, what differencing makes of it.
 fn load_taken<F: Files>(
     alloc: Global,
     files: &mut F,

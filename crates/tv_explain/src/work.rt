@@ -60,7 +60,7 @@ fn edges<F: Files>(alloc: Global, files: &mut F, program: &str) -> Result<Vec<u8
         × (F.faults files.new ≡ F.faults files.old)) }
 {
     let drawn = load_drawn(alloc, files, program)?;
-    Ok(edges_text(alloc, &drawn.program, drawn.tree.edges.as_slice())?)
+    Ok(edges_text(alloc, &drawn.program, &drawn.heads)?)
 }
 
 /// A shortest abstract run to the message of this number among those of the edge's action.

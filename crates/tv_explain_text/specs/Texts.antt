@@ -1,6 +1,7 @@
 -- The texts that explain.
 use Rattle.std.specs.Prelude.{ℕ, ◌+◌, List, [], ◌∷◌, ◌++◌, Option, None, Some, length, slice_get, codes}
 use Rattle.std.specs.Prelude.{decimal}
+use Rattle.tv_file_lines.specs.Numbered.{numbered}
 use Rattle.tv_listing.specs.ListingForm.{at_node}
 use Rattle.tv_model.specs.Program.{ActionForm, MessageForm, ProgramForm}
 use Rattle.tv_model.specs.declared.program.Edge.{Edge}
@@ -8,12 +9,6 @@ use Rattle.tv_model.specs.declared.program.Program.{Program}
 use Rattle.tv_model.specs.declared.program.Vocab.{Vocab}
 use Rattle.tv_show.specs.Line.{line_of}
 use Rattle.tv_struct.specs.StructureForm.{StructureForm}
-use Rattle.tv_tree.specs.Forms.{EdgeForm}
-use Rattle.tv_tree.specs.Printed.{edge_lines, text_of_lines}
-
--- a word and a number
-abbrev pub numbered : (word : List ℕ) → ℕ → List ℕ
-numbered word n = word ++ decimal n
 
 -- ---- structures
 
@@ -56,9 +51,9 @@ abbrev pub message_lines : (number : ℕ) → List MessageForm → List ℕ
 message_lines number [] = []
 message_lines number (message ∷ messages) = message_line number message ++ message_lines (number + 1) messages
 
--- `edge NUMBER`, and the edge as it is printed
-abbrev pub edge_line : (number : ℕ) → EdgeForm → List ℕ
-edge_line number edge = numbered (codes "edge ") number ++ (codes "  " ++ text_of_lines (edge_lines edge))
+-- `edge NUMBER`, two spaces and the head of the edge
+abbrev pub numbered_edge : (number : ℕ) → (head : List ℕ) → List ℕ
+numbered_edge number head = numbered (codes "edge ") number ++ (codes "  " ++ head)
 
 abbrev pub messages_of : Option ActionForm → List MessageForm
 messages_of None = []
@@ -72,11 +67,11 @@ action_messages actions (Some edge) = messages_of (slice_get actions edge.action
 abbrev pub messages_at : ProgramForm → (number : ℕ) → List MessageForm
 messages_at p number = action_messages p.actions (slice_get p.edges number)
 
--- an edge as it is written, and the messages of its action
-abbrev pub edge_text : ProgramForm → (number : ℕ) → EdgeForm → List ℕ
-edge_text p number edge = edge_line number edge ++ message_lines 0 (messages_at p number)
+-- the line of an edge, and the messages of its action
+abbrev pub edge_text : ProgramForm → (number : ℕ) → (head : List ℕ) → List ℕ
+edge_text p number head = numbered_edge number head ++ (codes "\n" ++ message_lines 0 (messages_at p number))
 
--- edges, of which the first has this number
-abbrev pub edges_text : ProgramForm → (number : ℕ) → List EdgeForm → List ℕ
+-- edges by their heads, of which the first has this number
+abbrev pub edges_text : ProgramForm → (number : ℕ) → (heads : List (List ℕ)) → List ℕ
 edges_text p number [] = []
-edges_text p number (edge ∷ edges) = edge_text p number edge ++ edges_text p (number + 1) edges
+edges_text p number (head ∷ heads) = edge_text p number head ++ edges_text p (number + 1) heads

@@ -2,14 +2,13 @@
 
 ghost use Rattle.std.specs.Prelude.{◌≡◌, ◌++◌, IfOk, OnOk, codes, decimal, map};
 ghost use Rattle.tv_model.specs.Program.{program_of, message_of};
-ghost use Rattle.tv_tree.specs.Copies.{edge_of};
-ghost use Rattle.tv_explain_text.specs.Texts.{edge_line, edge_text, edges_text, message_line, message_lines};
-ghost use Rattle.tv_explain_text.specs.Texts.{messages_at};
+ghost use Rattle.tv_explain_text.specs.Texts.{edge_text, edges_text, message_line, message_lines};
+ghost use Rattle.tv_explain_text.specs.Texts.{messages_at, numbered_edge};
 
-use crate::numbered::append_numbered;
 use std::alloc::{AllocError, Global};
-use tv_model::{Message, Program};
-use tv_tree::{EdgeTree, print_edge};
+use tv_edge_heads::head_at;
+use tv_file_lines::append_numbered;
+use tv_model::{Bytes, Message, Program};
 
 /// The messages of the action of the edge that has this number.
 pub fn messages_at(program: &Program, number: usize) -> &[Message]
@@ -44,50 +43,46 @@ fn append_messages(out: &mut Vec<u8>, messages: &[Message]) -> Result<(), AllocE
     Ok(())
 }
 
-/// Appends an edge, behind its number.
-pub(crate) fn append_edge_line(
+/// Appends the head of an edge, behind the edge's number.
+pub(crate) fn append_numbered_edge(
     out: &mut Vec<u8>,
     number: usize,
-    edge: &EdgeTree,
+    head: &[u8],
 ) -> Result<(), AllocError>
-    ensures { OnOk result (out.new.items ≡ out.old.items ++ edge_line number (edge_of edge.now)) }
+    ensures { OnOk result (out.new.items ≡ out.old.items ++ numbered_edge number head.now) }
 {
     append_numbered(out, b"edge ", number)?;
     out.extend_from_slice(b"  ")?;
-    print_edge(out, edge)
+    out.extend_from_slice(head)
 }
 
-/// Appends an edge, behind its number, and the messages of its action.
+/// Appends the line of an edge, and the messages of its action.
 fn append_edge(
     out: &mut Vec<u8>,
     program: &Program,
     number: usize,
-    edge: &EdgeTree,
+    head: &[u8],
 ) -> Result<(), AllocError>
     ensures { OnOk result
-        (out.new.items ≡ out.old.items ++ edge_text (program_of program.now) number (edge_of edge.now)) }
+        (out.new.items ≡ out.old.items ++ edge_text (program_of program.now) number head.now) }
 {
-    append_edge_line(out, number, edge)?;
+    append_numbered_edge(out, number, head)?;
+    out.extend_from_slice(b"\n")?;
     append_messages(out, messages_at(program, number))
 }
 
-/// The control edges of a program, which has them as the tree's in their order; it counts from 0. Each
-/// stands in a line as in a printed program, behind its number: `edge 3  L1 Copy_Var ( y , x ) L2`; and
-/// behind it the messages of its action, each in a line: `  message 0 "null dereference of x"`.
+/// The control edges of a program by their heads, which are given in the edges' order; it counts from 0. Each
+/// stands in a line, behind its number: `edge 3  p.tvp:8  L1 Copy_Var ( y , x ) L2`; and behind it the
+/// messages of its action, each in a line: `  message 0 "null dereference of x"`.
 ///
 /// # Errors
 /// Want of memory.
-pub fn edges_text(
-    alloc: Global,
-    program: &Program,
-    edges: &[EdgeTree],
-) -> Result<Vec<u8>, AllocError>
-    ensures { IfOk result
-        (λ text. text.items ≡ edges_text (program_of program.now) 0 (map edge_of edges.now)) }
+pub fn edges_text(alloc: Global, program: &Program, heads: &[Bytes]) -> Result<Vec<u8>, AllocError>
+    ensures { IfOk result (λ text. text.items ≡ edges_text (program_of program.now) 0 heads.now) }
 {
     let mut out = Vec::new(alloc);
-    for number in 0..edges.len() {
-        append_edge(&mut out, program, number, &edges[number])?;
+    for number in 0..heads.len() {
+        append_edge(&mut out, program, number, head_at(heads, number))?;
     }
     Ok(out)
 }

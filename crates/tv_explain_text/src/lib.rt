@@ -3,7 +3,6 @@
 #![tactic(auto)]
 
 mod edges;
-mod numbered;
 mod shown;
 mod trails;
 

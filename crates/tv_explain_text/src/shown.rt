@@ -9,8 +9,8 @@ ghost use Rattle.tv_struct.specs.StructureForm.{IsOver};
 ghost use Rattle.tv_explain_text.specs.Texts.{structure_line, structure_lines, node_line, node_lines};
 ghost use Rattle.tv_explain_text.specs.Texts.{nodes_text, shown_text};
 
-use crate::numbered::append_numbered;
 use std::alloc::{AllocError, Global};
+use tv_file_lines::append_numbered;
 use tv_listing::Listing;
 use tv_model::{Program, Vocab};
 use tv_show::append_line;

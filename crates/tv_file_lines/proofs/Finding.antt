@@ -1,10 +1,12 @@
 -- The part at a place, and the bytes there.
-use Rattle.std.proofs.Common.{◌≡◌, ℕ, ◌+◌, ◌-◌, ◌<◌, ◌≤◌, List, [], ◌∷◌, ◌++◌, Option, Some, None, Bool, true}
+use Rattle.std.proofs.Common.{◌≡◌, ℕ, zero, suc, ◌+◌, ◌-◌, ◌<◌, ◌≤◌, List, [], ◌∷◌, ◌++◌, Option, Some, None}
+use Rattle.std.proofs.Common.{Bool, true}
 use Rattle.std.proofs.Common.{false}
 use Rattle.std.proofs.Common.{length, take, drop, get_or, refl, sym, ◌∙◌, ap, subst, inl, inr, arith}
 use Rattle.std.proofs.Common.{length-append}
 use Rattle.std.proofs.Common.{append_assoc}
-use Rattle.std.specs.Prelude.{string_bytes, find, slice_index, slice_range, ◌==◌, ◌⊎◌, ◌&&◌, nat_le, nat_lt}
+use Rattle.std.specs.Prelude.{string_bytes, find, slice_get, slice_index, slice_range, ◌==◌, ◌⊎◌, ◌&&◌}
+use Rattle.std.specs.Prelude.{nat_le, nat_lt, IsTrue}
 use Rattle.std.specs.List.{list_all}
 use Rattle.std.proofs.lemmas.Bool.{and_parts, cases_Bool, cond-true, cond-false, eqb-true, leb-true}
 use Rattle.std.proofs.lemmas.Bool.{leb-false, ltb-true, ltb-false}
@@ -62,26 +64,27 @@ longer : (front feeds bytes : List ℕ) (at start end : ℕ) → at ≡ length f
 longer front feeds bytes at start end is starts ends =
     omega (arith, is, starts, ends, length-append front (feeds ++ bytes), length-append feeds bytes)
 
-pub found : (told : Option Held) (whole front text : List ℕ) (at place : ℕ) (parts : List Part) (p : Part)
-    → whole ≡ front ++ text → at ≡ length front → AreParts told at parts text → find (is_in place) parts ≡ Some p
+pub holds_place : (place : ℕ) (part : Part) → IsTrue (is_in place part) → (part.start ≤ place) × (place < part.end)
+holds_place place part hit =
+    let both = and_parts (nat_le part.start place) (nat_lt place part.end) hit in
+    (leb-true part.start place both.0, ltb-true place part.end both.1)
+
+pub found : (told : Option Held) (whole front text : List ℕ) (at place : ℕ) (parts : List Part) (number : ℕ) (p : Part)
+    → whole ≡ front ++ text → at ≡ length front → AreParts told at parts text → slice_get parts number ≡ Some p
+    → IsTrue (is_in place p)
     → StandsInFile told whole place (string_bytes p.name) (p.line + line_feeds (slice_range whole p.start place))
-found told whole front text at place [] p is len h none = cc
-found told whole front text at place (part ∷ parts) p is len h finds =
-    elim (cases_Bool (is_in place part)) [
-      | inl hit ↦
-          let same : part ≡ p = same_Some part p (sym (cond-true (is_in place part) (Some part) (find (is_in place) parts) hit) ∙ finds) in
-          let both = and_parts (nat_le part.start place) (nat_lt place part.end) hit in
-          subst (λ (q : Part). StandsInFile told whole place (string_bytes q.name) (q.line + line_feeds (slice_range whole q.start place))) same
-          (here told whole (front ++ h.0) h.1 h.2 part place
-          (is ∙ ap (λ t. front ++ t) h.3 ∙ sym (append_assoc front h.0 (h.1 ++ h.2)))
-          (omega (arith, len, h.5, length-append front h.0)) h.6 h.7
-          (leb-true part.start place both.0) (ltb-true place part.end both.1))
-      | inr miss ↦
-          found told whole (front ++ (h.0 ++ h.1)) h.2 part.end place parts p
-          (is ∙ ap (λ t. front ++ t) h.3 ∙ joined_front front h.0 h.1 h.2)
-          (longer front h.0 h.1 at part.start part.end len h.5 h.6) h.8
-          (sym (cond-false (is_in place part) (Some part) (find (is_in place) parts) miss) ∙ finds)
-    ]
+found told whole front text at place [] number p is len h there hit = cc
+found told whole front text at place (part ∷ parts) zero p is len h there hit =
+    let same : p ≡ part = sym (same_Some part p there) in
+    let holds = holds_place place part (subst (λ (q : Part). IsTrue (is_in place q)) same hit) in
+    subst (λ (q : Part). StandsInFile told whole place (string_bytes q.name) (q.line + line_feeds (slice_range whole q.start place))) (sym same)
+    (here told whole (front ++ h.0) h.1 h.2 part place
+    (is ∙ ap (λ t. front ++ t) h.3 ∙ sym (append_assoc front h.0 (h.1 ++ h.2)))
+    (omega (arith, len, h.5, length-append front h.0)) h.6 h.7 holds.0 holds.1)
+found told whole front text at place (part ∷ parts) (suc number) p is len h there hit =
+    found told whole (front ++ (h.0 ++ h.1)) h.2 part.end place parts number p
+    (is ∙ ap (λ t. front ++ t) h.3 ∙ joined_front front h.0 h.1 h.2)
+    (longer front h.0 h.1 at part.start part.end len h.5 h.6) h.8 there hit
 
 feed_at : (whole front feeds rest : List ℕ) (place : ℕ) → whole ≡ front ++ (feeds ++ rest)
     → list_all (λ b. b == 10) feeds ≡ true → length front ≤ place → place < length front + length feeds
@@ -128,13 +131,3 @@ missed told whole front text at place (part ∷ parts) is len h none low high =
   where
     some_none : (q : Part) → ¬ (Some q ≡ None)
     some_none q e = cc
-
-pub finds_in : (place : ℕ) (parts : List Part) (p : Part) → find (is_in place) parts ≡ Some p → (p.start ≤ place) × (place < p.end)
-finds_in place [] p none = cc
-finds_in place (part ∷ parts) p finds = elim (cases_Bool (is_in place part)) [
-  | inl hit ↦
-      let same : part ≡ p = same_Some part p (sym (cond-true (is_in place part) (Some part) (find (is_in place) parts) hit) ∙ finds) in
-      let both = and_parts (nat_le part.start place) (nat_lt place part.end) hit in
-      subst (λ (q : Part). (q.start ≤ place) × (place < q.end)) same (leb-true part.start place both.0, ltb-true place part.end both.1)
-  | inr miss ↦ finds_in place parts p (sym (cond-false (is_in place part) (Some part) (find (is_in place) parts) miss) ∙ finds)
-]

@@ -1,6 +1,9 @@
-//! In which line of which file a place of a gathered text stands.
+//! Lines of files: where the bytes of a gathered text came from.
 #![tactic(auto)]
 
+mod count;
 mod lines;
+mod numbered;
 
-pub use lines::{FileLine, append_file_line, file_line};
+pub use lines::{FileLine, FileLines, append_file_line};
+pub use numbered::append_numbered;

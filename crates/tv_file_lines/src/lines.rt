@@ -1,14 +1,16 @@
-//! Lines of files.
+//! The lines of files in which places of a gathered text stand.
 
 ghost use Rattle.std.specs.Prelude.{◌≡◌, ◌+◌, ◌<◌, ◌≤◌, ◌++◌, Option, IfNone, IfSome, OnOk, find, length};
-ghost use Rattle.std.specs.Prelude.{slice_index, slice_range};
-ghost use Rattle.std.specs.Option.{option_map};
+ghost use Rattle.std.specs.Prelude.{drop, slice_index};
 ghost use Rattle.tv_outside.specs.Told.{Held};
-ghost use Rattle.tv_lex.specs.Parts.{AreParts, line_feeds};
+ghost use Rattle.tv_lex.specs.Parts.{AreParts};
+ghost use Rattle.tv_file_lines.specs.Counts.{IsPartAt};
 ghost use Rattle.tv_file_lines.specs.FileLines.{StandsInFile, file_line_text, is_in};
 
-use itoa::Buffer;
+use crate::count::Count;
+use crate::numbered::append_numbered;
 use std::alloc::AllocError;
+use std::marker::Model;
 use tv_lex::{Gathered, Part};
 
 /// A line of a file.
@@ -20,60 +22,103 @@ pub struct FileLine<'a> {
     pub line: usize,
 }
 
+/// The lines of files that a gathered text is made of. It keeps how far it has counted: places that come in
+/// ascending order take one walk over the text. A contract sees the gathered text.
+#[derive(Drop)]
+pub struct FileLines<'a> {
+    gathered: &'a Gathered,
+    part: usize,
+    count: Count,
+}
+
+impl<'a> Model for FileLines<'a> {
+    ghost use Rattle.tv_lex.specs.declared.gatherer.Gathered.{Gathered};
+    ghost use Rattle.tv_file_lines.specs.Counts.{IsCountIn};
+
+    ghost Value = { Gathered };
+
+    ghost view = { λ l. l.gathered.now };
+
+    ghost invariant = { λ l. IsCountIn l.gathered.now.bytes.items l.count };
+}
+
 fn is_in(place: usize, part: &Part) -> bool
     ensures { result ≡ is_in place part.now }
 {
     part.start as usize <= place && place < part.end as usize
 }
 
-fn part_at(parts: &[Part], place: usize) -> Option<&Part>
-    ensures { option_map (λ p. p.now) result ≡ find (is_in place) parts.now }
+/// The number of the first part from this one on that has the place.
+fn part_from(parts: &[Part], first: usize, place: usize) -> Option<usize>
+    ensures found { IfSome result (IsPartAt parts.now place) }
+    ensures none { IfNone result (find (is_in place) (drop first parts.now) ≡ None) }
 {
-    for part in parts {
-        if is_in(place, part) {
-            return Some(part);
+    for number in first..parts.len() {
+        if is_in(place, &parts[number]) {
+            return Some(number);
         }
     }
     None
 }
 
-fn line_feeds(bytes: &[u8], start: usize, end: usize) -> usize
-    requires order { start ≤ end }
-    requires within { end ≤ length bytes.now }
-    ensures value { result ≡ line_feeds (slice_range bytes.now start end) }
-    ensures bound { result ≤ length bytes.now }
+/// The same, and where there is none the first of all parts that has the place.
+fn part_at(parts: &[Part], first: usize, place: usize) -> Option<usize>
+    ensures found { IfSome result (IsPartAt parts.now place) }
+    ensures none { IfNone result (find (is_in place) parts.now ≡ None) }
 {
-    bytes[start..end].iter().filter(|b| **b == b'\n').count()
+    match part_from(parts, first, place) {
+        Some(number) => Some(number),
+        None => part_from(parts, 0, place),
+    }
 }
 
-/// The line of a file in which the byte at a place of a gathered text stands; none for a place behind the
-/// text, and for a line feed that stands there for an include line. Places are counted from 0.
-pub fn file_line<'a>(gathered: &'a Gathered, place: usize) -> Option<FileLine<'a>>
-    ensures found { IfSome result (λ l. (told : Option Held)
-        → AreParts told 0 gathered.now.parts.items gathered.now.bytes.items
-        → StandsInFile told gathered.now.bytes.items place l.name.now l.line) }
-    ensures none { IfNone result ((told : Option Held)
-        → AreParts told 0 gathered.now.parts.items gathered.now.bytes.items
-        → place < length gathered.now.bytes.items → slice_index gathered.now.bytes.items place ≡ 10) }
-{
-    let Some(part) = part_at(&gathered.parts, place) else {
-        return None;
-    };
-    if place >= gathered.bytes.len() {
-        return None;
+impl<'a> FileLines<'a> {
+    /// The lines of this text's files.
+    pub fn of(gathered: &'a Gathered) -> FileLines<'a>
+        ensures { result ≡ gathered.now }
+    {
+        FileLines {
+            gathered,
+            part: 0,
+            count: Count::at(0),
+        }
     }
-    Some(FileLine {
-        name: part.name.as_str(),
-        line: part.line as usize + line_feeds(&gathered.bytes, part.start as usize, place),
-    })
+
+    /// The line of a file in which the byte at a place of the text stands; none for a place behind the text,
+    /// and for a line feed that stands there for an include line. Places are counted from 0.
+    pub fn line_at(&mut self, place: usize) -> Option<FileLine<'a>>
+        ensures same { self.new ≡ self.old }
+        ensures found { IfSome result (λ l. (told : Option Held)
+            → AreParts told 0 self.old.parts.items self.old.bytes.items
+            → StandsInFile told self.old.bytes.items place l.name.now l.line) }
+        ensures none { IfNone result ((told : Option Held)
+            → AreParts told 0 self.old.parts.items self.old.bytes.items
+            → place < length self.old.bytes.items → slice_index self.old.bytes.items place ≡ 10) }
+    {
+        let gathered = self.gathered;
+        let Some(number) = part_at(&gathered.parts, self.part, place) else {
+            return None;
+        };
+        if place >= gathered.bytes.len() {
+            return None;
+        }
+        let part = &gathered.parts[number];
+        self.part = number;
+        self.count = self.count.on(&gathered.bytes, part.start as usize, place);
+        Some(FileLine {
+            name: part.name.as_str(),
+            line: part.line as usize + self.count.feeds,
+        })
+    }
 }
 
 /// Appends a line of a file as `NAME:LINE`.
+///
+/// # Errors
+/// Want of memory.
 pub fn append_file_line(out: &mut Vec<u8>, at: &FileLine) -> Result<(), AllocError>
     ensures { OnOk result (out.new.items ≡ out.old.items ++ file_line_text at.now.name.now at.now.line) }
 {
-    let mut digits = Buffer::new();
     out.extend_from_slice(at.name.as_bytes())?;
-    out.extend_from_slice(b":")?;
-    out.extend_from_slice(digits.format(at.line).as_bytes())
+    append_numbered(out, b":", at.line)
 }

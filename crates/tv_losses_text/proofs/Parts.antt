@@ -3,7 +3,6 @@ use Rattle.std.proofs.Common.{ℕ, ◌≡◌, ◌∙◌, ◌↔◌, Bool, true, 
 use Rattle.std.proofs.Common.{refl}
 use Rattle.std.proofs.Common.{sym, ap, append_assoc}
 use Rattle.std.specs.Prelude.{Result, Ok, Err, OnOk, is_ok, not, if◌then◌else◌}
-use Rattle.tv_tree.specs.Forms.{EdgeForm}
 use Rattle.tv_losses.specs.declared.told.EdgeLoss.{EdgeLoss}
 use Rattle.tv_losses.specs.declared.told.Losses.{Losses}
 use Rattle.tv_losses_text.specs.Reports.{AreNone}
@@ -19,21 +18,21 @@ ended (Err e) old mid new a b before is = tt
 pub behind : (old mid new a b : List ℕ) → mid ≡ old ++ a → new ≡ mid ++ b → new ≡ old ++ (a ++ b)
 behind old mid new a b before is = is ∙ ap (λ xs. xs ++ b) before ∙ append_assoc old a b
 
-said-lines : (names : List (List ℕ)) (edges : List EdgeForm) (initial nodes : List ℕ)
+said-lines : (names heads : List (List ℕ)) (initial nodes : List ℕ)
     (losses : List EdgeLoss) → ¬ ((initial ≡ []) × (nodes ≡ []) × (losses ≡ []))
-    → said_of (initial_losses initial ++ (node_losses names nodes ++ edge_losses edges losses))
-    ≡ initial_losses initial ++ (node_losses names nodes ++ edge_losses edges losses)
-said-lines names edges (n ∷ ns) nodes losses some = refl
-said-lines names edges [] (n ∷ ns) losses some = refl
-said-lines names edges [] [] (l ∷ ls) some = refl
-said-lines names edges [] [] [] some = absurd (some (refl, refl, refl))
+    → said_of (initial_losses initial ++ (node_losses names nodes ++ edge_losses heads losses))
+    ≡ initial_losses initial ++ (node_losses names nodes ++ edge_losses heads losses)
+said-lines names heads (n ∷ ns) nodes losses some = refl
+said-lines names heads [] (n ∷ ns) losses some = refl
+said-lines names heads [] [] (l ∷ ls) some = refl
+said-lines names heads [] [] [] some = absurd (some (refl, refl, refl))
 
 -- where something is lost, the lines of it are said
-pub said-some : (names : List (List ℕ)) (edges : List EdgeForm) (losses : Losses) (r : Bool)
+pub said-some : (names heads : List (List ℕ)) (losses : Losses) (r : Bool)
     → IsTrue r ↔ ((losses.initial ≡ []) × (losses.nodes ≡ []) × (losses.edges ≡ [])) → r ≡ false
-    → said_of (lost_lines names edges losses) ≡ lost_lines names edges losses
-said-some names edges losses r tells isnt =
-    said-lines names edges losses.initial losses.nodes losses.edges
+    → said_of (lost_lines names heads losses) ≡ lost_lines names heads losses
+said-some names heads losses r tells isnt =
+    said-lines names heads losses.initial losses.nodes losses.edges
     (λ none. true≢false (sym (tells.1 none) ∙ isnt))
 
 pub any-is : (losses : Losses) (r : Bool)

@@ -3,7 +3,6 @@ use Rattle.std.specs.Prelude.{ℕ, ◌≡◌, ◌↔◌, List, [], IsTrue}
 use Rattle.tv_model.specs.declared.program.Mode.{Mode}
 use Rattle.tv_model.specs.Program.{ProgramForm}
 use Rattle.tv_struct.specs.StructureForm.{StructureForm}
-use Rattle.tv_tree.specs.Forms.{EdgeForm}
 use Rattle.tv_losses.specs.Losses.{AreLosses}
 use Rattle.tv_losses.specs.declared.told.Losses.{Losses}
 use Rattle.tv_losses_text.specs.Texts.{losses_text}
@@ -16,9 +15,9 @@ pub record AreNone (losses : Losses) : Type 0 where
   pub no_edges : losses.edges ≡ []
 
 -- the report is on the losses of the analysis
-pub record IsLossReport (p : ProgramForm) (edges : List EdgeForm) (mode : Mode) (initial : List StructureForm)
+pub record IsLossReport (p : ProgramForm) (heads : List (List ℕ)) (mode : Mode) (initial : List StructureForm)
     (max : ℕ) (report : LossReport) : Type 0 where
   pub losses : Losses
   pub are : AreLosses p mode initial max losses
-  pub text : report.text.items ≡ losses_text p.nodes edges losses
+  pub text : report.text.items ≡ losses_text p.nodes heads losses
   pub any : IsTrue report.is_any ↔ (¬ AreNone losses)

@@ -1,25 +1,15 @@
 //! Losses, each in one line.
 
-ghost use Rattle.std.specs.Prelude.{◌≡◌, ◌++◌, IfOk, OnOk, map};
+ghost use Rattle.std.specs.Prelude.{◌≡◌, ◌++◌, IfOk, OnOk};
 ghost use Rattle.tv_losses_text.specs.Texts.{edge_loss, edge_losses, initial_loss, initial_losses};
-ghost use Rattle.tv_losses_text.specs.Texts.{losses_text, lost_lines, node_loss, node_losses, numbered};
-ghost use Rattle.tv_losses_text.specs.Texts.{edge_written, name_written};
-ghost use Rattle.tv_tree.specs.Copies.{edge_of};
+ghost use Rattle.tv_losses_text.specs.Texts.{losses_text, lost_lines, node_loss, node_losses};
+ghost use Rattle.tv_losses_text.specs.Texts.{head_line, name_written};
 
-use itoa::Buffer;
 use std::alloc::{AllocError, Global};
+use tv_edge_heads::head_at;
+use tv_file_lines::append_numbered;
 use tv_losses::{EdgeLoss, Losses};
-use tv_model::Names;
-use tv_tree::{EdgeTree, print_edge};
-
-/// Appends a word and a number.
-fn append_numbered(out: &mut Vec<u8>, word: &[u8], n: usize) -> Result<(), AllocError>
-    ensures { OnOk result (out.new.items ≡ out.old.items ++ numbered word.now n) }
-{
-    let mut digits = Buffer::new();
-    out.extend_from_slice(word)?;
-    out.extend_from_slice(digits.format(n).as_bytes())
-}
+use tv_model::{Bytes, Names};
 
 /// Appends that the initial structure of this number has no opening.
 fn append_initial(out: &mut Vec<u8>, number: usize) -> Result<(), AllocError>
@@ -68,38 +58,32 @@ fn append_nodes(out: &mut Vec<u8>, names: &Names, nodes: &[usize]) -> Result<(),
     Ok(())
 }
 
-/// Appends the edge of this number as it is written.
-fn append_written(out: &mut Vec<u8>, edges: &[EdgeTree], number: u32) -> Result<(), AllocError>
-    ensures { OnOk result (out.new.items ≡ out.old.items ++ edge_written (map edge_of edges.now) number) }
+/// Appends the head of the edge of this number.
+fn append_head(out: &mut Vec<u8>, heads: &[Bytes], number: u32) -> Result<(), AllocError>
+    ensures { OnOk result (out.new.items ≡ out.old.items ++ head_line heads.now number) }
 {
-    match edges.get(number as usize) {
-        None => out.extend_from_slice(b"\n"),
-        Some(edge) => print_edge(out, edge),
-    }
+    out.extend_from_slice(head_at(heads, number as usize))?;
+    out.extend_from_slice(b"\n")
 }
 
 /// Appends how many of how many structures are lost along the edge, and the first of them.
-fn append_edge(out: &mut Vec<u8>, edges: &[EdgeTree], loss: &EdgeLoss) -> Result<(), AllocError>
-    ensures { OnOk result (out.new.items ≡ out.old.items ++ edge_loss (map edge_of edges.now) loss.now) }
+fn append_edge(out: &mut Vec<u8>, heads: &[Bytes], loss: &EdgeLoss) -> Result<(), AllocError>
+    ensures { OnOk result (out.new.items ≡ out.old.items ++ edge_loss heads.now loss.now) }
 {
     append_numbered(out, b"edge ", loss.edge as usize)?;
     append_numbered(out, b" loses ", loss.lost)?;
     append_numbered(out, b" of ", loss.listed)?;
     append_numbered(out, b" structures, first ", loss.first)?;
     out.extend_from_slice(b"  ")?;
-    append_written(out, edges, loss.edge)
+    append_head(out, heads, loss.edge)
 }
 
 /// Appends the same of each.
-fn append_edges(
-    out: &mut Vec<u8>,
-    edges: &[EdgeTree],
-    losses: &[EdgeLoss],
-) -> Result<(), AllocError>
-    ensures { OnOk result (out.new.items ≡ out.old.items ++ edge_losses (map edge_of edges.now) losses.now) }
+fn append_edges(out: &mut Vec<u8>, heads: &[Bytes], losses: &[EdgeLoss]) -> Result<(), AllocError>
+    ensures { OnOk result (out.new.items ≡ out.old.items ++ edge_losses heads.now losses.now) }
 {
     for loss in losses {
-        append_edge(out, edges, loss)?;
+        append_edge(out, heads, loss)?;
     }
     Ok(())
 }
@@ -108,38 +92,38 @@ fn append_edges(
 fn append_losses(
     out: &mut Vec<u8>,
     names: &Names,
-    edges: &[EdgeTree],
+    heads: &[Bytes],
     losses: &Losses,
 ) -> Result<(), AllocError>
     ensures { OnOk result
-        (out.new.items ≡ out.old.items ++ lost_lines names.now (map edge_of edges.now) losses.now) }
+        (out.new.items ≡ out.old.items ++ lost_lines names.now heads.now losses.now) }
 {
     append_initials(out, losses.initial.as_slice())?;
     append_nodes(out, names, losses.nodes.as_slice())?;
-    append_edges(out, edges, losses.edges.as_slice())
+    append_edges(out, heads, losses.edges.as_slice())
 }
 
 /// The losses, each in one line: `initial 2 has no opening`, `node L3 lists nothing`, and
-/// `edge 4 loses 3 of 5 structures, first 0  L1 Copy_Var ( y , x ) L2`, with the edge as in a printed
-/// program; `nothing is lost` where there are none. The names are those of the program's nodes, and the edges
-/// those of its tree.
+/// `edge 4 loses 3 of 5 structures, first 0  p.tvp:9  L1 Copy_Var ( y , x ) L2`, with the head of the edge;
+/// `nothing is lost` where there are none. The names are those of the program's nodes, and the heads those of
+/// its edges.
 ///
 /// # Errors
 /// Want of memory.
 pub fn losses_text(
     alloc: Global,
     names: &Names,
-    edges: &[EdgeTree],
+    heads: &[Bytes],
     losses: &Losses,
 ) -> Result<Vec<u8>, AllocError>
     ensures { IfOk result
-        (λ text. text.items ≡ losses_text names.now (map edge_of edges.now) losses.now) }
+        (λ text. text.items ≡ losses_text names.now heads.now losses.now) }
 {
     let mut out = Vec::new(alloc);
     if losses.are_none() {
         out.extend_from_slice(b"nothing is lost\n")?;
         return Ok(out);
     }
-    append_losses(&mut out, names, edges, losses)?;
+    append_losses(&mut out, names, heads, losses)?;
     Ok(out)
 }

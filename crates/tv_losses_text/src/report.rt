@@ -1,10 +1,9 @@
 //! What an analysis may owe its silence to, as a text.
 
-ghost use Rattle.std.specs.Prelude.{All, IfOk, IfErr, map};
+ghost use Rattle.std.specs.Prelude.{All, IfOk, IfErr};
 ghost use Rattle.tv_model.specs.Program.{program_of};
 ghost use Rattle.tv_model.specs.Valid.{IsValid};
 ghost use Rattle.tv_struct.specs.StructureForm.{IsOver};
-ghost use Rattle.tv_tree.specs.Copies.{edge_of};
 ghost use Rattle.tv_work.specs.Analysed.{IsWorkCause};
 ghost use Rattle.tv_work.specs.Reach.{IsReached};
 ghost use Rattle.tv_losses_text.specs.Reports.{IsLossReport};
@@ -12,9 +11,8 @@ ghost use Rattle.tv_losses_text.specs.Reports.{IsLossReport};
 use crate::lines::losses_text;
 use std::alloc::Global;
 use tv_losses::losses;
-use tv_model::{Mode, Program};
+use tv_model::{Bytes, Mode, Program};
 use tv_struct::Structures;
-use tv_tree::EdgeTree;
 use tv_work::WorkError;
 
 /// The text of losses, and whether there are any.
@@ -25,13 +23,13 @@ pub struct LossReport {
 }
 
 /// What the analysis of the program from these initial structures may owe its silence to, each loss in one
-/// line, and whether there is any. The edges are those of the program's tree. Errors are those of the
+/// line, and whether there is any. The heads are those of the program's edges. Errors are those of the
 /// analysis: `Structures` only where over `max` structures are reached, `Splits` and `Individuals` only where
 /// the step of a reached structure meets that budget.
 pub fn explain_losses(
     alloc: Global,
     program: &Program,
-    edges: &[EdgeTree],
+    heads: &[Bytes],
     initial: &Structures,
     mode: Mode,
     max: u64,
@@ -39,12 +37,12 @@ pub fn explain_losses(
     requires valid { IsValid (program_of program.now) }
     requires initial { All (IsOver program.now.vocab) initial.now }
     ensures report { IfOk result
-        (IsLossReport (program_of program.now) (map edge_of edges.now) mode initial.now max) }
+        (IsLossReport (program_of program.now) heads.now mode initial.now max) }
     ensures cause { IfErr result (IsWorkCause (program_of program.now) max
         (IsReached (program_of program.now) mode initial.now)) }
 {
     let found = losses(alloc, program, initial, mode, max)?;
-    let text = losses_text(alloc, &program.nodes, edges, &found)?;
+    let text = losses_text(alloc, &program.nodes, heads, &found)?;
     Ok(LossReport {
         text,
         is_any: !found.are_none(),

@@ -34,16 +34,16 @@ static CHAINS: [Row<'static, 'static, 'static, 'static>; 15] = [
     Row {
         words: &["message", "p", "i", "3", "0"],
         out: "initial 0
-edge 0  L0 Go ( ) L1  b
-edge 3  L1 Say ( ) L2  message 0 is 1: \"still on\"
+edge 0  p:11  L0 Go ( ) L1  b
+edge 3  p:14  L1 Say ( ) L2  message 0 is 1: \"still on\"
 ",
         ..ASKED
     },
     Row {
         words: &["message", "p", "i", "2", "1"],
         out: "initial 0
-edge 0  L0 Go ( ) L1  b
-edge 2  L1 Go ( ) L0  message 1 is 1: \"on\"
+edge 0  p:11  L0 Go ( ) L1  b
+edge 2  p:13  L1 Go ( ) L0  message 1 is 1: \"on\"
 ",
         ..ASKED
     },
@@ -63,8 +63,8 @@ edge 2  L1 Go ( ) L0  message 1 is 1: \"on\"
     Row {
         words: &["message", "p", "i", "3", "0"],
         out: "initial 1
-edge 0  L0 Go ( ) L1  b
-edge 3  L1 Say ( ) L2  message 0 is 1: \"still on\"
+edge 0  p:11  L0 Go ( ) L1  b
+edge 3  p:14  L1 Say ( ) L2  message 0 is 1: \"still on\"
 ",
         ..ASKED_OF_BOTH
     },
@@ -72,7 +72,7 @@ edge 3  L1 Say ( ) L2  message 0 is 1: \"still on\"
     Row {
         words: &["message", "p", "i", "0", "1"],
         out: "initial 0  b
-edge 0  L0 Go ( ) L1  message 1 is 1: \"on\"
+edge 0  p:11  L0 Go ( ) L1  message 1 is 1: \"on\"
 ",
         ..ASKED_OF_BOTH
     },
@@ -87,7 +87,7 @@ edge 0  L0 Go ( ) L1  message 1 is 1: \"on\"
             ),
         ],
         out: "initial 0  ((#0))-n?->((#0))  (#1&x?)-n->((#0))
-edge 0  L0 Go ( ) L1  message 0 is 1/2: \"x is somewhere\"
+edge 0  p:11  L0 Go ( ) L1  message 0 is 1/2: \"x is somewhere\"
 ",
         ..PLAIN
     },
@@ -104,8 +104,8 @@ edge 0  L0 Go ( ) L1  message 0 is 1/2: \"x is somewhere\"
             "0",
         ],
         out: "initial 0
-edge 0  L0 Go ( ) L1  b
-edge 3  L1 Say ( ) L2  message 0 is 1: \"still on\"
+edge 0  p:11  L0 Go ( ) L1  b
+edge 3  p:14  L1 Say ( ) L2  message 0 is 1: \"still on\"
 ",
         ..ASKED
     },
@@ -120,7 +120,7 @@ edge 3  L1 Say ( ) L2  message 0 is 1: \"still on\"
             "--max-structures=1",
         ],
         out: "initial 0  b
-edge 0  L0 Go ( ) L1  message 1 is 1: \"on\"
+edge 0  p:11  L0 Go ( ) L1  message 1 is 1: \"on\"
 ",
         files: &[("p", PROGRAM), ("i", "%n = {} %p = { b = 1 }")],
         ..PLAIN
@@ -133,8 +133,8 @@ edge 0  L0 Go ( ) L1  message 1 is 1: \"on\"
     Row {
         words: &["structure", "p", "i", "L2", "0"],
         out: "initial 0
-edge 0  L0 Go ( ) L1  b
-edge 3  L1 Say ( ) L2  b
+edge 0  p:11  L0 Go ( ) L1  b
+edge 3  p:14  L1 Say ( ) L2  b
 ",
         ..ASKED
     },
@@ -142,14 +142,14 @@ edge 3  L1 Say ( ) L2  b
     Row {
         words: &["structure", "p", "i", "L1", "0"],
         out: "initial 0  b
-edge 0  L0 Go ( ) L1
+edge 0  p:11  L0 Go ( ) L1
 ",
         ..ASKED_OF_BOTH
     },
     Row {
         words: &["structure", "--delta", "--", "p", "i", "L1", "1"],
         out: "initial 1
-edge 0  L0 Go ( ) L1  b
+edge 0  p:11  L0 Go ( ) L1  b
 ",
         ..ASKED_OF_BOTH
     },
@@ -164,7 +164,7 @@ edge 0  L0 Go ( ) L1  b
             ("i", BOTH),
         ],
         out: "initial 1
-edge 0  L Say ( ) L  message 0 is 1: \"off\"
+edge 0  p:1  L Say ( ) L  message 0 is 1: \"off\"
 ",
         ..PLAIN
     },

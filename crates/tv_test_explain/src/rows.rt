@@ -19,7 +19,7 @@ const NO_COMMAND: Row<'static, 'static, 'static, 'static> = Row {
     ..PLAIN
 };
 
-static ROWS: [Row<'static, 'static, 'static, 'static>; 21] = [
+static ROWS: [Row<'static, 'static, 'static, 'static>; 22] = [
     Row {
         words: &["show", "p", "r"],
         files: &[("p", PROGRAM), ("r", REPORT)],
@@ -38,7 +38,22 @@ static ROWS: [Row<'static, 'static, 'static, 'static>; 21] = [
             ("main", "%p b() %%\n#include \"go\"\n%%\nL0 Go() L0"),
             ("go", "%action Go() { }"),
         ],
-        out: "edge 0  L0 Go ( ) L0\n",
+        out: "edge 0  main:4  L0 Go ( ) L0\n",
+        ..PLAIN
+    },
+    Row {
+        words: &["edges", "main"],
+        files: &[
+            (
+                "main",
+                "%p b() %%\n%action Go() { }\n%%\n#include \"sub/go\"\nL1\nGo() L0 L0 Go() L1",
+            ),
+            ("sub/go", "/* an edge\n*/ L0 Go ( )\nL1\n"),
+        ],
+        out: "edge 0  sub/go:2  L0 Go ( ) L1
+edge 1  main:5  L1 Go ( ) L0
+edge 2  main:6  L0 Go ( ) L1
+",
         ..PLAIN
     },
     Row {

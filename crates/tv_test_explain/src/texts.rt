@@ -17,15 +17,15 @@ L1 Go() L0
 L1 Say() L2
 ";
 
-/// The edges of this program.
-pub const EDGES: &str = "edge 0  L0 Go ( ) L1
+/// The edges of this program, which is in the file `p`.
+pub const EDGES: &str = "edge 0  p:11  L0 Go ( ) L1
   message 0 \"x is somewhere\"
   message 1 \"on\"
-edge 1  L1 Stay ( x ) L1
-edge 2  L1 Go ( ) L0
+edge 1  p:12  L1 Stay ( x ) L1
+edge 2  p:13  L1 Go ( ) L0
   message 0 \"x is somewhere\"
   message 1 \"on\"
-edge 3  L1 Say ( ) L2
+edge 3  p:14  L1 Say ( ) L2
   message 0 \"still on\"
 ";
 

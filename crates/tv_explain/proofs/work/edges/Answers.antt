@@ -25,4 +25,4 @@ returns-in_err-drawn-clause-steady g c =
 
 pub returns-clause-found : goal.returns-clause-found
 returns-clause-found g c =
-    (c.in_ok-drawn.drawn, c.in_ok-drawn.ensures.means, rw (sym c.as_slice.ensures) c.in_ok-edges_text.ensures)
+    (c.in_ok-drawn.drawn, c.in_ok-drawn.ensures.means, rw (sym c.deref.ensures.value) c.in_ok-edges_text.ensures)

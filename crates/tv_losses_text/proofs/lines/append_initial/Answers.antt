@@ -1,5 +1,5 @@
 use Rattle.std.proofs.Common.{codes}
-use Rattle.tv_losses_text.specs.Texts.{numbered}
+use Rattle.tv_file_lines.specs.Numbered.{numbered}
 use Rattle.tv_losses_text.proofs.Parts.{ended}
 use Rattle.tv_losses_text.proofs.lines.append_initial.Goals as goal
 

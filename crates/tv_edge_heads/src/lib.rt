@@ -1,0 +1,6 @@
+//! The heads of control edges: the line of a file in which an edge stands, and the edge as it is printed.
+#![tactic(auto)]
+
+mod heads;
+
+pub use heads::{edge_heads, head_at};
