@@ -78,13 +78,13 @@ node L2 lists nothing
             ("p", CYCLE),
             ("i", "%n = {a, b} %p = { x = {a} } %n = {a} %p = { }"),
         ],
-        out: "edge 0 loses 1 of 2 structures, first 1  L1 x_n_is_x ( ) L2\n",
+        out: "edge 0 loses 1 of 2 structures, first 1  p:2  L1 x_n_is_x ( ) L2\n",
         ..LOST
     },
     Row {
         files: &[("p", CYCLE), ("i", "%n = {a} %p = { x = {a} }")],
         out: "node L2 lists nothing
-edge 0 loses 1 of 1 structures, first 0  L1 x_n_is_x ( ) L2
+edge 0 loses 1 of 1 structures, first 0  p:2  L1 x_n_is_x ( ) L2
 ",
         ..LOST
     },
@@ -96,7 +96,7 @@ edge 0 loses 1 of 1 structures, first 0  L1 x_n_is_x ( ) L2
     Row {
         files: &FREE_OF_BOTH,
         out: "node L2 lists nothing
-edge 0 loses 1 of 1 structures, first 0  L1 free ( ) L2
+edge 0 loses 1 of 1 structures, first 0  p:2  L1 free ( ) L2
 ",
         ..LOST
     },
@@ -137,7 +137,7 @@ edge 0 loses 1 of 1 structures, first 0  L1 free ( ) L2
             ),
         ],
         out: "node L2 lists nothing
-edge 0 loses 2 of 2 structures, first 0  L1 set ( ) L2
+edge 0 loses 2 of 2 structures, first 0  p:2  L1 set ( ) L2
 ",
         ..LOST
     },
@@ -145,7 +145,7 @@ edge 0 loses 2 of 2 structures, first 0  L1 set ( ) L2
     Row {
         files: &[("p", FOCUSED), ("i", "%n = {a} %p = { x = {a:1/2} }")],
         out: "node L2 lists nothing
-edge 0 loses 1 of 1 structures, first 0  L1 set ( ) L2
+edge 0 loses 1 of 1 structures, first 0  p:2  L1 set ( ) L2
 ",
         ..LOST
     },
@@ -153,7 +153,7 @@ edge 0 loses 1 of 1 structures, first 0  L1 set ( ) L2
     Row {
         files: &[("p", PICKED), ("i", "%n = {a, b} %p = { x = {a} }")],
         out: "node L2 lists nothing
-edge 0 loses 1 of 1 structures, first 0  L1 set ( ) L2
+edge 0 loses 1 of 1 structures, first 0  p:2  L1 set ( ) L2
 ",
         ..LOST
     },
