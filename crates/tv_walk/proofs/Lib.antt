@@ -1,0 +1,3 @@
+mod Choices
+mod Coercing
+mod Foretelling
