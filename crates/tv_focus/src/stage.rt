@@ -210,7 +210,7 @@ fn one(alloc: Global, s: &Structure) -> Result<Structures, AllocError>
 }
 
 /// What a stage does: the predicate of its atom, and how it splits the structure.
-#[derive(Debug, Drop)]
+#[derive(Drop)]
 struct StagePlan {
     pred: PredId,
     split: Split,
