@@ -1,5 +1,5 @@
 -- What holds of all choices that begin so, and what comes of them.
-use Rattle.std.proofs.Common.{◌≡◌, List, [], ◌∷◌, ◌++◌, length, get_or, inl, refl, sym, ap, subst, ◌∙◌}
+use Rattle.std.proofs.Common.{ℕ, ◌≡◌, List, [], ◌∷◌, ◌++◌, length, get_or, inl, refl, sym, ap, subst, ◌∙◌}
 use Rattle.std.proofs.Common.{append_assoc}
 use Rattle.std.specs.Prelude.{Result, Ok, Err, OnOk, is_ok, if◌then◌else◌}
 use Rattle.std.specs.List.{flat_map, AllByRecursion}
@@ -10,7 +10,8 @@ use Rattle.tv_focus.specs.Puts.{AreChosen, chosen_tables}
 use Rattle.tv_step_laws.specs.Parts.{AreFrom}
 use Rattle.tv_step_laws.specs.Transfer.{Coerces}
 use Rattle.tv_walk.specs.declared.walk.Walk.{Walk}
-use Rattle.tv_walk.specs.Walk.{AddsCoerced, IsRefuted, walk_program, walk_table}
+use Rattle.tv_walk.specs.declared.narrow.Outlook.TheVariants.{Nothing, Below}
+use Rattle.tv_walk.specs.Walk.{AddsCoerced, Foretells, IsAbove, IsRefuted, walk_program, walk_table}
 
 -- ---- choices
 
@@ -95,3 +96,40 @@ pub push-adds : {U E : Type 0} (w : Walk) (t : StructureForm) (r : Result U E) (
     → new ≡ (if is_ok r then old ++ own ∷ [] else old) → OnOk r (AddsCoerced w (t ∷ []) old new)
 push-adds w t (Ok u) old new own made is = adds-one w t (own ∷ []) old new made is
 push-adds w t (Err e) old new own made is = tt
+
+-- ---- one more set
+
+has-set : (begun : ChoiceForm) (u : ℕ) (set : VectorSet) (choice : ChoiceForm) → u ≡ length begun
+    → Begins (begun ++ set ∷ []) choice → get_or choice u [] ≡ set
+has-set begun u set choice at begins =
+    subst (λ k. get_or choice k [] ≡ set) (sym at) (last-set begun set choice begins)
+
+-- where nothing is to come of a set, nothing is put
+pub nothing-adds : (w : Walk) (c : StructureForm) (u : ℕ) (set : VectorSet) (rest : List (List VectorSet))
+    (begun : ChoiceForm) (old : List StructureForm) → u ≡ length begun
+    → AreChosen (IsAbove w c) (begun ++ set ∷ []) rest → Foretells w c u set Nothing
+    → AddsCoerced w (chosen_tables (walk_table w) (begun ++ set ∷ []) rest) old old
+nothing-adds w c u set rest begun old at above foretells =
+    adds-none w (chosen_tables (walk_table w) (begun ++ set ∷ []) rest) old
+    (none-of w (begun ++ set ∷ []) rest
+    (all-where (IsAbove w c) (IsRefuted w) (begun ++ set ∷ []) rest above
+    (λ choice begins is. foretells choice is (has-set begun u set choice at begins))))
+
+pub below-above : (w : Walk) (c d : StructureForm) (u : ℕ) (set : VectorSet) (rest : List (List VectorSet))
+    (begun : ChoiceForm) → u ≡ length begun → AreChosen (IsAbove w c) (begun ++ set ∷ []) rest
+    → Foretells w c u set (Below d) → AreChosen (IsAbove w d) (begun ++ set ∷ []) rest
+below-above w c d u set rest begun at above foretells =
+    all-where (IsAbove w c) (IsAbove w d) (begun ++ set ∷ []) rest above
+    (λ choice begins is. foretells.1 choice is (has-set begun u set choice at begins))
+
+-- what comes of one set, and then of those behind it
+pub one-more : (w : Walk) (begun now : ChoiceForm) (rest : List (List VectorSet)) (set : VectorSet)
+    (later : List VectorSet) (old mid new : List StructureForm) → now ≡ begun
+    → AddsCoerced w (chosen_tables (walk_table w) (begun ++ set ∷ []) rest) old mid
+    → AddsCoerced w (flat_map (λ one. chosen_tables (walk_table w) (now ++ one ∷ []) rest) later) mid new
+    → AddsCoerced w (flat_map (λ one. chosen_tables (walk_table w) (begun ++ one ∷ []) rest) (set ∷ later)) old new
+one-more w begun now rest set later old mid new same first second =
+    adds-both w (chosen_tables (walk_table w) (begun ++ set ∷ []) rest)
+    (flat_map (λ one. chosen_tables (walk_table w) (begun ++ one ∷ []) rest) later) old mid new first
+    (subst (λ b. AddsCoerced w (flat_map (λ one. chosen_tables (walk_table w) (b ++ one ∷ []) rest) later) mid new)
+    same second)

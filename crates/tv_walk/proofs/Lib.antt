@@ -1,3 +1,5 @@
+mod Apart
+mod Beginning
 mod Choices
 mod Coercing
 mod Foretelling
