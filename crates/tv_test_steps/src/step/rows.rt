@@ -36,7 +36,8 @@ static GIVEN: &str = "// one of two cells is picked, and none of the two loses i
 %p p(v) %p q(v) %p x(v) unique; %f { x(v) } { x(v) = x(v) }; ; \
     %n = {a, b, c, d} %p = { p = {b, d} q = {c, d} x = {a:1/2, b:1/2, c:1/2, d:1/2} }; \
     %n = {i, j, k, l} %p = { p = {k, l} q = {j, l} } %n = {i, j, k, l} %p = { p = {k, l} q = {j, l} x = {l} } \
-      %n = {i, j, k, l} %p = { p = {k, l} q = {j, l} x = {k} } %n = {i, j, k, l} %p = { p = {k, l} q = {j, l} x = {j} } \
+      %n = {i, j, k, l} %p = { p = {k, l} q = {j, l} x = {k} } \
+      %n = {i, j, k, l} %p = { p = {k, l} q = {j, l} x = {j} } \
       %n = {i, j, k, l} %p = { p = {k, l} q = {j, l} x = {i} }
 %p p(v) %p x(v) unique; %f { x(v) } { x(v) = x(v) }; ; \
     %n = {a, b} %p = { p = {b} x = {a:1/2, b:1/2} sm = {a:1/2, b:1/2} }; \
