@@ -1,6 +1,7 @@
 -- What a walk begins with: the structure itself lies above all its choices.
-use Rattle.std.proofs.Common.{◌≡◌, List, [], ◌∷◌, map, sym, subst, Contains}
-use Rattle.tv_struct.specs.StructureForm.{structure_of}
+use Rattle.std.proofs.Common.{◌≡◌, ◌∙◌, List, [], ◌∷◌, length, map, refl, ap, sym, subst, Contains}
+use Rattle.std.proofs.lemmas.List.FromFn.{length-map-range_with_len}
+use Rattle.tv_struct.specs.StructureForm.{IsStructure, structure_of}
 use Rattle.tv_eval.specs.ScratchForm.{ScratchForm}
 use Rattle.tv_rules.specs.Closing.{closed_rules}
 use Rattle.tv_focus_laws.specs.Choices.{ChoiceForm, choices, sets_in}
@@ -9,7 +10,7 @@ use Rattle.tv_focus.specs.Puts.{AreChosen, IsChoiceOf}
 use Rattle.tv_focus.proofs.ChosenTables.{all_chosen}
 use Rattle.tv_focus.proofs.Limits.{choice-is}
 use Rattle.tv_walk.specs.declared.walk.Walk.{Walk}
-use Rattle.tv_walk.specs.Walk.{CanWalk, IsAbove, walk_aim, walk_pred, walk_program}
+use Rattle.tv_walk.specs.Walk.{CanWalk, IsAbove, IsAtHand, walk_aim, walk_pred, walk_program}
 use Rattle.tv_walk.proofs.Coercing.{small-choice}
 
 begins-above : (w : Walk) (scratch : ScratchForm) (choice : ChoiceForm) → CanWalk w scratch → StructuresLieAbove
@@ -29,3 +30,13 @@ all-above w scratch can lie =
     subst (AreChosen (IsAbove w w.from.now) []) (sym can.choosing.sets)
     (all_chosen (IsAbove w w.from.now) [] (sets_in (structure_of w.from.now) (walk_pred w) (walk_aim w))
     (λ tail at. begins-above w scratch tail can lie at))
+
+pub begins-at-hand : (w : Walk) (scratch : ScratchForm) → IsStructure w.from.now → CanWalk w scratch
+    → IsAtHand w w.from.now
+begins-at-hand w scratch is can = record { alike = record { is = is; size = refl; over = refl }; stable = can.stable }
+
+-- there is a list of sets for each individual
+pub sets-counted : (w : Walk) (scratch : ScratchForm) → CanWalk w scratch
+    → length w.choosing.now.sets.items ≡ w.from.now.size
+sets-counted w scratch can =
+    ap length can.choosing.sets ∙ length-map-range_with_len _ 0 w.from.now.size
