@@ -39,10 +39,10 @@ pub first-apart : (c : StructureForm) (pred : ℕ) (tuple : ℕ → List ℕ) (a
     → k ≢ Half → get_or vector 0 e ≢ Half → k ≢ get_or vector 0 e
     → Any (IsOther c pred) (vector_writes tuple anchors vector)
 first-apart c pred tuple anchors vector k d e some_anchors some_values is known definite other =
-    subst (λ us. Any (IsOther c pred) (vector_writes tuple us vector)) (sym (first_rest anchors d some_anchors))
+    subst (λ us. Any (IsOther c pred) (vector_writes tuple us vector)) (sym (first_rest anchors d (omega (arith, some_anchors))))
     (subst (λ xs. Any (IsOther c pred)
     (vector_writes tuple (get_or anchors 0 d ∷ between 1 (length anchors) anchors) xs))
-    (sym (first_rest vector e some_values))
+    (sym (first_rest vector e (omega (arith, some_values))))
     (any-here (IsOther c pred) (record { tuple = tuple (get_or anchors 0 d); value = get_or vector 0 e })
     (vector_writes tuple (between 1 (length anchors) anchors) (between 1 (length vector) vector))
     (other-value c pred (tuple (get_or anchors 0 d)) k (get_or vector 0 e) is known definite other)))
@@ -54,9 +54,9 @@ pub later-apart : (c : StructureForm) (pred : ℕ) (tuple : ℕ → List ℕ) (a
     (vector_writes tuple (between 1 (length anchors) anchors) (between 1 (length vector) vector))
     → Any (IsOther c pred) (vector_writes tuple anchors vector)
 later-apart c pred tuple anchors vector d e some_anchors some_values later =
-    subst (λ us. Any (IsOther c pred) (vector_writes tuple us vector)) (sym (first_rest anchors d some_anchors))
+    subst (λ us. Any (IsOther c pred) (vector_writes tuple us vector)) (sym (first_rest anchors d (omega (arith, some_anchors))))
     (subst (λ xs. Any (IsOther c pred)
     (vector_writes tuple (get_or anchors 0 d ∷ between 1 (length anchors) anchors) xs))
-    (sym (first_rest vector e some_values))
+    (sym (first_rest vector e (omega (arith, some_values))))
     (any-there (IsOther c pred) (record { tuple = tuple (get_or anchors 0 d); value = get_or vector 0 e })
     (vector_writes tuple (between 1 (length anchors) anchors) (between 1 (length vector) vector)) later))
