@@ -1,5 +1,5 @@
-mod Apart
 mod Beginning
 mod Choices
 mod Coercing
+mod Differing
 mod Foretelling

@@ -4,7 +4,7 @@ use Rattle.tv_kleene.specs.declared.K3.TheVariants.{No, Half}
 use Rattle.tv_struct.specs.StructureForm.{value_at}
 use Rattle.tv_focus.specs.Seen.{aim_of}
 use Rattle.tv_walk.specs.Walk.{HasOther}
-use Rattle.tv_walk.proofs.Apart.{alone-apart}
+use Rattle.tv_walk.proofs.Differing.{alone-apart}
 use Rattle.tv_walk.proofs.apart.is_apart.Goals as goal
 
 pub returns-in-Alone : goal.returns-in-Alone

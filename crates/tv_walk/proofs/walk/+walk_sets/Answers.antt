@@ -34,6 +34,19 @@ walk_sets-returns-in-empty-clause-out t c =
     (subst (λ choice. OnOk c.push_choice.result (AddsCoerced w (walk_table w choice ∷ []) c.args.out.now
     c.push_choice.new.out)) c.as_slice.ensures.value c.push_choice.ensures.out)
 
+pub walk_sets-returns-in-len1-up-clause-out : goal.walk_sets-returns-in-len1-up-clause-out
+walk_sets-returns-in-len1-up-clause-out t c =
+    let w = c.args.w.now
+    in let begun : ChoiceForm = c.args.choice.now.items
+    in let rest = between 1 (length c.args.sets.now) c.args.sets.now
+    in let whole : c.args.sets.now ≡ get_or c.args.sets.now 0 c.first-item.result ∷ rest
+    = first_rest c.args.sets.now c.first-item.result (omega (arith, c.in-len1-up.len_at_least))
+    in subst (λ sets. OnOk c.walk_one.result
+    (AddsCoerced w (chosen_tables (walk_table w) begun sets) c.args.out.now c.walk_one.new.out)) (sym whole)
+    (subst (λ first. OnOk c.walk_one.result
+    (AddsCoerced w (flat_map (λ set. chosen_tables (walk_table w) (begun ++ set ∷ []) rest) first) c.args.out.now
+    c.walk_one.new.out)) (c.as_slice-in-len1-up.ensures ∙ c.first-item.is) c.walk_one.ensures.out)
+
 -- ---- one set after the other
 
 pub walk_one-returns-in-empty-clause-out : goal.walk_one-returns-in-empty-clause-out

@@ -1,4 +1,4 @@
-use Rattle.std.proofs.Common.{◌≡◌, ◌∙◌, [], ap, sym, subst, length}
+use Rattle.std.proofs.Common.{◌≡◌, ◌∙◌, [], ap, sym, subst, length, arith}
 use Rattle.std.specs.Prelude.{OnOk}
 use Rattle.tv_struct.specs.StructureForm.{structure_of}
 use Rattle.tv_focus_laws.specs.Choices.{sets_in}
@@ -14,7 +14,7 @@ walk_sets-requires-clause-hand c = begins-at-hand c.args.w.now c.args.scratch.no
 
 pub walk_sets-requires-clause-places : goal.walk_sets-requires-clause-places
 walk_sets-requires-clause-places c =
-    ap length c.as_slice.ensures.value ∙ sets-counted c.args.w.now c.args.scratch.now c.requires.can
+    omega (arith, ap length c.as_slice.ensures.value, sets-counted c.args.w.now c.args.scratch.now c.requires.can)
 
 pub walk_sets-requires-clause-choices : goal.walk_sets-requires-clause-choices
 walk_sets-requires-clause-choices c =
