@@ -301,12 +301,7 @@ pub fn focus_stage(
 
 /// The choices of an aim: made, where there are a few, and else ready to be made.
 #[tactic(auto, using(crate::proofs::Limits::too_many, crate::proofs::Limits::too_large, crate::proofs::Limits::limits_kept))]
-fn each_focused(
-    alloc: Global,
-    p: PredId,
-    aim: Aim,
-    s: Structure,
-) -> Result<Focused, StageError>
+fn each_focused(alloc: Global, p: PredId, aim: Aim, s: Structure) -> Result<Focused, StageError>
     requires over { IsAimOver s p.0 (aim_of aim) }
     requires aim { IsAim s p.0 (aim_of aim) }
     ensures from { IfOk result (λ focused. focused_from focused ≡ s) }

@@ -1,6 +1,8 @@
 -- Coerce of what a walk makes.
-use Rattle.std.proofs.Common.{ℕ, ◌≡◌, ◌≢◌, ◌<◌, ◌≤◌, Bool, false, List, [], ◌∷◌, length, map, Option, None, Some}
-use Rattle.std.proofs.Common.{inl, inr, refl, sym, ap, subst, ◌∙◌, arith, All, Contains, get_or, slice_get, replicate}
+use Rattle.std.proofs.Common.{ℕ, ◌≡◌, ◌≢◌, ◌<◌, ◌≤◌, Bool, false, List, [], ◌∷◌, length, map, Option, None}
+use Rattle.std.proofs.Common.{Some}
+use Rattle.std.proofs.Common.{inl, inr, refl, sym, ap, subst, ◌∙◌, arith, All, Contains, get_or, slice_get}
+use Rattle.std.proofs.Common.{replicate}
 use Rattle.std.specs.List.{range_with_len}
 use Rattle.std.proofs.lemmas.List.Elements.{All-contains}
 use Rattle.std.proofs.lemmas.List.FromFn.{length-range_with_len}
@@ -9,7 +11,8 @@ use Rattle.tv_model.specs.Program.{RuleForm}
 use Rattle.tv_model.proofs.Lists.{Contains-map, slice_get-contains}
 use Rattle.tv_stable_laws.specs.Laws.{IsPlainRule}
 use Rattle.tv_stable_laws.specs.Stable.{IsStable, IsStableUnder, IsGreatestStable, HasNoStable}
-use Rattle.tv_struct.specs.StructureForm.{StructureForm, IsStructure, IsOver, structure_of, arities_of, value_at}
+use Rattle.tv_struct.specs.StructureForm.{StructureForm, IsStructure, IsOver, structure_of, arities_of}
+use Rattle.tv_struct.specs.StructureForm.{value_at}
 use Rattle.tv_struct.specs.StructureForm.{summary_at}
 use Rattle.tv_eval.specs.ScratchForm.{ScratchForm}
 use Rattle.tv_rules.specs.Closing.{closed_rules}
@@ -72,23 +75,30 @@ pub none-coerces : (w : Walk) (scratch : ScratchForm) (t : StructureForm) (found
     → CanWalk w scratch → CoercesTo (rules_of w.closed.now) t found → found ≡ None
     → Coerces (walk_program w) t []
 none-coerces w scratch t found can to is =
-    inl (subst (λ rules. HasNoStable rules (structure_of t)) can.rules
-    (subst (CoercesTo (rules_of w.closed.now) t) is to), refl)
+    inl (
+      subst (λ rules. HasNoStable rules (structure_of t)) can.rules
+          (subst (CoercesTo (rules_of w.closed.now) t) is to),
+      refl,
+    )
 
 pub some-coerces : (w : Walk) (scratch : ScratchForm) (t d : StructureForm) (found : Option StructureForm)
     → CanWalk w scratch → arities_of t ≡ arities_of w.from.now → CoercesTo (rules_of w.closed.now) t found
     → found ≡ Some d → Coerces (walk_program w) t (d ∷ [])
 some-coerces w scratch t d found can over to is =
     let table : IsCoercedTable (rules_of w.closed.now) t d = subst (CoercesTo (rules_of w.closed.now) t) is to
-    in inr (d, record {
-      greatest = subst (λ rules. IsGreatestStable rules (structure_of t) (structure_of d)) can.rules table.greatest;
-      shaped = record {
-        over = table.over ∙ over ∙ can.shaped.over;
-        planes = table.is.table.planes;
-        summaries = table.is.summaries;
-      };
-      mark = table.mark;
-    }, refl)
+    in inr (
+      d,
+      record {
+        greatest = subst (λ rules. IsGreatestStable rules (structure_of t) (structure_of d)) can.rules table.greatest;
+        shaped = record {
+          over = table.over ∙ over ∙ can.shaped.over;
+          planes = table.is.table.planes;
+          summaries = table.is.summaries;
+        };
+        mark = table.mark;
+      },
+      refl,
+    )
 
 -- ---- a vector
 

@@ -1,5 +1,6 @@
 -- What is known of choices once an individual has its vectors.
-use Rattle.std.proofs.Common.{ℕ, ◌≡◌, ◌<◌, List, [], ◌∷◌, Option, None, Some, refl, sym, ap, subst, ◌∙◌, arith}
+use Rattle.std.proofs.Common.{ℕ, ◌≡◌, ◌<◌, List, [], ◌∷◌, Option, None, Some, refl, sym, ap, subst, ◌∙◌}
+use Rattle.std.proofs.Common.{arith}
 use Rattle.std.proofs.Common.{All, Contains, get_or}
 use Rattle.std.specs.Prelude.{Any}
 use Rattle.tv_kleene.specs.declared.K3.{K3}
@@ -18,7 +19,8 @@ use Rattle.tv_focus_step_laws.proofs.Above.{sharpened_lie_above}
 use Rattle.tv_focus_step_laws.proofs.Narrowing.{vectors_narrow, vectors_refute, written-vector}
 use Rattle.tv_walk.specs.declared.narrow.Outlook.TheVariants.{Nothing, Below}
 use Rattle.tv_walk.specs.declared.walk.Walk.{Walk}
-use Rattle.tv_walk.specs.Walk.{CanWalk, Foretells, HasOther, IsAbove, IsAtHand, walk_aim, walk_pred, walk_program}
+use Rattle.tv_walk.specs.Walk.{CanWalk, Foretells, HasOther, IsAbove, IsAtHand, walk_aim, walk_pred}
+use Rattle.tv_walk.specs.Walk.{walk_program}
 use Rattle.tv_walk.proofs.Coercing.{coerced-size, small-choice}
 
 -- ---- vectors that contradict

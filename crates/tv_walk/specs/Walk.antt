@@ -35,7 +35,8 @@ walk_aim w = aim_of w.choosing.now.aim
 abbrev pub walk_table : Walk → ChoiceForm → StructureForm
 walk_table w choice = chosen_table w.from.now (walk_pred w) (walk_aim w) choice
 
--- the choices are those of a stable structure over the program, and only the rules that wait may be unmet in them
+-- the choices are those of a stable structure over the program, and only the rules that wait may be unmet in
+-- them
 pub record CanWalk (w : Walk) (scratch : ScratchForm) : Type 0 where
   pub valid : IsValid (walk_program w)
   pub rules : rules_of w.closed.now ≡ closed_rules (walk_program w)

@@ -4,7 +4,8 @@ ghost use Rattle.std.specs.Prelude.{[], ◌∷◌, ◌++◌, ◌+◌, ◌≡◌,
 ghost use Rattle.std.specs.List.{flat_map, AllByRecursion};
 ghost use Rattle.tv_focus.specs.Focused.{tables_in};
 ghost use Rattle.tv_focus.specs.Puts.{AreChosen, IsChoiceOf, chosen_tables};
-ghost use Rattle.tv_walk.specs.Walk.{AddsCoerced, CanWalk, IsAbove, IsAtHand, walk_aim, walk_pred, walk_table};
+ghost use Rattle.tv_walk.specs.Walk.{AddsCoerced, CanWalk, IsAbove, IsAtHand, walk_aim, walk_pred};
+ghost use Rattle.tv_walk.specs.Walk.{walk_table};
 
 use crate::narrow::{Outlook, look_ahead};
 use std::alloc::{AllocError, Global};
@@ -16,8 +17,8 @@ use tv_model::Program;
 use tv_rules::Closed;
 use tv_struct::{Structure, Structures};
 
-/// The choices of a stable structure, with the closed rules of its program, and those of them that a choice may
-/// leave unmet.
+/// The choices of a stable structure, with the closed rules of its program, and those of them that a choice
+/// may leave unmet.
 #[derive(Clone, Copy)]
 pub struct Walk<'a> {
     pub alloc: Global,
@@ -48,8 +49,8 @@ fn push_choice(
     }
 }
 
-/// Puts what comes of all choices that begin with `choice` and go on with one set of each of `sets` behind the
-/// others. Whatever is stable below one of them embeds in `c`.
+/// Puts what comes of all choices that begin with `choice` and go on with one set of each of `sets` behind
+/// the others. Whatever is stable below one of them embeds in `c`.
 #[cycle(walk_sets)]
 fn walk_sets(
     w: &Walk,
@@ -172,17 +173,22 @@ fn walk_on(
 
 /// Puts the greatest stable structure below each choice behind the others, in the choices' order, and nothing
 /// for a choice below which there is none. The only error is want of memory.
-pub fn walk_choices(
-    w: &Walk,
-    scratch: &mut Scratch,
-    out: &mut Structures,
-) -> Result<(), AllocError>
+pub fn walk_choices(w: &Walk, scratch: &mut Scratch, out: &mut Structures) -> Result<(), AllocError>
     requires can { CanWalk w.now scratch.old }
-    ensures out { OnOk result (AddsCoerced w.now (tables_in w.now.from.now w.now.choosing.now) out.old out.new) }
+    ensures out { OnOk result
+        (AddsCoerced w.now (tables_in w.now.from.now w.now.choosing.now) out.old out.new) }
     ensures scratch { scratch.new ≡ scratch.old }
 {
     structures_lie_above();
     let _ = w.from.size();
     let mut choice = Vec::new(w.alloc);
-    walk_sets(w, w.from, 0, w.choosing.sets.as_slice(), &mut choice, scratch, out)
+    walk_sets(
+        w,
+        w.from,
+        0,
+        w.choosing.sets.as_slice(),
+        &mut choice,
+        scratch,
+        out,
+    )
 }

@@ -7,7 +7,8 @@ use Rattle.tv_focus_laws.specs.Choices.{ChoiceForm, VectorSet}
 use Rattle.tv_focus.specs.Puts.{AreChosen, IsChoiceOf, chosen_tables}
 use Rattle.tv_step_laws.specs.Parts.{AreFrom}
 use Rattle.tv_step_laws.specs.Transfer.{Coerces}
-use Rattle.tv_walk.specs.Walk.{AddsCoerced, CanWalk, Foretells, IsAbove, walk_aim, walk_pred, walk_program, walk_table}
+use Rattle.tv_walk.specs.Walk.{AddsCoerced, CanWalk, Foretells, IsAbove, walk_aim, walk_pred, walk_program}
+use Rattle.tv_walk.specs.Walk.{walk_table}
 use Rattle.tv_walk.proofs.Choices.{adds-none, below-above, nothing-adds, one-more}
 use Rattle.tv_walk.proofs.walk.+walk_sets.Goals as goal
 
