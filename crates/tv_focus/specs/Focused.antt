@@ -1,7 +1,7 @@
 -- What a stage of focus made of a structure.
 use Rattle.std.specs.Prelude.{ℕ, ◌≡◌, ◌≤◌, List, [], ◌∷◌, map}
 use Rattle.tv_struct.specs.StructureForm.{StructureForm, structure_of}
-use Rattle.tv_focus_laws.specs.Choices.{AimForm, SplitForm, Nothing, Whole, Each, choices, sets_in}
+use Rattle.tv_focus_laws.specs.Choices.{SplitForm, Nothing, Whole, Each, choices, sets_in}
 use Rattle.tv_focus_laws.specs.Counts.{copy_count}
 use Rattle.tv_focus_laws.specs.Written.{chosen_table}
 use Rattle.tv_focus_step_laws.specs.Above.{IsAim}

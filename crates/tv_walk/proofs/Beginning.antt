@@ -1,5 +1,5 @@
 -- What a walk begins with: the structure itself lies above all its choices.
-use Rattle.std.proofs.Common.{◌≡◌, ◌∙◌, List, [], ◌∷◌, length, map, refl, ap, sym, subst, Contains}
+use Rattle.std.proofs.Common.{◌≡◌, ◌∙◌, [], length, refl, ap, sym, subst, Contains}
 use Rattle.std.proofs.lemmas.List.FromFn.{length-map-range_with_len}
 use Rattle.tv_struct.specs.StructureForm.{IsStructure, structure_of}
 use Rattle.tv_eval.specs.ScratchForm.{ScratchForm}

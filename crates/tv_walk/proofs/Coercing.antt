@@ -1,19 +1,15 @@
 -- Coerce of what a walk makes.
-use Rattle.std.proofs.Common.{ℕ, ◌≡◌, ◌≢◌, ◌<◌, ◌≤◌, Bool, false, List, [], ◌∷◌, length, map, Option, None}
+use Rattle.std.proofs.Common.{◌≡◌, Bool, false, List, [], ◌∷◌, length, Option, None}
 use Rattle.std.proofs.Common.{Some}
-use Rattle.std.proofs.Common.{inl, inr, refl, sym, ap, subst, ◌∙◌, arith, All, Contains, get_or, slice_get}
-use Rattle.std.proofs.Common.{replicate}
+use Rattle.std.proofs.Common.{inl, inr, refl, sym, ap, subst, ◌∙◌, arith, Contains, get_or, slice_get}
 use Rattle.std.specs.List.{range_with_len}
 use Rattle.std.proofs.lemmas.List.Elements.{All-contains}
 use Rattle.std.proofs.lemmas.List.FromFn.{length-range_with_len}
-use Rattle.tv_kleene.specs.declared.K3.{K3}
 use Rattle.tv_model.specs.Program.{RuleForm}
 use Rattle.tv_model.proofs.Lists.{Contains-map, slice_get-contains}
 use Rattle.tv_stable_laws.specs.Laws.{IsPlainRule}
-use Rattle.tv_stable_laws.specs.Stable.{IsStable, IsStableUnder, IsGreatestStable, HasNoStable}
-use Rattle.tv_struct.specs.StructureForm.{StructureForm, IsStructure, IsOver, structure_of, arities_of}
-use Rattle.tv_struct.specs.StructureForm.{value_at}
-use Rattle.tv_struct.specs.StructureForm.{summary_at}
+use Rattle.tv_stable_laws.specs.Stable.{IsStableUnder, IsGreatestStable, HasNoStable}
+use Rattle.tv_struct.specs.StructureForm.{StructureForm, IsStructure, structure_of, arities_of}
 use Rattle.tv_eval.specs.ScratchForm.{ScratchForm}
 use Rattle.tv_rules.specs.Closing.{closed_rules}
 use Rattle.tv_rules.specs.EntryForms.{rules_of}
@@ -23,7 +19,7 @@ use Rattle.tv_coerce_laws.specs.Split.{IsUntouched}
 use Rattle.tv_coerce_laws.proofs.Untouched.{untouched_rules_stay_stable}
 use Rattle.tv_coerce.specs.Coerced.{CoercesTo, IsCoercedTable}
 use Rattle.tv_coerce.specs.Ready.{CanCoerce}
-use Rattle.tv_coerce.specs.RuleSets.{IsIn, IsStableBut, HasMore, IsRuleThat}
+use Rattle.tv_coerce.specs.RuleSets.{IsStableBut, HasMore, IsRuleThat}
 use Rattle.tv_coerce.proofs.Ready.{closed_rules_can_be_tried}
 use Rattle.tv_focus_laws.specs.Choices.{ChoiceForm, choices, chosen}
 use Rattle.tv_focus_laws.specs.Counts.{AreCounted}
@@ -31,10 +27,9 @@ use Rattle.tv_focus_laws.specs.Tables.{ShowsOver}
 use Rattle.tv_focus_laws.specs.Written.{WriteForm}
 use Rattle.tv_focus_laws.proofs.Counts.{choices_are_counted}
 use Rattle.tv_focus_laws.proofs.Writes.{IsWritten}
-use Rattle.tv_focus_step_laws.specs.Above.{IsAlike, IsSmallChoice}
+use Rattle.tv_focus_step_laws.specs.Above.{IsSmallChoice}
 use Rattle.tv_focus_step_laws.proofs.Embedding.{choice-shows}
 use Rattle.tv_focus.specs.Puts.{IsChoiceOf}
-use Rattle.tv_step_laws.specs.Shaped.{IsShaped}
 use Rattle.tv_step_laws.specs.Transfer.{Coerces}
 use Rattle.tv_step_laws.proofs.Shapes.{shaped-over}
 use Rattle.tv_walk.specs.declared.walk.Walk.{Walk}

@@ -1,5 +1,5 @@
 -- Values that differ: of one alone, of the first of several, and of one behind it.
-use Rattle.std.proofs.Common.{ℕ, suc, ◌≡◌, ◌≢◌, ◌≤◌, ◌<◌, List, [], ◌∷◌, length, get_or, refl, sym, subst}
+use Rattle.std.proofs.Common.{ℕ, suc, ◌≡◌, ◌≢◌, ◌≤◌, List, [], ◌∷◌, length, get_or, refl, sym, subst}
 use Rattle.std.proofs.Common.{◌∙◌, arith}
 use Rattle.std.specs.Prelude.{Any}
 use Rattle.std.specs.List.{between}
@@ -8,7 +8,7 @@ use Rattle.tv_kleene.specs.declared.K3.{K3}
 use Rattle.tv_kleene.specs.declared.K3.TheVariants.{No, Half}
 use Rattle.tv_struct.specs.StructureForm.{StructureForm, value_at}
 use Rattle.tv_focus_laws.specs.Choices.{Alone}
-use Rattle.tv_focus_laws.specs.Written.{WriteForm, vector_writes}
+use Rattle.tv_focus_laws.specs.Written.{vector_writes}
 use Rattle.tv_focus_step_laws.specs.Above.{IsOther}
 use Rattle.tv_walk.specs.Walk.{HasOther}
 

@@ -1,10 +1,10 @@
 -- What is known of choices once an individual has its vectors.
-use Rattle.std.proofs.Common.{ℕ, ◌≡◌, ◌<◌, List, [], ◌∷◌, Option, None, Some, refl, sym, ap, subst, ◌∙◌}
+use Rattle.std.proofs.Common.{ℕ, ◌≡◌, ◌<◌, List, [], ◌∷◌, Option, None, Some, sym, ap, subst, ◌∙◌}
 use Rattle.std.proofs.Common.{arith}
-use Rattle.std.proofs.Common.{All, Contains, get_or}
+use Rattle.std.proofs.Common.{Contains, get_or}
 use Rattle.std.specs.Prelude.{Any}
 use Rattle.tv_kleene.specs.declared.K3.{K3}
-use Rattle.tv_stable_laws.specs.Stable.{IsStable, IsGreatestStable, HasNoStable}
+use Rattle.tv_stable_laws.specs.Stable.{IsGreatestStable, HasNoStable}
 use Rattle.tv_struct.specs.StructureForm.{StructureForm, arities_of, structure_of}
 use Rattle.tv_eval.specs.ScratchForm.{ScratchForm}
 use Rattle.tv_rules.specs.Closing.{closed_rules}

@@ -1,5 +1,5 @@
 -- What a walk through the choices of a stage knows.
-use Rattle.std.specs.Prelude.{ℕ, ◌≡◌, ◌++◌, List, [], ◌∷◌, length, All, Any, slice_index_or}
+use Rattle.std.specs.Prelude.{ℕ, ◌≡◌, ◌++◌, List, [], length, All, Any, slice_index_or}
 use Rattle.tv_kleene.specs.declared.K3.{K3}
 use Rattle.tv_model.specs.Program.{ProgramForm, program_of}
 use Rattle.tv_model.specs.Valid.{IsValid}

@@ -1,7 +1,6 @@
-use Rattle.std.proofs.Common.{◌≡◌, ◌∙◌, [], ◌∷◌, List, ap, sym, subst}
+use Rattle.std.proofs.Common.{◌≡◌, ◌∙◌, ap, sym, subst}
 use Rattle.std.specs.Prelude.{IfErr, IfOk, OnOk, Result, Ok, Err}
 use Rattle.tv_model.specs.Form.{form_of}
-use Rattle.tv_struct.specs.StructureForm.{StructureForm, structure_of}
 use Rattle.tv_focus_laws.specs.Stages.{atom_at}
 use Rattle.tv_focus_laws.specs.Tables.{AreStage}
 use Rattle.tv_focus_laws.specs.Written.{split_tables, stage_tables}

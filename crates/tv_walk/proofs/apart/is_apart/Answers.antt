@@ -1,7 +1,4 @@
-use Rattle.std.proofs.Common.{◌≡◌, ◌≢◌, ◌∙◌, [], ◌∷◌, refl, sym, subst, arith}
-use Rattle.std.specs.Prelude.{slice_index_or}
-use Rattle.tv_kleene.specs.declared.K3.TheVariants.{No, Half}
-use Rattle.tv_struct.specs.StructureForm.{value_at}
+use Rattle.std.proofs.Common.{sym, subst}
 use Rattle.tv_focus.specs.Seen.{aim_of}
 use Rattle.tv_walk.specs.Walk.{HasOther}
 use Rattle.tv_walk.proofs.Differing.{alone-apart}

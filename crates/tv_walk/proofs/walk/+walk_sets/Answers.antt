@@ -1,4 +1,4 @@
-use Rattle.std.proofs.Common.{◌≡◌, ◌∙◌, ◌<◌, List, [], ◌∷◌, ◌++◌, refl, ap, sym, subst, arith, length, get_or}
+use Rattle.std.proofs.Common.{◌≡◌, ◌∙◌, ◌<◌, List, [], ◌∷◌, ◌++◌, refl, sym, subst, arith, length, get_or}
 use Rattle.std.specs.Prelude.{OnOk}
 use Rattle.std.specs.List.{between, flat_map}
 use Rattle.std.proofs.lemmas.Slice.{first_rest}
