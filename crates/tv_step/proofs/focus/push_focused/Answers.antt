@@ -130,25 +130,27 @@ walk_choices-requires c =
     in let from = made-from s _ _ c.in-Many.is c.in_ok-s.ensures.from
     in let tables = tables_in c.in-Many.from choosing
     in record {
-      valid = c.requires.ready.valid;
-      rules = c.requires.ready.rules;
-      room = c.requires.ready.room;
-      shaped = subst (IsShaped p) (sym from) c.requires.shaped;
-      stable = subst (IsStableIn p) (sym from) c.requires.stable;
-      choosing = subst CanBeMade c.in-Many.is c.in_ok-s.ensures.ready;
-      count = ap length c.deref-in-Many.ensures ∙ c.requires.waiting.count ∙ ap length (sym c.requires.ready.rules);
-      rest = subst (λ set. All (IsStableBut (rules_of x.closed.now) set) tables) (sym c.deref-in-Many.ensures)
-          (focus-rest p c.requires.ready.valid s place tables (length x.program.now.vocab.preds)
-          (rules_of x.closed.now) c.args.turn.now.waiting.value c.requires.ready.rules c.requires.shaped
-          c.requires.stable
-          (tables-of p s c.requires.shaped tables (choices_at s place)
-          (made-stage s c.deref.result.now c.args.turn.now.formula.value c.args.turn.now.atom _ _
-          c.deref.ensures c.in-Many.is c.in_ok-s.ensures.stage))
-          (atoms-fit p s place.formula c.requires.shaped c.requires.place.formula) c.requires.place.atom
-          (ap length (shaped-over x.program.now s c.requires.shaped)
-          ∙ length-map x.program.now.vocab.preds (λ pred. pred.arity))
-          (subst (λ rules. WaitsAt (length x.program.now.vocab.preds) place.formula rules c.args.turn.now.waiting.value)
-          (sym c.requires.ready.rules) c.requires.waiting));
+      can = record {
+        valid = c.requires.ready.valid;
+        rules = c.requires.ready.rules;
+        room = c.requires.ready.room;
+        shaped = subst (IsShaped p) (sym from) c.requires.shaped;
+        stable = subst (IsStableIn p) (sym from) c.requires.stable;
+        choosing = subst CanBeMade c.in-Many.is c.in_ok-s.ensures.ready;
+        count = ap length c.deref-in-Many.ensures ∙ c.requires.waiting.count ∙ ap length (sym c.requires.ready.rules);
+        rest = subst (λ set. All (IsStableBut (rules_of x.closed.now) set) tables) (sym c.deref-in-Many.ensures)
+            (focus-rest p c.requires.ready.valid s place tables (length x.program.now.vocab.preds)
+            (rules_of x.closed.now) c.args.turn.now.waiting.value c.requires.ready.rules c.requires.shaped
+            c.requires.stable
+            (tables-of p s c.requires.shaped tables (choices_at s place)
+            (made-stage s c.deref.result.now c.args.turn.now.formula.value c.args.turn.now.atom _ _
+            c.deref.ensures c.in-Many.is c.in_ok-s.ensures.stage))
+            (atoms-fit p s place.formula c.requires.shaped c.requires.place.formula) c.requires.place.atom
+            (ap length (shaped-over x.program.now s c.requires.shaped)
+            ∙ length-map x.program.now.vocab.preds (λ pred. pred.arity))
+            (subst (λ rules. WaitsAt (length x.program.now.vocab.preds) place.formula rules c.args.turn.now.waiting.value)
+            (sym c.requires.ready.rules) c.requires.waiting));
+      };
     }
 
 pub returns-in_ok-walk_choices-in-Many-clause-out : goal.returns-in_ok-walk_choices-in-Many-clause-out
