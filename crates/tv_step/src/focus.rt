@@ -27,6 +27,7 @@ use tv_eval::Scratch;
 use tv_focus::{FocusAtoms, Focused, into_focused};
 use tv_model::Formula;
 use tv_struct::{StageError, Structure, Structures};
+use tv_walk::{Walk, walk_choices};
 
 /// An atom of a focus formula, by its number, and the rules that a choice of it may leave unmet in a
 /// structure that was stable. The atoms of a formula share its list, and those of an action the rules.
@@ -113,6 +114,17 @@ fn push_focused(
                 scratch,
                 out,
             )?)
+        }
+        Focused::Many(from, choosing) => {
+            let walk = Walk {
+                alloc: x.alloc,
+                program: x.program,
+                closed: x.closed,
+                waiting: &turn.waiting,
+                from: &from,
+                choosing: &choosing,
+            };
+            Ok(walk_choices(&walk, scratch, out)?)
         }
     }
 }

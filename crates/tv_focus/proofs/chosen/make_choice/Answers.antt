@@ -6,7 +6,7 @@ use Rattle.tv_focus.specs.Puts.{choice_writes, aim_in}
 use Rattle.tv_focus.specs.Seen.{aim_of}
 use Rattle.tv_focus.proofs.Parts.{parts-are, split-size, aims-within, aim-over}
 use Rattle.tv_focus.proofs.AllWrites.{all-writes-are}
-use Rattle.tv_focus.proofs.chosen.chosen.Goals as goal
+use Rattle.tv_focus.proofs.chosen.make_choice.Goals as goal
 
 pub aim_among-requires-clause-aim : goal.aim_among-requires-clause-aim
 aim_among-requires-clause-aim c =
