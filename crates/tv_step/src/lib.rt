@@ -6,6 +6,7 @@ mod changed;
 mod coerced;
 mod engine;
 mod focus;
+mod found;
 mod job;
 mod messages;
 mod opened;
