@@ -1,6 +1,6 @@
 //! Sets of rules that were found, each for a list of predicates.
 
-ghost use Rattle.std.specs.Prelude.{◌≡◌, ◌++◌, ◌∷◌, [], length, Contains, IfSome, IsTrue, OnOk};
+ghost use Rattle.std.specs.Prelude.{◌≡◌, [], Contains, IfSome, IsTrue, OnOk};
 ghost use Rattle.tv_step.specs.Found.{HasMoreSets};
 
 use std::alloc::{AllocError, Global};
