@@ -1,14 +1,10 @@
--- Sets of rules that were found, and what is known of them.
-use Rattle.std.proofs.Common.{ℕ, ◌≡◌, Bool, List, Some, slice_get, All, Contains, sym, subst}
+-- What is known of sets of rules that were found.
+use Rattle.std.proofs.Common.{ℕ, ◌≡◌, Bool, List, All, Contains, sym, subst}
 use Rattle.std.specs.Prelude.{Result, Ok, Err, IfOk, MatchResult}
 use Rattle.std.proofs.lemmas.List.Elements.{All-contains}
-use Rattle.tv_model.proofs.Lists.{slice_get-contains}
-use Rattle.tv_step.specs.declared.found.Kept.{Kept}
-use Rattle.tv_step.specs.Found.{HasMoreSets}
+use Rattle.tv_rule_sets.specs.declared.found.Kept.{Kept}
+use Rattle.tv_rule_sets.specs.Found.{HasMoreSets}
 use Rattle.tv_step.proofs.Adding.{all-more}
-
-pub in_list : (kept : List Kept) (i : ℕ) (k : Kept) → slice_get kept i ≡ Some k → Contains kept k
-in_list kept i k at = slice_get-contains kept i k at
 
 -- what holds of each set and its predicates holds of one that was found for these
 pub found-right : (R : List ℕ → List Bool → Type 0) (kept : List Kept) (k : Kept) (preds : List ℕ)

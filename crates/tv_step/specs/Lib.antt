@@ -2,7 +2,6 @@ pub mod Allowed
 pub mod Changed
 pub mod Ending
 pub mod EngineForm
-pub mod Found
 pub mod Job
 pub mod Places
 pub mod Setting

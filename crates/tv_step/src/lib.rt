@@ -6,7 +6,6 @@ mod changed;
 mod coerced;
 mod engine;
 mod focus;
-mod found;
 mod job;
 mod messages;
 mod opened;

@@ -11,12 +11,12 @@ ghost use Rattle.tv_step.specs.Setting.{form_in};
 ghost use Rattle.tv_step.specs.Waiting.{AreListed, HasRulesOf, IsShared, WaitsAbout, WaitsAfter, WaitsAt};
 ghost use Rattle.tv_step.specs.Waiting.{WaitsFor};
 
-use crate::found::{Found, found_for, keep, none_found};
 use crate::setting::Setting;
 use std::alloc::AllocError;
 use std::rc::Rc;
 use tv_coerce::RuleSet;
 use tv_model::{Action, Formula, Kind, PredId, Update, mentions};
+use tv_rule_sets::{Found, found_for, keep, none_found};
 
 /// Whether individuals may come or go.
 pub fn moves(action: &Action) -> bool

@@ -1,7 +1,7 @@
 //! Sets of rules that were found, each for a list of predicates.
 
 ghost use Rattle.std.specs.Prelude.{◌≡◌, [], Contains, IfSome, IsTrue, OnOk};
-ghost use Rattle.tv_step.specs.Found.{HasMoreSets};
+ghost use Rattle.tv_rule_sets.specs.Found.{HasMoreSets};
 
 use std::alloc::{AllocError, Global};
 use std::collections::HashMap;

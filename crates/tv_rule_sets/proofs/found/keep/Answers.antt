@@ -1,5 +1,5 @@
 use Rattle.std.proofs.Common.{refl}
-use Rattle.tv_step.proofs.found.keep.Goals as goal
+use Rattle.tv_rule_sets.proofs.found.keep.Goals as goal
 
 pub returns : goal.returns
 returns c = record {
