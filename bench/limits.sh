@@ -74,11 +74,18 @@ row("the same, --delta, by an action that turns what they rest on", 511)(
     lambda size: analyze(texts.fan(size, 190) + texts.TURN, EMPTY, "--delta"))
 
 
-@row("16,384 actions and 60,000 closed rules", 16_384)
-def _(count):
+def beside_rules(count, *parts):
+    """So many actions beside 60,000 closed rules."""
     rules = "%r p() & q() & r() & s() ==> t()\n" * 12_000
     preds = "".join(f"%p {name}()\n" for name in "pqrst")
-    return analyze(texts.with_actions(preds + rules, count, " { p() = q() } "))
+    return analyze(texts.with_actions(preds + rules, count, *parts))
+
+
+row("16,384 actions and 60,000 closed rules", 16_384)(lambda size: beside_rules(size, " { p() = q() } "))
+row("16,384 actions that update by turns, 60,000 closed rules", 16_384)(
+    lambda size: beside_rules(size, " { p() = q() } ", " { q() = p() } "))
+row("the same with focus", 16_384)(
+    lambda size: beside_rules(size, " %f { p() } { p() = q() } ", " %f { p() } { q() = p() } "))
 
 
 # ---- depth ----

@@ -114,9 +114,9 @@ def resting(count, nodes):
     return "%p b()\n" + in_chain(count, (), "b()", body, upwards=False)
 
 
-def with_actions(declared, count, part="", end="L"):
-    """A program with so many edges from L, each with an action of its own."""
-    acts = "".join(f"%action a{k}() {{{part}}}\n" for k in range(count))
+def with_actions(declared, count, *parts, end="L"):
+    """A program with so many edges from L, each with an action of its own; the actions' parts go by turns."""
+    acts = "".join(f"%action a{k}() {{{parts[k % len(parts)] if parts else ''}}}\n" for k in range(count))
     return declared + "%%\n" + acts + "%%\n" + "".join(f"L a{k}() {end}\n" for k in range(count))
 
 

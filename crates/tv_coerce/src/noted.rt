@@ -1,4 +1,4 @@
-//! Changes that were asked for, each noted once.
+//! Changes that were asked for. One that was asked for before may be passed over.
 
 ghost use Rattle.std.specs.Prelude.{◌≡◌, ◌≢◌, [], IsTrue, OnOk};
 ghost use Rattle.tv_coerce.specs.Changes.{IsPushed};
@@ -7,8 +7,8 @@ use crate::change::Change;
 use std::alloc::{AllocError, Global};
 use tv_struct::Tuple;
 
-/// Changes that a rule asks for in a structure of `size` individuals. All are changes of one predicate to one
-/// value, or of summaries.
+/// Changes that a rule asks for in a structure of `size` individuals. All are to be changes of one predicate
+/// to one value, or of summaries: else one may be passed over that was never noted.
 #[derive(Debug, Drop)]
 pub(crate) struct Noted {
     list: Vec<Change>,
@@ -83,12 +83,14 @@ impl Noted {
         }
     }
 
-    /// How often a change was asked for, noted anew or not.
+    /// How often a change was asked for, noted anew or not, in turns of the count: a hint, of which nothing
+    /// is promised.
     pub fn asked(&self) -> usize {
         self.asked
     }
 
-    /// Whether a change was asked for since that was so often, if a number is given.
+    /// Tells, by that count, whether a change was asked for since it stood so, if a number is given. True
+    /// only where some change is noted; that it is false promises nothing.
     pub fn has_more(&self, once: Option<usize>) -> bool
         ensures { IsTrue result → self.now.list.items ≢ [] }
     {

@@ -1,8 +1,15 @@
 -- The causes of the parts of the work, as those of a command and of a call.
 use Rattle.std.proofs.Common.{◌≡◌, ◌≤◌, ℕ, List, Option, Result, Ok, Err, inl, inr, refl, sym, subst, arith}
-use Rattle.std.specs.Prelude.{IfOk, IfErr}
+use Rattle.std.specs.Prelude.{false, IfOk, IfErr, length}
 use Rattle.std.specs.declared.alloc.Global.{Global}
 use Rattle.std.specs.declared.vec.Vec.{Vec}
+use Rattle.tv_compiled.specs.Compiled.{IsCause as IsWritingCause}
+use Rattle.tv_compiled.specs.declared.error.CompiledError.{CompiledError}
+use Rattle.tv_compiled.specs.declared.error.CompiledError.TheVariants as compiled
+use Rattle.tv_compiled_laws.specs.Laws.{CompiledTextsArePrograms, MeansInFiles}
+use Rattle.tv_explain_source.specs.Sources.{IsSourceText}
+use Rattle.tv_explain_source.specs.declared.source.SourceText.{SourceText}
+use Rattle.tv_lex.specs.Gather.{longest_gathered}
 use Rattle.tv_model.specs.declared.program.Program.{Program}
 use Rattle.tv_outside.specs.Count.{Rose}
 use Rattle.tv_outside.specs.Told.{Held, HoldsName}
@@ -10,25 +17,29 @@ use Rattle.tv_status.specs.declared.status.FileKind.{FileKind}
 use Rattle.tv_status.specs.declared.status.Role.{Role}
 use Rattle.tv_status.specs.declared.status.Role.TheVariants as role
 use Rattle.tv_texts.specs.Files.{IsFileCause, IsInitialFile, IsProgramFile, IsReportFile, LacksFile}
-use Rattle.tv_texts.specs.Files.{UnlessNotRead}
+use Rattle.tv_texts.specs.Files.{IsSourceFile, UnlessNotRead}
+use Rattle.tv_texts.specs.Meaning.{MeansProgram}
 use Rattle.tv_texts.specs.declared.fault.TextFault.{TextFault}
 use Rattle.tv_texts.specs.declared.fault.TextFault.TheVariants as text
 use Rattle.tv_work.specs.Analysed.{IsWorkCause}
 use Rattle.tv_work.specs.declared.error.WorkError.{WorkError}
 use Rattle.tv_work.specs.declared.error.WorkError.TheVariants as work
-use Rattle.tv_explain.specs.Answers.{FilesMeanSuch, IsAnswer, IsStopped, Reached}
-use Rattle.tv_explain.specs.Call.{IsAnswerTo, IsCause, IsCommandCause, IsFound, IsOwed, UnlessReadFault}
-use Rattle.tv_explain.specs.Faults.{fault_of_text, fault_of_work}
+use Rattle.tv_explain.specs.Answers.{FilesMeanSuch, IsAnswer, IsCompiledText, IsStopped, Reached}
+use Rattle.tv_explain.specs.Answers.{compiled_lines}
+use Rattle.tv_explain.specs.Call.{IsAnswerTo, IsCause, IsCommandCause, IsFound, UnlessReadFault}
+use Rattle.tv_explain.specs.Faults.{fault_of_text, fault_of_work, fault_of_writing}
 use Rattle.tv_explain.specs.Meaning.{FilesMean, IsDrawnFile, IsMissing, IsRefused, LacksInputs, form_in}
 use Rattle.tv_explain.specs.Meaning.{program_name}
-use Rattle.tv_explain.specs.Work.{IsInputsCause}
+use Rattle.tv_explain.specs.Work.{IsInputsCause, plain}
+use Rattle.tv_explain.specs.declared.fault.Answer.{Answer}
 use Rattle.tv_explain.specs.declared.fault.Fault.{Fault}
 use Rattle.tv_explain.specs.declared.fault.Fault.TheVariants.{Usage, FileFault, Structures, TooManySplits}
-use Rattle.tv_explain.specs.declared.fault.Fault.TheVariants.{TooManyIndividuals, NotThere, ReadFault, Memory}
+use Rattle.tv_explain.specs.declared.fault.Fault.TheVariants.{TooManyIndividuals, NotThere, NotWritten}
+use Rattle.tv_explain.specs.declared.fault.Fault.TheVariants.{ReadFault, Memory}
 use Rattle.tv_explain.specs.declared.inputs.Drawn.{Drawn}
 use Rattle.tv_explain.specs.declared.inputs.Inputs.{Inputs}
-use Rattle.tv_explain_words.specs.Words.{AnalyzedForm, CommandForm, Shows, TellsMessage, TellsStructure}
-use Rattle.tv_explain_words.specs.Words.{Spells}
+use Rattle.tv_explain_words.specs.Words.{AnalyzedForm, CommandForm, Shows, TellsLosses, TellsMessage}
+use Rattle.tv_explain_words.specs.Words.{Compiles, TellsStructure, Spells}
 
 -- ---- counts and steadiness
 
@@ -43,6 +54,7 @@ holds_unless (Err (Structures max)) P h = h
 holds_unless (Err TooManySplits) P h = h
 holds_unless (Err TooManyIndividuals) P h = h
 holds_unless (Err (NotThere what)) P h = h
+holds_unless (Err (NotWritten why)) P h = h
 holds_unless (Err ReadFault) P h = tt
 holds_unless (Err Memory) P h = h
 
@@ -68,14 +80,33 @@ still old mid new steady same h = (h.0, rw (h.1, same) refl)
 module _ (told : Option Held) where
   -- PROGRAM isn't had
   pub program_fault : (command : CommandForm) (rose steady : Type 0) (e : TextFault)
+      → ((k : FileKind) → IsProgramFile told (program_name command) (Err k)
+      → IsRefused told command role.Program k)
       → (LacksFile told (program_name command) → IsMissing told command)
       → IsFileCause role.Program (λ k. IsProgramFile told (program_name command) (Err k))
       (LacksFile told (program_name command)) rose steady e
       → IsCommandCause told command rose steady (fault_of_text e)
-  program_fault command rose steady (text.Refused its k) lacks h =
-      subst (λ r. IsRefused told command r k) (sym h.0) h.1
-  program_fault command rose steady text.NotRead lacks h = (h.0, λ s. lacks (h.1 s))
-  program_fault command rose steady text.Memory lacks h = tt
+  program_fault command rose steady (text.Refused its k) refused lacks h =
+      subst (λ r. IsRefused told command r k) (sym h.0) (refused k h.1)
+  program_fault command rose steady text.NotRead refused lacks h = (h.0, λ s. lacks (h.1 s))
+  program_fault command rose steady text.Memory refused lacks h = tt
+
+  -- SOURCE isn't had
+  pub source_fault : (source : List ℕ) (rose steady : Type 0) (e : TextFault)
+      → IsFileCause role.Source (λ k. IsSourceFile told source (Err k)) (¬ HoldsName told source) rose steady e
+      → IsCommandCause told (Compiles source) rose steady (fault_of_text e)
+  source_fault source rose steady (text.Refused its k) h =
+      subst (λ r. IsRefused told (Compiles source) r k) (sym h.0) h.1
+  source_fault source rose steady text.NotRead h = h
+  source_fault source rose steady text.Memory h = tt
+
+  -- what SOURCE is compiled to isn't written
+  pub writing_fault : (source : List ℕ) (read : SourceText) (rose steady : Type 0) (e : CompiledError)
+      → IsSourceText told source read → IsWritingCause read.program (compiled_lines read) e
+      → IsCommandCause told (Compiles source) rose steady (fault_of_writing e)
+  writing_fault source read rose steady compiled.TooLong means h = (read, means, h)
+  writing_fault source read rose steady compiled.Differs means h = (read, means, h)
+  writing_fault source read rose steady compiled.Memory means h = tt
 
   -- REPORT isn't had
   pub report_fault : (program report : List ℕ) (p : Program) (rose steady late_rose late_steady : Type 0)
@@ -133,6 +164,7 @@ module _ (told : Option Held) where
   inputs_cause command of rose steady TooManySplits program initial lacks h = absurd h
   inputs_cause command of rose steady TooManyIndividuals program initial lacks h = absurd h
   inputs_cause command of rose steady (NotThere what) program initial lacks h = absurd h
+  inputs_cause command of rose steady (NotWritten why) program initial lacks h = absurd h
 
   pub message_unread : (of : AnalyzedForm) (edge number : ℕ) (rose steady : Type 0) (f : Fault)
       → IsInputsCause told of rose steady f → IsCommandCause told (TellsMessage of edge number) rose steady f
@@ -143,6 +175,11 @@ module _ (told : Option Held) where
       → IsInputsCause told of rose steady f → IsCommandCause told (TellsStructure of node index) rose steady f
   structure_unread of node index rose steady f h =
       inputs_cause (TellsStructure of node index) of rose steady f (λ k r. r) (λ k r. r) (λ l. l) h
+
+  pub losses_unread : (of : AnalyzedForm) (rose steady : Type 0) (f : Fault)
+      → IsInputsCause told of rose steady f → IsCommandCause told (TellsLosses of) rose steady f
+  losses_unread of rose steady f h =
+      inputs_cause (TellsLosses of) of rose steady f (λ k r. r) (λ k r. r) (λ l. l) h
 
   -- what stops the work behind the files stops the command
   stopped_cause : (command : CommandForm) (of : AnalyzedForm) (inputs : Inputs) (rose steady : Type 0)
@@ -159,6 +196,7 @@ module _ (told : Option Held) where
       mean (λ o i. IsStopped command o i TooManyIndividuals) h
   stopped_cause command of inputs rose steady (NotThere what) mean h =
       mean (λ o i. IsStopped command o i (NotThere what)) h
+  stopped_cause command of inputs rose steady (NotWritten why) mean h = absurd h
   stopped_cause command of inputs rose steady ReadFault mean h = absurd h
   stopped_cause command of inputs rose steady Memory mean h = tt
 
@@ -175,35 +213,51 @@ module _ (told : Option Held) where
   structure_stopped of node index inputs rose steady f means h =
       stopped_cause (TellsStructure of node index) of inputs rose steady f (λ P is. (inputs, means, is)) h
 
+  pub losses_stopped : (of : AnalyzedForm) (inputs : Inputs) (rose steady : Type 0) (f : Fault)
+      → FilesMean told of inputs → IsStopped (TellsLosses of) of inputs f
+      → IsCommandCause told (TellsLosses of) rose steady f
+  losses_stopped of inputs rose steady f means h =
+      stopped_cause (TellsLosses of) of inputs rose steady f (λ P is. (inputs, means, is)) h
+
   -- ---- words
 
-  pub spelled_answer : (words : List (List ℕ)) (command : CommandForm) (result : Result (Vec ℕ Global) Fault)
-      → Spells words command → IfOk result (λ t. IsAnswer told command t.items)
-      → IfOk result (λ t. IsAnswerTo words told t.items)
+  pub spelled_answer : (words : List (List ℕ)) (command : CommandForm) (result : Result Answer Fault)
+      → Spells words command → IfOk result (IsAnswer told command) → IfOk result (IsAnswerTo words told)
   spelled_answer words command (Ok t) spells h = (command, spells, h)
   spelled_answer words command (Err e) spells h = tt
 
-  -- words spell one command at most, so where that isn't given, none is
-  pub spelled_cause : ((words : List (List ℕ)) (a b : CommandForm) → Spells words a → Spells words b → a ≡ b)
-      → (words : List (List ℕ)) (command : CommandForm) (rose steady : Type 0)
-      (result : Result (Vec ℕ Global) Fault) → Spells words command
+  pub spelled_cause : (words : List (List ℕ)) (command : CommandForm) (rose steady : Type 0)
+      (result : Result Answer Fault) → Spells words command
       → IfErr result (IsCommandCause told command rose steady) → IfErr result (IsCause words told rose steady)
-  spelled_cause one words command rose steady (Ok t) spells h = tt
-  spelled_cause one words command rose steady (Err Usage) spells h =
-      λ other also. subst IsOwed (one words command other spells also) h
-  spelled_cause one words command rose steady (Err (FileFault r k)) spells h = (command, spells, h)
-  spelled_cause one words command rose steady (Err (Structures max)) spells h = (command, spells, h)
-  spelled_cause one words command rose steady (Err TooManySplits) spells h = (command, spells, h)
-  spelled_cause one words command rose steady (Err TooManyIndividuals) spells h = (command, spells, h)
-  spelled_cause one words command rose steady (Err (NotThere what)) spells h = (command, spells, h)
-  spelled_cause one words command rose steady (Err ReadFault) spells h = (command, spells, h)
-  spelled_cause one words command rose steady (Err Memory) spells h = tt
+  spelled_cause words command rose steady (Ok t) spells h = tt
+  spelled_cause words command rose steady (Err Usage) spells h = absurd h
+  spelled_cause words command rose steady (Err (FileFault r k)) spells h = (command, spells, h)
+  spelled_cause words command rose steady (Err (Structures max)) spells h = (command, spells, h)
+  spelled_cause words command rose steady (Err TooManySplits) spells h = (command, spells, h)
+  spelled_cause words command rose steady (Err TooManyIndividuals) spells h = (command, spells, h)
+  spelled_cause words command rose steady (Err (NotThere what)) spells h = (command, spells, h)
+  spelled_cause words command rose steady (Err (NotWritten why)) spells h = (command, spells, h)
+  spelled_cause words command rose steady (Err ReadFault) spells h = (command, spells, h)
+  spelled_cause words command rose steady (Err Memory) spells h = tt
 
-  pub found : (words : List (List ℕ)) (rose steady : Type 0) (result : Result (Vec ℕ Global) Fault)
-      → IfOk result (λ t. IsAnswerTo words told t.items) → IfErr result (IsCause words told rose steady)
+  pub found : (words : List (List ℕ)) (rose steady : Type 0) (result : Result Answer Fault)
+      → IfOk result (IsAnswerTo words told) → IfErr result (IsCause words told rose steady)
       → IsFound words told rose steady result
   found words rose steady (Ok t) answer cause = answer
   found words rose steady (Err e) answer cause = cause
+
+-- a compiled program that is written
+pub written_text : CompiledTextsArePrograms → (source : SourceText) (text : List ℕ)
+    → text ≡ compiled_lines source → MeansProgram text (Ok source.program) → length text ≤ longest_gathered
+    → IsCompiledText source text
+written_text law source text is means size = record {
+  is = is;
+  means = means;
+  holders = subst (λ t. MeansInFiles t source.program) (sym is)
+      (law source.bytes.items source.tokens.list.items source.program
+      (subst (λ (t : List ℕ). length t ≤ longest_gathered) is size)
+      (subst (λ t. MeansProgram t (Ok source.program)) is means));
+}
 
 -- why a search finds nothing
 pub work_stopped : (command : CommandForm) (of : AnalyzedForm) (inputs : Inputs) (e : WorkError)
@@ -213,3 +267,14 @@ work_stopped command of inputs work.Structures h = (refl, h)
 work_stopped command of inputs work.Splits h = h
 work_stopped command of inputs work.Individuals h = h
 work_stopped command of inputs work.Memory h = tt
+
+-- ---- texts alone
+
+pub plain_text : (P : List ℕ → Type 0) (r : Result (Vec ℕ Global) Fault) → IfOk r (λ t. P t.items)
+    → IfOk (plain r) (λ answer. P answer.text.items × (answer.is_lost ≡ false))
+plain_text P (Ok t) h = (h, refl)
+plain_text P (Err e) h = tt
+
+pub plain_cause : (P : Fault → Type 0) (r : Result (Vec ℕ Global) Fault) → IfErr r P → IfErr (plain r) P
+plain_cause P (Ok t) h = tt
+plain_cause P (Err e) h = h

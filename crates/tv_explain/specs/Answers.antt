@@ -2,30 +2,40 @@
 use Rattle.std.specs.Prelude.{ℕ, ◌≡◌, ◌⊎◌, ◌<◌, ◌≤◌, false, List, ◌++◌, Option, Some, Ok, length, slice_get}
 use Rattle.std.specs.Prelude.{codes}
 use Rattle.std.specs.Prelude.{Contains}
+use Rattle.tv_compiled.specs.Compiled.{IsCause, written}
+use Rattle.tv_compiled.specs.declared.error.CompiledError.TheVariants as compiled
+use Rattle.tv_compiled_laws.specs.Laws.{MeansInFiles}
+use Rattle.tv_explain_source.specs.Sources.{IsSourceText}
+use Rattle.tv_explain_source.specs.declared.source.SourceText.{SourceText}
 use Rattle.tv_kleene.specs.declared.K3.{K3}
 use Rattle.tv_listing.specs.declared.analysis.Analysis.{Analysis}
+use Rattle.tv_losses_text.specs.Reports.{IsLossReport}
 use Rattle.tv_model.specs.Program.{MessageForm, program_of}
 use Rattle.tv_model.specs.declared.program.Program.{Program}
 use Rattle.tv_outside.specs.Told.{Held}
 use Rattle.tv_reasons.specs.Reasons.{HasNone, IsLedToBy, IsNeverRaised, IsRaisedBy}
 use Rattle.tv_step_laws.specs.Budgets.{MeetsIndividuals, MeetsSplits}
 use Rattle.tv_texts.specs.Files.{IsProgramFile, IsReportFile}
+use Rattle.tv_texts.specs.Meaning.{MeansProgram}
 use Rattle.tv_trail_laws.specs.declared.trail.Trail.{Trail}
 use Rattle.tv_work.specs.Analysed.{Meets}
 use Rattle.tv_work.specs.Reach.{AreMoreThan, IsReached, Point}
 use Rattle.tv_explain.specs.Meaning.{FilesMean, IsDrawnFile, form_in, heads_in}
+use Rattle.tv_explain.specs.declared.fault.Answer.{Answer}
 use Rattle.tv_explain.specs.declared.fault.Fault.{Fault}
 use Rattle.tv_explain.specs.declared.fault.Fault.TheVariants.{Memory, NotThere, Structures}
 use Rattle.tv_explain.specs.declared.fault.Fault.TheVariants.{TooManyIndividuals}
 use Rattle.tv_explain.specs.declared.fault.Fault.TheVariants.{TooManySplits}
 use Rattle.tv_explain.specs.declared.fault.Sought.{Sought}
 use Rattle.tv_explain.specs.declared.fault.Sought.TheVariants as sought
+use Rattle.tv_explain.specs.declared.fault.Unwritten.{Unwritten}
+use Rattle.tv_explain.specs.declared.fault.Unwritten.TheVariants as unwritten
 use Rattle.tv_explain.specs.declared.inputs.Drawn.{Drawn}
 use Rattle.tv_explain.specs.declared.inputs.Inputs.{Inputs}
 use Rattle.tv_explain_text.specs.Texts.{edges_text, messages_at, shown_text}
 use Rattle.tv_explain_text.specs.Trails.{raised_line, trail_text}
 use Rattle.tv_explain_words.specs.Words.{AnalyzedForm, CommandForm, Shows, ListsEdges, TellsMessage}
-use Rattle.tv_explain_words.specs.Words.{TellsStructure, TellsLosses}
+use Rattle.tv_explain_words.specs.Words.{TellsStructure, TellsLosses, Compiles}
 
 -- ---- messages and structures
 
@@ -56,20 +66,54 @@ IsStructureText of inputs node index text = (place : ℕ)
     × ((trail : Trail) × IsLedToBy (form_in inputs) of.mode inputs.initial of.max place index trail
     × (text ≡ trail_lines inputs trail))
 
+-- ---- losses
+
+-- the answer is the report on what the analysis loses, and says whether it loses anything
+abbrev pub TellsOfLosses : AnalyzedForm → Inputs → Answer → Type 0
+TellsOfLosses of inputs answer = IsLossReport (form_in inputs) (heads_in inputs) of.mode inputs.initial of.max
+    (record { text = answer.text; is_any = answer.is_lost })
+
+-- ---- compiled programs
+
+-- the program as it is written, with the statements of its source program noted at the actions
+abbrev pub compiled_lines : SourceText → List ℕ
+compiled_lines source = written source.bytes.items source.tokens.list.items (program_of source.program)
+
+-- the program is written, and what is written means it, in each file that holds it too
+pub record IsCompiledText (source : SourceText) (text : List ℕ) : Type 0 where
+  pub is : text ≡ compiled_lines source
+  pub means : MeansProgram text (Ok source.program)
+  pub holders : MeansInFiles text source.program
+
+-- the program isn't written: its text would be too long, or doesn't mean it
+abbrev pub HasNoText : SourceText → Unwritten → Type 0
+HasNoText source unwritten.TooLong = IsCause source.program (compiled_lines source) compiled.TooLong
+HasNoText source unwritten.Differs = IsCause source.program (compiled_lines source) compiled.Differs
+
 -- ---- answers
 
--- The text is what the command gives: the structures of REPORT, a report on PROGRAM; the control edges of
--- PROGRAM as its text has them, with the messages of their actions; or a shortest trail.
-abbrev pub IsAnswer : Option Held → CommandForm → (text : List ℕ) → Type 0
-IsAnswer told (Shows program report) text = (p : Program) × IsProgramFile told program (Ok p)
+-- The text is what the command gives, where that is a text alone: the structures of REPORT, a report on
+-- PROGRAM; the control edges of PROGRAM as its text has them, with the messages of their actions; a
+-- shortest trail; or the program that SOURCE is compiled to.
+abbrev pub IsText : Option Held → CommandForm → (text : List ℕ) → Type 0
+IsText told (Shows program report) text = (p : Program) × IsProgramFile told program (Ok p)
     × ((a : Analysis) × IsReportFile told report p (Ok a) × (text ≡ shown_text p a.listing))
-IsAnswer told (ListsEdges program) text = (drawn : Drawn) × IsDrawnFile told false program drawn
+IsText told (ListsEdges program) text = (drawn : Drawn) × IsDrawnFile told false program drawn
     × (text ≡ edges_text (program_of drawn.program) 0 drawn.heads.items)
-IsAnswer told (TellsMessage of edge number) text = (inputs : Inputs) × FilesMean told of inputs
+IsText told (TellsMessage of edge number) text = (inputs : Inputs) × FilesMean told of inputs
     × IsMessageText of inputs edge number text
-IsAnswer told (TellsStructure of node index) text = (inputs : Inputs) × FilesMean told of inputs
+IsText told (TellsStructure of node index) text = (inputs : Inputs) × FilesMean told of inputs
     × IsStructureText of inputs node index text
-IsAnswer told (TellsLosses of) text = ⊥
+IsText told (TellsLosses of) text = ⊥
+IsText told (Compiles source) text =
+    (read : SourceText) × IsSourceText told source read × IsCompiledText read text
+
+-- The answer is what the command gives: of `losses` what the analysis loses; of each other a text, and that
+-- nothing is lost.
+abbrev pub IsAnswer : Option Held → CommandForm → Answer → Type 0
+IsAnswer told (TellsLosses of) answer = (inputs : Inputs) × FilesMean told of inputs
+    × TellsOfLosses of inputs answer
+IsAnswer told other answer = IsText told other answer.text.items × (answer.is_lost ≡ false)
 
 -- ---- limits, and what isn't there
 
@@ -110,3 +154,10 @@ FilesMeanSuch told (TellsMessage of edge number) AreSuch =
 FilesMeanSuch told (TellsStructure of node index) AreSuch =
     (inputs : Inputs) × FilesMean told of inputs × AreSuch of inputs
 FilesMeanSuch told (TellsLosses of) AreSuch = (inputs : Inputs) × FilesMean told of inputs × AreSuch of inputs
+FilesMeanSuch told (Compiles source) AreSuch = ⊥
+
+-- it is a command on a source program, which is compiled and isn't written, for this reason
+abbrev pub IsUnwritten : Option Held → CommandForm → Unwritten → Type 0
+IsUnwritten told (Compiles source) why =
+    (read : SourceText) × IsSourceText told source read × HasNoText read why
+IsUnwritten told other why = ⊥

@@ -1,5 +1,7 @@
 -- The faults of a call: those of the layers below, and what tells them.
-use Rattle.std.specs.Prelude.{ℕ, List, ◌++◌, codes}
+use Rattle.std.specs.Prelude.{ℕ, Bool, true, false, List, [], ◌++◌, codes}
+use Rattle.tv_compiled.specs.declared.error.CompiledError.{CompiledError}
+use Rattle.tv_compiled.specs.declared.error.CompiledError.TheVariants as compiled
 use Rattle.tv_status.specs.Status.{code_of as status_code, line, text_of as told_text}
 use Rattle.tv_status.specs.declared.status.Status.TheVariants as status
 use Rattle.tv_texts.specs.declared.fault.TextFault.{TextFault}
@@ -7,12 +9,15 @@ use Rattle.tv_texts.specs.declared.fault.TextFault.TheVariants as text
 use Rattle.tv_work.specs.declared.error.WorkError.{WorkError}
 use Rattle.tv_work.specs.declared.error.WorkError.TheVariants as work
 use Rattle.tv_explain.specs.declared.fault.Ending.{Ending}
-use Rattle.tv_explain.specs.declared.fault.Ending.TheVariants.{As, Absent}
+use Rattle.tv_explain.specs.declared.fault.Ending.TheVariants.{As, Lost, Absent, NotWritten as Unwritable}
 use Rattle.tv_explain.specs.declared.fault.Fault.{Fault}
 use Rattle.tv_explain.specs.declared.fault.Fault.TheVariants.{Usage, FileFault, Structures, TooManySplits}
-use Rattle.tv_explain.specs.declared.fault.Fault.TheVariants.{TooManyIndividuals, NotThere, ReadFault, Memory}
+use Rattle.tv_explain.specs.declared.fault.Fault.TheVariants.{TooManyIndividuals, NotThere, NotWritten}
+use Rattle.tv_explain.specs.declared.fault.Fault.TheVariants.{ReadFault, Memory}
 use Rattle.tv_explain.specs.declared.fault.Sought.{Sought}
 use Rattle.tv_explain.specs.declared.fault.Sought.TheVariants as sought
+use Rattle.tv_explain.specs.declared.fault.Unwritten.{Unwritten}
+use Rattle.tv_explain.specs.declared.fault.Unwritten.TheVariants as unwritten
 
 -- the fault of a file's text
 abbrev pub fault_of_text : TextFault → Fault
@@ -27,6 +32,12 @@ fault_of_work max work.Splits = TooManySplits
 fault_of_work max work.Individuals = TooManyIndividuals
 fault_of_work max work.Memory = Memory
 
+-- the fault of a compiled program that isn't written
+abbrev pub fault_of_writing : CompiledError → Fault
+fault_of_writing compiled.TooLong = NotWritten unwritten.TooLong
+fault_of_writing compiled.Differs = NotWritten unwritten.Differs
+fault_of_writing compiled.Memory = Memory
+
 -- the ending of a call whose work ended in this fault
 abbrev pub ending_of : Fault → Ending
 ending_of Usage = As status.Usage
@@ -35,14 +46,22 @@ ending_of (Structures max) = As (status.Structures max)
 ending_of TooManySplits = As status.TooManySplits
 ending_of TooManyIndividuals = As status.TooManyIndividuals
 ending_of (NotThere what) = Absent what
+ending_of (NotWritten why) = Unwritable why
 ending_of ReadFault = As status.ReadFault
 ending_of Memory = As status.Memory
 
--- the exit code of the process: as of `tvla`; words that name what isn't there end as those that spell no
--- command
+-- the ending of a call whose answer was given, which says whether something is lost
+abbrev pub ending_with : (is_lost : Bool) → Ending
+ending_with true = Lost
+ending_with false = As status.Done
+
+-- the exit code of the process: as of `tvla`; a loss ends as a rejected report does, words that name what
+-- isn't there as those that spell no command, and a program that isn't written as one that passes a limit
 abbrev pub code_of : Ending → ℕ
 code_of (As it) = status_code it
+code_of Lost = 1
 code_of (Absent what) = 2
+code_of (Unwritable why) = 4
 
 -- the lines of all commands
 unfoldable pub usage_text : List ℕ
@@ -51,8 +70,11 @@ usage_text =
     "usage: tvla-explain message PROGRAM INITIAL EDGE NUMBER [--max-structures N] [--recompute | --delta]")
     ++ line (codes
     "       tvla-explain structure PROGRAM INITIAL NODE INDEX [--max-structures N] [--recompute | --delta]")
+    ++ line (codes
+    "       tvla-explain losses PROGRAM INITIAL [--max-structures N] [--recompute | --delta]")
     ++ line (codes "       tvla-explain show PROGRAM REPORT")
     ++ line (codes "       tvla-explain edges PROGRAM")
+    ++ line (codes "       tvla-explain compiled SOURCE")
 
 -- what isn't there
 abbrev pub absent_text : Sought → List ℕ
@@ -61,8 +83,16 @@ absent_text sought.Message = line (codes "tvla: no such message")
 absent_text sought.Node = line (codes "tvla: no such node")
 absent_text sought.Structure = line (codes "tvla: no such structure")
 
--- the text that tells an ending to whom called: as of `tvla`, but for the words and what they name
+-- why a compiled program isn't written
+abbrev pub unwritten_text : Unwritten → List ℕ
+unwritten_text unwritten.TooLong = line (codes "tvla: the compiled program is too long to be written")
+unwritten_text unwritten.Differs = line (codes "tvla: the compiled program can't be written as a text")
+
+-- the text that tells an ending to whom called: as of `tvla`, but for the words, what they name, and compiled
+-- programs
 abbrev pub text_of : Ending → List ℕ
 text_of (As status.Usage) = usage_text
 text_of (As other) = told_text other
+text_of Lost = []
 text_of (Absent what) = absent_text what
+text_of (Unwritable why) = unwritten_text why

@@ -11,21 +11,23 @@ use Rattle.tv_outside.specs.Told.{Held, HoldsName}
 use Rattle.tv_status.specs.declared.status.FileKind.{FileKind}
 use Rattle.tv_status.specs.declared.status.Role.{Role}
 use Rattle.tv_status.specs.declared.status.Role.TheVariants as role
-use Rattle.tv_texts.specs.Files.{GathersSuch, IsInitialFile, IsProgramFile, IsReportFile, LacksFile}
+use Rattle.tv_texts.specs.Files.{GathersSuch, IsInitialFile, IsProgramFile, IsReportFile, IsSourceFile}
+use Rattle.tv_texts.specs.Files.{LacksFile}
 use Rattle.tv_texts.specs.Meaning.{MeansProgram}
 use Rattle.tv_tree.specs.Forms.{ProgramForm as TreeForm}
 use Rattle.tv_explain.specs.declared.inputs.Drawn.{Drawn}
 use Rattle.tv_explain.specs.declared.inputs.Inputs.{Inputs}
 use Rattle.tv_explain_words.specs.Words.{AnalyzedForm, CommandForm, Shows, ListsEdges, TellsMessage}
-use Rattle.tv_explain_words.specs.Words.{TellsStructure, TellsLosses}
+use Rattle.tv_explain_words.specs.Words.{TellsStructure, TellsLosses, Compiles}
 
--- the file of the command's program
+-- the file of the command's program, or of its source program
 abbrev pub program_name : CommandForm → List ℕ
 program_name (Shows program report) = program
 program_name (ListsEdges program) = program
 program_name (TellsMessage of edge number) = of.program
 program_name (TellsStructure of node index) = of.program
 program_name (TellsLosses of) = of.program
+program_name (Compiles source) = source
 
 -- ---- a program with its edges as they are written
 
@@ -72,6 +74,8 @@ IsNoInitial told of kind = (drawn : Drawn) × IsDrawnFile told of.delta of.progr
 
 -- the file of this role is the first that means nothing, for this reason
 abbrev pub IsRefused : Option Held → CommandForm → Role → FileKind → Type 0
+IsRefused told (Compiles source) role.Source kind = IsSourceFile told source (Err kind)
+IsRefused told (Compiles source) other kind = ⊥
 IsRefused told command role.Program kind = IsProgramFile told (program_name command) (Err kind)
 IsRefused told (Shows program report) role.Report kind = (p : Program) × IsProgramFile told program (Ok p)
     × IsReportFile told report p (Err kind)
@@ -95,6 +99,7 @@ IsMissing told (ListsEdges program) = LacksFile told program
 IsMissing told (TellsMessage of edge number) = LacksInputs told of
 IsMissing told (TellsStructure of node index) = LacksInputs told of
 IsMissing told (TellsLosses of) = LacksInputs told of
+IsMissing told (Compiles source) = ¬ HoldsName told source
 
 abbrev pub HoldsInputs : Option Held → AnalyzedForm → Type 0
 HoldsInputs told of = (¬ LacksFile told of.program) × HoldsName told of.initial
@@ -106,3 +111,4 @@ HoldsFiles told (ListsEdges program) = ¬ LacksFile told program
 HoldsFiles told (TellsMessage of edge number) = HoldsInputs told of
 HoldsFiles told (TellsStructure of node index) = HoldsInputs told of
 HoldsFiles told (TellsLosses of) = HoldsInputs told of
+HoldsFiles told (Compiles source) = HoldsName told source

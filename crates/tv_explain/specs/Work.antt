@@ -1,6 +1,8 @@
 -- What the parts of the work give.
 use Rattle.std.specs.List.{AllZip}
-use Rattle.std.specs.Prelude.{◌≡◌, ℕ, Bool, true, false, List, Option, Ok, Err, All}
+use Rattle.std.specs.Prelude.{◌≡◌, ℕ, Bool, true, false, List, Option, Result, Ok, Err, All}
+use Rattle.std.specs.declared.alloc.Global.{Global}
+use Rattle.std.specs.declared.vec.Vec.{Vec}
 use Rattle.tv_delta_laws.specs.Differences.{IsDifferenced}
 use Rattle.tv_edge_laws.specs.Edges.{IsEdgeOf}
 use Rattle.tv_front.specs.Meaning.{HasTree}
@@ -18,6 +20,7 @@ use Rattle.tv_texts.specs.Files.{IsProgramFile}
 use Rattle.tv_texts.specs.Meaning.{MeansProgram}
 use Rattle.tv_tree.specs.Copies.{program_of as tree_of}
 use Rattle.tv_explain.specs.Meaning.{IsDrawnText, IsNoInitial, LacksInputs}
+use Rattle.tv_explain.specs.declared.fault.Answer.{Answer}
 use Rattle.tv_explain.specs.declared.fault.Fault.{Fault}
 use Rattle.tv_explain.specs.declared.fault.Fault.TheVariants.{FileFault, ReadFault, Memory}
 use Rattle.tv_explain.specs.declared.inputs.Drawn.{Drawn}
@@ -57,3 +60,8 @@ IsInputsCause told of rose steady (FileFault role.Initial kind) = IsNoInitial to
 IsInputsCause told of rose steady ReadFault = rose × (steady → LacksInputs told of)
 IsInputsCause told of rose steady Memory = Unit {0}
 IsInputsCause told of rose steady other = ⊥
+
+-- the text that was found, as an answer that tells of nothing lost
+abbrev pub plain : Result (Vec ℕ Global) Fault → Result Answer Fault
+plain (Ok text) = Ok (record { text = text; is_lost = false })
+plain (Err fault) = Err fault

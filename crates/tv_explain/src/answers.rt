@@ -1,22 +1,24 @@
-//! What is told of a message and of a structure, as texts.
+//! What is told of a message, of a structure and of losses.
 
 ghost use Rattle.std.specs.Prelude.{◌≡◌, ◌<◌, ◌^◌, ℕ, Contains, IfErr, IfNone, IfOk, IfSome, Some, codes};
 ghost use Rattle.std.specs.Prelude.{◌++◌, ◌↔◌, IsTrue, length, slice_get};
 ghost use Rattle.tv_model.specs.Program.{message_of};
 ghost use Rattle.tv_trail.specs.Over.{IsTrailOver};
 ghost use Rattle.tv_explain.specs.Answers.{IsMessageText, IsStopped, IsStructureText, NamesNothing};
-ghost use Rattle.tv_explain.specs.Answers.{trail_lines};
+ghost use Rattle.tv_explain.specs.Answers.{TellsOfLosses, trail_lines};
 ghost use Rattle.tv_explain.specs.Meaning.{form_in, heads_in};
 ghost use Rattle.tv_explain.specs.Work.{AreReady};
 ghost use Rattle.tv_explain_text.specs.Texts.{messages_at};
 ghost use Rattle.tv_explain_text.specs.Trails.{raised_line};
-ghost use Rattle.tv_explain_words.specs.Words.{AnalyzedForm, TellsMessage, TellsStructure, analyzed_of};
+ghost use Rattle.tv_explain_words.specs.Words.{AnalyzedForm, TellsLosses, TellsMessage, TellsStructure};
+ghost use Rattle.tv_explain_words.specs.Words.{analyzed_of};
 
-use crate::fault::{Fault, Sought, fault_of_work};
+use crate::fault::{Answer, Fault, Sought, fault_of_work};
 use crate::inputs::Inputs;
 use std::alloc::{AllocError, Global};
 use tv_explain_text::{Told, messages_at, raised_text, trail_text};
 use tv_explain_words::Analyzed;
+use tv_losses_text::explain_losses;
 use tv_model::{Bytes, Message};
 use tv_reasons::{Raised, trail_to_listed, trail_to_message};
 
@@ -159,5 +161,23 @@ pub fn structure_text(
         Err(error) => Err(fault_of_work(error, of.max)),
         Ok(None) => Err(Fault::NotThere(Sought::Structure)),
         Ok(Some(trail)) => Ok(trail_text(alloc, program, &inputs.drawn.heads, &trail)?),
+    }
+}
+
+/// What the analysis loses.
+pub fn losses_answer(alloc: Global, inputs: &Inputs, of: &Analyzed) -> Result<Answer, Fault>
+    requires { AreReady inputs.now }
+    ensures found { IfOk result (TellsOfLosses (analyzed_of of.now) inputs.now) }
+    ensures cause { IfErr result
+        (IsStopped (TellsLosses (analyzed_of of.now)) (analyzed_of of.now) inputs.now) }
+{
+    let program = &inputs.drawn.program;
+    let heads = &inputs.drawn.heads;
+    match explain_losses(alloc, program, heads, &inputs.initial, of.mode, of.max) {
+        Err(error) => Err(fault_of_work(error, of.max)),
+        Ok(report) => Ok(Answer {
+            text: report.text,
+            is_lost: report.is_any,
+        }),
     }
 }

@@ -1,20 +1,22 @@
-//! The end of a call: its text goes out, or why there is none.
+//! The end of a call: its answer goes out, or why there is none.
 
 ghost use Rattle.std.specs.Prelude.{◌≡◌, ◌≤◌, OnOk, OnErr};
 ghost use Rattle.tv_outside.specs.Count.{Rose, FailedLast};
 ghost use Rattle.tv_outside.specs.Told.{appended, TookFront};
 ghost use Rattle.tv_explain.specs.Delivery.{GivesText, IsDelivered, StopsAtFailure, Takes};
-ghost use Rattle.tv_explain.specs.Faults.{absent_text, text_of, usage_text};
+ghost use Rattle.tv_explain.specs.Faults.{absent_text, ending_with, text_of, unwritten_text, usage_text};
 
-use crate::fault::{Ending, Fault, Sought};
+use crate::fault::{Answer, Ending, Fault, Sought, Unwritten};
 use tv_outside::{Failed, Sink, write_all};
 use tv_status::{Status, write_status};
 
 const USAGE: &[u8] =
     b"usage: tvla-explain message PROGRAM INITIAL EDGE NUMBER [--max-structures N] [--recompute | --delta]
        tvla-explain structure PROGRAM INITIAL NODE INDEX [--max-structures N] [--recompute | --delta]
+       tvla-explain losses PROGRAM INITIAL [--max-structures N] [--recompute | --delta]
        tvla-explain show PROGRAM REPORT
        tvla-explain edges PROGRAM
+       tvla-explain compiled SOURCE
 ";
 
 /// Gives the usage text to the sink; takes no memory.
@@ -48,6 +50,32 @@ fn write_absent<E: Sink>(err: &mut E, what: Sought) -> Result<(), Failed>
     }
 }
 
+/// Gives the text that tells why a compiled program isn't written to the sink; takes no memory.
+fn write_unwritten<E: Sink>(err: &mut E, why: Unwritten) -> Result<(), Failed>
+    ensures all { OnOk result (E.taken err.new ≡ appended (E.taken err.old) (unwritten_text why)) }
+    ensures failed { OnErr result (Rose (E.faults err.old) (E.faults err.new)) }
+    ensures front { OnErr result (TookFront (E.taken err.old) (E.taken err.new) (unwritten_text why)) }
+    ensures no_failure { OnOk result (E.failures err.new ≡ E.failures err.old) }
+    ensures failed_last { OnErr result
+        (FailedLast (E.failures err.old) (E.failures err.new) (E.since err.new)) }
+    ensures count { E.faults err.old ≤ E.faults err.new }
+{
+    match why {
+        Unwritten::TooLong => {
+            write_all(
+                err,
+                b"tvla: the compiled program is too long to be written\n",
+            )
+        }
+        Unwritten::Differs => {
+            write_all(
+                err,
+                b"tvla: the compiled program can't be written as a text\n",
+            )
+        }
+    }
+}
+
 /// Gives the text of the ending to the sink; takes no memory.
 fn write_text<E: Sink>(err: &mut E, ending: Ending) -> Result<(), Failed>
     ensures all { OnOk result (E.taken err.new ≡ appended (E.taken err.old) (text_of ending)) }
@@ -61,7 +89,9 @@ fn write_text<E: Sink>(err: &mut E, ending: Ending) -> Result<(), Failed>
     match ending {
         Ending::As(Status::Usage) => write_usage(err),
         Ending::As(status) => write_status(err, status),
+        Ending::Lost => write_all(err, b""),
         Ending::Absent(what) => write_absent(err, what),
+        Ending::NotWritten(why) => write_unwritten(err, why),
     }
 }
 
@@ -78,9 +108,10 @@ fn tell<E: Sink>(err: &mut E, ending: Ending) -> Ending
     }
 }
 
-/// Gives the text to `out`, or tells `err` that `out` failed.
-fn give<O: Sink, E: Sink>(text: &[u8], out: &mut O, err: &mut E) -> Ending
-    ensures gives { GivesText text.now result (Rose (O.faults out.old) (O.faults out.new)) (Rose
+/// Gives the answer's text to `out`, or tells `err` that `out` failed.
+fn give<O: Sink, E: Sink>(answer: &Answer, out: &mut O, err: &mut E) -> Ending
+    ensures gives { GivesText answer.now.text.items (ending_with answer.now.is_lost) result
+        (Rose (O.faults out.old) (O.faults out.new)) (Rose
         (E.faults err.old) (E.faults err.new)) (O.taken out.old) (O.taken out.new) (E.taken err.old)
         (E.taken err.new) }
     ensures out_stops { StopsAtFailure (O.failures out.old) (O.failures out.new) (O.since out.new) }
@@ -88,14 +119,14 @@ fn give<O: Sink, E: Sink>(text: &[u8], out: &mut O, err: &mut E) -> Ending
     ensures out_count { O.faults out.old ≤ O.faults out.new }
     ensures err_count { E.faults err.old ≤ E.faults err.new }
 {
-    match write_all(out, text) {
-        Ok(()) => Ending::As(Status::Done),
+    match write_all(out, &answer.text) {
+        Ok(()) => Ending::with(answer.is_lost),
         Err(_) => tell(err, Ending::As(Status::WriteFault)),
     }
 }
 
-/// Gives the text that was found to `out`, or tells `err` why there is none or why it couldn't be written.
-pub fn deliver<O: Sink, E: Sink>(found: Result<Vec<u8>, Fault>, out: &mut O, err: &mut E) -> Ending
+/// Gives the answer that was found to `out`, or tells `err` why there is none or why it couldn't be written.
+pub fn deliver<O: Sink, E: Sink>(found: Result<Answer, Fault>, out: &mut O, err: &mut E) -> Ending
     ensures gives { IsDelivered found result (Rose (O.faults out.old) (O.faults out.new)) (Rose
         (E.faults err.old) (E.faults err.new)) (O.taken out.old) (O.taken out.new) (E.taken err.old)
         (E.taken err.new) }
@@ -105,7 +136,7 @@ pub fn deliver<O: Sink, E: Sink>(found: Result<Vec<u8>, Fault>, out: &mut O, err
     ensures err_count { E.faults err.old ≤ E.faults err.new }
 {
     match found {
-        Ok(text) => give(&text, out, err),
+        Ok(answer) => give(&answer, out, err),
         Err(fault) => tell(err, Ending::from(fault)),
     }
 }

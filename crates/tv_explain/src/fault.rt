@@ -1,10 +1,13 @@
-//! Why the work of a call gives no text, and how the call ends.
+//! What the work of a call gives, or why it gives nothing, and how the call ends.
 
 ghost use Rattle.std.specs.Prelude.{◌≡◌};
-ghost use Rattle.tv_explain.specs.Faults.{code_of, ending_of, fault_of_text, fault_of_work};
+ghost use Rattle.tv_explain.specs.Faults.{code_of, ending_of, ending_with, fault_of_text, fault_of_work};
+ghost use Rattle.tv_explain.specs.Faults.{fault_of_writing};
+ghost use Rattle.tv_explain.specs.Work.{plain};
 ghost use Rattle.tv_explain.specs.declared.fault.Fault.TheVariants.{Memory};
 
 use std::alloc::AllocError;
+use tv_compiled::CompiledError;
 use tv_status::{FileKind, Role, Status};
 use tv_texts::TextFault;
 use tv_work::WorkError;
@@ -22,7 +25,34 @@ pub enum Sought {
     Structure,
 }
 
-/// Why the work gave no text.
+/// What a command gives: a text, and whether that tells of anything lost, as `losses` alone may do.
+#[derive(Debug, Drop)]
+pub struct Answer {
+    pub text: Vec<u8>,
+    pub is_lost: bool,
+}
+
+/// The text that was found as an answer that tells of nothing lost.
+pub fn plain(found: Result<Vec<u8>, Fault>) -> Result<Answer, Fault>
+    ensures { result ≡ plain found }
+{
+    let text = found?;
+    Ok(Answer {
+        text,
+        is_lost: false,
+    })
+}
+
+/// Why a compiled program isn't written.
+#[derive(Clone, Copy, Debug, PartialEq, Eq)]
+pub enum Unwritten {
+    /// Its text has more bytes than a file may have that is read as a program.
+    TooLong,
+    /// Its text doesn't mean it.
+    Differs,
+}
+
+/// Why the work gave no answer.
 #[derive(Clone, Copy, Debug, PartialEq, Eq)]
 pub enum Fault {
     /// The words spell no command.
@@ -37,6 +67,8 @@ pub enum Fault {
     TooManyIndividuals,
     /// What the words name isn't there.
     NotThere(Sought),
+    /// A compiled program isn't written.
+    NotWritten(Unwritten),
     /// A file could not be read.
     ReadFault,
     /// Memory ran out.
@@ -48,18 +80,36 @@ pub enum Fault {
 pub enum Ending {
     /// As a call of `tvla` with this status.
     As(Status),
+    /// As done, but what was given tells of a loss.
+    Lost,
     /// What the words name isn't there.
     Absent(Sought),
+    /// A compiled program isn't written.
+    NotWritten(Unwritten),
 }
 
 impl Ending {
-    /// The exit code of the process: that of `tvla`'s status; 2 where the words name what isn't there.
+    /// The ending of a call whose answer was given, which tells of a loss or doesn't.
+    pub fn with(is_lost: bool) -> Ending
+        ensures { result ≡ ending_with is_lost }
+    {
+        if is_lost {
+            Ending::Lost
+        } else {
+            Ending::As(Status::Done)
+        }
+    }
+
+    /// The exit code of the process: that of `tvla`'s status; 1 where something is lost, 2 where the words
+    /// name what isn't there, 4 where a compiled program isn't written.
     pub fn code(&self) -> u8
         ensures { result ≡ code_of self.now }
     {
         match self {
             Ending::As(status) => status.code(),
+            Ending::Lost => 1,
             Ending::Absent(_) => 2,
+            Ending::NotWritten(_) => 4,
         }
     }
 }
@@ -75,6 +125,7 @@ impl From<Fault> for Ending {
             Fault::TooManySplits => Ending::As(Status::TooManySplits),
             Fault::TooManyIndividuals => Ending::As(Status::TooManyIndividuals),
             Fault::NotThere(what) => Ending::Absent(what),
+            Fault::NotWritten(why) => Ending::NotWritten(why),
             Fault::ReadFault => Ending::As(Status::ReadFault),
             Fault::Memory => Ending::As(Status::Memory),
         }
@@ -109,6 +160,18 @@ impl From<TextFault> for Fault {
             TextFault::Refused(role, kind) => Fault::FileFault(role, kind),
             TextFault::NotRead => Fault::ReadFault,
             TextFault::Memory => Fault::Memory,
+        }
+    }
+}
+
+impl From<CompiledError> for Fault {
+    ghost from_gives = { λ error fault. fault ≡ fault_of_writing error };
+
+    fn from(error: CompiledError) -> Fault {
+        match error {
+            CompiledError::TooLong => Fault::NotWritten(Unwritten::TooLong),
+            CompiledError::Differs => Fault::NotWritten(Unwritten::Differs),
+            CompiledError::Memory => Fault::Memory,
         }
     }
 }

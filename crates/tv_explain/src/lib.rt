@@ -4,8 +4,9 @@
 ghost use Rattle.std.specs.Prelude.{◌≡◌, ◌≤◌};
 ghost use Rattle.tv_outside.specs.Count.{Rose};
 ghost use Rattle.tv_explain.specs.Begins.{BeginsFor, OnAnswer};
-ghost use Rattle.tv_explain.specs.Call.{Commands, HasDone, HoldsOperands, SpellsNoneGiven, UnlessFault};
+ghost use Rattle.tv_explain.specs.Call.{Commands, HasDone, HoldsOperands, UnlessFault};
 ghost use Rattle.tv_explain.specs.Delivery.{StopsAtFailure};
+ghost use Rattle.tv_explain_words.specs.Words.{SpellsNothing};
 ghost use Rattle.tv_words.specs.Words.{words_of};
 
 mod answers;
@@ -14,7 +15,7 @@ mod fault;
 mod inputs;
 mod work;
 
-pub use fault::{Ending, Sought};
+pub use fault::{Ending, Sought, Unwritten};
 use std::alloc::Global;
 use tv_explain_words::one_command;
 use tv_outside::{Files, Sink};
@@ -22,10 +23,11 @@ pub use tv_status::{FileKind, Role, Status};
 
 /// Does all that the program does: `words` are the words after its name.
 ///
-/// The work is done in this order: the words are read; PROGRAM is gathered and understood; for `show` REPORT
-/// is read and understood, for `message` and `structure` INITIAL; what the words name is looked for, and the
-/// analysis runs; the text is put together and given to `out` whole. The first fault ends the call, and its
-/// text is given to `err`.
+/// The work is done in this order: the words are read; PROGRAM is gathered and understood, or for `compiled`
+/// SOURCE is read and compiled; for `show` REPORT is read and understood, for `message`, `structure` and
+/// `losses` INITIAL; what the words name is looked for, and the analysis runs; the text is put together and
+/// given to `out` whole. The first fault ends the call, and its text is given to `err`. Where the text tells
+/// of a loss the call ends as `Lost`.
 pub fn explain<F: Files, O: Sink, E: Sink>(
     alloc: Global,
     words: &[String],
@@ -45,7 +47,7 @@ pub fn explain<F: Files, O: Sink, E: Sink>(
 
     // What was read: nothing without a command; where an answer is given, as many files were begun as the
     // command asks for; and steady files that hold what is asked for don't fail, and stay steady.
-    ensures unread { SpellsNoneGiven (words_of words.now) → files.new ≡ files.old }
+    ensures unread { SpellsNothing (words_of words.now) → files.new ≡ files.old }
     ensures held { F.steady files.old → HoldsOperands (words_of words.now) (F.holds files.old)
         → F.steady files.new × (F.faults files.new ≡ F.faults files.old) }
     ensures begins { OnAnswer result (Commands (words_of words.now)

@@ -1,21 +1,23 @@
-//! The work of a command, up to the text that it gives.
+//! The work of a command, up to the answer that it gives.
 
 ghost use Rattle.std.specs.Prelude.{◌≡◌, ◌≤◌, IfOk, IfErr, OnOk};
 ghost use Rattle.tv_outside.specs.Count.{Rose};
-ghost use Rattle.tv_explain.specs.Call.{Commands, IsAnswerTo, IsCause, IsCommandCause, IsOwed};
-ghost use Rattle.tv_explain.specs.Call.{SpellsNoneGiven, UnlessReadFault};
+ghost use Rattle.tv_explain.specs.Call.{Commands, IsAnswerTo, IsCause, IsCommandCause, UnlessReadFault};
 ghost use Rattle.tv_explain.specs.Begins.{BeginsFor};
-ghost use Rattle.tv_explain.specs.Answers.{IsAnswer};
-ghost use Rattle.tv_explain_words.specs.Words.{Shows, ListsEdges, TellsMessage, TellsStructure};
-ghost use Rattle.tv_explain_words.specs.Words.{analyzed_of, form_of};
+ghost use Rattle.tv_explain.specs.Answers.{IsAnswer, IsText};
+ghost use Rattle.tv_explain_words.specs.Words.{Shows, ListsEdges, Compiles, SpellsNothing, TellsLosses};
+ghost use Rattle.tv_explain_words.specs.Words.{TellsMessage, TellsStructure, analyzed_of, form_of};
 ghost use Rattle.tv_words.specs.Words.{words_of};
 
-use crate::answers::{message_text, structure_text};
-use crate::fault::Fault;
+use crate::answers::{losses_answer, message_text, structure_text};
+use crate::fault::{Answer, Fault, plain};
 use crate::inputs::{load_drawn, load_inputs};
 use std::alloc::Global;
+use tv_compiled::compiled_text;
+use tv_compiled_laws::compiled_texts_are_programs;
+use tv_explain_source::load_source_text;
 use tv_explain_text::{edges_text, shown_text};
-use tv_explain_words::{Analyzed, Command, one_command, read_words};
+use tv_explain_words::{Analyzed, Command, read_words};
 use tv_outside::Files;
 use tv_texts::{load_program, load_report};
 
@@ -28,7 +30,7 @@ fn show<F: Files>(
     report: &str,
 ) -> Result<Vec<u8>, Fault>
     ensures found { IfOk result
-        (λ text. IsAnswer (F.holds files.old) (Shows program.now report.now) text.items) }
+        (λ text. IsText (F.holds files.old) (Shows program.now report.now) text.items) }
     ensures cause { IfErr result (IsCommandCause (F.holds files.old) (Shows program.now report.now)
         (Rose (F.faults files.old) (F.faults files.new)) (F.steady files.old)) }
     ensures holds { F.holds files.new ≡ F.holds files.old }
@@ -47,7 +49,7 @@ fn show<F: Files>(
 #[tactic(auto, using(crate::proofs::Causes::holds_unless))]
 fn edges<F: Files>(alloc: Global, files: &mut F, program: &str) -> Result<Vec<u8>, Fault>
     ensures found { IfOk result
-        (λ text. IsAnswer (F.holds files.old) (ListsEdges program.now) text.items) }
+        (λ text. IsText (F.holds files.old) (ListsEdges program.now) text.items) }
     ensures cause { IfErr result (IsCommandCause (F.holds files.old) (ListsEdges program.now)
         (Rose (F.faults files.old) (F.faults files.new)) (F.steady files.old)) }
     ensures holds { F.holds files.new ≡ F.holds files.old }
@@ -70,7 +72,7 @@ fn message<F: Files>(
     edge: u32,
     number: u32,
 ) -> Result<Vec<u8>, Fault>
-    ensures found { IfOk result (λ text. IsAnswer (F.holds files.old)
+    ensures found { IfOk result (λ text. IsText (F.holds files.old)
         (TellsMessage (analyzed_of of.now) edge number) text.items) }
     ensures cause { IfErr result (IsCommandCause (F.holds files.old)
         (TellsMessage (analyzed_of of.now) edge number)
@@ -95,7 +97,7 @@ fn structure<F: Files>(
     node: &str,
     index: u32,
 ) -> Result<Vec<u8>, Fault>
-    ensures found { IfOk result (λ text. IsAnswer (F.holds files.old)
+    ensures found { IfOk result (λ text. IsText (F.holds files.old)
         (TellsStructure (analyzed_of of.now) node.now index) text.items) }
     ensures cause { IfErr result (IsCommandCause (F.holds files.old)
         (TellsStructure (analyzed_of of.now) node.now index)
@@ -111,13 +113,47 @@ fn structure<F: Files>(
     structure_text(alloc, &inputs, of, node, index)
 }
 
-/// What the command gives.
-fn execute<F: Files>(alloc: Global, files: &mut F, command: &Command) -> Result<Vec<u8>, Fault>
+/// What the analysis loses.
+#[tactic(auto, using(crate::proofs::Causes::holds_unless))]
+fn losses<F: Files>(alloc: Global, files: &mut F, of: &Analyzed) -> Result<Answer, Fault>
+    ensures found { IfOk result (IsAnswer (F.holds files.old) (TellsLosses (analyzed_of of.now))) }
+    ensures cause { IfErr result (IsCommandCause (F.holds files.old) (TellsLosses (analyzed_of of.now))
+        (Rose (F.faults files.old) (F.faults files.new)) (F.steady files.old)) }
+    ensures holds { F.holds files.new ≡ F.holds files.old }
+    ensures begins { OnOk result (BeginsFor (F.holds files.old) (F.begins files.old) (F.begins files.new)
+        (TellsLosses (analyzed_of of.now))) }
+    ensures count { F.faults files.old ≤ F.faults files.new }
+    ensures steady { F.steady files.old → UnlessReadFault result (F.steady files.new
+        × (F.faults files.new ≡ F.faults files.old)) }
+{
+    let inputs = load_inputs(alloc, files, of)?;
+    losses_answer(alloc, &inputs, of)
+}
+
+/// The program that the source program of the named file is compiled to.
+#[tactic(auto, using(crate::proofs::Causes::holds_unless))]
+fn compiled<F: Files>(alloc: Global, files: &mut F, source: &str) -> Result<Vec<u8>, Fault>
     ensures found { IfOk result
-        (λ text. IsAnswer (F.holds files.old) (form_of command.now) text.items) }
+        (λ text. IsText (F.holds files.old) (Compiles source.now) text.items) }
+    ensures cause { IfErr result (IsCommandCause (F.holds files.old) (Compiles source.now)
+        (Rose (F.faults files.old) (F.faults files.new)) (F.steady files.old)) }
+    ensures holds { F.holds files.new ≡ F.holds files.old }
+    ensures begins { OnOk result (BeginsFor (F.holds files.old) (F.begins files.old) (F.begins files.new)
+        (Compiles source.now)) }
+    ensures count { F.faults files.old ≤ F.faults files.new }
+    ensures steady { F.steady files.old → UnlessReadFault result (F.steady files.new
+        × (F.faults files.new ≡ F.faults files.old)) }
+{
+    compiled_texts_are_programs();
+    let read = load_source_text(alloc, files, source)?;
+    Ok(compiled_text(alloc, &read.bytes, &read.tokens, &read.program)?)
+}
+
+/// What the command gives.
+fn execute<F: Files>(alloc: Global, files: &mut F, command: &Command) -> Result<Answer, Fault>
+    ensures found { IfOk result (IsAnswer (F.holds files.old) (form_of command.now)) }
     ensures cause { IfErr result (IsCommandCause (F.holds files.old) (form_of command.now)
         (Rose (F.faults files.old) (F.faults files.new)) (F.steady files.old)) }
-    ensures unread { IsOwed (form_of command.now) → files.new ≡ files.old }
     ensures holds { F.holds files.new ≡ F.holds files.old }
     ensures begins { OnOk result (BeginsFor (F.holds files.old) (F.begins files.old) (F.begins files.new)
         (form_of command.now)) }
@@ -126,22 +162,22 @@ fn execute<F: Files>(alloc: Global, files: &mut F, command: &Command) -> Result<
         × (F.faults files.new ≡ F.faults files.old)) }
 {
     match command {
-        Command::Show { program, report } => show(alloc, files, program, report),
-        Command::Edges { program } => edges(alloc, files, program),
-        Command::Message { of, edge, number } => message(alloc, files, of, *edge, *number),
-        Command::Structure { of, node, index } => structure(alloc, files, of, node, *index),
-        Command::Losses { .. } => Err(Fault::Usage),
+        Command::Show { program, report } => plain(show(alloc, files, program, report)),
+        Command::Edges { program } => plain(edges(alloc, files, program)),
+        Command::Message { of, edge, number } => plain(message(alloc, files, of, *edge, *number)),
+        Command::Structure { of, node, index } => plain(structure(alloc, files, of, node, *index)),
+        Command::Losses { of } => losses(alloc, files, of),
+        Command::Compiled { source } => plain(compiled(alloc, files, source)),
     }
 }
 
 /// What the words ask for, or why they get nothing.
 #[tactic(auto, using(crate::proofs::Causes::spelled_answer, crate::proofs::Causes::holds_unless))]
-pub fn perform<F: Files>(alloc: Global, words: &[String], files: &mut F) -> Result<Vec<u8>, Fault>
-    ensures found { IfOk result
-        (λ text. IsAnswerTo (words_of words.now) (F.holds files.old) text.items) }
+pub fn perform<F: Files>(alloc: Global, words: &[String], files: &mut F) -> Result<Answer, Fault>
+    ensures found { IfOk result (IsAnswerTo (words_of words.now) (F.holds files.old)) }
     ensures cause { IfErr result (IsCause (words_of words.now) (F.holds files.old)
         (Rose (F.faults files.old) (F.faults files.new)) (F.steady files.old)) }
-    ensures unread { SpellsNoneGiven (words_of words.now) → files.new ≡ files.old }
+    ensures unread { SpellsNothing (words_of words.now) → files.new ≡ files.old }
     ensures holds { F.holds files.new ≡ F.holds files.old }
     ensures begins { OnOk result (Commands (words_of words.now)
         (BeginsFor (F.holds files.old) (F.begins files.old) (F.begins files.new))) }
@@ -149,7 +185,6 @@ pub fn perform<F: Files>(alloc: Global, words: &[String], files: &mut F) -> Resu
     ensures steady { F.steady files.old → UnlessReadFault result (F.steady files.new
         × (F.faults files.new ≡ F.faults files.old)) }
 {
-    one_command();
     let Some(command) = read_words(alloc, words)? else {
         return Err(Fault::Usage);
     };

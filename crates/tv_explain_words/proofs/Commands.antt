@@ -11,7 +11,8 @@ use Rattle.tv_words.specs.Words.{LineForm, StandsOn, line_of, line_flags, line_s
 use Rattle.tv_words.proofs.Commands.{AreAlike, turned, same_flags, same_max, one_form, there, told, one_mode}
 use Rattle.tv_words.proofs.Commands.{one_bool, one_max, operand}
 use Rattle.tv_explain_words.specs.Words.{AnalyzedForm, CommandForm, Shows, ListsEdges, TellsMessage}
-use Rattle.tv_explain_words.specs.Words.{TellsStructure, TellsLosses, HasOptions, IsNumber, IsPlain, Says}
+use Rattle.tv_explain_words.specs.Words.{TellsStructure, TellsLosses, Compiles, HasOptions, IsNumber}
+use Rattle.tv_explain_words.specs.Words.{IsPlain, Says}
 use Rattle.tv_explain_words.specs.Words.{IsSaid, NoneSaid, Spells, SpellsNothing, command_word, form_of}
 use Rattle.tv_explain_words.specs.declared.words.Command.{Command}
 
@@ -31,6 +32,7 @@ module _ (a b : LineForm) (alike : AreAlike a b) where
       (h.0, h.1, sym alike.operands ∙ h.2, same_options of h.3, h.4, h.5)
   same_said (TellsStructure of node index) h = (h.0, sym alike.operands ∙ h.1, same_options of h.2, h.3)
   same_said (TellsLosses of) h = (sym alike.operands ∙ h.0, same_options of h.1)
+  same_said (Compiles source) h = (sym alike.operands ∙ h.0, same_plain h.1)
 
 -- ---- what stands on the words
 
@@ -131,6 +133,9 @@ one_said line (TellsStructure of node index) (TellsStructure of' node' index') n
 one_said line (TellsLosses of) (TellsLosses of') named a b =
     let names : of.program ∷ of.initial ∷ [] ≡ of'.program ∷ of'.initial ∷ [] = sym a.0 ∙ b.0 in
     ap TellsLosses (one_asked line of of' (ap (operand 0) names) (ap (operand 1) names) a.1 b.1)
+one_said line (Compiles source) (Compiles source') named a b =
+    let names : source ∷ [] ≡ source' ∷ [] = sym a.0 ∙ b.0 in
+    λ i. Compiles (operand 0 (names i))
 one_said line a b named x y = absurd (omega (arith, ap first_byte named, ap second_byte named))
 
 pub one_spelled : (words : List (List ℕ)) (a b : CommandForm) → Spells words a → Spells words b → a ≡ b

@@ -7,6 +7,7 @@ use Rattle.tv_words.specs.Words.{HasFlags, IsMax, LineForm, StandsOn}
 use Rattle.tv_explain_words.specs.declared.words.Analyzed.{Analyzed}
 use Rattle.tv_explain_words.specs.declared.words.Command.{Command}
 use Rattle.tv_explain_words.specs.declared.words.Command.TheVariants.{Show, Edges, Message, Structure, Losses}
+use Rattle.tv_explain_words.specs.declared.words.Command.TheVariants.{Compiled}
 
 -- what an analysis is asked, its files named by bytes: as for `tvla analyze`
 pub record AnalyzedForm : Type 0 where
@@ -32,6 +33,7 @@ pub data CommandForm : Type 0 where
   TellsMessage : (of : AnalyzedForm) → (edge number : ℕ) → CommandForm
   TellsStructure : (of : AnalyzedForm) → (node : List ℕ) → (index : ℕ) → CommandForm
   TellsLosses : (of : AnalyzedForm) → CommandForm
+  Compiles : (source : List ℕ) → CommandForm
 
 abbrev pub form_of : Command → CommandForm
 form_of (Show program report) = Shows (string_bytes program) (string_bytes report)
@@ -39,6 +41,7 @@ form_of (Edges program) = ListsEdges (string_bytes program)
 form_of (Message of edge number) = TellsMessage (analyzed_of of) edge number
 form_of (Structure of node index) = TellsStructure (analyzed_of of) (string_bytes node) index
 form_of (Losses of) = TellsLosses (analyzed_of of)
+form_of (Compiled source) = Compiles (string_bytes source)
 
 -- this is said of the command
 abbrev pub SaidOf : (CommandForm → Type 0) → Command → Type 0
@@ -51,6 +54,7 @@ command_word (ListsEdges program) = codes "edges"
 command_word (TellsMessage of edge number) = codes "message"
 command_word (TellsStructure of node index) = codes "structure"
 command_word (TellsLosses of) = codes "losses"
+command_word (Compiles source) = codes "compiled"
 
 -- the word is this number, without sign or leading zero
 abbrev pub IsNumber : (word : List ℕ) → (number : ℕ) → Type 0
@@ -75,6 +79,7 @@ Says line (TellsMessage of edge number) = (e n : List ℕ)
 Says line (TellsStructure of node index) = (n : List ℕ)
     × (line.operands ≡ of.program ∷ of.initial ∷ node ∷ n ∷ []) × HasOptions line of × IsNumber n index
 Says line (TellsLosses of) = (line.operands ≡ of.program ∷ of.initial ∷ []) × HasOptions line of
+Says line (Compiles source) = (line.operands ≡ source ∷ []) × IsPlain line
 
 -- a line that stands on the words says the command
 pub record IsRest (words : List (List ℕ)) (command : CommandForm) : Type 0 where

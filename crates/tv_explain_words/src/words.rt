@@ -54,6 +54,10 @@ pub enum Command {
     Losses {
         of: Analyzed,
     },
+    /// Writes the program that a source program is compiled to.
+    Compiled {
+        source: String,
+    },
 }
 
 /// The number that the word is, without sign or leading zero.
@@ -191,6 +195,23 @@ fn losses(alloc: Global, line: &Line<'_, '_>) -> Result<Option<Command>, AllocEr
     Ok(Some(Command::Losses { of }))
 }
 
+/// The command of the name `compiled` that the line says.
+fn compiled(alloc: Global, line: &Line<'_, '_>) -> Result<Option<Command>, AllocError>
+    ensures some { IfOk result
+        (λ found. IfSome found (SaidOf (IsSaid (codes "compiled") (line_in line.now)))) }
+    ensures none { IfOk result (λ found. IfNone found (NoneSaid (codes "compiled") (line_in line.now))) }
+{
+    let Some(source) = one(line.operands) else {
+        return Ok(None);
+    };
+    if !has_no_flags(line) || has_values(line.max) {
+        return Ok(None);
+    }
+    Ok(Some(Command::Compiled {
+        source: String::from_str(alloc, source)?,
+    }))
+}
+
 /// The command of that name that the line says.
 fn said(alloc: Global, name: &str, line: &Line<'_, '_>) -> Result<Option<Command>, AllocError>
     ensures some { IfOk result (λ found. IfSome found (SaidOf (IsSaid name.now (line_in line.now)))) }
@@ -202,6 +223,7 @@ fn said(alloc: Global, name: &str, line: &Line<'_, '_>) -> Result<Option<Command
         "message" => message(alloc, line),
         "structure" => structure(alloc, line),
         "losses" => losses(alloc, line),
+        "compiled" => compiled(alloc, line),
         _ => Ok(None),
     }
 }

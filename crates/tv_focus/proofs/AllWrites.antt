@@ -12,7 +12,8 @@ use Rattle.tv_focus_laws.specs.Choices.{members, members_of, member_at, copy_of}
 use Rattle.tv_focus_laws.specs.Written.{WriteForm, vector_writes, copy_writes, all_writes}
 use Rattle.tv_focus_laws.proofs.Splits.{mark-place}
 use Rattle.tv_focus.specs.Anchored.{IsAimOver}
-use Rattle.tv_focus.specs.Puts.{writes_at, set_writes, choice_writes, copy_number, aim_in}
+use Rattle.tv_focus_step_laws.specs.Above.{writes_at}
+use Rattle.tv_focus.specs.Puts.{set_writes, choice_writes, copy_number, aim_in}
 use Rattle.tv_focus.proofs.Parts.{PartsAre}
 
 -- ---- one copy

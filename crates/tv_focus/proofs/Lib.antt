@@ -1,6 +1,6 @@
 mod Aims
 mod AllWrites
-mod ChosenTables
+pub mod ChosenTables
 mod Few
 mod Filters
 mod Folds

@@ -27,9 +27,11 @@ use Rattle.tv_focus_laws.specs.Written.{AreSmall, stage_tables}
 use Rattle.tv_focus_laws.proofs.Counts.{choices_are_counted}
 use Rattle.tv_focus_laws.proofs.Splits.{IsWhole, choice-whole}
 use Rattle.tv_focus_laws.proofs.Stages.{split-anchors}
-use Rattle.tv_focus_laws.proofs.StageTables.{HasPlaces, split-places, stage_tables_are_stage}
-use Rattle.tv_focus_laws.proofs.Tables.{tables_lose_no_heap}
+use Rattle.tv_focus_laws.proofs.StageTables.{AreSplitApart, HasPlaces, split-apart, split-places}
+use Rattle.tv_focus_laws.proofs.StageTables.{stage_tables_are_stage}
+use Rattle.tv_focus_laws.proofs.Tables.{differ-range, tables_lose_no_heap}
 use Rattle.tv_focus.specs.Anchored.{IsAtomOver, AreAtomsOver, IsSplitOver}
+use Rattle.tv_focus.specs.Focused.{IsSplitAim}
 use Rattle.tv_focus.specs.Puts.{copies_in, IsChoiceOf}
 use Rattle.tv_focus.specs.Stage.{AreLimitsKept, AreSplitLimitsKept, IsSplitCause, IsStageCause}
 use Rattle.tv_focus.specs.Stage.{IsWithinLimits, KeepsHeaps}
@@ -256,3 +258,20 @@ tables-are-stage s f k pred split is over lt same_pred same_split kept =
 pub tables-keep-heaps : (s : StructureForm) (f : Form) (k : ℕ) → AreStage s f k (stage_tables s f k)
     → KeepsHeaps s (stage_tables s f k)
 tables-keep-heaps s f k are = (tables_lose_no_heap s f k (stage_tables s f k) are).heaps
+
+-- ---- aims of stages
+
+split-aim : (s : StructureForm) (pred n : ℕ) (split : SplitForm) → IsStructure s → slice_get (arities_of s) pred ≡ Some n
+    → HasPlaces n split → AreSplitAnchors (structure_of s) split → AreSplitApart split → IsSplitAim s pred split
+split-aim s pred n Nothing is knows places are apart = tt
+split-aim s pred n Whole is knows places are apart = tt
+split-aim s pred n (Each aim) is knows places are apart =
+    record { is = is; arity = knows ∙ ap Some places; anchors = are; apart = apart }
+
+pub stage-aim : (s : StructureForm) (f : Form) (k : ℕ) → IsStructure s → AreAtomsOver (arities_of s) f
+    → k < length (focus_atoms f) → IsSplitAim s (atom_at f k).pred (split_at (structure_of s) f k)
+stage-aim s f k is over lt =
+    split-aim s (atom_at f k).pred (length (atom_at f k).vars) (split_at (structure_of s) f k) is
+    (over k no_atom lt)
+    (split-places (anchors_in (structure_of s) (focus_atoms f)) (atom_at f k).vars)
+    (split-anchors (structure_of s) f k) (split-apart (structure_of s) (differ-range s.size) f k)

@@ -1,20 +1,13 @@
 -- Vectors by their first value, and what is put into a split structure, copy by copy.
 use Rattle.std.specs.Prelude.{ℕ, ◌+◌, ◌<◌, ◌≤◌, List, [], ◌∷◌, ◌++◌, length, map, take, sum, All, Contains}
-use Rattle.std.specs.Prelude.{slice_index_or}
 use Rattle.tv_kleene.specs.declared.K3.{K3}
-use Rattle.tv_kleene.specs.declared.K3.TheVariants.{No}
 use Rattle.std.specs.List.{flat_map, AllByRecursion}
 use Rattle.tv_struct.specs.StructureForm.{StructureForm, structure_of}
 use Rattle.tv_focus_laws.specs.Choices.{AimForm, Alone, Before, Behind, ChoiceForm, VectorSet, choices}
 use Rattle.tv_focus_laws.specs.Choices.{definite}
 use Rattle.tv_focus_laws.specs.Tables.{parts_of}
-use Rattle.tv_focus_laws.specs.Written.{WriteForm, vector_writes}
-
--- what is put for the i-th copy; the anchors are numbered as copies
-abbrev pub writes_at : AimForm → (i : ℕ) → List K3 → List WriteForm
-writes_at Alone i vector = record { tuple = i ∷ []; value = slice_index_or vector 0 No } ∷ []
-writes_at (Before anchors) i vector = vector_writes (λ a. i ∷ a ∷ []) anchors vector
-writes_at (Behind anchors) i vector = vector_writes (λ a. a ∷ i ∷ []) anchors vector
+use Rattle.tv_focus_laws.specs.Written.{WriteForm}
+use Rattle.tv_focus_step_laws.specs.Above.{writes_at}
 
 -- for the copies of one individual, from a number on
 abbrev pub set_writes : AimForm → (at : ℕ) → VectorSet → List WriteForm

@@ -24,7 +24,7 @@ pub enum Aim {
 }
 
 /// What focus does with an atom: nothing, make a nullary predicate definite, or split individuals.
-#[derive(Debug, Drop)]
+#[derive(Drop)]
 pub enum Split {
     Nothing,
     Whole,

@@ -107,7 +107,7 @@ fn split_by(alloc: Global, s: &Structure, parts: &[u32]) -> Result<Structure, Al
 
 /// The structure of a choice.
 #[inline(never)]
-fn chosen(
+pub fn make_choice(
     alloc: Global,
     s: &Structure,
     p: PredId,
@@ -145,7 +145,7 @@ pub fn choose(
     ensures choice { OnOk result (choice.new.items ≡ choice.old.items) }
 {
     match sets {
-        [] => out.push(chosen(alloc, s, p, aim, choice.as_slice())?),
+        [] => out.push(make_choice(alloc, s, p, aim, choice.as_slice())?),
         [first, rest @ ..] => choose_one(alloc, s, p, aim, first.as_slice(), rest, choice, out),
     }
 }

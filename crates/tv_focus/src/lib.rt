@@ -15,7 +15,13 @@ mod sets;
 mod stage;
 mod vector;
 
+pub use aim::Aim;
 pub use atoms::{FocusAtoms, atom_count};
-pub use focused::Focused;
+pub use chosen::make_choice;
+pub use count::halves_at;
+pub use focused::{Choosing, Focused};
 pub use laws::{formulas_have_atoms_over, sharp_atoms_stay};
+pub use put::put_vector;
+pub use sets::{Sets, VectorSet, copied};
 pub use stage::{focus_stage, into_focused};
+pub use vector::Vector;

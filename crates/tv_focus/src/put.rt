@@ -4,7 +4,8 @@ ghost use Rattle.std.specs.Prelude.{◌≡◌, ◌<◌, ◌≤◌, ◌+◌, ◌+
 ghost use Rattle.tv_struct.specs.StructureForm.{StructureForm, arities_of};
 ghost use Rattle.tv_focus_laws.specs.Written.{written, vector_writes};
 ghost use Rattle.tv_focus.specs.Anchored.{pair_of, IsAimOver};
-ghost use Rattle.tv_focus.specs.Puts.{writes_at, set_writes, choice_writes, copies_in};
+ghost use Rattle.tv_focus_step_laws.specs.Above.{writes_at};
+ghost use Rattle.tv_focus.specs.Puts.{set_writes, choice_writes, copies_in};
 ghost use Rattle.tv_focus.specs.Seen.{aim_of};
 
 use crate::aim::Aim;
@@ -35,7 +36,7 @@ fn put_pairs(t: &mut Structure, p: PredId, place: Place, anchors: &[u32], i: u32
 }
 
 /// Puts the vector's values at the tuples of the copy `i` that are aimed at.
-fn put_vector(t: &mut Structure, p: PredId, aim: &Aim, i: u32, vector: &Vector)
+pub fn put_vector(t: &mut Structure, p: PredId, aim: &Aim, i: u32, vector: &Vector)
     requires aim { IsAimOver t.old p.0 (aim_of aim.now) }
     requires copy { i < t.old.size }
     ensures value { t.new ≡ written t.old p.0 (writes_at (aim_of aim.now) i vector.now) }

@@ -10,7 +10,8 @@ ghost use Rattle.tv_focus_laws.specs.Stages.{atom_at, split_at};
 ghost use Rattle.tv_focus_laws.specs.Tables.{AreStage};
 ghost use Rattle.tv_focus_laws.specs.Written.{chosen_table, stage_tables, split_tables};
 ghost use Rattle.tv_focus.specs.Anchored.{AreAtomsOver, IsAimOver, IsSplitOver, pair_of};
-ghost use Rattle.tv_focus.specs.Focused.{focused_from, structures_in};
+ghost use Rattle.tv_focus.specs.Focused.{CanBeMade, IsSplitAim, focused_from, structures_in};
+ghost use Rattle.tv_focus_step_laws.specs.Above.{IsAim};
 ghost use Rattle.tv_focus.specs.Stage.{IsWithinLimits, IsStageCause, IsEachCause, AreLimitsKept};
 ghost use Rattle.tv_focus.specs.Stage.{AreSplitLimitsKept, IsSplitCause, KeepsHeaps};
 ghost use Rattle.tv_focus.specs.Seen.{aim_of, split_form};
@@ -20,7 +21,7 @@ use crate::anchors::{Place, pair};
 use crate::atoms::FocusAtoms;
 use crate::chosen::choose;
 use crate::count::{MAX_CHOICES, copy_count, few_choices};
-use crate::focused::Focused;
+use crate::focused::{Choosing, Focused};
 use crate::known::is_sharp;
 use crate::sets::{Sets, sets_of};
 use std::alloc::{AllocError, Global};
@@ -30,6 +31,9 @@ use tv_struct::{StageError, Structure, Structures, Tuple};
 
 /// The most individuals of a structure.
 const MAX_INDIVIDUALS: u32 = 256;
+
+/// So many choices are made at once: to refute some before they are made would cost more.
+const FEW_CHOICES: u32 = 8;
 
 /// The values at the pairs of an individual with the anchors.
 fn push_pairs(
@@ -206,7 +210,7 @@ fn one(alloc: Global, s: &Structure) -> Result<Structures, AllocError>
 }
 
 /// What a stage does: the predicate of its atom, and how it splits the structure.
-#[derive(Debug, Drop)]
+#[derive(Drop)]
 struct StagePlan {
     pred: PredId,
     split: Split,
@@ -295,8 +299,58 @@ pub fn focus_stage(
     }
 }
 
+/// The choices of an aim: made, where there are a few, and else ready to be made.
+#[tactic(auto, using(crate::proofs::Limits::too_many, crate::proofs::Limits::too_large, crate::proofs::Limits::limits_kept))]
+fn each_focused(alloc: Global, p: PredId, aim: Aim, s: Structure) -> Result<Focused, StageError>
+    requires over { IsAimOver s p.0 (aim_of aim) }
+    requires aim { IsAim s p.0 (aim_of aim) }
+    ensures from { IfOk result (λ focused. focused_from focused ≡ s) }
+    ensures exact { IfOk result (λ focused. structures_in focused
+        ≡ map (chosen_table s p.0 (aim_of aim)) (choices (structure_of s) p.0 (aim_of aim))) }
+    ensures ready { IfOk result CanBeMade }
+    ensures within { OnOk result (AreLimitsKept s p.0 (aim_of aim)) }
+    ensures cause { IfErr result (IsEachCause s p.0 (aim_of aim)) }
+{
+    let count = few_choices(&s, p, &aim);
+    if count > MAX_CHOICES {
+        return Err(StageError::Splits);
+    }
+    if copy_count(&s, p, &aim) > MAX_INDIVIDUALS {
+        return Err(StageError::Individuals);
+    }
+    if count <= FEW_CHOICES {
+        let structures = all_chosen(alloc, &s, p, &aim)?;
+        return Ok(Focused::Choices(s, structures));
+    }
+    let sets = all_sets(alloc, &s, p, &aim)?;
+    Ok(Focused::Many(s, Choosing { pred: p, aim, sets }))
+}
+
+/// What a split makes of a structure that isn't needed elsewhere.
+fn split_focused(alloc: Global, plan: StagePlan, s: Structure) -> Result<Focused, StageError>
+    requires over { IsSplitOver s plan.pred.0 (split_form plan.split) }
+    requires aim { IsSplitAim s plan.pred.0 (split_form plan.split) }
+    ensures from { IfOk result (λ focused. focused_from focused ≡ s) }
+    ensures exact { IfOk result
+        (λ focused. structures_in focused ≡ split_tables s plan.pred.0 (split_form plan.split)) }
+    ensures ready { IfOk result CanBeMade }
+    ensures within { OnOk result (AreSplitLimitsKept s plan.pred.0 (split_form plan.split)) }
+    ensures cause { IfErr result (IsSplitCause s plan.pred.0 (split_form plan.split)) }
+{
+    let StagePlan { pred, split } = plan;
+    match split {
+        Split::Nothing => Ok(Focused::Same(s)),
+        Split::Whole => {
+            let structures = whole(alloc, &s, pred)?;
+            Ok(Focused::Choices(s, structures))
+        }
+        Split::Each(aim) => each_focused(alloc, pred, aim, s),
+    }
+}
+
 /// The stage of a structure that isn't needed elsewhere: where the atom's values are known, it is given back
-/// as it is. Refusals are those of `focus_stage`.
+/// as it is; where there are more than a few choices, they are ready to be made. Refusals are those of
+/// `focus_stage`.
 pub fn into_focused(
     alloc: Global,
     f: &FocusAtoms<'_>,
@@ -306,14 +360,17 @@ pub fn into_focused(
     requires formula { AreAtomsOver (arities_of s) (form_of f.now) }
     requires atom { atom < length (focus_atoms (form_of f.now)) }
     ensures from { IfOk result (λ focused. focused_from focused ≡ s) }
+    ensures ready { IfOk result CanBeMade }
     ensures exact { IfOk result (λ focused. structures_in focused ≡ stage_tables s (form_of f.now) atom) }
     ensures stage { IfOk result (λ focused. AreStage s (form_of f.now) atom (structures_in focused)) }
     ensures within { OnOk result (IsWithinLimits s (form_of f.now) atom) }
     ensures cause { IfErr result (IsStageCause s (form_of f.now) atom) }
     ensures heaps { IfOk result (λ focused. KeepsHeaps s (structures_in focused)) }
 {
-    match staged(alloc, f, atom, &s)? {
-        None => Ok(Focused::Same(s)),
-        Some(structures) => Ok(Focused::Choices(s, structures)),
+    let _ = s.size();
+    let plan = planned(alloc, f, atom, &s)?;
+    if is_sharp(&s, plan.pred, &plan.split) {
+        return Ok(Focused::Same(s));
     }
+    split_focused(alloc, plan, s)
 }

@@ -27,8 +27,8 @@ pub struct Part {
 /// Conjuncts of a rule, each with how many of the rule's last variables it doesn't wait for.
 pub type Parts = Items<Part>;
 
-/// How many of the last of these variables aren't free in the formula, where that is said of all but the
-/// first.
+/// A number of the last of these variables that aren't free in the formula, where one is given for all but
+/// the first.
 #[tactic(auto, using(crate::proofs::DueLemmas::one_more_left, crate::proofs::DueLemmas::no_more_left))]
 fn left_with(f: &Formula, v: Var, rest: &[Var], left: usize) -> usize
     requires due { IsDue (numbers_of rest.now) (record { form = form_of f.now; left = left }) }
@@ -42,7 +42,7 @@ fn left_with(f: &Formula, v: Var, rest: &[Var], left: usize) -> usize
     left
 }
 
-/// How many of the last variables aren't free in the formula.
+/// A number of the last variables that aren't free in the formula, maybe fewer than there are.
 pub fn left_by(f: &Formula, vars: &[Var]) -> usize
     ensures due { IsDue (numbers_of vars.now) (record { form = form_of f.now; left = result }) }
     ensures most { result ≤ length vars.now }

@@ -19,7 +19,7 @@ pub struct Shape {
     pub variables: Vars,
     /// The conjuncts of the base rule's body.
     pub conjuncts: Parts,
-    /// How many of the last variables don't stand in the head.
+    /// A number of the last variables that don't stand in the head, maybe fewer than there are.
     pub negated: usize,
 }
 

@@ -9,6 +9,7 @@ mod Evaluating
 mod Finishing
 mod FocusStays
 mod Jobs
+mod Keeping
 mod LeftAlone
 mod Noting
 mod Picking

@@ -5,13 +5,12 @@ use Rattle.std.proofs.Common.{take, inl, inr, ⊎_elim, refl, ap, subst, arith, 
 use Rattle.std.proofs.Common.{Some, All, Contains, replicate}
 use Rattle.std.specs.Prelude.{IsTrue}
 use Rattle.std.proofs.lemmas.Bool.{cases_lt}
-use Rattle.std.proofs.lemmas.List.{get_or-replicate, length-map, length-replicate, map-append}
+use Rattle.std.proofs.lemmas.List.{get_or-replicate, length-map, length-replicate}
 use Rattle.std.proofs.lemmas.Option.{slice_get_within}
 use Rattle.std.proofs.Math.Seq.{take-suc}
 use Rattle.std.proofs.lemmas.List.Elements.{All-contains}
 use Rattle.tv_model.specs.declared.formula.Formula.{Formula}
-use Rattle.tv_model.specs.declared.program.Update.{Update}
-use Rattle.tv_model.specs.Form.{Form, form_of, Mentions}
+use Rattle.tv_model.specs.Form.{form_of, Mentions}
 use Rattle.tv_model.specs.declared.program.Program.{Program}
 use Rattle.tv_model.specs.Program.{ProgramForm, RuleForm, ActionForm, KindForm, KCore, KDefined, pred_of}
 use Rattle.tv_model.specs.Program.{program_of}
@@ -20,8 +19,7 @@ use Rattle.tv_rules.specs.Standing.{StandsIn, SeesSummaries}
 use Rattle.tv_update_laws.specs.Applied.{kind_or_core, kind_at}
 use Rattle.tv_coerce.specs.RuleSets.{IsIn, HasMore, IsRuleThat}
 use Rattle.tv_update.specs.Plan.{IsDefined, moves_individuals}
-use Rattle.tv_step.specs.Waiting.{WaitsAfter, WaitsAt, WaitsFor, HasRulesOf}
-use Rattle.tv_step.proofs.Adding.{all-next}
+use Rattle.tv_step.specs.Waiting.{AreListed, WaitsAbout, WaitsAfter, WaitsAt, WaitsFor, HasRulesOf}
 
 -- no predicate is asked for
 pub rules-none : (P : ℕ → Type 0) (rules : List RuleForm) (set : List Bool) → ((q : ℕ) → P q → ⊥)
@@ -74,14 +72,12 @@ rules-same P Q rules old new before asked = record {
   count = before.count;
 }
 
-pub updated-next : (updates : List Update) (i : ℕ) (w : Update) → i < length updates → w ≡ get_or updates i w
-    → (q : ℕ) → Contains (map (λ v. v.pred.0) (take (i + 1) updates)) q
-    → Contains (map (λ v. v.pred.0) (take i updates)) q ⊎ (q ≡ w.pred.0)
-updated-next updates i w lt is q at =
-    let step : map (λ v. v.pred.0) (take (i + 1) updates)
-    ≡ map (λ v. v.pred.0) (take i updates) ++ w.pred.0 ∷ []
-    = rw (add-one, take-suc updates i w lt, ← is) (map-append (λ v. v.pred.0) (take i updates) (w ∷ []))
-    in pushed-cases (map (λ v. v.pred.0) (take i updates)) w.pred.0 q (subst (λ us. Contains us q) step at)
+pub preds-next : (preds : List ℕ) (i q : ℕ) → i < length preds → Contains (take (i + 1) preds) q
+    → Contains (take i preds) q ⊎ (q ≡ get_or preds i 0)
+preds-next preds i q lt at =
+    let step : take (i + 1) preds ≡ take i preds ++ get_or preds i 0 ∷ []
+    = rw (add-one) (take-suc preds i 0 lt)
+    in pushed-cases (take i preds) (get_or preds i 0) q (subst (λ qs. Contains qs q) step at)
 
 core-undefined : (kind : KindForm) → (IsDefined kind → ⊥) → kind ≡ KCore
 core-undefined KCore none = refl
@@ -112,6 +108,15 @@ waits-after p preds rules none defined set count defines updates = record {
   core = λ n q rule there out stands. core-undefined (kind_at p q)
       (λ is. out (updates.more n (defines.standing n q rule there stands is)));
   kept = λ n q rule there out stands at. out (updates.standing n q rule there stands at);
+}
+
+-- what is right after updates of these predicates is right after updates of some of them
+pub waits-among : (p : ProgramForm) (some these : List ℕ) (rules : List RuleForm) (set : List Bool)
+    → ((q : ℕ) → Contains some q → Contains these q) → WaitsAfter p these rules set → WaitsAfter p some rules set
+waits-among p some these rules set among after = record {
+  count = after.count;
+  core = after.core;
+  kept = λ n q rule there out stands at. after.kept n q rule there out stands (among q at);
 }
 
 -- what is right after an action's updates leaves the others alone, where no individual comes or goes
@@ -155,35 +160,55 @@ pub still-blind : (P : ℕ → Type 0) (rules : List RuleForm) (old new : List B
     → AreBlind rules old → AreBlind rules new
 still-blind P rules old new more blind k rule there out = blind k rule there (λ at. out (more.more k at))
 
--- what waits at a formula still does, where more is put into the set
-apart-kept : (P : ℕ → Type 0) (n : ℕ) (f : Form) (rules : List RuleForm) (old new : List Bool)
-    → HasRulesOf P rules old new → WaitsAt n f rules old → WaitsAt n f rules new
-apart-kept P n f rules old new more waits = record {
-  count = more.count ∙ waits.count;
-  blind = λ k rule there out. waits.blind k rule there (λ at. out (more.more k at));
-  apart = λ k q rule there out lt mentions stands.
-      waits.apart k q rule there (λ at. out (more.more k at)) lt mentions stands;
+-- what was put into a set for focus is right for its predicates
+pub waits-about : (preds : List ℕ) (rules : List RuleForm) (none seeing set : List Bool)
+    → length none ≡ length rules → HasMore (IsRuleThat SeesSummaries rules) none seeing
+    → HasRulesOf (Contains preds) rules seeing set → WaitsAbout preds rules set
+waits-about preds rules none seeing set count sees about = record {
+  count = about.count ∙ sees.count ∙ count;
+  blind = still-blind (Contains preds) rules seeing set about (seeing-blind rules none seeing sees);
+  apart = λ k q rule there out at stands. out (about.standing k q rule there stands at);
 }
 
--- what was put into a set is about the formula
-apart-next : (n : ℕ) (f : Form) (rules : List RuleForm) (old new : List Bool) → length old ≡ length rules
-    → AreBlind rules old → HasRulesOf (λ q. (q < n) × Mentions q f) rules old new → WaitsAt n f rules new
-apart-next n f rules old new count blind mentioned = record {
-  count = mentioned.count ∙ count;
-  blind = still-blind (λ q. (q < n) × Mentions q f) rules old new mentioned blind;
-  apart = λ k q rule there out lt mentions stands.
-      out (mentioned.standing k q rule there stands (lt, mentions));
-}
+-- what is right for the predicates that the formulas mention is right at focus on these
+pub waits-at : (n : ℕ) (fs : List Formula) (preds : List ℕ) (rules : List RuleForm) (set : List Bool)
+    → AreListed n fs preds → WaitsAbout preds rules set → All (λ f. WaitsAt n (form_of f) rules set) fs
+waits-at n fs preds rules set listed about =
+    All-from_contains (λ f. WaitsAt n (form_of f) rules set) fs
+    (λ f at. record {
+      count = about.count;
+      blind = about.blind;
+      apart = λ k q rule there out lt mentions. about.apart k q rule there out
+          (All-contains (λ g. (r : ℕ) → r < n → Mentions r (form_of g) → Contains preds r) fs f listed at q lt
+          mentions);
+    })
 
-pub formulas-wait : (n : ℕ) (rules : List RuleForm) (fs : List Formula) (i : ℕ) (f : Formula)
-    (old new : List Bool)
-    → i < length fs → f ≡ get_or fs i f → length old ≡ length rules → AreBlind rules old
-    → All (λ g. WaitsAt n (form_of g) rules old) (take i fs)
-    → HasRulesOf (λ q. (q < n) × Mentions q (form_of f)) rules old new
-    → All (λ g. WaitsAt n (form_of g) rules new) (take (i + 1) fs)
-formulas-wait n rules fs i f old new lt is count blind before mentioned =
-    all-next (λ g. WaitsAt n (form_of g) rules new) fs i f lt is
-    (All-from_contains (λ g. WaitsAt n (form_of g) rules new) (take i fs)
-    (λ g at. apart-kept (λ q. (q < n) × Mentions q (form_of f)) n (form_of g) rules old new mentioned
-    (All-contains (λ h. WaitsAt n (form_of h) rules old) (take i fs) g before at)))
-    (apart-next n (form_of f) rules old new count blind mentioned)
+-- ---- the predicates that formulas mention
+
+pub listed-none : (fs : List Formula) (preds : List ℕ) → AreListed 0 fs preds
+listed-none fs preds =
+    All-from_contains (λ f. (q : ℕ) → q < 0 → Mentions q (form_of f) → Contains preds q) fs
+    (λ f at q lt. absurd (omega (arith, lt)))
+
+pub listed-next : (fs : List Formula) (i : ℕ) (on : Bool) (old new : List ℕ) → AreListed i fs old
+    → All (λ f. Mentions i (form_of f) → IsTrue on) fs
+    → ((q : ℕ) → Contains old q ⊎ ((q ≡ i) × IsTrue on) → Contains new q) → AreListed (i + 1) fs new
+listed-next fs i on old new before told more =
+    All-from_contains (λ f. (q : ℕ) → q < i + 1 → Mentions q (form_of f) → Contains new q) fs
+    (λ f at q lt mentions. more q (⊎_elim
+    (λ below. inl (All-contains (λ g. (r : ℕ) → r < i → Mentions r (form_of g) → Contains old r) fs f before at q
+    below mentions))
+    (λ past. let same : q ≡ i = omega (arith, lt, past)
+    in inr (
+      same,
+      All-contains (λ g. Mentions i (form_of g) → IsTrue on) fs f told at
+          (subst (λ r. Mentions r (form_of f)) same mentions),
+    ))
+    (cases_lt q i)))
+
+pub listed-all : (fs : List Formula) (n i : ℕ) (preds : List ℕ) → n ≤ i → AreListed i fs preds
+    → AreListed n fs preds
+listed-all fs n i preds all listed =
+    All-from_contains (λ f. (q : ℕ) → q < n → Mentions q (form_of f) → Contains preds q) fs
+    (λ f at q lt. All-contains (λ g. (r : ℕ) → r < i → Mentions r (form_of g) → Contains preds r) fs f listed at q
+    (omega (arith, lt, all)))

@@ -1,13 +1,14 @@
 -- Which rules an action may leave unmet in a structure that was stable.
 use Rattle.std.specs.Prelude.{ℕ, ◌≡◌, ◌<◌, true, false, Bool, List, length, map, replicate, Some, Contains}
-use Rattle.std.specs.Prelude.{slice_get, IfSome}
-use Rattle.tv_model.specs.Form.{Form, Mentions}
+use Rattle.std.specs.Prelude.{slice_get, All}
+use Rattle.tv_model.specs.declared.formula.Formula.{Formula}
+use Rattle.tv_model.specs.Form.{Form, form_of, Mentions}
 use Rattle.tv_model.specs.Program.{ProgramForm, RuleForm, ActionForm, KCore}
 use Rattle.tv_rules.specs.Standing.{StandsIn, SeesSummaries}
 use Rattle.tv_update_laws.specs.Applied.{kind_at}
 use Rattle.tv_coerce.specs.RuleSets.{IsIn}
 use Rattle.tv_update.specs.Plan.{IsDefined, moves_individuals}
-use Rattle.tv_step.specs.declared.waiting.Known.{Known}
+use Rattle.tv_rule_sets.specs.declared.found.Kept.{Kept}
 use Rattle.tv_step.specs.declared.waiting.Shared.{Shared}
 
 -- the action leaves the rule alone: no individual comes or goes, and each predicate that stands in the rule
@@ -40,15 +41,33 @@ pub record WaitsAfter (p : ProgramForm) (preds : List ℕ) (rules : List RuleFor
   pub kept : (n q : ℕ) (rule : RuleForm) → slice_get rules n ≡ Some rule → ¬ IsIn set n → StandsIn q rule
       → ¬ Contains preds q
 
--- the set is right after updates of these predicates
-abbrev pub IsKnown : ProgramForm → List RuleForm → Known → Type 0
-IsKnown p rules known = WaitsAfter p (map (λ w. w.pred.0) known.updates.now) rules known.set.value
+-- each rule whose number isn't in the set doesn't see which individuals are summaries, and none of these
+-- predicates stands in it
+pub record WaitsAbout (preds : List ℕ) (rules : List RuleForm) (set : List Bool) : Type 0 where
+  pub count : length set ≡ length rules
+  pub blind : (k : ℕ) (rule : RuleForm) → slice_get rules k ≡ Some rule → ¬ IsIn set k → ¬ SeesSummaries rule
+  pub apart : (k q : ℕ) (rule : RuleForm) → slice_get rules k ≡ Some rule → ¬ IsIn set k → Contains preds q
+      → ¬ StandsIn q rule
 
--- all rules are in the first, and those in which a defined predicate stands in the second; the last is right
+-- each predicate below n that a formula mentions is listed
+abbrev pub AreListed : ℕ → List Formula → List ℕ → Type 0
+AreListed n formulas preds = All (λ f. (q : ℕ) → q < n → Mentions q (form_of f) → Contains preds q) formulas
+
+-- the set is right after updates of its predicates
+abbrev pub IsKeptAfter : ProgramForm → List RuleForm → Kept → Type 0
+IsKeptAfter p rules kept = WaitsAfter p kept.preds.items rules kept.set.value
+
+-- the set is right at focus on formulas that mention its predicates
+abbrev pub IsKeptAt : List RuleForm → Kept → Type 0
+IsKeptAt rules kept = WaitsAbout kept.preds.items rules kept.set.value
+
+-- all rules are in the first, and those in which a defined predicate stands in the second; each set that was
+-- found is right for its predicates
 pub record IsShared (p : ProgramForm) (rules : List RuleForm) (sets : Shared) : Type 0 where
   pub all : sets.all.value ≡ replicate (length rules) true
   pub defined : HasRulesOf (λ q. IsDefined (kind_at p q)) rules (replicate (length rules) false) sets.defined
-  pub last : IfSome sets.last (IsKnown p rules)
+  pub after : All (IsKeptAfter p rules) sets.after.kept.items
+  pub at : All (IsKeptAt rules) sets.at.kept.items
 
 -- each rule whose number isn't in the set doesn't see which individuals are summaries, and is about none of
 -- the predicates below n that the formula mentions

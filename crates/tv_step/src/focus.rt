@@ -15,11 +15,12 @@ ghost use Rattle.tv_step.specs.Places.{focus_place, AreWaitingAt, HasWaiting};
 ghost use Rattle.tv_step.specs.Setting.{form_in, IsReadyToStep, IsStableIn};
 ghost use Rattle.tv_step.specs.Steps.{Adds, IsPlace, KeepsLimits, IsFocusCause, AreFocusedWithin};
 ghost use Rattle.tv_step.specs.Steps.{IsCauseOfFocus};
+ghost use Rattle.tv_step.specs.Waiting.{IsShared};
 
 use crate::changed::{Parent, Reach};
 use crate::coerced::{Ending, push_all};
 use crate::setting::Setting;
-use crate::waiting::waiting_at;
+use crate::waiting::{Shared, waiting_at};
 use std::alloc::AllocError;
 use std::rc::Rc;
 use tv_coerce::RuleSet;
@@ -27,6 +28,7 @@ use tv_eval::Scratch;
 use tv_focus::{FocusAtoms, Focused, into_focused};
 use tv_model::Formula;
 use tv_struct::{StageError, Structure, Structures};
+use tv_walk::{Walk, walk_choices};
 
 /// An atom of a focus formula, by its number, and the rules that a choice of it may leave unmet in a
 /// structure that was stable. The atoms of a formula share its list, and those of an action the rules.
@@ -38,14 +40,23 @@ pub struct Turn<'a> {
 }
 
 /// The atoms of the formulas, formula by formula. All share the rules that wait.
-pub fn turns<'a>(x: &Setting, formulas: &'a [Formula]) -> Result<Vec<Turn<'a>>, AllocError>
+pub fn turns<'a>(
+    x: &Setting,
+    shared: &mut Shared,
+    formulas: &'a [Formula],
+) -> Result<Vec<Turn<'a>>, AllocError>
     requires few { length x.now.program.now.vocab.preds ≤ 512 }
     requires rules { rules_of x.now.closed.now ≡ closed_rules (form_in x.now) }
+    requires shared { IsShared (form_in x.now) (rules_of x.now.closed.now) shared.old }
     ensures places { IfOk result
         (λ turns. map focus_place turns.items ≡ focus_places (map form_of formulas.now)) }
     ensures waiting { IfOk result (λ turns. All (HasWaiting x.now.program.now) turns.items) }
+    ensures shared { OnOk result (IsShared (form_in x.now) (rules_of x.now.closed.now) shared.new) }
 {
-    let waiting = Rc::new(x.alloc, waiting_at(x, formulas)?)?;
+    if formulas.is_empty() {
+        return Ok(Vec::new(x.alloc));
+    }
+    let waiting = waiting_at(x, shared, formulas)?;
     let mut turns = Vec::new(x.alloc);
     for formula in formulas {
         let atoms = Rc::new(x.alloc, FocusAtoms::new(x.alloc, formula)?)?;
@@ -113,6 +124,17 @@ fn push_focused(
                 scratch,
                 out,
             )?)
+        }
+        Focused::Many(from, choosing) => {
+            let walk = Walk {
+                alloc: x.alloc,
+                program: x.program,
+                closed: x.closed,
+                waiting: &turn.waiting,
+                from: &from,
+                choosing: &choosing,
+            };
+            Ok(walk_choices(&walk, scratch, out)?)
         }
     }
 }

@@ -45,7 +45,7 @@ fn action_at(program: &Program, number: u32) -> &Action
 /// The action of this number, made ready.
 pub fn job_of<'a>(
     x: &Setting<'a, '_>,
-    shared: &mut Shared<'a>,
+    shared: &mut Shared,
     order: &Order,
     number: u32,
     is_named: bool,
@@ -59,7 +59,7 @@ pub fn job_of<'a>(
     ensures shared { OnOk result (IsShared (form_in x.now) (rules_of x.now.closed.now) shared.new) }
 {
     let action = action_at(x.program, number);
-    let turns = turns(x, action.focus.as_slice())?;
+    let turns = turns(x, shared, action.focus.as_slice())?;
     let waiting = waiting_after(x, shared, action, is_named)?;
     let plan = plan_for(x.alloc, x.program, order, number, x.mode)?;
     Ok(Job {

@@ -1,6 +1,6 @@
 //! The rules that are tried again after focus and after an update.
 
-ghost use Rattle.std.specs.Prelude.{◌≡◌, ◌<◌, ◌≤◌, ◌↔◌, false, length, map, replicate, All};
+ghost use Rattle.std.specs.Prelude.{ℕ, ◌≡◌, ◌<◌, ◌≤◌, ◌⊎◌, ◌↔◌, false, length, map, replicate, All};
 ghost use Rattle.std.specs.Prelude.{Contains, IfOk, IsTrue, OnOk};
 ghost use Rattle.tv_update_laws.specs.Applied.{kind_at};
 ghost use Rattle.tv_model.specs.Form.{form_of, Mentions};
@@ -8,13 +8,15 @@ ghost use Rattle.tv_model.specs.Program.{action_of};
 ghost use Rattle.tv_rules.specs.EntryForms.{rules_of};
 ghost use Rattle.tv_update.specs.Plan.{IsDefined, moves_individuals};
 ghost use Rattle.tv_step.specs.Setting.{form_in};
-ghost use Rattle.tv_step.specs.Waiting.{HasRulesOf, IsShared, WaitsAfter, WaitsAt, WaitsFor};
+ghost use Rattle.tv_step.specs.Waiting.{AreListed, HasRulesOf, IsShared, WaitsAbout, WaitsAfter, WaitsAt};
+ghost use Rattle.tv_step.specs.Waiting.{WaitsFor};
 
 use crate::setting::Setting;
 use std::alloc::AllocError;
 use std::rc::Rc;
 use tv_coerce::RuleSet;
 use tv_model::{Action, Formula, Kind, PredId, Update, mentions};
+use tv_rule_sets::{Found, found_for, keep, none_found};
 
 /// Whether individuals may come or go.
 pub fn moves(action: &Action) -> bool
@@ -23,14 +25,13 @@ pub fn moves(action: &Action) -> bool
     action.fresh || action.retain.is_some()
 }
 
-/// Puts the rules in which an updated predicate stands into the set.
-fn add_updated(x: &Setting, updates: &[Update], waiting: &mut RuleSet)
+/// Puts the rules in which one of the predicates stands into the set.
+fn add_all(x: &Setting, preds: &[u32], waiting: &mut RuleSet)
     requires { length waiting.old ≡ length (rules_of x.now.closed.now) }
-    ensures { HasRulesOf (Contains (map (λ w. w.pred.0) updates.now)) (rules_of x.now.closed.now)
-        waiting.old waiting.new }
+    ensures { HasRulesOf (Contains preds.now) (rules_of x.now.closed.now) waiting.old waiting.new }
 {
-    for update in updates {
-        waiting.add_pred(x.closed, update.pred);
+    for pred in preds {
+        waiting.add_pred(x.closed, PredId(*pred));
     }
 }
 
@@ -69,124 +70,171 @@ fn add_defined(x: &Setting, waiting: &mut RuleSet)
     }
 }
 
-/// Puts the rules in which a predicate stands that the formula mentions into the set.
-fn add_mentioned(x: &Setting, formula: &Formula, waiting: &mut RuleSet)
-    requires few { length x.now.program.now.vocab.preds ≤ 512 }
-    requires count { length waiting.old ≡ length (rules_of x.now.closed.now) }
-    ensures { HasRulesOf
-        (λ q. (q < length x.now.program.now.vocab.preds) × Mentions q (form_of formula.now))
-        (rules_of x.now.closed.now) waiting.old waiting.new }
-{
-    for number in 0..x.program.vocab.preds.len() {
-        add_if(x, mentions(formula, PredId(number as u32)), number, waiting);
-    }
-}
-
-/// The rules that a choice of focus on an atom of one of the formulas may leave unmet, where the structure
-/// was stable: those that see which individuals are summaries, and those about a predicate that a formula
-/// mentions.
-pub fn waiting_at(x: &Setting, formulas: &[Formula]) -> Result<RuleSet, AllocError>
-    requires { length x.now.program.now.vocab.preds ≤ 512 }
-    ensures { IfOk result (λ set. All (λ f. WaitsAt (length x.now.program.now.vocab.preds) (form_of f)
-        (rules_of x.now.closed.now) set) formulas.now) }
-{
-    let mut waiting = RuleSet::of_none(x.alloc, x.closed)?;
-    waiting.add_seeing(x.closed);
-    for formula in formulas {
-        add_mentioned(x, formula, &mut waiting);
-    }
-    Ok(waiting)
-}
-
-/// A set of rules that waits after updates of these predicates, where no individual comes or goes.
-#[derive(Drop)]
-pub struct Known<'a> {
-    pub updates: &'a [Update],
-    pub set: Rc<RuleSet>,
-}
-
 /// Sets of rules that the actions of a program share.
 #[derive(Drop)]
-pub struct Shared<'a> {
+pub struct Shared {
     pub all: Rc<RuleSet>,
     /// Those in which a predicate stands that has a definition.
     pub defined: RuleSet,
-    /// The set that was made last: actions that update the same predicates often stand together.
-    pub last: Option<Known<'a>>,
+    /// Those that wait after updates, by the updated predicates.
+    pub after: Found,
+    /// Those that wait at focus, by the predicates that the formulas mention.
+    pub at: Found,
 }
 
 /// The sets that all actions share.
-pub fn shared_sets<'a>(x: &Setting<'a, '_>) -> Result<Shared<'a>, AllocError>
+pub fn shared_sets(x: &Setting) -> Result<Shared, AllocError>
     requires { length x.now.program.now.vocab.preds ≤ 512 }
     ensures { IfOk result (IsShared (form_in x.now) (rules_of x.now.closed.now)) }
 {
     let all = Rc::new(x.alloc, RuleSet::of_all(x.alloc, x.closed)?)?;
     let mut defined = RuleSet::of_none(x.alloc, x.closed)?;
     add_defined(x, &mut defined);
+    let after = none_found(x.alloc);
+    let at = none_found(x.alloc);
     Ok(Shared {
         all,
         defined,
-        last: None,
+        after,
+        at,
     })
 }
 
-/// Whether the updates are of the same predicates, in the same order.
-fn are_alike(updates: &[Update], others: &[Update]) -> bool
-    ensures { IsTrue result → map (λ w. w.pred.0) updates.now ≡ map (λ w. w.pred.0) others.now }
+/// Whether a formula mentions the predicate.
+fn are_about(formulas: &[Formula], pred: PredId) -> bool
+    ensures { All (λ f. Mentions pred.0 (form_of f) → IsTrue result) formulas.now }
 {
-    match updates {
-        [] => others.is_empty(),
-        [update, later @ ..] => match others {
-            [] => false,
-            [other, rest @ ..] => update.pred.0 == other.pred.0 && are_alike(later, rest),
-        },
+    for formula in formulas {
+        if mentions(formula, pred) {
+            return true;
+        }
     }
+    false
 }
 
-/// A set of its own for updates of these predicates.
-fn made(x: &Setting, defined: &RuleSet, updates: &[Update]) -> Result<Rc<RuleSet>, AllocError>
+/// Puts the predicate behind the others, if the flag is set.
+fn push_if(preds: &mut Vec<u32>, on: bool, number: usize) -> Result<(), AllocError>
+    requires { number < 512 }
+    ensures { OnOk result ((q : ℕ) → Contains preds.old.items q ⊎ ((q ≡ number) × IsTrue on)
+        → Contains preds.new.items q) }
+{
+    if !on {
+        return Ok(());
+    }
+    Ok(preds.push(number as u32)?)
+}
+
+/// The predicates of the program that the formulas mention, in ascending order.
+fn mentioned(x: &Setting, formulas: &[Formula]) -> Result<Vec<u32>, AllocError>
+    requires { length x.now.program.now.vocab.preds ≤ 512 }
+    ensures { IfOk result
+        (λ preds. AreListed (length x.now.program.now.vocab.preds) formulas.now preds.items) }
+{
+    let mut preds = Vec::new(x.alloc);
+    for number in 0..x.program.vocab.preds.len() {
+        push_if(
+            &mut preds,
+            are_about(formulas, PredId(number as u32)),
+            number,
+        )?;
+    }
+    Ok(preds)
+}
+
+/// The rules that see which individuals are summaries, and those about one of these predicates.
+fn made_at(x: &Setting, preds: &[u32]) -> Result<Rc<RuleSet>, AllocError>
+    ensures { IfOk result (λ set. WaitsAbout preds.now (rules_of x.now.closed.now) set.value) }
+{
+    let mut waiting = RuleSet::of_none(x.alloc, x.closed)?;
+    waiting.add_seeing(x.closed);
+    add_all(x, preds, &mut waiting);
+    Ok(Rc::new(x.alloc, waiting)?)
+}
+
+/// The rules that a choice of focus on an atom of one of the formulas may leave unmet, where the structure
+/// was stable: those that see which individuals are summaries, and those about a predicate that a formula
+/// mentions.
+pub fn waiting_at(
+    x: &Setting,
+    shared: &mut Shared,
+    formulas: &[Formula],
+) -> Result<Rc<RuleSet>, AllocError>
+    requires few { length x.now.program.now.vocab.preds ≤ 512 }
+    requires shared { IsShared (form_in x.now) (rules_of x.now.closed.now) shared.old }
+    ensures waits { IfOk result (λ set. All (λ f. WaitsAt (length x.now.program.now.vocab.preds) (form_of f)
+        (rules_of x.now.closed.now) set.value) formulas.now) }
+    ensures shared { OnOk result (IsShared (form_in x.now) (rules_of x.now.closed.now) shared.new) }
+{
+    let preds = mentioned(x, formulas)?;
+    if let Some(kept) = found_for(&shared.at, &preds) {
+        return kept.set.clone();
+    }
+    let set = made_at(x, preds.as_slice())?;
+    keep(&mut shared.at, preds, &set)?;
+    Ok(set)
+}
+
+/// The predicates of the updates, one after the other.
+fn listed(x: &Setting, updates: &[Update]) -> Result<Vec<u32>, AllocError>
+    ensures { IfOk result (λ preds. preds.items ≡ map (λ w. w.pred.0) updates.now) }
+{
+    let mut preds = Vec::with_capacity(x.alloc, updates.len())?;
+    for update in updates {
+        preds.push(update.pred.0)?;
+    }
+    Ok(preds)
+}
+
+/// The updated predicates, in ascending order: updates that stand in another order share a set.
+fn updated(x: &Setting, updates: &[Update]) -> Result<Vec<u32>, AllocError>
+    ensures { IfOk result (λ preds. (q : ℕ) → Contains (map (λ w. w.pred.0) updates.now) q
+        → Contains preds.items q) }
+{
+    let mut preds = listed(x, updates)?;
+    preds.sort_unstable();
+    Ok(preds)
+}
+
+/// The rules in which one of these predicates stands or one that has a definition.
+fn made_after(x: &Setting, defined: &RuleSet, preds: &[u32]) -> Result<Rc<RuleSet>, AllocError>
     requires { HasRulesOf (λ q. IsDefined (kind_at (form_in x.now) q)) (rules_of x.now.closed.now)
         (replicate (length (rules_of x.now.closed.now)) false) defined.now }
-    ensures { IfOk result (λ set. WaitsAfter (form_in x.now) (map (λ w. w.pred.0) updates.now)
-        (rules_of x.now.closed.now) set.value) }
+    ensures { IfOk result
+        (λ set. WaitsAfter (form_in x.now) preds.now (rules_of x.now.closed.now) set.value) }
 {
     let mut waiting = defined.copy(x.alloc)?;
-    add_updated(x, updates, &mut waiting);
+    add_all(x, preds, &mut waiting);
     Ok(Rc::new(x.alloc, waiting)?)
 }
 
 /// The rules that updates may leave unmet in a structure that was stable, where no individual comes or goes:
 /// those in which a predicate stands that is updated or has a definition.
-fn after_updates<'a>(
-    x: &Setting<'a, '_>,
-    shared: &mut Shared<'a>,
-    updates: &'a [Update],
+fn after_updates(
+    x: &Setting,
+    shared: &mut Shared,
+    updates: &[Update],
 ) -> Result<Rc<RuleSet>, AllocError>
     requires { IsShared (form_in x.now) (rules_of x.now.closed.now) shared.old }
     ensures waits { IfOk result (λ set. WaitsAfter (form_in x.now) (map (λ w. w.pred.0) updates.now)
         (rules_of x.now.closed.now) set.value) }
     ensures shared { OnOk result (IsShared (form_in x.now) (rules_of x.now.closed.now) shared.new) }
 {
-    if let Some(known) = &shared.last {
-        if are_alike(known.updates, updates) {
-            return known.set.clone();
-        }
+    let preds = updated(x, updates)?;
+    if let Some(kept) = found_for(&shared.after, &preds) {
+        return kept.set.clone();
     }
-    let set = made(x, &shared.defined, updates)?;
-    shared.last = Some(Known {
-        updates,
-        set: set.clone()?,
-    });
+    let set = made_after(x, &shared.defined, preds.as_slice())?;
+    keep(&mut shared.after, preds, &set)?;
     Ok(set)
 }
 
 /// The rules that the action may leave unmet in a structure that was stable: all, where individuals may come
 /// or go; else those in which a predicate stands that is updated or has a definition. All will do for an
 /// action that no edge names.
-pub fn waiting_after<'a>(
-    x: &Setting<'a, '_>,
-    shared: &mut Shared<'a>,
-    action: &'a Action,
+pub fn waiting_after(
+    x: &Setting,
+    shared: &mut Shared,
+    action: &Action,
     is_named: bool,
 ) -> Result<Rc<RuleSet>, AllocError>
     requires { IsShared (form_in x.now) (rules_of x.now.closed.now) shared.old }

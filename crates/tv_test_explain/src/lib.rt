@@ -6,7 +6,11 @@ mod call;
 #[cfg(test)]
 mod chains;
 #[cfg(test)]
+mod compiled;
+#[cfg(test)]
 mod faults;
+#[cfg(test)]
+mod losses;
 #[cfg(test)]
 mod rows;
 #[cfg(test)]

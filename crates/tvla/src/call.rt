@@ -27,6 +27,7 @@ pub fn called<F: Files, O: Sink, E: Sink>(
         (Rose (F.faults files.old) (F.faults files.new)) (F.steady files.old)
         (Rose (O.faults streams.old.out) (O.faults streams.new.out))
         (Rose (E.faults streams.old.err) (E.faults streams.new.err))
+        (F.begins files.old) (F.begins files.new)
         (O.taken streams.old.out) (O.taken streams.new.out)
         (E.taken streams.old.err) (E.taken streams.new.err)) }
 {
@@ -44,6 +45,7 @@ fn ended<F: Files, O: Sink, E: Sink>(
         (Rose (F.faults files.old) (F.faults files.new)) (F.steady files.old)
         (Rose (O.faults streams.old.out) (O.faults streams.new.out))
         (Rose (E.faults streams.old.err) (E.faults streams.new.err))
+        (F.begins files.old) (F.begins files.new)
         (O.taken streams.old.out) (O.taken streams.new.out)
         (E.taken streams.old.err) (E.taken streams.new.err) result }
 {

@@ -32,6 +32,18 @@ static GIVEN: &str = "// one of two cells is picked, and none of the two loses i
 %p x(v) unique %p y(v); %f { x(v) } { y(v) = x(v) }; ; %n = {a} %p = { x = {a:1/2} sm = {a:1/2} }; \
     %n = {i} %p = { x = {i} y = {i} } %n = {i} %p = { sm = {i:1/2} } %n = {i, j} %p = { x = {j} y = {j} \
       sm = {i:1/2} }
+// more choices than are made at once: of sixteen five are stable, of nine too
+%p p(v) %p q(v) %p x(v) unique; %f { x(v) } { x(v) = x(v) }; ; \
+    %n = {a, b, c, d} %p = { p = {b, d} q = {c, d} x = {a:1/2, b:1/2, c:1/2, d:1/2} }; \
+    %n = {i, j, k, l} %p = { p = {k, l} q = {j, l} } %n = {i, j, k, l} %p = { p = {k, l} q = {j, l} x = {l} } \
+      %n = {i, j, k, l} %p = { p = {k, l} q = {j, l} x = {k} } \
+      %n = {i, j, k, l} %p = { p = {k, l} q = {j, l} x = {j} } \
+      %n = {i, j, k, l} %p = { p = {k, l} q = {j, l} x = {i} }
+%p p(v) %p x(v) unique; %f { x(v) } { x(v) = x(v) }; ; \
+    %n = {a, b} %p = { p = {b} x = {a:1/2, b:1/2} sm = {a:1/2, b:1/2} }; \
+    %n = {i, j} %p = { p = {j} x = {i} sm = {j:1/2} } %n = {i, j} %p = { p = {j} x = {j} sm = {i:1/2} } \
+      %n = {i, j} %p = { p = {j} sm = {i:1/2, j:1/2} } %n = {i, j, k} %p = { p = {k} x = {j} sm = {i:1/2, k:1/2} } \
+      %n = {i, j, k} %p = { p = {j, k} x = {k} sm = {i:1/2, j:1/2} }
 %p x(v); %new { x(v) = x(v) | isNew(v) }; ; %n = {a} %p = { x = {a} }; %n = {i} %p = { x = {i} sm = {i:1/2} }
 %p x(v) %p y(v); %retain x(v); ; %n = {a, b} %p = { x = {a:1/2, b} y = {a} }; \
     %n = {i} %p = { x = {i} } %n = {i, j} %p = { x = {i:1/2, j} y = {i} }

@@ -10,7 +10,7 @@ use Rattle.tv_explain.proofs.work.edges.Goals as goal
 pub returns-in_err-drawn-clause-cause : goal.returns-in_err-drawn-clause-cause
 returns-in_err-drawn-clause-cause g c =
     let p = err_from_is_err_and c.from_residual.result c.from_residual.ensures.1 in
-    rw (p.1, p.2) (program_fault _ (ListsEdges c.args.program.now) _ _ _ (λ lacks. lacks)
+    rw (p.1, p.2) (program_fault _ (ListsEdges c.args.program.now) _ _ _ (λ k r. r) (λ lacks. lacks)
     c.in_err-drawn.ensures.cause)
 
 pub returns-in_err-drawn-clause-steady : goal.returns-in_err-drawn-clause-steady

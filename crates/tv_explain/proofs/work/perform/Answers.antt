@@ -7,7 +7,7 @@ use Rattle.tv_explain.proofs.work.perform.Goals as goal
 pub returns-clause-unread : goal.returns-clause-unread
 returns-clause-unread g c =
     let spells = rw c.in-Some.is at c.in_ok-command.ensures.some in
-    λ none. c.execute.ensures.unread (none (form_of c.in-Some.command) spells)
+    λ none. absurd (none (form_of c.in-Some.command) spells)
 
 pub returns-clause-begins : goal.returns-clause-begins
 returns-clause-begins g c =
@@ -16,13 +16,7 @@ returns-clause-begins g c =
     let begins = BeginsFor told (g.F.Files.begins c.args.files.now) (g.F.Files.begins c.execute.new.files) in
     spelled_begins c.execute.result _ (form_of c.in-Some.command) begins spells c.execute.ensures.begins
 
-pub returns-in_default-clause-cause : goal.returns-in_default-clause-cause
-returns-in_default-clause-cause g c =
-    let none = rw c.in_default.is at c.in_ok-command.ensures.none in
-    λ command spells. absurd (none command spells)
-
 pub returns-clause-cause : goal.returns-clause-cause
 returns-clause-cause g c =
     let spells = rw c.in-Some.is at c.in_ok-command.ensures.some in
-    spelled_cause _ c.one_command.ensures _ (form_of c.in-Some.command) _ _ c.execute.result spells
-    c.execute.ensures.cause
+    spelled_cause _ _ (form_of c.in-Some.command) _ _ c.execute.result spells c.execute.ensures.cause

@@ -12,7 +12,8 @@ use Rattle.tv_explain.proofs.work.show.Goals as goal
 pub returns-in_err-program-clause-cause : goal.returns-in_err-program-clause-cause
 returns-in_err-program-clause-cause g c =
     let p = err_from_is_err_and c.from_residual.result c.from_residual.ensures.1 in
-    rw (p.1, p.2) (program_fault _ (Shows c.args.program.now c.args.report.now) _ _ _ (λ lacks. inl lacks)
+    rw (p.1, p.2) (program_fault _ (Shows c.args.program.now c.args.report.now) _ _ _ (λ k r. r)
+    (λ lacks. inl lacks)
     c.in_err-program.ensures.cause)
 
 pub returns-in_err-program-clause-steady : goal.returns-in_err-program-clause-steady

@@ -4,6 +4,7 @@ use Rattle.tv_rules.specs.EntryForms.{rules_of}
 use Rattle.tv_model.specs.Form.{form_of}
 use Rattle.tv_struct.specs.StructureForm.{arities_of}
 use Rattle.tv_focus.specs.Anchored.{AreAtomsOver}
+use Rattle.tv_focus.specs.Focused.{CanBeMade, tables_in}
 use Rattle.tv_focus.specs.Stage.{IsStageCause, IsWithinLimits}
 use Rattle.tv_coerce.specs.RuleSets.{IsStableBut}
 use Rattle.tv_step.specs.Places.{focus_place}
@@ -116,5 +117,54 @@ returns-in_ok-push_all-in-Choices-clause-out c =
 
 pub returns-in_ok-push_all-in-Choices-clause-within : goal.returns-in_ok-push_all-in-Choices-clause-within
 returns-in_ok-push_all-in-Choices-clause-within c =
+    subst (λ f. IsWithinLimits c.args.s (form_of f) c.args.turn.now.atom) c.deref.ensures
+    c.in_ok-s.ensures.within
+
+pub walk_choices-requires : goal.walk_choices-requires
+walk_choices-requires c =
+    let x = c.args.x.now
+    in let p = form_in x
+    in let s = c.args.s
+    in let place = focus_place c.args.turn.now
+    in let choosing = c.in-Many.choosing
+    in let from = made-from s _ _ c.in-Many.is c.in_ok-s.ensures.from
+    in let tables = tables_in c.in-Many.from choosing
+    in record {
+      can = record {
+        valid = c.requires.ready.valid;
+        rules = c.requires.ready.rules;
+        room = c.requires.ready.room;
+        shaped = subst (IsShaped p) (sym from) c.requires.shaped;
+        stable = subst (IsStableIn p) (sym from) c.requires.stable;
+        choosing = subst CanBeMade c.in-Many.is c.in_ok-s.ensures.ready;
+        count = ap length c.deref-in-Many.ensures ∙ c.requires.waiting.count ∙ ap length (sym c.requires.ready.rules);
+        rest = subst (λ set. All (IsStableBut (rules_of x.closed.now) set) tables) (sym c.deref-in-Many.ensures)
+            (focus-rest p c.requires.ready.valid s place tables (length x.program.now.vocab.preds)
+            (rules_of x.closed.now) c.args.turn.now.waiting.value c.requires.ready.rules c.requires.shaped
+            c.requires.stable
+            (tables-of p s c.requires.shaped tables (choices_at s place)
+            (made-stage s c.deref.result.now c.args.turn.now.formula.value c.args.turn.now.atom _ _
+            c.deref.ensures c.in-Many.is c.in_ok-s.ensures.stage))
+            (atoms-fit p s place.formula c.requires.shaped c.requires.place.formula) c.requires.place.atom
+            (ap length (shaped-over x.program.now s c.requires.shaped)
+            ∙ length-map x.program.now.vocab.preds (λ pred. pred.arity))
+            (subst (λ rules. WaitsAt (length x.program.now.vocab.preds) place.formula rules c.args.turn.now.waiting.value)
+            (sym c.requires.ready.rules) c.requires.waiting));
+      };
+    }
+
+pub returns-in_ok-walk_choices-in-Many-clause-out : goal.returns-in_ok-walk_choices-in-Many-clause-out
+returns-in_ok-walk_choices-in-Many-clause-out c =
+    let p = form_in c.args.x.now
+    in let s = c.args.s
+    in let place = focus_place c.args.turn.now
+    in let tables = tables_in c.in-Many.from c.in-Many.choosing
+    in focus-adds p place s tables c.args.out.now c.walk_choices.new.out
+    (tables-of p s c.requires.shaped tables (choices_at s place)
+    (made-stage s c.deref.result.now c.args.turn.now.formula.value c.args.turn.now.atom _ _
+    c.deref.ensures c.in-Many.is c.in_ok-s.ensures.stage)) c.in_ok-walk_choices-in-Many.ensures.out
+
+pub returns-in_ok-walk_choices-in-Many-clause-within : goal.returns-in_ok-walk_choices-in-Many-clause-within
+returns-in_ok-walk_choices-in-Many-clause-within c =
     subst (λ f. IsWithinLimits c.args.s (form_of f) c.args.turn.now.atom) c.deref.ensures
     c.in_ok-s.ensures.within

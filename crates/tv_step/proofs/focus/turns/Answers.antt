@@ -23,10 +23,9 @@ loop-formula-preserved c =
           ∙ sym (formulas-next fs c.loop-formula.formula-index f c.loop-formula-test.true c.formula-item.is);
       waiting = c.in_ok-push_turns.ensures.waiting x.program.now
           (subst (λ h. AreWaitingAt x.program.now (form_of h) c.in_ok-waiting.waiting.value) (sym same)
-          (subst (AreWaitingAt x.program.now (form_of f)) (sym c.in_ok-waiting.ensures.ok)
-          (subst (λ rules. WaitsAt n (form_of f) rules c.in_ok-waiting_at.field-0) c.requires.rules
-          (All-contains (λ g. WaitsAt n (form_of g) (rules_of x.closed.now) c.in_ok-waiting_at.field-0) fs f
-          c.in_ok-waiting_at.ensures
-          (item-there fs c.loop-formula.formula-index f c.loop-formula-test.true c.formula-item.is)))))
+          (subst (λ rules. WaitsAt n (form_of f) rules c.in_ok-waiting.waiting.value) c.requires.rules
+          (All-contains (λ g. WaitsAt n (form_of g) (rules_of x.closed.now) c.in_ok-waiting.waiting.value) fs f
+          c.in_ok-waiting.ensures.waits
+          (item-there fs c.loop-formula.formula-index f c.loop-formula-test.true c.formula-item.is))))
           c.loop-formula.invariant.waiting;
     }

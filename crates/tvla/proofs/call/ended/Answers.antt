@@ -14,5 +14,6 @@ returns-in-Ok g c =
         err = c.tvla.ensures.err;
         exact = c.tvla.ensures.exact;
         complete = c.tvla.ensures.complete;
+        begins = c.tvla.ensures.begins;
       }),
     )

@@ -1,0 +1,6 @@
+//! What the text of a compiled program means as a file; no code.
+#![tactic(auto)]
+
+mod laws;
+
+pub use laws::compiled_texts_are_programs;

@@ -1,0 +1,42 @@
+use Rattle.std.proofs.Common.{◌≡◌, ℕ}
+use Rattle.std.proofs.lemmas.Result.{err_from_is_err_and}
+use Rattle.std.specs.declared.alloc.Global.{Global}
+use Rattle.std.specs.declared.vec.Vec.{Vec}
+use Rattle.tv_explain_source.specs.declared.source.SourceText.{SourceText}
+use Rattle.tv_explain.proofs.Begins.{one_file}
+use Rattle.tv_explain.proofs.Causes.{source_fault, unless_not_read, writing_fault, written_text}
+use Rattle.tv_explain.proofs.work.compiled.Goals as goal
+
+pub returns-in_err-read-clause-cause : goal.returns-in_err-read-clause-cause
+returns-in_err-read-clause-cause g c =
+    let p = err_from_is_err_and c.from_residual.result c.from_residual.ensures.1 in
+    rw (p.1, p.2) (source_fault _ c.args.source.now _ _ _ c.in_err-read.ensures.cause)
+
+pub returns-in_err-read-clause-steady : goal.returns-in_err-read-clause-steady
+returns-in_err-read-clause-steady g c =
+    let p = err_from_is_err_and c.from_residual.result c.from_residual.ensures.1 in
+    let new = c.load_source_text.new.files in
+    let old = c.args.files.now in
+    rw (p.1, p.2) (λ s. unless_not_read SourceText (Vec ℕ Global) c.in_err-read.field-0.0
+    (g.F.Files.steady new × (g.F.Files.faults new ≡ g.F.Files.faults old))
+    (g.F.Files.steady new × (g.F.Files.faults new ≡ g.F.Files.faults old)) (λ h. h)
+    (c.in_err-read.ensures.steady s))
+
+pub returns-clause-begins : goal.returns-clause-begins
+returns-clause-begins g c = one_file _ _ _ c.in_ok-read.ensures.begins
+
+pub returns-in_err-compiled_text-clause-cause : goal.returns-in_err-compiled_text-clause-cause
+returns-in_err-compiled_text-clause-cause g c =
+    let p = err_from_is_err_and c.from_residual-in_err-compiled_text.result
+    c.from_residual-in_err-compiled_text.ensures.1 in
+    rw (p.1, p.2) (writing_fault _ c.args.source.now c.in_ok-read.read _ _ c.in_err-compiled_text.field-0.0
+    c.in_ok-read.ensures.means (rw c.deref.ensures.value at c.in_err-compiled_text.ensures.fault))
+
+pub returns-clause-found : goal.returns-clause-found
+returns-clause-found g c = (
+  c.in_ok-read.read,
+  c.in_ok-read.ensures.means,
+  written_text c.compiled_texts_are_programs.ensures c.in_ok-read.read c.in_ok-compiled_text.field-0.items
+      (rw c.deref.ensures.value at c.in_ok-compiled_text.ensures.text) c.in_ok-compiled_text.ensures.means
+      c.in_ok-compiled_text.ensures.size,
+)

@@ -1,0 +1,24 @@
+use Rattle.std.proofs.lemmas.Result.{IfErr-weaker, IfOk-weaker, err_from_is_err_and}
+use Rattle.tv_explain.proofs.Begins.{always}
+use Rattle.tv_explain.proofs.Causes.{losses_stopped, losses_unread}
+use Rattle.tv_explain_words.specs.Words.{analyzed_of}
+use Rattle.tv_explain.proofs.work.losses.Goals as goal
+
+pub returns-in_err-inputs-clause-cause : goal.returns-in_err-inputs-clause-cause
+returns-in_err-inputs-clause-cause g c =
+    let p = err_from_is_err_and c.from_residual.result c.from_residual.ensures.1 in
+    rw (p.1, p.2) (losses_unread _ (analyzed_of c.args.of.now) _ _ _ c.in_err-inputs.ensures.cause)
+
+pub returns-clause-cause : goal.returns-clause-cause
+returns-clause-cause g c =
+    IfErr-weaker c.losses_answer.result _ _
+    (λ f h. losses_stopped _ (analyzed_of c.args.of.now) c.in_ok-inputs.inputs _ _ f c.in_ok-inputs.ensures.means h)
+    c.losses_answer.ensures.cause
+
+pub returns-clause-found : goal.returns-clause-found
+returns-clause-found g c =
+    IfOk-weaker c.losses_answer.result _ _ (λ t h. (c.in_ok-inputs.inputs, c.in_ok-inputs.ensures.means, h))
+    c.losses_answer.ensures.found
+
+pub returns-clause-begins : goal.returns-clause-begins
+returns-clause-begins g c = always c.losses_answer.result _ c.in_ok-inputs.ensures.begins

@@ -1,0 +1,6 @@
+//! Sets of rules, each found by a list of predicates, so that what depends on the same predicates shares one.
+#![tactic(auto)]
+
+mod found;
+
+pub use found::{Found, Kept, found_for, keep, none_found};

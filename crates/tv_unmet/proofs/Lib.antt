@@ -1,0 +1,4 @@
+mod Claims
+mod Closing
+mod First
+mod Validity

@@ -1,0 +1,5 @@
+mod Beginning
+mod Choices
+mod Coercing
+mod Differing
+mod Foretelling

@@ -1,0 +1,109 @@
+use Rattle.std.proofs.Common.{◌≡◌, ◌∙◌, ◌<◌, List, [], ◌∷◌, ◌++◌, refl, sym, subst, arith, length, get_or}
+use Rattle.std.specs.Prelude.{OnOk}
+use Rattle.std.specs.List.{between, flat_map}
+use Rattle.std.proofs.lemmas.Slice.{first_rest}
+use Rattle.tv_struct.specs.StructureForm.{StructureForm}
+use Rattle.tv_focus_laws.specs.Choices.{ChoiceForm, VectorSet}
+use Rattle.tv_focus.specs.Puts.{AreChosen, IsChoiceOf, chosen_tables}
+use Rattle.tv_step_laws.specs.Parts.{AreFrom}
+use Rattle.tv_step_laws.specs.Transfer.{Coerces}
+use Rattle.tv_walk.specs.Walk.{AddsCoerced, CanWalk, Foretells, IsAbove, walk_aim, walk_pred, walk_program}
+use Rattle.tv_walk.specs.Walk.{walk_table}
+use Rattle.tv_walk.proofs.Choices.{adds-none, below-above, nothing-adds, one-more}
+use Rattle.tv_walk.proofs.walk.+walk_sets.Goals as goal
+
+none : {X : Type 0} (xs : List X) → length xs < 1 → xs ≡ []
+none [] few = refl
+none (x ∷ xs) few = absurd (omega (arith, few))
+
+-- ---- no individual is left
+
+pub walk_sets-push_choice-requires-clause-choice : goal.walk_sets-push_choice-requires-clause-choice
+walk_sets-push_choice-requires-clause-choice t c =
+    let w = c.args.w.now
+    in let above : IsAbove w c.args.c.now c.args.choice.now.items
+    = subst (AreChosen (IsAbove w c.args.c.now) c.args.choice.now.items) (none c.args.sets.now c.in-empty.len_below)
+    c.requires.choices
+    in subst (IsChoiceOf w.from.now (walk_pred w) (walk_aim w)) (sym c.as_slice.ensures.value) above.of
+
+pub walk_sets-returns-in-empty-clause-out : goal.walk_sets-returns-in-empty-clause-out
+walk_sets-returns-in-empty-clause-out t c =
+    let w = c.args.w.now
+    in subst (λ sets. OnOk c.push_choice.result (AddsCoerced w
+    (chosen_tables (walk_table w) c.args.choice.now.items sets) c.args.out.now c.push_choice.new.out))
+    (sym (none c.args.sets.now c.in-empty.len_below))
+    (subst (λ choice. OnOk c.push_choice.result (AddsCoerced w (walk_table w choice ∷ []) c.args.out.now
+    c.push_choice.new.out)) c.as_slice.ensures.value c.push_choice.ensures.out)
+
+pub walk_sets-returns-in-len1-up-clause-out : goal.walk_sets-returns-in-len1-up-clause-out
+walk_sets-returns-in-len1-up-clause-out t c =
+    let w = c.args.w.now
+    in let begun : ChoiceForm = c.args.choice.now.items
+    in let rest = between 1 (length c.args.sets.now) c.args.sets.now
+    in let whole : c.args.sets.now ≡ get_or c.args.sets.now 0 c.first-item.result ∷ rest
+    = first_rest c.args.sets.now c.first-item.result (omega (arith, c.in-len1-up.len_at_least))
+    in subst (λ sets. OnOk c.walk_one.result
+    (AddsCoerced w (chosen_tables (walk_table w) begun sets) c.args.out.now c.walk_one.new.out)) (sym whole)
+    (subst (λ first. OnOk c.walk_one.result
+    (AddsCoerced w (flat_map (λ set. chosen_tables (walk_table w) (begun ++ set ∷ []) rest) first) c.args.out.now
+    c.walk_one.new.out)) (c.as_slice-in-len1-up.ensures ∙ c.first-item.is) c.walk_one.ensures.out)
+
+-- ---- one set after the other
+
+pub walk_one-returns-in-empty-clause-out : goal.walk_one-returns-in-empty-clause-out
+walk_one-returns-in-empty-clause-out t c =
+    let w = c.args.w.now
+    in let tables : VectorSet → List StructureForm
+    = λ set. chosen_tables (walk_table w) (c.args.choice.now.items ++ set ∷ []) c.args.rest.now
+    in adds-none w (flat_map tables c.args.first.now) c.args.out.now
+    (subst (λ sets. AreFrom (Coerces (walk_program w)) (flat_map tables sets) [])
+    (sym (none c.args.first.now c.in-empty.len_below)) refl)
+
+pub walk_one-returns-in_ok-walk_one-in-len1-up-clause-out : goal.walk_one-returns-in_ok-walk_one-in-len1-up-clause-out
+walk_one-returns-in_ok-walk_one-in-len1-up-clause-out t c =
+    let w = c.args.w.now
+    in let begun : ChoiceForm = c.args.choice.now.items
+    in let set = get_or c.args.first.now 0 c.set-item.result
+    in let later = between 1 (length c.args.first.now) c.args.first.now
+    in let whole : c.args.first.now ≡ set ∷ later
+    = first_rest c.args.first.now c.set-item.result (omega (arith, c.in-len1-up.len_at_least))
+    in subst (λ sets. AddsCoerced w
+    (flat_map (λ one. chosen_tables (walk_table w) (begun ++ one ∷ []) c.args.rest.now) sets) c.args.out.now
+    c.walk_one.new.out) (sym whole)
+    (one-more w begun c.walk_with.new.choice.items c.args.rest.now set later c.args.out.now c.walk_with.new.out
+    c.walk_one.new.out c.in_ok-walk_with-in-len1-up.ensures.choice
+    (subst (λ one. AddsCoerced w (chosen_tables (walk_table w) (begun ++ one ∷ []) c.args.rest.now) c.args.out.now
+    c.walk_with.new.out) (c.as_slice.ensures ∙ c.set-item.is) c.in_ok-walk_with-in-len1-up.ensures.out)
+    c.in_ok-walk_one-in-len1-up.ensures.out)
+
+-- ---- what a set foretells
+
+pub walk_with-returns-in-Nothing-clause-out : goal.walk_with-returns-in-Nothing-clause-out
+walk_with-returns-in-Nothing-clause-out t c =
+    let w = c.args.w.now
+    in nothing-adds w c.args.c.now c.args.u c.args.set.now c.args.rest.now c.args.choice.now.items c.args.out.now
+    c.requires.place c.requires.choices
+    (subst (Foretells w c.args.c.now c.args.u c.args.set.now) c.in-Nothing.is c.in_ok-look_ahead.ensures.outlook)
+
+pub walk_with-walk_on-requires-in-Below : goal.walk_with-walk_on-requires-in-Below
+walk_with-walk_on-requires-in-Below t c =
+    let w = c.args.w.now
+    in let foretells
+    = subst (Foretells w c.args.c.now c.args.u c.args.set.now) c.in-Below.is c.in_ok-look_ahead.ensures.outlook
+    in (
+      omega (arith, c.decreases),
+      (
+        subst (CanWalk w) (sym c.in_ok-look_ahead.ensures.scratch) c.requires.can,
+        (
+          foretells.0,
+          (
+            c.requires.place,
+            (
+              c.requires.places ∙ c.requires.hand.alike.size ∙ sym foretells.0.alike.size,
+              below-above w c.args.c.now c.in-Below.d c.args.u c.args.set.now c.args.rest.now
+                  c.args.choice.now.items c.requires.place c.requires.choices foretells,
+            ),
+          ),
+        ),
+      ),
+    )
