@@ -1,10 +1,12 @@
 -- What is said of losses, and whether there are any.
-use Rattle.std.specs.Prelude.{ℕ, ◌≡◌, ◌↔◌, List, [], IsTrue}
+use Rattle.std.specs.Prelude.{ℕ, ◌≡◌, ◌↔◌, List, [], Option, IsTrue}
 use Rattle.tv_model.specs.declared.program.Mode.{Mode}
 use Rattle.tv_model.specs.Program.{ProgramForm}
 use Rattle.tv_struct.specs.StructureForm.{StructureForm}
 use Rattle.tv_losses.specs.Losses.{AreLosses}
 use Rattle.tv_losses.specs.declared.told.Losses.{Losses}
+use Rattle.tv_unmet.specs.Unmet.{AreFound}
+use Rattle.tv_unmet.specs.declared.claim.Claim.{Claim}
 use Rattle.tv_losses_text.specs.Texts.{losses_text}
 use Rattle.tv_losses_text.specs.declared.report.LossReport.{LossReport}
 
@@ -14,10 +16,13 @@ pub record AreNone (losses : Losses) : Type 0 where
   pub no_nodes : losses.nodes ≡ []
   pub no_edges : losses.edges ≡ []
 
--- the report is on the losses of the analysis
+-- the report is on the losses of the analysis, and tells of each initial structure without an opening the first
+-- declaration that it contradicts alone, or that there is none
 pub record IsLossReport (p : ProgramForm) (heads : List (List ℕ)) (mode : Mode) (initial : List StructureForm)
     (max : ℕ) (report : LossReport) : Type 0 where
   pub losses : Losses
   pub are : AreLosses p mode initial max losses
-  pub text : report.text.items ≡ losses_text p.nodes heads losses
+  pub claims : List (Option Claim)
+  pub found : AreFound p initial losses.initial claims
+  pub text : report.text.items ≡ losses_text p heads claims losses
   pub any : IsTrue report.is_any ↔ (¬ AreNone losses)

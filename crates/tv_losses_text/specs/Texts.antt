@@ -1,21 +1,47 @@
 -- The text of losses.
-use Rattle.std.specs.Prelude.{ℕ, List, [], ◌∷◌, ◌++◌, Option, None, Some, slice_get, codes}
+use Rattle.std.specs.Prelude.{ℕ, suc, List, [], ◌∷◌, ◌++◌, Option, None, Some, slice_get, codes}
 use Rattle.tv_edge_heads.specs.Heads.{head_at}
 use Rattle.tv_file_lines.specs.Numbered.{numbered}
 use Rattle.tv_losses.specs.declared.told.EdgeLoss.{EdgeLoss}
 use Rattle.tv_losses.specs.declared.told.Losses.{Losses}
-
--- `initial NUMBER has no opening`
-abbrev pub initial_loss : (number : ℕ) → List ℕ
-initial_loss number = numbered (codes "initial ") number ++ codes " has no opening\n"
-
-abbrev pub initial_losses : List ℕ → List ℕ
-initial_losses [] = []
-initial_losses (number ∷ numbers) = initial_loss number ++ initial_losses numbers
+use Rattle.tv_model.specs.Program.{ProgramForm, PredForm}
+use Rattle.tv_unmet.specs.declared.claim.Claim.{Claim}
+use Rattle.tv_unmet.specs.declared.claim.Claim.TheVariants.{Predicate, Rule}
 
 abbrev pub name_of : Option (List ℕ) → List ℕ
 name_of None = []
 name_of (Some name) = name
+
+abbrev pub name_of_pred : Option PredForm → List ℕ
+name_of_pred None = []
+name_of_pred (Some d) = d.name
+
+-- `the declaration of `, and the name of the predicate of this number
+abbrev pub declaration_written : ProgramForm → (q : ℕ) → List ℕ
+declaration_written p q = codes "the declaration of " ++ name_of_pred (slice_get p.preds q)
+
+-- `the declaration of NAME`, `rule NUMBER`, or that no declaration alone is contradicted
+abbrev pub claim_written : ProgramForm → Option Claim → List ℕ
+claim_written p (Some (Predicate q)) = declaration_written p q.0
+claim_written p (Some (Rule number)) = numbered (codes "rule ") number
+claim_written p None = codes "declarations together"
+
+-- `initial NUMBER has no opening, by `, what it contradicts, and a line feed
+abbrev pub initial_loss : ProgramForm → (number : ℕ) → Option Claim → List ℕ
+initial_loss p number claim =
+    numbered (codes "initial ") number
+    ++ (codes " has no opening, by " ++ (claim_written p claim ++ codes "\n"))
+
+-- the claim in this place, none where there is no such place
+abbrev pub claim_in : Option (Option Claim) → Option Claim
+claim_in None = None
+claim_in (Some claim) = claim
+
+-- so of each number, with the claim in the same place, from this place on
+abbrev pub initial_losses : ProgramForm → (claims : List (Option Claim)) → (place : ℕ) → List ℕ → List ℕ
+initial_losses p claims place [] = []
+initial_losses p claims place (number ∷ numbers) =
+    initial_loss p number (claim_in (slice_get claims place)) ++ initial_losses p claims (suc place) numbers
 
 -- the name of the node of this number
 abbrev pub name_written : (names : List (List ℕ)) → (node : ℕ) → List ℕ
@@ -45,14 +71,16 @@ edge_losses heads [] = []
 edge_losses heads (loss ∷ losses) = edge_loss heads loss ++ edge_losses heads losses
 
 -- a line for each loss: initial structures, nodes, edges
-abbrev pub lost_lines : (names heads : List (List ℕ)) → Losses → List ℕ
-lost_lines names heads losses =
-    initial_losses losses.initial ++ (node_losses names losses.nodes ++ edge_losses heads losses.edges)
+abbrev pub lost_lines : ProgramForm → (heads : List (List ℕ)) → (claims : List (Option Claim)) → Losses → List ℕ
+lost_lines p heads claims losses =
+    initial_losses p claims 0 losses.initial ++ (node_losses p.nodes losses.nodes
+    ++ edge_losses heads losses.edges)
 
 -- `nothing is lost` in place of no lines
 abbrev pub said_of : (lines : List ℕ) → List ℕ
 said_of [] = codes "nothing is lost\n"
 said_of (byte ∷ bytes) = byte ∷ bytes
 
-abbrev pub losses_text : (names heads : List (List ℕ)) → Losses → List ℕ
-losses_text names heads losses = said_of (lost_lines names heads losses)
+abbrev pub losses_text : ProgramForm → (heads : List (List ℕ)) → (claims : List (Option Claim)) → Losses
+    → List ℕ
+losses_text p heads claims losses = said_of (lost_lines p heads claims losses)

@@ -1,30 +1,103 @@
 //! Losses, each in one line.
 
-ghost use Rattle.std.specs.Prelude.{◌≡◌, ◌++◌, IfOk, OnOk};
+ghost use Rattle.std.specs.Prelude.{◌≡◌, ◌++◌, ◌<◌, IfOk, OnOk, Some, length, slice_get};
+ghost use Rattle.tv_model.specs.Program.{program_of};
 ghost use Rattle.tv_losses_text.specs.Texts.{edge_loss, edge_losses, initial_loss, initial_losses};
 ghost use Rattle.tv_losses_text.specs.Texts.{losses_text, lost_lines, node_loss, node_losses};
-ghost use Rattle.tv_losses_text.specs.Texts.{head_line, name_written};
+ghost use Rattle.tv_losses_text.specs.Texts.{claim_in, claim_written, declaration_written};
+ghost use Rattle.tv_losses_text.specs.Texts.{head_line, name_of_pred, name_written};
 
 use std::alloc::{AllocError, Global};
 use tv_edge_heads::head_at;
 use tv_file_lines::append_numbered;
 use tv_losses::{EdgeLoss, Losses};
-use tv_model::{Bytes, Names};
+use tv_model::{Bytes, Names, PredId, Program};
+use tv_unmet::Claim;
 
-/// Appends that the initial structure of this number has no opening.
-fn append_initial(out: &mut Vec<u8>, number: usize) -> Result<(), AllocError>
-    ensures { OnOk result (out.new.items ≡ out.old.items ++ initial_loss number) }
+/// Appends the name of the predicate.
+fn append_pred(out: &mut Vec<u8>, program: &Program, p: PredId) -> Result<(), AllocError>
+    ensures { OnOk result (out.new.items
+        ≡ out.old.items ++ name_of_pred (slice_get (program_of program.now).preds p.0)) }
 {
-    append_numbered(out, b"initial ", number)?;
-    out.extend_from_slice(b" has no opening\n")
+    match program.vocab.preds.as_slice().get(p.0 as usize) {
+        None => Ok(()),
+        Some(pred) => out.extend_from_slice(pred.name.as_slice()),
+    }
 }
 
-/// Appends the same of each.
-fn append_initials(out: &mut Vec<u8>, numbers: &[usize]) -> Result<(), AllocError>
-    ensures { OnOk result (out.new.items ≡ out.old.items ++ initial_losses numbers.now) }
+/// Appends that it is what is declared of the predicate.
+fn append_declaration(out: &mut Vec<u8>, program: &Program, p: PredId) -> Result<(), AllocError>
+    ensures { OnOk result
+        (out.new.items ≡ out.old.items ++ declaration_written (program_of program.now) p.0) }
 {
-    for number in numbers {
-        append_initial(out, *number)?;
+    out.extend_from_slice(b"the declaration of ")?;
+    append_pred(out, program, p)
+}
+
+/// Appends which declaration it is.
+fn append_claim(
+    out: &mut Vec<u8>,
+    program: &Program,
+    claim: Option<Claim>,
+) -> Result<(), AllocError>
+    ensures { OnOk result
+        (out.new.items ≡ out.old.items ++ claim_written (program_of program.now) claim) }
+{
+    match claim {
+        None => out.extend_from_slice(b"declarations together"),
+        Some(Claim::Rule(number)) => append_numbered(out, b"rule ", number),
+        Some(Claim::Predicate(p)) => append_declaration(out, program, p),
+    }
+}
+
+/// Appends that the initial structure of this number has no opening, and which declaration it contradicts.
+fn append_initial(
+    out: &mut Vec<u8>,
+    program: &Program,
+    number: usize,
+    claim: Option<Claim>,
+) -> Result<(), AllocError>
+    ensures { OnOk result
+        (out.new.items ≡ out.old.items ++ initial_loss (program_of program.now) number claim) }
+{
+    append_numbered(out, b"initial ", number)?;
+    out.extend_from_slice(b" has no opening, by ")?;
+    append_claim(out, program, claim)?;
+    out.extend_from_slice(b"\n")
+}
+
+/// The claim in this place.
+fn claim_at(claims: &[Option<Claim>], place: usize) -> Option<Claim>
+    ensures { result ≡ claim_in (slice_get claims.now place) }
+{
+    match claims.get(place) {
+        None => None,
+        Some(claim) => *claim,
+    }
+}
+
+/// The number in this place.
+fn number_at(numbers: &[usize], place: usize) -> usize
+    requires { place < length numbers.now }
+    ensures { slice_get numbers.now place ≡ Some result }
+{
+    numbers[place]
+}
+
+/// Appends the same of each, with the claim in its place.
+fn append_initials(
+    out: &mut Vec<u8>,
+    program: &Program,
+    claims: &[Option<Claim>],
+    numbers: &[usize],
+) -> Result<(), AllocError>
+    ensures { OnOk result (out.new.items
+        ≡ out.old.items ++ initial_losses (program_of program.now) claims.now 0 numbers.now) }
+{
+    for place in 0..numbers.len() {
+        let number = number_at(numbers, place);
+        let claim = claim_at(claims, place);
+        append_initial(out, program, number, claim)?;
     }
     Ok(())
 }
@@ -91,39 +164,42 @@ fn append_edges(out: &mut Vec<u8>, heads: &[Bytes], losses: &[EdgeLoss]) -> Resu
 /// Appends a line for each loss.
 fn append_losses(
     out: &mut Vec<u8>,
-    names: &Names,
+    program: &Program,
     heads: &[Bytes],
+    claims: &[Option<Claim>],
     losses: &Losses,
 ) -> Result<(), AllocError>
-    ensures { OnOk result
-        (out.new.items ≡ out.old.items ++ lost_lines names.now heads.now losses.now) }
+    ensures { OnOk result (out.new.items
+        ≡ out.old.items ++ lost_lines (program_of program.now) heads.now claims.now losses.now) }
 {
-    append_initials(out, losses.initial.as_slice())?;
-    append_nodes(out, names, losses.nodes.as_slice())?;
+    append_initials(out, program, claims, losses.initial.as_slice())?;
+    append_nodes(out, &program.nodes, losses.nodes.as_slice())?;
     append_edges(out, heads, losses.edges.as_slice())
 }
 
-/// The losses, each in one line: `initial 2 has no opening`, `node L3 lists nothing`, and
+/// The losses, each in one line: `initial 2 has no opening, by rule 0`, `node L3 lists nothing`, and
 /// `edge 4 loses 3 of 5 structures, first 0  p.tvp:9  L1 Copy_Var ( y , x ) L2`, with the head of the edge;
-/// `nothing is lost` where there are none. The names are those of the program's nodes, and the heads those of
-/// its edges.
+/// `nothing is lost` where there are none. The heads are those of the program's edges, and the claims, one for
+/// each initial structure that is lost, the declarations that these contradict: `by the declaration of x`, or
+/// `by declarations together` where there is no claim.
 ///
 /// # Errors
 /// Want of memory.
 pub fn losses_text(
     alloc: Global,
-    names: &Names,
+    program: &Program,
     heads: &[Bytes],
+    claims: &[Option<Claim>],
     losses: &Losses,
 ) -> Result<Vec<u8>, AllocError>
     ensures { IfOk result
-        (λ text. text.items ≡ losses_text names.now heads.now losses.now) }
+        (λ text. text.items ≡ losses_text (program_of program.now) heads.now claims.now losses.now) }
 {
     let mut out = Vec::new(alloc);
     if losses.are_none() {
         out.extend_from_slice(b"nothing is lost\n")?;
         return Ok(out);
     }
-    append_losses(&mut out, names, heads, losses)?;
+    append_losses(&mut out, program, heads, claims, losses)?;
     Ok(out)
 }

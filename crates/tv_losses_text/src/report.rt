@@ -13,6 +13,7 @@ use std::alloc::Global;
 use tv_losses::losses;
 use tv_model::{Bytes, Mode, Program};
 use tv_struct::Structures;
+use tv_unmet::first_unmet_each;
 use tv_work::WorkError;
 
 /// The text of losses, and whether there are any.
@@ -23,7 +24,8 @@ pub struct LossReport {
 }
 
 /// What the analysis of the program from these initial structures may owe its silence to, each loss in one
-/// line, and whether there is any. The heads are those of the program's edges. Errors are those of the
+/// line, and whether there is any; of an initial structure without an opening the first declaration that it
+/// contradicts alone, if there is one. The heads are those of the program's edges. Errors are those of the
 /// analysis: `Structures` only where over `max` structures are reached, `Splits` and `Individuals` only where
 /// the step of a reached structure meets that budget.
 pub fn explain_losses(
@@ -42,7 +44,8 @@ pub fn explain_losses(
         (IsReached (program_of program.now) mode initial.now)) }
 {
     let found = losses(alloc, program, initial, mode, max)?;
-    let text = losses_text(alloc, &program.nodes, heads, &found)?;
+    let claims = first_unmet_each(alloc, program, initial.as_slice(), found.initial.as_slice())?;
+    let text = losses_text(alloc, program, heads, claims.as_slice(), &found)?;
     Ok(LossReport {
         text,
         is_any: !found.are_none(),

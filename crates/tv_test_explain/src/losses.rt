@@ -35,6 +35,13 @@ const FOCUSED: &str = "%p x(v) unique %p b() %r b() ==> 0 %%
 const PICKED: &str = "%p x(v) unique %p b() %r b() ==> 0 %%
 %action set() { %p x(v) & !x(w) { b() = 1 } } %% L1 set() L2";
 
+/// Rules against each of two predicates.
+const EXCLUDED: &str = "%p b() %p c() %r c() ==> 0 %r b() ==> 0 %%
+%action skip() { } %% L skip() L";
+
+/// A rule against a predicate, and one against its negation.
+const NEITHER: &str = "%p b() %r b() ==> 0 %r !b() ==> 0 %% %action skip() { } %% L skip() L";
+
 const NOTHING: Row<'static, 'static, 'static, 'static> = Row {
     words: &["losses", "p", "i"],
     out: "nothing is lost\n",
@@ -47,7 +54,7 @@ const LOST: Row<'static, 'static, 'static, 'static> = Row {
     ..PLAIN
 };
 
-static LOSSES: [Row<'static, 'static, 'static, 'static>; 18] = [
+static LOSSES: [Row<'static, 'static, 'static, 'static>; 20] = [
     Row {
         files: &[("p", DEFINED), ("i", "%n = {a} %p = { x = {a} some = 1 }")],
         ..NOTHING
@@ -55,7 +62,7 @@ static LOSSES: [Row<'static, 'static, 'static, 'static>; 18] = [
     // what isn't written of `some` is 0
     Row {
         files: &[("p", DEFINED), ("i", "%n = {a} %p = { x = {a} }")],
-        out: "initial 0 has no opening
+        out: "initial 0 has no opening, by the declaration of some
 node L1 lists nothing
 node L2 lists nothing
 ",
@@ -69,7 +76,29 @@ node L2 lists nothing
                 "%n = {a} %p = { x = {a} some = 1 } %n = {a} %p = { some = 1 } %n = {} %p = { some = 1 }",
             ),
         ],
-        out: "initial 1 has no opening\ninitial 2 has no opening\n",
+        out: "initial 1 has no opening, by the declaration of some
+initial 2 has no opening, by the declaration of some
+",
+        ..LOST
+    },
+    // of two rules that are contradicted the first is named
+    Row {
+        files: &[
+            ("p", EXCLUDED),
+            ("i", "%n = {} %p = { b = 1 } %n = {} %p = { b = 1 c = 1 }"),
+        ],
+        out: "initial 0 has no opening, by rule 1
+initial 1 has no opening, by rule 0
+node L lists nothing
+",
+        ..LOST
+    },
+    // each rule alone leaves a value of `b`, and both leave none
+    Row {
+        files: &[("p", NEITHER), ("i", "%n = {} %p = { b = 1/2 }")],
+        out: "initial 0 has no opening, by declarations together
+node L lists nothing
+",
         ..LOST
     },
     // of two structures that in which `x` points to a cell, which has two and so stands second

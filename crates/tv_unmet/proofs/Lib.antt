@@ -1,4 +1,5 @@
 mod Claims
 mod Closing
 mod First
+mod Each
 mod Validity

@@ -1,2 +1,3 @@
 pub mod Unmet
 pub mod Alone
+pub mod Tried

@@ -1,5 +1,6 @@
 -- Which declaration alone leaves no stable structure below a structure.
-use Rattle.std.specs.Prelude.{ℕ, ◌<◌, List, [], ◌∷◌, map, Option, None, Some, slice_get}
+use Rattle.std.specs.Prelude.{ℕ, ◌≡◌, ◌<◌, List, [], ◌∷◌, map, Option, None, Some, slice_get}
+use Rattle.std.specs.List.{AllZip}
 use Rattle.tv_model.specs.Program.{ProgramForm, PredForm, RuleForm}
 use Rattle.tv_model.specs.declared.formula.PredId.{PredId}
 use Rattle.tv_rules.specs.Closing.{closed_rules, closed_set, dropped_rule, pred_rules}
@@ -36,17 +37,28 @@ IsBefore (Predicate q) (Rule number) = Unit {0}
 IsBefore (Rule number) (Predicate q) = ⊥
 IsBefore (Rule number) (Rule other) = number < other
 
+-- the structure contradicts none of the declarations before this one
+abbrev pub MeetsBefore : ProgramForm → StructureForm → Claim → Type 0
+MeetsBefore p s claim = (other : Claim) → IsBefore other claim → ¬ IsUnmet p s other
+
 -- it is the first declaration that the structure contradicts
 abbrev pub IsFirstUnmet : ProgramForm → StructureForm → Claim → Type 0
-IsFirstUnmet p s claim = IsUnmet p s claim × ((other : Claim) → IsBefore other claim → ¬ IsUnmet p s other)
-
--- it contradicts the declaration of no predicate
-abbrev pub MeetsPreds : ProgramForm → StructureForm → Type 0
-MeetsPreds p s = (q : PredId) → ¬ IsUnmet p s (Predicate q)
+IsFirstUnmet p s claim = IsUnmet p s claim × MeetsBefore p s claim
 
 -- it contradicts none alone
 abbrev pub MeetsEach : ProgramForm → StructureForm → Type 0
 MeetsEach p s = (claim : Claim) → ¬ IsUnmet p s claim
+
+-- what is found is the first declaration that the structure contradicts, or none where it contradicts none
+abbrev pub IsFound : ProgramForm → StructureForm → Option Claim → Type 0
+IsFound p s None = MeetsEach p s
+IsFound p s (Some claim) = IsFirstUnmet p s claim
+
+-- so for each of the numbers, in order, of the structure of this number
+abbrev pub AreFound : ProgramForm → (structures : List StructureForm) → (numbers : List ℕ)
+    → List (Option Claim) → Type 0
+AreFound p structures numbers found =
+    AllZip (λ number c. (s : StructureForm) → slice_get structures number ≡ Some s → IsFound p s c) numbers found
 
 -- what contradicts a declaration alone has no stable structure below it under all rules of the program
 abbrev pub UnmetLeavesNone : Type 0

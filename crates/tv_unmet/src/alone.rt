@@ -1,9 +1,11 @@
 //! The program that makes one declaration alone.
 
-ghost use Rattle.std.specs.Prelude.{◌≡◌, [], ◌∷◌, IfOk, map, codes};
+ghost use Rattle.std.specs.Prelude.{◌≡◌, [], ◌∷◌, IfOk, OnOk, map, codes};
 ghost use Rattle.tv_model.specs.Program.{action_of, kind_of, pred_of, program_of, rule_of};
 ghost use Rattle.tv_unmet.specs.Alone.{alone, idle, kept_pred, loop_edge, plain_pred, preds_alone};
 ghost use Rattle.tv_unmet.specs.Alone.{rules_alone};
+ghost use Rattle.tv_unmet.specs.Tried.{IsOfRule};
+ghost use Rattle.tv_unmet.specs.declared.claim.Claim.TheVariants.{Rule as OfRule};
 
 use crate::claim::Claim;
 use std::alloc::{AllocError, Global};
@@ -176,4 +178,18 @@ pub fn alone(alloc: Global, program: &Program, claim: Claim) -> Result<Program, 
         edges,
         nodes,
     })
+}
+
+/// Puts the rule of this number in the place of that which `made` makes alone.
+pub fn exchange_rule(
+    alloc: Global,
+    program: &Program,
+    made: &mut Program,
+    number: usize,
+) -> Result<(), AllocError>
+    requires { IsOfRule (program_of program.now) (program_of made.old) }
+    ensures { OnOk result (program_of made.new ≡ alone (OfRule number) (program_of program.now)) }
+{
+    made.rules = rules_alone(alloc, program.rules.as_slice(), Claim::Rule(number))?;
+    Ok(())
 }
