@@ -11,6 +11,7 @@ mod merge;
 mod names;
 mod values;
 
+pub use ascending::is_blurred;
 pub use canonical::{blur, into_blurred};
 pub use laws::{
     blur_is_one, blur_keeps_names, blur_keeps_stable, merging_covers, merging_keeps_stable,

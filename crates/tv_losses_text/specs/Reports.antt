@@ -16,8 +16,8 @@ pub record AreNone (losses : Losses) : Type 0 where
   pub no_nodes : losses.nodes ≡ []
   pub no_edges : losses.edges ≡ []
 
--- the report is on the losses of the analysis, and tells of each initial structure without an opening the first
--- declaration that it contradicts alone, or that there is none
+-- the report is on the losses of the analysis, and tells of each initial structure without an opening the
+-- first declaration that it contradicts alone, or that there is none
 pub record IsLossReport (p : ProgramForm) (heads : List (List ℕ)) (mode : Mode) (initial : List StructureForm)
     (max : ℕ) (report : LossReport) : Type 0 where
   pub losses : Losses

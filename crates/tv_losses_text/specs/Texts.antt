@@ -71,7 +71,8 @@ edge_losses heads [] = []
 edge_losses heads (loss ∷ losses) = edge_loss heads loss ++ edge_losses heads losses
 
 -- a line for each loss: initial structures, nodes, edges
-abbrev pub lost_lines : ProgramForm → (heads : List (List ℕ)) → (claims : List (Option Claim)) → Losses → List ℕ
+abbrev pub lost_lines : ProgramForm → (heads : List (List ℕ)) → (claims : List (Option Claim)) → Losses
+    → List ℕ
 lost_lines p heads claims losses =
     initial_losses p claims 0 losses.initial ++ (node_losses p.nodes losses.nodes
     ++ edge_losses heads losses.edges)

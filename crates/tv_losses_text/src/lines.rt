@@ -179,9 +179,9 @@ fn append_losses(
 
 /// The losses, each in one line: `initial 2 has no opening, by rule 0`, `node L3 lists nothing`, and
 /// `edge 4 loses 3 of 5 structures, first 0  p.tvp:9  L1 Copy_Var ( y , x ) L2`, with the head of the edge;
-/// `nothing is lost` where there are none. The heads are those of the program's edges, and the claims, one for
-/// each initial structure that is lost, the declarations that these contradict: `by the declaration of x`, or
-/// `by declarations together` where there is no claim.
+/// `nothing is lost` where there are none. The heads are those of the program's edges, and the claims, one
+/// for each initial structure that is lost, the declarations that these contradict: `by the declaration of
+/// x`, or `by declarations together` where there is no claim.
 ///
 /// # Errors
 /// Want of memory.

@@ -2,5 +2,7 @@
 #![tactic(auto)]
 
 mod found;
+mod preds;
 
 pub use found::{Found, Kept, found_for, keep, none_found};
+pub use preds::{mentioned, updated};

@@ -1,9 +1,9 @@
 -- Lists to which what comes of elements is put.
 use Rattle.std.proofs.Common.{ℕ, ◌≡◌, ◌∙◌, ◌<◌, ◌+◌, List, [], ◌∷◌, ◌++◌, length, take, refl, sym, ap, subst}
-use Rattle.std.proofs.Common.{append_assoc, get_or, add-one, All, Contains}
+use Rattle.std.proofs.Common.{append_assoc, arith, get_or, add-one, All, Contains}
 use Rattle.std.specs.Prelude.{Result, Ok, Err, IfErr, IsErrAnd, OnOk}
-use Rattle.std.proofs.lemmas.List.Elements.{All-nil, All-cons, All-append}
-use Rattle.std.proofs.lemmas.List.{append-nil}
+use Rattle.std.proofs.lemmas.List.Elements.{All-nil, All-cons, All-head, All-append}
+use Rattle.std.proofs.lemmas.List.{append-nil, nil_from_length}
 use Rattle.std.proofs.Math.Seq.{take-suc}
 use Rattle.tv_step_laws.specs.Parts.{AreFrom}
 use Rattle.tv_step.specs.Steps.{Adds}
@@ -50,6 +50,37 @@ adds-more R xs x ys zs ws (one, from, is) (own, made, same) = (
   same ∙ ap (λ us. us ++ own) is ∙ append_assoc ys one own,
 )
 
+-- what comes of the only element is put, where nothing was there
+pub adds-only : {X Y : Type 0} (R : X → List Y → Type 0) (xs : List X) (x : X) (ys zs ws : List Y)
+    → xs ≡ x ∷ [] → length ys ≡ 0 → zs ≡ [] → Adds R x zs ws → Adds (AreFrom R) xs ys ws
+adds-only R xs x ys zs ws one none empty (own, made, is) = (
+  own,
+  subst (λ us. AreFrom R us own) (sym one) (from-one R x own made),
+  is ∙ ap (λ us. us ++ own) (empty ∙ sym (nil_from_length ys none)),
+)
+
+-- a list of one element that is handed on, where nothing was there
+pub adds-itself : {X : Type 0} (R : X → List X → Type 0) (xs : List X) (x : X) (ys : List X) → xs ≡ x ∷ []
+    → length ys ≡ 0 → R x (x ∷ []) → Adds (AreFrom R) xs ys xs
+adds-itself R xs x ys one none made = (
+  xs,
+  subst (λ us. AreFrom R us us) (sym one) (from-one R x (x ∷ []) made),
+  ap (λ us. us ++ xs) (sym (nil_from_length ys none)),
+)
+
+-- a list of one element
+pub only-one : {X : Type 0} (xs : List X) (x : X) → length xs ≡ 1 → x ≡ get_or xs 0 x → xs ≡ x ∷ []
+only-one [] x one is = absurd (omega (arith, one))
+only-one (y ∷ []) x one is = ap (λ z. z ∷ []) (sym is)
+only-one (y ∷ z ∷ zs) x one is = absurd (omega (arith, one))
+
+-- what holds of all holds of the only one, and the other way round
+pub of-only : {X : Type 0} (P : X → Type 0) (xs : List X) (x : X) → xs ≡ x ∷ [] → All P xs → P x
+of-only P xs x one all = All-head P x [] (subst (All P) one all)
+
+pub all-only : {X : Type 0} (P : X → Type 0) (xs : List X) (x : X) → xs ≡ x ∷ [] → P x → All P xs
+all-only P xs x one own = subst (All P) (sym one) (All-cons P x [] own (All-nil P))
+
 pub nothing-added : {Y : Type 0} (ys : List Y) → ys ≡ ys ++ []
 nothing-added ys = sym (append-nil ys)
 
@@ -68,13 +99,6 @@ pub adds-next : {X Y : Type 0} (R : X → List Y → Type 0) (xs : List X) (i : 
     → Adds (AreFrom R) (take (i + 1) xs) ys ws
 adds-next R xs i x ys zs ws lt is before made =
     rw (add-one, take-suc xs i x lt, ← is) (adds-more R (take i xs) x ys zs ws before made)
-
--- what holds of the next of a list's elements too
-pub all-next : {X : Type 0} (P : X → Type 0) (xs : List X) (i : ℕ) (x : X) → i < length xs → x ≡ get_or xs i x
-    → All P (take i xs) → P x → All P (take (i + 1) xs)
-all-next P xs i x lt is before own =
-    rw (add-one, take-suc xs i x lt, ← is)
-    (All-append P (take i xs) (x ∷ []) before (All-cons P x [] own (All-nil P)))
 
 pub item-there : {X : Type 0} (xs : List X) (i : ℕ) (x : X) → i < length xs → x ≡ get_or xs i x
     → Contains xs x

@@ -19,7 +19,8 @@ use Rattle.tv_rules.specs.Standing.{StandsIn, SeesSummaries}
 use Rattle.tv_update_laws.specs.Applied.{kind_or_core, kind_at}
 use Rattle.tv_coerce.specs.RuleSets.{IsIn, HasMore, IsRuleThat}
 use Rattle.tv_update.specs.Plan.{IsDefined, moves_individuals}
-use Rattle.tv_step.specs.Waiting.{AreListed, WaitsAbout, WaitsAfter, WaitsAt, WaitsFor, HasRulesOf}
+use Rattle.tv_rule_sets.specs.Listed.{AreListed}
+use Rattle.tv_step.specs.Waiting.{WaitsAbout, WaitsAfter, WaitsAt, WaitsFor, HasRulesOf}
 
 -- no predicate is asked for
 pub rules-none : (P : ℕ → Type 0) (rules : List RuleForm) (set : List Bool) → ((q : ℕ) → P q → ⊥)
@@ -182,33 +183,3 @@ waits-at n fs preds rules set listed about =
           (All-contains (λ g. (r : ℕ) → r < n → Mentions r (form_of g) → Contains preds r) fs f listed at q lt
           mentions);
     })
-
--- ---- the predicates that formulas mention
-
-pub listed-none : (fs : List Formula) (preds : List ℕ) → AreListed 0 fs preds
-listed-none fs preds =
-    All-from_contains (λ f. (q : ℕ) → q < 0 → Mentions q (form_of f) → Contains preds q) fs
-    (λ f at q lt. absurd (omega (arith, lt)))
-
-pub listed-next : (fs : List Formula) (i : ℕ) (on : Bool) (old new : List ℕ) → AreListed i fs old
-    → All (λ f. Mentions i (form_of f) → IsTrue on) fs
-    → ((q : ℕ) → Contains old q ⊎ ((q ≡ i) × IsTrue on) → Contains new q) → AreListed (i + 1) fs new
-listed-next fs i on old new before told more =
-    All-from_contains (λ f. (q : ℕ) → q < i + 1 → Mentions q (form_of f) → Contains new q) fs
-    (λ f at q lt mentions. more q (⊎_elim
-    (λ below. inl (All-contains (λ g. (r : ℕ) → r < i → Mentions r (form_of g) → Contains old r) fs f before at q
-    below mentions))
-    (λ past. let same : q ≡ i = omega (arith, lt, past)
-    in inr (
-      same,
-      All-contains (λ g. Mentions i (form_of g) → IsTrue on) fs f told at
-          (subst (λ r. Mentions r (form_of f)) same mentions),
-    ))
-    (cases_lt q i)))
-
-pub listed-all : (fs : List Formula) (n i : ℕ) (preds : List ℕ) → n ≤ i → AreListed i fs preds
-    → AreListed n fs preds
-listed-all fs n i preds all listed =
-    All-from_contains (λ f. (q : ℕ) → q < n → Mentions q (form_of f) → Contains preds q) fs
-    (λ f at q lt. All-contains (λ g. (r : ℕ) → r < i → Mentions r (form_of g) → Contains preds r) fs f listed at q
-    (omega (arith, lt, all)))

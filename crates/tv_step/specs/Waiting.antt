@@ -1,8 +1,7 @@
 -- Which rules an action may leave unmet in a structure that was stable.
 use Rattle.std.specs.Prelude.{ℕ, ◌≡◌, ◌<◌, true, false, Bool, List, length, map, replicate, Some, Contains}
 use Rattle.std.specs.Prelude.{slice_get, All}
-use Rattle.tv_model.specs.declared.formula.Formula.{Formula}
-use Rattle.tv_model.specs.Form.{Form, form_of, Mentions}
+use Rattle.tv_model.specs.Form.{Form, Mentions}
 use Rattle.tv_model.specs.Program.{ProgramForm, RuleForm, ActionForm, KCore}
 use Rattle.tv_rules.specs.Standing.{StandsIn, SeesSummaries}
 use Rattle.tv_update_laws.specs.Applied.{kind_at}
@@ -48,10 +47,6 @@ pub record WaitsAbout (preds : List ℕ) (rules : List RuleForm) (set : List Boo
   pub blind : (k : ℕ) (rule : RuleForm) → slice_get rules k ≡ Some rule → ¬ IsIn set k → ¬ SeesSummaries rule
   pub apart : (k q : ℕ) (rule : RuleForm) → slice_get rules k ≡ Some rule → ¬ IsIn set k → Contains preds q
       → ¬ StandsIn q rule
-
--- each predicate below n that a formula mentions is listed
-abbrev pub AreListed : ℕ → List Formula → List ℕ → Type 0
-AreListed n formulas preds = All (λ f. (q : ℕ) → q < n → Mentions q (form_of f) → Contains preds q) formulas
 
 -- the set is right after updates of its predicates
 abbrev pub IsKeptAfter : ProgramForm → List RuleForm → Kept → Type 0

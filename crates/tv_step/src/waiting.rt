@@ -1,22 +1,22 @@
 //! The rules that are tried again after focus and after an update.
 
-ghost use Rattle.std.specs.Prelude.{ℕ, ◌≡◌, ◌<◌, ◌≤◌, ◌⊎◌, ◌↔◌, false, length, map, replicate, All};
+ghost use Rattle.std.specs.Prelude.{◌≡◌, ◌<◌, ◌≤◌, ◌↔◌, false, length, map, replicate, All};
 ghost use Rattle.std.specs.Prelude.{Contains, IfOk, IsTrue, OnOk};
 ghost use Rattle.tv_update_laws.specs.Applied.{kind_at};
-ghost use Rattle.tv_model.specs.Form.{form_of, Mentions};
+ghost use Rattle.tv_model.specs.Form.{form_of};
 ghost use Rattle.tv_model.specs.Program.{action_of};
 ghost use Rattle.tv_rules.specs.EntryForms.{rules_of};
 ghost use Rattle.tv_update.specs.Plan.{IsDefined, moves_individuals};
 ghost use Rattle.tv_step.specs.Setting.{form_in};
-ghost use Rattle.tv_step.specs.Waiting.{AreListed, HasRulesOf, IsShared, WaitsAbout, WaitsAfter, WaitsAt};
+ghost use Rattle.tv_step.specs.Waiting.{HasRulesOf, IsShared, WaitsAbout, WaitsAfter, WaitsAt};
 ghost use Rattle.tv_step.specs.Waiting.{WaitsFor};
 
 use crate::setting::Setting;
 use std::alloc::AllocError;
 use std::rc::Rc;
 use tv_coerce::RuleSet;
-use tv_model::{Action, Formula, Kind, PredId, Update, mentions};
-use tv_rule_sets::{Found, found_for, keep, none_found};
+use tv_model::{Action, Formula, Kind, PredId, Update};
+use tv_rule_sets::{Found, found_for, keep, mentioned, none_found, updated};
 
 /// Whether individuals may come or go.
 pub fn moves(action: &Action) -> bool
@@ -100,47 +100,6 @@ pub fn shared_sets(x: &Setting) -> Result<Shared, AllocError>
     })
 }
 
-/// Whether a formula mentions the predicate.
-fn are_about(formulas: &[Formula], pred: PredId) -> bool
-    ensures { All (λ f. Mentions pred.0 (form_of f) → IsTrue result) formulas.now }
-{
-    for formula in formulas {
-        if mentions(formula, pred) {
-            return true;
-        }
-    }
-    false
-}
-
-/// Puts the predicate behind the others, if the flag is set.
-fn push_if(preds: &mut Vec<u32>, on: bool, number: usize) -> Result<(), AllocError>
-    requires { number < 512 }
-    ensures { OnOk result ((q : ℕ) → Contains preds.old.items q ⊎ ((q ≡ number) × IsTrue on)
-        → Contains preds.new.items q) }
-{
-    if !on {
-        return Ok(());
-    }
-    Ok(preds.push(number as u32)?)
-}
-
-/// The predicates of the program that the formulas mention, in ascending order.
-fn mentioned(x: &Setting, formulas: &[Formula]) -> Result<Vec<u32>, AllocError>
-    requires { length x.now.program.now.vocab.preds ≤ 512 }
-    ensures { IfOk result
-        (λ preds. AreListed (length x.now.program.now.vocab.preds) formulas.now preds.items) }
-{
-    let mut preds = Vec::new(x.alloc);
-    for number in 0..x.program.vocab.preds.len() {
-        push_if(
-            &mut preds,
-            are_about(formulas, PredId(number as u32)),
-            number,
-        )?;
-    }
-    Ok(preds)
-}
-
 /// The rules that see which individuals are summaries, and those about one of these predicates.
 fn made_at(x: &Setting, preds: &[u32]) -> Result<Rc<RuleSet>, AllocError>
     ensures { IfOk result (λ set. WaitsAbout preds.now (rules_of x.now.closed.now) set.value) }
@@ -165,34 +124,13 @@ pub fn waiting_at(
         (rules_of x.now.closed.now) set.value) formulas.now) }
     ensures shared { OnOk result (IsShared (form_in x.now) (rules_of x.now.closed.now) shared.new) }
 {
-    let preds = mentioned(x, formulas)?;
+    let preds = mentioned(x.alloc, x.program.vocab.preds.len(), formulas)?;
     if let Some(kept) = found_for(&shared.at, &preds) {
         return kept.set.clone();
     }
     let set = made_at(x, preds.as_slice())?;
     keep(&mut shared.at, preds, &set)?;
     Ok(set)
-}
-
-/// The predicates of the updates, one after the other.
-fn listed(x: &Setting, updates: &[Update]) -> Result<Vec<u32>, AllocError>
-    ensures { IfOk result (λ preds. preds.items ≡ map (λ w. w.pred.0) updates.now) }
-{
-    let mut preds = Vec::with_capacity(x.alloc, updates.len())?;
-    for update in updates {
-        preds.push(update.pred.0)?;
-    }
-    Ok(preds)
-}
-
-/// The updated predicates, in ascending order: updates that stand in another order share a set.
-fn updated(x: &Setting, updates: &[Update]) -> Result<Vec<u32>, AllocError>
-    ensures { IfOk result (λ preds. (q : ℕ) → Contains (map (λ w. w.pred.0) updates.now) q
-        → Contains preds.items q) }
-{
-    let mut preds = listed(x, updates)?;
-    preds.sort_unstable();
-    Ok(preds)
 }
 
 /// The rules in which one of these predicates stands or one that has a definition.
@@ -219,7 +157,7 @@ fn after_updates(
         (rules_of x.now.closed.now) set.value) }
     ensures shared { OnOk result (IsShared (form_in x.now) (rules_of x.now.closed.now) shared.new) }
 {
-    let preds = updated(x, updates)?;
+    let preds = updated(x.alloc, updates)?;
     if let Some(kept) = found_for(&shared.after, &preds) {
         return kept.set.clone();
     }

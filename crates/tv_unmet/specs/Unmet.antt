@@ -58,7 +58,8 @@ IsFound p s (Some claim) = IsFirstUnmet p s claim
 abbrev pub AreFound : ProgramForm → (structures : List StructureForm) → (numbers : List ℕ)
     → List (Option Claim) → Type 0
 AreFound p structures numbers found =
-    AllZip (λ number c. (s : StructureForm) → slice_get structures number ≡ Some s → IsFound p s c) numbers found
+    AllZip
+    (λ number c. (s : StructureForm) → slice_get structures number ≡ Some s → IsFound p s c) numbers found
 
 -- what contradicts a declaration alone has no stable structure below it under all rules of the program
 abbrev pub UnmetLeavesNone : Type 0

@@ -26,7 +26,8 @@ pub fn first_unmet_each(
     requires valid { IsValid (program_of program.now) }
     requires over { All (IsOver program.now.vocab) structures.now }
     requires within { All (λ number. number < length structures.now) numbers.now }
-    ensures { IfOk result (λ found. AreFound (program_of program.now) structures.now numbers.now found.items) }
+    ensures { IfOk result
+        (λ found. AreFound (program_of program.now) structures.now numbers.now found.items) }
 {
     let asked = Asked {
         alloc,

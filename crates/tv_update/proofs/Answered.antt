@@ -2,7 +2,7 @@
 use Rattle.std.proofs.Common.{ℕ, ◌≡◌, ◌≢◌, ◌<◌, ◌≤◌, ◌+◌, ◌⊎◌, inl, inr, Bool, true, false, List, length}
 use Rattle.std.proofs.Common.{get_or, map, Option, Some, None, refl, sym, ap, subst, ◌∙◌, arith, All}
 use Rattle.std.proofs.Common.{Contains}
-use Rattle.std.specs.Prelude.{IsSomeAnd}
+use Rattle.std.specs.Prelude.{IsSomeAnd, Result, Ok, Err, IfOk, OnOk}
 use Rattle.std.specs.List.{range_with_len}
 use Rattle.std.proofs.lemmas.Bool.{cases_eq}
 use Rattle.std.proofs.lemmas.List.{get_or-map}
@@ -46,6 +46,12 @@ over-of s m same ts all =
           ∙ same;
       unmarked = (all k d lt).unmarked;
     }
+
+-- what is given, and what is known beside it, where anything is given
+pub both_ok : {T E : Type 0} (r : Result T E) (P : T → Type 0) (Q : Type 0) (R : T → Type 0)
+    → ((t : T) → P t → Q → R t) → IfOk r P → OnOk r Q → IfOk r R
+both_ok (Ok t) P Q R join p q = join t p q
+both_ok (Err e) P Q R join p q = tt
 
 pub answered : (program : Program) (action : Action) (mode : Mode) (places : List (Option ℕ))
     (s : StructureForm) (room : ScratchForm)

@@ -1,6 +1,6 @@
 //! New structures, one for each choice of the individuals that stay.
 
-ghost use Rattle.std.specs.Prelude.{◌≡◌, ◌∷◌, [], true, None, length, map, replicate, All, IfOk};
+ghost use Rattle.std.specs.Prelude.{◌≡◌, ◌∷◌, [], true, None, length, map, replicate, All, IfOk, OnOk};
 ghost use Rattle.tv_model.specs.Program.{program_of};
 ghost use Rattle.tv_struct.specs.StructureForm.{IsStructure};
 ghost use Rattle.tv_update.specs.New.{CanFinish, IsFinished, AreFinished};
@@ -66,6 +66,26 @@ pub fn new_structures(
     Ok(out)
 }
 
+/// Evaluates the definitions in the updated structure, where all individuals stay and none is marked.
+pub fn finish_whole(
+    alloc: Global,
+    program: &Program,
+    order: &[PredId],
+    t: &mut Structure,
+    scratch: &mut Scratch,
+) -> Result<(), AllocError>
+    requires can { CanFinish program.now order.now t.old scratch.old }
+    requires unmarked { t.old.fresh ≡ None }
+    ensures structures { OnOk result (AreFinished (program_of program.now) (map (λ p. p.0) order.now) t.old
+        (replicate t.old.size true ∷ []) (t.new ∷ [])) }
+    ensures scratch { scratch.new ≡ scratch.old }
+{
+    let mut rows = Rows::new(alloc, t.size());
+    define_all(program, order, t, &mut rows, scratch)?;
+    let _ = t.size();
+    Ok(())
+}
+
 /// The updated structure alone, where all individuals stay and none is marked.
 pub fn whole_structure(
     alloc: Global,
@@ -81,10 +101,8 @@ pub fn whole_structure(
     ensures scratch { scratch.new ≡ scratch.old }
 {
     let mut t = updated;
-    let mut rows = Rows::new(alloc, t.size());
-    define_all(program, order, &mut t, &mut rows, scratch)?;
-    let _ = t.size();
-    let mut out = Structures::new(alloc);
-    out.push(t)?;
-    Ok(out)
+    finish_whole(alloc, program, order, &mut t, scratch)?;
+    let mut only = Vec::with_capacity(alloc, 1)?;
+    only.push(t)?;
+    Ok(Structures::from_vec(only))
 }

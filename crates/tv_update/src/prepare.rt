@@ -86,7 +86,7 @@ fn is_unmarked(s: &Structure) -> bool
 }
 
 /// Whether there is no retain formula, and no individual is marked.
-fn stays_unasked(applied: &Application, middle: &Structure) -> bool
+pub fn stays_unasked(applied: &Application, middle: &Structure) -> bool
     ensures { IsTrue result → StaysWhole middle.now (values_to_keep applied.now middle.now) }
 {
     match &applied.action.retain {

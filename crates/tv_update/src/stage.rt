@@ -1,6 +1,6 @@
 //! What an action does to a structure.
 
-ghost use Rattle.std.specs.Prelude.{◌≡◌, ◌<◌, ◌≤◌, length, map, All, IfOk, IfErr, OnOk};
+ghost use Rattle.std.specs.Prelude.{◌≡◌, ◌<◌, ◌≤◌, [], ◌∷◌, length, map, All, IfOk, IfErr, OnOk};
 ghost use Rattle.tv_model.specs.Program.{program_of, action_of};
 ghost use Rattle.tv_model.specs.Valid.{IsValid};
 ghost use Rattle.tv_struct.specs.Halves.{row_halves};
@@ -20,9 +20,11 @@ ghost use Rattle.tv_update.specs.Updated.{IsPrepareCause, keep_values};
 use crate::application::Application;
 use crate::definitions::order_of;
 use crate::kept::{Staying, choices};
-use crate::new::{Recipe, new_structures, whole_structure};
+use crate::new::{self, Recipe, new_structures, whole_structure};
 use crate::plan::{Order, Plan, plan_for};
-use crate::prepare::{Prepared, prepare};
+use crate::prepare::{Prepared, prepare, stays_unasked};
+use crate::rows::Rows;
+use crate::updates::make_all;
 use std::alloc::{AllocError, Global};
 use tv_eval::{Assignment, Evaluator, Scratch};
 use tv_kleene::K3;
@@ -51,6 +53,54 @@ fn read(
     let prepared = prepare(alloc, applied, middle, &mut e);
     e.finish(scratch);
     prepared
+}
+
+/// Makes the updates that count in `t`, an equal of the middle structure, with the room of the scratch.
+fn update_copy(
+    alloc: Global,
+    applied: &Application,
+    middle: &Structure,
+    t: &mut Structure,
+    scratch: &mut Scratch,
+) -> Result<(), AllocError>
+    requires can { CanBeApplied applied.now middle.now scratch.old }
+    requires same { t.old ≡ middle.now }
+    ensures made { OnOk result (IsUpdated applied.now middle.now t.new) }
+    ensures scratch { scratch.new ≡ scratch.old }
+{
+    let mut e = Evaluator::new(middle, scratch);
+    let mut rows = Rows::new(alloc, middle.size());
+    let made = make_all(
+        applied,
+        &mut e,
+        applied.action.updates.as_slice(),
+        t,
+        &mut rows,
+    );
+    e.finish(scratch);
+    made
+}
+
+/// Makes what the action gives of `t`, an equal of the middle structure, where all individuals stay and none
+/// is marked.
+fn finish_copy(
+    alloc: Global,
+    applied: &Application,
+    plan: &Plan,
+    middle: &Structure,
+    t: &mut Structure,
+    scratch: &mut Scratch,
+) -> Result<(), AllocError>
+    requires can { CanBeApplied applied.now middle.now scratch.old }
+    requires plan { IsPlanOf applied.now plan.now }
+    requires whole { StaysWhole middle.now (values_to_keep applied.now middle.now) }
+    requires same { t.old ≡ middle.now }
+    ensures given { OnOk result (IsGivenBy applied.now middle.now (t.new ∷ [])) }
+    ensures scratch { scratch.new ≡ scratch.old }
+{
+    update_copy(alloc, applied, middle, t, scratch)?;
+    let _ = t.size();
+    new::finish_whole(alloc, applied.program, plan.as_slice(), t, scratch)
 }
 
 /// The structures that the action gives, one for each choice of the individuals that stay by these values.
@@ -131,6 +181,49 @@ fn finish(
     }
 }
 
+/// The only structure that the action gives, where it is known without reading that all individuals stay and
+/// none is marked. It is made in its place in the list.
+fn give_whole(
+    alloc: Global,
+    applied: &Application,
+    plan: &Plan,
+    middle: &Structure,
+    scratch: &mut Scratch,
+) -> Result<Structures, AllocError>
+    requires can { CanBeApplied applied.now middle.now scratch.old }
+    requires plan { IsPlanOf applied.now plan.now }
+    requires whole { StaysWhole middle.now (values_to_keep applied.now middle.now) }
+    ensures given { IfOk result (IsGivenBy applied.now middle.now) }
+    ensures scratch { scratch.new ≡ scratch.old }
+{
+    let mut only = Vec::with_capacity(alloc, 1)?;
+    only.push(middle.copy(alloc)?)?;
+    finish_copy(alloc, applied, plan, middle, &mut only[0], scratch)?;
+    Ok(Structures::from_vec(only))
+}
+
+/// The structures that the action gives where this is the middle structure.
+fn in_middle(
+    alloc: Global,
+    applied: &Application,
+    plan: &Plan,
+    middle: &Structure,
+    scratch: &mut Scratch,
+) -> Result<Structures, StageError>
+    requires can { CanBeApplied applied.now middle.now scratch.old }
+    requires plan { IsPlanOf applied.now plan.now }
+    ensures given { IfOk result (IsGivenBy applied.now middle.now) }
+    ensures few { OnOk result (row_halves (values_to_keep applied.now middle.now) ≤ 12) }
+    ensures cause { IfErr result (IsPrepareCause (values_to_keep applied.now middle.now)) }
+    ensures scratch { scratch.new ≡ scratch.old }
+{
+    if stays_unasked(applied, middle) {
+        return Ok(give_whole(alloc, applied, plan, middle, scratch)?);
+    }
+    let prepared = read(alloc, applied, middle, scratch)?;
+    Ok(finish(alloc, applied, plan, middle, prepared, scratch)?)
+}
+
 /// The structures that the action gives, where `middle` is the middle structure of `s`.
 fn answer(
     alloc: Global,
@@ -149,27 +242,7 @@ fn answer(
     ensures scratch { scratch.new ≡ scratch.old }
 {
     let _ = s.size();
-    let prepared = read(alloc, applied, middle, scratch)?;
-    Ok(finish(alloc, applied, plan, middle, prepared, scratch)?)
-}
-
-/// The structures that the action gives where this is the middle structure.
-fn in_middle(
-    alloc: Global,
-    applied: &Application,
-    plan: &Plan,
-    middle: &Structure,
-    scratch: &mut Scratch,
-) -> Result<Structures, StageError>
-    requires can { CanBeApplied applied.now middle.now scratch.old }
-    requires plan { IsPlanOf applied.now plan.now }
-    ensures given { IfOk result (IsGivenBy applied.now middle.now) }
-    ensures few { OnOk result (row_halves (values_to_keep applied.now middle.now) ≤ 12) }
-    ensures cause { IfErr result (IsPrepareCause (values_to_keep applied.now middle.now)) }
-    ensures scratch { scratch.new ≡ scratch.old }
-{
-    let prepared = read(alloc, applied, middle, scratch)?;
-    Ok(finish(alloc, applied, plan, middle, prepared, scratch)?)
+    in_middle(alloc, applied, plan, middle, scratch)
 }
 
 /// The structures that the action gives from `s`.

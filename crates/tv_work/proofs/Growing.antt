@@ -186,3 +186,22 @@ met-next max node all found s first old new so_far among grows has only within =
         → IsListed new.listing (record { node = node; structure = t })
     there t (inl h) = grows.kept (record { node = node; structure = t }) (so_far.has t h)
     there t (inr e) = subst (λ u. IsListed new.listing (record { node = node; structure = u })) e has
+
+-- the only one there
+pub one-there : (all : List StructureForm) (s t : StructureForm) → all ≡ s ∷ [] → Contains all t → s ≡ t
+one-there all s t one has = at (Contains-push_cases [] s t (subst (λ found. Contains found t) one has))
+  where
+    at : Contains [] t ⊎ (s ≡ t) → s ≡ t
+    at (inl (k, lt, is)) = absurd (omega (arith, lt))
+    at (inr e) = e
+
+-- what is met, where it is the only one to be met
+pub among-one : (node : ℕ) (all : List StructureForm) (s : StructureForm) (old : SearchForm) → all ≡ s ∷ []
+    → (x : Point) → IsListed old.listing x ⊎ (x ≡ record { node = node; structure = s })
+    → IsListed old.listing x ⊎ ((x.node ≡ node) × Contains all x.structure)
+among-one node all s old one x (inl h) = inl h
+among-one node all s old one x (inr e) = inr (
+  ap (λ (y : Point). y.node) e,
+  subst (λ (y : Point). Contains all y.structure) (sym e)
+      (subst (λ found. Contains found s) (sym one) (Contains-push [] s)),
+)

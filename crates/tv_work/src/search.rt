@@ -42,6 +42,18 @@ impl Model for Search {
         IsSearch (record { listing = s.listing; waiting = s.waiting.items; count = s.count }) };
 }
 
+/// The only structure of the list.
+#[inline(always)]
+fn only(all: Structures) -> Structure
+    requires { length all ≡ 1 }
+    ensures { all ≡ result ∷ [] }
+{
+    match all.into_vec().pop() {
+        Some(s) => s,
+        None => unreachable!(),
+    }
+}
+
 impl Search {
     /// The search that has met nothing.
     pub fn new(alloc: Global, nodes: u32) -> Result<Search, AllocError>
@@ -81,6 +93,25 @@ impl Search {
         Ok(())
     }
 
+    /// Meets the only one of these structures at the node.
+    fn meet_only(&mut self, node: u32, found: Structures, max: u64) -> Result<(), WorkError>
+        requires node { node < length self.old.listing }
+        requires within { IsWithin max self.old }
+        requires unmarked { All (λ s. s.fresh ≡ None) found }
+        requires one { length found ≡ 1 }
+        ensures grows { OnOk result (Grows self.old self.new) }
+        ensures has { OnOk result ((s : StructureForm) → Contains found s
+            → IsListed self.new.listing (record { node = node; structure = s })) }
+        ensures only { OnOk result (ListsOnly (λ x. (x.node ≡ node) × Contains found x.structure) self.old
+            self.new) }
+        ensures within { OnOk result (IsWithin max self.new) }
+        ensures cause { IfErr result
+            (IsMeetCause max (λ x. IsListed self.old.listing x
+            ⊎ ((x.node ≡ node) × Contains found x.structure))) }
+    {
+        self.meet(node, only(found), max)
+    }
+
     /// Meets all these structures at the node.
     pub fn meet_all(&mut self, node: u32, found: Structures, max: u64) -> Result<(), WorkError>
         requires node { node < length self.old.listing }
@@ -96,6 +127,9 @@ impl Search {
             (IsMeetCause max (λ x. IsListed self.old.listing x
             ⊎ ((x.node ≡ node) × Contains found x.structure))) }
     {
+        if found.len() == 1 {
+            return self.meet_only(node, found, max);
+        }
         for s in found.into_vec() {
             self.meet(node, s, max)?;
         }

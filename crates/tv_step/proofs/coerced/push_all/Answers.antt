@@ -1,36 +1,36 @@
-use Rattle.std.proofs.Common.{length, rules, sym}
+use Rattle.std.proofs.Common.{◌≡◌, ◌∙◌, List, length, rules, ap, get_or, sym}
 use Rattle.std.proofs.lemmas.Iterator.Adapters.{YieldsList-from_vec}
 use Rattle.std.proofs.lemmas.Iterator.Consumers.{YieldsList-turn}
 use Rattle.std.proofs.lemmas.List.Elements.{All-contains}
 use Rattle.tv_coerce.specs.RuleSets.{IsStableBut}
 use Rattle.tv_rules.specs.EntryForms.{rules_of}
-use Rattle.tv_step_laws.specs.Shaped.{IsShaped}
-use Rattle.tv_step.specs.Changed.{DiffersWithin}
+use Rattle.tv_struct.specs.StructureForm.{StructureForm}
+use Rattle.tv_step.specs.Changed.{IsFew}
 use Rattle.tv_step.specs.Ending.{Becomes}
 use Rattle.tv_step.specs.Setting.{form_in}
-use Rattle.tv_step.proofs.Adding.{adds-more}
+use Rattle.tv_step.proofs.Adding.{adds-more, all-only, of-only, only-one}
 use Rattle.tv_step.proofs.coerced.push_all.Goals as goal
 
-pub push_next-requires-clause-shaped : goal.push_next-requires-clause-shaped
-push_next-requires-clause-shaped c =
-    let turn = YieldsList-turn
-    (YieldsList-from_vec {s = c.into_iter-s-iterator.result} c.args.structures (search rules) (search rules))
-    c.loop-s.yielded c.loop-s.s-iterator c.loop-s.yielded_by c.next.result c.next.new.self c.in-Some.s
-    c.in-Some.is c.next.ensures.steps
-    in All-contains (IsShaped (form_in c.args.x.now)) c.args.structures c.in-Some.s c.requires.shaped
-    (length c.loop-s.yielded, turn.0, sym turn.1)
+pub waiting_in-requires-clause-rest : goal.waiting_in-requires-clause-rest
+waiting_in-requires-clause-rest c =
+    let s = c.index-as_slice-0.result
+    in let is-one : length c.args.structures ≡ 1 = search rules
+    in of-only (IsStableBut (rules_of c.args.x.now.closed.now) c.args.waiting.now) c.args.structures s
+    (only-one c.args.structures s is-one
+    (c.index-as_slice-0.is ∙ ap (λ (xs : List StructureForm). get_or xs 0 s) c.as_slice.ensures)) c.requires.rest
 
-pub push_next-requires-clause-within : goal.push_next-requires-clause-within
-push_next-requires-clause-within c =
-    let turn = YieldsList-turn
-    (YieldsList-from_vec {s = c.into_iter-s-iterator.result} c.args.structures (search rules) (search rules))
-    c.loop-s.yielded c.loop-s.s-iterator c.loop-s.yielded_by c.next.result c.next.new.self c.in-Some.s
-    c.in-Some.is c.next.ensures.steps
-    in All-contains (DiffersWithin c.args.parent.reach c.args.parent.from.now) c.args.structures c.in-Some.s
-    c.requires.within (length c.loop-s.yielded, turn.0, sym turn.1)
+pub push_only-requires-clause-few : goal.push_only-requires-clause-few
+push_only-requires-clause-few c =
+    let s = c.index-as_slice-0.result
+    in let is-one : length c.args.structures ≡ 1 = search rules
+    in all-only (λ (t : StructureForm). IsFew (form_in c.args.x.now) (rules_of c.args.x.now.closed.now) t c.in_ok-found.found)
+    c.args.structures s
+    (only-one c.args.structures s is-one
+    (c.index-as_slice-0.is ∙ ap (λ (xs : List StructureForm). get_or xs 0 s) c.as_slice.ensures))
+    c.in_ok-found.ensures
 
-pub push_next-requires-clause-rest : goal.push_next-requires-clause-rest
-push_next-requires-clause-rest c =
+pub waiting_in-requires-in-loop-s-clause-rest : goal.waiting_in-requires-in-loop-s-clause-rest
+waiting_in-requires-in-loop-s-clause-rest c =
     let turn = YieldsList-turn
     (YieldsList-from_vec {s = c.into_iter-s-iterator.result} c.args.structures (search rules) (search rules))
     c.loop-s.yielded c.loop-s.s-iterator c.loop-s.yielded_by c.next.result c.next.new.self c.in-Some.s
@@ -41,6 +41,6 @@ push_next-requires-clause-rest c =
 pub loop-s-preserved : goal.loop-s-preserved
 loop-s-preserved c = record {
   out = adds-more (Becomes c.args.ending (form_in c.args.x.now)) c.loop-s.yielded c.in-Some.s
-      c.args.out.now c.loop-s.out c.push_next.new.out c.loop-s.invariant.out c.in_ok-push_next.ensures.out;
+      c.args.out.now c.loop-s.out c.push_found.new.out c.loop-s.invariant.out c.in_ok-push_found.ensures.out;
   scratch = cc;
 }

@@ -1,6 +1,7 @@
 use Rattle.std.proofs.Common.{◌≡◌, length, subst, sym, All}
 use Rattle.tv_model.specs.Form.{form_of}
 use Rattle.tv_rules.specs.EntryForms.{rules_of}
+use Rattle.tv_rule_sets.specs.Listed.{AreListed}
 use Rattle.tv_step.specs.Waiting.{WaitsAbout, WaitsAt}
 use Rattle.tv_step.proofs.Keeping.{copied-right, found-right, kept-right}
 use Rattle.tv_step.proofs.Noting.{waits-at}
@@ -17,7 +18,8 @@ returns-in-Some-clause-waits c =
     c.requires.shared.at c.in-Some.ensures.0 c.in-Some.ensures.1
     in copied-right c.clone.result (λ set. set.value ≡ c.in-Some.kept.now.set.value)
     (λ set. All (λ f. WaitsAt n (form_of f) rules set.value) fs)
-    (λ set same. waits-at n fs preds rules set.value c.in_ok-preds.ensures
+    (λ set same. waits-at n fs preds rules set.value
+    (subst (λ count. AreListed count fs preds) c.len.ensures c.in_ok-preds.ensures)
     (subst (WaitsAbout preds rules) (sym same) right))
     c.clone.ensures.cases
 
@@ -25,7 +27,8 @@ pub returns-clause-waits : goal.returns-clause-waits
 returns-clause-waits c =
     let rules = rules_of c.args.x.now.closed.now
     in waits-at (length c.args.x.now.program.now.vocab.preds) c.args.formulas.now c.in_ok-preds.preds.items rules
-    c.in_ok-set.set.value c.in_ok-preds.ensures
+    c.in_ok-set.set.value
+    (subst (λ count. AreListed count c.args.formulas.now c.in_ok-preds.preds.items) c.len.ensures c.in_ok-preds.ensures)
     (subst (λ qs. WaitsAbout qs rules c.in_ok-set.set.value) c.as_slice.ensures.value c.in_ok-set.ensures)
 
 pub returns-clause-shared : goal.returns-clause-shared

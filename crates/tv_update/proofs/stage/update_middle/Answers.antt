@@ -1,12 +1,12 @@
 use Rattle.std.proofs.Common.{◌≡◌, ◌≤◌, length, subst, sym}
-use Rattle.std.specs.Prelude.{Result, Ok, Err, IfOk, IfErr, OnOk}
+use Rattle.std.specs.Prelude.{IfOk, IfErr, OnOk}
 use Rattle.tv_model.specs.Program.{ActionForm, program_of, action_of}
 use Rattle.tv_struct.specs.Halves.{row_halves}
 use Rattle.tv_eval.specs.AssignmentForm.{assignment_of}
 use Rattle.tv_update.specs.Plan.{IsPlanFor}
 use Rattle.tv_update.specs.Update.{action_at, IsGivenOf}
 use Rattle.tv_update.specs.Updated.{IsPrepareCause, keep_values}
-use Rattle.tv_update.proofs.Answered.{action_is, can_apply_at}
+use Rattle.tv_update.proofs.Answered.{action_is, can_apply_at, both_ok}
 use Rattle.tv_update.proofs.Limits.{few_tables}
 use Rattle.tv_update.proofs.stage.update_middle.Goals as goal
 
@@ -51,16 +51,10 @@ returns-clause-within c =
     (row_halves (keep_values c.args.middle.now (assignment_of c.args.picks.now) a.retain) ≤ 12))
     (is-action c) c.in_middle.ensures.few
 
--- what is given, and what is known beside it, where anything is given
-both-ok : {T E : Type 0} (r : Result T E) (P : T → Type 0) (Q : Type 0) (R : T → Type 0)
-    → ((t : T) → P t → Q → R t) → IfOk r P → OnOk r Q → IfOk r R
-both-ok (Ok t) P Q R join p q = join t p q
-both-ok (Err e) P Q R join p q = tt
-
 pub returns-clause-few : goal.returns-clause-few
 returns-clause-few c =
     let action = action_at c.args.program.now c.args.action in
-    both-ok c.in_middle.result
+    both_ok c.in_middle.result
     (IsGivenOf (program_of c.args.program.now) c.args.mode action (assignment_of c.args.picks.now)
     c.args.middle.now)
     (row_halves (keep_values c.args.middle.now (assignment_of c.args.picks.now) action.retain) ≤ 12)

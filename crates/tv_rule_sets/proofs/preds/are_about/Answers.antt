@@ -4,8 +4,8 @@ use Rattle.std.proofs.lemmas.List.{take_all}
 use Rattle.std.proofs.lemmas.List.Elements.{All-contains}
 use Rattle.tv_model.specs.Form.{form_of, Mentions}
 use Rattle.tv_model.proofs.Lists.{All-from_contains}
-use Rattle.tv_step.proofs.Adding.{all-next}
-use Rattle.tv_step.proofs.waiting.are_about.Goals as goal
+use Rattle.tv_rule_sets.proofs.Listing.{all-next}
+use Rattle.tv_rule_sets.proofs.preds.are_about.Goals as goal
 
 pub loop-formula-preserved : goal.loop-formula-preserved
 loop-formula-preserved c =

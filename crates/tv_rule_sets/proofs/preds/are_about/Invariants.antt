@@ -1,6 +1,6 @@
 use Rattle.std.proofs.Common.{take, All}
 use Rattle.tv_model.specs.Form.{form_of, Mentions}
-use Rattle.tv_step.proofs.waiting.are_about.Given as goal
+use Rattle.tv_rule_sets.proofs.preds.are_about.Given as goal
 
 abbrev pub invariant-loop-formula : goal.invariant-loop-formula
 invariant-loop-formula l =

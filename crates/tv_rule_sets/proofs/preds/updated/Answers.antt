@@ -1,6 +1,6 @@
 use Rattle.std.proofs.Common.{sym, subst, Contains}
 use Rattle.std.proofs.lemmas.List.Sorted.{Contains-permutation}
-use Rattle.tv_step.proofs.waiting.updated.Goals as goal
+use Rattle.tv_rule_sets.proofs.preds.updated.Goals as goal
 
 pub returns : goal.returns
 returns c q at =

@@ -1,6 +1,5 @@
-use Rattle.std.proofs.Common.{◌≤◌, length, subst}
-use Rattle.tv_step.proofs.Noting.{listed-all, listed-next, listed-none}
-use Rattle.tv_step.proofs.waiting.mentioned.Goals as goal
+use Rattle.tv_rule_sets.proofs.Listing.{listed-all, listed-next, listed-none}
+use Rattle.tv_rule_sets.proofs.preds.mentioned.Goals as goal
 
 pub loop-number-init : goal.loop-number-init
 loop-number-init c = listed-none c.args.formulas.now c.new-preds.result.items
@@ -12,7 +11,5 @@ loop-number-preserved c =
 
 pub returns : goal.returns
 returns c =
-    listed-all c.args.formulas.now (length c.args.x.now.program.now.vocab.preds) c.loop-number.number
-    c.loop-number.preds.items
-    (subst (λ n. n ≤ c.loop-number.number) c.len-number-end.ensures c.loop-number-test.false)
-    c.loop-number.invariant
+    listed-all c.args.formulas.now c.args.count c.loop-number.number c.loop-number.preds.items
+    c.loop-number-test.false c.loop-number.invariant
