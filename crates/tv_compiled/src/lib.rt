@@ -12,4 +12,3 @@ mod same;
 
 pub use compiled::compiled_text;
 pub use error::CompiledError;
-pub use same::is_same_program;

@@ -303,7 +303,7 @@ fn are_same_names(a: &[Bytes], b: &[Bytes]) -> bool
 }
 
 /// Whether two programs are the same, names and texts too.
-pub fn is_same_program(a: &Program, b: &Program) -> bool
+pub(crate) fn is_same_program(a: &Program, b: &Program) -> bool
     ensures { IsTrue result ↔ (program_of a.now ≡ program_of b.now) }
 {
     are_same_preds(a.vocab.preds.as_slice(), b.vocab.preds.as_slice())

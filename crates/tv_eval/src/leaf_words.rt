@@ -158,7 +158,7 @@ pub fn same_word(x: Var, y: Var, v: Var, chunk: u32, s: &Structure, a: &Assignme
 }
 
 /// Whether each individual is one cell with `u`.
-fn same_as(u: u32, chunk: u32, s: &Structure) -> Word
+pub fn same_as(u: u32, chunk: u32, s: &Structure) -> Word
     requires { u < s.now.size }
     ensures { IsWordOf s.now.size chunk (λ w. same_value (structure_of s.now) w u) result }
 {

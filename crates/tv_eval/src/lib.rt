@@ -15,5 +15,5 @@ mod values;
 pub use assignment::Assignment;
 pub use evaluator::{Evaluator, eval};
 pub use laws::{made_scratches_fit, program_formulas_are_over};
-pub use leaf_words::{chunks, places};
+pub use leaf_words::{chunks, places, same_as};
 pub use scratch::Scratch;

@@ -12,10 +12,8 @@ mod tokens;
 pub use error::{FormError, PhraseError, Read, SyntaxError};
 pub use kinds::{Brackets, Item};
 pub use laws::{decimal_numbers, identifiers};
-pub use lists::{
-    NamePhrase, comma_list, list_in, name, optional_list, optional_list_in, pair, params, variables,
-};
-pub use numbers::{begins_number, number, optional_numbers};
+pub use lists::{NamePhrase, name, optional_list, optional_list_in, pair, params, variables};
+pub use numbers::{number, optional_numbers};
 pub use repeated::{Part, all_parts};
 pub use tokens::{
     after, begins_item, begins_string, begins_with, below, expect, identifier, is_spelled, item,

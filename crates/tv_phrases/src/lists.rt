@@ -15,7 +15,7 @@ use tv_lex::Token;
 
 /// A comma list: one item or more, with commas between them.
 #[tactic(auto, using(crate::proofs::CommaLists::begun, crate::proofs::CommaLists::not_begun, crate::proofs::CommaLists::more_items, crate::proofs::CommaLists::no_more_items, crate::proofs::CommaLists::broken_items))]
-pub fn comma_list<'a>(
+pub(crate) fn comma_list<'a>(
     alloc: Global,
     bytes: &[u8],
     tokens: &'a [Token],
@@ -55,7 +55,7 @@ pub fn optional_list<'a>(
 
 /// One item or more, with commas between them, between brackets.
 #[tactic(auto, unfolding(crate::specs::Lists::between))]
-pub fn list_in<'a>(
+pub(crate) fn list_in<'a>(
     alloc: Global,
     bytes: &[u8],
     tokens: &'a [Token],

@@ -66,7 +66,7 @@ fn number_of(bytes: &[u8], token: &Token) -> Option<u32>
 
 /// Whether the first token is a number.
 #[tactic(auto, unfolding(crate::specs::Tokens::first))]
-pub fn begins_number(bytes: &[u8], tokens: &[Token]) -> bool
+pub(crate) fn begins_number(bytes: &[u8], tokens: &[Token]) -> bool
     ensures { result ≡ is_some (first number_item (spec_tokens bytes.now tokens.now)) }
 {
     match tokens.first() {

@@ -7,6 +7,7 @@ ghost use Rattle.tv_kleene.specs.Kleene.{smaller_of, larger_of, join_of, negatio
 ghost use Rattle.std.specs.Cmp.Lexicographic.{slice_cmp};
 ghost use Rattle.tv_row.specs.Firsts.{IsFirstFrom};
 ghost use Rattle.tv_row.specs.Bits.{value_cmp, value_of, paired, padded, greatest_in, least_in, is_possible};
+ghost use Rattle.tv_row.specs.Bits.{yes_unless_no};
 ghost use Rattle.tv_row.specs.Bits.{is_certain, number_of};
 
 use crate::bits::{first_from, has, ones_below, when, with, with_bits};
@@ -254,6 +255,18 @@ impl Word {
         Word {
             may: self.may | other.may,
             must: self.must & other.must,
+        }
+    }
+
+    /// `Yes` where this is `Yes` and the other isn't `No`, and `No` elsewhere.
+    #[inline(always)]
+    pub fn unless_no(self, other: Word) -> Word
+        ensures { result ≡ paired yes_unless_no self other }
+    {
+        let bits = self.must & other.may;
+        Word {
+            may: bits,
+            must: bits,
         }
     }
 

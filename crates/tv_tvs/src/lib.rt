@@ -17,4 +17,4 @@ pub use laws::{one_reading, structures_are_read_again, valid_programs_fit};
 pub use numbers::{write_number, write_numbers};
 pub use read::{OneRead, StructureReader, read_one, read_tvs, skip_structure};
 pub use tv_struct::Structures;
-pub use write::{StructureWriter, append_tvs, write_tvs};
+pub use write::{StructureWriter, write_tvs};

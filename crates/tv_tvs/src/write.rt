@@ -327,7 +327,7 @@ impl StructureWriter {
 
 /// Appends the canonical text of a structure, as a `StructureWriter` does. A caller that writes more than one
 /// makes a `StructureWriter` once.
-pub fn append_tvs(
+pub(crate) fn append_tvs(
     alloc: Global,
     out: &mut Vec<u8>,
     vocab: &Vocab,
