@@ -18,7 +18,7 @@ use Rattle.tv_coerce.specs.Attempts.{AreAsked, IsSharper, IsOnTheWay, IsEnd}
 use Rattle.tv_coerce.specs.Coerced.{IsCoercedTable, CoercesTo}
 use Rattle.tv_coerce.specs.Ready.{IsRuleOver, CanCoerce}
 use Rattle.tv_coerce.specs.RuleSets.{HasAtLeast, HasMore, IsRuleThat, IsStableBut}
-use Rattle.tv_coerce.specs.Touched.{Sees}
+use Rattle.tv_rules.specs.Seen.{Sees}
 use Rattle.tv_coerce.specs.declared.change.Change.{Change}
 use Rattle.tv_coerce.proofs.Touching.{stable-after}
 

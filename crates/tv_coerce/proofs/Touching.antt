@@ -1,23 +1,20 @@
 -- Changes of one kind touch only what rules of that kind see.
-use Rattle.std.proofs.Common.{ℕ, ◌≡◌, ◌≢◌, ◌∙◌, ◌⊎◌, Bool, true, false, true≢false, List, [], Some, slice_get}
+use Rattle.std.proofs.Common.{ℕ, ◌≡◌, ◌≢◌, ◌∙◌, ◌⊎◌, Bool, true, false, true≢false, List, Some, slice_get}
 use Rattle.std.proofs.Common.{All, Contains, ⊎_elim, inl, inr, refl, sym, ap, subst}
 use Rattle.std.specs.List.{range_with_len}
 use Rattle.std.proofs.lemmas.Bool.{cases_eq}
-use Rattle.std.proofs.lemmas.List.Elements.{All-contains, Contains-append_left, Contains-append_right}
+use Rattle.std.proofs.lemmas.List.Elements.{All-contains}
 use Rattle.tv_kleene.specs.declared.K3.{K3}
 use Rattle.tv_kleene.specs.declared.K3.TheVariants.{No, Half, Yes}
 use Rattle.tv_kleene.specs.Kleene.{smaller_of, IsAtMost}
 use Rattle.tv_kleene.proofs.Lattice.{smaller-assoc, smaller-yes}
 use Rattle.tv_kleene.proofs.Thresholds.{Yes-below}
-use Rattle.tv_model.specs.Form.{Form, FZero, FOne, FAtom, FIsNew, FSame, FNot, FAnd, FOr, FIff, FCond}
-use Rattle.tv_model.specs.Form.{FExists, FForall, FClosure}
 use Rattle.tv_model.specs.Program.{HeadForm, HNever, HAtom, HSame, RuleForm}
 use Rattle.tv_model.specs.Rules.{IsOfIndividuals, head_formula}
 use Rattle.tv_model.proofs.Heads.{free-in_head, head-unmarked}
-use Rattle.tv_model.proofs.Lists.{Contains-here, slice_get-contains}
+use Rattle.tv_model.proofs.Lists.{slice_get-contains}
 use Rattle.tv_embedding_laws.specs.Embedding.{IsBelow}
 use Rattle.tv_eval_laws.proofs.Embedded.{values_are_monotone}
-use Rattle.tv_rules.specs.Closing.{conjuncts}
 use Rattle.tv_rules.specs.Standing.{IsEquality, IsHeadOf, HasTwice}
 use Rattle.tv_stable_laws.specs.Stable.{IsHeadMet, IsStableUnder}
 use Rattle.tv_stable_laws.specs.Laws.{IsPlainRule}
@@ -31,8 +28,11 @@ use Rattle.tv_coerce.specs.declared.change.Change.{Change}
 use Rattle.tv_coerce.specs.declared.change.Change.TheVariants.{Value, Ordinary}
 use Rattle.tv_coerce.specs.Changes.{IsPlace, IsLowered, changed}
 use Rattle.tv_coerce.specs.RuleSets.{HasAtLeast, HasMore, HasLost, IsIn, IsRuleThat, IsStableBut}
-use Rattle.tv_coerce.specs.Touched.{HasNotMoved, IsChangeOf, IsTouched, MayMove, Sees, SeesTwice, Watches}
-use Rattle.tv_coerce.proofs.Signs.{moves-shows, still, still-whole, still-yes}
+use Rattle.tv_coerce.specs.Touched.{HasNotMoved, IsChangeOf, IsTouched}
+use Rattle.tv_moves.specs.Moves.{MayMove}
+use Rattle.tv_rules.specs.Seen.{Sees, SeesTwice}
+use Rattle.tv_moves.proofs.MoveLaws.{moves-shows}
+use Rattle.tv_coerce.proofs.Signs.{still, still-whole, still-yes}
 
 -- ---- what is touched
 
@@ -139,37 +139,6 @@ touched-lowered head s t c is place of low =
     ⊎_elim (λ e. subst (IsTouched head s) (sym e) (touched-none head s))
     (λ e. subst (IsTouched head s) (sym e) (touched-changed head s c is place of)) low.is
 
--- ---- a rule that sees it
-
-pub sees-watches : (head : HeadForm) (rule : RuleForm) → Sees head rule → Watches head rule
-sees-watches HNever rule sees = ⊎_elim (moves-shows HNever rule.body true) (λ k. k) sees
-sees-watches (HAtom flag pred vars) rule sees =
-    ⊎_elim (λ k. inl (moves-shows (HAtom flag pred vars) rule.body true k)) (λ k. inr k.0) sees
-sees-watches (HSame flag v w) rule sees =
-    ⊎_elim (λ k. inl (inl (moves-shows (HSame flag v w) rule.body true k))) (λ k. inr k) sees
-
--- a body that is moved has a conjunct that is
-pub moves-conjunct : (head : HeadForm) (f : Form) → MayMove head true f → (g : Form) × Contains (conjuncts f) g × MayMove head true g
-moves-conjunct head FZero k = absurd k
-moves-conjunct head FOne k = absurd k
-moves-conjunct head (FAtom q vars) k = (FAtom q vars, Contains-here (FAtom q vars) [], k)
-moves-conjunct head (FIsNew v) k = absurd k
-moves-conjunct head (FSame v w) k = (FSame v w, Contains-here (FSame v w) [], k)
-moves-conjunct head (FNot f) k = (FNot f, Contains-here (FNot f) [], k)
-moves-conjunct head (FAnd f g) k =
-    ⊎_elim
-    (λ l. let at : (h : Form) × Contains (conjuncts f) h × MayMove head true h = moves-conjunct head f l
-    in (at.0, Contains-append_left (conjuncts f) (conjuncts g) at.0 at.1, at.2))
-    (λ r. let at : (h : Form) × Contains (conjuncts g) h × MayMove head true h = moves-conjunct head g r
-    in (at.0, Contains-append_right (conjuncts f) (conjuncts g) at.0 at.1, at.2)) k
-moves-conjunct head (FOr f g) k = (FOr f g, Contains-here (FOr f g) [], k)
-moves-conjunct head (FIff f g) k = (FIff f g, Contains-here (FIff f g) [], k)
-moves-conjunct head (FCond c f g) k = (FCond c f g, Contains-here (FCond c f g) [], k)
-moves-conjunct head (FExists v f) k = (FExists v f, Contains-here (FExists v f) [], k)
-moves-conjunct head (FForall v f) k = (FForall v f, Contains-here (FForall v f) [], k)
-moves-conjunct head (FClosure from to left right f) k =
-    (FClosure from to left right f, Contains-here (FClosure from to left right f) [], k)
-
 -- ---- rules that don't see it stay stable
 
 module _ (head : HeadForm) (s t : StructureForm) (rule : RuleForm) (touched : IsTouched head s t) (fresh : t.fresh ≡ s.fresh)
@@ -196,7 +165,7 @@ module _ (head : HeadForm) (s t : StructureForm) (rule : RuleForm) (touched : Is
             (moves-head flag pred vars h up (subst (λ o. MayMove o up (head_formula h)) e k), twice)),
         touched.summaries (λ same. subst IsEquality e same),
       )
-      at (HSame flag v w) e = absurd (none (subst (λ o. SeesTwice o h) (sym e) twice))
+      at (HSame flag v w) e = absurd (none (subst (λ o. SeesTwice o h) (sym e) (tt, twice)))
 
   pub stays-stable : IsStableUnder (structure_of s) rule → IsStableUnder (structure_of t) rule
   stays-stable stable a individuals body = met (stable a inside (still-yes _ _ (still head s t touched fresh rule.body true a (λ k. unseen (inl k))) body))

@@ -1,11 +1,11 @@
 pub mod Attempts
-pub mod ByWords
 pub mod Changes
 pub mod Coerced
-pub mod Idle
 pub mod Laws
+pub mod Passing
 pub mod Ready
 pub mod RuleSets
 pub mod Sharpened
 pub mod Touched
 pub mod Trying
+pub mod Walks

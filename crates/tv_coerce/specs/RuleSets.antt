@@ -33,6 +33,10 @@ pub record HasAtLeast (P : ℕ → Type 0) (old new : List Bool) : Type 0 where
   pub those : (n : ℕ) → P n → IsIn new n
   pub count : length new ≡ length old
 
+-- the number is one of those, and is so
+abbrev pub AreOf : (IsOne IsSo : ℕ → Type 0) → ℕ → Type 0
+AreOf IsOne IsSo n = IsOne n × IsSo n
+
 -- the new set has the numbers of the old one but for n, which the old one has
 pub record HasLost (n : ℕ) (old new : List Bool) : Type 0 where
   pub there : IsIn old n

@@ -12,7 +12,7 @@ use crate::change::Change;
 use crate::finding::find;
 use crate::rule_set::RuleSet;
 use std::alloc::{AllocError, Global};
-use tv_eval::{Evaluator, Scratch};
+use tv_eval::{Assignment, Evaluator, Scratch};
 use tv_rules::Closed;
 use tv_struct::Structure;
 
@@ -51,8 +51,9 @@ fn attempt_by<'a>(
     ensures attempted { IfOk result (IsAttempted (rules_of closed.now) s.now waiting.new) }
     ensures stays { StaysBound s.now evaluator.old evaluator.new }
 {
+    let mut a = Assignment::new();
     while let Some(number) = waiting.take() {
-        match find(alloc, closed, number, s, evaluator)? {
+        match find(alloc, closed, number, s, evaluator, &mut a)? {
             None => return Ok(Some(Asked::Impossible)),
             Some(changes) => {
                 if has_some(changes.as_slice()) {

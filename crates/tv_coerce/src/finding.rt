@@ -7,13 +7,22 @@ ghost use Rattle.tv_coerce.specs.Ready.{CanCoerce};
 ghost use Rattle.tv_coerce.specs.Trying.{IsTrialResult, StaysBound, answer_of, rule_at};
 
 use crate::change::Change;
-use crate::idle::{has_nowhere, is_met_everywhere};
 use crate::noted::Noted;
 use crate::trial::{Outcome, Trial, walk_all};
 use std::alloc::{AllocError, Global};
 use tv_eval::{Assignment, Evaluator};
-use tv_rules::Closed;
+use tv_model::Var;
+use tv_rules::{Closed, Waits};
 use tv_struct::Structure;
+
+/// How many of the variables before the last don't stand in the head, none where the last one does. A hint,
+/// of which nothing is promised.
+fn settled_by(waits: Waits<'_>) -> Option<usize>
+    requires { waits.skip < length waits.shape.now.members }
+{
+    let denied = &waits.shape.members.as_slice()[waits.skip];
+    if denied.last { None } else { Some(denied.left) }
+}
 
 /// What has to change where a structure is to be stable under the rule; none where that can't be.
 pub(crate) fn find<'a>(
@@ -22,28 +31,7 @@ pub(crate) fn find<'a>(
     number: usize,
     s: &'a Structure,
     evaluator: &mut Evaluator<'a>,
-) -> Result<Option<Vec<Change>>, AllocError>
-    requires number { number < length (rules_of closed.now) }
-    requires ready { CanCoerce (rules_of closed.now) s.now (bound_room evaluator.old) }
-    requires bound { IsBound evaluator.old }
-    requires structure { bound_structure evaluator.old ≡ s.now }
-    ensures found { IfOk result (IsTrialResult s.now (rule_at closed.now number)) }
-    ensures stays { StaysBound s.now evaluator.old evaluator.new }
-{
-    let head = closed.head(number);
-    if is_met_everywhere(s, head) {
-        return Ok(Some(Vec::new(alloc)));
-    }
-    find_by_walk(alloc, closed, number, s, evaluator)
-}
-
-/// The same, where the head may not be met everywhere.
-fn find_by_walk<'a>(
-    alloc: Global,
-    closed: &'a Closed,
-    number: usize,
-    s: &'a Structure,
-    evaluator: &mut Evaluator<'a>,
+    a: &mut Assignment,
 ) -> Result<Option<Vec<Change>>, AllocError>
     requires number { number < length (rules_of closed.now) }
     requires ready { CanCoerce (rules_of closed.now) s.now (bound_room evaluator.old) }
@@ -53,19 +41,17 @@ fn find_by_walk<'a>(
     ensures stays { StaysBound s.now evaluator.old evaluator.new }
 {
     let waits = closed.waits(number);
-    let vars = waits.variables;
-    if has_nowhere(s, &waits.dues) {
-        return Ok(Some(Vec::new(alloc)));
-    }
     let trial = Trial {
         structure: s,
         closed,
         number,
-        denied: waits.denied,
+        waits,
+        last: Var(0),
+        chunk: 0,
+        settled: settled_by(waits),
     };
-    let mut a = Assignment::new();
     let mut noted = Noted::new(alloc, s.size());
-    let outcome = walk_all(&trial, evaluator, &waits.dues, vars, &mut a, &mut noted)?;
+    let outcome = walk_all(&trial, evaluator, a, &mut noted)?;
     Ok(answer(outcome, noted.into_list()))
 }
 

@@ -6,14 +6,13 @@ mod attempt;
 mod change;
 mod finding;
 mod greatest;
-mod idle;
 mod laws;
 mod lower;
 mod need;
 mod noted;
+mod passing;
 mod places;
 mod rule_set;
-mod seen;
 mod sharpen;
 mod trial;
 

@@ -20,7 +20,8 @@ use tv_model::{Head, PredId, Terms, Var};
 use tv_struct::{Structure, Tuple};
 
 /// The individual that the variable stands for, and 0 where there is none.
-fn at(a: &Assignment, v: Var) -> u32
+#[inline(always)]
+pub(crate) fn at(a: &Assignment, v: Var) -> u32
     ensures { result ≡ assignment_of a.now v.0 }
 {
     a.get(v).unwrap_or(0)

@@ -1,169 +1,129 @@
-//! The individuals that a variable of a rule has to be tried with, found by words of values.
+//! The individuals with which members of a rule pass, found by words of values.
 
-ghost use Rattle.std.specs.Prelude.{◌≡◌, ◌≢◌, ◌<◌, ◌≤◌, ◌+◌, ◌*◌, ℕ, ◌∷◌, length, slice_index_or, All};
-ghost use Rattle.std.specs.Prelude.{MatchOption};
-ghost use Rattle.tv_kleene.specs.declared.K3.TheVariants.{No, Yes};
+ghost use Rattle.std.specs.Prelude.{◌≡◌, ◌<◌, ◌*◌, ℕ, Bool, Some, All, length, slice_get};
+ghost use Rattle.tv_kleene.specs.declared.K3.{K3};
+ghost use Rattle.tv_eval.specs.Along.{IsWordAlong, IsWordOf};
 ghost use Rattle.tv_eval.specs.AssignmentForm.{assignment_of};
 ghost use Rattle.tv_eval.specs.Bound.{IsBound, bound_structure, bound_room};
-ghost use Rattle.tv_rules.specs.EntryForms.{numbers_of};
-ghost use Rattle.tv_coerce.specs.ByWords.{ArePlaces, CanValueAlong, IsBodyWord, IsLackingWord, IsNarrowed};
-ghost use Rattle.tv_coerce.specs.ByWords.{IsSkipped};
-ghost use Rattle.tv_rules.specs.Dues.{IsDue, due_of, dues_in};
-ghost use Rattle.tv_coerce.specs.Trying.{ArePlaced, CanTry, IsTrial, IsTrialStart, StaysBound, trial_rule};
+ghost use Rattle.tv_members.specs.Members.{AreSteps, MemberForm};
+ghost use Rattle.tv_coerce.specs.Passing.{CanRead, IsNarrowed, Passes, PassesAt, Stops, StopsAt, members_in};
+ghost use Rattle.tv_coerce.specs.Passing.{signed_value};
+ghost use Rattle.tv_coerce.specs.Trying.{StaysBound};
 
-use crate::trial::{Trial, is_just_settled, is_yes};
-use tv_eval::{Assignment, Evaluator, places};
-use tv_kleene::K3;
+use crate::need::at;
+use crate::trial::{Trial, is_yes};
+use tv_eval::{Assignment, Evaluator, places, same_as};
+use tv_members::{Reading, Step};
 use tv_model::Var;
 use tv_row::Word;
-use tv_rules::{Due, Dues};
 use tv_struct::Structure;
 
-/// Values for the individuals from a multiple of 64 on, at most 64, that a variable may stand for: of what
-/// has to be `Yes`, and of what mustn't be `No`, for the individual to be tried. Behind the last individual
-/// the first are `No`.
-#[derive(Clone, Copy, Debug)]
-pub(crate) struct Candidates {
-    body: Word,
-    lacking: Word,
-}
-
-impl Candidates {
-    /// The place of the first individual from the place `from` on that has to be tried.
-    pub fn next(&self, from: u32) -> Option<u32>
-        requires { from ≤ 64 }
-        ensures { MatchOption result ((i : ℕ) → from ≤ i → i < 64 → IsSkipped self.now i)
-            (λ i. (from ≤ i) × (i < 64) × (slice_index_or self.now.body i No ≡ Yes)
-            × ((j : ℕ) → from ≤ j → j < i → IsSkipped self.now j)) }
-    {
-        let mut at = from;
-        while let Some(i) = self.body.first_yes(at) {
-            match self.lacking.first_possible(i) {
-                None => return None,
-                Some(j) => {
-                    if j == i {
-                        return Some(i);
-                    }
-                    at = j;
-                }
-            }
-        }
-        None
+/// The values, negated where the flag is false.
+#[inline(always)]
+fn signed(s: &Structure, flag: bool, word: Word, chunk: u32) -> Word
+    requires { 64 * chunk < s.now.size }
+    ensures { (g : ℕ → K3) → IsWordOf s.now.size chunk g word
+        → IsWordOf s.now.size chunk (λ u. signed_value flag (g u)) result }
+{
+    if flag {
+        word
+    } else {
+        word.not(places(s.size(), chunk))
     }
 }
 
-/// The word lowered to the conjunct's values if this waits for all but so many of the variables.
-fn narrowed<'a>(
-    s: &Structure,
+/// The values of the step's member for the individuals from `64 * chunk` on, at most 64, put for the
+/// variable.
+#[inline(always)]
+fn read<'a>(
+    trial: &Trial<'a>,
     evaluator: &mut Evaluator<'a>,
-    due: &Due<'a>,
-    left: usize,
+    step: &Step,
+    v: Var,
+    chunk: u32,
+    a: &Assignment,
+) -> Word
+    requires bound { IsBound evaluator.old }
+    requires structure { bound_structure evaluator.old ≡ trial.now.structure.now }
+    requires can { CanRead trial.now (bound_room evaluator.old) v.0 a.now step.now }
+    requires chunk { 64 * chunk < trial.now.structure.now.size }
+    ensures word { (m : MemberForm) → slice_get (members_in trial.now) step.now.member ≡ Some m
+        → IsWordAlong trial.now.structure.now (assignment_of a.now) v.0 chunk m.form result }
+    ensures stays { StaysBound trial.now.structure.now evaluator.old evaluator.new }
+{
+    let s = trial.structure;
+    match &step.reading {
+        Reading::Alone(flag, p) => signed(s, *flag, s.unary_word(*p, chunk), chunk),
+        Reading::Second(flag, p, x) => signed(s, *flag, s.word(*p, at(a, *x), chunk), chunk),
+        Reading::First(flag, p, x) => signed(s, *flag, s.column_word(*p, at(a, *x), chunk), chunk),
+        Reading::Same(flag, x) => signed(s, *flag, same_as(at(a, *x), chunk, s), chunk),
+        Reading::Other => {
+            let members = trial.waits.shape.members.as_slice();
+            evaluator.word(&members[step.member].formula, v, chunk, a)
+        }
+    }
+}
+
+/// The individuals of the word for which the step's member is `Yes`, or isn't `No`, if it is what the head
+/// denies.
+#[inline(always)]
+fn lowered<'a>(
+    trial: &Trial<'a>,
+    evaluator: &mut Evaluator<'a>,
+    step: &Step,
     v: Var,
     chunk: u32,
     a: &Assignment,
     word: Word,
 ) -> Word
     requires bound { IsBound evaluator.old }
-    requires structure { bound_structure evaluator.old ≡ s.now }
-    requires chunk { 64 * chunk < s.now.size }
-    requires can { CanValueAlong s.now (bound_room evaluator.old) left v.0 a.now (due_of due.now) }
-    requires word { length word ≡ 64 }
-    ensures narrowed { IsNarrowed s.now (assignment_of a.now) left v.0 chunk (due_of due.now) word result }
-    ensures stays { StaysBound s.now evaluator.old evaluator.new }
+    requires structure { bound_structure evaluator.old ≡ trial.now.structure.now }
+    requires can { CanRead trial.now (bound_room evaluator.old) v.0 a.now step.now }
+    requires chunk { 64 * chunk < trial.now.structure.now.size }
+    requires long { length word ≡ 64 }
+    ensures narrowed { (m : MemberForm) → slice_get (members_in trial.now) step.now.member ≡ Some m
+        → IsNarrowed trial.now.structure.now.size (assignment_of a.now) v.0 chunk
+        (λ b. Passes trial.now.structure.now b trial.now.waits.skip step.now.member m)
+        (λ b. Stops trial.now.structure.now b trial.now.waits.skip step.now.member m) word result }
+    ensures stays { StaysBound trial.now.structure.now evaluator.old evaluator.new }
 {
-    if due.left != left {
-        return word;
+    let values = read(trial, evaluator, step, v, chunk, a);
+    if step.member == trial.waits.skip {
+        word.unless_no(values)
+    } else {
+        word.and(values)
     }
-    word.and(evaluator.word(due.formula, v, chunk, a))
 }
 
-/// Where the conjuncts that wait for all but so many of the variables are `Yes`.
-fn body_word<'a>(
-    s: &Structure,
+/// The individuals of the word with which the members pass that are tested together, put for the variable.
+#[inline(always)]
+pub(crate) fn narrowed<'a>(
+    trial: &Trial<'a>,
     evaluator: &mut Evaluator<'a>,
-    conjuncts: &Dues<'a>,
-    left: usize,
+    steps: &[Step],
     v: Var,
     chunk: u32,
     a: &Assignment,
+    word: Word,
 ) -> Word
     requires bound { IsBound evaluator.old }
-    requires structure { bound_structure evaluator.old ≡ s.now }
-    requires chunk { 64 * chunk < s.now.size }
-    requires can { All (CanValueAlong s.now (bound_room evaluator.old) left v.0 a.now)
-        (dues_in conjuncts.now) }
-    ensures word { IsBodyWord s.now (assignment_of a.now) left v.0 chunk (dues_in conjuncts.now) result }
-    ensures stays { StaysBound s.now evaluator.old evaluator.new }
+    requires structure { bound_structure evaluator.old ≡ trial.now.structure.now }
+    requires can { All (CanRead trial.now (bound_room evaluator.old) v.0 a.now) steps.now }
+    requires chunk { 64 * chunk < trial.now.structure.now.size }
+    requires long { length word ≡ 64 }
+    ensures narrowed { (left : ℕ) (last : Bool) → AreSteps (members_in trial.now) left last steps.now
+        → IsNarrowed trial.now.structure.now.size (assignment_of a.now) v.0 chunk
+        (λ b. PassesAt trial.now.structure.now b trial.now.waits.skip left last (members_in trial.now))
+        (λ b. StopsAt trial.now.structure.now b trial.now.waits.skip left last (members_in trial.now))
+        word result }
+    ensures stays { StaysBound trial.now.structure.now evaluator.old evaluator.new }
 {
-    let mut word = Word::of(places(s.size(), chunk), K3::Yes);
-    for k in 0..conjuncts.count() {
+    let mut word = word;
+    for step in steps {
         if !is_yes(word.greatest()) {
             return word;
         }
-        word = narrowed(s, evaluator, &conjuncts.at(k), left, v, chunk, a, word);
+        word = lowered(trial, evaluator, step, v, chunk, a, word);
     }
     word
-}
-
-/// Where the head isn't met for certain; everywhere unless the variable is the head's last.
-fn lacking<'a>(
-    trial: &Trial<'a>,
-    evaluator: &mut Evaluator<'a>,
-    rest: &[Var],
-    v: Var,
-    chunk: u32,
-    a: &Assignment,
-) -> Word
-    requires trial { IsTrial trial.now }
-    requires bound { IsBound evaluator.old }
-    requires structure { bound_structure evaluator.old ≡ trial.now.structure.now }
-    requires ready { CanTry (trial_rule trial.now) trial.now.structure.now (bound_room evaluator.old) }
-    requires variable { v.0 < 32 }
-    requires chunk { 64 * chunk < trial.now.structure.now.size }
-    requires placed { ArePlaced trial.now.structure.now.size (trial_rule trial.now)
-        (v.0 ∷ numbers_of rest.now) a.now }
-    requires due { IsDue (v.0 ∷ numbers_of rest.now) (due_of trial.now.denied) }
-    ensures word { IsLackingWord trial.now.structure.now (trial_rule trial.now) (numbers_of rest.now) v.0
-        chunk (assignment_of a.now) result }
-    ensures stays { StaysBound trial.now.structure.now evaluator.old evaluator.new }
-{
-    if !is_just_settled(trial, rest) {
-        return Word::of(64, K3::Yes);
-    }
-    evaluator.word(trial.denied.formula, v, chunk, a)
-}
-
-/// The individuals from `64 * chunk` on, at most 64, that the variable has to be tried with before those that
-/// are left.
-pub(crate) fn places_for<'a>(
-    trial: &Trial<'a>,
-    evaluator: &mut Evaluator<'a>,
-    conjuncts: &Dues<'a>,
-    rest: &[Var],
-    v: Var,
-    chunk: u32,
-    a: &Assignment,
-) -> Candidates
-    requires trial { IsTrial trial.now }
-    requires bound { IsBound evaluator.old }
-    requires structure { bound_structure evaluator.old ≡ trial.now.structure.now }
-    requires ready { CanTry (trial_rule trial.now) trial.now.structure.now (bound_room evaluator.old) }
-    requires walk { IsTrialStart (trial_rule trial.now) trial.now.structure.now (dues_in conjuncts.now)
-        (v.0 ∷ numbers_of rest.now) a.now (1 + length (numbers_of rest.now)) }
-    requires due { IsDue (v.0 ∷ numbers_of rest.now) (due_of trial.now.denied) }
-    requires chunk { 64 * chunk < trial.now.structure.now.size }
-    ensures places { ArePlaces trial.now.structure.now (trial_rule trial.now) (dues_in conjuncts.now)
-        (numbers_of rest.now) v.0 chunk (assignment_of a.now) result }
-    ensures stays { StaysBound trial.now.structure.now evaluator.old evaluator.new }
-{
-    let s = trial.structure;
-    let body = body_word(s, evaluator, conjuncts, rest.len(), v, chunk, a);
-    if !is_yes(body.greatest()) {
-        return Candidates {
-            body,
-            lacking: body,
-        };
-    }
-    let lacking = lacking(trial, evaluator, rest, v, chunk, a);
-    Candidates { body, lacking }
 }

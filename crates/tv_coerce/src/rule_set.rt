@@ -4,14 +4,15 @@ ghost use Rattle.std.specs.Prelude.{◌≡◌, ◌<◌, ◌≤◌, ◌≢◌, �
 ghost use Rattle.std.specs.Prelude.{slice_set, All, Contains, IfOk, IsTrue, ◌↔◌, MatchOption};
 ghost use Rattle.tv_model.specs.Program.{head_of};
 ghost use Rattle.tv_rules.specs.EntryForms.{rules_of};
+ghost use Rattle.tv_rules.specs.Moved.{IsMoved, IsMovedBySome};
+ghost use Rattle.tv_rules.specs.Seen.{Sees};
 ghost use Rattle.tv_rules.specs.Standing.{StandsIn, SeesSummaries};
-ghost use Rattle.tv_coerce.specs.RuleSets.{IsIn, IsRuleThat, HasAtLeast, HasMore, HasLost};
-ghost use Rattle.tv_coerce.specs.Touched.{IsSeen, Sees};
+ghost use Rattle.tv_coerce.specs.RuleSets.{AreOf, IsIn, IsRuleThat, HasAtLeast, HasMore, HasLost};
 
-use crate::seen::{sees, watching};
 use std::alloc::{AllocError, Global};
 use std::marker::Model;
 use tv_model::{Head, PredId};
+use tv_moves::Mover;
 use tv_row::Flags;
 use tv_rules::Closed;
 
@@ -113,36 +114,36 @@ impl RuleSet {
         self.insert_all(closed.by_sm());
     }
 
-    /// Puts the rule into the set if it sees the changes that the head asks for.
-    #[tactic(auto, using(crate::proofs::Seeing::one_in, crate::proofs::Seeing::one_out, crate::proofs::Seeing::one_there))]
-    fn insert_seeing(&mut self, closed: &Closed, head: Head, number: usize)
+    /// Puts the rule into the set if the mover moves a member of it.
+    #[tactic(auto, using(crate::proofs::Waking::one_in, crate::proofs::Waking::one_out))]
+    fn insert_moved(&mut self, closed: &Closed, mover: Mover, number: usize)
         requires count { length self.old ≡ length (rules_of closed.now) }
         requires within { number < length self.old }
-        ensures { HasAtLeast
-            (IsSeen (head_of head) (rules_of closed.now) (λ n. n ≡ number)) self.old self.new }
+        ensures { HasAtLeast (AreOf (λ n. n ≡ number) (IsMoved closed.now mover)) self.old self.new }
     {
-        if self.contains(number) {
-            return;
-        }
-        if sees(closed, number, head) {
+        if closed.is_moved(number, mover) {
             self.insert(number);
         }
     }
 
-    /// Puts at least those of the rules into the set that see the changes which the head asks for.
-    #[tactic(auto, using(crate::proofs::Seeing::least_none, crate::proofs::Seeing::least_next))]
-    fn insert_all_seeing(&mut self, closed: &Closed, head: Head, numbers: &[usize])
+    /// Puts at least those of the rules into the set of which the mover moves a member.
+    fn insert_all_moved(&mut self, closed: &Closed, mover: Mover, numbers: &[usize])
         requires count { length self.old ≡ length (rules_of closed.now) }
         requires within { All (λ n. n < length self.old) numbers.now }
-        ensures { HasAtLeast
-            (IsSeen (head_of head) (rules_of closed.now) (Contains numbers.now)) self.old self.new }
+        ensures { HasAtLeast (AreOf (Contains numbers.now) (IsMoved closed.now mover)) self.old self.new }
     {
-        match numbers {
-            [] => {}
-            [number, rest @ ..] => {
-                self.insert_seeing(closed, head, *number);
-                self.insert_all_seeing(closed, head, rest);
-            }
+        for number in numbers {
+            self.insert_moved(closed, mover, *number);
+        }
+    }
+
+    /// Puts at least the rules into the set of which one of the movers moves a member.
+    fn insert_families(&mut self, closed: &Closed, movers: &[Mover])
+        requires { length self.old ≡ length (rules_of closed.now) }
+        ensures { HasAtLeast (IsMovedBySome closed.now movers.now) self.old self.new }
+    {
+        for mover in movers {
+            self.insert_all_moved(closed, *mover, closed.family(*mover));
         }
     }
 
@@ -151,7 +152,7 @@ impl RuleSet {
         requires { length self.old ≡ length (rules_of closed.now) }
         ensures { HasAtLeast (IsRuleThat (Sees (head_of head)) (rules_of closed.now)) self.old self.new }
     {
-        self.insert_all_seeing(closed, head, watching(closed, head));
+        self.insert_families(closed, closed.movers(head));
     }
 
     /// Takes a number out of the set, if there is one.

@@ -1,31 +1,32 @@
 //! A rule is tried on a structure: its variables get individuals one after the other, and what has to change
 //! is noted.
 
-ghost use Rattle.std.specs.Prelude.{◌≡◌, ◌≢◌, ◌<◌, ◌≤◌, ◌+◌, ◌*◌, ℕ, [], ◌∷◌, length, map, All, IfOk};
-ghost use Rattle.std.specs.Prelude.{Contains};
-ghost use Rattle.std.specs.Prelude.{IsTrue, MatchBool};
+ghost use Rattle.std.specs.Prelude.{◌≡◌, ◌≢◌, ◌<◌, ◌*◌, ◌++◌, [], ◌∷◌, IfOk, MatchBool, Some, false, length};
+ghost use Rattle.std.specs.Prelude.{slice_get};
+ghost use Rattle.tv_kleene.specs.declared.K3.TheVariants.{Yes};
 ghost use Rattle.tv_eval.specs.AssignmentForm.{assignment_of};
 ghost use Rattle.tv_eval.specs.Bound.{IsBound, bound_structure, bound_room};
-ghost use Rattle.tv_model.specs.Rules.{IsInHead};
-ghost use Rattle.tv_rules.specs.EntryForms.{numbers_of, rules_of};
+ghost use Rattle.tv_members.specs.Members.{numbers_of};
+ghost use Rattle.tv_stable_laws.specs.Laws.{IsPlainRule};
 ghost use Rattle.tv_struct.specs.StructureForm.{arities_of};
+ghost use Rattle.tv_coerce.specs.Passing.{IsWalkStart, PassesAt, members_in, variables_in};
 ghost use Rattle.tv_coerce.specs.Ready.{IsRuleOver};
-ghost use Rattle.tv_kleene.specs.declared.K3.TheVariants.{Yes};
-ghost use Rattle.tv_rules.specs.Dues.{IsDue, due_of, dues_in};
-ghost use Rattle.tv_coerce.specs.Trying.{DifferOnlyAt, ArePlaced, CanTry, CanValue, FailsAt, IsNoted, IsTold};
-ghost use Rattle.tv_coerce.specs.Trying.{IsToldAmong, IsTrial, IsTried, IsTrialStart, PassesAt, StaysBound};
-ghost use Rattle.tv_coerce.specs.Trying.{Tests};
-ghost use Rattle.tv_coerce.specs.Trying.{trial_rule};
+ghost use Rattle.tv_coerce.specs.Trying.{ArePlaced, CanTry, DifferOnlyAt, IsNoted, IsTold, IsTrial};
+ghost use Rattle.tv_coerce.specs.Trying.{StaysBound, trial_rule};
+ghost use Rattle.tv_coerce.specs.Walks.{GoesOnIn, IsAny, IsInChunk, IsTriedFor};
 
 use crate::change::Need;
 use crate::need::need;
 use crate::noted::Noted;
-use crate::places::places_for;
+use crate::passing::may_pass;
+use crate::places::narrowed;
 use std::alloc::AllocError;
-use tv_eval::{Assignment, Evaluator, chunks};
+use tv_eval::{Assignment, Evaluator, chunks, places};
 use tv_kleene::K3;
+use tv_members::Level;
 use tv_model::Var;
-use tv_rules::{Closed, Due, Dues};
+use tv_row::Word;
+use tv_rules::{Closed, Waits};
 use tv_struct::Structure;
 
 /// A rule, by its number, and the structure that it is tried on.
@@ -34,8 +35,13 @@ pub(crate) struct Trial<'a> {
     pub structure: &'a Structure,
     pub closed: &'a Closed,
     pub number: usize,
-    /// The negation of the head, and how many of the rule's last variables don't stand there.
-    pub denied: Due<'a>,
+    pub waits: Waits<'a>,
+    /// The last of the rule's variables.
+    pub last: Var,
+    /// Which individuals it stands for: those from `64 * chunk` on, at most 64.
+    pub chunk: u32,
+    /// How many of the variables before the last don't stand in the head, none where the last one does.
+    pub settled: Option<usize>,
 }
 
 /// Whether a structure below can be stable under the rule.
@@ -45,62 +51,22 @@ pub(crate) enum Outcome {
     Impossible,
 }
 
-/// Whether the conjunct is `Yes`, if it waits for all but so many of the variables.
-fn passes<'a>(
-    s: &Structure,
-    evaluator: &mut Evaluator<'a>,
-    due: &Due<'a>,
-    left: usize,
-    a: &Assignment,
-) -> bool
-    requires bound { IsBound evaluator.old }
-    requires structure { bound_structure evaluator.old ≡ s.now }
-    requires value { CanValue s.now (bound_room evaluator.old) left a.now (due_of due.now) }
-    ensures passes { MatchBool result (PassesAt s.now (assignment_of a.now) left (due_of due.now))
-        (FailsAt s.now (assignment_of a.now) left (due_of due.now)) }
-    ensures stays { StaysBound s.now evaluator.old evaluator.new }
-{
-    due.left != left || is_yes(evaluator.value(due.formula, a))
-}
-
 pub(crate) fn is_yes(k: K3) -> bool
     ensures { MatchBool result (k ≡ Yes) (k ≢ Yes) }
 {
     k == K3::Yes
 }
 
-/// Whether all conjuncts are `Yes` that wait for all but so many of the variables.
-fn are_yes<'a>(
-    s: &Structure,
-    evaluator: &mut Evaluator<'a>,
-    conjuncts: &Dues<'a>,
-    left: usize,
-    a: &Assignment,
-) -> bool
-    requires bound { IsBound evaluator.old }
-    requires structure { bound_structure evaluator.old ≡ s.now }
-    requires values { All (CanValue s.now (bound_room evaluator.old) left a.now) (dues_in conjuncts.now) }
-    ensures tests { Tests s.now (assignment_of a.now) left (dues_in conjuncts.now) result }
-    ensures stays { StaysBound s.now evaluator.old evaluator.new }
-{
-    for k in 0..conjuncts.count() {
-        if !passes(s, evaluator, &conjuncts.at(k), left, a) {
-            return false;
-        }
-    }
-    true
-}
-
 /// Notes what the head needs under the assignment, under which the body is `Yes`.
 fn note(trial: &Trial, a: &Assignment, noted: &mut Noted) -> Result<Outcome, AllocError>
-    requires number { trial.now.number < length (rules_of trial.now.closed.now) }
-    requires head { IsRuleOver (arities_of trial.now.structure.now) (trial_rule trial.now) }
+    requires trial { IsTrial trial.now }
+    requires over { IsRuleOver (arities_of trial.now.structure.now) (trial_rule trial.now) }
     requires placed { ArePlaced trial.now.structure.now.size (trial_rule trial.now) [] a.now }
     ensures noted { IfOk result
         (IsNoted trial.now.structure.now (assignment_of a.now) (trial_rule trial.now).head
         noted.old.list.items noted.new.list.items) }
 {
-    match need(trial.structure, trial.closed.head(trial.number), a) {
+    match need(trial.structure, trial.waits.head, a) {
         Need::Nothing => Ok(Outcome::Possible),
         Need::Never => Ok(Outcome::Impossible),
         Need::Put(change) => {
@@ -110,73 +76,73 @@ fn note(trial: &Trial, a: &Assignment, noted: &mut Noted) -> Result<Outcome, All
     }
 }
 
-/// Whether the head has none of the variables that are left.
-fn is_settled(trial: &Trial, rest: &[Var]) -> bool
-    requires trial { IsTrial trial.now }
-    requires due { IsDue (numbers_of rest.now) (due_of trial.now.denied) }
-    ensures out { IsTrue result → (w : ℕ) → Contains (numbers_of rest.now) w
-        → ¬ IsInHead w (trial_rule trial.now).head }
-{
-    if rest.len() > trial.denied.left {
-        return false;
-    }
-    true
-}
-
-/// Whether the head has none of the variables that are left, but the one before them, as far as can be told.
-pub(crate) fn is_just_settled(trial: &Trial, rest: &[Var]) -> bool
-    requires trial { IsTrial trial.now }
-    requires due { IsDue (numbers_of rest.now) (due_of trial.now.denied) }
-    ensures out { IsTrue result → (w : ℕ) → Contains (numbers_of rest.now) w
-        → ¬ IsInHead w (trial_rule trial.now).head }
-{
-    if rest.len() != trial.denied.left {
-        return false;
-    }
-    is_settled(trial, rest)
-}
-
-/// Whether the head has none of the variables that are left, and needs nothing.
-fn needs_nothing(trial: &Trial, rest: &[Var], a: &Assignment) -> bool
-    requires trial { IsTrial trial.now }
-    requires due { IsDue (numbers_of rest.now) (due_of trial.now.denied) }
-    requires head { IsRuleOver (arities_of trial.now.structure.now) (trial_rule trial.now) }
-    requires placed { ArePlaced trial.now.structure.now.size (trial_rule trial.now)
-        (numbers_of rest.now) a.now }
-    ensures tried { IsTrue result
-        → IsTried trial.now.structure.now (trial_rule trial.now) (numbers_of rest.now)
-        (assignment_of a.now) }
-{
-    if !is_settled(trial, rest) {
-        return false;
-    }
-    match need(trial.structure, trial.closed.head(trial.number), a) {
-        Need::Nothing => true,
-        Need::Never | Need::Put(_) => false,
-    }
-}
-
-/// How often a change was asked for so far, where the head has none of the variables that are left: what
-/// follows can then ask for no more than one.
-fn at_most_once(trial: &Trial, rest: &[Var], noted: &Noted) -> Option<usize>
-    requires trial { IsTrial trial.now }
-    requires due { IsDue (numbers_of rest.now) (due_of trial.now.denied) }
-{
-    if is_settled(trial, rest) {
+/// How often a change was asked for so far, where the head has none of the variables that are left, so many
+/// before the last: what follows can then ask for no more than one. A hint, of which nothing is promised.
+#[inline(always)]
+fn at_most_once(trial: &Trial, rest: usize, noted: &Noted) -> Option<usize> {
+    let left = trial.settled?;
+    if rest <= left {
         Some(noted.asked())
     } else {
         None
     }
 }
 
-/// Tries the rule under each assignment of the variables that are left, and notes what has to change. What
-/// these stand for is changed on the way.
+/// Notes what the head needs with the individuals of the word put for the last variable.
+#[inline(never)]
+fn note_all(
+    trial: &Trial,
+    tail: Word,
+    a: &mut Assignment,
+    noted: &mut Noted,
+) -> Result<Outcome, AllocError>
+    requires trial { IsTrial trial.now }
+    requires over { IsRuleOver (arities_of trial.now.structure.now) (trial_rule trial.now) }
+    requires plain { IsPlainRule (trial_rule trial.now) }
+    requires walk { IsWalkStart trial.now [] a.old tail }
+    ensures told { IfOk result
+        (IsTold trial.now.structure.now (trial_rule trial.now)
+        (IsTriedFor trial.now.structure.now (trial_rule trial.now)
+        (GoesOnIn (trial_rule trial.now) (trial.now.last.0 ∷ []) trial.now.last.0 trial.now.chunk
+        (assignment_of a.old)))
+        noted.old.list.items noted.new.list.items) }
+    ensures keeps { DifferOnlyAt (trial.now.last.0 ∷ []) a.old a.new }
+{
+    let _ = trial.structure.size();
+    let once = at_most_once(trial, 0, noted);
+    let mut from = 0;
+    while let Some(i) = tail.first_yes(from) {
+        a.set(trial.last, 64 * trial.chunk + i);
+        match note(trial, a, noted)? {
+            Outcome::Possible => {
+                if noted.has_more(once) {
+                    return Ok(Outcome::Possible);
+                }
+                from = i + 1;
+            }
+            Outcome::Impossible => return Ok(Outcome::Impossible),
+        }
+    }
+    Ok(Outcome::Possible)
+}
+
+/// What is tested once all but so many of the variables before the last have individuals.
+#[inline(always)]
+fn level_of<'a>(trial: &Trial<'a>, left: usize) -> &'a Level
+    requires { left < length trial.now.waits.shape.now.levels }
+    ensures { slice_get trial.now.waits.shape.now.levels left ≡ Some result.now }
+{
+    &trial.waits.shape.levels.as_slice()[left]
+}
+
+/// Tries the rule with the individuals put for the variables that are left before the last, and those of the
+/// word for the last one. What these stand for is changed on the way.
 #[cycle(walk)]
 fn walk<'a>(
     trial: &Trial<'a>,
     evaluator: &mut Evaluator<'a>,
-    conjuncts: &Dues<'a>,
     rest: &[Var],
+    tail: Word,
     a: &mut Assignment,
     noted: &mut Noted,
 ) -> Result<Outcome, AllocError>
@@ -184,24 +150,22 @@ fn walk<'a>(
     requires bound { IsBound evaluator.old }
     requires structure { bound_structure evaluator.old ≡ trial.now.structure.now }
     requires ready { CanTry (trial_rule trial.now) trial.now.structure.now (bound_room evaluator.old) }
-    requires walk { IsTrialStart (trial_rule trial.now) trial.now.structure.now (dues_in conjuncts.now)
-        (numbers_of rest.now) a.old
-        (length (numbers_of rest.now)) }
-    requires due { IsDue (numbers_of rest.now) (due_of trial.now.denied) }
+    requires walk { IsWalkStart trial.now (numbers_of rest.now) a.old tail }
     ensures told { IfOk result
-        (IsTold trial.now.structure.now (trial_rule trial.now) (numbers_of rest.now) (assignment_of a.old)
+        (IsTold trial.now.structure.now (trial_rule trial.now)
+        (IsTriedFor trial.now.structure.now (trial_rule trial.now)
+        (GoesOnIn (trial_rule trial.now) (numbers_of rest.now ++ trial.now.last.0 ∷ []) trial.now.last.0
+        trial.now.chunk (assignment_of a.old)))
         noted.old.list.items noted.new.list.items) }
-    ensures keeps { DifferOnlyAt (numbers_of rest.now) a.old a.new }
+    ensures keeps { DifferOnlyAt (numbers_of rest.now ++ trial.now.last.0 ∷ []) a.old a.new }
     ensures stays { StaysBound trial.now.structure.now evaluator.old evaluator.new }
 {
     match rest {
-        [] => note(trial, a, noted),
+        [] => note_all(trial, tail, a, noted),
         [v, behind @ ..] => {
-            let once = at_most_once(trial, rest, noted);
+            let once = at_most_once(trial, rest.len(), noted);
             for chunk in 0..chunks(trial.structure.size()) {
-                match walk_chunk(
-                    trial, evaluator, conjuncts, *v, behind, chunk, once, a, noted,
-                )? {
+                match walk_chunk(trial, evaluator, *v, behind, chunk, once, tail, a, noted)? {
                     Outcome::Possible => {
                         if noted.has_more(once) {
                             return Ok(Outcome::Possible);
@@ -221,11 +185,11 @@ fn walk<'a>(
 fn walk_chunk<'a>(
     trial: &Trial<'a>,
     evaluator: &mut Evaluator<'a>,
-    conjuncts: &Dues<'a>,
     v: Var,
     rest: &[Var],
     chunk: u32,
     once: Option<usize>,
+    tail: Word,
     a: &mut Assignment,
     noted: &mut Noted,
 ) -> Result<Outcome, AllocError>
@@ -233,41 +197,142 @@ fn walk_chunk<'a>(
     requires bound { IsBound evaluator.old }
     requires structure { bound_structure evaluator.old ≡ trial.now.structure.now }
     requires ready { CanTry (trial_rule trial.now) trial.now.structure.now (bound_room evaluator.old) }
-    requires walk { IsTrialStart (trial_rule trial.now) trial.now.structure.now (dues_in conjuncts.now)
-        (v.0 ∷ numbers_of rest.now) a.old
-        (1 + length (numbers_of rest.now)) }
-    requires due { IsDue (v.0 ∷ numbers_of rest.now) (due_of trial.now.denied) }
+    requires walk { IsWalkStart trial.now (v.0 ∷ numbers_of rest.now) a.old tail }
     requires chunk { 64 * chunk < trial.now.structure.now.size }
     ensures told { IfOk result
-        (IsToldAmong trial.now.structure.now (trial_rule trial.now) (numbers_of rest.now) v.0
-        (64 * chunk) (64 * chunk + 64) (assignment_of a.old) noted.old.list.items noted.new.list.items) }
-    ensures keeps { DifferOnlyAt (v.0 ∷ numbers_of rest.now) a.old a.new }
+        (IsTold trial.now.structure.now (trial_rule trial.now)
+        (IsTriedFor trial.now.structure.now (trial_rule trial.now)
+        (λ b. GoesOnIn (trial_rule trial.now) (v.0 ∷ numbers_of rest.now ++ trial.now.last.0 ∷ [])
+        trial.now.last.0 trial.now.chunk (assignment_of a.old) b × IsInChunk v.0 chunk b))
+        noted.old.list.items noted.new.list.items) }
+    ensures keeps { DifferOnlyAt (v.0 ∷ numbers_of rest.now ++ trial.now.last.0 ∷ []) a.old a.new }
     ensures stays { StaysBound trial.now.structure.now evaluator.old evaluator.new }
 {
-    let _ = trial.structure.size();
-    let places = places_for(trial, evaluator, conjuncts, rest, v, chunk, a);
+    let all = Word::of(places(trial.structure.size(), chunk), K3::Yes);
+    let level = level_of(trial, rest.len());
+    let own = narrowed(trial, evaluator, level.own.as_slice(), v, chunk, a, all);
     let mut from = 0;
-    while let Some(i) = places.next(from) {
+    while let Some(i) = own.first_yes(from) {
         a.set(v, 64 * chunk + i);
-        match walk(trial, evaluator, conjuncts, rest, a, noted)? {
-            Outcome::Possible => {
-                if noted.has_more(once) {
-                    return Ok(Outcome::Possible);
+        from = i + 1;
+        let steps = level.last.as_slice();
+        let word = narrowed(trial, evaluator, steps, trial.last, trial.chunk, a, tail);
+        if is_yes(word.greatest()) {
+            match walk(trial, evaluator, rest, word, a, noted)? {
+                Outcome::Possible => {
+                    if noted.has_more(once) {
+                        return Ok(Outcome::Possible);
+                    }
                 }
-                from = i + 1;
+                Outcome::Impossible => return Ok(Outcome::Impossible),
             }
+        }
+    }
+    Ok(Outcome::Possible)
+}
+
+/// Tries the rule with the individuals of the trial's chunk put for its last variable, if its members without
+/// variables let it pass.
+fn walk_last<'a>(
+    trial: &Trial<'a>,
+    evaluator: &mut Evaluator<'a>,
+    before: &[Var],
+    a: &mut Assignment,
+    noted: &mut Noted,
+) -> Result<Outcome, AllocError>
+    requires trial { IsTrial trial.now }
+    requires bound { IsBound evaluator.old }
+    requires structure { bound_structure evaluator.old ≡ trial.now.structure.now }
+    requires ready { CanTry (trial_rule trial.now) trial.now.structure.now (bound_room evaluator.old) }
+    requires variables { variables_in trial.now
+        ≡ numbers_of before.now ++ trial.now.last.0 ∷ [] }
+    requires chunk { 64 * trial.now.chunk < trial.now.structure.now.size }
+    requires own { PassesAt trial.now.structure.now (assignment_of a.old) trial.now.waits.skip
+        (length (numbers_of before.now)) false (members_in trial.now) }
+    ensures told { IfOk result
+        (IsTold trial.now.structure.now (trial_rule trial.now)
+        (IsTriedFor trial.now.structure.now (trial_rule trial.now)
+        (IsInChunk trial.now.last.0 trial.now.chunk))
+        noted.old.list.items noted.new.list.items) }
+    ensures stays { StaysBound trial.now.structure.now evaluator.old evaluator.new }
+{
+    let level = level_of(trial, before.len());
+    let all = Word::of(places(trial.structure.size(), trial.chunk), K3::Yes);
+    let steps = level.last.as_slice();
+    let tail = narrowed(trial, evaluator, steps, trial.last, trial.chunk, a, all);
+    if !is_yes(tail.greatest()) {
+        return Ok(Outcome::Possible);
+    }
+    walk(trial, evaluator, before, tail, a, noted)
+}
+
+/// Tries a rule without variables.
+fn walk_none<'a>(
+    trial: &Trial<'a>,
+    evaluator: &mut Evaluator<'a>,
+    a: &Assignment,
+    noted: &mut Noted,
+) -> Result<Outcome, AllocError>
+    requires trial { IsTrial trial.now }
+    requires bound { IsBound evaluator.old }
+    requires structure { bound_structure evaluator.old ≡ trial.now.structure.now }
+    requires ready { CanTry (trial_rule trial.now) trial.now.structure.now (bound_room evaluator.old) }
+    requires variables { variables_in trial.now ≡ [] }
+    ensures told { IfOk result
+        (IsTold trial.now.structure.now (trial_rule trial.now)
+        (IsTriedFor trial.now.structure.now (trial_rule trial.now) IsAny)
+        noted.old.list.items noted.new.list.items) }
+    ensures stays { StaysBound trial.now.structure.now evaluator.old evaluator.new }
+{
+    let level = level_of(trial, 0);
+    if !may_pass(trial, evaluator, level.own.as_slice(), a) {
+        return Ok(Outcome::Possible);
+    }
+    note(trial, a, noted)
+}
+
+/// Tries a rule whose variables are those before and `last`.
+fn walk_some<'a>(
+    trial: &Trial<'a>,
+    evaluator: &mut Evaluator<'a>,
+    before: &[Var],
+    last: Var,
+    a: &mut Assignment,
+    noted: &mut Noted,
+) -> Result<Outcome, AllocError>
+    requires trial { IsTrial trial.now }
+    requires bound { IsBound evaluator.old }
+    requires structure { bound_structure evaluator.old ≡ trial.now.structure.now }
+    requires ready { CanTry (trial_rule trial.now) trial.now.structure.now (bound_room evaluator.old) }
+    requires variables { variables_in trial.now ≡ numbers_of before.now ++ last.0 ∷ [] }
+    ensures told { IfOk result
+        (IsTold trial.now.structure.now (trial_rule trial.now)
+        (IsTriedFor trial.now.structure.now (trial_rule trial.now) IsAny)
+        noted.old.list.items noted.new.list.items) }
+    ensures stays { StaysBound trial.now.structure.now evaluator.old evaluator.new }
+{
+    let level = level_of(trial, before.len());
+    if !may_pass(trial, evaluator, level.own.as_slice(), a) {
+        return Ok(Outcome::Possible);
+    }
+    for chunk in 0..chunks(trial.structure.size()) {
+        let here = Trial {
+            last,
+            chunk,
+            ..*trial
+        };
+        match walk_last(&here, evaluator, before, a, noted)? {
+            Outcome::Possible => {}
             Outcome::Impossible => return Ok(Outcome::Impossible),
         }
     }
     Ok(Outcome::Possible)
 }
 
-/// Tries the rule under each assignment of its variables, if the conjuncts that wait for none are `Yes`.
+/// Tries the rule under each assignment of its variables. What these stand for is changed on the way.
 pub(crate) fn walk_all<'a>(
     trial: &Trial<'a>,
     evaluator: &mut Evaluator<'a>,
-    conjuncts: &Dues<'a>,
-    vars: &[Var],
     a: &mut Assignment,
     noted: &mut Noted,
 ) -> Result<Outcome, AllocError>
@@ -275,20 +340,14 @@ pub(crate) fn walk_all<'a>(
     requires bound { IsBound evaluator.old }
     requires structure { bound_structure evaluator.old ≡ trial.now.structure.now }
     requires ready { CanTry (trial_rule trial.now) trial.now.structure.now (bound_room evaluator.old) }
-    requires walk { IsTrialStart (trial_rule trial.now) trial.now.structure.now (dues_in conjuncts.now)
-        (numbers_of vars.now) a.old
-        (1 + length (numbers_of vars.now)) }
-    requires due { IsDue (numbers_of vars.now) (due_of trial.now.denied) }
     ensures told { IfOk result
-        (IsTold trial.now.structure.now (trial_rule trial.now) (numbers_of vars.now) (assignment_of a.old)
+        (IsTold trial.now.structure.now (trial_rule trial.now)
+        (IsTriedFor trial.now.structure.now (trial_rule trial.now) IsAny)
         noted.old.list.items noted.new.list.items) }
     ensures stays { StaysBound trial.now.structure.now evaluator.old evaluator.new }
 {
-    if !are_yes(trial.structure, evaluator, conjuncts, vars.len(), a) {
-        return Ok(Outcome::Possible);
+    match trial.waits.shape.variables.as_slice() {
+        [] => walk_none(trial, evaluator, a, noted),
+        [before @ .., last] => walk_some(trial, evaluator, before, *last, a, noted),
     }
-    if needs_nothing(trial, vars, a) {
-        return Ok(Outcome::Possible);
-    }
-    walk(trial, evaluator, conjuncts, vars, a, noted)
 }

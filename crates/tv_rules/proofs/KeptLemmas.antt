@@ -1,31 +1,32 @@
 -- The lists that stand beside the base rules.
-use Rattle.std.proofs.Common.{ℕ, zero, suc, ◌≡◌, ◌<◌, ◌+◌, ◌⊎◌, ◌↔◌, ◌∙◌, Bool, true, false, List, [], ◌∷◌}
+use Rattle.std.proofs.Common.{ℕ, zero, suc, ◌≡◌, ◌<◌, ◌+◌, ◌-◌, ◌⊎◌, ◌↔◌, ◌∙◌, Bool, true, false, List, []}
+use Rattle.std.proofs.Common.{◌∷◌}
 use Rattle.std.proofs.Common.{◌++◌, length, map, Option, None, Some, IfSome, slice_get, slice_set, unwrap_or}
-use Rattle.std.proofs.Common.{inl, inr, ⊎_elim, refl, sym, ap, subst, All, Contains, arith}
+use Rattle.std.proofs.Common.{inl, inr, ⊎_elim, refl, sym, ap, subst, Contains, arith}
 use Rattle.std.specs.List.{AllZip}
 use Rattle.std.specs.Option.{option_map}
 use Rattle.std.specs.Borrow.{Bor}
-use Rattle.std.proofs.lemmas.List.{get_or-map, length-append, length-map}
-use Rattle.std.proofs.lemmas.Option.{get_or_from_slice_get, slice_get-map, slice_get_within}
+use Rattle.std.proofs.lemmas.List.{length-append, length-map}
+use Rattle.std.proofs.lemmas.Option.{slice_get-map, slice_get_within}
 use Rattle.tv_model.proofs.Lists.{Contains-none}
 use Rattle.tv_model.specs.declared.formula.Formula.{Formula}
-use Rattle.tv_model.specs.declared.formula.Var.{Var}
 use Rattle.tv_model.specs.declared.program.Rule.{Rule}
 use Rattle.tv_model.specs.Form.{Form, FZero, FOne, FAtom, FIsNew, FSame, FNot, FAnd, FOr, FIff, FCond}
 use Rattle.tv_model.specs.Form.{FExists, FForall, FClosure, form_of}
 use Rattle.tv_model.specs.Program.{HeadForm, HNever, HAtom, HSame, RuleForm, head_of, rule_of}
 use Rattle.tv_model.specs.Rules.{IsFreeInRule}
 use Rattle.tv_rules.specs.declared.entries.Entry.{Entry}
-use Rattle.tv_rules.specs.declared.shapes.Shape.{Shape}
+use Rattle.tv_members.specs.Members.{IsLaidOut, MemberForm, forms_of, member_of, members_of}
+use Rattle.tv_members.specs.declared.shapes.Shape.{Shape}
 use Rattle.tv_rules.specs.Closing.{Swap, swaps, puttings, conjuncts, closed_set, negated, negated_head}
 use Rattle.tv_rules.specs.Closing.{negated_if, signed_head}
 use Rattle.tv_rules.specs.Decoded.{IsRuleAbout, IsEntry}
-use Rattle.tv_rules.specs.Dues.{DueForm, AreDueFrom, IsDue, IsShape, denied_at, parts_of, put_at}
-use Rattle.tv_rules.specs.EntryForms.{EntryForm, forms_of, numbers_of, swapped_at, AreFreeIn, entry_of}
+use Rattle.tv_rules.specs.EntryForms.{EntryForm, swapped_at, AreFreeIn, entry_of}
 use Rattle.tv_rules.specs.EntryForms.{closed_entries, rules_of}
 use Rattle.tv_rules.specs.Kept.{AreWatched, AreRuleLists}
 use Rattle.tv_rules.specs.Standing.{AreNumbersOf, StandsIn, SeesSummaries}
-use Rattle.tv_rules.proofs.DueLemmas.{put-due}
+use Rattle.tv_rules.specs.Waiting.{IsAllBut, IsShape, forms_in}
+use Rattle.tv_rules.proofs.AllBut.{OtherAt, before-all, behind-all, but-last, but-set}
 use Rattle.tv_rules.proofs.EntryLemmas.{entries-kept}
 use Rattle.tv_rules.proofs.Family.{zip-at, zip-length, bases-below, free-alike}
 use Rattle.tv_rules.proofs.MetByHeaps.{All-found}
@@ -93,7 +94,7 @@ range-of bases read same range =
     subst (λ (rs : List Rule). (v : ℕ) (rule : RuleForm) → Contains (map rule_of rs) rule → IsFreeInRule v rule → v < 32) (sym same) range
 
 -- there is a rule at each number below their count
-some-at : {X : Type 0} (xs : List X) (n : ℕ) → n < length xs → (x : X) × (slice_get xs n ≡ Some x)
+pub some-at : {X : Type 0} (xs : List X) (n : ℕ) → n < length xs → (x : X) × (slice_get xs n ≡ Some x)
 some-at [] n below = absurd (omega (arith, below))
 some-at (x ∷ xs) zero below = (x, refl)
 some-at (x ∷ xs) (suc n) below = some-at xs n (omega (arith, below))
@@ -149,7 +150,7 @@ about-below (Some k) base rule fs is are =
     in let same : length fs ≡ length (conjuncts base.body) = ap length are
     in omega (arith, below, count, same)
 
-about-conjuncts : (o : Option ℕ) (base rule : RuleForm) → IsRuleAbout o base rule
+pub about-conjuncts : (o : Option ℕ) (base rule : RuleForm) → IsRuleAbout o base rule
     → swapped_at o (negated_head base.head) (conjuncts base.body) ≡ conjuncts rule.body
 about-conjuncts None base rule is = ap (λ (r : RuleForm). conjuncts r.body) (sym is)
 about-conjuncts (Some k) base rule is =
@@ -201,41 +202,39 @@ literal-denied (FExists v f) head e = signed-denied (FExists v f) false head e
 literal-denied (FForall v f) head e = signed-denied (FForall v f) false head e
 literal-denied (FClosure from to left right f) head e = signed-denied (FClosure from to left right f) false head e
 
--- what a head denies, and for how many of the last variables that doesn't wait
-pub record IsDenied (head : HeadForm) (vars : List ℕ) (d : DueForm) : Type 0 where
-  pub form : d.form ≡ negated_head head
-  pub due : IsDue vars d
-
-denied-about : (o : Option ℕ) (base rule : RuleForm) (shape : Shape) (f : Form) (ds : List DueForm) → IsRuleAbout o base rule → IsShape base shape
-    → negated_head base.head ≡ f → ds ≡ parts_of shape.conjuncts
-    → IsDenied rule.head (numbers_of shape.variables) (denied_at o (record { form = f; left = shape.negated }) ds)
-denied-about None base rule shape f ds is shaped same are = record {
-  form = sym same ∙ ap (λ (r : RuleForm). negated_head r.head) (sym is);
-  due = let With : Form → Type 0 = λ g. IsDue (numbers_of shape.variables) (record { form = g; left = shape.negated })
-      in subst With same shaped.negated;
-}
-denied-about (Some k) base rule shape f ds is shaped same are = record {
-  form = sym (get_or-map F ds k d d.form inside) ∙ get_or_from_slice_get (map F ds) k is.0.conjunct d.form read
-      ∙ literal-denied is.0.conjunct rule.head is.3;
-  due = subst (All (IsDue (numbers_of shape.variables))) (sym are) shaped.due.due.due k d inside;
+-- all conjuncts of a base rule and its negated head, but the one that a rule of its family denies
+but-about : (o : Option ℕ) (base rule : RuleForm) → IsRuleAbout o base rule
+    → IsAllBut (conjuncts base.body ++ negated_head base.head ∷ []) (unwrap_or o (length (conjuncts base.body))) rule
+but-about None base rule is =
+    let fs : List Form = conjuncts base.body
+    in let x : Form = negated_head base.head
+    in subst (IsAllBut (fs ++ x ∷ []) (length fs)) (sym is)
+    (record { others = λ f. but-last fs x f; denied = behind-all fs x })
+but-about (Some k) base rule is = record {
+  others = λ f. subst (λ gs. Contains gs f ↔ OtherAt (fs ++ x ∷ []) k f) (about-conjuncts (Some k) base rule is) (but-set fs k x f inside);
+  denied = before-all fs x (negated_head rule.head) k read;
 }
   where
-    d : DueForm
-    d = record { form = f; left = shape.negated }
+    fs : List Form
+    fs = conjuncts base.body
 
-    F : DueForm → Form
-    F e = e.form
+    x : Form
+    x = negated_head base.head
 
     C : Swap → Form
     C s = s.conjunct
 
-    read : slice_get (map F ds) k ≡ Some is.0.conjunct
-    read = ap (λ (es : List DueForm). slice_get (map F es) k) are ∙ ap (λ fs. slice_get fs k) (shaped.due.due.are)
-        ∙ ap (λ fs. slice_get fs k) (sym ((swaps_are_of_conjuncts (negated_head base.head) base.body).each))
-        ∙ slice_get-map C (swaps (negated_head base.head) base.body) k ∙ ap (option_map C) is.1
+    read : slice_get fs k ≡ Some (negated_head rule.head)
+    read = ap (λ gs. slice_get gs k) (sym ((swaps_are_of_conjuncts x base.body).each)) ∙ slice_get-map C (swaps x base.body) k
+        ∙ ap (option_map C) is.1 ∙ ap Some (literal-denied is.0.conjunct rule.head is.3)
 
-    inside : k < length ds
-    inside = omega (arith, slice_get_within (map F ds) k is.0.conjunct read, length-map ds F)
+    inside : k < length fs
+    inside = slice_get_within fs k (negated_head rule.head) read
+
+members-counted : (rule : RuleForm) (shape : Shape) → IsShape rule shape → length shape.members ≡ length (conjuncts rule.body) + 1
+members-counted rule shape shaped =
+    sym (length-map (members_of shape.members) (λ (m : MemberForm). m.form) ∙ length-map shape.members member_of)
+    ∙ ap length shaped.members ∙ length-append (conjuncts rule.body) (negated_head rule.head ∷ [])
 
 module _ (bases : List Rule) (negations : List Formula) (shapes : List Shape) (entries : List Entry) (by_pred : List (List ℕ)) (by_sm : List ℕ)
     (is : AreRuleLists bases negations shapes entries by_pred by_sm) where
@@ -327,58 +326,27 @@ module _ (bases : List Rule) (negations : List Formula) (shapes : List Shape) (e
       ∙ ap (λ x. swapped_at e.conjunct x (conjuncts (form_of base.body))) (negation-is e.base base negation found negated)
       ∙ about-conjuncts e.conjunct (rule_of base) rule (base-is n rule e base there at found)
 
-  -- the negation of its base rule's head
-  base-negation : (n : ℕ) (rule : RuleForm) (e : Entry) (negation : Formula) (there : slice_get (rules_of bases) n ≡ Some rule)
-      (at : slice_get entries n ≡ Some e) → slice_get negations e.base ≡ Some negation
-      → negated_head (entry-is n rule e there at).base.head ≡ form_of negation
-  base-negation n rule e negation there at negated =
+  shape-is : (n : ℕ) (rule : RuleForm) (e : Entry) (shape : Shape) (there : slice_get (rules_of bases) n ≡ Some rule)
+      (at : slice_get entries n ≡ Some e) → slice_get shapes e.base ≡ Some shape → IsShape (entry-is n rule e there at).base shape
+  shape-is n rule e shape there at found =
       let entry : IsEntry (map rule_of bases) rule (entry_of e) = entry-is n rule e there at
-      in let N : RuleForm → Form = λ r. negated_head r.head
-      in let left : slice_get (map form_of negations) e.base ≡ Some (form_of negation)
-      = slice_get-map form_of negations e.base ∙ ap (option_map form_of) negated
-      in let right : slice_get (map N (map rule_of bases)) e.base ≡ Some (N entry.base)
-      = slice_get-map N (map rule_of bases) e.base ∙ ap (option_map N) entry.there
-      in let both : slice_get (map form_of negations) e.base ≡ slice_get (map N (map rule_of bases)) e.base
-      = ap (λ fs. slice_get fs e.base) is.negated
-      in cc (left, right, both)
+      in zip-at IsShape (map rule_of bases) shapes is.shaped e.base entry.base shape entry.there found
 
-  -- what its conjuncts wait for
-  pub dues-are : (n : ℕ) (rule : RuleForm) (e : Entry) (shape : Shape) (negation : Formula) (ds : List DueForm)
-      → slice_get (rules_of bases) n ≡ Some rule → slice_get entries n ≡ Some e → slice_get shapes e.base ≡ Some shape
-      → slice_get negations e.base ≡ Some negation → ds ≡ parts_of shape.conjuncts
-      → AreDueFrom (conjuncts rule.body) (numbers_of shape.variables)
-      (put_at e.conjunct (record { form = form_of negation; left = shape.negated }) ds)
-  dues-are n rule e shape negation ds there at found negated are =
+  -- what trying a rule goes by
+  pub waits-are : (n : ℕ) (rule : RuleForm) (e : Entry) (shape : Shape) (skip : ℕ) → slice_get (rules_of bases) n ≡ Some rule
+      → slice_get entries n ≡ Some e → slice_get shapes e.base ≡ Some shape → skip ≡ unwrap_or e.conjunct (length shape.members - 1)
+      → IsAllBut (forms_in shape) skip rule × IsLaidOut shape
+  waits-are n rule e shape skip there at found skips =
       let entry : IsEntry (map rule_of bases) rule (entry_of e) = entry-is n rule e there at
-      in let shaped : IsShape entry.base shape = zip-at IsShape (map rule_of bases) shapes is.shaped e.base entry.base shape entry.there found
-      in let N : RuleForm → Form = λ r. negated_head r.head
-      in let same : N entry.base ≡ form_of negation = base-negation n rule e negation there at negated
-      in let D : Form → DueForm = λ f. record { form = f; left = shape.negated }
-      in let Of : List DueForm → Type 0 = λ es. AreDueFrom (conjuncts rule.body) (numbers_of shape.variables) (put_at e.conjunct (D (form_of negation)) es)
-      in let With : Form → Type 0 = λ f. AreDueFrom (conjuncts rule.body) (numbers_of shape.variables) (put_at e.conjunct (D f) (parts_of shape.conjuncts))
-      in let From : List Form → Type 0 = λ fs. AreDueFrom fs (numbers_of shape.variables) (put_at e.conjunct (D (N entry.base)) (parts_of shape.conjuncts))
-      in subst Of (sym are) (subst With same (subst From (about-conjuncts e.conjunct entry.base rule entry.about)
-      (put-due e.conjunct (D (N entry.base)) (conjuncts entry.base.body) (numbers_of shape.variables) (parts_of shape.conjuncts) shaped.due
-      shaped.negated (omega (arith, shaped.most, length-map shape.variables (λ (v : Var). v.0))))))
+      in let shaped : IsShape entry.base shape = shape-is n rule e shape there at found
+      in let count : skip ≡ unwrap_or e.conjunct (length (conjuncts entry.base.body))
+      = skips ∙ ap (unwrap_or e.conjunct) (omega (arith, members-counted entry.base shape shaped))
+      in let With : List Form → Type 0 = λ fs. IsAllBut fs skip rule
+      in let At : ℕ → Type 0 = λ k. IsAllBut (conjuncts entry.base.body ++ negated_head entry.base.head ∷ []) k rule
+      in (subst With (sym shaped.members) (subst At (sym count) (but-about e.conjunct entry.base rule entry.about)), shaped.laid)
 
-  -- and what its head denies
-  pub denied-is : (n : ℕ) (rule : RuleForm) (e : Entry) (shape : Shape) (negation : Formula) (ds : List DueForm)
-      → slice_get (rules_of bases) n ≡ Some rule → slice_get entries n ≡ Some e → slice_get shapes e.base ≡ Some shape
-      → slice_get negations e.base ≡ Some negation → ds ≡ parts_of shape.conjuncts
-      → IsDenied rule.head (numbers_of shape.variables) (denied_at e.conjunct (record { form = form_of negation; left = shape.negated }) ds)
-  denied-is n rule e shape negation ds there at found negated are =
-      let entry : IsEntry (map rule_of bases) rule (entry_of e) = entry-is n rule e there at
-      in let shaped : IsShape entry.base shape = zip-at IsShape (map rule_of bases) shapes is.shaped e.base entry.base shape entry.there found
-      in denied-about e.conjunct entry.base rule shape (form_of negation) ds entry.about shaped (base-negation n rule e negation there at negated) are
-
-  -- the place of a swapped conjunct is one of them
-  pub put-below : (n : ℕ) (e : Entry) (shape : Shape) (ds : List DueForm) → n < length (rules_of bases) → slice_get entries n ≡ Some e
-      → slice_get shapes e.base ≡ Some shape → ds ≡ parts_of shape.conjuncts → IfSome e.conjunct (λ k. k < length ds)
-  put-below n e shape ds below at found are =
+  pub members-some : (n : ℕ) (e : Entry) (shape : Shape) → n < length (rules_of bases) → slice_get entries n ≡ Some e
+      → slice_get shapes e.base ≡ Some shape → 0 < length shape.members
+  members-some n e shape below at found =
       let rule : (r : RuleForm) × (slice_get (rules_of bases) n ≡ Some r) = some-at (rules_of bases) n below
-      in let entry : IsEntry (map rule_of bases) rule.0 (entry_of e) = entry-is n rule.0 e rule.1 at
-      in let shaped : IsShape entry.base shape = zip-at IsShape (map rule_of bases) shapes is.shaped e.base entry.base shape entry.there found
-      in let At : ℕ → Type 0 = λ m. IfSome e.conjunct (λ k. k < m)
-      in subst At (length-map ds (λ (d : DueForm). d.form))
-      (about-below e.conjunct entry.base rule.0 (map (λ (d : DueForm). d.form) ds) entry.about
-      (ap (λ (es : List DueForm). map (λ (d : DueForm). d.form) es) are ∙ shaped.due.due.are))
+      in omega (arith, members-counted (entry-is n rule.0 e rule.1 at).base shape (shape-is n rule.0 e shape rule.1 at found))

@@ -7,13 +7,14 @@ pub mod Plain
 pub mod Ranges
 pub mod Written
 -- What only this crate cites.
+mod AllBut
 mod Dropping
-mod DueLemmas
 mod EntryLemmas
 mod FlagLemmas
 mod Free
 mod Further
 mod KeptLemmas
 mod Loops
+mod MovedLaws
 mod NotingLaws
 mod RuleTests

@@ -2,32 +2,23 @@
 -- of its base rule, the place of the conjunct whose place the negated head takes, and its head.
 use Rattle.std.specs.Prelude.{ℕ, suc, ◌↔◌, List, [], ◌∷◌, ◌++◌, map, Option, None, Some, Contains, slice_set}
 use Rattle.std.specs.List.{cons_option}
-use Rattle.std.specs.Borrow.{Bor}
-use Rattle.tv_model.specs.declared.formula.Formula.{Formula}
 use Rattle.tv_model.specs.declared.formula.Var.{Var}
 use Rattle.tv_model.specs.declared.program.Rule.{Rule}
 use Rattle.tv_rules.specs.declared.entries.Entry.{Entry}
-use Rattle.tv_model.specs.Form.{Form, form_of}
+use Rattle.tv_model.specs.Form.{Form}
 use Rattle.tv_model.specs.Program.{HeadForm, RuleForm, head_of, rule_of}
 use Rattle.tv_model.specs.Rules.{IsFreeInRule}
 use Rattle.tv_rules.specs.Closing.{conjuncts, negated as negation, closed_set}
+pub use Rattle.tv_members.specs.Members.{forms_of, numbers_of}
 
 -- the closed set of these base rules
 abbrev pub rules_of : List Rule → List RuleForm
 rules_of bases = closed_set (map rule_of bases)
 
--- what formulas behind references say
-abbrev pub forms_of : List (Bor Formula) → List Form
-forms_of fs = map (λ f. form_of f.now) fs
-
 -- the formulas, with x in the place k, if there is one
 abbrev pub swapped_at : Option ℕ → Form → List Form → List Form
 swapped_at None x fs = fs
 swapped_at (Some k) x fs = slice_set fs k x
-
--- the numbers of variables
-abbrev pub numbers_of : List Var → List ℕ
-numbers_of vars = map (λ v. v.0) vars
 
 -- how a closed rule is kept
 pub record EntryForm : Type 0 where

@@ -4,13 +4,13 @@ use Rattle.std.specs.List.{AllZip}
 use Rattle.tv_model.specs.declared.formula.Formula.{Formula}
 use Rattle.tv_model.specs.declared.program.Rule.{Rule}
 use Rattle.tv_rules.specs.declared.entries.Entry.{Entry}
-use Rattle.tv_rules.specs.declared.shapes.Shape.{Shape}
+use Rattle.tv_members.specs.declared.shapes.Shape.{Shape}
 use Rattle.tv_model.specs.Form.{form_of}
 use Rattle.tv_model.specs.Program.{RuleForm, rule_of}
 use Rattle.tv_rules.specs.Closing.{negated_head}
-use Rattle.tv_rules.specs.Dues.{IsShape}
 use Rattle.tv_rules.specs.EntryForms.{closed_entries, entry_of, rules_of}
 use Rattle.tv_rules.specs.Standing.{AreNumbersOf, StandsIn, SeesSummaries}
+use Rattle.tv_rules.specs.Waiting.{IsShape}
 
 -- each predicate that stands in a rule has a place in the lists, and there the numbers of its rules
 pub record AreWatched (rules : List RuleForm) (by_pred : List (List ℕ)) : Type 0 where

@@ -1,11 +1,13 @@
 pub mod Closing
 pub mod Decoded
-pub mod Dues
 pub mod EntryForms
 pub mod Flags
 pub mod Kept
 pub mod Laws
+pub mod Moved
 pub mod Noting
 pub mod PropertyForms
 pub mod Samples
+pub mod Seen
 pub mod Standing
+pub mod Waiting

@@ -1,42 +1,14 @@
 -- In which rules a predicate stands, and which rules see whether an individual is a summary.
 use Rattle.std.specs.Prelude.{ℕ, ◌≡◌, ◌⊎◌, ◌↔◌, List, Some, Contains, slice_get}
 use Rattle.std.specs.List.Sorted.{IsStrictlyIncreasing}
-use Rattle.tv_model.specs.Form.{Form, FZero, FOne, FAtom, FIsNew, FSame, FNot, FAnd, FOr, FIff, FCond}
-use Rattle.tv_model.specs.Form.{FExists, FForall, FClosure, Mentions}
-use Rattle.tv_model.specs.Program.{HeadForm, HNever, HAtom, HSame, RuleForm}
+use Rattle.tv_model.specs.Form.{Mentions}
+use Rattle.tv_model.specs.Program.{HeadForm, RuleForm}
+pub use Rattle.tv_moves.specs.Moves.{IsHeadOf, HasEquality, IsEquality}
 use Rattle.tv_stable_laws.specs.Stable.{IsTwice}
-
--- the head is an atom of the predicate q, negated or not
-abbrev pub IsHeadOf : ℕ → HeadForm → Type 0
-IsHeadOf q HNever = ⊥
-IsHeadOf q (HAtom flag pred vars) = q ≡ pred
-IsHeadOf q (HSame flag v w) = ⊥
 
 -- the predicate q stands in the rule, in its body or in its head
 abbrev pub StandsIn : ℕ → RuleForm → Type 0
 StandsIn q rule = Mentions q rule.body ⊎ IsHeadOf q rule.head
-
--- an equality stands in the formula
-abbrev pub HasEquality : Form → Type 0
-HasEquality FZero = ⊥
-HasEquality FOne = ⊥
-HasEquality (FAtom q vars) = ⊥
-HasEquality (FIsNew v) = ⊥
-HasEquality (FSame v w) = Unit {0}
-HasEquality (FNot f) = HasEquality f
-HasEquality (FAnd f g) = HasEquality f ⊎ HasEquality g
-HasEquality (FOr f g) = HasEquality f ⊎ HasEquality g
-HasEquality (FIff f g) = HasEquality f ⊎ HasEquality g
-HasEquality (FCond c f g) = HasEquality c ⊎ HasEquality f ⊎ HasEquality g
-HasEquality (FExists v f) = HasEquality f
-HasEquality (FForall v f) = HasEquality f
-HasEquality (FClosure from to left right f) = HasEquality f
-
--- the head is an equality, negated or not
-abbrev pub IsEquality : HeadForm → Type 0
-IsEquality HNever = ⊥
-IsEquality (HAtom flag pred vars) = ⊥
-IsEquality (HSame flag v w) = Unit {0}
 
 -- an equality stands in the rule, in its body or in its head
 abbrev pub HasEqualityIn : RuleForm → Type 0

@@ -1,7 +1,8 @@
 //! The closed rules of a program, kept by their base rules.
 
-ghost use Rattle.std.specs.Prelude.{ℕ, List, [], unwrap_or, IfSome, ◌≡◌, ◌<◌, ◌≤◌, ◌+◌, ◌↔◌, length, map};
-ghost use Rattle.std.specs.Prelude.{IfOk, OnOk, All, Some, slice_get, Contains};
+ghost use Rattle.std.specs.Prelude.{ℕ, List, [], unwrap_or, IfSome, ◌≡◌, ◌<◌, ◌≤◌, ◌+◌, ◌-◌, ◌↔◌, length};
+ghost use Rattle.std.specs.Prelude.{map};
+ghost use Rattle.std.specs.Prelude.{IfOk, OnOk, All, Some, slice_get, Contains, IsTrue};
 ghost use Rattle.std.specs.List.{AllZip};
 ghost use Rattle.tv_model.specs.Form.{form_of, height};
 ghost use Rattle.tv_model.specs.Heap.{Heap};
@@ -12,21 +13,24 @@ ghost use Rattle.tv_stable_laws.specs.Laws.{IsPlainRule};
 ghost use Rattle.tv_model.specs.Rules.{IsFreeInRule};
 ghost use Rattle.tv_rules.specs.Closing.{closed_rules, closed_set, conjuncts, negated_head};
 ghost use Rattle.tv_rules.specs.Standing.{AreNumbersOf, StandsIn, SeesSummaries};
-ghost use Rattle.tv_rules.specs.Dues.{AreWaits, IsShape};
 ghost use Rattle.tv_rules.specs.EntryForms.{AreFreeIn, entry_of, closed_entries, forms_of, rules_of};
 ghost use Rattle.tv_rules.specs.EntryForms.{swapped_at};
 ghost use Rattle.tv_rules.specs.Laws.{IsNoHigher};
+ghost use Rattle.tv_rules.specs.Moved.{IsMoved, IsMovedBySome};
+ghost use Rattle.tv_rules.specs.Seen.{Sees};
+ghost use Rattle.tv_rules.specs.Waiting.{AreWaits, IsShape};
 
 use crate::base::base_rules;
 use crate::conjuncts::{conjuncts, negated_head};
-use crate::dues::{Due, Dues, denied};
 use crate::entries::{Entries, Entry, closed_entries};
 use crate::mentioned::rules_with;
-use crate::shapes::{Shape, Shapes, Waits, shape_of};
+use crate::moved::{families, movers_of};
+use crate::shapes::{Shapes, Waits, shape_of};
 use crate::watch::{Numbers, seeing_summaries, standing};
 use std::alloc::{AllocError, Global};
 use std::marker::Model;
 use tv_model::{Formula, Formulas, Head, Items, PredId, Program, Rule, Rules, Var};
+use tv_moves::{Mover, Movers};
 
 /// The closed rules of a program, and for each predicate the numbers of the rules in which it stands. A
 /// further rule is kept by the number of its base rule and the place of its conjunct, so that many rules
@@ -41,6 +45,10 @@ pub struct Closed {
     entries: Entries,
     by_pred: Items<Numbers>,
     by_sm: Numbers,
+    /// For each change the members of base rules that it may make greater.
+    movers: Movers,
+    /// For each base rule the numbers of its closed rules.
+    families: Items<Numbers>,
 }
 
 impl Model for Closed {
@@ -55,10 +63,12 @@ impl Model for Closed {
     ghost coded = { Prim.hlevel (codes, formula.the_row.coded) };
 
     ghost use Rattle.tv_rules.specs.Kept.{AreRuleLists};
+    ghost use Rattle.tv_rules.specs.Moved.{AreMovedBy};
 
     ghost view = { λ c. c.bases };
 
-    ghost invariant = { λ c. AreRuleLists c.bases c.negations c.shapes c.entries c.by_pred c.by_sm };
+    ghost invariant = { λ c. AreRuleLists c.bases c.negations c.shapes c.entries c.by_pred c.by_sm
+        × AreMovedBy c.bases c.movers c.families };
 }
 
 /// The closed rules of a valid program, base rules first.
@@ -92,6 +102,8 @@ fn closed_of(alloc: Global, bases: Rules, preds: usize) -> Result<Closed, AllocE
     let entries = closed_entries(alloc, bases.as_slice())?;
     let by_pred = watch_lists(alloc, bases.as_slice(), entries.as_slice(), preds)?;
     let by_sm = seeing_summaries(alloc, bases.as_slice(), entries.as_slice())?;
+    let movers = movers_of(alloc, bases.as_slice(), entries.as_slice(), preds)?;
+    let families = families(alloc, entries.as_slice(), bases.len())?;
     Ok(Closed {
         bases,
         negations,
@@ -99,6 +111,8 @@ fn closed_of(alloc: Global, bases: Rules, preds: usize) -> Result<Closed, AllocE
         entries,
         by_pred,
         by_sm,
+        movers,
+        families,
     })
 }
 
@@ -178,9 +192,7 @@ impl Closed {
             .as_slice()
     }
 
-    /// The variables that are free in a rule, and the conjuncts of its body in order and the negation of its
-    /// head, each with a number of last variables that it surely doesn't wait for, maybe fewer than could be.
-    /// Takes no memory.
+    /// What trying a rule goes by. Takes no memory.
     pub fn waits(&self, number: usize) -> Waits<'_>
         requires { number < length (rules_of self.now) }
         ensures { (rule : RuleForm) → slice_get (rules_of self.now) number ≡ Some rule
@@ -188,19 +200,10 @@ impl Closed {
     {
         let entry = item_at(self.entries.as_slice(), number);
         let shape = item_at(self.shapes.as_slice(), entry.base);
-        let other = Due {
-            formula: item_at(self.negations.as_slice(), entry.base),
-            left: shape.negated,
-        };
-        let parts = shape.conjuncts.as_slice();
         Waits {
-            variables: shape.variables.as_slice(),
-            dues: Dues {
-                parts,
-                place: entry.conjunct,
-                other,
-            },
-            denied: denied(parts, entry.conjunct, other),
+            shape,
+            skip: skipped(shape.members.len(), entry.conjunct),
+            head: entry.head,
         }
     }
 
@@ -230,6 +233,33 @@ impl Closed {
         ensures { AreNumbersOf SeesSummaries (rules_of self.now) result.now }
     {
         self.by_sm.as_slice()
+    }
+
+    /// Base rules with members that the changes which the head asks for may make greater: at least those of
+    /// the rules that see such changes.
+    pub fn movers(&self, head: Head) -> &[Mover]
+        ensures { (n : ℕ) (rule : RuleForm) → slice_get (rules_of self.now) n ≡ Some rule
+            → Sees (head_of head) rule → IsMovedBySome self.now result.now n }
+    {
+        self.movers.by_change(head)
+    }
+
+    /// The numbers of the closed rules of the mover's base rule.
+    pub fn family(&self, mover: Mover) -> &[usize]
+        ensures those { (n : ℕ) → IsMoved self.now mover n → Contains result.now n }
+        ensures within { All (λ n. n < length (rules_of self.now)) result.now }
+    {
+        numbers_at(self.families.as_slice(), mover.rule)
+    }
+
+    /// Whether the rule, one of the mover's base rule, has a member that the mover moves: all but the one
+    /// that the rule's head denies.
+    pub fn is_moved(&self, number: usize, mover: Mover) -> bool
+        requires { number < length (rules_of self.now) }
+        ensures { IsMoved self.now mover number → IsTrue result }
+    {
+        let entry = item_at(self.entries.as_slice(), number);
+        mover.moving.moves_other(entry.conjunct)
     }
 }
 
@@ -263,4 +293,13 @@ fn swapped<'a>(
         list[k] = negation;
     }
     list
+}
+
+/// The member of a base rule's family, of so many, that a rule's head denies: that in whose place the negated
+/// head stands, and of the base rule the negated head, behind all.
+fn skipped(members: usize, place: Option<usize>) -> usize
+    requires { 0 < members }
+    ensures { result ≡ unwrap_or place (members - 1) }
+{
+    place.unwrap_or(members - 1)
 }

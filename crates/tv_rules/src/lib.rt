@@ -5,16 +5,15 @@
 mod base;
 mod closed;
 mod conjuncts;
-mod dues;
 mod entries;
 mod laws;
 mod mentioned;
+mod moved;
 mod shapes;
 mod watch;
 
 pub use base::push_properties;
 pub use closed::{Closed, close_rules};
-pub use dues::{Due, Dues};
 pub use laws::{
     base_rules_are_met, closed_rules_are_met, closed_rules_are_rules, closing_keeps_meaning,
     conjuncts_carry_formulas, dropping_keeps_meaning, further_rules_follow, samples_are_closed,

@@ -106,7 +106,7 @@ fn note_rules(alloc: Global, lists: &mut Vec<Numbers>, rules: &[Rule]) -> Result
 }
 
 /// So many empty lists.
-fn empty_lists(alloc: Global, count: usize) -> Result<Vec<Numbers>, AllocError>
+pub fn empty_lists(alloc: Global, count: usize) -> Result<Vec<Numbers>, AllocError>
     ensures { IfOk result (λ lists. lists.items ≡ replicate count []) }
 {
     let mut lists = Vec::with_capacity(alloc, count)?;

@@ -1,37 +1,28 @@
-//! What trying a rule goes by that doesn't depend on a structure: its variables in an order, and its
-//! conjuncts.
+//! What trying a rule goes by that doesn't depend on a structure: its variables in an order, and the members
+//! of its family.
 
 ghost use Rattle.std.specs.Prelude.{ℕ, ◌≡◌, ◌<◌, ◌↔◌, ◌⊎◌, Contains, IfOk, IsTrue, OnOk};
 ghost use Rattle.tv_model.specs.Program.{rule_of};
 ghost use Rattle.tv_model.specs.Rules.{IsFreeInRule};
-ghost use Rattle.tv_rules.specs.Dues.{IsShape};
 ghost use Rattle.tv_rules.specs.EntryForms.{numbers_of};
+ghost use Rattle.tv_rules.specs.Waiting.{IsShape};
 
 use crate::conjuncts::{conjuncts, is_free_in_rule, negated_head};
-use crate::dues::{Due, Dues, Parts, left_by, own_parts};
 use std::alloc::{AllocError, Global};
-use tv_model::{Formula, Items, Rule, Terms, Var, Vars};
+use tv_members::{Shape, lay_out};
+use tv_model::{Formula, Head, Items, Rule, Terms, Var, Vars};
 
-/// What trying a base rule, or a further rule of it, goes by.
-#[derive(Debug, Drop)]
-pub struct Shape {
-    /// The variables that are free in the rule.
-    pub variables: Vars,
-    /// The conjuncts of the base rule's body.
-    pub conjuncts: Parts,
-    /// A number of the last variables that don't stand in the head, maybe fewer than there are.
-    pub negated: usize,
-}
-
-/// The shapes of rules.
+/// The shapes of base rules.
 pub type Shapes = Items<Shape>;
 
-/// The variables that are free in a rule, the conjuncts of its body in order, and the negation of its head.
+/// What trying a closed rule goes by: the members of its family, and which of them it denies; the others are
+/// its conjuncts.
 #[derive(Clone, Copy, Debug)]
 pub struct Waits<'a> {
-    pub variables: &'a [Var],
-    pub dues: Dues<'a>,
-    pub denied: Due<'a>,
+    pub shape: &'a Shape,
+    /// The number of the member that the head denies.
+    pub skip: usize,
+    pub head: Head,
 }
 
 /// The shape of a base rule whose variables are in range.
@@ -40,15 +31,10 @@ pub fn shape_of(alloc: Global, rule: &Rule) -> Result<Shape, AllocError>
     ensures { IfOk result (IsShape (rule_of rule.now)) }
 {
     let variables = rule_variables(alloc, rule)?;
-    let list = conjuncts(alloc, &rule.body)?;
-    let conjuncts = own_parts(alloc, &list, variables.as_slice())?;
     let negation = negated_head(alloc, rule.head)?;
-    let negated = left_by(&negation, variables.as_slice());
-    Ok(Shape {
-        variables,
-        conjuncts,
-        negated,
-    })
+    let mut members = conjuncts(alloc, &rule.body)?;
+    members.push(&negation)?;
+    lay_out(alloc, variables, &members)
 }
 
 /// The variables of the rule, of the 32 that there are: those first of which a conjunct of the body says

@@ -2,10 +2,9 @@
 
 ghost use Rattle.std.specs.Prelude.{◌≡◌, ◌↔◌, ◌<◌, length, map, [], ◌∷◌, ◌++◌, IsTrue, IfOk, OnOk, All};
 ghost use Rattle.std.specs.List.{AllZip};
-ghost use Rattle.tv_model.specs.Form.{form_of};
 ghost use Rattle.tv_model.specs.Program.{head_of, rule_of};
 ghost use Rattle.tv_rules.specs.Closing.{closed_set};
-ghost use Rattle.tv_rules.specs.Standing.{AreNumbersOf, IsHeadOf, StandsIn, HasEquality, IsEquality};
+ghost use Rattle.tv_rules.specs.Standing.{AreNumbersOf, StandsIn};
 ghost use Rattle.tv_rules.specs.Standing.{HasEqualityIn, SeesSummaries};
 ghost use Rattle.tv_rules.specs.EntryForms.{entry_of, closed_entries};
 ghost use Rattle.tv_rules.specs.Noting.{AreBasesWith};
@@ -13,7 +12,8 @@ ghost use Rattle.tv_rules.specs.Flags.{Flags, IsOfBase, IsOfBaseOrTwice, AreTrue
 
 use crate::entries::Entry;
 use std::alloc::{AllocError, Global};
-use tv_model::{Formula, Head, Items, PredId, Rule, Terms};
+use tv_model::{Head, Items, PredId, Rule, Terms};
+use tv_moves::{has_equality, is_equality};
 
 /// Numbers of closed rules.
 pub type Numbers = Items<usize>;
@@ -141,32 +141,6 @@ fn has_equality_in(rule: &Rule) -> bool
     ensures { IsTrue result ↔ HasEqualityIn (rule_of rule.now) }
 {
     has_equality(&rule.body) || is_equality(&rule.head)
-}
-
-/// Whether the head is an equality or its negation. Takes no memory.
-pub fn is_equality(head: &Head) -> bool
-    ensures { IsTrue result ↔ IsEquality (head_of head.now) }
-{
-    match head {
-        Head::Never | Head::Atom(_, _, _) => false,
-        Head::Same(_, _, _) => true,
-    }
-}
-
-/// Whether an equality stands in the formula. Takes no memory.
-pub fn has_equality(f: &Formula) -> bool
-    ensures { IsTrue result ↔ HasEquality (form_of f.now) }
-{
-    match f {
-        Formula::Zero | Formula::One | Formula::Atom(_, _) | Formula::IsNew(_) => false,
-        Formula::Same(_, _) => true,
-        Formula::Not(g) | Formula::Exists(_, g) | Formula::Forall(_, g) => has_equality(g),
-        Formula::And(g, h) | Formula::Or(g, h) | Formula::Iff(g, h) => {
-            has_equality(g) || has_equality(h)
-        }
-        Formula::Cond(c, g, h) => has_equality(c) || has_equality(g) || has_equality(h),
-        Formula::Closure { body, .. } => has_equality(body),
-    }
 }
 
 /// Whether the head has one variable twice. Takes no memory.

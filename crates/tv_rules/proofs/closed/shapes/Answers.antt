@@ -1,6 +1,6 @@
 use Rattle.std.proofs.Common.{arith}
 use Rattle.tv_model.specs.Program.{rule_of}
-use Rattle.tv_rules.specs.Dues.{IsShape}
+use Rattle.tv_rules.specs.Waiting.{IsShape}
 use Rattle.tv_rules.proofs.Loops.{zip-more, zip-all, mapped-contains}
 use Rattle.tv_rules.proofs.closed.shapes.Goals as goal
 

@@ -1,7 +1,7 @@
 use Rattle.std.proofs.Common.{take}
 use Rattle.std.specs.List.{AllZip}
 use Rattle.tv_model.specs.Program.{rule_of}
-use Rattle.tv_rules.specs.Dues.{IsShape}
+use Rattle.tv_rules.specs.Waiting.{IsShape}
 use Rattle.tv_rules.proofs.closed.shapes.Given as goal
 
 abbrev pub invariant-loop-rule : goal.invariant-loop-rule

@@ -1,8 +1,13 @@
-use Rattle.std.proofs.Common.{length, ap, subst, ◌∙◌, ◌≤◌}
+use Rattle.std.proofs.Common.{ℕ, ◌↔◌, ◌++◌, ◌∷◌, [], ◌∙◌, List, Contains, ap, subst, sym}
+use Rattle.std.specs.Borrow.{Bor}
+use Rattle.std.proofs.lemmas.List.{map-append}
+use Rattle.std.proofs.lemmas.Result.{IfOk-weaker}
+use Rattle.tv_model.specs.Form.{form_of}
+use Rattle.tv_model.specs.declared.formula.Formula.{Formula}
+use Rattle.tv_rules.specs.Closing.{conjuncts}
 use Rattle.tv_model.specs.Program.{rule_of}
-use Rattle.tv_rules.specs.Closing.{conjuncts, negated_head}
-use Rattle.tv_rules.specs.Dues.{AreDueFrom, DueForm, IsDue, parts_of}
-use Rattle.tv_rules.specs.EntryForms.{forms_of, numbers_of}
+use Rattle.tv_model.specs.Rules.{IsFreeInRule}
+use Rattle.tv_members.specs.Members.{forms_of}
 use Rattle.tv_rules.proofs.RuleTests.{free-in_range}
 use Rattle.tv_rules.proofs.shapes.shape_of.Goals as goal
 
@@ -10,15 +15,12 @@ pub returns : goal.returns
 returns c =
     let rule = rule_of c.args.rule.now
     in let vars = c.in_ok-variables.variables
-    in let parts = parts_of c.in_ok-conjuncts.conjuncts
-    in let negated : DueForm = record { form = negated_head rule.head; left = c.left_by-negated.result }
-    in record {
-      free = free-in_range rule vars c.in_ok-variables.ensures c.requires;
-      due = subst (λ vs. AreDueFrom (conjuncts rule.body) (numbers_of vs) parts) c.as_slice.ensures
-          (subst (λ fs. AreDueFrom fs (numbers_of c.as_slice.result.now) parts)
-          (ap forms_of c.deref.ensures.value ∙ c.in_ok-list.ensures) c.in_ok-conjuncts.ensures);
-      negated = subst (λ vs. IsDue (numbers_of vs) negated) c.as_slice-2.ensures
-          (subst (λ f. IsDue (numbers_of c.as_slice-2.result.now) (record { form = f; left = c.left_by-negated.result }))
-          c.in_ok-negation.ensures c.left_by-negated.ensures.due);
-      most = subst (λ vs. c.left_by-negated.result ≤ length vs) c.as_slice-2.ensures c.left_by-negated.ensures.most;
-    }
+    in IfOk-weaker c.lay_out.result _ _ (λ shape made. record {
+      free = subst (λ (ns : List ℕ). (v : ℕ) → Contains ns v ↔ IsFreeInRule v rule) (sym made.variables)
+          (free-in_range rule vars c.in_ok-variables.ensures c.requires);
+      members = made.forms ∙ ap forms_of (c.deref.ensures.value ∙ c.in_ok-push.ensures.items)
+          ∙ map-append (λ (b : Bor Formula). form_of b.now) c.in_ok-members.members.items _
+          ∙ ap (λ fs. fs ++ form_of c.in_ok-negation.negation ∷ []) c.in_ok-members.ensures
+          ∙ ap (λ x. conjuncts rule.body ++ x ∷ []) c.in_ok-negation.ensures;
+      laid = made.laid;
+    }) c.lay_out.ensures

@@ -11,5 +11,5 @@ pub returns : goal.returns
 returns c =
     let Of : List Rule → Type 0 = λ bases. AreNumbersOf (StandsIn c.args.p.0) (rules_of bases) c.numbers_at.result.now
     in subst Of c.self.view_is
-    (watched-at (rules_of c.self.inside.bases) c.self.inside.by_pred c.self.invariant.watched c.args.p.0 c.numbers_at.result.now
+    (watched-at (rules_of c.self.inside.bases) c.self.inside.by_pred c.self.invariant.0.watched c.args.p.0 c.numbers_at.result.now
     (c.numbers_at.ensures ∙ ap (λ (lists : List (List ℕ)). unwrap_or (slice_get lists c.args.p.0) []) c.as_slice.ensures))

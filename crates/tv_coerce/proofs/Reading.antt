@@ -1,0 +1,120 @@
+-- What is read of a literal for the individuals that a variable may stand for.
+use Rattle.std.proofs.Common.{ℕ, ◌≡◌, ◌≢◌, ◌<◌, ◌+◌, ◌*◌, inl, inr, ◌⊎◌, Bool, true, false, List, []}
+use Rattle.std.proofs.Common.{◌∷◌}
+use Rattle.std.proofs.Common.{length, get_or, Option, Some, slice_get, refl, sym, ap, subst, ◌∙◌, arith}
+use Rattle.std.specs.Prelude.{option_map}
+use Rattle.std.proofs.lemmas.List.{length-map}
+use Rattle.std.proofs.lemmas.Option.{same_Some, slice_get-map, slice_get_read, slice_get_within}
+use Rattle.tv_kleene.specs.declared.K3.{K3}
+use Rattle.tv_kleene.specs.declared.K3.TheVariants.{No}
+use Rattle.tv_model.specs.Form.{Form, FAtom, FSame, FExists, IsFree}
+use Rattle.tv_model.specs.Truth.{Assignment, put}
+use Rattle.tv_model.specs.Valid.{IsFormulaOver}
+use Rattle.tv_members.specs.Members.{MemberForm, member_of, members_of, signed}
+use Rattle.tv_members.specs.declared.members.Member.{Member}
+use Rattle.tv_eval_laws.specs.Value.{value, same_value}
+use Rattle.tv_eval.specs.Along.{IsWordAlong, IsWordOf}
+use Rattle.tv_eval.specs.AssignmentForm.{assignment_of, individual_for}
+use Rattle.tv_eval.specs.Formulas.{AreAssigned}
+use Rattle.tv_eval.proofs.AlongLaws.{atom_one, atom_two, put_same, put_other, same_two, same_turned}
+use Rattle.tv_eval.proofs.AlongWords.{same-word}
+use Rattle.tv_struct.specs.StructureForm.{StructureForm, structure_of, value_at}
+use Rattle.tv_coerce.specs.Passing.{signed_value}
+use Rattle.tv_coerce.proofs.Heads.{placed}
+
+-- ---- the member of a step
+
+pub same-member : (ms : List MemberForm) (k : ℕ) (m n : MemberForm) → slice_get ms k ≡ Some m → slice_get ms k ≡ Some n
+    → (P : MemberForm → Type 0) → P m → P n
+same-member ms k m n there at P = subst P (same_Some m n (sym there ∙ at))
+
+pub indexed-member : (xs ms : List Member) (k : ℕ) (x : Member) (m : MemberForm) → xs ≡ ms → x ≡ get_or xs k x
+    → slice_get (members_of ms) k ≡ Some m → member_of (get_or xs k x) ≡ m
+indexed-member xs ms k x m same is there =
+    let within : k < length xs = omega (arith, slice_get_within (members_of ms) k m there, length-map ms member_of, ap length same)
+    in let found : slice_get ms k ≡ Some x
+    = ap (λ ys. slice_get ys k) (sym same) ∙ slice_get_read xs (length xs) k x refl within is
+    in ap member_of (sym is) ∙ same_Some (member_of x) m (sym (slice_get-map member_of ms k ∙ ap (option_map member_of) found) ∙ there)
+
+-- ---- a literal, which may be negated
+
+pub over-signed : (arities : List ℕ) (flag : Bool) (f g : Form) → f ≡ signed flag g → IsFormulaOver arities f → IsFormulaOver arities g
+over-signed arities true f g is over = subst (IsFormulaOver arities) is over
+over-signed arities false f g is over = subst (IsFormulaOver arities) is over
+
+free-signed : (flag : Bool) (f g : Form) (x : ℕ) → f ≡ signed flag g → IsFree x g → IsFree x f
+free-signed true f g x is free = subst (IsFree x) (sym is) free
+free-signed false f g x is free = subst (IsFree x) (sym is) free
+
+-- what the other variable stands for
+pub other-within : (size : ℕ) (places : List (Option ℕ)) (flag : Bool) (f g : Form) (v x : ℕ) → AreAssigned size places (FExists v f)
+    → f ≡ signed flag g → x ≢ v → IsFree x g → assignment_of places x < size
+other-within size places flag f g v x assigned is apart free =
+    placed size (individual_for places x) (assigned x (apart, free-signed flag f g x is free))
+
+pub same-within : (v size : ℕ) (places : List (Option ℕ)) (flag : Bool) (f : Form) (x : ℕ) → AreAssigned size places (FExists v f)
+    → (f ≡ signed flag (FSame v x)) ⊎ (f ≡ signed flag (FSame x v)) → x ≢ v → assignment_of places x < size
+same-within v size places flag f x assigned (inl e) apart = other-within size places flag f (FSame v x) v x assigned e apart (inr refl)
+same-within v size places flag f x assigned (inr e) apart = other-within size places flag f (FSame x v) v x assigned e apart (inl refl)
+
+module _ (s : StructureForm) (a : Assignment) (v chunk : ℕ) where
+  pub signed-along : (flag : Bool) (f g : Form) (base word : List K3) → f ≡ signed flag g → IsWordAlong s a v chunk g base
+      → ((h : ℕ → K3) → IsWordOf s.size chunk h base → IsWordOf s.size chunk (λ u. signed_value flag (h u)) word)
+      → IsWordAlong s a v chunk f word
+  signed-along true f g base word is along turned =
+      subst (λ x. IsWordAlong s a v chunk x word) (sym is) (turned (λ u. value (structure_of s) (put a v u) g) along)
+  signed-along false f g base word is along turned =
+      subst (λ x. IsWordAlong s a v chunk x word) (sym is) (turned (λ u. value (structure_of s) (put a v u) g) along)
+
+  -- ---- atoms
+
+  pub alone-along : (p : ℕ) (word : List K3) → length word ≡ 64
+      → ((i : ℕ) → i < 64 → 64 * chunk + i < s.size → get_or word i No ≡ value_at s p ((64 * chunk + i) ∷ []))
+      → IsWordAlong s a v chunk (FAtom p (v ∷ [])) word
+  alone-along p word long values = record {
+    long = long;
+    each = λ i low within. values i low within ∙ atom_one s a p v v (64 * chunk + i) refl;
+  }
+
+  pub second-along : (p x at : ℕ) (word : List K3) → x ≢ v → at ≡ a x → length word ≡ 64
+      → ((i : ℕ) → i < 64 → 64 * chunk + i < s.size → get_or word i No ≡ value_at s p (at ∷ (64 * chunk + i) ∷ []))
+      → IsWordAlong s a v chunk (FAtom p (x ∷ v ∷ [])) word
+  second-along p x at word apart is long values = record {
+    long = long;
+    each = λ i low within.
+        let u : ℕ = 64 * chunk + i
+        in values i low within
+        ∙ atom_two s a p x v v u at u (is ∙ sym (put_other a v u x apart)) (sym (put_same a v u v refl));
+  }
+
+  pub first-along : (p x at : ℕ) (word : List K3) → x ≢ v → at ≡ a x → length word ≡ 64
+      → ((i : ℕ) → i < 64 → 64 * chunk + i < s.size → get_or word i No ≡ value_at s p ((64 * chunk + i) ∷ at ∷ []))
+      → IsWordAlong s a v chunk (FAtom p (v ∷ x ∷ [])) word
+  first-along p x at word apart is long values = record {
+    long = long;
+    each = λ i low within.
+        let u : ℕ = 64 * chunk + i
+        in values i low within
+        ∙ atom_two s a p v x v u u at (sym (put_same a v u v refl)) (is ∙ sym (put_other a v u x apart));
+  }
+
+  -- ---- equalities
+
+  pub same-along : (flag : Bool) (f : Form) (x at : ℕ) (base word : List K3) → x ≢ v → at ≡ a x
+      → (f ≡ signed flag (FSame v x)) ⊎ (f ≡ signed flag (FSame x v))
+      → IsWordOf s.size chunk (λ w. same_value (structure_of s) w at) base
+      → ((h : ℕ → K3) → IsWordOf s.size chunk h base → IsWordOf s.size chunk (λ u. signed_value flag (h u)) word)
+      → IsWordAlong s a v chunk f word
+  same-along flag f x at base word apart is (inl e) same turned =
+      signed-along flag f (FSame v x) base word e
+      (same-word s.size chunk (λ w. same_value (structure_of s) w at)
+      (λ u. value (structure_of s) (put a v u) (FSame v x)) base same
+      (λ u within. same_two (structure_of s) u (put a v u v) at (put a v u x) (sym (put_same a v u v refl))
+      (is ∙ sym (put_other a v u x apart)))) turned
+  same-along flag f x at base word apart is (inr e) same turned =
+      signed-along flag f (FSame x v) base word e
+      (same-word s.size chunk (λ w. same_value (structure_of s) w at)
+      (λ u. value (structure_of s) (put a v u) (FSame x v)) base same
+      (λ u within. same_turned (structure_of s) u at
+      ∙ same_two (structure_of s) at (put a v u x) u (put a v u v) (is ∙ sym (put_other a v u x apart))
+      (sym (put_same a v u v refl)))) turned

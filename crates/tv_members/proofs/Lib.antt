@@ -1,0 +1,3 @@
+-- What only this crate cites.
+mod Gathering
+mod Placing

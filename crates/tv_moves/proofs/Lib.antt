@@ -1,0 +1,3 @@
+-- The library of lemmas on what changes move, and on notes of members, for the crates above.
+pub mod MoveLaws
+pub mod NotedLaws
