@@ -2,5 +2,6 @@
 pub mod Above
 pub mod Embedding
 pub mod Narrowing
+pub mod Made
 -- What only this crate cites.
 mod Copies

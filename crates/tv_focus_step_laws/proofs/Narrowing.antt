@@ -322,7 +322,7 @@ narrowed-embeds s pred aim choice c writes is of done given r below e = record {
       ap (λ flags. get_or flags (origin_in s choice u) false) done.summaries ∙ e.several u w at there ne same;
 }
 
-fit-writes : (s c : StructureForm) (pred : ℕ) (aim : AimForm) (u : ℕ) (vector : List K3) → IsAim s pred aim
+pub fit-writes : (s c : StructureForm) (pred : ℕ) (aim : AimForm) (u : ℕ) (vector : List K3) → IsAim s pred aim
     → IsAlike s c → u < s.size → Fit c pred (writes_at aim u vector)
 fit-writes s c pred aim u vector is alike lt k d inside =
     let w : WriteForm = get_or (writes_at aim u vector) k d

@@ -2,16 +2,18 @@
 -- before the choice is made.
 use Rattle.std.specs.Prelude.{ℕ, ◌≡◌, ◌≢◌, ◌<◌, ◌≤◌, List, [], ◌∷◌, length, Some, All, Any, Contains}
 use Rattle.std.specs.Prelude.{slice_get}
-use Rattle.std.specs.Prelude.{slice_index_or}
+use Rattle.std.specs.Prelude.{slice_index_or, ◌+◌}
+use Rattle.std.specs.List.{AllByRecursion}
 use Rattle.tv_kleene.specs.declared.K3.{K3}
 use Rattle.tv_kleene.specs.declared.K3.TheVariants.{No, Half}
 use Rattle.tv_model.specs.Program.{RuleForm}
+use Rattle.tv_kleene.specs.Kleene.{LiesUnder}
 use Rattle.tv_embedding_laws.specs.LogicalStructure.{LogicalStructure}
 use Rattle.tv_embedding_laws.specs.Embedding.{Embeds, IsBelow}
 use Rattle.tv_stable_laws.specs.Laws.{IsPlainRule}
 use Rattle.tv_stable_laws.specs.Stable.{IsStable, IsGreatestStable, HasNoStable}
 use Rattle.tv_struct.specs.StructureForm.{StructureForm, IsStructure, arities_of, structure_of, value_at}
-use Rattle.tv_focus_laws.specs.Choices.{ChoiceForm, AimForm, Alone, Before, Behind, members}
+use Rattle.tv_focus_laws.specs.Choices.{ChoiceForm, AimForm, Alone, Before, Behind, VectorSet, members}
 use Rattle.tv_focus_laws.specs.Choices.{member_at, choices}
 use Rattle.tv_focus_laws.specs.Laws.{AreAnchors}
 use Rattle.tv_focus_laws.specs.Written.{WriteForm, vector_writes, written, chosen_table, places_of, AreApart}
@@ -98,3 +100,53 @@ SharpenedLieAbove =
     (rules : List RuleForm) (s : StructureForm) (pred : ℕ) (aim : AimForm) (choice : ChoiceForm)
     (c : StructureForm) → All IsPlainRule rules → LiesAbove rules s pred aim choice c
     → SharpensAbove rules s pred aim choice c
+
+-- the values that are put are the structure's
+abbrev pub HasValues : (c : StructureForm) → (pred : ℕ) → List WriteForm → Type 0
+HasValues c pred writes = AllByRecursion (λ (w : WriteForm). value_at c pred w.tuple ≡ w.value) writes
+
+-- they lie under the structure's
+abbrev pub FitValues : (c : StructureForm) → (pred : ℕ) → List WriteForm → Type 0
+FitValues c pred writes =
+    AllByRecursion (λ (w : WriteForm). LiesUnder w.value (value_at c pred w.tuple)) writes
+
+-- an individual is given one vector, and the structure has its values
+abbrev pub HasOnly : (c : StructureForm) → (pred : ℕ) → AimForm → (u : ℕ) → VectorSet → Type 0
+HasOnly c pred aim u set =
+    (length set ≡ 1) × AllByRecursion (λ vector. HasValues c pred (writes_at aim u vector)) set
+
+-- so is each individual from the number `at` on
+abbrev pub HasChoice : (c : StructureForm) → (pred : ℕ) → AimForm → (at : ℕ) → ChoiceForm → Type 0
+HasChoice c pred aim at [] = Unit {0}
+HasChoice c pred aim at (set ∷ choice) = HasOnly c pred aim at set × HasChoice c pred aim (at + 1) choice
+
+-- what lies below a structure stays below it with the values of a vector that lie under its own
+abbrev pub FittingVectorsStayBelow : Type 0
+FittingVectorsStayBelow =
+    (s : StructureForm) (pred : ℕ) (aim : AimForm) (c : StructureForm) (u : ℕ) (vector : List K3)
+    → IsAim s pred aim → IsAlike s c → u < s.size → IsBelow (structure_of c) (structure_of s)
+    → FitValues c pred (writes_at aim u vector)
+    → IsBelow (structure_of (written c pred (writes_at aim u vector))) (structure_of s)
+
+-- a structure below s that lies above a choice, and has its values
+pub record HasMade (rules : List RuleForm) (s : StructureForm) (pred : ℕ) (aim : AimForm)
+    (choice : ChoiceForm)
+    (c : StructureForm) : Type 0 where
+  pub alike : IsAlike s c
+  pub below : IsBelow (structure_of c) (structure_of s)
+  pub above : LiesAbove rules s pred aim choice c
+  pub values : HasChoice c pred aim 0 choice
+
+-- what coerce makes of it, it makes of the choice, whose mark is that of s
+pub record CoercesAlike (rules : List RuleForm) (s : StructureForm) (pred : ℕ) (aim : AimForm)
+    (choice : ChoiceForm) (c : StructureForm) : Type 0 where
+  pub mark : (chosen_table s pred aim choice).fresh ≡ s.fresh
+  pub kept : (d : StructureForm) → IsGreatestStable rules (structure_of c) (structure_of d)
+      → IsGreatestStable rules (structure_of (chosen_table s pred aim choice)) (structure_of d)
+  pub none : HasNoStable rules (structure_of c) → HasNoStableChoice rules s pred aim choice
+
+abbrev pub MadeCoerceAlike : Type 0
+MadeCoerceAlike =
+    (rules : List RuleForm) (s : StructureForm) (pred : ℕ) (aim : AimForm) (choice : ChoiceForm)
+    (c : StructureForm) → All IsPlainRule rules → IsAim s pred aim → IsSmallChoice s pred aim choice
+    → HasMade rules s pred aim choice c → CoercesAlike rules s pred aim choice c

@@ -1,7 +1,7 @@
 //! Laws of choices that aren't made yet: functions that do nothing, and whose contracts are the laws.
 
 ghost use Rattle.tv_focus_step_laws.specs.Above.{StructuresLieAbove, VectorsNarrow, VectorsRefute};
-ghost use Rattle.tv_focus_step_laws.specs.Above.{SharpenedLieAbove};
+ghost use Rattle.tv_focus_step_laws.specs.Above.{SharpenedLieAbove, FittingVectorsStayBelow, MadeCoerceAlike};
 
 use tv_focus_laws::lists_are_exact;
 
@@ -27,4 +27,15 @@ pub fn vectors_refute()
 /// structure lies below the choice.
 pub fn sharpened_lie_above()
     ensures { SharpenedLieAbove }
+{}
+
+/// What lies below a structure stays below it with the values of a vector that lie under its own.
+pub fn fitting_vectors_stay_below()
+    ensures { FittingVectorsStayBelow }
+{}
+
+/// Coerce makes of a choice what it makes of a structure that lies above it, below the structure of which it
+/// is one, and has its values, where each individual is given one vector.
+pub fn made_coerce_alike()
+    ensures { MadeCoerceAlike }
 {}

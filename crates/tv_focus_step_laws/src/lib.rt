@@ -6,4 +6,7 @@
 
 mod laws;
 
-pub use laws::{sharpened_lie_above, structures_lie_above, vectors_narrow, vectors_refute};
+pub use laws::{
+    fitting_vectors_stay_below, made_coerce_alike, sharpened_lie_above, structures_lie_above,
+    vectors_narrow, vectors_refute,
+};

@@ -1,6 +1,9 @@
 -- What a walk begins with: the structure itself lies above all its choices.
 use Rattle.std.proofs.Common.{◌≡◌, ◌∙◌, [], length, refl, ap, sym, subst, Contains}
 use Rattle.std.proofs.lemmas.List.FromFn.{length-map-range_with_len}
+use Rattle.std.proofs.lemmas.List.Elements.{All-contains}
+use Rattle.tv_embedding_laws.proofs.EmbeddingLaws.{EmbedsOn-id}
+use Rattle.tv_stable_laws.specs.Stable.{IsStableUnder}
 use Rattle.tv_struct.specs.StructureForm.{IsStructure, structure_of}
 use Rattle.tv_eval.specs.ScratchForm.{ScratchForm}
 use Rattle.tv_rules.specs.Closing.{closed_rules}
@@ -33,7 +36,13 @@ all-above w scratch can lie =
 
 pub begins-at-hand : (w : Walk) (scratch : ScratchForm) → IsStructure w.from.now → CanWalk w scratch
     → IsAtHand w w.from.now
-begins-at-hand w scratch is can = record { alike = record { is = is; size = refl; over = refl }; stable = can.stable }
+begins-at-hand w scratch is can = record {
+  alike = record { is = is; size = refl; over = refl };
+  below = (refl, EmbedsOn-id (λ pred. Unit {0}) (structure_of w.from.now));
+  mark = refl;
+  rest = λ rule at out.
+      All-contains (IsStableUnder (structure_of w.from.now)) (closed_rules (walk_program w)) rule can.stable at;
+}
 
 -- there is a list of sets for each individual
 pub sets-counted : (w : Walk) (scratch : ScratchForm) → CanWalk w scratch

@@ -10,8 +10,8 @@ use Rattle.tv_focus.specs.Puts.{AreChosen, chosen_tables}
 use Rattle.tv_step_laws.specs.Parts.{AreFrom}
 use Rattle.tv_step_laws.specs.Transfer.{Coerces}
 use Rattle.tv_walk.specs.declared.walk.Walk.{Walk}
-use Rattle.tv_walk.specs.declared.narrow.Outlook.TheVariants.{Nothing, Below}
-use Rattle.tv_walk.specs.Walk.{AddsCoerced, Foretells, IsAbove, IsRefuted, walk_program, walk_table}
+use Rattle.tv_walk.specs.declared.narrow.Outlook.TheVariants.{Nothing}
+use Rattle.tv_walk.specs.Walk.{AddsCoerced, Foretells, IsAbove, IsRefuted, LeadsTo, walk_program, walk_table}
 
 -- ---- choices
 
@@ -115,12 +115,12 @@ nothing-adds w c u set rest begun old at above foretells =
     (all-where (IsAbove w c) (IsRefuted w) (begun ++ set ∷ []) rest above
     (λ choice begins is. foretells choice is (has-set begun u set choice at begins))))
 
-pub below-above : (w : Walk) (c d : StructureForm) (u : ℕ) (set : VectorSet) (rest : List (List VectorSet))
+pub leads-above : (w : Walk) (c d : StructureForm) (u : ℕ) (set : VectorSet) (rest : List (List VectorSet))
     (begun : ChoiceForm) → u ≡ length begun → AreChosen (IsAbove w c) (begun ++ set ∷ []) rest
-    → Foretells w c u set (Below d) → AreChosen (IsAbove w d) (begun ++ set ∷ []) rest
-below-above w c d u set rest begun at above foretells =
+    → LeadsTo w c u set d → AreChosen (IsAbove w d) (begun ++ set ∷ []) rest
+leads-above w c d u set rest begun at above leads =
     all-where (IsAbove w c) (IsAbove w d) (begun ++ set ∷ []) rest above
-    (λ choice begins is. foretells.1 choice is (has-set begun u set choice at begins))
+    (λ choice begins is. leads choice is (has-set begun u set choice at begins))
 
 -- what comes of one set, and then of those behind it
 pub one-more : (w : Walk) (begun now : ChoiceForm) (rest : List (List VectorSet)) (set : VectorSet)

@@ -7,8 +7,9 @@ use Rattle.std.proofs.lemmas.List.Elements.{All-contains}
 use Rattle.std.proofs.lemmas.List.FromFn.{length-range_with_len}
 use Rattle.tv_model.specs.Program.{RuleForm}
 use Rattle.tv_model.proofs.Lists.{Contains-map, slice_get-contains}
+use Rattle.tv_embedding_laws.proofs.EmbeddingLaws.{EmbedsOn-id}
 use Rattle.tv_stable_laws.specs.Laws.{IsPlainRule}
-use Rattle.tv_stable_laws.specs.Stable.{IsStableUnder, IsGreatestStable, HasNoStable}
+use Rattle.tv_stable_laws.specs.Stable.{IsStable, IsStableUnder, IsGreatestStable, HasNoStable}
 use Rattle.tv_struct.specs.StructureForm.{StructureForm, IsStructure, structure_of, arities_of}
 use Rattle.tv_eval.specs.ScratchForm.{ScratchForm}
 use Rattle.tv_rules.specs.Closing.{closed_rules}
@@ -27,13 +28,15 @@ use Rattle.tv_focus_laws.specs.Tables.{ShowsOver}
 use Rattle.tv_focus_laws.specs.Written.{WriteForm}
 use Rattle.tv_focus_laws.proofs.Counts.{choices_are_counted}
 use Rattle.tv_focus_laws.proofs.Writes.{IsWritten}
-use Rattle.tv_focus_step_laws.specs.Above.{IsSmallChoice}
+use Rattle.tv_focus_step_laws.specs.Above.{IsSmallChoice, HasChoice, CoercesAlike}
+use Rattle.tv_focus_step_laws.proofs.Made.{made_coerce_alike}
 use Rattle.tv_focus_step_laws.proofs.Embedding.{choice-shows}
 use Rattle.tv_focus.specs.Puts.{IsChoiceOf}
 use Rattle.tv_step_laws.specs.Transfer.{Coerces}
 use Rattle.tv_step_laws.proofs.Shapes.{shaped-over}
 use Rattle.tv_walk.specs.declared.walk.Walk.{Walk}
-use Rattle.tv_walk.specs.Walk.{CanWalk, IsAtHand, walk_aim, walk_pred, walk_program, walk_table}
+use Rattle.tv_walk.specs.Walk.{AddsCoerced, CanWalk, IsAbove, IsAtHand, walk_aim, walk_pred, walk_program}
+use Rattle.tv_walk.specs.Walk.{walk_table}
 
 pub small-choice : (w : Walk) (scratch : ScratchForm) (choice : ChoiceForm) → CanWalk w scratch
     → IsChoiceOf w.from.now (walk_pred w) (walk_aim w) choice
@@ -95,23 +98,79 @@ some-coerces w scratch t d found can over to is =
       refl,
     )
 
+-- a stable structure is what coerce makes of it
+pub stable-coerces : (w : Walk) (scratch : ScratchForm) (c : StructureForm) → CanWalk w scratch → IsAtHand w c
+    → IsStable (closed_rules (walk_program w)) (structure_of c) → Coerces (walk_program w) c (c ∷ [])
+stable-coerces w scratch c can hand stable = inr (
+  c,
+  record {
+    greatest = record {
+      below = (refl, EmbedsOn-id (λ pred. Unit {0}) (structure_of c));
+      stable = stable;
+      greatest = λ u below is. below;
+    };
+    shaped = record {
+      over = hand.alike.over ∙ can.shaped.over;
+      planes = hand.alike.is.table.planes;
+      summaries = hand.alike.is.summaries;
+    };
+    mark = refl;
+  },
+  refl,
+)
+
+-- ---- a choice that the structure at hand has
+
+made-alike : (w : Walk) (scratch : ScratchForm) (c : StructureForm) (choice : ChoiceForm) → CanWalk w scratch
+    → IsAtHand w c → IsAbove w c choice → HasChoice c (walk_pred w) (walk_aim w) 0 choice
+    → CoercesAlike (closed_rules (walk_program w)) w.from.now (walk_pred w) (walk_aim w) choice c
+made-alike w scratch c choice can hand above has =
+    made_coerce_alike (closed_rules (walk_program w)) w.from.now (walk_pred w) (walk_aim w) choice c
+    (rules_are_plain (walk_program w) can.valid) can.choosing.aim (small-choice w scratch choice can above.of)
+    (record { alike = hand.alike; below = hand.below; above = above.above; values = has })
+
+made-coerces : (w : Walk) (scratch : ScratchForm) (c : StructureForm) (choice : ChoiceForm)
+    (own : List StructureForm) → CanWalk w scratch → IsAtHand w c → IsAbove w c choice
+    → HasChoice c (walk_pred w) (walk_aim w) 0 choice → Coerces (walk_program w) c own
+    → Coerces (walk_program w) (walk_table w choice) own
+made-coerces w scratch c choice own can hand above has (inl (none, is)) =
+    inl ((made-alike w scratch c choice can hand above has).none none, is)
+made-coerces w scratch c choice own can hand above has (inr (d, coerced, is)) =
+    let alike : CoercesAlike (closed_rules (walk_program w)) w.from.now (walk_pred w) (walk_aim w) choice c
+    = made-alike w scratch c choice can hand above has
+    in inr (
+      d,
+      record {
+        greatest = alike.kept d coerced.greatest;
+        shaped = coerced.shaped;
+        mark = coerced.mark ∙ hand.mark ∙ sym alike.mark;
+      },
+      is,
+    )
+
+-- what comes of the structure at hand comes of the choice
+pub made-adds : (w : Walk) (scratch : ScratchForm) (c : StructureForm) (choice : ChoiceForm)
+    (old new : List StructureForm) → CanWalk w scratch → IsAtHand w c → IsAbove w c choice
+    → HasChoice c (walk_pred w) (walk_aim w) 0 choice → AddsCoerced w (c ∷ []) old new
+    → AddsCoerced w (walk_table w choice ∷ []) old new
+made-adds w scratch c choice old new can hand above has (own, (one, rest, made, later, all), is) = (
+  own,
+  (one, rest, made-coerces w scratch c choice one can hand above has made, later, all),
+  is,
+)
+
 -- ---- a vector
 
 -- where one predicate's values were put, only the rules in which it stands may be unmet
 pub written-rest : (w : Walk) (scratch : ScratchForm) (c t : StructureForm) (writes : List WriteForm)
-    (none set : List Bool) → CanWalk w scratch → IsAtHand w c → IsWritten c t (walk_pred w) writes
-    → HasMore (IsRuleThat (StandsIn (walk_pred w)) (rules_of w.closed.now)) none set
-    → IsStableBut (rules_of w.closed.now) set t
-written-rest w scratch c t writes none set can hand done more n rule there out =
+    → CanWalk w scratch → IsAtHand w c → IsWritten c t (walk_pred w) writes → (rule : RuleForm)
+    → Contains (closed_rules (walk_program w)) rule → ¬ StandsIn (walk_pred w) rule
+    → IsStableUnder (structure_of t) rule
+written-rest w scratch c t writes can hand done rule at out =
     untouched_rules_stay_stable (structure_of c) (structure_of t) rule
     (All-contains IsPlainRule (closed_rules (walk_program w)) rule (rules_are_plain (walk_program w) can.valid)
-    in_closed).unmarked untouched
-    (All-contains (IsStableUnder (structure_of c)) (closed_rules (walk_program w)) rule hand.stable in_closed)
+    at).unmarked untouched (hand.rest rule at out)
   where
-    in_closed : Contains (closed_rules (walk_program w)) rule
-    in_closed = slice_get-contains (closed_rules (walk_program w)) n rule
-        (subst (λ rules. slice_get rules n ≡ Some rule) can.rules there)
-
     untouched : IsUntouched rule (structure_of c) (structure_of t)
     untouched = record {
       individuals = λ u. (
@@ -119,9 +178,21 @@ written-rest w scratch c t writes none set can hand done more n rule there out =
         λ at. subst (λ m. Contains (range_with_len 0 m) u) done.size at,
       );
       values = λ q stands tuple inside. sym (done.others q tuple
-          (λ e. out ((more.exact n).1 (inr (rule, there, subst (λ p. StandsIn p rule) e stands)))));
+          (λ e. out (subst (λ p. StandsIn p rule) e stands)));
       summaries = λ u at. ap (λ flags. get_or flags u false) (sym done.summaries);
     }
+
+-- so that these rules may wait
+pub pred-rest : (w : Walk) (scratch : ScratchForm) (t : StructureForm) (none set : List Bool) → CanWalk w scratch
+    → ((rule : RuleForm) → Contains (closed_rules (walk_program w)) rule → ¬ StandsIn (walk_pred w) rule
+    → IsStableUnder (structure_of t) rule)
+    → HasMore (IsRuleThat (StandsIn (walk_pred w)) (rules_of w.closed.now)) none set
+    → IsStableBut (rules_of w.closed.now) set t
+pred-rest w scratch t none set can rest more n rule there out =
+    rest rule
+    (slice_get-contains (closed_rules (walk_program w)) n rule
+    (subst (λ rules. slice_get rules n ≡ Some rule) can.rules there))
+    (λ stands. out ((more.exact n).1 (inr (rule, there, stands))))
 
 -- the individuals of what coerce finds
 pub coerced-size : (t d : StructureForm) (rules : List RuleForm)

@@ -3,3 +3,4 @@ mod Choices
 mod Coercing
 mod Differing
 mod Foretelling
+mod Passing

@@ -1,16 +1,20 @@
 -- What a walk through the choices of a stage knows.
-use Rattle.std.specs.Prelude.{ℕ, ◌≡◌, ◌++◌, List, [], length, All, Any, slice_index_or}
+use Rattle.std.specs.Prelude.{ℕ, ◌≡◌, ◌++◌, List, [], length, All, Any, Contains, IsTrue, slice_index_or}
+use Rattle.std.specs.List.{AllByRecursion}
 use Rattle.tv_kleene.specs.declared.K3.{K3}
-use Rattle.tv_model.specs.Program.{ProgramForm, program_of}
+use Rattle.tv_model.specs.Program.{ProgramForm, RuleForm, program_of}
 use Rattle.tv_model.specs.Valid.{IsValid}
-use Rattle.tv_stable_laws.specs.Stable.{IsStable}
-use Rattle.tv_struct.specs.StructureForm.{StructureForm, structure_of}
+use Rattle.tv_kleene.specs.Kleene.{LiesUnder}
+use Rattle.tv_embedding_laws.specs.Embedding.{IsBelow}
+use Rattle.tv_stable_laws.specs.Stable.{IsStable, IsStableUnder}
+use Rattle.tv_rules.specs.Standing.{StandsIn}
+use Rattle.tv_struct.specs.StructureForm.{StructureForm, structure_of, value_at}
 use Rattle.tv_eval.specs.ScratchForm.{ScratchForm, IsMadeFor}
 use Rattle.tv_rules.specs.Closing.{closed_rules}
 use Rattle.tv_rules.specs.EntryForms.{rules_of}
 use Rattle.tv_coerce.specs.RuleSets.{IsStableBut}
 use Rattle.tv_focus_laws.specs.Choices.{AimForm, ChoiceForm, VectorSet}
-use Rattle.tv_focus_laws.specs.Written.{chosen_table}
+use Rattle.tv_focus_laws.specs.Written.{WriteForm, chosen_table}
 use Rattle.tv_focus_step_laws.specs.Above.{IsAlike, IsOther, LiesAbove, HasNoStableChoice, writes_at}
 use Rattle.tv_focus.specs.Focused.{IsChoosing, tables_in}
 use Rattle.tv_focus.specs.Puts.{IsChoiceOf}
@@ -20,7 +24,10 @@ use Rattle.tv_step_laws.specs.Shaped.{IsShaped}
 use Rattle.tv_step_laws.specs.Transfer.{Coerces}
 use Rattle.tv_walk.specs.declared.walk.Walk.{Walk}
 use Rattle.tv_walk.specs.declared.narrow.Outlook.{Outlook}
-use Rattle.tv_walk.specs.declared.narrow.Outlook.TheVariants.{Nothing, Same, Below}
+use Rattle.tv_walk.specs.declared.narrow.Outlook.TheVariants.{Nothing, Same, Put, Below}
+use Rattle.tv_walk.specs.declared.walk.Hand.{Hand}
+use Rattle.tv_walk.specs.declared.fits.Test.{Test}
+use Rattle.tv_walk.specs.declared.fits.Test.TheVariants.{Same as same, Under}
 
 abbrev pub walk_program : Walk → ProgramForm
 walk_program w = program_of w.program.now
@@ -47,10 +54,20 @@ pub record CanWalk (w : Walk) (scratch : ScratchForm) : Type 0 where
   pub count : length w.waiting.now ≡ length (rules_of w.closed.now)
   pub rest : All (IsStableBut (rules_of w.closed.now) w.waiting.now) (tables_in w.from.now w.choosing.now)
 
--- a structure at hand is over the same individuals, and stable
+-- a structure at hand is over the same individuals and lies below, with the same mark, and only the closed
+-- rules in which the predicate stands may be unmet
 pub record IsAtHand (w : Walk) (c : StructureForm) : Type 0 where
   pub alike : IsAlike w.from.now c
-  pub stable : IsStable (closed_rules (walk_program w)) (structure_of c)
+  pub below : IsBelow (structure_of c) (structure_of w.from.now)
+  pub mark : c.fresh ≡ w.from.now.fresh
+  pub rest : (rule : RuleForm) → Contains (closed_rules (walk_program w)) rule → ¬ StandsIn (walk_pred w) rule
+      → IsStableUnder (structure_of c) rule
+
+-- it is known to be stable, or not
+abbrev pub IsHand : Walk → Hand → Type 0
+IsHand w hand =
+    IsAtHand w hand.structure.now
+    × (IsTrue hand.is_stable → IsStable (closed_rules (walk_program w)) (structure_of hand.structure.now))
 
 -- it lies above the choice
 pub record IsAbove (w : Walk) (c : StructureForm) (choice : ChoiceForm) : Type 0 where
@@ -66,15 +83,30 @@ IsRefuted w choice =
 abbrev pub HasOther : (c : StructureForm) → (pred : ℕ) → AimForm → (u : ℕ) → List K3 → Type 0
 HasOther c pred aim u vector = Any (IsOther c pred) (writes_at aim u vector)
 
+-- whatever is stable below such a choice embeds in d too
+abbrev pub LeadsTo : Walk → (c : StructureForm) → (u : ℕ) → VectorSet → (d : StructureForm) → Type 0
+LeadsTo w c u set d =
+    (choice : ChoiceForm) → IsAbove w c choice → slice_index_or choice u [] ≡ set → IsAbove w d choice
+
 -- what is known once an individual has a set: that no such choice has a stable structure, nothing new, or a
--- structure that lies above these choices too
+-- structure that lies above these choices too, maybe a stable one
 abbrev pub Foretells : Walk → (c : StructureForm) → (u : ℕ) → VectorSet → Outlook → Type 0
 Foretells w c u set Nothing =
     (choice : ChoiceForm) → IsAbove w c choice → slice_index_or choice u [] ≡ set → IsRefuted w choice
 Foretells w c u set Same = Unit {0}
+Foretells w c u set (Put d) = IsAtHand w d × LeadsTo w c u set d
 Foretells w c u set (Below d) =
-    IsAtHand w d
-    × ((choice : ChoiceForm) → IsAbove w c choice → slice_index_or choice u [] ≡ set → IsAbove w d choice)
+    (IsAtHand w d × IsStable (closed_rules (walk_program w)) (structure_of d)) × LeadsTo w c u set d
+
+-- the vector's value is the structure's, or lies under it
+abbrev pub Passes : Test → (x k : K3) → Type 0
+Passes same x k = k ≡ x
+Passes Under x k = LiesUnder x k
+
+-- so are all values that are put
+abbrev pub PassAll : Test → (c : StructureForm) → (pred : ℕ) → List WriteForm → Type 0
+PassAll test c pred writes =
+    AllByRecursion (λ (w : WriteForm). Passes test w.value (value_at c pred w.tuple)) writes
 
 -- what comes of these structures, coerced or dropped, is put behind the others
 abbrev pub AddsCoerced : Walk → List StructureForm → (old new : List StructureForm) → Type 0

@@ -4,6 +4,7 @@
 #![tactic(auto)]
 
 mod apart;
+mod fits;
 mod narrow;
 mod walk;
 

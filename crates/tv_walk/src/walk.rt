@@ -1,13 +1,17 @@
 //! The walk.
 
-ghost use Rattle.std.specs.Prelude.{[], ◌∷◌, ◌++◌, ◌+◌, ◌≡◌, length, OnOk};
+ghost use Rattle.std.specs.Prelude.{[], ◌∷◌, ◌++◌, ◌+◌, ◌≡◌, IsTrue, length, OnOk};
 ghost use Rattle.std.specs.List.{flat_map, AllByRecursion};
+ghost use Rattle.tv_stable_laws.specs.Stable.{IsStable};
+ghost use Rattle.tv_struct.specs.StructureForm.{structure_of};
+ghost use Rattle.tv_rules.specs.Closing.{closed_rules};
 ghost use Rattle.tv_focus.specs.Focused.{tables_in};
 ghost use Rattle.tv_focus.specs.Puts.{AreChosen, IsChoiceOf, chosen_tables};
-ghost use Rattle.tv_walk.specs.Walk.{AddsCoerced, CanWalk, IsAbove, IsAtHand, walk_aim, walk_pred};
-ghost use Rattle.tv_walk.specs.Walk.{walk_table};
+ghost use Rattle.tv_walk.specs.Walk.{AddsCoerced, CanWalk, IsAbove, IsAtHand, IsHand, walk_aim};
+ghost use Rattle.tv_walk.specs.Walk.{walk_pred, walk_program, walk_table};
 
-use crate::narrow::{Outlook, look_ahead};
+use crate::fits::has_choice;
+use crate::narrow::{Outlook, look_ahead, pred_rules};
 use std::alloc::{AllocError, Global};
 use tv_coerce::{RuleSet, coerce_in_place};
 use tv_eval::Scratch;
@@ -29,8 +33,42 @@ pub struct Walk<'a> {
     pub choosing: &'a Choosing,
 }
 
+/// A structure at hand, in which whatever is stable below some choices embeds, and whether it is known to be
+/// stable.
+#[derive(Clone, Copy)]
+pub struct Hand<'a> {
+    pub structure: &'a Structure,
+    pub is_stable: bool,
+}
+
+/// Puts the greatest stable structure below the one at hand behind the others, if there is one.
+fn push_hand(
+    w: &Walk,
+    c: &Structure,
+    is_stable: bool,
+    scratch: &mut Scratch,
+    out: &mut Structures,
+) -> Result<(), AllocError>
+    requires can { CanWalk w.now scratch.old }
+    requires hand { IsAtHand w.now c.now }
+    requires stable { IsTrue is_stable → IsStable (closed_rules (walk_program w.now)) (structure_of c.now) }
+    ensures out { OnOk result (AddsCoerced w.now (c.now ∷ []) out.old out.new) }
+    ensures scratch { scratch.new ≡ scratch.old }
+{
+    let _ = c.size();
+    let t = c.copy(w.alloc)?;
+    if is_stable {
+        return out.push(t);
+    }
+    let waiting = pred_rules(w)?;
+    match coerce_in_place(w.alloc, w.closed, t, waiting, scratch)? {
+        None => Ok(()),
+        Some(t) => out.push(t),
+    }
+}
+
 /// Puts the greatest stable structure below the choice behind the others, if there is one.
-fn push_choice(
+fn push_made(
     w: &Walk,
     choice: &[VectorSet],
     scratch: &mut Scratch,
@@ -49,12 +87,35 @@ fn push_choice(
     }
 }
 
+/// The same, where what is stable below the choice embeds in the structure at hand: it takes the choice's
+/// place where it has its values.
+fn push_choice(
+    w: &Walk,
+    hand: Hand<'_>,
+    choice: &[VectorSet],
+    scratch: &mut Scratch,
+    out: &mut Structures,
+) -> Result<(), AllocError>
+    requires can { CanWalk w.now scratch.old }
+    requires hand { IsHand w.now hand }
+    requires above { IsAbove w.now hand.structure.now choice.now }
+    requires places { length choice.now ≡ hand.structure.now.size }
+    ensures out { OnOk result (AddsCoerced w.now (walk_table w.now choice.now ∷ []) out.old out.new) }
+    ensures scratch { scratch.new ≡ scratch.old }
+{
+    if has_choice(hand.structure, w.choosing.pred, &w.choosing.aim, 0, choice) {
+        push_hand(w, hand.structure, hand.is_stable, scratch, out)
+    } else {
+        push_made(w, choice, scratch, out)
+    }
+}
+
 /// Puts what comes of all choices that begin with `choice` and go on with one set of each of `sets` behind
-/// the others. Whatever is stable below one of them embeds in `c`.
+/// the others. Whatever is stable below one of them embeds in the structure at hand.
 #[cycle(walk_sets)]
 fn walk_sets(
     w: &Walk,
-    c: &Structure,
+    hand: Hand<'_>,
     u: u32,
     sets: &[Sets],
     choice: &mut Vec<VectorSet>,
@@ -62,19 +123,19 @@ fn walk_sets(
     out: &mut Structures,
 ) -> Result<(), AllocError>
     requires can { CanWalk w.now scratch.old }
-    requires hand { IsAtHand w.now c.now }
+    requires hand { IsHand w.now hand }
     requires place { u ≡ length choice.old.items }
-    requires places { u + length sets.now ≡ c.now.size }
-    requires choices { AreChosen (IsAbove w.now c.now) choice.old.items sets.now }
+    requires places { u + length sets.now ≡ hand.structure.now.size }
+    requires choices { AreChosen (IsAbove w.now hand.structure.now) choice.old.items sets.now }
     ensures out { OnOk result (AddsCoerced w.now
         (chosen_tables (walk_table w.now) choice.old.items sets.now) out.old out.new) }
     ensures choice { OnOk result (choice.new.items ≡ choice.old.items) }
     ensures scratch { scratch.new ≡ scratch.old }
 {
-    let _ = c.size();
+    let _ = hand.structure.size();
     match sets {
-        [] => push_choice(w, choice.as_slice(), scratch, out),
-        [first, rest @ ..] => walk_one(w, c, u, first.as_slice(), rest, choice, scratch, out),
+        [] => push_choice(w, hand, choice.as_slice(), scratch, out),
+        [first, rest @ ..] => walk_one(w, hand, u, first.as_slice(), rest, choice, scratch, out),
     }
 }
 
@@ -82,7 +143,7 @@ fn walk_sets(
 #[cycle(walk_sets)]
 fn walk_one(
     w: &Walk,
-    c: &Structure,
+    hand: Hand<'_>,
     u: u32,
     first: &[VectorSet],
     rest: &[Sets],
@@ -91,11 +152,12 @@ fn walk_one(
     out: &mut Structures,
 ) -> Result<(), AllocError>
     requires can { CanWalk w.now scratch.old }
-    requires hand { IsAtHand w.now c.now }
+    requires hand { IsHand w.now hand }
     requires place { u ≡ length choice.old.items }
-    requires places { u + (length rest.now + 1) ≡ c.now.size }
+    requires places { u + (length rest.now + 1) ≡ hand.structure.now.size }
     requires choices { AllByRecursion
-        (λ set. AreChosen (IsAbove w.now c.now) (choice.old.items ++ set ∷ []) rest.now) first.now }
+        (λ set. AreChosen (IsAbove w.now hand.structure.now)
+        (choice.old.items ++ set ∷ []) rest.now) first.now }
     ensures out { OnOk result (AddsCoerced w.now
         (flat_map (λ set. chosen_tables (walk_table w.now) (choice.old.items ++ set ∷ []) rest.now) first.now)
         out.old out.new) }
@@ -105,8 +167,8 @@ fn walk_one(
     match first {
         [] => Ok(()),
         [set, later @ ..] => {
-            walk_with(w, c, u, set.as_slice(), rest, choice, scratch, out)?;
-            walk_one(w, c, u, later, rest, choice, scratch, out)?;
+            walk_with(w, hand, u, set.as_slice(), rest, choice, scratch, out)?;
+            walk_one(w, hand, u, later, rest, choice, scratch, out)?;
             Ok(())
         }
     }
@@ -117,7 +179,7 @@ fn walk_one(
 #[cycle(walk_sets)]
 fn walk_with(
     w: &Walk,
-    c: &Structure,
+    hand: Hand<'_>,
     u: u32,
     set: &[Vector],
     rest: &[Sets],
@@ -126,27 +188,41 @@ fn walk_with(
     out: &mut Structures,
 ) -> Result<(), AllocError>
     requires can { CanWalk w.now scratch.old }
-    requires hand { IsAtHand w.now c.now }
+    requires hand { IsHand w.now hand }
     requires place { u ≡ length choice.old.items }
-    requires places { u + (length rest.now + 1) ≡ c.now.size }
-    requires choices { AreChosen (IsAbove w.now c.now) (choice.old.items ++ set.now ∷ []) rest.now }
+    requires places { u + (length rest.now + 1) ≡ hand.structure.now.size }
+    requires choices { AreChosen (IsAbove w.now hand.structure.now)
+        (choice.old.items ++ set.now ∷ []) rest.now }
     ensures out { OnOk result (AddsCoerced w.now
         (chosen_tables (walk_table w.now) (choice.old.items ++ set.now ∷ []) rest.now) out.old out.new) }
     ensures choice { OnOk result (choice.new.items ≡ choice.old.items) }
     ensures scratch { scratch.new ≡ scratch.old }
 {
-    match look_ahead(w, c, u, set, rest, scratch)? {
+    match look_ahead(w, hand.structure, u, set, rest, scratch)? {
         Outlook::Nothing => Ok(()),
-        Outlook::Same => walk_on(w, c, u, set, rest, choice, scratch, out),
-        Outlook::Below(d) => walk_on(w, &d, u, set, rest, choice, scratch, out),
+        Outlook::Same => walk_on(w, hand, u, set, rest, choice, scratch, out),
+        Outlook::Put(d) => {
+            let hand = Hand {
+                structure: &d,
+                is_stable: false,
+            };
+            walk_on(w, hand, u, set, rest, choice, scratch, out)
+        }
+        Outlook::Below(d) => {
+            let hand = Hand {
+                structure: &d,
+                is_stable: true,
+            };
+            walk_on(w, hand, u, set, rest, choice, scratch, out)
+        }
     }
 }
 
-/// The same, where whatever is stable below one of them embeds in `c`.
+/// The same, where whatever is stable below one of them embeds in it.
 #[cycle(walk_sets)]
 fn walk_on(
     w: &Walk,
-    c: &Structure,
+    hand: Hand<'_>,
     u: u32,
     set: &[Vector],
     rest: &[Sets],
@@ -155,18 +231,19 @@ fn walk_on(
     out: &mut Structures,
 ) -> Result<(), AllocError>
     requires can { CanWalk w.now scratch.old }
-    requires hand { IsAtHand w.now c.now }
+    requires hand { IsHand w.now hand }
     requires place { u ≡ length choice.old.items }
-    requires places { u + (length rest.now + 1) ≡ c.now.size }
-    requires choices { AreChosen (IsAbove w.now c.now) (choice.old.items ++ set.now ∷ []) rest.now }
+    requires places { u + (length rest.now + 1) ≡ hand.structure.now.size }
+    requires choices { AreChosen (IsAbove w.now hand.structure.now)
+        (choice.old.items ++ set.now ∷ []) rest.now }
     ensures out { OnOk result (AddsCoerced w.now
         (chosen_tables (walk_table w.now) (choice.old.items ++ set.now ∷ []) rest.now) out.old out.new) }
     ensures choice { OnOk result (choice.new.items ≡ choice.old.items) }
     ensures scratch { scratch.new ≡ scratch.old }
 {
-    let _ = c.size();
+    let _ = hand.structure.size();
     choice.push(copied(w.alloc, set)?)?;
-    walk_sets(w, c, u + 1, rest, choice, scratch, out)?;
+    walk_sets(w, hand, u + 1, rest, choice, scratch, out)?;
     let _ = choice.pop();
     Ok(())
 }
@@ -182,9 +259,13 @@ pub fn walk_choices(w: &Walk, scratch: &mut Scratch, out: &mut Structures) -> Re
     structures_lie_above();
     let _ = w.from.size();
     let mut choice = Vec::new(w.alloc);
+    let hand = Hand {
+        structure: w.from,
+        is_stable: true,
+    };
     walk_sets(
         w,
-        w.from,
+        hand,
         0,
         w.choosing.sets.as_slice(),
         &mut choice,

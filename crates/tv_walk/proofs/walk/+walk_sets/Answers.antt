@@ -4,12 +4,12 @@ use Rattle.std.specs.List.{between, flat_map}
 use Rattle.std.proofs.lemmas.Slice.{first_rest}
 use Rattle.tv_struct.specs.StructureForm.{StructureForm}
 use Rattle.tv_focus_laws.specs.Choices.{ChoiceForm, VectorSet}
-use Rattle.tv_focus.specs.Puts.{AreChosen, IsChoiceOf, chosen_tables}
+use Rattle.tv_focus.specs.Puts.{AreChosen, chosen_tables}
 use Rattle.tv_step_laws.specs.Parts.{AreFrom}
 use Rattle.tv_step_laws.specs.Transfer.{Coerces}
-use Rattle.tv_walk.specs.Walk.{AddsCoerced, CanWalk, Foretells, IsAbove, walk_aim, walk_pred, walk_program}
+use Rattle.tv_walk.specs.Walk.{AddsCoerced, CanWalk, Foretells, IsAbove, walk_program}
 use Rattle.tv_walk.specs.Walk.{walk_table}
-use Rattle.tv_walk.proofs.Choices.{adds-none, below-above, nothing-adds, one-more}
+use Rattle.tv_walk.proofs.Choices.{adds-none, leads-above, nothing-adds, one-more}
 use Rattle.tv_walk.proofs.walk.+walk_sets.Goals as goal
 
 none : {X : Type 0} (xs : List X) → length xs < 1 → xs ≡ []
@@ -18,13 +18,12 @@ none (x ∷ xs) few = absurd (omega (arith, few))
 
 -- ---- no individual is left
 
-pub walk_sets-push_choice-requires-clause-choice : goal.walk_sets-push_choice-requires-clause-choice
-walk_sets-push_choice-requires-clause-choice t c =
+pub walk_sets-push_choice-requires-clause-above : goal.walk_sets-push_choice-requires-clause-above
+walk_sets-push_choice-requires-clause-above t c =
     let w = c.args.w.now
-    in let above : IsAbove w c.args.c.now c.args.choice.now.items
-    = subst (AreChosen (IsAbove w c.args.c.now) c.args.choice.now.items) (none c.args.sets.now c.in-empty.len_below)
-    c.requires.choices
-    in subst (IsChoiceOf w.from.now (walk_pred w) (walk_aim w)) (sym c.as_slice.ensures.value) above.of
+    in subst (IsAbove w c.args.hand.structure.now) (sym c.as_slice.ensures.value)
+    (subst (AreChosen (IsAbove w c.args.hand.structure.now) c.args.choice.now.items)
+    (none c.args.sets.now c.in-empty.len_below) c.requires.choices)
 
 pub walk_sets-returns-in-empty-clause-out : goal.walk_sets-returns-in-empty-clause-out
 walk_sets-returns-in-empty-clause-out t c =
@@ -81,27 +80,52 @@ walk_one-returns-in_ok-walk_one-in-len1-up-clause-out t c =
 pub walk_with-returns-in-Nothing-clause-out : goal.walk_with-returns-in-Nothing-clause-out
 walk_with-returns-in-Nothing-clause-out t c =
     let w = c.args.w.now
-    in nothing-adds w c.args.c.now c.args.u c.args.set.now c.args.rest.now c.args.choice.now.items c.args.out.now
+    in nothing-adds w c.args.hand.structure.now c.args.u c.args.set.now c.args.rest.now c.args.choice.now.items c.args.out.now
     c.requires.place c.requires.choices
-    (subst (Foretells w c.args.c.now c.args.u c.args.set.now) c.in-Nothing.is c.in_ok-look_ahead.ensures.outlook)
+    (subst (Foretells w c.args.hand.structure.now c.args.u c.args.set.now) c.in-Nothing.is c.in_ok-look_ahead.ensures.outlook)
 
-pub walk_with-walk_on-requires-in-Below : goal.walk_with-walk_on-requires-in-Below
-walk_with-walk_on-requires-in-Below t c =
+pub walk_with-walk_on-requires-in-Put : goal.walk_with-walk_on-requires-in-Put
+walk_with-walk_on-requires-in-Put t c =
     let w = c.args.w.now
     in let foretells
-    = subst (Foretells w c.args.c.now c.args.u c.args.set.now) c.in-Below.is c.in_ok-look_ahead.ensures.outlook
+    = subst (Foretells w c.args.hand.structure.now c.args.u c.args.set.now) c.in-Put.is
+    c.in_ok-look_ahead.ensures.outlook
     in (
       omega (arith, c.decreases),
       (
         subst (CanWalk w) (sym c.in_ok-look_ahead.ensures.scratch) c.requires.can,
         (
-          foretells.0,
+          (foretells.0, λ no. absurd (cc)),
           (
             c.requires.place,
             (
-              c.requires.places ∙ c.requires.hand.alike.size ∙ sym foretells.0.alike.size,
-              below-above w c.args.c.now c.in-Below.d c.args.u c.args.set.now c.args.rest.now
-                  c.args.choice.now.items c.requires.place c.requires.choices foretells,
+              c.requires.places ∙ c.requires.hand.0.alike.size ∙ sym foretells.0.alike.size,
+              leads-above w c.args.hand.structure.now c.in-Put.d c.args.u c.args.set.now c.args.rest.now
+                  c.args.choice.now.items c.requires.place c.requires.choices foretells.1,
+            ),
+          ),
+        ),
+      ),
+    )
+
+pub walk_with-walk_on-requires-in-Below : goal.walk_with-walk_on-requires-in-Below
+walk_with-walk_on-requires-in-Below t c =
+    let w = c.args.w.now
+    in let foretells
+    = subst (Foretells w c.args.hand.structure.now c.args.u c.args.set.now) c.in-Below.is
+    c.in_ok-look_ahead.ensures.outlook
+    in (
+      omega (arith, c.decreases),
+      (
+        subst (CanWalk w) (sym c.in_ok-look_ahead.ensures.scratch) c.requires.can,
+        (
+          (foretells.0.0, λ yes. foretells.0.1),
+          (
+            c.requires.place,
+            (
+              c.requires.places ∙ c.requires.hand.0.alike.size ∙ sym foretells.0.0.alike.size,
+              leads-above w c.args.hand.structure.now c.in-Below.d c.args.u c.args.set.now c.args.rest.now
+                  c.args.choice.now.items c.requires.place c.requires.choices foretells.1,
             ),
           ),
         ),

@@ -10,7 +10,10 @@ use Rattle.tv_walk.proofs.Beginning.{all-above, begins-at-hand, sets-counted}
 use Rattle.tv_walk.proofs.walk.walk_choices.Goals as goal
 
 pub walk_sets-requires-clause-hand : goal.walk_sets-requires-clause-hand
-walk_sets-requires-clause-hand c = begins-at-hand c.args.w.now c.args.scratch.now c.size.ensures.kept c.requires.can
+walk_sets-requires-clause-hand c = (
+  begins-at-hand c.args.w.now c.args.scratch.now c.size.ensures.kept c.requires.can,
+  λ yes. c.requires.can.stable,
+)
 
 pub walk_sets-requires-clause-places : goal.walk_sets-requires-clause-places
 walk_sets-requires-clause-places c =
