@@ -22,7 +22,7 @@ import argparse, filecmp, os, shutil, sys, tempfile
 sys.path.insert(0, "bench")
 import texts
 from call import measured
-from texts import (BLOCKS, DEEP, DEEPEST, EMPTY, ONE, PLACES, TAIL, analyze, chain, check, deep, fill,
+from texts import (BLOCKS, DEEP, DEEPEST, EMPTY, HIGHER, ONE, PLACES, TAIL, analyze, chain, check, deep, fill,
                    individuals, names_apart, replay, source)
 
 MIB4, MIB64 = 4_194_304, 67_108_864
@@ -74,6 +74,18 @@ row("the same, --delta, by an action that turns what they rest on", 511)(
     lambda size: analyze(texts.fan(size, 190) + texts.TURN, EMPTY, "--delta"))
 
 
+for kind in HIGHER:
+    row(f"updates of each height up to 1,000, by a chain of 505 definitions: {kind}, --delta", 505)(
+        lambda size, kind=kind: texts.higher(kind, size))
+for within in ("closures", "<-> in brackets", "conditionals"):
+    for kind in ("&", "E", "E, unary", "&, binary"):
+        row(f"the same over what doesn't change, {DEEPEST - 10} deep: {within}: {kind}, --delta", DEEPEST - 10)(
+            lambda size, kind=kind, within=within: texts.higher(kind, 505, DEEP[within](size)))
+row("163 definitions, each 32 times ! the one before, and 3,171 actions, --recompute", 3_171,
+    "more than 200 structures")(
+    lambda size: texts.evaluated(163, 32, size))
+
+
 def beside_rules(count, *parts):
     """So many actions beside 60,000 closed rules."""
     rules = "%r p() & q() & r() & s() ==> t()\n" * 12_000
@@ -96,6 +108,18 @@ for kind in DEEP:
         lambda size, kind=kind: deep(kind, ["definition"], size, "--delta"))
     row(f"{DEEPEST} deep: {kind}, at each place, without individuals, joined", DEEPEST)(
         lambda size, kind=kind: (["join", "p", "i"], deep(kind, PLACES, size, initial=EMPTY)[1]))
+# as many quantifiers of 31 variables as a formula may have that differencing forms, which is 1,000 high
+for kind in (kind for kind in DEEP if "31" in kind):
+    highest = 95 if "used" in kind else 32
+    for place in PLACES:
+        row(f"{highest} deep: {kind}, in this place: {place}, --delta", highest)(
+            lambda size, kind=kind, place=place: deep(kind, [place], size, "--delta"))
+    for depth in (highest, DEEPEST):
+        row(f"{depth} deep: {kind}, in a definition that rests on an update with as many, --delta", depth)(
+            lambda size, kind=kind: texts.on_update(kind, size))
+    for mode in ("--delta", "--recompute"):
+        row(f"{DEEPEST} deep: {kind}, at each place, {mode}", DEEPEST)(
+            lambda size, kind=kind, mode=mode: deep(kind, PLACES, size, mode))
 for kind in BLOCKS:
     row(f"source: {kind}, 199 deep", 199)(lambda size, kind=kind: texts.blocks(kind, size))
 for text in ("!", "(", "E(v) ", "TC(a, b)(c, d) ", "b() & ", "b() ? "):

@@ -120,6 +120,20 @@ def with_actions(declared, count, *parts, end="L"):
     return declared + "%%\n" + acts + "%%\n" + "".join(f"L a{k}() {end}\n" for k in range(count))
 
 
+TURNS = ["{ b() = !b() }", "{ c() = b() }", "%f { b(), c() } { }", "%f { x(v) } { c() = b() }", "{ b() = 1/2 }",
+         "%new { x(v) = !x(v) n(v, w) = n(v, w) & !x(v) }", "{ x(v) = x(v) | b() }", "%p x(v) { b() = !b() }",
+         "%retain !x(v) { b() = !b() }", "{ n(v, w) = n(w, v) b() = c() }"]
+
+
+def evaluated(count, depth, actions, mode="--recompute"):
+    """So many definitions, each of so many times ! the one before, and actions between three nodes after each
+    of which they are evaluated anew."""
+    defined = PREDS + in_chain(count, (), "b()", lambda name: "!" * depth + name + "()", upwards=False)
+    acts = "".join(f"%action a{k}() {{ {TURNS[k % len(TURNS)]} }}\n" for k in range(actions))
+    edges = "".join(f"L{k % 3} a{k}() L{k // 3 % 3}\n" for k in range(actions))
+    return analyze(defined + "%%\n" + acts + "%%\n" + edges, EMPTY, "--max-structures", "200", *mode.split())
+
+
 def steps(declared, actions, count):
     """A replay of so many steps along edges that each have an action of their own."""
     trace = "".join(f"step {k % actions}\n" for k in range(count))
@@ -135,6 +149,36 @@ def fan(count, width):
     """Definitions each of which rests on those before it, so many of them."""
     body = lambda k: " | ".join(f"d{j}()" for j in range(max(0, k - width), k)) or "b()"
     return "%p b()\n" + "".join(f"%i d{k}() = {body(k)}\n" for k in range(count))
+
+
+# ---- definitions whose updates by differencing are as high as they may be ----
+
+# from the atom of the definition before, and what doesn't change: a construct of a level or two
+HIGHER = {
+    "&": "{0} & c()",
+    "|": "{0} | !c()",
+    "!": "!({0} & c())",
+    "->": "c() -> {0}",
+    "conditional": "c() ? {0} : 0",
+    "E": "E(v) {0} & x(v)",
+    "A": "A(v) {0} | x(v)",
+    "E and A": "E(v) A(w) ({0} & n(v, w))",
+    "E, unary": "E(w) {1}(w) & n(v, w)",
+    "&, unary": "{1}(v) & c()",
+    "&, binary": "{1}(v, w) & c()",
+}
+
+
+def higher(kind, count, within="1", mode="--delta"):
+    """So many definitions, each of one more construct over the one before, so that updates of each height up
+    to the limit are formed; the lowest has `within`, which doesn't change, beside the flag."""
+    head, unknown = {"unary": ("(v)", "{u:1/2}"), "binary": ("(v, w)", "{u->u:1/2}")}.get(
+        kind.rsplit(", ")[-1], ("()", "1/2"))
+    lines = [f"%i d0{head} = b() & ({within})\n"]
+    lines += [f"%i d{k}{head} = {HIGHER[kind].format(f'd{k - 1}{head}', f'd{k - 1}')}\n" for k in range(1, count)]
+    values = "".join(f"d{k} = {unknown} " for k in range(count))
+    initial = "%n = {u} %p = { b = 1 c = 1 x = {u} n = {u->u} " + values + "}"
+    return analyze(PREDS + "".join(lines) + TURN, initial, *mode.split())
 
 
 # ---- formulas as deep as they may be ----
@@ -218,6 +262,14 @@ def at_places(formula, places):
 def deep(kind, places, depth=DEEPEST, mode="", initial=ONE):
     """A formula of this kind, so deep, at each of these places."""
     return analyze(at_places(DEEP[kind](depth), places), initial, *mode.split())
+
+
+def on_update(kind, depth):
+    """A flag that is updated to a formula of this kind, so deep, and a definition of it and another of these."""
+    formula = DEEP[kind](depth)
+    declared = PREDS + f"%i d() = b()\n%i e() = d() & ({formula})\n"
+    step = f"%%\n%action F() {{ {{ b() = {formula} x(v) = !x(v) }} }}\n%%\nL F() M\n"
+    return analyze(declared + step, ONE, "--delta")
 
 
 # ---- source programs ----
@@ -354,6 +406,12 @@ def some_deep(rng):
     return some_call(rng, at_places(some_formula(rng), places), rng.choice([EMPTY, ONE]))
 
 
+def some_higher(rng):
+    """A chain of definitions whose updates by differencing are high, over a formula that doesn't change."""
+    within = DEEP[rng.choice(list(DEEP))](some(rng, DEEPEST - 10) + 1) if rng.random() < 0.7 else "1"
+    return higher(rng.choice(list(HIGHER)), some(rng, 506), within, rng.choice(["--delta"] * 3 + ["--recompute", ""]))
+
+
 def some_wide(rng):
     count, defined = some(rng, 4000), some(rng, 200)
     declared = PREDS + some_definitions(rng, defined, 10)
@@ -391,6 +449,6 @@ def some_blocks(rng):
 
 
 def some_text(rng):
-    """A text that is deep or wide: chains of definitions, formulas, many actions, steps of a replay,
-    blocks."""
-    return rng.choice([some_chain] * 4 + [some_deep] * 3 + [some_wide] * 2 + [some_steps, some_blocks])(rng)
+    """A text that is deep or wide: chains of definitions, formulas, updates that differencing makes high, many
+    actions, steps of a replay, blocks."""
+    return rng.choice([some_chain] * 4 + [some_deep] * 3 + [some_wide] * 2 + [some_higher, some_steps, some_blocks])(rng)

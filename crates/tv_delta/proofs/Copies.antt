@@ -1,6 +1,5 @@
 -- One more element of a list is copied.
 use Rattle.std.proofs.Common.{ℕ, ◌≡◌, ◌∙◌, ◌<◌, ◌+◌, List, [], ◌∷◌, ◌++◌, get_or, take, length, map, sym, ap}
-use Rattle.std.proofs.Common.{subst, refl}
 use Rattle.std.proofs.lemmas.List.{take_more, map-append}
 
 pub copied_more : {X Y : Type 0} (view : X → Y) (xs out us : List X) (i : ℕ) (x y : X) → i < length xs

@@ -7,6 +7,7 @@ mod Known
 mod LowestLaws
 mod Marks
 mod Pushed
+mod QuantifiedLaws
 mod Touches
 mod Updates
 mod Zips

@@ -1,16 +1,16 @@
 -- How definitions wait for those inside them.
-use Rattle.std.proofs.Common.{ℕ, ◌≡◌, ◌∙◌, ◌+◌, ◌*◌, ◌-◌, ◌<◌, ◌≤◌, Contains, zero, suc, List, [], ◌∷◌, ◌++◌}
-use Rattle.std.proofs.Common.{Option, length, All, refl, sym, ap, subst, arith}
+use Rattle.std.proofs.Common.{ℕ, ◌≡◌, ◌∙◌, ◌+◌, ◌*◌, ◌-◌, ◌<◌, ◌≤◌, zero, suc, List, [], ◌∷◌, ◌++◌}
+use Rattle.std.proofs.Common.{length, All, sym, ap, subst, arith}
 use Rattle.std.specs.Prelude.{option_and_then}
 use Rattle.std.proofs.lemmas.List.Elements.{All-contains, All-push, Contains-append_left}
 use Rattle.std.proofs.lemmas.List.Elements.{Contains-append_right}
 use Rattle.tv_model.proofs.Lists.{All-from_contains, Contains-here}
-use Rattle.tv_model.specs.Form.{Form, FAtom, form_of, vars_of}
+use Rattle.tv_model.specs.Form.{FAtom, form_of, vars_of}
 use Rattle.tv_model.specs.Program.{ProgramForm, program_of}
 use Rattle.tv_model.specs.Valid.{IsValid}
 use Rattle.tv_delta_laws.specs.Simple.{nodes}
 use Rattle.tv_delta_laws.specs.Deltas.{delta_of_defined}
-use Rattle.tv_delta.specs.Opening.{atom_at, delta_at, EndsWithin, Starts, lower_count}
+use Rattle.tv_delta.specs.Opening.{atom_at, delta_at, EndsWithin, Starts}
 use Rattle.tv_delta.specs.Lowest.{IsWaiting, power, weight}
 use Rattle.tv_delta.specs.declared.opening.Opening.{Opening}
 use Rattle.tv_delta.specs.declared.atoms.Start.TheVariants.{Inside}

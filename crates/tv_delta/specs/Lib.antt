@@ -5,3 +5,4 @@ pub mod Formed
 pub mod Laws
 pub mod Lowest
 pub mod Opening
+pub mod Quantified

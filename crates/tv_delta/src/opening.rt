@@ -10,10 +10,10 @@ use crate::atoms::{Start, atom_end, atom_start};
 use crate::flags::touches;
 use crate::memo::Memo;
 use crate::parts::{
-    and_with, cond_with, every_with, iff_with, not_with, or_with, some_with, still,
+    and_with, bound_with, cond_with, every_with, iff_with, not_with, or_with, some_with, still,
 };
 use std::alloc::Global;
-use tv_delta_form::{Delta, Kept, Stop};
+use tv_delta_form::{Delta, Kept, Stop, head_of};
 use tv_model::{Action, Formula, Program, Terms};
 
 /// For what deltas are formed: the update of a defined predicate at an action.
@@ -80,8 +80,20 @@ pub fn delta_of(
                 Ok(d) => cond_with(alloc, b, d, delta_of(alloc, o, depth, memo, h)),
             },
         },
-        Formula::Exists(v, g) => some_with(alloc, *v, delta_of(alloc, o, depth, memo, g)),
-        Formula::Forall(v, g) => every_with(alloc, *v, delta_of(alloc, o, depth, memo, g)),
+        Formula::Exists(v, g) => match head_of(alloc, g) {
+            Err(_) => Err(Stop::Memory),
+            Ok((bindings, body)) => {
+                let d = delta_of(alloc, o, depth, memo, body);
+                some_with(alloc, *v, bound_with(alloc, bindings, d))
+            }
+        },
+        Formula::Forall(v, g) => match head_of(alloc, g) {
+            Err(_) => Err(Stop::Memory),
+            Ok((bindings, body)) => {
+                let d = delta_of(alloc, o, depth, memo, body);
+                every_with(alloc, *v, bound_with(alloc, bindings, d))
+            }
+        },
         Formula::Closure { body, .. } => {
             if touches(o.affected, body) {
                 Err(Stop::Unformed)

@@ -5,10 +5,11 @@ ghost use Rattle.tv_model.specs.Form.{form_of};
 ghost use Rattle.tv_delta_laws.specs.Deltas.{Delta as DeltaForm, unchanged, negated, both, either, some};
 ghost use Rattle.tv_delta_laws.specs.Deltas.{every};
 ghost use Rattle.tv_delta_form.specs.Views.{GivesFormed, delta_form};
+ghost use Rattle.tv_delta.specs.Quantified.{quantified, quantified_by};
 
 use std::alloc::Global;
 use tv_delta_form::{
-    Delta, Stop, alike, both, choice, either, every, negated, share, some, unchanged,
+    Binding, Delta, Stop, alike, both, choice, either, every, negated, share, some, unchanged,
 };
 use tv_model::{Formula, Var};
 
@@ -59,6 +60,35 @@ pub fn every_with(alloc: Global, v: Var, d: Result<Delta, Stop>) -> Result<Delta
         Err(stop) => Err(stop),
         Ok(d) => every(alloc, v, &d),
     }
+}
+
+/// The quantifier over what was formed of its body.
+fn binding_with(alloc: Global, binding: Binding, d: Result<Delta, Stop>) -> Result<Delta, Stop>
+    ensures { (o : Option DeltaForm) → GivesFormed delta_form d o
+        → GivesFormed delta_form result (quantified binding o) }
+{
+    match binding {
+        Binding::Exists(v) => some_with(alloc, v, d),
+        Binding::Forall(v) => every_with(alloc, v, d),
+    }
+}
+
+/// The quantifiers, of which the first comes to stand outermost, over what was formed of their body.
+#[inline(never)]
+#[tactic(auto, using(crate::proofs::QuantifiedLaws::quantified_last))]
+pub fn bound_with(
+    alloc: Global,
+    mut bindings: Vec<Binding>,
+    d: Result<Delta, Stop>,
+) -> Result<Delta, Stop>
+    ensures { (o : Option DeltaForm) → GivesFormed delta_form d o
+        → GivesFormed delta_form result (quantified_by bindings.items o) }
+{
+    let mut whole = d;
+    while let Some(binding) = bindings.pop() {
+        whole = binding_with(alloc, binding, whole);
+    }
+    whole
 }
 
 /// The conjunction.

@@ -1,6 +1,5 @@
 -- How deltas of connectives and quantifiers stop: where a part's isn't formed, or theirs isn't.
-use Rattle.std.proofs.Common.{ℕ, ◌≡◌, ◌∙◌, Option, Some, None, refl, sym, ap, subst}
-use Rattle.tv_model.specs.Form.{Form}
+use Rattle.std.proofs.Common.{ℕ, ◌≡◌, ◌∙◌, Option, Some, None, refl, ap}
 use Rattle.tv_delta_laws.specs.Deltas.{Delta, negated, both, either, some, every}
 use Rattle.tv_delta_form.specs.declared.stop.Stop.{Stop}
 use Rattle.tv_delta_form.specs.Views.{StopsUnformed}

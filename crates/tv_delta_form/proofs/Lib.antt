@@ -1,4 +1,6 @@
 pub mod DeltaSteps
+mod HeadLaws
+mod HeadSteps
 pub mod Likes
 mod PutSteps
 mod PuttingLemmas

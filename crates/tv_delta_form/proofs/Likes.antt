@@ -1,12 +1,11 @@
 -- A formula with arguments put in has as many nodes, and mentions no other predicates.
-use Rattle.std.proofs.Common.{ℕ, ◌≡◌, ◌∙◌, ◌⊎◌, ◌+◌, ◌≤◌, Bool, true, false, List, Option, Some, None, inl}
-use Rattle.std.proofs.Common.{inr, ⊎_elim, refl, sym, ap, cond, arith, subst}
+use Rattle.std.proofs.Common.{ℕ, ◌≡◌, ◌∙◌, ◌⊎◌, ◌+◌, ◌≤◌, Bool, true, false, Option, Some, None, inl}
+use Rattle.std.proofs.Common.{inr, ⊎_elim, refl, ap, arith}
 use Rattle.std.specs.Prelude.{IfSome, ◌&&◌, nat_le, option_map, option_and_then}
 use Rattle.std.proofs.lemmas.Bool.{leb-true}
 use Rattle.tv_model.specs.Form.{Form, FZero, FOne, FAtom, FIsNew, FSame, FNot, FAnd, FOr, FIff, FCond}
 use Rattle.tv_model.specs.Form.{FExists, FForall, FClosure, Mentions, height}
 use Rattle.tv_delta_laws.specs.Simple.{nodes, is_small}
-use Rattle.tv_delta_laws.specs.Deltas.{small_put}
 use Rattle.tv_delta_laws.specs.Putting.{Arguments, Reserved, put_in, bound_number, under_bound, with_own}
 use Rattle.tv_delta_laws.specs.Putting.{argument_for, option_both}
 use Rattle.tv_delta_laws.proofs.Options.{if-mapped, if-bound, if-both, if-some}

@@ -1,9 +1,9 @@
 -- Arguments are put in part by part.
-use Rattle.std.proofs.Common.{ℕ, ◌≡◌, ◌∙◌, List, Option, Some, None, refl, sym, ap, subst}
+use Rattle.std.proofs.Common.{ℕ, ◌≡◌, ◌∙◌, Option, Some, None, refl, sym, ap}
 use Rattle.std.specs.Prelude.{option_map, option_and_then}
 use Rattle.tv_model.specs.Form.{Form, FExists, FForall, FClosure}
 use Rattle.tv_delta_laws.specs.Putting.{Arguments, Reserved, put_in, bound_number, under_bound, with_own}
-use Rattle.tv_delta_laws.specs.Putting.{argument_for, option_both}
+use Rattle.tv_delta_laws.specs.Putting.{argument_for}
 use Rattle.tv_delta_form.specs.declared.stop.Stop.{Stop}
 use Rattle.tv_delta_form.specs.Views.{StopsUnformed, bind}
 use Rattle.tv_delta_form.proofs.Steps.{map_fails, then_fails, then_fails_inside, first_fails, second_fails}
@@ -83,7 +83,7 @@ forall_fails_inside e r m n v w f bound fails = record { none = λ it. go (fails
 
 -- ---- closures
 
-bound-some : (r : Reserved) (m n : Arguments) (v w : ℕ) (f : Form) → bind r m v f ≡ Some (w, n)
+pub bound-some : (r : Reserved) (m n : Arguments) (v w : ℕ) (f : Form) → bind r m v f ≡ Some (w, n)
     → (bound_number r m v f ≡ Some w) × (under_bound m v w f ≡ n)
 bound-some r m n v w f e = go (bound_number r m v f) e
   where

@@ -1,6 +1,6 @@
 -- Sizes tell which formulas are small.
-use Rattle.std.proofs.Common.{ℕ, ◌≡◌, ◌∙◌, ◌+◌, ◌≤◌, min, max, Bool, true, false, refl, sym, ap, cond, arith}
-use Rattle.std.specs.Prelude.{◌&&◌, ◌||◌, nat_le}
+use Rattle.std.proofs.Common.{ℕ, ◌≡◌, ◌∙◌, ◌+◌, min, max, sym, ap, arith}
+use Rattle.std.specs.Prelude.{nat_le}
 use Rattle.std.proofs.lemmas.Bool.Decides.{nat_tests}
 use Rattle.tv_model.specs.Form.{Form, FNot, FAnd, FOr, FIff, FCond, FExists, FForall, FClosure, height}
 use Rattle.tv_delta_laws.specs.Simple.{nodes, is_small}
@@ -131,3 +131,23 @@ cond_sized t r s u a x y b z w over here is its guard same alike =
     ∙ ap (λ k. size_of (FCond (shape_form k) (shape_form x) (shape_form y))) (sym guard)
     ∙ ap (λ k. size_of (FCond (shape_form b) (shape_form k) (shape_form y))) (sym same)
     ∙ ap (λ k. size_of (FCond (shape_form b) (shape_form z) (shape_form k))) (sym alike)
+
+-- a quantifier over a formula under so many more
+counted : (c : ℕ) (f x : Form) → min (nodes f) 65537 ≡ min (nodes x + c) 65537
+    → min (height f) 1001 ≡ min (height x + c) 1001
+    → node_over (min (min (nodes x) 65537 + c) 65537) (min (min (height x) 1001 + c) 1001)
+    ≡ node_over (min (nodes f) 65537) (min (height f) 1001)
+counted c f x many high =
+    let first : min (min (nodes x) 65537 + c) 65537 ≡ min (nodes f) 65537 = omega (arith, many)
+    in let second : min (min (height x) 1001 + c) 1001 ≡ min (height f) 1001 = omega (arith, high)
+    in ap (λ a. node_over a (min (min (height x) 1001 + c) 1001)) first ∙ ap (node_over (min (nodes f) 65537)) second
+
+pub exists_counted : (v c : ℕ) (f x : Form) → min (nodes f) 65537 ≡ min (nodes x + c) 65537
+    → min (height f) 1001 ≡ min (height x + c) 1001
+    → node_over (min ((size_of x).nodes + c) 65537) (min ((size_of x).height + c) 1001) ≡ size_of (FExists v f)
+exists_counted v c f x many high = counted c f x many high ∙ sym (exists-size v f)
+
+pub forall_counted : (v c : ℕ) (f x : Form) → min (nodes f) 65537 ≡ min (nodes x + c) 65537
+    → min (height f) 1001 ≡ min (height x + c) 1001
+    → node_over (min ((size_of x).nodes + c) 65537) (min ((size_of x).height + c) 1001) ≡ size_of (FForall v f)
+forall_counted v c f x many high = counted c f x many high ∙ sym (forall-size v f)

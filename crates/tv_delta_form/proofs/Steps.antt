@@ -10,7 +10,7 @@ use Rattle.tv_delta_laws.specs.Simple.{simple_forall}
 use Rattle.tv_delta_laws.specs.Deltas.{Delta as DeltaForm, delta_by, after, if_small, if_small_over, both}
 use Rattle.tv_delta_laws.specs.Deltas.{either, some, every}
 use Rattle.tv_delta_form.specs.declared.stop.Stop.{Stop}
-use Rattle.tv_delta_form.specs.declared.stop.Stop.TheVariants.{Unformed, Memory}
+use Rattle.tv_delta_form.specs.declared.stop.Stop.TheVariants.{Memory}
 use Rattle.tv_delta_form.specs.declared.deltas.Delta.{Delta}
 use Rattle.tv_delta_form.specs.Views.{StopsUnformed, GivesFormed, delta_form, small_form}
 

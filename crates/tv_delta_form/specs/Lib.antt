@@ -1,3 +1,5 @@
+pub mod Heads
 pub mod Shapes
 pub mod Sizes
+pub mod UnderHeads
 pub mod Views

@@ -1,5 +1,5 @@
 -- Sizes of formulas, as far as the limits tell.
-use Rattle.std.specs.Prelude.{ℕ, ◌+◌, min, max, if◌then◌else◌, ◌||◌, ◌&&◌, Bool, true, false, nat_le}
+use Rattle.std.specs.Prelude.{ℕ, ◌+◌, min, ◌&&◌, Bool, true, false, nat_le}
 use Rattle.tv_model.specs.Form.{Form, height}
 use Rattle.tv_delta_laws.specs.Simple.{nodes, is_zero, is_one}
 use Rattle.tv_delta_form.specs.declared.size.Size.{Size}

@@ -10,7 +10,10 @@ ghost use Rattle.std.specs.List.{zip};
 ghost use Rattle.tv_delta_form.specs.Views.{GivesFormed, numbers_of, arguments_from, reserved_of};
 ghost use Rattle.tv_delta_form.specs.Views.{reserved_at, reserved_besides, used_at, is_it, slot_among};
 ghost use Rattle.tv_delta_form.specs.Views.{scope_form, bound_of, bind, own_number, own_used};
+ghost use Rattle.tv_delta_form.specs.Heads.{bound};
+ghost use Rattle.tv_delta_form.specs.UnderHeads.{GivesInside};
 
+use crate::heads::{Binding, bound_by, outermost};
 use crate::size::is_small;
 use crate::stop::Stop;
 use std::alloc::{AllocError, Global};
@@ -348,16 +351,8 @@ fn put_in(alloc: Global, k: &Kept<'_>, f: &Formula, m: &[Put]) -> Result<Formula
             let y = put_boxed(alloc, k, h, m)?;
             Ok(Formula::Cond(z, x, y))
         }
-        Formula::Exists(v, g) => {
-            let bound = bind(alloc, &reserve(k, None), m, *v, &over(g))?;
-            let x = put_boxed(alloc, k, g, &bound.arguments)?;
-            Ok(Formula::Exists(bound.var, x))
-        }
-        Formula::Forall(v, g) => {
-            let bound = bind(alloc, &reserve(k, None), m, *v, &over(g))?;
-            let x = put_boxed(alloc, k, g, &bound.arguments)?;
-            Ok(Formula::Forall(bound.var, x))
-        }
+        Formula::Exists(v, g) => put_under(alloc, k, Binding::Exists(*v), g, m),
+        Formula::Forall(v, g) => put_under(alloc, k, Binding::Forall(*v), g, m),
         Formula::Closure {
             from,
             to,
@@ -389,6 +384,69 @@ fn put_in(alloc: Global, k: &Kept<'_>, f: &Formula, m: &[Put]) -> Result<Formula
             })
         }
     }
+}
+
+/// What is left of a formula under the quantifiers at its head, once these have their numbers.
+#[derive(Debug, Drop)]
+pub struct Inside<'a> {
+    /// The quantifiers, the outermost first.
+    bindings: Vec<Binding>,
+    arguments: Vec<Put>,
+    body: &'a Formula,
+}
+
+/// Gives the quantifier its number, and those at the head of the formula under it.
+#[tactic(auto, using(crate::proofs::HeadSteps::head_steps, crate::proofs::Steps::memory_fails))]
+fn number_head<'a>(
+    alloc: Global,
+    k: &Kept<'_>,
+    first: Binding,
+    f: &'a Formula,
+    m: &[Put],
+) -> Result<Inside<'a>, Stop>
+    ensures { GivesInside (reserved_of k.now) (arguments_from m.now) first (form_of f.now) result }
+{
+    let bound = bind(alloc, &reserve(k, None), m, first.var(), &over(f))?;
+    let mut bindings = Vec::new(alloc);
+    bindings.push(first.renamed(bound.var))?;
+    let mut arguments = bound.arguments;
+    let mut body = f;
+    while let Some((binding, g)) = outermost(body) {
+        let bound = bind(
+            alloc,
+            &reserve(k, None),
+            &arguments,
+            binding.var(),
+            &over(g),
+        )?;
+        bindings.push(binding.renamed(bound.var))?;
+        arguments = bound.arguments;
+        body = g;
+    }
+    Ok(Inside {
+        bindings,
+        arguments,
+        body,
+    })
+}
+
+/// The formula under the quantifier with the arguments put in.
+#[cycle(put_in)]
+#[inline(never)]
+#[tactic(auto, using(crate::proofs::HeadSteps::inside_put, crate::proofs::HeadSteps::inside_fails, crate::proofs::Steps::memory_fails))]
+fn put_under(
+    alloc: Global,
+    k: &Kept<'_>,
+    first: Binding,
+    f: &Formula,
+    m: &[Put],
+) -> Result<Formula, Stop>
+    ensures { GivesFormed form_of result
+        (put_in (reserved_of k.now) (bound first (form_of f.now)) (arguments_from m.now)) }
+{
+    let inside = number_head(alloc, k, first, f, m)?;
+    let x = put_in(alloc, k, inside.body, &inside.arguments)?;
+    Ok(bound_by(alloc, inside.bindings, x)?)
 }
 
 #[cycle(put_in)]

@@ -1,11 +1,12 @@
 //! How large formulas are.
 
-ghost use Rattle.std.specs.Prelude.{◌≡◌, ◌+◌, max};
-ghost use Rattle.tv_model.specs.Form.{form_of};
-ghost use Rattle.tv_delta_laws.specs.Simple.{is_small};
+ghost use Rattle.std.specs.Prelude.{◌≡◌, ◌+◌, ◌≤◌, min, max};
+ghost use Rattle.tv_model.specs.Form.{form_of, height};
+ghost use Rattle.tv_delta_laws.specs.Simple.{is_small, nodes};
 ghost use Rattle.tv_delta_form.specs.Sizes.{size_of, is_small_size, zero_size, one_size, leaf_size};
 ghost use Rattle.tv_delta_form.specs.Sizes.{node_over};
 
+use crate::heads::outermost;
 use tv_model::Formula;
 
 /// The most nodes of a formula that is formed.
@@ -78,7 +79,40 @@ pub fn node_over_three(c: Size, s: Size, t: Size) -> Size
     )
 }
 
+/// How many quantifiers stand at the head of the formula, more than 65,537 counting as that, and what stands
+/// under them.
+fn counted(f: &Formula) -> (u32, &Formula)
+    ensures nodes { min (nodes (form_of f.now)) 65537 ≡ min (nodes (form_of result.1.now) + result.0) 65537 }
+    ensures height { min (height (form_of f.now)) 1001 ≡ min (height (form_of result.1.now) + result.0) 1001 }
+    ensures lower { height (form_of result.1.now) ≤ height (form_of f.now) }
+{
+    let mut count = 0;
+    let mut body = f;
+    while let Some((_, g)) = outermost(body) {
+        count = one_more(count);
+        body = g;
+    }
+    (count, body)
+}
+
+fn one_more(count: u32) -> u32
+    ensures { result ≡ min (count + 1) 65537 }
+{
+    count.saturating_add(1).min(MAX_NODES + 1)
+}
+
+/// The size of one node over so many more over a formula of this size.
+fn nodes_over(count: u32, s: Size) -> Size
+    ensures { result ≡ node_over (min (s.nodes + count) 65537) (min (s.height + count) 1001) }
+{
+    node_over(
+        s.nodes.saturating_add(count).min(MAX_NODES + 1),
+        s.height.saturating_add(count).min(MAX_HEIGHT + 1),
+    )
+}
+
 /// The size of the formula.
+#[tactic(auto, using(crate::proofs::SizeLaws::exists_counted, crate::proofs::SizeLaws::forall_counted))]
 fn size_of(f: &Formula) -> Size
     ensures { result ≡ size_of (form_of f.now) }
 {
@@ -86,12 +120,13 @@ fn size_of(f: &Formula) -> Size
         Formula::Zero => ZERO,
         Formula::One => ONE,
         Formula::Atom(_, _) | Formula::IsNew(_) | Formula::Same(_, _) => LEAF,
-        Formula::Not(g)
-        | Formula::Exists(_, g)
-        | Formula::Forall(_, g)
-        | Formula::Closure { body: g, .. } => {
+        Formula::Not(g) | Formula::Closure { body: g, .. } => {
             let s = size_of(g);
             node_over(s.nodes, s.height)
+        }
+        Formula::Exists(_, g) | Formula::Forall(_, g) => {
+            let (count, body) = counted(g);
+            nodes_over(count, size_of(body))
         }
         Formula::And(g, h) | Formula::Or(g, h) | Formula::Iff(g, h) => {
             node_over_two(size_of(g), size_of(h))

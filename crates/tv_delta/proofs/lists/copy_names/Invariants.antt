@@ -1,4 +1,4 @@
-use Rattle.std.proofs.Common.{◌≡◌, map, take}
+use Rattle.std.proofs.Common.{◌≡◌, take}
 use Rattle.tv_delta.proofs.lists.copy_names.Given as goal
 
 abbrev pub invariant-loop-name : goal.invariant-loop-name

@@ -1,11 +1,14 @@
-use Rattle.std.proofs.Common.{◌≡◌, ◌+◌, ◌-◌, arith, ap, sym, subst}
+use Rattle.std.proofs.Common.{◌≡◌, ◌∙◌, ◌+◌, ◌-◌, arith, ap, sym, subst}
 use Rattle.tv_model.specs.Form.{form_of}
 use Rattle.tv_model.specs.Program.{program_of}
 use Rattle.tv_delta_laws.specs.Simple.{nodes}
 use Rattle.tv_delta_form.proofs.DeltaSteps.{and_stops, or_stops, alike_stops, choice_stops}
 use Rattle.tv_delta_form.proofs.DeltaSteps.{choice_stops_second}
 use Rattle.tv_delta_form.specs.Views.{GivesFormed, delta_form}
+use Rattle.tv_delta_form.specs.Heads.{bound_by}
 use Rattle.tv_delta.specs.Opening.{delta_at, EndsWithin}
+use Rattle.tv_delta.specs.Quantified.{quantified_by}
+use Rattle.tv_delta.proofs.QuantifiedLaws.{ends_under, under_is}
 use Rattle.tv_delta.proofs.opening.+delta_of.Goals as goal
 
 -- ---- a definition is opened
@@ -130,24 +133,6 @@ delta_of-requires-in-Ok-delta_of-4 t c =
     = ap (λ x. nodes (form_of x)) c.deref-in-Ok-delta_of-4.ensures
     in (omega (arith, c.decreases, whole, its), (c.delta_of-in-Ok-delta_of-3.ensures.known, rw c.deref-in-Ok-delta_of-4.ensures (part.0, part.1.1.1)))
 
-pub delta_of-requires-in-Exists : goal.delta_of-requires-in-Exists
-delta_of-requires-in-Exists t c =
-    let part = rw c.in-Exists.is at c.requires.ends
-    in let whole : nodes (form_of c.args.f.now) ≡ nodes (form_of c.in-Exists.g.value) + 1
-    = ap (λ x. nodes (form_of x)) c.in-Exists.is
-    in let its : nodes (form_of c.deref-in-Exists.result.now) ≡ nodes (form_of c.in-Exists.g.value)
-    = ap (λ x. nodes (form_of x)) c.deref-in-Exists.ensures
-    in (omega (arith, c.decreases, whole, its), (c.requires.known, rw c.deref-in-Exists.ensures (part.0, part.1)))
-
-pub delta_of-requires-in-Forall : goal.delta_of-requires-in-Forall
-delta_of-requires-in-Forall t c =
-    let part = rw c.in-Forall.is at c.requires.ends
-    in let whole : nodes (form_of c.args.f.now) ≡ nodes (form_of c.in-Forall.g.value) + 1
-    = ap (λ x. nodes (form_of x)) c.in-Forall.is
-    in let its : nodes (form_of c.deref-in-Forall.result.now) ≡ nodes (form_of c.in-Forall.g.value)
-    = ap (λ x. nodes (form_of x)) c.deref-in-Forall.ensures
-    in (omega (arith, c.decreases, whole, its), (c.requires.known, rw c.deref-in-Forall.ensures (part.0, part.1)))
-
 -- ---- where a part isn't formed the whole isn't
 
 pub returns-in-Err-clause-delta : goal.returns-in-Err-clause-delta
@@ -174,3 +159,53 @@ pub returns-in-Err-delta_of-4-clause-delta : goal.returns-in-Err-delta_of-4-clau
 returns-in-Err-delta_of-4-clause-delta t c =
     let part = rw c.deref-in-Ok-delta_of-3.ensures at c.in-Err-delta_of-4.ensures.delta
     in rw c.in-Cond.is (choice_stops_second c.in-Err-delta_of-4.stop _ _ _ part)
+
+-- ---- quantifiers one in the other
+
+pub delta_of-d-requires-in-Ok-head_of : goal.delta_of-d-requires-in-Ok-head_of
+delta_of-d-requires-in-Ok-head_of t c =
+    let part = rw c.in-Exists.is at c.requires.ends
+    in let whole : nodes (form_of c.args.f.now) ≡ nodes (form_of c.in-Exists.g.value) + 1
+    = ap (λ x. nodes (form_of x)) c.in-Exists.is
+    in let its : nodes (form_of c.deref-in-Exists.result.now) ≡ nodes (form_of c.in-Exists.g.value)
+    = ap (λ x. nodes (form_of x)) c.deref-in-Exists.ensures
+    in let parts : bound_by c.in-Ok-head_of.bindings.items (form_of c.in-Ok-head_of.body.now) ≡ form_of c.in-Exists.g.value
+    = c.in-Ok-head_of.ensures.parts ∙ ap form_of c.deref-in-Exists.ensures
+    in (
+      omega (arith, c.decreases, whole, its, c.in-Ok-head_of.ensures.nodes),
+      (c.requires.known, ends_under _ c.args.depth c.in-Ok-head_of.bindings.items (form_of c.in-Ok-head_of.body.now) _ parts part),
+    )
+
+pub delta_of-d-requires-in-Ok-head_of-2 : goal.delta_of-d-requires-in-Ok-head_of-2
+delta_of-d-requires-in-Ok-head_of-2 t c =
+    let part = rw c.in-Forall.is at c.requires.ends
+    in let whole : nodes (form_of c.args.f.now) ≡ nodes (form_of c.in-Forall.g.value) + 1
+    = ap (λ x. nodes (form_of x)) c.in-Forall.is
+    in let its : nodes (form_of c.deref-in-Forall.result.now) ≡ nodes (form_of c.in-Forall.g.value)
+    = ap (λ x. nodes (form_of x)) c.deref-in-Forall.ensures
+    in let parts : bound_by c.in-Ok-head_of-2.bindings.items (form_of c.in-Ok-head_of-2.body.now) ≡ form_of c.in-Forall.g.value
+    = c.in-Ok-head_of-2.ensures.parts ∙ ap form_of c.deref-in-Forall.ensures
+    in (
+      omega (arith, c.decreases, whole, its, c.in-Ok-head_of-2.ensures.nodes),
+      (c.requires.known, ends_under _ c.args.depth c.in-Ok-head_of-2.bindings.items (form_of c.in-Ok-head_of-2.body.now) _ parts part),
+    )
+
+pub returns-in-Ok-head_of-clause-delta : goal.returns-in-Ok-head_of-clause-delta
+returns-in-Ok-head_of-clause-delta t c =
+    let parts : bound_by c.in-Ok-head_of.bindings.items (form_of c.in-Ok-head_of.body.now) ≡ form_of c.in-Exists.g.value
+    = c.in-Ok-head_of.ensures.parts ∙ ap form_of c.deref-in-Exists.ensures
+    in let inner : quantified_by c.in-Ok-head_of.bindings.items (delta_at c.args.o.now (form_of c.in-Ok-head_of.body.now))
+    ≡ delta_at c.args.o.now (form_of c.in-Exists.g.value)
+    = under_is c.args.o.now c.in-Ok-head_of.bindings.items (form_of c.in-Ok-head_of.body.now) (form_of c.in-Exists.g.value) parts
+    in let made = c.some_with.ensures _ (c.bound_with.ensures _ c.delta_of-d-in-Ok-head_of.ensures.delta)
+    in rw c.in-Exists.is (rw inner at made)
+
+pub returns-in-Ok-head_of-2-clause-delta : goal.returns-in-Ok-head_of-2-clause-delta
+returns-in-Ok-head_of-2-clause-delta t c =
+    let parts : bound_by c.in-Ok-head_of-2.bindings.items (form_of c.in-Ok-head_of-2.body.now) ≡ form_of c.in-Forall.g.value
+    = c.in-Ok-head_of-2.ensures.parts ∙ ap form_of c.deref-in-Forall.ensures
+    in let inner : quantified_by c.in-Ok-head_of-2.bindings.items (delta_at c.args.o.now (form_of c.in-Ok-head_of-2.body.now))
+    ≡ delta_at c.args.o.now (form_of c.in-Forall.g.value)
+    = under_is c.args.o.now c.in-Ok-head_of-2.bindings.items (form_of c.in-Ok-head_of-2.body.now) (form_of c.in-Forall.g.value) parts
+    in let made = c.every_with.ensures _ (c.bound_with-in-Ok-head_of-2.ensures _ c.delta_of-d-in-Ok-head_of-2.ensures.delta)
+    in rw c.in-Forall.is (rw inner at made)
