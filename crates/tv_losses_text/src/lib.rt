@@ -4,5 +4,4 @@
 mod lines;
 mod report;
 
-pub use lines::losses_text;
 pub use report::{LossReport, explain_losses};

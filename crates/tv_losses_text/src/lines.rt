@@ -185,7 +185,7 @@ fn append_losses(
 ///
 /// # Errors
 /// Want of memory.
-pub fn losses_text(
+pub(crate) fn losses_text(
     alloc: Global,
     program: &Program,
     heads: &[Bytes],

@@ -1,6 +1,6 @@
 -- What is found of each of the structures.
 use Rattle.std.proofs.Common.{ℕ, ◌≡◌, ◌<◌, ◌≤◌, ◌+◌, ◌∙◌, IsTrue, List, [], ◌∷◌, ◌++◌, All, length}
-use Rattle.std.proofs.Common.{take, replicate, Option, None, Some, refl, sym, ap, subst, arith, slice_get}
+use Rattle.std.proofs.Common.{take, replicate, Option, None, Some, refl, sym, ap, subst, slice_get}
 use Rattle.std.specs.Prelude.{suc, zero, is_some}
 use Rattle.std.specs.List.{AllZip}
 use Rattle.std.proofs.lemmas.List.{take_all, take_more}
@@ -9,7 +9,7 @@ use Rattle.std.proofs.lemmas.Option.{get_or_from_slice_get, none-some, same_Some
 use Rattle.std.proofs.lemmas.Slice.Zip.{all_zipped_more}
 use Rattle.tv_struct.specs.StructureForm.{StructureForm}
 use Rattle.tv_unmet.specs.Tried.{AreFoundBefore, IsFoundAt, IsFoundBefore, form_in}
-use Rattle.tv_unmet.specs.Unmet.{AreFound, IsFound}
+use Rattle.tv_unmet.specs.Unmet.{AreFound, IsFoundOf}
 use Rattle.tv_unmet.specs.declared.asked.Asked.{Asked}
 use Rattle.tv_unmet.specs.declared.claim.Claim.{Claim}
 use Rattle.tv_unmet.specs.declared.claim.Claim.TheVariants.{Predicate, Rule}
@@ -98,7 +98,7 @@ module _ (x : Asked) where
       → All (λ c. IsTrue (is_some c)) seen → AreFoundBefore x claim found → AreFound (form_in x) x.structures.now x.numbers.now found
   all-at_last claim seen found same some before =
       zip-where (λ c. IsTrue (is_some c)) (IsFoundAt x claim)
-      (λ number c. (s : StructureForm) → slice_get x.structures.now number ≡ Some s → IsFound (form_in x) s c)
+      (IsFoundOf (form_in x) x.structures.now)
       (λ number c is at s here. some-at_last (form_in x) s claim c is (at s here))
       x.numbers.now found (subst (All (λ c. IsTrue (is_some c))) same some) before
 
@@ -112,5 +112,5 @@ module _ (x : Asked) where
       → AreFoundBefore x (Rule number) found → AreFound (form_in x) x.structures.now x.numbers.now found
   rules-all number found all before =
       zip-weaker (IsFoundAt x (Rule number))
-      (λ k c. (s : StructureForm) → slice_get x.structures.now k ≡ Some s → IsFound (form_in x) s c)
+      (IsFoundOf (form_in x) x.structures.now)
       (λ k c at s here. rules-tried x.program.now s number all c (at s here)) x.numbers.now found before

@@ -1,5 +1,5 @@
 -- The first of the declarations, one after the other.
-use Rattle.std.proofs.Common.{ℕ, ◌≡◌, ◌<◌, ◌≤◌, ◌+◌, ◌∙◌, ◌↔◌, ◌⊎◌, inl, inr, Bool, true, false, IsTrue, map}
+use Rattle.std.proofs.Common.{ℕ, ◌≡◌, ◌<◌, ◌≤◌, ◌∙◌, ◌↔◌, ◌⊎◌, inl, inr, Bool, true, false, IsTrue, map}
 use Rattle.std.proofs.Common.{List, Option, None, Some, length, sym, ap, subst, arith, true≢false}
 use Rattle.std.specs.Prelude.{suc, is_some}
 use Rattle.std.proofs.lemmas.Bool.{cases_lt}
@@ -11,7 +11,7 @@ use Rattle.tv_model.specs.declared.program.Program.{Program}
 use Rattle.tv_struct.specs.StructureForm.{StructureForm, structure_of}
 use Rattle.tv_stable_laws.specs.Stable.{HasNoStable}
 use Rattle.tv_unmet.specs.Tried.{IsFoundBefore, next}
-use Rattle.tv_unmet.specs.Unmet.{IsBefore, IsFirstUnmet, IsFound, IsUnmet, MeetsBefore, MeetsEach}
+use Rattle.tv_unmet.specs.Unmet.{IsFirstUnmet, IsFound, IsUnmet, MeetsBefore, MeetsEach}
 use Rattle.tv_unmet.specs.Unmet.{closed_alone, listed, rules_of_pred}
 use Rattle.tv_unmet.specs.declared.claim.Claim.{Claim}
 use Rattle.tv_unmet.specs.declared.claim.Claim.TheVariants.{Predicate, Rule}

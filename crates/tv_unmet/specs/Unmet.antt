@@ -2,7 +2,6 @@
 use Rattle.std.specs.Prelude.{ℕ, ◌≡◌, ◌<◌, List, [], ◌∷◌, map, Option, None, Some, slice_get}
 use Rattle.std.specs.List.{AllZip}
 use Rattle.tv_model.specs.Program.{ProgramForm, PredForm, RuleForm}
-use Rattle.tv_model.specs.declared.formula.PredId.{PredId}
 use Rattle.tv_rules.specs.Closing.{closed_rules, closed_set, dropped_rule, pred_rules}
 use Rattle.tv_stable_laws.specs.Stable.{HasNoStable}
 use Rattle.tv_struct.specs.StructureForm.{StructureForm, structure_of}
@@ -54,12 +53,15 @@ abbrev pub IsFound : ProgramForm → StructureForm → Option Claim → Type 0
 IsFound p s None = MeetsEach p s
 IsFound p s (Some claim) = IsFirstUnmet p s claim
 
--- so for each of the numbers, in order, of the structure of this number
+-- so of the structure of this number
+abbrev pub IsFoundOf : ProgramForm → (structures : List StructureForm) → (number : ℕ) → Option Claim → Type 0
+IsFoundOf p structures number found =
+    (s : StructureForm) → slice_get structures number ≡ Some s → IsFound p s found
+
+-- and for each of the numbers, in order
 abbrev pub AreFound : ProgramForm → (structures : List StructureForm) → (numbers : List ℕ)
     → List (Option Claim) → Type 0
-AreFound p structures numbers found =
-    AllZip
-    (λ number c. (s : StructureForm) → slice_get structures number ≡ Some s → IsFound p s c) numbers found
+AreFound p structures numbers found = AllZip (IsFoundOf p structures) numbers found
 
 -- what contradicts a declaration alone has no stable structure below it under all rules of the program
 abbrev pub UnmetLeavesNone : Type 0

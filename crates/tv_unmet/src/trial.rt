@@ -1,6 +1,6 @@
 //! Declarations, tried one after the other.
 
-ghost use Rattle.std.specs.Prelude.{ℕ, ◌≡◌, ◌<◌, ◌↔◌, All, IfOk, IsTrue, Some, is_some, length, slice_get};
+ghost use Rattle.std.specs.Prelude.{◌≡◌, ◌<◌, ◌↔◌, All, IfOk, IsTrue, Some, is_some, length, slice_get};
 ghost use Rattle.tv_coerce.specs.Ready.{CanCoerce};
 ghost use Rattle.tv_model.specs.Program.{program_of};
 ghost use Rattle.tv_rules.specs.EntryForms.{rules_of};

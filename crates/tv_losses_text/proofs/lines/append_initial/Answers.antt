@@ -1,4 +1,4 @@
-use Rattle.std.proofs.Common.{◌++◌, codes}
+use Rattle.std.proofs.Common.{codes}
 use Rattle.tv_file_lines.specs.Numbered.{numbered}
 use Rattle.tv_model.specs.Program.{program_of}
 use Rattle.tv_losses_text.specs.Texts.{claim_written}

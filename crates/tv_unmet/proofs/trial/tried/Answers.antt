@@ -1,6 +1,3 @@
-use Rattle.std.proofs.Common.{None, subst, sym}
-use Rattle.tv_stable_laws.specs.Stable.{HasNoStable}
-use Rattle.tv_struct.specs.StructureForm.{structure_of}
 use Rattle.tv_unmet.specs.Tried.{form_in}
 use Rattle.tv_unmet.proofs.First.{found-here, not-here, tells-of}
 use Rattle.tv_unmet.proofs.trial.tried.Goals as goal

@@ -1,6 +1,6 @@
-use Rattle.std.proofs.Common.{◌≡◌, ◌∙◌, List, subst, sym, ap}
+use Rattle.std.proofs.Common.{◌∙◌, List, subst, sym, ap}
 use Rattle.tv_coerce.specs.Ready.{CanCoerce}
-use Rattle.tv_model.specs.Program.{RuleForm, program_of}
+use Rattle.tv_model.specs.Program.{RuleForm}
 use Rattle.tv_model.specs.Valid.{IsValid}
 use Rattle.tv_rules.specs.Closing.{closed_rules}
 use Rattle.tv_unmet.specs.Tried.{form_in}
