@@ -3,6 +3,7 @@ ghost use Rattle.std.specs.Prelude.{◌≡◌, ℕ, ◌<◌, ◌≤◌, None, le
 ghost use Rattle.std.specs.Io.KnownBytes.{Appends};
 ghost use Rattle.tv_outside.specs.Count.{counted, Rose, FailedLast};
 ghost use Rattle.tv_outside.specs.Told.{appended};
+ghost use Rattle.tv_real.specs.Writing.{AppendsFront};
 
 use std::io::Write;
 use tv_outside::{Failed, Sink};
@@ -105,6 +106,10 @@ impl<W: Write> Sink for RealSink<W> {
         // What the writer takes is what is said to be taken.
         ensures taken { IfOk result (λ n. Appends (W.contents self.old.writer) (W.contents self.new.writer)
             (take n bytes.now)) }
+
+        // Where it failed the writer took a front, once, of which no more is told.
+        ensures part { OnErr result (AppendsFront (W.contents self.old.writer)
+            (W.contents self.new.writer) bytes.now) }
 
         ensures no_failure { OnOk result (self.new.failures ≡ self.old.failures) }
         ensures since { OnOk result (self.new.since ≡ counted self.old.since 1) }

@@ -85,3 +85,12 @@ UnlessNotRead (Ok found) P = P
 UnlessNotRead (Err (Refused role kind)) P = P
 UnlessNotRead (Err NotRead) P = Unit {0}
 UnlessNotRead (Err NoMemory) P = P
+
+-- this holds where the answer tells that a program's text was gathered: a program, or what its text is
+-- refused for; not where includes can't be put in, a reading failed, or memory ran out
+abbrev pub WhereGathered : {T : Type 0} → Result T TextFault → Type 0 → Type 0
+WhereGathered (Ok found) P = P
+WhereGathered (Err (Refused role (Gathering e))) P = Unit {0}
+WhereGathered (Err (Refused role kind)) P = P
+WhereGathered (Err NotRead) P = Unit {0}
+WhereGathered (Err NoMemory) P = Unit {0}

@@ -1,6 +1,6 @@
 //! What named files mean.
 
-ghost use Rattle.std.specs.Prelude.{◌≡◌, ◌≤◌, ◌<◌, ◌^◌, All, None, Ok, Err, length, IfOk, IfErr, OnOk};
+ghost use Rattle.std.specs.Prelude.{◌≡◌, ◌≤◌, ◌<◌, ◌^◌, All, None, Ok, Err, length, IfOk, IfErr};
 ghost use Rattle.tv_lex.specs.Bytes.{longest_text};
 ghost use Rattle.tv_lex.specs.Gather.{BeginsEach, deepest_include, file_events, longest_gathered};
 ghost use Rattle.tv_listing.specs.Listed.{IsListing};
@@ -14,6 +14,7 @@ ghost use Rattle.tv_trace.specs.Meaning.{IsTraceOn};
 ghost use Rattle.tv_two_valued.specs.TwoValued.{IsTwoValued};
 ghost use Rattle.tv_texts.specs.Files.{IsProgramFile, LacksFile, IsInitialFile, IsStartFile, IsTraceFile};
 ghost use Rattle.tv_texts.specs.Files.{IsReportFile, IsSourceFile, IsFileCause, IsLong, UnlessNotRead};
+ghost use Rattle.tv_texts.specs.Files.{WhereGathered};
 
 use crate::fault::{TextFault, fault_of_reading};
 use crate::texts::{initial_in, program_in, report_in, source_in, start_in, trace_in};
@@ -62,7 +63,7 @@ fn read_file<F: Files>(
 /// It is refused where it means no program. It isn't read only where a call of `files` failed, and on steady
 /// files only where they lack it, or a file that it includes and that is come to before any refusal. Or
 /// memory ran out.
-#[tactic(auto, using(crate::proofs::Loading::not_gathered, crate::proofs::Loading::gathered_refused, crate::proofs::Loading::holds_anyway, crate::proofs::Loading::holds_at_ok))]
+#[tactic(auto, using(crate::proofs::Loading::not_gathered, crate::proofs::Loading::gathered_refused, crate::proofs::Loading::holds_anyway, crate::proofs::Loading::holds_gathered, crate::proofs::Loading::says_nothing))]
 pub fn load_program<F: Files>(
     alloc: Global,
     files: &mut F,
@@ -75,7 +76,7 @@ pub fn load_program<F: Files>(
         (LacksFile (F.holds files.old) name.now) (Rose (F.faults files.old) (F.faults files.new))
         (F.steady files.old)) }
     ensures holds { F.holds files.new ≡ F.holds files.old }
-    ensures begins { OnOk result (BeginsEach (F.holds files.old)
+    ensures begins { WhereGathered result (BeginsEach (F.holds files.old)
         (λ held. file_events held deepest_include name.now) (F.begins files.old) (F.begins files.new)) }
     ensures count { F.faults files.old ≤ F.faults files.new }
     ensures steady { F.steady files.old → UnlessNotRead result (F.steady files.new

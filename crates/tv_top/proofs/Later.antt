@@ -1,9 +1,8 @@
 -- What files mean stays where each name that held something holds the same.
 use Rattle.std.proofs.Common.{◌≡◌, ℕ, zero, suc, List, [], ◌∷◌, ◌++◌, Bool, true, false, length, Option, None}
 use Rattle.std.proofs.Common.{Some}
-use Rattle.std.proofs.Common.{Result, Ok, Err, refl, sym, ap, subst, ◌∙◌}
+use Rattle.std.proofs.Common.{Result, Ok, Err, refl, ap, ◌∙◌}
 use Rattle.std.specs.Prelude.{nat_lt, if◌then◌else◌}
-use Rattle.tv_delta_laws.specs.Differences.{IsDifferenced}
 use Rattle.tv_lex.specs.Gather.{Event, Begin, Give, Refuse, Gathers, content_events, deepest_include}
 use Rattle.tv_lex.specs.Gather.{file_events}
 use Rattle.tv_lex.specs.Gather.{gathered, included, line_events, longest_gathered, named_events, one_line}
@@ -11,7 +10,6 @@ use Rattle.tv_lex.specs.Gather.{opens}
 use Rattle.tv_lex.specs.Include.{include_name, includes, inner_name, lines_of}
 use Rattle.tv_lex.specs.declared.gatherer.GatherError.{GatherError}
 use Rattle.tv_lex.specs.declared.gatherer.GatherError.TheVariants.{TooLong, IncludeDepth}
-use Rattle.tv_model.specs.Program.{program_of}
 use Rattle.tv_model.specs.declared.program.Program.{Program}
 use Rattle.tv_outside.specs.Told.{Held, content_of}
 use Rattle.tv_texts.specs.Files.{HoldsSuch, IsProgramFile}

@@ -21,3 +21,4 @@ mod Ordered
 mod Sources
 mod Sums
 mod Tasks
+mod ToldAlike

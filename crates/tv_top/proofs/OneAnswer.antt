@@ -39,6 +39,7 @@ use Rattle.tv_top.proofs.Limits.{done_could}
 use Rattle.tv_top.proofs.Maps.{one_maps}
 use Rattle.tv_top.proofs.SameTexts.{report_alike, states_alike}
 use Rattle.tv_top.proofs.Tasks.{SameTask, HasReport, one_task, rejected_report, run_report, same_case}
+use Rattle.tv_top.proofs.ToldAlike.{told_alike}
 use Rattle.tv_top.specs.Answers.{AreStates, IsAnswer, IsDone, IsFound, IsJoinFound, accepted_text, case_for}
 use Rattle.tv_top.specs.Answers.{demo_line, demo_max, with_maps}
 use Rattle.tv_top.specs.Call.{CommandCallsFor, without_place}
@@ -371,6 +372,14 @@ module _ (one_ending : RunsHaveOneEnding) (held : Held) (command : CommandForm)
 
 -- ---- words
 
+-- the statuses are one, places aside, and so are the texts that were asked for; or both calls passed a limit
+abbrev AreAlike : (a b : Status) → (text other : List ℕ) → Type 0
+AreAlike a b text other = (IsLimit a × IsLimit b) ⊎ ((without_place a ≡ without_place b) × (text ≡ other))
+
+are_one : (a b : Status) (text other : List ℕ) → AreAlike a b text other → AreOne a b text other
+are_one a b text other (inl limits) = inl limits
+are_one a b text other (inr alike) = inr (alike.0, alike.1, told_alike a b alike.0)
+
 -- how a call ended that kept its memory
 abbrev EndView : List (List ℕ) → Held → Status → List ℕ → Type 0
 EndView words held a text = ((a ≡ Usage) × SpellsNothing words × (text ≡ []))
@@ -432,7 +441,7 @@ module _ (one_ending : RunsHaveOneEnding) (analyses : AnalysesAreOne) (joined : 
     -- two endings of one command
     module _ (words : List (List ℕ)) (held : Held) (a b : Status) (text other : List ℕ) where
       commands_one : (command : CommandForm) → CommandEnds (Some held) command a → TextOf (Some held) command a text
-          → CommandEnds (Some held) command b → TextOf (Some held) command b other → AreOne a b text other
+          → CommandEnds (Some held) command b → TextOf (Some held) command b other → AreAlike a b text other
       commands_one command h t k u = by (one_status one_ending held command (programs (Some held) command tells)
           (initials (Some held) command tells) (reports (Some held) command tells) (starts (Some held) command tells)
           (traces (Some held) command tells) a b h k)
@@ -440,7 +449,7 @@ module _ (one_ending : RunsHaveOneEnding) (analyses : AnalysesAreOne) (joined : 
           tells : IsTold (Some held) command
           tells = is_told held command
 
-          by : (IsLimit a × IsLimit b) ⊎ (without_place a ≡ without_place b) → AreOne a b text other
+          by : (IsLimit a × IsLimit b) ⊎ (without_place a ≡ without_place b) → AreAlike a b text other
           by (inl limits) = inl limits
           by (inr same) = inr (
             same,
@@ -455,7 +464,7 @@ module _ (one_ending : RunsHaveOneEnding) (analyses : AnalysesAreOne) (joined : 
           (starts (Some held) command (is_told held command)) (traces (Some held) command (is_told held command)) a h
 
     answers : (words : List (List ℕ)) (held : Held) (a b : Status) (text other : List ℕ) → EndView words held a text
-        → EndView words held b other → AreOne a b text other
+        → EndView words held b other → AreAlike a b text other
     answers words held a b text other (inl x) (inl y) =
         inr (ap without_place (x.0 ∙ sym y.0), x.2 ∙ sym y.2)
     answers words held a b text other (inl x) (inr (inl y)) = absurd (x.1 y.1.0 y.1.1)
@@ -476,5 +485,5 @@ module _ (one_ending : RunsHaveOneEnding) (analyses : AnalysesAreOne) (joined : 
         (subst (λ c. CommandEnds (Some held) c b) same y.2.0) (subst (λ c. TextOf (Some held) c b other) same y.2.1)
 
     pub one_answer : AnswersAreOne
-    one_answer words held a b text other h k h_kept k_kept = answers words held a b text other
-        (end_view words held a text h h_kept) (end_view words held b other k k_kept)
+    one_answer words held a b text other h k h_kept k_kept = are_one a b text other
+        (answers words held a b text other (end_view words held a text h h_kept) (end_view words held b other k k_kept))

@@ -8,7 +8,6 @@ use Rattle.tv_model.specs.Program.{PredForm, ProgramForm, pred_of, program_of}
 use Rattle.tv_model.specs.declared.formula.PredId.{PredId}
 use Rattle.tv_model.specs.declared.program.Pred.{Pred}
 use Rattle.tv_model.specs.declared.program.Program.{Program}
-use Rattle.tv_model.specs.declared.program.Vocab.{Vocab}
 use Rattle.tv_replay.specs.Text.{broken_text, first_text, head_text, judged_text, later_text, later_texts}
 use Rattle.tv_replay.specs.Text.{own_name, place_text, states_text}
 use Rattle.tv_replay_laws.specs.declared.state.State.{State}

@@ -216,14 +216,10 @@ IsDone told (Sources source initial max) task text = (a : Analysis) × IsFound t
 
 -- in `check`: the report isn't closed, and this is the first demand that it doesn't meet
 abbrev pub IsRejected : Option Held → CommandForm → Task → Rejection → Type 0
-IsRejected told (Analyzes program initial max mode delta) task r = ⊥
 IsRejected told (Checks program initial report mode maps delta) task r =
     (a : Analysis) × GivesReport told (Checks program initial report mode maps delta) task.program (Ok a)
     × IsRejection (case_for task a) r
-IsRejected told (Demos number) task r = ⊥
-IsRejected told (Joins program initial max mode) task r = ⊥
-IsRejected told (Replays program initial start trace report) task r = ⊥
-IsRejected told (Sources source initial max) task r = ⊥
+IsRejected told other task r = ⊥
 
 -- the command ends in this status with this text, as what its files mean calls for
 abbrev pub IsAnswer : Option Held → CommandForm → Status → List ℕ → Type 0
@@ -241,20 +237,17 @@ IsAnswer told command other text = ⊥
 -- how many structures the command may list
 abbrev pub max_of : CommandForm → Option ℕ
 max_of (Analyzes program initial max mode delta) = Some max
-max_of (Checks program initial report mode maps delta) = None
 max_of (Demos number) = Some demo_max
 max_of (Joins program initial max mode) = Some max
-max_of (Replays program initial start trace report) = None
 max_of (Sources source initial max) = Some max
+max_of other = None
 
 -- there are more structures than this: those that are reached; or in `join`, those that some round lists
 abbrev pub HasMoreThan : CommandForm → Task → (max : ℕ) → Type 0
-HasMoreThan (Analyzes program initial max mode delta) task most = AreMoreThan most (Reached task)
 HasMoreThan (Checks program initial report mode maps delta) task most = ⊥
-HasMoreThan (Demos number) task most = AreMoreThan most (Reached task)
 HasMoreThan (Joins program initial max mode) task most = (round : ℕ) × AreMoreThan most (InRound task round)
 HasMoreThan (Replays program initial start trace report) task most = ⊥
-HasMoreThan (Sources source initial max) task most = AreMoreThan most (Reached task)
+HasMoreThan other task most = AreMoreThan most (Reached task)
 
 -- there are more structures than may be listed
 abbrev pub ReachesTooMuch : Option Held → CommandForm → (max : ℕ) → Type 0
@@ -264,17 +257,13 @@ ReachesTooMuch told command max = (task : Task) × FilesMean told command task
 -- the step of a reached structure meets the budget; or in `check`, that of a listed one, and each demand
 -- before is met; or in `join`, that of one which some round lists
 abbrev pub StepMeets : Option Held → CommandForm → Task → (ProgramForm → ℕ → StructureForm → Type 0) → Type 0
-StepMeets told (Analyzes program initial max mode delta) task Budget =
-    Meets (program_of task.program) (Budget (program_of task.program)) (Reached task)
 StepMeets told (Checks program initial report mode maps delta) task Budget =
     (a : Analysis) × GivesReport told (Checks program initial report mode maps delta) task.program (Ok a)
     × StopsAt (case_for task a) Budget
-StepMeets told (Demos number) task Budget =
-    Meets (program_of task.program) (Budget (program_of task.program)) (Reached task)
 StepMeets told (Joins program initial max mode) task Budget =
     (round : ℕ) × Meets (program_of task.program) (Budget (program_of task.program)) (InRound task round)
 StepMeets told (Replays program initial start trace report) task Budget = ⊥
-StepMeets told (Sources source initial max) task Budget =
+StepMeets told other task Budget =
     Meets (program_of task.program) (Budget (program_of task.program)) (Reached task)
 
 abbrev pub MeetsBudget : Option Held → CommandForm → (ProgramForm → ℕ → StructureForm → Type 0) → Type 0

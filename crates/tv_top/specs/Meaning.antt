@@ -57,42 +57,29 @@ GivesInitial told (Sources source initial max) meant answer = IsInitialFile told
 
 -- START, which `replay` alone has, means this heap over the program's vocabulary, or is refused so
 abbrev pub GivesStart : Option Held → CommandForm → Program → Result StructureForm FileKind → Type 0
-GivesStart told (Analyzes program initial max mode delta) meant answer = ⊥
-GivesStart told (Checks program initial report mode maps delta) meant answer = ⊥
-GivesStart told (Demos number) meant answer = ⊥
-GivesStart told (Joins program initial max mode) meant answer = ⊥
 GivesStart told (Replays program initial start trace report) meant answer =
     IsStartFile told start meant answer
-GivesStart told (Sources source initial max) meant answer = ⊥
+GivesStart told other meant answer = ⊥
 
 -- TRACE, which `replay` alone has, is this trace on the program, or is refused so
 abbrev pub GivesTrace : Option Held → CommandForm → Program → Result Trace FileKind → Type 0
-GivesTrace told (Analyzes program initial max mode delta) meant answer = ⊥
-GivesTrace told (Checks program initial report mode maps delta) meant answer = ⊥
-GivesTrace told (Demos number) meant answer = ⊥
-GivesTrace told (Joins program initial max mode) meant answer = ⊥
 GivesTrace told (Replays program initial start trace report) meant answer =
     IsTraceFile told trace meant answer
-GivesTrace told (Sources source initial max) meant answer = ⊥
+GivesTrace told other meant answer = ⊥
 
 -- REPORT, which `check` and `replay` have, is this report on the program, or is refused so
 abbrev pub GivesReport : Option Held → CommandForm → Program → Result Analysis FileKind → Type 0
-GivesReport told (Analyzes program initial max mode delta) meant answer = ⊥
 GivesReport told (Checks program initial report mode maps delta) meant answer =
     IsReportFile told report meant answer
-GivesReport told (Demos number) meant answer = ⊥
-GivesReport told (Joins program initial max mode) meant answer = ⊥
 GivesReport told (Replays program initial start trace report) meant answer =
     IsReportFile told report meant answer
-GivesReport told (Sources source initial max) meant answer = ⊥
+GivesReport told other meant answer = ⊥
 
 abbrev pub mode_of : CommandForm → Mode
 mode_of (Analyzes program initial max mode delta) = mode
 mode_of (Checks program initial report mode maps delta) = mode
-mode_of (Demos number) = Given
 mode_of (Joins program initial max mode) = mode
-mode_of (Replays program initial start trace report) = Given
-mode_of (Sources source initial max) = Given
+mode_of other = Given
 
 -- what a command works on
 pub record Task : Type 0 where
@@ -108,30 +95,18 @@ pub record FilesMean (told : Option Held) (command : CommandForm) (task : Task) 
 
 -- START and TRACE mean something, where the command has them
 abbrev pub HasStartAndTrace : Option Held → CommandForm → Program → Type 0
-HasStartAndTrace told (Analyzes program initial max mode delta) meant = Unit {0}
-HasStartAndTrace told (Checks program initial report mode maps delta) meant = Unit {0}
-HasStartAndTrace told (Demos number) meant = Unit {0}
-HasStartAndTrace told (Joins program initial max mode) meant = Unit {0}
 HasStartAndTrace told (Replays program initial start trace report) meant =
     (s : StructureForm) × IsStartFile told start meant (Ok s)
     × ((t : Trace) × IsTraceFile told trace meant (Ok t))
-HasStartAndTrace told (Sources source initial max) meant = Unit {0}
+HasStartAndTrace told other meant = Unit {0}
 
 -- the file that the program comes from
 abbrev pub program_role : CommandForm → Role
-program_role (Analyzes program initial max mode delta) = role.Program
-program_role (Checks program initial report mode maps delta) = role.Program
-program_role (Demos number) = role.Program
-program_role (Joins program initial max mode) = role.Program
-program_role (Replays program initial start trace report) = role.Program
 program_role (Sources source initial max) = role.Source
+program_role other = role.Program
 
 -- the file of this role is the first that means nothing, for this reason
 abbrev pub IsRefused : Option Held → CommandForm → Role → FileKind → Type 0
-IsRefused told command role.Program kind = (program_role command ≡ role.Program)
-    × GivesProgram told command (Err kind)
-IsRefused told command role.Source kind = (program_role command ≡ role.Source)
-    × GivesProgram told command (Err kind)
 IsRefused told command role.Initial kind =
     (program : Program) × GivesProgram told command (Ok program)
     × GivesInitial told command program (Err kind)
@@ -142,6 +117,7 @@ IsRefused told command role.Trace kind = (task : Task) × FilesMean told command
     × GivesTrace told command task.program (Err kind)
 IsRefused told command role.Report kind = (task : Task) × FilesMean told command task
     × HasStartAndTrace told command task.program × GivesReport told command task.program (Err kind)
+IsRefused told command other kind = (program_role command ≡ other) × GivesProgram told command (Err kind)
 
 -- ---- files that aren't there
 
@@ -163,14 +139,11 @@ LacksInitial told (Sources source initial max) = ¬ HoldsName told initial
 
 -- the first of the files behind INITIAL that means nothing isn't there
 abbrev pub LacksLater : Option Held → CommandForm → Program → Type 0
-LacksLater told (Analyzes program initial max mode delta) meant = ⊥
 LacksLater told (Checks program initial report mode maps delta) meant = ¬ HoldsName told report
-LacksLater told (Demos number) meant = ⊥
-LacksLater told (Joins program initial max mode) meant = ⊥
 LacksLater told (Replays program initial start trace report) meant = (¬ HoldsName told start)
     ⊎ ((((s : StructureForm) × IsStartFile told start meant (Ok s)) × (¬ HoldsName told trace))
     ⊎ (HasStartAndTrace told (Replays program initial start trace report) meant × (¬ HoldsName told report)))
-LacksLater told (Sources source initial max) meant = ⊥
+LacksLater told other meant = ⊥
 
 -- the first file that means nothing isn't there: an operand, or a file that PROGRAM includes and that is come
 -- to before any refusal
@@ -194,9 +167,5 @@ HoldsFiles told (Sources source initial max) = HoldsName told source × HoldsNam
 
 -- it is told what the files of the command hold; a demo has none
 abbrev pub IsTold : Option Held → CommandForm → Type 0
-IsTold told (Analyzes program initial max mode delta) = IsSome told
-IsTold told (Checks program initial report mode maps delta) = IsSome told
 IsTold told (Demos number) = Unit {0}
-IsTold told (Joins program initial max mode) = IsSome told
-IsTold told (Replays program initial start trace report) = IsSome told
-IsTold told (Sources source initial max) = IsSome told
+IsTold told other = IsSome told

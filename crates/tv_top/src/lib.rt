@@ -4,11 +4,10 @@
 ghost use Rattle.std.specs.Prelude.{◌≡◌, ◌⊎◌, ◌≤◌, ◌++◌, ℕ, List, Some};
 ghost use Rattle.tv_outside.specs.Count.{Rose};
 ghost use Rattle.tv_outside.specs.Told.{Held};
-ghost use Rattle.tv_top.specs.Begins.{BeginsFor, OnAnswer};
+ghost use Rattle.tv_top.specs.Begins.{BeginsDuly};
 ghost use Rattle.tv_top.specs.Call.{IsAnswerTo, IsCause, EndsFor, EndsDuly, IsExcuse, HoldsOperands};
 ghost use Rattle.tv_top.specs.Call.{UnlessFault};
 ghost use Rattle.tv_top.specs.Delivery.{OutTook, ErrTook, StopsAtFailure};
-ghost use Rattle.tv_top.specs.Meaning.{Commands};
 ghost use Rattle.tv_top.specs.One.{HasEnded};
 ghost use Rattle.tv_words.specs.Words.{words_of, SpellsNothing};
 
@@ -70,8 +69,8 @@ pub fn tvla<F: Files, O: Sink, E: Sink>(
     ensures unread { SpellsNothing (words_of words.now) → files.new ≡ files.old }
     ensures held { F.steady files.old → HoldsOperands (words_of words.now) (F.holds files.old)
         → F.steady files.new × (F.faults files.new ≡ F.faults files.old) }
-    ensures begins { OnAnswer result (Commands (words_of words.now)
-        (BeginsFor (F.holds files.old) (F.begins files.old) (F.begins files.new))) }
+    ensures begins { BeginsDuly (words_of words.now) (F.holds files.old) (F.begins files.old)
+        (F.begins files.new) result }
     ensures stays { F.steady files.old → UnlessFault result (F.steady files.new) }
 
     // Where no sink fails, the words and what steady files hold fix the answer, as a law says.

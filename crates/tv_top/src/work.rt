@@ -5,8 +5,8 @@ ghost use Rattle.tv_outside.specs.Count.{Rose};
 ghost use Rattle.tv_outside.specs.Told.{Held};
 ghost use Rattle.tv_top.specs.Answers.{IsAnswer};
 ghost use Rattle.tv_top.specs.Call.{IsAnswerTo, IsCause, IsCommandCause};
-ghost use Rattle.tv_top.specs.Delivery.{SaidOf};
-ghost use Rattle.tv_top.specs.Begins.{BeginsFor};
+ghost use Rattle.tv_top.specs.Delivery.{SaidOf, status_of};
+ghost use Rattle.tv_top.specs.Begins.{BeginsDuly, BeginsFor, BeginsMet};
 ghost use Rattle.tv_top.specs.Meaning.{Commands, FilesMean};
 ghost use Rattle.tv_top.specs.Work.{IsBounded, AreReadyInputs, UnlessReadFault, task_of};
 ghost use Rattle.tv_words.specs.Words.{words_of, SpellsNothing, Analyzes, Checks, Demos, Joins, Replays};
@@ -49,6 +49,8 @@ fn analyze<F: Files>(
     ensures holds { F.holds files.new ≡ F.holds files.old }
     ensures begins { OnOk result (BeginsFor (F.holds files.old) (F.begins files.old) (F.begins files.new)
         (Analyzes program.now initial.now max mode delta)) }
+    ensures begun { IfErr result (BeginsMet (F.holds files.old) (F.begins files.old) (F.begins files.new)
+        (Analyzes program.now initial.now max mode delta)) }
     ensures count { F.faults files.old ≤ F.faults files.new }
     ensures steady { F.steady files.old → UnlessReadFault result (F.steady files.new
         × (F.faults files.new ≡ F.faults files.old)) }
@@ -83,6 +85,8 @@ fn check<F: Files>(
         (Rose (F.faults files.old) (F.faults files.new)) (F.steady files.old)) }
     ensures holds { F.holds files.new ≡ F.holds files.old }
     ensures begins { OnOk result (BeginsFor (F.holds files.old) (F.begins files.old) (F.begins files.new)
+        (Checks program.now initial.now report.now mode maps delta)) }
+    ensures begun { IfErr result (BeginsMet (F.holds files.old) (F.begins files.old) (F.begins files.new)
         (Checks program.now initial.now report.now mode maps delta)) }
     ensures count { F.faults files.old ≤ F.faults files.new }
     ensures steady { F.steady files.old → UnlessReadFault result (F.steady files.new
@@ -145,6 +149,8 @@ fn join<F: Files>(
     ensures holds { F.holds files.new ≡ F.holds files.old }
     ensures begins { OnOk result (BeginsFor (F.holds files.old) (F.begins files.old) (F.begins files.new)
         (Joins program.now initial.now max mode)) }
+    ensures begun { IfErr result (BeginsMet (F.holds files.old) (F.begins files.old) (F.begins files.new)
+        (Joins program.now initial.now max mode)) }
     ensures count { F.faults files.old ≤ F.faults files.new }
     ensures steady { F.steady files.old → UnlessReadFault result (F.steady files.new
         × (F.faults files.new ≡ F.faults files.old)) }
@@ -179,6 +185,8 @@ fn run<F: Files>(
     ensures holds { F.holds files.new ≡ F.holds files.old }
     ensures begins { OnOk result (BeginsFor (F.holds files.old) (F.begins files.old) (F.begins files.new)
         (Replays program.now initial.now start.now trace.now report.now)) }
+    ensures begun { IfErr result (BeginsMet (F.holds files.old) (F.begins files.old) (F.begins files.new)
+        (Replays program.now initial.now start.now trace.now report.now)) }
     ensures count { F.faults files.old ≤ F.faults files.new }
     ensures steady { F.steady files.old → UnlessReadFault result (F.steady files.new
         × (F.faults files.new ≡ F.faults files.old)) }
@@ -212,6 +220,8 @@ fn source<F: Files>(
     ensures holds { F.holds files.new ≡ F.holds files.old }
     ensures begins { OnOk result (BeginsFor (F.holds files.old) (F.begins files.old) (F.begins files.new)
         (Sources source.now initial.now max)) }
+    ensures begun { IfErr result (BeginsMet (F.holds files.old) (F.begins files.old) (F.begins files.new)
+        (Sources source.now initial.now max)) }
     ensures count { F.faults files.old ≤ F.faults files.new }
     ensures steady { F.steady files.old → UnlessReadFault result (F.steady files.new
         × (F.faults files.new ≡ F.faults files.old)) }
@@ -232,6 +242,8 @@ fn execute<F: Files>(alloc: Global, files: &mut F, command: &Command) -> Result<
         (Rose (F.faults files.old) (F.faults files.new)) (F.steady files.old)) }
     ensures holds { F.holds files.new ≡ F.holds files.old }
     ensures begins { OnOk result (BeginsFor (F.holds files.old) (F.begins files.old) (F.begins files.new)
+        (form_of command.now)) }
+    ensures begun { IfErr result (BeginsMet (F.holds files.old) (F.begins files.old) (F.begins files.new)
         (form_of command.now)) }
     ensures count { F.faults files.old ≤ F.faults files.new }
     ensures steady { F.steady files.old → UnlessReadFault result (F.steady files.new
@@ -285,6 +297,8 @@ pub fn perform<F: Files>(alloc: Global, words: &[String], files: &mut F) -> Resu
     ensures holds { F.holds files.new ≡ F.holds files.old }
     ensures begins { OnOk result (Commands (words_of words.now)
         (BeginsFor (F.holds files.old) (F.begins files.old) (F.begins files.new))) }
+    ensures begun { IfErr result (λ fault. BeginsDuly (words_of words.now) (F.holds files.old)
+        (F.begins files.old) (F.begins files.new) (status_of fault)) }
     ensures count { F.faults files.old ≤ F.faults files.new }
     ensures steady { F.steady files.old → UnlessReadFault result (F.steady files.new
         × (F.faults files.new ≡ F.faults files.old)) }

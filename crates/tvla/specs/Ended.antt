@@ -6,10 +6,9 @@ use Rattle.tv_outside.specs.Told.{Held}
 use Rattle.tv_real.specs.Ended.{EndsWithoutMemory, HasWords}
 use Rattle.tv_status.specs.declared.status.Status.{Status}
 use Rattle.tv_status.specs.declared.status.Status.TheVariants.{Memory}
-use Rattle.tv_top.specs.Begins.{BeginsFor, OnAnswer}
+use Rattle.tv_top.specs.Begins.{BeginsDuly}
 use Rattle.tv_top.specs.Call.{EndsDuly, EndsFor, IsAnswerTo, IsCause, IsExcuse}
 use Rattle.tv_top.specs.Delivery.{ErrTook, OutTook}
-use Rattle.tv_top.specs.Meaning.{Commands}
 use Rattle.tv_words.specs.Words.{words_of}
 
 -- a call with these words ends in this status, as the contract of `tvla` says
@@ -21,7 +20,7 @@ pub record EndsAsTold (words : List (List ℕ)) (told : Option Held)
   pub err : ErrTook status (IsCause words told read_rose steady) out_rose err_rose err_old err_new
   pub exact : EndsDuly words told status (IsExcuse status)
   pub complete : ¬ read_rose → ¬ out_rose → ¬ err_rose → EndsDuly words told status (status ≡ Memory)
-  pub begins : OnAnswer status (Commands words (BeginsFor told begins_old begins_new))
+  pub begins : BeginsDuly words told begins_old begins_new status
 
 -- a call with these arguments, of which the first is the program's name, ends in this status: on the words
 -- behind it, or without memory for them

@@ -1,4 +1,4 @@
-use Rattle.tv_top.proofs.Begins.{answered_begins, stays_steady}
+use Rattle.tv_top.proofs.Begins.{duly_begun, stays_steady}
 use Rattle.tv_top.proofs.Duly.{call_cause, out_took, err_took, ends_duly, no_fault}
 use Rattle.tv_top.proofs.Ended.{has_ended}
 use Rattle.tv_top.proofs.Endings.{endings, none_missing}
@@ -25,7 +25,8 @@ returns-clause-held g c =
     c.perform-found.ensures.cause (c.perform-found.ensures.steady steady)
 
 pub returns-clause-begins : goal.returns-clause-begins
-returns-clause-begins g c = answered_begins _ _ _ c.deliver.ensures.ends c.perform-found.ensures.begins
+returns-clause-begins g c =
+    duly_begun _ _ _ _ _ _ c.deliver.ensures.ends c.perform-found.ensures.begins c.perform-found.ensures.begun
 
 pub returns-clause-stays : goal.returns-clause-stays
 returns-clause-stays g c = λ steady.

@@ -2,7 +2,7 @@ use Rattle.std.proofs.Common.{◌≡◌, ◌+◌, List, refl}
 use Rattle.std.proofs.lemmas.Result.{err_from_is_err_and}
 use Rattle.tv_model.specs.declared.program.Program.{Program}
 use Rattle.tv_struct.specs.StructureForm.{StructureForm}
-use Rattle.tv_top.proofs.Begins.{one_more}
+use Rattle.tv_top.proofs.Begins.{initial_begun, one_more, program_begun}
 use Rattle.tv_top.specs.Begins.{origin_begins}
 use Rattle.tv_top.proofs.Causes.{rose_later, still, unless_not_read, program_named, initial_named}
 use Rattle.tv_top.proofs.Causes.{program_fault, initial_fault}
@@ -66,3 +66,15 @@ pub returns-clause-begins : goal.returns-clause-begins
 returns-clause-begins g c =
     one_more _ (λ held. origin_begins held c.args.origin) (λ held. origin_begins held c.args.origin + 1) _ _ _
     (λ held. refl) c.in_ok-program.ensures.begins c.in_ok-initial.ensures.begins
+
+pub returns-in_err-program-clause-begun : goal.returns-in_err-program-clause-begun
+returns-in_err-program-clause-begun g c =
+    let p = err_from_is_err_and c.from_residual.result c.from_residual.ensures.1 in
+    rw (p.1, p.2) (λ command names. program_begun _ command c.args.origin _ names _ _ _ _ _ _ _
+    c.in_err-program.ensures.cause c.in_err-program.ensures.begins)
+
+pub returns-in_err-initial-clause-begun : goal.returns-in_err-initial-clause-begun
+returns-in_err-initial-clause-begun g c =
+    let p = err_from_is_err_and c.from_residual-in_err-initial.result c.from_residual-in_err-initial.ensures.1 in
+    rw (p.1, p.2) (λ command names. initial_begun _ command c.args.origin _ names _ _ _ _ _ _ _ _
+    c.in_err-initial.ensures.cause c.in_ok-program.ensures.begins c.in_err-initial.ensures.begins)

@@ -2,7 +2,7 @@ use Rattle.std.proofs.Common.{◌≡◌, refl}
 use Rattle.std.proofs.lemmas.Result.{err_from_is_err_and}
 use Rattle.tv_listing.specs.declared.analysis.Analysis.{Analysis}
 use Rattle.tv_status.specs.declared.status.Role.TheVariants as role
-use Rattle.tv_top.proofs.Begins.{always, another}
+use Rattle.tv_top.proofs.Begins.{always, another, judged_begun, later_begun}
 use Rattle.tv_top.proofs.Causes.{rose_later, still, holds_unless, unless_not_read, later_fault, judged_causes}
 use Rattle.tv_top.proofs.Causes.{judged_answers}
 use Rattle.tv_top.proofs.Differenced.{covers_read_runs}
@@ -73,3 +73,22 @@ returns-clause-cause g c =
     let gives = rw c.in_ok-inputs.ensures.holds at c.in_ok-report.ensures.means in
     judged_causes _ command task c.in_ok-report.report _ _ c.judgement.result
     (c.in_ok-inputs.ensures.meant command (refl, refl, refl)) (λ Budget stops. (c.in_ok-report.report, gives, stops)) c.judgement.ensures.cause
+
+pub returns-in_err-inputs-clause-begun : goal.returns-in_err-inputs-clause-begun
+returns-in_err-inputs-clause-begun g c =
+    let p = err_from_is_err_and c.from_residual.result c.from_residual.ensures.1 in
+    rw (p.1, p.2) (c.in_err-inputs.ensures.begun
+    (Checks c.args.program.now c.args.initial.now c.args.report.now c.args.mode c.args.maps c.args.delta) (refl, refl, refl))
+
+pub returns-in_err-report-clause-begun : goal.returns-in_err-report-clause-begun
+returns-in_err-report-clause-begun g c =
+    let command = Checks c.args.program.now c.args.initial.now c.args.report.now c.args.mode c.args.maps c.args.delta in
+    let p = err_from_is_err_and c.from_residual-in_err-report.result c.from_residual-in_err-report.ensures.1 in
+    rw (p.1, p.2) (later_begun _ command role.Report _ _ _ _ _ _ _ c.in_err-report.ensures.cause
+    (another _ c.args.program.now 1 _ _ _ c.in_ok-inputs.ensures.begins c.in_err-report.ensures.begins))
+
+pub returns-clause-begun : goal.returns-clause-begun
+returns-clause-begun g c =
+    let command = Checks c.args.program.now c.args.initial.now c.args.report.now c.args.mode c.args.maps c.args.delta in
+    judged_begun _ command _ _ (another _ c.args.program.now 1 _ _ _ c.in_ok-inputs.ensures.begins c.in_ok-report.ensures.begins)
+    (task_of c.in_ok-inputs.inputs c.args.mode) c.in_ok-report.report c.judgement.result c.judgement.ensures.cause

@@ -1,5 +1,5 @@
 use Rattle.std.proofs.Common.{refl}
-use Rattle.tv_top.proofs.Begins.{always, never_begun}
+use Rattle.tv_top.proofs.Begins.{always, demo_begun, never_begun}
 use Rattle.tv_top.proofs.Causes.{demo_causes, holds_unless}
 use Rattle.tv_top.proofs.work.execute.Goals as goal
 
@@ -57,3 +57,33 @@ returns-in-Replay-clause-begins g c = rw (c.in-Replay.is, ← c.deref-in-Replay.
 
 pub returns-in-Source-clause-begins : goal.returns-in-Source-clause-begins
 returns-in-Source-clause-begins g c = rw c.in-Source.is c.source.ensures.begins
+
+pub returns-in-Analyze-clause-begun : goal.returns-in-Analyze-clause-begun
+returns-in-Analyze-clause-begun g c =
+    rw (c.in-Analyze.is, ← c.deref.ensures, ← c.deref-in-Analyze.ensures) c.analyze.ensures.begun
+
+pub returns-in-Check-clause-begun : goal.returns-in-Check-clause-begun
+returns-in-Check-clause-begun g c =
+    rw (c.in-Check.is, ← c.deref-in-Check.ensures, ← c.deref-in-Check-2.ensures, ← c.deref-in-Check-3.ensures) c.check.ensures.begun
+
+pub returns-in-Demo-clause-begun : goal.returns-in-Demo-clause-begun
+returns-in-Demo-clause-begun g c = rw c.in-Demo.is (demo_begun _ c.in-Demo.number _ _ c.demo.result refl)
+
+pub returns-in-Join-clause-begun : goal.returns-in-Join-clause-begun
+returns-in-Join-clause-begun g c =
+    rw (c.in-Join.is, ← c.deref-in-Join.ensures, ← c.deref-in-Join-2.ensures) c.join.ensures.begun
+
+pub returns-in-Replay-clause-begun : goal.returns-in-Replay-clause-begun
+returns-in-Replay-clause-begun g c =
+    rw (
+      c.in-Replay.is,
+      ← c.deref-in-Replay.ensures,
+      ← c.deref-in-Replay-2.ensures,
+      ← c.deref-in-Replay-3.ensures,
+      ← c.deref-in-Replay-4.ensures,
+      ← c.deref-in-Replay-5.ensures,
+    ) c.run.ensures.begun
+
+pub returns-in-Source-clause-begun : goal.returns-in-Source-clause-begun
+returns-in-Source-clause-begun g c =
+    rw (c.in-Source.is, ← c.deref-in-Source.ensures, ← c.deref-in-Source-2.ensures) c.source.ensures.begun

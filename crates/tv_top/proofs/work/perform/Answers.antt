@@ -1,4 +1,4 @@
-use Rattle.tv_top.proofs.Begins.{spelled_begins}
+use Rattle.tv_top.proofs.Begins.{spelled_begins, spelled_begun}
 use Rattle.tv_top.specs.Begins.{BeginsFor}
 use Rattle.tv_words.specs.Words.{form_of}
 use Rattle.tv_top.proofs.work.perform.Goals as goal
@@ -14,3 +14,8 @@ returns-clause-begins g c =
     let told = g.F.Files.holds c.args.files.now in
     let begins = BeginsFor told (g.F.Files.begins c.args.files.now) (g.F.Files.begins c.execute.new.files) in
     spelled_begins c.execute.result _ (form_of c.in-Some.command) begins spells c.execute.ensures.begins
+
+pub returns-clause-begun : goal.returns-clause-begun
+returns-clause-begun g c =
+    let spells = rw c.in-Some.is at c.in_ok-command.ensures.some in
+    spelled_begun _ _ (form_of c.in-Some.command) _ _ c.execute.result spells c.execute.ensures.begun

@@ -4,7 +4,7 @@ use Rattle.tv_listing.specs.declared.analysis.Analysis.{Analysis}
 use Rattle.tv_model.specs.declared.program.Mode.TheVariants.{Given}
 use Rattle.tv_status.specs.declared.status.Role.TheVariants as role
 use Rattle.tv_struct.specs.StructureForm.{StructureForm}
-use Rattle.tv_top.proofs.Begins.{always, another}
+use Rattle.tv_top.proofs.Begins.{always, another, later_begun, replayed_begun}
 use Rattle.tv_top.proofs.Causes.{rose_later, still, holds_unless, unless_not_read, later_fault, run_answers}
 use Rattle.tv_top.proofs.Causes.{run_causes}
 use Rattle.tv_top.specs.Meaning.{HasStartAndTrace}
@@ -139,3 +139,41 @@ pub returns-clause-cause : goal.returns-clause-cause
 returns-clause-cause g c =
     run_causes _ (Replays c.args.program.now c.args.initial.now c.args.start.now c.args.trace.now c.args.report.now) _ _
     c.replayed.result c.replayed.ensures.cause
+
+pub returns-in_err-inputs-clause-begun : goal.returns-in_err-inputs-clause-begun
+returns-in_err-inputs-clause-begun g c =
+    let command = Replays c.args.program.now c.args.initial.now c.args.start.now c.args.trace.now c.args.report.now in
+    let p = err_from_is_err_and c.from_residual.result c.from_residual.ensures.1 in
+    rw (p.1, p.2) (c.in_err-inputs.ensures.begun command (refl, refl, refl))
+
+pub returns-in_err-start-clause-begun : goal.returns-in_err-start-clause-begun
+returns-in_err-start-clause-begun g c =
+    let command = Replays c.args.program.now c.args.initial.now c.args.start.now c.args.trace.now c.args.report.now in
+    let p = err_from_is_err_and c.from_residual-in_err-start.result c.from_residual-in_err-start.ensures.1 in
+    rw (p.1, p.2) (later_begun _ command role.Start _ _ _ _ _ _ _ c.in_err-start.ensures.cause
+    (another _ c.args.program.now 1 _ _ _ c.in_ok-inputs.ensures.begins c.in_err-start.ensures.begins))
+
+pub returns-in_err-trace-clause-begun : goal.returns-in_err-trace-clause-begun
+returns-in_err-trace-clause-begun g c =
+    let command = Replays c.args.program.now c.args.initial.now c.args.start.now c.args.trace.now c.args.report.now in
+    let p = err_from_is_err_and c.from_residual-in_err-trace.result c.from_residual-in_err-trace.ensures.1 in
+    let two = another _ c.args.program.now 1 _ _ _ c.in_ok-inputs.ensures.begins c.in_ok-start.ensures.begins in
+    rw (p.1, p.2) (later_begun _ command role.Trace _ _ _ _ _ _ _ c.in_err-trace.ensures.cause
+    (another _ c.args.program.now 2 _ _ _ two c.in_err-trace.ensures.begins))
+
+pub returns-in_err-reported-clause-begun : goal.returns-in_err-reported-clause-begun
+returns-in_err-reported-clause-begun g c =
+    let command = Replays c.args.program.now c.args.initial.now c.args.start.now c.args.trace.now c.args.report.now in
+    let p = err_from_is_err_and c.from_residual-in_err-reported.result c.from_residual-in_err-reported.ensures.1 in
+    let two = another _ c.args.program.now 1 _ _ _ c.in_ok-inputs.ensures.begins c.in_ok-start.ensures.begins in
+    let three = another _ c.args.program.now 2 _ _ _ two c.in_ok-trace.ensures.begins in
+    rw (p.1, p.2) (later_begun _ command role.Report _ _ _ _ _ _ _ c.in_err-reported.ensures.cause
+    (another _ c.args.program.now 3 _ _ _ three c.in_err-reported.ensures.begins))
+
+pub returns-clause-begun : goal.returns-clause-begun
+returns-clause-begun g c =
+    let command = Replays c.args.program.now c.args.initial.now c.args.start.now c.args.trace.now c.args.report.now in
+    let two = another _ c.args.program.now 1 _ _ _ c.in_ok-inputs.ensures.begins c.in_ok-start.ensures.begins in
+    let three = another _ c.args.program.now 2 _ _ _ two c.in_ok-trace.ensures.begins in
+    replayed_begun _ command _ _ (another _ c.args.program.now 3 _ _ _ three c.in_ok-reported.ensures.begins) c.replayed.result
+    c.replayed.ensures.cause

@@ -1,6 +1,7 @@
 use Rattle.std.proofs.Common.{refl}
 use Rattle.std.proofs.lemmas.Result.{err_from_is_err_and}
 use Rattle.tv_model.specs.declared.program.Mode.TheVariants.{Given}
+use Rattle.tv_top.proofs.Begins.{search_begun}
 use Rattle.tv_top.proofs.Causes.{search_fault}
 use Rattle.tv_top.proofs.Sources.{source_covered}
 use Rattle.tv_top.specs.Work.{task_of}
@@ -37,3 +38,16 @@ returns-clause-found g c =
         c.in_ok-text.ensures.text,
       ),
     )
+
+pub returns-in_err-inputs-clause-begun : goal.returns-in_err-inputs-clause-begun
+returns-in_err-inputs-clause-begun g c =
+    let p = err_from_is_err_and c.from_residual.result c.from_residual.ensures.1 in
+    let command = Sources c.args.source.now c.args.initial.now c.args.max in
+    rw (p.1, p.2) (c.in_err-inputs.ensures.begun command (refl, refl))
+
+pub returns-in_err-found-clause-begun : goal.returns-in_err-found-clause-begun
+returns-in_err-found-clause-begun g c =
+    let p = err_from_is_err_and c.from_residual-in_err-found.result c.from_residual-in_err-found.ensures.1 in
+    let command = Sources c.args.source.now c.args.initial.now c.args.max in
+    rw (p.1, p.2) (search_begun _ command _ _ c.in_ok-inputs.ensures.begins (task_of c.in_ok-inputs.inputs Given) c.args.max _
+    c.in_err-found.ensures.cause)
