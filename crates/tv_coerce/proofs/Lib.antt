@@ -1,10 +1,12 @@
 pub mod Attempting
+pub mod Counts
 pub mod Found
 pub mod Heads
 pub mod Heaps
+pub mod Lacks
 pub mod Lowering
-pub mod Narrowing
 pub mod OnTheWay
+pub mod Noting
 pub mod Once
 pub mod Placing
 pub mod Reading

@@ -61,12 +61,12 @@ ready-on rules waiting s t scratch ready way = record {
   fits = subst (λ n. All (λ rule. HasScratchFor scratch rule.body n) rules) (sym way.size) ready.fits;
 }
 
-pub way-asked : (rules : List RuleForm) (n : ℕ) (head : HeadForm) (old mid more again : List Bool) (s t new : StructureForm)
-    (changes : List Change) → All IsPlainRule rules → IsOnTheWay rules old s t → AreAsked rules t mid n changes
+pub way-asked : (rules : List RuleForm) (tried n : ℕ) (head : HeadForm) (old mid more again : List Bool) (s t new : StructureForm)
+    (changes : List Change) → All IsPlainRule rules → IsOnTheWay rules old s t → AreAsked rules t mid tried n changes
     → ((rule : RuleForm) → slice_get rules n ≡ Some rule → IsSharper rule t new)
     → ((rule : RuleForm) → slice_get rules n ≡ Some rule → head ≡ rule.head)
-    → HasAtLeast (IsRuleThat (Sees head) rules) mid more → HasMore (λ m. m ≡ n) more again → IsOnTheWay rules again s new
-way-asked rules n head old mid more again s t new changes plain way asked sharper heads seeing itself =
+    → HasAtLeast (IsRuleThat (Sees head) rules) mid more → HasMore (λ m. m ≡ tried) more again → IsOnTheWay rules again s new
+way-asked rules tried n head old mid more again s t new changes plain way asked sharper heads seeing itself =
     let at : (rule : RuleForm) × (slice_get rules n ≡ Some rule) = rule-at rules n asked.within
     in let rule : RuleForm = at.0
     in let sharp : IsSharper rule t new = sharper rule at.1
@@ -78,14 +78,14 @@ way-asked rules n head old mid more again s t new changes plain way asked sharpe
       mark = sharp.mark ∙ way.mark;
       below = below-below (structure_of new) (structure_of t) (structure_of s) sharp.below way.below;
       loses_none = λ u stable low. sharp.loses_none u (stable-at rules u n rule at.1 stable) (way.loses_none u stable low);
-      rest = stable-after t new rules n rule mid more again plain sharp.touched sharp.mark sharp.below asked.others
+      rest = stable-after t new rules tried rule mid more again plain sharp.touched sharp.mark sharp.below asked.others
           (subst (λ h. HasAtLeast (IsRuleThat (Sees h) rules) mid more) (heads rule at.1) seeing) itself;
     }
 
-pub smaller-asked : (rules : List RuleForm) (n : ℕ) (mid : List Bool) (t new : StructureForm) (changes : List Change)
-    → AreAsked rules t mid n changes → ((rule : RuleForm) → slice_get rules n ≡ Some rule → IsSharper rule t new)
+pub smaller-asked : (rules : List RuleForm) (tried n : ℕ) (mid : List Bool) (t new : StructureForm) (changes : List Change)
+    → AreAsked rules t mid tried n changes → ((rule : RuleForm) → slice_get rules n ≡ Some rule → IsSharper rule t new)
     → half_count new < half_count t
-smaller-asked rules n mid t new changes asked sharper =
+smaller-asked rules tried n mid t new changes asked sharper =
     let at : (rule : RuleForm) × (slice_get rules n ≡ Some rule) = rule-at rules n asked.within
     in (sharper at.0 at.1).fewer
 

@@ -31,10 +31,15 @@ use Rattle.tv_rules.proofs.Ranges.{free-in_range}
 use Rattle.tv_eval.specs.Formulas.{nesting}
 use Rattle.tv_eval.specs.ScratchForm.{ScratchForm, HasScratchFor}
 use Rattle.tv_struct.specs.StructureForm.{StructureForm, arities_of, structure_of}
-use Rattle.tv_coerce.specs.Passing.{AreLeft, CanRead, CanTest, Passes, StopsAt, members_in}
-use Rattle.tv_coerce.specs.Passing.{variables_in}
+use Rattle.tv_rules.specs.Kin.{IsKin, IsTriedBy, skip_of}
+use Rattle.tv_rules.specs.Waiting.{IsAllBut, forms_in}
+use Rattle.tv_members.specs.Members.{IsSteppedBy, is_literal, members_of}
+use Rattle.tv_members.specs.declared.shapes.Shape.{Shape}
+use Rattle.tv_coerce.specs.Counting.{AreLeft, AreOthersYes, Bars, CanRead, CanTest, IsBarring, IsIdle, Lacks}
+use Rattle.tv_coerce.specs.Counting.{members_in}
+use Rattle.tv_coerce.specs.Counting.{variables_in}
 use Rattle.tv_coerce.specs.Ready.{IsHeadOver, IsRuleOver}
-use Rattle.tv_coerce.specs.Trying.{ArePlaced, CanTry, IsTrial, trial_rule}
+use Rattle.tv_coerce.specs.Trying.{ArePlaced, CanTry, IsTrial, rule_at, trial_rule}
 use Rattle.tv_coerce.specs.declared.trial.Trial.{Trial}
 use Rattle.tv_coerce.proofs.Ready.{fits-conjuncts}
 
@@ -85,24 +90,48 @@ rule-variable arities rule over v (inr at) = in-head rule.head over.head at
     in-head (HSame flag w u) over (inl e) = subst (λ x. x < 32) (sym e) over.0
     in-head (HSame flag w u) over (inr e) = subst (λ x. x < 32) (sym e) over.1
 
--- ---- a member is a conjunct, or what the head denies
+-- ---- a member is a conjunct of each rule, or what its head denies
+
+module _ (shape : Shape) (skip : ℕ) (rule : RuleForm) (but : IsAllBut (forms_in shape) skip rule) (k : ℕ) (m : MemberForm)
+    (there : slice_get (members_of shape.members) k ≡ Some m) where
+  form-there : slice_get (forms_in shape) k ≡ Some m.form
+  form-there =
+      slice_get-map (λ (x : MemberForm). x.form) (members_of shape.members) k ∙ ap (option_map (λ (x : MemberForm). x.form)) there
+
+  denied-is : k ≡ skip → m.form ≡ negated_head rule.head
+  denied-is e =
+      same_Some m.form (negated_head rule.head) (sym form-there ∙ ap (slice_get (forms_in shape)) e ∙ but.denied)
+
+  conjunct-in : k ≢ skip → Contains (conjuncts rule.body) m.form
+  conjunct-in ne = (but.others m.form).1 (k, ne, form-there)
+
+-- the trial's own rule
+pub own-kin : (trial : Trial) → IsTrial trial → IsKin trial.closed.now trial.number trial.number
+own-kin trial is = record { within = is.number; base = refl }
+
+pub own-tried : (trial : Trial) → IsTrial trial → IsTriedBy trial.shape.now (skip_of trial.closed.now trial.number) (trial_rule trial)
+own-tried trial is = is.kin trial.number (own-kin trial is)
+
+-- the rules have the same variables
+pub kin-free : (trial : Trial) (is : IsTrial trial) (n : ℕ) → IsKin trial.closed.now trial.number n → (x : ℕ)
+    → IsFreeInRule x (trial_rule trial) → IsFreeInRule x (rule_at trial.closed.now n)
+kin-free trial is n kin x free = ((is.kin n kin).free x).0 (((own-tried trial is).free x).1 free)
+
+pub kin-back : (trial : Trial) (is : IsTrial trial) (n : ℕ) → IsKin trial.closed.now trial.number n → (x : ℕ)
+    → IsFreeInRule x (rule_at trial.closed.now n) → IsFreeInRule x (trial_rule trial)
+kin-back trial is n kin x free = ((own-tried trial is).free x).0 (((is.kin n kin).free x).1 free)
+
+pub kin-variable : (trial : Trial) (is : IsTrial trial) (n : ℕ) → IsKin trial.closed.now trial.number n → (x : ℕ)
+    → IsFreeInRule x (rule_at trial.closed.now n) → Contains (variables_in trial) x
+kin-variable trial is n kin x free = ((is.kin n kin).free x).1 free
 
 module _ (trial : Trial) (is : IsTrial trial) (k : ℕ) (m : MemberForm) (there : slice_get (members_in trial) k ≡ Some m) where
-  form-there : slice_get (map (λ (x : MemberForm). x.form) (members_in trial)) k ≡ Some m.form
-  form-there = slice_get-map (λ (x : MemberForm). x.form) (members_in trial) k ∙ ap (option_map (λ (x : MemberForm). x.form)) there
-
-  denied-is : k ≡ trial.waits.skip → m.form ≡ negated_head (trial_rule trial).head
-  denied-is e =
-      same_Some m.form (negated_head (trial_rule trial).head)
-      (sym form-there ∙ ap (slice_get (map (λ (x : MemberForm). x.form) (members_in trial))) e ∙ is.waits.but.denied)
-
-  conjunct-in : k ≢ trial.waits.skip → Contains (conjuncts (trial_rule trial).body) m.form
-  conjunct-in ne = (is.waits.but.others m.form).1 (k, ne, form-there)
-
   member-all : (P : Form → Type 0) → All P (conjuncts (trial_rule trial).body) → P (negated_head (trial_rule trial).head) → P m.form
   member-all P all denied =
-      ⊎_elim (λ e. subst P (sym (denied-is e)) denied)
-      (λ ne. All-contains P (conjuncts (trial_rule trial).body) m.form all (conjunct-in ne)) (cases_eq k trial.waits.skip)
+      ⊎_elim (λ e. subst P (sym (denied-is trial.shape.now (skip_of trial.closed.now trial.number) (trial_rule trial) (own-tried trial is).but k m there e)) denied)
+      (λ ne. All-contains P (conjuncts (trial_rule trial).body) m.form all
+      (conjunct-in trial.shape.now (skip_of trial.closed.now trial.number) (trial_rule trial) (own-tried trial is).but k m there ne))
+      (cases_eq k (skip_of trial.closed.now trial.number))
 
   pub member-free : (x : ℕ) → IsFree x m.form → IsFreeInRule x (trial_rule trial)
   member-free =
@@ -111,60 +140,119 @@ module _ (trial : Trial) (is : IsTrial trial) (k : ℕ) (m : MemberForm) (there 
       (λ x free. inr (denied-free x (trial_rule trial).head free))
 
   module _ (room : ScratchForm) (can : CanTry (trial_rule trial) trial.structure.now room) where
-    member-over : IsFormulaOver (arities_of trial.structure.now) m.form
+    pub member-over : IsFormulaOver (arities_of trial.structure.now) m.form
     member-over =
         member-all (IsFormulaOver (arities_of trial.structure.now))
         ((conjuncts_carry_formulas (trial_rule trial).body).formulas (arities_of trial.structure.now) can.over.body)
         (denied-over (arities_of trial.structure.now) (trial_rule trial).head can.over.head)
 
-    member-fits : HasScratchFor room m.form trial.structure.now.size
+    pub member-fits : HasScratchFor room m.form trial.structure.now.size
     member-fits =
         member-all (λ g. HasScratchFor room g trial.structure.now.size)
         (fits-conjuncts room (trial_rule trial).body trial.structure.now.size can.fits)
         (record { closures = omega (arith, denied-nesting (trial_rule trial).head); individuals = can.fits.individuals })
 
--- ---- a member tells the same where its variables stand for the same
+-- ---- members tell the same where their variables stand for the same
 
-module _ (s : StructureForm) (a b : Assignment) (skip : ℕ) where
-  pub passes-agreed : (k : ℕ) (m : MemberForm) → ((x : ℕ) → IsFree x m.form → a x ≡ b x) → Passes s a skip k m → Passes s b skip k m
-  passes-agreed k m same p =
-      let values : value (structure_of s) a m.form ≡ value (structure_of s) b m.form
-      = only_free_variables_matter (structure_of s) m.form a b same
-      in record { yes = λ ne. sym values ∙ p.yes ne; denied = λ e f. p.denied e (values ∙ f) }
+module _ (s : StructureForm) (a b : Assignment) (ms : List MemberForm) (Those : MemberForm → Type 0)
+    (same : (k : ℕ) (m : MemberForm) → slice_get ms k ≡ Some m → Those m → (x : ℕ) → IsFree x m.form → a x ≡ b x) where
+  values : (k : ℕ) (m : MemberForm) → slice_get ms k ≡ Some m → Those m
+      → value (structure_of s) a m.form ≡ value (structure_of s) b m.form
+  values k m there those = only_free_variables_matter (structure_of s) m.form a b (same k m there those)
 
-  pub stops-agreed : (left : ℕ) (last : Bool) (ms : List MemberForm) → (st : StopsAt s a skip left last ms)
-      → ((x : ℕ) → IsFree x st.member.form → a x ≡ b x) → StopsAt s b skip left last ms
-  stops-agreed left last ms st same =
-      let values : value (structure_of s) a st.member.form ≡ value (structure_of s) b st.member.form
-      = only_free_variables_matter (structure_of s) st.member.form a b same
-      in record {
-        number = st.number;
-        member = st.member;
-        there = st.there;
-        at_left = st.at_left;
-        at_last = st.at_last;
-        stops = ⊎_elim (λ x. inl (x.0, λ yes. x.1 (values ∙ yes))) (λ x. inr (x.0, sym values ∙ x.1)) st.stops;
-      }
+  abbrev pub lacks-agreed : Lacks Those s a ms → Lacks Those s b ms
+  lacks-agreed one = record {
+    number = one.number;
+    member = one.member;
+    there = one.there;
+    those = one.those;
+    lacks = λ yes. one.lacks (only_free_variables_matter (structure_of s) one.member.form a b
+        (same one.number one.member one.there one.those) ∙ yes);
+  }
 
--- where a member stops the rule the body isn't Yes, or the head is met
-pub stopped : (trial : Trial) → IsTrial trial → (b : Assignment) (left : ℕ) (last : Bool)
-    → StopsAt trial.structure.now b trial.waits.skip left last (members_in trial)
-    → value (structure_of trial.structure.now) b (trial_rule trial).body ≡ Yes
-    → IsHeadMet (structure_of trial.structure.now) b (trial_rule trial).head
-stopped trial is b left last st body = at st.stops
-  where
-    s : LogicalStructure
-    s = structure_of trial.structure.now
+  bars-agreed : Bars Those s a ms → Bars Those s b ms
+  bars-agreed one = record {
+    number = one.number;
+    member = one.member;
+    there = one.there;
+    those = one.those;
+    bars = ⊎_elim (λ none. inl (sym here ∙ none)) (λ other. inr (other.0, λ yes. other.1 (here ∙ yes))) one.bars;
+  }
+    where
+      here : value (structure_of s) a one.member.form ≡ value (structure_of s) b one.member.form
+      here = values one.number one.member one.there one.those
 
-    at : ((st.number ≢ trial.waits.skip) × (value s b st.member.form ≢ Yes)) ⊎ ((st.number ≡ trial.waits.skip) × (value s b st.member.form ≡ No))
-        → IsHeadMet s b (trial_rule trial).head
-    at (inl (ne, other)) =
-        absurd (other (All-contains (λ g. value s b g ≡ Yes) (conjuncts (trial_rule trial).body) st.member.form
-        (((conjuncts_carry_formulas (trial_rule trial).body).yes s b).0 body)
-        (conjunct-in trial is st.number st.member st.there ne)))
-    at (inr (e, is-no)) =
-        inl (denied-no s b (trial_rule trial).head
-        (subst (λ g. value s b g ≡ No) (denied-is trial is st.number st.member st.there e) is-no))
+  pub idle-agreed : IsIdle Those s a ms → IsIdle Those s b ms
+  idle-agreed (inl one) = inl (bars-agreed one)
+  idle-agreed (inr two) = inr (record { one = lacks-agreed two.one; other = lacks-agreed two.other; apart = two.apart })
+
+-- and fewer members may be spoken of
+module _ (s : StructureForm) (a : Assignment) (ms : List MemberForm) (Those Others : MemberForm → Type 0)
+    (weaker : (m : MemberForm) → Those m → Others m) where
+  abbrev pub lacks-weaker : Lacks Those s a ms → Lacks Others s a ms
+  lacks-weaker one = record {
+    number = one.number;
+    member = one.member;
+    there = one.there;
+    those = weaker one.member one.those;
+    lacks = one.lacks;
+  }
+
+  pub idle-weaker : IsIdle Those s a ms → IsIdle Others s a ms
+  idle-weaker (inl one) = inl (record {
+    number = one.number;
+    member = one.member;
+    there = one.there;
+    those = weaker one.member one.those;
+    bars = one.bars;
+  })
+  idle-weaker (inr two) = inr (record { one = lacks-weaker two.one; other = lacks-weaker two.other; apart = two.apart })
+
+-- ---- where nothing is asked for
+
+-- what a head denies is a literal, or always Yes
+denied-literal : (s : LogicalStructure) (a : Assignment) (head : HeadForm) → is_literal (negated_head head) ≡ false
+    → value s a (negated_head head) ≡ Yes
+denied-literal s a HNever e = refl
+denied-literal s a (HAtom true pred vars) e = absurd (cc e)
+denied-literal s a (HAtom false pred vars) e = absurd (cc e)
+denied-literal s a (HSame true v w) e = absurd (cc e)
+denied-literal s a (HSame false v w) e = absurd (cc e)
+
+module _ (trial : Trial) (is : IsTrial trial) (n : ℕ) (kin : IsKin trial.closed.now trial.number n) (b : Assignment)
+    (body : value (structure_of trial.structure.now) b (rule_at trial.closed.now n).body ≡ Yes) where
+  -- where the body is Yes all members are but the one that the head denies
+  pub other-yes : (k : ℕ) (m : MemberForm) → slice_get (members_in trial) k ≡ Some m → k ≢ skip_of trial.closed.now n
+      → value (structure_of trial.structure.now) b m.form ≡ Yes
+  other-yes k m there ne =
+      All-contains (λ g. value (structure_of trial.structure.now) b g ≡ Yes) (conjuncts (rule_at trial.closed.now n).body) m.form
+      (((conjuncts_carry_formulas (rule_at trial.closed.now n).body).yes (structure_of trial.structure.now) b).0 body)
+      (conjunct-in trial.shape.now (skip_of trial.closed.now n) (rule_at trial.closed.now n) (is.kin n kin).but k m there ne)
+
+  barred : (m : MemberForm) (k : ℕ) → slice_get (members_in trial) k ≡ Some m → IsBarring trial.structure.now b m
+      → (k ≡ skip_of trial.closed.now n) ⊎ (k ≢ skip_of trial.closed.now n)
+      → IsHeadMet (structure_of trial.structure.now) b (rule_at trial.closed.now n).head
+  barred m k there (inl none) (inl here) =
+      inl (denied-no (structure_of trial.structure.now) b (rule_at trial.closed.now n).head
+      (subst (λ g. value (structure_of trial.structure.now) b g ≡ No)
+      (denied-is trial.shape.now (skip_of trial.closed.now n) (rule_at trial.closed.now n) (is.kin n kin).but k m there here) none))
+  barred m k there (inr other) (inl here) =
+      let is-denied : m.form ≡ negated_head (rule_at trial.closed.now n).head
+      = denied-is trial.shape.now (skip_of trial.closed.now n) (rule_at trial.closed.now n) (is.kin n kin).but k m there here
+      in absurd (other.1 (subst (λ g. value (structure_of trial.structure.now) b g ≡ Yes) (sym is-denied)
+      (denied-literal (structure_of trial.structure.now) b (rule_at trial.closed.now n).head (ap is_literal (sym is-denied) ∙ other.0))))
+  barred m k there (inl none) (inr ne) = let clash : No ≡ Yes = sym none ∙ other-yes k m there ne in absurd (cc)
+  barred m k there (inr other) (inr ne) = absurd (other.1 (other-yes k m there ne))
+
+  pub idle-met : (Those : MemberForm → Type 0) → IsIdle Those trial.structure.now b (members_in trial)
+      → IsHeadMet (structure_of trial.structure.now) b (rule_at trial.closed.now n).head
+  idle-met Those (inl one) = barred one.member one.number one.there one.bars (cases_eq one.number (skip_of trial.closed.now n))
+  idle-met Those (inr two) =
+      ⊎_elim
+      (λ here. absurd (two.other.lacks (other-yes two.other.number two.other.member two.other.there
+      (λ there. two.apart (here ∙ sym there)))))
+      (λ ne. absurd (two.one.lacks (other-yes two.one.number two.one.member two.one.there ne)))
+      (cases_eq two.one.number (skip_of trial.closed.now n))
 
 contained-all : {X : Type 0} (P : X → Type 0) (xs : List X) → ((x : X) → Contains xs x → P x) → All P xs
 contained-all P xs each k d within = each (get_or xs k d) (k, within, get_or_default xs k (get_or xs k d) d within)
@@ -180,24 +268,41 @@ form-back ms k g found = at (slice_get ms k) refl
     at (Some m) e =
         (m, e, same_Some m.form g (sym (slice_get-map (λ (x : MemberForm). x.form) ms k ∙ ap (option_map (λ (x : MemberForm). x.form)) e) ∙ found))
 
--- where all members pass, the body is Yes
-pub passed-yes : (trial : Trial) → IsTrial trial → (b : Assignment)
-    → ((k : ℕ) (m : MemberForm) → slice_get (members_in trial) k ≡ Some m → Passes trial.structure.now b trial.waits.skip k m)
-    → value (structure_of trial.structure.now) b (trial_rule trial).body ≡ Yes
-passed-yes trial is b each = ((conjuncts_carry_formulas (trial_rule trial).body).yes s b).1 yes
+-- where all members but the denied one are Yes, the body is
+pub others-yes : (trial : Trial) (is : IsTrial trial) (n : ℕ) (kin : IsKin trial.closed.now trial.number n) (b : Assignment)
+    → AreOthersYes trial.structure.now b (skip_of trial.closed.now n) (members_in trial)
+    → value (structure_of trial.structure.now) b (rule_at trial.closed.now n).body ≡ Yes
+others-yes trial is n kin b each = ((conjuncts_carry_formulas (rule_at trial.closed.now n).body).yes s b).1 yes
   where
     s : LogicalStructure
     s = structure_of trial.structure.now
 
-    forms : List Form
-    forms = map (λ (x : MemberForm). x.form) (members_in trial)
-
-    yes : All (λ g. value s b g ≡ Yes) (conjuncts (trial_rule trial).body)
-    yes = contained-all (λ g. value s b g ≡ Yes) (conjuncts (trial_rule trial).body)
-        (λ g at. let found : (k : ℕ) × (k ≢ trial.waits.skip) × (slice_get forms k ≡ Some g) = (is.waits.but.others g).0 at
+    yes : All (λ g. value s b g ≡ Yes) (conjuncts (rule_at trial.closed.now n).body)
+    yes = contained-all (λ g. value s b g ≡ Yes) (conjuncts (rule_at trial.closed.now n).body)
+        (λ g at. let found : (k : ℕ) × (k ≢ skip_of trial.closed.now n) × (slice_get (forms_in trial.shape.now) k ≡ Some g)
+        = ((is.kin n kin).but.others g).0 at
         in let member : (m : MemberForm) × (slice_get (members_in trial) found.0 ≡ Some m) × (m.form ≡ g)
         = form-back (members_in trial) found.0 g found.2
-        in subst (λ h. value s b h ≡ Yes) member.2 ((each found.0 member.0 member.1).yes found.1))
+        in subst (λ h. value s b h ≡ Yes) member.2 (each found.0 member.0 member.1 found.1))
+
+negated-yes : (x : K3) → negation_of x ≡ Yes → x ≡ No
+negated-yes No e = refl
+negated-yes Half e = absurd (cc e)
+negated-yes Yes e = absurd (cc e)
+
+denied-yes : (s : LogicalStructure) (a : Assignment) (head : HeadForm) → value s a (negated_head head) ≡ Yes
+    → value s a (head_formula head) ≡ No
+denied-yes s a HNever e = refl
+denied-yes s a (HAtom true pred vars) e = negated-yes (value s a (FAtom pred vars)) e
+denied-yes s a (HAtom false pred vars) e = ap negation_of e
+denied-yes s a (HSame true v w) e = negated-yes (value s a (FSame v w)) e
+denied-yes s a (HSame false v w) e = ap negation_of e
+
+-- a head whose negation is Yes isn't met
+pub denied-unmet : (s : LogicalStructure) (a : Assignment) (head : HeadForm) → value s a (negated_head head) ≡ Yes
+    → ¬ IsHeadMet s a head
+denied-unmet s a head is (inl met) = let clash : No ≡ Yes = sym (denied-yes s a head is) ∙ met in absurd (cc)
+denied-unmet s a head is (inr may) = let clash : No ≡ Half = sym (denied-yes s a head is) ∙ may.half in absurd (cc)
 
 -- ---- which variables a member waits for
 
@@ -218,7 +323,7 @@ left-on trial v rest left = (left.0 ++ v ∷ [], left.1 ∙ sym (append_assoc le
 module _ (trial : Trial) (is : IsTrial trial) (rest : List ℕ) (left : AreLeft trial rest) where
   pub left-free : (x : ℕ) → Contains (rest ++ trial.last.0 ∷ []) x → IsFreeInRule x (trial_rule trial)
   left-free x at =
-      (is.waits.free x).0 (subst (λ xs. Contains xs x) (sym left.1) (Contains-append_right left.0 (rest ++ trial.last.0 ∷ []) x at))
+      ((own-tried trial is).free x).0 (subst (λ xs. Contains xs x) (sym left.1) (Contains-append_right left.0 (rest ++ trial.last.0 ∷ []) x at))
 
   pub last-free : IsFreeInRule trial.last.0 (trial_rule trial)
   last-free = left-free trial.last.0 (Contains-append_right rest (trial.last.0 ∷ []) trial.last.0 (0, omega arith, refl))
@@ -226,7 +331,7 @@ module _ (trial : Trial) (is : IsTrial trial) (rest : List ℕ) (left : AreLeft 
   module _ (k : ℕ) (m : MemberForm) (there : slice_get (members_in trial) k ≡ Some m) where
     pub left-placed : IsPlaced (left.0 ++ rest) trial.last.0 m
     left-placed =
-        (All-contains (IsPlacedIn (variables_in trial)) (members_in trial) m is.waits.laid.placed
+        (All-contains (IsPlacedIn (variables_in trial)) (members_in trial) m is.laid.placed
         (slice_get-contains (members_in trial) k m there)).placed (left.0 ++ rest) trial.last.0
         (left.1 ∙ sym (append_assoc left.0 rest (trial.last.0 ∷ [])))
 
@@ -245,16 +350,16 @@ module _ (trial : Trial) (is : IsTrial trial) (rest : List ℕ) (left : AreLeft 
 -- ---- the steps of a level
 
 module _ (trial : Trial) (is : IsTrial trial) (rest : List ℕ) (left : AreLeft trial rest) where
-  levels : AreLevels (members_in trial) (1 + length (left.0 ++ rest)) trial.waits.shape.now.levels
-  levels = is.waits.laid.levels (left.0 ++ rest) trial.last.0 (left.1 ∙ sym (append_assoc left.0 rest (trial.last.0 ∷ [])))
+  levels : AreLevels (members_in trial) (1 + length (left.0 ++ rest)) trial.shape.now.levels
+  levels = is.laid.levels (left.0 ++ rest) trial.last.0 (left.1 ∙ sym (append_assoc left.0 rest (trial.last.0 ∷ [])))
 
-  pub level-there : length rest < length trial.waits.shape.now.levels
+  pub level-there : length rest < length trial.shape.now.levels
   level-there = omega (arith, levels.long, length-append left.0 rest)
 
-  pub level-own : (l : Level) → slice_get trial.waits.shape.now.levels (length rest) ≡ Some l → AreSteps (members_in trial) (length rest) false l.own
+  pub level-own : (l : Level) → slice_get trial.shape.now.levels (length rest) ≡ Some l → AreSteps (members_in trial) (length rest) false l.own
   level-own l found = (levels.each (length rest) l found).0
 
-  pub level-last : (l : Level) → slice_get trial.waits.shape.now.levels (length rest) ≡ Some l → AreSteps (members_in trial) (length rest) true l.last
+  pub level-last : (l : Level) → slice_get trial.shape.now.levels (length rest) ≡ Some l → AreSteps (members_in trial) (length rest) true l.last
   level-last l found = (levels.each (length rest) l found).1
 
 some-and : {X : Type 0} (o : Option X) (P : X → Type 0) → IsSomeAnd o P → (x : X) × (o ≡ Some x) × P x
@@ -263,8 +368,7 @@ some-and (Some x) P holds = (x, refl, holds)
 
 -- the member of a step
 abbrev StepOf : List MemberForm → (left : ℕ) → (last : Bool) → Step → Type 0
-StepOf ms left last st =
-    (m : MemberForm) × (slice_get ms st.member ≡ Some m) × ((m.left ≡ left) × (m.last ≡ last) × (m.reading ≡ st.reading))
+StepOf ms left last st = (m : MemberForm) × (slice_get ms st.member ≡ Some m) × IsSteppedBy left last st m
 
 module _ (trial : Trial) (is : IsTrial trial) (room : ScratchForm) (can : CanTry (trial_rule trial) trial.structure.now room)
     (rest : List ℕ) (places : List (Option ℕ)) (steps : List Step) where
@@ -274,13 +378,14 @@ module _ (trial : Trial) (is : IsTrial trial) (room : ScratchForm) (can : CanTry
   read-own v left placed are k d within =
       let found : StepOf (members_in trial) (length rest) false (get_or steps k d)
       = some-and (slice_get (members_in trial) (get_or steps k d).member)
-      (λ m. (m.left ≡ length rest) × (m.last ≡ false) × (m.reading ≡ (get_or steps k d).reading)) (are.each k d within)
+      (IsSteppedBy (length rest) false (get_or steps k d)) (are.each k d within)
       in let m : MemberForm = found.0
       in let number : ℕ = (get_or steps k d).member
       in let on : AreLeft trial rest = left-on trial v rest left
       in record {
         member = m;
         there = found.1;
+        literal = found.2.3;
         formula = (
           rule-variable (arities_of trial.structure.now) (trial_rule trial) can.over v
               (left-free trial is (v ∷ rest) left v (0, omega arith, refl)),
@@ -298,12 +403,13 @@ module _ (trial : Trial) (is : IsTrial trial) (room : ScratchForm) (can : CanTry
   read-last left placed are k d within =
       let found : StepOf (members_in trial) (length rest) true (get_or steps k d)
       = some-and (slice_get (members_in trial) (get_or steps k d).member)
-      (λ m. (m.left ≡ length rest) × (m.last ≡ true) × (m.reading ≡ (get_or steps k d).reading)) (are.each k d within)
+      (IsSteppedBy (length rest) true (get_or steps k d)) (are.each k d within)
       in let m : MemberForm = found.0
       in let number : ℕ = (get_or steps k d).member
       in record {
         member = m;
         there = found.1;
+        literal = found.2.3;
         formula = (
           rule-variable (arities_of trial.structure.now) (trial_rule trial) can.over trial.last.0 (last-free trial is rest left),
           member-over trial is number m found.1 room can,
@@ -323,11 +429,12 @@ pub test-free : (trial : Trial) → IsTrial trial → (room : ScratchForm) → C
 test-free trial is room can left last places steps are none k d within =
     let found : StepOf (members_in trial) left last (get_or steps k d)
     = some-and (slice_get (members_in trial) (get_or steps k d).member)
-    (λ m. (m.left ≡ left) × (m.last ≡ last) × (m.reading ≡ (get_or steps k d).reading)) (are.each k d within)
+    (IsSteppedBy left last (get_or steps k d)) (are.each k d within)
     in let number : ℕ = (get_or steps k d).member
     in record {
       member = found.0;
       there = found.1;
+      literal = found.2.3;
       formula = member-over trial is number found.0 found.1 room can;
       assigned = λ x free. absurd (none number found.0 found.1 found.2.0 found.2.1 x free);
       fits = member-fits trial is number found.0 found.1 room can;
@@ -339,7 +446,7 @@ test-free trial is room can left last places steps are none k d within =
 pub none-free : (trial : Trial) → IsTrial trial → variables_in trial ≡ [] → (k : ℕ) (m : MemberForm) → slice_get (members_in trial) k ≡ Some m
     → (x : ℕ) → ¬ IsFree x m.form
 none-free trial is none k m there x free =
-    Contains-none x (subst (λ xs. Contains xs x) none ((is.waits.free x).1 (member-free trial is k m there x free)))
+    Contains-none x (subst (λ xs. Contains xs x) none (((own-tried trial is).free x).1 (member-free trial is k m there x free)))
 
 -- of any rule, those that wait for none
 pub own-none : (trial : Trial) → IsTrial trial → (before : List ℕ) (w : ℕ) → variables_in trial ≡ before ++ w ∷ []
@@ -347,9 +454,9 @@ pub own-none : (trial : Trial) → IsTrial trial → (before : List ℕ) (w : �
 own-none trial is before w vars k m there enough apart x free =
     ⊎_elim (λ has. not-waiting before m placed.waits enough x has free)
     (λ e. placed.apart apart (subst (λ y. IsFree y m.form) e free))
-    (pushed-cases before w x (subst (λ xs. Contains xs x) vars ((is.waits.free x).1 (member-free trial is k m there x free))))
+    (pushed-cases before w x (subst (λ xs. Contains xs x) vars (((own-tried trial is).free x).1 (member-free trial is k m there x free))))
   where
     placed : IsPlaced before w m
     placed =
-        (All-contains (IsPlacedIn (variables_in trial)) (members_in trial) m is.waits.laid.placed
+        (All-contains (IsPlacedIn (variables_in trial)) (members_in trial) m is.laid.placed
         (slice_get-contains (members_in trial) k m there)).placed before w vars

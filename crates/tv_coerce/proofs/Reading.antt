@@ -4,7 +4,8 @@ use Rattle.std.proofs.Common.{◌∷◌}
 use Rattle.std.proofs.Common.{length, get_or, Option, Some, slice_get, refl, sym, ap, subst, ◌∙◌, arith}
 use Rattle.std.specs.Prelude.{option_map}
 use Rattle.std.proofs.lemmas.List.{length-map}
-use Rattle.std.proofs.lemmas.Option.{same_Some, slice_get-map, slice_get_read, slice_get_within}
+use Rattle.std.proofs.lemmas.Option.{same_Some, slice_get-get_or, slice_get-map, slice_get_read}
+use Rattle.std.proofs.lemmas.Option.{slice_get_within}
 use Rattle.tv_kleene.specs.declared.K3.{K3}
 use Rattle.tv_kleene.specs.declared.K3.TheVariants.{No}
 use Rattle.tv_model.specs.Form.{Form, FAtom, FSame, FExists, IsFree}
@@ -19,7 +20,7 @@ use Rattle.tv_eval.specs.Formulas.{AreAssigned}
 use Rattle.tv_eval.proofs.AlongLaws.{atom_one, atom_two, put_same, put_other, same_two, same_turned}
 use Rattle.tv_eval.proofs.AlongWords.{same-word}
 use Rattle.tv_struct.specs.StructureForm.{StructureForm, structure_of, value_at}
-use Rattle.tv_coerce.specs.Passing.{signed_value}
+use Rattle.tv_coerce.specs.Counting.{signed_value}
 use Rattle.tv_coerce.proofs.Heads.{placed}
 
 -- ---- the member of a step
@@ -35,6 +36,12 @@ indexed-member xs ms k x m same is there =
     in let found : slice_get ms k ≡ Some x
     = ap (λ ys. slice_get ys k) (sym same) ∙ slice_get_read xs (length xs) k x refl within is
     in ap member_of (sym is) ∙ same_Some (member_of x) m (sym (slice_get-map member_of ms k ∙ ap (option_map member_of) found) ∙ there)
+
+-- the member at a number, as it is read
+pub member-at : (xs ms : List Member) (k : ℕ) (x : Member) → xs ≡ ms → k < length xs
+    → slice_get (members_of ms) k ≡ Some (member_of (get_or xs k x))
+member-at xs ms k x same within =
+    slice_get-map member_of ms k ∙ ap (option_map member_of) (ap (λ ys. slice_get ys k) (sym same) ∙ slice_get-get_or xs k x within)
 
 -- ---- a literal, which may be negated
 

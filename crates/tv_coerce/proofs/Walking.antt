@@ -1,25 +1,22 @@
 -- Trying a rule, variable by variable.
 use Rattle.std.proofs.Common.{ℕ, ◌≡◌, ◌≢◌, ◌<◌, ◌≤◌, ◌+◌, ◌-◌, ◌*◌, ◌⊎◌, ◌==◌, if◌then◌else◌, inl, inr}
 use Rattle.std.proofs.Common.{⊎_elim}
-use Rattle.std.proofs.Common.{suc, Bool, true, false, cond, ltb, min}
+use Rattle.std.proofs.Common.{zero, suc, Bool, true, false, cond, ltb, min}
 use Rattle.std.proofs.Common.{List, [], ◌∷◌, ◌++◌, length, take, drop, get_or, replicate, Option, Some, refl}
 use Rattle.std.proofs.Common.{sym, ap}
 use Rattle.std.proofs.Common.{subst, ◌∙◌, arith}
 use Rattle.std.specs.Prelude.{All, Contains, IsSomeAnd, slice_get, unwrap_or}
 use Rattle.std.specs.List.{range_with_len}
-use Rattle.std.specs.declared.vec.Vec.{Vec}
-use Rattle.std.specs.declared.alloc.Global.{Global}
-use Rattle.std.proofs.lemmas.Bool.{cases_Bool, cases_eq, cases_lt, cond-true, cond-false, eq-eqb, ne_eqb}
+use Rattle.std.proofs.lemmas.Bool.{cases_eq, cases_lt, cond-true, cond-false, eq-eqb, ne_eqb}
 use Rattle.std.proofs.lemmas.Bool.{lt-ltb, le-ltb}
 use Rattle.std.proofs.lemmas.List.Elements.{All-nil, All-push}
 use Rattle.std.proofs.lemmas.List.{get_or-replicate, length-append, length-replicate}
-use Rattle.std.proofs.lemmas.Option.{slice_get-get_or}
+use Rattle.std.proofs.lemmas.Option.{same_Some, slice_get-get_or}
 use Rattle.tv_kleene.specs.declared.K3.{K3}
 use Rattle.tv_kleene.specs.declared.K3.TheVariants.{No, Half, Yes}
-use Rattle.tv_kleene.specs.Kleene.{LiesUnder}
-use Rattle.tv_row.specs.Bits.{greatest_in, padded}
-use Rattle.tv_row.proofs.WordOps.{get_or-padded, length-padded}
-use Rattle.tv_row.proofs.WordMore.{greatest_yes}
+use Rattle.tv_kleene.specs.Kleene.{LiesUnder, larger_of}
+use Rattle.tv_row.specs.Bits.{greatest_in, padded, paired}
+use Rattle.tv_row.proofs.WordOps.{get_or-padded, get_or-paired, length-padded, length-paired}
 use Rattle.tv_model.specs.Form.{FOne, IsFree}
 use Rattle.tv_model.specs.Program.{HeadForm, HNever, HAtom, HSame, RuleForm}
 use Rattle.tv_model.specs.Rules.{IsFreeInRule, IsInHead, IsOfIndividuals, head_formula}
@@ -44,22 +41,29 @@ use Rattle.tv_eval.specs.ScratchForm.{ScratchForm}
 use Rattle.tv_eval.specs.declared.evaluator.Evaluator.{Evaluator}
 use Rattle.tv_struct.specs.StructureForm.{StructureForm, structure_of}
 use Rattle.tv_struct.proofs.Library.{Contains-range, below-range}
-use Rattle.tv_coerce.specs.Passing.{AreLeft, IsNarrowed, IsWalkStart, Passes, PassesAt, StopsAt, members_in}
-use Rattle.tv_coerce.specs.Passing.{variables_in}
+use Rattle.tv_rules.specs.Kin.{IsKin}
+use Rattle.tv_coerce.specs.Counting.{AreLeft, CountTells, IsAt, IsCounted, IsFrom, IsIdle, IsWalkStart, Lacks}
+use Rattle.tv_coerce.specs.Counting.{counted}
+use Rattle.tv_coerce.specs.Counting.{members_in, variables_in}
+use Rattle.tv_coerce.specs.declared.finding.Found.{Found}
+use Rattle.tv_coerce.specs.declared.noted.Noted.{Noted}
 use Rattle.tv_coerce.specs.Ready.{CanCoerce}
-use Rattle.tv_coerce.specs.Trying.{ArePlaced, CanTry, DifferOnlyAt, GoesOn, IsForced, IsHopeless, IsNeed}
-use Rattle.tv_coerce.specs.Trying.{IsNoted, IsTold, IsTrial}
-use Rattle.tv_coerce.specs.Trying.{IsTrialResult, StaysBound, answer_of, rule_at, trial_rule}
-use Rattle.tv_coerce.specs.Walks.{GoesOnIn, IsAny, IsBetween, IsInChunk, IsTriedFor}
+use Rattle.tv_coerce.specs.Trying.{AreForced, AreNoted, ArePlaced, CanTry, DifferOnlyAt, GoesOn, IsAdded}
+use Rattle.tv_coerce.specs.Trying.{IsForced}
+use Rattle.tv_coerce.specs.Trying.{IsFound, IsHopeless, IsNeed, IsNotedOf, IsTold, IsTrial}
+use Rattle.tv_coerce.specs.Trying.{StaysBound, rule_at, trial_rule}
+use Rattle.tv_coerce.specs.Walks.{AreMet, AreTriedFor, GoesOnIn, IsAny, IsBetween, IsInChunk, IsTriedFor}
 use Rattle.tv_coerce.specs.declared.trial.Outcome.{Outcome}
 use Rattle.tv_coerce.specs.declared.trial.Outcome.TheVariants.{Possible, Impossible}
 use Rattle.tv_coerce.specs.declared.trial.Trial.{Trial}
 use Rattle.tv_coerce.specs.declared.change.Change.{Change}
 use Rattle.tv_coerce.specs.declared.change.Need.TheVariants.{Never, Put}
 use Rattle.tv_coerce.proofs.Heads.{placed}
-use Rattle.tv_coerce.proofs.Placing.{left-free, last-free, left-on, left-out, left-placed, member-free}
-use Rattle.tv_coerce.proofs.Placing.{own-out, passed-yes}
-use Rattle.tv_coerce.proofs.Placing.{passes-agreed, stopped, stops-agreed}
+use Rattle.tv_coerce.proofs.Counts.{counted-half, counted-no, counted-some}
+use Rattle.tv_coerce.proofs.Placing.{idle-agreed, idle-met, idle-weaker, kin-free, kin-variable, lacks-agreed}
+use Rattle.tv_coerce.proofs.Placing.{lacks-weaker}
+use Rattle.tv_coerce.proofs.Placing.{last-free, left-free, left-on, left-out, member-free, own-kin, own-out}
+use Rattle.tv_coerce.proofs.Placing.{own-tried}
 
 -- ---- where all variables are placed
 
@@ -125,60 +129,91 @@ none-less : {X : Type 0} (xs ys : List X) → length xs ≤ length ys → ys ≡
 none-less [] ys grows none = refl
 none-less (x ∷ xs) ys grows none = absurd (omega (arith, grows, ap length none))
 
-module _ (s : StructureForm) (rule : RuleForm) where
-  pub told-tried : (Tried : Type 0) (changes : List Change) → Tried → IsTold s rule Tried changes changes Possible
-  told-tried Tried changes tried = record { forced = λ all. all; grows = omega arith; tells = λ none. tried }
-
-  pub noted-told : (places : List (Option ℕ)) (old new : List Change) (outcome : Outcome) → IsPlainRule rule
-      → ArePlaced s.size rule [] places → value (structure_of s) (assignment_of places) rule.body ≡ Yes
-      → IsNoted s (assignment_of places) rule.head old new outcome
-      → IsTold s rule (IsHeadMet (structure_of s) (assignment_of places) rule.head) old new outcome
-  noted-told places old new Possible plain at body (inl (same, met)) =
-      subst (λ n. IsTold s rule (IsHeadMet (structure_of s) (assignment_of places) rule.head) old n Possible) (sym same)
-      (told-tried (IsHeadMet (structure_of s) (assignment_of places) rule.head) old met)
-  noted-told places old new Possible plain at body (inr (c, inr (same, some), need)) = record {
-    forced = subst (All (IsForced s rule)) (sym same);
-    grows = rw same (omega arith);
-    tells = λ none. absurd (some (sym same ∙ none));
-  }
-  noted-told places old new Possible plain at body (inr (c, inl more, need)) =
-      subst (λ n. IsTold s rule (IsHeadMet (structure_of s) (assignment_of places) rule.head) old n Possible) (sym more) (record {
-        forced = λ all. All-push (IsForced s rule) old c all (forced-here s rule places plain at body c need);
-        grows = rw (length-append old (c ∷ [])) (omega arith);
-        tells = λ none. absurd (omega (arith, ap length none, length-append old (c ∷ [])));
-      })
-  noted-told places old new Impossible plain at body (same, never) = record {
-    forced = subst (All (IsForced s rule)) (sym same);
-    grows = rw same (omega arith);
-    tells = hopeless-here s rule places plain at body never;
-  }
+module _ (trial : Trial) where
+  pub told-tried : (Tried : Type 0) (noted : Noted) → Tried → IsTold trial Tried noted noted Possible
+  told-tried Tried noted tried = record { forced = λ all. all; grows = omega arith; tells = λ none. tried }
 
   module _ (P Q : Type 0) where
-    pub told-so : (old new : List Change) (outcome : Outcome) → (P → Q) → IsTold s rule P old new outcome → IsTold s rule Q old new outcome
+    pub told-so : (old new : Noted) (outcome : Outcome) → (P → Q) → IsTold trial P old new outcome → IsTold trial Q old new outcome
     told-so old new Possible turn told = record { forced = told.forced; grows = told.grows; tells = λ none. turn (told.tells none) }
     told-so old new Impossible turn told = record { forced = told.forced; grows = told.grows; tells = told.tells }
 
-    module _ (R : Type 0) (old mid new : List Change) (so_far : IsTold s rule P old mid Possible) where
-      pub told-both : (P → Q → R) → IsTold s rule Q mid new Possible → IsTold s rule R old new Possible
+    module _ (R : Type 0) (old mid new : Noted) (so_far : IsTold trial P old mid Possible) where
+      pub told-both : (P → Q → R) → IsTold trial Q mid new Possible → IsTold trial R old new Possible
       told-both both told = record {
         forced = λ all. told.forced (so_far.forced all);
         grows = omega (arith, so_far.grows, told.grows);
-        tells = λ none. both (so_far.tells (none-less mid new told.grows none)) (told.tells none);
+        tells = λ none. both (so_far.tells (none-less mid.list.items new.list.items told.grows none)) (told.tells none);
       }
 
-      pub told-some : new ≢ [] → IsTold s rule Q mid new Possible → IsTold s rule R old new Possible
+      pub told-some : new.list.items ≢ [] → IsTold trial Q mid new Possible → IsTold trial R old new Possible
       told-some some told = record {
         forced = λ all. told.forced (so_far.forced all);
         grows = omega (arith, so_far.grows, told.grows);
         tells = λ none. absurd (some none);
       }
 
-      pub told-never : IsTold s rule Q mid new Impossible → IsTold s rule R old new Impossible
+      pub told-never : IsTold trial Q mid new Impossible → IsTold trial R old new Impossible
       told-never told = record {
         forced = λ all. told.forced (so_far.forced all);
         grows = omega (arith, so_far.grows, told.grows);
         tells = told.tells;
       }
+
+  -- what one rule asks for under an assignment
+  module _ (n : ℕ) (kin : IsKin trial.closed.now trial.number n) (places : List (Option ℕ))
+      (plain : IsPlainRule (rule_at trial.closed.now n))
+      (at : ArePlaced trial.structure.now.size (rule_at trial.closed.now n) [] places)
+      (body : value (structure_of trial.structure.now) (assignment_of places) (rule_at trial.closed.now n).body ≡ Yes) where
+    added-forced : (c : Change) (old new : Noted) → IsNeed trial.structure.now (assignment_of places) (rule_at trial.closed.now n).head (Put c)
+        → IsAdded c n old new → AreNoted trial old → AreNoted trial new
+    added-forced c old new need (inl (list, number, before)) all = record {
+      kin = λ some. subst (IsKin trial.closed.now trial.number) (sym number) kin;
+      forced = subst (λ m. All (IsForced trial.structure.now (rule_at trial.closed.now m)) new.list.items) (sym number)
+          (subst (All (IsForced trial.structure.now (rule_at trial.closed.now n))) (sym list)
+          (All-push (IsForced trial.structure.now (rule_at trial.closed.now n)) old.list.items c (was before)
+          (forced-here trial.structure.now (rule_at trial.closed.now n) places plain at body c need)));
+    }
+      where
+        was : (old.list.items ≡ []) ⊎ (old.number ≡ n) → All (IsForced trial.structure.now (rule_at trial.closed.now n)) old.list.items
+        was (inl none) =
+            subst (All (IsForced trial.structure.now (rule_at trial.closed.now n))) (sym none)
+            (All-nil (IsForced trial.structure.now (rule_at trial.closed.now n)))
+        was (inr same) = subst (λ m. All (IsForced trial.structure.now (rule_at trial.closed.now m)) old.list.items) same all.forced
+    added-forced c old new need (inr (list, number, some)) all = record {
+      kin = λ there. subst (IsKin trial.closed.now trial.number) (sym number) (all.kin some);
+      forced = subst (λ m. All (IsForced trial.structure.now (rule_at trial.closed.now m)) new.list.items) (sym number)
+          (subst (All (IsForced trial.structure.now (rule_at trial.closed.now old.number))) (sym list) all.forced);
+    }
+
+    added-some : (c : Change) (old new : Noted) → IsAdded c n old new
+        → (length old.list.items ≤ length new.list.items) × (new.list.items ≢ [])
+    added-some c old new (inl (list, number, before)) = (
+      omega (arith, ap length list, length-append old.list.items (c ∷ [])),
+      λ none. absurd (omega (arith, ap length none, ap length list, length-append old.list.items (c ∷ []))),
+    )
+    added-some c old new (inr (list, number, some)) = (omega (arith, ap length list), λ none. some (sym list ∙ none))
+
+    pub noted-told : (Tried : Type 0) (old new : Noted) (outcome : Outcome)
+        → (IsHeadMet (structure_of trial.structure.now) (assignment_of places) (rule_at trial.closed.now n).head → Tried)
+        → IsNotedOf trial.structure.now (assignment_of places) n (rule_at trial.closed.now n).head old new outcome
+        → IsTold trial Tried old new outcome
+    noted-told Tried old new Possible turn (inl (same, met)) =
+        subst (λ m. IsTold trial Tried old m Possible) (sym same) (told-tried Tried old (turn met))
+    noted-told Tried old new Possible turn (inr (c, added, need)) = record {
+      forced = added-forced c old new need added;
+      grows = (added-some c old new added).0;
+      tells = λ none. absurd ((added-some c old new added).1 none);
+    }
+    noted-told Tried old new Impossible turn (same, never) = record {
+      forced = subst (AreNoted trial) (sym same);
+      grows = rw same (omega arith);
+      tells = record {
+        hopeless = n;
+        kin = kin;
+        is = hopeless-here trial.structure.now (rule_at trial.closed.now n) places plain at body never;
+      };
+    }
 
 -- ---- one variable more
 
@@ -246,45 +281,84 @@ put-from a b w j x e other = at (cases_eq x w)
 
 -- ---- words
 
-yes-or-not : (x : K3) → (x ≡ Yes) ⊎ (x ≢ Yes)
-yes-or-not No = inr (λ e. absurd (cc e))
-yes-or-not Half = inr (λ e. absurd (cc e))
-yes-or-not Yes = inl refl
+no-or-not : (x : K3) → (x ≡ No) ⊎ (x ≢ No)
+no-or-not No = inl refl
+no-or-not Half = inr (λ e. absurd (cc e))
+no-or-not Yes = inr (λ e. absurd (cc e))
 
-pub none-yes : (word : List K3) → greatest_in word ≢ Yes → (i : ℕ) → get_or word i No ≢ Yes
-none-yes word none i e = none (greatest_yes word i e)
+larger-no : (x y : K3) → larger_of x y ≡ No → (x ≡ No) × (y ≡ No)
+larger-no No y e = (refl, e)
+larger-no Half No e = absurd (cc e)
+larger-no Half Half e = absurd (cc e)
+larger-no Half Yes e = absurd (cc e)
+larger-no Yes y e = absurd (cc e)
 
--- the word of all individuals
-pub record IsAll (size chunk : ℕ) (word : List K3) : Type 0 where
+half-of : (k : K3) → k ≢ No → k ≢ Yes → k ≡ Half
+half-of No some other = absurd (some refl)
+half-of Half some other = refl
+half-of Yes some other = absurd (other refl)
+
+-- where the greatest value is No all are
+pub none-some : (word : List K3) → greatest_in word ≡ No → (i : ℕ) → get_or word i No ≡ No
+none-some [] none i = refl
+none-some (k ∷ word) none zero = (larger-no k (greatest_in word) none).0
+none-some (k ∷ word) none (suc i) = none-some word (larger-no k (greatest_in word) none).1 i
+
+-- the word that has the value for all individuals
+pub record IsAll (size chunk : ℕ) (k : K3) (word : List K3) : Type 0 where
   pub long : length word ≡ 64
-  pub within : (i : ℕ) → i < 64 → get_or word i No ≡ Yes → 64 * chunk + i < size
-  pub yes : (i : ℕ) → i < 64 → 64 * chunk + i < size → get_or word i No ≡ Yes
+  pub within : (i : ℕ) → i < 64 → get_or word i No ≢ No → 64 * chunk + i < size
+  pub all : (i : ℕ) → i < 64 → 64 * chunk + i < size → get_or word i No ≡ k
 
-pub all-word : (size chunk count : ℕ) (word : List K3) → count ≡ min 64 (size - 64 * chunk) → 64 * chunk < size
-    → word ≡ padded count (replicate 64 Yes) → IsAll size chunk word
-all-word size chunk count word is some whole = record {
-  long = ap length whole ∙ length-padded count (replicate 64 Yes) few (length-replicate 64 Yes);
-  within = λ i low e. inside i low e (cases_lt i count);
-  yes = λ i low within. value-at i low ∙ cond-true (ltb i count) (get_or (replicate 64 Yes) i No) No
-      (lt-ltb i count (omega (arith, is, low, within))) ∙ get_or-replicate 64 i Yes No low;
+pub all-word : (size chunk count : ℕ) (k : K3) (word : List K3) → count ≡ min 64 (size - 64 * chunk) → 64 * chunk < size
+    → word ≡ padded count (replicate 64 k) → IsAll size chunk k word
+all-word size chunk count k word is some whole = record {
+  long = ap length whole ∙ length-padded count (replicate 64 k) few (length-replicate 64 k);
+  within = λ i low some'. inside i low some' (cases_lt i count);
+  all = λ i low within. value-at i low ∙ cond-true (ltb i count) (get_or (replicate 64 k) i No) No
+      (lt-ltb i count (omega (arith, is, low, within))) ∙ get_or-replicate 64 i k No low;
 }
   where
     few : count ≤ 64
     few = omega (arith, is)
 
-    value-at : (i : ℕ) → i < 64 → get_or word i No ≡ cond (ltb i count) (get_or (replicate 64 Yes) i No) No
-    value-at i low = ap (λ w. get_or w i No) whole ∙ get_or-padded count (replicate 64 Yes) i few (length-replicate 64 Yes) low
+    value-at : (i : ℕ) → i < 64 → get_or word i No ≡ cond (ltb i count) (get_or (replicate 64 k) i No) No
+    value-at i low = ap (λ w. get_or w i No) whole ∙ get_or-padded count (replicate 64 k) i few (length-replicate 64 k) low
 
-    inside : (i : ℕ) → i < 64 → get_or word i No ≡ Yes → (i < count) ⊎ (count ≤ i) → 64 * chunk + i < size
-    inside i low e (inl less) = omega (arith, is, some, less)
-    inside i low e (inr after) =
-        let clash : No ≡ Yes = sym (cond-false (ltb i count) (get_or (replicate 64 Yes) i No) No (le-ltb i count after))
-        ∙ sym (value-at i low) ∙ e
-        in absurd (cc)
+    inside : (i : ℕ) → i < 64 → get_or word i No ≢ No → (i < count) ⊎ (count ≤ i) → 64 * chunk + i < size
+    inside i low some' (inl less) = omega (arith, is, some, less)
+    inside i low some' (inr after) =
+        absurd (some' (value-at i low ∙ cond-false (ltb i count) (get_or (replicate 64 k) i No) No (le-ltb i count after)))
+
+-- a value counted with each of a word
+pub counted-with : (tail : List K3) (k : K3) (word : List K3) → length tail ≡ 64 → word ≡ paired counted tail (padded 64 (replicate 64 k))
+    → (length word ≡ 64) × ((i : ℕ) → i < 64 → get_or word i No ≡ counted (get_or tail i No) k)
+counted-with tail k word long whole = (
+  ap length whole ∙ length-paired counted tail (padded 64 (replicate 64 k)) (long ∙ sym same) ∙ long,
+  λ i low. ap (λ w. get_or w i No) whole
+      ∙ get_or-paired counted tail (padded 64 (replicate 64 k)) i (omega (arith, low, long)) (omega (arith, low, same))
+      ∙ ap (counted (get_or tail i No))
+      (get_or-padded 64 (replicate 64 k) i (omega arith) (length-replicate 64 k) low
+      ∙ cond-true (ltb i 64) (get_or (replicate 64 k) i No) No (lt-ltb i 64 low) ∙ get_or-replicate 64 i k No low),
+)
+  where
+    same : length (padded 64 (replicate 64 k)) ≡ 64
+    same = length-padded 64 (replicate 64 k) (omega arith) (length-replicate 64 k)
 
 -- ---- where a walk begins
 
+abbrev From : ℕ → MemberForm → Type 0
+From left = IsFrom left
+
 module _ (trial : Trial) (is : IsTrial trial) where
+  -- members that were tested tell the same where what they wait for is the same
+  tested-same : (rest : List ℕ) → AreLeft trial rest → (a b : Assignment)
+      → ((x : ℕ) → x ≢ trial.last.0 → ¬ Contains rest x → a x ≡ b x) → (j : ℕ)
+      → (k : ℕ) (m : MemberForm) → slice_get (members_in trial) k ≡ Some m → length rest ≤ m.left
+      → (x : ℕ) → IsFree x m.form → put a trial.last.0 j x ≡ put b trial.last.0 j x
+  tested-same rest left a b same j k m there enough x free =
+      put-both a b trial.last.0 j x (λ ne. same x ne (λ has. left-out trial is rest left k m there enough x has free))
+
   -- what the variables that are left stand for doesn't matter
   pub start-kept : (rest : List ℕ) (old new : List (Option ℕ)) (tail : List K3) → DifferOnlyAt (rest ++ trial.last.0 ∷ []) old new
       → IsWalkStart trial rest old tail → IsWalkStart trial rest new tail
@@ -292,285 +366,369 @@ module _ (trial : Trial) (is : IsTrial trial) where
     left = start.left;
     chunk = start.chunk;
     placed = λ w free none. subst (λ o. IsSomeAnd o (λ x. x < trial.structure.now.size)) (sym (kept w none)) (start.placed w free none);
-    own = λ left enough k m there is-left apart. passes-agreed trial.structure.now (assignment_of old) (assignment_of new) trial.waits.skip k m
-        (λ x free. sym (same x (λ has. own-out trial is rest start.left k m there apart (omega (arith, enough, is-left)) x has free)))
-        (start.own left enough k m there is-left apart);
     long = start.long;
-    yes = λ i low e. (
-      (start.yes i low e).0,
-      λ left enough k m there is-left last'. passes-agreed trial.structure.now (put (assignment_of old) trial.last.0 (64 * trial.chunk + i))
-          (put (assignment_of new) trial.last.0 (64 * trial.chunk + i)) trial.waits.skip k m
-          (λ x free. put-both (assignment_of old) (assignment_of new) trial.last.0 (64 * trial.chunk + i) x
-          (λ ne. sym (same x (apart x ne (λ has. left-out trial is rest start.left k m there (omega (arith, enough, is-left)) x has free)))))
-          ((start.yes i low e).1 left enough k m there is-left last'),
-    );
-    other = λ i low within ne.
-        let found = start.other i low within ne
-        in (
-          found.0,
-          found.1,
-          stops-agreed trial.structure.now (put (assignment_of old) trial.last.0 (64 * trial.chunk + i))
-              (put (assignment_of new) trial.last.0 (64 * trial.chunk + i)) trial.waits.skip found.0 true (members_in trial) found.2
-              (λ x free. put-both (assignment_of old) (assignment_of new) trial.last.0 (64 * trial.chunk + i) x
-              (λ ne'. sym (same x (apart x ne' (λ has. left-out trial is rest start.left found.2.number found.2.member found.2.there
-              (omega (arith, found.1, found.2.at_left)) x has free))))),
-        );
+    within = start.within;
+    idle = λ i low within none. idle-agreed trial.structure.now (put (assignment_of old) trial.last.0 (64 * trial.chunk + i))
+        (put (assignment_of new) trial.last.0 (64 * trial.chunk + i)) (members_in trial) (From (length rest)) (same i) (start.idle i low within none);
+    half = λ i low within is-half. lacks-agreed trial.structure.now (put (assignment_of old) trial.last.0 (64 * trial.chunk + i))
+        (put (assignment_of new) trial.last.0 (64 * trial.chunk + i)) (members_in trial) (From (length rest)) (same i) (start.half i low within is-half);
   }
     where
-      same : (x : ℕ) → ¬ Contains (rest ++ trial.last.0 ∷ []) x → assignment_of new x ≡ assignment_of old x
-      same x none = ap (λ o. unwrap_or o 0) (kept x none)
+      same : (i : ℕ) (k : ℕ) (m : MemberForm) → slice_get (members_in trial) k ≡ Some m → length rest ≤ m.left
+          → (x : ℕ) → IsFree x m.form
+          → put (assignment_of old) trial.last.0 (64 * trial.chunk + i) x ≡ put (assignment_of new) trial.last.0 (64 * trial.chunk + i) x
+      same i =
+          tested-same rest start.left (assignment_of old) (assignment_of new)
+          (λ x ne none. sym (ap (λ o. unwrap_or o 0) (kept x (λ has. ⊎_elim none ne (pushed-cases rest trial.last.0 x has)))))
+          (64 * trial.chunk + i)
 
-      apart : (x : ℕ) → x ≢ trial.last.0 → ¬ Contains rest x → ¬ Contains (rest ++ trial.last.0 ∷ []) x
-      apart x ne none has = ⊎_elim none ne (pushed-cases rest trial.last.0 x has)
+  -- two members of which one is tested before the other are apart
+  apart-left : (one other : MemberForm) (j k : ℕ) → slice_get (members_in trial) j ≡ Some one → slice_get (members_in trial) k ≡ Some other
+      → (Those : MemberForm → Type 0) → Those one → ¬ Those other → j ≢ k
+  apart-left one other j k here there Those is-one is-no same =
+      is-no (subst Those (same_Some one other (sym here ∙ ap (slice_get (members_in trial)) same ∙ there)) is-one)
 
   -- one variable more has its individual, and what can be tested then was
-  module _ (v : ℕ) (rest : List ℕ) (places new : List (Option ℕ)) (tail word : List K3) (u : ℕ)
+  module _ (v : ℕ) (rest : List ℕ) (places new : List (Option ℕ)) (tail begun word : List K3) (u : ℕ) (k : K3)
       (start : IsWalkStart trial (v ∷ rest) places tail) (within : u < trial.structure.now.size)
-      (is-put : IsPut (rest ++ trial.last.0 ∷ []) v u places new) where
+      (is-put : IsPut (rest ++ trial.last.0 ∷ []) v u places new)
+      (some : k ≢ No)
+      (own : k ≡ Half → Lacks (IsAt (length rest) false) trial.structure.now (put (assignment_of places) v u) (members_in trial))
+      (with-own : (length begun ≡ 64) × ((i : ℕ) → i < 64 → get_or begun i No ≡ counted (get_or tail i No) k))
+      (so_far : IsCounted trial.structure.now.size (assignment_of new) trial.last.0 trial.chunk
+      (λ b. Lacks (IsAt (length rest) true) trial.structure.now b (members_in trial))
+      (λ b. IsIdle (IsAt (length rest) true) trial.structure.now b (members_in trial)) begun word) where
+    abbrev s : StructureForm
+    s = trial.structure.now
+
+    abbrev ms : List MemberForm
+    ms = members_in trial
+
+    on : AreLeft trial rest
+    on = left-on trial v rest start.left
+
+    abbrev here : ℕ → Assignment
+    here i = put (assignment_of new) trial.last.0 (64 * trial.chunk + i)
+
     agrees : (x : ℕ) → ¬ Contains (rest ++ trial.last.0 ∷ []) x → assignment_of new x ≡ put (assignment_of places) v u x
     agrees = put-agrees v (rest ++ trial.last.0 ∷ []) u places new is-put
 
-    agrees-apart : (k : ℕ) (m : MemberForm) → slice_get (members_in trial) k ≡ Some m → 1 + length rest ≤ m.left
-        → (x : ℕ) → IsFree x m.form → x ≢ trial.last.0 → assignment_of places x ≡ assignment_of new x
-    agrees-apart k m there enough x free ne =
-        sym (agrees x (λ has. ⊎_elim (λ behind. out (Contains-there v x rest behind)) ne (pushed-cases rest trial.last.0 x has))
-        ∙ put-other (assignment_of places) v u x (λ e. out (0, omega arith, sym e)))
-      where
-        out : Contains (v ∷ rest) x → ⊥
-        out has = left-out trial is (v ∷ rest) start.left k m there (omega (arith, enough)) x has free
+    -- what was tested before v had its individual
+    before-same : (i : ℕ) (j : ℕ) (m : MemberForm) → slice_get ms j ≡ Some m → length (v ∷ rest) ≤ m.left → (x : ℕ) → IsFree x m.form
+        → put (assignment_of places) trial.last.0 (64 * trial.chunk + i) x ≡ here i x
+    before-same i =
+        tested-same (v ∷ rest) start.left (assignment_of places) (assignment_of new)
+        (λ x ne none. sym (agrees x (λ has. ⊎_elim (λ behind. none (Contains-there v x rest behind)) ne (pushed-cases rest trial.last.0 x has))
+        ∙ put-other (assignment_of places) v u x (λ e. none (0, omega arith, sym e))))
+        (64 * trial.chunk + i)
 
-    pub walk-on : PassesAt trial.structure.now (put (assignment_of places) v u) trial.waits.skip (length rest) false (members_in trial)
-        → IsNarrowed trial.structure.now.size (assignment_of new) trial.last.0 trial.chunk
-        (λ b. PassesAt trial.structure.now b trial.waits.skip (length rest) true (members_in trial))
-        (λ b. StopsAt trial.structure.now b trial.waits.skip (length rest) true (members_in trial)) tail word
-        → IsWalkStart trial rest new word
-    walk-on tests narrowed = record {
+    lacks-before : (i : ℕ) → Lacks (From (length (v ∷ rest))) s (put (assignment_of places) trial.last.0 (64 * trial.chunk + i)) ms
+        → Lacks (From (length (v ∷ rest))) s (here i) ms
+    lacks-before i = lacks-agreed s (put (assignment_of places) trial.last.0 (64 * trial.chunk + i)) (here i) ms (From (length (v ∷ rest))) (before-same i)
+
+    -- what was tested of v itself
+    lacks-own : (i : ℕ) → k ≡ Half → Lacks (IsAt (length rest) false) s (here i) ms
+    lacks-own i e =
+        lacks-agreed s (put (assignment_of places) v u) (here i) ms (IsAt (length rest) false)
+        (λ j m there at x free.
+        let out : ¬ Contains (rest ++ trial.last.0 ∷ []) x = λ has. own-out trial is rest on j m there at.1 (omega (arith, at.0)) x has free
+        in sym (put-other (assignment_of new) trial.last.0 (64 * trial.chunk + i) x
+        (λ e'. out (pushed-last rest trial.last.0 x e')) ∙ agrees x out))
+        (own e)
+
+    from-before : (m : MemberForm) → From (length (v ∷ rest)) m → From (length rest) m
+    from-before m enough = omega (arith, enough)
+
+    from-own : (last : Bool) (m : MemberForm) → IsAt (length rest) last m → From (length rest) m
+    from-own last m at = omega (arith, at.0)
+
+    two-before : (i : ℕ) (last : Bool) → Lacks (From (length (v ∷ rest))) s (here i) ms → Lacks (IsAt (length rest) last) s (here i) ms
+        → IsIdle (From (length rest)) s (here i) ms
+    two-before i last one other = inr (record {
+      one = lacks-weaker s (here i) ms (From (length (v ∷ rest))) (From (length rest)) from-before one;
+      other = lacks-weaker s (here i) ms (IsAt (length rest) last) (From (length rest)) (from-own last) other;
+      apart = apart-left one.member other.member one.number other.number one.there other.there (From (length (v ∷ rest))) one.those
+          (λ enough. absurd (omega (arith, enough, other.those.0)));
+    })
+
+    two-own : (i : ℕ) → Lacks (IsAt (length rest) false) s (here i) ms → Lacks (IsAt (length rest) true) s (here i) ms
+        → IsIdle (From (length rest)) s (here i) ms
+    two-own i one other = inr (record {
+      one = lacks-weaker s (here i) ms (IsAt (length rest) false) (From (length rest)) (from-own false) one;
+      other = lacks-weaker s (here i) ms (IsAt (length rest) true) (From (length rest)) (from-own true) other;
+      apart = apart-left one.member other.member one.number other.number one.there other.there (λ m. m.last ≡ false) one.those.1
+          (λ e. let clash : true ≡ false = sym other.those.1 ∙ e in absurd (cc));
+    })
+
+    -- the word to begin with
+    begun-idle : (i : ℕ) → i < 64 → 64 * trial.chunk + i < s.size → get_or begun i No ≡ No → IsIdle (From (length rest)) s (here i) ms
+    begun-idle i low inside none = at (no-or-not (get_or tail i No))
+      where
+        split : (k ≡ No) ⊎ ((get_or tail i No ≡ Half) × (k ≢ Yes)) → IsIdle (From (length rest)) s (here i) ms
+        split (inl e) = absurd (some e)
+        split (inr two) = two-before i false (lacks-before i (start.half i low inside two.0)) (lacks-own i (half-of k some two.1))
+
+        at : (get_or tail i No ≡ No) ⊎ (get_or tail i No ≢ No) → IsIdle (From (length rest)) s (here i) ms
+        at (inl e) =
+            idle-weaker s (here i) ms (From (length (v ∷ rest))) (From (length rest)) from-before
+            (idle-agreed s (put (assignment_of places) trial.last.0 (64 * trial.chunk + i)) (here i) ms (From (length (v ∷ rest))) (before-same i)
+            (start.idle i low inside e))
+        at (inr ne) = split (counted-no (get_or tail i No) k ne (sym (with-own.1 i low) ∙ none))
+
+    begun-half : (i : ℕ) → i < 64 → 64 * trial.chunk + i < s.size → get_or begun i No ≡ Half
+        → Lacks (From (length (v ∷ rest))) s (here i) ms ⊎ Lacks (IsAt (length rest) false) s (here i) ms
+    begun-half i low inside is-half =
+        ⊎_elim (λ e. inl (lacks-before i (start.half i low inside e))) (λ e. inr (lacks-own i e))
+        (counted-half (get_or tail i No) k (sym (with-own.1 i low) ∙ is-half))
+
+    pub walk-on : IsWalkStart trial rest new word
+    walk-on = record {
       left = on;
       chunk = start.chunk;
-      placed = put-placed v (rest ++ trial.last.0 ∷ []) trial.structure.now.size (trial_rule trial) u places new is-put within start.placed;
-      own = own-on;
-      long = narrowed.long;
-      yes = λ i low e. (
-        (start.yes i low (narrowed.yes i low e).0).0,
-        yes-on i low e,
-      );
-      other = λ i low inside ne. other-on i low inside ne (yes-or-not (get_or tail i No));
+      placed = put-placed v (rest ++ trial.last.0 ∷ []) s.size (trial_rule trial) u places new is-put within start.placed;
+      long = so_far.long;
+      within = λ i low some'. start.within i low
+          (counted-some (get_or tail i No) k (λ e. so_far.some i low some' (with-own.1 i low ∙ e)));
+      idle = λ i low inside none. idle-on i low inside none (no-or-not (get_or begun i No));
+      half = λ i low inside is-half. ⊎_elim
+          (λ was. ⊎_elim (lacks-weaker s (here i) ms (From (length (v ∷ rest))) (From (length rest)) from-before)
+          (lacks-weaker s (here i) ms (IsAt (length rest) false) (From (length rest)) (from-own false)) (begun-half i low inside was))
+          (lacks-weaker s (here i) ms (IsAt (length rest) true) (From (length rest)) (from-own true)) (so_far.half i low inside is-half);
     }
       where
-        on : AreLeft trial rest
-        on = left-on trial v rest start.left
+        with-half : (i : ℕ) → Lacks (IsAt (length rest) true) s (here i) ms
+            → Lacks (From (length (v ∷ rest))) s (here i) ms ⊎ Lacks (IsAt (length rest) false) s (here i) ms
+            → IsIdle (From (length rest)) s (here i) ms
+        with-half i other (inl one) = two-before i true one other
+        with-half i other (inr one) = two-own i one other
 
-        own-on : (left : ℕ) → length rest ≤ left
-            → PassesAt trial.structure.now (assignment_of new) trial.waits.skip left false (members_in trial)
-        own-on left enough k m there is-left apart = at (cases_eq left (length rest))
-          where
-            at : (left ≡ length rest) ⊎ (left ≢ length rest) → Passes trial.structure.now (assignment_of new) trial.waits.skip k m
-            at (inl e) =
-                passes-agreed trial.structure.now (put (assignment_of places) v u) (assignment_of new) trial.waits.skip k m
-                (λ x free. sym (agrees x (λ has. own-out trial is rest on k m there apart (omega (arith, enough, is-left)) x has free)))
-                (tests k m there (is-left ∙ e) apart)
-            at (inr ne) =
-                passes-agreed trial.structure.now (assignment_of places) (assignment_of new) trial.waits.skip k m
-                (λ x free. agrees-apart k m there (omega (arith, enough, ne, is-left)) x free
-                (λ e. own-out trial is rest on k m there apart (omega (arith, enough, is-left)) x (pushed-last rest trial.last.0 x e) free))
-                (start.own left (omega (arith, enough, ne)) k m there is-left apart)
+        idle-on : (i : ℕ) → i < 64 → 64 * trial.chunk + i < s.size → get_or word i No ≡ No
+            → (get_or begun i No ≡ No) ⊎ (get_or begun i No ≢ No) → IsIdle (From (length rest)) s (here i) ms
+        idle-on i low inside none (inl was) = begun-idle i low inside was
+        idle-on i low inside none (inr was) =
+            ⊎_elim (idle-weaker s (here i) ms (IsAt (length rest) true) (From (length rest)) (from-own true))
+            (λ two. with-half i two.1 (begun-half i low inside two.0)) (so_far.no i low inside was none)
 
-        yes-on : (i : ℕ) → i < 64 → get_or word i No ≡ Yes → (left : ℕ) → length rest ≤ left
-            → PassesAt trial.structure.now (put (assignment_of new) trial.last.0 (64 * trial.chunk + i)) trial.waits.skip left true
-            (members_in trial)
-        yes-on i low e left enough k m there is-left last' = at (cases_eq left (length rest))
-          where
-            at : (left ≡ length rest) ⊎ (left ≢ length rest)
-                → Passes trial.structure.now (put (assignment_of new) trial.last.0 (64 * trial.chunk + i)) trial.waits.skip k m
-            at (inl is-here) =
-                (narrowed.yes i low e).1 (start.yes i low (narrowed.yes i low e).0).0 k m there (is-left ∙ is-here) last'
-            at (inr ne) =
-                passes-agreed trial.structure.now (put (assignment_of places) trial.last.0 (64 * trial.chunk + i))
-                (put (assignment_of new) trial.last.0 (64 * trial.chunk + i)) trial.waits.skip k m
-                (λ x free. put-both (assignment_of places) (assignment_of new) trial.last.0 (64 * trial.chunk + i) x
-                (agrees-apart k m there (omega (arith, enough, ne, is-left)) x free))
-                ((start.yes i low (narrowed.yes i low e).0).1 left (omega (arith, enough, ne)) k m there is-left last')
+  -- the first word, where the members without variables count as k
+  module _ (before : List ℕ) (places : List (Option ℕ)) (k : K3) (word tail : List K3) (vars : variables_in trial ≡ before ++ trial.last.0 ∷ [])
+      (nonempty : 64 * trial.chunk < trial.structure.now.size) (some : k ≢ No)
+      (own : k ≡ Half → Lacks (IsAt (length before) false) trial.structure.now (assignment_of places) (members_in trial))
+      (all : IsAll trial.structure.now.size trial.chunk k word)
+      (so_far : IsCounted trial.structure.now.size (assignment_of places) trial.last.0 trial.chunk
+      (λ b. Lacks (IsAt (length before) true) trial.structure.now b (members_in trial))
+      (λ b. IsIdle (IsAt (length before) true) trial.structure.now b (members_in trial)) word tail) where
+    abbrev first-here : ℕ → Assignment
+    first-here i = put (assignment_of places) trial.last.0 (64 * trial.chunk + i)
 
-        other-on : (i : ℕ) → i < 64 → 64 * trial.chunk + i < trial.structure.now.size → get_or word i No ≢ Yes
-            → (get_or tail i No ≡ Yes) ⊎ (get_or tail i No ≢ Yes) → (left : ℕ) × (length rest ≤ left)
-            × StopsAt trial.structure.now (put (assignment_of new) trial.last.0 (64 * trial.chunk + i)) trial.waits.skip left true
-            (members_in trial)
-        other-on i low inside ne (inl was) = (length rest, omega arith, narrowed.other i low inside was ne)
-        other-on i low inside ne (inr other) =
-            let found = start.other i low inside other
-            in (
-              found.0,
-              omega (arith, found.1),
-              stops-agreed trial.structure.now (put (assignment_of places) trial.last.0 (64 * trial.chunk + i))
-                  (put (assignment_of new) trial.last.0 (64 * trial.chunk + i)) trial.waits.skip found.0 true (members_in trial) found.2
-                  (λ x free. put-both (assignment_of places) (assignment_of new) trial.last.0 (64 * trial.chunk + i) x
-                  (agrees-apart found.2.number found.2.member found.2.there (omega (arith, found.1, found.2.at_left)) x free)),
-            )
+    first-own : (i : ℕ) → k ≡ Half → Lacks (IsAt (length before) false) trial.structure.now (first-here i) (members_in trial)
+    first-own i e =
+        lacks-agreed trial.structure.now (assignment_of places) (first-here i) (members_in trial) (IsAt (length before) false)
+        (λ j m there at x free. sym (put-other (assignment_of places) trial.last.0 (64 * trial.chunk + i) x
+        (λ e'. own-out trial is before ([], vars) j m there at.1 (omega (arith, at.0)) x (pushed-last before trial.last.0 x e') free)))
+        (own e)
 
-  -- the first word
-  pub start-first : (before : List ℕ) (places : List (Option ℕ)) (word tail : List K3) → variables_in trial ≡ before ++ trial.last.0 ∷ []
-      → 64 * trial.chunk < trial.structure.now.size
-      → PassesAt trial.structure.now (assignment_of places) trial.waits.skip (length before) false (members_in trial)
-      → IsAll trial.structure.now.size trial.chunk word
-      → IsNarrowed trial.structure.now.size (assignment_of places) trial.last.0 trial.chunk
-      (λ b. PassesAt trial.structure.now b trial.waits.skip (length before) true (members_in trial))
-      (λ b. StopsAt trial.structure.now b trial.waits.skip (length before) true (members_in trial)) word tail
-      → IsWalkStart trial before places tail
-  start-first before places word tail vars some own all narrowed = record {
-    left = ([], vars);
-    chunk = some;
-    placed = λ x free none. absurd (none (subst (λ xs. Contains xs x) vars ((is.waits.free x).1 free)));
-    own = λ left enough k m there is-left apart. own k m there (whole k m there left enough is-left) apart;
-    long = narrowed.long;
-    yes = λ i low e. (
-      all.within i low (narrowed.yes i low e).0,
-      λ left enough k m there is-left last'. (narrowed.yes i low e).1 (all.within i low (narrowed.yes i low e).0) k m there
-          (whole k m there left enough is-left) last',
-    );
-    other = λ i low inside ne. (length before, omega arith, narrowed.other i low inside (all.yes i low inside) ne);
-  }
-    where
-      whole : (k : ℕ) (m : MemberForm) → slice_get (members_in trial) k ≡ Some m → (left : ℕ) → length before ≤ left → m.left ≡ left
-          → m.left ≡ length before
-      whole k m there left enough is-left = omega (arith, enough, is-left, (left-placed trial is before ([], vars) k m there).most)
+    first-from : (last : Bool) (m : MemberForm) → IsAt (length before) last m → From (length before) m
+    first-from last m at = omega (arith, at.0)
+
+    first-idle : (i : ℕ) → IsIdle (IsAt (length before) true) trial.structure.now (first-here i) (members_in trial)
+        ⊎ ((k ≡ Half) × Lacks (IsAt (length before) true) trial.structure.now (first-here i) (members_in trial))
+        → IsIdle (From (length before)) trial.structure.now (first-here i) (members_in trial)
+    first-idle i (inl idle) =
+        idle-weaker trial.structure.now (first-here i) (members_in trial) (IsAt (length before) true) (From (length before)) (first-from true) idle
+    first-idle i (inr (e, other)) =
+        let one : Lacks (IsAt (length before) false) trial.structure.now (first-here i) (members_in trial) = first-own i e
+        in inr (record {
+          one = lacks-weaker trial.structure.now (first-here i) (members_in trial) (IsAt (length before) false) (From (length before))
+              (first-from false) one;
+          other = lacks-weaker trial.structure.now (first-here i) (members_in trial) (IsAt (length before) true) (From (length before))
+              (first-from true) other;
+          apart = apart-left one.member other.member one.number other.number one.there other.there (λ m. m.last ≡ false) one.those.1
+              (λ f. let clash : true ≡ false = sym other.those.1 ∙ f in absurd (cc));
+        })
+
+    pub start-first : IsWalkStart trial before places tail
+    start-first = record {
+      left = ([], vars);
+      chunk = nonempty;
+      placed = λ x free none. absurd (none (subst (λ xs. Contains xs x) vars (((own-tried trial is).free x).1 free)));
+      long = so_far.long;
+      within = λ i low some'. all.within i low (so_far.some i low some');
+      idle = λ i low inside none. first-idle i
+          (⊎_elim (λ idle. inl idle) (λ two. inr (sym (all.all i low inside) ∙ two.0, two.1))
+          (so_far.no i low inside (λ e. some (sym (all.all i low inside) ∙ e)) none));
+      half = λ i low inside is-half. ⊎_elim
+          (λ was. lacks-weaker trial.structure.now (first-here i) (members_in trial) (IsAt (length before) false) (From (length before))
+          (first-from false) (first-own i (sym (all.all i low inside) ∙ was)))
+          (lacks-weaker trial.structure.now (first-here i) (members_in trial) (IsAt (length before) true) (From (length before))
+          (first-from true)) (so_far.half i low inside is-half);
+    }
 
   -- ---- what is passed over is tried
 
   -- of the last variable
   pub start-passed : (rest : List ℕ) (places : List (Option ℕ)) (tail : List K3) → IsWalkStart trial rest places tail
-      → (from end : ℕ) → end ≤ 64 → ((j : ℕ) → from ≤ j → j < end → get_or tail j No ≢ Yes)
-      → IsTriedFor trial.structure.now (trial_rule trial)
-      (λ b. GoesOn (trial_rule trial) (rest ++ trial.last.0 ∷ []) (assignment_of places) b
+      → (from end : ℕ) → end ≤ 64 → ((j : ℕ) → from ≤ j → j < end → get_or tail j No ≡ No)
+      → AreTriedFor trial
+      (λ b. GoesOn (variables_in trial) (rest ++ trial.last.0 ∷ []) (assignment_of places) b
       × IsBetween trial.last.0 (64 * trial.chunk + from) (64 * trial.chunk + end) b)
-  start-passed rest places tail start from end few none b (goes, between) individuals body =
+  start-passed rest places tail start from end few none n kin b (goes, between) individuals body =
       let i : ℕ = b trial.last.0 - 64 * trial.chunk
       in let is-i : 64 * trial.chunk + i ≡ b trial.last.0 = omega (arith, between.0)
       in let within : b trial.last.0 < trial.structure.now.size
-      = below-range trial.structure.now.size (b trial.last.0) (individuals trial.last.0 (last-free trial is rest start.left))
-      in let found = start.other i (omega (arith, is-i, between.1, few)) (omega (arith, is-i, within))
-      (none i (omega (arith, is-i, between.0)) (omega (arith, is-i, between.1)))
-      in let st : StopsAt trial.structure.now (put (assignment_of places) trial.last.0 (64 * trial.chunk + i)) trial.waits.skip found.0 true (members_in trial)
-      = found.2
-      in stopped trial is b found.0 true
-      (stops-agreed trial.structure.now (put (assignment_of places) trial.last.0 (64 * trial.chunk + i)) b trial.waits.skip found.0 true (members_in trial) st
-      (λ x free. put-from (assignment_of places) b trial.last.0 (64 * trial.chunk + i) x is-i
-      (λ ne. goes x (member-free trial is st.number st.member st.there x free)
-      (λ has. ⊎_elim (λ behind. left-out trial is rest start.left st.number st.member st.there (omega (arith, found.1, st.at_left)) x behind free) ne
-      (pushed-cases rest trial.last.0 x has)))))
-      body
+      = below-range trial.structure.now.size (b trial.last.0)
+      (individuals trial.last.0 (kin-free trial is n kin trial.last.0 (last-free trial is rest start.left)))
+      in idle-met trial is n kin b body (From (length rest))
+      (idle-agreed trial.structure.now (put (assignment_of places) trial.last.0 (64 * trial.chunk + i)) b (members_in trial) (From (length rest))
+      (λ k m there enough x free. put-from (assignment_of places) b trial.last.0 (64 * trial.chunk + i) x is-i
+      (λ ne. goes x (kin-variable trial is trial.number (own-kin trial is) x (member-free trial is k m there x free))
+      (λ has. ⊎_elim (λ behind. left-out trial is rest start.left k m there enough x behind free) ne
+      (pushed-cases rest trial.last.0 x has))))
+      (start.idle i (omega (arith, is-i, between.1, few)) (omega (arith, is-i, within))
+      (none i (omega (arith, is-i, between.0)) (omega (arith, is-i, between.1)))))
 
   -- where the word has no individual
-  pub none-left : (rest : List ℕ) (places : List (Option ℕ)) (tail : List K3) → IsWalkStart trial rest places tail → greatest_in tail ≢ Yes
-      → IsTriedFor trial.structure.now (trial_rule trial)
-      (GoesOnIn (trial_rule trial) (rest ++ trial.last.0 ∷ []) trial.last.0 trial.chunk (assignment_of places))
-  none-left rest places tail start none b (goes, between) individuals body =
-      start-passed rest places tail start 0 64 (omega arith) (λ j after before. none-yes tail none j) b
+  pub none-left : (rest : List ℕ) (places : List (Option ℕ)) (tail : List K3) → IsWalkStart trial rest places tail → greatest_in tail ≡ No
+      → AreTriedFor trial (GoesOnIn trial (rest ++ trial.last.0 ∷ []) (assignment_of places))
+  none-left rest places tail start none n kin b (goes, between) individuals body =
+      start-passed rest places tail start 0 64 (omega arith) (λ j after before. none-some tail none j) n kin b
       (goes, (omega (arith, between.0), between.1)) individuals body
 
   -- of the variable before those that are left
   pub own-passed : (v chunk : ℕ) (rest : List ℕ) (places : List (Option ℕ)) (all own : List K3) → AreLeft trial (v ∷ rest)
-      → IsAll trial.structure.now.size chunk all
-      → IsNarrowed trial.structure.now.size (assignment_of places) v chunk
-      (λ b. PassesAt trial.structure.now b trial.waits.skip (length rest) false (members_in trial))
-      (λ b. StopsAt trial.structure.now b trial.waits.skip (length rest) false (members_in trial)) all own
-      → (from end : ℕ) → end ≤ 64 → ((j : ℕ) → from ≤ j → j < end → get_or own j No ≢ Yes)
-      → IsTriedFor trial.structure.now (trial_rule trial)
-      (λ b. GoesOn (trial_rule trial) (v ∷ rest ++ trial.last.0 ∷ []) (assignment_of places) b
+      → IsAll trial.structure.now.size chunk Yes all
+      → IsCounted trial.structure.now.size (assignment_of places) v chunk
+      (λ b. Lacks (IsAt (length rest) false) trial.structure.now b (members_in trial))
+      (λ b. IsIdle (IsAt (length rest) false) trial.structure.now b (members_in trial)) all own
+      → (from end : ℕ) → end ≤ 64 → ((j : ℕ) → from ≤ j → j < end → get_or own j No ≡ No)
+      → AreTriedFor trial
+      (λ b. GoesOn (variables_in trial) (v ∷ rest ++ trial.last.0 ∷ []) (assignment_of places) b
       × IsBetween v (64 * chunk + from) (64 * chunk + end) b)
-  own-passed v chunk rest places all own left whole narrowed from end few none b (goes, between) individuals body =
+  own-passed v chunk rest places all own left whole so_far from end few none n kin b (goes, between) individuals body =
       let i : ℕ = b v - 64 * chunk
       in let is-i : 64 * chunk + i ≡ b v = omega (arith, between.0)
       in let within : b v < trial.structure.now.size
-      = below-range trial.structure.now.size (b v) (individuals v (left-free trial is (v ∷ rest) left v (0, omega arith, refl)))
+      = below-range trial.structure.now.size (b v)
+      (individuals v (kin-free trial is n kin v (left-free trial is (v ∷ rest) left v (0, omega arith, refl))))
       in let low : i < 64 = omega (arith, is-i, between.1, few)
       in let inside : 64 * chunk + i < trial.structure.now.size = omega (arith, is-i, within)
-      in let st : StopsAt trial.structure.now (put (assignment_of places) v (64 * chunk + i)) trial.waits.skip (length rest) false (members_in trial)
-      = narrowed.other i low inside (whole.yes i low inside) (none i (omega (arith, is-i, between.0)) (omega (arith, is-i, between.1)))
-      in stopped trial is b (length rest) false
-      (stops-agreed trial.structure.now (put (assignment_of places) v (64 * chunk + i)) b trial.waits.skip (length rest) false (members_in trial) st
-      (λ x free. put-from (assignment_of places) b v (64 * chunk + i) x is-i
-      (λ ne. goes x (member-free trial is st.number st.member st.there x free)
+      in let yes : get_or all i No ≡ Yes = whole.all i low inside
+      in let idle : IsIdle (IsAt (length rest) false) trial.structure.now (put (assignment_of places) v (64 * chunk + i)) (members_in trial)
+      = ⊎_elim (λ idle. idle) (λ two. let clash : Yes ≡ Half = sym yes ∙ two.0 in absurd (cc))
+      (so_far.no i low inside (λ e. let clash : Yes ≡ No = sym yes ∙ e in absurd (cc))
+      (none i (omega (arith, is-i, between.0)) (omega (arith, is-i, between.1))))
+      in idle-met trial is n kin b body (IsAt (length rest) false)
+      (idle-agreed trial.structure.now (put (assignment_of places) v (64 * chunk + i)) b (members_in trial) (IsAt (length rest) false)
+      (λ k m there at x free. put-from (assignment_of places) b v (64 * chunk + i) x is-i
+      (λ ne. goes x (kin-variable trial is trial.number (own-kin trial is) x (member-free trial is k m there x free))
       (λ has. ⊎_elim (λ e. ne (sym e))
-      (λ behind. own-out trial is rest (left-on trial v rest left) st.number st.member st.there st.at_last (omega (arith, st.at_left)) x behind free)
-      (Contains-cases v x (rest ++ trial.last.0 ∷ []) has)))))
-      body
-
-  -- ---- where all variables have individuals
-
-  -- the body is Yes with an individual of the last word
-  pub last-yes : (places new : List (Option ℕ)) (tail : List K3) (i : ℕ) → IsWalkStart trial [] places tail → i < 64
-      → get_or tail i No ≡ Yes
-      → ((w : ℕ) → individual_for new w ≡ (if w == trial.last.0 then Some (64 * trial.chunk + i) else individual_for places w))
-      → value (structure_of trial.structure.now) (assignment_of new) (trial_rule trial).body ≡ Yes
-  last-yes places new tail i start low e is-new = passed-yes trial is (assignment_of new) (λ k m there. at k m there (cases_Bool m.last))
-    where
-      u : ℕ
-      u = 64 * trial.chunk + i
-
-      same : (x : ℕ) → assignment_of new x ≡ put (assignment_of places) trial.last.0 u x
-      same x = put-agrees trial.last.0 [] u places new (λ w none. is-new w) x (Contains-none x)
-
-      at : (k : ℕ) (m : MemberForm) → slice_get (members_in trial) k ≡ Some m → (m.last ≡ true) ⊎ (m.last ≡ false)
-          → Passes trial.structure.now (assignment_of new) trial.waits.skip k m
-      at k m there (inl last') =
-          passes-agreed trial.structure.now (put (assignment_of places) trial.last.0 u) (assignment_of new) trial.waits.skip k m
-          (λ x free. sym (same x)) ((start.yes i low e).1 m.left (omega arith) k m there refl last')
-      at k m there (inr apart) =
-          passes-agreed trial.structure.now (assignment_of places) (assignment_of new) trial.waits.skip k m
-          (λ x free. sym (same x ∙ put-other (assignment_of places) trial.last.0 u x
-          (λ is-w. (left-placed trial is [] start.left k m there).apart apart (subst (λ y. IsFree y m.form) is-w free))))
-          (start.own m.left (omega arith) k m there refl apart)
+      (λ behind. own-out trial is rest (left-on trial v rest left) k m there at.1 (omega (arith, at.0)) x behind free)
+      (Contains-cases v x (rest ++ trial.last.0 ∷ []) has))))
+      idle)
 
   pub last-placed : (places new : List (Option ℕ)) (tail : List K3) (i : ℕ) → IsWalkStart trial [] places tail → i < 64
-      → get_or tail i No ≡ Yes
+      → get_or tail i No ≢ No
       → ((w : ℕ) → individual_for new w ≡ (if w == trial.last.0 then Some (64 * trial.chunk + i) else individual_for places w))
       → ArePlaced trial.structure.now.size (trial_rule trial) [] new
-  last-placed places new tail i start low e is-new =
+  last-placed places new tail i start low some is-new =
       put-placed trial.last.0 [] trial.structure.now.size (trial_rule trial) (64 * trial.chunk + i) places new (λ w none. is-new w)
-      (start.yes i low e).0 start.placed
+      (start.within i low some) start.placed
 
--- a member without variables that doesn't pass stops the rule everywhere
-pub stopped-everywhere : (trial : Trial) → IsTrial trial → (a : Assignment) (left : ℕ) (last : Bool)
-    → (st : StopsAt trial.structure.now a trial.waits.skip left last (members_in trial)) → ((x : ℕ) → ¬ IsFree x st.member.form)
-    → IsTriedFor trial.structure.now (trial_rule trial) IsAny
-stopped-everywhere trial is a left last st none b any individuals body =
-    stopped trial is b left last
-    (stops-agreed trial.structure.now a b trial.waits.skip left last (members_in trial) st (λ x free. absurd (none x free))) body
+  -- members without variables rule everything out
+  pub idle-everywhere : (a : Assignment) (Those : MemberForm → Type 0) → IsIdle Those trial.structure.now a (members_in trial)
+      → ((k : ℕ) (m : MemberForm) → slice_get (members_in trial) k ≡ Some m → Those m → (x : ℕ) → ¬ IsFree x m.form)
+      → AreTriedFor trial IsAny
+  idle-everywhere a Those idle none n kin b any individuals body =
+      idle-met trial is n kin b body Those
+      (idle-agreed trial.structure.now a b (members_in trial) Those (λ k m there those x free. absurd (none k m there those x free)) idle)
+
+  -- rules without variables
+  pub met-everywhere : variables_in trial ≡ [] → (a : Assignment) → AreMet trial a → AreTriedFor trial IsAny
+  met-everywhere none a met n kin b any individuals body =
+      met-agreed (structure_of trial.structure.now) a b (rule_at trial.closed.now n).head (λ v in-head. absurd (out v (inr in-head)))
+      (met n kin (sym (only_free_variables_matter (structure_of trial.structure.now) (rule_at trial.closed.now n).body b a
+      (λ v free. absurd (out v (inl free)))) ∙ body))
+    where
+      out : (v : ℕ) → IsFreeInRule v (rule_at trial.closed.now n) → ⊥
+      out v free = Contains-none v (subst (λ xs. Contains xs v) none (kin-variable trial is n kin v free))
+
+-- an individual of which one member isn't Yes
+pub own-half : (s : StructureForm) (places : List (Option ℕ)) (v chunk : ℕ) (ms : List MemberForm) (left : ℕ) (all own : List K3)
+    → IsAll s.size chunk Yes all
+    → IsCounted s.size (assignment_of places) v chunk (λ b. Lacks (IsAt left false) s b ms) (λ b. IsIdle (IsAt left false) s b ms) all own
+    → (i : ℕ) → i < 64 → 64 * chunk + i < s.size → get_or own i No ≡ Half
+    → Lacks (IsAt left false) s (put (assignment_of places) v (64 * chunk + i)) ms
+own-half s places v chunk ms left all own whole so_far i low within is =
+    ⊎_elim (λ was. let clash : Yes ≡ Half = sym (whole.all i low within) ∙ was in absurd (cc)) (λ one. one) (so_far.half i low within is)
+
+-- the trial of a chunk of individuals for the last variable
+abbrev pub of-chunk : Trial → Var → ℕ → Trial
+of-chunk trial last chunk = record {
+  structure = trial.structure;
+  closed = trial.closed;
+  number = trial.number;
+  shape = trial.shape;
+  last = last;
+  chunk = chunk;
+}
+
+pub told-of : (trial : Trial) (w : Var) (k : ℕ) (Those : Assignment → Type 0) (old new : Noted)
+    → IsTold (of-chunk trial w k) (AreTriedFor (of-chunk trial w k) Those) old new Possible
+    → IsTold trial (AreTriedFor trial Those) old new Possible
+told-of trial w k Those old new told = record { forced = told.forced; grows = told.grows; tells = told.tells }
+
+-- where no variable but those that are left is
+pub first-tried : (trial : Trial) (before : List ℕ) (a : Assignment) → variables_in trial ≡ before ++ trial.last.0 ∷ []
+    → AreTriedFor trial (GoesOnIn trial (before ++ trial.last.0 ∷ []) a) → AreTriedFor trial (IsInChunk trial.last.0 trial.chunk)
+first-tried trial before a vars tried n kin b in-chunk =
+    tried n kin b ((λ x has none. absurd (none (subst (λ xs. Contains xs x) vars has))), in-chunk)
+
+-- a count tells the same where the variables stand for the same
+pub tells-agreed : (s : StructureForm) (a b : Assignment) (ms : List MemberForm) (left : ℕ) (last : Bool) (k : K3)
+    → ((j : ℕ) (m : MemberForm) → slice_get ms j ≡ Some m → IsAt left last m → (x : ℕ) → IsFree x m.form → a x ≡ b x)
+    → CountTells (Lacks (IsAt left last) s a ms) (IsIdle (IsAt left last) s a ms) k
+    → CountTells (Lacks (IsAt left last) s b ms) (IsIdle (IsAt left last) s b ms) k
+tells-agreed s a b ms left last No same idle = idle-agreed s a b ms (IsAt left last) same idle
+tells-agreed s a b ms left last Half same one = lacks-agreed s a b ms (IsAt left last) same one
+tells-agreed s a b ms left last Yes same none = tt
 
 -- ---- what is tried, piece by piece
 
-module _ (s : StructureForm) (rule : RuleForm) where
+-- of a rule with these variables
+module _ (s : StructureForm) (rule : RuleForm) (vars : List ℕ) (known : (x : ℕ) → IsFreeInRule x rule → Contains vars x) where
   -- the individuals up to one, those that are passed over, and that one, under which the head is met
   pub tried-noted : (w first from i : ℕ) (old-places new-places now : List (Option ℕ)) → DifferOnlyAt (w ∷ []) old-places now
       → ((x : ℕ) → individual_for new-places x ≡ (if x == w then Some (first + i) else individual_for now x))
-      → IsTriedFor s rule (λ b. GoesOn rule (w ∷ []) (assignment_of old-places) b × IsBetween w (first + from) (first + i) b)
-      → IsTriedFor s rule (λ b. GoesOn rule (w ∷ []) (assignment_of old-places) b × IsBetween w first (first + from) b)
-      → IsHeadMet (structure_of s) (assignment_of new-places) rule.head
-      → IsTriedFor s rule (λ b. GoesOn rule (w ∷ []) (assignment_of old-places) b × IsBetween w first (first + (i + 1)) b)
+      → IsTriedFor s rule (λ b. GoesOn vars (w ∷ []) (assignment_of old-places) b × IsBetween w (first + from) (first + i) b)
+      → IsTriedFor s rule (λ b. GoesOn vars (w ∷ []) (assignment_of old-places) b × IsBetween w first (first + from) b)
+      → (value (structure_of s) (assignment_of new-places) rule.body ≡ Yes → IsHeadMet (structure_of s) (assignment_of new-places) rule.head)
+      → IsTriedFor s rule (λ b. GoesOn vars (w ∷ []) (assignment_of old-places) b × IsBetween w first (first + (i + 1)) b)
   tried-noted w first from i old-places new-places now kept is-new passed so_far met b (goes, between) individuals body =
       at (cases_lt (b w) (first + from)) (cases_lt (b w) (first + i))
     where
       is-put : IsPut [] w (first + i) old-places new-places
       is-put = put-kept w [] (first + i) old-places now new-places kept is-new
 
+      same : first + i ≤ b w → (x : ℕ) → IsFreeInRule x rule → b x ≡ assignment_of new-places x
+      same here x free =
+          sym (put-agrees w [] (first + i) old-places new-places is-put x (Contains-none x)
+          ∙ put-from (assignment_of old-places) b w (first + i) x (omega (arith, here, between.1))
+          (λ ne. goes x (known x free) (λ has. ⊎_elim (λ e. ne (sym e)) (Contains-none x) (Contains-cases w x [] has))))
+
       at : (b w < first + from) ⊎ (first + from ≤ b w) → (b w < first + i) ⊎ (first + i ≤ b w) → IsHeadMet (structure_of s) b rule.head
       at (inl less) side = so_far b (goes, (between.0, less)) individuals body
       at (inr more) (inl less) = passed b (goes, (more, less)) individuals body
       at (inr more) (inr here) =
-          met-agreed (structure_of s) (assignment_of new-places) b rule.head
-          (λ x in-head. sym (put-agrees w [] (first + i) old-places new-places is-put x (Contains-none x)
-          ∙ put-from (assignment_of old-places) b w (first + i) x (omega (arith, here, between.1))
-          (λ ne. goes x (inr in-head) (λ has. ⊎_elim (λ e. ne (sym e)) (Contains-none x) (Contains-cases w x [] has)))))
-          met
+          met-agreed (structure_of s) (assignment_of new-places) b rule.head (λ x in-head. same here x (inr in-head))
+          (met (sym (only_free_variables_matter (structure_of s) rule.body b (assignment_of new-places) (λ x free. same here x (inl free))) ∙ body))
 
   -- the same of a variable before others, which were tried with it
   pub tried-next : (v : ℕ) (rest : List ℕ) (w chunk first from i : ℕ) (old-places new-places now : List (Option ℕ))
       → DifferOnlyAt (v ∷ rest) old-places now
       → ((x : ℕ) → individual_for new-places x ≡ (if x == v then Some (first + i) else individual_for now x))
-      → IsTriedFor s rule (λ b. GoesOn rule (v ∷ rest) (assignment_of old-places) b × IsBetween v (first + from) (first + i) b)
-      → IsTriedFor s rule (λ b. GoesOnIn rule (v ∷ rest) w chunk (assignment_of old-places) b × IsBetween v first (first + from) b)
-      → IsTriedFor s rule (GoesOnIn rule rest w chunk (assignment_of new-places))
-      → IsTriedFor s rule (λ b. GoesOnIn rule (v ∷ rest) w chunk (assignment_of old-places) b × IsBetween v first (first + (i + 1)) b)
+      → IsTriedFor s rule (λ b. GoesOn vars (v ∷ rest) (assignment_of old-places) b × IsBetween v (first + from) (first + i) b)
+      → IsTriedFor s rule (λ b. (GoesOn vars (v ∷ rest) (assignment_of old-places) b × IsInChunk w chunk b) × IsBetween v first (first + from) b)
+      → IsTriedFor s rule (λ b. GoesOn vars rest (assignment_of new-places) b × IsInChunk w chunk b)
+      → IsTriedFor s rule (λ b. (GoesOn vars (v ∷ rest) (assignment_of old-places) b × IsInChunk w chunk b) × IsBetween v first (first + (i + 1)) b)
   tried-next v rest w chunk first from i old-places new-places now kept is-new passed so_far tried b (goes, between) individuals body =
       at (cases_lt (b v) (first + from)) (cases_lt (b v) (first + i))
     where
@@ -582,9 +740,9 @@ module _ (s : StructureForm) (rule : RuleForm) where
       at (inr more) (inl less) = passed b (goes.0, (more, less)) individuals body
       at (inr more) (inr here) =
           tried b (
-            (λ x free none. sym (put-agrees v rest (first + i) old-places new-places is-put x none
+            (λ x has none. sym (put-agrees v rest (first + i) old-places new-places is-put x none
                 ∙ put-from (assignment_of old-places) b v (first + i) x (omega (arith, here, between.1))
-                (λ ne. goes.0 x free (not-here v rest x ne none)))),
+                (λ ne. goes.0 x has (not-here v rest x ne none)))),
             goes.1,
           )
           individuals body
@@ -601,13 +759,13 @@ module _ (s : StructureForm) (rule : RuleForm) where
   -- chunk after chunk, where the variables that are left stood for others meanwhile
   pub tried-chunk : (v : ℕ) (rest : List ℕ) (w chunk k : ℕ) (old-places now : List (Option ℕ))
       → DifferOnlyAt (v ∷ rest) old-places now
-      → IsTriedFor s rule (λ b. GoesOnIn rule (v ∷ rest) w chunk (assignment_of old-places) b × IsBetween v 0 (64 * k) b)
-      → IsTriedFor s rule (λ b. GoesOnIn rule (v ∷ rest) w chunk (assignment_of now) b × IsInChunk v k b)
-      → IsTriedFor s rule (λ b. GoesOnIn rule (v ∷ rest) w chunk (assignment_of old-places) b × IsBetween v 0 (64 * (k + 1)) b)
+      → IsTriedFor s rule (λ b. (GoesOn vars (v ∷ rest) (assignment_of old-places) b × IsInChunk w chunk b) × IsBetween v 0 (64 * k) b)
+      → IsTriedFor s rule (λ b. (GoesOn vars (v ∷ rest) (assignment_of now) b × IsInChunk w chunk b) × IsInChunk v k b)
+      → IsTriedFor s rule (λ b. (GoesOn vars (v ∷ rest) (assignment_of old-places) b × IsInChunk w chunk b) × IsBetween v 0 (64 * (k + 1)) b)
   tried-chunk v rest w chunk k old-places now kept so_far tried b (goes, between) individuals body =
       ⊎_elim (λ less. so_far b (goes, (between.0, less)) individuals body)
       (λ more. tried b (
-        ((λ x free none. goes.0 x free none ∙ sym (ap (λ o. unwrap_or o 0) (kept x none))), goes.1),
+        ((λ x has none. goes.0 x has none ∙ sym (ap (λ o. unwrap_or o 0) (kept x none))), goes.1),
         (more, omega (arith, between.1)),
       ) individuals body)
       (cases_lt (b v) (64 * k))
@@ -674,10 +832,24 @@ can-try closed n s scratch within ready =
     let none : RuleForm = record { body = FOne; head = HNever }
     in record { over = ready.over n none within; plain = ready.plain n none within; fits = ready.fits n none within }
 
-pub found-told : (s : StructureForm) (rule : RuleForm) (old : List Change) (changes : Vec Change Global) (outcome : Outcome) → old ≡ []
-    → IsTold s rule (IsTriedFor s rule IsAny) old changes.items outcome → IsTrialResult s rule (answer_of outcome changes)
-found-told s rule old changes Impossible none told = told.tells
-found-told s rule old changes Possible none told = (
-  told.forced (subst (All (IsForced s rule)) (sym none) (All-nil (IsForced s rule))),
-  λ nothing b individuals body. told.tells nothing b tt individuals body,
-)
+-- what was noted is what was found
+pub found-told : (trial : Trial) (old new : Noted) (found : Found) → old.list.items ≡ [] → found.number ≡ new.number
+    → found.changes ≡ new.list → IsTold trial (AreTriedFor trial IsAny) old new Possible
+    → IsFound trial.closed.now trial.number trial.structure.now found
+found-told trial old new found none number changes told =
+    let list : found.changes.items ≡ new.list.items = ap (λ v. v.items) changes
+    in let all : AreNoted trial new = told.forced (record {
+      kin = λ some. absurd (some none);
+      forced = subst (All (IsForced trial.structure.now (rule_at trial.closed.now old.number))) (sym none)
+          (All-nil (IsForced trial.structure.now (rule_at trial.closed.now old.number)));
+    })
+    in let Of : ℕ → List Change → Type 0 = AreForced trial.closed.now trial.number trial.structure.now
+    in record {
+      forced = subst (λ k. Of k found.changes.items) (sym number) (subst (Of new.number) (sym list) all);
+      stable = λ nothing n kin b individuals body. told.tells (sym list ∙ nothing) n kin b tt individuals body;
+    }
+
+pub can-try-kin : (trial : Trial) (scratch : ScratchForm) (n : ℕ) → IsKin trial.closed.now trial.number n
+    → CanCoerce (rules_of trial.closed.now) trial.structure.now scratch
+    → CanTry (rule_at trial.closed.now n) trial.structure.now scratch
+can-try-kin trial scratch n kin ready = can-try trial.closed.now n trial.structure.now scratch kin.within ready

@@ -27,13 +27,14 @@ pub record IsSharper (rule : RuleForm) (old new : StructureForm) : Type 0 where
   pub fewer : half_count new < half_count old
 
 -- the rule of that number asks for changes, of which there are some and which each stable structure below
--- has; the structure is stable under the other rules that don't wait
-pub record AreAsked (rules : List RuleForm) (s : StructureForm) (waiting : List Bool) (number : ℕ)
+-- has; the structure is stable under the rules that don't wait, but maybe the one that was tried
+pub record AreAsked (rules : List RuleForm) (s : StructureForm) (waiting : List Bool) (tried number : ℕ)
     (changes : List Change)
     : Type 0 where
   pub count : length waiting ≡ length rules
+  pub below : tried < length rules
   pub within : number < length rules
-  pub others : (m : ℕ) (rule : RuleForm) → slice_get rules m ≡ Some rule → m ≢ number → ¬ IsIn waiting m
+  pub others : (m : ℕ) (rule : RuleForm) → slice_get rules m ≡ Some rule → m ≢ tried → ¬ IsIn waiting m
       → IsStableUnder (structure_of s) rule
   pub forced : (rule : RuleForm) → slice_get rules number ≡ Some rule → All (IsForced s rule) changes
   pub some : changes ≢ []
@@ -42,7 +43,8 @@ pub record AreAsked (rules : List RuleForm) (s : StructureForm) (waiting : List 
 -- below is stable
 abbrev pub IsAttempted : List RuleForm → StructureForm → (waiting : List Bool) → Option Asked → Type 0
 IsAttempted rules s waiting None = IsStable rules (structure_of s)
-IsAttempted rules s waiting (Some (Changes number changes)) = AreAsked rules s waiting number changes.items
+IsAttempted rules s waiting (Some (Changes tried found)) =
+    AreAsked rules s waiting tried found.number found.changes.items
 IsAttempted rules s waiting (Some Impossible) = HasNoStable rules (structure_of s)
 
 -- t lies below s and above each stable structure below s, and is stable under the rules that don't wait

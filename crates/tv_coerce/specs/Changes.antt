@@ -1,6 +1,6 @@
 -- How a structure is sharpened: an unknown entry gets a definite value, or a summary becomes an ordinary
 -- individual.
-use Rattle.std.specs.Prelude.{◌≡◌, ◌≢◌, ◌<◌, ◌≤◌, ◌++◌, ◌⊎◌, List, [], ◌∷◌, false, true}
+use Rattle.std.specs.Prelude.{◌≡◌, ◌≢◌, ◌<◌, ◌≤◌, ◌⊎◌, false, true}
 use Rattle.tv_kleene.specs.declared.K3.TheVariants.{Half}
 use Rattle.tv_embedding_laws.specs.LogicalStructure.{LogicalStructure}
 use Rattle.tv_embedding_laws.specs.Embedding.{IsBelow}
@@ -26,10 +26,6 @@ IsPlace s (Ordinary x) = x < s.size
 abbrev pub IsOpen : StructureForm → Change → Type 0
 IsOpen s (Value pred tuple k) = (value_at s pred.0 (tuple_of tuple) ≡ Half) × (k ≢ Half)
 IsOpen s (Ordinary x) = summary_at s x ≡ true
-
--- the change was put behind the list, or passed over where the list isn't empty
-abbrev pub IsPushed : Change → (old new : List Change) → Type 0
-IsPushed c old new = (new ≡ old ++ c ∷ []) ⊎ ((new ≡ old) × (old ≢ []))
 
 -- the structure with the change
 abbrev pub changed : StructureForm → Change → StructureForm

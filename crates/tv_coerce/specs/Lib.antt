@@ -1,8 +1,9 @@
 pub mod Attempts
 pub mod Changes
 pub mod Coerced
+pub mod Counting
+pub mod Lacking
 pub mod Laws
-pub mod Passing
 pub mod Ready
 pub mod RuleSets
 pub mod Sharpened

@@ -1,5 +1,6 @@
 -- Sets of numbers of rules.
-use Rattle.std.specs.Prelude.{ℕ, ◌≡◌, ◌≢◌, ◌<◌, ◌⊎◌, ◌↔◌, Bool, true, false, List, length, Some, slice_get}
+use Rattle.std.specs.Prelude.{ℕ, ◌≡◌, ◌≢◌, ◌<◌, ◌≤◌, ◌⊎◌, ◌↔◌, Bool, true, false, List, length, Some}
+use Rattle.std.specs.Prelude.{slice_get}
 use Rattle.std.specs.Prelude.{slice_index_or}
 use Rattle.std.specs.List.{sum_by}
 use Rattle.tv_model.specs.Program.{RuleForm}
@@ -44,6 +45,13 @@ pub record HasLost (n : ℕ) (old new : List Bool) : Type 0 where
   pub others : (m : ℕ) → m ≢ n → IsIn new m ↔ IsIn old m
   pub count : length new ≡ length old
   pub fewer : member_count new < member_count old
+
+-- the new set has the numbers of the old one, but maybe some of which P holds
+pub record HasFewer (P : ℕ → Type 0) (old new : List Bool) : Type 0 where
+  pub kept : (n : ℕ) → IsIn new n → IsIn old n
+  pub lost : (n : ℕ) → IsIn old n → ¬ IsIn new n → P n
+  pub count : length new ≡ length old
+  pub fewer : member_count new ≤ member_count old
 
 -- the rule of that number is so
 abbrev pub IsRuleThat : (IsSo : RuleForm → Type 0) → List RuleForm → ℕ → Type 0

@@ -1,8 +1,6 @@
 -- How a rule is tried on a structure: its variables get individuals one after the other.
-use Rattle.std.specs.Prelude.{ℕ, ◌≡◌, ◌<◌, ◌≤◌, ◌⊎◌, true, List, [], ◌∷◌, length, Option}
+use Rattle.std.specs.Prelude.{ℕ, ◌≡◌, ◌<◌, ◌≤◌, ◌⊎◌, true, ◌≢◌, ◌++◌, List, [], ◌∷◌, length, Option}
 use Rattle.std.specs.Prelude.{None, Some, All, Contains, slice_index_or}
-use Rattle.std.specs.declared.vec.Vec.{Vec}
-use Rattle.std.specs.declared.alloc.Global.{Global}
 use Rattle.tv_model.specs.Form.{FOne}
 use Rattle.tv_model.specs.Program.{HeadForm, HNever, RuleForm}
 use Rattle.tv_model.specs.Rules.{IsFreeInRule}
@@ -18,10 +16,13 @@ use Rattle.tv_model.specs.declared.program.Rule.{Rule}
 use Rattle.tv_rules.specs.EntryForms.{rules_of}
 use Rattle.tv_stable_laws.specs.Laws.{IsPlainRule}
 use Rattle.tv_struct.specs.StructureForm.{StructureForm, arities_of, structure_of, summary_at}
-use Rattle.tv_coerce.specs.Changes.{Has, IsPushed, IsPlace, IsOpen}
+use Rattle.tv_coerce.specs.Changes.{Has, IsPlace, IsOpen}
 use Rattle.tv_coerce.specs.Ready.{IsRuleOver}
 use Rattle.tv_coerce.specs.Touched.{IsChangeOf}
-use Rattle.tv_rules.specs.Waiting.{AreWaits}
+use Rattle.tv_members.specs.Members.{IsLaidOut}
+use Rattle.tv_rules.specs.Kin.{IsKin, IsTriedBy, skip_of}
+use Rattle.tv_coerce.specs.declared.finding.Found.{Found}
+use Rattle.tv_coerce.specs.declared.noted.Noted.{Noted}
 use Rattle.tv_coerce.specs.declared.change.Change.{Change}
 use Rattle.tv_coerce.specs.declared.trial.Trial.{Trial}
 use Rattle.tv_coerce.specs.declared.trial.Outcome.{Outcome}
@@ -36,10 +37,12 @@ rule_at closed number = slice_index_or (rules_of closed) number (record { body =
 abbrev pub trial_rule : Trial → RuleForm
 trial_rule trial = rule_at trial.closed.now trial.number
 
--- the trial has the number of a rule, and what trying that rule goes by
+-- the trial has the number of a rule, and what trying it and each that came of the same base rule goes by
 pub record IsTrial (trial : Trial) : Type 0 where
   pub number : trial.number < length (rules_of trial.closed.now)
-  pub waits : AreWaits (trial_rule trial) trial.waits
+  pub laid : IsLaidOut trial.shape.now
+  pub kin : (n : ℕ) → IsKin trial.closed.now trial.number n
+      → IsTriedBy trial.shape.now (skip_of trial.closed.now n) (rule_at trial.closed.now n)
 
 -- the rule is over the structure's predicates, and there is room for its body
 pub record CanTry (rule : RuleForm) (s : StructureForm) (room : ScratchForm) : Type 0 where
@@ -51,9 +54,9 @@ pub record CanTry (rule : RuleForm) (s : StructureForm) (room : ScratchForm) : T
 abbrev pub ArePlaced : (size : ℕ) → RuleForm → (rest : List ℕ) → List (Option ℕ) → Type 0
 ArePlaced size rule rest places = (v : ℕ) → IsFreeInRule v rule → ¬ Contains rest v → IsAssigned size places v
 
--- b gives the variables of the rule what a gives them, but for those that are left
-abbrev pub GoesOn : RuleForm → (rest : List ℕ) → (a b : Assignment) → Type 0
-GoesOn rule rest a b = (v : ℕ) → IsFreeInRule v rule → ¬ Contains rest v → b v ≡ a v
+-- b gives these variables what a gives them, but for those that are left
+abbrev pub GoesOn : (vars rest : List ℕ) → (a b : Assignment) → Type 0
+GoesOn vars rest a b = (v : ℕ) → Contains vars v → ¬ Contains rest v → b v ≡ a v
 
 -- each structure below s that is stable under the rule has the change, which isn't known in s
 pub record IsForced (s : StructureForm) (rule : RuleForm) (c : Change) : Type 0 where
@@ -85,36 +88,61 @@ pub record StaysBound (s : StructureForm) (old now : Evaluator) : Type 0 where
   pub structure : bound_structure now ≡ s
   pub room : bound_room now ≡ bound_room old
 
--- what was noted of the head under one assignment
-abbrev pub IsNoted : StructureForm → Assignment → HeadForm → (old new : List Change) → Outcome → Type 0
-IsNoted s a head old new Possible =
-    ((new ≡ old) × IsNeed s a head Nothing) ⊎ ((c : Change) × IsPushed c old new × IsNeed s a head (Put c))
-IsNoted s a head old new Impossible = (new ≡ old) × IsNeed s a head Never
+-- the change was put behind what was noted, with the number of the rule that asks for it; or it was passed
+-- over where something was noted
+abbrev pub IsAdded : (c : Change) (number : ℕ) → (old new : Noted) → Type 0
+IsAdded c number old new =
+    ((new.list.items ≡ old.list.items ++ c ∷ []) × (new.number ≡ number)
+    × ((old.list.items ≡ []) ⊎ (old.number ≡ number)))
+    ⊎ ((new.list.items ≡ old.list.items) × (new.number ≡ old.number) × (old.list.items ≢ []))
+
+-- what was noted of the head of the rule of that number under one assignment
+abbrev pub IsNotedOf : StructureForm → Assignment → (number : ℕ) → HeadForm → (old new : Noted) → Outcome
+    → Type 0
+IsNotedOf s a number head old new Possible =
+    ((new ≡ old) × IsNeed s a head Nothing)
+    ⊎ ((c : Change) × IsAdded c number old new × IsNeed s a head (Put c))
+IsNotedOf s a number head old new Impossible = (new ≡ old) × IsNeed s a head Never
 
 -- only what the variables that are left stand for may differ
 abbrev pub DifferOnlyAt : (rest : List ℕ) → (old new : List (Option ℕ)) → Type 0
 DifferOnlyAt rest old new = (v : ℕ) → ¬ Contains rest v → individual_for new v ≡ individual_for old v
 
--- what trying tells: where nothing was noted, that all was tried; or that no structure below is stable
-abbrev pub Tells : StructureForm → RuleForm → (Tried : Type 0) → List Change → Outcome → Type 0
-Tells s rule Tried changes Possible = changes ≡ [] → Tried
-Tells s rule Tried changes Impossible = IsHopeless s rule
+-- ---- what trying a rule and those that came of the same base rule tells
+
+-- no structure below s is stable under one of them
+pub record HasHopeless (closed : List Rule) (number : ℕ) (s : StructureForm) : Type 0 where
+  pub hopeless : ℕ
+  pub kin : IsKin closed number hopeless
+  pub is : IsHopeless s (rule_at closed hopeless)
+
+-- the changes are asked for by one of them, whose number is given
+pub record AreForced (closed : List Rule) (number : ℕ) (s : StructureForm) (by : ℕ) (changes : List Change)
+    : Type 0 where
+  pub kin : changes ≢ [] → IsKin closed number by
+  pub forced : All (IsForced s (rule_at closed by)) changes
+
+abbrev pub AreNoted : Trial → Noted → Type 0
+AreNoted trial noted =
+    AreForced trial.closed.now trial.number trial.structure.now noted.number noted.list.items
+
+-- where nothing was noted, that all was tried; or that no structure below is stable
+abbrev pub Tells : Trial → (Tried : Type 0) → List Change → Outcome → Type 0
+Tells trial Tried changes Possible = changes ≡ [] → Tried
+Tells trial Tried changes Impossible = HasHopeless trial.closed.now trial.number trial.structure.now
 
 -- what was noted, and is told, where that was to be tried
-pub record IsTold (s : StructureForm) (rule : RuleForm) (Tried : Type 0) (old new : List Change)
-    (outcome : Outcome)
-    : Type 0 where
-  pub forced : All (IsForced s rule) old → All (IsForced s rule) new
-  pub grows : length old ≤ length new
-  pub tells : Tells s rule Tried new outcome
+pub record IsTold (trial : Trial) (Tried : Type 0) (old new : Noted) (outcome : Outcome) : Type 0 where
+  pub forced : AreNoted trial old → AreNoted trial new
+  pub grows : length old.list.items ≤ length new.list.items
+  pub tells : Tells trial Tried new.list.items outcome
 
--- what trying a rule found: no structure below is stable under it; or what has to change, and where that is
--- nothing the structure is stable
-abbrev pub IsTrialResult : StructureForm → RuleForm → Option (Vec Change Global) → Type 0
-IsTrialResult s rule None = IsHopeless s rule
-IsTrialResult s rule (Some changes) =
-    All (IsForced s rule) changes.items × (changes.items ≡ [] → IsStableUnder (structure_of s) rule)
+-- what has to change, and by which rule; where that is nothing the structure is stable under all of them
+pub record IsFound (closed : List Rule) (number : ℕ) (s : StructureForm) (found : Found) : Type 0 where
+  pub forced : AreForced closed number s found.number found.changes.items
+  pub stable : found.changes.items ≡ [] → (n : ℕ) → IsKin closed number n
+      → IsStableUnder (structure_of s) (rule_at closed n)
 
-abbrev pub answer_of : Outcome → Vec Change Global → Option (Vec Change Global)
-answer_of Possible changes = Some changes
-answer_of Impossible changes = None
+abbrev pub IsTrialResult : List Rule → ℕ → StructureForm → Option Found → Type 0
+IsTrialResult closed number s None = HasHopeless closed number s
+IsTrialResult closed number s (Some found) = IsFound closed number s found

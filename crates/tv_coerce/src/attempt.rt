@@ -9,7 +9,7 @@ ghost use Rattle.tv_coerce.specs.RuleSets.{IsStableBut};
 ghost use Rattle.tv_coerce.specs.Trying.{StaysBound};
 
 use crate::change::Change;
-use crate::finding::find;
+use crate::finding::{Found, find};
 use crate::rule_set::RuleSet;
 use std::alloc::{AllocError, Global};
 use tv_eval::{Assignment, Evaluator, Scratch};
@@ -19,8 +19,9 @@ use tv_struct::Structure;
 /// What a rule asks for.
 #[derive(Debug, Drop)]
 pub(crate) enum Asked {
-    /// The rule of that number asks for these changes, of which there are some.
-    Changes(usize, Vec<Change>),
+    /// The rule of that number was tried, and one that came of the same base rule asks for changes, of which
+    /// there are some.
+    Changes(usize, Found),
     /// No structure below is stable.
     Impossible,
 }
@@ -34,8 +35,8 @@ fn has_some(changes: &[Change]) -> bool
     }
 }
 
-/// Takes rules out of the set and tries them, until one asks for something. The evaluator keeps what it
-/// closes for the rules that follow.
+/// Takes rules out of the set and tries them, each with those that came of the same base rule, until one asks
+/// for something. The evaluator keeps what it closes for the rules that follow.
 fn attempt_by<'a>(
     alloc: Global,
     closed: &'a Closed,
@@ -55,10 +56,11 @@ fn attempt_by<'a>(
     while let Some(number) = waiting.take() {
         match find(alloc, closed, number, s, evaluator, &mut a)? {
             None => return Ok(Some(Asked::Impossible)),
-            Some(changes) => {
-                if has_some(changes.as_slice()) {
-                    return Ok(Some(Asked::Changes(number, changes)));
+            Some(found) => {
+                if has_some(found.changes.as_slice()) {
+                    return Ok(Some(Asked::Changes(number, found)));
                 }
+                waiting.remove_all(closed.kin(number));
             }
         }
     }

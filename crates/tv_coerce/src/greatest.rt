@@ -34,10 +34,10 @@ fn settle(
     while let Some(asked) = attempt(alloc, closed, t, waiting, scratch)? {
         match asked {
             Asked::Impossible => return Ok(false),
-            Asked::Changes(number, changes) => {
-                sharpen(t, changes.as_slice());
-                waiting.add_watching(closed, closed.head(number));
-                waiting.insert(number);
+            Asked::Changes(tried, found) => {
+                sharpen(t, found.changes.as_slice());
+                waiting.add_watching(closed, closed.head(found.number));
+                waiting.insert(tried);
             }
         }
     }

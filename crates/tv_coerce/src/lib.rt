@@ -4,13 +4,13 @@
 
 mod attempt;
 mod change;
+mod counting;
 mod finding;
 mod greatest;
 mod laws;
 mod lower;
 mod need;
 mod noted;
-mod passing;
 mod places;
 mod rule_set;
 mod sharpen;

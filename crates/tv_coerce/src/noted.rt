@@ -1,14 +1,15 @@
 //! Changes that were asked for. One that was asked for before may be passed over.
 
 ghost use Rattle.std.specs.Prelude.{◌≡◌, ◌≢◌, [], IsTrue, OnOk};
-ghost use Rattle.tv_coerce.specs.Changes.{IsPushed};
+ghost use Rattle.tv_coerce.specs.Trying.{IsAdded};
 
 use crate::change::Change;
+use crate::finding::Found;
 use std::alloc::{AllocError, Global};
 use tv_struct::Tuple;
 
-/// Changes that a rule asks for in a structure of `size` individuals. All are to be changes of one predicate
-/// to one value, or of summaries: else one may be passed over that was never noted.
+/// Changes that one rule asks for in a structure of `size` individuals, all of one predicate to one value, or
+/// of summaries. What another rule asks for meanwhile is passed over.
 #[derive(Debug, Drop)]
 pub(crate) struct Noted {
     list: Vec<Change>,
@@ -16,12 +17,17 @@ pub(crate) struct Noted {
     seen: Vec<bool>,
     /// How often a change was asked for, in turns of the count.
     asked: usize,
+    /// The number of the rule.
+    number: usize,
+    /// How many of its variables before the last don't stand in its head, none where the last one does. A
+    /// hint, of which nothing is promised.
+    settled: Option<usize>,
     alloc: Global,
     size: u32,
 }
 
-/// The number of a change among those that a rule may ask for.
-fn number_of(change: Change, size: u32) -> usize {
+/// The place of a change among those that a rule may ask for.
+fn place_of(change: Change, size: u32) -> usize {
     match change {
         Change::Ordinary(u) | Change::Value(_, Tuple::One(u), _) => u as usize,
         Change::Value(_, Tuple::Zero, _) => 0,
@@ -31,7 +37,7 @@ fn number_of(change: Change, size: u32) -> usize {
     }
 }
 
-/// How many numbers changes like this one have.
+/// How many places changes like this one have.
 fn count_of(change: Change, size: u32) -> usize {
     match change {
         Change::Value(_, Tuple::Zero, _) => 1,
@@ -49,37 +55,52 @@ impl Noted {
             list: Vec::new(alloc),
             seen: Vec::new(alloc),
             asked: 0,
+            number: 0,
+            settled: None,
             alloc,
             size,
         }
     }
 
-    /// Notes the change, or passes it over, but only where some change is noted already.
-    pub fn add(&mut self, change: Change) -> Result<(), AllocError>
-        ensures { OnOk result (IsPushed change self.old.list.items self.new.list.items) }
+    /// Notes the change, which the rule of that number asks for, or passes it over, but only where some
+    /// change is noted already.
+    pub fn add(
+        &mut self,
+        change: Change,
+        number: usize,
+        settled: Option<usize>,
+    ) -> Result<(), AllocError>
+        ensures { OnOk result (IsAdded change number self.old self.new) }
     {
+        if self.list.is_empty() {
+            self.number = number;
+            self.settled = settled;
+        } else if self.number != number {
+            return Ok(());
+        }
         self.asked = self.asked.wrapping_add(1);
-        let number = number_of(change, self.size);
-        if !self.list.is_empty() && self.is_seen(number) {
+        let place = place_of(change, self.size);
+        if !self.list.is_empty() && self.is_seen(place) {
             return Ok(());
         }
         if self.seen.is_empty() {
             self.seen = vec![in self.alloc; false; count_of(change, self.size)]?;
         }
-        self.mark(number);
+        self.mark(place);
         self.list.push(change)?;
         Ok(())
     }
 
-    fn is_seen(&self, number: usize) -> bool {
-        number < self.seen.len() && self.seen[number]
+    fn is_seen(&self, place: usize) -> bool {
+        place < self.seen.len() && self.seen[place]
     }
 
-    fn mark(&mut self, number: usize)
-        ensures { self.new.list ≡ self.old.list }
+    fn mark(&mut self, place: usize)
+        ensures list { self.new.list ≡ self.old.list }
+        ensures number { self.new.number ≡ self.old.number }
     {
-        if number < self.seen.len() {
-            self.seen[number] = true;
+        if place < self.seen.len() {
+            self.seen[place] = true;
         }
     }
 
@@ -89,21 +110,29 @@ impl Noted {
         self.asked
     }
 
-    /// Tells, by that count, whether a change was asked for since it stood so, if a number is given. True
-    /// only where some change is noted; that it is false promises nothing.
-    pub fn has_more(&self, once: Option<usize>) -> bool
+    /// Tells, by that count, whether a change was asked for since it stood so, while so many variables before
+    /// the last were left, none of which stands in the rule's head: what follows can then ask for no more
+    /// than that one. True only where some change is noted; that it is false promises nothing.
+    pub fn has_more(&self, asked: usize, rest: usize) -> bool
         ensures { IsTrue result → self.now.list.items ≢ [] }
     {
-        match once {
-            Some(asked) => !self.list.is_empty() && self.asked != asked,
+        if self.list.is_empty() {
+            return false;
+        }
+        match self.settled {
+            Some(left) => rest <= left && self.asked != asked,
             None => false,
         }
     }
 
-    /// The changes, in the order in which they were noted.
-    pub fn into_list(self) -> Vec<Change>
-        ensures { result ≡ self.list }
+    /// The changes, in the order in which they were noted, and the rule that asks for them.
+    pub fn into_found(self) -> Found
+        ensures number { result.number ≡ self.number }
+        ensures changes { result.changes ≡ self.list }
     {
-        self.list
+        Found {
+            number: self.number,
+            changes: self.list,
+        }
     }
 }

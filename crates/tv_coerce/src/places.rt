@@ -1,17 +1,22 @@
-//! The individuals with which members of a rule pass, found by words of values.
+//! The members of a base rule are counted by words of values.
 
-ghost use Rattle.std.specs.Prelude.{◌≡◌, ◌<◌, ◌*◌, ℕ, Bool, Some, All, length, slice_get};
+ghost use Rattle.std.specs.Prelude.{◌≡◌, ◌≢◌, ◌<◌, ◌*◌, ℕ, Bool, Some, All, length, slice_get};
 ghost use Rattle.tv_kleene.specs.declared.K3.{K3};
 ghost use Rattle.tv_eval.specs.Along.{IsWordAlong, IsWordOf};
 ghost use Rattle.tv_eval.specs.AssignmentForm.{assignment_of};
 ghost use Rattle.tv_eval.specs.Bound.{IsBound, bound_structure, bound_room};
 ghost use Rattle.tv_members.specs.Members.{AreSteps, MemberForm};
-ghost use Rattle.tv_coerce.specs.Passing.{CanRead, IsNarrowed, Passes, PassesAt, Stops, StopsAt, members_in};
-ghost use Rattle.tv_coerce.specs.Passing.{signed_value};
+ghost use Rattle.tv_kleene.specs.declared.K3.TheVariants.{Yes};
+ghost use Rattle.tv_row.specs.Bits.{paired};
+ghost use Rattle.tv_eval_laws.specs.Value.{value};
+ghost use Rattle.tv_struct.specs.StructureForm.{structure_of};
+ghost use Rattle.tv_coerce.specs.Counting.{CanRead, IsAt, IsBarring, IsCounted, IsIdle, Lacks, counted};
+ghost use Rattle.tv_coerce.specs.Counting.{members_in};
+ghost use Rattle.tv_coerce.specs.Counting.{signed_value};
 ghost use Rattle.tv_coerce.specs.Trying.{StaysBound};
 
 use crate::need::at;
-use crate::trial::{Trial, is_yes};
+use crate::trial::{Trial, is_no};
 use tv_eval::{Assignment, Evaluator, places, same_as};
 use tv_members::{Reading, Step};
 use tv_model::Var;
@@ -58,16 +63,24 @@ fn read<'a>(
         Reading::First(flag, p, x) => signed(s, *flag, s.column_word(*p, at(a, *x), chunk), chunk),
         Reading::Same(flag, x) => signed(s, *flag, same_as(at(a, *x), chunk, s), chunk),
         Reading::Other => {
-            let members = trial.waits.shape.members.as_slice();
+            let members = trial.shape.members.as_slice();
             evaluator.word(&members[step.member].formula, v, chunk, a)
         }
     }
 }
 
-/// The individuals of the word for which the step's member is `Yes`, or isn't `No`, if it is what the head
-/// denies.
+/// How the values count together.
 #[inline(always)]
-fn lowered<'a>(
+pub(crate) fn counted(word: Word, values: Word) -> Word
+    ensures { result ≡ paired counted word values }
+{
+    let both = word.and(values);
+    word.or(values).unless_no(both).and(both)
+}
+
+/// The word with the step's member counted too.
+#[inline(always)]
+fn counted_step<'a>(
     trial: &Trial<'a>,
     evaluator: &mut Evaluator<'a>,
     step: &Step,
@@ -81,23 +94,23 @@ fn lowered<'a>(
     requires can { CanRead trial.now (bound_room evaluator.old) v.0 a.now step.now }
     requires chunk { 64 * chunk < trial.now.structure.now.size }
     requires long { length word ≡ 64 }
-    ensures narrowed { (m : MemberForm) → slice_get (members_in trial.now) step.now.member ≡ Some m
-        → IsNarrowed trial.now.structure.now.size (assignment_of a.now) v.0 chunk
-        (λ b. Passes trial.now.structure.now b trial.now.waits.skip step.now.member m)
-        (λ b. Stops trial.now.structure.now b trial.now.waits.skip step.now.member m) word result }
+    ensures counted { (m : MemberForm) → slice_get (members_in trial.now) step.now.member ≡ Some m
+        → IsCounted trial.now.structure.now.size (assignment_of a.now) v.0 chunk
+        (λ b. value (structure_of trial.now.structure.now) b m.form ≢ Yes)
+        (λ b. IsBarring trial.now.structure.now b m) word result }
     ensures stays { StaysBound trial.now.structure.now evaluator.old evaluator.new }
 {
     let values = read(trial, evaluator, step, v, chunk, a);
-    if step.member == trial.waits.skip {
-        word.unless_no(values)
+    if step.literal {
+        counted(word, values)
     } else {
-        word.and(values)
+        word.and(values.unless_no(values))
     }
 }
 
-/// The individuals of the word with which the members pass that are tested together, put for the variable.
+/// The word with the members counted that are tested together, with its individuals put for the variable.
 #[inline(always)]
-pub(crate) fn narrowed<'a>(
+pub(crate) fn counted_all<'a>(
     trial: &Trial<'a>,
     evaluator: &mut Evaluator<'a>,
     steps: &[Step],
@@ -111,19 +124,18 @@ pub(crate) fn narrowed<'a>(
     requires can { All (CanRead trial.now (bound_room evaluator.old) v.0 a.now) steps.now }
     requires chunk { 64 * chunk < trial.now.structure.now.size }
     requires long { length word ≡ 64 }
-    ensures narrowed { (left : ℕ) (last : Bool) → AreSteps (members_in trial.now) left last steps.now
-        → IsNarrowed trial.now.structure.now.size (assignment_of a.now) v.0 chunk
-        (λ b. PassesAt trial.now.structure.now b trial.now.waits.skip left last (members_in trial.now))
-        (λ b. StopsAt trial.now.structure.now b trial.now.waits.skip left last (members_in trial.now))
-        word result }
+    ensures counted { (left : ℕ) (last : Bool) → AreSteps (members_in trial.now) left last steps.now
+        → IsCounted trial.now.structure.now.size (assignment_of a.now) v.0 chunk
+        (λ b. Lacks (IsAt left last) trial.now.structure.now b (members_in trial.now))
+        (λ b. IsIdle (IsAt left last) trial.now.structure.now b (members_in trial.now)) word result }
     ensures stays { StaysBound trial.now.structure.now evaluator.old evaluator.new }
 {
     let mut word = word;
     for step in steps {
-        if !is_yes(word.greatest()) {
+        if is_no(word.greatest()) {
             return word;
         }
-        word = lowered(trial, evaluator, step, v, chunk, a, word);
+        word = counted_step(trial, evaluator, step, v, chunk, a, word);
     }
     word
 }

@@ -7,7 +7,7 @@ ghost use Rattle.tv_rules.specs.EntryForms.{rules_of};
 ghost use Rattle.tv_rules.specs.Moved.{IsMoved, IsMovedBySome};
 ghost use Rattle.tv_rules.specs.Seen.{Sees};
 ghost use Rattle.tv_rules.specs.Standing.{StandsIn, SeesSummaries};
-ghost use Rattle.tv_coerce.specs.RuleSets.{AreOf, IsIn, IsRuleThat, HasAtLeast, HasMore, HasLost};
+ghost use Rattle.tv_coerce.specs.RuleSets.{AreOf, IsIn, IsRuleThat, HasAtLeast, HasFewer, HasMore, HasLost};
 
 use std::alloc::{AllocError, Global};
 use std::marker::Model;
@@ -80,6 +80,25 @@ impl RuleSet {
     {
         self.flags.put(number, true);
         self.first = self.first.min(number);
+    }
+
+    /// Takes the number out of the set, if it is there.
+    fn remove(&mut self, number: usize)
+        requires { number < length self.old }
+        ensures { HasFewer (λ n. n ≡ number) self.old self.new }
+    {
+        self.flags.put(number, false);
+    }
+
+    /// Takes the numbers out of the set, those that are there.
+    #[tactic(auto, using(crate::proofs::SetLaws::none_gone))]
+    pub(crate) fn remove_all(&mut self, numbers: &[usize])
+        requires { All (λ n. n < length self.old) numbers.now }
+        ensures { HasFewer (Contains numbers.now) self.old self.new }
+    {
+        for number in numbers {
+            self.remove(*number);
+        }
     }
 
     /// Puts the numbers into the set.

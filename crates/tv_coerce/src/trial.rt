@@ -1,121 +1,160 @@
-//! A rule is tried on a structure: its variables get individuals one after the other, and what has to change
-//! is noted.
+//! A rule is tried on a structure, with all that came of the same base rule: its variables get individuals
+//! one after the other, and what has to change is noted.
 
-ghost use Rattle.std.specs.Prelude.{◌≡◌, ◌≢◌, ◌<◌, ◌*◌, ◌++◌, [], ◌∷◌, IfOk, MatchBool, Some, false, length};
-ghost use Rattle.std.specs.Prelude.{slice_get};
-ghost use Rattle.tv_kleene.specs.declared.K3.TheVariants.{Yes};
+ghost use Rattle.std.specs.Prelude.{◌≡◌, ◌≢◌, ◌<◌, ◌*◌, ◌++◌, [], ◌∷◌, ℕ, All, Contains, IfOk, IsTrue};
+ghost use Rattle.std.specs.Prelude.{MatchBool};
+ghost use Rattle.std.specs.Prelude.{Some, ◌↔◌, false, length, slice_get};
+ghost use Rattle.tv_kleene.specs.declared.K3.{K3};
+ghost use Rattle.tv_kleene.specs.declared.K3.TheVariants.{No, Yes};
 ghost use Rattle.tv_eval.specs.AssignmentForm.{assignment_of};
 ghost use Rattle.tv_eval.specs.Bound.{IsBound, bound_structure, bound_room};
+ghost use Rattle.tv_eval_laws.specs.Value.{value};
 ghost use Rattle.tv_members.specs.Members.{numbers_of};
+ghost use Rattle.tv_rules.specs.EntryForms.{rules_of};
+ghost use Rattle.tv_rules.specs.Kin.{IsKin};
 ghost use Rattle.tv_stable_laws.specs.Laws.{IsPlainRule};
-ghost use Rattle.tv_struct.specs.StructureForm.{arities_of};
-ghost use Rattle.tv_coerce.specs.Passing.{IsWalkStart, PassesAt, members_in, variables_in};
-ghost use Rattle.tv_coerce.specs.Ready.{IsRuleOver};
-ghost use Rattle.tv_coerce.specs.Trying.{ArePlaced, CanTry, DifferOnlyAt, IsNoted, IsTold, IsTrial};
-ghost use Rattle.tv_coerce.specs.Trying.{StaysBound, trial_rule};
-ghost use Rattle.tv_coerce.specs.Walks.{GoesOnIn, IsAny, IsInChunk, IsTriedFor};
+ghost use Rattle.tv_struct.specs.StructureForm.{arities_of, structure_of};
+ghost use Rattle.tv_coerce.specs.Counting.{CountTells, IsAt, IsIdle, IsWalkStart, Lacks, members_in};
+ghost use Rattle.tv_coerce.specs.Counting.{variables_in};
+ghost use Rattle.tv_coerce.specs.Ready.{CanCoerce, IsRuleOver};
+ghost use Rattle.tv_coerce.specs.Trying.{ArePlaced, CanTry, DifferOnlyAt, IsNotedOf, IsTold, IsTrial};
+ghost use Rattle.tv_coerce.specs.Trying.{StaysBound, rule_at, trial_rule};
+ghost use Rattle.tv_coerce.specs.Walks.{AreMet, AreTriedFor, GoesOnIn, IsAny, IsInChunk};
 
 use crate::change::Need;
+use crate::counting::{Missing, count, lacking};
 use crate::need::need;
 use crate::noted::Noted;
-use crate::passing::may_pass;
-use crate::places::narrowed;
+use crate::places::{counted, counted_all};
 use std::alloc::AllocError;
 use tv_eval::{Assignment, Evaluator, chunks, places};
 use tv_kleene::K3;
-use tv_members::Level;
+use tv_members::{Level, Shape};
 use tv_model::Var;
 use tv_row::Word;
-use tv_rules::{Closed, Waits};
+use tv_rules::Closed;
 use tv_struct::Structure;
 
-/// A rule, by its number, and the structure that it is tried on.
+/// A rule, by its number, and the structure that it is tried on, with all that came of the same base rule.
 #[derive(Clone, Copy)]
 pub(crate) struct Trial<'a> {
     pub structure: &'a Structure,
     pub closed: &'a Closed,
     pub number: usize,
-    pub waits: Waits<'a>,
+    pub shape: &'a Shape,
     /// The last of the rule's variables.
     pub last: Var,
     /// Which individuals it stands for: those from `64 * chunk` on, at most 64.
     pub chunk: u32,
-    /// How many of the variables before the last don't stand in the head, none where the last one does.
-    pub settled: Option<usize>,
 }
 
-/// Whether a structure below can be stable under the rule.
+/// Whether a structure below can be stable under the rules.
 #[derive(Clone, Copy, Debug, PartialEq, Eq)]
 pub(crate) enum Outcome {
     Possible,
     Impossible,
 }
 
-pub(crate) fn is_yes(k: K3) -> bool
-    ensures { MatchBool result (k ≡ Yes) (k ≢ Yes) }
+pub(crate) fn is_no(k: K3) -> bool
+    ensures { MatchBool result (k ≡ No) (k ≢ No) }
 {
-    k == K3::Yes
+    k == K3::No
 }
 
-/// Notes what the head needs under the assignment, under which the body is `Yes`.
-fn note(trial: &Trial, a: &Assignment, noted: &mut Noted) -> Result<Outcome, AllocError>
-    requires trial { IsTrial trial.now }
-    requires over { IsRuleOver (arities_of trial.now.structure.now) (trial_rule trial.now) }
-    requires placed { ArePlaced trial.now.structure.now.size (trial_rule trial.now) [] a.now }
-    ensures noted { IfOk result
-        (IsNoted trial.now.structure.now (assignment_of a.now) (trial_rule trial.now).head
-        noted.old.list.items noted.new.list.items) }
+/// Notes what the head of the rule of that number needs under the assignment, under which its body is `Yes`.
+fn note_head(
+    trial: &Trial,
+    number: usize,
+    settled: Option<usize>,
+    a: &Assignment,
+    noted: &mut Noted,
+) -> Result<Outcome, AllocError>
+    requires number { number < length (rules_of trial.now.closed.now) }
+    requires over { IsRuleOver (arities_of trial.now.structure.now) (rule_at trial.now.closed.now number) }
+    requires placed { ArePlaced trial.now.structure.now.size (rule_at trial.now.closed.now number) [] a.now }
+    ensures noted { IfOk result (IsNotedOf trial.now.structure.now (assignment_of a.now) number
+        (rule_at trial.now.closed.now number).head noted.old noted.new) }
 {
-    match need(trial.structure, trial.waits.head, a) {
+    match need(trial.structure, trial.closed.head(number), a) {
         Need::Nothing => Ok(Outcome::Possible),
         Need::Never => Ok(Outcome::Impossible),
         Need::Put(change) => {
-            noted.add(change)?;
+            noted.add(change, number, settled)?;
             Ok(Outcome::Possible)
         }
     }
 }
 
-/// How often a change was asked for so far, where the head has none of the variables that are left, so many
-/// before the last: what follows can then ask for no more than one. A hint, of which nothing is promised.
-#[inline(always)]
-fn at_most_once(trial: &Trial, rest: usize, noted: &Noted) -> Option<usize> {
-    let left = trial.settled?;
-    if rest <= left {
-        Some(noted.asked())
-    } else {
-        None
+/// How many of the variables before the last don't stand in the member, none where the last one does. A hint,
+/// of which nothing is promised.
+fn settled_by(shape: &Shape, member: usize) -> Option<usize> {
+    let denied = shape.members.as_slice().get(member)?;
+    if denied.last { None } else { Some(denied.left) }
+}
+
+/// Notes what the rules ask for under the assignment: where all members are `Yes` no structure below is
+/// stable, and where one isn't, the rule that denies it asks for that.
+#[inline(never)]
+fn note<'a>(
+    trial: &Trial<'a>,
+    evaluator: &mut Evaluator<'a>,
+    a: &Assignment,
+    noted: &mut Noted,
+) -> Result<Outcome, AllocError>
+    requires trial { IsTrial trial.now }
+    requires bound { IsBound evaluator.old }
+    requires structure { bound_structure evaluator.old ≡ trial.now.structure.now }
+    requires ready { CanCoerce (rules_of trial.now.closed.now) trial.now.structure.now
+        (bound_room evaluator.old) }
+    requires placed { ArePlaced trial.now.structure.now.size (trial_rule trial.now) [] a.now }
+    ensures told { IfOk result
+        (IsTold trial.now (AreMet trial.now (assignment_of a.now)) noted.old noted.new) }
+    ensures stays { StaysBound trial.now.structure.now evaluator.old evaluator.new }
+{
+    match lacking(trial, evaluator, a) {
+        Missing::Nothing => note_head(trial, trial.number, None, a, noted),
+        Missing::Member(member) => match trial.closed.denying(trial.number, member) {
+            None => Ok(Outcome::Possible),
+            Some(number) => {
+                let settled = settled_by(trial.shape, member);
+                note_head(trial, number, settled, a, noted)
+            }
+        },
+        Missing::Several => Ok(Outcome::Possible),
     }
 }
 
-/// Notes what the head needs with the individuals of the word put for the last variable.
+/// Notes what the rules ask for with the individuals put for the last variable that the word doesn't rule
+/// out.
 #[inline(never)]
-fn note_all(
-    trial: &Trial,
+fn note_all<'a>(
+    trial: &Trial<'a>,
+    evaluator: &mut Evaluator<'a>,
     tail: Word,
     a: &mut Assignment,
     noted: &mut Noted,
 ) -> Result<Outcome, AllocError>
     requires trial { IsTrial trial.now }
-    requires over { IsRuleOver (arities_of trial.now.structure.now) (trial_rule trial.now) }
-    requires plain { IsPlainRule (trial_rule trial.now) }
+    requires bound { IsBound evaluator.old }
+    requires structure { bound_structure evaluator.old ≡ trial.now.structure.now }
+    requires ready { CanCoerce (rules_of trial.now.closed.now) trial.now.structure.now
+        (bound_room evaluator.old) }
     requires walk { IsWalkStart trial.now [] a.old tail }
     ensures told { IfOk result
-        (IsTold trial.now.structure.now (trial_rule trial.now)
-        (IsTriedFor trial.now.structure.now (trial_rule trial.now)
-        (GoesOnIn (trial_rule trial.now) (trial.now.last.0 ∷ []) trial.now.last.0 trial.now.chunk
-        (assignment_of a.old)))
-        noted.old.list.items noted.new.list.items) }
+        (IsTold trial.now
+        (AreTriedFor trial.now (GoesOnIn trial.now (trial.now.last.0 ∷ []) (assignment_of a.old)))
+        noted.old noted.new) }
     ensures keeps { DifferOnlyAt (trial.now.last.0 ∷ []) a.old a.new }
+    ensures stays { StaysBound trial.now.structure.now evaluator.old evaluator.new }
 {
     let _ = trial.structure.size();
-    let once = at_most_once(trial, 0, noted);
+    let asked = noted.asked();
     let mut from = 0;
-    while let Some(i) = tail.first_yes(from) {
+    while let Some(i) = tail.first_possible(from) {
         a.set(trial.last, 64 * trial.chunk + i);
-        match note(trial, a, noted)? {
+        match note(trial, evaluator, a, noted)? {
             Outcome::Possible => {
-                if noted.has_more(once) {
+                if noted.has_more(asked, 0) {
                     return Ok(Outcome::Possible);
                 }
                 from = i + 1;
@@ -129,13 +168,13 @@ fn note_all(
 /// What is tested once all but so many of the variables before the last have individuals.
 #[inline(always)]
 fn level_of<'a>(trial: &Trial<'a>, left: usize) -> &'a Level
-    requires { left < length trial.now.waits.shape.now.levels }
-    ensures { slice_get trial.now.waits.shape.now.levels left ≡ Some result.now }
+    requires { left < length trial.now.shape.now.levels }
+    ensures { slice_get trial.now.shape.now.levels left ≡ Some result.now }
 {
-    &trial.waits.shape.levels.as_slice()[left]
+    &trial.shape.levels.as_slice()[left]
 }
 
-/// Tries the rule with the individuals put for the variables that are left before the last, and those of the
+/// Tries the rules with the individuals put for the variables that are left before the last, and those of the
 /// word for the last one. What these stand for is changed on the way.
 #[cycle(walk)]
 fn walk<'a>(
@@ -149,25 +188,25 @@ fn walk<'a>(
     requires trial { IsTrial trial.now }
     requires bound { IsBound evaluator.old }
     requires structure { bound_structure evaluator.old ≡ trial.now.structure.now }
-    requires ready { CanTry (trial_rule trial.now) trial.now.structure.now (bound_room evaluator.old) }
+    requires ready { CanCoerce (rules_of trial.now.closed.now) trial.now.structure.now
+        (bound_room evaluator.old) }
     requires walk { IsWalkStart trial.now (numbers_of rest.now) a.old tail }
     ensures told { IfOk result
-        (IsTold trial.now.structure.now (trial_rule trial.now)
-        (IsTriedFor trial.now.structure.now (trial_rule trial.now)
-        (GoesOnIn (trial_rule trial.now) (numbers_of rest.now ++ trial.now.last.0 ∷ []) trial.now.last.0
-        trial.now.chunk (assignment_of a.old)))
-        noted.old.list.items noted.new.list.items) }
+        (IsTold trial.now
+        (AreTriedFor trial.now
+        (GoesOnIn trial.now (numbers_of rest.now ++ trial.now.last.0 ∷ []) (assignment_of a.old)))
+        noted.old noted.new) }
     ensures keeps { DifferOnlyAt (numbers_of rest.now ++ trial.now.last.0 ∷ []) a.old a.new }
     ensures stays { StaysBound trial.now.structure.now evaluator.old evaluator.new }
 {
     match rest {
-        [] => note_all(trial, tail, a, noted),
+        [] => note_all(trial, evaluator, tail, a, noted),
         [v, behind @ ..] => {
-            let once = at_most_once(trial, rest.len(), noted);
+            let asked = noted.asked();
             for chunk in 0..chunks(trial.structure.size()) {
-                match walk_chunk(trial, evaluator, *v, behind, chunk, once, tail, a, noted)? {
+                match walk_chunk(trial, evaluator, *v, behind, chunk, tail, a, noted)? {
                     Outcome::Possible => {
-                        if noted.has_more(once) {
+                        if noted.has_more(asked, rest.len()) {
                             return Ok(Outcome::Possible);
                         }
                     }
@@ -180,7 +219,7 @@ fn walk<'a>(
 }
 
 /// The same, with the individuals from `64 * chunk` on, at most 64, put for the variable before those that
-/// are left. Ends with the first change that is asked for, if `once` tells how often one was so far.
+/// are left.
 #[cycle(walk)]
 fn walk_chunk<'a>(
     trial: &Trial<'a>,
@@ -188,7 +227,6 @@ fn walk_chunk<'a>(
     v: Var,
     rest: &[Var],
     chunk: u32,
-    once: Option<usize>,
     tail: Word,
     a: &mut Assignment,
     noted: &mut Noted,
@@ -196,31 +234,34 @@ fn walk_chunk<'a>(
     requires trial { IsTrial trial.now }
     requires bound { IsBound evaluator.old }
     requires structure { bound_structure evaluator.old ≡ trial.now.structure.now }
-    requires ready { CanTry (trial_rule trial.now) trial.now.structure.now (bound_room evaluator.old) }
+    requires ready { CanCoerce (rules_of trial.now.closed.now) trial.now.structure.now
+        (bound_room evaluator.old) }
     requires walk { IsWalkStart trial.now (v.0 ∷ numbers_of rest.now) a.old tail }
     requires chunk { 64 * chunk < trial.now.structure.now.size }
     ensures told { IfOk result
-        (IsTold trial.now.structure.now (trial_rule trial.now)
-        (IsTriedFor trial.now.structure.now (trial_rule trial.now)
-        (λ b. GoesOnIn (trial_rule trial.now) (v.0 ∷ numbers_of rest.now ++ trial.now.last.0 ∷ [])
-        trial.now.last.0 trial.now.chunk (assignment_of a.old) b × IsInChunk v.0 chunk b))
-        noted.old.list.items noted.new.list.items) }
+        (IsTold trial.now
+        (AreTriedFor trial.now
+        (λ b. GoesOnIn trial.now (v.0 ∷ numbers_of rest.now ++ trial.now.last.0 ∷ []) (assignment_of a.old) b
+        × IsInChunk v.0 chunk b))
+        noted.old noted.new) }
     ensures keeps { DifferOnlyAt (v.0 ∷ numbers_of rest.now ++ trial.now.last.0 ∷ []) a.old a.new }
     ensures stays { StaysBound trial.now.structure.now evaluator.old evaluator.new }
 {
+    let asked = noted.asked();
     let all = Word::of(places(trial.structure.size(), chunk), K3::Yes);
     let level = level_of(trial, rest.len());
-    let own = narrowed(trial, evaluator, level.own.as_slice(), v, chunk, a, all);
+    let own = counted_all(trial, evaluator, level.own.as_slice(), v, chunk, a, all);
     let mut from = 0;
-    while let Some(i) = own.first_yes(from) {
+    while let Some(i) = own.first_possible(from) {
         a.set(v, 64 * chunk + i);
         from = i + 1;
         let steps = level.last.as_slice();
-        let word = narrowed(trial, evaluator, steps, trial.last, trial.chunk, a, tail);
-        if is_yes(word.greatest()) {
+        let begun = counted(tail, Word::of(64, own.get(i)));
+        let word = counted_all(trial, evaluator, steps, trial.last, trial.chunk, a, begun);
+        if !is_no(word.greatest()) {
             match walk(trial, evaluator, rest, word, a, noted)? {
                 Outcome::Possible => {
-                    if noted.has_more(once) {
+                    if noted.has_more(asked, rest.len() + 1) {
                         return Ok(Outcome::Possible);
                     }
                 }
@@ -231,42 +272,46 @@ fn walk_chunk<'a>(
     Ok(Outcome::Possible)
 }
 
-/// Tries the rule with the individuals of the trial's chunk put for its last variable, if its members without
-/// variables let it pass.
+/// Tries the rules with the individuals of the trial's chunk put for their last variable, if the members
+/// without variables, which count so, don't rule that out.
 fn walk_last<'a>(
     trial: &Trial<'a>,
     evaluator: &mut Evaluator<'a>,
     before: &[Var],
+    own: K3,
     a: &mut Assignment,
     noted: &mut Noted,
 ) -> Result<Outcome, AllocError>
     requires trial { IsTrial trial.now }
     requires bound { IsBound evaluator.old }
     requires structure { bound_structure evaluator.old ≡ trial.now.structure.now }
-    requires ready { CanTry (trial_rule trial.now) trial.now.structure.now (bound_room evaluator.old) }
+    requires ready { CanCoerce (rules_of trial.now.closed.now) trial.now.structure.now
+        (bound_room evaluator.old) }
     requires variables { variables_in trial.now
         ≡ numbers_of before.now ++ trial.now.last.0 ∷ [] }
     requires chunk { 64 * trial.now.chunk < trial.now.structure.now.size }
-    requires own { PassesAt trial.now.structure.now (assignment_of a.old) trial.now.waits.skip
-        (length (numbers_of before.now)) false (members_in trial.now) }
+    requires own { CountTells
+        (Lacks (IsAt (length (numbers_of before.now)) false) trial.now.structure.now (assignment_of a.old)
+        (members_in trial.now))
+        (IsIdle (IsAt (length (numbers_of before.now)) false) trial.now.structure.now (assignment_of a.old)
+        (members_in trial.now)) own }
+    requires some { own ≢ No }
     ensures told { IfOk result
-        (IsTold trial.now.structure.now (trial_rule trial.now)
-        (IsTriedFor trial.now.structure.now (trial_rule trial.now)
-        (IsInChunk trial.now.last.0 trial.now.chunk))
-        noted.old.list.items noted.new.list.items) }
+        (IsTold trial.now (AreTriedFor trial.now (IsInChunk trial.now.last.0 trial.now.chunk))
+        noted.old noted.new) }
     ensures stays { StaysBound trial.now.structure.now evaluator.old evaluator.new }
 {
     let level = level_of(trial, before.len());
-    let all = Word::of(places(trial.structure.size(), trial.chunk), K3::Yes);
+    let all = Word::of(places(trial.structure.size(), trial.chunk), own);
     let steps = level.last.as_slice();
-    let tail = narrowed(trial, evaluator, steps, trial.last, trial.chunk, a, all);
-    if !is_yes(tail.greatest()) {
+    let tail = counted_all(trial, evaluator, steps, trial.last, trial.chunk, a, all);
+    if is_no(tail.greatest()) {
         return Ok(Outcome::Possible);
     }
     walk(trial, evaluator, before, tail, a, noted)
 }
 
-/// Tries a rule without variables.
+/// Tries rules without variables.
 fn walk_none<'a>(
     trial: &Trial<'a>,
     evaluator: &mut Evaluator<'a>,
@@ -276,22 +321,20 @@ fn walk_none<'a>(
     requires trial { IsTrial trial.now }
     requires bound { IsBound evaluator.old }
     requires structure { bound_structure evaluator.old ≡ trial.now.structure.now }
-    requires ready { CanTry (trial_rule trial.now) trial.now.structure.now (bound_room evaluator.old) }
+    requires ready { CanCoerce (rules_of trial.now.closed.now) trial.now.structure.now
+        (bound_room evaluator.old) }
     requires variables { variables_in trial.now ≡ [] }
-    ensures told { IfOk result
-        (IsTold trial.now.structure.now (trial_rule trial.now)
-        (IsTriedFor trial.now.structure.now (trial_rule trial.now) IsAny)
-        noted.old.list.items noted.new.list.items) }
+    ensures told { IfOk result (IsTold trial.now (AreTriedFor trial.now IsAny) noted.old noted.new) }
     ensures stays { StaysBound trial.now.structure.now evaluator.old evaluator.new }
 {
     let level = level_of(trial, 0);
-    if !may_pass(trial, evaluator, level.own.as_slice(), a) {
+    if is_no(count(trial, evaluator, level.own.as_slice(), a)) {
         return Ok(Outcome::Possible);
     }
-    note(trial, a, noted)
+    note(trial, evaluator, a, noted)
 }
 
-/// Tries a rule whose variables are those before and `last`.
+/// Tries rules whose variables are those before and `last`.
 fn walk_some<'a>(
     trial: &Trial<'a>,
     evaluator: &mut Evaluator<'a>,
@@ -303,16 +346,15 @@ fn walk_some<'a>(
     requires trial { IsTrial trial.now }
     requires bound { IsBound evaluator.old }
     requires structure { bound_structure evaluator.old ≡ trial.now.structure.now }
-    requires ready { CanTry (trial_rule trial.now) trial.now.structure.now (bound_room evaluator.old) }
+    requires ready { CanCoerce (rules_of trial.now.closed.now) trial.now.structure.now
+        (bound_room evaluator.old) }
     requires variables { variables_in trial.now ≡ numbers_of before.now ++ last.0 ∷ [] }
-    ensures told { IfOk result
-        (IsTold trial.now.structure.now (trial_rule trial.now)
-        (IsTriedFor trial.now.structure.now (trial_rule trial.now) IsAny)
-        noted.old.list.items noted.new.list.items) }
+    ensures told { IfOk result (IsTold trial.now (AreTriedFor trial.now IsAny) noted.old noted.new) }
     ensures stays { StaysBound trial.now.structure.now evaluator.old evaluator.new }
 {
     let level = level_of(trial, before.len());
-    if !may_pass(trial, evaluator, level.own.as_slice(), a) {
+    let own = count(trial, evaluator, level.own.as_slice(), a);
+    if is_no(own) {
         return Ok(Outcome::Possible);
     }
     for chunk in 0..chunks(trial.structure.size()) {
@@ -321,7 +363,7 @@ fn walk_some<'a>(
             chunk,
             ..*trial
         };
-        match walk_last(&here, evaluator, before, a, noted)? {
+        match walk_last(&here, evaluator, before, own, a, noted)? {
             Outcome::Possible => {}
             Outcome::Impossible => return Ok(Outcome::Impossible),
         }
@@ -329,7 +371,7 @@ fn walk_some<'a>(
     Ok(Outcome::Possible)
 }
 
-/// Tries the rule under each assignment of its variables. What these stand for is changed on the way.
+/// Tries the rules under each assignment of their variables. What these stand for is changed on the way.
 pub(crate) fn walk_all<'a>(
     trial: &Trial<'a>,
     evaluator: &mut Evaluator<'a>,
@@ -339,14 +381,12 @@ pub(crate) fn walk_all<'a>(
     requires trial { IsTrial trial.now }
     requires bound { IsBound evaluator.old }
     requires structure { bound_structure evaluator.old ≡ trial.now.structure.now }
-    requires ready { CanTry (trial_rule trial.now) trial.now.structure.now (bound_room evaluator.old) }
-    ensures told { IfOk result
-        (IsTold trial.now.structure.now (trial_rule trial.now)
-        (IsTriedFor trial.now.structure.now (trial_rule trial.now) IsAny)
-        noted.old.list.items noted.new.list.items) }
+    requires ready { CanCoerce (rules_of trial.now.closed.now) trial.now.structure.now
+        (bound_room evaluator.old) }
+    ensures told { IfOk result (IsTold trial.now (AreTriedFor trial.now IsAny) noted.old noted.new) }
     ensures stays { StaysBound trial.now.structure.now evaluator.old evaluator.new }
 {
-    match trial.waits.shape.variables.as_slice() {
+    match trial.shape.variables.as_slice() {
         [] => walk_none(trial, evaluator, a, noted),
         [before @ .., last] => walk_some(trial, evaluator, before, *last, a, noted),
     }

@@ -21,6 +21,17 @@ forms_of fs = map (λ f. form_of f.now) fs
 abbrev pub numbers_of : List Var → List ℕ
 numbers_of vars = map (λ v. v.0) vars
 
+-- an atom or an equality
+abbrev pub is_positive : Form → Bool
+is_positive (FAtom p vars) = true
+is_positive (FSame v w) = true
+is_positive f = false
+
+-- one of these, or the negation of one
+abbrev pub is_literal : Form → Bool
+is_literal (FNot f) = is_positive f
+is_literal f = is_positive f
+
 -- a formula, negated where the flag is false
 abbrev pub signed : Bool → Form → Form
 signed true f = f
@@ -73,17 +84,27 @@ pub record IsPlacedIn (vars : List ℕ) (m : MemberForm) : Type 0 where
   pub placed : (before : List ℕ) (w : ℕ) → vars ≡ before ++ w ∷ [] → IsPlaced before w m
   pub alone : vars ≡ [] → (m.left ≡ 0) × (m.last ≡ false)
 
--- the step is of a member that is tested once all but so many of the variables before the last have
--- individuals, along the last where the flag is true, with its reading
-abbrev pub IsStepOf : List MemberForm → (left : ℕ) → (last : Bool) → Step → Type 0
-IsStepOf ms left last st =
-    IsSomeAnd (slice_get ms st.member) (λ m. (m.left ≡ left) × (m.last ≡ last) × (m.reading ≡ st.reading))
+-- the member is tested once all but so many of the variables before the last have individuals, along the last
+-- where the flag is true; the step has its reading, and whether it is a literal
+abbrev pub IsSteppedBy : (left : ℕ) → (last : Bool) → Step → MemberForm → Type 0
+IsSteppedBy left last st m =
+    (m.left ≡ left) × (m.last ≡ last) × (m.reading ≡ st.reading) × (is_literal m.form ≡ st.literal)
 
--- the steps are those of the members that are tested then, of all of them
+abbrev pub IsStepOf : List MemberForm → (left : ℕ) → (last : Bool) → Step → Type 0
+IsStepOf ms left last st = IsSomeAnd (slice_get ms st.member) (IsSteppedBy left last st)
+
+-- no two of the steps are of one member
+abbrev pub AreApart : List Step → Type 0
+AreApart steps =
+    (i j : ℕ) (st other : Step) → slice_get steps i ≡ Some st → slice_get steps j ≡ Some other
+    → st.member ≡ other.member → i ≡ j
+
+-- the steps are those of the members that are tested then, of all of them, each once
 pub record AreSteps (ms : List MemberForm) (left : ℕ) (last : Bool) (steps : List Step) : Type 0 where
   pub each : All (IsStepOf ms left last) steps
   pub all : (k : ℕ) (m : MemberForm) → slice_get ms k ≡ Some m → m.left ≡ left → m.last ≡ last
       → Any (λ st. st.member ≡ k) steps
+  pub apart : AreApart steps
 
 -- the level for each number of variables before the last that are left, below a count
 pub record AreLevels (ms : List MemberForm) (count : ℕ) (levels : List Level) : Type 0 where

@@ -5,7 +5,7 @@ ghost use Rattle.tv_members.specs.Members.{AreLevels, AreSteps, member_of, membe
 ghost use Rattle.tv_members.specs.Pushing.{ArePushed, IsTestedAt, is_other};
 
 use crate::members::Member;
-use crate::readings::Reading;
+use crate::readings::{Reading, is_literal};
 use std::alloc::{AllocError, Global};
 use tv_model::Items;
 
@@ -14,6 +14,8 @@ use tv_model::Items;
 pub struct Step {
     pub member: usize,
     pub reading: Reading,
+    /// Whether the member is a literal: an atom, an equality, or the negation of one.
+    pub literal: bool,
 }
 
 /// Members that are tested together.
@@ -95,6 +97,7 @@ fn push_step(
         steps.push(Step {
             member: number,
             reading: member.reading,
+            literal: is_literal(&member.formula),
         })?;
     }
     Ok(())

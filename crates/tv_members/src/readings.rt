@@ -1,8 +1,8 @@
 //! How a literal is read off a structure for the individuals that one variable may stand for.
 
-ghost use Rattle.std.specs.Prelude.{[], ◌∷◌};
+ghost use Rattle.std.specs.Prelude.{◌≡◌, [], ◌∷◌};
 ghost use Rattle.tv_model.specs.Form.{form_of, vars_of, FAtom, FSame};
-ghost use Rattle.tv_members.specs.Members.{IsReadAs, signed};
+ghost use Rattle.tv_members.specs.Members.{IsReadAs, is_literal, is_positive, signed};
 
 use tv_model::{Formula, PredId, Terms, Var};
 
@@ -79,4 +79,20 @@ fn pair_reading(flag: bool, p: PredId, x: Var, y: Var, v: Var) -> Reading
         return Reading::Second(flag, p, x);
     }
     Reading::Other
+}
+
+/// Whether the formula is an atom or an equality, or the negation of one.
+pub(crate) fn is_literal(f: &Formula) -> bool
+    ensures { result ≡ is_literal (form_of f.now) }
+{
+    match f {
+        Formula::Not(g) => is_positive(g),
+        _ => is_positive(f),
+    }
+}
+
+fn is_positive(f: &Formula) -> bool
+    ensures { result ≡ is_positive (form_of f.now) }
+{
+    matches!(f, Formula::Atom(_, _) | Formula::Same(_, _))
 }

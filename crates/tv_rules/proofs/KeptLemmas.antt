@@ -231,7 +231,7 @@ but-about (Some k) base rule is = record {
     inside : k < length fs
     inside = slice_get_within fs k (negated_head rule.head) read
 
-members-counted : (rule : RuleForm) (shape : Shape) → IsShape rule shape → length shape.members ≡ length (conjuncts rule.body) + 1
+pub members-counted : (rule : RuleForm) (shape : Shape) → IsShape rule shape → length shape.members ≡ length (conjuncts rule.body) + 1
 members-counted rule shape shaped =
     sym (length-map (members_of shape.members) (λ (m : MemberForm). m.form) ∙ length-map shape.members member_of)
     ∙ ap length shaped.members ∙ length-append (conjuncts rule.body) (negated_head rule.head ∷ [])
@@ -326,7 +326,7 @@ module _ (bases : List Rule) (negations : List Formula) (shapes : List Shape) (e
       ∙ ap (λ x. swapped_at e.conjunct x (conjuncts (form_of base.body))) (negation-is e.base base negation found negated)
       ∙ about-conjuncts e.conjunct (rule_of base) rule (base-is n rule e base there at found)
 
-  shape-is : (n : ℕ) (rule : RuleForm) (e : Entry) (shape : Shape) (there : slice_get (rules_of bases) n ≡ Some rule)
+  pub shape-is : (n : ℕ) (rule : RuleForm) (e : Entry) (shape : Shape) (there : slice_get (rules_of bases) n ≡ Some rule)
       (at : slice_get entries n ≡ Some e) → slice_get shapes e.base ≡ Some shape → IsShape (entry-is n rule e there at).base shape
   shape-is n rule e shape there at found =
       let entry : IsEntry (map rule_of bases) rule (entry_of e) = entry-is n rule e there at

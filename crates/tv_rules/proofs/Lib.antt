@@ -14,6 +14,7 @@ mod FlagLemmas
 mod Free
 mod Further
 mod KeptLemmas
+mod KinLaws
 mod Loops
 mod MovedLaws
 mod NotingLaws

@@ -31,6 +31,7 @@ use Rattle.tv_rules.specs.Closing.{conjuncts, negated_head, closed_set}
 use Rattle.tv_rules.specs.Decoded.{IsEntry}
 use Rattle.tv_rules.specs.EntryForms.{EntryForm, closed_entries, entry_of, rules_of, swapped_at}
 use Rattle.tv_rules.specs.Flags.{are_twice, has_twice}
+use Rattle.tv_rules.specs.Kin.{base_in}
 use Rattle.tv_rules.specs.Moved.{AreConjunctsNoted, AreFamilies, AreHeadsNoted, AreMovedBy, AreMovers}
 use Rattle.tv_rules.specs.Moved.{AreRulesNoted}
 use Rattle.tv_rules.specs.Moved.{IsHeadNoted, IsMovedBySomeOf, IsMovedOf, IsRuleNoted, member, member_at}
@@ -43,7 +44,7 @@ use Rattle.tv_rules.proofs.KeptLemmas.{about-conjuncts, some-at}
 
 -- ---- members of a rule
 
-less-or-last : (k count : ℕ) → k < count + 1 → (k < count) ⊎ (k ≡ count)
+pub less-or-last : (k count : ℕ) → k < count + 1 → (k < count) ⊎ (k ≡ count)
 less-or-last k count less = ⊎_elim (λ e. inr e) (λ ne. inl (omega (arith, less, ne))) (cases_eq k count)
 
 pub conjuncts-none : (number : ℕ) (forms : List Form) (lists : MoverLists) → AreConjunctsNoted 0 number forms lists lists
@@ -310,19 +311,25 @@ families-next count entries e lists old new is at put before = record {
         in subst (λ (x : EntryForm). Contains (slice_index_or (slice_set lists e.base new) x.base []) n) one
         (has-pushed n (pushed-last old count n same))
 
-    below : (b n : ℕ) → Contains (slice_index_or (slice_set lists e.base new) b []) n → (b ≡ e.base) ⊎ (b ≢ e.base) → n < count + 1
+    more : (b n : ℕ) → (n < count) × (base_in (slice_get entries n) ≡ b)
+        → (n < count + 1) × (base_in (slice_get entries n) ≡ b)
+    more b n is = (omega (arith, is.0), is.1)
+
+    below : (b n : ℕ) → Contains (slice_index_or (slice_set lists e.base new) b []) n → (b ≡ e.base) ⊎ (b ≢ e.base)
+        → (n < count + 1) × (base_in (slice_get entries n) ≡ b)
     below b n has (inl same) =
-        ⊎_elim
-        (λ was. omega (arith, before.within e.base n (subst (λ ns. Contains ns n) (sym (old-list lists e.base old at)) was)))
-        (λ last. omega (arith, last))
+        subst (λ c. (n < count + 1) × (base_in (slice_get entries n) ≡ c)) (sym same)
+        (⊎_elim
+        (λ was. more e.base n (before.within e.base n (subst (λ ns. Contains ns n) (sym (old-list lists e.base old at)) was)))
+        (λ last. (omega (arith, last), ap base_in (ap (slice_get entries) last ∙ is)))
         (pushed-cases old count n (subst (λ ns. Contains ns n) (own-list lists e.base old new at ∙ put)
-        (subst (λ c. Contains (slice_index_or (slice_set lists e.base new) c []) n) same has)))
+        (subst (λ c. Contains (slice_index_or (slice_set lists e.base new) c []) n) same has))))
     below b n has (inr ne) =
-        omega (arith, before.within b n (subst (λ ns. Contains ns n) (other-list lists e.base b new ne) has))
+        more b n (before.within b n (subst (λ ns. Contains ns n) (other-list lists e.base b new ne) has))
 
 -- ---- what stands beside base rules
 
-entry-count : (bases : List RuleForm) → length (closed_set bases) ≡ length (closed_entries bases)
+pub entry-count : (bases : List RuleForm) → length (closed_set bases) ≡ length (closed_entries bases)
 entry-count bases = zip-length (IsEntry bases) (closed_set bases) (closed_entries bases) (entries-kept bases)
 
 pub are-moved_by : (bases : List Rule) (lists : MoverLists) (families : List (List ℕ)) (entries : List Entry) (read : List Rule) (given : List Entry)
@@ -347,7 +354,7 @@ module _ (bases : List Rule) (lists : MoverLists) (families : List (List ℕ)) (
       moved.there)
 
   pub family-within : (b : ℕ) → All (λ n. n < length (rules_of bases)) (slice_index_or families b [])
-  family-within b = All-from_contains (λ n. n < length (rules_of bases)) (slice_index_or families b []) (λ n has. by.grouped.within b n has)
+  family-within b = All-from_contains (λ n. n < length (rules_of bases)) (slice_index_or families b []) (λ n has. (by.grouped.within b n has).0)
 
 -- the entry of a closed rule is the one at its number
 pub same-entry : (bases : List RuleForm) (entries : List Entry) (n : ℕ) (e : Entry) (f : EntryForm) → map entry_of entries ≡ closed_entries bases

@@ -3,6 +3,7 @@ pub mod Decoded
 pub mod EntryForms
 pub mod Flags
 pub mod Kept
+pub mod Kin
 pub mod Laws
 pub mod Moved
 pub mod Noting

@@ -10,6 +10,7 @@ use Rattle.tv_moves.specs.Moves.{MayMove, MayTell}
 use Rattle.tv_moves.specs.Movers.{HasMember, IsListed, KeepsMembers, MoverLists, MovesOther, list_for}
 use Rattle.tv_rules.specs.Closing.{conjuncts, negated_head, closed_set}
 use Rattle.tv_rules.specs.EntryForms.{EntryForm, closed_entries, rules_of}
+use Rattle.tv_rules.specs.Kin.{base_in}
 use Rattle.tv_rules.specs.Seen.{Sees}
 use Rattle.tv_rules.specs.Standing.{HasTwice}
 
@@ -85,7 +86,8 @@ AreMovers bases lists =
 pub record AreFamilies (count : ℕ) (entries : List EntryForm) (families : List (List ℕ)) : Type 0 where
   pub there : (n : ℕ) (e : EntryForm) → n < count → slice_get entries n ≡ Some e
       → Contains (slice_index_or families e.base []) n
-  pub within : (b n : ℕ) → Contains (slice_index_or families b []) n → n < count
+  pub within : (b n : ℕ) → Contains (slice_index_or families b []) n
+      → (n < count) × (base_in (slice_get entries n) ≡ b)
 
 -- the lists of members and of families that stand beside base rules
 pub record AreMovedBy (bases : List Rule) (lists : MoverLists) (families : List (List ℕ)) : Type 0 where

@@ -3,10 +3,9 @@ use Rattle.std.specs.Prelude.{ℕ, ◌≡◌, ◌≢◌, ◌↔◌, List, [], �
 use Rattle.tv_members.specs.Members.{IsLaidOut, members_of}
 use Rattle.tv_members.specs.declared.shapes.Shape.{Shape}
 use Rattle.tv_model.specs.Form.{Form}
-use Rattle.tv_model.specs.Program.{RuleForm, head_of}
+use Rattle.tv_model.specs.Program.{RuleForm}
 use Rattle.tv_rules.specs.Closing.{conjuncts, negated_head}
 use Rattle.tv_rules.specs.EntryForms.{AreFreeIn}
-use Rattle.tv_rules.specs.declared.shapes.Waits.{Waits}
 
 -- what the members of a shape say
 abbrev pub forms_in : Shape → List Form
@@ -23,10 +22,3 @@ pub record IsAllBut (forms : List Form) (skip : ℕ) (rule : RuleForm) : Type 0 
   pub others : (f : Form) → Contains (conjuncts rule.body) f
       ↔ ((k : ℕ) × (k ≢ skip) × (slice_get forms k ≡ Some f))
   pub denied : slice_get forms skip ≡ Some (negated_head rule.head)
-
--- the members of the rule's family, all but one of which are its conjuncts; its head
-pub record AreWaits (rule : RuleForm) (waits : Waits) : Type 0 where
-  pub free : AreFreeIn rule waits.shape.now.variables
-  pub but : IsAllBut (forms_in waits.shape.now) waits.skip rule
-  pub laid : IsLaidOut waits.shape.now
-  pub head : head_of waits.head ≡ rule.head

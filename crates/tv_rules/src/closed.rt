@@ -1,7 +1,7 @@
 //! The closed rules of a program, kept by their base rules.
 
 ghost use Rattle.std.specs.Prelude.{ℕ, List, [], unwrap_or, IfSome, ◌≡◌, ◌<◌, ◌≤◌, ◌+◌, ◌-◌, ◌↔◌, length};
-ghost use Rattle.std.specs.Prelude.{map};
+ghost use Rattle.std.specs.Prelude.{map, ◌≢◌, MatchOption};
 ghost use Rattle.std.specs.Prelude.{IfOk, OnOk, All, Some, slice_get, Contains, IsTrue};
 ghost use Rattle.std.specs.List.{AllZip};
 ghost use Rattle.tv_model.specs.Form.{form_of, height};
@@ -18,17 +18,20 @@ ghost use Rattle.tv_rules.specs.EntryForms.{swapped_at};
 ghost use Rattle.tv_rules.specs.Laws.{IsNoHigher};
 ghost use Rattle.tv_rules.specs.Moved.{IsMoved, IsMovedBySome};
 ghost use Rattle.tv_rules.specs.Seen.{Sees};
-ghost use Rattle.tv_rules.specs.Waiting.{AreWaits, IsShape};
+ghost use Rattle.tv_rules.specs.Kin.{IsKin, IsTriedBy, skip_of};
+ghost use Rattle.tv_rules.specs.Waiting.{IsShape};
+ghost use Rattle.tv_members.specs.Members.{IsLaidOut};
 
 use crate::base::base_rules;
 use crate::conjuncts::{conjuncts, negated_head};
 use crate::entries::{Entries, Entry, closed_entries};
 use crate::mentioned::rules_with;
 use crate::moved::{families, movers_of};
-use crate::shapes::{Shapes, Waits, shape_of};
+use crate::shapes::{Shapes, shape_of};
 use crate::watch::{Numbers, seeing_summaries, standing};
 use std::alloc::{AllocError, Global};
 use std::marker::Model;
+use tv_members::Shape;
 use tv_model::{Formula, Formulas, Head, Items, PredId, Program, Rule, Rules, Var};
 use tv_moves::{Mover, Movers};
 
@@ -192,19 +195,51 @@ impl Closed {
             .as_slice()
     }
 
-    /// What trying a rule goes by. Takes no memory.
-    pub fn waits(&self, number: usize) -> Waits<'_>
+    /// What trying a rule goes by, and each that came of the same base rule: their variables, and the members
+    /// of the base rule, all but one of which are the conjuncts of each. Takes no memory.
+    pub fn shape(&self, number: usize) -> &Shape
         requires { number < length (rules_of self.now) }
-        ensures { (rule : RuleForm) → slice_get (rules_of self.now) number ≡ Some rule
-            → AreWaits rule result }
+        ensures laid { IsLaidOut result.now }
+        ensures kin { (n : ℕ) (rule : RuleForm) → IsKin self.now number n
+            → slice_get (rules_of self.now) n ≡ Some rule → IsTriedBy result.now (skip_of self.now n) rule }
+    {
+        let entry = item_at(self.entries.as_slice(), number);
+        item_at(self.shapes.as_slice(), entry.base)
+    }
+
+    /// The numbers of the rules that came of the same base rule, its own among them.
+    pub fn kin(&self, number: usize) -> &[usize]
+        requires { number < length (rules_of self.now) }
+        ensures { (n : ℕ) → Contains result.now n ↔ IsKin self.now number n }
+    {
+        let entry = item_at(self.entries.as_slice(), number);
+        numbers_at(self.families.as_slice(), entry.base)
+    }
+
+    /// The number of the member of its base rule that a rule's head denies.
+    fn skip(&self, number: usize) -> usize
+        requires { number < length (rules_of self.now) }
+        ensures { result ≡ skip_of self.now number }
     {
         let entry = item_at(self.entries.as_slice(), number);
         let shape = item_at(self.shapes.as_slice(), entry.base);
-        Waits {
-            shape,
-            skip: skipped(shape.members.len(), entry.conjunct),
-            head: entry.head,
+        skipped(shape.members.len(), entry.conjunct)
+    }
+
+    /// Of the rules that came of the same base rule as this one, one whose head denies the member of that
+    /// number, if there is one.
+    pub fn denying(&self, number: usize, member: usize) -> Option<usize>
+        requires { number < length (rules_of self.now) }
+        ensures { MatchOption result
+            ((n : ℕ) → IsKin self.now number n → skip_of self.now n ≢ member)
+            (λ n. IsKin self.now number n × (skip_of self.now n ≡ member)) }
+    {
+        for n in self.kin(number) {
+            if self.skip(*n) == member {
+                return Some(*n);
+            }
         }
+        None
     }
 
     /// The conjuncts of a rule's body, in order.

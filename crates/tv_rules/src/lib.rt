@@ -19,4 +19,3 @@ pub use laws::{
     conjuncts_carry_formulas, dropping_keeps_meaning, further_rules_follow, samples_are_closed,
     swaps_are_of_conjuncts, tests_are_right,
 };
-pub use shapes::Waits;

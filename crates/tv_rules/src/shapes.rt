@@ -10,20 +10,10 @@ ghost use Rattle.tv_rules.specs.Waiting.{IsShape};
 use crate::conjuncts::{conjuncts, is_free_in_rule, negated_head};
 use std::alloc::{AllocError, Global};
 use tv_members::{Shape, lay_out};
-use tv_model::{Formula, Head, Items, Rule, Terms, Var, Vars};
+use tv_model::{Formula, Items, Rule, Terms, Var, Vars};
 
 /// The shapes of base rules.
 pub type Shapes = Items<Shape>;
-
-/// What trying a closed rule goes by: the members of its family, and which of them it denies; the others are
-/// its conjuncts.
-#[derive(Clone, Copy, Debug)]
-pub struct Waits<'a> {
-    pub shape: &'a Shape,
-    /// The number of the member that the head denies.
-    pub skip: usize,
-    pub head: Head,
-}
 
 /// The shape of a base rule whose variables are in range.
 pub fn shape_of(alloc: Global, rule: &Rule) -> Result<Shape, AllocError>

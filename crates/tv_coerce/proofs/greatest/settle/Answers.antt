@@ -23,7 +23,7 @@ sharpen-requires c =
     in let asked = subst (λ a. IsAttempted rules c.loop-asked.t c.attempt.new.waiting (Some a)) c.in-Changes.is
     (subst (IsAttempted rules c.loop-asked.t c.attempt.new.waiting) c.in-Some.is c.in_ok-asked.ensures.attempted)
     in subst (All (IsPlace c.loop-asked.t)) (sym c.as_slice.ensures.value)
-    (places-asked rules c.loop-asked.t c.attempt.new.waiting c.in-Changes.number c.in-Changes.changes.items asked)
+    (places-asked rules c.loop-asked.t c.attempt.new.waiting c.in-Changes.tried c.in-Changes.found.number c.in-Changes.found.changes.items asked)
 
 pub loop-asked-smaller : goal.loop-asked-smaller
 loop-asked-smaller c =
@@ -31,8 +31,8 @@ loop-asked-smaller c =
     in let asked = subst (λ a. IsAttempted rules c.loop-asked.t c.attempt.new.waiting (Some a)) c.in-Changes.is
     (subst (IsAttempted rules c.loop-asked.t c.attempt.new.waiting) c.in-Some.is c.in_ok-asked.ensures.attempted)
     in let made = subst (λ changes. IsSharpened changes (length changes) c.loop-asked.t c.sharpen.new.s) c.as_slice.ensures.value c.sharpen.ensures
-    in smaller-asked rules c.in-Changes.number c.attempt.new.waiting c.loop-asked.t c.sharpen.new.s c.in-Changes.changes.items asked
-    (λ rule found. sharper-made rules c.attempt.new.waiting c.in-Changes.number rule c.in-Changes.changes.items c.loop-asked.t
+    in smaller-asked rules c.in-Changes.tried c.in-Changes.found.number c.attempt.new.waiting c.loop-asked.t c.sharpen.new.s c.in-Changes.found.changes.items asked
+    (λ rule found. sharper-made rules c.attempt.new.waiting c.in-Changes.tried c.in-Changes.found.number rule c.in-Changes.found.changes.items c.loop-asked.t
     c.sharpen.new.s asked found made)
 
 pub loop-asked-preserved : goal.loop-asked-preserved
@@ -42,10 +42,10 @@ loop-asked-preserved c =
     (subst (IsAttempted rules c.loop-asked.t c.attempt.new.waiting) c.in-Some.is c.in_ok-asked.ensures.attempted)
     in let made = subst (λ changes. IsSharpened changes (length changes) c.loop-asked.t c.sharpen.new.s) c.as_slice.ensures.value c.sharpen.ensures
     in (
-      way-asked rules c.in-Changes.number (head_of c.head.result) c.loop-asked.waiting c.attempt.new.waiting c.add_watching.new.self
-          c.insert.new.self c.args.t.now c.loop-asked.t c.sharpen.new.s c.in-Changes.changes.items c.requires.ready.plain
+      way-asked rules c.in-Changes.tried c.in-Changes.found.number (head_of c.head.result) c.loop-asked.waiting c.attempt.new.waiting c.add_watching.new.self
+          c.insert.new.self c.args.t.now c.loop-asked.t c.sharpen.new.s c.in-Changes.found.changes.items c.requires.ready.plain
           c.loop-asked.invariant.0 asked
-          (λ rule found. sharper-made rules c.attempt.new.waiting c.in-Changes.number rule c.in-Changes.changes.items c.loop-asked.t
+          (λ rule found. sharper-made rules c.attempt.new.waiting c.in-Changes.tried c.in-Changes.found.number rule c.in-Changes.found.changes.items c.loop-asked.t
           c.sharpen.new.s asked found made)
           c.head.ensures c.add_watching.ensures c.insert.ensures,
       c.attempt.ensures.scratch ∙ c.loop-asked.invariant.1,

@@ -4,7 +4,7 @@ use Rattle.tv_model.specs.Form.{FAtom}
 use Rattle.tv_members.specs.Members.{IsReadAs}
 use Rattle.tv_eval.specs.Along.{IsWordAlong}
 use Rattle.tv_eval.specs.AssignmentForm.{assignment_of}
-use Rattle.tv_coerce.specs.Passing.{members_in}
+use Rattle.tv_coerce.specs.Counting.{members_in}
 use Rattle.tv_coerce.proofs.Reading.{alone-along, first-along, indexed-member, same-along, same-member}
 use Rattle.tv_coerce.proofs.Reading.{second-along, signed-along}
 use Rattle.tv_coerce.proofs.places.read.Goals as goal
@@ -66,7 +66,7 @@ pub returns-in-Other-clause-word : goal.returns-in-Other-clause-word
 returns-in-Other-clause-word c = λ m at.
     let a = assignment_of c.args.a.now
     in let x = c.index-members-step.result
-    in let is = indexed-member c.as_slice-members.result.now c.args.trial.now.waits.shape.now.members c.args.step.now.member x m
+    in let is = indexed-member c.as_slice-members.result.now c.args.trial.now.shape.now.members c.args.step.now.member x m
     c.as_slice-members.ensures c.index-members-step.is at
     in subst (λ t. IsWordAlong t a c.args.v.0 c.args.chunk m.form c.word-in-Other.result) c.requires.structure
     (subst (λ n. IsWordAlong c.args.evaluator.now.structure.now a c.args.v.0 c.args.chunk n.form c.word-in-Other.result) is

@@ -2,7 +2,7 @@ use Rattle.std.proofs.Common.{ap, min, subst, sym, ◌∙◌, ◌-◌, ◌*◌}
 use Rattle.tv_kleene.specs.Kleene.{negation_of}
 use Rattle.tv_eval.specs.Along.{IsWordOf}
 use Rattle.tv_eval.proofs.AlongWords.{of-mapped}
-use Rattle.tv_coerce.specs.Passing.{signed_value}
+use Rattle.tv_coerce.specs.Counting.{signed_value}
 use Rattle.tv_coerce.proofs.places.signed.Goals as goal
 
 pub returns-else-flag : goal.returns-else-flag

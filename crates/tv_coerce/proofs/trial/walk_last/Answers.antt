@@ -1,79 +1,87 @@
-use Rattle.std.proofs.Common.{◌≡◌, ◌≢◌, ◌*◌, ◌-◌, ◌∙◌, [], ◌∷◌, ◌++◌, length, ap, min, subst, sym, true, Some}
+use Rattle.std.proofs.Common.{◌≡◌, ◌*◌, ◌-◌, ◌∙◌, [], ◌∷◌, ◌++◌, length, ap, min, subst, sym, true, false}
+use Rattle.std.proofs.Common.{Some}
 use Rattle.std.specs.Prelude.{Contains, slice_get}
 use Rattle.std.proofs.lemmas.List.{length-map}
 use Rattle.std.proofs.lemmas.Result.{IfOk-weaker}
-use Rattle.tv_kleene.specs.declared.K3.TheVariants.{Yes}
+use Rattle.tv_kleene.specs.declared.K3.TheVariants.{No}
 use Rattle.tv_model.specs.declared.formula.Var.{Var}
 use Rattle.tv_members.specs.Members.{AreSteps, numbers_of}
 use Rattle.tv_eval.specs.AssignmentForm.{assignment_of}
 use Rattle.tv_eval.specs.Bound.{bound_room}
-use Rattle.tv_coerce.specs.Passing.{members_in}
-use Rattle.tv_coerce.specs.Trying.{trial_rule}
-use Rattle.tv_coerce.specs.Walks.{GoesOnIn, IsInChunk, IsTriedFor}
-use Rattle.tv_coerce.proofs.Placing.{level-last, read-last}
-use Rattle.tv_coerce.proofs.Walking.{all-word, none-left, start-first, told-so, told-tried}
+use Rattle.tv_coerce.specs.Counting.{CountTells, IsAt, IsIdle, Lacks, members_in}
+use Rattle.tv_coerce.specs.Walks.{AreTriedFor, GoesOnIn, IsInChunk}
+use Rattle.tv_coerce.proofs.Placing.{kin-variable, level-last, own-kin, read-last}
+use Rattle.tv_coerce.proofs.Walking.{all-word, can-try-kin, first-tried, none-left, start-first, told-so}
+use Rattle.tv_coerce.proofs.Walking.{told-tried}
 use Rattle.tv_coerce.proofs.trial.walk_last.Goals as goal
 
-pub narrowed-tail-requires-clause-can : goal.narrowed-tail-requires-clause-can
-narrowed-tail-requires-clause-can c =
+pub counted_all-tail-requires-clause-can : goal.counted_all-tail-requires-clause-can
+counted_all-tail-requires-clause-can c =
     let trial = c.args.trial.now
+    in let is = c.requires.trial
     in let before = numbers_of c.args.before.now
-    in let found = subst (λ n. slice_get trial.waits.shape.now.levels n ≡ Some c.level_of-level.result.now)
+    in let found = subst (λ n. slice_get trial.shape.now.levels n ≡ Some c.level_of-level.result.now)
     (sym (length-map c.args.before.now (λ (x : Var). x.0))) c.level_of-level.ensures
     in let steps = subst (AreSteps (members_in trial) (length before) true) (sym c.as_slice-steps.ensures)
-    (level-last trial c.requires.trial before ([], c.requires.variables) c.level_of-level.result.now found)
-    in read-last trial c.requires.trial (bound_room c.args.evaluator.now) c.requires.ready before c.args.a.now c.as_slice-steps.result.now
-    ([], c.requires.variables)
-    (λ x free none. absurd (none (subst (λ xs. Contains xs x) c.requires.variables ((c.requires.trial.waits.free x).1 free)))) steps
+    (level-last trial is before ([], c.requires.variables) c.level_of-level.result.now found)
+    in read-last trial is (bound_room c.args.evaluator.now) (can-try-kin trial _ trial.number (own-kin trial is) c.requires.ready) before c.args.a.now
+    c.as_slice-steps.result.now ([], c.requires.variables)
+    (λ x free none. absurd (none (subst (λ xs. Contains xs x) c.requires.variables (kin-variable trial is trial.number (own-kin trial is) x free)))) steps
 
-pub narrowed-tail-requires-clause-long : goal.narrowed-tail-requires-clause-long
-narrowed-tail-requires-clause-long c =
-    (all-word c.args.trial.now.structure.now.size c.args.trial.now.chunk c.places.result c.of-all.result
+pub counted_all-tail-requires-clause-long : goal.counted_all-tail-requires-clause-long
+counted_all-tail-requires-clause-long c =
+    (all-word c.args.trial.now.structure.now.size c.args.trial.now.chunk c.places.result c.args.own c.of-all.result
     (c.places.ensures.value ∙ ap (λ n. min 64 (n - 64 * c.args.trial.now.chunk)) c.size.ensures.size) c.requires.chunk c.of-all.ensures).long
 
 pub walk-requires-clause-walk : goal.walk-requires-clause-walk
 walk-requires-clause-walk c =
     let trial = c.args.trial.now
+    in let is = c.requires.trial
+    in let ms = members_in trial
+    in let a = assignment_of c.args.a.now
     in let before = numbers_of c.args.before.now
-    in let found = subst (λ n. slice_get trial.waits.shape.now.levels n ≡ Some c.level_of-level.result.now)
+    in let found = subst (λ n. slice_get trial.shape.now.levels n ≡ Some c.level_of-level.result.now)
     (sym (length-map c.args.before.now (λ (x : Var). x.0))) c.level_of-level.ensures
-    in let steps = subst (AreSteps (members_in trial) (length before) true) (sym c.as_slice-steps.ensures)
-    (level-last trial c.requires.trial before ([], c.requires.variables) c.level_of-level.result.now found)
-    in let all = all-word trial.structure.now.size trial.chunk c.places.result c.of-all.result
+    in let steps = subst (AreSteps ms (length before) true) (sym c.as_slice-steps.ensures)
+    (level-last trial is before ([], c.requires.variables) c.level_of-level.result.now found)
+    in let all = all-word trial.structure.now.size trial.chunk c.places.result c.args.own c.of-all.result
     (c.places.ensures.value ∙ ap (λ n. min 64 (n - 64 * trial.chunk)) c.size.ensures.size) c.requires.chunk c.of-all.ensures
-    in start-first trial c.requires.trial before c.args.a.now c.of-all.result c.narrowed-tail.result c.requires.variables c.requires.chunk
-    c.requires.own all (c.narrowed-tail.ensures.narrowed (length before) true steps)
+    in start-first trial is before c.args.a.now c.args.own c.of-all.result c.counted_all-tail.result c.requires.variables c.requires.chunk
+    c.requires.some
+    (λ e. subst (CountTells (Lacks (IsAt (length before) false) trial.structure.now a ms) (IsIdle (IsAt (length before) false) trial.structure.now a ms)) e
+    c.requires.own)
+    all (c.counted_all-tail.ensures.counted (length before) true steps)
 
-pub returns-then-not-is_yes-clause-told : goal.returns-then-not-is_yes-clause-told
-returns-then-not-is_yes-clause-told c =
+pub returns-then-is_no-clause-told : goal.returns-then-is_no-clause-told
+returns-then-is_no-clause-told c =
     let trial = c.args.trial.now
-    in let s = trial.structure.now
-    in let rule = trial_rule trial
-    in let w = trial.last.0
+    in let is = c.requires.trial
+    in let ms = members_in trial
+    in let a = assignment_of c.args.a.now
     in let before = numbers_of c.args.before.now
-    in let found = subst (λ n. slice_get trial.waits.shape.now.levels n ≡ Some c.level_of-level.result.now)
+    in let found = subst (λ n. slice_get trial.shape.now.levels n ≡ Some c.level_of-level.result.now)
     (sym (length-map c.args.before.now (λ (x : Var). x.0))) c.level_of-level.ensures
-    in let steps = subst (AreSteps (members_in trial) (length before) true) (sym c.as_slice-steps.ensures)
-    (level-last trial c.requires.trial before ([], c.requires.variables) c.level_of-level.result.now found)
-    in let all = all-word s.size trial.chunk c.places.result c.of-all.result
+    in let steps = subst (AreSteps ms (length before) true) (sym c.as_slice-steps.ensures)
+    (level-last trial is before ([], c.requires.variables) c.level_of-level.result.now found)
+    in let all = all-word trial.structure.now.size trial.chunk c.places.result c.args.own c.of-all.result
     (c.places.ensures.value ∙ ap (λ n. min 64 (n - 64 * trial.chunk)) c.size.ensures.size) c.requires.chunk c.of-all.ensures
-    in let start = start-first trial c.requires.trial before c.args.a.now c.of-all.result c.narrowed-tail.result c.requires.variables
-    c.requires.chunk c.requires.own all (c.narrowed-tail.ensures.narrowed (length before) true steps)
-    in let tried = none-left trial c.requires.trial before c.args.a.now c.narrowed-tail.result start
-    (subst (λ x. x ≢ Yes) c.greatest.ensures c.if-not-is_yes.ensures)
-    in told-tried s rule (IsTriedFor s rule (IsInChunk w trial.chunk)) c.args.noted.now.list.items
-    (λ b in-chunk. tried b ((λ x free none. absurd (none (subst (λ xs. Contains xs x) c.requires.variables ((c.requires.trial.waits.free x).1 free)))), in-chunk))
+    in let start = start-first trial is before c.args.a.now c.args.own c.of-all.result c.counted_all-tail.result c.requires.variables c.requires.chunk
+    c.requires.some
+    (λ e. subst (CountTells (Lacks (IsAt (length before) false) trial.structure.now a ms) (IsIdle (IsAt (length before) false) trial.structure.now a ms)) e
+    c.requires.own)
+    all (c.counted_all-tail.ensures.counted (length before) true steps)
+    in told-tried trial (AreTriedFor trial (IsInChunk trial.last.0 trial.chunk)) c.args.noted.now
+    (first-tried trial before a c.requires.variables
+    (none-left trial is before c.args.a.now c.counted_all-tail.result start
+    (subst (λ x. x ≡ No) c.greatest.ensures c.if-is_no.ensures)))
 
 pub returns-clause-told : goal.returns-clause-told
 returns-clause-told c =
     let trial = c.args.trial.now
-    in let s = trial.structure.now
-    in let rule = trial_rule trial
-    in let w = trial.last.0
+    in let a = assignment_of c.args.a.now
     in let before = numbers_of c.args.before.now
     in IfOk-weaker c.walk.result _ _
-    (λ outcome told. told-so s rule (IsTriedFor s rule (GoesOnIn rule (before ++ w ∷ []) w trial.chunk (assignment_of c.args.a.now)))
-    (IsTriedFor s rule (IsInChunk w trial.chunk)) c.args.noted.now.list.items c.walk.new.noted.list.items outcome
-    (λ tried b in-chunk. tried b ((λ x free none. absurd (none (subst (λ xs. Contains xs x) c.requires.variables ((c.requires.trial.waits.free x).1 free)))), in-chunk))
-    told)
+    (λ outcome told. told-so trial (AreTriedFor trial (GoesOnIn trial (before ++ trial.last.0 ∷ []) a))
+    (AreTriedFor trial (IsInChunk trial.last.0 trial.chunk)) c.args.noted.now c.walk.new.noted outcome
+    (first-tried trial before a c.requires.variables) told)
     c.walk.ensures.told

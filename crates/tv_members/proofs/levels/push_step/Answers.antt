@@ -1,4 +1,4 @@
-use Rattle.std.proofs.Common.{◌∙◌, ap, refl, length}
+use Rattle.std.proofs.Common.{◌∙◌, ap, refl, length, sym}
 use Rattle.std.specs.Option.{option_map}
 use Rattle.std.proofs.lemmas.Bool.{false≢true}
 use Rattle.std.proofs.lemmas.Option.{slice_get-map, slice_get_read}
@@ -13,8 +13,8 @@ returns-in_ok-push c =
     in let at = slice_get-map member_of ms c.args.number
     ∙ ap (option_map member_of) (slice_get_read ms (length ms) c.args.number m refl c.requires c.index-members-number.is)
     in one-pushed (members_of ms) c.args.left c.args.last c.args.other c.args.number (member_of m)
-    (record { member = c.args.number; reading = m.reading }) c.args.steps.now c.push.new.self at
-    (c.if-is_tested_at.ensures.0 refl) refl refl c.in_ok-push.ensures
+    (record { member = c.args.number; reading = m.reading; literal = c.is_literal.result }) c.args.steps.now c.push.new.self at
+    (c.if-is_tested_at.ensures.0 refl) refl refl (sym c.is_literal.ensures) c.in_ok-push.ensures
 
 pub returns-else-is_tested_at : goal.returns-else-is_tested_at
 returns-else-is_tested_at c =
