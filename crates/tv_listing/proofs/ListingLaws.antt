@@ -1,7 +1,7 @@
 -- Looking for an equal structure, and what it says of adding.
 use Rattle.std.proofs.Common.{ℕ, ◌≡◌, ◌<◌, ◌≤◌, ◌+◌, ◌-◌, ◌⊎◌, inl, inr, Bool, true, false, ◌||◌, not, List}
 use Rattle.std.proofs.Common.{[], ◌∷◌}
-use Rattle.std.proofs.Common.{◌++◌, length, get_or, true≢false, Result, Ok, Err, set, refl, sym, ap, subst}
+use Rattle.std.proofs.Common.{◌++◌, length, true≢false, Result, Ok, Err, set, refl, sym, ap, subst}
 use Rattle.std.proofs.Common.{◌∙◌, arith, if◌then◌else◌}
 use Rattle.std.specs.Prelude.{Any, ◌↔◌, IsTrue}
 use Rattle.std.specs.List.{list_any}

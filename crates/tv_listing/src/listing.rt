@@ -67,8 +67,9 @@ impl Listing {
         requires { node < length self.old }
         ensures { self.new ≡ (if is_ok result then appended self.old node s else self.old) }
     {
+        let alloc = self.alloc;
         let list = &mut self.nodes[node as usize];
-        list.push(s)
+        list.push(alloc, s)
     }
 
     /// Puts the structure behind those of the node where none of them is equal to it, marks aside,
@@ -77,8 +78,9 @@ impl Listing {
         requires { node < length self.old }
         ensures { AddsAt self.old self.new node s result }
     {
+        let alloc = self.alloc;
         let list = &mut self.nodes[node as usize];
-        list.add(s)
+        list.add(alloc, s)
     }
 
     /// The listing with each node's structures in ascending order. No structure is copied.
