@@ -7,6 +7,7 @@ pub mod CompareRows
 pub mod Extremes
 pub mod Greatest
 pub mod RowOps
+pub mod PackedLaws
 pub mod Chunks
 pub mod RowOrder
 pub mod DrawnBits

@@ -13,6 +13,8 @@ use Rattle.std.proofs.lemmas.List.FromFn.{length-map-range_with_len, get_or-map-
 use Rattle.tv_kleene.specs.declared.K3.{K3}
 use Rattle.tv_kleene.specs.declared.K3.TheVariants.{No}
 use Rattle.tv_row.specs.Places.{AreWords, word_at, value_in, with_value, row_of}
+use Rattle.tv_row.specs.Packed.{cells_for}
+use Rattle.tv_row.proofs.PackedLaws.{IsEnough, cells_enough}
 use Rattle.tv_row.proofs.PlaceLaws.{length-row_of, get_or-row_of, no_value, put_same, put_other}
 use Rattle.tv_struct.specs.TableForm.{PlaneForm, TableForm, IsPlane, IsTable, no_plane, plane_at, row_in}
 use Rattle.tv_struct.specs.TableForm.{column_in, cell, row_count, column_count, plane_of_no, table_of_no}
@@ -35,6 +37,26 @@ columns_fit size arity = at (arity == 0)
     at : (b : Bool) → ((if b then 1 else size) ≤ 64 * words_for size) × (words_of (if b then 1 else size) ≤ words_for size)
     at true = (omega arith, omega arith)
     at false = (omega arith, omega arith)
+
+-- the columns of rows over so many individuals have room
+pub cells_room : (size arity column : ℕ) → column < column_count size arity → column % 64 < cells_for size
+cells_room size arity column lt = at (arity == 0) (cells_enough size) lt
+  where
+    at : (b : Bool) → IsEnough size (cells_for size) → column < (if b then 1 else size) → column % 64 < cells_for size
+    at b (inl e) lt = rw e (omega arith)
+    at true (inr h) lt = (let none : column % 64 ≡ 0 = omega arith in rw none h.0)
+    at false (inr h) lt = below (cells_for size) (omega (arith, lt)) h.1
+      where
+        below : (cells : ℕ) → column < size → size ≤ cells → column % 64 < cells
+        below cells lt le = omega arith
+
+pub values_room : (size arity cells long : ℕ) → cells ≡ cells_for size → long ≡ column_count size arity → (cells ≡ 64) ⊎ (long ≤ cells)
+values_room size arity cells long room is = at (arity == 0) (cells_enough size) is
+  where
+    at : (b : Bool) → IsEnough size (cells_for size) → long ≡ (if b then 1 else size) → (cells ≡ 64) ⊎ (long ≤ cells)
+    at b (inl e) is = inl (room ∙ e)
+    at true (inr h) is = inr (rw (is, room) h.0)
+    at false (inr h) is = inr (rw (is, room) h.1)
 
 -- ---- one plane
 
@@ -447,10 +469,15 @@ module _ (l : LayoutForm) (words new : List (List K3)) (h : HoldsTable l words) 
 -- numbers of rows and of words fit
 pub words_small : (l : LayoutForm) → IsLayout l
     → (end_from l.size 0 l.arities ≤ 256 * 4294967295) × (end_from l.size 0 l.arities * words_for l.size < 2 ^ 64)
+    × (end_from l.size 0 l.arities * words_for l.size ≤ 2 ^ 48)
 words_small l is =
     let rows : end_from l.size 0 l.arities ≤ 256 * 4294967295 = omega (arith, end_small l.size 0 l.arities is.size, is.predicates)
     in (
       rows,
+      omega (
+        arith,
+        row_fits (end_from l.size 0 l.arities) (words_for l.size) (256 * 4294967295 + 1) 4 (omega (arith, rows)) (few_words l.size is.size),
+      ),
       omega (
         arith,
         row_fits (end_from l.size 0 l.arities) (words_for l.size) (256 * 4294967295 + 1) 4 (omega (arith, rows)) (few_words l.size is.size),
@@ -466,6 +493,7 @@ place_small l pred row is lp lr =
     = start_within l.size 0 l.arities pred lp
     in let before : row_place l pred row < end_from l.size 0 l.arities = omega (arith, within.1, lr)
     in let small : (end_from l.size 0 l.arities ≤ 256 * 4294967295) × (end_from l.size 0 l.arities * words_for l.size < 2 ^ 64)
+    × (end_from l.size 0 l.arities * words_for l.size ≤ 2 ^ 48)
     = words_small l is
     in (
       omega (arith, before, small.0),

@@ -1,0 +1,19 @@
+use Rattle.std.proofs.Common.{◌≡◌, ◌+◌, ◌/◌, ◌%◌, ◌∙◌, get_or, ap, arith}
+use Rattle.tv_kleene.specs.declared.K3.TheVariants.{No}
+use Rattle.tv_row.specs.Places.{word_at}
+use Rattle.tv_row.proofs.PackedLaws.{alone_row}
+use Rattle.tv_row.proofs.packed.PackedWords.row.Goals as goal
+
+pub alone-requires-clause-unused : goal.alone-requires-clause-unused
+alone-requires-clause-unused c = λ i past low.
+    let words = c.args.self.now.words
+    in let there : c.args.start ≡ c.args.start + i / 64 = omega arith
+    in let same : i ≡ i % 64 = omega arith
+    in ap (λ w. get_or w i No) c.word.ensures.value ∙ ap (λ p. get_or (word_at words p) i No) there
+    ∙ ap (λ j. get_or (word_at words (c.args.start + i / 64)) j No) same
+    ∙ c.requires.unused i past (omega (arith, low, c.if-size-gt0.true, c.if-size-le64.true))
+
+pub returns-then-size-le64 : goal.returns-then-size-le64
+returns-then-size-le64 c =
+    c.alone.ensures
+    ∙ alone_row c.args.self.now.words c.word.result c.args.size c.args.start (omega (arith, c.if-size-le64.true)) c.word.ensures.value
