@@ -515,6 +515,34 @@ module _ (items : List (List K3)) (cells count : ℕ) (now : PackedForm)
     pub seen_place_within : (p c : ℕ) → p < length now.words → c < now.cells → 0 + (p * cells + c) / 64 < length items
     seen_place_within p c lt in_cells = place_within items cells count h p c (omega (arith, lt, seen_many)) (omega (arith, in_cells, seen_cells))
 
+    -- one value, where it stands in its item
+    pub seen_value : (start column at : ℕ) (item : List K3) → start + column / 64 < length now.words → column % 64 < now.cells
+        → at ≡ (start + column / 64) * now.cells + column % 64 → item ≡ word_at items (at / 64)
+        → get_or item (at % 64) No ≡ value_in now.words start column
+    seen_value start column at item lt room placed is =
+        let first : at / 64 ≡ 0 + at / 64 = omega arith
+        in ap (λ (w : List K3). get_or w (at % 64) No) is ∙ ap (λ q. get_or (word_at items q) (at % 64) No) first
+        ∙ ap (value_in items 0) (placed ∙ ap (λ n. (start + column / 64) * n + column % 64) seen_cells)
+        ∙ sym (value_seen items cells count h start column (omega (arith, lt, seen_many)) (omega (arith, room, seen_cells)))
+        ∙ ap (λ (f : PackedForm). value_in f.words start column) view
+
+    -- the values that are used of a word
+    pub seen_front : (p : ℕ) (item front : List K3) → p < length now.words → item ≡ word_at items ((p * cells) / 64)
+        → ((i : ℕ) → (p * cells) % 64 + i < 64 → get_or front i No ≡ get_or item ((p * cells) % 64 + i) No)
+        → (i : ℕ) → i < now.cells → get_or front i No ≡ get_or (word_at now.words p) i No
+    seen_front p item front lt is from i low =
+        let in_cells : i < cells = omega (arith, low, seen_cells)
+        in let lp : p < count = omega (arith, lt, seen_many)
+        in let li : i < 64 = omega (arith, in_cells, (fills_some cells h.fills).1)
+        in let lies : ((p * cells) % 64 + cells ≤ 64) × ((p * cells + i) / 64 ≡ (p * cells) / 64) × ((p * cells + i) % 64 ≡ (p * cells) % 64 + i)
+        = lies_in p i cells h.fills in_cells
+        in let at : 0 + (p * cells + i) / 64 ≡ (p * cells) / 64 = omega (arith, lies.1)
+        in from i (omega (arith, lies.0, in_cells)) ∙ ap (λ (w : List K3). get_or w ((p * cells) % 64 + i) No) is
+        ∙ ap (λ j. get_or (word_at items ((p * cells) / 64)) j No) (sym lies.2)
+        ∙ ap (λ q. get_or (word_at items q) ((p * cells + i) % 64) No) (sym at)
+        ∙ sym (used_value items cells p i li in_cells) ∙ ap (λ w. get_or w i No) (sym (word-unpacked items cells count p lp))
+        ∙ ap (λ (f : PackedForm). get_or (word_at f.words p) i No) view
+
     pub seen_item_within : (p : ℕ) → p < length now.words → (p * cells) / 64 < length items
     seen_item_within p lt = item_within items cells count h p (omega (arith, lt, seen_many))
 
@@ -590,7 +618,31 @@ pub no_item : padded 0 (replicate 64 No) ≡ replicate 64 No
 unfolding padded
 no_item = refl
 
+-- a run of one value puts it
+pub run_of_one : (word new item : List K3) (to from : ℕ) (k : K3) → length word ≡ 64 → length new ≡ 64 → to < 64
+    → ((i : ℕ) → i < 1 → get_or new (to + i) No ≡ get_or item (from + i) No)
+    → ((j : ℕ) → (j < to) ⊎ (to + 1 ≤ j) → get_or new j No ≡ get_or word j No) → get_or item from No ≡ k → new ≡ set word to k
+run_of_one word new item to from k long long' low taken kept is =
+    ext_get_or No new (set word to k) (long' ∙ sym (length-set word to k ∙ long))
+    (λ j l.
+    ⊎_elim
+    (λ e.
+    let there : j ≡ to + 0 = omega (arith, e)
+    in let here : from + 0 ≡ from = omega arith
+    in ap (λ n. get_or new n No) there ∙ taken 0 (omega arith) ∙ ap (λ n. get_or item n No) here ∙ is
+    ∙ sym (ap (λ n. get_or (set word to k) n No) e ∙ get_or-set_same word to k No (omega (arith, long, low))))
+    (λ ne.
+    kept j (⊎_elim (λ before. inl before) (λ from_on. inr (omega (arith, ne, from_on))) (cases_lt j to))
+    ∙ sym (get_or-set_other word to j k No ne))
+    (cases_eq j to))
+
 -- ---- rows of one word
+
+pub alone_value : (word : List K3) (size u : ℕ) → size ≤ 64 → u < size → get_or (row_of (word ∷ []) size 0) u No ≡ get_or word u No
+alone_value word size u small lt =
+    let at : 0 + u / 64 ≡ 0 = omega arith
+    in let low : u % 64 ≡ u = omega arith
+    in get_or-row_of (word ∷ []) size 0 u lt ∙ ap (λ p. get_or (word_at (word ∷ []) p) (u % 64) No) at ∙ ap (λ i. get_or word i No) low
 
 pub alone_row : (words : List (List K3)) (word : List K3) (size start : ℕ) → size ≤ 64 → word ≡ word_at words start
     → row_of (word ∷ []) size 0 ≡ row_of words size start

@@ -160,6 +160,18 @@ impl PackedWords {
         Word::of(0, K3::No).with_run(0, self.items[at / 64], (at % 64) as u32, self.cells)
     }
 
+    /// The values of the word at a place that are used. What stands behind them isn't told.
+    #[inline(always)]
+    pub fn front(&self, place: usize) -> Word
+        requires { place < length self.now.words }
+        ensures values { (i : ℕ) → i < self.now.cells
+            → slice_index_or result i No ≡ slice_index_or (word_at self.now.words place) i No }
+        ensures long { length result ≡ 64 }
+    {
+        let at = place * self.cells as usize;
+        self.items[at / 64].from((at % 64) as u32)
+    }
+
     /// Puts a word at a place, and changes no other.
     #[inline(always)]
     fn put_word(&mut self, place: usize, word: Word)
@@ -224,8 +236,59 @@ impl PackedWords {
         }
     }
 
+    /// The word with the value in a column of the row that begins at word `start` put at `to`.
+    #[inline(always)]
+    fn with_cell(&self, word: Word, to: u32, start: usize, column: usize) -> Word
+        requires to { to < 64 }
+        requires long { length word ≡ 64 }
+        requires word { start + column / 64 < length self.now.words }
+        requires room { column % 64 < self.now.cells }
+        ensures value { result ≡ slice_set word to (value_in self.now.words start column) }
+        ensures long { length result ≡ 64 }
+    {
+        let at = self.place(start, column);
+        word.with_run(to, self.items[at / 64], (at % 64) as u32, 1)
+    }
+
+    /// The values in a column of at most 64 rows, and `No` behind them.
+    fn column_word(&self, width: usize, start: usize, rows: u32, column: usize) -> Word
+        requires rows { rows ≤ 64 }
+        requires width { width ≤ 4 }
+        requires words { start + rows * width ≤ length self.now.words }
+        requires column { column < 64 * width }
+        requires room { column % 64 < self.now.cells }
+        ensures values { (u : ℕ) → u < rows
+            → slice_index_or result u No ≡ value_in self.now.words (start + u * width) column }
+        ensures unused { (u : ℕ) → rows ≤ u → u < 64 → slice_index_or result u No ≡ No }
+        ensures long { length result ≡ 64 }
+    {
+        let _ = self.len();
+        let mut word = Word::of(0, K3::No);
+        for u in 0..rows {
+            word = self.with_cell(word, u, start + u as usize * width, column);
+        }
+        word
+    }
+
     /// The values in a column of that many rows of `width` words, the first of which begins at `start`.
     pub fn column(&self, width: usize, start: usize, rows: u32, column: usize) -> Row
+        requires rows { rows ≤ 256 }
+        requires width { width ≤ 4 }
+        requires words { start + rows * width ≤ length self.now.words }
+        requires column { column < 64 * width }
+        requires room { column % 64 < self.now.cells }
+        ensures { result
+            ≡ map (λ u. value_in self.now.words (start + u * width) column) (range_with_len 0 rows) }
+    {
+        if 0 < rows && rows <= 64 {
+            return Row::alone(self.column_word(width, start, rows, column), rows);
+        }
+        self.column_more(width, start, rows, column)
+    }
+
+    /// The same, value by value.
+    #[inline(never)]
+    fn column_more(&self, width: usize, start: usize, rows: u32, column: usize) -> Row
         requires rows { rows ≤ 256 }
         requires width { width ≤ 4 }
         requires words { start + rows * width ≤ length self.now.words }

@@ -10,7 +10,7 @@ ghost use Rattle.tv_row.specs.Bits.{value_cmp, value_of, paired, padded, greates
 ghost use Rattle.tv_row.specs.Bits.{yes_unless_no};
 ghost use Rattle.tv_row.specs.Bits.{is_certain, number_of};
 
-use crate::bits::{first_from, has, ones_below, when, with, with_bits};
+use crate::bits::{first_from, from, has, ones_below, when, with, with_bits};
 use std::cmp::Ordering;
 use std::marker::Model;
 use tv_kleene::K3;
@@ -107,6 +107,20 @@ impl Word {
         Word {
             may: self.may & ones,
             must: self.must & ones,
+        }
+    }
+
+    /// The values from `place` on, at the front. What stands behind them isn't told.
+    #[inline(always)]
+    pub(crate) fn from(self, place: u32) -> Word
+        requires { place < 64 }
+        ensures values { (i : ℕ) → place + i < 64
+            → slice_index_or result i No ≡ slice_index_or self (place + i) No }
+        ensures long { length result ≡ 64 }
+    {
+        Word {
+            may: from(self.may, place),
+            must: from(self.must, place),
         }
     }
 

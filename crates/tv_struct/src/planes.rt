@@ -124,7 +124,7 @@ impl Planes {
             ≡ slice_index_or (row_in (plane_at self.now p.0) row) (64 * chunk + i) No }
     {
         let start = self.layout.start(p.0 as usize, row as usize);
-        self.words.word(start + chunk as usize)
+        self.words.front(start + chunk as usize)
     }
 
     /// The values in a row of the predicate `p`.
