@@ -8,6 +8,7 @@ pub mod Extremes
 pub mod Greatest
 pub mod RowOps
 pub mod PackedLaws
+pub mod HalfLaws
 pub mod Chunks
 pub mod RowOrder
 pub mod DrawnBits

@@ -7,6 +7,7 @@
 mod bits;
 mod drawing;
 mod flags;
+mod half;
 mod mixed;
 mod packed;
 mod row;
@@ -15,6 +16,7 @@ mod word;
 
 pub use drawing::Drawing;
 pub use flags::Flags;
+pub use half::HalfRow;
 pub use mixed::mix;
 pub use packed::{PackedWords, cells_for};
 pub use row::Row;

@@ -104,6 +104,7 @@ impl Row {
     }
 
     /// The row of `size` values that four words hold.
+    #[inline(always)]
     pub(crate) fn held(words: [Word; 4], size: u32) -> Row
         requires { HoldsRow words size }
         ensures { result ≡ row_of words size 0 }

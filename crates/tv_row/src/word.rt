@@ -6,9 +6,8 @@ ghost use Rattle.tv_kleene.specs.declared.K3.TheVariants.{No, Yes};
 ghost use Rattle.tv_kleene.specs.Kleene.{smaller_of, larger_of, join_of, negation_of};
 ghost use Rattle.std.specs.Cmp.Lexicographic.{slice_cmp};
 ghost use Rattle.tv_row.specs.Firsts.{IsFirstFrom};
-ghost use Rattle.tv_row.specs.Bits.{value_cmp, value_of, paired, padded, greatest_in, least_in, is_possible};
-ghost use Rattle.tv_row.specs.Bits.{yes_unless_no};
-ghost use Rattle.tv_row.specs.Bits.{is_certain, number_of};
+ghost use Rattle.tv_row.specs.Bits.{value_cmp, value_of, values_of, paired, padded, greatest_in, least_in};
+ghost use Rattle.tv_row.specs.Bits.{yes_unless_no, is_possible, is_certain, number_of};
 
 use crate::bits::{first_from, from, has, ones_below, when, with, with_bits};
 use std::cmp::Ordering;
@@ -82,6 +81,14 @@ impl Word {
             may: when(is_possible(k), ones),
             must: when(is_certain(k), ones),
         }
+    }
+
+    /// `Half` where a bit is set, and `No` elsewhere.
+    #[inline(always)]
+    pub(crate) fn half(bits: u64) -> Word
+        ensures { result ≡ values_of bits 0 }
+    {
+        Word { may: bits, must: 0 }
     }
 
     /// The first `n` values negated, and `No` behind them.
