@@ -1,22 +1,26 @@
 -- Words that are packed.
-use Rattle.std.proofs.Common.{ℕ, ◌≡◌, ◌≢◌, ◌<◌, ◌≤◌, ◌+◌, ◌*◌, ◌/◌, ◌%◌, ◌^◌, ◌⊎◌, inl, inr, ⊎_elim, cond, ltb}
-use Rattle.std.proofs.Common.{Bool, true, false, if◌then◌else◌, nat_le, List, [], ◌∷◌, length, get_or, set, map, replicate, sym, ap, subst, refl, ◌∙◌, arith}
+use Rattle.std.proofs.Common.{ℕ, ◌≡◌, ◌≢◌, ◌<◌, ◌≤◌, ◌+◌, ◌*◌, ◌/◌, ◌%◌, ◌^◌, ◌⊎◌, inl, inr, ⊎_elim, cond}
+use Rattle.std.proofs.Common.{ltb}
+use Rattle.std.proofs.Common.{Bool, true, false, if◌then◌else◌, nat_le, List, [], ◌∷◌, length, get_or, set}
+use Rattle.std.proofs.Common.{map, replicate, sym, ap, subst, refl, ◌∙◌, arith}
 use Rattle.std.specs.List.{range_with_len}
 use Rattle.std.specs.Cmp.Lexicographic.{slice_cmp}
 use Rattle.std.proofs.lemmas.Bool.{cases_eq, cases_lt, lt-ltb, le-ltb, leb-true}
 use Rattle.std.proofs.lemmas.Nat.{row_fits, div_below, mod_below, div-add-mod'}
-use Rattle.std.proofs.lemmas.List.{ext_get_or, get_or_default, get_or_past, length-set, get_or-set_same, get_or-set_other}
+use Rattle.std.proofs.lemmas.List.{ext_get_or, get_or_default, get_or_past, length-set, get_or-set_same}
+use Rattle.std.proofs.lemmas.List.{get_or-set_other}
 use Rattle.std.proofs.lemmas.List.{length-replicate, get_or-replicate}
 use Rattle.std.proofs.lemmas.List.FromFn.{length-map-range_with_len, get_or-map-range_with_len}
 use Rattle.tv_kleene.specs.declared.K3.{K3}
 use Rattle.tv_kleene.specs.declared.K3.TheVariants.{No}
 use Rattle.tv_row.specs.Bits.{padded, value_cmp}
-use Rattle.tv_row.specs.Packed.{PackedForm, FillsWord, HoldsPacked, cells_for, word_unpacked, unpacked, packed}
+use Rattle.tv_row.specs.Packed.{PackedForm, FillsWord, HoldsPacked, cells_for, word_unpacked, unpacked}
+use Rattle.tv_row.specs.Packed.{packed}
 use Rattle.tv_row.specs.Places.{AreWords, word_at, value_in, with_value, row_of}
 use Rattle.tv_row.proofs.Compare.{value_tied, same_lists_tie, first_decides}
 use Rattle.tv_row.proofs.CompareRows.{Differs, differ, list_tied}
 use Rattle.tv_row.proofs.PlaceLaws.{no_value, put_same, put_other, put_long, length-row_of, get_or-row_of}
-use Rattle.tv_row.proofs.RowOps.{no_place}
+use Rattle.tv_row.proofs.WordOps.{length-padded, get_or-padded}
 
 -- ---- numbers
 
@@ -99,24 +103,27 @@ module _ (items : List (List K3)) (cells count : ℕ) (h : HoldsPacked items cel
       ∙ used_value items cells (start + column / 64) (column % 64) (omega arith) in_cells
 
   -- a word that is cut out of its item
-  pub word_is : (p : ℕ) (word item : List K3) → p < count → length word ≡ 64 → item ≡ word_at items ((p * cells) / 64)
-      → ((i : ℕ) → i < cells → get_or word (0 + i) No ≡ get_or item ((p * cells) % 64 + i) No)
-      → ((j : ℕ) → (j < 0) ⊎ (0 + cells ≤ j) → get_or word j No ≡ get_or (padded 0 (replicate 64 No)) j No)
+  pub word_is : (p : ℕ) (word front item : List K3) → p < count → word ≡ padded cells front → length front ≡ 64
+      → item ≡ word_at items ((p * cells) / 64)
+      → ((i : ℕ) → (p * cells) % 64 + i < 64 → get_or front i No ≡ get_or item ((p * cells) % 64 + i) No)
       → word ≡ word_at (unpacked items cells count) p
-  word_is p word item lt long is taken kept =
-      ext_get_or No word (word_unpacked items cells p) (long ∙ sym (long-word_unpacked items cells p))
+  word_is p word front item lt cut long is from =
+      let most : cells ≤ 64 = (fills_some cells h.fills).1
+      in cut
+      ∙ ext_get_or No (padded cells front) (word_unpacked items cells p) (length-padded cells front most long ∙ sym (long-word_unpacked items cells p))
       (λ i l.
-      let li : i < 64 = omega (arith, l, long)
-      in ⊎_elim
+      let li : i < 64 = omega (arith, l, length-padded cells front most long)
+      in get_or-padded cells front i most long li
+      ∙ ⊎_elim
       (λ in_cells.
       let lies : ((p * cells) % 64 + cells ≤ 64) × ((p * cells + i) / 64 ≡ (p * cells) / 64) × ((p * cells + i) % 64 ≡ (p * cells) % 64 + i)
       = lies_in p i cells h.fills in_cells
       in let at : 0 + (p * cells + i) / 64 ≡ (p * cells) / 64 = omega (arith, lies.1)
-      in let first : i ≡ 0 + i = omega arith
-      in ap (λ j. get_or word j No) first ∙ taken i in_cells ∙ ap (λ (w : List K3). get_or w ((p * cells) % 64 + i) No) is
+      in ap (λ t. cond t (get_or front i No) No) (lt-ltb i cells in_cells) ∙ from i (omega (arith, lies.0, in_cells))
+      ∙ ap (λ (w : List K3). get_or w ((p * cells) % 64 + i) No) is
       ∙ sym (used_value items cells p i li in_cells ∙ ap (λ q. get_or (word_at items q) ((p * cells + i) % 64) No) at
       ∙ ap (λ j. get_or (word_at items ((p * cells) / 64)) j No) lies.2))
-      (λ past. kept i (inr (omega arith)) ∙ no_place i li ∙ sym (unused_value items cells p i li past))
+      (λ past. ap (λ t. cond t (get_or front i No) No) (le-ltb i cells past) ∙ sym (unused_value items cells p i li past))
       (cases_lt i cells))
       ∙ sym (word-unpacked items cells count p lt)
 

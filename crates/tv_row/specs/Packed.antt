@@ -21,7 +21,8 @@ FillsWord cells =
 abbrev pub cells_for : (columns : ℕ) → ℕ
 cells_for columns =
     if nat_le columns 1 then 1 else if nat_le columns 2 then 2 else if nat_le columns 4 then 4
-    else if nat_le columns 8 then 8 else if nat_le columns 16 then 16 else if nat_le columns 32 then 32 else 64
+    else if nat_le columns 8 then 8 else if nat_le columns 16 then 16 else if nat_le columns 32 then 32
+    else 64
 
 -- word p of those that are packed
 abbrev pub word_unpacked : (items : List (List K3)) → (cells p : ℕ) → List K3

@@ -156,8 +156,8 @@ impl PackedWords {
         ensures value { result ≡ word_at self.now.words place }
         ensures long { length result ≡ 64 }
     {
-        let at = place * self.cells as usize;
-        Word::of(0, K3::No).with_run(0, self.items[at / 64], (at % 64) as u32, self.cells)
+        let start = place * self.cells as usize;
+        self.items[start / 64].from((start % 64) as u32).first(self.cells)
     }
 
     /// The values of the word at a place that are used. What stands behind them isn't told.

@@ -3,7 +3,8 @@ use Rattle.std.proofs.lemmas.List.{get_or_read}
 use Rattle.tv_kleene.specs.declared.K3.{K3}
 use Rattle.tv_row.specs.Packed.{PackedForm, HoldsPacked, unpacked}
 use Rattle.tv_row.specs.Places.{with_value}
-use Rattle.tv_row.proofs.PackedLaws.{seen_place_within, seen_many, seen_cells, seen_long, cell_holds, cell_is, placed_put}
+use Rattle.tv_row.proofs.PackedLaws.{seen_place_within, seen_many, seen_cells, seen_long, cell_holds, cell_is}
+use Rattle.tv_row.proofs.PackedLaws.{placed_put}
 use Rattle.tv_row.proofs.packed.PackedWords.put.Goals as goal
 
 pub index-requires : goal.index-requires

@@ -1,7 +1,8 @@
 use Rattle.std.proofs.Common.{◌*◌, ◌/◌, ◌∙◌, [], set, ap, arith}
 use Rattle.std.proofs.lemmas.List.{get_or_read}
 use Rattle.tv_row.specs.Packed.{PackedForm}
-use Rattle.tv_row.proofs.PackedLaws.{seen_place_small, seen_item_within, seen_many, seen_cells, run_holds, run_is}
+use Rattle.tv_row.proofs.PackedLaws.{seen_place_small, seen_item_within, seen_many, seen_cells, run_holds}
+use Rattle.tv_row.proofs.PackedLaws.{run_is}
 use Rattle.tv_row.proofs.packed.PackedWords.put_word.Goals as goal
 
 pub overflow_mul-at : goal.overflow_mul-at

@@ -1,13 +1,13 @@
-use Rattle.std.proofs.Common.{◌*◌, ◌/◌, ◌∙◌, [], get_or, ap, arith}
+use Rattle.std.proofs.Common.{◌*◌, ◌/◌, ◌∙◌, [], length, ap, arith}
 use Rattle.std.proofs.lemmas.List.{get_or_read}
-use Rattle.tv_kleene.specs.declared.K3.TheVariants.{No}
 use Rattle.tv_row.specs.Packed.{PackedForm}
 use Rattle.tv_row.specs.Places.{word_at}
-use Rattle.tv_row.proofs.PackedLaws.{seen_place_small, seen_item_within, seen_many, word_is}
+use Rattle.tv_row.proofs.PackedLaws.{fills_some, seen_place_small, seen_item_within, seen_many, word_is}
+use Rattle.tv_row.proofs.WordOps.{length-padded}
 use Rattle.tv_row.proofs.packed.PackedWords.word.Goals as goal
 
-pub overflow_mul-at : goal.overflow_mul-at
-overflow_mul-at c = omega (arith, seen_place_small c.self.inside.items.items c.self.inside.cells c.self.inside.count c.args.self.now c.self.view_is c.self.invariant c.args.place c.requires)
+pub overflow_mul-start : goal.overflow_mul-start
+overflow_mul-start c = omega (arith, seen_place_small c.self.inside.items.items c.self.inside.cells c.self.inside.count c.args.self.now c.self.view_is c.self.invariant c.args.place c.requires)
 
 pub index-requires : goal.index-requires
 index-requires c =
@@ -15,9 +15,14 @@ index-requires c =
 
 pub returns-clause-value : goal.returns-clause-value
 returns-clause-value c =
-    word_is c.self.inside.items.items c.self.inside.cells c.self.inside.count c.self.invariant c.args.place c.with_run.result c.index.result.now
-    (omega (arith, c.requires, seen_many c.self.inside.items.items c.self.inside.cells c.self.inside.count c.args.self.now c.self.view_is)) c.with_run.ensures.long
+    word_is c.self.inside.items.items c.self.inside.cells c.self.inside.count c.self.invariant c.args.place c.first.result c.from.result c.index.result.now
+    (omega (arith, c.requires, seen_many c.self.inside.items.items c.self.inside.cells c.self.inside.count c.args.self.now c.self.view_is)) c.first.ensures c.from.ensures.long
     (get_or_read c.self.inside.items.items ((c.args.place * c.self.inside.cells) / 64) c.index.result.now
     (seen_item_within c.self.inside.items.items c.self.inside.cells c.self.inside.count c.args.self.now c.self.view_is c.self.invariant c.args.place c.requires) c.index.ensures [])
-    c.with_run.ensures.taken (λ j out. c.with_run.ensures.kept j out ∙ ap (λ w. get_or w j No) c.of.ensures)
+    c.from.ensures.values
     ∙ ap (λ (f : PackedForm). word_at f.words c.args.place) c.self.view_is
+
+pub returns-clause-long : goal.returns-clause-long
+returns-clause-long c =
+    ap length c.first.ensures
+    ∙ length-padded c.self.inside.cells c.from.result (fills_some c.self.inside.cells c.self.invariant.fills).1 c.from.ensures.long

@@ -1,4 +1,5 @@
-use Rattle.tv_struct.proofs.HeldLaws.{cells_room, IsTable-held, now_listed, now_row, now_cell, now_columns, now_put_cell}
+use Rattle.tv_struct.proofs.HeldLaws.{cells_room, IsTable-held, now_listed, now_row, now_cell, now_columns}
+use Rattle.tv_struct.proofs.HeldLaws.{now_put_cell}
 use Rattle.std.proofs.Common.{◌<◌, ◌%◌, ◌∙◌, get_or, ap, subst, sym, arith}
 use Rattle.tv_row.specs.Packed.{PackedForm}
 use Rattle.tv_struct.specs.LayoutForm.{HoldsPackedTable, table_held}
