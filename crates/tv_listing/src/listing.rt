@@ -8,6 +8,7 @@ ghost use Rattle.tv_listing.specs.ListingForm.{at_node, appended, AddsAt, AreSor
 use crate::node::Node;
 use std::alloc::{AllocError, Global};
 use std::marker::Model;
+use std::mem::replace;
 use tv_struct::Structure;
 
 /// For each node, by number, a list of structures. It keeps the allocator that it was made with.
@@ -87,13 +88,11 @@ impl Listing {
     pub fn sorted(self) -> Result<Listing, AllocError>
         ensures { IfOk result (AreSorted self) }
     {
-        let mut sorted = Vec::with_capacity(self.alloc, self.nodes.len())?;
-        for node in self.nodes {
-            sorted.push(node.sorted(self.alloc)?)?;
+        let Listing { alloc, mut nodes } = self;
+        for i in 0..nodes.len() {
+            let node = replace(&mut nodes[i], Node::new(alloc));
+            nodes[i] = node.sorted(alloc)?;
         }
-        Ok(Listing {
-            alloc: self.alloc,
-            nodes: sorted,
-        })
+        Ok(Listing { alloc, nodes })
     }
 }
