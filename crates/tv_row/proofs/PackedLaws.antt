@@ -550,6 +550,25 @@ module _ (items : List (List K3)) (cells count : ℕ) (now : PackedForm)
         ∙ sym (used_value items cells p i li in_cells) ∙ ap (λ w. get_or w i No) (sym (word-unpacked items cells count p lp))
         ∙ ap (λ (f : PackedForm). get_or (word_at f.words p) i No) view
 
+    -- a word that shares none is its item
+    pub seen_whole : (p : ℕ) (item : List K3) → p < length now.words → now.cells ≡ 64 → item ≡ word_at items p
+        → item ≡ word_at now.words p
+    seen_whole p item lt room is =
+        let wide : cells ≡ 64 = sym seen_cells ∙ room
+        in let lp : p < count = omega (arith, lt, seen_many)
+        in let many : count * cells ≡ count * 64 = ap (λ n. count * n) wide
+        in let long : length (word_at items p) ≡ 64 = h.words_have p [] (omega (arith, lp, many, h.as_many))
+        in is
+        ∙ ext_get_or No (word_at items p) (word_unpacked items cells p) (long ∙ sym (long-word_unpacked items cells p))
+        (λ i l.
+        let li : i < 64 = omega (arith, l, long)
+        in let start : p * cells ≡ p * 64 = ap (λ n. p * n) wide
+        in let at : p ≡ 0 + (p * cells + i) / 64 = omega (arith, start, li)
+        in let low : i ≡ (p * cells + i) % 64 = omega (arith, start, li)
+        in ap (λ q. get_or (word_at items q) i No) at ∙ ap (λ j. get_or (word_at items (0 + (p * cells + i) / 64)) j No) low
+        ∙ sym (used_value items cells p i li (omega (arith, wide, li))))
+        ∙ sym (word-unpacked items cells count p lp) ∙ ap (λ (f : PackedForm). word_at f.words p) view
+
     pub seen_item_within : (p : ℕ) → p < length now.words → (p * cells) / 64 < length items
     seen_item_within p lt = item_within items cells count h p (omega (arith, lt, seen_many))
 

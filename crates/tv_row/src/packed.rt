@@ -157,7 +157,9 @@ impl PackedWords {
         ensures long { length result ≡ 64 }
     {
         let start = place * self.cells as usize;
-        self.items[start / 64].from((start % 64) as u32).first(self.cells)
+        self.items[start / 64]
+            .from((start % 64) as u32)
+            .first(self.cells)
     }
 
     /// The values of the word at a place that are used. What stands behind them isn't told.
@@ -189,12 +191,16 @@ impl PackedWords {
     #[inline(always)]
     pub fn row(&self, start: usize, size: u32) -> Row
         requires size { size ≤ 256 }
+        requires room { (self.now.cells ≡ 64) ⊎ (size ≤ 64) }
         requires words { start + (size / 64 + min 1 (size % 64)) ≤ length self.now.words }
         requires unused { (c : ℕ) → size ≤ c → c < 64 * (size / 64 + min 1 (size % 64))
             → value_in self.now.words start c ≡ No }
         ensures { result ≡ row_of self.now.words size start }
     {
-        if 0 < size && size <= 64 {
+        if size == 0 {
+            return Row::of(0, K3::No);
+        }
+        if size <= 64 {
             return Row::alone(self.word(start), size);
         }
         self.row_more(start, size)
@@ -204,6 +210,7 @@ impl PackedWords {
     #[inline(never)]
     fn row_more(&self, start: usize, size: u32) -> Row
         requires size { size ≤ 256 }
+        requires room { self.now.cells ≡ 64 }
         requires words { start + (size / 64 + min 1 (size % 64)) ≤ length self.now.words }
         requires unused { (c : ℕ) → size ≤ c → c < 64 * (size / 64 + min 1 (size % 64))
             → value_in self.now.words start c ≡ No }
@@ -212,9 +219,19 @@ impl PackedWords {
         let _ = self.len();
         let mut held = [Word::of(0, K3::No); 4];
         for p in 0..size.div_ceil(64) as usize {
-            held[p] = self.word(start + p);
+            held[p] = self.whole(start + p);
         }
         Row::held(held, size)
+    }
+
+    /// The word at a place, where no word shares another.
+    #[inline(always)]
+    fn whole(&self, place: usize) -> Word
+        requires place { place < length self.now.words }
+        requires room { self.now.cells ≡ 64 }
+        ensures { result ≡ word_at self.now.words place }
+    {
+        self.items[place]
     }
 
     /// Puts the row's values into the words from `start` on, and `No` behind them in the last.

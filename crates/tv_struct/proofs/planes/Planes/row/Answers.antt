@@ -1,6 +1,6 @@
-use Rattle.std.proofs.Common.{ℕ, ◌≡◌, ◌∙◌, length, ap, sym}
+use Rattle.std.proofs.Common.{ℕ, ◌≡◌, ◌∙◌, length, get_or, ap, sym}
 use Rattle.tv_struct.specs.TableForm.{TableForm, plane_at, column_count}
-use Rattle.tv_struct.proofs.HeldLaws.{now_listed, now_arity, now_row, now_columns, now_read}
+use Rattle.tv_struct.proofs.HeldLaws.{now_listed, now_arity, now_row, now_columns, now_read, narrow_row}
 use Rattle.tv_struct.proofs.planes.Planes.row.Goals as goal
 
 pub arity-requires : goal.arity-requires
@@ -19,6 +19,12 @@ pub row-requires-clause-words : goal.row-requires-clause-words
 row-requires-clause-words c =
     (now_read c.self.inside.layout c.self.inside.words.words c.args.self.now c.self.view_is c.self.invariant.table c.args.p.0 c.requires.predicate c.args.row c.requires.row c.column_count-columns.result c.start.result
     (columns_are _ _ _ _ _ c.size.ensures.size c.arity.ensures c.column_count-columns.ensures) c.start.ensures).room
+
+pub row-requires-clause-room : goal.row-requires-clause-room
+row-requires-clause-room c =
+    narrow_row c.self.inside.layout.size (get_or c.self.inside.layout.arities c.args.p.0 0) c.self.inside.words.cells
+    c.column_count-columns.result c.self.invariant.room
+    (columns_are _ _ _ _ _ c.size.ensures.size c.arity.ensures c.column_count-columns.ensures)
 
 pub row-requires-clause-unused : goal.row-requires-clause-unused
 row-requires-clause-unused c =
