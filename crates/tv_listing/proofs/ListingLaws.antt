@@ -1,17 +1,18 @@
 -- Looking for an equal structure, and what it says of adding.
-use Rattle.std.proofs.Common.{ℕ, ◌≡◌, ◌<◌, ◌≤◌, ◌+◌, ◌-◌, ◌⊎◌, inl, inr, Bool, true, false, ◌||◌, not, List}
+use Rattle.std.proofs.Common.{ℕ, ◌≡◌, ◌≢◌, ◌<◌, ◌≤◌, ◌+◌, ◌-◌, ◌⊎◌, ⊎_elim, inl, inr, Bool, true, false, ◌||◌, not, List}
 use Rattle.std.proofs.Common.{[], ◌∷◌}
-use Rattle.std.proofs.Common.{◌++◌, length, get_or, true≢false, Result, Ok, Err, set, refl, sym, ap, subst}
+use Rattle.std.proofs.Common.{◌++◌, length, true≢false, Result, Ok, Err, set, refl, sym, ap, subst}
 use Rattle.std.proofs.Common.{◌∙◌, arith, if◌then◌else◌}
 use Rattle.std.specs.Prelude.{Any, ◌↔◌, IsTrue}
 use Rattle.std.specs.List.{list_any}
 use Rattle.std.specs.declared.alloc.AllocError.{AllocError}
 use Rattle.std.specs.Ordering.{is_eq, eq_by_cmp}
 use Rattle.std.specs.Cmp.{Equal-is}
-use Rattle.std.proofs.lemmas.List.{get_or_append_left, get_or-append_right, get_or-append-add, get_or_at}
-use Rattle.std.proofs.lemmas.List.{length-append, append-nil, set-get_or}
+use Rattle.std.proofs.lemmas.List.{get_or_append_left, get_or-append_right, get_or-append-add}
+use Rattle.std.proofs.lemmas.List.{length-append, append-nil, set-get_or, length-set, get_or-set_same}
+use Rattle.std.proofs.lemmas.List.{get_or-set_other}
 use Rattle.std.proofs.lemmas.List.Folds.{Any-from_list_any, list_any_at}
-use Rattle.std.proofs.lemmas.Bool.{cases_lt}
+use Rattle.std.proofs.lemmas.Bool.{cases_eq, cases_lt}
 use Rattle.indexmap.specs.IndexSet.{insert_key}
 use Rattle.tv_listing.specs.ListingForm.{HasEqual, Adds, AddsAt, IsSortedFrom, at_node}
 use Rattle.tv_struct.specs.Order.{structure_cmp}
@@ -102,19 +103,27 @@ AddsAt-from_list old node list new s (Err x) e h = ap (set old node) (h ∙ e) �
 
 -- ---- sorted lists
 
--- one more node's list is sorted
-pub IsSortedFrom-push : (olds news : List (List StructureForm)) (old new : List StructureForm) → length news ≡ length olds
-    → ((node : ℕ) → node < length olds → IsSortedFrom (at_node olds node) (at_node news node)) → IsSortedFrom old new
-    → (node : ℕ) → node < length (olds ++ old ∷ []) → IsSortedFrom (at_node (olds ++ old ∷ []) node) (at_node (news ++ new ∷ []) node)
-IsSortedFrom-push olds news old new count each one node lt = at (cases_lt node (length olds))
-  where
-    at : (node < length olds) ⊎ (length olds ≤ node) → IsSortedFrom (at_node (olds ++ old ∷ []) node) (at_node (news ++ new ∷ []) node)
-    at (inl before) =
-        rw (
-          get_or_append_left olds (old ∷ []) [] node before,
-          get_or_append_left news (new ∷ []) [] node (omega (arith, count, before)),
-        )
-        (each node before)
-    at (inr last) =
-        let here : length olds ≡ node = omega (arith, length-append olds (old ∷ []))
-        in rw (get_or_at olds old [] [] node here, get_or_at news new [] [] node (count ∙ here)) one
+-- one more node's list is sorted, where it stands
+module _ (old nodes : List (List StructureForm)) (i : ℕ) (empty new : List StructureForm) (many : length nodes ≡ length old)
+    (lt : i < length nodes)
+    (each : (node : ℕ) → node < i → IsSortedFrom (at_node old node) (at_node nodes node))
+    (others : (node : ℕ) → i ≤ node → at_node nodes node ≡ at_node old node) where
+  abbrev next : List (List StructureForm)
+  next = set (set nodes i empty) i new
+
+  elsewhere : (node : ℕ) → node ≢ i → at_node next node ≡ at_node nodes node
+  elsewhere node ne = get_or-set_other (set nodes i empty) i node new [] ne ∙ get_or-set_other nodes i node empty [] ne
+
+  pub sorted_many : length next ≡ length old
+  sorted_many = length-set (set nodes i empty) i new ∙ length-set nodes i empty ∙ many
+
+  pub sorted_each : IsSortedFrom (at_node nodes i) new → (node : ℕ) → node < i + 1 → IsSortedFrom (at_node old node) (at_node next node)
+  sorted_each one node before =
+      ⊎_elim
+      (λ e.
+      rw (e, get_or-set_same (set nodes i empty) i new [] (omega (arith, lt, length-set nodes i empty)), ← others i (omega arith)) one)
+      (λ ne. rw (elsewhere node ne) (each node (omega (arith, before, ne))))
+      (cases_eq node i)
+
+  pub sorted_others : (node : ℕ) → i + 1 ≤ node → at_node next node ≡ at_node old node
+  sorted_others node behind = elsewhere node (λ e. omega (arith, e, behind)) ∙ others node (omega (arith, behind))

@@ -8,6 +8,7 @@ ghost use Rattle.tv_listing.specs.ListingForm.{at_node, appended, AddsAt, AreSor
 use crate::node::Node;
 use std::alloc::{AllocError, Global};
 use std::marker::Model;
+use std::mem::replace;
 use tv_struct::Structure;
 
 /// For each node, by number, a list of structures. It keeps the allocator that it was made with.
@@ -67,8 +68,9 @@ impl Listing {
         requires { node < length self.old }
         ensures { self.new ≡ (if is_ok result then appended self.old node s else self.old) }
     {
+        let alloc = self.alloc;
         let list = &mut self.nodes[node as usize];
-        list.push(s)
+        list.push(alloc, s)
     }
 
     /// Puts the structure behind those of the node where none of them is equal to it, marks aside,
@@ -77,21 +79,20 @@ impl Listing {
         requires { node < length self.old }
         ensures { AddsAt self.old self.new node s result }
     {
+        let alloc = self.alloc;
         let list = &mut self.nodes[node as usize];
-        list.add(s)
+        list.add(alloc, s)
     }
 
     /// The listing with each node's structures in ascending order. No structure is copied.
     pub fn sorted(self) -> Result<Listing, AllocError>
         ensures { IfOk result (AreSorted self) }
     {
-        let mut sorted = Vec::with_capacity(self.alloc, self.nodes.len())?;
-        for node in self.nodes {
-            sorted.push(node.sorted(self.alloc)?)?;
+        let Listing { alloc, mut nodes } = self;
+        for i in 0..nodes.len() {
+            let node = replace(&mut nodes[i], Node::new(alloc));
+            nodes[i] = node.sorted(alloc)?;
         }
-        Ok(Listing {
-            alloc: self.alloc,
-            nodes: sorted,
-        })
+        Ok(Listing { alloc, nodes })
     }
 }

@@ -16,7 +16,7 @@ use tv_struct::Structure;
 #[derive(Drop)]
 pub struct Node {
     added: IndexSet<Hashed>,
-    pushed: Vec<Structure>,
+    pushed: Vec<Hashed>,
 }
 
 impl Model for Node {
@@ -54,33 +54,34 @@ impl Node {
         let added = self.added.as_slice();
         if i < added.len() {
             let s = &added[i];
-            &s.structure
+            s.structure()
         } else {
-            &self.pushed[i - added.len()]
+            let s = &self.pushed[i - added.len()];
+            s.structure()
         }
     }
 
     /// Puts the structure behind the others. At an error they are as before.
-    pub fn push(&mut self, s: Structure) -> Result<(), AllocError>
+    pub fn push(&mut self, alloc: Global, s: Structure) -> Result<(), AllocError>
         ensures { self.new ≡ (if is_ok result then self.old ++ s ∷ [] else self.old) }
     {
-        self.pushed.push(s)?;
+        self.pushed.push(Hashed::new(alloc, s)?)?;
         Ok(())
     }
 
     /// Puts the structure behind the others where none of them is equal to it, marks aside, and tells
     /// whether it did. At an error the structures are as before.
-    pub fn add(&mut self, s: Structure) -> Result<bool, AllocError>
+    pub fn add(&mut self, alloc: Global, s: Structure) -> Result<bool, AllocError>
         ensures { Adds self.old self.new s result }
     {
-        let s = Hashed { structure: s };
+        let s = Hashed::new(alloc, s)?;
         if self.pushed.is_empty() {
             return Ok(self.added.insert(s)?);
         }
         if self.has(&s) {
             return Ok(false);
         }
-        self.pushed.push(s.structure)?;
+        self.pushed.push(s)?;
         Ok(true)
     }
 
@@ -88,7 +89,7 @@ impl Node {
     fn has(&self, s: &Hashed) -> bool
         ensures { IsTrue result ↔ HasEqual self.now s.now }
     {
-        self.added.contains(s) || self.pushed.contains(&s.structure)
+        self.added.contains(s) || self.pushed.contains(s)
     }
 
     /// The same structures in ascending order.
@@ -104,13 +105,13 @@ impl Node {
     }
 
     /// The structures in order.
-    fn into_structures(self, alloc: Global) -> Result<Vec<Structure>, AllocError>
+    fn into_structures(self, alloc: Global) -> Result<Vec<Hashed>, AllocError>
         ensures { IfOk result (λ structures. structures.items ≡ self) }
     {
         let Node { added, mut pushed } = self;
         let mut structures = Vec::with_capacity(alloc, added.len())?;
         for s in added {
-            structures.push(s.structure)?;
+            structures.push(s)?;
         }
         structures.append(&mut pushed)?;
         Ok(structures)

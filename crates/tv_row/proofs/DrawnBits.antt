@@ -24,7 +24,7 @@ shl_from n k j le low =
     bit_low (n * 2 ^ k) j low ∙ ap (λ m. bit m j) (sym (add-zero (n * 2 ^ k)))
     ∙ ap (λ x. eqb x 1) (bit_at_cat_high n k 0 j (pow_pos k) le)
 
-shr_bit : (n k i : ℕ) → bit (n / 2 ^ k) i ≡ bit n (k + i)
+pub shr_bit : (n k i : ℕ) → bit (n / 2 ^ k) i ≡ bit n (k + i)
 shr_bit n k i = ap (λ x. eqb (x % 2) 1) (shr-shr n k i)
 
 taken : (a b : Bool) → ((a && not true) || (b && true)) ≡ b

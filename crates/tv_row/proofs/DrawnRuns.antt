@@ -1,8 +1,10 @@
 -- Words and rows that are drawn run by run.
 use Rattle.std.proofs.Common.{ℕ, ◌≡◌, ◌≢◌, ◌<◌, ◌≤◌, ◌+◌, ◌-◌, ◌*◌, ◌/◌, ◌%◌, ◌⊎◌, inl, inr, ⊎_elim, Bool}
-use Rattle.std.proofs.Common.{true, false, ◌&&◌, cond, ltb, leb, List, [], ◌∷◌, ◌++◌, length, map, get_or}
+use Rattle.std.proofs.Common.{true, false, ◌&&◌, cond, eqb, ltb, leb, List, [], ◌∷◌, ◌++◌, length, map}
+use Rattle.std.proofs.Common.{get_or}
 use Rattle.std.proofs.Common.{set, take, refl, sym, ap, ◌∙◌, arith}
 use Rattle.std.proofs.lemmas.Bool.{cases_eq, cases_lt, lt-ltb, le-ltb, le-leb, lt-leb}
+use Rattle.std.proofs.lemmas.Nat.Bits.{bit_at_above}
 use Rattle.std.proofs.lemmas.List.{length-set, length-map, get_or-map, get_or-set_same, get_or-set_other}
 use Rattle.std.proofs.lemmas.List.{get_or_past, get_or_default, ext_get_or}
 use Rattle.std.proofs.lemmas.List.Elements.{All-set}
@@ -60,6 +62,27 @@ module _ (a b c d may must to from count : ℕ) (v : IsWord a b) (to_room : to +
         at (inr from_on) (inl lt) =
             let e : to + (j - to) ≡ j = omega arith
             in ap (λ i. bit must i && bit may i) (sym e) ∙ within_taken (j - to) (omega arith) ∙ ap (bit must) e
+
+-- ---- a word's values from a place on
+
+module _ (may must place front_may front_must : ℕ) (w : IsWord may must) (low : place < 64)
+    (may_from : (i : ℕ) → bit front_may i ≡ bit may (place + i)) (must_from : (i : ℕ) → bit front_must i ≡ bit must (place + i)) where
+  pub from_within : (i : ℕ) → i < 64 → (bit front_must i && bit front_may i) ≡ bit front_must i
+  from_within i lt =
+      ⊎_elim
+      (λ inside.
+      ap (λ x. x && bit front_may i) (must_from i) ∙ ap (λ x. bit must (place + i) && x) (may_from i) ∙ w.within (place + i) inside
+      ∙ sym (must_from i))
+      (λ past.
+      let none : bit front_must i ≡ false = must_from i ∙ ap (λ x. eqb x 1) (bit_at_above must 64 (place + i) w.must_fits past)
+      in ap (λ x. x && bit front_may i) none ∙ sym none)
+      (cases_lt (place + i) 64)
+
+  pub from_values : (i : ℕ) → place + i < 64
+      → get_or (values_of front_may front_must) i No ≡ get_or (values_of may must) (place + i) No
+  from_values i lt =
+      get_or-values_of front_may front_must i (omega arith) ∙ ap (λ m. value_of m (bit front_must i)) (may_from i)
+      ∙ ap (value_of (bit may (place + i))) (must_from i) ∙ sym (get_or-values_of may must (place + i) lt)
 
 -- ---- a row that is cleared, word by word
 

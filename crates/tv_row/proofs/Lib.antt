@@ -7,6 +7,8 @@ pub mod CompareRows
 pub mod Extremes
 pub mod Greatest
 pub mod RowOps
+pub mod PackedLaws
+pub mod HalfLaws
 pub mod Chunks
 pub mod RowOrder
 pub mod DrawnBits

@@ -1,5 +1,5 @@
 -- Places in rows of words.
-use Rattle.std.proofs.Common.{ℕ, ◌≡◌, ◌≢◌, ◌<◌, ◌≤◌, ◌+◌, ◌-◌, ◌*◌, ◌/◌, ◌%◌}
+use Rattle.std.proofs.Common.{ℕ, ◌≡◌, ◌≢◌, ◌<◌, ◌≤◌, ◌+◌, ◌*◌, ◌/◌, ◌%◌}
 use Rattle.std.proofs.Common.{List, [], length, get_or, set, sym, ap, ◌∙◌, inl, inr, ⊎_elim}
 use Rattle.std.proofs.Common.{◌⊎◌, arith, replicate}
 use Rattle.std.proofs.lemmas.Bool.{cases_eq, cases_lt}

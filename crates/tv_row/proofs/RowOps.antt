@@ -484,32 +484,3 @@ module _ (words held : List (List K3)) (start size n : ℕ) (long : AreWords wor
   read_row =
       filled_row held size n (λ v. word_at words (start + v)) filled (omega arith) small source_long source_past (row_of words size start)
       (length-row_of words size start) (λ c lt. sym (get_or-row_of words size start c lt))
-
-module _ (own words after : List (List K3)) (start size n : ℕ) (now : List K3) (h : HoldsRow own size) (view : row_of own size 0 ≡ now)
-    (e : n ≡ length now / 64 + min 1 (length now % 64))
-    (written : (v : ℕ) → v < n → word_at after (start + v) ≡ word_at own v)
-    (rest : (q : ℕ) → (q < start) ⊎ (start + n ≤ q) → word_at after q ≡ word_at words q) where
-  length_now : length now ≡ size
-  length_now = length_seen own size now view
-
-  pub write_values : (c : ℕ) → c < 64 * (length now / 64 + min 1 (length now % 64)) → value_in after start c ≡ get_or now c No
-  write_values c lt =
-      let at : 0 + c / 64 ≡ c / 64 = omega arith
-      in ap (λ word. get_or word (c % 64) No) (written (c / 64) (omega arith))
-      ∙ ap (λ p. get_or (word_at own p) (c % 64) No) (sym at)
-      ∙ sym (read_held own size c h (omega (arith, h.small, length_now))) ∙ ap (λ v. get_or v c No) view
-
-  pub write_long : length after ≡ length words → AreWords words → AreWords after
-  write_long len long i d lt =
-      ap length (get_or_default after i d [] lt)
-      ∙ ⊎_elim
-      (λ before. ap length (rest i (inl before)) ∙ long i [] (omega arith))
-      (λ from.
-      ⊎_elim
-      (λ here.
-      let p : i ≡ start + (i - start) = omega arith
-      in ap (λ q. length (word_at after q)) p ∙ ap length (written (i - start) (omega arith))
-      ∙ h.words_have (i - start) [] (omega (arith, h.as_many, h.small, length_now)))
-      (λ past. ap length (rest i (inr past)) ∙ long i [] (omega arith))
-      (cases_lt i (start + n)))
-      (cases_lt i start)

@@ -3,6 +3,7 @@ pub mod BitLaws
 pub mod WordLaws
 pub mod Places
 pub mod RowForm
+pub mod Packed
 pub mod RowLaws
 pub mod Mixed
 pub mod Drawing

@@ -3,6 +3,7 @@ use Rattle.std.specs.Prelude.{ℕ, ◌≡◌, ◌<◌, ◌≤◌, ◌+◌, ◌*�
 use Rattle.std.specs.List.{range_with_len}
 use Rattle.tv_kleene.specs.declared.K3.{K3}
 use Rattle.tv_kleene.specs.declared.K3.TheVariants.{No}
+use Rattle.tv_row.specs.Bits.{values_of}
 use Rattle.tv_row.specs.Places.{AreWords, value_in}
 
 -- the words hold a row of that many values, and No behind it
@@ -16,3 +17,7 @@ pub record HoldsRow (words : List (List K3)) (size : ℕ) : Type 0 where
 abbrev pub row_words : List K3 → List (List K3)
 row_words values =
     map (λ p. map (λ c. slice_index_or values (64 * p + c) No) (range_with_len 0 64)) (range_with_len 0 4)
+
+-- the word that is Half where a bit is set, and No elsewhere
+abbrev pub half_word : (bits : ℕ) → List K3
+half_word bits = values_of bits 0

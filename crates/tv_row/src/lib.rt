@@ -1,21 +1,23 @@
 //! Truth values side by side, kept as two bits a value: whether it isn't `No`, and whether it is `Yes`.
 //!
-//! A [`Word`] has 64 values, a [`Row`] up to 256 by value, and [`Words`] are a list of words, which hold
-//! the rows of a table. Contracts see lists of values, and nothing of bits.
+//! A [`Word`] has 64 values, a [`Row`] up to 256 by value, and [`PackedWords`] are a list of words, which
+//! hold the rows of a table, short ones side by side. Contracts see lists of values, and nothing of bits.
 #![tactic(auto)]
 
 mod bits;
 mod drawing;
 mod flags;
+mod half;
 mod mixed;
+mod packed;
 mod row;
 mod slices;
 mod word;
-mod words;
 
 pub use drawing::Drawing;
 pub use flags::Flags;
+pub use half::HalfRow;
 pub use mixed::mix;
+pub use packed::{PackedWords, cells_for};
 pub use row::Row;
 pub use word::Word;
-pub use words::Words;

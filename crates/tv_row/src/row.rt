@@ -2,7 +2,7 @@
 
 ghost use Rattle.std.specs.Prelude.{◌≡◌, ◌≢◌, ℕ, ◌<◌, ◌≤◌, ◌↔◌, ◌⊎◌, ◌+◌, ◌-◌, ◌*◌, ◌/◌, ◌%◌, ◌^◌, min};
 ghost use Rattle.std.specs.Prelude.{length, map, replicate, take, slice_index_or, slice_set, All, Any, ◌∷◌};
-ghost use Rattle.std.specs.Prelude.{IsTrue, IfSome};
+ghost use Rattle.std.specs.Prelude.{[], IsTrue, IfSome};
 ghost use Rattle.tv_kleene.specs.declared.K3.{K3};
 ghost use Rattle.tv_kleene.specs.declared.K3.TheVariants.{No, Yes};
 ghost use Rattle.tv_kleene.specs.Kleene.{smaller_of, larger_of, join_of, negation_of};
@@ -10,6 +10,7 @@ ghost use Rattle.std.specs.Cmp.Lexicographic.{slice_cmp};
 ghost use Rattle.tv_row.specs.Firsts.{IsFirstFrom};
 ghost use Rattle.tv_row.specs.Bits.{paired, padded, IsPairing, greatest_in, least_in, value_cmp};
 ghost use Rattle.tv_row.specs.Mixed.{row_mixed};
+ghost use Rattle.tv_row.specs.RowForm.{HoldsRow};
 ghost use Rattle.tv_row.specs.Places.{AreWords, word_at, value_in, row_of};
 
 use crate::drawing::Drawing;
@@ -102,55 +103,26 @@ impl Row {
         Row { words, size }
     }
 
-    /// The row of `size` values that begins at word `start`.
+    /// The row of `size` values that four words hold.
     #[inline(always)]
-    pub(crate) fn read(words: &[Word], start: usize, size: u32) -> Row
-        requires long { AreWords words.now }
-        requires size { size ≤ 256 }
-        requires words { start + (size / 64 + min 1 (size % 64)) ≤ length words.now }
-        requires unused { (c : ℕ) → size ≤ c → c < 64 * (size / 64 + min 1 (size % 64))
-            → value_in words.now start c ≡ No }
-        ensures { result ≡ row_of words.now size start }
+    pub(crate) fn held(words: [Word; 4], size: u32) -> Row
+        requires { HoldsRow words size }
+        ensures { result ≡ row_of words size 0 }
     {
-        if 0 < size && size <= 64 {
-            return Row {
-                words: alone(words[start]),
-                size,
-            };
-        }
-        Row::read_more(words, start, size)
+        Row { words, size }
     }
 
-    /// The same, word by word.
-    fn read_more(words: &[Word], start: usize, size: u32) -> Row
-        requires long { AreWords words.now }
-        requires size { size ≤ 256 }
-        requires words { start + (size / 64 + min 1 (size % 64)) ≤ length words.now }
-        requires unused { (c : ℕ) → size ≤ c → c < 64 * (size / 64 + min 1 (size % 64))
-            → value_in words.now start c ≡ No }
-        ensures { result ≡ row_of words.now size start }
+    /// The row of the first `size` values of one word.
+    #[inline(always)]
+    pub(crate) fn alone(word: Word, size: u32) -> Row
+        requires size { (0 < size) × (size ≤ 64) }
+        requires long { length word ≡ 64 }
+        requires unused { (c : ℕ) → size ≤ c → c < 64 → slice_index_or word c No ≡ No }
+        ensures { result ≡ row_of (word ∷ []) size 0 }
     {
-        let mut held = [Word::of(0, K3::No); 4];
-        for p in 0..size.div_ceil(64) as usize {
-            held[p] = words[start + p];
-        }
-        Row { words: held, size }
-    }
-
-    /// Puts the values into the words from `start` on, and `No` behind them in the last.
-    pub(crate) fn write(&self, words: &mut [Word], start: usize)
-        requires { start + (length self.now / 64 + min 1 (length self.now % 64)) ≤ length words.old }
-        ensures values { (c : ℕ) → c < 64 * (length self.now / 64 + min 1 (length self.now % 64))
-            → value_in words.new start c ≡ slice_index_or self.now c No }
-        ensures others { (p : ℕ)
-            → (p < start) ⊎ (start + (length self.now / 64 + min 1 (length self.now % 64)) ≤ p)
-            → word_at words.new p ≡ word_at words.old p }
-        ensures long { AreWords words.old → AreWords words.new }
-        ensures length { length words.new ≡ length words.old }
-    {
-        let size = self.size();
-        for p in 0..size.div_ceil(64) as usize {
-            words[start + p] = self.words[p];
+        Row {
+            words: alone(word),
+            size,
         }
     }
 
@@ -187,6 +159,17 @@ impl Row {
     pub fn word(&self, chunk: u32) -> Word
         requires { chunk < 4 }
         ensures values { (i : ℕ) → i < 64 → 64 * chunk + i < length self.now
+            → slice_index_or result i No ≡ slice_index_or self.now (64 * chunk + i) No }
+        ensures long { length result ≡ 64 }
+    {
+        self.words[chunk as usize]
+    }
+
+    /// The values from the place `64 * chunk` on, and `No` where there are none.
+    #[inline(always)]
+    pub(crate) fn whole_word(&self, chunk: u32) -> Word
+        requires { chunk < 4 }
+        ensures values { (i : ℕ) → i < 64
             → slice_index_or result i No ≡ slice_index_or self.now (64 * chunk + i) No }
         ensures long { length result ≡ 64 }
     {

@@ -152,18 +152,3 @@ pub fn next_possible(words: &[Word], width: usize, start: usize, from: usize) ->
     }
     None
 }
-
-/// The values in a column of that many rows of `width` words, the first of which begins at `start`.
-pub fn column(words: &[Word], width: usize, start: usize, rows: u32, column: usize) -> Row
-    requires rows { rows ≤ 256 }
-    requires width { width ≤ 4 }
-    requires words { start + rows * width ≤ length words.now }
-    requires column { column < 64 * width }
-    ensures { result ≡ map (λ u. value_in words.now (start + u * width) column) (range_with_len 0 rows) }
-{
-    let mut values = Row::of(rows, K3::No);
-    for u in 0..rows {
-        values.set(u, get(words, start + u as usize * width, column));
-    }
-    values
-}

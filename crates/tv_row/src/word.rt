@@ -6,11 +6,10 @@ ghost use Rattle.tv_kleene.specs.declared.K3.TheVariants.{No, Yes};
 ghost use Rattle.tv_kleene.specs.Kleene.{smaller_of, larger_of, join_of, negation_of};
 ghost use Rattle.std.specs.Cmp.Lexicographic.{slice_cmp};
 ghost use Rattle.tv_row.specs.Firsts.{IsFirstFrom};
-ghost use Rattle.tv_row.specs.Bits.{value_cmp, value_of, paired, padded, greatest_in, least_in, is_possible};
-ghost use Rattle.tv_row.specs.Bits.{yes_unless_no};
-ghost use Rattle.tv_row.specs.Bits.{is_certain, number_of};
+ghost use Rattle.tv_row.specs.Bits.{value_cmp, value_of, values_of, paired, padded, greatest_in, least_in};
+ghost use Rattle.tv_row.specs.Bits.{yes_unless_no, is_possible, is_certain, number_of};
 
-use crate::bits::{first_from, has, ones_below, when, with, with_bits};
+use crate::bits::{first_from, from, has, ones_below, when, with, with_bits};
 use std::cmp::Ordering;
 use std::marker::Model;
 use tv_kleene::K3;
@@ -84,6 +83,14 @@ impl Word {
         }
     }
 
+    /// `Half` where a bit is set, and `No` elsewhere.
+    #[inline(always)]
+    pub(crate) fn half(bits: u64) -> Word
+        ensures { result ≡ values_of bits 0 }
+    {
+        Word { may: bits, must: 0 }
+    }
+
     /// The first `n` values negated, and `No` behind them.
     #[inline(always)]
     pub fn not(self, n: u32) -> Word
@@ -107,6 +114,20 @@ impl Word {
         Word {
             may: self.may & ones,
             must: self.must & ones,
+        }
+    }
+
+    /// The values from `place` on, at the front. What stands behind them isn't told.
+    #[inline(always)]
+    pub(crate) fn from(self, place: u32) -> Word
+        requires { place < 64 }
+        ensures values { (i : ℕ) → place + i < 64
+            → slice_index_or result i No ≡ slice_index_or self (place + i) No }
+        ensures long { length result ≡ 64 }
+    {
+        Word {
+            may: from(self.may, place),
+            must: from(self.must, place),
         }
     }
 

@@ -1,13 +1,15 @@
 -- Flags that are kept as rows of values.
-use Rattle.std.proofs.Common.{ℕ, ◌≡◌, ◌<◌, zero, suc, Bool, true, false, List, [], ◌∷◌, length, map, get_or}
+use Rattle.std.proofs.Common.{ℕ, ◌≡◌, ◌≢◌, ◌<◌, zero, suc, Bool, true, false, List, [], ◌∷◌, length, map}
+use Rattle.std.proofs.Common.{get_or}
 use Rattle.std.proofs.Common.{set, replicate, refl, sym, ap, ◌∙◌, arith, if◌then◌else◌}
+use Rattle.std.specs.Prelude.{All}
 use Rattle.std.specs.List.{range_with_len}
 use Rattle.std.specs.Cmp.Lexicographic.{slice_cmp}
 use Rattle.std.specs.Ordering.{bool_cmp, ordering_then}
 use Rattle.std.proofs.lemmas.List.{ext_get_or, length-map, get_or-map, map-set}
 use Rattle.std.proofs.lemmas.List.FromFn.{length-map-range_with_len, get_or-map-range_with_len}
 use Rattle.tv_kleene.specs.declared.K3.{K3}
-use Rattle.tv_kleene.specs.declared.K3.TheVariants.{No, Half}
+use Rattle.tv_kleene.specs.declared.K3.TheVariants.{No, Half, Yes}
 use Rattle.tv_row.specs.Bits.{is_possible, value_cmp}
 use Rattle.tv_struct.specs.TableForm.{selected}
 use Rattle.tv_struct.specs.StructureForm.{StructureForm, summary_at}
@@ -61,6 +63,19 @@ IsFlagRow-selected row (place ∷ places) is =
     = ap (λ line. get_or line place No) is ∙ sym (value_at (flags_of row) place) ∙ ap flag_value (sym (flag_at row place))
     in let tail : selected No row places ≡ map flag_value (flags_of (selected No row places)) = IsFlagRow-selected row places is
     in λ i. head i ∷ tail i
+
+-- none of its values is certain
+pub never_yes : (row : List K3) → IsFlagRow row → All (λ k. k ≢ Yes) row
+never_yes row is u d lt e =
+    let flags : List Bool = flags_of row
+    in let told : get_or row u d ≡ flag_value (get_or flags u false)
+    = ap (λ line. get_or line u d) is
+    ∙ get_or-map flag_value flags u false d (omega (arith, lt, length-map row is_possible))
+    in at (get_or flags u false) (sym told ∙ e)
+  where
+    at : (b : Bool) → flag_value b ≡ Yes → ⊥
+    at true e = cc
+    at false e = cc
 
 flag_cmp : (a b : Bool) → value_cmp (flag_value a) (flag_value b) ≡ bool_cmp a b
 flag_cmp false false = refl

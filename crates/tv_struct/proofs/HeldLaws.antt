@@ -6,17 +6,19 @@ use Rattle.std.specs.Prelude.{All}
 use Rattle.std.specs.List.{range_with_len}
 use Rattle.std.proofs.lemmas.Bool.{cases_eq, cases_lt}
 use Rattle.std.proofs.lemmas.Nat.{row_fits}
-use Rattle.std.proofs.lemmas.List.{length-set, length-map, length-replicate, get_or-set_same}
+use Rattle.std.proofs.lemmas.List.{length-set, length-replicate, get_or-set_same}
 use Rattle.std.proofs.lemmas.List.{get_or-set_other, get_or-replicate, get_or_past, get_or_default, take_more}
 use Rattle.std.proofs.lemmas.List.{length-take-le, ext_get_or}
 use Rattle.std.proofs.lemmas.List.FromFn.{length-map-range_with_len, get_or-map-range_with_len}
 use Rattle.tv_kleene.specs.declared.K3.{K3}
 use Rattle.tv_kleene.specs.declared.K3.TheVariants.{No}
 use Rattle.tv_row.specs.Places.{AreWords, word_at, value_in, with_value, row_of}
+use Rattle.tv_row.specs.Packed.{cells_for}
+use Rattle.tv_row.proofs.PackedLaws.{IsEnough, cells_enough, cells_fill, fills_some}
 use Rattle.tv_row.proofs.PlaceLaws.{length-row_of, get_or-row_of, no_value, put_same, put_other}
 use Rattle.tv_struct.specs.TableForm.{PlaneForm, TableForm, IsPlane, IsTable, no_plane, plane_at, row_in}
 use Rattle.tv_struct.specs.TableForm.{column_in, cell, row_count, column_count, plane_of_no, table_of_no}
-use Rattle.tv_struct.specs.TableForm.{table_with_row, arities_in, selected}
+use Rattle.tv_struct.specs.TableForm.{table_with_row, arities_in}
 use Rattle.tv_struct.specs.LayoutForm.{LayoutForm, IsLayout, words_for, starts_from, end_from, row_place}
 use Rattle.tv_struct.specs.LayoutForm.{plane_held, planes_held, table_held, NoBeyond, HoldsTable}
 
@@ -35,6 +37,32 @@ columns_fit size arity = at (arity == 0)
     at : (b : Bool) → ((if b then 1 else size) ≤ 64 * words_for size) × (words_of (if b then 1 else size) ≤ words_for size)
     at true = (omega arith, omega arith)
     at false = (omega arith, omega arith)
+
+-- the columns of rows over so many individuals have room
+pub cells_room : (size arity column : ℕ) → column < column_count size arity → column % 64 < cells_for size
+cells_room size arity column lt = at (arity == 0) (cells_enough size) lt
+  where
+    at : (b : Bool) → IsEnough size (cells_for size) → column < (if b then 1 else size) → column % 64 < cells_for size
+    at b (inl e) lt = rw e (omega arith)
+    at true (inr h) lt = (let none : column % 64 ≡ 0 = omega arith in rw none h.0)
+    at false (inr h) lt = below (cells_for size) (omega (arith, lt)) h.1
+      where
+        below : (cells : ℕ) → column < size → size ≤ cells → column % 64 < cells
+        below cells lt le = omega arith
+
+pub values_room : (size arity cells long : ℕ) → cells ≡ cells_for size → long ≡ column_count size arity → (cells ≡ 64) ⊎ (long ≤ cells)
+values_room size arity cells long room is = at (arity == 0) (cells_enough size) is
+  where
+    at : (b : Bool) → IsEnough size (cells_for size) → long ≡ (if b then 1 else size) → (cells ≡ 64) ⊎ (long ≤ cells)
+    at b (inl e) is = inl (room ∙ e)
+    at true (inr h) is = inr (rw (is, room) h.0)
+    at false (inr h) is = inr (rw (is, room) h.1)
+
+pub narrow_row : (size arity cells columns : ℕ) → cells ≡ cells_for size → columns ≡ column_count size arity
+    → (cells ≡ 64) ⊎ (columns ≤ 64)
+narrow_row size arity cells columns room is =
+    let most : cells ≤ 64 = rw room (fills_some (cells_for size) (cells_fill size)).1
+    in ⊎_elim (λ wide. inl wide) (λ fits. inr (omega (arith, fits, most))) (values_room size arity cells columns room is)
 
 -- ---- one plane
 
@@ -447,10 +475,15 @@ module _ (l : LayoutForm) (words new : List (List K3)) (h : HoldsTable l words) 
 -- numbers of rows and of words fit
 pub words_small : (l : LayoutForm) → IsLayout l
     → (end_from l.size 0 l.arities ≤ 256 * 4294967295) × (end_from l.size 0 l.arities * words_for l.size < 2 ^ 64)
+    × (end_from l.size 0 l.arities * words_for l.size ≤ 2 ^ 48)
 words_small l is =
     let rows : end_from l.size 0 l.arities ≤ 256 * 4294967295 = omega (arith, end_small l.size 0 l.arities is.size, is.predicates)
     in (
       rows,
+      omega (
+        arith,
+        row_fits (end_from l.size 0 l.arities) (words_for l.size) (256 * 4294967295 + 1) 4 (omega (arith, rows)) (few_words l.size is.size),
+      ),
       omega (
         arith,
         row_fits (end_from l.size 0 l.arities) (words_for l.size) (256 * 4294967295 + 1) 4 (omega (arith, rows)) (few_words l.size is.size),
@@ -466,6 +499,7 @@ place_small l pred row is lp lr =
     = start_within l.size 0 l.arities pred lp
     in let before : row_place l pred row < end_from l.size 0 l.arities = omega (arith, within.1, lr)
     in let small : (end_from l.size 0 l.arities ≤ 256 * 4294967295) × (end_from l.size 0 l.arities * words_for l.size < 2 ^ 64)
+    × (end_from l.size 0 l.arities * words_for l.size ≤ 2 ^ 48)
     = words_small l is
     in (
       omega (arith, before, small.0),
@@ -631,21 +665,6 @@ now_put_cell l words now view h pred lp row lr long column start k lc is =
     get_or-set_other words (start + column / 64) p (set (word_at words (start + column / 64)) (column % 64) k) []
     (λ e. ⊎_elim (λ before. omega arith) (λ past. omega (arith, new_long, lc)) out))
     (length-set words (start + column / 64) (set (word_at words (start + column / 64)) (column % 64) k))
-
--- what drawing a row of words does
-pub now_drawn : (l : LayoutForm) (words new : List (List K3)) (now : TableForm) (view : table_held l words ≡ now) (h : HoldsTable l words)
-    (pred : ℕ) (lp : pred < length now.planes) (row : ℕ) (lr : row < length (plane_at now pred).rows) (source : List K3) (origins : List ℕ)
-    (value : ℕ → K3) (start : ℕ) → length origins ≡ column_count now.size (plane_at now pred).arity
-    → start ≡ row_place l pred row * words_for l.size
-    → ((c : ℕ) → c < 64 * words_of (length origins) → value_in new start c ≡ value c)
-    → ((c : ℕ) → value c ≡ get_or (selected No source origins) c No)
-    → ((p : ℕ) → (p < start) ⊎ (start + words_of (length origins) ≤ p) → word_at new p ≡ word_at words p)
-    → length new ≡ length words → PutsRow l new now pred row (selected No source origins)
-now_drawn l words new now view h pred lp row lr source origins value start count is drawn values others many =
-    let long : length (selected No source origins) ≡ length origins = length-map origins (λ place. get_or source place No)
-    in now_put l words new now view h pred lp row lr (selected No source origins) start (long ∙ count) is
-    (λ c lt. drawn c (omega (arith, lt, long)) ∙ values c)
-    (λ p out. others p (⊎_elim (λ before. inl before) (λ past. inr (omega (arith, past, long))) out)) many
 
 -- a column of a binary predicate
 pub now_column : (l : LayoutForm) (words : List (List K3)) (now : TableForm) (view : table_held l words ≡ now) (h : HoldsTable l words)

@@ -5,6 +5,7 @@ use Rattle.std.specs.Prelude.{slice_index}
 use Rattle.std.specs.List.{range_with_len}
 use Rattle.tv_kleene.specs.declared.K3.{K3}
 use Rattle.tv_kleene.specs.declared.K3.TheVariants.{No}
+use Rattle.tv_row.specs.Packed.{PackedForm, cells_for}
 use Rattle.tv_row.specs.Places.{value_in, row_of}
 use Rattle.tv_struct.specs.TableForm.{PlaneForm, TableForm, row_count, column_count}
 
@@ -70,6 +71,11 @@ pub record HoldsTable (l : LayoutForm) (words : List (List K3)) : Type 0 where
   pub layout : IsLayout l
   pub as_many : length words ≡ end_from l.size 0 l.arities * words_for l.size
   pub unused : NoBeyond words (words_for l.size) l.size 0 l.arities
+
+-- and as many values of a word are used as rows of that many individuals take
+pub record HoldsPackedTable (l : LayoutForm) (packed : PackedForm) : Type 0 where
+  pub table : HoldsTable l packed.words
+  pub room : packed.cells ≡ cells_for l.size
 
 -- the layout with what is counted ahead: the words of a row, and how many predicates that have one row
 -- alone stand before each predicate and in all; over no individuals these are all rows

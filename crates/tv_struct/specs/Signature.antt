@@ -2,6 +2,7 @@
 use Rattle.std.specs.Prelude.{ℕ, List, [], ◌∷◌, ◌++◌, take, fold}
 use Rattle.tv_kleene.specs.declared.K3.{K3}
 use Rattle.tv_row.specs.Mixed.{word_mixed, row_mixed}
+use Rattle.tv_row.specs.Packed.{cells_for, packed}
 use Rattle.tv_row.specs.RowForm.{row_words}
 use Rattle.tv_struct.specs.LayoutForm.{words_for}
 use Rattle.tv_struct.specs.TableForm.{PlaneForm, TableForm}
@@ -21,6 +22,10 @@ planes_words n (plane ∷ planes) = rows_words n plane.rows ++ planes_words n pl
 abbrev pub table_words : TableForm → List (List K3)
 table_words t = planes_words (words_for t.size) t.planes
 
+-- and these words packed
+abbrev pub table_packed : TableForm → List (List K3)
+table_packed t = packed (record { cells = cells_for t.size; words = table_words t })
+
 -- the size, the summaries and all values mixed, word by word
 abbrev pub signature_of : StructureForm → ℕ
-signature_of s = fold word_mixed (row_mixed s.size (summary_row s)) (table_words (table_of s))
+signature_of s = fold word_mixed (row_mixed s.size (summary_row s)) (table_packed (table_of s))

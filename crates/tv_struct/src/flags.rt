@@ -1,4 +1,4 @@
-//! Flags of individuals, kept as a row of truth values.
+//! Flags of individuals, kept as a row of truth values none of which is certain.
 
 ghost use Rattle.std.specs.Prelude.{◌≡◌, ◌<◌, ◌≤◌, false, length, map, replicate, if◌then◌else◌};
 ghost use Rattle.std.specs.Prelude.{slice_index_or, slice_set};
@@ -11,12 +11,12 @@ ghost use Rattle.tv_struct.specs.TableForm.{selected};
 use std::cmp::Ordering;
 use std::marker::Model;
 use tv_kleene::K3;
-use tv_row::{Drawing, Row};
+use tv_row::{Drawing, HalfRow, Row};
 
 /// A flag for each of up to 256 individuals: `Half` in the row where it is true, else `No`.
 #[derive(Debug, Drop)]
 pub struct Summaries {
-    row: Row,
+    row: HalfRow,
 }
 
 impl Model for Summaries {
@@ -47,7 +47,7 @@ impl Summaries {
         ensures { result ≡ replicate size false }
     {
         Summaries {
-            row: Row::of(size, K3::No),
+            row: HalfRow::of(&Row::of(size, K3::No)),
         }
     }
 
@@ -55,7 +55,9 @@ impl Summaries {
     pub fn copied(&self) -> Summaries
         ensures { result ≡ self.now }
     {
-        Summaries { row: self.row }
+        Summaries {
+            row: self.row.copied(),
+        }
     }
 
     /// The flag of the individual `u`.
@@ -63,7 +65,7 @@ impl Summaries {
         requires { u < length self.now }
         ensures { result ≡ slice_index_or self.now u false }
     {
-        self.row.get(u) != K3::No
+        self.row.as_row().get(u) != K3::No
     }
 
     /// Puts the flag of the individual `u`, and changes nothing else.
@@ -71,7 +73,9 @@ impl Summaries {
         requires { u < length self.old }
         ensures { self.new ≡ slice_set self.old u on }
     {
-        self.row.set(u, value_of(on));
+        let mut row = self.row.as_row();
+        row.set(u, value_of(on));
+        self.row = HalfRow::of(&row);
     }
 
     /// The flags at the origins, in their order, and false for an origin past the end.
@@ -80,7 +84,7 @@ impl Summaries {
         ensures { result ≡ selected false self.now drawing.now.origins }
     {
         Summaries {
-            row: self.row.drawn(drawing),
+            row: HalfRow::of(&self.row.as_row().drawn(drawing)),
         }
     }
 
@@ -88,7 +92,7 @@ impl Summaries {
     pub fn as_row(&self) -> Row
         ensures { result ≡ map flag_value self.now }
     {
-        self.row
+        self.row.as_row()
     }
 
     /// Compares flag by flag, with false < true.
@@ -96,6 +100,6 @@ impl Summaries {
         requires { length self.now ≡ length other.now }
         ensures { result ≡ slice_cmp bool_cmp self.now other.now }
     {
-        self.row.compare(&other.row)
+        self.row.as_row().compare(&other.row.as_row())
     }
 }

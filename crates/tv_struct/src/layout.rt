@@ -24,7 +24,7 @@ pub struct RowOffsets {
 #[derive(Debug, Drop)]
 pub struct Layout {
     size: u32,
-    width: usize,
+    width: u32,
     places: Rc<RowOffsets>,
 }
 
@@ -90,10 +90,10 @@ fn rows_of(single: usize, preds: usize, size: u32) -> usize
 }
 
 /// The number of words of a row over `size` individuals.
-fn width_of(size: u32) -> usize
+fn width_of(size: u32) -> u32
     ensures { result ≡ words_for size }
 {
-    (size as usize).div_ceil(64).max(1)
+    size.div_ceil(64).max(1)
 }
 
 impl Layout {
@@ -159,14 +159,14 @@ impl Layout {
     pub fn width(&self) -> usize
         ensures { result ≡ words_for self.now.size }
     {
-        self.width
+        self.width as usize
     }
 
     /// The number of words of all rows.
     pub fn word_count(&self) -> usize
         ensures { result ≡ end_from self.now.size 0 self.now.arities * words_for self.now.size }
     {
-        rows_of(self.places.single, self.places.arities.len(), self.size) * self.width
+        rows_of(self.places.single, self.places.arities.len(), self.size) * self.width as usize
     }
 
     /// The first word of a predicate's row.
@@ -176,6 +176,6 @@ impl Layout {
         requires row { row < row_count self.now.size (slice_index self.now.arities pred) }
         ensures { result ≡ row_place self.now pred row * words_for self.now.size }
     {
-        (rows_of(self.places.singles[pred], pred, self.size) + row) * self.width
+        (rows_of(self.places.singles[pred], pred, self.size) + row) * self.width as usize
     }
 }

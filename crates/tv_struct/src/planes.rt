@@ -10,7 +10,7 @@ ghost use Rattle.tv_struct.specs.TableForm.{column_count, selected};
 ghost use Rattle.tv_kleene.specs.declared.K3.TheVariants.{No};
 ghost use Rattle.tv_row.specs.Mixed.{word_mixed};
 ghost use Rattle.tv_struct.specs.Order.{planes_cmp};
-ghost use Rattle.tv_struct.specs.Signature.{table_words};
+ghost use Rattle.tv_struct.specs.Signature.{table_packed};
 ghost use Rattle.tv_struct.specs.TupleForm.{tuple_of};
 
 use crate::layout::{Layout, column_count, row_count};
@@ -20,25 +20,25 @@ use std::cmp::Ordering;
 use std::marker::Model;
 use tv_kleene::K3;
 use tv_model::{Pred, PredId};
-use tv_row::{Drawing, Row, Word, Words};
+use tv_row::{Drawing, PackedWords, Row, Word};
 
 /// A table whose values stand in one list of words: one row for a predicate of arity 0 or 1, and a row
 /// for each individual for a binary one.
 #[derive(Debug, Drop)]
 pub struct Planes {
     layout: Layout,
-    words: Words,
+    words: PackedWords,
 }
 
 impl Model for Planes {
     ghost use Rattle.tv_struct.specs.TableForm.{TableForm};
-    ghost use Rattle.tv_struct.specs.LayoutForm.{HoldsTable, table_held};
+    ghost use Rattle.tv_struct.specs.LayoutForm.{HoldsPackedTable, table_held};
 
     ghost Value = { TableForm };
 
-    ghost view = { λ t. table_held t.layout t.words };
+    ghost view = { λ t. table_held t.layout t.words.words };
 
-    ghost invariant = { λ t. HoldsTable t.layout t.words };
+    ghost invariant = { λ t. HoldsPackedTable t.layout t.words };
 }
 
 /// The table of that layout that has `No` everywhere.
@@ -47,7 +47,7 @@ fn all_no(alloc: Global, layout: Layout) -> Result<Planes, AllocError>
     ensures value { IfOk result (λ t. t ≡ table_of_no layout.size layout.arities) }
     ensures kept { IfOk result IsTable }
 {
-    let words = Words::of_no(alloc, layout.word_count())?;
+    let words = PackedWords::of_no(alloc, layout.size(), layout.word_count())?;
     Ok(Planes { layout, words })
 }
 
@@ -124,10 +124,11 @@ impl Planes {
             ≡ slice_index_or (row_in (plane_at self.now p.0) row) (64 * chunk + i) No }
     {
         let start = self.layout.start(p.0 as usize, row as usize);
-        self.words.word(start + chunk as usize)
+        self.words.front(start + chunk as usize)
     }
 
     /// The values in a row of the predicate `p`.
+    #[inline(always)]
     pub fn row(&self, p: PredId, row: u32) -> Row
         requires predicate { p.0 < length self.now.planes }
         requires row { row < length (plane_at self.now p.0).rows }
@@ -193,9 +194,8 @@ impl Planes {
             (selected No (row_in (plane_at source.now p.0) from) drawing.now.origins) }
         ensures kept { IsTable self.new }
     {
-        let at = self.layout.start(p.0 as usize, row as usize);
-        let start = source.layout.start(p.0 as usize, from as usize);
-        self.words.draw(at, &source.words, start, drawing);
+        let values = source.row(p, from).drawn(drawing);
+        self.put_row(p, row, &values);
     }
 
     /// An equal table in memory of its own.
@@ -224,7 +224,7 @@ impl Planes {
 
     /// The number with all words mixed in.
     pub fn mix(&self, hash: u64) -> u64
-        ensures { result ≡ fold word_mixed hash (table_words self.now) }
+        ensures { result ≡ fold word_mixed hash (table_packed self.now) }
     {
         self.words.mix(hash)
     }

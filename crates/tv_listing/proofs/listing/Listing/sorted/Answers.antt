@@ -1,18 +1,24 @@
-use Rattle.std.proofs.Common.{ap, arith, length}
-use Rattle.std.proofs.lemmas.List.{length_push}
-use Rattle.tv_listing.proofs.ListingLaws.{IsSortedFrom-push}
+use Rattle.std.proofs.Common.{◌<◌, ◌∙◌, [], List, length, ap, subst, arith}
+use Rattle.std.proofs.lemmas.List.{get_or_read}
+use Rattle.tv_struct.specs.StructureForm.{StructureForm}
+use Rattle.tv_listing.specs.ListingForm.{IsSortedFrom}
+use Rattle.tv_listing.proofs.ListingLaws.{sorted_many, sorted_each, sorted_others}
 use Rattle.tv_listing.proofs.listing.Listing.sorted.Goals as goal
 
-pub loop-node-preserved : goal.loop-node-preserved
-loop-node-preserved c = record {
-  nodes = omega (
-    arith,
-    ap length c.in_ok-push.ensures.items,
-    length_push c.loop-node.sorted.items c.in_ok-sorted-2.field-0,
-    length_push c.loop-node.yielded c.in-Some.node,
-    c.loop-node.invariant.nodes,
-  );
-  each = rw c.in_ok-push.ensures.items
-      (IsSortedFrom-push c.loop-node.yielded c.loop-node.sorted.items c.in-Some.node c.in_ok-sorted-2.field-0
-      c.loop-node.invariant.nodes c.loop-node.invariant.each c.in_ok-sorted-2.ensures);
-}
+pub loop-i-preserved : goal.loop-i-preserved
+loop-i-preserved c =
+    let Of : List StructureForm → Type 0 = λ old. IsSortedFrom old c.in_ok-nodes.field-0
+    in let lt : c.loop-i.i < length c.loop-i.nodes.items
+    = omega (arith, c.loop-i-test.true, c.len-i-end.ensures, c.self.inside.nodes.ok, ap length c.self.view_is, c.loop-i.invariant.nodes)
+    in record {
+      nodes = sorted_many c.args.self c.loop-i.nodes.items c.loop-i.i c.replace-node.new.dest c.in_ok-nodes.field-0 c.loop-i.invariant.nodes
+          lt c.loop-i.invariant.each c.loop-i.invariant.others;
+      each = sorted_each c.args.self c.loop-i.nodes.items c.loop-i.i c.replace-node.new.dest c.in_ok-nodes.field-0 c.loop-i.invariant.nodes
+          lt c.loop-i.invariant.each c.loop-i.invariant.others
+          (subst Of
+          (c.replace-node.ensures.value
+          ∙ get_or_read c.loop-i.nodes.items c.loop-i.i c.index_mut.result.now lt c.index_mut.ensures.value [])
+          c.in_ok-nodes.ensures);
+      others = sorted_others c.args.self c.loop-i.nodes.items c.loop-i.i c.replace-node.new.dest c.in_ok-nodes.field-0 c.loop-i.invariant.nodes
+          lt c.loop-i.invariant.each c.loop-i.invariant.others;
+    }

@@ -1,9 +1,10 @@
-use Rattle.std.proofs.Common.{◌≡◌, ◌<◌, ℕ, length}
+use Rattle.std.proofs.Common.{◌≡◌, ◌<◌, ◌≤◌, ℕ, length}
 use Rattle.tv_listing.specs.ListingForm.{at_node, IsSortedFrom}
 use Rattle.tv_listing.proofs.listing.Listing.sorted.Given as goal
 
-abbrev pub invariant-loop-node : goal.invariant-loop-node
-invariant-loop-node l = record {
-  nodes : length l.sorted.items ≡ length l.yielded;
-  each : (node : ℕ) → node < length l.yielded → IsSortedFrom (at_node l.yielded node) (at_node l.sorted.items node);
+abbrev pub invariant-loop-i : goal.invariant-loop-i
+invariant-loop-i l = record {
+  nodes : length l.nodes.items ≡ length l.fn.self;
+  each : (node : ℕ) → node < l.i → IsSortedFrom (at_node l.fn.self node) (at_node l.nodes.items node);
+  others : (node : ℕ) → l.i ≤ node → at_node l.nodes.items node ≡ at_node l.fn.self node;
 }

@@ -17,4 +17,4 @@ returns-else-contains c =
     rw (← c.self.view_is)
     (has_either c.self.inside.added.keys c.self.inside.pushed.items c.args.s.now false c.contains-else-contains.result
     (sym c.if-contains.false ∙ c.contains.ensures)
-    (c.contains-else-contains.ensures.value ∙ (rw (c.deref.ensures.value, c.s.view_is) refl)))
+    (c.contains-else-contains.ensures.value ∙ (rw c.deref.ensures.value refl)))

@@ -7,7 +7,7 @@ use Rattle.tv_struct.proofs.HeldLaws.{now_listed, now_column}
 use Rattle.tv_struct.proofs.planes.Planes.column.Goals as goal
 
 pub start-start-requires-clause-predicate : goal.start-start-requires-clause-predicate
-start-start-requires-clause-predicate c = now_listed c.self.inside.layout c.self.inside.words c.args.self.now c.self.view_is c.self.invariant c.args.p.0 c.requires.predicate
+start-start-requires-clause-predicate c = now_listed c.self.inside.layout c.self.inside.words.words c.args.self.now c.self.view_is c.self.invariant.table c.args.p.0 c.requires.predicate
 
 pub column-requires-clause-words : goal.column-requires-clause-words
 column-requires-clause-words c =
@@ -16,15 +16,15 @@ column-requires-clause-words c =
     in omega (
       arith,
       e,
-      (now_column c.self.inside.layout c.self.inside.words c.args.self.now c.self.view_is c.self.invariant c.args.p.0 c.requires.predicate c.requires.arity c.args.column c.start-start.result
+      (now_column c.self.inside.layout c.self.inside.words.words c.args.self.now c.self.view_is c.self.invariant.table c.args.p.0 c.requires.predicate c.requires.arity c.args.column c.start-start.result
           c.requires.column c.start-start.ensures).0,
     )
 
 pub returns : goal.returns
 returns c =
     let Column : ℕ → ℕ → List K3
-    = λ size width. map (λ u. value_in c.self.inside.words (c.start-start.result + u * width) c.args.column) (range_with_len 0 size)
+    = λ size width. map (λ u. value_in c.self.inside.words.words (c.start-start.result + u * width) c.args.column) (range_with_len 0 size)
     in c.column.ensures
     ∙ ap (λ n. Column n c.width.result) c.size-size.ensures.size ∙ ap (λ n. Column c.self.inside.layout.size n) c.width.ensures
-    ∙ (now_column c.self.inside.layout c.self.inside.words c.args.self.now c.self.view_is c.self.invariant c.args.p.0 c.requires.predicate c.requires.arity c.args.column c.start-start.result
+    ∙ (now_column c.self.inside.layout c.self.inside.words.words c.args.self.now c.self.view_is c.self.invariant.table c.args.p.0 c.requires.predicate c.requires.arity c.args.column c.start-start.result
     c.requires.column c.start-start.ensures).1

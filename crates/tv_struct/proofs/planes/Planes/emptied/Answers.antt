@@ -10,5 +10,5 @@ returns-clause-value c =
     in subst Gives
     (c.in_ok-resized.ensures
     ∙ ap (λ (arities : List ℕ). record { size = c.args.size; arities = arities })
-    (sym (now_arities c.self.inside.layout c.self.inside.words c.args.self.now c.self.view_is)))
+    (sym (now_arities c.self.inside.layout c.self.inside.words.words c.args.self.now c.self.view_is)))
     c.all_no.ensures.value
