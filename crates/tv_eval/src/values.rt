@@ -643,7 +643,7 @@ fn quantified_word<'f>(
         return by_values(f, q, front, v, chunk, s, a, rooms, kept, shared);
     }
     let caps = cap_row(q, body, Variables::none().with(v), w, s, a);
-    if is_slower(body, v, w, front, &caps) {
+    if is_slower(body, v, w, front, count, &caps) {
         return by_values(f, q, front, v, chunk, s, a, rooms, kept, shared);
     }
     let mut found = Word::of(64, K3::No);

@@ -1,7 +1,10 @@
 //! Which quantifier's variable is put for many individuals at a time.
 
+ghost use Rattle.std.specs.Prelude.{◌≤◌};
+
 use crate::begins_long_run;
 use std::cmp::Ordering;
+use tv_kleene::K3;
 use tv_model::{Formula, Terms, Var, free};
 use tv_row::{Row, Word};
 
@@ -41,10 +44,15 @@ pub fn has_few(caps: Word) -> bool {
 }
 
 /// Whether the quantifier over `w` takes longer with `v` put for all individuals at a time than one after the
-/// other: `front` and `caps` are those of `v` and of `w`.
-pub fn is_slower(body: &Formula, v: Var, w: Var, front: Word, caps: &Row) -> bool {
+/// other: the first `count` values of `front` are those of `v`, and `caps` those of `w`.
+pub fn is_slower(body: &Formula, v: Var, w: Var, front: Word, count: u32, caps: &Row) -> bool
+    requires { count ≤ 64 }
+{
     if begins_long_run(body) {
         return true;
+    }
+    if caps.are_possible() && front.least(count) != K3::No {
+        return is_slow_along(body, v, w);
     }
     match compare_counts(front, caps) {
         Ordering::Less => true,
