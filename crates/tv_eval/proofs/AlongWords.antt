@@ -171,7 +171,7 @@ larger-right Half Yes e = cc
 larger-right Yes y e = cc
 
 -- where the greatest value is No, each is
-none-in : (xs : List K3) (i : ℕ) → greatest_in xs ≡ No → get_or xs i No ≡ No
+pub none-in : (xs : List K3) (i : ℕ) → greatest_in xs ≡ No → get_or xs i No ≡ No
 none-in [] i e = refl
 none-in (k ∷ xs) zero e = larger-left k (greatest_in xs) e
 none-in (k ∷ xs) (suc i) e = none-in xs i (larger-right k (greatest_in xs) e)
@@ -182,6 +182,16 @@ all-in n xs i e lt within =
     let long : length (take n xs) ≡ min n (length xs) = length-take n xs
     in sym (get_or-take n xs i No lt) ∙ (all_yes (take n xs)).0 e i No (omega arith)
 
+least-none : (k : K3) → smaller_of k No ≡ No
+least-none No = refl
+least-none Half = refl
+least-none Yes = refl
+
+greatest-all : (k : K3) → larger_of k Yes ≡ Yes
+greatest-all No = refl
+greatest-all Half = refl
+greatest-all Yes = refl
+
 module _ (n chunk : ℕ) (g : ℕ → K3) (x : List K3) (is : IsWordOf n chunk g x) where
   pub both-none : (h : ℕ → K3) → greatest_in x ≡ No → IsWordOf n chunk (λ u. smaller_of (g u) (h u)) x
   both-none h e = record {
@@ -189,6 +199,15 @@ module _ (n chunk : ℕ) (g : ℕ → K3) (x : List K3) (is : IsWordOf n chunk g
     each = λ i low within.
         let none : get_or x i No ≡ No = none-in x i e
         in none ∙ sym (ap (λ k. smaller_of k (h (64 * chunk + i))) (sym (is.each i low within) ∙ none));
+  }
+
+  pub none-both : (f : ℕ → K3) → greatest_in x ≡ No → IsWordOf n chunk (λ u. smaller_of (f u) (g u)) x
+  none-both f e = record {
+    long = is.long;
+    each = λ i low within.
+        let none : get_or x i No ≡ No = none-in x i e
+        in none ∙ sym (ap (smaller_of (f (64 * chunk + i))) (sym (is.each i low within) ∙ none)
+        ∙ least-none (f (64 * chunk + i)));
   }
 
   all-at : (count : ℕ) → count ≡ min 64 (n - 64 * chunk) → least_in (take count x) ≡ Yes
@@ -204,6 +223,16 @@ module _ (n chunk : ℕ) (g : ℕ → K3) (x : List K3) (is : IsWordOf n chunk g
     each = λ i low within.
         let yes : get_or x i No ≡ Yes = all-at count e all i low within
         in yes ∙ sym (ap (λ k. larger_of k (h (64 * chunk + i))) (sym (is.each i low within) ∙ yes));
+  }
+
+  pub all-either : (f : ℕ → K3) (count : ℕ) → count ≡ min 64 (n - 64 * chunk) → least_in (take count x) ≡ Yes
+      → IsWordOf n chunk (λ u. larger_of (f u) (g u)) x
+  all-either f count e all = record {
+    long = is.long;
+    each = λ i low within.
+        let yes : get_or x i No ≡ Yes = all-at count e all i low within
+        in yes ∙ sym (ap (larger_of (f (64 * chunk + i))) (sym (is.each i low within) ∙ yes)
+        ∙ greatest-all (f (64 * chunk + i)));
   }
 
   pub then-all : (f h : ℕ → K3) (y : List K3) (count : ℕ) → count ≡ min 64 (n - 64 * chunk)

@@ -13,7 +13,7 @@ use Rattle.tv_eval_laws.specs.Value.{value, best_walk}
 use Rattle.tv_eval_laws.proofs.Agreed.{only_free_variables_matter}
 use Rattle.tv_eval_laws.proofs.Rounds.{best_walk-same}
 use Rattle.tv_model.specs.Valid.{IsFormulaOver}
-use Rattle.tv_eval.specs.declared.kept.Edges.{Edges}
+use Rattle.tv_quantifiers.specs.declared.edges.Edges.{Edges}
 use Rattle.tv_eval.specs.declared.kept.Kept.{Kept}
 use Rattle.tv_eval.specs.HoldsClosure.{HoldsClosure}
 use Rattle.tv_eval.specs.Keeps.{HoldsClosures, StandsAt}

@@ -1,7 +1,7 @@
 pub mod AlongLaws
 pub mod AlongWords
+pub mod Capping
 pub mod Covers
-pub mod Deepest
 pub mod FreeBelow
 pub mod Keeping
 pub mod Loops

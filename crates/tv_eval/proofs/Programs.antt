@@ -12,7 +12,7 @@ use Rattle.tv_eval.specs.Formulas.{nesting}
 use Rattle.tv_eval.specs.ScratchForm.{deepest, kind_height, change_height, pre_height, retain_height}
 use Rattle.tv_eval.specs.ScratchForm.{action_height, program_height}
 use Rattle.tv_eval.specs.Laws.{FormulasAreWithinHeight, MadeScratchesFit, ProgramFormulasAreOver}
-use Rattle.tv_eval.proofs.Deepest.{deepest-above}
+use Rattle.tv_quantifiers.proofs.Deepest.{deepest-above}
 
 -- no action is higher than the program
 in_action : (p : ProgramForm) (a : ActionForm) → Contains p.actions a → action_height a ≤ program_height p

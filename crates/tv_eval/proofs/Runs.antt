@@ -23,6 +23,11 @@ can-quantified : (q : Quantifier) (s : StructureForm) (a : List (Option ℕ)) (s
 can-quantified Exists s a sizes v f h = h
 can-quantified Forall s a sizes v f h = can-forall s a sizes v f h
 
+pub whole-parts : (q : Quantifier) (s : StructureForm) (a : List (Option ℕ)) (sizes : List ℕ) (v w : ℕ) (f : Form)
+    → CanEvaluate s a sizes (FExists v (FExists w f)) → CanEvaluate s a sizes (FExists v (quantified q w f))
+whole-parts Exists s a sizes v w f h = h
+whole-parts Forall s a sizes v w f h = record { formula = h.formula; assigned = h.assigned; rooms = h.rooms }
+
 -- the run may be evaluated where the quantifier may
 pub can-open : (q : Quantifier) (s : StructureForm) (a : List (Option ℕ)) (sizes : List ℕ) (v : ℕ) (f part : Form)
     (levels : List Level) → CanEvaluate s a sizes (FExists v f) → IsOpened (quantified q v f) levels part

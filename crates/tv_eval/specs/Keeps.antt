@@ -5,7 +5,7 @@ use Rattle.tv_model.specs.Form.{Form, form_of, IsFree}
 use Rattle.tv_model.specs.Truth.{Assignment}
 use Rattle.tv_model.specs.Valid.{IsVariable}
 use Rattle.tv_struct.specs.StructureForm.{StructureForm}
-use Rattle.tv_eval.specs.declared.kept.Edges.{Edges}
+use Rattle.tv_quantifiers.specs.declared.edges.Edges.{Edges}
 use Rattle.tv_eval.specs.declared.kept.Kept.{Kept}
 use Rattle.tv_eval.specs.HoldsClosure.{HoldsClosure}
 

@@ -2,12 +2,15 @@ pub mod Along
 pub mod AssignmentForm
 pub mod Bound
 pub mod CanEvaluate
+pub mod Caps
 pub mod Formulas
 pub mod HoldsClosure
 pub mod Keeps
 pub mod Laws
+pub use Rattle.tv_quantifiers.specs.Heights
 pub use Rattle.tv_quantifiers.specs.Quantified
 pub use Rattle.tv_quantifiers.specs.Runs
+pub use Rattle.tv_quantifiers.specs.Sets
 pub mod ScratchForm
 pub mod Sound
 pub mod Rows

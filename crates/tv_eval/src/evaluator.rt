@@ -14,7 +14,7 @@ ghost use Rattle.tv_eval.specs.Sound.{CoversValues};
 
 use crate::Assignment;
 use crate::kept::Kept;
-use crate::leaf_words::{atom_word, places};
+use crate::leaf_words::literal_word;
 use crate::relation::Relation;
 use crate::scratch::Scratch;
 use crate::values::{row_of, value_of, word_of};
@@ -130,14 +130,8 @@ impl<'a> Evaluator<'a> {
         ensures room { bound_room self.new ≡ bound_room self.old }
     {
         // Literals, which are most of what is asked, don't go through the cycle.
-        if let Formula::Atom(pred, terms) = f {
-            return atom_word(*pred, terms, v, chunk, self.structure, a);
-        }
-        if let Formula::Not(g) = f {
-            if let Formula::Atom(pred, terms) = &**g {
-                let word = atom_word(*pred, terms, v, chunk, self.structure, a);
-                return word.not(places(self.structure.size(), chunk));
-            }
+        if let Some(word) = literal_word(f, v, chunk, self.structure, a) {
+            return word;
         }
         word_of(
             f,

@@ -1,19 +1,21 @@
 //! The values of a formula without parts for 64 of the individuals that one variable may stand for.
 
-ghost use Rattle.std.specs.Prelude.{◌≡◌, ◌≤◌, ◌<◌, ◌*◌, ◌-◌, ℕ, [], ◌∷◌, min, ◌==◌, if◌then◌else◌};
+ghost use Rattle.std.specs.Prelude.{◌≡◌, ◌≤◌, ◌<◌, ◌*◌, ◌-◌, ℕ, [], ◌∷◌, min, ◌==◌, if◌then◌else◌, IfSome};
 ghost use Rattle.tv_kleene.specs.declared.K3.TheVariants.{No};
-ghost use Rattle.tv_model.specs.Form.{vars_of, FAtom, FExists, FIsNew, FSame};
-ghost use Rattle.tv_struct.specs.StructureForm.{structure_of, value_at};
+ghost use Rattle.tv_model.specs.Form.{form_of, vars_of, FAtom, FExists, FIsNew, FNot, FSame};
+ghost use Rattle.tv_model.specs.Valid.{IsFormulaOver};
+ghost use Rattle.tv_struct.specs.StructureForm.{arities_of, structure_of, value_at};
 ghost use Rattle.tv_struct.specs.StructureRows.{HasArity};
 ghost use Rattle.tv_eval_laws.specs.Value.{mark_value, same_value};
 ghost use Rattle.tv_eval.specs.Along.{IsWordAlong, IsWordOf};
 ghost use Rattle.tv_eval.specs.AssignmentForm.{assignment_of};
 ghost use Rattle.tv_eval.specs.CanEvaluate.{CanEvaluate};
+ghost use Rattle.tv_eval.specs.Formulas.{AreAssigned};
 
 use crate::Assignment;
 use crate::leaves::{atom, is_new, same};
 use tv_kleene::K3;
-use tv_model::{PredId, Terms, Var};
+use tv_model::{Formula, PredId, Terms, Var};
 use tv_row::Word;
 use tv_struct::{Structure, Tuple};
 
@@ -41,6 +43,42 @@ pub fn constant_word(k: K3) -> Word
     ensures { (n chunk : ℕ) → IsWordOf n chunk (λ _. k) result }
 {
     Word::of(64, k)
+}
+
+/// The values of a literal: an atom, an equality or a mark, or the negation of one; none for other formulas.
+#[inline(always)]
+pub fn literal_word(f: &Formula, v: Var, chunk: u32, s: &Structure, a: &Assignment) -> Option<Word>
+    requires formula { IsFormulaOver (arities_of s.now) (FExists v.0 (form_of f.now)) }
+    requires assigned { AreAssigned s.now.size a.now (FExists v.0 (form_of f.now)) }
+    requires chunk { 64 * chunk < s.now.size }
+    ensures { IfSome result (λ word.
+        IsWordAlong s.now (assignment_of a.now) v.0 chunk (form_of f.now) word) }
+{
+    match f {
+        Formula::Atom(pred, terms) => Some(atom_word(*pred, terms, v, chunk, s, a)),
+        Formula::IsNew(w) => Some(new_word(*w, v, chunk, s, a)),
+        Formula::Same(x, y) => Some(same_word(*x, *y, v, chunk, s, a)),
+        Formula::Not(g) => negated_word(g, v, chunk, s, a),
+        _ => None,
+    }
+}
+
+/// The values of a formula's negation, if it is an atom, an equality or a mark.
+#[inline(always)]
+fn negated_word(f: &Formula, v: Var, chunk: u32, s: &Structure, a: &Assignment) -> Option<Word>
+    requires formula { IsFormulaOver (arities_of s.now) (FExists v.0 (form_of f.now)) }
+    requires assigned { AreAssigned s.now.size a.now (FExists v.0 (form_of f.now)) }
+    requires chunk { 64 * chunk < s.now.size }
+    ensures { IfSome result (λ word.
+        IsWordAlong s.now (assignment_of a.now) v.0 chunk (FNot (form_of f.now)) word) }
+{
+    let word = match f {
+        Formula::Atom(pred, terms) => atom_word(*pred, terms, v, chunk, s, a),
+        Formula::IsNew(w) => new_word(*w, v, chunk, s, a),
+        Formula::Same(x, y) => same_word(*x, *y, v, chunk, s, a),
+        _ => return None,
+    };
+    Some(word.not(places(s.size(), chunk)))
 }
 
 /// The predicate's values, with `v` put for individuals in its terms.

@@ -2,8 +2,8 @@
 #![tactic(auto)]
 
 mod assignment;
+mod caps;
 mod evaluator;
-mod height;
 mod kept;
 mod laws;
 mod leaf_words;

@@ -5,13 +5,13 @@ ghost use Rattle.tv_model.specs.Program.{program_of};
 ghost use Rattle.tv_eval.specs.Formulas.{sizes_of};
 ghost use Rattle.tv_eval.specs.ScratchForm.{IsMadeFor};
 
-use crate::height::program_height;
 use crate::kept::PLACES;
 use crate::relation::Relation;
 use std::alloc::{AllocError, Global};
 use std::marker::Model;
 use std::mem;
 use tv_model::Program;
+use tv_quantifiers::program_height;
 
 /// How much higher than the program's highest formula a formula may be. Fewer closures stand inside one
 /// another than a formula is high.

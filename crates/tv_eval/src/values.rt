@@ -12,17 +12,24 @@ ghost use Rattle.tv_eval.specs.AssignmentForm.{assignment_of};
 ghost use Rattle.tv_eval.specs.CanEvaluate.{CanEvaluate};
 ghost use Rattle.tv_eval.specs.Formulas.{HasRooms, nesting, sizes_of};
 ghost use Rattle.tv_eval.specs.Keeps.{HoldsClosures};
-ghost use Rattle.tv_quantifiers.specs.Quantified.{quantified};
+ghost use Rattle.tv_quantifiers.specs.Quantified.{quantified, turned};
+ghost use Rattle.tv_eval.specs.Caps.{IsCapWord};
+ghost use Rattle.tv_kleene.specs.declared.K3.TheVariants.{No};
 ghost use Rattle.tv_eval.specs.Rows.{IsPart, IsSquare, part_at};
 
 use crate::Assignment;
-use crate::kept::{Edges, Kept, has_outer};
-use crate::leaf_words::{atom_word, chunks, constant_word, new_word, places, same_word};
+use crate::caps::{cap_row, cap_word};
+use crate::kept::Kept;
+use crate::leaf_words::{
+    atom_word, chunks, constant_word, literal_word, new_word, places, same_word,
+};
 use crate::leaves::{atom, is_new, same};
 use crate::relation::{Part, Relation};
 use tv_kleene::K3;
 use tv_model::{Formula, Var, free};
-use tv_quantifiers::{Quantifier, advance, begins_long_run, is_slow_along, opened};
+use tv_quantifiers::{
+    Edges, Quantifier, Variables, advance, begins_long_run, has_few, has_outer, is_slower, opened,
+};
 use tv_row::{Row, Word};
 use tv_struct::Structure;
 
@@ -396,18 +403,12 @@ pub fn word_of<'f>(
         Formula::Iff(g, h) => words_alike(g, h, v, chunk, s, a, rooms, kept, shared),
         Formula::Cond(c, g, h) => words_choice(c, g, h, v, chunk, s, a, rooms, kept, shared),
         Formula::Exists(w, g) => {
-            if w.0 == v.0 || is_slow_along(g, v, *w) {
-                return by_values(f, v, chunk, s, a, rooms, kept, shared);
-            }
             let q = Quantifier::Exists;
-            quantified_word(q, *w, g, v, chunk, s, a, rooms, kept, shared)
+            quantified_word(f, q, *w, g, v, chunk, s, a, rooms, kept, shared)
         }
         Formula::Forall(w, g) => {
-            if w.0 == v.0 || is_slow_along(g, v, *w) {
-                return by_values(f, v, chunk, s, a, rooms, kept, shared);
-            }
             let q = Quantifier::Forall;
-            quantified_word(q, *w, g, v, chunk, s, a, rooms, kept, shared)
+            quantified_word(f, q, *w, g, v, chunk, s, a, rooms, kept, shared)
         }
         Formula::Closure {
             from,
@@ -422,7 +423,9 @@ pub fn word_of<'f>(
                 body,
             };
             if has_outer(edges, v.0) {
-                return by_values(f, v, chunk, s, a, rooms, kept, shared);
+                let q = Quantifier::Exists;
+                let front = constant_word(K3::Yes);
+                return by_values(f, q, front, v, chunk, s, a, rooms, kept, shared);
             }
             closure_word(*from, *to, edges, v, chunk, s, a, rooms, kept, shared)
         }
@@ -430,11 +433,13 @@ pub fn word_of<'f>(
 }
 
 /// The values of the formula one after the other, for the same individuals; one for all of them where `v`
-/// isn't free in it.
+/// isn't free in it. It isn't evaluated where `front` is `No`: there it is `No`, negated for "for all".
 #[cycle(values)]
 #[inline(never)]
 fn by_values<'f>(
     f: &'f Formula,
+    q: Quantifier,
+    front: Word,
     v: Var,
     chunk: u32,
     s: &Structure,
@@ -446,18 +451,24 @@ fn by_values<'f>(
     requires parts { CanEvaluate s.now a.now (sizes_of rooms.old) (FExists v.0 (form_of f.now)) }
     requires chunk { 64 * chunk < s.now.size }
     requires kept { HoldsClosures s.now kept.old shared.old }
+    requires front { IsCapWord s.now.size chunk (λ u. turned q (value (structure_of s.now)
+        (put (assignment_of a.now) v.0 u) (form_of f.now)) ≡ No) front }
     ensures exact { IsWordAlong s.now (assignment_of a.now) v.0 chunk (form_of f.now) result }
     ensures rooms { sizes_of rooms.new ≡ sizes_of rooms.old }
     ensures kept { HoldsClosures s.now kept.new shared.new }
 {
-    if !free(f, v) {
+    let count = places(s.size(), chunk);
+    let asked = front.first(count);
+    if !has_few(asked) && !free(f, v) {
         return constant_word(value_of(f, s, a, rooms, kept, shared));
     }
-    let mut values = Word::of(64, K3::No);
+    let mut values = q.turned_word(Word::of(64, K3::No), count);
     let mut here = *a;
-    for i in 0..places(s.size(), chunk) {
+    let mut from = 0;
+    while let Some(i) = asked.first_possible(from) {
         here.set(v, 64 * chunk + i);
         values = values.with(i, value_of(f, s, &here, rooms, kept, shared));
+        from = i + 1;
     }
     values
 }
@@ -483,6 +494,12 @@ fn words_both<'f>(
     ensures rooms { sizes_of rooms.new ≡ sizes_of rooms.old }
     ensures kept { HoldsClosures s.now kept.new shared.new }
 {
+    if let Some(second) = literal_word(h, v, chunk, s, a) {
+        if second.greatest() == K3::No {
+            return second;
+        }
+        return word_of(g, v, chunk, s, a, rooms, kept, shared).and(second);
+    }
     let first = word_of(g, v, chunk, s, a, rooms, kept, shared);
     if first.greatest() == K3::No {
         return first;
@@ -511,6 +528,12 @@ fn words_either<'f>(
     ensures rooms { sizes_of rooms.new ≡ sizes_of rooms.old }
     ensures kept { HoldsClosures s.now kept.new shared.new }
 {
+    if let Some(second) = literal_word(h, v, chunk, s, a) {
+        if second.least(places(s.size(), chunk)) == K3::Yes {
+            return second;
+        }
+        return word_of(g, v, chunk, s, a, rooms, kept, shared).or(second);
+    }
     let first = word_of(g, v, chunk, s, a, rooms, kept, shared);
     if first.least(places(s.size(), chunk)) == K3::Yes {
         return first;
@@ -588,6 +611,7 @@ fn words_choice<'f>(
 #[cycle(values)]
 #[inline(never)]
 fn quantified_word<'f>(
+    f: &'f Formula,
     q: Quantifier,
     w: Var,
     body: &'f Formula,
@@ -603,22 +627,36 @@ fn quantified_word<'f>(
         (FExists v.0 (FExists w.0 (form_of body.now))) }
     requires chunk { 64 * chunk < s.now.size }
     requires kept { HoldsClosures s.now kept.old shared.old }
-    requires apart { w.0 ≢ v.0 }
+    requires whole { form_of f.now ≡ quantified q w.0 (form_of body.now) }
     ensures exact { IsWordAlong s.now (assignment_of a.now) v.0 chunk
         (quantified q w.0 (form_of body.now)) result }
     ensures rooms { sizes_of rooms.new ≡ sizes_of rooms.old }
     ensures kept { HoldsClosures s.now kept.new shared.new }
 {
+    if w.0 == v.0 {
+        let front = constant_word(K3::Yes);
+        return by_values(f, q, front, v, chunk, s, a, rooms, kept, shared);
+    }
     let count = places(s.size(), chunk);
+    let front = cap_word(q, body, Variables::none().with(w), v, chunk, s, a).first(count);
+    if has_few(front) {
+        return by_values(f, q, front, v, chunk, s, a, rooms, kept, shared);
+    }
+    let caps = cap_row(q, body, Variables::none().with(v), w, s, a);
+    if is_slower(body, v, w, front, count, &caps) {
+        return by_values(f, q, front, v, chunk, s, a, rooms, kept, shared);
+    }
     let mut found = Word::of(64, K3::No);
     let mut here = *a;
-    for x in 0..s.size() {
+    let mut from = 0;
+    while let Some(x) = caps.next_possible(from) {
         here.set(w, x);
         let word = word_of(body, v, chunk, s, &here, rooms, kept, shared);
         found = found.or(q.turned_word(word, count));
         if found.least(count) == K3::Yes {
             return q.turned_word(found, count);
         }
+        from = x + 1;
     }
     q.turned_word(found, count)
 }

@@ -1,3 +1,4 @@
+pub mod Deepest
 pub mod Quantifying
 pub mod Running
 pub mod Opening

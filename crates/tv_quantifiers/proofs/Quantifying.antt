@@ -11,6 +11,13 @@ use Rattle.tv_quantifiers.specs.Quantified.{quantified, turned}
 use Rattle.tv_quantifiers.specs.declared.quantifier.Quantifier.{Quantifier}
 use Rattle.tv_quantifiers.specs.declared.quantifier.Quantifier.TheVariants.{Exists, Forall}
 
+-- turned twice, a value is as it was
+pub turned-twice : (q : Quantifier) (k : K3) → turned q (turned q k) ≡ k
+turned-twice Exists k = refl
+turned-twice Forall No = refl
+turned-twice Forall Half = refl
+turned-twice Forall Yes = refl
+
 pub map-turned : (xs : List K3) → xs ≡ map (turned Exists) xs
 map-turned [] = refl
 map-turned (x ∷ xs) = ap (λ ys. x ∷ ys) (map-turned xs)

@@ -1,2 +1,4 @@
+pub mod Heights
 pub mod Quantified
 pub mod Runs
+pub mod Sets

@@ -1,10 +1,16 @@
-//! Quantifiers: their values, and runs of them.
+//! Quantifiers, runs of them, and questions about formulas that their evaluation asks.
 #![tactic(auto)]
 
+mod edges;
+mod height;
 mod order;
 mod quantifier;
 mod runs;
+mod variables;
 
-pub use order::is_slow_along;
+pub use edges::{Edges, are_same, has_outer};
+pub use height::program_height;
+pub use order::{has_few, is_slower};
 pub use quantifier::Quantifier;
 pub use runs::{Level, Levels, advance, begins_long_run, opened};
+pub use variables::{Variables, is_literal_without};

@@ -1,6 +1,8 @@
 //! Quantifiers, of which "for all" is "there is" with the values negated before and behind it.
 
 ghost use Rattle.std.specs.Prelude.{◌≡◌, ◌≤◌, map};
+ghost use Rattle.tv_kleene.specs.declared.K3.{K3};
+ghost use Rattle.tv_kleene.specs.Kleene.{negation_of};
 ghost use Rattle.tv_row.specs.Bits.{padded};
 ghost use Rattle.tv_quantifiers.specs.Quantified.{turned};
 
@@ -17,6 +19,17 @@ pub enum Quantifier {
 }
 
 impl Quantifier {
+    /// The other one.
+    #[inline(always)]
+    pub fn other(self) -> Quantifier
+        ensures { (k : K3) → turned result k ≡ turned self (negation_of k) }
+    {
+        match self {
+            Quantifier::Exists => Quantifier::Forall,
+            Quantifier::Forall => Quantifier::Exists,
+        }
+    }
+
     /// The value, negated for "for all".
     #[inline(always)]
     pub fn turned(self, k: K3) -> K3

@@ -8,7 +8,7 @@ use Rattle.std.specs.Prelude.{true, false}
 use Rattle.tv_kleene.specs.declared.K3.{K3}
 use Rattle.tv_kleene.specs.declared.K3.TheVariants.{No, Yes}
 use Rattle.tv_kleene.specs.Kleene.{smaller_of, larger_of, negation_of}
-use Rattle.tv_model.specs.Form.{Form, FExists, FClosure, form_of}
+use Rattle.tv_model.specs.Form.{Form, FExists, FClosure, form_of, height}
 use Rattle.tv_model.specs.Truth.{put}
 use Rattle.tv_row.specs.Places.{entry_in}
 use Rattle.tv_struct.specs.StructureForm.{arities_of, structure_of}
@@ -19,17 +19,25 @@ use Rattle.tv_eval.specs.CanEvaluate.{CanEvaluate}
 use Rattle.tv_eval.specs.Formulas.{sizes_of, nesting}
 use Rattle.tv_eval.specs.HoldsClosure.{HoldsClosure}
 use Rattle.tv_quantifiers.specs.Quantified.{quantified, turned}
+use Rattle.tv_quantifiers.specs.declared.quantifier.Quantifier.TheVariants.{Exists}
 use Rattle.tv_eval.specs.Rows.{IsSquare, part_at}
 use Rattle.tv_eval.specs.declared.relation.Part.TheVariants.{From, To, Diagonal}
 use Rattle.tv_eval.proofs.AlongLaws.{rows_put, put_same, put_other, put_steady, puts_commute, closure_at}
-use Rattle.tv_eval.proofs.AlongWords.{JoinedTo, same-word, of-paired, of-mapped, mapped-word, filled-none}
-use Rattle.tv_eval.proofs.AlongWords.{filled-next, filled-all, both-none, either-all, then-all, then-none}
+use Rattle.tv_eval.proofs.AlongWords.{JoinedTo, same-word, of-paired, of-mapped, mapped-word}
+use Rattle.tv_eval.proofs.AlongWords.{both-none, none-both, either-all, all-either}
+use Rattle.tv_eval.proofs.AlongWords.{then-all, then-none}
 use Rattle.tv_eval.proofs.AlongWords.{joined-none, joined-next, joined-all, joined-yes, greatest-chunk}
 use Rattle.tv_eval.proofs.AlongWords.{greatest-chunks, word-reads, words-none, words-next, words-all}
+use Rattle.tv_eval.proofs.Capping.{joined-skip, caps-all, caps-first, caps-rule, front-caps}
+use Rattle.tv_eval.proofs.Capping.{lies-within}
+use Rattle.tv_eval.proofs.Capping.{stands-none, stands-skip, stands-next, stands-all, turned-none}
+use Rattle.tv_eval.proofs.Capping.{height-quantified}
+use Rattle.tv_eval.proofs.Runs.{whole-parts}
+use Rattle.tv_eval.specs.Caps.{IsCapWord}
 use Rattle.tv_eval.proofs.Keeping.{closed_are_held, part_held}
 use Rattle.tv_eval.proofs.Loops.{greatest-yes, told-equal}
 use Rattle.tv_eval.proofs.Parts.{individual_of, rooms-split, SplitsRooms, can-put, like-itself, like-again}
-use Rattle.tv_eval.proofs.Parts.{put-again, total-again, row-and, row-or, row-iff, row-cond, row-put}
+use Rattle.tv_eval.proofs.Parts.{put-again, total-again, row-iff, row-cond, row-put}
 use Rattle.tv_eval.proofs.Parts.{row-steady}
 use Rattle.tv_quantifiers.proofs.Quantifying.{quantified-value}
 use Rattle.tv_quantifiers.specs.Runs.{AreVariables, AreWithin, under_run}
@@ -166,114 +174,59 @@ word_of-returns-in-Not-clause-exact t c =
     c.word_of.result c.not.result c.word_of.ensures.exact (c.places.ensures.value ∙ (rw c.size.ensures.size refl))
     c.not.ensures)
 
-pub by_values-loop-i-init : goal.by_values-loop-i-init
-by_values-loop-i-init t c = (
-  refl,
-  c.requires.kept,
-  filled-none c.args.chunk (λ u. value (structure_of c.args.s.now) (put (assignment_of c.args.a.now) c.args.v.0 u)
-      (form_of c.args.f.now))
-      c.of-values.result c.of-values.ensures,
-  like-itself c.args.a.now c.args.v.0,
-)
-
-pub by_values-value_of-requires-in-loop-i : goal.by_values-value_of-requires-in-loop-i
-by_values-value_of-requires-in-loop-i t c = (
-  search rules,
-  (
-    subst (λ sizes. CanEvaluate c.args.s.now c.set.new.self sizes (form_of c.args.f.now))
-        (sym c.loop-i.invariant.0)
-        (can-put c.args.s.now c.args.a.now c.set.new.self (sizes_of c.args.rooms.now) c.args.v.0
-        (64 * c.args.chunk + c.loop-i.i) (form_of c.args.f.now) c.requires.parts
-        (omega (arith, c.places-i-end.ensures.value, c.size.ensures.size))
-        (put-again c.args.a.now c.loop-i.here c.set.new.self c.args.v.0 (64 * c.args.chunk + c.loop-i.i)
-        c.loop-i.invariant.3 c.set.ensures.places)),
-    c.loop-i.invariant.1,
-  ),
-)
-
-pub by_values-loop-i-preserved : goal.by_values-loop-i-preserved
-by_values-loop-i-preserved t c =
-    let u : ℕ = 64 * c.args.chunk + c.loop-i.i
-    in (
-      c.value_of-in-loop-i.ensures.rooms ∙ c.loop-i.invariant.0,
-      c.value_of-in-loop-i.ensures.kept,
-      filled-next c.args.chunk c.loop-i.i (λ u. value (structure_of c.args.s.now) (put (assignment_of c.args.a.now) c.args.v.0 u)
-          (form_of c.args.f.now))
-          c.loop-i.values c.with-values.result c.value_of-in-loop-i.result c.loop-i.invariant.2
-          (omega (arith, c.places-i-end.ensures.small)) c.with-values.ensures
-          (c.value_of-in-loop-i.ensures.exact
-          ∙ ap (λ b. value (structure_of c.args.s.now) b (form_of c.args.f.now))
-          (total-again c.args.a.now c.loop-i.here c.set.new.self c.args.v.0 u c.loop-i.invariant.3
-          c.set.ensures.places)),
-      like-again c.args.a.now c.loop-i.here c.set.new.self c.args.v.0 u c.loop-i.invariant.3
-          c.set.ensures.places,
-    )
-
-pub by_values-returns-clause-exact : goal.by_values-returns-clause-exact
-by_values-returns-clause-exact t c =
-    filled-all c.args.s.now.size c.args.chunk c.loop-i.i c.places-i-end.result (λ u. value (structure_of c.args.s.now) (put (assignment_of c.args.a.now) c.args.v.0 u)
-    (form_of c.args.f.now))
-    c.loop-i.values c.loop-i.invariant.2 (c.places-i-end.ensures.value ∙ (rw c.size.ensures.size refl)) (omega arith)
-
 pub words_both-returns-then-eq-clause-exact : goal.words_both-returns-then-eq-clause-exact
 words_both-returns-then-eq-clause-exact t c =
-    both-none c.args.s.now.size c.args.chunk (λ u. value (structure_of c.args.s.now) (put (assignment_of c.args.a.now) c.args.v.0 u)
-    (form_of c.args.g.now))
-    c.word_of-first.result c.word_of-first.ensures.exact
-    (λ u. value (structure_of c.args.s.now) (put (assignment_of c.args.a.now) c.args.v.0 u)
-    (form_of c.args.h.now))
+    none-both c.args.s.now.size c.args.chunk (λ u. value (structure_of c.args.s.now) (put (assignment_of c.args.a.now) c.args.v.0 u) (form_of c.args.h.now))
+    c.in-Some.second c.in-Some.ensures
+    (λ u. value (structure_of c.args.s.now) (put (assignment_of c.args.a.now) c.args.v.0 u) (form_of c.args.g.now))
     (sym c.greatest.ensures ∙ told-equal c.greatest.result No c.eq.result c.eq.ensures.same c.if-eq.true)
 
-pub words_both-word_of-requires : goal.words_both-word_of-requires
-words_both-word_of-requires t c = (
-  search rules,
-  (
-    subst (λ sizes. CanEvaluate c.args.s.now c.args.a.now sizes (FExists c.args.v.0 (form_of c.args.h.now)))
-        (sym c.word_of-first.ensures.rooms)
-        (row-and c.args.s.now c.args.a.now (sizes_of c.args.rooms.now) c.args.v.0 (form_of c.args.g.now)
-        (form_of c.args.h.now) c.requires.parts).1,
-    (c.requires.chunk, c.word_of-first.ensures.kept),
-  ),
-)
+pub words_both-returns-in-Some-clause-exact : goal.words_both-returns-in-Some-clause-exact
+words_both-returns-in-Some-clause-exact t c =
+    of-paired c.args.s.now.size c.args.chunk smaller_of (λ u. value (structure_of c.args.s.now) (put (assignment_of c.args.a.now) c.args.v.0 u) (form_of c.args.g.now))
+    (λ u. value (structure_of c.args.s.now) (put (assignment_of c.args.a.now) c.args.v.0 u) (form_of c.args.h.now))
+    c.word_of.result c.in-Some.second c.and.result c.word_of.ensures.exact c.in-Some.ensures c.and.ensures
+
+pub words_both-returns-then-eq-2-clause-exact : goal.words_both-returns-then-eq-2-clause-exact
+words_both-returns-then-eq-2-clause-exact t c =
+    both-none c.args.s.now.size c.args.chunk (λ u. value (structure_of c.args.s.now) (put (assignment_of c.args.a.now) c.args.v.0 u) (form_of c.args.g.now))
+    c.word_of-first.result c.word_of-first.ensures.exact
+    (λ u. value (structure_of c.args.s.now) (put (assignment_of c.args.a.now) c.args.v.0 u) (form_of c.args.h.now))
+    (sym c.greatest-2.ensures ∙ told-equal c.greatest-2.result No c.eq-2.result c.eq-2.ensures.same c.if-eq-2.true)
 
 pub words_both-returns-clause-exact : goal.words_both-returns-clause-exact
 words_both-returns-clause-exact t c =
-    of-paired c.args.s.now.size c.args.chunk smaller_of (λ u. value (structure_of c.args.s.now) (put (assignment_of c.args.a.now) c.args.v.0 u)
-    (form_of c.args.g.now))
-    (λ u. value (structure_of c.args.s.now) (put (assignment_of c.args.a.now) c.args.v.0 u)
-    (form_of c.args.h.now))
-    c.word_of-first.result c.word_of.result c.and.result c.word_of-first.ensures.exact
-    c.word_of.ensures.exact c.and.ensures
+    of-paired c.args.s.now.size c.args.chunk smaller_of (λ u. value (structure_of c.args.s.now) (put (assignment_of c.args.a.now) c.args.v.0 u) (form_of c.args.g.now))
+    (λ u. value (structure_of c.args.s.now) (put (assignment_of c.args.a.now) c.args.v.0 u) (form_of c.args.h.now))
+    c.word_of-first.result c.word_of-2.result c.and-2.result c.word_of-first.ensures.exact
+    c.word_of-2.ensures.exact c.and-2.ensures
 
 pub words_either-returns-then-eq-clause-exact : goal.words_either-returns-then-eq-clause-exact
 words_either-returns-then-eq-clause-exact t c =
-    either-all c.args.s.now.size c.args.chunk (λ u. value (structure_of c.args.s.now) (put (assignment_of c.args.a.now) c.args.v.0 u)
-    (form_of c.args.g.now))
-    c.word_of-first.result c.word_of-first.ensures.exact
-    (λ u. value (structure_of c.args.s.now) (put (assignment_of c.args.a.now) c.args.v.0 u)
-    (form_of c.args.h.now))
+    all-either c.args.s.now.size c.args.chunk (λ u. value (structure_of c.args.s.now) (put (assignment_of c.args.a.now) c.args.v.0 u) (form_of c.args.h.now))
+    c.in-Some.second c.in-Some.ensures
+    (λ u. value (structure_of c.args.s.now) (put (assignment_of c.args.a.now) c.args.v.0 u) (form_of c.args.g.now))
     c.places.result (c.places.ensures.value ∙ (rw c.size.ensures.size refl)) (sym c.least.ensures ∙ told-equal c.least.result Yes c.eq.result c.eq.ensures.same c.if-eq.true)
 
-pub words_either-word_of-requires : goal.words_either-word_of-requires
-words_either-word_of-requires t c = (
-  search rules,
-  (
-    subst (λ sizes. CanEvaluate c.args.s.now c.args.a.now sizes (FExists c.args.v.0 (form_of c.args.h.now)))
-        (sym c.word_of-first.ensures.rooms)
-        (row-or c.args.s.now c.args.a.now (sizes_of c.args.rooms.now) c.args.v.0 (form_of c.args.g.now)
-        (form_of c.args.h.now) c.requires.parts).1,
-    (c.requires.chunk, c.word_of-first.ensures.kept),
-  ),
-)
+pub words_either-returns-in-Some-clause-exact : goal.words_either-returns-in-Some-clause-exact
+words_either-returns-in-Some-clause-exact t c =
+    of-paired c.args.s.now.size c.args.chunk larger_of (λ u. value (structure_of c.args.s.now) (put (assignment_of c.args.a.now) c.args.v.0 u) (form_of c.args.g.now))
+    (λ u. value (structure_of c.args.s.now) (put (assignment_of c.args.a.now) c.args.v.0 u) (form_of c.args.h.now))
+    c.word_of.result c.in-Some.second c.or.result c.word_of.ensures.exact c.in-Some.ensures c.or.ensures
+
+pub words_either-returns-then-eq-2-clause-exact : goal.words_either-returns-then-eq-2-clause-exact
+words_either-returns-then-eq-2-clause-exact t c =
+    either-all c.args.s.now.size c.args.chunk (λ u. value (structure_of c.args.s.now) (put (assignment_of c.args.a.now) c.args.v.0 u) (form_of c.args.g.now))
+    c.word_of-first.result c.word_of-first.ensures.exact
+    (λ u. value (structure_of c.args.s.now) (put (assignment_of c.args.a.now) c.args.v.0 u) (form_of c.args.h.now))
+    c.places-2.result (c.places-2.ensures.value ∙ (rw c.size-2.ensures.size refl)) (sym c.least-2.ensures ∙ told-equal c.least-2.result Yes c.eq-2.result c.eq-2.ensures.same c.if-eq-2.true)
 
 pub words_either-returns-clause-exact : goal.words_either-returns-clause-exact
 words_either-returns-clause-exact t c =
-    of-paired c.args.s.now.size c.args.chunk larger_of (λ u. value (structure_of c.args.s.now) (put (assignment_of c.args.a.now) c.args.v.0 u)
-    (form_of c.args.g.now))
-    (λ u. value (structure_of c.args.s.now) (put (assignment_of c.args.a.now) c.args.v.0 u)
-    (form_of c.args.h.now))
-    c.word_of-first.result c.word_of.result c.or.result c.word_of-first.ensures.exact
-    c.word_of.ensures.exact c.or.ensures
+    of-paired c.args.s.now.size c.args.chunk larger_of (λ u. value (structure_of c.args.s.now) (put (assignment_of c.args.a.now) c.args.v.0 u) (form_of c.args.g.now))
+    (λ u. value (structure_of c.args.s.now) (put (assignment_of c.args.a.now) c.args.v.0 u) (form_of c.args.h.now))
+    c.word_of-first.result c.word_of-2.result c.or-2.result c.word_of-first.ensures.exact
+    c.word_of-2.ensures.exact c.or-2.ensures
 
 pub words_alike-word_of-second-requires : goal.words_alike-word_of-second-requires
 words_alike-word_of-second-requires t c = (
@@ -517,6 +470,161 @@ quantify-returns-clause-exact t c =
     ∙ quantified-value c.args.q (structure_of c.args.s.now) (assignment_of c.args.a.now) c.args.v.0
     (form_of c.args.body.now)
 
+pub by_values-loop-i-init : goal.by_values-loop-i-init
+by_values-loop-i-init t c =
+    let count : c.places-count.result ≡ min 64 (c.args.s.now.size - 64 * c.args.chunk) =
+    c.places-count.ensures.value ∙ (rw c.size.ensures.size refl)
+    in (
+      refl,
+      c.requires.kept,
+      stands-none c.args.s.now.size c.args.chunk c.places-count.result c.args.q (λ u. value (structure_of c.args.s.now) (put (assignment_of c.args.a.now) c.args.v.0 u) (form_of c.args.f.now)) c.args.front c.of.result c.turned_word-values.result
+          c.requires.front count c.of.ensures c.turned_word-values.ensures,
+      like-itself c.args.a.now c.args.v.0,
+      omega arith,
+    )
+
+pub by_values-value_of-requires-in-Some : goal.by_values-value_of-requires-in-Some
+by_values-value_of-requires-in-Some t c =
+    let count : c.places-count.result ≡ min 64 (c.args.s.now.size - 64 * c.args.chunk) =
+    c.places-count.ensures.value ∙ (rw c.size.ensures.size refl)
+    in let lt : 64 * c.args.chunk + c.in-Some.i < c.args.s.now.size =
+    lies-within c.args.s.now.size c.args.chunk c.places-count.result c.in-Some.i c.args.front c.first-asked.result c.requires.front.long count
+    c.first-asked.ensures c.in-Some.ensures.1 c.in-Some.ensures.2
+    in (
+      search rules,
+      (
+        subst (λ sizes. CanEvaluate c.args.s.now c.set.new.self sizes (form_of c.args.f.now)) (sym c.loop-i.invariant.0)
+            (can-put c.args.s.now c.args.a.now c.set.new.self (sizes_of c.args.rooms.now) c.args.v.0 (64 * c.args.chunk + c.in-Some.i)
+            (form_of c.args.f.now) c.requires.parts lt
+            (put-again c.args.a.now c.loop-i.here c.set.new.self c.args.v.0 (64 * c.args.chunk + c.in-Some.i) c.loop-i.invariant.3
+            c.set.ensures.places)),
+        c.loop-i.invariant.1,
+      ),
+    )
+
+pub by_values-loop-i-preserved : goal.by_values-loop-i-preserved
+by_values-loop-i-preserved t c =
+    let count : c.places-count.result ≡ min 64 (c.args.s.now.size - 64 * c.args.chunk) =
+    c.places-count.ensures.value ∙ (rw c.size.ensures.size refl)
+    in let asked : IsCapWord c.args.s.now.size c.args.chunk (λ u. turned c.args.q (value (structure_of c.args.s.now) (put (assignment_of c.args.a.now) c.args.v.0 u) (form_of c.args.f.now)) ≡ No) c.first-asked.result =
+    caps-first c.args.s.now.size c.args.chunk c.places-count.result (λ u. turned c.args.q (value (structure_of c.args.s.now) (put (assignment_of c.args.a.now) c.args.v.0 u) (form_of c.args.f.now)) ≡ No) c.args.front c.first-asked.result c.requires.front count
+    c.first-asked.ensures
+    in let u : ℕ = 64 * c.args.chunk + c.in-Some.i
+    in let low : c.in-Some.i < 64 = c.in-Some.ensures.1
+    in (
+      c.value_of-in-Some.ensures.rooms ∙ c.loop-i.invariant.0,
+      c.value_of-in-Some.ensures.kept,
+      stands-next c.args.s.now.size c.args.chunk c.in-Some.i (turned c.args.q No) c.value_of-in-Some.result (λ u. value (structure_of c.args.s.now) (put (assignment_of c.args.a.now) c.args.v.0 u) (form_of c.args.f.now)) c.loop-i.values c.with-values.result
+          (stands-skip c.args.s.now.size c.args.chunk c.loop-i.from c.in-Some.i (turned c.args.q No) (λ u. value (structure_of c.args.s.now) (put (assignment_of c.args.a.now) c.args.v.0 u) (form_of c.args.f.now)) c.loop-i.values c.loop-i.invariant.2
+          c.in-Some.ensures.0 (omega arith)
+          (λ j late below within. turned-none c.args.q (value (structure_of c.args.s.now) (put (assignment_of c.args.a.now) c.args.v.0 (64 * c.args.chunk + j)) (form_of c.args.f.now))
+          (asked.each j (omega arith) within (c.in-Some.ensures.3 j late below))))
+          low c.with-values.ensures
+          (c.value_of-in-Some.ensures.exact
+          ∙ ap (λ b. value (structure_of c.args.s.now) b (form_of c.args.f.now))
+          (total-again c.args.a.now c.loop-i.here c.set.new.self c.args.v.0 u c.loop-i.invariant.3 c.set.ensures.places)),
+      like-again c.args.a.now c.loop-i.here c.set.new.self c.args.v.0 u c.loop-i.invariant.3 c.set.ensures.places,
+      omega (arith, low),
+    )
+
+pub by_values-returns-clause-exact : goal.by_values-returns-clause-exact
+by_values-returns-clause-exact t c =
+    let count : c.places-count.result ≡ min 64 (c.args.s.now.size - 64 * c.args.chunk) =
+    c.places-count.ensures.value ∙ (rw c.size.ensures.size refl)
+    in let asked : IsCapWord c.args.s.now.size c.args.chunk (λ u. turned c.args.q (value (structure_of c.args.s.now) (put (assignment_of c.args.a.now) c.args.v.0 u) (form_of c.args.f.now)) ≡ No) c.first-asked.result =
+    caps-first c.args.s.now.size c.args.chunk c.places-count.result (λ u. turned c.args.q (value (structure_of c.args.s.now) (put (assignment_of c.args.a.now) c.args.v.0 u) (form_of c.args.f.now)) ≡ No) c.args.front c.first-asked.result c.requires.front count
+    c.first-asked.ensures
+    in stands-all c.args.s.now.size c.args.chunk 64 (turned c.args.q No) (λ u. value (structure_of c.args.s.now) (put (assignment_of c.args.a.now) c.args.v.0 u) (form_of c.args.f.now)) c.loop-i.values
+    (stands-skip c.args.s.now.size c.args.chunk c.loop-i.from 64 (turned c.args.q No) (λ u. value (structure_of c.args.s.now) (put (assignment_of c.args.a.now) c.args.v.0 u) (form_of c.args.f.now)) c.loop-i.values c.loop-i.invariant.2
+    c.loop-i.invariant.4 (omega arith)
+    (λ j late below within. turned-none c.args.q (value (structure_of c.args.s.now) (put (assignment_of c.args.a.now) c.args.v.0 (64 * c.args.chunk + j)) (form_of c.args.f.now))
+    (asked.each j (omega arith) within (c.in_default.ensures j late below))))
+    (omega arith)
+
+pub by_values-value_of-requires : goal.by_values-value_of-requires
+by_values-value_of-requires t c = (
+  search rules,
+  (
+    row-steady c.args.s.now c.args.a.now (sizes_of c.args.rooms.now) c.args.v.0 (form_of c.args.f.now) c.requires.parts
+        (λ free. let yes : c.free.result ≡ true = c.free.ensures.1 free
+        in let no : c.free.result ≡ false = c.if-not-free.true in cc),
+    c.requires.kept,
+  ),
+)
+
+pub by_values-returns-then-not-free-clause-exact : goal.by_values-returns-then-not-free-clause-exact
+by_values-returns-then-not-free-clause-exact t c =
+    same-word c.args.s.now.size c.args.chunk (λ u. c.value_of.result) (λ u. value (structure_of c.args.s.now) (put (assignment_of c.args.a.now) c.args.v.0 u) (form_of c.args.f.now))
+    c.constant_word.result (c.constant_word.ensures c.args.s.now.size c.args.chunk)
+    (λ u lt. c.value_of.ensures.exact
+    ∙ put_steady c.args.s.now (assignment_of c.args.a.now) c.args.v.0 u (form_of c.args.f.now)
+    (λ free. let yes : c.free.result ≡ true = c.free.ensures.1 free
+    in let no : c.free.result ≡ false = c.if-not-free.true in cc))
+
+pub quantified_word-by_values-requires : goal.quantified_word-by_values-requires
+quantified_word-by_values-requires t c =
+    let high : height (form_of c.args.f.now) ≡ height (form_of c.args.body.now) + 1 = ap height c.requires.whole ∙ height-quantified c.args.q c.args.w.0 (form_of c.args.body.now)
+    in (
+      omega (arith, high, c.decreases),
+      (
+        subst (λ k. CanEvaluate c.args.s.now c.args.a.now (sizes_of c.args.rooms.now) (FExists c.args.v.0 k)) (sym c.requires.whole) (whole-parts c.args.q c.args.s.now c.args.a.now (sizes_of c.args.rooms.now) c.args.v.0 c.args.w.0 (form_of c.args.body.now) c.requires.parts),
+        (c.requires.chunk, (c.requires.kept, caps-all c.args.s.now.size c.args.chunk (λ u. turned c.args.q (value (structure_of c.args.s.now) (put (assignment_of c.args.a.now) c.args.v.0 u) (form_of c.args.f.now)) ≡ No) c.constant_word-front.result (c.constant_word-front.ensures c.args.s.now.size c.args.chunk))),
+      ),
+    )
+
+pub quantified_word-by_values-requires-then-has_few : goal.quantified_word-by_values-requires-then-has_few
+quantified_word-by_values-requires-then-has_few t c =
+    let count : c.places-count.result ≡ min 64 (c.args.s.now.size - 64 * c.args.chunk) =
+    c.places-count.ensures.value ∙ (rw c.size.ensures.size refl)
+    in let caps : IsCapWord c.args.s.now.size c.args.chunk (λ u. turned c.args.q (value (structure_of c.args.s.now) (put (assignment_of c.args.a.now) c.args.v.0 u)
+    (quantified c.args.q c.args.w.0 (form_of c.args.body.now))) ≡ No) c.first-front.result =
+    front-caps c.args.s.now (assignment_of c.args.a.now) c.args.v.0 c.args.w.0 c.args.q (form_of c.args.body.now) c.with.result c.if-w-v.false
+    (λ z outside. (c.with.ensures.outside z outside).0) c.args.chunk c.places-count.result c.cap_word.result
+    c.first-front.result c.cap_word.ensures count c.first-front.ensures
+    in let high : height (form_of c.args.f.now) ≡ height (form_of c.args.body.now) + 1 = ap height c.requires.whole ∙ height-quantified c.args.q c.args.w.0 (form_of c.args.body.now)
+    in (
+      omega (arith, high, c.decreases),
+      (
+        subst (λ k. CanEvaluate c.args.s.now c.args.a.now (sizes_of c.args.rooms.now) (FExists c.args.v.0 k)) (sym c.requires.whole) (whole-parts c.args.q c.args.s.now c.args.a.now (sizes_of c.args.rooms.now) c.args.v.0 c.args.w.0 (form_of c.args.body.now) c.requires.parts),
+        (c.requires.chunk, (c.requires.kept, subst (λ k. IsCapWord c.args.s.now.size c.args.chunk (λ u. turned c.args.q (value (structure_of c.args.s.now) (put (assignment_of c.args.a.now) c.args.v.0 u) k) ≡ No) c.first-front.result) (sym c.requires.whole) caps)),
+      ),
+    )
+
+pub quantified_word-by_values-requires-then-is_slower : goal.quantified_word-by_values-requires-then-is_slower
+quantified_word-by_values-requires-then-is_slower t c =
+    let count : c.places-count.result ≡ min 64 (c.args.s.now.size - 64 * c.args.chunk) =
+    c.places-count.ensures.value ∙ (rw c.size.ensures.size refl)
+    in let caps : IsCapWord c.args.s.now.size c.args.chunk (λ u. turned c.args.q (value (structure_of c.args.s.now) (put (assignment_of c.args.a.now) c.args.v.0 u)
+    (quantified c.args.q c.args.w.0 (form_of c.args.body.now))) ≡ No) c.first-front.result =
+    front-caps c.args.s.now (assignment_of c.args.a.now) c.args.v.0 c.args.w.0 c.args.q (form_of c.args.body.now) c.with.result c.if-w-v.false
+    (λ z outside. (c.with.ensures.outside z outside).0) c.args.chunk c.places-count.result c.cap_word.result
+    c.first-front.result c.cap_word.ensures count c.first-front.ensures
+    in let high : height (form_of c.args.f.now) ≡ height (form_of c.args.body.now) + 1 = ap height c.requires.whole ∙ height-quantified c.args.q c.args.w.0 (form_of c.args.body.now)
+    in (
+      omega (arith, high, c.decreases),
+      (
+        subst (λ k. CanEvaluate c.args.s.now c.args.a.now (sizes_of c.args.rooms.now) (FExists c.args.v.0 k)) (sym c.requires.whole) (whole-parts c.args.q c.args.s.now c.args.a.now (sizes_of c.args.rooms.now) c.args.v.0 c.args.w.0 (form_of c.args.body.now) c.requires.parts),
+        (c.requires.chunk, (c.requires.kept, subst (λ k. IsCapWord c.args.s.now.size c.args.chunk (λ u. turned c.args.q (value (structure_of c.args.s.now) (put (assignment_of c.args.a.now) c.args.v.0 u) k) ≡ No) c.first-front.result) (sym c.requires.whole) caps)),
+      ),
+    )
+
+pub word_of-by_values-requires : goal.word_of-by_values-requires
+word_of-by_values-requires t c = (
+  search rules,
+  (
+    c.requires.parts,
+    (
+      c.requires.chunk,
+      (
+        c.requires.kept,
+        caps-all c.args.s.now.size c.args.chunk
+            (λ u. turned Exists (value (structure_of c.args.s.now) (put (assignment_of c.args.a.now) c.args.v.0 u) (form_of c.args.f.now)) ≡ No)
+            c.constant_word-front.result (c.constant_word-front.ensures c.args.s.now.size c.args.chunk),
+      ),
+    ),
+  ),
+)
+
 pub closed_part-fill-requires : goal.closed_part-fill-requires
 closed_part-fill-requires t c =
     let body : Form = form_of c.args.edges.body.now
@@ -584,84 +692,91 @@ quantified_word-loop-x-init t c = (
       (put (put (assignment_of c.args.a.now) c.args.v.0 u) c.args.w.0 x) (form_of c.args.body.now)))
       c.of-found.result c.of-found.ensures,
   like-itself c.args.a.now c.args.w.0,
+  omega arith,
 )
 
 pub quantified_word-word_of-word-requires : goal.quantified_word-word_of-word-requires
-quantified_word-word_of-word-requires t c = (
-  search rules,
-  (
-    subst (λ sizes. CanEvaluate c.args.s.now c.set.new.self sizes (FExists c.args.v.0 (form_of c.args.body.now)))
-        (sym c.loop-x.invariant.0)
-        (row-put c.args.s.now c.args.a.now c.set.new.self (sizes_of c.args.rooms.now) c.args.v.0 c.args.w.0
-        c.loop-x.x (form_of c.args.body.now) c.requires.parts (omega arith)
-        (put-again c.args.a.now c.loop-x.here c.set.new.self c.args.w.0 c.loop-x.x c.loop-x.invariant.3
-        c.set.ensures.places)),
-    (c.requires.chunk, c.loop-x.invariant.1),
-  ),
-)
+quantified_word-word_of-word-requires t c =
+    let lt : c.in-Some.x < c.args.s.now.size = omega (arith, c.in-Some.ensures.1, c.cap_row-caps.ensures.long)
+    in (
+      search rules,
+      (
+        subst (λ sizes. CanEvaluate c.args.s.now c.set.new.self sizes (FExists c.args.v.0 (form_of c.args.body.now))) (sym c.loop-x.invariant.0)
+            (row-put c.args.s.now c.args.a.now c.set.new.self (sizes_of c.args.rooms.now) c.args.v.0 c.args.w.0
+            c.in-Some.x (form_of c.args.body.now) c.requires.parts lt
+            (put-again c.args.a.now c.loop-x.here c.set.new.self c.args.w.0 c.in-Some.x c.loop-x.invariant.3
+            c.set.ensures.places)),
+        (c.requires.chunk, c.loop-x.invariant.1),
+      ),
+    )
 
 pub quantified_word-loop-x-preserved : goal.quantified_word-loop-x-preserved
 quantified_word-loop-x-preserved t c =
     let g : ℕ → ℕ → K3 = λ u x. turned c.args.q (value (structure_of c.args.s.now)
     (put (put (assignment_of c.args.a.now) c.args.v.0 u) c.args.w.0 x) (form_of c.args.body.now))
-    in let h : ℕ → K3 = λ u. value (structure_of c.args.s.now) (put (assignment_of c.set.new.self) c.args.v.0 u)
-    (form_of c.args.body.now)
-    in let here : (u : ℕ) → turned c.args.q (h u) ≡ g u c.loop-x.x = λ u. ap (turned c.args.q)
-    (ap (λ b. value (structure_of c.args.s.now) (put b c.args.v.0 u) (form_of c.args.body.now))
-    (total-again c.args.a.now c.loop-x.here c.set.new.self c.args.w.0 c.loop-x.x c.loop-x.invariant.3
-    c.set.ensures.places)
-    ∙ puts_commute c.args.s.now (assignment_of c.args.a.now) c.args.v.0 c.args.w.0 u c.loop-x.x
-    (form_of c.args.body.now) c.requires.apart)
     in let count : c.places-count.result ≡ min 64 (c.args.s.now.size - 64 * c.args.chunk) =
     c.places-count.ensures.value ∙ (rw c.size.ensures.size refl)
-    in let row : IsWordOf c.args.s.now.size c.args.chunk (λ u. g u c.loop-x.x) c.turned_word.result =
-    same-word c.args.s.now.size c.args.chunk (λ u. turned c.args.q (h u)) (λ u. g u c.loop-x.x)
-    c.turned_word.result
+    in let lt : c.in-Some.x < c.args.s.now.size = omega (arith, c.in-Some.ensures.1, c.cap_row-caps.ensures.long)
+    in let skipped : JoinedTo c.args.s.now.size c.args.chunk c.in-Some.x g c.loop-x.found =
+    joined-skip c.args.s.now.size c.args.chunk c.loop-x.from c.in-Some.x g c.loop-x.found c.loop-x.invariant.2 c.in-Some.ensures.0 (omega arith)
+    (λ y low below u. caps-rule c.args.s.now (assignment_of c.args.a.now) c.args.v.0 c.args.w.0 c.args.q (form_of c.args.body.now) c.with-2.result
+    (λ z outside. (c.with-2.ensures.outside z outside).0) y
+    (c.cap_row-caps.ensures.each y (omega arith) (c.in-Some.ensures.3 y low below)) u)
+    in let h : ℕ → K3 = λ u. value (structure_of c.args.s.now) (put (assignment_of c.set.new.self) c.args.v.0 u) (form_of c.args.body.now)
+    in let here : (u : ℕ) → turned c.args.q (h u) ≡ g u c.in-Some.x = λ u. ap (turned c.args.q)
+    (ap (λ b. value (structure_of c.args.s.now) (put b c.args.v.0 u) (form_of c.args.body.now))
+    (total-again c.args.a.now c.loop-x.here c.set.new.self c.args.w.0 c.in-Some.x c.loop-x.invariant.3
+    c.set.ensures.places)
+    ∙ puts_commute c.args.s.now (assignment_of c.args.a.now) c.args.v.0 c.args.w.0 u c.in-Some.x (form_of c.args.body.now) c.if-w-v.false)
+    in let row : IsWordOf c.args.s.now.size c.args.chunk (λ u. g u c.in-Some.x) c.turned_word.result =
+    same-word c.args.s.now.size c.args.chunk (λ u. turned c.args.q (h u)) (λ u. g u c.in-Some.x) c.turned_word.result
     (of-mapped c.args.s.now.size c.args.chunk c.places-count.result (turned c.args.q) h c.word_of-word.result
     c.turned_word.result c.word_of-word.ensures.exact count c.turned_word.ensures) (λ u lt. here u)
-    in let next : JoinedTo c.args.s.now.size c.args.chunk (c.loop-x.x + 1) g c.or-found.result =
-    joined-next c.args.s.now.size c.args.chunk c.loop-x.x g c.loop-x.found c.turned_word.result
-    c.or-found.result (omega arith) row c.loop-x.invariant.2 c.or-found.ensures
+    in let next : JoinedTo c.args.s.now.size c.args.chunk (c.in-Some.x + 1) g c.or-found.result =
+    joined-next c.args.s.now.size c.args.chunk c.in-Some.x g c.loop-x.found c.turned_word.result
+    c.or-found.result lt row skipped c.or-found.ensures
     in (
       c.word_of-word.ensures.rooms ∙ c.loop-x.invariant.0,
       c.word_of-word.ensures.kept,
       next,
-      like-again c.args.a.now c.loop-x.here c.set.new.self c.args.w.0 c.loop-x.x c.loop-x.invariant.3
+      like-again c.args.a.now c.loop-x.here c.set.new.self c.args.w.0 c.in-Some.x c.loop-x.invariant.3
           c.set.ensures.places,
+      omega (arith, c.in-Some.ensures.1),
     )
 
 pub quantified_word-returns-then-eq-clause-exact : goal.quantified_word-returns-then-eq-clause-exact
 quantified_word-returns-then-eq-clause-exact t c =
     let g : ℕ → ℕ → K3 = λ u x. turned c.args.q (value (structure_of c.args.s.now)
     (put (put (assignment_of c.args.a.now) c.args.v.0 u) c.args.w.0 x) (form_of c.args.body.now))
-    in let h : ℕ → K3 = λ u. value (structure_of c.args.s.now) (put (assignment_of c.set.new.self) c.args.v.0 u)
-    (form_of c.args.body.now)
-    in let here : (u : ℕ) → turned c.args.q (h u) ≡ g u c.loop-x.x = λ u. ap (turned c.args.q)
-    (ap (λ b. value (structure_of c.args.s.now) (put b c.args.v.0 u) (form_of c.args.body.now))
-    (total-again c.args.a.now c.loop-x.here c.set.new.self c.args.w.0 c.loop-x.x c.loop-x.invariant.3
-    c.set.ensures.places)
-    ∙ puts_commute c.args.s.now (assignment_of c.args.a.now) c.args.v.0 c.args.w.0 u c.loop-x.x
-    (form_of c.args.body.now) c.requires.apart)
     in let count : c.places-count.result ≡ min 64 (c.args.s.now.size - 64 * c.args.chunk) =
     c.places-count.ensures.value ∙ (rw c.size.ensures.size refl)
-    in let row : IsWordOf c.args.s.now.size c.args.chunk (λ u. g u c.loop-x.x) c.turned_word.result =
-    same-word c.args.s.now.size c.args.chunk (λ u. turned c.args.q (h u)) (λ u. g u c.loop-x.x)
-    c.turned_word.result
+    in let lt : c.in-Some.x < c.args.s.now.size = omega (arith, c.in-Some.ensures.1, c.cap_row-caps.ensures.long)
+    in let skipped : JoinedTo c.args.s.now.size c.args.chunk c.in-Some.x g c.loop-x.found =
+    joined-skip c.args.s.now.size c.args.chunk c.loop-x.from c.in-Some.x g c.loop-x.found c.loop-x.invariant.2 c.in-Some.ensures.0 (omega arith)
+    (λ y low below u. caps-rule c.args.s.now (assignment_of c.args.a.now) c.args.v.0 c.args.w.0 c.args.q (form_of c.args.body.now) c.with-2.result
+    (λ z outside. (c.with-2.ensures.outside z outside).0) y
+    (c.cap_row-caps.ensures.each y (omega arith) (c.in-Some.ensures.3 y low below)) u)
+    in let h : ℕ → K3 = λ u. value (structure_of c.args.s.now) (put (assignment_of c.set.new.self) c.args.v.0 u) (form_of c.args.body.now)
+    in let here : (u : ℕ) → turned c.args.q (h u) ≡ g u c.in-Some.x = λ u. ap (turned c.args.q)
+    (ap (λ b. value (structure_of c.args.s.now) (put b c.args.v.0 u) (form_of c.args.body.now))
+    (total-again c.args.a.now c.loop-x.here c.set.new.self c.args.w.0 c.in-Some.x c.loop-x.invariant.3
+    c.set.ensures.places)
+    ∙ puts_commute c.args.s.now (assignment_of c.args.a.now) c.args.v.0 c.args.w.0 u c.in-Some.x (form_of c.args.body.now) c.if-w-v.false)
+    in let row : IsWordOf c.args.s.now.size c.args.chunk (λ u. g u c.in-Some.x) c.turned_word.result =
+    same-word c.args.s.now.size c.args.chunk (λ u. turned c.args.q (h u)) (λ u. g u c.in-Some.x) c.turned_word.result
     (of-mapped c.args.s.now.size c.args.chunk c.places-count.result (turned c.args.q) h c.word_of-word.result
     c.turned_word.result c.word_of-word.ensures.exact count c.turned_word.ensures) (λ u lt. here u)
-    in let next : JoinedTo c.args.s.now.size c.args.chunk (c.loop-x.x + 1) g c.or-found.result =
-    joined-next c.args.s.now.size c.args.chunk c.loop-x.x g c.loop-x.found c.turned_word.result
-    c.or-found.result (omega arith) row c.loop-x.invariant.2 c.or-found.ensures
+    in let next : JoinedTo c.args.s.now.size c.args.chunk (c.in-Some.x + 1) g c.or-found.result =
+    joined-next c.args.s.now.size c.args.chunk c.in-Some.x g c.loop-x.found c.turned_word.result
+    c.or-found.result lt row skipped c.or-found.ensures
     in same-word c.args.s.now.size c.args.chunk
     (λ u. turned c.args.q (greatest_of (g u) (range_with_len 0 c.args.s.now.size)))
-    (λ u. value (structure_of c.args.s.now) (put (assignment_of c.args.a.now) c.args.v.0 u)
-    (quantified c.args.q c.args.w.0 (form_of c.args.body.now))) c.turned_word-then-eq.result
+    (λ u. value (structure_of c.args.s.now) (put (assignment_of c.args.a.now) c.args.v.0 u) (quantified c.args.q c.args.w.0 (form_of c.args.body.now))) c.turned_word-then-eq.result
     (of-mapped c.args.s.now.size c.args.chunk c.places-count.result (turned c.args.q)
     (λ u. greatest_of (g u) (range_with_len 0 c.args.s.now.size)) c.or-found.result c.turned_word-then-eq.result
-    (joined-yes c.args.s.now.size c.args.chunk (c.loop-x.x + 1) g c.or-found.result next
+    (joined-yes c.args.s.now.size c.args.chunk (c.in-Some.x + 1) g c.or-found.result next
     c.places-count.result count (sym c.least.ensures ∙ told-equal c.least.result Yes c.eq.result c.eq.ensures.same c.if-eq.true)) count c.turned_word-then-eq.ensures)
-    (λ u lt. quantified-value c.args.q (structure_of c.args.s.now) (put (assignment_of c.args.a.now) c.args.v.0 u)
-    c.args.w.0 (form_of c.args.body.now))
+    (λ u lt. quantified-value c.args.q (structure_of c.args.s.now) (put (assignment_of c.args.a.now) c.args.v.0 u) c.args.w.0 (form_of c.args.body.now))
 
 pub quantified_word-returns-clause-exact : goal.quantified_word-returns-clause-exact
 quantified_word-returns-clause-exact t c =
@@ -669,35 +784,19 @@ quantified_word-returns-clause-exact t c =
     (put (put (assignment_of c.args.a.now) c.args.v.0 u) c.args.w.0 x) (form_of c.args.body.now))
     in let count : c.places-count.result ≡ min 64 (c.args.s.now.size - 64 * c.args.chunk) =
     c.places-count.ensures.value ∙ (rw c.size.ensures.size refl)
+    in let long : length c.cap_row-caps.result ≡ c.args.s.now.size = c.cap_row-caps.ensures.long
+    in let joined : JoinedTo c.args.s.now.size c.args.chunk c.args.s.now.size g c.loop-x.found =
+    joined-skip c.args.s.now.size c.args.chunk c.loop-x.from c.args.s.now.size g c.loop-x.found c.loop-x.invariant.2 (omega (arith, c.loop-x.invariant.4)) (omega arith)
+    (λ y low below u. caps-rule c.args.s.now (assignment_of c.args.a.now) c.args.v.0 c.args.w.0 c.args.q (form_of c.args.body.now) c.with-2.result
+    (λ z outside. (c.with-2.ensures.outside z outside).0) y
+    (c.cap_row-caps.ensures.each y below (c.in_default.ensures y low (omega arith))) u)
     in same-word c.args.s.now.size c.args.chunk
     (λ u. turned c.args.q (greatest_of (g u) (range_with_len 0 c.args.s.now.size)))
-    (λ u. value (structure_of c.args.s.now) (put (assignment_of c.args.a.now) c.args.v.0 u)
-    (quantified c.args.q c.args.w.0 (form_of c.args.body.now))) c.turned_word-2.result
+    (λ u. value (structure_of c.args.s.now) (put (assignment_of c.args.a.now) c.args.v.0 u) (quantified c.args.q c.args.w.0 (form_of c.args.body.now))) c.turned_word-2.result
     (of-mapped c.args.s.now.size c.args.chunk c.places-count.result (turned c.args.q)
     (λ u. greatest_of (g u) (range_with_len 0 c.args.s.now.size)) c.loop-x.found c.turned_word-2.result
-    (joined-all c.args.s.now.size c.args.chunk c.loop-x.x g c.loop-x.found c.loop-x.invariant.2
-    (omega arith)) count c.turned_word-2.ensures)
-    (λ u lt. quantified-value c.args.q (structure_of c.args.s.now) (put (assignment_of c.args.a.now) c.args.v.0 u)
-    c.args.w.0 (form_of c.args.body.now))
-
-pub by_values-value_of-requires : goal.by_values-value_of-requires
-by_values-value_of-requires t c = (
-  search rules,
-  (
-    row-steady c.args.s.now c.args.a.now (sizes_of c.args.rooms.now) c.args.v.0 (form_of c.args.f.now)
-        c.requires.parts (λ free. let yes : c.free.result ≡ true = c.free.ensures.1 free in let no : c.free.result ≡ false = c.if-not-free.true in cc),
-    c.requires.kept,
-  ),
-)
-
-pub by_values-returns-then-not-free-clause-exact : goal.by_values-returns-then-not-free-clause-exact
-by_values-returns-then-not-free-clause-exact t c =
-    same-word c.args.s.now.size c.args.chunk (λ u. c.value_of.result)
-    (λ u. value (structure_of c.args.s.now) (put (assignment_of c.args.a.now) c.args.v.0 u) (form_of c.args.f.now))
-    c.constant_word.result (c.constant_word.ensures c.args.s.now.size c.args.chunk)
-    (λ u lt. c.value_of.ensures.exact
-    ∙ put_steady c.args.s.now (assignment_of c.args.a.now) c.args.v.0 u (form_of c.args.f.now)
-    (λ free. let yes : c.free.result ≡ true = c.free.ensures.1 free in let no : c.free.result ≡ false = c.if-not-free.true in cc))
+    (joined-all c.args.s.now.size c.args.chunk c.args.s.now.size g c.loop-x.found joined (omega arith)) count c.turned_word-2.ensures)
+    (λ u lt. quantified-value c.args.q (structure_of c.args.s.now) (put (assignment_of c.args.a.now) c.args.v.0 u) c.args.w.0 (form_of c.args.body.now))
 
 pub closure_word-closure-requires : goal.closure_word-closure-requires
 closure_word-closure-requires t c = (

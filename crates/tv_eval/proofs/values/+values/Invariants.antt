@@ -7,6 +7,7 @@ use Rattle.tv_struct.specs.StructureForm.{structure_of}
 use Rattle.tv_eval_laws.specs.Value.{value, greatest_of}
 use Rattle.std.specs.List.{range_with_len}
 use Rattle.tv_kleene.specs.declared.K3.{K3}
+use Rattle.tv_kleene.specs.declared.K3.TheVariants.{No}
 use Rattle.tv_kleene.specs.Kleene.{larger_of}
 use Rattle.tv_eval.specs.AssignmentForm.{assignment_of}
 use Rattle.tv_eval.specs.Formulas.{sizes_of}
@@ -14,7 +15,8 @@ use Rattle.tv_eval.specs.Keeps.{HoldsClosures}
 use Rattle.tv_eval.specs.CanEvaluate.{CanEvaluate}
 use Rattle.tv_quantifiers.specs.Quantified.{quantified, turned}
 use Rattle.tv_quantifiers.specs.Runs.{AreWithin, left, owed, placed, under_run}
-use Rattle.tv_eval.proofs.AlongWords.{FilledTo, HasWords, JoinedTo}
+use Rattle.tv_eval.proofs.AlongWords.{HasWords, JoinedTo}
+use Rattle.tv_eval.proofs.Capping.{StandsTo}
 use Rattle.tv_eval.proofs.Parts.{IsLike}
 use Rattle.tv_eval.proofs.values.+values.Given as goal
 
@@ -44,13 +46,13 @@ abbrev pub decreases-closed_part : goal.decreases-closed_part
 decreases-closed_part l = 8 * height (form_of l.edges.body.now) + 6
 
 abbrev pub decreases-fill : goal.decreases-fill
-decreases-fill l = 8 * height (form_of l.edges.body.now) + 4
+decreases-fill l = 8 * height (form_of l.edges.body.now) + 5
 
 abbrev pub decreases-row_of : goal.decreases-row_of
-decreases-row_of l = 8 * height (form_of l.f.now) + 3
+decreases-row_of l = 8 * height (form_of l.f.now) + 4
 
 abbrev pub decreases-word_of : goal.decreases-word_of
-decreases-word_of l = 8 * height (form_of l.f.now) + 2
+decreases-word_of l = 8 * height (form_of l.f.now) + 3
 
 abbrev pub decreases-by_values : goal.decreases-by_values
 decreases-by_values l = 8 * height (form_of l.f.now) + 1
@@ -74,13 +76,18 @@ invariant-fill-loop-u l =
     (form_of l.edges.body.now))
     × IsLike l.a l.edges.left.0 l.here
 
--- the values so far are found
+-- the values so far are found, and the others are those of individuals that are ruled out
 abbrev pub invariant-by_values-loop-i : goal.invariant-by_values-loop-i
 invariant-by_values-loop-i l =
     (sizes_of l.rooms ≡ sizes_of l.initial.rooms)
     × HoldsClosures l.s l.kept l.shared
-    × FilledTo l.chunk l.i (λ u. value (structure_of l.s) (put (assignment_of l.a) l.v.0 u) (form_of l.f)) l.values
+    × StandsTo l.s.size l.chunk l.from (turned l.fn.q No)
+    (λ u. value (structure_of l.s) (put (assignment_of l.a) l.v.0 u) (form_of l.f)) l.values
     × IsLike l.a l.v.0 l.here
+    × (l.from ≤ 64)
+
+abbrev pub decreases-by_values-loop-i : goal.decreases-by_values-loop-i
+decreases-by_values-loop-i l = 64 - l.from
 
 abbrev pub decreases-words_alike : goal.decreases-words_alike
 decreases-words_alike l = 8 * max (height (form_of l.g.now)) (height (form_of l.h.now)) + 7
@@ -90,7 +97,7 @@ decreases-words_choice l = 8 * max (height (form_of l.c.now))
     (max (height (form_of l.g.now)) (height (form_of l.h.now))) + 7
 
 abbrev pub decreases-quantified_word : goal.decreases-quantified_word
-decreases-quantified_word l = 8 * height (form_of l.body.now) + 7
+decreases-quantified_word l = 8 * height (form_of l.body.now) + 10
 
 abbrev pub decreases-closure_word : goal.decreases-closure_word
 decreases-closure_word l = 8 * height (form_of l.edges.body.now) + 8
@@ -117,10 +124,14 @@ abbrev pub invariant-quantified_word-loop-x : goal.invariant-quantified_word-loo
 invariant-quantified_word-loop-x l =
     (sizes_of l.rooms ≡ sizes_of l.initial.rooms)
     × HoldsClosures l.s l.kept l.shared
-    × JoinedTo l.s.size l.chunk l.x
+    × JoinedTo l.s.size l.chunk l.from
     (λ u x. turned l.q (value (structure_of l.s) (put (put (assignment_of l.a) l.v.0 u) l.w.0 x) (form_of l.body)))
     l.found
     × IsLike l.a l.w.0 l.here
+    × (l.from ≤ length l.caps)
+
+abbrev pub decreases-quantified_word-loop-x : goal.decreases-quantified_word-loop-x
+decreases-quantified_word-loop-x l = length l.caps - l.from
 
 abbrev pub decreases-run : goal.decreases-run
 decreases-run l = 8 * height (form_of l.body.now) + 6

@@ -1,15 +1,9 @@
 use Rattle.std.proofs.Common.{◌≡◌, ◌∙◌, List, length, refl, sym, ap, subst, arith}
 use Rattle.tv_kleene.specs.declared.K3.{K3}
-use Rattle.tv_kleene.specs.Kleene.{negation_of}
-use Rattle.tv_model.specs.Form.{form_of, vars_of, FAtom}
-use Rattle.tv_model.specs.Truth.{put}
-use Rattle.tv_struct.specs.StructureForm.{structure_of}
-use Rattle.tv_eval_laws.specs.Value.{value}
-use Rattle.tv_eval.specs.AssignmentForm.{assignment_of}
+use Rattle.tv_model.specs.Form.{form_of}
 use Rattle.tv_eval.specs.Bound.{bound_room}
 use Rattle.tv_eval.specs.Formulas.{HasRooms, nesting, sizes_of}
 use Rattle.tv_eval.specs.Keeps.{HoldsClosures}
-use Rattle.tv_eval.proofs.AlongWords.{of-mapped}
 use Rattle.tv_eval.proofs.Rooms.{rooms_for, written_items, written_back}
 use Rattle.tv_eval.proofs.evaluator.Evaluator.word.Goals as goal
 
@@ -40,16 +34,3 @@ returns-clause-bound c =
           c.args.self.now.rooms.items (omega arith)
           sizes c.requires.bound.sizes;
     }
-
-pub returns-in-Atom-deref : goal.returns-in-Atom-deref
-returns-in-Atom-deref c = record {
-  exact = rw (c.in-Not.is, ← c.deref.ensures, c.in-Atom-deref.is)
-      (of-mapped c.args.self.now.structure.now.size c.args.chunk c.places.result negation_of
-      (λ u. value (structure_of c.args.self.now.structure.now) (put (assignment_of c.args.a.now) c.args.v.0 u)
-      (FAtom c.in-Atom-deref.pred.0 (vars_of c.in-Atom-deref.terms)))
-      c.atom_word-word.result c.not.result c.atom_word-word.ensures
-      (c.places.ensures.value ∙ (rw c.size.ensures.size refl)) c.not.ensures);
-  bound = c.requires.bound;
-  structure = refl;
-  room = refl;
-}

@@ -4,7 +4,7 @@ use Rattle.std.proofs.Common.{arith}
 use Rattle.std.specs.List.{fold}
 use Rattle.std.proofs.Common.{⊎_elim}
 use Rattle.tv_model.proofs.Lists.{Contains-none, Contains-cases}
-use Rattle.tv_eval.specs.ScratchForm.{deepest}
+use Rattle.tv_quantifiers.specs.Heights.{deepest}
 
 -- a fold by numbers that are cut off at m gives the deepest, cut off at m
 pub fold-capped : {X : Type 0} (g : X → ℕ) (m n : ℕ) (xs : List X)

@@ -4,8 +4,8 @@ ghost use Rattle.std.specs.Prelude.{◌≡◌, min, max};
 ghost use Rattle.std.specs.List.{fold};
 ghost use Rattle.tv_model.specs.Form.{form_of, height};
 ghost use Rattle.tv_model.specs.Program.{action_of, kind_of, pre_of, retain_of, change_of, program_of};
-ghost use Rattle.tv_eval.specs.ScratchForm.{kind_height, change_height, pre_height, retain_height};
-ghost use Rattle.tv_eval.specs.ScratchForm.{action_height, program_height};
+ghost use Rattle.tv_quantifiers.specs.Heights.{kind_height, change_height, pre_height, retain_height};
+ghost use Rattle.tv_quantifiers.specs.Heights.{action_height, program_height};
 
 use tv_model::{
     Action, Change, Formula, Kind, Message, Pred, Program, Retain, Rule, Update, depth,

@@ -1,9 +1,9 @@
 use Rattle.std.proofs.Common.{ℕ, ◌≡◌, min, max, ◌∙◌, refl}
 use Rattle.tv_model.specs.Program.{ProgramForm, program_of, pred_of, rule_of, action_of}
 use Rattle.tv_model.specs.Form.{height}
-use Rattle.tv_eval.specs.ScratchForm.{deepest, kind_height, action_height}
-use Rattle.tv_eval.proofs.Deepest.{fold-of_parts, capped-max}
-use Rattle.tv_eval.proofs.height.program_height.Goals as goal
+use Rattle.tv_quantifiers.specs.Heights.{deepest, kind_height, action_height}
+use Rattle.tv_quantifiers.proofs.Deepest.{fold-of_parts, capped-max}
+use Rattle.tv_quantifiers.proofs.height.program_height.Goals as goal
 
 pub returns : goal.returns
 returns c =

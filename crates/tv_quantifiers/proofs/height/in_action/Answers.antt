@@ -1,9 +1,9 @@
 use Rattle.std.proofs.Common.{ℕ, ◌≡◌, min, max, ◌∙◌, refl}
 use Rattle.tv_model.specs.Form.{form_of, height}
 use Rattle.tv_model.specs.Program.{ActionForm, action_of, message_of, update_of}
-use Rattle.tv_eval.specs.ScratchForm.{deepest, pre_height, retain_height, change_height}
-use Rattle.tv_eval.proofs.Deepest.{fold-of_parts, capped-max}
-use Rattle.tv_eval.proofs.height.in_action.Goals as goal
+use Rattle.tv_quantifiers.specs.Heights.{deepest, pre_height, retain_height, change_height}
+use Rattle.tv_quantifiers.proofs.Deepest.{fold-of_parts, capped-max}
+use Rattle.tv_quantifiers.proofs.height.in_action.Goals as goal
 
 pub returns : goal.returns
 returns c =
