@@ -31,6 +31,13 @@ abbrev pub JoinsUp : (small large : StructureForm) → (images : List ℕ) → (
 JoinsUp small large images w =
     (x : ℕ) → x < length images → PairFits small large (length images) w x (image_of images x)
 
+-- as far as the values of one predicate say
+abbrev pub ValuesJoinUp : (small large : StructureForm) → (images : List ℕ) → (w pred : ℕ) → Type 0
+ValuesJoinUp small large images w pred =
+    (x : ℕ) → x < length images
+    → ValueFits small large pred (length images ∷ x ∷ []) (w ∷ image_of images x ∷ [])
+    × ValueFits small large pred (x ∷ length images ∷ []) (image_of images x ∷ w ∷ [])
+
 -- the first individuals go to their images as in an embedding, as far as they alone are concerned
 pub record FitsSoFar (small large : StructureForm) (images : List ℕ) : Type 0 where
   pub nullary : TupleFits small large [] []
