@@ -1,6 +1,6 @@
 -- Rows of joined values, one row or one class after the other.
 use Rattle.std.proofs.Common.{ℕ, refl, ⊎_elim, ◌≡◌, ◌≢◌, ◌⊎◌, ◌<◌, ◌≤◌, ◌+◌, inl, inr, List, [], ◌∷◌, get_or}
-use Rattle.std.proofs.Common.{set, length, sym, ap, subst, ◌∙◌, arith}
+use Rattle.std.proofs.Common.{set, length, sym, ap, subst, ◌∙◌, ◌-◌, ◌*◌, arith}
 use Rattle.std.specs.Prelude.{Any}
 use Rattle.std.proofs.lemmas.Bool.{cases_lt}
 use Rattle.std.proofs.lemmas.List.{get_or_default, get_or_past, length-set, get_or-set_same, get_or-set_other}
@@ -8,7 +8,8 @@ use Rattle.std.proofs.lemmas.List.FromFn.{length-map-range_with_len, get_or-map-
 use Rattle.tv_kleene.specs.declared.K3.{K3}
 use Rattle.tv_kleene.specs.declared.K3.TheVariants.{No, Half, Yes}
 use Rattle.tv_kleene.specs.Kleene.{join_of}
-use Rattle.tv_row.specs.Bits.{paired}
+use Rattle.tv_row.specs.Bits.{greatest_in, paired}
+use Rattle.tv_row.proofs.Extremes.{any_possible}
 use Rattle.tv_row.proofs.WordOps.{length-paired, get_or-paired}
 use Rattle.tv_struct.specs.StructureForm.{StructureForm, value_at}
 use Rattle.tv_struct.specs.StructureRows.{row_at, unary_row}
@@ -125,3 +126,33 @@ joined-none row members none some = record {
       let first : ℕ = get_or members 0 0
       in each No (first, (0, some, get_or_default members 0 first 0 some), no_possible row none first);
 }
+
+-- ---- a word in which nothing is possible
+
+pub word_none : (word : List K3) (i : ℕ) → greatest_in word ≡ No → i < length word → get_or word i No ≡ No
+word_none word i none lt = at (get_or word i No) refl
+  where
+    some : (k : K3) → get_or word i No ≡ k → k ≢ No → ⊥
+    some k is other = (any_possible word).1 (i, k, lt, get_or_default word i k No lt ∙ is, other) none
+
+    at : (k : K3) → get_or word i No ≡ k → k ≡ No
+    at No is = refl
+    at Half is = absurd (some Half is (λ e. cc))
+    at Yes is = absurd (some Yes is (λ e. cc))
+
+-- the values up to the end of a word, where they are No before it
+pub none_more : (s : StructureForm) (p chunk : ℕ) (word : List K3) → greatest_in word ≡ No → length word ≡ 64
+    → ((i : ℕ) → i < 64 → 64 * chunk + i < s.size → get_or word i No ≡ value_at s p ((64 * chunk + i) ∷ []))
+    → ((u : ℕ) → u < 64 * chunk → u < s.size → value_at s p (u ∷ []) ≡ No)
+    → (u : ℕ) → u < 64 * (chunk + 1) → u < s.size → value_at s p (u ∷ []) ≡ No
+none_more s p chunk word none long values before u lt in_s = at (cases_lt u (64 * chunk))
+  where
+    at : (u < 64 * chunk) ⊎ (64 * chunk ≤ u) → value_at s p (u ∷ []) ≡ No
+    at (inl less) = before u less in_s
+    at (inr past) =
+        let i : ℕ = u - 64 * chunk
+        in let place : 64 * chunk + i ≡ u = omega (arith, past)
+        in let inside : i < 64 = omega (arith, past, lt)
+        in let P : ℕ → Type 0 = λ x. value_at s p (x ∷ []) ≡ No
+        in subst P place
+        (sym (values i inside (omega (arith, place, in_s))) ∙ word_none word i none (omega (arith, inside, long)))
