@@ -67,13 +67,19 @@ fn narrow(allowed: &mut Row, small: &Structure, large: &Structure, u: u32, p: Pr
     *allowed = allowed.and(&above);
 }
 
-/// `No` at individuals of `large` that `u` can't go to by the values of unary predicates.
+/// Among so few individuals each is looked at by itself.
+const FEW: u32 = 16;
+
+/// `No` at individuals of `large` that `u` can't go to by the values of unary predicates, where there are many.
 fn allowed(small: &Structure, large: &Structure, u: u32) -> Row
     requires vocabulary { arities_of small.now ≡ arities_of large.now }
     requires individual { u < small.now.size }
     ensures { AllowsAll small.now large.now u result }
 {
     let mut allowed = Row::of(large.size(), K3::Yes);
+    if large.size() <= FEW {
+        return allowed;
+    }
     for p in 0..small.pred_count() {
         narrow(&mut allowed, small, large, u, PredId(p));
     }
