@@ -13,6 +13,7 @@ use crate::maps::is_image;
 use tv_model::PredId;
 use tv_struct::{Structure, Tuple};
 
+#[inline(always)]
 fn arity_of(t: Tuple) -> u8
     ensures { result ≡ length (tuple_of t) }
 {
@@ -23,6 +24,7 @@ fn arity_of(t: Tuple) -> u8
     }
 }
 
+#[inline(always)]
 fn value_fits(small: &Structure, large: &Structure, p: PredId, below: Tuple, above: Tuple) -> bool
     requires vocabulary { arities_of small.now ≡ arities_of large.now }
     requires pred { p.0 < length (arities_of small.now) }
@@ -38,6 +40,7 @@ fn value_fits(small: &Structure, large: &Structure, p: PredId, below: Tuple, abo
 }
 
 /// Whether each predicate of the tuples' arity has a value at `below` that lies under that at `above`.
+#[inline(always)]
 pub fn tuple_fits(small: &Structure, large: &Structure, below: Tuple, above: Tuple) -> bool
     requires vocabulary { arities_of small.now ≡ arities_of large.now }
     requires same { length (tuple_of below) ≡ length (tuple_of above) }
