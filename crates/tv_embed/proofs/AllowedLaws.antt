@@ -1,11 +1,8 @@
 -- Individuals that the values of unary predicates leave as candidates.
-use Rattle.std.proofs.Common.{ℕ, ◌≡◌, ◌≢◌, ◌<◌, ◌≤◌, ◌⊎◌, inl, inr, List, [], ◌∷◌, length, get_or, ap, replicate}
+use Rattle.std.proofs.Common.{ℕ, ◌≡◌, ◌≢◌, ◌<◌, inl, inr, List, [], ◌∷◌, length, get_or, ap}
 use Rattle.std.proofs.Common.{refl, sym, ◌∙◌, arith}
 use Rattle.std.specs.Prelude.{Contains, Some, slice_get}
-use Rattle.std.proofs.lemmas.Bool.{cases_lt}
-use Rattle.std.proofs.lemmas.List.{get_or-replicate, length-replicate}
 use Rattle.std.proofs.lemmas.List.FromFn.{get_or-map-range_with_len, length-map-range_with_len}
-use Rattle.std.proofs.lemmas.List.Elements.{All-weaker}
 use Rattle.tv_kleene.specs.declared.K3.{K3}
 use Rattle.tv_kleene.specs.declared.K3.TheVariants.{No, Half, Yes}
 use Rattle.tv_kleene.specs.Kleene.{LiesUnder, negation_of, smaller_of}
@@ -20,24 +17,12 @@ use Rattle.tv_embed.proofs.MapLaws.{FitsSoFar-embedding}
 
 -- ---- values over a value
 
-pub no_over : (x : K3) → LiesUnder No x → negation_of x ≢ No
-no_over No under e = absurd (cc)
-no_over Half under e = absurd (cc)
-no_over Yes (inl is) e = absurd (cc)
-no_over Yes (inr is) e = absurd (cc)
-
 pub half_over : (x : K3) → LiesUnder Half x → smaller_of x (negation_of x) ≢ No
 half_over No (inl is) e = absurd (cc)
 half_over No (inr is) e = absurd (cc)
 half_over Half under e = absurd (cc)
 half_over Yes (inl is) e = absurd (cc)
 half_over Yes (inr is) e = absurd (cc)
-
-pub yes_over : (x : K3) → LiesUnder Yes x → x ≢ No
-yes_over No (inl is) e = absurd (cc)
-yes_over No (inr is) e = absurd (cc)
-yes_over Half under e = absurd (cc)
-yes_over Yes under e = absurd (cc)
 
 pub neither_no : (x y : K3) → x ≢ No → y ≢ No → smaller_of x y ≢ No
 neither_no No y a b e = a refl
@@ -47,13 +32,6 @@ neither_no Half Yes a b e = absurd (cc)
 neither_no Yes y a b e = b e
 
 -- ---- the row, one predicate after the other
-
-pub allowed_all : (small large : StructureForm) (u : ℕ) (row : List K3) → row ≡ replicate large.size Yes
-    → AllowsAll small large u row
-allowed_all small large u row are = record {
-  long = rw are (length-replicate large.size Yes);
-  each = λ w lt one. rw (are, get_or-replicate large.size w Yes No lt) (λ e. absurd (cc));
-}
 
 pub allowed_more : (small large : StructureForm) (u : ℕ) (row above new : List K3) → AllowsAll small large u row
     → length above ≡ large.size
@@ -87,27 +65,6 @@ narrowed small large u p k row values above new allows unary value are long over
     each : (w : ℕ) → w < large.size → IsCandidate small large u w → get_or above w No ≢ No
     each w lt one = over w (rw (are, length-unary large p) lt)
         (rw (value, are, unary-value large p w lt) (one.values p unary))
-
--- ---- candidates, from one allowed individual to the next
-
-pub candidates_past : (small large : StructureForm) (u n m : ℕ) (list : List ℕ) → n ≤ m
-    → ((w : ℕ) → n ≤ w → w < m → ¬ IsCandidate small large u w) → AreCandidates small large u n list
-    → AreCandidates small large u m list
-candidates_past small large u n m list le none are = record {
-  each = λ w lt one. each w lt one (cases_lt w n);
-  within = All-weaker (λ w. w < n) (λ w. w < m) (λ w lt. omega (arith, lt, le)) list are.within;
-  only = are.only;
-  ascending = are.ascending;
-}
-  where
-    each : (w : ℕ) → w < m → IsCandidate small large u w → (w < n) ⊎ (n ≤ w) → Contains list w
-    each w lt one (inl before) = are.each w before one
-    each w lt one (inr after) = absurd (none w after lt one)
-
-pub not_allowed : (small large : StructureForm) (u : ℕ) (row : List K3) (n m : ℕ) → AllowsAll small large u row
-    → m ≤ large.size → ((w : ℕ) → n ≤ w → w < m → get_or row w No ≡ No) → (w : ℕ) → n ≤ w → w < m
-    → ¬ IsCandidate small large u w
-not_allowed small large u row n m allows le out w from lt one = allows.each w (omega (arith, lt, le)) one (out w from lt)
 
 -- ---- nobody to go to
 
