@@ -14,6 +14,11 @@ ValueFits small large pred below above =
 abbrev pub TupleFits : (small large : StructureForm) → (below above : List ℕ) → Type 0
 TupleFits small large below above = (pred : ℕ) → ValueFits small large pred below above
 
+-- so has it at u, where it is unary, and at the pair of u with itself, where it is binary
+abbrev pub ValueNearFits : (small large : StructureForm) → (pred u w : ℕ) → Type 0
+ValueNearFits small large pred u w =
+    ValueFits small large pred (u ∷ []) (w ∷ []) × ValueFits small large pred (u ∷ u ∷ []) (w ∷ w ∷ [])
+
 -- u may go to w, as far as u alone is concerned
 pub record IsCandidate (small large : StructureForm) (u w : ℕ) : Type 0 where
   pub summary : IsTrue (summary_at small u) → IsTrue (summary_at large w)

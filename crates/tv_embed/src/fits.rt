@@ -6,14 +6,14 @@ ghost use Rattle.std.specs.Bool.{OnFalse};
 ghost use Rattle.tv_struct.specs.StructureForm.{StructureForm, arities_of, summary_at};
 ghost use Rattle.tv_struct.specs.TableForm.{AreIndividuals};
 ghost use Rattle.tv_struct.specs.TupleForm.{tuple_of};
-ghost use Rattle.tv_embed.specs.Fits.{ValueFits, TupleFits, IsCandidate, JoinsUp, ValuesJoinUp};
+ghost use Rattle.tv_embed.specs.Fits.{ValueFits, TupleFits, IsCandidate, JoinsUp, ValueNearFits};
+ghost use Rattle.tv_embed.specs.Fits.{ValuesJoinUp};
 ghost use Rattle.tv_embed.specs.Maps.{image_of};
 
 use crate::maps::is_image;
 use tv_model::PredId;
 use tv_struct::{Structure, Tuple};
 
-#[inline(always)]
 fn arity_of(t: Tuple) -> u8
     ensures { result ≡ length (tuple_of t) }
 {
@@ -24,7 +24,6 @@ fn arity_of(t: Tuple) -> u8
     }
 }
 
-#[inline(always)]
 fn value_fits(small: &Structure, large: &Structure, p: PredId, below: Tuple, above: Tuple) -> bool
     requires vocabulary { arities_of small.now ≡ arities_of large.now }
     requires pred { p.0 < length (arities_of small.now) }
@@ -40,7 +39,6 @@ fn value_fits(small: &Structure, large: &Structure, p: PredId, below: Tuple, abo
 }
 
 /// Whether each predicate of the tuples' arity has a value at `below` that lies under that at `above`.
-#[inline(always)]
 pub fn tuple_fits(small: &Structure, large: &Structure, below: Tuple, above: Tuple) -> bool
     requires vocabulary { arities_of small.now ≡ arities_of large.now }
     requires same { length (tuple_of below) ≡ length (tuple_of above) }
@@ -56,6 +54,40 @@ pub fn tuple_fits(small: &Structure, large: &Structure, below: Tuple, above: Tup
     true
 }
 
+/// Whether the predicate's value at `u`, or at the pair of `u` with itself, lies under that of `w`.
+fn value_near_fits(small: &Structure, large: &Structure, p: PredId, u: u32, w: u32) -> bool
+    requires vocabulary { arities_of small.now ≡ arities_of large.now }
+    requires pred { p.0 < length (arities_of small.now) }
+    requires in_small { u < small.now.size }
+    requires in_large { w < large.now.size }
+    ensures { IsTrue result ↔ ValueNearFits small.now large.now p.0 u w }
+{
+    match small.arity(p) {
+        0 => true,
+        1 => small
+            .get(p, Tuple::One(u))
+            .under(large.get(p, Tuple::One(w))),
+        _ => small
+            .get(p, Tuple::Two(u, u))
+            .under(large.get(p, Tuple::Two(w, w))),
+    }
+}
+
+/// The same of each predicate.
+fn values_near_fit(small: &Structure, large: &Structure, u: u32, w: u32) -> bool
+    requires vocabulary { arities_of small.now ≡ arities_of large.now }
+    requires in_small { u < small.now.size }
+    requires in_large { w < large.now.size }
+    ensures { IsTrue result ↔ ((p : ℕ) → ValueNearFits small.now large.now p u w) }
+{
+    for p in 0..small.pred_count() {
+        if !value_near_fits(small, large, PredId(p), u, w) {
+            return false;
+        }
+    }
+    true
+}
+
 /// Whether the individual `u` may go to `w`, as far as `u` alone is concerned.
 pub fn is_candidate(small: &Structure, large: &Structure, u: u32, w: u32) -> bool
     requires vocabulary { arities_of small.now ≡ arities_of large.now }
@@ -63,9 +95,7 @@ pub fn is_candidate(small: &Structure, large: &Structure, u: u32, w: u32) -> boo
     requires in_large { w < large.now.size }
     ensures { IsTrue result ↔ IsCandidate small.now large.now u w }
 {
-    (!small.summary(u) || large.summary(w))
-        && tuple_fits(small, large, Tuple::One(u), Tuple::One(w))
-        && tuple_fits(small, large, Tuple::Two(u, u), Tuple::Two(w, w))
+    (!small.summary(u) || large.summary(w)) && values_near_fit(small, large, u, w)
 }
 
 /// Whether the predicate's values allow that the next individual goes to `w` while those before it go to their
