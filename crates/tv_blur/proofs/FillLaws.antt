@@ -1,7 +1,8 @@
 -- Writing merged values predicate by predicate.
 use Rattle.std.proofs.Common.{ℕ, ◌≡◌, ◌≢◌, ◌⊎◌, ◌<◌, ◌≤◌, ◌+◌, inl, inr, Bool, false, List, [], ◌∷◌, get_or}
 use Rattle.std.proofs.Common.{length, Some, None, refl, sym, ap, subst, ◌∙◌, arith}
-use Rattle.std.specs.Prelude.{slice_get}
+use Rattle.std.specs.Prelude.{Any, slice_get}
+use Rattle.std.proofs.lemmas.List.{get_or_default}
 use Rattle.std.proofs.lemmas.Bool.{cases_eq, cases_lt}
 use Rattle.std.proofs.lemmas.List.Elements.{All-contains}
 use Rattle.tv_kleene.specs.declared.K3.{K3}
@@ -14,9 +15,9 @@ use Rattle.tv_struct.specs.Laws.{WritesOneEntry, WritesOneSummary}
 use Rattle.tv_struct.proofs.StructureLaws.{writes_one_entry, writes_one_summary}
 use Rattle.tv_blur.specs.Merged.{IsJoin}
 use Rattle.tv_blur.specs.Classes.{ChangesOnly, HasMergedValues, HasMerged, AreClasses, IsMergedValue}
-use Rattle.tv_blur.specs.Classes.{IsAmongMembers, class_at, is_merged_summary}
+use Rattle.tv_blur.specs.Classes.{IsAmongMembers, IsBlank, IsBlankFrom, class_at, is_merged_summary}
 use Rattle.tv_blur.proofs.JoinLaws.{join_is, join_joins, merged_none, merged_one, merged_two}
-use Rattle.tv_blur.proofs.RowLaws.{get_or-row_at, get_or-unary_row}
+use Rattle.tv_blur.proofs.RowLaws.{get_or-row_at, get_or-unary_row, joined-none, length-unary_row}
 
 -- the arity of an entry's tuple
 entry-arity : (t : StructureForm) (pred n : ℕ) (tuple : List ℕ) → HasArity t pred n → HasEntry (table_of t) pred tuple
@@ -90,6 +91,25 @@ row_merged classes s new pred merged are size arity row joins tuple has =
         (get_or-unary_row s pred u (All-contains (λ x. x < s.size) (class_at classes w) u (are.within w [] within) at)))
         (joins w within)))
 
+-- where the predicate is No at each individual, nothing is written
+pub unchanged : (pred : ℕ) (t : StructureForm) → ChangesOnly pred t t
+unchanged pred t = record { size = refl; over = refl; summaries = refl; fresh = refl; others = λ q tuple differ. refl }
+
+pub nowhere_merged : (classes : List (List ℕ)) (s t : StructureForm) (pred : ℕ) → AreClasses s classes → t.size ≡ length classes
+    → HasArity t pred 1 → IsBlank pred t → ((u : ℕ) → u < s.size → value_at s pred (u ∷ []) ≡ No)
+    → HasMergedValues classes s pred t
+nowhere_merged classes s t pred are size arity blank none =
+    row_merged classes s t pred (unary_row t pred) are size arity refl
+    (λ w lt. rw (get_or-unary_row t pred w (omega (arith, size, lt)), blank (w ∷ []))
+    (joined-none (unary_row s pred) (class_at classes w) nothing (are.some w [] lt)))
+  where
+    nothing : ¬ Any (λ k. k ≢ No) (unary_row s pred)
+    nothing (u, k, lt, is, other) =
+        other (sym is ∙ get_or_default (unary_row s pred) u k No lt ∙ get_or-unary_row s pred u (inside u lt) ∙ none u (inside u lt))
+      where
+        inside : (u : ℕ) → u < length (unary_row s pred) → u < s.size
+        inside u lt = rw (length-unary_row s pred) at lt
+
 -- ---- binary predicates, row by row
 
 pub record HasRows (classes : List (List ℕ)) (s : StructureForm) (pred n : ℕ) (old t : StructureForm) : Type 0 where
@@ -98,7 +118,7 @@ pub record HasRows (classes : List (List ℕ)) (s : StructureForm) (pred n : ℕ
 
 pub rows_none : (classes : List (List ℕ)) (s : StructureForm) (pred : ℕ) (t : StructureForm) → HasRows classes s pred 0 t t
 rows_none classes s pred t = record {
-  changes = record { size = refl; over = refl; summaries = refl; fresh = refl; others = λ q tuple differ. refl };
+  changes = unchanged pred t;
   rows = λ w x lt within. absurd (omega arith);
 }
 
@@ -178,6 +198,10 @@ merged_more classes s n t new have changes values = record {
           individuals = rw (← changes.size) has.individuals;
         }))
 
+pub blank_more : (n : ℕ) (t new : StructureForm) → ChangesOnly n t new → IsBlankFrom n t → IsBlankFrom (n + 1) new
+blank_more n t new changes blank pred past tuple =
+    changes.others pred tuple (λ same. omega (arith, same, past)) ∙ blank pred (omega (arith, past)) tuple
+
 -- ---- summaries
 
 pub record HasSummaries (classes : List (List ℕ)) (s : StructureForm) (n : ℕ) (t : StructureForm) : Type 0 where
@@ -186,15 +210,17 @@ pub record HasSummaries (classes : List (List ℕ)) (s : StructureForm) (n : ℕ
   pub over : arities_of t ≡ arities_of s
   pub fresh : t.fresh ≡ None
   pub flags : (w : ℕ) → w < n → summary_at t w ≡ is_merged_summary s (class_at classes w)
+  pub blank : IsBlankFrom 0 t
 
 pub summaries_none : (classes : List (List ℕ)) (s t : StructureForm) → IsStructure t → t.size ≡ length classes
-    → arities_of t ≡ arities_of s → t.fresh ≡ None → HasSummaries classes s 0 t
-summaries_none classes s t is size over fresh = record {
+    → arities_of t ≡ arities_of s → t.fresh ≡ None → IsBlankFrom 0 t → HasSummaries classes s 0 t
+summaries_none classes s t is size over fresh blank = record {
   is = is;
   size = size;
   over = over;
   fresh = fresh;
   flags = λ w lt. absurd (omega arith);
+  blank = blank;
 }
 
 pub summaries_more : (classes : List (List ℕ)) (s : StructureForm) (n : ℕ) (t new : StructureForm) (on : Bool)
@@ -206,6 +232,7 @@ summaries_more classes s n t new on have lt e is is_on = record {
   over = ap arities_of e ∙ have.over;
   fresh = ap (λ (x : StructureForm). x.fresh) e ∙ have.fresh;
   flags = λ w below. at w below (cases_eq w n);
+  blank = λ pred past tuple. ap (λ x. value_at x pred tuple) e ∙ have.blank pred past tuple;
 }
   where
     one : WritesOneSummary t n on

@@ -83,6 +83,16 @@ pub no_values : (values : List K3) (w : ℕ) → get_or values w No ≡ No → g
     → values_to_next values w ≡ Equal
 no_values values w e f = rw (e, f) refl
 
+-- a predicate that is No at each individual tells nothing
+pub nowhere_adds : (s : StructureForm) (p : ℕ) (rises : List K3) → ((u : ℕ) → u < s.size → value_at s p (u ∷ []) ≡ No)
+    → length rises ≡ s.size - 1 → AddsRises (unary_row s p) (length rises) rises rises
+nowhere_adds s p rises none long =
+    adds_past (unary_row s p) 0 (length rises) rises rises (adds_none (unary_row s p) rises) (omega arith)
+    (λ w from lt. no_values (unary_row s p) w (no w (omega (arith, lt, long))) (no (w + 1) (omega (arith, lt, long))))
+  where
+    no : (u : ℕ) → u < s.size → get_or (unary_row s p) u No ≡ No
+    no u lt = get_or-unary_row s p u lt ∙ none u lt
+
 -- ---- one predicate after the other
 
 pub rises_none : (s : StructureForm) (rises : List K3) → rises ≡ replicate (s.size - 1) No → TellsRises [] s rises
@@ -181,6 +191,32 @@ greater_more preds more s u w greater =
     (canonical_name more (structure_of s) u) (canonical_name more (structure_of s) w)
     (length-map preds (λ q. value_at s q (u ∷ [])) ∙ sym (length-map preds (λ q. value_at s q (w ∷ []))))
     ∙ ap (λ o. ordering_then o (name_cmp (canonical_name more (structure_of s) u) (canonical_name more (structure_of s) w))) greater
+
+-- names that rise by their first values rise
+less_more : (preds more : List ℕ) (s : StructureForm) (u w : ℕ)
+    → name_cmp (canonical_name preds (structure_of s) u) (canonical_name preds (structure_of s) w) ≡ Less
+    → name_cmp (canonical_name (preds ++ more) (structure_of s) u) (canonical_name (preds ++ more) (structure_of s) w) ≡ Less
+less_more preds more s u w less =
+    ap (λ x. name_cmp x (canonical_name (preds ++ more) (structure_of s) w)) (map-append (λ q. value_at s q (u ∷ [])) preds more)
+    ∙ ap (name_cmp (canonical_name preds (structure_of s) u ++ canonical_name more (structure_of s) u))
+    (map-append (λ q. value_at s q (w ∷ [])) preds more)
+    ∙ cmp_append (canonical_name preds (structure_of s) u) (canonical_name preds (structure_of s) w)
+    (canonical_name more (structure_of s) u) (canonical_name more (structure_of s) w)
+    (length-map preds (λ q. value_at s q (u ∷ [])) ∙ sym (length-map preds (λ q. value_at s q (w ∷ []))))
+    ∙ ap (λ o. ordering_then o (name_cmp (canonical_name more (structure_of s) u) (canonical_name more (structure_of s) w))) less
+
+-- where all rise by the first predicates, they rise by all
+pub rises_enough : (flags : List Bool) (s : StructureForm) (rises : List K3) (n : ℕ) → TellsRises (kept_from 0 (take n flags)) s rises
+    → ((u : ℕ) → u < length rises → get_or rises u No ≢ No)
+    → (k : ℕ) → k + 1 < s.size
+    → name_cmp (canonical_name (kept_from 0 flags) (structure_of s) k) (canonical_name (kept_from 0 flags) (structure_of s) (k + 1)) ≡ Less
+rises_enough flags s rises n tells all k lt =
+    let first : List ℕ = kept_from 0 (take n flags)
+    in let more : List ℕ = kept_from (0 + length (take n flags)) (drop n flags)
+    in let whole : kept_from 0 flags ≡ first ++ more
+    = ap (kept_from 0) (sym (take-append-drop n flags)) ∙ kept_from_append 0 (take n flags) (drop n flags)
+    in ap (λ ps. name_cmp (canonical_name ps (structure_of s) k) (canonical_name ps (structure_of s) (k + 1))) whole
+    ∙ less_more first more s k (k + 1) (rises_all first s rises tells all k lt)
 
 -- where the values of the next predicate fall, names aren't in order
 pub falls_out : (preds : List Pred) (s : StructureForm) (p : ℕ) (pred : Pred) (old : List K3) → p < length preds

@@ -1,14 +1,16 @@
 -- Rows of joined values, one row or one class after the other.
 use Rattle.std.proofs.Common.{ℕ, refl, ⊎_elim, ◌≡◌, ◌≢◌, ◌⊎◌, ◌<◌, ◌≤◌, ◌+◌, inl, inr, List, [], ◌∷◌, get_or}
-use Rattle.std.proofs.Common.{set, length, sym, ap, subst, ◌∙◌, arith}
-use Rattle.std.specs.Prelude.{Any}
+use Rattle.std.proofs.Common.{set, length, replicate, false, nat_lt, ltb-false, sym, ap, subst, ◌∙◌, ◌-◌, ◌*◌, arith}
+use Rattle.std.specs.Prelude.{Any, Contains}
 use Rattle.std.proofs.lemmas.Bool.{cases_lt}
-use Rattle.std.proofs.lemmas.List.{get_or_default, get_or_past, length-set, get_or-set_same, get_or-set_other}
+use Rattle.std.proofs.lemmas.List.{get_or_default, get_or_past, length-set, get_or-set_same, get_or-set_other, set-get_or}
+use Rattle.std.proofs.lemmas.List.{get_or-replicate, length-replicate}
 use Rattle.std.proofs.lemmas.List.FromFn.{length-map-range_with_len, get_or-map-range_with_len}
 use Rattle.tv_kleene.specs.declared.K3.{K3}
 use Rattle.tv_kleene.specs.declared.K3.TheVariants.{No, Half, Yes}
 use Rattle.tv_kleene.specs.Kleene.{join_of}
-use Rattle.tv_row.specs.Bits.{paired}
+use Rattle.tv_row.specs.Bits.{greatest_in, paired}
+use Rattle.tv_row.proofs.Extremes.{any_possible}
 use Rattle.tv_row.proofs.WordOps.{length-paired, get_or-paired}
 use Rattle.tv_struct.specs.StructureForm.{StructureForm, value_at}
 use Rattle.tv_struct.specs.StructureRows.{row_at, unary_row}
@@ -84,6 +86,22 @@ joined_end s pred members n row are all v lt =
 pub record AreMerged (row : List K3) (classes : List (List ℕ)) (n : ℕ) (merged : List K3) : Type 0 where
   pub long : length merged ≡ length classes
   pub joins : (x : ℕ) → x < n → IsJoin (IsAmongMembers (λ u j. get_or row u No ≡ j) (class_at classes x)) (get_or merged x No)
+  pub rest : (x : ℕ) → n ≤ x → get_or merged x No ≡ No
+
+pub merged_start : (row : List K3) (classes : List (List ℕ)) (merged : List K3) → merged ≡ replicate (length classes) No
+    → AreMerged row classes 0 merged
+merged_start row classes merged is = record {
+  long = ap length is ∙ length-replicate (length classes) No;
+  joins = λ x lt. absurd (omega arith);
+  rest = λ x past. ap (λ r. get_or r x No) is
+      ∙ ⊎_elim (λ lt. get_or-replicate (length classes) x No No lt)
+      (λ end. get_or_past (replicate (length classes) No) x No (rw (length-replicate (length classes) No) end))
+      (cases_lt x (length classes));
+}
+
+-- writing No where No stands changes nothing
+pub put_none : (row : List K3) (w : ℕ) (k : K3) → k ≡ No → get_or row w No ≡ No → row ≡ set row w k
+put_none row w k is blank = sym (ap (set row w) (is ∙ sym blank) ∙ set-get_or row w No)
 
 pub merged_step : (row : List K3) (classes : List (List ℕ)) (n : ℕ) (merged next : List K3) (k : K3)
     → AreMerged row classes n merged → n < length classes → next ≡ set merged n k
@@ -92,6 +110,8 @@ pub merged_step : (row : List K3) (classes : List (List ℕ)) (n : ℕ) (merged 
 merged_step row classes n merged next k are within is join = record {
   long = ap length is ∙ length-set merged n k ∙ are.long;
   joins = λ x lt. at x lt (cases_lt x n);
+  rest = λ x past. ap (λ r. get_or r x No) is ∙ get_or-set_other merged n x k No (λ e. omega (arith, e, past))
+      ∙ are.rest x (omega (arith, past));
 }
   where
     at : (x : ℕ) → x < n + 1 → (x < n) ⊎ (n ≤ x)
@@ -105,6 +125,20 @@ merged_step row classes n merged next k are within is join = record {
         in let Q : ℕ → Type 0
         = λ y. IsJoin (IsAmongMembers (λ u j. get_or row u No ≡ j) (class_at classes y)) (get_or next y No)
         in subst Q last (subst P (sym (ap (λ r. get_or r n No) is ∙ get_or-set_same merged n k No (omega (arith, are.long)))) join)
+
+-- ---- one member
+
+pub joined-one : (row : List K3) (members : List ℕ) (k : K3) → 0 < length members → nat_lt 1 (length members) ≡ false
+    → k ≡ get_or row (get_or members 0 0) No → IsJoin (IsAmongMembers (λ u j. get_or row u No ≡ j) members) k
+joined-one row members k some single is = record {
+  above = λ j (u, has, at). inl (sym at ∙ ap (λ x. get_or row x No) (only u has) ∙ sym is);
+  least = λ l each. each k (get_or members 0 0, (0, some, get_or_default members 0 (get_or members 0 0) 0 some), sym is);
+}
+  where
+    only : (u : ℕ) → Contains members u → u ≡ get_or members 0 0
+    only u (i, lt, at) =
+        let first : 0 ≡ i = omega (arith, lt, ltb-false 1 (length members) single)
+        in sym at ∙ ap (λ x. get_or members x u) (sym first) ∙ get_or_default members 0 u 0 some
 
 -- ---- rows of No
 
@@ -125,3 +159,33 @@ joined-none row members none some = record {
       let first : ℕ = get_or members 0 0
       in each No (first, (0, some, get_or_default members 0 first 0 some), no_possible row none first);
 }
+
+-- ---- a word in which nothing is possible
+
+pub word_none : (word : List K3) (i : ℕ) → greatest_in word ≡ No → i < length word → get_or word i No ≡ No
+word_none word i none lt = at (get_or word i No) refl
+  where
+    some : (k : K3) → get_or word i No ≡ k → k ≢ No → ⊥
+    some k is other = (any_possible word).1 (i, k, lt, get_or_default word i k No lt ∙ is, other) none
+
+    at : (k : K3) → get_or word i No ≡ k → k ≡ No
+    at No is = refl
+    at Half is = absurd (some Half is (λ e. cc))
+    at Yes is = absurd (some Yes is (λ e. cc))
+
+-- the values up to the end of a word, where they are No before it
+pub none_more : (s : StructureForm) (p chunk : ℕ) (word : List K3) → greatest_in word ≡ No → length word ≡ 64
+    → ((i : ℕ) → i < 64 → 64 * chunk + i < s.size → get_or word i No ≡ value_at s p ((64 * chunk + i) ∷ []))
+    → ((u : ℕ) → u < 64 * chunk → u < s.size → value_at s p (u ∷ []) ≡ No)
+    → (u : ℕ) → u < 64 * (chunk + 1) → u < s.size → value_at s p (u ∷ []) ≡ No
+none_more s p chunk word none long values before u lt in_s = at (cases_lt u (64 * chunk))
+  where
+    at : (u < 64 * chunk) ⊎ (64 * chunk ≤ u) → value_at s p (u ∷ []) ≡ No
+    at (inl less) = before u less in_s
+    at (inr past) =
+        let i : ℕ = u - 64 * chunk
+        in let place : 64 * chunk + i ≡ u = omega (arith, past)
+        in let inside : i < 64 = omega (arith, past, lt)
+        in let P : ℕ → Type 0 = λ x. value_at s p (x ∷ []) ≡ No
+        in subst P place
+        (sym (values i inside (omega (arith, place, in_s))) ∙ word_none word i none (omega (arith, inside, long)))

@@ -38,6 +38,14 @@ pub record ChangesOnly (pred : ℕ) (old new : StructureForm) : Type 0 where
   pub fresh : new.fresh ≡ old.fresh
   pub others : (q : ℕ) (tuple : List ℕ) → q ≢ pred → value_at new q tuple ≡ value_at old q tuple
 
+-- the predicate is No everywhere
+abbrev pub IsBlank : (pred : ℕ) → StructureForm → Type 0
+IsBlank pred t = (tuple : List ℕ) → value_at t pred tuple ≡ No
+
+-- and so are all predicates from number n on
+abbrev pub IsBlankFrom : (n : ℕ) → StructureForm → Type 0
+IsBlankFrom n t = (pred : ℕ) → n ≤ pred → IsBlank pred t
+
 -- the predicate has merged values in t
 abbrev pub HasMergedValues : (classes : List (List ℕ)) → (s : StructureForm) → (pred : ℕ)
     → (t : StructureForm) → Type 0

@@ -13,6 +13,7 @@ ghost use Rattle.tv_blur.specs.Blur.{FollowsNames, IsBlurred};
 
 use crate::classes::tells_apart;
 use crate::names::compare_value;
+use crate::nowhere::is_nowhere;
 use std::cmp::Ordering;
 use tv_kleene::K3;
 use tv_model::{Pred, PredId, Vocab};
@@ -92,11 +93,14 @@ fn add_pred(rises: &mut Row, s: &Structure, p: u32, pred: &Pred) -> bool
     if !tells_apart(pred) {
         return true;
     }
+    if is_nowhere(s, PredId(p)) {
+        return true;
+    }
     add_rises(rises, &s.unary_row(PredId(p)))
 }
 
 /// Whether the individuals have different names and stand in their order. Names are compared predicate by
-/// predicate, each at all neighbours.
+/// predicate, each at all neighbours, until all are told apart.
 fn are_ascending(vocab: &Vocab, s: &Structure) -> bool
     requires { IsOver vocab.now s.now }
     ensures { IsTrue result
@@ -110,6 +114,9 @@ fn are_ascending(vocab: &Vocab, s: &Structure) -> bool
     for (p, pred) in vocab.preds.as_slice().iter().enumerate() {
         if !add_pred(&mut rises, s, p as u32, pred) {
             return false;
+        }
+        if rises.are_possible() {
+            return true;
         }
     }
     rises.are_possible()

@@ -98,6 +98,19 @@ fn is_below(names: &CanonicalNames, u: u32, w: u32) -> bool
     }
 }
 
+/// The place to look at next: the last of all at first, so that individuals that stand in the order of their
+/// names are placed by one look each, and else the one in the middle.
+fn next_look(low: usize, high: usize, count: usize) -> usize
+    requires { low < high }
+    ensures from { low ≤ result }
+    ensures below { result < high }
+{
+    if high == count {
+        return high - 1;
+    }
+    low + (high - low) / 2
+}
+
 /// How many classes have a name below that of the individual.
 fn place_for(names: &CanonicalNames, classes: &[Class], u: u32) -> usize
     requires names { HoldsNames names.now }
@@ -112,7 +125,7 @@ fn place_for(names: &CanonicalNames, classes: &[Class], u: u32) -> usize
     let mut low = 0;
     let mut high = classes.len();
     while low < high {
-        let middle = low + (high - low) / 2;
+        let middle = next_look(low, high, classes.len());
         if is_below(names, classes[middle].first(), u) {
             low = middle + 1;
         } else {

@@ -9,6 +9,7 @@ mod classes;
 mod laws;
 mod merge;
 mod names;
+mod nowhere;
 mod values;
 
 pub use ascending::is_blurred;

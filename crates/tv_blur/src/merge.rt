@@ -4,9 +4,11 @@ ghost use Rattle.std.specs.Prelude.{◌≡◌, ◌<◌, ℕ, None, All, length, 
 ghost use Rattle.tv_struct.specs.StructureForm.{IsStructure, arities_of, summary_at};
 ghost use Rattle.tv_struct.specs.StructureRows.{HasArity};
 ghost use Rattle.tv_blur.specs.Classes.{AreClasses, ChangesOnly, HasMergedValues, HasMerged};
+ghost use Rattle.tv_blur.specs.Classes.{IsBlank, IsBlankFrom};
 ghost use Rattle.tv_blur.specs.Classes.{is_merged_summary, class_at};
 
 use crate::class::Class;
+use crate::nowhere::is_nowhere;
 use crate::values::{joined_rows, merged_row};
 use std::alloc::{AllocError, Global};
 use tv_model::PredId;
@@ -29,7 +31,9 @@ fn put_summaries(t: &mut Structure, s: &Structure, classes: &[Class])
     requires size { t.old.size ≡ length classes.now }
     requires over { arities_of t.old ≡ arities_of s.now }
     requires fresh { t.old.fresh ≡ None }
-    ensures { HasMerged classes.now s.now 0 t.new }
+    requires blank { IsBlankFrom 0 t.old }
+    ensures merged { HasMerged classes.now s.now 0 t.new }
+    ensures blank { IsBlankFrom 0 t.new }
 {
     let _ = t.size();
     for (w, members) in classes.iter().enumerate() {
@@ -48,6 +52,7 @@ fn is_summary(s: &Structure, members: &Class) -> bool
 fn put_all(t: &mut Structure, s: &Structure, classes: &[Class])
     requires classes { AreClasses s.now classes.now }
     requires merged { HasMerged classes.now s.now 0 t.old }
+    requires blank { IsBlankFrom 0 t.old }
     ensures merged { HasMerged classes.now s.now (length (arities_of s.now)) t.new }
     ensures kept { IsStructure t.new }
 {
@@ -62,6 +67,7 @@ fn put_values(t: &mut Structure, s: &Structure, classes: &[Class], p: PredId)
     requires size { t.old.size ≡ length classes.now }
     requires over { arities_of t.old ≡ arities_of s.now }
     requires pred { p.0 < length (arities_of s.now) }
+    requires blank { IsBlank p.0 t.old }
     ensures changes { ChangesOnly p.0 t.old t.new }
     ensures values { HasMergedValues classes.now s.now p.0 t.new }
 {
@@ -87,9 +93,14 @@ fn put_row(t: &mut Structure, s: &Structure, classes: &[Class], p: PredId)
     requires size { t.old.size ≡ length classes.now }
     requires over { arities_of t.old ≡ arities_of s.now }
     requires arity { HasArity s.now p.0 1 }
+    requires blank { IsBlank p.0 t.old }
     ensures changes { ChangesOnly p.0 t.old t.new }
     ensures values { HasMergedValues classes.now s.now p.0 t.new }
 {
+    let _ = t.size();
+    if is_nowhere(s, p) {
+        return;
+    }
     let row = s.unary_row(p);
     t.set_unary_row(p, &merged_row(&row, classes));
 }

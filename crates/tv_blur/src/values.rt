@@ -1,6 +1,6 @@
 //! Joined rows of merged individuals.
 
-ghost use Rattle.std.specs.Prelude.{◌≡◌, ◌<◌, ◌≤◌, ℕ, [], ◌∷◌, length, All, slice_index_or};
+ghost use Rattle.std.specs.Prelude.{◌≡◌, ◌<◌, ◌≤◌, ℕ, [], ◌∷◌, length, All, slice_index_or, slice_set};
 ghost use Rattle.tv_kleene.specs.declared.K3.TheVariants.{No};
 ghost use Rattle.tv_struct.specs.StructureForm.{value_at};
 ghost use Rattle.tv_struct.specs.StructureRows.{HasArity};
@@ -32,6 +32,32 @@ pub fn joined_rows(s: &Structure, p: PredId, members: &Class) -> Row
     joined
 }
 
+/// The join of the row's values at the members.
+#[inline(always)]
+fn value_of(row: &Row, members: &Class) -> K3
+    requires some { 0 < length members.now }
+    requires within { All (λ u. u < length row.now) members.now }
+    ensures { IsJoin (IsAmongMembers (λ u j. slice_index_or row.now u No ≡ j) members.now) result }
+{
+    if members.has_several() {
+        return members.joined(row);
+    }
+    row.get(members.first())
+}
+
+/// Puts the value where the row has `No`.
+#[inline(always)]
+fn put_value(row: &mut Row, w: u32, k: K3)
+    requires place { w < length row.old }
+    requires blank { slice_index_or row.old w No ≡ No }
+    ensures { row.new ≡ slice_set row.old w k }
+{
+    match k {
+        K3::No => {}
+        K3::Half | K3::Yes => row.set(w, k),
+    }
+}
+
 /// For each class, the join of the row's values at its members.
 pub fn merged_row(row: &Row, classes: &[Class]) -> Row
     requires few { length classes.now ≤ 256 }
@@ -47,7 +73,7 @@ pub fn merged_row(row: &Row, classes: &[Class]) -> Row
         return merged;
     }
     for (w, members) in classes.iter().enumerate() {
-        merged.set(w as u32, members.joined(row));
+        put_value(&mut merged, w as u32, value_of(row, members));
     }
     merged
 }

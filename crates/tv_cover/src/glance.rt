@@ -79,7 +79,11 @@ fn value_near(s: &Structure, u: u32, p: PredId) -> K3
     requires individual { u < s.now.size }
     ensures { result ≡ value_near s.now u p.0 }
 {
-    value_or_no(s, p, Tuple::One(u)).or(value_or_no(s, p, Tuple::Two(u, u)))
+    match s.arity(p) {
+        0 => K3::No,
+        1 => s.get(p, Tuple::One(u)),
+        _ => s.get(p, Tuple::Two(u, u)),
+    }
 }
 
 /// What is said of no individual.

@@ -66,6 +66,9 @@ impl Profile {
         requires { chunks ≤ 4 }
         ensures { LieUnder self.now other.now → IsTrue result }
     {
+        if chunks == 1 {
+            return is_under(self.row.word(0), other.row.word(0));
+        }
         for chunk in 0..chunks {
             if !is_under(self.row.word(chunk), other.row.word(chunk)) {
                 return false;

@@ -14,6 +14,11 @@ ValueFits small large pred below above =
 abbrev pub TupleFits : (small large : StructureForm) → (below above : List ℕ) → Type 0
 TupleFits small large below above = (pred : ℕ) → ValueFits small large pred below above
 
+-- so has it at u, where it is unary, and at the pair of u with itself, where it is binary
+abbrev pub ValueNearFits : (small large : StructureForm) → (pred u w : ℕ) → Type 0
+ValueNearFits small large pred u w =
+    ValueFits small large pred (u ∷ []) (w ∷ []) × ValueFits small large pred (u ∷ u ∷ []) (w ∷ w ∷ [])
+
 -- u may go to w, as far as u alone is concerned
 pub record IsCandidate (small large : StructureForm) (u w : ℕ) : Type 0 where
   pub summary : IsTrue (summary_at small u) → IsTrue (summary_at large w)
@@ -30,6 +35,13 @@ pub record PairFits (small large : StructureForm) (u w x y : ℕ) : Type 0 where
 abbrev pub JoinsUp : (small large : StructureForm) → (images : List ℕ) → (w : ℕ) → Type 0
 JoinsUp small large images w =
     (x : ℕ) → x < length images → PairFits small large (length images) w x (image_of images x)
+
+-- as far as the values of one predicate say
+abbrev pub ValuesJoinUp : (small large : StructureForm) → (images : List ℕ) → (w pred : ℕ) → Type 0
+ValuesJoinUp small large images w pred =
+    (x : ℕ) → x < length images
+    → ValueFits small large pred (length images ∷ x ∷ []) (w ∷ image_of images x ∷ [])
+    × ValueFits small large pred (x ∷ length images ∷ []) (image_of images x ∷ w ∷ [])
 
 -- the first individuals go to their images as in an embedding, as far as they alone are concerned
 pub record FitsSoFar (small large : StructureForm) (images : List ℕ) : Type 0 where

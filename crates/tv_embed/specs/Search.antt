@@ -1,10 +1,12 @@
 -- The search for the least embedding: maps of the first individuals, and what follows from them.
 use Rattle.std.specs.Prelude.{ℕ, ◌≡◌, ◌<◌, ◌≤◌, ◌+◌, zero, suc, Bool, ◌==◌, if◌then◌else◌, List, All}
 use Rattle.std.specs.Prelude.{AllPairs, Contains, length, take, IsTrue, MatchBool, slice_index}
-use Rattle.std.specs.Prelude.{slice_index_or, []}
+use Rattle.std.specs.Prelude.{slice_index_or, ◌≢◌, []}
 use Rattle.std.specs.List.{list_any}
 use Rattle.std.specs.Ordering.{nat_cmp, is_le}
 use Rattle.std.specs.Cmp.Lexicographic.{slice_cmp}
+use Rattle.tv_kleene.specs.declared.K3.{K3}
+use Rattle.tv_kleene.specs.declared.K3.TheVariants.{No}
 use Rattle.tv_struct.specs.StructureForm.{StructureForm}
 use Rattle.tv_embed.specs.Maps.{IsEmbedding}
 use Rattle.tv_embed.specs.Fits.{IsCandidate}
@@ -30,6 +32,11 @@ abbrev pub IsSearched : (small large : StructureForm) → (front old : List ℕ)
     → Type 0
 IsSearched small large front old found new =
     MatchBool found (IsLeastWith small large front new) (HasNoneWith small large front × (new ≡ old))
+
+-- the row has a value for each individual of large, and none of the candidates of u has No
+pub record AllowsAll (small large : StructureForm) (u : ℕ) (row : List K3) : Type 0 where
+  pub long : length row ≡ large.size
+  pub each : (w : ℕ) → w < large.size → IsCandidate small large u w → slice_index_or row w No ≢ No
 
 -- the candidates of u among the first n individuals of large, in ascending order
 pub record AreCandidates (small large : StructureForm) (u n : ℕ) (list : List ℕ) : Type 0 where

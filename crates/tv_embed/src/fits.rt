@@ -2,10 +2,12 @@
 
 ghost use Rattle.std.specs.Prelude.{◌≡◌, ◌<◌, ◌↔◌, ℕ, List, [], ◌∷◌, length, Some, slice_get, IsTrue};
 ghost use Rattle.std.specs.Prelude.{Contains};
+ghost use Rattle.std.specs.Bool.{OnFalse};
 ghost use Rattle.tv_struct.specs.StructureForm.{StructureForm, arities_of, summary_at};
 ghost use Rattle.tv_struct.specs.TableForm.{AreIndividuals};
 ghost use Rattle.tv_struct.specs.TupleForm.{tuple_of};
-ghost use Rattle.tv_embed.specs.Fits.{ValueFits, TupleFits, IsCandidate, PairFits, JoinsUp};
+ghost use Rattle.tv_embed.specs.Fits.{ValueFits, TupleFits, IsCandidate, JoinsUp, ValueNearFits};
+ghost use Rattle.tv_embed.specs.Fits.{ValuesJoinUp};
 ghost use Rattle.tv_embed.specs.Maps.{image_of};
 
 use crate::maps::is_image;
@@ -52,6 +54,40 @@ pub fn tuple_fits(small: &Structure, large: &Structure, below: Tuple, above: Tup
     true
 }
 
+/// Whether the predicate's value at `u`, or at the pair of `u` with itself, lies under that of `w`.
+fn value_near_fits(small: &Structure, large: &Structure, p: PredId, u: u32, w: u32) -> bool
+    requires vocabulary { arities_of small.now ≡ arities_of large.now }
+    requires pred { p.0 < length (arities_of small.now) }
+    requires in_small { u < small.now.size }
+    requires in_large { w < large.now.size }
+    ensures { IsTrue result ↔ ValueNearFits small.now large.now p.0 u w }
+{
+    match small.arity(p) {
+        0 => true,
+        1 => small
+            .get(p, Tuple::One(u))
+            .under(large.get(p, Tuple::One(w))),
+        _ => small
+            .get(p, Tuple::Two(u, u))
+            .under(large.get(p, Tuple::Two(w, w))),
+    }
+}
+
+/// The same of each predicate.
+fn values_near_fit(small: &Structure, large: &Structure, u: u32, w: u32) -> bool
+    requires vocabulary { arities_of small.now ≡ arities_of large.now }
+    requires in_small { u < small.now.size }
+    requires in_large { w < large.now.size }
+    ensures { IsTrue result ↔ ((p : ℕ) → ValueNearFits small.now large.now p u w) }
+{
+    for p in 0..small.pred_count() {
+        if !value_near_fits(small, large, PredId(p), u, w) {
+            return false;
+        }
+    }
+    true
+}
+
 /// Whether the individual `u` may go to `w`, as far as `u` alone is concerned.
 pub fn is_candidate(small: &Structure, large: &Structure, u: u32, w: u32) -> bool
     requires vocabulary { arities_of small.now ≡ arities_of large.now }
@@ -59,22 +95,36 @@ pub fn is_candidate(small: &Structure, large: &Structure, u: u32, w: u32) -> boo
     requires in_large { w < large.now.size }
     ensures { IsTrue result ↔ IsCandidate small.now large.now u w }
 {
-    (!small.summary(u) || large.summary(w))
-        && tuple_fits(small, large, Tuple::One(u), Tuple::One(w))
-        && tuple_fits(small, large, Tuple::Two(u, u), Tuple::Two(w, w))
+    (!small.summary(u) || large.summary(w)) && values_near_fit(small, large, u, w)
 }
 
-fn pair_fits(small: &Structure, large: &Structure, u: u32, w: u32, x: u32, y: u32) -> bool
+/// Whether the predicate's values allow that the next individual goes to `w` while those before it go to their
+/// images.
+fn values_join_up(small: &Structure, large: &Structure, images: &[u32], w: u32, p: PredId) -> bool
     requires vocabulary { arities_of small.now ≡ arities_of large.now }
-    requires u { u < small.now.size }
-    requires w { w < large.now.size }
-    requires x { x < small.now.size }
-    requires y { y < large.now.size }
-    ensures { IsTrue result ↔ PairFits small.now large.now u w x y }
+    requires pred { p.0 < length (arities_of small.now) }
+    requires next { length images.now < small.now.size }
+    requires within { (u : ℕ) → u < length images.now → image_of images.now u < large.now.size }
+    requires in_large { w < large.now.size }
+    ensures { IsTrue result ↔ ValuesJoinUp small.now large.now images.now w p.0 }
 {
-    (w != y || large.summary(w))
-        && tuple_fits(small, large, Tuple::Two(u, x), Tuple::Two(w, y))
-        && tuple_fits(small, large, Tuple::Two(x, u), Tuple::Two(y, w))
+    if small.arity(p) != 2 {
+        return true;
+    }
+    let _ = small.size();
+    let u = images.len() as u32;
+    let below = small.row(p, u);
+    let above = large.row(p, w);
+    for (x, y) in images.iter().enumerate() {
+        if !below.get(x as u32).under(above.get(*y)) {
+            return false;
+        }
+        let back = small.get(p, Tuple::Two(x as u32, u));
+        if !back.under(large.get(p, Tuple::Two(*y, w))) {
+            return false;
+        }
+    }
+    true
 }
 
 /// Whether the next individual may go to `w` while those before it go to their images.
@@ -88,10 +138,8 @@ pub fn joins_up(small: &Structure, large: &Structure, images: &[u32], w: u32) ->
     if is_taken(large, images, w) {
         return false;
     }
-    let _ = small.size();
-    let u = images.len() as u32;
-    for (x, y) in images.iter().enumerate() {
-        if !pair_fits(small, large, u, w, x as u32, *y) {
+    for p in 0..small.pred_count() {
+        if !values_join_up(small, large, images, w, PredId(p)) {
             return false;
         }
     }
@@ -103,6 +151,7 @@ fn is_taken(large: &Structure, images: &[u32], w: u32) -> bool
     requires { w < large.now.size }
     ensures image { IsTrue result → Contains images.now w }
     ensures ordinary { IsTrue result → ¬ IsTrue (summary_at large.now w) }
+    ensures free { Contains images.now w → OnFalse result (IsTrue (summary_at large.now w)) }
 {
     !large.summary(w) && is_image(images, w)
 }

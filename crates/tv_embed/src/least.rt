@@ -38,7 +38,9 @@ pub fn find(
     if !may_reach_all(small, large, &[]) {
         return Ok(None);
     }
-    let candidates = all_candidates(alloc, small, large)?;
+    let Some(candidates) = all_candidates(alloc, small, large)? else {
+        return Ok(None);
+    };
     let bounds = bounds(alloc, small, large, &candidates)?;
     let mut images = Vec::with_capacity(alloc, candidates.len())?;
     if search(small, large, &candidates, &bounds, &mut images)? {

@@ -1,5 +1,5 @@
 -- What two structures have in common, as rows tell, and the rules that see no difference.
-use Rattle.std.proofs.Common.{ℕ, ◌≡◌, ◌≢◌, ◌∙◌, ◌<◌, ◌≤◌, ◌+◌, Bool, true, false, List, [], ◌∷◌, ◌++◌, length}
+use Rattle.std.proofs.Common.{ℕ, ◌≡◌, ◌≢◌, ◌∙◌, ◌<◌, ◌≤◌, ◌+◌, ◌-◌, ◌*◌, ◌⊎◌, Bool, true, false, List, [], ◌∷◌, ◌++◌, length}
 use Rattle.std.proofs.Common.{map, take, Option, None, Some, inl, inr, ⊎_elim, refl, sym, ap, subst, arith}
 use Rattle.std.proofs.Common.{add-one, append_assoc, get_or, slice_get, replicate, Contains}
 use Rattle.std.specs.List.{range_with_len}
@@ -9,6 +9,7 @@ use Rattle.std.proofs.lemmas.List.Elements.{All-contains}
 use Rattle.std.proofs.lemmas.List.FromFn.{get_or-map-range_with_len}
 use Rattle.std.proofs.lemmas.Option.{slice_get_within, slice_get-get_or}
 use Rattle.std.proofs.Math.Seq.{take-suc}
+use Rattle.tv_kleene.specs.declared.K3.{K3}
 use Rattle.tv_kleene.specs.declared.K3.TheVariants.{No}
 use Rattle.tv_model.specs.declared.formula.PredId.{PredId}
 use Rattle.tv_model.specs.Program.{ProgramForm, RuleForm}
@@ -23,10 +24,10 @@ use Rattle.tv_coerce_laws.specs.Split.{IsUntouched}
 use Rattle.tv_coerce_laws.proofs.Untouched.{untouched_rules_stay_stable}
 use Rattle.tv_struct.specs.TableForm.{AreIndividuals}
 use Rattle.tv_struct.specs.StructureForm.{StructureForm, structure_of, arities_of, value_at, summary_at}
-use Rattle.tv_struct.specs.StructureRows.{HasArity, unary_row, row_at, summary_row, flag_value}
+use Rattle.tv_struct.specs.StructureRows.{HasArity, summary_row, flag_value}
 use Rattle.tv_struct.proofs.Library.{AreIndividuals-range, Contains-range, below-range, fits_or_No}
 use Rattle.tv_coerce.specs.RuleSets.{IsIn, IsStableBut, HasMore, IsRuleThat}
-use Rattle.tv_step.specs.Changed.{AreAlike, AreAlikeBut, HasSameValues, IsFew, WaitsAmong, set_of}
+use Rattle.tv_step.specs.Changed.{AreAlike, AreAlikeBut, HasSameRow, HasSameValues, IsFew, WaitsAmong, set_of}
 use Rattle.tv_step.specs.Setting.{IsStableIn}
 
 -- ---- summaries
@@ -75,32 +76,24 @@ same-nullary s t pred over arity same = by-arity s t pred 0 over arity each
     each (u ∷ us) e within = absurd (omega (arith, e))
 
 pub same-unary : (s t : StructureForm) (pred : ℕ) → arities_of s ≡ arities_of t → HasArity s pred 1
-    → s.size ≡ t.size → unary_row s pred ≡ unary_row t pred → HasSameValues pred s t
-same-unary s t pred over arity size same = by-arity s t pred 1 over arity each
+    → ((u : ℕ) → u < s.size → value_at s pred (u ∷ []) ≡ value_at t pred (u ∷ [])) → HasSameValues pred s t
+same-unary s t pred over arity same = by-arity s t pred 1 over arity each
   where
     each : (tuple : List ℕ) → length tuple ≡ 1 → AreIndividuals s.size tuple
         → value_at s pred tuple ≡ value_at t pred tuple
     each [] e within = absurd (omega (arith, e))
-    each (u ∷ []) e (lt, rest) =
-        sym (get_or-map-range_with_len (λ w. value_at s pred (w ∷ [])) 0 s.size u u No lt (omega arith))
-        ∙ ap (λ row. get_or row u No) same
-        ∙ get_or-map-range_with_len (λ w. value_at t pred (w ∷ [])) 0 t.size u u No (omega (arith, lt, size))
-        (omega arith)
+    each (u ∷ []) e (lt, rest) = same u lt
     each (u ∷ w ∷ us) e within = absurd (omega (arith, e))
 
 pub same-binary : (s t : StructureForm) (pred : ℕ) → arities_of s ≡ arities_of t → HasArity s pred 2
-    → s.size ≡ t.size → ((u : ℕ) → u < s.size → row_at s pred u ≡ row_at t pred u) → HasSameValues pred s t
-same-binary s t pred over arity size same = by-arity s t pred 2 over arity each
+    → ((u : ℕ) → u < s.size → HasSameRow pred u s t) → HasSameValues pred s t
+same-binary s t pred over arity same = by-arity s t pred 2 over arity each
   where
     each : (tuple : List ℕ) → length tuple ≡ 2 → AreIndividuals s.size tuple
         → value_at s pred tuple ≡ value_at t pred tuple
     each [] e within = absurd (omega (arith, e))
     each (u ∷ []) e within = absurd (omega (arith, e))
-    each (u ∷ w ∷ []) e (lt, later) =
-        sym (get_or-map-range_with_len (λ x. value_at s pred (u ∷ x ∷ [])) 0 s.size w w No later.0 (omega arith))
-        ∙ ap (λ row. get_or row w No) (same u lt)
-        ∙ get_or-map-range_with_len (λ x. value_at t pred (u ∷ x ∷ [])) 0 t.size w w No
-        (omega (arith, later.0, size)) (omega arith)
+    each (u ∷ w ∷ []) e (lt, later) = same u lt w later.0
     each (u ∷ w ∷ x ∷ us) e within = absurd (omega (arith, e))
 
 -- past the last predicate there are no values
@@ -117,13 +110,31 @@ same-past s t pred over past tuple within =
     ∙ sym (past-all t pred (subst (λ arities. length arities ≤ pred) over past) tuple)
 
 -- one row more
-pub next-row : (s t : StructureForm) (pred u : ℕ) → ((k : ℕ) → k < u → row_at s pred k ≡ row_at t pred k)
-    → row_at s pred u ≡ row_at t pred u → (k : ℕ) → k < u + 1 → row_at s pred k ≡ row_at t pred k
+pub next-row : (s t : StructureForm) (pred u : ℕ) → ((k : ℕ) → k < u → HasSameRow pred k s t) → HasSameRow pred u s t
+    → (k : ℕ) → k < u + 1 → HasSameRow pred k s t
 next-row s t pred u before here k lt =
     ⊎_elim (λ below. before k below)
     (λ past. let same : k ≡ u = omega (arith, lt, past)
-    in subst (λ x. row_at s pred x ≡ row_at t pred x) (sym same) here)
+    in subst (λ x. HasSameRow pred x s t) (sym same) here)
     (cases_lt k u)
+
+-- one word more
+pub next-word : (n chunk : ℕ) (values others : ℕ → K3) (word other : List K3) → word ≡ other
+    → ((i : ℕ) → i < 64 → 64 * chunk + i < n → get_or word i No ≡ values (64 * chunk + i))
+    → ((i : ℕ) → i < 64 → 64 * chunk + i < n → get_or other i No ≡ others (64 * chunk + i))
+    → ((u : ℕ) → u < 64 * chunk → u < n → values u ≡ others u)
+    → (u : ℕ) → u < 64 * (chunk + 1) → u < n → values u ≡ others u
+next-word n chunk values others word other same left right before u lt within = at (cases_lt u (64 * chunk))
+  where
+    at : (u < 64 * chunk) ⊎ (64 * chunk ≤ u) → values u ≡ others u
+    at (inl less) = before u less within
+    at (inr past) =
+        let i : ℕ = u - 64 * chunk
+        in let place : 64 * chunk + i ≡ u = omega (arith, past)
+        in let inside : i < 64 = omega (arith, past, lt)
+        in subst (λ x. values x ≡ others x) place
+        (sym (left i inside (omega (arith, place, within))) ∙ ap (λ w. get_or w i No) same
+        ∙ right i inside (omega (arith, place, within)))
 
 -- alike structures differ in their predicates alone
 pub alike-anywhere : (s t : StructureForm) → arities_of s ≡ arities_of t → AreAlike s t

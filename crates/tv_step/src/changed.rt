@@ -1,7 +1,7 @@
 //! The rules that may be unmet in a structure that came of a stable one over the same individuals: those
 //! about a predicate whose values differ.
 
-ghost use Rattle.std.specs.Prelude.{◌≡◌, ◌++◌, ◌∷◌, [], ℕ, List, length, map, Some, slice_get, IfOk, IsTrue};
+ghost use Rattle.std.specs.Prelude.{◌≡◌, ◌<◌, ◌++◌, ◌∷◌, [], ℕ, List, length, map, Some, slice_get, IfOk, IsTrue};
 ghost use Rattle.std.specs.List.{range_with_len};
 ghost use Rattle.tv_coerce.specs.RuleSets.{IsStableBut};
 ghost use Rattle.tv_model.specs.Program.{RuleForm};
@@ -11,14 +11,16 @@ ghost use Rattle.tv_rules.specs.EntryForms.{rules_of};
 ghost use Rattle.tv_rules.specs.Standing.{StandsIn};
 ghost use Rattle.tv_struct.specs.StructureForm.{arities_of};
 ghost use Rattle.tv_struct.specs.StructureRows.{HasArity};
-ghost use Rattle.tv_step.specs.Changed.{AreAlike, DiffersWithin, HasSameValues, IsFew, WaitsAmong, set_of};
+ghost use Rattle.tv_step.specs.Changed.{AreAlike, DiffersWithin, HasSameRow, HasSameValues, IsFew, WaitsAmong, set_of};
 ghost use Rattle.tv_step.specs.Setting.{form_in, IsStableIn};
 
 use crate::setting::Setting;
 use std::alloc::AllocError;
+use std::cmp::Ordering;
 use tv_coerce::RuleSet;
 use tv_kleene::K3;
 use tv_model::{PredId, Update};
+use tv_row::Word;
 use tv_rules::Closed;
 use tv_struct::{Structure, Tuple};
 
@@ -61,7 +63,19 @@ fn has_same_value(s: &Structure, t: &Structure, p: PredId) -> bool
     is_same(s.get(p, Tuple::Zero), t.get(p, Tuple::Zero))
 }
 
+/// Whether the words have the same values.
+#[inline(always)]
+fn are_equal(word: Word, other: Word) -> bool
+    ensures { IsTrue result → word ≡ other }
+{
+    match word.compare(other) {
+        Ordering::Equal => true,
+        Ordering::Less | Ordering::Greater => false,
+    }
+}
+
 /// Whether the unary predicate has the same values in both.
+#[inline(always)]
 fn has_same_row(s: &Structure, t: &Structure, p: PredId) -> bool
     requires size { s.now.size ≡ t.now.size }
     requires over { arities_of s.now ≡ arities_of t.now }
@@ -69,7 +83,28 @@ fn has_same_row(s: &Structure, t: &Structure, p: PredId) -> bool
     requires other { HasArity t.now p.0 1 }
     ensures { IsTrue result → HasSameValues p.0 s.now t.now }
 {
-    s.unary_row(p).equals(&t.unary_row(p))
+    for chunk in 0..s.size().div_ceil(64) {
+        if !are_equal(s.unary_word(p, chunk), t.unary_word(p, chunk)) {
+            return false;
+        }
+    }
+    true
+}
+
+/// Whether the binary predicate has the same values in both at the pairs with first member `u`.
+fn has_same_row_at(s: &Structure, t: &Structure, p: PredId, u: u32) -> bool
+    requires size { s.now.size ≡ t.now.size }
+    requires one { HasArity s.now p.0 2 }
+    requires other { HasArity t.now p.0 2 }
+    requires individual { u < s.now.size }
+    ensures { IsTrue result → HasSameRow p.0 u s.now t.now }
+{
+    for chunk in 0..s.size().div_ceil(64) {
+        if !are_equal(s.word(p, u, chunk), t.word(p, u, chunk)) {
+            return false;
+        }
+    }
+    true
 }
 
 /// Whether the binary predicate has the same values in both.
@@ -81,7 +116,7 @@ fn has_same_rows(s: &Structure, t: &Structure, p: PredId) -> bool
     ensures { IsTrue result → HasSameValues p.0 s.now t.now }
 {
     for u in 0..s.size() {
-        if !s.row(p, u).equals(&t.row(p, u)) {
+        if !has_same_row_at(s, t, p, u) {
             return false;
         }
     }
@@ -126,6 +161,7 @@ fn set_or_none(x: &Setting, found: Option<RuleSet>) -> Result<RuleSet, AllocErro
 }
 
 /// The rules found so far and those in which the predicate stands, unless its values are the same.
+#[inline(always)]
 fn with_changed(
     x: &Setting,
     from: &Structure,

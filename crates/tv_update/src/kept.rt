@@ -1,6 +1,7 @@
 //! Choices of the individuals that stay.
 
-ghost use Rattle.std.specs.Prelude.{◌≡◌, ◌≤◌, ◌++◌, ◌∷◌, [], length, map, IfOk, OnOk};
+ghost use Rattle.std.specs.Prelude.{◌≡◌, ◌≤◌, ◌++◌, ◌∷◌, [], length, map, All, IfOk, IsTrue, OnOk};
+ghost use Rattle.tv_kleene.specs.declared.K3.TheVariants.{Yes};
 ghost use Rattle.tv_struct.specs.Halves.{row_halves};
 ghost use Rattle.tv_update.specs.Kept.{flag_choices};
 
@@ -78,6 +79,18 @@ fn push_with(
     Ok(())
 }
 
+/// Whether all individuals stay.
+fn are_yes(values: &[K3]) -> bool
+    ensures { IsTrue result → All (λ k. k ≡ Yes) values.now }
+{
+    for k in values {
+        if *k != K3::Yes {
+            return false;
+        }
+    }
+    true
+}
+
 /// The choices of the individuals that stay, by the values of the retain formula: `Yes` stays and
 /// `No` is dropped; at `Half` either may be, dropped before kept. They come in the lexicographic
 /// order of the individuals.
@@ -85,6 +98,10 @@ pub fn choices(alloc: Global, values: &[K3]) -> Result<Vec<StayFlags>, AllocErro
     ensures { IfOk result (λ choices. choices.items ≡ flag_choices values.now) }
 {
     let mut out = Vec::new(alloc);
+    if are_yes(values) {
+        out.push(StayFlags::from_vec(vec![in alloc; true; values.len()]?))?;
+        return Ok(out);
+    }
     let mut begun = Vec::new(alloc);
     push_choices(alloc, values, &mut begun, &mut out)?;
     Ok(out)

@@ -80,6 +80,10 @@ pub fn finish_whole(
         (replicate t.old.size true ∷ []) (t.new ∷ [])) }
     ensures scratch { scratch.new ≡ scratch.old }
 {
+    let _ = t.size();
+    if order.is_empty() {
+        return Ok(());
+    }
     let mut rows = Rows::new(alloc, t.size());
     define_all(program, order, t, &mut rows, scratch)?;
     let _ = t.size();

@@ -1,9 +1,9 @@
-use Rattle.std.proofs.Common.{◌≡◌, ◌∙◌, length, ap, sym, arith}
+use Rattle.std.proofs.Common.{◌≡◌, ◌∙◌, true, length, ap, sym, arith}
 use Rattle.tv_struct.specs.StructureRows.{unary_row}
 use Rattle.tv_blur.specs.Names.{is_abstraction}
 use Rattle.tv_blur.specs.Rising.{AddsRises, Falls}
 use Rattle.tv_blur.proofs.RowLaws.{length-unary_row}
-use Rattle.tv_blur.proofs.Rises.{pred_told}
+use Rattle.tv_blur.proofs.Rises.{nowhere_adds, pred_told}
 use Rattle.tv_blur.proofs.ascending.add_pred.Goals as goal
 
 pub add_rises-requires : goal.add_rises-requires
@@ -17,3 +17,11 @@ returns c =
     (Falls (unary_row c.args.s.now c.args.p) c.args.rises.now) (c.add_rises.new.rises ≡ c.args.rises.now)
     (sym c.tells_apart.ensures ∙ c.if-not-tells_apart.false)
     (rw c.unary_row.ensures at c.add_rises.ensures)
+
+pub returns-then-is_nowhere : goal.returns-then-is_nowhere
+returns-then-is_nowhere c =
+    pred_told (is_abstraction c.args.pred.now) true
+    (AddsRises (unary_row c.args.s.now c.args.p) (length c.args.rises.now) c.args.rises.now c.args.rises.now)
+    (Falls (unary_row c.args.s.now c.args.p) c.args.rises.now) (c.args.rises.now ≡ c.args.rises.now)
+    (sym c.tells_apart.ensures ∙ c.if-not-tells_apart.false)
+    (nowhere_adds c.args.s.now c.args.p c.args.rises.now (c.is_nowhere.ensures c.if-is_nowhere.true) c.requires.long)

@@ -1,5 +1,4 @@
-use Rattle.std.proofs.Common.{ℕ, ◌≡◌, ◌≤◌, arith}
-use Rattle.tv_blur.specs.Rising.{AddsRises}
+use Rattle.std.proofs.Common.{arith}
 use Rattle.tv_blur.proofs.Rises.{adds_none, adds_more, adds_past, falls_before}
 use Rattle.tv_blur.proofs.ascending.add_rises.Goals as goal
 

@@ -1,4 +1,4 @@
-use Rattle.std.proofs.Common.{◌≡◌, true, false, List, ap, refl, subst, arith, length, map, get_or}
+use Rattle.std.proofs.Common.{◌≡◌, true, false, List, ap, refl, subst, arith, length, map, take, get_or, ◌+◌}
 use Rattle.std.proofs.lemmas.List.{take_all, length-map}
 use Rattle.tv_kleene.specs.declared.K3.TheVariants.{No}
 use Rattle.tv_model.specs.declared.program.Pred.{Pred}
@@ -6,7 +6,7 @@ use Rattle.tv_struct.specs.StructureForm.{kept_from, structure_of}
 use Rattle.tv_blur.specs.Names.{abstraction_preds, is_abstraction}
 use Rattle.tv_blur.specs.Rising.{TellsRises}
 use Rattle.tv_blur.proofs.Ascended.{ascending-follows}
-use Rattle.tv_blur.proofs.Rises.{all_rise, falls_out, rises_all, rises_next}
+use Rattle.tv_blur.proofs.Rises.{all_rise, falls_out, rises_all, rises_enough, rises_next}
 use Rattle.tv_blur.proofs.ascending.are_ascending.Goals as goal
 
 pub loop-p-preserved : goal.loop-p-preserved
@@ -38,9 +38,24 @@ returns c =
     in (
       λ holds. ascending-follows (abstraction_preds c.args.vocab.now) (structure_of c.args.s.now) c.args.s.now.size
           (rises_all (abstraction_preds c.args.vocab.now) c.args.s.now c.loop-p.rises tells
-          (λ u lt. c.are_possible.ensures.0 holds u No lt)),
-      λ follows. c.are_possible.ensures.1
+          (λ u lt. c.are_possible-2.ensures.0 holds u No lt)),
+      λ follows. c.are_possible-2.ensures.1
           (all_rise (abstraction_preds c.args.vocab.now) c.args.s.now c.loop-p.rises tells follows),
+    )
+
+pub returns-then-are_possible : goal.returns-then-are_possible
+returns-then-are_possible c =
+    let At : List Pred → Type 0 = λ preds. c.pred-item.result ≡ get_or preds c.loop-p.p c.pred-item.result
+    in let same : c.as_slice-pred-items.result.now ≡ c.args.vocab.now.preds = c.as_slice-pred-items.ensures
+    in let tells : TellsRises (kept_from 0 (take (c.loop-p.p + 1) (map is_abstraction c.args.vocab.now.preds))) c.args.s.now c.add_pred.new.rises
+    = rises_next c.args.vocab.now.preds c.args.s.now c.loop-p.p c.pred-item.result c.loop-p.rises c.add_pred.new.rises
+    (omega (arith, c.loop-p-test.true, ap length same)) (subst At same c.pred-item.is) c.loop-p.invariant
+    c.if-not-add_pred.ensures
+    in (
+      λ holds. ascending-follows (abstraction_preds c.args.vocab.now) (structure_of c.args.s.now) c.args.s.now.size
+          (rises_enough (map is_abstraction c.args.vocab.now.preds) c.args.s.now c.add_pred.new.rises (c.loop-p.p + 1) tells
+          (λ u lt. c.are_possible.ensures.0 c.if-are_possible.true u No lt)),
+      λ follows. refl,
     )
 
 pub returns-then-size-lt2 : goal.returns-then-size-lt2

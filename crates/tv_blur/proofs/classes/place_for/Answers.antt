@@ -1,4 +1,4 @@
-use Rattle.std.proofs.Common.{ℕ, [], ◌≡◌, ◌≢◌, ◌∙◌, ◌<◌, ◌+◌, ◌-◌, ◌/◌, true, false, length, get_or, Less}
+use Rattle.std.proofs.Common.{ℕ, [], ◌≡◌, ◌≢◌, ◌∙◌, ◌<◌, true, false, length, get_or, Less}
 use Rattle.std.proofs.Common.{sym, ap, subst, arith}
 use Rattle.std.proofs.lemmas.List.{get_or_read}
 use Rattle.tv_blur.specs.Names.{name_cmp}
@@ -9,8 +9,8 @@ use Rattle.tv_blur.proofs.classes.place_for.Goals as goal
 
 pub is_below-requires-clause-one : goal.is_below-requires-clause-one
 is_below-requires-clause-one c =
-    let middle : ℕ = c.loop-low.low + (c.loop-low.high - c.loop-low.low) / 2
-    in let lt : middle < length c.args.classes.now = omega (arith, c.loop-low.invariant.1, c.loop-low-test.true)
+    let middle : ℕ = c.next_look-middle.result
+    in let lt : middle < length c.args.classes.now = omega (arith, c.loop-low.invariant.1, c.next_look-middle.ensures.below)
     in let members : c.index-classes-middle.result ≡ class_at c.args.classes.now middle
     = get_or_read c.args.classes.now middle c.index-classes-middle.result lt c.index-classes-middle.is []
     in omega (
@@ -23,8 +23,8 @@ is_below-requires-clause-one c =
 
 pub loop-low-preserved-then-is_below : goal.loop-low-preserved-then-is_below
 loop-low-preserved-then-is_below c =
-    let middle : ℕ = c.loop-low.low + (c.loop-low.high - c.loop-low.low) / 2
-    in let lt : middle < length c.args.classes.now = omega (arith, c.loop-low.invariant.1, c.loop-low-test.true)
+    let middle : ℕ = c.next_look-middle.result
+    in let lt : middle < length c.args.classes.now = omega (arith, c.loop-low.invariant.1, c.next_look-middle.ensures.below)
     in let first : c.first.result ≡ get_or (class_at c.args.classes.now middle) 0 0
     = c.first.ensures
     ∙ ap (λ xs. get_or xs 0 0)
@@ -33,7 +33,7 @@ loop-low-preserved-then-is_below c =
     = subst (λ v. name_cmp (canonical_name_in c.args.names.now v) (canonical_name_in c.args.names.now c.args.u) ≡ Less) first
     (c.is_below.ensures.0 c.if-is_below.true)
     in (
-      omega (arith, c.loop-low-test.true),
+      omega (arith, c.next_look-middle.ensures.below),
       c.loop-low.invariant.1,
       search_below c.args.names.now c.args.u c.args.classes.now c.args.u middle c.requires.gathered lt less,
       c.loop-low.invariant.3,
@@ -41,8 +41,8 @@ loop-low-preserved-then-is_below c =
 
 pub loop-low-preserved : goal.loop-low-preserved
 loop-low-preserved c =
-    let middle : ℕ = c.loop-low.low + (c.loop-low.high - c.loop-low.low) / 2
-    in let lt : middle < length c.args.classes.now = omega (arith, c.loop-low.invariant.1, c.loop-low-test.true)
+    let middle : ℕ = c.next_look-middle.result
+    in let lt : middle < length c.args.classes.now = omega (arith, c.loop-low.invariant.1, c.next_look-middle.ensures.below)
     in let first : c.first.result ≡ get_or (class_at c.args.classes.now middle) 0 0
     = c.first.ensures
     ∙ ap (λ xs. get_or xs 0 0)
@@ -55,8 +55,8 @@ loop-low-preserved c =
     in let f : true ≡ false = sym is ∙ c.if-is_below.false
     in cc
     in (
-      omega (arith, c.loop-low-test.true),
-      omega (arith, c.loop-low.invariant.1, c.loop-low-test.true),
+      c.next_look-middle.ensures.from,
+      omega (arith, c.loop-low.invariant.1, c.next_look-middle.ensures.below),
       c.loop-low.invariant.2,
       search_above c.args.names.now c.args.u c.args.classes.now c.args.u middle c.requires.gathered not_less,
     )

@@ -7,7 +7,7 @@ use Rattle.tv_blur.proofs.merge.put_summaries.Goals as goal
 pub loop-w-init : goal.loop-w-init
 loop-w-init c =
     summaries_none c.args.classes.now c.args.s.now c.args.t.now c.size.ensures.kept c.requires.size c.requires.over
-    c.requires.fresh
+    c.requires.fresh c.requires.blank
 
 pub loop-w-preserved : goal.loop-w-preserved
 loop-w-preserved c =
@@ -17,5 +17,5 @@ loop-w-preserved c =
     c.loop-w.invariant c.loop-w-test.true c.set_summary.ensures.value c.set_summary.ensures.kept
     (c.is_summary.ensures ∙ ap (is_merged_summary c.args.s.now) members)
 
-pub returns : goal.returns
-returns c = summaries_all c.args.classes.now c.args.s.now c.loop-w.w c.loop-w.t c.loop-w.invariant c.loop-w-test.false
+pub returns-clause-merged : goal.returns-clause-merged
+returns-clause-merged c = summaries_all c.args.classes.now c.args.s.now c.loop-w.w c.loop-w.t c.loop-w.invariant c.loop-w-test.false

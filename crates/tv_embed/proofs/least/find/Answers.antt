@@ -23,3 +23,6 @@ returns-clause-none c =
     none_embedded c.args.small.now c.args.large.now
     (searched_none c.args.small.now c.args.large.now [] [] c.in_ok-search.field-0 c.search.new.images.items
     (rw c.in_ok-images.ensures.items at c.in_ok-search.ensures) c.if-branch.false).0
+
+pub returns-in_default-clause-none : goal.returns-in_default-clause-none
+returns-in_default-clause-none c = none_embedded c.args.small.now c.args.large.now (rw c.in_default.is at c.in_ok-candidates.ensures.none)
