@@ -16,14 +16,14 @@ use tv_model::PredId;
 use tv_row::Row;
 use tv_struct::{Structure, Tuple};
 
-/// Whether no value of the row is unknown.
+/// True only where no value of the row is unknown.
 fn is_definite(row: &Row) -> bool
     ensures { IsTrue result → (u : ℕ) → u < length row.now → slice_index_or row.now u No ≢ Half }
 {
     !row.and(&row.not()).has_possible()
 }
 
-/// Whether no value at the pairs of an anchor and an individual is unknown.
+/// True only where no value at the pairs of an anchor and an individual is unknown.
 fn are_pairs_known(s: &Structure, p: PredId, place: Place, anchors: &[u32]) -> bool
     requires arity { slice_get (arities_of s.now) p.0 ≡ Some 2 }
     requires anchors { All (λ a. a < s.now.size) anchors.now }
@@ -38,7 +38,7 @@ fn are_pairs_known(s: &Structure, p: PredId, place: Place, anchors: &[u32]) -> b
     }
 }
 
-/// Whether no value at a tuple that is aimed at is unknown.
+/// True only where no value at a tuple that is aimed at is unknown.
 fn are_known(s: &Structure, p: PredId, aim: &Aim) -> bool
     requires { IsAimOver s.now p.0 (aim_of aim.now) }
     ensures { IsTrue result
@@ -51,7 +51,8 @@ fn are_known(s: &Structure, p: PredId, aim: &Aim) -> bool
     }
 }
 
-/// Whether no value that the split aims at is unknown: such a split gives the structure itself.
+/// True only where no value that the split aims at is unknown: such a split gives the structure itself. That
+/// it is false promises nothing.
 #[tactic(auto, using(crate::proofs::Sharp::known_sharp))]
 pub fn is_sharp(s: &Structure, p: PredId, split: &Split) -> bool
     requires { IsSplitOver s.now p.0 (split_form split.now) }

@@ -1,6 +1,7 @@
 -- Steps of gathering a text.
 use Rattle.std.proofs.Common.{◌≡◌, ℕ, zero, suc, ◌+◌, ◌-◌, ◌<◌, ◌≤◌, List, [], ◌∷◌, ◌++◌, Option, Some, None}
-use Rattle.std.proofs.Common.{Result, Ok, Err, Bool, false, eqb, is_some, length, take, drop, min, ap, sym}
+use Rattle.std.proofs.Common.{Result, Ok, Err, Bool, false, nat_lt, eqb, is_some, length, take, drop, min, ap}
+use Rattle.std.proofs.Common.{sym}
 use Rattle.std.proofs.Common.{refl, ◌∙◌, subst, inl, inr, zero-add, arith, append_assoc, length-append}
 use Rattle.std.specs.List.{prefix_len}
 use Rattle.std.proofs.lemmas.Bool.{cases_Bool, cond-true, cond-false, lt-ltb, le-ltb, eqb-true, not_from_true}
@@ -14,10 +15,12 @@ use Rattle.tv_outside.specs.declared.read.ReadError.TheVariants.{Failed as ReadF
 use Rattle.tv_outside.specs.declared.read.ReadError.TheVariants.{Memory as ReadMemory}
 use Rattle.tv_lex.specs.Bytes.{stays_on_line}
 use Rattle.tv_lex.specs.Include.{lines_of, onto, include_name, inner_name}
-use Rattle.tv_lex.specs.Gather.{longest_gathered, deepest_include, Event, Begin, Give, Refuse, begun}
-use Rattle.tv_lex.specs.Gather.{BeginsEach, gathered, GivesBytes, Puts, PutCause, Gathers, GatherCause}
+use Rattle.tv_lex.specs.Gather.{longest_gathered, deepest_include, Event, Begin, Give, Refuse, come_to}
+use Rattle.tv_lex.specs.Gather.{BeginsBy, BeginsEach, BeginsAtMost, BeginsUpTo, begun, gathered, GivesBytes}
+use Rattle.tv_lex.specs.Gather.{Puts, PutCause, Gathers, GatherCause}
 use Rattle.tv_lex.specs.Gather.{file_events, content_events, line_events, one_line, opens, named_events}
 use Rattle.tv_lex.specs.Gather.{included, below, gather_error}
+use Rattle.tv_lex.proofs.Begins.{begins_at_most, begins_within, counted-counted, counted-le, counted-more}
 use Rattle.tv_lex.specs.declared.gatherer.GatherError.{GatherError}
 use Rattle.tv_lex.specs.declared.gatherer.GatherError.TheVariants.{Failed, TooLong, Unended, IncludeForm}
 use Rattle.tv_lex.specs.declared.gatherer.GatherError.TheVariants.{IncludeDepth, Memory}
@@ -170,67 +173,192 @@ pub line_more : (told mid_told : Option Held) (name old rest out line behind mor
 line_more told mid_told name old rest out line behind more left inside next same putting cut is_next puts =
     putting_more told name old rest out line behind more left inside next putting cut is_next (subst (λ t. Puts t (λ held. one_line (included (below held left) name) inside line) out (Ok more)) same puts)
 
--- ---- how often files are begun
+-- ---- how often files are come_to
 
-begun-append : (a b : List Event) → begun (a ++ b) ≡ begun a + begun b
-begun-append [] b = sym (zero-add (begun b))
-begun-append (Begin ∷ a) b = let e : begun (a ++ b) ≡ begun a + begun b = begun-append a b in omega arith
-begun-append (Refuse fault ∷ a) b = begun-append a b
-begun-append (Give bytes ∷ a) b = begun-append a b
+-- what comes behind a text that is put goes on from it
+come-behind : (old mid : List ℕ) (xs ys : List Event) → gathered old xs ≡ Ok mid → come_to old (xs ++ ys) ≡ come_to old xs + come_to mid ys
+come-behind old mid [] ys e = let same : old ≡ mid = cc in ap (λ text. come_to text ys) same ∙ sym (zero-add (come_to mid ys))
+come-behind old mid (Begin ∷ xs) ys e = let h : come_to old (xs ++ ys) ≡ come_to old xs + come_to mid ys = come-behind old mid xs ys e in omega arith
+come-behind old mid (Refuse fault ∷ xs) ys e = absurd (let both : Err fault ≡ Ok mid = e in cc)
+come-behind old mid (Give bytes ∷ xs) ys e =
+    let long = nat_lt longest_gathered (length (old ++ bytes)) in
+    elim (cases_Bool long) [
+      | inl t ↦ absurd (let both : Err TooLong ≡ Ok mid = sym (cond-true long (Err TooLong) (gathered (old ++ bytes) xs) t) ∙ e in cc)
+      | inr f ↦
+          cond-false long 0 (come_to (old ++ bytes) (xs ++ ys)) f
+          ∙ come-behind (old ++ bytes) mid xs ys (sym (cond-false long (Err TooLong) (gathered (old ++ bytes) xs) f) ∙ e)
+          ∙ ap (λ n. n + come_to mid ys) (sym (cond-false long 0 (come_to (old ++ bytes) xs) f))
+    ]
 
-counted-counted : (a m n : ℕ) → counted (counted a m) n ≡ counted a (m + n)
-counted-counted a m n = capped a m n count_max
+-- what comes behind a refusal isn't come to
+come-until : (old : List ℕ) (xs ys : List Event) (fault : GatherError) → gathered old xs ≡ Err fault → come_to old (xs ++ ys) ≡ come_to old xs
+come-until old [] ys fault e = absurd (let both : Ok old ≡ Err fault = e in cc)
+come-until old (Begin ∷ xs) ys fault e = ap (λ n. 1 + n) (come-until old xs ys fault e)
+come-until old (Refuse other ∷ xs) ys fault e = refl
+come-until old (Give bytes ∷ xs) ys fault e =
+    let long = nat_lt longest_gathered (length (old ++ bytes)) in
+    elim (cases_Bool long) [
+      | inl t ↦ cond-true long 0 (come_to (old ++ bytes) (xs ++ ys)) t ∙ sym (cond-true long 0 (come_to (old ++ bytes) xs) t)
+      | inr f ↦
+          cond-false long 0 (come_to (old ++ bytes) (xs ++ ys)) f
+          ∙ come-until (old ++ bytes) xs ys fault (sym (cond-false long (Err TooLong) (gathered (old ++ bytes) xs) f) ∙ e)
+          ∙ sym (cond-false long 0 (come_to (old ++ bytes) xs) f)
+    ]
+
+-- and no front comes to more than the whole
+come-front : (old : List ℕ) (xs ys : List Event) → come_to old xs ≤ come_to old (xs ++ ys)
+come-front old [] ys = omega arith
+come-front old (Begin ∷ xs) ys = let h = come-front old xs ys in omega (arith, h)
+come-front old (Refuse fault ∷ xs) ys = omega arith
+come-front old (Give bytes ∷ xs) ys =
+    let long = nat_lt longest_gathered (length (old ++ bytes)) in
+    elim (cases_Bool long) [
+      | inl t ↦ rewritten 0 _ _ _ (cond-true long 0 (come_to (old ++ bytes) xs) t) (cond-true long 0 (come_to (old ++ bytes) (xs ++ ys)) t) (omega arith)
+      | inr f ↦ rewritten (come_to (old ++ bytes) xs) _ _ _ (cond-false long 0 (come_to (old ++ bytes) xs) f) (cond-false long 0 (come_to (old ++ bytes) (xs ++ ys)) f) (come-front (old ++ bytes) xs ys)
+    ]
   where
-    capped : (a m n top : ℕ) → min (min (a + m) top + n) top ≡ min (a + (m + n)) top
-    capped a m n top = omega arith
+    rewritten : (a b c d : ℕ) → c ≡ a → d ≡ b → a ≤ b → c ≤ d
+    rewritten a b c d p q le = omega (arith, p, q, le)
 
-pub include_begins : (told : Option Held) (name line written inner : List ℕ) (left old now : ℕ) → include_name line ≡ Some written → 0 < left → inner ≡ inner_name name written → BeginsEach told (λ held. file_events held (left - 1) inner) old now → BeginsEach told (λ held. included (below held left) name line) old now
-include_begins None name line written inner left old now is some named begins = tt
-include_begins (Some held) name line written inner left old now is some named begins = λ fits.
-    let file = below held left (inner_name name written) in
-    let more : begun (file ++ Give (10 ∷ []) ∷ []) ≡ begun file + 0 = begun-append file (Give (10 ∷ []) ∷ []) in
-    let all : begun (file ++ Give (10 ∷ []) ∷ []) ≡ begun file = omega arith in
-    begins fits
-    ∙ ap (λ es. counted old (begun es)) (sym (below-positive held left inner some) ∙ ap (below held left) named)
-    ∙ ap (counted old) (sym all)
-    ∙ ap (λ o. counted old (begun (named_events (below held left) name o))) (sym is)
+come-bytes : (old bytes : List ℕ) → come_to old (Give bytes ∷ []) ≡ 0
+come-bytes old bytes =
+    let long = nat_lt longest_gathered (length (old ++ bytes)) in
+    elim (cases_Bool long) [
+      | inl t ↦ cond-true long 0 0 t
+      | inr f ↦ cond-false long 0 0 f
+    ]
 
--- the lines that are left begin as many files as the count is to rise
-abbrev pub Beginning : Option Held → List ℕ → ℕ → Bool → List ℕ → ℕ → ℕ → Type 0
-Beginning None name left inside rest old now = Unit {0}
-Beginning (Some held) name left inside rest old now = old ≤ count_max → (now ≤ count_max) × (counted now (begun (line_events (included (below held left) name) inside (lines_of rest))) ≡ counted old (begun (file_events held left name)))
+-- what is put, alone
+put_alone : (old : List ℕ) (xs : List Event) (r : Result (List ℕ) GatherError) → gathered old (xs ++ []) ≡ r → gathered old xs ≡ r
+put_alone old xs r e = ap (gathered old) (sym (append-nil xs)) ∙ e
 
-counted-le : (a n : ℕ) → counted a n ≤ count_max
-counted-le a n = capped a n count_max
+-- an exact count serves any answer
+pub up_to : {T : Type 0} (r : Result T GatherError) (told : Option Held) (times : Held → ℕ) (old new : ℕ) → BeginsBy told times old new → BeginsUpTo r told times old new
+up_to (Ok value) told times old new h = h
+up_to (Err Failed) told times old new h = begins_at_most told times old new h
+up_to (Err TooLong) told times old new h = h
+up_to (Err Unended) told times old new h = h
+up_to (Err IncludeForm) told times old new h = h
+up_to (Err IncludeDepth) told times old new h = h
+up_to (Err Memory) told times old new h = begins_at_most told times old new h
+
+within : (told : Option Held) (text : List ℕ) (inner outer : Held → List Event) (old new : ℕ) → ((held : Held) → (behind : List Event) × (outer held ≡ inner held ++ behind)) → BeginsAtMost told (λ held. come_to text (inner held)) old new → BeginsAtMost told (λ held. come_to text (outer held)) old new
+within told text inner outer old new split h =
+    begins_within told (λ held. come_to text (inner held)) (λ held. come_to text (outer held)) old new
+    (λ held. let s = split held in subst (λ es. come_to text (inner held) ≤ come_to text es) (sym s.1) (come-front text (inner held) s.0)) h
+
+until : (fault : GatherError) (told : Option Held) (text : List ℕ) (inner outer : Held → List Event) (old new : ℕ) → Puts told inner text (Err fault) → ((held : Held) → (behind : List Event) × (outer held ≡ inner held ++ behind)) → BeginsBy told (λ held. come_to text (inner held)) old new → BeginsBy told (λ held. come_to text (outer held)) old new
+until fault None text inner outer old new puts split h = tt
+until fault (Some held) text inner outer old new puts split h = λ below_top.
+    let s = split held in
+    h below_top ∙ ap (counted old) (sym (ap (come_to text) s.1 ∙ come-until text (inner held) s.0 fault (put_alone text (inner held) (Err fault) (puts []))))
+
+-- a fault in front of more events
+pub front_begins : (T U : Type 0) (e : GatherError) (told : Option Held) (text : List ℕ) (inner outer : Held → List Event) (steady : Type 0) (before after old new : ℕ) → PutCause e told inner text steady before after → ((held : Held) → (behind : List Event) × (outer held ≡ inner held ++ behind)) → BeginsUpTo {T = T} (Err e) told (λ held. come_to text (inner held)) old new → BeginsUpTo {T = U} (Err e) told (λ held. come_to text (outer held)) old new
+front_begins T U Failed told text inner outer steady before after old new cause split h = within told text inner outer old new split h
+front_begins T U Memory told text inner outer steady before after old new cause split h = within told text inner outer old new split h
+front_begins T U TooLong told text inner outer steady before after old new cause split h = until TooLong told text inner outer old new cause split h
+front_begins T U Unended told text inner outer steady before after old new cause split h = until Unended told text inner outer old new cause split h
+front_begins T U IncludeForm told text inner outer steady before after old new cause split h = until IncludeForm told text inner outer old new cause split h
+front_begins T U IncludeDepth told text inner outer steady before after old new cause split h = until IncludeDepth told text inner outer old new cause split h
+
+-- ---- an include line that begins files
+
+-- what an include line gives: what the named file gives, and a line feed
+pub include_is : (held : Held) (name line written inner : List ℕ) (left : ℕ) → include_name line ≡ Some written → 0 < left → inner ≡ inner_name name written → included (below held left) name line ≡ file_events held (left - 1) inner ++ (Give (10 ∷ []) ∷ [])
+include_is held name line written inner left is some named =
+    ap (named_events (below held left) name) is
+    ∙ ap (λ n. below held left n ++ (Give (10 ∷ []) ∷ [])) (sym named)
+    ∙ ap (λ es. es ++ (Give (10 ∷ []) ∷ [])) (below-positive held left inner some)
+
+pub include_begins : (told : Option Held) (name line text mid written inner : List ℕ) (left old new : ℕ) → include_name line ≡ Some written → 0 < left → inner ≡ inner_name name written → Puts told (λ held. file_events held (left - 1) inner) text (Ok mid) → BeginsBy told (λ held. come_to text (file_events held (left - 1) inner)) old new → BeginsBy told (λ held. come_to text (included (below held left) name line)) old new
+include_begins None name line text mid written inner left old new is some named puts h = tt
+include_begins (Some held) name line text mid written inner left old new is some named puts h = λ below_top.
+    let file = file_events held (left - 1) inner in
+    let whole : come_to text (file ++ (Give (10 ∷ []) ∷ [])) ≡ come_to text file + come_to mid (Give (10 ∷ []) ∷ []) = come-behind text mid file (Give (10 ∷ []) ∷ []) (put_alone text file (Ok mid) (puts [])) in
+    let feed : come_to mid (Give (10 ∷ []) ∷ []) ≡ 0 = come-bytes mid (10 ∷ []) in
+    let all : come_to text (file ++ (Give (10 ∷ []) ∷ [])) ≡ come_to text file = summed _ _ _ whole feed in
+    h below_top ∙ ap (counted old) (sym (ap (come_to text) (include_is held name line written inner left is some named) ∙ all))
   where
-    capped : (a n top : ℕ) → min (a + n) top ≤ top
-    capped a n top = omega arith
+    summed : (a b c : ℕ) → a ≡ b + c → c ≡ 0 → a ≡ b
+    summed a b c p q = omega (arith, p, q)
 
-pub beginning_start : (told : Option Held) (name content : List ℕ) (left old now : ℕ) → IsContent told name content → length content ≤ longest_gathered → now ≡ counted old 1 → Beginning told name left false content old now
-beginning_start None name content left old now is fits one = tt
-beginning_start (Some held) name content left old now is fits one = λ below_top.
+-- ---- the lines of a file
+
+-- the lines that are left come to as many files as the count is to rise
+abbrev pub Beginning : Option Held → List ℕ → ℕ → List ℕ → Bool → List ℕ → List ℕ → ℕ → ℕ → Type 0
+Beginning None name left text inside rest out old now = Unit {0}
+Beginning (Some held) name left text inside rest out old now = old ≤ count_max → (now ≤ count_max) × (counted now (come_to out (line_events (included (below held left) name) inside (lines_of rest))) ≡ counted old (come_to text (file_events held left name)))
+
+pub beginning_start : (told : Option Held) (name content text : List ℕ) (left old now : ℕ) → IsContent told name content → length content ≤ longest_gathered → now ≡ counted old 1 → Beginning told name left text false content text old now
+beginning_start None name content text left old now is fits one = tt
+beginning_start (Some held) name content text left old now is fits one = λ below_top.
     let lines = line_events (included (below held left) name) false (lines_of content) in (
       subst (λ k. k ≤ count_max) (sym one) (counted-le old 1),
-      ap (λ k. counted k (begun lines)) one ∙ counted-counted old 1 (begun lines) ∙ ap (λ es. counted old (begun es)) (sym (file_events-content held left name content is fits)),
+      ap (λ k. counted k (come_to text lines)) one ∙ counted-counted old 1 (come_to text lines) ∙ ap (λ es. counted old (come_to text es)) (sym (file_events-content held left name content is fits)),
     )
 
-pub beginning_more : (told mid_told : Option Held) (name rest line behind : List ℕ) (left : ℕ) (inside next : Bool) (old now later : ℕ) → mid_told ≡ told → Beginning told name left inside rest old now → lines_of rest ≡ line ∷ lines_of behind → next ≡ opens inside line → BeginsEach mid_told (λ held. one_line (included (below held left) name) inside line) now later → Beginning told name left next behind old later
-beginning_more told mid_told name rest line behind left inside next old now later same beginning cut is_next begins = go told beginning (subst (λ t. BeginsEach t (λ held. one_line (included (below held left) name) inside line) now later) same begins)
+pub beginning_more : (told mid_told : Option Held) (name text rest line behind out more : List ℕ) (left : ℕ) (inside next : Bool) (old now later : ℕ) → mid_told ≡ told → Beginning told name left text inside rest out old now → lines_of rest ≡ line ∷ lines_of behind → next ≡ opens inside line → Puts mid_told (λ held. one_line (included (below held left) name) inside line) out (Ok more) → BeginsBy mid_told (λ held. come_to out (one_line (included (below held left) name) inside line)) now later → Beginning told name left text next behind more old later
+beginning_more told mid_told name text rest line behind out more left inside next old now later same beginning cut is_next puts begins =
+    go told beginning
+    (subst (λ t. Puts t (λ held. one_line (included (below held left) name) inside line) out (Ok more)) same puts)
+    (subst (λ t. BeginsBy t (λ held. come_to out (one_line (included (below held left) name) inside line)) now later) same begins)
   where
-    go : (told : Option Held) → Beginning told name left inside rest old now → BeginsEach told (λ held. one_line (included (below held left) name) inside line) now later → Beginning told name left next behind old later
-    go None beginning begins = tt
-    go (Some held) beginning begins = λ below_top.
+    go : (told : Option Held) → Beginning told name left text inside rest out old now → Puts told (λ held. one_line (included (below held left) name) inside line) out (Ok more) → BeginsBy told (λ held. come_to out (one_line (included (below held left) name) inside line)) now later → Beginning told name left text next behind more old later
+    go None beginning puts begins = tt
+    go (Some held) beginning puts begins = λ below_top.
         let here = beginning below_top in
         let first = one_line (included (below held left) name) inside line in
         let others = line_events (included (below held left) name) (opens inside line) (lines_of behind) in (
-          subst (λ k. k ≤ count_max) (sym (begins here.0)) (counted-le now (begun first)),
-          ap (λ b. counted later (begun (line_events (included (below held left) name) b (lines_of behind)))) is_next
-              ∙ ap (λ k. counted k (begun others)) (begins here.0)
-              ∙ counted-counted now (begun first) (begun others)
-              ∙ ap (counted now) (sym (begun-append first others))
-              ∙ ap (λ ls. counted now (begun (line_events (included (below held left) name) inside ls))) (sym cut)
+          subst (λ k. k ≤ count_max) (sym (begins here.0)) (counted-le now (come_to out first)),
+          ap (λ b. counted later (come_to more (line_events (included (below held left) name) b (lines_of behind)))) is_next
+              ∙ ap (λ k. counted k (come_to more others)) (begins here.0)
+              ∙ counted-counted now (come_to out first) (come_to more others)
+              ∙ ap (counted now) (sym (come-behind out more first others (put_alone out first (Ok more) (puts []))))
+              ∙ ap (λ ls. counted now (come_to out (line_events (included (below held left) name) inside ls))) (sym cut)
               ∙ here.1,
         )
+
+whole_exact : (told : Option Held) (name text rest out : List ℕ) (left : ℕ) (inside : Bool) (old now later : ℕ) → Beginning told name left text inside rest out old now → BeginsBy told (λ held. come_to out (line_events (included (below held left) name) inside (lines_of rest))) now later → BeginsBy told (λ held. come_to text (file_events held left name)) old later
+whole_exact None name text rest out left inside old now later beginning h = tt
+whole_exact (Some held) name text rest out left inside old now later beginning h = λ below_top. let here = beginning below_top in h here.0 ∙ here.1
+
+whole_most : (told : Option Held) (name text rest out : List ℕ) (left : ℕ) (inside : Bool) (old now later : ℕ) → Beginning told name left text inside rest out old now → BeginsAtMost told (λ held. come_to out (line_events (included (below held left) name) inside (lines_of rest))) now later → BeginsAtMost told (λ held. come_to text (file_events held left name)) old later
+whole_most None name text rest out left inside old now later beginning h = tt
+whole_most (Some held) name text rest out left inside old now later beginning h = λ below_top. let here = beginning below_top in subst (λ k. later ≤ k) here.1 (h here.0)
+
+-- what is said of the lines that are left, said of the whole file
+pub whole_begins : {T : Type 0} (r : Result T GatherError) (told : Option Held) (name text rest out : List ℕ) (left : ℕ) (inside : Bool) (old now later : ℕ) → Beginning told name left text inside rest out old now → BeginsUpTo r told (λ held. come_to out (line_events (included (below held left) name) inside (lines_of rest))) now later → BeginsUpTo r told (λ held. come_to text (file_events held left name)) old later
+whole_begins (Ok value) told name text rest out left inside old now later beginning h = whole_exact told name text rest out left inside old now later beginning h
+whole_begins (Err Failed) told name text rest out left inside old now later beginning h = whole_most told name text rest out left inside old now later beginning h
+whole_begins (Err TooLong) told name text rest out left inside old now later beginning h = whole_exact told name text rest out left inside old now later beginning h
+whole_begins (Err Unended) told name text rest out left inside old now later beginning h = whole_exact told name text rest out left inside old now later beginning h
+whole_begins (Err IncludeForm) told name text rest out left inside old now later beginning h = whole_exact told name text rest out left inside old now later beginning h
+whole_begins (Err IncludeDepth) told name text rest out left inside old now later beginning h = whole_exact told name text rest out left inside old now later beginning h
+whole_begins (Err Memory) told name text rest out left inside old now later beginning h = whole_most told name text rest out left inside old now later beginning h
+
+-- a fault at a line
+pub line_begins : (T U : Type 0) (e : GatherError) (told mid_told : Option Held) (name text rest line behind out : List ℕ) (left : ℕ) (inside : Bool) (steady : Type 0) (before after old now later : ℕ) → mid_told ≡ told → Beginning told name left text inside rest out old now → lines_of rest ≡ line ∷ lines_of behind → PutCause e mid_told (λ held. one_line (included (below held left) name) inside line) out steady before after → BeginsUpTo {T = T} (Err e) mid_told (λ held. come_to out (one_line (included (below held left) name) inside line)) now later → BeginsUpTo {T = U} (Err e) told (λ held. come_to text (file_events held left name)) old later
+line_begins T U e told mid_told name text rest line behind out left inside steady before after old now later same beginning cut cause begins =
+    whole_begins {T = U} (Err e) told name text rest out left inside old now later beginning
+    (front_begins T U e told out (λ held. one_line (included (below held left) name) inside line) (λ held. line_events (included (below held left) name) inside (lines_of rest)) steady before after now later
+    (subst (λ t. PutCause e t (λ held. one_line (included (below held left) name) inside line) out steady before after) same cause)
+    (λ held. (line_events (included (below held left) name) (opens inside line) (lines_of behind), ap (line_events (included (below held left) name) inside) cut))
+    (subst (λ t. BeginsUpTo {T = T} (Err e) t (λ held. come_to out (one_line (included (below held left) name) inside line)) now later) same begins))
+
+begun_once : (told : Option Held) (name text : List ℕ) (left old new : ℕ) → new ≡ counted old 1 → BeginsAtMost told (λ held. come_to text (file_events held left name)) old new
+begun_once None name text left old new one = tt
+begun_once (Some held) name text left old new one = λ below_top.
+    subst (λ es. new ≤ counted old (come_to text es)) (sym (file_events-is held left name))
+    (subst (λ k. k ≤ counted old (come_to text (Begin ∷ content_events (included (below held left) name) (content_of held name)))) (sym one) (counted-more old 1 (come_to text (Begin ∷ content_events (included (below held left) name) (content_of held name))) (omega arith)))
+
+-- a file that isn't read is come_to
+pub unread_begins : (T : Type 0) (e : ReadError) (told : Option Held) (name text : List ℕ) (left : ℕ) (steady : Type 0) (before after old new : ℕ) → ReadCause e told name longest_gathered steady before after → new ≡ counted old 1 → BeginsUpTo {T = T} (Err (gather_error e)) told (λ held. come_to text (file_events held left name)) old new
+unread_begins T ReadFailed told name text left steady before after old new cause one = begun_once told name text left old new one
+unread_begins T ReadMemory told name text left steady before after old new cause one = begun_once told name text left old new one
+unread_begins T ReadTooLong None name text left steady before after old new cause one = tt
+unread_begins T ReadTooLong (Some held) name text left steady before after old new cause one = λ below_top.
+    one ∙ ap (counted old) (sym (ap (come_to text) (file_events-is held left name ∙ ap (λ es. Begin ∷ es) (ap (content_events (included (below held left) name)) cause.1 ∙ cond-true _ (Refuse TooLong ∷ []) (line_events (included (below held left) name) false (lines_of cause.0)) (lt-ltb longest_gathered (length cause.0) cause.2)))))
 
 -- ---- the whole text
 
@@ -249,3 +377,23 @@ gather_cause Unended told name steady before now cause = gathers_fault told name
 gather_cause IncludeForm told name steady before now cause = gathers_fault told name IncludeForm cause
 gather_cause IncludeDepth told name steady before now cause = gathers_fault told name IncludeDepth cause
 gather_cause Memory told name steady before now cause = tt
+
+-- where nothing is refused each begin is come to
+pub all_come_to : (old new : List ℕ) (events : List Event) → gathered old events ≡ Ok new → come_to old events ≡ begun events
+all_come_to old new [] e = refl
+all_come_to old new (Begin ∷ events) e = ap (λ n. 1 + n) (all_come_to old new events e)
+all_come_to old new (Refuse fault ∷ events) e = absurd (let both : Err fault ≡ Ok new = e in cc)
+all_come_to old new (Give bytes ∷ events) e =
+    let long = nat_lt longest_gathered (length (old ++ bytes)) in
+    elim (cases_Bool long) [
+      | inl t ↦ absurd (let both : Err TooLong ≡ Ok new = sym (cond-true long (Err TooLong) (gathered (old ++ bytes) events) t) ∙ e in cc)
+      | inr f ↦
+          cond-false long 0 (come_to (old ++ bytes) events) f
+          ∙ all_come_to (old ++ bytes) new events (sym (cond-false long (Err TooLong) (gathered (old ++ bytes) events) f) ∙ e)
+    ]
+
+pub gathers_each : (told : Option Held) (name text : List ℕ) (old new : ℕ) → Puts told (λ held. file_events held deepest_include name) [] (Ok text) → BeginsBy told (λ held. come_to [] (file_events held deepest_include name)) old new → BeginsEach told (λ held. file_events held deepest_include name) old new
+gathers_each None name text old new puts h = tt
+gathers_each (Some held) name text old new puts h = λ below_top.
+    let events = file_events held deepest_include name in
+    h below_top ∙ ap (counted old) (all_come_to [] text events (put_alone [] events (Ok text) (puts [])))

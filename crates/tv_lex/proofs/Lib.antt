@@ -1,9 +1,11 @@
--- Library of lemmas for the crates above: pieces and the tokens among them, where tokens start, longest fronts.
+-- Library of lemmas for the crates above: pieces and the tokens among them, where tokens start, longest fronts; how
+-- often files are begun.
 pub mod PieceTokens
 pub mod SpacedTexts
 pub mod PlaceLemmas
 pub mod Runs
 pub mod Taken
+pub mod Begins
 -- Lemmas of this crate's own.
 mod Closes
 mod Good

@@ -70,6 +70,15 @@ gathered text (Refuse fault ∷ events) = Err fault
 gathered text (Give bytes ∷ events) =
     if nat_lt longest_gathered (length (text ++ bytes)) then Err TooLong else gathered (text ++ bytes) events
 
+-- how many files are begun behind the text so far, up to the first refusal, or up to the bytes with which the
+-- text passes the limit
+abbrev pub come_to : List ℕ → List Event → ℕ
+come_to text [] = 0
+come_to text (Begin ∷ events) = 1 + come_to text events
+come_to text (Refuse fault ∷ events) = 0
+come_to text (Give bytes ∷ events) =
+    if nat_lt longest_gathered (length (text ++ bytes)) then 0 else come_to (text ++ bytes) events
+
 -- how many times a file is begun
 abbrev pub begun : List Event → ℕ
 begun [] = 0
@@ -81,6 +90,24 @@ begun (Give bytes ∷ events) = begun events
 abbrev pub BeginsEach : Option Held → (Held → List Event) → ℕ → ℕ → Type 0
 BeginsEach None events old new = Unit {0}
 BeginsEach (Some held) events old new = old ≤ count_max → new ≡ counted old (begun (events held))
+
+-- a count of begins rose by this, where it is told what the files hold
+abbrev pub BeginsBy : Option Held → (Held → ℕ) → (old new : ℕ) → Type 0
+BeginsBy None times old new = Unit {0}
+BeginsBy (Some held) times old new = old ≤ count_max → new ≡ counted old (times held)
+
+-- by this at most
+abbrev pub BeginsAtMost : Option Held → (Held → ℕ) → (old new : ℕ) → Type 0
+BeginsAtMost None times old new = Unit {0}
+BeginsAtMost (Some held) times old new = old ≤ count_max → new ≤ counted old (times held)
+
+-- by this; at most by it where a call outside failed or memory ran out
+abbrev pub BeginsUpTo : {T : Type 0} → Result T GatherError → Option Held → (Held → ℕ) → (old new : ℕ)
+    → Type 0
+BeginsUpTo (Ok value) told times old new = BeginsBy told times old new
+BeginsUpTo (Err Failed) told times old new = BeginsAtMost told times old new
+BeginsUpTo (Err Memory) told times old new = BeginsAtMost told times old new
+BeginsUpTo (Err refusal) told times old new = BeginsBy told times old new
 
 -- the gathered text of a file is this, or it is refused so, where it is told what the files hold
 abbrev pub Gathers : Option Held → List ℕ → Result (List ℕ) GatherError → Type 0

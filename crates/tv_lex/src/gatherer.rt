@@ -4,8 +4,9 @@ ghost use Rattle.std.specs.Prelude.{IfOk, IfErr, OnOk};
 ghost use Rattle.tv_outside.specs.Told.{Held};
 ghost use Rattle.tv_lex.specs.Include.{include_name as name_in};
 ghost use Rattle.tv_lex.specs.Gather.{longest_gathered, deepest_include, UnlessFilesFail, Give, Gathers};
-ghost use Rattle.tv_lex.specs.Gather.{BeginsEach, GatherCause, Puts, PutCause, GivesBytes, BytesCause};
-ghost use Rattle.tv_lex.specs.Gather.{file_events, included, below, one_line, opens, gather_error};
+ghost use Rattle.tv_lex.specs.Gather.{BeginsEach, BeginsUpTo, GatherCause, Puts, PutCause, GivesBytes};
+ghost use Rattle.tv_lex.specs.Gather.{BytesCause};
+ghost use Rattle.tv_lex.specs.Gather.{come_to, file_events, included, below, one_line, opens, gather_error};
 ghost use Rattle.tv_lex.specs.Parts.{AreParts, IsOpen, IsLineBefore, KeepsParts};
 ghost use Rattle.tv_lex.specs.declared.gatherer.GatherError.TheVariants.{Memory};
 
@@ -163,8 +164,9 @@ fn put_include<F: Files>(
     ensures fits { OnOk result (vec_len out.new.bytes ≤ longest_gathered) }
     ensures count { F.faults files.old ≤ F.faults files.new }
     ensures holds { F.holds files.new ≡ F.holds files.old }
-    ensures begins { OnOk result (BeginsEach (F.holds files.old)
-        (λ held. included (below held left) name.now line.now) (F.begins files.old) (F.begins files.new)) }
+    ensures begins { BeginsUpTo result (F.holds files.old)
+        (λ held. come_to out.old.bytes.items (included (below held left) name.now line.now))
+        (F.begins files.old) (F.begins files.new) }
     ensures put { OnOk result (Puts (F.holds files.old)
         (λ held. included (below held left) name.now line.now) out.old.bytes.items
         (Ok out.new.bytes.items)) }
@@ -204,9 +206,9 @@ fn put_line<F: Files>(
     ensures holds { F.holds files.new ≡ F.holds files.old }
     ensures next { IfOk result (λ next. next.inside ≡ opens reading.inside line.now) }
     ensures number { IfOk result (λ next. next.number ≡ reading.number + 1) }
-    ensures begins { OnOk result (BeginsEach (F.holds files.old)
-        (λ held. one_line (included (below held left) name.now) reading.inside line.now)
-        (F.begins files.old) (F.begins files.new)) }
+    ensures begins { BeginsUpTo result (F.holds files.old) (λ held. come_to out.old.bytes.items
+        (one_line (included (below held left) name.now) reading.inside line.now))
+        (F.begins files.old) (F.begins files.new) }
     ensures put { OnOk result (Puts (F.holds files.old)
         (λ held. one_line (included (below held left) name.now) reading.inside line.now)
         out.old.bytes.items (Ok out.new.bytes.items)) }
@@ -246,8 +248,9 @@ fn put_file<F: Files>(
     ensures fits { OnOk result (vec_len out.new.bytes ≤ longest_gathered) }
     ensures count { F.faults files.old ≤ F.faults files.new }
     ensures holds { F.holds files.new ≡ F.holds files.old }
-    ensures begins { OnOk result (BeginsEach (F.holds files.old) (λ held. file_events held left name.now)
-        (F.begins files.old) (F.begins files.new)) }
+    ensures begins { BeginsUpTo result (F.holds files.old)
+        (λ held. come_to out.old.bytes.items (file_events held left name.now))
+        (F.begins files.old) (F.begins files.new) }
     ensures put { OnOk result (Puts (F.holds files.old) (λ held. file_events held left name.now)
         out.old.bytes.items (Ok out.new.bytes.items)) }
     ensures parts { OnOk result (KeepsParts (F.holds files.old) out.old out.new) }
@@ -275,8 +278,9 @@ fn put_file<F: Files>(
 ///
 /// A line whose first byte other than a space or a tab is `#`, and that doesn't begin inside a block comment,
 /// is an include line. The text of the file that it names and a line feed stand in its place. Each file is
-/// begun once for each place that includes it. The text has at most 4,194,304 bytes, whatever the files tell.
-/// Each of its parts stands so in its file; all else in it is line feeds.
+/// begun once for each place that includes it and that is come to before a refusal. The text has at most
+/// 4,194,304 bytes, whatever the files tell. Each of its parts stands so in its file; all else in it is line
+/// feeds.
 ///
 /// # Errors
 /// `Failed` comes only where a call of `files` failed, and on steady files only where they don't hold this
@@ -288,6 +292,9 @@ pub fn gather<F: Files>(alloc: Global, files: &mut F, name: &str) -> Result<Gath
     ensures holds { F.holds files.new ≡ F.holds files.old }
     ensures begins { OnOk result (BeginsEach (F.holds files.old)
         (λ held. file_events held deepest_include name.now) (F.begins files.old) (F.begins files.new)) }
+    ensures begun { BeginsUpTo result (F.holds files.old)
+        (λ held. come_to [] (file_events held deepest_include name.now))
+        (F.begins files.old) (F.begins files.new) }
     ensures text { IfOk result (λ g. Gathers (F.holds files.old) name.now (Ok g.bytes.items)) }
     ensures parts { IfOk result (λ g. AreParts (F.holds files.old) 0 g.parts.items g.bytes.items) }
     ensures cause { IfErr result (λ e. GatherCause e (F.holds files.old) name.now (F.steady files.old)

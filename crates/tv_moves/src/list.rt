@@ -76,7 +76,7 @@ fn with_place(moving: Moving, place: Option<usize>) -> Moving
 }
 
 impl Moving {
-    /// Whether members at other places than this one are moved.
+    /// True wherever members at other places than this one are moved; that it is true promises nothing.
     pub fn moves_other(self, place: Option<usize>) -> bool
         ensures { MovesOther place self → IsTrue result }
     {

@@ -6,7 +6,8 @@ use Rattle.tv_lex.specs.Include.{inner_name}
 use Rattle.tv_lex.specs.Gather.{file_events, included, below}
 use Rattle.tv_lex.proofs.Gathering.{read_cause, putting_start, beginning_start, beginning_more, line_cause}
 use Rattle.tv_lex.proofs.Gathering.{line_more, line_cut, cause_within, include_put, include_begins}
-use Rattle.tv_lex.proofs.Gathering.{include_refused, Putting, Beginning}
+use Rattle.tv_lex.proofs.Gathering.{include_refused, Putting, Beginning, up_to, unread_begins, line_begins}
+use Rattle.tv_lex.proofs.Gathering.{front_begins, include_is}
 use Rattle.tv_lex.specs.Parts.{AreParts}
 use Rattle.tv_lex.specs.declared.gatherer.Reading.{Reading}
 use Rattle.tv_lex.proofs.Parting.{feed_more, file_begins, include_put as include_opens, line_in_front}
@@ -32,7 +33,7 @@ put_file-loop-rest-init g t c =
     let from : c.reading_at-reading.result.start ≡ vec_len c.args.out.now.bytes = ap (λ (r : Reading). r.start) c.reading_at-reading.ensures in
     let start : c.reading_at-reading.result.start ≡ length c.args.out.now.bytes.items = omega (arith, from) in (
       subst (λ b. Putting (f.holds c.args.files.now) c.args.name.now c.args.left c.args.out.now.bytes.items b c.as_slice-rest.result.now c.args.out.now.bytes.items) (sym inside) (rw c.as_slice-rest.ensures.value (putting_start (f.holds c.args.files.now) c.args.name.now c.args.out.now.bytes.items c.in_ok-content.content.items c.args.left told.content fits)),
-      subst (λ b. Beginning (f.holds c.args.files.now) c.args.name.now c.args.left b c.as_slice-rest.result.now (f.begins c.args.files.now) (f.begins c.read_all.new.files)) (sym inside) (beginning_start (f.holds c.args.files.now) c.args.name.now c.as_slice-rest.result.now c.args.left (f.begins c.args.files.now) (f.begins c.read_all.new.files) (rw c.as_slice-rest.ensures.value told.content) (rw c.as_slice-rest.ensures.value fits) told.begins_once),
+      subst (λ b. Beginning (f.holds c.args.files.now) c.args.name.now c.args.left c.args.out.now.bytes.items b c.as_slice-rest.result.now c.args.out.now.bytes.items (f.begins c.args.files.now) (f.begins c.read_all.new.files)) (sym inside) (beginning_start (f.holds c.args.files.now) c.args.name.now c.as_slice-rest.result.now c.args.out.now.bytes.items c.args.left (f.begins c.args.files.now) (f.begins c.read_all.new.files) (rw c.as_slice-rest.ensures.value told.content) (rw c.as_slice-rest.ensures.value fits) told.begins_once),
       told.count,
       told.holds,
       told.steady,
@@ -62,7 +63,7 @@ put_file-loop-rest-preserved g t c =
     let split = rest_is rest c.split_at.result.0.now c.split_at.result.1.now c.line_len.result c.split_at.ensures.front c.split_at.ensures.back in
     let is_line = line_in_front rest c.split_at.result.0.now c.split_at.result.1.now c.line_len.result some c.line_len.ensures c.split_at.ensures.front c.split_at.ensures.back in (
       line_more (f.holds c.args.files.now) (f.holds c.loop-rest.files) c.args.name.now c.args.out.now.bytes.items rest c.loop-rest.out.bytes.items c.split_at.result.0.now c.split_at.result.1.now c.put_line.new.out.bytes.items c.args.left c.loop-rest.reading.inside c.in_ok-reading.reading.inside inv.3 inv.0 cut said.next said.put,
-      beginning_more (f.holds c.args.files.now) (f.holds c.loop-rest.files) c.args.name.now rest c.split_at.result.0.now c.split_at.result.1.now c.args.left c.loop-rest.reading.inside c.in_ok-reading.reading.inside (f.begins c.args.files.now) (f.begins c.loop-rest.files) (f.begins c.put_line.new.files) inv.3 inv.1 cut said.next said.begins,
+      beginning_more (f.holds c.args.files.now) (f.holds c.loop-rest.files) c.args.name.now c.args.out.now.bytes.items rest c.split_at.result.0.now c.split_at.result.1.now c.loop-rest.out.bytes.items c.put_line.new.out.bytes.items c.args.left c.loop-rest.reading.inside c.in_ok-reading.reading.inside (f.begins c.args.files.now) (f.begins c.loop-rest.files) (f.begins c.put_line.new.files) inv.3 inv.1 cut said.next said.put said.begins,
       omega (arith, inv.2, said.count),
       said.holds ∙ inv.3,
       λ s. let before = inv.4 s in let now = said.steady before.0 in (now.0, now.1 ∙ before.1),
@@ -105,9 +106,7 @@ put_include-returns-clause-begins g t c =
     let told = f.holds c.args.files.now in
     let some : 0 < c.args.left = omega (arith, c.if-left-eq0.false) in
     let named : c.as_str.result.now ≡ inner_name c.args.name.now c.in-Some.written.now = ◌∙◌ {c = inner_name c.args.name.now c.in-Some.written.now} c.as_str.ensures.value c.in_ok-inner.ensures in
-    on_ok_weaker c.put_bytes.result
-    (λ gives. include_begins told c.args.name.now c.args.line.now c.in-Some.written.now c.as_str.result.now c.args.left (f.begins c.args.files.now) (f.begins c.put_file.new.files) (sym c.in-Some.ensures) some named c.in_ok-put_file.ensures.begins)
-    c.put_bytes.ensures.put
+    up_to c.put_bytes.result told _ _ _ (include_begins told c.args.name.now c.args.line.now c.args.out.now.bytes.items c.put_file.new.out.bytes.items c.in-Some.written.now c.as_str.result.now c.args.left (f.begins c.args.files.now) (f.begins c.put_file.new.files) (sym c.in-Some.ensures) some named c.in_ok-put_file.ensures.put c.in_ok-put_file.ensures.begins)
 
 pub put_include-returns-clause-parts : goal.put_include-returns-clause-parts
 put_include-returns-clause-parts g t c =
@@ -130,3 +129,35 @@ pub put_line-returns-clause-parts : goal.put_line-returns-clause-parts
 put_line-returns-clause-parts g t c = λ behind is_line its.
     let told = g.F.Files.holds c.args.files.now in
     line_put told c.args.name.now c.args.line.now behind c.args.out.now.bytes.items c.put_bytes.new.out.items c.args.out.now.parts.items c.args.reading _ is_line its c.in_ok-put_bytes.ensures.value refl refl refl
+
+pub put_file-returns-in_err-content-clause-begins : goal.put_file-returns-in_err-content-clause-begins
+put_file-returns-in_err-content-clause-begins g t c =
+    let p = err_from_is_err_and c.from_residual.result c.from_residual.ensures.1 in
+    let f = g.F.Files in
+    rw (p.1, p.2) (unread_begins (Unit {0}) c.in_err-content.field-0.0 (f.holds c.args.files.now) c.args.name.now c.args.out.now.bytes.items c.args.left (f.steady c.args.files.now) (f.faults c.args.files.now) _ (f.begins c.args.files.now) _ c.in_err-content.ensures.cause c.in_err-content.ensures.begins_once)
+
+pub put_file-returns-in_err-reading-clause-begins : goal.put_file-returns-in_err-reading-clause-begins
+put_file-returns-in_err-reading-clause-begins g t c =
+    let p = err_from_is_err_and c.from_residual-in_err-reading.result c.from_residual-in_err-reading.ensures.1 in
+    let f = g.F.Files in
+    let inv = c.loop-rest.invariant in
+    let rest = c.loop-rest.rest.now in
+    let some : 0 < length rest = omega (arith, false-eqb (length rest) 0 c.loop-rest-test.ensures) in
+    let cut = line_cut rest c.split_at.result.0.now c.split_at.result.1.now c.line_len.result some c.line_len.ensures c.split_at.ensures.front c.split_at.ensures.back in
+    rw (p.1, p.2) (line_begins Reading (Unit {0}) c.in_err-reading.field-0.0 (f.holds c.args.files.now) (f.holds c.loop-rest.files) c.args.name.now c.args.out.now.bytes.items rest c.split_at.result.0.now c.split_at.result.1.now c.loop-rest.out.bytes.items c.args.left c.loop-rest.reading.inside (f.steady c.loop-rest.files) (f.faults c.loop-rest.files) _ (f.begins c.args.files.now) (f.begins c.loop-rest.files) _ inv.3 inv.1 cut c.in_err-reading.ensures.cause c.in_err-reading.ensures.begins)
+
+pub put_include-returns-in_err-put_file-clause-begins :
+    goal.put_include-returns-in_err-put_file-clause-begins
+put_include-returns-in_err-put_file-clause-begins g t c =
+    let p = err_from_is_err_and c.from_residual-in_err-put_file.result c.from_residual-in_err-put_file.ensures.1 in
+    let f = g.F.Files in
+    let told = f.holds c.args.files.now in
+    let name = c.args.name.now in
+    let line = c.args.line.now in
+    let left = c.args.left in
+    let written = c.in-Some.written.now in
+    let inner = c.as_str.result.now in
+    let some : 0 < left = omega (arith, c.if-left-eq0.false) in
+    let named : c.as_str.result.now ≡ inner_name c.args.name.now c.in-Some.written.now = ◌∙◌ {c = inner_name c.args.name.now c.in-Some.written.now} c.as_str.ensures.value c.in_ok-inner.ensures in
+    rw (p.1, p.2) (front_begins (Unit {0}) (Unit {0}) c.in_err-put_file.field-0.0 told c.args.out.now.bytes.items (λ held. file_events held (left - 1) inner) (λ held. included (below held left) name line) (f.steady c.args.files.now) (f.faults c.args.files.now) _ (f.begins c.args.files.now) _ c.in_err-put_file.ensures.cause
+    (λ held. (_, include_is held name line written inner left (sym c.in-Some.ensures) some named)) c.in_err-put_file.ensures.begins)

@@ -18,7 +18,7 @@ abbrev pub invariant-put_file-loop-rest : goal.invariant-put_file-loop-rest
 invariant-put_file-loop-rest g l =
     let f = g.F.Files in
     Putting (f.holds l.fn.files) l.name l.left l.fn.out.bytes.items l.reading.inside l.rest l.out.bytes.items
-    × Beginning (f.holds l.fn.files) l.name l.left l.reading.inside l.rest (f.begins l.fn.files) (f.begins l.files)
+    × Beginning (f.holds l.fn.files) l.name l.left l.fn.out.bytes.items l.reading.inside l.rest l.out.bytes.items (f.begins l.fn.files) (f.begins l.files)
     × (f.faults l.fn.files ≤ f.faults l.files)
     × (f.holds l.files ≡ f.holds l.fn.files)
     × (f.steady l.fn.files → f.steady l.files × (f.faults l.files ≡ f.faults l.fn.files))
