@@ -61,7 +61,8 @@ node L1 structures 0
 end
 exit 0
 ~
-analyze p i|analyze p i --recompute;%p x(v) %i e() = E(v) x(v) %% %action New() { %new { x(v) = isNew(v) } } %% L0 New() L1;
+analyze p i|analyze p i --recompute;
+%p x(v) %i e() = E(v) x(v) %% %action New() { %new { x(v) = isNew(v) } } %% L0 New() L1;
 %n = {} %p = {};;
 tvla report 2
 node L0 structures 1
