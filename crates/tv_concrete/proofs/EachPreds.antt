@@ -33,9 +33,6 @@ pred-found [] q x below = absurd (omega (arith, below))
 pred-found (y ∷ preds) zero x below = refl
 pred-found (y ∷ preds) (suc q) x below = pred-found preds q x (omega (arith, below))
 
-pub preds-none : (P : ℕ → PredForm → Type 0) (preds : List Pred) → FirstPreds P preds 0
-preds-none P preds k d below = absurd (omega (arith, below))
-
 pub preds-more : (P : ℕ → PredForm → Type 0) (preds : List Pred) (i : ℕ) (x : Pred) → i < length preds
     → x ≡ get_or preds i x
     → FirstPreds P preds i → IsTrue true ↔ P i (pred_of x) → FirstPreds P preds (i + 1)

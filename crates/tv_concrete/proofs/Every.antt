@@ -5,10 +5,7 @@ use Rattle.std.specs.List.{AllWithin}
 use mathlib.Core.Bool.{beq}
 use Rattle.std.proofs.lemmas.Bool.{false≢true}
 use Rattle.std.proofs.lemmas.List.Elements.{All-nil, All-cons, All-head, All-tail, All-map, AllWithin-more}
-use Rattle.std.proofs.lemmas.List.Elements.{AllWithin-none, All-from_all_within, All-get_or, at_read}
-
-pub every-none : {X : Type 0} (P : X → Type 0) (xs : List X) → AllWithin P xs 0 0
-every-none P xs = AllWithin-none P xs 0
+use Rattle.std.proofs.lemmas.List.Elements.{All-from_all_within, All-get_or, at_read}
 
 pub every-more : {X : Type 0} (P : X → Type 0) (xs : List X) (i : ℕ) (x : X) → i < length xs → x ≡ get_or xs i x
     → AllWithin P xs 0 i → IsTrue true ↔ P x → AllWithin P xs 0 (i + 1)
@@ -27,10 +24,6 @@ every-true P xs i done before =
 -- an answer to the last of two facts, where the first is known
 pub both-second : (P Q : Type 0) (b : Bool) → P → IsTrue b ↔ Q → IsTrue b ↔ (P × Q)
 both-second P Q b p answer = (λ t. (p, answer.0 t), λ s. answer.1 s.1)
-
--- the answer false, where the first of two facts fails
-pub both-first_fails : (P Q : Type 0) → (P → ⊥) → IsTrue false ↔ (P × Q)
-both-first_fails P Q fails = (λ f. absurd (false≢true f), λ s. absurd (fails s.0))
 
 -- one answer is the same as the other where they answer the same
 pub same-answer : (P Q : Type 0) (a b : Bool) → IsTrue a ↔ P → IsTrue b ↔ Q → IsTrue (beq a b) ↔ (P ↔ Q)

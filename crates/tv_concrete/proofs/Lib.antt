@@ -3,7 +3,7 @@ mod Decided
 mod EachPreds
 mod Every
 mod Lists
-mod PropertyLemmas
+mod Parts
 mod Rounds
 mod RuleLemmas
 mod StepLemmas

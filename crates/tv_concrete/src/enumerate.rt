@@ -12,7 +12,7 @@ use std::alloc::{AllocError, Global};
 use tv_model::{Items, Terms};
 
 /// All lists of `n` of the individuals.
-pub fn tuples(alloc: Global, individuals: &[u32], n: u8) -> Result<Items<Tuple>, AllocError>
+pub(crate) fn tuples(alloc: Global, individuals: &[u32], n: u8) -> Result<Items<Tuple>, AllocError>
     ensures { IfOk result (λ all. all ≡ tuples_of individuals.now n) }
 {
     if n == 0 {

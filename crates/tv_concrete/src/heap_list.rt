@@ -54,14 +54,14 @@ impl Values {
 
 impl HeapList {
     /// Whether `u` is an individual of the heap.
-    pub fn has(&self, u: u32) -> bool
+    pub(crate) fn has(&self, u: u32) -> bool
         ensures { IsTrue result ↔ Contains (heap_of self.now).individuals u }
     {
         self.individuals.as_slice().contains(&u)
     }
 
     /// The tuples of which the predicate holds.
-    pub fn extent(&self, pred: usize) -> &[Tuple]
+    pub(crate) fn extent(&self, pred: usize) -> &[Tuple]
         ensures { result.now ≡ extent (heap_of self.now) pred }
     {
         match self.extents.as_slice().get(pred) {
@@ -97,7 +97,7 @@ impl HeapList {
 }
 
 /// Whether both lists have the same elements in the same order.
-pub fn same(xs: &[u32], ys: &[u32]) -> bool
+pub(crate) fn same(xs: &[u32], ys: &[u32]) -> bool
     ensures { IsTrue result ↔ (xs.now ≡ ys.now) }
 {
     xs == ys

@@ -1,6 +1,6 @@
 //! Whether a plain heap meets the rules of a program's properties.
 
-ghost use Rattle.std.specs.Prelude.{◌≡◌, ◌↔◌, ◌≤◌, IsTrue, IfOk, All, length, map};
+ghost use Rattle.std.specs.Prelude.{◌≡◌, ◌↔◌, ◌≤◌, ◌++◌, IsTrue, IfOk, OnOk, All, length, map};
 ghost use Rattle.tv_model.specs.Form.{form_of, vars_of, FAnd, FAtom};
 ghost use Rattle.tv_model.specs.Program.{pred_of, rule_of, EachPred};
 ghost use Rattle.tv_model.specs.Rules.{MeetsRule, declared_rule, property_rules};
@@ -8,9 +8,9 @@ ghost use Rattle.tv_model.specs.Rules.{unique_rule, function_rule, invfunction_r
 ghost use Rattle.tv_model.specs.Rules.{reflexive_rule, symmetric_rule};
 ghost use Rattle.tv_concrete.specs.Lists.{heap_of};
 
-use crate::{HeapList, meets_rule};
+use crate::{HeapList, meets_rules};
 use std::alloc::{AllocError, Global};
-use tv_model::{Formula, Head, Pred, PredId, Props, Rule, Terms, Var};
+use tv_model::{Formula, Head, Items, Pred, PredId, Props, Rule, Rules, Terms, Var};
 
 const A: Var = Var(0);
 
@@ -46,115 +46,33 @@ fn meets_properties(
     ensures { IfOk result
         (λ b. IsTrue b ↔ All (MeetsRule (heap_of heap.now)) (property_rules p.0 props.now)) }
 {
-    if !meets_unique(alloc, heap, p, props.unique)? {
-        return Ok(false);
-    }
-    if !meets_function(alloc, heap, p, props.function)? {
-        return Ok(false);
-    }
-    if !meets_invfunction(alloc, heap, p, props.invfunction)? {
-        return Ok(false);
-    }
-    if !meets_transitive(alloc, heap, p, props.transitive)? {
-        return Ok(false);
-    }
-    if !meets_reflexive(alloc, heap, p, props.reflexive)? {
-        return Ok(false);
-    }
-    meets_symmetric(alloc, heap, p, props.symmetric)
+    let rules = property_rules(alloc, p, props)?;
+    meets_rules(alloc, heap, rules.as_slice())
 }
 
-fn meets_unique(
-    alloc: Global,
-    heap: &HeapList,
-    p: PredId,
-    declared: bool,
-) -> Result<bool, AllocError>
-    ensures { IfOk result (λ b. IsTrue b ↔ All (MeetsRule (heap_of heap.now))
-        (declared_rule declared (unique_rule p.0))) }
+/// The rules of the properties that are declared.
+fn property_rules(alloc: Global, p: PredId, props: &Props) -> Result<Rules, AllocError>
+    ensures { IfOk result (λ rules. map rule_of rules ≡ property_rules p.0 props.now) }
 {
-    let rule = unique(alloc, p)?;
-    meets_declared(alloc, heap, declared, &rule)
+    let mut rules = Items::new(alloc);
+    push_declared(props.unique, unique(alloc, p)?, &mut rules)?;
+    push_declared(props.function, function(alloc, p)?, &mut rules)?;
+    push_declared(props.invfunction, invfunction(alloc, p)?, &mut rules)?;
+    push_declared(props.transitive, transitive(alloc, p)?, &mut rules)?;
+    push_declared(props.reflexive, reflexive(p), &mut rules)?;
+    push_declared(props.symmetric, symmetric(p), &mut rules)?;
+    Ok(rules)
 }
 
-fn meets_function(
-    alloc: Global,
-    heap: &HeapList,
-    p: PredId,
-    declared: bool,
-) -> Result<bool, AllocError>
-    ensures { IfOk result (λ b. IsTrue b ↔ All (MeetsRule (heap_of heap.now))
-        (declared_rule declared (function_rule p.0))) }
-{
-    let rule = function(alloc, p)?;
-    meets_declared(alloc, heap, declared, &rule)
-}
-
-fn meets_invfunction(
-    alloc: Global,
-    heap: &HeapList,
-    p: PredId,
-    declared: bool,
-) -> Result<bool, AllocError>
-    ensures { IfOk result (λ b. IsTrue b ↔ All (MeetsRule (heap_of heap.now))
-        (declared_rule declared (invfunction_rule p.0))) }
-{
-    let rule = invfunction(alloc, p)?;
-    meets_declared(alloc, heap, declared, &rule)
-}
-
-fn meets_transitive(
-    alloc: Global,
-    heap: &HeapList,
-    p: PredId,
-    declared: bool,
-) -> Result<bool, AllocError>
-    ensures { IfOk result (λ b. IsTrue b ↔ All (MeetsRule (heap_of heap.now))
-        (declared_rule declared (transitive_rule p.0))) }
-{
-    let rule = transitive(alloc, p)?;
-    meets_declared(alloc, heap, declared, &rule)
-}
-
-fn meets_reflexive(
-    alloc: Global,
-    heap: &HeapList,
-    p: PredId,
-    declared: bool,
-) -> Result<bool, AllocError>
-    ensures { IfOk result (λ b. IsTrue b ↔ All (MeetsRule (heap_of heap.now))
-        (declared_rule declared (reflexive_rule p.0))) }
-{
-    let rule = reflexive(p);
-    meets_declared(alloc, heap, declared, &rule)
-}
-
-fn meets_symmetric(
-    alloc: Global,
-    heap: &HeapList,
-    p: PredId,
-    declared: bool,
-) -> Result<bool, AllocError>
-    ensures { IfOk result (λ b. IsTrue b ↔ All (MeetsRule (heap_of heap.now))
-        (declared_rule declared (symmetric_rule p.0))) }
-{
-    let rule = symmetric(p);
-    meets_declared(alloc, heap, declared, &rule)
-}
-
-fn meets_declared(
-    alloc: Global,
-    heap: &HeapList,
-    declared: bool,
-    rule: &Rule,
-) -> Result<bool, AllocError>
-    ensures { IfOk result (λ b. IsTrue b ↔ All (MeetsRule (heap_of heap.now))
-        (declared_rule declared (rule_of rule.now))) }
+/// Puts the rule of a property behind the list, if it is declared.
+fn push_declared(declared: bool, rule: Rule, rules: &mut Rules) -> Result<(), AllocError>
+    ensures { OnOk result
+        (map rule_of rules.new ≡ map rule_of rules.old ++ declared_rule declared (rule_of rule)) }
 {
     if declared {
-        return meets_rule(alloc, heap, rule);
+        rules.push(rule)?;
     }
-    Ok(true)
+    Ok(())
 }
 
 fn unique(alloc: Global, p: PredId) -> Result<Rule, AllocError>

@@ -24,7 +24,8 @@ pub fn meets_program(alloc: Global, program: &Program, heap: &HeapList) -> Resul
     meets_all_properties(alloc, heap, program.vocab.preds.as_slice())
 }
 
-fn meets_rules(alloc: Global, heap: &HeapList, rules: &[Rule]) -> Result<bool, AllocError>
+/// Whether the heap meets each of the rules.
+pub fn meets_rules(alloc: Global, heap: &HeapList, rules: &[Rule]) -> Result<bool, AllocError>
     ensures { IfOk result (λ b. IsTrue b ↔ All (MeetsRule (heap_of heap.now)) (map rule_of rules.now)) }
 {
     for rule in rules {
@@ -36,7 +37,7 @@ fn meets_rules(alloc: Global, heap: &HeapList, rules: &[Rule]) -> Result<bool, A
 }
 
 /// Whether wherever the rule's body is true, so is its head.
-pub fn meets_rule(alloc: Global, heap: &HeapList, rule: &Rule) -> Result<bool, AllocError>
+fn meets_rule(alloc: Global, heap: &HeapList, rule: &Rule) -> Result<bool, AllocError>
     ensures { IfOk result (λ b. IsTrue b ↔ MeetsRule (heap_of heap.now) (rule_of rule.now)) }
 {
     let vars = rule_variables(alloc, rule)?;

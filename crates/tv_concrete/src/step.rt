@@ -253,7 +253,7 @@ fn updates_one(
 }
 
 /// Whether the predicate has no definition.
-pub fn is_core(kind: &Kind) -> bool
+pub(crate) fn is_core(kind: &Kind) -> bool
     ensures { IsTrue result ↔ (kind_of kind.now ≡ KCore) }
 {
     match kind {

@@ -32,12 +32,6 @@ by-delta q own (Some d) =
     go true = refl
     go false = refl
 
--- without own variables there is no update
-pub unnamed : (p : ProgramForm) (action : ActionForm) (affected : List Bool) (q : ℕ) (vars : List ℕ) (body : Form)
-    → own_variables action.picks (action.picks ++ (vars ++ variables body)) vars ≡ None
-    → formed p action affected q vars body ≡ DEvaluate
-unnamed p action affected q vars body none = rw none refl
-
 -- with them it is by its formula
 pub named : (p : ProgramForm) (action : ActionForm) (affected : List Bool) (q : ℕ) (vars : List ℕ) (body : Form)
     (own : List ℕ) → own_variables action.picks (action.picks ++ (vars ++ variables body)) vars ≡ Some own

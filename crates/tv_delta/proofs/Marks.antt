@@ -6,10 +6,11 @@ use Rattle.std.specs.Prelude.{◌&&◌, slice_get, is_some}
 use Rattle.std.proofs.lemmas.Bool.{false≢true}
 use Rattle.std.proofs.lemmas.List.{get_or-set_same, get_or-set_other, length-set}
 use Rattle.tv_model.specs.Program.{ProgramForm, PredForm, KindForm, KCore, KDefined, ActionForm, UpdateForm}
+use Rattle.tv_model.specs.Program.{is_core_kind}
 use Rattle.tv_model.specs.Step.{update_for}
 use Rattle.tv_model.specs.Truth.{IsWalk}
 use Rattle.tv_delta_laws.specs.Deltas.{is_flagged}
-use Rattle.tv_delta_laws.specs.Differences.{is_core_kind, IsChanged, DefinedBy, IsAffected, AreAffected}
+use Rattle.tv_delta_laws.specs.Differences.{IsChanged, DefinedBy, IsAffected, AreAffected}
 use Rattle.tv_delta.specs.Flags.{rests, rests_pred, rests_at, changed_from, MentionsAt, AreMarked}
 use Rattle.tv_delta.proofs.Touches.{Touched, touched, touching}
 
@@ -68,9 +69,6 @@ pub record IsMarking (preds : List PredForm) (old new : List Bool) : Type 0 wher
   pub sound : (q : ℕ) → is_flagged new q ≡ true → RestsOld preds old q
   pub kept : (q : ℕ) → is_flagged old q ≡ true → is_flagged new q ≡ true
 
-pub marking_start : (preds : List PredForm) (old : List Bool) → IsMarking preds old old
-marking_start preds old = record { one_each = refl; sound = λ q on. inl on; kept = λ q on. on }
-
 goes-on : (preds : List PredForm) (old : List Bool) (q r : ℕ) → MentionsAt preds q r → RestsOld preds old r
     → RestsOld preds old q
 goes-on preds old q r it was =
@@ -93,15 +91,6 @@ marking_more preds old new q is below on = record {
     here r same =
         let At : ℕ → Type 0 = λ n. RestsOld preds old n
         in subst At (sym same) (goes-on preds old q its.0 its.1 (is.sound its.0 its.2))
-
-pub marking_done : (preds : List PredForm) (old new : List Bool) → IsMarking preds old new
-    → ((q : ℕ) → rests_at new preds q ≡ true → is_flagged new q ≡ true) → AreMarked preds old new
-marking_done preds old new is closed = record {
-  one_each = is.one_each;
-  sound = is.sound;
-  kept = is.kept;
-  closed = closed;
-}
 
 -- ---- the flags of an action
 

@@ -2,9 +2,9 @@
 use Rattle.std.proofs.Common.{ℕ, ◌≡◌, ◌∙◌, refl, sym, ap, subst, length, List, [], ◌∷◌, ◌++◌, Option, Bool}
 use Rattle.tv_model.specs.Form.{Form}
 use Rattle.tv_delta_laws.specs.Deltas.{Delta, delta_of, some, every}
-use Rattle.tv_delta_form.specs.declared.heads.Binding.{Binding}
-use Rattle.tv_delta_form.specs.declared.heads.Binding.TheVariants.{Exists, Forall}
-use Rattle.tv_delta_form.specs.Heads.{bound_by}
+use Rattle.tv_model.specs.declared.quantifiers.Binding.{Binding}
+use Rattle.tv_model.specs.declared.quantifiers.Binding.TheVariants.{Exists, Forall}
+use Rattle.tv_model.specs.Quantifiers.{bound_by}
 use Rattle.tv_model.specs.Program.{ProgramForm}
 use Rattle.tv_delta.specs.declared.opening.Opening.{Opening}
 use Rattle.tv_delta.specs.Opening.{AreWithin, EndsWithin, atom_at, delta_at}

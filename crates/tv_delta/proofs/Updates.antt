@@ -6,10 +6,11 @@ use Rattle.std.proofs.lemmas.Bool.{false≢true}
 use Rattle.std.proofs.lemmas.List.Elements.{Contains-append_cases}
 use Rattle.tv_model.specs.Form.{Form}
 use Rattle.tv_model.specs.Program.{ProgramForm, PredForm, KindForm, KDefined, ActionForm, UpdateForm}
+use Rattle.tv_model.specs.Program.{is_core_kind, is_core_pred}
 use Rattle.tv_model.specs.Valid.{IsValid}
 use Rattle.tv_model.proofs.Lists.{Contains-filter_back, slice_get-contains}
 use Rattle.tv_delta_laws.specs.Differences.{AreAffected, DTo, answer_for, answer_by_kind, answers_from}
-use Rattle.tv_delta_laws.specs.Differences.{differenced_updates, is_core_kind, is_core_pred, IsDifferenced}
+use Rattle.tv_delta_laws.specs.Differences.{differenced_updates, IsDifferenced}
 use Rattle.tv_delta_laws.specs.Differences.{IsDifferencedAction, with_actions}
 use Rattle.tv_delta_laws.specs.Laws.{UpdatesTellTheTruth}
 use Rattle.tv_delta_laws.proofs.Differenced.{AnswerAt, answers-at, answer-found}

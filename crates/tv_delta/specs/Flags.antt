@@ -2,11 +2,10 @@
 use Rattle.std.specs.Prelude.{ℕ, ◌≡◌, ◌⊎◌, ◌+◌, ◌&&◌, Bool, true, false, List, [], ◌∷◌, length, Option, Some}
 use Rattle.std.specs.Prelude.{None, is_some, slice_get}
 use Rattle.tv_model.specs.Form.{Form, Mentions}
-use Rattle.tv_model.specs.Program.{PredForm, KindForm, KCore, KDefined, UpdateForm}
+use Rattle.tv_model.specs.Program.{PredForm, KindForm, KCore, KDefined, UpdateForm, is_core_kind}
 use Rattle.tv_model.specs.Step.{update_for}
 use Rattle.tv_model.specs.Truth.{IsWalk}
 use Rattle.tv_delta_laws.specs.Deltas.{is_flagged, touches}
-use Rattle.tv_delta_laws.specs.Differences.{is_core_kind}
 
 -- the predicate has a definition that mentions a flagged one
 abbrev pub rests : List Bool → KindForm → Bool

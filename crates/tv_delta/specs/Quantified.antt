@@ -1,8 +1,8 @@
 -- Deltas under quantifiers one in the other.
 use Rattle.std.specs.Prelude.{List, [], ◌∷◌, Option}
 use Rattle.tv_delta_laws.specs.Deltas.{Delta, some, every}
-use Rattle.tv_delta_form.specs.declared.heads.Binding.{Binding}
-use Rattle.tv_delta_form.specs.declared.heads.Binding.TheVariants.{Exists, Forall}
+use Rattle.tv_model.specs.declared.quantifiers.Binding.{Binding}
+use Rattle.tv_model.specs.declared.quantifiers.Binding.TheVariants.{Exists, Forall}
 
 -- the delta of a formula under the quantifier by that of the formula
 abbrev pub quantified : Binding → Option Delta → Option Delta

@@ -3,10 +3,10 @@
 ghost use Rattle.std.specs.Prelude.{ℕ, ◌≡◌, ◌+◌, ◌≤◌, ◌<◌, ◌++◌, Some, true, false, length, map, is_some};
 ghost use Rattle.std.specs.Prelude.{slice_get, option_map, option_copied, IfSome, IfNone, IfOk, OnOk};
 ghost use Rattle.tv_model.specs.Form.{form_of};
-ghost use Rattle.tv_model.specs.Program.{program_of, action_of, pred_of, kind_of, update_of};
+ghost use Rattle.tv_model.specs.Program.{program_of, action_of, pred_of, kind_of, update_of, is_core_kind};
 ghost use Rattle.tv_model.specs.Step.{update_for};
 ghost use Rattle.tv_delta_laws.specs.Deltas.{is_flagged, touches};
-ghost use Rattle.tv_delta_laws.specs.Differences.{is_core_kind, AreAffected};
+ghost use Rattle.tv_delta_laws.specs.Differences.{AreAffected};
 ghost use Rattle.tv_delta.specs.Flags.{rests, rests_at, changed_from, AreMarked};
 
 use std::alloc::{AllocError, Global};

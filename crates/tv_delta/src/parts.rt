@@ -9,9 +9,9 @@ ghost use Rattle.tv_delta.specs.Quantified.{quantified, quantified_by};
 
 use std::alloc::Global;
 use tv_delta_form::{
-    Binding, Delta, Stop, alike, both, choice, either, every, negated, share, some, unchanged,
+    Delta, Stop, alike, both, choice, either, every, negated, share, some, unchanged,
 };
-use tv_model::{Formula, Var};
+use tv_model::{Binding, Formula, Var};
 
 /// A formula that the step leaves as it is.
 #[inline(never)]

@@ -3,10 +3,10 @@
 ghost use Rattle.std.specs.Prelude.{◌≡◌, ◌+◌, ◌≤◌, ◌++◌, ◌∷◌, [], if◌then◌else◌, length, map, filter};
 ghost use Rattle.std.specs.Prelude.{slice_get, All, IfOk, OnOk};
 ghost use Rattle.std.specs.List.{AllZip};
-ghost use Rattle.tv_model.specs.Program.{program_of, action_of, pred_of, update_of};
+ghost use Rattle.tv_model.specs.Program.{program_of, action_of, pred_of, update_of, is_core_pred};
 ghost use Rattle.tv_model.specs.Valid.{IsValid, IsPred};
 ghost use Rattle.tv_delta_laws.specs.Differences.{IsDifferenced, IsDifferencedAction, differenced_updates};
-ghost use Rattle.tv_delta_laws.specs.Differences.{answers_from, is_core_pred, with_updates, with_actions};
+ghost use Rattle.tv_delta_laws.specs.Differences.{answers_from, with_updates, with_actions};
 ghost use Rattle.tv_delta.specs.Answers.{HasRuns, UpdatesTellTruth, update_list};
 ghost use Rattle.tv_delta.specs.Opening.{AreKnown};
 

@@ -4,12 +4,12 @@ use Rattle.std.specs.Prelude.{option_map}
 use Rattle.tv_model.specs.Form.{Form}
 use Rattle.tv_model.specs.declared.formula.Var.{Var}
 use Rattle.tv_delta_laws.specs.Putting.{Arguments, Reserved, put_in, bound_number, under_bound}
-use Rattle.tv_delta_form.specs.declared.heads.Binding.{Binding}
-use Rattle.tv_delta_form.specs.declared.heads.Binding.TheVariants.{Exists, Forall}
+use Rattle.tv_model.specs.declared.quantifiers.Binding.{Binding}
+use Rattle.tv_model.specs.declared.quantifiers.Binding.TheVariants.{Exists, Forall}
 use Rattle.tv_delta_form.specs.declared.stop.Stop.{Stop}
-use Rattle.tv_delta_form.specs.Heads.{bound, bound_by, bound_var, renamed}
+use Rattle.tv_model.specs.Quantifiers.{bound, bound_by, bound_var, renamed}
 use Rattle.tv_delta_form.specs.Views.{StopsUnformed, bind}
-use Rattle.tv_delta_form.proofs.HeadLaws.{bound_last}
+use Rattle.tv_model.proofs.Quantifying.{bound_last}
 use Rattle.tv_delta_form.proofs.PutSteps.{bound-some, exists_fails, forall_fails}
 
 -- one more quantifier gets its number

@@ -1,5 +1,4 @@
 pub mod DeltaSteps
-mod HeadLaws
 mod HeadSteps
 pub mod Likes
 mod PutSteps

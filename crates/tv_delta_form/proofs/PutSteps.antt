@@ -15,71 +15,58 @@ some-pair x y e =
 
 -- ---- quantifiers
 
+-- either quantifier, with its variable and what stands under it
+module _ (quantified : ℕ → Form → Form) (r : Reserved) (m : Arguments) (v : ℕ) (f : Form) where
+  put-at : (n : Arguments) (w : ℕ) (g : Form) → put_in r f n ≡ Some g → (o : Option ℕ)
+      → option_map {U = ℕ × Arguments} (λ u. (u, under_bound m v u f)) o ≡ Some (w, n)
+      → option_and_then (λ u. option_map (λ x. quantified u x) (put_in r f (under_bound m v u f))) o ≡ Some (quantified w g)
+  put-at n w g put None e = absurd (cc e)
+  put-at n w g put (Some u) e =
+      let number : u ≡ w = (some-pair (u, under_bound m v u f) (w, n) e).0
+      in let args : under_bound m v u f ≡ n = (some-pair (u, under_bound m v u f) (w, n) e).1
+      in let inner : put_in r f (under_bound m v u f) ≡ Some g = ap (put_in r f) args ∙ put
+      in ap (option_map (λ x. quantified u x)) inner ∙ ap (λ k. Some (quantified k g)) number
+
+  fails-at : (o : Option ℕ) → option_map {U = ℕ × Arguments} (λ u. (u, under_bound m v u f)) o ≡ None
+      → option_and_then (λ u. option_map (λ x. quantified u x) (put_in r f (under_bound m v u f))) o ≡ None
+  fails-at None e = refl
+  fails-at (Some u) e = absurd (cc e)
+
+  fails-inside-at : (n : Arguments) (w : ℕ) → put_in r f n ≡ None → (o : Option ℕ)
+      → option_map {U = ℕ × Arguments} (λ u. (u, under_bound m v u f)) o ≡ Some (w, n)
+      → option_and_then (λ u. option_map (λ x. quantified u x) (put_in r f (under_bound m v u f))) o ≡ None
+  fails-inside-at n w none None e = absurd (cc e)
+  fails-inside-at n w none (Some u) e =
+      let args : under_bound m v u f ≡ n = (some-pair (u, under_bound m v u f) (w, n) e).1
+      in ap (option_map (λ x. quantified u x)) (ap (put_in r f) args ∙ none)
+
 pub exists_put : (r : Reserved) (m n : Arguments) (v w : ℕ) (f g : Form) → bind r m v f ≡ Some (w, n)
     → put_in r f n ≡ Some g → put_in r (FExists v f) m ≡ Some (FExists w g)
-exists_put r m n v w f g bound put = go (bound_number r m v f) bound
-  where
-    go : (o : Option ℕ) → option_map {U = ℕ × Arguments} (λ u. (u, under_bound m v u f)) o ≡ Some (w, n)
-        → option_and_then (λ u. option_map (λ x. FExists u x) (put_in r f (under_bound m v u f))) o ≡ Some (FExists w g)
-    go None e = absurd (cc e)
-    go (Some u) e =
-        let number : u ≡ w = (some-pair (u, under_bound m v u f) (w, n) e).0
-        in let args : under_bound m v u f ≡ n = (some-pair (u, under_bound m v u f) (w, n) e).1
-        in let inner : put_in r f (under_bound m v u f) ≡ Some g = ap (put_in r f) args ∙ put
-        in ap (option_map (λ x. FExists u x)) inner ∙ ap (λ k. Some (FExists k g)) number
+exists_put r m n v w f g bound put = put-at (λ u x. FExists u x) r m v f n w g put (bound_number r m v f) bound
 
 pub exists_fails : (e : Stop) (r : Reserved) (m : Arguments) (v : ℕ) (f : Form) → StopsUnformed e (bind r m v f)
     → StopsUnformed e (put_in r (FExists v f) m)
-exists_fails e r m v f fails = record { none = λ it. go (bound_number r m v f) (fails.none it) }
-  where
-    go : (o : Option ℕ) → option_map {U = ℕ × Arguments} (λ u. (u, under_bound m v u f)) o ≡ None
-        → option_and_then (λ u. option_map (λ x. FExists u x) (put_in r f (under_bound m v u f))) o ≡ None
-    go None e = refl
-    go (Some u) e = absurd (cc e)
+exists_fails e r m v f fails =
+    record { none = λ it. fails-at (λ u x. FExists u x) r m v f (bound_number r m v f) (fails.none it) }
 
 pub exists_fails_inside : (e : Stop) (r : Reserved) (m n : Arguments) (v w : ℕ) (f : Form) → bind r m v f ≡ Some (w, n)
     → StopsUnformed e (put_in r f n) → StopsUnformed e (put_in r (FExists v f) m)
-exists_fails_inside e r m n v w f bound fails = record { none = λ it. go (fails.none it) (bound_number r m v f) bound }
-  where
-    go : put_in r f n ≡ None → (o : Option ℕ) → option_map {U = ℕ × Arguments} (λ u. (u, under_bound m v u f)) o ≡ Some (w, n)
-        → option_and_then (λ u. option_map (λ x. FExists u x) (put_in r f (under_bound m v u f))) o ≡ None
-    go none None e = absurd (cc e)
-    go none (Some u) e =
-        let args : under_bound m v u f ≡ n = (some-pair (u, under_bound m v u f) (w, n) e).1
-        in ap (option_map (λ x. FExists u x)) (ap (put_in r f) args ∙ none)
+exists_fails_inside e r m n v w f bound fails =
+    record { none = λ it. fails-inside-at (λ u x. FExists u x) r m v f n w (fails.none it) (bound_number r m v f) bound }
 
 pub forall_put : (r : Reserved) (m n : Arguments) (v w : ℕ) (f g : Form) → bind r m v f ≡ Some (w, n)
     → put_in r f n ≡ Some g → put_in r (FForall v f) m ≡ Some (FForall w g)
-forall_put r m n v w f g bound put = go (bound_number r m v f) bound
-  where
-    go : (o : Option ℕ) → option_map {U = ℕ × Arguments} (λ u. (u, under_bound m v u f)) o ≡ Some (w, n)
-        → option_and_then (λ u. option_map (λ x. FForall u x) (put_in r f (under_bound m v u f))) o ≡ Some (FForall w g)
-    go None e = absurd (cc e)
-    go (Some u) e =
-        let number : u ≡ w = (some-pair (u, under_bound m v u f) (w, n) e).0
-        in let args : under_bound m v u f ≡ n = (some-pair (u, under_bound m v u f) (w, n) e).1
-        in let inner : put_in r f (under_bound m v u f) ≡ Some g = ap (put_in r f) args ∙ put
-        in ap (option_map (λ x. FForall u x)) inner ∙ ap (λ k. Some (FForall k g)) number
+forall_put r m n v w f g bound put = put-at (λ u x. FForall u x) r m v f n w g put (bound_number r m v f) bound
 
 pub forall_fails : (e : Stop) (r : Reserved) (m : Arguments) (v : ℕ) (f : Form) → StopsUnformed e (bind r m v f)
     → StopsUnformed e (put_in r (FForall v f) m)
-forall_fails e r m v f fails = record { none = λ it. go (bound_number r m v f) (fails.none it) }
-  where
-    go : (o : Option ℕ) → option_map {U = ℕ × Arguments} (λ u. (u, under_bound m v u f)) o ≡ None
-        → option_and_then (λ u. option_map (λ x. FForall u x) (put_in r f (under_bound m v u f))) o ≡ None
-    go None e = refl
-    go (Some u) e = absurd (cc e)
+forall_fails e r m v f fails =
+    record { none = λ it. fails-at (λ u x. FForall u x) r m v f (bound_number r m v f) (fails.none it) }
 
 pub forall_fails_inside : (e : Stop) (r : Reserved) (m n : Arguments) (v w : ℕ) (f : Form) → bind r m v f ≡ Some (w, n)
     → StopsUnformed e (put_in r f n) → StopsUnformed e (put_in r (FForall v f) m)
-forall_fails_inside e r m n v w f bound fails = record { none = λ it. go (fails.none it) (bound_number r m v f) bound }
-  where
-    go : put_in r f n ≡ None → (o : Option ℕ) → option_map {U = ℕ × Arguments} (λ u. (u, under_bound m v u f)) o ≡ Some (w, n)
-        → option_and_then (λ u. option_map (λ x. FForall u x) (put_in r f (under_bound m v u f))) o ≡ None
-    go none None e = absurd (cc e)
-    go none (Some u) e =
-        let args : under_bound m v u f ≡ n = (some-pair (u, under_bound m v u f) (w, n) e).1
-        in ap (option_map (λ x. FForall u x)) (ap (put_in r f) args ∙ none)
+forall_fails_inside e r m n v w f bound fails =
+    record { none = λ it. fails-inside-at (λ u x. FForall u x) r m v f n w (fails.none it) (bound_number r m v f) bound }
 
 -- ---- closures
 

@@ -33,14 +33,34 @@ small_form f = cc (within (nodes f) 65536, within (height f) 1000)
 pub small_sized : (s : Size) (f : Form) → s ≡ size_of f → is_small_size s ≡ is_small f
 small_sized s f is = ap is_small_size is ∙ small_form f
 
+-- the size over one part, whatever stands over it
+one_sized : (over_it : Form → Form)
+    → ((f : Form) → size_of (over_it f) ≡ node_over (size_of f).nodes (size_of f).height)
+    → (t s : Size) (x y : Shape) → t ≡ node_over s.nodes s.height → s ≡ size_of (shape_form x) → y ≡ x
+    → t ≡ size_of (over_it (shape_form y))
+one_sized over_it law t s x y over is same =
+    over ∙ ap (λ (z : Size). node_over z.nodes z.height) is ∙ sym (law (shape_form x))
+    ∙ ap (λ z. size_of (over_it (shape_form z))) (sym same)
+
+-- the size over two parts, whichever way they are joined
+two_sized : (joined : Form → Form → Form)
+    → ((f g : Form) → size_of (joined f g) ≡ node_over ((size_of f).nodes + (size_of g).nodes) (max (size_of f).height (size_of g).height))
+    → (t s u : Size) (x y z w : Shape) → t ≡ node_over (s.nodes + u.nodes) (max s.height u.height)
+    → s ≡ size_of (shape_form x) → u ≡ size_of (shape_form y) → z ≡ x → w ≡ y
+    → t ≡ size_of (joined (shape_form z) (shape_form w))
+two_sized joined law t s u x y z w over is its same alike =
+    over ∙ ap (λ (a : Size). node_over (a.nodes + u.nodes) (max a.height u.height)) is
+    ∙ ap (λ (a : Size). node_over ((size_of (shape_form x)).nodes + a.nodes) (max (size_of (shape_form x)).height a.height)) its
+    ∙ sym (law (shape_form x) (shape_form y))
+    ∙ ap (λ a. size_of (joined (shape_form a) (shape_form y))) (sym same)
+    ∙ ap (λ a. size_of (joined (shape_form z) (shape_form a))) (sym alike)
+
 pub not-size : (f : Form) → size_of (FNot f) ≡ node_over (size_of f).nodes (size_of f).height
 not-size f = cc (capped (nodes f) 65537, capped (height f) 1001)
 
 pub not_sized : (t s : Size) (x y : Shape) → t ≡ node_over s.nodes s.height → s ≡ size_of (shape_form x)
     → y ≡ x → t ≡ size_of (FNot (shape_form y))
-not_sized t s x y over is same =
-    over ∙ ap (λ (z : Size). node_over z.nodes z.height) is ∙ sym (not-size (shape_form x))
-    ∙ ap (λ z. size_of (FNot (shape_form z))) (sym same)
+not_sized = one_sized (λ f. FNot f) not-size
 
 pub and-size : (f g : Form)
     → size_of (FAnd f g) ≡ node_over ((size_of f).nodes + (size_of g).nodes) (max (size_of f).height (size_of g).height)
@@ -49,12 +69,7 @@ and-size f g = cc (capped-two (nodes f) (nodes g) 65537, higher-two (height f) (
 pub and_sized : (t s u : Size) (x y z w : Shape) → t ≡ node_over (s.nodes + u.nodes) (max s.height u.height)
     → s ≡ size_of (shape_form x) → u ≡ size_of (shape_form y) → z ≡ x → w ≡ y
     → t ≡ size_of (FAnd (shape_form z) (shape_form w))
-and_sized t s u x y z w over is its same alike =
-    over ∙ ap (λ (a : Size). node_over (a.nodes + u.nodes) (max a.height u.height)) is
-    ∙ ap (λ (a : Size). node_over ((size_of (shape_form x)).nodes + a.nodes) (max (size_of (shape_form x)).height a.height)) its
-    ∙ sym (and-size (shape_form x) (shape_form y))
-    ∙ ap (λ a. size_of (FAnd (shape_form a) (shape_form y))) (sym same)
-    ∙ ap (λ a. size_of (FAnd (shape_form z) (shape_form a))) (sym alike)
+and_sized = two_sized (λ f g. FAnd f g) and-size
 
 pub or-size : (f g : Form)
     → size_of (FOr f g) ≡ node_over ((size_of f).nodes + (size_of g).nodes) (max (size_of f).height (size_of g).height)
@@ -63,12 +78,7 @@ or-size f g = cc (capped-two (nodes f) (nodes g) 65537, higher-two (height f) (h
 pub or_sized : (t s u : Size) (x y z w : Shape) → t ≡ node_over (s.nodes + u.nodes) (max s.height u.height)
     → s ≡ size_of (shape_form x) → u ≡ size_of (shape_form y) → z ≡ x → w ≡ y
     → t ≡ size_of (FOr (shape_form z) (shape_form w))
-or_sized t s u x y z w over is its same alike =
-    over ∙ ap (λ (a : Size). node_over (a.nodes + u.nodes) (max a.height u.height)) is
-    ∙ ap (λ (a : Size). node_over ((size_of (shape_form x)).nodes + a.nodes) (max (size_of (shape_form x)).height a.height)) its
-    ∙ sym (or-size (shape_form x) (shape_form y))
-    ∙ ap (λ a. size_of (FOr (shape_form a) (shape_form y))) (sym same)
-    ∙ ap (λ a. size_of (FOr (shape_form z) (shape_form a))) (sym alike)
+or_sized = two_sized (λ f g. FOr f g) or-size
 
 pub iff-size : (f g : Form)
     → size_of (FIff f g) ≡ node_over ((size_of f).nodes + (size_of g).nodes) (max (size_of f).height (size_of g).height)
@@ -77,39 +87,29 @@ iff-size f g = cc (capped-two (nodes f) (nodes g) 65537, higher-two (height f) (
 pub iff_sized : (t s u : Size) (x y z w : Shape) → t ≡ node_over (s.nodes + u.nodes) (max s.height u.height)
     → s ≡ size_of (shape_form x) → u ≡ size_of (shape_form y) → z ≡ x → w ≡ y
     → t ≡ size_of (FIff (shape_form z) (shape_form w))
-iff_sized t s u x y z w over is its same alike =
-    over ∙ ap (λ (a : Size). node_over (a.nodes + u.nodes) (max a.height u.height)) is
-    ∙ ap (λ (a : Size). node_over ((size_of (shape_form x)).nodes + a.nodes) (max (size_of (shape_form x)).height a.height)) its
-    ∙ sym (iff-size (shape_form x) (shape_form y))
-    ∙ ap (λ a. size_of (FIff (shape_form a) (shape_form y))) (sym same)
-    ∙ ap (λ a. size_of (FIff (shape_form z) (shape_form a))) (sym alike)
+iff_sized = two_sized (λ f g. FIff f g) iff-size
 
 pub exists-size : (v : ℕ) (f : Form) → size_of (FExists v f) ≡ node_over (size_of f).nodes (size_of f).height
 exists-size v f = cc (capped (nodes f) 65537, capped (height f) 1001)
 
 pub exists_sized : (t s : Size) (v : ℕ) (x y : Shape) → t ≡ node_over s.nodes s.height → s ≡ size_of (shape_form x)
     → y ≡ x → t ≡ size_of (FExists v (shape_form y))
-exists_sized t s v x y over is same =
-    over ∙ ap (λ (z : Size). node_over z.nodes z.height) is ∙ sym (exists-size v (shape_form x))
-    ∙ ap (λ z. size_of (FExists v (shape_form z))) (sym same)
+exists_sized t s v = one_sized (λ f. FExists v f) (exists-size v) t s
 
 pub forall-size : (v : ℕ) (f : Form) → size_of (FForall v f) ≡ node_over (size_of f).nodes (size_of f).height
 forall-size v f = cc (capped (nodes f) 65537, capped (height f) 1001)
 
 pub forall_sized : (t s : Size) (v : ℕ) (x y : Shape) → t ≡ node_over s.nodes s.height → s ≡ size_of (shape_form x)
     → y ≡ x → t ≡ size_of (FForall v (shape_form y))
-forall_sized t s v x y over is same =
-    over ∙ ap (λ (z : Size). node_over z.nodes z.height) is ∙ sym (forall-size v (shape_form x))
-    ∙ ap (λ z. size_of (FForall v (shape_form z))) (sym same)
+forall_sized t s v = one_sized (λ f. FForall v f) (forall-size v) t s
 
 pub closure-size : (from to left right : ℕ) (f : Form) → size_of (FClosure from to left right f) ≡ node_over (size_of f).nodes (size_of f).height
 closure-size from to left right f = cc (capped (nodes f) 65537, capped (height f) 1001)
 
 pub closure_sized : (t s : Size) (from to left right : ℕ) (x y : Shape) → t ≡ node_over s.nodes s.height → s ≡ size_of (shape_form x)
     → y ≡ x → t ≡ size_of (FClosure from to left right (shape_form y))
-closure_sized t s from to left right x y over is same =
-    over ∙ ap (λ (z : Size). node_over z.nodes z.height) is ∙ sym (closure-size from to left right (shape_form x))
-    ∙ ap (λ z. size_of (FClosure from to left right (shape_form z))) (sym same)
+closure_sized t s from to left right =
+    one_sized (λ f. FClosure from to left right f) (closure-size from to left right) t s
 
 pub cond-size : (c f g : Form)
     → size_of (FCond c f g) ≡ node_over ((size_of c).nodes + (size_of f).nodes + (size_of g).nodes)

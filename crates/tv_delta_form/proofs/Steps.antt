@@ -39,14 +39,6 @@ second_fails e f o p x some fails =
 
 pub ruleset stop_steps = (memory_fails, map_fails, then_fails, then_fails_inside, first_fails, second_fails)
 
--- what is small is given as it is
-pub small_is : (f g : Form) → small_form f ≡ Some g → g ≡ f
-small_is f g e = go (is_small f) e
-  where
-    go : (b : Bool) → cond b (Some f) None ≡ Some g → g ≡ f
-    go true e = cc e
-    go false e = absurd (cc e)
-
 -- ---- formulas that are tested
 
 pub small_gives : (r : Result Formula Stop) (f : Formula) (x y : Form) → r ≡ Ok f → is_small x ≡ true → x ≡ y → form_of f ≡ x
@@ -57,13 +49,6 @@ small_gives r f x y is small same formed =
     go : (b : Bool) → b ≡ true → cond b (Some y) None ≡ Some (form_of f)
     go true e = ap Some (sym (formed ∙ same))
     go false e = absurd (cc e)
-
-pub large_fails : (e : Stop) (x y : Form) → is_small x ≡ false → x ≡ y → StopsUnformed e (small_form y)
-large_fails e x y large same = record { none = λ it. go (is_small y) (ap is_small (sym same) ∙ large) }
-  where
-    go : (b : Bool) → b ≡ false → cond b (Some y) None ≡ None
-    go true e = absurd (cc e)
-    go false e = refl
 
 -- the delta by the formulas that were formed
 pub delta_is : (r : Result Delta Stop) (b u d x y z : Form) → GivesFormed delta_form r (if_small (delta_by b u d)) → b ≡ x

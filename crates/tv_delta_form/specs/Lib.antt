@@ -1,4 +1,3 @@
-pub mod Heads
 pub mod Shapes
 pub mod Sizes
 pub mod UnderHeads

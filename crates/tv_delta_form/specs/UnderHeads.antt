@@ -2,10 +2,10 @@
 use Rattle.std.specs.Prelude.{◌≡◌, ◌≤◌, option_map, Result, Ok, Err}
 use Rattle.tv_model.specs.Form.{Form, form_of, height}
 use Rattle.tv_delta_laws.specs.Putting.{Arguments, Reserved, put_in}
-use Rattle.tv_delta_form.specs.declared.heads.Binding.{Binding}
+use Rattle.tv_model.specs.declared.quantifiers.Binding.{Binding}
 use Rattle.tv_delta_form.specs.declared.putting.Inside.{Inside}
 use Rattle.tv_delta_form.specs.declared.stop.Stop.{Stop}
-use Rattle.tv_delta_form.specs.Heads.{bound, bound_by}
+use Rattle.tv_model.specs.Quantifiers.{bound, bound_by}
 use Rattle.tv_delta_form.specs.Views.{StopsUnformed, arguments_from}
 
 -- the quantifiers with their numbers stand over what is put in under them

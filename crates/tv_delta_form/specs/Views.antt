@@ -2,6 +2,7 @@
 use Rattle.std.specs.Prelude.{ℕ, zero, suc, ◌+◌, ◌++◌, option_map, if◌then◌else◌, ◌≡◌, ◌==◌, Bool, false}
 use Rattle.std.specs.Prelude.{List, [], ◌∷◌, map, Option, Some, None, Result, Ok, Err}
 use Rattle.tv_model.specs.Form.{Form, FExists, form_of, vars_of}
+use Rattle.tv_model.specs.Program.{picks_of}
 use Rattle.tv_model.specs.declared.formula.Var.{Var}
 use Rattle.tv_delta_laws.specs.Deltas.{Delta as DeltaForm, delta_by}
 use Rattle.tv_delta_laws.specs.Putting.{Arguments, Reserved, has, with_own, arguments_of, variables}
@@ -27,14 +28,11 @@ abbrev pub GivesFormed : {X Y : Type 0} → (X → Y) → Result X Stop → Opti
 GivesFormed view (Ok x) defined = defined ≡ Some (view x)
 GivesFormed view (Err e) defined = StopsUnformed e defined
 
-abbrev pub numbers_of : List Var → List ℕ
-numbers_of vs = map (λ v. v.0) vs
-
 abbrev pub arguments_from : List Put → Arguments
 arguments_from m = map (λ e. (e.var.0, e.argument.0)) m
 
 abbrev pub reserved_of : Kept → Reserved
-reserved_of k = record { picks = numbers_of k.picks.now; own = vars_of k.own }
+reserved_of k = record { picks = picks_of k.picks.now; own = vars_of k.own }
 
 -- the same, and one more variable is no slot
 abbrev pub reserved_besides : Option Var → Reserved → Reserved
@@ -42,7 +40,7 @@ reserved_besides None r = r
 reserved_besides (Some w) r = with_own r w.0
 
 abbrev pub reserved_at : ReservedHere → Reserved
-reserved_at r = reserved_besides r.besides (record { picks = numbers_of r.picks.now; own = vars_of r.own })
+reserved_at r = reserved_besides r.besides (record { picks = picks_of r.picks.now; own = vars_of r.own })
 
 abbrev pub is_it : Option Var → ℕ → Bool
 is_it None v = false
@@ -78,7 +76,7 @@ besides_list (Some w) = w.0 ∷ []
 -- the slots in use where an own variable is renamed
 abbrev pub own_used : Kept → Option Var → Form → List ℕ
 own_used k besides body =
-    besides_list besides ++ (numbers_of k.picks.now ++ (vars_of k.own ++ variables body))
+    besides_list besides ++ (picks_of k.picks.now ++ (vars_of k.own ++ variables body))
 
 -- the lowest of n slots from s on that isn't in use
 abbrev pub slot_among : (used : List ℕ) → (s n : ℕ) → Option ℕ

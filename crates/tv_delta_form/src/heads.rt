@@ -3,51 +3,10 @@
 ghost use Rattle.std.specs.Prelude.{◌≡◌, ◌+◌, ◌≤◌, IfOk, IfSome, IfNone};
 ghost use Rattle.tv_model.specs.Form.{form_of, height};
 ghost use Rattle.tv_delta_laws.specs.Simple.{nodes};
-ghost use Rattle.tv_delta_form.specs.Heads.{bound, bound_by, bound_var, renamed};
+ghost use Rattle.tv_model.specs.Quantifiers.{bound, bound_by};
 
 use std::alloc::{AllocError, Global};
-use tv_model::{Formula, Var};
-
-/// A quantifier with its variable.
-#[derive(Clone, Copy, Debug)]
-pub enum Binding {
-    /// Some individual.
-    Exists(Var),
-    /// Every individual.
-    Forall(Var),
-}
-
-impl Binding {
-    /// Its variable.
-    pub fn var(self) -> Var
-        ensures { result.0 ≡ bound_var self }
-    {
-        match self {
-            Binding::Exists(v) | Binding::Forall(v) => v,
-        }
-    }
-
-    /// The same quantifier of another variable.
-    pub fn renamed(self, w: Var) -> Binding
-        ensures { result ≡ renamed self w }
-    {
-        match self {
-            Binding::Exists(_) => Binding::Exists(w),
-            Binding::Forall(_) => Binding::Forall(w),
-        }
-    }
-
-    /// The formula under the quantifier.
-    fn over(self, alloc: Global, f: Formula) -> Result<Formula, AllocError>
-        ensures { IfOk result (λ g. form_of g ≡ bound self (form_of f)) }
-    {
-        let body = Box::new(alloc, f)?;
-        Ok(match self {
-            Binding::Exists(v) => Formula::Exists(v, body),
-            Binding::Forall(v) => Formula::Forall(v, body),
-        })
-    }
-}
+use tv_model::{Binding, Formula};
 
 /// The quantifier at the head of the formula, and what stands under it; none where there is none.
 pub fn outermost(f: &Formula) -> Option<(Binding, &Formula)>
@@ -63,7 +22,7 @@ pub fn outermost(f: &Formula) -> Option<(Binding, &Formula)>
 }
 
 /// The quantifiers at the head of the formula, the outermost first, and what stands under them.
-#[tactic(auto, using(crate::proofs::HeadLaws::bound_last))]
+#[tactic(auto, using(tv_model::proofs::Quantifying::bound_last))]
 pub fn head_of(alloc: Global, f: &Formula) -> Result<(Vec<Binding>, &Formula), AllocError>
     ensures parts { IfOk result (λ r. bound_by r.0.items (form_of r.1.now) ≡ form_of f.now) }
     ensures nodes { IfOk result (λ r. nodes (form_of r.1.now) ≤ nodes (form_of f.now)) }
@@ -76,20 +35,4 @@ pub fn head_of(alloc: Global, f: &Formula) -> Result<(Vec<Binding>, &Formula), A
         body = g;
     }
     Ok((bindings, body))
-}
-
-/// The formula under the quantifiers, of which the first comes to stand outermost.
-#[tactic(auto, using(crate::proofs::HeadLaws::bound_last))]
-pub fn bound_by(
-    alloc: Global,
-    mut bindings: Vec<Binding>,
-    f: Formula,
-) -> Result<Formula, AllocError>
-    ensures { IfOk result (λ g. form_of g ≡ bound_by bindings.items (form_of f)) }
-{
-    let mut g = f;
-    while let Some(binding) = bindings.pop() {
-        g = binding.over(alloc, g)?;
-    }
-    Ok(g)
 }

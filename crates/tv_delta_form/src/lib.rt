@@ -15,7 +15,7 @@ pub use deltas::{
     Delta, again, alike, both, choice, delta_of_defined, delta_of_set, either, every, negated,
     some, stored_update, unchanged,
 };
-pub use heads::{Binding, head_of};
+pub use heads::head_of;
 pub use made::{atom, share};
 pub use putting::{Kept, own_variables, small_put};
 pub use shape::Shape;

@@ -16,7 +16,7 @@ use tv_model::{Formula, PredId, Terms, Var};
 
 impl Shared {
     /// The same formula once more.
-    pub fn again(&self) -> Result<Shared, AllocError>
+    pub(crate) fn again(&self) -> Result<Shared, AllocError>
         ensures { IfOk result (λ s. form_at s ≡ form_at self.now) }
     {
         Ok(Shared {
@@ -48,7 +48,7 @@ impl Shared {
     }
 
     /// The formula with parts of its own.
-    pub fn formula(&self, alloc: Global) -> Result<Formula, AllocError>
+    pub(crate) fn formula(&self, alloc: Global) -> Result<Formula, AllocError>
         ensures { IfOk result (λ f. form_of f ≡ form_at self.now) }
     {
         unshared(alloc, &self.shape)

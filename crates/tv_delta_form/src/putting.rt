@@ -7,17 +7,18 @@ ghost use Rattle.tv_delta_laws.specs.Putting.{under_bound, bound_number, put_in,
 ghost use Rattle.tv_delta_laws.specs.Deltas.{small_put};
 ghost use Rattle.tv_delta_laws.specs.Simple.{nodes};
 ghost use Rattle.std.specs.List.{zip};
-ghost use Rattle.tv_delta_form.specs.Views.{GivesFormed, numbers_of, arguments_from, reserved_of};
+ghost use Rattle.tv_model.specs.Program.{picks_of};
+ghost use Rattle.tv_model.specs.Quantifiers.{bound};
+ghost use Rattle.tv_delta_form.specs.Views.{GivesFormed, arguments_from, reserved_of};
 ghost use Rattle.tv_delta_form.specs.Views.{reserved_at, reserved_besides, used_at, is_it, slot_among};
 ghost use Rattle.tv_delta_form.specs.Views.{scope_form, bound_of, bind, own_number, own_used};
-ghost use Rattle.tv_delta_form.specs.Heads.{bound};
 ghost use Rattle.tv_delta_form.specs.UnderHeads.{GivesInside};
 
-use crate::heads::{Binding, bound_by, outermost};
+use crate::heads::outermost;
 use crate::size::is_small;
 use crate::stop::Stop;
 use std::alloc::{AllocError, Global};
-use tv_model::{Formula, Terms, Var};
+use tv_model::{Binding, Formula, Terms, Var, bound_by};
 
 /// What is put for a variable.
 #[derive(Clone, Copy, Debug)]
@@ -34,7 +35,7 @@ pub struct Kept<'a> {
 }
 
 fn among(vars: &[Var], v: u8) -> bool
-    ensures { result ≡ has (numbers_of vars.now) v }
+    ensures { result ≡ has (picks_of vars.now) v }
 {
     match vars {
         [] => false,
@@ -532,7 +533,7 @@ pub fn small_put(
 #[tactic(auto, using(crate::proofs::PuttingLemmas::own_slots))]
 fn own_number(k: &Kept<'_>, besides: Option<Var>, v: Var, body: &Formula) -> Result<Var, Stop>
     ensures { GivesFormed (λ w. w.0) result
-        (own_number (numbers_of k.now.picks.now) (own_used k.now besides (form_of body.now)) v.0) }
+        (own_number (picks_of k.now.picks.now) (own_used k.now besides (form_of body.now)) v.0) }
 {
     if among(k.picks, v.0) {
         slot_from(&reserve(k, besides), &[], &over(body), 0, 32)
@@ -545,8 +546,8 @@ fn own_number(k: &Kept<'_>, besides: Option<Var>, v: Var, body: &Formula) -> Res
 /// picked one gets the lowest slot that isn't in use.
 #[tactic(auto, using(crate::proofs::Steps::memory_fails))]
 pub fn own_variables(picks: &[Var], vars: Terms, body: &Formula) -> Result<Terms, Stop>
-    ensures { GivesFormed vars_of result (own_variables (numbers_of picks.now)
-        (numbers_of picks.now ++ (vars_of vars ++ variables (form_of body.now))) (vars_of vars)) }
+    ensures { GivesFormed vars_of result (own_variables (picks_of picks.now)
+        (picks_of picks.now ++ (vars_of vars ++ variables (form_of body.now))) (vars_of vars)) }
 {
     let k = Kept { picks, own: vars };
     match vars {

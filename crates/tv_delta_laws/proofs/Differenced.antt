@@ -13,7 +13,7 @@ use Rattle.tv_model.specs.declared.program.Mode.TheVariants.{Given, Recompute}
 use Rattle.tv_model.specs.Form.{Form}
 use Rattle.tv_model.specs.Heap.{Heap, Holds, IsTuple}
 use Rattle.tv_model.specs.Program.{ProgramForm, PredForm, KindForm, KCore, KDefined, ActionForm, UpdateForm}
-use Rattle.tv_model.specs.Program.{ChangeForm, CTo}
+use Rattle.tv_model.specs.Program.{ChangeForm, CTo, is_core_kind, is_core_pred}
 use Rattle.tv_model.specs.Rules.{IsHeap, IsConcrete, MeetsProgram, blank}
 use Rattle.tv_model.specs.Run.{Stage, GoesOn, IsRun}
 use Rattle.tv_model.specs.Step.{StepsThrough, IsFairThrough, FairStep, FollowsUpdate, AllowsChange}
@@ -24,8 +24,8 @@ use Rattle.tv_model.proofs.Lists.{Contains-here, Contains-there, Contains-none, 
 use Rattle.tv_model.proofs.Lists.{Contains-filter_back, slice_get-contains}
 use Rattle.tv_model.proofs.Programs.{kind-cases}
 use Rattle.tv_delta_laws.specs.Differences.{AreAffected, Answer, DKeep, DEvaluate, DTo, answer_for}
-use Rattle.tv_delta_laws.specs.Differences.{answer_by_kind, updates_by, answers_from, is_core_kind}
-use Rattle.tv_delta_laws.specs.Differences.{is_core_pred, differenced_updates, with_updates, with_actions}
+use Rattle.tv_delta_laws.specs.Differences.{answer_by_kind, updates_by, answers_from}
+use Rattle.tv_delta_laws.specs.Differences.{differenced_updates, with_updates, with_actions}
 use Rattle.tv_delta_laws.specs.Differences.{IsDifferencedAction}
 use Rattle.tv_delta_laws.specs.Laws.{RunsAreDifferenced}
 use Rattle.tv_delta_laws.proofs.Options.{find-passes}

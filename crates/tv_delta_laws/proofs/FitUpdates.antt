@@ -13,7 +13,7 @@ use Rattle.std.proofs.lemmas.List.Kept.{AllPairs-cons}
 use Rattle.std.proofs.lemmas.Slice.Zip.{AllZip-long}
 use Rattle.tv_model.specs.Form.{Form, FAtom}
 use Rattle.tv_model.specs.Program.{ProgramForm, PredForm, KindForm, KCore, KDefined, ActionForm, UpdateForm}
-use Rattle.tv_model.specs.Program.{ChangeForm, CFree, CTo}
+use Rattle.tv_model.specs.Program.{ChangeForm, CFree, CTo, is_core_kind, is_core_pred}
 use Rattle.tv_model.specs.Step.{update_for}
 use Rattle.tv_model.specs.Valid.{IsValid, IsPred, IsVariable, IsFormulaOver, IsKind, IsAction, IsUpdate}
 use Rattle.tv_model.specs.Valid.{IsChange, IsEdge, AreVariables, program_arities}
@@ -26,8 +26,8 @@ use Rattle.tv_delta_laws.specs.Deltas.{Delta, delta_by, unchanged, is_flagged, d
 use Rattle.tv_delta_laws.specs.Deltas.{delta_of_defined, delta_by_change, delta_by_update, delta_by_kind}
 use Rattle.tv_delta_laws.specs.Deltas.{atom_delta, small_put}
 use Rattle.tv_delta_laws.specs.Differences.{Answer, DKeep, DEvaluate, DTo, update_by, formed, answer_for}
-use Rattle.tv_delta_laws.specs.Differences.{answer_by_kind, updates_by, answers_from, is_core_pred}
-use Rattle.tv_delta_laws.specs.Differences.{is_core_kind, differenced_updates, with_updates, with_actions}
+use Rattle.tv_delta_laws.specs.Differences.{answer_by_kind, updates_by, answers_from}
+use Rattle.tv_delta_laws.specs.Differences.{differenced_updates, with_updates, with_actions}
 use Rattle.tv_delta_laws.specs.Differences.{IsDifferencedAction}
 use Rattle.tv_delta_laws.specs.Laws.{DifferencedIsValid}
 use Rattle.tv_delta_laws.proofs.Options.{if-bound, if-then}

@@ -1,9 +1,10 @@
 -- What finite differencing says of a defined predicate and an action, and the program that it makes.
-use Rattle.std.specs.Prelude.{ℕ, ◌≡◌, ◌+◌, ◌⊎◌, ◌↔◌, ◌||◌, Bool, true, false, List, [], ◌∷◌, ◌++◌, length}
+use Rattle.std.specs.Prelude.{ℕ, ◌≡◌, ◌+◌, ◌⊎◌, ◌↔◌, ◌||◌, Bool, true, List, [], ◌∷◌, ◌++◌, length}
 use Rattle.std.specs.Prelude.{filter, Option, Some, None, slice_get, is_some, if◌then◌else◌, option_and_then}
 use Rattle.std.specs.List.{zip, AllZip}
 use Rattle.tv_model.specs.Form.{Form, FAtom, Mentions}
 use Rattle.tv_model.specs.Program.{ProgramForm, PredForm, EachPred, KindForm, KCore, KDefined, ActionForm}
+use Rattle.tv_model.specs.Program.{is_core_pred}
 use Rattle.tv_model.specs.Program.{UpdateForm, CTo}
 use Rattle.tv_model.specs.Step.{update_for}
 use Rattle.tv_model.specs.Truth.{IsWalk}
@@ -97,14 +98,6 @@ abbrev pub answers_from : ProgramForm → ActionForm → (affected : List Bool) 
 answers_from p action affected q [] = []
 answers_from p action affected q (d ∷ preds) =
     updates_by q (answer_by_kind p action affected q d.kind) ++ answers_from p action affected (q + 1) preds
-
-abbrev pub is_core_kind : KindForm → Bool
-is_core_kind KCore = true
-is_core_kind (KDefined vars body) = false
-
-abbrev pub is_core_pred : Option PredForm → Bool
-is_core_pred None = false
-is_core_pred (Some d) = is_core_kind d.kind
 
 -- the updates of core predicates that are given, and behind them those of defined ones that differencing
 -- makes

@@ -13,7 +13,7 @@ use Rattle.tv_model.specs.Truth.{Assignment}
 use Rattle.tv_model.specs.Valid.{NamesNew}
 use Rattle.tv_model.proofs.Assignments.{map-images, All-values}
 use Rattle.tv_embedding_laws.specs.LogicalStructure.{LogicalStructure}
-use Rattle.tv_embedding_laws.specs.Embedding.{EmbedsOn, Embeds, EmbedsWithMarks, KeepsMark}
+use Rattle.tv_embedding_laws.specs.Embedding.{EmbedsOn, Embeds, KeepsMark}
 use Rattle.tv_embedding_laws.proofs.EmbeddingLaws.{EmbedsOn-any}
 use Rattle.tv_eval_laws.specs.Value.{value, mark_value, same_value}
 use Rattle.tv_eval_laws.specs.Laws.{TakesAlong, EmbedsFor, EmbeddingTheorem, Renames, ValuesAreKept}
@@ -94,9 +94,6 @@ embeds-for f m s t e marks = record {
   mentioned = EmbedsOn-any (λ q. Mentions q f) m s t e;
   marks = marks;
 }
-
-pub embeds-for_any : (f : Form) (m : ℕ → ℕ) (s t : LogicalStructure) → EmbedsWithMarks m s t → EmbedsFor f m s t
-embeds-for_any f m s t e = embeds-for f m s t e.0 (λ n. e.1)
 
 pub values_are_monotone : ValuesAreMonotone
 values_are_monotone f s t a below marks inside =

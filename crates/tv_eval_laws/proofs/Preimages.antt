@@ -3,14 +3,13 @@
 use Rattle.std.proofs.Common.{ℕ, ◌≡◌, ⊎_elim, sym, ap, subst, ◌∙◌, Contains}
 use Rattle.std.proofs.lemmas.Bool.{cases_eq}
 use Rattle.tv_kleene.proofs.Thresholds.{Yes-below, No-below}
-use Rattle.tv_model.specs.Form.{Form, IsFree}
 use Rattle.tv_model.specs.Truth.{Assignment, put}
 use Rattle.tv_model.proofs.Decided.{Contains-decided}
 use Rattle.tv_model.proofs.Assignments.{put-same, put-other}
 use Rattle.tv_embedding_laws.specs.LogicalStructure.{LogicalStructure}
 use Rattle.tv_embedding_laws.specs.Embedding.{EmbedsOn}
 use Rattle.tv_eval_laws.specs.Value.{value}
-use Rattle.tv_eval_laws.specs.Laws.{TakesAlong, GivesIndividuals, DefiniteValuesComeDown}
+use Rattle.tv_eval_laws.specs.Laws.{DefiniteValuesComeDown}
 use Rattle.tv_eval_laws.proofs.Embedded.{embedding_theorem}
 
 -- u is an individual of s that m takes to w
@@ -30,14 +29,6 @@ preimages P m s t e = (λ w. (chosen w).0, λ w at. (chosen w).1 at)
     chosen w = ⊎_elim (λ at. found w (e.onto w at)) (λ none. (0, λ at. absurd (none at)))
         (Contains-decided t.individuals w)
 
--- an assignment of individuals of t has one of their preimages below it
-pub assignment-below : (P : ℕ → Type 0) (m : ℕ → ℕ) (s t : LogicalStructure) → EmbedsOn P m s t
-    → (f : Form) (b : Assignment)
-    → GivesIndividuals t.individuals f b → (a : Assignment) × TakesAlong m s f a b
-assignment-below P m s t e f b inside =
-    let chosen : (g : ℕ → ℕ) × ((w : ℕ) → Contains t.individuals w → IsPreimage m s w (g w)) = preimages P m s t e
-    in (λ v. chosen.0 (b v), λ v free. chosen.1 (b v) (inside v free))
-
 -- any preimage may be prescribed for one variable more
 pub preimages-put : (matters : ℕ → Type 0) (m : ℕ → ℕ) (s : LogicalStructure) (a b : Assignment)
     → ((x : ℕ) → matters x → IsPreimage m s (b x) (a x))
@@ -48,10 +39,6 @@ preimages-put matters m s a b takes v u is x needed =
     (λ e. subst At (sym (put-same a v u x e)) (is.0, is.1 ∙ ap b (sym e)))
     (λ ne. subst At (sym (put-other a v u x ne)) (takes x needed))
     (cases_eq x v)
-
-pub TakesAlong-put : (m : ℕ → ℕ) (s : LogicalStructure) (f : Form) (a b : Assignment) → TakesAlong m s f a b
-    → (v u : ℕ) → IsPreimage m s (b v) u → TakesAlong m s f (put a v u) b
-TakesAlong-put m s f a b takes v u is = preimages-put (λ x. IsFree x f) m s a b takes v u is
 
 pub definite_values_come_down : DefiniteValuesComeDown
 definite_values_come_down f m s t a b e takes = record {

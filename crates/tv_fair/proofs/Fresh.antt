@@ -13,39 +13,13 @@ use Rattle.tv_model.specs.Rules.{IsHeap}
 use Rattle.tv_model.specs.Step.{with_new, IsMiddle, Keeps, update_for, AllowsChange, FollowsUpdate}
 use Rattle.tv_model.specs.Step.{StepsThrough, AgreesWithGiven, FairlySteps, IsFairThrough}
 use Rattle.tv_model.specs.Truth.{Assignment, Truth, put, put_all}
-use Rattle.tv_model.proofs.Assignments.{put-same, put-other, put-holds, put-matched, map-images}
+use Rattle.tv_model.proofs.Assignments.{put-holds, put-matched, map-images}
+use Rattle.tv_model.proofs.Assignments.{swap, swap-first, swap-rest, swap-second, swap-twice}
 use Rattle.tv_model.proofs.Decided.{Contains-decided}
 use Rattle.tv_model.proofs.Lists.{pushed-cases, pushed-old, pushed-last}
 use Rattle.tv_model.proofs.Programs.{holds-individuals}
 use Rattle.tv_model.proofs.Truths.{Matched, Truth-matched}
 use Rattle.tv_fair.specs.Candidates.{Suffice}
-
--- u and m are exchanged
-abbrev pub swap : ℕ → ℕ → ℕ → ℕ
-swap u m = put (put (λ w. w) m u) u m
-
-pub swap-first : (u m w : ℕ) → w ≡ u → swap u m w ≡ m
-swap-first u m w e = put-same (put (λ x. x) m u) u m w e
-
-pub swap-rest : (u m w : ℕ) → w ≢ u → w ≢ m → swap u m w ≡ w
-swap-rest u m w nu nm = put-other (put (λ x. x) m u) u m w nu ∙ put-other (λ x. x) m u w nm
-
-pub swap-second : (u m w : ℕ) → w ≡ m → swap u m w ≡ u
-swap-second u m w e =
-    ⊎_elim
-    (λ f. swap-first u m w f ∙ sym e ∙ f)
-    (λ ne. put-other (put (λ x. x) m u) u m w ne ∙ put-same (λ x. x) m u w e)
-    (cases_eq w u)
-
-pub swap-twice : (u m w : ℕ) → swap u m (swap u m w) ≡ w
-swap-twice u m w =
-    ⊎_elim
-    (λ e. swap-second u m (swap u m w) (swap-first u m w e) ∙ sym e)
-    (λ nu. ⊎_elim
-    (λ e. swap-first u m (swap u m w) (swap-second u m w e) ∙ sym e)
-    (λ nm. ap (swap u m) (swap-rest u m w nu nm) ∙ swap-rest u m w nu nm)
-    (cases_eq w m))
-    (cases_eq w u)
 
 pub differs : (xs : List ℕ) (u w : ℕ) → ¬ Contains xs u → Contains xs w → w ≢ u
 differs xs u w out at e = let In : ℕ → Type 0 = λ x. Contains xs x in out (subst In e at)
@@ -266,9 +240,6 @@ exchanged p mode action picked old new u m x fresh fair = record {
 -- all values of the variables so far, and the value of what is no variable
 abbrev pub ValuesSoFar : List ℕ → Assignment → ℕ → Type 0
 ValuesSoFar xs a n = Contains xs 0 × ((v : ℕ) → v < n → Contains xs (a v))
-
-pub values-none : (xs : List ℕ) (a : Assignment) → Contains xs 0 → ValuesSoFar xs a 0
-values-none xs a at = (at, λ v below. absurd (omega (arith, below)))
 
 pub values-more : (xs ys : List ℕ) (a : Assignment) (n x : ℕ) → ys ≡ xs ++ x ∷ [] → x ≡ a n → ValuesSoFar xs a n
     → ValuesSoFar ys a (n + 1)

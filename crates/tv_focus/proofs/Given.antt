@@ -7,7 +7,8 @@ use Rattle.std.proofs.lemmas.List.Elements.{All-head, All-tail, All-nil, Contain
 use Rattle.tv_embedding_laws.specs.LogicalStructure.{LogicalStructure}
 use Rattle.tv_struct.specs.StructureForm.{StructureForm, structure_of}
 use Rattle.tv_struct.proofs.Library.{below-range}
-use Rattle.tv_focus_laws.specs.FocusAtoms.{AtomForm, AnchorsForm, is_yes, is_anchored, anchors_of, and_given}
+use Rattle.tv_kleene.specs.Kleene.{is_yes}
+use Rattle.tv_focus_laws.specs.FocusAtoms.{AtomForm, AnchorsForm, is_anchored, anchors_of, and_given}
 use Rattle.tv_focus_laws.specs.FocusAtoms.{by_unary, by_binary, ordinary}
 use Rattle.tv_focus_laws.proofs.Membership.{Contains-from_filter}
 use Rattle.tv_focus_laws.proofs.Stages.{unary-are, binary-are, folded-are}

@@ -9,13 +9,13 @@ use Rattle.std.proofs.lemmas.List.{get_or-replicate, length-map, length-replicat
 use Rattle.std.proofs.lemmas.List.FromFn.{length-map-range_with_len, get_or-map-range_with_len}
 use Rattle.tv_kleene.specs.declared.K3.{K3}
 use Rattle.tv_kleene.specs.declared.K3.TheVariants.{No, Half, Yes}
-use Rattle.tv_kleene.specs.Kleene.{larger_of, negation_of, smaller_of}
+use Rattle.tv_kleene.specs.Kleene.{larger_of, negation_of, smaller_of, is_yes}
 use Rattle.tv_row.specs.Bits.{paired}
 use Rattle.tv_row.proofs.WordOps.{length-paired, get_or-paired}
 use Rattle.tv_struct.specs.StructureForm.{StructureForm, structure_of, summary_at, value_at}
 use Rattle.tv_struct.specs.StructureRows.{unary_row}
 use Rattle.tv_focus_laws.specs.Counts.{halves}
-use Rattle.tv_focus_laws.specs.FocusAtoms.{is_yes, ordinary}
+use Rattle.tv_focus_laws.specs.FocusAtoms.{ordinary}
 use Rattle.tv_focus.specs.Anchored.{IsReached, pair_of}
 use Rattle.tv_focus.specs.declared.anchors.Place.{Place}
 use Rattle.tv_focus.proofs.Filters.{filter_range_more}

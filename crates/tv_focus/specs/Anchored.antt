@@ -3,9 +3,10 @@ use Rattle.std.specs.Prelude.{ℕ, ◌≡◌, ◌<◌, List, [], ◌∷◌, leng
 use Rattle.std.specs.List.{list_any}
 use Rattle.tv_kleene.specs.declared.K3.{K3}
 use Rattle.tv_kleene.specs.declared.K3.TheVariants.{No}
+use Rattle.tv_kleene.specs.Kleene.{is_yes}
 use Rattle.tv_embedding_laws.specs.LogicalStructure.{LogicalStructure}
 use Rattle.tv_model.specs.Form.{Form}
-use Rattle.tv_focus_laws.specs.FocusAtoms.{AtomForm, AnchorsForm, focus_atoms, by_unary, is_yes}
+use Rattle.tv_focus_laws.specs.FocusAtoms.{AtomForm, AnchorsForm, focus_atoms, by_unary}
 use Rattle.tv_focus_laws.specs.Choices.{AimForm, Alone, Before, Behind, SplitForm, Nothing, Whole, Each}
 use Rattle.tv_struct.specs.StructureForm.{StructureForm, arities_of, value_at}
 use Rattle.tv_focus.specs.declared.anchors.Place.{Place}

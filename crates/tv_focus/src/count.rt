@@ -43,7 +43,7 @@ fn pair_halves(s: &Structure, p: PredId, place: Place, anchors: &[u32], u: u32) 
 }
 
 /// How many of the tuples of an individual that are aimed at have the value `Half`.
-pub fn halves_at(s: &Structure, p: PredId, aim: &Aim, u: u32) -> usize
+fn halves_at(s: &Structure, p: PredId, aim: &Aim, u: u32) -> usize
     requires aim { IsAimOver s.now p.0 (aim_of aim.now) }
     requires individual { u < s.now.size }
     ensures { result ≡ halves_at (structure_of s.now) p.0 (aim_of aim.now) u }

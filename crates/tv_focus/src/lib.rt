@@ -18,7 +18,6 @@ mod vector;
 pub use aim::Aim;
 pub use atoms::{FocusAtoms, atom_count};
 pub use chosen::make_choice;
-pub use count::halves_at;
 pub use focused::{Choosing, Focused};
 pub use laws::{formulas_have_atoms_over, sharp_atoms_stay};
 pub use put::put_vector;

@@ -24,7 +24,7 @@ impl Model for Vector {
 
 impl Vector {
     /// The vector of no values.
-    pub fn empty(alloc: Global) -> Vector
+    pub(crate) fn empty(alloc: Global) -> Vector
         ensures { result ≡ [] }
     {
         Vector {
@@ -33,14 +33,14 @@ impl Vector {
     }
 
     /// The vector of these values.
-    pub fn of(values: Vec<K3>) -> Vector
+    pub(crate) fn of(values: Vec<K3>) -> Vector
         ensures { result ≡ values.items }
     {
         Vector { values }
     }
 
     /// The vector of copies of these values.
-    pub fn copied(alloc: Global, values: &[K3]) -> Result<Vector, AllocError>
+    pub(crate) fn copied(alloc: Global, values: &[K3]) -> Result<Vector, AllocError>
         ensures { IfOk result (λ v. v ≡ values.now) }
     {
         Ok(Vector {
@@ -49,7 +49,7 @@ impl Vector {
     }
 
     /// The vector that begins with `first` and goes on with these values.
-    pub fn prefixed(alloc: Global, first: K3, rest: &[K3]) -> Result<Vector, AllocError>
+    pub(crate) fn prefixed(alloc: Global, first: K3, rest: &[K3]) -> Result<Vector, AllocError>
         ensures { IfOk result (λ v. v ≡ first ∷ rest.now) }
     {
         let mut values = Vec::with_capacity(alloc, rest.len() + 1)?;

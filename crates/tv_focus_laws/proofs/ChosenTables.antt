@@ -36,8 +36,8 @@ use Rattle.tv_focus_laws.proofs.Distinct.{Distinct, Distinct-from_pairs}
 use Rattle.tv_focus_laws.proofs.Exact.{product-is}
 use Rattle.tv_focus_laws.proofs.Counts.{IsJoined, Contains-from_flat_map, picks-length}
 use Rattle.tv_focus_laws.proofs.Embedded.{Contains-range, range-below}
-use Rattle.tv_focus_laws.proofs.Splits.{IsWhole, choice-whole, split-origins, mark-place, origins-same}
-use Rattle.tv_focus_laws.proofs.Splits.{splits_show}
+use Rattle.tv_focus_laws.proofs.Splits.{IsWhole, choice-whole, mark-place, origins-same}
+use Rattle.tv_focus_laws.proofs.Splits.{splits_show, AreMembers, are-members, copies_in, members_in}
 use Rattle.tv_focus_laws.proofs.Writes.{told, IsWritten, Fit, is_written, sole-copy}
 
 -- ---- what is put for a vector
@@ -121,53 +121,39 @@ choice-one s pred aim choice at k lt plain =
 pub copies-are : (s : StructureForm) (pred : ℕ) (aim : AimForm) (choice : List (List (List K3)))
     → Contains (choices (structure_of s) pred aim) choice → Copies s (members (structure_of s).individuals choice)
 copies-are s pred aim choice at = record {
-  inside = λ u lt. omega (arith, (first u lt).0, copies-size, place u lt);
+  inside = λ u lt. omega (arith, (first u lt).0, laid.size, place u lt);
   origin = λ u lt.
-      let l_lt : copy_of ms u < length ms = omega (arith, (first u lt).0, copies-size, place u lt)
-      in sym (origin (copy_of ms u) l_lt) ∙ ap (λ k. get_or copies k 0) (place u lt) ∙ (first u lt).1 ∙ omega arith;
+      let l_lt : copy_of ms u < length ms = omega (arith, (first u lt).0, laid.size, place u lt)
+      in sym (laid.origin (copy_of ms u) l_lt) ∙ ap (λ k. get_or (copies_in choice) k 0) (place u lt) ∙ (first u lt).1 ∙ omega arith;
   sole = λ u l lt plain l_lt is.
       let known : get_or (range_with_len 0 s.size) u 0 ≡ u = get_or-range_with_len 0 s.size u 0 lt ∙ omega arith
       in let one : length (get_or choice u []) ≡ 1
       = choice-one (structure_of s) pred aim choice at u (omega (arith, lt, length-range_with_len 0 s.size)) (ap (summary_at s) known ∙ plain)
       in place u lt
-      ∙ sym (sole-copy 0 (parts_of choice) l u u (omega arith) (omega (arith, l_lt, copies-size)) (origin l l_lt ∙ is)
-      (omega (arith, lt, count, length-map choice length))
-      (get_or-map length choice u [] 0 (omega (arith, lt, count)) ∙ one));
+      ∙ sym (sole-copy 0 (parts_of choice) l u u (omega arith) (omega (arith, l_lt, laid.size)) (laid.origin l l_lt ∙ is)
+      (omega (arith, lt, laid.count, length-map choice length))
+      (get_or-map length choice u [] 0 (omega (arith, lt, laid.count)) ∙ one));
 }
   where
     whole : IsWhole (structure_of s).individuals choice
     whole = choice-whole (structure_of s) pred aim choice at
 
-    count : length choice ≡ s.size
-    count = whole.count ∙ length-range_with_len 0 s.size
+    laid : AreMembers s choice
+    laid = are-members s choice whole
 
     ms : List MemberForm
-    ms = members (range_with_len 0 s.size) choice
-
-    copies : List ℕ
-    copies = copies_from 0 (parts_of choice)
-
-    same : copies ≡ map (λ (m : MemberForm). m.origin) ms
-    same =
-        let At : ℕ → Type 0 = λ n. copies ≡ map (λ (m : MemberForm). m.origin) (members (range_with_len 0 n) choice)
-        in subst At count (split-origins 0 choice)
-
-    copies-size : length copies ≡ length ms
-    copies-size = ap length same ∙ length-map ms (λ (m : MemberForm). m.origin)
-
-    origin : (l : ℕ) → l < length ms → get_or copies l 0 ≡ (member_at ms l).origin
-    origin l lt = ap (λ us. get_or us l 0) same ∙ get_or-map (λ (m : MemberForm). m.origin) ms l nobody 0 lt
+    ms = members_in s choice
 
     place : (u : ℕ) → u < s.size → copy_of ms u ≡ sum (take u (parts_of choice))
     place u lt =
         let At : ℕ → Type 0 = λ n. position_or_len (λ (m : MemberForm). eqb m.origin u) (members (range_with_len 0 n) choice) ≡ sum (take u (parts_of choice))
-        in subst At count (mark-place choice 0 u u (omega arith) (omega (arith, count, lt)) whole.some)
+        in subst At laid.count (mark-place choice 0 u u (omega arith) (omega (arith, laid.count, lt)) whole.some)
 
-    first : (u : ℕ) → u < s.size → (sum (take u (parts_of choice)) < length copies) × (get_or copies (sum (take u (parts_of choice))) 0 ≡ 0 + u)
+    first : (u : ℕ) → u < s.size → (sum (take u (parts_of choice)) < length (copies_in choice)) × (get_or (copies_in choice) (sum (take u (parts_of choice))) 0 ≡ 0 + u)
     first u lt =
-        let many : 1 ≤ length (get_or choice u []) = whole.some u [] (omega (arith, lt, count))
-        in get_or-copies_from 0 (parts_of choice) u (omega (arith, lt, count, length-map choice length))
-        (omega (arith, many, get_or-map length choice u [] 0 (omega (arith, lt, count))))
+        let many : 1 ≤ length (get_or choice u []) = whole.some u [] (omega (arith, lt, laid.count))
+        in get_or-copies_from 0 (parts_of choice) u (omega (arith, lt, laid.count, length-map choice length))
+        (omega (arith, many, get_or-map length choice u [] 0 (omega (arith, lt, laid.count))))
 
 -- ---- the split table
 
@@ -339,22 +325,11 @@ chosen_tables_show s pred aim choice is knows are apart at small =
     whole : IsWhole (structure_of s).individuals choice
     whole = choice-whole (structure_of s) pred aim choice at
 
-    count : length choice ≡ s.size
-    count = whole.count ∙ length-range_with_len 0 s.size
+    laid : AreMembers s choice
+    laid = are-members s choice whole
 
     ms : List MemberForm
-    ms = members (range_with_len 0 s.size) choice
-
-    copies : List ℕ
-    copies = copies_from 0 (parts_of choice)
-
-    same : copies ≡ map (λ (m : MemberForm). m.origin) ms
-    same =
-        let At : ℕ → Type 0 = λ n. copies ≡ map (λ (m : MemberForm). m.origin) (members (range_with_len 0 n) choice)
-        in subst At count (split-origins 0 choice)
-
-    copies-size : length copies ≡ length ms
-    copies-size = ap length same ∙ length-map ms (λ (m : MemberForm). m.origin)
+    ms = members_in s choice
 
     t : StructureForm
     t = split s (parts_of choice)
@@ -363,7 +338,7 @@ chosen_tables_show s pred aim choice is knows are apart at small =
     reads = drawn_reads s is
 
     over : arities_of t ≡ arities_of s
-    over = reads.arities copies t.fresh
+    over = reads.arities (copies_in choice) t.fresh
 
     c : Copies s ms
     c = copies-are s pred aim choice at
@@ -377,20 +352,20 @@ chosen_tables_show s pred aim choice is knows are apart at small =
         = writes-inside s ms c aim are apart j.source (range-below (length ms) j.source j.at) v j.has
         in record {
           arity = ap (λ xs. slice_get xs pred) over ∙ knows ∙ ap Some (sym inside.0);
-          individuals = subst (λ n. AreIndividuals n v.tuple) (sym copies-size) inside.1;
+          individuals = subst (λ n. AreIndividuals n v.tuple) (sym laid.size) inside.1;
         }
 
     w : IsWritten t (written t pred (all_writes aim ms)) pred (all_writes aim ms)
-    w = is_written t pred (all_writes aim ms) (split-is s choice is whole (omega (arith, copies-size, small))) fit
+    w = is_written t pred (all_writes aim ms) (split-is s choice is whole (omega (arith, laid.size, small))) fit
 
     told-at : (tuple : List ℕ) → HasEntry (table_of t) pred tuple
         → told (all_writes aim ms) tuple (value_at t pred tuple) (focused_value (structure_of s) pred aim ms tuple)
     told-at tuple has =
         let long : length tuple ≡ places_of aim
         = some-same (length tuple) (places_of aim) (sym has.arity ∙ ap (λ xs. slice_get xs pred) over ∙ knows)
-        in let within : AreIndividuals (length ms) tuple = subst (λ n. AreIndividuals n tuple) copies-size has.individuals
+        in let within : AreIndividuals (length ms) tuple = subst (λ n. AreIndividuals n tuple) laid.size has.individuals
         in let base : value_at t pred tuple ≡ value_at s pred (map (λ x. (member_at ms x).origin) tuple)
-        = reads.values copies t.fresh pred tuple has.individuals ∙ ap (value_at s pred) (origins-same ms copies tuple same within)
+        = reads.values (copies_in choice) t.fresh pred tuple has.individuals ∙ ap (value_at s pred) (origins-same ms (copies_in choice) tuple laid.same within)
         in (
           λ v has_v e. let j : IsJoined (copy_writes aim ms) (range_with_len 0 (length ms)) v
               = Contains-from_flat_map (copy_writes aim ms) v (range_with_len 0 (length ms)) has_v

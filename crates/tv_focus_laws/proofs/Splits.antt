@@ -107,6 +107,40 @@ origins-same ms copies (u ∷ tuple) same within =
     in let rest : origins_of copies tuple ≡ map (λ x. (member_at ms x).origin) tuple = origins-same ms copies tuple same within.1
     in cc
 
+-- the copies that a choice makes, each told by its individual
+abbrev pub copies_in : List (List (List K3)) → List ℕ
+copies_in choice = copies_from 0 (parts_of choice)
+
+-- the members of a choice for each individual of the structure, in order
+abbrev pub members_in : StructureForm → List (List (List K3)) → List MemberForm
+members_in s choice = members (range_with_len 0 s.size) choice
+
+-- the copies that such a choice makes are its members: each of the individual from which its member comes
+pub record AreMembers (s : StructureForm) (choice : List (List (List K3))) : Type 0 where
+  pub count : length choice ≡ s.size
+  pub same : copies_in choice ≡ map (λ (m : MemberForm). m.origin) (members_in s choice)
+  pub size : length (copies_in choice) ≡ length (members_in s choice)
+  pub origin : (l : ℕ) → l < length (members_in s choice)
+      → get_or (copies_in choice) l 0 ≡ (member_at (members_in s choice) l).origin
+
+pub are-members : (s : StructureForm) (choice : List (List (List K3))) → IsWhole (structure_of s).individuals choice
+    → AreMembers s choice
+are-members s choice whole = record {
+  count = count;
+  same = same;
+  size = ap length same ∙ length-map (members_in s choice) (λ (m : MemberForm). m.origin);
+  origin = λ l lt. ap (λ us. get_or us l 0) same
+      ∙ get_or-map (λ (m : MemberForm). m.origin) (members_in s choice) l nobody 0 lt;
+}
+  where
+    count : length choice ≡ s.size
+    count = whole.count ∙ length-range_with_len 0 s.size
+
+    same : copies_in choice ≡ map (λ (m : MemberForm). m.origin) (members_in s choice)
+    same =
+        let At : ℕ → Type 0 = λ n. copies_in choice ≡ map (λ (m : MemberForm). m.origin) (members (range_with_len 0 n) choice)
+        in subst At count (split-origins 0 choice)
+
 pub splits_show : (s : StructureForm) (pred : ℕ) (aim : AimForm) (choice : List (List (List K3))) (t : StructureForm) → IsStructure s
     → IsWhole (structure_of s).individuals choice → IsSplitBy s pred aim choice t
     → ShowsOver s t (chosen (structure_of s) pred aim choice)
@@ -118,51 +152,37 @@ splits_show s pred aim choice t is whole by = record {
     values = value;
     summaries = λ u lt.
         ap (λ flags. get_or flags u false) by.summaries
-        ∙ reads.summaries copies (split s (parts_of choice)).fresh u (omega (arith, lt, size, copies-size))
-        ∙ ap (summary_at s) (origin u (omega (arith, lt, size)));
+        ∙ reads.summaries (copies_in choice) (split s (parts_of choice)).fresh u (omega (arith, lt, size, laid.size))
+        ∙ ap (summary_at s) (laid.origin u (omega (arith, lt, size)));
     fresh = by.fresh ∙ mark s.fresh refl;
   };
 }
   where
-    count : length choice ≡ s.size
-    count = whole.count ∙ length-range_with_len 0 s.size
+    laid : AreMembers s choice
+    laid = are-members s choice whole
 
     ms : List MemberForm
-    ms = members (range_with_len 0 s.size) choice
-
-    copies : List ℕ
-    copies = copies_from 0 (parts_of choice)
-
-    same : copies ≡ map (λ (m : MemberForm). m.origin) ms
-    same =
-        let At : ℕ → Type 0 = λ n. copies ≡ map (λ (m : MemberForm). m.origin) (members (range_with_len 0 n) choice)
-        in subst At count (split-origins 0 choice)
-
-    copies-size : length copies ≡ length ms
-    copies-size = ap length same ∙ length-map ms (λ (m : MemberForm). m.origin)
+    ms = members_in s choice
 
     size : t.size ≡ length ms
-    size = by.size ∙ copies-size
+    size = by.size ∙ laid.size
 
     reads : DrawnReads s
     reads = drawn_reads s is
-
-    origin : (u : ℕ) → u < length ms → get_or copies u 0 ≡ (member_at ms u).origin
-    origin u lt = ap (λ us. get_or us u 0) same ∙ get_or-map (λ (m : MemberForm). m.origin) ms u nobody 0 lt
 
     value : (q : ℕ) (tuple : List ℕ) → HasEntry (table_of t) q tuple
         → value_at t q tuple ≡ (chosen (structure_of s) pred aim choice).value q tuple
     value q tuple has =
         let within : AreIndividuals (length ms) tuple = subst (λ n. AreIndividuals n tuple) size has.individuals
-        in let inside : AreIndividuals (length copies) tuple = subst (λ n. AreIndividuals n tuple) (sym copies-size) within
+        in let inside : AreIndividuals (length (copies_in choice)) tuple = subst (λ n. AreIndividuals n tuple) (sym laid.size) within
         in let here : K3 = focused_value (structure_of s) pred aim ms tuple
         in let there : K3 = value_at s q (map (λ x. (member_at ms x).origin) tuple)
         in ⊎_elim
         (λ e. let Has : ℕ → Type 0 = λ p. HasEntry (table_of t) p tuple
         in ap (λ p. value_at t p tuple) e ∙ by.focused tuple (subst Has e has) ∙ sym (cond-true (eqb q pred) here there (eq-eqb q pred e)))
         (λ ne. by.others q tuple ne has
-        ∙ reads.values copies (split s (parts_of choice)).fresh q tuple inside
-        ∙ ap (value_at s q) (origins-same ms copies tuple same within)
+        ∙ reads.values (copies_in choice) (split s (parts_of choice)).fresh q tuple inside
+        ∙ ap (value_at s q) (origins-same ms (copies_in choice) tuple laid.same within)
         ∙ sym (cond-false (eqb q pred) here there (ne_eqb q pred ne)))
         (cases_eq q pred)
 
@@ -175,7 +195,7 @@ splits_show s pred aim choice t is whole by = record {
         let Same : Option ℕ → Type 0 = λ o. option_map (λ x. sum (take x (parts_of choice))) o ≡ option_map (copy_of ms) o
         in let known : IsMark s (Some u) = subst (IsMark s) e is.fresh
         in let At : ℕ → Type 0 = λ n. position_or_len (λ (m : MemberForm). eqb m.origin u) (members (range_with_len 0 n) choice) ≡ sum (take u (parts_of choice))
-        in subst Same (sym e) (ap Some (sym (subst At count (mark-place choice 0 u u (omega arith) (omega (arith, count, known.0)) whole.some))))
+        in subst Same (sym e) (ap Some (sym (subst At laid.count (mark-place choice 0 u u (omega arith) (omega (arith, laid.count, known.0)) whole.some))))
 
 pub splits_show_choices : SplitsShowChoices
 splits_show_choices s pred aim choice t is at by =

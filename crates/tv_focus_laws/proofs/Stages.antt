@@ -10,13 +10,13 @@ use Rattle.std.proofs.lemmas.List.Elements.{All-head, All-tail, All-cons, All-ni
 use Rattle.std.proofs.lemmas.List.Elements.{Contains-get_or}
 use Rattle.tv_kleene.specs.declared.K3.{K3}
 use Rattle.tv_kleene.specs.declared.K3.TheVariants.{No, Half, Yes}
-use Rattle.tv_kleene.specs.Kleene.{LiesUnder}
+use Rattle.tv_kleene.specs.Kleene.{LiesUnder, is_yes}
 use Rattle.tv_model.specs.Heap.{Heap}
 use Rattle.tv_model.specs.Form.{Form}
 use Rattle.tv_embedding_laws.specs.LogicalStructure.{LogicalStructure, heap_structure, holds}
 use Rattle.tv_embedding_laws.specs.Embedding.{Embeds, IsHeapOf}
 use Rattle.tv_model.proofs.Lists.{Contains-here, Contains-there, Contains-none, Contains-cases}
-use Rattle.tv_focus_laws.specs.FocusAtoms.{AtomForm, AnchorsForm, ordinary, is_yes, is_anchored, anchors_of}
+use Rattle.tv_focus_laws.specs.FocusAtoms.{AtomForm, AnchorsForm, ordinary, is_anchored, anchors_of}
 use Rattle.tv_focus_laws.specs.FocusAtoms.{and_given, by_unary, by_binary, anchors_in, focus_atoms}
 use Rattle.tv_focus_laws.specs.Choices.{AimForm, Alone, Before, Behind, SplitForm, Nothing, Whole, Each}
 use Rattle.tv_focus_laws.specs.Choices.{split_of, split_by, definite, choices, chosen}

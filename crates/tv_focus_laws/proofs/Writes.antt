@@ -119,23 +119,34 @@ is_written s pred (w ∷ writes) is fit =
 
 -- ---- copies
 
+-- a copy of the first individual
+of-first : (n part : ℕ) (parts : List ℕ) (l : ℕ) → l < part → get_or (copies_from n (part ∷ parts)) l 0 ≡ n
+of-first n part parts l first =
+    get_or_append_left (replicate part n) (copies_from (n + 1) parts) 0 l (omega (arith, length-replicate part n, first))
+    ∙ get_or-replicate part l n 0 first
+
+-- a copy behind those of the first individual is one of the others'
+behind-first : (n part : ℕ) (parts : List ℕ) (l : ℕ) → part ≤ l → l < length (copies_from n (part ∷ parts))
+    → (l - part < length (copies_from (n + 1) parts))
+    × (get_or (copies_from n (part ∷ parts)) l 0 ≡ get_or (copies_from (n + 1) parts) (l - part) 0)
+behind-first n part parts l later lt =
+    let place : length (replicate part n) + (l - part) ≡ l = omega (arith, length-replicate part n, later)
+    in (
+      omega (arith, lt, later, length-append (replicate part n) (copies_from (n + 1) parts), length-replicate part n),
+      ap (λ k. get_or (replicate part n ++ copies_from (n + 1) parts) k 0) (sym place)
+      ∙ get_or-append-add (replicate part n) (copies_from (n + 1) parts) (l - part) 0,
+    )
+
 -- the numbers of copies begin at n
 copies-above : (n : ℕ) (parts : List ℕ) (l : ℕ) → l < length (copies_from n parts) → n ≤ get_or (copies_from n parts) l 0
 copies-above n [] l lt = absurd (omega (arith, lt))
 copies-above n (part ∷ parts) l lt =
     ⊎_elim
-    (λ first. let e : get_or (replicate part n ++ copies_from (n + 1) parts) l 0 ≡ n
-    = get_or_append_left (replicate part n) (copies_from (n + 1) parts) 0 l (omega (arith, length-replicate part n, first))
-    ∙ get_or-replicate part l n 0 first
+    (λ first. let e = of-first n part parts l first
     in omega arith)
-    (λ later. let j : ℕ = l - part
-    in let place : length (replicate part n) + j ≡ l = omega (arith, length-replicate part n, later)
-    in let below : j < length (copies_from (n + 1) parts)
-    = omega (arith, lt, later, length-append (replicate part n) (copies_from (n + 1) parts), length-replicate part n)
-    in let e : get_or (replicate part n ++ copies_from (n + 1) parts) l 0 ≡ get_or (copies_from (n + 1) parts) j 0
-    = ap (λ k. get_or (replicate part n ++ copies_from (n + 1) parts) k 0) (sym place)
-    ∙ get_or-append-add (replicate part n) (copies_from (n + 1) parts) j 0
-    in omega (arith, e, copies-above (n + 1) parts j below))
+    (λ later. let behind = behind-first n part parts l later lt
+    in let e = behind.1
+    in omega (arith, e, copies-above (n + 1) parts (l - part) behind.0))
     (cases_lt l part)
 
 -- an individual with one copy has it at one place
@@ -145,29 +156,17 @@ sole-copy n [] l u w sum_is lt is inside one = absurd (omega (arith, inside))
 sole-copy n (part ∷ parts) l zero w sum_is lt is inside one =
     ⊎_elim
     (λ first. omega (arith, first, one))
-    (λ later. let j : ℕ = l - part
-    in let place : length (replicate part n) + j ≡ l = omega (arith, length-replicate part n, later)
-    in let below : j < length (copies_from (n + 1) parts)
-    = omega (arith, lt, later, length-append (replicate part n) (copies_from (n + 1) parts), length-replicate part n)
-    in let e : get_or (replicate part n ++ copies_from (n + 1) parts) l 0 ≡ get_or (copies_from (n + 1) parts) j 0
-    = ap (λ k. get_or (replicate part n ++ copies_from (n + 1) parts) k 0) (sym place)
-    ∙ get_or-append-add (replicate part n) (copies_from (n + 1) parts) j 0
-    in absurd (omega (arith, e, is, sum_is, copies-above (n + 1) parts j below)))
+    (λ later. let behind = behind-first n part parts l later lt
+    in let e = behind.1
+    in absurd (omega (arith, e, is, sum_is, copies-above (n + 1) parts (l - part) behind.0)))
     (cases_lt l part)
 sole-copy n (part ∷ parts) l (suc u) w sum_is lt is inside one =
     ⊎_elim
-    (λ first. let e : get_or (replicate part n ++ copies_from (n + 1) parts) l 0 ≡ n
-    = get_or_append_left (replicate part n) (copies_from (n + 1) parts) 0 l (omega (arith, length-replicate part n, first))
-    ∙ get_or-replicate part l n 0 first
+    (λ first. let e = of-first n part parts l first
     in absurd (omega (arith, e, is, sum_is)))
-    (λ later. let j : ℕ = l - part
-    in let place : length (replicate part n) + j ≡ l = omega (arith, length-replicate part n, later)
-    in let below : j < length (copies_from (n + 1) parts)
-    = omega (arith, lt, later, length-append (replicate part n) (copies_from (n + 1) parts), length-replicate part n)
-    in let e : get_or (replicate part n ++ copies_from (n + 1) parts) l 0 ≡ get_or (copies_from (n + 1) parts) j 0
-    = ap (λ k. get_or (replicate part n ++ copies_from (n + 1) parts) k 0) (sym place)
-    ∙ get_or-append-add (replicate part n) (copies_from (n + 1) parts) j 0
-    in let rest : j ≡ sum (take u parts)
-    = sole-copy (n + 1) parts j u w (omega (arith, sum_is)) below (sym e ∙ is) (omega (arith, inside)) one
+    (λ later. let behind = behind-first n part parts l later lt
+    in let e = behind.1
+    in let rest : l - part ≡ sum (take u parts)
+    = sole-copy (n + 1) parts (l - part) u w (omega (arith, sum_is)) behind.0 (sym e ∙ is) (omega (arith, inside)) one
     in omega (arith, rest, later, sum_by-cons (λ x. x) part (take u parts)))
     (cases_lt l part)

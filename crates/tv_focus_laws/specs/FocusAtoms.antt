@@ -1,9 +1,8 @@
 -- Focus atoms of a formula, and the anchors by which they split a structure.
-use Rattle.std.specs.Prelude.{ℕ, Bool, true, false, ◌==◌, ◌&&◌, not, List, [], ◌∷◌, ◌++◌, fold, filter}
+use Rattle.std.specs.Prelude.{ℕ, Bool, ◌==◌, ◌&&◌, not, List, [], ◌∷◌, ◌++◌, fold, filter}
 use Rattle.std.specs.Prelude.{if◌then◌else◌}
 use Rattle.std.specs.List.{list_any}
-use Rattle.tv_kleene.specs.declared.K3.{K3}
-use Rattle.tv_kleene.specs.declared.K3.TheVariants.{No, Half, Yes}
+use Rattle.tv_kleene.specs.Kleene.{is_yes}
 use Rattle.tv_model.specs.Form.{Form, FZero, FOne, FAtom, FIsNew, FSame, FNot, FAnd, FOr, FIff, FCond}
 use Rattle.tv_model.specs.Form.{FExists, FForall, FClosure}
 use Rattle.tv_embedding_laws.specs.LogicalStructure.{LogicalStructure}
@@ -33,11 +32,6 @@ focus_atoms (FClosure from to left right f) = []
 pub record AnchorsForm : Type 0 where
   pub var : ℕ
   pub anchors : List ℕ
-
-abbrev pub is_yes : K3 → Bool
-is_yes No = false
-is_yes Half = false
-is_yes Yes = true
 
 -- the individuals that pass the test and are no summaries
 abbrev pub ordinary : LogicalStructure → (ℕ → Bool) → List ℕ

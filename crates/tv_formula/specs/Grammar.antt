@@ -17,6 +17,7 @@ use Rattle.std.specs.Prelude.{◌≡◌, ℕ, List, Option, Some, None, codes}
 use Rattle.tv_lex.specs.Token.{SpecToken}
 use Rattle.tv_phrases.specs.Reading.{taken, ◌>>=◌, choose}
 use Rattle.tv_phrases.specs.Tokens.{after, first, identifier_item, text_item}
+pub use Rattle.tv_phrases.specs.Tokens.{Begins, Lacks}
 use Rattle.tv_phrases.specs.Lists.{variables, params, name, pair}
 use Rattle.tv_tree.specs.Forms.{NameForm, Form, FZero, FOne, FHalf, FSame, FDiffer, FAtom, FStar, FPlus}
 use Rattle.tv_tree.specs.Forms.{FParen, FNot, FAnd, FOr, FImp, FIff, FCond, FExists, FForall, FTc}
@@ -24,14 +25,6 @@ use Rattle.tv_formula.specs.declared.binder.Binder.{Binder}
 use Rattle.tv_formula.specs.declared.binder.Binder.TheVariants.{Exists, Forall, Closure}
 use Rattle.tv_formula.specs.declared.link.Link.{Link}
 use Rattle.tv_formula.specs.declared.link.Link.TheVariants.{Iff, Or, And}
-
--- the tokens begin with one that is spelled like the mark, and `rest` is what stands behind it
-abbrev pub Begins : List ℕ → List SpecToken → List SpecToken → Type 0
-Begins mark ts rest = after mark ts ≡ Some rest
-
--- they begin with no such token
-abbrev pub Lacks : List ℕ → List SpecToken → Type 0
-Lacks mark ts = after mark ts ≡ None
 
 -- a formula; the parts that a connective joins; what may stand behind a left part; an implication; the rest
 pub data Production : Type 0 where

@@ -11,4 +11,4 @@ mod words;
 
 pub use laws::{formulas_are_read, one_formula, printed_formulas, read_formulas};
 pub use parser::formula;
-pub use words::{arrow, behind_arrow, name_of_phrase, spelling, spellings};
+pub use words::{behind_arrow, name_of_phrase, spelling, spellings};

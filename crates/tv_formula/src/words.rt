@@ -43,7 +43,7 @@ pub fn name_of_phrase(alloc: Global, bytes: &[u8], phrase: &NamePhrase) -> Resul
 
 /// The tokens behind an arrow, where an implication takes it: one that no string stands behind.
 #[tactic(auto, unfolding(crate::specs::Grammar::arrow))]
-pub fn arrow<'a>(bytes: &[u8], tokens: &'a [Token]) -> Option<&'a [Token]>
+pub(crate) fn arrow<'a>(bytes: &[u8], tokens: &'a [Token]) -> Option<&'a [Token]>
     ensures { option_map (λ rest. spec_tokens bytes.now rest.now) result
         ≡ arrow (spec_tokens bytes.now tokens.now) }
 {

@@ -55,3 +55,8 @@ are_same Half Yes = false
 are_same Yes No = false
 are_same Yes Half = false
 are_same Yes Yes = true
+
+abbrev pub is_yes : K3 → Bool
+is_yes No = false
+is_yes Half = false
+is_yes Yes = true

@@ -1,7 +1,7 @@
 -- Lemmas on assignments, for the crates above: what an assignment gives once an individual is put for a
 -- variable.
 use Rattle.std.proofs.Common.{ℕ, ◌≡◌, ◌≢◌, List, map, get_or, ⊎_elim, sym, subst, ◌∙◌, All, Contains, eqb}
-use Rattle.std.proofs.Common.{eq-eqb, ne_eqb}
+use Rattle.std.proofs.Common.{ap, eq-eqb, ne_eqb}
 use Rattle.std.proofs.lemmas.Bool.{cases_eq, cond-true, cond-false}
 use Rattle.std.proofs.lemmas.List.Elements.{All-map, Contains-get_or}
 use Rattle.tv_model.specs.Truth.{Assignment, put}
@@ -50,3 +50,30 @@ All-values P a vars each = All-map P a vars (λ k d below. each (get_or vars k d
 pub map-images : (m : ℕ → ℕ) (a b : Assignment) (vars : List ℕ) → ((v : ℕ) → Contains vars v → m (a v) ≡ b v)
     → map m (map a vars) ≡ map b vars
 map-images m a b vars same = map-compose a m vars ∙ map-agreed (λ v. m (a v)) b vars same
+
+-- u and m are exchanged
+abbrev pub swap : ℕ → ℕ → ℕ → ℕ
+swap u m = put (put (λ w. w) m u) u m
+
+pub swap-first : (u m w : ℕ) → w ≡ u → swap u m w ≡ m
+swap-first u m w e = put-same (put (λ x. x) m u) u m w e
+
+pub swap-rest : (u m w : ℕ) → w ≢ u → w ≢ m → swap u m w ≡ w
+swap-rest u m w nu nm = put-other (put (λ x. x) m u) u m w nu ∙ put-other (λ x. x) m u w nm
+
+pub swap-second : (u m w : ℕ) → w ≡ m → swap u m w ≡ u
+swap-second u m w e =
+    ⊎_elim
+    (λ f. swap-first u m w f ∙ sym e ∙ f)
+    (λ ne. put-other (put (λ x. x) m u) u m w ne ∙ put-same (λ x. x) m u w e)
+    (cases_eq w u)
+
+pub swap-twice : (u m w : ℕ) → swap u m (swap u m w) ≡ w
+swap-twice u m w =
+    ⊎_elim
+    (λ e. swap-second u m (swap u m w) (swap-first u m w e) ∙ sym e)
+    (λ nu. ⊎_elim
+    (λ e. swap-first u m (swap u m w) (swap-second u m w e) ∙ sym e)
+    (λ nm. ap (swap u m) (swap-rest u m w nu nm) ∙ swap-rest u m w nu nm)
+    (cases_eq w m))
+    (cases_eq w u)

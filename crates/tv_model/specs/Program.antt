@@ -1,5 +1,5 @@
 -- Programs as mathematical values: what a `Program` says, without its boxes and vectors.
-use Rattle.std.specs.Prelude.{ℕ, ◌≡◌, Bool, List, map, Option, None, Some, slice_get}
+use Rattle.std.specs.Prelude.{ℕ, ◌≡◌, Bool, true, false, List, map, Option, None, Some, slice_get}
 use Rattle.tv_model.specs.Form.{Form, form_of, vars_of}
 use Rattle.tv_model.specs.declared.formula.Formula.{Formula}
 use Rattle.tv_model.specs.declared.formula.Var.{Var}
@@ -24,6 +24,21 @@ pub data KindForm : Type 0 where
   KCore : KindForm
   KDefined : (vars : List ℕ) → (body : Form) → KindForm
 
+abbrev pub is_core_kind : KindForm → Bool
+is_core_kind KCore = true
+is_core_kind (KDefined vars body) = false
+
+-- no property is declared
+abbrev pub no_props : Props
+no_props = record {
+  unique = false;
+  function = false;
+  invfunction = false;
+  transitive = false;
+  reflexive = false;
+  symmetric = false;
+}
+
 -- a predicate of the vocabulary
 pub record PredForm : Type 0 where
   pub name : List ℕ
@@ -31,6 +46,11 @@ pub record PredForm : Type 0 where
   pub kind : KindForm
   pub abs : Bool
   pub props : Props
+
+-- a predicate that is there has no definition
+abbrev pub is_core_pred : Option PredForm → Bool
+is_core_pred None = false
+is_core_pred (Some d) = is_core_kind d.kind
 
 -- what a rule demands: nothing is possible, or an atom or an equality, negated where the flag is false
 pub data HeadForm : Type 0 where

@@ -15,7 +15,8 @@ pub use formula::{Formula, Formulas, PredId, Terms, Var, Vars};
 pub use items::{Bytes, Items, Names};
 pub use laws::{Cover, runs_stay_covered, truth_is_kept, truth_is_local, valid_formulas_fit};
 pub use program::{
-    Action, Actions, Change, Edge, Edges, Head, Kind, Message, Messages, Mode, Pred, Preds,
-    Program, Props, Retain, Rule, Rules, Update, Updates, Vocab,
+    Action, Actions, Change, Edge, Edges, Head, Kind, Message, Messages, Mode, NO_PROPS, Pred,
+    Preds, Program, Props, Retain, Rule, Rules, Update, Updates, Vocab,
 };
+pub use quantifiers::{Binding, bound_by};
 pub use walk::{copy, depth, free, mentions};

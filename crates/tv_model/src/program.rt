@@ -22,6 +22,16 @@ pub struct Props {
     pub symmetric: bool,
 }
 
+/// No property is declared.
+pub const NO_PROPS: Props = Props {
+    unique: false,
+    function: false,
+    invfunction: false,
+    transitive: false,
+    reflexive: false,
+    symmetric: false,
+};
+
 /// A predicate of the vocabulary.
 #[derive(Debug, Drop)]
 pub struct Pred {

@@ -2,7 +2,7 @@
 
 ghost use Rattle.std.specs.Prelude.{◌≡◌, ◌≤◌, IfOk};
 ghost use Rattle.tv_model.specs.Form.{form_of, height};
-ghost use Rattle.tv_model.specs.Quantifiers.{bound, bound_by};
+ghost use Rattle.tv_model.specs.Quantifiers.{bound, bound_by, bound_var, renamed};
 
 use crate::{Formula, Var};
 use std::alloc::{AllocError, Global};
@@ -17,8 +17,27 @@ pub enum Binding {
 }
 
 impl Binding {
+    /// Its variable.
+    pub fn var(self) -> Var
+        ensures { result.0 ≡ bound_var self }
+    {
+        match self {
+            Binding::Exists(v) | Binding::Forall(v) => v,
+        }
+    }
+
+    /// The same quantifier of another variable.
+    pub fn renamed(self, w: Var) -> Binding
+        ensures { result ≡ renamed self w }
+    {
+        match self {
+            Binding::Exists(_) => Binding::Exists(w),
+            Binding::Forall(_) => Binding::Forall(w),
+        }
+    }
+
     /// The formula under the quantifier.
-    pub fn over(self, alloc: Global, f: Formula) -> Result<Formula, AllocError>
+    pub(crate) fn over(self, alloc: Global, f: Formula) -> Result<Formula, AllocError>
         ensures { IfOk result (λ g. form_of g ≡ bound self (form_of f)) }
     {
         let body = Box::new(alloc, f)?;

@@ -103,7 +103,7 @@ impl<'a> Naming<'a> {
     }
 
     /// Notes the one further variable that stands free.
-    pub fn note(&mut self, v: u8)
+    pub(crate) fn note(&mut self, v: u8)
         ensures { naming_of self.new ≡ record (naming_of self.old) { further = Some v } }
     {
         self.further = Some(v);
@@ -125,7 +125,7 @@ impl<'a> Naming<'a> {
 
     /// The number of the name, if it has one.
     #[tactic(auto, using(crate::proofs::SlotLaws::position_over))]
-    pub fn number_of(&self, name: &[u8]) -> Option<u8>
+    pub(crate) fn number_of(&self, name: &[u8]) -> Option<u8>
         ensures { result ≡ number_of name.now (naming_of self.now).slots }
     {
         match self.first_named(name) {
@@ -159,7 +159,7 @@ impl<'a> Naming<'a> {
 
     /// The number of a name that is seen: its own, or a new one.
     #[tactic(auto, unfolding(crate::specs::Naming::sighted))]
-    pub fn sight(&mut self, name: &'a [u8]) -> Result<u8, ResolveError>
+    pub(crate) fn sight(&mut self, name: &'a [u8]) -> Result<u8, ResolveError>
         ensures { GivesOrRefuses (λ n. (n, naming_of self.new)) result
             (sighted name.now (naming_of self.old)) }
     {

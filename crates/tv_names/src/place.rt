@@ -59,7 +59,7 @@ impl Known {
     }
 
     /// The set with this variable too; a number from 32 on is none.
-    pub fn with(mut self, v: u8) -> Known
+    pub(crate) fn with(mut self, v: u8) -> Known
         ensures { result.flags ≡ slice_set self.flags v true }
     {
         if (v as usize) < 32 {
@@ -95,7 +95,7 @@ pub struct Place<'a> {
 
 impl<'a> Place<'a> {
     /// The place under a quantifier of this variable.
-    pub fn under(&self, v: u8) -> Place<'a>
+    pub(crate) fn under(&self, v: u8) -> Place<'a>
         ensures { place_form result ≡ under (place_form self.now) v }
     {
         Place {

@@ -1,7 +1,6 @@
 -- A text that a sink is given piece by piece.
 use Rattle.std.proofs.Common.{◌≡◌, ◌<◌, ℕ, zero, suc, List, [], ◌∷◌, ◌++◌, length, get_or, take, drop, Option}
 use Rattle.std.proofs.Common.{Some, None, refl, sym, ◌∙◌, ap, append_assoc, arith}
-use Rattle.std.proofs.lemmas.List.{append-nil}
 use Rattle.std.specs.List.{flat_map}
 use Rattle.tv_outside.specs.Told.{appended, TookFront}
 
@@ -15,13 +14,6 @@ pub appended-append : (old : Option (List ℕ)) (a b : List ℕ) → appended (a
 appended-append None a b = refl
 appended-append (Some taken) a b = ap Some (append_assoc taken a b)
 
-pub appended-nil : (old : Option (List ℕ)) → appended old [] ≡ old
-appended-nil None = refl
-appended-nil (Some taken) = ap Some (append-nil taken)
-
-pub Wrote-nil : (old : Option (List ℕ)) (bytes : List ℕ) → Wrote old old bytes bytes
-Wrote-nil old bytes = record { front = []; split = refl; took = sym (appended-nil old) }
-
 pub Wrote-step : (old mid new : Option (List ℕ)) (bytes rest given next : List ℕ) → Wrote old mid bytes rest
     → rest ≡ given ++ next → new ≡ appended mid given → Wrote old new bytes next
 Wrote-step old mid new bytes rest given next w split took = record {
@@ -29,13 +21,6 @@ Wrote-step old mid new bytes rest given next w split took = record {
   split = w.split ∙ ap (λ r. w.front ++ r) split ∙ sym (append_assoc w.front given next);
   took = took ∙ ap (λ t. appended t given) w.took ∙ appended-append old w.front given;
 }
-
-pub Wrote-whole : (old new : Option (List ℕ)) (bytes : List ℕ) → Wrote old new bytes [] → new ≡ appended old bytes
-Wrote-whole old new bytes w = w.took ∙ ap (appended old) (sym (append-nil w.front) ∙ sym w.split)
-
-pub Wrote-front : (old mid new : Option (List ℕ)) (bytes rest : List ℕ) → Wrote old mid bytes rest → new ≡ mid
-    → TookFront old new bytes
-Wrote-front old mid new bytes rest w e = (w.front, rest, w.split, e ∙ w.took)
 
 -- the joined parts: those before one, that one, and those after it
 pub flat_map-split : {X A : Type 0} (f : X → List A) (xs : List X) (i : ℕ) (d : X) → i < length xs

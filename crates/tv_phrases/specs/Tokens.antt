@@ -1,7 +1,7 @@
 -- Phrases of one token.
-use Rattle.std.specs.Prelude.{ℕ, List, [], ◌∷◌, Bool, true, false, not, ◌&&◌, ◌||◌, ◌==◌, Option, Some, None}
+use Rattle.std.specs.Prelude.{◌≡◌, ℕ, List, [], ◌∷◌, Bool, true, false, not, ◌&&◌, ◌||◌, ◌==◌, Option, Some}
 use Rattle.std.specs.Prelude.{if◌then◌else◌, ◌-◌, ◌^◌, nat_lt, length, slice_index, slice_range, codes}
-use Rattle.std.specs.Prelude.{decimal}
+use Rattle.std.specs.Prelude.{None, decimal}
 use Rattle.std.specs.Str.{bytes_eq}
 use Rattle.std.specs.Str.Parse.{digits_value}
 use Rattle.tv_lex.specs.Bytes.{is_letter}
@@ -16,6 +16,14 @@ use Rattle.tv_phrases.specs.Reading.{Reading, ◌>>=◌}
 unfoldable pub after : List ℕ → List SpecToken → Option (List SpecToken)
 after mark [] = None
 after mark (t ∷ ts) = if bytes_eq t.bytes mark then Some ts else None
+
+-- the tokens begin with one that is spelled like the mark, and `rest` is what stands behind it
+abbrev pub Begins : List ℕ → List SpecToken → List SpecToken → Type 0
+Begins mark ts rest = after mark ts ≡ Some rest
+
+-- they begin with no such token
+abbrev pub Lacks : List ℕ → List SpecToken → Type 0
+Lacks mark ts = after mark ts ≡ None
 
 -- what is told of the first token, and the tokens behind it
 unfoldable pub first : {X : Type 0} → (SpecToken → Option X) → List SpecToken → Reading X

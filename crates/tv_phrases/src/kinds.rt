@@ -25,7 +25,7 @@ pub enum Brackets {
 
 impl Brackets {
     /// The bracket that opens.
-    pub fn opening(self) -> &'static [u8]
+    pub(crate) fn opening(self) -> &'static [u8]
         ensures { result.now ≡ opening self }
     {
         match self {
@@ -36,7 +36,7 @@ impl Brackets {
     }
 
     /// The bracket that closes.
-    pub fn closing(self) -> &'static [u8]
+    pub(crate) fn closing(self) -> &'static [u8]
         ensures { result.now ≡ closing self }
     {
         match self {

@@ -16,6 +16,6 @@ pub use lists::{NamePhrase, name, optional_list, optional_list_in, pair, params,
 pub use numbers::{number, optional_numbers};
 pub use repeated::{Part, all_parts};
 pub use tokens::{
-    after, begins_item, begins_string, begins_with, below, expect, identifier, is_spelled, item,
-    string, unquoted, word,
+    after, begins_item, begins_string, begins_with, below, expect, identifier, is_spelled, string,
+    unquoted, word,
 };

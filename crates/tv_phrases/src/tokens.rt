@@ -117,7 +117,7 @@ pub fn begins_item(bytes: &[u8], tokens: &[Token], item: Item) -> bool
 
 /// The first token, which has to be such an item, and the tokens behind it.
 #[tactic(auto, unfolding(crate::specs::Tokens::first))]
-pub fn item<'a>(bytes: &[u8], tokens: &'a [Token], item: Item) -> Read<'a, Token>
+pub(crate) fn item<'a>(bytes: &[u8], tokens: &'a [Token], item: Item) -> Read<'a, Token>
     ensures value { Takes (λ x. (text_of bytes.now x.0, spec_tokens bytes.now x.1.now)) result
         (first (item_of item) (spec_tokens bytes.now tokens.now)) }
     ensures shorter { IfOk result (λ x. length x.1.now < length tokens.now) }

@@ -3,10 +3,10 @@ use Rattle.std.specs.Prelude.{ℕ, ◌≤◌, ◌+◌, ◌==◌, Bool, true, fal
 use Rattle.std.specs.Prelude.{None, slice_get, unwrap_or, if◌then◌else◌, codes, decimal}
 use Rattle.std.specs.List.{flat_map, position_or_len, range_with_len}
 use Rattle.tv_model.specs.declared.program.Edge.{Edge}
-use Rattle.tv_model.specs.declared.program.Props.{Props}
 use Rattle.tv_model.specs.Form.{Form, FZero, FAtom, FIsNew, FSame, FNot, FAnd, FOr, FIff, FExists, FForall}
 use Rattle.tv_model.specs.Form.{FClosure}
 use Rattle.tv_model.specs.Program.{PredForm, KCore, KDefined, CTo, UpdateForm, ActionForm, ProgramForm}
+use Rattle.tv_model.specs.Program.{no_props}
 use Rattle.tv_model.specs.Rules.{signed_form}
 use Rattle.tv_model.specs.Valid.{first_occurrences}
 use Rattle.tv_source.specs.Forms.{AssignForm, ANull, ANew, ACopy, ALoad, AStore, AClear, TestForm, TAny}
@@ -35,17 +35,6 @@ leads p f v w = FAtom (field_number p f) (v ∷ w ∷ [])
 -- f*(v, w)
 abbrev pub leads_on : SourceForm → (f v w : ℕ) → Form
 leads_on p f v w = FOr (FSame v w) (FClosure v w 2 3 (leads p f 2 3))
-
-abbrev pub no_props : Props
-no_props =
-    record {
-      unique = false;
-      function = false;
-      invfunction = false;
-      transitive = false;
-      reflexive = false;
-      symmetric = false;
-    }
 
 abbrev pub variable_pred : List ℕ → PredForm
 variable_pred name =

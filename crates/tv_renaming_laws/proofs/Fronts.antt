@@ -1,38 +1,10 @@
 -- A list of different individuals is the front of a renaming: one exchange for each of them.
 use Rattle.std.proofs.Common.{ℕ, zero, suc, ◌≡◌, ◌≢◌, ◌⊎◌, ◌<◌, ◌≤◌, List, length, get_or, AllPairs, inl, inr}
-use Rattle.std.proofs.Common.{⊎_elim, refl, sym, ap, ◌∙◌, arith}
-use Rattle.std.proofs.lemmas.Bool.{cases_eq, cases_lt}
-use Rattle.tv_model.specs.Truth.{put}
-use Rattle.tv_model.proofs.Assignments.{put-same, put-other}
+use Rattle.std.proofs.Common.{refl, sym, ap, ◌∙◌, arith}
+use Rattle.std.proofs.lemmas.Bool.{cases_lt}
+use Rattle.tv_model.proofs.Assignments.{swap, swap-first, swap-rest, swap-twice}
 use Rattle.tv_renaming_laws.specs.Renamed.{IsRenaming}
 use Rattle.tv_renaming_laws.specs.Laws.{FrontsAreRenamings}
-
--- u and m are exchanged
-abbrev swap : ℕ → ℕ → ℕ → ℕ
-swap u m = put (put (λ w. w) m u) u m
-
-swap-first : (u m w : ℕ) → w ≡ u → swap u m w ≡ m
-swap-first u m w e = put-same (put (λ x. x) m u) u m w e
-
-swap-rest : (u m w : ℕ) → w ≢ u → w ≢ m → swap u m w ≡ w
-swap-rest u m w nu nm = put-other (put (λ x. x) m u) u m w nu ∙ put-other (λ x. x) m u w nm
-
-swap-second : (u m w : ℕ) → w ≡ m → swap u m w ≡ u
-swap-second u m w e =
-    ⊎_elim
-    (λ f. swap-first u m w f ∙ sym e ∙ f)
-    (λ ne. put-other (put (λ x. x) m u) u m w ne ∙ put-same (λ x. x) m u w e)
-    (cases_eq w u)
-
-swap-twice : (u m w : ℕ) → swap u m (swap u m w) ≡ w
-swap-twice u m w =
-    ⊎_elim
-    (λ e. swap-second u m (swap u m w) (swap-first u m w e) ∙ sym e)
-    (λ nu. ⊎_elim
-    (λ e. swap-first u m (swap u m w) (swap-second u m w e) ∙ sym e)
-    (λ nm. ap (swap u m) (swap-rest u m w nu nm) ∙ swap-rest u m w nu nm)
-    (cases_eq w m))
-    (cases_eq w u)
 
 -- a renaming that calls the numbers below n as the list does
 record IsFront (xs : List ℕ) (n : ℕ) (r s : ℕ → ℕ) : Type 0 where

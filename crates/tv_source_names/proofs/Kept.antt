@@ -31,13 +31,13 @@ use Rattle.tv_source_syntax.specs.Copies.{source_of}
 use Rattle.tv_source_syntax.specs.declared.tree.SourceTree.{SourceTree}
 use Rattle.tv_source_syntax.proofs.Declared.{source_spelled, source_few}
 use Rattle.tv_source_syntax.proofs.Sources.{one_source}
-use Rattle.tv_tree.specs.Names.{is_among}
+use Rattle.tv_tree.specs.Names.{is_among, names_of, number_of}
 use Rattle.tv_tree.specs.Steps.{◌>>=◌, refused_if, or_refused}
-use Rattle.tv_source_names.specs.Answers.{Answers, names_of}
+use Rattle.tv_source_names.specs.Answers.{Answers}
 use Rattle.tv_source_names.specs.Outcome.{MeansSource}
 use Rattle.tv_source_names.specs.declared.error.SourceReadError.{SourceReadError}
 use Rattle.tv_source_names.specs.declared.error.SourceReadError.TheVariants.{Reserved, NameTwice, NameUnknown}
-use Rattle.tv_source_names.specs.Meaning.{is_taken, may_be_declared, declared, number_of, numbered}
+use Rattle.tv_source_names.specs.Meaning.{is_taken, may_be_declared, declared, numbered}
 use Rattle.tv_source_names.specs.Meaning.{assign_meant, test_meant, statement_meant, block_meant}
 use Rattle.tv_source_names.specs.Meaning.{source_meant}
 

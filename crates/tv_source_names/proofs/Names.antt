@@ -6,13 +6,13 @@ use Rattle.std.specs.List.{list_any, position_or_len}
 use Rattle.std.specs.Str.{bytes_eq}
 use Rattle.std.proofs.lemmas.List.{map_push, length-map, take_more, drop_more}
 use Rattle.indexmap.specs.IndexSet.{insert_key}
-use Rattle.tv_tree.specs.Names.{is_among}
+use Rattle.tv_tree.specs.Names.{is_among, names_of}
 use Rattle.tv_tree.specs.Steps.{◌>>=◌}
 use Rattle.tv_source_names.specs.declared.error.SourceReadError.{SourceReadError}
 use Rattle.tv_source_names.specs.declared.error.SourceReadError.TheVariants.{TooDeep, Syntax, Reserved}
 use Rattle.tv_source_names.specs.declared.error.SourceReadError.TheVariants.{NameTwice, NameUnknown, Memory}
 use Rattle.tv_source_names.specs.Meaning.{may_be_declared, declared}
-use Rattle.tv_source_names.specs.Answers.{RefusesSource, names_of}
+use Rattle.tv_source_names.specs.Answers.{RefusesSource}
 
 -- ---- what a set of words says
 

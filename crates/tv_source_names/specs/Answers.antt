@@ -1,12 +1,8 @@
 -- What the parts of the reader answer.
-use Rattle.std.specs.Prelude.{◌≡◌, ℕ, List, Result, Ok, Err, map}
-use Rattle.std.specs.Borrow.{Bor}
+use Rattle.std.specs.Prelude.{◌≡◌, Result, Ok, Err}
 use Rattle.tv_source_names.specs.declared.error.SourceReadError.{SourceReadError}
 use Rattle.tv_source_names.specs.declared.error.SourceReadError.TheVariants.{TooDeep, Syntax, Reserved}
 use Rattle.tv_source_names.specs.declared.error.SourceReadError.TheVariants.{NameTwice, NameUnknown, Memory}
-
-abbrev pub names_of : List (Bor (List ℕ)) → List (List ℕ)
-names_of keys = map (λ name. name.now) keys
 
 -- what is refused is what the meaning refuses; want of memory says nothing
 abbrev pub RefusesSource : {X : Type 0} → SourceReadError → Result X SourceReadError → Type 0

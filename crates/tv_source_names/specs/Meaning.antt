@@ -1,6 +1,6 @@
 -- What a source program means: its names are looked up, in the order in which they stand, and become numbers,
 -- or the first one that may not stand there is told. Declared names come before all others.
-use Rattle.std.specs.Prelude.{ℕ, List, [], ◌∷◌, ◌++◌, Bool, ◌||◌, Option, Result, Ok, position, codes}
+use Rattle.std.specs.Prelude.{ℕ, List, [], ◌∷◌, ◌++◌, Bool, ◌||◌, Result, Ok, codes}
 use Rattle.std.specs.Str.{bytes_eq}
 use Rattle.tv_source.specs.Forms.{AssignForm, ANull, ANew, ACopy, ALoad, AStore, AClear, TestForm, TAny}
 use Rattle.tv_source.specs.Forms.{TNull, TSame, Stmt, SAssign, SIf, SWhile, Stmts, no_stmts, with_stmt}
@@ -8,7 +8,7 @@ use Rattle.tv_source.specs.Forms.{SourceForm}
 use Rattle.tv_source_syntax.specs.Forms.{AssignText, XNull, XNew, XCopy, XLoad, XStore, XClear, TestText}
 use Rattle.tv_source_syntax.specs.Forms.{XAny, XIsNull, XSame, StatementText, XAssign, XIf, XWhile, BlockText}
 use Rattle.tv_source_syntax.specs.Forms.{no_statement, with_statement, SourceText}
-use Rattle.tv_tree.specs.Names.{is_among}
+use Rattle.tv_tree.specs.Names.{is_among, number_of}
 use Rattle.tv_tree.specs.Steps.{◌>>=◌, refused_if, or_refused}
 use Rattle.tv_source_names.specs.declared.error.SourceReadError.{SourceReadError}
 use Rattle.tv_source_names.specs.declared.error.SourceReadError.TheVariants.{Reserved, NameTwice, NameUnknown}
@@ -30,10 +30,6 @@ declared before [] = Ok tt
 declared before (name ∷ names) = may_be_declared before name >>= λ one. declared (before ++ name ∷ []) names
 
 -- ---- numbers
-
--- where a name stands first among others
-abbrev pub number_of : List (List ℕ) → List ℕ → Option ℕ
-number_of names name = position (bytes_eq name) names
 
 abbrev pub numbered : List (List ℕ) → List ℕ → Result ℕ SourceReadError
 numbered names name = or_refused (number_of names name) NameUnknown

@@ -1,6 +1,6 @@
 -- A text and the names that are declared in it.
 use Rattle.std.specs.Prelude.{ℕ, List, length, ◌<◌, ◌^◌}
-use Rattle.tv_source_names.specs.Answers.{names_of}
+use Rattle.tv_tree.specs.Names.{names_of}
 use Rattle.tv_source_names.specs.declared.number.Scope.{Scope}
 
 abbrev pub variables_of : Scope → List (List ℕ)

@@ -2,9 +2,9 @@
 
 ghost use Rattle.std.specs.Prelude.{◌≡◌, ◌<◌, ◌++◌, ◌∷◌, [], true, not, map, length, IfOk, OnOk, IfSome};
 ghost use Rattle.tv_lex.specs.Token.{text_of};
-ghost use Rattle.tv_tree.specs.Names.{is_among};
-ghost use Rattle.tv_source_names.specs.Meaning.{number_of, is_taken, may_be_declared, declared};
-ghost use Rattle.tv_source_names.specs.Answers.{Answers, names_of};
+ghost use Rattle.tv_tree.specs.Names.{is_among, names_of, number_of};
+ghost use Rattle.tv_source_names.specs.Meaning.{is_taken, may_be_declared, declared};
+ghost use Rattle.tv_source_names.specs.Answers.{Answers};
 
 use crate::error::SourceReadError;
 use indexmap::IndexSet;

@@ -7,7 +7,8 @@ ghost use Rattle.tv_source_syntax.specs.Copies.{assign_of as assign_text, test_o
 ghost use Rattle.tv_source_syntax.specs.Copies.{statement_of as statement_text, block_of as block_text};
 ghost use Rattle.tv_source_names.specs.Meaning.{numbered, assign_meant, test_meant, statement_meant};
 ghost use Rattle.tv_source_names.specs.Meaning.{block_meant};
-ghost use Rattle.tv_source_names.specs.Answers.{Answers, names_of};
+ghost use Rattle.tv_tree.specs.Names.{names_of};
+ghost use Rattle.tv_source_names.specs.Answers.{Answers};
 ghost use Rattle.tv_source_names.specs.Scopes.{variables_of, fields_of, HasFew};
 
 use crate::declare::{Declared, number_of};

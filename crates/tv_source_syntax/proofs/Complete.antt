@@ -6,7 +6,7 @@ use Rattle.std.specs.Str.{bytes_eq}
 use Rattle.std.proofs.lemmas.Slice.Eq.{bytes_eq-Decides}
 use Rattle.tv_lex.specs.Token.{SpecToken}
 use Rattle.tv_phrases.specs.Reading.{taken, ◌>>=◌}
-use Rattle.tv_phrases.specs.Tokens.{after, first, is_word, is_identifier, identifier_item}
+use Rattle.tv_phrases.specs.Tokens.{after, first, is_word, is_identifier, identifier_item, Begins}
 use Rattle.tv_phrases.specs.Repeated.{HasOne, turn, with_first}
 use Rattle.tv_phrases.proofs.Values.{bind_some, same_value}
 use Rattle.tv_phrases.proofs.Takes.{after_takes, first_takes}
@@ -17,7 +17,7 @@ use Rattle.tv_source_syntax.specs.Forms.{AssignText, XNull, XNew, XCopy, XLoad, 
 use Rattle.tv_source_syntax.specs.Forms.{XSame, StatementText, XAssign, XIf, XWhile, BlockText, no_statement}
 use Rattle.tv_source_syntax.specs.Forms.{with_statement, SourceText}
 use Rattle.tv_source_syntax.specs.Words.{is_own_word, name_at}
-use Rattle.tv_source_syntax.specs.Grammar.{Begins, IsName, AreNames, IsAssign, relation_mark, IsTest}
+use Rattle.tv_source_syntax.specs.Grammar.{IsName, AreNames, IsAssign, relation_mark, IsTest}
 use Rattle.tv_source_syntax.specs.Grammar.{IsTestIn, InBraces, BehindElse, IsStatement, AreStatements}
 use Rattle.tv_source_syntax.specs.Grammar.{HasStatement, IsSource}
 use Rattle.tv_source_syntax.specs.Reading.{names_in, loaded_at, copied_at, value_at, stored_at, store_at}

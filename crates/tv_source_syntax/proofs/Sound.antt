@@ -6,7 +6,7 @@ use Rattle.std.proofs.lemmas.Bool.{eqb-true}
 use Rattle.std.proofs.lemmas.Option.{same_Some}
 use Rattle.tv_lex.specs.Token.{SpecToken}
 use Rattle.tv_phrases.specs.Reading.{taken, ◌>>=◌, choose}
-use Rattle.tv_phrases.specs.Tokens.{after}
+use Rattle.tv_phrases.specs.Tokens.{after, Begins}
 use Rattle.tv_phrases.specs.Repeated.{turn, with_first}
 use Rattle.tv_phrases.proofs.Values.{bind_some, chosen, tested}
 use Rattle.tv_phrases.proofs.Repeats.{held, first_sound, joined_sound}
@@ -15,7 +15,7 @@ use Rattle.tv_source_syntax.specs.Forms.{AssignText, XNull, XNew, XCopy, XLoad, 
 use Rattle.tv_source_syntax.specs.Forms.{XAny, XIsNull, XSame, StatementText, XAssign, XIf, XWhile, BlockText}
 use Rattle.tv_source_syntax.specs.Forms.{SourceText}
 use Rattle.tv_source_syntax.specs.Words.{name_at}
-use Rattle.tv_source_syntax.specs.Grammar.{Begins, IsName, AreNames, IsAssign, relation_mark, IsTest}
+use Rattle.tv_source_syntax.specs.Grammar.{IsName, AreNames, IsAssign, relation_mark, IsTest}
 use Rattle.tv_source_syntax.specs.Grammar.{IsTestIn, begins_statement, InBraces, BehindElse, IsStatement}
 use Rattle.tv_source_syntax.specs.Grammar.{AreStatements, HasStatement, IsSource}
 use Rattle.tv_source_syntax.specs.Reading.{names_at, names_in, loaded_at, copied_at, value_at, stored_at}

@@ -12,23 +12,16 @@
 -- A name is an identifier that is none of `vars`, `fields`, `null`, `new`, `if`, `else`, `while`.
 -- Each relation below says that the tokens `ts` begin with the phrase of a tree, and that `rest` stands
 -- behind it.
-use Rattle.std.specs.Prelude.{◌≡◌, ℕ, List, [], Bool, true, false, ◌||◌, ◌⊎◌, Some, None, is_some, IsTrue}
+use Rattle.std.specs.Prelude.{◌≡◌, ℕ, List, [], Bool, true, false, ◌||◌, ◌⊎◌, is_some, IsTrue}
 use Rattle.std.specs.Prelude.{IsFalse, codes}
 use Rattle.tv_lex.specs.Token.{SpecToken}
 use Rattle.tv_phrases.specs.Reading.{taken}
-use Rattle.tv_phrases.specs.Tokens.{after}
+use Rattle.tv_phrases.specs.Tokens.{Begins, Lacks}
 use Rattle.tv_phrases.specs.Repeated.{Joined, begins_with}
 use Rattle.tv_source_syntax.specs.Forms.{AssignText, XNull, XNew, XCopy, XLoad, XStore, XClear, TestText}
 use Rattle.tv_source_syntax.specs.Forms.{XAny, XIsNull, XSame, StatementText, XAssign, XIf, XWhile, BlockText}
 use Rattle.tv_source_syntax.specs.Forms.{no_statement, with_statement, SourceText}
 use Rattle.tv_source_syntax.specs.Words.{name_at}
-
--- the mark stands in front, and these tokens behind it
-abbrev pub Begins : List ℕ → List SpecToken → List SpecToken → Type 0
-Begins mark ts rest = after mark ts ≡ Some rest
-
-abbrev pub Lacks : List ℕ → List SpecToken → Type 0
-Lacks mark ts = after mark ts ≡ None
 
 abbrev pub IsName : List SpecToken → List ℕ → List SpecToken → Type 0
 IsName ts x rest = name_at ts ≡ taken x rest

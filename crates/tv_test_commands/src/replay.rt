@@ -5,506 +5,238 @@ use std::alloc::{AllocError, Global};
 use std::test::Fail;
 use tv_test_call::{CALM, called, files_of};
 
-/// Programs, heaps and traces, with `;` behind each, and what is written; `~` stands between rows.
+/// Programs, heaps and traces, with `;` behind each, and what is told: of each state, all of which stand at
+/// `L`, how many individuals it has, whether definitions or updates are met, and the rules; or where the
+/// replay is stuck. `~` stands between rows.
 const RUNS: &str = "%p x(v) unique %% %action Act() {} %% L Act() L;
-%n = {a, b} %p = { x = {a, b} };
-;
-state 0 node L size 2
-concrete ok
-initial none
-rules broken 0
-listed none
-end
-exit 0
+%n = {a, b} %p = { x = {a, b} };;
+2, ok, broken 0
 ~
 %p x(v) unique %% %action Act() {} %% L Act() L;
-%n = {a, b} %p = { x = {b} };
-;
-state 0 node L size 2
-concrete ok
-initial none
-rules ok
-listed none
-end
-exit 0
+%n = {a, b} %p = { x = {b} };;
+2, ok, ok
 ~
 %p n(v, w) function invfunction %% %action Act() {} %% L Act() L;
-%n = {a, b} %p = { n = {a->a, b->a} };
-;
-state 0 node L size 2
-concrete ok
-initial none
-rules broken 1
-listed none
-end
-exit 0
+%n = {a, b} %p = { n = {a->a, b->a} };;
+2, ok, broken 1
 ~
 %p n(v, w) function invfunction %% %action Act() {} %% L Act() L;
-%n = {a, b} %p = { n = {a->a, a->b} };
-;
-state 0 node L size 2
-concrete ok
-initial none
-rules broken 0
-listed none
-end
-exit 0
+%n = {a, b} %p = { n = {a->a, a->b} };;
+2, ok, broken 0
 ~
 %p x(v) unique %p n(v, w) transitive reflexive symmetric %r x(v) ==> n(v, v) %r n(v, w) & n(w, u) ==> n(u, v)
 %% %action Act() {} %% L Act() L;
-%n = {a, b, c} %p = { n = {a->b, b->c, a->c, a->a, b->b, c->c} };
-;
-state 0 node L size 3
-concrete ok
-initial none
-rules broken 3
-listed none
-end
-exit 0
+%n = {a, b, c} %p = { n = {a->b, b->c, a->c, a->a, b->b, c->c} };;
+3, ok, broken 3
 ~
 %p x(v) unique %p n(v, w) transitive reflexive symmetric %% %action Act() {} %% L Act() L;
-%n = {a, b, c} %p = { n = {a->b, b->c, a->a, b->b, c->c} };
-;
-state 0 node L size 3
-concrete ok
-initial none
-rules broken 1
-listed none
-end
-exit 0
+%n = {a, b, c} %p = { n = {a->b, b->c, a->a, b->b, c->c} };;
+3, ok, broken 1
 ~
 %p x(v) unique %p n(v, w) transitive reflexive symmetric %% %action Act() {} %% L Act() L;
-%n = {a, b} %p = { n = {a->b, b->b} };
-;
-state 0 node L size 2
-concrete ok
-initial none
-rules broken 2
-listed none
-end
-exit 0
+%n = {a, b} %p = { n = {a->b, b->b} };;
+2, ok, broken 2
 ~
 %p x(v) unique %p b() %r x(v) ==> b() %r b() & x(v) & x(w) ==> v == w %% %action Act() {} %% L Act() L;
-%n = {a, b} %p = { x = {a, b} b = 1 };
-;
-state 0 node L size 2
-concrete ok
-initial none
-rules broken 0
-listed none
-end
-exit 0
+%n = {a, b} %p = { x = {a, b} b = 1 };;
+2, ok, broken 0
 ~
 %p x(v) %p y(v) %r x(v) & y(w) ==> v != w %r x(v) ==> !y(v) %r E(v) x(v) & y(v) ==> 0
 %% %action Act() {} %% L Act() L;
-%n = {a, b} %p = { x = {a} y = {a, b} };
-;
-state 0 node L size 2
-concrete ok
-initial none
-rules broken 0
-listed none
-end
-exit 0
+%n = {a, b} %p = { x = {a} y = {a, b} };;
+2, ok, broken 0
 ~
 %p x(v) %p y(v) %p n(v, w) %r x(v) & n(v, w) & n(w, u) & n(u, z) ==> y(z) %% %action Act() {} %% L Act() L;
-%n = {a, b, c, d} %p = { x = {a} n = {a->b, b->c, c->d, c->a} y = {d} };
-;
-state 0 node L size 4
-concrete ok
-initial none
-rules broken 0
-listed none
-end
-exit 0
+%n = {a, b, c, d} %p = { x = {a} n = {a->b, b->c, c->d, c->a} y = {d} };;
+4, ok, broken 0
 ~
 %p x(v) %p y(v) %p n(v, w) %r x(v) & n(v, w) & n(w, u) & n(u, z) ==> y(z) %% %action Act() {} %% L Act() L;
-%n = {a, b, c, d} %p = { x = {a} n = {a->b, b->c, c->d, c->a} y = {a, d} };
-;
-state 0 node L size 4
-concrete ok
-initial none
-rules ok
-listed none
-end
-exit 0
+%n = {a, b, c, d} %p = { x = {a} n = {a->b, b->c, c->d, c->a} y = {a, d} };;
+4, ok, ok
 ~
 %p b() %r b() ==> 0 %% %action Act() {} %% L Act() L;
-%n = {} %p = { b = 1 };
-;
-state 0 node L size 0
-concrete ok
-initial none
-rules broken 0
-listed none
-end
-exit 0
+%n = {} %p = { b = 1 };;
+0, ok, broken 0
 ~
 %p b() %r A(v) b() ==> 0 %r b() ==> !b() %% %action Act() {} %% L Act() L;
-%n = {} %p = { b = 1 };
-;
-state 0 node L size 0
-concrete ok
-initial none
-rules broken 0
-listed none
-end
-exit 0
+%n = {} %p = { b = 1 };;
+0, ok, broken 0
 ~
 %p x(v) %i d(v) = !x(v) %i e(v) = d(v) %i f() = E(v) e(v) %% %action Act() {} %% L Act() L;
-%n = {a, b} %p = { x = {a} d = {b} e = {b} f = 1 };
-;
-state 0 node L size 2
-concrete ok
-initial none
-rules ok
-listed none
-end
-exit 0
+%n = {a, b} %p = { x = {a} d = {b} e = {b} f = 1 };;
+2, ok, ok
 ~
 %p x(v) %i d(v) = !x(v) %i e(v) = d(v) %i f() = E(v) e(v) %% %action Act() {} %% L Act() L;
-%n = {a, b} %p = { x = {a} d = {a} e = {a} f = 1 };
-;
-state 0 node L size 2
-concrete broken d
-initial none
-rules ok
-listed none
-end
-exit 0
+%n = {a, b} %p = { x = {a} d = {a} e = {a} f = 1 };;
+2, broken d, ok
 ~
 %p x(v) %i e(v) = d(v) %i d(v) = !x(v) %i f() = E(v) e(v) %% %action Act() {} %% L Act() L;
-%n = {a, b} %p = { x = {a} d = {a} e = {a} f = 1 };
-;
-state 0 node L size 2
-concrete broken d
-initial none
-rules ok
-listed none
-end
-exit 0
+%n = {a, b} %p = { x = {a} d = {a} e = {a} f = 1 };;
+2, broken d, ok
 ~
 %p x(v) %i d(v) = !x(v) %i f() = E(v) d(v) %% %action Act() {} %% L Act() L;
-%n = {a} %p = { x = {a} f = 1 };
-;
-state 0 node L size 1
-concrete broken f
-initial none
-rules ok
-listed none
-end
-exit 0
+%n = {a} %p = { x = {a} f = 1 };;
+1, broken f, ok
 ~
 %p n(v, w) %i t(v, w) = n*(v, w) %% %action Act() {} %% L Act() L;
-%n = {a, b, c} %p = { n = {a->b, b->c} t = {a->a, a->b, a->c, b->b, b->c, c->c} };
-;
-state 0 node L size 3
-concrete ok
-initial none
-rules ok
-listed none
-end
-exit 0
+%n = {a, b, c} %p = { n = {a->b, b->c} t = {a->a, a->b, a->c, b->b, b->c, c->c} };;
+3, ok, ok
 ~
 %p n(v, w) %i t(v, w) = n*(v, w) %% %action Act() {} %% L Act() L;
-%n = {a, b, c} %p = { n = {a->b, b->c} t = {a->a, a->b, a->c, b->b, b->c} };
-;
-state 0 node L size 3
-concrete broken t
-initial none
-rules ok
-listed none
-end
-exit 0
+%n = {a, b, c} %p = { n = {a->b, b->c} t = {a->a, a->b, a->c, b->b, b->c} };;
+3, broken t, ok
 ~
 %p n(v, w) %i t(w, v) = n*(v, w) %% %action Act() {} %% L Act() L;
-%n = {a, b} %p = { n = {a->b} t = {a->a, b->a, b->b} };
-;
-state 0 node L size 2
-concrete ok
-initial none
-rules ok
-listed none
-end
-exit 0
+%n = {a, b} %p = { n = {a->b} t = {a->a, b->a, b->b} };;
+2, ok, ok
 ~
 %p x(v) %i d(v) = !x(v) %% %action Act() { { x(v) = !x(v) d(v) = x(v) } } %% L Act() L;
 %n = {a, b} %p = { x = {a} d = {b} };
 step 0 step 0;
-state 0 node L size 2
-concrete ok
-initial none
-rules ok
-listed none
-state 1 node L size 2
-updates ok
-rules ok
-listed none
-state 2 node L size 2
-updates ok
-rules ok
-listed none
-end
-exit 0
+2, ok, ok
+2, ok, ok
+2, ok, ok
 ~
 %p x(v) %i d(v) = !x(v) %% %action Act() { { x(v) = !x(v) d(v) = d(v) } } %% L Act() L;
 %n = {a, b} %p = { x = {a} d = {b} };
 step 0;
-state 0 node L size 2
-concrete ok
-initial none
-rules ok
-listed none
-state 1 node L size 2
-updates broken d
-rules ok
-listed none
-end
-exit 0
+2, ok, ok
+2, broken d, ok
 ~
 %p x(v) %i d(v) = !x(v) %i e() = E(v) d(v) %% %action Act() { { x(v) = 0 e() = 0 d(v) = d(v) } } %% L Act() L;
 %n = {a, b} %p = { x = {a} d = {b} e = 1 };
 step 0;
-state 0 node L size 2
-concrete ok
-initial none
-rules ok
-listed none
-state 1 node L size 2
-updates broken d
-rules ok
-listed none
-end
-exit 0
+2, ok, ok
+2, broken d, ok
 ~
 %p x(v) %i d(v) = !x(v) %i e() = E(v) d(v) %% %action Act() { { x(v) = 0 e() = 0 d(v) = 1 } } %% L Act() L;
 %n = {a, b} %p = { x = {a} d = {b} e = 1 };
 step 0;
-state 0 node L size 2
-concrete ok
-initial none
-rules ok
-listed none
-state 1 node L size 2
-updates broken e
-rules ok
-listed none
-end
-exit 0
+2, ok, ok
+2, broken e, ok
 ~
 %p x(v) %i d(v) = !x(v) %% %action Act() { { x(v) = 1 } } %% L Act() L;
 %n = {a, b} %p = { x = {a} d = {a} };
 step 0;
-state 0 node L size 2
-concrete broken d
-initial none
-rules ok
-listed none
-state 1 node L size 2
-updates ok
-rules ok
-listed none
-end
-exit 0
+2, broken d, ok
+2, ok, ok
 ~
 %p x(v) %i d(v) = !x(v) %% %action Act() { %new { x(v) = isNew(v) d(v) = !isNew(v) } } %% L Act() L;
 %n = {a} %p = { d = {a} };
 step 0 step 0;
-state 0 node L size 1
-concrete ok
-initial none
-rules ok
-listed none
-state 1 node L size 2
-updates ok
-rules ok
-listed none
-state 2 node L size 3
-updates ok
-rules ok
-listed none
-end
-exit 0
+1, ok, ok
+2, ok, ok
+3, ok, ok
 ~
 %p x(v) %i d(v) = !x(v) %% %action Act() { %retain !x(v) { d(v) = x(v) } } %% L Act() L;
 %n = {a, b, c} %p = { x = {a} d = {b, c} };
 step 0;
-state 0 node L size 3
-concrete ok
-initial none
-rules ok
-listed none
-state 1 node L size 2
-updates broken d
-rules ok
-listed none
-end
-exit 0
+3, ok, ok
+2, broken d, ok
 ~
 %p x(v) %i d(v) = !x(v) %% %action Act() { %retain !x(v) { d(v) = 1 } } %% L Act() L;
 %n = {a, b, c} %p = { x = {a} d = {b, c} };
 step 0;
-state 0 node L size 3
-concrete ok
-initial none
-rules ok
-listed none
-state 1 node L size 2
-updates ok
-rules ok
-listed none
-end
-exit 0
+3, ok, ok
+2, ok, ok
 ~
 %p x(v) %p y(v) %% %action Act() { %p x(v) & !y(v) { x(w) = x(w) & w != v y(w) = y(w) | w == v } } %% L Act() L;
 %n = {a, b, c} %p = { x = {a, b} y = {b} };
 step 0 (0);
-state 0 node L size 3
-concrete ok
-initial none
-rules ok
-listed none
-state 1 node L size 3
-updates ok
-rules ok
-listed none
-end
-exit 0
+3, ok, ok
+3, ok, ok
 ~
 %p x(v) %p y(v) %% %action Act() { %p x(v) & !y(v) { x(w) = x(w) & w != v y(w) = y(w) | w == v } } %% L Act() L;
 %n = {a, b, c} %p = { x = {a, b} y = {b} };
 step 0;
 stuck: step 1 picks
-exit 1
 ~
 %p x(v) %p y(v) %% %action Act() { %p x(v) & !y(v) { x(w) = x(w) & w != v y(w) = y(w) | w == v } } %% L Act() L;
 %n = {a, b, c} %p = { x = {a, b} y = {b} };
 step 0 (3);
 stuck: step 1 picks
-exit 1
 ~
 %p x(v) %p y(v) %% %action Act() { %p x(v) & !y(v) { x(w) = x(w) & w != v y(w) = y(w) | w == v } } %% L Act() L;
 %n = {a, b, c} %p = { x = {a, b} y = {b} };
 step 0 (0, 1);
 stuck: step 1 picks
-exit 1
 ~
 %p x(v) %p y(v) %% %action Act() { %p x(v) & !y(v) { x(w) = x(w) & w != v y(w) = y(w) | w == v } } %% L Act() L;
 %n = {a, b, c} %p = { x = {a, b} y = {b} };
 step 0 (1);
 stuck: step 1 precondition
-exit 1
 ~
 %p x(v) %p y(v) %% %action Act() { %p x(v) & !y(v) { x(w) = x(w) & w != v y(w) = y(w) | w == v } } %% L Act() L;
 %n = {a, b, c} %p = { x = {a, b} y = {b} };
 step 0 (2);
 stuck: step 1 precondition
-exit 1
 ~
 %p x(v) %p y(v) %% %action Act() { %p x(v) & !y(v) { x(w) = x(w) & w != v y(w) = y(w) | w == v } } %% L Act() L;
 %n = {a, b, c} %p = { x = {a, b} y = {b} };
 step 0 (0) step 0 (0);
 stuck: step 2 precondition
-exit 1
 ~
 %p x(v) %p y(v) %% %action Act() { %p x(v) & !y(v) { x(w) = x(w) & w != v y(w) = y(w) | w == v } } %% L Act() L;
 %n = {a, b, c} %p = { x = {a, b} y = {b} };
 step 0 (0) step 0 (9);
 stuck: step 2 picks
-exit 1
 ~
 %p x(v) %p y(v) %% %action Act() { { x(v) = 1/2 y(v) = x(v) } } %% L Act() L;
 %n = {a, b, c} %p = { x = {a, b} y = {b} };
 step 0;
 stuck: step 1 values
-exit 1
 ~
 %p x(v) %p y(v) %% %action Act() { { x(v) = 1/2 y(v) = x(v) } } %% L Act() L;
 %n = {a, b, c} %p = { x = {a, b} y = {b} };
 step 0 free %n = {a, b, c} %p = { x = {c} };
-state 0 node L size 3
-concrete ok
-initial none
-rules ok
-listed none
-state 1 node L size 3
-updates ok
-rules ok
-listed none
-end
-exit 0
+3, ok, ok
+3, ok, ok
 ~
 %p x(v) %p y(v) %% %action Act() { { x(v) = 1/2 y(v) = x(v) } } %% L Act() L;
 %n = {a, b, c} %p = { x = {a, b} y = {b} };
 step 0 free %n = {a, b} %p = { x = {a} };
 stuck: step 1 values
-exit 1
 ~
 %p x(v) %p y(v) %% %action Act() { { x(v) = 1/2 y(v) = x(v) } } %% L Act() L;
 %n = {a, b, c} %p = { x = {a, b} y = {b} };
 step 0 free %n = {a, b, c} %p = { x = {c:1/2} };
 stuck: step 1 values
-exit 1
 ~
 %p x(v) %p y(v) %% %action Act() { { x(v) = 1/2 y(v) = x(v) } } %% L Act() L;
 %n = {a, b, c} %p = { x = {a, b} y = {b} };
 step 0 free %n = {a, b, c} %p = { x = {c} y = {a:1/2} sm = {a:1/2} };
-state 0 node L size 3
-concrete ok
-initial none
-rules ok
-listed none
-state 1 node L size 3
-updates ok
-rules ok
-listed none
-end
-exit 0
+3, ok, ok
+3, ok, ok
 ~
 %p x(v) %p y(v) unique
 %% %action Act() { %new %retain !x(v) | isNew(v) { x(v) = isNew(v) y(v) = y(v) | isNew(v) } } %% L Act() L;
 %n = {a, b, c} %p = { x = {a, b} y = {b} };
 step 0;
-state 0 node L size 3
-concrete ok
-initial none
-rules ok
-listed none
-state 1 node L size 2
-updates ok
-rules ok
-listed none
-end
-exit 0
+3, ok, ok
+2, ok, ok
 ~
 %p x(v) %p n(v, w) %i r(v) = E(w) x(w) & n*(w, v)
 %% %action Act() { %new { x(v) = isNew(v) n(v, w) = n(v, w) | isNew(v) & x(w) r(v) = r(v) | isNew(v) } } %% L Act() L;
 %n = {a, b, c} %p = { x = {a} n = {a->b} r = {a, b} };
 step 0 step 0;
-state 0 node L size 3
-concrete ok
-initial none
-rules ok
-listed none
-state 1 node L size 4
-updates ok
-rules ok
-listed none
-state 2 node L size 5
-updates ok
-rules ok
-listed none
-end
-exit 0
+3, ok, ok
+4, ok, ok
+5, ok, ok
 ";
 
-/// Programs, heaps, traces, initial structures and reports, and how the calls end. A trace `-` isn't there.
-const ENDINGS: &str = "%p b() %% %action Flip() { { b() = !b() } } %% L0 Flip() L1;
-%n = {} %p = { b = 1 };step 0;%n = {} %p = { b = 1 };
-tvla report 2
+/// An action that changes the one predicate.
+const FLIP: &str = "%p b() %% %action Flip() { { b() = !b() } } %% L0 Flip() L1";
+
+/// A report on it, with the initial structure `ON`.
+const FLIPPED: &str = "tvla report 2
 node L0 structures 1 %n = {} %p = { b = 1 }
 node L1 structures 1 %n = {} %p = {}
-end;
+end";
+
+const ON: &str = "%n = {} %p = { b = 1 }";
+
+/// Heaps and traces, and how calls of these files end. A trace `-` isn't there.
+const FLIPS: &str = "%n = {} %p = { b = 1 };step 0;
 state 0 node L0 size 0
 concrete ok
 initial 0 {}
@@ -516,22 +248,10 @@ rules ok
 listed 0 {}
 end
 exit 0
-~
-%p b() %% %action Flip() { { b() = !b() } } %% L0 Flip() L1;
-%n = {} %p = { b = 1 };step 0 step 0;%n = {} %p = { b = 1 };
-tvla report 2
-node L0 structures 1 %n = {} %p = { b = 1 }
-node L1 structures 1 %n = {} %p = {}
-end;
+~%n = {} %p = { b = 1 };step 0 step 0;
 stuck: step 2 edge
 exit 1
-~
-%p b() %% %action Flip() { { b() = !b() } } %% L0 Flip() L1;
-%n = {} %p = {};step 0;%n = {} %p = { b = 1 };
-tvla report 2
-node L0 structures 1 %n = {} %p = { b = 1 }
-node L1 structures 1 %n = {} %p = {}
-end;
+~%n = {} %p = {};step 0;
 state 0 node L0 size 0
 concrete ok
 initial none
@@ -543,8 +263,28 @@ rules ok
 listed none
 end
 exit 0
-~
-%p b() %p c() %i d() = b() & c() %r b() ==> c()
+~%n = {} %p = { b = 1/2 };step 0;
+exit 3
+tvla: start: NotHeap
+~%n = {} %p = {} %n = {} %p = {};step;
+exit 3
+tvla: start: NotHeap
+~;step 0;
+exit 3
+tvla: start: NotHeap
+~%n = {} %p = { c = 1 };step 0;
+exit 3
+tvla: start: NameUnknown
+~%n = {} %p = { b = 1 };step 1;
+exit 3
+tvla: trace: TraceForm at 1:1
+~%n = {} %p = { b = 1 };-;
+exit 5
+tvla: read fault
+";
+
+/// Programs, heaps, traces, initial structures and reports, and how the calls end.
+const ENDINGS: &str = "%p b() %p c() %i d() = b() & c() %r b() ==> c()
 %% %action Set() { { b() = 1 d() = 1 } } %% L0 Set() L1;
 %n = {} %p = { d = 1 };step 0;%n = {} %p = {};
 tvla report 2 end;
@@ -561,64 +301,10 @@ end
 exit 0
 ~
 %p b() %% %action Flip() { { b() = !b() } } %% L0 Flip() L1;
-%n = {} %p = { b = 1/2 };step 0;%n = {} %p = { b = 1 };
-tvla report 2
-node L0 structures 1 %n = {} %p = { b = 1 }
-node L1 structures 1 %n = {} %p = {}
-end;
-exit 3
-tvla: start: NotHeap
-~
-%p b() %% %action Flip() { { b() = !b() } } %% L0 Flip() L1;
-%n = {} %p = {} %n = {} %p = {};step;%n = {} %p = { b = 1 };
-tvla report 2
-node L0 structures 1 %n = {} %p = { b = 1 }
-node L1 structures 1 %n = {} %p = {}
-end;
-exit 3
-tvla: start: NotHeap
-~
-%p b() %% %action Flip() { { b() = !b() } } %% L0 Flip() L1;
-;step 0;%n = {} %p = { b = 1 };
-tvla report 2
-node L0 structures 1 %n = {} %p = { b = 1 }
-node L1 structures 1 %n = {} %p = {}
-end;
-exit 3
-tvla: start: NotHeap
-~
-%p b() %% %action Flip() { { b() = !b() } } %% L0 Flip() L1;
-%n = {} %p = { c = 1 };step 0;%n = {} %p = { b = 1 };
-tvla report 2
-node L0 structures 1 %n = {} %p = { b = 1 }
-node L1 structures 1 %n = {} %p = {}
-end;
-exit 3
-tvla: start: NameUnknown
-~
-%p b() %% %action Flip() { { b() = !b() } } %% L0 Flip() L1;
-%n = {} %p = { b = 1 };step 1;%n = {} %p = { b = 1 };
-tvla report 2
-node L0 structures 1 %n = {} %p = { b = 1 }
-node L1 structures 1 %n = {} %p = {}
-end;
-exit 3
-tvla: trace: TraceForm at 1:1
-~
-%p b() %% %action Flip() { { b() = !b() } } %% L0 Flip() L1;
 %n = {} %p = { b = 1 };step 0;%n = {} %p = { b = 1 };
 report;
 exit 3
 tvla: report: ReportForm at 2:1
-~
-%p b() %% %action Flip() { { b() = !b() } } %% L0 Flip() L1;
-%n = {} %p = { b = 1 };-;%n = {} %p = { b = 1 };
-tvla report 2
-node L0 structures 1 %n = {} %p = { b = 1 }
-node L1 structures 1 %n = {} %p = {}
-end;
-exit 5
-tvla: read fault
 ~
 %p x(v) %% %action Act() {} %% L Act() L;
 %n = {a, b} %p = { x = {a} sm = {b:1/2} };step 0;
@@ -689,6 +375,50 @@ fn told(alloc: Global, texts: &[&str]) -> Result<String, AllocError> {
     format!(in alloc; "\n{out}exit {code}\n{err}")
 }
 
+/// The text of the state of this number that a row tells.
+fn state_text(alloc: Global, number: usize, told: &str) -> Result<String, AllocError> {
+    let (size, behind) = told.split_once(", ").unwrap_or((told, ""));
+    let (met, rules) = behind.split_once(", ").unwrap_or((behind, ""));
+    let first = if number == 0 {
+        format!(in alloc; "concrete {met}\ninitial none")?
+    } else {
+        format!(in alloc; "updates {met}")?
+    };
+    format!(in alloc; "state {number} node L size {size}\n{first}\nrules {rules}\nlisted none\n")
+}
+
+/// The text of the replay that a row tells.
+fn replay_text(alloc: Global, told: &str) -> Result<String, AllocError> {
+    if told.starts_with("stuck") {
+        return format!(in alloc; "\n{told}\nexit 1\n");
+    }
+    let mut states = String::new(alloc);
+    for (number, state) in told.split('\n').enumerate() {
+        states.push_str(&state_text(alloc, number, state)?)?;
+    }
+    format!(in alloc; "\n{states}end\nexit 0\n")
+}
+
+/// Whether a program, a heap and a trace are replayed as the last cell tells.
+fn is_replayed(alloc: Global, row: &str) -> Result<bool, AllocError> {
+    let Some((texts, wanted)) = row.rsplit_once(';') else {
+        return Ok(false);
+    };
+    let wanted = replay_text(alloc, wanted.trim())?;
+    is_met(alloc, &format!(in alloc; "{texts};{wanted}")?)
+}
+
+/// Whether a heap and a trace of the action that changes a predicate are told as the row says.
+fn is_met_by_flips(alloc: Global, row: &str) -> Result<bool, AllocError> {
+    let Some((texts, wanted)) = row.rsplit_once(';') else {
+        return Ok(false);
+    };
+    is_met(
+        alloc,
+        &format!(in alloc; "{FLIP};{texts};{ON};{FLIPPED};{wanted}")?,
+    )
+}
+
 /// Whether the texts in front of the last cell are told as it says.
 fn is_met(alloc: Global, row: &str) -> Result<bool, AllocError> {
     let mut cells = Vec::new(alloc);
@@ -748,7 +478,13 @@ fn is_met_by_chains(alloc: Global, row: &str) -> Result<bool, AllocError> {
 
 #[test]
 fn replays_end_as_they_should(rt: HostRuntime) -> Result<(), Fail> {
-    for row in RUNS.split('~').chain(ENDINGS.split('~')) {
+    for row in RUNS.split('~') {
+        assert!(rt; is_replayed(rt.alloc(), row)?, "{row}");
+    }
+    for row in FLIPS.split('~') {
+        assert!(rt; is_met_by_flips(rt.alloc(), row)?, "{row}");
+    }
+    for row in ENDINGS.split('~') {
         assert!(rt; is_met(rt.alloc(), row)?, "{row}");
     }
     for row in CHAINS.split('~') {

@@ -75,3 +75,16 @@ pub fn wrong_part(
         None
     })
 }
+
+/// The number of the first row that isn't as its call ends, and which part of it isn't.
+pub fn first_wrong(
+    alloc: Global,
+    rows: &[Row<'_, '_, '_, '_>],
+) -> Result<Option<(usize, &'static str)>, AllocError> {
+    for (number, row) in rows.iter().enumerate() {
+        if let Some(part) = wrong_part(alloc, row)? {
+            return Ok(Some((number, part)));
+        }
+    }
+    Ok(None)
+}

@@ -1,7 +1,7 @@
-//! Chains to messages and to structures, and what isn't there.
+//! Chains to messages and to structures.
 
-use crate::call::{PLAIN, Row, wrong_part};
-use crate::texts::{PROGRAM, USAGE};
+use crate::call::{PLAIN, Row, first_wrong};
+use crate::texts::PROGRAM;
 use std::test::Fail;
 
 /// A structure without individuals in which `b` is false, and so as the program has it.
@@ -19,14 +19,6 @@ const ASKED: Row<'static, 'static, 'static, 'static> = Row {
 const ASKED_OF_BOTH: Row<'static, 'static, 'static, 'static> = Row {
     files: &[("p", PROGRAM), ("i", BOTH)],
     ..PLAIN
-};
-
-const ABSENT: Row<'static, 'static, 'static, 'static> = Row { code: 2, ..ASKED };
-
-const NO_COMMAND: Row<'static, 'static, 'static, 'static> = Row {
-    code: 2,
-    err: USAGE,
-    ..ASKED
 };
 
 /// `b` is false at `L0` and true at `L1`, but for the second structure.
@@ -185,43 +177,11 @@ edge 0  p:1  L Say ( ) L  message 0 is 1: \"off\"
 
 #[test]
 fn chains_are_told(rt: HostRuntime) -> Result<(), Fail> {
-    for number in 0..CHAINS.len() {
-        assert_eq!(rt; wrong_part(rt.alloc(), &CHAINS[number])?, None, "{number}");
-    }
+    assert_eq!(rt; first_wrong(rt.alloc(), &CHAINS)?, None);
     Ok(())
 }
 
-static REFUSALS: [Row<'static, 'static, 'static, 'static>; 25] = [
-    Row {
-        words: &["message", "p", "i", "4", "0"],
-        err: "tvla: no such edge\n",
-        ..ABSENT
-    },
-    Row {
-        words: &["message", "p", "i", "4294967295", "0"],
-        err: "tvla: no such edge\n",
-        ..ABSENT
-    },
-    Row {
-        words: &["message", "p", "i", "1", "0"],
-        err: "tvla: no such message\n",
-        ..ABSENT
-    },
-    Row {
-        words: &["message", "p", "i", "3", "1"],
-        err: "tvla: no such message\n",
-        ..ABSENT
-    },
-    Row {
-        words: &["structure", "p", "i", "L3", "0"],
-        err: "tvla: no such node\n",
-        ..ABSENT
-    },
-    Row {
-        words: &["structure", "p", "i", "L1", "1"],
-        err: "tvla: no such structure\n",
-        ..ABSENT
-    },
+static REFUSALS: [Row<'static, 'static, 'static, 'static>; 7] = [
     Row {
         words: &["message", "p", "i", "3", "0", "--max-structures", "1"],
         code: 4,
@@ -269,64 +229,10 @@ static REFUSALS: [Row<'static, 'static, 'static, 'static>; 25] = [
         err: "tvla: read fault\n",
         ..PLAIN
     },
-    Row {
-        words: &["message", "p", "i", "0"],
-        ..NO_COMMAND
-    },
-    Row {
-        words: &["message", "p", "i", "0", "0", "0"],
-        ..NO_COMMAND
-    },
-    Row {
-        words: &["message", "p", "i", "L0", "0"],
-        ..NO_COMMAND
-    },
-    Row {
-        words: &["message", "p", "i", "00", "0"],
-        ..NO_COMMAND
-    },
-    Row {
-        words: &["message", "p", "i", "0", "+0"],
-        ..NO_COMMAND
-    },
-    Row {
-        words: &["message", "p", "i", "4294967296", "0"],
-        ..NO_COMMAND
-    },
-    Row {
-        words: &["message", "p", "i", "0", "0", "--max-structures=0"],
-        ..NO_COMMAND
-    },
-    Row {
-        words: &["message", "p", "i", "0", "0", "--delta", "--recompute"],
-        ..NO_COMMAND
-    },
-    Row {
-        words: &["structure", "p", "i", "L0", "0", "--maps"],
-        ..NO_COMMAND
-    },
-    Row {
-        words: &["structure", "p", "i", "L0", "first"],
-        ..NO_COMMAND
-    },
-    Row {
-        words: &["edges", "p", "--delta"],
-        ..NO_COMMAND
-    },
-    Row {
-        words: &["show", "p", "i", "--max-structures", "5"],
-        ..NO_COMMAND
-    },
 ];
 
 #[test]
 fn chains_are_refused(rt: HostRuntime) -> Result<(), Fail> {
-    for number in 0..REFUSALS.len() {
-        assert_eq!(rt;
-            wrong_part(rt.alloc(), &REFUSALS[number])?,
-            None,
-            "{number}"
-        );
-    }
+    assert_eq!(rt; first_wrong(rt.alloc(), &REFUSALS)?, None);
     Ok(())
 }

@@ -1,7 +1,6 @@
 //! Source programs, the programs that they are compiled to, and what isn't compiled.
 
-use crate::call::{PLAIN, Row, wrong_part};
-use crate::texts::USAGE;
+use crate::call::{PLAIN, Row, first_wrong};
 use std::test::Fail;
 
 /// A loop in which each second cell is given up, or loses what is behind it.
@@ -114,14 +113,7 @@ const ASKED: Row<'static, 'static, 'static, 'static> = Row {
 
 const REFUSED: Row<'static, 'static, 'static, 'static> = Row { code: 3, ..ASKED };
 
-const NO_COMMAND: Row<'static, 'static, 'static, 'static> = Row {
-    files: &[("s", STORE)],
-    code: 2,
-    err: USAGE,
-    ..PLAIN
-};
-
-static ROWS: [Row<'static, 'static, 'static, 'static>; 12] = [
+static ROWS: [Row<'static, 'static, 'static, 'static>; 7] = [
     Row {
         files: &[("s", LOOP)],
         out: LOOP_WRITTEN,
@@ -158,32 +150,10 @@ static ROWS: [Row<'static, 'static, 'static, 'static>; 12] = [
         err: "tvla: read fault\n",
         ..ASKED
     },
-    Row {
-        words: &["compiled"],
-        ..NO_COMMAND
-    },
-    Row {
-        words: &["compiled", "s", "s"],
-        ..NO_COMMAND
-    },
-    Row {
-        words: &["compiled", "s", "--delta"],
-        ..NO_COMMAND
-    },
-    Row {
-        words: &["compiled", "s", "--max-structures=5"],
-        ..NO_COMMAND
-    },
-    Row {
-        words: &["compile", "s"],
-        ..NO_COMMAND
-    },
 ];
 
 #[test]
 fn source_programs_are_written(rt: HostRuntime) -> Result<(), Fail> {
-    for number in 0..ROWS.len() {
-        assert_eq!(rt; wrong_part(rt.alloc(), &ROWS[number])?, None, "{number}");
-    }
+    assert_eq!(rt; first_wrong(rt.alloc(), &ROWS)?, None);
     Ok(())
 }

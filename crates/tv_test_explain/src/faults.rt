@@ -1,6 +1,6 @@
 //! Each call on files and on sinks fails once.
 
-use crate::call::{PLAIN, Row, wrong_part};
+use crate::call::{PLAIN, Row, first_wrong, wrong_part};
 use crate::texts::{PROGRAM, REPORT, SHOWN};
 use std::alloc::{AllocError, Global};
 use std::test::Fail;
@@ -76,8 +76,6 @@ static WRITES: [Row<'static, 'static, 'static, 'static>; 3] = [
 
 #[test]
 fn faults_of_sinks_are_told(rt: HostRuntime) -> Result<(), Fail> {
-    for row in WRITES.iter() {
-        assert_eq!(rt; wrong_part(rt.alloc(), row)?, None, "{}", row.err);
-    }
+    assert_eq!(rt; first_wrong(rt.alloc(), &WRITES)?, None);
     Ok(())
 }

@@ -15,3 +15,5 @@ mod losses;
 mod rows;
 #[cfg(test)]
 mod texts;
+#[cfg(test)]
+mod words;

@@ -1,7 +1,6 @@
 //! What analyses lose.
 
-use crate::call::{PLAIN, Row, wrong_part};
-use crate::texts::USAGE;
+use crate::call::{PLAIN, Row, first_wrong};
 use std::test::Fail;
 
 /// A predicate without arguments that is defined: an initial structure has to say what it is.
@@ -219,20 +218,11 @@ edge 0 loses 1 of 1 structures, first 0  p:2  L1 set ( ) L2
 
 #[test]
 fn losses_are_told(rt: HostRuntime) -> Result<(), Fail> {
-    for number in 0..LOSSES.len() {
-        assert_eq!(rt; wrong_part(rt.alloc(), &LOSSES[number])?, None, "{number}");
-    }
+    assert_eq!(rt; first_wrong(rt.alloc(), &LOSSES)?, None);
     Ok(())
 }
 
-const NO_COMMAND: Row<'static, 'static, 'static, 'static> = Row {
-    files: &FREE_OF_BOTH,
-    code: 2,
-    err: USAGE,
-    ..PLAIN
-};
-
-static REFUSALS: [Row<'static, 'static, 'static, 'static>; 11] = [
+static REFUSALS: [Row<'static, 'static, 'static, 'static>; 6] = [
     Row {
         words: &["losses", "p", "i", "--recompute", "--max-structures", "1"],
         files: &FREE_OF_BOTH,
@@ -275,36 +265,10 @@ static REFUSALS: [Row<'static, 'static, 'static, 'static>; 11] = [
         err: "tvla: read fault\n",
         ..PLAIN
     },
-    Row {
-        words: &["losses", "p"],
-        ..NO_COMMAND
-    },
-    Row {
-        words: &["losses", "p", "i", "0"],
-        ..NO_COMMAND
-    },
-    Row {
-        words: &["losses", "p", "i", "--maps"],
-        ..NO_COMMAND
-    },
-    Row {
-        words: &["losses", "p", "i", "--delta", "--recompute"],
-        ..NO_COMMAND
-    },
-    Row {
-        words: &["losses", "p", "i", "--max-structures=0"],
-        ..NO_COMMAND
-    },
 ];
 
 #[test]
 fn losses_are_refused(rt: HostRuntime) -> Result<(), Fail> {
-    for number in 0..REFUSALS.len() {
-        assert_eq!(rt;
-            wrong_part(rt.alloc(), &REFUSALS[number])?,
-            None,
-            "{number}"
-        );
-    }
+    assert_eq!(rt; first_wrong(rt.alloc(), &REFUSALS)?, None);
     Ok(())
 }

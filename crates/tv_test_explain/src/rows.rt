@@ -1,6 +1,6 @@
 //! Calls on files that don't fail: what is asked for, and each refusal.
 
-use crate::call::{PLAIN, Row, wrong_part};
+use crate::call::{PLAIN, Row, first_wrong};
 use crate::texts::{EDGES, PROGRAM, REPORT, SHOWN, USAGE};
 use std::test::Fail;
 
@@ -12,14 +12,7 @@ const NOT_READ: Row<'static, 'static, 'static, 'static> = Row {
     ..PLAIN
 };
 
-const NO_COMMAND: Row<'static, 'static, 'static, 'static> = Row {
-    files: &[("p", PROGRAM), ("r", REPORT), ("-p", PROGRAM)],
-    code: 2,
-    err: USAGE,
-    ..PLAIN
-};
-
-static ROWS: [Row<'static, 'static, 'static, 'static>; 22] = [
+static ROWS: [Row<'static, 'static, 'static, 'static>; 16] = [
     Row {
         words: &["show", "p", "r"],
         files: &[("p", PROGRAM), ("r", REPORT)],
@@ -55,34 +48,6 @@ edge 1  main:5  L1 Go ( ) L0
 edge 2  main:6  L0 Go ( ) L1
 ",
         ..PLAIN
-    },
-    Row {
-        words: &[],
-        ..NO_COMMAND
-    },
-    Row {
-        words: &["frob", "p"],
-        ..NO_COMMAND
-    },
-    Row {
-        words: &["show", "p"],
-        ..NO_COMMAND
-    },
-    Row {
-        words: &["show", "p", "r", "r"],
-        ..NO_COMMAND
-    },
-    Row {
-        words: &["edges"],
-        ..NO_COMMAND
-    },
-    Row {
-        words: &["edges", "p", "r"],
-        ..NO_COMMAND
-    },
-    Row {
-        words: &["edges", "-p"],
-        ..NO_COMMAND
     },
     Row {
         words: &["edges", "p"],
@@ -147,12 +112,16 @@ edge 2  main:6  L0 Go ( ) L1
         files: &[("p", PROGRAM)],
         ..NOT_READ
     },
+    Row {
+        words: &[],
+        code: 2,
+        err: USAGE,
+        ..PLAIN
+    },
 ];
 
 #[test]
 fn calls_end_as_they_should(rt: HostRuntime) -> Result<(), Fail> {
-    for number in 0..ROWS.len() {
-        assert_eq!(rt; wrong_part(rt.alloc(), &ROWS[number])?, None, "{number}");
-    }
+    assert_eq!(rt; first_wrong(rt.alloc(), &ROWS)?, None);
     Ok(())
 }

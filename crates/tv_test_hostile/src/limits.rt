@@ -28,98 +28,96 @@ const RETAIN: &str = "%p a(v) %p b(v) %p c(v) %p d(v) %p x(v)
 const NEW: &str = "%p a(v) %p b(v) %p c(v) %p d(v) %p e(v) %p f(v) %p g(v) %p h(v)
 %% %action New() { %new } %% L0 New() L1";
 
+/// An analysis without individuals.
+const PLAIN: Row = Row {
+    words: &["analyze", "p", "i"],
+    program: "",
+    count: 0,
+    definite: &[],
+    unknown: &[],
+    code: 0,
+    structures: 0,
+    err: "",
+};
+
+const FOCUSED: Row = Row {
+    program: FOCUS,
+    count: 7,
+    definite: &["a", "b", "c"],
+    unknown: &["x", "sm"],
+    ..PLAIN
+};
+
+const KEPT: Row = Row {
+    program: RETAIN,
+    definite: &["a", "b", "c", "d"],
+    unknown: &["x"],
+    ..PLAIN
+};
+
+const ADDED: Row = Row {
+    program: NEW,
+    definite: &["a", "b", "c", "d", "e", "f", "g", "h"],
+    ..PLAIN
+};
+
+const HELD: Row = Row {
+    program: "%p x(v) %% %action All() { %p A(v) x(v) } %% L0 All() L1",
+    ..PLAIN
+};
+
 /// Three choices for each of seven summaries; two for each of twelve or thirteen individuals; a new
 /// individual beside 255 or 256, also in joined analyses; a text of 256 or 257 individuals.
 static ROWS: [Row; 9] = [
     Row {
-        words: &["analyze", "p", "i"],
-        program: FOCUS,
-        count: 7,
-        definite: &["a", "b", "c"],
-        unknown: &["x", "sm"],
-        code: 0,
         structures: 2188,
-        err: "",
+        ..FOCUSED
     },
     Row {
         words: &["analyze", "p", "i", "--max-structures", "2187"],
-        program: FOCUS,
-        count: 7,
-        definite: &["a", "b", "c"],
-        unknown: &["x", "sm"],
         code: 4,
-        structures: 0,
         err: "tvla: more than 2187 structures\n",
+        ..FOCUSED
     },
     Row {
-        words: &["analyze", "p", "i"],
-        program: RETAIN,
         count: 12,
-        definite: &["a", "b", "c", "d"],
-        unknown: &["x"],
-        code: 0,
         structures: 4097,
-        err: "",
+        ..KEPT
     },
     Row {
-        words: &["analyze", "p", "i"],
-        program: RETAIN,
         count: 13,
-        definite: &["a", "b", "c", "d"],
-        unknown: &["x"],
         code: 4,
-        structures: 0,
         err: "tvla: too many splits\n",
+        ..KEPT
     },
     Row {
-        words: &["analyze", "p", "i"],
-        program: NEW,
         count: 255,
-        definite: &["a", "b", "c", "d", "e", "f", "g", "h"],
-        unknown: &[],
-        code: 0,
         structures: 2,
-        err: "",
+        ..ADDED
     },
     Row {
-        words: &["analyze", "p", "i"],
-        program: NEW,
         count: 256,
-        definite: &["a", "b", "c", "d", "e", "f", "g", "h"],
-        unknown: &[],
         code: 4,
-        structures: 0,
         err: "tvla: too many individuals\n",
+        ..ADDED
     },
     Row {
         words: &["join", "p", "i"],
-        program: NEW,
         count: 256,
-        definite: &["a", "b", "c", "d", "e", "f", "g", "h"],
-        unknown: &[],
         code: 4,
-        structures: 0,
         err: "tvla: too many individuals\n",
+        ..ADDED
     },
     Row {
-        words: &["analyze", "p", "i"],
-        program: "%p x(v) %% %action All() { %p A(v) x(v) } %% L0 All() L1",
         count: 256,
-        definite: &[],
-        unknown: &[],
-        code: 0,
         structures: 1,
-        err: "",
+        ..HELD
     },
     Row {
-        words: &["analyze", "p", "i"],
-        program: "%p x(v) %% %action All() { %p A(v) x(v) } %% L0 All() L1",
         count: 257,
-        definite: &[],
-        unknown: &[],
         code: 3,
-        structures: 0,
         err: "tvla: initial: TooManyIndividuals\n",
+        ..HELD
     },
 ];
 

@@ -5,8 +5,8 @@ use std::alloc::{AllocError, Global};
 use std::test::Fail;
 use tv_test_call::{CALM, Ending, FLIP_REPORT, USAGE};
 
-/// The words of a call, PROGRAM `p`, INITIAL `i` and REPORT `r`, with `;` behind each; then what is written,
-/// the exit code, and what is told. `~` stands between rows.
+/// The words of a call, or of several with `|` between them, PROGRAM `p`, INITIAL `i` and REPORT `r`, with
+/// `;` behind each; then what is written, the exit code, and what is told. `~` stands between rows.
 const ROWS: &str = "analyze p i;%p x(v) %p y(v) %% %action Any() { { y(v) = 1/2 } } %% L0 Any() L1;
 %n = {u} %p = { x = {u} };;
 tvla report 2
@@ -61,23 +61,8 @@ node L1 structures 0
 end
 exit 0
 ~
-analyze p i;%p x(v) %i e() = E(v) x(v) %% %action New() { %new { x(v) = isNew(v) } } %% L0 New() L1;
-%n = {} %p = {};;
-tvla report 2
-node L0 structures 1
-%n = {}
-%p = {
-}
-node L1 structures 1
-%n = {i0}
-%p = {
-  x = {i0}
-  e = 1
-}
-end
-exit 0
-~
-analyze p i --recompute;%p x(v) %i e() = E(v) x(v) %% %action New() { %new { x(v) = isNew(v) } } %% L0 New() L1;
+analyze p i|analyze p i --recompute;
+%p x(v) %i e() = E(v) x(v) %% %action New() { %new { x(v) = isNew(v) } } %% L0 New() L1;
 %n = {} %p = {};;
 tvla report 2
 node L0 structures 1
@@ -227,7 +212,26 @@ fn told(alloc: Global, call: &Call<'_, '_, '_, '_>) -> Result<String, AllocError
     format!(in alloc; "\n{out}exit {}\n{err}", found.code)
 }
 
-/// Whether the call of a row ends as the row says.
+/// Whether each call of a line ends so, on these texts.
+fn end_so(alloc: Global, line: &str, texts: [&str; 3], wanted: &str) -> Result<bool, AllocError> {
+    let [program, initial, report] = texts;
+    for words in line.split('|') {
+        let words = words_of(alloc, words)?;
+        let call = Call {
+            words: words.as_slice(),
+            program,
+            initial,
+            report,
+            more: &[],
+        };
+        if told(alloc, &call)?.as_str() != wanted {
+            return Ok(false);
+        }
+    }
+    Ok(true)
+}
+
+/// Whether the calls of a row end as the row says.
 fn is_met(alloc: Global, row: &str) -> Result<bool, AllocError> {
     let mut cells = Vec::new(alloc);
     for cell in row.split(';') {
@@ -236,15 +240,7 @@ fn is_met(alloc: Global, row: &str) -> Result<bool, AllocError> {
     let [line, program, initial, report, wanted] = cells.as_slice() else {
         return Ok(false);
     };
-    let words = words_of(alloc, line)?;
-    let call = Call {
-        words: words.as_slice(),
-        program,
-        initial,
-        report,
-        more: &[],
-    };
-    Ok(told(alloc, &call)?.as_str() == *wanted)
+    end_so(alloc, line, [program, initial, report], wanted)
 }
 
 #[test]

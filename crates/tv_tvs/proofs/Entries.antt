@@ -24,8 +24,9 @@ use Rattle.tv_tvs.specs.Tree.{name_text}
 use Rattle.tv_tvs.specs.Canonical.{individual, individuals, tuples, written_items, if_some, value_content}
 use Rattle.tv_tvs.specs.Canonical.{content_of, summary_value}
 use Rattle.tv_tree.specs.Steps.{◌>>=◌, or_refused}
+use Rattle.tv_tree.specs.Names.{number_of}
 use Rattle.tv_tvs.specs.Meaning.{Subject, Summaries, Predicate, subject_arity, subject_of, arity_at}
-use Rattle.tv_tvs.specs.Meaning.{item_arity, fits, items_put, fitting_put, entry_put, entries_put, number_of}
+use Rattle.tv_tvs.specs.Meaning.{item_arity, fits, items_put, fitting_put, entry_put, entries_put}
 use Rattle.tv_tvs.specs.Meaning.{has_twice, blank, struct_meant}
 use Rattle.tv_tvs.proofs.WrittenNumbers.{bytes_differ, number_is, not_among, individual_injective}
 use Rattle.tv_tvs.proofs.Filled.{IsPart, Grows-same, Grows-then, Step, value_put_again, filled}

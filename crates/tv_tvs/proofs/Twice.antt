@@ -9,8 +9,7 @@ use Rattle.std.proofs.lemmas.List.{map_push, length-map, get_or-map, take_more, 
 use Rattle.std.proofs.lemmas.Slice.Eq.{bytes_eq-Decides}
 use Rattle.indexmap.specs.IndexSet.{insert_key}
 use Rattle.tv_model.specs.declared.program.Pred.{Pred}
-use Rattle.tv_tvs.specs.Views.{names_of}
-use Rattle.tv_tree.specs.Names.{is_among}
+use Rattle.tv_tree.specs.Names.{is_among, names_of}
 use Rattle.tv_tvs.specs.Meaning.{has_twice}
 
 module _ (same : Bor (List ℕ) → Bor (List ℕ) → Bool) (means : (a b : Bor (List ℕ)) → same a b ≡ bytes_eq a.now b.now) where

@@ -8,11 +8,7 @@ use Rattle.std.proofs.lemmas.Fmt.{decimal_injective}
 use Rattle.std.proofs.lemmas.List.FromFn.{length-map-range_with_len, get_or-map-range_with_len}
 use Rattle.std.proofs.lemmas.Slice.Eq.{bytes_eq-Decides}
 use Rattle.tv_tvs.specs.Canonical.{individual, individuals}
-use Rattle.tv_tree.specs.Names.{is_among}
-use Rattle.tv_tvs.specs.Meaning.{number_of}
-
-pub bytes_same : (name : List ℕ) → bytes_eq name name ≡ true
-bytes_same name = (bytes_eq-Decides name name).1 refl
+use Rattle.tv_tree.specs.Names.{is_among, number_of}
 
 pub bytes_differ : (a b : List ℕ) → (a ≡ b → ⊥) → bytes_eq a b ≡ false
 bytes_differ a b apart = false_from_ne_true (bytes_eq a b) (λ h. apart ((bytes_eq-Decides a b).0 h))

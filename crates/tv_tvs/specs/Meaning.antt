@@ -1,7 +1,7 @@
 -- What structures in texts mean: structures over a vocabulary, or the first refusal.
 use Rattle.std.specs.Prelude.{ℕ, ◌≡◌, ◌≢◌, ◌≤◌, List, [], ◌∷◌, ◌++◌, Bool, true, false, not, ◌&&◌, ◌||◌, ◌==◌}
 use Rattle.std.specs.Prelude.{nat_lt, Option, Some, None, Result, Ok, Err, length, map, is_some, unwrap_or}
-use Rattle.std.specs.Prelude.{slice_index, All, AllPairs, position, if◌then◌else◌, codes}
+use Rattle.std.specs.Prelude.{slice_index, All, AllPairs, if◌then◌else◌, codes}
 use Rattle.std.specs.List.{list_all}
 use Rattle.std.specs.Str.{bytes_eq}
 use Rattle.tv_kleene.specs.declared.K3.{K3}
@@ -9,6 +9,7 @@ use Rattle.tv_kleene.specs.declared.K3.TheVariants.{No, Half, Yes}
 use Rattle.tv_model.specs.declared.program.Pred.{Pred}
 use Rattle.tv_model.specs.declared.program.Vocab.{Vocab}
 use Rattle.tv_tree.specs.Names.{is_among}
+pub use Rattle.tv_tree.specs.Names.{number_of}
 use Rattle.tv_tree.specs.Steps.{◌>>=◌, or_refused}
 use Rattle.tv_struct.specs.StructureForm.{StructureForm, structure_of_no, with_value, with_summary}
 use Rattle.tv_lex.specs.Token.{SpecToken}
@@ -29,10 +30,6 @@ pub record IsVocabulary (vocab : Vocab) : Type 0 where
   pub count : length vocab.preds ≤ 512
 
 -- ---- names
-
--- where a name stands first among others
-abbrev pub number_of : List (List ℕ) → List ℕ → Option ℕ
-number_of names name = position (bytes_eq name) names
 
 -- a name stands among those that were seen or twice
 abbrev pub has_twice : (seen names : List (List ℕ)) → Bool

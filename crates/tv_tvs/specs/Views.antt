@@ -1,9 +1,9 @@
 -- What values of the program's types say.
 use Rattle.std.specs.Prelude.{ℕ, List, map, is_some, if◌then◌else◌}
 use Rattle.std.specs.Option.{option_map}
-use Rattle.std.specs.Borrow.{Bor}
 use Rattle.tv_lex.specs.Token.{text_of}
 use Rattle.tv_phrases.specs.declared.lists.NamePhrase.{NamePhrase}
+pub use Rattle.tv_tree.specs.Names.{names_of}
 use Rattle.tv_tvs.specs.declared.syntax.ItemText.{ItemText}
 use Rattle.tv_tvs.specs.declared.syntax.ContentText.{ContentText}
 use Rattle.tv_tvs.specs.declared.syntax.ContentText.TheVariants.{OneValue as OneText, Listed as ListedText}
@@ -51,7 +51,3 @@ struct_tree bytes t =
 
 abbrev pub struct_trees : List ℕ → List StructText → List StructTree
 struct_trees bytes ts = map (struct_tree bytes) ts
-
--- names that borrow their bytes
-abbrev pub names_of : List (Bor (List ℕ)) → List (List ℕ)
-names_of names = map (λ name. name.now) names

@@ -9,10 +9,11 @@ ghost use Rattle.tv_struct.specs.StructureForm.{StructureForm, arities_of};
 ghost use Rattle.tv_struct.specs.TableForm.{AreIndividuals};
 ghost use Rattle.tv_struct.specs.TupleForm.{tuple_of};
 ghost use Rattle.tv_tree.specs.Steps.{or_refused};
-ghost use Rattle.tv_tvs.specs.Meaning.{Answers, Summaries, number_of, subject_of, subject_arity, item_arity};
+ghost use Rattle.tv_tree.specs.Names.{names_of, number_of};
+ghost use Rattle.tv_tvs.specs.Meaning.{Answers, Summaries, subject_of, subject_arity, item_arity};
 ghost use Rattle.tv_tvs.specs.Meaning.{fits, tuple_of_item, value_put, item_put, items_put, fitting_put};
 ghost use Rattle.tv_tvs.specs.Meaning.{entry_put, entries_put, struct_meant, structs_meant};
-ghost use Rattle.tv_tvs.specs.Views.{names_of, text_arity, item_tree, item_trees, content_tree, entry_tree};
+ghost use Rattle.tv_tvs.specs.Views.{text_arity, item_tree, item_trees, content_tree, entry_tree};
 ghost use Rattle.tv_tvs.specs.Views.{entry_trees, struct_tree, struct_trees};
 ghost use Rattle.tv_tvs.specs.Targets.{subject_form, Has, HasPlace, IsRead, KeepsFrame};
 

@@ -4,10 +4,10 @@ ghost use Rattle.std.specs.Prelude.{◌≡◌, ◌≢◌, ◌<◌, ◌++◌, ◌
 ghost use Rattle.std.specs.Prelude.{OnOk, IfSome};
 ghost use Rattle.std.specs.List.{flat_map};
 ghost use Rattle.tv_lex.specs.Token.{text_of};
-ghost use Rattle.tv_tree.specs.Names.{is_among, brackets_text};
-ghost use Rattle.tv_tvs.specs.Meaning.{Answers, number_of, has_twice, all_different};
+ghost use Rattle.tv_tree.specs.Names.{is_among, brackets_text, names_of, number_of};
+ghost use Rattle.tv_tvs.specs.Meaning.{Answers, has_twice, all_different};
 ghost use Rattle.tv_tvs.specs.Tree.{name_text};
-ghost use Rattle.tv_tvs.specs.Views.{names_of, name_tree};
+ghost use Rattle.tv_tvs.specs.Views.{name_tree};
 
 use crate::error::TvsError;
 use indexmap::IndexSet;

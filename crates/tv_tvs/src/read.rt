@@ -116,7 +116,7 @@ impl<'a> Model for StructureReader<'a> {
     ghost use Rattle.tv_model.specs.contracts.formula.Formula as formula;
     ghost use Rattle.tv_model.specs.declared.program.Vocab.{Vocab};
     ghost use Rattle.tv_tvs.specs.Meaning.{IsVocabulary};
-    ghost use Rattle.tv_tvs.specs.Views.{names_of};
+    ghost use Rattle.tv_tree.specs.Names.{names_of};
 
     ghost Value = { Vocab };
 

@@ -19,6 +19,7 @@ use Rattle.tv_struct.proofs.Library.{fits_or_No}
 use Rattle.tv_struct.proofs.StructureLaws.{value_at-past}
 use Rattle.tv_two_valued.specs.TwoValued.{IsTwoValued}
 use Rattle.tv_two_valued.proofs.Heaps.{individuals-or}
+use Rattle.tv_two_valued.proofs.Tuples.{no-members, one-member, two-members}
 
 no-half : (k : K3) → k ≡ No → k ≢ Half
 no-half k e f = cc
@@ -99,21 +100,6 @@ definite-everywhere s q arity is has inside tuple = at (fits_or_No s q tuple) (i
     at (inl fits) (inr out) = no-half (value_at s q tuple) (value_at-past s is q tuple out)
     at (inl fits) (inl all) = inside tuple (same-length (length tuple) arity (sym fits ∙ has)) all
 
-no-members : (P : List ℕ → Type 0) → P [] → (tuple : List ℕ) → length tuple ≡ 0 → P tuple
-no-members P none [] long = none
-no-members P none (u ∷ us) long = absurd (omega (arith, long))
-
-one-member : (P : List ℕ → Type 0) → ((u : ℕ) → P (u ∷ [])) → (tuple : List ℕ) → length tuple ≡ 1 → P tuple
-one-member P each [] long = absurd (omega (arith, long))
-one-member P each (u ∷ []) long = each u
-one-member P each (u ∷ w ∷ us) long = absurd (omega (arith, long))
-
-two-members : (P : List ℕ → Type 0) → ((u w : ℕ) → P (u ∷ w ∷ [])) → (tuple : List ℕ) → length tuple ≡ 2 → P tuple
-two-members P each [] long = absurd (omega (arith, long))
-two-members P each (u ∷ []) long = absurd (omega (arith, long))
-two-members P each (u ∷ w ∷ []) long = each u w
-two-members P each (u ∷ w ∷ x ∷ us) long = absurd (omega (arith, long))
-
 -- the first rows have no unknown value
 abbrev pub RowsDefinite : StructureForm → (pred count : ℕ) → Type 0
 RowsDefinite s q count = (u : ℕ) → u < count → ¬ Any (λ x. x ≡ Half) (row_at s q u)
@@ -144,9 +130,6 @@ module _ (s : StructureForm) (q : ℕ) (is : IsStructure s) where
   pair-unknown u any definite =
       let found = at-any (λ x. x ≡ Half) s.size (λ x. value_at s q (u ∷ x ∷ [])) any
       in definite (u ∷ found.0 ∷ []) found.2
-
-pub rows-begin : (s : StructureForm) (q : ℕ) → RowsDefinite s q 0
-rows-begin s q u lt = absurd (omega (arith, lt))
 
 -- what is asked of a test that is turned
 pub turned : (b : Bool) (P Q : Type 0) → IsTrue b ↔ P → (¬ P) ↔ Q → IsTrue (not b) ↔ Q

@@ -8,6 +8,7 @@ use Rattle.std.proofs.lemmas.List.{length-map}
 use Rattle.std.proofs.lemmas.List.FromFn.{length-range_with_len, get_or-range_with_len}
 use Rattle.tv_kleene.specs.declared.K3.{K3}
 use Rattle.tv_kleene.specs.declared.K3.TheVariants.{No, Half, Yes}
+use Rattle.tv_kleene.specs.Kleene.{is_yes}
 use Rattle.tv_model.specs.Heap.{Holds, IsTuple, extent}
 use Rattle.tv_model.specs.Program.{ProgramForm, PredForm}
 use Rattle.tv_model.specs.Rules.{IsHeap}
@@ -16,7 +17,7 @@ use Rattle.tv_struct.specs.StructureForm.{StructureForm, IsStructure, arities_of
 use Rattle.tv_struct.specs.TableForm.{AreIndividuals}
 use Rattle.tv_struct.proofs.Library.{Contains-range, below-range, All-individuals, fits_or_No}
 use Rattle.tv_struct.proofs.StructureLaws.{value_at-past}
-use Rattle.tv_two_valued.specs.TwoValued.{heap_of, lists_of, is_yes, yes_tuples, extents_from}
+use Rattle.tv_two_valued.specs.TwoValued.{heap_of, lists_of, yes_tuples, extents_from}
 use Rattle.tv_two_valued.specs.Laws.{IsToldBy, IsOfProgram, HeapsAreTold}
 use Rattle.tv_two_valued.proofs.Tuples.{list-fits, list-found}
 

@@ -5,6 +5,8 @@ use Rattle.std.specs.Prelude.{Contains, Some, None, IsSomeAnd, unwrap_or}
 use Rattle.std.specs.List.{range_with_len}
 use Rattle.tv_kleene.specs.declared.K3.{K3}
 use Rattle.tv_kleene.specs.declared.K3.TheVariants.{No, Half, Yes}
+use Rattle.tv_kleene.specs.Kleene.{is_yes}
+use Rattle.tv_kleene.proofs.Lattice.{same-definite}
 use Rattle.tv_eval.specs.AssignmentForm.{assignment_of, individual_for}
 use Rattle.tv_eval.specs.Formulas.{AreAssigned}
 use Rattle.tv_embedding_laws.specs.LogicalStructure.{heap_structure}
@@ -17,19 +19,9 @@ use Rattle.tv_eval_laws.specs.Laws.{GivesIndividuals, LooksAlike, TellsTruth}
 use Rattle.tv_eval_laws.specs.Value.{value}
 use Rattle.tv_eval_laws.proofs.InHeaps.{heaps_tell_truth}
 use Rattle.tv_eval_laws.proofs.Embedded.{values_are_local}
-use Rattle.tv_two_valued.specs.TwoValued.{IsTwoValued, heap_of, is_yes}
+use Rattle.tv_two_valued.specs.TwoValued.{IsTwoValued, heap_of}
 use Rattle.tv_two_valued.specs.Laws.{TruthIsTold}
 use Rattle.tv_two_valued.proofs.Heaps.{heap-told}
-
--- two values that are Yes at once, of which none is Half, are equal
-same-definite : (x y : K3) → (x ≡ Half → ⊥) → (y ≡ Half → ⊥) → x ≡ Yes ↔ y ≡ Yes → x ≡ y
-same-definite No No p q e = refl
-same-definite No Half p q e = absurd (q refl)
-same-definite No Yes p q e = e.1 refl
-same-definite Half y p q e = absurd (p refl)
-same-definite Yes No p q e = sym (e.0 refl)
-same-definite Yes Half p q e = absurd (q refl)
-same-definite Yes Yes p q e = refl
 
 heap-definite : (b : Bool) → (if b then Yes else No) ≡ Half → ⊥
 heap-definite true e = cc

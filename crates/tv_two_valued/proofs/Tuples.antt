@@ -31,3 +31,20 @@ list-found xs (suc n) (u ∷ us) long all =
     (All-head (Contains xs) u us all)
     (Contains-map (λ tuple. u ∷ tuple) us (lists_of xs n)
     (list-found xs n us (omega (arith, long)) (All-tail (Contains xs) u us all)))
+
+-- ---- what is said of lists of so many
+
+pub no-members : (P : List ℕ → Type 0) → P [] → (tuple : List ℕ) → length tuple ≡ 0 → P tuple
+no-members P none [] long = none
+no-members P none (u ∷ us) long = absurd (omega (arith, long))
+
+pub one-member : (P : List ℕ → Type 0) → ((u : ℕ) → P (u ∷ [])) → (tuple : List ℕ) → length tuple ≡ 1 → P tuple
+one-member P each [] long = absurd (omega (arith, long))
+one-member P each (u ∷ []) long = each u
+one-member P each (u ∷ w ∷ us) long = absurd (omega (arith, long))
+
+pub two-members : (P : List ℕ → Type 0) → ((u w : ℕ) → P (u ∷ w ∷ [])) → (tuple : List ℕ) → length tuple ≡ 2 → P tuple
+two-members P each [] long = absurd (omega (arith, long))
+two-members P each (u ∷ []) long = absurd (omega (arith, long))
+two-members P each (u ∷ w ∷ []) long = each u w
+two-members P each (u ∷ w ∷ x ∷ us) long = absurd (omega (arith, long))

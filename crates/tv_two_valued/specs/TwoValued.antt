@@ -1,10 +1,10 @@
 -- Heaps as two-valued structures, and the heap that a structure stands for (Sagiv, Reps and Wilhelm, TOPLAS
 -- 24(3), 2002, section 2).
-use Rattle.std.specs.Prelude.{ℕ, zero, suc, ◌≡◌, ◌≢◌, ◌<◌, Bool, true, false, List, [], ◌∷◌, map}
+use Rattle.std.specs.Prelude.{ℕ, zero, suc, ◌≡◌, ◌≢◌, ◌<◌, false, List, [], ◌∷◌, map}
 use Rattle.std.specs.List.{range_with_len, flat_map}
 use Rattle.std.specs.Prelude.{filter}
-use Rattle.tv_kleene.specs.declared.K3.{K3}
-use Rattle.tv_kleene.specs.declared.K3.TheVariants.{No, Half, Yes}
+use Rattle.tv_kleene.specs.declared.K3.TheVariants.{Half}
+pub use Rattle.tv_kleene.specs.Kleene.{is_yes}
 use Rattle.tv_model.specs.Heap.{Heap}
 use Rattle.tv_struct.specs.StructureForm.{StructureForm, value_at, summary_at, arities_of}
 
@@ -17,11 +17,6 @@ pub record IsTwoValued (s : StructureForm) : Type 0 where
 abbrev pub lists_of : List ℕ → (n : ℕ) → List (List ℕ)
 lists_of us zero = [] ∷ []
 lists_of us (suc n) = flat_map (λ u. map (λ tuple. u ∷ tuple) (lists_of us n)) us
-
-abbrev pub is_yes : K3 → Bool
-is_yes No = false
-is_yes Half = false
-is_yes Yes = true
 
 -- the tuples of individuals at which the predicate is Yes
 abbrev pub yes_tuples : StructureForm → (pred arity : ℕ) → List (List ℕ)

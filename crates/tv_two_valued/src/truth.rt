@@ -9,7 +9,8 @@ ghost use Rattle.tv_model.specs.Form.{form_of};
 ghost use Rattle.tv_model.specs.Truth.{Truth};
 ghost use Rattle.tv_model.specs.Valid.{IsFormulaOver};
 ghost use Rattle.tv_struct.specs.StructureForm.{arities_of, IsStructure};
-ghost use Rattle.tv_two_valued.specs.TwoValued.{IsTwoValued, heap_of, is_yes};
+ghost use Rattle.tv_kleene.specs.Kleene.{is_yes};
+ghost use Rattle.tv_two_valued.specs.TwoValued.{IsTwoValued, heap_of};
 
 use tv_eval::{Assignment, Evaluator};
 use tv_kleene::K3;

@@ -137,11 +137,6 @@ defined-lies c t h valid P embeds q d found vars body kind among tuple all =
         ∙ sym (cond-false (eqb (length (map h tuple)) (length vars))
         (value t (put_all blank vars (map h tuple)) body) No (ne_eqb _ _ misfit)))
 
--- where an unchanged predicate is defined, no individual comes or goes
-no-fresh : (b : Bool) → (IsTrue b → ⊥) → b ≡ false
-no-fresh true n = absurd (n refl)
-no-fresh false n = refl
-
 no-retain : (o : Option RetainForm) → (IsSome o → ⊥) → o ≡ None
 no-retain None n = refl
 no-retain (Some r) n = absurd (n refl)

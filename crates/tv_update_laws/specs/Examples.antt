@@ -2,9 +2,8 @@
 use Rattle.std.specs.Prelude.{◌≡◌, true, false, [], ◌∷◌, None, codes}
 use Rattle.tv_kleene.specs.declared.K3.TheVariants.{No, Half, Yes}
 use Rattle.tv_model.specs.declared.program.Mode.{Mode}
-use Rattle.tv_model.specs.declared.program.Props.{Props}
 use Rattle.tv_model.specs.Form.{FAtom, FSame, FExists, FIsNew}
-use Rattle.tv_model.specs.Program.{ProgramForm, KCore, KDefined, ActionForm, CTo}
+use Rattle.tv_model.specs.Program.{ProgramForm, KCore, KDefined, ActionForm, CTo, no_props}
 use Rattle.tv_model.specs.Rules.{blank}
 use Rattle.tv_embedding_laws.specs.LogicalStructure.{LogicalStructure}
 use Rattle.tv_update_laws.specs.Applied.{IsGrown, updated_value, IsNew}
@@ -13,16 +12,6 @@ use Rattle.tv_update_laws.specs.Choices.{choices_of}
 -- one individual, which may stand for several cells, and of which predicate 0 holds
 abbrev pub one_summary : LogicalStructure
 one_summary = record { individuals = 0 ∷ []; value = λ q tuple. Yes; is_summary = λ u. true; fresh = None }
-
-abbrev pub no_props : Props
-no_props = record {
-  unique = false;
-  function = false;
-  invfunction = false;
-  transitive = false;
-  reflexive = false;
-  symmetric = false;
-}
 
 -- predicate 0 is core, and predicate 1 says that it holds of something
 abbrev pub some_program : ProgramForm

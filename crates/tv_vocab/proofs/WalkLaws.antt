@@ -304,9 +304,6 @@ reverse_push path step = reverse-append path (step ∷ [])
 
 -- ---- what was seen
 
-pub keeps_all : (marks : List Mark) → KeepsSeen marks marks
-keeps_all marks p h = h
-
 pub keeps_then : (a b c : List Mark) → KeepsSeen a b → KeepsSeen b c → KeepsSeen a c
 keeps_then a b c h k p s = k p (h p s)
 

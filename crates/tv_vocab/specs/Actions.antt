@@ -9,7 +9,8 @@ use Rattle.tv_tree.specs.Forms.{Quoted, Spelled, PartForm, PCaption, PFocus, PPr
 use Rattle.tv_tree.specs.Forms.{PBlock}
 use Rattle.tv_model.specs.Form.{Form}
 use Rattle.tv_model.specs.Program as model
-use Rattle.tv_model.specs.Program.{PredForm, KindForm, KCore, KDefined, ChangeForm, CFree, CTo, RetainForm}
+use Rattle.tv_model.specs.Program.{PredForm, ChangeForm, CFree, CTo, RetainForm}
+use Rattle.tv_model.specs.Program.{is_core_pred}
 use Rattle.tv_model.specs.Program.{MessageForm, ActionForm}
 use Rattle.tv_names.specs.declared.refusal.ResolveError.TheVariants.{NameUnknown, NameTwice, ArityWrong}
 use Rattle.tv_names.specs.declared.refusal.ResolveError.TheVariants.{Reserved, UpdateTwice}
@@ -180,14 +181,6 @@ is_half (tree.FCond f g h) = false
 is_half (tree.FExists xs f) = false
 is_half (tree.FForall xs f) = false
 is_half (tree.FTc from to left right f) = false
-
-abbrev pub is_core_kind : KindForm → Bool
-is_core_kind KCore = true
-is_core_kind (KDefined vars body) = false
-
-abbrev pub is_core_pred : Option PredForm → Bool
-is_core_pred None = false
-is_core_pred (Some d) = is_core_kind d.kind
 
 abbrev pub is_updated : List model.UpdateForm → ℕ → Bool
 is_updated done pred = list_any (λ w. w.pred == pred) done

@@ -12,6 +12,7 @@ use Rattle.tv_model.specs.declared.program.Props.{Props}
 use Rattle.tv_model.specs.Form.{Form, FZero, FOne, FAtom, FIsNew, FSame, FNot, FAnd, FOr, FIff, FCond}
 use Rattle.tv_model.specs.Form.{FExists, FForall, FClosure}
 use Rattle.tv_model.specs.Program.{PredForm, KindForm, KCore, KDefined, RuleForm, HeadForm, HNever, HAtom}
+use Rattle.tv_model.specs.Program.{no_props}
 use Rattle.tv_model.specs.Program.{HSame}
 use Rattle.tv_names.specs.declared.refusal.ResolveError.TheVariants.{DefinitionCycle, NameTwice, ArityWrong}
 use Rattle.tv_names.specs.declared.refusal.ResolveError.TheVariants.{ArityTooLarge, Reserved, TooMany}
@@ -42,17 +43,6 @@ fits arity Abs = true
 fits arity Nonabs = true
 fits arity Boxed = true
 fits arity Pointer = true
-
-abbrev pub no_props : Props
-no_props =
-    record {
-      unique = false;
-      function = false;
-      invfunction = false;
-      transitive = false;
-      reflexive = false;
-      symmetric = false;
-    }
 
 abbrev pub with_prop : Props → PropWord → Props
 with_prop props Unique = record props { unique = true }

@@ -4,12 +4,13 @@ ghost use Rattle.std.specs.Prelude.{ℕ, ◌≡◌, ◌==◌, [], Bool, Option, 
 ghost use Rattle.std.specs.List.{list_any};
 ghost use Rattle.tv_tree.specs.Copies.{form_of as tree_of, single_of, update_of as nest_of, name_of};
 ghost use Rattle.tv_model.specs.Form.{form_of, vars_of};
-ghost use Rattle.tv_model.specs.Program.{pred_of, change_of, update_of, picks_of, kind_of};
+ghost use Rattle.tv_model.specs.Program.{pred_of, change_of, update_of, picks_of, kind_of, is_core_kind};
+ghost use Rattle.tv_model.specs.Program.{is_core_pred};
 ghost use Rattle.tv_names.specs.Refusal.{GivesOrRefuses, one_by_one};
 ghost use Rattle.tv_names.specs.Symbols.{KnownForm};
 ghost use Rattle.tv_names.specs.Copies.{symbols_of, place_form, naming_of};
 ghost use Rattle.tv_vocab.specs.Copies.{picking_of};
-ghost use Rattle.tv_vocab.specs.Actions.{is_half, is_core_kind, is_core_pred, is_updated, change, updating};
+ghost use Rattle.tv_vocab.specs.Actions.{is_half, is_updated, change, updating};
 ghost use Rattle.tv_vocab.specs.Actions.{update_of_pred, update, with_update};
 
 use crate::actions::Picking;

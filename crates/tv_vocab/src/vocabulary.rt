@@ -14,7 +14,7 @@ ghost use Rattle.tv_vocab.specs.Views.{declared_of};
 
 use crate::cycles::has_cycle;
 use std::alloc::Global;
-use tv_model::{Items, Kind, Pred, Props};
+use tv_model::{Items, Kind, NO_PROPS, Pred, Props};
 use tv_names::{Known, Naming, Others, Place, ResolveError, Symbols, is_reserved, resolve_formula};
 use tv_tree::{FormulaTree, PredDecl, PropWord, Spelling, is_among, name_text};
 
@@ -57,14 +57,7 @@ fn with_prop(props: Props, word: PropWord) -> Props
 fn props_of(words: &[PropWord]) -> Props
     ensures { result ≡ props_of words.now }
 {
-    let mut props = Props {
-        unique: false,
-        function: false,
-        invfunction: false,
-        transitive: false,
-        reflexive: false,
-        symmetric: false,
-    };
+    let mut props = NO_PROPS;
     for word in words {
         props = with_prop(props, *word);
     }

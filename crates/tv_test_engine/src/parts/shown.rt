@@ -5,17 +5,8 @@ ghost use Rattle.tv_struct.specs.StructureForm.{arities_of};
 
 use std::alloc::{AllocError, Global};
 use tv_kleene::K3;
-use tv_model::{Items, Kind, Pred, PredId, Props, Vocab};
+use tv_model::{Items, Kind, NO_PROPS, Pred, PredId, Vocab};
 use tv_struct::{Structure, Tuple};
-
-const NO_PROPS: Props = Props {
-    unique: false,
-    function: false,
-    invfunction: false,
-    transitive: false,
-    reflexive: false,
-    symmetric: false,
-};
 
 /// A core predicate.
 pub fn core(alloc: Global, arity: u8, abs: bool) -> Pred

@@ -8,20 +8,11 @@ use std::alloc::{AllocError, Global};
 use std::collections::BTreeMap;
 use std::test::Fail;
 use tv_kleene::K3;
-use tv_model::{Items, Kind, Pred, PredId, Preds, Props, Vocab};
+use tv_model::{Items, Kind, NO_PROPS, Pred, PredId, Preds, Vocab};
 use tv_struct::{Structure, Table, Tuple};
 
 /// The values other than `No`, by predicate and members of the tuple, 0 where it has none.
 type Entries = BTreeMap<(u32, u32, u32), K3>;
-
-const NO_PROPS: Props = Props {
-    unique: false,
-    function: false,
-    invfunction: false,
-    transitive: false,
-    reflexive: false,
-    symmetric: false,
-};
 
 fn core(alloc: Global, arity: u8) -> Pred
     ensures { result.arity ≡ arity }

@@ -13,7 +13,7 @@ use Rattle.tv_tree.specs.Forms.{PieceForm}
 use Rattle.tv_tree.specs.Names.{is_among}
 use Rattle.tv_model.specs.Form.{Form, FZero, FAtom, FSame, FNot}
 use Rattle.tv_model.specs.Program.{PredForm, KindForm, KDefined, RuleForm, HeadForm, ChangeForm, CFree, CTo}
-use Rattle.tv_model.specs.Program.{RetainForm, MessageForm}
+use Rattle.tv_model.specs.Program.{RetainForm, MessageForm, is_core_pred}
 use Rattle.tv_model.specs.Program as model
 use Rattle.tv_names.specs.declared.refusal.ResolveError.{ResolveError}
 use Rattle.tv_names.specs.declared.refusal.ResolveError.TheVariants.{TooManyVariables, ArityTooLarge}
@@ -33,7 +33,7 @@ use Rattle.tv_names.proofs.SightLaws.{resolved_sees}
 use Rattle.tv_vocab.specs.Vocabulary.{twice, over, anywhere, definition, negated_head, head_of, rule}
 use Rattle.tv_vocab.specs.Actions.{with_formula, resolved_all, focused, PickingForm, picking, precondition}
 use Rattle.tv_vocab.specs.Actions.{piece_text, message, further_number, retaining, retain, updating, is_half}
-use Rattle.tv_vocab.specs.Actions.{is_core_pred, is_updated, change, update_of_pred}
+use Rattle.tv_vocab.specs.Actions.{is_updated, change, update_of_pred}
 use Rattle.tv_vocab.specs.Variables.{free_names, picked_names, is_known, further_variables, variable_count}
 use Rattle.tv_vocab.specs.Variables.{one_more, HasRoom, ItemsHave32Variables}
 use Rattle.std.proofs.lemmas.Slice.Eq.{bytes_eq-Decides}
@@ -73,11 +73,6 @@ never_if true e apart h = apart (same e TooManyVariables h)
     same : (d c : ResolveError) → ◌≡◌ {A = OrRefused (Unit {0})} (Err d) (Err c) → d ≡ c
     same d c k = cc
 never_if false e apart h = cc
-
-bind_assoc : {A B C : Type 0} (r : OrRefused A) (f : A → OrRefused B) (g : B → OrRefused C)
-    → ((r >>= f) >>= g) ≡ (r >>= λ x. f x >>= g)
-bind_assoc (Ok x) f g = refl
-bind_assoc (Err e) f g = refl
 
 -- ---- formulas
 

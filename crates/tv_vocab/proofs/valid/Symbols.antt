@@ -20,7 +20,7 @@ use Rattle.tv_tree.specs.declared.trees.PropWord.TheVariants.{Transitive, Reflex
 use Rattle.tv_tree.specs.declared.trees.PropWord.TheVariants.{Pointer}
 use Rattle.tv_model.specs.declared.program.Props.{Props}
 use Rattle.tv_model.specs.Spelling.{IsIdentifier, IsName}
-use Rattle.tv_model.specs.Program.{PredForm}
+use Rattle.tv_model.specs.Program.{PredForm, no_props}
 use Rattle.tv_model.specs.Valid.{AreProperties}
 use Rattle.tv_tree.specs.Spelled.{IsSpelledName}
 use Rattle.tv_names.specs.declared.refusal.ResolveError.TheVariants.{NameTwice, ArityWrong, ArityTooLarge}
@@ -29,7 +29,7 @@ use Rattle.tv_names.specs.Refusal.{◌>>=◌, OrRefused, refused_if, one_by_one}
 use Rattle.tv_tree.specs.Names.{name_text, brackets_text}
 use Rattle.tv_names.specs.Symbols.{SymbolForm, KnownForm, is_sm, is_new_word, is_reserved, symbol_of}
 use Rattle.tv_names.specs.Symbols.{behind_one}
-use Rattle.tv_vocab.specs.Vocabulary.{twice, fits, with_prop, no_props, props_of, symbol_checked, with_symbol}
+use Rattle.tv_vocab.specs.Vocabulary.{twice, fits, with_prop, props_of, symbol_checked, with_symbol}
 use Rattle.tv_vocab.specs.Vocabulary.{symbols}
 use Rattle.tv_vocab.proofs.valid.Refusals.{ok_is, some_is, not_none, went, not_refused}
 

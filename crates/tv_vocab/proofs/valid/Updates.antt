@@ -12,7 +12,7 @@ use Rattle.std.proofs.lemmas.List.Quantifiers.{all_pairs_push}
 use Rattle.tv_tree.specs.Forms as tree
 use Rattle.tv_tree.specs.Forms.{Nest, Single, Foreach}
 use Rattle.tv_model.specs.Program.{ProgramForm, PredForm, KindForm, KCore, KDefined, ChangeForm, CFree, CTo}
-use Rattle.tv_model.specs.Program.{UpdateForm, ActionForm}
+use Rattle.tv_model.specs.Program.{UpdateForm, ActionForm, is_core_kind, is_core_pred}
 use Rattle.tv_model.specs.Valid.{IsChange, IsUpdate, AreVariables, arity_of}
 use Rattle.tv_names.specs.declared.refusal.ResolveError.TheVariants.{NameUnknown, NameTwice, ArityWrong}
 use Rattle.tv_names.specs.declared.refusal.ResolveError.TheVariants.{Reserved, UpdateTwice}
@@ -22,7 +22,7 @@ use Rattle.tv_names.specs.Symbols.{SymbolForm, KnownForm, is_reserved, symbol_of
 use Rattle.tv_names.specs.Naming.{NamingForm, declared_all}
 use Rattle.tv_names.specs.Resolving.{resolved}
 use Rattle.tv_vocab.specs.Vocabulary.{twice}
-use Rattle.tv_vocab.specs.Actions.{PickingForm, updating, is_half, is_core_kind, is_core_pred, is_updated}
+use Rattle.tv_vocab.specs.Actions.{PickingForm, updating, is_half, is_updated}
 use Rattle.tv_vocab.specs.Actions.{change, update_of_pred, update, with_update}
 use Rattle.tv_vocab.proofs.valid.Refusals.{ok_is, some_is, not_none, went, not_refused, was_some, after_each}
 use Rattle.tv_vocab.proofs.valid.Numbers.{declared_are}

@@ -5,7 +5,7 @@ use Rattle.tv_model.specs.declared.program.Rule.{Rule}
 use Rattle.tv_model.specs.Program.{pred_of, rule_of, program_of, EachPred}
 use Rattle.tv_model.specs.Rules.{MeetsProgram, MeetsRule, property_rules}
 use Rattle.tv_concrete.specs.Lists.{heap_of}
-use Rattle.tv_concrete.proofs.PropertyLemmas.{part-fails, part-holds, result-answer}
+use Rattle.tv_concrete.proofs.Parts.{part-fails, part-holds, result-answer}
 use Rattle.tv_concrete.proofs.rules.meets_program.Goals as goal
 
 pub returns-then-not-branch : goal.returns-then-not-branch

@@ -9,7 +9,7 @@ use Rattle.tv_model.specs.Program.{EachPred}
 use Rattle.tv_model.specs.Rules.{IsConcrete}
 use Rattle.tv_model.specs.Step.{FollowsUpdate, Keeps, StepsThrough, update_for}
 use Rattle.tv_concrete.specs.Lists.{assignment_of, heap_of}
-use Rattle.tv_concrete.proofs.PropertyLemmas.{part-fails, part-holds, result-answer}
+use Rattle.tv_concrete.proofs.Parts.{part-fails, part-holds, result-answer}
 use Rattle.tv_concrete.proofs.StepLemmas.{all-kept, exactly-kept, only-kept}
 use Rattle.tv_concrete.proofs.step.steps_through.Goals as goal
 

@@ -5,7 +5,7 @@ use Rattle.tv_delta_laws.specs.Simple.{nodes}
 use Rattle.tv_delta_form.proofs.DeltaSteps.{and_stops, or_stops, alike_stops, choice_stops}
 use Rattle.tv_delta_form.proofs.DeltaSteps.{choice_stops_second}
 use Rattle.tv_delta_form.specs.Views.{GivesFormed, delta_form}
-use Rattle.tv_delta_form.specs.Heads.{bound_by}
+use Rattle.tv_model.specs.Quantifiers.{bound_by}
 use Rattle.tv_delta.specs.Opening.{delta_at, EndsWithin}
 use Rattle.tv_delta.specs.Quantified.{quantified_by}
 use Rattle.tv_delta.proofs.QuantifiedLaws.{ends_under, under_is}

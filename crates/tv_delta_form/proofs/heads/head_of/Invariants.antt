@@ -1,7 +1,7 @@
 use Rattle.std.proofs.Common.{◌≡◌, ◌≤◌}
 use Rattle.tv_model.specs.Form.{form_of, height}
 use Rattle.tv_delta_laws.specs.Simple.{nodes}
-use Rattle.tv_delta_form.specs.Heads.{bound_by}
+use Rattle.tv_model.specs.Quantifiers.{bound_by}
 use Rattle.tv_delta_form.proofs.heads.head_of.Given as goal
 
 -- the quantifiers so far stand over what is left

@@ -2,7 +2,7 @@ use Rattle.std.proofs.Common.{◌≡◌, ◌++◌, ◌∷◌, [], Some, ◌∙�
 use Rattle.std.specs.Prelude.{option_map}
 use Rattle.tv_model.specs.Form.{form_of}
 use Rattle.tv_delta_laws.specs.Putting.{put_in}
-use Rattle.tv_delta_form.specs.Heads.{bound, bound_by, bound_var, renamed}
+use Rattle.tv_model.specs.Quantifiers.{bound, bound_by, bound_var, renamed}
 use Rattle.tv_delta_form.specs.Views.{arguments_from, reserved_of, reserved_at, scope_form, bind}
 use Rattle.tv_delta_form.proofs.HeadSteps.{bind_same, next_bound}
 use Rattle.tv_delta_form.proofs.putting.number_head.Goals as goal

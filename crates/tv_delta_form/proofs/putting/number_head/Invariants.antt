@@ -3,7 +3,7 @@ use Rattle.std.specs.Prelude.{option_map}
 use Rattle.tv_model.specs.Form.{form_of, height}
 use Rattle.tv_delta_laws.specs.Putting.{put_in}
 use Rattle.tv_delta_laws.specs.Simple.{nodes}
-use Rattle.tv_delta_form.specs.Heads.{bound, bound_by}
+use Rattle.tv_model.specs.Quantifiers.{bound, bound_by}
 use Rattle.tv_delta_form.specs.Views.{arguments_from, reserved_of}
 use Rattle.tv_delta_form.proofs.putting.number_head.Given as goal
 

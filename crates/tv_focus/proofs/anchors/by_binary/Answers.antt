@@ -2,7 +2,8 @@ use Rattle.std.proofs.Common.{◌≡◌, ◌∙◌, List, [], ◌∷◌, ◌++�
 use Rattle.std.specs.List.{list_any}
 use Rattle.std.proofs.lemmas.List.{map-append}
 use Rattle.tv_struct.specs.StructureForm.{structure_of, value_at}
-use Rattle.tv_focus_laws.specs.FocusAtoms.{AnchorsForm, is_yes, is_anchored, anchors_of, ordinary}
+use Rattle.tv_kleene.specs.Kleene.{is_yes}
+use Rattle.tv_focus_laws.specs.FocusAtoms.{AnchorsForm, is_anchored, anchors_of, ordinary}
 use Rattle.tv_focus.specs.declared.anchors.Place.TheVariants.{First, Second}
 use Rattle.tv_focus.specs.Anchored.{pair_of}
 use Rattle.tv_focus.specs.Seen.{anchors_form}

@@ -1,7 +1,7 @@
 use Rattle.std.proofs.Common.{◌≡◌, ◌++◌, map, take, drop}
 use Rattle.tv_lex.specs.Token.{text_of}
 use Rattle.tv_source_names.specs.Meaning.{declared}
-use Rattle.tv_source_names.specs.Answers.{names_of}
+use Rattle.tv_tree.specs.Names.{names_of}
 use Rattle.tv_source_names.proofs.declare.declared.Given as goal
 
 abbrev pub invariant-loop-token : goal.invariant-loop-token

@@ -1,5 +1,6 @@
 use Rattle.std.proofs.Common.{◌∙◌}
-use Rattle.tv_tvs.specs.Views.{names_of, entry_tree}
+use Rattle.tv_tree.specs.Names.{names_of}
+use Rattle.tv_tvs.specs.Views.{entry_tree}
 use Rattle.tv_tvs.proofs.Building.{keeps_then, entries_more}
 use Rattle.tv_tvs.proofs.build.put_entries.Goals as goal
 

@@ -1,7 +1,8 @@
 use Rattle.std.proofs.Common.{◌≡◌, drop}
 use Rattle.tv_tvs.specs.Meaning.{entries_put}
 use Rattle.tv_tvs.specs.Targets.{KeepsFrame}
-use Rattle.tv_tvs.specs.Views.{names_of, entry_trees}
+use Rattle.tv_tree.specs.Names.{names_of}
+use Rattle.tv_tvs.specs.Views.{entry_trees}
 use Rattle.tv_tvs.proofs.build.put_entries.Given as goal
 
 abbrev pub invariant-loop-entry : goal.invariant-loop-entry

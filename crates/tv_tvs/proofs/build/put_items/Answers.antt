@@ -1,7 +1,8 @@
 use Rattle.std.proofs.Common.{◌∙◌}
 use Rattle.std.proofs.lemmas.Result.{err_from_is_err_and}
 use Rattle.tv_tvs.specs.Targets.{subject_form}
-use Rattle.tv_tvs.specs.Views.{names_of, item_tree}
+use Rattle.tv_tree.specs.Names.{names_of}
+use Rattle.tv_tvs.specs.Views.{item_tree}
 use Rattle.tv_tvs.proofs.Building.{fails_along, keeps_then, items_more, items_fail}
 use Rattle.tv_tvs.proofs.build.put_items.Goals as goal
 

@@ -1,7 +1,8 @@
 use Rattle.std.proofs.Common.{◌≡◌, drop}
 use Rattle.tv_tvs.specs.Meaning.{items_put}
 use Rattle.tv_tvs.specs.Targets.{subject_form, KeepsFrame}
-use Rattle.tv_tvs.specs.Views.{names_of, item_trees}
+use Rattle.tv_tree.specs.Names.{names_of}
+use Rattle.tv_tvs.specs.Views.{item_trees}
 use Rattle.tv_tvs.proofs.build.put_items.Given as goal
 
 abbrev pub invariant-loop-item : goal.invariant-loop-item

@@ -1,7 +1,7 @@
 use Rattle.std.proofs.Common.{◌≡◌, [], map, take, drop}
 use Rattle.tv_lex.specs.Token.{text_of}
 use Rattle.tv_tvs.specs.Meaning.{has_twice}
-use Rattle.tv_tvs.specs.Views.{names_of}
+use Rattle.tv_tree.specs.Names.{names_of}
 use Rattle.tv_tvs.proofs.names.individual_names.Given as goal
 
 abbrev pub invariant-loop-individual : goal.invariant-loop-individual

@@ -1,4 +1,4 @@
-use Rattle.tv_tvs.specs.Views.{names_of}
+use Rattle.tv_tree.specs.Names.{names_of}
 use Rattle.tv_tvs.proofs.Twice.{pred_added}
 use Rattle.tv_tvs.proofs.names.predicate_names.Goals as goal
 

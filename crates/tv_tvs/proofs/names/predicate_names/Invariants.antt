@@ -1,5 +1,5 @@
 use Rattle.std.proofs.Common.{◌≡◌, map, take}
-use Rattle.tv_tvs.specs.Views.{names_of}
+use Rattle.tv_tree.specs.Names.{names_of}
 use Rattle.tv_tvs.proofs.names.predicate_names.Given as goal
 
 abbrev pub invariant-loop-pred : goal.invariant-loop-pred

@@ -3,7 +3,8 @@ use Rattle.tv_eval.specs.AssignmentForm.{assignment_of}
 use Rattle.tv_eval.specs.Bound.{bound_structure}
 use Rattle.tv_model.specs.Form.{form_of}
 use Rattle.tv_model.specs.Truth.{Truth}
-use Rattle.tv_two_valued.specs.TwoValued.{heap_of, is_yes}
+use Rattle.tv_kleene.specs.Kleene.{is_yes}
+use Rattle.tv_two_valued.specs.TwoValued.{heap_of}
 use Rattle.tv_two_valued.proofs.Truths.{answers_truth}
 use Rattle.tv_two_valued.proofs.truth.holds.Goals as goal
 
