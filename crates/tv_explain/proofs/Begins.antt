@@ -1,11 +1,7 @@
--- How often files are begun, by several readings after each other.
-use Rattle.std.proofs.Common.{◌≡◌, ℕ, ◌+◌, min, List, Option, None, Some, Result, Ok, Err, arith, ap}
-use Rattle.std.proofs.Common.{◌∙◌, Bool, true, false, inl, inr}
+-- How often files are begun, said of the call.
+use Rattle.std.proofs.Common.{ℕ, List, Option, Result, Ok, Err, Bool, true, false, inl, inr}
 use Rattle.std.specs.Prelude.{OnOk}
-use Rattle.tv_lex.specs.Gather.{BeginsEach, deepest_include, file_events}
-use Rattle.tv_outside.specs.Count.{count_max, counted}
-use Rattle.tv_outside.specs.Told.{Held}
-use Rattle.tv_explain.specs.Begins.{BeginsBy, OnAnswer, program_begins}
+use Rattle.tv_explain.specs.Begins.{OnAnswer}
 use Rattle.tv_explain.specs.Call.{Commands}
 use Rattle.tv_explain.specs.Delivery.{IsDelivered}
 use Rattle.tv_explain.specs.Faults.{ending_with}
@@ -16,32 +12,6 @@ use Rattle.tv_explain.specs.declared.fault.Fault.TheVariants.{Usage, FileFault, 
 use Rattle.tv_explain.specs.declared.fault.Fault.TheVariants.{TooManyIndividuals, NotThere, NotWritten}
 use Rattle.tv_explain.specs.declared.fault.Fault.TheVariants.{ReadFault, Memory}
 use Rattle.tv_explain_words.specs.Words.{CommandForm, Spells}
-
-capped : (a m n top : ℕ) → min (min (a + m) top + n) top ≡ min (a + (m + n)) top
-capped a m n top = omega arith
-
--- what the gatherer counts
-pub gathered_begins : (told : Option Held) (name : List ℕ) (old new : ℕ)
-    → BeginsEach told (λ held. file_events held deepest_include name) old new
-    → BeginsBy told (λ held. program_begins held name) old new
-unfolding BeginsBy
-gathered_begins None name old new h = tt
-gathered_begins (Some held) name old new h = h
-
--- one file more than those of a program
-pub one_more : (told : Option Held) (program : List ℕ) (old mid new : ℕ)
-    → BeginsBy told (λ held. program_begins held program) old mid → new ≡ counted mid 1
-    → BeginsBy told (λ held. program_begins held program + 1) old new
-unfolding BeginsBy
-one_more None program old mid new before h = tt
-one_more (Some held) program old mid new before h = λ below.
-    h ∙ ap (λ k. counted k 1) (before below) ∙ capped old (program_begins held program) 1 count_max
-
--- one file alone
-pub one_file : (told : Option Held) (old new : ℕ) → new ≡ counted old 1 → BeginsBy told (λ held. 1) old new
-unfolding BeginsBy
-one_file None old new h = tt
-one_file (Some held) old new h = λ below. h
 
 pub always : {T E : Type 0} (result : Result T E) (P : Type 0) → P → OnOk result P
 always (Ok found) P h = h

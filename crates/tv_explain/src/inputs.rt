@@ -3,16 +3,17 @@
 ghost use Rattle.std.specs.Prelude.{◌≡◌, ◌≤◌, ◌+◌, false, IfOk, IfErr, OnOk, Err, length};
 ghost use Rattle.tv_front.specs.Meaning.{HasTree, IsProgramCause, StopsInText};
 ghost use Rattle.tv_lex.specs.Bytes.{longest_text};
+ghost use Rattle.tv_lex.specs.Gather.{BeginsBy};
 ghost use Rattle.tv_model.specs.Program.{program_of};
 ghost use Rattle.tv_model.specs.Valid.{IsValid};
 ghost use Rattle.tv_outside.specs.Count.{Rose};
 ghost use Rattle.tv_status.specs.declared.status.Role.TheVariants as role;
 ghost use Rattle.tv_texts.specs.Files.{IsFileCause, IsProgramFile, IsTextCause, LacksFile, UnlessNotRead};
+ghost use Rattle.tv_texts.specs.Files.{program_begins};
 ghost use Rattle.tv_texts.specs.Meaning.{MeansProgram};
 ghost use Rattle.tv_texts.specs.declared.fault.TextFault.TheVariants.{Memory};
 ghost use Rattle.tv_tree.specs.Copies.{program_of as tree_of};
 ghost use Rattle.tv_tree.specs.Spelled.{IsSpelled};
-ghost use Rattle.tv_explain.specs.Begins.{BeginsBy, program_begins};
 ghost use Rattle.tv_explain.specs.Call.{UnlessReadFault};
 ghost use Rattle.tv_explain.specs.Meaning.{FilesMean, IsDrawnFile, IsDrawnText};
 ghost use Rattle.tv_explain.specs.Work.{AreReady, IsDrawnWhereParted, IsInputsCause, IsTakenFrom};

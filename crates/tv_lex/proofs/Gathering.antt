@@ -16,7 +16,7 @@ use Rattle.tv_outside.specs.declared.read.ReadError.TheVariants.{Memory as ReadM
 use Rattle.tv_lex.specs.Bytes.{stays_on_line}
 use Rattle.tv_lex.specs.Include.{lines_of, onto, include_name, inner_name}
 use Rattle.tv_lex.specs.Gather.{longest_gathered, deepest_include, Event, Begin, Give, Refuse, come_to}
-use Rattle.tv_lex.specs.Gather.{BeginsBy, BeginsEach, BeginsAtMost, BeginsUpTo, begun, gathered, GivesBytes}
+use Rattle.tv_lex.specs.Gather.{BeginsBy, BeginsAtMost, BeginsUpTo, gathered, GivesBytes}
 use Rattle.tv_lex.specs.Gather.{Puts, PutCause, Gathers, GatherCause}
 use Rattle.tv_lex.specs.Gather.{file_events, content_events, line_events, one_line, opens, named_events}
 use Rattle.tv_lex.specs.Gather.{included, below, gather_error}
@@ -377,23 +377,3 @@ gather_cause Unended told name steady before now cause = gathers_fault told name
 gather_cause IncludeForm told name steady before now cause = gathers_fault told name IncludeForm cause
 gather_cause IncludeDepth told name steady before now cause = gathers_fault told name IncludeDepth cause
 gather_cause Memory told name steady before now cause = tt
-
--- where nothing is refused each begin is come to
-pub all_come_to : (old new : List ℕ) (events : List Event) → gathered old events ≡ Ok new → come_to old events ≡ begun events
-all_come_to old new [] e = refl
-all_come_to old new (Begin ∷ events) e = ap (λ n. 1 + n) (all_come_to old new events e)
-all_come_to old new (Refuse fault ∷ events) e = absurd (let both : Err fault ≡ Ok new = e in cc)
-all_come_to old new (Give bytes ∷ events) e =
-    let long = nat_lt longest_gathered (length (old ++ bytes)) in
-    elim (cases_Bool long) [
-      | inl t ↦ absurd (let both : Err TooLong ≡ Ok new = sym (cond-true long (Err TooLong) (gathered (old ++ bytes) events) t) ∙ e in cc)
-      | inr f ↦
-          cond-false long 0 (come_to (old ++ bytes) events) f
-          ∙ all_come_to (old ++ bytes) new events (sym (cond-false long (Err TooLong) (gathered (old ++ bytes) events) f) ∙ e)
-    ]
-
-pub gathers_each : (told : Option Held) (name text : List ℕ) (old new : ℕ) → Puts told (λ held. file_events held deepest_include name) [] (Ok text) → BeginsBy told (λ held. come_to [] (file_events held deepest_include name)) old new → BeginsEach told (λ held. file_events held deepest_include name) old new
-gathers_each None name text old new puts h = tt
-gathers_each (Some held) name text old new puts h = λ below_top.
-    let events = file_events held deepest_include name in
-    h below_top ∙ ap (counted old) (all_come_to [] text events (put_alone [] events (Ok text) (puts [])))

@@ -79,18 +79,6 @@ come_to text (Refuse fault ∷ events) = 0
 come_to text (Give bytes ∷ events) =
     if nat_lt longest_gathered (length (text ++ bytes)) then 0 else come_to (text ++ bytes) events
 
--- how many times a file is begun
-abbrev pub begun : List Event → ℕ
-begun [] = 0
-begun (Begin ∷ events) = 1 + begun events
-begun (Refuse fault ∷ events) = begun events
-begun (Give bytes ∷ events) = begun events
-
--- a count of begins rose by one for each time a file is begun, where it is told what the files hold
-abbrev pub BeginsEach : Option Held → (Held → List Event) → ℕ → ℕ → Type 0
-BeginsEach None events old new = Unit {0}
-BeginsEach (Some held) events old new = old ≤ count_max → new ≡ counted old (begun (events held))
-
 -- a count of begins rose by this, where it is told what the files hold
 abbrev pub BeginsBy : Option Held → (Held → ℕ) → (old new : ℕ) → Type 0
 BeginsBy None times old new = Unit {0}

@@ -4,7 +4,7 @@ ghost use Rattle.std.specs.Prelude.{IfOk, IfErr, OnOk};
 ghost use Rattle.tv_outside.specs.Told.{Held};
 ghost use Rattle.tv_lex.specs.Include.{include_name as name_in};
 ghost use Rattle.tv_lex.specs.Gather.{longest_gathered, deepest_include, UnlessFilesFail, Give, Gathers};
-ghost use Rattle.tv_lex.specs.Gather.{BeginsEach, BeginsUpTo, GatherCause, Puts, PutCause, GivesBytes};
+ghost use Rattle.tv_lex.specs.Gather.{BeginsUpTo, GatherCause, Puts, PutCause, GivesBytes};
 ghost use Rattle.tv_lex.specs.Gather.{BytesCause};
 ghost use Rattle.tv_lex.specs.Gather.{come_to, file_events, included, below, one_line, opens, gather_error};
 ghost use Rattle.tv_lex.specs.Parts.{AreParts, IsOpen, IsLineBefore, KeepsParts};
@@ -290,9 +290,7 @@ fn put_file<F: Files>(
 pub fn gather<F: Files>(alloc: Global, files: &mut F, name: &str) -> Result<Gathered, GatherError>
     ensures count { F.faults files.old ≤ F.faults files.new }
     ensures holds { F.holds files.new ≡ F.holds files.old }
-    ensures begins { OnOk result (BeginsEach (F.holds files.old)
-        (λ held. file_events held deepest_include name.now) (F.begins files.old) (F.begins files.new)) }
-    ensures begun { BeginsUpTo result (F.holds files.old)
+    ensures begins { BeginsUpTo result (F.holds files.old)
         (λ held. come_to [] (file_events held deepest_include name.now))
         (F.begins files.old) (F.begins files.new) }
     ensures text { IfOk result (λ g. Gathers (F.holds files.old) name.now (Ok g.bytes.items)) }

@@ -1,3 +1,6 @@
+-- Library of lemmas for the crates above: how often files are begun.
+pub mod Begins
+-- Lemmas of this crate's own.
 mod Counts
 mod Loading
 mod OneMeaning

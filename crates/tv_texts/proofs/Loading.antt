@@ -15,7 +15,7 @@ use Rattle.tv_status.specs.declared.status.Role.{Role}
 use Rattle.tv_status.specs.declared.status.Role.TheVariants as role
 use Rattle.tv_texts.specs.Faults.{fault_of_gathering, fault_of_reading}
 use Rattle.tv_texts.specs.Files.{HoldsSuch, IsProgramFile, LacksFile, IsLong, IsFileCause, IsTextCause}
-use Rattle.tv_texts.specs.Files.{UnlessNotRead, WhereGathered}
+use Rattle.tv_texts.specs.Files.{UnlessNotRead}
 use Rattle.tv_texts.specs.Meaning.{MeansProgram}
 use Rattle.tv_texts.specs.declared.fault.TextFault.{TextFault}
 use Rattle.tv_texts.specs.declared.fault.TextFault.TheVariants.{Refused, NotRead, Memory}
@@ -83,20 +83,7 @@ gathered_refused told name text lacks rose steady (Refused its other) gathers h 
 gathered_refused told name text lacks rose steady NotRead gathers h = absurd h.0
 gathered_refused told name text lacks rose steady Memory gathers h = tt
 
--- of a program that wasn't gathered nothing is said
-pub says_nothing : (T : Type 0) (e : GatherError) (P : Type 0) → WhereGathered {T = T} (Err (fault_of_gathering e)) P
-says_nothing T gathering.Failed P = tt
-says_nothing T gathering.Memory P = tt
-says_nothing T other P = tt
-
 -- what holds anyway
-pub holds_gathered : {T : Type 0} (result : Result T TextFault) (P : Type 0) → P → WhereGathered result P
-holds_gathered (Ok found) P h = h
-holds_gathered (Err (Refused its (kind.Gathering e))) P h = tt
-holds_gathered (Err (Refused its other)) P h = h
-holds_gathered (Err NotRead) P h = tt
-holds_gathered (Err Memory) P h = tt
-
 pub holds_anyway : {T : Type 0} (result : Result T TextFault) (P : Type 0) → P → UnlessNotRead result P
 holds_anyway (Ok found) P h = h
 holds_anyway (Err (Refused its k)) P h = h

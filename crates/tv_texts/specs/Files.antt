@@ -1,6 +1,6 @@
 -- What named files mean, where it is told what names hold.
-use Rattle.std.specs.Prelude.{ℕ, ◌≡◌, ◌<◌, List, length, Option, None, Some, Result, Ok, Err}
-use Rattle.tv_lex.specs.Gather.{Gathers}
+use Rattle.std.specs.Prelude.{ℕ, ◌≡◌, ◌<◌, List, [], length, Option, None, Some, Result, Ok, Err}
+use Rattle.tv_lex.specs.Gather.{Gathers, BeginsBy, BeginsAtMost, come_to, deepest_include, file_events}
 use Rattle.tv_lex.specs.declared.gatherer.GatherError.{GatherError}
 use Rattle.tv_lex.specs.declared.gatherer.GatherError.TheVariants.{Failed, Memory}
 use Rattle.tv_listing.specs.declared.analysis.Analysis.{Analysis}
@@ -86,11 +86,14 @@ UnlessNotRead (Err (Refused role kind)) P = P
 UnlessNotRead (Err NotRead) P = Unit {0}
 UnlessNotRead (Err NoMemory) P = P
 
--- this holds where the answer tells that a program's text was gathered: a program, or what its text is
--- refused for; not where includes can't be put in, a reading failed, or memory ran out
-abbrev pub WhereGathered : {T : Type 0} → Result T TextFault → Type 0 → Type 0
-WhereGathered (Ok found) P = P
-WhereGathered (Err (Refused role (Gathering e))) P = Unit {0}
-WhereGathered (Err (Refused role kind)) P = P
-WhereGathered (Err NotRead) P = Unit {0}
-WhereGathered (Err NoMemory) P = Unit {0}
+-- how often the file of a program is begun, with those that it includes and that are come to before any
+-- refusal, each for each place that includes it
+abbrev pub program_begins : Held → (program : List ℕ) → ℕ
+program_begins held program = come_to [] (file_events held deepest_include program)
+
+-- a count of begins rose by this, and where a reading failed or memory ran out by this at most
+abbrev pub BeginsUpTo : {T : Type 0} → Result T TextFault → Option Held → (Held → ℕ) → (old new : ℕ) → Type 0
+BeginsUpTo (Ok found) told times old new = BeginsBy told times old new
+BeginsUpTo (Err (Refused role kind)) told times old new = BeginsBy told times old new
+BeginsUpTo (Err NotRead) told times old new = BeginsAtMost told times old new
+BeginsUpTo (Err NoMemory) told times old new = BeginsAtMost told times old new

@@ -2,7 +2,7 @@
 
 ghost use Rattle.std.specs.Prelude.{◌≡◌, ◌≤◌, ◌<◌, ◌^◌, All, None, Ok, Err, length, IfOk, IfErr};
 ghost use Rattle.tv_lex.specs.Bytes.{longest_text};
-ghost use Rattle.tv_lex.specs.Gather.{BeginsEach, deepest_include, file_events, longest_gathered};
+ghost use Rattle.tv_lex.specs.Gather.{longest_gathered};
 ghost use Rattle.tv_listing.specs.Listed.{IsListing};
 ghost use Rattle.tv_model.specs.Program.{program_of};
 ghost use Rattle.tv_model.specs.Valid.{IsValid};
@@ -14,7 +14,7 @@ ghost use Rattle.tv_trace.specs.Meaning.{IsTraceOn};
 ghost use Rattle.tv_two_valued.specs.TwoValued.{IsTwoValued};
 ghost use Rattle.tv_texts.specs.Files.{IsProgramFile, LacksFile, IsInitialFile, IsStartFile, IsTraceFile};
 ghost use Rattle.tv_texts.specs.Files.{IsReportFile, IsSourceFile, IsFileCause, IsLong, UnlessNotRead};
-ghost use Rattle.tv_texts.specs.Files.{WhereGathered};
+ghost use Rattle.tv_texts.specs.Files.{BeginsUpTo, program_begins};
 
 use crate::fault::{TextFault, fault_of_reading};
 use crate::texts::{initial_in, program_in, report_in, source_in, start_in, trace_in};
@@ -63,7 +63,7 @@ fn read_file<F: Files>(
 /// It is refused where it means no program. It isn't read only where a call of `files` failed, and on steady
 /// files only where they lack it, or a file that it includes and that is come to before any refusal. Or
 /// memory ran out.
-#[tactic(auto, using(crate::proofs::Loading::not_gathered, crate::proofs::Loading::gathered_refused, crate::proofs::Loading::holds_anyway, crate::proofs::Loading::holds_gathered, crate::proofs::Loading::says_nothing))]
+#[tactic(auto, using(crate::proofs::Loading::not_gathered, crate::proofs::Loading::gathered_refused, crate::proofs::Loading::holds_anyway, crate::proofs::Begins::begins_anyway, crate::proofs::Begins::ungathered_begins))]
 pub fn load_program<F: Files>(
     alloc: Global,
     files: &mut F,
@@ -76,8 +76,8 @@ pub fn load_program<F: Files>(
         (LacksFile (F.holds files.old) name.now) (Rose (F.faults files.old) (F.faults files.new))
         (F.steady files.old)) }
     ensures holds { F.holds files.new ≡ F.holds files.old }
-    ensures begins { WhereGathered result (BeginsEach (F.holds files.old)
-        (λ held. file_events held deepest_include name.now) (F.begins files.old) (F.begins files.new)) }
+    ensures begins { BeginsUpTo result (F.holds files.old) (λ held. program_begins held name.now)
+        (F.begins files.old) (F.begins files.new) }
     ensures count { F.faults files.old ≤ F.faults files.new }
     ensures steady { F.steady files.old → UnlessNotRead result (F.steady files.new
         × (F.faults files.new ≡ F.faults files.old)) }

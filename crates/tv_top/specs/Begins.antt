@@ -1,25 +1,20 @@
 -- How often files are begun.
-use Rattle.std.specs.Prelude.{◌≡◌, ℕ, ◌+◌, ◌≤◌, List, Option, None, Some}
-use Rattle.tv_lex.specs.Gather.{begun, deepest_include, file_events}
-use Rattle.tv_outside.specs.Count.{count_max, counted}
+use Rattle.std.specs.Prelude.{◌≡◌, ℕ, ◌+◌, List, Option}
+use Rattle.tv_lex.specs.Gather.{BeginsBy, BeginsAtMost}
 use Rattle.tv_outside.specs.Told.{Held}
-use Rattle.tv_status.specs.declared.status.FileKind.TheVariants.{Gathering}
 use Rattle.tv_status.specs.declared.status.Role.{Role}
 use Rattle.tv_status.specs.declared.status.Role.TheVariants as role
 use Rattle.tv_status.specs.declared.status.Status.{Status}
 use Rattle.tv_status.specs.declared.status.Status.TheVariants.{Usage, FileFault, ReadFault, WriteFault}
 use Rattle.tv_status.specs.declared.status.Status.TheVariants.{Memory}
+use Rattle.tv_texts.specs.Files.{program_begins}
 use Rattle.tv_top.specs.Delivery.{status_of}
 use Rattle.tv_top.specs.Meaning.{Commands}
 use Rattle.tv_top.specs.declared.fault.Fault.{Fault}
 use Rattle.tv_top.specs.declared.fault.Fault.TheVariants as fault
 use Rattle.tv_top.specs.declared.inputs.Origin.{Origin}
 use Rattle.tv_top.specs.declared.inputs.Origin.TheVariants as origin
-use Rattle.tv_words.specs.Words.{CommandForm, Analyzes, Checks, Demos, Joins, Replays, Sources}
-
--- how often the file of a program is begun, with those that it includes, each for each place that includes it
-abbrev pub program_begins : Held → (program : List ℕ) → ℕ
-program_begins held program = begun (file_events held deepest_include program)
+use Rattle.tv_words.specs.Words.{CommandForm, Analyzes, Checks, Demos, Joins, Replays, Sources, Spells}
 
 -- how many files behind PROGRAM, or SOURCE, are begun up to the one of this role, where REPORT is the last
 abbrev pub files_behind : (last : ℕ) → Role → ℕ
@@ -47,21 +42,15 @@ begins_to held (Sources source initial max) upto = 1 + files_behind 1 upto
 abbrev pub begins_of : Held → CommandForm → ℕ
 begins_of held command = begins_to held command role.Report
 
--- a count of begins rose by this, where it is told what the files hold
-unfoldable pub BeginsBy : Option Held → (Held → ℕ) → (old new : ℕ) → Type 0
-BeginsBy None times old new = Unit {0}
-BeginsBy (Some held) times old new = old ≤ count_max → new ≡ counted old (times held)
-
 -- how often files are begun for a command that ends so: all its files, or those up to the one that is
--- refused; nothing is said where includes can't be put into that one
+-- refused
 abbrev pub BeginsAt : Option Held → (old new : ℕ) → Status → CommandForm → Type 0
-BeginsAt told old new (FileFault upto (Gathering e)) command = Unit {0}
 BeginsAt told old new (FileFault upto kind) command =
     BeginsBy told (λ held. begins_to held command upto) old new
 BeginsAt told old new other command = BeginsBy told (λ held. begins_of held command) old new
 
--- how often files are begun in a call that ends so: never where the words spell no command; nothing is said
--- where a call outside failed or memory ran out
+-- exactly how often files are begun in a call that ends so: never where the words spell no command; nothing
+-- is said where a call outside failed or memory ran out
 abbrev pub BeginsDuly : List (List ℕ) → Option Held → (old new : ℕ) → Status → Type 0
 BeginsDuly words told old new Usage = new ≡ old
 BeginsDuly words told old new ReadFault = Unit {0}
@@ -69,18 +58,30 @@ BeginsDuly words told old new WriteFault = Unit {0}
 BeginsDuly words told old new Memory = Unit {0}
 BeginsDuly words told old new other = Commands words (BeginsAt told old new other)
 
+-- at most as often as the command asks for
+abbrev pub BeginsFew : Option Held → (old new : ℕ) → CommandForm → Type 0
+BeginsFew told old new command = BeginsAtMost told (λ held. begins_of held command) old new
+
+-- no ending has begun more files than those of the command that the words spell
+abbrev pub BeginsWithin : List (List ℕ) → Option Held → (old new : ℕ) → Type 0
+BeginsWithin words told old new =
+    (command : CommandForm) → Spells words command → BeginsFew told old new command
+
 -- ---- parts
 
 -- by as much as the command asks for
 abbrev pub BeginsFor : Option Held → (old new : ℕ) → CommandForm → Type 0
 BeginsFor told old new command = BeginsBy told (λ held. begins_of held command) old new
 
--- how often files are begun for a command that met this fault
+-- exactly how often files are begun for a command that met this fault
+abbrev pub BeginsThere : Option Held → (old new : ℕ) → CommandForm → Fault → Type 0
+BeginsThere told old new command fault.Usage = new ≡ old
+BeginsThere told old new command fault.ReadFault = Unit {0}
+BeginsThere told old new command fault.Memory = Unit {0}
+BeginsThere told old new command other = BeginsAt told old new (status_of other) command
+
 abbrev pub BeginsMet : Option Held → (old new : ℕ) → CommandForm → Fault → Type 0
-BeginsMet told old new command fault.Usage = new ≡ old
-BeginsMet told old new command fault.ReadFault = Unit {0}
-BeginsMet told old new command fault.Memory = Unit {0}
-BeginsMet told old new command other = BeginsAt told old new (status_of other) command
+BeginsMet told old new command fault = BeginsFew told old new command × BeginsThere told old new command fault
 
 -- how often files are begun for the program of this origin
 abbrev pub origin_begins : Held → Origin → ℕ

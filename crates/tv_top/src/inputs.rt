@@ -5,8 +5,9 @@ ghost use Rattle.tv_model.specs.Program.{program_of};
 ghost use Rattle.tv_model.specs.Valid.{IsValid};
 ghost use Rattle.tv_outside.specs.Count.{Rose};
 ghost use Rattle.tv_status.specs.declared.status.Role.TheVariants as role;
-ghost use Rattle.tv_texts.specs.Files.{LacksFile, IsFileCause, UnlessNotRead, WhereGathered};
-ghost use Rattle.tv_top.specs.Begins.{BeginsBy, BeginsMet, origin_begins, program_begins};
+ghost use Rattle.tv_lex.specs.Gather.{BeginsBy};
+ghost use Rattle.tv_texts.specs.Files.{LacksFile, IsFileCause, UnlessNotRead, BeginsUpTo, program_begins};
+ghost use Rattle.tv_top.specs.Begins.{BeginsMet, origin_begins};
 ghost use Rattle.tv_top.specs.Call.{IsCommandCause};
 ghost use Rattle.tv_top.specs.Meaning.{FilesMean, IsTakenProgram, mode_of};
 ghost use Rattle.tv_top.specs.Work.{Comes, HasReadRuns, HasRunsOf, AreReadyInputs, IsTakenFrom, Lacks, Names};
@@ -68,8 +69,8 @@ fn load_taken<F: Files>(
         name.now (Err kind)) (LacksFile (F.holds files.old) name.now)
         (Rose (F.faults files.old) (F.faults files.new)) (F.steady files.old)) }
     ensures holds { F.holds files.new ≡ F.holds files.old }
-    ensures begins { WhereGathered result (BeginsBy (F.holds files.old) (λ held. program_begins held name.now)
-        (F.begins files.old) (F.begins files.new)) }
+    ensures begins { BeginsUpTo result (F.holds files.old) (λ held. program_begins held name.now)
+        (F.begins files.old) (F.begins files.new) }
     ensures count { F.faults files.old ≤ F.faults files.new }
     ensures steady { F.steady files.old → UnlessNotRead result (F.steady files.new
         × (F.faults files.new ≡ F.faults files.old)) }
@@ -91,9 +92,8 @@ fn load_origin<F: Files>(
         (λ kind. Comes origin.entry (F.holds files.old) (Err kind)) (Lacks origin.entry (F.holds files.old))
         (Rose (F.faults files.old) (F.faults files.new)) (F.steady files.old)) }
     ensures holds { F.holds files.new ≡ F.holds files.old }
-    ensures begins { WhereGathered result
-        (BeginsBy (F.holds files.old) (λ held. origin_begins held origin.entry)
-        (F.begins files.old) (F.begins files.new)) }
+    ensures begins { BeginsUpTo result (F.holds files.old) (λ held. origin_begins held origin.entry)
+        (F.begins files.old) (F.begins files.new) }
     ensures count { F.faults files.old ≤ F.faults files.new }
     ensures steady { F.steady files.old → UnlessNotRead result (F.steady files.new
         × (F.faults files.new ≡ F.faults files.old)) }

@@ -4,7 +4,7 @@
 ghost use Rattle.std.specs.Prelude.{◌≡◌, ◌⊎◌, ◌≤◌, ◌++◌, ℕ, List, Some};
 ghost use Rattle.tv_outside.specs.Count.{Rose};
 ghost use Rattle.tv_outside.specs.Told.{Held};
-ghost use Rattle.tv_top.specs.Begins.{BeginsDuly};
+ghost use Rattle.tv_top.specs.Begins.{BeginsDuly, BeginsWithin};
 ghost use Rattle.tv_top.specs.Call.{IsAnswerTo, IsCause, EndsFor, EndsDuly, IsExcuse, HoldsOperands};
 ghost use Rattle.tv_top.specs.Call.{UnlessFault};
 ghost use Rattle.tv_top.specs.Delivery.{OutTook, ErrTook, StopsAtFailure};
@@ -65,12 +65,15 @@ pub fn tvla<F: Files, O: Sink, E: Sink>(
     ensures err_stops { StopsAtFailure (E.failures err.old) (E.failures err.new) (E.since err.new) }
 
     // What was read: nothing without a command; where an answer is given, as many files were begun as the
-    // command asks for; and steady files that hold what is asked for don't fail and stay steady.
+    // command asks for, where one is refused those up to it, and never more; and steady files that hold what
+    // is asked for don't fail and stay steady.
     ensures unread { SpellsNothing (words_of words.now) → files.new ≡ files.old }
     ensures held { F.steady files.old → HoldsOperands (words_of words.now) (F.holds files.old)
         → F.steady files.new × (F.faults files.new ≡ F.faults files.old) }
     ensures begins { BeginsDuly (words_of words.now) (F.holds files.old) (F.begins files.old)
         (F.begins files.new) result }
+    ensures most { BeginsWithin (words_of words.now) (F.holds files.old) (F.begins files.old)
+        (F.begins files.new) }
     ensures stays { F.steady files.old → UnlessFault result (F.steady files.new) }
 
     // Where no sink fails, the words and what steady files hold fix the answer, as a law says.

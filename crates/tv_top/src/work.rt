@@ -6,7 +6,7 @@ ghost use Rattle.tv_outside.specs.Told.{Held};
 ghost use Rattle.tv_top.specs.Answers.{IsAnswer};
 ghost use Rattle.tv_top.specs.Call.{IsAnswerTo, IsCause, IsCommandCause};
 ghost use Rattle.tv_top.specs.Delivery.{SaidOf, status_of};
-ghost use Rattle.tv_top.specs.Begins.{BeginsDuly, BeginsFor, BeginsMet};
+ghost use Rattle.tv_top.specs.Begins.{BeginsDuly, BeginsFor, BeginsMet, BeginsWithin};
 ghost use Rattle.tv_top.specs.Meaning.{Commands, FilesMean};
 ghost use Rattle.tv_top.specs.Work.{IsBounded, AreReadyInputs, UnlessReadFault, task_of};
 ghost use Rattle.tv_words.specs.Words.{words_of, SpellsNothing, Analyzes, Checks, Demos, Joins, Replays};
@@ -23,7 +23,7 @@ use tv_outside::Files;
 use tv_report::write_report;
 use tv_source_laws::covered_runs_cover_sources;
 use tv_texts::{initial_in, load_report, load_start, load_trace, program_in};
-use tv_words::{Command, read_words};
+use tv_words::{Command, one_command, read_words};
 
 /// How many structures a demo may list.
 const DEMO_MAX: u64 = 5_000;
@@ -288,7 +288,7 @@ fn execute<F: Files>(alloc: Global, files: &mut F, command: &Command) -> Result<
 }
 
 /// What the words ask for, or why they get nothing.
-#[tactic(auto, using(crate::proofs::Causes::spelled_cause, crate::proofs::Causes::holds_unless))]
+#[tactic(auto, using(crate::proofs::Causes::spelled_cause, crate::proofs::Causes::holds_unless, crate::proofs::Begins::unread_most))]
 pub fn perform<F: Files>(alloc: Global, words: &[String], files: &mut F) -> Result<Answer, Fault>
     ensures found { IfOk result (SaidOf (IsAnswerTo (words_of words.now) (F.holds files.old))) }
     ensures cause { IfErr result (IsCause (words_of words.now) (F.holds files.old)
@@ -299,11 +299,14 @@ pub fn perform<F: Files>(alloc: Global, words: &[String], files: &mut F) -> Resu
         (BeginsFor (F.holds files.old) (F.begins files.old) (F.begins files.new))) }
     ensures begun { IfErr result (λ fault. BeginsDuly (words_of words.now) (F.holds files.old)
         (F.begins files.old) (F.begins files.new) (status_of fault)) }
+    ensures most { BeginsWithin (words_of words.now) (F.holds files.old) (F.begins files.old)
+        (F.begins files.new) }
     ensures count { F.faults files.old ≤ F.faults files.new }
     ensures steady { F.steady files.old → UnlessReadFault result (F.steady files.new
         × (F.faults files.new ≡ F.faults files.old)) }
 {
     commands_are_bounded();
+    one_command();
     let Some(command) = read_words(alloc, words)? else {
         return Err(Fault::Usage);
     };

@@ -6,7 +6,7 @@ use Rattle.tv_outside.specs.Told.{Held}
 use Rattle.tv_real.specs.Ended.{EndsWithoutMemory, HasWords}
 use Rattle.tv_status.specs.declared.status.Status.{Status}
 use Rattle.tv_status.specs.declared.status.Status.TheVariants.{Memory}
-use Rattle.tv_top.specs.Begins.{BeginsDuly}
+use Rattle.tv_top.specs.Begins.{BeginsDuly, BeginsWithin}
 use Rattle.tv_top.specs.Call.{EndsDuly, EndsFor, IsAnswerTo, IsCause, IsExcuse}
 use Rattle.tv_top.specs.Delivery.{ErrTook, OutTook}
 use Rattle.tv_words.specs.Words.{words_of}
@@ -21,6 +21,7 @@ pub record EndsAsTold (words : List (List ℕ)) (told : Option Held)
   pub exact : EndsDuly words told status (IsExcuse status)
   pub complete : ¬ read_rose → ¬ out_rose → ¬ err_rose → EndsDuly words told status (status ≡ Memory)
   pub begins : BeginsDuly words told begins_old begins_new status
+  pub most : BeginsWithin words told begins_old begins_new
 
 -- a call with these arguments, of which the first is the program's name, ends in this status: on the words
 -- behind it, or without memory for them

@@ -28,6 +28,9 @@ pub returns-clause-begins : goal.returns-clause-begins
 returns-clause-begins g c =
     duly_begun _ _ _ _ _ _ c.deliver.ensures.ends c.perform-found.ensures.begins c.perform-found.ensures.begun
 
+pub returns-clause-most : goal.returns-clause-most
+returns-clause-most g c = c.perform-found.ensures.most
+
 pub returns-clause-stays : goal.returns-clause-stays
 returns-clause-stays g c = λ steady.
     stays_steady _ _ _ _ c.deliver.ensures.ends (c.perform-found.ensures.steady steady)

@@ -1,10 +1,11 @@
-use Rattle.std.proofs.Common.{◌≡◌, List, Err, subst}
+use Rattle.std.proofs.Common.{◌≡◌, ◌+◌, List, Err, subst, refl}
 use Rattle.std.proofs.lemmas.Result.{err_from_is_err_and}
 use Rattle.tv_outside.specs.Count.{Rose}
 use Rattle.tv_status.specs.declared.status.Role.TheVariants as role
 use Rattle.tv_struct.specs.StructureForm.{StructureForm}
 use Rattle.tv_texts.specs.Files.{IsFileCause, IsProgramFile, LacksFile}
-use Rattle.tv_explain.proofs.Begins.{one_more}
+use Rattle.tv_lex.proofs.Begins.{one_more}
+use Rattle.tv_texts.specs.Files.{program_begins}
 use Rattle.tv_explain.proofs.Causes.{initial_fault, rose_later, still, taken_fault, unless_not_read}
 use Rattle.tv_explain.specs.declared.inputs.Drawn.{Drawn}
 use Rattle.tv_explain.specs.declared.inputs.Inputs.{Inputs}
@@ -71,5 +72,6 @@ returns-clause-steady g c = λ s.
 
 pub returns-clause-begins : goal.returns-clause-begins
 returns-clause-begins g c =
-    one_more _ (analyzed_of c.args.of.now).program _ _ _ (rw c.deref.ensures at c.in_ok-drawn.ensures.begins)
-    c.in_ok-initial.ensures.begins
+    let name = (analyzed_of c.args.of.now).program in
+    one_more _ (λ held. program_begins held name) (λ held. program_begins held name + 1) _ _ _ (λ held. refl)
+    (rw c.deref.ensures at c.in_ok-drawn.ensures.begins) c.in_ok-initial.ensures.begins

@@ -3,7 +3,7 @@ use Rattle.std.proofs.lemmas.Result.{err_from_is_err_and}
 use Rattle.std.specs.declared.alloc.Global.{Global}
 use Rattle.std.specs.declared.vec.Vec.{Vec}
 use Rattle.tv_explain_source.specs.declared.source.SourceText.{SourceText}
-use Rattle.tv_explain.proofs.Begins.{one_file}
+use Rattle.tv_lex.proofs.Begins.{once_begun}
 use Rattle.tv_explain.proofs.Causes.{source_fault, unless_not_read, writing_fault, written_text}
 use Rattle.tv_explain.proofs.work.compiled.Goals as goal
 
@@ -23,7 +23,7 @@ returns-in_err-read-clause-steady g c =
     (c.in_err-read.ensures.steady s))
 
 pub returns-clause-begins : goal.returns-clause-begins
-returns-clause-begins g c = one_file _ _ _ c.in_ok-read.ensures.begins
+returns-clause-begins g c = once_begun _ _ _ c.in_ok-read.ensures.begins
 
 pub returns-in_err-compiled_text-clause-cause : goal.returns-in_err-compiled_text-clause-cause
 returns-in_err-compiled_text-clause-cause g c =

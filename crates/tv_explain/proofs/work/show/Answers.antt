@@ -1,10 +1,11 @@
-use Rattle.std.proofs.Common.{◌≡◌, ℕ, inl}
+use Rattle.std.proofs.Common.{◌≡◌, ℕ, ◌+◌, inl, refl}
 use Rattle.std.proofs.lemmas.Result.{err_from_is_err_and}
 use Rattle.std.specs.declared.alloc.Global.{Global}
 use Rattle.std.specs.declared.vec.Vec.{Vec}
 use Rattle.tv_listing.specs.declared.analysis.Analysis.{Analysis}
 use Rattle.tv_model.specs.declared.program.Program.{Program}
-use Rattle.tv_explain.proofs.Begins.{gathered_begins, one_more}
+use Rattle.tv_lex.proofs.Begins.{one_more}
+use Rattle.tv_texts.specs.Files.{program_begins}
 use Rattle.tv_explain.proofs.Causes.{program_fault, report_fault, rose_later, still, unless_not_read}
 use Rattle.tv_explain_words.specs.Words.{Shows}
 use Rattle.tv_explain.proofs.work.show.Goals as goal
@@ -65,5 +66,6 @@ returns-clause-found g c = (
 
 pub returns-clause-begins : goal.returns-clause-begins
 returns-clause-begins g c =
-    one_more _ c.args.program.now _ _ _ (gathered_begins _ c.args.program.now _ _ c.in_ok-program.ensures.begins)
-    c.in_ok-report.ensures.begins
+    let name = c.args.program.now in
+    one_more _ (λ held. program_begins held name) (λ held. program_begins held name + 1) _ _ _ (λ held. refl)
+    c.in_ok-program.ensures.begins c.in_ok-report.ensures.begins

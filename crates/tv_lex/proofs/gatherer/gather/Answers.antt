@@ -1,8 +1,8 @@
 use Rattle.std.proofs.Common.{Ok, List, ℕ, subst, refl}
 use Rattle.std.proofs.lemmas.Result.{err_from_is_err_and}
-use Rattle.tv_lex.specs.Gather.{BeginsBy, PutCause, Puts, come_to, file_events, deepest_include}
+use Rattle.tv_lex.specs.Gather.{PutCause, Puts, file_events, deepest_include}
 use Rattle.tv_lex.specs.Parts.{AreParts}
-use Rattle.tv_lex.proofs.Gathering.{gather_cause, gathers_each, gathers_text}
+use Rattle.tv_lex.proofs.Gathering.{gather_cause, gathers_text}
 use Rattle.tv_lex.proofs.gatherer.gather.Goals as goal
 
 pub returns-in_err-put_file-clause-cause : goal.returns-in_err-put_file-clause-cause
@@ -27,13 +27,3 @@ returns-clause-parts g c =
     let empty : AreParts told 0 c.new-2.result.items c.new.result.items =
     rw (c.new.ensures.items, c.new-2.ensures.items) refl in
     c.in_ok-put_file.ensures.parts empty
-
-pub returns-clause-begins : goal.returns-clause-begins
-returns-clause-begins g c =
-    let told = g.F.Files.holds c.args.files.now in
-    let text = c.put_file.new.out.bytes.items in
-    let before = g.F.Files.begins c.args.files.now in
-    let after = g.F.Files.begins c.put_file.new.files in
-    gathers_each told c.args.name.now text before after
-    (subst (λ (old : List ℕ). Puts told (λ held. file_events held deepest_include c.args.name.now) old (Ok text)) c.new.ensures.items c.in_ok-put_file.ensures.put)
-    (subst (λ (old : List ℕ). BeginsBy told (λ held. come_to old (file_events held deepest_include c.args.name.now)) before after) c.new.ensures.items c.in_ok-put_file.ensures.begins)

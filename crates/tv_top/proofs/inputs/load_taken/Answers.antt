@@ -1,6 +1,5 @@
 use Rattle.std.proofs.lemmas.Result.{IfOk-weaker, err_from_is_err_and}
-use Rattle.tv_model.specs.declared.program.Program.{Program}
-use Rattle.tv_top.proofs.Begins.{gathered_anyway, gathered_begins, where_gathered}
+use Rattle.tv_texts.proofs.Begins.{begins_anyway}
 use Rattle.tv_top.proofs.Causes.{memory_fault, still_unless}
 use Rattle.tv_top.proofs.Differenced.{taken_means, taken_runs}
 use Rattle.tv_top.proofs.inputs.load_taken.Goals as goal
@@ -20,10 +19,9 @@ pub returns-clause-steady : goal.returns-clause-steady
 returns-clause-steady g c = λ s. still_unless c.taken.result _ (c.in_ok-read.ensures.steady s)
 
 pub returns-clause-begins : goal.returns-clause-begins
-returns-clause-begins g c =
-    where_gathered c.taken.result _ (gathered_begins _ c.args.name.now _ _ c.in_ok-read.ensures.begins)
+returns-clause-begins g c = begins_anyway c.taken.result _ _ _ _ c.in_ok-read.ensures.begins
 
 pub returns-in_err-read-clause-begins : goal.returns-in_err-read-clause-begins
 returns-in_err-read-clause-begins g c =
     let p = err_from_is_err_and c.from_residual.result c.from_residual.ensures.1 in
-    rw (p.1, p.2) (gathered_anyway Program Program c.in_err-read.field-0.0 _ c.args.name.now _ _ c.in_err-read.ensures.begins)
+    rw (p.1, p.2) c.in_err-read.ensures.begins

@@ -1,4 +1,4 @@
-use Rattle.std.proofs.Common.{◌≡◌, refl}
+use Rattle.std.proofs.Common.{arith, ◌≡◌, refl}
 use Rattle.std.proofs.lemmas.Result.{err_from_is_err_and}
 use Rattle.tv_listing.specs.declared.analysis.Analysis.{Analysis}
 use Rattle.tv_status.specs.declared.status.Role.TheVariants as role
@@ -84,7 +84,7 @@ pub returns-in_err-report-clause-begun : goal.returns-in_err-report-clause-begun
 returns-in_err-report-clause-begun g c =
     let command = Checks c.args.program.now c.args.initial.now c.args.report.now c.args.mode c.args.maps c.args.delta in
     let p = err_from_is_err_and c.from_residual-in_err-report.result c.from_residual-in_err-report.ensures.1 in
-    rw (p.1, p.2) (later_begun _ command role.Report _ _ _ _ _ _ _ c.in_err-report.ensures.cause
+    rw (p.1, p.2) (later_begun _ command role.Report _ _ _ _ _ _ _ (λ held. omega arith) c.in_err-report.ensures.cause
     (another _ c.args.program.now 1 _ _ _ c.in_ok-inputs.ensures.begins c.in_err-report.ensures.begins))
 
 pub returns-clause-begun : goal.returns-clause-begun

@@ -1,5 +1,6 @@
 use Rattle.std.proofs.Common.{refl}
-use Rattle.tv_top.proofs.Begins.{always, demo_begun, never_begun}
+use Rattle.tv_lex.proofs.Begins.{never_begun}
+use Rattle.tv_top.proofs.Begins.{always, demo_begun}
 use Rattle.tv_top.proofs.Causes.{demo_causes, holds_unless}
 use Rattle.tv_top.proofs.work.execute.Goals as goal
 

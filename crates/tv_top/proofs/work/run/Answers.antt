@@ -1,4 +1,4 @@
-use Rattle.std.proofs.Common.{◌≡◌, refl, inl, inr}
+use Rattle.std.proofs.Common.{arith, ◌≡◌, refl, inl, inr}
 use Rattle.std.proofs.lemmas.Result.{err_from_is_err_and}
 use Rattle.tv_listing.specs.declared.analysis.Analysis.{Analysis}
 use Rattle.tv_model.specs.declared.program.Mode.TheVariants.{Given}
@@ -150,7 +150,7 @@ pub returns-in_err-start-clause-begun : goal.returns-in_err-start-clause-begun
 returns-in_err-start-clause-begun g c =
     let command = Replays c.args.program.now c.args.initial.now c.args.start.now c.args.trace.now c.args.report.now in
     let p = err_from_is_err_and c.from_residual-in_err-start.result c.from_residual-in_err-start.ensures.1 in
-    rw (p.1, p.2) (later_begun _ command role.Start _ _ _ _ _ _ _ c.in_err-start.ensures.cause
+    rw (p.1, p.2) (later_begun _ command role.Start _ _ _ _ _ _ _ (λ held. omega arith) c.in_err-start.ensures.cause
     (another _ c.args.program.now 1 _ _ _ c.in_ok-inputs.ensures.begins c.in_err-start.ensures.begins))
 
 pub returns-in_err-trace-clause-begun : goal.returns-in_err-trace-clause-begun
@@ -158,7 +158,7 @@ returns-in_err-trace-clause-begun g c =
     let command = Replays c.args.program.now c.args.initial.now c.args.start.now c.args.trace.now c.args.report.now in
     let p = err_from_is_err_and c.from_residual-in_err-trace.result c.from_residual-in_err-trace.ensures.1 in
     let two = another _ c.args.program.now 1 _ _ _ c.in_ok-inputs.ensures.begins c.in_ok-start.ensures.begins in
-    rw (p.1, p.2) (later_begun _ command role.Trace _ _ _ _ _ _ _ c.in_err-trace.ensures.cause
+    rw (p.1, p.2) (later_begun _ command role.Trace _ _ _ _ _ _ _ (λ held. omega arith) c.in_err-trace.ensures.cause
     (another _ c.args.program.now 2 _ _ _ two c.in_err-trace.ensures.begins))
 
 pub returns-in_err-reported-clause-begun : goal.returns-in_err-reported-clause-begun
@@ -167,7 +167,7 @@ returns-in_err-reported-clause-begun g c =
     let p = err_from_is_err_and c.from_residual-in_err-reported.result c.from_residual-in_err-reported.ensures.1 in
     let two = another _ c.args.program.now 1 _ _ _ c.in_ok-inputs.ensures.begins c.in_ok-start.ensures.begins in
     let three = another _ c.args.program.now 2 _ _ _ two c.in_ok-trace.ensures.begins in
-    rw (p.1, p.2) (later_begun _ command role.Report _ _ _ _ _ _ _ c.in_err-reported.ensures.cause
+    rw (p.1, p.2) (later_begun _ command role.Report _ _ _ _ _ _ _ (λ held. omega arith) c.in_err-reported.ensures.cause
     (another _ c.args.program.now 3 _ _ _ three c.in_err-reported.ensures.begins))
 
 pub returns-clause-begun : goal.returns-clause-begun

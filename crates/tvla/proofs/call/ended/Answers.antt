@@ -15,5 +15,6 @@ returns-in-Ok g c =
         exact = c.tvla.ensures.exact;
         complete = c.tvla.ensures.complete;
         begins = c.tvla.ensures.begins;
+        most = c.tvla.ensures.most;
       }),
     )
