@@ -1,3 +1,1 @@
-mod Placing
-mod Focusing
 mod Searching

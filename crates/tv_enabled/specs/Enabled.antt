@@ -5,10 +5,7 @@ use Rattle.tv_model.specs.Program.{ProgramForm, ActionForm}
 use Rattle.tv_model.specs.Rules.{blank}
 use Rattle.tv_model.specs.Truth.{Assignment, put_all}
 use Rattle.tv_struct.specs.StructureForm.{StructureForm, structure_of}
-use Rattle.tv_struct.specs.declared.analysis.StageError.{StageError}
-use Rattle.tv_struct.specs.declared.analysis.StageError.TheVariants.{Splits, Individuals, Memory}
 use Rattle.tv_update_laws.specs.Picks.{lists_of, precondition_value}
-use Rattle.tv_step_laws.specs.Budgets.{HasManyFoci, HasLargeChoice}
 use Rattle.tv_step_laws.specs.Transfer.{AreAtHand, focus_places}
 
 -- for some individuals that are put for the variables the precondition is Yes, or there is none
@@ -26,9 +23,3 @@ abbrev pub IsEnabledAtHand : ProgramForm → ActionForm → StructureForm → Ty
 IsEnabledAtHand p action s =
     (at_hand : List StructureForm) × AreAtHand p (focus_places action.focus) s at_hand
     × Any (IsEnabled action) at_hand
-
--- why the structures at hand aren't found
-abbrev pub IsFocusFault : ProgramForm → ActionForm → StructureForm → StageError → Type 0
-IsFocusFault p action s Splits = HasManyFoci p action s
-IsFocusFault p action s Individuals = HasLargeChoice p action s
-IsFocusFault p action s Memory = Unit {0}

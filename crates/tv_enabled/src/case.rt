@@ -1,14 +1,11 @@
-//! What the structures at hand of a step go by.
+//! What a precondition is asked in.
 
-use std::alloc::Global;
-use tv_model::{Action, Program};
-use tv_rules::Closed;
+use tv_model::Action;
+use tv_step::Engine;
 
-/// A program, its closed rules, one of its actions, and where memory comes from.
+/// The engine of a program, and one of the program's actions.
 #[derive(Clone, Copy)]
-pub struct Case<'a> {
-    pub alloc: Global,
-    pub program: &'a Program,
-    pub closed: &'a Closed,
-    pub action: &'a Action,
+pub struct Case<'a, 'b> {
+    pub engine: &'b Engine<'a>,
+    pub action: &'b Action,
 }

@@ -1,26 +1,24 @@
 //! Preconditions that are sure.
 
-ghost use Rattle.std.specs.Prelude.{◌≡◌, ◌↔◌, ◌∷◌, All, Any, Contains, IsTrue, IfOk, IfErr};
+ghost use Rattle.std.specs.Prelude.{◌≡◌, ◌<◌, ◌↔◌, ◌∷◌, All, Any, IsTrue, IfOk, IfErr, length};
 ghost use Rattle.tv_eval.specs.AssignmentForm.{assignment_of};
 ghost use Rattle.tv_eval.specs.ScratchForm.{IsMadeFor};
 ghost use Rattle.tv_kleene.specs.declared.K3.TheVariants.{Yes};
 ghost use Rattle.tv_model.specs.Program.{action_of, picks_of, program_of};
 ghost use Rattle.tv_model.specs.Valid.{IsValid, IsVariable};
-ghost use Rattle.tv_rules.specs.Closing.{closed_rules};
-ghost use Rattle.tv_rules.specs.EntryForms.{rules_of};
 ghost use Rattle.tv_struct.specs.StructureForm.{IsOver, structure_of};
 ghost use Rattle.tv_step_laws.specs.Shaped.{IsShaped};
+ghost use Rattle.tv_step_laws.specs.Transfer.{IsActionOf};
+ghost use Rattle.tv_step.specs.AtHand.{IsFocusFault};
 ghost use Rattle.tv_update_laws.specs.Picks.{precondition_value};
 ghost use Rattle.tv_enabled.specs.Cases.{ArePicked, ArePickedBut, IsReady, action_in, form_in};
-ghost use Rattle.tv_enabled.specs.Enabled.{IsEnabled, IsEnabledAtHand, IsEnabledWith, IsFocusFault};
+ghost use Rattle.tv_enabled.specs.Enabled.{IsEnabled, IsEnabledAtHand, IsEnabledWith};
 
 use crate::case::Case;
-use crate::focus::at_hand;
-use std::alloc::Global;
 use tv_eval::{Assignment, Scratch, eval};
 use tv_kleene::K3;
-use tv_model::{Action, Program, Var};
-use tv_rules::Closed;
+use tv_model::{Action, Var};
+use tv_step::Engine;
 use tv_struct::{StageError, Structure};
 
 /// Whether the precondition is `Yes` under the picked individuals, or there is none.
@@ -115,34 +113,27 @@ fn is_enabled_in_some(c: &Case, structures: &[Structure], scratch: &mut Scratch)
     false
 }
 
-/// Whether in a structure that coerce and the action's focus leave at hand of `s`, under some individuals
-/// that the action may pick, its precondition is `Yes`, or it has none. `Splits` only where a focus atom has
-/// over 4,096 choices, `Individuals` only where a choice has over 256 individuals.
+/// Whether in a structure that coerce and the focus of the edge's action leave at hand of `s`, under some
+/// individuals that the action may pick, its precondition is `Yes`, or it has none. `Splits` only where a
+/// focus atom has over 4,096 choices, `Individuals` only where a choice has over 256 individuals.
 pub fn is_enabled_at_hand(
-    alloc: Global,
-    program: &Program,
-    closed: &Closed,
+    engine: &Engine<'_>,
+    edge: u32,
     action: &Action,
     s: &Structure,
     scratch: &mut Scratch,
 ) -> Result<bool, StageError>
-    requires valid { IsValid (program_of program.now) }
-    requires closed { rules_of closed.now ≡ closed_rules (program_of program.now) }
-    requires action { Contains (program_of program.now).actions (action_of action.now) }
-    requires over { IsOver program.now.vocab s.now }
-    requires scratch { IsMadeFor (program_of program.now) 256 scratch.old }
+    requires valid { IsValid (program_of engine.now.program) }
+    requires edge { edge < length engine.now.program.edges }
+    requires action { IsActionOf (program_of engine.now.program) edge (action_of action.now) }
+    requires over { IsOver engine.now.program.vocab s.now }
+    requires scratch { IsMadeFor (program_of engine.now.program) 256 scratch.old }
     ensures value { IfOk result (λ enabled. IsTrue enabled
-        ↔ IsEnabledAtHand (program_of program.now) (action_of action.now) s.now) }
-    ensures cause { IfErr result (IsFocusFault (program_of program.now) (action_of action.now) s.now) }
+        ↔ IsEnabledAtHand (program_of engine.now.program) (action_of action.now) s.now) }
+    ensures cause { IfErr result (IsFocusFault (program_of engine.now.program) (action_of action.now) s.now) }
     ensures scratch { scratch.new ≡ scratch.old }
 {
-    let case = Case {
-        alloc,
-        program,
-        closed,
-        action,
-    };
-    let _ = s.size();
-    let found = at_hand(&case, s, scratch)?;
+    let case = Case { engine, action };
+    let found = engine.at_hand(edge, s, scratch)?;
     Ok(is_enabled_in_some(&case, found.as_slice(), scratch))
 }

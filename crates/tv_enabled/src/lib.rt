@@ -4,7 +4,5 @@
 
 mod case;
 mod enabled;
-mod focus;
-mod places;
 
 pub use enabled::is_enabled_at_hand;

@@ -1,5 +1,5 @@
 -- What a step tells of a loss.
-use Rattle.std.proofs.Common.{ℕ, ◌≡◌, ◌∙◌, ◌<◌, ◌≤◌, ◌↔◌, ◌⊎◌, inl, inr, List, [], ◌∷◌, length, get_or, refl}
+use Rattle.std.proofs.Common.{ℕ, ◌≡◌, ◌∙◌, ◌<◌, ◌≤◌, ◌↔◌, ◌⊎◌, inl, inr, List, [], ◌∷◌, length, refl}
 use Rattle.std.proofs.Common.{sym}
 use Rattle.std.proofs.Common.{ap, subst, arith, All, Contains, slice_get, Option, None, Some, Bool, true}
 use Rattle.std.proofs.Common.{false}
@@ -23,9 +23,9 @@ use Rattle.tv_step_laws.specs.Transfer.{AreResults, HasNoOpening, IsActionOf, Is
 use Rattle.tv_step_laws.proofs.Exact.{results-once}
 use Rattle.tv_step_laws.proofs.Heaps.{action-once}
 use Rattle.tv_eval.specs.ScratchForm.{ScratchForm}
-use Rattle.tv_enabled.specs.Enabled.{IsEnabledAtHand, IsFocusFault}
+use Rattle.tv_step.specs.AtHand.{IsFocusFault}
+use Rattle.tv_enabled.specs.Enabled.{IsEnabledAtHand}
 use Rattle.tv_work.specs.Analysed.{IsAtSource}
-use Rattle.tv_work.specs.Reach.{Point}
 use Rattle.tv_losses.specs.Losses.{HasNoOpeningAt, IsLost, IsLostAt, ListsNothing}
 use Rattle.tv_losses.specs.Tasks.{IsReady, form_in, reached_in}
 use Rattle.tv_losses.specs.declared.task.Task.{Task}

@@ -1,7 +1,7 @@
 -- The edges of which losses are told, one after the other.
 use Rattle.std.proofs.Common.{ℕ, ◌≡◌, ◌≢◌, ◌∙◌, ◌<◌, ◌+◌, ◌⊎◌, inl, inr, List, [], ◌∷◌, ◌++◌, Option, None}
 use Rattle.std.proofs.Common.{Some, length, get_or}
-use Rattle.std.proofs.Common.{refl, sym, ap, subst, arith, All, Contains, slice_get}
+use Rattle.std.proofs.Common.{refl, sym, subst, arith, All, Contains, slice_get}
 use Rattle.std.specs.Prelude.{AllPairs, Any, IfSome, IfNone}
 use Rattle.std.proofs.lemmas.List.{append-nil}
 use Rattle.std.proofs.lemmas.Bool.{cases_eq}

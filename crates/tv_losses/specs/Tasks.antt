@@ -4,8 +4,6 @@ use Rattle.tv_eval.specs.ScratchForm.{ScratchForm, IsMadeFor}
 use Rattle.tv_model.specs.declared.program.Mode.{Mode}
 use Rattle.tv_model.specs.Program.{ProgramForm, program_of}
 use Rattle.tv_model.specs.Valid.{IsValid}
-use Rattle.tv_rules.specs.Closing.{closed_rules}
-use Rattle.tv_rules.specs.EntryForms.{rules_of}
 use Rattle.tv_struct.specs.StructureForm.{IsOver, IsStructure}
 use Rattle.tv_work.specs.Analysed.{IsWorkCause}
 use Rattle.tv_work.specs.declared.error.WorkError.{WorkError}
@@ -23,12 +21,11 @@ mode_in x = x.engine.now.mode
 abbrev pub reached_in : Task → Point → Type 0
 reached_in x = IsReached (form_in x) (mode_in x) x.initial.now
 
--- the program is valid, and engine, rules and scratch are its own; the structures are over its vocabulary,
+-- the program is valid, and engine and scratch are its own; the structures are over its vocabulary,
 -- and those that are listed, at its nodes, are reached
 pub record IsReady (x : Task) (scratch : ScratchForm) : Type 0 where
   pub valid : IsValid (form_in x)
   pub engine : x.engine.now.program ≡ x.program.now
-  pub rules : rules_of x.closed.now ≡ closed_rules (form_in x)
   pub room : IsMadeFor (form_in x) 256 scratch
   pub initial : All (IsOver x.program.now.vocab) x.initial.now
   pub nodes : length x.listing.now ≡ length (form_in x).nodes

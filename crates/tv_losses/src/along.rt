@@ -54,7 +54,7 @@ fn is_lost(
         return Ok(false);
     }
     let action = action_at(x.program, number);
-    Ok(is_enabled_at_hand(x.alloc, x.program, x.closed, action, s, scratch)?)
+    Ok(is_enabled_at_hand(x.engine, number, action, s, scratch)?)
 }
 
 /// The places of the structures that are lost along the edge, among those listed at its source.

@@ -16,7 +16,6 @@ use crate::told::Losses;
 use std::alloc::Global;
 use tv_eval::Scratch;
 use tv_model::{Mode, Program};
-use tv_rules::close_rules;
 use tv_step::Engine;
 use tv_struct::Structures;
 use tv_work::{WorkError, analyse};
@@ -58,13 +57,11 @@ pub fn losses(
 {
     let analysis = analyse(alloc, program, initial, mode, max)?;
     let engine = Engine::new(alloc, program, mode)?;
-    let closed = close_rules(alloc, program)?;
     let mut scratch = Scratch::new(alloc, program, 256)?;
     let task = Task {
         alloc,
         program,
         engine: &engine,
-        closed: &closed,
         initial: initial.as_slice(),
         listing: &analysis.listing,
     };

@@ -16,7 +16,8 @@ use Rattle.tv_step_laws.specs.Transfer.{FocusPlace, focus_places, choices_at, Co
 use Rattle.tv_step_laws.proofs.Exact.{at_hand-once}
 use Rattle.tv_step_laws.proofs.Heaps.{action-once}
 use Rattle.tv_step.specs.Steps.{KeepsLimits, AreFocusedWithin, KeepsUpdateLimits, IsCauseOfUpdate}
-use Rattle.tv_step.specs.Steps.{FailsAt, IsCauseOfStep}
+use Rattle.tv_step.specs.AtHand.{IsFocusFault}
+use Rattle.tv_step.specs.Steps.{FailsAt, IsCauseOfFocus, IsCauseOfStep}
 use Rattle.tv_step.proofs.Turns.{focused-are}
 
 -- ---- budgets that are kept
@@ -128,17 +129,32 @@ fails-turn p action s start Cause coerces fails t there = record {
   there = there;
 }
 
-focus-splits : (p : ProgramForm) (action : ActionForm) (s : StructureForm) (start : List StructureForm)
-    → Coerces p s start → IsCauseOfStep p action start Splits
-    → HasManyFoci p action s ⊎ HasManyPicks p action s ⊎ HasManyKept p action s
-focus-splits p action s start coerces (inl fails) =
+-- why focus on the action's atoms fails, in the words of budgets
+pub focus-fault : (p : ProgramForm) (action : ActionForm) (s : StructureForm) (start : List StructureForm)
+    (e : StageError) → Coerces p s start → IsCauseOfFocus p (focus_places action.focus) start e
+    → IsFocusFault p action s e
+focus-fault p action s start Splits coerces fails =
     let found = fails.is_cause
-    in inl (
+    in (
       fails.place,
       found.1,
       fails-turn p action s start _ coerces fails found.1 (found.0, found.2, found.3),
       found.4,
     )
+focus-fault p action s start Individuals coerces fails =
+    let found = fails.is_cause
+    in (
+      fails.place,
+      found.1,
+      fails-turn p action s start _ coerces fails found.1 (found.0, found.2, found.3),
+      found.4,
+    )
+focus-fault p action s start Memory coerces fails = tt
+
+focus-splits : (p : ProgramForm) (action : ActionForm) (s : StructureForm) (start : List StructureForm)
+    → Coerces p s start → IsCauseOfStep p action start Splits
+    → HasManyFoci p action s ⊎ HasManyPicks p action s ⊎ HasManyKept p action s
+focus-splits p action s start coerces (inl fails) = inl (focus-fault p action s start Splits coerces fails)
 focus-splits p action s start coerces (inr fails) =
     let found = fails.is_cause
     in inr (update-splits found.1
@@ -154,13 +170,7 @@ focus-individuals : (p : ProgramForm) (action : ActionForm) (s : StructureForm) 
     → Coerces p s start → IsCauseOfStep p action start Individuals
     → HasLargeChoice p action s ⊎ HasLargeMiddle p action s
 focus-individuals p action s start coerces (inl fails) =
-    let found = fails.is_cause
-    in inl (
-      fails.place,
-      found.1,
-      fails-turn p action s start _ coerces fails found.1 (found.0, found.2, found.3),
-      found.4,
-    )
+    inl (focus-fault p action s start Individuals coerces fails)
 focus-individuals p action s start coerces (inr fails) =
     let found = fails.is_cause
     in let large = found.4

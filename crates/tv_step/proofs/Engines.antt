@@ -13,7 +13,7 @@ use Rattle.tv_stable_laws.specs.Stable.{IsStable}
 use Rattle.tv_struct.specs.StructureForm.{StructureForm, IsOver, IsStructure, structure_of}
 use Rattle.tv_struct.specs.declared.analysis.StageError.{StageError}
 use Rattle.tv_step_laws.specs.Shaped.{IsShaped}
-use Rattle.tv_step_laws.specs.Transfer.{Coerces, IsActionOf}
+use Rattle.tv_step_laws.specs.Transfer.{Coerces, IsActionOf, focus_places}
 use Rattle.tv_step_laws.proofs.Settled.{stable-coerces}
 use Rattle.tv_step_laws.proofs.Shapes.{over-shaped}
 use Rattle.tv_step.specs.declared.job.Job.{Job}
@@ -22,10 +22,11 @@ use Rattle.tv_step.specs.declared.step.StepOut.{StepOut}
 use Rattle.tv_step.specs.Job.{action_in, IsJob}
 use Rattle.tv_step.specs.EngineForm.{EngineForm}
 use Rattle.tv_step.specs.Setting.{form_in, IsReadyToStep}
-use Rattle.tv_step.specs.Steps.{AreResultsOf, AreValuesOf, IsCauseOfStep}
+use Rattle.tv_step.specs.AtHand.{FindsAtHand}
+use Rattle.tv_step.specs.Steps.{AreFocusedWithin, AreResultsOf, AreValuesOf, IsCauseOfFocus, IsCauseOfStep}
 use Rattle.tv_step.proofs.Coercing.{none-coerces, some-coerces}
 use Rattle.tv_step.specs.StepAnswer.{AnswersStep}
-use Rattle.tv_step.proofs.Said.{step-said}
+use Rattle.tv_step.proofs.Said.{at-hand-found, step-said}
 
 pub ready-in : (x : Setting) (program : Program) (scratch : ScratchForm) → x.program.now ≡ program
     → IsValid (form_in x) → rules_of x.closed.now ≡ closed_rules (form_in x)
@@ -81,6 +82,18 @@ said-in x program mode edge s job start answer same same_mode valid is coerces r
     (step-said (form_in x) valid x.mode edge s (action_in job) start
     (subst (λ q. IsActionOf (program_of q) edge (action_in job)) (sym same) is) coerces answer results values
     cause))
+
+-- what focus finds of what coerce leaves is what is at hand
+pub found-in : (x : Setting) (program : Program) (edge : ℕ) (s : StructureForm) (job : Job)
+    (start : List StructureForm) (answer : Result (List StructureForm) StageError) → x.program.now ≡ program
+    → IsActionOf (program_of program) edge (action_in job) → Coerces (form_in x) s start
+    → IfOk answer (AreFocusedWithin (form_in x) (focus_places (action_in job).focus) start)
+    → IfErr answer (IsCauseOfFocus (form_in x) (focus_places (action_in job).focus) start)
+    → FindsAtHand (program_of program) edge s answer
+found-in x program edge s job start answer same is coerces out cause =
+    subst (λ q. FindsAtHand (program_of q) edge s answer) same
+    (at-hand-found (form_in x) edge s (action_in job) start
+    (subst (λ q. IsActionOf (program_of q) edge (action_in job)) (sym same) is) coerces answer out cause)
 
 -- what is said of an engine's step holds of the program and the mode that it was made for
 pub engine-answers : (engine made : EngineForm) (edge : ℕ) (s : StructureForm) (answer : Result StepOut StageError)

@@ -1,5 +1,5 @@
 -- What is said of a step along an edge.
-use Rattle.std.proofs.Common.{ℕ, List}
+use Rattle.std.proofs.Common.{ℕ, List, subst}
 use Rattle.std.specs.Prelude.{Result, Ok, Err, IfOk, IfErr}
 use Rattle.std.proofs.lemmas.List.Elements.{All-contains}
 use Rattle.tv_kleene.specs.declared.K3.{K3}
@@ -10,13 +10,17 @@ use Rattle.tv_model.proofs.Lists.{All-from_contains}
 use Rattle.tv_struct.specs.StructureForm.{StructureForm, IsStructure}
 use Rattle.tv_struct.specs.declared.analysis.StageError.{StageError}
 use Rattle.tv_step_laws.specs.Settled.{IsSettled}
-use Rattle.tv_step_laws.specs.Transfer.{Coerces, AreResults, AreMessageValues, IsActionOf}
-use Rattle.tv_step_laws.proofs.Heaps.{any_heap, message-heap, result-heap}
+use Rattle.tv_step_laws.specs.Transfer.{Coerces, AreAtHand, AreResults, AreMessageValues, IsActionOf}
+use Rattle.tv_step_laws.specs.Transfer.{focus_places}
+use Rattle.tv_step_laws.proofs.Heaps.{action-once, any_heap, message-heap, result-heap}
 use Rattle.tv_step_laws.proofs.Settled.{result-settled}
 use Rattle.tv_step.specs.declared.step.StepOut.{StepOut}
 use Rattle.tv_step.specs.StepAnswer.{AnswersStep}
-use Rattle.tv_step.specs.Steps.{AreResultsOf, AreValuesOf, IsCauseOfStep}
-use Rattle.tv_step.proofs.Budgeted.{budgets-kept, step-cause}
+use Rattle.tv_step.specs.AtHand.{FindsAtHand, IsFocusFault}
+use Rattle.tv_step.specs.Steps.{AreFocusedWithin, AreResultsOf, AreValuesOf, IsCauseOfFocus, IsCauseOfStep}
+use Rattle.tv_step.proofs.Budgeted.{budgets-kept, focus-fault, step-cause}
+use Rattle.tv_step.proofs.Stepping.{within-shaped}
+use Rattle.tv_step.proofs.Turns.{coerces-shaped, focused-are}
 
 results-are : (p : ProgramForm) (mode : Mode) (edge : ℕ) (s : StructureForm) (action : ActionForm)
     (start results : List StructureForm)
@@ -80,4 +84,24 @@ step-said p valid mode edge s action start is coerces (Err e) results values cau
   truths = tt;
   budgets = tt;
   cause = step-cause p edge s action start e is coerces cause;
+}
+
+-- what focus finds of what coerce leaves is what is at hand
+pub at-hand-found : (p : ProgramForm) (edge : ℕ) (s : StructureForm) (action : ActionForm)
+    (start : List StructureForm) → IsActionOf p edge action → Coerces p s start
+    → (answer : Result (List StructureForm) StageError)
+    → IfOk answer (AreFocusedWithin p (focus_places action.focus) start)
+    → IfErr answer (IsCauseOfFocus p (focus_places action.focus) start) → FindsAtHand p edge s answer
+at-hand-found p edge s action start is coerces (Ok ts) within cause = record {
+  are = λ other its. subst (λ (a : ActionForm). AreAtHand p (focus_places a.focus) s ts)
+      (action-once p edge action other is its)
+      (start, coerces, focused-are p (focus_places action.focus) start ts within);
+  shaped = within-shaped p (focus_places action.focus) start ts within (coerces-shaped p s start coerces);
+  cause = λ other its. tt;
+}
+at-hand-found p edge s action start is coerces (Err e) within cause = record {
+  are = λ other its. tt;
+  shaped = tt;
+  cause = λ other its. subst (λ a. IsFocusFault p a s e) (action-once p edge action other is its)
+      (focus-fault p action s start e coerces cause);
 }

@@ -1,4 +1,5 @@
 pub mod Allowed
+pub mod AtHand
 pub mod Changed
 pub mod Ending
 pub mod EngineForm

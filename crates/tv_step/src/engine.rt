@@ -10,15 +10,17 @@ ghost use Rattle.tv_stable_laws.specs.Stable.{IsStable};
 ghost use Rattle.tv_struct.specs.StructureForm.{StructureForm, IsOver, structure_of};
 ghost use Rattle.tv_step_laws.specs.Settled.{IsSettled};
 ghost use Rattle.tv_step_laws.specs.Transfer.{IsOpening, HasNoOpening, IsActionOf};
+ghost use Rattle.tv_step.specs.AtHand.{FindsAtHand};
 ghost use Rattle.tv_step.specs.Job.{action_in, IsJob};
 ghost use Rattle.tv_step.specs.Setting.{form_in};
 ghost use Rattle.tv_step.specs.Starts.{HasStarts};
 ghost use Rattle.tv_step.specs.StepAnswer.{AnswersStep};
 
+use crate::focus::own_at_hand;
 use crate::job::{Job, edge_at, job_at, jobs};
 use crate::opened;
 use crate::setting::Setting;
-use crate::step::{StepOut, step_from};
+use crate::step::{StepOut, focused, step_from};
 use std::alloc::{AllocError, Global};
 use std::marker::Model;
 use std::slice;
@@ -26,7 +28,7 @@ use tv_coerce::coerce;
 use tv_eval::Scratch;
 use tv_model::{Mode, Program};
 use tv_rules::{Closed, close_rules};
-use tv_struct::{StageError, Structure};
+use tv_struct::{StageError, Structure, Structures};
 
 /// A program in a mode, made ready for abstract steps: what these need that depends on no structure is made
 /// once. A contract sees the program and the mode.
@@ -132,6 +134,29 @@ impl<'a> Engine<'a> {
         ensures scratch { scratch.new ≡ scratch.old }
     {
         opened::opening(self.alloc, self.program, &self.closed, s, scratch)
+    }
+
+    /// The structures at hand of a structure along an edge: what coerce, and the focus of the edge's action,
+    /// leave of it. `Splits` only where a focus atom has over 4,096 choices, `Individuals` only where a
+    /// choice has over 256 individuals.
+    pub fn at_hand(
+        &self,
+        edge: u32,
+        s: &Structure,
+        scratch: &mut Scratch,
+    ) -> Result<Structures, StageError>
+        requires edge { edge < length self.now.program.edges }
+        requires over { IsOver self.now.program.vocab s.now }
+        requires scratch { IsMadeFor (program_of self.now.program) 256 scratch.old }
+        ensures at_hand { FindsAtHand (program_of self.now.program) edge s.now result }
+        ensures scratch { scratch.new ≡ scratch.old }
+    {
+        let x = self.setting();
+        let _ = s.size();
+        let coerced = coerce(x.alloc, x.closed, s, scratch)?;
+        let start = coerced.as_slice();
+        let found = focused(&x, self.job(edge), start, scratch)?;
+        Ok(own_at_hand(&x, found, start)?)
     }
 
     /// The abstract step of a structure along an edge: its results, strictly sorted, and the values of the

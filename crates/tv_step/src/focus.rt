@@ -1,11 +1,9 @@
 //! Focus in a step: the structures at hand, atom by atom.
 
 ghost use Rattle.std.specs.Prelude.{◌≡◌, ◌≤◌, ◌++◌, [], ◌∷◌, length, map, unwrap_or, All, IfOk, IfErr, OnOk};
-ghost use Rattle.tv_focus_laws.specs.FocusAtoms.{focus_atoms};
 ghost use Rattle.tv_focus.specs.Stage.{IsWithinLimits};
 ghost use Rattle.tv_model.specs.declared.program.Program.{Program};
 ghost use Rattle.tv_model.specs.Form.{form_of};
-ghost use Rattle.tv_model.specs.Valid.{IsFormula};
 ghost use Rattle.tv_step_laws.specs.Parts.{AreFrom};
 ghost use Rattle.tv_step_laws.specs.Shaped.{IsShaped};
 ghost use Rattle.tv_step_laws.specs.Transfer.{Focuses, focus_places, places_in};
@@ -140,7 +138,7 @@ fn push_focused(
 }
 
 /// The structures at hand after the atom, of those before it.
-fn focus_all(
+pub fn focus_all(
     x: &Setting,
     turn: &Turn<'_>,
     at_hand: Structures,
@@ -175,7 +173,7 @@ fn copies(x: &Setting, structures: &[Structure]) -> Result<Structures, AllocErro
 }
 
 /// The structures at hand in memory of their own, so that focus can take them over.
-fn own_at_hand(
+pub fn own_at_hand(
     x: &Setting,
     found: Option<Structures>,
     start: &[Structure],
@@ -196,30 +194,4 @@ pub fn at_hand<'a>(found: &'a Option<Structures>, start: &'a [Structure]) -> &'a
         None => start,
         Some(structures) => structures.as_slice(),
     }
-}
-
-/// The structures at hand after all these atoms, of those to begin with; none where there is no atom, since
-/// these are at hand then.
-pub fn focused(
-    x: &Setting,
-    turns: &[Turn<'_>],
-    start: &[Structure],
-    scratch: &mut Scratch,
-) -> Result<Option<Structures>, StageError>
-    requires ready { IsReadyToStep x.now scratch.old }
-    requires places { All (λ turn. IsPlace (form_in x.now) (focus_place turn)) turns.now }
-    requires waiting { All (HasWaiting x.now.program.now) turns.now }
-    requires shaped { All (IsShaped (form_in x.now)) start.now }
-    requires stable { All (IsStableIn (form_in x.now)) start.now }
-    ensures out { IfOk result (λ found. AreFocusedWithin (form_in x.now) (map focus_place turns.now) start.now
-        (unwrap_or found start.now)) }
-    ensures cause { IfErr result (IsCauseOfFocus (form_in x.now) (map focus_place turns.now) start.now) }
-    ensures scratch { scratch.new ≡ scratch.old }
-{
-    let mut found = None;
-    for turn in turns {
-        let at_hand = own_at_hand(x, found, start)?;
-        found = Some(focus_all(x, turn, at_hand, scratch)?);
-    }
-    Ok(found)
 }

@@ -1,7 +1,7 @@
 //! The values of messages, in a step.
 
 ghost use Rattle.std.specs.Prelude.{◌≡◌, map, All, IfOk};
-ghost use Rattle.tv_model.specs.Form.{form_of, IsFree};
+ghost use Rattle.tv_model.specs.Form.{form_of};
 ghost use Rattle.tv_model.specs.Program.{message_of};
 ghost use Rattle.tv_model.specs.Valid.{IsMessage};
 ghost use Rattle.tv_step_laws.specs.Shaped.{IsShaped};

@@ -1,6 +1,6 @@
 //! The individuals that an action picks in a structure, and what it gives under them.
 
-ghost use Rattle.std.specs.Prelude.{◌≡◌, ◌<◌, ◌≤◌, ◌↔◌, ◌^◌, All, IsTrue, IfErr, OnOk, [], ◌∷◌, length, min};
+ghost use Rattle.std.specs.Prelude.{◌≡◌, ◌<◌, ◌≤◌, ◌↔◌, All, IsTrue, IfErr, OnOk, [], ◌∷◌, length, min};
 ghost use Rattle.std.specs.Prelude.{true};
 ghost use Rattle.std.specs.List.{range_with_len};
 ghost use Rattle.tv_update_laws.specs.Picks.{lists_of};

@@ -1,6 +1,6 @@
 //! Abstract steps.
 
-ghost use Rattle.std.specs.Prelude.{◌≡◌, ◌<◌, All, length, IfOk, IfErr, OnOk};
+ghost use Rattle.std.specs.Prelude.{◌≡◌, ◌<◌, All, length, unwrap_or, IfOk, IfErr, OnOk};
 ghost use Rattle.tv_eval.specs.ScratchForm.{IsMadeFor};
 ghost use Rattle.tv_model.specs.Program.{program_of};
 ghost use Rattle.tv_model.specs.Valid.{IsValid};
@@ -9,13 +9,15 @@ ghost use Rattle.tv_rules.specs.EntryForms.{rules_of};
 ghost use Rattle.tv_struct.specs.StructureForm.{IsOver};
 ghost use Rattle.tv_step_laws.specs.Parts.{AreFrom};
 ghost use Rattle.tv_step_laws.specs.Shaped.{IsShaped};
+ghost use Rattle.tv_step_laws.specs.Transfer.{focus_places};
 ghost use Rattle.tv_step.specs.Job.{action_in, IsJob};
 ghost use Rattle.tv_step.specs.Setting.{form_in, IsReadyToStep, IsStableIn};
-ghost use Rattle.tv_step.specs.Steps.{AreResultsOf, AreValuesOf, IsCauseOfStep, IsCauseOfUpdates};
+ghost use Rattle.tv_step.specs.Steps.{AreFocusedWithin, AreResultsOf, AreValuesOf, IsCauseOfFocus};
+ghost use Rattle.tv_step.specs.Steps.{IsCauseOfStep, IsCauseOfUpdates};
 ghost use Rattle.tv_step.specs.Steps.{KeepsUpdateLimits, StepsIn};
 ghost use Rattle.tv_step.specs.StepAnswer.{AnswersStep};
 
-use crate::focus::{at_hand, focused};
+use crate::focus::{at_hand, focus_all, own_at_hand};
 use crate::job::{Job, edge_at, job_of};
 use crate::messages::{Values, values_of};
 use crate::order::in_order;
@@ -66,6 +68,33 @@ fn given<'a, 'b>(
     Ok(out)
 }
 
+/// The structures at hand after the action's focus, of those to begin with; none where it has no atom, since
+/// these are at hand then.
+pub fn focused(
+    x: &Setting,
+    job: &Job,
+    start: &[Structure],
+    scratch: &mut Scratch,
+) -> Result<Option<Structures>, StageError>
+    requires ready { IsReadyToStep x.now scratch.old }
+    requires job { IsJob x.now.program.now x.now.mode job.now }
+    requires shaped { All (IsShaped (form_in x.now)) start.now }
+    requires stable { All (IsStableIn (form_in x.now)) start.now }
+    ensures out { IfOk result
+        (λ found. AreFocusedWithin (form_in x.now) (focus_places (action_in job.now).focus) start.now
+        (unwrap_or found start.now)) }
+    ensures cause { IfErr result
+        (IsCauseOfFocus (form_in x.now) (focus_places (action_in job.now).focus) start.now) }
+    ensures scratch { scratch.new ≡ scratch.old }
+{
+    let mut found = None;
+    for turn in job.turns.as_slice() {
+        let at_hand = own_at_hand(x, found, start)?;
+        found = Some(focus_all(x, turn, at_hand, scratch)?);
+    }
+    Ok(found)
+}
+
 /// The step of a structure that is coerced: `start` has what coerce left of it.
 pub fn step_from(
     x: &Setting,
@@ -84,7 +113,7 @@ pub fn step_from(
     ensures cause { IfErr result (IsCauseOfStep (form_in x.now) (action_in job.now) start.now) }
     ensures scratch { scratch.new ≡ scratch.old }
 {
-    let found = focused(x, job.turns.as_slice(), start, scratch)?;
+    let found = focused(x, job, start, scratch)?;
     let at_hand = at_hand(&found, start);
     let messages = values_of(x, job.action.messages.as_slice(), at_hand, scratch)?;
     let given = given(x, job, at_hand, scratch)?;

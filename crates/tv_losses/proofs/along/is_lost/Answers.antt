@@ -1,14 +1,11 @@
-use Rattle.std.proofs.Common.{◌≡◌, ◌∙◌, [], length, refl, subst, sym, ap}
+use Rattle.std.proofs.Common.{◌↔◌, subst, IsTrue}
 use Rattle.std.proofs.lemmas.Option.{slice_get_within}
 use Rattle.std.proofs.lemmas.Result.{err_from_is_err_and}
-use Rattle.tv_model.proofs.Lists.{slice_get-contains}
-use Rattle.tv_eval.specs.ScratchForm.{IsMadeFor}
 use Rattle.tv_model.specs.Program.{action_of, program_of}
-use Rattle.tv_struct.specs.StructureForm.{IsOver}
 use Rattle.tv_step_laws.specs.Budgets.{IsStepCause}
 use Rattle.tv_step_laws.specs.Transfer.{AreResults}
+use Rattle.tv_step.specs.AtHand.{IsFocusFault}
 use Rattle.tv_enabled.specs.Enabled.{IsEnabledAtHand}
-use Rattle.tv_work.specs.Reach.{Point}
 use Rattle.tv_work.proofs.Causes.{step-cause}
 use Rattle.tv_losses.specs.Losses.{IsLost}
 use Rattle.tv_losses.specs.Tasks.{form_in, mode_in, reached_in}
@@ -60,22 +57,33 @@ pub action_at-action-requires-clause-number : goal.action_at-action-requires-cla
 action_at-action-requires-clause-number c =
     slice_get_within c.args.x.now.program.now.edges c.args.number c.args.edge c.requires.edge
 
+pub is_enabled_at_hand-requires-clause-valid : goal.is_enabled_at_hand-requires-clause-valid
+is_enabled_at_hand-requires-clause-valid c = rw c.requires.ready.engine c.requires.ready.valid
+
+pub is_enabled_at_hand-requires-clause-edge : goal.is_enabled_at_hand-requires-clause-edge
+is_enabled_at_hand-requires-clause-edge c =
+    rw c.requires.ready.engine
+    (slice_get_within c.args.x.now.program.now.edges c.args.number c.args.edge c.requires.edge)
+
 pub is_enabled_at_hand-requires-clause-action : goal.is_enabled_at_hand-requires-clause-action
-is_enabled_at_hand-requires-clause-action c =
-    let p = form_in c.args.x.now
-    in let its = c.action_at-action.ensures
-    in slice_get-contains p.actions its.taken.action (action_of c.action_at-action.result.now) its.its_action
+is_enabled_at_hand-requires-clause-action c = rw c.requires.ready.engine c.action_at-action.ensures
 
 pub is_enabled_at_hand-requires-clause-over : goal.is_enabled_at_hand-requires-clause-over
 is_enabled_at_hand-requires-clause-over c =
-    listed-over c.args.x.now c.args.scratch.now c.requires.ready c.args.number c.args.edge c.requires.edge
-    c.args.s.now c.requires.listed
+    rw c.requires.ready.engine
+    (listed-over c.args.x.now c.args.scratch.now c.requires.ready c.args.number c.args.edge c.requires.edge
+    c.args.s.now c.requires.listed)
+
+pub is_enabled_at_hand-requires-clause-scratch : goal.is_enabled_at_hand-requires-clause-scratch
+is_enabled_at_hand-requires-clause-scratch c =
+    rw (c.requires.ready.engine, c.in_ok-out.ensures.scratch) c.requires.ready.room
 
 pub returns-in_err-is_enabled_at_hand-clause-cause : goal.returns-in_err-is_enabled_at_hand-clause-cause
 returns-in_err-is_enabled_at_hand-clause-cause c =
     let x = c.args.x.now
     in let s = c.args.s.now
     in let fault = c.in_err-is_enabled_at_hand.field-0.0
+    in let action = action_of c.action_at-action.result.now
     in let p = err_from_is_err_and c.from_residual-in_err-is_enabled_at_hand.result
     c.from_residual-in_err-is_enabled_at_hand.ensures.1
     in rw (p.1, p.2)
@@ -83,8 +91,9 @@ returns-in_err-is_enabled_at_hand-clause-cause c =
     (record { node = c.args.edge.from; structure = s })
     (at-source x c.args.scratch.now c.requires.ready c.args.number c.args.edge c.requires.edge s c.requires.listed)
     fault
-    (focus-step (form_in x) c.args.number (action_of c.action_at-action.result.now) s fault
-    c.action_at-action.ensures c.in_err-is_enabled_at_hand.ensures.cause))
+    (focus-step (form_in x) c.args.number action s fault c.action_at-action.ensures
+    (subst (λ program. IsFocusFault (program_of program) action s fault) c.requires.ready.engine
+    c.in_err-is_enabled_at_hand.ensures.cause)))
 
 pub returns-clause-lost : goal.returns-clause-lost
 returns-clause-lost c =
@@ -92,8 +101,10 @@ returns-clause-lost c =
     in let s = c.args.s.now
     in let rs = c.in_ok-out.out.results
     in let action = action_of c.action_at-action.result.now
-    in same-answer (IsEnabledAtHand (form_in x) action s) (IsLost (form_in x) (mode_in x) c.args.number s)
-    c.in_ok-is_enabled_at_hand.field-0 c.in_ok-is_enabled_at_hand.ensures.value
+    in let enabled = c.in_ok-is_enabled_at_hand.field-0
+    in same-answer (IsEnabledAtHand (form_in x) action s) (IsLost (form_in x) (mode_in x) c.args.number s) enabled
+    (subst (λ program. IsTrue enabled ↔ IsEnabledAtHand (program_of program) action s) c.requires.ready.engine
+    c.in_ok-is_enabled_at_hand.ensures.value)
     (lost-enabled (form_in x) (mode_in x) c.args.number s action rs
     (subst (λ program. AreResults (program_of program) (mode_in x) c.args.number s rs) c.requires.ready.engine
     c.in_ok-out.ensures.step.results)

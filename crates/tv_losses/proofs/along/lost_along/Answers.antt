@@ -1,10 +1,9 @@
-use Rattle.std.proofs.Common.{◌∙◌, Some, length, ap, arith, sym}
-use Rattle.std.proofs.lemmas.Option.{slice_get_within, get_or_from_slice_get}
+use Rattle.std.proofs.Common.{arith}
 use Rattle.tv_listing.specs.ListingForm.{at_node}
 use Rattle.tv_losses.specs.Losses.{IsLost, IsLostAt}
 use Rattle.tv_losses.specs.Tasks.{form_in, mode_in}
 use Rattle.tv_losses.proofs.Exactly.{none-below, below-all, below-next}
-use Rattle.tv_losses.proofs.Losing.{from-within, lost-at, lost-within, ready-again, same-answer}
+use Rattle.tv_losses.proofs.Losing.{lost-at, lost-within, ready-again, same-answer}
 use Rattle.tv_losses.proofs.along.lost_along.Goals as goal
 
 pub loop-place-init : goal.loop-place-init

@@ -1,11 +1,11 @@
-use Rattle.std.proofs.Common.{◌≡◌, ◌∙◌, length, refl, sym, subst, ap, All}
+use Rattle.std.proofs.Common.{◌≡◌, sym, subst, ap, All}
 use Rattle.tv_model.specs.declared.program.Mode.{Mode}
 use Rattle.tv_model.specs.declared.program.Program.{Program}
 use Rattle.tv_model.specs.Program.{program_of}
 use Rattle.tv_step.specs.EngineForm.{EngineForm}
 use Rattle.tv_struct.specs.StructureForm.{IsOver, StructureForm}
 use Rattle.std.specs.Prelude.{List}
-use Rattle.tv_work.specs.Reach.{IsReached, Point}
+use Rattle.tv_work.specs.Reach.{IsReached}
 use Rattle.tv_losses.proofs.Answering.{are-losses, work-cause}
 use Rattle.tv_losses.proofs.analysed.losses.Goals as goal
 
@@ -23,7 +23,6 @@ losses_in-requires c =
     in record {
       valid = c.requires.valid;
       engine = same-program c.in_ok-engine.engine c.args.program.now c.args.mode c.in_ok-engine.ensures;
-      rules = c.in_ok-closed.ensures.rules;
       room = c.in_ok-scratch.ensures;
       initial = subst (All (IsOver c.args.program.now.vocab)) (sym c.as_slice.ensures) c.requires.initial;
       nodes = exact.nodes;

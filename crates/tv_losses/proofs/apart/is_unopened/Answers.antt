@@ -1,4 +1,4 @@
-use Rattle.std.proofs.Common.{◌≡◌, Some, None, subst, sym}
+use Rattle.std.proofs.Common.{subst, sym}
 use Rattle.std.specs.Prelude.{IfNone, IfSome}
 use Rattle.tv_eval.specs.ScratchForm.{IsMadeFor}
 use Rattle.tv_model.specs.Program.{program_of}

@@ -1,7 +1,6 @@
 use Rattle.std.proofs.Common.{◌∙◌, Some, ap, arith, sym}
 use Rattle.std.proofs.lemmas.List.Elements.{All-contains}
 use Rattle.std.proofs.lemmas.Option.{slice_get-get_or}
-use Rattle.tv_eval.specs.ScratchForm.{ScratchForm}
 use Rattle.tv_struct.specs.StructureForm.{IsOver}
 use Rattle.tv_step_laws.specs.Transfer.{HasNoOpening}
 use Rattle.tv_losses.specs.Losses.{HasNoOpeningAt}
