@@ -1,9 +1,11 @@
 -- Rows of joined values, one row or one class after the other.
 use Rattle.std.proofs.Common.{ℕ, refl, ⊎_elim, ◌≡◌, ◌≢◌, ◌⊎◌, ◌<◌, ◌≤◌, ◌+◌, inl, inr, List, [], ◌∷◌, get_or}
-use Rattle.std.proofs.Common.{set, length, replicate, false, nat_lt, ltb-false, sym, ap, subst, ◌∙◌, ◌-◌, ◌*◌, arith}
+use Rattle.std.proofs.Common.{set, length, replicate, false, nat_lt, ltb-false, sym, ap, subst, ◌∙◌, ◌-◌, ◌*◌}
+use Rattle.std.proofs.Common.{arith}
 use Rattle.std.specs.Prelude.{Any, Contains}
 use Rattle.std.proofs.lemmas.Bool.{cases_lt}
-use Rattle.std.proofs.lemmas.List.{get_or_default, get_or_past, length-set, get_or-set_same, get_or-set_other, set-get_or}
+use Rattle.std.proofs.lemmas.List.{get_or_default, get_or_past, length-set, get_or-set_same, get_or-set_other}
+use Rattle.std.proofs.lemmas.List.{set-get_or}
 use Rattle.std.proofs.lemmas.List.{get_or-replicate, length-replicate}
 use Rattle.std.proofs.lemmas.List.FromFn.{length-map-range_with_len, get_or-map-range_with_len}
 use Rattle.tv_kleene.specs.declared.K3.{K3}

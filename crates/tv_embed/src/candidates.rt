@@ -51,8 +51,8 @@ fn over(k: K3, values: Row) -> Row
     }
 }
 
-/// Rules out the individuals of `large` whose value of the predicate doesn't lie over that of `u`, where it is
-/// unary.
+/// Rules out the individuals of `large` whose value of the predicate doesn't lie over that of `u`, where it
+/// is unary.
 fn narrow(allowed: &mut Row, small: &Structure, large: &Structure, u: u32, p: PredId)
     requires vocabulary { arities_of small.now ≡ arities_of large.now }
     requires individual { u < small.now.size }
@@ -70,7 +70,8 @@ fn narrow(allowed: &mut Row, small: &Structure, large: &Structure, u: u32, p: Pr
 /// Among so few individuals each is looked at by itself.
 const FEW: u32 = 16;
 
-/// `No` at individuals of `large` that `u` can't go to by the values of unary predicates, where there are many.
+/// `No` at individuals of `large` that `u` can't go to by the values of unary predicates, where there are
+/// many.
 fn allowed(small: &Structure, large: &Structure, u: u32) -> Row
     requires vocabulary { arities_of small.now ≡ arities_of large.now }
     requires individual { u < small.now.size }

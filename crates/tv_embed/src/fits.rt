@@ -98,8 +98,8 @@ pub fn is_candidate(small: &Structure, large: &Structure, u: u32, w: u32) -> boo
     (!small.summary(u) || large.summary(w)) && values_near_fit(small, large, u, w)
 }
 
-/// Whether the predicate's values allow that the next individual goes to `w` while those before it go to their
-/// images.
+/// Whether the predicate's values allow that the next individual goes to `w` while those before it go to
+/// their images.
 fn values_join_up(small: &Structure, large: &Structure, images: &[u32], w: u32, p: PredId) -> bool
     requires vocabulary { arities_of small.now ≡ arities_of large.now }
     requires pred { p.0 < length (arities_of small.now) }

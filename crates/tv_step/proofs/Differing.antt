@@ -1,5 +1,6 @@
 -- What two structures have in common, as rows tell, and the rules that see no difference.
-use Rattle.std.proofs.Common.{ℕ, ◌≡◌, ◌≢◌, ◌∙◌, ◌<◌, ◌≤◌, ◌+◌, ◌-◌, ◌*◌, ◌⊎◌, Bool, true, false, List, [], ◌∷◌, ◌++◌, length}
+use Rattle.std.proofs.Common.{ℕ, ◌≡◌, ◌≢◌, ◌∙◌, ◌<◌, ◌≤◌, ◌+◌, ◌-◌, ◌*◌, ◌⊎◌, Bool, true, false, List, []}
+use Rattle.std.proofs.Common.{◌∷◌, ◌++◌, length}
 use Rattle.std.proofs.Common.{map, take, Option, None, Some, inl, inr, ⊎_elim, refl, sym, ap, subst, arith}
 use Rattle.std.proofs.Common.{add-one, append_assoc, get_or, slice_get, replicate, Contains}
 use Rattle.std.specs.List.{range_with_len}
@@ -24,10 +25,10 @@ use Rattle.tv_coerce_laws.specs.Split.{IsUntouched}
 use Rattle.tv_coerce_laws.proofs.Untouched.{untouched_rules_stay_stable}
 use Rattle.tv_struct.specs.TableForm.{AreIndividuals}
 use Rattle.tv_struct.specs.StructureForm.{StructureForm, structure_of, arities_of, value_at, summary_at}
-use Rattle.tv_struct.specs.StructureRows.{HasArity, summary_row, flag_value}
+use Rattle.tv_struct.specs.StructureRows.{HasArity, row_at, summary_row, flag_value}
 use Rattle.tv_struct.proofs.Library.{AreIndividuals-range, Contains-range, below-range, fits_or_No}
 use Rattle.tv_coerce.specs.RuleSets.{IsIn, IsStableBut, HasMore, IsRuleThat}
-use Rattle.tv_step.specs.Changed.{AreAlike, AreAlikeBut, HasSameRow, HasSameValues, IsFew, WaitsAmong, set_of}
+use Rattle.tv_step.specs.Changed.{AreAlike, AreAlikeBut, HasSameValues, IsFew, WaitsAmong, set_of}
 use Rattle.tv_step.specs.Setting.{IsStableIn}
 
 -- ---- summaries
@@ -86,14 +87,18 @@ same-unary s t pred over arity same = by-arity s t pred 1 over arity each
     each (u ∷ w ∷ us) e within = absurd (omega (arith, e))
 
 pub same-binary : (s t : StructureForm) (pred : ℕ) → arities_of s ≡ arities_of t → HasArity s pred 2
-    → ((u : ℕ) → u < s.size → HasSameRow pred u s t) → HasSameValues pred s t
-same-binary s t pred over arity same = by-arity s t pred 2 over arity each
+    → s.size ≡ t.size → ((u : ℕ) → u < s.size → row_at s pred u ≡ row_at t pred u) → HasSameValues pred s t
+same-binary s t pred over arity size same = by-arity s t pred 2 over arity each
   where
     each : (tuple : List ℕ) → length tuple ≡ 2 → AreIndividuals s.size tuple
         → value_at s pred tuple ≡ value_at t pred tuple
     each [] e within = absurd (omega (arith, e))
     each (u ∷ []) e within = absurd (omega (arith, e))
-    each (u ∷ w ∷ []) e (lt, later) = same u lt w later.0
+    each (u ∷ w ∷ []) e (lt, later) =
+        sym (get_or-map-range_with_len (λ x. value_at s pred (u ∷ x ∷ [])) 0 s.size w w No later.0 (omega arith))
+        ∙ ap (λ row. get_or row w No) (same u lt)
+        ∙ get_or-map-range_with_len (λ x. value_at t pred (u ∷ x ∷ [])) 0 t.size w w No
+        (omega (arith, later.0, size)) (omega arith)
     each (u ∷ w ∷ x ∷ us) e within = absurd (omega (arith, e))
 
 -- past the last predicate there are no values
@@ -110,12 +115,12 @@ same-past s t pred over past tuple within =
     ∙ sym (past-all t pred (subst (λ arities. length arities ≤ pred) over past) tuple)
 
 -- one row more
-pub next-row : (s t : StructureForm) (pred u : ℕ) → ((k : ℕ) → k < u → HasSameRow pred k s t) → HasSameRow pred u s t
-    → (k : ℕ) → k < u + 1 → HasSameRow pred k s t
+pub next-row : (s t : StructureForm) (pred u : ℕ) → ((k : ℕ) → k < u → row_at s pred k ≡ row_at t pred k)
+    → row_at s pred u ≡ row_at t pred u → (k : ℕ) → k < u + 1 → row_at s pred k ≡ row_at t pred k
 next-row s t pred u before here k lt =
     ⊎_elim (λ below. before k below)
     (λ past. let same : k ≡ u = omega (arith, lt, past)
-    in subst (λ x. HasSameRow pred x s t) (sym same) here)
+    in subst (λ x. row_at s pred x ≡ row_at t pred x) (sym same) here)
     (cases_lt k u)
 
 -- one word more

@@ -1,5 +1,5 @@
 -- What is otherwise in a structure than in one that it came of, and the rules that see it.
-use Rattle.std.specs.Prelude.{ℕ, ◌≡◌, ◌<◌, ◌⊎◌, ◌++◌, Bool, false, List, [], ◌∷◌, length, map, Option, None, Some}
+use Rattle.std.specs.Prelude.{ℕ, ◌≡◌, ◌<◌, ◌⊎◌, ◌++◌, Bool, false, List, length, map, Option, None, Some}
 use Rattle.std.specs.Prelude.{replicate, slice_get, Contains}
 use Rattle.tv_model.specs.declared.formula.PredId.{PredId}
 use Rattle.tv_model.specs.Program.{ProgramForm, ActionForm, RuleForm}
@@ -21,10 +21,6 @@ pub record AreAlike (s t : StructureForm) : Type 0 where
 abbrev pub HasSameValues : (pred : ℕ) → (s t : StructureForm) → Type 0
 HasSameValues pred s t =
     (tuple : List ℕ) → AreIndividuals s.size tuple → value_at s pred tuple ≡ value_at t pred tuple
-
--- and so it has at the pairs with one first member
-abbrev pub HasSameRow : (pred u : ℕ) → (s t : StructureForm) → Type 0
-HasSameRow pred u s t = (w : ℕ) → w < s.size → value_at s pred (u ∷ w ∷ []) ≡ value_at t pred (u ∷ w ∷ [])
 
 -- the structures are alike, and only the values of these predicates may differ
 pub record AreAlikeBut (preds : List ℕ) (s t : StructureForm) : Type 0 where

@@ -1,7 +1,8 @@
 //! The rules that may be unmet in a structure that came of a stable one over the same individuals: those
 //! about a predicate whose values differ.
 
-ghost use Rattle.std.specs.Prelude.{◌≡◌, ◌<◌, ◌++◌, ◌∷◌, [], ℕ, List, length, map, Some, slice_get, IfOk, IsTrue};
+ghost use Rattle.std.specs.Prelude.{◌≡◌, ◌<◌, ◌++◌, ◌∷◌, [], ℕ, List, length, map, Some, slice_get, IfOk};
+ghost use Rattle.std.specs.Prelude.{IsTrue};
 ghost use Rattle.std.specs.List.{range_with_len};
 ghost use Rattle.tv_coerce.specs.RuleSets.{IsStableBut};
 ghost use Rattle.tv_model.specs.Program.{RuleForm};
@@ -11,7 +12,8 @@ ghost use Rattle.tv_rules.specs.EntryForms.{rules_of};
 ghost use Rattle.tv_rules.specs.Standing.{StandsIn};
 ghost use Rattle.tv_struct.specs.StructureForm.{arities_of};
 ghost use Rattle.tv_struct.specs.StructureRows.{HasArity};
-ghost use Rattle.tv_step.specs.Changed.{AreAlike, DiffersWithin, HasSameRow, HasSameValues, IsFew, WaitsAmong, set_of};
+ghost use Rattle.tv_step.specs.Changed.{AreAlike, DiffersWithin, HasSameValues, IsFew};
+ghost use Rattle.tv_step.specs.Changed.{WaitsAmong, set_of};
 ghost use Rattle.tv_step.specs.Setting.{form_in, IsStableIn};
 
 use crate::setting::Setting;
@@ -91,22 +93,6 @@ fn has_same_row(s: &Structure, t: &Structure, p: PredId) -> bool
     true
 }
 
-/// Whether the binary predicate has the same values in both at the pairs with first member `u`.
-fn has_same_row_at(s: &Structure, t: &Structure, p: PredId, u: u32) -> bool
-    requires size { s.now.size ≡ t.now.size }
-    requires one { HasArity s.now p.0 2 }
-    requires other { HasArity t.now p.0 2 }
-    requires individual { u < s.now.size }
-    ensures { IsTrue result → HasSameRow p.0 u s.now t.now }
-{
-    for chunk in 0..s.size().div_ceil(64) {
-        if !are_equal(s.word(p, u, chunk), t.word(p, u, chunk)) {
-            return false;
-        }
-    }
-    true
-}
-
 /// Whether the binary predicate has the same values in both.
 fn has_same_rows(s: &Structure, t: &Structure, p: PredId) -> bool
     requires size { s.now.size ≡ t.now.size }
@@ -116,7 +102,7 @@ fn has_same_rows(s: &Structure, t: &Structure, p: PredId) -> bool
     ensures { IsTrue result → HasSameValues p.0 s.now t.now }
 {
     for u in 0..s.size() {
-        if !has_same_row_at(s, t, p, u) {
+        if !s.row(p, u).equals(&t.row(p, u)) {
             return false;
         }
     }

@@ -1,4 +1,5 @@
-use Rattle.std.proofs.Common.{◌≡◌, ◌∙◌, ◌++◌, [], ◌∷◌, Bool, true, List, ap, length, map, replicate, rules, sym}
+use Rattle.std.proofs.Common.{◌≡◌, ◌∙◌, ◌++◌, [], ◌∷◌, Bool, true, List, ap, length, map, replicate, rules}
+use Rattle.std.proofs.Common.{sym}
 use Rattle.tv_update.specs.Kept.{flag_choices}
 use Rattle.tv_update.proofs.KeptLaws.{begun_none, choices_of_yes}
 use Rattle.tv_update.proofs.kept.choices.Goals as goal
