@@ -20,7 +20,6 @@ use crate::setting::Setting;
 use std::alloc::AllocError;
 use std::cmp::Ordering;
 use tv_coerce::RuleSet;
-use tv_kleene::K3;
 use tv_model::{PredId, Update};
 use tv_row::Word;
 use tv_rules::Closed;
@@ -42,12 +41,6 @@ pub struct Parent<'a> {
     pub reach: Reach<'a>,
 }
 
-fn is_same(j: K3, k: K3) -> bool
-    ensures { IsTrue result → j ≡ k }
-{
-    j == k
-}
-
 /// Whether the structures have the same individuals and the same summaries.
 fn are_alike(s: &Structure, t: &Structure) -> bool
     ensures { IsTrue result → AreAlike s.now t.now }
@@ -62,7 +55,7 @@ fn has_same_value(s: &Structure, t: &Structure, p: PredId) -> bool
     requires other { HasArity t.now p.0 0 }
     ensures { IsTrue result → HasSameValues p.0 s.now t.now }
 {
-    is_same(s.get(p, Tuple::Zero), t.get(p, Tuple::Zero))
+    s.get(p, Tuple::Zero) == t.get(p, Tuple::Zero)
 }
 
 /// Whether the words have the same values.
@@ -70,10 +63,7 @@ fn has_same_value(s: &Structure, t: &Structure, p: PredId) -> bool
 fn are_equal(word: Word, other: Word) -> bool
     ensures { IsTrue result → word ≡ other }
 {
-    match word.compare(other) {
-        Ordering::Equal => true,
-        Ordering::Less | Ordering::Greater => false,
-    }
+    matches!(word.compare(other), Ordering::Equal)
 }
 
 /// Whether the unary predicate has the same values in both.
@@ -130,10 +120,7 @@ fn stands_in_none(closed: &Closed, p: PredId) -> bool
     ensures { IsTrue result → (k : ℕ) (rule : RuleForm) → slice_get (rules_of closed.now) k ≡ Some rule
         → ¬ StandsIn p.0 rule }
 {
-    match closed.by_pred(p) {
-        [] => true,
-        [_, ..] => false,
-    }
+    matches!(closed.by_pred(p), [])
 }
 
 /// The rules found so far, none at first.
@@ -162,10 +149,7 @@ fn with_changed(
         → WaitsAmong preds (rules_of x.now.closed.now) from.now s.now found
         → WaitsAmong (preds ++ p.0 ∷ []) (rules_of x.now.closed.now) from.now s.now more) }
 {
-    if stands_in_none(x.closed, p) {
-        return Ok(found);
-    }
-    if has_same_values(from, s, p) {
+    if stands_in_none(x.closed, p) || has_same_values(from, s, p) {
         return Ok(found);
     }
     let mut set = set_or_none(x, found)?;
