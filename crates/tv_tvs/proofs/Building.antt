@@ -1,5 +1,6 @@
 -- Putting entries one after the other.
-use Rattle.std.proofs.Common.{◌≡◌, ℕ, zero, suc, ◌+◌, ◌<◌, Bool, true, not, ◌&&◌, eqb, List, [], ◌∷◌, ◌++◌}
+use Rattle.std.proofs.Common.{◌≡◌, ℕ, zero, suc, ◌+◌, ◌<◌, ◌≤◌, Bool, true, not, ◌&&◌, eqb, List, [], ◌∷◌, ◌++◌}
+use Rattle.std.proofs.Common.{false, nat_lt, if◌then◌else◌}
 use Rattle.std.proofs.Common.{length, map, drop, get_or, Option, Some, None, Result, Ok, Err, refl, sym, ap}
 use Rattle.std.proofs.Common.{subst, ◌∙◌, arith, append_assoc}
 use Rattle.std.specs.Prelude.{is_some}
@@ -8,7 +9,7 @@ use Rattle.std.specs.Option.{option_map}
 use Rattle.std.proofs.lemmas.Bool.{and_parts, eqb-true, ne_eqb}
 use Rattle.tv_kleene.specs.declared.K3.{K3}
 use Rattle.tv_model.specs.declared.program.Pred.{Pred}
-use Rattle.tv_struct.specs.StructureForm.{StructureForm}
+use Rattle.tv_struct.specs.StructureForm.{StructureForm, structure_of_no}
 use Rattle.tv_tvs.specs.declared.build.Target.{Target}
 use Rattle.tv_tvs.specs.declared.build.Target.TheVariants.{Marks, Values}
 use Rattle.tv_tvs.specs.declared.error.TvsError.{TvsError}
@@ -21,7 +22,7 @@ use Rattle.tv_tvs.specs.declared.syntax.ContentText.TheVariants.{OneValue as One
 use Rattle.tv_tvs.specs.Tree.{ItemTree, EntryTree, StructTree}
 use Rattle.tv_tree.specs.Steps.{◌>>=◌}
 use Rattle.tv_tvs.specs.Meaning.{Subject, subject_arity, item_arity, fits, item_put, items_put, entry_put}
-use Rattle.tv_tvs.specs.Meaning.{entries_put, struct_meant, structs_meant, RefusesStructures}
+use Rattle.tv_tvs.specs.Meaning.{entries_put, struct_meant, structs_meant, RefusesStructures, all_different, blank}
 use Rattle.tv_tvs.specs.Targets.{subject_form, Has, HasPlace, KeepsFrame}
 use Rattle.tv_tvs.specs.Views.{text_arity, item_tree, item_trees, content_tree}
 use Rattle.tv_tvs.proofs.Twice.{drop_next}
@@ -152,3 +153,24 @@ module _ {X : Type 0} (preds : List Pred) (f : X → StructTree) (trees : List X
   structs_fail list e h =
       fails_bind e _ (λ ss. Ok (list ++ ss))
       (fails_along e _ _ structs_at (fails_bind e _ (λ s. structs_meant preds (map f (drop (i + 1) trees)) >>= λ ss. Ok (s ∷ ss)) h))
+
+-- ---- structures
+
+different-same : (names others : List (List ℕ)) → all_different names ≡ Ok others → others ≡ names
+different-same names others = grind (arith)
+
+not-over : (n : ℕ) → n ≤ 256 → nat_lt 256 n ≡ false
+not-over n = grind (arith)
+
+-- at most 256 individuals, all of them different: the entries decide
+pub entries-decide : (preds : List Pred) (t : StructTree) (names : List (List ℕ)) (n : ℕ) → length t.individuals ≡ n → n ≤ 256
+    → all_different t.individuals ≡ Ok names
+    → struct_meant preds t ≡ entries_put preds names (structure_of_no n (map (λ pred. pred.arity) preds)) t.entries
+entries-decide preds t names n size few different =
+    ap (λ b. if b then Err TooManyIndividuals
+    else (all_different t.individuals >>= λ others. entries_put preds others (blank preds others) t.entries))
+    (not-over (length t.individuals) (omega (arith, size, few)))
+    ∙ ap (λ found. found >>= λ others. entries_put preds others (blank preds others) t.entries) different
+    ∙ ap (λ others. entries_put preds names (structure_of_no (length others) (map (λ pred. pred.arity) preds)) t.entries)
+    (different-same t.individuals names different)
+    ∙ ap (λ m. entries_put preds names (structure_of_no m (map (λ pred. pred.arity) preds)) t.entries) size
