@@ -1,4 +1,5 @@
 use Rattle.std.proofs.Common.{◌∙◌, Result, Ok, Err, sym, subst}
+use Rattle.std.proofs.lemmas.Result.{err_from_is_err_and}
 use Rattle.std.specs.Prelude.{IfOk, IsErrAnd}
 use Rattle.tv_step_laws.specs.Transfer.{focus_places}
 use Rattle.tv_step.specs.Job.{action_in}
@@ -75,3 +76,8 @@ returns-in_err-found-clause-at_hand c =
     c.job.ensures.action coerces (not-ok (AreFocusedWithin p places start) _ answer c.from_residual-in_err-found.ensures.1)
     (handed-on (IsCauseOfFocus p places start) answer c.in_err-found.field-0.0 c.from_residual-in_err-found.ensures.1
     c.in_err-found.ensures.cause)
+
+pub returns-in_err-own_at_hand-clause-at_hand : goal.returns-in_err-own_at_hand-clause-at_hand
+returns-in_err-own_at_hand-clause-at_hand c =
+    let same = err_from_is_err_and c.from_residual-in_err-own_at_hand.result c.from_residual-in_err-own_at_hand.ensures.1
+    in rw (same.1, same.2) (record { are = λ _ _. tt; shaped = tt; cause = λ _ _. tt; })
