@@ -134,7 +134,7 @@ behind-first n part parts l later lt =
     in (
       omega (arith, lt, later, length-append (replicate part n) (copies_from (n + 1) parts), length-replicate part n),
       ap (λ k. get_or (replicate part n ++ copies_from (n + 1) parts) k 0) (sym place)
-      ∙ get_or-append-add (replicate part n) (copies_from (n + 1) parts) (l - part) 0,
+          ∙ get_or-append-add (replicate part n) (copies_from (n + 1) parts) (l - part) 0,
     )
 
 -- the numbers of copies begin at n

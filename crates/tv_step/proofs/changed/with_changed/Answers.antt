@@ -7,12 +7,13 @@ use Rattle.tv_step.proofs.changed.with_changed.Goals.{then-stands_in_none-via-el
 
 pub returns-then-stands_in_none : goal.returns-then-stands_in_none
 returns-then-stands_in_none c = λ preds before. elim c.then-stands_in_none.branch [
-    then-stands_in_none-via-then-stands_in_none w ↦
-        unruled-among preds c.args.p.0 (rules_of c.args.x.now.closed.now) c.args.from.now c.args.s.now c.args.found before
-        (c.stands_in_none.ensures w.if-stands_in_none.true)
-    | then-stands_in_none-via-else-stands_in_none+then-has_same_values w ↦
-        same-among preds c.args.p.0 (rules_of c.args.x.now.closed.now) c.args.from.now c.args.s.now c.args.found before
-        (w.has_same_values.ensures w.if-has_same_values.true) ]
+  | then-stands_in_none-via-then-stands_in_none w ↦
+      unruled-among preds c.args.p.0 (rules_of c.args.x.now.closed.now) c.args.from.now c.args.s.now c.args.found before
+      (c.stands_in_none.ensures w.if-stands_in_none.true)
+  | then-stands_in_none-via-else-stands_in_none+then-has_same_values w ↦
+      same-among preds c.args.p.0 (rules_of c.args.x.now.closed.now) c.args.from.now c.args.s.now c.args.found before
+      (w.has_same_values.ensures w.if-has_same_values.true)
+]
 
 pub add_pred-requires : goal.add_pred-requires
 add_pred-requires c = ap length c.in_ok-set.ensures ∙ c.requires.count

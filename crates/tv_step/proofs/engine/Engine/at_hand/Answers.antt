@@ -80,4 +80,4 @@ returns-in_err-found-clause-at_hand c =
 pub returns-in_err-own_at_hand-clause-at_hand : goal.returns-in_err-own_at_hand-clause-at_hand
 returns-in_err-own_at_hand-clause-at_hand c =
     let same = err_from_is_err_and c.from_residual-in_err-own_at_hand.result c.from_residual-in_err-own_at_hand.ensures.1
-    in rw (same.1, same.2) (record { are = λ _ _. tt; shaped = tt; cause = λ _ _. tt; })
+    in rw (same.1, same.2) (record { are = λ _ _. tt; shaped = tt; cause = λ _ _. tt })
