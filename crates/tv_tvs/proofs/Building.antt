@@ -1,6 +1,6 @@
 -- Putting entries one after the other.
-use Rattle.std.proofs.Common.{◌≡◌, ℕ, zero, suc, ◌+◌, ◌<◌, ◌≤◌, Bool, true, not, ◌&&◌, eqb, List, [], ◌∷◌, ◌++◌}
-use Rattle.std.proofs.Common.{false, nat_lt, if◌then◌else◌}
+use Rattle.std.proofs.Common.{◌≡◌, ℕ, zero, suc, ◌+◌, ◌<◌, ◌≤◌, Bool, true, false, not, ◌&&◌, eqb, nat_lt}
+use Rattle.std.proofs.Common.{if◌then◌else◌, List, [], ◌∷◌, ◌++◌}
 use Rattle.std.proofs.Common.{length, map, drop, get_or, Option, Some, None, Result, Ok, Err, refl, sym, ap}
 use Rattle.std.proofs.Common.{subst, ◌∙◌, arith, append_assoc}
 use Rattle.std.specs.Prelude.{is_some}
@@ -22,7 +22,8 @@ use Rattle.tv_tvs.specs.declared.syntax.ContentText.TheVariants.{OneValue as One
 use Rattle.tv_tvs.specs.Tree.{ItemTree, EntryTree, StructTree}
 use Rattle.tv_tree.specs.Steps.{◌>>=◌}
 use Rattle.tv_tvs.specs.Meaning.{Subject, subject_arity, item_arity, fits, item_put, items_put, entry_put}
-use Rattle.tv_tvs.specs.Meaning.{entries_put, struct_meant, structs_meant, RefusesStructures, all_different, blank}
+use Rattle.tv_tvs.specs.Meaning.{entries_put, struct_meant, structs_meant, RefusesStructures}
+use Rattle.tv_tvs.specs.Meaning.{all_different, blank}
 use Rattle.tv_tvs.specs.Targets.{subject_form, Has, HasPlace, KeepsFrame}
 use Rattle.tv_tvs.specs.Views.{text_arity, item_tree, item_trees, content_tree}
 use Rattle.tv_tvs.proofs.Twice.{drop_next}
