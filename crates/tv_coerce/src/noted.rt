@@ -47,7 +47,8 @@ fn count_of(change: Change, size: u32) -> usize {
 }
 
 impl Noted {
-    /// No changes, of a structure of that size.
+    /// No changes. The size, that of the structure, tells places of changes apart: a hint, of which nothing is
+    /// promised.
     pub fn new(alloc: Global, size: u32) -> Noted
         ensures { result.list.items ≡ [] }
     {

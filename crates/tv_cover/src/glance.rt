@@ -311,7 +311,7 @@ impl Glance {
         known
     }
 
-    /// Whether the same is said about two individuals.
+    /// Whether the same is said about two individuals: a hint, of which nothing is promised.
     pub fn has_repeats(&self) -> bool {
         let rows = self.unary.as_slice();
         for i in 0..rows.len() {

@@ -55,7 +55,7 @@ fn note(
     Ok(())
 }
 
-/// Whether the row is among these.
+/// True only where the row is among these.
 pub fn has_row(rows: &[Profile], row: &Profile) -> bool
     ensures { IsTrue result → Contains rows.now row.now }
 {
@@ -80,7 +80,7 @@ fn add_row(rows: &mut Vec<Profile>, row: Profile) -> Result<(), AllocError>
 }
 
 impl Noted {
-    /// No places; takes no memory.
+    /// No places; takes no memory. What is noted is a hint: of what is found by it nothing is promised here.
     pub fn new(alloc: Global) -> Noted {
         Noted {
             known: Vec::new(alloc),

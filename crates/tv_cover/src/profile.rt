@@ -77,7 +77,7 @@ impl Profile {
         true
     }
 
-    /// Whether the values are the same.
+    /// True only where the values are the same.
     pub fn equals(&self, other: &Profile) -> bool
         ensures { IsTrue result → self.now ≡ other.now }
     {

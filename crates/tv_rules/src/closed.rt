@@ -279,7 +279,7 @@ impl Closed {
         self.movers.by_change(head)
     }
 
-    /// The numbers of the closed rules of the mover's base rule.
+    /// Numbers of closed rules, among them each rule of the mover's base rule that it moves.
     pub fn family(&self, mover: Mover) -> &[usize]
         ensures those { (n : ℕ) → IsMoved self.now mover n → Contains result.now n }
         ensures within { All (λ n. n < length (rules_of self.now)) result.now }
@@ -287,8 +287,8 @@ impl Closed {
         numbers_at(self.families.as_slice(), mover.rule)
     }
 
-    /// Whether the rule, one of the mover's base rule, has a member that the mover moves: all but the one
-    /// that the rule's head denies.
+    /// False only where the rule, one of the mover's base rule, has no member that the mover moves, but for
+    /// the one that the rule's head denies. That it is true promises nothing.
     pub fn is_moved(&self, number: usize, mover: Mover) -> bool
         requires { number < length (rules_of self.now) }
         ensures { IsMoved self.now mover number → IsTrue result }
