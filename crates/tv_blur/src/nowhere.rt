@@ -9,7 +9,8 @@ use tv_kleene::K3;
 use tv_model::PredId;
 use tv_struct::Structure;
 
-/// Whether the unary predicate is `No` at each individual, as most are in a program of many variables.
+/// True only where the unary predicate is `No` at each individual, as most are in a program of many
+/// variables.
 pub fn is_nowhere(s: &Structure, p: PredId) -> bool
     requires { HasArity s.now p.0 1 }
     ensures { IsTrue result → (u : ℕ) → u < s.now.size → value_at s.now p.0 (u ∷ []) ≡ No }

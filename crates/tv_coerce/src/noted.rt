@@ -15,7 +15,7 @@ pub(crate) struct Noted {
     list: Vec<Change>,
     /// Which places of the predicate stand in the list; no flags as long as that is empty.
     seen: Vec<bool>,
-    /// How often a change was asked for, in turns of the count.
+    /// How often the rule asked for a change, in turns of the count.
     asked: usize,
     /// The number of the rule.
     number: usize,
@@ -47,8 +47,8 @@ fn count_of(change: Change, size: u32) -> usize {
 }
 
 impl Noted {
-    /// No changes. The size, that of the structure, tells places of changes apart: a hint, of which nothing is
-    /// promised.
+    /// No changes. The size, that of the structure, tells places of changes apart: a hint, of which nothing
+    /// is promised.
     pub fn new(alloc: Global, size: u32) -> Noted
         ensures { result.list.items ≡ [] }
     {
@@ -105,8 +105,8 @@ impl Noted {
         }
     }
 
-    /// How often a change was asked for, noted anew or not, in turns of the count: a hint, of which nothing
-    /// is promised.
+    /// How often the rule asked for a change, noted anew or not, in turns of the count: a hint, of which
+    /// nothing is promised.
     pub fn asked(&self) -> usize {
         self.asked
     }

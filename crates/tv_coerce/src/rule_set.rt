@@ -82,7 +82,8 @@ impl RuleSet {
         self.first = self.first.min(number);
     }
 
-    /// Takes the number out of the set, if it is there.
+    /// Takes the number out of the set, if it is there. What the set loses is no other number; that it loses
+    /// this one isn't promised.
     fn remove(&mut self, number: usize)
         requires { number < length self.old }
         ensures { HasFewer (λ n. n ≡ number) self.old self.new }
@@ -90,7 +91,7 @@ impl RuleSet {
         self.flags.put(number, false);
     }
 
-    /// Takes the numbers out of the set, those that are there.
+    /// Takes the numbers out of the set, those that are there: it loses no others.
     #[tactic(auto, using(crate::proofs::SetLaws::none_gone))]
     pub(crate) fn remove_all(&mut self, numbers: &[usize])
         requires { All (λ n. n < length self.old) numbers.now }

@@ -16,8 +16,8 @@ use tv_row::{Row, Word};
 use tv_struct::Structure;
 
 /// For the individuals from `64 * chunk` on, put for `w`, values that are `No` only where the formula's,
-/// negated for "for all", is `No` whatever the hidden variables stand for. They are those of its conjuncts
-/// (of its disjuncts for "for all") that have no hidden variable.
+/// negated for "for all", is `No` whatever the hidden variables stand for. Of its conjuncts (of its disjuncts
+/// for "for all") literals without a hidden variable count.
 pub fn cap_word(
     q: Quantifier,
     f: &Formula,

@@ -606,8 +606,8 @@ fn words_choice<'f>(
     then.or(otherwise)
 }
 
-/// The values of the body under the quantifier over `w`: the words of all individuals joined, until all
-/// values are known.
+/// The values of the body under the quantifier over `w`: the words of the individuals that nothing rules out
+/// joined, until all values are known; or value by value, where that is less.
 #[cycle(values)]
 #[inline(never)]
 fn quantified_word<'f>(

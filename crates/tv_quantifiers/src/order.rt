@@ -35,7 +35,7 @@ fn columns(f: &Formula, v: Var) -> usize {
     }
 }
 
-/// Whether at most one of the values isn't `No`.
+/// Whether at most one of the values isn't `No`: a hint, of which nothing is promised.
 pub fn has_few(caps: Word) -> bool {
     match caps.first_possible(0) {
         None => true,
@@ -44,7 +44,8 @@ pub fn has_few(caps: Word) -> bool {
 }
 
 /// Whether the quantifier over `w` takes longer with `v` put for all individuals at a time than one after the
-/// other: the first `count` values of `front` are those of `v`, and `caps` those of `w`.
+/// other: the first `count` values of `front` are those of `v`, and `caps` those of `w`. A hint, of which
+/// nothing is promised.
 pub fn is_slower(body: &Formula, v: Var, w: Var, front: Word, count: u32, caps: &Row) -> bool
     requires { count ≤ 64 }
 {

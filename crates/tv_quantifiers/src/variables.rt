@@ -45,7 +45,8 @@ impl Variables {
     }
 }
 
-/// Whether the formula is a literal without a variable of the set.
+/// Whether the formula is a literal without a variable of the set: true only where none of its free variables
+/// is in the set.
 #[inline(always)]
 pub fn is_literal_without(f: &Formula, set: &Variables) -> bool
     ensures { IsTrue result → (v : ℕ) → IsFree v (form_of f.now) → IsOutside set.now v }

@@ -1,7 +1,8 @@
 //! Truth values side by side, kept as two bits a value: whether it isn't `No`, and whether it is `Yes`.
 //!
 //! A [`Word`] has 64 values, a [`Row`] up to 256 by value, and [`PackedWords`] are a list of words, which
-//! hold the rows of a table, short ones side by side. Contracts see lists of values, and nothing of bits.
+//! hold the rows of a table, short ones side by side. Contracts see lists of values, and those of packed
+//! words which values share a word; none sees bits.
 #![tactic(auto)]
 
 mod bits;

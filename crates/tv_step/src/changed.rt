@@ -58,7 +58,7 @@ fn has_same_value(s: &Structure, t: &Structure, p: PredId) -> bool
     s.get(p, Tuple::Zero) == t.get(p, Tuple::Zero)
 }
 
-/// Whether the words have the same values.
+/// True only where the words have the same values.
 #[inline(always)]
 fn are_equal(word: Word, other: Word) -> bool
     ensures { IsTrue result → word ≡ other }

@@ -79,7 +79,7 @@ fn push_with(
     Ok(())
 }
 
-/// Whether all individuals stay.
+/// True only where all individuals stay.
 fn are_yes(values: &[K3]) -> bool
     ensures { IsTrue result → All (λ k. k ≡ Yes) values.now }
 {
