@@ -322,7 +322,8 @@ impl Glance {
         false
     }
 
-    /// Whether a structure that says this at a glance may embed in one that says the other.
+    /// False only where no structure that says this at a glance embeds in one that says the other. That it is
+    /// true promises nothing.
     pub fn may_embed(&self, above: &Glance) -> bool
         ensures { MayEmbed self.now above.now → IsTrue result }
     {
@@ -333,7 +334,7 @@ impl Glance {
     }
 
     /// The map that takes each individual to the only one about which more may be said, if there is one alone
-    /// for each.
+    /// for each. That there is none promises nothing.
     pub fn only_map(&self, alloc: Global, above: &Glance) -> Result<Option<Numbers>, AllocError>
         ensures { IfOk result (λ found. IfSome found (IsOnlyMap self.now above.now)) }
     {

@@ -60,7 +60,8 @@ impl Profile {
         self.row.set(place, k);
     }
 
-    /// Whether each of the first `64 * chunks` values lies under that of the other profile.
+    /// False only where some value doesn't lie under that of the other profile, of which the first
+    /// `64 * chunks` are compared. That it is true promises nothing.
     #[inline(always)]
     pub fn may_lie_under(&self, other: &Profile, chunks: u32) -> bool
         requires { chunks ≤ 4 }

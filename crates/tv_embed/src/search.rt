@@ -88,7 +88,8 @@ fn is_whole(small: &Structure, large: &Structure, images: &[u32]) -> bool
     is_onto(large, images)
 }
 
-/// Whether there are enough individuals left for those of `large` that are no images yet.
+/// False only where no embedding begins with the images, since fewer individuals are left than there are of
+/// `large` that are no images yet. That it is true promises nothing.
 pub fn may_reach_all(small: &Structure, large: &Structure, images: &[u32]) -> bool
     requires { length images.now ≤ small.now.size }
     ensures { OnFalse result (HasNoneWith small.now large.now images.now) }

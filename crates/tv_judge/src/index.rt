@@ -80,7 +80,8 @@ fn note_node(places: &mut PlacesBySignature, listing: &Listing, node: u32) -> Re
     Ok(())
 }
 
-/// The places of all listed structures, at the nodes below `nodes`.
+/// The places of listed structures by their signatures, at the nodes below `nodes`: a hint, of which nothing
+/// is promised, since what is found by it is compared.
 pub fn places_by_signature(
     alloc: Global,
     listing: &Listing,
