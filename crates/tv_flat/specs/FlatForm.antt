@@ -2,7 +2,7 @@
 use Rattle.std.specs.Prelude.{ℕ, ◌+◌, ◌<◌, ◌≤◌, ⊤, List, [], ◌∷◌, ◌++◌, Option, Some, None, length, map}
 use Rattle.std.specs.Prelude.{sum_by, All}
 use Rattle.tv_model.specs.Spelling.{IsWord, IsText}
-use Rattle.tv_tree.specs.Forms.{Form, FZero, FOne, FHalf, FSame, FDiffer, FAtom, FStar, FPlus, FParen, FNot}
+use Rattle.tv_tree.specs.Forms.{Form, FParen, FNot}
 use Rattle.tv_tree.specs.Forms.{FAnd, FOr, FImp, FIff, FCond, FExists, FForall, FTc, PredForm, Single}
 use Rattle.tv_tree.specs.Forms.{Foreach, Nests, no_nest, with_nest, UpdateForm, PieceForm, Quoted, PartForm}
 use Rattle.tv_tree.specs.Forms.{PCaption, PFocus, PPre, PMessage, PNew, PRetain, PBlock}
@@ -52,14 +52,6 @@ flat_of f =
 
 -- the nodes of a formula as it is written: each part of it counts one, a pair of parentheses too
 abbrev pub nodes : Form → ℕ
-nodes FZero = 1
-nodes FOne = 1
-nodes FHalf = 1
-nodes (FSame v w) = 1
-nodes (FDiffer v w) = 1
-nodes (FAtom n xs) = 1
-nodes (FStar n v w) = 1
-nodes (FPlus n v w) = 1
 nodes (FParen f) = 1 + nodes f
 nodes (FNot f) = 1 + nodes f
 nodes (FAnd f g) = 1 + nodes f + nodes g
@@ -70,6 +62,7 @@ nodes (FCond f g h) = 1 + nodes f + nodes g + nodes h
 nodes (FExists xs f) = 1 + nodes f
 nodes (FForall xs f) = 1 + nodes f
 nodes (FTc from to left right f) = 1 + nodes f
+nodes other = 1
 
 abbrev pub body_nodes : Option Form → ℕ
 body_nodes None = 0
@@ -89,22 +82,16 @@ block_sum f (with_nest (Foreach var members body) us) = block_sum f us
 
 -- each update of a block is an item, and each other part is one
 abbrev pub part_items : PartForm → ℕ
-part_items (PCaption ps) = 1
-part_items (PFocus fs) = 1
-part_items (PPre f) = 1
-part_items (PMessage f ps) = 1
-part_items PNew = 1
-part_items (PRetain f) = 1
 part_items (PBlock us) = block_sum (λ u. 1) us
+part_items other = 1
 
 abbrev pub part_nodes : PartForm → ℕ
-part_nodes (PCaption ps) = 0
 part_nodes (PFocus fs) = sum_by nodes fs
 part_nodes (PPre f) = nodes f
 part_nodes (PMessage f ps) = nodes f
-part_nodes PNew = 0
 part_nodes (PRetain f) = nodes f
 part_nodes (PBlock us) = block_sum (λ u. nodes u.body) us
+part_nodes other = 0
 
 abbrev pub item_count : FlatForm → ℕ
 item_count f = length f.preds + length f.rules + sum_by (sum_by part_items) f.actions + length f.edges

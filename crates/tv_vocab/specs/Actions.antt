@@ -5,7 +5,7 @@ use Rattle.std.specs.List.{list_any, flat_map}
 use Rattle.tv_tree.specs.Forms as tree
 use Rattle.tv_tree.specs.Names.{name_text}
 use Rattle.tv_tree.specs.Forms.{Nest, Nests, no_nest, with_nest, Single, Foreach, UpdateForm, PieceForm}
-use Rattle.tv_tree.specs.Forms.{Quoted, Spelled, PartForm, PCaption, PFocus, PPre, PMessage, PNew, PRetain}
+use Rattle.tv_tree.specs.Forms.{Quoted, Spelled, PartForm, PFocus, PPre, PMessage, PNew, PRetain}
 use Rattle.tv_tree.specs.Forms.{PBlock}
 use Rattle.tv_model.specs.Form.{Form}
 use Rattle.tv_model.specs.Program as model
@@ -27,42 +27,22 @@ use Rattle.tv_vocab.specs.Vocabulary.{twice, anywhere, over}
 abbrev pub focus_in : List PartForm → List tree.Form
 focus_in [] = []
 focus_in (PFocus fs ∷ parts) = fs
-focus_in (PCaption ps ∷ parts) = focus_in parts
-focus_in (PPre f ∷ parts) = focus_in parts
-focus_in (PMessage f ps ∷ parts) = focus_in parts
-focus_in (PNew ∷ parts) = focus_in parts
-focus_in (PRetain f ∷ parts) = focus_in parts
-focus_in (PBlock us ∷ parts) = focus_in parts
+focus_in (other ∷ parts) = focus_in parts
 
 abbrev pub pre_in : List PartForm → Option tree.Form
 pre_in [] = None
 pre_in (PPre f ∷ parts) = Some f
-pre_in (PCaption ps ∷ parts) = pre_in parts
-pre_in (PFocus fs ∷ parts) = pre_in parts
-pre_in (PMessage f ps ∷ parts) = pre_in parts
-pre_in (PNew ∷ parts) = pre_in parts
-pre_in (PRetain f ∷ parts) = pre_in parts
-pre_in (PBlock us ∷ parts) = pre_in parts
+pre_in (other ∷ parts) = pre_in parts
 
 abbrev pub retain_in : List PartForm → Option tree.Form
 retain_in [] = None
 retain_in (PRetain f ∷ parts) = Some f
-retain_in (PCaption ps ∷ parts) = retain_in parts
-retain_in (PFocus fs ∷ parts) = retain_in parts
-retain_in (PPre f ∷ parts) = retain_in parts
-retain_in (PMessage f ps ∷ parts) = retain_in parts
-retain_in (PNew ∷ parts) = retain_in parts
-retain_in (PBlock us ∷ parts) = retain_in parts
+retain_in (other ∷ parts) = retain_in parts
 
 abbrev pub adds_new : List PartForm → Bool
 adds_new [] = false
 adds_new (PNew ∷ parts) = true
-adds_new (PCaption ps ∷ parts) = adds_new parts
-adds_new (PFocus fs ∷ parts) = adds_new parts
-adds_new (PPre f ∷ parts) = adds_new parts
-adds_new (PMessage f ps ∷ parts) = adds_new parts
-adds_new (PRetain f ∷ parts) = adds_new parts
-adds_new (PBlock us ∷ parts) = adds_new parts
+adds_new (other ∷ parts) = adds_new parts
 
 abbrev pub nest_list : {X : Type 0} → Nests X → List (Nest X)
 nest_list no_nest = []
@@ -71,12 +51,7 @@ nest_list (with_nest d ds) = d ∷ nest_list ds
 abbrev pub updates_in : List PartForm → List (Nest UpdateForm)
 updates_in [] = []
 updates_in (PBlock us ∷ parts) = nest_list us
-updates_in (PCaption ps ∷ parts) = updates_in parts
-updates_in (PFocus fs ∷ parts) = updates_in parts
-updates_in (PPre f ∷ parts) = updates_in parts
-updates_in (PMessage f ps ∷ parts) = updates_in parts
-updates_in (PNew ∷ parts) = updates_in parts
-updates_in (PRetain f ∷ parts) = updates_in parts
+updates_in (other ∷ parts) = updates_in parts
 
 -- ---- focus and precondition
 
@@ -124,12 +99,7 @@ message symbols cond pieces = do
 
 abbrev pub with_part : List SymbolForm → List MessageForm → PartForm → OrRefused (List MessageForm)
 with_part symbols done (PMessage f ps) = message symbols f ps >>= λ m. Ok (done ++ m ∷ [])
-with_part symbols done (PCaption ps) = Ok done
-with_part symbols done (PFocus fs) = Ok done
-with_part symbols done (PPre f) = Ok done
-with_part symbols done PNew = Ok done
-with_part symbols done (PRetain f) = Ok done
-with_part symbols done (PBlock us) = Ok done
+with_part symbols done other = Ok done
 
 -- the messages, in the order of the text
 abbrev pub messages : List SymbolForm → List PartForm → OrRefused (List MessageForm)
@@ -163,24 +133,8 @@ updating symbols fresh vars picks =
     record { symbols = symbols; with_new = fresh; known = flagged (flags_of vars) picks; others = Never }
 
 abbrev pub is_half : tree.Form → Bool
-is_half tree.FZero = false
-is_half tree.FOne = false
 is_half tree.FHalf = true
-is_half (tree.FSame v w) = false
-is_half (tree.FDiffer v w) = false
-is_half (tree.FAtom n xs) = false
-is_half (tree.FStar n v w) = false
-is_half (tree.FPlus n v w) = false
-is_half (tree.FParen f) = false
-is_half (tree.FNot f) = false
-is_half (tree.FAnd f g) = false
-is_half (tree.FOr f g) = false
-is_half (tree.FImp f g) = false
-is_half (tree.FIff f g) = false
-is_half (tree.FCond f g h) = false
-is_half (tree.FExists xs f) = false
-is_half (tree.FForall xs f) = false
-is_half (tree.FTc from to left right f) = false
+is_half other = false
 
 abbrev pub is_updated : List model.UpdateForm → ℕ → Bool
 is_updated done pred = list_any (λ w. w.pred == pred) done

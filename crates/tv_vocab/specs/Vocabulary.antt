@@ -9,7 +9,7 @@ use Rattle.tv_tree.specs.declared.trees.PropWord.TheVariants.{Unique, Function, 
 use Rattle.tv_tree.specs.declared.trees.PropWord.TheVariants.{Transitive, Reflexive, Symmetric, Boxed}
 use Rattle.tv_tree.specs.declared.trees.PropWord.TheVariants.{Pointer}
 use Rattle.tv_model.specs.declared.program.Props.{Props}
-use Rattle.tv_model.specs.Form.{Form, FZero, FOne, FAtom, FIsNew, FSame, FNot, FAnd, FOr, FIff, FCond}
+use Rattle.tv_model.specs.Form.{Form, FZero, FAtom, FSame, FNot, FAnd, FOr, FIff, FCond}
 use Rattle.tv_model.specs.Form.{FExists, FForall, FClosure}
 use Rattle.tv_model.specs.Program.{PredForm, KindForm, KCore, KDefined, RuleForm, HeadForm, HNever, HAtom}
 use Rattle.tv_model.specs.Program.{no_props}
@@ -34,42 +34,28 @@ twice (x ∷ xs) = is_among xs x || twice xs
 -- the property may stand at this arity
 abbrev pub fits : ℕ → PropWord → Bool
 fits arity Unique = arity == 1
-fits arity Function = arity == 2
-fits arity Invfunction = arity == 2
-fits arity Transitive = arity == 2
-fits arity Reflexive = arity == 2
-fits arity Symmetric = arity == 2
 fits arity Abs = true
 fits arity Nonabs = true
 fits arity Boxed = true
 fits arity Pointer = true
+fits arity other = arity == 2
 
 abbrev pub with_prop : Props → PropWord → Props
 with_prop props Unique = record props { unique = true }
 with_prop props Function = record props { function = true }
 with_prop props Invfunction = record props { invfunction = true }
-with_prop props Abs = props
-with_prop props Nonabs = props
 with_prop props Transitive = record props { transitive = true }
 with_prop props Reflexive = record props { reflexive = true }
 with_prop props Symmetric = record props { symmetric = true }
-with_prop props Boxed = props
-with_prop props Pointer = props
+with_prop props other = props
 
 abbrev pub props_of : List PropWord → Props
 props_of words = fold with_prop no_props words
 
 abbrev pub abs_after : Bool → PropWord → Bool
-abs_after on Unique = on
-abs_after on Function = on
-abs_after on Invfunction = on
 abs_after on Abs = true
 abs_after on Nonabs = false
-abs_after on Transitive = on
-abs_after on Reflexive = on
-abs_after on Symmetric = on
-abs_after on Boxed = on
-abs_after on Pointer = on
+abs_after on other = on
 
 -- of `abs` and `nonabs` the last counts; without either, a predicate is one of abstraction
 abbrev pub abs_of : List PropWord → Bool
@@ -141,11 +127,7 @@ predicate symbols d = do
 
 -- the predicates that the atoms of a formula have, in reading order
 abbrev pub mentioned : Form → List ℕ
-mentioned FZero = []
-mentioned FOne = []
 mentioned (FAtom q vars) = q ∷ []
-mentioned (FIsNew v) = []
-mentioned (FSame v w) = []
 mentioned (FNot f) = mentioned f
 mentioned (FAnd f g) = mentioned f ++ mentioned g
 mentioned (FOr f g) = mentioned f ++ mentioned g
@@ -154,6 +136,7 @@ mentioned (FCond c f g) = mentioned c ++ mentioned f ++ mentioned g
 mentioned (FExists v f) = mentioned f
 mentioned (FForall v f) = mentioned f
 mentioned (FClosure from to left right f) = mentioned f
+mentioned other = []
 
 -- the predicates that a predicate's definition mentions
 abbrev pub mentioned_by : KindForm → List ℕ
