@@ -1,11 +1,11 @@
 -- A loop that answers false at the first element that fails, and else true.
 use Rattle.std.proofs.Common.{ℕ, ◌≡◌, ◌<◌, ◌≤◌, ◌+◌, ◌↔◌, List, length, get_or, All, IsTrue, true, false}
-use Rattle.std.proofs.Common.{Bool, refl, arith, subst, sym, [], ◌∷◌, map}
+use Rattle.std.proofs.Common.{Bool, refl, arith, subst, sym, map}
 use Rattle.std.specs.List.{AllWithin}
 use mathlib.Core.Bool.{beq}
 use Rattle.std.proofs.lemmas.Bool.{false≢true}
-use Rattle.std.proofs.lemmas.List.Elements.{All-nil, All-cons, All-head, All-tail, All-map, AllWithin-more}
-use Rattle.std.proofs.lemmas.List.Elements.{All-from_all_within, All-get_or, at_read}
+use Rattle.std.proofs.lemmas.List.Elements.{All-from_all_within, All-get_or, at_read, All-map, AllWithin-more}
+pub use Rattle.tv_lemmas.proofs.Lists.{All-mapped}
 
 pub every-more : {X : Type 0} (P : X → Type 0) (xs : List X) (i : ℕ) (x : X) → i < length xs → x ≡ get_or xs i x
     → AllWithin P xs 0 i → IsTrue true ↔ P x → AllWithin P xs 0 (i + 1)
@@ -31,12 +31,6 @@ same-answer P Q true true p q = (λ t. (λ x. q.0 refl, λ x. p.0 refl), λ s. r
 same-answer P Q true false p q = (λ f. absurd (false≢true f), λ s. q.1 (s.0 (p.0 refl)))
 same-answer P Q false true p q = (λ f. absurd (false≢true f), λ s. p.1 (s.1 (q.0 refl)))
 same-answer P Q false false p q = (λ t. (λ x. absurd (false≢true (p.1 x)), λ x. absurd (false≢true (q.1 x))), λ s. refl)
-
--- what holds of each mapped element holds of each element so mapped
-pub All-mapped : {X Y : Type 0} (P : Y → Type 0) (f : X → Y) (xs : List X) → All P (map f xs) → All (λ x. P (f x)) xs
-All-mapped P f [] all = All-nil (λ x. P (f x))
-All-mapped P f (x ∷ xs) all =
-    All-cons (λ y. P (f y)) x xs (All-head P (f x) (map f xs) all) (All-mapped P f xs (All-tail P (f x) (map f xs) all))
 
 pub mapped-answer : {X Y : Type 0} (P : Y → Type 0) (f : X → Y) (xs : List X) (b : Bool)
     → IsTrue b ↔ All (λ x. P (f x)) xs → IsTrue b ↔ All P (map f xs)

@@ -1,5 +1,5 @@
 -- A formula with arguments put in has as many nodes, and mentions no other predicates.
-use Rattle.std.proofs.Common.{ℕ, ◌≡◌, ◌∙◌, ◌⊎◌, ◌+◌, ◌≤◌, Bool, true, false, Option, Some, None, inl}
+use Rattle.std.proofs.Common.{ℕ, ◌≡◌, ◌∙◌, ◌⊎◌, ◌+◌, ◌≤◌, Bool, true, false, Some, inl}
 use Rattle.std.proofs.Common.{inr, ⊎_elim, refl, ap, arith}
 use Rattle.std.specs.Prelude.{IfSome, ◌&&◌, nat_le, option_map, option_and_then}
 use Rattle.std.proofs.lemmas.Bool.{leb-true}
@@ -9,14 +9,11 @@ use Rattle.tv_delta_laws.specs.Simple.{nodes, is_small}
 use Rattle.tv_delta_laws.specs.Putting.{Arguments, Reserved, put_in, bound_number, under_bound, with_own}
 use Rattle.tv_delta_laws.specs.Putting.{argument_for, option_both}
 use Rattle.tv_delta_laws.proofs.Options.{if-mapped, if-bound, if-both, if-some}
+use Rattle.tv_lemmas.proofs.Options.{IfSome-any}
 
 pub record IsLike (f g : Form) : Type 0 where
   pub nodes_same : nodes g ≡ nodes f
   pub mentions_same : (q : ℕ) → Mentions q g → Mentions q f
-
-any-some : {X : Type 0} (o : Option X) → IfSome o (λ x. Unit {0})
-any-some None = tt
-any-some (Some x) = tt
 
 like-two : (f g x y : Form) → IsLike f x → IsLike g y
     → (nodes x + nodes y ≡ nodes f + nodes g) × ((q : ℕ) → Mentions q x ⊎ Mentions q y → Mentions q f ⊎ Mentions q g)
@@ -68,14 +65,14 @@ put_like r (FCond c f g) m =
 put_like r (FExists v f) m =
     if-bound (λ w. Unit {0}) (IsLike (FExists v f))
     (λ w. option_map (λ g. FExists w g) (put_in r f (under_bound m v w f))) (bound_number r m v f)
-    (any-some (bound_number r m v f))
+    (IfSome-any (bound_number r m v f))
     (λ w t. if-mapped (IsLike f) (IsLike (FExists v f)) (λ g. FExists w g) (put_in r f (under_bound m v w f))
     (put_like r f (under_bound m v w f))
     (λ g is. record { nodes_same = ap (λ n. n + 1) is.nodes_same; mentions_same = is.mentions_same }))
 put_like r (FForall v f) m =
     if-bound (λ w. Unit {0}) (IsLike (FForall v f))
     (λ w. option_map (λ g. FForall w g) (put_in r f (under_bound m v w f))) (bound_number r m v f)
-    (any-some (bound_number r m v f))
+    (IfSome-any (bound_number r m v f))
     (λ w t. if-mapped (IsLike f) (IsLike (FForall v f)) (λ g. FForall w g) (put_in r f (under_bound m v w f))
     (put_like r f (under_bound m v w f))
     (λ g is. record { nodes_same = ap (λ n. n + 1) is.nodes_same; mentions_same = is.mentions_same }))
@@ -85,12 +82,12 @@ put_like r (FClosure from to left right f) m =
     (put_in r f (under_bound (under_bound m left l (FExists right f)) right k f)))
     (bound_number (with_own r l) (under_bound m left l (FExists right f)) right f))
     (bound_number r m left (FExists right f))
-    (any-some (bound_number r m left (FExists right f)))
+    (IfSome-any (bound_number r m left (FExists right f)))
     (λ l t. if-bound (λ k. Unit {0}) (IsLike (FClosure from to left right f))
     (λ k. option_map (λ g. FClosure (argument_for m from) (argument_for m to) l k g)
     (put_in r f (under_bound (under_bound m left l (FExists right f)) right k f)))
     (bound_number (with_own r l) (under_bound m left l (FExists right f)) right f)
-    (any-some (bound_number (with_own r l) (under_bound m left l (FExists right f)) right f))
+    (IfSome-any (bound_number (with_own r l) (under_bound m left l (FExists right f)) right f))
     (λ k u. if-mapped (IsLike f) (IsLike (FClosure from to left right f))
     (λ g. FClosure (argument_for m from) (argument_for m to) l k g)
     (put_in r f (under_bound (under_bound m left l (FExists right f)) right k f))

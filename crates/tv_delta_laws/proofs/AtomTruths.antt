@@ -33,6 +33,7 @@ use Rattle.tv_delta_laws.proofs.FormulaTruths.{TellsAtoms, delta-of_tells}
 use Rattle.tv_delta_laws.proofs.StepTruths.{StillStep, same-individuals, tuple-old, by-definition}
 use Rattle.tv_delta_laws.proofs.StepTruths.{unflagged-stays, untouched-alike, change_by, still-change}
 use Rattle.tv_delta_laws.proofs.StepTruths.{arguments-fit, arity-of_atom, set-tells}
+use Rattle.tv_lemmas.proofs.Options.{IfSome-any}
 
 -- the definition of a predicate of a valid program
 pub its-kind : (p : ProgramForm) → IsValid p → (q : ℕ) (d : PredForm) (vars : List ℕ) (body : Form)
@@ -376,10 +377,6 @@ updates_tell_the_truth decided p action affected q d vars body own f picked old 
         in subst At (sym t.0)
         (formed-tells p action picked old new affected t.1 marked q d vars body found defined tuple fits)
 
-any-value : {X : Type 0} (o : Option X) → IfSome o (λ x. Unit {0})
-any-value None = tt
-any-value (Some x) = tt
-
 pub or-evaluate_by : (Q : Answer → Type 0) → Q DEvaluate → (o : Option Answer) → IfSome o Q → Q (or_evaluate o)
 or-evaluate_by Q evaluates None is = evaluates
 or-evaluate_by Q evaluates (Some x) is = is
@@ -396,8 +393,8 @@ formed-by Q evaluates updates p action affected q vars body =
     in let inner : List ℕ → Option Answer = λ own. option_and_then (λ e. Some (update_by q own e)) (opened own)
     in or-evaluate_by Q evaluates (option_and_then inner (own_variables action.picks used vars))
     (if-bound (λ own. Unit {0}) Q inner (own_variables action.picks used vars)
-    (any-value (own_variables action.picks used vars))
-    (λ own t. if-bound (λ e. Unit {0}) Q (λ e. Some (update_by q own e)) (opened own) (any-value (opened own))
+    (IfSome-any (own_variables action.picks used vars))
+    (λ own t. if-bound (λ e. Unit {0}) Q (λ e. Some (update_by q own e)) (opened own) (IfSome-any (opened own))
     (λ e u. cond_both (is_small (simple_cond (FAtom q own) (simple_not e.down) e.up))
     (DTo own (simple_cond (FAtom q own) (simple_not e.down) e.up)) DEvaluate Q
     (λ small. updates own (simple_cond (FAtom q own) (simple_not e.down) e.up)) (λ large. evaluates))))

@@ -1,5 +1,5 @@
 -- The differenced program: its updates, and its runs.
-use Rattle.std.proofs.Common.{ℕ, ◌≡◌, ◌↔◌, ◌∙◌, ◌+◌, Bool, true, false, zero, suc, List, [], ◌∷◌, filter}
+use Rattle.std.proofs.Common.{ℕ, ◌≡◌, ◌↔◌, ◌∙◌, ◌+◌, Bool, true, false, suc, List, [], ◌∷◌, filter}
 use Rattle.std.proofs.Common.{Option, Some, None, ⊎_elim, refl, sym, ap, subst, cond, eqb, arith, Contains}
 use Rattle.std.specs.Prelude.{slice_get}
 use Rattle.std.specs.List.{AllZip, find}
@@ -31,6 +31,8 @@ use Rattle.tv_delta_laws.specs.Laws.{RunsAreDifferenced}
 use Rattle.tv_delta_laws.proofs.Options.{find-passes}
 use Rattle.tv_delta_laws.proofs.StepTruths.{by-definition}
 use Rattle.tv_delta_laws.proofs.AtomTruths.{Decided, updates_tell_the_truth}
+use Rattle.tv_lemmas.proofs.Options.{or_none}
+use Rattle.tv_lemmas.proofs.Zips.{zip_partner}
 
 -- ---- updates that differencing makes
 
@@ -117,10 +119,6 @@ find-filtered {X} test keep (x ∷ xs) kept =
     go false fails true e later = cond-false (test x) (Some x) (find test (filter keep xs)) fails ∙ later
     go false fails false e later = later
 
-or-none : {X : Type 0} (o : Option X) → option_or o None ≡ o
-or-none None = refl
-or-none (Some x) = refl
-
 core-kind : (k : KindForm) → is_core_kind k ≡ true → k ≡ KCore
 core-kind KCore e = refl
 core-kind (KDefined vars body) e = absurd (false≢true e)
@@ -134,7 +132,7 @@ core-update_stays p action affected q d found core =
     in find-append test (filter keep action.updates) (answers_from p action affected 0 p.preds)
     ∙ ap (λ o. option_or (find test (filter keep action.updates)) o)
     (find-none test (answers_from p action affected 0 p.preds) (λ w at. no_answer w (answers-at p action affected 0 p.preds w at)))
-    ∙ or-none (find test (filter keep action.updates))
+    ∙ or_none (find test (filter keep action.updates))
     ∙ find-filtered test keep action.updates kept
   where
     kept : (w : UpdateForm) → eqb w.pred q ≡ true → is_core_pred (slice_get p.preds w.pred) ≡ true
@@ -241,23 +239,12 @@ given-agrees decided p actions action affected picked old middle new valid among
         = by-definition p new step.concrete q d vars body found kind tuple fits
         in (λ t. tells.1 (holds.0 t), λ t. holds.1 (tells.0 t))
 
--- the partner of an element at a place
-all-zip_at : {X Y : Type 0} (R : X → Y → Type 0) (xs : List X) (ys : List Y) → AllZip R xs ys → (i : ℕ) (x : X)
-    → slice_get xs i ≡ Some x → (y : Y) × (slice_get ys i ≡ Some y) × R x y
-all-zip_at R [] ys zipped i x found = absurd (cc found)
-all-zip_at R (x ∷ xs) [] zipped i z found = absurd zipped
-all-zip_at {X} {Y} R (x ∷ xs) (y ∷ ys) zipped zero z found =
-    let same : x ≡ z = cc found
-    in let At : X → Type 0 = λ u. R u y
-    in (y, refl, subst At same zipped.0)
-all-zip_at R (x ∷ xs) (y ∷ ys) zipped (suc i) z found = all-zip_at R xs ys zipped.1 i z found
-
 fair-step_stays : Decided → (p : ProgramForm) (actions : List ActionForm) → IsValid p
     → AllZip (IsDifferencedAction p) p.actions actions → (edge : Edge) (old new : Heap) → IsConcrete p old
     → FairStep p Recompute edge old new → FairStep (with_actions p actions) Given edge old new
 fair-step_stays decided p actions valid zipped edge old new concrete is =
     let partner : (b : ActionForm) × (slice_get actions edge.action ≡ Some b) × IsDifferencedAction p is.action b
-    = all-zip_at (IsDifferencedAction p) p.actions actions zipped edge.action is.action is.its_action
+    = zip_partner (IsDifferencedAction p) p.actions actions zipped edge.action is.action is.its_action
     in let affected : List Bool = partner.2.0
     in let marked : AreAffected p is.action affected = partner.2.1
     in let At : ActionForm → Type 0 = λ b. slice_get actions edge.action ≡ Some b

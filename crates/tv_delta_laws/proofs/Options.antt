@@ -1,11 +1,12 @@
 -- Lemmas on optional values and on tests of numbers.
-use Rattle.std.proofs.Common.{ℕ, ◌≡◌, ◌<◌, ◌+◌, Bool, true, false, not, zero, suc, List, [], ◌∷◌, Option}
+use Rattle.std.proofs.Common.{ℕ, ◌≡◌, ◌<◌, ◌+◌, Bool, true, false, not, List, [], ◌∷◌, Option}
 use Rattle.std.proofs.Common.{Some, None, ⊎_elim, refl, subst, cond, eqb, eq-eqb, arith, Contains}
 use Rattle.std.specs.Prelude.{IfSome, option_map, option_and_then}
 use Rattle.std.specs.List.{find, range_with_len}
 use Rattle.std.proofs.lemmas.Bool.{or_left, or_right, both_ways, eqb-true, or_cases, not-true}
 use Rattle.tv_model.proofs.Lists.{Contains-here, Contains-there, Contains-none, Contains-cases}
 use Rattle.tv_delta_laws.specs.Putting.{has, least_slot, option_both}
+use Rattle.tv_lemmas.proofs.Lists.{range_below}
 
 pub if-mapped : {X Y : Type 0} (P : X → Type 0) (Q : Y → Type 0) (f : X → Y) (o : Option X) → IfSome o P
     → ((x : X) → P x → Q (f x)) → IfSome (option_map f o) Q
@@ -68,19 +69,11 @@ find-passes {X} test (y ∷ ys) x e = go (test y) refl e (λ there. find-passes 
     go false fails found later =
         let rest : (test x ≡ true) × Contains ys x = later found in (rest.0, Contains-there y x ys rest.1)
 
-range-below : (a n x : ℕ) → Contains (range_with_len a n) x → x < a + n
-range-below a zero x at = absurd (Contains-none x at)
-range-below a (suc n) x at =
-    ⊎_elim
-    (λ e. omega (arith, e))
-    (λ there. let below : x < (a + 1) + n = range-below (a + 1) n x there in omega (arith, below))
-    (Contains-cases a x (range_with_len (a + 1) n) at)
-
 -- the slot is one of the 32, and not in use
 pub least-slot_free : (used : List ℕ) (s : ℕ) → least_slot used ≡ Some s → (¬ Contains used s) × (s < 32)
 unfolding least_slot
 least-slot_free used s e =
     let found : (not (has used s) ≡ true) × Contains (range_with_len 0 32) s
     = find-passes (λ s. not (has used s)) (range_with_len 0 32) s e
-    in let below : s < 0 + 32 = range-below 0 32 s found.1
+    in let below : s < 0 + 32 = range_below 0 32 s found.1
     in (has-not used s (not-true (has used s) found.0), omega (arith, below))

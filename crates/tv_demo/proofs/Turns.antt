@@ -1,6 +1,7 @@
 -- Texts that grow by one part after the other.
 use Rattle.std.proofs.Common.{◌≡◌, ◌∙◌, ℕ, ◌+◌, List, ◌++◌, refl, sym, ap, append_assoc, add-one, codes}
 use Rattle.std.proofs.Common.{Result, Ok, Err, OnOk, is_ok, if◌then◌else◌}
+use Rattle.std.proofs.lemmas.Result.{on_ok_weaker}
 use Rattle.tv_demo.specs.Texts.{numbered, variables_text, walk_text, walks_text}
 
 -- one part more behind what was appended
@@ -14,6 +15,15 @@ module _ {X : Type 0} where
       → new ≡ (if is_ok r then old ++ part else old) → OnOk r (new ≡ old ++ part)
   last_part (Ok x) old part new is = is
   last_part (Err e) old part new is = tt
+
+  -- three parts one behind the other, and a last one
+  pub three_parts : {T E : Type 0} (r : Result T E) (a b c last out one two three new : List X)
+      → one ≡ out ++ a → two ≡ one ++ b → three ≡ two ++ c
+      → new ≡ (if is_ok r then three ++ last else three) → OnOk r (new ≡ out ++ (((a ++ b) ++ c) ++ last))
+  three_parts r a b c last out one two three new first second third is =
+      on_ok_weaker r
+      (more ((a ++ b) ++ c) last out three new (more (a ++ b) c out two three (more a b out one two first second) third))
+      (last_part r three last new is)
 
 -- where one part more makes the text of one number more
 pub one_more : (whole part : ℕ → List ℕ) → ((i : ℕ) → whole (i + 1) ≡ whole i ++ part i)

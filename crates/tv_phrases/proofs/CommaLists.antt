@@ -3,15 +3,12 @@ use Rattle.std.proofs.Common.{◌≡◌, List, [], ◌∷◌, ◌++◌, Bool, tr
 use Rattle.std.proofs.Common.{refl, sym, ◌∙◌, ap, append_assoc, map}
 use Rattle.std.specs.Prelude.{codes}
 use Rattle.std.specs.Str.{bytes_eq}
+use Rattle.std.proofs.lemmas.List.{append-nil}
 use Rattle.tv_lex.specs.Token.{SpecToken}
 use Rattle.tv_phrases.proofs.Values.{same_value, same_rest}
 use Rattle.tv_phrases.specs.Reading.{Reading, ◌>>=◌, taken}
 use Rattle.tv_phrases.specs.Tokens.{after, first}
 use Rattle.tv_phrases.specs.Lists.{with_front, items_from}
-
-append_nil : {X : Type 0} (xs : List X) → xs ++ [] ≡ xs
-append_nil [] = refl
-append_nil (x ∷ xs) = ap (λ ys. x ∷ ys) (append_nil xs)
 
 front_front : {X : Type 0} (xs : List X) (x : X) (read : Reading (List X)) → with_front xs (with_front (x ∷ []) read) ≡ with_front (xs ++ x ∷ []) read
 unfolding with_front
@@ -67,8 +64,8 @@ items_gone_on item (t ∷ ts) us read = rw read (ap (λ vs. items_from item true
 
 pub no_more_items : {X : Type 0} (item : SpecToken → Option X) (xs : List X) (ts : List SpecToken) → after (codes ",") ts ≡ None → with_front xs (items_from item false ts) ≡ Some (xs, ts)
 unfolding items_from with_front
-no_more_items item xs [] none = ap (λ ys. Some (ys, [])) (append_nil xs)
-no_more_items item xs (t ∷ ts) none = rw none (ap (λ ys. Some (ys, t ∷ ts)) (append_nil xs))
+no_more_items item xs [] none = ap (λ ys. Some (ys, [])) (append-nil xs)
+no_more_items item xs (t ∷ ts) none = rw none (ap (λ ys. Some (ys, t ∷ ts)) (append-nil xs))
 
 pub more_items : {X : Type 0} (item : SpecToken → Option X) (xs : List X) (ts us vs : List SpecToken) (x : X) → after (codes ",") ts ≡ Some us → first item us ≡ Some (x, vs) → with_front xs (items_from item false ts) ≡ with_front (xs ++ x ∷ []) (items_from item false vs)
 more_items item xs ts us vs x comma read = ap (with_front xs) (items_gone_on item ts us comma ∙ items_begun item us vs x read) ∙ front_front xs x (items_from item false vs)

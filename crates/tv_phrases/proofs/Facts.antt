@@ -8,8 +8,9 @@ use Rattle.tv_lex.specs.Token.{SpecToken}
 use Rattle.tv_phrases.specs.Reading.{◌>>=◌, choose, taken}
 use Rattle.tv_phrases.specs.Tokens.{after, first, is_word, is_identifier, identifier_item}
 use Rattle.tv_phrases.specs.Lists.{comma_list, between, params, variables, optional_brackets, name, pair}
-use Rattle.std.proofs.lemmas.Option.{same_Some}
+use Rattle.std.proofs.lemmas.Bool.{false_from_ne_true}
 use Rattle.tv_phrases.proofs.Takes.{after_takes, first_takes, params_take, variables_take, pair_takes}
+pub use Rattle.tv_lemmas.proofs.Options.{IfSome-value as at_some}
 use Rattle.tv_phrases.proofs.Takes.{name_takes}
 
 -- ---- tools over readings
@@ -39,11 +40,6 @@ pub on_all : {A : Type 0} (o : Option A) (Q : A → Type 0) → ((x : A) → Q x
 on_all None Q h = tt
 on_all (Some x) Q h = h x
 
--- what holds of the value of a reading
-pub at_some : {A : Type 0} (o : Option A) (P : A → Type 0) (x : A) → IfSome o P → o ≡ Some x → P x
-at_some None P x p e = absurd (cc)
-at_some (Some y) P x p e = subst P (same_Some y x e) p
-
 -- ---- one token
 
 if_true : {B : Type 0} (b : Bool) (x : B) (y : B) → (if b then Some x else None) ≡ Some y → b ≡ true
@@ -66,17 +62,13 @@ item_true : (b : Bool) (w : List ℕ) (ts us : List SpecToken) (x : List ℕ) �
 item_true true w ts us x e = refl
 item_true false w ts us x e = cc
 
-false_unless : (b : Bool) → (b ≡ true → ⊥) → b ≡ false
-false_unless true h = absurd (h refl)
-false_unless false h = refl
-
 -- an identifier is spelled like no mark that isn't an identifier
 pub not_identifier : (k : List ℕ) (w : List ℕ) (ts us : List SpecToken) → is_identifier k ≡ false → first identifier_item ts ≡ taken w us → after k ts ≡ None
 unfolding after first
 not_identifier k w [] us unlike is = refl
 not_identifier k w (t ∷ ts) us unlike is =
     let named : is_identifier t.bytes ≡ true = and_right (is_word t.kind) (is_identifier t.bytes) (item_true (is_word t.kind && is_identifier t.bytes) t.bytes ts us w is) in
-    let other : bytes_eq t.bytes k ≡ false = false_unless (bytes_eq t.bytes k) (λ e. let same : t.bytes ≡ k = (bytes_eq-Decides t.bytes k).0 e in let both : is_identifier k ≡ true = subst (λ (z : List ℕ). is_identifier z ≡ true) same named in cc) in
+    let other : bytes_eq t.bytes k ≡ false = false_from_ne_true (bytes_eq t.bytes k) (λ e. let same : t.bytes ≡ k = (bytes_eq-Decides t.bytes k).0 e in let both : is_identifier k ≡ true = subst (λ (z : List ℕ). is_identifier z ≡ true) same named in cc) in
     rw other refl
 
 -- ---- names

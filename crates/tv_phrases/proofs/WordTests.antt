@@ -1,5 +1,5 @@
 -- The test of identifiers, on words, says what an identifier is.
-use Rattle.std.proofs.Common.{◌≡◌, ℕ, zero, suc, ◌<◌, ◌≤◌, List, [], ◌∷◌, Bool, true, false, length, refl}
+use Rattle.std.proofs.Common.{◌≡◌, ℕ, zero, suc, ◌<◌, ◌≤◌, List, [], ◌∷◌, true, false, length, refl}
 use Rattle.std.proofs.Common.{sym, subst, inl, inr, arith}
 use Rattle.std.specs.Prelude.{codes, ◌⊎◌, ◌↔◌, ◌||◌, ◌==◌, not, slice_index, Contains}
 use Rattle.std.specs.Int.{is_in_range}
@@ -7,7 +7,7 @@ use Rattle.std.specs.Char.{is_ascii_alphanumeric}
 use Rattle.std.specs.List.{list_all, slice_index_or}
 use Rattle.std.specs.Str.{bytes_eq}
 use Rattle.std.proofs.lemmas.Bool.{and_parts, and_from, or_cases, cases_Bool, leb-true, le-leb, eqb-true}
-use Rattle.std.proofs.lemmas.Bool.{eq-eqb, both_ways, not-true, not_from_false}
+use Rattle.std.proofs.lemmas.Bool.{eq-eqb, both_ways, not-true, not_from_false, or_left, or_right}
 use Rattle.std.proofs.lemmas.List.Folds.{list_all_at}
 use Rattle.std.proofs.lemmas.Slice.Eq.{bytes_eq-Decides}
 use Rattle.tv_lex.specs.Bytes.{is_word_byte, is_letter}
@@ -67,32 +67,24 @@ identifier_is w run e =
 from_range : (lo hi b : ℕ) → lo ≤ b → b ≤ hi → is_in_range lo hi b ≡ true
 from_range lo hi b low high = and_from _ _ (le-leb lo b low) (le-leb b hi high)
 
-first_holds : (a b : Bool) → a ≡ true → (a || b) ≡ true
-first_holds true b e = refl
-first_holds false b e = cc
-
-second_holds : (a b : Bool) → b ≡ true → (a || b) ≡ true
-second_holds true b e = refl
-second_holds false b e = e
-
 from_letter : (b : ℕ) → IsLetter b → is_letter b ≡ true
-from_letter b (inl h) = first_holds (is_in_range 65 90 b) (is_in_range 97 122 b) (from_range 65 90 b h.0 h.1)
-from_letter b (inr h) = second_holds (is_in_range 65 90 b) (is_in_range 97 122 b) (from_range 97 122 b h.0 h.1)
+from_letter b (inl h) = or_left (is_in_range 65 90 b) (is_in_range 97 122 b) (from_range 65 90 b h.0 h.1)
+from_letter b (inr h) = or_right (is_in_range 65 90 b) (is_in_range 97 122 b) (from_range 97 122 b h.0 h.1)
 
 from_word_byte : (b : ℕ) → IsLetter b ⊎ IsDigit b ⊎ (b ≡ 95) → is_word_byte b ≡ true
-from_word_byte b (inl (inl h)) = first_holds (is_ascii_alphanumeric b) (b == 95) (first_holds (is_in_range 48 57 b || is_in_range 65 90 b) (is_in_range 97 122 b) (second_holds (is_in_range 48 57 b) (is_in_range 65 90 b) (from_range 65 90 b h.0 h.1)))
-from_word_byte b (inl (inr h)) = first_holds (is_ascii_alphanumeric b) (b == 95) (second_holds (is_in_range 48 57 b || is_in_range 65 90 b) (is_in_range 97 122 b) (from_range 97 122 b h.0 h.1))
-from_word_byte b (inr (inl h)) = first_holds (is_ascii_alphanumeric b) (b == 95) (first_holds (is_in_range 48 57 b || is_in_range 65 90 b) (is_in_range 97 122 b) (first_holds (is_in_range 48 57 b) (is_in_range 65 90 b) (from_range 48 57 b h.0 h.1)))
-from_word_byte b (inr (inr h)) = second_holds (is_ascii_alphanumeric b) (b == 95) (eq-eqb b 95 h)
+from_word_byte b (inl (inl h)) = or_left (is_ascii_alphanumeric b) (b == 95) (or_left (is_in_range 48 57 b || is_in_range 65 90 b) (is_in_range 97 122 b) (or_right (is_in_range 48 57 b) (is_in_range 65 90 b) (from_range 65 90 b h.0 h.1)))
+from_word_byte b (inl (inr h)) = or_left (is_ascii_alphanumeric b) (b == 95) (or_right (is_in_range 48 57 b || is_in_range 65 90 b) (is_in_range 97 122 b) (from_range 97 122 b h.0 h.1))
+from_word_byte b (inr (inl h)) = or_left (is_ascii_alphanumeric b) (b == 95) (or_left (is_in_range 48 57 b || is_in_range 65 90 b) (is_in_range 97 122 b) (or_left (is_in_range 48 57 b) (is_in_range 65 90 b) (from_range 48 57 b h.0 h.1)))
+from_word_byte b (inr (inr h)) = or_right (is_ascii_alphanumeric b) (b == 95) (eq-eqb b 95 h)
 
 bytes_pass : (w : List ℕ) → ((k d : ℕ) → k < length w → IsLetter (slice_index_or w k d) ⊎ IsDigit (slice_index_or w k d) ⊎ (slice_index_or w k d ≡ 95)) → list_all is_word_byte w ≡ true
 bytes_pass [] all = refl
 bytes_pass (b ∷ bs) all = and_from (is_word_byte b) (list_all is_word_byte bs) (from_word_byte b (all 0 b (omega arith))) (bytes_pass bs (λ k d below. all (suc k) d (omega (arith, below))))
 
 name_begins : (b : ℕ) → IsLetter b ⊎ IsDigit b ⊎ (b ≡ 95) → ¬ IsDigit b → (is_letter b || b == 95) ≡ true
-name_begins b (inl h) none = first_holds (is_letter b) (b == 95) (from_letter b h)
+name_begins b (inl h) none = or_left (is_letter b) (b == 95) (from_letter b h)
 name_begins b (inr (inl h)) none = absurd (none h)
-name_begins b (inr (inr h)) none = second_holds (is_letter b) (b == 95) (eq-eqb b 95 h)
+name_begins b (inr (inr h)) none = or_right (is_letter b) (b == 95) (eq-eqb b 95 h)
 
 among : (w : List ℕ) → is_reserved w ≡ true → Contains reserved_words w
 among w e = elim (or_cases _ (bytes_eq w (codes "in")) e) [

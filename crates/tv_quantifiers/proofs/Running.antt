@@ -1,11 +1,10 @@
 -- A run goes on from the innermost quantifier outwards.
-use Rattle.std.proofs.Common.{ℕ, zero, suc, ◌≡◌, ◌≤◌, ◌<◌, ◌+◌, ◌-◌, ◌*◌, ◌⊎◌, ⊎_elim, List, [], ◌∷◌, refl}
 use Rattle.std.proofs.Common.{ap, sym, subst, ◌∙◌}
-use Rattle.std.proofs.Common.{arith}
+use Rattle.std.proofs.Common.{arith, ℕ, suc, ◌≡◌, ◌≤◌, ◌<◌, ◌+◌, ◌-◌, ◌*◌, ◌⊎◌, ⊎_elim, List, [], ◌∷◌, refl}
 use Rattle.std.proofs.Math.Nat.{suc-mul}
 use Rattle.std.specs.List.{range_with_len}
 use Rattle.tv_kleene.specs.declared.K3.{K3}
-use Rattle.tv_kleene.specs.declared.K3.TheVariants.{No, Half, Yes}
+use Rattle.tv_kleene.specs.declared.K3.TheVariants.{Yes}
 use Rattle.tv_kleene.specs.Kleene.{larger_of}
 use Rattle.tv_model.specs.Form.{Form}
 use Rattle.tv_model.specs.Truth.{Assignment, put}
@@ -13,23 +12,10 @@ use Rattle.tv_embedding_laws.specs.LogicalStructure.{LogicalStructure}
 use Rattle.tv_eval_laws.specs.Value.{value, greatest_of}
 use Rattle.tv_quantifiers.specs.declared.runs.Level.{Level}
 use Rattle.tv_quantifiers.specs.declared.quantifier.Quantifier.{Quantifier}
-use Rattle.tv_quantifiers.specs.Quantified.{quantified, turned}
+use Rattle.tv_quantifiers.specs.Quantified.{turned}
 use Rattle.tv_quantifiers.specs.Runs.{AreFresh, AreWithin, under_run, placed, owed, turns, left}
 use Rattle.tv_quantifiers.proofs.Quantifying.{quantified-value}
-
-larger-assoc : (x y z : K3) → larger_of (larger_of x y) z ≡ larger_of x (larger_of y z)
-larger-assoc No y z = refl
-larger-assoc Yes y z = refl
-larger-assoc Half No z = refl
-larger-assoc Half Half No = refl
-larger-assoc Half Half Half = refl
-larger-assoc Half Half Yes = refl
-larger-assoc Half Yes z = refl
-
-larger-none : (x : K3) → larger_of x No ≡ x
-larger-none No = refl
-larger-none Half = refl
-larger-none Yes = refl
+use Rattle.tv_kleene.proofs.Lattice.{larger-assoc, larger-no}
 
 range-front : (k n : ℕ) → k < n → range_with_len k (n - k) ≡ k ∷ range_with_len (k + 1) (n - (k + 1))
 range-front k n lt = let e : n - k ≡ suc (n - (k + 1)) = omega arith in rw e refl
@@ -48,7 +34,7 @@ known q found here g at size why = ap (turned q) (⊎_elim
     (λ yes. sym (larger-assoc found here (behind at)) ∙ ap (λ k. larger_of k (behind at)) yes ∙ sym yes)
     (λ last. let none : size - (at + 1) ≡ 0 = omega arith
     in ap (λ k. larger_of found (larger_of here (greatest_of g (range_with_len (at + 1) k)))) none
-    ∙ ap (larger_of found) (larger-none here)) why)
+    ∙ ap (larger_of found) (larger-no here)) why)
   where
     behind : ℕ → K3
     behind u = greatest_of g (range_with_len (u + 1) (size - (u + 1)))

@@ -4,7 +4,7 @@ use Rattle.std.proofs.Common.{slice_get, All, Contains, inl, inr, ⊎_elim, refl
 use Rattle.std.specs.Option.{option_map}
 use Rattle.std.proofs.lemmas.Bool.{cases_eq}
 use Rattle.std.proofs.lemmas.List.Elements.{All-nil, All-cons, All-head, All-tail}
-use Rattle.std.proofs.lemmas.Option.{slice_get-map}
+use Rattle.std.proofs.lemmas.Option.{slice_get-map, none-some, same_Some}
 use Rattle.tv_model.specs.Form.{Form, IsFree}
 use Rattle.tv_model.specs.Heap.{Heap, Holds, extent}
 use Rattle.tv_model.specs.Truth.{Assignment, Truth, put, put_all}
@@ -12,12 +12,6 @@ use Rattle.tv_model.proofs.Assignments.{put-same, put-other, put-matched, map-im
 use Rattle.tv_model.proofs.Lists.{Contains-cases, Contains-none, Contains-map, Contains-map_back}
 use Rattle.tv_model.proofs.Truths.{Matched, Truth-matched}
 use Rattle.tv_renaming_laws.specs.Renamed.{renamed, IsRenaming}
-
-some-same : {X : Type 0} (x y : X) → Some x ≡ Some y → x ≡ y
-some-same x y e = cc
-
-none-some : {X : Type 0} (x : X) → None ≡ Some x → ⊥
-none-some x e = cc
 
 -- ---- lists
 
@@ -94,8 +88,8 @@ holds-back r s is h q ws =
 marks-renamed : (r s : ℕ → ℕ) → IsRenaming r s → (fresh : Option ℕ) (u w : ℕ) → w ≡ r u → (fresh ≡ Some u) ↔ (option_map r fresh ≡ Some w)
 marks-renamed r s is None u w e = (λ t. absurd (none-some u t), λ t. absurd (none-some w t))
 marks-renamed r s is (Some x) u w e = (
-  λ t. ap Some (ap r (some-same x u t) ∙ sym e),
-  λ t. ap Some (sym (is.back x) ∙ ap s (some-same (r x) w t ∙ e) ∙ is.back u),
+  λ t. ap Some (ap r (same_Some x u t) ∙ sym e),
+  λ t. ap Some (sym (is.back x) ∙ ap s (same_Some (r x) w t ∙ e) ∙ is.back u),
 )
 
 matched : (r s : ℕ → ℕ) → IsRenaming r s → (h : Heap) → Matched (λ q. Unit {0}) (Unit {0}) (λ u w. w ≡ r u) h (renamed r h)
