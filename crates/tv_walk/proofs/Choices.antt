@@ -1,6 +1,6 @@
 -- What holds of all choices that begin so, and what comes of them.
 use Rattle.std.proofs.Common.{ℕ, ◌≡◌, List, [], ◌∷◌, ◌++◌, length, get_or, inl, refl, sym, ap, subst, ◌∙◌}
-use Rattle.std.proofs.Common.{append_assoc}
+use Rattle.std.proofs.Common.{append_assoc, zero, suc, ◌<◌, arith}
 use Rattle.std.specs.Prelude.{Result, Ok, Err, OnOk, is_ok, if◌then◌else◌}
 use Rattle.std.specs.List.{flat_map, AllByRecursion}
 use Rattle.std.proofs.lemmas.List.{append-nil}
@@ -44,6 +44,18 @@ pub last-set : (begun : ChoiceForm) (set : VectorSet) (choice : ChoiceForm) → 
     → get_or choice (length begun) [] ≡ set
 last-set begun set choice begins =
     ap (λ all. get_or all (length begun) []) begins.1 ∙ at-end begun set begins.0
+
+begun-set : (begun tail : ChoiceForm) (k : ℕ) → k < length begun → get_or (begun ++ tail) k [] ≡ get_or begun k []
+begun-set [] tail k lt = absurd (omega (arith, lt))
+begun-set (set ∷ begun) tail zero lt = refl
+begun-set (set ∷ begun) tail (suc k) lt = begun-set begun tail k (omega (arith, lt))
+
+-- a set of those that it begins with
+pub earlier-set : (begun : ChoiceForm) (set : VectorSet) (choice : ChoiceForm) (k : ℕ) → k < length begun
+    → Begins (begun ++ set ∷ []) choice → get_or choice k [] ≡ get_or begun k []
+earlier-set begun set choice k lt begins =
+    ap (λ all. get_or all k []) (begins.1 ∙ append_assoc begun (set ∷ []) begins.0)
+    ∙ begun-set begun (set ∷ begins.0) k lt
 
 -- ---- what comes of them
 

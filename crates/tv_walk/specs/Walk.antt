@@ -1,5 +1,5 @@
 -- What a walk through the choices of a stage knows.
-use Rattle.std.specs.Prelude.{ℕ, ◌≡◌, ◌++◌, List, [], length, All, Any, Contains, IsTrue, slice_index_or}
+use Rattle.std.specs.Prelude.{ℕ, ◌≡◌, ◌<◌, ◌+◌, ◌++◌, List, [], length, All, Any, Contains, IsTrue, slice_index_or}
 use Rattle.std.specs.List.{AllByRecursion}
 use Rattle.tv_kleene.specs.declared.K3.{K3}
 use Rattle.tv_model.specs.Program.{ProgramForm, RuleForm, program_of}
@@ -82,6 +82,13 @@ IsRefuted w choice =
 -- the structure has the other definite value where one of the vector's is
 abbrev pub HasOther : (c : StructureForm) → (pred : ℕ) → AimForm → (u : ℕ) → List K3 → Type 0
 HasOther c pred aim u vector = Any (IsOther c pred) (writes_at aim u vector)
+
+-- one of the individuals from the number `at` on is given such a vector
+pub record HasOtherInOne (c : StructureForm) (pred : ℕ) (aim : AimForm) (at : ℕ) (choice : ChoiceForm)
+    : Type 0 where
+  pub place : ℕ
+  pub inside : place < length choice
+  pub other : Any (HasOther c pred aim (at + place)) (slice_index_or choice place [])
 
 -- whatever is stable below such a choice embeds in d too
 abbrev pub LeadsTo : Walk → (c : StructureForm) → (u : ℕ) → VectorSet → (d : StructureForm) → Type 0

@@ -10,6 +10,7 @@ ghost use Rattle.tv_focus.specs.Puts.{AreChosen, IsChoiceOf, chosen_tables};
 ghost use Rattle.tv_walk.specs.Walk.{AddsCoerced, CanWalk, IsAbove, IsAtHand, IsHand, walk_aim};
 ghost use Rattle.tv_walk.specs.Walk.{walk_pred, walk_program, walk_table};
 
+use crate::apart::are_apart;
 use crate::fits::has_choice;
 use crate::narrow::{Outlook, look_ahead, pred_rules};
 use std::alloc::{AllocError, Global};
@@ -206,16 +207,52 @@ fn walk_with(
                 structure: &d,
                 is_stable: false,
             };
-            walk_on(w, hand, u, set, rest, choice, scratch, out)
+            walk_narrowed(w, hand, u, set, rest, choice, scratch, out)
         }
         Outlook::Below(d) => {
             let hand = Hand {
                 structure: &d,
                 is_stable: true,
             };
-            walk_on(w, hand, u, set, rest, choice, scratch, out)
+            walk_narrowed(w, hand, u, set, rest, choice, scratch, out)
         }
     }
+}
+
+/// The same, where the structure at hand is another than before: it may contradict an earlier set.
+#[cycle(walk_sets)]
+fn walk_narrowed(
+    w: &Walk,
+    hand: Hand<'_>,
+    u: u32,
+    set: &[Vector],
+    rest: &[Sets],
+    choice: &mut Vec<VectorSet>,
+    scratch: &mut Scratch,
+    out: &mut Structures,
+) -> Result<(), AllocError>
+    requires can { CanWalk w.now scratch.old }
+    requires hand { IsHand w.now hand }
+    requires place { u ≡ length choice.old.items }
+    requires places { u + (length rest.now + 1) ≡ hand.structure.now.size }
+    requires choices { AreChosen (IsAbove w.now hand.structure.now)
+        (choice.old.items ++ set.now ∷ []) rest.now }
+    ensures out { OnOk result (AddsCoerced w.now
+        (chosen_tables (walk_table w.now) (choice.old.items ++ set.now ∷ []) rest.now) out.old out.new) }
+    ensures choice { OnOk result (choice.new.items ≡ choice.old.items) }
+    ensures scratch { scratch.new ≡ scratch.old }
+{
+    let _ = hand.structure.size();
+    if are_apart(
+        hand.structure,
+        w.choosing.pred,
+        &w.choosing.aim,
+        0,
+        choice.as_slice(),
+    ) {
+        return Ok(());
+    }
+    walk_on(w, hand, u, set, rest, choice, scratch, out)
 }
 
 /// The same, where whatever is stable below one of them embeds in it.

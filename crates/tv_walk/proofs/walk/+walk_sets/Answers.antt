@@ -7,9 +7,10 @@ use Rattle.tv_focus_laws.specs.Choices.{ChoiceForm, VectorSet}
 use Rattle.tv_focus.specs.Puts.{AreChosen, chosen_tables}
 use Rattle.tv_step_laws.specs.Parts.{AreFrom}
 use Rattle.tv_step_laws.specs.Transfer.{Coerces}
-use Rattle.tv_walk.specs.Walk.{AddsCoerced, CanWalk, Foretells, IsAbove, walk_program}
-use Rattle.tv_walk.specs.Walk.{walk_table}
+use Rattle.tv_walk.specs.Walk.{AddsCoerced, CanWalk, Foretells, HasOtherInOne, IsAbove, walk_aim}
+use Rattle.tv_walk.specs.Walk.{walk_pred, walk_program, walk_table}
 use Rattle.tv_walk.proofs.Choices.{adds-none, leads-above, nothing-adds, one-more}
+use Rattle.tv_walk.proofs.Earlier.{earlier-adds}
 use Rattle.tv_walk.proofs.walk.+walk_sets.Goals as goal
 
 none : {X : Type 0} (xs : List X) → length xs < 1 → xs ≡ []
@@ -84,8 +85,8 @@ walk_with-returns-in-Nothing-clause-out t c =
     c.requires.place c.requires.choices
     (subst (Foretells w c.args.hand.structure.now c.args.u c.args.set.now) c.in-Nothing.is c.in_ok-look_ahead.ensures.outlook)
 
-pub walk_with-walk_on-requires-in-Put : goal.walk_with-walk_on-requires-in-Put
-walk_with-walk_on-requires-in-Put t c =
+pub walk_with-walk_narrowed-requires : goal.walk_with-walk_narrowed-requires
+walk_with-walk_narrowed-requires t c =
     let w = c.args.w.now
     in let foretells
     = subst (Foretells w c.args.hand.structure.now c.args.u c.args.set.now) c.in-Put.is
@@ -108,8 +109,8 @@ walk_with-walk_on-requires-in-Put t c =
       ),
     )
 
-pub walk_with-walk_on-requires-in-Below : goal.walk_with-walk_on-requires-in-Below
-walk_with-walk_on-requires-in-Below t c =
+pub walk_with-walk_narrowed-requires-in-Below : goal.walk_with-walk_narrowed-requires-in-Below
+walk_with-walk_narrowed-requires-in-Below t c =
     let w = c.args.w.now
     in let foretells
     = subst (Foretells w c.args.hand.structure.now c.args.u c.args.set.now) c.in-Below.is
@@ -131,3 +132,12 @@ walk_with-walk_on-requires-in-Below t c =
         ),
       ),
     )
+
+pub walk_narrowed-returns-then-are_apart-clause-out : goal.walk_narrowed-returns-then-are_apart-clause-out
+walk_narrowed-returns-then-are_apart-clause-out t c =
+    let w = c.args.w.now
+    in earlier-adds w c.args.scratch.now c.args.hand.structure.now c.args.set.now c.args.rest.now
+    c.args.choice.now.items c.args.out.now c.requires.can c.requires.hand.0
+    (omega (arith, c.requires.place, c.requires.places)) c.requires.choices
+    (subst (HasOtherInOne c.args.hand.structure.now (walk_pred w) (walk_aim w) 0) c.as_slice.ensures.value
+    (c.are_apart.ensures c.if-are_apart.true))
