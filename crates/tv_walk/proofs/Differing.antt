@@ -1,17 +1,16 @@
--- Values that differ: of one alone, of the first of several, and of one behind it; sets with such a vector.
-use Rattle.std.proofs.Common.{ℕ, suc, ◌≡◌, ◌≢◌, ◌≤◌, ◌+◌, List, [], ◌∷◌, length, get_or, refl, sym, subst}
+-- Values that differ: of one alone, of the first of several, and of one behind it.
+use Rattle.std.proofs.Common.{ℕ, suc, ◌≡◌, ◌≢◌, ◌≤◌, List, [], ◌∷◌, length, get_or, refl, sym, subst}
 use Rattle.std.proofs.Common.{◌∙◌, arith}
 use Rattle.std.specs.Prelude.{Any}
 use Rattle.std.specs.List.{between}
-use Rattle.std.proofs.lemmas.List.{get_or_default}
 use Rattle.std.proofs.lemmas.Slice.{first_rest}
 use Rattle.tv_kleene.specs.declared.K3.{K3}
 use Rattle.tv_kleene.specs.declared.K3.TheVariants.{No, Half}
 use Rattle.tv_struct.specs.StructureForm.{StructureForm, value_at}
-use Rattle.tv_focus_laws.specs.Choices.{AimForm, Alone, ChoiceForm, VectorSet}
+use Rattle.tv_focus_laws.specs.Choices.{Alone}
 use Rattle.tv_focus_laws.specs.Written.{vector_writes}
 use Rattle.tv_focus_step_laws.specs.Above.{IsOther}
-use Rattle.tv_walk.specs.Walk.{HasOther, HasOtherInOne}
+use Rattle.tv_walk.specs.Walk.{HasOther}
 
 any-here : {X : Type 0} (P : X → Type 0) (x : X) (xs : List X) → P x → Any P (x ∷ xs)
 any-here P x xs holds = (0, x, omega arith, refl, holds)
@@ -62,30 +61,3 @@ later-apart c pred tuple anchors vector d e some_anchors some_values later =
     (sym (first_rest vector e (omega (arith, some_values))))
     (any-there (IsOther c pred) (record { tuple = tuple (get_or anchors 0 d); value = get_or vector 0 e })
     (vector_writes tuple (between 1 (length anchors) anchors) (between 1 (length vector) vector)) later))
-
--- ---- sets
-
-pub first-set-apart : (c : StructureForm) (pred : ℕ) (aim : AimForm) (at : ℕ) (choice : ChoiceForm) (d : VectorSet)
-    → 1 ≤ length choice → Any (HasOther c pred aim at) (get_or choice 0 d) → HasOtherInOne c pred aim at choice
-first-set-apart c pred aim at choice d some other = record {
-  place = 0;
-  inside = omega (arith, some);
-  other = subst (λ set. Any (HasOther c pred aim (at + 0)) set)
-      (get_or_default choice 0 d [] (omega (arith, some)))
-      (subst (λ n. Any (HasOther c pred aim n) (get_or choice 0 d)) (omega arith) other);
-}
-
-behind : (c : StructureForm) (pred : ℕ) (aim : AimForm) (at : ℕ) (set : VectorSet) (choice : ChoiceForm)
-    → HasOtherInOne c pred aim (at + 1) choice → HasOtherInOne c pred aim at (set ∷ choice)
-behind c pred aim at set choice later = record {
-  place = suc later.place;
-  inside = omega (arith, later.inside);
-  other = subst (λ n. Any (HasOther c pred aim n) (get_or choice later.place [])) (omega arith) later.other;
-}
-
-pub later-set-apart : (c : StructureForm) (pred : ℕ) (aim : AimForm) (at : ℕ) (choice : ChoiceForm) (d : VectorSet)
-    → 1 ≤ length choice → HasOtherInOne c pred aim (at + 1) (between 1 (length choice) choice)
-    → HasOtherInOne c pred aim at choice
-later-set-apart c pred aim at choice d some later =
-    subst (HasOtherInOne c pred aim at) (sym (first_rest choice d (omega (arith, some))))
-    (behind c pred aim at (get_or choice 0 d) (between 1 (length choice) choice) later)

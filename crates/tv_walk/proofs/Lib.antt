@@ -2,6 +2,9 @@ mod Beginning
 mod Choices
 mod Coercing
 mod Differing
-mod Earlier
 mod Foretelling
+mod Looking
 mod Passing
+mod Ready
+mod Signs
+mod Splits

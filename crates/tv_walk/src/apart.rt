@@ -1,16 +1,15 @@
 //! Vectors that contradict a structure.
 
-ghost use Rattle.std.specs.Prelude.{[], ◌∷◌, ◌<◌, ◌≤◌, ◌+◌, ◌≡◌, ◌≢◌, length, Some, All, Any, IsTrue};
-ghost use Rattle.std.specs.Prelude.{slice_get};
+ghost use Rattle.std.specs.Prelude.{[], ◌∷◌, ◌<◌, ◌≡◌, ◌≢◌, Some, All, Any, IsTrue, slice_get};
 ghost use Rattle.tv_kleene.specs.declared.K3.TheVariants.{Half};
 ghost use Rattle.tv_struct.specs.StructureForm.{arities_of};
 ghost use Rattle.tv_focus_laws.specs.Written.{vector_writes};
 ghost use Rattle.tv_focus.specs.Anchored.{IsAimOver};
 ghost use Rattle.tv_focus.specs.Seen.{aim_of};
 ghost use Rattle.tv_focus_step_laws.specs.Above.{IsOther, writes_at};
-ghost use Rattle.tv_walk.specs.Walk.{HasOther, HasOtherInOne};
+ghost use Rattle.tv_walk.specs.Walk.{HasOther};
 
-use tv_focus::{Aim, Vector, VectorSet};
+use tv_focus::{Aim, Vector};
 use tv_kleene::K3;
 use tv_model::PredId;
 use tv_struct::{Structure, Tuple};
@@ -81,20 +80,5 @@ pub fn is_one_apart(c: &Structure, p: PredId, aim: &Aim, u: u32, set: &[Vector])
     match set {
         [] => false,
         [vector, rest @ ..] => is_apart(c, p, aim, u, vector) || is_one_apart(c, p, aim, u, rest),
-    }
-}
-
-/// Whether this is so of one of the vectors of the individuals from `u` on.
-pub fn are_apart(c: &Structure, p: PredId, aim: &Aim, u: u32, choice: &[VectorSet]) -> bool
-    requires aim { IsAimOver c.now p.0 (aim_of aim.now) }
-    requires individuals { u + length choice.now ≤ c.now.size }
-    ensures { IsTrue result → HasOtherInOne c.now p.0 (aim_of aim.now) u choice.now }
-{
-    let _ = c.size();
-    match choice {
-        [] => false,
-        [set, rest @ ..] => {
-            is_one_apart(c, p, aim, u, set.as_slice()) || are_apart(c, p, aim, u + 1, rest)
-        }
     }
 }

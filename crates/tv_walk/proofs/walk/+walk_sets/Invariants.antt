@@ -6,13 +6,10 @@ abbrev pub decreases-walk_sets : goal.decreases-walk_sets
 decreases-walk_sets l = 73786976294838206464 * length l.sets.now
 
 abbrev pub decreases-walk_one : goal.decreases-walk_one
-decreases-walk_one l = 73786976294838206464 * length l.rest.now + (2 * length l.first.now + 4)
+decreases-walk_one l = 73786976294838206464 * length l.rest.now + (2 * length l.first.now + 3)
 
 abbrev pub decreases-walk_with : goal.decreases-walk_with
-decreases-walk_with l = 73786976294838206464 * length l.rest.now + 3
-
-abbrev pub decreases-walk_narrowed : goal.decreases-walk_narrowed
-decreases-walk_narrowed l = 73786976294838206464 * length l.rest.now + 2
+decreases-walk_with l = 73786976294838206464 * length l.rest.now + 2
 
 abbrev pub decreases-walk_on : goal.decreases-walk_on
 decreases-walk_on l = 73786976294838206464 * length l.rest.now + 1
