@@ -168,7 +168,7 @@ impl RuleSet {
     }
 
     /// Puts at least the rules into the set that see what a rule with this head may change, and maybe others.
-    pub(crate) fn add_watching(&mut self, closed: &Closed, head: Head)
+    pub fn add_watching(&mut self, closed: &Closed, head: Head)
         requires { length self.old ≡ length (rules_of closed.now) }
         ensures { HasAtLeast (IsRuleThat (Sees (head_of head)) (rules_of closed.now)) self.old self.new }
     {

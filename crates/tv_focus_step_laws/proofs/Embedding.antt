@@ -11,7 +11,6 @@ use Rattle.tv_kleene.specs.declared.K3.TheVariants.{No}
 use Rattle.tv_kleene.specs.Kleene.{LiesUnder}
 use Rattle.tv_embedding_laws.specs.LogicalStructure.{LogicalStructure}
 use Rattle.tv_embedding_laws.specs.Embedding.{Embeds}
-use Rattle.tv_embedding_laws.proofs.EmbeddingLaws.{EmbedsOn-compose}
 use Rattle.tv_struct.specs.StructureForm.{StructureForm, value_at, summary_at, structure_of}
 use Rattle.tv_struct.specs.StructureForm.{arities_of}
 use Rattle.tv_struct.proofs.Library.{AreIndividuals-range, Contains-range, below-range, fits_or_No}
@@ -23,7 +22,7 @@ use Rattle.tv_focus_laws.specs.Exact.{Sharpens, IsVector, IsVectorSet, ListsAreE
 use Rattle.tv_focus_laws.specs.Tables.{ShowsOver}
 use Rattle.tv_focus_laws.specs.Written.{chosen_table}
 use Rattle.tv_focus_laws.proofs.ChosenTables.{Copies, copies-are, chosen_tables_show}
-use Rattle.tv_focus_step_laws.specs.Above.{IsAim, IsSmallChoice, StructuresLieAbove, origin_in}
+use Rattle.tv_focus_step_laws.specs.Above.{IsAim, IsSmallChoice, origin_in}
 use Rattle.tv_focus_step_laws.proofs.Copies.{IsOfSet, copies-of_sets, copies-inside}
 
 -- ---- values
@@ -47,7 +46,7 @@ AreVectors l pred aim ms =
     (i : ℕ) → i < length ms
     → IsVector (map (l.value pred) (aimed aim (member_at ms i).origin)) (member_at ms i).vector
 
-focused-under : (l : LogicalStructure) (pred : ℕ) (aim : AimForm) (ms : List MemberForm)
+pub focused-under : (l : LogicalStructure) (pred : ℕ) (aim : AimForm) (ms : List MemberForm)
     → AreVectors l pred aim ms → (tuple : List ℕ) → All (λ i. i < length ms) tuple
     → LiesUnder (focused_value l pred aim ms tuple) (l.value pred (map (λ x. (member_at ms x).origin) tuple))
 focused-under l pred Alone ms vectors [] all = inl refl
@@ -90,7 +89,7 @@ chosen-under l pred aim choice vectors q tuple all =
 
 -- ---- the copies
 
-vectors-are : ListsAreExact → (l : LogicalStructure) (pred : ℕ) (aim : AimForm) (choice : ChoiceForm)
+pub vectors-are : ListsAreExact → (l : LogicalStructure) (pred : ℕ) (aim : AimForm) (choice : ChoiceForm)
     → Contains (choices l pred aim) choice → AreVectors l pred aim (members l.individuals choice)
 vectors-are exact l pred aim choice at i lt =
     let Q : ℕ → VectorSet → Type 0 = λ u set. IsVectorSet (l.is_summary u) (map (l.value pred) (aimed aim u)) set
@@ -162,8 +161,3 @@ choice-embeds exact s pred aim choice is of = record {
             (record { arity = fits; individuals = AreIndividuals-range t.size tuple all })))
             (chosen-under (structure_of s) pred aim choice (vectors-are exact (structure_of s) pred aim choice of.listed)
             q tuple (λ k d lt. below (get_or tuple k d) (all k d lt)))
-
-pub structures_lie_above : ListsAreExact → StructuresLieAbove
-structures_lie_above exact rules s pred aim choice is of u below stable =
-    EmbedsOn-compose (λ pred. Unit {0}) (λ x. x) (origin_in s choice) u
-    (structure_of (chosen_table s pred aim choice)) (structure_of s) below.1 (choice-embeds exact s pred aim choice is of)

@@ -7,6 +7,6 @@
 mod laws;
 
 pub use laws::{
-    fitting_vectors_stay_below, made_coerce_alike, sharpened_lie_above, structures_lie_above,
-    vectors_narrow, vectors_refute,
+    ordinaries_refute, sharpened_lead, singles_lead, splits_lead, structures_lead, vectors_lead,
+    vectors_refute, whole_coerce_alike,
 };

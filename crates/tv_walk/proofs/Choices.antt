@@ -1,23 +1,21 @@
 -- What holds of all choices that begin so, and what comes of them.
-use Rattle.std.proofs.Common.{ℕ, ◌≡◌, List, [], ◌∷◌, ◌++◌, length, get_or, inl, refl, sym, ap, subst, ◌∙◌}
+use Rattle.std.proofs.Common.{◌≡◌, ◌≤◌, List, [], ◌∷◌, ◌++◌, length, inl, refl, sym, ap, subst, ◌∙◌, arith}
+use Rattle.std.proofs.Common.{All}
 use Rattle.std.proofs.Common.{append_assoc}
 use Rattle.std.specs.Prelude.{Result, Ok, Err, OnOk, is_ok, if◌then◌else◌}
 use Rattle.std.specs.List.{flat_map, AllByRecursion}
 use Rattle.std.proofs.lemmas.List.{append-nil}
+use Rattle.std.proofs.lemmas.List.Elements.{All-head, All-tail}
 use Rattle.tv_struct.specs.StructureForm.{StructureForm}
 use Rattle.tv_focus_laws.specs.Choices.{ChoiceForm, VectorSet}
 use Rattle.tv_focus.specs.Puts.{AreChosen, chosen_tables}
+use Rattle.tv_focus_step_laws.specs.Above.{IsBegun}
 use Rattle.tv_step_laws.specs.Parts.{AreFrom}
 use Rattle.tv_step_laws.specs.Transfer.{Coerces}
 use Rattle.tv_walk.specs.declared.walk.Walk.{Walk}
-use Rattle.tv_walk.specs.declared.narrow.Outlook.TheVariants.{Nothing}
-use Rattle.tv_walk.specs.Walk.{AddsCoerced, Foretells, IsAbove, IsRefuted, LeadsTo, walk_program, walk_table}
+use Rattle.tv_walk.specs.Walk.{AddsCoerced, AreRefuted, IsAbove, IsRefuted, LeadsOn, walk_program, walk_table}
 
 -- ---- choices
-
--- the choice begins with these sets
-abbrev pub Begins : ChoiceForm → ChoiceForm → Type 0
-Begins begun choice = (tail : ChoiceForm) × (choice ≡ begun ++ tail)
 
 every : (A B : VectorSet → Type 0) → ((set : VectorSet) → A set → B set) → (sets : List VectorSet)
     → AllByRecursion A sets → AllByRecursion B sets
@@ -25,7 +23,7 @@ every A B each [] all = tt
 every A B each (set ∷ sets) all = (each set all.0, every A B each sets all.1)
 
 pub all-where : (P Q : ChoiceForm → Type 0) (begun : ChoiceForm) (sets : List (List VectorSet))
-    → AreChosen P begun sets → ((choice : ChoiceForm) → Begins begun choice → P choice → Q choice)
+    → AreChosen P begun sets → ((choice : ChoiceForm) → IsBegun begun choice → P choice → Q choice)
     → AreChosen Q begun sets
 all-where P Q begun [] holds each = each begun ([], sym (append-nil begun)) holds
 all-where P Q begun (first ∷ rest) holds each =
@@ -34,16 +32,25 @@ all-where P Q begun (first ∷ rest) holds each =
     (λ choice begins. each choice (set ∷ begins.0, begins.1 ∙ append_assoc begun (set ∷ []) begins.0)))
     first holds
 
--- the set behind those that it begins with
-at-end : (begun : ChoiceForm) (set : VectorSet) (tail : ChoiceForm)
-    → get_or ((begun ++ set ∷ []) ++ tail) (length begun) [] ≡ set
-at-end [] set tail = refl
-at-end (own ∷ begun) set tail = at-end begun set tail
-
-pub last-set : (begun : ChoiceForm) (set : VectorSet) (choice : ChoiceForm) → Begins (begun ++ set ∷ []) choice
-    → get_or choice (length begun) [] ≡ set
-last-set begun set choice begins =
-    ap (λ all. get_or all (length begun) []) begins.1 ∙ at-end begun set begins.0
+-- where each list of sets has one, there is a choice
+pub some-choice : (P : ChoiceForm → Type 0) (begun : ChoiceForm) (sets : List (List VectorSet))
+    → AreChosen P begun sets → All (λ those. 1 ≤ length those) sets
+    → (choice : ChoiceForm) × ((tail : ChoiceForm) × (choice ≡ begun ++ tail) × (length tail ≡ length sets)) × P choice
+some-choice P begun [] holds some = (begun, ([], sym (append-nil begun), refl), holds)
+some-choice P begun ([] ∷ rest) holds some =
+    let few : 1 ≤ 0 = All-head (λ (those : List VectorSet). 1 ≤ length those) [] rest some in absurd (omega (arith, few))
+some-choice P begun ((set ∷ more) ∷ rest) holds some =
+    let found = some-choice P (begun ++ set ∷ []) rest holds.0
+    (All-tail (λ (those : List VectorSet). 1 ≤ length those) (set ∷ more) rest some)
+    in (
+      found.0,
+      (
+        set ∷ found.1.0,
+        found.1.1 ∙ append_assoc begun (set ∷ []) found.1.0,
+        omega (arith, found.1.2),
+      ),
+      found.2,
+    )
 
 -- ---- what comes of them
 
@@ -99,28 +106,22 @@ push-adds w t (Err e) old new own made is = tt
 
 -- ---- one more set
 
-has-set : (begun : ChoiceForm) (u : ℕ) (set : VectorSet) (choice : ChoiceForm) → u ≡ length begun
-    → Begins (begun ++ set ∷ []) choice → get_or choice u [] ≡ set
-has-set begun u set choice at begins =
-    subst (λ k. get_or choice k [] ≡ set) (sym at) (last-set begun set choice begins)
-
 -- where nothing is to come of a set, nothing is put
-pub nothing-adds : (w : Walk) (c : StructureForm) (u : ℕ) (set : VectorSet) (rest : List (List VectorSet))
-    (begun : ChoiceForm) (old : List StructureForm) → u ≡ length begun
-    → AreChosen (IsAbove w c) (begun ++ set ∷ []) rest → Foretells w c u set Nothing
+pub nothing-adds : (w : Walk) (begun : ChoiceForm) (c : StructureForm) (set : VectorSet)
+    (rest : List (List VectorSet)) (old : List StructureForm)
+    → AreChosen (IsAbove w begun c) (begun ++ set ∷ []) rest → AreRefuted w begun c (begun ++ set ∷ [])
     → AddsCoerced w (chosen_tables (walk_table w) (begun ++ set ∷ []) rest) old old
-nothing-adds w c u set rest begun old at above foretells =
+nothing-adds w begun c set rest old above refuted =
     adds-none w (chosen_tables (walk_table w) (begun ++ set ∷ []) rest) old
     (none-of w (begun ++ set ∷ []) rest
-    (all-where (IsAbove w c) (IsRefuted w) (begun ++ set ∷ []) rest above
-    (λ choice begins is. foretells choice is (has-set begun u set choice at begins))))
+    (all-where (IsAbove w begun c) (IsRefuted w) (begun ++ set ∷ []) rest above
+    (λ choice begins is. refuted choice begins is)))
 
-pub leads-above : (w : Walk) (c d : StructureForm) (u : ℕ) (set : VectorSet) (rest : List (List VectorSet))
-    (begun : ChoiceForm) → u ≡ length begun → AreChosen (IsAbove w c) (begun ++ set ∷ []) rest
-    → LeadsTo w c u set d → AreChosen (IsAbove w d) (begun ++ set ∷ []) rest
-leads-above w c d u set rest begun at above leads =
-    all-where (IsAbove w c) (IsAbove w d) (begun ++ set ∷ []) rest above
-    (λ choice begins is. leads choice is (has-set begun u set choice at begins))
+pub leads-above : (w : Walk) (begun : ChoiceForm) (c d : StructureForm) (set : VectorSet)
+    (rest : List (List VectorSet)) → AreChosen (IsAbove w begun c) (begun ++ set ∷ []) rest
+    → LeadsOn w begun c (begun ++ set ∷ []) d → AreChosen (IsAbove w (begun ++ set ∷ []) d) (begun ++ set ∷ []) rest
+leads-above w begun c d set rest above leads =
+    all-where (IsAbove w begun c) (IsAbove w (begun ++ set ∷ []) d) (begun ++ set ∷ []) rest above leads
 
 -- what comes of one set, and then of those behind it
 pub one-more : (w : Walk) (begun now : ChoiceForm) (rest : List (List VectorSet)) (set : VectorSet)

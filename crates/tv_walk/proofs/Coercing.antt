@@ -1,42 +1,38 @@
 -- Coerce of what a walk makes.
-use Rattle.std.proofs.Common.{◌≡◌, Bool, false, List, [], ◌∷◌, length, Option, None}
+use Rattle.std.proofs.Common.{◌≡◌, Bool, List, [], ◌∷◌, length, Option, None}
 use Rattle.std.proofs.Common.{Some}
-use Rattle.std.proofs.Common.{inl, inr, refl, sym, ap, subst, ◌∙◌, arith, Contains, get_or, slice_get}
-use Rattle.std.specs.List.{range_with_len}
-use Rattle.std.proofs.lemmas.List.Elements.{All-contains}
+use Rattle.std.proofs.Common.{inl, inr, refl, sym, ap, subst, ◌∙◌, arith, All, Contains, get_or}
+use Rattle.std.proofs.lemmas.List.Elements.{All-contains, Contains-get_or}
 use Rattle.std.proofs.lemmas.List.FromFn.{length-range_with_len}
-use Rattle.tv_model.specs.Program.{RuleForm}
 use Rattle.tv_model.proofs.Lists.{Contains-map, slice_get-contains}
 use Rattle.tv_embedding_laws.proofs.EmbeddingLaws.{EmbedsOn-id}
+use Rattle.tv_model.specs.Program.{RuleForm}
 use Rattle.tv_stable_laws.specs.Laws.{IsPlainRule}
 use Rattle.tv_stable_laws.specs.Stable.{IsStable, IsStableUnder, IsGreatestStable, HasNoStable}
 use Rattle.tv_struct.specs.StructureForm.{StructureForm, IsStructure, structure_of, arities_of}
 use Rattle.tv_eval.specs.ScratchForm.{ScratchForm}
 use Rattle.tv_rules.specs.Closing.{closed_rules}
 use Rattle.tv_rules.specs.EntryForms.{rules_of}
-use Rattle.tv_rules.specs.Standing.{StandsIn}
 use Rattle.tv_rules.proofs.Ranges.{rules_are_plain}
-use Rattle.tv_coerce_laws.specs.Split.{IsUntouched}
-use Rattle.tv_coerce_laws.proofs.Untouched.{untouched_rules_stay_stable}
 use Rattle.tv_coerce.specs.Coerced.{CoercesTo, IsCoercedTable}
 use Rattle.tv_coerce.specs.Ready.{CanCoerce}
-use Rattle.tv_coerce.specs.RuleSets.{IsStableBut, HasMore, IsRuleThat}
+use Rattle.tv_coerce.specs.RuleSets.{IsStableBut}
 use Rattle.tv_coerce.proofs.Ready.{closed_rules_can_be_tried}
-use Rattle.tv_focus_laws.specs.Choices.{ChoiceForm, choices, chosen}
+use Rattle.tv_focus_laws.specs.Choices.{AimForm, ChoiceForm, choices, chosen}
 use Rattle.tv_focus_laws.specs.Counts.{AreCounted}
 use Rattle.tv_focus_laws.specs.Tables.{ShowsOver}
-use Rattle.tv_focus_laws.specs.Written.{WriteForm}
 use Rattle.tv_focus_laws.proofs.Counts.{choices_are_counted}
-use Rattle.tv_focus_laws.proofs.Writes.{IsWritten}
-use Rattle.tv_focus_step_laws.specs.Above.{IsSmallChoice, HasChoice, CoercesAlike}
-use Rattle.tv_focus_step_laws.proofs.Made.{made_coerce_alike}
+use Rattle.tv_focus_step_laws.specs.Above.{IsSmallChoice, IsSplitSoFar, HasChoice, CoercesAlike}
+use Rattle.tv_focus_step_laws.proofs.Above.{whole_coerce_alike}
 use Rattle.tv_focus_step_laws.proofs.Embedding.{choice-shows}
 use Rattle.tv_focus.specs.Puts.{IsChoiceOf}
 use Rattle.tv_step_laws.specs.Transfer.{Coerces}
 use Rattle.tv_step_laws.proofs.Shapes.{shaped-over}
 use Rattle.tv_walk.specs.declared.walk.Walk.{Walk}
-use Rattle.tv_walk.specs.Walk.{AddsCoerced, CanWalk, IsAbove, IsAtHand, walk_aim, walk_pred, walk_program}
-use Rattle.tv_walk.specs.Walk.{walk_table}
+use Rattle.tv_walk.specs.declared.since.Since.{Since}
+use Rattle.tv_walk.specs.Walk.{AddsCoerced, ArePlain, CanWalk, HasRest, HasRulesSince, IsAbove, IsReady}
+use Rattle.tv_walk.specs.Walk.{IsUnchanged, walk_aim, walk_pred, walk_program, walk_table}
+use Rattle.tv_walk.proofs.Signs.{nothing-seen}
 
 pub small-choice : (w : Walk) (scratch : ScratchForm) (choice : ChoiceForm) → CanWalk w scratch
     → IsChoiceOf w.from.now (walk_pred w) (walk_aim w) choice
@@ -99,9 +95,10 @@ some-coerces w scratch t d found can over to is =
     )
 
 -- a stable structure is what coerce makes of it
-pub stable-coerces : (w : Walk) (scratch : ScratchForm) (c : StructureForm) → CanWalk w scratch → IsAtHand w c
-    → IsStable (closed_rules (walk_program w)) (structure_of c) → Coerces (walk_program w) c (c ∷ [])
-stable-coerces w scratch c can hand stable = inr (
+pub stable-coerces : (w : Walk) (scratch : ScratchForm) (begun : ChoiceForm) (c : StructureForm) → CanWalk w scratch
+    → IsSplitSoFar w.from.now begun c → IsStable (closed_rules (walk_program w)) (structure_of c)
+    → Coerces (walk_program w) c (c ∷ [])
+stable-coerces w scratch begun c can so stable = inr (
   c,
   record {
     greatest = record {
@@ -110,9 +107,9 @@ stable-coerces w scratch c can hand stable = inr (
       greatest = λ u below is. below;
     };
     shaped = record {
-      over = hand.alike.over ∙ can.shaped.over;
-      planes = hand.alike.is.table.planes;
-      summaries = hand.alike.is.summaries;
+      over = so.over ∙ can.shaped.over;
+      planes = so.is.table.planes;
+      summaries = so.is.summaries;
     };
     mark = refl;
   },
@@ -121,78 +118,70 @@ stable-coerces w scratch c can hand stable = inr (
 
 -- ---- a choice that the structure at hand has
 
-made-alike : (w : Walk) (scratch : ScratchForm) (c : StructureForm) (choice : ChoiceForm) → CanWalk w scratch
-    → IsAtHand w c → IsAbove w c choice → HasChoice c (walk_pred w) (walk_aim w) 0 choice
+made-alike : (w : Walk) (scratch : ScratchForm) (c : StructureForm) (aim : AimForm) (since : Since)
+    (choice : ChoiceForm) → CanWalk w scratch → IsReady w choice c aim since → IsAbove w choice c choice
+    → HasChoice c (walk_pred w) aim 0 choice
     → CoercesAlike (closed_rules (walk_program w)) w.from.now (walk_pred w) (walk_aim w) choice c
-made-alike w scratch c choice can hand above has =
-    made_coerce_alike (closed_rules (walk_program w)) w.from.now (walk_pred w) (walk_aim w) choice c
+made-alike w scratch c aim since choice can ready above has =
+    whole_coerce_alike (closed_rules (walk_program w)) w.from.now (walk_pred w) (walk_aim w) choice c
     (rules_are_plain (walk_program w) can.valid) can.choosing.aim (small-choice w scratch choice can above.of)
-    (record { alike = hand.alike; below = hand.below; above = above.above; values = has })
+    ready.so above.leads (subst (λ a. HasChoice c (walk_pred w) a 0 choice) ready.aimed has)
 
-made-coerces : (w : Walk) (scratch : ScratchForm) (c : StructureForm) (choice : ChoiceForm)
-    (own : List StructureForm) → CanWalk w scratch → IsAtHand w c → IsAbove w c choice
-    → HasChoice c (walk_pred w) (walk_aim w) 0 choice → Coerces (walk_program w) c own
+made-coerces : (w : Walk) (scratch : ScratchForm) (c : StructureForm) (aim : AimForm) (since : Since)
+    (choice : ChoiceForm) (own : List StructureForm) → CanWalk w scratch → IsReady w choice c aim since
+    → IsAbove w choice c choice → HasChoice c (walk_pred w) aim 0 choice → Coerces (walk_program w) c own
     → Coerces (walk_program w) (walk_table w choice) own
-made-coerces w scratch c choice own can hand above has (inl (none, is)) =
-    inl ((made-alike w scratch c choice can hand above has).none none, is)
-made-coerces w scratch c choice own can hand above has (inr (d, coerced, is)) =
+made-coerces w scratch c aim since choice own can ready above has (inl (none, is)) =
+    inl ((made-alike w scratch c aim since choice can ready above has).none none, is)
+made-coerces w scratch c aim since choice own can ready above has (inr (d, coerced, is)) =
     let alike : CoercesAlike (closed_rules (walk_program w)) w.from.now (walk_pred w) (walk_aim w) choice c
-    = made-alike w scratch c choice can hand above has
+    = made-alike w scratch c aim since choice can ready above has
     in inr (
       d,
       record {
         greatest = alike.kept d coerced.greatest;
         shaped = coerced.shaped;
-        mark = coerced.mark ∙ hand.mark ∙ sym alike.mark;
+        mark = coerced.mark ∙ alike.mark;
       },
       is,
     )
 
 -- what comes of the structure at hand comes of the choice
-pub made-adds : (w : Walk) (scratch : ScratchForm) (c : StructureForm) (choice : ChoiceForm)
-    (old new : List StructureForm) → CanWalk w scratch → IsAtHand w c → IsAbove w c choice
-    → HasChoice c (walk_pred w) (walk_aim w) 0 choice → AddsCoerced w (c ∷ []) old new
+pub made-adds : (w : Walk) (scratch : ScratchForm) (c : StructureForm) (aim : AimForm) (since : Since)
+    (choice : ChoiceForm) (old new : List StructureForm) → CanWalk w scratch → IsReady w choice c aim since
+    → IsAbove w choice c choice → HasChoice c (walk_pred w) aim 0 choice → AddsCoerced w (c ∷ []) old new
     → AddsCoerced w (walk_table w choice ∷ []) old new
-made-adds w scratch c choice old new can hand above has (own, (one, rest, made, later, all), is) = (
+made-adds w scratch c aim since choice old new can ready above has (own, (one, rest, made, later, all), is) = (
   own,
-  (one, rest, made-coerces w scratch c choice one can hand above has made, later, all),
+  (one, rest, made-coerces w scratch c aim since choice one can ready above has made, later, all),
   is,
 )
 
--- ---- a vector
+-- ---- rules that wait
 
--- where one predicate's values were put, only the rules in which it stands may be unmet
-pub written-rest : (w : Walk) (scratch : ScratchForm) (c t : StructureForm) (writes : List WriteForm)
-    → CanWalk w scratch → IsAtHand w c → IsWritten c t (walk_pred w) writes → (rule : RuleForm)
-    → Contains (closed_rules (walk_program w)) rule → ¬ StandsIn (walk_pred w) rule
-    → IsStableUnder (structure_of t) rule
-written-rest w scratch c t writes can hand done rule at out =
-    untouched_rules_stay_stable (structure_of c) (structure_of t) rule
-    (All-contains IsPlainRule (closed_rules (walk_program w)) rule (rules_are_plain (walk_program w) can.valid)
-    at).unmarked untouched (hand.rest rule at out)
-  where
-    untouched : IsUntouched rule (structure_of c) (structure_of t)
-    untouched = record {
-      individuals = λ u. (
-        λ at. subst (λ m. Contains (range_with_len 0 m) u) (sym done.size) at,
-        λ at. subst (λ m. Contains (range_with_len 0 m) u) done.size at,
-      );
-      values = λ q stands tuple inside. sym (done.others q tuple
-          (λ e. out (subst (λ p. StandsIn p rule) e stands)));
-      summaries = λ u at. ap (λ flags. get_or flags u false) (sym done.summaries);
-    }
+-- those that may be unmet
+pub rest-waits : (w : Walk) (since : Since) (c : StructureForm) (set : List Bool) → HasRest w since c
+    → HasRulesSince w since set → IsStableBut (rules_of w.closed.now) set c
+rest-waits w since c set rest has n rule there out =
+    rest rule (slice_get-contains (rules_of w.closed.now) n rule there) (has.blind n rule there out)
 
--- so that these rules may wait
-pub pred-rest : (w : Walk) (scratch : ScratchForm) (t : StructureForm) (none set : List Bool) → CanWalk w scratch
-    → ((rule : RuleForm) → Contains (closed_rules (walk_program w)) rule → ¬ StandsIn (walk_pred w) rule
-    → IsStableUnder (structure_of t) rule)
-    → HasMore (IsRuleThat (StandsIn (walk_pred w)) (rules_of w.closed.now)) none set
-    → IsStableBut (rules_of w.closed.now) set t
-pred-rest w scratch t none set can rest more n rule there out =
-    rest rule
-    (slice_get-contains (closed_rules (walk_program w)) n rule
-    (subst (λ rules. slice_get rules n ≡ Some rule) can.rules there))
-    (λ stands. out ((more.exact n).1 (inr (rule, there, stands))))
+-- none, where nothing was done
+pub rest-stable : (w : Walk) (scratch : ScratchForm) (since : Since) (c : StructureForm) → CanWalk w scratch
+    → HasRest w since c → IsUnchanged since → IsStable (closed_rules (walk_program w)) (structure_of c)
+rest-stable w scratch since c can rest none =
+    subst (λ rules. IsStable rules (structure_of c)) can.rules
+    (λ k d lt. rest (get_or (rules_of w.closed.now) k d) (Contains-get_or (rules_of w.closed.now) k d lt)
+    (nothing-seen w since (get_or (rules_of w.closed.now) k d) none.no none.yes none.copies none.any))
+
+pub stable-rest : (w : Walk) (scratch : ScratchForm) (since : Since) (c : StructureForm) → CanWalk w scratch
+    → IsStable (closed_rules (walk_program w)) (structure_of c) → HasRest w since c
+stable-rest w scratch since c can stable rule at blind =
+    All-contains (IsStableUnder (structure_of c)) (closed_rules (walk_program w)) rule stable
+    (subst (λ rules. Contains rules rule) can.rules at)
+
+pub are-plain : (w : Walk) (scratch : ScratchForm) → CanWalk w scratch → ArePlain w
+are-plain w scratch can =
+    subst (λ rules. All IsPlainRule rules) (sym can.rules) (rules_are_plain (walk_program w) can.valid)
 
 -- the individuals of what coerce finds
 pub coerced-size : (t d : StructureForm) (rules : List RuleForm)

@@ -3,4 +3,8 @@ mod Choices
 mod Coercing
 mod Differing
 mod Foretelling
+mod Looking
 mod Passing
+mod Ready
+mod Signs
+mod Splits

@@ -1,21 +1,26 @@
 -- What a walk through the choices of a stage knows.
-use Rattle.std.specs.Prelude.{ℕ, ◌≡◌, ◌++◌, List, [], length, All, Any, Contains, IsTrue, slice_index_or}
+use Rattle.std.specs.Prelude.{ℕ, ◌≡◌, ◌<◌, ◌≤◌, ◌+◌, ◌⊎◌, ◌++◌, Bool, true, false, List, [], ◌∷◌, length, map}
+use Rattle.std.specs.Prelude.{All, Any, Contains, IsTrue, Some, nat_le, slice_get, if◌then◌else◌}
 use Rattle.std.specs.List.{AllByRecursion}
 use Rattle.tv_kleene.specs.declared.K3.{K3}
-use Rattle.tv_model.specs.Program.{ProgramForm, RuleForm, program_of}
+use Rattle.tv_kleene.specs.declared.K3.TheVariants.{No, Yes}
+use Rattle.tv_model.specs.Program.{ProgramForm, RuleForm, HAtom, program_of}
 use Rattle.tv_model.specs.Valid.{IsValid}
 use Rattle.tv_kleene.specs.Kleene.{LiesUnder}
-use Rattle.tv_embedding_laws.specs.Embedding.{IsBelow}
+use Rattle.tv_stable_laws.specs.Laws.{IsPlainRule}
 use Rattle.tv_stable_laws.specs.Stable.{IsStable, IsStableUnder}
-use Rattle.tv_rules.specs.Standing.{StandsIn}
-use Rattle.tv_struct.specs.StructureForm.{StructureForm, structure_of, value_at}
+use Rattle.tv_rules.specs.Seen.{Sees}
+use Rattle.tv_rules.specs.Standing.{SeesSummaries}
+use Rattle.tv_struct.specs.StructureForm.{StructureForm, IsStructure, structure_of, value_at}
 use Rattle.tv_eval.specs.ScratchForm.{ScratchForm, IsMadeFor}
 use Rattle.tv_rules.specs.Closing.{closed_rules}
 use Rattle.tv_rules.specs.EntryForms.{rules_of}
-use Rattle.tv_coerce.specs.RuleSets.{IsStableBut}
-use Rattle.tv_focus_laws.specs.Choices.{AimForm, ChoiceForm, VectorSet}
+use Rattle.tv_coerce.specs.RuleSets.{IsIn, IsStableBut}
+use Rattle.tv_focus_laws.specs.Choices.{AimForm, Alone, Before, Behind, ChoiceForm, VectorSet}
 use Rattle.tv_focus_laws.specs.Written.{WriteForm, chosen_table}
-use Rattle.tv_focus_step_laws.specs.Above.{IsAlike, IsOther, LiesAbove, HasNoStableChoice, writes_at}
+use Rattle.tv_focus_step_laws.specs.Above.{IsBegun, IsOther, IsSplitSoFar, HasNoStableChoice, LeadsTo}
+use Rattle.tv_focus_step_laws.specs.Above.{aim_after, copies_so_far, writes_at}
+use Rattle.tv_focus.specs.Anchored.{IsAimOver}
 use Rattle.tv_focus.specs.Focused.{IsChoosing, tables_in}
 use Rattle.tv_focus.specs.Puts.{IsChoiceOf}
 use Rattle.tv_focus.specs.Seen.{aim_of}
@@ -23,8 +28,10 @@ use Rattle.tv_step_laws.specs.Parts.{AreFrom}
 use Rattle.tv_step_laws.specs.Shaped.{IsShaped}
 use Rattle.tv_step_laws.specs.Transfer.{Coerces}
 use Rattle.tv_walk.specs.declared.walk.Walk.{Walk}
+use Rattle.tv_walk.specs.declared.narrow.Given.{Given}
 use Rattle.tv_walk.specs.declared.narrow.Outlook.{Outlook}
-use Rattle.tv_walk.specs.declared.narrow.Outlook.TheVariants.{Nothing, Same, Put, Below}
+use Rattle.tv_walk.specs.declared.narrow.Outlook.TheVariants.{Nothing, Same, Next}
+use Rattle.tv_walk.specs.declared.since.Since.{Since}
 use Rattle.tv_walk.specs.declared.walk.Hand.{Hand}
 use Rattle.tv_walk.specs.declared.fits.Test.{Test}
 use Rattle.tv_walk.specs.declared.fits.Test.TheVariants.{Same as same, Under}
@@ -54,25 +61,88 @@ pub record CanWalk (w : Walk) (scratch : ScratchForm) : Type 0 where
   pub count : length w.waiting.now ≡ length (rules_of w.closed.now)
   pub rest : All (IsStableBut (rules_of w.closed.now) w.waiting.now) (tables_in w.from.now w.choosing.now)
 
--- a structure at hand is over the same individuals and lies below, with the same mark, and only the closed
--- rules in which the predicate stands may be unmet
-pub record IsAtHand (w : Walk) (c : StructureForm) : Type 0 where
-  pub alike : IsAlike w.from.now c
-  pub below : IsBelow (structure_of c) (structure_of w.from.now)
-  pub mark : c.fresh ≡ w.from.now.fresh
-  pub rest : (rule : RuleForm) → Contains (closed_rules (walk_program w)) rule → ¬ StandsIn (walk_pred w) rule
-      → IsStableUnder (structure_of c) rule
+-- nothing was done since the structure was stable
+pub record IsUnchanged (since : Since) : Type 0 where
+  pub no : since.no ≡ false
+  pub yes : since.yes ≡ false
+  pub copies : since.copies ≡ false
+  pub any : since.any ≡ false
 
--- it is known to be stable, or not
-abbrev pub IsHand : Walk → Hand → Type 0
-IsHand w hand =
-    IsAtHand w hand.structure.now
-    × (IsTrue hand.is_stable → IsStable (closed_rules (walk_program w)) (structure_of hand.structure.now))
+-- what was done left the rule met: it sees none of it
+pub record IsBlind (w : Walk) (since : Since) (rule : RuleForm) : Type 0 where
+  pub no : IsTrue since.no → ¬ Sees (HAtom false (walk_pred w) []) rule
+  pub yes : IsTrue since.yes → ¬ Sees (HAtom true (walk_pred w) []) rule
+  pub copies : IsTrue since.copies → ¬ SeesSummaries rule
+  pub any : ¬ IsTrue since.any
 
--- it lies above the choice
-pub record IsAbove (w : Walk) (c : StructureForm) (choice : ChoiceForm) : Type 0 where
+-- the rules that aren't in the set are blind to what was done
+pub record HasRulesSince (w : Walk) (since : Since) (set : List Bool) : Type 0 where
+  pub count : length set ≡ length (rules_of w.closed.now)
+  pub blind : (n : ℕ) (rule : RuleForm) → slice_get (rules_of w.closed.now) n ≡ Some rule → ¬ IsIn set n
+      → IsBlind w since rule
+
+-- the closed rules have no marks
+abbrev pub ArePlain : Walk → Type 0
+ArePlain w = All IsPlainRule (rules_of w.closed.now)
+
+-- only rules that see what was done may be unmet
+abbrev pub HasRest : Walk → Since → StructureForm → Type 0
+HasRest w since c =
+    (rule : RuleForm) → Contains (rules_of w.closed.now) rule → IsBlind w since rule
+    → IsStableUnder (structure_of c) rule
+
+-- so it stays
+abbrev pub KeepsRest : Walk → (old : Since) → StructureForm → (new : Since) → StructureForm → Type 0
+KeepsRest w old s new t = HasRest w old s → HasRest w new t
+
+-- what was done is noted
+pub record IsMore (old new : Since) : Type 0 where
+  pub no : IsTrue old.no → IsTrue new.no
+  pub yes : IsTrue old.yes → IsTrue new.yes
+  pub copies : IsTrue old.copies → IsTrue new.copies
+  pub any : IsTrue old.any → IsTrue new.any
+
+-- so are values that are put: under those that were there, and all `No`, or all `Yes`
+pub record IsNoted (old : Since) (are_under : Bool) (values : List K3) (new : Since) : Type 0 where
+  pub more : IsMore old new
+  pub sign : IsTrue new.any ⊎ (IsTrue are_under
+      × ((IsTrue new.no × All (λ k. k ≡ No) values)
+      ⊎ (IsTrue new.yes × (1 ≤ length values) × All (λ k. k ≡ Yes) values)))
+
+-- an individual that isn't marked may stand so often
+pub record IsSplittable (c : StructureForm) (at count : ℕ) : Type 0 where
+  pub is : IsStructure c
+  pub place : at < c.size
+  pub some : 1 ≤ count
+  pub few : c.size + count ≤ 257
+  pub unmarked : ¬ (c.fresh ≡ Some at)
+
+-- the number of an individual where that of the number `at` has so many copies more
+abbrev pub shifted_by : (at more : ℕ) → ℕ → ℕ
+shifted_by at more a = if nat_le a at then a else a + more
+
+abbrev pub shifted_aim : (at more : ℕ) → AimForm → AimForm
+shifted_aim at more Alone = Alone
+shifted_aim at more (Before anchors) = Before (map (shifted_by at more) anchors)
+shifted_aim at more (Behind anchors) = Behind (map (shifted_by at more) anchors)
+
+-- a structure in which the first individuals have these sets, with the aim among its individuals, and what
+-- was done since it was stable
+pub record IsReady (w : Walk) (begun : ChoiceForm) (c : StructureForm) (aim : AimForm) (since : Since)
+    : Type 0 where
+  pub so : IsSplitSoFar w.from.now begun c
+  pub aimed : aim ≡ aim_after begun (walk_aim w)
+  pub over : IsAimOver c (walk_pred w) aim
+  pub rest : HasRest w since c
+
+abbrev pub IsHand : Walk → (begun : ChoiceForm) → Hand → Type 0
+IsHand w begun hand =
+    IsReady w begun hand.structure.now (aim_of hand.aim.now) hand.since × (hand.at ≡ copies_so_far begun)
+
+-- it leads to the choice
+pub record IsAbove (w : Walk) (begun : ChoiceForm) (c : StructureForm) (choice : ChoiceForm) : Type 0 where
   pub of : IsChoiceOf w.from.now (walk_pred w) (walk_aim w) choice
-  pub above : LiesAbove (closed_rules (walk_program w)) w.from.now (walk_pred w) (walk_aim w) choice c
+  pub leads : LeadsTo (closed_rules (walk_program w)) w.from.now (walk_pred w) (walk_aim w) choice begun c
 
 -- no stable structure lies below the choice
 abbrev pub IsRefuted : Walk → ChoiceForm → Type 0
@@ -83,20 +153,34 @@ IsRefuted w choice =
 abbrev pub HasOther : (c : StructureForm) → (pred : ℕ) → AimForm → (u : ℕ) → List K3 → Type 0
 HasOther c pred aim u vector = Any (IsOther c pred) (writes_at aim u vector)
 
--- whatever is stable below such a choice embeds in d too
-abbrev pub LeadsTo : Walk → (c : StructureForm) → (u : ℕ) → VectorSet → (d : StructureForm) → Type 0
-LeadsTo w c u set d =
-    (choice : ChoiceForm) → IsAbove w c choice → slice_index_or choice u [] ≡ set → IsAbove w d choice
+-- what c leads to with the sets `begun`, d leads to with the sets `next`
+abbrev pub LeadsOn : Walk → (begun : ChoiceForm) → (c : StructureForm) → (next : ChoiceForm)
+    → (d : StructureForm) → Type 0
+LeadsOn w begun c next d =
+    (choice : ChoiceForm) → IsBegun next choice → IsAbove w begun c choice → IsAbove w next d choice
 
--- what is known once an individual has a set: that no such choice has a stable structure, nothing new, or a
--- structure that lies above these choices too, maybe a stable one
-abbrev pub Foretells : Walk → (c : StructureForm) → (u : ℕ) → VectorSet → Outlook → Type 0
-Foretells w c u set Nothing =
-    (choice : ChoiceForm) → IsAbove w c choice → slice_index_or choice u [] ≡ set → IsRefuted w choice
-Foretells w c u set Same = Unit {0}
-Foretells w c u set (Put d) = IsAtHand w d × LeadsTo w c u set d
-Foretells w c u set (Below d) =
-    (IsAtHand w d × IsStable (closed_rules (walk_program w)) (structure_of d)) × LeadsTo w c u set d
+-- no choice that begins with the sets `next` has a stable structure
+abbrev pub AreRefuted : Walk → (begun : ChoiceForm) → (c : StructureForm) → (next : ChoiceForm) → Type 0
+AreRefuted w begun c next =
+    (choice : ChoiceForm) → IsBegun next choice → IsAbove w begun c choice → IsRefuted w choice
+
+abbrev pub IsGiven : Walk → (next : ChoiceForm) → Given → Type 0
+IsGiven w next given = IsReady w next given.structure (aim_of given.aim) given.since
+
+-- what is known of the choices that begin with the sets `next`, of which the first have the structure c
+abbrev pub Foresees : Walk → (begun : ChoiceForm) → (c : StructureForm) → (next : ChoiceForm)
+    → (kept : Type 0) → Outlook → Type 0
+Foresees w begun c next kept Nothing = AreRefuted w begun c next
+Foresees w begun c next kept Same = kept
+Foresees w begun c next kept (Next given) = IsGiven w next given × LeadsOn w begun c next given.structure
+
+-- once the last of them is put
+abbrev pub Sharpens : Walk → (next : ChoiceForm) → (t : StructureForm) → Outlook → Type 0
+Sharpens w next t outlook = Foresees w next t next ⊥ outlook
+
+-- once the next individual has the set
+abbrev pub Foretells : Walk → (begun : ChoiceForm) → VectorSet → (c : StructureForm) → Outlook → Type 0
+Foretells w begun set c outlook = Foresees w begun c (begun ++ set ∷ []) (length set ≡ 1) outlook
 
 -- the vector's value is the structure's, or lies under it
 abbrev pub Passes : Test → (x k : K3) → Type 0

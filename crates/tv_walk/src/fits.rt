@@ -1,11 +1,11 @@
 //! Vectors that a structure may be given, and those that it has.
 
-ghost use Rattle.std.specs.Prelude.{[], ◌∷◌, ◌<◌, ◌+◌, ◌≡◌, length, Some, All, IsTrue, slice_get};
+ghost use Rattle.std.specs.Prelude.{[], ◌∷◌, ◌<◌, ◌+◌, ◌≡◌, ◌≤◌, length, Some, All, IsTrue, slice_get};
 ghost use Rattle.tv_struct.specs.StructureForm.{arities_of};
 ghost use Rattle.tv_focus_laws.specs.Written.{vector_writes};
 ghost use Rattle.tv_focus.specs.Anchored.{IsAimOver};
 ghost use Rattle.tv_focus.specs.Seen.{aim_of};
-ghost use Rattle.tv_focus_step_laws.specs.Above.{HasChoice, writes_at};
+ghost use Rattle.tv_focus_step_laws.specs.Above.{HasChoice, HasVectors, copies_so_far, writes_at};
 ghost use Rattle.tv_walk.specs.Walk.{Passes, PassAll};
 
 use tv_focus::{Aim, Vector, VectorSet};
@@ -87,20 +87,33 @@ pub fn does_pass(test: Test, c: &Structure, p: PredId, aim: &Aim, u: u32, vector
     }
 }
 
-/// Whether each individual from `u` on is given one vector, and the structure has its values.
-pub fn has_choice(c: &Structure, p: PredId, aim: &Aim, u: u32, choice: &[VectorSet]) -> bool
+/// Whether the copies from `at` on have these vectors.
+fn has_vectors(c: &Structure, p: PredId, aim: &Aim, at: u32, set: &[Vector]) -> bool
     requires aim { IsAimOver c.now p.0 (aim_of aim.now) }
-    requires individuals { u + length choice.now ≡ c.now.size }
-    ensures { IsTrue result → HasChoice c.now p.0 (aim_of aim.now) u choice.now }
+    requires copies { at + length set.now ≤ c.now.size }
+    ensures { IsTrue result → HasVectors c.now p.0 (aim_of aim.now) at set.now }
+{
+    let _ = c.size();
+    match set {
+        [] => true,
+        [vector, rest @ ..] => {
+            does_pass(Test::Same, c, p, aim, at, vector) && has_vectors(c, p, aim, at + 1, rest)
+        }
+    }
+}
+
+/// Whether the copies from `at` on have the choice's vectors.
+pub fn has_choice(c: &Structure, p: PredId, aim: &Aim, at: u32, choice: &[VectorSet]) -> bool
+    requires aim { IsAimOver c.now p.0 (aim_of aim.now) }
+    requires copies { at + copies_so_far choice.now ≤ c.now.size }
+    ensures { IsTrue result → HasChoice c.now p.0 (aim_of aim.now) at choice.now }
 {
     let _ = c.size();
     match choice {
         [] => true,
-        [set, rest @ ..] => match set.as_slice() {
-            [vector] => {
-                does_pass(Test::Same, c, p, aim, u, vector) && has_choice(c, p, aim, u + 1, rest)
-            }
-            _ => false,
-        },
+        [set, rest @ ..] => {
+            has_vectors(c, p, aim, at, set.as_slice())
+                && has_choice(c, p, aim, at + set.len() as u32, rest)
+        }
     }
 }

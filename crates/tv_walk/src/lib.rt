@@ -6,6 +6,8 @@
 mod apart;
 mod fits;
 mod narrow;
+mod since;
+mod split;
 mod walk;
 
 pub use walk::{Walk, walk_choices};

@@ -1,22 +1,19 @@
 //! The walk.
 
-ghost use Rattle.std.specs.Prelude.{[], ◌∷◌, ◌++◌, ◌+◌, ◌≡◌, IsTrue, length, OnOk};
+ghost use Rattle.std.specs.Prelude.{[], ◌∷◌, ◌++◌, ◌+◌, ◌≡◌, ◌≤◌, All, length, OnOk};
 ghost use Rattle.std.specs.List.{flat_map, AllByRecursion};
-ghost use Rattle.tv_stable_laws.specs.Stable.{IsStable};
-ghost use Rattle.tv_struct.specs.StructureForm.{structure_of};
-ghost use Rattle.tv_rules.specs.Closing.{closed_rules};
 ghost use Rattle.tv_focus.specs.Focused.{tables_in};
 ghost use Rattle.tv_focus.specs.Puts.{AreChosen, IsChoiceOf, chosen_tables};
-ghost use Rattle.tv_walk.specs.Walk.{AddsCoerced, CanWalk, IsAbove, IsAtHand, IsHand, walk_aim};
-ghost use Rattle.tv_walk.specs.Walk.{walk_pred, walk_program, walk_table};
+ghost use Rattle.tv_walk.specs.Walk.{AddsCoerced, CanWalk, IsAbove, IsHand, walk_aim, walk_pred, walk_table};
 
 use crate::fits::has_choice;
-use crate::narrow::{Outlook, look_ahead, pred_rules};
+use crate::narrow::{Outlook, look_ahead};
+use crate::since::{Since, rules_since};
 use std::alloc::{AllocError, Global};
 use tv_coerce::{RuleSet, coerce_in_place};
 use tv_eval::Scratch;
-use tv_focus::{Choosing, Sets, Vector, VectorSet, copied, make_choice};
-use tv_focus_step_laws::structures_lie_above;
+use tv_focus::{Aim, Choosing, Sets, Vector, VectorSet, copied, make_choice};
+use tv_focus_step_laws::structures_lead;
 use tv_model::Program;
 use tv_rules::Closed;
 use tv_struct::{Structure, Structures};
@@ -33,34 +30,34 @@ pub struct Walk<'a> {
     pub choosing: &'a Choosing,
 }
 
-/// A structure at hand, in which whatever is stable below some choices embeds, and whether it is known to be
-/// stable.
+/// A structure at hand, which leads to some choices that begin with the same sets: the aim among its
+/// individuals, the number of the next one that is given a set, and what was done since it was stable.
 #[derive(Clone, Copy)]
 pub struct Hand<'a> {
     pub structure: &'a Structure,
-    pub is_stable: bool,
+    pub aim: &'a Aim,
+    pub at: u32,
+    pub since: Since,
 }
 
 /// Puts the greatest stable structure below the one at hand behind the others, if there is one.
 fn push_hand(
     w: &Walk,
-    c: &Structure,
-    is_stable: bool,
+    hand: Hand<'_>,
+    choice: &[VectorSet],
     scratch: &mut Scratch,
     out: &mut Structures,
 ) -> Result<(), AllocError>
     requires can { CanWalk w.now scratch.old }
-    requires hand { IsAtHand w.now c.now }
-    requires stable { IsTrue is_stable → IsStable (closed_rules (walk_program w.now)) (structure_of c.now) }
-    ensures out { OnOk result (AddsCoerced w.now (c.now ∷ []) out.old out.new) }
+    requires hand { IsHand w.now choice.now hand }
+    ensures out { OnOk result (AddsCoerced w.now (hand.entry.structure.now ∷ []) out.old out.new) }
     ensures scratch { scratch.new ≡ scratch.old }
 {
-    let _ = c.size();
-    let t = c.copy(w.alloc)?;
-    if is_stable {
+    let t = hand.structure.copy(w.alloc)?;
+    if hand.since.is_nothing() {
         return out.push(t);
     }
-    let waiting = pred_rules(w)?;
+    let waiting = rules_since(w, hand.since)?;
     match coerce_in_place(w.alloc, w.closed, t, waiting, scratch)? {
         None => Ok(()),
         Some(t) => out.push(t),
@@ -87,8 +84,8 @@ fn push_made(
     }
 }
 
-/// The same, where what is stable below the choice embeds in the structure at hand: it takes the choice's
-/// place where it has its values.
+/// The same, where the structure at hand leads to the choice: it takes the choice's place where it has its
+/// vectors.
 fn push_choice(
     w: &Walk,
     hand: Hand<'_>,
@@ -97,45 +94,44 @@ fn push_choice(
     out: &mut Structures,
 ) -> Result<(), AllocError>
     requires can { CanWalk w.now scratch.old }
-    requires hand { IsHand w.now hand }
-    requires above { IsAbove w.now hand.structure.now choice.now }
-    requires places { length choice.now ≡ hand.structure.now.size }
+    requires hand { IsHand w.now choice.now hand }
+    requires places { length choice.now ≡ w.now.from.now.size }
+    requires above { IsAbove w.now choice.now hand.structure.now choice.now }
     ensures out { OnOk result (AddsCoerced w.now (walk_table w.now choice.now ∷ []) out.old out.new) }
     ensures scratch { scratch.new ≡ scratch.old }
 {
-    if has_choice(hand.structure, w.choosing.pred, &w.choosing.aim, 0, choice) {
-        push_hand(w, hand.structure, hand.is_stable, scratch, out)
+    if has_choice(hand.structure, w.choosing.pred, hand.aim, 0, choice) {
+        push_hand(w, hand, choice, scratch, out)
     } else {
         push_made(w, choice, scratch, out)
     }
 }
 
 /// Puts what comes of all choices that begin with `choice` and go on with one set of each of `sets` behind
-/// the others. Whatever is stable below one of them embeds in the structure at hand.
+/// the others. The structure at hand leads to each of them.
 #[cycle(walk_sets)]
 fn walk_sets(
     w: &Walk,
     hand: Hand<'_>,
-    u: u32,
     sets: &[Sets],
     choice: &mut Vec<VectorSet>,
     scratch: &mut Scratch,
     out: &mut Structures,
 ) -> Result<(), AllocError>
     requires can { CanWalk w.now scratch.old }
-    requires hand { IsHand w.now hand }
-    requires place { u ≡ length choice.old.items }
-    requires places { u + length sets.now ≡ hand.structure.now.size }
-    requires choices { AreChosen (IsAbove w.now hand.structure.now) choice.old.items sets.now }
+    requires hand { IsHand w.now choice.old.items hand }
+    requires places { length choice.old.items + length sets.now ≡ w.now.from.now.size }
+    requires some { All (λ those. 1 ≤ length those) sets.now }
+    requires choices { AreChosen
+        (IsAbove w.now choice.old.items hand.structure.now) choice.old.items sets.now }
     ensures out { OnOk result (AddsCoerced w.now
         (chosen_tables (walk_table w.now) choice.old.items sets.now) out.old out.new) }
     ensures choice { OnOk result (choice.new.items ≡ choice.old.items) }
     ensures scratch { scratch.new ≡ scratch.old }
 {
-    let _ = hand.structure.size();
     match sets {
         [] => push_choice(w, hand, choice.as_slice(), scratch, out),
-        [first, rest @ ..] => walk_one(w, hand, u, first.as_slice(), rest, choice, scratch, out),
+        [first, rest @ ..] => walk_one(w, hand, first.as_slice(), rest, choice, scratch, out),
     }
 }
 
@@ -144,7 +140,6 @@ fn walk_sets(
 fn walk_one(
     w: &Walk,
     hand: Hand<'_>,
-    u: u32,
     first: &[VectorSet],
     rest: &[Sets],
     choice: &mut Vec<VectorSet>,
@@ -152,11 +147,11 @@ fn walk_one(
     out: &mut Structures,
 ) -> Result<(), AllocError>
     requires can { CanWalk w.now scratch.old }
-    requires hand { IsHand w.now hand }
-    requires place { u ≡ length choice.old.items }
-    requires places { u + (length rest.now + 1) ≡ hand.structure.now.size }
+    requires hand { IsHand w.now choice.old.items hand }
+    requires places { length choice.old.items + (length rest.now + 1) ≡ w.now.from.now.size }
+    requires some { All (λ those. 1 ≤ length those) rest.now }
     requires choices { AllByRecursion
-        (λ set. AreChosen (IsAbove w.now hand.structure.now)
+        (λ set. AreChosen (IsAbove w.now choice.old.items hand.structure.now)
         (choice.old.items ++ set ∷ []) rest.now) first.now }
     ensures out { OnOk result (AddsCoerced w.now
         (flat_map (λ set. chosen_tables (walk_table w.now) (choice.old.items ++ set ∷ []) rest.now) first.now)
@@ -167,8 +162,8 @@ fn walk_one(
     match first {
         [] => Ok(()),
         [set, later @ ..] => {
-            walk_with(w, hand, u, set.as_slice(), rest, choice, scratch, out)?;
-            walk_one(w, hand, u, later, rest, choice, scratch, out)?;
+            walk_with(w, hand, set.as_slice(), rest, choice, scratch, out)?;
+            walk_one(w, hand, later, rest, choice, scratch, out)?;
             Ok(())
         }
     }
@@ -180,7 +175,6 @@ fn walk_one(
 fn walk_with(
     w: &Walk,
     hand: Hand<'_>,
-    u: u32,
     set: &[Vector],
     rest: &[Sets],
     choice: &mut Vec<VectorSet>,
@@ -188,42 +182,45 @@ fn walk_with(
     out: &mut Structures,
 ) -> Result<(), AllocError>
     requires can { CanWalk w.now scratch.old }
-    requires hand { IsHand w.now hand }
-    requires place { u ≡ length choice.old.items }
-    requires places { u + (length rest.now + 1) ≡ hand.structure.now.size }
-    requires choices { AreChosen (IsAbove w.now hand.structure.now)
+    requires hand { IsHand w.now choice.old.items hand }
+    requires places { length choice.old.items + (length rest.now + 1) ≡ w.now.from.now.size }
+    requires some { All (λ those. 1 ≤ length those) rest.now }
+    requires choices { AreChosen (IsAbove w.now choice.old.items hand.structure.now)
         (choice.old.items ++ set.now ∷ []) rest.now }
     ensures out { OnOk result (AddsCoerced w.now
         (chosen_tables (walk_table w.now) (choice.old.items ++ set.now ∷ []) rest.now) out.old out.new) }
     ensures choice { OnOk result (choice.new.items ≡ choice.old.items) }
     ensures scratch { scratch.new ≡ scratch.old }
 {
-    match look_ahead(w, hand.structure, u, set, rest, scratch)? {
+    let at = hand.at + set.len() as u32;
+    match look_ahead(w, hand, choice.as_slice(), set, rest, scratch)? {
         Outlook::Nothing => Ok(()),
-        Outlook::Same => walk_on(w, hand, u, set, rest, choice, scratch, out),
-        Outlook::Put(d) => {
+        Outlook::Same => {
             let hand = Hand {
-                structure: &d,
-                is_stable: false,
+                structure: hand.structure,
+                aim: hand.aim,
+                at,
+                since: hand.since,
             };
-            walk_on(w, hand, u, set, rest, choice, scratch, out)
+            walk_on(w, hand, set, rest, choice, scratch, out)
         }
-        Outlook::Below(d) => {
+        Outlook::Next(given) => {
             let hand = Hand {
-                structure: &d,
-                is_stable: true,
+                structure: &given.structure,
+                aim: &given.aim,
+                at,
+                since: given.since,
             };
-            walk_on(w, hand, u, set, rest, choice, scratch, out)
+            walk_on(w, hand, set, rest, choice, scratch, out)
         }
     }
 }
 
-/// The same, where whatever is stable below one of them embeds in it.
+/// The same, where the structure at hand leads to each of them with this set.
 #[cycle(walk_sets)]
 fn walk_on(
     w: &Walk,
     hand: Hand<'_>,
-    u: u32,
     set: &[Vector],
     rest: &[Sets],
     choice: &mut Vec<VectorSet>,
@@ -231,19 +228,18 @@ fn walk_on(
     out: &mut Structures,
 ) -> Result<(), AllocError>
     requires can { CanWalk w.now scratch.old }
-    requires hand { IsHand w.now hand }
-    requires place { u ≡ length choice.old.items }
-    requires places { u + (length rest.now + 1) ≡ hand.structure.now.size }
-    requires choices { AreChosen (IsAbove w.now hand.structure.now)
+    requires hand { IsHand w.now (choice.old.items ++ set.now ∷ []) hand }
+    requires places { length choice.old.items + (length rest.now + 1) ≡ w.now.from.now.size }
+    requires some { All (λ those. 1 ≤ length those) rest.now }
+    requires choices { AreChosen (IsAbove w.now (choice.old.items ++ set.now ∷ []) hand.structure.now)
         (choice.old.items ++ set.now ∷ []) rest.now }
     ensures out { OnOk result (AddsCoerced w.now
         (chosen_tables (walk_table w.now) (choice.old.items ++ set.now ∷ []) rest.now) out.old out.new) }
     ensures choice { OnOk result (choice.new.items ≡ choice.old.items) }
     ensures scratch { scratch.new ≡ scratch.old }
 {
-    let _ = hand.structure.size();
     choice.push(copied(w.alloc, set)?)?;
-    walk_sets(w, hand, u + 1, rest, choice, scratch, out)?;
+    walk_sets(w, hand, rest, choice, scratch, out)?;
     let _ = choice.pop();
     Ok(())
 }
@@ -256,17 +252,18 @@ pub fn walk_choices(w: &Walk, scratch: &mut Scratch, out: &mut Structures) -> Re
         (AddsCoerced w.now (tables_in w.now.from.now w.now.choosing.now) out.old out.new) }
     ensures scratch { scratch.new ≡ scratch.old }
 {
-    structures_lie_above();
+    structures_lead();
     let _ = w.from.size();
     let mut choice = Vec::new(w.alloc);
     let hand = Hand {
         structure: w.from,
-        is_stable: true,
+        aim: &w.choosing.aim,
+        at: 0,
+        since: Since::nothing(),
     };
     walk_sets(
         w,
         hand,
-        0,
         w.choosing.sets.as_slice(),
         &mut choice,
         scratch,

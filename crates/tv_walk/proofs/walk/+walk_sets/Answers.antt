@@ -1,15 +1,21 @@
-use Rattle.std.proofs.Common.{◌≡◌, ◌∙◌, ◌<◌, List, [], ◌∷◌, ◌++◌, refl, sym, subst, arith, length, get_or}
+use Rattle.std.proofs.Common.{◌≡◌, ◌∙◌, ◌<◌, List, [], ◌∷◌, ◌++◌, refl, sym, ap, subst, arith}
+use Rattle.std.proofs.Common.{length, get_or}
 use Rattle.std.specs.Prelude.{OnOk}
 use Rattle.std.specs.List.{between, flat_map}
 use Rattle.std.proofs.lemmas.Slice.{first_rest}
 use Rattle.tv_struct.specs.StructureForm.{StructureForm}
 use Rattle.tv_focus_laws.specs.Choices.{ChoiceForm, VectorSet}
+use Rattle.tv_focus.specs.Seen.{aim_of}
 use Rattle.tv_focus.specs.Puts.{AreChosen, chosen_tables}
+use Rattle.tv_focus_step_laws.proofs.Laid.{more-copies}
 use Rattle.tv_step_laws.specs.Parts.{AreFrom}
 use Rattle.tv_step_laws.specs.Transfer.{Coerces}
-use Rattle.tv_walk.specs.Walk.{AddsCoerced, CanWalk, Foretells, IsAbove, walk_program}
+use Rattle.tv_walk.specs.Walk.{AddsCoerced, CanWalk, Foretells, IsAbove, IsHand, walk_program}
 use Rattle.tv_walk.specs.Walk.{walk_table}
+use Rattle.tv_walk.specs.declared.narrow.Outlook.TheVariants.{Nothing, Next}
 use Rattle.tv_walk.proofs.Choices.{adds-none, leads-above, nothing-adds, one-more}
+use Rattle.tv_walk.proofs.Foretelling.{room, single-leads}
+use Rattle.tv_walk.proofs.Ready.{same-ready}
 use Rattle.tv_walk.proofs.walk.+walk_sets.Goals as goal
 
 none : {X : Type 0} (xs : List X) → length xs < 1 → xs ≡ []
@@ -18,11 +24,19 @@ none (x ∷ xs) few = absurd (omega (arith, few))
 
 -- ---- no individual is left
 
+pub walk_sets-push_choice-requires-clause-hand : goal.walk_sets-push_choice-requires-clause-hand
+walk_sets-push_choice-requires-clause-hand t c =
+    subst (λ begun. IsHand c.args.w.now begun c.args.hand) (sym c.as_slice.ensures.value) c.requires.hand
+
+pub walk_sets-push_choice-requires-clause-places : goal.walk_sets-push_choice-requires-clause-places
+walk_sets-push_choice-requires-clause-places t c =
+    omega (arith, ap length c.as_slice.ensures.value, c.requires.places, c.in-empty.len_below)
+
 pub walk_sets-push_choice-requires-clause-above : goal.walk_sets-push_choice-requires-clause-above
 walk_sets-push_choice-requires-clause-above t c =
     let w = c.args.w.now
-    in subst (IsAbove w c.args.hand.structure.now) (sym c.as_slice.ensures.value)
-    (subst (AreChosen (IsAbove w c.args.hand.structure.now) c.args.choice.now.items)
+    in subst (λ begun. IsAbove w begun c.args.hand.structure.now begun) (sym c.as_slice.ensures.value)
+    (subst (AreChosen (IsAbove w c.args.choice.now.items c.args.hand.structure.now) c.args.choice.now.items)
     (none c.args.sets.now c.in-empty.len_below) c.requires.choices)
 
 pub walk_sets-returns-in-empty-clause-out : goal.walk_sets-returns-in-empty-clause-out
@@ -77,55 +91,107 @@ walk_one-returns-in_ok-walk_one-in-len1-up-clause-out t c =
 
 -- ---- what a set foretells
 
+pub walk_with-look_ahead-requires-clause-hand : goal.walk_with-look_ahead-requires-clause-hand
+walk_with-look_ahead-requires-clause-hand t c =
+    subst (λ begun. IsHand c.args.w.now begun c.args.hand) (sym c.as_slice.ensures.value) c.requires.hand
+
+pub walk_with-look_ahead-requires-clause-place : goal.walk_with-look_ahead-requires-clause-place
+walk_with-look_ahead-requires-clause-place t c =
+    omega (arith, ap length c.as_slice.ensures.value, c.requires.places)
+
+pub walk_with-look_ahead-requires-clause-some : goal.walk_with-look_ahead-requires-clause-some
+walk_with-look_ahead-requires-clause-some t c =
+    (room c.args.w.now c.args.choice.now.items c.args.hand.structure.now (aim_of c.args.hand.aim.now) c.args.hand.since
+    c.args.set.now c.args.rest.now c.requires.hand.0 c.requires.choices c.requires.some c.requires.places).some
+
+pub walk_with-look_ahead-requires-clause-few : goal.walk_with-look_ahead-requires-clause-few
+walk_with-look_ahead-requires-clause-few t c =
+    (room c.args.w.now c.args.choice.now.items c.args.hand.structure.now (aim_of c.args.hand.aim.now) c.args.hand.since
+    c.args.set.now c.args.rest.now c.requires.hand.0 c.requires.choices c.requires.some c.requires.places).few
+
 pub walk_with-returns-in-Nothing-clause-out : goal.walk_with-returns-in-Nothing-clause-out
 walk_with-returns-in-Nothing-clause-out t c =
     let w = c.args.w.now
-    in nothing-adds w c.args.hand.structure.now c.args.u c.args.set.now c.args.rest.now c.args.choice.now.items c.args.out.now
-    c.requires.place c.requires.choices
-    (subst (Foretells w c.args.hand.structure.now c.args.u c.args.set.now) c.in-Nothing.is c.in_ok-look_ahead.ensures.outlook)
+    in nothing-adds w c.args.choice.now.items c.args.hand.structure.now c.args.set.now c.args.rest.now c.args.out.now
+    c.requires.choices
+    (subst (λ begun. Foretells w begun c.args.set.now c.args.hand.structure.now Nothing) c.as_slice.ensures.value
+    (subst (Foretells w c.as_slice.result.now c.args.set.now c.args.hand.structure.now) c.in-Nothing.is
+    c.in_ok-look_ahead.ensures.outlook))
 
-pub walk_with-walk_on-requires-in-Put : goal.walk_with-walk_on-requires-in-Put
-walk_with-walk_on-requires-in-Put t c =
+-- ---- the next structure at hand
+
+pub walk_with-overflow_cast-at : goal.walk_with-overflow_cast-at
+walk_with-overflow_cast-at t c =
+    omega (
+      arith,
+      (room c.args.w.now c.args.choice.now.items c.args.hand.structure.now (aim_of c.args.hand.aim.now)
+          c.args.hand.since c.args.set.now c.args.rest.now c.requires.hand.0 c.requires.choices c.requires.some
+          c.requires.places).few,
+    )
+
+pub walk_with-overflow_add-at : goal.walk_with-overflow_add-at
+walk_with-overflow_add-at t c =
+    omega (
+      arith,
+      c.requires.hand.1,
+      c.requires.hand.0.so.size,
+      (room c.args.w.now c.args.choice.now.items
+          c.args.hand.structure.now (aim_of c.args.hand.aim.now) c.args.hand.since c.args.set.now c.args.rest.now
+          c.requires.hand.0 c.requires.choices c.requires.some c.requires.places).few,
+    )
+
+pub walk_with-walk_on-requires : goal.walk_with-walk_on-requires
+walk_with-walk_on-requires t c =
     let w = c.args.w.now
-    in let foretells
-    = subst (Foretells w c.args.hand.structure.now c.args.u c.args.set.now) c.in-Put.is
+    in let begun = c.args.choice.now.items
+    in let hand = c.args.hand
+    in let one : length c.args.set.now ≡ 1
+    = subst (Foretells w c.as_slice.result.now c.args.set.now hand.structure.now) c.in-Same.is
     c.in_ok-look_ahead.ensures.outlook
     in (
       omega (arith, c.decreases),
       (
         subst (CanWalk w) (sym c.in_ok-look_ahead.ensures.scratch) c.requires.can,
         (
-          (foretells.0, λ no. absurd (cc)),
           (
-            c.requires.place,
+            same-ready w begun c.args.set.now hand.structure.now (aim_of hand.aim.now) hand.since c.requires.hand.0
+                (omega (arith, c.requires.places)) one,
+            omega (arith, c.requires.hand.1, more-copies begun c.args.set.now),
+          ),
+          (
+            c.requires.places,
             (
-              c.requires.places ∙ c.requires.hand.0.alike.size ∙ sym foretells.0.alike.size,
-              leads-above w c.args.hand.structure.now c.in-Put.d c.args.u c.args.set.now c.args.rest.now
-                  c.args.choice.now.items c.requires.place c.requires.choices foretells.1,
+              c.requires.some,
+              leads-above w begun hand.structure.now hand.structure.now c.args.set.now c.args.rest.now
+                  c.requires.choices
+                  (single-leads w c.args.scratch.now begun hand.structure.now c.args.set.now c.requires.can one),
             ),
           ),
         ),
       ),
     )
 
-pub walk_with-walk_on-requires-in-Below : goal.walk_with-walk_on-requires-in-Below
-walk_with-walk_on-requires-in-Below t c =
+pub walk_with-walk_on-requires-in-Next : goal.walk_with-walk_on-requires-in-Next
+walk_with-walk_on-requires-in-Next t c =
     let w = c.args.w.now
+    in let begun = c.args.choice.now.items
+    in let hand = c.args.hand
     in let foretells
-    = subst (Foretells w c.args.hand.structure.now c.args.u c.args.set.now) c.in-Below.is
-    c.in_ok-look_ahead.ensures.outlook
+    = subst (λ sets. Foretells w sets c.args.set.now hand.structure.now (Next c.in-Next.given)) c.as_slice.ensures.value
+    (subst (Foretells w c.as_slice.result.now c.args.set.now hand.structure.now) c.in-Next.is
+    c.in_ok-look_ahead.ensures.outlook)
     in (
       omega (arith, c.decreases),
       (
         subst (CanWalk w) (sym c.in_ok-look_ahead.ensures.scratch) c.requires.can,
         (
-          (foretells.0.0, λ yes. foretells.0.1),
+          (foretells.0, omega (arith, c.requires.hand.1, more-copies begun c.args.set.now)),
           (
-            c.requires.place,
+            c.requires.places,
             (
-              c.requires.places ∙ c.requires.hand.0.alike.size ∙ sym foretells.0.0.alike.size,
-              leads-above w c.args.hand.structure.now c.in-Below.d c.args.u c.args.set.now c.args.rest.now
-                  c.args.choice.now.items c.requires.place c.requires.choices foretells.1,
+              c.requires.some,
+              leads-above w begun hand.structure.now c.in-Next.given.structure c.args.set.now c.args.rest.now
+                  c.requires.choices foretells.1,
             ),
           ),
         ),
