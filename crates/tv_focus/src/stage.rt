@@ -32,8 +32,8 @@ use tv_struct::{StageError, Structure, Structures, Tuple};
 /// The most individuals of a structure.
 const MAX_INDIVIDUALS: u32 = 256;
 
-/// So many choices are made at once: of more, a walk refutes some before they are made, and coerces the others
-/// by fewer rules.
+/// So many choices are made at once: of more, a walk refutes some before they are made, and coerces the
+/// others by fewer rules.
 const FEW_CHOICES: u32 = 1;
 
 /// The values at the pairs of an individual with the anchors.
