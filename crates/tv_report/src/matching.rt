@@ -1,7 +1,7 @@
 //! Reports that stand in the layout in which they are written, read without tokens: what seems to stand there
 //! is written again, piece by piece, and compared with the text.
 
-ghost use Rattle.std.specs.Prelude.{◌≡◌, ◌++◌, ◌<◌, ◌≤◌, ◌^◌, ℕ, IfOk, IfSome, IsTrue, All, OnOk, length};
+ghost use Rattle.std.specs.Prelude.{◌≡◌, ◌++◌, ◌<◌, ◌≤◌, ◌^◌, ℕ, IfOk, IfSome, IsTrue, All, OnOk, codes, length};
 ghost use Rattle.std.specs.List.{flat_map};
 ghost use Rattle.tv_listing.specs.Listed.{IsListing};
 ghost use Rattle.tv_listing.specs.ListingForm.{at_node};
@@ -316,13 +316,14 @@ fn behind_messages<'a>(
 }
 
 /// What stands behind the first line of a report as it is written.
-fn behind_head(bytes: &[u8]) -> Option<&[u8]> {
+fn behind_head(bytes: &[u8]) -> Option<&[u8]>
+    ensures { IfSome result (λ rest. bytes.now ≡ codes "tvla report 2\n" ++ rest.now) }
+{
     behind(bytes, b"tvla report 2\n")
 }
 
 /// The report that a text is, where it stands there as `write_report` writes it, without maps; nothing where
 /// it doesn't. It is found without tokens, in memory for the analysis and for the text of one structure.
-#[tactic(auto, using(crate::proofs::Fronts::is_listing, crate::proofs::Fronts::is_report))]
 pub fn read_written(
     alloc: Global,
     program: &Program,
