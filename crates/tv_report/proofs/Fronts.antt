@@ -22,10 +22,11 @@ use Rattle.tv_report.specs.Laws.{without_marks, IsReadable, ReportsAreReadAgain}
 use Rattle.tv_report.specs.Lines.{IsMessageLine, message_key}
 use Rattle.tv_report.specs.Meaning.{IsReportText}
 use Rattle.tv_report.specs.Once.{AreOnce, GoesOn}
-use Rattle.tv_report.specs.Text.{report_text, node_text, nodes_text, message_text, map_text}
+use Rattle.tv_report.specs.Text.{report_text, node_line, node_text, nodes_text, message_text, map_text}
 use Rattle.tv_report.proofs.OnceLaws.{goes_keys, goes_once}
 use Rattle.tv_report.proofs.Lists.{zipped_at, zipped_length, at_place}
 use Rattle.tv_struct.specs.StructureForm.{StructureForm, unmarked}
+use Rattle.tv_tvs.specs.Canonical.{canonical_text}
 use Rattle.tv_tvs.specs.Targets.{IsRead}
 
 -- ---- texts in front
@@ -43,6 +44,14 @@ pub all_fronts : {X : Type 0} (f : X → List ℕ) (xs : List X) (i : ℕ) (byte
 all_fronts f xs i bytes rest le so_far = so_far ∙ ap (λ ys. flat_map f ys ++ rest) (take_all i xs le)
 
 -- ---- nodes
+
+-- a node's line, written in an empty room and found in front, and the texts of its structures behind it
+pub node_front : (vocab : Vocab) (name : List ℕ) (ss : List StructureForm) (count : ℕ) (old new bytes text inside rest : List ℕ)
+    → count ≡ length ss → old ≡ [] → new ≡ old ++ node_line name count → text ≡ new → bytes ≡ text ++ inside
+    → inside ≡ flat_map (canonical_text vocab) ss ++ rest → bytes ≡ node_text vocab name ss ++ rest
+node_front vocab name ss count old new bytes text inside rest counted empty written shown is next =
+    is ∙ ap (λ t. t ++ inside) (shown ∙ written ∙ ap (λ t. t ++ node_line name count) empty ∙ ap (node_line name) counted)
+    ∙ ap (λ t. node_line name (length ss) ++ t) next ∙ sym (append_assoc (node_line name (length ss)) (flat_map (canonical_text vocab) ss) rest)
 
 abbrev pub node_of : Vocab → List ℕ × List StructureForm → List ℕ
 node_of vocab node = node_text vocab node.0 node.1

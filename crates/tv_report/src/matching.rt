@@ -1,7 +1,8 @@
 //! Reports that stand in the layout in which they are written, read without tokens: what seems to stand there
 //! is written again, piece by piece, and compared with the text.
 
-ghost use Rattle.std.specs.Prelude.{◌≡◌, ◌++◌, ◌<◌, ◌≤◌, ◌^◌, ℕ, IfOk, IfSome, IsTrue, All, OnOk, codes, length};
+ghost use Rattle.std.specs.Prelude.{◌≡◌, ◌++◌, ◌<◌, ◌≤◌, ◌^◌, ℕ, IfOk, IfSome, IsTrue, All, OnOk, codes};
+ghost use Rattle.std.specs.Prelude.{length};
 ghost use Rattle.std.specs.List.{flat_map};
 ghost use Rattle.tv_listing.specs.Listed.{IsListing};
 ghost use Rattle.tv_listing.specs.ListingForm.{at_node};
@@ -73,7 +74,6 @@ fn message_line(line: &[u8]) -> Option<MessageLine> {
 }
 
 /// Lists that many structures, which seem to stand in front, at the node, and gives what stands behind them.
-#[tactic(auto, using(crate::proofs::Fronts::read_more))]
 fn list_structures<'a>(
     alloc: Global,
     vocab: &Vocab,
@@ -165,7 +165,6 @@ fn note_line(program: &Program, seen: &mut Pairs, line: MessageLine) -> Result<b
 }
 
 /// The lines of messages that seem to stand in front.
-#[tactic(auto, using(crate::proofs::Fronts::message_noted))]
 fn take_messages(
     alloc: Global,
     program: &Program,
@@ -211,7 +210,7 @@ fn behind_structure<'a>(
 }
 
 /// What stands behind the texts of the structures of the node.
-#[tactic(auto, using(crate::proofs::Fronts::next_front, crate::proofs::Fronts::all_fronts))]
+#[tactic(auto, using(crate::proofs::Fronts::all_fronts))]
 fn behind_structures<'a>(
     room: &mut Room,
     vocab: &Vocab,
@@ -264,7 +263,7 @@ fn behind_node<'a>(
 }
 
 /// What stands behind the texts of the nodes.
-#[tactic(auto, using(crate::proofs::Fronts::next_node, crate::proofs::Fronts::all_nodes, crate::proofs::Fronts::few_more, crate::proofs::Fronts::all_few))]
+#[tactic(auto, using(crate::proofs::Fronts::all_few))]
 fn behind_nodes<'a>(
     room: &mut Room,
     program: &Program,
@@ -322,6 +321,13 @@ fn behind_head(bytes: &[u8]) -> Option<&[u8]>
     behind(bytes, b"tvla report 2\n")
 }
 
+/// Whether nothing but the last line of a report stands there.
+fn is_end(bytes: &[u8]) -> bool
+    ensures { IsTrue result → bytes.now ≡ codes "end\n" }
+{
+    bytes == b"end\n".as_slice()
+}
+
 /// The report that a text is, where it stands there as `write_report` writes it, without maps; nothing where
 /// it doesn't. It is found without tokens, in memory for the analysis and for the text of one structure.
 pub fn read_written(
@@ -353,7 +359,7 @@ pub fn read_written(
     let Some(last) = behind_messages(&mut room, program, messages.as_slice(), inside)? else {
         return Ok(None);
     };
-    if last != b"end\n".as_slice() {
+    if !is_end(last) {
         return Ok(None);
     }
     Ok(Some(Analysis {

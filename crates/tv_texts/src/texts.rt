@@ -179,12 +179,11 @@ fn report_by_tokens(alloc: Global, program: &Program, bytes: &[u8]) -> Result<An
     }
 }
 
-/// The report on a program that a text of at most 67,108,864 bytes is.
+/// The report on a program that a text of at most 67,108,864 bytes is. One that stands there as it is written
+/// needs no tokens.
 ///
 /// # Errors
 /// It is refused where it is none; or memory ran out.
-///
-/// One that stands there as it is written needs no tokens.
 pub fn report_in(alloc: Global, program: &Program, bytes: &[u8]) -> Result<Analysis, TextFault>
     requires valid { IsValid (program_of program.now) }
     requires size { length bytes.now ≤ longest_text }

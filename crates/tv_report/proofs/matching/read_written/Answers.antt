@@ -1,5 +1,5 @@
 use Rattle.std.proofs.Common.{◌≡◌, ◌<◌, ◌^◌, ◌++◌, ◌∙◌, ap, subst, length}
-use Rattle.std.specs.Prelude.{All, IfSome, codes}
+use Rattle.std.specs.Prelude.{All, IfSome}
 use Rattle.std.specs.List.{flat_map}
 use Rattle.tv_model.specs.Program.{program_of}
 use Rattle.tv_tvs.proofs.Valid.{valid_fits}
@@ -40,4 +40,4 @@ returns-clause-meant c =
     in let said = subst (λ o. IfSome o (λ rest. c.in-Some-3.inside.now ≡ flat_map (message_text (program_of program)) c.as_slice.result.now ++ rest.now)) c.in-Some-5.is c.in_ok-last.ensures
     in is_report c.reports_are_read_again.ensures program (record { listing = c.in-Some-2.listing; messages = c.in-Some-4.messages; maps = c.new-3.result }) c.args.bytes.now
     c.in-Some.nodes.now c.in-Some-3.inside.now c.in-Some-5.last.now c.requires.valid (is_listing program c.in-Some-2.listing nodes few read) read once c.new-3.ensures
-    c.in-Some.ensures listed (said ∙ ap (λ ls. flat_map (message_text (program_of program)) ls ++ c.in-Some-5.last.now) c.as_slice.ensures) ?
+    c.in-Some.ensures listed (said ∙ ap (λ ls. flat_map (message_text (program_of program)) ls ++ c.in-Some-5.last.now) c.as_slice.ensures) (c.is_end.ensures c.if-not-is_end.false)
