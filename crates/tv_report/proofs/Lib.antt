@@ -10,3 +10,4 @@ pub mod ReadLaws
 pub mod WordTexts
 pub mod Written
 pub mod Again
+pub mod Fronts

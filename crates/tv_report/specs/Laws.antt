@@ -1,5 +1,5 @@
 -- Laws of reports, as statements.
-use Rattle.std.specs.Prelude.{ℕ, ◌<◌, ◌^◌, List, map, All}
+use Rattle.std.specs.Prelude.{ℕ, ◌<◌, ◌^◌, map, All}
 use Rattle.tv_model.specs.Program.{program_of}
 use Rattle.tv_model.specs.Valid.{IsValid}
 use Rattle.tv_model.specs.declared.program.Program.{Program}

@@ -3,6 +3,7 @@
 
 mod laws;
 mod lines;
+mod matching;
 mod names;
 mod nodes;
 mod program;
@@ -11,5 +12,6 @@ mod syntax;
 mod write;
 
 pub use laws::{one_meaning, one_reading, reports_are_read_again};
+pub use matching::read_written;
 pub use read::read_report;
 pub use write::write_report;

@@ -22,7 +22,11 @@ use tv_listing::{Analysis, Item, Listing, MapLine, MessageLine};
 use tv_model::{Program, Vocab};
 use tv_tvs::{StructureWriter, write_number, write_numbers};
 
-fn write_node_line(out: &mut Vec<u8>, name: &[u8], count: usize) -> Result<(), AllocError>
+pub(crate) fn write_node_line(
+    out: &mut Vec<u8>,
+    name: &[u8],
+    count: usize,
+) -> Result<(), AllocError>
     ensures { OnOk result (out.new.items ≡ out.old.items ++ node_line name.now count) }
 {
     out.extend_from_slice(b"node ")?;
@@ -124,7 +128,11 @@ fn write_quoted(out: &mut Vec<u8>, program: &Program, line: &MessageLine) -> Res
     out.extend_from_slice(b"\"\n")
 }
 
-fn write_message(out: &mut Vec<u8>, program: &Program, line: &MessageLine) -> Result<(), AllocError>
+pub(crate) fn write_message(
+    out: &mut Vec<u8>,
+    program: &Program,
+    line: &MessageLine,
+) -> Result<(), AllocError>
     ensures { OnOk result (out.new.items ≡ out.old.items ++ message_text (program_of program.now) line.now) }
 {
     out.extend_from_slice(b"message ")?;

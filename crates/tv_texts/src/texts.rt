@@ -26,7 +26,7 @@ use tv_lex::{Tokens, lex};
 use tv_listing::Analysis;
 use tv_model::Program;
 use tv_plang::compile;
-use tv_report::read_report;
+use tv_report::{read_report, read_written};
 use tv_status::{FileKind, Role};
 use tv_struct::{Structure, Structures};
 use tv_trace::{Trace, read_trace};
@@ -162,12 +162,9 @@ pub(crate) fn trace_in(alloc: Global, program: &Program, bytes: &[u8]) -> Result
     }
 }
 
-/// The report on a program that a text of at most 67,108,864 bytes is.
-///
-/// # Errors
-/// It is refused where it is none; or memory ran out.
+/// The report on a program that the tokens of a text are.
 #[tactic(auto, using(crate::proofs::Refusals::report_unlexed, crate::proofs::Refusals::report_refused))]
-pub fn report_in(alloc: Global, program: &Program, bytes: &[u8]) -> Result<Analysis, TextFault>
+fn report_by_tokens(alloc: Global, program: &Program, bytes: &[u8]) -> Result<Analysis, TextFault>
     requires valid { IsValid (program_of program.now) }
     requires size { length bytes.now ≤ longest_text }
     ensures means { IfOk result (λ a. MeansReport program.now bytes.now (Ok a)) }
@@ -179,6 +176,26 @@ pub fn report_in(alloc: Global, program: &Program, bytes: &[u8]) -> Result<Analy
     match read_report(alloc, program, bytes, &tokens) {
         Ok(analysis) => Ok(analysis),
         Err(error) => Err(fault_of_report(error)),
+    }
+}
+
+/// The report on a program that a text of at most 67,108,864 bytes is. One that stands there as it is written
+/// needs no tokens.
+///
+/// # Errors
+/// It is refused where it is none; or memory ran out.
+pub fn report_in(alloc: Global, program: &Program, bytes: &[u8]) -> Result<Analysis, TextFault>
+    requires valid { IsValid (program_of program.now) }
+    requires size { length bytes.now ≤ longest_text }
+    ensures means { IfOk result (λ a. MeansReport program.now bytes.now (Ok a)) }
+    ensures kept { IfOk result (λ a. IsListing program.now a.listing) }
+    ensures cause { IfErr result (IsTextCause role.Report (λ kind. MeansReport program.now bytes.now
+        (Err kind))) }
+{
+    match read_written(alloc, program, bytes) {
+        Ok(Some(analysis)) => Ok(analysis),
+        Ok(None) => report_by_tokens(alloc, program, bytes),
+        Err(_) => Err(TextFault::Memory),
     }
 }
 
