@@ -10,8 +10,8 @@ use Rattle.tv_kleene.specs.Kleene.{larger_of, smaller_of}
 use Rattle.tv_row.specs.Bits.{paired, yes_unless_no}
 use Rattle.tv_row.proofs.WordOps.{length-paired, get_or-paired}
 use Rattle.tv_model.specs.Truth.{Assignment, put}
-use Rattle.tv_members.specs.Members.{AreSteps, IsSteppedBy, MemberForm, is_literal}
-use Rattle.tv_members.specs.declared.levels.Step.{Step}
+use Rattle.tv_coerce_members.specs.Members.{AreSteps, IsSteppedBy, MemberForm, is_literal}
+use Rattle.tv_coerce_members.specs.declared.levels.Step.{Step}
 use Rattle.tv_eval.specs.Along.{IsWordAlong}
 use Rattle.tv_eval_laws.specs.Value.{value}
 use Rattle.tv_struct.specs.StructureForm.{StructureForm, structure_of}

@@ -7,7 +7,7 @@ use Rattle.std.proofs.lemmas.Option.{same_Some, slice_get_within}
 use Rattle.tv_kleene.specs.declared.K3.{K3}
 use Rattle.tv_kleene.specs.declared.K3.TheVariants.{No, Half, Yes}
 use Rattle.tv_model.specs.Truth.{Assignment}
-use Rattle.tv_members.specs.Members.{MemberForm}
+use Rattle.tv_coerce_members.specs.Members.{MemberForm}
 use Rattle.tv_eval_laws.specs.Value.{value}
 use Rattle.tv_struct.specs.StructureForm.{StructureForm, structure_of}
 use Rattle.tv_coerce.specs.Counting.{IsSome, Lacks, LacksTwo}

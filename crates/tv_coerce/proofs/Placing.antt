@@ -17,10 +17,10 @@ use Rattle.tv_model.specs.Rules.{IsFreeInRule, IsInHead, head_formula}
 use Rattle.tv_model.specs.Truth.{Assignment}
 use Rattle.tv_model.specs.Valid.{IsFormulaOver}
 use Rattle.tv_model.proofs.Lists.{Contains-cases, Contains-none, pushed-cases, slice_get-contains}
-use Rattle.tv_members.specs.Members.{AreLevels, AreSteps, IsPlaced, IsPlacedIn, IsReadAs, MemberForm}
-use Rattle.tv_members.specs.Members.{WaitsFor}
-use Rattle.tv_members.specs.declared.levels.Level.{Level}
-use Rattle.tv_members.specs.declared.levels.Step.{Step}
+use Rattle.tv_coerce_members.specs.Members.{AreLevels, AreSteps, IsPlaced, IsPlacedIn, IsReadAs, MemberForm}
+use Rattle.tv_coerce_members.specs.Members.{WaitsFor}
+use Rattle.tv_coerce_members.specs.declared.levels.Level.{Level}
+use Rattle.tv_coerce_members.specs.declared.levels.Step.{Step}
 use Rattle.tv_embedding_laws.specs.LogicalStructure.{LogicalStructure}
 use Rattle.tv_eval_laws.specs.Value.{value}
 use Rattle.tv_eval_laws.proofs.Agreed.{only_free_variables_matter}
@@ -33,8 +33,8 @@ use Rattle.tv_eval.specs.ScratchForm.{ScratchForm, HasScratchFor}
 use Rattle.tv_struct.specs.StructureForm.{StructureForm, arities_of, structure_of}
 use Rattle.tv_rules.specs.Kin.{IsKin, IsTriedBy, skip_of}
 use Rattle.tv_rules.specs.Waiting.{IsAllBut, forms_in}
-use Rattle.tv_members.specs.Members.{IsSteppedBy, is_literal, members_of}
-use Rattle.tv_members.specs.declared.shapes.Shape.{Shape}
+use Rattle.tv_coerce_members.specs.Members.{IsSteppedBy, is_literal, members_of}
+use Rattle.tv_coerce_members.specs.declared.shapes.Shape.{Shape}
 use Rattle.tv_coerce.specs.Counting.{AreLeft, AreOthersYes, Bars, CanRead, CanTest, IsBarring, IsIdle, Lacks}
 use Rattle.tv_coerce.specs.Counting.{members_in}
 use Rattle.tv_coerce.specs.Counting.{variables_in}

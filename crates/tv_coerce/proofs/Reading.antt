@@ -11,8 +11,8 @@ use Rattle.tv_kleene.specs.declared.K3.TheVariants.{No}
 use Rattle.tv_model.specs.Form.{Form, FAtom, FSame, FExists, IsFree}
 use Rattle.tv_model.specs.Truth.{Assignment, put}
 use Rattle.tv_model.specs.Valid.{IsFormulaOver}
-use Rattle.tv_members.specs.Members.{MemberForm, member_of, members_of, signed}
-use Rattle.tv_members.specs.declared.members.Member.{Member}
+use Rattle.tv_coerce_members.specs.Members.{MemberForm, member_of, members_of, signed}
+use Rattle.tv_coerce_members.specs.declared.members.Member.{Member}
 use Rattle.tv_eval_laws.specs.Value.{value, same_value}
 use Rattle.tv_eval.specs.Along.{IsWordAlong, IsWordOf}
 use Rattle.tv_eval.specs.AssignmentForm.{assignment_of, individual_for}

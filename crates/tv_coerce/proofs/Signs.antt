@@ -15,8 +15,8 @@ use Rattle.tv_eval_laws.specs.Value.{value, mark_value, same_value, greatest_of,
 use Rattle.tv_rules.specs.Standing.{IsEquality}
 use Rattle.tv_struct.specs.StructureForm.{StructureForm, structure_of, summary_at}
 use Rattle.tv_coerce.specs.Touched.{HasNotMoved, IsTouched}
-use Rattle.tv_moves.specs.Moves.{MayMove}
-use Rattle.tv_moves.proofs.MoveLaws.{moves-shows}
+use Rattle.tv_coerce_moves.specs.Moves.{MayMove}
+use Rattle.tv_coerce_moves.proofs.MoveLaws.{moves-shows}
 
 -- ---- two values
 

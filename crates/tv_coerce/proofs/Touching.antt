@@ -29,9 +29,9 @@ use Rattle.tv_coerce.specs.declared.change.Change.TheVariants.{Value, Ordinary}
 use Rattle.tv_coerce.specs.Changes.{IsPlace, IsLowered, changed}
 use Rattle.tv_coerce.specs.RuleSets.{HasAtLeast, HasMore, HasLost, IsIn, IsRuleThat, IsStableBut}
 use Rattle.tv_coerce.specs.Touched.{HasNotMoved, IsChangeOf, IsTouched}
-use Rattle.tv_moves.specs.Moves.{MayMove}
+use Rattle.tv_coerce_moves.specs.Moves.{MayMove}
 use Rattle.tv_rules.specs.Seen.{Sees, SeesTwice}
-use Rattle.tv_moves.proofs.MoveLaws.{moves-shows}
+use Rattle.tv_coerce_moves.proofs.MoveLaws.{moves-shows}
 use Rattle.tv_coerce.proofs.Signs.{still, still-whole, still-yes}
 
 -- ---- what is touched

@@ -5,7 +5,7 @@ use Rattle.std.proofs.Common.{refl, subst}
 use Rattle.std.proofs.lemmas.List.{take_all, take_more}
 use Rattle.tv_model.proofs.Lists.{pushed-cases}
 use Rattle.tv_model.specs.Program.{RuleForm}
-use Rattle.tv_moves.specs.declared.list.Mover.{Mover}
+use Rattle.tv_coerce_moves.specs.declared.list.Mover.{Mover}
 use Rattle.tv_rules.specs.Moved.{IsMovedOf}
 use Rattle.tv_coerce.specs.RuleSets.{AreOf, HasAtLeast, HasMore}
 

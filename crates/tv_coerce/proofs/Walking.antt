@@ -27,7 +27,7 @@ use Rattle.tv_model.proofs.Assignments.{put-same, put-other}
 use Rattle.tv_model.proofs.Heads.{free-in_head}
 use Rattle.tv_model.proofs.Lists.{Contains-cases, Contains-here, Contains-none, Contains-there, pushed-cases}
 use Rattle.tv_model.proofs.Lists.{pushed-last}
-use Rattle.tv_members.specs.Members.{MemberForm, numbers_of}
+use Rattle.tv_coerce_members.specs.Members.{MemberForm, numbers_of}
 use Rattle.tv_embedding_laws.specs.LogicalStructure.{LogicalStructure}
 use Rattle.tv_embedding_laws.specs.Embedding.{IsBelow}
 use Rattle.tv_eval_laws.specs.Value.{value}

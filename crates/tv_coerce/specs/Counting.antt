@@ -10,8 +10,8 @@ use Rattle.tv_kleene.specs.Kleene.{negation_of}
 use Rattle.tv_model.specs.Form.{FExists}
 use Rattle.tv_model.specs.Truth.{Assignment, put}
 use Rattle.tv_model.specs.Valid.{IsFormulaOver}
-use Rattle.tv_members.specs.Members.{MemberForm, IsReadAs, is_literal, members_of, numbers_of}
-use Rattle.tv_members.specs.declared.levels.Step.{Step}
+use Rattle.tv_coerce_members.specs.Members.{MemberForm, IsReadAs, is_literal, members_of, numbers_of}
+use Rattle.tv_coerce_members.specs.declared.levels.Step.{Step}
 use Rattle.tv_eval_laws.specs.Value.{value}
 use Rattle.tv_eval.specs.AssignmentForm.{assignment_of}
 use Rattle.tv_eval.specs.Formulas.{AreAssigned}

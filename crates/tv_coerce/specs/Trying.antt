@@ -19,7 +19,7 @@ use Rattle.tv_struct.specs.StructureForm.{StructureForm, arities_of, structure_o
 use Rattle.tv_coerce.specs.Changes.{Has, IsPlace, IsOpen}
 use Rattle.tv_coerce.specs.Ready.{IsRuleOver}
 use Rattle.tv_coerce.specs.Touched.{IsChangeOf}
-use Rattle.tv_members.specs.Members.{IsLaidOut}
+use Rattle.tv_coerce_members.specs.Members.{IsLaidOut}
 use Rattle.tv_rules.specs.Kin.{IsKin, IsTriedBy, skip_of}
 use Rattle.tv_coerce.specs.declared.finding.Found.{Found}
 use Rattle.tv_coerce.specs.declared.noted.Noted.{Noted}

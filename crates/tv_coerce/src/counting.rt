@@ -5,7 +5,7 @@ ghost use Rattle.tv_kleene.specs.declared.K3.TheVariants.{Yes};
 ghost use Rattle.tv_eval.specs.AssignmentForm.{assignment_of};
 ghost use Rattle.tv_eval.specs.Bound.{IsBound, bound_structure, bound_room};
 ghost use Rattle.tv_eval_laws.specs.Value.{value};
-ghost use Rattle.tv_members.specs.Members.{AreSteps, MemberForm};
+ghost use Rattle.tv_coerce_members.specs.Members.{AreSteps, MemberForm};
 ghost use Rattle.tv_struct.specs.StructureForm.{structure_of};
 ghost use Rattle.tv_coerce.specs.Counting.{CanTest, CountTells, IsAt, IsBarring, IsIdle, Lacks, counted};
 ghost use Rattle.tv_coerce.specs.Counting.{members_in};
@@ -14,9 +14,9 @@ ghost use Rattle.tv_coerce.specs.Lacking.{CanValue, IsLacking, lacking_too};
 ghost use Rattle.tv_coerce.specs.Trying.{StaysBound};
 
 use crate::trial::{Trial, is_no};
+use tv_coerce_members::Step;
 use tv_eval::{Assignment, Evaluator};
 use tv_kleene::K3;
-use tv_members::Step;
 
 /// How two counts count together.
 fn counted(j: K3, k: K3) -> K3

@@ -5,7 +5,7 @@ ghost use Rattle.tv_kleene.specs.declared.K3.{K3};
 ghost use Rattle.tv_eval.specs.Along.{IsWordAlong, IsWordOf};
 ghost use Rattle.tv_eval.specs.AssignmentForm.{assignment_of};
 ghost use Rattle.tv_eval.specs.Bound.{IsBound, bound_structure, bound_room};
-ghost use Rattle.tv_members.specs.Members.{AreSteps, MemberForm};
+ghost use Rattle.tv_coerce_members.specs.Members.{AreSteps, MemberForm};
 ghost use Rattle.tv_kleene.specs.declared.K3.TheVariants.{Yes};
 ghost use Rattle.tv_row.specs.Bits.{paired};
 ghost use Rattle.tv_eval_laws.specs.Value.{value};
@@ -17,8 +17,8 @@ ghost use Rattle.tv_coerce.specs.Trying.{StaysBound};
 
 use crate::need::at;
 use crate::trial::{Trial, is_no};
+use tv_coerce_members::{Reading, Step};
 use tv_eval::{Assignment, Evaluator, places, same_as};
-use tv_members::{Reading, Step};
 use tv_model::Var;
 use tv_row::Word;
 use tv_struct::Structure;

@@ -11,8 +11,8 @@ ghost use Rattle.tv_coerce.specs.RuleSets.{AreOf, IsIn, IsRuleThat, HasAtLeast, 
 
 use std::alloc::{AllocError, Global};
 use std::marker::Model;
+use tv_coerce_moves::Mover;
 use tv_model::{Head, PredId};
-use tv_moves::Mover;
 use tv_row::Flags;
 use tv_rules::Closed;
 

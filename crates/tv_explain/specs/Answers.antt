@@ -13,7 +13,7 @@ use Rattle.tv_losses_text.specs.Reports.{IsLossReport}
 use Rattle.tv_model.specs.Program.{MessageForm, program_of}
 use Rattle.tv_model.specs.declared.program.Program.{Program}
 use Rattle.tv_outside.specs.Told.{Held}
-use Rattle.tv_reasons.specs.Reasons.{HasNone, IsLedToBy, IsNeverRaised, IsRaisedBy}
+use Rattle.tv_trail_reasons.specs.Reasons.{HasNone, IsLedToBy, IsNeverRaised, IsRaisedBy}
 use Rattle.tv_step_laws.specs.Budgets.{MeetsIndividuals, MeetsSplits}
 use Rattle.tv_texts.specs.Files.{IsProgramFile, IsReportFile}
 use Rattle.tv_texts.specs.Meaning.{MeansProgram}

@@ -20,7 +20,7 @@ use tv_explain_text::{Told, messages_at, raised_text, trail_text};
 use tv_explain_words::Analyzed;
 use tv_losses_text::explain_losses;
 use tv_model::{Bytes, Message};
-use tv_reasons::{Raised, trail_to_listed, trail_to_message};
+use tv_trail_reasons::{Raised, trail_to_listed, trail_to_message};
 
 /// The text that no reached structure raises a message.
 fn no_message(alloc: Global) -> Result<Vec<u8>, AllocError>

@@ -24,7 +24,7 @@ use Rattle.tv_step_laws.proofs.Exact.{results-once}
 use Rattle.tv_step_laws.proofs.Heaps.{action-once}
 use Rattle.tv_eval.specs.ScratchForm.{ScratchForm}
 use Rattle.tv_step.specs.AtHand.{IsFocusFault}
-use Rattle.tv_enabled.specs.Enabled.{IsEnabledAtHand}
+use Rattle.tv_losses_enabled.specs.Enabled.{IsEnabledAtHand}
 use Rattle.tv_work.specs.Analysed.{IsAtSource}
 use Rattle.tv_losses.specs.Losses.{HasNoOpeningAt, IsLost, IsLostAt, ListsNothing}
 use Rattle.tv_losses.specs.Tasks.{IsReady, form_in, reached_in}

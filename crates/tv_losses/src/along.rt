@@ -10,8 +10,8 @@ ghost use Rattle.tv_losses.specs.Tasks.{IsLossCause, IsReady, form_in, mode_in};
 
 use crate::task::Task;
 use crate::told::{Places, push_if};
-use tv_enabled::is_enabled_at_hand;
 use tv_eval::Scratch;
+use tv_losses_enabled::is_enabled_at_hand;
 use tv_model::{Action, Edge, Items, Program};
 use tv_struct::Structure;
 use tv_work::WorkError;

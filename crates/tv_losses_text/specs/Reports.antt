@@ -5,8 +5,8 @@ use Rattle.tv_model.specs.Program.{ProgramForm}
 use Rattle.tv_struct.specs.StructureForm.{StructureForm}
 use Rattle.tv_losses.specs.Losses.{AreLosses}
 use Rattle.tv_losses.specs.declared.told.Losses.{Losses}
-use Rattle.tv_unmet.specs.Unmet.{AreFound}
-use Rattle.tv_unmet.specs.declared.claim.Claim.{Claim}
+use Rattle.tv_losses_unmet.specs.Unmet.{AreFound}
+use Rattle.tv_losses_unmet.specs.declared.claim.Claim.{Claim}
 use Rattle.tv_losses_text.specs.Texts.{losses_text}
 use Rattle.tv_losses_text.specs.declared.report.LossReport.{LossReport}
 

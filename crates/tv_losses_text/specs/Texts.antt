@@ -5,8 +5,8 @@ use Rattle.tv_file_lines.specs.Numbered.{numbered}
 use Rattle.tv_losses.specs.declared.told.EdgeLoss.{EdgeLoss}
 use Rattle.tv_losses.specs.declared.told.Losses.{Losses}
 use Rattle.tv_model.specs.Program.{ProgramForm, PredForm}
-use Rattle.tv_unmet.specs.declared.claim.Claim.{Claim}
-use Rattle.tv_unmet.specs.declared.claim.Claim.TheVariants.{Predicate, Rule}
+use Rattle.tv_losses_unmet.specs.declared.claim.Claim.{Claim}
+use Rattle.tv_losses_unmet.specs.declared.claim.Claim.TheVariants.{Predicate, Rule}
 
 abbrev pub name_of : Option (List ℕ) → List ℕ
 name_of None = []

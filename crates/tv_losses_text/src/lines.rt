@@ -11,8 +11,8 @@ use std::alloc::{AllocError, Global};
 use tv_edge_heads::head_at;
 use tv_file_lines::append_numbered;
 use tv_losses::{EdgeLoss, Losses};
+use tv_losses_unmet::Claim;
 use tv_model::{Bytes, Names, PredId, Program};
-use tv_unmet::Claim;
 
 /// Appends the name of the predicate.
 fn append_pred(out: &mut Vec<u8>, program: &Program, p: PredId) -> Result<(), AllocError>

@@ -11,9 +11,9 @@ ghost use Rattle.tv_losses_text.specs.Reports.{IsLossReport};
 use crate::lines::losses_text;
 use std::alloc::Global;
 use tv_losses::losses;
+use tv_losses_unmet::first_unmet_each;
 use tv_model::{Bytes, Mode, Program};
 use tv_struct::Structures;
-use tv_unmet::first_unmet_each;
 use tv_work::WorkError;
 
 /// The text of losses, and whether there are any.

@@ -16,8 +16,8 @@ use Rattle.tv_model.specs.Form.{FExists, FForall, FClosure, form_of}
 use Rattle.tv_model.specs.Program.{HeadForm, HNever, HAtom, HSame, RuleForm, head_of, rule_of}
 use Rattle.tv_model.specs.Rules.{IsFreeInRule}
 use Rattle.tv_rules.specs.declared.entries.Entry.{Entry}
-use Rattle.tv_members.specs.Members.{IsLaidOut, MemberForm, forms_of, member_of, members_of}
-use Rattle.tv_members.specs.declared.shapes.Shape.{Shape}
+use Rattle.tv_coerce_members.specs.Members.{IsLaidOut, MemberForm, forms_of, member_of, members_of}
+use Rattle.tv_coerce_members.specs.declared.shapes.Shape.{Shape}
 use Rattle.tv_rules.specs.Closing.{Swap, swaps, puttings, conjuncts, closed_set, negated, negated_head}
 use Rattle.tv_rules.specs.Closing.{negated_if, signed_head}
 use Rattle.tv_rules.specs.Decoded.{IsRuleAbout, IsEntry}

@@ -9,9 +9,9 @@ use Rattle.tv_model.proofs.Lists.{slice_get-none}
 use Rattle.tv_model.specs.declared.formula.Formula.{Formula}
 use Rattle.tv_model.specs.declared.program.Rule.{Rule}
 use Rattle.tv_model.specs.Program.{RuleForm, rule_of}
-use Rattle.tv_members.specs.Members.{IsLaidOut}
-use Rattle.tv_members.specs.declared.shapes.Shape.{Shape}
-use Rattle.tv_moves.specs.Movers.{MoverLists}
+use Rattle.tv_coerce_members.specs.Members.{IsLaidOut}
+use Rattle.tv_coerce_members.specs.declared.shapes.Shape.{Shape}
+use Rattle.tv_coerce_moves.specs.Movers.{MoverLists}
 use Rattle.tv_rules.specs.declared.entries.Entry.{Entry}
 use Rattle.tv_rules.specs.Closing.{conjuncts}
 use Rattle.tv_rules.specs.Decoded.{IsEntry}

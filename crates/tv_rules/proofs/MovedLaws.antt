@@ -17,15 +17,16 @@ use Rattle.tv_model.specs.Form.{Form, FZero, FOne, FAtom, FIsNew, FSame, FNot, F
 use Rattle.tv_model.specs.Form.{FExists, FForall, FClosure}
 use Rattle.tv_model.specs.Program.{HeadForm, HNever, HAtom, HSame, RuleForm, rule_of}
 use Rattle.tv_model.specs.declared.program.Rule.{Rule}
-use Rattle.tv_moves.specs.declared.list.Mover.{Mover}
-use Rattle.tv_moves.specs.declared.list.Moving.{Moving}
-use Rattle.tv_moves.specs.declared.list.Moving.TheVariants.{Alone, Several}
-use Rattle.tv_moves.specs.Moves.{MayMove, MayTell}
-use Rattle.tv_moves.specs.Movers.{AreNoted, HasMember, HasPlaces, IsAmong, IsListed, KeepsMembers, MoverLists}
-use Rattle.tv_moves.specs.Movers.{MovesOther}
-use Rattle.tv_moves.specs.Movers.{list_for}
-use Rattle.tv_moves.proofs.MoveLaws.{moves-shows}
-use Rattle.tv_moves.proofs.NotedLaws.{keeps-all, keeps-both}
+use Rattle.tv_coerce_moves.specs.declared.list.Mover.{Mover}
+use Rattle.tv_coerce_moves.specs.declared.list.Moving.{Moving}
+use Rattle.tv_coerce_moves.specs.declared.list.Moving.TheVariants.{Alone, Several}
+use Rattle.tv_coerce_moves.specs.Moves.{MayMove, MayTell}
+use Rattle.tv_coerce_moves.specs.Movers.{AreNoted, HasMember, HasPlaces, IsAmong, IsListed, KeepsMembers}
+use Rattle.tv_coerce_moves.specs.Movers.{MoverLists}
+use Rattle.tv_coerce_moves.specs.Movers.{MovesOther}
+use Rattle.tv_coerce_moves.specs.Movers.{list_for}
+use Rattle.tv_coerce_moves.proofs.MoveLaws.{moves-shows}
+use Rattle.tv_coerce_moves.proofs.NotedLaws.{keeps-all, keeps-both}
 use Rattle.tv_rules.specs.declared.entries.Entry.{Entry}
 use Rattle.tv_rules.specs.Closing.{conjuncts, negated_head, closed_set}
 use Rattle.tv_rules.specs.Decoded.{IsEntry}

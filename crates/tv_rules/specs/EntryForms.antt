@@ -9,7 +9,7 @@ use Rattle.tv_model.specs.Form.{Form}
 use Rattle.tv_model.specs.Program.{HeadForm, RuleForm, head_of, rule_of}
 use Rattle.tv_model.specs.Rules.{IsFreeInRule}
 use Rattle.tv_rules.specs.Closing.{conjuncts, negated as negation, closed_set}
-pub use Rattle.tv_members.specs.Members.{forms_of, numbers_of}
+pub use Rattle.tv_coerce_members.specs.Members.{forms_of, numbers_of}
 
 -- the closed set of these base rules
 abbrev pub rules_of : List Rule → List RuleForm

@@ -4,7 +4,7 @@ use Rattle.std.specs.List.{AllZip}
 use Rattle.tv_model.specs.declared.formula.Formula.{Formula}
 use Rattle.tv_model.specs.declared.program.Rule.{Rule}
 use Rattle.tv_rules.specs.declared.entries.Entry.{Entry}
-use Rattle.tv_members.specs.declared.shapes.Shape.{Shape}
+use Rattle.tv_coerce_members.specs.declared.shapes.Shape.{Shape}
 use Rattle.tv_model.specs.Form.{form_of}
 use Rattle.tv_model.specs.Program.{RuleForm, rule_of}
 use Rattle.tv_rules.specs.Closing.{negated_head}

@@ -1,6 +1,6 @@
 -- Which closed rules came of one base rule, and which member of it the head of each denies.
 use Rattle.std.specs.Prelude.{ℕ, ◌≡◌, ◌<◌, List, length, map, Option, None, Some, slice_get, unwrap_or}
-use Rattle.tv_members.specs.declared.shapes.Shape.{Shape}
+use Rattle.tv_coerce_members.specs.declared.shapes.Shape.{Shape}
 use Rattle.tv_model.specs.Program.{RuleForm, rule_of}
 use Rattle.tv_model.specs.declared.program.Rule.{Rule}
 use Rattle.tv_rules.specs.Closing.{conjuncts}

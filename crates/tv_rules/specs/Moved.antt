@@ -4,10 +4,10 @@ use Rattle.std.specs.Prelude.{slice_get, slice_index_or}
 use Rattle.tv_model.specs.Form.{Form}
 use Rattle.tv_model.specs.Program.{HeadForm, RuleForm, rule_of}
 use Rattle.tv_model.specs.declared.program.Rule.{Rule}
-use Rattle.tv_moves.specs.declared.list.Member.{Member}
-use Rattle.tv_moves.specs.declared.list.Mover.{Mover}
-use Rattle.tv_moves.specs.Moves.{MayMove, MayTell}
-use Rattle.tv_moves.specs.Movers.{HasMember, IsListed, KeepsMembers, MoverLists, MovesOther, list_for}
+use Rattle.tv_coerce_moves.specs.declared.list.Member.{Member}
+use Rattle.tv_coerce_moves.specs.declared.list.Mover.{Mover}
+use Rattle.tv_coerce_moves.specs.Moves.{MayMove, MayTell}
+use Rattle.tv_coerce_moves.specs.Movers.{HasMember, IsListed, KeepsMembers, MoverLists, MovesOther, list_for}
 use Rattle.tv_rules.specs.Closing.{conjuncts, negated_head, closed_set}
 use Rattle.tv_rules.specs.EntryForms.{EntryForm, closed_entries, rules_of}
 use Rattle.tv_rules.specs.Kin.{base_in}

@@ -1,7 +1,7 @@
 -- Which rules see the changes that a head asks for.
 use Rattle.std.specs.Prelude.{◌⊎◌, true}
 use Rattle.tv_model.specs.Program.{HeadForm, RuleForm}
-use Rattle.tv_moves.specs.Moves.{MayMove, MayTell}
+use Rattle.tv_coerce_moves.specs.Moves.{MayMove, MayTell}
 use Rattle.tv_rules.specs.Standing.{HasTwice}
 
 -- a head that has one variable twice may have been met by a value that such changes make known

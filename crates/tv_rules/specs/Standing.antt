@@ -3,7 +3,7 @@ use Rattle.std.specs.Prelude.{ℕ, ◌≡◌, ◌⊎◌, ◌↔◌, List, Some, 
 use Rattle.std.specs.List.Sorted.{IsStrictlyIncreasing}
 use Rattle.tv_model.specs.Form.{Mentions}
 use Rattle.tv_model.specs.Program.{HeadForm, RuleForm}
-pub use Rattle.tv_moves.specs.Moves.{IsHeadOf, HasEquality, IsEquality}
+pub use Rattle.tv_coerce_moves.specs.Moves.{IsHeadOf, HasEquality, IsEquality}
 use Rattle.tv_stable_laws.specs.Stable.{IsTwice}
 
 -- the predicate q stands in the rule, in its body or in its head

@@ -1,7 +1,7 @@
 -- What trying a closed rule goes by: the members of its family, and which of them its head denies.
 use Rattle.std.specs.Prelude.{ℕ, ◌≡◌, ◌≢◌, ◌↔◌, List, [], ◌∷◌, ◌++◌, map, Some, Contains, slice_get}
-use Rattle.tv_members.specs.Members.{IsLaidOut, members_of}
-use Rattle.tv_members.specs.declared.shapes.Shape.{Shape}
+use Rattle.tv_coerce_members.specs.Members.{IsLaidOut, members_of}
+use Rattle.tv_coerce_members.specs.declared.shapes.Shape.{Shape}
 use Rattle.tv_model.specs.Form.{Form}
 use Rattle.tv_model.specs.Program.{RuleForm}
 use Rattle.tv_rules.specs.Closing.{conjuncts, negated_head}

@@ -20,7 +20,7 @@ ghost use Rattle.tv_rules.specs.Moved.{IsMoved, IsMovedBySome};
 ghost use Rattle.tv_rules.specs.Seen.{Sees};
 ghost use Rattle.tv_rules.specs.Kin.{IsKin, IsTriedBy, skip_of};
 ghost use Rattle.tv_rules.specs.Waiting.{IsShape};
-ghost use Rattle.tv_members.specs.Members.{IsLaidOut};
+ghost use Rattle.tv_coerce_members.specs.Members.{IsLaidOut};
 
 use crate::base::base_rules;
 use crate::conjuncts::{conjuncts, negated_head};
@@ -31,9 +31,9 @@ use crate::shapes::{Shapes, shape_of};
 use crate::watch::{Numbers, seeing_summaries, standing};
 use std::alloc::{AllocError, Global};
 use std::marker::Model;
-use tv_members::Shape;
+use tv_coerce_members::Shape;
+use tv_coerce_moves::{Mover, Movers};
 use tv_model::{Formula, Formulas, Head, Items, PredId, Program, Rule, Rules, Var};
-use tv_moves::{Mover, Movers};
 
 /// The closed rules of a program, and for each predicate the numbers of the rules in which it stands. A
 /// further rule is kept by the number of its base rule and the place of its conjunct, so that many rules

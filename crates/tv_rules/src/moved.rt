@@ -3,7 +3,7 @@
 
 ghost use Rattle.std.specs.Prelude.{ℕ, ◌≡◌, ◌<◌, IfOk, OnOk, Some, length, map, slice_get};
 ghost use Rattle.tv_model.specs.Program.{RuleForm, rule_of};
-ghost use Rattle.tv_moves.specs.Movers.{KeepsMembers};
+ghost use Rattle.tv_coerce_moves.specs.Movers.{KeepsMembers};
 ghost use Rattle.tv_rules.specs.Closing.{closed_set};
 ghost use Rattle.tv_rules.specs.EntryForms.{EntryForm, closed_entries, entry_of, forms_of};
 ghost use Rattle.tv_rules.specs.Moved.{AreConjunctsNoted, AreFamilies, AreHeadsNoted, AreMovers};
@@ -16,8 +16,8 @@ use crate::entries::Entry;
 use crate::mentioned::empty_lists;
 use crate::watch::{Numbers, has_twice};
 use std::alloc::{AllocError, Global};
+use tv_coerce_moves::{Member, Movers};
 use tv_model::{Formula, Items, Rule};
-use tv_moves::{Member, Movers};
 
 /// Notes the conjuncts of a rule for each change that may make them greater.
 fn note_conjuncts(movers: &mut Movers, list: &[&Formula], rule: usize) -> Result<(), AllocError>

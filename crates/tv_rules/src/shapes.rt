@@ -9,7 +9,7 @@ ghost use Rattle.tv_rules.specs.Waiting.{IsShape};
 
 use crate::conjuncts::{conjuncts, is_free_in_rule, negated_head};
 use std::alloc::{AllocError, Global};
-use tv_members::{Shape, lay_out};
+use tv_coerce_members::{Shape, lay_out};
 use tv_model::{Formula, Items, Rule, Terms, Var, Vars};
 
 /// The shapes of base rules.

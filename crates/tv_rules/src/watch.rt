@@ -12,8 +12,8 @@ ghost use Rattle.tv_rules.specs.Flags.{Flags, IsOfBase, IsOfBaseOrTwice, AreTrue
 
 use crate::entries::Entry;
 use std::alloc::{AllocError, Global};
+use tv_coerce_moves::{has_equality, is_equality};
 use tv_model::{Head, Items, PredId, Rule, Terms};
-use tv_moves::{has_equality, is_equality};
 
 /// Numbers of closed rules.
 pub type Numbers = Items<usize>;

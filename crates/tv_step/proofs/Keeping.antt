@@ -2,8 +2,8 @@
 use Rattle.std.proofs.Common.{ℕ, ◌≡◌, Bool, List, All, Contains, sym, subst}
 use Rattle.std.specs.Prelude.{Result, Ok, Err, IfOk, MatchResult}
 use Rattle.std.proofs.lemmas.List.Elements.{All-contains}
-use Rattle.tv_rule_sets.specs.declared.found.Kept.{Kept}
-use Rattle.tv_rule_sets.specs.Found.{HasMoreSets}
+use Rattle.tv_coerce_sets.specs.declared.found.Kept.{Kept}
+use Rattle.tv_coerce_sets.specs.Found.{HasMoreSets}
 use Rattle.tv_step.proofs.Adding.{all-more}
 
 -- what holds of each set and its predicates holds of one that was found for these

@@ -19,7 +19,7 @@ use Rattle.tv_rules.specs.Standing.{StandsIn, SeesSummaries}
 use Rattle.tv_update_laws.specs.Applied.{kind_or_core, kind_at}
 use Rattle.tv_coerce.specs.RuleSets.{IsIn, HasMore, IsRuleThat}
 use Rattle.tv_update.specs.Plan.{IsDefined, moves_individuals}
-use Rattle.tv_rule_sets.specs.Listed.{AreListed}
+use Rattle.tv_coerce_sets.specs.Listed.{AreListed}
 use Rattle.tv_step.specs.Waiting.{WaitsAbout, WaitsAfter, WaitsAt, WaitsFor, HasRulesOf}
 
 -- no predicate is asked for

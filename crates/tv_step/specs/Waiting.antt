@@ -7,7 +7,7 @@ use Rattle.tv_rules.specs.Standing.{StandsIn, SeesSummaries}
 use Rattle.tv_update_laws.specs.Applied.{kind_at}
 use Rattle.tv_coerce.specs.RuleSets.{IsIn}
 use Rattle.tv_update.specs.Plan.{IsDefined, moves_individuals}
-use Rattle.tv_rule_sets.specs.declared.found.Kept.{Kept}
+use Rattle.tv_coerce_sets.specs.declared.found.Kept.{Kept}
 use Rattle.tv_step.specs.declared.waiting.Shared.{Shared}
 
 -- the action leaves the rule alone: no individual comes or goes, and each predicate that stands in the rule

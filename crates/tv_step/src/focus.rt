@@ -24,9 +24,9 @@ use std::rc::Rc;
 use tv_coerce::RuleSet;
 use tv_eval::Scratch;
 use tv_focus::{FocusAtoms, Focused, into_focused};
+use tv_focus_walk::{Walk, walk_choices};
 use tv_model::Formula;
 use tv_struct::{StageError, Structure, Structures};
-use tv_walk::{Walk, walk_choices};
 
 /// An atom of a focus formula, by its number, and the rules that a choice of it may leave unmet in a
 /// structure that was stable. The atoms of a formula share its list, and those of an action the rules.

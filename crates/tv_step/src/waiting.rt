@@ -15,8 +15,8 @@ use crate::setting::Setting;
 use std::alloc::AllocError;
 use std::rc::Rc;
 use tv_coerce::RuleSet;
+use tv_coerce_sets::{Found, found_for, keep, mentioned, none_found, updated};
 use tv_model::{Action, Formula, Kind, PredId, Update};
-use tv_rule_sets::{Found, found_for, keep, mentioned, none_found, updated};
 
 /// Whether individuals may come or go.
 pub fn moves(action: &Action) -> bool

@@ -2,7 +2,7 @@
 use Rattle.std.proofs.Common.{◌≢◌}
 use Rattle.tv_kleene.specs.declared.K3.TheVariants.{No}
 use Rattle.tv_eval.specs.AssignmentForm.{assignment_of}
-use Rattle.tv_members.specs.Members.{members_of}
+use Rattle.tv_coerce_members.specs.Members.{members_of}
 use Rattle.tv_coerce.specs.Trying.{StaysBound}
 use Rattle.tv_coerce.proofs.Counts.{TellsBy}
 use Rattle.tv_coerce.proofs.counting.count.Given as goal

@@ -1,7 +1,7 @@
 -- One member more.
 use Rattle.std.proofs.Common.{◌≡◌, ◌∙◌, ap, arith, get_or, length, subst, sym}
 use Rattle.std.proofs.lemmas.List.{length-map}
-use Rattle.tv_members.specs.Members.{member_of, members_of}
+use Rattle.tv_coerce_members.specs.Members.{member_of, members_of}
 use Rattle.tv_eval.specs.AssignmentForm.{assignment_of}
 use Rattle.tv_eval.specs.Bound.{bound_room, bound_structure}
 use Rattle.tv_eval_laws.specs.Value.{value}

@@ -1,6 +1,6 @@
 -- The members so far.
 use Rattle.tv_eval.specs.AssignmentForm.{assignment_of}
-use Rattle.tv_members.specs.Members.{members_of}
+use Rattle.tv_coerce_members.specs.Members.{members_of}
 use Rattle.tv_coerce.specs.Trying.{StaysBound}
 use Rattle.tv_coerce.proofs.Lacks.{IsLackingBy}
 use Rattle.tv_coerce.proofs.counting.lacking.Given as goal

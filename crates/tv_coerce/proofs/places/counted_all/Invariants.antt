@@ -1,6 +1,6 @@
 -- The members so far.
 use Rattle.tv_eval.specs.AssignmentForm.{assignment_of}
-use Rattle.tv_members.specs.Members.{members_of}
+use Rattle.tv_coerce_members.specs.Members.{members_of}
 use Rattle.tv_coerce.specs.Trying.{StaysBound}
 use Rattle.tv_coerce.proofs.Counts.{CountedBy}
 use Rattle.tv_coerce.proofs.places.counted_all.Given as goal

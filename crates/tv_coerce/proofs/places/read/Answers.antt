@@ -1,7 +1,7 @@
 -- The member is what the reading says.
 use Rattle.std.proofs.Common.{[], ◌∷◌, subst}
 use Rattle.tv_model.specs.Form.{FAtom}
-use Rattle.tv_members.specs.Members.{IsReadAs}
+use Rattle.tv_coerce_members.specs.Members.{IsReadAs}
 use Rattle.tv_eval.specs.Along.{IsWordAlong}
 use Rattle.tv_eval.specs.AssignmentForm.{assignment_of}
 use Rattle.tv_coerce.specs.Counting.{members_in}

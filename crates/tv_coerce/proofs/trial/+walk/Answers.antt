@@ -5,7 +5,7 @@ use Rattle.std.specs.Prelude.{IfOk, Some, slice_get}
 use Rattle.std.proofs.lemmas.List.{length-map}
 use Rattle.tv_kleene.specs.declared.K3.TheVariants.{No, Yes}
 use Rattle.tv_model.specs.declared.formula.Var.{Var}
-use Rattle.tv_members.specs.Members.{AreSteps, numbers_of}
+use Rattle.tv_coerce_members.specs.Members.{AreSteps, numbers_of}
 use Rattle.tv_row.specs.Bits.{paired}
 use Rattle.tv_eval.specs.AssignmentForm.{assignment_of}
 use Rattle.tv_eval.specs.Bound.{bound_room}

@@ -1,6 +1,6 @@
 use Rattle.std.proofs.Common.{◌≤◌, ◌+◌, ◌-◌, ◌*◌, [], ◌∷◌, ◌++◌, length}
 use Rattle.tv_eval.specs.AssignmentForm.{assignment_of}
-use Rattle.tv_members.specs.Members.{numbers_of}
+use Rattle.tv_coerce_members.specs.Members.{numbers_of}
 use Rattle.tv_coerce.specs.Trying.{DifferOnlyAt, IsTold, StaysBound}
 use Rattle.tv_coerce.specs.Walks.{AreTriedFor, GoesOnIn, IsBetween}
 use Rattle.tv_coerce.specs.declared.trial.Outcome.TheVariants.{Possible}

@@ -2,7 +2,7 @@ use Rattle.std.proofs.Common.{subst, sym, false}
 use Rattle.std.specs.Prelude.{Contains}
 use Rattle.std.proofs.lemmas.Result.{IfOk-weaker}
 use Rattle.tv_model.proofs.Lists.{Contains-none}
-use Rattle.tv_members.specs.Members.{AreSteps}
+use Rattle.tv_coerce_members.specs.Members.{AreSteps}
 use Rattle.tv_eval.specs.AssignmentForm.{assignment_of}
 use Rattle.tv_eval.specs.Bound.{bound_room}
 use Rattle.tv_coerce.specs.Counting.{CountTells, IsAt, IsIdle, Lacks, members_in}

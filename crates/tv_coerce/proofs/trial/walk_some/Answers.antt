@@ -3,7 +3,7 @@ use Rattle.std.specs.Prelude.{Contains}
 use Rattle.std.proofs.lemmas.List.{length-map}
 use Rattle.std.proofs.lemmas.List.Elements.{Contains-append_right}
 use Rattle.tv_model.specs.declared.formula.Var.{Var}
-use Rattle.tv_members.specs.Members.{AreSteps, numbers_of}
+use Rattle.tv_coerce_members.specs.Members.{AreSteps, numbers_of}
 use Rattle.tv_eval.specs.AssignmentForm.{assignment_of}
 use Rattle.tv_eval.specs.Bound.{bound_room}
 use Rattle.tv_rules.specs.EntryForms.{rules_of}

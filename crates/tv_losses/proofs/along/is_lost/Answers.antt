@@ -5,7 +5,7 @@ use Rattle.tv_model.specs.Program.{action_of, program_of}
 use Rattle.tv_step_laws.specs.Budgets.{IsStepCause}
 use Rattle.tv_step_laws.specs.Transfer.{AreResults}
 use Rattle.tv_step.specs.AtHand.{IsFocusFault}
-use Rattle.tv_enabled.specs.Enabled.{IsEnabledAtHand}
+use Rattle.tv_losses_enabled.specs.Enabled.{IsEnabledAtHand}
 use Rattle.tv_work.proofs.Causes.{step-cause}
 use Rattle.tv_losses.specs.Losses.{IsLost}
 use Rattle.tv_losses.specs.Tasks.{form_in, mode_in, reached_in}

@@ -1,7 +1,7 @@
 use Rattle.std.proofs.Common.{ap, arith, length, map, subst}
 use Rattle.std.proofs.lemmas.List.{length-map}
 use Rattle.tv_model.specs.Program.{rule_of}
-use Rattle.tv_moves.proofs.NotedLaws.{keeps-both}
+use Rattle.tv_coerce_moves.proofs.NotedLaws.{keeps-both}
 use Rattle.tv_rules.specs.EntryForms.{EntryForm, closed_entries, entry_of}
 use Rattle.tv_rules.specs.Moved.{AreHeadsNoted}
 use Rattle.std.proofs.Common.{List}

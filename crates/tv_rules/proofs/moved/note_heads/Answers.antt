@@ -1,5 +1,5 @@
 use Rattle.std.proofs.Common.{map, slice_index_or}
-use Rattle.tv_moves.proofs.NotedLaws.{keeps-both}
+use Rattle.tv_coerce_moves.proofs.NotedLaws.{keeps-both}
 use Rattle.tv_rules.specs.EntryForms.{entry_of}
 use Rattle.tv_rules.proofs.EntryLemmas.{unread}
 use Rattle.tv_rules.proofs.MovedLaws.{heads-next, mapped-or}

@@ -1,5 +1,5 @@
 use Rattle.std.proofs.Common.{map}
-use Rattle.tv_moves.specs.Movers.{KeepsMembers}
+use Rattle.tv_coerce_moves.specs.Movers.{KeepsMembers}
 use Rattle.tv_rules.specs.EntryForms.{entry_of}
 use Rattle.tv_rules.specs.Moved.{AreHeadsNoted}
 use Rattle.tv_rules.proofs.moved.note_heads.Given as goal

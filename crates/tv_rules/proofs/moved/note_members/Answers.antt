@@ -4,7 +4,7 @@ use Rattle.std.proofs.lemmas.List.{length-map}
 use Rattle.tv_model.specs.declared.formula.Formula.{Formula}
 use Rattle.tv_model.specs.Form.{form_of}
 use Rattle.tv_model.specs.Program.{rule_of}
-use Rattle.tv_moves.proofs.NotedLaws.{on-ok}
+use Rattle.tv_coerce_moves.proofs.NotedLaws.{on-ok}
 use Rattle.tv_rules.specs.EntryForms.{forms_of}
 use Rattle.tv_rules.proofs.MovedLaws.{rule-noted}
 use Rattle.tv_rules.proofs.moved.note_members.Goals as goal

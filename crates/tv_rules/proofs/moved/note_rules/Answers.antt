@@ -1,6 +1,6 @@
 use Rattle.std.proofs.Common.{map}
 use Rattle.tv_model.specs.Program.{rule_of}
-use Rattle.tv_moves.proofs.NotedLaws.{keeps-both}
+use Rattle.tv_coerce_moves.proofs.NotedLaws.{keeps-both}
 use Rattle.tv_rules.proofs.MovedLaws.{rules-next}
 use Rattle.tv_rules.proofs.NotingLaws.{mapped-at}
 use Rattle.tv_rules.proofs.moved.note_rules.Goals as goal

@@ -1,6 +1,6 @@
 use Rattle.std.proofs.Common.{map}
 use Rattle.tv_model.specs.Program.{rule_of}
-use Rattle.tv_moves.specs.Movers.{KeepsMembers}
+use Rattle.tv_coerce_moves.specs.Movers.{KeepsMembers}
 use Rattle.tv_rules.specs.Moved.{AreRulesNoted}
 use Rattle.tv_rules.proofs.moved.note_rules.Given as goal
 

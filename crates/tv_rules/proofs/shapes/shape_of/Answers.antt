@@ -7,7 +7,7 @@ use Rattle.tv_model.specs.declared.formula.Formula.{Formula}
 use Rattle.tv_rules.specs.Closing.{conjuncts}
 use Rattle.tv_model.specs.Program.{rule_of}
 use Rattle.tv_model.specs.Rules.{IsFreeInRule}
-use Rattle.tv_members.specs.Members.{forms_of}
+use Rattle.tv_coerce_members.specs.Members.{forms_of}
 use Rattle.tv_rules.proofs.RuleTests.{free-in_range}
 use Rattle.tv_rules.proofs.shapes.shape_of.Goals as goal
 

@@ -5,7 +5,7 @@ use Rattle.tv_step_laws.specs.Shaped.{IsShaped}
 use Rattle.tv_step.specs.Job.{action_in}
 use Rattle.tv_step.specs.Setting.{form_in, IsReadyToStep, IsStableIn}
 use Rattle.tv_step.specs.Steps.{IsCauseOfUpdates, KeepsUpdateLimits, StepsIn}
-use Rattle.tv_rule_sets.proofs.Listing.{all-next}
+use Rattle.tv_coerce_sets.proofs.Listing.{all-next}
 use Rattle.tv_step.proofs.Adding.{adds-next, handed-on, item-there}
 use Rattle.tv_step.proofs.Picking.{updates-cause}
 use Rattle.tv_step.proofs.step.given.Goals as goal

@@ -1,7 +1,7 @@
 use Rattle.std.proofs.Common.{◌≡◌, length, subst, sym, All}
 use Rattle.tv_model.specs.Form.{form_of}
 use Rattle.tv_rules.specs.EntryForms.{rules_of}
-use Rattle.tv_rule_sets.specs.Listed.{AreListed}
+use Rattle.tv_coerce_sets.specs.Listed.{AreListed}
 use Rattle.tv_step.specs.Waiting.{WaitsAbout, WaitsAt}
 use Rattle.tv_step.proofs.Keeping.{copied-right, found-right, kept-right}
 use Rattle.tv_step.proofs.Noting.{waits-at}

@@ -1,6 +1,6 @@
 use Rattle.std.proofs.Common.{◌≡◌, ap, arith, length, map, subst, sym}
 use Rattle.tv_model.specs.Program.{rule_of}
-use Rattle.tv_moves.specs.Movers.{MovesOther}
+use Rattle.tv_coerce_moves.specs.Movers.{MovesOther}
 use Rattle.tv_rules.specs.EntryForms.{EntryForm, entry_of}
 use Rattle.tv_rules.specs.Moved.{IsMoved}
 use Rattle.tv_rules.proofs.KeptLemmas.{entries-below, read-at}

@@ -1,7 +1,7 @@
 use Rattle.std.proofs.Common.{ℕ, ◌≡◌, Some, List, slice_get, subst, sym}
 use Rattle.tv_model.specs.Program.{RuleForm, head_of}
 use Rattle.tv_model.specs.declared.program.Rule.{Rule}
-use Rattle.tv_moves.specs.declared.list.Mover.{Mover}
+use Rattle.tv_coerce_moves.specs.declared.list.Mover.{Mover}
 use Rattle.tv_rules.specs.EntryForms.{rules_of}
 use Rattle.tv_rules.specs.Moved.{IsMovedBySome}
 use Rattle.tv_rules.specs.Seen.{Sees}

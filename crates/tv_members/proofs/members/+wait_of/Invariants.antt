@@ -1,5 +1,0 @@
-use Rattle.std.proofs.Common.{length}
-use Rattle.tv_members.proofs.members.+wait_of.Given as goal
-
-abbrev pub decreases-wait_of : goal.decreases-wait_of
-decreases-wait_of l = length l.vars.now

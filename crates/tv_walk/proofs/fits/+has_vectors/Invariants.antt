@@ -1,5 +1,0 @@
-use Rattle.std.proofs.Common.{length}
-use Rattle.tv_walk.proofs.fits.+has_vectors.Given as goal
-
-abbrev pub decreases-has_vectors : goal.decreases-has_vectors
-decreases-has_vectors l = length l.set.now
