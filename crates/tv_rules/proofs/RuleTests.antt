@@ -10,7 +10,7 @@ use Rattle.tv_model.specs.Form.{Form, IsFree}
 use Rattle.tv_model.specs.Program.{HeadForm, HNever, HAtom, HSame, RuleForm}
 use Rattle.tv_model.specs.Rules.{IsFreeInRule}
 use Rattle.tv_rules.specs.Closing.{is_free, is_in_head}
-use Rattle.tv_rules.specs.EntryForms.{numbers_of, AreFreeIn}
+use Rattle.tv_rules.specs.EntryForms.{numbers_of, AreFreeIn, HasMoreFree}
 use Rattle.tv_rules.specs.Flags.{has_twice}
 use Rattle.tv_rules.specs.Standing.{HasTwice}
 use Rattle.tv_rules.proofs.Free.{free-from, from-free, in_head-from, from-in_head}
@@ -65,12 +65,43 @@ noted-there F vars v there w = (
 abbrev pub HasFree : (F : ℕ → Type 0) → (vars : List ℕ) → (v : ℕ) → Type 0
 HasFree F vars v = (w : ℕ) → (Contains vars w → (w < 32) × F w) × (w < v → F w → Contains vars w)
 
+-- where nothing is put, where a variable is put behind, and where more is
+pub more_free-none : (rule : RuleForm) (vars : List ℕ) → HasMoreFree rule vars vars
+more_free-none rule vars = λ w. (λ at. at, λ at. inl at)
+
+pub more_free-noted : (rule : RuleForm) (old new next : List ℕ) (v : ℕ) → v < 32 → HasMoreFree rule old new
+    → ((w : ℕ) → Contains next w ↔ (Contains new w ⊎ ((w ≡ v) × IsFreeInRule w rule)))
+    → HasMoreFree rule old next
+more_free-noted rule old new next v range before put = λ w. (
+  λ at. (put w).1 (inl ((before w).0 at)),
+  λ at. ⊎_elim (λ l. (before w).1 l) (λ r. inr (omega (arith, range, r.0), r.1)) ((put w).0 at),
+)
+
+pub more_free-next : (rule : RuleForm) (old new next : List ℕ) → HasMoreFree rule old new
+    → HasMoreFree rule new next → HasMoreFree rule old next
+more_free-next rule old new next before more = λ w. (
+  λ at. (more w).0 ((before w).0 at),
+  λ at. ⊎_elim (λ l. (before w).1 l) (λ r. inr r) ((more w).1 at),
+)
+
+-- the free ones below v, where more is put
+pub free-kept : (rule : RuleForm) (old new : List ℕ) (v : ℕ) → HasFree (λ w. IsFreeInRule w rule) old v
+    → HasMoreFree rule old new → HasFree (λ w. IsFreeInRule w rule) new v
+free-kept rule old new v before more = λ w. (
+  λ at. ⊎_elim (λ l. (before w).0 l) (λ r. r) ((more w).1 at),
+  λ less free. (more w).0 ((before w).1 less free),
+)
+
 -- the free ones of one variable more
-pub free-more : (F : ℕ → Type 0) (old new : List ℕ) (v : ℕ) → v < 32 → HasFree F old v
-    → ((w : ℕ) → Contains new w ↔ (Contains old w ⊎ ((w ≡ v) × F w))) → HasFree F new (v + 1)
-free-more F old new v range before put = λ w. (
-  λ at. ⊎_elim (λ l. (before w).0 l) (λ r. (omega (arith, range, r.0), r.1)) ((put w).0 at),
-  λ less free. (put w).1 (⊎_elim (λ below. inl ((before w).1 below free)) (λ above. inr (omega (arith, less, above), free)) (cases_lt w v)),
+pub free-more : (rule : RuleForm) (old new : List ℕ) (v : ℕ) → HasFree (λ w. IsFreeInRule w rule) old v
+    → HasMoreFree rule old new → (IsFreeInRule v rule → Contains new v)
+    → HasFree (λ w. IsFreeInRule w rule) new (v + 1)
+free-more rule old new v before more own = λ w. (
+  λ at. (free-kept rule old new v before more w).0 at,
+  λ less free. ⊎_elim (λ below. (free-kept rule old new v before more w).1 below free)
+      (λ above. let same : w ≡ v = omega (arith, less, above) in
+      let F : ℕ → Type 0 = λ x. IsFreeInRule x rule in
+      subst (Contains new) (sym same) (own (subst F same free))) (cases_lt w v),
 )
 
 pub free-all : (F : ℕ → Type 0) (vars : List ℕ) (v : ℕ) → 32 ≤ v → HasFree F vars v

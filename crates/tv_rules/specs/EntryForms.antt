@@ -1,6 +1,7 @@
 -- How the closed rules are kept: the base rules with their formulas, and for each closed rule the number
 -- of its base rule, the place of the conjunct whose place the negated head takes, and its head.
-use Rattle.std.specs.Prelude.{ℕ, suc, ◌↔◌, List, [], ◌∷◌, ◌++◌, map, Option, None, Some, Contains, slice_set}
+use Rattle.std.specs.Prelude.{ℕ, suc, ◌↔◌, ◌<◌, ◌⊎◌, List, [], ◌∷◌, ◌++◌, map, Option, None, Some, Contains}
+use Rattle.std.specs.Prelude.{slice_set}
 use Rattle.std.specs.List.{cons_option}
 use Rattle.tv_model.specs.declared.formula.Var.{Var}
 use Rattle.tv_model.specs.declared.program.Rule.{Rule}
@@ -53,6 +54,11 @@ further_entries b (rule ∷ rules) = literal_entries b 0 (conjuncts rule.body) +
 -- the closed rules of these base rules, as they are kept
 abbrev pub closed_entries : List RuleForm → List EntryForm
 closed_entries rules = base_entries 0 rules ++ further_entries 0 rules
+
+-- the new list has the variables of the old one, and else only variables in range that are free in the rule
+abbrev pub HasMoreFree : RuleForm → (old new : List ℕ) → Type 0
+HasMoreFree rule old new = (w : ℕ) → (Contains old w → Contains new w)
+    × (Contains new w → Contains old w ⊎ ((w < 32) × IsFreeInRule w rule))
 
 -- the variables are those that are free in the rule
 abbrev pub AreFreeIn : RuleForm → List Var → Type 0

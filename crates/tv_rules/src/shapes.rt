@@ -4,7 +4,7 @@
 ghost use Rattle.std.specs.Prelude.{ℕ, ◌≡◌, ◌<◌, ◌↔◌, ◌⊎◌, Contains, IfOk, IsTrue, OnOk};
 ghost use Rattle.tv_model.specs.Program.{rule_of};
 ghost use Rattle.tv_model.specs.Rules.{IsFreeInRule};
-ghost use Rattle.tv_rules.specs.EntryForms.{numbers_of};
+ghost use Rattle.tv_rules.specs.EntryForms.{HasMoreFree, numbers_of};
 ghost use Rattle.tv_rules.specs.Waiting.{IsShape};
 
 use crate::conjuncts::{conjuncts, is_free_in_rule, negated_head};
@@ -28,16 +28,74 @@ pub fn shape_of(alloc: Global, rule: &Rule) -> Result<Shape, AllocError>
 }
 
 /// The variables of the rule, of the 32 that there are: those first of which a conjunct of the body says
-/// something alone, since few individuals may pass there.
+/// something alone, since few individuals may pass there, and behind each variable those that a conjunct ties
+/// to it or to one before it, so that few are left for them.
 fn rule_variables(alloc: Global, rule: &Rule) -> Result<Vars, AllocError>
     ensures { IfOk result (λ vars. (v : ℕ) → Contains (numbers_of vars) v
         ↔ ((v < 32) × IsFreeInRule v (rule_of rule.now))) }
 {
     let mut vars = told_alone(alloc, rule)?;
+    note_tied(rule, &mut vars)?;
     for v in 0..32 {
-        note(rule, Var(v), &mut vars)?;
+        note_next(rule, Var(v), &mut vars)?;
     }
     Ok(vars)
+}
+
+/// Puts the variable behind the list, if it is free in the rule and doesn't stand there yet, and then those
+/// that are tied to one of the list.
+fn note_next(rule: &Rule, v: Var, vars: &mut Vars) -> Result<(), AllocError>
+    requires { v.0 < 32 }
+    ensures { OnOk result (HasMoreFree (rule_of rule.now) (numbers_of vars.old) (numbers_of vars.new)
+        × (IsFreeInRule v.0 (rule_of rule.now) → Contains (numbers_of vars.new) v.0)) }
+{
+    let before = vars.len();
+    note(rule, v, vars)?;
+    if vars.len() > before {
+        note_tied(rule, vars)?;
+    }
+    Ok(())
+}
+
+/// Puts variables that conjuncts tie to one of the list behind it, one after the other.
+fn note_tied(rule: &Rule, vars: &mut Vars) -> Result<(), AllocError>
+    ensures { OnOk result (HasMoreFree (rule_of rule.now) (numbers_of vars.old) (numbers_of vars.new)) }
+{
+    for _ in 0..32 {
+        match tied(&rule.body, vars.as_slice()) {
+            Some(v) if v.0 < 32 => note(rule, v, vars)?,
+            _ => return Ok(()),
+        }
+    }
+    Ok(())
+}
+
+/// A variable outside the list that a conjunct of the formula ties to one of it. A hint, of which nothing is
+/// promised.
+fn tied(f: &Formula, vars: &[Var]) -> Option<Var> {
+    match f {
+        Formula::And(g, h) => match tied(g, vars) {
+            None => tied(h, vars),
+            found => found,
+        },
+        Formula::Not(g) => other_of(g, vars),
+        _ => other_of(f, vars),
+    }
+}
+
+/// The variable outside the list, where a leaf has one in it and one outside. A hint, of which nothing is
+/// promised.
+fn other_of(leaf: &Formula, vars: &[Var]) -> Option<Var> {
+    match leaf {
+        Formula::Atom(_, Terms::Two(v, w)) | Formula::Same(v, w) => {
+            match (has(vars, *v), has(vars, *w)) {
+                (true, false) => Some(*w),
+                (false, true) => Some(*v),
+                _ => None,
+            }
+        }
+        _ => None,
+    }
 }
 
 /// Some of the variables of the rule: those of which a conjunct of the body says something alone.
@@ -63,11 +121,21 @@ fn note_alone(rule: &Rule, v: Var, vars: &mut Vars) -> Result<(), AllocError>
     Ok(())
 }
 
-/// Whether a conjunct of the formula is an atom about the variable alone.
+/// Whether a conjunct of the formula is a literal about the variable alone. A hint, of which nothing is
+/// promised.
 fn is_alone(f: &Formula, v: Var) -> bool {
     match f {
         Formula::And(g, h) => is_alone(g, v) || is_alone(h, v),
+        Formula::Not(g) => is_about(g, v),
+        _ => is_about(f, v),
+    }
+}
+
+/// Whether a leaf is an atom about the variable alone.
+fn is_about(leaf: &Formula, v: Var) -> bool {
+    match leaf {
         Formula::Atom(_, Terms::One(w)) => w.0 == v.0,
+        Formula::Atom(_, Terms::Two(w, u)) => w.0 == v.0 && u.0 == v.0,
         _ => false,
     }
 }

@@ -146,5 +146,10 @@ fn further_rules_have_the_variables_of_their_base(rt: HostRuntime) -> Result<(),
     // what is said of a variable alone goes first
     let alone = "%p x(v) %p n(v, w) %p r(v) %r n(u, v) & x(v) ==> r(u)";
     assert!(rt; are_variables(rt.alloc(), alone, 0, "1 0 ")?);
+    let denied = "%p x(v) %p n(v, w) %r n(u, v) & !n(v, v) ==> x(u)";
+    assert!(rt; are_variables(rt.alloc(), denied, 0, "1 0 ")?);
+    // and behind it what stands in a conjunct with one of those before
+    let tied = "%p x(v) %p n(v, w) %r n(a, b) & n(c, d) & n(d, b) ==> x(a)";
+    assert!(rt; are_variables(rt.alloc(), tied, 0, "0 1 3 2 ")?);
     Ok(())
 }

@@ -1,5 +1,4 @@
-use Rattle.std.proofs.Common.{ap, ◌∙◌, arith, length, slice_get}
-use Rattle.tv_rules.specs.EntryForms.{rules_of}
+use Rattle.std.proofs.Common.{ap, arith, length}
 use Rattle.tv_rules.proofs.KeptLemmas.{read-at, entries-below, shapes-below}
 use Rattle.tv_rules.proofs.KinLaws.{kin-tried, laid-out}
 use Rattle.tv_rules.proofs.closed.Closed.shape.Goals as goal
