@@ -1,2 +1,4 @@
 pub mod Found
 pub mod Listed
+pub mod Turned
+pub mod Unmet

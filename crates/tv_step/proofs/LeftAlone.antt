@@ -44,7 +44,8 @@ use Rattle.tv_update.specs.Plan.{IsPlan, IsPlanFor, moves_individuals}
 use Rattle.tv_step_laws.proofs.From.{zip-back}
 use Rattle.tv_step.specs.declared.changed.Reach.{Reach}
 use Rattle.tv_step.specs.declared.changed.Reach.TheVariants.{Anywhere, Of}
-use Rattle.tv_step.specs.Changed.{AreAlike, AreAlikeBut, DiffersWithin, HasSameValues, IsReachOf}
+use Rattle.tv_coerce_sets.specs.Turned.{AreAlike, HasSameValues}
+use Rattle.tv_step.specs.Changed.{AreAlikeBut, DiffersWithin, IsReachOf}
 use Rattle.tv_step.specs.Waiting.{IsLeftAlone, WaitsFor}
 
 -- ---- no individual comes or goes

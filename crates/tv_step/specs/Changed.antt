@@ -1,26 +1,14 @@
--- What is otherwise in a structure than in one that it came of, and the rules that see it.
-use Rattle.std.specs.Prelude.{ℕ, ◌≡◌, ◌<◌, ◌⊎◌, ◌++◌, Bool, false, List, length, map, Option, None, Some}
-use Rattle.std.specs.Prelude.{replicate, slice_get, Contains}
+-- What is otherwise in a structure than in one that it came of, and the rules that may be unmet by it.
+use Rattle.std.specs.Prelude.{ℕ, ◌≡◌, ◌⊎◌, ◌++◌, Bool, false, List, length, map, Option, None, Some, Contains}
 use Rattle.tv_model.specs.declared.formula.PredId.{PredId}
 use Rattle.tv_model.specs.Program.{ProgramForm, ActionForm, RuleForm}
-use Rattle.tv_rules.specs.Standing.{StandsIn}
-use Rattle.tv_struct.specs.StructureForm.{StructureForm, summary_at, value_at}
-use Rattle.tv_struct.specs.TableForm.{AreIndividuals}
-use Rattle.tv_coerce.specs.RuleSets.{IsIn, IsStableBut}
+use Rattle.tv_struct.specs.StructureForm.{StructureForm}
+use Rattle.tv_coerce.specs.RuleSets.{IsStableBut}
+use Rattle.tv_coerce_sets.specs.Turned.{AreAlike, HasSameValues}
 use Rattle.tv_update.specs.Plan.{moves_individuals}
 use Rattle.tv_step.specs.Setting.{IsStableIn}
 use Rattle.tv_step.specs.declared.changed.Reach.{Reach}
 use Rattle.tv_step.specs.declared.changed.Reach.TheVariants.{Anywhere, Of}
-
--- the structures have the same individuals and the same summaries
-pub record AreAlike (s t : StructureForm) : Type 0 where
-  pub size : s.size ≡ t.size
-  pub summaries : (u : ℕ) → u < s.size → summary_at s u ≡ summary_at t u
-
--- the predicate has the same values in both
-abbrev pub HasSameValues : (pred : ℕ) → (s t : StructureForm) → Type 0
-HasSameValues pred s t =
-    (tuple : List ℕ) → AreIndividuals s.size tuple → value_at s pred tuple ≡ value_at t pred tuple
 
 -- the structures are alike, and only the values of these predicates may differ
 pub record AreAlikeBut (preds : List ℕ) (s t : StructureForm) : Type 0 where
@@ -39,18 +27,6 @@ IsReachOf action plan Anywhere = Unit {0}
 IsReachOf action plan (Of updates preds) =
     (moves_individuals action ≡ false) × (map (λ w. w.pred.0) updates.now ≡ map (λ w. w.pred) action.updates)
     × (preds.now ≡ plan)
-
--- the rules found, none where none is told
-abbrev pub set_of : List RuleForm → Option (List Bool) → List Bool
-set_of rules None = replicate (length rules) false
-set_of rules (Some set) = set
-
--- each rule that isn't found is about none of the predicates whose values differ
-pub record WaitsAmong (preds : List ℕ) (rules : List RuleForm) (s t : StructureForm)
-    (found : Option (List Bool)) : Type 0 where
-  pub count : length (set_of rules found) ≡ length rules
-  pub same : (k q : ℕ) (rule : RuleForm) → slice_get rules k ≡ Some rule → ¬ IsIn (set_of rules found) k
-      → Contains preds q → StandsIn q rule → HasSameValues q s t
 
 -- only the rules found may be unmet in the structure; where none is told, it is stable
 abbrev pub IsFew : ProgramForm → List RuleForm → StructureForm → Option (List Bool) → Type 0

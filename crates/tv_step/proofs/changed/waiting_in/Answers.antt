@@ -4,7 +4,8 @@ use Rattle.std.proofs.lemmas.Result.{IfOk-weaker}
 use Rattle.tv_rules.specs.EntryForms.{rules_of}
 use Rattle.tv_coerce.specs.RuleSets.{IsStableBut}
 use Rattle.tv_struct.specs.StructureForm.{arities_of}
-use Rattle.tv_step.specs.Changed.{DiffersWithin, IsFew, WaitsAmong}
+use Rattle.tv_coerce_sets.specs.Unmet.{WaitsAmong}
+use Rattle.tv_step.specs.Changed.{DiffersWithin, IsFew}
 use Rattle.tv_step.specs.Setting.{form_in}
 use Rattle.tv_step.proofs.Differing.{alike-anywhere, few-found}
 use Rattle.tv_step.proofs.changed.waiting_in.Goals as goal

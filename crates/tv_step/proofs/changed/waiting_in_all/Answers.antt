@@ -3,8 +3,8 @@ use Rattle.std.specs.List.{range_with_len}
 use Rattle.tv_eval_laws.proofs.Rounds.{range-push}
 use Rattle.tv_rules.specs.EntryForms.{rules_of}
 use Rattle.tv_struct.specs.StructureForm.{arities_of}
-use Rattle.tv_step.specs.Changed.{WaitsAmong}
-use Rattle.tv_step.proofs.Differing.{none-among}
+use Rattle.tv_coerce_sets.specs.Unmet.{WaitsAmong}
+use Rattle.tv_coerce_sets.proofs.Awaiting.{none-among}
 use Rattle.tv_step.proofs.changed.waiting_in_all.Goals as goal
 
 pub loop-number-init : goal.loop-number-init

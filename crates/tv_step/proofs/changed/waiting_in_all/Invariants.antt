@@ -1,6 +1,6 @@
 use Rattle.std.specs.List.{range_with_len}
 use Rattle.tv_rules.specs.EntryForms.{rules_of}
-use Rattle.tv_step.specs.Changed.{WaitsAmong}
+use Rattle.tv_coerce_sets.specs.Unmet.{WaitsAmong}
 use Rattle.tv_step.proofs.changed.waiting_in_all.Given as goal
 
 abbrev pub invariant-loop-number : goal.invariant-loop-number

@@ -1,7 +1,7 @@
 use Rattle.std.proofs.Common.{◌++◌, map, subst, sym, take}
 use Rattle.std.proofs.lemmas.List.{append-nil, take_all}
 use Rattle.tv_rules.specs.EntryForms.{rules_of}
-use Rattle.tv_step.specs.Changed.{WaitsAmong}
+use Rattle.tv_coerce_sets.specs.Unmet.{WaitsAmong}
 use Rattle.tv_step.proofs.Differing.{preds-next}
 use Rattle.tv_step.proofs.changed.waiting_in_some.Goals as goal
 

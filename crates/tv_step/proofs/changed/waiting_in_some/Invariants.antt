@@ -1,6 +1,6 @@
 use Rattle.std.proofs.Common.{◌++◌, map, take}
 use Rattle.tv_rules.specs.EntryForms.{rules_of}
-use Rattle.tv_step.specs.Changed.{WaitsAmong}
+use Rattle.tv_coerce_sets.specs.Unmet.{WaitsAmong}
 use Rattle.tv_step.proofs.changed.waiting_in_some.Given as goal
 
 abbrev pub invariant-loop-p : goal.invariant-loop-p

@@ -1,8 +1,9 @@
 use Rattle.std.proofs.Common.{map, subst, take}
 use Rattle.std.proofs.lemmas.List.{take_all}
 use Rattle.tv_rules.specs.EntryForms.{rules_of}
-use Rattle.tv_step.specs.Changed.{WaitsAmong}
-use Rattle.tv_step.proofs.Differing.{map-next, none-among}
+use Rattle.tv_coerce_sets.specs.Unmet.{WaitsAmong}
+use Rattle.tv_coerce_sets.proofs.Awaiting.{none-among}
+use Rattle.tv_step.proofs.Differing.{map-next}
 use Rattle.tv_step.proofs.changed.waiting_in_updated.Goals as goal
 
 pub loop-update-init : goal.loop-update-init

@@ -1,5 +1,5 @@
 use Rattle.std.proofs.Common.{arith}
-use Rattle.tv_step.proofs.changed.stands_in_none.Goals as goal
+use Rattle.tv_coerce_sets.proofs.unmet.stands_in_none.Goals as goal
 
 pub returns-in-empty : goal.returns-in-empty
 returns-in-empty c so k rule there stands =

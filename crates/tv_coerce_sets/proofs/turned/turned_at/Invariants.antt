@@ -1,0 +1,9 @@
+use Rattle.std.proofs.Common.{ℕ, ◌<◌, ◌*◌, [], ◌∷◌}
+use Rattle.tv_struct.specs.StructureForm.{value_at}
+use Rattle.tv_coerce_sets.specs.Turned.{Tells}
+use Rattle.tv_coerce_sets.proofs.turned.turned_at.Given as goal
+
+abbrev pub invariant-loop-chunk : goal.invariant-loop-chunk
+invariant-loop-chunk l =
+    (w : ℕ) → w < 64 * l.chunk → w < l.s.size
+    → Tells l.turned (value_at l.s l.p.0 (l.u ∷ w ∷ [])) (value_at l.t l.p.0 (l.u ∷ w ∷ []))

@@ -1,7 +1,0 @@
-use Rattle.std.proofs.Common.{ℕ, ◌≡◌, ◌<◌, ◌*◌, [], ◌∷◌}
-use Rattle.tv_struct.specs.StructureForm.{value_at}
-use Rattle.tv_step.proofs.changed.has_same_row.Given as goal
-
-abbrev pub invariant-loop-chunk : goal.invariant-loop-chunk
-invariant-loop-chunk l =
-    (u : ℕ) → u < 64 * l.chunk → u < l.s.size → value_at l.s l.p.0 (u ∷ []) ≡ value_at l.t l.p.0 (u ∷ [])
