@@ -8,6 +8,7 @@ pub mod Lowering
 pub mod OnTheWay
 pub mod Noting
 pub mod Once
+pub mod Opening
 pub mod Placing
 pub mod Reading
 pub mod Ready

@@ -362,7 +362,7 @@ module _ (trial : Trial) (is : IsTrial trial) (rest : List ℕ) (left : AreLeft 
   pub level-last : (l : Level) → slice_get trial.shape.now.levels (length rest) ≡ Some l → AreSteps (members_in trial) (length rest) true l.last
   level-last l found = (levels.each (length rest) l found).1
 
-some-and : {X : Type 0} (o : Option X) (P : X → Type 0) → IsSomeAnd o P → (x : X) × (o ≡ Some x) × P x
+pub some-and : {X : Type 0} (o : Option X) (P : X → Type 0) → IsSomeAnd o P → (x : X) × (o ≡ Some x) × P x
 some-and None P none = absurd none
 some-and (Some x) P holds = (x, refl, holds)
 

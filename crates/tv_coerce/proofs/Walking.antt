@@ -272,7 +272,7 @@ put-both a b w j x same = at (cases_eq x w)
     at (inr ne) = put-other a w j x ne ∙ same ne ∙ sym (put-other b w j x ne)
 
 -- what goes on from a and has j for w
-put-from : (a b : Assignment) (w j x : ℕ) → j ≡ b w → (x ≢ w → b x ≡ a x) → put a w j x ≡ b x
+pub put-from : (a b : Assignment) (w j x : ℕ) → j ≡ b w → (x ≢ w → b x ≡ a x) → put a w j x ≡ b x
 put-from a b w j x e other = at (cases_eq x w)
   where
     at : (x ≡ w) ⊎ (x ≢ w) → put a w j x ≡ b x
@@ -281,7 +281,7 @@ put-from a b w j x e other = at (cases_eq x w)
 
 -- ---- words
 
-no-or-not : (x : K3) → (x ≡ No) ⊎ (x ≢ No)
+pub no-or-not : (x : K3) → (x ≡ No) ⊎ (x ≢ No)
 no-or-not No = inl refl
 no-or-not Half = inr (λ e. absurd (cc e))
 no-or-not Yes = inr (λ e. absurd (cc e))
@@ -293,7 +293,7 @@ larger-no Half Half e = absurd (cc e)
 larger-no Half Yes e = absurd (cc e)
 larger-no Yes y e = absurd (cc e)
 
-half-of : (k : K3) → k ≢ No → k ≢ Yes → k ≡ Half
+pub half-of : (k : K3) → k ≢ No → k ≢ Yes → k ≡ Half
 half-of No some other = absurd (some refl)
 half-of Half some other = refl
 half-of Yes some other = absurd (other refl)
@@ -725,7 +725,8 @@ module _ (s : StructureForm) (rule : RuleForm) (vars : List ℕ) (known : (x : �
   pub tried-next : (v : ℕ) (rest : List ℕ) (w chunk first from i : ℕ) (old-places new-places now : List (Option ℕ))
       → DifferOnlyAt (v ∷ rest) old-places now
       → ((x : ℕ) → individual_for new-places x ≡ (if x == v then Some (first + i) else individual_for now x))
-      → IsTriedFor s rule (λ b. GoesOn vars (v ∷ rest) (assignment_of old-places) b × IsBetween v (first + from) (first + i) b)
+      → IsTriedFor s rule (λ b. (GoesOn vars (v ∷ rest) (assignment_of old-places) b × IsInChunk w chunk b)
+      × IsBetween v (first + from) (first + i) b)
       → IsTriedFor s rule (λ b. (GoesOn vars (v ∷ rest) (assignment_of old-places) b × IsInChunk w chunk b) × IsBetween v first (first + from) b)
       → IsTriedFor s rule (λ b. GoesOn vars rest (assignment_of new-places) b × IsInChunk w chunk b)
       → IsTriedFor s rule (λ b. (GoesOn vars (v ∷ rest) (assignment_of old-places) b × IsInChunk w chunk b) × IsBetween v first (first + (i + 1)) b)
@@ -737,7 +738,7 @@ module _ (s : StructureForm) (rule : RuleForm) (vars : List ℕ) (known : (x : �
 
       at : (b v < first + from) ⊎ (first + from ≤ b v) → (b v < first + i) ⊎ (first + i ≤ b v) → IsHeadMet (structure_of s) b rule.head
       at (inl less) side = so_far b (goes, (between.0, less)) individuals body
-      at (inr more) (inl less) = passed b (goes.0, (more, less)) individuals body
+      at (inr more) (inl less) = passed b (goes, (more, less)) individuals body
       at (inr more) (inr here) =
           tried b (
             (λ x has none. sym (put-agrees v rest (first + i) old-places new-places is-put x none

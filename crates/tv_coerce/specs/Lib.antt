@@ -4,6 +4,7 @@ pub mod Coerced
 pub mod Counting
 pub mod Lacking
 pub mod Laws
+pub mod Opened
 pub mod Ready
 pub mod RuleSets
 pub mod Sharpened

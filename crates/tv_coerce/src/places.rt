@@ -1,25 +1,29 @@
 //! The members of a base rule are counted by words of values.
 
-ghost use Rattle.std.specs.Prelude.{◌≡◌, ◌≢◌, ◌<◌, ◌*◌, ℕ, Bool, Some, All, length, slice_get};
+ghost use Rattle.std.specs.Prelude.{◌≡◌, ◌≢◌, ◌<◌, ◌+◌, ◌*◌, ℕ, [], ◌∷◌, Bool, Some, All, length, slice_get};
+ghost use Rattle.std.specs.Prelude.{slice_index_or};
 ghost use Rattle.tv_kleene.specs.declared.K3.{K3};
 ghost use Rattle.tv_eval.specs.Along.{IsWordAlong, IsWordOf};
 ghost use Rattle.tv_eval.specs.AssignmentForm.{assignment_of};
 ghost use Rattle.tv_eval.specs.Bound.{IsBound, bound_structure, bound_room};
 ghost use Rattle.tv_coerce_members.specs.Members.{AreSteps, MemberForm};
-ghost use Rattle.tv_kleene.specs.declared.K3.TheVariants.{Yes};
+ghost use Rattle.tv_kleene.specs.declared.K3.TheVariants.{No, Yes};
 ghost use Rattle.tv_row.specs.Bits.{paired};
 ghost use Rattle.tv_eval_laws.specs.Value.{value};
-ghost use Rattle.tv_struct.specs.StructureForm.{structure_of};
+ghost use Rattle.tv_struct.specs.StructureForm.{structure_of, value_at};
+ghost use Rattle.tv_struct.specs.StructureRows.{HasArity};
 ghost use Rattle.tv_coerce.specs.Counting.{CanRead, IsAt, IsBarring, IsCounted, IsIdle, Lacks, counted};
 ghost use Rattle.tv_coerce.specs.Counting.{members_in};
 ghost use Rattle.tv_coerce.specs.Counting.{signed_value};
+ghost use Rattle.tv_coerce.specs.Opened.{IsOpened, ReadsRows};
 ghost use Rattle.tv_coerce.specs.Trying.{StaysBound};
 
 use crate::need::at;
 use crate::trial::{Trial, is_no};
 use tv_coerce_members::{Reading, Step};
 use tv_eval::{Assignment, Evaluator, places, same_as};
-use tv_model::Var;
+use tv_kleene::K3;
+use tv_model::{PredId, Var};
 use tv_row::Word;
 use tv_struct::Structure;
 
@@ -138,4 +142,74 @@ pub(crate) fn counted_all<'a>(
         word = counted_step(trial, evaluator, step, v, chunk, a, word);
     }
     word
+}
+
+/// The values of those individuals from `64 * chunk` on, put for the variable, that leave an individual of
+/// the last variable as far as the first of the steps tells; the others are `No`. What is counted of the last
+/// variable is `tail`. Rows of the structure are read off without a call for each individual.
+#[inline(always)]
+pub(crate) fn opened<'a>(
+    trial: &Trial<'a>,
+    steps: &[Step],
+    v: Var,
+    chunk: u32,
+    own: Word,
+    tail: Word,
+) -> Word
+    requires last { 64 * trial.now.chunk < trial.now.structure.now.size }
+    requires reads { All (ReadsRows trial.now) steps.now }
+    requires long { (length own ≡ 64) × (length tail ≡ 64) }
+    requires within { (i : ℕ) → i < 64 → slice_index_or own i No ≢ No
+        → 64 * chunk + i < trial.now.structure.now.size }
+    ensures { IsOpened trial.now steps.now v.0 chunk tail own result }
+{
+    match steps {
+        [] => own,
+        [step, ..] => match step.reading {
+            Reading::Second(flag, p, x) => {
+                if x.0 == v.0 {
+                    opened_by_rows(trial.structure, flag, p, chunk, trial.chunk, own, tail)
+                } else {
+                    own
+                }
+            }
+            _ => own,
+        },
+    }
+}
+
+/// The values of those individuals whose row leaves an individual of the word `tail`, which stands for those
+/// from `64 * last` on.
+fn opened_by_rows(
+    s: &Structure,
+    flag: bool,
+    p: PredId,
+    chunk: u32,
+    last: u32,
+    own: Word,
+    tail: Word,
+) -> Word
+    requires arity { HasArity s.now p.0 2 }
+    requires last { 64 * last < s.now.size }
+    requires long { (length own ≡ 64) × (length tail ≡ 64) }
+    requires within { (i : ℕ) → i < 64 → slice_index_or own i No ≢ No → 64 * chunk + i < s.now.size }
+    ensures kept { (i : ℕ) → i < 64 → slice_index_or result i No ≢ No
+        → slice_index_or result i No ≡ slice_index_or own i No }
+    ensures shut { (i : ℕ) → i < 64 → slice_index_or own i No ≢ No → slice_index_or result i No ≡ No
+        → (j : ℕ) → j < 64 → 64 * last + j < s.now.size
+        → counted (counted (slice_index_or tail j No) (slice_index_or own i No))
+        (signed_value flag (value_at s.now p.0 ((64 * chunk + i) ∷ (64 * last + j) ∷ []))) ≡ No }
+{
+    let _ = s.size();
+    let mut alive = own;
+    let mut next = own.first_possible(0);
+    while let Some(i) = next {
+        let begun = counted(tail, Word::of(64, own.get(i)));
+        let values = signed(s, flag, s.word(p, 64 * chunk + i, last), last);
+        if is_no(counted(begun, values).greatest()) {
+            alive = alive.with(i, K3::No);
+        }
+        next = own.first_possible(i + 1);
+    }
+    alive
 }

@@ -1,7 +1,7 @@
 //! Sets of numbers of rules.
 
 ghost use Rattle.std.specs.Prelude.{◌≡◌, ◌<◌, ◌≤◌, ◌≢◌, ℕ, false, true, length, replicate, slice_index_or};
-ghost use Rattle.std.specs.Prelude.{slice_set, All, Contains, IfOk, IsTrue, ◌↔◌, MatchOption};
+ghost use Rattle.std.specs.Prelude.{slice_set, All, Contains, IfOk, MatchOption};
 ghost use Rattle.tv_model.specs.Program.{head_of};
 ghost use Rattle.tv_rules.specs.EntryForms.{rules_of};
 ghost use Rattle.tv_rules.specs.Moved.{IsMoved, IsMovedBySome};
@@ -64,13 +64,6 @@ impl RuleSet {
             flags: self.flags.copied(alloc)?,
             first: self.first,
         })
-    }
-
-    /// Whether the number is in the set.
-    pub fn contains(&self, number: usize) -> bool
-        ensures { IsTrue result ↔ IsIn self.now number }
-    {
-        number < self.flags.count() && self.flags.get(number)
     }
 
     /// Puts the number into the set.

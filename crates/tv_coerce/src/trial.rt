@@ -25,7 +25,7 @@ use crate::change::Need;
 use crate::counting::{Missing, count, lacking};
 use crate::need::need;
 use crate::noted::Noted;
-use crate::places::{counted, counted_all};
+use crate::places::{counted, counted_all, opened};
 use std::alloc::AllocError;
 use tv_coerce_members::{Level, Shape};
 use tv_eval::{Assignment, Evaluator, chunks, places};
@@ -251,11 +251,12 @@ fn walk_chunk<'a>(
     let all = Word::of(places(trial.structure.size(), chunk), K3::Yes);
     let level = level_of(trial, rest.len());
     let own = counted_all(trial, evaluator, level.own.as_slice(), v, chunk, a, all);
+    let steps = level.last.as_slice();
+    let alive = opened(trial, steps, v, chunk, own, tail);
     let mut from = 0;
-    while let Some(i) = own.first_possible(from) {
+    while let Some(i) = alive.first_possible(from) {
         a.set(v, 64 * chunk + i);
         from = i + 1;
-        let steps = level.last.as_slice();
         let begun = counted(tail, Word::of(64, own.get(i)));
         let word = counted_all(trial, evaluator, steps, trial.last, trial.chunk, a, begun);
         if !is_no(word.greatest()) {

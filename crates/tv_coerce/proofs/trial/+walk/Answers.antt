@@ -1,4 +1,4 @@
-use Rattle.std.proofs.Common.{◌≡◌, ◌≤◌, ◌+◌, ◌-◌, ◌*◌, ◌∙◌, [], ◌∷◌, ◌++◌, length, take, drop, get_or}
+use Rattle.std.proofs.Common.{◌≡◌, ◌≢◌, ◌≤◌, ◌+◌, ◌-◌, ◌*◌, ◌∙◌, [], ◌∷◌, ◌++◌, length, take, drop, get_or}
 use Rattle.std.proofs.Common.{refl, sym, ap, subst}
 use Rattle.std.proofs.Common.{arith, min, true, false}
 use Rattle.std.specs.Prelude.{IfOk, Some, slice_get}
@@ -13,14 +13,15 @@ use Rattle.tv_rules.specs.EntryForms.{rules_of}
 use Rattle.tv_struct.specs.StructureForm.{arities_of}
 use Rattle.tv_coerce.specs.Counting.{IsWalkStart, counted, members_in, variables_in}
 use Rattle.tv_coerce.specs.Ready.{CanCoerce}
-use Rattle.tv_coerce.specs.Trying.{DifferOnlyAt, GoesOn, IsTold, rule_at, trial_rule}
+use Rattle.tv_coerce.specs.Trying.{DifferOnlyAt, IsTold, rule_at, trial_rule}
 use Rattle.tv_coerce.specs.Walks.{AreTriedFor, GoesOnIn, IsBetween, IsInChunk}
 use Rattle.tv_coerce.specs.declared.trial.Outcome.TheVariants.{Possible}
 use Rattle.tv_coerce.proofs.Placing.{kin-free, kin-variable, left-free, left-on, level-last, level-own}
 use Rattle.tv_coerce.proofs.Placing.{level-there, own-kin, read-last}
 use Rattle.tv_coerce.proofs.Placing.{read-own, rule-variable}
 use Rattle.tv_coerce.proofs.Walking.{all-word, can-try-kin, counted-with, differ-on, kept-more, none-at}
-use Rattle.tv_coerce.proofs.Walking.{none-left, own-half, own-passed}
+use Rattle.tv_coerce.proofs.Opening.{open-passed, reads-rows}
+use Rattle.tv_coerce.proofs.Walking.{none-left, own-half}
 use Rattle.tv_coerce.proofs.Walking.{put-kept, put-placed, split-vars, start-kept, stays-on, tail-shorter}
 use Rattle.tv_coerce.proofs.Walking.{told-both, told-so}
 use Rattle.tv_coerce.proofs.Walking.{told-tried, tried-chunk, tried-next, tried-rest, tried-whole, walk-on}
@@ -208,6 +209,31 @@ walk_chunk-counted_all-own-requires-clause-long t c =
     (all-word c.args.trial.now.structure.now.size c.args.chunk c.places.result Yes c.of-all.result
     (c.places.ensures.value ∙ ap (λ n. min 64 (n - 64 * c.args.chunk)) c.size.ensures.size) c.requires.chunk c.of-all.ensures).long
 
+pub walk_chunk-opened-alive-requires : goal.walk_chunk-opened-alive-requires
+walk_chunk-opened-alive-requires t c =
+    let trial = c.args.trial.now
+    in let is = c.requires.trial
+    in let s = trial.structure.now
+    in let ms = members_in trial
+    in let rest = numbers_of c.args.rest.now
+    in let k = c.args.chunk
+    in let on = left-on trial c.args.v.0 rest c.requires.walk.left
+    in let found = subst (λ n. slice_get trial.shape.now.levels n ≡ Some c.level_of-level.result.now)
+    (sym (length-map c.args.rest.now (λ (x : Var). x.0))) c.level_of-level.ensures
+    in let own = c.counted_all-own.ensures.counted (length rest) false (subst (AreSteps ms (length rest) false) (sym c.as_slice.ensures)
+    (level-own trial is rest on c.level_of-level.result.now found))
+    in let all = all-word s.size k c.places.result Yes c.of-all.result
+    (c.places.ensures.value ∙ ap (λ n. min 64 (n - 64 * k)) c.size.ensures.size) c.requires.chunk c.of-all.ensures
+    in let steps = subst (AreSteps ms (length rest) true) (sym c.as_slice-steps.ensures)
+    (level-last trial is rest on c.level_of-level.result.now found)
+    in record {
+      last = c.requires.walk.chunk;
+      reads = reads-rows trial is (bound_room c.args.evaluator.now)
+          (can-try-kin trial _ trial.number (own-kin trial is) c.requires.ready) rest on c.as_slice-steps.result.now steps;
+      long = (own.long, c.requires.walk.long);
+      within = λ i low some. all.within i low (own.some i low some);
+    }
+
 pub walk_chunk-set-requires : goal.walk_chunk-set-requires
 walk_chunk-set-requires t c =
     let trial = c.args.trial.now
@@ -245,7 +271,8 @@ walk_chunk-counted_all-word-requires-clause-can t c =
     in let i = c.in-Some.i
     in let steps = subst (AreSteps ms (length rest) true) (sym c.as_slice-steps.ensures)
     (level-last trial is rest on c.level_of-level.result.now found)
-    in let within = all.within i c.in-Some.ensures.1 (own.some i c.in-Some.ensures.1 c.in-Some.ensures.2)
+    in let is-own = c.opened-alive.ensures.kept i c.in-Some.ensures.1 c.in-Some.ensures.2
+    in let within = all.within i c.in-Some.ensures.1 (own.some i c.in-Some.ensures.1 (λ e. c.in-Some.ensures.2 (is-own ∙ e)))
     in let is-put = put-kept v (rest ++ w ∷ []) (first + i) a c.loop-i.a c.set.new.self c.loop-i.invariant.1 c.set.ensures.places
     in read-last trial is (bound_room c.loop-i.evaluator)
     (can-try-kin trial _ trial.number (own-kin trial is)
@@ -277,19 +304,22 @@ walk_chunk-walk-requires t c =
     in let placed = c.set.new.self
     in let steps = subst (AreSteps ms (length rest) true) (sym c.as_slice-steps.ensures)
     (level-last trial is rest on c.level_of-level.result.now found)
-    in let some = own.some i c.in-Some.ensures.1 c.in-Some.ensures.2
+    in let is-own = c.opened-alive.ensures.kept i c.in-Some.ensures.1 c.in-Some.ensures.2
+    in let there : get_or c.counted_all-own.result i No ≢ No = λ e. c.in-Some.ensures.2 (is-own ∙ e)
+    in let some = own.some i c.in-Some.ensures.1 there
     in let within = all.within i c.in-Some.ensures.1 some
     in let is-put = put-kept v (rest ++ w ∷ []) (first + i) a c.loop-i.a placed c.loop-i.invariant.1 c.set.ensures.places
     in let value-here = c.get.ensures
     in let with-own = counted-with c.args.tail c.get.result c.counted-begun.result c.requires.walk.long
     (c.counted-begun.ensures ∙ ap (paired counted c.args.tail) c.of.ensures)
     in let start = walk-on trial is v rest a placed c.args.tail c.counted-begun.result c.counted_all-word.result (first + i) c.get.result
-    c.requires.walk within is-put (λ e. c.in-Some.ensures.2 (sym value-here ∙ e))
+    c.requires.walk within is-put (λ e. there (sym value-here ∙ e))
     (λ e. own-half s a v k ms (length rest) c.of-all.result c.counted_all-own.result all own i c.in-Some.ensures.1 within (sym value-here ∙ e))
     with-own (c.counted_all-word.ensures.counted (length rest) true steps)
     in let stays = stays-on s c.args.evaluator.now c.loop-i.evaluator c.counted_all-word.new.evaluator c.loop-i.invariant.0 c.counted_all-word.ensures.stays
-    in let passed = own-passed trial is v k rest a c.of-all.result c.counted_all-own.result c.requires.walk.left all own
-    c.loop-i.from i (omega (arith, c.in-Some.ensures.1)) c.in-Some.ensures.3
+    in let passed = open-passed trial is v rest a c.args.tail c.as_slice-steps.result.now c.requires.walk steps k c.of-all.result
+    c.counted_all-own.result c.opened-alive.result all own c.opened-alive.ensures c.loop-i.from i (omega (arith, c.in-Some.ensures.1))
+    c.in-Some.ensures.3
     in (
       omega (arith, c.decreases),
       (
@@ -346,19 +376,22 @@ walk_chunk-loop-i-preserved-else-has_more t c =
     in let placed = c.set.new.self
     in let steps = subst (AreSteps ms (length rest) true) (sym c.as_slice-steps.ensures)
     (level-last trial is rest on c.level_of-level.result.now found)
-    in let some = own.some i c.in-Some.ensures.1 c.in-Some.ensures.2
+    in let is-own = c.opened-alive.ensures.kept i c.in-Some.ensures.1 c.in-Some.ensures.2
+    in let there : get_or c.counted_all-own.result i No ≢ No = λ e. c.in-Some.ensures.2 (is-own ∙ e)
+    in let some = own.some i c.in-Some.ensures.1 there
     in let within = all.within i c.in-Some.ensures.1 some
     in let is-put = put-kept v (rest ++ w ∷ []) (first + i) a c.loop-i.a placed c.loop-i.invariant.1 c.set.ensures.places
     in let value-here = c.get.ensures
     in let with-own = counted-with c.args.tail c.get.result c.counted-begun.result c.requires.walk.long
     (c.counted-begun.ensures ∙ ap (paired counted c.args.tail) c.of.ensures)
     in let start = walk-on trial is v rest a placed c.args.tail c.counted-begun.result c.counted_all-word.result (first + i) c.get.result
-    c.requires.walk within is-put (λ e. c.in-Some.ensures.2 (sym value-here ∙ e))
+    c.requires.walk within is-put (λ e. there (sym value-here ∙ e))
     (λ e. own-half s a v k ms (length rest) c.of-all.result c.counted_all-own.result all own i c.in-Some.ensures.1 within (sym value-here ∙ e))
     with-own (c.counted_all-word.ensures.counted (length rest) true steps)
     in let stays = stays-on s c.args.evaluator.now c.loop-i.evaluator c.counted_all-word.new.evaluator c.loop-i.invariant.0 c.counted_all-word.ensures.stays
-    in let passed = own-passed trial is v k rest a c.of-all.result c.counted_all-own.result c.requires.walk.left all own
-    c.loop-i.from i (omega (arith, c.in-Some.ensures.1)) c.in-Some.ensures.3
+    in let passed = open-passed trial is v rest a c.args.tail c.as_slice-steps.result.now c.requires.walk steps k c.of-all.result
+    c.counted_all-own.result c.opened-alive.result all own c.opened-alive.ensures c.loop-i.from i (omega (arith, c.in-Some.ensures.1))
+    c.in-Some.ensures.3
     in let told = subst (IsTold trial (AreTriedFor trial (GoesOnIn trial (rest ++ w ∷ []) (assignment_of placed))) c.loop-i.noted c.walk.new.noted)
     c.in-Possible.is c.in_ok-walk.ensures.told
     in (
@@ -400,19 +433,22 @@ walk_chunk-loop-i-preserved t c =
     in let placed = c.set.new.self
     in let steps = subst (AreSteps ms (length rest) true) (sym c.as_slice-steps.ensures)
     (level-last trial is rest on c.level_of-level.result.now found)
-    in let some = own.some i c.in-Some.ensures.1 c.in-Some.ensures.2
+    in let is-own = c.opened-alive.ensures.kept i c.in-Some.ensures.1 c.in-Some.ensures.2
+    in let there : get_or c.counted_all-own.result i No ≢ No = λ e. c.in-Some.ensures.2 (is-own ∙ e)
+    in let some = own.some i c.in-Some.ensures.1 there
     in let within = all.within i c.in-Some.ensures.1 some
     in let is-put = put-kept v (rest ++ w ∷ []) (first + i) a c.loop-i.a placed c.loop-i.invariant.1 c.set.ensures.places
     in let value-here = c.get.ensures
     in let with-own = counted-with c.args.tail c.get.result c.counted-begun.result c.requires.walk.long
     (c.counted-begun.ensures ∙ ap (paired counted c.args.tail) c.of.ensures)
     in let start = walk-on trial is v rest a placed c.args.tail c.counted-begun.result c.counted_all-word.result (first + i) c.get.result
-    c.requires.walk within is-put (λ e. c.in-Some.ensures.2 (sym value-here ∙ e))
+    c.requires.walk within is-put (λ e. there (sym value-here ∙ e))
     (λ e. own-half s a v k ms (length rest) c.of-all.result c.counted_all-own.result all own i c.in-Some.ensures.1 within (sym value-here ∙ e))
     with-own (c.counted_all-word.ensures.counted (length rest) true steps)
     in let stays = stays-on s c.args.evaluator.now c.loop-i.evaluator c.counted_all-word.new.evaluator c.loop-i.invariant.0 c.counted_all-word.ensures.stays
-    in let passed = own-passed trial is v k rest a c.of-all.result c.counted_all-own.result c.requires.walk.left all own
-    c.loop-i.from i (omega (arith, c.in-Some.ensures.1)) c.in-Some.ensures.3
+    in let passed = open-passed trial is v rest a c.args.tail c.as_slice-steps.result.now c.requires.walk steps k c.of-all.result
+    c.counted_all-own.result c.opened-alive.result all own c.opened-alive.ensures c.loop-i.from i (omega (arith, c.in-Some.ensures.1))
+    c.in-Some.ensures.3
     in (
       stays,
       kept-more v (rest ++ w ∷ []) (first + i) a c.loop-i.a placed placed c.loop-i.invariant.1 c.set.ensures.places (λ x none. refl),
@@ -449,15 +485,18 @@ walk_chunk-returns-clause-told t c =
     (level-own trial is rest on c.level_of-level.result.now found))
     in let all = all-word s.size k c.places.result Yes c.of-all.result
     (c.places.ensures.value ∙ ap (λ n. min 64 (n - 64 * k)) c.size.ensures.size) c.requires.chunk c.of-all.ensures
-    in let passed = own-passed trial is v k rest a c.of-all.result c.counted_all-own.result c.requires.walk.left all own
-    c.loop-i.from 64 (omega arith) c.in_default.ensures
+    in let steps = subst (AreSteps ms (length rest) true) (sym c.as_slice-steps.ensures)
+    (level-last trial is rest on c.level_of-level.result.now found)
+    in let passed = open-passed trial is v rest a c.args.tail c.as_slice-steps.result.now c.requires.walk steps k c.of-all.result
+    c.counted_all-own.result c.opened-alive.result all own c.opened-alive.ensures c.loop-i.from 64 (omega arith) c.in_default.ensures
     in told-both trial
     (AreTriedFor trial (λ b. GoesOnIn trial (v ∷ rest ++ w ∷ []) (assignment_of a) b × IsBetween v first (first + c.loop-i.from) b))
-    (AreTriedFor trial (λ b. GoesOn vars (v ∷ rest ++ w ∷ []) (assignment_of a) b × IsBetween v (first + c.loop-i.from) (first + 64) b))
+    (AreTriedFor trial (λ b. GoesOnIn trial (v ∷ rest ++ w ∷ []) (assignment_of a) b × IsBetween v (first + c.loop-i.from) (first + 64) b))
     (AreTriedFor trial (λ b. GoesOnIn trial (v ∷ rest ++ w ∷ []) (assignment_of a) b × IsInChunk v k b))
     c.args.noted.now c.loop-i.noted c.loop-i.noted c.loop-i.invariant.3
     (λ so_far others n kin. tried-rest s (rule_at trial.closed.now n) vars (kin-variable trial is n kin) v first (first + c.loop-i.from) (first + 64)
     (GoesOnIn trial (v ∷ rest ++ w ∷ []) (assignment_of a))
-    (GoesOn vars (v ∷ rest ++ w ∷ []) (assignment_of a)) (λ b goes. goes.0) (others n kin) (so_far n kin))
-    (told-tried trial (AreTriedFor trial (λ b. GoesOn vars (v ∷ rest ++ w ∷ []) (assignment_of a) b × IsBetween v (first + c.loop-i.from) (first + 64) b))
+    (GoesOnIn trial (v ∷ rest ++ w ∷ []) (assignment_of a)) (λ b goes. goes) (others n kin) (so_far n kin))
+    (told-tried trial (AreTriedFor trial (λ b. GoesOnIn trial (v ∷ rest ++ w ∷ []) (assignment_of a) b
+    × IsBetween v (first + c.loop-i.from) (first + 64) b))
     c.loop-i.noted passed)
