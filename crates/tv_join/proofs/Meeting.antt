@@ -1,8 +1,9 @@
 -- What was found is joined into what is listed, one structure after the other.
-use Rattle.std.proofs.Common.{ℕ, ◌≡◌, ◌≢◌, ◌<◌, ◌≤◌, ◌+◌, ◌⊎◌, zero, suc, inl, inr, Bool, true, false, List}
+use Rattle.std.proofs.Common.{ℕ, ◌≡◌, ◌≢◌, ◌<◌, ◌≤◌, ◌+◌, ◌⊎◌, zero, suc, inl, inr, List}
 use Rattle.std.proofs.Common.{[], ◌∷◌, ◌++◌, length, get_or, set, Option, None, Some, refl, sym, ap, subst}
-use Rattle.std.proofs.Common.{◌∙◌, arith}
-use Rattle.std.specs.Prelude.{Contains, MatchBool, sum_by, slice_get}
+use Rattle.std.proofs.Common.{◌∙◌, ⊎_elim, arith}
+use Rattle.std.specs.Prelude.{Contains, sum_by, slice_get}
+use Rattle.std.specs.List.{range_with_len}
 use Rattle.std.proofs.lemmas.Bool.{cases_eq}
 use Rattle.std.proofs.lemmas.List.{length-set, length_push, set-get_or, length-map}
 use Rattle.std.proofs.lemmas.List.Elements.{Contains-append_left, Contains-push, Contains-push_cases}
@@ -10,7 +11,15 @@ use Rattle.std.proofs.lemmas.List.Sums.{sum_by-set, sum_by_push}
 use Rattle.std.proofs.lemmas.Option.{slice_get_within, get_or_from_slice_get}
 use Rattle.tv_model.proofs.Lists.{Contains-none, slice_get-contains}
 use Rattle.tv_listing.specs.ListingForm.{at_node}
-use Rattle.tv_struct.specs.StructureForm.{StructureForm}
+use Rattle.tv_model.specs.Program.{ProgramForm}
+use Rattle.tv_model.specs.Valid.{IsValid}
+use Rattle.tv_rules.specs.Closing.{closed_rules}
+use Rattle.tv_rules.proofs.Ranges.{rules_are_plain}
+use Rattle.tv_stable_laws.specs.Laws.{joined}
+use Rattle.tv_stable_laws.specs.Stable.{IsStable}
+use Rattle.tv_stable_laws.proofs.Joins.{joins_are_stable}
+use Rattle.tv_struct.specs.StructureForm.{StructureForm, structure_of}
+use Rattle.tv_join.specs.Pairwise.{IsJoined}
 use Rattle.tv_step.specs.Setting.{IsStableIn}
 use Rattle.tv_join.specs.Members.{MembersForm, IsRaised, Puts}
 use Rattle.tv_join.specs.declared.members.Put.{Put}
@@ -23,7 +32,7 @@ use Rattle.tv_join.specs.Listed.{AreJoins}
 use Rattle.tv_join.specs.Places.{member_place}
 use Rattle.tv_join.specs.Rounds.{point}
 use Rattle.tv_join.specs.State.{JoinsForm, IsAmongFound, IsIn, IsJoinState, IsMet, IsNode, HasRoom, NotesPut}
-use Rattle.tv_join.specs.State.{NotesRaised, StandsAt, listing_of, members_at, room_after, total_of}
+use Rattle.tv_join.specs.State.{StandsAt, listing_of, members_at, room_after, total_of}
 use Rattle.tv_join.specs.Stepped.{HaveMet, IsPlaced, IsPlacedFound, Rises, Stay}
 use Rattle.tv_join.specs.Weight.{structure_weight, structures_weight, listing_weight}
 use Rattle.tv_join.specs.declared.joins.Found.{Found}
@@ -39,16 +48,6 @@ pub listed-plain : (t : TaskForm) (j : JoinsForm) → IsJoinState t j → (x : P
 listed-plain t j kept x has =
     (kept.each x.node).plain x.structure (subst (λ xs. Contains xs x.structure) (listing-at j.nodes x.node) has)
 
-pub risen-or-stable : (t : TaskForm) (j : JoinsForm) → IsJoinState t j → (w : Place) (s : StructureForm)
-    → StandsAt j.nodes w s → (has_risen : Bool) → MatchBool has_risen (Contains j.raised w) (¬ Contains j.raised w)
-    → (has_risen ≡ true) ⊎ IsStableIn t.program s
-risen-or-stable t j kept w s stands true is = inl refl
-risen-or-stable t j kept w s stands false isnt = by (kept.stable w s stands)
-  where
-    by : Contains j.raised w ⊎ IsStableIn t.program s → (false ≡ true) ⊎ IsStableIn t.program s
-    by (inl has) = absurd (isnt has)
-    by (inr is) = inr is
-
 -- what is listed is the joins by key of itself
 pub listed-joins : (t : TaskForm) (j : JoinsForm) → IsJoinState t j → (k : ℕ)
     → AreJoins t.program (λ s. IsIn j.nodes (point k s)) (at_node (listing_of j.nodes) k)
@@ -56,6 +55,21 @@ listed-joins t j kept k =
     let node : IsNode t.program (members_at j.nodes k) = kept.each k
     in subst (λ xs. AreJoins t.program (Contains xs) xs) (sym (listing-at j.nodes k))
     (joins-own t.program (members_at j.nodes k).structures node.plain node.own)
+
+-- a join of stable structures is stable
+joined-stable : (p : ProgramForm) → IsValid p → (s t r : StructureForm) → s.fresh ≡ None → s.size ≡ t.size
+    → IsJoined s t r → IsStableIn p s → IsStableIn p t → IsStableIn p r
+joined-stable p valid s t r unmarked size join left right =
+    let same : structure_of r ≡ joined (structure_of s) (structure_of t)
+    = λ i. record {
+      individuals = (ap (range_with_len 0) join.size) i;
+      value = λ pred tuple. (join.values pred tuple) i;
+      is_summary = λ u. (join.summaries u) i;
+      fresh = (join.unmarked ∙ sym unmarked) i;
+    }
+    in subst (IsStable (closed_rules p)) (sym same)
+    (joins_are_stable (structure_of s) (structure_of t) (closed_rules p) (ap (range_with_len 0) size)
+    (rules_are_plain p valid) left right)
 
 -- ---- one structure is put
 
@@ -268,33 +282,33 @@ module _ (t : TaskForm) (old new : JoinsForm) (k : ℕ) (s : StructureForm) (kep
       by (inl same) = here same (stands-by met.put met.puts w.at r (at-node w r same stands))
       by (inr apart) = inr (at-other w r apart stands)
 
-  raised-kept : (put : Put) → NotesRaised k put old.raised new.raised → (w : Place)
-      → Contains old.raised w → Contains new.raised w
-  raised-kept Known notes w has = subst (λ ws. Contains ws w) (sym notes) has
-  raised-kept (Raised at) notes w has = notes.kept w has
-  raised-kept Added notes w has = subst (λ ws. Contains ws w) (sym notes) has
-
-  -- what stands as it was found is stable
-  stable-met : IsStableIn t.program s → (w : Place) (r : StructureForm) → StandsAt new.nodes w r
-      → Contains new.raised w ⊎ IsStableIn t.program r
-  stable-met found w r stands = by (cases_eq w.node k)
+  -- what stands there is stable: it was so before, was found so, or is a join of two that are
+  stable-met : IsValid t.program → IsStableIn t.program s → (w : Place) (r : StructureForm) → StandsAt new.nodes w r
+      → IsStableIn t.program r
+  stable-met valid found w r stands = by (cases_eq w.node k)
     where
-      earlier : Contains old.raised w ⊎ IsStableIn t.program r → Contains new.raised w ⊎ IsStableIn t.program r
-      earlier (inl has) = inl (raised-kept met.put met.raised w has)
-      earlier (inr is) = inr is
+      -- the structure that was raised
+      after-raised : IsRaised (key_flags t.program) before s after w.at → slice_get after w.at ≡ Some r → IsStableIn t.program r
+      after-raised raise is =
+          let e : raise.after ≡ r
+          = ⊎_elim (λ here. here.1) (λ other. absurd (other.0 refl))
+          (set-at before w.at raise.after r w.at (slice_get_within before w.at raise.before raise.at)
+          (ap (λ xs. slice_get xs w.at) (sym raise.set) ∙ is))
+          in subst (IsStableIn t.program) e
+          (joined-stable t.program valid s raise.before raise.after plain.unmarked raise.key.size raise.joined found
+          (kept.stable (member_place k w.at) raise.before raise.at))
 
-      here : w.node ≡ k → (slice_get before w.at ≡ Some r)
+      here : w.node ≡ k → slice_get after w.at ≡ Some r → (slice_get before w.at ≡ Some r)
           ⊎ ((met.put ≡ Raised w.at) ⊎ ((met.put ≡ Added) × (w.at ≡ length before) × (s ≡ r)))
-          → Contains new.raised w ⊎ IsStableIn t.program r
-      here same (inl was) = earlier (kept.stable w r (at-before w r same was))
-      here same (inr (inl raised)) =
-          inl (subst (λ n. Contains new.raised (member_place n w.at)) (sym same)
-          (subst (λ put. NotesRaised k put old.raised new.raised) raised met.raised).has)
-      here same (inr (inr (added, at, e))) = inr (subst (IsStableIn t.program) e found)
+          → IsStableIn t.program r
+      here same is (inl was) = kept.stable w r (at-before w r same was)
+      here same is (inr (inl raised)) =
+          after-raised (subst (Puts (key_flags t.program) before s after) raised met.puts) is
+      here same is (inr (inr (added, at, e))) = subst (IsStableIn t.program) e found
 
-      by : (w.node ≡ k) ⊎ (w.node ≢ k) → Contains new.raised w ⊎ IsStableIn t.program r
-      by (inl same) = here same (stands-by met.put met.puts w.at r (at-node w r same stands))
-      by (inr apart) = earlier (kept.stable w r (at-other w r apart stands))
+      by : (w.node ≡ k) ⊎ (w.node ≢ k) → IsStableIn t.program r
+      by (inl same) = here same (at-node w r same stands) (stands-by met.put met.puts w.at r (at-node w r same stands))
+      by (inr apart) = kept.stable w r (at-other w r apart stands)
 
   pub stay-met : (first : List MembersForm) → Stay first old → Stay first new
   stay-met first before-this w r stands = by (stays-met w r stands)
@@ -307,8 +321,8 @@ module _ (t : TaskForm) (old new : JoinsForm) (k : ℕ) (s : StructureForm) (kep
       by (inl has) = inl has
       by (inr was) = earlier (before-this w r was)
 
-  pub kept-met : IsStableIn t.program s → IsJoinState t new
-  kept-met found = record {
+  pub kept-met : IsValid t.program → IsStableIn t.program s → IsJoinState t new
+  kept-met valid found = record {
     nodes = ap length met.set ∙ length-set old.nodes k met.node ∙ kept.nodes;
     each = λ j. each-kept j (cases_eq j k);
     room = subst (HasRoom t.max (total_of new.nodes)) (sym met.room)
@@ -316,7 +330,7 @@ module _ (t : TaskForm) (old new : JoinsForm) (k : ℕ) (s : StructureForm) (kep
         (λ e. ap length (known-same met.put met.puts e)) (raised-count met.put met.puts) (added-count met.put met.puts)
         (total_of new.nodes) (sums length));
     places = places-met met.put met.puts met.changed;
-    stable = stable-met found;
+    stable = stable-met valid found;
   }
 
   -- ---- what is listed is the joins with it
@@ -434,12 +448,12 @@ met-none t old kept none = record {
   placed = λ x has. absurd (Contains-none (record { node = x.node; structure = x.structure }) has);
 }
 
-one-met : (t : TaskForm) (first old new : JoinsForm) (taken : List Found) (f : Found) → IsJoinState t first
+one-met : (t : TaskForm) (valid : IsValid t.program) (first old new : JoinsForm) (taken : List Found) (f : Found) → IsJoinState t first
     → HaveMet t first taken old
     → ((x : Point) → IsAmongFound taken x → IsPlaced t x) → IsPlacedFound t f
     → IsMet (key_flags t.program) old f.node f.structure new → HaveMet t first (taken ++ f ∷ []) new
-one-met t first old new taken f kept have placed placed_f met = record {
-  kept = kept-met t old new f.node f.structure have.kept lt placed_f.plain met placed_f.stable;
+one-met t valid first old new taken f kept have placed placed_f met = record {
+  kept = kept-met t old new f.node f.structure have.kept lt placed_f.plain met valid placed_f.stable;
   joins = λ k. joins-like t.program
       (λ s. (IsIn first.nodes (point k s) ⊎ IsAmongFound taken (point k s)) ⊎ (point k s ≡ point f.node f.structure))
       (λ s. IsIn first.nodes (point k s) ⊎ IsAmongFound (taken ++ f ∷ []) (point k s))
@@ -483,11 +497,11 @@ one-met t first old new taken f kept have placed placed_f met = record {
               structure = (sym (ap (λ (x : Found). x.structure) e)) i;
             })
 
-pub met-next : (t : TaskForm) (first old new : JoinsForm) (taken : List Found) (f : Found) → IsJoinState t first
+pub met-next : (t : TaskForm) (valid : IsValid t.program) (first old new : JoinsForm) (taken : List Found) (f : Found) → IsJoinState t first
     → IsMeeting t first taken old → IsPlacedFound t f → IsMet (key_flags t.program) old f.node f.structure new
     → IsMeeting t first (taken ++ f ∷ []) new
-met-next t first old new taken f kept so-far placed_f met = record {
-  met = one-met t first old new taken f kept so-far.met so-far.placed placed_f met;
+met-next t valid first old new taken f kept so-far placed_f met = record {
+  met = one-met t valid first old new taken f kept so-far.met so-far.placed placed_f met;
   placed = λ x has. by x (Contains-push_cases taken f (record { node = x.node; structure = x.structure }) has);
 }
   where

@@ -170,7 +170,7 @@ nothing-in n x has =
 
 -- nothing is listed at first
 pub nothing-kept : (t : TaskForm) (n : ℕ) (j : JoinsForm) → n ≡ length t.program.nodes
-    → j ≡ record { nodes = replicate n no_members; room = Some t.max; changed = []; raised = [] } → IsJoinState t j
+    → j ≡ record { nodes = replicate n no_members; room = Some t.max; changed = [] } → IsJoinState t j
 nothing-kept t n j count e = subst (IsJoinState t) (sym e) (record {
   nodes = length-replicate n no_members ∙ count;
   each = λ k. subst (IsNode t.program) (sym (none-at n k)) (node-none t.program);
@@ -181,7 +181,7 @@ nothing-kept t n j count e = subst (IsJoinState t) (sym e) (record {
 })
 
 module _ (t : TaskForm) (valid : IsValid t.program) (n : ℕ) (old new : JoinsForm) (found : List Found)
-    (e : old ≡ record { nodes = replicate n no_members; room = Some t.max; changed = []; raised = [] })
+    (e : old ≡ record { nodes = replicate n no_members; room = Some t.max; changed = [] })
     (are : AreOpenings t t.initial found) (met : HaveMet t old found new) where
   none-in : (x : Point) → IsIn old.nodes x → ⊥
   none-in x has = nothing-in n x (subst (λ (j : JoinsForm). IsIn j.nodes x) e has)
@@ -263,7 +263,7 @@ too-many t j round kept listed more = (
         in omega (arith, e, before)
 
 pub first-cause : (t : TaskForm) (valid : IsValid t.program) (n : ℕ) (old new : JoinsForm) (found : List Found)
-    → old ≡ record { nodes = replicate n no_members; room = Some t.max; changed = []; raised = [] }
+    → old ≡ record { nodes = replicate n no_members; room = Some t.max; changed = [] }
     → AreOpenings t t.initial found → HaveMet t old found new → t.max < total_of new.nodes
     → IsJoinCause t.program t.mode t.initial t.max Structures
 first-cause t valid n old new found e are met more =
@@ -493,7 +493,7 @@ round-bound t round j at =
 
 -- the places of what changed are handed out
 module _ (t : TaskForm) (old new : JoinsForm) (places : List Place) (taken : places ≡ old.changed)
-    (left : new ≡ record { nodes = old.nodes; room = old.room; changed = []; raised = old.raised }) where
+    (left : new ≡ record { nodes = old.nodes; room = old.room; changed = [] }) where
   pub taken-nodes : new.nodes ≡ old.nodes
   taken-nodes = ap (λ (j : JoinsForm). j.nodes) left
 
@@ -520,7 +520,7 @@ module _ (t : TaskForm) (old new : JoinsForm) (places : List Place) (taken : pla
   taken-cause e cause = subst (λ ns. IsFollowCause t.program (IsIn ns) e) taken-nodes cause
 
 pub start-cause : (t : TaskForm) (valid : IsValid t.program) (n : ℕ) (old new : JoinsForm) (found : List Found)
-    → old ≡ record { nodes = replicate n no_members; room = Some t.max; changed = []; raised = [] }
+    → old ≡ record { nodes = replicate n no_members; room = Some t.max; changed = [] }
     → AreOpenings t t.initial found
     → (e : WorkError) → IsMeetingCause t old found new e → IsJoinCause t.program t.mode t.initial t.max e
 start-cause t valid n old new found e are Structures (met, more) = first-cause t valid n old new found e are met more

@@ -1,5 +1,5 @@
 -- What is listed between two rounds.
-use Rattle.std.specs.Prelude.{ℕ, ◌≡◌, ◌<◌, ◌+◌, ◌⊎◌, zero, suc, Bool, List, [], length, sum_by, map, Option}
+use Rattle.std.specs.Prelude.{ℕ, ◌≡◌, ◌<◌, ◌+◌, zero, suc, Bool, List, [], length, sum_by, map, Option}
 use Rattle.std.specs.Prelude.{Some, None, Contains, slice_get, slice_set, slice_index_or}
 use Rattle.tv_model.specs.Program.{ProgramForm}
 use Rattle.tv_struct.specs.StructureForm.{StructureForm}
@@ -50,13 +50,12 @@ total_of nodes = sum_by length (listing_of nodes)
 abbrev pub StandsAt : List MembersForm → Place → StructureForm → Type 0
 StandsAt nodes w s = slice_get (members_at nodes w.node).structures w.at ≡ Some s
 
--- the structures of the nodes, how many more may be listed, nothing where there are too many, the places of
--- what changed, and those of structures that don't stand as they were found
+-- the structures of the nodes, how many more may be listed, nothing where there are too many, and the places
+-- of what changed
 pub record JoinsForm : Type 0 where
   pub nodes : List MembersForm
   pub room : Option ℕ
   pub changed : List Place
-  pub raised : List Place
 
 -- so many more may be listed
 abbrev pub HasRoom : (max total : ℕ) → Option ℕ → Type 0
@@ -68,8 +67,7 @@ pub record IsJoinState (t : TaskForm) (j : JoinsForm) : Type 0 where
   pub each : (k : ℕ) → IsNode t.program (members_at j.nodes k)
   pub room : HasRoom t.max (total_of j.nodes) j.room
   pub places : (w : Place) → Contains j.changed w → w.at < length (members_at j.nodes w.node).structures
-  pub stable : (w : Place) (s : StructureForm) → StandsAt j.nodes w s
-      → Contains j.raised w ⊎ IsStableIn t.program s
+  pub stable : (w : Place) (s : StructureForm) → StandsAt j.nodes w s → IsStableIn t.program s
 
 -- ---- structures are put
 
@@ -90,12 +88,6 @@ NotesPut node count Known old new = new ≡ old
 NotesPut node count (Raised at) old new = Notes (member_place node at) old new
 NotesPut node count Added old new = Notes (member_place node count) old new
 
--- and where it was raised, its place is noted too
-abbrev pub NotesRaised : (node : ℕ) → Put → (old new : List Place) → Type 0
-NotesRaised node Known old new = new ≡ old
-NotesRaised node (Raised at) old new = Notes (member_place node at) old new
-NotesRaised node Added old new = new ≡ old
-
 -- the structure is put at the node, and this comes of it
 pub record IsPut (counted : List Bool) (old : JoinsForm) (k : ℕ) (s : StructureForm) (new : JoinsForm)
     (put : Put) : Type
@@ -106,7 +98,6 @@ pub record IsPut (counted : List Bool) (old : JoinsForm) (k : ℕ) (s : Structur
   pub indexed : IsIndexed counted node
   pub room : new.room ≡ old.room
   pub changed : new.changed ≡ old.changed
-  pub raised : new.raised ≡ old.raised
 
 -- and that is noted
 pub record IsMet (counted : List Bool) (old : JoinsForm) (k : ℕ) (s : StructureForm)
@@ -119,7 +110,6 @@ pub record IsMet (counted : List Bool) (old : JoinsForm) (k : ℕ) (s : Structur
     pub indexed : IsIndexed counted node
     pub room : new.room ≡ room_after put old.room
     pub changed : NotesPut k (length (members_at old.nodes k).structures) put old.changed new.changed
-    pub raised : NotesRaised k put old.raised new.raised
 
 -- ---- what was found
 

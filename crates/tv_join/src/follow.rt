@@ -133,8 +133,7 @@ fn follow_edge(
 {
     let to = x.program.edges.as_slice()[edge as usize].to;
     let s = joins.at(w);
-    // one that stands as it was found is stable
-    let out = x.engine.step_of(edge, s, !joins.has_risen(w), scratch)?;
+    let out = x.engine.stable_step(edge, s, scratch)?;
     values.keep(x.alloc, edge, w.at, out.messages)?;
     push_found(to, out.results, found)?;
     Ok(())

@@ -3,11 +3,12 @@
 ghost use Rattle.std.specs.Prelude.{◌≡◌, ◌≢◌, ◌<◌, ◌≤◌, ◌^◌, ℕ, [], All, Contains, None, Some, IfOk, IfErr};
 ghost use Rattle.std.specs.Prelude.{MatchBool, OnOk, length, replicate, slice_set};
 ghost use Rattle.tv_listing.specs.ListingForm.{at_node};
+ghost use Rattle.tv_model.specs.Valid.{IsValid};
 ghost use Rattle.tv_join.specs.Keyed.{AreFlags};
 ghost use Rattle.tv_join.specs.Members.{IsIndexed};
 ghost use Rattle.tv_join.specs.Flags.{key_flags};
 ghost use Rattle.tv_join.specs.State.{JoinsForm, no_members, members_at, less, room_after, NotesPut};
-ghost use Rattle.tv_join.specs.State.{NotesRaised, IsPut, IsMet, IsJoinState, StandsAt, total_of};
+ghost use Rattle.tv_join.specs.State.{IsPut, IsMet, IsJoinState, StandsAt, total_of};
 ghost use Rattle.tv_join.specs.Stepped.{IsPlacedFound, HaveMet, IsMeetingCause};
 ghost use Rattle.tv_join.specs.Task.{task_of, form_in};
 
@@ -28,14 +29,13 @@ pub(crate) struct Found {
     pub structure: Structure,
 }
 
-/// The structures of each node, how many more may be listed, nothing where there are too many, the places of
-/// what changed since they were handed out, and those of structures that don't stand as they were found.
+/// The structures of each node, all of them stable: a join of stable structures is. How many more may be
+/// listed, nothing where there are too many, and the places of what changed since they were handed out.
 #[derive(Drop)]
 pub(crate) struct Joins {
     nodes: Vec<Members>,
     room: Option<u64>,
     changed: Places,
-    raised: Places,
 }
 
 impl Model for Joins {
@@ -47,7 +47,6 @@ impl Model for Joins {
       nodes = j.nodes.items;
       room = j.room;
       changed = j.changed;
-      raised = j.raised;
     } };
 }
 
@@ -58,7 +57,6 @@ impl Joins {
           nodes = replicate nodes no_members;
           room = Some max;
           changed = [];
-          raised = [];
         }) }
     {
         let mut empty = Vec::with_capacity(alloc, nodes)?;
@@ -69,7 +67,6 @@ impl Joins {
             nodes: empty,
             room: Some(max),
             changed: Places::new(alloc),
-            raised: Places::new(alloc),
         })
     }
 
@@ -80,7 +77,6 @@ impl Joins {
           nodes = self.old.nodes;
           room = self.old.room;
           changed = [];
-          raised = self.old.raised;
         } }
     {
         mem::replace(&mut self.changed, Places::new(alloc))
@@ -89,6 +85,7 @@ impl Joins {
     /// Joins what was found into what is listed, where nothing has changed, and notes the places of what
     /// changes. `Structures` where too many are then listed.
     pub fn meet_all(&mut self, x: &Task, found: Vec<Found>) -> Result<(), WorkError>
+        requires valid { IsValid (form_in x.now) }
         requires flags { x.now.counted.now ≡ key_flags (form_in x.now) }
         requires kept { IsJoinState (task_of x.now) self.old }
         requires none { self.old.changed ≡ [] }
@@ -148,14 +145,10 @@ impl Joins {
         ensures nodes { self.new.nodes ≡ self.old.nodes }
         ensures room { OnOk result (self.new.room ≡ room_after put self.old.room) }
         ensures changed { OnOk result (NotesPut node count put self.old.changed self.new.changed) }
-        ensures raised { OnOk result (NotesRaised node put self.old.raised self.new.raised) }
     {
         match put {
             Put::Known => Ok(()),
-            Put::Raised(at) => {
-                self.raised.note(Place { node, at })?;
-                self.changed.note(Place { node, at })
-            }
+            Put::Raised(at) => self.changed.note(Place { node, at }),
             Put::Added => {
                 self.room = less(self.room);
                 self.changed.note(Place { node, at: count })
@@ -168,13 +161,6 @@ impl Joins {
         ensures { MatchBool result (self.now.changed ≢ []) (self.now.changed ≡ []) }
     {
         !self.changed.is_empty()
-    }
-
-    /// Whether the structure at the place doesn't stand as it was found.
-    pub fn has_risen(&self, w: Place) -> bool
-        ensures { MatchBool result (Contains self.now.raised w) (¬ Contains self.now.raised w) }
-    {
-        self.raised.has(w)
     }
 
     /// The structures of the node.

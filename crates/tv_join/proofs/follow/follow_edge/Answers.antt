@@ -1,5 +1,4 @@
-use Rattle.std.proofs.Common.{◌≡◌, true, not, ⊎_elim, arith, subst, sym}
-use Rattle.std.proofs.lemmas.Bool.{false≢true}
+use Rattle.std.proofs.Common.{arith, subst, sym}
 use Rattle.std.proofs.lemmas.Option.{slice_get_within}
 use Rattle.std.proofs.lemmas.Result.{err_from_is_err_and}
 use Rattle.tv_step_laws.specs.Transfer.{AreMessageValues}
@@ -10,30 +9,27 @@ use Rattle.tv_join.specs.Rounds.{point}
 use Rattle.tv_join.specs.State.{IsIn}
 use Rattle.tv_join.specs.Task.{form_in, task_of}
 use Rattle.tv_join.proofs.Following.{follow-along, follow-gathers, stands-in, stands-source, step-fault}
-use Rattle.tv_join.proofs.Meeting.{listed-plain, risen-or-stable}
+use Rattle.tv_join.proofs.Meeting.{listed-plain}
 use Rattle.tv_join.proofs.follow.follow_edge.Goals as goal
 
-pub step_of-requires-clause-edge : goal.step_of-requires-clause-edge
-step_of-requires-clause-edge c =
+pub stable_step-requires-clause-edge : goal.stable_step-requires-clause-edge
+stable_step-requires-clause-edge c =
     rw c.requires.ready.engine
     (slice_get_within (form_in c.args.x.now).edges c.args.edge c.requires.edge.0 c.requires.edge.1)
 
-pub step_of-requires-clause-over : goal.step_of-requires-clause-over
-step_of-requires-clause-over c =
+pub stable_step-requires-clause-over : goal.stable_step-requires-clause-over
+stable_step-requires-clause-over c =
     rw c.requires.ready.engine
     (shaped-over c.args.x.now.program.now c.at-s.result.now
     (listed-plain (task_of c.args.x.now) c.args.joins.now c.requires.kept (point c.args.w.node c.at-s.result.now)
     (stands-in c.args.joins.now.nodes c.args.w c.at-s.result.now c.at-s.ensures)).shaped)
 
-pub step_of-requires-clause-scratch : goal.step_of-requires-clause-scratch
-step_of-requires-clause-scratch c = rw c.requires.ready.engine c.requires.ready.room
+pub stable_step-requires-clause-scratch : goal.stable_step-requires-clause-scratch
+stable_step-requires-clause-scratch c = rw c.requires.ready.engine c.requires.ready.room
 
-pub step_of-requires-clause-stable : goal.step_of-requires-clause-stable
-step_of-requires-clause-stable c = λ still.
-    rw c.requires.ready.engine
-    (⊎_elim (λ risen. absurd (false≢true (subst (λ b. not b ≡ true) risen still))) (λ stable. stable)
-    (risen-or-stable (task_of c.args.x.now) c.args.joins.now c.requires.kept c.args.w c.at-s.result.now c.at-s.ensures
-    c.has_risen.result c.has_risen.ensures))
+pub stable_step-requires-clause-stable : goal.stable_step-requires-clause-stable
+stable_step-requires-clause-stable c =
+    rw c.requires.ready.engine (c.requires.kept.stable c.args.w c.at-s.result.now c.at-s.ensures)
 
 pub keep-requires : goal.keep-requires
 keep-requires c =

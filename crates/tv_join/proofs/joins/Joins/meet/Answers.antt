@@ -1,6 +1,6 @@
 use Rattle.std.proofs.Common.{◌≡◌, ◌∙◌, List, ap, length, subst}
 use Rattle.tv_struct.specs.StructureForm.{StructureForm}
-use Rattle.tv_join.specs.State.{NotesPut, NotesRaised, members_at, room_after}
+use Rattle.tv_join.specs.State.{NotesPut, members_at, room_after}
 use Rattle.tv_join.specs.declared.places.Place.{Place}
 use Rattle.tv_join.proofs.joins.Joins.meet.Goals as goal
 
@@ -22,6 +22,4 @@ returns c =
       changed = subst (λ n. NotesPut node n put c.args.self.now.changed c.note.new.self.changed) count
           (subst (λ (ws : List Place). NotesPut node (length before) put ws c.note.new.self.changed) done.changed
           c.in_ok-note.ensures.changed);
-      raised = subst (λ (ws : List Place). NotesRaised node put ws c.note.new.self.raised) done.raised
-          c.in_ok-note.ensures.raised;
     }

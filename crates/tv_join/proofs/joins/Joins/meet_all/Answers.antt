@@ -61,7 +61,7 @@ loop-f-preserved c =
     c.next.ensures.steps
     in let placed = All-contains (IsPlacedFound t) c.args.found.items c.in-Some.f c.requires.placed
     (length c.loop-f.yielded, turn.0, sym turn.1)
-    in met-next t c.args.self.now c.loop-f.self c.meet.new.self c.loop-f.yielded c.in-Some.f c.requires.kept c.loop-f.invariant
+    in met-next t c.requires.valid c.args.self.now c.loop-f.self c.meet.new.self c.loop-f.yielded c.in-Some.f c.requires.kept c.loop-f.invariant
     placed
     (subst (λ (flags : List Bool). IsMet flags c.loop-f.self c.in-Some.f.node c.in-Some.f.structure c.meet.new.self)
     c.requires.flags c.in_ok-meet.ensures)
