@@ -16,9 +16,9 @@ use Rattle.tv_embed.proofs.SearchLaws.{embedding-list}
 use Rattle.tv_embedding_laws.specs.Embedding.{IsEmbedded}
 use Rattle.tv_struct.specs.StructureForm.{StructureForm, arities_of, structure_of}
 use Rattle.tv_cover.specs.Covers.{IsFirstCover, IsCoverAt, HasNoCoverAt, HasCoversAmong}
-use Rattle.tv_cover.specs.Indexed.{AreIndexed, AreGlances, glances_of}
-use Rattle.tv_cover.specs.Glance.{GlanceForm, glance_of, glance_number, MayEmbed, IsOnlyMap}
-use Rattle.tv_cover.specs.Noted.{noted_for}
+use Rattle.tv_cover.specs.Indexed.{AreIndexed, glances_of}
+use Rattle.tv_cover.specs.Glance.{GlanceForm, glance_of, MayEmbed, IsOnlyMap}
+use Rattle.tv_cover.specs.Noted.{Finds}
 use Rattle.tv_cover.specs.declared.noted.Noted.{Noted}
 use Rattle.tv_kleene.specs.declared.K3.{K3}
 use Rattle.tv_cover.proofs.GlanceLaws.{may-embed, same-map}
@@ -30,30 +30,19 @@ all-at P xs i x all e = subst P (get_or_from_slice_get xs i x x e) (all i x (sli
 pub covers-among : (noted : Noted) (targets : List StructureForm) (s : StructureForm)
     (glance : GlanceForm) (places : List ℕ) → glance ≡ glance_of s
     → All (λ t. arities_of s ≡ arities_of t) targets → AreIndexed noted (glances_of targets)
-    → ((known : List K3) → Contains noted.known.items known → (place : ℕ)
-    → Contains (noted_for noted (glance_number known glance)) place → Contains places place)
+    → ((known : List K3) → Contains noted.known.items known → Finds noted glance known places)
     → HasCoversAmong targets s places
 covers-among noted targets s glance places is alike indexed each place t listed embedded =
-    let Each : GlanceForm → Type 0 = λ g. (known : List K3) → Contains noted.known.items known
-    → (at : ℕ) → Contains (noted_for noted (glance_number known g)) at → Contains places at
+    let Each : GlanceForm → Type 0 = λ g. (known : List K3) → Contains noted.known.items known → Finds noted g known places
     in found-place noted targets s places indexed (subst Each is each) place t listed
     (all-at (λ x. arities_of s ≡ arities_of x) targets place t alike listed) embedded
 
--- what says nothing that lies under what is kept of the target doesn't embed in it
-pub none-kept : (targets : List StructureForm) (kept : List (Option GlanceForm)) (s : StructureForm) (below : GlanceForm)
-    (place : ℕ) (there : Option GlanceForm) → AreGlances kept targets → All (λ t. arities_of s ≡ arities_of t) targets
-    → below ≡ glance_of s → get_or kept place None ≡ there → ¬ IfSome there (MayEmbed below) → HasNoCoverAt targets s place
-none-kept targets kept s below place there are alike is at never large listed embedded =
-    never (subst (λ o. IfSome o (MayEmbed below)) at (told (get_or kept place None) (are.each place large listed)))
-  where
-    may : MayEmbed below (glance_of large)
-    may =
-        subst (λ g. MayEmbed g (glance_of large)) (sym is)
-        (may-embed s large (all-at (λ x. arities_of s ≡ arities_of x) targets place large alike listed) embedded)
-
-    told : (o : Option GlanceForm) → IfSome o (λ glance. glance ≡ glance_of large) → IfSome o (MayEmbed below)
-    told None h = tt
-    told (Some above) same = subst (MayEmbed below) (sym same) may
+-- what says nothing that lies under what the target says doesn't embed in it
+pub none-told : (s t : StructureForm) (below above : GlanceForm) → arities_of s ≡ arities_of t → below ≡ glance_of s
+    → above ≡ glance_of t → ¬ MayEmbed below above → ¬ IsEmbedded (structure_of s) (structure_of t)
+none-told s t below above same is at never embedded =
+    let told : MayEmbed (glance_of s) (glance_of t) = may-embed s t same embedded
+    in never (subst (λ g. MayEmbed g above) (sym is) (subst (MayEmbed (glance_of s)) (sym at) told))
 
 -- no target at the first n places covers s
 pub AreTried : (targets : List StructureForm) → StructureForm → (places : List ℕ) → (n : ℕ) → Type 0
@@ -120,7 +109,7 @@ tried-all targets s places n among all tried (p, t, within, at, embedded) =
 
 -- ---- where one map alone may be an embedding
 
-le-same : (xs ys : List ℕ) → xs ≡ ys → IsTrue (is_le (slice_cmp nat_cmp xs ys))
+pub le-same : (xs ys : List ℕ) → xs ≡ ys → IsTrue (is_le (slice_cmp nat_cmp xs ys))
 le-same xs ys e = rw e (rw (tied_itself nat_list_cmp_total ys) refl)
 
 pub only-least : (s t : StructureForm) (images : List ℕ) → arities_of s ≡ arities_of t

@@ -18,7 +18,9 @@ use Rattle.std.proofs.lemmas.List.FromFn.{map-range_with_len_more}
 use Rattle.tv_kleene.specs.declared.K3.{K3}
 use Rattle.tv_kleene.specs.declared.K3.TheVariants.{No, Half, Yes}
 use Rattle.tv_kleene.specs.Kleene.{LiesUnder, smaller_of, larger_of, join_of}
-use Rattle.tv_row.specs.Bits.{paired, number_of, is_possible, is_certain}
+use Rattle.tv_row.specs.Bits.{paired, padded, number_of, is_possible, is_certain}
+use Rattle.tv_row.proofs.RowOps.{no_word, no_place}
+use Rattle.tv_row.proofs.WordOps.{length-paired, get_or-paired}
 use Rattle.tv_row.specs.Mixed.{mixed, row_mixed}
 use Rattle.tv_embed.specs.Maps.{image_of, IsEmbedding}
 use Rattle.tv_embedding_laws.specs.Embedding.{Embeds, IsEmbedded}
@@ -31,6 +33,7 @@ use Rattle.tv_cover.specs.Glance.{profile_of, nullary_value, value_near, profile
 use Rattle.tv_cover.specs.Glance.{LieUnder}
 use Rattle.tv_cover.specs.Glance.{MayEmbed, AreOnlyImages, IsOnlyMap, IsDefinite, AreKnown, profile_number}
 use Rattle.tv_cover.specs.Glance.{slots_of, greatest_of, glance_number}
+use Rattle.tv_cover.specs.Glance.{slot_of, AreSummariesTo, AreSummaries, AreWithin}
 
 -- ---- the values of predicates that are known
 
@@ -479,6 +482,111 @@ number-all known glance i greatest first middle last slots past are most start m
     = most ∙ ap (greatest_of (profile_number known)) all
     in end ∙ ap (λ m. mixed m greatest) mid ∙ (λ j. mixed (row_mixed (start j) (same j)) (top j))
 
+-- ---- slots of summaries, one individual after the other
+
+half-or-not : (k : K3) → (k ≡ Half) ⊎ (k ≢ Half)
+half-or-not No = inr (λ e. cc e)
+half-or-not Half = inl refl
+half-or-not Yes = inr (λ e. cc e)
+
+no-or-not : (k : K3) → (k ≡ No) ⊎ (k ≢ No)
+no-or-not No = inl refl
+no-or-not Half = inr (λ e. cc e)
+no-or-not Yes = inr (λ e. cc e)
+
+pub summaries-none : (known : List K3) (rows : List (List K3)) (slots : List K3) → slots ≡ padded 0 (replicate 64 No)
+    → AreSummariesTo known rows 0 slots
+summaries-none known rows slots is = record {
+  long = long;
+  marked = λ u lt. absurd (omega arith);
+  only = λ slot some. absurd (some (none slot (cases_lt slot 64)));
+}
+  where
+    long : length slots ≡ 64
+    long = ap length is ∙ no_word
+
+    none : (slot : ℕ) → (slot < 64) ⊎ (64 ≤ slot) → get_or slots slot No ≡ No
+    none slot (inl lt) = ap (λ xs. get_or xs slot No) is ∙ no_place slot lt
+    none slot (inr past) = get_or_past slots slot No (omega (arith, past, long))
+
+-- one more row
+pub summaries-more : (known : List K3) (rows : List (List K3)) (n : ℕ) (row slots next : List K3) → row ≡ get_or rows n []
+    → (get_or row 0 No ≡ Half → next ≡ set slots (slot_of known row) Yes) → (get_or row 0 No ≢ Half → next ≡ slots)
+    → AreSummariesTo known rows n slots → AreSummariesTo known rows (n + 1) next
+summaries-more known rows n row slots next is put kept before = by (half-or-not (get_or row 0 No))
+  where
+    Open : ℕ → Type 0
+    Open u = get_or (get_or rows u []) 0 No ≡ Half
+
+    last : (u : ℕ) → n ≤ u → u < n + 1 → get_or rows u [] ≡ row
+    last u from lt = ap (λ k. get_or rows k []) (omega (arith, from, lt)) ∙ sym is
+
+    by : (get_or row 0 No ≡ Half) ⊎ (get_or row 0 No ≢ Half) → AreSummariesTo known rows (n + 1) next
+    by (inr not) = record {
+      long = ap length (kept not) ∙ before.long;
+      marked = λ u lt told. marked u lt told (cases_lt u n);
+      only = λ slot some.
+          let old = before.only slot (λ none. some (ap (λ xs. get_or xs slot No) (kept not) ∙ none))
+          in (old.0, omega (arith, old.1), old.2, old.3);
+    }
+      where
+        marked : (u : ℕ) → u < n + 1 → Open u → (u < n) ⊎ (n ≤ u) → get_or next (slot_of known (get_or rows u [])) No ≡ Yes
+        marked u lt told (inl below) =
+            ap (λ xs. get_or xs (slot_of known (get_or rows u [])) No) (kept not) ∙ before.marked u below told
+        marked u lt told (inr from) = absurd (not (ap (λ r. get_or r 0 No) (sym (last u from lt)) ∙ told))
+    by (inl half) = record {
+      long = ap length (put half) ∙ length-set slots (slot_of known row) Yes ∙ before.long;
+      marked = λ u lt told. marked u told lt (cases_lt u n);
+      only = λ slot some. only slot some (cases_eq slot (slot_of known row));
+    }
+      where
+        few : slot_of known row < length slots
+        few = omega (arith, before.long)
+
+        at : (slot : ℕ) → slot ≡ slot_of known row → get_or next slot No ≡ Yes
+        at slot e =
+            ap (λ xs. get_or xs slot No) (put half) ∙ ap (λ k. get_or (set slots (slot_of known row) Yes) k No) e
+            ∙ get_or-set_same slots (slot_of known row) Yes No few
+
+        other : (slot : ℕ) → slot ≢ slot_of known row → get_or next slot No ≡ get_or slots slot No
+        other slot ne =
+            ap (λ xs. get_or xs slot No) (put half) ∙ get_or-set_other slots (slot_of known row) slot Yes No ne
+
+        marked : (u : ℕ) → Open u → u < n + 1 → (u < n) ⊎ (n ≤ u) → get_or next (slot_of known (get_or rows u [])) No ≡ Yes
+        marked u told lt (inr from) = at (slot_of known (get_or rows u [])) (ap (slot_of known) (last u from lt))
+        marked u told lt (inl below) = side (cases_eq (slot_of known (get_or rows u [])) (slot_of known row))
+          where
+            side : (slot_of known (get_or rows u []) ≡ slot_of known row) ⊎ (slot_of known (get_or rows u []) ≢ slot_of known row)
+                → get_or next (slot_of known (get_or rows u [])) No ≡ Yes
+            side (inl e) = at (slot_of known (get_or rows u [])) e
+            side (inr ne) = other (slot_of known (get_or rows u [])) ne ∙ before.marked u below told
+
+        only : (slot : ℕ) → get_or next slot No ≢ No → (slot ≡ slot_of known row) ⊎ (slot ≢ slot_of known row)
+            → (u : ℕ) × (u < n + 1) × Open u × (slot_of known (get_or rows u []) ≡ slot)
+        only slot some (inl e) =
+            (n, omega arith, ap (λ r. get_or r 0 No) (sym is) ∙ half, ap (slot_of known) (sym is) ∙ sym e)
+        only slot some (inr ne) =
+            let old = before.only slot (λ none. some (other slot ne ∙ none))
+            in (old.0, omega (arith, old.1), old.2, old.3)
+
+pub summaries-all : (known : List K3) (rows items : List (List K3)) (n : ℕ) (slots : List K3) → items ≡ rows → length items ≤ n
+    → n ≤ length items → AreSummariesTo known rows n slots → AreSummaries known rows slots
+summaries-all known rows items n slots same past within are =
+    let count : n ≡ length rows = omega (arith, past, within, ap length same)
+    in subst (λ k. AreSummariesTo known rows k slots) count are
+
+smaller-of-No : (k : K3) → smaller_of No k ≡ No
+smaller-of-No k = refl
+
+smaller-of-Yes : (k : K3) → smaller_of k Yes ≡ k
+smaller-of-Yes No = refl
+smaller-of-Yes Half = refl
+smaller-of-Yes Yes = refl
+
+half-under : (x y : K3) → x ≡ Half → LiesUnder x y → y ≡ Half
+half-under x y half (inl e) = sym e ∙ half
+half-under x y half (inr told) = told
+
 -- ---- what is above says the same of what is known in it, and more is left open there
 
 larger-Yes : (k : K3) → larger_of k Yes ≡ Yes
@@ -659,6 +767,51 @@ module _ (s t : StructureForm) (f : ℕ → ℕ) (e : Embeds f (structure_of s) 
         ≡ greatest_of (profile_number known) (glance_of t).unary
         = greatest-same (profile_number known) (glance_of s).unary (glance_of t).unary forth back
         in λ i. mixed (row_mixed (nullary i) (slots i)) (greatest i)
+
+    -- a slot of a summary below is one of a summary above
+    above : (others : List K3) → AreSummaries known (glance_of t).unary others → (slot v : ℕ) → v < s.size
+        → get_or (profile_near s v) 0 No ≡ Half → slot_of known (profile_near s v) ≡ slot → get_or others slot No ≡ Yes
+    above others marks slot v lt told is =
+        let has : Contains (glance_of t).unary (profile_near t (f v)) = member t (f v) (image v lt)
+        in let row : get_or (glance_of t).unary has.0 [] ≡ profile_near t (f v)
+        = get_or_default (glance_of t).unary has.0 [] (profile_near t (f v)) has.1 ∙ has.2
+        in let half : get_or (profile_near t (f v)) 0 No ≡ Half
+        = half-under (get_or (profile_near s v) 0 No) (get_or (profile_near t (f v)) 0 No) told (near-lies v lt 0)
+        in let same_slot : slot_of known (get_or (glance_of t).unary has.0 []) ≡ slot
+        = ap (slot_of known) row ∙ ap (λ n. n % 61) (sym (near-same v lt)) ∙ is
+        in subst (λ k. get_or others k No ≡ Yes) same_slot
+        (marks.marked has.0 has.1 (ap (λ r. get_or r 0 No) row ∙ half))
+
+    summaries-in : (slots others : List K3) → AreSummaries known (glance_of s).unary slots
+        → AreSummaries known (glance_of t).unary others → AreWithin slots others
+    summaries-in slots others below marks =
+        ext_get_or No (paired smaller_of slots others) slots long
+        (λ i lt. at i (rw (← long) lt) (no-or-not (get_or slots i No)))
+      where
+        long : length (paired smaller_of slots others) ≡ length slots
+        long = length-paired smaller_of slots others (below.long ∙ sym marks.long)
+
+        read : (i : ℕ) → i < length slots
+            → get_or (paired smaller_of slots others) i No ≡ smaller_of (get_or slots i No) (get_or others i No)
+        read i lt = get_or-paired smaller_of slots others i lt (omega (arith, lt, below.long, marks.long))
+
+        at : (i : ℕ) → i < length slots → (get_or slots i No ≡ No) ⊎ (get_or slots i No ≢ No)
+            → get_or (paired smaller_of slots others) i No ≡ get_or slots i No
+        at i lt (inl none) =
+            read i lt ∙ ap (λ k. smaller_of k (get_or others i No)) none ∙ smaller-of-No (get_or others i No) ∙ sym none
+        at i lt (inr some) =
+            let u = below.only i some
+            in let v = row-of s u.0 [] u.1
+            in let yes : get_or others i No ≡ Yes
+            = above others marks i v.0 v.1 (ap (λ r. get_or r 0 No) (sym v.2) ∙ u.2) (ap (slot_of known) (sym v.2) ∙ u.3)
+            in read i lt ∙ ap (smaller_of (get_or slots i No)) yes ∙ smaller-of-Yes (get_or slots i No)
+
+-- where s embeds in t, the slots of its summaries are among those of t
+pub summaries-within : (s t : StructureForm) → arities_of s ≡ arities_of t → IsEmbedded (structure_of s) (structure_of t)
+    → (known : List K3) → AreKnown (glance_of t) known → (slots others : List K3)
+    → AreSummaries known (glance_of s).unary slots → AreSummaries known (glance_of t).unary others → AreWithin slots others
+summaries-within s t same (f, e) known are slots others below marks =
+    summaries-in s t f e same known are slots others below marks
 
 pub glance-same : (s t : StructureForm) → arities_of s ≡ arities_of t → IsEmbedded (structure_of s) (structure_of t)
     → (known : List K3) → AreKnown (glance_of t) known → glance_number known (glance_of s) ≡ glance_number known (glance_of t)

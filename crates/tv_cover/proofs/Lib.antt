@@ -1,3 +1,4 @@
 pub mod CoverLaws
+pub mod FirstCovers
 pub mod GlanceLaws
 pub mod NotedLaws

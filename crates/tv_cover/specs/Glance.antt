@@ -74,6 +74,27 @@ pub record AreKnown (glance : GlanceForm) (known : List K3) : Type 0 where
 abbrev pub profile_number : (known values : List K3) → ℕ
 profile_number known values = row_mixed 0 (paired smaller_of values known)
 
+-- one of 61 slots, a prime number of them
+abbrev pub slot_of : (known values : List K3) → ℕ
+slot_of known values = profile_number known values % 61
+
+-- Yes at the slots of the first n rows that are those of summaries, and else No
+pub record AreSummariesTo (known : List K3) (rows : List (List K3)) (n : ℕ) (slots : List K3) : Type 0 where
+  pub long : length slots ≡ 64
+  pub marked : (u : ℕ) → u < n → slice_index_or (slice_index_or rows u []) 0 No ≡ Half
+      → slice_index_or slots (slot_of known (slice_index_or rows u [])) No ≡ Yes
+  pub only : (slot : ℕ) → slice_index_or slots slot No ≢ No
+      → (u : ℕ) × (u < n) × (slice_index_or (slice_index_or rows u []) 0 No ≡ Half)
+      × (slot_of known (slice_index_or rows u []) ≡ slot)
+
+-- of all rows
+abbrev pub AreSummaries : (known : List K3) → List (List K3) → (slots : List K3) → Type 0
+AreSummaries known rows slots = AreSummariesTo known rows (length rows) slots
+
+-- no slot that isn't No is No in the others
+abbrev pub AreWithin : (slots others : List K3) → Type 0
+AreWithin slots others = paired smaller_of slots others ≡ slots
+
 -- Yes at the remainder by 251, a prime, of the number of each individual's values, else No
 abbrev pub slots_of : (number : List K3 → ℕ) → List (List K3) → List K3
 slots_of number rows = fold (λ slots row. slice_set slots (number row % 251) Yes) (replicate 256 No) rows

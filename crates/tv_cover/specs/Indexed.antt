@@ -1,6 +1,5 @@
--- Structures of which all places are noted, and what is kept of what they say at a glance.
-use Rattle.std.specs.Prelude.{ℕ, ◌≡◌, ◌<◌, List, Option, Some, None, IfSome, length, map, slice_get}
-use Rattle.std.specs.Prelude.{slice_index_or}
+-- Structures of which all places are noted.
+use Rattle.std.specs.Prelude.{ℕ, ◌≡◌, ◌<◌, List, Some, map, slice_get}
 use Rattle.tv_struct.specs.StructureForm.{StructureForm}
 use Rattle.tv_cover.specs.Glance.{GlanceForm, glance_of}
 use Rattle.tv_cover.specs.Noted.{IsNoted}
@@ -20,14 +19,3 @@ AreIndexed noted glances =
 -- what the structures say at a glance
 abbrev pub glances_of : List StructureForm → List GlanceForm
 glances_of structures = map glance_of structures
-
--- of the first n structures what is said at a glance is kept, or nothing
-pub record AreKeptTo (kept : List (Option GlanceForm)) (structures : List StructureForm)
-    (n : ℕ) : Type 0 where
-  pub count : length kept ≡ n
-  pub each : (place : ℕ) (t : StructureForm) → slice_get structures place ≡ Some t
-      → IfSome (slice_index_or kept place None) (λ glance. glance ≡ glance_of t)
-
--- of all structures
-abbrev pub AreGlances : (kept : List (Option GlanceForm)) → List StructureForm → Type 0
-AreGlances kept structures = AreKeptTo kept structures (length structures)

@@ -1,14 +1,14 @@
 //! What a structure says at a glance.
 
 ghost use Rattle.std.specs.Prelude.{◌≡◌, ◌≢◌, ◌<◌, ◌≤◌, ℕ, [], length, max, All, Any, IfOk, IfNone};
-ghost use Rattle.std.specs.Prelude.{IfSome, IsTrue, slice_index_or};
-ghost use Rattle.tv_kleene.specs.declared.K3.TheVariants.{No, Half};
+ghost use Rattle.std.specs.Prelude.{IfSome, IsTrue, slice_index_or, slice_set};
+ghost use Rattle.tv_kleene.specs.declared.K3.TheVariants.{No, Half, Yes};
 ghost use Rattle.tv_struct.specs.StructureForm.{arities_of, value_at, summary_at};
 ghost use Rattle.tv_struct.specs.StructureRows.{flag_value};
 ghost use Rattle.tv_struct.specs.TableForm.{AreIndividuals};
 ghost use Rattle.tv_struct.specs.TupleForm.{tuple_of};
-ghost use Rattle.tv_cover.specs.Glance.{AreKnown, AreOnlyImages, IsOnlyMap, LieUnder, MayEmbed};
-ghost use Rattle.tv_cover.specs.Glance.{glance_number, glance_of, nullary_value, profile_near};
+ghost use Rattle.tv_cover.specs.Glance.{AreKnown, AreOnlyImages, AreSummaries, IsOnlyMap, LieUnder, MayEmbed};
+ghost use Rattle.tv_cover.specs.Glance.{slot_of, glance_number, glance_of, nullary_value, profile_near};
 ghost use Rattle.tv_cover.specs.Glance.{profile_of, value_near};
 
 use crate::noted::has_row;
@@ -17,7 +17,7 @@ use std::alloc::{AllocError, Global};
 use std::marker::Model;
 use tv_kleene::K3;
 use tv_model::PredId;
-use tv_row::{Row, mix};
+use tv_row::{Row, Word, mix};
 use tv_struct::{Numbers, Structure, Tuple};
 
 /// What a structure says at a glance: the values of nullary predicates, and of each individual whether it is
@@ -260,6 +260,18 @@ fn larger(m: u64, n: u64) -> u64
     m.max(n)
 }
 
+/// The slots with the one of the row at `Yes` where it is that of a summary.
+fn marked(slots: Word, row: &Profile, known: &Profile) -> Word
+    ensures summary { slice_index_or row.now 0 No ≡ Half
+        → result ≡ slice_set slots (slot_of known.now row.now) Yes }
+    ensures ordinary { slice_index_or row.now 0 No ≢ Half → result ≡ slots }
+{
+    match row.get(0) {
+        K3::Half => slots.with((row.number(known) % 61) as u32, K3::Yes),
+        K3::No | K3::Yes => slots,
+    }
+}
+
 /// Whether the value is definite.
 fn is_definite(k: K3) -> bool
     ensures { IsTrue result → k ≢ Half }
@@ -320,6 +332,17 @@ impl Glance {
             }
         }
         false
+    }
+
+    /// `Yes` at the slots of summaries, by their values at the places that are known, and else `No`.
+    pub fn summaries(&self, known: &Profile) -> Word
+        ensures { AreSummaries known.now self.now.unary result }
+    {
+        let mut slots = Word::of(0, K3::No);
+        for row in self.unary.as_slice() {
+            slots = marked(slots, row, known);
+        }
+        slots
     }
 
     /// False only where no structure that says this at a glance embeds in one that says the other. That it is

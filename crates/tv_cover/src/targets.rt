@@ -1,16 +1,16 @@
 //! The structures of a node, and the first of them that covers a structure.
 
 ghost use Rattle.std.specs.Prelude.{◌≡◌, ◌<◌, ◌^◌, ℕ, length, All, Any, Contains, Some, slice_get, IfOk};
-ghost use Rattle.std.specs.Prelude.{IfSome, IfNone, IsTrue};
+ghost use Rattle.std.specs.Prelude.{IfSome, IfNone};
 ghost use Rattle.std.specs.List.Sorted.{IsNonDecreasing};
 ghost use Rattle.tv_embed.specs.Maps.{IsLeastEmbedding};
 ghost use Rattle.tv_embedding_laws.specs.Embedding.{IsEmbedded};
 ghost use Rattle.tv_listing.specs.ListingForm.{at_node};
 ghost use Rattle.tv_struct.specs.StructureForm.{StructureForm, arities_of, structure_of};
 ghost use Rattle.tv_cover.specs.Covers.{IsFirstCover, IsCoverAt, HasNoCoverAt, HasCoversAmong};
-ghost use Rattle.tv_cover.specs.Glance.{IsOnlyMap, MayEmbed, glance_of};
-ghost use Rattle.tv_cover.specs.Indexed.{AreIndexed, AreGlances, glances_of};
-ghost use Rattle.tv_cover.specs.Listed.{AreListed, structures_in};
+ghost use Rattle.tv_cover.specs.Glance.{IsOnlyMap, glance_of};
+ghost use Rattle.tv_cover.specs.Indexed.{AreIndexed, glances_of};
+ghost use Rattle.tv_cover.specs.Listed.{structures_in};
 
 use crate::glance::{Glance, glance_of};
 use crate::noted::Noted;
@@ -28,7 +28,6 @@ use tv_struct::{Numbers, Structure};
 pub struct Targets<'a> {
     listing: &'a Listing,
     node: u32,
-    kept: Vec<Option<Glance>>,
     noted: Noted,
 }
 
@@ -36,56 +35,34 @@ impl<'a> Model for Targets<'a> {
     ghost use Rattle.std.specs.Prelude.{List, ◌≡◌, ◌<◌, length};
     ghost use Rattle.tv_listing.specs.ListingForm.{at_node};
     ghost use Rattle.tv_struct.specs.StructureForm.{StructureForm};
-    ghost use Rattle.tv_cover.specs.Indexed.{AreIndexed, AreGlances, glances_of};
+    ghost use Rattle.tv_cover.specs.Indexed.{AreIndexed, glances_of};
 
     ghost Value = { List StructureForm };
 
     ghost view = { λ t. at_node t.listing.now t.node };
 
     ghost invariant = { λ t. (t.node < length t.listing.now)
-        × AreGlances t.kept.items (at_node t.listing.now t.node)
         × AreIndexed t.noted (glances_of (at_node t.listing.now t.node)) };
 }
 
-/// The structures of a node, and what is kept of what each says at a glance.
+/// The structures of a node.
 #[derive(Clone, Copy)]
 pub struct Listed<'a> {
     pub listing: &'a Listing,
     pub node: u32,
-    pub kept: &'a [Option<Glance>],
 }
 
-/// What is kept of what a structure says at a glance: nothing where two of its individuals are alike in it,
-/// so that a listing has to say much about individuals before it makes us keep much.
-fn kept_of(glance: Glance) -> Option<Glance>
-    ensures { IfSome result (λ kept. kept ≡ glance) }
-{
-    if glance.has_repeats() {
-        None
-    } else {
-        Some(glance)
-    }
-}
-
-/// All places, noted for what is said at a glance there, and what is kept of that.
-fn all_noted(
-    alloc: Global,
-    listing: &Listing,
-    node: u32,
-) -> Result<(Noted, Vec<Option<Glance>>), AllocError>
+/// All places, noted for what is said at a glance there.
+fn all_noted(alloc: Global, listing: &Listing, node: u32) -> Result<Noted, AllocError>
     requires { node < length listing.now }
-    ensures noted { IfOk result (λ x. AreIndexed x.0 (glances_of (at_node listing.now node))) }
-    ensures kept { IfOk result (λ x. AreGlances x.1.items (at_node listing.now node)) }
+    ensures { IfOk result (λ noted. AreIndexed noted (glances_of (at_node listing.now node))) }
 {
-    let count = listing.count(node);
     let mut noted = Noted::new(alloc);
-    let mut kept = Vec::with_capacity(alloc, count)?;
-    for place in 0..count {
+    for place in 0..listing.count(node) {
         let glance = glance_of(alloc, listing.at(node, place))?;
         noted.add(alloc, &glance, place)?;
-        kept.push(kept_of(glance))?;
     }
-    Ok((noted, kept))
+    Ok(noted)
 }
 
 /// The places of the structures that one that says this at a glance may embed in, in ascending order.
@@ -96,7 +73,6 @@ fn places_for(
     s: &Structure,
     glance: &Glance,
 ) -> Result<Vec<usize>, AllocError>
-    requires listed { AreListed x.now }
     requires vocabulary { All (λ t. arities_of s.now ≡ arities_of t) (structures_in x.now) }
     requires noted { AreIndexed noted.now (glances_of (structures_in x.now)) }
     requires glance { glance.now ≡ glance_of s.now }
@@ -120,55 +96,49 @@ fn checked(s: &Structure, t: &Structure, map: Numbers) -> Option<Numbers>
     }
 }
 
-/// The least embedding of `s` in `t`, which say this at a glance: mostly only one map may be one.
+/// The least embedding of `s`, which says this at a glance, in `t`: mostly only one map may be one. What `t`
+/// says is found anew, since few structures are tried, and to keep it for all takes much room.
 fn least_embedding(
     alloc: Global,
     s: &Structure,
     below: &Glance,
     t: &Structure,
-    above: &Glance,
 ) -> Result<Option<Numbers>, AllocError>
     requires vocabulary { arities_of s.now ≡ arities_of t.now }
     requires below { below.now ≡ glance_of s.now }
-    requires above { above.now ≡ glance_of t.now }
     ensures least { IfOk result (λ found. IfSome found (IsLeastEmbedding s.now t.now)) }
     ensures none { IfOk result
         (λ found. IfNone found (¬ IsEmbedded (structure_of s.now) (structure_of t.now))) }
 {
-    match below.only_map(alloc, above)? {
+    let above = glance_of(alloc, t)?;
+    if !below.may_embed(&above) {
+        return Ok(None);
+    }
+    match below.only_map(alloc, &above)? {
         Some(map) => Ok(checked(s, t, map)),
         None => find(alloc, s, t),
     }
 }
 
-/// The least embedding of `s`, which says this at a glance, in `t`, of which that is kept or nothing.
+/// The least embedding of `s`, which says this at a glance, in `t`. Where individuals are alike in it, mostly
+/// several maps may be one, and what `t` says isn't looked at.
 fn embedding_in(
     alloc: Global,
     s: &Structure,
     below: &Glance,
+    are_alike: bool,
     t: &Structure,
-    kept: &Option<Glance>,
 ) -> Result<Option<Numbers>, AllocError>
     requires vocabulary { arities_of s.now ≡ arities_of t.now }
     requires below { below.now ≡ glance_of s.now }
-    requires kept { IfSome kept.now (λ above. above ≡ glance_of t.now) }
     ensures least { IfOk result (λ found. IfSome found (IsLeastEmbedding s.now t.now)) }
     ensures none { IfOk result
         (λ found. IfNone found (¬ IsEmbedded (structure_of s.now) (structure_of t.now))) }
 {
-    match kept {
-        Some(above) => least_embedding(alloc, s, below, t, above),
-        None => find(alloc, s, t),
-    }
-}
-
-/// Whether a structure that says this at a glance may embed in one of which that is kept or nothing.
-fn may_embed_in(glance: &Glance, kept: &Option<Glance>) -> bool
-    ensures { IfSome kept.now (MayEmbed glance.now) → IsTrue result }
-{
-    match kept {
-        Some(above) => glance.may_embed(above),
-        None => true,
+    if are_alike {
+        find(alloc, s, t)
+    } else {
+        least_embedding(alloc, s, below, t)
     }
 }
 
@@ -179,22 +149,18 @@ fn cover_at(
     place: usize,
     s: &Structure,
     glance: &Glance,
+    are_alike: bool,
 ) -> Result<Option<Numbers>, AllocError>
-    requires listed { AreListed x.now }
+    requires node { x.now.node < length x.now.listing.now }
     requires vocabulary { All (λ t. arities_of s.now ≡ arities_of t) (structures_in x.now) }
     requires glance { glance.now ≡ glance_of s.now }
     ensures some { IfOk result (λ found. IfSome found (IsCoverAt (structures_in x.now) s.now place)) }
     ensures none { IfOk result (λ found. IfNone found (HasNoCoverAt (structures_in x.now) s.now place)) }
 {
-    if place >= x.kept.len() {
+    if place >= x.listing.count(x.node) {
         return Ok(None);
     }
-    let kept = &x.kept[place];
-    if !may_embed_in(glance, kept) {
-        return Ok(None);
-    }
-    let t = x.listing.at(x.node, place);
-    embedding_in(alloc, s, glance, t, kept)
+    embedding_in(alloc, s, glance, are_alike, x.listing.at(x.node, place))
 }
 
 /// The first structure of the node in which `s` embeds, by its place, with the least embedding.
@@ -204,7 +170,7 @@ fn first_cover(
     noted: &Noted,
     s: &Structure,
 ) -> Result<Option<(u32, Numbers)>, AllocError>
-    requires listed { AreListed x.now }
+    requires node { x.now.node < length x.now.listing.now }
     requires vocabulary { All (λ t. arities_of s.now ≡ arities_of t) (structures_in x.now) }
     requires noted { AreIndexed noted.now (glances_of (structures_in x.now)) }
     requires few { length (structures_in x.now) < 2 ^ 32 }
@@ -214,9 +180,10 @@ fn first_cover(
         (¬ Any (λ t. IsEmbedded (structure_of s.now) (structure_of t)) (structures_in x.now))) }
 {
     let glance = glance_of(alloc, s)?;
+    let are_alike = glance.has_repeats();
     let places = places_for(alloc, x, noted, s, &glance)?;
     for place in places.as_slice() {
-        if let Some(map) = cover_at(alloc, x, *place, s, &glance)? {
+        if let Some(map) = cover_at(alloc, x, *place, s, &glance, are_alike)? {
             return Ok(Some((*place as u32, map)));
         }
     }
@@ -225,15 +192,14 @@ fn first_cover(
 
 impl<'a> Targets<'a> {
     /// The structures of the node. The only error is want of memory.
-    pub fn of(alloc: Global, listing: &'a Listing, node: u32) -> Result<Targets<'a>, AllocError>
+    fn of(alloc: Global, listing: &'a Listing, node: u32) -> Result<Targets<'a>, AllocError>
         requires { node < length listing.now }
         ensures { IfOk result (λ targets. targets ≡ at_node listing.now node) }
     {
-        let (noted, kept) = all_noted(alloc, listing, node)?;
+        let noted = all_noted(alloc, listing, node)?;
         Ok(Targets {
             listing,
             node,
-            kept,
             noted,
         })
     }
@@ -257,7 +223,6 @@ impl<'a> Targets<'a> {
         let x = Listed {
             listing: self.listing,
             node: self.node,
-            kept: &self.kept,
         };
         first_cover(alloc, &x, &self.noted, s)
     }

@@ -2,7 +2,8 @@
 use Rattle.std.proofs.Common.{ℕ, ◌≡◌, ◌≢◌, ◌<◌, ◌≤◌, ◌+◌, ◌⊎◌, ◌↔◌, inl, inr, Bool, true, false, true≢false}
 use Rattle.std.proofs.Common.{not, IsTrue, List, [], ◌∷◌, length, get_or, Option, Some, None, refl, sym, ap}
 use Rattle.std.proofs.Common.{subst, ◌∙◌, arith}
-use Rattle.std.specs.Prelude.{All, slice_get, unwrap_or, if◌then◌else◌}
+use Rattle.std.specs.List.{range_with_len}
+use Rattle.std.specs.Prelude.{All, IfSome, IsSome, slice_get, unwrap_or, if◌then◌else◌}
 use Rattle.std.proofs.lemmas.Bool.{cases_lt}
 use Rattle.std.proofs.lemmas.List.{get_or_default}
 use Rattle.std.proofs.lemmas.Option.{slice_get_within, get_or_from_slice_get, slice_get-get_or}
@@ -19,8 +20,11 @@ use Rattle.tv_listing.specs.declared.analysis.Item.{Item}
 use Rattle.tv_listing.specs.declared.analysis.Item.TheVariants as item
 use Rattle.tv_listing.specs.declared.analysis.MapLine.{MapLine}
 use Rattle.tv_listing.specs.declared.analysis.MessageLine.{MessageLine}
-use Rattle.tv_struct.specs.StructureForm.{StructureForm, arities_of, structure_of}
+use Rattle.tv_struct.specs.StructureForm.{StructureForm, IsOver, IsStructure, arities_of, structure_of}
 use Rattle.tv_embed.specs.Maps.{image_of}
+use Rattle.tv_embed.proofs.MapLaws.{identity_embeds}
+use Rattle.tv_cover.specs.Covers.{IsFirstCover}
+use Rattle.tv_cover.proofs.FirstCovers.{first-cover}
 use Rattle.tv_step_laws.specs.Closed.{IsCovered, HasLine}
 use Rattle.tv_step_laws.specs.Transfer.{IsOpening, HasNoOpening, AreResults, AreMessageValues}
 use Rattle.tv_step_laws.proofs.Exact.{opening-once, results-once, values-once}
@@ -272,6 +276,37 @@ pub targets-at : (all listing : List (List StructureForm)) (node : ℕ) (d : Lis
     → all ≡ listing → node < length listing → get_or all node d ≡ at_node listing node
 targets-at all listing node d same within =
     ap (λ xs. get_or xs node d) same ∙ get_or_default listing node d [] within
+
+-- what is listed is a structure
+pub listed-structure : (program : Program) (listing : List (List StructureForm)) (node place : ℕ) (s : StructureForm)
+    → IsListing program listing → node < length listing → slice_get (at_node listing node) place ≡ Some s
+    → IsStructure s
+listed-structure program listing node place s is within listed =
+    (all-at (λ t. IsStructure t × IsOver program.vocab t) (at_node listing node) place s
+    (is.structures node [] within) listed).0
+
+-- a structure that is listed is owed a line
+pub plain-line : (lines : List MapLine) (i : Item) (targets : List StructureForm) (s : StructureForm)
+    (place : Option ℕ) → own_line lines i ≡ None → IsSome place → IfSome place (λ k. slice_get targets k ≡ Some s)
+    → ((k : ℕ) → slice_get targets k ≡ Some s → IsStructure s) → All (λ t. arities_of s ≡ arities_of t) targets
+    → (line : MapLine) × IsLineFor lines i targets s line
+plain-line lines i targets s None own some listed is alike = absurd (cc some)
+plain-line lines i targets s (Some k) own some listed is alike =
+    with-cover (first-cover targets s (is k listed) alike k s listed
+    (image_of (range_with_len 0 s.size), (identity_embeds s).1))
+  where
+    with-cover : ((target : ℕ) × (images : List ℕ) × IsFirstCover targets s target images)
+        → (line : MapLine) × IsLineFor lines i targets s line
+    with-cover (target, images, cover) =
+        let line : MapLine = record { item = i; target = target; map = images }
+        in (
+          line,
+          record {
+            item_is = refl;
+            map = subst (λ o. IsMapBy o targets s line) (sym own) cover;
+            covers = record { large = cover.large; listed = cover.listed; embeds = cover.least.0 };
+          },
+        )
 
 -- the structures at a node have the arities of the program
 pub listed-alike : (program : Program) (listing : List (List StructureForm)) (node : ℕ) (arities : List ℕ)

@@ -14,7 +14,6 @@ use Rattle.tv_judge.specs.declared.found.Found.{Found}
 use Rattle.tv_judge.proofs.IndexLaws.{both-true}
 use Rattle.tv_judge.proofs.Progressing.{done-none}
 use Rattle.tv_judge.proofs.Reports.{one-there}
-use Rattle.tv_judge.specs.Progress.{IsDoneTo}
 
 -- ---- notes
 
@@ -70,9 +69,12 @@ same-unmarked s t one other same =
     let fresh : s.fresh ≡ t.fresh = one ∙ sym other
     in λ i. record (same i) { fresh = fresh i }
 
-pub tested-none : (c : Case) (found : Found) → found.maps ≡ [] → found.stable.keys ≡ [] → IsTestedTo c (0 ∷ 0 ∷ []) found
-tested-none c found maps stable = record {
-  done = subst (IsDoneTo c (0 ∷ 0 ∷ [])) (sym maps) (done-none c);
+pub tested-none : (c : Case) (asked : Bool) (found : Found) → found.maps ≡ [] → found.stable.keys ≡ []
+    → IsTestedTo c asked (0 ∷ 0 ∷ []) found
+tested-none c asked found maps stable = record {
+  lines = [];
+  done = done-none c;
+  kept = λ _. maps;
   stable =
       let P : ℕ × ℕ → Type 0 = λ key. IsStableAt c key.0 key.1
       in subst (All P) (sym stable) (All-nil P);

@@ -1,5 +1,6 @@
 -- Verdicts, where all demands are met.
-use Rattle.std.proofs.Common.{ℕ, ◌≡◌, ◌⊎◌, inl, inr, List, [], ◌∷◌, Some, refl, sym, ap, subst, ◌∙◌, arith}
+use Rattle.std.proofs.Common.{ℕ, ◌≡◌, ◌⊎◌, inl, inr, true, List, [], ◌∷◌, Some, refl, sym, ap, subst, ◌∙◌}
+use Rattle.std.proofs.Common.{arith}
 use Rattle.std.specs.Prelude.{slice_get, slice_index_or}
 use Rattle.std.proofs.lemmas.Option.{slice_get-get_or}
 use Rattle.tv_model.specs.declared.program.Edge.{Edge}
@@ -18,9 +19,13 @@ use Rattle.tv_judge.specs.Items.{IsSource, IsMet}
 use Rattle.tv_judge.specs.Judged.{Case, IsThere, IsClosedReport, KeepsAllBudgets, Demand, Covering, Stepping}
 use Rattle.tv_judge.specs.Judged.{Saying, demand_order, StandsBefore, AreMapsOf}
 use Rattle.tv_judge.specs.Laws.{ClosedListingsAreClosedReports}
-use Rattle.tv_judge.specs.Progress.{IsDoneItem, MeetsDemand, IsDoneTo}
+use Rattle.tv_judge.specs.Progress.{IsDoneItem, MeetsDemand, IsDoneTo, IsDone}
 use Rattle.tv_judge.specs.Verdicts.{IsSound}
 use Rattle.tv_judge.proofs.Reports.{all-at, covered, line-meets, no-opening}
+
+-- lines that are asked for are those of all items
+pub asked-done : (c : Case) (maps : List MapLine) → IsDone c true maps → IsDoneTo c (2 ∷ []) maps
+asked-done c maps (lines, done, kept) = subst (IsDoneTo c (2 ∷ [])) (sym (kept refl)) done
 
 -- each demand stands before the end
 before-end : (d : Demand) → StandsBefore (demand_order d) (2 ∷ [])

@@ -1,5 +1,6 @@
 -- How far a report was tested.
 use Rattle.std.specs.Prelude.{ℕ, ◌≡◌, ◌+◌, ◌<◌, ◌⊎◌, List, [], ◌∷◌, Some, All, AllPairs, Contains, slice_get}
+use Rattle.std.specs.Prelude.{Bool, IsTrue}
 use Rattle.tv_kleene.specs.declared.K3.{K3}
 use Rattle.tv_model.specs.declared.program.Edge.{Edge}
 use Rattle.tv_listing.specs.declared.analysis.Item.{Item}
@@ -72,6 +73,10 @@ pub record IsDoneTo (c : Case) (bound : List ℕ) (lines : List MapLine) : Type 
   pub only : All (IsMapLine c) lines
   pub before : All (λ line. StandsBefore (demand_order (Covering line.item)) bound) lines
   pub ordered : AllPairs (λ a b. IsBefore (Covering a.item) (Covering b.item)) lines
+
+-- all demands are met, with lines that are these where they are asked for
+abbrev pub IsDone : Case → (asked : Bool) → (maps : List MapLine) → Type 0
+IsDone c asked maps = (lines : List MapLine) × IsDoneTo c (2 ∷ []) lines × (IsTrue asked → maps ≡ lines)
 
 -- the bound behind an item
 abbrev pub behind : Item → List ℕ

@@ -5,6 +5,7 @@ use Rattle.tv_model.specs.Program.{program_of}
 use Rattle.std.specs.Prelude.{List}
 use Rattle.tv_struct.specs.StructureForm.{StructureForm}
 use Rattle.tv_listing.specs.declared.analysis.Analysis.{Analysis}
+use Rattle.tv_listing.specs.declared.analysis.MapLine.{MapLine}
 use Rattle.tv_step_laws.specs.Closed.{IsClosed, CoversRuns}
 use Rattle.tv_judge.specs.Judged.{Case, IsClosedReport, KeepsAllBudgets, IsRejection, AreMapsOf}
 use Rattle.tv_judge.specs.declared.verdict.Verdict.{Verdict}
@@ -13,6 +14,10 @@ use Rattle.tv_judge.specs.declared.verdict.Verdict.TheVariants.{Accepted, Reject
 abbrev pub case_of : Program → Mode → List StructureForm → Analysis → Case
 case_of program mode initial analysis =
     record { program = program_of program; mode = mode; initial = initial; analysis = analysis }
+
+-- the report is closed and all steps keep the budgets, and there are the maps of its items
+abbrev pub IsAcceptable : Case → Type 0
+IsAcceptable c = IsClosedReport c × KeepsAllBudgets c × ((maps : List MapLine) × AreMapsOf c maps)
 
 -- the report is accepted exactly where it is closed and all steps keep the budgets, with its maps, and
 -- rejected

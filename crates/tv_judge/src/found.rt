@@ -1,6 +1,7 @@
 //! What the tests of a report have found so far.
 
-ghost use Rattle.std.specs.Prelude.{◌≡◌, ◌<◌, [], IsTrue, All, None, OnOk, Some, length, slice_get};
+ghost use Rattle.std.specs.Prelude.{◌≡◌, ◌<◌, [], IsTrue, All, IfOk, IfSome, None, OnOk, Some};
+ghost use Rattle.std.specs.Prelude.{length, slice_get};
 ghost use Rattle.tv_listing.specs.ListingForm.{at_node};
 ghost use Rattle.tv_judge.specs.Found.{IsStableAt, IsStableIn};
 ghost use Rattle.tv_judge.specs.Index.{is_said};
@@ -13,8 +14,8 @@ use std::cmp::Ordering;
 use tv_listing::{Listing, MapLines};
 use tv_struct::Structure;
 
-/// The lines of the items that are met, and the listed structures that are known to be stable, by node and
-/// place.
+/// The lines of the items that are met, where they are asked for, and the listed structures that are known to
+/// be stable, by node and place.
 #[derive(Drop)]
 pub struct Found {
     pub maps: MapLines,
@@ -73,25 +74,28 @@ fn is_listed(listing: &Listing, node: u32, place: u32, s: &Structure) -> bool
     place < listing.count(node) && are_equal(s, listing.at(node, place))
 }
 
-/// Notes that `s`, which is stable, is so where it is listed at the node, if it is.
+/// Notes that `s`, which is stable, is so where it is listed at the node, and gives the place; that there is
+/// none promises nothing.
 pub fn note_stable(
     x: &Setting,
     node: u32,
     s: &Structure,
     found: &mut Found,
-) -> Result<(), AllocError>
+) -> Result<Option<u32>, AllocError>
     requires node { node < length x.now.analysis.now.listing }
     requires stable { IsStableIn (case_in x.now) s.now }
     requires so_far { All (λ key. IsStableAt (case_in x.now) key.0 key.1) found.old.stable.keys }
+    ensures place { IfOk result (λ place. IfSome place
+        (λ k. slice_get (at_node x.now.analysis.now.listing node) k ≡ Some s.now)) }
     ensures stable { OnOk result (All (λ key. IsStableAt (case_in x.now) key.0 key.1) found.new.stable.keys) }
     ensures maps { found.new.maps ≡ found.old.maps }
 {
     let Some(place) = x.places.get(&(node, s.signature())).copied() else {
-        return Ok(());
+        return Ok(None);
     };
     if !is_listed(&x.analysis.listing, node, place, s) {
-        return Ok(());
+        return Ok(None);
     }
     found.stable.insert((node, place))?;
-    Ok(())
+    Ok(Some(place))
 }

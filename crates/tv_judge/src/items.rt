@@ -1,12 +1,13 @@
 //! Items, and the maps that cover them.
 
-ghost use Rattle.std.specs.Prelude.{◌≡◌, ◌<◌, ◌↔◌, IsTrue, All, length, IfOk, IfErr, IfSome, IfNone, OnOk};
+ghost use Rattle.std.specs.Prelude.{◌≡◌, ◌<◌, ◌++◌, ◌∷◌, [], ◌↔◌, IsTrue, All, length, IfOk};
+ghost use Rattle.std.specs.Prelude.{IfErr, IfSome, IfNone, IsSome, None, OnOk};
 ghost use Rattle.tv_listing.specs.ListingForm.{at_node};
 ghost use Rattle.tv_model.specs.Valid.{program_arities};
 ghost use Rattle.tv_struct.specs.StructureForm.{arities_of};
 ghost use Rattle.tv_step_laws.specs.Closed.{IsCovered};
 ghost use Rattle.tv_cover.specs.Covers.{IsFirstCover};
-ghost use Rattle.tv_judge.specs.Items.{Covers, IsMet};
+ghost use Rattle.tv_judge.specs.Items.{Covers, IsMet, own_line};
 ghost use Rattle.tv_judge.specs.Judged.{IsThere, demand_order, Covering};
 ghost use Rattle.tv_judge.specs.Found.{IsStableIn, IsTestedTo};
 ghost use Rattle.tv_judge.specs.Progress.{IsLineFor, IsStop, behind, rejection_for};
@@ -17,7 +18,7 @@ use crate::index::line_of;
 use crate::setting::{Setting, Stop};
 use std::alloc::{AllocError, Global};
 use tv_embed::check_map;
-use tv_listing::{Item, Listing, MapLine, Rejection};
+use tv_listing::{Item, Listing, MapLine, MapLines, Rejection};
 use tv_struct::{Numbers, Structure};
 
 /// Whether the line's map embeds `s` in the structure of the node that the line names.
@@ -101,7 +102,29 @@ fn rejection_of(item: Item) -> Rejection
     }
 }
 
-/// Tests the item whose structure is `s`, which is stable, and puts its line behind the others.
+/// Puts the line behind the others, where lines are asked for.
+fn put_line(asked: bool, line: MapLine, lines: &mut MapLines) -> Result<(), AllocError>
+    ensures { OnOk result (IsTrue asked → lines.new ≡ lines.old ++ line ∷ []) }
+{
+    if asked {
+        lines.push(line)?;
+    }
+    Ok(())
+}
+
+/// Whether the item is met without a search: no lines are asked for, it has none of its own, and its
+/// structure is listed.
+fn is_plain(x: &Setting, item: Item, place: Option<u32>) -> bool
+    requires { IsReadyToJudge x.now }
+    ensures asked { IsTrue result → ¬ IsTrue x.now.asked }
+    ensures own { IsTrue result → own_line x.now.analysis.now.maps item ≡ None }
+    ensures listed { IsTrue result → IsSome place }
+{
+    !x.asked && place.is_some() && line_of(x.lines, item).is_none()
+}
+
+/// Tests the item whose structure is `s`, which is stable, and puts its line behind the others, where lines
+/// are asked for. A structure that is listed is covered by itself, if by no other before.
 pub fn test_item(
     x: &Setting,
     item: Item,
@@ -114,15 +137,18 @@ pub fn test_item(
     requires over { arities_of s.now ≡ program_arities (form_in x.now) }
     requires stable { IsStableIn (case_in x.now) s.now }
     requires there { IsThere (case_in x.now) item s.now (at_node x.now.analysis.now.listing node) }
-    requires so_far { IsTestedTo (case_in x.now) (demand_order (Covering item)) found.old }
-    ensures next { OnOk result (IsTestedTo (case_in x.now) (behind item) found.new) }
+    requires so_far { IsTestedTo (case_in x.now) x.now.asked (demand_order (Covering item)) found.old }
+    ensures next { OnOk result (IsTestedTo (case_in x.now) x.now.asked (behind item) found.new) }
     ensures stop { IfErr result (IsStop (case_in x.now)) }
 {
+    let place = note_stable(x, node, s, found)?;
+    if is_plain(x, item, place) {
+        return Ok(());
+    }
     match owed_line(x, item, node, s)? {
         None => Err(Stop::Rejected(rejection_of(item))),
         Some(line) => {
-            note_stable(x, node, s, found)?;
-            found.maps.push(line)?;
+            put_line(x.asked, line, &mut found.maps)?;
             Ok(())
         }
     }

@@ -10,7 +10,7 @@ mod steps;
 mod verdict;
 
 pub use laws::{closed_listings_are_closed_reports, closed_reports_are_accepted};
-pub use verdict::{Verdict, judge};
+pub use verdict::{Verdict, first_unmet, judge};
 
 /// What a report is rejected for.
 pub use tv_listing::Rejection;

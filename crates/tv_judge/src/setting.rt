@@ -12,8 +12,8 @@ use tv_model::{Mode, Program};
 use tv_step::Engine;
 use tv_struct::{StageError, Structures};
 
-/// A report on a program with initial structures, the engine of the program's steps, the report's lines,
-/// where its structures are listed, and the structures of each node.
+/// A report on a program with initial structures, whether the lines of its items are asked for, the engine of
+/// the program's steps, the report's lines, where its structures are listed, and the structures of each node.
 #[derive(Clone, Copy)]
 pub struct Setting<'a, 'b> {
     pub alloc: Global,
@@ -21,6 +21,7 @@ pub struct Setting<'a, 'b> {
     pub mode: Mode,
     pub initial: &'a Structures,
     pub analysis: &'a Analysis,
+    pub asked: bool,
     pub engine: &'b Engine<'a>,
     pub lines: &'b LinesByItem<'a>,
     pub said: &'b Said,

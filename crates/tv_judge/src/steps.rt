@@ -11,7 +11,7 @@ ghost use Rattle.tv_step_laws.specs.Closed.{HasLine};
 ghost use Rattle.tv_step_laws.specs.Settled.{IsSettled};
 ghost use Rattle.tv_step_laws.specs.Transfer.{HasNoOpening, IsOpening};
 ghost use Rattle.tv_judge.specs.Found.{IsStableIn, IsTestedTo};
-ghost use Rattle.tv_judge.specs.Progress.{AreResultsAt, AreSaidBelow, AreValuesAt, IsDoneTo, IsFirstUnsaid};
+ghost use Rattle.tv_judge.specs.Progress.{AreResultsAt, AreSaidBelow, AreValuesAt, IsDone, IsFirstUnsaid};
 ghost use Rattle.tv_judge.specs.Progress.{IsStop};
 ghost use Rattle.tv_judge.specs.Setting.{IsReadyToJudge, case_in, form_in};
 ghost use Rattle.tv_step.specs.StepAnswer.{AnswersStep};
@@ -62,8 +62,8 @@ fn test_opening(
     requires ready { IsReadyToJudge x.now }
     requires number { number < length x.now.initial.now }
     requires room { IsMadeFor (form_in x.now) 256 scratch.old }
-    requires so_far { IsTestedTo (case_in x.now) (0 ∷ number ∷ []) found.old }
-    ensures next { OnOk result (IsTestedTo (case_in x.now) (0 ∷ (number + 1) ∷ []) found.new) }
+    requires so_far { IsTestedTo (case_in x.now) x.now.asked (0 ∷ number ∷ []) found.old }
+    ensures next { OnOk result (IsTestedTo (case_in x.now) x.now.asked (0 ∷ (number + 1) ∷ []) found.new) }
     ensures stop { IfErr result (IsStop (case_in x.now)) }
     ensures scratch { scratch.new ≡ scratch.old }
 {
@@ -78,8 +78,8 @@ fn test_opening(
 fn test_openings(x: &Setting, scratch: &mut Scratch, found: &mut Found) -> Result<(), Stop>
     requires ready { IsReadyToJudge x.now }
     requires room { IsMadeFor (form_in x.now) 256 scratch.old }
-    requires so_far { IsTestedTo (case_in x.now) (0 ∷ 0 ∷ []) found.old }
-    ensures next { OnOk result (IsTestedTo (case_in x.now) (1 ∷ 0 ∷ []) found.new) }
+    requires so_far { IsTestedTo (case_in x.now) x.now.asked (0 ∷ 0 ∷ []) found.old }
+    ensures next { OnOk result (IsTestedTo (case_in x.now) x.now.asked (1 ∷ 0 ∷ []) found.new) }
     ensures stop { IfErr result (IsStop (case_in x.now)) }
     ensures scratch { scratch.new ≡ scratch.old }
 {
@@ -101,9 +101,10 @@ fn test_results(
     requires over { All (λ s. arities_of s ≡ program_arities (form_in x.now)) results.now }
     requires stable { All (IsStableIn (case_in x.now)) results.now }
     requires node { at.to < length x.now.analysis.now.listing }
-    requires so_far { IsTestedTo (case_in x.now) (1 ∷ at.edge ∷ at.structure ∷ 1 ∷ 0 ∷ []) found.old }
+    requires so_far { IsTestedTo (case_in x.now) x.now.asked
+        (1 ∷ at.edge ∷ at.structure ∷ 1 ∷ 0 ∷ []) found.old }
     ensures next { OnOk result
-        (IsTestedTo (case_in x.now) (1 ∷ at.edge ∷ at.structure ∷ 2 ∷ 0 ∷ []) found.new) }
+        (IsTestedTo (case_in x.now) x.now.asked (1 ∷ at.edge ∷ at.structure ∷ 2 ∷ 0 ∷ []) found.new) }
     ensures stop { IfErr result (IsStop (case_in x.now)) }
 {
     for result in 0..results.len() {
@@ -183,8 +184,9 @@ fn test_step(
     requires edge { slice_get x.now.program.now.edges edge ≡ Some taken }
     requires structure { structure < length (at_node x.now.analysis.now.listing taken.from) }
     requires room { IsMadeFor (form_in x.now) 256 scratch.old }
-    requires so_far { IsTestedTo (case_in x.now) (1 ∷ edge ∷ structure ∷ []) found.old }
-    ensures next { OnOk result (IsTestedTo (case_in x.now) (1 ∷ edge ∷ (structure + 1) ∷ []) found.new) }
+    requires so_far { IsTestedTo (case_in x.now) x.now.asked (1 ∷ edge ∷ structure ∷ []) found.old }
+    ensures next { OnOk result
+        (IsTestedTo (case_in x.now) x.now.asked (1 ∷ edge ∷ (structure + 1) ∷ []) found.new) }
     ensures stop { IfErr result (IsStop (case_in x.now)) }
     ensures scratch { scratch.new ≡ scratch.old }
 {
@@ -216,8 +218,8 @@ fn test_edge(x: &Setting, edge: u32, scratch: &mut Scratch, found: &mut Found) -
     requires ready { IsReadyToJudge x.now }
     requires edge { edge < length x.now.program.now.edges }
     requires room { IsMadeFor (form_in x.now) 256 scratch.old }
-    requires so_far { IsTestedTo (case_in x.now) (1 ∷ edge ∷ []) found.old }
-    ensures next { OnOk result (IsTestedTo (case_in x.now) (1 ∷ (edge + 1) ∷ []) found.new) }
+    requires so_far { IsTestedTo (case_in x.now) x.now.asked (1 ∷ edge ∷ []) found.old }
+    ensures next { OnOk result (IsTestedTo (case_in x.now) x.now.asked (1 ∷ (edge + 1) ∷ []) found.new) }
     ensures stop { IfErr result (IsStop (case_in x.now)) }
     ensures scratch { scratch.new ≡ scratch.old }
 {
@@ -228,11 +230,11 @@ fn test_edge(x: &Setting, edge: u32, scratch: &mut Scratch, found: &mut Found) -
     Ok(())
 }
 
-/// Tests all demands in order, and gives the lines of all items.
+/// Tests all demands in order, and gives the lines of all items, where they are asked for.
 pub fn test_report(x: &Setting, scratch: &mut Scratch) -> Result<MapLines, Stop>
     requires ready { IsReadyToJudge x.now }
     requires room { IsMadeFor (form_in x.now) 256 scratch.old }
-    ensures done { IfOk result (IsDoneTo (case_in x.now) (2 ∷ [])) }
+    ensures done { IfOk result (IsDone (case_in x.now) x.now.asked) }
     ensures stop { IfErr result (IsStop (case_in x.now)) }
 {
     let mut found = Found::new(x.alloc);

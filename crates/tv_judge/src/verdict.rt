@@ -1,13 +1,13 @@
 //! Verdicts on reports.
 
-ghost use Rattle.std.specs.Prelude.{◌<◌, ◌^◌, ◌∷◌, [], All, length, IfOk, IfErr};
+ghost use Rattle.std.specs.Prelude.{◌<◌, ◌^◌, All, length, IfOk, IfErr, IfSome, IfNone};
 ghost use Rattle.tv_listing.specs.Listed.{IsListing};
 ghost use Rattle.tv_model.specs.Program.{program_of};
 ghost use Rattle.tv_model.specs.Valid.{IsValid};
 ghost use Rattle.tv_struct.specs.StructureForm.{IsOver};
-ghost use Rattle.tv_judge.specs.Judged.{IsJudgeCause};
-ghost use Rattle.tv_judge.specs.Progress.{IsDoneTo, IsStop};
-ghost use Rattle.tv_judge.specs.Verdicts.{case_of, IsVerdict, OnceAccepted, IsSound};
+ghost use Rattle.tv_judge.specs.Judged.{IsJudgeCause, IsRejection};
+ghost use Rattle.tv_judge.specs.Progress.{IsDone, IsStop};
+ghost use Rattle.tv_judge.specs.Verdicts.{case_of, IsAcceptable, IsVerdict, OnceAccepted, IsSound};
 
 use crate::index::{lines_by_item, places_by_signature, said_in};
 use crate::setting::{Setting, Stop};
@@ -28,19 +28,20 @@ pub enum Verdict {
     Rejected(Rejection),
 }
 
-/// Tests all demands in order, and gives the lines of all items.
+/// Tests all demands in order, and gives the lines of all items, where they are asked for.
 fn tested<'a>(
     alloc: Global,
     program: &'a Program,
     initial: &'a Structures,
     analysis: &'a Analysis,
     mode: Mode,
+    asked: bool,
 ) -> Result<MapLines, Stop>
     requires valid { IsValid (program_of program.now) }
     requires initial { All (IsOver program.now.vocab) initial.now }
     requires few { length initial.now < 2 ^ 32 }
     requires listing { IsListing program.now analysis.now.listing }
-    ensures done { IfOk result (IsDoneTo (case_of program.now mode initial.now analysis.now) (2 ∷ [])) }
+    ensures done { IfOk result (IsDone (case_of program.now mode initial.now analysis.now) asked) }
     ensures stop { IfErr result (IsStop (case_of program.now mode initial.now analysis.now)) }
 {
     let engine = Engine::new(alloc, program, mode)?;
@@ -56,6 +57,7 @@ fn tested<'a>(
         mode,
         initial,
         analysis,
+        asked,
         engine: &engine,
         lines: &lines,
         said: &said,
@@ -83,9 +85,41 @@ pub fn judge(
     ensures sound { IfOk result (OnceAccepted (IsSound (case_of program.now mode initial.now analysis.now))) }
     ensures cause { IfErr result (IsJudgeCause (case_of program.now mode initial.now analysis.now)) }
 {
-    match tested(alloc, program, initial, analysis, mode) {
+    match tested(alloc, program, initial, analysis, mode, true) {
         Ok(maps) => Ok(Verdict::Accepted(maps)),
         Err(Stop::Rejected(rejection)) => Ok(Verdict::Rejected(rejection)),
+        Err(Stop::Stage(e)) => Err(e),
+    }
+}
+
+/// The first demand that the report doesn't meet, in the order in which `judge` tests them; none where the
+/// report is closed and all steps keep the budgets. The maps, which `judge` gives, are there but aren't kept.
+/// `Splits` and `Individuals` only where the first demand that isn't met is that a step keeps this budget.
+pub fn first_unmet(
+    alloc: Global,
+    program: &Program,
+    initial: &Structures,
+    analysis: &Analysis,
+    mode: Mode,
+) -> Result<Option<Rejection>, StageError>
+    requires valid { IsValid (program_of program.now) }
+    requires initial { All (IsOver program.now.vocab) initial.now }
+    requires few { length initial.now < 2 ^ 32 }
+    requires listing { IsListing program.now analysis.now.listing }
+    ensures some { IfOk result
+        (λ found. IfSome found (IsRejection (case_of program.now mode initial.now analysis.now))) }
+    ensures none { IfOk result
+        (λ found. IfNone found (IsAcceptable (case_of program.now mode initial.now analysis.now))) }
+    ensures sound { IfOk result
+        (λ found. IfNone found (IsSound (case_of program.now mode initial.now analysis.now))) }
+    ensures cause { IfErr result (IsJudgeCause (case_of program.now mode initial.now analysis.now)) }
+{
+    match tested(alloc, program, initial, analysis, mode, false) {
+        Ok(maps) => {
+            drop(maps);
+            Ok(None)
+        }
+        Err(Stop::Rejected(rejection)) => Ok(Some(rejection)),
         Err(Stop::Stage(e)) => Err(e),
     }
 }

@@ -7,7 +7,7 @@ ghost use Rattle.tv_model.specs.Valid.{IsValid};
 
 use std::alloc::Global;
 use std::test::Fail;
-use tv_judge::{Verdict, judge};
+use tv_judge::{Verdict, first_unmet, judge};
 use tv_lex::lex;
 use tv_listing::{Analysis, Item, MapLine, Rejection};
 use tv_model::{Mode, Program};
@@ -81,11 +81,28 @@ pub fn told(alloc: Global, verdict: &Result<Verdict, StageError>) -> Result<Stri
     }
 }
 
+/// Whether the first demand that isn't met is what the verdict says.
+fn is_same(
+    verdict: &Result<Verdict, StageError>,
+    unmet: Result<Option<Rejection>, StageError>,
+) -> bool {
+    match (verdict, unmet) {
+        (Ok(Verdict::Accepted(_)), Ok(None)) => true,
+        (Ok(Verdict::Rejected(told)), Ok(Some(first))) => *told == first,
+        (Err(told), Err(fault)) => *told == fault,
+        _ => false,
+    }
+}
+
 /// The verdict on a report, in words.
 pub fn verdict(alloc: Global, program: &str, initial: &str, report: &str) -> Result<String, Fail> {
     let program = whole_program(alloc, program)?;
     let initial = structures(alloc, &program, initial)?;
     let analysis = analysis(alloc, &program, report)?;
     let verdict = judge(alloc, &program, &initial, &analysis, Mode::Given);
+    let unmet = first_unmet(alloc, &program, &initial, &analysis, Mode::Given);
+    if !is_same(&verdict, unmet) {
+        return Err(Fail::new("another demand is the first that isn't met"));
+    }
     told(alloc, &verdict)
 }

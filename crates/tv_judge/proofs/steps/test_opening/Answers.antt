@@ -24,13 +24,15 @@ test_item-requires-clause-there c = record {
 
 pub returns-in-None-clause-next : goal.returns-in-None-clause-next
 returns-in-None-clause-next c = record {
+  lines = c.requires.so_far.lines;
   done =
-      none-passes (case_in c.args.x.now) c.args.found.now.maps c.args.number c.index-as_slice-number.result
+      none-passes (case_in c.args.x.now) c.requires.so_far.lines c.args.number c.index-as_slice-number.result
       (index-at c.args.x.now.initial.now c.as_slice.result.now c.args.number c.index-as_slice-number.result
       c.as_slice.ensures
       c.index-as_slice-number.is c.requires.number)
       (subst (λ o. IfNone o (HasNoOpening (form_in c.args.x.now) c.index-as_slice-number.result)) c.in-None.is
       c.in_ok-opening_of.ensures.none)
       c.requires.so_far.done;
+  kept = c.requires.so_far.kept;
   stable = c.requires.so_far.stable;
 }

@@ -5,6 +5,6 @@ use Rattle.tv_judge.proofs.steps.test_openings.Given as goal
 
 abbrev pub invariant-loop-number : goal.invariant-loop-number
 invariant-loop-number l = record {
-  done : IsTestedTo (case_in l.x) (0 ∷ l.number ∷ []) l.found;
+  done : IsTestedTo (case_in l.x) l.x.asked (0 ∷ l.number ∷ []) l.found;
   scratch : l.scratch ≡ l.fn.scratch;
 }

@@ -7,11 +7,13 @@ use Rattle.tv_judge.proofs.steps.test_results.Goals as goal
 
 pub returns-clause-next : goal.returns-clause-next
 returns-clause-next c = record {
+  lines = c.loop-result.invariant.lines;
   done =
-      results-pass (case_in c.args.x.now) c.requires.ready.valid c.loop-result.found.maps c.args.at.edge
+      results-pass (case_in c.args.x.now) c.requires.ready.valid c.loop-result.invariant.lines c.args.at.edge
       c.args.at.structure c.args.at.to
       c.loop-result.result c.args.results.now c.requires.results c.loop-result-test.false
       c.loop-result.invariant.done;
+  kept = c.loop-result.invariant.kept;
   stable = c.loop-result.invariant.stable;
 }
 

@@ -13,7 +13,7 @@ use Rattle.tv_judge.proofs.steps.test_step.Goals as goal
 pub returns-in_err-out-clause-stop : goal.returns-in_err-out-clause-stop
 returns-in_err-out-clause-stop c =
     let p = err_from_is_err_and c.from_residual.result c.from_residual.ensures.1
-    in rw (p.1, p.2) (step-stops (case_in c.args.x.now) c.args.found.now.maps c.args.edge c.args.structure
+    in rw (p.1, p.2) (step-stops (case_in c.args.x.now) c.requires.so_far.lines c.args.edge c.args.structure
     c.args.taken c.at-from.result.now c.in_err-out.field-0.0
     (record { is_edge = c.requires.edge; listed = c.at-from.ensures.value }) c.in_err-out.ensures.step.cause
     c.requires.so_far.done)
@@ -35,18 +35,21 @@ test_results-requires-clause-node c =
 
 pub test_results-requires-clause-so_far : goal.test_results-requires-clause-so_far
 test_results-requires-clause-so_far c = record {
+  lines = c.requires.so_far.lines;
   done =
-      step-passes (case_in c.args.x.now) c.args.found.now.maps c.args.edge c.args.structure c.args.taken
+      step-passes (case_in c.args.x.now) c.requires.so_far.lines c.args.edge c.args.structure c.args.taken
       c.at-from.result.now c.in_ok-out.out.results
       (record { is_edge = c.requires.edge; listed = c.at-from.ensures.value }) c.in_ok-out.ensures.step.budgets
       c.in_ok-out.ensures.step.results c.requires.so_far.done;
+  kept = c.requires.so_far.kept;
   stable = c.requires.so_far.stable;
 }
 
 pub returns-in-None-clause-next : goal.returns-in-None-clause-next
 returns-in-None-clause-next c = record {
+  lines = c.in_ok-test_results.ensures.next.lines;
   done =
-      messages-pass (case_in c.args.x.now) c.test_results.new.found.maps c.args.edge c.args.structure
+      messages-pass (case_in c.args.x.now) c.in_ok-test_results.ensures.next.lines c.args.edge c.args.structure
       c.in_ok-out.out.messages
       (record {
         taken = c.args.taken;
@@ -59,6 +62,7 @@ returns-in-None-clause-next c = record {
       (subst (λ vs. AreSaidBelow (case_in c.args.x.now) c.args.edge c.args.structure
       (length vs)) c.as_slice-2.ensures c.in-None.ensures.none)
       c.in_ok-test_results.ensures.next.done;
+  kept = c.in_ok-test_results.ensures.next.kept;
   stable = c.in_ok-test_results.ensures.next.stable;
 }
 
@@ -66,6 +70,6 @@ pub returns-clause-stop : goal.returns-clause-stop
 returns-clause-stop c = (
   c.args.structure,
   unsaid-stops
-      (case_in c.args.x.now) c.test_results.new.found.maps c.args.edge c.args.structure c.in-Some.number
+      (case_in c.args.x.now) c.in_ok-test_results.ensures.next.lines c.args.edge c.args.structure c.in-Some.number
       c.in-Some.ensures.some c.in_ok-test_results.ensures.next.done,
 )

@@ -16,12 +16,12 @@ loop-known-preserved c =
     c.in_ok-add_alike.ensures.kept c.in_ok-add_alike.ensures.added c.loop-known.invariant
 
 pub returns-clause-each : goal.returns-clause-each
-returns-clause-each c = λ known within place has.
+returns-clause-each c = λ known within noting has may.
     let All-rows : List (List K3) → Type 0 = λ rows. length rows ≤ c.loop-known.known-index
-    in Contains-permutation c.loop-known.found.items c.sort_unstable.new.self.items place c.sort_unstable.ensures.permutation
+    in Contains-permutation c.loop-known.found.items c.sort_unstable.new.self.items noting.place c.sort_unstable.ensures.permutation
     (looked-all c.args.self.now c.args.glance.now c.loop-known.known-index c.loop-known.found.items
     (subst All-rows c.as_slice-known-items.ensures.value c.loop-known-test.false) c.loop-known.invariant
-    known within place has)
+    known within noting has may)
 
 pub returns-clause-order : goal.returns-clause-order
 returns-clause-order c = IsNonDecreasingBy-from_sort (λ x. x) c.sort_unstable.new.self.items c.sort_unstable.ensures.sorted
