@@ -185,7 +185,7 @@ module _
     (again : ReportsAreReadAgain) (closed : ClosedListingsAreClosedReports)
   where
     pub accepted_again : ReportsAreAccepted
-    accepted_again words others held later program initial report text max mode maps delta spells checks answer keeps content size =
+    accepted_again words others held later program initial report text max mode maps delta spells checks answer keeps initial_keeps content size =
         let same = one_command words answer.0 (Analyzes program initial max mode delta) answer.1 spells in
         let task = answer.2.0 in
         let means : FilesMean (Some held) (Analyzes program initial max mode delta) task
@@ -202,8 +202,8 @@ module _
             (
               task,
               record {
-                program = taken_later held later keeps delta program task.program means.program;
-                initial = holds_later held later keeps initial _ means.initial;
+                program = taken_later held later delta program task.program keeps means.program;
+                initial = holds_later held later initial _ initial_keeps means.initial;
                 mode = means.mode;
               },
               (a, (text, content, (size, here)), closed (case_for task a) found.valid found.no_maps found.closed, keeps_budgets task max a found),
@@ -212,7 +212,7 @@ module _
         )
 
     pub joined_accepted : JoinedReportsAreAccepted
-    joined_accepted words others held later program initial report text max mode maps spells checks answer keeps content size =
+    joined_accepted words others held later program initial report text max mode maps spells checks answer keeps initial_keeps content size =
         let same = one_command words answer.0 (Joins program initial max mode) answer.1 spells in
         let task = answer.2.0 in
         let means : FilesMean (Some held) (Joins program initial max mode) task
@@ -229,8 +229,8 @@ module _
             (
               task,
               record {
-                program = taken_later held later keeps false program task.program means.program;
-                initial = holds_later held later keeps initial _ means.initial;
+                program = taken_later held later false program task.program keeps means.program;
+                initial = holds_later held later initial _ initial_keeps means.initial;
                 mode = means.mode;
               },
               (a, (text, content, (size, here)), closed (case_for task a) found.valid found.no_maps found.closed, keeps_joined task max a found),
@@ -257,7 +257,7 @@ module _
               task,
               record {
                 program = compiled task.program means.program;
-                initial = holds_later held later keeps initial _ means.initial;
+                initial = holds_later held later initial _ keeps means.initial;
                 mode = means.mode;
               },
               (a, (text, content, (size, here)), closed (case_for task a) found.valid found.no_maps found.closed, keeps_budgets task max a found),

@@ -13,6 +13,7 @@ use Rattle.tv_status.specs.declared.status.Status.{Status}
 use Rattle.tv_status.specs.declared.status.Status.TheVariants.{Done, Memory}
 use Rattle.tv_texts.specs.Files.{IsProgramFile, IsSourceFile}
 use Rattle.tv_top.specs.Call.{IsAnswerTo, CallsFor}
+use Rattle.tv_top.specs.Kept.{KeepsFile, KeepsProgram}
 use Rattle.tv_top.specs.One.{AreOne, HasEnded}
 use Rattle.tv_top.specs.Work.{IsBounded}
 use Rattle.tv_words.specs.Words.{CommandForm, Analyzes, Checks, Joins, Sources, Spells}
@@ -22,19 +23,16 @@ abbrev pub CommandsAreBounded : Type 0
 CommandsAreBounded =
     (words : List (List ℕ)) (command : CommandForm) → Spells words command → IsBounded command
 
--- each name that holds something holds the same later
-abbrev pub KeepsNames : (held later : Held) → Type 0
-KeepsNames held later =
-    (name bytes : List ℕ) → content_of held name ≡ Some bytes → content_of later name ≡ Some bytes
-
--- where REPORT holds the report that `analyze` wrote, names hold what they held, the mode is the same, and
--- both have `--delta` or neither, `check` is called to accept it
+-- where REPORT holds the report that `analyze` wrote, the files that the call came to hold what they held,
+-- the mode is the same, and both have `--delta` or neither, `check` is called to accept it; so also where
+-- REPORT was written over, if it is none of these files
 abbrev pub ReportsAreAccepted : Type 0
 ReportsAreAccepted = (words again : List (List ℕ)) (held later : Held)
     (program initial report text : List ℕ) (max : ℕ) (mode : Mode) (maps delta : Bool)
     → Spells words (Analyzes program initial max mode delta)
     → Spells again (Checks program initial report mode maps delta)
-    → IsAnswerTo words (Some held) Done text → KeepsNames held later → content_of later report ≡ Some text
+    → IsAnswerTo words (Some held) Done text
+    → KeepsProgram held later program → KeepsFile held later initial → content_of later report ≡ Some text
     → length text ≤ longest_text → CallsFor again (Some later) Done
 
 -- the same of the report that `join` wrote
@@ -43,7 +41,8 @@ JoinedReportsAreAccepted = (words again : List (List ℕ)) (held later : Held)
     (program initial report text : List ℕ) (max : ℕ) (mode : Mode) (maps : Bool)
     → Spells words (Joins program initial max mode)
     → Spells again (Checks program initial report mode maps false)
-    → IsAnswerTo words (Some held) Done text → KeepsNames held later → content_of later report ≡ Some text
+    → IsAnswerTo words (Some held) Done text
+    → KeepsProgram held later program → KeepsFile held later initial → content_of later report ≡ Some text
     → length text ≤ longest_text → CallsFor again (Some later) Done
 
 -- and of the report that `source` wrote, where PROGRAM means the program that SOURCE is compiled to
@@ -52,7 +51,7 @@ SourceReportsAreAccepted = (words again : List (List ℕ)) (held later : Held)
     (source initial program report text : List ℕ) (max : ℕ) (maps : Bool)
     → Spells words (Sources source initial max)
     → Spells again (Checks program initial report Given maps false)
-    → IsAnswerTo words (Some held) Done text → KeepsNames held later
+    → IsAnswerTo words (Some held) Done text → KeepsFile held later initial
     → ((p : Program) → IsSourceFile (Some held) source (Ok p) → IsProgramFile (Some later) program (Ok p))
     → content_of later report ≡ Some text → length text ≤ longest_text → CallsFor again (Some later) Done
 

@@ -6,4 +6,5 @@ pub mod Begins
 pub mod One
 pub mod Faults
 pub mod Work
+pub mod Kept
 pub mod Laws

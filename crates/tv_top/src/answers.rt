@@ -1,7 +1,7 @@
 //! What an analysis, a judgement and a replay give, as texts.
 
 ghost use Rattle.std.specs.Prelude.{◌≡◌, None, ◌<◌, ◌≤◌, ◌++◌, sum_by, length, IfOk, IfErr, OnOk};
-ghost use Rattle.std.specs.Prelude.{decimal};
+ghost use Rattle.std.specs.Prelude.{codes, decimal, true, false};
 ghost use Rattle.tv_listing.specs.Listed.{IsListing};
 ghost use Rattle.tv_listing.specs.declared.analysis.Rejection.TheVariants as rejection;
 ghost use Rattle.tv_model.specs.Program.{program_of};
@@ -21,7 +21,7 @@ use crate::fault::{Answer, Fault, fault_of_work};
 use crate::inputs::Inputs;
 use std::alloc::{AllocError, Global};
 use tv_join::analyse_joined;
-use tv_judge::{Verdict, judge};
+use tv_judge::{Verdict, first_unmet, judge};
 use tv_listing::{Analysis, Listing, MapLines, Rejection};
 use tv_model::{Mode, Program};
 use tv_replay::{replay, write_states, write_stuck};
@@ -123,23 +123,26 @@ fn rejected_line(alloc: Global, rejection: Rejection) -> Result<Vec<u8>, AllocEr
     Ok(out)
 }
 
-/// The text of an accepted report, with these maps where they are asked for.
-fn accepted_text(
+/// The text of an accepted report, where no maps are asked for.
+fn accepted_line(alloc: Global) -> Result<Vec<u8>, AllocError>
+    ensures { IfOk result (λ text. text.items ≡ codes "accepted\n") }
+{
+    let mut out = Vec::new(alloc);
+    out.extend_from_slice(b"accepted\n")?;
+    Ok(out)
+}
+
+/// The text of an accepted report with these maps.
+fn mapped_text(
     alloc: Global,
     program: &Program,
     report: Analysis,
     lines: MapLines,
-    maps: bool,
 ) -> Result<Vec<u8>, AllocError>
     requires valid { IsValid (program_of program.now) }
     requires listing { IsListing program.now report.listing }
-    ensures { IfOk result (λ text. text.items ≡ accepted_text program.now report lines maps) }
+    ensures { IfOk result (λ text. text.items ≡ accepted_text program.now report lines true) }
 {
-    let mut out = Vec::new(alloc);
-    if !maps {
-        out.extend_from_slice(b"accepted\n")?;
-        return Ok(out);
-    }
     let Analysis {
         listing,
         messages,
@@ -151,6 +154,54 @@ fn accepted_text(
         maps: lines,
     };
     write_report(alloc, program, &told)
+}
+
+/// The judgement of a report on the inputs, with its maps.
+fn judgement_with_maps(
+    alloc: Global,
+    inputs: &Inputs,
+    report: Analysis,
+    mode: Mode,
+) -> Result<Answer, Fault>
+    requires ready { AreReadyInputs inputs.now }
+    requires listing { IsListing inputs.now.program report.listing }
+    ensures judged { IfOk result (SaidOf (IsJudged (task_of inputs.now mode) report true)) }
+    ensures cause { IfErr result (IsJudgementCause (task_of inputs.now mode) report) }
+{
+    match judge(alloc, &inputs.program, &inputs.initial, &report, mode)? {
+        Verdict::Accepted(lines) => {
+            let text = mapped_text(alloc, &inputs.program, report, lines)?;
+            Ok(Answer::Done(text))
+        }
+        Verdict::Rejected(rejection) => {
+            let text = rejected_line(alloc, rejection)?;
+            Ok(Answer::Rejected(rejection, text))
+        }
+    }
+}
+
+/// The judgement of a report on the inputs, without its maps.
+fn judgement_alone(
+    alloc: Global,
+    inputs: &Inputs,
+    report: &Analysis,
+    mode: Mode,
+) -> Result<Answer, Fault>
+    requires ready { AreReadyInputs inputs.now }
+    requires listing { IsListing inputs.now.program report.now.listing }
+    ensures judged { IfOk result (SaidOf (IsJudged (task_of inputs.now mode) report.now false)) }
+    ensures cause { IfErr result (IsJudgementCause (task_of inputs.now mode) report.now) }
+{
+    match first_unmet(alloc, &inputs.program, &inputs.initial, report, mode)? {
+        None => {
+            let text = accepted_line(alloc)?;
+            Ok(Answer::Done(text))
+        }
+        Some(rejection) => {
+            let text = rejected_line(alloc, rejection)?;
+            Ok(Answer::Rejected(rejection, text))
+        }
+    }
 }
 
 /// The judgement of a report on the inputs.
@@ -166,15 +217,10 @@ pub fn judgement(
     ensures judged { IfOk result (SaidOf (IsJudged (task_of inputs.now mode) report maps)) }
     ensures cause { IfErr result (IsJudgementCause (task_of inputs.now mode) report) }
 {
-    match judge(alloc, &inputs.program, &inputs.initial, &report, mode)? {
-        Verdict::Accepted(lines) => {
-            let text = accepted_text(alloc, &inputs.program, report, lines, maps)?;
-            Ok(Answer::Done(text))
-        }
-        Verdict::Rejected(rejection) => {
-            let text = rejected_line(alloc, rejection)?;
-            Ok(Answer::Rejected(rejection, text))
-        }
+    if maps {
+        judgement_with_maps(alloc, inputs, report, mode)
+    } else {
+        judgement_alone(alloc, inputs, &report, mode)
     }
 }
 

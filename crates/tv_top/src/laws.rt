@@ -17,8 +17,8 @@ pub fn commands_are_bounded()
     ensures { CommandsAreBounded }
 {}
 
-/// What `analyze` wrote is accepted by `check`, where REPORT holds it, all names hold what they held, the
-/// mode is the same, and both have `--delta` or neither.
+/// What `analyze` wrote is accepted by `check`, where REPORT holds it, PROGRAM, its includes and INITIAL hold
+/// what they held, the mode is the same, and both have `--delta` or neither.
 pub fn reports_are_accepted()
     ensures { ReportsAreAccepted }
 {
@@ -27,8 +27,8 @@ pub fn reports_are_accepted()
     closed_listings_are_closed_reports();
 }
 
-/// What `join` wrote is accepted by `check`, where REPORT holds it, all names hold what they held, and the
-/// mode is the same.
+/// What `join` wrote is accepted by `check`, where REPORT holds it, PROGRAM, its includes and INITIAL hold
+/// what they held, and the mode is the same.
 pub fn joined_reports_are_accepted()
     ensures { JoinedReportsAreAccepted }
 {
@@ -38,7 +38,7 @@ pub fn joined_reports_are_accepted()
 }
 
 /// What `source` wrote is accepted by `check` of a program that means what SOURCE is compiled to, where
-/// REPORT holds it and all names hold what they held.
+/// REPORT holds it and INITIAL holds what it held.
 pub fn source_reports_are_accepted()
     ensures { SourceReportsAreAccepted }
 {
