@@ -89,7 +89,7 @@ impl Moving {
 
 impl MoverList {
     /// No rules; takes no memory.
-    pub fn new(alloc: Global) -> MoverList
+    pub(crate) fn new(alloc: Global) -> MoverList
         ensures { result ≡ [] }
     {
         MoverList {
@@ -98,14 +98,14 @@ impl MoverList {
     }
 
     /// The rules in the order in which they were noted.
-    pub fn as_slice(&self) -> &[Mover]
+    pub(crate) fn as_slice(&self) -> &[Mover]
         ensures { result.now ≡ self.now }
     {
         self.movers.as_slice()
     }
 
     /// Notes a member that the change moves.
-    pub fn note(&mut self, member: Member) -> Result<(), AllocError>
+    pub(crate) fn note(&mut self, member: Member) -> Result<(), AllocError>
         ensures { OnOk result (IsNoted member self.old self.new) }
     {
         let count = self.movers.len();

@@ -24,6 +24,7 @@ use Rattle.tv_delta.specs.Answers.{SaysAnswer, IsDifference}
 use Rattle.tv_delta.specs.Causes.{IsFreed, ClosesOver, IsClosedOver, IsObstacle, MeetsObstacle}
 use Rattle.tv_delta.specs.Causes.{MovesIndividuals, EvaluatesAt, EvaluatesWhere}
 use Rattle.tv_delta.proofs.Touches.{or-first, or-second}
+use Rattle.tv_lemmas.proofs.Options.{IfSome-any}
 
 -- ---- formulas that have no delta
 
@@ -206,10 +207,6 @@ no-delta atoms flags (FClosure from to left right f) b =
 
 -- ---- arguments put in
 
-any-some : {X : Type 0} (o : Option X) → IfSome o (λ x. Unit {0})
-any-some None = tt
-any-some (Some x) = tt
-
 -- where one of two parts is blocked
 two-blocked : (A P : ℕ → Type 0) (f g : Form) (o u : Option Form) (make : Form → Form → Form)
     → (IsBlocked A P f → IfSome o (IsBlocked A P)) → (IsBlocked A P g → IfSome u (IsBlocked A P))
@@ -217,9 +214,9 @@ two-blocked : (A P : ℕ → Type 0) (f g : Form) (o u : Option Form) (make : Fo
     → IsBlocked A P f ⊎ IsBlocked A P g → IfSome (option_both make o u) (IsBlocked A P)
 two-blocked A P f g o u make one two joins b =
     ⊎_elim
-    (λ l. if-both (IsBlocked A P) (λ y. Unit {0}) (IsBlocked A P) make o u (one l) (any-some u)
+    (λ l. if-both (IsBlocked A P) (λ y. Unit {0}) (IsBlocked A P) make o u (one l) (IfSome-any u)
     (λ x y is t. joins x y (inl is)))
-    (λ r. if-both (λ x. Unit {0}) (IsBlocked A P) (IsBlocked A P) make o u (any-some o) (two r)
+    (λ r. if-both (λ x. Unit {0}) (IsBlocked A P) (IsBlocked A P) make o u (IfSome-any o) (two r)
     (λ x y t is. joins x y (inr is))) b
 
 put-blocked : (A P : ℕ → Type 0) (r : Reserved) (f : Form) (m : Arguments) → IsBlocked A P f
@@ -246,22 +243,22 @@ put-blocked A P r (FCond c f g) m b =
     (λ x. option_both (λ y z. FCond x y z) (put_in r f m) (put_in r g m)) (put_in r c m)
     (put-blocked A P r c m l)
     (λ x is. if-both (λ y. Unit {0}) (λ z. Unit {0}) (IsBlocked A P) (λ y z. FCond x y z) (put_in r f m)
-    (put_in r g m) (any-some (put_in r f m)) (any-some (put_in r g m)) (λ y z s t. inl is)))
+    (put_in r g m) (IfSome-any (put_in r f m)) (IfSome-any (put_in r g m)) (λ y z s t. inl is)))
     (λ s. if-bound (λ x. Unit {0}) (IsBlocked A P)
     (λ x. option_both (λ y z. FCond x y z) (put_in r f m) (put_in r g m)) (put_in r c m)
-    (any-some (put_in r c m))
+    (IfSome-any (put_in r c m))
     (λ x t. two-blocked A P f g (put_in r f m) (put_in r g m) (λ y z. FCond x y z) (put-blocked A P r f m)
     (put-blocked A P r g m) (λ y z is. inr is) s)) b
 put-blocked A P r (FExists v f) m b =
     if-bound (λ w. Unit {0}) (IsBlocked A P)
     (λ w. option_map (λ g. FExists w g) (put_in r f (under_bound m v w f))) (bound_number r m v f)
-    (any-some (bound_number r m v f))
+    (IfSome-any (bound_number r m v f))
     (λ w t. if-mapped (IsBlocked A P) (IsBlocked A P) (λ g. FExists w g) (put_in r f (under_bound m v w f))
     (put-blocked A P r f (under_bound m v w f) b) (λ g is. is))
 put-blocked A P r (FForall v f) m b =
     if-bound (λ w. Unit {0}) (IsBlocked A P)
     (λ w. option_map (λ g. FForall w g) (put_in r f (under_bound m v w f))) (bound_number r m v f)
-    (any-some (bound_number r m v f))
+    (IfSome-any (bound_number r m v f))
     (λ w t. if-mapped (IsBlocked A P) (IsBlocked A P) (λ g. FForall w g) (put_in r f (under_bound m v w f))
     (put-blocked A P r f (under_bound m v w f) b) (λ g is. is))
 put-blocked A P r (FClosure from to left right f) m b =
@@ -270,12 +267,12 @@ put-blocked A P r (FClosure from to left right f) m b =
     (put_in r f (under_bound (under_bound m left l (FExists right f)) right k f)))
     (bound_number (with_own r l) (under_bound m left l (FExists right f)) right f))
     (bound_number r m left (FExists right f))
-    (any-some (bound_number r m left (FExists right f)))
+    (IfSome-any (bound_number r m left (FExists right f)))
     (λ l t. if-bound (λ k. Unit {0}) (IsBlocked A P)
     (λ k. option_map (λ g. FClosure (argument_for m from) (argument_for m to) l k g)
     (put_in r f (under_bound (under_bound m left l (FExists right f)) right k f)))
     (bound_number (with_own r l) (under_bound m left l (FExists right f)) right f)
-    (any-some (bound_number (with_own r l) (under_bound m left l (FExists right f)) right f))
+    (IfSome-any (bound_number (with_own r l) (under_bound m left l (FExists right f)) right f))
     (λ k u. if-mapped (IsBlocked P P) (IsBlocked A P)
     (λ g. FClosure (argument_for m from) (argument_for m to) l k g)
     (put_in r f (under_bound (under_bound m left l (FExists right f)) right k f))

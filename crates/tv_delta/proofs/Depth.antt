@@ -17,6 +17,7 @@ use Rattle.tv_delta_laws.proofs.Options.{if-some}
 use Rattle.tv_delta_form.proofs.Likes.{IsLike, put_like}
 use Rattle.tv_delta.specs.Laws.{DepthIsEnough}
 use Rattle.tv_delta.specs.Opening.{lower_count}
+use Rattle.tv_model.proofs.Lists.{slice_get-below}
 
 -- ---- a delta depends on the deltas of the atoms that stand there
 
@@ -120,11 +121,6 @@ count-fewer rank k (suc n) x below le =
 
 -- ---- predicates of a valid program
 
-place-below : {X : Type 0} (xs : List X) (q : ℕ) (x : X) → slice_get xs q ≡ Some x → q < length xs
-place-below [] q x e = absurd (cc e)
-place-below (y ∷ ys) zero x e = omega arith
-place-below (y ∷ ys) (suc q) x e = omega (arith, place-below ys q x e)
-
 pub mapped-length : (preds : List PredForm) → length (map (λ (d : PredForm). d.arity) preds) ≡ length preds
 mapped-length [] = refl
 mapped-length (d ∷ preds) = ap suc (mapped-length preds)
@@ -133,7 +129,7 @@ pub mentioned-below : (arities : List ℕ) (f : Form) → IsFormulaOver arities 
 mentioned-below arities FZero is q m = absurd m
 mentioned-below arities FOne is q m = absurd m
 mentioned-below arities (FAtom r vars) is q m =
-    subst (λ x. x < length arities) (sym m) (place-below arities r (length vars) is.0)
+    subst (λ x. x < length arities) (sym m) (slice_get-below arities r (length vars) is.0)
 mentioned-below arities (FIsNew v) is q m = absurd m
 mentioned-below arities (FSame v w) is q m = absurd m
 mentioned-below arities (FNot f) is q m = mentioned-below arities f is q m

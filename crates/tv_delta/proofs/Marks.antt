@@ -2,8 +2,8 @@
 use Rattle.std.proofs.Common.{ℕ, ◌≡◌, ◌≢◌, ◌∙◌, ◌⊎◌, ◌+◌, ◌<◌, Bool, true, false, List, [], ◌∷◌, Option, Some}
 use Rattle.std.proofs.Common.{None, length, set, get_or, zero, suc, inl, inr, ⊎_elim, refl, sym, ap, subst}
 use Rattle.std.proofs.Common.{arith}
-use Rattle.std.specs.Prelude.{◌&&◌, slice_get, is_some}
-use Rattle.std.proofs.lemmas.Bool.{false≢true}
+use Rattle.std.specs.Prelude.{slice_get, is_some}
+use Rattle.std.proofs.lemmas.Bool.{false≢true, and_from, and_parts, cases_eq}
 use Rattle.std.proofs.lemmas.List.{get_or-set_same, get_or-set_other, length-set}
 use Rattle.tv_model.specs.Program.{ProgramForm, PredForm, KindForm, KCore, KDefined, ActionForm, UpdateForm}
 use Rattle.tv_model.specs.Program.{is_core_kind}
@@ -51,12 +51,6 @@ set-there : (flags : List Bool) (q r : ℕ) → r ≢ q → is_flagged (set flag
 set-there flags q r apart =
     get-flag (set flags q true) r ∙ get_or-set_other flags q r true false apart ∙ sym (get-flag flags r)
 
-equal-or : (r q : ℕ) → (r ≡ q) ⊎ (r ≢ q)
-equal-or zero zero = inl refl
-equal-or zero (suc q) = inr (λ e. cc)
-equal-or (suc r) zero = inr (λ e. cc)
-equal-or (suc r) (suc q) = ⊎_elim (λ e. inl (ap suc e)) (λ n. inr (λ e. n (cc e))) (equal-or r q)
-
 -- the new flag is set for what was flagged, or for what rests on it
 abbrev pub RestsOld : List PredForm → List Bool → ℕ → Type 0
 RestsOld preds old q =
@@ -79,9 +73,9 @@ pub marking_more : (preds : List PredForm) (old new : List Bool) (q : ℕ) → I
 marking_more preds old new q is below on = record {
   one_each = length-set new q true ∙ is.one_each;
   sound = λ r flagged. ⊎_elim (λ same. here r same)
-      (λ apart. is.sound r (sym (set-there new q r apart) ∙ flagged)) (equal-or r q);
+      (λ apart. is.sound r (sym (set-there new q r apart) ∙ flagged)) (cases_eq r q);
   kept = λ r was. ⊎_elim (λ same. ap (is_flagged (set new q true)) same ∙ set-here new q below)
-      (λ apart. set-there new q r apart ∙ is.kept r was) (equal-or r q);
+      (λ apart. set-there new q r apart ∙ is.kept r was) (cases_eq r q);
 }
   where
     its : (r : ℕ) × MentionsAt preds q r × (is_flagged new r ≡ true)
@@ -99,14 +93,6 @@ pub length-changed : (q : ℕ) (preds : List PredForm) (updates : List UpdateFor
 length-changed q [] updates = refl
 length-changed q (d ∷ preds) updates = ap suc (length-changed (q + 1) preds updates)
 
-and-both : (a b : Bool) → (a && b) ≡ true → (a ≡ true) × (b ≡ true)
-and-both true b e = (refl, e)
-and-both false b e = absurd (false≢true e)
-
-both-and : (a b : Bool) → a ≡ true → b ≡ true → (a && b) ≡ true
-both-and true b e f = f
-both-and false b e f = absurd (false≢true e)
-
 -- the flag of the predicate at the place i of a list that is numbered from k on
 abbrev pub ChangedAt : (k i : ℕ) → List PredForm → List UpdateForm → Type 0
 ChangedAt k i preds updates =
@@ -118,7 +104,7 @@ changed-flag : (k : ℕ) (preds : List PredForm) (updates : List UpdateForm) (i 
 changed-flag k [] updates i on = absurd (false≢true on)
 changed-flag k (d ∷ preds) updates zero on =
     let both : (is_core_kind d.kind ≡ true) × (is_some (update_for k updates) ≡ true)
-    = and-both (is_core_kind d.kind) (is_some (update_for k updates)) on
+    = and_parts (is_core_kind d.kind) (is_some (update_for k updates)) on
     in let same : k + 0 ≡ k = omega arith
     in (d, refl, both.0, ap (λ n. is_some (update_for n updates)) same ∙ both.1)
 changed-flag k (d ∷ preds) updates (suc i) on =
@@ -132,7 +118,7 @@ flag-changed k [] updates i is = absurd (cc is.1)
 flag-changed k (d ∷ preds) updates zero is =
     let same : d ≡ is.0 = cc is.1
     in let number : k ≡ k + 0 = omega arith
-    in both-and (is_core_kind d.kind) (is_some (update_for k updates))
+    in and_from (is_core_kind d.kind) (is_some (update_for k updates))
     (ap (λ (x : PredForm). is_core_kind x.kind) same ∙ is.2)
     (ap (λ n. is_some (update_for n updates)) number ∙ is.3)
 flag-changed k (d ∷ preds) updates (suc i) is =

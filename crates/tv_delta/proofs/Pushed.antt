@@ -1,24 +1,18 @@
 -- Predicates of a list, one by one.
-use Rattle.std.proofs.Common.{◌≡◌, ◌<◌, ◌-◌, All, List, [], ◌∷◌, get_or, length, map, take, drop, subst, sym}
-use Rattle.std.proofs.lemmas.List.Elements.{All-nil, All-cons, All-head, All-tail, All-get_or, All-take}
-use Rattle.std.proofs.lemmas.List.Elements.{All-drop}
+use Rattle.std.proofs.Common.{◌≡◌, ◌<◌, ◌-◌, All, List, get_or, length, take, drop, subst, sym}
+use Rattle.std.proofs.lemmas.List.Elements.{All-drop, All-get_or, All-take}
 use Rattle.tv_model.specs.Program.{ProgramForm, pred_of, program_of}
 use Rattle.tv_model.specs.Valid.{IsPred, IsValid}
 use Rattle.tv_model.specs.declared.program.Pred.{Pred}
 use Rattle.tv_model.specs.declared.program.Program.{Program}
-
-all-shown : {X Y : Type 0} (P : Y → Type 0) (view : X → Y) (xs : List X) → All P (map view xs) → All (λ x. P (view x)) xs
-all-shown P view [] all = All-nil (λ x. P (view x))
-all-shown P view (x ∷ xs) all =
-    All-cons (λ x. P (view x)) x xs (All-head P (view x) (map view xs) all)
-    (all-shown P view xs (All-tail P (view x) (map view xs) all))
+use Rattle.tv_lemmas.proofs.Lists.{All-mapped}
 
 -- those of a valid program
 pub preds_are : (p : Program) (preds : List Pred) → IsValid (program_of p) → preds ≡ p.vocab.preds
     → All (λ d. IsPred (program_of p) (pred_of d)) preds
 preds_are p preds valid same =
     subst (All (λ d. IsPred (program_of p) (pred_of d))) (sym same)
-    (all-shown (IsPred (program_of p)) pred_of p.vocab.preds valid.preds)
+    (All-mapped (IsPred (program_of p)) pred_of p.vocab.preds valid.preds)
 
 -- the first one
 pub first_is : (p : ProgramForm) (preds : List Pred) (d : Pred) → 0 < length preds → d ≡ get_or preds 0 d

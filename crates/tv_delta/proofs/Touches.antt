@@ -1,22 +1,11 @@
 -- Which formulas mention a flagged predicate.
 use Rattle.std.proofs.Common.{ℕ, ◌≡◌, ◌∙◌, ◌⊎◌, Bool, true, false, List, inl, inr, ⊎_elim, refl, sym, ap}
 use Rattle.std.specs.Prelude.{◌||◌}
-use Rattle.std.proofs.lemmas.Bool.{false≢true}
+use Rattle.std.proofs.lemmas.Bool.{false≢true, or_cases}
+pub use Rattle.std.proofs.lemmas.Bool.{or_left as or-first, or_right as or-second}
 use Rattle.tv_model.specs.Form.{Form, FZero, FOne, FAtom, FIsNew, FSame, FNot, FAnd, FOr, FIff, FCond}
 use Rattle.tv_model.specs.Form.{FExists, FForall, FClosure, Mentions}
 use Rattle.tv_delta_laws.specs.Deltas.{is_flagged, touches}
-
-or-cases : (a b : Bool) → (a || b) ≡ true → (a ≡ true) ⊎ (b ≡ true)
-or-cases true b e = inl refl
-or-cases false b e = inr e
-
-pub or-first : (a b : Bool) → a ≡ true → (a || b) ≡ true
-or-first true b e = refl
-or-first false b e = absurd (false≢true e)
-
-pub or-second : (a b : Bool) → b ≡ true → (a || b) ≡ true
-or-second true b e = refl
-or-second false b e = e
 
 -- a flagged predicate that the formula mentions
 abbrev pub Touched : List Bool → Form → Type 0
@@ -32,22 +21,22 @@ touched flags (FNot f) e = touched flags f e
 touched flags (FAnd f g) e =
     ⊎_elim (λ left. let t : Touched flags f = touched flags f left in (t.0, inl t.1, t.2))
     (λ right. let t : Touched flags g = touched flags g right in (t.0, inr t.1, t.2))
-    (or-cases (touches flags f) (touches flags g) e)
+    (or_cases (touches flags f) (touches flags g) e)
 touched flags (FOr f g) e =
     ⊎_elim (λ left. let t : Touched flags f = touched flags f left in (t.0, inl t.1, t.2))
     (λ right. let t : Touched flags g = touched flags g right in (t.0, inr t.1, t.2))
-    (or-cases (touches flags f) (touches flags g) e)
+    (or_cases (touches flags f) (touches flags g) e)
 touched flags (FIff f g) e =
     ⊎_elim (λ left. let t : Touched flags f = touched flags f left in (t.0, inl t.1, t.2))
     (λ right. let t : Touched flags g = touched flags g right in (t.0, inr t.1, t.2))
-    (or-cases (touches flags f) (touches flags g) e)
+    (or_cases (touches flags f) (touches flags g) e)
 touched flags (FCond c f g) e =
     ⊎_elim (λ first. let t : Touched flags c = touched flags c first in (t.0, inl t.1, t.2))
     (λ later. ⊎_elim
     (λ left. let t : Touched flags f = touched flags f left in (t.0, inr (inl t.1), t.2))
     (λ right. let t : Touched flags g = touched flags g right in (t.0, inr (inr t.1), t.2))
-    (or-cases (touches flags f) (touches flags g) later))
-    (or-cases (touches flags c) (touches flags f || touches flags g) e)
+    (or_cases (touches flags f) (touches flags g) later))
+    (or_cases (touches flags c) (touches flags f || touches flags g) e)
 touched flags (FExists v f) e = touched flags f e
 touched flags (FForall v f) e = touched flags f e
 touched flags (FClosure from to left right f) e = touched flags f e

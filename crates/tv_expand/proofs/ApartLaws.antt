@@ -27,10 +27,7 @@ use Rattle.tv_expand.proofs.KeepLaws.{bind_ok}
 use Rattle.tv_expand.proofs.SetTests.{all_steps, first_passes, first_refused, step_passes, step_refused}
 use Rattle.tv_expand.proofs.SetTests.{steps_pass}
 use Rattle.std.specs.Prelude.{is_some}
-
-both : (p q : Bool) → (p && q) ≡ true → (p ≡ true) × (q ≡ true)
-both true q h = (refl, h)
-both false q h = cc
+use Rattle.std.proofs.lemmas.Bool.{and_parts}
 
 -- ---- bindings that differ at one word
 
@@ -61,10 +58,10 @@ members_agree sets b c var (SNamed name) agree h = refl
 members_agree sets b c var (SMembers xs) agree h = ap (λ ys. Ok (with_members [] ys)) (words_agree b c var xs agree h)
 members_agree sets b c var (SParen s) agree h = members_agree sets b c var s agree h
 members_agree sets b c var (SPlus s t) agree h =
-    let p = both (is_apart_set var s) (is_apart_set var t) h in
+    let p = and_parts (is_apart_set var s) (is_apart_set var t) h in
     rw (members_agree sets b c var s agree p.0, members_agree sets b c var t agree p.1) refl
 members_agree sets b c var (SMinus s t) agree h =
-    let p = both (is_apart_set var s) (is_apart_set var t) h in
+    let p = and_parts (is_apart_set var s) (is_apart_set var t) h in
     rw (members_agree sets b c var s agree p.0, members_agree sets b c var t agree p.1) refl
 
 -- ---- states that only grow
@@ -118,7 +115,7 @@ module _ {X S : Type 0} (sets : S → Sets) (single : Binding → X → S → Re
     nest_still : (b c : Binding) (var : List ℕ) (d : Nest X) (s : S) → Agree var b c → is_apart_nest var d ≡ true → unrolled_nest sets single b d s ≡ Ok s → unrolled_nest sets single c d s ≡ Ok s
     nest_still b c var (Single x) s agree apart h = let more = grows b x s s h in absurd (omega arith)
     nest_still b c var (Foreach v members body) s agree apart h =
-        let p = both (is_apart_set var members) (is_apart var body) apart in
+        let p = and_parts (is_apart_set var members) (is_apart var body) apart in
         let found = bind_ok (members_of (sets s) b members) (λ xs. each (λ x. unrolled sets single (bound b v x) body) xs s) s h in
         rw (← members_agree (sets s) b c var members agree p.0, found.1)
         (each_still size (λ x. unrolled sets single (bound b v x) body) (λ x. unrolled sets single (bound c v x) body)
@@ -128,7 +125,7 @@ module _ {X S : Type 0} (sets : S → Sets) (single : Binding → X → S → Re
     nests_still : (b c : Binding) (var : List ℕ) (ds : Nests X) (s : S) → Agree var b c → is_apart var ds ≡ true → unrolled sets single b ds s ≡ Ok s → unrolled sets single c ds s ≡ Ok s
     nests_still b c var no_nest s agree apart h = refl
     nests_still b c var (with_nest d ds) s agree apart h =
-        let p = both (is_apart_nest var d) (is_apart var ds) apart in
+        let p = and_parts (is_apart_nest var d) (is_apart var ds) apart in
         let first = bind_ok (unrolled_nest sets single b d s) (unrolled sets single b ds) s h in
         let same : first.0 ≡ s = there_and_back size s first.0 (nest_later b d s first.0 first.1) (nests_later b ds first.0 s first.2) in
         rw (nest_still b c var d s agree p.0 (subst (λ (t : S). unrolled_nest sets single b d s ≡ Ok t) same first.1))
@@ -183,8 +180,8 @@ declared_grows b (DRule f g) s t h =
 -- three counts that are all the same
 pub three_same : (a b c d e f : ℕ) → true ≡ (nat_eq a b && (nat_eq c d && nat_eq e f)) → a + c + e ≡ b + d + f
 three_same a b c d e f h =
-    let p = both (nat_eq a b) (nat_eq c d && nat_eq e f) (sym h) in
-    let q = both (nat_eq c d) (nat_eq e f) p.1 in
+    let p = and_parts (nat_eq a b) (nat_eq c d && nat_eq e f) (sym h) in
+    let q = and_parts (nat_eq c d) (nat_eq e f) p.1 in
     let x = eqb-true a b p.0 in
     let y = eqb-true c d q.0 in
     let z = eqb-true e f q.1 in

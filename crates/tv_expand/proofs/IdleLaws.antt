@@ -1,7 +1,6 @@
 -- What is idle leaves each state as it is, and the tests for it step by step.
-use Rattle.std.proofs.Common.{◌≡◌, ℕ, ◌+◌, ◌<◌, ◌≤◌, Bool, true, false, ◌&&◌, ◌||◌, get_or, List, [], ◌∷◌}
+use Rattle.std.proofs.Common.{◌≡◌, ℕ, ◌+◌, ◌<◌, ◌≤◌, Bool, true, false, ◌&&◌, get_or, List, [], ◌∷◌}
 use Rattle.std.proofs.Common.{length, map, drop, refl, sym, Option, Some, None, Result, Ok, Bor, inl, inr}
-use Rattle.std.proofs.Common.{◌⊎◌}
 use Rattle.std.specs.Prelude.{is_some, ◌==◌}
 use Rattle.std.proofs.lemmas.List.{drop_more, drop_all}
 use Rattle.tv_tree.specs.Forms.{SetForm, SNamed, SMembers, SParen, SPlus, SMinus, Nest, Single, Foreach}
@@ -22,17 +21,10 @@ use Rattle.tv_expand.proofs.SetLaws.{found_set}
 use Rattle.std.proofs.Math.Dec.{eqb-suc-zero}
 use Rattle.std.specs.Map.{lookup}
 use Rattle.std.specs.Str.{bytes_eq}
+use Rattle.std.proofs.lemmas.Bool.{and_parts, or_cases}
 use Rattle.tv_expand.proofs.SetTests.{all_steps, first_passes, first_refused, step_passes, step_refused}
 use Rattle.tv_expand.proofs.SetTests.{steps_pass}
 use Rattle.tv_expand.specs.Expansion.{unrolled, unrolled_nest}
-
-both : (p q : Bool) → (p && q) ≡ true → (p ≡ true) × (q ≡ true)
-both true q h = (refl, h)
-both false q h = cc
-
-either : (p q : Bool) → (p || q) ≡ true → (p ≡ true) ⊎ (q ≡ true)
-either true q h = inl refl
-either false q h = inr h
 
 -- an expression whose sets are all declared has members, whatever is put in for words
 has_members : (sets : Sets) (b : Binding) (s : SetForm) → is_declared_set sets s ≡ true → (xs : List (List ℕ)) × (members_of sets b s ≡ Ok xs)
@@ -44,12 +36,12 @@ has_members sets b (SNamed name) h = by (find_set sets name) h
 has_members sets b (SMembers xs) h = (with_members [] (map (replaced b) xs), refl)
 has_members sets b (SParen s) h = has_members sets b s h
 has_members sets b (SPlus s t) h =
-    let p = both (is_declared_set sets s) (is_declared_set sets t) h in
+    let p = and_parts (is_declared_set sets s) (is_declared_set sets t) h in
     let x = has_members sets b s p.0 in
     let y = has_members sets b t p.1 in
     (with_members x.0 y.0, rw (x.1, y.1) refl)
 has_members sets b (SMinus s t) h =
-    let p = both (is_declared_set sets s) (is_declared_set sets t) h in
+    let p = and_parts (is_declared_set sets s) (is_declared_set sets t) h in
     let x = has_members sets b s p.0 in
     let y = has_members sets b t p.1 in
     (without_members x.0 y.0, rw (x.1, y.1) refl)
@@ -66,10 +58,10 @@ no_members sets b (SMembers []) h = refl
 no_members sets b (SMembers (x ∷ xs)) h = cc
 no_members sets b (SParen s) h = no_members sets b s h
 no_members sets b (SPlus s t) h =
-    let p = both (is_empty_set sets s) (is_empty_set sets t) h in
+    let p = and_parts (is_empty_set sets s) (is_empty_set sets t) h in
     rw (no_members sets b s p.0, no_members sets b t p.1) refl
 no_members sets b (SMinus s t) h =
-    let p = both (is_empty_set sets s) (is_declared_set sets t) h in
+    let p = and_parts (is_empty_set sets s) (is_declared_set sets t) h in
     let y = has_members sets b t p.1 in
     rw (no_members sets b s p.0, y.1) refl
 
@@ -83,10 +75,10 @@ module _ {X S : Type 0} (sets : S → Sets) (single : Binding → X → S → Re
     pub nest_idle : (b : Binding) (d : Nest X) (s : S) → is_idle_nest (sets s) d ≡ true → unrolled_nest sets single b d s ≡ Ok s
     nest_idle b (Single x) s h = cc
     nest_idle b (Foreach var members body) s h =
-        elim (either (is_empty_set (sets s) members) (is_declared_set (sets s) members && is_idle (sets s) body) h) [
+        elim (or_cases (is_empty_set (sets s) members) (is_declared_set (sets s) members && is_idle (sets s) body) h) [
           | inl none ↦ rw (no_members (sets s) b members none) refl
           | inr idle ↦
-              let p = both (is_declared_set (sets s) members) (is_idle (sets s) body) idle in
+              let p = and_parts (is_declared_set (sets s) members) (is_idle (sets s) body) idle in
               let found = has_members (sets s) b members p.0 in
               rw (found.1) (each_idle (λ x. unrolled sets single (bound b var x) body) found.0 s (λ x. nests_idle (bound b var x) body s p.1))
         ]
@@ -94,7 +86,7 @@ module _ {X S : Type 0} (sets : S → Sets) (single : Binding → X → S → Re
     nests_idle : (b : Binding) (ds : Nests X) (s : S) → is_idle (sets s) ds ≡ true → unrolled sets single b ds s ≡ Ok s
     nests_idle b no_nest s h = refl
     nests_idle b (with_nest d ds) s h =
-        let p = both (is_idle_nest (sets s) d) (is_idle (sets s) ds) h in
+        let p = and_parts (is_idle_nest (sets s) d) (is_idle (sets s) ds) h in
         rw (nest_idle b d s p.0) (nests_idle b ds s p.1)
 
 -- ---- the tests, step by step

@@ -21,6 +21,7 @@ use Rattle.tv_expand.specs.Outcome.{◌>>=◌, FailsExpansion}
 use Rattle.tv_flat.specs.Replaced.{Binding}
 use Rattle.tv_expand.specs.Sets.{Sets, find_set, known, members_of}
 use Rattle.tv_expand.specs.Views.{names_of, WordSet, entry_of, sets_of, signed, step_members}
+use Rattle.tv_lemmas.proofs.Options.{is_some-map}
 
 -- a refusal stays one, whatever would come behind it
 pub fails_then : {A B : Type 0} (e : ExpandError) (out : Result A ExpandError) (next : A → Result B ExpandError) → FailsExpansion e out → FailsExpansion e (out >>= next)
@@ -83,12 +84,8 @@ found_set (e ∷ entries) name = by (bytes_eq name e.0.now) (found_set entries n
     by true rest = refl
     by false rest = rest
 
-is_some_map : {A B : Type 0} (f : A → B) (o : Option A) → is_some o ≡ is_some (option_map f o)
-is_some_map f None = refl
-is_some_map f (Some x) = refl
-
 pub set_there : (entries : List (Bor (List ℕ) × WordSet)) (name : List ℕ) → is_some (lookup (λ (k : Bor (List ℕ)). bytes_eq name k.now) entries) ≡ is_some (find_set (sets_of entries) name)
-set_there entries name = rw (found_set entries name) (is_some_map (λ (s : WordSet). names_of s.keys) (lookup (λ (k : Bor (List ℕ)). bytes_eq name k.now) entries))
+set_there entries name = rw (found_set entries name) (is_some-map (λ (s : WordSet). names_of s.keys) (lookup (λ (k : Bor (List ℕ)). bytes_eq name k.now) entries))
 
 pub known_found : (entries : List (Bor (List ℕ) × WordSet)) (name : List ℕ) (w : WordSet) → ◌≡◌ {A = Option WordSet} (Some w) (lookup (λ (k : Bor (List ℕ)). bytes_eq name k.now) entries) → known (find_set (sets_of entries) name) ≡ Ok (names_of w.keys)
 known_found entries name w is = rw (found_set entries name, ← is) refl

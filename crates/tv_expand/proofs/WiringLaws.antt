@@ -17,6 +17,7 @@ use Rattle.tv_expand.specs.Sets.{known}
 use Rattle.indexmap.specs.IndexMap.{insert_entry}
 use Rattle.tv_expand.specs.Expansion.{find_action, same_call}
 use Rattle.tv_expand.specs.Views.{names_of, action_entry_of, actions_of, call_of, calls_of}
+use Rattle.tv_lemmas.proofs.Options.{is_some-map}
 
 -- an action that is looked up
 pub found_action : (entries : List (Bor (List ℕ) × Bor ActionTree)) (name : List ℕ) → find_action (actions_of entries) name ≡ option_map (λ (a : Bor ActionTree). action_of a.now) (lookup (λ (k : Bor (List ℕ)). bytes_eq name k.now) entries)
@@ -27,12 +28,8 @@ found_action (e ∷ entries) name = by (bytes_eq name e.0.now) (found_action ent
     by true rest = refl
     by false rest = rest
 
-is_some_map : {A B : Type 0} (f : A → B) (o : Option A) → is_some o ≡ is_some (option_map f o)
-is_some_map f None = refl
-is_some_map f (Some x) = refl
-
 pub action_there : (entries : List (Bor (List ℕ) × Bor ActionTree)) (name : List ℕ) → is_some (lookup (λ (k : Bor (List ℕ)). bytes_eq name k.now) entries) ≡ is_some (find_action (actions_of entries) name)
-action_there entries name = rw (found_action entries name) (is_some_map (λ (a : Bor ActionTree). action_of a.now) (lookup (λ (k : Bor (List ℕ)). bytes_eq name k.now) entries))
+action_there entries name = rw (found_action entries name) (is_some-map (λ (a : Bor ActionTree). action_of a.now) (lookup (λ (k : Bor (List ℕ)). bytes_eq name k.now) entries))
 
 pub known_action : (entries : List (Bor (List ℕ) × Bor ActionTree)) (name : List ℕ) (a : Bor ActionTree) → ◌≡◌ {A = Option (Bor ActionTree)} (Some a) (lookup (λ (k : Bor (List ℕ)). bytes_eq name k.now) entries) → known (find_action (actions_of entries) name) ≡ Ok (action_of a.now)
 known_action entries name a is = rw (found_action entries name, ← is) refl

@@ -90,7 +90,7 @@ pub enum Ending {
 
 impl Ending {
     /// The ending of a call whose answer was given, which tells of a loss or doesn't.
-    pub fn with(is_lost: bool) -> Ending
+    pub(crate) fn with(is_lost: bool) -> Ending
         ensures { result ≡ ending_with is_lost }
     {
         if is_lost {

@@ -6,7 +6,7 @@ use Rattle.std.specs.Prelude.{if◌then◌else◌}
 use Rattle.std.specs.Map.{lookup}
 use Rattle.std.specs.Option.{option_map}
 use Rattle.std.specs.Str.{bytes_eq}
-use Rattle.std.proofs.lemmas.Bool.{cases_Bool}
+use Rattle.std.proofs.lemmas.Bool.{cases_Bool, false_from_ne_true}
 use Rattle.std.proofs.lemmas.List.{drop_more, drop_all, map_push}
 use Rattle.std.proofs.lemmas.List.Sums.{fold_push}
 use Rattle.std.proofs.lemmas.Slice.Eq.{bytes_eq-Decides}
@@ -51,12 +51,8 @@ replaced_more word found bs i d below = rw (drop_more bs i d below) refl
 pub replaced_done : (word found : List ℕ) (bs : List Bound) (i : ℕ) → length bs ≤ i → fold (further word) found (pairs_of (drop i bs)) ≡ found
 replaced_done word found bs i past = rw (drop_all i bs past) refl
 
-unless : (t : Bool) → (t ≡ true → ⊥) → t ≡ false
-unless true h = absurd (h refl)
-unless false h = refl
-
 differ_back : (k w : List ℕ) → bytes_eq k w ≡ false → bytes_eq w k ≡ false
-differ_back k w h = unless (bytes_eq w k) (λ e. let same : k ≡ w = sym ((bytes_eq-Decides w k).0 e) in let t : bytes_eq k w ≡ true = (bytes_eq-Decides k w).1 same in cc)
+differ_back k w h = false_from_ne_true (bytes_eq w k) (λ e. let same : k ≡ w = sym ((bytes_eq-Decides w k).0 e) in let t : bytes_eq k w ≡ true = (bytes_eq-Decides k w).1 same in cc)
 
 bound_same : (b : Binding) (k v : List ℕ) → lookup (bytes_eq k) (bound b k v) ≡ Some v
 bound_same [] k v = rw ((bytes_eq-Decides k k).1 refl) refl

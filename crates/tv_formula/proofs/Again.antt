@@ -4,6 +4,7 @@ use Rattle.std.proofs.Common.{subst, map, append_assoc}
 use Rattle.std.specs.Prelude.{codes, IfSome, if◌then◌else◌, ◌&&◌, is_some}
 use Rattle.std.specs.Str.{bytes_eq}
 use Rattle.std.proofs.lemmas.Slice.Eq.{bytes_eq-Decides}
+use Rattle.std.proofs.lemmas.Bool.{false_from_ne_true}
 use Rattle.tv_lex.specs.Token.{SpecToken}
 use Rattle.tv_lex.specs.declared.token.TokenKind.{TokenKind}
 use Rattle.tv_lex.specs.declared.token.TokenKind.TheVariants as kind
@@ -26,6 +27,7 @@ use Rattle.tv_formula.specs.Grammar.{differ_leaf, atom_leaf, star_leaf, plus_lea
 use Rattle.tv_formula.specs.Grammar.{binds_all, binds_pairs, Reads, cond, no_cond, joined, further}
 use Rattle.tv_formula.specs.Grammar.{no_further, imp, no_imp, negation, binding, parentheses, leaf, IsFormula}
 use Rattle.tv_formula.specs.Spelled.{kind_of, spell, spelled, EndsAlike, formula_front}
+use Rattle.tv_lemmas.proofs.Bools.{none_alike}
 
 -- ---- identifiers
 
@@ -74,12 +76,8 @@ word_kind : (half name : Bool) (w : List ℕ) → bytes_eq w (codes "1/2") ≡ h
 unfolding kind_of
 word_kind half name w a b c d = rw (a, c, b, d) refl
 
-false_unless : (b : Bool) → (b ≡ true → ⊥) → b ≡ false
-false_unless true h = absurd (h refl)
-false_unless false h = refl
-
 pub ident_kind : (w : List ℕ) → IsIdent w → is_word (kind_of w) ≡ true
-ident_kind w is = word_kind (bytes_eq w (codes "1/2")) (begins_name w) w refl refl (false_unless (bytes_eq w (codes "1/2")) (half_no w is)) (and_left (begins_name w) _ is)
+ident_kind w is = word_kind (bytes_eq w (codes "1/2")) (begins_name w) w refl refl (false_from_ne_true (bytes_eq w (codes "1/2")) (half_no w is)) (and_left (begins_name w) _ is)
 
 -- an identifier is read where it is spelled
 pub ident_again : (w : List ℕ) (end : List SpecToken) → IsIdent w → first identifier_item (spell w ∷ end) ≡ taken w end
@@ -292,10 +290,6 @@ binds_again _ _ _ (binds_pairs ts us vs rest x y a b c) end =
 
 spelled_so : (k : List ℕ) (t : SpecToken) (ts us : List SpecToken) → (if bytes_eq t.bytes k then Some ts else None) ≡ Some us → t.bytes ≡ k
 spelled_so k t ts us is = (bytes_eq-Decides t.bytes k).0 (if_true (bytes_eq t.bytes k) ts us is)
-
-none_alike : {A B : Type 0} (b : Bool) (x : A) (y : B) → (if b then Some x else None) ≡ None → (if b then Some y else None) ≡ None
-none_alike true x y e = cc
-none_alike false x y e = refl
 
 exclamation_no_text : (end : List SpecToken) → first text_item (spell (codes "!") ∷ end) ≡ None
 unfolding first kind_of

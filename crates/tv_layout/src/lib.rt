@@ -6,4 +6,4 @@ mod structure;
 mod text;
 
 pub use structure::take_structure;
-pub use text::{behind, behind_place, split_line, take_number};
+pub use text::{behind, split_line, take_number};

@@ -20,7 +20,7 @@ fn line_len(bytes: &[u8]) -> usize
 }
 
 /// The bytes from a place on.
-pub fn behind_place(bytes: &[u8], at: usize) -> &[u8] {
+pub(crate) fn behind_place(bytes: &[u8], at: usize) -> &[u8] {
     &bytes[at.min(bytes.len())..]
 }
 

@@ -172,7 +172,7 @@ impl<'a> Naming<'a> {
     /// An own variable of a definition or an update: it gets a number of its own, and hides a picked
     /// variable of the same name.
     #[tactic(auto, unfolding(crate::specs::Naming::declared))]
-    pub fn declare(&mut self, name: &'a [u8]) -> Result<u8, ResolveError>
+    pub(crate) fn declare(&mut self, name: &'a [u8]) -> Result<u8, ResolveError>
         ensures { GivesOrRefuses (λ n. (n, naming_of self.new)) result
             (declared name.now (naming_of self.old)) }
     {

@@ -76,7 +76,7 @@ impl Known {
     }
 
     /// Whether the variable is in the set.
-    pub fn has(&self, v: u8) -> bool
+    pub(crate) fn has(&self, v: u8) -> bool
         ensures { result ≡ get_or self.now.flags v false }
     {
         self.has_at(v as usize)

@@ -1,6 +1,7 @@
 -- Each formula begins with a token that can begin one.
-use Rattle.std.proofs.Common.{◌≡◌, ℕ, List, Bool, true, false, Option, Some, None, refl, sym, subst}
+use Rattle.std.proofs.Common.{◌≡◌, ℕ, List, Bool, true, Option, Some, None, refl, sym, subst}
 use Rattle.std.specs.Prelude.{codes, ◌||◌, is_some}
+use Rattle.std.proofs.lemmas.Bool.{or_left, or_right}
 use Rattle.tv_lex.specs.Token.{SpecToken}
 use Rattle.tv_phrases.specs.Reading.{taken, ◌>>=◌}
 use Rattle.tv_phrases.specs.Tokens.{first, identifier_item}
@@ -18,14 +19,6 @@ use Rattle.tv_formula.specs.Grammar.{no_cond, joined, further, no_further, imp, 
 use Rattle.tv_formula.specs.Grammar.{parentheses, leaf}
 use Rattle.tv_parse.specs.Kinds.{begins_formula}
 
-here : (a b : Bool) → a ≡ true → (a || b) ≡ true
-here true b e = refl
-here false b e = absurd cc
-
-there : (a b : Bool) → b ≡ true → (a || b) ≡ true
-there true b e = refl
-there false b e = e
-
 is_there : {A : Type 0} (o : Option A) (x : A) → o ≡ Some x → is_some o ≡ true
 is_there None x e = absurd cc
 is_there (Some y) x e = refl
@@ -33,37 +26,37 @@ is_there (Some y) x e = refl
 -- one of the marks that begin a formula, or else an identifier
 module _ (ts : List SpecToken) where
   from_not : begins_with (codes "!") ts ≡ true → begins_formula ts ≡ true
-  from_not e = here (begins_with (codes "!") ts) _ e
+  from_not e = or_left (begins_with (codes "!") ts) _ e
 
   from_parenthesis : begins_with (codes "(") ts ≡ true → begins_formula ts ≡ true
-  from_parenthesis e = there (begins_with (codes "!") ts) _ (here (begins_with (codes "(") ts) _ e)
+  from_parenthesis e = or_right (begins_with (codes "!") ts) _ (or_left (begins_with (codes "(") ts) _ e)
 
   behind_two : (rest : Bool) → rest ≡ true → (begins_with (codes "!") ts || (begins_with (codes "(") ts || rest)) ≡ true
-  behind_two rest e = there (begins_with (codes "!") ts) _ (there (begins_with (codes "(") ts) rest e)
+  behind_two rest e = or_right (begins_with (codes "!") ts) _ (or_right (begins_with (codes "(") ts) rest e)
 
   behind_values : (rest : Bool) → rest ≡ true → (begins_with (codes "!") ts || (begins_with (codes "(") ts || (begins_with (codes "0") ts || (begins_with (codes "1") ts || (begins_with (codes "1/2") ts || rest))))) ≡ true
-  behind_values rest e = behind_two _ (there (begins_with (codes "0") ts) _ (there (begins_with (codes "1") ts) _ (there (begins_with (codes "1/2") ts) rest e)))
+  behind_values rest e = behind_two _ (or_right (begins_with (codes "0") ts) _ (or_right (begins_with (codes "1") ts) _ (or_right (begins_with (codes "1/2") ts) rest e)))
 
   from_zero : begins_with (codes "0") ts ≡ true → begins_formula ts ≡ true
-  from_zero e = behind_two _ (here (begins_with (codes "0") ts) _ e)
+  from_zero e = behind_two _ (or_left (begins_with (codes "0") ts) _ e)
 
   from_one : begins_with (codes "1") ts ≡ true → begins_formula ts ≡ true
-  from_one e = behind_two _ (there (begins_with (codes "0") ts) _ (here (begins_with (codes "1") ts) _ e))
+  from_one e = behind_two _ (or_right (begins_with (codes "0") ts) _ (or_left (begins_with (codes "1") ts) _ e))
 
   from_half : begins_with (codes "1/2") ts ≡ true → begins_formula ts ≡ true
-  from_half e = behind_two _ (there (begins_with (codes "0") ts) _ (there (begins_with (codes "1") ts) _ (here (begins_with (codes "1/2") ts) _ e)))
+  from_half e = behind_two _ (or_right (begins_with (codes "0") ts) _ (or_right (begins_with (codes "1") ts) _ (or_left (begins_with (codes "1/2") ts) _ e)))
 
   from_some : begins_with (codes "E") ts ≡ true → begins_formula ts ≡ true
-  from_some e = behind_values _ (here (begins_with (codes "E") ts) _ e)
+  from_some e = behind_values _ (or_left (begins_with (codes "E") ts) _ e)
 
   from_all : begins_with (codes "A") ts ≡ true → begins_formula ts ≡ true
-  from_all e = behind_values _ (there (begins_with (codes "E") ts) _ (here (begins_with (codes "A") ts) _ e))
+  from_all e = behind_values _ (or_right (begins_with (codes "E") ts) _ (or_left (begins_with (codes "A") ts) _ e))
 
   from_closure : begins_with (codes "TC") ts ≡ true → begins_formula ts ≡ true
-  from_closure e = behind_values _ (there (begins_with (codes "E") ts) _ (there (begins_with (codes "A") ts) _ (here (begins_with (codes "TC") ts) _ e)))
+  from_closure e = behind_values _ (or_right (begins_with (codes "E") ts) _ (or_right (begins_with (codes "A") ts) _ (or_left (begins_with (codes "TC") ts) _ e)))
 
   from_identifier : (v : List ℕ) (us : List SpecToken) → first identifier_item ts ≡ taken v us → begins_formula ts ≡ true
-  from_identifier v us e = behind_values _ (there (begins_with (codes "E") ts) _ (there (begins_with (codes "A") ts) _ (there (begins_with (codes "TC") ts) _ (is_there (first identifier_item ts) (v, us) e))))
+  from_identifier v us e = behind_values _ (or_right (begins_with (codes "E") ts) _ (or_right (begins_with (codes "A") ts) _ (or_right (begins_with (codes "TC") ts) _ (is_there (first identifier_item ts) (v, us) e))))
 
 from_name : (ts us : List SpecToken) (n : List ℕ × List (List ℕ)) → name ts ≡ taken n us → begins_formula ts ≡ true
 unfolding name

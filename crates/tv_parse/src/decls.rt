@@ -5,7 +5,7 @@ ghost use Rattle.std.specs.Option.{option_map};
 ghost use Rattle.tv_lex.specs.Token.{spec_tokens};
 ghost use Rattle.tv_phrases.specs.Reading.{GivesReading};
 ghost use Rattle.tv_phrases.specs.Tokens.{after};
-ghost use Rattle.tv_tree.specs.Copies.{name_of, set_of, form_of, pred_of, decl_of};
+ghost use Rattle.tv_tree.specs.Copies.{name_of, set_of, form_of, pred_of, pred_of_body, decl_of};
 ghost use Rattle.tv_tree.specs.Forms.{DPred, DSet, DRule, Single};
 ghost use Rattle.tv_parse.specs.Kinds.{begins_decl};
 ghost use Rattle.tv_parse.specs.Reading.{signature, props_reading, skip, set_decl, core_decl, defined_decl};
@@ -18,7 +18,7 @@ use std::alloc::Global;
 use tv_formula::{formula, name_of_phrase, spelling, spellings};
 use tv_lex::Token;
 use tv_phrases::{PhraseError, Read, after, below, expect, identifier, name, params};
-use tv_tree::trees::{Decl, Decls, Name, PredDecl, PropWords, RuleDecl, Spellings};
+use tv_tree::trees::{Decl, Decls, FormulaTree, Name, PredDecl, PropWords, RuleDecl, Spellings};
 
 /// A name with its parameters.
 #[derive(Drop, Debug)]
@@ -79,23 +79,31 @@ fn set_decl<'a>(alloc: Global, bytes: &[u8], tokens: &'a [Token]) -> Read<'a, De
     Ok((Decl::SetDecl { name, members }, rest))
 }
 
+fn pred_decl(signature: Signature, body: Option<FormulaTree>, props: PropWords) -> PredDecl
+    ensures { pred_of result ≡ record {
+      name = name_of signature.name;
+      params = signature.params;
+      body = pred_of_body body;
+      props = props;
+    } }
+{
+    let Signature { name, params } = signature;
+    PredDecl {
+        name,
+        params,
+        body,
+        props,
+    }
+}
+
 #[tactic(auto, unfolding(crate::specs::Reading::core_decl))]
 fn core_decl<'a>(alloc: Global, bytes: &[u8], tokens: &'a [Token]) -> Read<'a, PredDecl>
     ensures { GivesReading (λ x. (DPred (pred_of x.0), spec_tokens bytes.now x.1.now)) result
         (core_decl (spec_tokens bytes.now tokens.now)) }
 {
-    let (Signature { name, params }, behind) = signature_at(alloc, bytes, tokens)?;
+    let (signature, behind) = signature_at(alloc, bytes, tokens)?;
     let (props, rest) = props_at(alloc, bytes, behind)?;
-    let body = None;
-    Ok((
-        PredDecl {
-            name,
-            params,
-            body,
-            props,
-        },
-        rest,
-    ))
+    Ok((pred_decl(signature, None, props), rest))
 }
 
 #[tactic(auto, unfolding(crate::specs::Reading::defined_decl))]
@@ -103,20 +111,11 @@ fn defined_decl<'a>(alloc: Global, bytes: &[u8], tokens: &'a [Token]) -> Read<'a
     ensures { GivesReading (λ x. (DPred (pred_of x.0), spec_tokens bytes.now x.1.now)) result
         (defined_decl (spec_tokens bytes.now tokens.now)) }
 {
-    let (Signature { name, params }, next) = signature_at(alloc, bytes, tokens)?;
+    let (signature, next) = signature_at(alloc, bytes, tokens)?;
     let behind = expect(bytes, next, b"=")?;
-    let (formula, end) = formula(alloc, bytes, behind)?;
+    let (body, end) = formula(alloc, bytes, behind)?;
     let (props, rest) = props_at(alloc, bytes, end)?;
-    let body = Some(formula);
-    Ok((
-        PredDecl {
-            name,
-            params,
-            body,
-            props,
-        },
-        rest,
-    ))
+    Ok((pred_decl(signature, Some(body), props), rest))
 }
 
 #[tactic(auto, unfolding(crate::specs::Reading::rule_decl))]

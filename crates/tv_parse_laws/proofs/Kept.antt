@@ -3,6 +3,7 @@ use Rattle.std.proofs.Common.{◌≡◌, ℕ, List, [], ◌∷◌, Bool, true, f
 use Rattle.std.proofs.Common.{ap, subst}
 use Rattle.std.specs.Prelude.{codes, is_some, if◌then◌else◌, ◌||◌}
 use Rattle.std.specs.Str.{bytes_eq}
+use Rattle.std.proofs.lemmas.Option.{same_Some}
 use Rattle.tv_lex.specs.Token.{SpecToken}
 use Rattle.tv_phrases.specs.Reading.{taken, ◌>>=◌, choose}
 use Rattle.tv_phrases.specs.Tokens.{after, first, text_item}
@@ -13,6 +14,7 @@ use Rattle.tv_phrases.specs.Repeated.{begins_with}
 use Rattle.tv_parse.specs.Grammar.{begins_prop}
 use Rattle.tv_parse_laws.specs.ReadAgain.{Kept, all_kept, one_kept, mark_left}
 use Rattle.tv_parse_laws.proofs.Exact.{Tokens, Exact}
+use Rattle.tv_lemmas.proofs.Bools.{none_alike}
 
 pub kept_spelled : (ws : List (List ℕ)) (ts us : List SpecToken) → Kept ts us → Kept (spelled ws ts) (spelled ws us)
 kept_spelled [] ts us kept = kept
@@ -41,18 +43,11 @@ kept_head _ _ (all_kept ts) = refl
 kept_head _ _ (one_kept t ts us kept) = refl
 kept_head _ _ (mark_left w ts us is kept) = refl
 
-some_same : {A : Type 0} (x y : A) → Some x ≡ Some y → x ≡ y
-some_same x y e = cc
-
-none_alike : {A B : Type 0} (b : Bool) (x : A) (y : B) → (if b then Some x else None) ≡ None → (if b then Some y else None) ≡ None
-none_alike true x y e = cc
-none_alike false x y e = refl
-
 pub lacks_head : (m : List ℕ) (ts us : List SpecToken) → SameHead ts us → after m ts ≡ None → after m us ≡ None
 unfolding after
 lacks_head m ts [] same lacks = refl
 lacks_head m [] (u ∷ us) same lacks = absurd cc
-lacks_head m (t ∷ ts) (u ∷ us) same lacks = subst (λ (x : SpecToken). (if bytes_eq x.bytes m then Some us else None) ≡ None) (some_same t u same) (none_alike (bytes_eq t.bytes m) ts us lacks)
+lacks_head m (t ∷ ts) (u ∷ us) same lacks = subst (λ (x : SpecToken). (if bytes_eq x.bytes m then Some us else None) ≡ None) (same_Some t u same) (none_alike (bytes_eq t.bytes m) ts us lacks)
 
 some_alike : {X : Type 0} (o : Option X) (ts us : List SpecToken) → is_some (o >>= λ x. taken x ts) ≡ is_some (o >>= λ x. taken x us)
 some_alike None ts us = refl
@@ -63,7 +58,7 @@ unfolding first
 first_head item [] [] same = refl
 first_head item [] (u ∷ us) same = absurd cc
 first_head item (t ∷ ts) [] same = absurd cc
-first_head item (t ∷ ts) (u ∷ us) same = some_alike (item t) ts us ∙ ap (λ (x : SpecToken). is_some (item x >>= λ y. taken y us)) (some_same t u same)
+first_head item (t ∷ ts) (u ∷ us) same = some_alike (item t) ts us ∙ ap (λ (x : SpecToken). is_some (item x >>= λ y. taken y us)) (same_Some t u same)
 
 if_alike : (b : Bool) (ts us : List SpecToken) → is_some (if b then Some ts else None) ≡ is_some (if b then Some us else None)
 if_alike true ts us = refl
@@ -74,7 +69,7 @@ unfolding after
 begins_head m [] [] same = refl
 begins_head m [] (u ∷ us) same = absurd cc
 begins_head m (t ∷ ts) [] same = absurd cc
-begins_head m (t ∷ ts) (u ∷ us) same = if_alike (bytes_eq t.bytes m) ts us ∙ ap (λ (x : SpecToken). is_some (if bytes_eq x.bytes m then Some us else None)) (some_same t u same)
+begins_head m (t ∷ ts) (u ∷ us) same = if_alike (bytes_eq t.bytes m) ts us ∙ ap (λ (x : SpecToken). is_some (if bytes_eq x.bytes m then Some us else None)) (same_Some t u same)
 
 pub decl_head : (ts us : List SpecToken) → SameHead ts us → begins_decl ts ≡ begins_decl us
 decl_head ts us same = λ i. first_head decl_kind ts us same i || begins_head (codes "foreach") ts us same i

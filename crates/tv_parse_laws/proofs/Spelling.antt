@@ -6,8 +6,7 @@ use Rattle.std.specs.List.{list_all, AllByRecursion}
 use Rattle.std.specs.Char.{is_ascii_digit}
 use Rattle.std.specs.Int.{is_in_range}
 use Rattle.std.specs.Str.{bytes_eq}
-use Rattle.std.proofs.lemmas.Bool.{and_parts, false_from_ne_true, false≢true}
-use Rattle.std.proofs.lemmas.Slice.Eq.{bytes_eq-Decides}
+use Rattle.std.proofs.lemmas.Bool.{and_parts, false≢true}
 use Rattle.tv_lex.specs.Bytes.{is_word_byte, is_letter}
 use Rattle.tv_lex.specs.Token.{SpecToken}
 use Rattle.tv_lex.specs.Pieces.{Stands, IsRunOf, IsOneOf, punctuations}
@@ -16,9 +15,7 @@ use Rattle.tv_lex.specs.declared.token.TokenKind.{TokenKind}
 use Rattle.tv_lex.specs.declared.token.TokenKind.TheVariants as kind
 use Rattle.tv_phrases.specs.Tokens.{begins_name}
 use Rattle.tv_formula.specs.Spelled.{kind_of, spell}
-
-not_spelled : (w m : List ℕ) → (w ≡ m → ⊥) → bytes_eq w m ≡ false
-not_spelled w m apart = false_from_ne_true (bytes_eq w m) (λ h. apart ((bytes_eq-Decides w m).0 h))
+use Rattle.tv_lemmas.proofs.Texts.{texts_differ}
 
 -- ---- words
 
@@ -43,7 +40,7 @@ run_kind [] run = absurd (omega (arith, run.0))
 run_kind (c ∷ cs) run =
     let first_ : is_word_byte c ≡ true = (and_parts (is_word_byte c) (list_all is_word_byte cs) run.1).0 in
     word_kind (bytes_eq (c ∷ cs) (codes "1/2")) (begins_name (c ∷ cs)) (is_ascii_digit c) (c ∷ cs) refl refl refl
-    (not_spelled (c ∷ cs) (codes "1/2") (λ e. false≢true (subst (λ z. IsTrue (list_all is_word_byte z)) e run.1)))
+    (texts_differ (c ∷ cs) (codes "1/2") (λ e. false≢true (subst (λ z. IsTrue (list_all is_word_byte z)) e run.1)))
     (name_or_digit (is_ascii_digit c) (is_in_range 65 90 c) (is_in_range 97 122 c) (c == 95) first_)
 
 -- ---- the other kinds
@@ -51,7 +48,7 @@ run_kind (c ∷ cs) run =
 directive_kind : (name : List ℕ) → IsRunOf is_letter name → kind_of (37 ∷ name) ≡ kind.Directive
 unfolding kind_of
 directive_kind name run =
-    let apart : bytes_eq (37 ∷ name) (codes "%%") ≡ false = not_spelled (37 ∷ name) (codes "%%") (λ e. false≢true (subst (λ z. IsTrue (list_all is_letter (drop 1 z))) e run.1)) in
+    let apart : bytes_eq (37 ∷ name) (codes "%%") ≡ false = texts_differ (37 ∷ name) (codes "%%") (λ e. false≢true (subst (λ z. IsTrue (list_all is_letter (drop 1 z))) e run.1)) in
     rw apart refl
 
 one_kind : (ms : List (List ℕ)) (w : List ℕ) → AllByRecursion (λ m. kind_of m ≡ kind.Punct) ms → IsOneOf ms w → kind_of w ≡ kind.Punct

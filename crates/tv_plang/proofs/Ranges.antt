@@ -1,17 +1,11 @@
 -- Lists over numbers in order, by one number more.
-use Rattle.std.proofs.Common.{ℕ, ◌≡◌, ◌+◌, ◌∙◌, zero, suc, List, [], ◌∷◌, ◌++◌, map, sym, ap, arith}
+use Rattle.std.proofs.Common.{ℕ, ◌≡◌, ◌+◌, ◌∙◌, List, [], ◌∷◌, ◌++◌, map, sym, ap, arith}
 use Rattle.std.proofs.Common.{append_assoc, append-nil}
-use Rattle.std.specs.List.{flat_map, range_with_len}
+use Rattle.std.specs.List.{flat_map}
 use Rattle.std.proofs.lemmas.Grind.{flat_map-append}
 use Rattle.std.proofs.lemmas.List.FromFn.{map-range_with_len_more}
 use Rattle.tv_plang_laws.specs.Compiled.{numbers_below}
-
-range-more : (a n : ℕ) → range_with_len a (n + 1) ≡ range_with_len a n ++ (a + n) ∷ []
-range-more a zero = ap (λ k. k ∷ []) (omega arith)
-range-more a (suc n) =
-    let same : (a + 1) + n ≡ a + suc n = omega arith
-    in let more : suc n + 1 ≡ suc (n + 1) = omega arith
-    in ap (range_with_len a) more ∙ ap (λ xs. a ∷ xs) (range-more (a + 1) n ∙ ap (λ k. range_with_len (a + 1) n ++ k ∷ []) same)
+use Rattle.tv_lemmas.proofs.Lists.{range_more}
 
 -- what is put behind a mapped range makes the longer one
 pub mapped_more : {X : Type 0} (g : ℕ → X) (n : ℕ) (start out longer : List X) (x : X) → out ≡ start ++ map g (numbers_below n) → x ≡ g n
@@ -32,4 +26,4 @@ flat_mapped_more g n start out longer so_far grown =
     ∙ ap (λ xs. xs ++ g n) so_far
     ∙ append_assoc start (flat_map g (numbers_below n)) (g n)
     ∙ sym (ap (λ xs. start ++ xs)
-    (ap (flat_map g) (range-more 0 n) ∙ flat_map-append g (numbers_below n) ((0 + n) ∷ []) ∙ ap (λ xs. flat_map g (numbers_below n) ++ xs) last_one))
+    (ap (flat_map g) (range_more 0 n) ∙ flat_map-append g (numbers_below n) ((0 + n) ∷ []) ∙ ap (λ xs. flat_map g (numbers_below n) ++ xs) last_one))

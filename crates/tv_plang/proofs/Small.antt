@@ -1,15 +1,18 @@
 -- The limits of compiled programs, by what is counted before and while they are built.
 use Rattle.std.proofs.Common.{ℕ, ◌≡◌, ◌≤◌, ◌<◌, ◌+◌, ◌*◌, ◌∙◌, zero, suc, List, ◌++◌, length, map, arith}
-use Rattle.std.proofs.Common.{length-append}
+use Rattle.std.proofs.Common.{ap, length-append, sym}
 use Rattle.std.specs.List.{flat_map, range_with_len}
 use Rattle.std.proofs.lemmas.List.{length-map}
 use Rattle.std.proofs.lemmas.List.FromFn.{length-range_with_len}
+use Rattle.tv_model.specs.Valid.{first_occurrences}
 use Rattle.tv_source.specs.Forms.{SourceForm}
-use Rattle.tv_plang_laws.specs.Compiled.{IsSmall, compiled, compiled_preds, field_pred, node_name}
+use Rattle.tv_plang_laws.specs.Compiled.{IsSmall, compiled, compiled_preds, ends, field_pred, node_name}
 use Rattle.tv_plang_laws.specs.Compiled.{node_positions, numbers_below, program_arcs, reach_pred, reach_preds}
 use Rattle.tv_plang_laws.specs.Compiled.{variable_pred}
 use Rattle.tv_plang_laws.specs.Positions.{last}
 use Rattle.tv_plang_laws.proofs.Valid.{block-count, edges-length}
+use Rattle.tv_plang.specs.Arcs.{arc_of, arcs_of}
+use Rattle.tv_plang.specs.declared.arcs.Arc.{Arc}
 use Rattle.tv_plang.specs.Limits.{HasFewNames, HasFewPredicates}
 
 flat-length : {X : Type 0} (g : ℕ → List X) (k : ℕ) → ((i : ℕ) → length (g i) ≡ k) → (a n : ℕ)
@@ -61,3 +64,15 @@ small-from p few edges nodes = record {
   nodes = omega (arith, nodes, length-map (node_positions p) (node_name (last p)));
   edges = omega (arith, edges, edges-length p 0 (program_arcs p));
 }
+
+-- as many edges as were built
+pub edges-built : (p : SourceForm) (built : List Arc) → arcs_of built ≡ program_arcs p
+    → length (program_arcs p) ≡ length built
+edges-built p built is = ap length (sym is) ∙ length-map built arc_of
+
+-- as many nodes as places were seen in what was built
+pub nodes-built : (p : SourceForm) (built seen : List Arc) (places : List ℕ)
+    → arcs_of built ≡ program_arcs p → seen ≡ built → places ≡ first_occurrences (flat_map ends (arcs_of seen))
+    → length places ≡ length (node_positions p)
+nodes-built p built seen places is same are = ap length (are ∙ ap (λ xs. first_occurrences (flat_map ends (arcs_of xs))) same
+    ∙ ap (λ xs. first_occurrences (flat_map ends xs)) is)

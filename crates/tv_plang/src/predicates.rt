@@ -11,7 +11,7 @@ ghost use Rattle.tv_plang.specs.Limits.{HasFewNames};
 
 use crate::formulas::{both, either, one_place, some, two_places};
 use std::alloc::{AllocError, Global};
-use tv_model::{Bytes, Formula, Items, Kind, Names, Pred, Props, Terms, Var};
+use tv_model::{Bytes, Formula, Items, Kind, NO_PROPS, Names, Pred, Props, Terms, Var};
 use tv_source::Source;
 
 /// The name at the place, or no bytes where there is none.
@@ -24,15 +24,6 @@ pub fn name_at(names: &Names, place: u32) -> &[u8]
     }
 }
 
-const NO_PROPS: Props = Props {
-    unique: false,
-    function: false,
-    invfunction: false,
-    transitive: false,
-    reflexive: false,
-    symmetric: false,
-};
-
 fn variable_predicate(alloc: Global, name: &Bytes) -> Result<Pred, AllocError>
     ensures { IfOk result (λ d. pred_of d ≡ variable_pred name.now) }
 {
@@ -43,11 +34,7 @@ fn variable_predicate(alloc: Global, name: &Bytes) -> Result<Pred, AllocError>
         abs: true,
         props: Props {
             unique: true,
-            function: false,
-            invfunction: false,
-            transitive: false,
-            reflexive: false,
-            symmetric: false,
+            ..NO_PROPS
         },
     })
 }
@@ -61,12 +48,8 @@ fn field_predicate(alloc: Global, name: &Bytes) -> Result<Pred, AllocError>
         kind: Kind::Core,
         abs: true,
         props: Props {
-            unique: false,
             function: true,
-            invfunction: false,
-            transitive: false,
-            reflexive: false,
-            symmetric: false,
+            ..NO_PROPS
         },
     })
 }

@@ -5,7 +5,7 @@ use Rattle.std.proofs.Common.{arith, All, AllPairs, Contains, slice_get, eq-eqb}
 use Rattle.std.specs.Prelude.{codes}
 use Rattle.std.specs.Option.{option_map}
 use Rattle.std.specs.List.{list_all}
-use Rattle.std.proofs.lemmas.Bool.{leb-true}
+use Rattle.std.proofs.lemmas.Bool.{leb-true, and_parts}
 use Rattle.std.proofs.lemmas.List.Elements.{All-nil, All-cons, All-append, All-weaker}
 use Rattle.std.proofs.lemmas.List.Kept.{AllPairs-cons}
 use Rattle.std.proofs.lemmas.Option.{slice_get-map}
@@ -129,16 +129,12 @@ word-text b (inl (inr at)) = (omega (arith, at.0), omega (arith, at.1), λ e. om
 word-text b (inr (inl at)) = (omega (arith, at.0), omega (arith, at.1), λ e. omega (arith, at.0, e))
 word-text b (inr (inr is)) = (omega (arith, is), omega (arith, is), λ e. omega (arith, is, e))
 
-and_true : (b c : Bool) → (b && c) ≡ true → (b ≡ true) × (c ≡ true)
-and_true true c both = (refl, both)
-and_true false c both = absurd (cc both)
-
 text-all : (xs : List ℕ) → list_all (λ b. leb 32 b && (leb b 126 && not (eqb b 34))) xs ≡ true → All IsTextByte xs
 text-all [] passes = All-nil IsTextByte
 text-all (b ∷ xs) passes =
-    let both = and_true (leb 32 b && (leb b 126 && not (eqb b 34))) (list_all (λ c. leb 32 c && (leb c 126 && not (eqb c 34))) xs) passes
-    in let one = and_true (leb 32 b) (leb b 126 && not (eqb b 34)) both.0
-    in let two = and_true (leb b 126) (not (eqb b 34)) one.1
+    let both = and_parts (leb 32 b && (leb b 126 && not (eqb b 34))) (list_all (λ c. leb 32 c && (leb c 126 && not (eqb c 34))) xs) passes
+    in let one = and_parts (leb 32 b) (leb b 126 && not (eqb b 34)) both.0
+    in let two = and_parts (leb b 126) (not (eqb b 34)) one.1
     in All-cons IsTextByte b xs (leb-true 32 b one.0, leb-true b 126 two.0, λ e. other (eqb b 34) two.1 (eq-eqb b 34 e)) (text-all xs both.1)
   where
     other : (flag : Bool) → not flag ≡ true → flag ≡ true → ⊥

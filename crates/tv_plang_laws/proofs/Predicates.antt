@@ -1,14 +1,13 @@
 -- The predicates of a compiled program, by their numbers.
 use Rattle.std.proofs.Common.{ℕ, ◌≡◌, ◌≤◌, ◌<◌, ◌+◌, ◌⊎◌, ◌∙◌, zero, suc, List, [], ◌∷◌, ◌++◌, length, map}
 use Rattle.std.proofs.Common.{Some, slice_get, get_or, ap, inl, inr, ⊎_elim, refl, arith, Contains}
-use Rattle.std.specs.List.{range_with_len}
 use Rattle.std.proofs.lemmas.List.{length-map}
 use Rattle.tv_model.specs.Program.{PredForm}
-use Rattle.tv_model.proofs.Lists.{Contains-none, Contains-cases, Contains-map_back, Contains-flat_map_back}
-use Rattle.tv_model.proofs.Lists.{slice_get-contains}
+use Rattle.tv_model.proofs.Lists.{slice_get-contains, Contains-map_back, Contains-flat_map_back}
 use Rattle.tv_source.specs.Forms.{SourceForm}
 use Rattle.tv_plang_laws.specs.Compiled.{compiled_preds, field_number, field_pred, numbers_below, reach_pred}
 use Rattle.tv_plang_laws.specs.Compiled.{reach_preds, variable_pred}
+pub use Rattle.tv_lemmas.proofs.Lists.{range_below as range-below}
 
 -- ---- lists
 
@@ -39,14 +38,6 @@ pub map-at : {X Y : Type 0} (f : X → Y) (xs : List X) (i : ℕ) (y : Y) → sl
 map-at f [] i y found = absurd (cc found)
 map-at f (x ∷ xs) zero y found = (x, refl, cc found)
 map-at f (x ∷ xs) (suc i) y found = map-at f xs i y found
-
-pub range-below : (a n k : ℕ) → Contains (range_with_len a n) k → k < a + n
-range-below a zero k at = absurd (Contains-none k at)
-range-below a (suc n) k at =
-    ⊎_elim
-    (λ e. omega (arith, e))
-    (λ there. omega (arith, range-below (a + 1) n k there))
-    (Contains-cases a k (range_with_len (a + 1) n) at)
 
 pub mapped-at : {X Y : Type 0} (f : X → Y) (xs : List X) (i : ℕ) (d : X) → i < length xs → slice_get (map f xs) i ≡ Some (f (get_or xs i d))
 mapped-at f [] i d below = absurd (omega (arith, below))

@@ -34,7 +34,7 @@ impl Variables {
 
     /// Whether the variable is in the set.
     #[inline(always)]
-    pub fn has(&self, v: Var) -> bool
+    pub(crate) fn has(&self, v: Var) -> bool
         ensures { result ≡ get_or self.now.flags v.0 false }
     {
         if v.0 < 32 {

@@ -20,7 +20,7 @@ pub struct RealSink<W> {
 
 impl<W: Write> RealSink<W> {
     /// A sink over this writer.
-    pub fn new(writer: W) -> RealSink<W>
+    pub(crate) fn new(writer: W) -> RealSink<W>
         ensures faults { result.faults ≡ 0 }
         ensures failures { result.failures ≡ 0 }
         ensures since { result.since ≡ 0 }

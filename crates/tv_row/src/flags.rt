@@ -59,21 +59,6 @@ impl Flags {
         })
     }
 
-    /// How many flags there are.
-    pub fn count(&self) -> usize
-        ensures { result ≡ length self.now }
-    {
-        self.count
-    }
-
-    /// The flag of the number.
-    pub fn get(&self, number: usize) -> bool
-        requires { number < length self.now }
-        ensures { result ≡ slice_index_or self.now number false }
-    {
-        (self.words[number / 64] >> (number % 64)) & 1 == 1
-    }
-
     /// Puts the flag of the number, and changes no other.
     pub fn put(&mut self, number: usize, on: bool)
         requires { number < length self.old }

@@ -19,6 +19,6 @@ pub use drawing::Drawing;
 pub use flags::Flags;
 pub use half::HalfRow;
 pub use mixed::mix;
-pub use packed::{PackedWords, cells_for};
+pub use packed::PackedWords;
 pub use row::Row;
 pub use word::Word;

@@ -40,7 +40,7 @@ impl Model for PackedWords {
 
 /// How many values of a word are used for rows of that many values: all of them, or the least number that is
 /// a power of two and that a row fits.
-pub fn cells_for(columns: u32) -> u32
+fn cells_for(columns: u32) -> u32
     ensures { result ≡ cells_for columns }
 {
     if columns <= 1 {
@@ -151,7 +151,7 @@ impl PackedWords {
 
     /// The word at a place.
     #[inline(always)]
-    pub fn word(&self, place: usize) -> Word
+    pub(crate) fn word(&self, place: usize) -> Word
         requires { place < length self.now.words }
         ensures value { result ≡ word_at self.now.words place }
         ensures long { length result ≡ 64 }

@@ -133,7 +133,7 @@ impl Word {
 
     /// The lesser of each value and `k`.
     #[inline(always)]
-    pub fn capped(self, k: K3) -> Word
+    pub(crate) fn capped(self, k: K3) -> Word
         ensures { result ≡ map (smaller_of k) self }
     {
         match k {
@@ -171,7 +171,7 @@ impl Word {
 
     /// The place of the first `Yes` at or after `from`.
     #[inline(always)]
-    pub fn first_yes(self, from: u32) -> Option<u32>
+    pub(crate) fn first_yes(self, from: u32) -> Option<u32>
         requires { from ≤ 64 }
         ensures { IsFirstFrom (λ j. slice_index_or self j No ≡ Yes) (λ j. slice_index_or self j No ≢ Yes)
             from 64 result }

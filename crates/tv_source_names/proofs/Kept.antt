@@ -2,9 +2,9 @@
 use Rattle.std.proofs.Common.{◌≡◌, ◌≢◌, ℕ, ◌+◌, ◌<◌, ◌≤◌, ◌^◌, Bool, true, false, get_or, List, [], ◌∷◌, ◌++◌}
 use Rattle.std.proofs.Common.{Ok, Err, Result, Option, Some, None, length, refl, sym, ap, ◌∙◌, subst}
 use Rattle.std.proofs.Common.{append_assoc, arith, Bor}
-use Rattle.std.specs.Prelude.{All, AllPairs, IfOk, map, codes, ◌||◌}
+use Rattle.std.specs.Prelude.{All, AllPairs, IfOk, map, codes}
 use Rattle.std.specs.Str.{bytes_eq}
-use Rattle.std.proofs.lemmas.Bool.{both_ways}
+use Rattle.std.proofs.lemmas.Bool.{both_ways, or_parts}
 use Rattle.std.proofs.lemmas.List.{append-nil, length-map}
 use Rattle.std.proofs.lemmas.List.Elements.{All-nil, All-push}
 use Rattle.std.proofs.lemmas.List.Folds.{list_any_at}
@@ -62,16 +62,12 @@ two_flags true b e = absurd cc
 two_flags false true e = absurd cc
 two_flags false false e = (refl, refl)
 
-neither : (a b : Bool) → (a || b) ≡ false → (a ≡ false) × (b ≡ false)
-neither true b e = absurd cc
-neither false b e = (refl, e)
-
 other_word : (w k : List ℕ) → bytes_eq w k ≡ false → w ≢ k
 other_word w k e = λ same. both_ways (bytes_eq w k) e ((bytes_eq-Decides w k).1 same)
 
 free_word : (w : List ℕ) → is_taken w ≡ false → IsFree w
 free_word w e =
-    let both = neither (bytes_eq w (codes "sm")) (bytes_eq w (codes "isNew")) e in
+    let both = or_parts (bytes_eq w (codes "sm")) (bytes_eq w (codes "isNew")) e in
     (other_word w (codes "sm") both.0, other_word w (codes "isNew") both.1)
 
 none_before : (before : List (List ℕ)) (w : List ℕ) → is_among before w ≡ false → (k : ℕ) (d : List ℕ) → k < length before → get_or before k d ≢ w

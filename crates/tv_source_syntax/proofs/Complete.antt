@@ -4,6 +4,7 @@ use Rattle.std.proofs.Common.{Some, None, refl, sym, ◌∙◌, ap, subst, inl, 
 use Rattle.std.specs.Prelude.{◌==◌, ◌&&◌, codes, if◌then◌else◌}
 use Rattle.std.specs.Str.{bytes_eq}
 use Rattle.std.proofs.lemmas.Slice.Eq.{bytes_eq-Decides}
+use Rattle.std.proofs.lemmas.Bool.{false_from_ne_true}
 use Rattle.tv_lex.specs.Token.{SpecToken}
 use Rattle.tv_phrases.specs.Reading.{taken, ◌>>=◌}
 use Rattle.tv_phrases.specs.Tokens.{after, first, is_word, is_identifier, identifier_item, Begins}
@@ -50,10 +51,6 @@ first_word : (t : SpecToken) (ts us : List SpecToken) (x : List ℕ) → first i
 unfolding first
 first_word t ts us x is = item_word (is_word t.kind && is_identifier t.bytes) t.bytes x ts us is
 
-false_unless : (b : Bool) → (b ≡ true → ⊥) → b ≡ false
-false_unless true h = absurd (h refl)
-false_unless false h = refl
-
 -- where a name stands no word of the language does
 own_word_lacks : (k : List ℕ) (ts us : List SpecToken) (x : List ℕ) → is_own_word k ≡ true → IsName ts x us → after k ts ≡ None
 unfolding after
@@ -61,7 +58,7 @@ own_word_lacks k [] us x own is = refl
 own_word_lacks k (t ∷ ts) us x own is =
     let parts = name_parts (t ∷ ts) us x is in
     let word : t.bytes ≡ x = first_word t ts us x parts.0 in
-    let other : bytes_eq t.bytes k ≡ false = false_unless (bytes_eq t.bytes k) (λ e.
+    let other : bytes_eq t.bytes k ≡ false = false_from_ne_true (bytes_eq t.bytes k) (λ e.
     let same : x ≡ k = sym word ∙ (bytes_eq-Decides t.bytes k).0 e in
     let plain : is_own_word k ≡ false = subst (λ w. is_own_word w ≡ false) same parts.1 in
     cc) in

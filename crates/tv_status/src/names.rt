@@ -122,7 +122,7 @@ fn source_name(error: SourceError) -> &'static [u8]
 
 impl Role {
     /// The word for it in an error text.
-    pub fn name(self) -> &'static [u8]
+    pub(crate) fn name(self) -> &'static [u8]
         ensures { result.now ≡ role_name self }
     {
         match self {
@@ -138,7 +138,7 @@ impl Role {
 
 impl FileKind {
     /// The word for it in an error text.
-    pub fn name(self) -> &'static [u8]
+    pub(crate) fn name(self) -> &'static [u8]
         ensures { result.now ≡ kind_name self }
     {
         match self {
@@ -155,7 +155,7 @@ impl FileKind {
     }
 
     /// The place in the file that it carries.
-    pub fn place(self) -> Option<Place>
+    pub(crate) fn place(self) -> Option<Place>
         ensures { result ≡ place_of self }
     {
         match self {

@@ -1,27 +1,16 @@
 -- Cycles of definitions: the decision is right, and without one there are ranks.
-use Rattle.std.proofs.Common.{◌≡◌, ℕ, zero, suc, ◌+◌, ◌<◌, ◌≤◌, ◌⊎◌, inl, inr, Bool, true, false, ◌&&◌, ◌||◌}
+use Rattle.std.proofs.Common.{◌≡◌, ℕ, zero, suc, ◌+◌, ◌<◌, ◌≤◌, ◌⊎◌, inl, inr, Bool, true, false, ◌&&◌}
 use Rattle.std.proofs.Common.{cond, get_or, List, [], ◌∷◌, ◌++◌, length, refl, ap, sym, subst, ◌∙◌, arith}
 use Rattle.std.specs.Prelude.{Contains, nat_lt, ◌==◌}
 use Rattle.std.specs.List.{list_any}
-use Rattle.std.proofs.lemmas.Bool.{true≢false, false≢true}
+use Rattle.std.proofs.lemmas.Bool.{true≢false, false≢true, and_from, cases_lt, or_cases, or_left, or_right}
 use Rattle.std.proofs.lemmas.Bool.Decides.{nat_tests}
 use Rattle.tv_model.specs.Truth.{IsWalk}
 use Rattle.tv_vocab.specs.Cycles.{mentioned_at, MentionsPred, RestsOn, HasCycle, HasRanks, rests_below}
 use Rattle.tv_vocab.specs.Cycles.{some_below, has_cycle, CyclesAreFound, AcyclicHasRanks}
+pub use Rattle.tv_model.proofs.Walks.{IsWalk-join as walk_join}
 
 -- ---- tests
-
-or_cases : (a b : Bool) → (a || b) ≡ true → (a ≡ true) ⊎ (b ≡ true)
-or_cases true b h = inl refl
-or_cases false b h = inr h
-
-or_first : (a b : Bool) → a ≡ true → (a || b) ≡ true
-or_first true b h = refl
-or_first false b h = absurd (false≢true h)
-
-or_second : (a b : Bool) → b ≡ true → (a || b) ≡ true
-or_second true b h = refl
-or_second false b h = h
 
 record Both (a b : Bool) : Type 0 where
   one : a ≡ true
@@ -30,10 +19,6 @@ record Both (a b : Bool) : Type 0 where
 and_both : (a b : Bool) → (a && b) ≡ true → Both a b
 and_both true b h = record { one = refl; two = h }
 and_both false b h = absurd (false≢true h)
-
-and_join : (a b : Bool) → a ≡ true → b ≡ true → (a && b) ≡ true
-and_join true b h k = k
-and_join false b h k = absurd (false≢true h)
 
 same_number : (m n : ℕ) → (m == n) ≡ true → m ≡ n
 same_number m n h = grind (arith, nat_tests)
@@ -46,11 +31,6 @@ less_or_last zero zero lt = inr refl
 less_or_last zero (suc n) lt = inl (omega arith)
 less_or_last (suc x) zero lt = absurd (omega arith)
 less_or_last (suc x) (suc n) lt = elim (less_or_last x n (omega arith)) [ inl e ↦ inl (omega (arith, e)) | inr e ↦ inr (ap suc e) ]
-
-less_or_not : (x n : ℕ) → (x < n) ⊎ (n ≤ x)
-less_or_not x zero = inr (omega arith)
-less_or_not zero (suc n) = inl (omega arith)
-less_or_not (suc x) (suc n) = elim (less_or_not x n) [ inl e ↦ inl (omega (arith, e)) | inr e ↦ inr (omega (arith, e)) ]
 
 -- ---- mentions
 
@@ -67,8 +47,8 @@ found q (x ∷ xs) h = found_by q x xs (found q xs) (or_cases (x == q) (list_any
 
 found_at : (q : ℕ) (xs : List ℕ) (k : ℕ) → k < length xs → get_or xs k q ≡ q → list_any (λ r. r == q) xs ≡ true
 found_at q [] k lt e = absurd (omega arith)
-found_at q (x ∷ xs) zero lt e = or_first (x == q) (list_any (λ r. r == q) xs) (number_same x q e)
-found_at q (x ∷ xs) (suc k) lt e = or_second (x == q) (list_any (λ r. r == q) xs) (found_at q xs k (omega arith) e)
+found_at q (x ∷ xs) zero lt e = or_left (x == q) (list_any (λ r. r == q) xs) (number_same x q e)
+found_at q (x ∷ xs) (suc k) lt e = or_right (x == q) (list_any (λ r. r == q) xs) (found_at q xs k (omega arith) e)
 
 among : (q : ℕ) (xs : List ℕ) → Contains xs q → list_any (λ r. r == q) xs ≡ true
 among q xs h = found_at q xs h.0 h.1 h.2
@@ -83,10 +63,6 @@ inside (x ∷ uses) zero q h = omega arith
 inside (x ∷ uses) (suc p) q h = let lt = inside uses p q h in omega (arith, lt)
 
 -- ---- chains
-
-pub walk_join : (R : ℕ → ℕ → Type 0) (u v w : ℕ) (xs ys : List ℕ) → IsWalk R u xs v → IsWalk R v ys w → IsWalk R u (xs ++ v ∷ ys) w
-walk_join R u v w [] ys h k = (h, k)
-walk_join R u v w (x ∷ xs) ys h k = (h.0, walk_join R x v w xs ys h.1 k)
 
 pub rests_then : (uses : List (List ℕ)) (p q r : ℕ) → RestsOn uses p q → RestsOn uses q r → RestsOn uses p r
 rests_then uses p q r h k = (h.0 ++ q ∷ k.0, walk_join (MentionsPred uses) p q r h.0 k.0 h.1 k.1)
@@ -109,7 +85,7 @@ module _ (uses : List (List ℕ)) where
 
   mentions_rests : (n p q : ℕ) → MentionsPred uses p q → rests_below uses n p q ≡ true
   mentions_rests zero p q h = among q (mentioned_at uses p) h
-  mentions_rests (suc n) p q h = or_first (rests_below uses n p q) (rests_below uses n p n && rests_below uses n n q) (mentions_rests n p q h)
+  mentions_rests (suc n) p q h = or_left (rests_below uses n p q) (rests_below uses n p n && rests_below uses n n q) (mentions_rests n p q h)
 
   -- what leads to n leads there over stops below n
   before : (n p : ℕ) → rests_below uses (suc n) p n ≡ true → rests_below uses n p n ≡ true
@@ -125,10 +101,10 @@ module _ (uses : List (List ℕ)) where
   ]
 
   over : (n p q : ℕ) → rests_below uses n p n ≡ true → rests_below uses n n q ≡ true → rests_below uses (suc n) p q ≡ true
-  over n p q h k = or_second (rests_below uses n p q) (rests_below uses n p n && rests_below uses n n q) (and_join (rests_below uses n p n) (rests_below uses n n q) h k)
+  over n p q h k = or_right (rests_below uses n p q) (rests_below uses n p n && rests_below uses n n q) (and_from (rests_below uses n p n) (rests_below uses n n q) h k)
 
   still : (n p q : ℕ) → rests_below uses n p q ≡ true → rests_below uses (suc n) p q ≡ true
-  still n p q h = or_first (rests_below uses n p q) (rests_below uses n p n && rests_below uses n n q) h
+  still n p q h = or_left (rests_below uses n p q) (rests_below uses n p n && rests_below uses n n q) h
 
   module _ (n : ℕ) (join : (p x q : ℕ) → x < n → rests_below uses n p x ≡ true → rests_below uses n x q ≡ true → rests_below uses n p q ≡ true) where
     to_then : (p x q : ℕ) → x < n → rests_below uses n p x ≡ true → (rests_below uses n x q ≡ true) ⊎ ((rests_below uses n x n && rests_below uses n n q) ≡ true) → rests_below uses (suc n) p q ≡ true
@@ -190,8 +166,8 @@ some_found zero test h = absurd (false≢true h)
 some_found (suc n) test h = some_by n test (some_found n test) (or_cases (some_below n test) (test n) h)
 
 some_at_by : (n p : ℕ) (test : ℕ → Bool) → ((p < n) → some_below n test ≡ true) → test p ≡ true → (p < n) ⊎ (p ≡ n) → some_below (suc n) test ≡ true
-some_at_by n p test less h (inl lt) = or_first (some_below n test) (test n) (less lt)
-some_at_by n p test less h (inr same) = or_second (some_below n test) (test n) (subst (λ (m : ℕ). test m ≡ true) same h)
+some_at_by n p test less h (inl lt) = or_left (some_below n test) (test n) (less lt)
+some_at_by n p test less h (inr same) = or_right (some_below n test) (test n) (subst (λ (m : ℕ). test m ≡ true) same h)
 
 some_at : (n p : ℕ) (test : ℕ → Bool) → p < n → test p ≡ true → some_below n test ≡ true
 some_at zero p test lt h = absurd (omega arith)
@@ -280,7 +256,7 @@ falls_by uses none p q h (inr le) =
     omega (arith, at_p, at_q)
 
 pub ranks : (uses : List (List ℕ)) → ¬ HasCycle uses → HasRanks uses
-ranks uses none = (rank_of uses, λ p q h. falls_by uses none p q h (less_or_not q (length uses)))
+ranks uses none = (rank_of uses, λ p q h. falls_by uses none p q h (cases_lt q (length uses)))
 
 pub ranks_unless_found : (uses : List (List ℕ)) → has_cycle uses ≡ false → HasRanks uses
 ranks_unless_found uses h = ranks uses (λ c. true≢false (sym (found_where_cycle uses c) ∙ h))

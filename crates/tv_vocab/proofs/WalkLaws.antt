@@ -8,6 +8,7 @@ use Rattle.std.proofs.Math.ListN.{set}
 use Rattle.std.proofs.lemmas.List.{length-set, reverse-append}
 use Rattle.std.proofs.lemmas.List.Sums.{sum_by_push}
 use Rattle.std.proofs.lemmas.Option.{slice_get-get_or}
+use Rattle.std.proofs.lemmas.Bool.{cases_eq}
 use Rattle.tv_model.specs.Truth.{IsWalk}
 use Rattle.tv_vocab.specs.Cycles.{mentioned_at, MentionsPred, RestsOn, HasCycle}
 use Rattle.tv_vocab.specs.Walk.{mark_at, IsMarkedDone, mention_at, seen_next, next_mention, AreDone, ComesTo}
@@ -31,12 +32,6 @@ not_unseen m d u = cc
 
 open_not_done : (m : Mark) → m ≡ Open → m ≡ Done → ⊥
 open_not_done m o d = cc
-
-same_or_not : (p q : ℕ) → (p ≡ q) ⊎ (p ≢ q)
-same_or_not zero zero = inl refl
-same_or_not zero (suc q) = inr (λ e. absurd (omega (arith, e)))
-same_or_not (suc p) zero = inr (λ e. absurd (omega (arith, e)))
-same_or_not (suc p) (suc q) = elim (same_or_not p q) [ inl e ↦ inl (ap suc e) | inr n ↦ inr (λ e. n (omega (arith, e))) ]
 
 set_same : (marks : List Mark) (p : ℕ) (m : Mark) → p < length marks → mark_at (set marks p m) p ≡ m
 set_same [] p m lt = absurd (omega arith)
@@ -176,7 +171,7 @@ module _ (uses : List (List ℕ)) where
     not_itself p all r = (done p (back p r.0 all r.1)).acyclic r
 
   done_keeps : (marks : List Mark) (p : ℕ) → Kept marks (set marks p Done)
-  done_keeps marks p q d = elim (same_or_not q p) [
+  done_keeps marks p q d = elim (cases_eq q p) [
     | inl e ↦ subst (IsMarkedDone (set marks p Done)) (sym e) (set_done marks p)
     | inr ne ↦ set_other marks p q Done ne ∙ d
   ]
@@ -198,8 +193,8 @@ module _ (uses : List (List ℕ)) where
   pub closed_marks : (marks : List Mark) (step : Step) (steps : List Step) → AreMarks uses marks (step ∷ steps) → AreDone uses marks step.pred step.seen → mention_at uses step.pred step.seen ≡ None → AreMarks uses (set marks step.pred Done) steps
   closed_marks marks step steps are h none = record {
     count = length-set marks step.pred Done ∙ are.count;
-    done = λ q d. settles marks step.pred are.done (all_done marks step.pred step.seen h none) q d (same_or_not q step.pred);
-    open_ones = λ q o. open_left marks step steps are q o (same_or_not q step.pred);
+    done = λ q d. settles marks step.pred are.done (all_done marks step.pred step.seen h none) q d (cases_eq q step.pred);
+    open_ones = λ q o. open_left marks step steps are q o (cases_eq q step.pred);
   }
 
   pub closed_path : (marks : List Mark) (step : Step) (steps : List Step) → IsPath uses marks (step ∷ steps) → IsPath uses (set marks step.pred Done) steps
@@ -209,7 +204,7 @@ module _ (uses : List (List ℕ)) where
   -- ---- a predicate is opened
 
   open_keeps : (marks : List Mark) (p : ℕ) → mark_at marks p ≡ Unseen → Kept marks (set marks p Open)
-  open_keeps marks p u q d = elim (same_or_not q p) [
+  open_keeps marks p u q d = elim (cases_eq q p) [
     | inl e ↦ absurd (not_unseen (mark_at marks p) (subst (IsMarkedDone marks) e d) u)
     | inr ne ↦ set_other marks p q Open ne ∙ d
   ]
@@ -226,8 +221,8 @@ module _ (uses : List (List ℕ)) where
   pub opened_marks : (marks : List Mark) (step : Step) (steps : List Step) → AreMarks uses marks steps → mark_at marks step.pred ≡ Unseen → AreMarks uses (set marks step.pred Open) (step ∷ steps)
   opened_marks marks step steps are u = record {
     count = length-set marks step.pred Open ∙ are.count;
-    done = λ q d. settled_still marks step.pred u are.done q d (same_or_not q step.pred);
-    open_ones = λ q o. open_more marks step steps are q o (same_or_not q step.pred);
+    done = λ q d. settled_still marks step.pred u are.done q d (cases_eq q step.pred);
+    open_ones = λ q o. open_more marks step steps are q o (cases_eq q step.pred);
   }
 
   pub opened_path : (marks : List Mark) (p : ℕ) (steps : List Step) → mark_at marks p ≡ Unseen → LeadsTo uses marks steps p → IsPath uses (set marks p Open) (record { pred = p; seen = 0 } ∷ steps)
@@ -308,7 +303,7 @@ pub keeps_then : (a b c : List Mark) → KeepsSeen a b → KeepsSeen b c → Kee
 keeps_then a b c h k p s = k p (h p s)
 
 pub keeps_set : (marks : List Mark) (p : ℕ) (m : Mark) → m ≢ Unseen → KeepsSeen marks (set marks p m)
-keeps_set marks p m seen q h = elim (same_or_not q p) [
+keeps_set marks p m seen q h = elim (cases_eq q p) [
   | inl e ↦ subst (λ (x : ℕ). mark_at (set marks p m) x ≢ Unseen) (sym e) (set_seen marks p (subst (λ (x : ℕ). mark_at marks x ≢ Unseen) e h))
   | inr ne ↦ λ u. h (sym (set_other marks p q m ne) ∙ u)
 ]

@@ -113,7 +113,7 @@ impl Told {
     }
 
     /// A line for each value that isn't `No`, in order of edge and number.
-    pub fn lines(&self, alloc: Global) -> Result<MessageLines, AllocError>
+    pub(crate) fn lines(&self, alloc: Global) -> Result<MessageLines, AllocError>
         requires { length self.now ≤ 16384 }
         ensures { IfOk result (AreLines self.now) }
     {

@@ -1,5 +1,6 @@
-use Rattle.std.proofs.Common.{◌≡◌, Bool, true, false, Result, Ok, Err, sym, subst, arith}
+use Rattle.std.proofs.Common.{◌≡◌, Result, Ok, Err, sym, subst, arith}
 use Rattle.std.specs.Prelude.{IfOk}
+use Rattle.std.proofs.lemmas.Bool.{both_ways}
 use Rattle.tv_model.specs.Program.{ProgramForm, program_of}
 use Rattle.tv_model.specs.declared.program.Program.{Program}
 use Rattle.tv_source.specs.Copies.{source_of}
@@ -12,15 +13,11 @@ use Rattle.tv_plang.proofs.whole.compile.Goals as goal
 use Rattle.tv_plang.proofs.whole.compile.Goals.{then-not-has_few_predicates-via-then-not-has_few_predicates}
 use Rattle.tv_plang.proofs.whole.compile.Goals.{then-not-has_few_predicates-via-else-not-has_few_predicates+then-last-gt16384}
 
-false-true : (b : Bool) → b ≡ false → b ≡ true → ⊥
-false-true true no_ yes_ = absurd (cc no_)
-false-true false no_ yes_ = absurd (cc yes_)
-
 pub returns-then-not-has_few_predicates-clause-too_many : goal.returns-then-not-has_few_predicates-clause-too_many
 returns-then-not-has_few_predicates-clause-too_many c = λ e small.
     elim c.then-not-has_few_predicates.branch [
       | then-not-has_few_predicates-via-then-not-has_few_predicates w ↦
-          false-true c.has_few_predicates.result w.if-not-has_few_predicates.true
+          both_ways c.has_few_predicates.result w.if-not-has_few_predicates.true
           (c.has_few_predicates.ensures.1 (few-from_small (source_of c.args.source.now) small))
       | then-not-has_few_predicates-via-else-not-has_few_predicates+then-last-gt16384 w ↦
           omega (
