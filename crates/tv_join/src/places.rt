@@ -55,13 +55,6 @@ impl Places {
         self.set.pop_first()
     }
 
-    /// Whether the place was noted.
-    pub fn has(&self, place: Place) -> bool
-        ensures { MatchBool result (Contains self.now place) (¬ Contains self.now place) }
-    {
-        self.set.contains(&place)
-    }
-
     /// Whether there is none.
     pub fn is_empty(&self) -> bool
         ensures { MatchBool result (self.now ≡ []) (self.now ≢ []) }
