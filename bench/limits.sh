@@ -307,6 +307,14 @@ def _(count):
     return analyze(text + "%%\n%action See() { %p A(v, w) n*(v, w) | n*(w, v) }\n%%\nL0 See() L1\n", initial)
 
 
+@row("closures over two individuals, one in the other, the inner ones over nothing of the outer", 90)
+def _(count):
+    ends = [(f"a{k % 2}", f"b{k % 2}") for k in range(count + 1)]
+    around = "".join("TC({}, {})({}, {}) ".format(*one, *own) for one, own in zip(ends, ends[1:]))
+    return analyze("%p x(v)\n%p n(v, w)\n%%\n%action See() { %p E(a0, b0) " + around + "n({}, {})".format(*ends[-1])
+                   + " }\n%%\nL0 See() L1\n", "%n = {u0, u1} %p = { x = {u0} n = {u0->u1} }")
+
+
 def long_rule(count):
     """A rule whose body has so many literals, in groups of 30."""
     groups = [f"p{n % 500}()" for n in range(count)]

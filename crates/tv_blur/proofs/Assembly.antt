@@ -15,7 +15,8 @@ use Rattle.tv_kleene.specs.declared.K3.TheVariants.{No}
 use Rattle.tv_kleene.specs.Kleene.{LiesUnder}
 use Rattle.tv_struct.specs.TableForm.{AreIndividuals}
 use Rattle.tv_struct.specs.StructureForm.{StructureForm, structure_of, value_at, summary_at, arities_of}
-use Rattle.tv_struct.proofs.Library.{Contains-range, below-range, AreIndividuals-range, fits_or_No}
+use Rattle.tv_struct.proofs.Library.{Contains-range, below-range, AreIndividuals-range}
+use Rattle.tv_struct.proofs.Library.{value_at-misfit}
 use Rattle.tv_blur.specs.declared.names.CanonicalNames.{CanonicalNames}
 use Rattle.tv_blur.specs.Merged.{IsJoin, IsMember, IsValueBelow, HasSummary, HasSeveral}
 use Rattle.tv_blur.specs.Names.{name_cmp, name_cmp_total}
@@ -204,10 +205,6 @@ arity_or_not xs pred n = at (slice_get xs pred) refl
     at None is = inr (λ e. absurd (cc))
     at (Some a) is = elim (cases_eq a n) [ inl same ↦ inl (is ∙ ap Some same) | inr differ ↦ inr (λ e. differ (cc)) ]
 
-misfit : (s : StructureForm) (pred : ℕ) (tuple : List ℕ) → ¬ (slice_get (arities_of s) pred ≡ Some (length tuple))
-    → value_at s pred tuple ≡ No
-misfit s pred tuple other = elim (fits_or_No s pred tuple) [ inl arity ↦ absurd (other arity) | inr none ↦ none ]
-
 values-joined : (preds : List ℕ) (s t : StructureForm) (place : ℕ → ℕ) (classes : List (List ℕ))
     → HasClasses preds s place classes → HasMerged classes s (length (arities_of s)) t → (pred : ℕ) (tuple : List ℕ)
     → AreIndividuals t.size tuple → IsJoin (IsValueBelow place (structure_of s) pred tuple) (value_at t pred tuple)
@@ -222,7 +219,7 @@ values-joined preds s t place classes h have pred tuple in_t = at (arity_or_not 
         → IsValueBelow place (structure_of s) pred tuple j → j ≡ No
     none other j (below, all, goes, is) =
         sym is
-        ∙ misfit s pred below
+        ∙ value_at-misfit s pred below
         (λ arity. other (ap (λ x. slice_get x pred) have.over ∙ arity
         ∙ ap Some (sym (length-map below place) ∙ ap length goes)))
 
@@ -249,7 +246,7 @@ values-joined preds s t place classes h have pred tuple in_t = at (arity_or_not 
         (rw (← have.over) (slice_get_within (arities_of t) pred (length tuple) arity)) tuple
         (record { arity = arity; individuals = in_t }))
     at (inr other) =
-        let is_no : value_at t pred tuple ≡ No = misfit t pred tuple other
+        let is_no : value_at t pred tuple ≡ No = value_at-misfit t pred tuple other
         in let P : K3 → Type 0 = λ k. IsJoin (IsValueBelow place (structure_of s) pred tuple) k
         in subst P (sym is_no) (record {
           above = λ j v. inl (none other j v);

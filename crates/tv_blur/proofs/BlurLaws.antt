@@ -1,5 +1,5 @@
 -- Blur: names, that there is one, and that blurring again changes nothing.
-use Rattle.std.proofs.Common.{ℕ, ◌≡◌, ◌⊎◌, ◌<◌, ◌≤◌, zero, suc, inl, inr, Bool, true, false, List, [], ◌∷◌}
+use Rattle.std.proofs.Common.{ℕ, ◌≡◌, ◌⊎◌, ◌<◌, ◌≤◌, zero, suc, inl, inr, List, [], ◌∷◌}
 use Rattle.std.proofs.Common.{get_or, length, map, Less, Equal, Greater, refl, sym, ap, subst, ◌∙◌, arith}
 use Rattle.std.specs.Prelude.{All, Contains, IsTrue, ◌↔◌}
 use Rattle.std.specs.declared.cmp.Ordering.{Ordering}
@@ -7,8 +7,10 @@ use Rattle.std.specs.List.{range_with_len}
 use Rattle.std.specs.Ordering.{ordering_reverse}
 use Rattle.std.proofs.lemmas.List.{get_or-map, map-id}
 use Rattle.std.proofs.lemmas.List.Elements.{All-head, All-tail, All-nil, All-cons}
+use Rattle.tv_lemmas.proofs.Bools.{same_tests}
 use Rattle.tv_kleene.specs.declared.K3.{K3}
-use Rattle.tv_kleene.specs.declared.K3.TheVariants.{No, Half, Yes}
+use Rattle.tv_kleene.specs.declared.K3.TheVariants.{No}
+use Rattle.tv_row.proofs.Compare.{value_exact}
 use Rattle.tv_embedding_laws.specs.LogicalStructure.{LogicalStructure}
 use Rattle.tv_row.specs.Bits.{value_cmp}
 use Rattle.tv_struct.specs.TableForm.{HasEntry, AreIndividuals}
@@ -19,22 +21,10 @@ use Rattle.tv_blur.specs.Merged.{IsMember, IsValueBelow, HasSummary, HasSeveral,
 use Rattle.tv_blur.specs.Names.{canonical_name, name_cmp, name_cmp_total}
 use Rattle.tv_blur.specs.Blur.{FollowsNames, IsBlurBy, IsBlur, IsBlurred}
 use Rattle.tv_blur.specs.Laws.{BlurKeepsNames, BlurKeepsStable, BlurIsOne}
-use Rattle.tv_struct.proofs.Library.{Contains-range, below-range}
-use Rattle.tv_blur.proofs.Individuals.{All-individuals}
+use Rattle.tv_struct.proofs.Library.{Contains-range, below-range, All-individuals}
 use Rattle.tv_blur.proofs.MergedLaws.{IsJoin-one, IsJoin-same, keeps_stable}
 
 -- ---- names
-
-value-exact : (x y : K3) → value_cmp x y ≡ Equal → x ≡ y
-value-exact No No e = refl
-value-exact No Half e = cc
-value-exact No Yes e = cc
-value-exact Half No e = cc
-value-exact Half Half e = refl
-value-exact Half Yes e = cc
-value-exact Yes No e = cc
-value-exact Yes Half e = cc
-value-exact Yes Yes e = refl
 
 -- names that compare as equal are equal
 pub name-exact : (xs ys : List K3) → name_cmp xs ys ≡ Equal → xs ≡ ys
@@ -47,7 +37,7 @@ name-exact (x ∷ xs) (y ∷ ys) e = at (value_cmp x y) refl (λ rest. name-exac
         → x ∷ xs ≡ y ∷ ys
     at Less is later e = absurd (let f : Less ≡ Equal = rw is at e in cc)
     at Equal is later e =
-        let head : x ≡ y = value-exact x y is
+        let head : x ≡ y = value_exact x y is
         in let rest : name_cmp xs ys ≡ Equal = rw is at e
         in let tail : xs ≡ ys = later rest
         in λ i. head i ∷ tail i
@@ -205,11 +195,6 @@ maps-agree n p q same (u ∷ us) all =
     in let tail : map p us ≡ map q us = maps-agree n p q same us (All-tail (Contains (range_with_len 0 n)) u us all)
     in λ i. head i ∷ tail i
 
-same_bools : (a b : Bool) → (a ≡ true → b ≡ true) → (b ≡ true → a ≡ true) → a ≡ b
-same_bools true b to from = sym (to refl)
-same_bools false true to from = from refl
-same_bools false false to from = refl
-
 members-like : (s : StructureForm) (p q : ℕ → ℕ) → ((u : ℕ) → u < s.size → p u ≡ q u) → (w : ℕ)
     → HasSummary p (structure_of s) w ⊎ HasSeveral p (structure_of s) w
     → HasSummary q (structure_of s) w ⊎ HasSeveral q (structure_of s) w
@@ -268,7 +253,7 @@ same_blurs preds s t r (p, bp) (q, bq) = record {
     summaries w lt =
         let at_t : Contains (range_with_len 0 t.size) w = Contains-range t.size w lt
         in let at_r : Contains (range_with_len 0 r.size) w = Contains-range r.size w (omega (arith, size))
-        in same_bools (summary_at t w) (summary_at r w)
+        in same_tests (summary_at t w) (summary_at r w)
         (λ yes. (bq.merged.summaries w at_r).1 (members-like s p q same w ((bp.merged.summaries w at_t).0 yes)))
         (λ yes. (bp.merged.summaries w at_t).1 (members-like s q p back w ((bq.merged.summaries w at_r).0 yes)))
 

@@ -1,6 +1,6 @@
 -- Writing merged values predicate by predicate.
 use Rattle.std.proofs.Common.{ℕ, ◌≡◌, ◌≢◌, ◌⊎◌, ◌<◌, ◌≤◌, ◌+◌, inl, inr, Bool, false, List, [], ◌∷◌, get_or}
-use Rattle.std.proofs.Common.{length, Some, None, refl, sym, ap, subst, ◌∙◌, arith}
+use Rattle.std.proofs.Common.{length, None, refl, sym, ap, subst, ◌∙◌, arith}
 use Rattle.std.specs.Prelude.{Any, slice_get}
 use Rattle.std.proofs.lemmas.List.{get_or_default}
 use Rattle.std.proofs.lemmas.Bool.{cases_eq, cases_lt}
@@ -13,16 +13,12 @@ use Rattle.tv_struct.specs.StructureForm.{arities_of, with_value, with_summary}
 use Rattle.tv_struct.specs.StructureRows.{HasArity, row_at, unary_row, with_row}
 use Rattle.tv_struct.specs.Laws.{WritesOneEntry, WritesOneSummary}
 use Rattle.tv_struct.proofs.StructureLaws.{writes_one_entry, writes_one_summary}
+use Rattle.tv_struct.proofs.Library.{get_or-row_at, length-unary_row, get_or-unary_row, entry-arity}
 use Rattle.tv_blur.specs.Merged.{IsJoin}
 use Rattle.tv_blur.specs.Classes.{ChangesOnly, HasMergedValues, HasMerged, AreClasses, IsMergedValue}
 use Rattle.tv_blur.specs.Classes.{IsAmongMembers, IsBlank, IsBlankFrom, class_at, is_merged_summary}
 use Rattle.tv_blur.proofs.JoinLaws.{join_is, join_joins, merged_none, merged_one, merged_two}
-use Rattle.tv_blur.proofs.RowLaws.{get_or-row_at, get_or-unary_row, joined-none, length-unary_row}
-
--- the arity of an entry's tuple
-entry-arity : (t : StructureForm) (pred n : ℕ) (tuple : List ℕ) → HasArity t pred n → HasEntry (table_of t) pred tuple
-    → length tuple ≡ n
-entry-arity t pred n tuple arity has = let e : Some n ≡ Some (length tuple) = sym arity ∙ has.arity in cc
+use Rattle.tv_blur.proofs.RowLaws.{joined-none}
 
 -- ---- nullary predicates
 

@@ -1,4 +1,3 @@
-pub mod Individuals
 pub mod MergedLaws
 pub mod BlurLaws
 pub mod Ascended

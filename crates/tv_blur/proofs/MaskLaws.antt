@@ -11,7 +11,7 @@ use Rattle.std.proofs.lemmas.List.Elements.{Contains-push, Contains-push_cases}
 use Rattle.tv_kleene.specs.declared.K3.{K3}
 use Rattle.tv_kleene.specs.declared.K3.TheVariants.{No, Half, Yes}
 use Rattle.tv_kleene.specs.Kleene.{LiesUnder, IsAtMost, smaller_of, larger_of, negation_of, join_of}
-use Rattle.tv_kleene.proofs.Lattice.{smaller-assoc, smaller-yes, join_least}
+use Rattle.tv_kleene.proofs.Lattice.{smaller-assoc, smaller-yes, join_least, larger-either}
 use Rattle.tv_row.specs.Bits.{greatest_in, least_in, paired}
 use Rattle.tv_row.proofs.WordOps.{length-paired, get_or-paired}
 use Rattle.tv_blur.specs.Merged.{IsJoin}
@@ -60,13 +60,6 @@ pub mask_one : (u : ℕ) → u < 256 → IsMask (u ∷ []) (set (replicate 256 N
 mask_one u lt = mask_more [] (replicate 256 No) u mask_none lt
 
 -- ---- the greatest and the least value
-
-larger-one : (a b : K3) → (larger_of a b ≡ a) ⊎ (larger_of a b ≡ b)
-larger-one No b = inr refl
-larger-one Half No = inl refl
-larger-one Half Half = inl refl
-larger-one Half Yes = inr refl
-larger-one Yes b = inl refl
 
 smaller-one : (a b : K3) → (smaller_of a b ≡ a) ⊎ (smaller_of a b ≡ b)
 smaller-one No b = inl refl
@@ -119,7 +112,7 @@ greatest_at [] = inl refl
 greatest_at (k ∷ xs) =
     ⊎_elim (λ first. inr (0, omega arith, sym first))
     (λ later. ⊎_elim (λ none. inl (later ∙ none)) (λ (i, lt, at). inr (suc i, omega (arith, lt), at ∙ sym later)) (greatest_at xs))
-    (larger-one k (greatest_in xs))
+    (larger-either k (greatest_in xs))
 
 least_at : (xs : List K3) → (least_in xs ≡ Yes) ⊎ ((i : ℕ) × (i < length xs) × (get_or xs i No ≡ least_in xs))
 least_at [] = inl refl

@@ -10,6 +10,7 @@ use Rattle.std.proofs.lemmas.List.{length-set, get_or-set_same, get_or-set_other
 use Rattle.std.proofs.lemmas.List.{get_or-replicate, get_or_past, length-map, get_or-map, ext_get_or}
 use Rattle.std.proofs.lemmas.List.{map-append, take-append-drop}
 use Rattle.std.proofs.lemmas.List.FromFn.{length-map-range_with_len, get_or-map-range_with_len}
+use Rattle.tv_lemmas.proofs.Orderings.{then_decided}
 use Rattle.tv_kleene.specs.declared.K3.{K3}
 use Rattle.tv_kleene.specs.declared.K3.TheVariants.{No}
 use Rattle.tv_embedding_laws.specs.LogicalStructure.{LogicalStructure}
@@ -17,10 +18,10 @@ use Rattle.tv_row.specs.Bits.{value_cmp}
 use Rattle.tv_row.specs.Places.{entry_in}
 use Rattle.tv_struct.specs.StructureForm.{StructureForm, structure_of, value_at}
 use Rattle.tv_struct.specs.StructureRows.{unary_row}
+use Rattle.tv_struct.proofs.Library.{get_or-unary_row}
 use Rattle.tv_blur.specs.Names.{canonical_name, name_cmp}
 use Rattle.tv_blur.specs.declared.names.CanonicalNames.{CanonicalNames}
 use Rattle.tv_blur.specs.Naming.{HasColumn, HoldsNames, canonical_name_in, named_by, named_in, rest_in}
-use Rattle.tv_blur.proofs.RowLaws.{get_or-unary_row}
 
 -- ---- one column, value by value
 
@@ -202,11 +203,6 @@ cmp_parts n preds s u w =
     ∙ cmp_append (canonical_name (take n preds) s u) (canonical_name (take n preds) s w) (canonical_name (drop n preds) s u) (canonical_name (drop n preds) s w)
     (length-map (take n preds) (λ p. s.value p (u ∷ [])) ∙ sym (length-map (take n preds) (λ p. s.value p (w ∷ []))))
 
-decided : (o more : Ordering) → o ≢ Equal → ordering_then o more ≡ o
-decided Less more ne = refl
-decided Equal more ne = absurd (ne refl)
-decided Greater more ne = refl
-
 -- what a row holds
 pub row_is : (names : CanonicalNames) (u : ℕ) (row : List K3) → HoldsNames names → u < (named_in names).size
     → row ≡ get_or names.rows.items u row
@@ -240,7 +236,7 @@ rows_decide names u w row other o h lt lt' is is' e ne =
     ∙ ap (name_cmp (canonical_name (take n (named_by names)) (structure_of (named_in names)) u)) (row_is names w other h lt' is')
     in let more : Ordering = name_cmp (canonical_name (drop n (named_by names)) (structure_of (named_in names)) u)
     (canonical_name (drop n (named_by names)) (structure_of (named_in names)) w)
-    in sym (decided o more ne) ∙ ap (λ x. ordering_then x more) first
+    in sym (then_decided o more ne) ∙ ap (λ x. ordering_then x more) first
     ∙ sym (cmp_parts n (named_by names) (structure_of (named_in names)) u w)
 
 -- where the rows are equal, the rest decides

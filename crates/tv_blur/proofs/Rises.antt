@@ -2,31 +2,26 @@
 use Rattle.std.proofs.Common.{ℕ, Bool, true, false, take, ◌≡◌, ◌≢◌, ◌⊎◌, ◌<◌, ◌+◌, ◌-◌, inl, inr, List, []}
 use Rattle.std.proofs.Common.{◌∷◌, ◌++◌, get_or, length, map, replicate, Less, Equal, Greater, refl, sym, ap}
 use Rattle.std.proofs.Common.{subst, ◌∙◌, arith, drop, All, ◌≤◌, ⊎_elim}
-use Rattle.std.specs.declared.cmp.Ordering.{Ordering}
 use Rattle.std.specs.Ordering.{ordering_then}
 use Rattle.std.proofs.lemmas.Bool.{cases_eq, cases_lt}
 use Rattle.std.specs.Prelude.{IsTrue, MatchBool, if◌then◌else◌}
 use Rattle.std.proofs.lemmas.List.{append-nil, get_or-replicate, length-map, length-replicate, map-append}
 use Rattle.std.proofs.lemmas.List.{take-append-drop, get_or_default}
+use Rattle.tv_lemmas.proofs.Orderings.{then_nothing}
 use Rattle.tv_kleene.specs.declared.K3.{K3}
 use Rattle.tv_kleene.specs.declared.K3.TheVariants.{No, Half, Yes}
 use Rattle.tv_model.specs.declared.program.Pred.{Pred}
 use Rattle.tv_row.specs.Bits.{value_cmp}
 use Rattle.tv_struct.specs.StructureForm.{StructureForm, kept_from, structure_of, value_at}
 use Rattle.tv_struct.specs.StructureRows.{unary_row}
+use Rattle.tv_struct.proofs.Library.{get_or-unary_row}
 use Rattle.tv_blur.specs.Names.{is_abstraction, canonical_name, name_cmp}
 use Rattle.tv_blur.specs.Blur.{FollowsNames}
 use Rattle.tv_blur.specs.Rising.{AddsRises, Falls, TellsRises, order_told, order_to_next, values_to_next}
 use Rattle.tv_blur.proofs.ClassLaws.{abstraction_more}
 use Rattle.tv_blur.proofs.NameRows.{cmp_append}
-use Rattle.tv_blur.proofs.RowLaws.{get_or-unary_row}
 
 -- ---- one individual
-
-pub then_equal : (o : Ordering) → ordering_then o Equal ≡ o
-then_equal Less = refl
-then_equal Equal = refl
-then_equal Greater = refl
 
 pub then_less : (k : K3) → ordering_then (order_told k) Less ≡ Less
 then_less No = refl
@@ -72,7 +67,7 @@ pub adds_past : (values : List K3) (n m : ℕ) (old rises : List K3) → AddsRis
 adds_past values n m old rises adds le same = record {
   long = adds.long;
   first = λ u lt. ⊎_elim (λ before. adds.first u before)
-      (λ past. ap order_told (adds.rest u past) ∙ sym (then_equal (order_to_next old u))
+      (λ past. ap order_told (adds.rest u past) ∙ sym (then_nothing (order_to_next old u))
       ∙ ap (ordering_then (order_to_next old u)) (sym (same u past lt)))
       (cases_lt u n);
   rest = λ u past. adds.rest u (omega (arith, le, past));
@@ -114,7 +109,7 @@ order_more preds s p u old tells lt =
     ∙ ap (name_cmp (name u ++ value u ∷ [])) (name_more preds s p (u + 1))
     ∙ cmp_append (name u) (name (u + 1)) (value u ∷ []) (value (u + 1) ∷ [])
     (length-map preds (λ q. value_at s q (u ∷ [])) ∙ sym (length-map preds (λ q. value_at s q ((u + 1) ∷ []))))
-    ∙ ap (ordering_then (name_cmp (name u) (name (u + 1)))) (then_equal (value_cmp (value u) (value (u + 1))))
+    ∙ ap (ordering_then (name_cmp (name u) (name (u + 1)))) (then_nothing (value_cmp (value u) (value (u + 1))))
     ∙ ap (λ o. ordering_then o (value_cmp (value u) (value (u + 1)))) (tells.orders u lt)
     ∙ ap (ordering_then (order_to_next old u))
     (ap (λ k. value_cmp k (value (u + 1))) (sym (get_or-unary_row s p u (omega (arith, lt))))

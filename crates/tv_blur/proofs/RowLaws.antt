@@ -7,7 +7,6 @@ use Rattle.std.proofs.lemmas.Bool.{cases_lt}
 use Rattle.std.proofs.lemmas.List.{get_or_default, get_or_past, length-set, get_or-set_same, get_or-set_other}
 use Rattle.std.proofs.lemmas.List.{set-get_or}
 use Rattle.std.proofs.lemmas.List.{get_or-replicate, length-replicate}
-use Rattle.std.proofs.lemmas.List.FromFn.{length-map-range_with_len, get_or-map-range_with_len}
 use Rattle.tv_kleene.specs.declared.K3.{K3}
 use Rattle.tv_kleene.specs.declared.K3.TheVariants.{No, Half, Yes}
 use Rattle.tv_kleene.specs.Kleene.{join_of}
@@ -15,24 +14,11 @@ use Rattle.tv_row.specs.Bits.{greatest_in, paired}
 use Rattle.tv_row.proofs.Extremes.{any_possible}
 use Rattle.tv_row.proofs.WordOps.{length-paired, get_or-paired}
 use Rattle.tv_struct.specs.StructureForm.{StructureForm, value_at}
-use Rattle.tv_struct.specs.StructureRows.{row_at, unary_row}
+use Rattle.tv_struct.specs.StructureRows.{row_at}
+use Rattle.tv_struct.proofs.Library.{length-row_at, get_or-row_at}
 use Rattle.tv_blur.specs.Merged.{IsJoin}
 use Rattle.tv_blur.specs.Classes.{IsAmongFirst, IsAmongMembers, class_at}
 use Rattle.tv_blur.proofs.JoinLaws.{join_is, join_first, join_next, join_members}
-
-pub length-row_at : (s : StructureForm) (pred u : ℕ) → length (row_at s pred u) ≡ s.size
-length-row_at s pred u = length-map-range_with_len (λ w. value_at s pred (u ∷ w ∷ [])) 0 s.size
-
-pub get_or-row_at : (s : StructureForm) (pred u v : ℕ) → v < s.size → get_or (row_at s pred u) v No ≡ value_at s pred (u ∷ v ∷ [])
-get_or-row_at s pred u v lt =
-    get_or-map-range_with_len (λ w. value_at s pred (u ∷ w ∷ [])) 0 s.size v v No lt (omega arith)
-
-pub length-unary_row : (s : StructureForm) (pred : ℕ) → length (unary_row s pred) ≡ s.size
-length-unary_row s pred = length-map-range_with_len (λ u. value_at s pred (u ∷ [])) 0 s.size
-
-pub get_or-unary_row : (s : StructureForm) (pred u : ℕ) → u < s.size → get_or (unary_row s pred) u No ≡ value_at s pred (u ∷ [])
-get_or-unary_row s pred u lt =
-    get_or-map-range_with_len (λ w. value_at s pred (w ∷ [])) 0 s.size u u No lt (omega arith)
 
 -- the row has the joins of the rows of the first n members
 pub record AreJoined (s : StructureForm) (pred : ℕ) (members : List ℕ) (n : ℕ) (row : List K3) : Type 0 where

@@ -2,29 +2,30 @@
 use Rattle.std.proofs.Common.{ℕ, ◌≡◌, ◌≢◌, ◌<◌, ◌↔◌, ◌⊎◌, ◌∙◌, inl, inr, Contains, Bool, true, false, List}
 use Rattle.std.proofs.Common.{[], ◌∷◌, length, Some, slice_get, get_or, All}
 use Rattle.std.proofs.Common.{refl, sym, subst, arith}
-use Rattle.std.proofs.lemmas.List.Elements.{All-from_get_or, All-weaker}
+use Rattle.std.proofs.lemmas.List.Elements.{All-contains, All-from_get_or, All-weaker}
 use Rattle.std.proofs.lemmas.Option.{slice_get-get_or}
-use Rattle.tv_model.proofs.Lists.{All-from_contains}
+use Rattle.tv_model.proofs.Lists.{All-from_contains, slice_get-below}
+use Rattle.tv_embedding_laws.specs.Embedding.{IsBelow}
+use Rattle.tv_embedding_laws.specs.LogicalStructure.{LogicalStructure}
 use Rattle.tv_model.specs.Form.{FZero}
 use Rattle.tv_model.specs.Program.{HNever, RuleForm}
 use Rattle.tv_model.specs.declared.program.Rule.{Rule}
+use Rattle.tv_stable_laws.specs.Laws.{IsPlainRule}
 use Rattle.tv_stable_laws.specs.Stable.{HasNoStable, IsStable, IsStableUnder}
 use Rattle.tv_eval.specs.declared.evaluator.Evaluator.{Evaluator}
 use Rattle.tv_rules.specs.EntryForms.{rules_of}
-use Rattle.tv_struct.specs.StructureForm.{StructureForm, structure_of}
-use Rattle.tv_coerce.specs.declared.change.Change.{Change}
-use Rattle.tv_coerce.specs.Attempts.{AreAsked, IsSharper}
-use Rattle.tv_coerce.specs.Changes.{Has, IsOpen, IsPlace}
+use Rattle.tv_struct.specs.StructureForm.{StructureForm, IsStructure, structure_of}
+use Rattle.tv_coerce.specs.declared.noted.Ask.{Ask}
+use Rattle.tv_coerce.specs.Attempts.{AreAsked, IsAskedFor, IsSharper}
+use Rattle.tv_coerce.specs.Changes.{Has, IsLowered, IsOpen, IsPlace}
 use Rattle.tv_rules.specs.Kin.{IsKin}
-use Rattle.tv_coerce.specs.RuleSets.{HasFewer, HasLost, IsIn, IsStableBut}
-use Rattle.tv_coerce.specs.declared.finding.Found.{Found}
+use Rattle.tv_coerce.specs.RuleSets.{HasFewer, HasLost, IsIn, IsStableBut, SeesSome}
 use Rattle.tv_coerce.specs.Sharpened.{IsSharpened}
-use Rattle.tv_coerce.specs.Touched.{IsChangeOf}
-use Rattle.tv_coerce.specs.Trying.{HasHopeless, IsForced, IsFound, StaysBound}
+use Rattle.tv_coerce.specs.Trying.{HasHopeless, IsForcedBy, IsFound, StaysBound, rule_at}
 use Rattle.tv_coerce.proofs.Found.{rule-is}
 use Rattle.tv_coerce.proofs.OnTheWay.{rule-at, stable-at}
-use Rattle.tv_coerce.proofs.Touching.{stable-without}
-use Rattle.tv_coerce.proofs.Walking.{stays-on}
+use Rattle.tv_coerce.proofs.Touching.{stable-without, stays-stable, touched-lowered}
+use Rattle.tv_coerce.proofs.Walking.{rule-found, stays-on}
 
 -- ---- the rules that wait are tried
 
@@ -48,10 +49,10 @@ module _ (closed : List Rule) (s : StructureForm) (n : ℕ) (waiting mid : List 
   within = omega (arith, below, so_far.count)
 
   -- all that came of the base rule are met, and don't wait any more
-  pub attempted-more : (found : Found) (kin : List ℕ) (last : List Bool) → IsFound closed n s found → found.changes.items ≡ []
+  pub attempted-more : (asks : List Ask) (kin : List ℕ) (last : List Bool) → IsFound closed n s asks → asks ≡ []
       → ((m : ℕ) → Contains kin m ↔ IsKin closed n m) → HasFewer (Contains kin) mid last
       → AttemptedUpTo (rules_of closed) s last old new
-  attempted-more found kin last is none listed fewer = record {
+  attempted-more asks kin last is none listed fewer = record {
     count = fewer.count ∙ lost.count ∙ so_far.count;
     rest = λ m rule at out. one m rule at out (flag-is mid m);
     stays = stays-on s old now new so_far.stays stays;
@@ -69,17 +70,20 @@ module _ (closed : List Rule) (s : StructureForm) (n : ℕ) (waiting mid : List 
       one m rule at out (inl was) = stable m rule ((listed m).0 (fewer.lost m was out)) at
       one m rule at out (inr gone) = rest-mid m rule at gone
 
-  pub attempted-asked : (found : Found) → IsFound closed n s found → found.changes.items ≢ []
-      → AreAsked (rules_of closed) s mid n found.number found.changes.items
-  attempted-asked found is some =
-      let by : found.number < length (rules_of closed) = (is.forced.kin some).within
-      in record {
-        count = lost.count ∙ so_far.count;
-        below = within;
-        within = by;
-        others = λ m rule at ne out. so_far.rest m rule at (λ was. out ((lost.others m ne).1 was));
-        forced = λ rule at. subst (λ r. All (IsForced s r) found.changes.items) (rule-is closed found.number s by rule at) is.forced.forced;
-        some = some;
+  pub attempted-asked : (asks : List Ask) → IsFound closed n s asks → asks ≢ [] → AreAsked (rules_of closed) s mid n asks
+  attempted-asked asks is some = record {
+    count = lost.count ∙ so_far.count;
+    below = within;
+    others = λ m rule at ne out. so_far.rest m rule at (λ was. out ((lost.others m ne).1 was));
+    forced = All-weaker (IsForcedBy closed n s) (IsAskedFor (rules_of closed) s) asked asks is.forced;
+    some = some;
+  }
+    where
+      asked : (ask : Ask) → IsForcedBy closed n s ask → IsAskedFor (rules_of closed) s ask
+      asked ask by = record {
+        rule = rule_at closed ask.number;
+        there = rule-found closed ask.number by.kin.within;
+        forced = by.forced;
       }
 
 pub attempted-never : (closed : List Rule) (s : StructureForm) (n : ℕ) → HasHopeless closed n s
@@ -103,30 +107,50 @@ attempted-all rules s waiting rest none =
 
 -- ---- what is asked for is made
 
--- changes have places there
-pub places-asked : (rules : List RuleForm) (s : StructureForm) (waiting : List Bool) (tried n : ℕ) (changes : List Change)
-    → AreAsked rules s waiting tried n changes → All (IsPlace s) changes
-places-asked rules s waiting tried n changes asked =
-    let at : (rule : RuleForm) × (slice_get rules n ≡ Some rule) = rule-at rules n asked.within
-    in All-weaker (IsForced s at.0) (IsPlace s) (λ c forced. forced.place) changes (asked.forced at.0 at.1)
+-- changes have places there, and rules their numbers
+pub places-asked : (rules : List RuleForm) (s : StructureForm) (asks : List Ask) → All (IsAskedFor rules s) asks
+    → All (λ ask. IsPlace s ask.change) asks
+places-asked rules s asks =
+    All-weaker (IsAskedFor rules s) (λ ask. IsPlace s ask.change) (λ ask is. is.forced.place) asks
+
+pub numbers-asked : (rules : List RuleForm) (s : StructureForm) (asks : List Ask) → All (IsAskedFor rules s) asks
+    → All (λ ask. ask.number < length rules) asks
+numbers-asked rules s asks =
+    All-weaker (IsAskedFor rules s) (λ ask. ask.number < length rules)
+    (λ ask is. slice_get-below rules ask.number is.rule is.there) asks
 
 some-length : {X : Type 0} (xs : List X) → xs ≢ [] → 0 < length xs
 some-length [] some = absurd (some refl)
 some-length (x ∷ xs) some = omega arith
 
-pub sharper-made : (rules : List RuleForm) (waiting : List Bool) (tried n : ℕ) (rule : RuleForm) (changes : List Change) (old new : StructureForm)
-    → AreAsked rules old waiting tried n changes → slice_get rules n ≡ Some rule
-    → IsSharpened changes (length changes) old new → IsSharper rule old new
-sharper-made rules waiting tried n rule changes old new asked found made =
-    let forced : All (IsForced old rule) changes = asked.forced rule found
-    in let some : 0 < length changes = some-length changes asked.some
-    in record {
-      kept = made.kept;
-      arities = made.arities;
-      mark = made.mark;
-      touched = made.touched rule.head (All-weaker (IsForced old rule) (IsChangeOf rule.head) (λ c f. f.of) changes forced);
-      below = made.below;
-      loses_none = λ u stable below. made.loses_none u
-          (All-weaker (IsForced old rule) (λ c. Has c u) (λ c f. f.forced u below stable) changes forced) below;
-      fewer = made.fewer some (All-weaker (IsForced old rule) (IsOpen old) (λ c f. f.unknown) changes forced);
-    }
+module _ (rules : List RuleForm) (asks : List Ask) (old new : StructureForm) (asked : All (IsAskedFor rules old) asks)
+    (made : IsSharpened asks (length asks) old new) where
+  keeps-none : (u : LogicalStructure) → IsStable rules u → IsBelow u (structure_of old) → IsBelow u (structure_of new)
+  keeps-none u stable below = made.loses_none u (All-weaker (IsAskedFor rules old) (λ ask. Has ask.change u) has asks asked) below
+    where
+      has : (ask : Ask) → IsAskedFor rules old ask → Has ask.change u
+      has ask is = is.forced.forced u below (stable-at rules u ask.number is.rule is.there stable)
+
+  keeps-met : (other : RuleForm) → IsPlainRule other → ¬ SeesSome rules asks other
+      → IsStableUnder (structure_of old) other → IsStableUnder (structure_of new) other
+  keeps-met other plain unseen = made.keeps other step
+    where
+      step : (ask : Ask) (mid next : StructureForm) → Contains asks ask → IsStructure mid → IsPlace mid ask.change
+          → IsLowered ask.change mid next → IsStableUnder (structure_of mid) other → IsStableUnder (structure_of next) other
+      step ask mid next there kept place low =
+          let is : IsAskedFor rules old ask = All-contains (IsAskedFor rules old) asks ask asked there
+          in stays-stable is.rule.head mid next other (touched-lowered is.rule.head mid next ask.change kept place is.forced.of low)
+          low.mark low.below plain (λ sees. unseen (ask, there, (is.rule, is.there, sees)))
+
+  pub sharper-made : asks ≢ [] → IsSharper rules asks old new
+  sharper-made some = record {
+    kept = made.kept;
+    size = made.size;
+    arities = made.arities;
+    mark = made.mark;
+    below = made.below;
+    loses_none = keeps-none;
+    unseen = keeps-met;
+    fewer = made.fewer (some-length asks some)
+        (All-weaker (IsAskedFor rules old) (λ ask. IsOpen old ask.change) (λ ask is. is.forced.unknown) asks asked);
+  }

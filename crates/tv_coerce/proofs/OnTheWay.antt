@@ -1,26 +1,24 @@
 -- How coerce goes on, and why it ends.
 use Rattle.std.proofs.Common.{ℕ, ◌≡◌, ◌<◌, ◌∙◌, Bool, true, false, List, length, None, Some, slice_get}
-use Rattle.std.proofs.Common.{get_or, All, refl, sym, subst}
+use Rattle.std.proofs.Common.{get_or, All, refl, sym, subst, inl, inr, ⊎_elim}
+use Rattle.std.proofs.lemmas.Bool.{cases_eq}
 use Rattle.std.proofs.lemmas.List.Elements.{All-contains}
 use Rattle.std.proofs.lemmas.Option.{slice_get-get_or}
 use Rattle.tv_model.specs.Form.{FZero}
-use Rattle.tv_model.specs.Program.{HeadForm, HNever, RuleForm}
+use Rattle.tv_model.specs.Program.{HNever, RuleForm}
 use Rattle.tv_model.proofs.Lists.{slice_get-contains}
 use Rattle.tv_embedding_laws.specs.LogicalStructure.{LogicalStructure}
 use Rattle.tv_embedding_laws.specs.Embedding.{IsBelow}
 use Rattle.tv_embedding_laws.proofs.EmbeddingLaws.{EmbedsOn-id, EmbedsOn-compose}
 use Rattle.tv_stable_laws.specs.Laws.{IsPlainRule}
 use Rattle.tv_stable_laws.specs.Stable.{IsStableUnder, IsStable, HasNoStable}
-use Rattle.tv_struct.specs.Halves.{half_count}
 use Rattle.tv_struct.specs.StructureForm.{StructureForm, IsStructure, structure_of}
 use Rattle.tv_eval.specs.ScratchForm.{ScratchForm, HasScratchFor}
 use Rattle.tv_coerce.specs.Attempts.{AreAsked, IsSharper, IsOnTheWay, IsEnd}
 use Rattle.tv_coerce.specs.Coerced.{IsCoercedTable, CoercesTo}
 use Rattle.tv_coerce.specs.Ready.{IsRuleOver, CanCoerce}
-use Rattle.tv_coerce.specs.RuleSets.{HasAtLeast, HasMore, IsRuleThat, IsStableBut}
-use Rattle.tv_rules.specs.Seen.{Sees}
-use Rattle.tv_coerce.specs.declared.change.Change.{Change}
-use Rattle.tv_coerce.proofs.Touching.{stable-after}
+use Rattle.tv_coerce.specs.RuleSets.{HasAtLeast, HasMore, IsRuleThat, IsStableBut, SeesSome}
+use Rattle.tv_coerce.specs.declared.noted.Ask.{Ask}
 
 pub below-below : (r s t : LogicalStructure) → IsBelow r s → IsBelow s t → IsBelow r t
 below-below r s t first second =
@@ -61,33 +59,26 @@ ready-on rules waiting s t scratch ready way = record {
   fits = subst (λ n. All (λ rule. HasScratchFor scratch rule.body n) rules) (sym way.size) ready.fits;
 }
 
-pub way-asked : (rules : List RuleForm) (tried n : ℕ) (head : HeadForm) (old mid more again : List Bool) (s t new : StructureForm)
-    (changes : List Change) → All IsPlainRule rules → IsOnTheWay rules old s t → AreAsked rules t mid tried n changes
-    → ((rule : RuleForm) → slice_get rules n ≡ Some rule → IsSharper rule t new)
-    → ((rule : RuleForm) → slice_get rules n ≡ Some rule → head ≡ rule.head)
-    → HasAtLeast (IsRuleThat (Sees head) rules) mid more → HasMore (λ m. m ≡ tried) more again → IsOnTheWay rules again s new
-way-asked rules tried n head old mid more again s t new changes plain way asked sharper heads seeing itself =
-    let at : (rule : RuleForm) × (slice_get rules n ≡ Some rule) = rule-at rules n asked.within
-    in let rule : RuleForm = at.0
-    in let sharp : IsSharper rule t new = sharper rule at.1
-    in record {
-      count = itself.count ∙ seeing.count ∙ asked.count;
-      kept = sharp.kept;
-      size = sharp.touched.size ∙ way.size;
-      arities = sharp.arities ∙ way.arities;
-      mark = sharp.mark ∙ way.mark;
-      below = below-below (structure_of new) (structure_of t) (structure_of s) sharp.below way.below;
-      loses_none = λ u stable low. sharp.loses_none u (stable-at rules u n rule at.1 stable) (way.loses_none u stable low);
-      rest = stable-after t new rules tried rule mid more again plain sharp.touched sharp.mark sharp.below asked.others
-          (subst (λ h. HasAtLeast (IsRuleThat (Sees h) rules) mid more) (heads rule at.1) seeing) itself;
-    }
-
-pub smaller-asked : (rules : List RuleForm) (tried n : ℕ) (mid : List Bool) (t new : StructureForm) (changes : List Change)
-    → AreAsked rules t mid tried n changes → ((rule : RuleForm) → slice_get rules n ≡ Some rule → IsSharper rule t new)
-    → half_count new < half_count t
-smaller-asked rules tried n mid t new changes asked sharper =
-    let at : (rule : RuleForm) × (slice_get rules n ≡ Some rule) = rule-at rules n asked.within
-    in (sharper at.0 at.1).fewer
+pub way-asked : (rules : List RuleForm) (tried : ℕ) (old mid more again : List Bool) (s t new : StructureForm)
+    (asks : List Ask) → All IsPlainRule rules → IsOnTheWay rules old s t → AreAsked rules t mid tried asks
+    → IsSharper rules asks t new
+    → HasAtLeast (IsRuleThat (SeesSome rules asks) rules) mid more → HasMore (λ m. m ≡ tried) more again → IsOnTheWay rules again s new
+way-asked rules tried old mid more again s t new asks plain way asked sharp seeing itself = record {
+  count = itself.count ∙ seeing.count ∙ asked.count;
+  kept = sharp.kept;
+  size = sharp.size ∙ way.size;
+  arities = sharp.arities ∙ way.arities;
+  mark = sharp.mark ∙ way.mark;
+  below = below-below (structure_of new) (structure_of t) (structure_of s) sharp.below way.below;
+  loses_none = λ u stable low. sharp.loses_none u stable (way.loses_none u stable low);
+  rest = λ m other found out. ⊎_elim
+      (λ e. absurd (out ((itself.exact m).1 (inr e))))
+      (λ ne. sharp.unseen other
+      (All-contains IsPlainRule rules other plain (slice_get-contains rules m other found))
+      (λ sees. out ((itself.exact m).1 (inl (seeing.those m (other, found, sees)))))
+      (asked.others m other found ne (λ was. out ((itself.exact m).1 (inl (seeing.kept m was))))))
+      (cases_eq m tried);
+}
 
 -- ---- the end
 

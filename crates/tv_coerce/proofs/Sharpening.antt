@@ -11,9 +11,8 @@ use Rattle.tv_coerce.specs.declared.change.Change.{Change}
 use Rattle.tv_coerce.specs.declared.change.Change.TheVariants.{Value, Ordinary}
 use Rattle.tv_coerce.specs.Changes.{Has, IsOpen, IsPlace, IsLowered}
 use Rattle.tv_coerce.specs.Sharpened.{IsSharpened}
-use Rattle.tv_coerce.specs.Touched.{IsChangeOf}
+use Rattle.tv_coerce.specs.declared.noted.Ask.{Ask}
 use Rattle.tv_coerce.proofs.OnTheWay.{below-below}
-use Rattle.tv_coerce.proofs.Touching.{touched-both, touched-lowered}
 
 -- a change has its place in each structure of that size and those predicates
 pub place-on : (s t : StructureForm) (c : Change) → t.size ≡ s.size → arities_of t ≡ arities_of s → IsPlace s c → IsPlace t c
@@ -23,33 +22,32 @@ place-on s t (Value p tuple k) size arities place = record {
 }
 place-on s t (Ordinary x) size arities place = subst (λ n. x < n) (sym size) place
 
-pub sharpened-more : (changes : List Change) (i : ℕ) (c : Change) (old mid new : StructureForm) → IsSharpened changes i old mid
-    → Contains changes c → All (IsPlace old) changes → IsLowered c mid new → IsSharpened changes (i + 1) old new
-sharpened-more changes i c old mid new before at places low = record {
+pub sharpened-more : (asks : List Ask) (i : ℕ) (ask : Ask) (old mid new : StructureForm) → IsSharpened asks i old mid
+    → Contains asks ask → All (λ one. IsPlace old one.change) asks → IsLowered ask.change mid new → IsSharpened asks (i + 1) old new
+sharpened-more asks i ask old mid new before at places low = record {
   kept = low.kept;
   size = low.size ∙ before.size;
   arities = low.arities ∙ before.arities;
   mark = low.mark ∙ before.mark;
   below = below-below (structure_of new) (structure_of mid) (structure_of old) low.below before.below;
-  loses_none = λ u has below. low.loses_none u (All-contains (λ d. Has d u) changes c has at) (before.loses_none u has below);
-  touched = λ head of. touched-both head old mid new (before.touched head of)
-      (touched-lowered head mid new c before.kept place (All-contains (IsChangeOf head) changes c of at) low);
+  loses_none = λ u has below. low.loses_none u (All-contains (λ one. Has one.change u) asks ask has at) (before.loses_none u has below);
+  keeps = λ other step is. step ask mid new at before.kept place low (before.keeps other step is);
   none = λ e. absurd (omega (arith, e));
   halves = omega (arith, low.halves, before.halves);
   fewer = λ some open'. ⊎_elim (first open') (later open') (cases_eq i 0);
 }
   where
-    place : IsPlace mid c
-    place = place-on old mid c before.size before.arities (All-contains (IsPlace old) changes c places at)
+    place : IsPlace mid ask.change
+    place = place-on old mid ask.change before.size before.arities (All-contains (λ one. IsPlace old one.change) asks ask places at)
 
-    first : All (IsOpen old) changes → i ≡ 0 → half_count new < half_count old
+    first : All (λ one. IsOpen old one.change) asks → i ≡ 0 → half_count new < half_count old
     first open' e =
         let same : mid ≡ old = before.none e
         in let fewer : half_count new < half_count mid
-        = low.fewer (subst (λ s. IsOpen s c) (sym same) (All-contains (IsOpen old) changes c open' at))
+        = low.fewer (subst (λ s. IsOpen s ask.change) (sym same) (All-contains (λ one. IsOpen old one.change) asks ask open' at))
         in subst (λ s. half_count new < half_count s) same fewer
 
-    later : All (IsOpen old) changes → (i ≡ 0 → ⊥) → half_count new < half_count old
+    later : All (λ one. IsOpen old one.change) asks → (i ≡ 0 → ⊥) → half_count new < half_count old
     later open' ne =
         let fewer : half_count mid < half_count old = before.fewer (omega (arith, ne)) open'
         in omega (arith, fewer, low.halves)

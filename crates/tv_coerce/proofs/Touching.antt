@@ -1,18 +1,16 @@
 -- Changes of one kind touch only what rules of that kind see.
 use Rattle.std.proofs.Common.{ℕ, ◌≡◌, ◌≢◌, ◌∙◌, ◌⊎◌, Bool, true, false, true≢false, List, Some, slice_get}
-use Rattle.std.proofs.Common.{All, Contains, ⊎_elim, inl, inr, refl, sym, ap, subst}
+use Rattle.std.proofs.Common.{Contains, ⊎_elim, inl, inr, refl, sym, ap, subst}
 use Rattle.std.specs.List.{range_with_len}
 use Rattle.std.proofs.lemmas.Bool.{cases_eq}
-use Rattle.std.proofs.lemmas.List.Elements.{All-contains}
 use Rattle.tv_kleene.specs.declared.K3.{K3}
 use Rattle.tv_kleene.specs.declared.K3.TheVariants.{No, Half, Yes}
-use Rattle.tv_kleene.specs.Kleene.{smaller_of, IsAtMost}
-use Rattle.tv_kleene.proofs.Lattice.{smaller-assoc, smaller-yes}
+use Rattle.tv_kleene.specs.Kleene.{IsAtMost}
+use Rattle.tv_kleene.proofs.Lattice.{smaller-yes}
 use Rattle.tv_kleene.proofs.Thresholds.{Yes-below}
 use Rattle.tv_model.specs.Program.{HeadForm, HNever, HAtom, HSame, RuleForm}
 use Rattle.tv_model.specs.Rules.{IsOfIndividuals, head_formula}
 use Rattle.tv_model.proofs.Heads.{free-in_head, head-unmarked}
-use Rattle.tv_model.proofs.Lists.{slice_get-contains}
 use Rattle.tv_embedding_laws.specs.Embedding.{IsBelow}
 use Rattle.tv_eval_laws.proofs.Embedded.{values_are_monotone}
 use Rattle.tv_rules.specs.Standing.{IsEquality, IsHeadOf, HasTwice}
@@ -27,7 +25,7 @@ use Rattle.tv_struct.proofs.StructureLaws.{writes_one_entry, writes_one_summary}
 use Rattle.tv_coerce.specs.declared.change.Change.{Change}
 use Rattle.tv_coerce.specs.declared.change.Change.TheVariants.{Value, Ordinary}
 use Rattle.tv_coerce.specs.Changes.{IsPlace, IsLowered, changed}
-use Rattle.tv_coerce.specs.RuleSets.{HasAtLeast, HasMore, HasLost, IsIn, IsRuleThat, IsStableBut}
+use Rattle.tv_coerce.specs.RuleSets.{HasLost, IsStableBut}
 use Rattle.tv_coerce.specs.Touched.{HasNotMoved, IsChangeOf, IsTouched}
 use Rattle.tv_coerce_moves.specs.Moves.{MayMove}
 use Rattle.tv_rules.specs.Seen.{Sees, SeesTwice}
@@ -41,17 +39,9 @@ at-most-itself No = refl
 at-most-itself Half = refl
 at-most-itself Yes = refl
 
-at-most-trans : (x y z : K3) → IsAtMost x y → IsAtMost y z → IsAtMost x z
-at-most-trans x y z first second =
-    ap (λ k. smaller_of k z) (sym first) ∙ smaller-assoc x y z ∙ ap (smaller_of x) second ∙ first
-
 not-moved : (up : Bool) (x y : K3) → y ≡ x → HasNotMoved up x y
 not-moved true x y e = subst (λ k. IsAtMost k x) (sym e) (at-most-itself x)
 not-moved false x y e = subst (IsAtMost x) (sym e) (at-most-itself x)
-
-not-moved-both : (up : Bool) (x y z : K3) → HasNotMoved up x y → HasNotMoved up y z → HasNotMoved up x z
-not-moved-both true x y z first second = at-most-trans z y x second first
-not-moved-both false x y z first second = at-most-trans x y z first second
 
 pub touched-none : (head : HeadForm) (s : StructureForm) → IsTouched head s s
 touched-none head s = record {
@@ -60,16 +50,6 @@ touched-none head s = record {
   moved = λ up q none tuple. not-moved up (value_at s q tuple) (value_at s q tuple) refl;
   summaries = λ not_same u. refl;
   fewer = λ u on. on;
-}
-
-pub touched-both : (head : HeadForm) (r s t : StructureForm) → IsTouched head r s → IsTouched head s t → IsTouched head r t
-touched-both head r s t first second = record {
-  size = second.size ∙ first.size;
-  values = λ q not_head tuple. second.values q not_head tuple ∙ first.values q not_head tuple;
-  moved = λ up q none tuple. not-moved-both up (value_at r q tuple) (value_at s q tuple) (value_at t q tuple)
-      (first.moved up q none tuple) (second.moved up q none tuple);
-  summaries = λ not_same u. second.summaries not_same u ∙ first.summaries not_same u;
-  fewer = λ u on. first.fewer u (second.fewer u on);
 }
 
 -- a value that meets the head
@@ -195,18 +175,4 @@ pub stable-without : (s : StructureForm) (rules : List RuleForm) (n : ℕ) (old 
 stable-without s rules n old new stable lost here m rule found out =
     ⊎_elim (λ e. here rule (subst (λ k. slice_get rules k ≡ Some rule) e found))
     (λ ne. stable m rule found (λ was. out ((lost.others m ne).1 was)))
-    (cases_eq m n)
-
--- a rule that was taken out and asked for changes waits again
-pub stable-after : (s t : StructureForm) (rules : List RuleForm) (n : ℕ) (rule : RuleForm) (mid more new : List Bool)
-    → All IsPlainRule rules → IsTouched rule.head s t → t.fresh ≡ s.fresh → IsBelow (structure_of t) (structure_of s)
-    → ((m : ℕ) (other : RuleForm) → slice_get rules m ≡ Some other → m ≢ n → ¬ IsIn mid m → IsStableUnder (structure_of s) other)
-    → HasAtLeast (IsRuleThat (Sees rule.head) rules) mid more → HasMore (λ m. m ≡ n) more new → IsStableBut rules new t
-stable-after s t rules n rule mid more new plain touched fresh below stable seeing again m other found out =
-    ⊎_elim
-    (λ e. absurd (out ((again.exact m).1 (inr e))))
-    (λ ne. stays-stable rule.head s t other touched fresh below
-    (All-contains IsPlainRule rules other plain (slice_get-contains rules m other found))
-    (λ it. out ((again.exact m).1 (inl (seeing.those m (other, found, it)))))
-    (stable m other found ne (λ was. out ((again.exact m).1 (inl (seeing.kept m was))))))
     (cases_eq m n)

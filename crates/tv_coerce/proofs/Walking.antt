@@ -45,10 +45,11 @@ use Rattle.tv_rules.specs.Kin.{IsKin}
 use Rattle.tv_coerce.specs.Counting.{AreLeft, CountTells, IsAt, IsCounted, IsFrom, IsIdle, IsWalkStart, Lacks}
 use Rattle.tv_coerce.specs.Counting.{counted}
 use Rattle.tv_coerce.specs.Counting.{members_in, variables_in}
-use Rattle.tv_coerce.specs.declared.finding.Found.{Found}
+use Rattle.std.specs.Global.{Vec}
+use Rattle.tv_coerce.specs.declared.noted.Ask.{Ask}
 use Rattle.tv_coerce.specs.declared.noted.Noted.{Noted}
 use Rattle.tv_coerce.specs.Ready.{CanCoerce}
-use Rattle.tv_coerce.specs.Trying.{AreForced, AreNoted, ArePlaced, CanTry, DifferOnlyAt, GoesOn, IsAdded}
+use Rattle.tv_coerce.specs.Trying.{AreNoted, ArePlaced, CanTry, DifferOnlyAt, GoesOn, IsAdded, IsForcedBy}
 use Rattle.tv_coerce.specs.Trying.{IsForced}
 use Rattle.tv_coerce.specs.Trying.{IsFound, IsHopeless, IsNeed, IsNotedOf, IsTold, IsTrial}
 use Rattle.tv_coerce.specs.Trying.{StaysBound, rule_at, trial_rule}
@@ -166,33 +167,24 @@ module _ (trial : Trial) where
       (at : ArePlaced trial.structure.now.size (rule_at trial.closed.now n) [] places)
       (body : value (structure_of trial.structure.now) (assignment_of places) (rule_at trial.closed.now n).body ≡ Yes) where
     added-forced : (c : Change) (old new : Noted) → IsNeed trial.structure.now (assignment_of places) (rule_at trial.closed.now n).head (Put c)
-        → IsAdded c n old new → AreNoted trial old → AreNoted trial new
-    added-forced c old new need (inl (list, number, before)) all = record {
-      kin = λ some. subst (IsKin trial.closed.now trial.number) (sym number) kin;
-      forced = subst (λ m. All (IsForced trial.structure.now (rule_at trial.closed.now m)) new.list.items) (sym number)
-          (subst (All (IsForced trial.structure.now (rule_at trial.closed.now n))) (sym list)
-          (All-push (IsForced trial.structure.now (rule_at trial.closed.now n)) old.list.items c (was before)
-          (forced-here trial.structure.now (rule_at trial.closed.now n) places plain at body c need)));
-    }
-      where
-        was : (old.list.items ≡ []) ⊎ (old.number ≡ n) → All (IsForced trial.structure.now (rule_at trial.closed.now n)) old.list.items
-        was (inl none) =
-            subst (All (IsForced trial.structure.now (rule_at trial.closed.now n))) (sym none)
-            (All-nil (IsForced trial.structure.now (rule_at trial.closed.now n)))
-        was (inr same) = subst (λ m. All (IsForced trial.structure.now (rule_at trial.closed.now m)) old.list.items) same all.forced
-    added-forced c old new need (inr (list, number, some)) all = record {
-      kin = λ there. subst (IsKin trial.closed.now trial.number) (sym number) (all.kin some);
-      forced = subst (λ m. All (IsForced trial.structure.now (rule_at trial.closed.now m)) new.list.items) (sym number)
-          (subst (All (IsForced trial.structure.now (rule_at trial.closed.now old.number))) (sym list) all.forced);
-    }
+        → IsAdded (record { number = n; change = c }) old new → AreNoted trial old → AreNoted trial new
+    added-forced c old new need (inl list) all =
+        subst (All (IsForcedBy trial.closed.now trial.number trial.structure.now)) (sym list)
+        (All-push (IsForcedBy trial.closed.now trial.number trial.structure.now) old.list.items (record { number = n; change = c }) all
+        (record {
+          kin = kin;
+          forced = forced-here trial.structure.now (rule_at trial.closed.now n) places plain at body c need;
+        }))
+    added-forced c old new need (inr (list, some)) all =
+        subst (All (IsForcedBy trial.closed.now trial.number trial.structure.now)) (sym list) all
 
-    added-some : (c : Change) (old new : Noted) → IsAdded c n old new
+    added-some : (ask : Ask) (old new : Noted) → IsAdded ask old new
         → (length old.list.items ≤ length new.list.items) × (new.list.items ≢ [])
-    added-some c old new (inl (list, number, before)) = (
-      omega (arith, ap length list, length-append old.list.items (c ∷ [])),
-      λ none. absurd (omega (arith, ap length none, ap length list, length-append old.list.items (c ∷ []))),
+    added-some ask old new (inl list) = (
+      omega (arith, ap length list, length-append old.list.items (ask ∷ [])),
+      λ none. absurd (omega (arith, ap length none, ap length list, length-append old.list.items (ask ∷ []))),
     )
-    added-some c old new (inr (list, number, some)) = (omega (arith, ap length list), λ none. some (sym list ∙ none))
+    added-some ask old new (inr (list, some)) = (omega (arith, ap length list), λ none. some (sym list ∙ none))
 
     pub noted-told : (Tried : Type 0) (old new : Noted) (outcome : Outcome)
         → (IsHeadMet (structure_of trial.structure.now) (assignment_of places) (rule_at trial.closed.now n).head → Tried)
@@ -202,8 +194,8 @@ module _ (trial : Trial) where
         subst (λ m. IsTold trial Tried old m Possible) (sym same) (told-tried Tried old (turn met))
     noted-told Tried old new Possible turn (inr (c, added, need)) = record {
       forced = added-forced c old new need added;
-      grows = (added-some c old new added).0;
-      tells = λ none. absurd ((added-some c old new added).1 none);
+      grows = (added-some (record { number = n; change = c }) old new added).0;
+      tells = λ none. absurd ((added-some (record { number = n; change = c }) old new added).1 none);
     }
     noted-told Tried old new Impossible turn (same, never) = record {
       forced = subst (AreNoted trial) (sym same);
@@ -834,19 +826,14 @@ can-try closed n s scratch within ready =
     in record { over = ready.over n none within; plain = ready.plain n none within; fits = ready.fits n none within }
 
 -- what was noted is what was found
-pub found-told : (trial : Trial) (old new : Noted) (found : Found) → old.list.items ≡ [] → found.number ≡ new.number
-    → found.changes ≡ new.list → IsTold trial (AreTriedFor trial IsAny) old new Possible
-    → IsFound trial.closed.now trial.number trial.structure.now found
-found-told trial old new found none number changes told =
-    let list : found.changes.items ≡ new.list.items = ap (λ v. v.items) changes
-    in let all : AreNoted trial new = told.forced (record {
-      kin = λ some. absurd (some none);
-      forced = subst (All (IsForced trial.structure.now (rule_at trial.closed.now old.number))) (sym none)
-          (All-nil (IsForced trial.structure.now (rule_at trial.closed.now old.number)));
-    })
-    in let Of : ℕ → List Change → Type 0 = AreForced trial.closed.now trial.number trial.structure.now
+pub found-told : (trial : Trial) (old new : Noted) (asks : Vec Ask) → old.list.items ≡ [] → asks ≡ new.list
+    → IsTold trial (AreTriedFor trial IsAny) old new Possible
+    → IsFound trial.closed.now trial.number trial.structure.now asks.items
+found-told trial old new asks none same told =
+    let list : asks.items ≡ new.list.items = ap (λ v. v.items) same
+    in let Of : List Ask → Type 0 = All (IsForcedBy trial.closed.now trial.number trial.structure.now)
     in record {
-      forced = subst (λ k. Of k found.changes.items) (sym number) (subst (Of new.number) (sym list) all);
+      forced = subst Of (sym list) (told.forced (subst Of (sym none) (All-nil (IsForcedBy trial.closed.now trial.number trial.structure.now))));
       stable = λ nothing n kin b individuals body. told.tells (sym list ∙ nothing) n kin b tt individuals body;
     }
 

@@ -1,11 +1,13 @@
 -- Sets of numbers of rules.
 use Rattle.std.specs.Prelude.{ℕ, ◌≡◌, ◌≢◌, ◌<◌, ◌≤◌, ◌⊎◌, ◌↔◌, Bool, true, false, List, length, Some}
-use Rattle.std.specs.Prelude.{slice_get}
+use Rattle.std.specs.Prelude.{slice_get, Contains, Option}
 use Rattle.std.specs.Prelude.{slice_index_or}
 use Rattle.std.specs.List.{sum_by}
 use Rattle.tv_model.specs.Program.{RuleForm}
 use Rattle.tv_stable_laws.specs.Stable.{IsStableUnder}
 use Rattle.tv_struct.specs.StructureForm.{StructureForm, structure_of}
+use Rattle.tv_rules.specs.Seen.{Sees}
+use Rattle.tv_coerce.specs.declared.noted.Ask.{Ask}
 
 -- the number is in the set; a set has a flag for each number
 abbrev pub IsIn : List Bool → ℕ → Type 0
@@ -62,3 +64,16 @@ abbrev pub IsStableBut : List RuleForm → List Bool → StructureForm → Type 
 IsStableBut rules set s =
     (n : ℕ) (rule : RuleForm) → slice_get rules n ≡ Some rule → ¬ IsIn set n
     → IsStableUnder (structure_of s) rule
+
+-- the rule sees what the rule of that number may change
+abbrev pub SeesRule : List RuleForm → ℕ → RuleForm → Type 0
+SeesRule rules n other = (rule : RuleForm) × (slice_get rules n ≡ Some rule) × Sees rule.head other
+
+-- those that see what the rule of the number may change, if one is told, are in the set
+abbrev pub IsSeenTo : List RuleForm → Option ℕ → List Bool → Type 0
+IsSeenTo rules last set =
+    (n m : ℕ) → last ≡ Some n → IsRuleThat (SeesRule rules n) rules m → IsIn set m
+
+-- it sees what one of those may change that ask for something
+abbrev pub SeesSome : List RuleForm → List Ask → RuleForm → Type 0
+SeesSome rules asks other = (ask : Ask) × Contains asks ask × SeesRule rules ask.number other

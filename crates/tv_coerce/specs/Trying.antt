@@ -21,7 +21,8 @@ use Rattle.tv_coerce.specs.Ready.{IsRuleOver}
 use Rattle.tv_coerce.specs.Touched.{IsChangeOf}
 use Rattle.tv_coerce_members.specs.Members.{IsLaidOut}
 use Rattle.tv_rules.specs.Kin.{IsKin, IsTriedBy, skip_of}
-use Rattle.tv_coerce.specs.declared.finding.Found.{Found}
+use Rattle.std.specs.Global.{Vec}
+use Rattle.tv_coerce.specs.declared.noted.Ask.{Ask}
 use Rattle.tv_coerce.specs.declared.noted.Noted.{Noted}
 use Rattle.tv_coerce.specs.declared.change.Change.{Change}
 use Rattle.tv_coerce.specs.declared.trial.Trial.{Trial}
@@ -88,20 +89,18 @@ pub record StaysBound (s : StructureForm) (old now : Evaluator) : Type 0 where
   pub structure : bound_structure now ≡ s
   pub room : bound_room now ≡ bound_room old
 
--- the change was put behind what was noted, with the number of the rule that asks for it; or it was passed
--- over where something was noted
-abbrev pub IsAdded : (c : Change) (number : ℕ) → (old new : Noted) → Type 0
-IsAdded c number old new =
-    ((new.list.items ≡ old.list.items ++ c ∷ []) × (new.number ≡ number)
-    × ((old.list.items ≡ []) ⊎ (old.number ≡ number)))
-    ⊎ ((new.list.items ≡ old.list.items) × (new.number ≡ old.number) × (old.list.items ≢ []))
+-- what is asked for was put behind what was noted; or it was passed over where something was noted
+abbrev pub IsAdded : (ask : Ask) → (old new : Noted) → Type 0
+IsAdded ask old new =
+    (new.list.items ≡ old.list.items ++ ask ∷ [])
+    ⊎ ((new.list.items ≡ old.list.items) × (old.list.items ≢ []))
 
 -- what was noted of the head of the rule of that number under one assignment
 abbrev pub IsNotedOf : StructureForm → Assignment → (number : ℕ) → HeadForm → (old new : Noted) → Outcome
     → Type 0
 IsNotedOf s a number head old new Possible =
     ((new ≡ old) × IsNeed s a head Nothing)
-    ⊎ ((c : Change) × IsAdded c number old new × IsNeed s a head (Put c))
+    ⊎ ((c : Change) × IsAdded (record { number = number; change = c }) old new × IsNeed s a head (Put c))
 IsNotedOf s a number head old new Impossible = (new ≡ old) × IsNeed s a head Never
 
 -- only what the variables that are left stand for may differ
@@ -116,20 +115,19 @@ pub record HasHopeless (closed : List Rule) (number : ℕ) (s : StructureForm) :
   pub kin : IsKin closed number hopeless
   pub is : IsHopeless s (rule_at closed hopeless)
 
--- the changes are asked for by one of them, whose number is given
-pub record AreForced (closed : List Rule) (number : ℕ) (s : StructureForm) (by : ℕ) (changes : List Change)
-    : Type 0 where
-  pub kin : changes ≢ [] → IsKin closed number by
-  pub forced : All (IsForced s (rule_at closed by)) changes
+-- one of them asks for the change
+pub record IsForcedBy (closed : List Rule) (number : ℕ) (s : StructureForm) (ask : Ask) : Type 0 where
+  pub kin : IsKin closed number ask.number
+  pub forced : IsForced s (rule_at closed ask.number) ask.change
 
 abbrev pub AreNoted : Trial → Noted → Type 0
 AreNoted trial noted =
-    AreForced trial.closed.now trial.number trial.structure.now noted.number noted.list.items
+    All (IsForcedBy trial.closed.now trial.number trial.structure.now) noted.list.items
 
 -- where nothing was noted, that all was tried; or that no structure below is stable
-abbrev pub Tells : Trial → (Tried : Type 0) → List Change → Outcome → Type 0
-Tells trial Tried changes Possible = changes ≡ [] → Tried
-Tells trial Tried changes Impossible = HasHopeless trial.closed.now trial.number trial.structure.now
+abbrev pub Tells : Trial → (Tried : Type 0) → List Ask → Outcome → Type 0
+Tells trial Tried asks Possible = asks ≡ [] → Tried
+Tells trial Tried asks Impossible = HasHopeless trial.closed.now trial.number trial.structure.now
 
 -- what was noted, and is told, where that was to be tried
 pub record IsTold (trial : Trial) (Tried : Type 0) (old new : Noted) (outcome : Outcome) : Type 0 where
@@ -137,12 +135,12 @@ pub record IsTold (trial : Trial) (Tried : Type 0) (old new : Noted) (outcome : 
   pub grows : length old.list.items ≤ length new.list.items
   pub tells : Tells trial Tried new.list.items outcome
 
--- what has to change, and by which rule; where that is nothing the structure is stable under all of them
-pub record IsFound (closed : List Rule) (number : ℕ) (s : StructureForm) (found : Found) : Type 0 where
-  pub forced : AreForced closed number s found.number found.changes.items
-  pub stable : found.changes.items ≡ [] → (n : ℕ) → IsKin closed number n
+-- what has to change, and by which rules; where that is nothing the structure is stable under all of them
+pub record IsFound (closed : List Rule) (number : ℕ) (s : StructureForm) (asks : List Ask) : Type 0 where
+  pub forced : All (IsForcedBy closed number s) asks
+  pub stable : asks ≡ [] → (n : ℕ) → IsKin closed number n
       → IsStableUnder (structure_of s) (rule_at closed n)
 
-abbrev pub IsTrialResult : List Rule → ℕ → StructureForm → Option Found → Type 0
+abbrev pub IsTrialResult : List Rule → ℕ → StructureForm → Option (Vec Ask) → Type 0
 IsTrialResult closed number s None = HasHopeless closed number s
-IsTrialResult closed number s (Some found) = IsFound closed number s found
+IsTrialResult closed number s (Some asks) = IsFound closed number s asks.items

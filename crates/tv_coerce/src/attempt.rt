@@ -8,28 +8,28 @@ ghost use Rattle.tv_coerce.specs.Ready.{CanCoerce};
 ghost use Rattle.tv_coerce.specs.RuleSets.{IsStableBut};
 ghost use Rattle.tv_coerce.specs.Trying.{StaysBound};
 
-use crate::change::Change;
-use crate::finding::{Found, find};
+use crate::finding::find;
+use crate::noted::Ask;
 use crate::rule_set::RuleSet;
 use std::alloc::{AllocError, Global};
 use tv_eval::{Assignment, Evaluator, Scratch};
 use tv_rules::Closed;
 use tv_struct::Structure;
 
-/// What a rule asks for.
+/// What rules ask for.
 #[derive(Debug, Drop)]
 pub(crate) enum Asked {
-    /// The rule of that number was tried, and one that came of the same base rule asks for changes, of which
-    /// there are some.
-    Changes(usize, Found),
+    /// The rule of that number was tried, and it or others that came of the same base rule ask for changes,
+    /// of which there are some.
+    Changes(usize, Vec<Ask>),
     /// No structure below is stable.
     Impossible,
 }
 
-fn has_some(changes: &[Change]) -> bool
-    ensures { MatchBool result (changes.now ≢ []) (changes.now ≡ []) }
+fn has_some(asks: &[Ask]) -> bool
+    ensures { MatchBool result (asks.now ≢ []) (asks.now ≡ []) }
 {
-    match changes {
+    match asks {
         [] => false,
         [_, ..] => true,
     }
@@ -53,12 +53,12 @@ fn attempt_by<'a>(
     ensures stays { StaysBound s.now evaluator.old evaluator.new }
 {
     let mut a = Assignment::new();
-    while let Some(number) = waiting.take() {
+    while let Some(number) = waiting.take(closed) {
         match find(alloc, closed, number, s, evaluator, &mut a)? {
             None => return Ok(Some(Asked::Impossible)),
-            Some(found) => {
-                if has_some(found.changes.as_slice()) {
-                    return Ok(Some(Asked::Changes(number, found)));
+            Some(asks) => {
+                if has_some(asks.as_slice()) {
+                    return Ok(Some(Asked::Changes(number, asks)));
                 }
                 waiting.remove_all(closed.kin(number));
             }

@@ -6,8 +6,7 @@ ghost use Rattle.tv_rules.specs.EntryForms.{rules_of};
 ghost use Rattle.tv_coerce.specs.Ready.{CanCoerce};
 ghost use Rattle.tv_coerce.specs.Trying.{IsTrialResult, StaysBound};
 
-use crate::change::Change;
-use crate::noted::Noted;
+use crate::noted::{Ask, Noted};
 use crate::trial::{Outcome, Trial, walk_all};
 use std::alloc::{AllocError, Global};
 use tv_eval::{Assignment, Evaluator};
@@ -15,16 +14,8 @@ use tv_model::Var;
 use tv_rules::Closed;
 use tv_struct::Structure;
 
-/// What has to change where a structure is to be stable under a rule.
-#[derive(Debug, Drop)]
-pub(crate) struct Found {
-    /// The number of the rule.
-    pub number: usize,
-    pub changes: Vec<Change>,
-}
-
 /// What has to change where a structure is to be stable under the rule and those that came of the same base
-/// rule: what one of them asks for, nothing where it is stable under all; none where that can't be.
+/// rule: what they ask for, nothing where it is stable under all; none where that can't be.
 pub(crate) fn find<'a>(
     alloc: Global,
     closed: &'a Closed,
@@ -32,7 +23,7 @@ pub(crate) fn find<'a>(
     s: &'a Structure,
     evaluator: &mut Evaluator<'a>,
     a: &mut Assignment,
-) -> Result<Option<Found>, AllocError>
+) -> Result<Option<Vec<Ask>>, AllocError>
     requires number { number < length (rules_of closed.now) }
     requires ready { CanCoerce (rules_of closed.now) s.now (bound_room evaluator.old) }
     requires bound { IsBound evaluator.old }
@@ -50,7 +41,7 @@ pub(crate) fn find<'a>(
     };
     let mut noted = Noted::new(alloc, s.size());
     match walk_all(&trial, evaluator, a, &mut noted)? {
-        Outcome::Possible => Ok(Some(noted.into_found())),
+        Outcome::Possible => Ok(Some(noted.into_asks())),
         Outcome::Impossible => Ok(None),
     }
 }

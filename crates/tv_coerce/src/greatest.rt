@@ -34,9 +34,9 @@ fn settle(
     while let Some(asked) = attempt(alloc, closed, t, waiting, scratch)? {
         match asked {
             Asked::Impossible => return Ok(false),
-            Asked::Changes(tried, found) => {
-                sharpen(t, found.changes.as_slice());
-                waiting.add_watching(closed, closed.head(found.number));
+            Asked::Changes(tried, asks) => {
+                sharpen(t, asks.as_slice());
+                waiting.add_seeing_asks(closed, asks.as_slice());
                 waiting.insert(tried);
             }
         }
@@ -66,7 +66,7 @@ pub fn coerce(
 
 /// What `coerce` gives, where `s` is known to be stable under each rule whose number isn't waiting: only
 /// those that wait are tried, and those that see what these change.
-pub fn coerce_waiting(
+fn coerce_waiting(
     alloc: Global,
     closed: &Closed,
     s: &Structure,

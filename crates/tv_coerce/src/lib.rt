@@ -16,6 +16,6 @@ mod rule_set;
 mod sharpen;
 mod trial;
 
-pub use greatest::{coerce, coerce_in_place, coerce_waiting};
+pub use greatest::{coerce, coerce_in_place};
 pub use laws::{closed_rules_can_be_tried, coercing_is_determined, coercing_loses_no_heap};
 pub use rule_set::RuleSet;

@@ -4,27 +4,42 @@ ghost use Rattle.std.specs.Prelude.{◌≡◌, ◌≢◌, [], IsTrue, OnOk};
 ghost use Rattle.tv_coerce.specs.Trying.{IsAdded};
 
 use crate::change::Change;
-use crate::finding::Found;
 use std::alloc::{AllocError, Global};
 use tv_struct::Tuple;
 
-/// Changes that one rule asks for in a structure of `size` individuals, all of one predicate to one value, or
-/// of summaries. What another rule asks for meanwhile is passed over.
+/// A change, and the number of the rule that asks for it.
+#[derive(Clone, Copy, Debug, PartialEq, Eq)]
+pub(crate) struct Ask {
+    pub number: usize,
+    pub change: Change,
+}
+
+/// Which changes a rule asked for, by their places. A hint, of which nothing is promised.
 #[derive(Debug, Drop)]
-pub(crate) struct Noted {
-    list: Vec<Change>,
-    /// Which places of the predicate stand in the list; no flags as long as that is empty.
-    seen: Vec<bool>,
-    /// How often the rule asked for a change, in turns of the count.
-    asked: usize,
+struct Seen {
     /// The number of the rule.
     number: usize,
-    /// How many of its variables before the last don't stand in its head, none where the last one does. A
-    /// hint, of which nothing is promised.
+    places: Vec<bool>,
+}
+
+/// Changes that rules which came of one base rule ask for in a structure of `size` individuals. What more
+/// than some of them ask for is passed over.
+#[derive(Debug, Drop)]
+pub(crate) struct Noted {
+    list: Vec<Ask>,
+    /// For each rule that asked which changes stand in the list.
+    seen: Vec<Seen>,
+    /// How often a rule asked for a change, in turns of the count.
+    asked: usize,
+    /// How many variables before the last don't stand in the head of the rule that asked last, none where the
+    /// last one does. A hint, of which nothing is promised.
     settled: Option<usize>,
     alloc: Global,
     size: u32,
 }
+
+/// The changes of so many rules are noted.
+const MOST: usize = 8;
 
 /// The place of a change among those that a rule may ask for.
 fn place_of(change: Change, size: u32) -> usize {
@@ -46,6 +61,28 @@ fn count_of(change: Change, size: u32) -> usize {
     }
 }
 
+impl Seen {
+    fn has(&self, place: usize) -> bool {
+        place < self.places.len() && self.places[place]
+    }
+
+    fn mark(&mut self, place: usize) {
+        if place < self.places.len() {
+            self.places[place] = true;
+        }
+    }
+}
+
+/// Which of them has that number; as many as there are, where none has. A hint, of which nothing is promised.
+fn place_in(seen: &[Seen], number: usize) -> usize {
+    for (place, one) in seen.iter().enumerate() {
+        if one.number == number {
+            return place;
+        }
+    }
+    seen.len()
+}
+
 impl Noted {
     /// No changes. The size, that of the structure, tells places of changes apart: a hint, of which nothing
     /// is promised.
@@ -56,64 +93,57 @@ impl Noted {
             list: Vec::new(alloc),
             seen: Vec::new(alloc),
             asked: 0,
-            number: 0,
             settled: None,
             alloc,
             size,
         }
     }
 
-    /// Notes the change, which the rule of that number asks for, or passes it over, but only where some
-    /// change is noted already.
-    pub fn add(
-        &mut self,
-        change: Change,
-        number: usize,
-        settled: Option<usize>,
-    ) -> Result<(), AllocError>
-        ensures { OnOk result (IsAdded change number self.old self.new) }
+    /// Notes what a rule asks for, or passes it over, but only where something is noted already.
+    pub fn add(&mut self, ask: Ask, settled: Option<usize>) -> Result<(), AllocError>
+        ensures { OnOk result (IsAdded ask self.old self.new) }
     {
-        if self.list.is_empty() {
-            self.number = number;
-            self.settled = settled;
-        } else if self.number != number {
-            return Ok(());
+        if self.is_new(ask)? || self.list.is_empty() {
+            self.list.push(ask)?;
         }
         self.asked = self.asked.wrapping_add(1);
-        let place = place_of(change, self.size);
-        if !self.list.is_empty() && self.is_seen(place) {
-            return Ok(());
-        }
-        if self.seen.is_empty() {
-            self.seen = vec![in self.alloc; false; count_of(change, self.size)]?;
-        }
-        self.mark(place);
-        self.list.push(change)?;
+        self.settled = settled;
         Ok(())
     }
 
-    fn is_seen(&self, place: usize) -> bool {
-        place < self.seen.len() && self.seen[place]
-    }
-
-    fn mark(&mut self, place: usize)
-        ensures list { self.new.list ≡ self.old.list }
-        ensures number { self.new.number ≡ self.old.number }
+    /// Whether the change wasn't asked for by its rule so far, which is marked; false too where too many
+    /// rules ask. A hint, of which nothing is promised.
+    fn is_new(&mut self, ask: Ask) -> Result<bool, AllocError>
+        ensures { OnOk result (self.new.list ≡ self.old.list) }
     {
-        if place < self.seen.len() {
-            self.seen[place] = true;
+        let place = place_of(ask.change, self.size);
+        let at = place_in(self.seen.as_slice(), ask.number);
+        if at == self.seen.len() {
+            if at == MOST {
+                return Ok(false);
+            }
+            let places = vec![in self.alloc; false; count_of(ask.change, self.size)]?;
+            self.seen.push(Seen {
+                number: ask.number,
+                places,
+            })?;
         }
+        if at < self.seen.len() && !self.seen[at].has(place) {
+            self.seen[at].mark(place);
+            return Ok(true);
+        }
+        Ok(false)
     }
 
-    /// How often the rule asked for a change, noted anew or not, in turns of the count: a hint, of which
+    /// How often a rule asked for a change, noted anew or not, in turns of the count: a hint, of which
     /// nothing is promised.
     pub fn asked(&self) -> usize {
         self.asked
     }
 
     /// Tells, by that count, whether a change was asked for since it stood so, while so many variables before
-    /// the last were left, none of which stands in the rule's head: what follows can then ask for no more
-    /// than that one. True only where some change is noted; that it is false promises nothing.
+    /// the last were left, none of which stands in the head of the rule that asked: what follows can then ask
+    /// for no more than that one. True only where some change is noted; that it is false promises nothing.
     pub fn has_more(&self, asked: usize, rest: usize) -> bool
         ensures { IsTrue result → self.now.list.items ≢ [] }
     {
@@ -126,14 +156,10 @@ impl Noted {
         }
     }
 
-    /// The changes, in the order in which they were noted, and the rule that asks for them.
-    pub fn into_found(self) -> Found
-        ensures number { result.number ≡ self.number }
-        ensures changes { result.changes ≡ self.list }
+    /// The changes, in the order in which they were noted, each with the rule that asks for it.
+    pub fn into_asks(self) -> Vec<Ask>
+        ensures { result ≡ self.list }
     {
-        Found {
-            number: self.number,
-            changes: self.list,
-        }
+        self.list
     }
 }

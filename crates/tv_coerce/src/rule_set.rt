@@ -1,14 +1,16 @@
 //! Sets of numbers of rules.
 
 ghost use Rattle.std.specs.Prelude.{◌≡◌, ◌<◌, ◌≤◌, ◌≢◌, ℕ, false, true, length, replicate, slice_index_or};
-ghost use Rattle.std.specs.Prelude.{slice_set, All, Contains, IfOk, MatchOption};
+ghost use Rattle.std.specs.Prelude.{slice_set, All, Contains, IfOk, IfSome, IsTrue, MatchOption, Some};
 ghost use Rattle.tv_model.specs.Program.{head_of};
 ghost use Rattle.tv_rules.specs.EntryForms.{rules_of};
 ghost use Rattle.tv_rules.specs.Moved.{IsMoved, IsMovedBySome};
 ghost use Rattle.tv_rules.specs.Seen.{Sees};
 ghost use Rattle.tv_rules.specs.Standing.{StandsIn, SeesSummaries};
 ghost use Rattle.tv_coerce.specs.RuleSets.{AreOf, IsIn, IsRuleThat, HasAtLeast, HasFewer, HasMore, HasLost};
+ghost use Rattle.tv_coerce.specs.RuleSets.{IsSeenTo, SeesRule, SeesSome};
 
+use crate::noted::Ask;
 use std::alloc::{AllocError, Global};
 use std::marker::Model;
 use tv_coerce_moves::Mover;
@@ -22,6 +24,10 @@ pub struct RuleSet {
     flags: Flags,
     /// A number below which none is in the set.
     first: usize,
+    /// Numbers below which none is in the set but those of rules that are tried later, and that are tried
+    /// last. Hints, of which nothing is promised.
+    first_early: usize,
+    first_later: usize,
 }
 
 impl Model for RuleSet {
@@ -35,6 +41,16 @@ impl Model for RuleSet {
     ghost invariant = { λ s. BeginsAt s.first s.flags };
 }
 
+/// Whether the number is told.
+fn is_that(told: Option<usize>, number: usize) -> bool
+    ensures { IsTrue result → told ≡ Some number }
+{
+    match told {
+        Some(n) => n == number,
+        None => false,
+    }
+}
+
 impl RuleSet {
     /// No rules, of those that are closed.
     pub fn of_none(alloc: Global, closed: &Closed) -> Result<RuleSet, AllocError>
@@ -43,6 +59,8 @@ impl RuleSet {
         Ok(RuleSet {
             flags: Flags::of(alloc, closed.count(), false)?,
             first: 0,
+            first_early: 0,
+            first_later: 0,
         })
     }
 
@@ -53,6 +71,8 @@ impl RuleSet {
         Ok(RuleSet {
             flags: Flags::of(alloc, closed.count(), true)?,
             first: 0,
+            first_early: 0,
+            first_later: 0,
         })
     }
 
@@ -63,6 +83,8 @@ impl RuleSet {
         Ok(RuleSet {
             flags: self.flags.copied(alloc)?,
             first: self.first,
+            first_early: self.first_early,
+            first_later: self.first_later,
         })
     }
 
@@ -73,6 +95,8 @@ impl RuleSet {
     {
         self.flags.put(number, true);
         self.first = self.first.min(number);
+        self.first_early = self.first_early.min(number);
+        self.first_later = self.first_later.min(number);
     }
 
     /// Takes the number out of the set, if it is there. What the set loses is no other number; that it loses
@@ -168,17 +192,93 @@ impl RuleSet {
         self.insert_families(closed, closed.movers(head));
     }
 
+    /// Puts at least the rules into the set that see what the rule of that number may change; nothing where
+    /// they stand there, since it is one of those two that were seen to.
+    fn add_seeing_rule(
+        &mut self,
+        closed: &Closed,
+        number: usize,
+        last: Option<usize>,
+        other: Option<usize>,
+    )
+        requires count { length self.old ≡ length (rules_of closed.now) }
+        requires within { number < length (rules_of closed.now) }
+        requires last { IsSeenTo (rules_of closed.now) last self.old }
+        requires other { IsSeenTo (rules_of closed.now) other self.old }
+        ensures { HasAtLeast (IsRuleThat (SeesRule (rules_of closed.now) number) (rules_of closed.now))
+            self.old self.new }
+    {
+        if !is_that(last, number) && !is_that(other, number) {
+            self.add_watching(closed, closed.head(number));
+        }
+    }
+
+    /// Puts at least the rules into the set that see what the rules which ask may change. These mostly take
+    /// turns, so the last two of them are remembered.
+    pub(crate) fn add_seeing_asks(&mut self, closed: &Closed, asks: &[Ask])
+        requires count { length self.old ≡ length (rules_of closed.now) }
+        requires within { All (λ ask. ask.number < length (rules_of closed.now)) asks.now }
+        ensures { HasAtLeast (IsRuleThat (SeesSome (rules_of closed.now) asks.now) (rules_of closed.now))
+            self.old self.new }
+    {
+        let mut last = None;
+        let mut other = None;
+        for ask in asks {
+            self.add_seeing_rule(closed, ask.number, last, other);
+            if !is_that(last, ask.number) {
+                other = last;
+                last = Some(ask.number);
+            }
+        }
+    }
+
+    /// A number of the set, of a rule that isn't tried last: one that is tried later only where none is left
+    /// that is tried first.
+    fn next_early(&mut self, closed: &Closed) -> Option<usize>
+        ensures number { IfSome result (λ n. (n < length self.old) × IsIn self.old n) }
+        ensures same { self.new ≡ self.old }
+    {
+        if let Some(n) = self.flags.next_other(closed.later(), self.first_early) {
+            self.first_early = n;
+            return Some(n);
+        }
+        self.first_early = usize::MAX;
+        if let Some(n) = self.flags.next_other(closed.last(), self.first_later) {
+            self.first_later = n;
+            return Some(n);
+        }
+        self.first_later = usize::MAX;
+        None
+    }
+
+    /// A number of the set, if there is one: that of a rule that is tried last only where no other is left.
+    fn next(&mut self, closed: &Closed) -> Option<usize>
+        ensures number { MatchOption result ((n : ℕ) → ¬ IsIn self.old n)
+            (λ n. (n < length self.old) × IsIn self.old n) }
+        ensures same { self.new ≡ self.old }
+    {
+        if let Some(n) = self.next_early(closed) {
+            return Some(n);
+        }
+        match self.flags.next_true(self.first) {
+            None => None,
+            Some(n) => {
+                self.first = n;
+                Some(n)
+            }
+        }
+    }
+
     /// Takes a number out of the set, if there is one.
-    pub(crate) fn take(&mut self) -> Option<usize>
+    pub(crate) fn take(&mut self, closed: &Closed) -> Option<usize>
         ensures { MatchOption result
             (((n : ℕ) → ¬ IsIn self.old n) × (self.new ≡ self.old))
             (λ n. (n < length self.old) × HasLost n self.old self.new) }
     {
-        match self.flags.next_true(self.first) {
+        match self.next(closed) {
             None => None,
             Some(n) => {
                 self.flags.put(n, false);
-                self.first = n;
                 Some(n)
             }
         }

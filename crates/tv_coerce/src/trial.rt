@@ -24,7 +24,7 @@ ghost use Rattle.tv_coerce.specs.Walks.{AreMet, AreTriedFor, GoesOnIn, IsAny, Is
 use crate::change::Need;
 use crate::counting::{Missing, count, lacking};
 use crate::need::need;
-use crate::noted::Noted;
+use crate::noted::{Ask, Noted};
 use crate::places::{counted, counted_all, opened};
 use std::alloc::AllocError;
 use tv_coerce_members::{Level, Shape};
@@ -79,7 +79,7 @@ fn note_head(
         Need::Nothing => Ok(Outcome::Possible),
         Need::Never => Ok(Outcome::Impossible),
         Need::Put(change) => {
-            noted.add(change, number, settled)?;
+            noted.add(Ask { number, change }, settled)?;
             Ok(Outcome::Possible)
         }
     }

@@ -1,15 +1,16 @@
 -- Splits that lose stability.
-use Rattle.std.proofs.Common.{ℕ, zero, suc, ◌≡◌, Bool, true, false, [], ◌∷◌, inl, inr, ⊎_elim, refl, sym, ◌∙◌}
-use Rattle.std.proofs.Common.{Contains, eqb, eq-eqb}
-use Rattle.std.proofs.lemmas.Bool.{false≢true, cond-true}
+use Rattle.std.proofs.Common.{ℕ, zero, suc, ◌≡◌, Bool, true, false, [], ◌∷◌, ⊎_elim, refl, sym, ◌∙◌}
+use Rattle.std.proofs.Common.{Contains}
+use Rattle.std.proofs.lemmas.Bool.{false≢true}
 use Rattle.tv_kleene.specs.declared.K3.{K3}
-use Rattle.tv_kleene.specs.declared.K3.TheVariants.{No, Half, Yes}
+use Rattle.tv_kleene.specs.declared.K3.TheVariants.{Half, Yes}
 use Rattle.tv_model.specs.Rules.{unique_rule, reflexive_rule}
 use Rattle.tv_model.specs.Truth.{Assignment}
 use Rattle.tv_model.proofs.Lists.{Contains-here, Contains-there, Contains-none, Contains-cases}
 use Rattle.tv_stable_laws.specs.OneCell.{one_individual}
 use Rattle.tv_stable_laws.specs.Stable.{IsStableUnder}
 use Rattle.tv_model.specs.Program.{RuleForm}
+use Rattle.tv_stable_laws.proofs.OneCells.{unique-cell, reflexive-summary}
 use Rattle.tv_coerce_laws.specs.Limits.{two_individuals, SplitLimits}
 use Rattle.tv_coerce_laws.specs.Split.{KeepsRuleValues}
 
@@ -28,17 +29,6 @@ split-in_two rule k summary = record {
 abbrev pub one_each : Assignment
 one_each zero = 0
 one_each (suc v) = 1
-
-only-zero : (u : ℕ) → Contains (0 ∷ []) u → 0 ≡ u
-only-zero u at = ⊎_elim (λ e. e) (λ there. absurd (Contains-none u there)) (Contains-cases 0 u [] at)
-
-unique-before : IsStableUnder (one_individual false Yes) (unique_rule 0)
-unique-before a inside body =
-    let same : a 0 ≡ a 1 = sym (only-zero (a 0) (inside 0 (inr (inl refl)))) ∙ only-zero (a 1) (inside 1 (inr (inr refl)))
-    in inl (cond-true (eqb (a 0) (a 1)) Yes No (eq-eqb (a 0) (a 1) same))
-
-reflexive-before : IsStableUnder (one_individual true Half) (reflexive_rule 0)
-reflexive-before a inside body = inr (record { var = 0; twice = refl; summary = refl; half = refl })
 
 reflexive-lost : ¬ IsStableUnder (two_individuals Half) (reflexive_rule 0)
 reflexive-lost stable =
@@ -61,9 +51,9 @@ unique-lost stable =
 pub split_limits : SplitLimits
 split_limits = record {
   reflexive_split = split-in_two (reflexive_rule 0) Half true;
-  reflexive_before = reflexive-before;
+  reflexive_before = reflexive-summary;
   reflexive_lost = reflexive-lost;
   unique_split = split-in_two (unique_rule 0) Yes false;
-  unique_before = unique-before;
+  unique_before = unique-cell;
   unique_lost = unique-lost;
 }

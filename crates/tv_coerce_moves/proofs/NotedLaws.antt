@@ -3,9 +3,11 @@ use Rattle.std.proofs.Common.{ℕ, zero, suc, ◌≡◌, ◌≢◌, ◌⊎◌, �
 use Rattle.std.proofs.Common.{false}
 use Rattle.std.proofs.Common.{Option, Some, slice_get, slice_set, slice_index_or, refl, sym, ap, subst, inl}
 use Rattle.std.proofs.Common.{inr, ⊎_elim, arith}
-use Rattle.std.proofs.Common.{Result, Ok, Err, OnOk, ◌↔◌, ◌≤◌}
+use Rattle.std.proofs.Common.{◌↔◌, ◌≤◌}
 use Rattle.std.proofs.lemmas.Bool.{cases_eq}
 use Rattle.std.proofs.lemmas.List.{length-set}
+pub use Rattle.std.proofs.lemmas.Result.{on_ok_weaker as on-ok}
+use Rattle.tv_lemmas.proofs.Lists.{still_at, pushed_there}
 use Rattle.tv_model.specs.Form.{Form, FAnd, FOr, FIff, FCond}
 use Rattle.tv_model.specs.Program.{HeadForm, HNever, HAtom, HSame}
 use Rattle.tv_coerce_moves.specs.declared.list.Member.{Member}
@@ -27,15 +29,6 @@ set-there (z ∷ xs) zero zero y ne = absurd (ne refl)
 set-there (z ∷ xs) zero (suc j) y ne = refl
 set-there (z ∷ xs) (suc k) zero y ne = refl
 set-there (z ∷ xs) (suc k) (suc j) y ne = set-there xs k j y (λ e. ne (ap suc e))
-
-front-at : {X : Type 0} (xs ys : List X) (k : ℕ) (x : X) → slice_get xs k ≡ Some x → slice_get (xs ++ ys) k ≡ Some x
-front-at [] ys k x at = absurd (cc at)
-front-at (z ∷ xs) ys zero x at = at
-front-at (z ∷ xs) ys (suc k) x at = front-at xs ys k x at
-
-last-at : {X : Type 0} (xs : List X) (x : X) → slice_get (xs ++ x ∷ []) (length xs) ≡ Some x
-last-at [] x = refl
-last-at (z ∷ xs) x = last-at xs x
 
 -- a mover gets one place more
 pub noted-widened : (member : Member) (old : List Mover) (k : ℕ) (m new : Mover) → slice_get old k ≡ Some m
@@ -77,11 +70,11 @@ noted-pushed member old new rule among = record {
   kept = λ other has. record {
     at = has.at;
     mover = has.mover;
-    there = front-at old (new ∷ []) has.at has.mover has.there;
+    there = still_at old (new ∷ []) has.at has.mover has.there;
     rule = has.rule;
     among = has.among;
   };
-  there = record { at = length old; mover = new; there = last-at old new; rule = rule; among = among };
+  there = record { at = length old; mover = new; there = pushed_there old new; rule = rule; among = among };
 }
 
 -- ---- a list for each predicate
@@ -249,11 +242,6 @@ noted-fewer A B member old new fewer noted = record {
   kept = noted.kept;
   there = λ head is such. noted.there head is (fewer head such);
 }
-
--- what follows where a call succeeds
-pub on-ok : {X E P Q : Type 0} (result : Result X E) → (P → Q) → OnOk result P → OnOk result Q
-on-ok (Ok x) from at = from at
-on-ok (Err e) from at = at
 
 -- ---- formulas
 

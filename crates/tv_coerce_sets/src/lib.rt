@@ -9,5 +9,4 @@ mod unmet;
 
 pub use found::{Found, Kept, found_for, keep, none_found};
 pub use preds::{mentioned, updated};
-pub use turned::Turned;
 pub use unmet::with_changed;

@@ -1,26 +1,17 @@
 -- Lists that are alike, item by item.
 use Rattle.std.proofs.Common.{◌≡◌, ◌≢◌, ℕ, suc, ◌+◌, ◌<◌, ◌≤◌, List, [], ◌∷◌, ◌++◌, length, take, map}
-use Rattle.std.proofs.Common.{get_or, refl, sym, ◌∙◌, ap, arith, add-one, zero}
+use Rattle.std.proofs.Common.{get_or, refl, sym, ◌∙◌, ap, arith, zero}
 use Rattle.std.specs.Prelude.{IsTrue, false}
-use Rattle.std.proofs.Math.Seq.{take-suc}
 use Rattle.std.proofs.lemmas.Bool.{false≢true}
-use Rattle.std.proofs.lemmas.List.{map-append}
+use Rattle.tv_lemmas.proofs.Lists.{map_next}
 use Rattle.tv_compiled.proofs.Turns.{rest_at}
-
--- the front of a list up to an item, that one included
-front : {S T : Type 0} (see : S → T) (xs : List S) (i : ℕ) (x : S) → i < length xs → x ≡ get_or xs i x
-    → map see (take (i + 1) xs) ≡ map see (take i xs) ++ see x ∷ []
-front see xs i x below is =
-    ap (λ k. map see (take k xs)) (add-one i) ∙ ap (map see) (take-suc xs i x below)
-    ∙ map-append see (take i xs) (get_or xs i x ∷ [])
-    ∙ ap (λ y. map see (take i xs) ++ see y ∷ []) (sym is)
 
 pub turn : {S T : Type 0} (see : S → T) (xs ys : List S) (i : ℕ) (x y : S) → length xs ≡ length ys → i < length xs
     → x ≡ get_or xs i x → y ≡ get_or ys i y → map see (take i xs) ≡ map see (take i ys) → see x ≡ see y
     → map see (take (i + 1) xs) ≡ map see (take (i + 1) ys)
 turn see xs ys i x y same below is_x is_y so_far alike =
-    front see xs i x below is_x ∙ (λ j. so_far j ++ alike j ∷ [])
-    ∙ sym (front see ys i y (omega (arith, same, below)) is_y)
+    map_next see xs i x below is_x ∙ (λ j. so_far j ++ alike j ∷ [])
+    ∙ sym (map_next see ys i y (omega (arith, same, below)) is_y)
 
 take_all : {S : Type 0} (xs : List S) (i : ℕ) → length xs ≤ i → take i xs ≡ xs
 take_all [] zero past = refl

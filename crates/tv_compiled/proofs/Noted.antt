@@ -6,7 +6,7 @@ use Rattle.std.proofs.Common.{append_assoc}
 use Rattle.std.specs.Prelude.{codes, min, if◌then◌else◌}
 use Rattle.std.specs.List.{count_by, slice_range}
 use Rattle.std.specs.Str.{bytes_eq}
-use Rattle.std.proofs.lemmas.List.{drop_all}
+use Rattle.std.proofs.lemmas.List.{drop_all, append-nil}
 use Rattle.std.proofs.lemmas.List.Sums.{sum_by-append}
 use Rattle.tv_lex.specs.Token.{text_of}
 use Rattle.tv_lex.specs.Places.{place_at}
@@ -14,7 +14,7 @@ use Rattle.tv_lex.specs.declared.token.Token.{Token}
 use Rattle.tv_compiled.specs.Notes.{test_len, further_text, blank_between, behind_brace, body_notes}
 use Rattle.tv_compiled.specs.Notes.{notes_here}
 use Rattle.tv_compiled.specs.Notes.{skip_behind}
-use Rattle.tv_compiled.proofs.Turns.{rest_at, append_nil}
+use Rattle.tv_compiled.proofs.Turns.{rest_at}
 
 module _ (bytes : List ℕ) (ts : List Token) (i : ℕ) (t : Token) (below : i < length ts) (is : t ≡ get_or ts i t) where
   pub test_ends : bytes_eq (text_of bytes t) (codes ")") ≡ true → test_len bytes (drop i ts) ≡ 1
@@ -64,12 +64,12 @@ module _ (bytes : List ℕ) (ts : List Token) (i : ℕ) (t : Token) (below : i <
 pub words_done : (bytes : List ℕ) (ts : List Token) (i : ℕ) (out before : List ℕ) → length ts ≤ i
     → out ++ further_text bytes before (drop i ts) ≡ out
 words_done bytes ts i out before past =
-    ap (λ rest. out ++ further_text bytes before rest) (drop_all i ts past) ∙ append_nil out
+    ap (λ rest. out ++ further_text bytes before rest) (drop_all i ts past) ∙ append-nil out
 
 pub notes_done : (bytes : List ℕ) (ts : List Token) (i skip : ℕ) (notes : List (List ℕ)) → length ts ≤ i
     → notes ++ body_notes bytes skip (drop i ts) ≡ notes
 notes_done bytes ts i skip notes past =
-    ap (λ rest. notes ++ body_notes bytes skip rest) (drop_all i ts past) ∙ append_nil notes
+    ap (λ rest. notes ++ body_notes bytes skip rest) (drop_all i ts past) ∙ append-nil notes
 
 -- ---- line feeds
 

@@ -1,9 +1,9 @@
 -- Turns of the loops that write lists, part by part.
-use Rattle.std.proofs.Common.{◌≡◌, ℕ, ◌+◌, ◌<◌, ◌≤◌, List, [], ◌∷◌, ◌++◌, length, drop, map}
-use Rattle.std.proofs.Common.{get_or, refl, sym, ◌∙◌, ap, append_assoc}
+use Rattle.std.proofs.Common.{◌≡◌, ℕ, ◌+◌, ◌<◌, ◌≤◌, List, ◌∷◌, ◌++◌, length, drop, map}
+use Rattle.std.proofs.Common.{get_or, sym, ◌∙◌, ap, append_assoc}
 use Rattle.std.specs.List.{flat_map}
 use Rattle.std.specs.Prelude.{codes}
-use Rattle.std.proofs.lemmas.List.{drop_more, drop_all}
+use Rattle.std.proofs.lemmas.List.{drop_more, drop_all, append-nil}
 use Rattle.std.proofs.lemmas.List.Concat.{flat_map-cons}
 use Rattle.tv_model.specs.Form.{form_of}
 use Rattle.tv_model.specs.Program.{PredForm, message_of, pred_of, rule_of, update_of}
@@ -16,10 +16,6 @@ use Rattle.tv_model.specs.declared.program.Update.{Update}
 use Rattle.tv_compiled.specs.Formulas.{form_text}
 use Rattle.tv_compiled.specs.Parts.{message_text, more_text, pred_text, rule_text, update_text}
 use Rattle.tv_compiled.specs.Whole.{edge_text}
-
-pub append_nil : {T : Type 0} (xs : List T) → xs ++ [] ≡ xs
-append_nil [] = refl
-append_nil (x ∷ xs) = ap (λ ys. x ∷ ys) (append_nil xs)
 
 -- what is left of a list is its next item and what is left behind it
 pub rest_at : {T : Type 0} (xs : List T) (i : ℕ) (x : T) → i < length xs → x ≡ get_or xs i x
@@ -37,7 +33,7 @@ step out see text xs i x below is =
 
 done : {S T : Type 0} (out : List ℕ) (see : S → T) (text : T → List ℕ) (xs : List S) (i : ℕ) → length xs ≤ i
     → out ++ flat_map text (map see (drop i xs)) ≡ out
-done out see text xs i past = ap (λ ys. out ++ flat_map text (map see ys)) (drop_all i xs past) ∙ append_nil out
+done out see text xs i past = ap (λ ys. out ++ flat_map text (map see ys)) (drop_all i xs past) ∙ append-nil out
 
 module _ (preds : List PredForm) where
   pub more_step : (out : List ℕ) (xs : List Formula) (i : ℕ) (x : Formula) → i < length xs → x ≡ get_or xs i x
@@ -100,4 +96,4 @@ edges_step nodes notes out xs i x below is =
 pub edges_done : (nodes notes : List (List ℕ)) (out : List ℕ) (xs : List Edge) (i : ℕ) → length xs ≤ i
     → out ++ flat_map (edge_text nodes notes) (drop i xs) ≡ out
 edges_done nodes notes out xs i past =
-    ap (λ ys. out ++ flat_map (edge_text nodes notes) ys) (drop_all i xs past) ∙ append_nil out
+    ap (λ ys. out ++ flat_map (edge_text nodes notes) ys) (drop_all i xs past) ∙ append-nil out

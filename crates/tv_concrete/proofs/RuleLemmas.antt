@@ -1,6 +1,6 @@
 -- Rules by all choices of individuals for their variables.
 use Rattle.std.proofs.Common.{ℕ, ◌≡◌, ◌⊎◌, ◌↔◌, ◌<◌, ◌+◌, ◌++◌, List, [], ◌∷◌, length, take, take_all, Result}
-use Rattle.std.proofs.Common.{Ok, Err, IfOk, get_or, ◌≤◌, inl, inr, ⊎_elim, refl, sym, ap, subst, ◌∙◌}
+use Rattle.std.proofs.Common.{Ok, Err, IfOk, get_or, ◌≤◌, inl, inr, ⊎_elim, sym, ap, subst, ◌∙◌}
 use Rattle.std.proofs.Common.{Contains, Bool, IsTrue, arith, zero, suc, add-one}
 use Rattle.std.proofs.lemmas.Bool.{cases_eq}
 use Rattle.std.proofs.lemmas.List.Elements.{Contains-append_left, Contains-append_right}
@@ -9,19 +9,12 @@ use Rattle.tv_model.specs.Form.{FExists, FForall, FClosure, IsFree}
 use Rattle.tv_model.specs.Heap.{Heap}
 use Rattle.tv_model.specs.Program.{RuleForm, HeadForm, HNever, HAtom, HSame}
 use Rattle.tv_model.specs.Rules.{MeetsRule, IsInHead, IsFreeInRule, blank, head_formula}
-use Rattle.tv_model.specs.Truth.{Assignment, Truth, put}
+use Rattle.tv_model.specs.Truth.{Assignment, put}
 use Rattle.tv_model.proofs.Lists.{Contains-here, Contains-there, Contains-cases, Contains-none}
 use Rattle.tv_model.proofs.Assignments.{put-same, put-other}
 use Rattle.tv_model.proofs.Heads.{free-in_head}
-use Rattle.tv_model.proofs.Truths.{Truth-local}
+use Rattle.tv_model.proofs.Truths.{truth-agreed}
 use Rattle.tv_concrete.specs.Assignments.{EachPut, RuleTruth, variables_in, head_variables}
-
--- truth in one heap depends only on the free variables
-truth-agreed : (h : Heap) (a b : Assignment) (f : Form) → ((v : ℕ) → IsFree v f → a v ≡ b v) → Truth h a f ↔ Truth h b f
-truth-agreed h a b f agrees =
-    Truth-local f h h a b
-    (record { individuals = λ u. (λ t. t, λ t. t); holds = λ q m us. (λ t. t, λ t. t); marks = λ named. refl })
-    agrees
 
 -- a rule's truth depends only on its free variables
 pub RuleTruth-local : (h : Heap) (rule : RuleForm) (a b : Assignment) → ((v : ℕ) → IsFreeInRule v rule → a v ≡ b v)

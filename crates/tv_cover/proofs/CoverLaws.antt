@@ -1,16 +1,15 @@
 -- The first cover among places in ascending order.
 use Rattle.std.proofs.Common.{ℕ, ◌≡◌, ◌<◌, ◌≤◌, ◌+◌, ◌⊎◌, inl, inr, List, length, get_or, map, refl, sym, ap}
 use Rattle.std.proofs.Common.{subst, ◌∙◌, arith}
-use Rattle.std.specs.Prelude.{All, Any, Contains, IsTrue, Option, None, Some, Result, Ok, Err, IfOk, OnOk}
+use Rattle.std.specs.Prelude.{All, Any, Contains, Option, None, Some, Result, Ok, Err, IfOk, OnOk}
 use Rattle.std.specs.Prelude.{IfNone, IfSome, slice_get}
 use Rattle.std.specs.List.{range_with_len}
 use Rattle.std.specs.List.Sorted.{IsNonDecreasing}
-use Rattle.std.proofs.lemmas.Cmp.{tied_itself}
 use Rattle.std.proofs.lemmas.Bool.{cases_lt}
 use Rattle.std.proofs.lemmas.List.{get_or_default}
 use Rattle.std.proofs.lemmas.Option.{slice_get_within, slice_get-get_or, get_or_from_slice_get}
-use Rattle.std.specs.Cmp.Lexicographic.{slice_cmp, nat_list_cmp_total}
-use Rattle.std.specs.Ordering.{nat_cmp, is_le}
+use Rattle.tv_lemmas.proofs.Lists.{All-found}
+use Rattle.tv_lemmas.proofs.Orderings.{le_same}
 use Rattle.tv_embed.specs.Maps.{IsEmbedding, IsLeastEmbedding}
 use Rattle.tv_embed.proofs.SearchLaws.{embedding-list}
 use Rattle.tv_embedding_laws.specs.Embedding.{IsEmbedded}
@@ -24,9 +23,6 @@ use Rattle.tv_kleene.specs.declared.K3.{K3}
 use Rattle.tv_cover.proofs.GlanceLaws.{may-embed, same-map}
 use Rattle.tv_cover.proofs.NotedLaws.{found-place}
 
-pub all-at : {X : Type 0} (P : X → Type 0) (xs : List X) (i : ℕ) (x : X) → All P xs → slice_get xs i ≡ Some x → P x
-all-at P xs i x all e = subst P (get_or_from_slice_get xs i x x e) (all i x (slice_get_within xs i x e))
-
 pub covers-among : (noted : Noted) (targets : List StructureForm) (s : StructureForm)
     (glance : GlanceForm) (places : List ℕ) → glance ≡ glance_of s
     → All (λ t. arities_of s ≡ arities_of t) targets → AreIndexed noted (glances_of targets)
@@ -35,7 +31,7 @@ pub covers-among : (noted : Noted) (targets : List StructureForm) (s : Structure
 covers-among noted targets s glance places is alike indexed each place t listed embedded =
     let Each : GlanceForm → Type 0 = λ g. (known : List K3) → Contains noted.known.items known → Finds noted g known places
     in found-place noted targets s places indexed (subst Each is each) place t listed
-    (all-at (λ x. arities_of s ≡ arities_of x) targets place t alike listed) embedded
+    (All-found (λ x. arities_of s ≡ arities_of x) targets place t alike listed) embedded
 
 -- what says nothing that lies under what the target says doesn't embed in it
 pub none-told : (s t : StructureForm) (below above : GlanceForm) → arities_of s ≡ arities_of t → below ≡ glance_of s
@@ -109,13 +105,10 @@ tried-all targets s places n among all tried (p, t, within, at, embedded) =
 
 -- ---- where one map alone may be an embedding
 
-pub le-same : (xs ys : List ℕ) → xs ≡ ys → IsTrue (is_le (slice_cmp nat_cmp xs ys))
-le-same xs ys e = rw e (rw (tied_itself nat_list_cmp_total ys) refl)
-
 pub only-least : (s t : StructureForm) (images : List ℕ) → arities_of s ≡ arities_of t
     → IsOnlyMap (glance_of s) (glance_of t) images → IsEmbedding s t images → IsLeastEmbedding s t images
 only-least s t images same only embeds =
-    (embeds, λ other e. le-same images other (sym (same-map s t images other same only e)))
+    (embeds, λ other e. le_same images other (sym (same-map s t images other same only e)))
 
 pub only-none : (s t : StructureForm) (images : List ℕ) → arities_of s ≡ arities_of t
     → IsOnlyMap (glance_of s) (glance_of t) images → ¬ IsEmbedding s t images → ¬ IsEmbedded (structure_of s) (structure_of t)

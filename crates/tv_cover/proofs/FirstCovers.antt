@@ -9,6 +9,8 @@ use Rattle.std.proofs.lemmas.Bool.{cases_lt, cases_eq}
 use Rattle.std.proofs.lemmas.List.{take_all, length_push}
 use Rattle.std.proofs.lemmas.List.Elements.{All-nil, All-weaker}
 use Rattle.std.proofs.lemmas.Option.{slice_get_within, slice_get-get_or, get_or_from_slice_get}
+use Rattle.tv_lemmas.proofs.Lists.{All-found}
+use Rattle.tv_lemmas.proofs.Orderings.{le_same}
 use Rattle.tv_kleene.specs.declared.K3.{K3}
 use Rattle.tv_kleene.specs.declared.K3.TheVariants.{No, Half, Yes}
 use Rattle.tv_kleene.specs.Kleene.{LiesUnder}
@@ -26,7 +28,6 @@ use Rattle.tv_embed.proofs.MapLaws.{Embeds-fits, FitsSoFar-embedding, IsOnto-emb
 use Rattle.tv_embed.proofs.SearchLaws.{AreTried, embedding-list, tried_all, tried_found, tried_more}
 use Rattle.tv_embed.proofs.SearchLaws.{tried_none}
 use Rattle.tv_cover.specs.Covers.{IsFirstCover}
-use Rattle.tv_cover.proofs.CoverLaws.{all-at, le-same}
 
 -- ---- decided facts
 
@@ -196,7 +197,7 @@ module _ (small large : StructureForm) where
       record {
         embeds = embeds;
         begins = take_all (length front) front (omega arith);
-        least = λ other e begins. le-same front other (sym begins ∙ take_all (length front) other (omega (arith, e.0, count)));
+        least = λ other e begins. le_same front other (sym begins ∙ take_all (length front) other (omega (arith, e.0, count)));
       },
     )
     whole front count (inr not) = inr (λ other e begins.
@@ -283,7 +284,7 @@ module _ (targets : List StructureForm) (s : StructureForm) (is : IsStructure s)
       let within : n < length targets = omega (arith, e)
       in let there : slice_get targets n ≡ Some (get_or targets n t) = slice_get-get_or targets n t within
       in let same : arities_of s ≡ arities_of (get_or targets n t)
-      = all-at (λ x. arities_of s ≡ arities_of x) targets n (get_or targets n t) alike there
+      = All-found (λ x. arities_of s ≡ arities_of x) targets n (get_or targets n t) alike there
       in found-here n (get_or targets n t) there same (least s (get_or targets n t) is same) none
       (λ more. walk t left (n + 1) (omega (arith, e)) more some)
 

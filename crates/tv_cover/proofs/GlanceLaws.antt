@@ -8,8 +8,7 @@ use Rattle.std.specs.Prelude.{All, Any, Contains, IsTrue, fold, replicate, slice
 use Rattle.std.specs.List.{range_with_len}
 use Rattle.std.proofs.lemmas.Bool.{cases_lt, cases_eq, cases_order}
 use Rattle.std.proofs.lemmas.List.{get_or_past, get_or_default, ext_get_or, length-set, length-replicate}
-use Rattle.std.proofs.lemmas.List.{length-map}
-use Rattle.std.proofs.lemmas.List.{get_or-replicate, get_or-set_other, get_or-set_same, get_or_append_left}
+use Rattle.std.proofs.lemmas.List.{get_or-set_other, get_or-set_same, get_or_append_left}
 use Rattle.std.proofs.lemmas.List.{get_or_push, length_push, take_all}
 use Rattle.std.proofs.lemmas.List.Sums.{fold_more}
 use Rattle.std.proofs.lemmas.List.Elements.{All-nil, All-cons}
@@ -18,17 +17,17 @@ use Rattle.std.proofs.lemmas.List.FromFn.{map-range_with_len_more}
 use Rattle.tv_kleene.specs.declared.K3.{K3}
 use Rattle.tv_kleene.specs.declared.K3.TheVariants.{No, Half, Yes}
 use Rattle.tv_kleene.specs.Kleene.{LiesUnder, smaller_of, larger_of, join_of}
+use Rattle.tv_kleene.proofs.Lattice.{join-same, larger-yes, smaller-no, smaller-yes, value-decided}
 use Rattle.tv_row.specs.Bits.{paired, padded, number_of, is_possible, is_certain}
 use Rattle.tv_row.proofs.RowOps.{no_word, no_place}
 use Rattle.tv_row.proofs.WordOps.{length-paired, get_or-paired}
 use Rattle.tv_row.specs.Mixed.{mixed, row_mixed}
+use Rattle.tv_struct.proofs.StructureLaws.{no-replicate}
 use Rattle.tv_embed.specs.Maps.{image_of, IsEmbedding}
 use Rattle.tv_embedding_laws.specs.Embedding.{Embeds, IsEmbedded}
 use Rattle.tv_struct.specs.StructureForm.{StructureForm, arities_of, structure_of, value_at, summary_at}
 use Rattle.tv_struct.specs.StructureRows.{flag_value}
-use Rattle.tv_struct.specs.TableForm.{PlaneForm, no_plane, value_in}
-use Rattle.tv_struct.proofs.StructureLaws.{value_in-no_plane}
-use Rattle.tv_struct.proofs.Library.{Contains-range, below-range}
+use Rattle.tv_struct.proofs.Library.{Contains-range, below-range, value_at-past}
 use Rattle.tv_cover.specs.Glance.{profile_of, nullary_value, value_near, profile_near, GlanceForm, glance_of}
 use Rattle.tv_cover.specs.Glance.{LieUnder}
 use Rattle.tv_cover.specs.Glance.{MayEmbed, AreOnlyImages, IsOnlyMap, IsDefinite, AreKnown, profile_number}
@@ -37,13 +36,8 @@ use Rattle.tv_cover.specs.Glance.{slot_of, AreSummariesTo, AreSummaries, AreWith
 
 -- ---- the values of predicates that are known
 
-smaller-No : (x : K3) → smaller_of x No ≡ No
-smaller-No No = refl
-smaller-No Half = refl
-smaller-No Yes = refl
-
 one-known : (x y m : K3) → LiesUnder x y → (m ≢ No → y ≢ Half) → smaller_of x m ≡ smaller_of y m
-one-known x y No under known = smaller-No x ∙ sym (smaller-No y)
+one-known x y No under known = smaller-no x ∙ sym (smaller-no y)
 one-known x y Half (inl e) known = ap (λ k. smaller_of k Half) e
 one-known x y Half (inr half) known = absurd (known (λ e. cc) half)
 one-known x y Yes (inl e) known = ap (λ k. smaller_of k Yes) e
@@ -209,18 +203,11 @@ pub record IsProfileTo (first : K3) (value : ℕ → K3) (n : ℕ) (row : List K
   pub values : (i : ℕ) → i < n → get_or row i No ≡ placed first value i
   pub rest : (i : ℕ) → n ≤ i → get_or row i No ≡ No
 
-all-No : (n i : ℕ) → get_or (replicate n No) i No ≡ No
-all-No n i = at (cases_lt i n)
-  where
-    at : (i < n) ⊎ (n ≤ i) → get_or (replicate n No) i No ≡ No
-    at (inl below) = get_or-replicate n i No No below
-    at (inr past) = get_or_past (replicate n No) i No (rw (length-replicate n No) past)
-
 profile-none : (first : K3) (value : ℕ → K3) (row : List K3) → row ≡ replicate 256 No → IsProfileTo first value 0 row
 profile-none first value row is = record {
   long = ap length is ∙ length-replicate 256 No;
   values = λ i lt. absurd (omega arith);
-  rest = λ i le. ap (λ r. get_or r i No) is ∙ all-No 256 i;
+  rest = λ i le. ap (λ r. get_or r i No) is ∙ no-replicate 256 i;
 }
 
 -- one more value
@@ -260,7 +247,7 @@ profile-begun value row is =
     in record { long = none.long; values = λ i lt. at i (omega arith); rest = λ i le. none.rest i (omega arith) }
   where
     at : (i : ℕ) → i ≡ 0 → get_or row i No ≡ placed No value i
-    at zero e = ap (λ r. get_or r 0 No) is ∙ all-No 256 0
+    at zero e = ap (λ r. get_or r 0 No) is ∙ no-replicate 256 0
     at (suc i) e = absurd (omega (arith, e))
 
 pub profile-all : (first : K3) (value : ℕ → K3) (n : ℕ) (row : List K3) → IsProfileTo first value (n + 1) row
@@ -281,18 +268,12 @@ profile-all first value n row is absent =
         side (inl below) = is.values i below
         side (inr from) = is.rest i from ∙ past i lt from
 
--- a predicate that isn't there has no value
-absent-value : (s : StructureForm) (pred : ℕ) (tuple : List ℕ) → length (arities_of s) ≤ pred → value_at s pred tuple ≡ No
-absent-value s pred tuple past =
-    let behind : length s.planes ≤ pred = omega (arith, past, length-map s.planes (λ (p : PlaneForm). p.arity))
-    in ap (λ p. value_in p tuple) (get_or_past s.planes pred no_plane behind) ∙ value_in-no_plane tuple
-
 pub absent-nullary : (s : StructureForm) (pred : ℕ) → length (arities_of s) ≤ pred → nullary_value s pred ≡ No
-absent-nullary s pred behind = absent-value s pred [] behind
+absent-nullary s pred behind = value_at-past s pred [] behind
 
 pub absent-near : (s : StructureForm) (u pred : ℕ) → length (arities_of s) ≤ pred → value_near s u pred ≡ No
 absent-near s u pred behind =
-    λ j. larger_of (absent-value s pred (u ∷ []) behind j) (absent-value s pred (u ∷ u ∷ []) behind j)
+    λ j. larger_of (value_at-past s pred (u ∷ []) behind j) (value_at-past s pred (u ∷ u ∷ []) behind j)
 
 -- ---- rows that lie under others
 
@@ -301,13 +282,8 @@ join-Half No = refl
 join-Half Half = refl
 join-Half Yes = refl
 
-join-self : (k : K3) → join_of k k ≡ k
-join-self No = refl
-join-self Half = refl
-join-self Yes = refl
-
 join-above : (x y : K3) → LiesUnder x y → join_of x y ≡ y
-join-above x y (inl e) = ap (λ k. join_of k y) e ∙ join-self y
+join-above x y (inl e) = ap (λ k. join_of k y) e ∙ join-same y
 join-above x y (inr half) = ap (join_of x) half ∙ join-Half x ∙ sym half
 
 pub join-rows : (xs ys : List K3) → length xs ≡ length ys → LieUnder xs ys → paired join_of xs ys ≡ ys
@@ -432,7 +408,7 @@ known-none glance known is = record {
 }
   where
     never : (values : List K3) → IsDefinite known values
-    never values place some = absurd (some (ap (λ row. get_or row place No) is ∙ all-No 256 place))
+    never values place some = absurd (some (ap (λ row. get_or row place No) is ∙ no-replicate 256 place))
 
 pub known-more : (glance : GlanceForm) (known next : List K3) (p : ℕ) → next ≡ set known p Yes
     → get_or glance.nullary p No ≢ Half → All (λ row. get_or row p No ≢ Half) glance.unary → AreKnown glance known
@@ -488,11 +464,6 @@ half-or-not : (k : K3) → (k ≡ Half) ⊎ (k ≢ Half)
 half-or-not No = inr (λ e. cc e)
 half-or-not Half = inl refl
 half-or-not Yes = inr (λ e. cc e)
-
-no-or-not : (k : K3) → (k ≡ No) ⊎ (k ≢ No)
-no-or-not No = inl refl
-no-or-not Half = inr (λ e. cc e)
-no-or-not Yes = inr (λ e. cc e)
 
 pub summaries-none : (known : List K3) (rows : List (List K3)) (slots : List K3) → slots ≡ padded 0 (replicate 64 No)
     → AreSummariesTo known rows 0 slots
@@ -578,21 +549,11 @@ summaries-all known rows items n slots same past within are =
 smaller-of-No : (k : K3) → smaller_of No k ≡ No
 smaller-of-No k = refl
 
-smaller-of-Yes : (k : K3) → smaller_of k Yes ≡ k
-smaller-of-Yes No = refl
-smaller-of-Yes Half = refl
-smaller-of-Yes Yes = refl
-
 half-under : (x y : K3) → x ≡ Half → LiesUnder x y → y ≡ Half
 half-under x y half (inl e) = sym e ∙ half
 half-under x y half (inr told) = told
 
 -- ---- what is above says the same of what is known in it, and more is left open there
-
-larger-Yes : (k : K3) → larger_of k Yes ≡ Yes
-larger-Yes No = refl
-larger-Yes Half = refl
-larger-Yes Yes = refl
 
 larger-under : (x y : K3) (below above : K3) → LiesUnder x below → LiesUnder y above → LiesUnder (larger_of x y) (larger_of below above)
 larger-under x y below above (inl e) (inl f) = inl (λ i. larger_of (e i) (f i))
@@ -601,7 +562,7 @@ larger-under x y Half above (inl e) (inr half) = inr (ap (larger_of Half) half)
 larger-under x y Yes above (inl e) (inr half) = inl (ap (λ k. larger_of k y) e)
 larger-under x y below No (inr half) (inl f) = inr (ap (λ k. larger_of k No) half)
 larger-under x y below Half (inr half) (inl f) = inr (ap (λ k. larger_of k Half) half)
-larger-under x y below Yes (inr half) (inl f) = inl (ap (larger_of x) f ∙ larger-Yes x ∙ sym (ap (λ k. larger_of k Yes) half))
+larger-under x y below Yes (inr half) (inl f) = inl (ap (larger_of x) f ∙ larger-yes x ∙ sym (ap (λ k. larger_of k Yes) half))
 larger-under x y below above (inr half) (inr other) = inr (λ i. larger_of (half i) (other i))
 
 module _ (s t : StructureForm) (f : ℕ → ℕ) (e : Embeds f (structure_of s) (structure_of t))
@@ -786,7 +747,7 @@ module _ (s t : StructureForm) (f : ℕ → ℕ) (e : Embeds f (structure_of s) 
         → AreSummaries known (glance_of t).unary others → AreWithin slots others
     summaries-in slots others below marks =
         ext_get_or No (paired smaller_of slots others) slots long
-        (λ i lt. at i (rw (← long) lt) (no-or-not (get_or slots i No)))
+        (λ i lt. at i (rw (← long) lt) (value-decided (get_or slots i No) No))
       where
         long : length (paired smaller_of slots others) ≡ length slots
         long = length-paired smaller_of slots others (below.long ∙ sym marks.long)
@@ -804,7 +765,7 @@ module _ (s t : StructureForm) (f : ℕ → ℕ) (e : Embeds f (structure_of s) 
             in let v = row-of s u.0 [] u.1
             in let yes : get_or others i No ≡ Yes
             = above others marks i v.0 v.1 (ap (λ r. get_or r 0 No) (sym v.2) ∙ u.2) (ap (slot_of known) (sym v.2) ∙ u.3)
-            in read i lt ∙ ap (smaller_of (get_or slots i No)) yes ∙ smaller-of-Yes (get_or slots i No)
+            in read i lt ∙ ap (smaller_of (get_or slots i No)) yes ∙ smaller-yes (get_or slots i No)
 
 -- where s embeds in t, the slots of its summaries are among those of t
 pub summaries-within : (s t : StructureForm) → arities_of s ≡ arities_of t → IsEmbedded (structure_of s) (structure_of t)

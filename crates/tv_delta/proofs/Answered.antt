@@ -3,7 +3,7 @@ use Rattle.std.proofs.Common.{ℕ, ◌≡◌, ◌≢◌, ◌∙◌, ◌↔◌, B
 use Rattle.std.proofs.Common.{None, refl, sym, ap, subst, cond, Contains, ◌<◌, map, get_or, arith}
 use Rattle.std.specs.List.{zip}
 use Rattle.std.specs.Prelude.{slice_get, is_some, ◌||◌, length, option_and_then, option_map}
-use Rattle.std.proofs.lemmas.Bool.{false≢true}
+use Rattle.std.proofs.lemmas.Bool.{false≢true, false_from_ne_true}
 use Rattle.std.proofs.lemmas.List.{length-map}
 use Rattle.std.proofs.lemmas.Option.{slice_get-map, slice_get_read, slice_get_within}
 use Rattle.tv_model.specs.Form.{Form, FAtom, vars_of}
@@ -117,10 +117,6 @@ keep-said q Keep says = refl
 keep-said q Evaluate says = absurd (cc says)
 keep-said q (To w) says = absurd (cc says.2)
 
-not-flagged : (b : Bool) → ¬ (b ≡ true) → b ≡ false
-not-flagged true never = absurd (never refl)
-not-flagged false never = refl
-
 pub keeps_where : (p : ProgramForm) (k q : ℕ) (x : Difference) → IsDifference p k q x → KeepsWhere p k q x
 keeps_where p k q x is action at =
     let same : is.action ≡ action = cc (is.at, at)
@@ -143,7 +139,7 @@ keeps_where p k q x is action at =
     back : (¬ IsAffected p is.action q) × (is.action.fresh ≡ false) × (is.action.retain ≡ None) → x ≡ Keep
     back none =
         let off : is_flagged is.affected q ≡ false
-        = not-flagged (is_flagged is.affected q) (λ on. none.0 ((is.marked.tell q is.pred is.its.found).0 on))
+        = false_from_ne_true (is_flagged is.affected q) (λ on. none.0 ((is.marked.tell q is.pred is.its.found).0 on))
         in let answer : answer_for p is.action is.affected q is.vars is.body ≡ DKeep = rw (none.1, none.2, off) refl
         in let Its : Answer → Type 0 = λ y. SaysAnswer q x y
         in keep-said q x (subst Its answer is.says)

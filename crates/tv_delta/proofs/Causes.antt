@@ -18,6 +18,7 @@ use Rattle.tv_delta_laws.specs.Simple.{is_small}
 use Rattle.tv_delta_laws.specs.Differences.{IsAffected, DefinedBy, Answer, DKeep}
 use Rattle.tv_delta_laws.specs.Differences.{DEvaluate, answer_for, formed, or_evaluate, update_by}
 use Rattle.tv_delta_laws.proofs.Options.{if-mapped, if-bound, if-both, if-some}
+use Rattle.tv_delta_laws.proofs.StepTruths.{rests-affected}
 use Rattle.tv_delta.specs.declared.kinds.Difference.{Difference}
 use Rattle.tv_delta.specs.declared.kinds.Difference.TheVariants.{Keep, Evaluate, To}
 use Rattle.tv_delta.specs.Answers.{SaysAnswer, IsDifference}
@@ -295,11 +296,6 @@ put-none atoms flags r f m blocked = go (is_small f) (put_in r f m) refl
 
 -- ---- what rests on an affected predicate is affected
 
-affected-up : (p : ProgramForm) (action : ActionForm) (q s : ℕ) → DefinedBy p q s → IsAffected p action s
-    → IsAffected p action q
-affected-up p action q s rests (inl changed) = inr (s, [], changed, rests)
-affected-up p action q s rests (inr (t, stops, changed, walk)) = inr (t, s ∷ stops, changed, (rests, walk))
-
 obstacle-affected : (p : ProgramForm) (action : ActionForm) (q : ℕ) → IsObstacle p action q → IsAffected p action q
 obstacle-affected p action q (inl freed) =
     inl (record {
@@ -319,13 +315,13 @@ obstacle-affected p action q (inr closed) =
       defined = closed.defined;
       mentions = its.1;
     }
-    in affected-up p action q its.0 rests its.2
+    in rests-affected p action q its.0 rests its.2
 
 walk-affected : (p : ProgramForm) (action : ActionForm) (q : ℕ) (stops : List ℕ) (r : ℕ) → IsWalk (DefinedBy p) q stops r
     → IsAffected p action r → IsAffected p action q
-walk-affected p action q [] r rests there = affected-up p action q r rests there
+walk-affected p action q [] r rests there = rests-affected p action q r rests there
 walk-affected p action q (s ∷ stops) r walk there =
-    affected-up p action q s walk.0 (walk-affected p action s stops r walk.1 there)
+    rests-affected p action q s walk.0 (walk-affected p action s stops r walk.1 there)
 
 pub met-affected : (p : ProgramForm) (action : ActionForm) (q : ℕ) → MeetsObstacle p action q → IsAffected p action q
 met-affected p action q (inl it) = obstacle-affected p action q it

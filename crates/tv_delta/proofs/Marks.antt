@@ -5,12 +5,14 @@ use Rattle.std.proofs.Common.{arith}
 use Rattle.std.specs.Prelude.{slice_get, is_some}
 use Rattle.std.proofs.lemmas.Bool.{false≢true, and_from, and_parts, cases_eq}
 use Rattle.std.proofs.lemmas.List.{get_or-set_same, get_or-set_other, length-set}
+use Rattle.tv_lemmas.proofs.Options.{some_value}
 use Rattle.tv_model.specs.Program.{ProgramForm, PredForm, KindForm, KCore, KDefined, ActionForm, UpdateForm}
 use Rattle.tv_model.specs.Program.{is_core_kind}
 use Rattle.tv_model.specs.Step.{update_for}
 use Rattle.tv_model.specs.Truth.{IsWalk}
 use Rattle.tv_delta_laws.specs.Deltas.{is_flagged}
 use Rattle.tv_delta_laws.specs.Differences.{IsChanged, DefinedBy, IsAffected, AreAffected}
+use Rattle.tv_delta_laws.proofs.Differenced.{core-kind}
 use Rattle.tv_delta.specs.Flags.{rests, rests_pred, rests_at, changed_from, MentionsAt, AreMarked}
 use Rattle.tv_delta.proofs.Touches.{Touched, touched, touching}
 
@@ -126,19 +128,11 @@ flag-changed k (d ∷ preds) updates (suc i) is =
     in flag-changed (k + 1) preds updates i
     (is.0, is.1, is.2, ap (λ n. is_some (update_for n updates)) same ∙ is.3)
 
-core-kind : (k : KindForm) → is_core_kind k ≡ true → k ≡ KCore
-core-kind KCore e = refl
-core-kind (KDefined vars body) e = absurd (false≢true e)
-
-some-update : (o : Option UpdateForm) → is_some o ≡ true → (w : UpdateForm) × (o ≡ Some w)
-some-update None e = absurd (false≢true e)
-some-update (Some w) e = (w, refl)
-
 is-changed : (p : ProgramForm) (action : ActionForm) (q : ℕ) → ChangedAt 0 q p.preds action.updates → IsChanged p action q
 is-changed p action q at =
     let number : 0 + q ≡ q = omega arith
     in let update : (w : UpdateForm) × (update_for (0 + q) action.updates ≡ Some w)
-    = some-update (update_for (0 + q) action.updates) at.3
+    = some_value (update_for (0 + q) action.updates) at.3
     in record {
       pred = at.0;
       found = at.1;

@@ -4,9 +4,8 @@ ghost use Rattle.std.specs.Prelude.{◌≡◌, map, IfOk};
 ghost use Rattle.tv_model.specs.Form.{form_of};
 ghost use Rattle.tv_model.specs.Program.{pre_of, retain_of, message_of, change_of, update_of};
 
-use crate::lists::copy_bytes;
 use std::alloc::{AllocError, Global};
-use tv_model::{Change, Formula, Formulas, Message, Messages, Retain, Update, copy};
+use tv_model::{Change, Formula, Formulas, Message, Messages, Retain, Update, copy, copy_bytes};
 
 /// A copy of the formulas.
 #[tactic(auto, using(crate::proofs::Copies::copied_more))]

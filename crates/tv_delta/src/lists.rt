@@ -3,14 +3,7 @@
 ghost use Rattle.std.specs.Prelude.{◌≡◌, IfOk};
 
 use std::alloc::{AllocError, Global};
-use tv_model::{Bytes, Edges, Names, Vars};
-
-/// A copy of the bytes.
-pub fn copy_bytes(alloc: Global, bytes: &Bytes) -> Result<Bytes, AllocError>
-    ensures { IfOk result (λ x. x ≡ bytes.now) }
-{
-    Ok(Bytes::from_vec(Vec::from_slice(alloc, bytes.as_slice())?))
-}
+use tv_model::{Edges, Names, Vars, copy_bytes};
 
 /// A copy of the variables.
 pub fn copy_vars(alloc: Global, vars: &Vars) -> Result<Vars, AllocError>

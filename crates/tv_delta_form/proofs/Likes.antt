@@ -1,8 +1,9 @@
 -- A formula with arguments put in has as many nodes, and mentions no other predicates.
-use Rattle.std.proofs.Common.{ℕ, ◌≡◌, ◌∙◌, ◌⊎◌, ◌+◌, ◌≤◌, Bool, true, false, Some, inl}
+use Rattle.std.proofs.Common.{ℕ, ◌≡◌, ◌∙◌, ◌⊎◌, ◌+◌, ◌≤◌, true, Some, inl}
 use Rattle.std.proofs.Common.{inr, ⊎_elim, refl, ap, arith}
-use Rattle.std.specs.Prelude.{IfSome, ◌&&◌, nat_le, option_map, option_and_then}
+use Rattle.std.specs.Prelude.{IfSome, nat_le, option_map, option_and_then}
 use Rattle.std.proofs.lemmas.Bool.{leb-true}
+use Rattle.tv_lemmas.proofs.Bools.{and_left}
 use Rattle.tv_model.specs.Form.{Form, FZero, FOne, FAtom, FIsNew, FSame, FNot, FAnd, FOr, FIff, FCond}
 use Rattle.tv_model.specs.Form.{FExists, FForall, FClosure, Mentions, height}
 use Rattle.tv_delta_laws.specs.Simple.{nodes, is_small}
@@ -94,15 +95,11 @@ put_like r (FClosure from to left right f) m =
     (put_like r f (under_bound (under_bound m left l (FExists right f)) right k f))
     (λ g is. record { nodes_same = ap (λ n. n + 1) is.nodes_same; mentions_same = is.mentions_same })))
 
-both-first : (a b : Bool) → (a && b) ≡ true → a ≡ true
-both-first true b e = refl
-both-first false b e = absurd (cc e)
-
 -- what is put in has few nodes where the formula has
 pub put_nodes : (r : Reserved) (f : Form) (m : Arguments) (g : Form) → is_small f ≡ true → put_in r f m ≡ Some g
     → nodes g ≤ 65536
 put_nodes r f m g small put =
     let like : IsLike f g = if-some (IsLike f) (put_in r f m) g (put_like r f m) put
-    in let first : nat_le (nodes f) 65536 ≡ true = both-first (nat_le (nodes f) 65536) (nat_le (height f) 1000) small
+    in let first : nat_le (nodes f) 65536 ≡ true = and_left (nat_le (nodes f) 65536) (nat_le (height f) 1000) small
     in let few : nodes f ≤ 65536 = leb-true (nodes f) 65536 first
     in omega (arith, like.nodes_same, few)

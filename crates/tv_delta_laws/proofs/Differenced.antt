@@ -119,7 +119,7 @@ find-filtered {X} test keep (x ∷ xs) kept =
     go false fails true e later = cond-false (test x) (Some x) (find test (filter keep xs)) fails ∙ later
     go false fails false e later = later
 
-core-kind : (k : KindForm) → is_core_kind k ≡ true → k ≡ KCore
+pub core-kind : (k : KindForm) → is_core_kind k ≡ true → k ≡ KCore
 core-kind KCore e = refl
 core-kind (KDefined vars body) e = absurd (false≢true e)
 

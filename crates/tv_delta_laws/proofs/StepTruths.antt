@@ -85,7 +85,7 @@ by-definition p h concrete q d vars body found defined tuple fits =
 
 -- ---- what isn't affected
 
-rests-affected : (p : ProgramForm) (action : ActionForm) (q r : ℕ) → DefinedBy p q r → IsAffected p action r
+pub rests-affected : (p : ProgramForm) (action : ActionForm) (q r : ℕ) → DefinedBy p q r → IsAffected p action r
     → IsAffected p action q
 rests-affected p action q r by (inl changed) = inr (r, [], changed, by)
 rests-affected p action q r by (inr t) = inr (t.0, r ∷ t.1, t.2, (by, t.3))

@@ -18,7 +18,7 @@ use tv_model::Bytes;
 use tv_tree::{EdgeTree, Tree, print_edge};
 
 /// The head of an edge that stands in this line.
-fn head_of(alloc: Global, at: &FileLine, edge: &EdgeTree) -> Result<Bytes, AllocError>
+fn head_of(alloc: Global, at: &FileLine, edge: &EdgeTree<'_>) -> Result<Bytes, AllocError>
     ensures { IfOk result (IsHeadOf (edge_of edge.now) at.now.name.now at.now.line) }
 {
     let mut head = Vec::new(alloc);
@@ -35,7 +35,7 @@ fn head_from(
     alloc: Global,
     lines: &mut FileLines,
     place: u32,
-    edge: &EdgeTree,
+    edge: &EdgeTree<'_>,
 ) -> Result<Bytes, AllocError>
     ensures same { lines.new ≡ lines.old }
     ensures head { IfOk result (λ head. (told : Option Held)
@@ -59,7 +59,7 @@ pub fn edge_heads(
     alloc: Global,
     gathered: &Gathered,
     tokens: &Tokens,
-    tree: &Tree,
+    tree: &Tree<'_>,
 ) -> Result<Vec<Bytes>, AllocError>
     requires reads { Reads gathered.now.bytes.items (Ok tokens.now.list.items) }
     requires program { IsProgram

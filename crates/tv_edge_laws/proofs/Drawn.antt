@@ -7,13 +7,14 @@ use Rattle.std.specs.List.{AllZip}
 use Rattle.std.specs.Str.{bytes_eq}
 use Rattle.std.proofs.lemmas.Bool.{cases_Bool}
 use Rattle.std.proofs.lemmas.Slice.Eq.{bytes_eq-Decides}
+use Rattle.tv_lemmas.proofs.Lists.{still_at}
 use Rattle.tv_flat.specs.FlatForm.{FlatEdgeForm}
 use Rattle.tv_model.specs.declared.program.Edge.{Edge}
 use Rattle.tv_names.specs.Refusal.{OrRefused, ◌>>=◌, refused_if, one_by_one}
 use Rattle.tv_names.specs.declared.refusal.ResolveError.TheVariants.{TooMany}
 use Rattle.tv_tree.specs.Names.{is_among}
 use Rattle.tv_vocab.specs.Graph.{GraphForm, graph, no_graph, node_number, with_edge, with_node}
-use Rattle.tv_edge_laws.proofs.Steps.{both_ok, still_there}
+use Rattle.tv_edge_laws.proofs.Steps.{both_ok}
 
 -- the edge leaves and enters the nodes of the flat edge
 pub record IsDrawnOf (nodes : List (List ℕ)) (flat : FlatEdgeForm) (edge : Edge) : Type 0 where
@@ -154,9 +155,9 @@ all_given (e ∷ es) old new given =
       drawn = (
         record {
           from = subst (λ ns. slice_get ns one.edge.from ≡ Some e.from) (sym others.nodes)
-              (still_there step.0.nodes others.added one.edge.from e.from one.drawn.from);
+              (still_at step.0.nodes others.added one.edge.from e.from one.drawn.from);
           to = subst (λ ns. slice_get ns one.edge.to ≡ Some e.to) (sym others.nodes)
-              (still_there step.0.nodes others.added one.edge.to e.to one.drawn.to);
+              (still_at step.0.nodes others.added one.edge.to e.to one.drawn.to);
         },
         others.drawn,
       );

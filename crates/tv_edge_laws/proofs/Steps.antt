@@ -1,6 +1,5 @@
 -- Steps none of which is refused, and lists that grow.
-use Rattle.std.proofs.Common.{ℕ, zero, suc, ◌≡◌, List, [], ◌∷◌, ◌++◌, Some, Result, Ok, Err, refl}
-use Rattle.std.specs.Prelude.{slice_get}
+use Rattle.std.proofs.Common.{◌≡◌, List, [], ◌∷◌, ◌++◌, Result, Ok, Err, refl}
 use Rattle.std.specs.List.{AllZip}
 use Rattle.tv_tree.specs.Steps.{◌>>=◌}
 
@@ -10,25 +9,12 @@ pub both_ok : {A B E : Type 0} (r : Result A E) (k : A → Result B E) (y : B) �
 both_ok (Ok x) k y e = (x, refl, e)
 both_ok (Err m) k y e = cc
 
-pub still_there : {X : Type 0} (xs ys : List X) (i : ℕ) (x : X) → slice_get xs i ≡ Some x
-    → slice_get (xs ++ ys) i ≡ Some x
-still_there [] ys i x at = cc
-still_there (z ∷ xs) ys zero x at = at
-still_there (z ∷ xs) ys (suc i) x at = still_there xs ys i x at
-
 pub zip_joined : {X Y : Type 0} (R : X → Y → Type 0) (xs us : List X) (ys vs : List Y) → AllZip R xs ys
     → AllZip R us vs → AllZip R (xs ++ us) (ys ++ vs)
 zip_joined R [] us [] vs zip more = more
 zip_joined R [] us (y ∷ ys) vs zip more = absurd zip
 zip_joined R (x ∷ xs) us [] vs zip more = absurd zip
 zip_joined R (x ∷ xs) us (y ∷ ys) vs zip more = (zip.0, zip_joined R xs us ys vs zip.1 more)
-
-pub zip_weaker : {X Y : Type 0} (R S : X → Y → Type 0) → ((x : X) (y : Y) → R x y → S x y) → (xs : List X)
-    (ys : List Y) → AllZip R xs ys → AllZip S xs ys
-zip_weaker R S f [] [] zip = tt
-zip_weaker R S f [] (y ∷ ys) zip = absurd zip
-zip_weaker R S f (x ∷ xs) [] zip = absurd zip
-zip_weaker R S f (x ∷ xs) (y ∷ ys) zip = (f x y zip.0, zip_weaker R S f xs ys zip.1)
 
 -- what is related through an element between
 pub zip_through : {X Y Z : Type 0} (R : X → Y → Type 0) (S : Y → Z → Type 0) (T : X → Z → Type 0)

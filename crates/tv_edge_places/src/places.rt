@@ -21,7 +21,7 @@ fn list_width(words: &[Spelling]) -> usize
     words.len() + words.len().saturating_sub(1)
 }
 
-fn edge_width(edge: &EdgeTree) -> usize
+fn edge_width(edge: &EdgeTree<'_>) -> usize
     ensures { result ≡ edge_width (edge_of edge.now) }
 {
     list_width(edge.arguments.as_slice()) + 5
@@ -36,7 +36,7 @@ fn tail_width(tail: &Option<Spellings>) -> usize
     }
 }
 
-fn edges_width(edges: &[EdgeTree]) -> usize
+fn edges_width(edges: &[EdgeTree<'_>]) -> usize
     requires { edges_width (map edge_of edges.now) < 2 ^ 64 }
     ensures { result ≡ edges_width (map edge_of edges.now) }
 {
@@ -63,7 +63,11 @@ fn behind(tokens: &[Token], width: usize) -> &[Token]
 }
 
 /// Where the edges start that these tokens begin with.
-fn edge_starts(alloc: Global, tokens: &[Token], edges: &[EdgeTree]) -> Result<Vec<u32>, AllocError>
+fn edge_starts(
+    alloc: Global,
+    tokens: &[Token],
+    edges: &[EdgeTree<'_>],
+) -> Result<Vec<u32>, AllocError>
     ensures { IfOk result (λ starts. starts.items ≡ edge_starts tokens.now (map edge_of edges.now)) }
 {
     let mut starts = Vec::new(alloc);
@@ -81,7 +85,7 @@ fn edge_starts(alloc: Global, tokens: &[Token], edges: &[EdgeTree]) -> Result<Ve
 ///
 /// # Errors
 /// Want of memory.
-pub fn edge_places(alloc: Global, tokens: &Tokens, tree: &Tree) -> Result<Vec<u32>, AllocError>
+pub fn edge_places(alloc: Global, tokens: &Tokens, tree: &Tree<'_>) -> Result<Vec<u32>, AllocError>
     requires { (text : List ℕ) × IsProgram (spec_tokens text tokens.now.list.items) (program_of tree.now) }
     ensures places { IfOk result (λ places. (text : List ℕ)
         → IsProgram (spec_tokens text tokens.now.list.items) (program_of tree.now)

@@ -2,7 +2,6 @@
 use Rattle.std.proofs.Common.{ℕ, ◌≡◌, ◌≢◌, ◌<◌, inl, inr, List, [], ◌∷◌, length, get_or, ap}
 use Rattle.std.proofs.Common.{refl, sym, ◌∙◌, arith}
 use Rattle.std.specs.Prelude.{Contains, Some, slice_get}
-use Rattle.std.proofs.lemmas.List.FromFn.{get_or-map-range_with_len, length-map-range_with_len}
 use Rattle.tv_kleene.specs.declared.K3.{K3}
 use Rattle.tv_kleene.specs.declared.K3.TheVariants.{No, Half, Yes}
 use Rattle.tv_kleene.specs.Kleene.{LiesUnder, negation_of, smaller_of}
@@ -10,6 +9,7 @@ use Rattle.tv_row.proofs.WordOps.{get_or-paired, length-paired}
 use Rattle.tv_row.specs.Bits.{paired}
 use Rattle.tv_struct.specs.StructureForm.{StructureForm, arities_of, value_at}
 use Rattle.tv_struct.specs.StructureRows.{unary_row}
+use Rattle.tv_struct.proofs.Library.{get_or-unary_row, length-unary_row}
 use Rattle.tv_embed.specs.Fits.{FitsSoFar, IsCandidate}
 use Rattle.tv_embed.specs.Maps.{image_of}
 use Rattle.tv_embed.specs.Search.{AllowsAll, AreCandidates, HasNoneWith}
@@ -44,15 +44,9 @@ allowed_more small large u row above new allows long over is = record {
       (neither_no (get_or row w No) (get_or above w No) (allows.each w lt one) (over w lt one));
 }
 
-length-unary : (s : StructureForm) (p : ℕ) → length (unary_row s p) ≡ s.size
-length-unary s p = length-map-range_with_len (λ u. value_at s p (u ∷ [])) 0 s.size
-
-unary-value : (s : StructureForm) (p w : ℕ) → w < s.size → get_or (unary_row s p) w No ≡ value_at s p (w ∷ [])
-unary-value s p w lt = get_or-map-range_with_len (λ u. value_at s p (u ∷ [])) 0 s.size w w No lt (omega arith)
-
 pub as_long : (large : StructureForm) (p n : ℕ) (values above : List K3) → n ≡ large.size → values ≡ unary_row large p
     → length above ≡ length values → n ≡ length above
-as_long large p n values above size are long = size ∙ sym (length-unary large p) ∙ ap length (sym are) ∙ sym long
+as_long large p n values above size are long = size ∙ sym (length-unary_row large p) ∙ ap length (sym are) ∙ sym long
 
 pub narrowed : (small large : StructureForm) (u p : ℕ) (k : K3) (row values above new : List K3) → AllowsAll small large u row
     → slice_get (arities_of small) p ≡ Some 1 → k ≡ value_at small p (u ∷ []) → values ≡ unary_row large p
@@ -63,8 +57,8 @@ narrowed small large u p k row values above new allows unary value are long over
     allowed_more small large u row above new allows (sym (as_long large p large.size values above refl are long)) each is
   where
     each : (w : ℕ) → w < large.size → IsCandidate small large u w → get_or above w No ≢ No
-    each w lt one = over w (rw (are, length-unary large p) lt)
-        (rw (value, are, unary-value large p w lt) (one.values p unary))
+    each w lt one = over w (rw (are, length-unary_row large p) lt)
+        (rw (value, are, get_or-unary_row large p w lt) (one.values p unary))
 
 -- ---- nobody to go to
 

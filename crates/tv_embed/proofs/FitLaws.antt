@@ -6,30 +6,24 @@ use Rattle.std.specs.Prelude.{Contains, IsTrue, ◌↔◌}
 use Rattle.std.proofs.lemmas.Bool.{cases_lt}
 use Rattle.std.proofs.lemmas.List.{get_or_append_left, get_or_push, length_push, get_or-take, get_or_default}
 use Rattle.std.proofs.lemmas.List.{length-take-le}
-use Rattle.std.proofs.lemmas.List.FromFn.{get_or-map-range_with_len, length-map-range_with_len}
 use Rattle.tv_kleene.specs.declared.K3.{K3}
 use Rattle.tv_kleene.specs.declared.K3.TheVariants.{No}
 use Rattle.tv_kleene.specs.Kleene.{LiesUnder}
 use Rattle.tv_struct.specs.StructureForm.{StructureForm, summary_at, value_at}
 use Rattle.tv_struct.specs.StructureRows.{row_at}
+use Rattle.tv_struct.proofs.Library.{get_or-row_at}
 use Rattle.tv_embed.specs.Maps.{image_of}
 use Rattle.tv_embed.specs.Fits.{IsCandidate, PairFits, JoinsUp, FitsSoFar}
 
 -- ---- rows of a binary predicate
-
-pub length-row : (s : StructureForm) (p u : ℕ) → length (row_at s p u) ≡ s.size
-length-row s p u = length-map-range_with_len (λ w. value_at s p (u ∷ w ∷ [])) 0 s.size
-
-pub row-value : (s : StructureForm) (p u w : ℕ) → w < s.size → get_or (row_at s p u) w No ≡ value_at s p (u ∷ w ∷ [])
-row-value s p u w lt = get_or-map-range_with_len (λ x. value_at s p (u ∷ x ∷ [])) 0 s.size w w No lt (omega arith)
 
 -- a value of one row lies under a value of another exactly where these values of the structures do
 pub rows-under : (small large : StructureForm) (p u w x y : ℕ) (below above : List K3) (k l : K3) → below ≡ row_at small p u
     → above ≡ row_at large p w → x < small.size → y < large.size → k ≡ get_or below x No → l ≡ get_or above y No
     → LiesUnder k l ↔ LiesUnder (value_at small p (u ∷ x ∷ [])) (value_at large p (w ∷ y ∷ []))
 rows-under small large p u w x y below above k l is_below is_above x_in y_in at_x at_y =
-    let low : k ≡ value_at small p (u ∷ x ∷ []) = at_x ∙ ap (λ row. get_or row x No) is_below ∙ row-value small p u x x_in
-    in let high : l ≡ value_at large p (w ∷ y ∷ []) = at_y ∙ ap (λ row. get_or row y No) is_above ∙ row-value large p w y y_in
+    let low : k ≡ value_at small p (u ∷ x ∷ []) = at_x ∙ ap (λ row. get_or row x No) is_below ∙ get_or-row_at small p u x x_in
+    in let high : l ≡ value_at large p (w ∷ y ∷ []) = at_y ∙ ap (λ row. get_or row y No) is_above ∙ get_or-row_at large p w y y_in
     in (λ under. rw (← low, ← high) under, λ under. rw (low, high) under)
 
 -- ---- images

@@ -6,7 +6,7 @@ use Rattle.std.specs.Prelude.{All, Contains, IsTrue, ◌||◌}
 use Rattle.std.specs.List.{list_any, range_with_len}
 use Rattle.std.specs.Ordering.{nat_cmp, is_le}
 use Rattle.std.specs.Cmp.{nat_cmp_total}
-use Rattle.std.specs.Cmp.Lexicographic.{slice_cmp, nat_list_cmp_total}
+use Rattle.std.specs.Cmp.Lexicographic.{slice_cmp}
 use Rattle.std.proofs.lemmas.Bool.{cases_lt, cases_order}
 use Rattle.std.proofs.lemmas.Cmp.{tied_itself}
 use Rattle.std.proofs.lemmas.List.{take_more, take-take, take_at, take_all, length_push, get_or-take}
@@ -14,6 +14,7 @@ use Rattle.std.proofs.lemmas.List.{get_or_push, get_or_default, get_or-drop, len
 use Rattle.std.proofs.lemmas.List.Elements.{All-head, All-tail}
 use Rattle.std.proofs.lemmas.List.FromFn.{length-map-range_with_len, get_or-map-range_with_len}
 use Rattle.std.proofs.lemmas.List.Folds.{list_any_at}
+use Rattle.tv_lemmas.proofs.Orderings.{le_same}
 use Rattle.tv_kleene.specs.Kleene.{LiesUnder}
 use Rattle.tv_embedding_laws.specs.Embedding.{Embeds, IsEmbedded}
 use Rattle.tv_struct.specs.StructureForm.{StructureForm, IsStructure, structure_of, arities_of, value_at}
@@ -62,9 +63,6 @@ lex-less (suc n) (x ∷ xs) (y ∷ ys) e x_lt y_lt less =
 
 le-Less : (xs ys : List ℕ) → slice_cmp nat_cmp xs ys ≡ Less → IsTrue (is_le (slice_cmp nat_cmp xs ys))
 le-Less xs ys e = rw e refl
-
-le-same : (xs ys : List ℕ) → xs ≡ ys → IsTrue (is_le (slice_cmp nat_cmp xs ys))
-le-same xs ys e = rw e (rw (tied_itself nat_list_cmp_total ys) refl)
 
 -- ---- one individual
 
@@ -164,7 +162,7 @@ pub whole_searched : (small large : StructureForm) (images : List ℕ) (onto : B
 whole_searched small large images true is same whole fits to from = record {
   embeds = Embeds-fits small large images is same whole fits (to refl);
   begins = take_all (length images) images (omega arith);
-  least = λ other embeds begins. le-same images other (whole-same small large images other whole embeds begins);
+  least = λ other embeds begins. le_same images other (whole-same small large images other whole embeds begins);
 }
 whole_searched small large images false is same whole fits to from = (
   λ other embeds begins.
@@ -297,8 +295,6 @@ few_left small large images le more other embeds begins =
               rw (length-drop (length images) other) (omega arith),
               get_or-drop (length images) other (i - length images) w ∙ ap (λ k. get_or other k w) place ∙ at,
             )
-
--- ---- all embeddings
 
 -- ---- embeddings as lists
 

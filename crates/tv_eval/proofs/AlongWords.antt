@@ -75,37 +75,6 @@ mapped-word n chunk f g x a = record {
 
 -- ---- words made one value after the other
 
--- the first i values are there
-pub record FilledTo (chunk i : ℕ) (g : ℕ → K3) (word : List K3) : Type 0 where
-  pub long : length word ≡ 64
-  pub done : (j : ℕ) → j < i → get_or word j No ≡ g (64 * chunk + j)
-
-pub filled-none : (chunk : ℕ) (g : ℕ → K3) (word : List K3) → word ≡ padded 64 (replicate 64 No)
-    → FilledTo chunk 0 g word
-filled-none chunk g word is = record {
-  long = ap length is ∙ length-padded 64 (replicate 64 No) (omega arith) (length-replicate 64 No);
-  done = λ j lt. absurd (omega arith);
-}
-
-pub filled-next : (chunk i : ℕ) (g : ℕ → K3) (word new : List K3) (k : K3) → FilledTo chunk i g word → i < 64
-    → new ≡ set word i k → k ≡ g (64 * chunk + i) → FilledTo chunk (i + 1) g new
-filled-next chunk i g word new k before low is e = record {
-  long = ap length is ∙ length-set word i k ∙ before.long;
-  done = λ j lt. ap (λ ks. get_or ks j No) is
-      ∙ ⊎_elim
-      (λ at. ap (λ p. get_or (set word i k) p No) at ∙ get_or-set_same word i k No (omega (arith, before.long)) ∙ e
-      ∙ ap (λ p. g (64 * chunk + p)) (sym at))
-      (λ ne. get_or-set_other word i j k No ne ∙ before.done j (omega arith))
-      (cases_eq j i);
-}
-
-pub filled-all : (n chunk i count : ℕ) (g : ℕ → K3) (word : List K3) → FilledTo chunk i g word
-    → count ≡ min 64 (n - 64 * chunk) → count ≤ i → IsWordOf n chunk g word
-filled-all n chunk i count g word filled e le = record {
-  long = filled.long;
-  each = λ j low within. filled.done j (omega arith);
-}
-
 -- a value at one place, and No at all others
 pub alone-here : (n chunk u : ℕ) (k : K3) (g : ℕ → K3) (none word : List K3) → none ≡ padded 64 (replicate 64 No)
     → u / 64 ≡ chunk → word ≡ set none (u % 64) k → k ≡ g u → ((w : ℕ) → w ≢ u → No ≡ g w) → IsWordOf n chunk g word

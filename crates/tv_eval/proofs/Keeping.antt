@@ -1,7 +1,10 @@
 -- A closure whose body has no free variables but its own two has the same values under every assignment.
 use Rattle.std.proofs.Common.{ℕ, ◌≡◌, ◌≢◌, ◌<◌, ◌+◌, ◌⊎◌, inl, inr, ⊎_elim, zero, suc, List, [], ◌∷◌, length}
 use Rattle.std.proofs.Common.{set, get_or, Some, refl, sym, ap, subst, arith, ◌∙◌, eqb, eq-eqb, ne_eqb}
-use Rattle.std.specs.Prelude.{slice_get, unwrap_or}
+use Rattle.std.specs.Prelude.{slice_get, unwrap_or, Option, None, IfSome}
+use mathlib.Core.Path.{fun_ext}
+use Rattle.tv_model.proofs.Assignments.{put-same, put-other}
+use Rattle.tv_embedding_laws.specs.LogicalStructure.{LogicalStructure}
 use Rattle.std.specs.List.{range_with_len}
 use Rattle.std.proofs.lemmas.Bool.{cases_eq, cond-true, cond-false}
 use Rattle.std.proofs.lemmas.List.{get_or-set_same, get_or-set_other}
@@ -19,9 +22,10 @@ use Rattle.tv_eval.specs.HoldsClosure.{HoldsClosure}
 use Rattle.tv_eval.specs.Keeps.{HoldsClosures, StandsAt}
 use Rattle.tv_row.specs.Places.{entry_in}
 use Rattle.tv_eval.specs.Along.{IsWordOf}
-use Rattle.tv_eval.specs.Rows.{IsSquare, IsPart, part_at}
-use Rattle.tv_eval.specs.declared.relation.Part.{Part}
-use Rattle.tv_eval.specs.declared.relation.Part.TheVariants.{From, To, Diagonal}
+use Rattle.tv_quantifiers.specs.Rows.{IsSquare, IsPart, part_at}
+use Rattle.tv_quantifiers.specs.declared.relation.Part.{Part}
+use Rattle.tv_quantifiers.specs.declared.relation.Part.TheVariants.{From, To, Diagonal}
+use Rattle.tv_quantifiers.proofs.Keeping.{any-default, put-here, put-elsewhere}
 use Rattle.tv_eval.proofs.FreeBelow.{free-below}
 use Rattle.tv_eval.proofs.AlongWords.{same-word}
 use Rattle.tv_eval.proofs.Loops.{closed-value}
@@ -117,30 +121,37 @@ own-next body left right k before here v lt free =
         (λ l. ⊎_elim inr (λ r. absurd (here (l, r, is))) (cases_eq k right))
         (cases_eq k left)
 
+-- ---- values of quantified formulas
+
+put-itself : (a : Assignment) (v u : ℕ) → u ≡ a v → put a v u ≡ a
+put-itself a v u is = fun_ext (λ w. ⊎_elim
+    (λ e. put-same a v u w e ∙ is ∙ ap a (sym e)) (λ ne. put-other a v u w ne) (cases_eq w v))
+
+-- what is kept is the value where the variable stands for that individual
+pub value-kept : (s : LogicalStructure) (a : Assignment) (v u : ℕ) (f : Form) (x : K3) → u ≡ a v
+    → ((b : Assignment) → value s (put b v u) f ≡ x) → x ≡ value s a f
+value-kept s a v u f x is told = sym (told a) ∙ ap (λ b. value s b f) (put-itself a v u is)
+
+-- the value of a formula with one free variable is the same whatever the others stand for
+pub keeps-value : (s : StructureForm) (a : Assignment) (v u : ℕ) (f : Form) (k : K3) → IsFormulaOver (arities_of s) f
+    → u ≡ a v → ((w : ℕ) → w < 32 → IsFree w f → w ≡ v) → k ≡ value (structure_of s) a f
+    → (b : Assignment) → value (structure_of s) (put b v u) f ≡ k
+keeps-value s a v u f k over is alone exact b =
+    only_free_variables_matter (structure_of s) f (put b v u) a
+    (λ w free. let e : w ≡ v = alone w (free-below (arities_of s) f w over free) free
+    in put-same b v u w e ∙ is ∙ ap a (sym e))
+    ∙ sym exact
+
+pub some-map : {X : Type 0} (o : Option X) (P Q : X → Type 0) → ((x : X) → P x → Q x) → IfSome o P → IfSome o Q
+some-map None P Q each h = tt
+some-map (Some x) P Q each h = each x h
+
 -- ---- places
-
--- what is read at a place below the length is the same with any default
-pub any-default : {X : Type 0} (xs : List X) (i : ℕ) (d e : X) → i < length xs → get_or xs i d ≡ get_or xs i e
-any-default [] i d e lt = absurd (omega arith)
-any-default (x ∷ xs) zero d e lt = refl
-any-default (x ∷ xs) (suc i) d e lt = any-default xs i d e (omega arith)
-
-put-here : {X : Type 0} (xs : List X) (i : ℕ) (x : X) → i < length xs → slice_get (set xs i x) i ≡ Some x
-put-here [] i x lt = absurd (omega arith)
-put-here (y ∷ xs) zero x lt = refl
-put-here (y ∷ xs) (suc i) x lt = put-here xs i x (omega arith)
-
-put-elsewhere : {X : Type 0} (xs : List X) (i j : ℕ) (x : X) → j ≢ i → slice_get (set xs i x) j ≡ slice_get xs j
-put-elsewhere [] i j x ne = refl
-put-elsewhere (y ∷ xs) zero zero x ne = absurd (ne refl)
-put-elsewhere (y ∷ xs) zero (suc j) x ne = refl
-put-elsewhere (y ∷ xs) (suc i) zero x ne = refl
-put-elsewhere (y ∷ xs) (suc i) (suc j) x ne = put-elsewhere xs i j x (λ e. ne (ap suc e))
 
 -- what stands at a place of the closure is held
 pub found_is_held : (s : StructureForm) (a : Assignment) (kept : Kept) (rooms : List (List (List K3)))
     (k left right : ℕ) (body : Form)
-    (room : List (List K3)) → HoldsClosures s kept rooms → StandsAt kept k left right body → k < length rooms
+    (room : List (List K3)) → HoldsClosures s kept rooms → StandsAt kept.closures k left right body → k < length rooms
     → room ≡ get_or rooms k room → HoldsClosure s a left right body room
 found_is_held s a kept rooms k left right body room keeps stands lt is =
     let e : Edges = stands.edges
@@ -156,14 +167,15 @@ same-edges e other is = ap (λ o. unwrap_or (unwrap_or o (Some e)) e) is
 
 -- one more closure is kept
 pub keeps_one_more : (s : StructureForm) (a : Assignment) (kept : Kept) (rooms : List (List (List K3)))
-    (place count : ℕ) (e : Edges)
+    (place next : ℕ) (e : Edges)
     (rows : List (List K3)) → HoldsClosures s kept rooms → place < length kept.closures → place < length rooms
     → ((v : ℕ) → v < 32 → IsFree v (form_of e.body.now) → (v ≡ e.left.0) ⊎ (v ≡ e.right.0))
     → IsFormulaOver (arities_of s) (form_of e.body.now)
     → HoldsClosure s a e.left.0 e.right.0 (form_of e.body.now) rows
-    → HoldsClosures s (record { closures = set kept.closures place (Some e); count = count }) (set rooms place rows)
-keeps_one_more s a kept rooms place count e rows keeps among within own over held = record {
+    → HoldsClosures s (record { closures = set kept.closures place (Some e); next = next; parts = kept.parts }) (set rooms place rows)
+keeps_one_more s a kept rooms place next e rows keeps among within own over held = record {
   each = λ k other b at. ⊎_elim (λ here. new k other b at here) (λ apart. old k other b at apart) (cases_eq k place);
+  parts = keeps.parts;
 }
   where
     new : (k : ℕ) (other : Edges) (b : Assignment) → slice_get (set kept.closures place (Some e)) k ≡ Some

@@ -9,4 +9,3 @@ pub mod Parts
 pub mod Programs
 pub mod Rooms
 pub mod Runs
-pub mod RowLaws

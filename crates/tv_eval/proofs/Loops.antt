@@ -9,7 +9,7 @@ use Rattle.tv_kleene.specs.declared.K3.{K3}
 use Rattle.tv_kleene.specs.declared.K3.TheVariants.{No, Half, Yes}
 use Rattle.tv_kleene.specs.Kleene.{larger_of}
 use Rattle.tv_eval_laws.specs.Value.{greatest_of, best_walk}
-use Rattle.tv_eval.proofs.RowLaws.{range-front, best-agrees}
+use Rattle.tv_quantifiers.proofs.RowLaws.{range-front, best-agrees}
 
 -- what a comparison told
 pub told-equal : (x y : K3) (b : Bool) → MatchBool b (x ≡ y) (x ≢ y) → b ≡ true → x ≡ y

@@ -7,15 +7,11 @@ use Rattle.tv_model.specs.Form.{Form}
 use Rattle.tv_model.specs.Truth.{Assignment, put}
 use Rattle.tv_struct.specs.StructureForm.{StructureForm, structure_of}
 use Rattle.tv_eval_laws.specs.Value.{value, best_walk}
+pub use Rattle.tv_quantifiers.specs.Words.{IsWordOf}
 
 -- the value at each individual, put for v
 abbrev pub values_along : StructureForm → Assignment → (v : ℕ) → Form → List K3
 values_along s a v f = map (λ u. value (structure_of s) (put a v u) f) (range_with_len 0 s.size)
-
--- a word of 64 values: those of g at the individuals of n from 64 * chunk on, as far as there are any
-pub record IsWordOf (n chunk : ℕ) (g : ℕ → K3) (word : List K3) : Type 0 where
-  pub long : length word ≡ 64
-  pub each : (i : ℕ) → i < 64 → 64 * chunk + i < n → slice_index_or word i No ≡ g (64 * chunk + i)
 
 -- the word has the formula's values at the individuals from 64 * chunk on, put for v
 abbrev pub IsWordAlong : StructureForm → Assignment → (v chunk : ℕ) → Form → List K3 → Type 0

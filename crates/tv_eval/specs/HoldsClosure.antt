@@ -7,7 +7,7 @@ use Rattle.tv_model.specs.Truth.{Assignment, put}
 use Rattle.tv_struct.specs.StructureForm.{StructureForm, structure_of}
 use Rattle.tv_eval_laws.specs.Value.{value, best_walk}
 use Rattle.tv_row.specs.Places.{entry_in}
-use Rattle.tv_eval.specs.Rows.{IsSquare}
+use Rattle.tv_quantifiers.specs.Rows.{IsSquare}
 
 -- the rows hold the values of the body's closure in the structure under the assignment
 pub record HoldsClosure (s : StructureForm) (a : Assignment) (left right : ℕ) (body : Form)

@@ -13,4 +13,5 @@ pub use Rattle.tv_quantifiers.specs.Runs
 pub use Rattle.tv_quantifiers.specs.Sets
 pub mod ScratchForm
 pub mod Sound
-pub mod Rows
+pub use Rattle.tv_quantifiers.specs.Rows
+pub use Rattle.tv_quantifiers.specs.Words

@@ -15,11 +15,11 @@ ghost use Rattle.tv_eval.specs.Sound.{CoversValues};
 use crate::Assignment;
 use crate::kept::Kept;
 use crate::leaf_words::literal_word;
-use crate::relation::Relation;
 use crate::scratch::Scratch;
 use crate::values::{row_of, value_of, word_of};
 use tv_kleene::K3;
 use tv_model::{Formula, Var};
+use tv_quantifiers::Relation;
 use tv_row::{Row, Word};
 use tv_struct::Structure;
 

@@ -1,71 +1,108 @@
-//! Closures that depend on the structure alone: one is closed when it is first met, and read from then on.
+//! What depends on the structure alone: a closure is closed when it is first met, and read from then on; so
+//! are values of quantified formulas that took long.
 
 ghost use Rattle.std.specs.Prelude.{ℕ, ◌≡◌, ◌≢◌, ◌<◌, ◌+◌, ◌↔◌, List, [], length, IsTrue, IfSome, IfNone};
-ghost use Rattle.std.specs.Prelude.{Some, slice_index_or, slice_set};
+ghost use Rattle.std.specs.Prelude.{Some, min, slice_index_or, slice_set, unwrap_or};
 ghost use Rattle.tv_kleene.specs.declared.K3.{K3};
 ghost use Rattle.tv_model.specs.Form.{form_of, IsFree};
 ghost use Rattle.tv_model.specs.Truth.{Assignment};
-ghost use Rattle.tv_struct.specs.StructureForm.{StructureForm, arities_of};
+ghost use Rattle.tv_eval_laws.specs.Value.{value};
+ghost use Rattle.tv_eval.specs.AssignmentForm.{assignment_of};
+ghost use Rattle.tv_struct.specs.StructureForm.{StructureForm, structure_of, arities_of};
 ghost use Rattle.tv_model.specs.Valid.{IsFormulaOver};
 ghost use Rattle.tv_eval.specs.HoldsClosure.{HoldsClosure};
 ghost use Rattle.tv_eval.specs.Keeps.{HoldsClosures, StandsAt, HasOnlyOwn, HasPlace};
 
-use crate::relation::Relation;
 use std::mem;
-use tv_quantifiers::{Edges, are_same, has_outer};
+use tv_kleene::K3;
+use tv_model::Formula;
+use tv_quantifiers::{Edges, Parts, Relation, are_same, has_outer, lone};
 
 /// How many closures are kept, at most.
 pub const PLACES: usize = 8;
 
-/// Whose closed edges are kept: the relation at a place holds those of the closure there.
+/// Whose closed edges are kept: the relation at a place holds those of the closure there. Where all places
+/// are taken the last one makes room, so that a closure is at hand while the one around it is filled.
 #[derive(Drop)]
 pub struct Kept<'f> {
     closures: [Option<Edges<'f>>; 8],
-    count: usize,
+    next: usize,
+    parts: Parts<'f>,
 }
 
 impl<'f> Kept<'f> {
     /// Nothing is kept.
     pub fn new() -> Kept<'f>
         ensures kept { (s : StructureForm) (rooms : List (List (List K3))) → HoldsClosures s result rooms }
-        ensures count { result.count ≡ 0 }
+        ensures next { result.next ≡ 0 }
     {
         Kept {
             closures: [None; 8],
-            count: 0,
+            next: 0,
+            parts: Parts::new(),
         }
     }
 
     /// The closed edges, if they are kept.
-    pub fn find<'r>(&self, edges: Edges<'_>, rooms: &'r [Relation]) -> Option<&'r Relation>
-        ensures held { (s : StructureForm) (a : Assignment) → HoldsClosures s self.now rooms.now
+    pub fn find<'r>(&mut self, edges: Edges<'_>, rooms: &'r [Relation]) -> Option<&'r Relation>
+        ensures held { (s : StructureForm) (a : Assignment) → HoldsClosures s self.old rooms.now
             → IfSome result (λ r. HoldsClosure s a edges.entry.left.0 edges.entry.right.0
             (form_of edges.entry.body.now) r.now) }
         ensures none { IfNone result ((k : ℕ) → k < 8 → k < length rooms.now
-            → ¬ StandsAt self.now k edges.entry.left.0 edges.entry.right.0 (form_of edges.entry.body.now)) }
+            → ¬ StandsAt self.old.closures k edges.entry.left.0 edges.entry.right.0
+            (form_of edges.entry.body.now)) }
+        ensures same { self.new ≡ self.old }
     {
-        for k in 0..PLACES {
-            if k < rooms.len() && self.stands_at(k, edges) {
-                return Some(&rooms[k]);
+        match place(&mut self.closures[..], edges) {
+            None => None,
+            Some(k) => {
+                if k >= rooms.len() {
+                    return None;
+                }
+                Some(&rooms[k])
             }
         }
-        None
     }
 
-    fn stands_at(&self, k: usize, edges: Edges<'_>) -> bool
-        requires { k < 8 }
-        ensures { IsTrue result ↔ StandsAt self.now k edges.entry.left.0 edges.entry.right.0
-            (form_of edges.entry.body.now) }
+    /// The value of the quantified formula under the assignment, if it is kept.
+    #[inline(always)]
+    pub fn value(&mut self, f: &Formula, a: &crate::Assignment) -> Option<K3>
+        ensures value { IfSome result (λ k. (s : StructureForm) (rooms : List (List (List K3)))
+            → HoldsClosures s self.old rooms
+            → k ≡ value (structure_of s) (assignment_of a.now) (form_of f.now)) }
+        ensures same { self.new ≡ self.old }
     {
-        let places = &self.closures[..];
-        match places[k] {
-            None => false,
-            Some(other) => are_same(other, edges),
+        let v = self.parts.variable(f)?;
+        self.parts.value(f, v, a.at(v))
+    }
+
+    /// Counts an evaluation of a quantified formula.
+    #[inline(always)]
+    pub fn turn(&mut self) -> usize
+        ensures { (s : StructureForm) (rooms : List (List (List K3))) → HoldsClosures s self.old rooms
+            → HoldsClosures s self.new rooms }
+    {
+        self.parts.turn()
+    }
+
+    /// Keeps the value of the formula under the assignment, where many quantified formulas were evaluated
+    /// since then and at most one variable is free in it.
+    #[inline(always)]
+    pub fn offer_value(&mut self, f: &'f Formula, since: usize, a: &crate::Assignment, k: K3)
+        ensures { (s : StructureForm) (rooms : List (List (List K3))) → HoldsClosures s self.old rooms
+            → IsFormulaOver (arities_of s) (form_of f.now)
+            → k ≡ value (structure_of s) (assignment_of a.now) (form_of f.now)
+            → HoldsClosures s self.new rooms }
+    {
+        if self.parts.took_long(since) {
+            if let Some(v) = lone(f) {
+                self.parts.keep(f, v, a.at(v), k);
+            }
         }
     }
 
-    /// Keeps the closed edges where only the closure's own variables are free in its body, and a place of
-    /// their size is left: they change places with the relation there.
+    /// Keeps the closed edges where only the closure's own variables are free in its body, and the next place
+    /// has their size: they change places with the relation there.
     pub fn offer(&mut self, edges: Edges<'f>, closed: &mut Relation, rooms: &mut [Relation])
         ensures kept { (s : StructureForm) (a : Assignment) → HoldsClosures s self.old rooms.old
             → IsFormulaOver (arities_of s) (form_of edges.entry.body.now)
@@ -74,16 +111,16 @@ impl<'f> Kept<'f> {
             → HoldsClosures s self.new rooms.new }
         ensures size { length closed.new ≡ length closed.old }
         ensures closures { HasPlace self.old edges.entry closed.old rooms.old
-            → self.new.closures ≡ slice_set self.old.closures self.old.count (Some edges.entry) }
-        ensures count { HasPlace self.old edges.entry closed.old rooms.old
-            → self.new.count ≡ self.old.count + 1 }
+            → self.new.closures ≡ slice_set self.old.closures self.old.next (Some edges.entry) }
+        ensures next { HasPlace self.old edges.entry closed.old rooms.old
+            → self.new.next ≡ min (self.old.next + 1) 7 }
         ensures swapped { HasPlace self.old edges.entry closed.old rooms.old
-            → (closed.new ≡ slice_index_or rooms.old self.old.count [])
-            × (rooms.new ≡ slice_set rooms.old self.old.count closed.old) }
+            → (closed.new ≡ slice_index_or rooms.old self.old.next [])
+            × (rooms.new ≡ slice_set rooms.old self.old.next closed.old) }
         ensures unchanged { ¬ HasPlace self.old edges.entry closed.old rooms.old
             → (self.new ≡ self.old) × (closed.new ≡ closed.old) × (rooms.new ≡ rooms.old) }
     {
-        let place = self.count;
+        let place = self.next;
         if place >= PLACES || place >= rooms.len() || !is_closed(edges) {
             return;
         }
@@ -94,7 +131,35 @@ impl<'f> Kept<'f> {
         mem::swap(room, closed);
         let places = &mut self.closures[..];
         places[place] = Some(edges);
-        self.count = place + 1;
+        self.next = (place + 1).min(PLACES - 1);
+    }
+}
+
+/// The first place where the closure stands.
+fn place(closures: &mut [Option<Edges<'_>>], edges: Edges<'_>) -> Option<usize>
+    ensures some { IfSome result (λ k. (k < length closures.old) × StandsAt closures.old k
+        edges.entry.left.0 edges.entry.right.0 (form_of edges.entry.body.now)) }
+    ensures none { (j : ℕ) → j < unwrap_or result (length closures.old) → ¬ StandsAt closures.old j
+        edges.entry.left.0 edges.entry.right.0 (form_of edges.entry.body.now) }
+    ensures same { closures.new ≡ closures.old }
+{
+    for k in 0..closures.len() {
+        if stands_at(closures, k, edges) {
+            return Some(k);
+        }
+    }
+    None
+}
+
+fn stands_at(closures: &mut [Option<Edges<'_>>], k: usize, edges: Edges<'_>) -> bool
+    requires { k < length closures.old }
+    ensures stands { IsTrue result ↔ StandsAt closures.old k edges.entry.left.0 edges.entry.right.0
+        (form_of edges.entry.body.now) }
+    ensures same { closures.new ≡ closures.old }
+{
+    match closures[k] {
+        None => false,
+        Some(other) => are_same(other, edges),
     }
 }
 

@@ -8,7 +8,6 @@ mod kept;
 mod laws;
 mod leaf_words;
 mod leaves;
-mod relation;
 mod scratch;
 mod values;
 

@@ -6,12 +6,11 @@ ghost use Rattle.tv_eval.specs.Formulas.{sizes_of};
 ghost use Rattle.tv_eval.specs.ScratchForm.{IsMadeFor};
 
 use crate::kept::PLACES;
-use crate::relation::Relation;
 use std::alloc::{AllocError, Global};
 use std::marker::Model;
 use std::mem;
 use tv_model::Program;
-use tv_quantifiers::program_height;
+use tv_quantifiers::{Relation, program_height};
 
 /// How much higher than the program's highest formula a formula may be. Fewer closures stand inside one
 /// another than a formula is high.

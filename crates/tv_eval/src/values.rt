@@ -15,7 +15,7 @@ ghost use Rattle.tv_eval.specs.Keeps.{HoldsClosures};
 ghost use Rattle.tv_quantifiers.specs.Quantified.{quantified, turned};
 ghost use Rattle.tv_eval.specs.Caps.{IsCapWord};
 ghost use Rattle.tv_kleene.specs.declared.K3.TheVariants.{No};
-ghost use Rattle.tv_eval.specs.Rows.{IsPart, IsSquare, part_at};
+ghost use Rattle.tv_quantifiers.specs.Rows.{IsPart, IsSquare, part_at};
 
 use crate::Assignment;
 use crate::caps::{cap_row, cap_word};
@@ -24,11 +24,11 @@ use crate::leaf_words::{
     atom_word, chunks, constant_word, literal_word, new_word, places, same_word,
 };
 use crate::leaves::{atom, is_new, same};
-use crate::relation::{Part, Relation};
 use tv_kleene::K3;
 use tv_model::{Formula, Var, free};
 use tv_quantifiers::{
-    Edges, Quantifier, Variables, advance, begins_long_run, has_few, has_outer, is_slower, opened,
+    Edges, Part, Quantifier, Relation, Variables, advance, begins_long_run, has_few, has_outer,
+    is_slower, opened,
 };
 use tv_row::{Row, Word};
 use tv_struct::Structure;
@@ -61,8 +61,12 @@ pub fn value_of<'f>(
         Formula::Or(g, h) => either(g, h, s, a, rooms, kept, shared),
         Formula::Iff(g, h) => alike(g, h, s, a, rooms, kept, shared),
         Formula::Cond(c, g, h) => choice(c, g, h, s, a, rooms, kept, shared),
-        Formula::Exists(v, g) => quantify(Quantifier::Exists, *v, g, s, a, rooms, kept, shared),
-        Formula::Forall(v, g) => quantify(Quantifier::Forall, *v, g, s, a, rooms, kept, shared),
+        Formula::Exists(v, g) => {
+            quantify(f, Quantifier::Exists, *v, g, s, a, rooms, kept, shared)
+        }
+        Formula::Forall(v, g) => {
+            quantify(f, Quantifier::Forall, *v, g, s, a, rooms, kept, shared)
+        }
         Formula::Closure {
             from,
             to,
@@ -180,9 +184,39 @@ fn choice<'f>(
     }
 }
 
-/// The value of the body under the quantifier over `v`.
+/// The value of a quantified formula: it is read where it is kept.
 #[cycle(values)]
 fn quantify<'f>(
+    f: &'f Formula,
+    q: Quantifier,
+    v: Var,
+    body: &'f Formula,
+    s: &Structure,
+    a: &Assignment,
+    rooms: &mut [Relation],
+    kept: &mut Kept<'f>,
+    shared: &mut [Relation],
+) -> K3
+    requires parts { CanEvaluate s.now a.now (sizes_of rooms.old) (FExists v.0 (form_of body.now)) }
+    requires kept { HoldsClosures s.now kept.old shared.old }
+    requires whole { form_of f.now ≡ quantified q v.0 (form_of body.now) }
+    ensures exact { result
+        ≡ value (structure_of s.now) (assignment_of a.now) (quantified q v.0 (form_of body.now)) }
+    ensures rooms { sizes_of rooms.new ≡ sizes_of rooms.old }
+    ensures kept { HoldsClosures s.now kept.new shared.new }
+{
+    if let Some(k) = kept.value(f, a) {
+        return k;
+    }
+    let since = kept.turn();
+    let k = quantify_anew(q, v, body, s, a, rooms, kept, shared);
+    kept.offer_value(f, since, a, k);
+    k
+}
+
+/// The value of the body under the quantifier over `v`.
+#[cycle(values)]
+fn quantify_anew<'f>(
     q: Quantifier,
     v: Var,
     body: &'f Formula,

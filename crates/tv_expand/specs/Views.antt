@@ -10,14 +10,12 @@ use Rattle.tv_tree.specs.declared.trees.SetSign.{SetSign}
 use Rattle.tv_tree.specs.declared.trees.SetSign.TheVariants as sign
 use Rattle.tv_tree.specs.Forms.{SetForm, ActionForm}
 use Rattle.tv_tree.specs.Copies.{action_of}
+pub use Rattle.tv_tree.specs.Names.{names_of}
 use Rattle.tv_flat.specs.Replaced.{Binding}
 use Rattle.tv_expand.specs.declared.error.ExpandError.{ExpandError}
 use Rattle.tv_expand.specs.Outcome.{◌>>=◌}
 use Rattle.tv_expand.specs.Expansion.{Actions}
 use Rattle.tv_expand.specs.Sets.{Sets, with_members, without_members, members_of}
-
-abbrev pub names_of : List (Bor (List ℕ)) → List (List ℕ)
-names_of names = map (λ name. name.now) names
 
 abbrev pub WordSet : Type 0
 WordSet = IndexSet (Bor (List ℕ)) (BuildHasherDefault FoldHasher)

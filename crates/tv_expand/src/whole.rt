@@ -21,7 +21,7 @@ use tv_tree::trees::Tree;
 ///
 /// # Errors
 /// The first condition that is met, in the order of declarations, actions and edges.
-pub fn expand(alloc: Global, t: &Tree) -> Result<Flat, ExpandError>
+pub fn expand<'a>(alloc: Global, t: &Tree<'a>) -> Result<Flat<'a>, ExpandError>
     ensures exact { GivesExpansion flat_of result (expansion (program_of t.now)) }
     ensures flat { IfOk result (λ f. IsSpelled (program_of t.now) → IsFlat (flat_of f)) }
 {

@@ -20,7 +20,7 @@ use crate::sets::Sets;
 use crate::words::{Words, once};
 use indexmap::{IndexMap, IndexSet};
 use std::alloc::{AllocError, Global};
-use tv_flat::{FlatAction, FlatEdge, Params, Scope, put_param, spelling, with_params};
+use tv_flat::{FlatAction, FlatEdge, Params, Scope, put_param, with_params};
 use tv_tree::Items;
 use tv_tree::trees::{ActionTree, EdgeTree, Part, Spelling};
 
@@ -32,10 +32,10 @@ pub type Calls<'a> = IndexSet<Vec<&'a [u8]>>;
 
 /// The edges so far, and the flat actions that they take.
 #[derive(Drop)]
-pub struct Wired<'a> {
-    pub calls: Calls<'a>,
+pub struct Wired<'t, 'a> {
+    pub calls: Calls<'t>,
     pub actions: Vec<FlatAction>,
-    pub edges: Vec<FlatEdge>,
+    pub edges: Vec<FlatEdge<'a>>,
     pub room: Room,
 }
 
@@ -193,7 +193,7 @@ fn enter<'a>(
 fn make_action<'a>(
     alloc: Global,
     sets: &Sets<'a>,
-    state: &mut Wired<'a>,
+    state: &mut Wired<'a, '_>,
     action: &'a ActionTree,
     arguments: &'a [Spelling],
 ) -> Result<(), ExpandError>
@@ -215,7 +215,7 @@ fn make_action<'a>(
 fn call<'a>(
     alloc: Global,
     sets: &Sets<'a>,
-    state: &mut Wired<'a>,
+    state: &mut Wired<'a, '_>,
     action: &'a ActionTree,
     arguments: &'a [Spelling],
 ) -> Result<u32, ExpandError>
@@ -233,22 +233,19 @@ fn call<'a>(
     Ok(index as u32)
 }
 
-fn put_edge(
-    alloc: Global,
-    state: &mut Wired<'_>,
+fn put_edge<'a>(
+    state: &mut Wired<'_, 'a>,
     number: u32,
-    edge: &EdgeTree,
+    edge: &EdgeTree<'a>,
 ) -> Result<(), ExpandError>
     ensures { GivesExpansion (λ _. wired_of state.new) result
         (with_edge number (edge_of edge.now) (wired_of state.old)) }
 {
     let room = state.room.count_none()?;
-    let from = spelling(alloc, &edge.from.0)?;
-    let to = spelling(alloc, &edge.to.0)?;
     state.edges.push(FlatEdge {
-        from,
+        from: edge.from,
         action: number,
-        to,
+        to: edge.to,
     })?;
     state.room = room;
     Ok(())
@@ -264,12 +261,12 @@ fn find<'a>(actions: &Actions<'a>, name: &[u8]) -> Result<&'a ActionTree, Expand
     }
 }
 
-fn wire_to<'a>(
+fn wire_to<'t, 'a>(
     alloc: Global,
-    sets: &Sets<'a>,
-    state: &mut Wired<'a>,
-    action: &'a ActionTree,
-    edge: &'a EdgeTree,
+    sets: &Sets<'t>,
+    state: &mut Wired<'t, 'a>,
+    action: &'t ActionTree,
+    edge: &'t EdgeTree<'a>,
 ) -> Result<(), ExpandError>
     requires few { length state.old.calls.keys ≤ 4294967295 }
     ensures { GivesExpansion (λ _. wired_of state.new) result
@@ -279,25 +276,25 @@ fn wire_to<'a>(
         return Err(ExpandError::ArgumentCount);
     }
     let number = call(alloc, sets, state, action, edge.arguments.as_slice())?;
-    put_edge(alloc, state, number, edge)
+    put_edge(state, number, edge)
 }
 
-fn wire<'a>(
+fn wire<'t, 'a>(
     alloc: Global,
-    sets: &Sets<'a>,
-    actions: &Actions<'a>,
-    state: &mut Wired<'a>,
-    edge: &'a EdgeTree,
+    sets: &Sets<'t>,
+    actions: &Actions<'t>,
+    state: &mut Wired<'t, 'a>,
+    edge: &'t EdgeTree<'a>,
 ) -> Result<(), ExpandError>
     requires few { length state.old.calls.keys ≤ 4294967295 }
     ensures { GivesExpansion (λ _. wired_of state.new) result (wired (sets_of sets.now.entries)
         (actions_of actions.now.entries) (edge_of edge.now) (wired_of state.old)) }
 {
-    let action = find(actions, edge.action.0.as_slice())?;
+    let action = find(actions, edge.action)?;
     wire_to(alloc, sets, state, action, edge)
 }
 
-fn nothing_wired<'a>(alloc: Global, room: Room) -> Wired<'a>
+fn nothing_wired<'t, 'a>(alloc: Global, room: Room) -> Wired<'t, 'a>
     ensures { wired_of result ≡ nothing_wired (room_of room) }
 {
     Wired {
@@ -312,13 +309,13 @@ fn nothing_wired<'a>(alloc: Global, room: Room) -> Wired<'a>
 ///
 /// # Errors
 /// The first refusal.
-pub fn wire_all<'a>(
+pub fn wire_all<'t, 'a>(
     alloc: Global,
-    sets: &Sets<'a>,
-    actions: &Actions<'a>,
+    sets: &Sets<'t>,
+    actions: &Actions<'t>,
     room: Room,
-    edges: &'a [EdgeTree],
-) -> Result<Wired<'a>, ExpandError>
+    edges: &'t [EdgeTree<'a>],
+) -> Result<Wired<'t, 'a>, ExpandError>
     ensures { GivesExpansion wired_of result
         (each (wired (sets_of sets.now.entries) (actions_of actions.now.entries)) (map edge_of edges.now)
         (nothing_wired (room_of room))) }

@@ -13,10 +13,6 @@ use Rattle.tv_explain.specs.declared.fault.Fault.TheVariants.{TooManyIndividuals
 use Rattle.tv_explain.specs.declared.fault.Fault.TheVariants.{ReadFault, Memory}
 use Rattle.tv_explain_words.specs.Words.{CommandForm, Spells}
 
-pub always : {T E : Type 0} (result : Result T E) (P : Type 0) → P → OnOk result P
-always (Ok found) P h = h
-always (Err met) P h = tt
-
 -- said of the command, said of the words that spell it
 pub spelled_begins : {T : Type 0} (result : Result T Fault) (words : List (List ℕ)) (command : CommandForm)
     (P : CommandForm → Type 0) → Spells words command → OnOk result (P command)

@@ -1,5 +1,5 @@
 -- The causes of the parts of the work, as those of a command and of a call.
-use Rattle.std.proofs.Common.{◌≡◌, ◌≤◌, ℕ, List, Option, Result, Ok, Err, inl, inr, refl, sym, subst, arith}
+use Rattle.std.proofs.Common.{◌≡◌, ◌≤◌, ℕ, List, Option, Result, Ok, Err, inl, inr, refl, sym, subst}
 use Rattle.std.specs.Prelude.{false, IfOk, IfErr, length}
 use Rattle.std.specs.declared.alloc.Global.{Global}
 use Rattle.std.specs.declared.vec.Vec.{Vec}
@@ -11,7 +11,6 @@ use Rattle.tv_explain_source.specs.Sources.{IsSourceText}
 use Rattle.tv_explain_source.specs.declared.source.SourceText.{SourceText}
 use Rattle.tv_lex.specs.Gather.{longest_gathered}
 use Rattle.tv_model.specs.declared.program.Program.{Program}
-use Rattle.tv_outside.specs.Count.{Rose}
 use Rattle.tv_outside.specs.Told.{Held, HoldsName}
 use Rattle.tv_status.specs.declared.status.FileKind.{FileKind}
 use Rattle.tv_status.specs.declared.status.Role.{Role}
@@ -43,9 +42,6 @@ use Rattle.tv_explain_words.specs.Words.{Compiles, TellsStructure, Spells}
 
 -- ---- counts and steadiness
 
-pub rose_later : (old mid new : ℕ) → old ≤ mid → Rose mid new → Rose old new
-rose_later old mid new le rose = λ below. omega (arith, le, rose below)
-
 pub holds_unless : {T : Type 0} (result : Result T Fault) (P : Type 0) → P → UnlessReadFault result P
 holds_unless (Ok found) P h = h
 holds_unless (Err Usage) P h = h
@@ -70,10 +66,6 @@ pub memory_fault : {T : Type 0} (result : Result T TextFault) (its_role : Role) 
     → IfErr result (IsFileCause its_role Refuses lacks rose steady)
 memory_fault (Ok found) its_role Refuses lacks rose steady h = h
 memory_fault (Err e) its_role Refuses lacks rose steady h = rw h tt
-
--- what two steps on steady files give
-pub still : (old mid new : ℕ) (steady : Type 0) → mid ≡ old → steady × (new ≡ mid) → steady × (new ≡ old)
-still old mid new steady same h = (h.0, rw (h.1, same) refl)
 
 -- ---- files
 

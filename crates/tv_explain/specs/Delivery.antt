@@ -1,6 +1,5 @@
 -- What the two sinks take in a call.
 use Rattle.std.specs.Prelude.{◌≡◌, ℕ, ◌⊎◌, List, Option, Result, Ok, Err}
-use Rattle.tv_outside.specs.Count.{FailedLast}
 use Rattle.tv_outside.specs.Told.{appended, TookFront}
 use Rattle.tv_status.specs.declared.status.Status.TheVariants.{WriteFault}
 use Rattle.tv_explain.specs.Faults.{ending_of, ending_with, text_of}
@@ -8,12 +7,6 @@ use Rattle.tv_explain.specs.declared.fault.Answer.{Answer}
 use Rattle.tv_explain.specs.declared.fault.Ending.{Ending}
 use Rattle.tv_explain.specs.declared.fault.Ending.TheVariants.{As}
 use Rattle.tv_explain.specs.declared.fault.Fault.{Fault}
-
--- of the calls on a sink in between none failed, or exactly one did and it was the last: a sink that has
--- failed is given nothing more
-abbrev pub StopsAtFailure : (old_failures new_failures since : ℕ) → Type 0
-StopsAtFailure old_failures new_failures since =
-    (new_failures ≡ old_failures) ⊎ FailedLast old_failures new_failures since
 
 -- the whole text was taken and the call ends so, or a front of it, and the call ends in a write fault
 abbrev pub Takes : (text : List ℕ) → (due ends : Ending) → (rose : Type 0) → (old new : Option (List ℕ))

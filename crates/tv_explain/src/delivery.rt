@@ -3,7 +3,8 @@
 ghost use Rattle.std.specs.Prelude.{◌≡◌, ◌≤◌, OnOk, OnErr};
 ghost use Rattle.tv_outside.specs.Count.{Rose, FailedLast};
 ghost use Rattle.tv_outside.specs.Told.{appended, TookFront};
-ghost use Rattle.tv_explain.specs.Delivery.{GivesText, IsDelivered, StopsAtFailure, Takes};
+ghost use Rattle.tv_texts.specs.Delivery.{StopsAtFailure};
+ghost use Rattle.tv_explain.specs.Delivery.{GivesText, IsDelivered, Takes};
 ghost use Rattle.tv_explain.specs.Faults.{absent_text, ending_with, text_of, unwritten_text, usage_text};
 
 use crate::fault::{Answer, Ending, Fault, Sought, Unwritten};

@@ -39,9 +39,9 @@ use tv_vocab::{flat_forms_are_resolvable, resolve};
 
 /// The tokens and the tree of a text, and the program that it means.
 #[derive(Drop)]
-struct Understood {
+struct Understood<'t> {
     tokens: Tokens,
-    tree: Tree,
+    tree: Tree<'t>,
     program: Program,
 }
 
@@ -62,7 +62,7 @@ pub struct Inputs {
 
 /// What a text is understood as, stage by stage, as `read_program` of `tv_front` goes through it.
 #[tactic(auto, using(tv_front::proofs::Stages::lexing_refused, tv_front::proofs::Stages::parsing_refused, tv_front::proofs::Stages::tree_read, tv_front::proofs::Stages::parsing_stopped, tv_front::proofs::Stages::expansion_refused))]
-fn understand(alloc: Global, bytes: &[u8]) -> Result<Understood, ProgramFault>
+fn understand<'t>(alloc: Global, bytes: &'t [u8]) -> Result<Understood<'t>, ProgramFault>
     requires { length bytes.now ≤ longest_text }
     ensures means { IfOk result (IsUnderstood bytes.now) }
     ensures valid { IfOk result (λ read. IsValid (program_of read.program)) }
@@ -83,7 +83,7 @@ fn understand(alloc: Global, bytes: &[u8]) -> Result<Understood, ProgramFault>
 }
 
 /// The program that a gathered text means, with its heads.
-#[tactic(auto, using(crate::proofs::Trees::tree_refused))]
+#[tactic(auto, using(tv_texts::proofs::Refusals::program_refused))]
 fn drawn_in(alloc: Global, gathered: &Gathered) -> Result<Drawn, TextFault>
     requires { length gathered.now.bytes.items ≤ longest_text }
     ensures means { IfOk result (IsDrawnWhereParted gathered.now) }
@@ -103,7 +103,7 @@ fn drawn_in(alloc: Global, gathered: &Gathered) -> Result<Drawn, TextFault>
 }
 
 /// The program that the named file means, with its includes put in, and its heads.
-#[tactic(auto, using(crate::proofs::Trees::not_gathered, crate::proofs::Trees::gathered_refused, crate::proofs::Trees::holds_anyway))]
+#[tactic(auto, using(tv_texts::proofs::Loading::not_gathered, tv_texts::proofs::Loading::gathered_refused, tv_texts::proofs::Loading::holds_anyway))]
 pub fn load_drawn<F: Files>(alloc: Global, files: &mut F, name: &str) -> Result<Drawn, TextFault>
     ensures means { IfOk result (IsDrawnFile (F.holds files.old) false name.now) }
     ensures valid { IfOk result (λ drawn. IsValid (program_of drawn.program)) }

@@ -5,8 +5,8 @@ ghost use Rattle.std.specs.Prelude.{◌≡◌, ◌≤◌};
 ghost use Rattle.tv_outside.specs.Count.{Rose};
 ghost use Rattle.tv_explain.specs.Begins.{BeginsFor, OnAnswer};
 ghost use Rattle.tv_explain.specs.Call.{Commands, HasDone, HoldsOperands, UnlessFault};
-ghost use Rattle.tv_explain.specs.Delivery.{StopsAtFailure};
 ghost use Rattle.tv_explain_words.specs.Words.{SpellsNothing};
+ghost use Rattle.tv_texts.specs.Delivery.{StopsAtFailure};
 ghost use Rattle.tv_words.specs.Words.{words_of};
 
 mod answers;

@@ -1,26 +1,21 @@
 -- What files of source programs give, from what reading, cutting and compiling them gives.
-use Rattle.std.proofs.Common.{◌≡◌, ◌≤◌, ℕ, List, Option, None, Some, Result, Ok, Err, refl}
+use Rattle.std.proofs.Common.{◌≡◌, ◌≤◌, ℕ, List, Option, None, Some, Err, refl}
 use Rattle.std.specs.Prelude.{length}
 use Rattle.tv_lex.specs.Gather.{longest_gathered}
-use Rattle.tv_lex.specs.Pieces.{Reads, Cause as LexCause}
-use Rattle.tv_lex.specs.Places.{StopsAtToken}
-use Rattle.tv_lex.specs.Token.{spec_tokens}
+use Rattle.tv_lex.specs.Pieces.{Cause as LexCause}
 use Rattle.tv_lex.specs.declared.token.LexError.{LexError}
 use Rattle.tv_lex.specs.declared.token.LexError.TheVariants as lexing
-use Rattle.tv_lex.specs.declared.token.Token.{Token}
 use Rattle.tv_outside.specs.Count.{Rose}
 use Rattle.tv_outside.specs.Outcome.{ReadCause}
 use Rattle.tv_outside.specs.Told.{Held, HoldsName, IsContent, IsLonger}
 use Rattle.tv_outside.specs.declared.read.ReadError.{ReadError}
 use Rattle.tv_outside.specs.declared.read.ReadError.TheVariants as reading
-use Rattle.tv_plang.specs.Meaning.{IsSourceCause, source_place}
-use Rattle.tv_plang.specs.declared.error.SourceError.{SourceError}
 use Rattle.tv_plang.specs.declared.error.SourceError.TheVariants as source
 use Rattle.tv_status.specs.declared.status.FileKind.{FileKind}
 use Rattle.tv_status.specs.declared.status.FileKind.TheVariants as kind
 use Rattle.tv_status.specs.declared.status.Role.TheVariants as role
-use Rattle.tv_texts.specs.Faults.{fault_of_lexing, fault_of_reading, fault_of_source}
-use Rattle.tv_texts.specs.Files.{IsFileCause, IsSourceFile, IsTextCause, UnlessNotRead}
+use Rattle.tv_texts.specs.Faults.{fault_of_lexing, fault_of_reading}
+use Rattle.tv_texts.specs.Files.{IsFileCause, IsSourceFile, IsTextCause}
 use Rattle.tv_texts.specs.Meaning.{MeansSource}
 use Rattle.tv_texts.specs.declared.fault.TextFault.{TextFault}
 use Rattle.tv_texts.specs.declared.fault.TextFault.TheVariants.{Refused, NotRead, Memory}
@@ -47,13 +42,6 @@ unlexed text lexing.BadByte size h = (refl, (size, h))
 unlexed text lexing.Unended size h = (refl, (size, h))
 unlexed text lexing.Memory size h = tt
 
-pub source_refused : (text : List ℕ) (tokens : List Token) (e : SourceError)
-    → length text ≤ longest_gathered → Reads text (Ok tokens) → IsSourceCause (spec_tokens text tokens) e
-    → StopsAtToken source_place text tokens e
-    → IsTextCause role.Source (λ k. MeansSource text (Err k)) (fault_of_source e)
-source_refused text tokens source.Memory size reads cause stops = tt
-source_refused text tokens other size reads cause stops = (refl, (size, (tokens, reads, (cause, stops))))
-
 -- the file that holds the text
 pub held : (told : Option Held) (name text : List ℕ) (s : SourceText) → IsContent told name text
     → s.bytes.items ≡ text → IsCompiled s → IsSourceText told name s
@@ -75,10 +63,3 @@ held_refused told name text lacks rose steady (Refused its k) content h =
     (h.0, refused_file told name text k content h.1)
 held_refused told name text lacks rose steady NotRead content h = absurd h.0
 held_refused told name text lacks rose steady Memory content h = tt
-
--- what holds anyway
-pub holds_anyway : {T : Type 0} (result : Result T TextFault) (P : Type 0) → P → UnlessNotRead result P
-holds_anyway (Ok found) P h = h
-holds_anyway (Err (Refused its k)) P h = h
-holds_anyway (Err NotRead) P h = tt
-holds_anyway (Err Memory) P h = h

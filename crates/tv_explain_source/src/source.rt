@@ -64,7 +64,7 @@ fn tokens_in(alloc: Global, bytes: &[u8]) -> Result<Tokens, TextFault>
 }
 
 /// The program that the text, of these tokens, is compiled to.
-#[tactic(auto, using(crate::proofs::Sources::source_refused))]
+#[tactic(auto, using(tv_texts::proofs::Refusals::source_refused))]
 fn program_in(alloc: Global, bytes: &[u8], tokens: &Tokens) -> Result<Program, TextFault>
     requires size { length bytes.now ≤ longest_gathered }
     requires read { Reads bytes.now (Ok tokens.now.list.items) }
@@ -100,7 +100,7 @@ fn source_in(alloc: Global, bytes: Vec<u8>) -> Result<SourceText, TextFault>
 /// # Errors
 /// It is refused where it means no source program or one too large. It isn't read only where a call of
 /// `files` failed, and on steady files only where they lack it. Or memory ran out.
-#[tactic(auto, using(crate::proofs::Sources::held, crate::proofs::Sources::holds_anyway))]
+#[tactic(auto, using(crate::proofs::Sources::held, tv_texts::proofs::Loading::holds_anyway))]
 pub fn load_source_text<F: Files>(
     alloc: Global,
     files: &mut F,

@@ -4,6 +4,7 @@ use Rattle.std.proofs.Common.{false, All, Contains, IsTrue, inl, inr, ⊎_elim, 
 use Rattle.std.proofs.Common.{length, ◌<◌, ◌≤◌, ◌+◌, zero, suc, slice_index, Result, Ok, Err, IfOk, arith}
 use Rattle.std.proofs.lemmas.Bool.{cases_eq, cases_lt, false≢true}
 use Rattle.std.proofs.lemmas.List.Elements.{All-head, All-tail, Contains-append_left, Contains-append_right}
+use Rattle.std.proofs.lemmas.Option.{same_Some}
 use Rattle.tv_model.specs.declared.program.Mode.{Mode}
 use Rattle.tv_model.specs.declared.program.Mode.TheVariants.{Given, Recompute}
 use Rattle.tv_model.specs.Form.{Form}
@@ -44,9 +45,6 @@ swapped-back xs u m w nu nm at =
     in let In : ℕ → Type 0 = λ y. Contains xs y in pushed-old xs u w (subst In same old))
     (λ e. pushed-last xs u w (sym (swap-twice u m w) ∙ swap-second u m (swap u m w) e))
     (pushed-cases xs m (swap u m w) at)
-
-some-same : (x w : ℕ) → Some x ≡ Some w → x ≡ w
-some-same x w e = cc e
 
 pub fixed-tuple : (xs : List ℕ) (u m : ℕ) → ¬ Contains xs u → ¬ Contains xs m → (us : List ℕ) → All (Contains xs) us
     → map (swap u m) us ≡ us
@@ -122,9 +120,9 @@ swap-matches p old new picked u m x = record {
     λ s. sym (swap-twice u m v) ∙ ap (swap u m) (sym e ∙ s ∙ d) ∙ swap-twice u m w,
   );
   marks = λ s w y e. (
-    λ t. ap (λ (z : ℕ). Some z) (sym (e ∙ swap-first u m w (sym (some-same u w t)))),
+    λ t. ap (λ (z : ℕ). Some z) (sym (e ∙ swap-first u m w (sym (same_Some u w t)))),
     λ t. ap (λ (z : ℕ). Some z) (sym (sym (swap-twice u m w)
-        ∙ swap-second u m (swap u m w) (sym e ∙ sym (some-same m y t)))),
+        ∙ swap-second u m (swap u m w) (sym e ∙ sym (same_Some m y t)))),
   );
 }
 

@@ -2,11 +2,13 @@
 use Rattle.std.proofs.Common.{◌≡◌, ◌≢◌, ◌⊎◌, ◌∙◌, List, [], ◌∷◌, ◌++◌, map, Option, None, Some, IfSome, inl}
 use Rattle.std.proofs.Common.{inr, ⊎_elim, refl, sym, ap, subst, All}
 use Rattle.std.specs.List.{cons_option}
-use Rattle.std.proofs.lemmas.List.Elements.{All-nil, All-cons, All-head, All-tail, All-append, All-map}
+use Rattle.std.proofs.lemmas.List.Elements.{All-nil, All-cons, All-head, All-append, All-map}
 use Rattle.std.proofs.lemmas.List.Elements.{All-weaker, filter_map-append}
+use Rattle.tv_lemmas.proofs.Lists.{All-right}
 use Rattle.tv_kleene.specs.declared.K3.{K3}
 use Rattle.tv_kleene.specs.declared.K3.TheVariants.{No, Half, Yes}
 use Rattle.tv_kleene.specs.Kleene.{smaller_of}
+use Rattle.tv_kleene.proofs.Lattice.{both-yes, yes-both}
 use Rattle.tv_model.specs.Form.{Form, FZero, FOne, FAtom, FIsNew, FSame, FNot, FAnd, FOr, FIff, FCond}
 use Rattle.tv_model.specs.Form.{FExists, FForall, FClosure}
 use Rattle.tv_model.specs.Program.{HeadForm}
@@ -14,10 +16,6 @@ use Rattle.tv_rules.specs.Closing.{Swap, swap_left, swap_right, swaps, conjuncts
 use Rattle.tv_rules.proofs.MetByHeaps.{All-mapped, All-first}
 use Rattle.tv_family_laws.specs.Families.{Member, member_with, literals, other_with, others, missing_with}
 use Rattle.tv_family_laws.specs.Families.{missing}
-
-pub All-last : {X : Type 0} (P : X → Type 0) (xs ys : List X) → All P (xs ++ ys) → All P ys
-All-last P [] ys all = all
-All-last P (x ∷ xs) ys all = All-last P xs ys (All-tail P x (xs ++ ys) all)
 
 -- a list of one element is split in one way or the other
 one-of_two : (xs ys : List Member) (m : Member) → xs ++ ys ≡ m ∷ []
@@ -30,20 +28,6 @@ one-of_two (x ∷ z ∷ xs) ys m e = absurd (cc e)
 none-of_two : (xs ys : List Member) → xs ++ ys ≡ [] → (xs ≡ []) × (ys ≡ [])
 none-of_two [] ys e = (refl, e)
 none-of_two (x ∷ xs) ys e = absurd (cc e)
-
-pub both-yes : (x y : K3) → smaller_of x y ≡ Yes → (x ≡ Yes) × (y ≡ Yes)
-both-yes Yes Yes e = (refl, refl)
-both-yes Yes Half e = absurd (cc e)
-both-yes Yes No e = absurd (cc e)
-both-yes Half Yes e = absurd (cc e)
-both-yes Half Half e = absurd (cc e)
-both-yes Half No e = absurd (cc e)
-both-yes No Yes e = absurd (cc e)
-both-yes No Half e = absurd (cc e)
-both-yes No No e = absurd (cc e)
-
-pub yes-both : (x y : K3) → x ≡ Yes → y ≡ Yes → smaller_of x y ≡ Yes
-yes-both x y e d = ap (λ z. smaller_of z y) e ∙ ap (smaller_of Yes) d
 
 pub yes-or : (x : K3) → (x ≡ Yes) ⊎ (x ≢ Yes)
 yes-or No = inr (λ e. cc)
@@ -87,7 +71,7 @@ module _ (v : Form → K3) (and : (f g : Form) → v (FAnd f g) ≡ smaller_of (
   rest-and f g all =
       let both : All Is (others (conjuncts f) ++ others (conjuncts g))
       = subst (All Is) (filter_map-append (λ h. other_with h (negated h)) (conjuncts f) (conjuncts g)) all
-      in (All-first Is (others (conjuncts f)) (others (conjuncts g)) both, All-last Is (others (conjuncts f)) (others (conjuncts g)) both)
+      in (All-first Is (others (conjuncts f)) (others (conjuncts g)) both, All-right Is (others (conjuncts f)) (others (conjuncts g)) both)
 
   and-rest : (f g : Form) → Rest f → Rest g → Rest (FAnd f g)
   and-rest f g left right =
@@ -228,7 +212,7 @@ module _ (v : Form → K3) (and : (f g : Form) → v (FAnd f g) ≡ smaller_of (
         rights all =
             All-weaker (λ s. Says R (swap_right f s)) (Says (R × Is f))
             (λ s q rf b. q rf.0 (and f s.body ∙ yes-both (v f) (v s.body) rf.1 b)) (swaps x g)
-            (All-mapped (Says R) (swap_right f) (swaps x g) (All-last (Says R) (map (swap_left g) (swaps x f)) (map (swap_right f) (swaps x g)) all))
+            (All-mapped (Says R) (swap_right f) (swaps x g) (All-right (Says R) (map (swap_left g) (swaps x f)) (map (swap_right f) (swaps x g)) all))
 
     pub counts : (R : Type 0) (x f : Form) → Counts R x f (conjuncts f) (swaps x f)
     counts R x (FAnd f g) = counts-and R x f g (counts (R × Is g) x f) (counts (R × Is f) x g)

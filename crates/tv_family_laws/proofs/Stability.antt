@@ -6,6 +6,7 @@ use Rattle.std.specs.List.{flat_map}
 use Rattle.std.proofs.lemmas.Option.{slice_get-get_or}
 use Rattle.std.proofs.lemmas.List.Elements.{All-nil, All-cons, All-head, All-tail, All-append, All-weaker}
 use Rattle.std.proofs.lemmas.List.Elements.{All-contains, All-contains_itself}
+use Rattle.tv_lemmas.proofs.Lists.{All-right}
 use Rattle.tv_kleene.specs.declared.K3.{K3}
 use Rattle.tv_kleene.specs.declared.K3.TheVariants.{No, Half, Yes}
 use Rattle.tv_kleene.specs.Kleene.{negation_of}
@@ -31,7 +32,6 @@ use Rattle.tv_family_laws.specs.Families.{family, Member, member_with, head_memb
 use Rattle.tv_family_laws.specs.Families.{AreOthersYes, IsFamilyStable}
 use Rattle.tv_family_laws.specs.Laws.{CountsAreClosedRules, CountsAreClosedSets, CountsAreProgramRules}
 use Rattle.tv_family_laws.specs.Laws.{IsAskedFor, CountsAreExact, CountsForce, DenialsNegate}
-use Rattle.tv_family_laws.proofs.Counting.{All-last}
 use Rattle.tv_family_laws.proofs.Deciding.{All-to_filter_map, counted-from, counted-one, counted-none}
 use Rattle.tv_family_laws.proofs.Deciding.{none-missing, missing-none, rest-full, counted-to, counted-back}
 
@@ -132,7 +132,7 @@ All-from_flat_map : {X Y : Type 0} (P : Y → Type 0) (f : X → List Y) (xs : L
 All-from_flat_map P f [] all = All-nil (λ x. All P (f x))
 All-from_flat_map P f (x ∷ xs) all =
     All-cons (λ y. All P (f y)) x xs (All-first P (f x) (flat_map f xs) all)
-    (All-from_flat_map P f xs (All-last P (f x) (flat_map f xs) all))
+    (All-from_flat_map P f xs (All-right P (f x) (flat_map f xs) all))
 
 pub counts_are_closed_sets : CountsAreClosedSets
 counts_are_closed_sets s bases = (to, from)
@@ -144,7 +144,7 @@ counts_are_closed_sets s bases = (to, from)
     to stable k d lt =
         (counts_are_closed_rules s (get_or bases k d)).0
         (All-cons P (get_or bases k d) (further_rules (get_or bases k d)) (All-first P bases (flat_map further_rules bases) stable k d lt)
-        (All-from_flat_map P further_rules bases (All-last P bases (flat_map further_rules bases) stable) k d lt))
+        (All-from_flat_map P further_rules bases (All-right P bases (flat_map further_rules bases) stable) k d lt))
 
     from : All (IsFamilyStable s) bases → IsStable (closed_set bases) s
     from counted =

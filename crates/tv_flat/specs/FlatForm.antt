@@ -37,7 +37,7 @@ abbrev pub parts_of : FlatAction → List PartForm
 parts_of a = map part_of a.parts
 
 abbrev pub flat_edge_of : FlatEdge → FlatEdgeForm
-flat_edge_of e = record { from = e.from; action = e.action; to = e.to }
+flat_edge_of e = record { from = e.from.now; action = e.action; to = e.to.now }
 
 abbrev pub flat_of : Flat → FlatForm
 flat_of f =

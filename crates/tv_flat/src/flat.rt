@@ -1,7 +1,7 @@
 //! The flat form of a program: declarations, actions and edges with final names.
 
 use tv_model::Items;
-use tv_tree::trees::{Parts, PredDecl, RuleDecl, Spelling};
+use tv_tree::trees::{Parts, PredDecl, RuleDecl};
 
 /// Predicates, in the order of their declarations.
 pub type FlatPreds = Items<PredDecl>;
@@ -21,20 +21,20 @@ pub type FlatActions = Items<FlatAction>;
 
 /// An edge between two node words, along the flat action of this number.
 #[derive(Drop, Debug)]
-pub struct FlatEdge {
-    pub from: Spelling,
+pub struct FlatEdge<'a> {
+    pub from: &'a [u8],
     pub action: u32,
-    pub to: Spelling,
+    pub to: &'a [u8],
 }
 
 /// Edges, in the order of the text.
-pub type FlatEdges = Items<FlatEdge>;
+pub type FlatEdges<'a> = Items<FlatEdge<'a>>;
 
 /// A program in which each name is final.
 #[derive(Drop, Debug)]
-pub struct Flat {
+pub struct Flat<'a> {
     pub preds: FlatPreds,
     pub rules: FlatRules,
     pub actions: FlatActions,
-    pub edges: FlatEdges,
+    pub edges: FlatEdges<'a>,
 }

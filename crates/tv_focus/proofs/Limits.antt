@@ -5,6 +5,7 @@ use Rattle.std.specs.Prelude.{Any, slice_get}
 use Rattle.std.proofs.lemmas.List.{length-map, get_or-map}
 use Rattle.std.proofs.lemmas.List.FromFn.{length-range_with_len}
 use Rattle.std.proofs.lemmas.List.Elements.{All-nil, All-cons, All-map, Contains-get_or}
+use Rattle.tv_lemmas.proofs.Lists.{range_differs}
 use Rattle.tv_kleene.specs.declared.K3.{K3}
 use Rattle.tv_kleene.specs.declared.K3.TheVariants.{No, Half, Yes}
 use Rattle.tv_model.specs.Form.{Form, FZero, FOne, FAtom, FIsNew, FSame, FNot, FAnd, FOr, FIff, FCond}
@@ -29,7 +30,7 @@ use Rattle.tv_focus_laws.proofs.Splits.{IsWhole, choice-whole}
 use Rattle.tv_focus_laws.proofs.Stages.{split-anchors}
 use Rattle.tv_focus_laws.proofs.StageTables.{AreSplitApart, HasPlaces, split-apart, split-places}
 use Rattle.tv_focus_laws.proofs.StageTables.{stage_tables_are_stage}
-use Rattle.tv_focus_laws.proofs.Tables.{differ-range, tables_lose_no_heap}
+use Rattle.tv_focus_laws.proofs.Tables.{tables_lose_no_heap}
 use Rattle.tv_focus.specs.Anchored.{IsAtomOver, AreAtomsOver, IsSplitOver}
 use Rattle.tv_focus.specs.Focused.{IsSplitAim}
 use Rattle.tv_focus.specs.Puts.{copies_in, IsChoiceOf}
@@ -274,4 +275,4 @@ stage-aim s f k is over lt =
     split-aim s (atom_at f k).pred (length (atom_at f k).vars) (split_at (structure_of s) f k) is
     (over k no_atom lt)
     (split-places (anchors_in (structure_of s) (focus_atoms f)) (atom_at f k).vars)
-    (split-anchors (structure_of s) f k) (split-apart (structure_of s) (differ-range s.size) f k)
+    (split-anchors (structure_of s) f k) (split-apart (structure_of s) (range_differs s.size) f k)

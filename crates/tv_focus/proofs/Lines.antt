@@ -7,6 +7,7 @@ use Rattle.std.specs.List.{range_with_len, filter, list_any}
 use Rattle.std.proofs.lemmas.List.{append-nil, drop_more, take_rest, get_or_default, get_or-map}
 use Rattle.std.proofs.lemmas.List.{get_or-replicate, length-map, length-replicate}
 use Rattle.std.proofs.lemmas.List.FromFn.{length-map-range_with_len, get_or-map-range_with_len}
+use Rattle.std.proofs.Math.Bool.{and-false}
 use Rattle.tv_kleene.specs.declared.K3.{K3}
 use Rattle.tv_kleene.specs.declared.K3.TheVariants.{No, Half, Yes}
 use Rattle.tv_kleene.specs.Kleene.{larger_of, negation_of, smaller_of, is_yes}
@@ -14,6 +15,7 @@ use Rattle.tv_row.specs.Bits.{paired}
 use Rattle.tv_row.proofs.WordOps.{length-paired, get_or-paired}
 use Rattle.tv_struct.specs.StructureForm.{StructureForm, structure_of, summary_at, value_at}
 use Rattle.tv_struct.specs.StructureRows.{unary_row}
+use Rattle.tv_struct.proofs.Library.{length-unary_row}
 use Rattle.tv_focus_laws.specs.Counts.{halves}
 use Rattle.tv_focus_laws.specs.FocusAtoms.{ordinary}
 use Rattle.tv_focus.specs.Anchored.{IsReached, pair_of}
@@ -60,10 +62,6 @@ and_true : (b : Bool) → (b && true) ≡ b
 and_true true = refl
 and_true false = refl
 
-and_false : (b : Bool) → (b && false) ≡ false
-and_false true = refl
-and_false false = refl
-
 not_yes : (k : K3) → k ≢ Yes → is_yes k ≡ false
 not_yes No ne = refl
 not_yes Half ne = refl
@@ -71,7 +69,7 @@ not_yes Yes ne = absurd (ne refl)
 
 passed-over : (s : StructureForm) (row : List K3) (u : ℕ) → get_or row u No ≢ Yes → is_found s row u ≡ false
 passed-over s row u ne =
-    ap (λ b. not (summary_at s u) && b) (not_yes (get_or row u No) ne) ∙ and_false (not (summary_at s u))
+    ap (λ b. not (summary_at s u) && b) (not_yes (get_or row u No) ne) ∙ and-false (not (summary_at s u))
 
 -- those found before a number
 abbrev pub found_before : StructureForm → (row : List K3) → ℕ → List ℕ
@@ -118,9 +116,6 @@ ordinary_reached s pred place anchors row reached =
     reached.yes
 
 -- ---- lines of anchors
-
-pub length-unary : (s : StructureForm) (pred : ℕ) → length (unary_row s pred) ≡ s.size
-length-unary s pred = length-map-range_with_len (λ u. value_at s pred (u ∷ [])) 0 s.size
 
 -- the values at the pairs of the anchor
 abbrev pub line_of : StructureForm → (pred : ℕ) → Place → ℕ → List K3
@@ -207,7 +202,7 @@ pub alone-known : (s : StructureForm) (pred u : ℕ) (row : List K3) → row ≡
     → ((w : ℕ) → w < length row → get_or row w No ≢ Half) → halves (value_at s pred (u ∷ []) ∷ []) ≡ 0
 alone-known s pred u row is lt known =
     halves_more (value_at s pred (u ∷ [])) []
-    (λ half. known u (omega (arith, lt, ap length is, length-unary s pred))
+    (λ half. known u (omega (arith, lt, ap length is, length-unary_row s pred))
     (ap (λ r. get_or r u No) is
     ∙ get_or-map-range_with_len (λ w. value_at s pred (w ∷ [])) 0 s.size u u No lt (omega arith) ∙ half))
     refl

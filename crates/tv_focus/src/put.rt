@@ -65,7 +65,7 @@ pub fn put_vector(t: &mut Structure, p: PredId, aim: &Aim, i: u32, vector: &Vect
 }
 
 /// Puts the vectors of one individual's copies, of which the first is the copy `at`.
-#[tactic(auto, using(crate::proofs::Puts::written_append))]
+#[tactic(auto, using(tv_focus_laws::proofs::Writes::written_append))]
 fn put_set(t: &mut Structure, p: PredId, aim: &Aim, at: u32, set: &[Vector])
     requires aim { IsAimOver t.old p.0 (aim_of aim.now) }
     requires copies { at + length set.now ≤ t.old.size }
@@ -84,7 +84,7 @@ fn put_set(t: &mut Structure, p: PredId, aim: &Aim, at: u32, set: &[Vector])
 }
 
 /// Puts the vectors of all copies, of which the first is the copy `at`.
-#[tactic(auto, using(crate::proofs::Puts::written_append, crate::proofs::Puts::copies_more))]
+#[tactic(auto, using(tv_focus_laws::proofs::Writes::written_append, crate::proofs::Puts::copies_more))]
 pub fn put_choice(t: &mut Structure, p: PredId, aim: &Aim, at: u32, choice: &[VectorSet])
     requires aim { IsAimOver t.old p.0 (aim_of aim.now) }
     requires copies { at + copies_in choice.now ≤ t.old.size }

@@ -112,7 +112,7 @@ fn values_at(
 }
 
 /// The sets of vectors that each individual may be given.
-#[tactic(auto, using(crate::proofs::Folds::map_range_more))]
+#[tactic(auto, using(tv_lemmas::proofs::Lists::map_range_more))]
 fn all_sets(alloc: Global, s: &Structure, p: PredId, aim: &Aim) -> Result<Vec<Sets>, AllocError>
     requires aim { IsAimOver s.now p.0 (aim_of aim.now) }
     ensures { IfOk result (λ sets. sets.items ≡ sets_in (structure_of s.now) p.0 (aim_of aim.now)) }

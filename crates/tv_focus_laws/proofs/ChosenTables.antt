@@ -11,6 +11,8 @@ use Rattle.std.proofs.lemmas.List.{length-map, get_or-map}
 use Rattle.std.proofs.lemmas.List.FromFn.{length-range_with_len, get_or-range_with_len}
 use Rattle.std.proofs.lemmas.List.Elements.{All-head, All-tail, All-cons, All-nil, All-map, All-contains}
 use Rattle.std.proofs.lemmas.List.Elements.{Contains-get_or}
+use Rattle.std.proofs.lemmas.Option.{same_Some}
+use Rattle.tv_lemmas.proofs.Lists.{in_range}
 use Rattle.tv_kleene.specs.declared.K3.{K3}
 use Rattle.tv_kleene.specs.declared.K3.TheVariants.{No}
 use Rattle.tv_embedding_laws.specs.LogicalStructure.{LogicalStructure}
@@ -24,6 +26,7 @@ use Rattle.tv_struct.proofs.StructureLaws.{drawn_reads}
 use Rattle.tv_struct.proofs.TableLaws.{IsTable-drawn}
 use Rattle.tv_struct.proofs.DrawnLaws.{IsMark-split}
 use Rattle.tv_struct.proofs.OriginLaws.{get_or-copies_from}
+use Rattle.tv_struct.proofs.Library.{below-range}
 use Rattle.tv_focus_laws.specs.Choices.{AimForm, Alone, Before, Behind, MemberForm, members, member_at}
 use Rattle.tv_focus_laws.specs.Choices.{nobody, copy_of, with_anchor, focused_value, aimed, vectors, sets_of}
 use Rattle.tv_focus_laws.specs.Choices.{choices, chosen}
@@ -35,7 +38,6 @@ use Rattle.tv_focus_laws.proofs.Membership.{Contains-flat_map}
 use Rattle.tv_focus_laws.proofs.Distinct.{Distinct, Distinct-from_pairs}
 use Rattle.tv_focus_laws.proofs.Exact.{product-is}
 use Rattle.tv_focus_laws.proofs.Counts.{IsJoined, Contains-from_flat_map, picks-length}
-use Rattle.tv_focus_laws.proofs.Embedded.{Contains-range, range-below}
 use Rattle.tv_focus_laws.proofs.Splits.{IsWhole, choice-whole, mark-place, origins-same}
 use Rattle.tv_focus_laws.proofs.Splits.{splits_show, AreMembers, are-members, copies_in, members_in}
 use Rattle.tv_focus_laws.proofs.Writes.{told, IsWritten, Fit, is_written, sole-copy}
@@ -195,13 +197,13 @@ writes-inside s ms c (Before anchors) are apart i lt w at =
     = vector-write (λ a. i ∷ copy_of ms a ∷ []) anchors (vector_at ms i) w (Distinct-from_pairs anchors apart) at
     in let Fits : List ℕ → Type 0 = λ us. (length us ≡ 2) × AreIndividuals (length ms) us
     in let anchor : IsAnchor (structure_of s) v.anchor = All-contains (IsAnchor (structure_of s)) anchors v.anchor are v.at
-    in subst Fits (sym v.goes) (refl, (lt, (c.inside v.anchor (range-below s.size v.anchor anchor.0), tt)))
+    in subst Fits (sym v.goes) (refl, (lt, (c.inside v.anchor (below-range s.size v.anchor anchor.0), tt)))
 writes-inside s ms c (Behind anchors) are apart i lt w at =
     let v : IsVectorWrite (λ a. copy_of ms a ∷ i ∷ []) anchors (vector_at ms i) w
     = vector-write (λ a. copy_of ms a ∷ i ∷ []) anchors (vector_at ms i) w (Distinct-from_pairs anchors apart) at
     in let Fits : List ℕ → Type 0 = λ us. (length us ≡ 2) × AreIndividuals (length ms) us
     in let anchor : IsAnchor (structure_of s) v.anchor = All-contains (IsAnchor (structure_of s)) anchors v.anchor are v.at
-    in subst Fits (sym v.goes) (refl, (c.inside v.anchor (range-below s.size v.anchor anchor.0), (lt, tt)))
+    in subst Fits (sym v.goes) (refl, (c.inside v.anchor (below-range s.size v.anchor anchor.0), (lt, tt)))
 
 -- what is put at a tuple is the focused value there
 put-is : (s : StructureForm) (pred : ℕ) (ms : List MemberForm) → Copies s ms → (aim : AimForm) → AreAnchors (structure_of s) aim → AreApart aim
@@ -225,7 +227,7 @@ put-is s pred ms c (Before anchors) are apart (j ∷ l ∷ []) long i w at e =
     in let one : i ≡ j = cc both
     in let other : copy_of ms v.anchor ≡ l = cc both
     in let origin : v.anchor ≡ (member_at ms l).origin
-    = sym (c.origin v.anchor (range-below s.size v.anchor anchor.0)) ∙ ap (λ x. (member_at ms x).origin) other
+    = sym (c.origin v.anchor (below-range s.size v.anchor anchor.0)) ∙ ap (λ x. (member_at ms x).origin) other
     in let base : K3 = value_at s pred ((member_at ms j).origin ∷ (member_at ms l).origin ∷ [])
     in sym (v.value base) ∙ ap (λ x. with_anchor anchors (vector_at ms x) v.anchor base) one
     ∙ ap (λ u. with_anchor anchors (vector_at ms j) u base) origin
@@ -240,7 +242,7 @@ put-is s pred ms c (Behind anchors) are apart (l ∷ j ∷ []) long i w at e =
     in let one : i ≡ j = cc both
     in let other : copy_of ms v.anchor ≡ l = cc both
     in let origin : v.anchor ≡ (member_at ms l).origin
-    = sym (c.origin v.anchor (range-below s.size v.anchor anchor.0)) ∙ ap (λ x. (member_at ms x).origin) other
+    = sym (c.origin v.anchor (below-range s.size v.anchor anchor.0)) ∙ ap (λ x. (member_at ms x).origin) other
     in let base : K3 = value_at s pred ((member_at ms l).origin ∷ (member_at ms j).origin ∷ [])
     in sym (v.value base) ∙ ap (λ x. with_anchor anchors (vector_at ms x) v.anchor base) one
     ∙ ap (λ u. with_anchor anchors (vector_at ms j) u base) origin
@@ -256,7 +258,7 @@ put-or s pred ms c Alone are (j ∷ []) long within =
     let one : WriteForm = record { tuple = j ∷ []; value = get_or (vector_at ms j) 0 No }
     in inl (
       one,
-      Contains-flat_map (copy_writes Alone ms) j one (range_with_len 0 (length ms)) (Contains-range (length ms) j within.0)
+      Contains-flat_map (copy_writes Alone ms) j one (range_with_len 0 (length ms)) (in_range (length ms) j within.0)
           (Contains-here one []),
       refl,
     )
@@ -269,11 +271,11 @@ put-or s pred ms c (Before anchors) are (j ∷ l ∷ []) long within =
     let anchor : IsAnchor (structure_of s) (member_at ms l).origin
     = All-contains (IsAnchor (structure_of s)) anchors (member_at ms l).origin are at
     in let place : copy_of ms (member_at ms l).origin ≡ l
-    = c.sole (member_at ms l).origin l (range-below s.size (member_at ms l).origin anchor.0) anchor.1 within.1.0 refl
+    = c.sole (member_at ms l).origin l (below-range s.size (member_at ms l).origin anchor.0) anchor.1 within.1.0 refl
     in inl (
       w,
       Contains-flat_map (copy_writes (Before anchors) ms) j w (range_with_len 0 (length ms))
-          (Contains-range (length ms) j within.0) has,
+          (in_range (length ms) j within.0) has,
       goes ∙ ap (λ x. j ∷ x ∷ []) place,
     ))
     (λ same. inr same)
@@ -288,11 +290,11 @@ put-or s pred ms c (Behind anchors) are (l ∷ j ∷ []) long within =
     let anchor : IsAnchor (structure_of s) (member_at ms l).origin
     = All-contains (IsAnchor (structure_of s)) anchors (member_at ms l).origin are at
     in let place : copy_of ms (member_at ms l).origin ≡ l
-    = c.sole (member_at ms l).origin l (range-below s.size (member_at ms l).origin anchor.0) anchor.1 within.0 refl
+    = c.sole (member_at ms l).origin l (below-range s.size (member_at ms l).origin anchor.0) anchor.1 within.0 refl
     in inl (
       w,
       Contains-flat_map (copy_writes (Behind anchors) ms) j w (range_with_len 0 (length ms))
-          (Contains-range (length ms) j within.1.0) has,
+          (in_range (length ms) j within.1.0) has,
       goes ∙ ap (λ x. x ∷ j ∷ []) place,
     ))
     (λ same. inr same)
@@ -301,9 +303,6 @@ put-or s pred ms c (Behind anchors) are (l ∷ j ∷ []) long within =
 put-or s pred ms c (Behind anchors) are (l ∷ j ∷ x ∷ more) long within = absurd (omega (arith, long))
 
 -- ---- the law
-
-some-same : (a b : ℕ) → Some a ≡ Some b → a ≡ b
-some-same a b e = cc
 
 pub chosen_tables_show : ChosenTablesShow
 chosen_tables_show s pred aim choice is knows are apart at small =
@@ -349,7 +348,7 @@ chosen_tables_show s pred aim choice is knows are apart at small =
         in let j : IsJoined (copy_writes aim ms) (range_with_len 0 (length ms)) v
         = Contains-from_flat_map (copy_writes aim ms) v (range_with_len 0 (length ms)) (Contains-get_or (all_writes aim ms) k d lt)
         in let inside : (length v.tuple ≡ places_of aim) × AreIndividuals (length ms) v.tuple
-        = writes-inside s ms c aim are apart j.source (range-below (length ms) j.source j.at) v j.has
+        = writes-inside s ms c aim are apart j.source (below-range (length ms) j.source j.at) v j.has
         in record {
           arity = ap (λ xs. slice_get xs pred) over ∙ knows ∙ ap Some (sym inside.0);
           individuals = subst (λ n. AreIndividuals n v.tuple) (sym laid.size) inside.1;
@@ -362,7 +361,7 @@ chosen_tables_show s pred aim choice is knows are apart at small =
         → told (all_writes aim ms) tuple (value_at t pred tuple) (focused_value (structure_of s) pred aim ms tuple)
     told-at tuple has =
         let long : length tuple ≡ places_of aim
-        = some-same (length tuple) (places_of aim) (sym has.arity ∙ ap (λ xs. slice_get xs pred) over ∙ knows)
+        = same_Some (length tuple) (places_of aim) (sym has.arity ∙ ap (λ xs. slice_get xs pred) over ∙ knows)
         in let within : AreIndividuals (length ms) tuple = subst (λ n. AreIndividuals n tuple) laid.size has.individuals
         in let base : value_at t pred tuple ≡ value_at s pred (map (λ x. (member_at ms x).origin) tuple)
         = reads.values (copies_in choice) t.fresh pred tuple has.individuals ∙ ap (value_at s pred) (origins-same ms (copies_in choice) tuple laid.same within)

@@ -14,13 +14,13 @@ use Rattle.std.proofs.lemmas.List.Elements.{Contains-append_cases, Contains-get_
 use Rattle.tv_kleene.specs.declared.K3.{K3}
 use Rattle.tv_kleene.specs.declared.K3.TheVariants.{No, Half, Yes}
 use Rattle.tv_embedding_laws.specs.LogicalStructure.{LogicalStructure}
-use Rattle.tv_model.proofs.Lists.{Contains-here, Contains-there, Contains-none, Contains-cases}
+use Rattle.tv_model.proofs.Lists.{Contains-here, Contains-there, Contains-none, Contains-cases, Contains-map}
 use Rattle.tv_focus_laws.specs.Choices.{AimForm, aimed, definite, vectors, picks, picks_to, sets_of, product}
 use Rattle.tv_focus_laws.specs.Choices.{sets_in, choices, members, members_of}
 use Rattle.tv_focus_laws.specs.Counts.{halves, halves_at, set_count, multiplied, set_counts, choice_count}
 use Rattle.tv_focus_laws.specs.Counts.{vector_count, copy_count, few_sets, few_choices, HasChoiceOf}
 use Rattle.tv_focus_laws.specs.Counts.{AreCounted, HasFewHalves, FewChoicesHaveFewHalves, ChoicesAreCounted}
-use Rattle.tv_focus_laws.proofs.Membership.{ComesFrom, Contains-map, Contains-from_map}
+use Rattle.tv_focus_laws.proofs.Membership.{ComesFrom, Contains-from_map}
 use Rattle.tv_focus_laws.proofs.Listed.{product-has, picks_to-has}
 
 -- ---- vectors

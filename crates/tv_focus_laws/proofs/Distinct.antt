@@ -8,7 +8,7 @@ use Rattle.std.proofs.lemmas.Bool.{cases_Bool, cond-true, cond-false, false≢tr
 use Rattle.std.proofs.lemmas.List.Elements.{Contains-append_left, Contains-append_right}
 use Rattle.std.proofs.lemmas.List.Elements.{Contains-append_cases, Contains-get_or}
 use Rattle.tv_model.proofs.Lists.{Contains-here, Contains-there, Contains-none, Contains-cases}
-use Rattle.tv_focus_laws.proofs.Membership.{ComesFrom, Contains-map, Contains-from_map, Contains-from_filter}
+use Rattle.tv_focus_laws.proofs.Membership.{ComesFrom, Contains-from_map, Contains-from_filter}
 
 -- no element stands twice in the list
 abbrev pub Distinct : {X : Type 0} → List X → Type 0

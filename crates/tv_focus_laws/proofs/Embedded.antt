@@ -1,17 +1,18 @@
 -- A heap of a structure embeds in the structure over given copies, where they are those of its individuals.
 use Rattle.std.proofs.Common.{ℕ, ◌≡◌, ◌≢◌, ◌<◌, ◌≤◌, ◌+◌, zero, suc, Bool, true, false, cond, eqb, List, []}
 use Rattle.std.proofs.Common.{◌∷◌, ◌++◌, ◌⊎◌, inl, inr, ⊎_elim, length, get_or, map, refl, sym, ap, subst}
-use Rattle.std.proofs.Common.{◌∙◌, arith, All, Contains, IsTrue, eq-eqb, ne_eqb}
-use Rattle.std.specs.List.{range_with_len}
+use Rattle.std.proofs.Common.{◌∙◌, All, Contains, IsTrue, eq-eqb, ne_eqb}
 use Rattle.std.proofs.lemmas.Bool.{cases_Bool, cases_eq, cond-true, cond-false, false≢true, eqb-true}
-use Rattle.std.proofs.lemmas.List.FromFn.{length-range_with_len, get_or-range_with_len}
 use Rattle.std.proofs.lemmas.List.Elements.{All-head, All-tail, All-cons, All-nil, Contains-get_or}
+use Rattle.tv_lemmas.proofs.Lists.{in_range}
 use Rattle.tv_kleene.specs.declared.K3.{K3}
 use Rattle.tv_kleene.specs.declared.K3.TheVariants.{No, Half, Yes}
 use Rattle.tv_kleene.specs.Kleene.{LiesUnder}
 use Rattle.tv_model.specs.Heap.{Heap}
+use Rattle.tv_model.proofs.Lists.{map-compose}
 use Rattle.tv_embedding_laws.specs.LogicalStructure.{LogicalStructure, heap_structure}
 use Rattle.tv_embedding_laws.specs.Embedding.{Embeds}
+use Rattle.tv_struct.proofs.Library.{below-range}
 use Rattle.tv_focus_laws.specs.Choices.{AimForm, Alone, Before, Behind, aimed, MemberForm, nobody, member_at}
 use Rattle.tv_focus_laws.specs.Choices.{with_anchor, focused_value, chosen_over}
 
@@ -23,27 +24,12 @@ above f (Behind anchors) = Behind (map f anchors)
 
 -- ---- mapped lists
 
-pub map-map : {X Y Z : Type 0} (f : X → Y) (g : Y → Z) (xs : List X) → map g (map f xs) ≡ map (λ x. g (f x)) xs
-map-map f g [] = refl
-map-map f g (x ∷ xs) = ap (λ rest. g (f x) ∷ rest) (map-map f g xs)
-
 pub aimed-above : (f : ℕ → ℕ) (aim : AimForm) (u : ℕ) → aimed (above f aim) (f u) ≡ map (map f) (aimed aim u)
 aimed-above f Alone u = refl
 aimed-above f (Before anchors) u =
-    map-map f (λ a. f u ∷ a ∷ []) anchors ∙ sym (map-map (λ a. u ∷ a ∷ []) (map f) anchors)
+    map-compose f (λ a. f u ∷ a ∷ []) anchors ∙ sym (map-compose (λ a. u ∷ a ∷ []) (map f) anchors)
 aimed-above f (Behind anchors) u =
-    map-map f (λ a. a ∷ f u ∷ []) anchors ∙ sym (map-map (λ a. a ∷ u ∷ []) (map f) anchors)
-
--- ---- the individuals 0 to n - 1
-
-pub Contains-range : (n i : ℕ) → i < n → Contains (range_with_len 0 n) i
-Contains-range n i below =
-    (i, omega (arith, length-range_with_len 0 n), omega (arith, get_or-range_with_len 0 n i i below))
-
-pub range-below : (n i : ℕ) → Contains (range_with_len 0 n) i → i < n
-range-below n i at =
-    let below : at.0 < n = omega (arith, at.1, length-range_with_len 0 n)
-    in omega (arith, at.2, get_or-range_with_len 0 n at.0 i below)
+    map-compose f (λ a. a ∷ f u ∷ []) anchors ∙ sym (map-compose (λ a. a ∷ u ∷ []) (map f) anchors)
 
 -- ---- the vector of an individual of the heap, and its copy
 
@@ -125,7 +111,7 @@ focused-under f r s e pred (Before anchors) alone ms place places (u ∷ w ∷ [
     in let AtSecond : MemberForm → Type 0 = λ m. LiesUnder (r.value pred (u ∷ w ∷ []))
     (with_anchor (map f anchors) (member_at ms (place u)).vector m.origin (s.value pred ((member_at ms (place u)).origin ∷ m.origin ∷ [])))
     in subst AtSecond (sym second) (subst AtFirst (sym first)
-    (subst AtOne (sym (map-map (λ a. u ∷ a ∷ []) (r.value pred) anchors))
+    (subst AtOne (sym (map-compose (λ a. u ∷ a ∷ []) (r.value pred) anchors))
     (with_anchor-under f (λ a. r.value pred (u ∷ a ∷ [])) anchors w (s.value pred (f u ∷ f w ∷ []))
     (e.values pred tt (u ∷ w ∷ []) all) (λ k d lt. alone k d lt w hw))))
 focused-under f r s e pred (Before anchors) alone ms place places (u ∷ w ∷ x ∷ more) all =
@@ -146,7 +132,7 @@ focused-under f r s e pred (Behind anchors) alone ms place places (u ∷ w ∷ [
     in let AtFirst : MemberForm → Type 0 = λ m. LiesUnder (r.value pred (u ∷ w ∷ []))
     (with_anchor (map f anchors) (member_at ms (place w)).vector m.origin (s.value pred (m.origin ∷ (member_at ms (place w)).origin ∷ [])))
     in subst AtFirst (sym first) (subst AtSecond (sym second)
-    (subst AtOne (sym (map-map (λ a. a ∷ w ∷ []) (r.value pred) anchors))
+    (subst AtOne (sym (map-compose (λ a. a ∷ w ∷ []) (r.value pred) anchors))
     (with_anchor-under f (λ a. r.value pred (a ∷ w ∷ [])) anchors u (s.value pred (f u ∷ f w ∷ []))
     (e.values pred tt (u ∷ w ∷ []) all) (λ k d lt. alone k d lt u hu))))
 focused-under f r s e pred (Behind anchors) alone ms place places (u ∷ w ∷ x ∷ more) all =
@@ -159,8 +145,8 @@ pub chosen-embeds : (f : ℕ → ℕ) (h : Heap) (s : LogicalStructure) → Embe
     → Places (heap_structure h) (member_of f (heap_structure h) pred aim) ms place
     → Embeds place (heap_structure h) (chosen_over s pred (above f aim) ms)
 chosen-embeds f h s e pred aim alone ms place places = record {
-  into = λ u at. Contains-range (length ms) (place u) (places.inside u at);
-  onto = λ i at. places.onto i (range-below (length ms) i at);
+  into = λ u at. in_range (length ms) (place u) (places.inside u at);
+  onto = λ i at. places.onto i (below-range (length ms) i at);
   values = λ q any tuple all. at-each q tuple all;
   summaries = λ u at summary. absurd (false≢true summary);
   several = λ u w hu hw ne same. together u w hu hw ne same;

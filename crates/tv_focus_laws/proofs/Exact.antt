@@ -4,9 +4,9 @@ use Rattle.std.proofs.Common.{◌++◌, ◌⊎◌, inl, inr, ⊎_elim, length, m
 use Rattle.std.proofs.Common.{Contains}
 use Rattle.std.specs.List.{flat_map, AllZip}
 use Rattle.std.proofs.lemmas.List.Elements.{Contains-append_cases}
-use Rattle.tv_model.proofs.Lists.{Contains-here, Contains-there, Contains-none, Contains-cases}
+use Rattle.tv_model.proofs.Lists.{Contains-here, Contains-there, Contains-none, Contains-cases, Contains-map}
 use Rattle.tv_focus_laws.specs.Choices.{product}
-use Rattle.tv_focus_laws.proofs.Membership.{ComesFrom, Contains-map, Contains-from_map, Contains-flat_map}
+use Rattle.tv_focus_laws.proofs.Membership.{ComesFrom, Contains-from_map, Contains-flat_map}
 use Rattle.tv_focus_laws.proofs.Counts.{IsJoined, Contains-from_flat_map}
 
 -- an element of a product has one element of each list

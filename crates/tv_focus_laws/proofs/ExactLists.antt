@@ -10,13 +10,13 @@ use Rattle.std.proofs.lemmas.List.Elements.{Contains-append_cases}
 use Rattle.tv_kleene.specs.declared.K3.{K3}
 use Rattle.tv_kleene.specs.declared.K3.TheVariants.{No, Half, Yes}
 use Rattle.tv_embedding_laws.specs.LogicalStructure.{LogicalStructure}
-use Rattle.tv_model.proofs.Lists.{Contains-here, Contains-there, Contains-none, Contains-cases}
+use Rattle.tv_model.proofs.Lists.{Contains-here, Contains-there, Contains-none, Contains-cases, Contains-map}
 use Rattle.tv_focus_laws.specs.Choices.{AimForm, aimed, definite, vectors, picks, picks_to, sets_of, product}
 use Rattle.tv_focus_laws.specs.Choices.{choices}
 use Rattle.tv_focus_laws.specs.Exact.{Sharpens, IsVector, IsSmaller, IsEarlier, AreInOrder, IsVectorSet}
 use Rattle.tv_focus_laws.specs.Exact.{AreBefore, IsChoiceBefore, IsLexBefore, IsSetBefore}
 use Rattle.tv_focus_laws.specs.Exact.{IsChoice, ListsAreExact}
-use Rattle.tv_focus_laws.proofs.Membership.{ComesFrom, Contains-map, Contains-from_map, Contains-flat_map}
+use Rattle.tv_focus_laws.proofs.Membership.{ComesFrom, Contains-from_map, Contains-flat_map}
 use Rattle.tv_focus_laws.proofs.Counts.{IsJoined, Contains-from_flat_map, picks-length, picks_to-length}
 use Rattle.tv_focus_laws.proofs.Counts.{some-set}
 use Rattle.tv_focus_laws.proofs.Listed.{definite-has, picks_to-has}

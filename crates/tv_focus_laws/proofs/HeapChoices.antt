@@ -11,6 +11,7 @@ use Rattle.std.proofs.lemmas.List.Folds.{Any-from_list_any, list_any-from_Any}
 use Rattle.tv_kleene.specs.declared.K3.{K3}
 use Rattle.tv_kleene.specs.declared.K3.TheVariants.{No, Half, Yes}
 use Rattle.tv_model.specs.Heap.{Heap}
+use Rattle.tv_model.proofs.Lists.{map-compose}
 use Rattle.tv_embedding_laws.specs.LogicalStructure.{LogicalStructure, heap_structure, holds}
 use Rattle.tv_embedding_laws.specs.Embedding.{Embeds, IsHeapOf}
 use Rattle.tv_focus_laws.specs.Choices.{AimForm, Alone, Before, Behind, aimed, vectors, picks, sets_of}
@@ -24,7 +25,7 @@ use Rattle.tv_focus_laws.proofs.Listed.{IsVectorOf, vectors-have, vectors-distin
 use Rattle.tv_focus_laws.proofs.Listed.{picks_to-has, product-has}
 use Rattle.tv_focus_laws.proofs.Places.{same_vector, vector-same, vector-own, place_of, IsPlace, place-found}
 use Rattle.tv_focus_laws.proofs.Places.{members-have, IsMember, members-are, members-distinct}
-use Rattle.tv_focus_laws.proofs.Embedded.{above, map-map, aimed-above, vector_of, member_of, AreAlone, Places}
+use Rattle.tv_focus_laws.proofs.Embedded.{above, aimed-above, vector_of, member_of, AreAlone, Places}
 use Rattle.tv_focus_laws.proofs.Embedded.{chosen-embeds}
 
 -- ---- the anchors' cells
@@ -128,7 +129,7 @@ vector-listed : (f : ℕ → ℕ) (h : Heap) (s : LogicalStructure) → Embeds f
 vector-listed f h s e pred aim u inside =
     let At : List K3 → Type 0 = λ ks. Contains (vectors ks) (vector_of (heap_structure h) pred aim u)
     in let same : values_at s pred (above f aim) (f u) ≡ map (λ t. s.value pred (map f t)) (aimed aim u)
-    = ap (map (s.value pred)) (aimed-above f aim u) ∙ map-map (map f) (s.value pred) (aimed aim u)
+    = ap (map (s.value pred)) (aimed-above f aim u) ∙ map-compose (map f) (s.value pred) (aimed aim u)
     in subst At (sym same)
     (vectors-have ((heap_structure h).value pred) (λ t. s.value pred (map f t)) (aimed aim u)
     (λ k d lt. (heap-definite h pred (get_or (aimed aim u) k d), e.values pred tt (get_or (aimed aim u) k d) (inside k d lt))))

@@ -1,5 +1,6 @@
 -- Library: lemmas that the crates above may cite, on membership in lists, lists without repeats, numbers of choices,
 -- and tables that are written.
+pub mod Members
 pub mod Membership
 pub mod Distinct
 pub mod Counts

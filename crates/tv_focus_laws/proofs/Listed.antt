@@ -10,9 +10,9 @@ use Rattle.std.proofs.lemmas.List.Elements.{Contains-append_cases, All-head, All
 use Rattle.tv_kleene.specs.declared.K3.{K3}
 use Rattle.tv_kleene.specs.declared.K3.TheVariants.{No, Half, Yes}
 use Rattle.tv_kleene.specs.Kleene.{LiesUnder}
-use Rattle.tv_model.proofs.Lists.{Contains-here, Contains-there, Contains-none, Contains-cases}
+use Rattle.tv_model.proofs.Lists.{Contains-here, Contains-there, Contains-none, Contains-cases, Contains-map}
 use Rattle.tv_focus_laws.specs.Choices.{definite, vectors, picks, picks_to, sets_of, product}
-use Rattle.tv_focus_laws.proofs.Membership.{ComesFrom, Contains-map, Contains-from_map, Contains-flat_map}
+use Rattle.tv_focus_laws.proofs.Membership.{ComesFrom, Contains-from_map, Contains-flat_map}
 use Rattle.tv_focus_laws.proofs.Distinct.{Distinct, Distinct-append, Distinct-map}
 
 pub definite-has : (x k : K3) → x ≢ Half → LiesUnder x k → Contains (definite k) x

@@ -7,15 +7,6 @@ use Rattle.std.proofs.lemmas.List.Elements.{Contains-append_left, Contains-appen
 use Rattle.std.proofs.lemmas.List.Elements.{Contains-append_cases}
 use Rattle.tv_model.proofs.Lists.{Contains-here, Contains-there, Contains-none, Contains-cases}
 
-pub Contains-map : {X Y : Type 0} (f : X → Y) (x : X) (xs : List X) → Contains xs x → Contains (map f xs) (f x)
-Contains-map f x [] at = absurd (Contains-none x at)
-Contains-map {X} {Y} f x (y ∷ xs) at =
-    let Has : X → Type 0 = λ z. Contains (f y ∷ map f xs) (f z)
-    in ⊎_elim
-    (λ e. subst Has e (Contains-here (f y) (map f xs)))
-    (λ there. Contains-there (f y) (f x) (map f xs) (Contains-map f x xs there))
-    (Contains-cases y x xs at)
-
 -- what an element of a mapped list comes from
 pub record ComesFrom {X Y : Type 0} (f : X → Y) (xs : List X) (y : Y) : Type 0 where
   pub source : X

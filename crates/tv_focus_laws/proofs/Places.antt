@@ -9,9 +9,9 @@ use Rattle.std.proofs.lemmas.List.Elements.{Contains-append_left, Contains-appen
 use Rattle.std.proofs.lemmas.List.Elements.{Contains-append_cases, Contains-get_or}
 use Rattle.tv_kleene.specs.declared.K3.{K3}
 use Rattle.tv_kleene.specs.declared.K3.TheVariants.{No, Half, Yes}
-use Rattle.tv_model.proofs.Lists.{Contains-here, Contains-there, Contains-none, Contains-cases}
+use Rattle.tv_model.proofs.Lists.{Contains-here, Contains-there, Contains-none, Contains-cases, Contains-map}
 use Rattle.tv_focus_laws.specs.Choices.{MemberForm, members, members_of}
-use Rattle.tv_focus_laws.proofs.Membership.{ComesFrom, Contains-map, Contains-from_map}
+use Rattle.tv_focus_laws.proofs.Membership.{ComesFrom, Contains-from_map}
 use Rattle.tv_focus_laws.proofs.Distinct.{Distinct, Distinct-append, Distinct-map, Distinct-place}
 
 -- ---- equality of vectors and of copies, as tests

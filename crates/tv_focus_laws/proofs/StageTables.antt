@@ -7,6 +7,7 @@ use Rattle.std.specs.List.{range_with_len, AllZip}
 use Rattle.std.proofs.lemmas.Bool.{cases_eq, cond-true, cond-false, cond_both}
 use Rattle.std.proofs.lemmas.List.Kept.{AllPairs-filter}
 use Rattle.std.proofs.lemmas.List.Elements.{All-head, All-tail, Contains-get_or}
+use Rattle.tv_lemmas.proofs.Lists.{range_differs}
 use Rattle.tv_kleene.specs.declared.K3.{K3}
 use Rattle.tv_model.proofs.Lists.{Contains-here, Contains-there}
 use Rattle.tv_model.specs.Form.{Form}
@@ -27,7 +28,6 @@ use Rattle.tv_focus_laws.specs.Written.{chosen_table, places_of, AreApart, split
 use Rattle.tv_focus_laws.specs.Written.{stage_tables, StageTablesAreStage}
 use Rattle.tv_focus_laws.proofs.Counts.{choices_are_counted}
 use Rattle.tv_focus_laws.proofs.Stages.{anchors-are, split_of-are, split-anchors}
-use Rattle.tv_focus_laws.proofs.Tables.{differ-range}
 use Rattle.tv_focus_laws.proofs.Writes.{IsStructure-with_value}
 use Rattle.tv_focus_laws.proofs.ChosenTables.{chosen_tables_show}
 
@@ -126,4 +126,4 @@ pub stage_tables_are_stage : StageTablesAreStage
 stage_tables_are_stage s f k is knows small =
     split-shows s (atom_at f k).pred (split_at (structure_of s) f k) (length (atom_at f k).vars) is knows
     (split-places (anchors_in (structure_of s) (focus_atoms f)) (atom_at f k).vars)
-    (split-anchors (structure_of s) f k) (split-apart (structure_of s) (differ-range s.size) f k) small
+    (split-anchors (structure_of s) f k) (split-apart (structure_of s) (range_differs s.size) f k) small

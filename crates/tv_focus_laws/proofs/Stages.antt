@@ -15,7 +15,7 @@ use Rattle.tv_model.specs.Heap.{Heap}
 use Rattle.tv_model.specs.Form.{Form}
 use Rattle.tv_embedding_laws.specs.LogicalStructure.{LogicalStructure, heap_structure, holds}
 use Rattle.tv_embedding_laws.specs.Embedding.{Embeds, IsHeapOf}
-use Rattle.tv_model.proofs.Lists.{Contains-here, Contains-there, Contains-none, Contains-cases}
+use Rattle.tv_model.proofs.Lists.{Contains-here, Contains-there, Contains-none, Contains-cases, Contains-map}
 use Rattle.tv_focus_laws.specs.FocusAtoms.{AtomForm, AnchorsForm, ordinary, is_anchored, anchors_of}
 use Rattle.tv_focus_laws.specs.FocusAtoms.{and_given, by_unary, by_binary, anchors_in, focus_atoms}
 use Rattle.tv_focus_laws.specs.Choices.{AimForm, Alone, Before, Behind, SplitForm, Nothing, Whole, Each}
@@ -23,7 +23,7 @@ use Rattle.tv_focus_laws.specs.Choices.{split_of, split_by, definite, choices, c
 use Rattle.tv_focus_laws.specs.Stages.{whole_value, with_whole, split_structures, atom_at, split_at, stage}
 use Rattle.tv_focus_laws.specs.Laws.{IsAnchor, AreAnchors, AreSplitAnchors, IsHeapOfChoice, SplitsLoseNoHeap}
 use Rattle.tv_focus_laws.specs.Laws.{StagesLoseNoHeap}
-use Rattle.tv_focus_laws.proofs.Membership.{Contains-map, Contains-from_filter}
+use Rattle.tv_focus_laws.proofs.Membership.{Contains-from_filter}
 use Rattle.tv_focus_laws.proofs.Listed.{definite-has}
 use Rattle.tv_focus_laws.proofs.HeapChoices.{heap-definite, focus_loses_no_heap}
 

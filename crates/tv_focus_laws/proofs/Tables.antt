@@ -1,15 +1,15 @@
 -- Tables that show structures.
-use Rattle.std.proofs.Common.{ℕ, ◌≡◌, ◌≢◌, ◌<◌, ◌≤◌, ◌+◌, zero, suc, Bool, true, false, cond, eqb, List, []}
+use Rattle.std.proofs.Common.{ℕ, ◌≡◌, ◌≤◌, ◌+◌, zero, suc, Bool, true, false, cond, eqb, List, []}
 use Rattle.std.proofs.Common.{◌∷◌, ◌++◌, ◌⊎◌, inl, inr, ⊎_elim, Option, Some, None, length, get_or, map, refl}
 use Rattle.std.proofs.Common.{sym, ap, subst, ◌∙◌, arith, All, Contains, IsTrue, eq-eqb, ne_eqb}
-use Rattle.std.specs.Prelude.{AllPairs, Any, slice_get}
-use Rattle.std.specs.List.{range_with_len, AllZip}
+use Rattle.std.specs.Prelude.{Any, slice_get}
+use Rattle.std.specs.List.{AllZip}
 use Rattle.std.proofs.lemmas.Bool.{cases_Bool, cases_eq, cases_lt, cond-true, cond-false, false≢true}
 use Rattle.std.proofs.lemmas.Bool.{eqb-true}
 use Rattle.std.proofs.lemmas.List.{length-map, get_or-map, get_or_past}
 use Rattle.std.proofs.lemmas.Option.{slice_get-get_or}
-use Rattle.std.proofs.lemmas.List.FromFn.{length-range_with_len, get_or-range_with_len}
-use Rattle.std.proofs.lemmas.List.Elements.{All-head, All-tail, All-map}
+use Rattle.std.proofs.lemmas.List.FromFn.{length-range_with_len}
+use Rattle.tv_lemmas.proofs.Lists.{range_differs, All-map_into}
 use Rattle.tv_kleene.specs.declared.K3.{K3}
 use Rattle.tv_kleene.specs.declared.K3.TheVariants.{No, Half, Yes}
 use Rattle.tv_kleene.specs.Kleene.{LiesUnder}
@@ -24,9 +24,9 @@ use Rattle.tv_struct.specs.TableForm.{column_of}
 use Rattle.tv_struct.specs.StructureForm.{StructureForm, IsStructure, table_of, value_at, summary_at}
 use Rattle.tv_struct.specs.StructureForm.{structure_of, arities_of}
 use Rattle.tv_struct.proofs.StructureLaws.{value_in-no_plane, same_structure}
+use Rattle.tv_struct.proofs.Library.{AreIndividuals-range, below-range}
 use Rattle.tv_focus_laws.specs.Stages.{stage}
 use Rattle.tv_focus_laws.specs.Tables.{Shows, ShowsOver, AreStage, StageKeepsHeaps, TablesLoseNoHeap}
-use Rattle.tv_focus_laws.proofs.Embedded.{range-below}
 use Rattle.tv_focus_laws.proofs.Stages.{stages_lose_no_heap}
 
 -- the tuple has the predicate's arity
@@ -49,18 +49,6 @@ fits-or_No t pred tuple =
     (λ past. inr (ap (λ plane. value_in plane tuple) (get_or_past t.planes pred no_plane past) ∙ value_in-no_plane tuple))
     (cases_lt pred (length t.planes))
 
-individuals-are : (n : ℕ) (tuple : List ℕ) → All (Contains (range_with_len 0 n)) tuple → AreIndividuals n tuple
-individuals-are n [] all = tt
-individuals-are n (u ∷ tuple) all = (
-  range-below n u (All-head (Contains (range_with_len 0 n)) u tuple all),
-  individuals-are n tuple (All-tail (Contains (range_with_len 0 n)) u tuple all),
-)
-
-mapped-are : (f : ℕ → ℕ) (us ws tuple : List ℕ) → ((u : ℕ) → Contains us u → Contains ws (f u)) → All (Contains us) tuple
-    → All (Contains ws) (map f tuple)
-mapped-are f us ws tuple into all =
-    All-map (Contains ws) f tuple (λ k d lt. into (get_or tuple k d) (all k d lt))
-
 -- a heap of s that embeds in what a table shows embeds in the table
 shown-embeds : (f g : ℕ → ℕ) (r : LogicalStructure) (s t : StructureForm) (l : LogicalStructure) → ((u : ℕ) → r.is_summary u ≡ false)
     → Embeds f r (structure_of s) → Embeds g r l → ShowsOver s t l → Embeds g r (structure_of t)
@@ -74,24 +62,24 @@ shown-embeds f g r s t l plain e d shows = record {
 }
   where
     shown-summary : (x : ℕ) → Contains (structure_of t).individuals x → IsTrue (l.is_summary x) → IsTrue (summary_at t x)
-    shown-summary x at summary = shows.shows.summaries x (range-below t.size x at) ∙ summary
+    shown-summary x at summary = shows.shows.summaries x (below-range t.size x at) ∙ summary
 
     at-each : (pred : ℕ) (tuple : List ℕ) → All (Contains r.individuals) tuple
         → LiesUnder (r.value pred tuple) (value_at t pred (map g tuple))
     at-each pred tuple all =
         let At : K3 → Type 0 = λ y. LiesUnder (r.value pred tuple) y
         in let inside : All (Contains (structure_of t).individuals) (map g tuple)
-        = mapped-are g r.individuals (structure_of t).individuals tuple
+        = All-map_into g r.individuals (structure_of t).individuals tuple
         (λ u at. subst (λ us. Contains us (g u)) (sym shows.shows.individuals) (d.into u at)) all
         in ⊎_elim
         (λ fits. subst At (sym (shows.shows.values pred (map g tuple)
-        (record { arity = fits; individuals = individuals-are t.size (map g tuple) inside })))
+        (record { arity = fits; individuals = AreIndividuals-range t.size (map g tuple) inside })))
         (d.values pred tt tuple all))
         (λ none. ⊎_elim
         (λ fits. let long : Fits t pred (map g tuple)
         = ap (λ xs. slice_get xs pred) shows.over ∙ fits ∙ ap Some (length-map tuple f ∙ sym (length-map tuple g))
         in subst At (sym (shows.shows.values pred (map g tuple)
-        (record { arity = long; individuals = individuals-are t.size (map g tuple) inside })))
+        (record { arity = long; individuals = AreIndividuals-range t.size (map g tuple) inside })))
         (d.values pred tt tuple all))
         (λ above. inl (No-below (r.value pred tuple) (value_at s pred (map f tuple)) (e.values pred tt tuple all) above ∙ sym none))
         (fits-or_No s pred (map f tuple)))
@@ -140,12 +128,6 @@ any-shown s P Q each (t ∷ ts) (l ∷ ls) zip (suc k, x, lt, is, p) =
     let rest : Any Q ts = any-shown s P Q each ts ls zip.1 (k, x, omega (arith, lt), is, p)
     in (suc rest.0, rest.1, omega (arith, rest.2), rest.3, rest.4)
 
-pub differ-range : (n : ℕ) → AllPairs ◌≢◌ (range_with_len 0 n)
-differ-range n i j d below inside e =
-    let i_lt : i < n = omega (arith, below, inside, length-range_with_len 0 n)
-    in let j_lt : j < n = omega (arith, inside, length-range_with_len 0 n)
-    in omega (arith, e, get_or-range_with_len 0 n i d i_lt, get_or-range_with_len 0 n j d j_lt, below)
-
 heap-plain : (h : Heap) (u : ℕ) → (heap_structure h).is_summary u ≡ false
 heap-plain h u = refl
 
@@ -155,5 +137,5 @@ tables_lose_no_heap s f k ts are = record {
   heaps = λ h is. any-shown s (IsHeapOf h) (λ t. IsHeapOf h (structure_of t))
       (λ t l shows (g, d). (g, shown-embeds is.0 g (heap_structure h) s t l (heap-plain h) is.1 d shows)) ts
       (stage (structure_of s) f k) are
-      (stages_lose_no_heap h (structure_of s) f k (differ-range s.size) is);
+      (stages_lose_no_heap h (structure_of s) f k (range_differs s.size) is);
 }

@@ -4,7 +4,7 @@ use Rattle.std.proofs.Common.{[], ◌∷◌, ◌++◌, ◌⊎◌, inl, inr, ⊎_
 use Rattle.std.proofs.Common.{take, replicate, sum, refl, sym, ap, subst, ◌∙◌, arith, All, Contains, eq-eqb}
 use Rattle.std.proofs.Common.{ne_eqb, length-append}
 use Rattle.std.specs.Prelude.{fold, slice_get}
-use Rattle.std.proofs.lemmas.Bool.{cases_eq, cases_lt}
+use Rattle.std.proofs.lemmas.Bool.{cases_lt}
 use Rattle.std.proofs.lemmas.List.{get_or_append_left, get_or-append-add, get_or-replicate, length-replicate}
 use Rattle.std.proofs.lemmas.List.{get_or_past}
 use Rattle.std.proofs.lemmas.List.Sums.{sum_by-cons}
@@ -17,7 +17,14 @@ use Rattle.tv_struct.specs.StructureForm.{table_of, value_at, summary_at, aritie
 use Rattle.tv_struct.specs.Laws.{WritesOneEntry}
 use Rattle.tv_struct.proofs.StructureLaws.{writes_one_entry}
 use Rattle.tv_struct.proofs.TableLaws.{IsTable-with_entry}
+use Rattle.tv_struct.proofs.HalfLaws.{tuples_decided}
 use Rattle.tv_focus_laws.specs.Written.{WriteForm, written}
+
+-- what two lists write, one after the other
+pub written_append : (t : StructureForm) (p : ℕ) (xs ys : List WriteForm)
+    → written t p (xs ++ ys) ≡ written (written t p xs) p ys
+written_append t p [] ys = refl
+written_append t p (x ∷ xs) ys = written_append (with_value t p x.tuple x.value) p xs ys
 
 -- ---- one value
 
@@ -46,16 +53,6 @@ HasEntry-with_value s pred tuple k is has q other at =
 abbrev pub told : List WriteForm → List ℕ → K3 → K3 → Type 0
 told writes tuple k x = (((w : WriteForm) → Contains writes w → w.tuple ≡ tuple → w.value ≡ x))
     × (((w : WriteForm) × Contains writes w × (w.tuple ≡ tuple)) ⊎ (k ≡ x))
-
-tuples-decided : (xs ys : List ℕ) → (xs ≡ ys) ⊎ (xs ≢ ys)
-tuples-decided [] [] = inl refl
-tuples-decided [] (y ∷ ys) = inr (λ e. cc)
-tuples-decided (x ∷ xs) [] = inr (λ e. cc)
-tuples-decided (x ∷ xs) (y ∷ ys) =
-    ⊎_elim
-    (λ e. ⊎_elim (λ es. inl (cc)) (λ ne. inr (λ all. let rest : xs ≡ ys = cc in ne rest)) (tuples-decided xs ys))
-    (λ ne. inr (λ all. let first : x ≡ y = cc in ne first))
-    (cases_eq x y)
 
 -- what stays and what changes
 pub record IsWritten (s t : StructureForm) (pred : ℕ) (writes : List WriteForm) : Type 0 where
@@ -114,7 +111,7 @@ is_written s pred (w ∷ writes) is fit =
                 (λ same. inr (kept ∙ same))
                 some,
           ))
-          (tuples-decided w.tuple tuple);
+          (tuples_decided w.tuple tuple);
     }
 
 -- ---- copies

@@ -1,5 +1,5 @@
 -- The copies of a choice, and the sets that they come of.
-use Rattle.std.proofs.Common.{ℕ, ◌≡◌, ◌<◌, ◌+◌, zero, suc, List, [], ◌∷◌, length, get_or, refl}
+use Rattle.std.proofs.Common.{ℕ, ◌≡◌, ◌<◌, ◌+◌, zero, suc, List, [], ◌∷◌, length, get_or}
 use Rattle.std.proofs.Common.{subst, arith, All, Contains}
 use Rattle.std.specs.List.{range_with_len, AllZip}
 use Rattle.std.proofs.lemmas.List.Elements.{All-nil, All-append, All-map, Contains-get_or}
@@ -21,17 +21,6 @@ copies-of_sets Q (u ∷ us) (set ∷ choice) zip =
     (All-map (IsOfSet Q) (λ (vector : List K3). record { origin = u; vector = vector }) set
     (λ k d lt. (set, zip.0, Contains-get_or set k d lt)))
     (copies-of_sets Q us choice zip.1)
-
--- each copy is one of an individual
-pub copies-inside : (us : List ℕ) (choice : ChoiceForm)
-    → All (λ (m : MemberForm). Contains us m.origin) (members us choice)
-copies-inside [] choice = All-nil (λ (m : MemberForm). Contains [] m.origin)
-copies-inside (u ∷ us) [] = All-nil (λ (m : MemberForm). Contains (u ∷ us) m.origin)
-copies-inside (u ∷ us) (set ∷ choice) =
-    All-append (λ (m : MemberForm). Contains (u ∷ us) m.origin) (members_of u set) (members us choice)
-    (All-map (λ (m : MemberForm). Contains (u ∷ us) m.origin)
-    (λ (vector : List K3). record { origin = u; vector = vector }) set (λ k d lt. (0, omega arith, refl)))
-    (λ k d lt. let there = copies-inside us choice k d lt in (suc there.0, omega (arith, there.1), there.2))
 
 -- the sets stand at the places of their individuals
 pub sets-placed : (n : ℕ) (choice : ChoiceForm) (u : ℕ) (set : VectorSet)

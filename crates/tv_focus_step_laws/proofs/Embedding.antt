@@ -22,8 +22,9 @@ use Rattle.tv_focus_laws.specs.Exact.{Sharpens, IsVector, IsVectorSet, ListsAreE
 use Rattle.tv_focus_laws.specs.Tables.{ShowsOver}
 use Rattle.tv_focus_laws.specs.Written.{chosen_table}
 use Rattle.tv_focus_laws.proofs.ChosenTables.{Copies, copies-are, chosen_tables_show}
+use Rattle.tv_focus_laws.proofs.Members.{members-inside}
 use Rattle.tv_focus_step_laws.specs.Above.{IsAim, IsSmallChoice, origin_in}
-use Rattle.tv_focus_step_laws.proofs.Copies.{IsOfSet, copies-of_sets, copies-inside}
+use Rattle.tv_focus_step_laws.proofs.Copies.{IsOfSet, copies-of_sets}
 
 -- ---- values
 
@@ -109,7 +110,7 @@ pub choice-embeds : ListsAreExact → (s : StructureForm) (pred : ℕ) (aim : Ai
     → IsSmallChoice s pred aim choice
     → Embeds (origin_in s choice) (structure_of (chosen_table s pred aim choice)) (structure_of s)
 choice-embeds exact s pred aim choice is of = record {
-  into = λ u at. copies-inside (structure_of s).individuals choice u nobody (below u at);
+  into = λ u at. members-inside (structure_of s).individuals choice u nobody (below u at);
   onto = λ w at. let lt : w < s.size = below-range s.size w at in (
     copy_of ms w,
     subst (λ us. Contains us (copy_of ms w)) (sym shows.shows.individuals)
@@ -120,7 +121,7 @@ choice-embeds exact s pred aim choice is of = record {
   summaries = λ u at summary. sym (shows.shows.summaries u (below-range t.size u at)) ∙ summary;
   several = λ u w at there ne same. ⊎_elim (λ yes. yes)
       (λ no. let lt : origin_in s choice u < s.size
-      = below-range s.size (origin_in s choice u) (copies-inside (structure_of s).individuals choice u nobody (below u at))
+      = below-range s.size (origin_in s choice u) (members-inside (structure_of s).individuals choice u nobody (below u at))
       in absurd (ne (sym (copies.sole (origin_in s choice u) u lt no (below u at) refl)
       ∙ copies.sole (origin_in s choice u) w lt no (below w there) (sym same))))
       (cases_Bool (summary_at s (origin_in s choice u)));

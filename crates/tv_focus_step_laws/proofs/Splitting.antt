@@ -18,9 +18,9 @@ use Rattle.tv_struct.proofs.StructureLaws.{drawn_reads}
 use Rattle.tv_struct.proofs.Library.{AreIndividuals-range, Contains-range, below-range}
 use Rattle.tv_focus_laws.specs.Choices.{ChoiceForm, AimForm, VectorSet, copy_of, nobody}
 use Rattle.tv_focus_laws.specs.Written.{chosen_table}
+use Rattle.tv_focus_laws.proofs.Members.{members-inside}
 use Rattle.tv_focus_step_laws.specs.Above.{IsAim, IsSmallChoice, IsBegun, LiesAbove, copies_so_far}
 use Rattle.tv_focus_step_laws.specs.Above.{origin_in, parts_at, place_in}
-use Rattle.tv_focus_step_laws.proofs.Copies.{copies-inside}
 use Rattle.tv_focus_step_laws.proofs.Embedding.{choice-shows}
 use Rattle.tv_focus_step_laws.proofs.Laid.{AreLaid, IsFirst, are-laid, counted, first-copy, members_in}
 use Rattle.tv_focus_step_laws.proofs.Laid.{more-copies, stands-behind, stands-first}
@@ -47,7 +47,7 @@ inside-below s pred aim choice is of u below x lt =
 pub origin-inside : (s : StructureForm) (choice : ChoiceForm) (x : ℕ) → x < length (members_in s choice)
     → origin_in s choice x < s.size
 origin-inside s choice x lt =
-    below-range s.size (origin_in s choice x) (copies-inside (structure_of s).individuals choice x nobody lt)
+    below-range s.size (origin_in s choice x) (members-inside (structure_of s).individuals choice x nobody lt)
 
 pub fewer : (begun choice : ChoiceForm) (set : VectorSet) → IsBegun (begun ++ set ∷ []) choice → IsBegun begun choice
 fewer begun choice set begins = (set ∷ begins.0, begins.1 ∙ append_assoc begun (set ∷ []) begins.0)

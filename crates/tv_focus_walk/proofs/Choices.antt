@@ -12,6 +12,7 @@ use Rattle.tv_focus.specs.Puts.{AreChosen, chosen_tables}
 use Rattle.tv_focus_step_laws.specs.Above.{IsBegun}
 use Rattle.tv_step_laws.specs.Parts.{AreFrom}
 use Rattle.tv_step_laws.specs.Transfer.{Coerces}
+use Rattle.tv_step_laws.proofs.From.{from-append}
 use Rattle.tv_focus_walk.specs.declared.walk.Walk.{Walk}
 use Rattle.tv_focus_walk.specs.Walk.{AddsCoerced, AreRefuted, IsAbove, IsRefuted, LeadsOn, walk_program}
 use Rattle.tv_focus_walk.specs.Walk.{walk_table}
@@ -54,17 +55,6 @@ some-choice P begun ((set ∷ more) ∷ rest) holds some =
     )
 
 -- ---- what comes of them
-
-from-append : {X Y : Type 0} (R : X → List Y → Type 0) (xs zs : List X) (ys ws : List Y) → AreFrom R xs ys
-    → AreFrom R zs ws → AreFrom R (xs ++ zs) (ys ++ ws)
-from-append R [] zs ys ws a b = subst (AreFrom R zs) (ap (λ us. us ++ ws) (sym a)) b
-from-append R (x ∷ xs) zs ys ws (own, rest, made, later, is) b = (
-  own,
-  rest ++ ws,
-  made,
-  from-append R xs zs rest ws later b,
-  ap (λ us. us ++ ws) is ∙ append_assoc own rest ws,
-)
 
 none-of-any : (R : StructureForm → List StructureForm → Type 0) (f : VectorSet → List StructureForm)
     (sets : List VectorSet) → AllByRecursion (λ set. AreFrom R (f set) []) sets → AreFrom R (flat_map f sets) []

@@ -13,13 +13,11 @@ use Rattle.tv_model.specs.Program.{RuleForm}
 use Rattle.tv_stable_laws.specs.Laws.{IsPlainRule}
 use Rattle.tv_struct.specs.StructureForm.{StructureForm, IsStructure, split, structure_of}
 use Rattle.tv_struct.proofs.Library.{Contains-range, below-range}
-use Rattle.tv_struct.specs.StructureForm.{with_value}
 use Rattle.tv_rules.specs.EntryForms.{rules_of}
 use Rattle.tv_rules.specs.Standing.{SeesSummaries}
 use Rattle.tv_coerce_laws.specs.Split.{IsRuleOfTuples}
 use Rattle.tv_coerce_laws.proofs.Splits.{splits_are_stable}
 use Rattle.tv_focus_laws.specs.Choices.{AimForm, Alone, Before, Behind, ChoiceForm, VectorSet}
-use Rattle.tv_focus_laws.specs.Written.{WriteForm, written}
 use Rattle.tv_focus.specs.Puts.{set_writes}
 use Rattle.tv_focus_step_laws.specs.Above.{IsOfVector, aim_after, anchor_place, copies_so_far, parts_at}
 use Rattle.tv_focus_step_laws.specs.Above.{writes_at}
@@ -137,11 +135,6 @@ split-keeps w old new c at count behind plain is some size blinder rest rule the
         (cases_lt u at)
 
 -- ---- what is put for a set
-
-pub set-written : (t : StructureForm) (p : ℕ) (xs ys : List WriteForm)
-    → written t p (xs ++ ys) ≡ written (written t p xs) p ys
-set-written t p [] ys = refl
-set-written t p (x ∷ xs) ys = set-written (with_value t p x.tuple x.value) p xs ys
 
 pub set-of_vectors : (aim : AimForm) (at : ℕ) (set : VectorSet) → All (IsOfVector aim at set) (set_writes aim at set)
 set-of_vectors aim at [] = All-nil (IsOfVector aim at [])

@@ -27,24 +27,12 @@ use Rattle.tv_formula.specs.Grammar.{differ_leaf, atom_leaf, star_leaf, plus_lea
 use Rattle.tv_formula.specs.Grammar.{binds_all, binds_pairs, Reads, cond, no_cond, joined, further}
 use Rattle.tv_formula.specs.Grammar.{no_further, imp, no_imp, negation, binding, parentheses, leaf, IsFormula}
 use Rattle.tv_formula.specs.Spelled.{kind_of, spell, spelled, EndsAlike, formula_front}
-use Rattle.tv_lemmas.proofs.Bools.{none_alike}
+use Rattle.tv_lemmas.proofs.Bools.{none_alike, and_left, and_right, if_true}
 
 -- ---- identifiers
 
-if_true : {B : Type 0} (b : Bool) (x : B) (y : B) → (if b then Some x else None) ≡ Some y → b ≡ true
-if_true true x y e = refl
-if_true false x y e = cc
-
 abbrev IsIdent : List ℕ → Type 0
 IsIdent w = is_identifier w ≡ true
-
-and_left : (a b : Bool) → (a && b) ≡ true → a ≡ true
-and_left true b e = refl
-and_left false b e = cc
-
-and_right : (a b : Bool) → (a && b) ≡ true → b ≡ true
-and_right true b e = e
-and_right false b e = cc
 
 -- each of them
 abbrev pub AreIdent : List (List ℕ) → Type 0

@@ -20,7 +20,7 @@ use tv_vocab::{flat_forms_are_resolvable, resolve};
 
 /// The tree of a text.
 #[tactic(auto, using(crate::proofs::Stages::lexing_refused, crate::proofs::Stages::parsing_refused, crate::proofs::Stages::tree_read, crate::proofs::Stages::parsing_stopped))]
-fn tree(alloc: Global, bytes: &[u8]) -> Result<Tree, ProgramFault>
+fn tree<'t>(alloc: Global, bytes: &'t [u8]) -> Result<Tree<'t>, ProgramFault>
     requires { length bytes.now ≤ 67108864 }
     ensures tree { IfOk result (λ t. HasTree bytes.now (tree_of t)) }
     ensures spelled { IfOk result (λ t. IsSpelled (tree_of t)) }
@@ -33,7 +33,7 @@ fn tree(alloc: Global, bytes: &[u8]) -> Result<Tree, ProgramFault>
 
 /// The flat form of a text.
 #[tactic(auto, using(crate::proofs::Stages::expansion_refused, crate::proofs::Stages::flat_form_given))]
-pub fn flat_form(alloc: Global, bytes: &[u8]) -> Result<Flat, ProgramFault>
+pub fn flat_form<'t>(alloc: Global, bytes: &'t [u8]) -> Result<Flat<'t>, ProgramFault>
     requires { length bytes.now ≤ 67108864 }
     ensures flat_form { IfOk result (λ f. HasFlatForm bytes.now (flat_of f)) }
     ensures flat { IfOk result (λ f. IsFlat (flat_of f)) }

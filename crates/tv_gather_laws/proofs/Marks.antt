@@ -7,6 +7,7 @@ use Rattle.std.specs.Prelude.{◌⊎◌, ◌==◌, not}
 use Rattle.std.specs.List.{list_all}
 use Rattle.std.proofs.lemmas.Bool.{and_parts, and_from, false≢true, not_from_false, ne_eqb}
 use Rattle.std.proofs.lemmas.List.{append-nil}
+use Rattle.tv_lemmas.proofs.Lists.{list_all-weaker}
 use Rattle.tv_lex.specs.Bytes.{is_blank, is_word_byte, is_letter, is_text_byte, stays_on_line}
 use Rattle.tv_lex.specs.Comments.{IsInComment, IsWholeLines}
 use Rattle.tv_lex.specs.Include.{is_gap}
@@ -101,13 +102,6 @@ unmarked : (test : ℕ → Bool) (bytes front back : List ℕ) → test 35 ≡ f
 unmarked test bytes front back fails all is =
     false≢true (sym fails ∙ at_mark test front back (subst (λ t. list_all test t ≡ true) is all))
 
-each_passes : (p q : ℕ → Bool) → ((b : ℕ) → p b ≡ true → q b ≡ true) → (bs : List ℕ) → list_all p bs ≡ true
-    → list_all q bs ≡ true
-each_passes p q step [] all = refl
-each_passes p q step (b ∷ bs) all =
-    let both = and_parts (p b) (list_all p bs) all in
-    and_from (q b) (list_all q bs) (step b both.0) (each_passes p q step bs both.1)
-
 all_append : (test : ℕ → Bool) (x y : List ℕ) → list_all test x ≡ true → list_all test y ≡ true
     → list_all test (x ++ y) ≡ true
 all_append test [] y all more = more
@@ -159,11 +153,11 @@ token_has Half bytes behind front back s is =
 token_has Text bytes behind front back s is = (
   record { byte = 34; rest = s.0 ++ 34 ∷ []; spelled = s.1; gap = refl; mark = refl },
   inl (subst (λ l. list_all stays_on_line l ≡ true) (sym s.1)
-      (all_append stays_on_line s.0 (34 ∷ []) (each_passes is_text_byte stays_on_line text_stays s.0 s.2) refl)),
+      (all_append stays_on_line s.0 (34 ∷ []) (list_all-weaker is_text_byte stays_on_line text_stays s.0 s.2) refl)),
 )
 token_has Directive bytes behind front back s is =
     absurd (unmarked is_no_mark bytes front back refl
-    (subst (λ l. list_all is_no_mark l ≡ true) (sym s.1) (each_passes is_letter is_no_mark letter_passes s.0 s.2.1)) is)
+    (subst (λ l. list_all is_no_mark l ≡ true) (sym s.1) (list_all-weaker is_letter is_no_mark letter_passes s.0 s.2.1)) is)
   where
     letter_passes : (b : ℕ) → is_letter b ≡ true → is_no_mark b ≡ true
     letter_passes b h =

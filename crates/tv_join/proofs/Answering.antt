@@ -7,6 +7,7 @@ use Rattle.std.proofs.lemmas.List.{get_or_default, get_or-take, length-map, leng
 use Rattle.std.proofs.lemmas.List.{take_more}
 use Rattle.std.proofs.lemmas.List.Elements.{All-contains, Contains-get_or}
 use Rattle.std.proofs.lemmas.Option.{slice_get-get_or, same_Some}
+use Rattle.tv_lemmas.proofs.Lists.{found_at}
 use Rattle.tv_kleene.specs.declared.K3.{K3}
 use Rattle.tv_kleene.specs.declared.K3.TheVariants.{No}
 use Rattle.tv_kleene.specs.Kleene.{larger_of}
@@ -21,7 +22,6 @@ use Rattle.tv_struct.specs.StructureForm.{StructureForm, IsStructure, IsOver}
 use Rattle.tv_step_laws.specs.Closed.{IsClosed, IsCovered, IsOpened, IsFollowed as IsFollowedBy, CoversRuns}
 use Rattle.tv_step_laws.proofs.Runs.{closed_listings_cover_runs}
 use Rattle.tv_join.specs.Members.{MembersForm}
-use Rattle.tv_join.proofs.Indexing.{at-contains}
 use Rattle.tv_work.specs.Analysed.{IsSaid, KeepAllBudgets}
 use Rattle.tv_work.specs.Reach.{Point, IsListed}
 use Rattle.tv_work.specs.Search.{IsOnce}
@@ -94,8 +94,8 @@ module _ (t : TaskForm) (valid : IsValid t.program) (j : JoinsForm) (told : List
   unique : (k : ℕ) (s r : StructureForm) → Contains (at_node listed k) s → Contains (at_node listed k) r
       → key_of t.program s ≡ key_of t.program r → s ≡ r
   unique k s r has_s has_r key =
-      let a = at-contains (at_node listed k) s has_s
-      in let b = at-contains (at_node listed k) r has_r
+      let a = found_at (at_node listed k) s has_s
+      in let b = found_at (at_node listed k) r has_r
       in let e : a.0 ≡ b.0 = (listed-joins t j ended.at.kept k).own a.0 b.0 s r a.1 b.1 key
       in same_Some s r (sym a.1 ∙ ap (slice_get (at_node listed k)) e ∙ b.1)
 

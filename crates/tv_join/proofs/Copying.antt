@@ -12,10 +12,9 @@ use Rattle.tv_struct.specs.StructureForm.{with_value, structure_of_no}
 use Rattle.tv_struct.specs.StructureRows.{HasArity, unary_row}
 use Rattle.tv_struct.specs.Laws.{WritesOneEntry, IsAllNo}
 use Rattle.tv_struct.proofs.StructureLaws.{writes_one_entry, new_is_no}
+use Rattle.tv_struct.proofs.Library.{get_or-unary_row, entry-arity}
 use Rattle.tv_blur.specs.Classes.{ChangesOnly}
-use Rattle.tv_blur.proofs.RowLaws.{get_or-unary_row}
 use Rattle.tv_join.specs.Keyed.{Counts, HasCopied, IsSkeleton}
-use Rattle.tv_join.proofs.Entries.{entry-arity}
 
 -- a nullary predicate has the value that was put
 pub copied-value : (s t new : StructureForm) (pred : ℕ) (k : K3) → IsStructure t → HasArity t pred 0

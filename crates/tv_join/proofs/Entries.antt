@@ -7,7 +7,6 @@ use Rattle.tv_kleene.specs.declared.K3.TheVariants.{No}
 use Rattle.tv_kleene.specs.Kleene.{join_of}
 use Rattle.tv_struct.specs.TableForm.{HasEntry, AreIndividuals}
 use Rattle.tv_struct.specs.StructureForm.{StructureForm, IsStructure, table_of, value_at, arities_of}
-use Rattle.tv_struct.specs.StructureRows.{HasArity}
 use Rattle.tv_struct.proofs.Library.{fits_or_No}
 use Rattle.tv_struct.proofs.StructureLaws.{value_at-past}
 use Rattle.tv_join.specs.Pairwise.{HasJoinedValues}
@@ -41,11 +40,6 @@ entry-like s t pred tuple size over has = record {
   arity = ap (λ x. slice_get x pred) (sym over) ∙ has.arity;
   individuals = subst (λ n. AreIndividuals n tuple) size has.individuals;
 }
-
--- the arity of an entry's tuple
-pub entry-arity : (t : StructureForm) (pred n : ℕ) (tuple : List ℕ) → HasArity t pred n → HasEntry (table_of t) pred tuple
-    → length tuple ≡ n
-entry-arity t pred n tuple arity has = let e : Some n ≡ Some (length tuple) = sym arity ∙ has.arity in cc
 
 -- values that are equal at entries are equal
 pub same-everywhere : (s t : StructureForm) → IsStructure s → IsStructure t → s.size ≡ t.size → arities_of s ≡ arities_of t

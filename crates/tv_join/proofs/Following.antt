@@ -5,11 +5,12 @@ use Rattle.std.specs.Prelude.{All, Any, Contains, slice_get}
 use Rattle.std.proofs.lemmas.List.Elements.{All-contains, All-push, Contains-append_left, Contains-push}
 use Rattle.std.proofs.lemmas.List.Elements.{Contains-push_cases}
 use Rattle.std.proofs.lemmas.Option.{none-some, same_Some, get_or_from_slice_get}
+use Rattle.tv_lemmas.proofs.Lists.{found_at}
 use Rattle.tv_kleene.specs.declared.K3.{K3}
 use Rattle.tv_model.specs.declared.program.Edge.{Edge}
 use Rattle.tv_model.specs.Program.{ProgramForm}
 use Rattle.tv_model.specs.Valid.{IsValid, IsEdge}
-use Rattle.tv_model.proofs.Lists.{Contains-none, slice_get-contains}
+use Rattle.tv_model.proofs.Lists.{Contains-none, slice_get-contains, Contains-here}
 use Rattle.tv_struct.specs.StructureForm.{StructureForm}
 use Rattle.tv_struct.specs.declared.analysis.StageError.{StageError}
 use Rattle.tv_struct.specs.declared.analysis.StageError.TheVariants.{Splits as splits}
@@ -19,7 +20,6 @@ use Rattle.tv_step_laws.specs.Budgets.{IsStepCause, KeepsBudgets}
 use Rattle.tv_step_laws.specs.Settled.{IsSettled}
 use Rattle.tv_step_laws.specs.Transfer.{AreMessageValues, AreResults, IsOpening}
 use Rattle.tv_join.specs.Members.{MembersForm}
-use Rattle.tv_join.proofs.Indexing.{at-contains}
 use Rattle.tv_work.specs.Analysed.{IsAtSource}
 use Rattle.tv_work.specs.Leaving.{LeavesBy}
 use Rattle.tv_work.specs.Reach.{Point, IsStartPoint}
@@ -36,7 +36,7 @@ use Rattle.tv_join.specs.Values.{values_at, ChangesAlong}
 use Rattle.tv_join.specs.declared.joins.Found.{Found}
 use Rattle.tv_join.specs.declared.places.Place.{Place}
 use Rattle.tv_join.proofs.Nodes.{listing-at}
-use Rattle.tv_join.proofs.Noting.{contains-behind, contains-cases, contains-first}
+use Rattle.tv_join.proofs.Noting.{contains-behind, contains-cases}
 
 -- ---- what is found
 
@@ -236,7 +236,7 @@ stands-in nodes w s stands =
 pub in-stands : (nodes : List MembersForm) (node : ℕ) (s : StructureForm) → IsIn nodes (point node s)
     → (at : ℕ) × StandsAt nodes (member_place node at) s
 in-stands nodes node s has =
-    at-contains (members_at nodes node).structures s (subst (λ xs. Contains xs s) (listing-at nodes node) has)
+    found_at (members_at nodes node).structures s (subst (λ xs. Contains xs s) (listing-at nodes node) has)
 
 module _ (t : TaskForm) (nodes : List MembersForm) (w : Place) (edge : ℕ) (leaves : LeavesBy t.program.edges w.node edge)
     (s : StructureForm) (stands : StandsAt nodes w s) where
@@ -420,7 +420,7 @@ but-next t nodes places left w old new before are gathers count changes here = r
     others : (v : Place) (edge : ℕ) → (v ≡ w) ⊎ (values_at new.values edge v.at ≡ values_at old.values edge v.at)
         → Contains places v ⊎ (values_at old.values edge v.at ≡ values_at before edge v.at)
         → Contains places v ⊎ (values_at new.values edge v.at ≡ values_at before edge v.at)
-    others v edge (inl e) kept = inl (subst (Contains places) (sym e) (are.among w (contains-first w left)))
+    others v edge (inl e) kept = inl (subst (Contains places) (sym e) (are.among w (Contains-here w left)))
     others v edge (inr same) (inl has) = inl has
     others v edge (inr same) (inr kept) = inr (same ∙ kept)
 

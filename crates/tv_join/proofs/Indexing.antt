@@ -1,18 +1,19 @@
 -- The place of a structure is noted by its skeleton.
-use Rattle.std.proofs.Common.{ℕ, ◌≡◌, ◌≢◌, ◌<◌, ◌≤◌, ◌⊎◌, inl, inr, Bool, true, false, cond, List, [], ◌∷◌}
+use Rattle.std.proofs.Common.{ℕ, ◌≡◌, ◌≢◌, ◌<◌, ◌⊎◌, inl, inr, Bool, true, false, cond, List, [], ◌∷◌}
 use Rattle.std.proofs.Common.{◌++◌, length, get_or, set, None, Some, refl, sym, ap, subst, ◌∙◌, arith}
 use Rattle.std.proofs.Common.{true≢false}
 use Rattle.std.specs.Prelude.{Contains, slice_get}
 use Rattle.std.specs.Ordering.{is_eq}
 use Rattle.std.specs.Cmp.{Equal-is}
-use Rattle.std.proofs.lemmas.Bool.{cases_eq, cases_lt}
-use Rattle.std.proofs.lemmas.List.{get_or-set_same, get_or-set_other, length-set, get_or_append_left}
-use Rattle.std.proofs.lemmas.List.{get_or_push, length_push}
+use Rattle.std.proofs.lemmas.Bool.{cases_eq}
+use Rattle.std.proofs.lemmas.List.{get_or-set_same, get_or-set_other, length-set}
 use Rattle.std.proofs.lemmas.List.Elements.{Contains-push_cases}
 use Rattle.std.proofs.lemmas.Option.{none-some, same_Some, slice_get-get_or, slice_get_within}
 use Rattle.std.proofs.lemmas.Option.{get_or_from_slice_get}
+use Rattle.tv_lemmas.proofs.Lists.{found_at, pushed_at, set_there, pushed_there, still_at}
 use Rattle.tv_kleene.specs.Kleene.{join_of}
 use Rattle.tv_kleene.proofs.Lattice.{join-same}
+use Rattle.tv_model.proofs.Lists.{slice_get-contains}
 use Rattle.tv_struct.specs.Order.{structure_cmp}
 use Rattle.tv_struct.specs.StructureForm.{StructureForm, IsStructure, value_at, unmarked}
 use Rattle.tv_struct.proofs.OrderLaws.{structure_cmp-Equal, Equal-from_unmarked}
@@ -87,24 +88,6 @@ joined-key counted s before after key joined = record {
 
 -- ---- places in lists
 
-pub Contains-at : {X : Type 0} (xs : List X) (i : ℕ) (x : X) → slice_get xs i ≡ Some x → Contains xs x
-Contains-at xs i x at = (i, slice_get_within xs i x at, get_or_from_slice_get xs i x x at)
-
-pub at-contains : {X : Type 0} (xs : List X) (x : X) → Contains xs x → (i : ℕ) × (slice_get xs i ≡ Some x)
-at-contains xs x (i, lt, at) = (i, slice_get-get_or xs i x lt ∙ ap Some at)
-
-pub push-at : {X : Type 0} (xs : List X) (y x : X) (i : ℕ) → slice_get (xs ++ y ∷ []) i ≡ Some x
-    → (slice_get xs i ≡ Some x) ⊎ ((i ≡ length xs) × (y ≡ x))
-push-at xs y x i at = by (cases_lt i (length xs))
-  where
-    by : (i < length xs) ⊎ (length xs ≤ i) → (slice_get xs i ≡ Some x) ⊎ ((i ≡ length xs) × (y ≡ x))
-    by (inl lt) =
-        inl (slice_get-get_or xs i x lt ∙ ap Some (sym (get_or_append_left xs (y ∷ []) x i lt)
-        ∙ get_or_from_slice_get (xs ++ y ∷ []) i x x at))
-    by (inr past) =
-        let last : i ≡ length xs = omega (arith, past, slice_get_within (xs ++ y ∷ []) i x at, length_push xs y)
-        in inr (last, sym (get_or_push xs y x i (sym last)) ∙ get_or_from_slice_get (xs ++ y ∷ []) i x x at)
-
 pub set-at : {X : Type 0} (xs : List X) (place : ℕ) (y x : X) (i : ℕ) → place < length xs
     → slice_get (set xs place y) i ≡ Some x
     → ((i ≡ place) × (y ≡ x)) ⊎ ((i ≢ place) × (slice_get xs i ≡ Some x))
@@ -131,24 +114,6 @@ set-keeps xs place y x i apart at =
     slice_get-get_or (set xs place y) i x (omega (arith, slice_get_within xs i x at, length-set xs place y))
     ∙ ap Some (get_or-set_other xs place i y x apart ∙ get_or_from_slice_get xs i x x at)
 
-pub set-there : {X : Type 0} (xs : List X) (place : ℕ) (y : X) → place < length xs
-    → slice_get (set xs place y) place ≡ Some y
-set-there xs place y within =
-    slice_get-get_or (set xs place y) place y (omega (arith, within, length-set xs place y))
-    ∙ ap Some (get_or-set_same xs place y y within)
-
-pub push-keeps : {X : Type 0} (xs : List X) (y x : X) (i : ℕ) → slice_get xs i ≡ Some x
-    → slice_get (xs ++ y ∷ []) i ≡ Some x
-push-keeps xs y x i at =
-    let lt = slice_get_within xs i x at
-    in slice_get-get_or (xs ++ y ∷ []) i x (omega (arith, lt, length_push xs y))
-    ∙ ap Some (get_or_append_left xs (y ∷ []) x i lt ∙ get_or_from_slice_get xs i x x at)
-
-pub push-there : {X : Type 0} (xs : List X) (y : X) → slice_get (xs ++ y ∷ []) (length xs) ≡ Some y
-push-there xs y =
-    slice_get-get_or (xs ++ y ∷ []) (length xs) y (omega (arith, length_push xs y))
-    ∙ ap Some (get_or_push xs y y (length xs) refl)
-
 -- ---- the index
 
 pub indexed-none : (counted : List Bool) (m : MembersForm) → m.structures ≡ [] → ((q : StructureForm) → place_in m.places q ≡ None)
@@ -156,7 +121,7 @@ pub indexed-none : (counted : List Bool) (m : MembersForm) → m.structures ≡ 
 indexed-none counted m none places = record {
   is = λ t has. absurd (nothing t has);
   unmarked = λ t has. absurd (nothing t has);
-  noted = λ i t q at sk. absurd (nothing t (Contains-at m.structures i t at));
+  noted = λ i t q at sk. absurd (nothing t (slice_get-contains m.structures i t at));
   only = λ i r q sk at. absurd (none-some i (sym (places q) ∙ at));
 }
   where
@@ -168,7 +133,7 @@ module _ (counted : List Bool) (m new : MembersForm) (all : IsIndexed counted m)
   pub not-there : (s key : StructureForm) → IsSkeleton counted s key → place_in m.places key ≡ None
       → (t : StructureForm) → Contains m.structures t → ¬ SameKey counted s t
   not-there s key sk none t has same =
-      let here = at-contains m.structures t has
+      let here = found_at m.structures t has
       in none-some here.0 (sym none ∙ all.noted here.0 t key here.1
       (skeleton-moves counted s t key (key-sym counted s t same) sk))
 
@@ -204,14 +169,14 @@ module _ (counted : List Bool) (m new : MembersForm) (all : IsIndexed counted m)
             → (t : StructureForm) × (slice_get new.structures i ≡ Some t) × SameKey counted r t
         by false e =
             let old = all.only i r q skq (sym (place-other q e) ∙ at)
-            in (old.0, ap (λ xs. slice_get xs i) pushed ∙ push-keeps m.structures s old.0 i old.1, old.2)
+            in (old.0, ap (λ xs. slice_get xs i) pushed ∙ still_at m.structures (s ∷ []) i old.0 old.1, old.2)
         by true e =
             let same : key ≡ q = equal-same counted s r key q sk skq e
             in let last : length m.structures ≡ i = same_Some (length m.structures) i (sym (place-here q e) ∙ at)
             in (
               s,
               ap (λ xs. slice_get xs i) pushed
-                  ∙ subst (λ n. slice_get (m.structures ++ s ∷ []) n ≡ Some s) last (push-there m.structures s),
+                  ∙ subst (λ n. slice_get (m.structures ++ s ∷ []) n ≡ Some s) last (pushed_there m.structures s),
               skeleton-key counted r s q skq (subst (IsSkeleton counted s) same sk),
             )
 
@@ -219,7 +184,7 @@ module _ (counted : List Bool) (m new : MembersForm) (all : IsIndexed counted m)
     indexed-more = record {
       is = λ t has. is-at t (Contains-push_cases m.structures s t (subst (λ xs. Contains xs t) pushed has));
       unmarked = λ t has. mark-at t (Contains-push_cases m.structures s t (subst (λ xs. Contains xs t) pushed has));
-      noted = λ i t q at skq. noted-more i t q skq (push-at m.structures s t i (ap (λ xs. slice_get xs i) (sym pushed) ∙ at));
+      noted = λ i t q at skq. noted-more i t q skq (pushed_at m.structures s t i (ap (λ xs. slice_get xs i) (sym pushed) ∙ at));
       only = only-more;
     }
       where
@@ -261,7 +226,7 @@ module _ (counted : List Bool) (m new : MembersForm) (all : IsIndexed counted m)
         in (
           after,
           ap (λ xs. slice_get xs i) raised
-              ∙ subst (λ n. slice_get (set m.structures place after) n ≡ Some after) (sym same) (set-there m.structures place after within),
+              ∙ subst (λ n. slice_get (set m.structures place after) n ≡ Some after) (sym same) (set_there m.structures place after within),
           record {
             size = k'.size ∙ sym moved.size;
             over = k'.over ∙ sym moved.over;
@@ -273,8 +238,8 @@ module _ (counted : List Bool) (m new : MembersForm) (all : IsIndexed counted m)
 
     pub indexed-set : IsIndexed counted new
     indexed-set = record {
-      is = λ t has. let here = at-contains new.structures t has in is-at t (cases-at here.0 t here.1);
-      unmarked = λ t has. let here = at-contains new.structures t has in mark-at t (cases-at here.0 t here.1);
+      is = λ t has. let here = found_at new.structures t has in is-at t (cases-at here.0 t here.1);
+      unmarked = λ t has. let here = found_at new.structures t has in mark-at t (cases-at here.0 t here.1);
       noted = λ i t q at skq. noted-set i t q skq (cases-at i t at);
       only = λ i r q skq at. only-set i r (cases_eq i place) (all.only i r q skq (sym (places q) ∙ at));
     }
@@ -282,12 +247,12 @@ module _ (counted : List Bool) (m new : MembersForm) (all : IsIndexed counted m)
         is-at : {i : ℕ} (t : StructureForm)
             → ((i ≡ place) × (after ≡ t)) ⊎ ((i ≢ place) × (slice_get m.structures i ≡ Some t)) → IsStructure t
         is-at t (inl (same, e)) = subst IsStructure e joined.is
-        is-at {i} t (inr (apart, at)) = all.is t (Contains-at m.structures i t at)
+        is-at {i} t (inr (apart, at)) = all.is t (slice_get-contains m.structures i t at)
 
         mark-at : {i : ℕ} (t : StructureForm)
             → ((i ≡ place) × (after ≡ t)) ⊎ ((i ≢ place) × (slice_get m.structures i ≡ Some t)) → t.fresh ≡ None
         mark-at t (inl (same, e)) = subst (λ (x : StructureForm). x.fresh ≡ None) e joined.unmarked
-        mark-at {i} t (inr (apart, at)) = all.unmarked t (Contains-at m.structures i t at)
+        mark-at {i} t (inr (apart, at)) = all.unmarked t (slice_get-contains m.structures i t at)
 
 -- ---- one structure is put
 
@@ -308,10 +273,10 @@ module _ (counted : List Bool) (m : MembersForm) (all : IsIndexed counted m) (s 
   pub put-known : unmarked joined ≡ unmarked other → IsKnown counted m.structures s m.structures
   put-known same =
       let e : joined ≡ t = same-unmarked joined t (same ∙ ap unmarked is_other) join_t.unmarked
-      (all.unmarked t (Contains-at m.structures place t at))
+      (all.unmarked t (slice_get-contains m.structures place t at))
       in record {
         at = t;
-        has = Contains-at m.structures place t at;
+        has = slice_get-contains m.structures place t at;
         key = key;
         joined = subst (IsJoined s t) e join_t;
         same = refl;

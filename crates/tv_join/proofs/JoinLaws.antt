@@ -2,7 +2,8 @@
 use Rattle.std.proofs.Common.{ℕ, ◌≡◌, ◌<◌, ◌≤◌, ◌⊎◌, inl, inr, Bool, true, false, ◌||◌, List, refl, sym, ap}
 use Rattle.std.proofs.Common.{subst, ◌∙◌, arith, true≢false}
 use Rattle.std.specs.Prelude.{IsTrue}
-use Rattle.std.proofs.lemmas.Bool.{cases_lt}
+use Rattle.std.proofs.lemmas.Bool.{cases_lt, or_left, or_right}
+use Rattle.tv_lemmas.proofs.Bools.{same_tests}
 use Rattle.tv_kleene.specs.declared.K3.{K3}
 use Rattle.tv_kleene.specs.declared.K3.TheVariants.{No}
 use Rattle.tv_kleene.specs.Kleene.{LiesUnder, join_of}
@@ -30,20 +31,6 @@ use Rattle.tv_join.proofs.KeyLaws.{key-from_same, same-from_key}
 or-either : (a b : Bool) → IsTrue (a || b) → IsTrue a ⊎ IsTrue b
 or-either true b e = inl refl
 or-either false b e = inr e
-
-or-first : (a b : Bool) → IsTrue a → IsTrue (a || b)
-or-first true b e = refl
-or-first false b e = absurd (true≢false (sym e))
-
-or-second : (a b : Bool) → IsTrue b → IsTrue (a || b)
-or-second true b e = refl
-or-second false b e = e
-
-same-flags : (a b : Bool) → (IsTrue a → IsTrue b) → (IsTrue b → IsTrue a) → a ≡ b
-same-flags true true f g = refl
-same-flags true false f g = absurd (true≢false (sym (f refl)))
-same-flags false true f g = absurd (true≢false (sym (g refl)))
-same-flags false false f g = refl
 
 -- ---- the order of information
 
@@ -78,7 +65,7 @@ joined-first s t r joined = record {
   over = sym joined.over;
   values = λ pred tuple. subst (LiesUnder (value_at s pred tuple)) (sym (joined.values pred tuple))
       (join-left (value_at s pred tuple) (value_at t pred tuple));
-  summaries = λ u sm. joined.summaries u ∙ or-first (summary_at s u) (summary_at t u) sm;
+  summaries = λ u sm. joined.summaries u ∙ or_left (summary_at s u) (summary_at t u) sm;
 }
 
 pub joined-second : (s t r : StructureForm) → s.size ≡ t.size → arities_of s ≡ arities_of t → IsJoined s t r → IsUnder t r
@@ -87,7 +74,7 @@ joined-second s t r size over joined = record {
   over = sym (joined.over ∙ over);
   values = λ pred tuple. subst (LiesUnder (value_at t pred tuple)) (sym (joined.values pred tuple))
       (join-right (value_at s pred tuple) (value_at t pred tuple));
-  summaries = λ u sm. joined.summaries u ∙ or-second (summary_at s u) (summary_at t u) sm;
+  summaries = λ u sm. joined.summaries u ∙ or_right (summary_at s u) (summary_at t u) sm;
 }
 
 -- structures that lie under each other are the same
@@ -95,7 +82,7 @@ pub under-same : (s t : StructureForm) → IsStructure s → IsStructure t → s
 under-same s t is_s is_t fresh a b =
     same_structure s t is_s is_t a.size a.over
     (λ pred tuple has. LiesUnder-antisym (value_at s pred tuple) (value_at t pred tuple) (a.values pred tuple) (b.values pred tuple))
-    (λ u lt. same-flags (summary_at s u) (summary_at t u) (a.summaries u) (b.summaries u)) fresh
+    (λ u lt. same_tests (summary_at s u) (summary_at t u) (a.summaries u) (b.summaries u)) fresh
 
 -- ---- joins
 
@@ -193,9 +180,9 @@ join-more p X t r new plain size joined join = record {
     back : (u : ℕ) → u < new.size → (s : StructureForm) → X s ⊎ (s ≡ r) → IsTrue (summary_at s u)
         → IsTrue (summary_at r u || summary_at t u)
     back u lt s (inl x) sm =
-        or-second (summary_at r u) (summary_at t u) ((join.summaries u (omega (arith, lt, joined.size, size))).1 (s, x, sm))
+        or_right (summary_at r u) (summary_at t u) ((join.summaries u (omega (arith, lt, joined.size, size))).1 (s, x, sm))
     back u lt s (inr e) sm =
-        or-first (summary_at r u) (summary_at t u) (subst (λ y. IsTrue (summary_at y u)) e sm)
+        or_left (summary_at r u) (summary_at t u) (subst (λ y. IsTrue (summary_at y u)) e sm)
 
 -- a structure that lies under one of those joined adds nothing
 pub join-absorbs : (p : ProgramForm) (X Y : StructureForm → Type 0) (t : StructureForm)
@@ -273,7 +260,7 @@ join-once p X t r s x a b =
     (λ pred tuple has. IsJoin-same (IsValueIn X pred tuple) (IsValueIn X pred tuple) (value_at t pred tuple)
     (value_at r pred tuple) (λ j v. v) (λ j v. v) (a.values pred tuple has)
     (b.values pred tuple (entry-like t r pred tuple size over has)))
-    (λ u lt. same-flags (summary_at t u) (summary_at r u)
+    (λ u lt. same_tests (summary_at t u) (summary_at r u)
     (λ sm. (b.summaries u (omega (arith, lt, size))).1 ((a.summaries u lt).0 sm))
     (λ sm. (a.summaries u lt).1 ((b.summaries u (omega (arith, lt, size))).0 sm)))
     (a.unmarked ∙ sym b.unmarked)

@@ -3,23 +3,23 @@ use Rattle.std.proofs.Common.{ℕ, ◌≡◌, ◌≢◌, ◌<◌, ◌≤◌, ◌
 use Rattle.std.proofs.Common.{length, get_or, None, refl, sym, ap, subst, ◌∙◌, arith}
 use Rattle.std.specs.Prelude.{slice_get}
 use Rattle.std.proofs.lemmas.Bool.{cases_eq, cases_lt}
-use Rattle.std.proofs.lemmas.List.{get_or_past, length-map}
 use Rattle.tv_kleene.specs.declared.K3.{K3}
 use Rattle.tv_kleene.specs.declared.K3.TheVariants.{No}
 use Rattle.tv_kleene.specs.Kleene.{join_of}
 use Rattle.tv_row.specs.Bits.{paired}
 use Rattle.tv_row.proofs.WordOps.{get_or-paired, length-paired}
-use Rattle.tv_struct.specs.TableForm.{HasEntry, row_of, no_plane, value_in}
+use Rattle.tv_struct.specs.TableForm.{HasEntry, row_of}
 use Rattle.tv_struct.specs.StructureForm.{StructureForm, IsStructure, table_of, value_at, summary_at}
 use Rattle.tv_struct.specs.StructureForm.{arities_of, with_value, with_summary}
 use Rattle.tv_struct.specs.StructureRows.{HasArity, unary_row, row_at, with_row}
 use Rattle.tv_struct.specs.Laws.{WritesOneEntry, WritesOneSummary}
-use Rattle.tv_struct.proofs.StructureLaws.{writes_one_entry, writes_one_summary, value_in-no_plane}
+use Rattle.tv_struct.proofs.StructureLaws.{writes_one_entry, writes_one_summary}
 use Rattle.tv_struct.proofs.DrawnLaws.{summary_at-past}
+use Rattle.tv_struct.proofs.Library.{length-row_at, get_or-row_at, length-unary_row, get_or-unary_row}
+use Rattle.tv_struct.proofs.Library.{entry-arity, value_at-past}
 use Rattle.tv_blur.specs.Classes.{ChangesOnly}
-use Rattle.tv_blur.proofs.RowLaws.{get_or-unary_row, get_or-row_at, length-unary_row, length-row_at}
 use Rattle.tv_join.specs.Pairwise.{IsJoined, HasJoinedValues, HasJoinedSummaries}
-use Rattle.tv_join.proofs.Entries.{entry-arity, joined-everywhere}
+use Rattle.tv_join.proofs.Entries.{joined-everywhere}
 
 -- ---- one predicate
 
@@ -239,13 +239,6 @@ joined-more n s t r new have changes values = record {
           individuals = rw (← changes.size) has.individuals;
         })
 
--- past the last predicate there is No
-past-No : (s : StructureForm) (pred : ℕ) (tuple : List ℕ) → length (arities_of s) ≤ pred → value_at s pred tuple ≡ No
-past-No s pred tuple past =
-    ap (λ plane. value_in plane tuple)
-    (get_or_past s.planes pred no_plane (omega (arith, past, length-map s.planes (λ p. p.arity))))
-    ∙ value_in-no_plane tuple
-
 pub joined-all : (n : ℕ) (s t r : StructureForm) → HasJoined n s t r → IsStructure s → IsStructure t → IsStructure r
     → s.size ≡ t.size → arities_of s ≡ arities_of t → length (arities_of t) ≤ n → IsJoined s t r
 joined-all n s t r have is_s is_t is_r size over all = record {
@@ -263,9 +256,9 @@ joined-all n s t r have is_s is_t is_r size over all = record {
         joined-everywhere s t r is_s is_t is_r size over have.size have.over pred (have.done pred lt) tuple
     at pred tuple (inr past) =
         rw (
-          past-No r pred tuple (omega (arith, past, all, ap length have.over, ap length over)),
-          past-No s pred tuple (omega (arith, past, all, ap length over)),
-          past-No t pred tuple (omega (arith, past, all)),
+          value_at-past r pred tuple (omega (arith, past, all, ap length have.over, ap length over)),
+          value_at-past s pred tuple (omega (arith, past, all, ap length over)),
+          value_at-past t pred tuple (omega (arith, past, all)),
         ) refl
 
 -- ---- lengths of joined rows

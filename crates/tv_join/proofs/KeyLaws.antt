@@ -1,13 +1,15 @@
 -- Structures have one key exactly where they agree on the predicates that count.
-use Rattle.std.proofs.Common.{ℕ, zero, suc, ◌≡◌, ◌<◌, ◌≤◌, ◌+◌, ◌⊎◌, inl, inr, Bool, true, false, ◌==◌, ◌||◌}
-use Rattle.std.proofs.Common.{◌&&◌, List, [], ◌∷◌, length, get_or, map, Some, refl, sym, ap, subst, ◌∙◌}
+use Rattle.std.proofs.Common.{ℕ, ◌≡◌, ◌<◌, ◌≤◌, ◌+◌, ◌⊎◌, inl, inr, Bool, true, false, ◌==◌}
+use Rattle.std.proofs.Common.{List, [], ◌∷◌, length, get_or, map, Some, sym, ap, subst, ◌∙◌}
 use Rattle.std.proofs.Common.{arith, eqb-true, true≢false}
 use Rattle.std.specs.Prelude.{Contains, slice_get}
 use Rattle.std.specs.List.{range_with_len}
-use Rattle.std.proofs.lemmas.Bool.{cases_lt}
+use Rattle.std.proofs.lemmas.Bool.{cases_lt, or_cases, or_left, or_right}
 use Rattle.std.proofs.lemmas.List.{get_or-map, get_or_past, get_or_default, length-map}
 use Rattle.std.proofs.lemmas.List.FromFn.{length-map-range_with_len, get_or-map-range_with_len}
 use Rattle.std.proofs.lemmas.Option.{same_Some, slice_get-get_or}
+use Rattle.tv_lemmas.proofs.Lists.{some_at}
+use Rattle.tv_lemmas.proofs.Bools.{and_left}
 use Rattle.tv_kleene.specs.declared.K3.TheVariants.{No}
 use Rattle.tv_model.specs.Program.{ProgramForm, PredForm}
 use Rattle.tv_model.specs.Valid.{program_arities}
@@ -25,34 +27,12 @@ use Rattle.tv_join.specs.Keys.{Key, key_of, nullary_preds}
 
 -- ---- lists
 
--- an element that is there
-some : {X : Type 0} (xs : List X) (i : ℕ) → i < length xs → (x : X) × (slice_get xs i ≡ Some x)
-some [] i lt = absurd (omega arith)
-some (x ∷ xs) zero lt = (x, refl)
-some (x ∷ xs) (suc i) lt = some xs i (omega arith)
-
 -- what two lists of values have at a place
 map-at : {X Y : Type 0} (f g : X → Y) (xs : List X) → map f xs ≡ map g xs → (x : X) → Contains xs x → f x ≡ g x
 map-at f g xs e x (i, lt, at) =
     ap f (sym at) ∙ sym (get_or-map f xs i x (f x) lt) ∙ ap (λ ys. get_or ys i (f x)) e ∙ get_or-map g xs i x (f x) lt ∙ ap g at
 
 -- ---- flags and the predicates whose flag is true
-
-or-cases : (a b : Bool) → (a || b) ≡ true → (a ≡ true) ⊎ (b ≡ true)
-or-cases true b e = inl refl
-or-cases false b e = inr e
-
-or-left : (a b : Bool) → a ≡ true → (a || b) ≡ true
-or-left true b e = refl
-or-left false b e = absurd (true≢false (sym e))
-
-or-right : (a b : Bool) → b ≡ true → (a || b) ≡ true
-or-right true b e = refl
-or-right false b e = e
-
-and-left : (a b : Bool) → (a && b) ≡ true → a ≡ true
-and-left true b e = refl
-and-left false b e = e
 
 module _ (preds : List PredForm) (test : PredForm → Bool) where
   flagged : (pred : ℕ) → get_or (map test preds) pred false ≡ true
@@ -91,13 +71,13 @@ module _ (p : ProgramForm) where
       in by has.0 (slice_get-some has.0)
     where
       slice_get-some : pred < length p.preds → (d : PredForm) × (slice_get p.preds pred ≡ Some d)
-      slice_get-some lt = some p.preds pred lt
+      slice_get-some lt = some_at p.preds pred lt
 
       by : pred < length p.preds → (d : PredForm) × (slice_get p.preds pred ≡ Some d)
           → Contains (nullary_preds p) pred ⊎ Contains (telling_preds p) pred
       by lt (d, at) =
           let test = (flagged p.preds is_counted pred on).1 d
-          in parts d (or-cases ((get_or p.preds pred d).arity == 0) (is_telling (get_or p.preds pred d)) test)
+          in parts d (or_cases ((get_or p.preds pred d).arity == 0) (is_telling (get_or p.preds pred d)) test)
         where
           parts : (d : PredForm) → (((get_or p.preds pred d).arity == 0) ≡ true) ⊎ (is_telling (get_or p.preds pred d) ≡ true)
               → Contains (nullary_preds p) pred ⊎ Contains (telling_preds p) pred
@@ -110,17 +90,17 @@ module _ (p : ProgramForm) where
   nullary-counts pred has =
       let on = listed-flag p.preds (λ d. d.arity == 0) pred has
       in let at = flagged p.preds (λ d. d.arity == 0) pred on
-      in let some-d = some p.preds pred at.0
+      in let some-d = some_at p.preds pred at.0
       in flag-on p.preds is_counted pred some-d.0 at.0
-      (or-left ((get_or p.preds pred some-d.0).arity == 0) (is_telling (get_or p.preds pred some-d.0)) (at.1 some-d.0))
+      (or_left ((get_or p.preds pred some-d.0).arity == 0) (is_telling (get_or p.preds pred some-d.0)) (at.1 some-d.0))
 
   telling-counts : (pred : ℕ) → Contains (telling_preds p) pred → Counts (key_flags p) pred
   telling-counts pred has =
       let on = listed-flag p.preds is_telling pred has
       in let at = flagged p.preds is_telling pred on
-      in let some-d = some p.preds pred at.0
+      in let some-d = some_at p.preds pred at.0
       in flag-on p.preds is_counted pred some-d.0 at.0
-      (or-right ((get_or p.preds pred some-d.0).arity == 0) (is_telling (get_or p.preds pred some-d.0)) (at.1 some-d.0))
+      (or_right ((get_or p.preds pred some-d.0).arity == 0) (is_telling (get_or p.preds pred some-d.0)) (at.1 some-d.0))
 
   -- its arity
   arity-at : (test : PredForm → Bool) (n : ℕ) → ((d : PredForm) → test d ≡ true → d.arity ≡ n) → (s : StructureForm)
@@ -128,7 +108,7 @@ module _ (p : ProgramForm) where
   arity-at test n means s plain pred has =
       let on = listed-flag p.preds test pred has
       in let at = flagged p.preds test pred on
-      in let d = some p.preds pred at.0
+      in let d = some_at p.preds pred at.0
       in ap (λ xs. slice_get xs pred) plain.shaped.over
       ∙ slice_get-get_or (program_arities p) pred n (omega (arith, at.0, length-map p.preds (λ (e : PredForm). e.arity)))
       ∙ ap Some (get_or-map (λ (e : PredForm). e.arity) p.preds pred d.0 n at.0 ∙ means (get_or p.preds pred d.0) (at.1 d.0))
@@ -137,7 +117,7 @@ module _ (p : ProgramForm) where
   nullary-arity = arity-at (λ d. d.arity == 0) 0 (λ d e. eqb-true d.arity 0 e)
 
   telling-arity : (s : StructureForm) → IsPlain p s → (pred : ℕ) → Contains (telling_preds p) pred → HasArity s pred 1
-  telling-arity = arity-at is_telling 1 (λ d e. eqb-true d.arity 1 (and-left (d.arity == 1) d.abs e))
+  telling-arity = arity-at is_telling 1 (λ d e. eqb-true d.arity 1 (and_left (d.arity == 1) d.abs e))
 
   pub flags-fit : (s : StructureForm) → IsPlain p s → AreFlags (key_flags p) s
   flags-fit s plain = record {

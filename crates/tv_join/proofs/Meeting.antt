@@ -9,6 +9,7 @@ use Rattle.std.proofs.lemmas.List.{length-set, length_push, set-get_or, length-m
 use Rattle.std.proofs.lemmas.List.Elements.{Contains-append_left, Contains-push, Contains-push_cases}
 use Rattle.std.proofs.lemmas.List.Sums.{sum_by-set, sum_by_push}
 use Rattle.std.proofs.lemmas.Option.{slice_get_within, get_or_from_slice_get}
+use Rattle.tv_lemmas.proofs.Lists.{pushed_at}
 use Rattle.tv_model.proofs.Lists.{Contains-none, slice_get-contains}
 use Rattle.tv_listing.specs.ListingForm.{at_node}
 use Rattle.tv_model.specs.Program.{ProgramForm}
@@ -24,7 +25,7 @@ use Rattle.tv_step.specs.Setting.{IsStableIn}
 use Rattle.tv_join.specs.Members.{MembersForm, IsRaised, Puts}
 use Rattle.tv_join.specs.declared.members.Put.{Put}
 use Rattle.tv_join.specs.declared.members.Put.TheVariants.{Known, Raised, Added}
-use Rattle.tv_join.proofs.Indexing.{push-at, set-at}
+use Rattle.tv_join.proofs.Indexing.{set-at}
 use Rattle.tv_work.specs.Reach.{Point}
 use Rattle.tv_work.specs.Task.{TaskForm}
 use Rattle.tv_join.specs.Flags.{key_flags, IsPlain}
@@ -239,7 +240,7 @@ module _ (t : TaskForm) (old new : JoinsForm) (k : ℕ) (s : StructureForm) (kep
           ⊎ ((Raised place ≡ Raised at) ⊎ ((Raised place ≡ Added) × (at ≡ length before) × (s ≡ r)))
       by (inl (same, e)) = inr (inl (ap (λ i. Raised i) (sym same)))
       by (inr (apart, was)) = inl was
-  stands-by Added add at r is = by (push-at before s r at (ap (λ xs. slice_get xs at) (sym add.pushed) ∙ is))
+  stands-by Added add at r is = by (pushed_at before s r at (ap (λ xs. slice_get xs at) (sym add.pushed) ∙ is))
     where
       by : (slice_get before at ≡ Some r) ⊎ ((at ≡ length before) × (s ≡ r))
           → (slice_get before at ≡ Some r)

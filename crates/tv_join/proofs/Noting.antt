@@ -9,13 +9,12 @@ use Rattle.std.specs.declared.cmp.Ordering.TheVariants.{Less, Equal, Greater}
 use Rattle.std.specs.Ordering.{MatchOrdering, match_ordering, is_eq, nat_cmp, ordering_then}
 use Rattle.std.proofs.lemmas.Cmp.{nat_cmp_total, ranked, tied_itself}
 use Rattle.std.proofs.lemmas.List.Folds.{Any-from_list_any, list_any-from_Any}
+use Rattle.tv_lemmas.proofs.Orderings.{then_equal}
+use Rattle.tv_model.proofs.Lists.{Contains-here}
 use Rattle.tv_join.specs.Places.{Notes}
 use Rattle.tv_join.specs.declared.places.Place.{Place}
 
 -- ---- the first element and those behind it
-
-pub contains-first : {X : Type 0} (x : X) (xs : List X) → Contains (x ∷ xs) x
-contains-first x xs = (0, omega arith, refl)
 
 pub contains-behind : {X : Type 0} (x : X) (xs : List X) (y : X) → Contains xs y → Contains (x ∷ xs) y
 contains-behind x xs y (k, lt, at) = (suc k, omega (arith, lt), at)
@@ -28,13 +27,13 @@ contains-cases x xs y (suc k, lt, at) = inr (k, omega (arith, lt), at)
 
 module _ {K : Type 0} (cmp : K → K → Ordering) (k : K) where
   inserted-has : ((x : K) → cmp k x ≡ Equal → x ≡ k) → (ks : List K) → Contains (insert_key cmp ks k) k
-  inserted-has exact [] = contains-first k []
+  inserted-has exact [] = Contains-here k []
   inserted-has exact (x ∷ xs) = by (cmp k x) refl (inserted-has exact xs)
     where
       by : (r : Ordering) → cmp k x ≡ r → Contains (insert_key cmp xs k) k
           → Contains (match_ordering r (k ∷ x ∷ xs) (x ∷ xs) (x ∷ insert_key cmp xs k)) k
-      by Less e h = contains-first k (x ∷ xs)
-      by Equal e h = subst (Contains (x ∷ xs)) (exact x e) (contains-first x xs)
+      by Less e h = Contains-here k (x ∷ xs)
+      by Equal e h = subst (Contains (x ∷ xs)) (exact x e) (Contains-here x xs)
       by Greater e h = contains-behind x (insert_key cmp xs k) k h
 
   inserted-keeps : (ks : List K) (y : K) → Contains ks y → Contains (insert_key cmp ks k) y
@@ -43,7 +42,7 @@ module _ {K : Type 0} (cmp : K → K → Ordering) (k : K) where
     where
       behind : (Contains xs y → Contains (insert_key cmp xs k) y) → (x ≡ y) ⊎ Contains xs y
           → Contains (x ∷ insert_key cmp xs k) y
-      behind h (inl e) = subst (Contains (x ∷ insert_key cmp xs k)) e (contains-first x (insert_key cmp xs k))
+      behind h (inl e) = subst (Contains (x ∷ insert_key cmp xs k)) e (Contains-here x (insert_key cmp xs k))
       behind h (inr rest) = contains-behind x (insert_key cmp xs k) y (h rest)
 
       by : (r : Ordering) → (Contains xs y → Contains (insert_key cmp xs k) y)
@@ -70,7 +69,7 @@ module _ {K : Type 0} (cmp : K → K → Ordering) (k : K) where
 
       behind : (Contains (insert_key cmp xs k) y → Contains xs y ⊎ (y ≡ k))
           → (x ≡ y) ⊎ Contains (insert_key cmp xs k) y → Contains (x ∷ xs) y ⊎ (y ≡ k)
-      behind h (inl e) = inl (subst (Contains (x ∷ xs)) e (contains-first x xs))
+      behind h (inl e) = inl (subst (Contains (x ∷ xs)) e (Contains-here x xs))
       behind h (inr rest) = more (h rest)
 
       by : (r : Ordering) → Contains (match_ordering r (k ∷ x ∷ xs) (x ∷ xs) (x ∷ insert_key cmp xs k)) y
@@ -88,14 +87,9 @@ place_cmp v w = ordering_then (nat_cmp v.node w.node) (nat_cmp v.at w.at)
 nat-equal : (x y : ℕ) → nat_cmp x y ≡ Equal → x ≡ y
 nat-equal x y e = subst (λ r. MatchOrdering r (x < y) (x ≡ y) (y < x)) e (ranked x y (nat_cmp x y) refl)
 
-both-equal : (a b : Ordering) → ordering_then a b ≡ Equal → (a ≡ Equal) × (b ≡ Equal)
-both-equal Less b e = absurd cc
-both-equal Equal b e = (refl, e)
-both-equal Greater b e = absurd cc
-
 place-equal : (v w : Place) → place_cmp v w ≡ Equal → w ≡ v
 place-equal v w e =
-    let both = both-equal (nat_cmp v.node w.node) (nat_cmp v.at w.at) e
+    let both = then_equal (nat_cmp v.node w.node) (nat_cmp v.at w.at) e
     in let node = nat-equal v.node w.node both.0
     in let at = nat-equal v.at w.at both.1
     in λ i. record { node = (sym node) i; at = (sym at) i }

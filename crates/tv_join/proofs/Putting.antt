@@ -4,15 +4,17 @@ use Rattle.std.proofs.Common.{ap, subst, ◌∙◌, arith}
 use Rattle.std.specs.Prelude.{Contains, slice_get, ◌↔◌}
 use Rattle.std.proofs.lemmas.Bool.{cases_eq}
 use Rattle.std.proofs.lemmas.Option.{same_Some, slice_get_within}
+use Rattle.tv_lemmas.proofs.Lists.{found_at, pushed_at, set_there, pushed_there, still_at}
 use Rattle.tv_model.specs.Program.{ProgramForm}
+use Rattle.tv_model.proofs.Lists.{slice_get-contains}
 use Rattle.tv_struct.specs.StructureForm.{StructureForm}
 use Rattle.tv_join.specs.Keyed.{SameKey}
 use Rattle.tv_join.specs.Pairwise.{IsUnder, IsJoined}
 use Rattle.tv_join.specs.Members.{Puts}
 use Rattle.tv_join.specs.declared.members.Put.{Put}
 use Rattle.tv_join.specs.declared.members.Put.TheVariants.{Known, Raised, Added}
-use Rattle.tv_join.proofs.Indexing.{Contains-at, at-contains, push-at, push-keeps, push-there, set-at}
-use Rattle.tv_join.proofs.Indexing.{set-keeps, set-there}
+use Rattle.tv_join.proofs.Indexing.{set-at}
+use Rattle.tv_join.proofs.Indexing.{set-keeps}
 use Rattle.tv_join.specs.Flags.{key_flags, IsPlain}
 use Rattle.tv_join.specs.Keys.{Key, key_of, IsJoinOf, HasKey, IsJoinByKey}
 use Rattle.tv_join.specs.Listed.{AreJoins}
@@ -48,14 +50,14 @@ pub joins-own : (p : ProgramForm) (listed : List StructureForm) → ((s : Struct
     → key_of p s ≡ key_of p t → i ≡ j)
     → AreJoins p (Contains listed) listed
 joins-own p listed plain own = record {
-  covered = λ s has. let here = at-contains listed s has in (here.0, s, here.1, refl);
+  covered = λ s has. let here = found_at listed s has in (here.0, s, here.1, refl);
   joins = λ i t at.
-      join-one p (HasKey p (Contains listed) (key_of p t)) t (Contains-at listed i t at, refl)
+      join-one p (HasKey p (Contains listed) (key_of p t)) t (slice_get-contains listed i t at, refl)
       (λ s (has, k).
-      let here = at-contains listed s has
+      let here = found_at listed s has
       in same_Some s t (sym here.1 ∙ ap (slice_get listed) (own here.0 i s t here.1 at k) ∙ at))
-      (plain t (Contains-at listed i t at));
-  used = λ i t at. (t, (Contains-at listed i t at, refl));
+      (plain t (slice_get-contains listed i t at));
+  used = λ i t at. (t, (slice_get-contains listed i t at, refl));
   own = own;
 }
 
@@ -99,14 +101,14 @@ module _ (p : ProgramForm) (X : StructureForm → Type 0) (plain : (s : Structur
       let at = are.covered s x
       in (
         at.1,
-        Contains-at listed at.0 at.1 at.2,
+        slice_get-contains listed at.0 at.1 at.2,
         at.3,
         join-above p (HasKey p X (key_of p at.1)) at.1 s (are.joins at.0 at.1 at.2) (x, at.3) (plain s x),
       )
 
   pub joins-plain : (t : StructureForm) → Contains listed t → IsPlain p t
   joins-plain t has =
-      let here = at-contains listed t has
+      let here = found_at listed t has
       in join-plain p (HasKey p X (key_of p t)) t (are.joins here.0 t here.1)
 
 -- what is listed is exactly the joins by key
@@ -114,7 +116,7 @@ pub joins-exact : (p : ProgramForm) (X : StructureForm → Type 0) (listed : Lis
     → (t : StructureForm) → Contains listed t ↔ IsJoinByKey p X t
 joins-exact p X listed are t = (
   λ has.
-      let here = at-contains listed t has
+      let here = found_at listed t has
       in (key_of p t, are.used here.0 t here.1, are.joins here.0 t here.1),
   λ (key, (s, (x, k)), join).
       let at = are.covered s x
@@ -122,7 +124,7 @@ joins-exact p X listed are t = (
       in let other : IsJoinOf p (HasKey p X key) at.1
       = subst (λ q. IsJoinOf p (HasKey p X q) at.1) same (are.joins at.0 at.1 at.2)
       in subst (Contains listed) (join-once p (HasKey p X key) at.1 t s (x, k) other join)
-      (Contains-at listed at.0 at.1 at.2),
+      (slice_get-contains listed at.0 at.1 at.2),
 )
 
 -- ---- one structure is put
@@ -155,7 +157,7 @@ changes-set old place before after at =
     let within = slice_get_within old place before at
     in record {
       at = at;
-      there = set-there old place after within;
+      there = set_there old place after within;
       back = λ i t is. set-at old place after t i within is;
       keeps = λ i t apart is. set-keeps old place after t i apart is;
     }
@@ -261,21 +263,21 @@ module _ (p : ProgramForm) (X : StructureForm → Type 0) (plain : (s : Structur
       (none : (t : StructureForm) → Contains old t → ¬ SameKey (key_flags p) r t) where
     no-key : (i : ℕ) (t : StructureForm) → slice_get old i ≡ Some t → key_of p r ≡ key_of p t → ⊥
     no-key i t at k =
-        let has = Contains-at old i t at
+        let has = slice_get-contains old i t at
         in none t has (same-from_key p r t plain_r (listed-plain t has) k)
 
     joins-pushed : AreJoins p More (old ++ r ∷ [])
     joins-pushed = record {
       covered = covered;
-      joins = λ i t at. joins i t (push-at old r t i at);
-      used = λ i t at. used i t (push-at old r t i at);
-      own = λ i j s t at_i at_j k. own i j s t (push-at old r s i at_i) (push-at old r t j at_j) k;
+      joins = λ i t at. joins i t (pushed_at old r t i at);
+      used = λ i t at. used i t (pushed_at old r t i at);
+      own = λ i j s t at_i at_j k. own i j s t (pushed_at old r s i at_i) (pushed_at old r t j at_j) k;
     }
       where
         covered : (s : StructureForm) → More s
             → (i : ℕ) × (t : StructureForm) × (slice_get (old ++ r ∷ []) i ≡ Some t) × (key_of p s ≡ key_of p t)
-        covered s (inl x) = let at = are.covered s x in (at.0, at.1, push-keeps old r at.1 at.0 at.2, at.3)
-        covered s (inr e) = (length old, r, push-there old r, ap (key_of p) e)
+        covered s (inl x) = let at = are.covered s x in (at.0, at.1, still_at old (r ∷ []) at.0 at.1 at.2, at.3)
+        covered s (inr e) = (length old, r, pushed_there old r, ap (key_of p) e)
 
         only-r : (s : StructureForm) → HasKey p More (key_of p r) s → s ≡ r
         only-r s (inl x, k) = let at = are.covered s x in absurd (no-key at.0 at.1 at.2 (sym k ∙ at.3))
@@ -304,7 +306,7 @@ module _ (p : ProgramForm) (X : StructureForm → Type 0) (plain : (s : Structur
   pub joins-put : (new : List StructureForm) (put : Put) → ((t : StructureForm) → Contains old t → IsPlain p t)
       → Puts (key_flags p) old r new put → AreJoins p More new
   joins-put new Known listed-plain known =
-      let here = at-contains old known.at known.has
+      let here = found_at old known.at known.has
       in subst (AreJoins p More) (sym known.same)
       (joins-changed old here.0 known.at known.at (changes-none old here.0 known.at here.1) known.key known.joined)
   joins-put new (Raised place) listed-plain raise =

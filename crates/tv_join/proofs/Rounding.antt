@@ -10,6 +10,7 @@ use Rattle.tv_kleene.specs.declared.K3.{K3}
 use Rattle.tv_model.specs.Program.{ProgramForm}
 use Rattle.tv_model.specs.Valid.{IsValid}
 use Rattle.tv_model.proofs.Lists.{All-from_contains, Contains-none}
+use Rattle.tv_model.proofs.Parts.{start-node}
 use Rattle.tv_listing.specs.ListingForm.{at_node}
 use Rattle.tv_struct.specs.StructureForm.{StructureForm}
 use Rattle.tv_step_laws.specs.Budgets.{MeetsSplits, MeetsIndividuals}
@@ -19,7 +20,6 @@ use Rattle.tv_join.specs.Members.{MembersForm}
 use Rattle.tv_work.specs.Analysed.{KeepAllBudgets, Meets}
 use Rattle.tv_work.specs.Reach.{Point, IsStartPoint}
 use Rattle.tv_work.specs.Task.{TaskForm}
-use Rattle.tv_work.proofs.Advancing.{start-node}
 use Rattle.tv_join.specs.Flags.{IsPlain}
 use Rattle.tv_join.specs.Joined.{AreAtMost, IsJoinCause}
 use Rattle.tv_join.specs.Keys.{key_of, HasKey, IsJoinByKey}

@@ -4,13 +4,14 @@ use Rattle.std.proofs.Common.{subst, ◌∙◌, arith}
 use Rattle.std.specs.Prelude.{◌↔◌}
 use Rattle.std.proofs.lemmas.Bool.{cases_lt}
 use Rattle.std.proofs.lemmas.List.{ext_get_or}
+use Rattle.tv_model.proofs.Ordered.{ordered_same}
 use Rattle.tv_listing.specs.declared.analysis.MessageLine.{MessageLine}
 use Rattle.tv_model.specs.Program.{ProgramForm}
 use Rattle.tv_model.specs.declared.program.Mode.{Mode}
 use Rattle.tv_step_laws.proofs.Exact.{sorted-same}
 use Rattle.tv_struct.specs.Order.{structure_cmp, structure_cmp_total}
 use Rattle.tv_struct.specs.StructureForm.{StructureForm}
-use Rattle.tv_work.proofs.Single.{lines_apart, pairs_same}
+use Rattle.tv_work.proofs.Single.{lines_apart}
 use Rattle.tv_work.specs.Analysed.{IsBefore, IsReported}
 use Rattle.tv_work.specs.Reach.{IsListed, Point}
 use Rattle.tv_work.specs.Task.{TaskForm}
@@ -69,6 +70,6 @@ one_joined p mode initial max most listing other lines others a b = (same, lines
         (λ s there. listed_alike p mode initial most max other listing others lines b a (point node s) there))
 
     lines_same : lines ≡ others
-    lines_same = pairs_same IsBefore lines_apart lines others a.ordered b.ordered
+    lines_same = ordered_same IsBefore lines_apart lines others a.ordered b.ordered
         (λ line there. (b.reported line).1 (subst (λ l. IsReported p (IsListed l) line) same ((a.reported line).0 there)))
         (λ line there. (a.reported line).1 (subst (λ l. IsReported p (IsListed l) line) (sym same) ((b.reported line).0 there)))

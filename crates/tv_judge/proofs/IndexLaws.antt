@@ -7,9 +7,11 @@ use Rattle.std.specs.Borrow.{Bor}
 use Rattle.std.specs.Option.{option_map, option_or}
 use Rattle.std.specs.Map.{lookup}
 use Rattle.std.specs.List.{list_any}
-use Rattle.std.proofs.lemmas.Bool.{eqb-true, eqb-false}
+use Rattle.std.proofs.lemmas.Bool.{eqb-true, and_parts, and_from, eq-eqb}
 use Rattle.std.proofs.lemmas.List.{drop_more, drop_all, take_all}
 use Rattle.std.proofs.lemmas.List.Folds.{list_any-append, list_any_more, Any-from_list_any, list_any-from_Any}
+use Rattle.std.proofs.Math.Bool.{or-false}
+use Rattle.tv_lemmas.proofs.Options.{or_none}
 use Rattle.indexmap.specs.IndexMap.{insert_entry}
 use Rattle.indexmap.specs.IndexSet.{insert_key}
 use Rattle.tv_listing.specs.declared.analysis.Item.{Item}
@@ -22,33 +24,20 @@ use Rattle.tv_judge.specs.Index.{line_at, line_for, NotesLine, IsLineIndex, is_s
 
 -- ---- conjunctions of tests
 
-pub both-true : (a b : Bool) → (a && b) ≡ true → (a ≡ true) × (b ≡ true)
-both-true true true e = (refl, refl)
-both-true true false e = absurd cc
-both-true false b e = absurd cc
-
 pub same-is : (a b : Item) → is_same_item a b ≡ true → a ≡ b
 same-is (Initial m) (Initial n) e = ap Initial (eqb-true m n e)
 same-is (Initial m) (Result edge structure result) e = absurd cc
 same-is (Result edge structure result) (Initial n) e = absurd cc
 same-is (Result edge structure result) (Result f s r) e =
-    let p = both-true (edge == f) (structure == s && result == r) e
-    in let q = both-true (structure == s) (result == r) p.1
+    let p = and_parts (edge == f) (structure == s && result == r) e
+    in let q = and_parts (structure == s) (result == r) p.1
     in rw (eqb-true edge f p.0, eqb-true structure s q.0, eqb-true result r q.1) refl
-
-or-false : (a : Bool) → (a || false) ≡ a
-or-false true = refl
-or-false false = refl
 
 -- ---- map lines
 
 or-some : {X : Type 0} (a b : Option X) → is_some a ≡ true → option_or a b ≡ a
 or-some None b e = absurd cc
 or-some (Some x) b e = refl
-
-or-none : {X : Type 0} (a : Option X) → option_or a None ≡ a
-or-none None = refl
-or-none (Some x) = refl
 
 or-or : {X : Type 0} (a b c : Option X) → option_or (option_or a b) c ≡ option_or a (option_or b c)
 or-or None b c = refl
@@ -72,7 +61,7 @@ noted-old es line there item = by (is_same_item item line.item) refl
 
     by : (b : Bool) → is_same_item item line.item ≡ b
         → line_at es item ≡ option_or (line_at es item) (if b then Some line else None)
-    by false e = sym (or-none (line_at es item))
+    by false e = sym (or_none (line_at es item))
     by true e = sym (or-some (line_at es item) (Some line)
         (same (subst (λ i. is_some (lookup (is_same_item i) es) ≡ true)
         (sym (same-is item line.item e)) there)))
@@ -139,7 +128,7 @@ pub noted-all : (es : Entries) (lines : List MapLine) (i : ℕ) → length lines
     → IsLineIndex es lines
 unfolding IsNotedTo
 noted-all es lines i past noted item =
-    sym (or-none (line_at es item))
+    sym (or_none (line_at es item))
     ∙ ap (λ ls. option_or (line_at es item) (own_line ls item)) (sym (drop_all i lines past)) ∙ noted item
 
 -- ---- messages
@@ -148,22 +137,10 @@ noted-all es lines i past noted item =
 abbrev pub has_line : List MessageLine → (edge number : ℕ) → Bool
 has_line lines edge number = list_any (λ line. edge == line.edge && number == line.number) lines
 
-and-true : (a b : Bool) → a ≡ true → b ≡ true → (a && b) ≡ true
-and-true true true e f = refl
-and-true true false e f = absurd cc
-and-true false b e f = absurd cc
-
-eqb-same : (a b : ℕ) → a ≡ b → (a == b) ≡ true
-eqb-same a b e = by (a == b) refl
-  where
-    by : (t : Bool) → (a == b) ≡ t → t ≡ true
-    by true h = refl
-    by false h = absurd (eqb-false a b h e)
-
 is-line : (edge number : ℕ) (line : MessageLine) → (edge == line.edge && number == line.number) ≡ true
     → (line.edge ≡ edge) × (line.number ≡ number)
 is-line edge number line e =
-    let p = both-true (edge == line.edge) (number == line.number) e
+    let p = and_parts (edge == line.edge) (number == line.number) e
     in (sym (eqb-true edge line.edge p.0), sym (eqb-true number line.number p.1))
 
 has-true : (lines : List MessageLine) (edge number : ℕ)
@@ -184,8 +161,8 @@ has-true lines edge number = record { 0 = there; 1 = back }
           line,
           within,
           at,
-          and-true (edge == line.edge) (number == line.number)
-              (eqb-same edge line.edge (sym is.0)) (eqb-same number line.number (sym is.1)),
+          and_from (edge == line.edge) (number == line.number)
+              (eq-eqb edge line.edge (sym is.0)) (eq-eqb number line.number (sym is.1)),
         )
 
 -- a test that is the same as the items' own
@@ -221,7 +198,7 @@ said-next keys new lines i d within put before edge number =
         → is_said keys edge number ≡ (is_said keys edge number || t)
     known false e said = sym (or-false (is_said keys edge number))
     known true e said =
-        let p = both-true (edge == (get_or lines i d).edge) (number == (get_or lines i d).number) e
+        let p = and_parts (edge == (get_or lines i d).edge) (number == (get_or lines i d).number) e
         in rw (
           eqb-true edge (get_or lines i d).edge p.0,
           eqb-true number

@@ -3,11 +3,12 @@ use Rattle.std.proofs.Common.{ℕ, ◌≡◌, ◌≢◌, ◌<◌, ◌≤◌, ◌
 use Rattle.std.proofs.Common.{not, IsTrue, List, [], ◌∷◌, length, get_or, Option, Some, None, refl, sym, ap}
 use Rattle.std.proofs.Common.{subst, ◌∙◌, arith}
 use Rattle.std.specs.List.{range_with_len}
-use Rattle.std.specs.Prelude.{All, IfSome, IsSome, slice_get, unwrap_or, if◌then◌else◌}
+use Rattle.std.specs.Prelude.{All, IfSome, IsSome, slice_get, if◌then◌else◌}
 use Rattle.std.proofs.lemmas.Bool.{cases_lt}
 use Rattle.std.proofs.lemmas.List.{get_or_default}
-use Rattle.std.proofs.lemmas.Option.{slice_get_within, get_or_from_slice_get, slice_get-get_or}
+use Rattle.std.proofs.lemmas.Option.{slice_get_within, get_or_from_slice_get, slice_get-get_or, same_Some}
 use Rattle.std.proofs.lemmas.Option.{slice_get_cases}
+use Rattle.tv_lemmas.proofs.Lists.{All-found}
 use Rattle.tv_kleene.specs.declared.K3.{K3}
 use Rattle.tv_kleene.specs.declared.K3.TheVariants.{No}
 use Rattle.tv_model.specs.declared.program.Edge.{Edge}
@@ -37,12 +38,9 @@ use Rattle.tv_judge.proofs.IndexLaws.{same-is}
 
 -- ---- places in lists
 
-pub same-some : {X : Type 0} (x y : X) → Some x ≡ Some y → x ≡ y
-same-some x y e = ap (λ o. unwrap_or o x) e
-
 pub one-there : {X : Type 0} (xs ys : List X) (i : ℕ) (x y : X) → slice_get xs i ≡ Some x
     → slice_get ys i ≡ Some y → xs ≡ ys → x ≡ y
-one-there xs ys i x y a b e = same-some x y (sym a ∙ ap (λ zs. slice_get zs i) e ∙ b)
+one-there xs ys i x y a b e = same_Some x y (sym a ∙ ap (λ zs. slice_get zs i) e ∙ b)
 
 -- nothing stands behind the end
 pub none-past : {X : Type 0} (xs : List X) (i : ℕ) (x : X) → length xs ≤ i → slice_get xs i ≡ Some x → ⊥
@@ -53,10 +51,6 @@ pub index-at : {X : Type 0} (xs ys : List X) (i : ℕ) (x : X) → ys ≡ xs →
     → slice_get xs i ≡ Some x
 index-at xs ys i x e is within =
     slice_get-get_or xs i x within ∙ ap Some (ap (λ zs. get_or zs i x) (sym e) ∙ sym is)
-
-pub all-at : {X : Type 0} (P : X → Type 0) (xs : List X) (i : ℕ) (x : X) → All P xs
-    → slice_get xs i ≡ Some x → P x
-all-at P xs i x all e = subst P (get_or_from_slice_get xs i x x e) (all i x (slice_get_within xs i x e))
 
 -- ---- items
 
@@ -255,7 +249,7 @@ own-item (l ∷ lines) i line e = by (is_same_item i l.item) refl (own-item line
   where
     by : (b : Bool) → is_same_item i l.item ≡ b → (own_line lines i ≡ Some line → line.item ≡ i)
         → (if b then Some l else own_line lines i) ≡ Some line → line.item ≡ i
-    by true same rest is = ap (λ (x : MapLine). x.item) (sym (same-some l line is))
+    by true same rest is = ap (λ (x : MapLine). x.item) (sym (same_Some l line is))
         ∙ sym (same-is i l.item same)
     by false same rest is = rest is
 
@@ -282,7 +276,7 @@ pub listed-structure : (program : Program) (listing : List (List StructureForm))
     → IsListing program listing → node < length listing → slice_get (at_node listing node) place ≡ Some s
     → IsStructure s
 listed-structure program listing node place s is within listed =
-    (all-at (λ t. IsStructure t × IsOver program.vocab t) (at_node listing node) place s
+    (All-found (λ t. IsStructure t × IsOver program.vocab t) (at_node listing node) place s
     (is.structures node [] within) listed).0
 
 -- a structure that is listed is owed a line
@@ -322,7 +316,7 @@ pub nodes-within : (program : Program) → IsValid (program_of program)
     → (edge : ℕ) (taken : Edge) → slice_get program.edges edge ≡ Some taken
     → (taken.from < length listing) × (taken.to < length listing)
 nodes-within program valid listing is edge taken at =
-    let nodes = all-at (IsEdge (program_of program)) program.edges edge taken valid.edges at
+    let nodes = All-found (IsEdge (program_of program)) program.edges edge taken valid.edges at
     in (omega (arith, nodes.0, is.nodes), omega (arith, nodes.1, is.nodes))
 
 pub start-within : (program : Program) → IsValid (program_of program)

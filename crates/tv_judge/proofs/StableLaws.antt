@@ -2,7 +2,7 @@
 use Rattle.std.proofs.Common.{ℕ, ◌≡◌, ◌&&◌, ◌==◌, Bool, true, false, List, [], ◌∷◌, ◌++◌, refl, sym, subst}
 use Rattle.std.proofs.Common.{◌∙◌}
 use Rattle.std.specs.Prelude.{All, None, Some, slice_get, if◌then◌else◌}
-use Rattle.std.proofs.lemmas.Bool.{eqb-true}
+use Rattle.std.proofs.lemmas.Bool.{eqb-true, and_parts}
 use Rattle.std.proofs.lemmas.List.Elements.{All-nil, All-head, All-tail, All-push, All-weaker}
 use Rattle.tv_listing.specs.ListingForm.{at_node}
 use Rattle.tv_struct.specs.StructureForm.{StructureForm, unmarked}
@@ -11,7 +11,6 @@ use Rattle.tv_judge.specs.Found.{IsStableIn, IsStableAt, IsTestedTo}
 use Rattle.tv_judge.specs.Index.{is_said}
 use Rattle.tv_judge.specs.Judged.{Case}
 use Rattle.tv_judge.specs.declared.found.Found.{Found}
-use Rattle.tv_judge.proofs.IndexLaws.{both-true}
 use Rattle.tv_judge.proofs.Progressing.{done-none}
 use Rattle.tv_judge.proofs.Reports.{one-there}
 
@@ -24,7 +23,7 @@ at-noted P (key ∷ keys) a b all is =
   where
     at : (t : Bool) → (a == key.0 && b == key.1) ≡ t → (is_said keys a b ≡ true → P (a, b)) → P (a, b)
     at true here later =
-        let both = both-true (a == key.0) (b == key.1) here
+        let both = and_parts (a == key.0) (b == key.1) here
         in let first : key.0 ≡ a = sym (eqb-true a key.0 both.0)
         in let second : key.1 ≡ b = sym (eqb-true b key.1 both.1)
         in subst P (λ i. (first i, second i)) (All-head P key keys all)

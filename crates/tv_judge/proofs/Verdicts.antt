@@ -3,6 +3,7 @@ use Rattle.std.proofs.Common.{ℕ, ◌≡◌, ◌⊎◌, inl, inr, true, List, [
 use Rattle.std.proofs.Common.{arith}
 use Rattle.std.specs.Prelude.{slice_get, slice_index_or}
 use Rattle.std.proofs.lemmas.Option.{slice_get-get_or}
+use Rattle.tv_lemmas.proofs.Lists.{All-found}
 use Rattle.tv_model.specs.declared.program.Edge.{Edge}
 use Rattle.tv_model.specs.Valid.{IsValid}
 use Rattle.tv_model.proofs.Lists.{slice_get-contains}
@@ -21,7 +22,7 @@ use Rattle.tv_judge.specs.Judged.{Saying, demand_order, StandsBefore, AreMapsOf}
 use Rattle.tv_judge.specs.Laws.{ClosedListingsAreClosedReports}
 use Rattle.tv_judge.specs.Progress.{IsDoneItem, MeetsDemand, IsDoneTo, IsDone}
 use Rattle.tv_judge.specs.Verdicts.{IsSound}
-use Rattle.tv_judge.proofs.Reports.{all-at, covered, line-meets, no-opening}
+use Rattle.tv_judge.proofs.Reports.{covered, line-meets, no-opening}
 
 -- lines that are asked for are those of all items
 pub asked-done : (c : Case) (maps : List MapLine) → IsDone c true maps → IsDoneTo c (2 ∷ []) maps
@@ -143,7 +144,7 @@ closed-report c valid plain closed = record {
     initial : (number : ℕ) (s : StructureForm) (targets : List StructureForm)
         → IsThere c (item.Initial number) s targets → IsCovered targets s
     initial number s targets there =
-        by (all-at (IsOpenedIn c.program
+        by (All-found (IsOpenedIn c.program
         (at_node c.analysis.listing 0)) c.initial number there.first closed.opened there.is_initial)
       where
         by : IsOpenedIn c.program (at_node c.analysis.listing 0) there.first → IsCovered targets s
@@ -163,7 +164,7 @@ closed-report c valid plain closed = record {
         in let same = results-once c.program valid c.mode edge there.from there.results followed.results.0
         there.are_results followed.results.1
         in subst (λ ts. IsCovered ts s) (sym there.targets_are)
-        (all-at (IsCovered (at_node c.analysis.listing there.taken.to)) followed.results.0 number s
+        (All-found (IsCovered (at_node c.analysis.listing there.taken.to)) followed.results.0 number s
         followed.results.2 (subst (λ rs. slice_get rs number ≡ Some s) same there.is_result))
 
     each : (i : Item) (s : StructureForm) (targets : List StructureForm) → IsThere c i s targets

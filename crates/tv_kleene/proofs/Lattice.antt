@@ -3,7 +3,7 @@
 use Rattle.std.proofs.Common.{◌≡◌, ◌≢◌, ◌⊎◌, Bool, not, IsTrue, ◌↔◌, inl, inr, refl, sym, ap, ◌∙◌}
 use Rattle.tv_kleene.specs.declared.K3.{K3}
 use Rattle.tv_kleene.specs.declared.K3.TheVariants.{No, Half, Yes}
-use Rattle.tv_kleene.specs.Kleene.{LiesUnder, smaller_of, larger_of, negation_of, join_of, are_same}
+use Rattle.tv_kleene.specs.Kleene.{LiesUnder, smaller_of, larger_of, join_of, are_same}
 
 -- ---- the order of truth
 
@@ -45,6 +45,13 @@ smaller-no No = refl
 smaller-no Half = refl
 smaller-no Yes = refl
 
+pub larger-either : (x y : K3) → (larger_of x y ≡ x) ⊎ (larger_of x y ≡ y)
+larger-either No y = inr refl
+larger-either Half No = inl refl
+larger-either Half Half = inl refl
+larger-either Half Yes = inr refl
+larger-either Yes y = inl refl
+
 pub both-yes : (x y : K3) → smaller_of x y ≡ Yes → (x ≡ Yes) × (y ≡ Yes)
 both-yes No y e = cc
 both-yes Half No e = cc
@@ -54,6 +61,9 @@ both-yes Yes y e = (refl, e)
 
 pub yes-both : (x y : K3) → x ≡ Yes → y ≡ Yes → smaller_of x y ≡ Yes
 yes-both x y e f = ap (λ z. smaller_of z y) e ∙ f
+
+pub no-yes : (x : K3) → x ≡ No → x ≡ Yes → ⊥
+no-yes x n y = cc
 
 -- values other than Half are equal where they are Yes at once
 pub same-definite : (x y : K3) → x ≢ Half → y ≢ Half → x ≡ Yes ↔ y ≡ Yes → x ≡ y

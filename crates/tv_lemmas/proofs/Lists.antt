@@ -1,14 +1,18 @@
 -- What holds of all of a list, what stands at its places, and what maps and ranges have there.
 use Rattle.std.proofs.Common.{ℕ, zero, suc, ◌≡◌, ◌≢◌, ◌<◌, ◌+◌, ◌∙◌, ◌⊎◌, inl, inr, List, [], ◌∷◌, ◌++◌}
 use Rattle.std.proofs.Common.{length, map, not, cond, Bool, Some, refl, sym, ap, subst, arith, All, Contains}
-use Rattle.std.proofs.Common.{slice_get}
-use Rattle.std.specs.List.{flat_map, range_with_len, AllPairs, position, position_or_len}
-use Rattle.std.proofs.lemmas.List.{length-map, map-id, length-set, get_or-set_same}
+use Rattle.std.proofs.Common.{slice_get, take, drop, get_or, true, ◌≤◌, add-one, append_assoc, append-nil}
+use Rattle.std.specs.Prelude.{◌==◌}
+use Rattle.std.specs.List.{flat_map, list_all, range_with_len, AllPairs, position, position_or_len}
+use Rattle.std.proofs.lemmas.Bool.{and_from, and_parts, eqb-true}
+use Rattle.std.proofs.lemmas.List.{drop_more, length-map, map-append, map-id, length-set, get_or-set_same}
+use Rattle.std.proofs.lemmas.List.{nil_from_length}
 use Rattle.std.proofs.Math.ListN.{set}
-use Rattle.std.proofs.lemmas.List.Elements.{All-nil, All-cons, All-head, All-tail, All-append}
+use Rattle.std.proofs.Math.Seq.{take-suc}
+use Rattle.std.proofs.lemmas.List.Elements.{All-nil, All-cons, All-head, All-map, All-tail, All-append}
 use Rattle.std.proofs.lemmas.List.FromFn.{map-range_with_len_more, length-range_with_len}
 use Rattle.std.proofs.lemmas.List.FromFn.{get_or-range_with_len}
-use Rattle.std.proofs.lemmas.Option.{slice_get-get_or}
+use Rattle.std.proofs.lemmas.Option.{get_or_from_slice_get, slice_get-get_or, slice_get_within}
 
 -- ---- what holds of all
 
@@ -39,6 +43,18 @@ pub All-right : {X : Type 0} (P : X → Type 0) (xs ys : List X) → All P (xs +
 All-right P [] ys all = all
 All-right P (x ∷ xs) ys all = All-right P xs ys (All-tail P x (xs ++ ys) all)
 
+pub All-map_into : (f : ℕ → ℕ) (us ws tuple : List ℕ) → ((u : ℕ) → Contains us u → Contains ws (f u)) → All (Contains us) tuple
+    → All (Contains ws) (map f tuple)
+All-map_into f us ws tuple into all =
+    All-map (Contains ws) f tuple (λ k d lt. into (get_or tuple k d) (all k d lt))
+
+pub list_all-weaker : (p q : ℕ → Bool) → ((x : ℕ) → p x ≡ true → q x ≡ true) → (xs : List ℕ) → list_all p xs ≡ true
+    → list_all q xs ≡ true
+list_all-weaker p q step [] all = refl
+list_all-weaker p q step (x ∷ xs) all =
+    let both = and_parts (p x) (list_all p xs) all
+    in and_from (q x) (list_all q xs) (step x both.0) (list_all-weaker p q step xs both.1)
+
 -- ---- what stands at a place
 
 pub some_at : {X : Type 0} (xs : List X) (i : ℕ) → i < length xs → (x : X) × (slice_get xs i ≡ Some x)
@@ -61,11 +77,41 @@ pushed_at (z ∷ xs) y x (suc i) at = later (pushed_at xs y x i at)
     later (inl earlier) = inl earlier
     later (inr (last, same)) = inr (ap suc last, same)
 
+-- what stands in the first part stands in the whole
+pub still_at : {X : Type 0} (xs ys : List X) (i : ℕ) (x : X) → slice_get xs i ≡ Some x → slice_get (xs ++ ys) i ≡ Some x
+still_at [] ys i x at = absurd (cc at)
+still_at (z ∷ xs) ys zero x at = at
+still_at (z ∷ xs) ys (suc i) x at = still_at xs ys i x at
+
+pub pushed_there : {X : Type 0} (xs : List X) (x : X) → slice_get (xs ++ x ∷ []) (length xs) ≡ Some x
+pushed_there [] x = refl
+pushed_there (z ∷ xs) x = pushed_there xs x
+
+pub drop_there : {X : Type 0} (xs : List X) (i : ℕ) (x : X) → slice_get xs i ≡ Some x → drop i xs ≡ x ∷ drop (i + 1) xs
+drop_there xs i x at =
+    drop_more xs i x (slice_get_within xs i x at)
+    ∙ ap (λ y. y ∷ drop (i + 1) xs) (get_or_from_slice_get xs i x x at)
+
 pub set_there : {X : Type 0} (xs : List X) (place : ℕ) (y : X) → place < length xs
     → slice_get (set xs place y) place ≡ Some y
 set_there xs place y within =
     slice_get-get_or (set xs place y) place y (omega (arith, within, length-set xs place y))
     ∙ ap Some (get_or-set_same xs place y y within)
+
+-- ---- parts of lists
+
+pub none_left : {X : Type 0} (xs : List X) → (length xs == 0) ≡ true → xs ≡ []
+none_left xs none = nil_from_length xs (eqb-true (length xs) 0 none)
+
+pub nothing_added : {X : Type 0} (xs : List X) → xs ≡ xs ++ []
+nothing_added xs = sym (append-nil xs)
+
+pub two_behind : {X : Type 0} (old mid new xs ys : List X) → mid ≡ old ++ xs → new ≡ mid ++ ys → new ≡ old ++ (xs ++ ys)
+two_behind old mid new xs ys before is = is ∙ ap (λ zs. zs ++ ys) before ∙ append_assoc old xs ys
+
+pub map_next : {X Y : Type 0} (f : X → Y) (xs : List X) (i : ℕ) (x : X) → i < length xs → x ≡ get_or xs i x
+    → map f (take (i + 1) xs) ≡ map f (take i xs) ++ f x ∷ []
+map_next f xs i x lt is = rw (add-one, take-suc xs i x lt, ← is) (map-append f (take i xs) (x ∷ []))
 
 -- ---- positions
 
@@ -80,9 +126,9 @@ position-map f p xs = rw (position_or_len-map f p xs, length-map xs f) refl
 
 -- ---- ranges
 
-pub map-range_more : {X : Type 0} (f : ℕ → X) (n : ℕ)
+pub map_range_more : {X : Type 0} (f : ℕ → X) (n : ℕ)
     → map f (range_with_len 0 (n + 1)) ≡ map f (range_with_len 0 n) ++ f n ∷ []
-map-range_more f n = map-range_with_len_more f 0 n n (omega arith)
+map_range_more f n = map-range_with_len_more f 0 n n (omega arith)
 
 pub range_more : (a n : ℕ) → range_with_len a (n + 1) ≡ range_with_len a n ++ (a + n) ∷ []
 range_more a n =
@@ -103,3 +149,10 @@ range_differs n i j d lt within same =
     in let a = get_or-range_with_len 0 n i d (omega (arith, lt, top))
     in let b = get_or-range_with_len 0 n j d top
     in omega (arith, lt, sym a ∙ same ∙ b)
+
+-- what agrees at each number of a range
+pub flat_map-range : {X : Type 0} (f g : ℕ → List X) (a n : ℕ) → ((k : ℕ) → a ≤ k → k < a + n → f k ≡ g k)
+    → flat_map f (range_with_len a n) ≡ flat_map g (range_with_len a n)
+flat_map-range f g a zero same = refl
+flat_map-range f g a (suc n) same = λ i. same a (omega arith) (omega arith) i
+    ++ flat_map-range f g (a + 1) n (λ k low less. same k (omega (arith, low)) (omega (arith, less))) i

@@ -1,7 +1,9 @@
 -- What options and results say of their values.
-use Rattle.std.proofs.Common.{◌≡◌, true, Option, Some, None, Result, Ok, Err, refl, ap, subst, IfSome, IfErr}
+use Rattle.std.proofs.Common.{◌≡◌, true, Option, Some, None, Result, Ok, Err, refl, sym, ap, subst, IfSome}
+use Rattle.std.proofs.Common.{IfErr}
 use Rattle.std.proofs.lemmas.Bool.{false≢true}
 use Rattle.std.proofs.lemmas.Option.{same_Some}
+use Rattle.std.specs.Prelude.{IsErrAnd, OnOk}
 use Rattle.std.specs.Option.{is_some, option_map, option_or}
 
 pub some_value : {X : Type 0} (o : Option X) → is_some o ≡ true → (x : X) × (o ≡ Some x)
@@ -27,6 +29,19 @@ or_none (Some x) = refl
 pub IfErr-weaker : {X E : Type 0} (r : Result X E) (P Q : E → Type 0) → ((e : E) → P e → Q e) → IfErr r P → IfErr r Q
 IfErr-weaker (Ok x) P Q f h = tt
 IfErr-weaker (Err e) P Q f h = f e h
+
+-- an error that is handed on
+pub IfErr-same : {X E : Type 0} (P : E → Type 0) (r : Result X E) (e : E) → IsErrAnd r (λ d. d ≡ e) → P e → IfErr r P
+IfErr-same P (Ok x) e same h = tt
+IfErr-same P (Err d) e same h = subst P (sym same) h
+
+pub OnOk-weaker : {X E : Type 0} (r : Result X E) (P Q : Type 0) → (P → Q) → OnOk r P → OnOk r Q
+OnOk-weaker (Ok x) P Q f h = f h
+OnOk-weaker (Err e) P Q f h = tt
+
+pub OnOk-any : {X E : Type 0} (r : Result X E) (P : Type 0) → P → OnOk r P
+OnOk-any (Ok x) P h = h
+OnOk-any (Err e) P h = tt
 
 -- ---- results that are equal
 

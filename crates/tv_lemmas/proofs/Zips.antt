@@ -1,6 +1,6 @@
 -- Two lists whose elements are related place by place.
 use Rattle.std.proofs.Common.{ℕ, zero, suc, ◌≡◌, List, [], ◌∷◌, ◌++◌, Some, slice_get, refl, ap, ◌∙◌, subst}
-use Rattle.std.proofs.Common.{Contains}
+use Rattle.std.proofs.Common.{Contains, length}
 use Rattle.std.specs.List.{AllZip}
 use Rattle.tv_lemmas.proofs.Lists.{found_at}
 use Rattle.std.proofs.lemmas.Option.{slice_get_within, get_or_from_slice_get}
@@ -11,6 +11,19 @@ zip_push R [] [] x y zip one = (one, tt)
 zip_push R [] (z ∷ ys) x y zip one = absurd zip
 zip_push R (z ∷ xs) [] x y zip one = absurd zip
 zip_push R (z ∷ xs) (w ∷ ys) x y zip one = (zip.0, zip_push R xs ys x y zip.1 one)
+
+pub zip_weaker : {X Y : Type 0} (R S : X → Y → Type 0) → ((x : X) (y : Y) → R x y → S x y) → (xs : List X) (ys : List Y)
+    → AllZip R xs ys → AllZip S xs ys
+zip_weaker R S f [] [] zip = tt
+zip_weaker R S f [] (y ∷ ys) zip = absurd zip
+zip_weaker R S f (x ∷ xs) [] zip = absurd zip
+zip_weaker R S f (x ∷ xs) (y ∷ ys) zip = (f x y zip.0, zip_weaker R S f xs ys zip.1)
+
+pub zip_length : {X Y : Type 0} (R : X → Y → Type 0) (xs : List X) (ys : List Y) → AllZip R xs ys → length xs ≡ length ys
+zip_length R [] [] zip = refl
+zip_length R [] (y ∷ ys) zip = absurd zip
+zip_length R (x ∷ xs) [] zip = absurd zip
+zip_length R (x ∷ xs) (y ∷ ys) zip = ap suc (zip_length R xs ys zip.1)
 
 -- the partner of the element at a place
 pub zip_partner : {X Y : Type 0} (R : X → Y → Type 0) (xs : List X) (ys : List Y) → AllZip R xs ys → (k : ℕ) (x : X)

@@ -8,6 +8,7 @@ use Rattle.std.specs.Option.{option_map}
 use Rattle.std.proofs.lemmas.Bool.{and_parts, and_from, and_right, cases_Bool, cases_lt, cond-true}
 use Rattle.std.proofs.lemmas.Bool.{cond-false, false≢true, eqb-true, ne_eqb, not-true, not_from_false}
 use Rattle.std.proofs.lemmas.List.{append-nil}
+use Rattle.tv_lemmas.proofs.Lists.{list_all-weaker}
 use Rattle.tv_lex.specs.Bytes.{is_blank, is_word_byte, is_letter, is_text_byte, stays_on_line}
 use Rattle.tv_lex.specs.Pieces.{Piece, Stands, Fits, AllFit, joined_pieces, IsOneOf, IsBlockComment}
 use Rattle.tv_lex.specs.Pieces.{IsLineComment, IsBlank, close_at, punctuations}
@@ -116,11 +117,6 @@ plain_run (b ∷ bs) all =
     let inner = plain_run bs both.1 in
     let same = plain_step b both.0 in
     (ap (λ s. run s bs) same ∙ inner.0, (refl, subst (λ s. NeverOpen s bs) (sym same) inner.1))
-
-each_passes : (p q : ℕ → Bool) → ((b : ℕ) → p b ≡ true → q b ≡ true) → (bs : List ℕ) → list_all p bs ≡ true → list_all q bs ≡ true
-each_passes p q step [] all = refl
-each_passes p q step (b ∷ bs) all =
-    let both = and_parts (p b) (list_all p bs) all in and_from (q b) (list_all q bs) (step b both.0) (each_passes p q step bs both.1)
 
 -- a test that a slash and a quote don't pass
 plain_if : (p : ℕ → Bool) → p 47 ≡ false → p 34 ≡ false → (b : ℕ) → p b ≡ true → is_plain b ≡ true
@@ -251,10 +247,10 @@ blank_plain : (b : ℕ) → is_blank b ≡ true → is_plain b ≡ true
 blank_plain = plain_if is_blank refl refl
 
 word_plain : (bs : List ℕ) → list_all is_word_byte bs ≡ true → list_all is_plain bs ≡ true
-word_plain = each_passes is_word_byte is_plain (plain_if is_word_byte refl refl)
+word_plain = list_all-weaker is_word_byte is_plain (plain_if is_word_byte refl refl)
 
 letter_plain : (bs : List ℕ) → list_all is_letter bs ≡ true → list_all is_plain bs ≡ true
-letter_plain = each_passes is_letter is_plain (plain_if is_letter refl refl)
+letter_plain = list_all-weaker is_letter is_plain (plain_if is_letter refl refl)
 
 -- a piece that is no block comment opens none
 abbrev Quiet : List ℕ → Type 0

@@ -17,6 +17,11 @@ order_ends : (at end : ℕ) (ts : List Token) → AreInOrder at ts end → at �
 order_ends at end [] order = order
 order_ends at end (t ∷ ts) order = omega (arith, order.0, order.1, order_ends t.end end ts order.2)
 
+-- there are no more tokens than bytes
+pub count_in_order : (at : ℕ) (ts : List Token) (end : ℕ) → AreInOrder at ts end → at + length ts ≤ end
+count_in_order at [] end order = omega (arith, order)
+count_in_order at (t ∷ ts) end order = omega (arith, order.0, order.1, count_in_order t.end ts end order.2)
+
 -- each token starts within the text
 pub start_within : (at end i : ℕ) (ts : List Token) (t : Token) → AreInOrder at ts end → slice_get ts i ≡ Some t → t.start ≤ end
 start_within at end i [] t order is = cc
@@ -70,7 +75,7 @@ mark_length (m ∷ ms) bytes one all =
       | inr one ↦ mark_length ms bytes one both.1
     ]
 
-token_length : (kind : TokenKind) (bytes behind : List ℕ) → Stands (Some kind) bytes behind → 0 < length bytes
+pub token_length : (kind : TokenKind) (bytes behind : List ℕ) → Stands (Some kind) bytes behind → 0 < length bytes
 token_length Word bytes behind s = s.0
 token_length Half bytes behind s = run_length 49 bytes (47 ∷ 50 ∷ []) s.0
 token_length Text bytes behind s = run_length 34 bytes (s.0 ++ 34 ∷ []) s.1

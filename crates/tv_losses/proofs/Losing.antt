@@ -123,9 +123,6 @@ lists-nothing-is listing node count lt is = (
 
 -- ---- answers
 
-pub isnt-so : (P : Type 0) → ¬ P → IsTrue false ↔ P
-isnt-so P none = (λ e. absurd (true≢false (sym e)), λ h. absurd (none h))
-
 pub same-answer : (P Q : Type 0) (r : Bool) → IsTrue r ↔ P → P ↔ Q → IsTrue r ↔ Q
 same-answer P Q r tells same = (λ e. same.0 (tells.0 e), λ h. tells.1 (same.1 h))
 

@@ -2,13 +2,13 @@
 use Rattle.std.proofs.Common.{ℕ, ◌≡◌, ◌∙◌, ◌<◌, ◌≤◌, ◌+◌, ◌↔◌, List, [], ◌∷◌, length, map, take}
 use Rattle.std.proofs.Common.{Bool, true, false, true≢false, IsTrue}
 use Rattle.std.specs.Prelude.{unwrap_or}
-use Rattle.std.proofs.Common.{Option, None, Some, inl, inr, ⊎_elim, refl, sym, ap, subst, arith, eq-eqb}
-use Rattle.std.proofs.Common.{ne_eqb}
+use Rattle.std.proofs.Common.{Option, None, Some, ⊎_elim, refl, sym, subst, arith}
 use Rattle.std.proofs.Common.{get_or, add-one, All, Contains}
-use Rattle.std.specs.Prelude.{◌==◌, Any, IsSomeAnd, if◌then◌else◌}
+use Rattle.std.specs.Prelude.{Any}
 use Rattle.std.proofs.lemmas.Bool.{cases_eq}
 use Rattle.std.proofs.lemmas.List.Elements.{All-append, All-cons, All-contains, All-nil}
 use Rattle.std.proofs.Math.Seq.{take-suc}
+use Rattle.tv_model.proofs.Parts.{first-occurs}
 use Rattle.tv_eval.specs.AssignmentForm.{IsAssigned, individual_for, assignment_of}
 use Rattle.tv_eval.specs.Formulas.{AreAssigned}
 use Rattle.tv_eval.specs.ScratchForm.{ScratchForm, HasScratchFor, IsMadeFor, program_height}
@@ -20,7 +20,7 @@ use Rattle.tv_model.specs.Rules.{blank}
 use Rattle.tv_model.specs.Truth.{Assignment, put, put_all}
 use Rattle.tv_model.specs.Valid.{IsValid, IsAction, IsFormulaOver, IsPrecondition, IsPlainFormula, IsVariable}
 use Rattle.tv_model.specs.Valid.{first_occurrences, free_occurrences}
-use Rattle.tv_model.proofs.Lists.{All-from_contains, Contains-cases, Contains-flat_map}
+use Rattle.tv_model.proofs.Lists.{Contains-cases, Contains-flat_map}
 use Rattle.tv_model.proofs.Lists.{Contains-flat_map_back}
 use Rattle.tv_model.proofs.Lists.{Contains-map, Contains-map_back, Contains-none}
 use Rattle.tv_step_laws.specs.Shaped.{IsShaped}
@@ -30,8 +30,8 @@ use Rattle.tv_struct.proofs.Library.{Contains-range, below-range}
 use Rattle.tv_struct.specs.StructureForm.{StructureForm, arities_of, structure_of}
 use Rattle.tv_update.proofs.Variables.{picks-in_range}
 use Rattle.tv_update_laws.specs.Picks.{lists_of, precondition_value}
-use Rattle.tv_update_laws.proofs.Preconditions.{first-occurs, free-occurs}
-use Rattle.tv_losses_enabled.specs.Cases.{ArePicked, ArePickedBut}
+use Rattle.tv_update_laws.proofs.Preconditions.{free-occurs}
+use Rattle.tv_losses_enabled.specs.Cases.{ArePicked}
 use Rattle.tv_losses_enabled.specs.Enabled.{IsEnabled, IsEnabledAtHand, IsEnabledWith}
 
 -- ---- the precondition of an action of a valid program
@@ -106,32 +106,6 @@ module _ (action : ActionForm) (t : StructureForm) where
       (subst (λ ws. precondition_value (structure_of t) (put_all a (v ∷ vars) ws) action.pre ≡ Yes)
       (sym rest.2) sure))
 
-  -- all picked variables stand for individuals, where none is left
-  pub all-picked : (left : List ℕ) (places : List (Option ℕ)) → left ≡ []
-      → ArePickedBut action t left places → ArePicked action t places
-  all-picked left places none picked =
-      All-from_contains (IsAssigned t.size places) action.picks
-      (λ w at. ⊎_elim (λ there. absurd (Contains-none w (subst (λ vars. Contains vars w) none there)))
-      (λ assigned. assigned) (picked w at))
-
-  -- where an individual is put for the first variable that is left, one is left less
-  pub picked-with : (left : List ℕ) (v u : ℕ) (old new : List (Option ℕ))
-      → ((w : ℕ) → individual_for new w ≡ (if w == v then Some u else individual_for old w)) → u < t.size
-      → ArePickedBut action t (v ∷ left) old → ArePickedBut action t left new
-  picked-with left v u old new is inside known w picked =
-      ⊎_elim
-      (λ same. inr
-      (subst Assigned (sym (is w ∙ ap (λ b. if b then Some u else individual_for old w) (eq-eqb w v same))) inside))
-      (λ other. ⊎_elim
-      (λ among. ⊎_elim (λ e. absurd (other (sym e))) (λ later. inl later) (Contains-cases v w left among))
-      (λ own. inr
-      (subst Assigned (sym (is w ∙ ap (λ b. if b then Some u else individual_for old w) (ne_eqb w v other))) own))
-      (known w picked))
-      (cases_eq w v)
-    where
-      Assigned : Option ℕ → Type 0
-      Assigned o = IsSomeAnd o (λ x. x < t.size)
-
 -- an assignment of nobody is blank
 pub nobody-blank : (places : List (Option ℕ)) → ((v : ℕ) → individual_for places v ≡ None)
     → assignment_of places ≡ blank
@@ -141,9 +115,6 @@ nobody-blank places none = λ i v. unwrap_or (none v i) 0
 
 pub is-so : (P : Type 0) → P → IsTrue true ↔ P
 is-so P holds = (λ e. holds, λ h. refl)
-
-pub isnt-so : (P : Type 0) → ¬ P → IsTrue false ↔ P
-isnt-so P none = (λ e. absurd (true≢false (sym e)), λ h. absurd (none h))
 
 pub denied : (P : Type 0) (r : Bool) → IsTrue r ↔ P → r ≡ false → ¬ P
 denied P r tells isnt holds = true≢false (sym (tells.1 holds) ∙ isnt)

@@ -37,10 +37,6 @@ pub rest : {U E : Type 0} (r : Result U E) (old mid new a b : List ℕ) → mid 
 rest (Ok u) old mid new a b before is = is ∙ ap (λ xs. xs ++ b) before ∙ append_assoc old a b
 rest (Err e) old mid new a b before is = tt
 
--- a part behind another
-pub behind : (old mid new a b : List ℕ) → mid ≡ old ++ a → new ≡ mid ++ b → new ≡ old ++ (a ++ b)
-behind old mid new a b before is = is ∙ ap (λ xs. xs ++ b) before ∙ append_assoc old a b
-
 dropped : (xs : List ℕ) (k x : ℕ) → slice_get xs k ≡ Some x → drop k xs ≡ x ∷ drop (suc k) xs
 dropped [] k x at = absurd (none-some x at)
 dropped (y ∷ ys) zero x at = ap (λ z. z ∷ ys) (same_Some y x at)

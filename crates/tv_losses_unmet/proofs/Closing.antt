@@ -1,9 +1,10 @@
 -- The closed rules of one declaration are some of the program's.
-use Rattle.std.proofs.Common.{ℕ, ◌+◌, ◌≡◌, List, [], ◌∷◌, ◌++◌, map, Option, None, Some, refl, sym, ap}
+use Rattle.std.proofs.Common.{ℕ, ◌+◌, ◌≡◌, List, [], ◌∷◌, map, Option, None, Some, refl, sym, ap}
 use Rattle.std.proofs.Common.{subst, arith, All, slice_get, true, false, Bool, IsTrue, ◌↔◌, true≢false}
 use Rattle.std.specs.Prelude.{suc, zero, is_some, not}
 use Rattle.std.specs.List.{flat_map}
 use Rattle.std.proofs.lemmas.List.Elements.{All-nil, All-cons, All-head, All-tail, All-append, All-map}
+use Rattle.tv_lemmas.proofs.Lists.{All-right}
 use Rattle.tv_coerce.proofs.Lowering.{below-itself}
 use Rattle.tv_coerce.specs.Coerced.{CoercesTo}
 use Rattle.tv_model.specs.Program.{ProgramForm, PredForm, RuleForm}
@@ -25,10 +26,6 @@ closed-alone claim p = ap (λ rules. closed_set (map dropped_rule rules)) (base-
 
 -- ---- what holds of all closed rules
 
-All-second : {X : Type 0} (P : X → Type 0) (xs ys : List X) → All P (xs ++ ys) → All P ys
-All-second P [] ys all = all
-All-second P (x ∷ xs) ys all = All-second P xs ys (All-tail P x (xs ++ ys) all)
-
 apart : (P : RuleForm → Type 0) (bases : List RuleForm) → All P bases → All P (flat_map further_rules bases)
     → All (λ rule. P rule × All P (further_rules rule)) bases
 apart P [] all further = All-nil (λ rule. P rule × All P (further_rules rule))
@@ -36,13 +33,13 @@ apart P (rule ∷ bases) all further =
     All-cons (λ r. P r × All P (further_rules r)) rule bases
     (All-head P rule bases all, All-first P (further_rules rule) (flat_map further_rules bases) further)
     (apart P bases (All-tail P rule bases all)
-    (All-second P (further_rules rule) (flat_map further_rules bases) further))
+    (All-right P (further_rules rule) (flat_map further_rules bases) further))
 
 of-closed : (P : RuleForm → Type 0) (bases : List RuleForm) → All P (closed_set bases)
     → All (λ rule. P rule × All P (further_rules rule)) bases
 of-closed P bases all =
     apart P bases (All-first P bases (flat_map further_rules bases) all)
-    (All-second P bases (flat_map further_rules bases) all)
+    (All-right P bases (flat_map further_rules bases) all)
 
 to-closed : (P : RuleForm → Type 0) (bases : List RuleForm)
     → All (λ rule. P rule × All P (further_rules rule)) bases → All P (closed_set bases)
@@ -62,7 +59,7 @@ of-pred P n q zero (d ∷ preds) is all =
     here : q ≡ n
     here = omega (arith, is)
 of-pred P n q (suc j) (d ∷ preds) is all =
-    of-pred P n (suc q) j preds (omega (arith, is)) (All-second P (pred_rules q d) (rules_from (suc q) preds) all)
+    of-pred P n (suc q) j preds (omega (arith, is)) (All-right P (pred_rules q d) (rules_from (suc q) preds) all)
 
 of-rule : (P : RuleForm → Type 0) (rule : Option RuleForm) → ((r : RuleForm) → rule ≡ Some r → P r)
     → All P (listed rule)
@@ -75,7 +72,7 @@ of-claim P p (Predicate q) all =
     of-pred P q.0 0 q.0 p.preds (omega arith) (All-first P (rules_from 0 p.preds) p.rules all)
 of-claim P p (Rule number) all =
     of-rule P (slice_get p.rules number)
-    (λ r found. All-found P p.rules number r (All-second P (rules_from 0 p.preds) p.rules all) found)
+    (λ r found. All-found P p.rules number r (All-right P (rules_from 0 p.preds) p.rules all) found)
 
 pub also-alone : (P : RuleForm → Type 0) (p : ProgramForm) (claim : Claim) → All P (closed_rules p)
     → All P (closed_alone p claim)

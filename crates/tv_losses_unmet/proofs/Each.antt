@@ -1,12 +1,13 @@
 -- What is found of each of the structures.
 use Rattle.std.proofs.Common.{ℕ, ◌≡◌, ◌<◌, ◌≤◌, ◌+◌, ◌∙◌, IsTrue, List, [], ◌∷◌, ◌++◌, All, length}
-use Rattle.std.proofs.Common.{take, replicate, Option, None, Some, refl, sym, ap, subst, slice_get}
+use Rattle.std.proofs.Common.{take, replicate, Option, None, Some, sym, subst, slice_get}
 use Rattle.std.specs.Prelude.{suc, zero, is_some}
 use Rattle.std.specs.List.{AllZip}
 use Rattle.std.proofs.lemmas.List.{take_all, take_more}
 use Rattle.std.proofs.lemmas.List.Elements.{All-head, All-tail}
 use Rattle.std.proofs.lemmas.Option.{get_or_from_slice_get, none-some, same_Some}
 use Rattle.std.proofs.lemmas.Slice.Zip.{all_zipped_more}
+use Rattle.tv_lemmas.proofs.Zips.{zip_weaker}
 use Rattle.tv_struct.specs.StructureForm.{StructureForm}
 use Rattle.tv_losses_unmet.specs.Tried.{AreFoundBefore, IsFoundAt, IsFoundBefore, form_in}
 use Rattle.tv_losses_unmet.specs.Unmet.{AreFound, IsFoundOf}
@@ -16,12 +17,6 @@ use Rattle.tv_losses_unmet.specs.declared.claim.Claim.TheVariants.{Predicate, Ru
 use Rattle.tv_losses_unmet.proofs.First.{none-yet, preds-tried, rules-tried, some-at_last, some-before}
 
 module _ {X Y : Type 0} where
-  pub zip-length : (R : X → Y → Type 0) (xs : List X) (ys : List Y) → AllZip R xs ys → length xs ≡ length ys
-  zip-length R [] [] all = refl
-  zip-length R [] (y ∷ ys) all = absurd all
-  zip-length R (x ∷ xs) [] all = absurd all
-  zip-length R (x ∷ xs) (y ∷ ys) all = ap suc (zip-length R xs ys all.1)
-
   pub zip-at : (R : X → Y → Type 0) (xs : List X) (ys : List Y) (k : ℕ) (x : X) (y : Y) → AllZip R xs ys
       → slice_get xs k ≡ Some x → slice_get ys k ≡ Some y → R x y
   zip-at R [] ys k x y all at here = absurd (none-some x at)
@@ -29,13 +24,6 @@ module _ {X Y : Type 0} where
   zip-at R (z ∷ xs) (w ∷ ys) zero x y all at here =
       subst (λ a. R a y) (same_Some z x at) (subst (R z) (same_Some w y here) all.0)
   zip-at R (z ∷ xs) (w ∷ ys) (suc k) x y all at here = zip-at R xs ys k x y all.1 at here
-
-  pub zip-weaker : (R S : X → Y → Type 0) → ((x : X) (y : Y) → R x y → S x y) → (xs : List X) (ys : List Y)
-      → AllZip R xs ys → AllZip S xs ys
-  zip-weaker R S f [] [] all = tt
-  zip-weaker R S f [] (y ∷ ys) all = absurd all
-  zip-weaker R S f (x ∷ xs) [] all = absurd all
-  zip-weaker R S f (x ∷ xs) (y ∷ ys) all = (f x y all.0, zip-weaker R S f xs ys all.1)
 
   pub zip-where : (P : Y → Type 0) (R S : X → Y → Type 0) → ((x : X) (y : Y) → P y → R x y → S x y)
       → (xs : List X) (ys : List Y) → All P ys → AllZip R xs ys → AllZip S xs ys
@@ -105,12 +93,12 @@ module _ (x : Asked) where
   pub preds-all : (number : ℕ) (found : List (Option Claim)) → length x.program.now.vocab.preds ≤ number
       → AreFoundBefore x (Predicate (record { 0 = number })) found → AreFoundBefore x (Rule 0) found
   preds-all number found all before =
-      zip-weaker (IsFoundAt x (Predicate (record { 0 = number }))) (IsFoundAt x (Rule 0))
+      zip_weaker (IsFoundAt x (Predicate (record { 0 = number }))) (IsFoundAt x (Rule 0))
       (λ k c at s here. preds-tried x.program.now s number all c (at s here)) x.numbers.now found before
 
   pub rules-all : (number : ℕ) (found : List (Option Claim)) → length x.program.now.rules ≤ number
       → AreFoundBefore x (Rule number) found → AreFound (form_in x) x.structures.now x.numbers.now found
   rules-all number found all before =
-      zip-weaker (IsFoundAt x (Rule number))
+      zip_weaker (IsFoundAt x (Rule number))
       (IsFoundOf (form_in x) x.structures.now)
       (λ k c at s here. rules-tried x.program.now s number all c (at s here)) x.numbers.now found before

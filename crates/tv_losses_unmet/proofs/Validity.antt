@@ -6,15 +6,15 @@ use Rattle.std.specs.Prelude.{suc}
 use Rattle.std.proofs.lemmas.List.Elements.{All-nil, All-cons, All-head, All-tail}
 use Rattle.tv_model.specs.Form.{Form}
 use Rattle.tv_model.specs.Program.{ProgramForm, PredForm, KindForm, KCore, KDefined, HeadForm, HNever}
-use Rattle.tv_model.specs.Program.{HAtom, HSame, RuleForm, pred_of, program_of}
+use Rattle.tv_model.specs.Program.{HAtom, HSame, RuleForm, no_props, pred_of, program_of}
 use Rattle.tv_model.specs.Valid.{AreProperties, IsAction, IsEdge, IsFormulaOver, IsHead, IsKind, IsPred}
 use Rattle.tv_model.specs.Valid.{IsRank}
 use Rattle.tv_model.specs.Valid.{IsRule, IsValid, program_arities}
-use Rattle.tv_model.specs.declared.program.Pred.{Pred}
 use Rattle.tv_model.specs.declared.program.Program.{Program}
+use Rattle.tv_model.proofs.Parts.{arities-same}
 use Rattle.tv_rules.proofs.MetByHeaps.{All-found}
 use Rattle.tv_struct.specs.StructureForm.{StructureForm, IsOver}
-use Rattle.tv_losses_unmet.specs.Alone.{alone, idle, is_of, kept_pred, loop_edge, no_props, preds_alone}
+use Rattle.tv_losses_unmet.specs.Alone.{alone, idle, is_of, kept_pred, loop_edge, preds_alone}
 use Rattle.tv_losses_unmet.specs.Alone.{rules_alone}
 use Rattle.tv_losses_unmet.specs.Unmet.{listed}
 use Rattle.tv_losses_unmet.specs.declared.claim.Claim.{Claim}
@@ -143,15 +143,10 @@ alone-valid claim p valid =
       node_count = omega arith;
     }
 
--- a structure over the program's predicates is over those of this one
-same-arities : (preds : List Pred) → map (λ d. d.arity) (map pred_of preds) ≡ map (λ pred. pred.arity) preds
-same-arities [] = refl
-same-arities (pred ∷ preds) = ap (λ ns. pred.arity ∷ ns) (same-arities preds)
-
 pub alone-over : (claim : Claim) (program made : Program) (s : StructureForm)
     → program_of made ≡ alone claim (program_of program) → IsOver program.vocab s → IsOver made.vocab s
 alone-over claim program made s is over =
-    over ∙ sym (same-arities program.vocab.preds)
+    over ∙ sym (arities-same program.vocab.preds)
     ∙ sym (arities-alone claim 0 (map pred_of program.vocab.preds))
     ∙ sym (ap (λ (p : ProgramForm). map (λ d. d.arity) p.preds) is)
-    ∙ same-arities made.vocab.preds
+    ∙ arities-same made.vocab.preds

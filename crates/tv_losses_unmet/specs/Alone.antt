@@ -1,22 +1,11 @@
 -- The program that makes one declaration alone.
 use Rattle.std.specs.Prelude.{ℕ, suc, Bool, false, ◌==◌, List, [], ◌∷◌, None, slice_get, codes}
 use Rattle.std.specs.Prelude.{if◌then◌else◌}
-use Rattle.tv_model.specs.Program.{ProgramForm, PredForm, KCore, RuleForm, ActionForm}
+use Rattle.tv_model.specs.Program.{ProgramForm, PredForm, KCore, RuleForm, ActionForm, no_props}
 use Rattle.tv_model.specs.declared.program.Edge.{Edge}
-use Rattle.tv_model.specs.declared.program.Props.{Props}
 use Rattle.tv_losses_unmet.specs.Unmet.{listed}
 use Rattle.tv_losses_unmet.specs.declared.claim.Claim.{Claim}
 use Rattle.tv_losses_unmet.specs.declared.claim.Claim.TheVariants.{Predicate, Rule}
-
-abbrev pub no_props : Props
-no_props = record {
-  unique = false;
-  function = false;
-  invfunction = false;
-  transitive = false;
-  reflexive = false;
-  symmetric = false;
-}
 
 -- a predicate of which nothing is declared
 abbrev pub plain_pred : PredForm → PredForm

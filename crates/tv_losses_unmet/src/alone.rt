@@ -1,7 +1,7 @@
 //! The program that makes one declaration alone.
 
 ghost use Rattle.std.specs.Prelude.{◌≡◌, [], ◌∷◌, IfOk, OnOk, map, codes};
-ghost use Rattle.tv_model.specs.Program.{action_of, kind_of, pred_of, program_of, rule_of};
+ghost use Rattle.tv_model.specs.Program.{action_of, pred_of, program_of, rule_of};
 ghost use Rattle.tv_losses_unmet.specs.Alone.{alone, idle, kept_pred, loop_edge, plain_pred, preds_alone};
 ghost use Rattle.tv_losses_unmet.specs.Alone.{rules_alone};
 ghost use Rattle.tv_losses_unmet.specs.Tried.{IsOfRule};
@@ -10,56 +10,15 @@ ghost use Rattle.tv_losses_unmet.specs.declared.claim.Claim.TheVariants.{Rule as
 use crate::claim::Claim;
 use std::alloc::{AllocError, Global};
 use tv_model::{
-    Action, Actions, Bytes, Edge, Edges, Items, Kind, Names, Pred, Preds, Program, Props, Rule,
-    Rules, Vocab, copy,
+    Action, Actions, Bytes, Edge, Edges, Items, Kind, NO_PROPS, Names, Pred, Preds, Program, Rule,
+    Rules, Vocab, copy_bytes, copy_pred, copy_rule,
 };
-
-const NO_PROPS: Props = Props {
-    unique: false,
-    function: false,
-    invfunction: false,
-    transitive: false,
-    reflexive: false,
-    symmetric: false,
-};
-
-fn copied_name(alloc: Global, name: &Bytes) -> Result<Bytes, AllocError>
-    ensures { IfOk result (λ x. x ≡ name.now) }
-{
-    Ok(Bytes::from_vec(Vec::from_slice(alloc, name.as_slice())?))
-}
-
-fn copied_kind(alloc: Global, kind: &Kind) -> Result<Kind, AllocError>
-    ensures { IfOk result (λ x. kind_of x ≡ kind_of kind.now) }
-{
-    match kind {
-        Kind::Core => Ok(Kind::Core),
-        Kind::Defined { vars, body } => {
-            let body = copy(alloc, body)?;
-            Ok(Kind::Defined { vars: *vars, body })
-        }
-    }
-}
-
-fn copied_pred(alloc: Global, pred: &Pred) -> Result<Pred, AllocError>
-    ensures { IfOk result (λ x. pred_of x ≡ pred_of pred.now) }
-{
-    let name = copied_name(alloc, &pred.name)?;
-    let kind = copied_kind(alloc, &pred.kind)?;
-    Ok(Pred {
-        name,
-        arity: pred.arity,
-        kind,
-        abs: pred.abs,
-        props: pred.props,
-    })
-}
 
 /// The predicate without what is declared of it.
 fn plain_pred(alloc: Global, pred: &Pred) -> Result<Pred, AllocError>
     ensures { IfOk result (λ x. pred_of x ≡ plain_pred (pred_of pred.now)) }
 {
-    let name = copied_name(alloc, &pred.name)?;
+    let name = copy_bytes(alloc, &pred.name)?;
     Ok(Pred {
         name,
         arity: pred.arity,
@@ -73,7 +32,7 @@ fn kept_pred(alloc: Global, on: bool, pred: &Pred) -> Result<Pred, AllocError>
     ensures { IfOk result (λ x. pred_of x ≡ kept_pred on (pred_of pred.now)) }
 {
     if on {
-        copied_pred(alloc, pred)
+        copy_pred(alloc, pred)
     } else {
         plain_pred(alloc, pred)
     }
@@ -99,16 +58,6 @@ fn single<T: Drop>(alloc: Global, item: T) -> Result<Items<T>, AllocError>
     Ok(items)
 }
 
-fn copied_rule(alloc: Global, rule: &Rule) -> Result<Rule, AllocError>
-    ensures { IfOk result (λ x. rule_of x ≡ rule_of rule.now) }
-{
-    let body = copy(alloc, &rule.body)?;
-    Ok(Rule {
-        body,
-        head: rule.head,
-    })
-}
-
 /// The rule that the claim is, if it is one.
 fn rules_alone(alloc: Global, rules: &[Rule], claim: Claim) -> Result<Rules, AllocError>
     ensures { IfOk result (λ all. map rule_of all ≡ rules_alone claim (map rule_of rules.now)) }
@@ -118,7 +67,7 @@ fn rules_alone(alloc: Global, rules: &[Rule], claim: Claim) -> Result<Rules, All
     };
     match rules.get(number) {
         None => Ok(Items::new(alloc)),
-        Some(rule) => single(alloc, copied_rule(alloc, rule)?),
+        Some(rule) => single(alloc, copy_rule(alloc, rule)?),
     }
 }
 

@@ -3,6 +3,8 @@ pub mod Assignments
 pub mod Decided
 pub mod Heads
 pub mod Lists
+pub mod Ordered
+pub mod Parts
 pub mod Programs
 pub mod Quantifying
 pub mod Runs

@@ -136,6 +136,13 @@ Truth-local f h k a b alike agrees =
     })
     a b f (λ q m. m) (λ n. n) agrees
 
+-- truth in one heap depends only on the free variables
+pub truth-agreed : (h : Heap) (a b : Assignment) (f : Form) → ((v : ℕ) → IsFree v f → a v ≡ b v) → Truth h a f ↔ Truth h b f
+truth-agreed h a b f agrees =
+    Truth-local f h h a b
+    (record { individuals = λ u. (λ t. t, λ t. t); holds = λ q m us. (λ t. t, λ t. t); marks = λ named. refl })
+    agrees
+
 -- w is the individual that r makes of u
 abbrev pub IsRenamed : (ℕ → ℕ) → Heap → ℕ → ℕ → Type 0
 IsRenamed r h u w = Contains h.individuals u × (r u ≡ w)

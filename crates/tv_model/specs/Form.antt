@@ -1,5 +1,5 @@
 -- Formulas as mathematical values: what a `Formula` of the program says, without its boxes.
-use Rattle.std.specs.Prelude.{ℕ, ◌≡◌, ◌≢◌, ◌⊎◌, ◌+◌, max, List, [], ◌∷◌, Contains}
+use Rattle.std.specs.Prelude.{ℕ, ◌≡◌, ◌≢◌, ◌⊎◌, ◌+◌, ◌++◌, max, List, [], ◌∷◌, Contains}
 use Rattle.tv_model.specs.declared.formula.Terms.{Terms}
 use Rattle.tv_model.specs.declared.formula.Terms.TheVariants.{Zero as none, One as one, Two as two}
 use Rattle.tv_model.specs.declared.formula.Formula.{Formula}
@@ -76,6 +76,19 @@ Mentions p (FCond c f g) = Mentions p c ⊎ Mentions p f ⊎ Mentions p g
 Mentions p (FExists w f) = Mentions p f
 Mentions p (FForall w f) = Mentions p f
 Mentions p (FClosure from to left right f) = Mentions p f
+
+-- the predicates that the atoms of a formula have, in reading order, each as often as it stands there
+abbrev pub mentioned : Form → List ℕ
+mentioned (FAtom q vars) = q ∷ []
+mentioned (FNot f) = mentioned f
+mentioned (FAnd f g) = mentioned f ++ mentioned g
+mentioned (FOr f g) = mentioned f ++ mentioned g
+mentioned (FIff f g) = mentioned f ++ mentioned g
+mentioned (FCond c f g) = mentioned c ++ mentioned f ++ mentioned g
+mentioned (FExists v f) = mentioned f
+mentioned (FForall v f) = mentioned f
+mentioned (FClosure from to left right f) = mentioned f
+mentioned other = []
 
 -- the height of the formula's tree, 1 for a leaf
 abbrev pub height : Form → ℕ

@@ -2,6 +2,7 @@ pub mod Form
 pub mod Heap
 pub mod Laws
 pub mod Program
+pub mod PropertyForms
 pub mod Quantifiers
 pub mod Rules
 pub mod Run

@@ -1,7 +1,7 @@
 //! Questions about a formula's tree, and its copy.
 
-ghost use Rattle.std.specs.Prelude.{◌≡◌, ◌↔◌, ◌+◌, min, Contains, IsTrue, IfOk};
-ghost use Rattle.tv_model.specs.Form.{form_of, vars_of, IsFree, Mentions, height};
+ghost use Rattle.std.specs.Prelude.{◌≡◌, ◌↔◌, ◌+◌, ◌++◌, min, Contains, IsTrue, IfOk, OnOk};
+ghost use Rattle.tv_model.specs.Form.{form_of, vars_of, IsFree, Mentions, mentioned, height};
 ghost use Rattle.tv_model.specs.Quantifiers.{bound};
 
 use crate::quantifiers::{Binding, at_head, bound_by};
@@ -54,6 +54,31 @@ pub fn mentions(f: &Formula, p: PredId) -> bool
         }
         Formula::Cond(c, g, h) => mentions(c, p) || mentions(g, p) || mentions(h, p),
         Formula::Closure { body, .. } => mentions(body, p),
+    }
+}
+
+/// Puts the predicates of the formula's atoms behind the others, in reading order, each as often as it stands
+/// there.
+pub fn push_mentioned(f: &Formula, found: &mut Vec<u32>) -> Result<(), AllocError>
+    ensures { OnOk result (found.new.items ≡ found.old.items ++ mentioned (form_of f.now)) }
+{
+    match f {
+        Formula::Zero | Formula::One | Formula::IsNew(_) | Formula::Same(_, _) => Ok(()),
+        Formula::Atom(pred, _) => {
+            found.push(pred.0)?;
+            Ok(())
+        }
+        Formula::Not(g) | Formula::Exists(_, g) | Formula::Forall(_, g) => push_mentioned(g, found),
+        Formula::And(g, h) | Formula::Or(g, h) | Formula::Iff(g, h) => {
+            push_mentioned(g, found)?;
+            push_mentioned(h, found)
+        }
+        Formula::Cond(c, g, h) => {
+            push_mentioned(c, found)?;
+            push_mentioned(g, found)?;
+            push_mentioned(h, found)
+        }
+        Formula::Closure { body, .. } => push_mentioned(body, found),
     }
 }
 

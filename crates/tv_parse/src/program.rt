@@ -19,8 +19,8 @@ use crate::decls::{decls, end_in_formula};
 use crate::height::is_too_deep;
 use crate::kinds::expect_behind;
 use std::alloc::Global;
-use tv_formula::{spelling, spellings};
-use tv_lex::{Token, Tokens, stop_place};
+use tv_formula::spellings;
+use tv_lex::{Token, Tokens, stop_place, text};
 use tv_phrases::{
     Item, PhraseError, Read, SyntaxError, after, begins_item, begins_with, below, expect,
     identifier, optional_list, params, word,
@@ -28,7 +28,7 @@ use tv_phrases::{
 use tv_tree::trees::{ActionTrees, EdgeTree, EdgeTrees, Spellings, Tree};
 
 #[tactic(auto, unfolding(crate::specs::Reading::edge_reading))]
-fn edge<'a>(alloc: Global, bytes: &[u8], tokens: &'a [Token]) -> Read<'a, EdgeTree>
+fn edge<'a, 't>(alloc: Global, bytes: &'t [u8], tokens: &'a [Token]) -> Read<'a, EdgeTree<'t>>
     ensures { GivesReading (λ x. (edge_of x.0, spec_tokens bytes.now x.1.now)) result
         (edge_reading (spec_tokens bytes.now tokens.now)) }
 {
@@ -37,10 +37,10 @@ fn edge<'a>(alloc: Global, bytes: &[u8], tokens: &'a [Token]) -> Read<'a, EdgeTr
     let (words, end) = params(alloc, bytes, behind)?;
     let (target, rest) = word(bytes, end)?;
     let edge = EdgeTree {
-        from: spelling(alloc, bytes, &source)?,
-        action: spelling(alloc, bytes, &name)?,
+        from: text(bytes, &source),
+        action: text(bytes, &name),
         arguments: spellings(alloc, bytes, &words)?,
-        to: spelling(alloc, bytes, &target)?,
+        to: text(bytes, &target),
     };
     Ok((edge, rest))
 }
@@ -65,7 +65,7 @@ fn actions<'a>(alloc: Global, bytes: &[u8], tokens: &'a [Token]) -> Read<'a, Act
 }
 
 #[tactic(auto, using(tv_phrases::proofs::Repeats::many_end, tv_phrases::proofs::Repeats::many_break, tv_phrases::proofs::Repeats::many_out))]
-fn edges<'a>(alloc: Global, bytes: &[u8], tokens: &'a [Token]) -> Read<'a, EdgeTrees>
+fn edges<'a, 't>(alloc: Global, bytes: &'t [u8], tokens: &'a [Token]) -> Read<'a, EdgeTrees<'t>>
     ensures { GivesReading (λ x. (map edge_of x.0, spec_tokens bytes.now x.1.now)) result
         (edges_reading (spec_tokens bytes.now tokens.now)) }
 {
@@ -108,7 +108,11 @@ fn tail<'a>(
 }
 
 #[tactic(auto, using(tv_tree::proofs::Unfolds::decls_of_items), unfolding(crate::specs::Reading::program_reading))]
-fn program<'a>(alloc: Global, bytes: &[u8], tokens: &'a [Token]) -> Result<Tree, PhraseError<'a>>
+fn program<'a, 't>(
+    alloc: Global,
+    bytes: &'t [u8],
+    tokens: &'a [Token],
+) -> Result<Tree<'t>, PhraseError<'a>>
     ensures { GivesReading program_of result (program_reading (spec_tokens bytes.now tokens.now)) }
 {
     let (list, end) = decls(alloc, bytes, tokens)?;
@@ -129,7 +133,11 @@ fn program<'a>(alloc: Global, bytes: &[u8], tokens: &'a [Token]) -> Result<Tree,
 /// are refused first. The place of a refusal is that of the first token that no continuation of the grammar
 /// allows, or of the end of the text. Calls nest as deep as constructs are open.
 #[tactic(auto, using(tv_lex::proofs::PlaceLemmas::reads_order, crate::proofs::ProgramLaws::read_is_program, crate::proofs::ProgramLaws::unread_is_none))]
-pub fn parse_program(alloc: Global, bytes: &[u8], tokens: &Tokens) -> Result<Tree, SyntaxError>
+pub fn parse_program<'t>(
+    alloc: Global,
+    bytes: &'t [u8],
+    tokens: &Tokens,
+) -> Result<Tree<'t>, SyntaxError>
     requires size { length bytes.now ≤ longest_text }
     requires read { Reads bytes.now (Ok tokens.now.list.items) }
     ensures tree { IfOk result (λ t. IsProgram (spec_tokens bytes.now tokens.now.list.items) (program_of t)) }

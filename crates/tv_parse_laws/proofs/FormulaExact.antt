@@ -1,6 +1,7 @@
 -- Tokens off whose front a formula was read are the printed tokens of the formula, and those behind it.
 use Rattle.std.proofs.Common.{◌≡◌, ℕ, List, [], ◌∷◌, ◌++◌, Some, refl, sym, ◌∙◌, ap, subst, append_assoc}
 use Rattle.std.specs.Prelude.{codes}
+use Rattle.tv_lemmas.proofs.Lists.{nothing_added}
 use Rattle.tv_lex.specs.Token.{SpecToken}
 use Rattle.tv_phrases.specs.Tokens.{after, first, text_item}
 use Rattle.tv_phrases.proofs.Facts.{on_bind, on_choose, at_some}
@@ -94,10 +95,6 @@ by_link And ts f rest h = h
 operand_exact : (link : Link) (part : Production) (ts : List SpecToken) (f : Form) (rest : List SpecToken) → operand link ≡ part → Exactly part ts f rest → Exact ts (formula_tokens f) rest
 operand_exact link part ts f rest e = subst (λ (q : Production). Exactly q ts f rest → Exact ts (formula_tokens f) rest) e (by_link link ts f rest)
 
-append_nil : {T : Type 0} (xs : List T) → xs ≡ xs ++ []
-append_nil [] = refl
-append_nil (x ∷ xs) = ap (λ ys. x ∷ ys) (append_nil xs)
-
 -- a left part and what stands behind it are the whole
 behind_exact : (f g : Form) (ts us rest : List SpecToken) → Exact ts (formula_tokens f) us → ExactBehind f us g rest → Exact ts (formula_tokens g) rest
 behind_exact f g ts us rest a (more, e, b) = subst (λ (ws : List (List ℕ)). Exact ts ws rest) (sym e) (exact_then ts us rest (formula_tokens f) more a b)
@@ -128,7 +125,7 @@ reads_exact _ _ _ _ (further link part ts us vs rest f g both h a b c d e) are =
     let mark = after_exact (mark_of link) ts us a are in
     let right = operand_exact link part us g vs b (reads_exact part us vs g c mark.1) in
     further_exact link f g both h ts us vs rest mark right d (reads_exact (Behind link both) vs rest h e right.1)
-reads_exact _ _ _ _ (no_further link ts f a) are = ([], append_nil (formula_tokens f), (refl, are))
+reads_exact _ _ _ _ (no_further link ts f a) are = ([], nothing_added (formula_tokens f), (refl, are))
 reads_exact _ _ _ _ (imp ts us vs rest f g a b c) are =
     let left = reads_exact (Joined Or) ts us f a are in
     let mark = exact_arrow us left.1 vs b in

@@ -10,6 +10,7 @@ use Rattle.tv_lex.specs.declared.token.Token.{Token}
 use Rattle.tv_lex.specs.declared.token.TokenKind.{TokenKind}
 use Rattle.tv_lex.specs.declared.token.TokenKind.TheVariants as kind
 use Rattle.tv_lex.proofs.PieceTokens.{spec_tokens-placed}
+use Rattle.tv_lex.proofs.PlaceLemmas.{token_length}
 use Rattle.tv_parse_laws.specs.ReadAgain.{Kept, all_kept, one_kept, mark_left}
 use Rattle.tv_parse_laws.proofs.LaidOut.{IsLaidOut}
 
@@ -50,18 +51,9 @@ one_some (m ∷ ms) w all (inr later) = one_some ms w all.1 later
 marks_some : AllByRecursion (λ m. 0 < length m) punctuations
 marks_some = (omega arith, (omega arith, (omega arith, (omega arith, (omega arith, (omega arith, (omega arith, (omega arith, (omega arith, (omega arith, (omega arith, (omega arith, (omega arith, (omega arith, (omega arith, (omega arith, (omega arith, (omega arith, (omega arith, (omega arith, (omega arith, tt)))))))))))))))))))))
 
--- no token is empty
-token_some : (k : TokenKind) (b behind : List ℕ) → Stands (Some k) b behind → 0 < length b
-token_some kind.Word b behind s = s.0
-token_some kind.Half b behind s = subst (λ (v : List ℕ). 0 < length v) (sym s.0) (omega arith)
-token_some kind.Text b behind s = subst (λ (v : List ℕ). 0 < length v) (sym s.1) (omega arith)
-token_some kind.Directive b behind s = subst (λ (v : List ℕ). 0 < length v) (sym s.1) (omega arith)
-token_some kind.Parts b behind s = subst (λ (v : List ℕ). 0 < length v) (sym s) (omega arith)
-token_some kind.Punct b behind s = one_some punctuations b marks_some s
-
 piece_width : (k : Option TokenKind) (b behind : List ℕ) (ts : List SpecToken) (n : ℕ) → Stands k b behind → width ts ≤ 2 * n → width (piece_token k b ++ ts) ≤ 2 * (length b + n)
 piece_width None b behind ts n s le = omega (arith, le)
-piece_width (Some k) b behind ts n s le = omega (arith, le, token_some k b behind s)
+piece_width (Some k) b behind ts n s le = omega (arith, le, token_length k b behind s)
 
 pieces_width : (ps : List Piece) (rest : List ℕ) → AllFit ps rest → width (piece_tokens ps) ≤ 2 * length (joined_pieces ps)
 pieces_width [] rest fit = omega arith

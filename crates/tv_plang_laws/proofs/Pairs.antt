@@ -10,7 +10,7 @@ use Rattle.std.proofs.lemmas.List.Elements.{Contains-append_cases, Contains-appe
 use Rattle.std.proofs.lemmas.List.Elements.{Contains-append_right, filter_passes}
 use Rattle.std.proofs.lemmas.List.Kept.{AllPairs-cons, AllPairs-filter}
 use Rattle.tv_model.specs.Valid.{first_occurrences, without}
-use Rattle.tv_model.proofs.Lists.{All-from_contains, Contains-cases, Contains-filter, Contains-filter_back}
+use Rattle.tv_model.proofs.Lists.{All-from_contains, Contains-cases, Contains-filter_back}
 use Rattle.tv_model.proofs.Lists.{Contains-here, Contains-none, Contains-there}
 
 pub pairs-head : {X : Type 0} (R : X → X → Type 0) (x : X) (xs : List X) → AllPairs R (x ∷ xs) → All (R x) xs
@@ -116,19 +116,6 @@ occurrences-differ (v ∷ xs) =
     (All-weaker (λ w. not (eqb w v) ≡ true) (λ w. v ≢ w) (λ w pass e. passes v w pass (sym e)) (without v (first_occurrences xs))
     (filter_passes (λ w. not (eqb w v)) (first_occurrences xs)))
     (AllPairs-filter ◌≢◌ (λ w. not (eqb w v)) (first_occurrences xs) (occurrences-differ xs))
-
-pub among-occurrences : (xs : List ℕ) (x : ℕ) → Contains xs x → Contains (first_occurrences xs) x
-among-occurrences [] x at = at
-among-occurrences (v ∷ xs) x at =
-    ⊎_elim
-    (λ e. let Of : ℕ → Type 0 = λ w. Contains (v ∷ without v (first_occurrences xs)) w
-    in subst Of e (Contains-here v (without v (first_occurrences xs))))
-    (λ ne. ⊎_elim (λ e. absurd (ne e))
-    (λ there. Contains-there v x (without v (first_occurrences xs))
-    (Contains-filter (λ w. not (eqb w v)) (first_occurrences xs) x (among-occurrences xs x there)
-    (ap not (ne_eqb x v (λ e. ne (sym e))))))
-    (Contains-cases v x xs at))
-    (cases_eq v x)
 
 pub occurrences-among : (xs : List ℕ) (x : ℕ) → Contains (first_occurrences xs) x → Contains xs x
 occurrences-among [] x at = at

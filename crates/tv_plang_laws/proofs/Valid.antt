@@ -15,6 +15,7 @@ use Rattle.tv_model.specs.Spelling.{IsWord}
 use Rattle.tv_model.specs.declared.program.Edge.{Edge}
 use Rattle.tv_model.proofs.Lists.{All-from_contains, Contains-cases, Contains-flat_map}
 use Rattle.tv_model.proofs.Lists.{Contains-flat_map_back, Contains-here, Contains-none, Contains-there}
+use Rattle.tv_model.proofs.Parts.{first-occurs}
 use Rattle.tv_source.specs.Forms.{SourceForm, Stmt, SAssign, SIf, SWhile, Stmts, no_stmts, with_stmt}
 use Rattle.tv_source.specs.Valid.{AreStmtsOf, HasStmts, IsDeclarable, IsFieldOf, IsSource, IsStmtOf}
 use Rattle.tv_source.specs.Valid.{IsVariableOf}
@@ -26,7 +27,7 @@ use Rattle.tv_plang_laws.specs.Positions.{count, count_all, last}
 use Rattle.tv_plang_laws.proofs.Formulas.{assign-valid, leads-formula, one-own, points-formula, test-valid}
 use Rattle.tv_plang_laws.proofs.Names.{declared-name, names-apart, node-apart, node-is_word, reach-is_name}
 use Rattle.tv_plang_laws.proofs.Names.{reach-not_new, reach-not_sm}
-use Rattle.tv_plang_laws.proofs.Pairs.{occurrences-among, occurrences-differ, among-occurrences, pairs-map}
+use Rattle.tv_plang_laws.proofs.Pairs.{occurrences-among, occurrences-differ, pairs-map}
 use Rattle.tv_plang_laws.proofs.Pairs.{pairs-weaker, place-below}
 use Rattle.tv_plang_laws.proofs.Predicates.{PredAt, of_variable, of_field, of_reach, pred-at}
 
@@ -244,7 +245,7 @@ edges-length p i (a ∷ all) = let later = edges-length p (i + 1) all in omega (
 position-listed : (p : SourceForm) (a : Arc) → Contains (program_arcs p) a → (k : ℕ) → Contains (ends a) k → node_at p k < length (node_positions p)
 position-listed p a at k end =
     place-below k (node_positions p)
-    (among-occurrences (flat_map ends (program_arcs p)) k (Contains-flat_map ends (program_arcs p) a k at end))
+    (first-occurs (flat_map ends (program_arcs p)) k (Contains-flat_map ends (program_arcs p) a k at end))
 
 edges-valid : (p : SourceForm) (n i : ℕ) (all : List Arc) → ((a : Arc) → Contains all a → (node_at p a.from < n) × (node_at p a.to < n))
     → (edge : Edge) → Contains (edges_between (node_positions p) i all) edge → (edge.from < n) × (edge.to < n) × (edge.action < i + length all)

@@ -1,4 +1,7 @@
 pub mod Deepest
-pub mod Quantifying
-pub mod Running
+pub mod Filled
+pub mod Keeping
 pub mod Opening
+pub mod Quantifying
+pub mod RowLaws
+pub mod Running

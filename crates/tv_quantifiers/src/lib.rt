@@ -4,13 +4,17 @@
 mod edges;
 mod height;
 mod order;
+mod parts;
 mod quantifier;
+mod relation;
 mod runs;
 mod variables;
 
 pub use edges::{Edges, are_same, has_outer};
 pub use height::program_height;
 pub use order::{has_few, is_slower};
+pub use parts::{Parts, lone};
 pub use quantifier::Quantifier;
+pub use relation::{Part, Relation};
 pub use runs::{Level, Levels, advance, begins_long_run, opened};
 pub use variables::{Variables, is_literal_without};

@@ -1,14 +1,13 @@
 -- What judging asks for.
-use Rattle.std.proofs.Common.{ℕ, ◌≡◌, ◌<◌, List, [], length, sym, subst, ◌∙◌, All, arith}
+use Rattle.std.proofs.Common.{ℕ, ◌≡◌, ◌<◌, List, [], length, sym, subst, ◌∙◌, All}
 use Rattle.std.specs.Prelude.{◌^◌}
 use Rattle.std.proofs.lemmas.List.Elements.{All-contains, All-get_or}
 use Rattle.tv_eval.specs.ScratchForm.{ScratchForm}
 use Rattle.tv_replay_judge.specs.Ready.{IsReadyToEvaluate}
 use Rattle.tv_listing.specs.ListingForm.{at_node}
-use Rattle.tv_model.specs.Program.{ProgramForm, PredForm, pred_of}
-use Rattle.tv_model.specs.declared.program.Edge.{Edge}
+use Rattle.tv_model.specs.Program.{PredForm, pred_of}
 use Rattle.tv_model.proofs.Lists.{map-compose, slice_get-contains}
-use Rattle.tv_model.specs.Valid.{IsEdge, IsValid}
+use Rattle.tv_model.specs.Valid.{IsEdge}
 use Rattle.tv_replay_laws.specs.States.{standing}
 use Rattle.tv_replay_laws.specs.declared.state.State.{State}
 use Rattle.tv_replay_step.specs.Stepped.{IsMoved}
@@ -55,10 +54,3 @@ moved-at judge scratch can move before at m made = record {
   two_valued = made.moves.next.two_valued;
   unmarked = made.moves.unmarked;
 }
-
--- a valid program has a start node
-pub some-node : (p : ProgramForm) → IsValid p → 0 < length p.nodes
-some-node p valid =
-    let d : Edge = record { from = 0; action = 0; to = 0 }
-    in let from = (All-get_or (IsEdge p) p.edges 0 d valid.some_edge valid.edges).0
-    in omega (arith, from)

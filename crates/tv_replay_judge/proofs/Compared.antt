@@ -1,17 +1,13 @@
 -- Values of predicates, row by row.
 use Rattle.std.proofs.Common.{ℕ, ◌≡◌, ◌<◌, ◌↔◌, inl, ⊎_elim, eq-eqb, List, [], ◌∷◌, length, map, get_or}
-use Rattle.std.proofs.Common.{Option, Some, None, unwrap_or, refl, sym, ap, subst, ◌∙◌, arith, Less, Equal}
-use Rattle.std.proofs.Common.{Greater}
+use Rattle.std.proofs.Common.{Option, Some, None, unwrap_or, refl, sym, ap, subst, ◌∙◌, arith}
 use Rattle.std.specs.Prelude.{Contains, IsSomeAnd, if◌then◌else◌, ◌==◌}
 use Rattle.std.specs.List.{range_with_len}
-use Rattle.std.specs.Cmp.Lexicographic.{slice_cmp}
-use Rattle.std.specs.Ordering.{ordering_then}
-use Rattle.std.specs.declared.cmp.Ordering.{Ordering}
 use Rattle.std.proofs.lemmas.List.FromFn.{get_or-map-range_with_len}
 use Rattle.tv_kleene.specs.declared.K3.{K3}
 use Rattle.tv_kleene.specs.declared.K3.TheVariants.{No, Half, Yes}
-use Rattle.tv_row.specs.Bits.{value_cmp}
-use Rattle.tv_row.proofs.Compare.{same_lists_tie, value_tied}
+use Rattle.tv_kleene.proofs.Lattice.{same-definite}
+use Rattle.tv_two_valued.proofs.Tuples.{no-members, one-member, two-members}
 use Rattle.tv_update_laws.proofs.Puts.{put_all-goes}
 use Rattle.tv_eval.specs.Along.{values_along}
 use Rattle.tv_eval.specs.AssignmentForm.{IsAssigned, assignment_of, individual_for}
@@ -37,45 +33,6 @@ use Rattle.tv_replay_judge.specs.Same.{HasSameValues, HasValuesOf, CanCompare}
 
 -- ---- equal rows
 
-value-exact : (x y : K3) → value_cmp x y ≡ Equal → x ≡ y
-value-exact No No e = refl
-value-exact No Half e = absurd (cc e)
-value-exact No Yes e = absurd (cc e)
-value-exact Half No e = absurd (cc e)
-value-exact Half Half e = refl
-value-exact Half Yes e = absurd (cc e)
-value-exact Yes No e = absurd (cc e)
-value-exact Yes Half e = absurd (cc e)
-value-exact Yes Yes e = refl
-
-both-equal : (a b : Ordering) → ordering_then a b ≡ Equal → (a ≡ Equal) × (b ≡ Equal)
-both-equal Less b e = absurd (cc e)
-both-equal Equal b e = (refl, e)
-both-equal Greater b e = absurd (cc e)
-
-pub rows-exact : (xs ys : List K3) → slice_cmp value_cmp xs ys ≡ Equal → xs ≡ ys
-rows-exact [] [] e = refl
-rows-exact [] (y ∷ ys) e = absurd (cc e)
-rows-exact (x ∷ xs) [] e = absurd (cc e)
-rows-exact (x ∷ xs) (y ∷ ys) e =
-    let both : (value_cmp x y ≡ Equal) × (slice_cmp value_cmp xs ys ≡ Equal) = both-equal (value_cmp x y) (slice_cmp value_cmp xs ys) e
-    in ap (λ z. z ∷ xs) (value-exact x y both.0) ∙ ap (λ zs. y ∷ zs) (rows-exact xs ys both.1)
-
-pub rows-tie : (xs ys : List K3) → xs ≡ ys → slice_cmp value_cmp xs ys ≡ Equal
-rows-tie xs ys e = subst (λ zs. slice_cmp value_cmp xs zs ≡ Equal) e (same_lists_tie value_cmp value_tied xs)
-
-pub apart-less : (xs ys : List K3) → slice_cmp value_cmp xs ys ≡ Less → xs ≡ ys → ⊥
-apart-less xs ys is same = clash (sym is ∙ rows-tie xs ys same)
-  where
-    clash : Less ≡ Equal → ⊥
-    clash e = cc
-
-pub apart-greater : (xs ys : List K3) → slice_cmp value_cmp xs ys ≡ Greater → xs ≡ ys → ⊥
-apart-greater xs ys is same = clash (sym is ∙ rows-tie xs ys same)
-  where
-    clash : Greater ≡ Equal → ⊥
-    clash e = cc
-
 -- two rows are equal where they agree at each place
 same-row : (n : ℕ) (f g : ℕ → K3) → map f (range_with_len 0 n) ≡ map g (range_with_len 0 n) ↔ ((u : ℕ) → u < n → f u ≡ g u)
 same-row n f g = (
@@ -83,23 +40,6 @@ same-row n f g = (
       ∙ get_or-map-range_with_len g 0 n u u No lt (omega arith),
   λ each. map-agreed f g (range_with_len 0 n) (λ u at. each u (below-range n u at)),
 )
-
--- ---- tuples
-
-no-members : (P : List ℕ → Type 0) → P [] → (tuple : List ℕ) → length tuple ≡ 0 → P tuple
-no-members P none [] long = none
-no-members P none (u ∷ us) long = absurd (omega (arith, long))
-
-one-member : (P : List ℕ → Type 0) → ((u : ℕ) → P (u ∷ [])) → (tuple : List ℕ) → length tuple ≡ 1 → P tuple
-one-member P each [] long = absurd (omega (arith, long))
-one-member P each (u ∷ []) long = each u
-one-member P each (u ∷ w ∷ us) long = absurd (omega (arith, long))
-
-two-members : (P : List ℕ → Type 0) → ((u w : ℕ) → P (u ∷ w ∷ [])) → (tuple : List ℕ) → length tuple ≡ 2 → P tuple
-two-members P each [] long = absurd (omega (arith, long))
-two-members P each (u ∷ []) long = absurd (omega (arith, long))
-two-members P each (u ∷ w ∷ []) long = each u w
-two-members P each (u ∷ w ∷ x ∷ us) long = absurd (omega (arith, long))
 
 -- ---- the same values in two structures
 
@@ -201,15 +141,6 @@ module _ (s : StructureForm) (q : ℕ) (f : Form) where
       both u = same-row s.size (λ x. value (structure_of s) (put (put blank v u) w x) f) (λ x. value_at s q (u ∷ x ∷ []))
 
 -- ---- a definition's values, and where it is true
-
-same-definite : (x y : K3) → (x ≡ Half → ⊥) → (y ≡ Half → ⊥) → x ≡ Yes ↔ y ≡ Yes → x ≡ y
-same-definite No No p q e = refl
-same-definite No Half p q e = absurd (q refl)
-same-definite No Yes p q e = e.1 refl
-same-definite Half y p q e = absurd (p refl)
-same-definite Yes No p q e = sym (e.0 refl)
-same-definite Yes Half p q e = absurd (q refl)
-same-definite Yes Yes p q e = refl
 
 module _ (s : StructureForm) (room : ScratchForm) (q : ℕ) (vars : List ℕ) (f : Form) (can : CanCompare s room q vars f) where
   tells : (tuple : List ℕ) → length tuple ≡ length vars → AreIndividuals s.size tuple → TellsTruthOf s (put_all blank vars tuple) f

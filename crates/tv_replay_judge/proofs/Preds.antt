@@ -1,16 +1,17 @@
 -- Predicates of a program, one after the other.
 use Rattle.std.proofs.Common.{ℕ, ◌≡◌, ◌<◌, ◌≤◌, ◌+◌, ◌⊎◌, ◌↔◌, inl, inr, Bool, true, false, IsTrue, List}
-use Rattle.std.proofs.Common.{length, map, get_or, Option, Some, None, refl, sym, ap, subst, ◌∙◌, arith}
+use Rattle.std.proofs.Common.{length, map, get_or, Some, None, refl, sym, ap, subst, ◌∙◌, arith}
 use Rattle.std.specs.Prelude.{is_some, slice_get}
 use Rattle.std.specs.Option.{option_map}
 use Rattle.std.proofs.lemmas.Bool.{cases_lt, false≢true}
 use Rattle.std.proofs.lemmas.List.{length-map}
 use Rattle.std.proofs.lemmas.List.Elements.{All-contains}
 use Rattle.std.proofs.lemmas.Option.{slice_get-map, slice_get-get_or, slice_get_within}
+use Rattle.tv_lemmas.proofs.Options.{some_value}
 use Rattle.tv_eval.specs.ScratchForm.{ScratchForm, program_height}
 use Rattle.tv_eval.proofs.Programs.{within_height}
 use Rattle.tv_model.specs.Form.{Form, height}
-use Rattle.tv_model.specs.Program.{PredForm, KindForm, KCore, KDefined, ActionForm, UpdateForm, ProgramForm}
+use Rattle.tv_model.specs.Program.{PredForm, KindForm, KCore, KDefined, ActionForm, ProgramForm}
 use Rattle.tv_model.specs.Program.{kind_of, pred_of}
 use Rattle.tv_model.specs.Heap.{Heap, Holds, IsTuple}
 use Rattle.tv_model.specs.Rules.{MeetsDefinition, blank}
@@ -63,10 +64,6 @@ below-broken preds P n pred below is before fails = (
 
 -- ---- a defined predicate that is updated
 
-some-update : (o : Option UpdateForm) → is_some o ≡ true → (w : UpdateForm) × (o ≡ Some w)
-some-update None e = absurd (false≢true e)
-some-update (Some w) e = (w, refl)
-
 defined-not_core : (kind : KindForm) (vars : List ℕ) (body : Form) → kind ≡ KDefined vars body → ¬ (kind ≡ KCore)
 defined-not_core kind vars body is core = apart (sym is ∙ core)
   where
@@ -79,7 +76,7 @@ pub same-at : (action : ActionForm) (given new : StructureForm) (q : ℕ) (d : P
 same-at action given new q d vars body b kind updated same = (
   λ t defined w found. same.0 t,
   λ at.
-      let some = some-update (update_for q action.updates) updated
+      let some = some_value (update_for q action.updates) updated
       in same.1 (at (defined-not_core d.kind vars body kind) some.0 some.1),
 )
 

@@ -10,16 +10,9 @@ use Rattle.tv_model.specs.Truth.{Assignment, Truth, put}
 use Rattle.tv_model.proofs.Assignments.{put-same, put-other}
 use Rattle.tv_model.proofs.Heads.{free-in_head, in-head_free}
 use Rattle.tv_model.proofs.Lists.{Contains-here, Contains-there, Contains-cases, Contains-none}
-use Rattle.tv_model.proofs.Truths.{Truth-local}
+use Rattle.tv_model.proofs.Truths.{truth-agreed}
 use Rattle.tv_replay_judge.specs.Trying.{ImplicationForm, tried_rule, IsFreeIn, GoesOn, IsRuledOut, IsGranted}
 use Rattle.tv_replay_judge.specs.Trying.{IsMetUnder, IsMetFrom}
-
--- truth in one heap depends only on the free variables
-truth-agreed : (h : Heap) (a b : Assignment) (f : Form) → ((v : ℕ) → IsFree v f → a v ≡ b v) → Truth h a f ↔ Truth h b f
-truth-agreed h a b f agrees =
-    Truth-local f h h a b
-    (record { individuals = λ u. (λ t. t, λ t. t); holds = λ q m us. (λ t. t, λ t. t); marks = λ named. refl })
-    agrees
 
 -- ---- what is ruled out
 

@@ -6,6 +6,7 @@ use Rattle.std.specs.Prelude.{All, Contains, IsSomeAnd, Some, if◌then◌else�
 use Rattle.std.proofs.lemmas.Bool.{cases_lt, cases_eq, false≢true}
 use Rattle.std.proofs.lemmas.List.{map_push, take_more}
 use Rattle.std.proofs.lemmas.List.Elements.{All-push, All-tail}
+use Rattle.tv_coerce_members.specs.Members.{numbers_of}
 use Rattle.tv_eval.specs.AssignmentForm.{IsAssigned, assignment_of, individual_for}
 use Rattle.tv_eval.specs.Formulas.{AreAssigned}
 use Rattle.tv_eval.specs.declared.evaluator.Evaluator.{Evaluator}
@@ -20,7 +21,7 @@ use Rattle.tv_two_valued.specs.TwoValued.{heap_of}
 use Rattle.tv_two_valued.proofs.Heaps.{heap-told}
 use Rattle.tv_two_valued.proofs.Truths.{from-assigned}
 use Rattle.tv_replay_judge.specs.Trying.{ImplicationForm, IsFreeIn, ArePlaced, IsCheckStart, IsMetFrom}
-use Rattle.tv_replay_judge.specs.Trying.{IsMetUnder, StaysBound, numbers_of}
+use Rattle.tv_replay_judge.specs.Trying.{IsMetUnder, StaysBound}
 use Rattle.tv_replay_judge.proofs.Tried.{met-none, met-each}
 
 -- ---- variables, one after the other

@@ -1,5 +1,5 @@
 -- How a rule is tried in a heap: its variables get individuals one after the other.
-use Rattle.std.specs.Prelude.{ℕ, ◌≡◌, ◌≢◌, ◌<◌, ◌⊎◌, List, length, map, Option, All, Contains, slice_index_or}
+use Rattle.std.specs.Prelude.{ℕ, ◌≡◌, ◌≢◌, ◌<◌, ◌⊎◌, List, length, Option, All, Contains, slice_index_or}
 use Rattle.tv_eval.specs.AssignmentForm.{IsAssigned}
 use Rattle.tv_eval.specs.Bound.{IsBound, bound_structure, bound_room}
 use Rattle.tv_eval.specs.ScratchForm.{ScratchForm, HasScratchFor}
@@ -12,7 +12,6 @@ use Rattle.tv_model.specs.Program.{RuleForm}
 use Rattle.tv_model.specs.Rules.{head_formula}
 use Rattle.tv_model.specs.Truth.{Assignment, Truth}
 use Rattle.tv_model.specs.Valid.{IsFormulaOver}
-use Rattle.tv_model.specs.declared.formula.Var.{Var}
 use Rattle.tv_struct.specs.StructureForm.{StructureForm, IsStructure, arities_of}
 use Rattle.tv_two_valued.specs.TwoValued.{IsTwoValued}
 use Rattle.tv_replay_judge.specs.declared.trial.Implication.{Implication}
@@ -27,9 +26,6 @@ implication_of t = record { body = form_of t.body.now; head = form_of t.head.now
 
 abbrev pub tried_rule : RuleForm → ImplicationForm
 tried_rule rule = record { body = rule.body; head = head_formula rule.head }
-
-abbrev pub numbers_of : List Var → List ℕ
-numbers_of vars = map (λ v. v.0) vars
 
 -- the variable is free in the rule
 abbrev pub IsFreeIn : ℕ → ImplicationForm → Type 0

@@ -12,7 +12,7 @@ ghost use Rattle.tv_replay_judge.specs.Ready.{IsReadyToEvaluate};
 ghost use Rattle.tv_replay_judge.specs.Same.{CanCompare, CanCompareKind, HasValuesOf};
 ghost use Rattle.tv_replay_judge.specs.Trying.{StaysBound};
 
-use crate::rows::{are_equal, are_same};
+use crate::values::are_equal;
 use tv_eval::{Assignment, Evaluator, Scratch};
 use tv_model::{Formula, Kind, Pred, PredId, Program, Terms, Var};
 use tv_struct::{Structure, Table, Tuple};
@@ -34,7 +34,7 @@ fn has_values_at_pairs<'a>(
 {
     for u in 0..s.size() {
         let row = evaluator.row(f, w, &Assignment::new().with(v, u));
-        if !are_same(&row, &s.row(p, u)) {
+        if !row.equals(&s.row(p, u)) {
             return false;
         }
     }
@@ -58,7 +58,7 @@ fn has_values<'a>(
     let none = Assignment::new();
     match vars {
         Terms::Zero => are_equal(evaluator.value(f, &none), s.get(p, Tuple::Zero)),
-        Terms::One(v) => are_same(&evaluator.row(f, v, &none), &s.unary_row(p)),
+        Terms::One(v) => evaluator.row(f, v, &none).equals(&s.unary_row(p)),
         Terms::Two(v, w) => has_values_at_pairs(s, evaluator, p, v, w, f),
     }
 }

@@ -11,7 +11,7 @@ ghost use Rattle.tv_struct.specs.StructureRows.{HasArity};
 ghost use Rattle.tv_replay_laws.specs.Judged.{IsFirst};
 ghost use Rattle.tv_replay_judge.specs.Same.{HasSameValues, HasVariables, IsSameAt};
 
-use crate::rows::{are_equal, are_same};
+use crate::values::are_equal;
 use tv_model::{Action, Kind, Pred, PredId, Program, Terms, Update};
 use tv_struct::{Structure, Table, Tuple};
 
@@ -23,7 +23,7 @@ fn have_same_rows(s: &Structure, t: &Structure, p: PredId) -> bool
     ensures { IsTrue result ↔ HasSameValues s.now t.now p.0 2 }
 {
     for u in 0..t.size() {
-        if !are_same(&s.row(p, u), &t.row(p, u)) {
+        if !s.row(p, u).equals(&t.row(p, u)) {
             return false;
         }
     }
@@ -40,7 +40,7 @@ fn have_same_values(s: &Structure, t: &Structure, p: PredId, vars: Terms) -> boo
 {
     match vars {
         Terms::Zero => are_equal(s.get(p, Tuple::Zero), t.get(p, Tuple::Zero)),
-        Terms::One(_) => are_same(&s.unary_row(p), &t.unary_row(p)),
+        Terms::One(_) => s.unary_row(p).equals(&t.unary_row(p)),
         Terms::Two(_, _) => have_same_rows(s, t, p),
     }
 }

@@ -7,9 +7,9 @@ mod defined;
 mod differing;
 mod first;
 mod properties;
-mod rows;
 mod rule;
 mod trial;
+mod values;
 
 pub use above::{first_above, first_listed};
 pub use defined::first_unlike;

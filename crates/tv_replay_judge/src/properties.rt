@@ -5,8 +5,7 @@ ghost use Rattle.tv_model.specs.Program.{pred_of, rule_of};
 ghost use Rattle.tv_replay_laws.specs.JudgedRules.{rules_of_properties};
 
 use std::alloc::{AllocError, Global};
-use tv_model::{Items, Pred, PredId, Rules};
-use tv_rules::push_properties;
+use tv_model::{Items, Pred, PredId, Rules, push_properties};
 
 /// The rules that the properties stand for, predicate by predicate.
 pub fn property_rules(alloc: Global, preds: &[Pred]) -> Result<Rules, AllocError>

@@ -1,11 +1,12 @@
 //! Whether a heap meets one rule.
 
 ghost use Rattle.std.specs.Prelude.{◌≡◌, ◌↔◌, ◌<◌, ℕ, All, Contains, IfOk, IsTrue, OnOk};
+ghost use Rattle.tv_coerce_members.specs.Members.{numbers_of};
 ghost use Rattle.tv_model.specs.Form.{form_of};
 ghost use Rattle.tv_model.specs.Program.{head_of, rule_of};
 ghost use Rattle.tv_model.specs.Rules.{MeetsRule, head_formula, signed_form};
 ghost use Rattle.tv_two_valued.specs.TwoValued.{heap_of};
-ghost use Rattle.tv_replay_judge.specs.Trying.{CanJudge, IsFreeIn, numbers_of, implication_of};
+ghost use Rattle.tv_replay_judge.specs.Trying.{CanJudge, IsFreeIn, implication_of};
 
 use crate::trial::{Implication, is_met_by_all};
 use std::alloc::{AllocError, Global};

@@ -3,13 +3,14 @@
 //! stand for. The values for all individuals that a variable may stand for are found by rows.
 
 ghost use Rattle.std.specs.Prelude.{◌≡◌, ◌↔◌, ◌<◌, ℕ, [], ◌∷◌, IsTrue, IsFalse, Contains};
+ghost use Rattle.tv_coerce_members.specs.Members.{numbers_of};
 ghost use Rattle.tv_eval.specs.AssignmentForm.{assignment_of};
 ghost use Rattle.tv_eval.specs.Bound.{IsBound, bound_structure, bound_room};
 ghost use Rattle.tv_model.specs.Form.{form_of, IsFree};
 ghost use Rattle.tv_model.specs.Truth.{Truth, put};
 ghost use Rattle.tv_two_valued.specs.TwoValued.{heap_of};
 ghost use Rattle.tv_replay_judge.specs.Trying.{ArePlaced, CanTell, CanTry, IsGranted, IsMetFrom, IsMetUnder};
-ghost use Rattle.tv_replay_judge.specs.Trying.{IsRowOf, IsRuledOut, IsCheckStart, StaysBound, numbers_of};
+ghost use Rattle.tv_replay_judge.specs.Trying.{IsRowOf, IsRuledOut, IsCheckStart, StaysBound};
 ghost use Rattle.tv_replay_judge.specs.Trying.{implication_of};
 
 use tv_eval::{Assignment, Evaluator};

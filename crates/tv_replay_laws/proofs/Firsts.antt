@@ -9,6 +9,7 @@ use Rattle.std.specs.Cmp.{nat_cmp_total}
 use Rattle.std.proofs.lemmas.Bool.{cases_lt, false≢true, lt-ltb}
 use Rattle.std.proofs.lemmas.Cmp.{tied_itself}
 use Rattle.std.proofs.lemmas.List.Elements.{All-contains}
+use Rattle.std.proofs.lemmas.Option.{same_Some}
 use Rattle.tv_embed.specs.Maps.{IsLeastEmbedding}
 use Rattle.tv_embedding_laws.specs.Embedding.{IsHeapOf}
 use Rattle.tv_model.specs.Heap.{Heap}
@@ -22,9 +23,6 @@ use Rattle.tv_replay_laws.specs.Judged.{IsFirst}
 use Rattle.tv_replay_laws.specs.JudgedRules.{IsFirstUnmet}
 use Rattle.tv_replay_laws.specs.declared.state.Place2.{Place2}
 use Rattle.tv_replay_laws.proofs.Named.{embeds-heap}
-
-pub some-same : {X : Type 0} (x y : X) → Some x ≡ Some y → x ≡ y
-some-same x y e = cc
 
 -- the least number of which it holds; none where it holds of none
 abbrev IsLeast : (ℕ → Type 0) → Option ℕ → Type 0
@@ -49,7 +47,7 @@ early [] n k x lt found = absurd (none found)
     none : None ≡ Some x → ⊥
     none e = cc
 early (y ∷ xs) zero k x lt found = absurd (omega (arith, lt))
-early (y ∷ xs) (suc n) zero x lt found = subst (Contains (y ∷ take n xs)) (some-same y x found) (Contains-here y (take n xs))
+early (y ∷ xs) (suc n) zero x lt found = subst (Contains (y ∷ take n xs)) (same_Some y x found) (Contains-here y (take n xs))
 early (y ∷ xs) (suc n) (suc k) x lt found = Contains-there y x (take n xs) (early xs n k x (omega (arith, lt)) found)
 
 -- ---- predicates and rules
@@ -127,8 +125,8 @@ one-place s ts is two a b x y = by_places a b x y (one-least (IsAboveAt s ts) (n
     by_places None (Some q) x y e = absurd cc
     by_places (Some p) None x y e = absurd cc
     by_places (Some p) (Some q) x y e =
-        let numbers : p.structure ≡ q.structure = some-same p.structure q.structure e
-        in let same : x.0.0 ≡ y.0.0 = some-same x.0.0 y.0.0 (sym x.0.1 ∙ ap (slice_get ts) numbers ∙ y.0.1)
+        let numbers : p.structure ≡ q.structure = same_Some p.structure q.structure e
+        in let same : x.0.0 ≡ y.0.0 = same_Some x.0.0 y.0.0 (sym x.0.1 ∙ ap (slice_get ts) numbers ∙ y.0.1)
         in let other : IsLeastEmbedding s x.0.0 q.map = subst (λ t. IsLeastEmbedding s t q.map) (sym same) y.0.2
         in let maps : p.map ≡ q.map = le-both p.map q.map (x.0.2.1 q.map other.0) (other.1 p.map x.0.2.0)
         in let place : p ≡ q = λ i. record { structure = numbers i; map = maps i }

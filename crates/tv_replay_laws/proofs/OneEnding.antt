@@ -3,6 +3,7 @@ use Rattle.std.proofs.Common.{ℕ, zero, suc, ◌≡◌, ◌-◌, List, [], ◌�
 use Rattle.std.proofs.Common.{ap, subst, ◌∙◌, arith}
 use Rattle.std.specs.Prelude.{slice_get}
 use Rattle.std.specs.Option.{option_map}
+use Rattle.std.proofs.lemmas.Option.{same_Some}
 use Rattle.tv_concrete.specs.Laws.{AtMostOneConcrete}
 use Rattle.tv_listing.specs.ListingForm.{at_node}
 use Rattle.tv_model.specs.Program.{ProgramForm, ActionForm}
@@ -23,7 +24,7 @@ use Rattle.tv_replay_laws.specs.Stuck.{IsFirstFailure, GoesThrough, IsStuck, Mov
 use Rattle.tv_replay_laws.specs.Stuck.{start_at}
 use Rattle.tv_replay_laws.specs.declared.state.State.{State}
 use Rattle.tv_replay_laws.specs.declared.state.Why.{Why}
-use Rattle.tv_replay_laws.proofs.Firsts.{one-place, one-pred, one-rule, some-same}
+use Rattle.tv_replay_laws.proofs.Firsts.{one-place, one-pred, one-rule}
 use Rattle.tv_replay_laws.proofs.OneStep.{kept-same, made-not_failed, one-failure, same-move, same-taken}
 
 -- ---- one step, and one reason
@@ -48,7 +49,7 @@ stops-nowhere p at n w stops = none stops.move stops.there
 
 stops-here : (p : ProgramForm) (at : Standing) (move : Move) (moves : List Move) (w : Why) → StopsAt p at (move ∷ moves) 0 w → FailsHere p at w move
 stops-here p at move moves w stops =
-    subst (FailsHere p at w) (sym (some-same move stops.move stops.there)) (stops.taken, none stops.before stops.through stops.fails)
+    subst (FailsHere p at w) (sym (same_Some move stops.move stops.there)) (stops.taken, none stops.before stops.through stops.fails)
   where
     none : (before : List Standing) → GoesThrough p at [] before → IsFirstFailure (last_of at before) stops.move stops.taken w → IsFirstFailure at stops.move stops.taken w
     none [] through fails = fails
@@ -123,7 +124,7 @@ same-broken None None e = refl
 same-broken None (Some q) e = absurd cc
 same-broken (Some q) None e = absurd cc
 same-broken (Some q) (Some r) e =
-    let number : q.0 ≡ r.0 = some-same q.0 r.0 e
+    let number : q.0 ≡ r.0 = same_Some q.0 r.0 e
     in let pred : q ≡ r = λ i. record { 0 = number i }
     in ap Some pred
 

@@ -1,11 +1,12 @@
 -- A move from a standing leads to one standing, and can't fail where it can be made.
-use Rattle.std.proofs.Common.{ℕ, suc, ◌≡◌, ◌≢◌, ◌<◌, ◌↔◌, ◌⊎◌, ⊎_elim, List, [], ◌∷◌, map, Option, Some, None}
+use Rattle.std.proofs.Common.{ℕ, suc, ◌≡◌, ◌<◌, ◌↔◌, ◌⊎◌, ⊎_elim, List, [], ◌∷◌, map, Option, Some, None}
 use Rattle.std.proofs.Common.{AllPairs, Contains, refl, sym, ap, subst, ◌∙◌, arith}
 use Rattle.std.specs.Prelude.{slice_get}
 use Rattle.std.proofs.lemmas.List.Elements.{All-contains}
+use Rattle.std.proofs.lemmas.Option.{same_Some}
+use Rattle.tv_kleene.proofs.Lattice.{same-definite, no-yes}
 use Rattle.tv_concrete.specs.Laws.{AtMostOneConcrete, SameCore}
-use Rattle.tv_kleene.specs.declared.K3.{K3}
-use Rattle.tv_kleene.specs.declared.K3.TheVariants.{No, Half, Yes}
+use Rattle.tv_kleene.specs.declared.K3.TheVariants.{Yes}
 use Rattle.tv_model.specs.Heap.{Heap, Holds, IsTuple}
 use Rattle.tv_model.specs.Program.{ProgramForm, PredForm, ActionForm, ChangeForm, UpdateForm, CFree, CTo}
 use Rattle.tv_model.specs.Program.{KCore}
@@ -29,7 +30,6 @@ use Rattle.tv_replay_laws.specs.Next.{kept_individual, picked_by}
 use Rattle.tv_replay_laws.specs.Stuck.{CanMove, IsFirstFailure, Moves, Standing, Taken}
 use Rattle.tv_replay_laws.specs.declared.state.Why.{Why}
 use Rattle.tv_replay_laws.specs.declared.state.Why.TheVariants as why
-use Rattle.tv_replay_laws.proofs.Firsts.{some-same}
 use Rattle.tv_replay_laws.proofs.Named.{same-names}
 
 -- ---- ascending lists with the same members are one
@@ -73,19 +73,6 @@ same-kept action picked s xs ys one two =
     ascending-same xs ys one.ascending two.ascending (λ u. (λ at. (two.are u).1 ((one.are u).0 at), λ at. (one.are u).1 ((two.are u).0 at)))
 
 -- ---- one new heap
-
-no-yes : (k : K3) → k ≡ No → k ≡ Yes → ⊥
-no-yes k n y = cc
-
--- values other than Half are equal where they are Yes at once
-same-definite : (x y : K3) → x ≢ Half → y ≢ Half → x ≡ Yes ↔ y ≡ Yes → x ≡ y
-same-definite No No p q e = refl
-same-definite No Half p q e = absurd (q refl)
-same-definite No Yes p q e = e.1 refl
-same-definite Half y p q e = absurd (p refl)
-same-definite Yes No p q e = sym (e.0 refl)
-same-definite Yes Half p q e = absurd (q refl)
-same-definite Yes Yes p q e = refl
 
 -- a structure that a step may lead to, and its heap under the names of the kept individuals
 record IsAfter (p : ProgramForm) (action : ActionForm) (chosen : List ℕ) (values : Option StructureForm) (s : StructureForm) (kept : List ℕ)
@@ -201,8 +188,8 @@ same-next one_concrete p valid action chosen values s x y kept one two ux uy =
 
 pub same-taken : (p : ProgramForm) (move : Move) (t u : Taken p move) → (t.edge ≡ u.edge) × (t.action ≡ u.action)
 same-taken p move t u =
-    let edge : t.edge ≡ u.edge = some-same t.edge u.edge (sym t.its_edge ∙ u.its_edge)
-    in (edge, some-same t.action u.action (sym t.its_action ∙ ap (λ (e : Edge). slice_get p.actions e.action) edge ∙ u.its_action))
+    let edge : t.edge ≡ u.edge = same_Some t.edge u.edge (sym t.its_edge ∙ u.its_edge)
+    in (edge, same_Some t.action u.action (sym t.its_action ∙ ap (λ (e : Edge). slice_get p.actions e.action) edge ∙ u.its_action))
 
 pub kept-same : (p : ProgramForm) (move : Move) (at x y : Standing) (one : Moves p move at x) (two : Moves p move at y) → one.kept ≡ two.kept
 kept-same p move at x y one two =

@@ -6,13 +6,13 @@ use Rattle.std.specs.Prelude.{IfSome, slice_get}
 use Rattle.std.specs.List.{range_with_len}
 use Rattle.std.proofs.lemmas.Bool.{cases_eq, false≢true}
 use Rattle.std.proofs.lemmas.List.Elements.{All-contains, All-from_recursion, recursion_from_All}
+use Rattle.tv_kleene.proofs.Lattice.{same-definite}
 use Rattle.tv_update_laws.specs.Applied.{kind_at}
 use Rattle.tv_update_laws.proofs.Facts.{find-found}
 use Rattle.tv_update_laws.proofs.Predicates.{kind-found}
 use Rattle.tv_update_laws.proofs.Updates.{UpdateOf, update-of}
 use Rattle.tv_replay_judge.specs.Same.{IsSameAt}
-use Rattle.tv_kleene.specs.declared.K3.{K3}
-use Rattle.tv_kleene.specs.declared.K3.TheVariants.{No, Half, Yes}
+use Rattle.tv_kleene.specs.declared.K3.TheVariants.{Yes}
 use Rattle.tv_model.specs.Form.{Form}
 use Rattle.tv_model.specs.Heap.{Heap, Holds, IsTuple}
 use Rattle.tv_model.specs.Program.{ProgramForm, PredForm, KCore, ActionForm, UpdateForm, ChangeForm, CFree}
@@ -79,15 +79,6 @@ values-for action once n values = (forth values, back values)
         recursion_from_All (λ (y : UpdateForm). free.IsFree y → GivesValues n (Some vs) y.pred) action.updates
         (All-from_contains (λ (y : UpdateForm). free.IsFree y → GivesValues n (Some vs) y.pred) action.updates
         (λ w listed is_free. are w.pred (here w listed is_free)))
-
-same-definite : (x y : K3) → (x ≡ Half → ⊥) → (y ≡ Half → ⊥) → x ≡ Yes ↔ y ≡ Yes → x ≡ y
-same-definite No No p q e = refl
-same-definite No Half p q e = absurd (q refl)
-same-definite No Yes p q e = e.1 refl
-same-definite Half y p q e = absurd (p refl)
-same-definite Yes No p q e = sym (e.0 refl)
-same-definite Yes Half p q e = absurd (q refl)
-same-definite Yes Yes p q e = refl
 
 -- what fails first of one fails first of the other, where both are so of the same predicates
 pub first-same : (preds : List PredForm) (P Q : ℕ → PredForm → Type 0)

@@ -1,8 +1,7 @@
 -- The middle structure of a heap, and what an action makes of it.
 use Rattle.std.proofs.Common.{ℕ, ◌≡◌, ◌<◌, ◌+◌, Bool, true, false, List, [], ◌∷◌, length, Option, Some, None}
-use Rattle.std.proofs.Common.{refl, sym, ap, subst, ◌∙◌, arith, All, Contains}
+use Rattle.std.proofs.Common.{sym, ap, subst, ◌∙◌, arith, All, Contains}
 use Rattle.std.specs.Prelude.{IsSomeAnd}
-use Rattle.std.specs.List.{range_with_len}
 use Rattle.std.proofs.lemmas.List.FromFn.{length-range_with_len}
 use Rattle.std.proofs.lemmas.List.Elements.{All-contains, All-head}
 use Rattle.tv_update_laws.specs.Tables.{IsGivenOver, middle_table}
@@ -11,11 +10,10 @@ use Rattle.tv_model.specs.Program.{ProgramForm, ActionForm}
 use Rattle.tv_model.specs.Valid.{IsAction}
 use Rattle.tv_model.specs.declared.program.Mode.TheVariants.{Given}
 use Rattle.tv_struct.specs.Halves.{row_halves}
-use Rattle.tv_struct.specs.Laws.{DrawnReads}
-use Rattle.tv_struct.specs.StructureForm.{StructureForm, IsStructure, arities_of, with_new}
-use Rattle.tv_struct.proofs.StructureLaws.{drawn_reads}
+use Rattle.tv_struct.specs.StructureForm.{StructureForm, arities_of, with_new}
 use Rattle.tv_two_valued.specs.TwoValued.{heap_of}
 use Rattle.tv_two_valued.proofs.Truths.{from-assigned}
+use Rattle.tv_update_laws.proofs.Tables.{over-middle}
 use Rattle.tv_update.specs.Update.{IsGivenOf}
 use Rattle.tv_update.specs.Updated.{keep_values}
 use Rattle.tv_replay_step.specs.Ready.{CanAct}
@@ -38,10 +36,6 @@ pub record IsMiddleReady (p : ProgramForm) (action : ActionForm) (places : List 
   pub settled : row_halves (keep_values m (assignment_of places) action.retain) ≡ 0
   pub one : (ts : List StructureForm) → IsGivenOf p Given action (assignment_of places) m ts → length ts ≡ 1
   pub makes : (t : StructureForm) → IsGivenOf p Given action (assignment_of places) m (t ∷ []) → IsUpdatedTo p action (assignment_of places) s t
-
-over-middle : (b : Bool) (s : StructureForm) → IsStructure s → arities_of (middle_table b s) ≡ arities_of s
-over-middle false s is = refl
-over-middle true s is = let reads : DrawnReads s = drawn_reads s is in reads.arities (range_with_len 0 (s.size + 1)) (Some s.size)
 
 wider : (b : Bool) (s : StructureForm) (o : Option ℕ) → IsSomeAnd o (λ u. u < s.size) → IsSomeAnd o (λ u. u < (middle_table b s).size)
 wider false s o lt = lt

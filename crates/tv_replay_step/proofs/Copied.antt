@@ -6,6 +6,7 @@ use Rattle.std.specs.Prelude.{slice_get}
 use Rattle.std.specs.List.{AllByRecursion, range_with_len}
 use Rattle.std.proofs.lemmas.Bool.{cases_eq}
 use Rattle.std.proofs.lemmas.List.FromFn.{get_or-map-range_with_len}
+use Rattle.std.proofs.lemmas.Option.{same_Some}
 use Rattle.tv_kleene.specs.declared.K3.{K3}
 use Rattle.tv_kleene.specs.declared.K3.TheVariants.{No}
 use Rattle.tv_model.specs.Program.{UpdateForm, update_of}
@@ -55,9 +56,6 @@ can-on values s t q can shaped = record {
   pred = subst (λ n. q < n) (ap length (sym shaped.over)) can.pred;
 }
 
-some-same : (m n : ℕ) → Some m ≡ Some n → m ≡ n
-some-same m n e = cc
-
 -- ---- one predicate
 
 -- tuples of the predicate's arity suffice
@@ -71,7 +69,7 @@ copied-where values s t q n can shaped arity same others = record {
 }
   where
     long : (tuple : List ℕ) (x : StructureForm) → arities_of x ≡ arities_of s → slice_get (arities_of x) q ≡ Some (length tuple) → length tuple ≡ n
-    long tuple x over fits = some-same (length tuple) n (sym fits ∙ ap (λ ns. slice_get ns q) over ∙ arity)
+    long tuple x over fits = same_Some (length tuple) n (sym fits ∙ ap (λ ns. slice_get ns q) over ∙ arity)
 
     at : (tuple : List ℕ) → AreIndividuals s.size tuple → (slice_get (arities_of t) q ≡ Some (length tuple)) ⊎ (value_at t q tuple ≡ No)
         → (slice_get (arities_of values) q ≡ Some (length tuple)) ⊎ (value_at values q tuple ≡ No) → value_at t q tuple ≡ value_at values q tuple

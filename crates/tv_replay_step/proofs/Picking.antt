@@ -1,13 +1,10 @@
 -- Individuals, put for picked variables one after the other.
-use Rattle.std.proofs.Common.{ℕ, ◌≡◌, ◌<◌, ◌↔◌, List, [], ◌∷◌, length, Option, None, refl, ap, arith, All}
+use Rattle.std.proofs.Common.{ℕ, ◌≡◌, ◌<◌, ◌↔◌, List, [], ◌∷◌, length, refl, ap, arith, All}
 use Rattle.std.proofs.Common.{suc}
-use Rattle.std.specs.Prelude.{unwrap_or}
 use Rattle.std.specs.List.{AllByRecursion}
 use Rattle.std.proofs.lemmas.List.Elements.{All-cons, All-contains, All-head, All-nil, All-tail}
 use Rattle.std.proofs.lemmas.List.Elements.{recursion_from_All}
-use Rattle.tv_eval.specs.AssignmentForm.{assignment_of, individual_for}
 use Rattle.tv_model.specs.Program.{picks_of}
-use Rattle.tv_model.specs.Rules.{blank}
 use Rattle.tv_model.specs.Valid.{IsVariable}
 use Rattle.tv_model.specs.declared.formula.Var.{Var}
 use Rattle.tv_model.proofs.Lists.{All-from_contains, Contains-map}
@@ -26,10 +23,6 @@ one-each size (v ∷ vars) (u ∷ us) =
           in let shorter : length us ≡ length vars = omega (arith, long)
           in (All-head (λ w. w < size) u us both.1, rest.1 (shorter, All-tail (λ w. w < size) u us both.1)),
     )
-
--- an assignment of nobody is blank
-pub nobody-blank : (places : List (Option ℕ)) → ((v : ℕ) → individual_for places v ≡ None) → assignment_of places ≡ blank
-nobody-blank places none = λ i v. unwrap_or (none v i) 0
 
 pub variables-below : (vars : List Var) → All IsVariable (picks_of vars) → AllByRecursion (λ (v : Var). v.0 < 32) vars
 variables-below vars all =

@@ -9,6 +9,7 @@ use Rattle.std.proofs.lemmas.List.Elements.{recursion_from_All}
 use Rattle.std.specs.Result.{IfErr, IfOk}
 use Rattle.std.proofs.lemmas.Result.{IfErr-weaker, IfOk-weaker}
 use Rattle.std.proofs.lemmas.Option.{slice_get_within, slice_get-get_or}
+use Rattle.tv_model.proofs.Parts.{first-occurs}
 use Rattle.tv_eval.specs.AssignmentForm.{IsAssigned, assignment_of, individual_for}
 use Rattle.tv_eval.specs.ScratchForm.{ScratchForm, IsMadeFor}
 use Rattle.tv_eval.proofs.Programs.{made_scratches_fit, program_formulas_are_over, within_height}
@@ -25,7 +26,7 @@ use Rattle.tv_model.specs.declared.program.Edge.{Edge}
 use Rattle.tv_model.specs.declared.program.Update.{Update}
 use Rattle.tv_model.specs.declared.program.Vocab.{Vocab}
 use Rattle.tv_model.proofs.Lists.{All-from_contains, Contains-map, map-compose, slice_get-contains}
-use Rattle.tv_update_laws.proofs.Preconditions.{first-occurs, free-occurs}
+use Rattle.tv_update_laws.proofs.Preconditions.{free-occurs}
 use Rattle.tv_replay_laws.specs.Judged.{IsFirst}
 use Rattle.tv_replay_laws.specs.Next.{picked_by}
 use Rattle.tv_replay_laws.specs.Stuck.{ArePicked, IsEnabled, Standing, Taken}
@@ -38,6 +39,7 @@ use Rattle.tv_two_valued.specs.TwoValued.{IsTwoValued, heap_of}
 use Rattle.tv_update.specs.Redefined.{AreAllDefined}
 use Rattle.tv_update.specs.Update.{action_at, no_action}
 use Rattle.tv_update.proofs.Variables.{picks-in_range}
+use Rattle.tv_replay_judge.proofs.Compared.{none-blank}
 use Rattle.tv_replay_step.specs.Free.{CanCopy, GivesAll, GivesValues, IsFinished}
 use Rattle.tv_replay_step.specs.Free as free
 use Rattle.tv_replay_step.specs.Picked.{AreOneEach, PutsPicked}
@@ -52,7 +54,7 @@ use Rattle.tv_replay_step.specs.declared.moved.Moved.{Moved}
 use Rattle.tv_replay_step.specs.declared.step.EdgeAction.{EdgeAction}
 use Rattle.tv_replay_step.proofs.Acted.{acted, no-values}
 use Rattle.tv_replay_step.proofs.Applied.{inside, is-action}
-use Rattle.tv_replay_step.proofs.Picking.{nobody-blank, one-each, variables-below}
+use Rattle.tv_replay_step.proofs.Picking.{one-each, variables-below}
 
 -- ---- the turn, once its variables are picked
 
@@ -156,7 +158,7 @@ module _ (turn : EdgeAction) (s : StructureForm) (move : Move) (room : ScratchFo
     are-picked = (one-each s.size (action_in turn).picks move.picks).0 puts.each
 
     pub picked-so : assignment_of places ≡ picked_by (action_in turn).picks move.picks
-    picked-so = puts.total ∙ ap (λ a. put_all a (action_in turn).picks move.picks) (nobody-blank nobody new)
+    picked-so = puts.total ∙ ap (λ a. put_all a (action_in turn).picks move.picks) (none-blank nobody new)
 
     assigned-all : All (IsAssigned s.size places) (action_in turn).picks
     assigned-all = All-from_recursion (IsAssigned s.size places) (action_in turn).picks puts.assigned

@@ -7,7 +7,7 @@ use Rattle.std.proofs.lemmas.List.{take_more, take_all, append-nil, length-repli
 use Rattle.std.proofs.lemmas.List.{get_or_default}
 use Rattle.std.proofs.lemmas.Bool.{cases_lt}
 use Rattle.std.proofs.lemmas.List.Elements.{All-push, All-set}
-use Rattle.std.proofs.lemmas.Option.{slice_get_within, get_or_from_slice_get}
+use Rattle.std.proofs.lemmas.Option.{slice_get_within, get_or_from_slice_get, slice_get-get_or}
 use Rattle.std.specs.Prelude.{All, slice_get, codes}
 use Rattle.std.specs.List.{flat_map, zip}
 use Rattle.tv_listing.specs.ListingForm.{at_node, appended}
@@ -24,7 +24,7 @@ use Rattle.tv_report.specs.Meaning.{IsReportText}
 use Rattle.tv_report.specs.Once.{AreOnce, GoesOn}
 use Rattle.tv_report.specs.Text.{report_text, node_line, node_text, nodes_text, message_text, map_text}
 use Rattle.tv_report.proofs.OnceLaws.{goes_keys, goes_once}
-use Rattle.tv_report.proofs.Lists.{zipped_at, zipped_length, at_place}
+use Rattle.tv_report.proofs.Lists.{zipped_at, zipped_length}
 use Rattle.tv_struct.specs.StructureForm.{StructureForm, unmarked}
 use Rattle.tv_tvs.specs.Canonical.{canonical_text}
 use Rattle.tv_tvs.specs.Targets.{IsRead}
@@ -61,7 +61,7 @@ pub next_node : (vocab : Vocab) (names : List (List ℕ)) (listing : List (List 
     → rest ≡ node_text vocab name (at_node listing i) ++ next → bytes ≡ flat_map (node_of vocab) (take (i + 1) (zip names listing)) ++ next
 next_node vocab names listing i name bytes rest next at lt so_far is =
     next_front (node_of vocab) (zip names listing) i (name, at_node listing i) bytes rest next
-    (zipped_at names listing i name (at_node listing i) at (at_place listing i [] lt)) so_far is
+    (zipped_at names listing i name (at_node listing i) at (slice_get-get_or listing i [] lt)) so_far is
 
 pub all_nodes : (vocab : Vocab) (names : List (List ℕ)) (listing : List (List StructureForm)) (i : ℕ) (bytes rest : List ℕ) → length names ≤ i
     → bytes ≡ flat_map (node_of vocab) (take i (zip names listing)) ++ rest → bytes ≡ nodes_text vocab names listing ++ rest

@@ -5,7 +5,7 @@ use Rattle.std.proofs.Common.{arith, Bor}
 use Rattle.std.specs.Prelude.{All, AllPairs, Contains, MatchOption, position, slice_get, is_some, ◌&&◌, ◌==◌}
 use Rattle.std.specs.List.{list_any}
 use Rattle.std.specs.Str.{bytes_eq}
-use Rattle.std.proofs.lemmas.Bool.{both_ways, eqb-true, eq-eqb}
+use Rattle.std.proofs.lemmas.Bool.{both_ways, eqb-true, eq-eqb, and_parts}
 use Rattle.std.proofs.lemmas.List.{map_push, map-append, length-append, length-take-le, get_or_append_left}
 use Rattle.std.proofs.lemmas.List.{get_or_at, get_or-take, get_or_default, take_more}
 use Rattle.std.proofs.lemmas.List.Elements.{All-push}
@@ -13,7 +13,7 @@ use Rattle.std.proofs.lemmas.List.Folds.{list_any_at}
 use Rattle.std.proofs.lemmas.List.Quantifiers.{all_pairs_push, position-Some}
 use Rattle.std.proofs.lemmas.Map.Views.{Contains-from_any}
 use Rattle.std.proofs.lemmas.Option.{slice_get-get_or}
-use Rattle.std.proofs.lemmas.Slice.Eq.{bytes_eq-Decides}
+use Rattle.tv_lemmas.proofs.Texts.{same_text, text_itself}
 use Rattle.indexmap.specs.IndexSet.{insert_key}
 use Rattle.tv_listing.specs.contracts.analysis.ItemPartialEq.TheImpl as item_eq
 use Rattle.tv_listing.specs.declared.analysis.Item.{Item}
@@ -68,33 +68,26 @@ module _ {K : Type 0} (same : K → K → Bool) (sound : (a b : K) → same a b 
       at true e = subst (IsSeen old new k) (sym (is ∙ ap not e)) (Contains-from_any sound k old e)
       at false e = subst (IsSeen old new k) (sym (is ∙ ap not e)) (λ has. both_ways (list_any (same k) old) e (contained old k has), put ∙ (rw e refl))
 
--- a name is found, or isn't there
-bytes_sound : (a b : List ℕ) → bytes_eq a b ≡ true → a ≡ b
-bytes_sound a b e = (bytes_eq-Decides a b).0 e
-
-bytes_self : (a : List ℕ) → bytes_eq a a ≡ true
-bytes_self a = (bytes_eq-Decides a a).1 refl
-
 pub name_found : (names : List (List ℕ)) (name : List ℕ) (r : Option ℕ) → r ≡ position (bytes_eq name) names → is_some r ≡ list_any (bytes_eq name) names
     → MatchOption r (¬ Contains names name) (λ n. slice_get names n ≡ Some name)
-name_found names name None at found = λ has. both_ways (list_any (bytes_eq name) names) (sym found) (contained bytes_eq bytes_sound bytes_self names name has)
+name_found names name None at found = λ has. both_ways (list_any (bytes_eq name) names) (sym found) (contained bytes_eq same_text text_itself names name has)
 name_found names name (Some n) at found =
     let p = position-Some (bytes_eq name) names n name (sym at)
-    in slice_get-get_or names n name p.0 ∙ ap Some (sym (bytes_sound name (get_or names n name) p.1))
+    in slice_get-get_or names n name p.0 ∙ ap Some (sym (same_text name (get_or names n name) p.1))
 
 pub contains_or : (names : List (List ℕ)) (name : List ℕ) → Contains names name ⊎ (¬ Contains names name)
 contains_or names name = at (list_any (bytes_eq name) names) refl
   where
     at : (found : Bool) → list_any (bytes_eq name) names ≡ found → Contains names name ⊎ (¬ Contains names name)
-    at true e = inl (Contains-from_any bytes_sound name names e)
-    at false e = inr (λ has. both_ways (list_any (bytes_eq name) names) e (contained bytes_eq bytes_sound bytes_self names name has))
+    at true e = inl (Contains-from_any same_text name names e)
+    at false e = inr (λ has. both_ways (list_any (bytes_eq name) names) e (contained bytes_eq same_text text_itself names name has))
 
 -- the same of names that borrow their bytes
 module _ (same : Bor (List ℕ) → Bor (List ℕ) → Bool) (means : (a b : Bor (List ℕ)) → same a b ≡ bytes_eq a.now b.now) where
   pub seen_name : (old new : List (Bor (List ℕ))) (name : Bor (List ℕ)) (b : Bool) → b ≡ not (list_any (same name) old) → new ≡ insert_key same old name
       → IsSeen (names_of old) (names_of new) name.now b
   seen_name old new name b is put =
-      seen_key bytes_eq bytes_sound bytes_self (names_of old) (names_of new) name.now b
+      seen_key bytes_eq same_text text_itself (names_of old) (names_of new) name.now b
       (is ∙ ap not (among_names same means old name)) (ap names_of put ∙ put_name (list_any (same name) old) refl)
     where
       put_name : (found : Bool) → list_any (same name) old ≡ found → names_of (insert_key same old name) ≡ insert_key bytes_eq (names_of old) name.now
@@ -113,13 +106,9 @@ next_name names i name d old new false differ lt at so_far has =
 
 -- ---- pairs and items
 
-and_true : (a b : Bool) → (a && b) ≡ true → (a ≡ true) × (b ≡ true)
-and_true true b e = (refl, e)
-and_true false b e = absurd cc
-
 pub pair_sound : (a b : ℕ × ℕ) → ((a.0 == b.0) && (a.1 == b.1)) ≡ true → a ≡ b
 pair_sound (x, y) (u, v) e =
-    let both = and_true (x == u) (y == v) e
+    let both = and_parts (x == u) (y == v) e
     in ap (λ z. (z, y)) (eqb-true x u both.0) ∙ ap (λ z. (u, z)) (eqb-true y v both.1)
 
 pub pair_self : (a : ℕ × ℕ) → ((a.0 == a.0) && (a.1 == a.1)) ≡ true
@@ -133,8 +122,8 @@ item_sound (item.Initial n) (item.Initial m) e = ap item.Initial (eqb-true n m e
 item_sound (item.Initial n) (item.Result u v w) e = absurd cc
 item_sound (item.Result a b c) (item.Initial n) e = absurd cc
 item_sound (item.Result a b c) (item.Result u v w) e =
-    let one = and_true (a == u) ((b == v) && (c == w)) e
-    in let two = and_true (b == v) (c == w) one.1
+    let one = and_parts (a == u) ((b == v) && (c == w)) e
+    in let two = and_parts (b == v) (c == w) one.1
     in ap (λ z. item.Result z b c) (eqb-true a u one.0) ∙ ap (λ z. item.Result u z c) (eqb-true b v two.0) ∙ ap (item.Result u v) (eqb-true c w two.1)
 
 pub item_self : (x : Item) → same_item x x ≡ true

@@ -1,9 +1,9 @@
 -- Whole reports: what is read is what the grammar says, and what the grammar says is read.
-use Rattle.std.proofs.Common.{◌≡◌, ℕ, ◌+◌, Bool, true, false, List, [], ◌∷◌, length, Some, None, refl, sym}
+use Rattle.std.proofs.Common.{◌≡◌, ℕ, ◌+◌, Bool, true, false, List, [], length, Some, None, refl, sym}
 use Rattle.std.proofs.Common.{ap, ◌∙◌, subst, inl, inr, arith}
 use Rattle.std.specs.Prelude.{codes, ◌==◌}
-use Rattle.std.proofs.lemmas.Bool.{eqb-true}
 use Rattle.std.proofs.lemmas.Option.{same_Some, cond_some}
+use Rattle.tv_lemmas.proofs.Lists.{none_left}
 use Rattle.tv_lex.specs.Token.{SpecToken}
 use Rattle.tv_phrases.specs.Reading.{taken, ◌>>=◌}
 use Rattle.tv_phrases.specs.Tokens.{after}
@@ -61,10 +61,6 @@ maps_sound true ts rest maps e =
     inr (refl, many_sound (begins_with (codes "map")) map_at IsMap map_sound (length ts + 1) ts rest maps e)
 
 -- ---- the end
-
-none_left : (ts : List SpecToken) → (length ts == 0) ≡ true → ts ≡ []
-none_left [] e = refl
-none_left (t ∷ ts) e = let h = eqb-true (length (t ∷ ts)) 0 e in absurd (omega (arith, h))
 
 end_sound : (ts us : List SpecToken) → end_at ts ≡ Some us → after (codes "end") ts ≡ Some []
 unfolding end_at

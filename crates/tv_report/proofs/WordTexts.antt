@@ -1,7 +1,7 @@
 -- Words, numbers and strings in front of a text.
 use Rattle.std.proofs.Common.{◌≡◌, ℕ, suc, ◌+◌, ◌<◌, ◌^◌, List, [], ◌∷◌, ◌++◌, Some, true, ◌||◌, eqb, length}
 use Rattle.std.proofs.Common.{get_or, ap, sym, refl, ◌∙◌, subst, ◌⊎◌, inl, inr, arith, append_assoc}
-use Rattle.std.specs.Prelude.{decimal, All, not, ◌&&◌, nat_le, ◌==◌}
+use Rattle.std.specs.Prelude.{decimal, not, ◌&&◌, nat_le, ◌==◌}
 use Rattle.std.specs.Char.{is_ascii_alphanumeric, is_ascii_digit}
 use Rattle.std.specs.Int.{is_in_range}
 use Rattle.std.specs.List.{list_all, prefix_len}
@@ -22,6 +22,7 @@ use Rattle.tv_phrases.proofs.Numerals.{digits_written, number_written}
 use Rattle.tv_lex.proofs.PieceTokens.{Lexes}
 use Rattle.tv_tvs.proofs.Lexing.{IsWordText, word, word_first, space_first, feed_first}
 use Rattle.tv_tvs.proofs.Spelled.{in_range}
+use Rattle.tv_tvs.proofs.RoundTrip.{word_bytes}
 
 -- ---- which bytes words have
 
@@ -49,13 +50,8 @@ name_byte b (inl (inr h)) =
 name_byte b (inr (inl h)) = digit_byte b (in_range 48 57 b h.0 h.1)
 name_byte b (inr (inr h)) = rw h refl
 
-name_bytes : (w : List ℕ) → All (λ b. IsLetter b ⊎ IsDigit b ⊎ (b ≡ 95)) w → list_all is_word_byte w ≡ true
-name_bytes [] all = refl
-name_bytes (b ∷ w) all =
-    and_from (is_word_byte b) (list_all is_word_byte w) (name_byte b (all 0 0 (omega arith))) (name_bytes w (λ k d lt. all (suc k) d (omega (arith, lt))))
-
 pub name_word : (w : List ℕ) → IsWord w → IsWordText w
-name_word w is = (is.0, name_bytes w is.1)
+name_word w is = (is.0, word_bytes w is.1)
 
 -- ---- words with a blank or the end of the line behind them
 

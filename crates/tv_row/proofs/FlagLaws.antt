@@ -2,14 +2,14 @@
 use Rattle.std.proofs.Common.{ℕ, ◌≡◌, ◌≢◌, ◌<◌, ◌≤◌, ◌+◌, ◌*◌, ◌/◌, ◌%◌, ◌⊎◌, inl, inr, ⊎_elim, Bool, true}
 use Rattle.std.proofs.Common.{false, cond, eqb, List, Option, Some, None, length, get_or, set, replicate, sym}
 use Rattle.std.proofs.Common.{ap, ◌∙◌, arith, eq-eqb, ne_eqb, ◌==◌, if◌then◌else◌}
-use Rattle.std.specs.Prelude.{MatchOption, IfSome}
-use Rattle.std.proofs.lemmas.Bool.{cases_eq, cases_lt}
+use Rattle.std.specs.Prelude.{MatchOption, IfSome, bit_and}
+use Rattle.std.proofs.lemmas.Bool.{and_parts, cases_eq, cases_lt}
 use Rattle.std.proofs.lemmas.List.{ext_get_or, length-set, length-replicate, get_or-replicate}
 use Rattle.std.proofs.lemmas.List.{get_or-set_same, get_or-set_other, get_or_past}
 use Rattle.std.proofs.lemmas.List.FromFn.{length-map-range_with_len, get_or-map-range_with_len}
 use Rattle.std.proofs.lemmas.Nat.Bits.{bit_at_ones}
 use Rattle.tv_row.specs.Bits.{bit}
-use Rattle.tv_row.specs.BitLaws.{bit-zero}
+use Rattle.tv_row.specs.BitLaws.{bit-and, bit-zero}
 use Rattle.tv_row.specs.FlagWords.{flag_at, flags_in, HoldsFlags}
 
 pub length-flags_in : (words : List ℕ) (count : ℕ) → length (flags_in words count) ≡ count
@@ -128,6 +128,24 @@ pub found_from : (count from at found number : ℕ) (r : Option ℕ) → number 
     → MatchOption r (count ≤ number) (λ n. (n ≡ number) × (n < count)) → IfSome r (λ k. from ≤ k)
 found_from count from at found number None is le low past = tt
 found_from count from at found number (Some k) is le low (e, lt) = omega arith
+
+-- a flag that is found among those that a mask leaves is true
+pub other_found : (words : List ℕ) (count at found number word mask : ℕ) (r : Option ℕ) → word ≡ get_or words (at / 64) 0
+    → number ≡ at / 64 * 64 + found → found < 64 → bit (bit_and word mask) found ≡ true
+    → MatchOption r (count ≤ number) (λ n. (n ≡ number) × (n < count))
+    → IfSome r (λ k. (k < length (flags_in words count)) × (get_or (flags_in words count) k false ≡ true))
+other_found words count at found number word mask None word_is number_is low set past = tt
+other_found words count at found number word mask (Some k) word_is number_is low set (e, lt) =
+    (omega (arith, lt, length-flags_in words count), get_or-flags_in words count k lt ∙ ap (flag_at words) e ∙ here)
+  where
+    kept : bit word found ≡ true
+    kept = (and_parts (bit word found) (bit mask found) (sym (bit-and word mask found) ∙ set)).0
+
+    here : flag_at words number ≡ true
+    here =
+        let place : number / 64 ≡ at / 64 = omega (arith, number_is, low)
+        in let of : number % 64 ≡ found = omega (arith, number_is, low)
+        in ap (λ p. bit (get_or words p 0) (number % 64)) place ∙ ap (λ w. bit w (number % 64)) (sym word_is) ∙ ap (bit word) of ∙ kept
 
 -- a number of the flags as they are seen is below their count
 pub below_count : (words : List ℕ) (count number : ℕ) (flags : List Bool) → flags_in words count ≡ flags

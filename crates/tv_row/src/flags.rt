@@ -85,4 +85,30 @@ impl Flags {
         }
         None
     }
+
+    /// A number at or after `from` whose flag is true and whose flag among the others isn't, the first one.
+    pub fn next_other(&self, others: &Flags, from: usize) -> Option<usize>
+        ensures { IfSome result (λ k. (k < length self.now) × (slice_index_or self.now k false ≡ true)) }
+    {
+        let mut at = from;
+        while at < self.count {
+            match bits::first_from(
+                self.words[at / 64] & !others.word(at / 64),
+                (at % 64) as u32,
+            ) {
+                Some(bit) => return number_below(at / 64 * 64 + bit as usize, self.count),
+                None => at = (at / 64 + 1) * 64,
+            }
+        }
+        None
+    }
+
+    /// The flags of 64 numbers, as bits, none where there are no more.
+    fn word(&self, place: usize) -> u64 {
+        if place < self.words.len() {
+            self.words[place]
+        } else {
+            0
+        }
+    }
 }

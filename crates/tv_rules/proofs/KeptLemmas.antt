@@ -1,22 +1,20 @@
 -- The lists that stand beside the base rules.
 use Rattle.std.proofs.Common.{ℕ, zero, suc, ◌≡◌, ◌<◌, ◌+◌, ◌-◌, ◌⊎◌, ◌↔◌, ◌∙◌, Bool, true, false, List, []}
 use Rattle.std.proofs.Common.{◌∷◌}
-use Rattle.std.proofs.Common.{◌++◌, length, map, Option, None, Some, IfSome, slice_get, slice_set, unwrap_or}
+use Rattle.std.proofs.Common.{◌++◌, length, map, Option, None, Some, slice_get, slice_set, unwrap_or}
 use Rattle.std.proofs.Common.{inl, inr, ⊎_elim, refl, sym, ap, subst, Contains, arith}
 use Rattle.std.specs.List.{AllZip}
 use Rattle.std.specs.Option.{option_map}
-use Rattle.std.specs.Borrow.{Bor}
 use Rattle.std.proofs.lemmas.List.{length-append, length-map}
 use Rattle.std.proofs.lemmas.Option.{slice_get-map, slice_get_within}
 use Rattle.tv_model.proofs.Lists.{Contains-none}
-use Rattle.tv_model.specs.declared.formula.Formula.{Formula}
 use Rattle.tv_model.specs.declared.program.Rule.{Rule}
 use Rattle.tv_model.specs.Form.{Form, FZero, FOne, FAtom, FIsNew, FSame, FNot, FAnd, FOr, FIff, FCond}
-use Rattle.tv_model.specs.Form.{FExists, FForall, FClosure, form_of}
+use Rattle.tv_model.specs.Form.{FExists, FForall, FClosure}
 use Rattle.tv_model.specs.Program.{HeadForm, HNever, HAtom, HSame, RuleForm, head_of, rule_of}
 use Rattle.tv_model.specs.Rules.{IsFreeInRule}
 use Rattle.tv_rules.specs.declared.entries.Entry.{Entry}
-use Rattle.tv_coerce_members.specs.Members.{IsLaidOut, MemberForm, forms_of, member_of, members_of}
+use Rattle.tv_coerce_members.specs.Members.{IsLaidOut, MemberForm, member_of, members_of}
 use Rattle.tv_coerce_members.specs.declared.shapes.Shape.{Shape}
 use Rattle.tv_rules.specs.Closing.{Swap, swaps, puttings, conjuncts, closed_set, negated, negated_head}
 use Rattle.tv_rules.specs.Closing.{negated_if, signed_head}
@@ -61,18 +59,16 @@ watched-more rules q lists new ns before here put = (
         in let At : ℕ → Type 0 = λ r. AreNumbersOf (StandsIn r) rules ns in let Of : List ℕ → Type 0 = λ zs. AreNumbersOf (StandsIn k) rules zs
         in subst Of is.1 (subst At same here)
 
--- what was found of the rules as they were read, five times
-pub are-kept : (bases : List Rule) (negations : List Formula) (shapes : List Shape) (entries : List Entry) (by_pred : List (List ℕ)) (by_sm : List ℕ)
-    → (n v e p s : List Rule) → n ≡ bases → v ≡ bases → e ≡ bases → p ≡ bases → s ≡ bases
-    → map form_of negations ≡ map (λ (rule : RuleForm). negated_head rule.head) (map rule_of n)
+-- what was found of the rules as they were read, four times
+pub are-kept : (bases : List Rule) (shapes : List Shape) (entries : List Entry) (by_pred : List (List ℕ)) (by_sm : List ℕ)
+    → (v e p s : List Rule) → v ≡ bases → e ≡ bases → p ≡ bases → s ≡ bases
     → AllZip IsShape (map rule_of v) shapes
     → map entry_of entries ≡ closed_entries (map rule_of e)
     → ((q : ℕ) (ns : List ℕ) → slice_get by_pred q ≡ Some ns → AreNumbersOf (StandsIn q) (closed_set (map rule_of p)) ns)
     → ((q k : ℕ) (rule : RuleForm) → slice_get (rules_of bases) k ≡ Some rule → StandsIn q rule → q < length by_pred)
     → AreNumbersOf SeesSummaries (closed_set (map rule_of s)) by_sm
-    → AreRuleLists bases negations shapes entries by_pred by_sm
-are-kept bases negations shapes entries by_pred by_sm n v e p s en ev ee ep es negated shaped kept numbers places seeing = record {
-  negated = subst (λ (rs : List Rule). map form_of negations ≡ map (λ (rule : RuleForm). negated_head rule.head) (map rule_of rs)) en negated;
+    → AreRuleLists bases shapes entries by_pred by_sm
+are-kept bases shapes entries by_pred by_sm v e p s ev ee ep es shaped kept numbers places seeing = record {
   shaped = subst (λ (rs : List Rule). AllZip IsShape (map rule_of rs) shapes) ev shaped;
   kept = subst (λ (rs : List Rule). map entry_of entries ≡ closed_entries (map rule_of rs)) ee kept;
   watched = record {
@@ -138,18 +134,6 @@ puttings-at x (f ∷ fs) (suc k) gs at =
     go None later none = absurd (cc none)
     go (Some hs) later same = let last : f ∷ hs ≡ gs = cc same in ap (λ zs. f ∷ zs) (later hs refl) ∙ last
 
-about-below : (o : Option ℕ) (base rule : RuleForm) (fs : List Form) → IsRuleAbout o base rule → fs ≡ conjuncts base.body
-    → IfSome o (λ k. k < length fs)
-about-below None base rule fs is are = tt
-about-below (Some k) base rule fs is are =
-    let below : k < length (swaps (negated_head base.head) base.body)
-    = slice_get_within (swaps (negated_head base.head) base.body) k is.0 is.1
-    in let count : length (swaps (negated_head base.head) base.body) ≡ length (conjuncts base.body)
-    = sym (length-map (swaps (negated_head base.head) base.body) (λ (s : Swap). s.conjunct))
-    ∙ ap length ((swaps_are_of_conjuncts (negated_head base.head) base.body).each)
-    in let same : length fs ≡ length (conjuncts base.body) = ap length are
-    in omega (arith, below, count, same)
-
 pub about-conjuncts : (o : Option ℕ) (base rule : RuleForm) → IsRuleAbout o base rule
     → swapped_at o (negated_head base.head) (conjuncts base.body) ≡ conjuncts rule.body
 about-conjuncts None base rule is = ap (λ (r : RuleForm). conjuncts r.body) (sym is)
@@ -161,15 +145,6 @@ about-conjuncts (Some k) base rule is =
     in let put : slice_get (puttings x (conjuncts base.body)) k ≡ Some (conjuncts is.0.body)
     = ap (λ ls. slice_get ls k) (sym ((swaps_are_of_conjuncts x base.body).bodies (negated_head-whole base.head))) ∙ mapped
     in puttings-at x (conjuncts base.body) k (conjuncts is.0.body) put ∙ ap conjuncts (sym is.2)
-
-forms-set : (fs : List (Bor Formula)) (k : ℕ) (x : Bor Formula) → forms_of (slice_set fs k x) ≡ slice_set (forms_of fs) k (form_of x.now)
-forms-set [] k x = refl
-forms-set (f ∷ fs) zero x = refl
-forms-set (f ∷ fs) (suc k) x = ap (λ gs. form_of f.now ∷ gs) (forms-set fs k x)
-
-pub forms-swapped : (fs : List (Bor Formula)) (k : ℕ) (x : Bor Formula) (o : Option ℕ) → o ≡ Some k
-    → forms_of (slice_set fs k x) ≡ swapped_at o (form_of x.now) (forms_of fs)
-forms-swapped fs k x o is = forms-set fs k x ∙ ap (λ p. swapped_at p (form_of x.now) (forms_of fs)) (sym is)
 
 -- a literal is the negation of the head that it gives
 signed-denied : (f : Form) (flag : Bool) (head : HeadForm) → signed_head flag f ≡ Some head → negated_if flag f ≡ negated_head head
@@ -236,8 +211,8 @@ members-counted rule shape shaped =
     sym (length-map (members_of shape.members) (λ (m : MemberForm). m.form) ∙ length-map shape.members member_of)
     ∙ ap length shaped.members ∙ length-append (conjuncts rule.body) (negated_head rule.head ∷ [])
 
-module _ (bases : List Rule) (negations : List Formula) (shapes : List Shape) (entries : List Entry) (by_pred : List (List ℕ)) (by_sm : List ℕ)
-    (is : AreRuleLists bases negations shapes entries by_pred by_sm) where
+module _ (bases : List Rule) (shapes : List Shape) (entries : List Entry) (by_pred : List (List ℕ)) (by_sm : List ℕ)
+    (is : AreRuleLists bases shapes entries by_pred by_sm) where
   zipped : AllZip (IsEntry (map rule_of bases)) (rules_of bases) (map entry_of entries)
   zipped =
       let Of : List EntryForm → Type 0 = λ es. AllZip (IsEntry (map rule_of bases)) (rules_of bases) es
@@ -269,19 +244,6 @@ module _ (bases : List Rule) (negations : List Formula) (shapes : List Shape) (e
   pub shapes-below : (n : ℕ) (e : Entry) → slice_get entries n ≡ Some e → e.base < length shapes
   shapes-below n e at = base-below IsShape shapes is.shaped n e at
 
-  same-length : length bases ≡ length shapes
-  same-length = sym (length-map bases rule_of) ∙ zip-length IsShape (map rule_of bases) shapes is.shaped
-
-  pub bases-below_count : (n : ℕ) (e : Entry) → slice_get entries n ≡ Some e → e.base < length bases
-  bases-below_count n e at = omega (arith, shapes-below n e at, same-length)
-
-  pub negations-below : (n : ℕ) (e : Entry) → slice_get entries n ≡ Some e → e.base < length negations
-  negations-below n e at =
-      let count : length negations ≡ length bases
-      = sym (length-map negations form_of) ∙ ap length is.negated
-      ∙ length-map (map rule_of bases) (λ (rule : RuleForm). negated_head rule.head) ∙ length-map bases rule_of
-      in omega (arith, bases-below_count n e at, count)
-
   pub variables-are : (n : ℕ) (rule : RuleForm) (e : Entry) (shape : Shape) → slice_get (rules_of bases) n ≡ Some rule
       → slice_get entries n ≡ Some e → slice_get shapes e.base ≡ Some shape → AreFreeIn rule shape.variables
   variables-are n rule e shape there at found v =
@@ -290,41 +252,6 @@ module _ (bases : List Rule) (negations : List Formula) (shapes : List Shape) (e
       = (zip-at IsShape (map rule_of bases) shapes is.shaped e.base entry.base shape entry.there found).free
       in let same : IsFreeInRule v rule ↔ IsFreeInRule v entry.base = free-alike v e.conjunct entry.base rule entry.about
       in (λ k. same.1 ((free v).0 k), λ k. (free v).1 (same.0 k))
-
-  -- a base rule and the negation of its head
-  base-is : (n : ℕ) (rule : RuleForm) (e : Entry) (base : Rule) → slice_get (rules_of bases) n ≡ Some rule
-      → slice_get entries n ≡ Some e → slice_get bases e.base ≡ Some base → IsRuleAbout e.conjunct (rule_of base) rule
-  base-is n rule e base there at found =
-      let entry : IsEntry (map rule_of bases) rule (entry_of e) = entry-is n rule e there at
-      in let read : slice_get (map rule_of bases) e.base ≡ Some (rule_of base) = slice_get-map rule_of bases e.base ∙ ap (option_map rule_of) found
-      in let same : entry.base ≡ rule_of base = cc (read, entry.there)
-      in let Of : RuleForm → Type 0 = λ r. IsRuleAbout e.conjunct r rule in subst Of same entry.about
-
-  negation-is : (k : ℕ) (base : Rule) (f : Formula) → slice_get bases k ≡ Some base → slice_get negations k ≡ Some f
-      → form_of f ≡ negated_head (head_of base.head)
-  negation-is k base f there at =
-      let N : RuleForm → Form = λ rule. negated_head rule.head
-      in let left : slice_get (map form_of negations) k ≡ Some (form_of f) = slice_get-map form_of negations k ∙ ap (option_map form_of) at
-      in let right : slice_get (map N (map rule_of bases)) k ≡ Some (N (rule_of base))
-      = slice_get-map N (map rule_of bases) k ∙ ap (option_map N) (slice_get-map rule_of bases k ∙ ap (option_map rule_of) there)
-      in let same : slice_get (map form_of negations) k ≡ slice_get (map N (map rule_of bases)) k = ap (λ fs. slice_get fs k) is.negated
-      in cc (left, right, same)
-
-  -- the place of a swapped conjunct is one of the base rule's
-  pub place-below : (n : ℕ) (e : Entry) (base : Rule) (fs : List Form) → n < length (rules_of bases) → slice_get entries n ≡ Some e
-      → slice_get bases e.base ≡ Some base → fs ≡ conjuncts (form_of base.body) → IfSome e.conjunct (λ k. k < length fs)
-  place-below n e base fs below at found are =
-      let rule : (r : RuleForm) × (slice_get (rules_of bases) n ≡ Some r) = some-at (rules_of bases) n below
-      in about-below e.conjunct (rule_of base) rule.0 fs (base-is n rule.0 e base rule.1 at found) are
-
-  pub conjuncts-are : (n : ℕ) (rule : RuleForm) (e : Entry) (base : Rule) (negation : Formula) (fs : List Form)
-      → slice_get (rules_of bases) n ≡ Some rule → slice_get entries n ≡ Some e → slice_get bases e.base ≡ Some base
-      → slice_get negations e.base ≡ Some negation → fs ≡ conjuncts (form_of base.body)
-      → swapped_at e.conjunct (form_of negation) fs ≡ conjuncts rule.body
-  conjuncts-are n rule e base negation fs there at found negated are =
-      ap (λ gs. swapped_at e.conjunct (form_of negation) gs) are
-      ∙ ap (λ x. swapped_at e.conjunct x (conjuncts (form_of base.body))) (negation-is e.base base negation found negated)
-      ∙ about-conjuncts e.conjunct (rule_of base) rule (base-is n rule e base there at found)
 
   pub shape-is : (n : ℕ) (rule : RuleForm) (e : Entry) (shape : Shape) (there : slice_get (rules_of bases) n ≡ Some rule)
       (at : slice_get entries n ≡ Some e) → slice_get shapes e.base ≡ Some shape → IsShape (entry-is n rule e there at).base shape

@@ -6,7 +6,6 @@ use Rattle.std.specs.Prelude.{slice_index_or}
 use Rattle.std.specs.Option.{option_map}
 use Rattle.std.proofs.lemmas.Option.{slice_get-get_or, slice_get-map, same_Some}
 use Rattle.tv_model.proofs.Lists.{slice_get-none}
-use Rattle.tv_model.specs.declared.formula.Formula.{Formula}
 use Rattle.tv_model.specs.declared.program.Rule.{Rule}
 use Rattle.tv_model.specs.Program.{RuleForm, rule_of}
 use Rattle.tv_coerce_members.specs.Members.{IsLaidOut}
@@ -24,8 +23,8 @@ use Rattle.tv_rules.proofs.KeptLemmas.{entries-below, entry-is, members-counted,
 use Rattle.tv_rules.proofs.KeptLemmas.{variables-are, waits-are}
 use Rattle.tv_rules.proofs.MovedLaws.{entry-count, less-or-last}
 
-module _ (bases : List Rule) (negations : List Formula) (shapes : List Shape) (entries : List Entry)
-    (by_pred : List (List ℕ)) (by_sm : List ℕ) (is : AreRuleLists bases negations shapes entries by_pred by_sm)
+module _ (bases : List Rule) (shapes : List Shape) (entries : List Entry)
+    (by_pred : List (List ℕ)) (by_sm : List ℕ) (is : AreRuleLists bases shapes entries by_pred by_sm)
     (rules : List Rule) (view : bases ≡ rules) where
   -- the entry of a rule
   entry-form : (n : ℕ) (e : Entry) → slice_get entries n ≡ Some e → slice_get (closed_entries (map rule_of bases)) n ≡ Some (entry_of e)
@@ -40,8 +39,8 @@ module _ (bases : List Rule) (negations : List Formula) (shapes : List Shape) (e
   skip-is n e shape below at found skip skips =
       let rule : (r : RuleForm) × (slice_get (rules_of bases) n ≡ Some r)
       = some-at (rules_of bases) n (subst (λ rs. n < length (rules_of rs)) (sym view) below)
-      in let entry : IsEntry (map rule_of bases) rule.0 (entry_of e) = entry-is bases negations shapes entries by_pred by_sm is n rule.0 e rule.1 at
-      in let shaped : IsShape entry.base shape = shape-is bases negations shapes entries by_pred by_sm is n rule.0 e shape rule.1 at found
+      in let entry : IsEntry (map rule_of bases) rule.0 (entry_of e) = entry-is bases shapes entries by_pred by_sm is n rule.0 e rule.1 at
+      in let shaped : IsShape entry.base shape = shape-is bases shapes entries by_pred by_sm is n rule.0 e shape rule.1 at found
       in let count : length (conjuncts entry.base.body) ≡ length shape.members - 1 = omega (arith, members-counted entry.base shape shaped)
       in let read : conjunct_count (slice_get (map rule_of bases) e.base) ≡ length shape.members - 1
       = ap conjunct_count entry.there ∙ count
@@ -54,13 +53,13 @@ module _ (bases : List Rule) (negations : List Formula) (shapes : List Shape) (e
   laid-out n e shape below at found =
       let rule : (r : RuleForm) × (slice_get (rules_of bases) n ≡ Some r)
       = some-at (rules_of bases) n (subst (λ rs. n < length (rules_of rs)) (sym view) below)
-      in (shape-is bases negations shapes entries by_pred by_sm is n rule.0 e shape rule.1 at found).laid
+      in (shape-is bases shapes entries by_pred by_sm is n rule.0 e shape rule.1 at found).laid
 
   pub kin-tried : (number : ℕ) (e : Entry) (shape : Shape) → slice_get entries number ≡ Some e
       → slice_get shapes e.base ≡ Some shape → (n : ℕ) (rule : RuleForm) → IsKin rules number n
       → slice_get (rules_of rules) n ≡ Some rule → IsTriedBy shape (skip_of rules n) rule
   kin-tried number e shape at found n rule kin there =
-      let below : n < length entries = entries-below bases negations shapes entries by_pred by_sm is rules view n kin.within
+      let below : n < length entries = entries-below bases shapes entries by_pred by_sm is rules view n kin.within
       in let own : (x : Entry) × (slice_get entries n ≡ Some x) = some-at entries n below
       in let same : own.0.base ≡ e.base = sym (base-is-of n own.0 own.1) ∙ kin.base ∙ base-is-of number e at
       in let here : slice_get shapes own.0.base ≡ Some shape = ap (slice_get shapes) same ∙ found
@@ -68,8 +67,8 @@ module _ (bases : List Rule) (negations : List Formula) (shapes : List Shape) (e
       in let skips : skip_of rules n ≡ unwrap_or own.0.conjunct (length shape.members - 1)
       = sym (skip-is n own.0 shape kin.within own.1 here (unwrap_or own.0.conjunct (length shape.members - 1)) refl)
       in record {
-        free = variables-are bases negations shapes entries by_pred by_sm is n rule own.0 shape rule-there own.1 here;
-        but = (waits-are bases negations shapes entries by_pred by_sm is n rule own.0 shape (skip_of rules n) rule-there own.1 here skips).0;
+        free = variables-are bases shapes entries by_pred by_sm is n rule own.0 shape rule-there own.1 here;
+        but = (waits-are bases shapes entries by_pred by_sm is n rule own.0 shape (skip_of rules n) rule-there own.1 here skips).0;
       }
 
 -- ---- a list is gone through

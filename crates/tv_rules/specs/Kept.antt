@@ -1,13 +1,10 @@
 -- What is kept beside the base rules.
 use Rattle.std.specs.Prelude.{ℕ, ◌≡◌, ◌<◌, List, length, map, Some, slice_get}
 use Rattle.std.specs.List.{AllZip}
-use Rattle.tv_model.specs.declared.formula.Formula.{Formula}
 use Rattle.tv_model.specs.declared.program.Rule.{Rule}
 use Rattle.tv_rules.specs.declared.entries.Entry.{Entry}
 use Rattle.tv_coerce_members.specs.declared.shapes.Shape.{Shape}
-use Rattle.tv_model.specs.Form.{form_of}
 use Rattle.tv_model.specs.Program.{RuleForm, rule_of}
-use Rattle.tv_rules.specs.Closing.{negated_head}
 use Rattle.tv_rules.specs.EntryForms.{closed_entries, entry_of, rules_of}
 use Rattle.tv_rules.specs.Standing.{AreNumbersOf, StandsIn, SeesSummaries}
 use Rattle.tv_rules.specs.Waiting.{IsShape}
@@ -19,9 +16,8 @@ pub record AreWatched (rules : List RuleForm) (by_pred : List (List ℕ)) : Type
       → q < length by_pred
 
 -- the lists that stand beside the base rules are right
-pub record AreRuleLists (bases : List Rule) (negations : List Formula) (shapes : List Shape)
-    (entries : List Entry) (by_pred : List (List ℕ)) (by_sm : List ℕ) : Type 0 where
-  pub negated : map form_of negations ≡ map (λ rule. negated_head rule.head) (map rule_of bases)
+pub record AreRuleLists (bases : List Rule) (shapes : List Shape) (entries : List Entry)
+    (by_pred : List (List ℕ)) (by_sm : List ℕ) : Type 0 where
   pub shaped : AllZip IsShape (map rule_of bases) shapes
   pub kept : map entry_of entries ≡ closed_entries (map rule_of bases)
   pub watched : AreWatched (rules_of bases) by_pred

@@ -7,7 +7,6 @@ pub mod Kin
 pub mod Laws
 pub mod Moved
 pub mod Noting
-pub mod PropertyForms
 pub mod Samples
 pub mod Seen
 pub mod Standing

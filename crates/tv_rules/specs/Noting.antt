@@ -1,26 +1,9 @@
 -- Which predicates stand in a rule, and the numbers of the rules that were noted for each.
 use Rattle.std.specs.Prelude.{ℕ, ◌≡◌, ◌<◌, ◌⊎◌, ◌↔◌, List, [], ◌∷◌, ◌++◌, length, Some, Contains, slice_get}
 use Rattle.std.specs.Prelude.{slice_index_or}
-use Rattle.tv_model.specs.Form.{Form, FZero, FOne, FAtom, FIsNew, FSame, FNot, FAnd, FOr, FIff, FCond}
-use Rattle.tv_model.specs.Form.{FExists, FForall, FClosure}
+pub use Rattle.tv_model.specs.Form.{mentioned}
 use Rattle.tv_model.specs.Program.{HeadForm, HNever, HAtom, HSame, RuleForm}
 use Rattle.tv_rules.specs.Standing.{StandsIn}
-
--- the predicates that stand in the formula, each as often as it does
-abbrev pub mentioned : Form → List ℕ
-mentioned FZero = []
-mentioned FOne = []
-mentioned (FAtom q vars) = q ∷ []
-mentioned (FIsNew v) = []
-mentioned (FSame v w) = []
-mentioned (FNot f) = mentioned f
-mentioned (FAnd f g) = mentioned f ++ mentioned g
-mentioned (FOr f g) = mentioned f ++ mentioned g
-mentioned (FIff f g) = mentioned f ++ mentioned g
-mentioned (FCond c f g) = mentioned c ++ mentioned f ++ mentioned g
-mentioned (FExists v f) = mentioned f
-mentioned (FForall v f) = mentioned f
-mentioned (FClosure from to left right f) = mentioned f
 
 -- the predicate that the head is about
 abbrev pub mentioned_by : HeadForm → List ℕ

@@ -1,20 +1,19 @@
 //! The closed rules of a program, kept by their base rules.
 
-ghost use Rattle.std.specs.Prelude.{ℕ, List, [], unwrap_or, IfSome, ◌≡◌, ◌<◌, ◌≤◌, ◌+◌, ◌-◌, ◌↔◌, length};
+ghost use Rattle.std.specs.Prelude.{ℕ, List, [], unwrap_or, ◌≡◌, ◌<◌, ◌≤◌, ◌+◌, ◌-◌, ◌↔◌, length};
 ghost use Rattle.std.specs.Prelude.{map, ◌≢◌, MatchOption};
-ghost use Rattle.std.specs.Prelude.{IfOk, OnOk, All, Some, slice_get, Contains, IsTrue};
+ghost use Rattle.std.specs.Prelude.{IfOk, All, Some, slice_get, Contains, IsTrue};
 ghost use Rattle.std.specs.List.{AllZip};
-ghost use Rattle.tv_model.specs.Form.{form_of, height};
+ghost use Rattle.tv_model.specs.Form.{height};
 ghost use Rattle.tv_model.specs.Heap.{Heap};
 ghost use Rattle.tv_model.specs.Program.{RuleForm, head_of, rule_of, program_of};
 ghost use Rattle.tv_model.specs.Rules.{IsConcrete, MeetsProgram, MeetsRule};
 ghost use Rattle.tv_model.specs.Valid.{IsValid, IsRule};
 ghost use Rattle.tv_stable_laws.specs.Laws.{IsPlainRule};
 ghost use Rattle.tv_model.specs.Rules.{IsFreeInRule};
-ghost use Rattle.tv_rules.specs.Closing.{closed_rules, closed_set, conjuncts, negated_head};
+ghost use Rattle.tv_rules.specs.Closing.{closed_rules, closed_set, conjuncts};
 ghost use Rattle.tv_rules.specs.Standing.{AreNumbersOf, StandsIn, SeesSummaries};
-ghost use Rattle.tv_rules.specs.EntryForms.{AreFreeIn, entry_of, closed_entries, forms_of, rules_of};
-ghost use Rattle.tv_rules.specs.EntryForms.{swapped_at};
+ghost use Rattle.tv_rules.specs.EntryForms.{entry_of, closed_entries, rules_of};
 ghost use Rattle.tv_rules.specs.Laws.{IsNoHigher};
 ghost use Rattle.tv_rules.specs.Moved.{IsMoved, IsMovedBySome};
 ghost use Rattle.tv_rules.specs.Seen.{Sees};
@@ -23,17 +22,18 @@ ghost use Rattle.tv_rules.specs.Waiting.{IsShape};
 ghost use Rattle.tv_coerce_members.specs.Members.{IsLaidOut};
 
 use crate::base::base_rules;
-use crate::conjuncts::{conjuncts, negated_head};
 use crate::entries::{Entries, Entry, closed_entries};
 use crate::mentioned::rules_with;
 use crate::moved::{families, movers_of};
 use crate::shapes::{Shapes, shape_of};
+use crate::turns::{Turn, tried_from};
 use crate::watch::{Numbers, seeing_summaries, standing};
 use std::alloc::{AllocError, Global};
 use std::marker::Model;
 use tv_coerce_members::Shape;
 use tv_coerce_moves::{Mover, Movers};
-use tv_model::{Formula, Formulas, Head, Items, PredId, Program, Rule, Rules, Var};
+use tv_model::{Head, Items, PredId, Program, Rule, Rules};
+use tv_row::Flags;
 
 /// The closed rules of a program, and for each predicate the numbers of the rules in which it stands. A
 /// further rule is kept by the number of its base rule and the place of its conjunct, so that many rules
@@ -41,8 +41,6 @@ use tv_model::{Formula, Formulas, Head, Items, PredId, Program, Rule, Rules, Var
 #[derive(Debug, Drop)]
 pub struct Closed {
     bases: Rules,
-    /// For each base rule the negation of its head.
-    negations: Formulas,
     /// For each base rule its free variables, and its conjuncts.
     shapes: Shapes,
     entries: Entries,
@@ -52,6 +50,10 @@ pub struct Closed {
     movers: Movers,
     /// For each base rule the numbers of its closed rules.
     families: Items<Numbers>,
+    /// The rules that aren't tried first, and those of them that are tried last. Hints, of which nothing is
+    /// promised.
+    later: Flags,
+    last: Flags,
 }
 
 impl Model for Closed {
@@ -70,7 +72,7 @@ impl Model for Closed {
 
     ghost view = { λ c. c.bases };
 
-    ghost invariant = { λ c. AreRuleLists c.bases c.negations c.shapes c.entries c.by_pred c.by_sm
+    ghost invariant = { λ c. AreRuleLists c.bases c.shapes c.entries c.by_pred c.by_sm
         × AreMovedBy c.bases c.movers c.families };
 }
 
@@ -100,34 +102,25 @@ fn closed_of(alloc: Global, bases: Rules, preds: usize) -> Result<Closed, AllocE
         → v < 32 }
     ensures { IfOk result (λ c. c ≡ bases) }
 {
-    let negations = negations(alloc, bases.as_slice())?;
     let shapes = shapes(alloc, bases.as_slice())?;
     let entries = closed_entries(alloc, bases.as_slice())?;
     let by_pred = watch_lists(alloc, bases.as_slice(), entries.as_slice(), preds)?;
     let by_sm = seeing_summaries(alloc, bases.as_slice(), entries.as_slice())?;
     let movers = movers_of(alloc, bases.as_slice(), entries.as_slice(), preds)?;
     let families = families(alloc, entries.as_slice(), bases.len())?;
+    let later = tried_from(alloc, Turn::Later, shapes.as_slice(), entries.as_slice())?;
+    let last = tried_from(alloc, Turn::Last, shapes.as_slice(), entries.as_slice())?;
     Ok(Closed {
         bases,
-        negations,
         shapes,
         entries,
         by_pred,
         by_sm,
         movers,
         families,
+        later,
+        last,
     })
-}
-
-fn negations(alloc: Global, bases: &[Rule]) -> Result<Formulas, AllocError>
-    ensures { IfOk result (λ fs. map form_of fs
-        ≡ map (λ (rule : RuleForm). negated_head rule.head) (map rule_of bases.now)) }
-{
-    let mut list = Items::new(alloc);
-    for rule in bases {
-        list.push(negated_head(alloc, rule.head)?)?;
-    }
-    Ok(list)
 }
 
 fn shapes(alloc: Global, bases: &[Rule]) -> Result<Shapes, AllocError>
@@ -182,19 +175,6 @@ impl Closed {
         item_at(self.entries.as_slice(), number).head
     }
 
-    /// The variables that are free in a rule, in its body or in its head, each at least once, in an order
-    /// that isn't promised.
-    pub fn variables(&self, number: usize) -> &[Var]
-        requires { number < length (rules_of self.now) }
-        ensures { (rule : RuleForm) → slice_get (rules_of self.now) number ≡ Some rule
-            → AreFreeIn rule result.now }
-    {
-        let entry = item_at(self.entries.as_slice(), number);
-        item_at(self.shapes.as_slice(), entry.base)
-            .variables
-            .as_slice()
-    }
-
     /// What trying a rule goes by, and each that came of the same base rule: their variables, and the members
     /// of the base rule, all but one of which are the conjuncts of each. Takes no memory.
     pub fn shape(&self, number: usize) -> &Shape
@@ -242,19 +222,6 @@ impl Closed {
         None
     }
 
-    /// The conjuncts of a rule's body, in order.
-    pub fn conjuncts(&self, alloc: Global, number: usize) -> Result<Vec<&Formula>, AllocError>
-        requires { number < length (rules_of self.now) }
-        ensures { IfOk result (λ fs. (rule : RuleForm) → slice_get (rules_of self.now) number ≡ Some rule
-            → forms_of fs.items ≡ conjuncts rule.body) }
-    {
-        let entry = item_at(self.entries.as_slice(), number);
-        let base = item_at(self.bases.as_slice(), entry.base);
-        let negation = item_at(self.negations.as_slice(), entry.base);
-        let list = conjuncts(alloc, &base.body)?;
-        Ok(swapped(list, entry.conjunct, negation))
-    }
-
     /// The numbers of the rules in whose body or head the predicate stands, in rising order.
     pub fn by_pred(&self, p: PredId) -> &[usize]
         ensures { AreNumbersOf (StandsIn p.0) (rules_of self.now) result.now }
@@ -268,6 +235,18 @@ impl Closed {
         ensures { AreNumbersOf SeesSummaries (rules_of self.now) result.now }
     {
         self.by_sm.as_slice()
+    }
+
+    /// The rules that aren't best tried first: those with fewer than three variables. A hint, of which
+    /// nothing is promised.
+    pub fn later(&self) -> &Flags {
+        &self.later
+    }
+
+    /// Of these the rules that are best tried when no others wait: those with a member that is no literal,
+    /// and at most one variable, as a definition's mostly are. A hint, of which nothing is promised.
+    pub fn last(&self) -> &Flags {
+        &self.last
     }
 
     /// Base rules with members that the changes which the head asks for may make greater: at least those of
@@ -313,21 +292,6 @@ fn numbers_at(lists: &[Numbers], place: usize) -> &[usize]
     } else {
         &[]
     }
-}
-
-/// The conjuncts of a further rule: those of its base rule, with the negated head in one place.
-fn swapped<'a>(
-    mut list: Vec<&'a Formula>,
-    place: Option<usize>,
-    negation: &'a Formula,
-) -> Vec<&'a Formula>
-    requires { IfSome place (λ k. k < length list.items) }
-    ensures { forms_of result.items ≡ swapped_at place (form_of negation.now) (forms_of list.entry.items) }
-{
-    if let Some(k) = place {
-        list[k] = negation;
-    }
-    list
 }
 
 /// The member of a base rule's family, of so many, that a rule's head denies: that in whose place the negated

@@ -10,9 +10,9 @@ mod laws;
 mod mentioned;
 mod moved;
 mod shapes;
+mod turns;
 mod watch;
 
-pub use base::push_properties;
 pub use closed::{Closed, close_rules};
 pub use laws::{
     base_rules_are_met, closed_rules_are_met, closed_rules_are_rules, closing_keeps_meaning,

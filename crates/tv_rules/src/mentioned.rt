@@ -2,38 +2,13 @@
 
 ghost use Rattle.std.specs.Prelude.{ℕ, ◌≡◌, ◌<◌, ◌⊎◌, ◌↔◌, ◌++◌, List, [], length, map, replicate, Some, All};
 ghost use Rattle.std.specs.Prelude.{slice_get, Contains, IfOk, IsTrue, OnOk};
-ghost use Rattle.tv_model.specs.Form.{form_of};
 ghost use Rattle.tv_model.specs.Program.{RuleForm, head_of, rule_of};
-ghost use Rattle.tv_rules.specs.Noting.{AreBasesWith, Notes, mentioned, mentioned_by, mentioned_in};
+ghost use Rattle.tv_rules.specs.Noting.{AreBasesWith, Notes, mentioned_by, mentioned_in};
 ghost use Rattle.tv_rules.specs.Standing.{StandsIn};
 
 use crate::watch::Numbers;
 use std::alloc::{AllocError, Global};
-use tv_model::{Formula, Head, Items, Rule};
-
-/// Puts the predicates that stand in the formula behind the others, each as often as it does.
-fn push_mentioned(f: &Formula, found: &mut Vec<u32>) -> Result<(), AllocError>
-    ensures { OnOk result (found.new.items ≡ found.old.items ++ mentioned (form_of f.now)) }
-{
-    match f {
-        Formula::Zero | Formula::One | Formula::IsNew(_) | Formula::Same(_, _) => Ok(()),
-        Formula::Atom(p, _) => {
-            found.push(p.0)?;
-            Ok(())
-        }
-        Formula::Not(g) | Formula::Exists(_, g) | Formula::Forall(_, g) => push_mentioned(g, found),
-        Formula::And(g, h) | Formula::Or(g, h) | Formula::Iff(g, h) => {
-            push_mentioned(g, found)?;
-            push_mentioned(h, found)
-        }
-        Formula::Cond(c, g, h) => {
-            push_mentioned(c, found)?;
-            push_mentioned(g, found)?;
-            push_mentioned(h, found)
-        }
-        Formula::Closure { body, .. } => push_mentioned(body, found),
-    }
-}
+use tv_model::{Head, Items, Rule, push_mentioned};
 
 /// Puts the predicate that the head is about behind the others, if it is about one.
 fn push_head(head: &Head, found: &mut Vec<u32>) -> Result<(), AllocError>

@@ -7,9 +7,10 @@ use Rattle.std.specs.List.{flat_map, range_with_len}
 use Rattle.std.proofs.lemmas.List.{append-nil}
 use Rattle.std.proofs.lemmas.List.FromFn.{length-map-range_with_len, get_or-map-range_with_len}
 use Rattle.std.proofs.lemmas.Grind.{flat_map-append}
+use Rattle.std.proofs.lemmas.List.Folds.{flat_map-map}
 use Rattle.tv_kleene.specs.declared.K3.{K3}
 use Rattle.tv_kleene.specs.declared.K3.TheVariants.{No, Half, Yes}
-use Rattle.tv_lemmas.proofs.Lists.{range_more}
+use Rattle.tv_lemmas.proofs.Lists.{range_more, flat_map-range}
 use Rattle.tv_model.specs.declared.program.Pred.{Pred}
 use Rattle.tv_row.specs.Bits.{is_certain}
 use Rattle.tv_model.specs.declared.program.Vocab.{Vocab}
@@ -76,14 +77,10 @@ pub one_further : {X : Type 0} (f : ℕ → List X) (from u : ℕ) (before out :
     → out ++ f u ≡ before ++ flat_map f (range_with_len 0 (u + 1))
 one_further f from u before out le none so_far = turned f before out u (none_until f from u before out le none so_far)
 
-flat_map-map : {X Y : Type 0} (g : X → Y) (f : Y → List ℕ) (xs : List X) → flat_map f (map g xs) ≡ flat_map (λ x. f (g x)) xs
-flat_map-map g f [] = refl
-flat_map-map g f (x ∷ xs) = ap (λ t. f (g x) ++ t) (flat_map-map g f xs)
-
 -- individuals, each behind a mark
 pub individuals_marked : (mark : List ℕ) (f : ℕ → List ℕ) (size : ℕ)
     → flat_map (λ u. mark ++ f u) (range_with_len 0 size) ≡ marked mark (map f (range_with_len 0 size))
-individuals_marked mark f size = sym (flat_map-map f (λ text. mark ++ text) (range_with_len 0 size))
+individuals_marked mark f size = sym (flat_map-map (λ text. mark ++ text) f (range_with_len 0 size))
 
 -- ---- rows
 
@@ -93,12 +90,6 @@ marked-flat_map mark f [] = refl
 marked-flat_map mark f (x ∷ xs) =
     ap (λ t. marked mark (f x) ++ t) (marked-flat_map mark f xs) ∙ sym (marked_append mark (f x) (flat_map f xs))
 
-within : {X : Type 0} (f g : ℕ → List X) (a n : ℕ) → ((k : ℕ) → a ≤ k → k < a + n → f k ≡ g k)
-    → flat_map f (range_with_len a n) ≡ flat_map g (range_with_len a n)
-within f g a zero same = refl
-within f g a (suc n) same = λ i. same a (omega arith) (omega arith) i
-    ++ within f g (a + 1) n (λ k low less. same k (omega (arith, low)) (omega (arith, less))) i
-
 -- the arrows of a binary predicate from an individual
 pub row_written : (preds : List Pred) (s : StructureForm) (u p : ℕ) (name : List ℕ) (targets : List (List ℕ))
     → targets ≡ map (target_text preds s) (range_with_len 0 s.size)
@@ -107,7 +98,7 @@ row_written preds s u p name targets are =
     let values : List K3 = map (λ w. value_at s p (u ∷ w ∷ [])) (range_with_len 0 s.size)
     in ap (λ n. flat_map (λ w. arrow_marked name (slice_index_or targets w []) (slice_index_or values w No)) (range_with_len 0 n))
     (length-map-range_with_len (λ w. value_at s p (u ∷ w ∷ [])) 0 s.size)
-    ∙ within (λ w. arrow_marked name (slice_index_or targets w []) (slice_index_or values w No))
+    ∙ flat_map-range (λ w. arrow_marked name (slice_index_or targets w []) (slice_index_or values w No))
     (λ w. arrow_marked name (target_text preds s w) (value_at s p (u ∷ w ∷ []))) 0 s.size (λ w low less.
     let below : w < s.size = omega (arith, less)
     in let target : slice_index_or targets w [] ≡ target_text preds s w

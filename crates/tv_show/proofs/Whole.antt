@@ -13,6 +13,7 @@ use Rattle.tv_model.specs.Program.{PredForm, pred_of, program_of}
 use Rattle.tv_model.specs.Valid.{IsPred, IsValid}
 use Rattle.tv_model.specs.declared.program.Pred.{Pred}
 use Rattle.tv_model.specs.declared.program.Program.{Program}
+use Rattle.tv_model.proofs.Parts.{names-same}
 use Rattle.tv_struct.specs.TableForm.{HasEntry}
 use Rattle.tv_struct.specs.StructureForm.{StructureForm, IsStructure, arities_of, table_of, value_at}
 use Rattle.tv_struct.specs.StructureForm.{summary_at, unmarked}
@@ -31,10 +32,6 @@ use Rattle.tv_show.proofs.Callings.{told_free, called_tells, rows_same, telling_
 
 -- ---- the predicates of a valid program
 
-names_same : (preds : List Pred) → map (λ (d : PredForm). d.name) (map pred_of preds) ≡ map (λ (pred : Pred). pred.name) preds
-names_same [] = refl
-names_same (pred ∷ preds) = ap (λ ns. pred.name ∷ ns) (names_same preds)
-
 all_at : (P : PredForm → Type 0) (preds : List Pred) → All P (map pred_of preds) → (k : ℕ) (pred : Pred) → slice_get preds k ≡ Some pred
     → P (pred_of pred)
 all_at P [] all k pred at = absurd (cc at)
@@ -46,7 +43,7 @@ all_at P (x ∷ preds) all (suc k) pred at = all_at P preds (λ j d lt. all (suc
 
 named : (p : Program) → IsValid (program_of p) → AreNamed p.vocab.preds
 named p valid = record {
-  differ = subst (AllPairs ◌≢◌) (names_same p.vocab.preds) valid.pred_names_differ;
+  differ = subst (AllPairs ◌≢◌) (names-same p.vocab.preds) valid.pred_names_differ;
   named = λ k pred at. (all_at (IsPred (program_of p)) p.vocab.preds valid.preds k pred at).name.0;
   low = λ k pred at. (all_at (IsPred (program_of p)) p.vocab.preds valid.preds k pred at).arity;
 }

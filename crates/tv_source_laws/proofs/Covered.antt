@@ -3,7 +3,7 @@ use Rattle.std.proofs.Common.{ℕ, zero, suc, ◌≡◌, ◌∙◌, List, [], �
 use Rattle.std.proofs.Common.{sym, ap, subst, arith, All, Contains}
 use Rattle.std.proofs.lemmas.Bool.{cases_eq}
 use Rattle.std.proofs.lemmas.List.Elements.{All-head, All-tail}
-use Rattle.std.proofs.lemmas.Option.{slice_get-get_or}
+use Rattle.tv_lemmas.proofs.Lists.{found_at}
 use Rattle.tv_model.specs.declared.program.Mode.{Mode}
 use Rattle.tv_model.specs.Heap.{Heap}
 use Rattle.tv_model.specs.Run.{Brings}
@@ -20,10 +20,6 @@ use Rattle.tv_source_laws.specs.Covers.{IsSourceRun, IsWarned, CoversSource}
 use Rattle.tv_source_laws.specs.Laws.{CoveredRunsCoverSources}
 use Rattle.tv_struct.specs.StructureForm.{StructureForm}
 use Rattle.tv_step_laws.specs.Closed.{CoversRuns, HasLine}
-
--- a place of the list for what it contains
-found-at : {X : Type 0} (xs : List X) (x : X) → Contains xs x → (k : ℕ) × (slice_get xs k ≡ Some x)
-found-at xs x (k, lt, is) = (k, slice_get-get_or xs k x lt ∙ ap Some is)
 
 -- there is a line for a message, or there is none
 line-decided : (lines : List MessageLine) (edge number : ℕ) → IsDecided (HasLine lines edge number)
@@ -79,7 +75,7 @@ module _ (runs : SourceRunsAreRuns) (have : MemoriesHaveHeaps) (stay : MemoriesS
     warned s later h run t among z meets =
         let heaps = heaps-of s later h run
         in let has : HasRunThrough (compiled p) p mode s later h heaps.0 = has-run s later h run heaps.0 heaps.1
-        in let at = found-at (s ∷ later) t among
+        in let at = found_at (s ∷ later) t among
         in let k = heap-of p (s ∷ later) (h ∷ heaps.0) (run.has_heap, heaps.1) at.0 t at.1
         in let m : HasTrueMessage (compiled p) (node_at p (position p t)) k.0
         = told p valid s later run.at_start run.goes_through t among z meets k.0 k.2

@@ -2,8 +2,8 @@
 use Rattle.std.proofs.Common.{◌≡◌, ℕ, zero, suc, ◌+◌, List, [], ◌∷◌, Bool, true, false, length, Some, None}
 use Rattle.std.proofs.Common.{refl, subst, inl, inr}
 use Rattle.std.specs.Prelude.{◌==◌, codes, if◌then◌else◌}
-use Rattle.std.proofs.lemmas.Bool.{eqb-true}
 use Rattle.std.proofs.lemmas.Option.{same_Some}
+use Rattle.tv_lemmas.proofs.Lists.{none_left}
 use Rattle.tv_lex.specs.Token.{SpecToken}
 use Rattle.tv_phrases.specs.Reading.{taken, ◌>>=◌, choose}
 use Rattle.tv_phrases.specs.Tokens.{after, Begins}
@@ -203,10 +203,6 @@ rows_sound (suc n) ts rest ss e =
     ]
 
 -- ---- whole programs
-
-none_left : (ts : List SpecToken) → (length ts == 0) ≡ true → ts ≡ []
-none_left [] e = refl
-none_left (t ∷ ts) e = let none : suc (length ts) ≡ 0 = eqb-true (suc (length ts)) 0 e in absurd cc
 
 has_some : (ss : List StatementText) → (length ss == 0) ≡ false → HasStatement (in_a_row ss)
 has_some [] e = absurd cc

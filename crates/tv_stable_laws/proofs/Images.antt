@@ -1,7 +1,7 @@
 -- Lemmas on images, for the crates above: the image of a stable structure is stable.
-use Rattle.std.proofs.Common.{ℕ, ◌≡◌, ◌≢◌, ◌⊎◌, Bool, true, false, List, [], ◌∷◌, map, inl, inr, ⊎_elim, refl}
+use Rattle.std.proofs.Common.{ℕ, ◌≡◌, ◌≢◌, Bool, true, false, List, [], ◌∷◌, map, inl, inr, ⊎_elim, refl}
 use Rattle.std.proofs.Common.{sym, ap, subst, ◌∙◌, arith, All, Contains, IsTrue}
-use Rattle.std.proofs.lemmas.Bool.{cases_eq, false≢true}
+use Rattle.std.proofs.lemmas.Bool.{cases_eq, false≢true, cases_Bool}
 use Rattle.std.proofs.lemmas.List.Elements.{All-nil, All-cons, All-head, All-tail}
 use Rattle.tv_kleene.specs.declared.K3.TheVariants.{No, Yes}
 use Rattle.tv_kleene.specs.Kleene.{LiesUnder, negation_of}
@@ -278,10 +278,6 @@ same-twice m s t im flag v w matters needed b base takes e met =
 
 -- ---- heads
 
-summary-cases : (p : Bool) → (p ≡ true) ⊎ (p ≡ false)
-summary-cases true = inl refl
-summary-cases false = inr refl
-
 pub head-image : (m : ℕ → ℕ) (s t : LogicalStructure) → IsImage m s t → (head : HeadForm) → IsShort head
     → (matters : ℕ → Type 0) → ((v : ℕ) → IsInHead v head → matters v)
     → (b base : Assignment) → ((v : ℕ) → matters v → Contains t.individuals (b v)) → Takes matters m s b base
@@ -308,7 +304,7 @@ head-image m s t im (HAtom flag pred (v ∷ w ∷ [])) short matters needed b ba
         ⊎_elim
         (λ summary. atom-twice_summary m s t im flag pred v matters needed b base takes summary met)
         (λ plain. atom-twice_plain m s t im flag pred v matters b base takes at_v plain met)
-        (summary-cases (t.is_summary (b v)))
+        (cases_Bool (t.is_summary (b v)))
 
     twice : (w : ℕ) → v ≡ w → ((x : ℕ) → IsInHead x (HAtom flag pred (v ∷ w ∷ [])) → matters x)
         → IsMetBelow matters m s b (HAtom flag pred (v ∷ w ∷ [])) → IsHeadMet t b (HAtom flag pred (v ∷ w ∷ []))

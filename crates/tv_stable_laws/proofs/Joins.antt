@@ -1,6 +1,7 @@
 -- Lemmas on joins, for the crates above: the join of two stable structures is stable.
 use Rattle.std.proofs.Common.{ℕ, ◌≡◌, ◌||◌, Bool, true, false, List, map, inl, inr, ⊎_elim, refl, sym, ap}
 use Rattle.std.proofs.Common.{subst, ◌∙◌, Contains, IsTrue}
+use Rattle.std.proofs.lemmas.Bool.{or_left, or_right, or_from}
 use Rattle.tv_kleene.specs.declared.K3.{K3}
 use Rattle.tv_kleene.specs.declared.K3.TheVariants.{No, Half, Yes}
 use Rattle.tv_kleene.specs.Kleene.{join_of, negation_of}
@@ -32,22 +33,12 @@ join-half_right No y e = ap (λ k. join_of No k) e
 join-half_right Half y e = refl
 join-half_right Yes y e = ap (λ k. join_of Yes k) e
 
-or-left : (p q : Bool) → p ≡ true → (p || q) ≡ true
-or-left p q e = ap (λ b. b || q) e
-
-or-right : (p q : Bool) → q ≡ true → (p || q) ≡ true
-or-right true q e = refl
-or-right false q e = e
-
-or-neither : (p q : Bool) → p ≡ false → q ≡ false → (p || q) ≡ false
-or-neither p q e d = ap (λ b. b || q) e ∙ d
-
 below-left : (s t : LogicalStructure) → IsBelow s (joined s t)
 below-left s t =
     (IsBelow-values s (joined s t)).1 (record {
       individuals = refl;
       values = λ pred tuple all. join-left (s.value pred tuple) (t.value pred tuple);
-      summaries = λ u at e. or-left (s.is_summary u) (t.is_summary u) e;
+      summaries = λ u at e. or_left (s.is_summary u) (t.is_summary u) e;
     })
 
 below-right : (s t : LogicalStructure) → s.individuals ≡ t.individuals → IsBelow t (joined s t)
@@ -55,7 +46,7 @@ below-right s t same =
     (IsBelow-values t (joined s t)).1 (record {
       individuals = sym same;
       values = λ pred tuple all. join-right (s.value pred tuple) (t.value pred tuple);
-      summaries = λ u at e. or-right (s.is_summary u) (t.is_summary u) e;
+      summaries = λ u at e. or_right (s.is_summary u) (t.is_summary u) e;
     })
 
 -- a signed formula is Half where the formula is
@@ -77,7 +68,7 @@ atom-joined s t a flag pred vars (inl p) (inr may) =
     inr (record {
       var = may.var;
       twice = may.twice;
-      summary = or-right (s.is_summary (a may.var)) (t.is_summary (a may.var)) may.summary;
+      summary = or_right (s.is_summary (a may.var)) (t.is_summary (a may.var)) may.summary;
       half = half-signed flag (joined s t) a (FAtom pred vars)
           (join-half_right (s.value pred (map a vars)) (t.value pred (map a vars))
           (signed-half flag t a (FAtom pred vars) may.half));
@@ -86,7 +77,7 @@ atom-joined s t a flag pred vars (inr may) q =
     inr (record {
       var = may.var;
       twice = may.twice;
-      summary = or-left (s.is_summary (a may.var)) (t.is_summary (a may.var)) may.summary;
+      summary = or_left (s.is_summary (a may.var)) (t.is_summary (a may.var)) may.summary;
       half = half-signed flag (joined s t) a (FAtom pred vars)
           (join-half_left (s.value pred (map a vars)) (t.value pred (map a vars))
           (signed-half flag s a (FAtom pred vars) may.half));
@@ -104,7 +95,7 @@ same-joined_both : (s t : LogicalStructure) (flag : Bool) (u w : ℕ)
     → same_value s u w ≡ wanted flag → same_value t u w ≡ wanted flag → same_value (joined s t) u w ≡ wanted flag
 same-joined_both s t true u w p q =
     same-here (joined s t) u w (same-yes s u w p).0
-    ∙ ap own_value (or-neither (s.is_summary u) (t.is_summary u) (same-yes s u w p).1 (same-yes t u w q).1)
+    ∙ ap own_value (or_from (s.is_summary u) (t.is_summary u) (same-yes s u w p).1 (same-yes t u w q).1)
 same-joined_both s t false u w p q = same-apart (joined s t) u w (same-no s u w p)
 
 same-joined : (s t : LogicalStructure) (a : Assignment) (flag : Bool) (v w : ℕ)
@@ -115,7 +106,7 @@ same-joined s t a flag v w (inl p) (inl q) =
     ((signed-wanted flag s a (FSame v w)).0 p) ((signed-wanted flag t a (FSame v w)).0 q)))
 same-joined s t a flag v w (inl p) (inr may) =
     let summary : IsTrue (s.is_summary (a may.var) || t.is_summary (a may.var))
-    = or-right (s.is_summary (a may.var)) (t.is_summary (a may.var)) may.summary
+    = or_right (s.is_summary (a may.var)) (t.is_summary (a may.var)) may.summary
     in inr (record {
       var = may.var;
       twice = may.twice;
@@ -124,7 +115,7 @@ same-joined s t a flag v w (inl p) (inr may) =
     })
 same-joined s t a flag v w (inr may) q =
     let summary : IsTrue (s.is_summary (a may.var) || t.is_summary (a may.var))
-    = or-left (s.is_summary (a may.var)) (t.is_summary (a may.var)) may.summary
+    = or_left (s.is_summary (a may.var)) (t.is_summary (a may.var)) may.summary
     in inr (record {
       var = may.var;
       twice = may.twice;

@@ -4,6 +4,6 @@ pub mod Images
 pub mod InHeaps
 pub mod Joined
 pub mod Joins
+pub mod OneCells
 -- What only the laws of this crate cite.
 mod Decided
-mod OneCells

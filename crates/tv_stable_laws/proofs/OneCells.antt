@@ -10,13 +10,13 @@ use Rattle.tv_eval_laws.proofs.Entries.{same-here}
 use Rattle.tv_stable_laws.specs.Stable.{IsStableUnder}
 use Rattle.tv_stable_laws.specs.OneCell.{one_individual, OneCellLaws}
 
-only-zero : (u : ℕ) → Contains (0 ∷ []) u → 0 ≡ u
+pub only-zero : (u : ℕ) → Contains (0 ∷ []) u → 0 ≡ u
 only-zero u at = ⊎_elim (λ e. e) (λ there. absurd (Contains-none u there)) (Contains-cases 0 u [] at)
 
 abbrev pub zeros : Assignment
 zeros v = 0
 
-unique-cell : IsStableUnder (one_individual false Yes) (unique_rule 0)
+pub unique-cell : IsStableUnder (one_individual false Yes) (unique_rule 0)
 unique-cell a inside body =
     let first : 0 ≡ a 0 = only-zero (a 0) (inside 0 (inr (inl refl)))
     in let second : 0 ≡ a 1 = only-zero (a 1) (inside 1 (inr (inr refl)))
@@ -36,7 +36,7 @@ reflexive-cell stable =
     (λ may. absurd (false≢true may.summary))
     (stable zeros (λ v free. Contains-here 0 []) refl)
 
-reflexive-summary : IsStableUnder (one_individual true Half) (reflexive_rule 0)
+pub reflexive-summary : IsStableUnder (one_individual true Half) (reflexive_rule 0)
 reflexive-summary a inside body =
     inr (record { var = 0; twice = refl; summary = refl; half = refl })
 

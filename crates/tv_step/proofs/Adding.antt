@@ -1,25 +1,12 @@
 -- Lists to which what comes of elements is put.
 use Rattle.std.proofs.Common.{ℕ, ◌≡◌, ◌∙◌, ◌<◌, ◌+◌, List, [], ◌∷◌, ◌++◌, length, take, refl, sym, ap, subst}
 use Rattle.std.proofs.Common.{append_assoc, arith, get_or, add-one, All, Contains}
-use Rattle.std.specs.Prelude.{Result, Ok, Err, IfErr, IsErrAnd, OnOk}
 use Rattle.std.proofs.lemmas.List.Elements.{All-nil, All-cons, All-head, All-append}
 use Rattle.std.proofs.lemmas.List.{append-nil, nil_from_length}
 use Rattle.std.proofs.Math.Seq.{take-suc}
 use Rattle.tv_step_laws.specs.Parts.{AreFrom}
+use Rattle.tv_step_laws.proofs.From.{from-append}
 use Rattle.tv_step.specs.Steps.{Adds}
-
-pub from-append : {X Y : Type 0} (R : X → List Y → Type 0) (xs zs : List X) (ys ws : List Y) → AreFrom R xs ys
-    → AreFrom R zs ws
-    → AreFrom R (xs ++ zs) (ys ++ ws)
-from-append {X} {Y} R [] zs ys ws a b = subst (AreFrom R zs) (ap (λ us. us ++ ws) (sym a)) b
-from-append R (x ∷ xs) zs ys ws (own, rest, made, later, is) b = (
-  own,
-  rest ++ ws,
-  made,
-  from-append R xs zs rest ws later b,
-  ap (λ us. us ++ ws) is
-      ∙ append_assoc own rest ws,
-)
 
 pub from-one : {X Y : Type 0} (R : X → List Y → Type 0) (x : X) (own : List Y) → R x own
     → AreFrom R (x ∷ []) own
@@ -81,9 +68,6 @@ of-only P xs x one all = All-head P x [] (subst (All P) one all)
 pub all-only : {X : Type 0} (P : X → Type 0) (xs : List X) (x : X) → xs ≡ x ∷ [] → P x → All P xs
 all-only P xs x one own = subst (All P) (sym one) (All-cons P x [] own (All-nil P))
 
-pub nothing-added : {Y : Type 0} (ys : List Y) → ys ≡ ys ++ []
-nothing-added ys = sym (append-nil ys)
-
 -- what holds of one element more
 pub all-more : {X : Type 0} (P : X → Type 0) (xs : List X) (x : X) → All P xs → P x → All P (xs ++ x ∷ [])
 all-more P xs x before own = All-append P xs (x ∷ []) before (All-cons P x [] own (All-nil P))
@@ -103,18 +87,3 @@ adds-next R xs i x ys zs ws lt is before made =
 pub item-there : {X : Type 0} (xs : List X) (i : ℕ) (x : X) → i < length xs → x ≡ get_or xs i x
     → Contains xs x
 item-there xs i x lt is = (i, lt, sym is)
-
--- an error that is handed on keeps its cause
-pub handed-on : {T E : Type 0} (P : E → Type 0) (r : Result T E) (e : E) → IsErrAnd r (λ f. f ≡ e) → P e
-    → IfErr r P
-handed-on P (Ok t) e same cause = tt
-handed-on P (Err f) e same cause = subst P (sym same) cause
-
-pub on_ok-weaker : {T E : Type 0} (r : Result T E) (P Q : Type 0) → (P → Q) → OnOk r P → OnOk r Q
-on_ok-weaker (Ok t) P Q weaker holds = weaker holds
-on_ok-weaker (Err e) P Q weaker holds = tt
-
-pub on_err-weaker : {T E : Type 0} (r : Result T E) (P Q : E → Type 0) → ((e : E) → P e → Q e) → IfErr r P
-    → IfErr r Q
-on_err-weaker (Ok t) P Q weaker holds = tt
-on_err-weaker (Err e) P Q weaker holds = weaker e holds

@@ -1,23 +1,25 @@
 -- Which individuals may be picked, as a row of the precondition tells.
 use Rattle.std.proofs.Common.{ℕ, ◌≡◌, ◌≢◌, ◌∙◌, ◌<◌, ◌⊎◌, false, true, List, [], ◌∷◌, length, map, replicate}
-use Rattle.std.proofs.Common.{Option, None, Some, ⊎_elim, refl, sym, ap, subst, arith, get_or, slice_get, All}
+use Rattle.std.proofs.Common.{Option, None, Some, ⊎_elim, refl, sym, ap, subst, arith, get_or, slice_get}
 use Rattle.std.proofs.Common.{Contains}
 use Rattle.std.specs.List.{range_with_len}
 use Rattle.std.proofs.lemmas.List.{get_or-replicate, length-replicate}
 use Rattle.std.proofs.lemmas.List.FromFn.{fill_by_all, get_or-map-range_with_len, length-map-range_with_len}
 use Rattle.tv_kleene.specs.declared.K3.{K3}
-use Rattle.tv_kleene.specs.declared.K3.TheVariants.{No, Half, Yes}
+use Rattle.tv_kleene.specs.declared.K3.TheVariants.{No, Yes}
 use Rattle.tv_model.specs.Form.{Form, FExists}
 use Rattle.tv_model.specs.Program.{ProgramForm, ActionForm}
 use Rattle.tv_model.specs.Truth.{Assignment, put}
 use Rattle.tv_model.specs.Valid.{IsValid, IsFormulaOver, IsVariable, free_occurrences}
-use Rattle.tv_model.proofs.Lists.{All-from_contains, Contains-cases, Contains-none}
+use Rattle.tv_model.proofs.Lists.{Contains-cases, Contains-none}
+use Rattle.tv_model.proofs.Parts.{first-occurs}
 use Rattle.tv_update_laws.specs.Picks.{isnt_no, precondition_value}
-use Rattle.tv_update_laws.proofs.Preconditions.{first-occurs, free-occurs}
+use Rattle.tv_update_laws.proofs.Preconditions.{free-occurs}
 use Rattle.tv_eval.specs.Along.{values_along}
 use Rattle.tv_eval.specs.AssignmentForm.{IsAssigned}
 use Rattle.tv_eval.specs.Formulas.{AreAssigned}
 use Rattle.tv_struct.specs.StructureForm.{StructureForm, structure_of, arities_of}
+use Rattle.tv_update_laws.proofs.Picks.{isnt-no}
 use Rattle.tv_step_laws.specs.Shaped.{IsShaped}
 use Rattle.tv_step.specs.Allowed.{precondition_values}
 use Rattle.tv_step.specs.Steps.{passes}
@@ -93,22 +95,8 @@ row-fails action s a v u row is lt none =
     no-fails action s (put a v u) (get_or row u No)
     (row-tells action s a (put a v u) v u row (get_or row u No) is lt refl refl) none
 
-isnt-no : (k : K3) → k ≢ No → isnt_no k ≡ true
-isnt-no No ne = absurd (ne refl)
-isnt-no Half ne = refl
-isnt-no Yes ne = refl
-
 pub row-passes : (action : ActionForm) (s : StructureForm) (a b : Assignment) (v u : ℕ) (row : List K3)
     → row ≡ precondition_values action s a v → u < s.size → b ≡ put a v u → get_or row u No ≢ No
     → passes action s b ≡ true
 row-passes action s a b v u row is lt same ne =
     ap isnt_no (sym (row-tells action s a b v u row (get_or row u No) is lt same refl)) ∙ isnt-no (get_or row u No) ne
-
--- all picked variables stand for individuals, where none is left
-pub all-picked : (picks left : List ℕ) (size : ℕ) (places : List (Option ℕ)) → left ≡ []
-    → ((w : ℕ) → Contains picks w → Contains left w ⊎ IsAssigned size places w)
-    → All (IsAssigned size places) picks
-all-picked picks left size places none picked =
-    All-from_contains (IsAssigned size places) picks
-    (λ w at. ⊎_elim (λ there. absurd (Contains-none w (subst (λ vars. Contains vars w) none there)))
-    (λ assigned. assigned) (picked w at))

@@ -1,14 +1,14 @@
 -- What two structures have in common, and the rules that stay met where they differ.
 use Rattle.std.proofs.Common.{ℕ, ◌≡◌, ◌∙◌, ◌<◌, ◌≤◌, ◌+◌, Bool, true, false, List, [], ◌∷◌, ◌++◌, length}
 use Rattle.std.proofs.Common.{map, take, Option, None, Some, inl, inr, ⊎_elim, refl, sym, ap, subst, arith}
-use Rattle.std.proofs.Common.{add-one, append_assoc, get_or, slice_get, replicate, Contains}
+use Rattle.std.proofs.Common.{append_assoc, get_or, slice_get, replicate, Contains}
 use Rattle.std.specs.List.{range_with_len}
 use Rattle.std.proofs.lemmas.Bool.{cases_lt}
-use Rattle.std.proofs.lemmas.List.{get_or-replicate, get_or_default, map-append}
+use Rattle.std.proofs.lemmas.List.{get_or-replicate, get_or_default}
 use Rattle.std.proofs.lemmas.List.Elements.{All-contains}
 use Rattle.std.proofs.lemmas.List.FromFn.{get_or-map-range_with_len}
 use Rattle.std.proofs.lemmas.Option.{slice_get_within, slice_get-get_or}
-use Rattle.std.proofs.Math.Seq.{take-suc}
+use Rattle.tv_lemmas.proofs.Lists.{map_next}
 use Rattle.tv_kleene.specs.declared.K3.TheVariants.{No}
 use Rattle.tv_model.specs.declared.formula.PredId.{PredId}
 use Rattle.tv_model.specs.Program.{ProgramForm, RuleForm}
@@ -73,16 +73,11 @@ alike-anywhere s t over alike = record {
 
 -- ---- sets of rules
 
--- one element more of a list that is gone along
-pub map-next : {X Y : Type 0} (f : X → Y) (xs : List X) (i : ℕ) (x : X) → i < length xs → x ≡ get_or xs i x
-    → map f (take (i + 1) xs) ≡ map f (take i xs) ++ f x ∷ []
-map-next f xs i x lt is = rw (add-one, take-suc xs i x lt, ← is) (map-append f (take i xs) (x ∷ []))
-
 pub preds-next : (qs : List ℕ) (preds : List PredId) (i : ℕ) (d : PredId) → i < length preds
     → (qs ++ map (λ p. p.0) (take i preds)) ++ (get_or preds i d).0 ∷ [] ≡ qs ++ map (λ p. p.0) (take (i + 1) preds)
 preds-next qs preds i d lt =
     append_assoc qs (map (λ p. p.0) (take i preds)) ((get_or preds i d).0 ∷ [])
-    ∙ ap (λ rs. qs ++ rs) (sym (map-next (λ p. p.0) preds i (get_or preds i d) lt
+    ∙ ap (λ rs. qs ++ rs) (sym (map_next (λ p. p.0) preds i (get_or preds i d) lt
     (get_or_default preds i d (get_or preds i d) lt)))
 
 -- what came of a stable structure is stable but for the rules that are found

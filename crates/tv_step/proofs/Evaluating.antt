@@ -1,12 +1,12 @@
 -- Formulas of the program can be evaluated in a step.
-use Rattle.std.proofs.Common.{ℕ, ◌≡◌, ◌∙◌, ◌<◌, ◌≤◌, ◌+◌, List, length, take, Option, None, refl, ap, arith}
+use Rattle.std.proofs.Common.{ℕ, ◌≡◌, ◌∙◌, ◌<◌, ◌≤◌, ◌+◌, List, length, take, Option, None, ap, arith}
 use Rattle.std.proofs.Common.{add-one, get_or}
 use Rattle.std.specs.Prelude.{unwrap_or}
 use Rattle.std.proofs.lemmas.List.{map-append}
 use Rattle.std.proofs.Math.Seq.{take-suc}
 use Rattle.tv_kleene.specs.declared.K3.{K3}
-use Rattle.tv_kleene.specs.declared.K3.TheVariants.{No, Half, Yes}
 use Rattle.tv_kleene.specs.Kleene.{larger_of}
+use Rattle.tv_kleene.proofs.Lattice.{larger-no}
 use Rattle.tv_model.specs.Form.{Form}
 use Rattle.tv_model.specs.Program.{ProgramForm, MessageForm}
 use Rattle.tv_model.specs.Rules.{blank}
@@ -42,11 +42,6 @@ pub nobody-assigned : (p : ProgramForm) (m : MessageForm) (size : ℕ) (places :
     → AreAssigned size places m.cond
 nobody-assigned p m size places is v free = absurd (Contains-none v (is.1 v free))
 
-larger-none : (k : K3) → larger_of k No ≡ k
-larger-none No = refl
-larger-none Half = refl
-larger-none Yes = refl
-
 -- the value in one more structure
 pub message-next : (ss : List StructureForm) (i : ℕ) (s : StructureForm) (m : MessageForm)
     (places : List (Option ℕ)) (k v r : K3)
@@ -57,5 +52,5 @@ pub message-next : (ss : List StructureForm) (i : ℕ) (s : StructureForm) (m : 
 message-next ss i s m places k v r lt is none before own larger =
     let at : StructureForm → K3 = λ t. value (structure_of t) blank m.cond
     in let value_there : v ≡ at s = own ∙ ap (λ a. value (structure_of s) a m.cond) (nobody-blank places none)
-    in rw (add-one, take-suc ss i s lt, ← is, map-append, greatest-append, larger-none)
+    in rw (add-one, take-suc ss i s lt, ← is, map-append, greatest-append, larger-no)
     (larger ∙ ap (λ x. larger_of x v) before ∙ ap (larger_of (message_value (take i ss) m)) value_there)

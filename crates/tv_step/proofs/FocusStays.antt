@@ -1,18 +1,19 @@
 -- A choice of focus on a stable structure is stable under the rules about other predicates.
 use Rattle.std.proofs.Common.{ℕ, ◌≡◌, ◌≢◌, ◌∙◌, ◌<◌, List, [], ◌∷◌, ◌++◌, length, map, Bool, Some, inl, inr}
-use Rattle.std.proofs.Common.{⊎_elim, refl, sym, ap, subst, ne_eqb, get_or, slice_get, All, Contains}
+use Rattle.std.proofs.Common.{⊎_elim, refl, sym, ap, subst, ne_eqb, slice_get, All, Contains}
 use Rattle.std.specs.Prelude.{◌==◌}
 use Rattle.std.specs.List.{AllZip}
 use Rattle.std.proofs.lemmas.Bool.{cond-false}
 use Rattle.std.proofs.lemmas.List.{length-map, map-id}
-use Rattle.std.proofs.lemmas.List.Elements.{All-nil, All-cons, All-append, All-contains, All-map}
+use Rattle.std.proofs.lemmas.List.Elements.{All-nil, All-cons, All-append, All-contains}
 use Rattle.std.proofs.lemmas.Option.{slice_get_within}
+use Rattle.tv_lemmas.proofs.Zips.{zip_found}
 use Rattle.tv_kleene.specs.declared.K3.{K3}
 use Rattle.tv_model.specs.Form.{Form, FZero, FOne, FAtom, FIsNew, FSame, FNot, FAnd, FOr, FIff, FCond}
 use Rattle.tv_model.specs.Form.{FExists, FForall, FClosure, Mentions}
 use Rattle.tv_model.specs.Program.{ProgramForm, RuleForm}
 use Rattle.tv_model.specs.Valid.{IsValid}
-use Rattle.tv_model.proofs.Lists.{All-from_contains, Contains-cases, Contains-here, Contains-there}
+use Rattle.tv_model.proofs.Lists.{All-from_contains, Contains-cases}
 use Rattle.tv_model.proofs.Lists.{Contains-map_back, Contains-none, slice_get-contains}
 use Rattle.tv_embedding_laws.specs.LogicalStructure.{LogicalStructure}
 use Rattle.tv_stable_laws.specs.Laws.{IsPlainRule}
@@ -27,16 +28,16 @@ use Rattle.tv_struct.proofs.Library.{AreIndividuals-range, Contains-range, below
 use Rattle.tv_focus_laws.specs.FocusAtoms.{AtomForm, focus_atoms}
 use Rattle.tv_focus_laws.specs.Choices.{AimForm, ChoiceForm, MemberForm, SplitForm, Nothing, Whole, Each}
 use Rattle.tv_focus_laws.specs.Choices.{choices, chosen, definite, focused_value, member_at, members}
-use Rattle.tv_focus_laws.specs.Choices.{members_of, copy_of}
+use Rattle.tv_focus_laws.specs.Choices.{copy_of}
 use Rattle.tv_focus_laws.specs.Stages.{atom_at, no_atom, split_at, split_structures, whole_value, with_whole}
 use Rattle.tv_focus_laws.specs.Tables.{Shows}
 use Rattle.tv_focus_laws.proofs.ChosenTables.{Copies, copies-are}
 use Rattle.tv_focus_laws.proofs.Tables.{Fits, fits-or_No}
+use Rattle.tv_focus_laws.proofs.Members.{members-inside}
 use Rattle.tv_focus.specs.Anchored.{AreAtomsOver}
 use Rattle.tv_coerce.specs.RuleSets.{IsStableBut}
 use Rattle.tv_step_laws.specs.Shaped.{IsShaped}
 use Rattle.tv_step_laws.specs.Transfer.{FocusPlace, choices_at, IsTableOf}
-use Rattle.tv_step_laws.proofs.From.{zip-there}
 use Rattle.tv_step.specs.Setting.{IsStableIn}
 use Rattle.tv_step.specs.Waiting.{WaitsAt}
 
@@ -100,16 +101,6 @@ made-whole s pred k = (
     values = λ q ne tuple all. whole-kept s pred k q ne tuple ∙ ap (s.value q) (sym (map-id tuple));
   },
 )
-
-members-inside : (us : List ℕ) (choice : ChoiceForm)
-    → All (λ (m : MemberForm). Contains us m.origin) (members us choice)
-members-inside [] choice = All-nil (λ (m : MemberForm). Contains [] m.origin)
-members-inside (u ∷ us) [] = All-nil (λ (m : MemberForm). Contains (u ∷ us) m.origin)
-members-inside (u ∷ us) (set ∷ choice) =
-    All-append (λ (m : MemberForm). Contains (u ∷ us) m.origin) (members_of u set) (members us choice)
-    (All-map (λ (m : MemberForm). Contains (u ∷ us) m.origin)
-    (λ (vector : List K3). record { origin = u; vector = vector }) set (λ k d lt. Contains-here u us))
-    (λ k d lt. Contains-there u (get_or (members us choice) k d).origin us (members-inside us choice k d lt))
 
 chosen-split : (s : StructureForm) (pred : ℕ) (aim : AimForm) (choice : ChoiceForm)
     → Contains (choices (structure_of s) pred aim) choice
@@ -217,7 +208,7 @@ focus-rest p valid s place ts n rules set same shaped stable zip over lt count w
 
     each : (t : StructureForm) → Contains ts t → IsStableBut rules set t
     each t at k rule there out =
-        let found = zip-there (IsTableOf p) ts (choices_at s place) zip t at
+        let found = zip_found (IsTableOf p) ts (choices_at s place) zip t at
         in let in_closed : Contains (closed_rules p) rule
         = slice_get-contains (closed_rules p) k rule (subst (λ rs. slice_get rs k ≡ Some rule) same there)
         in choice-stable s t pred rule

@@ -1,8 +1,9 @@
 -- Actions that are made ready, one after the other.
-use Rattle.std.proofs.Common.{ℕ, ◌≡◌, ◌∙◌, ◌<◌, ◌⊎◌, ◌^◌, ◌-◌, zero, suc, List, [], ◌∷◌, ◌++◌, length, min}
-use Rattle.std.proofs.Common.{inl, inr, ⊎_elim, refl, sym, ap, subst, arith, Some, slice_get}
+use Rattle.std.proofs.Common.{ℕ, ◌≡◌, ◌∙◌, ◌<◌, ◌^◌, ◌-◌, List, [], ◌∷◌, ◌++◌, length, min}
+use Rattle.std.proofs.Common.{⊎_elim, sym, ap, subst, arith, Some, slice_get}
 use Rattle.std.proofs.lemmas.List.{length-map}
 use Rattle.std.proofs.lemmas.List.Elements.{All-contains}
+use Rattle.tv_lemmas.proofs.Lists.{pushed_at}
 use Rattle.tv_model.specs.declared.program.Edge.{Edge}
 use Rattle.tv_model.specs.declared.program.Mode.{Mode}
 use Rattle.tv_model.specs.declared.program.Program.{Program}
@@ -12,15 +13,6 @@ use Rattle.tv_model.proofs.Lists.{slice_get-contains}
 use Rattle.tv_step.specs.declared.job.Job.{Job}
 use Rattle.tv_step_laws.specs.Transfer.{IsActionOf}
 use Rattle.tv_step.specs.Job.{action_in, AreJobs, IsJob}
-
--- what stands in a list with one element more stood there before, or is that one
-pushed-at : {X : Type 0} (xs : List X) (y x : X) (n : ℕ) → slice_get (xs ++ y ∷ []) n ≡ Some x
-    → (slice_get xs n ≡ Some x) ⊎ ((n ≡ length xs) × (y ≡ x))
-pushed-at [] y x zero is = inr (refl, cc is)
-pushed-at [] y x (suc n) is = absurd (cc is)
-pushed-at (z ∷ xs) y x zero is = inl is
-pushed-at (z ∷ xs) y x (suc n) is =
-    ⊎_elim (λ earlier. inl earlier) (λ last. inr (ap suc last.0, last.1)) (pushed-at xs y x n is)
 
 -- the action of an edge is one of the program's
 pub taken-within : (program : Program) → IsValid (program_of program) → (edge : ℕ) (taken : Edge)
@@ -38,7 +30,7 @@ pub jobs-next : (program : Program) (mode : Mode) (jobs : List Job) (job : Job) 
 jobs-next program mode jobs job n count each number is k j there =
     ⊎_elim (λ earlier. each k j earlier)
     (λ last. subst (λ (i : Job). (i.number ≡ min k (2 ^ 32 - 1)) × IsJob program mode i) last.1
-    (number ∙ ap (λ i. min i (2 ^ 32 - 1)) (sym (last.0 ∙ count)), is)) (pushed-at jobs job j k there)
+    (number ∙ ap (λ i. min i (2 ^ 32 - 1)) (sym (last.0 ∙ count)), is)) (pushed_at jobs job j k there)
 
 -- the job of an edge's action is of that action
 pub job-taken-by : (program : Program) (mode : Mode) (edge : ℕ) (taken : Edge) (job : Job)

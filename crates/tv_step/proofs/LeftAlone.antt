@@ -1,12 +1,12 @@
 -- What an action gives from a stable structure is stable under the rules that it leaves alone, and differs from
 -- it in what the action updates and evaluates anew.
-use Rattle.std.proofs.Common.{ℕ, zero, suc, ◌≡◌, ◌∙◌, ◌<◌, true, false, Bool, List, [], ◌∷◌, ◌++◌, length}
+use Rattle.std.proofs.Common.{ℕ, suc, ◌≡◌, ◌∙◌, ◌<◌, true, false, Bool, List, [], ◌∷◌, ◌++◌, length}
 use Rattle.std.proofs.Common.{map}
 use Rattle.std.proofs.Common.{filter, Option, None, Some, inl, inr, ⊎_elim, refl, sym, ap, subst, arith}
-use Rattle.std.proofs.Common.{ne_eqb, eq-eqb, get_or, slice_get, All, Contains, IsTrue}
+use Rattle.std.proofs.Common.{ne_eqb, eq-eqb, get_or, slice_get, All, Contains}
 use Rattle.std.specs.Prelude.{◌==◌, ◌||◌, is_some, find}
 use Rattle.std.specs.List.{AllZip, range_with_len}
-use Rattle.std.proofs.lemmas.Bool.{cond-true, cond-false}
+use Rattle.std.proofs.lemmas.Bool.{cond-true, cond-false, false_from_ne_true}
 use Rattle.std.proofs.lemmas.List.Elements.{All-contains, All-head, All-tail, Contains-append_left}
 use Rattle.std.proofs.lemmas.List.Elements.{Contains-append_right}
 use Rattle.std.proofs.lemmas.List.Folds.{list_any_at}
@@ -15,7 +15,6 @@ use Rattle.std.proofs.lemmas.List.FromFn.{length-map-range_with_len, length-rang
 use Rattle.tv_model.specs.declared.formula.PredId.{PredId}
 use Rattle.tv_model.specs.declared.program.Mode.{Mode}
 use Rattle.tv_model.specs.Form.{Form}
-use Rattle.tv_model.specs.declared.program.Mode.TheVariants.{Given, Recompute}
 use Rattle.tv_model.specs.Program.{ProgramForm, RuleForm, ActionForm, UpdateForm, RetainForm, KindForm, KCore}
 use Rattle.tv_model.specs.Program.{KDefined}
 use Rattle.tv_model.specs.Step.{update_for}
@@ -36,11 +35,12 @@ use Rattle.tv_struct.specs.StructureForm.{StructureForm, structure_of, summary_a
 use Rattle.tv_struct.specs.TableForm.{AreIndividuals}
 use Rattle.tv_struct.proofs.Library.{All-individuals, AreIndividuals-range, Contains-range, below-range}
 use Rattle.tv_update_laws.specs.Applied.{kind_at, update_at, used_update, new_value, keep_value, IsMiddleOf}
-use Rattle.tv_update_laws.specs.Applied.{defined_value, IsChanged, AreChanged, IsNew}
+use Rattle.tv_update_laws.specs.Applied.{defined_value, moves_individuals, IsNew}
 use Rattle.tv_update_laws.specs.Choices.{choices_of, stays_in, AreGiven}
-use Rattle.tv_update_laws.proofs.Predicates.{defined-found}
 use Rattle.tv_coerce.specs.RuleSets.{IsStableBut}
-use Rattle.tv_update.specs.Plan.{IsPlan, IsPlanFor, moves_individuals}
+use Rattle.tv_update_laws.proofs.Updates.{none-used}
+use Rattle.tv_update_laws.proofs.Determined.{changed-too}
+use Rattle.tv_update.specs.Plan.{IsPlan, IsPlanFor}
 use Rattle.tv_step_laws.proofs.From.{zip-back}
 use Rattle.tv_step.specs.declared.changed.Reach.{Reach}
 use Rattle.tv_step.specs.declared.changed.Reach.TheVariants.{Anywhere, Of}
@@ -90,11 +90,6 @@ no-update q (w ∷ updates) none =
     (ne_eqb w.pred q (λ e. none (subst (Contains (map (λ v. v.pred) (w ∷ updates))) e
     (Contains-here w.pred (map (λ v. v.pred) updates)))))
     ∙ no-update q updates (λ at. none (Contains-there w.pred q (map (λ v. v.pred) updates) at))
-
-none-used : (mode : Mode) (kind : KindForm) → used_update mode kind None ≡ None
-none-used Given kind = refl
-none-used Recompute KCore = refl
-none-used Recompute (KDefined vars body) = refl
 
 kept-value : (middle new : LogicalStructure) (a : Assignment) (changed : Bool) (w : Option UpdateForm)
     (kind : KindForm) (q : ℕ) (origin tuple : List ℕ)
@@ -229,31 +224,6 @@ given-rest p valid mode action s a ts rules set same stable given waits =
 
 -- ---- the predicates that may differ
 
--- what one set of changed predicates has, each has: definitions are ranked
-also-changed : (p : ProgramForm) (valid : IsValid p) (mode : Mode) (action : ActionForm) (one other : ℕ → Bool)
-    → AreChanged p mode action one → AreChanged p mode action other
-    → (n q : ℕ) → valid.rank q < n → IsTrue (one q) → IsTrue (other q)
-also-changed p valid mode action one other are too zero q below is = absurd (omega (arith, below))
-also-changed p valid mode action one other are too (suc n) q below is =
-    (too q).1 (by_kind (also-changed p valid mode action one other are too n) (update_at p mode action q)
-    (kind_at p q) refl ((are q).0 is))
-  where
-    by_kind : ((r : ℕ) → valid.rank r < n → IsTrue (one r) → IsTrue (other r))
-        → (used : Option UpdateForm) (kind : KindForm) → kind_at p q ≡ kind → IsChanged action one used kind
-        → IsChanged action other used kind
-    by_kind lower (Some w) kind k changed = tt
-    by_kind lower None KCore k changed = changed
-    by_kind lower None (KDefined vars body) k (inl moves) = inl moves
-    by_kind lower None (KDefined vars body) k (inr (r, mention, rest)) =
-        let found = defined-found p q vars body k
-        in let falls : valid.rank r < valid.rank q
-        = valid.no_cycle.falls q found.0 found.1 vars body found.2 r mention
-        in inr (r, mention, lower r (omega (arith, below, falls)) rest)
-
-isnt-true : (b : Bool) → (b ≡ true → ⊥) → b ≡ false
-isnt-true false never = refl
-isnt-true true never = absurd (never refl)
-
 -- what isn't updated and isn't in the plan has the same values
 given-alike : (p : ProgramForm) → IsValid p → (mode : Mode) (action : ActionForm) (s t : StructureForm)
     (a : Assignment) (ts : List StructureForm) (order : List ℕ) → IsPlan p mode action order
@@ -265,9 +235,9 @@ given-alike p valid mode action s t a ts order plan stays given at = record {
   others = λ q. ⊎_elim (λ among. inl (Contains-append_left updated order q among))
       (λ none. ⊎_elim (λ among. inl (Contains-append_right updated order q among))
       (λ out. inr (same-value p mode action a s t is q (none-counts p mode action q none)
-      (λ vars body defined. isnt-true (is.changed q)
+      (λ vars body defined. false_from_ne_true (is.changed q)
       (λ changed. out ((plan.members q).1 (
-        also-changed p valid mode action is.changed plan.changed is.are_changed
+        changed-too p mode action valid.rank valid.no_cycle is.changed plan.changed is.are_changed
             plan.are_changed (suc (valid.rank q)) q (omega arith) changed,
         none-counts p mode action q none,
       ))))))

@@ -16,9 +16,9 @@ use Rattle.tv_model.specs.Program.{ProgramForm, RuleForm, ActionForm, KindForm, 
 use Rattle.tv_model.specs.Program.{program_of}
 use Rattle.tv_model.proofs.Lists.{All-from_contains, pushed-cases, slice_get-past}
 use Rattle.tv_rules.specs.Standing.{StandsIn, SeesSummaries}
-use Rattle.tv_update_laws.specs.Applied.{kind_or_core, kind_at}
+use Rattle.tv_update_laws.specs.Applied.{kind_or_core, kind_at, moves_individuals}
 use Rattle.tv_coerce.specs.RuleSets.{IsIn, HasMore, IsRuleThat}
-use Rattle.tv_update.specs.Plan.{IsDefined, moves_individuals}
+use Rattle.tv_update.specs.Plan.{IsDefined}
 use Rattle.tv_coerce_sets.specs.Listed.{AreListed}
 use Rattle.tv_step.specs.Waiting.{WaitsAbout, WaitsAfter, WaitsAt, WaitsFor, HasRulesOf}
 

@@ -1,14 +1,15 @@
 -- What an action gives under the individuals that it may pick.
-use Rattle.std.proofs.Common.{ℕ, ◌≡◌, ◌∙◌, ◌<◌, ◌≤◌, ◌+◌, ◌*◌, ◌⊎◌, zero, suc, true, false, List, [], ◌∷◌}
+use Rattle.std.proofs.Common.{ℕ, ◌≡◌, ◌∙◌, ◌<◌, ◌≤◌, ◌+◌, ◌*◌, zero, suc, true, false, List, [], ◌∷◌}
 use Rattle.std.proofs.Common.{◌++◌, length, map, filter, min, mul_comm, Option, Some, inl, inr, ⊎_elim, refl}
-use Rattle.std.proofs.Common.{sym, ap, subst, arith, eq-eqb, ne_eqb, get_or, slice_get, All, Contains}
-use Rattle.std.specs.Prelude.{◌==◌, Any, IsSomeAnd, if◌then◌else◌}
+use Rattle.std.proofs.Common.{sym, ap, subst, arith, get_or, slice_get, All, Contains}
+use Rattle.std.specs.Prelude.{Any}
 use Rattle.std.specs.List.{flat_map, range_with_len}
-use Rattle.std.proofs.lemmas.Bool.{cases_eq, cond-true, cond-false, cases_lt}
+use Rattle.std.proofs.lemmas.Bool.{cond-true, cond-false, cases_lt}
 use Rattle.std.proofs.lemmas.List.{append-nil, length-append, length-map}
-use Rattle.std.proofs.lemmas.List.Elements.{All-nil, All-cons, All-head, All-tail, All-append, All-contains}
+use Rattle.std.proofs.lemmas.List.Elements.{All-nil, All-cons, All-append, All-contains}
 use Rattle.std.proofs.lemmas.List.Elements.{All-map}
 use Rattle.std.proofs.lemmas.Option.{get_or_from_slice_get}
+use Rattle.tv_lemmas.proofs.Lists.{All-flat_map}
 use Rattle.tv_model.specs.declared.program.Mode.{Mode}
 use Rattle.tv_model.specs.declared.program.Program.{Program}
 use Rattle.tv_model.specs.Form.{Form, height}
@@ -17,11 +18,12 @@ use Rattle.tv_model.specs.Rules.{blank}
 use Rattle.tv_model.specs.Truth.{Assignment, put, put_all}
 use Rattle.tv_model.specs.Valid.{IsValid, IsAction, IsPrecondition, IsPlainFormula, free_occurrences}
 use Rattle.tv_model.specs.Valid.{first_occurrences}
-use Rattle.tv_model.proofs.Lists.{Contains-cases, Contains-map, Contains-flat_map, Contains-filter}
+use Rattle.tv_model.proofs.Lists.{Contains-map, Contains-flat_map, Contains-filter}
 use Rattle.tv_model.proofs.Lists.{Contains-filter_back, All-from_contains, slice_get-contains}
+use Rattle.tv_model.proofs.Parts.{first-occurs}
 use Rattle.tv_eval_laws.proofs.Rounds.{range-push}
 use Rattle.tv_struct.proofs.Library.{Contains-range, below-range}
-use Rattle.tv_eval.specs.AssignmentForm.{IsAssigned, individual_for}
+use Rattle.tv_eval.specs.AssignmentForm.{IsAssigned}
 use Rattle.tv_eval.specs.Formulas.{AreAssigned}
 use Rattle.tv_eval.specs.ScratchForm.{program_height}
 use Rattle.tv_eval.proofs.Programs.{within_height}
@@ -31,16 +33,16 @@ use Rattle.tv_struct.specs.declared.analysis.StageError.TheVariants.{Splits, Ind
 use Rattle.tv_update_laws.specs.Choices.{AreGiven}
 use Rattle.tv_update_laws.specs.Picks.{picks_of, lists_of, passing_picks}
 use Rattle.tv_update_laws.specs.Tables.{HasManyChoices, IsTooLarge, IsGivenOver}
-use Rattle.tv_update_laws.proofs.Preconditions.{first-occurs, free-occurs}
+use Rattle.tv_update_laws.proofs.Preconditions.{free-occurs}
 use Rattle.tv_update.specs.Update.{action_at, no_action, IsWithinLimits, IsUpdateCause}
 use Rattle.tv_step_laws.specs.Parts.{AreFrom}
 use Rattle.tv_step_laws.specs.Shaped.{IsShaped}
 use Rattle.tv_step_laws.specs.Transfer.{GivesStructures, Finishes}
-use Rattle.tv_step_laws.proofs.From.{from-all}
+use Rattle.tv_step_laws.proofs.From.{from-all, from-append}
 use Rattle.tv_step.specs.Steps.{Adds, Ends, passes, PickGives, PicksGive, PickKeepsLimits, PicksKeepLimits}
 use Rattle.tv_step.specs.Steps.{IsCauseOfPick, IsCauseOfPicks, StepsIn, KeepsUpdateLimits, IsCauseOfUpdate}
 use Rattle.tv_step.specs.Steps.{IsCauseOfUpdates}
-use Rattle.tv_step.proofs.Adding.{adds-more, each-unit, from-append, from-one, from-weaker}
+use Rattle.tv_step.proofs.Adding.{adds-more, each-unit, from-one, from-weaker}
 
 -- ---- the action
 
@@ -129,20 +131,13 @@ picks-first p mode action s v vars a ts are =
     (λ u own. AreFrom R (map (λ ws. u ∷ ws) (lists_of us (length vars))) own)
     (λ u own made. from-mapped R (λ ws. u ∷ ws) (lists_of us (length vars)) own made) us ts are)
 
-all-flat : {X Y : Type 0} (P : Y → Type 0) (f : X → List Y) (xs : List X) → All (λ x. All P (f x)) xs
-    → All P (flat_map f xs)
-all-flat P f [] all = All-nil P
-all-flat P f (x ∷ xs) all =
-    All-append P (f x) (flat_map f xs) (All-head (λ y. All P (f y)) x xs all)
-    (all-flat P f xs (All-tail (λ y. All P (f y)) x xs all))
-
 pub limits-first : (action : ActionForm) (s : StructureForm) (v : ℕ) (vars : List ℕ) (a : Assignment)
     → All (λ u. PicksKeepLimits action s vars (put a v u)) (structure_of s).individuals
     → PicksKeepLimits action s (v ∷ vars) a
 limits-first action s v vars a all =
     let P : List ℕ → Type 0 = λ us. PickKeepsLimits action s (put_all a (v ∷ vars) us)
     in let us : List ℕ = (structure_of s).individuals
-    in all-flat P (λ u. map (λ ws. u ∷ ws) (lists_of us (length vars))) us
+    in All-flat_map P (λ u. map (λ ws. u ∷ ws) (lists_of us (length vars))) us
     (λ k d lt. All-map P (λ ws. get_or us k d ∷ ws) (lists_of us (length vars)) (all k d lt))
 
 pub given-adds : (p : ProgramForm) (mode : Mode) (action : ActionForm) (s : StructureForm) (a : Assignment)
@@ -192,25 +187,6 @@ cut-next n (suc k) total r cut is =
     (cases_lt n 4097)
 
 -- ---- one variable after the other
-
--- where an individual is put for the first variable that is left, one is left less
-pub picked-with : (picks left : List ℕ) (size v u : ℕ) (old new : List (Option ℕ))
-    → ((w : ℕ) → individual_for new w ≡ (if w == v then Some u else individual_for old w)) → u < size
-    → ((w : ℕ) → Contains picks w → Contains (v ∷ left) w ⊎ IsAssigned size old w)
-    → (w : ℕ) → Contains picks w → Contains left w ⊎ IsAssigned size new w
-picked-with picks left size v u old new is inside known w picked =
-    ⊎_elim
-    (λ same. inr
-    (subst Assigned (sym (is w ∙ ap (λ b. if b then Some u else individual_for old w) (eq-eqb w v same))) inside))
-    (λ other. ⊎_elim
-    (λ among. ⊎_elim (λ e. absurd (other (sym e))) (λ later. inl later) (Contains-cases v w left among))
-    (λ own. inr
-    (subst Assigned (sym (is w ∙ ap (λ b. if b then Some u else individual_for old w) (ne_eqb w v other))) own))
-    (known w picked))
-    (cases_eq w v)
-  where
-    Assigned : Option ℕ → Type 0
-    Assigned o = IsSomeAnd o (λ x. x < size)
 
 -- the picks of one more individual
 pub picks-next : (p : ProgramForm) (mode : Mode) (action : ActionForm) (s : StructureForm) (v : ℕ)

@@ -4,12 +4,13 @@ use Rattle.std.proofs.Common.{All, Contains}
 use Rattle.std.specs.List.{range_with_len}
 use Rattle.std.specs.List.Sorted.{IsStrictlySortedBy}
 use Rattle.std.proofs.lemmas.List.Elements.{All-cons, All-contains, All-nil}
+use Rattle.tv_lemmas.proofs.Lists.{All-mapped}
 use Rattle.tv_model.specs.declared.program.Message.{Message}
 use Rattle.tv_model.specs.declared.program.Mode.{Mode}
 use Rattle.tv_model.specs.Form.{Form, form_of}
 use Rattle.tv_model.specs.Program.{ProgramForm, ActionForm, MessageForm, message_of}
 use Rattle.tv_model.specs.Valid.{IsValid, IsPlainFormula, IsMessage}
-use Rattle.tv_model.proofs.Lists.{All-from_contains, Contains-map, Contains-map_back, Contains-flat_map_back}
+use Rattle.tv_model.proofs.Lists.{All-from_contains, Contains-map_back, Contains-flat_map_back}
 use Rattle.tv_model.proofs.Lists.{slice_get-contains}
 use Rattle.tv_eval.proofs.Programs.{within_height}
 use Rattle.tv_struct.specs.Order.{structure_cmp}
@@ -31,12 +32,6 @@ use Rattle.tv_step.proofs.Turns.{at, focus-shaped, focused-are}
 
 -- ---- what an action has
 
-all-back : {X Y : Type 0} (P : Y → Type 0) (f : X → Y) (xs : List X) → All P (map f xs)
-    → All (λ x. P (f x)) xs
-all-back P f xs all =
-    All-from_contains (λ x. P (f x)) xs
-    (λ x here. All-contains P (map f xs) (f x) all (Contains-map f x xs here))
-
 -- the places of the atoms of formulas over the program
 all-places : (p : ProgramForm) (fs : List Form) → All (IsPlainFormula p) fs
     → All (IsPlace p) (focus_places fs)
@@ -54,7 +49,7 @@ pub action-places : (p : ProgramForm) → IsValid p → (n : ℕ) (action : Acti
     → (places : List Turn) → map focus_place places ≡ focus_places action.focus
     → All (λ place. IsPlace p (focus_place place)) places
 action-places p valid n action there places are =
-    all-back (IsPlace p) focus_place places
+    All-mapped (IsPlace p) focus_place places
     (subst (All (IsPlace p)) (sym are) (all-places p action.focus (action-of p valid n action there).focus))
 
 pub action-messages : (p : ProgramForm) → IsValid p → (n : ℕ) (action : ActionForm)
@@ -62,14 +57,14 @@ pub action-messages : (p : ProgramForm) → IsValid p → (n : ℕ) (action : Ac
     → (messages : List Message) → map message_of messages ≡ action.messages
     → All (λ m. IsMessage p (message_of m)) messages
 action-messages p valid n action there messages are =
-    all-back (IsMessage p) message_of messages
+    All-mapped (IsMessage p) message_of messages
     (subst (All (IsMessage p)) (sym are) (action-of p valid n action there).messages)
 
 pub action-room : (p : ProgramForm) (n : ℕ) (action : ActionForm) → slice_get p.actions n ≡ Some action
     → (messages : List Message) → map message_of messages ≡ action.messages
     → All (λ m. HasRoomFor p (form_of m.cond)) messages
 action-room p n action there messages are =
-    all-back (λ (m : MessageForm). HasRoomFor p m.cond) message_of messages
+    All-mapped (λ (m : MessageForm). HasRoomFor p m.cond) message_of messages
     (subst (All (λ (m : MessageForm). HasRoomFor p m.cond)) (sym are)
     (All-from_contains (λ (m : MessageForm). HasRoomFor p m.cond) action.messages
     (λ m here. (within_height p).messages action m (slice_get-contains p.actions n action there) here)))

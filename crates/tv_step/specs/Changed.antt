@@ -5,7 +5,7 @@ use Rattle.tv_model.specs.Program.{ProgramForm, ActionForm, RuleForm}
 use Rattle.tv_struct.specs.StructureForm.{StructureForm}
 use Rattle.tv_coerce.specs.RuleSets.{IsStableBut}
 use Rattle.tv_coerce_sets.specs.Turned.{AreAlike, HasSameValues}
-use Rattle.tv_update.specs.Plan.{moves_individuals}
+use Rattle.tv_update_laws.specs.Applied.{moves_individuals}
 use Rattle.tv_step.specs.Setting.{IsStableIn}
 use Rattle.tv_step.specs.declared.changed.Reach.{Reach}
 use Rattle.tv_step.specs.declared.changed.Reach.TheVariants.{Anywhere, Of}

@@ -4,9 +4,9 @@ use Rattle.std.specs.Prelude.{slice_get, All}
 use Rattle.tv_model.specs.Form.{Form, Mentions}
 use Rattle.tv_model.specs.Program.{ProgramForm, RuleForm, ActionForm, KCore}
 use Rattle.tv_rules.specs.Standing.{StandsIn, SeesSummaries}
-use Rattle.tv_update_laws.specs.Applied.{kind_at}
+use Rattle.tv_update_laws.specs.Applied.{kind_at, moves_individuals}
 use Rattle.tv_coerce.specs.RuleSets.{IsIn}
-use Rattle.tv_update.specs.Plan.{IsDefined, moves_individuals}
+use Rattle.tv_update.specs.Plan.{IsDefined}
 use Rattle.tv_coerce_sets.specs.declared.found.Kept.{Kept}
 use Rattle.tv_step.specs.declared.waiting.Shared.{Shared}
 

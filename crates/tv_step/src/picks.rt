@@ -19,13 +19,12 @@ use crate::changed::{Parent, Reach};
 use crate::coerced::{Ending, push_all};
 use crate::job::Job;
 use crate::setting::Setting;
-use crate::waiting::moves;
 use tv_eval::{Assignment, Evaluator, Scratch, eval};
 use tv_kleene::K3;
 use tv_model::Var;
 use tv_row::Row;
 use tv_struct::{StageError, Structure, Structures};
-use tv_update::update_by_plan;
+use tv_update::{moves, update_by_plan};
 
 /// The most lists of individuals that an action may pick in one structure.
 const MAX_PICKS: u32 = 4096;

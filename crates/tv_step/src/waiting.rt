@@ -6,7 +6,7 @@ ghost use Rattle.tv_update_laws.specs.Applied.{kind_at};
 ghost use Rattle.tv_model.specs.Form.{form_of};
 ghost use Rattle.tv_model.specs.Program.{action_of};
 ghost use Rattle.tv_rules.specs.EntryForms.{rules_of};
-ghost use Rattle.tv_update.specs.Plan.{IsDefined, moves_individuals};
+ghost use Rattle.tv_update.specs.Plan.{IsDefined};
 ghost use Rattle.tv_step.specs.Setting.{form_in};
 ghost use Rattle.tv_step.specs.Waiting.{HasRulesOf, IsShared, WaitsAbout, WaitsAfter, WaitsAt};
 ghost use Rattle.tv_step.specs.Waiting.{WaitsFor};
@@ -17,13 +17,7 @@ use std::rc::Rc;
 use tv_coerce::RuleSet;
 use tv_coerce_sets::{Found, found_for, keep, mentioned, none_found, updated};
 use tv_model::{Action, Formula, Kind, PredId, Update};
-
-/// Whether individuals may come or go.
-pub fn moves(action: &Action) -> bool
-    ensures { result ≡ moves_individuals (action_of action.now) }
-{
-    action.fresh || action.retain.is_some()
-}
+use tv_update::moves;
 
 /// Puts the rules in which one of the predicates stands into the set.
 fn add_all(x: &Setting, preds: &[u32], waiting: &mut RuleSet)

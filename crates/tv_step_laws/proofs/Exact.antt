@@ -1,7 +1,7 @@
 -- Each part of an abstract step is determined by what it begins with.
-use Rattle.std.proofs.Common.{ℕ, ◌≡◌, ◌∙◌, ◌↔◌, Bool, true, false, List, [], ◌∷◌, length, map, Some}
+use Rattle.std.proofs.Common.{ℕ, ◌≡◌, ◌∙◌, ◌↔◌, List, [], ◌∷◌, length, map, Some}
 use Rattle.std.proofs.Common.{slice_get, inl, inr, ⊎_elim, Less, Greater, refl, sym, ap, subst, arith, All}
-use Rattle.std.proofs.Common.{Contains, IsTrue}
+use Rattle.std.proofs.Common.{Contains}
 use Rattle.std.specs.declared.cmp.Ordering.{Ordering}
 use Rattle.std.specs.Cmp.{IsTotalOrder}
 use Rattle.std.specs.Ordering.{ordering_reverse}
@@ -10,8 +10,10 @@ use Rattle.std.specs.List.Sorted.{IsStrictlySortedBy}
 use Rattle.std.proofs.lemmas.Map.Keys.{sorted_head, sorted_tail}
 use Rattle.std.proofs.lemmas.List.FromFn.{length-range_with_len}
 use Rattle.std.proofs.lemmas.List.Elements.{All-contains, All-from_recursion, All-head, All-tail}
+use Rattle.tv_lemmas.proofs.Bools.{same_tests}
+use Rattle.tv_lemmas.proofs.Zips.{same_partners}
 use Rattle.tv_kleene.specs.declared.K3.{K3}
-use Rattle.tv_kleene.specs.Kleene.{LiesUnder}
+use Rattle.tv_kleene.proofs.Lattice.{LiesUnder-antisym}
 use Rattle.tv_model.specs.declared.program.Mode.{Mode}
 use Rattle.tv_model.specs.Program.{ProgramForm, ActionForm}
 use Rattle.tv_model.specs.Valid.{IsValid}
@@ -35,7 +37,7 @@ use Rattle.tv_step_laws.specs.Transfer.{IsCoerced, Coerces, FocusPlace, focus_pl
 use Rattle.tv_step_laws.specs.Transfer.{Focuses, AreFocused, AreAtHand, message_value, GivesStructures}
 use Rattle.tv_step_laws.specs.Transfer.{IsBlurOf, Finishes, Steps, AreResults, IsResult, AreMessageValues}
 use Rattle.tv_step_laws.specs.Transfer.{IsMessageValue, IsOpening}
-use Rattle.tv_step_laws.proofs.From.{from-once, zip-once, zip-same}
+use Rattle.tv_step_laws.proofs.From.{from-once, zip-once}
 use Rattle.tv_step_laws.proofs.Heaps.{action-once}
 use Rattle.tv_step_laws.proofs.Picked.{picked-inside, passing-are}
 
@@ -103,16 +105,6 @@ full p s shaped = record { planes = shaped.planes; summaries = shaped.summaries 
 same-size : (m n : ℕ) → range_with_len 0 m ≡ range_with_len 0 n → m ≡ n
 same-size m n e = sym (length-range_with_len 0 m) ∙ ap length e ∙ length-range_with_len 0 n
 
-same-value : (x y : K3) → LiesUnder x y → LiesUnder y x → x ≡ y
-same-value x y (inl e) other = e
-same-value x y (inr half) (inl e) = sym e
-same-value x y (inr half) (inr other) = other ∙ sym half
-
-same-flag : (a b : Bool) → (IsTrue a → IsTrue b) → (IsTrue b → IsTrue a) → a ≡ b
-same-flag true b to from = sym (to refl)
-same-flag false true to from = from refl
-same-flag false false to from = refl
-
 -- structures that lie below each other are the same
 below-same : (p : ProgramForm) (t u : StructureForm) → IsShaped p t → IsShaped p u → t.fresh ≡ u.fresh
     → IsBelow (structure_of t) (structure_of u) → IsBelow (structure_of u) (structure_of t) → t ≡ u
@@ -127,9 +119,9 @@ below-same p t u is_t is_u fresh below above =
     let inside : All
     (Contains (structure_of t).individuals) tuple = All-individuals t.size tuple has.individuals
     in let Inside : List ℕ → Type 0 = λ us. All (Contains us) tuple
-    in same-value (value_at t pred tuple) (value_at u pred tuple) (low.values pred tuple inside)
+    in LiesUnder-antisym (value_at t pred tuple) (value_at u pred tuple) (low.values pred tuple inside)
     (high.values pred tuple (subst Inside low.individuals inside)))
-    (λ w lt. same-flag (summary_at t w) (summary_at u w)
+    (λ w lt. same_tests (summary_at t w) (summary_at u w)
     (low.summaries w (Contains-range t.size w lt))
     (high.summaries w (Contains-range u.size w (omega (arith, size, lt)))))
     fresh
@@ -202,7 +194,7 @@ finishes-once : (p : ProgramForm) (s : StructureForm) (ts us : List StructureFor
     → Finishes p s us → ts ≡ us
 finishes-once p s ts us (cs, coerces, zip) (ds, also, too) =
     let same : ds ≡ cs = coerces-once p s ds cs also coerces
-    in zip-same (IsBlurOf p) (blur-once p) cs ts us zip (subst (λ zs. AllZip (IsBlurOf p) zs us) same too)
+    in same_partners (IsBlurOf p) (blur-once p) cs ts us zip (subst (λ zs. AllZip (IsBlurOf p) zs us) same too)
 
 -- ---- the step
 

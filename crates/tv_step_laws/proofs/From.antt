@@ -1,5 +1,6 @@
 -- Lists that come of lists, element by element.
 use Rattle.std.proofs.Common.{◌≡◌, ◌∙◌, List, [], ◌∷◌, ◌++◌, ⊎_elim, refl, sym, ap, subst, All, Contains}
+use Rattle.std.proofs.Common.{append_assoc}
 use Rattle.std.specs.List.{AllZip}
 use Rattle.std.proofs.lemmas.List.Elements.{All-nil, All-append, All-cons, All-head, All-tail}
 use Rattle.std.proofs.lemmas.List.Elements.{Contains-append_left, Contains-append_right}
@@ -34,6 +35,18 @@ from-part {X} {Y} R (z ∷ xs) ys (own, rest, made, later, is) x at =
       within = λ y in_own. subst (In y) (sym is) (Contains-append_right own rest y (part.within y in_own));
     })
     (Contains-cases z x xs at)
+
+-- what two lists make, one after the other
+pub from-append : {X Y : Type 0} (R : X → List Y → Type 0) (xs zs : List X) (ys ws : List Y) → AreFrom R xs ys
+    → AreFrom R zs ws → AreFrom R (xs ++ zs) (ys ++ ws)
+from-append R [] zs ys ws a b = subst (AreFrom R zs) (ap (λ us. us ++ ws) (sym a)) b
+from-append R (x ∷ xs) zs ys ws (own, rest, made, later, is) b = (
+  own,
+  rest ++ ws,
+  made,
+  from-append R xs zs rest ws later b,
+  ap (λ us. us ++ ws) is ∙ append_assoc own rest ws,
+)
 
 -- P holds of one of these
 abbrev pub Some-of : {X : Type 0} → (X → Type 0) → List X → Type 0
@@ -97,18 +110,6 @@ from-once R (x ∷ xs) once ys zs (own, rest, made, later, is) (other, more, als
 
 -- ---- pairs, place by place
 
--- each element of the first list has one in the second
-pub zip-there : {X Y : Type 0} (R : X → Y → Type 0) (xs : List X) (ys : List Y) → AllZip R xs ys
-    → (x : X) → Contains xs x → (y : Y) × Contains ys y × R x y
-zip-there R [] ys zip x at = absurd (Contains-none x at)
-zip-there R (z ∷ xs) [] zip x at = absurd zip
-zip-there {X} R (z ∷ xs) (y ∷ ys) zip x at =
-    ⊎_elim
-    (λ here. let Has : X → Type 0 = λ w. R w y in (y, Contains-here y ys, subst Has here zip.0))
-    (λ there. let found = zip-there R xs ys zip.1 x there in
-    (found.0, Contains-there y found.0 ys found.1, found.2))
-    (Contains-cases z x xs at)
-
 pub zip-back : {X Y : Type 0} (R : X → Y → Type 0) (xs : List X) (ys : List Y) → AllZip R xs ys
     → (y : Y) → Contains ys y → (x : X) × Contains xs x × R x y
 zip-back R [] [] zip y at = absurd (Contains-none y at)
@@ -142,16 +143,3 @@ zip-once {X} R once (x ∷ xs) (z ∷ zs) (y ∷ ys) a b =
     let first : x ≡ z = once x z y a.0 b.0
     in let rest : xs ≡ zs = zip-once R once xs zs ys a.1 b.1
     in ap (λ (w : X). w ∷ xs) first ∙ ap (λ (ws : List X). z ∷ ws) rest
-
--- where each element of the first list has one partner, the second is one
-pub zip-same : {X Y : Type 0} (R : X → Y → Type 0) → ((x : X) (y z : Y) → R x y → R x z → y ≡ z)
-    → (xs : List X) (ys zs : List Y) → AllZip R xs ys → AllZip R xs zs → ys ≡ zs
-zip-same R once [] [] [] a b = refl
-zip-same R once [] [] (z ∷ zs) a b = absurd b
-zip-same R once [] (y ∷ ys) zs a b = absurd a
-zip-same R once (x ∷ xs) [] zs a b = absurd a
-zip-same R once (x ∷ xs) (y ∷ ys) [] a b = absurd b
-zip-same {X} {Y} R once (x ∷ xs) (y ∷ ys) (z ∷ zs) a b =
-    let first : y ≡ z = once x y z a.0 b.0
-    in let rest : ys ≡ zs = zip-same R once xs ys zs a.1 b.1
-    in ap (λ (w : Y). w ∷ ys) first ∙ ap (λ (ws : List Y). z ∷ ws) rest

@@ -1,12 +1,14 @@
 -- Abstract steps lose no heap.
-use Rattle.std.proofs.Common.{ℕ, ◌≡◌, ◌≢◌, ◌∙◌, List, [], ◌∷◌, map, Some, slice_get, slice_index_or, inl, inr}
+use Rattle.std.proofs.Common.{ℕ, ◌≡◌, ◌≢◌, ◌∙◌, List, [], ◌∷◌, map, Some, slice_get, inl, inr}
 use Rattle.std.proofs.Common.{⊎_elim, refl, sym, ap, subst, All, Contains}
 use Rattle.std.specs.Prelude.{Any}
 use Rattle.std.proofs.lemmas.Bool.{false≢true}
 use Rattle.std.specs.Option.{option_map}
 use Rattle.std.proofs.lemmas.List.{length-map}
 use Rattle.std.proofs.lemmas.Option.{slice_get-map}
-use Rattle.std.proofs.lemmas.List.Elements.{All-contains, All-map}
+use Rattle.std.proofs.lemmas.List.Elements.{All-contains}
+use Rattle.tv_lemmas.proofs.Lists.{range_differs, All-map_into}
+use Rattle.tv_lemmas.proofs.Zips.{zip_found}
 use Rattle.tv_kleene.specs.declared.K3.{K3}
 use Rattle.tv_kleene.specs.declared.K3.TheVariants.{No}
 use Rattle.tv_kleene.specs.Kleene.{LiesUnder}
@@ -40,7 +42,7 @@ use Rattle.tv_struct.specs.StructureForm.{StructureForm, structure_of, arities_o
 use Rattle.tv_struct.proofs.Library.{below-range, AreIndividuals-range}
 use Rattle.tv_focus_laws.specs.Tables.{Shows}
 use Rattle.tv_focus_laws.proofs.Stages.{stages_lose_no_heap}
-use Rattle.tv_focus_laws.proofs.Tables.{Fits, fits-or_No, differ-range}
+use Rattle.tv_focus_laws.proofs.Tables.{Fits, fits-or_No}
 use Rattle.tv_update_laws.specs.Picks.{passing_picks}
 use Rattle.tv_update_laws.proofs.Picks.{action_loses_no_heap}
 use Rattle.tv_blur.proofs.MergedLaws.{covers}
@@ -50,7 +52,7 @@ use Rattle.tv_step_laws.specs.Transfer.{AreFocused, AreAtHand, message_value, Gi
 use Rattle.tv_step_laws.specs.Transfer.{IsBlurOf, Finishes, Steps, AreResults, AreMessageValues, IsActionOf}
 use Rattle.tv_step_laws.specs.Transfer.{IsOpening, HasNoOpening}
 use Rattle.tv_step_laws.specs.Sound.{IsHeapOfSome}
-use Rattle.tv_step_laws.proofs.From.{HasPart, from-part, Some-of, some-from, zip-there, zip-back}
+use Rattle.tv_step_laws.proofs.From.{HasPart, from-part, Some-of, some-from, zip-back}
 
 -- the structure is over the program, and the heap embeds in it
 abbrev pub HasHeap : ProgramForm → Heap → StructureForm → Type 0
@@ -80,12 +82,6 @@ coerce-heap p valid h start s ts coerces heap = at coerces
 
 -- ---- focus
 
-mapped-are : (f : ℕ → ℕ) (us ws tuple : List ℕ) → ((u : ℕ) → Contains us u → Contains ws (f u))
-    → All (Contains us) tuple
-    → All (Contains ws) (map f tuple)
-mapped-are f us ws tuple into all = All-map (Contains ws) f tuple
-    (λ k d lt. into (slice_index_or tuple k d) (all k d lt))
-
 -- a heap of s that embeds in a structure embeds in a table of it over the same predicates
 table-heap : (h : Heap) (s t : StructureForm) (l : LogicalStructure) → arities_of t ≡ arities_of s → Shows t l
     → IsHeapOf h (structure_of s) → IsHeapOf h l → IsHeapOf h (structure_of t)
@@ -110,7 +106,7 @@ table-heap h s t l over shows (f, e) (g, d) = (
         let At : K3 → Type 0 = λ y. LiesUnder ((heap_structure h).value pred tuple) y
         in let inside : AreIndividuals t.size (map g tuple)
         = AreIndividuals-range t.size (map g tuple)
-        (mapped-are g h.individuals (structure_of t).individuals tuple (λ u at. here u (d.into u at)) all)
+        (All-map_into g h.individuals (structure_of t).individuals tuple (λ u at. here u (d.into u at)) all)
         in let shown : Fits t pred (map g tuple) → At (value_at t pred (map g tuple))
         = λ fits. subst At
         (sym (shows.values pred (map g tuple) (record { arity = fits; individuals = inside })))
@@ -131,7 +127,7 @@ focus-heap : (p : ProgramForm) → IsValid p → (h : Heap) → IsStart p h
     (ts : List StructureForm) → Focuses p place s ts → HasHeap p h s → Some-of (HasHeap p h) ts
 focus-heap p valid h start place s ts (us, zip, are) (shaped, heap) =
     let found : Any (IsHeapOf h) (choices_at s place)
-    = stages_lose_no_heap h (structure_of s) place.formula place.atom (differ-range s.size) heap
+    = stages_lose_no_heap h (structure_of s) place.formula place.atom (range_differs s.size) heap
     in let table : (u : StructureForm) × Contains us u × IsTableOf p u found.1
     = zip-back (IsTableOf p) us (choices_at s place) zip found.1 (found.0, found.2, found.3)
     in some-from (λ u. IsHeapOf h (structure_of u)) (HasHeap p h) (Coerces p)
@@ -218,7 +214,7 @@ finish-heap : (p : ProgramForm) → IsValid p → (h : Heap) → IsStart p h
 finish-heap p valid h start s ts (cs, coerces, zip) heap =
     let coerced : Some-of (HasHeap p h) cs = coerce-heap p valid h start s cs coerces heap
     in let blurred : (t : StructureForm) × Contains ts t × IsBlurOf p coerced.0 t
-    = zip-there (IsBlurOf p) cs ts zip coerced.0 coerced.1
+    = zip_found (IsBlurOf p) cs ts zip coerced.0 coerced.1
     in (blurred.0, blurred.1, blur-heap p h coerced.0 blurred.0 blurred.2 coerced.2)
 
 -- a heap with which a run may begin, and which embeds in s, embeds in its opening, and there is one

@@ -1,7 +1,7 @@
 -- A closed listing covers all runs.
-use Rattle.std.proofs.Common.{ℕ, ◌≡◌, ◌≢◌, ◌∙◌, List, map, Some, slice_get, inl, inr, refl, ap, All, Contains}
+use Rattle.std.proofs.Common.{ℕ, ◌≡◌, ◌≢◌, List, map, Some, slice_get, inl, inr, refl, All, Contains}
 use Rattle.std.proofs.lemmas.List.Elements.{All-contains}
-use Rattle.std.proofs.lemmas.Option.{slice_get-get_or}
+use Rattle.tv_lemmas.proofs.Lists.{found_at}
 use Rattle.tv_kleene.specs.declared.K3.{K3}
 use Rattle.tv_kleene.specs.declared.K3.TheVariants.{No}
 use Rattle.tv_model.specs.declared.program.Edge.{Edge}
@@ -42,10 +42,6 @@ covered-heap h s ts (k, t, lt, is, (g, d)) (f, e) = (
   ),
 )
 
--- a place of the list for what it contains
-found-at : {X : Type 0} (xs : List X) (x : X) → Contains xs x → (k : ℕ) × (slice_get xs k ≡ Some x)
-found-at xs x (k, lt, is) = (k, slice_get-get_or xs k x lt ∙ ap Some is)
-
 -- a heap with which a run may begin, and which embeds in a structure that is listed at the node
 record IsListed (p : ProgramForm) (listed : List (List StructureForm)) (node : ℕ) (h : Heap) : Type 0 where
   start : IsStart p h
@@ -67,7 +63,7 @@ followed-heap : (p : ProgramForm) → IsValid p → (mode : Mode) (initial : Lis
     → IsListed p listed edge.from old
     → IsListed p listed edge.to new
 followed-heap p valid mode initial listed lines closed edge old new has step is =
-    let number : (k : ℕ) × (slice_get p.edges k ≡ Some edge) = found-at p.edges edge has
+    let number : (k : ℕ) × (slice_get p.edges k ≡ Some edge) = found_at p.edges edge has
     in let s : StructureForm = is.embeds.1
     in let followed : IsFollowed p mode number.0 s (at_node listed edge.to) lines
     = closed.followed number.0 edge number.1 s (is.embeds.0, is.embeds.2, is.embeds.3)

@@ -10,6 +10,7 @@ pub mod PlaneDraws
 pub mod RowLaws
 pub mod StructureLaws
 pub mod TableLaws
+pub mod WholeDraws
 pub mod WordsLaws
 -- the library of lemmas for the crates above: its statements stay as they are
 pub mod Library

@@ -9,6 +9,7 @@ use Rattle.std.specs.Cmp.{nat_cmp_total}
 use Rattle.std.specs.Cmp.Lexicographic.{slice_cmp}
 use Rattle.std.proofs.lemmas.Bool.{cases_lt, lt-ltb, le-ltb}
 use Rattle.std.proofs.lemmas.List.{drop_all, drop_more}
+use Rattle.tv_lemmas.proofs.Orderings.{then_equal}
 use Rattle.tv_kleene.specs.declared.K3.TheVariants.{No, Half, Yes}
 use Rattle.tv_row.specs.Bits.{value_cmp}
 use Rattle.tv_struct.specs.Order.{plane_cmp, planes_cmp, structure_cmp, structure_cmp_total}
@@ -16,11 +17,6 @@ use Rattle.tv_struct.specs.StructureForm.{StructureForm, unmarked}
 use Rattle.tv_struct.specs.TableForm.{PlaneForm, no_plane}
 
 -- ---- what compares as equal is equal
-
-then-Equal : (a b : Ordering) → ordering_then a b ≡ Equal → (a ≡ Equal) × (b ≡ Equal)
-then-Equal Less b e = (e, cc)
-then-Equal Equal b e = (refl, e)
-then-Equal Greater b e = (e, cc)
 
 abbrev IsExact : {X : Type 0} → (X → X → Ordering) → Type 0
 IsExact {X} R = (x y : X) → R x y ≡ Equal → x ≡ y
@@ -50,14 +46,14 @@ lists_exact R exact [] [] e = refl
 lists_exact R exact [] (y ∷ ys) e = cc
 lists_exact R exact (x ∷ xs) [] e = cc
 lists_exact R exact (x ∷ xs) (y ∷ ys) e =
-    let both : (R x y ≡ Equal) × (slice_cmp R xs ys ≡ Equal) = then-Equal (R x y) (slice_cmp R xs ys) e
+    let both : (R x y ≡ Equal) × (slice_cmp R xs ys ≡ Equal) = then_equal (R x y) (slice_cmp R xs ys) e
     in let head : x ≡ y = exact x y both.0
     in let tail : xs ≡ ys = lists_exact R exact xs ys both.1
     in λ i. head i ∷ tail i
 
 plane_exact : IsExact plane_cmp
 plane_exact p q e =
-    let both : (nat_cmp p.arity q.arity ≡ Equal) × (slice_cmp (slice_cmp value_cmp) p.rows q.rows ≡ Equal) = then-Equal _ _ e
+    let both : (nat_cmp p.arity q.arity ≡ Equal) × (slice_cmp (slice_cmp value_cmp) p.rows q.rows ≡ Equal) = then_equal _ _ e
     in let arity : p.arity ≡ q.arity = nat_exact _ _ both.0
     in let rows : p.rows ≡ q.rows
     = lists_exact (slice_cmp value_cmp) (lists_exact value_cmp value_exact) p.rows q.rows both.1
@@ -67,9 +63,9 @@ pub structure_cmp-Equal : (a b : StructureForm) → structure_cmp a b ≡ Equal 
 structure_cmp-Equal a b e =
     let both : (nat_cmp a.size b.size ≡ Equal)
     × (ordering_then (slice_cmp bool_cmp a.summaries b.summaries) (planes_cmp a.planes b.planes) ≡ Equal)
-    = then-Equal _ _ e
+    = then_equal _ _ e
     in let later : (slice_cmp bool_cmp a.summaries b.summaries ≡ Equal) × (planes_cmp a.planes b.planes ≡ Equal)
-    = then-Equal _ _ both.1
+    = then_equal _ _ both.1
     in let size : a.size ≡ b.size = nat_exact _ _ both.0
     in let summaries : a.summaries ≡ b.summaries = lists_exact bool_cmp bool_exact a.summaries b.summaries later.0
     in let planes : a.planes ≡ b.planes = lists_exact plane_cmp plane_exact a.planes b.planes later.1

@@ -3,18 +3,12 @@ use Rattle.std.proofs.Common.{ℕ, ◌≡◌, ◌<◌, ◌≤◌, ◌+◌, ◌-�
 use Rattle.std.proofs.Common.{true≢false, List, [], ◌∷◌, ◌++◌, length, get_or, replicate, take, refl, sym, ap}
 use Rattle.std.proofs.Common.{◌∙◌, arith, append_assoc, append-nil, add-zero, zero-add, zero, suc}
 use Rattle.std.specs.Prelude.{Contains, sum, count_by, if◌then◌else◌}
-use Rattle.std.specs.List.{range_with_len}
-use Rattle.std.proofs.lemmas.List.{length-append, length-replicate, length-take-le, take_more, map-id}
+use Rattle.std.proofs.lemmas.List.{length-append, length-replicate, length-take-le, take_more}
 use Rattle.std.proofs.lemmas.List.{get_or_append_left, get_or-replicate, get_or-append-add, get_or_default}
 use Rattle.std.proofs.lemmas.List.Sums.{sum_by-cons}
-use Rattle.std.proofs.lemmas.List.FromFn.{map-range_with_len_more}
 use Rattle.std.proofs.lemmas.Bool.{cases_lt}
 use Rattle.tv_struct.specs.Origins.{AreKept, IsCopy, AreCopies}
 use Rattle.tv_struct.specs.StructureForm.{kept_from, copies_from}
-
-pub range_with_len_more : (a n : ℕ) → range_with_len a (n + 1) ≡ range_with_len a n ++ (a + n) ∷ []
-range_with_len_more a n =
-    sym (map-id _) ∙ map-range_with_len_more (λ u. u) a n (a + n) refl ∙ ap (λ us. us ++ (a + n) ∷ []) (map-id _)
 
 kept_from-append : (n : ℕ) (xs : List Bool) (b : Bool) (j : ℕ) → n + length xs ≡ j
     → kept_from n (xs ++ b ∷ []) ≡ kept_from n xs ++ (if b then j ∷ [] else [])

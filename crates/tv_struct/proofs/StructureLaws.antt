@@ -254,7 +254,7 @@ get_or-replicate_any n i x d = at (cases_lt i n)
     at (inl lt) = inl (get_or-replicate n i x d lt)
     at (inr ge) = inr (get_or_past (replicate n x) i d (rw (length-replicate n x) ge))
 
-no-replicate : (n i : ℕ) → get_or (replicate n No) i No ≡ No
+pub no-replicate : (n i : ℕ) → get_or (replicate n No) i No ≡ No
 no-replicate n i = elim (get_or-replicate_any n i No No) [ inl e ↦ e | inr e ↦ e ]
 
 cell-no : (rows columns r c : ℕ) → cell (replicate rows (replicate columns No)) r c ≡ No

@@ -13,6 +13,8 @@ use Rattle.std.proofs.lemmas.List.{ext_get_or, length-append, length-take-le, le
 use Rattle.std.proofs.lemmas.List.{get_or-drop, get_or_past, get_or_default, take-append-drop, drop-drop}
 use Rattle.std.proofs.lemmas.List.{drop_all, append_assoc}
 use Rattle.std.proofs.lemmas.List.FromFn.{length-map-range_with_len, get_or-map-range_with_len}
+use Rattle.std.proofs.Math.Nat.{mul-le-mul_right}
+use Rattle.tv_lemmas.proofs.Orderings.{then_nothing}
 use Rattle.tv_kleene.specs.declared.K3.{K3}
 use Rattle.tv_kleene.specs.declared.K3.TheVariants.{No}
 use Rattle.tv_row.specs.Bits.{value_cmp}
@@ -94,9 +96,6 @@ row-words words n columns start long few room unused =
 
 -- ---- the words of rows, of planes and of a table
 
-times-le : (a b n : ℕ) → a ≤ b → a * n ≤ b * n
-times-le a b n le = grind arith
-
 module _ (words : List (List K3)) (width size : ℕ) (long : AreWords words) (few : width ≤ 4) where
   rows_are : (columns start k n : ℕ) → (start + k + n) * width ≤ length words
       → ((row column : ℕ) → row < k + n → columns ≤ column → column < 64 * width → value_in words ((start + row) * width) column ≡ No)
@@ -111,7 +110,7 @@ module _ (words : List (List K3)) (width size : ℕ) (long : AreWords words) (fe
       in let next : start + k + suc n ≡ start + (k + 1) + n = omega arith
       in let step : place + width ≡ (start + (k + 1)) * width = grind arith
       in let room : (start + (k + 1)) * width ≤ length words
-      = omega (arith, times-le (start + (k + 1)) (start + k + suc n) width (omega arith), fits)
+      = omega (arith, mul-le-mul_right {m = start + (k + 1)} {n = start + k + suc n} width (omega arith), fits)
       in let here : first ≡ take width (drop place words)
       = row-words words width columns place long few (omega (arith, step, room)) (λ column past low. none k column (omega arith) past low)
       in let rest : others ++ drop ((start + (k + 1) + n) * width) words ≡ drop ((start + (k + 1)) * width) words
@@ -136,7 +135,7 @@ module _ (words : List (List K3)) (width size : ℕ) (long : AreWords words) (fe
       in let end : ℕ = end_from size (start + count) arities
       in let zeros : start + 0 + count ≡ start + count = omega arith
       in let room : (start + 0 + count) * width ≤ length words
-      = omega (arith, times-le (start + 0 + count) end width (omega (arith, end_above size (start + count) arities)), fits)
+      = omega (arith, mul-le-mul_right {m = start + 0 + count} {n = end} width (omega (arith, end_above size (start + count) arities)), fits)
       in let rest : others ++ drop (end * width) words ≡ drop ((start + count) * width) words
       = planes_are (start + count) arities fits none.1
       in append_assoc first others (drop (end * width) words) ∙ ap (λ ws. first ++ ws) rest
@@ -170,11 +169,6 @@ cmp_append R [] b (y ∷ c) d len = absurd (omega arith)
 cmp_append R (x ∷ a) b [] d len = absurd (omega arith)
 cmp_append R (x ∷ a) b (y ∷ c) d len =
     ap (ordering_then (R x y)) (cmp_append R a b c d (omega arith)) ∙ sym (then_then (R x y) (slice_cmp R a c) (slice_cmp R b d))
-
-then-Equal : (a : Ordering) → ordering_then a Equal ≡ a
-then-Equal Less = refl
-then-Equal Equal = refl
-then-Equal Greater = refl
 
 module _ (n : ℕ) (few : n ≤ 4) where
   cells : (row : List K3) (columns : ℕ) → length row ≡ columns → columns ≤ 64 * n → HoldsCells (take n (row_words row)) n 1 columns
@@ -211,7 +205,7 @@ module _ (n : ℕ) (few : n ≤ 4) where
       (cells other columns (sym same) room)
       ∙ ap (λ rows. slice_cmp (slice_cmp value_cmp) rows (rows_of (take n (row_words other)) n 1 columns)) (one_row row columns refl room)
       ∙ ap (slice_cmp (slice_cmp value_cmp) (row ∷ [])) (one_row other columns (sym same) room)
-      ∙ then-Equal (slice_cmp value_cmp row other)
+      ∙ then_nothing (slice_cmp value_cmp row other)
 
   -- rows of one shape
   abbrev SameRows : List (List K3) → List (List K3) → Type 0

@@ -8,7 +8,7 @@ ghost use Rattle.tv_struct.specs.StructureForm.{kept_from, copies_from};
 use std::alloc::{AllocError, Global};
 
 /// The individuals from 0 to `size`.
-#[tactic(auto, using(crate::proofs::OriginLaws::range_with_len_more))]
+#[tactic(auto, using(tv_lemmas::proofs::Lists::range_more))]
 pub fn all_and_next(alloc: Global, size: u32) -> Result<Vec<u32>, AllocError>
     requires { size ≤ 255 }
     ensures items { IfOk result (λ origins. origins.items ≡ range_with_len 0 (size + 1)) }

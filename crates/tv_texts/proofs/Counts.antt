@@ -1,5 +1,5 @@
 -- A text has fewer structures than bytes.
-use Rattle.std.proofs.Common.{◌≡◌, ℕ, ◌+◌, ◌<◌, ◌≤◌, ◌^◌, List, [], ◌∷◌, length, None, Result, Ok, Err, refl}
+use Rattle.std.proofs.Common.{◌≡◌, ℕ, ◌<◌, ◌≤◌, ◌^◌, List, [], ◌∷◌, length, None, Result, Ok, Err, refl}
 use Rattle.std.proofs.Common.{sym, ap, arith}
 use Rattle.std.specs.Prelude.{All}
 use Rattle.std.proofs.lemmas.List.{length-map}
@@ -7,6 +7,7 @@ use Rattle.tv_lex.specs.Pieces.{AreInOrder}
 use Rattle.tv_lex.specs.Token.{SpecToken, spec_token, spec_tokens}
 use Rattle.tv_lex.specs.declared.token.Token.{Token}
 use Rattle.tv_model.specs.declared.program.Pred.{Pred}
+use Rattle.tv_lex.proofs.PlaceLemmas.{count_in_order}
 use Rattle.tv_phrases.specs.Repeated.{Repeated}
 use Rattle.tv_struct.specs.StructureForm.{StructureForm, IsOver}
 use Rattle.tv_tree.specs.Steps.{◌>>=◌}
@@ -39,10 +40,6 @@ meant_count preds (t ∷ ts) ss e =
     let same : length (b.0 ∷ d.0) ≡ length ss = ap length (same_Ok {X = List StructureForm} {E = TvsError} (b.0 ∷ d.0) ss d.2) in
     omega (arith, same, meant_count preds ts d.0 d.1)
 
-in_order_fits : (at : ℕ) (tokens : List Token) (end : ℕ) → AreInOrder at tokens end → at + length tokens ≤ end
-in_order_fits at [] end h = omega (arith, h)
-in_order_fits at (t ∷ ts) end h = omega (arith, h.0, h.1, in_order_fits t.end ts end h.2)
-
 pub few_structures : (vocab : Vocab) (text : List ℕ) (tokens : List Token) (ss : List StructureForm)
     → AreInOrder 0 tokens (length text) → length text ≤ 4194304 → MeansStructs vocab (spec_tokens text tokens) (Ok ss)
     → length ss < 2 ^ 32
@@ -50,7 +47,7 @@ few_structures vocab text tokens ss order size means =
     omega (
       arith,
       size,
-      in_order_fits 0 tokens (length text) order,
+      count_in_order 0 tokens (length text) order,
       length-map tokens (spec_token text),
       many_counts (spec_tokens text tokens) means.trees [] means.are,
       meant_count vocab.preds means.trees ss means.meant,

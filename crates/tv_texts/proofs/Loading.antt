@@ -1,5 +1,5 @@
 -- What files give, from what reading them gives.
-use Rattle.std.proofs.Common.{ℕ, ◌<◌, List, Option, None, Some, Result, Ok, Err, refl}
+use Rattle.std.proofs.Common.{ℕ, ◌≡◌, ◌<◌, ◌≤◌, List, Option, None, Some, Result, Ok, Err, arith, refl}
 use Rattle.std.specs.Prelude.{length}
 use Rattle.tv_lex.specs.Gather.{Gathers, GatherCause}
 use Rattle.tv_lex.specs.declared.gatherer.GatherError.{GatherError}
@@ -35,6 +35,14 @@ longer : (told : Option Held) (name : List ℕ) (limit : ℕ) → IsLonger told 
     → HoldsSuch told name (λ bytes. limit < length bytes)
 longer None name limit h = tt
 longer (Some held) name limit h = h
+
+-- counts that rose in what came after
+pub rose_later : (old mid new : ℕ) → old ≤ mid → Rose mid new → Rose old new
+rose_later old mid new le rose = λ below. omega (arith, le, rose below)
+
+-- steady files stay as they were
+pub still : (old mid new : ℕ) (steady : Type 0) → mid ≡ old → steady × (new ≡ mid) → steady × (new ≡ old)
+still old mid new steady same h = (h.0, rw (h.1, same) refl)
 
 -- a file that wasn't read
 pub not_read : (told : Option Held) (name : List ℕ) (limit : ℕ) (its_role : Role) (e : ReadError) (steady : Type 0) (old new : ℕ)

@@ -2,6 +2,7 @@
 use Rattle.std.proofs.Common.{◌≡◌, ◌<◌, ℕ, List, [], ◌∷◌, map, Option, None, Some, Result, Ok, Err, refl, sym}
 use Rattle.std.proofs.Common.{ap, subst, ◌∙◌}
 use Rattle.std.specs.Prelude.{slice_index, slice_get, length, All, Contains}
+use Rattle.tv_model.proofs.Parts.{names-same}
 use Rattle.tv_lex.specs.Token.{SpecToken, spec_tokens}
 use Rattle.tv_lex.specs.declared.token.Token.{Token}
 use Rattle.tv_listing.specs.declared.analysis.Analysis.{Analysis}
@@ -96,18 +97,14 @@ module _ (preds others : List Pred)
 
 -- ---- the vocabulary of a program
 
-names_said : (preds : List Pred) → map (λ (d : PredForm). d.name) (map pred_of preds) ≡ map (λ (pred : Pred). pred.name) preds
-names_said [] = refl
-names_said (pred ∷ preds) = ap (λ ns. pred.name ∷ ns) (names_said preds)
-
 arities_said : (preds : List Pred) → map (λ (d : PredForm). d.arity) (map pred_of preds) ≡ map (λ (pred : Pred). pred.arity) preds
 arities_said [] = refl
 arities_said (pred ∷ preds) = ap (λ ns. pred.arity ∷ ns) (arities_said preds)
 
 pub same_names : (p q : Program) → SameProgram p q
     → map (λ (pred : Pred). pred.name) p.vocab.preds ≡ map (λ (pred : Pred). pred.name) q.vocab.preds
-same_names p q same = sym (names_said p.vocab.preds)
-    ∙ ap (λ (f : ProgramForm). map (λ (d : PredForm). d.name) f.preds) same ∙ names_said q.vocab.preds
+same_names p q same = sym (names-same p.vocab.preds)
+    ∙ ap (λ (f : ProgramForm). map (λ (d : PredForm). d.name) f.preds) same ∙ names-same q.vocab.preds
 
 pub same_arities : (p q : Program) → SameProgram p q
     → map (λ (pred : Pred). pred.arity) p.vocab.preds ≡ map (λ (pred : Pred). pred.arity) q.vocab.preds

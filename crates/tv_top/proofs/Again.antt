@@ -3,7 +3,8 @@ use Rattle.std.proofs.Common.{◌≡◌, ◌≢◌, ◌<◌, ℕ, zero, suc, Lis
 use Rattle.std.proofs.Common.{Some, inl, inr, false, refl, le_refl, sym, ap, subst, ◌∙◌, arith}
 use Rattle.std.specs.Prelude.{All, AllPairs, Any, Contains, IsSome, slice_get, ◌↔◌}
 use Rattle.std.proofs.lemmas.List.{length-map, get_or-map}
-use Rattle.std.proofs.lemmas.List.Elements.{All-head, All-tail}
+use Rattle.std.proofs.lemmas.List.Folds.{map_fixed}
+use Rattle.tv_struct.proofs.Library.{unmarked-same}
 use Rattle.tv_join.specs.Rounds.{IsInRound, point}
 use Rattle.tv_judge.specs.Judged.{KeepsAllBudgets}
 use Rattle.tv_judge.specs.Laws.{ClosedListingsAreClosedReports}
@@ -55,14 +56,6 @@ derived_unmarked p mode initial x [] start = opened start.opens
 derived_unmarked p mode initial x (b ∷ before) derived =
     result_unmarked p mode derived.0.0 b.structure x.structure derived.0.2.result
 
-unmarked_same : (s : StructureForm) → s.fresh ≡ None → unmarked s ≡ s
-unmarked_same s e = ap (λ f. record s { fresh = f }) (sym e)
-
-map_same : {X : Type 0} (f : X → X) (xs : List X) → All (λ x. f x ≡ x) xs → map f xs ≡ xs
-map_same f [] all = refl
-map_same f (x ∷ xs) all =
-    rw (All-head (λ y. f y ≡ y) x xs all, map_same f xs (All-tail (λ y. f y ≡ y) x xs all)) refl
-
 -- an analysis of unmarked structures, whose lines are those of the messages that may be true at such points
 module _ (task : Task) (a : Analysis) (P : Point → Type 0) (listing : IsListing task.program a.listing)
     (no_maps : a.maps ≡ [])
@@ -70,9 +63,9 @@ module _ (task : Task) (a : Analysis) (P : Point → Type 0) (listing : IsListin
     (ordered : AllPairs IsBefore a.messages)
     (here : (node : ℕ) (s : StructureForm) → Contains (at_node a.listing node) s → s.fresh ≡ None) where
   each_unmarked : All (λ ss. map unmarked ss ≡ ss) a.listing
-  each_unmarked = λ node d lt. map_same unmarked (get_or a.listing node d)
+  each_unmarked = λ node d lt. map_fixed unmarked (get_or a.listing node d)
       (All-from_contains (λ s. unmarked s ≡ s) (get_or a.listing node d)
-      (λ s there. unmarked_same s (here node s (subst (λ ss. Contains ss s) (get_or_any a.listing node d [] lt) there))))
+      (λ s there. unmarked-same s (here node s (subst (λ ss. Contains ss s) (get_or_any a.listing node d [] lt) there))))
     where
       get_or_any : (xs : List (List StructureForm)) (k : ℕ) (d e : List StructureForm) → k < length xs → get_or xs k d ≡ get_or xs k e
       get_or_any [] k d e lt = absurd (omega (arith, lt))
@@ -80,7 +73,7 @@ module _ (task : Task) (a : Analysis) (P : Point → Type 0) (listing : IsListin
       get_or_any (x ∷ xs) (suc k) d e lt = get_or_any xs k d e (omega (arith, lt))
 
   no_marks : without_marks a ≡ a
-  no_marks = ap (λ l. record a { listing = l }) (map_same (map unmarked) a.listing each_unmarked)
+  no_marks = ap (λ l. record a { listing = l }) (map_fixed (map unmarked) a.listing each_unmarked)
 
   -- ---- lines
 

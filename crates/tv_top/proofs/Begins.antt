@@ -43,10 +43,6 @@ another told program k old mid new before h =
     one_longer : (n : ℕ) → n + (k + 1) ≡ n + k + 1
     one_longer n = omega arith
 
-pub always : {T E : Type 0} (result : Result T E) (P : Type 0) → P → OnOk result P
-always (Ok found) P h = h
-always (Err met) P h = tt
-
 -- said of the command, said of the words that spell it
 pub spelled_begins : {T : Type 0} (result : Result T Fault) (words : List (List ℕ)) (command : CommandForm)
     (P : CommandForm → Type 0) → Spells words command → OnOk result (P command) → OnOk result (Commands words P)

@@ -1,6 +1,6 @@
 -- The causes of the parts of the work, as those of a command.
-use Rattle.std.proofs.Common.{◌≡◌, ◌≤◌, ℕ, Bool, true, false, List, Option, Some, Result, Ok, Err, inl, inr}
-use Rattle.std.proofs.Common.{refl, sym, subst, arith}
+use Rattle.std.proofs.Common.{◌≡◌, ℕ, Bool, true, false, List, Option, Some, Result, Ok, Err, inl, inr}
+use Rattle.std.proofs.Common.{refl, sym, subst}
 use Rattle.std.specs.Prelude.{IfOk, IfErr}
 use Rattle.tv_join.specs.Joined.{IsJoinCause}
 use Rattle.tv_judge.specs.Judged.{IsJudgeCause, StopsAt, IsRejection}
@@ -8,7 +8,6 @@ use Rattle.tv_listing.specs.declared.analysis.Analysis.{Analysis}
 use Rattle.tv_model.specs.Program.{ProgramForm, program_of}
 use Rattle.tv_model.specs.declared.program.Mode.{Mode}
 use Rattle.tv_model.specs.declared.program.Program.{Program}
-use Rattle.tv_outside.specs.Count.{Rose}
 use Rattle.tv_outside.specs.Told.{Held, HoldsName}
 use Rattle.tv_status.specs.declared.status.FileKind.{FileKind}
 use Rattle.tv_status.specs.declared.status.Role.{Role}
@@ -48,9 +47,6 @@ use Rattle.tv_demo.specs.Texts.{program_text, lists_text}
 
 -- ---- counts and steadiness
 
-pub rose_later : (old mid new : ℕ) → old ≤ mid → Rose mid new → Rose old new
-rose_later old mid new le rose = λ below. omega (arith, le, rose below)
-
 pub holds_unless : {T : Type 0} (result : Result T Fault) (P : Type 0) → P → UnlessReadFault result P
 holds_unless (Ok found) P h = h
 holds_unless (Err fault.Usage) P h = h
@@ -67,10 +63,6 @@ pub unless_not_read : (T U : Type 0) (e : TextFault) (P Q : Type 0) → (P → Q
 unless_not_read T U (Refused r k) P Q f h = f h
 unless_not_read T U NotRead P Q f h = tt
 unless_not_read T U Memory P Q f h = f h
-
--- what two steps on steady files give
-pub still : (old mid new : ℕ) (steady : Type 0) → mid ≡ old → steady × (new ≡ mid) → steady × (new ≡ old)
-still old mid new steady same h = (h.0, rw (h.1, same) refl)
 
 -- ---- the files of a command
 
@@ -93,12 +85,6 @@ pub memory_fault : {T : Type 0} (result : Result T TextFault) (its_role : Role) 
     → IfErr result (IsFileCause its_role Refuses lacks rose steady)
 memory_fault (Ok found) its_role Refuses lacks rose steady h = h
 memory_fault (Err e) its_role Refuses lacks rose steady h = rw h tt
-
-pub still_unless : {T : Type 0} (result : Result T TextFault) (P : Type 0) → P → UnlessNotRead result P
-still_unless (Ok found) P h = h
-still_unless (Err (Refused its k)) P h = h
-still_unless (Err NotRead) P h = tt
-still_unless (Err Memory) P h = h
 
 same_program_file : (told : Option Held) (n m : List ℕ) (d e : Bool) (a : Result Program FileKind) → n ≡ m → d ≡ e
     → IsTakenProgram e told m a → IsTakenProgram d told n a

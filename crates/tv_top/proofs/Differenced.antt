@@ -1,8 +1,8 @@
 -- What covers the runs of a differenced program covers those of the program that was read, evaluated anew.
-use Rattle.std.proofs.Common.{◌≡◌, ℕ, zero, suc, Bool, true, false, List, [], ◌∷◌, Option, Some, Ok, refl, ap}
-use Rattle.std.proofs.Common.{subst, ◌∙◌}
+use Rattle.std.proofs.Common.{◌≡◌, ℕ, Bool, true, false, List, Option, Ok, ap}
+use Rattle.std.proofs.Common.{◌∙◌}
 use Rattle.std.specs.Prelude.{slice_get}
-use Rattle.std.specs.List.{AllZip}
+use Rattle.tv_lemmas.proofs.Zips.{zip_partner}
 use Rattle.tv_delta.specs.Answers.{HasRuns}
 use Rattle.tv_delta_laws.specs.Differences.{IsDifferencedAction, IsDifferenced}
 use Rattle.tv_listing.specs.declared.analysis.Analysis.{Analysis}
@@ -21,19 +21,12 @@ use Rattle.tv_step_laws.specs.Closed.{CoversRuns}
 use Rattle.tv_step_laws.specs.Sound.{IsMessageOf}
 use Rattle.tv_words.specs.Words.{GoTogether}
 
-zipped_at : {X Y : Type 0} (R : X → Y → Type 0) (xs : List X) (ys : List Y) → AllZip R xs ys → (k : ℕ) (x : X)
-    → slice_get xs k ≡ Some x → (y : Y) × (slice_get ys k ≡ Some y) × R x y
-zipped_at R [] ys zipped k x e = absurd (cc e)
-zipped_at R (a ∷ xs) [] zipped k x e = absurd zipped
-zipped_at R (a ∷ xs) (b ∷ ys) zipped zero x e = (b, refl, let same : a ≡ x = cc e in subst (λ z. R z b) same zipped.0)
-zipped_at R (a ∷ xs) (b ∷ ys) zipped (suc k) x e = zipped_at R xs ys zipped.1 k x e
-
 -- the messages stay
 message_stays : (p new : ProgramForm) (edge number : ℕ) (m : MessageForm) → IsDifferenced p new → IsMessageOf p edge number m
     → IsMessageOf new edge number m
 message_stays p new edge number m is said =
     let edges : new.edges ≡ p.edges = ap (λ q. q.edges) is.rest in
-    let other = zipped_at (IsDifferencedAction p) p.actions new.actions is.actions said.1.taken.action said.0 said.1.its_action in
+    let other = zip_partner (IsDifferencedAction p) p.actions new.actions is.actions said.1.taken.action said.0 said.1.its_action in
     let messages : other.0.messages ≡ said.0.messages = ap (λ a. a.messages) other.2.2 in (
       other.0,
       record {

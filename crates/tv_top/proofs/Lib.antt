@@ -17,7 +17,6 @@ mod Maps
 mod OneAnswer
 mod OneDifferenced
 mod SameTexts
-mod Ordered
 mod Sources
 mod Sums
 mod Tasks

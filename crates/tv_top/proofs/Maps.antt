@@ -11,6 +11,7 @@ use Rattle.std.proofs.lemmas.Cmp.{nat_list_cmp_total}
 use Rattle.std.proofs.lemmas.List.Elements.{All-contains}
 use Rattle.std.proofs.lemmas.Map.Text.{is_eq-slice_cmp}
 use Rattle.std.proofs.lemmas.Option.{same_Some}
+use Rattle.tv_model.proofs.Ordered.{ordered_same}
 use Rattle.tv_cover.specs.Covers.{IsFirstCover}
 use Rattle.tv_embed.specs.Maps.{IsLeastEmbedding, image_of}
 use Rattle.tv_judge.specs.Judged.{AreMapsOf, Case, Covering, IsBefore, IsMapBy, IsMapLine, IsThere}
@@ -28,7 +29,6 @@ use Rattle.tv_step_laws.specs.Laws.{StepsAreExact}
 use Rattle.tv_step_laws.specs.Transfer.{AreResults, IsOpening}
 use Rattle.tv_struct.specs.StructureForm.{StructureForm}
 use Rattle.tv_top.proofs.Demands.{closed_unrejected, one_rejection}
-use Rattle.tv_top.proofs.Ordered.{ordered_same}
 use Rattle.tv_top.specs.Laws.{VerdictsAreOne}
 
 -- ---- one map

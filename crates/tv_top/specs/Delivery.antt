@@ -1,6 +1,5 @@
 -- What the two sinks take in a call.
 use Rattle.std.specs.Prelude.{◌≡◌, ℕ, ◌⊎◌, List, Option, Result, Ok, Err}
-use Rattle.tv_outside.specs.Count.{FailedLast}
 use Rattle.tv_outside.specs.Told.{appended, TookFront}
 use Rattle.tv_status.specs.Status.{text_of}
 use Rattle.tv_status.specs.declared.status.Status.{Status}
@@ -53,12 +52,6 @@ ErrTook WriteFault IsCause out_rose err_rose old new =
     × TookFront old new (text_of WriteFault))))
     ⊎ (err_rose × ((fault : Fault) × IsCause fault × TookFront old new (text_of (status_of fault))))
 ErrTook other IsCause out_rose err_rose old new = new ≡ appended old (text_of other)
-
--- of the calls on a sink in between none failed, or exactly one did and it was the last: a sink that has
--- failed is given nothing more
-abbrev pub StopsAtFailure : (old_failures new_failures since : ℕ) → Type 0
-StopsAtFailure old_failures new_failures since =
-    (new_failures ≡ old_failures) ⊎ FailedLast old_failures new_failures since
 
 -- ---- parts of a delivery
 

@@ -1,8 +1,8 @@
 -- Whole traces: what is read is what the grammar says, and what the grammar says is read.
-use Rattle.std.proofs.Common.{◌≡◌, ◌+◌, true, List, [], ◌∷◌, length, Some, refl, sym, ◌∙◌, subst, arith}
+use Rattle.std.proofs.Common.{◌≡◌, ◌+◌, List, [], length, Some, refl, sym, ◌∙◌, subst, arith}
 use Rattle.std.specs.Prelude.{codes, ◌==◌}
-use Rattle.std.proofs.lemmas.Bool.{eqb-true}
 use Rattle.std.proofs.lemmas.Option.{same_Some, cond_some}
+use Rattle.tv_lemmas.proofs.Lists.{none_left}
 use Rattle.tv_lex.specs.Token.{SpecToken, HaveOneMeaning}
 use Rattle.tv_phrases.specs.Reading.{taken}
 use Rattle.tv_phrases.specs.Repeated.{Repeated, begins_with}
@@ -13,10 +13,6 @@ use Rattle.tv_trace.specs.Reading.{StepMark, step_at, steps_at, trace_at}
 use Rattle.tv_trace.specs.Tree.{StepTree}
 use Rattle.tv_trace.proofs.Marks.{IsMarkedStep, AreMarked, step_sound, step_read, trees_of_marks}
 use Rattle.tv_trace.proofs.Marks.{marks_of_trees, same_steps}
-
-none_left : (ts : List SpecToken) → (length ts == 0) ≡ true → ts ≡ []
-none_left [] e = refl
-none_left (t ∷ ts) e = let h = eqb-true (length (t ∷ ts)) 0 e in absurd (omega (arith, h))
 
 pub trace_sound : (ts : List SpecToken) (marks : List StepMark) → trace_at ts ≡ Some marks → (steps : List StepTree) × IsTrace ts steps × AreMarked marks steps
 unfolding trace_at

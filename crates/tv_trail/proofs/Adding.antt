@@ -1,10 +1,10 @@
 -- One more is met: what is then known of the search.
 use Rattle.std.proofs.Common.{ℕ, ◌≡◌, ◌<◌, ◌-◌, ◌⊎◌, inl, inr, List, [], ◌∷◌, ◌++◌, length, map}
-use Rattle.std.proofs.Common.{None, Some}
+use Rattle.std.proofs.Common.{None}
 use Rattle.std.proofs.Common.{zero, suc, refl, sym, ap, subst, ◌∙◌, arith}
 use Rattle.std.specs.Prelude.{All, slice_get}
-use Rattle.std.proofs.lemmas.List.{length-append, length-map, length-set, get_or_at}
-use Rattle.std.proofs.lemmas.Option.{slice_get-get_or}
+use Rattle.std.proofs.lemmas.List.{length-append, length-map, length-set}
+use Rattle.tv_lemmas.proofs.Lists.{pushed_there}
 use Rattle.tv_listing.specs.ListingForm.{at_node, appended, HasEqual}
 use Rattle.tv_struct.specs.StructureForm.{StructureForm}
 use Rattle.tv_work.specs.Reach.{Point, IsListed, AreMoreThan}
@@ -19,11 +19,6 @@ use Rattle.tv_trail.proofs.Placing.{found-more, placed-equal, placed-over}
 -- the search of these fields
 abbrev pub trace : List (List StructureForm) → List Met → TraceForm
 trace listing met = record { listing = listing; found = map (found_in listing) met }
-
-last-get : {X : Type 0} (xs : List X) (x : X) → slice_get (xs ++ x ∷ []) (length xs) ≡ Some x
-last-get xs x =
-    slice_get-get_or (xs ++ x ∷ []) (length xs) x (rw (length-append xs (x ∷ [])) (omega arith))
-    ∙ ap Some (get_or_at xs x [] x (length xs) refl)
 
 module _ (listing : List (List StructureForm)) (met : List Met) (placed : IsPlaced listing met) (node : ℕ)
     (s : StructureForm) (plain : s.fresh ≡ None) (listed : AreListedMet (trace listing met)) where
@@ -76,7 +71,7 @@ module _ (listing : List (List StructureForm)) (met : List Met) (placed : IsPlac
         (
           m.origin,
           ap (λ l. slice_get l (length (trace listing met).found)) found-after
-              ∙ last-get (trace listing met).found one,
+              ∙ pushed_there (trace listing met).found one,
         ),
       )
 

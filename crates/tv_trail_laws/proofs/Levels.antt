@@ -5,6 +5,7 @@ use Rattle.std.specs.Prelude.{All, Any, Contains, slice_get}
 use Rattle.std.proofs.lemmas.Bool.{cases_lt}
 use Rattle.std.proofs.lemmas.List.Elements.{All-contains}
 use Rattle.std.proofs.lemmas.Option.{slice_get-get_or}
+use Rattle.tv_lemmas.proofs.Lists.{some_at}
 use Rattle.tv_struct.specs.StructureForm.{StructureForm}
 use Rattle.tv_step_laws.specs.Transfer.{IsOpening}
 use Rattle.tv_work.specs.Reach.{Point, IsDerivation, IsStartPoint, Follows}
@@ -12,7 +13,7 @@ use Rattle.tv_work.specs.Task.{TaskForm, reached_in}
 use Rattle.tv_trail_laws.specs.Met.{Found, IsAt, IsMet, IsFirst, IsFromBelow, AreOpenedIn, IsFollowed}
 use Rattle.tv_trail_laws.specs.Met.{IsPassed}
 use Rattle.tv_trail_laws.specs.Met.{HasDepth, IsLevel, IsNearest}
-use Rattle.tv_trail_laws.proofs.Places.{at-cases, at-within, at-once, at-place, is_at-more, met-more}
+use Rattle.tv_trail_laws.proofs.Places.{at-cases, at-once, at-place, is_at-more, met-more}
 use Rattle.tv_trail_laws.proofs.Places.{depth-more}
 
 -- a point that is passed at its place has no goal, and what follows it is met
@@ -64,7 +65,7 @@ module _ (t : TaskForm) (G : Point → Type 0) (found more : List Found) (from d
     → (x : Point) × IsAt (found ++ more) place x × IsPassed t G (found ++ more) x) where
   deeper : (place : ℕ) (f : Found) → slice_get (found ++ more) place ≡ Some f → IsFromBelow (length found) f
       → (n : ℕ) × (n ≤ depth + 1) × HasDepth (found ++ more) place n
-  deeper place f e (before, edge, less, is) = by (at-within found before less)
+  deeper place f e (before, edge, less, is) = by (some_at found before less)
     where
       by : (b : Found) × (slice_get found before ≡ Some b)
           → (n : ℕ) × (n ≤ depth + 1) × HasDepth (found ++ more) place n
@@ -143,7 +144,7 @@ module _ (t : TaskForm) (G : Point → Type 0) (found : List Found) (from depth 
   -- a goal of this level is a nearest one
   pub level-hit : (more : List Found) (place : ℕ) (x : Point) → place < length found
       → IsAt (found ++ more) place x → G x → IsNearest t G (found ++ more) place
-  level-hit more place x within at is = by (at-within found place within)
+  level-hit more place x within at is = by (some_at found place within)
     where
       by : (f : Found) × (slice_get found place ≡ Some f) → IsNearest t G (found ++ more) place
       by (f, e) = on (level.shallow place f e)

@@ -145,7 +145,7 @@ abbrev pub action_of : ActionTree → ActionForm
 action_of a = record { name = a.name; params = a.params; parts = map part_of a.parts }
 
 abbrev pub edge_of : EdgeTree → EdgeForm
-edge_of e = record { from = e.from; action = e.action; arguments = e.arguments; to = e.to }
+edge_of e = record { from = e.from.now; action = e.action.now; arguments = e.arguments; to = e.to.now }
 
 abbrev pub program_of : Tree → ProgramForm
 program_of t =

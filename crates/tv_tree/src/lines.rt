@@ -406,13 +406,13 @@ fn print_actions(out: &mut Vec<u8>, actions: &[ActionTree]) -> Result<(), AllocE
 }
 
 #[tactic(auto, using(crate::proofs::Texts::spaced_push, crate::proofs::Texts::spaced_between))]
-fn print_edge_tokens(out: &mut Vec<u8>, edge: &EdgeTree) -> Result<(), AllocError>
+fn print_edge_tokens(out: &mut Vec<u8>, edge: &EdgeTree<'_>) -> Result<(), AllocError>
     ensures { OnOk result (out.new.items ≡ out.old.items ++ spaced (edge_tokens (edge_of edge.now))) }
 {
-    print_token(out, &edge.from.0)?;
-    print_token(out, &edge.action.0)?;
+    print_token(out, edge.from)?;
+    print_token(out, edge.action)?;
     print_params(out, edge.arguments.as_slice())?;
-    print_token(out, &edge.to.0)
+    print_token(out, edge.to)
 }
 
 /// Appends a control edge as one line of a program: its first node, its action with the arguments, its second
@@ -421,7 +421,7 @@ fn print_edge_tokens(out: &mut Vec<u8>, edge: &EdgeTree) -> Result<(), AllocErro
 /// # Errors
 /// Want of memory.
 #[tactic(auto, using(crate::proofs::Texts::line_done))]
-pub fn print_edge(out: &mut Vec<u8>, edge: &EdgeTree) -> Result<(), AllocError>
+pub fn print_edge(out: &mut Vec<u8>, edge: &EdgeTree<'_>) -> Result<(), AllocError>
     ensures { OnOk result (out.new.items ≡ out.old.items ++ text_of_lines (edge_lines (edge_of edge.now))) }
 {
     print_edge_tokens(out, edge)?;
@@ -429,7 +429,7 @@ pub fn print_edge(out: &mut Vec<u8>, edge: &EdgeTree) -> Result<(), AllocError>
 }
 
 #[tactic(auto, using(crate::proofs::Texts::edges_step, crate::proofs::Texts::edges_done))]
-fn print_edges(out: &mut Vec<u8>, edges: &[EdgeTree]) -> Result<(), AllocError>
+fn print_edges(out: &mut Vec<u8>, edges: &[EdgeTree<'_>]) -> Result<(), AllocError>
     ensures { OnOk result
         (out.new.items ≡ out.old.items ++ text_of_lines (flat_map edge_lines (map edge_of edges.now))) }
 {
@@ -468,7 +468,7 @@ fn print_tail(out: &mut Vec<u8>, tail: &Option<Spellings>) -> Result<(), AllocEr
 /// `foreach`, an action and a block. The `=` behind `%s` isn't written, and a third `%%` is written
 /// exactly where the tree has one.
 #[tactic(auto, using(crate::proofs::Texts::lines_push, crate::proofs::Texts::lines_start))]
-pub fn print_program(alloc: Global, tree: &Tree) -> Result<Vec<u8>, AllocError>
+pub fn print_program(alloc: Global, tree: &Tree<'_>) -> Result<Vec<u8>, AllocError>
     ensures { IfOk result (λ text. text.items ≡ program_text (program_of tree.now)) }
 {
     let mut out = Vec::new(alloc);

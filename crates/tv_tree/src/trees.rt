@@ -209,23 +209,24 @@ pub struct ActionTree {
 /// A list of actions, in the order of the text.
 pub type ActionTrees = Items<ActionTree>;
 
-/// An edge of the control graph between two node words.
+/// An edge of the control graph between two node words. A program may have many, so the words of nodes and
+/// actions stay in the text.
 #[derive(Drop, Debug)]
-pub struct EdgeTree {
-    pub from: Spelling,
-    pub action: Spelling,
+pub struct EdgeTree<'a> {
+    pub from: &'a [u8],
+    pub action: &'a [u8],
     pub arguments: Spellings,
-    pub to: Spelling,
+    pub to: &'a [u8],
 }
 
 /// A list of edges, in the order of the text.
-pub type EdgeTrees = Items<EdgeTree>;
+pub type EdgeTrees<'a> = Items<EdgeTree<'a>>;
 
 /// A program. `tail` has the words behind a third `%%`, and is None where there is none.
 #[derive(Drop, Debug)]
-pub struct Tree {
+pub struct Tree<'a> {
     pub decls: Decls,
     pub actions: ActionTrees,
-    pub edges: EdgeTrees,
+    pub edges: EdgeTrees<'a>,
     pub tail: Option<Spellings>,
 }

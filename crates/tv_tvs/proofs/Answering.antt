@@ -1,5 +1,5 @@
 -- What the readers answer is what the tokens mean.
-use Rattle.std.proofs.Common.{◌≡◌, ℕ, zero, suc, ◌+◌, ◌-◌, ◌<◌, ◌≤◌, Bool, true, false, cond, List, [], ◌∷◌}
+use Rattle.std.proofs.Common.{◌≡◌, ℕ, zero, suc, ◌-◌, ◌<◌, ◌≤◌, Bool, true, false, cond, List, [], ◌∷◌}
 use Rattle.std.proofs.Common.{◌++◌, length, drop, Option, Some, None, Result, Ok, Err, refl, sym, ap, subst}
 use Rattle.std.proofs.Common.{◌∙◌, inl, inr, arith, append_assoc, length-append}
 use Rattle.std.specs.Prelude.{codes, is_some}
@@ -10,7 +10,6 @@ use Rattle.std.specs.Prelude.{IfOk, IfErr, take}
 use Rattle.std.proofs.Common.{take-append-drop, length-drop}
 use Rattle.std.proofs.lemmas.List.{length-map}
 use Rattle.tv_lex.specs.Token.{SpecToken, spec_token, spec_tokens}
-use Rattle.tv_lex.specs.Pieces.{AreInOrder}
 use Rattle.tv_lex.specs.declared.token.Token.{Token}
 use Rattle.tv_model.specs.declared.program.Vocab.{Vocab}
 use Rattle.tv_phrases.specs.declared.error.PhraseError.{PhraseError}
@@ -222,12 +221,6 @@ pub behind_is : (ts us : List SpecToken) → Ends ts us → us ≡ drop (length 
 behind_is ts us ends =
     let count : length ends.0 ≡ length ts - length us = omega (arith, ap length ends.1, length-append ends.0 us)
     in sym (drop_at ends.0 us (length ts - length us) count) ∙ ap (drop (length ts - length us)) (sym ends.1)
-
--- ---- tokens in order
-
-pub count_in_order : (at : ℕ) (ts : List Token) (end : ℕ) → AreInOrder at ts end → at + length ts ≤ end
-count_in_order at [] end order = omega (arith, order)
-count_in_order at (t ∷ ts) end order = omega (arith, order.0, order.1, count_in_order t.end ts end order.2)
 
 -- ---- what the calls answer
 

@@ -9,6 +9,7 @@ use Rattle.std.proofs.lemmas.Bool.{ne_eqb, cases_lt, le-ltb, and_from, cond-true
 use Rattle.std.proofs.lemmas.List.{length-map, get_or-map, get_or_at, length-replicate, get_or_append_left}
 use Rattle.std.proofs.lemmas.List.FromFn.{length-map-range_with_len, get_or-map-range_with_len}
 use Rattle.std.proofs.lemmas.Option.{slice_get-get_or, slice_get_within, get_or_from_slice_get}
+use Rattle.tv_lemmas.proofs.Texts.{texts_differ}
 use Rattle.tv_kleene.specs.declared.K3.{K3}
 use Rattle.tv_kleene.specs.declared.K3.TheVariants.{No, Half, Yes}
 use Rattle.tv_model.specs.declared.program.Pred.{Pred}
@@ -28,7 +29,7 @@ use Rattle.tv_tree.specs.Names.{number_of}
 use Rattle.tv_tvs.specs.Meaning.{Subject, Summaries, Predicate, subject_arity, subject_of, arity_at}
 use Rattle.tv_tvs.specs.Meaning.{item_arity, fits, items_put, fitting_put, entry_put, entries_put}
 use Rattle.tv_tvs.specs.Meaning.{has_twice, blank, struct_meant}
-use Rattle.tv_tvs.proofs.WrittenNumbers.{bytes_differ, number_is, not_among, individual_injective}
+use Rattle.tv_tvs.proofs.WrittenNumbers.{number_is, not_among, individual_injective}
 use Rattle.tv_tvs.proofs.Filled.{IsPart, Grows-same, Grows-then, Step, value_put_again, filled}
 use Rattle.tv_tvs.proofs.Again.{IsTuple, tuples_all, items_fit, part_no, has_entry, values_again, marks_again}
 use Rattle.tv_tvs.proofs.Again.{tuples_are}
@@ -150,7 +151,7 @@ subject_again all before preds pred p plain split count =
     in let here : get_or all p pred ≡ pred = ap (λ ps. get_or ps p pred) split ∙ get_or_at before pred preds pred p count
     in let named : get_or (map (λ q. q.name) all) p [] ≡ pred.name = get_or-map (λ q. q.name) all p pred [] lt ∙ ap (λ q. q.name) here
     in let within : p < length (map (λ q. q.name) all) = rw (length-map all (λ q. q.name)) lt
-    in let not_sm : bytes_eq pred.name (codes "sm") ≡ false = bytes_differ pred.name (codes "sm") (subst (λ q. q.name ≢ codes "sm") here (plain.no_sm p pred lt))
+    in let not_sm : bytes_eq pred.name (codes "sm") ≡ false = texts_differ pred.name (codes "sm") (subst (λ q. q.name ≢ codes "sm") here (plain.no_sm p pred lt))
     in let number : number_of (map (λ q. q.name) all) pred.name ≡ Some p = number_is (map (λ q. q.name) all) p pred.name within named (λ k less e. plain.names k p [] less within (e ∙ sym named))
     in let arity : arity_at all p ≡ pred.arity = get_or-map (λ q. q.arity) all p pred 0 lt ∙ ap (λ q. q.arity) here
     in rw (not_sm, number, arity) refl

@@ -1,6 +1,6 @@
 -- Texts put into room.
 use Rattle.std.proofs.Common.{ℕ, ◌≡◌, ◌+◌, ◌≤◌, List, ◌++◌, length, take, sym, ap, ◌∙◌, arith, length-take-le}
-use Rattle.std.proofs.Common.{◌<◌, [], ◌∷◌, suc, get_or, append_assoc}
+use Rattle.std.proofs.Common.{◌<◌, [], ◌∷◌, suc, get_or}
 use Rattle.std.proofs.lemmas.List.{take-take}
 use Rattle.std.proofs.lemmas.List.FromFn.{get_or-map-range_with_len}
 use Rattle.tv_tvs.specs.Canonical.{individual, individuals}
@@ -24,10 +24,6 @@ pub name_at : (names : List (List ℕ)) (u : ℕ) (d : List ℕ) → names ≡ i
     → get_or names u d ≡ individual u
 name_at names u d all few =
     ap (λ ns. get_or ns u d) all ∙ get_or-map-range_with_len individual 0 256 u u d (omega (arith, few)) (omega arith)
-
--- two texts one behind the other
-pub two_behind : (line one new a b : List ℕ) → one ≡ line ++ a → new ≡ one ++ b → new ≡ line ++ (a ++ b)
-two_behind line one new a b first second = second ∙ ap (λ t. t ++ b) first ∙ append_assoc line a b
 
 -- three texts in an empty line
 pub three : (l0 l1 l2 l3 a b c x y z : List ℕ) → l0 ≡ [] → a ≡ x → l1 ≡ l0 ++ a → b ≡ y → l2 ≡ l1 ++ b → c ≡ z → l3 ≡ l2 ++ c

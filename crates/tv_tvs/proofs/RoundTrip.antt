@@ -56,7 +56,7 @@ letter_byte b (inr h) =
     or_left (is_ascii_alphanumeric b) (eqb b 95)
     (or_right (is_in_range 48 57 b || is_in_range 65 90 b) (is_in_range 97 122 b) (in_range 97 122 b h.0 h.1))
 
-word_bytes : (bytes : List ℕ) → All (λ b. IsLetter b ⊎ IsDigit b ⊎ (b ≡ 95)) bytes → list_all is_word_byte bytes ≡ true
+pub word_bytes : (bytes : List ℕ) → All (λ b. IsLetter b ⊎ IsDigit b ⊎ (b ≡ 95)) bytes → list_all is_word_byte bytes ≡ true
 word_bytes [] all = refl
 word_bytes (b ∷ bytes) all =
     and_from (is_word_byte b) (list_all is_word_byte bytes) (at (all 0 0 (omega arith)))

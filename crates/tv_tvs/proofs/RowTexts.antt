@@ -7,6 +7,8 @@ use Rattle.std.specs.List.{flat_map, range_with_len}
 use Rattle.std.proofs.lemmas.List.{append-nil, map-append, length-replicate, get_or-replicate}
 use Rattle.std.proofs.lemmas.List.FromFn.{length-map-range_with_len, get_or-map-range_with_len}
 use Rattle.std.proofs.lemmas.Grind.{flat_map-append}
+use Rattle.std.proofs.lemmas.List.Folds.{flat_map-map}
+use Rattle.tv_lemmas.proofs.Lists.{flat_map-range}
 use Rattle.tv_kleene.specs.declared.K3.{K3}
 use Rattle.tv_kleene.specs.declared.K3.TheVariants.{No, Half, Yes}
 use Rattle.tv_tvs.specs.Tree.{ItemTree}
@@ -15,7 +17,7 @@ use Rattle.tv_tvs.specs.Canonical.{item_text}
 use Rattle.tv_tvs.specs.Canonical.{more_texts, comma_text, line_text, if_some}
 use Rattle.tv_tvs.specs.Rows.{behind, row_text, comma, pair_prefix, single_items, pair_items}
 use Rattle.tv_tvs.specs.Rows.{are_some, begun_text, beginning}
-use Rattle.tv_tvs.proofs.Written.{turn, flat_map-map, singles_written, row_written, rows_written}
+use Rattle.tv_tvs.proofs.Written.{turn, singles_written, row_written, rows_written}
 
 -- ---- a walk over the individuals of which something is written
 
@@ -80,19 +82,13 @@ pairs_text u values = sym (joined _ _ (λ w. pair_text u w (slice_index_or value
 
 -- ---- rows of values that are read off
 
-within : {X : Type 0} (f g : ℕ → List X) (a n : ℕ) → ((k : ℕ) → a ≤ k → k < a + n → f k ≡ g k)
-    → flat_map f (range_with_len a n) ≡ flat_map g (range_with_len a n)
-within f g a zero same = refl
-within f g a (suc n) same = λ i. same a (omega arith) (omega arith) i
-    ++ within f g (a + 1) n (λ k low less. same k (omega (arith, low)) (omega (arith, less))) i
-
 read_back : {X : Type 0} (g : ℕ → K3 → List X) (v : ℕ → K3) (size : ℕ)
     → flat_map (λ u. g u (slice_index_or (map v (range_with_len 0 size)) u No)) (range_with_len 0 (length (map v (range_with_len 0 size))))
     ≡ flat_map (λ u. g u (v u)) (range_with_len 0 size)
 read_back g v size =
     ap (λ n. flat_map (λ u. g u (slice_index_or (map v (range_with_len 0 size)) u No)) (range_with_len 0 n))
     (length-map-range_with_len v 0 size)
-    ∙ within _ _ 0 size (λ k low less. ap (g k) (get_or-map-range_with_len v 0 size k k No (omega (arith, less)) (omega arith)))
+    ∙ flat_map-range _ _ 0 size (λ k low less. ap (g k) (get_or-map-range_with_len v 0 size k k No (omega (arith, less)) (omega arith)))
 
 pub single_items_of : (value : List ℕ → K3) (size : ℕ)
     → single_items (map (λ u. value (u ∷ [])) (range_with_len 0 size)) ≡ written_items value (tuples 1 size)
@@ -108,8 +104,8 @@ pair_items_of value size u =
 pub names_text : (size : ℕ) → row_text comma (replicate size Yes) ≡ more_texts (individuals size)
 names_text size =
     ap (λ n. flat_map (λ u. behind comma u (slice_index_or (replicate size Yes) u No)) (range_with_len 0 n)) (length-replicate size Yes)
-    ∙ within _ (λ u. codes ", " ++ individual u) 0 size (λ k low less. ap (behind comma k) (get_or-replicate size k Yes No (omega (arith, less))))
-    ∙ sym (flat_map-map individual (λ t. codes ", " ++ t) (range_with_len 0 size))
+    ∙ flat_map-range _ (λ u. codes ", " ++ individual u) 0 size (λ k low less. ap (behind comma k) (get_or-replicate size k Yes No (omega (arith, less))))
+    ∙ sym (flat_map-map (λ t. codes ", " ++ t) individual (range_with_len 0 size))
 
 -- ---- lines
 

@@ -1,20 +1,17 @@
 -- The vocabulary of a valid program.
-use Rattle.std.proofs.Common.{◌≡◌, ◌≢◌, ℕ, ◌≤◌, ◌<◌, List, [], ◌∷◌, length, map, get_or, refl, sym, ap, subst}
+use Rattle.std.proofs.Common.{◌≢◌, ℕ, ◌≤◌, ◌<◌, length, map, get_or, sym, subst}
 use Rattle.std.specs.Prelude.{AllPairs}
 use Rattle.std.proofs.lemmas.List.{length-map, get_or-map}
-use Rattle.tv_model.specs.Program.{PredForm, pred_of, program_of}
+use Rattle.tv_model.specs.Program.{pred_of, program_of}
 use Rattle.tv_model.specs.Valid.{IsPred}
 use Rattle.tv_model.specs.declared.program.Pred.{Pred}
+use Rattle.tv_model.proofs.Parts.{names-same}
 use Rattle.tv_tvs.specs.Laws.{ValidProgramsFit}
-
-names_same : (preds : List Pred) → map (λ (d : PredForm). d.name) (map pred_of preds) ≡ map (λ (pred : Pred). pred.name) preds
-names_same [] = refl
-names_same (pred ∷ preds) = ap (λ ns. pred.name ∷ ns) (names_same preds)
 
 pub valid_fits : ValidProgramsFit
 valid_fits p valid = record {
   vocabulary = record {
-    names = subst (AllPairs ◌≢◌) (names_same p.vocab.preds) valid.pred_names_differ;
+    names = subst (AllPairs ◌≢◌) (names-same p.vocab.preds) valid.pred_names_differ;
     arities = λ k d lt. (at k d lt).arity;
     count = subst (λ n. n ≤ 512) (length-map p.vocab.preds pred_of) valid.pred_count;
   };

@@ -2,16 +2,12 @@
 use Rattle.std.proofs.Common.{ℕ, ◌≡◌, ◌+◌, List, [], ◌∷◌, ◌++◌, map, Option, Some, None, refl}
 use Rattle.std.proofs.Common.{sym, ap, ◌∙◌}
 use Rattle.std.specs.List.{flat_map, filter_map, cons_option, range_with_len}
-use Rattle.std.proofs.lemmas.List.{flat_map_more, map-id}
-use Rattle.std.proofs.lemmas.List.FromFn.{map-range_with_len_more}
+use Rattle.std.proofs.lemmas.List.{flat_map_more}
 use Rattle.std.proofs.lemmas.List.Elements.{filter_map-append}
+use Rattle.tv_lemmas.proofs.Lists.{range_more}
 use Rattle.tv_kleene.specs.declared.K3.{K3}
 use Rattle.tv_kleene.specs.declared.K3.TheVariants.{No, Half, Yes}
 use Rattle.tv_tvs.specs.Canonical.{written_item, written_items, written_one, row_items, tuples}
-
-pub range_more : (a n : ℕ) → range_with_len a (n + 1) ≡ range_with_len a n ++ (a + n) ∷ []
-range_more a n =
-    sym (map-id _) ∙ map-range_with_len_more (λ u. u) a n (a + n) refl ∙ ap (λ us. us ++ (a + n) ∷ []) (map-id _)
 
 -- one turn of a loop over individuals that puts what f gives behind the others
 pub turn : {X : Type 0} (f : ℕ → List X) (before list : List X) (a n u : ℕ) → a + n ≡ u
@@ -65,8 +61,3 @@ pub rows_written : (value : List ℕ → K3) (size : ℕ)
     → flat_map (row_items value size) (range_with_len 0 size) ≡ written_items value (tuples 2 size)
 rows_written value size =
     sym (filter_map-flat_map (λ tuple. written_item tuple (value tuple)) (λ u. map (λ tuple. u ∷ tuple) (tuples 1 size)) (range_with_len 0 size))
-
--- items, each behind a comma and a blank
-pub flat_map-map : {X Y : Type 0} (g : X → Y) (f : Y → List ℕ) (xs : List X) → flat_map f (map g xs) ≡ flat_map (λ x. f (g x)) xs
-flat_map-map g f [] = refl
-flat_map-map g f (x ∷ xs) = ap (λ t. f (g x) ++ t) (flat_map-map g f xs)

@@ -3,15 +3,13 @@ use Rattle.std.proofs.Common.{ℕ, zero, suc, ◌≡◌, ◌<◌, ◌≤◌, ◌
 use Rattle.std.proofs.Common.{get_or, Some, None, refl, sym, ap, ◌∙◌, arith, ltb}
 use Rattle.std.specs.List.{position_or_len}
 use Rattle.std.specs.Str.{bytes_eq}
-use Rattle.std.proofs.lemmas.Bool.{cond-true, lt-ltb, false_from_ne_true}
+use Rattle.std.proofs.lemmas.Bool.{cond-true, lt-ltb}
 use Rattle.std.proofs.lemmas.Fmt.{decimal_injective}
 use Rattle.std.proofs.lemmas.List.FromFn.{length-map-range_with_len, get_or-map-range_with_len}
 use Rattle.std.proofs.lemmas.Slice.Eq.{bytes_eq-Decides}
+use Rattle.tv_lemmas.proofs.Texts.{texts_differ}
 use Rattle.tv_tvs.specs.Canonical.{individual, individuals}
 use Rattle.tv_tree.specs.Names.{is_among, number_of}
-
-pub bytes_differ : (a b : List ℕ) → (a ≡ b → ⊥) → bytes_eq a b ≡ false
-bytes_differ a b apart = false_from_ne_true (bytes_eq a b) (λ h. apart ((bytes_eq-Decides a b).0 h))
 
 stands_first : (names : List (List ℕ)) (n : ℕ) (name : List ℕ) → n < length names → get_or names n [] ≡ name
     → ((k : ℕ) → k < n → get_or names k [] ≡ name → ⊥) → position_or_len (bytes_eq name) names ≡ n
@@ -20,7 +18,7 @@ stands_first (x ∷ xs) zero name lt at before =
     let same : bytes_eq name x ≡ true = (bytes_eq-Decides name x).1 (sym at)
     in rw same refl
 stands_first (x ∷ xs) (suc n) name lt at before =
-    let differ : bytes_eq name x ≡ false = bytes_differ name x (λ e. before 0 (omega arith) (sym e))
+    let differ : bytes_eq name x ≡ false = texts_differ name x (λ e. before 0 (omega arith) (sym e))
     in let later : position_or_len (bytes_eq name) xs ≡ n = stands_first xs n name (omega arith) at (λ k small e. before (suc k) (omega (arith, small)) e)
     in rw (differ, later) (omega arith)
 
@@ -48,4 +46,4 @@ number_of_individual size u lt small =
 pub not_among : (names : List (List ℕ)) (name : List ℕ) → ((k : ℕ) → k < length names → get_or names k [] ≡ name → ⊥) → is_among names name ≡ false
 not_among [] name apart = refl
 not_among (x ∷ xs) name apart =
-    rw (bytes_differ name x (λ e. apart 0 (omega arith) (sym e)), not_among xs name (λ k lt e. apart (suc k) (omega (arith, lt)) e)) refl
+    rw (texts_differ name x (λ e. apart 0 (omega arith) (sym e)), not_among xs name (λ k lt e. apart (suc k) (omega (arith, lt)) e)) refl

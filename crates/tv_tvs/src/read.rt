@@ -142,12 +142,7 @@ impl<'a> StructureReader<'a> {
     /// An item without a value has the value 1, a tuple that isn't listed has 0, and of several values
     /// for one tuple the last counts. Individuals are numbered in the order in which they are listed. No
     /// individual is marked as fresh.
-    pub fn read_tvs(
-        &self,
-        alloc: Global,
-        bytes: &[u8],
-        tokens: &Tokens,
-    ) -> Result<Structures, TvsError>
+    fn read_tvs(&self, alloc: Global, bytes: &[u8], tokens: &Tokens) -> Result<Structures, TvsError>
         requires size { length bytes.now ≤ 67108864 }
         ensures meant { IfOk result
             (λ ss. MeansStructs self.now (spec_tokens bytes.now tokens.now.list.items) (Ok ss)) }
@@ -186,7 +181,7 @@ impl<'a> StructureReader<'a> {
     /// The structure that begins at the token `at`, read as `read_tvs` reads each, and the number of the
     /// token behind it. Whatever stands there isn't looked at. Where `at` is past the tokens, nothing
     /// begins there.
-    pub fn read_one(
+    fn read_one(
         &self,
         alloc: Global,
         bytes: &[u8],

@@ -3,10 +3,10 @@ use Rattle.std.proofs.Common.{ℕ, ◌≡◌, ◌≢◌, ◌<◌, ◌≤◌, ◌
 use Rattle.std.proofs.Common.{◌∷◌, length, map, get_or, Some, refl, sym, ap, subst, ◌∙◌, arith}
 use Rattle.std.specs.Prelude.{Any, not, slice_get, if◌then◌else◌}
 use Rattle.std.specs.List.{range_with_len}
-use Rattle.std.proofs.lemmas.Bool.{cases_lt, false≢true}
+use Rattle.std.proofs.lemmas.Bool.{cases_lt, false≢true, false_from_ne_true}
 use Rattle.std.proofs.lemmas.List.{get_or_default, length-map, get_or-map}
 use Rattle.std.proofs.lemmas.List.FromFn.{length-map-range_with_len, get_or-map-range_with_len}
-use Rattle.std.proofs.lemmas.Option.{slice_get_within}
+use Rattle.std.proofs.lemmas.Option.{slice_get_within, same_Some}
 use Rattle.tv_kleene.specs.declared.K3.{K3}
 use Rattle.tv_kleene.specs.declared.K3.TheVariants.{No, Half, Yes}
 use Rattle.tv_kleene.specs.Kleene.{smaller_of, negation_of}
@@ -88,9 +88,6 @@ IsDefiniteIn s q arity = (tuple : List ℕ) → length tuple ≡ arity → AreIn
 abbrev pub IsDefinite : StructureForm → (pred : ℕ) → Type 0
 IsDefinite s q = (tuple : List ℕ) → value_at s q tuple ≢ Half
 
-same-length : (x y : ℕ) → Some x ≡ Some y → x ≡ y
-same-length x y e = cc
-
 pub definite-everywhere : (s : StructureForm) (q arity : ℕ) → IsStructure s → HasArity s q arity → IsDefiniteIn s q arity → IsDefinite s q
 definite-everywhere s q arity is has inside tuple = at (fits_or_No s q tuple) (individuals-or s.size tuple)
   where
@@ -98,7 +95,7 @@ definite-everywhere s q arity is has inside tuple = at (fits_or_No s q tuple) (i
         → value_at s q tuple ≢ Half
     at (inr none) others = no-half (value_at s q tuple) none
     at (inl fits) (inr out) = no-half (value_at s q tuple) (value_at-past s is q tuple out)
-    at (inl fits) (inl all) = inside tuple (same-length (length tuple) arity (sym fits ∙ has)) all
+    at (inl fits) (inl all) = inside tuple (same_Some (length tuple) arity (sym fits ∙ has)) all
 
 -- the first rows have no unknown value
 abbrev pub RowsDefinite : StructureForm → (pred count : ℕ) → Type 0
@@ -146,10 +143,6 @@ flag-half : (b : Bool) → b ≡ true → (if b then Half else No) ≢ No
 flag-half true e f = absurd (cc f)
 flag-half false e f = absurd (cc e)
 
-not-flag : (b : Bool) → (b ≡ true → ⊥) → b ≡ false
-not-flag true ne = absurd (ne refl)
-not-flag false ne = refl
-
 pub summaries-found : (s : StructureForm) → IsTwoValued s → ¬ Any (λ x. x ≢ No) (summary_row s)
 summaries-found s two any =
     let found = at-any (λ x. x ≢ No) s.size (λ u. if summary_at s u then Half else No) any
@@ -159,7 +152,7 @@ pub two-valued : (s : StructureForm) (count : ℕ) → length (arities_of s) ≤
     → ((q : ℕ) → q < count → IsDefinite s q) → IsTwoValued s
 two-valued s count whole none each = record {
   values = λ q tuple. at q tuple (cases_lt q count);
-  summaries = λ u lt. not-flag (summary_at s u) (λ e. none (any-at (λ x. x ≢ No) s.size (λ w. if summary_at s w then Half else No) u lt
+  summaries = λ u lt. false_from_ne_true (summary_at s u) (λ e. none (any-at (λ x. x ≢ No) s.size (λ w. if summary_at s w then Half else No) u lt
       (flag-half (summary_at s u) e)));
 }
   where

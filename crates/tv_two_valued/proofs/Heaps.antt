@@ -1,14 +1,15 @@
 -- The heap of a structure: its individuals, what holds in it, and that it is one of the program.
-use Rattle.std.proofs.Common.{ℕ, zero, suc, ◌≡◌, ◌≢◌, ◌<◌, ◌≤◌, ◌+◌, ◌⊎◌, inl, inr, true, List, [], ◌∷◌}
+use Rattle.std.proofs.Common.{ℕ, zero, suc, ◌≡◌, ◌<◌, ◌≤◌, ◌+◌, ◌⊎◌, inl, inr, true, List, [], ◌∷◌}
 use Rattle.std.proofs.Common.{length, map, Option, Some, None, refl, sym, ap, ◌∙◌, subst, arith}
-use Rattle.std.specs.Prelude.{AllPairs, Contains, slice_get, unwrap_or}
+use Rattle.std.specs.Prelude.{Contains, slice_get, unwrap_or}
 use Rattle.std.specs.List.{range_with_len}
 use Rattle.std.proofs.lemmas.Bool.{cases_lt}
 use Rattle.std.proofs.lemmas.List.{length-map}
-use Rattle.std.proofs.lemmas.List.FromFn.{length-range_with_len, get_or-range_with_len}
+use Rattle.tv_lemmas.proofs.Lists.{range_differs}
 use Rattle.tv_kleene.specs.declared.K3.{K3}
 use Rattle.tv_kleene.specs.declared.K3.TheVariants.{No, Half, Yes}
 use Rattle.tv_kleene.specs.Kleene.{is_yes}
+use Rattle.tv_kleene.proofs.Lattice.{no-yes}
 use Rattle.tv_model.specs.Heap.{Holds, IsTuple, extent}
 use Rattle.tv_model.specs.Program.{ProgramForm, PredForm}
 use Rattle.tv_model.specs.Rules.{IsHeap}
@@ -80,9 +81,6 @@ individuals-or n (u ∷ us) = at (cases_lt u n) (individuals-or n us)
     at (inl lt) (inr out) = inr (λ all. out all.1)
     at (inr le) others = inr (λ all. let lt = all.0 in absurd (omega (arith, le, lt)))
 
-no-yes : (k : K3) → k ≡ No → k ≡ Yes → ⊥
-no-yes k n y = cc
-
 holds-yes : (s : StructureForm) (q : ℕ) (tuple : List ℕ) → Holds (heap_of s) q tuple → value_at s q tuple ≡ Yes
 holds-yes s q tuple held = at (slice_get (arities_of s) q) refl
   where
@@ -115,16 +113,6 @@ heap-told s is = record {
 
 -- ---- a heap of the program
 
-pub range-differ : (n : ℕ) → AllPairs ◌≢◌ (range_with_len 0 n)
-range-differ n i j d lt within same =
-    let top : j < n = rw (← length-range_with_len 0 n) within
-    in let a = get_or-range_with_len 0 n i d (omega (arith, lt, top))
-    in let b = get_or-range_with_len 0 n j d top
-    in absurd (apart i j lt (sym a ∙ same ∙ b))
-  where
-    apart : (i j : ℕ) → i < j → 0 + i ≡ 0 + j → ⊥
-    apart i j lt e = omega (arith, lt, e)
-
 arity-found : (preds : List PredForm) (q : ℕ) (d : PredForm) → slice_get preds q ≡ Some d → slice_get (map (λ p. p.arity) preds) q ≡ Some d.arity
 arity-found [] q d is = absurd (none is)
   where
@@ -139,7 +127,7 @@ arity-found (p ∷ preds) (suc q) d is = arity-found preds q d is
 
 pub heap-of_program : (p : ProgramForm) (s : StructureForm) → IsStructure s → IsOfProgram p s → IsHeap p (heap_of s)
 heap-of_program p s is over = record {
-  individuals_differ = range-differ s.size;
+  individuals_differ = range_differs s.size;
   one_extent_each = length-extents s 0 (arities_of s) ∙ ap length over.0 ∙ length-map p.preds (λ d. d.arity);
   tuples_fit = λ q d found.
       let known : slice_get (arities_of s) q ≡ Some d.arity = ap (λ ns. slice_get ns q) over.0 ∙ arity-found p.preds q d found

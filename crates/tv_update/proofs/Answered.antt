@@ -3,7 +3,6 @@ use Rattle.std.proofs.Common.{ℕ, ◌≡◌, ◌≢◌, ◌<◌, ◌≤◌, ◌
 use Rattle.std.proofs.Common.{get_or, map, Option, Some, None, refl, sym, ap, subst, ◌∙◌, arith, All}
 use Rattle.std.proofs.Common.{Contains}
 use Rattle.std.specs.Prelude.{IsSomeAnd, Result, Ok, Err, IfOk, OnOk}
-use Rattle.std.specs.List.{range_with_len}
 use Rattle.std.proofs.lemmas.Bool.{cases_eq}
 use Rattle.std.proofs.lemmas.List.{get_or-map}
 use Rattle.std.proofs.lemmas.List.FromFn.{length-range_with_len}
@@ -17,25 +16,17 @@ use Rattle.tv_model.proofs.Lists.{Contains-map}
 use Rattle.tv_struct.specs.Halves.{row_halves}
 use Rattle.tv_struct.specs.StructureForm.{StructureForm, IsStructure, IsOver, structure_of, arities_of}
 use Rattle.tv_struct.specs.StructureForm.{with_new}
-use Rattle.tv_struct.specs.Laws.{DrawnReads}
 use Rattle.tv_struct.specs.declared.analysis.StageError.{StageError}
 use Rattle.tv_struct.specs.declared.analysis.StageError.TheVariants.{Splits, Individuals, Memory}
-use Rattle.tv_struct.proofs.StructureLaws.{drawn_reads}
 use Rattle.tv_eval.specs.AssignmentForm.{assignment_of, IsAssigned, individual_for}
 use Rattle.tv_eval.specs.ScratchForm.{ScratchForm, IsMadeFor}
 use Rattle.tv_update_laws.specs.Choices.{AreGiven}
 use Rattle.tv_update_laws.specs.Tables.{middle_table, IsGivenOver}
-use Rattle.tv_update_laws.proofs.Tables.{tables_are_middle}
+use Rattle.tv_update_laws.proofs.Tables.{tables_are_middle, over-middle}
 use Rattle.tv_update.specs.Update.{no_action, action_at, IsFull, IsUpdateCause, IsGivenOf, IsAnswer}
 use Rattle.tv_update.specs.Updated.{CanApply, IsPrepareCause, keep_values}
 use Rattle.tv_update.proofs.Limits.{too_large, picks_inside, few_are_not_many, many_are_many}
 use Rattle.tv_update.proofs.Sole.{is_sole, keeps_steps}
-
--- the middle table is over the predicates of the structure
-over-middle : (b : Bool) (s : StructureForm) → IsStructure s → arities_of (middle_table b s) ≡ arities_of s
-over-middle false s is = refl
-over-middle true s is =
-    let reads : DrawnReads s = drawn_reads s is in reads.arities (range_with_len 0 (s.size + 1)) (Some s.size)
 
 over-of : (s m : StructureForm) → arities_of m ≡ arities_of s → (ts : List StructureForm)
     → All (IsGivenOver m) ts → All (IsGivenOver s) ts

@@ -23,8 +23,7 @@ use Rattle.tv_model.proofs.Decided.{Contains-decided}
 use Rattle.tv_struct.specs.TableForm.{AreIndividuals}
 use Rattle.tv_struct.specs.StructureForm.{StructureForm, IsOver, structure_of, arities_of, value_at}
 use Rattle.tv_struct.specs.StructureRows.{HasArity}
-use Rattle.tv_struct.proofs.Library.{All-individuals}
-use Rattle.tv_update.proofs.Misfits.{value_at-misfit}
+use Rattle.tv_struct.proofs.Library.{All-individuals, value_at-misfit}
 use Rattle.tv_eval_laws.specs.Value.{value}
 use Rattle.tv_eval_laws.specs.Laws.{LooksAlike, AgreesOn}
 use Rattle.tv_eval_laws.proofs.Embedded.{values_are_local}

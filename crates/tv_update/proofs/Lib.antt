@@ -1,4 +1,4 @@
--- Library: the picked variables of an action are in range.
+-- Library: the picked variables of an action.
 pub mod Variables
 -- Proofs of this crate's own functions.
 mod AllDefinitions
@@ -6,12 +6,10 @@ mod Answered
 mod Applies
 mod Defines
 mod Finishes
-mod Folds
 mod Given
 mod KeptLaws
 mod Limits
 mod Made
-mod Misfits
 mod NewLaws
 mod Plans
 mod RowLaws

@@ -1,7 +1,7 @@
 -- The limits of an update.
-use Rattle.std.proofs.Common.{ℕ, ◌≡◌, ◌<◌, ◌≤◌, ◌+◌, Bool, true, false, List, [], ◌∷◌, length, Option, Some}
-use Rattle.std.proofs.Common.{None, map, unwrap_or, refl, sym, ap, subst, ◌∙◌, arith, All, Contains, IsTrue}
-use Rattle.std.specs.Prelude.{◌^◌, IsSomeAnd}
+use Rattle.std.proofs.Common.{ℕ, ◌≡◌, ◌<◌, ◌≤◌, ◌+◌, Bool, true, false, List, [], ◌∷◌, length, Option}
+use Rattle.std.proofs.Common.{map, refl, sym, ap, subst, ◌∙◌, arith, All, Contains, IsTrue}
+use Rattle.std.specs.Prelude.{◌^◌}
 use Rattle.std.specs.List.{range_with_len}
 use Rattle.std.proofs.lemmas.List.{length-append, length-map}
 use Rattle.std.proofs.lemmas.List.Elements.{All-contains}
@@ -17,7 +17,8 @@ use Rattle.tv_embedding_laws.specs.LogicalStructure.{LogicalStructure}
 use Rattle.tv_struct.specs.Halves.{row_halves}
 use Rattle.tv_struct.specs.StructureForm.{StructureForm, IsStructure, structure_of}
 use Rattle.tv_struct.proofs.Library.{Contains-range}
-use Rattle.tv_eval.specs.AssignmentForm.{assignment_of, IsAssigned, individual_for}
+use Rattle.tv_eval.specs.AssignmentForm.{assignment_of, IsAssigned}
+use Rattle.tv_eval.proofs.Parts.{individual_of}
 use Rattle.tv_update_laws.specs.Applied.{keep_value, IsMiddleOf}
 use Rattle.tv_update_laws.specs.Tables.{middle_table, kept_choices, IsTooLarge, HasManyChoices}
 use Rattle.tv_update_laws.specs.Tables.{MiddlesAreAlike}
@@ -75,22 +76,13 @@ many-choices h lt =
     let more : 2 ^ 13 ≤ 2 ^ h = pow-le-pow_right {n = 2} (omega arith) {i = 13} {j = h} (omega (arith, lt))
     in omega (arith, more)
 
--- the variable stands for an individual
-assigned-inside : (size : ℕ) (places : List (Option ℕ)) (v : ℕ) → IsAssigned size places v
-    → assignment_of places v < size
-assigned-inside size places v is = go (individual_for places v) is
-  where
-    go : (o : Option ℕ) → IsSomeAnd o (λ u. u < size) → unwrap_or o 0 < size
-    go (Some u) lt = lt
-    go None never = absurd never
-
 pub picks_inside : (s : StructureForm) (places : List (Option ℕ)) (action : ActionForm)
     → All (IsAssigned s.size places) action.picks
     → All (λ v. Contains (structure_of s).individuals (assignment_of places v)) action.picks
 picks_inside s places action all =
     All-from_contains (λ v. Contains (range_with_len 0 s.size) (assignment_of places v)) action.picks (λ v at.
     Contains-range s.size (assignment_of places v)
-    (assigned-inside s.size places v (All-contains (IsAssigned s.size places) action.picks v all at)))
+    (individual_of s.size places v (All-contains (IsAssigned s.size places) action.picks v all at)))
 
 pub few_are_not_many : (p : ProgramForm) → IsValid p → (action : ActionForm) → Contains p.actions action
     → (s : StructureForm) → IsStructure s

@@ -15,17 +15,13 @@ use Rattle.tv_model.specs.Truth.{Assignment}
 use Rattle.tv_struct.specs.TableForm.{AreIndividuals}
 use Rattle.tv_struct.specs.StructureForm.{StructureForm, structure_of, arities_of, value_at}
 use Rattle.tv_struct.specs.StructureRows.{HasArity}
-use Rattle.tv_update.proofs.Misfits.{value_at-misfit}
+use Rattle.tv_struct.proofs.Library.{value_at-misfit}
 use Rattle.tv_eval.specs.ScratchForm.{ScratchForm}
 use Rattle.tv_update_laws.specs.Applied.{changed_value, updated_value, used_update, kind_at}
+use Rattle.tv_update_laws.proofs.Updates.{none-used}
 use Rattle.tv_update.specs.Rows.{IsLike, HasRows, change_rows}
 use Rattle.tv_update.specs.Updated.{used_in, updated_or, AreMade, CanMake}
 use Rattle.tv_update.proofs.RowLaws.{change_rows_values, few_vars}
-
-pub none-used : (mode : Mode) (kind : KindForm) → used_update mode kind None ≡ None
-none-used Given kind = refl
-none-used Recompute KCore = refl
-none-used Recompute (KDefined vars body) = refl
 
 pub like-itself : (s : StructureForm) → IsLike s s
 like-itself s = record { size = refl; summaries = refl; over = refl; fresh = refl }

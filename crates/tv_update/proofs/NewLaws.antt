@@ -1,17 +1,10 @@
 -- The structures of all choices.
 use Rattle.std.proofs.Common.{ℕ, ◌≡◌, ◌<◌, ◌+◌, Bool, List, [], ◌∷◌, ◌++◌, get_or, take, length, sym, subst}
-use Rattle.std.specs.List.{AllZip}
 use Rattle.std.proofs.lemmas.List.{take_more}
+use Rattle.tv_lemmas.proofs.Zips.{zip_push}
 use Rattle.tv_model.specs.Program.{ProgramForm}
 use Rattle.tv_struct.specs.StructureForm.{StructureForm}
 use Rattle.tv_update.specs.New.{IsFinished, AreFinished}
-
-zip-push : {A B : Type 0} (R : A → B → Type 0) (xs : List A) (ys : List B) (x : A) (y : B) → AllZip R xs ys
-    → R x y → AllZip R (xs ++ x ∷ []) (ys ++ y ∷ [])
-zip-push R [] [] x y zip one = (one, tt)
-zip-push R [] (z ∷ ys) x y zip one = absurd zip
-zip-push R (z ∷ xs) [] x y zip one = absurd zip
-zip-push R (z ∷ xs) (w ∷ ys) x y zip one = (zip.0, zip-push R xs ys x y zip.1 one)
 
 pub finished_more : (p : ProgramForm) (order : List ℕ) (updated : StructureForm) (choices : List (List Bool))
     (i : ℕ) (flags : List Bool)
@@ -22,4 +15,4 @@ finished_more p order updated choices i flags ts us t lt at so_far one pushed =
     subst (λ cs. AreFinished p order updated cs us) (sym (take_more choices i flags lt))
     (subst (λ xs. AreFinished p order updated (take i choices ++ get_or choices i flags ∷ []) xs) (sym pushed)
     (subst (λ f. AreFinished p order updated (take i choices ++ f ∷ []) (ts ++ t ∷ [])) at
-    (zip-push (IsFinished p order updated) (take i choices) ts flags t so_far one)))
+    (zip_push (IsFinished p order updated) (take i choices) ts flags t so_far one)))

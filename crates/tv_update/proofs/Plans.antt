@@ -4,11 +4,12 @@ use Rattle.std.proofs.Common.{[], ◌∷◌, length, get_or, set, take, map, rep
 use Rattle.std.proofs.Common.{slice_get, inl, inr, ⊎_elim, refl, sym, ap, subst, ◌∙◌, cond, eqb, eq-eqb}
 use Rattle.std.proofs.Common.{ne_eqb, append-nil, arith, zero, suc, Contains, IsTrue}
 use Rattle.std.specs.Prelude.{is_some}
-use Rattle.std.proofs.lemmas.Bool.{cases_eq, cases_lt, false≢true}
+use Rattle.std.proofs.lemmas.Bool.{cases_eq, cases_lt, false≢true, false_from_ne_true}
 use Rattle.std.proofs.lemmas.List.{get_or-set_same, get_or-set_other, get_or_past, get_or-replicate}
 use Rattle.std.proofs.lemmas.List.{length-map, length-replicate, length-set, map-append, take_more}
 use Rattle.std.proofs.lemmas.Option.{slice_get_within}
 use Rattle.std.proofs.lemmas.List.Elements.{All-contains, Contains-append_left, Contains-append_cases}
+use Rattle.std.proofs.Math.Bool.{or-false}
 use Rattle.tv_model.specs.declared.program.Action.{Action}
 use Rattle.tv_model.specs.declared.program.Mode.{Mode}
 use Rattle.tv_model.specs.declared.program.Mode.TheVariants.{Given, Recompute}
@@ -22,14 +23,13 @@ use Rattle.tv_model.specs.Step.{update_for}
 use Rattle.tv_model.specs.Valid.{IsValid, IsAction, IsUpdate}
 use Rattle.tv_model.proofs.Lists.{Contains-none, Contains-here, Contains-cases, Contains-there, Contains-map}
 use Rattle.tv_model.proofs.Lists.{pushed-cases, pushed-old, pushed-last, slice_get-past}
-use Rattle.tv_update_laws.specs.Applied.{used_update, kind_or_core, kind_at, update_at, MovesIndividuals}
+use Rattle.tv_update_laws.specs.Applied.{used_update, kind_or_core, kind_at, update_at, moves_individuals}
 use Rattle.tv_update_laws.specs.Applied.{IsChanged}
 use Rattle.tv_update_laws.proofs.Predicates.{defined-found}
-use Rattle.tv_update_laws.proofs.Updates.{UpdateOf, used-update-of}
-use Rattle.tv_update.specs.Plan.{IsFreeOf, IsOrdered, IsPlan, is_set, RestsOn, IsDefined, moves_individuals}
+use Rattle.tv_update_laws.proofs.Updates.{UpdateOf, moves-same, none-used, used-update-of}
+use Rattle.tv_update.specs.Plan.{IsFreeOf, IsOrdered, IsPlan, is_set, RestsOn, IsDefined}
 use Rattle.tv_update.specs.Plan.{AreUpdated, AreWaiting, IsPlanSoFar, CanSettle}
 use Rattle.tv_update.specs.Updated.{used_in}
-use Rattle.tv_update.proofs.Made.{none-used}
 
 -- ---- updates that count
 
@@ -49,10 +49,6 @@ and-one : (b x : Bool) → (b && (x || true)) ≡ b
 and-one true true = refl
 and-one true false = refl
 and-one false x = refl
-
-or-none : (x : Bool) → (x || false) ≡ x
-or-none true = refl
-or-none false = refl
 
 -- where it is told by one update
 told-counts : (mode : Mode) (kind : KindForm) (w : UpdateForm) (on : Bool)
@@ -111,7 +107,7 @@ flag-more p mode ws w on flags told below so_far q =
     other ne =
         get_or-set_other flags w.pred q on false (λ e. ne (sym e)) ∙ so_far q
         ∙ used-counts mode (kind_at p q) (update_for q ws)
-        ∙ ap (λ x. counts-at mode (kind_at p q) && x) (sym (or-none (is_some (update_for q ws))))
+        ∙ ap (λ x. counts-at mode (kind_at p q) && x) (sym (or-false (is_some (update_for q ws))))
         ∙ ap (λ b. counts-at mode (kind_at p q) && (is_some (update_for q ws) || b)) (sym (ne_eqb w.pred q ne))
 
 -- the same as the code has it
@@ -156,10 +152,6 @@ pub set_below : (flags : List Bool) (q : ℕ) → IsTrue (is_set flags q) → q 
 set_below flags q on =
     ⊎_elim (λ lt. lt) (λ past. absurd (false≢true (sym (get_or_past flags q false past) ∙ on)))
     (cases_lt q (length flags))
-
-not-set : (b : Bool) → (IsTrue b → ⊥) → b ≡ false
-not-set true never = absurd (never refl)
-not-set false never = refl
 
 -- ---- the start
 
@@ -244,13 +236,6 @@ plan_start p mode action waiting changed valid updated opens = record {
         → (q < length p.preds) ⊎ (length p.preds ≤ q) → ⊥
     unlisted q both (inl below) = false≢true (sym (updated.each q below ∙ ap is_some both.1) ∙ both.0)
     unlisted q both (inr past) = false≢true (sym (unset q past) ∙ both.0)
-
-or-is : (b c : Bool) → IsTrue (b || c) ↔ (IsTrue b ⊎ IsTrue c)
-or-is true c = (λ on. inl refl, λ either. refl)
-or-is false c = (λ on. inr on, λ either. ⊎_elim (λ never. absurd (false≢true never)) (λ on. on) either)
-
-moves-same : (action : ActionForm) → IsTrue (moves_individuals action) ↔ MovesIndividuals action
-moves-same action = or-is action.fresh (is_some action.retain)
 
 -- ---- where no update counts and no individual comes or goes, nothing is changed
 
@@ -513,7 +498,7 @@ pub plan_done : (p : ProgramForm) → IsValid p
 plan_done p valid mode action waiting changed order so_far each = record {
   changed = is_set changed;
   are_changed = λ q. so_far.settled q
-      (not-set (is_set waiting q) (never-waiting p waiting each valid (suc (valid.rank q)) q (omega arith)));
+      (false_from_ne_true (is_set waiting q) (never-waiting p waiting each valid (suc (valid.rank q)) q (omega arith)));
   members = so_far.members;
   ordered = so_far.ordered;
 }

@@ -1,13 +1,16 @@
--- The picked variables of an action are in range.
-use Rattle.std.proofs.Common.{ℕ, List, [], ◌∷◌, ◌++◌, Option, None, Some, sym, subst, All}
+-- The picked variables of an action: they are in range, and individuals are put for one after the other.
+use Rattle.std.proofs.Common.{ℕ, List, [], ◌∷◌, ◌++◌, Option, None, Some, sym, subst, All, ◌≡◌, ◌∙◌, ◌<◌, ◌⊎◌}
 use Rattle.std.proofs.lemmas.List.Elements.{All-nil, All-cons, All-head, All-tail, All-append, All-contains}
-use Rattle.std.specs.Prelude.{◌==◌, not}
+use Rattle.std.specs.Prelude.{◌==◌, not, IsSomeAnd, if◌then◌else◌}
+use Rattle.std.proofs.Common.{inl, inr, ⊎_elim, ap, eq-eqb, ne_eqb, Contains}
+use Rattle.std.proofs.lemmas.Bool.{cases_eq}
 use Rattle.tv_model.specs.Form.{Form, FZero, FOne, FAtom, FIsNew, FSame, FNot, FAnd, FOr, FIff, FCond}
 use Rattle.tv_model.specs.Form.{FExists, FForall, FClosure}
 use Rattle.tv_model.specs.Program.{ProgramForm}
 use Rattle.tv_model.specs.Valid.{IsVariable, IsFormulaOver, IsPrecondition, free_occurrences}
 use Rattle.tv_model.specs.Valid.{first_occurrences, without}
-use Rattle.tv_model.proofs.Lists.{Contains-filter_back, All-from_contains}
+use Rattle.tv_model.proofs.Lists.{Contains-filter_back, All-from_contains, Contains-cases, Contains-none}
+use Rattle.tv_eval.specs.AssignmentForm.{IsAssigned, individual_for}
 
 without-all : (P : ℕ → Type 0) (v : ℕ) (xs : List ℕ) → All P xs → All P (without v xs)
 without-all P v xs all =
@@ -59,3 +62,31 @@ picks-in_range p None picks is = subst (All IsVariable) (sym is) (All-nil IsVari
 picks-in_range p (Some f) picks is =
     subst (All IsVariable) (sym is.1)
     (first-all IsVariable (free_occurrences f) (occurrences-in_range _ f is.0.0))
+
+-- where an individual is put for the first variable that is left, one is left less
+pub picked-with : (picks left : List ℕ) (size v u : ℕ) (old new : List (Option ℕ))
+    → ((w : ℕ) → individual_for new w ≡ (if w == v then Some u else individual_for old w)) → u < size
+    → ((w : ℕ) → Contains picks w → Contains (v ∷ left) w ⊎ IsAssigned size old w)
+    → (w : ℕ) → Contains picks w → Contains left w ⊎ IsAssigned size new w
+picked-with picks left size v u old new is inside known w picked =
+    ⊎_elim
+    (λ same. inr
+    (subst Assigned (sym (is w ∙ ap (λ b. if b then Some u else individual_for old w) (eq-eqb w v same))) inside))
+    (λ other. ⊎_elim
+    (λ among. ⊎_elim (λ e. absurd (other (sym e))) (λ later. inl later) (Contains-cases v w left among))
+    (λ own. inr
+    (subst Assigned (sym (is w ∙ ap (λ b. if b then Some u else individual_for old w) (ne_eqb w v other))) own))
+    (known w picked))
+    (cases_eq w v)
+  where
+    Assigned : Option ℕ → Type 0
+    Assigned o = IsSomeAnd o (λ x. x < size)
+
+-- all picked variables stand for individuals, where none is left
+pub all-picked : (picks left : List ℕ) (size : ℕ) (places : List (Option ℕ)) → left ≡ []
+    → ((w : ℕ) → Contains picks w → Contains left w ⊎ IsAssigned size places w)
+    → All (IsAssigned size places) picks
+all-picked picks left size places none picked =
+    All-from_contains (IsAssigned size places) picks
+    (λ w at. ⊎_elim (λ there. absurd (Contains-none w (subst (λ vars. Contains vars w) none there)))
+    (λ assigned. assigned) (picked w at))

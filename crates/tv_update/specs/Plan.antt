@@ -1,5 +1,5 @@
 -- Which defined predicates an action changes, in an order in which they can be evaluated.
-use Rattle.std.specs.Prelude.{ℕ, ◌≡◌, ◌↔◌, ◌<◌, ◌||◌, Bool, false, List, [], ◌∷◌, length, map, None, is_some}
+use Rattle.std.specs.Prelude.{ℕ, ◌≡◌, ◌↔◌, ◌<◌, Bool, false, List, [], ◌∷◌, length, map, None, is_some}
 use Rattle.std.specs.Prelude.{Contains, IsTrue, slice_index_or}
 use Rattle.tv_model.specs.declared.formula.PredId.{PredId}
 use Rattle.tv_model.specs.declared.program.Mode.{Mode}
@@ -45,10 +45,6 @@ RestsOn flags (KDefined vars body) = MentionsSet flags body
 abbrev pub IsDefined : KindForm → Type 0
 IsDefined KCore = ⊥
 IsDefined (KDefined vars body) = Unit {0}
-
--- individuals may come or go
-abbrev pub moves_individuals : ActionForm → Bool
-moves_individuals action = action.fresh || is_some action.retain
 
 -- the flags of the predicates with an update that counts
 pub record AreUpdated (p : ProgramForm) (mode : Mode) (action : ActionForm) (flags : List Bool) : Type 0 where

@@ -4,9 +4,9 @@ ghost use Rattle.std.specs.Prelude.{ℕ, ◌≡◌, ◌↔◌, ◌⊎◌, ◌<�
 ghost use Rattle.std.specs.Prelude.{IfSome, IfNone, slice_set, if◌then◌else◌};
 ghost use Rattle.tv_model.specs.Form.{form_of};
 ghost use Rattle.tv_model.specs.Program.{program_of, action_of};
-ghost use Rattle.tv_update_laws.specs.Applied.{kind_at};
+ghost use Rattle.tv_update_laws.specs.Applied.{kind_at, moves_individuals};
 ghost use Rattle.tv_update.specs.Drafts.{IsDraftOf, IsReadyIn};
-ghost use Rattle.tv_update.specs.Plan.{is_set, MentionsSet, RestsOn, moves_individuals};
+ghost use Rattle.tv_update.specs.Plan.{is_set, MentionsSet, RestsOn};
 
 use crate::application::Application;
 use std::alloc::AllocError;

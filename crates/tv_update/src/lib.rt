@@ -16,5 +16,6 @@ mod stage;
 mod updates;
 
 pub use definitions::{order_of, redefine};
+pub use draft::moves;
 pub use plan::{Order, Plan, plan_for};
 pub use stage::{update, update_by_plan, update_middle};

@@ -3,10 +3,9 @@
 ghost use Rattle.std.specs.Prelude.{ℕ, ◌≡◌, ◌↔◌, ◌<◌, false, length, IsTrue, IfOk};
 ghost use Rattle.tv_model.specs.Program.{program_of, action_of};
 ghost use Rattle.tv_model.specs.Valid.{IsValid, IsAction};
-ghost use Rattle.tv_update_laws.specs.Applied.{kind_at};
+ghost use Rattle.tv_update_laws.specs.Applied.{kind_at, moves_individuals};
 ghost use Rattle.tv_update.specs.Applying.{IsPlanOf};
 ghost use Rattle.tv_update.specs.Plan.{IsPlanFor, is_set, IsDefined, AreUpdated, AreWaiting};
-ghost use Rattle.tv_update.specs.Plan.{moves_individuals};
 ghost use Rattle.tv_update.specs.Update.{action_at};
 
 use crate::application::Application;

@@ -78,7 +78,7 @@ impl Rows {
     }
 
     /// The same for two variables.
-    #[tactic(auto, using(crate::proofs::Folds::map_range_more))]
+    #[tactic(auto, using(tv_lemmas::proofs::Lists::map_range_more))]
     fn fill_pairs<'a>(
         &mut self,
         e: &mut Evaluator<'a>,

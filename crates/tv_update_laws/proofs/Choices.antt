@@ -1,15 +1,15 @@
 -- The choice that a heap makes is one of the list.
-use Rattle.std.specs.List.{AllZip}
-use Rattle.std.proofs.Common.{ℕ, ◌≡◌, Bool, true, false, List, [], ◌∷◌, map, filter, ⊎_elim, refl, sym, subst}
+use Rattle.std.proofs.Common.{ℕ, ◌≡◌, Bool, true, false, List, [], ◌∷◌, map, filter, refl, sym}
 use Rattle.std.proofs.Common.{◌∙◌, Contains, cond}
 use Rattle.std.proofs.lemmas.Bool.{false≢true}
 use Rattle.std.proofs.lemmas.List.Elements.{Contains-append_left, Contains-append_right}
+use Rattle.tv_lemmas.proofs.Zips.{zip_found}
 use Rattle.tv_kleene.specs.declared.K3.{K3}
 use Rattle.tv_kleene.specs.declared.K3.TheVariants.{No, Half, Yes}
 use Rattle.tv_model.specs.declared.program.Mode.{Mode}
 use Rattle.tv_model.specs.Program.{ProgramForm, ActionForm}
 use Rattle.tv_model.specs.Truth.{Assignment}
-use Rattle.tv_model.proofs.Lists.{Contains-here, Contains-there, Contains-none, Contains-cases}
+use Rattle.tv_model.proofs.Lists.{Contains-here, Contains-there}
 use Rattle.tv_model.proofs.Lists.{Contains-filter, Contains-filter_back, Contains-map}
 use Rattle.tv_embedding_laws.specs.LogicalStructure.{LogicalStructure}
 use Rattle.tv_update_laws.specs.Applied.{MayChoose, IsNew, keep_value}
@@ -62,17 +62,6 @@ IsNew-same p mode action picks middle keep other same t is = record {
   no_mark = is.no_mark;
 }
 
-AllZip-found : {A B : Type 0} (R : A → B → Type 0) (xs : List A) (ys : List B) → AllZip R xs ys → (x : A)
-    → Contains xs x → (y : B) × Contains ys y × R x y
-AllZip-found R [] ys zip x at = absurd (Contains-none x at)
-AllZip-found R (z ∷ xs) [] zip x at = absurd zip
-AllZip-found R (z ∷ xs) (y ∷ ys) zip x at =
-    ⊎_elim
-    (λ e. (y, Contains-here y ys, subst (λ w. R w y) e zip.0))
-    (λ later. let d : (w : _) × Contains ys w
-    × R x w = AllZip-found R xs ys zip.1 x later in (d.0, Contains-there y d.0 ys d.1, d.2))
-    (Contains-cases z x xs at)
-
 pub update_loses_no_heap : UpdateLosesNoHeap
 update_loses_no_heap p valid mode action at s picks new from ts given =
     let middle : LogicalStructure = given.0
@@ -83,7 +72,7 @@ update_loses_no_heap p valid mode action at s picks new from ts given =
     = choice-listed (keep_value middle picks action.retain) has.keep middle.individuals has.is_choice
     in let found : (t : LogicalStructure) × Contains ts t
     × IsNew p mode action picks middle (stays_in (filter has.keep middle.individuals)) t
-    = AllZip-found (λ us t. IsNew p mode action picks middle (stays_in us) t)
+    = zip_found (λ us t. IsNew p mode action picks middle (stays_in us) t)
     (choices_of (keep_value middle picks action.retain) middle.individuals) ts
     given.2 (filter has.keep middle.individuals) listed
     in (

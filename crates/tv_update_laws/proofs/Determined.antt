@@ -5,6 +5,7 @@ use Rattle.std.proofs.Common.{eqb, eq-eqb, ne_eqb, arith, zero, suc}
 use Rattle.std.proofs.lemmas.Bool.{cases_eq, cond-true, cond-false}
 use Rattle.std.proofs.lemmas.List.Elements.{All-map}
 use Rattle.std.proofs.lemmas.List.{length-map}
+use Rattle.tv_lemmas.proofs.Bools.{same_tests}
 use Rattle.tv_model.proofs.Lists.{map-compose}
 use Rattle.tv_kleene.specs.declared.K3.TheVariants.{No}
 use Rattle.tv_model.specs.declared.program.Mode.{Mode}
@@ -28,7 +29,7 @@ use Rattle.tv_update_laws.proofs.Predicates.{valid-pred, defined-found}
 
 -- ---- the changed predicates are determined
 
-changed-too : (p : ProgramForm) (mode : Mode) (action : ActionForm) (rank : ℕ → ℕ) → IsRank p rank
+pub changed-too : (p : ProgramForm) (mode : Mode) (action : ActionForm) (rank : ℕ → ℕ) → IsRank p rank
     → (one other : ℕ → Bool) → AreChanged p mode action one → AreChanged p mode action other
     → (n q : ℕ) → rank q < n → IsTrue (one q) → IsTrue (other q)
 changed-too p mode action rank ranks one other a b zero q below is = absurd (omega (arith, below))
@@ -47,12 +48,6 @@ changed-too p mode action rank ranks one other a b (suc n) q below is =
         defined-found p q vars body k
         in let falls : rank mention.0 < rank q = ranks.falls q f.0 f.1 vars body f.2 mention.0 mention.1
         in inr (mention.0, mention.1, lower mention.0 (omega (arith, below, falls)) mention.2)
-
-pub same-bools : (b c : Bool) → (b ≡ true → c ≡ true) → (c ≡ true → b ≡ true) → b ≡ c
-same-bools true true f g = refl
-same-bools true false f g = sym (f refl)
-same-bools false true f g = g refl
-same-bools false false f g = refl
 
 -- ---- two new structures of one choice
 
@@ -104,7 +99,7 @@ module _ (p : ProgramForm) (valid : IsValid p) (mode : Mode) (action : ActionFor
 
   changed-same : (q : ℕ) → a.changed q ≡ b.changed q
   changed-same q =
-      same-bools (a.changed q) (b.changed q)
+      same_tests (a.changed q) (b.changed q)
       (changed-too p mode action valid.rank valid.no_cycle a.changed b.changed a.are_changed b.are_changed
       (suc (valid.rank q)) q (omega arith))
       (changed-too p mode action valid.rank valid.no_cycle b.changed a.changed b.are_changed a.are_changed

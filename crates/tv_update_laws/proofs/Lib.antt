@@ -2,6 +2,7 @@
 -- among them the laws on which laws of steps rest.
 pub mod Choices
 pub mod Counts
+pub mod Determined
 pub mod Facts
 pub mod Filters
 pub mod Middles
@@ -15,7 +16,6 @@ pub mod Tables
 pub mod Updates
 -- Proofs of this crate's own laws.
 mod Alike
-mod Determined
 mod ExactChoices
 mod Made
 mod Middle

@@ -1,16 +1,16 @@
 -- The new structure of a choice, made in stages: predicates of rank below n have their new values at stage n.
-use Rattle.std.specs.Prelude.{IsSome}
 use Rattle.std.proofs.Common.{ℕ, ◌≡◌, ◌<◌, ◌⊎◌, ◌↔◌, ◌||◌, Bool, true, false, List, length, filter, Option}
 use Rattle.std.proofs.Common.{None, Some, slice_get, inl, inr, ⊎_elim, refl, sym, ap, subst, ◌∙◌, All}
 use Rattle.std.proofs.Common.{Contains, IsTrue, eqb, eq-eqb, ne_eqb, arith, zero, suc}
-use Rattle.std.proofs.lemmas.Bool.{cases_eq, cond-true, cond-false, false≢true}
+use Rattle.std.proofs.lemmas.Bool.{cases_eq, cond-true, cond-false, false≢true, or_cases, or_left, or_right}
 use Rattle.std.proofs.lemmas.List.{map-id}
+use Rattle.tv_lemmas.proofs.Bools.{same_tests}
 use Rattle.tv_kleene.specs.declared.K3.{K3}
 use Rattle.tv_kleene.specs.declared.K3.TheVariants.{No}
 use Rattle.tv_model.specs.declared.program.Mode.{Mode}
 use Rattle.tv_model.specs.Form.{Form, FZero, FOne, FAtom, FIsNew, FSame, FNot, FAnd, FOr, FIff, FCond}
 use Rattle.tv_model.specs.Form.{FExists, FForall, FClosure, Mentions}
-use Rattle.tv_model.specs.Program.{ProgramForm, PredForm, KindForm, KCore, KDefined, ActionForm, RetainForm}
+use Rattle.tv_model.specs.Program.{ProgramForm, PredForm, KindForm, KCore, KDefined, ActionForm}
 use Rattle.tv_model.specs.Program.{UpdateForm}
 use Rattle.tv_model.specs.Rules.{blank}
 use Rattle.tv_model.specs.Truth.{Assignment, put_all}
@@ -19,25 +19,14 @@ use Rattle.tv_embedding_laws.specs.LogicalStructure.{LogicalStructure}
 use Rattle.tv_eval_laws.specs.Value.{value}
 use Rattle.tv_eval_laws.specs.Laws.{LooksAlike, AgreesOn}
 use Rattle.tv_eval_laws.proofs.Embedded.{values_are_local}
-use Rattle.tv_update_laws.specs.Applied.{kind_at, update_at, MovesIndividuals, IsChanged, AreChanged}
+use Rattle.tv_update_laws.specs.Applied.{kind_at, update_at, moves_individuals, IsChanged, AreChanged}
 use Rattle.tv_update_laws.specs.Applied.{new_value, IsNew}
 use Rattle.tv_update_laws.specs.Laws.{EachChoiceHasNewStructure}
 use Rattle.tv_update_laws.proofs.Puts.{put_all-goes}
 use Rattle.tv_update_laws.proofs.Predicates.{valid-pred, defined-found}
-use Rattle.tv_update_laws.proofs.Determined.{same-bools}
+use Rattle.tv_update_laws.proofs.Updates.{moves-same}
 
 -- ---- changed predicates, in stages
-
-or-cases : (a b : Bool) → (a || b) ≡ true → (a ≡ true) ⊎ (b ≡ true)
-or-cases true b e = inl refl
-or-cases false b e = inr e
-
-or-left : (a b : Bool) → a ≡ true → (a || b) ≡ true
-or-left a b e = ap (λ x. x || b) e
-
-or-right : (a b : Bool) → b ≡ true → (a || b) ≡ true
-or-right true b e = refl
-or-right false b e = e
 
 -- whether the formula mentions a predicate of the set
 abbrev mentions_one : (ℕ → Bool) → Form → Bool
@@ -65,7 +54,7 @@ mentions-either c f g e left right =
     ⊎_elim
     (λ h. let d : Mentioned c f = left h in (d.0, inl d.1, d.2))
     (λ h. let d : Mentioned c g = right h in (d.0, inr d.1, d.2))
-    (or-cases (mentions_one c f) (mentions_one c g) e)
+    (or_cases (mentions_one c f) (mentions_one c g) e)
 
 mentions-some : (c : ℕ → Bool) (f : Form) → mentions_one c f ≡ true → Mentioned c f
 mentions-some c FZero e = absurd (false≢true e)
@@ -83,8 +72,8 @@ mentions-some c (FCond k f g) e =
     (λ rest. ⊎_elim
     (λ h. let d : Mentioned c f = mentions-some c f h in (d.0, inr (inl d.1), d.2))
     (λ h. let d : Mentioned c g = mentions-some c g h in (d.0, inr (inr d.1), d.2))
-    (or-cases (mentions_one c f) (mentions_one c g) rest))
-    (or-cases (mentions_one c k) (mentions_one c f || mentions_one c g) e)
+    (or_cases (mentions_one c f) (mentions_one c g) rest))
+    (or_cases (mentions_one c k) (mentions_one c f || mentions_one c g) e)
 mentions-some c (FExists v f) e = mentions-some c f e
 mentions-some c (FForall v f) e = mentions-some c f e
 mentions-some c (FClosure from to left right f) e = mentions-some c f e
@@ -97,48 +86,29 @@ mentions-all c (FIsNew v) r m e = absurd m
 mentions-all c (FSame v w) r m e = absurd m
 mentions-all c (FNot f) r m e = mentions-all c f r m e
 mentions-all c (FAnd f g) r m e =
-    ⊎_elim (λ h. or-left (mentions_one c f) (mentions_one c g) (mentions-all c f r h e))
-    (λ h. or-right (mentions_one c f) (mentions_one c g) (mentions-all c g r h e)) m
+    ⊎_elim (λ h. or_left (mentions_one c f) (mentions_one c g) (mentions-all c f r h e))
+    (λ h. or_right (mentions_one c f) (mentions_one c g) (mentions-all c g r h e)) m
 mentions-all c (FOr f g) r m e =
-    ⊎_elim (λ h. or-left (mentions_one c f) (mentions_one c g) (mentions-all c f r h e))
-    (λ h. or-right (mentions_one c f) (mentions_one c g) (mentions-all c g r h e)) m
+    ⊎_elim (λ h. or_left (mentions_one c f) (mentions_one c g) (mentions-all c f r h e))
+    (λ h. or_right (mentions_one c f) (mentions_one c g) (mentions-all c g r h e)) m
 mentions-all c (FIff f g) r m e =
-    ⊎_elim (λ h. or-left (mentions_one c f) (mentions_one c g) (mentions-all c f r h e))
-    (λ h. or-right (mentions_one c f) (mentions_one c g) (mentions-all c g r h e)) m
+    ⊎_elim (λ h. or_left (mentions_one c f) (mentions_one c g) (mentions-all c f r h e))
+    (λ h. or_right (mentions_one c f) (mentions_one c g) (mentions-all c g r h e)) m
 mentions-all c (FCond k f g) r m e =
     ⊎_elim
-    (λ h. or-left (mentions_one c k) (mentions_one c f || mentions_one c g) (mentions-all c k r h e))
-    (λ rest. or-right (mentions_one c k) (mentions_one c f || mentions_one c g)
-    (⊎_elim (λ h. or-left (mentions_one c f) (mentions_one c g) (mentions-all c f r h e))
-    (λ h. or-right (mentions_one c f) (mentions_one c g) (mentions-all c g r h e)) rest))
+    (λ h. or_left (mentions_one c k) (mentions_one c f || mentions_one c g) (mentions-all c k r h e))
+    (λ rest. or_right (mentions_one c k) (mentions_one c f || mentions_one c g)
+    (⊎_elim (λ h. or_left (mentions_one c f) (mentions_one c g) (mentions-all c f r h e))
+    (λ h. or_right (mentions_one c f) (mentions_one c g) (mentions-all c g r h e)) rest))
     m
 mentions-all c (FExists v f) r m e = mentions-all c f r m e
 mentions-all c (FForall v f) r m e = mentions-all c f r m e
 mentions-all c (FClosure from to left right f) r m e = mentions-all c f r m e
 
-abbrev has : Option RetainForm → Bool
-has None = false
-has (Some r) = true
-
-moves-same : (action : ActionForm) → IsTrue (action.fresh || has action.retain) ↔ MovesIndividuals action
-moves-same action = (
-  λ e. ⊎_elim (λ h. inl h) (λ h. inr (from action.retain h)) (or-cases action.fresh (has action.retain) e),
-  λ m. ⊎_elim (λ h. or-left action.fresh (has action.retain) h)
-      (λ h. or-right action.fresh (has action.retain) (to action.retain h)) m,
-)
-  where
-    from : (o : Option RetainForm) → has o ≡ true → IsSome o
-    from None e = absurd (false≢true e)
-    from (Some r) e = refl
-
-    to : (o : Option RetainForm) → IsSome o → has o ≡ true
-    to None s = absurd (false≢true s)
-    to (Some r) s = refl
-
 abbrev is_changed : ActionForm → (ℕ → Bool) → Option UpdateForm → KindForm → Bool
 is_changed action c (Some w) kind = true
 is_changed action c None KCore = false
-is_changed action c None (KDefined vars body) = (action.fresh || has action.retain) || mentions_one c body
+is_changed action c None (KDefined vars body) = moves_individuals action || mentions_one c body
 
 -- the test decides, for a set that is as wanted on the mentioned predicates
 changed-decided : (action : ActionForm) (c d : ℕ → Bool) (used : Option UpdateForm) (kind : KindForm)
@@ -151,10 +121,10 @@ changed-decided action c d None (KDefined vars body) same = (
       (λ h. inl ((moves-same action).0 h))
       (λ h. let m : Mentioned c body = mentions-some c body h in inr
       (m.0, m.1, sym (same vars body refl m.0 m.1) ∙ m.2))
-      (or-cases (action.fresh || has action.retain) (mentions_one c body) e),
+      (or_cases (moves_individuals action) (mentions_one c body) e),
   λ is. ⊎_elim
-      (λ h. or-left (action.fresh || has action.retain) (mentions_one c body) ((moves-same action).1 h))
-      (λ m. or-right (action.fresh || has action.retain) (mentions_one c body)
+      (λ h. or_left (moves_individuals action) (mentions_one c body) ((moves-same action).1 h))
+      (λ m. or_right (moves_individuals action) (mentions_one c body)
       (mentions-all c body m.0 m.1 (same vars body refl m.0 m.1 ∙ m.2)))
       is,
 )
@@ -186,7 +156,7 @@ module _ (p : ProgramForm) (valid : IsValid p) (mode : Mode) (action : ActionFor
       ↔ IsChanged action (changed_by m) (update_at p mode action q) (kind_at p q)
       = changed-decided action (changed_by m) (changed_by m) (update_at p mode action q) (kind_at p q)
       (λ vars body k r mention. refl)
-      in same-bools (changed_by (suc n) q) (changed_by (suc m) q) (λ e. other.1 (one.0 e))
+      in same_tests (changed_by (suc n) q) (changed_by (suc m) q) (λ e. other.1 (one.0 e))
       (λ e. one.1 (other.0 e))
 
   abbrev changed : ℕ → Bool

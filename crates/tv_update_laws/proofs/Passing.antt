@@ -3,7 +3,7 @@ use Rattle.std.specs.List.{list_any}
 use Rattle.std.proofs.Common.{ℕ, ◌≡◌, ◌≢◌, ◌⊎◌, ◌↔◌, Bool, true, false, List, length, map, Option, None, Some}
 use Rattle.std.proofs.Common.{slice_get, inl, inr, ⊎_elim, refl, sym, ap, subst, ◌∙◌, All, Contains, IsTrue}
 use Rattle.std.proofs.Common.{eqb, eq-eqb, ne_eqb}
-use Rattle.std.proofs.lemmas.Bool.{cases_eq, cond-true, cond-false, false≢true}
+use Rattle.std.proofs.lemmas.Bool.{cases_eq, cond-true, cond-false, false≢true, false_from_ne_true}
 use Rattle.std.proofs.lemmas.List.Elements.{Contains-append_cases}
 use Rattle.std.proofs.lemmas.List.{length-map}
 use Rattle.tv_kleene.specs.declared.K3.{K3}
@@ -101,10 +101,6 @@ may-choose No b at_yes at_no = at_no refl
 may-choose Half b at_yes at_no = tt
 may-choose Yes b at_yes at_no = at_yes refl
 
-not-true : (b : Bool) → (b ≡ true → ⊥) → b ≡ false
-not-true true n = absurd (n refl)
-not-true false n = refl
-
 choice-at : (c : Passing) (retain : Option RetainForm) → c.action.retain ≡ retain → (w : ℕ)
     → Contains c.above.individuals w → MayChoose (keep_value c.above c.picks retain w) (kept_above c w)
 choice-at c None e w at =
@@ -139,7 +135,7 @@ choice-at c (Some r) e w at =
         in subst (λ y. IsTrue (kept_above c y)) d.2 (kept-image c d.0 ((c.keeps d.0).1 (d.1, keep)))
 
     at_no : value c.above (put c.picks r.var w) r.keep ≡ No → kept_above c w ≡ false
-    at_no x = not-true (kept_above c w) (λ kept.
+    at_no x = false_from_ne_true (kept_above c w) (λ kept.
         let d : (u : ℕ) × Contains c.new.individuals u × (c.g u ≡ w) = kept-preimage c w kept
         in let both : Contains c.middle.individuals d.0 × Keeps c.middle c.picked c.action.retain d.0 =
         (c.keeps d.0).0 d.1

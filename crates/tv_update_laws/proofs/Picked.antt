@@ -7,6 +7,7 @@ use Rattle.tv_model.specs.Program.{ProgramForm, ActionForm}
 use Rattle.tv_model.specs.Truth.{Assignment, put_all}
 use Rattle.tv_model.specs.Valid.{IsAction, IsPrecondition, free_occurrences}
 use Rattle.tv_model.proofs.Lists.{map-agreed}
+use Rattle.tv_model.proofs.Parts.{first-occurs}
 use Rattle.tv_embedding_laws.specs.LogicalStructure.{LogicalStructure}
 use Rattle.tv_eval_laws.proofs.Agreed.{only_free_variables_matter}
 use Rattle.tv_update_laws.specs.Applied.{keep_value}
@@ -14,7 +15,7 @@ use Rattle.tv_update_laws.specs.Choices.{choices_of}
 use Rattle.tv_update_laws.specs.Picks.{precondition_value}
 use Rattle.tv_update_laws.specs.Laws.{OnlyPicksMatter}
 use Rattle.tv_update_laws.proofs.Alike.{Alike, choices-alike, AreNew-alike}
-use Rattle.tv_update_laws.proofs.Preconditions.{first-occurs, free-occurs}
+use Rattle.tv_update_laws.proofs.Preconditions.{free-occurs}
 use Rattle.tv_update_laws.proofs.Puts.{put_all-goes}
 
 module _ (action : ActionForm) (a b : Assignment) (same : (v : ℕ) → Contains action.picks v → a v ≡ b v) where

@@ -40,7 +40,7 @@ put_all-reads f (v ∷ vars) a x either =
     ∙ e) (cases_eq x v)))
     either)
 
-isnt-no : (k : K3) → k ≢ No → isnt_no k ≡ true
+pub isnt-no : (k : K3) → k ≢ No → isnt_no k ≡ true
 isnt-no No n = absurd (n refl)
 isnt-no Half n = refl
 isnt-no Yes n = refl

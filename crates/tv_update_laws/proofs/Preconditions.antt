@@ -2,15 +2,16 @@
 use Rattle.std.specs.Prelude.{IfSome}
 use Rattle.std.proofs.Common.{ℕ, ◌≡◌, ◌≢◌, ◌++◌, Bool, not, true, false, List, [], ◌∷◌, Option, None, Some}
 use Rattle.std.proofs.Common.{⊎_elim, sym, ap, subst, ◌∙◌, Contains, cond, eqb, ne_eqb}
-use Rattle.std.proofs.lemmas.Bool.{cases_eq, cond-true}
+use Rattle.std.proofs.lemmas.Bool.{cond-true}
 use Rattle.std.proofs.lemmas.List.Elements.{All-contains, Contains-append_left, Contains-append_right}
 use Rattle.tv_kleene.specs.declared.K3.TheVariants.{No}
 use Rattle.tv_model.specs.Form.{Form, FZero, FOne, FAtom, FIsNew, FSame, FNot, FAnd, FOr, FIff, FCond}
 use Rattle.tv_model.specs.Form.{FExists, FForall, FClosure, IsFree}
 use Rattle.tv_model.specs.Step.{StepsThrough}
 use Rattle.tv_model.specs.Truth.{Truth}
-use Rattle.tv_model.specs.Valid.{IsAction, IsPrecondition, free_occurrences, first_occurrences, without}
+use Rattle.tv_model.specs.Valid.{IsAction, IsPrecondition, free_occurrences, without}
 use Rattle.tv_model.proofs.Lists.{Contains-here, Contains-there, Contains-cases}
+use Rattle.tv_model.proofs.Parts.{first-occurs}
 use Rattle.tv_embedding_laws.specs.LogicalStructure.{heap_structure}
 use Rattle.tv_eval_laws.specs.Value.{value}
 use Rattle.tv_eval_laws.specs.Laws.{TakesAlong, TellsOfHeap}
@@ -33,16 +34,6 @@ without-keeps v u (x ∷ xs) ne at =
     put_in : (b : Bool) → Contains (without v xs) u → Contains (cond b (x ∷ without v xs) (without v xs)) u
     put_in true there = Contains-there x u (without v xs) there
     put_in false there = there
-
-pub first-occurs : (xs : List ℕ) (u : ℕ) → Contains xs u → Contains (first_occurrences xs) u
-first-occurs [] u at = at
-first-occurs (x ∷ xs) u at =
-    ⊎_elim
-    (λ e. subst (λ y. Contains (x ∷ without x (first_occurrences xs)) y) (sym e)
-    (Contains-here x (without x (first_occurrences xs))))
-    (λ ne. Contains-there x u (without x (first_occurrences xs)) (without-keeps x u (first_occurrences xs) ne
-    (first-occurs xs u (⊎_elim (λ e. absurd (ne (sym e))) (λ later. later) (Contains-cases x u xs at)))))
-    (cases_eq u x)
 
 pub free-occurs : (f : Form) (v : ℕ) → IsFree v f → Contains (free_occurrences f) v
 free-occurs FZero v free = absurd free

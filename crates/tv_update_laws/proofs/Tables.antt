@@ -10,16 +10,23 @@ use Rattle.std.proofs.lemmas.List.FromFn.{length-range_with_len, get_or-range_wi
 use Rattle.std.proofs.lemmas.List.FromFn.{length-map-range_with_len, get_or-map-range_with_len}
 use Rattle.std.proofs.lemmas.List.Kept.{AllPairs-from_increasing}
 use Rattle.std.proofs.lemmas.List.{same_lists, get_or_default}
+use Rattle.tv_lemmas.proofs.Lists.{range_more}
 use Rattle.tv_struct.specs.TableForm.{AreIndividuals}
 use Rattle.tv_struct.specs.StructureForm.{StructureForm, IsStructure, structure_of, summary_at, with_new}
-use Rattle.tv_struct.specs.StructureForm.{kept_from}
+use Rattle.tv_struct.specs.StructureForm.{arities_of, kept_from}
 use Rattle.tv_struct.specs.Laws.{DrawnReads}
-use Rattle.tv_struct.proofs.OriginLaws.{range_with_len_more, are_kept}
+use Rattle.tv_struct.proofs.OriginLaws.{are_kept}
 use Rattle.tv_struct.proofs.DrawnLaws.{summary_at-past}
 use Rattle.tv_struct.proofs.StructureLaws.{drawn_reads}
 use Rattle.tv_struct.proofs.Library.{below-range, AreIndividuals-range}
 use Rattle.tv_update_laws.specs.Applied.{IsGrown}
-use Rattle.tv_update_laws.specs.Tables.{flag_at, TablesAreMiddle, TablesAreKept}
+use Rattle.tv_update_laws.specs.Tables.{flag_at, middle_table, TablesAreMiddle, TablesAreKept}
+
+-- the middle table is over the predicates of the structure
+pub over-middle : (b : Bool) (s : StructureForm) → IsStructure s → arities_of (middle_table b s) ≡ arities_of s
+over-middle false s is = refl
+over-middle true s is =
+    let reads : DrawnReads s = drawn_reads s is in reads.arities (range_with_len 0 (s.size + 1)) (Some s.size)
 
 -- ---- a further individual
 
@@ -28,7 +35,7 @@ grown-individuals : (s : StructureForm)
     → range_with_len 0 (with_new s).size ≡ range_with_len 0 s.size ++ s.size ∷ []
 grown-individuals s =
     let last : 0 + s.size ≡ s.size = omega arith
-    in ap (range_with_len 0) (length-range_with_len 0 (s.size + 1)) ∙ range_with_len_more 0 s.size
+    in ap (range_with_len 0) (length-range_with_len 0 (s.size + 1)) ∙ range_more 0 s.size
     ∙ ap (λ n. range_with_len 0 s.size ++ n ∷ []) last
 
 tables_grow : (s : StructureForm) → IsStructure s → IsGrown (structure_of s) (structure_of (with_new s))

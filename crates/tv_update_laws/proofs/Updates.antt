@@ -1,19 +1,33 @@
 -- Updates of an action: which count, and what each is.
-use Rattle.std.proofs.Common.{ℕ, ◌≡◌, true, Option, Some, slice_get, ⊎_elim, refl, sym, subst, ◌∙◌, Contains}
-use Rattle.std.proofs.Common.{eqb, ne_eqb}
-use Rattle.std.proofs.lemmas.Bool.{cases_eq, false≢true}
+use Rattle.std.specs.Prelude.{is_some}
+use Rattle.std.proofs.Common.{ℕ, ◌≡◌, ◌↔◌, true, Option, Some, None, slice_get, ⊎_elim, refl, sym, subst}
+use Rattle.std.proofs.Common.{◌∙◌, Contains}
+use Rattle.std.proofs.Common.{IsTrue, eqb, ne_eqb}
+use Rattle.std.proofs.lemmas.Bool.{cases_eq, false≢true, or_cases, or_left, or_right}
 use Rattle.std.proofs.lemmas.List.Elements.{All-contains}
 use Rattle.tv_model.specs.declared.program.Mode.{Mode}
 use Rattle.tv_model.specs.declared.program.Mode.TheVariants.{Given, Recompute}
 use Rattle.tv_model.specs.Program.{ProgramForm, PredForm, KindForm, KCore, KDefined, ActionForm, UpdateForm}
 use Rattle.tv_model.specs.Step.{update_for}
 use Rattle.tv_model.specs.Valid.{IsAction, AreVariables, IsChange, IsUpdate}
-use Rattle.tv_update_laws.specs.Applied.{used_update, kind_at, update_at}
+use Rattle.tv_update_laws.specs.Applied.{used_update, kind_at, update_at, moves_individuals, MovesIndividuals}
 use Rattle.tv_update_laws.proofs.Facts.{find-found}
+
+pub moves-same : (action : ActionForm) → IsTrue (moves_individuals action) ↔ MovesIndividuals action
+moves-same action = (
+  λ t. or_cases action.fresh (is_some action.retain) t,
+  λ m. ⊎_elim (λ h. or_left action.fresh (is_some action.retain) h)
+      (λ h. or_right action.fresh (is_some action.retain) h) m,
+)
 
 pub used-core : (mode : Mode) (w : Option UpdateForm) → used_update mode KCore w ≡ w
 used-core Given w = refl
 used-core Recompute w = refl
+
+pub none-used : (mode : Mode) (kind : KindForm) → used_update mode kind None ≡ None
+none-used Given kind = refl
+none-used Recompute KCore = refl
+none-used Recompute (KDefined vars body) = refl
 
 -- an update that counts is one of the action
 pub used-is : (mode : Mode) (kind : KindForm) (o : Option UpdateForm) (w : UpdateForm)

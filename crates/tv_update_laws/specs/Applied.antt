@@ -1,7 +1,8 @@
 -- The structures that an action gives from a structure: what an abstract step does with a structure once
 -- the precondition is passed (compare Sagiv, Reps and Wilhelm 2002, sections 4.4 and 5).
-use Rattle.std.specs.Prelude.{ℕ, ◌≡◌, ◌⊎◌, ◌↔◌, ◌==◌, Bool, true, false, IsTrue, List, [], ◌∷◌, ◌++◌, length}
-use Rattle.std.specs.Prelude.{map, filter, Option, Some, None, IsSome, All, Contains, slice_get}
+use Rattle.std.specs.Prelude.{ℕ, ◌≡◌, ◌⊎◌, ◌↔◌, ◌||◌, ◌==◌, Bool, true, false, IsTrue, List, [], ◌∷◌, ◌++◌}
+use Rattle.std.specs.Prelude.{length}
+use Rattle.std.specs.Prelude.{map, filter, Option, Some, None, IsSome, is_some, All, Contains, slice_get}
 use Rattle.std.specs.Prelude.{if◌then◌else◌}
 use Rattle.tv_kleene.specs.declared.K3.{K3}
 use Rattle.tv_kleene.specs.declared.K3.TheVariants.{No, Half, Yes}
@@ -94,6 +95,9 @@ update_at p mode action q = used_update mode (kind_at p q) (update_for q action.
 -- individuals may come or go
 abbrev pub MovesIndividuals : ActionForm → Type 0
 MovesIndividuals action = IsTrue action.fresh ⊎ IsSome action.retain
+
+abbrev pub moves_individuals : ActionForm → Bool
+moves_individuals action = action.fresh || is_some action.retain
 
 -- a predicate is changed where an update of it counts; else, if it is defined, where individuals may come
 -- or go, or its definition mentions a changed predicate

@@ -9,8 +9,8 @@ use Rattle.tv_tree.specs.declared.trees.PropWord.TheVariants.{Unique, Function, 
 use Rattle.tv_tree.specs.declared.trees.PropWord.TheVariants.{Transitive, Reflexive, Symmetric, Boxed}
 use Rattle.tv_tree.specs.declared.trees.PropWord.TheVariants.{Pointer}
 use Rattle.tv_model.specs.declared.program.Props.{Props}
-use Rattle.tv_model.specs.Form.{Form, FZero, FAtom, FSame, FNot, FAnd, FOr, FIff, FCond}
-use Rattle.tv_model.specs.Form.{FExists, FForall, FClosure}
+use Rattle.tv_model.specs.Form.{Form, FZero, FAtom, FSame, FNot}
+pub use Rattle.tv_model.specs.Form.{mentioned}
 use Rattle.tv_model.specs.Program.{PredForm, KindForm, KCore, KDefined, RuleForm, HeadForm, HNever, HAtom}
 use Rattle.tv_model.specs.Program.{no_props}
 use Rattle.tv_model.specs.Program.{HSame}
@@ -124,19 +124,6 @@ predicate symbols d = do
     abs = abs_at (arity_of d.params) d.props;
     props = props_of d.props;
   })
-
--- the predicates that the atoms of a formula have, in reading order
-abbrev pub mentioned : Form → List ℕ
-mentioned (FAtom q vars) = q ∷ []
-mentioned (FNot f) = mentioned f
-mentioned (FAnd f g) = mentioned f ++ mentioned g
-mentioned (FOr f g) = mentioned f ++ mentioned g
-mentioned (FIff f g) = mentioned f ++ mentioned g
-mentioned (FCond c f g) = mentioned c ++ mentioned f ++ mentioned g
-mentioned (FExists v f) = mentioned f
-mentioned (FForall v f) = mentioned f
-mentioned (FClosure from to left right f) = mentioned f
-mentioned other = []
 
 -- the predicates that a predicate's definition mentions
 abbrev pub mentioned_by : KindForm → List ℕ

@@ -1,37 +1,13 @@
 //! Whether a definition rests on itself.
 
-ghost use Rattle.std.specs.Prelude.{◌≡◌, ◌++◌, map, IfOk, OnOk};
-ghost use Rattle.tv_model.specs.Form.{form_of};
+ghost use Rattle.std.specs.Prelude.{◌≡◌, map, IfOk};
 ghost use Rattle.tv_model.specs.Program.{pred_of, kind_of};
-ghost use Rattle.tv_vocab.specs.Vocabulary.{mentioned, mentioned_by, uses_of};
+ghost use Rattle.tv_vocab.specs.Vocabulary.{mentioned_by, uses_of};
 ghost use Rattle.tv_vocab.specs.Cycles.{has_cycle};
 
 use crate::walk::finds_cycle;
 use std::alloc::{AllocError, Global};
-use tv_model::{Formula, Kind, Pred};
-
-fn push_mentioned(f: &Formula, found: &mut Vec<u32>) -> Result<(), AllocError>
-    ensures { OnOk result (found.new.items ≡ found.old.items ++ mentioned (form_of f.now)) }
-{
-    match f {
-        Formula::Zero | Formula::One | Formula::IsNew(_) | Formula::Same(_, _) => Ok(()),
-        Formula::Atom(pred, _) => {
-            found.push(pred.0)?;
-            Ok(())
-        }
-        Formula::Not(g) | Formula::Exists(_, g) | Formula::Forall(_, g) => push_mentioned(g, found),
-        Formula::And(g, h) | Formula::Or(g, h) | Formula::Iff(g, h) => {
-            push_mentioned(g, found)?;
-            push_mentioned(h, found)
-        }
-        Formula::Cond(c, g, h) => {
-            push_mentioned(c, found)?;
-            push_mentioned(g, found)?;
-            push_mentioned(h, found)
-        }
-        Formula::Closure { body, .. } => push_mentioned(body, found),
-    }
-}
+use tv_model::{Kind, Pred, push_mentioned};
 
 fn uses_of(alloc: Global, kind: &Kind) -> Result<Vec<u32>, AllocError>
     ensures { IfOk result (λ uses. uses.items ≡ mentioned_by (kind_of kind.now)) }

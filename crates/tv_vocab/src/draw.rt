@@ -19,7 +19,7 @@ pub struct Drawn {
     pub edges: Edges,
 }
 
-fn draw_some(alloc: Global, edges: &[FlatEdge]) -> Result<Drawn, ResolveError>
+fn draw_some(alloc: Global, edges: &[FlatEdge<'_>]) -> Result<Drawn, ResolveError>
     ensures { GivesOrRefuses drawn_of result (one_by_one with_edge no_graph (map flat_edge_of edges.now)) }
 {
     let graph = Graph::of(alloc, edges)?;
@@ -32,7 +32,7 @@ fn draw_some(alloc: Global, edges: &[FlatEdge]) -> Result<Drawn, ResolveError>
 }
 
 /// The nodes and edges of a program.
-pub fn draw(alloc: Global, edges: &[FlatEdge]) -> Result<Drawn, ResolveError>
+pub fn draw(alloc: Global, edges: &[FlatEdge<'_>]) -> Result<Drawn, ResolveError>
     ensures { GivesOrRefuses drawn_of result (graph (map flat_edge_of edges.now)) }
 {
     match edges {

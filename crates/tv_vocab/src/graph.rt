@@ -101,26 +101,26 @@ impl Graph {
     ghost use Rattle.tv_vocab.specs.Views.{graph_of};
 
     #[tactic(auto, unfolding(crate::specs::Graph::with_edge))]
-    fn put(&mut self, alloc: Global, edge: &FlatEdge) -> Result<(), ResolveError>
+    fn put(&mut self, alloc: Global, edge: &FlatEdge<'_>) -> Result<(), ResolveError>
         ensures { GivesOrRefuses (λ _. graph_of self.new) result
             (with_edge (graph_of self.old) (flat_edge_of edge.now)) }
     {
-        self.nodes.see(alloc, &edge.from.0)?;
-        self.nodes.see(alloc, &edge.to.0)?;
+        self.nodes.see(alloc, edge.from)?;
+        self.nodes.see(alloc, edge.to)?;
         if self.edges.len() >= 16384 {
             return Err(ResolveError::TooMany);
         }
         let numbered = Edge {
-            from: self.nodes.number(&edge.from.0),
+            from: self.nodes.number(edge.from),
             action: edge.action,
-            to: self.nodes.number(&edge.to.0),
+            to: self.nodes.number(edge.to),
         };
         self.edges.push(numbered)?;
         Ok(())
     }
 
     /// The nodes and edges of these edges.
-    pub fn of(alloc: Global, edges: &[FlatEdge]) -> Result<Graph, ResolveError>
+    pub fn of(alloc: Global, edges: &[FlatEdge<'_>]) -> Result<Graph, ResolveError>
         ensures { GivesOrRefuses graph_of result
             (one_by_one with_edge no_graph (map flat_edge_of edges.now)) }
     {

@@ -18,7 +18,7 @@ use tv_model::{Items, Program, Vocab};
 use tv_names::ResolveError;
 
 #[tactic(auto, unfolding(crate::specs::Resolution::program))]
-fn flat_program(alloc: Global, flat: &Flat) -> Result<Program, ResolveError>
+fn flat_program(alloc: Global, flat: &Flat<'_>) -> Result<Program, ResolveError>
     ensures { GivesOrRefuses program_of result (program (flat_of flat.now)) }
 {
     let declared = vocabulary(alloc, flat.preds.as_slice())?;
@@ -43,7 +43,7 @@ fn flat_program(alloc: Global, flat: &Flat) -> Result<Program, ResolveError>
 /// `Memory` comes exactly where the definition of the program gives it. The program is valid where
 /// there are at most 65,536 items, names, node words and texts are well spelled, and each edge's action is
 /// there, as in what expansion gives of a tree that was read.
-pub fn resolve(alloc: Global, flat: &Flat) -> Result<Program, ResolveError>
+pub fn resolve(alloc: Global, flat: &Flat<'_>) -> Result<Program, ResolveError>
     ensures program { GivesOrRefuses program_of result (program (flat_of flat.now)) }
     ensures valid { IsResolvable (flat_of flat.now) → IfOk result (λ p. IsValid (program_of p)) }
 {

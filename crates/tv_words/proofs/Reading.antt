@@ -3,9 +3,8 @@ use Rattle.std.proofs.Common.{◌≡◌, ◌∙◌, ℕ, Bool, true, false, not,
 use Rattle.std.proofs.Common.{Option, Some, None, inl, inr}
 use Rattle.std.specs.Prelude.{IfSome}
 use Rattle.std.specs.List.{list_all}
-use Rattle.std.specs.Str.{bytes_eq}
 use Rattle.std.proofs.lemmas.Bool.{and_from, and_parts, or_cases, not-true, cond-true, cond-false, true≢false}
-use Rattle.std.proofs.lemmas.Slice.Eq.{bytes_eq-Decides}
+use Rattle.tv_lemmas.proofs.Texts.{same_text}
 use Rattle.clap.proofs.CutLemmas.{Lacks, list_any-at}
 use Rattle.clap.specs.Lexer.{has_byte, name_and_value}
 use Rattle.clap.proofs.LexerLemmas.{name_and_value-at, name_and_value-without}
@@ -90,9 +89,6 @@ module _ (flags settings : List (List ℕ)) where
       (class_tells flags settings word) (λ other. read_said words other)
 
 -- ---- what is spelled is read
-
-same_text : (a b : List ℕ) → bytes_eq a b ≡ true → a ≡ b
-same_text a b = (bytes_eq-Decides a b).0
 
 pub among_passes : (p : List ℕ → Bool) (names : List (List ℕ)) (name : List ℕ) → list_all p names ≡ true
     → is_among names name ≡ true → p name ≡ true

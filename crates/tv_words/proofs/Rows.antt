@@ -5,7 +5,7 @@ use Rattle.std.specs.Prelude.{codes, find, unwrap_or, option_map}
 use Rattle.std.specs.Option.{option_map_or}
 use Rattle.std.specs.Str.{bytes_eq}
 use Rattle.std.proofs.lemmas.Bool.{cases_Bool, or_parts}
-use Rattle.std.proofs.lemmas.Slice.Eq.{bytes_eq-Decides}
+use Rattle.tv_lemmas.proofs.Texts.{same_text, text_itself}
 use Rattle.clap.specs.Walk.{Row, Rule, all_of, at_row, count_of, default_rows, first_as_count, has_row}
 use Rattle.clap.specs.Walk.{reading_by, stronger, with_count, with_default, with_values, without}
 use Rattle.clap.specs.Matches.{count_text}
@@ -21,17 +21,11 @@ row_for id rows = find (λ r. bytes_eq r.id id) rows
 abbrev pub texts_of : List ℕ → List Row → List (List ℕ)
 texts_of id rows = unwrap_or (all_of id rows) []
 
-same_id : (a b : List ℕ) → bytes_eq a b ≡ true → a ≡ b
-same_id a b = (bytes_eq-Decides a b).0
-
-pub itself : (a : List ℕ) → bytes_eq a a ≡ true
-itself a = (bytes_eq-Decides a a).1 refl
-
 -- ---- one row changed, or one more row
 
 module _ (id other : List ℕ) (ne : bytes_eq id other ≡ false) where
   differs : (r : Row) → bytes_eq r.id id ≡ true → bytes_eq r.id other ≡ false
-  differs r e = ap (λ x. bytes_eq x other) (same_id r.id id e) ∙ ne
+  differs r e = ap (λ x. bytes_eq x other) (same_text r.id id e) ∙ ne
 
   pub other_changed : (f : Row → Row) (missing : Row) → ((r : Row) → (f r).id ≡ r.id) → missing.id ≡ id
       → (rows : List Row)
@@ -54,7 +48,7 @@ pub same_changed : (id : List ℕ) (f : Row → Row) (missing : Row) → ((r : R
     ≡ id → (rows : List Row)
     → row_for id (at_row id (λ r. f r ∷ []) (missing ∷ []) rows)
     ≡ Some (option_map_or f (row_for id rows) missing)
-same_changed id f missing keeps is [] = rw (is, itself) refl
+same_changed id f missing keeps is [] = rw (is, text_itself) refl
 same_changed id f missing keeps is (r ∷ rs) = elim (cases_Bool (bytes_eq r.id id)) [
   | inl e ↦ rw (e, keeps, e) refl
   | inr e ↦ rw (e, e) (same_changed id f missing keeps is rs)
@@ -154,7 +148,7 @@ zero_default a e id rows = elim (cases_Bool (has_row a.id rows)) [
   | inl has ↦ rw has refl
   | inr none ↦ rw (none, e) (elim (cases_Bool (bytes_eq a.id id)) [
     | inl same ↦ subst (λ x. count_of x (with_values a.id (reading_by a) DefaultValue (codes "0" ∷ []) rows)
-        ≡ count_of x rows) (same_id a.id id same)
+        ≡ count_of x rows) (same_text a.id id same)
         (ap count_in (same_changed a.id _ _ (λ r. refl) refl rows) ∙ rw (no_row a.id rows none) refl)
     | inr ne ↦ count_stays a.id id ne (reading_by a) DefaultValue (codes "0" ∷ []) rows
   ])

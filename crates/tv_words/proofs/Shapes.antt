@@ -4,7 +4,7 @@ use Rattle.std.proofs.Common.{map, Some, None, inl, inr}
 use Rattle.std.specs.Prelude.{codes}
 use Rattle.std.specs.Str.{bytes_eq}
 use Rattle.std.proofs.lemmas.Bool.{cases_Bool, or_parts}
-use Rattle.std.proofs.lemmas.Slice.Eq.{bytes_eq-Decides}
+use Rattle.tv_lemmas.proofs.Texts.{same_text}
 use Rattle.clap.specs.Walk.{Rule, arg_by_id, arg_by_index, arg_by_long, arg_by_short}
 use Rattle.clap.specs.Simple.{App, Shape, built, filled, filled_from, new_shape, with_index}
 use Rattle.tv_words.specs.Line.{is_among}
@@ -67,15 +67,12 @@ built_is name flags settings = ap (λ rs. app_with name (built_operand ∷ rs)) 
 
 -- ---- the argument that a name or a place means
 
-same_id : (a b : List ℕ) → bytes_eq a b ≡ true → a ≡ b
-same_id a b = (bytes_eq-Decides a b).0
-
 settings_by_long : (settings : List (List ℕ)) (name : List ℕ)
     → arg_by_long (map built_setting settings) name ≡ cond (is_among settings name)
     (Some (built_setting name)) None
 settings_by_long [] name = refl
 settings_by_long (s ∷ ss) name = elim (cases_Bool (bytes_eq s name)) [
-  | inl e ↦ rw (e) (ap (λ n. Some (built_setting n)) (same_id s name e))
+  | inl e ↦ rw (e) (ap (λ n. Some (built_setting n)) (same_text s name e))
   | inr e ↦ rw (e) (settings_by_long ss name)
 ]
 
@@ -85,7 +82,7 @@ options_by_long : (flags settings : List (List ℕ)) (name : List ℕ)
     (Some (built_setting name)) None)
 options_by_long [] settings name = settings_by_long settings name
 options_by_long (f ∷ fs) settings name = elim (cases_Bool (bytes_eq f name)) [
-  | inl e ↦ rw (e) (ap (λ n. Some (built_flag n)) (same_id f name e))
+  | inl e ↦ rw (e) (ap (λ n. Some (built_flag n)) (same_text f name e))
   | inr e ↦ rw (e) (options_by_long fs settings name)
 ]
 
@@ -106,7 +103,7 @@ setting_by_id : (settings : List (List ℕ)) (name : List ℕ) → is_among sett
     → arg_by_id (map built_setting settings) name ≡ Some (built_setting name)
 setting_by_id [] name known = cc
 setting_by_id (s ∷ ss) name known = elim (cases_Bool (bytes_eq s name)) [
-  | inl e ↦ rw e (ap (λ n. Some (built_setting n)) (same_id s name e))
+  | inl e ↦ rw e (ap (λ n. Some (built_setting n)) (same_text s name e))
   | inr e ↦ rw e (setting_by_id ss name (or_right_of (bytes_eq s name) (is_among ss name) e known))
 ]
   where

@@ -5,7 +5,7 @@ use Rattle.std.specs.Prelude.{codes, pos}
 use Rattle.std.specs.List.{list_any}
 use Rattle.std.specs.Str.{bytes_eq}
 use Rattle.std.proofs.lemmas.Bool.{cases_Bool, and_parts, not-true, true≢false}
-use Rattle.std.proofs.lemmas.Slice.Eq.{bytes_eq-Decides}
+use Rattle.tv_lemmas.proofs.Texts.{text_itself, same_text}
 use Rattle.clap.specs.Walk.{Row, count_of, has_row, reading_by, used, with_default}
 use Rattle.clap.specs.Faults.{check_fault, default_fault, defaults_fault, use_fault}
 use Rattle.clap.specs.Kinds.{check_kinds, or_else}
@@ -20,7 +20,7 @@ use Rattle.tv_words.specs.Line.{Part, Operand, Flag, Setting, is_among, operands
 use Rattle.tv_words.proofs.Reader.{Line}
 use Rattle.tv_words.specs.Setup.{is_fit}
 use Rattle.tv_words.proofs.Reading.{no_flag}
-use Rattle.tv_words.proofs.Rows.{itself, texts_of, texts_grow, texts_stay, count_stays, counted_as}
+use Rattle.tv_words.proofs.Rows.{texts_of, texts_grow, texts_stay, count_stays, counted_as}
 use Rattle.tv_words.proofs.Rows.{texts_not_counted, count_not_counted}
 use Rattle.tv_words.proofs.Shapes.{built_operand, built_flag, built_setting, built_options, built_rules}
 use Rattle.tv_words.proofs.Shapes.{built_shape}
@@ -46,9 +46,6 @@ pub missing_value : (name : List ℕ) (rows : List Row) → use_fault false (bui
 missing_value name rows e = cc
 
 -- ---- what a use changes
-
-same_id : (a b : List ℕ) → bytes_eq a b ≡ true → a ≡ b
-same_id a b = (bytes_eq-Decides a b).0
 
 module _ (flags settings : List (List ℕ)) where
   -- the rows have grown by this line
@@ -132,7 +129,7 @@ module _ (flags settings : List (List ℕ)) where
     where
       go : (t : Bool) → bytes_eq a b ≡ t → t ≡ false
       go false e = refl
-      go true e = absurd (ne (same_id a b e))
+      go true e = absurd (ne (same_text a b e))
 
   -- a name in one list isn't one that the other lacks
   unlike : (names : List (List ℕ)) (a b : List ℕ) → is_among names a ≡ true → is_among names b ≡ false → a ≡ b
@@ -190,8 +187,8 @@ module _ (flags settings : List (List ℕ)) where
           ∙ sym (append-nil _);
       uses = λ name known. elim (cases_Bool (bytes_eq flag name)) [
         | inl e ↦ subst (λ n. min (count_of n (used (built_flag flag) [] rows)) 255
-            ≡ min (count_of n rows + uses_of n (Flag flag ∷ [])) 255) (same_id flag name e)
-            (rw (itself flag) (let c = counted_as flag (reading_by (built_flag flag)) CommandLine
+            ≡ min (count_of n rows + uses_of n (Flag flag ∷ [])) 255) (same_text flag name e)
+            (rw (text_itself flag) (let c = counted_as flag (reading_by (built_flag flag)) CommandLine
             (min (count_of flag rows + 1) 255) rows in omega (arith, c)))
         | inr e ↦ rw e (let c = count_not_counted flag name e (reading_by (built_flag flag)) CommandLine
             (min (count_of flag rows + 1) 255) rows in omega (arith, c))
@@ -215,8 +212,8 @@ module _ (flags settings : List (List ℕ)) where
           in omega (arith, c);
       values = λ name known. elim (cases_Bool (bytes_eq setting name)) [
         | inl e ↦ subst (λ n. texts_of n (used (built_setting setting) (value ∷ []) rows)
-            ≡ texts_of n rows ++ values_of n (Setting setting value ∷ [])) (same_id setting name e)
-            (rw (itself setting) (texts_grow setting _ _ (value ∷ []) rows))
+            ≡ texts_of n rows ++ values_of n (Setting setting value ∷ [])) (same_text setting name e)
+            (rw (text_itself setting) (texts_grow setting _ _ (value ∷ []) rows))
         | inr e ↦ rw e (texts_stay setting name e _ _ (value ∷ []) rows ∙ sym (append-nil _))
       ];
     }

@@ -5,6 +5,7 @@ use Rattle.std.specs.Prelude.{codes, fold}
 use Rattle.std.specs.Option.{option_map_or}
 use Rattle.std.specs.Str.{bytes_eq, IsUtf8}
 use Rattle.std.proofs.lemmas.Bool.{cases_Bool, cond-true, cond-false, eqb-true}
+use Rattle.tv_lemmas.proofs.Texts.{text_itself}
 use Rattle.clap.specs.Lexer.{long_of, short_of}
 use Rattle.clap.specs.Walk.{Held, Row, Rule, Text, Waiting, Walk, idle, nothing_held, option, positional}
 use Rattle.clap.specs.Walk.{after_step, arg_by_id, arg_by_long, arg_by_short, is_pending, long_or_other}
@@ -20,7 +21,6 @@ use Rattle.tv_words.specs.Line.{Part, Operand, Flag, Setting, is_among}
 use Rattle.tv_words.proofs.Reader.{Class, Line, Shows, char_behind, class_shows, class_of, dashes, flag}
 use Rattle.tv_words.proofs.Reader.{setting, assigned, plain, unknown, read, step, with_part}
 use Rattle.tv_words.specs.Setup.{is_fit}
-use Rattle.tv_words.proofs.Rows.{itself}
 use Rattle.tv_words.proofs.Shapes.{built_operand, built_flag, built_setting, built_rules, built_shape, by_id}
 use Rattle.tv_words.proofs.Shapes.{by_long, by_short}
 use Rattle.tv_words.proofs.Uses.{Grown, grown_not, add_part, add_behind, operand_fault, setting_fault}
@@ -343,7 +343,7 @@ module _ (name : List ℕ) (flags settings : List (List ℕ)) (fit : is_fit flag
       let found : arg_by_id rules id ≡ Some (built_setting id) =
       by_id flags settings id (setting_apart flags settings fit id known)
       (no_flag_of flags settings fit id known) known in
-      let same = itself id in
+      let same = text_itself id in
       rw (short, found, same) refl
 
   -- ---- a word that is refused

@@ -10,8 +10,6 @@ use Rattle.std.proofs.lemmas.Option.{same_Some, slice_get-get_or, slice_get_with
 use Rattle.tv_kleene.specs.declared.K3.{K3}
 use Rattle.tv_kleene.specs.Kleene.{larger_of}
 use Rattle.tv_model.specs.declared.program.Edge.{Edge}
-use Rattle.tv_model.specs.Program.{ProgramForm}
-use Rattle.tv_model.specs.Valid.{IsEdge, IsValid}
 use Rattle.tv_model.proofs.Lists.{Contains-none, slice_get-contains}
 use Rattle.tv_listing.specs.ListingForm.{at_node}
 use Rattle.tv_struct.specs.StructureForm.{StructureForm}
@@ -92,13 +90,6 @@ kept-more t P old new kept grows within only reached settled = record {
     s x (inr is) = settled x is
 
 -- ---- a start
-
-pub start-node : (p : ProgramForm) → IsValid p → 0 < length p.nodes
-start-node p valid = first p.edges valid.edges valid.some_edge
-  where
-    first : (edges : List Edge) → All (IsEdge p) edges → 0 < length edges → 0 < length p.nodes
-    first [] all some = absurd (omega (arith, some))
-    first (e ∷ edges) all some = omega (arith, (all 0 e (omega arith)).0)
 
 pub start-reached : (t : TaskForm) (s u : StructureForm) → Contains t.initial s → IsOpening t.program s u
     → reached_in t (record { node = 0; structure = u })

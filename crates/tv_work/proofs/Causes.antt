@@ -1,5 +1,5 @@
 -- Why there is no answer, and what that says of the reached points.
-use Rattle.std.proofs.Common.{ℕ, Result, Ok, Err, IfErr, OnOk}
+use Rattle.std.proofs.Common.{ℕ, Result, Ok, Err, OnOk}
 use Rattle.tv_model.specs.Program.{ProgramForm}
 use Rattle.tv_struct.specs.declared.analysis.StageError.{StageError}
 use Rattle.tv_struct.specs.declared.analysis.StageError.TheVariants.{Splits as splits}
@@ -16,12 +16,6 @@ pub ok-three : {T E A B C D : Type 0} (r : Result T E) → (A → B → C → D)
     → OnOk r D
 ok-three (Ok x) f a b c = f a b c
 ok-three (Err e) f a b c = tt
-
--- and from what holds at an error
-pub err-weaker : {T E : Type 0} (r : Result T E) (P Q : E → Type 0) → ((e : E) → P e → Q e) → IfErr r P
-    → IfErr r Q
-err-weaker (Ok x) P Q f h = tt
-err-weaker (Err e) P Q f h = f e h
 
 pub more-weaker : (max : ℕ) (P Q : Point → Type 0) → ((x : Point) → P x → Q x) → AreMoreThan max P
     → AreMoreThan max Q

@@ -5,6 +5,7 @@ use Rattle.std.specs.Prelude.{All, AllPairs, Contains}
 use Rattle.std.proofs.lemmas.List.{length-append, length-set, get_or_default}
 use Rattle.std.proofs.lemmas.List.Elements.{Contains-append_left, Contains-push, Contains-push_cases}
 use Rattle.std.proofs.lemmas.List.Elements.{All-push}
+use Rattle.tv_struct.proofs.Library.{unmarked-same}
 use Rattle.tv_listing.specs.ListingForm.{at_node, appended, HasEqual}
 use Rattle.tv_struct.specs.StructureForm.{StructureForm, unmarked}
 use Rattle.tv_work.specs.Reach.{Point, IsListed, AreMoreThan}
@@ -139,16 +140,13 @@ module _ (old : SearchForm) (node : ℕ) (s : StructureForm) (is-node : node < l
     more = omega (arith, total-more old.listing node s is-node, within.count, full);
   }
 
-unmarked-is : (s : StructureForm) → s.fresh ≡ None → unmarked s ≡ s
-unmarked-is s plain = rw (sym plain) refl
-
 -- an equal structure is the same where neither is marked
 pub equal-listed : (old : SearchForm) (node : ℕ) (s : StructureForm) → IsSearch old → s.fresh ≡ None
     → HasEqual (at_node old.listing node) s → IsListed old.listing (record { node = node; structure = s })
 equal-listed old node s search' plain (k, t, within, at, same) =
     let listed : Contains (at_node old.listing node) t = (k, within, at)
-    in let e : t ≡ s = sym (unmarked-is t (search'.unmarked (record { node = node; structure = t }) listed))
-    ∙ same ∙ unmarked-is s plain
+    in let e : t ≡ s = sym (unmarked-same t (search'.unmarked (record { node = node; structure = t }) listed))
+    ∙ same ∙ unmarked-same s plain
     in subst (Contains (at_node old.listing node)) e listed
 
 -- of all these structures those so far were met at the node

@@ -13,14 +13,6 @@ larger-self No = refl
 larger-self Half = refl
 larger-self Yes = refl
 
--- it is one of the two
-pub larger-either : (a b : K3) → (larger_of a b ≡ a) ⊎ (larger_of a b ≡ b)
-larger-either No b = inr refl
-larger-either Half No = inl refl
-larger-either Half Half = inl refl
-larger-either Half Yes = inr refl
-larger-either Yes b = inl refl
-
 -- and above both
 pub larger-above_left : (a b : K3) → larger_of a (larger_of a b) ≡ larger_of a b
 larger-above_left No b = refl

@@ -9,6 +9,7 @@ use Rattle.std.proofs.lemmas.Option.{slice_get-get_or, get_or_from_slice_get}
 use Rattle.tv_kleene.specs.declared.K3.{K3}
 use Rattle.tv_kleene.specs.declared.K3.TheVariants.{No}
 use Rattle.tv_kleene.specs.Kleene.{larger_of}
+use Rattle.tv_kleene.proofs.Lattice.{larger-either}
 use Rattle.tv_model.specs.Program.{ProgramForm}
 use Rattle.tv_model.specs.Valid.{IsAction, IsValid}
 use Rattle.tv_model.proofs.Lists.{slice_get-contains}
@@ -20,7 +21,7 @@ use Rattle.tv_work.specs.Explored.{AreSaid, KeepsListed}
 use Rattle.tv_work.specs.Reach.{Point, IsListed}
 use Rattle.tv_work.specs.Task.{TaskForm}
 use Rattle.tv_work.specs.Told.{told_value, IsNoted}
-use Rattle.tv_work.proofs.Larger.{larger-self, larger-either, larger-above_left, larger-above_right}
+use Rattle.tv_work.proofs.Larger.{larger-self, larger-above_left, larger-above_right}
 
 module _ (edge : ℕ) (values : List K3) (old new : List (List K3)) (noted : IsNoted edge values old new) where
   pub noted-here : (n : ℕ) → told_value new edge n ≡ larger_of (get_or values n No) (told_value old edge n)

@@ -20,6 +20,17 @@ fn decls(alloc: Global, preds: FlatPreds, rules: FlatRules) -> Result<Decls, All
     Ok(Decls { items })
 }
 
+// The words by which so many flat actions are called.
+fn numbers(alloc: Global, count: usize) -> Result<Vec<Spelling>, AllocError> {
+    let mut words = Vec::new(alloc);
+    let mut next = 0u32;
+    for _ in 0..count {
+        words.push(number(alloc, next)?)?;
+        next = next.saturating_add(1);
+    }
+    Ok(words)
+}
+
 fn actions(alloc: Global, flat: FlatActions) -> Result<ActionTrees, AllocError> {
     let mut actions = Vec::new(alloc);
     let mut count = 0u32;
@@ -34,12 +45,23 @@ fn actions(alloc: Global, flat: FlatActions) -> Result<ActionTrees, AllocError> 
     Ok(Items::from_vec(actions))
 }
 
-fn edges(alloc: Global, flat: FlatEdges) -> Result<EdgeTrees, AllocError> {
+fn called(words: &[Spelling], action: u32) -> &[u8] {
+    match words.get(action as usize) {
+        Some(word) => &word.0,
+        None => b"lost",
+    }
+}
+
+fn edges<'a>(
+    alloc: Global,
+    words: &'a [Spelling],
+    flat: FlatEdges<'a>,
+) -> Result<EdgeTrees<'a>, AllocError> {
     let mut edges = Vec::new(alloc);
     for edge in flat.into_vec() {
         edges.push(EdgeTree {
             from: edge.from,
-            action: number(alloc, edge.action)?,
+            action: called(words, edge.action),
             arguments: Items::new(alloc),
             to: edge.to,
         })?;
@@ -47,21 +69,18 @@ fn edges(alloc: Global, flat: FlatEdges) -> Result<EdgeTrees, AllocError> {
     Ok(Items::from_vec(edges))
 }
 
-fn tree(alloc: Global, flat: Flat) -> Result<Tree, AllocError> {
-    Ok(Tree {
+fn printed(alloc: Global, flat: Flat<'_>) -> Result<Vec<u8>, AllocError> {
+    let words = numbers(alloc, flat.actions.len())?;
+    let tree = Tree {
         decls: decls(alloc, flat.preds, flat.rules)?,
         actions: actions(alloc, flat.actions)?,
-        edges: edges(alloc, flat.edges)?,
+        edges: edges(alloc, &words, flat.edges)?,
         tail: None,
-    })
-}
-
-fn printed(alloc: Global, flat: Flat) -> Result<Vec<u8>, AllocError> {
-    let tree = tree(alloc, flat)?;
+    };
     print_program(alloc, &tree)
 }
 
-pub fn put_flat(alloc: Global, out: &mut Shown, flat: Flat) {
+pub fn put_flat(alloc: Global, out: &mut Shown, flat: Flat<'_>) {
     match printed(alloc, flat) {
         Ok(text) => put(out, &text),
         Err(_) => put(out, b"lost"),

@@ -136,7 +136,8 @@ fn are_variables(
     if number >= closed.count() {
         return Ok(false);
     }
-    Ok(variables(alloc, closed.variables(number))?.as_str() == wanted)
+    let found = closed.shape(number).variables.as_slice();
+    Ok(variables(alloc, found)?.as_str() == wanted)
 }
 
 #[test]

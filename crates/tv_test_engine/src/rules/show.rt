@@ -85,15 +85,38 @@ fn put_head(alloc: Global, out: &mut String, head: Head) -> Result<(), AllocErro
     }
 }
 
-fn put_conjuncts(
+/// The number of the member of its base rule that a rule's head denies, or how many members there are.
+fn denied(closed: &Closed, number: usize) -> usize
+    requires { number < length (rules_of closed.now) }
+{
+    let count = closed.shape(number).members.len();
+    for member in 0..count {
+        if closed.denying(number, member) == Some(number) {
+            return member;
+        }
+    }
+    count
+}
+
+/// The conjuncts of a rule's body: the members of its base rule but for the last, which stands in the place
+/// of the one that the rule's head denies.
+fn put_body(
     alloc: Global,
     out: &mut String,
-    conjuncts: &[&Formula],
-) -> Result<(), AllocError> {
+    closed: &Closed,
+    number: usize,
+) -> Result<(), AllocError>
+    requires { number < length (rules_of closed.now) }
+{
+    let denied = denied(closed, number);
+    let Some((last, front)) = closed.shape(number).members.as_slice().split_last() else {
+        return Ok(());
+    };
     let mut mark = "";
-    for f in conjuncts {
+    for (place, member) in front.iter().enumerate() {
         out.push_str(mark)?;
-        put_formula(alloc, out, f)?;
+        let shown = if place == denied { last } else { member };
+        put_formula(alloc, out, &shown.formula)?;
         mark = "&";
     }
     Ok(())
@@ -107,8 +130,7 @@ fn put_rule(
 ) -> Result<(), AllocError>
     requires { number < length (rules_of closed.now) }
 {
-    let conjuncts = closed.conjuncts(alloc, number)?;
-    put_conjuncts(alloc, out, conjuncts.as_slice())?;
+    put_body(alloc, out, closed, number)?;
     out.push_str(">")?;
     put_head(alloc, out, closed.head(number))?;
     out.push_str(";")

@@ -160,3 +160,16 @@ fn ends_are_reached(rt: HostRuntime) -> Result<(), Fail> {
     }
     Ok(())
 }
+
+/// More closures in closures than are kept.
+#[test]
+fn closures_in_closures_close(rt: HostRuntime) -> Result<(), Fail> {
+    let mut text = String::new(rt.alloc());
+    text.push_str("A(v, w) x(w) | ((TC(v, w)(a, b) ")?;
+    for _ in 0..6 {
+        text.push_str("TC(a, b)(c, d) TC(c, d)(a, b) ")?;
+    }
+    text.push_str("n(a, b)) <-> m(v, w))")?;
+    assert!(rt; values_in_chain(rt.alloc(), text.as_str(), 70, Way::Ones)?.as_str() == "y");
+    Ok(())
+}

@@ -1,8 +1,8 @@
 use Rattle.std.proofs.Common.{◌≡◌, ◌∙◌, true, length, ap, sym, arith}
 use Rattle.tv_struct.specs.StructureRows.{unary_row}
+use Rattle.tv_struct.proofs.Library.{length-unary_row}
 use Rattle.tv_blur.specs.Names.{is_abstraction}
 use Rattle.tv_blur.specs.Rising.{AddsRises, Falls}
-use Rattle.tv_blur.proofs.RowLaws.{length-unary_row}
 use Rattle.tv_blur.proofs.Rises.{nowhere_adds, pred_told}
 use Rattle.tv_blur.proofs.ascending.add_pred.Goals as goal
 

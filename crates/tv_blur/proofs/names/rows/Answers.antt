@@ -1,8 +1,8 @@
 use Rattle.std.proofs.Common.{◌≡◌, ◌∙◌, ◌<◌, [], length, get_or, sym, ap, subst, arith}
 use Rattle.std.proofs.lemmas.List.{get_or_default, take_at}
+use Rattle.tv_struct.proofs.Library.{length-unary_row}
 use Rattle.tv_blur.specs.Naming.{HasColumn}
 use Rattle.tv_blur.proofs.NameRows.{columns_all, columns_more}
-use Rattle.tv_blur.proofs.RowLaws.{length-unary_row}
 use Rattle.tv_blur.proofs.names.rows.Goals as goal
 
 pub put_column-requires-clause-count : goal.put_column-requires-clause-count

@@ -1,7 +1,8 @@
 use Rattle.std.proofs.Common.{◌≡◌, ◌<◌, ◌∙◌, ◌+◌, subst, sym, ap, length, get_or, arith}
 use Rattle.tv_struct.specs.StructureRows.{row_at}
+use Rattle.tv_struct.proofs.Library.{length-row_at}
 use Rattle.tv_blur.proofs.JoinLaws.{behind}
-use Rattle.tv_blur.proofs.RowLaws.{length-row_at, joined_start, joined_step, joined_end}
+use Rattle.tv_blur.proofs.RowLaws.{joined_start, joined_step, joined_end}
 use Rattle.tv_blur.proofs.values.joined_rows.Goals as goal
 
 pub loop-i-init : goal.loop-i-init

@@ -9,7 +9,7 @@ returns-then-has_some-clause-attempted c =
     let found = subst (IsTrialResult c.args.closed.now c.in-Some.number c.args.s.now) c.in-Some-2.is c.in_ok-find.ensures.found
     in attempted-asked c.args.closed.now c.args.s.now c.in-Some.number c.loop-number.waiting c.take.new.self c.args.evaluator.now
     c.loop-number.evaluator c.find.new.evaluator c.loop-number.invariant c.in-Some.ensures.0 c.in-Some.ensures.1 c.in_ok-find.ensures.stays
-    c.in-Some-2.found found (λ e. c.if-has_some.ensures (c.as_slice.ensures.value ∙ e))
+    c.in-Some-2.asks.items found (λ e. c.if-has_some.ensures (c.as_slice.ensures.value ∙ e))
 
 pub remove_all-requires : goal.remove_all-requires
 remove_all-requires c =
@@ -24,7 +24,7 @@ loop-number-preserved c =
     let found = subst (IsTrialResult c.args.closed.now c.in-Some.number c.args.s.now) c.in-Some-2.is c.in_ok-find.ensures.found
     in attempted-more c.args.closed.now c.args.s.now c.in-Some.number c.loop-number.waiting c.take.new.self c.args.evaluator.now
     c.loop-number.evaluator c.find.new.evaluator c.loop-number.invariant c.in-Some.ensures.0 c.in-Some.ensures.1 c.in_ok-find.ensures.stays
-    c.in-Some-2.found c.kin.result.now c.remove_all.new.self found (sym c.as_slice.ensures.value ∙ c.if-has_some.ensures) c.kin.ensures
+    c.in-Some-2.asks.items c.kin.result.now c.remove_all.new.self found (sym c.as_slice.ensures.value ∙ c.if-has_some.ensures) c.kin.ensures
     c.remove_all.ensures
 
 pub returns-clause-attempted : goal.returns-clause-attempted

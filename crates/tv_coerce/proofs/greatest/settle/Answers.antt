@@ -1,14 +1,14 @@
--- What each rule that asks for changes makes of the structure.
-use Rattle.std.proofs.Common.{◌∙◌, Some, length, subst, sym}
+-- What the rules that ask for changes make of the structure.
+use Rattle.std.proofs.Common.{◌<◌, ◌∙◌, Some, length, subst, sym}
 use Rattle.std.specs.Prelude.{All}
-use Rattle.tv_model.specs.Program.{head_of}
 use Rattle.tv_rules.specs.EntryForms.{rules_of}
 use Rattle.tv_coerce.specs.Attempts.{IsAttempted}
 use Rattle.tv_coerce.specs.Changes.{IsPlace}
 use Rattle.tv_coerce.specs.Ready.{CanCoerce}
+use Rattle.tv_coerce.specs.RuleSets.{HasAtLeast, IsRuleThat, SeesSome}
 use Rattle.tv_coerce.specs.Sharpened.{IsSharpened}
-use Rattle.tv_coerce.proofs.Attempting.{places-asked, sharper-made}
-use Rattle.tv_coerce.proofs.OnTheWay.{ready-on, smaller-asked, way-asked, way-ends}
+use Rattle.tv_coerce.proofs.Attempting.{numbers-asked, places-asked, sharper-made}
+use Rattle.tv_coerce.proofs.OnTheWay.{ready-on, way-asked, way-ends}
 use Rattle.tv_coerce.proofs.greatest.settle.Goals as goal
 
 pub attempt-requires-clause-ready : goal.attempt-requires-clause-ready
@@ -22,32 +22,45 @@ sharpen-requires c =
     let rules = rules_of c.args.closed.now
     in let asked = subst (λ a. IsAttempted rules c.loop-asked.t c.attempt.new.waiting (Some a)) c.in-Changes.is
     (subst (IsAttempted rules c.loop-asked.t c.attempt.new.waiting) c.in-Some.is c.in_ok-asked.ensures.attempted)
-    in subst (All (IsPlace c.loop-asked.t)) (sym c.as_slice.ensures.value)
-    (places-asked rules c.loop-asked.t c.attempt.new.waiting c.in-Changes.tried c.in-Changes.found.number c.in-Changes.found.changes.items asked)
+    in subst (All (λ ask. IsPlace c.loop-asked.t ask.change)) (sym c.as_slice.ensures.value)
+    (places-asked rules c.loop-asked.t c.in-Changes.asks.items asked.forced)
+
+pub add_seeing_asks-requires-clause-count : goal.add_seeing_asks-requires-clause-count
+add_seeing_asks-requires-clause-count c =
+    let rules = rules_of c.args.closed.now
+    in let asked = subst (λ a. IsAttempted rules c.loop-asked.t c.attempt.new.waiting (Some a)) c.in-Changes.is
+    (subst (IsAttempted rules c.loop-asked.t c.attempt.new.waiting) c.in-Some.is c.in_ok-asked.ensures.attempted)
+    in asked.count
+
+pub add_seeing_asks-requires-clause-within : goal.add_seeing_asks-requires-clause-within
+add_seeing_asks-requires-clause-within c =
+    let rules = rules_of c.args.closed.now
+    in let asked = subst (λ a. IsAttempted rules c.loop-asked.t c.attempt.new.waiting (Some a)) c.in-Changes.is
+    (subst (IsAttempted rules c.loop-asked.t c.attempt.new.waiting) c.in-Some.is c.in_ok-asked.ensures.attempted)
+    in subst (All (λ ask. ask.number < length rules)) (sym c.as_slice-in-Changes.ensures.value)
+    (numbers-asked rules c.loop-asked.t c.in-Changes.asks.items asked.forced)
 
 pub loop-asked-smaller : goal.loop-asked-smaller
 loop-asked-smaller c =
     let rules = rules_of c.args.closed.now
     in let asked = subst (λ a. IsAttempted rules c.loop-asked.t c.attempt.new.waiting (Some a)) c.in-Changes.is
     (subst (IsAttempted rules c.loop-asked.t c.attempt.new.waiting) c.in-Some.is c.in_ok-asked.ensures.attempted)
-    in let made = subst (λ changes. IsSharpened changes (length changes) c.loop-asked.t c.sharpen.new.s) c.as_slice.ensures.value c.sharpen.ensures
-    in smaller-asked rules c.in-Changes.tried c.in-Changes.found.number c.attempt.new.waiting c.loop-asked.t c.sharpen.new.s c.in-Changes.found.changes.items asked
-    (λ rule found. sharper-made rules c.attempt.new.waiting c.in-Changes.tried c.in-Changes.found.number rule c.in-Changes.found.changes.items c.loop-asked.t
-    c.sharpen.new.s asked found made)
+    in let made = subst (λ asks. IsSharpened asks (length asks) c.loop-asked.t c.sharpen.new.s) c.as_slice.ensures.value c.sharpen.ensures
+    in (sharper-made rules c.in-Changes.asks.items c.loop-asked.t c.sharpen.new.s asked.forced made asked.some).fewer
 
 pub loop-asked-preserved : goal.loop-asked-preserved
 loop-asked-preserved c =
     let rules = rules_of c.args.closed.now
     in let asked = subst (λ a. IsAttempted rules c.loop-asked.t c.attempt.new.waiting (Some a)) c.in-Changes.is
     (subst (IsAttempted rules c.loop-asked.t c.attempt.new.waiting) c.in-Some.is c.in_ok-asked.ensures.attempted)
-    in let made = subst (λ changes. IsSharpened changes (length changes) c.loop-asked.t c.sharpen.new.s) c.as_slice.ensures.value c.sharpen.ensures
+    in let made = subst (λ asks. IsSharpened asks (length asks) c.loop-asked.t c.sharpen.new.s) c.as_slice.ensures.value c.sharpen.ensures
     in (
-      way-asked rules c.in-Changes.tried c.in-Changes.found.number (head_of c.head.result) c.loop-asked.waiting c.attempt.new.waiting c.add_watching.new.self
-          c.insert.new.self c.args.t.now c.loop-asked.t c.sharpen.new.s c.in-Changes.found.changes.items c.requires.ready.plain
-          c.loop-asked.invariant.0 asked
-          (λ rule found. sharper-made rules c.attempt.new.waiting c.in-Changes.tried c.in-Changes.found.number rule c.in-Changes.found.changes.items c.loop-asked.t
-          c.sharpen.new.s asked found made)
-          c.head.ensures c.add_watching.ensures c.insert.ensures,
+      way-asked rules c.in-Changes.tried c.loop-asked.waiting c.attempt.new.waiting c.add_seeing_asks.new.self c.insert.new.self c.args.t.now
+          c.loop-asked.t c.sharpen.new.s c.in-Changes.asks.items c.requires.ready.plain c.loop-asked.invariant.0 asked
+          (sharper-made rules c.in-Changes.asks.items c.loop-asked.t c.sharpen.new.s asked.forced made asked.some)
+          (subst (λ asks. HasAtLeast (IsRuleThat (SeesSome rules asks) rules) c.attempt.new.waiting c.add_seeing_asks.new.self)
+          c.as_slice-in-Changes.ensures.value c.add_seeing_asks.ensures)
+          c.insert.ensures,
       c.attempt.ensures.scratch ∙ c.loop-asked.invariant.1,
     )
 

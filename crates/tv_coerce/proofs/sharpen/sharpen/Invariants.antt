@@ -2,5 +2,5 @@
 use Rattle.tv_coerce.specs.Sharpened.{IsSharpened}
 use Rattle.tv_coerce.proofs.sharpen.sharpen.Given as goal
 
-abbrev pub invariant-loop-change : goal.invariant-loop-change
-invariant-loop-change l = IsSharpened l.changes l.change-index l.fn.s l.s
+abbrev pub invariant-loop-ask : goal.invariant-loop-ask
+invariant-loop-ask l = IsSharpened l.asks l.ask-index l.fn.s l.s

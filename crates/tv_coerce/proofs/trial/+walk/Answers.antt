@@ -23,7 +23,7 @@ use Rattle.tv_coerce.proofs.Walking.{all-word, can-try-kin, counted-with, differ
 use Rattle.tv_coerce.proofs.Opening.{open-passed, reads-rows}
 use Rattle.tv_coerce.proofs.Walking.{none-left, own-half}
 use Rattle.tv_coerce.proofs.Walking.{put-kept, put-placed, split-vars, start-kept, stays-on, tail-shorter}
-use Rattle.tv_coerce.proofs.Walking.{told-both, told-so}
+use Rattle.tv_coerce.proofs.Walking.{told-both, told-never, told-so, told-some}
 use Rattle.tv_coerce.proofs.Walking.{told-tried, tried-chunk, tried-next, tried-rest, tried-whole, walk-on}
 use Rattle.tv_coerce.proofs.trial.+walk.Goals as goal
 
@@ -351,6 +351,40 @@ pub walk_chunk-returns-in-Impossible-clause-keeps : goal.walk_chunk-returns-in-I
 walk_chunk-returns-in-Impossible-clause-keeps t c =
     kept-more c.args.v.0 (numbers_of c.args.rest.now ++ c.args.trial.now.last.0 ∷ []) (64 * c.args.chunk + c.in-Some.i) c.args.a.now c.loop-i.a
     c.set.new.self c.walk.new.a c.loop-i.invariant.1 c.set.ensures.places c.in_ok-walk.ensures.keeps
+
+pub walk_chunk-returns-then-has_more-clause-told : goal.walk_chunk-returns-then-has_more-clause-told
+walk_chunk-returns-then-has_more-clause-told t c =
+    let trial = c.args.trial.now
+    in let rest = numbers_of c.args.rest.now
+    in let v = c.args.v.0
+    in let k = c.args.chunk
+    in let w = trial.last.0
+    in let first = 64 * k
+    in let a = c.args.a.now
+    in let told = subst (IsTold trial (AreTriedFor trial (GoesOnIn trial (rest ++ w ∷ []) (assignment_of c.set.new.self))) c.loop-i.noted c.walk.new.noted)
+    c.in-Possible.is c.in_ok-walk.ensures.told
+    in told-some trial
+    (AreTriedFor trial (λ b. GoesOnIn trial (v ∷ rest ++ w ∷ []) (assignment_of a) b × IsBetween v first (first + c.loop-i.from) b))
+    (AreTriedFor trial (GoesOnIn trial (rest ++ w ∷ []) (assignment_of c.set.new.self)))
+    (AreTriedFor trial (λ b. GoesOnIn trial (v ∷ rest ++ w ∷ []) (assignment_of a) b × IsInChunk v k b))
+    c.args.noted.now c.loop-i.noted c.walk.new.noted c.loop-i.invariant.3 (c.if-has_more.ensures refl) told
+
+pub walk_chunk-returns-in-Impossible-clause-told : goal.walk_chunk-returns-in-Impossible-clause-told
+walk_chunk-returns-in-Impossible-clause-told t c =
+    let trial = c.args.trial.now
+    in let rest = numbers_of c.args.rest.now
+    in let v = c.args.v.0
+    in let k = c.args.chunk
+    in let w = trial.last.0
+    in let first = 64 * k
+    in let a = c.args.a.now
+    in let told = subst (IsTold trial (AreTriedFor trial (GoesOnIn trial (rest ++ w ∷ []) (assignment_of c.set.new.self))) c.loop-i.noted c.walk.new.noted)
+    c.in-Impossible.is c.in_ok-walk.ensures.told
+    in told-never trial
+    (AreTriedFor trial (λ b. GoesOnIn trial (v ∷ rest ++ w ∷ []) (assignment_of a) b × IsBetween v first (first + c.loop-i.from) b))
+    (AreTriedFor trial (GoesOnIn trial (rest ++ w ∷ []) (assignment_of c.set.new.self)))
+    (AreTriedFor trial (λ b. GoesOnIn trial (v ∷ rest ++ w ∷ []) (assignment_of a) b × IsInChunk v k b))
+    c.args.noted.now c.loop-i.noted c.walk.new.noted c.loop-i.invariant.3 told
 
 pub walk_chunk-loop-i-preserved-else-has_more : goal.walk_chunk-loop-i-preserved-else-has_more
 walk_chunk-loop-i-preserved-else-has_more t c =

@@ -1,5 +1,5 @@
 -- The rules of the properties are met, where those in the list are.
-use Rattle.std.proofs.Common.{◌≡◌, ◌↔◌, List, All, IsTrue, IfOk, ap, ◌∙◌, subst, map}
+use Rattle.std.proofs.Common.{◌≡◌, ◌↔◌, ◌++◌, List, All, IsTrue, IfOk, ap, ◌∙◌, subst, map}
 use Rattle.tv_model.specs.Program.{RuleForm, rule_of}
 use Rattle.tv_model.specs.Rules.{MeetsRule, property_rules}
 use Rattle.tv_concrete.specs.Lists.{heap_of}
@@ -10,5 +10,6 @@ returns c =
     let Of : List RuleForm → Type 0 = λ rules. IfOk c.meets_rules.result
     (λ b. IsTrue b ↔ All (MeetsRule (heap_of c.args.heap.now)) rules)
     in let same : map rule_of c.as_slice.result.now ≡ property_rules c.args.p.0 c.args.props.now =
-    ap (λ rules. map rule_of rules) c.as_slice.ensures ∙ c.in_ok-rules.ensures
+    ap (λ rules. map rule_of rules) c.as_slice.ensures ∙ c.in_ok-push_properties.ensures
+    ∙ ap (λ rules. map rule_of rules ++ property_rules c.args.p.0 c.args.props.now) c.new-rules.ensures
     in subst Of same c.meets_rules.ensures

@@ -2,18 +2,19 @@ use Rattle.std.proofs.Common.{◌≡◌, ◌<◌, arith, below_more, length, tru
 use Rattle.std.specs.Prelude.{Some, slice_get}
 use Rattle.tv_kleene.specs.Kleene.{LiesUnder}
 use Rattle.tv_struct.specs.StructureForm.{arities_of}
+use Rattle.tv_struct.proofs.Library.{length-row_at}
 use Rattle.tv_embed.specs.Maps.{image_of}
-use Rattle.tv_embed.proofs.FitLaws.{length-row, rows-under}
+use Rattle.tv_embed.proofs.FitLaws.{rows-under}
 use Rattle.tv_embed.proofs.fits.values_join_up.Goals as goal
 
 pub get-requires : goal.get-requires
 get-requires c =
     let inside : c.loop-x.x < c.args.small.now.size = omega (arith, c.loop-x-test.true, c.requires.next)
-    in rw (c.row-below.ensures, length-row c.args.small.now c.args.p.0 (length c.args.images.now)) inside
+    in rw (c.row-below.ensures, length-row_at c.args.small.now c.args.p.0 (length c.args.images.now)) inside
 
 pub get-requires-in-loop-x : goal.get-requires-in-loop-x
 get-requires-in-loop-x c =
-    rw (c.row-above.ensures, length-row c.args.large.now c.args.p.0 c.args.w) (c.requires.within c.loop-x.x c.loop-x-test.true)
+    rw (c.row-above.ensures, length-row_at c.args.large.now c.args.p.0 c.args.w) (c.requires.within c.loop-x.x c.loop-x-test.true)
 
 pub returns-then-not-under : goal.returns-then-not-under
 returns-then-not-under c = (

@@ -1,7 +1,7 @@
 -- the values so far are found
 use Rattle.std.proofs.Common.{[], ◌∷◌}
 use Rattle.tv_struct.specs.StructureForm.{value_at}
-use Rattle.tv_eval.proofs.AlongWords.{FilledTo}
+use Rattle.tv_quantifiers.proofs.Filled.{FilledTo}
 use Rattle.tv_eval.proofs.leaf_words.diagonal.Given as goal
 
 abbrev pub invariant-loop-i : goal.invariant-loop-i

@@ -18,10 +18,11 @@ use Rattle.tv_eval.specs.AssignmentForm.{assignment_of}
 use Rattle.tv_eval.specs.CanEvaluate.{CanEvaluate}
 use Rattle.tv_eval.specs.Formulas.{sizes_of, nesting}
 use Rattle.tv_eval.specs.HoldsClosure.{HoldsClosure}
+use Rattle.tv_eval.specs.Keeps.{HoldsClosures}
 use Rattle.tv_quantifiers.specs.Quantified.{quantified, turned}
 use Rattle.tv_quantifiers.specs.declared.quantifier.Quantifier.TheVariants.{Exists}
-use Rattle.tv_eval.specs.Rows.{IsSquare, part_at}
-use Rattle.tv_eval.specs.declared.relation.Part.TheVariants.{From, To, Diagonal}
+use Rattle.tv_quantifiers.specs.Rows.{IsSquare, part_at}
+use Rattle.tv_quantifiers.specs.declared.relation.Part.TheVariants.{From, To, Diagonal}
 use Rattle.tv_eval.proofs.AlongLaws.{rows_put, put_same, put_other, put_steady, puts_commute, closure_at}
 use Rattle.tv_eval.proofs.AlongWords.{JoinedTo, same-word, of-paired, of-mapped, mapped-word}
 use Rattle.tv_eval.proofs.AlongWords.{both-none, none-both, either-all, all-either}
@@ -42,6 +43,8 @@ use Rattle.tv_eval.proofs.Parts.{row-steady}
 use Rattle.tv_quantifiers.proofs.Quantifying.{quantified-value}
 use Rattle.tv_quantifiers.specs.Runs.{AreVariables, AreWithin, under_run}
 use Rattle.tv_quantifiers.proofs.Running.{fresh-within}
+use Rattle.tv_quantifiers.proofs.Opening.{formula-over}
+use Rattle.tv_model.specs.Valid.{IsFormulaOver}
 use Rattle.tv_eval.proofs.Runs.{are-variables, can-open, owed-first}
 use Rattle.tv_eval.proofs.values.+values.Goals as goal
 
@@ -406,15 +409,15 @@ closure_word-returns-clause-exact t c =
     (⊎_elim (λ e. c.if-from-v.false (sym e))
     (λ other. ⊎_elim (λ e. c.if-to-v-2.false (sym e)) c.requires.steady other)))
 
-pub quantify-loop-chunk-init : goal.quantify-loop-chunk-init
-quantify-loop-chunk-init t c =
+pub quantify_anew-loop-chunk-init : goal.quantify_anew-loop-chunk-init
+quantify_anew-loop-chunk-init t c =
     let g : ℕ → K3 = λ u. turned c.args.q (value (structure_of c.args.s.now)
     (put (assignment_of c.args.a.now) c.args.v.0 u) (form_of c.args.body.now))
     in let whole : c.args.s.now.size - 64 * 0 ≡ c.args.s.now.size = omega arith
     in (refl, c.requires.kept, ap (λ m. greatest_of g (range_with_len 0 m)) whole)
 
-pub quantify-word_of-word-requires : goal.quantify-word_of-word-requires
-quantify-word_of-word-requires t c = (
+pub quantify_anew-word_of-word-requires : goal.quantify_anew-word_of-word-requires
+quantify_anew-word_of-word-requires t c = (
   search rules,
   (
     subst (λ sizes. CanEvaluate c.args.s.now c.args.a.now sizes
@@ -423,8 +426,8 @@ quantify-word_of-word-requires t c = (
   ),
 )
 
-pub quantify-loop-chunk-preserved : goal.quantify-loop-chunk-preserved
-quantify-loop-chunk-preserved t c =
+pub quantify_anew-loop-chunk-preserved : goal.quantify_anew-loop-chunk-preserved
+quantify_anew-loop-chunk-preserved t c =
     let h : ℕ → K3 = λ u. value (structure_of c.args.s.now) (put (assignment_of c.args.a.now) c.args.v.0 u)
     (form_of c.args.body.now)
     in let g : ℕ → K3 = λ u. turned c.args.q (h u)
@@ -439,8 +442,8 @@ quantify-loop-chunk-preserved t c =
     c.turned_word-turned.ensures c.greatest.ensures c.or-found.ensures c.loop-chunk.invariant.2
     in (c.word_of-word.ensures.rooms ∙ c.loop-chunk.invariant.0, c.word_of-word.ensures.kept, next)
 
-pub quantify-returns-then-eq-clause-exact : goal.quantify-returns-then-eq-clause-exact
-quantify-returns-then-eq-clause-exact t c =
+pub quantify_anew-returns-then-eq-clause-exact : goal.quantify_anew-returns-then-eq-clause-exact
+quantify_anew-returns-then-eq-clause-exact t c =
     let h : ℕ → K3 = λ u. value (structure_of c.args.s.now) (put (assignment_of c.args.a.now) c.args.v.0 u)
     (form_of c.args.body.now)
     in let g : ℕ → K3 = λ u. turned c.args.q (h u)
@@ -459,8 +462,8 @@ quantify-returns-then-eq-clause-exact t c =
     ∙ quantified-value c.args.q (structure_of c.args.s.now) (assignment_of c.args.a.now) c.args.v.0
     (form_of c.args.body.now)
 
-pub quantify-returns-clause-exact : goal.quantify-returns-clause-exact
-quantify-returns-clause-exact t c =
+pub quantify_anew-returns-clause-exact : goal.quantify_anew-returns-clause-exact
+quantify_anew-returns-clause-exact t c =
     let g : ℕ → K3 = λ u. turned c.args.q (value (structure_of c.args.s.now)
     (put (assignment_of c.args.a.now) c.args.v.0 u) (form_of c.args.body.now))
     in c.turned-2.ensures
@@ -637,7 +640,7 @@ closed_part-fill-requires t c =
       search rules,
       (
         record { formula = c.requires.body.formula; assigned = c.requires.body.assigned; rooms = parts.behind },
-        (parts.first _, c.requires.kept),
+        (parts.first _, subst (λ k. HoldsClosures c.args.s.now k c.args.shared.now) (sym c.find.ensures.same) c.requires.kept),
       ),
     )
 
@@ -853,3 +856,26 @@ run-advance-requires t c =
 
 pub run-returns-in-Some-clause-rooms : goal.run-returns-in-Some-clause-rooms
 run-returns-in-Some-clause-rooms t c = c.value_of-value.ensures.rooms ∙ c.loop-whole.invariant.0
+
+pub quantify-returns-in-Some-clause-exact : goal.quantify-returns-in-Some-clause-exact
+quantify-returns-in-Some-clause-exact t c =
+    c.in-Some.ensures.value c.args.s.now c.args.shared.now c.requires.kept
+    ∙ ap (value (structure_of c.args.s.now) (assignment_of c.args.a.now)) c.requires.whole
+
+pub quantify-quantify_anew-k-requires : goal.quantify-quantify_anew-k-requires
+quantify-quantify_anew-k-requires t c = (
+  search rules,
+  (
+    c.requires.parts,
+    c.turn-since.ensures c.args.s.now c.args.shared.now
+        (subst (λ k. HoldsClosures c.args.s.now k c.args.shared.now) (sym c.value.ensures.same) c.requires.kept),
+  ),
+)
+
+pub quantify-returns-clause-kept : goal.quantify-returns-clause-kept
+quantify-returns-clause-kept t c =
+    c.offer_value.ensures c.args.s.now c.quantify_anew-k.new.shared c.quantify_anew-k.ensures.kept
+    (subst (IsFormulaOver (arities_of c.args.s.now)) (sym c.requires.whole)
+    (formula-over c.args.q (arities_of c.args.s.now) c.args.v.0 (form_of c.args.body.now) c.requires.parts.formula))
+    (c.quantify_anew-k.ensures.exact
+    ∙ ap (value (structure_of c.args.s.now) (assignment_of c.args.a.now)) (sym c.requires.whole))

@@ -39,6 +39,9 @@ decreases-choice l =
 abbrev pub decreases-quantify : goal.decreases-quantify
 decreases-quantify l = 8 * height (form_of l.body.now) + 7
 
+abbrev pub decreases-quantify_anew : goal.decreases-quantify_anew
+decreases-quantify_anew l = 8 * height (form_of l.body.now) + 6
+
 abbrev pub decreases-closure : goal.decreases-closure
 decreases-closure l = 8 * height (form_of l.edges.body.now) + 7
 
@@ -103,8 +106,8 @@ abbrev pub decreases-closure_word : goal.decreases-closure_word
 decreases-closure_word l = 8 * height (form_of l.edges.body.now) + 8
 
 -- the greatest value of the words so far, with the greatest of the others, gives the whole
-abbrev pub invariant-quantify-loop-chunk : goal.invariant-quantify-loop-chunk
-invariant-quantify-loop-chunk l =
+abbrev pub invariant-quantify_anew-loop-chunk : goal.invariant-quantify_anew-loop-chunk
+invariant-quantify_anew-loop-chunk l =
     let g : ℕ → K3 = λ u. turned l.q (value (structure_of l.s) (put (assignment_of l.a) l.v.0 u) (form_of l.body))
     in (sizes_of l.rooms ≡ sizes_of l.initial.rooms)
     × HoldsClosures l.s l.kept l.shared
@@ -134,7 +137,7 @@ abbrev pub decreases-quantified_word-loop-x : goal.decreases-quantified_word-loo
 decreases-quantified_word-loop-x l = length l.caps - l.from
 
 abbrev pub decreases-run : goal.decreases-run
-decreases-run l = 8 * height (form_of l.body.now) + 6
+decreases-run l = 8 * height (form_of l.body.now) + 5
 
 -- what is found with what is owed gives the whole
 abbrev pub invariant-run-loop-whole : goal.invariant-run-loop-whole

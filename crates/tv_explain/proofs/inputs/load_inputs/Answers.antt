@@ -6,7 +6,8 @@ use Rattle.tv_struct.specs.StructureForm.{StructureForm}
 use Rattle.tv_texts.specs.Files.{IsFileCause, IsProgramFile, LacksFile}
 use Rattle.tv_lex.proofs.Begins.{one_more}
 use Rattle.tv_texts.specs.Files.{program_begins}
-use Rattle.tv_explain.proofs.Causes.{initial_fault, rose_later, still, taken_fault, unless_not_read}
+use Rattle.tv_texts.proofs.Loading.{rose_later, still}
+use Rattle.tv_explain.proofs.Causes.{initial_fault, taken_fault, unless_not_read}
 use Rattle.tv_explain.specs.declared.inputs.Drawn.{Drawn}
 use Rattle.tv_explain.specs.declared.inputs.Inputs.{Inputs}
 use Rattle.tv_explain_words.specs.Words.{analyzed_of}

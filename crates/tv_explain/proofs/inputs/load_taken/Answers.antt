@@ -1,7 +1,8 @@
 use Rattle.std.proofs.lemmas.Result.{IfOk-weaker}
-use Rattle.tv_explain.proofs.Begins.{always}
+use Rattle.tv_lemmas.proofs.Options.{OnOk-any}
+use Rattle.tv_texts.proofs.Loading.{holds_anyway}
 use Rattle.tv_explain.proofs.Causes.{memory_fault}
-use Rattle.tv_explain.proofs.Trees.{holds_anyway, taken_file}
+use Rattle.tv_explain.proofs.Trees.{taken_file}
 use Rattle.tv_explain.proofs.inputs.load_taken.Goals as goal
 
 pub returns-clause-means : goal.returns-clause-means
@@ -16,4 +17,4 @@ pub returns-clause-steady : goal.returns-clause-steady
 returns-clause-steady g c = λ s. holds_anyway c.taken.result _ (c.in_ok-read.ensures.steady s)
 
 pub returns-clause-begins : goal.returns-clause-begins
-returns-clause-begins g c = always c.taken.result _ c.in_ok-read.ensures.begins
+returns-clause-begins g c = OnOk-any c.taken.result _ c.in_ok-read.ensures.begins

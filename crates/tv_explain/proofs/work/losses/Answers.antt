@@ -1,5 +1,5 @@
 use Rattle.std.proofs.lemmas.Result.{IfErr-weaker, IfOk-weaker, err_from_is_err_and}
-use Rattle.tv_explain.proofs.Begins.{always}
+use Rattle.tv_lemmas.proofs.Options.{OnOk-any}
 use Rattle.tv_explain.proofs.Causes.{losses_stopped, losses_unread}
 use Rattle.tv_explain_words.specs.Words.{analyzed_of}
 use Rattle.tv_explain.proofs.work.losses.Goals as goal
@@ -21,4 +21,4 @@ returns-clause-found g c =
     c.losses_answer.ensures.found
 
 pub returns-clause-begins : goal.returns-clause-begins
-returns-clause-begins g c = always c.losses_answer.result _ c.in_ok-inputs.ensures.begins
+returns-clause-begins g c = OnOk-any c.losses_answer.result _ c.in_ok-inputs.ensures.begins

@@ -6,7 +6,8 @@ use Rattle.tv_listing.specs.declared.analysis.Analysis.{Analysis}
 use Rattle.tv_model.specs.declared.program.Program.{Program}
 use Rattle.tv_lex.proofs.Begins.{one_more}
 use Rattle.tv_texts.specs.Files.{program_begins}
-use Rattle.tv_explain.proofs.Causes.{program_fault, report_fault, rose_later, still, unless_not_read}
+use Rattle.tv_texts.proofs.Loading.{rose_later, still}
+use Rattle.tv_explain.proofs.Causes.{program_fault, report_fault, unless_not_read}
 use Rattle.tv_explain_words.specs.Words.{Shows}
 use Rattle.tv_explain.proofs.work.show.Goals as goal
 

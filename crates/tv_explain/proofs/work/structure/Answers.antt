@@ -1,5 +1,5 @@
 use Rattle.std.proofs.lemmas.Result.{IfErr-weaker, IfOk-weaker, err_from_is_err_and}
-use Rattle.tv_explain.proofs.Begins.{always}
+use Rattle.tv_lemmas.proofs.Options.{OnOk-any}
 use Rattle.tv_explain.proofs.Causes.{structure_stopped, structure_unread}
 use Rattle.tv_explain_words.specs.Words.{analyzed_of}
 use Rattle.tv_explain.proofs.work.structure.Goals as goal
@@ -22,4 +22,4 @@ returns-clause-found g c =
     c.structure_text.ensures.found
 
 pub returns-clause-begins : goal.returns-clause-begins
-returns-clause-begins g c = always c.structure_text.result _ c.in_ok-inputs.ensures.begins
+returns-clause-begins g c = OnOk-any c.structure_text.result _ c.in_ok-inputs.ensures.begins

@@ -1,5 +1,6 @@
 use Rattle.std.proofs.Common.{◌≡◌, ◌∙◌, [], ◌∷◌, ap, subst, sym}
-use Rattle.std.specs.Prelude.{IfErr, IfNone, IfSome, IsErrAnd, Result, Ok, Err}
+use Rattle.std.specs.Prelude.{IfNone, IfSome}
+use Rattle.tv_lemmas.proofs.Options.{IfErr-same}
 use Rattle.tv_model.specs.Form.{form_of}
 use Rattle.tv_focus_laws.specs.Tables.{AreStage}
 use Rattle.tv_focus_laws.specs.Written.{stage_tables}
@@ -7,14 +8,9 @@ use Rattle.tv_focus.specs.Stage.{IsStageCause, KeepsHeaps}
 use Rattle.tv_focus.proofs.Limits.{tables-keep-heaps}
 use Rattle.tv_focus.proofs.stage.focus_stage.Goals as goal
 
--- an error that is handed on keeps its cause
-handed-on : {T E : Type 0} (P : E → Type 0) (r : Result T E) (e : E) → IsErrAnd r (λ f. f ≡ e) → P e → IfErr r P
-handed-on P (Ok t) e same cause = tt
-handed-on P (Err f) e same cause = subst P (sym same) cause
-
 pub returns-in_err-staged-clause-cause : goal.returns-in_err-staged-clause-cause
 returns-in_err-staged-clause-cause c =
-    handed-on (IsStageCause c.args.s.now (form_of c.args.f.now) c.args.atom) c.from_residual-in_err-staged.result
+    IfErr-same (IsStageCause c.args.s.now (form_of c.args.f.now) c.args.atom) c.from_residual-in_err-staged.result
     c.in_err-staged.field-0.0 c.from_residual-in_err-staged.ensures.1
     (subst (λ f. IsStageCause c.args.s.now (form_of f) c.args.atom c.in_err-staged.field-0.0) c.in_ok-atoms.ensures
     c.in_err-staged.ensures.cause)

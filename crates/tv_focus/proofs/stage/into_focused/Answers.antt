@@ -1,5 +1,6 @@
 use Rattle.std.proofs.Common.{◌≡◌, ◌∙◌, ap, sym, subst}
-use Rattle.std.specs.Prelude.{IfErr, IfOk, OnOk, Result, Ok, Err}
+use Rattle.std.specs.Prelude.{IfOk, OnOk, Result, Ok, Err}
+use Rattle.tv_lemmas.proofs.Options.{IfErr-weaker, OnOk-weaker}
 use Rattle.tv_model.specs.Form.{form_of}
 use Rattle.tv_focus_laws.specs.Stages.{atom_at}
 use Rattle.tv_focus_laws.specs.Tables.{AreStage}
@@ -17,14 +18,6 @@ ok-weaker : {T E : Type 0} (r : Result T E) (P Q : T → Type 0) (R : Type 0)
     → ((t : T) → P t → R → Q t) → IfOk r P → OnOk r R → IfOk r Q
 ok-weaker (Ok t) P Q R each holds also = each t holds also
 ok-weaker (Err e) P Q R each holds also = tt
-
-on_ok-weaker : {T E : Type 0} (r : Result T E) (P Q : Type 0) → (P → Q) → OnOk r P → OnOk r Q
-on_ok-weaker (Ok t) P Q each holds = each holds
-on_ok-weaker (Err e) P Q each holds = tt
-
-err-weaker : {T E : Type 0} (r : Result T E) (P Q : E → Type 0) → ((e : E) → P e → Q e) → IfErr r P → IfErr r Q
-err-weaker (Ok t) P Q each holds = tt
-err-weaker (Err e) P Q each holds = each e holds
 
 pub is_sharp-requires : goal.is_sharp-requires
 is_sharp-requires c =
@@ -84,7 +77,7 @@ returns-clause-stage c =
 pub returns-clause-within : goal.returns-clause-within
 returns-clause-within c =
     let plan = c.in_ok-plan.plan
-    in on_ok-weaker c.split_focused.result (AreSplitLimitsKept c.args.s plan.pred.0 (split_form plan.split))
+    in OnOk-weaker c.split_focused.result (AreSplitLimitsKept c.args.s plan.pred.0 (split_form plan.split))
     (IsWithinLimits c.args.s (form_of c.args.f.now) c.args.atom)
     (stage-within c.args.s (form_of c.args.f.now) c.args.atom plan.pred.0 (split_form plan.split) c.size.ensures.kept
     c.in_ok-plan.ensures.pred c.in_ok-plan.ensures.split)
@@ -93,7 +86,7 @@ returns-clause-within c =
 pub returns-clause-cause : goal.returns-clause-cause
 returns-clause-cause c =
     let plan = c.in_ok-plan.plan
-    in err-weaker c.split_focused.result (IsSplitCause c.args.s plan.pred.0 (split_form plan.split))
+    in IfErr-weaker c.split_focused.result (IsSplitCause c.args.s plan.pred.0 (split_form plan.split))
     (IsStageCause c.args.s (form_of c.args.f.now) c.args.atom)
     (λ e cause. split-cause c.args.s (form_of c.args.f.now) c.args.atom plan.pred.0 (split_form plan.split) e
     c.in_ok-plan.ensures.pred c.in_ok-plan.ensures.split cause)

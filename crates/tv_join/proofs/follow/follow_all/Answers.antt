@@ -1,10 +1,10 @@
 use Rattle.std.proofs.Common.{◌∙◌, Contains, List, ap, length, subst, sym, arith}
+use Rattle.tv_model.proofs.Lists.{Contains-here}
 use Rattle.tv_join.specs.Stepped.{GatheredForm}
 use Rattle.tv_join.specs.Task.{task_of}
 use Rattle.tv_join.specs.declared.joins.Found.{Found}
 use Rattle.tv_join.specs.declared.places.Place.{Place}
 use Rattle.tv_join.proofs.Following.{AreFollowedBut, but-all, but-next, but-none}
-use Rattle.tv_join.proofs.Noting.{contains-first}
 use Rattle.tv_join.proofs.follow.follow_all.Goals as goal
 
 pub loop-w-init : goal.loop-w-init
@@ -20,7 +20,7 @@ follow-requires-clause-place c =
     c.requires.places c.in-Some.w
     (c.loop-w.invariant.followed.among c.in-Some.w
     (subst (λ (ws : List Place). Contains ws c.in-Some.w) (sym c.in-Some.ensures.some)
-    (contains-first c.in-Some.w c.take_first.new.self)))
+    (Contains-here c.in-Some.w c.take_first.new.self)))
 
 pub follow-requires-clause-edges : goal.follow-requires-clause-edges
 follow-requires-clause-edges c = c.loop-w.invariant.followed.count ∙ c.requires.edges

@@ -1,7 +1,7 @@
 use Rattle.std.proofs.Common.{◌∙◌, ap, length, sym}
 use Rattle.std.specs.Prelude.{slice_get}
 use Rattle.tv_struct.specs.StructureForm.{StructureForm}
-use Rattle.tv_blur.proofs.RowLaws.{length-unary_row}
+use Rattle.tv_struct.proofs.Library.{length-unary_row}
 use Rattle.tv_join.proofs.Copying.{copied-row}
 use Rattle.tv_join.proofs.Entries.{same-everywhere}
 use Rattle.tv_join.proofs.key.copy_row.Goals as goal

@@ -1,6 +1,7 @@
 use Rattle.std.proofs.Common.{◌↔◌, subst, IsTrue}
 use Rattle.std.proofs.lemmas.Option.{slice_get_within}
 use Rattle.std.proofs.lemmas.Result.{err_from_is_err_and}
+use Rattle.tv_lemmas.proofs.Bools.{isnt_so}
 use Rattle.tv_model.specs.Program.{action_of, program_of}
 use Rattle.tv_step_laws.specs.Budgets.{IsStepCause}
 use Rattle.tv_step_laws.specs.Transfer.{AreResults}
@@ -9,7 +10,7 @@ use Rattle.tv_losses_enabled.specs.Enabled.{IsEnabledAtHand}
 use Rattle.tv_work.proofs.Causes.{step-cause}
 use Rattle.tv_losses.specs.Losses.{IsLost}
 use Rattle.tv_losses.specs.Tasks.{form_in, mode_in, reached_in}
-use Rattle.tv_losses.proofs.Losing.{are-none, are-some, at-source, focus-step, isnt-so, listed-over}
+use Rattle.tv_losses.proofs.Losing.{are-none, are-some, at-source, focus-step, listed-over}
 use Rattle.tv_losses.proofs.Losing.{lost-enabled, not-lost, same-answer}
 use Rattle.tv_losses.proofs.along.is_lost.Goals as goal
 
@@ -46,7 +47,7 @@ returns-then-not-is_empty-clause-lost c =
     let x = c.args.x.now
     in let s = c.args.s.now
     in let rs = c.in_ok-out.out.results
-    in isnt-so (IsLost (form_in x) (mode_in x) c.args.number s)
+    in isnt_so (IsLost (form_in x) (mode_in x) c.args.number s)
     (not-lost (form_in x) c.requires.ready.valid (mode_in x) c.args.number s rs
     (subst (λ program. AreResults (program_of program) (mode_in x) c.args.number s rs) c.requires.ready.engine
     c.in_ok-out.ensures.step.results)

@@ -1,9 +1,10 @@
-use Rattle.std.proofs.Common.{◌≡◌, ◌↔◌, List, [], ◌∷◌, length, get_or, ◌<◌, ◌≤◌, IsTrue, refl, ap, sym, subst}
+use Rattle.std.proofs.Common.{◌≡◌, ◌↔◌, [], ◌∷◌, length, get_or, IsTrue, ap, sym, subst}
 use Rattle.std.proofs.Common.{arith, All}
 use Rattle.std.specs.List.{between}
 use Rattle.std.proofs.lemmas.List.{length-map}
 use Rattle.std.proofs.lemmas.List.Elements.{All-head, All-tail}
-use Rattle.std.proofs.lemmas.Slice.{first_rest}
+use Rattle.tv_lemmas.proofs.Bools.{isnt_so}
+use Rattle.tv_model.proofs.Parts.{no-picks, first-pick}
 use Rattle.tv_eval.specs.AssignmentForm.{assignment_of}
 use Rattle.tv_kleene.specs.declared.K3.TheVariants.{Yes}
 use Rattle.tv_model.specs.declared.formula.Var.{Var}
@@ -12,9 +13,10 @@ use Rattle.tv_model.specs.Truth.{put}
 use Rattle.tv_model.specs.Valid.{IsVariable}
 use Rattle.tv_struct.specs.StructureForm.{structure_of}
 use Rattle.tv_update_laws.specs.Picks.{precondition_value}
+use Rattle.tv_update.proofs.Variables.{picked-with, all-picked}
 use Rattle.tv_losses_enabled.specs.Cases.{ArePickedBut, IsReady, action_in}
 use Rattle.tv_losses_enabled.specs.Enabled.{IsEnabledWith}
-use Rattle.tv_losses_enabled.proofs.Searching.{all-picked, denied, is-so, isnt-so, nobody-next, picked-with}
+use Rattle.tv_losses_enabled.proofs.Searching.{denied, is-so, nobody-next}
 use Rattle.tv_losses_enabled.proofs.Searching.{same-answer}
 use Rattle.tv_losses_enabled.proofs.Searching.{with-first, with-nobody, with-none}
 use Rattle.tv_losses_enabled.proofs.enabled.+enabled.Goals as goal
@@ -30,7 +32,7 @@ is_enabled_by_some-is_enabled_with-requires t c = (
       c.requires.shaped,
       (
         c.requires.left,
-        picked-with (action_in c.args.c.now) c.args.t.now (picks_of c.args.left.now) c.args.v.0 c.loop-u.u
+        picked-with (action_in c.args.c.now).picks (picks_of c.args.left.now) c.args.t.now.size c.args.v.0 c.loop-u.u
             c.args.picks.now c.with.result c.with.ensures.places
             (omega (arith, c.loop-u-test.true, c.size-u-end.ensures.size)) c.requires.picks,
       ),
@@ -69,21 +71,12 @@ is_enabled_by_some-returns-clause-value t c =
     let action = action_in c.args.c.now
     in let vars = picks_of c.args.left.now
     in let a = assignment_of c.args.picks.now
-    in isnt-so (IsEnabledWith action c.args.t.now (c.args.v.0 ∷ vars) a)
+    in isnt_so (IsEnabledWith action c.args.t.now (c.args.v.0 ∷ vars) a)
     (with-nobody action c.args.t.now c.args.v.0 vars a
     (λ u lt. c.loop-u.invariant.none u
     (omega (arith, lt, c.loop-u-test.false, c.loop-u.auto.u-end, c.size-u-end.ensures.size))))
 
 -- ---- all that are left
-
--- the variables are the first and the others
-parts : (left : List Var) (d : Var) → 1 ≤ length left
-    → picks_of left ≡ (get_or left 0 d).0 ∷ picks_of (between 1 (length left) left)
-parts left d some = ap picks_of (first_rest left d (omega (arith, some)))
-
-none : (left : List Var) → length left < 1 → picks_of left ≡ []
-none [] few = refl
-none (v ∷ left) few = absurd (omega (arith, few))
 
 abbrev nobody : Var
 nobody = record { 0 = 0 }
@@ -92,7 +85,7 @@ pub is_enabled_with-is_enabled_by_some-requires : goal.is_enabled_with-is_enable
 is_enabled_with-is_enabled_by_some-requires t c =
     let left = c.args.left.now
     in let rest = between 1 (length left) left
-    in let whole = parts left nobody (omega (arith, c.in-len1-up.len_at_least))
+    in let whole = first-pick left nobody (omega (arith, c.in-len1-up.len_at_least))
     in let are : All IsVariable ((get_or left 0 nobody).0 ∷ picks_of rest)
     = subst (All IsVariable) whole c.requires.left
     in (
@@ -115,22 +108,22 @@ is_enabled_with-is_enabled_by_some-requires t c =
 
 pub is_enabled_with-is_sure-requires-clause-picks : goal.is_enabled_with-is_sure-requires-clause-picks
 is_enabled_with-is_sure-requires-clause-picks t c =
-    all-picked (action_in c.args.c.now) c.args.t.now (picks_of c.args.left.now) c.args.picks.now
-    (none c.args.left.now c.in-empty.len_below) c.requires.picks
+    all-picked (action_in c.args.c.now).picks (picks_of c.args.left.now) c.args.t.now.size c.args.picks.now
+    (no-picks c.args.left.now c.in-empty.len_below) c.requires.picks
 
 pub is_enabled_with-returns-in-empty-clause-value : goal.is_enabled_with-returns-in-empty-clause-value
 is_enabled_with-returns-in-empty-clause-value t c =
     let action = action_in c.args.c.now
     in let a = assignment_of c.args.picks.now
     in subst (λ vars. IsTrue c.is_sure.result ↔ IsEnabledWith action c.args.t.now vars a)
-    (sym (none c.args.left.now c.in-empty.len_below))
+    (sym (no-picks c.args.left.now c.in-empty.len_below))
     (same-answer (precondition_value (structure_of c.args.t.now) a action.pre ≡ Yes)
     (IsEnabledWith action c.args.t.now [] a) c.is_sure.result c.is_sure.ensures.value
     (with-none action c.args.t.now a))
 
 pub is_enabled_with-returns-in-len1-up-clause-value : goal.is_enabled_with-returns-in-len1-up-clause-value
 is_enabled_with-returns-in-len1-up-clause-value t c =
-    let whole = parts c.args.left.now nobody (omega (arith, c.in-len1-up.len_at_least))
+    let whole = first-pick c.args.left.now nobody (omega (arith, c.in-len1-up.len_at_least))
     in subst (λ vars. IsTrue c.is_enabled_by_some.result
     ↔ IsEnabledWith (action_in c.args.c.now) c.args.t.now vars (assignment_of c.args.picks.now)) (sym whole)
     c.is_enabled_by_some.ensures.value

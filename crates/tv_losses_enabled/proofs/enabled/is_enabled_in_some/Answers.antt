@@ -1,9 +1,10 @@
 use Rattle.std.proofs.Common.{All, subst}
 use Rattle.std.specs.Prelude.{Any}
 use Rattle.std.proofs.lemmas.List.{take_all}
+use Rattle.tv_lemmas.proofs.Bools.{isnt_so}
 use Rattle.tv_losses_enabled.specs.Cases.{action_in}
 use Rattle.tv_losses_enabled.specs.Enabled.{IsEnabled}
-use Rattle.tv_losses_enabled.proofs.Searching.{all-next, denied, isnt-so, none-any}
+use Rattle.tv_losses_enabled.proofs.Searching.{all-next, denied, none-any}
 use Rattle.tv_losses_enabled.proofs.enabled.is_enabled_in_some.Goals as goal
 
 pub loop-t-preserved : goal.loop-t-preserved
@@ -20,7 +21,7 @@ loop-t-preserved c =
 pub returns-clause-value : goal.returns-clause-value
 returns-clause-value c =
     let action = action_in c.args.c.now
-    in isnt-so (Any (IsEnabled action) c.args.structures.now)
+    in isnt_so (Any (IsEnabled action) c.args.structures.now)
     (none-any (IsEnabled action) c.args.structures.now
     (subst (All (λ t. ¬ IsEnabled action t))
     (take_all c.loop-t.t-index c.args.structures.now c.loop-t-test.false) c.loop-t.invariant.none))

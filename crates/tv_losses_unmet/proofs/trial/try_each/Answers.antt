@@ -1,6 +1,7 @@
 use Rattle.std.proofs.Common.{arith}
+use Rattle.tv_lemmas.proofs.Zips.{zip_length}
 use Rattle.tv_losses_unmet.specs.Tried.{IsFoundAt, next}
-use Rattle.tv_losses_unmet.proofs.Each.{at-it, found-before, zip-all, zip-length, zip-push}
+use Rattle.tv_losses_unmet.proofs.Each.{at-it, found-before, zip-all, zip-push}
 use Rattle.tv_losses_unmet.proofs.trial.try_each.Goals as goal
 
 pub found_at-before-requires : goal.found_at-before-requires
@@ -8,7 +9,7 @@ found_at-before-requires c = omega (
   arith,
   c.loop-place-test.true,
   c.loop-place.auto.place-end,
-  zip-length (IsFoundAt c.args.x.now c.args.claim) c.args.x.now.numbers.now c.args.found.now c.requires.before,
+  zip_length (IsFoundAt c.args.x.now c.args.claim) c.args.x.now.numbers.now c.args.found.now c.requires.before,
 )
 
 pub tried-requires-clause-before : goal.tried-requires-clause-before

@@ -1,14 +1,14 @@
 use Rattle.std.proofs.Common.{List, subst}
 use Rattle.tv_model.specs.Program.{program_of}
+use Rattle.tv_model.proofs.Parts.{start-node}
 use Rattle.tv_replay_laws.specs.States.{IsReplay}
 use Rattle.tv_trace.specs.declared.trace.Move.{Move}
 use Rattle.tv_replay.proofs.Going.{shows}
-use Rattle.tv_replay.proofs.Readiness.{some-node}
 use Rattle.tv_replay.proofs.run.replay.Goals as goal
 
 pub all_states-requires-clause-start : goal.all_states-requires-clause-start
 all_states-requires-clause-start c = record {
-  there = some-node (program_of c.args.program.now) c.requires.valid;
+  there = start-node (program_of c.args.program.now) c.requires.valid;
   structure = c.size.ensures.kept;
   over = c.requires.over;
   two_valued = c.requires.two_valued;

@@ -49,7 +49,7 @@ returns-in-One-clause-same c =
     = c.row.ensures.exact ∙ ap (λ t. values_along t (assignment_of c.new-none.result) v f) c.requires.structure
     ∙ ap (λ a. values_along s a v f) (none-blank c.new-none.result c.new-none.ensures)
     in let both = values-unary s c.args.p.0 f v
-    in subst (λ (ts : Terms). IsTrue c.are_same.result ↔ HasValuesOf s c.args.p.0 (vars_of ts) f) (sym c.in-One.is) (
-      λ t. both.0 (sym read ∙ c.are_same.ensures.0 t ∙ c.unary_row.ensures),
-      λ has. c.are_same.ensures.1 (read ∙ both.1 has ∙ sym c.unary_row.ensures),
+    in subst (λ (ts : Terms). IsTrue c.equals.result ↔ HasValuesOf s c.args.p.0 (vars_of ts) f) (sym c.in-One.is) (
+      λ t. both.0 (sym read ∙ c.equals.ensures.0 t ∙ c.unary_row.ensures),
+      λ has. c.equals.ensures.1 (read ∙ both.1 has ∙ sym c.unary_row.ensures),
     )

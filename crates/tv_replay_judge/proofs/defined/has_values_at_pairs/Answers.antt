@@ -15,8 +15,8 @@ row-row-requires-clause-assigned c =
     (two-assigned c.args.s.now.size c.new.result c.with.result c.args.v.0 c.args.w.0 c.loop-u.u (form_of c.args.f.now) c.requires.can.over
     (omega (arith, c.loop-u-test.true, c.size-u-end.ensures.size)) c.with.ensures.places)
 
-pub returns-then-not-are_same-clause-same : goal.returns-then-not-are_same-clause-same
-returns-then-not-are_same-clause-same c =
+pub returns-then-not-equals-clause-same : goal.returns-then-not-equals-clause-same
+returns-then-not-equals-clause-same c =
     let s = c.args.s.now
     in let f = form_of c.args.f.now
     in let within : c.loop-u.u < s.size = omega (arith, c.loop-u-test.true, c.size-u-end.ensures.size)
@@ -25,7 +25,7 @@ returns-then-not-are_same-clause-same c =
     ∙ ap (λ a. values_along s a c.args.w.0 f) (c.with.ensures.total ∙ ap (λ a. put a c.args.v.0 c.loop-u.u) (none-blank c.new.result c.new.ensures))
     in (
       λ e. absurd (false≢true e),
-      λ has. absurd (false≢true (c.if-not-are_same.ensures.1
+      λ has. absurd (false≢true (c.if-not-equals.ensures.1
           (read ∙ (values-pairs s c.args.p.0 f c.args.v.0 c.args.w.0).1 has c.loop-u.u within ∙ sym c.row.ensures))),
     )
 

@@ -8,8 +8,8 @@ use Rattle.tv_replay_judge.proofs.differing.have_same_values.Goals as goal
 pub returns-in-One : goal.returns-in-One
 returns-in-One c =
     let both = same-unary c.args.s.now c.args.t.now c.args.p.0 c.requires.size
-    in subst (λ n. IsTrue c.are_same.result ↔ HasSameValues c.args.s.now c.args.t.now c.args.p.0 n)
+    in subst (λ n. IsTrue c.equals.result ↔ HasSameValues c.args.s.now c.args.t.now c.args.p.0 n)
     (sym (ap (λ (vs : Terms). length (vars_of vs)) c.in-One.is)) (
-      λ t. both.0 (sym c.unary_row.ensures ∙ c.are_same.ensures.0 t ∙ c.unary_row-in-One.ensures),
-      λ same. c.are_same.ensures.1 (c.unary_row.ensures ∙ both.1 same ∙ sym c.unary_row-in-One.ensures),
+      λ t. both.0 (sym c.unary_row.ensures ∙ c.equals.ensures.0 t ∙ c.unary_row-in-One.ensures),
+      λ same. c.equals.ensures.1 (c.unary_row.ensures ∙ both.1 same ∙ sym c.unary_row-in-One.ensures),
     )

@@ -1,11 +1,12 @@
 use Rattle.std.proofs.Common.{ℕ, ◌≡◌, sym, subst, Contains}
+use Rattle.tv_coerce_members.specs.Members.{numbers_of}
 use Rattle.tv_eval.specs.AssignmentForm.{assignment_of}
 use Rattle.tv_model.specs.Form.{form_of}
 use Rattle.tv_model.specs.Program.{rule_of}
 use Rattle.tv_model.specs.Valid.{IsFormulaOver}
 use Rattle.tv_struct.specs.StructureForm.{arities_of}
 use Rattle.tv_two_valued.specs.TwoValued.{heap_of}
-use Rattle.tv_replay_judge.specs.Trying.{IsFreeIn, IsMetFrom, IsCheckStart, ImplicationForm, numbers_of}
+use Rattle.tv_replay_judge.specs.Trying.{IsFreeIn, IsMetFrom, IsCheckStart, ImplicationForm}
 use Rattle.tv_replay_judge.specs.Trying.{tried_rule}
 use Rattle.tv_replay_judge.proofs.Tried.{met-all}
 use Rattle.tv_replay_judge.proofs.Walked.{variable-in_range, walk-begins}

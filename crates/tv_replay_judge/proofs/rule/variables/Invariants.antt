@@ -1,5 +1,6 @@
 use Rattle.std.proofs.Common.{ℕ, ◌<◌, All, Contains}
-use Rattle.tv_replay_judge.specs.Trying.{IsFreeIn, numbers_of, implication_of}
+use Rattle.tv_coerce_members.specs.Members.{numbers_of}
+use Rattle.tv_replay_judge.specs.Trying.{IsFreeIn, implication_of}
 use Rattle.tv_replay_judge.proofs.rule.variables.Given as goal
 
 abbrev pub invariant-loop-v : goal.invariant-loop-v

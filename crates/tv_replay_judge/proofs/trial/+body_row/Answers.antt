@@ -1,9 +1,10 @@
 use Rattle.std.proofs.Common.{◌≡◌, ◌∙◌, sym, ap, subst}
+use Rattle.tv_coerce_members.specs.Members.{numbers_of}
 use Rattle.tv_eval.specs.AssignmentForm.{assignment_of}
 use Rattle.tv_model.specs.Form.{Form, form_of, FAnd}
 use Rattle.tv_model.specs.Truth.{put}
 use Rattle.tv_two_valued.specs.TwoValued.{heap_of}
-use Rattle.tv_replay_judge.specs.Trying.{IsRowOf, IsRuledOut, numbers_of}
+use Rattle.tv_replay_judge.specs.Trying.{IsRowOf, IsRuledOut}
 use Rattle.tv_replay_judge.proofs.Passed.{and-row}
 use Rattle.tv_replay_judge.proofs.trial.+body_row.Goals as goal
 

@@ -2,11 +2,12 @@ use Rattle.std.proofs.Common.{◌≡◌, ◌<◌, ◌≤◌, ◌-◌, ◌↔◌,
 use Rattle.std.proofs.Common.{get_or, refl, sym, ap, subst, arith}
 use Rattle.std.specs.Prelude.{All}
 use Rattle.std.proofs.lemmas.List.Elements.{All-head}
+use Rattle.tv_coerce_members.specs.Members.{numbers_of}
 use Rattle.tv_eval.specs.AssignmentForm.{assignment_of}
 use Rattle.tv_model.specs.declared.formula.Var.{Var}
 use Rattle.tv_model.specs.Truth.{put}
 use Rattle.tv_two_valued.specs.TwoValued.{heap_of}
-use Rattle.tv_replay_judge.specs.Trying.{CanTry, IsFreeIn, IsMetFrom, IsCheckStart, numbers_of}
+use Rattle.tv_replay_judge.specs.Trying.{CanTry, IsFreeIn, IsMetFrom, IsCheckStart}
 use Rattle.tv_replay_judge.specs.Trying.{implication_of}
 use Rattle.tv_replay_judge.proofs.Passed.{walked-all, walked-more}
 use Rattle.tv_replay_judge.proofs.Walked.{met-at_end, none-at, split-vars, stays-on, tail-shorter, tried-all}

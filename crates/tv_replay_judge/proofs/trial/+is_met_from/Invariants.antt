@@ -1,8 +1,9 @@
 use Rattle.std.proofs.Common.{ℕ, ◌<◌, ◌≤◌, ◌-◌, length}
+use Rattle.tv_coerce_members.specs.Members.{numbers_of}
 use Rattle.tv_eval.specs.AssignmentForm.{assignment_of}
 use Rattle.tv_model.specs.Truth.{put}
 use Rattle.tv_two_valued.specs.TwoValued.{heap_of}
-use Rattle.tv_replay_judge.specs.Trying.{IsMetFrom, StaysBound, numbers_of, implication_of}
+use Rattle.tv_replay_judge.specs.Trying.{IsMetFrom, StaysBound, implication_of}
 use Rattle.tv_replay_judge.proofs.trial.+is_met_from.Given as goal
 
 abbrev pub decreases-is_met_from : goal.decreases-is_met_from

@@ -1,6 +1,6 @@
 use Rattle.std.proofs.Common.{ℕ, Contains, take}
 use Rattle.tv_model.specs.Form.{form_of, IsFree}
-use Rattle.tv_replay_judge.specs.Trying.{numbers_of}
+use Rattle.tv_coerce_members.specs.Members.{numbers_of}
 use Rattle.tv_replay_judge.proofs.trial.is_settled.Given as goal
 
 abbrev pub invariant-loop-v : goal.invariant-loop-v

@@ -1,4 +1,5 @@
 use Rattle.std.proofs.Common.{◌≡◌, ◌∙◌, map, sym, ap, subst}
+use Rattle.tv_coerce_members.specs.Members.{numbers_of}
 use Rattle.tv_kleene.specs.Kleene.{negation_of}
 use Rattle.tv_eval.specs.Along.{values_along}
 use Rattle.tv_eval.specs.AssignmentForm.{assignment_of}
@@ -7,7 +8,7 @@ use Rattle.tv_eval.specs.Formulas.{AreAssigned}
 use Rattle.tv_model.specs.Form.{form_of, FExists}
 use Rattle.tv_model.specs.Truth.{put}
 use Rattle.tv_two_valued.specs.TwoValued.{heap_of}
-use Rattle.tv_replay_judge.specs.Trying.{IsRowOf, IsGranted, numbers_of}
+use Rattle.tv_replay_judge.specs.Trying.{IsRowOf, IsGranted}
 use Rattle.tv_replay_judge.proofs.Passed.{row-assigned, row-granted}
 use Rattle.tv_replay_judge.proofs.trial.lacking_row.Goals as goal
 

@@ -5,7 +5,7 @@ use Rattle.tv_eval.specs.Formulas.{AreAssigned}
 use Rattle.tv_model.specs.Form.{form_of}
 use Rattle.tv_model.specs.Truth.{Truth}
 use Rattle.tv_two_valued.specs.TwoValued.{heap_of}
-use Rattle.tv_replay_judge.specs.Trying.{numbers_of}
+use Rattle.tv_coerce_members.specs.Members.{numbers_of}
 use Rattle.tv_replay_judge.proofs.Tried.{settled-out}
 use Rattle.tv_replay_judge.proofs.Walked.{settled-assigned}
 use Rattle.tv_replay_judge.proofs.trial.may_hold_whole.Goals as goal

@@ -1,8 +1,9 @@
 use Rattle.std.proofs.Common.{sym, subst}
+use Rattle.tv_coerce_members.specs.Members.{numbers_of}
 use Rattle.tv_eval.specs.AssignmentForm.{assignment_of}
 use Rattle.tv_model.specs.Truth.{put}
 use Rattle.tv_two_valued.specs.TwoValued.{heap_of}
-use Rattle.tv_replay_judge.specs.Trying.{IsRowOf, IsMetFrom, numbers_of, implication_of}
+use Rattle.tv_replay_judge.specs.Trying.{IsRowOf, IsMetFrom, implication_of}
 use Rattle.tv_replay_judge.proofs.Passed.{body-places, both-places}
 use Rattle.tv_replay_judge.proofs.trial.places_for.Goals as goal
 

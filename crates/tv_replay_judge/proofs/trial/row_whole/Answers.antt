@@ -1,4 +1,5 @@
 use Rattle.std.proofs.Common.{◌≡◌, ◌∙◌, sym, ap, subst}
+use Rattle.tv_coerce_members.specs.Members.{numbers_of}
 use Rattle.tv_eval.specs.Along.{values_along}
 use Rattle.tv_eval.specs.AssignmentForm.{assignment_of}
 use Rattle.tv_eval.specs.Bound.{bound_room}
@@ -6,7 +7,7 @@ use Rattle.tv_eval.specs.Formulas.{AreAssigned}
 use Rattle.tv_model.specs.Form.{form_of, FExists}
 use Rattle.tv_model.specs.Truth.{put}
 use Rattle.tv_two_valued.specs.TwoValued.{heap_of}
-use Rattle.tv_replay_judge.specs.Trying.{IsRowOf, IsRuledOut, numbers_of}
+use Rattle.tv_replay_judge.specs.Trying.{IsRowOf, IsRuledOut}
 use Rattle.tv_replay_judge.proofs.Passed.{row-assigned, row-out}
 use Rattle.tv_replay_judge.proofs.trial.row_whole.Goals as goal
 

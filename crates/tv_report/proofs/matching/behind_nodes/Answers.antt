@@ -1,9 +1,9 @@
 use Rattle.std.proofs.Common.{◌≡◌, ◌<◌, ◌^◌, ◌++◌, ◌∙◌, Some, ap, sym, subst, length, arith}
 use Rattle.std.specs.Prelude.{IfSome, slice_get}
+use Rattle.std.proofs.lemmas.Option.{slice_get-get_or}
 use Rattle.tv_listing.specs.ListingForm.{at_node}
 use Rattle.tv_report.specs.Text.{node_text}
 use Rattle.tv_report.proofs.Fronts.{next_node, all_nodes, few_more}
-use Rattle.tv_report.proofs.Lists.{at_place}
 use Rattle.tv_report.proofs.matching.behind_nodes.Goals as goal
 
 pub loop-number-preserved : goal.loop-number-preserved
@@ -16,7 +16,7 @@ loop-number-preserved c =
     in let count : length c.as_slice-names.result.now ≡ length names = ap length c.as_slice-names.ensures
     in let within : number < length listing = omega (arith, c.loop-number-test.true, c.loop-number.auto.number-end, c.requires.nodes, count)
     in let here : slice_get c.as_slice-names.result.now number ≡ Some name
-    = at_place c.as_slice-names.result.now number c.index-names-number.result (omega (arith, c.loop-number-test.true, c.loop-number.auto.number-end))
+    = slice_get-get_or c.as_slice-names.result.now number c.index-names-number.result (omega (arith, c.loop-number-test.true, c.loop-number.auto.number-end))
     ∙ ap Some (sym c.index-names-number.is ∙ sym c.as_slice-name.ensures)
     in let at = subst (λ ns. slice_get ns number ≡ Some name) c.as_slice-names.ensures here
     in let last = subst (λ o. IfSome o (λ rest. length (at_node listing number) < 2 ^ 32)) c.in-Some.is c.in_ok-behind_node.ensures.few

@@ -10,41 +10,41 @@ use Rattle.tv_rules.proofs.NotingLaws.{bases-range}
 use Rattle.tv_rules.proofs.closed.closed_of.Goals as goal
 
 pub shapes-requires : goal.shapes-requires
-shapes-requires c = range-of c.args.bases c.as_slice-2.result.now c.as_slice-2.ensures c.requires.variables
+shapes-requires c = range-of c.args.bases c.as_slice.result.now c.as_slice.ensures c.requires.variables
 
 pub watch_lists-requires-clause-preds : goal.watch_lists-requires-clause-preds
 watch_lists-requires-clause-preds c =
-    bases-range c.args.bases c.as_slice-4.result.now c.args.preds c.as_slice-4.ensures c.requires.preds
+    bases-range c.args.bases c.as_slice-3.result.now c.args.preds c.as_slice-3.ensures c.requires.preds
 
 pub invariant_of-result : goal.invariant_of-result
 invariant_of-result c = (
-  are-kept c.args.bases c.in_ok-negations.negations c.in_ok-shapes.shapes c.in_ok-entries.entries c.in_ok-by_pred.by_pred
+  are-kept c.args.bases c.in_ok-shapes.shapes c.in_ok-entries.entries c.in_ok-by_pred.by_pred
       c.in_ok-by_sm.by_sm
-      c.as_slice.result.now c.as_slice-2.result.now c.as_slice-3.result.now c.as_slice-4.result.now c.as_slice-6.result.now
-      c.as_slice.ensures c.as_slice-2.ensures c.as_slice-3.ensures c.as_slice-4.ensures c.as_slice-6.ensures
-      c.in_ok-negations.ensures c.in_ok-shapes.ensures c.in_ok-entries.ensures c.in_ok-by_pred.ensures.lists
+      c.as_slice.result.now c.as_slice-2.result.now c.as_slice-3.result.now c.as_slice-5.result.now
+      c.as_slice.ensures c.as_slice-2.ensures c.as_slice-3.ensures c.as_slice-5.ensures
+      c.in_ok-shapes.ensures c.in_ok-entries.ensures c.in_ok-by_pred.ensures.lists
       (below-count (rules_of c.args.bases) c.in_ok-by_pred.by_pred c.args.preds c.in_ok-by_pred.ensures.count c.requires.preds)
       c.in_ok-by_sm.ensures,
-  are-moved_by c.args.bases c.in_ok-movers.movers c.in_ok-families.families c.in_ok-entries.entries c.as_slice-8.result.now
-      c.as_slice-10.result.now c.as_slice-8.ensures c.as_slice-10.ensures
-      (subst (λ (rs : List Rule). map entry_of c.in_ok-entries.entries ≡ closed_entries (map rule_of rs)) c.as_slice-3.ensures c.in_ok-entries.ensures)
+  are-moved_by c.args.bases c.in_ok-movers.movers c.in_ok-families.families c.in_ok-entries.entries c.as_slice-7.result.now
+      c.as_slice-9.result.now c.as_slice-7.ensures c.as_slice-9.ensures
+      (subst (λ (rs : List Rule). map entry_of c.in_ok-entries.entries ≡ closed_entries (map rule_of rs)) c.as_slice-2.ensures c.in_ok-entries.ensures)
       c.in_ok-movers.ensures c.in_ok-families.ensures,
 )
 
 pub movers_of-requires-clause-entries : goal.movers_of-requires-clause-entries
 movers_of-requires-clause-entries c =
-    ap (λ (es : List Entry). map entry_of es) c.as_slice-9.ensures ∙ c.in_ok-entries.ensures
-    ∙ ap (λ (rs : List Rule). closed_entries (map rule_of rs)) (c.as_slice-3.ensures ∙ sym c.as_slice-8.ensures)
+    ap (λ (es : List Entry). map entry_of es) c.as_slice-8.ensures ∙ c.in_ok-entries.ensures
+    ∙ ap (λ (rs : List Rule). closed_entries (map rule_of rs)) (c.as_slice-2.ensures ∙ sym c.as_slice-7.ensures)
 
 pub movers_of-requires-clause-preds : goal.movers_of-requires-clause-preds
 movers_of-requires-clause-preds c =
     subst (λ (rs : List Rule). (q n : ℕ) (rule : RuleForm) → slice_get (rules_of rs) n ≡ Some rule → StandsIn q rule → q < c.args.preds)
-    (sym c.as_slice-8.ensures) c.requires.preds
+    (sym c.as_slice-7.ensures) c.requires.preds
 
 pub families-requires : goal.families-requires
 families-requires c = λ n e at. omega (
   arith,
   c.len.ensures,
-  base-within c.args.bases c.as_slice-3.result.now c.in_ok-entries.entries c.as_slice-10.result.now c.as_slice-3.ensures c.as_slice-10.ensures
+  base-within c.args.bases c.as_slice-2.result.now c.in_ok-entries.entries c.as_slice-9.result.now c.as_slice-2.ensures c.as_slice-9.ensures
       c.in_ok-entries.ensures n e at,
 )

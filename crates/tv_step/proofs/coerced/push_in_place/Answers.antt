@@ -1,9 +1,9 @@
 use Rattle.std.proofs.Common.{◌∙◌, []}
+use Rattle.tv_lemmas.proofs.Lists.{nothing_added}
 use Rattle.tv_rules.specs.EntryForms.{rules_of}
 use Rattle.tv_step_laws.proofs.Shapes.{shaped-over}
 use Rattle.tv_step.specs.Ending.{Becomes}
 use Rattle.tv_step.specs.Setting.{form_in}
-use Rattle.tv_step.proofs.Adding.{nothing-added}
 use Rattle.tv_step.proofs.Coercing.{can-coerce, push-adds, some-coerces}
 use Rattle.tv_step.proofs.Finishing.{coerced-over, none-becomes, some-becomes}
 use Rattle.tv_step.proofs.coerced.push_in_place.Goals as goal
@@ -19,7 +19,7 @@ returns-in-None-clause-out c = (
   none-becomes c.args.ending (form_in c.args.x.now) (rules_of c.args.x.now.closed.now) c.args.s
       c.in_ok-coerce_in_place.field-0
       c.requires.ready.rules c.in_ok-coerce_in_place.ensures.exact c.in-None.is,
-  nothing-added c.args.out.now,
+  nothing_added c.args.out.now,
 )
 
 pub ended-requires : goal.ended-requires

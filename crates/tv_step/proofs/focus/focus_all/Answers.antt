@@ -3,13 +3,14 @@ use Rattle.std.proofs.lemmas.List.{map-id}
 use Rattle.std.proofs.lemmas.Iterator.Adapters.{YieldsList-from_vec}
 use Rattle.std.proofs.lemmas.Iterator.Consumers.{YieldsList-end, YieldsList-turn}
 use Rattle.std.proofs.lemmas.List.Elements.{All-contains}
+use Rattle.tv_lemmas.proofs.Options.{IfErr-same}
 use Rattle.tv_focus.specs.Stage.{IsWithinLimits}
 use Rattle.tv_step_laws.specs.Shaped.{IsShaped}
 use Rattle.tv_step_laws.specs.Transfer.{Focuses}
 use Rattle.tv_step.specs.Places.{focus_place}
 use Rattle.tv_step.specs.Setting.{form_in, IsStableIn}
 use Rattle.tv_step.specs.Steps.{IsFocusCause, KeepsLimits}
-use Rattle.tv_step.proofs.Adding.{adds-more, all-more, handed-on}
+use Rattle.tv_step.proofs.Adding.{adds-more, all-more}
 use Rattle.tv_step.proofs.Turns.{cause-in}
 use Rattle.tv_step.proofs.focus.focus_all.Goals as goal
 
@@ -39,7 +40,7 @@ returns-in_err-push_focused-clause-cause c =
     c.in-Some.is c.next.ensures.steps
     in let place = focus_place c.args.turn.now
     in let e = c.in_err-push_focused.field-0.0
-    in handed-on (IsFocusCause place c.args.at_hand) c.from_residual.result e c.from_residual.ensures.1
+    in IfErr-same (IsFocusCause place c.args.at_hand) c.from_residual.result e c.from_residual.ensures.1
     (cause-in place c.args.at_hand c.in-Some.s e (length c.loop-s.yielded, turn.0, sym turn.1)
     c.in_err-push_focused.ensures.cause)
 

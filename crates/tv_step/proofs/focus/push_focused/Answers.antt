@@ -1,5 +1,6 @@
 use Rattle.std.proofs.Common.{◌∙◌, [], ◌∷◌, All, length, ap, sym, subst}
 use Rattle.std.proofs.lemmas.List.{length-map}
+use Rattle.tv_lemmas.proofs.Options.{IfErr-same}
 use Rattle.tv_rules.specs.EntryForms.{rules_of}
 use Rattle.tv_model.specs.Form.{form_of}
 use Rattle.tv_struct.specs.StructureForm.{arities_of}
@@ -14,7 +15,6 @@ use Rattle.tv_step.specs.Waiting.{WaitsAt}
 use Rattle.tv_step_laws.specs.Shaped.{IsShaped}
 use Rattle.tv_step_laws.specs.Transfer.{choices_at}
 use Rattle.tv_step_laws.proofs.Shapes.{shaped-over}
-use Rattle.tv_step.proofs.Adding.{handed-on}
 use Rattle.tv_step.proofs.FocusStays.{focus-rest}
 use Rattle.tv_step.proofs.Turns.{atoms-fit, focus-adds, focus-cause, focus-itself, made-from, made-stage}
 use Rattle.tv_step.proofs.Turns.{tables-of}
@@ -34,7 +34,7 @@ pub returns-in_err-s-clause-cause : goal.returns-in_err-s-clause-cause
 returns-in_err-s-clause-cause c =
     let place = focus_place c.args.turn.now
     in let e = c.in_err-s.field-0.0
-    in handed-on (IsFocusCause place (c.args.s ∷ [])) c.from_residual.result e c.from_residual.ensures.1
+    in IfErr-same (IsFocusCause place (c.args.s ∷ [])) c.from_residual.result e c.from_residual.ensures.1
     (focus-cause c.args.s place e
     (subst (λ f. IsStageCause c.args.s (form_of f) c.args.turn.now.atom e) c.deref.ensures
     c.in_err-s.ensures.cause))

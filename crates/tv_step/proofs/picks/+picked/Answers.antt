@@ -1,21 +1,23 @@
-use Rattle.std.proofs.Common.{◌≡◌, ◌∙◌, suc, true, eqb-true, Bool, List, [], ◌∷◌, length, get_or, ◌<◌, ◌≤◌}
+use Rattle.std.proofs.Common.{◌≡◌, ◌∙◌, suc, true, eqb-true, Bool, List, [], ◌∷◌, length, get_or}
 use Rattle.std.proofs.Common.{refl, ap, sym, subst, arith, All}
 use Rattle.std.specs.List.{between}
 use Rattle.std.specs.Prelude.{◌==◌, IfErr, OnOk}
 use Rattle.std.proofs.lemmas.List.{length-map}
 use Rattle.std.proofs.lemmas.List.Elements.{All-head, All-nil, All-tail}
-use Rattle.std.proofs.lemmas.Slice.{first_rest}
+use Rattle.tv_lemmas.proofs.Options.{IfErr-weaker, IfErr-same, OnOk-weaker}
+use Rattle.tv_model.proofs.Parts.{no-picks, first-pick}
 use Rattle.tv_eval.specs.AssignmentForm.{assignment_of}
 use Rattle.tv_eval.proofs.Parts.{like-again, like-itself, put-again, total-again}
 use Rattle.tv_model.specs.declared.formula.Var.{Var}
 use Rattle.tv_model.specs.Program.{picks_of}
 use Rattle.tv_model.specs.Truth.{put}
 use Rattle.tv_model.specs.Valid.{IsVariable}
+use Rattle.tv_update.proofs.Variables.{picked-with}
 use Rattle.tv_step.specs.Job.{IsCase, ArePickedBut, case_program, case_action, case_mode, case_structure}
 use Rattle.tv_step.specs.Steps.{Adds, PickGives, PicksGive, PickKeepsLimits, PicksKeepLimits, IsCauseOfPick}
 use Rattle.tv_step.specs.Steps.{IsCauseOfPicks}
-use Rattle.tv_step.proofs.Adding.{adds-none, handed-on, on_err-weaker, on_ok-weaker}
-use Rattle.tv_step.proofs.Picking.{picked-with, picks-next, picks-done, limits-next, limits-done, cause-first}
+use Rattle.tv_step.proofs.Adding.{adds-none}
+use Rattle.tv_step.proofs.Picking.{picks-next, picks-done, limits-next, limits-done, cause-first}
 use Rattle.tv_step.proofs.Picking.{picks-none, limits-none, cause-none}
 use Rattle.tv_step.proofs.picks.+picked.Goals as goal
 
@@ -58,7 +60,7 @@ push_each-returns-in_err-push_picked-clause-cause t c =
     in let vars = picks_of c.args.left.now
     in let a = assignment_of c.args.picks.now
     in let e = c.in_err-push_picked.field-0.0
-    in handed-on
+    in IfErr-same
     (IsCauseOfPicks action s (c.args.v.0 ∷ vars) a) c.from_residual.result e c.from_residual.ensures.1
     (cause-first action s c.args.v.0 vars a (assignment_of c.set.new.self) c.loop-u.u e
     (total-again c.args.picks.now c.loop-u.here c.set.new.self c.args.v.0 c.loop-u.u c.loop-u.invariant.like
@@ -138,15 +140,6 @@ push_each-returns-then-is_empty-clause-cause t c =
 
 -- ---- all that are left
 
--- the variables are the first and the others
-parts : (left : List Var) (d : Var) → 1 ≤ length left
-    → picks_of left ≡ (get_or left 0 d).0 ∷ picks_of (between 1 (length left) left)
-parts left d some = ap picks_of (first_rest left d (omega (arith, some)))
-
-none : (left : List Var) → length left < 1 → picks_of left ≡ []
-none [] few = refl
-none (v ∷ left) few = absurd (omega (arith, few))
-
 abbrev nobody : Var
 nobody = record { 0 = 0 }
 
@@ -154,7 +147,7 @@ pub push_picked-push_each-requires : goal.push_picked-push_each-requires
 push_picked-push_each-requires t c =
     let left = c.args.left.now
     in let rest = between 1 (length left) left
-    in let whole = parts left nobody (omega (arith, c.in-len1-up.len_at_least))
+    in let whole = first-pick left nobody (omega (arith, c.in-len1-up.len_at_least))
     in let are : All IsVariable ((get_or left 0 nobody).0 ∷ picks_of rest)
     = subst (All IsVariable) whole c.requires.left
     in (
@@ -179,11 +172,11 @@ push_picked-returns-in-empty-clause-out t c =
     in let s = case_structure c.args.c.now
     in let vars = picks_of c.args.left.now
     in let a = assignment_of c.args.picks.now
-    in on_ok-weaker c.push_passed.result
+    in OnOk-weaker c.push_passed.result
     (Adds (PickGives p mode action s) a c.args.out.now c.push_passed.new.out)
     (Adds (PicksGive p mode action s vars) a c.args.out.now c.push_passed.new.out)
     (picks-none p mode action s vars a c.args.out.now c.push_passed.new.out
-    (none c.args.left.now c.in-empty.len_below))
+    (no-picks c.args.left.now c.in-empty.len_below))
     c.push_passed.ensures.out
 
 pub push_picked-returns-in-empty-clause-within : goal.push_picked-returns-in-empty-clause-within
@@ -192,8 +185,8 @@ push_picked-returns-in-empty-clause-within t c =
     in let s = case_structure c.args.c.now
     in let vars = picks_of c.args.left.now
     in let a = assignment_of c.args.picks.now
-    in on_ok-weaker c.push_passed.result (PickKeepsLimits action s a) (PicksKeepLimits action s vars a)
-    (limits-none action s vars a (none c.args.left.now c.in-empty.len_below)) c.push_passed.ensures.within
+    in OnOk-weaker c.push_passed.result (PickKeepsLimits action s a) (PicksKeepLimits action s vars a)
+    (limits-none action s vars a (no-picks c.args.left.now c.in-empty.len_below)) c.push_passed.ensures.within
 
 pub push_picked-returns-in-empty-clause-cause : goal.push_picked-returns-in-empty-clause-cause
 push_picked-returns-in-empty-clause-cause t c =
@@ -201,8 +194,8 @@ push_picked-returns-in-empty-clause-cause t c =
     in let s = case_structure c.args.c.now
     in let vars = picks_of c.args.left.now
     in let a = assignment_of c.args.picks.now
-    in on_err-weaker c.push_passed.result (IsCauseOfPick action s a) (IsCauseOfPicks action s vars a)
-    (λ e cause. cause-none action s vars a e (none c.args.left.now c.in-empty.len_below) cause)
+    in IfErr-weaker c.push_passed.result (IsCauseOfPick action s a) (IsCauseOfPicks action s vars a)
+    (λ e cause. cause-none action s vars a e (no-picks c.args.left.now c.in-empty.len_below) cause)
     c.push_passed.ensures.cause
 
 pub push_picked-returns-in-len1-up-clause-out : goal.push_picked-returns-in-len1-up-clause-out
@@ -211,21 +204,21 @@ push_picked-returns-in-len1-up-clause-out t c =
     in let mode = case_mode c.args.c.now
     in let action = case_action c.args.c.now
     in let s = case_structure c.args.c.now
-    in let whole = parts c.args.left.now nobody (omega (arith, c.in-len1-up.len_at_least))
+    in let whole = first-pick c.args.left.now nobody (omega (arith, c.in-len1-up.len_at_least))
     in subst (λ vars. OnOk c.push_each.result
     (Adds (PicksGive p mode action s vars) (assignment_of c.args.picks.now) c.args.out.now c.push_each.new.out))
     (sym whole) c.push_each.ensures.out
 
 pub push_picked-returns-in-len1-up-clause-within : goal.push_picked-returns-in-len1-up-clause-within
 push_picked-returns-in-len1-up-clause-within t c =
-    let whole = parts c.args.left.now nobody (omega (arith, c.in-len1-up.len_at_least))
+    let whole = first-pick c.args.left.now nobody (omega (arith, c.in-len1-up.len_at_least))
     in subst (λ vars. OnOk c.push_each.result
     (PicksKeepLimits (case_action c.args.c.now) (case_structure c.args.c.now) vars
     (assignment_of c.args.picks.now))) (sym whole) c.push_each.ensures.within
 
 pub push_picked-returns-in-len1-up-clause-cause : goal.push_picked-returns-in-len1-up-clause-cause
 push_picked-returns-in-len1-up-clause-cause t c =
-    let whole = parts c.args.left.now nobody (omega (arith, c.in-len1-up.len_at_least))
+    let whole = first-pick c.args.left.now nobody (omega (arith, c.in-len1-up.len_at_least))
     in subst (λ vars. IfErr c.push_each.result
     (IsCauseOfPicks (case_action c.args.c.now) (case_structure c.args.c.now) vars
     (assignment_of c.args.picks.now))) (sym whole) c.push_each.ensures.cause

@@ -1,4 +1,5 @@
 use Rattle.std.proofs.Common.{◌∙◌, All, length, map, ap, sym, subst}
+use Rattle.tv_lemmas.proofs.Options.{IfErr-same}
 use Rattle.tv_eval.specs.AssignmentForm.{IsAssigned, assignment_of}
 use Rattle.tv_update_laws.specs.Choices.{AreGiven}
 use Rattle.tv_coerce.specs.RuleSets.{IsStableBut}
@@ -9,7 +10,6 @@ use Rattle.tv_update.specs.Update.{IsUpdateCause, IsWithinLimits}
 use Rattle.tv_step.specs.Job.{case_program, case_action, case_mode, case_structure}
 use Rattle.tv_step.specs.Steps.{IsCauseOfPick}
 use Rattle.tv_step.specs.Waiting.{WaitsFor}
-use Rattle.tv_step.proofs.Adding.{handed-on}
 use Rattle.tv_step.proofs.LeftAlone.{given-rest, given-within}
 use Rattle.tv_step.proofs.Picking.{given-adds, given-shaped, pick-cause, same-action}
 use Rattle.tv_step_laws.proofs.Shapes.{shaped-over}
@@ -40,7 +40,7 @@ returns-in_err-given-clause-cause c =
     in let e = c.in_err-given.field-0.0
     in let same = same-action c.args.c.now.setting.now.program.now c.args.c.now.job.now.number action
     c.requires.case.job.action
-    in handed-on (IsCauseOfPick action s a) c.from_residual.result e c.from_residual.ensures.1
+    in IfErr-same (IsCauseOfPick action s a) c.from_residual.result e c.from_residual.ensures.1
     (pick-cause action s a e c.requires.passed
     (subst (λ act. IsUpdateCause act s a e) same c.in_err-given.ensures.cause))
 

@@ -1,13 +1,15 @@
 use Rattle.std.proofs.Common.{[], ◌∷◌, refl, sym, subst, arith}
 use Rattle.std.proofs.lemmas.List.Elements.{All-nil}
+use Rattle.tv_lemmas.proofs.Options.{IfErr-same}
 use Rattle.tv_eval.specs.AssignmentForm.{assignment_of}
 use Rattle.tv_eval.proofs.Parts.{like-again, like-itself, put-again, total-again}
 use Rattle.tv_model.specs.Truth.{put}
+use Rattle.tv_update.proofs.Variables.{picked-with, all-picked}
 use Rattle.tv_step.specs.Job.{IsCase, case_program, case_action, case_mode, case_structure}
 use Rattle.tv_step.specs.Steps.{IsCauseOfPicks, PicksGive, PicksKeepLimits}
-use Rattle.tv_step.proofs.Adding.{adds-none, handed-on}
-use Rattle.tv_step.proofs.Allowing.{all-picked, row-fails, row-length, row-passes}
-use Rattle.tv_step.proofs.Picking.{picked-with, picks-next, picks-done, limits-next, limits-done, cause-first}
+use Rattle.tv_step.proofs.Adding.{adds-none}
+use Rattle.tv_step.proofs.Allowing.{row-fails, row-length, row-passes}
+use Rattle.tv_step.proofs.Picking.{picks-next, picks-done, limits-next, limits-done, cause-first}
 use Rattle.tv_step.proofs.Picking.{picks-none, limits-none, cause-none, picks-skipped, limits-skipped}
 use Rattle.tv_step.proofs.Picking.{pick-fails, limit-fails}
 use Rattle.tv_step.proofs.picks.push_last.Goals as goal
@@ -63,7 +65,7 @@ returns-in_err-push_given-clause-cause c =
     in let b = assignment_of c.set.new.self
     in let e = c.in_err-push_given.field-0.0
     in let count = row-length action s a c.args.v.0 c.precondition_row-row.result c.precondition_row-row.ensures.row
-    in handed-on (IsCauseOfPicks action s (c.args.v.0 ∷ []) a) c.from_residual.result e c.from_residual.ensures.1
+    in IfErr-same (IsCauseOfPicks action s (c.args.v.0 ∷ []) a) c.from_residual.result e c.from_residual.ensures.1
     (cause-first action s c.args.v.0 [] a b c.in-Some.u e
     (total-again c.args.picks.now c.loop-u.here c.set.new.self c.args.v.0 c.in-Some.u c.loop-u.invariant.like
     c.set.ensures.places)

@@ -1,6 +1,7 @@
 use Rattle.std.proofs.Common.{◌∙◌, ◌≤◌, length, ap, sym, subst, All}
 use Rattle.std.specs.List.{range_with_len}
 use Rattle.std.proofs.lemmas.List.{length-map}
+use Rattle.tv_lemmas.proofs.Options.{IfErr-weaker, OnOk-weaker}
 use Rattle.tv_update_laws.specs.Picks.{lists_of}
 use Rattle.tv_eval.specs.AssignmentForm.{assignment_of}
 use Rattle.tv_model.specs.Program.{picks_of}
@@ -8,7 +9,6 @@ use Rattle.tv_model.specs.Valid.{IsVariable}
 use Rattle.tv_step.specs.Job.{case_program, case_action, case_mode, case_structure}
 use Rattle.tv_step.specs.Steps.{Adds, PicksGive, PicksKeepLimits, StepsIn, KeepsUpdateLimits, IsCauseOfPicks}
 use Rattle.tv_step.specs.Steps.{IsCauseOfUpdate}
-use Rattle.tv_step.proofs.Adding.{on_err-weaker, on_ok-weaker}
 use Rattle.tv_step.proofs.Evaluating.{nobody-blank}
 use Rattle.tv_step.proofs.Picking.{steps-add, steps-cause, steps-within}
 use Rattle.tv_step.proofs.Variables.{picked-in_range}
@@ -27,7 +27,7 @@ returns-clause-out c =
     in let action = case_action c.args.c.now
     in let s = case_structure c.args.c.now
     in let a = assignment_of c.new.result
-    in on_ok-weaker c.push_picked.result
+    in OnOk-weaker c.push_picked.result
     (Adds (PicksGive p mode action s (picks_of c.as_slice-picked.result.now)) a c.args.out.now
     c.push_picked.new.out)
     (Adds (StepsIn p mode action) s c.args.out.now c.push_picked.new.out)
@@ -41,7 +41,7 @@ returns-clause-within c =
     let action = case_action c.args.c.now
     in let s = case_structure c.args.c.now
     in let a = assignment_of c.new.result
-    in on_ok-weaker c.push_picked.result (PicksKeepLimits action s (picks_of c.as_slice-picked.result.now) a)
+    in OnOk-weaker c.push_picked.result (PicksKeepLimits action s (picks_of c.as_slice-picked.result.now) a)
     (KeepsUpdateLimits action s)
     (λ limits. steps-within action s a (nobody-blank c.new.result c.new.ensures)
     (subst (λ n. length (lists_of (range_with_len 0 n) (length action.picks)) ≤ 4096) c.size.ensures.size
@@ -56,7 +56,7 @@ returns-clause-cause c =
     let action = case_action c.args.c.now
     in let s = case_structure c.args.c.now
     in let a = assignment_of c.new.result
-    in on_err-weaker c.push_picked.result (IsCauseOfPicks action s (picks_of c.as_slice-picked.result.now) a)
+    in IfErr-weaker c.push_picked.result (IsCauseOfPicks action s (picks_of c.as_slice-picked.result.now) a)
     (IsCauseOfUpdate action s)
     (λ e cause. steps-cause action s a e (nobody-blank c.new.result c.new.ensures)
     (subst (λ vars. IsCauseOfPicks action s (picks_of vars) a e) c.as_slice-picked.ensures cause))

@@ -1,6 +1,7 @@
 use Rattle.std.proofs.Common.{◌≡◌, ◌∙◌, List, Some, map, take, ap, sym, subst, All, slice_get}
 use Rattle.std.specs.Prelude.{unwrap_or, IfErr}
 use Rattle.std.proofs.lemmas.List.{take_all}
+use Rattle.tv_lemmas.proofs.Options.{IfErr-same}
 use Rattle.tv_model.specs.declared.program.Mode.{Mode}
 use Rattle.tv_model.specs.declared.program.Program.{Program}
 use Rattle.tv_step_laws.specs.Parts.{AreFrom}
@@ -12,7 +13,6 @@ use Rattle.tv_step.specs.Job.{action_in, IsJob}
 use Rattle.tv_step.specs.Places.{focus_place, HasWaiting}
 use Rattle.tv_step.specs.Setting.{form_in, IsStableIn}
 use Rattle.tv_step.specs.Steps.{AreFocusedWithin, IsCauseOfFocus, IsFocusCause, IsPlace, KeepsLimits}
-use Rattle.tv_step.proofs.Adding.{handed-on}
 use Rattle.tv_step.proofs.Stepping.{action-places, focus-stable}
 use Rattle.tv_step.proofs.Turns.{focus-fails, focus-shaped, focused-next, places-next}
 use Rattle.tv_step.proofs.step.focused.Goals as goal
@@ -55,7 +55,7 @@ returns-in_err-focus_all-clause-cause c =
     in let e = c.in_err-focus_all.field-0.0
     in subst (λ places. IfErr c.from_residual-in_err-focus_all.result (IsCauseOfFocus p places c.args.start.now))
     (turns-are x.program.now x.mode c.args.job.now turns c.requires.job c.as_slice-turn-items.ensures.value)
-    (handed-on
+    (IfErr-same
     (IsCauseOfFocus p (map focus_place turns) c.args.start.now) c.from_residual-in_err-focus_all.result e
     c.from_residual-in_err-focus_all.ensures.1
     (focus-fails p turns c.loop-turn.turn-index c.turn-item.result c.args.start.now _ e

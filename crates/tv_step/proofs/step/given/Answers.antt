@@ -1,12 +1,13 @@
 use Rattle.std.proofs.Common.{[], sym, subst, All}
 use Rattle.std.proofs.lemmas.List.{take_all}
 use Rattle.std.proofs.lemmas.List.Elements.{All-contains}
+use Rattle.tv_lemmas.proofs.Options.{IfErr-same}
 use Rattle.tv_step_laws.specs.Shaped.{IsShaped}
 use Rattle.tv_step.specs.Job.{action_in}
 use Rattle.tv_step.specs.Setting.{form_in, IsReadyToStep, IsStableIn}
 use Rattle.tv_step.specs.Steps.{IsCauseOfUpdates, KeepsUpdateLimits, StepsIn}
 use Rattle.tv_coerce_sets.proofs.Listing.{all-next}
-use Rattle.tv_step.proofs.Adding.{adds-next, handed-on, item-there}
+use Rattle.tv_step.proofs.Adding.{adds-next, item-there}
 use Rattle.tv_step.proofs.Picking.{updates-cause}
 use Rattle.tv_step.proofs.step.given.Goals as goal
 
@@ -42,7 +43,7 @@ loop-from-preserved c = record {
 
 pub returns-in_err-push_steps-clause-cause : goal.returns-in_err-push_steps-clause-cause
 returns-in_err-push_steps-clause-cause c =
-    handed-on (IsCauseOfUpdates (action_in c.args.job.now) c.args.at_hand.now) c.from_residual.result
+    IfErr-same (IsCauseOfUpdates (action_in c.args.job.now) c.args.at_hand.now) c.from_residual.result
     c.in_err-push_steps.field-0.0 c.from_residual.ensures.1
     (updates-cause
     (action_in c.args.job.now) c.args.at_hand.now c.from-item.result c.in_err-push_steps.field-0.0

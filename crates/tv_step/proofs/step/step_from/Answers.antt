@@ -1,5 +1,6 @@
 use Rattle.std.proofs.Common.{◌≡◌, ◌∙◌, inr, map, ap, sym, subst}
 use Rattle.std.specs.Prelude.{List}
+use Rattle.tv_lemmas.proofs.Options.{IfErr-same}
 use Rattle.tv_model.specs.Program.{message_of}
 use Rattle.tv_step.specs.declared.job.Job.{Job}
 use Rattle.tv_step.specs.Job.{action_in}
@@ -8,7 +9,6 @@ use Rattle.tv_step.specs.Steps.{AreFocusedWithin, IsCauseOfStep}
 use Rattle.tv_model.specs.Program.{ProgramForm}
 use Rattle.tv_struct.specs.StructureForm.{StructureForm}
 use Rattle.tv_step_laws.specs.Transfer.{focus_places, message_value}
-use Rattle.tv_step.proofs.Adding.{handed-on}
 use Rattle.tv_step.proofs.Stepping.{action-messages, action-room, given-unmarked, results-of}
 use Rattle.tv_step.proofs.Stepping.{within-shaped, within-stable}
 use Rattle.tv_step.proofs.Turns.{focused-are}
@@ -57,7 +57,7 @@ returns-in_err-given-clause-cause c =
     in let at_hand = c.at_hand-at_hand.result.now
     in let e = c.in_err-given.field-0.0
     in let within = at-hand _ c.args.job.now _ _ _ c.in_ok-found.ensures.out c.at_hand-at_hand.ensures
-    in handed-on (IsCauseOfStep p action start) c.from_residual-in_err-given.result e
+    in IfErr-same (IsCauseOfStep p action start) c.from_residual-in_err-given.result e
     c.from_residual-in_err-given.ensures.1
     (inr (record {
       at_hand = at_hand;

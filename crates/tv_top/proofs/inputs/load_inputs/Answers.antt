@@ -3,9 +3,10 @@ use Rattle.std.proofs.lemmas.Result.{err_from_is_err_and}
 use Rattle.tv_model.specs.declared.program.Program.{Program}
 use Rattle.tv_struct.specs.StructureForm.{StructureForm}
 use Rattle.tv_lex.proofs.Begins.{one_more}
+use Rattle.tv_texts.proofs.Loading.{rose_later, still}
 use Rattle.tv_top.proofs.Begins.{initial_begun, program_begun}
 use Rattle.tv_top.specs.Begins.{origin_begins}
-use Rattle.tv_top.proofs.Causes.{rose_later, still, unless_not_read, program_named, initial_named}
+use Rattle.tv_top.proofs.Causes.{unless_not_read, program_named, initial_named}
 use Rattle.tv_top.proofs.Causes.{program_fault, initial_fault}
 use Rattle.tv_top.specs.declared.inputs.Inputs.{Inputs}
 use Rattle.tv_top.proofs.inputs.load_inputs.Goals as goal

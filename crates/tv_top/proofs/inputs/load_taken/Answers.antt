@@ -1,6 +1,7 @@
 use Rattle.std.proofs.lemmas.Result.{IfOk-weaker, err_from_is_err_and}
 use Rattle.tv_texts.proofs.Begins.{begins_anyway}
-use Rattle.tv_top.proofs.Causes.{memory_fault, still_unless}
+use Rattle.tv_texts.proofs.Loading.{holds_anyway}
+use Rattle.tv_top.proofs.Causes.{memory_fault}
 use Rattle.tv_top.proofs.Differenced.{taken_means, taken_runs}
 use Rattle.tv_top.proofs.inputs.load_taken.Goals as goal
 
@@ -16,7 +17,7 @@ pub returns-clause-cause : goal.returns-clause-cause
 returns-clause-cause g c = memory_fault c.taken.result _ _ _ _ _ c.taken.ensures.cause
 
 pub returns-clause-steady : goal.returns-clause-steady
-returns-clause-steady g c = λ s. still_unless c.taken.result _ (c.in_ok-read.ensures.steady s)
+returns-clause-steady g c = λ s. holds_anyway c.taken.result _ (c.in_ok-read.ensures.steady s)
 
 pub returns-clause-begins : goal.returns-clause-begins
 returns-clause-begins g c = begins_anyway c.taken.result _ _ _ _ c.in_ok-read.ensures.begins

@@ -1,9 +1,11 @@
 use Rattle.std.proofs.Common.{arith, ◌≡◌, refl}
 use Rattle.std.proofs.lemmas.Result.{err_from_is_err_and}
+use Rattle.tv_lemmas.proofs.Options.{OnOk-any}
 use Rattle.tv_listing.specs.declared.analysis.Analysis.{Analysis}
 use Rattle.tv_status.specs.declared.status.Role.TheVariants as role
-use Rattle.tv_top.proofs.Begins.{always, another, judged_begun, later_begun}
-use Rattle.tv_top.proofs.Causes.{rose_later, still, holds_unless, unless_not_read, later_fault, judged_causes}
+use Rattle.tv_texts.proofs.Loading.{rose_later, still}
+use Rattle.tv_top.proofs.Begins.{another, judged_begun, later_begun}
+use Rattle.tv_top.proofs.Causes.{holds_unless, unless_not_read, later_fault, judged_causes}
 use Rattle.tv_top.proofs.Causes.{judged_answers}
 use Rattle.tv_top.proofs.Differenced.{covers_read_runs}
 use Rattle.tv_top.specs.Work.{task_of}
@@ -47,7 +49,7 @@ returns-clause-steady g c = λ s.
     holds_unless c.judgement.result _ (still _ _ _ _ before.1 (c.in_ok-report.ensures.steady before.0))
 
 pub returns-clause-begins : goal.returns-clause-begins
-returns-clause-begins g c = always c.judgement.result _
+returns-clause-begins g c = OnOk-any c.judgement.result _
     (another _ c.args.program.now 1 _ _ _ c.in_ok-inputs.ensures.begins c.in_ok-report.ensures.begins)
 
 pub returns-clause-found : goal.returns-clause-found

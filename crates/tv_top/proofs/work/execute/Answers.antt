@@ -1,6 +1,7 @@
 use Rattle.std.proofs.Common.{refl}
+use Rattle.tv_lemmas.proofs.Options.{OnOk-any}
 use Rattle.tv_lex.proofs.Begins.{never_begun}
-use Rattle.tv_top.proofs.Begins.{always, demo_begun}
+use Rattle.tv_top.proofs.Begins.{demo_begun}
 use Rattle.tv_top.proofs.Causes.{demo_causes, holds_unless}
 use Rattle.tv_top.proofs.work.execute.Goals as goal
 
@@ -48,7 +49,7 @@ pub returns-in-Check-clause-begins : goal.returns-in-Check-clause-begins
 returns-in-Check-clause-begins g c = rw (c.in-Check.is, ← c.deref-in-Check.ensures) c.check.ensures.begins
 
 pub returns-in-Demo-clause-begins : goal.returns-in-Demo-clause-begins
-returns-in-Demo-clause-begins g c = rw c.in-Demo.is (always c.demo.result _ (never_begun _ _ _ refl))
+returns-in-Demo-clause-begins g c = rw c.in-Demo.is (OnOk-any c.demo.result _ (never_begun _ _ _ refl))
 
 pub returns-in-Join-clause-begins : goal.returns-in-Join-clause-begins
 returns-in-Join-clause-begins g c = rw (c.in-Join.is, ← c.deref-in-Join.ensures) c.join.ensures.begins

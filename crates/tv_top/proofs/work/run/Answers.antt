@@ -1,11 +1,13 @@
 use Rattle.std.proofs.Common.{arith, ◌≡◌, refl, inl, inr}
 use Rattle.std.proofs.lemmas.Result.{err_from_is_err_and}
+use Rattle.tv_lemmas.proofs.Options.{OnOk-any}
 use Rattle.tv_listing.specs.declared.analysis.Analysis.{Analysis}
 use Rattle.tv_model.specs.declared.program.Mode.TheVariants.{Given}
 use Rattle.tv_status.specs.declared.status.Role.TheVariants as role
 use Rattle.tv_struct.specs.StructureForm.{StructureForm}
-use Rattle.tv_top.proofs.Begins.{always, another, later_begun, replayed_begun}
-use Rattle.tv_top.proofs.Causes.{rose_later, still, holds_unless, unless_not_read, later_fault, run_answers}
+use Rattle.tv_texts.proofs.Loading.{rose_later, still}
+use Rattle.tv_top.proofs.Begins.{another, later_begun, replayed_begun}
+use Rattle.tv_top.proofs.Causes.{holds_unless, unless_not_read, later_fault, run_answers}
 use Rattle.tv_top.proofs.Causes.{run_causes}
 use Rattle.tv_top.specs.Meaning.{HasStartAndTrace}
 use Rattle.tv_top.specs.Work.{task_of}
@@ -121,7 +123,7 @@ returns-clause-begins g c =
     let name = c.args.program.now in
     let two = another _ name 1 _ _ _ c.in_ok-inputs.ensures.begins c.in_ok-start.ensures.begins in
     let three = another _ name 2 _ _ _ two c.in_ok-trace.ensures.begins in
-    always c.replayed.result _ (another _ name 3 _ _ _ three c.in_ok-reported.ensures.begins)
+    OnOk-any c.replayed.result _ (another _ name 3 _ _ _ three c.in_ok-reported.ensures.begins)
 
 pub returns-clause-found : goal.returns-clause-found
 returns-clause-found g c =

@@ -1,15 +1,16 @@
 use Rattle.std.proofs.Common.{◌≡◌, ◌∙◌, ◌⊎◌, sym, subst, IfSome}
 use Rattle.std.proofs.lemmas.Option.{none-some, same_Some}
 use Rattle.std.proofs.lemmas.Result.{on_ok_weaker}
+use Rattle.tv_lemmas.proofs.Options.{IfErr-weaker}
 use Rattle.tv_model.specs.Program.{ProgramForm, program_of}
+use Rattle.tv_model.proofs.Parts.{start-node}
 use Rattle.tv_step.specs.EngineForm.{EngineForm}
 use Rattle.tv_step_laws.specs.Settled.{IsSettled}
 use Rattle.tv_step_laws.specs.Transfer.{IsOpening}
 use Rattle.tv_work.specs.Analysed.{IsMeetCause, IsWorkCause}
 use Rattle.tv_work.specs.Reach.{Point}
 use Rattle.tv_work.specs.Task.{reached_in}
-use Rattle.tv_work.proofs.Advancing.{start-node}
-use Rattle.tv_work.proofs.Causes.{ok-three, err-weaker, meet-cause}
+use Rattle.tv_work.proofs.Causes.{ok-three, meet-cause}
 use Rattle.tv_trail_laws.specs.Met.{IsMet}
 use Rattle.tv_trail.specs.Asked.{form_in, task_of}
 use Rattle.tv_trail.proofs.Stepping.{opened-state, opened-first, opened-reached}
@@ -59,7 +60,7 @@ returns-in-Some c =
           ∙ c.in_ok-opening.ensures.only v
           (subst (λ (e : EngineForm). IsOpening (program_of e.program) s v) (sym is) opens))) has)
           c.meet.ensures.has;
-      cause = err-weaker c.meet.result (IsMeetCause t.max P) (IsWorkCause t.program t.max (reached_in t))
+      cause = IfErr-weaker c.meet.result (IsMeetCause t.max P) (IsWorkCause t.program t.max (reached_in t))
           (meet-cause t.program t.max P (reached_in t)
           (opened-reached t c.args.number s u c.requires.initial opening settled old kept))
           c.meet.ensures.cause;

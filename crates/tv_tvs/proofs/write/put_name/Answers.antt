@@ -1,5 +1,6 @@
 use Rattle.std.proofs.Common.{◌++◌, ◌∙◌, ap}
-use Rattle.tv_tvs.proofs.Rooms.{name_at, two_behind}
+use Rattle.tv_lemmas.proofs.Lists.{two_behind}
+use Rattle.tv_tvs.proofs.Rooms.{name_at}
 use Rattle.tv_tvs.proofs.write.put_name.Goals as goal
 
 pub returns-clause-text : goal.returns-clause-text

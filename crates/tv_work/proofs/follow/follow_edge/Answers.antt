@@ -2,6 +2,7 @@ use Rattle.std.proofs.Common.{◌≡◌, ◌⊎◌, refl, subst, Some, Contains}
 use Rattle.std.specs.Prelude.{All, slice_get}
 use Rattle.std.proofs.lemmas.Option.{slice_get_within}
 use Rattle.std.proofs.lemmas.Result.{err_from_is_err_and, on_ok_weaker}
+use Rattle.tv_lemmas.proofs.Options.{IfErr-weaker}
 use Rattle.tv_model.specs.declared.program.Edge.{Edge}
 use Rattle.tv_model.specs.Program.{program_of}
 use Rattle.tv_step.specs.EngineForm.{EngineForm}
@@ -15,7 +16,7 @@ use Rattle.tv_work.specs.Search.{StandsFor}
 use Rattle.tv_work.specs.Task.{form_in, task_of, reached_in}
 use Rattle.tv_work.proofs.Advancing.{stands-listed, target_at, target-is, arrived-reached, arrived-kept}
 use Rattle.tv_work.proofs.Advancing.{does-along}
-use Rattle.tv_work.proofs.Causes.{ok-three, err-weaker, meet-cause, step-cause}
+use Rattle.tv_work.proofs.Causes.{ok-three, meet-cause, step-cause}
 use Rattle.tv_work.proofs.Saying.{values-few, noted-rises, noted-tells, said-kept, said-noted}
 use Rattle.tv_work.proofs.follow.follow_edge.Goals as goal
 
@@ -118,7 +119,7 @@ returns c =
           (λ met. does-along t c.args.w edge to x old new told rs stands enters results met
           (noted-tells edge ks c.args.told.now told noted t.program x.structure values) budgets)
           c.meet_all.ensures.has;
-      cause = err-weaker c.meet_all.result (IsMeetCause max P) (IsWorkCause t.program max (reached_in t))
+      cause = IfErr-weaker c.meet_all.result (IsMeetCause max P) (IsWorkCause t.program max (reached_in t))
           (meet-cause t.program max P (reached_in t)
           (arrived-reached t edge to taken x rs at from (enters taken at) results settled old c.requires.kept has))
           c.meet_all.ensures.cause;

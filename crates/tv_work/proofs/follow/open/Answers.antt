@@ -2,7 +2,9 @@ use Rattle.std.proofs.Common.{◌≡◌, ◌∙◌, ◌⊎◌, inl, inr, sym, su
 use Rattle.std.proofs.lemmas.List.Elements.{All-contains}
 use Rattle.std.proofs.lemmas.Option.{none-some, same_Some}
 use Rattle.std.proofs.lemmas.Result.{on_ok_weaker}
+use Rattle.tv_lemmas.proofs.Options.{IfErr-weaker}
 use Rattle.tv_model.specs.Program.{ProgramForm, program_of}
+use Rattle.tv_model.proofs.Parts.{start-node}
 use Rattle.tv_step.specs.EngineForm.{EngineForm}
 use Rattle.tv_struct.specs.StructureForm.{IsOver}
 use Rattle.tv_step_laws.specs.Settled.{IsSettled}
@@ -10,8 +12,8 @@ use Rattle.tv_step_laws.specs.Transfer.{HasNoOpening, IsOpening}
 use Rattle.tv_work.specs.Analysed.{IsMeetCause, IsWorkCause}
 use Rattle.tv_work.specs.Reach.{Point, IsListed}
 use Rattle.tv_work.specs.Task.{form_in, task_of, reached_in}
-use Rattle.tv_work.proofs.Advancing.{start-node, open-reached, open-kept}
-use Rattle.tv_work.proofs.Causes.{ok-three, err-weaker, meet-cause}
+use Rattle.tv_work.proofs.Advancing.{open-reached, open-kept}
+use Rattle.tv_work.proofs.Causes.{ok-three, meet-cause}
 use Rattle.tv_work.proofs.follow.open.Goals as goal
 
 pub opening-requires-clause-over : goal.opening-requires-clause-over
@@ -75,7 +77,7 @@ returns-in-Some c =
             any = inr (u, opening);
           })
           c.meet.ensures.has;
-      cause = err-weaker c.meet.result (IsMeetCause t.max P) (IsWorkCause p t.max (reached_in t))
+      cause = IfErr-weaker c.meet.result (IsMeetCause t.max P) (IsWorkCause p t.max (reached_in t))
           (meet-cause p t.max P (reached_in t) (open-reached t s u c.requires.initial opening settled old c.requires.kept))
           c.meet.ensures.cause;
       scratch = cc;

@@ -6,7 +6,7 @@ use Rattle.tv_rules.proofs.KinLaws.{kin-are}
 use Rattle.tv_rules.proofs.closed.Closed.kin.Goals as goal
 
 pub item_at-entry-requires : goal.item_at-entry-requires
-item_at-entry-requires c = omega (arith, entries-below _ _ _ _ _ _ c.self.invariant.0 _ c.self.view_is _ c.requires, ap length c.as_slice.ensures)
+item_at-entry-requires c = omega (arith, entries-below _ _ _ _ _ c.self.invariant.0 _ c.self.view_is _ c.requires, ap length c.as_slice.ensures)
 
 pub returns : goal.returns
 returns c = λ n.

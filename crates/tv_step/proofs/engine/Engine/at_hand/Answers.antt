@@ -1,11 +1,11 @@
 use Rattle.std.proofs.Common.{◌∙◌, Result, Ok, Err, sym, subst}
 use Rattle.std.proofs.lemmas.Result.{err_from_is_err_and}
 use Rattle.std.specs.Prelude.{IfOk, IsErrAnd}
+use Rattle.tv_lemmas.proofs.Options.{IfErr-same}
 use Rattle.tv_step_laws.specs.Transfer.{focus_places}
 use Rattle.tv_step.specs.Job.{action_in}
 use Rattle.tv_step.specs.Setting.{form_in}
 use Rattle.tv_step.specs.Steps.{AreFocusedWithin, IsCauseOfFocus}
-use Rattle.tv_step.proofs.Adding.{handed-on}
 use Rattle.tv_step.proofs.Coercing.{can-coerce}
 use Rattle.tv_step.proofs.Engines.{found-coerces, found-in, job-in, ready-in, shaped-in}
 use Rattle.tv_step.proofs.Stepping.{coerces-stable}
@@ -74,7 +74,7 @@ returns-in_err-found-clause-at_hand c =
     c.in_ok-coerced.ensures.exact c.as_slice-start.ensures
     in found-in x c.args.self.now.program c.args.edge s c.job.result.now start answer c.setting-x.ensures.program
     c.job.ensures.action coerces (not-ok (AreFocusedWithin p places start) _ answer c.from_residual-in_err-found.ensures.1)
-    (handed-on (IsCauseOfFocus p places start) answer c.in_err-found.field-0.0 c.from_residual-in_err-found.ensures.1
+    (IfErr-same (IsCauseOfFocus p places start) answer c.in_err-found.field-0.0 c.from_residual-in_err-found.ensures.1
     c.in_err-found.ensures.cause)
 
 pub returns-in_err-own_at_hand-clause-at_hand : goal.returns-in_err-own_at_hand-clause-at_hand

@@ -1,10 +1,11 @@
 use Rattle.std.proofs.Common.{◌≡◌, ◌-◌, ◌∙◌, Ok, ap, subst, drop, length, arith}
 use Rattle.std.proofs.lemmas.Result.{err_from_is_err_and}
 use Rattle.tv_lex.specs.Places.{StopsAtToken}
+use Rattle.tv_lex.proofs.PlaceLemmas.{count_in_order}
 use Rattle.tv_tvs.specs.Meaning.{structures_place, RefusesStructures, struct_meant}
 use Rattle.tv_tvs.specs.Targets.{IsRead}
 use Rattle.tv_tvs.specs.Views.{struct_tree}
-use Rattle.tv_tvs.proofs.Answering.{none_here, refused_here, within, behind_at, read_here, count_in_order}
+use Rattle.tv_tvs.proofs.Answering.{none_here, refused_here, within, behind_at, read_here}
 use Rattle.tv_tvs.proofs.Stops.{told_stops}
 use Rattle.tv_tvs.proofs.read.StructureReader.read_one.Goals as goal
 
