@@ -10,12 +10,12 @@ use Rattle.std.proofs.lemmas.List.{get_or-replicate, length-replicate}
 use Rattle.tv_kleene.specs.declared.K3.{K3}
 use Rattle.tv_kleene.specs.declared.K3.TheVariants.{No, Half, Yes}
 use Rattle.tv_kleene.specs.Kleene.{join_of}
-use Rattle.tv_row.specs.Bits.{greatest_in, paired}
-use Rattle.tv_row.proofs.Extremes.{any_possible}
+use Rattle.tv_row.specs.Bits.{paired}
 use Rattle.tv_row.proofs.WordOps.{length-paired, get_or-paired}
 use Rattle.tv_struct.specs.StructureForm.{StructureForm, value_at}
 use Rattle.tv_struct.specs.StructureRows.{row_at}
 use Rattle.tv_struct.proofs.Library.{length-row_at, get_or-row_at}
+use Rattle.tv_struct.proofs.NowhereLaws.{no_possible}
 use Rattle.tv_blur.specs.Merged.{IsJoin}
 use Rattle.tv_blur.specs.Classes.{IsAmongFirst, IsAmongMembers, class_at}
 use Rattle.tv_blur.proofs.JoinLaws.{join_is, join_first, join_next, join_members}
@@ -130,14 +130,6 @@ joined-one row members k some single is = record {
 
 -- ---- rows of No
 
-no_possible : (row : List K3) → ¬ Any (λ x. x ≢ No) row → (u : ℕ) → get_or row u No ≡ No
-no_possible row none u = ⊎_elim (λ lt. by_kind lt (get_or row u No) refl) (λ past. get_or_past row u No past) (cases_lt u (length row))
-  where
-    by_kind : u < length row → (k : K3) → get_or row u No ≡ k → get_or row u No ≡ No
-    by_kind lt No e = e
-    by_kind lt Half e = absurd (none (u, Half, lt, get_or_default row u Half No lt ∙ e, λ f. let g : Half ≡ No = f in cc))
-    by_kind lt Yes e = absurd (none (u, Yes, lt, get_or_default row u Yes No lt ∙ e, λ f. let g : Yes ≡ No = f in cc))
-
 -- the join of values that are No
 pub joined-none : (row : List K3) (members : List ℕ) → ¬ Any (λ x. x ≢ No) row → 0 < length members
     → IsJoin (IsAmongMembers (λ u j. get_or row u No ≡ j) members) No
@@ -147,33 +139,3 @@ joined-none row members none some = record {
       let first : ℕ = get_or members 0 0
       in each No (first, (0, some, get_or_default members 0 first 0 some), no_possible row none first);
 }
-
--- ---- a word in which nothing is possible
-
-pub word_none : (word : List K3) (i : ℕ) → greatest_in word ≡ No → i < length word → get_or word i No ≡ No
-word_none word i none lt = at (get_or word i No) refl
-  where
-    some : (k : K3) → get_or word i No ≡ k → k ≢ No → ⊥
-    some k is other = (any_possible word).1 (i, k, lt, get_or_default word i k No lt ∙ is, other) none
-
-    at : (k : K3) → get_or word i No ≡ k → k ≡ No
-    at No is = refl
-    at Half is = absurd (some Half is (λ e. cc))
-    at Yes is = absurd (some Yes is (λ e. cc))
-
--- the values up to the end of a word, where they are No before it
-pub none_more : (s : StructureForm) (p chunk : ℕ) (word : List K3) → greatest_in word ≡ No → length word ≡ 64
-    → ((i : ℕ) → i < 64 → 64 * chunk + i < s.size → get_or word i No ≡ value_at s p ((64 * chunk + i) ∷ []))
-    → ((u : ℕ) → u < 64 * chunk → u < s.size → value_at s p (u ∷ []) ≡ No)
-    → (u : ℕ) → u < 64 * (chunk + 1) → u < s.size → value_at s p (u ∷ []) ≡ No
-none_more s p chunk word none long values before u lt in_s = at (cases_lt u (64 * chunk))
-  where
-    at : (u < 64 * chunk) ⊎ (64 * chunk ≤ u) → value_at s p (u ∷ []) ≡ No
-    at (inl less) = before u less in_s
-    at (inr past) =
-        let i : ℕ = u - 64 * chunk
-        in let place : 64 * chunk + i ≡ u = omega (arith, past)
-        in let inside : i < 64 = omega (arith, past, lt)
-        in let P : ℕ → Type 0 = λ x. value_at s p (x ∷ []) ≡ No
-        in subst P place
-        (sym (values i inside (omega (arith, place, in_s))) ∙ word_none word i none (omega (arith, inside, long)))

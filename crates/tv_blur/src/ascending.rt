@@ -13,12 +13,11 @@ ghost use Rattle.tv_blur.specs.Blur.{FollowsNames, IsBlurred};
 
 use crate::classes::tells_apart;
 use crate::names::compare_value;
-use crate::nowhere::is_nowhere;
 use std::cmp::Ordering;
 use tv_kleene::K3;
 use tv_model::{Pred, PredId, Vocab};
 use tv_row::Row;
-use tv_struct::Structure;
+use tv_struct::{Structure, is_nowhere};
 
 /// Tells how the values of the individual `u` and of the next one compare, unless their names differ already.
 /// Whether the names don't fall.

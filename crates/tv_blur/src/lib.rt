@@ -9,7 +9,6 @@ mod classes;
 mod laws;
 mod merge;
 mod names;
-mod nowhere;
 mod values;
 
 pub use ascending::is_blurred;

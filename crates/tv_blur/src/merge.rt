@@ -8,11 +8,10 @@ ghost use Rattle.tv_blur.specs.Classes.{IsBlank, IsBlankFrom};
 ghost use Rattle.tv_blur.specs.Classes.{is_merged_summary, class_at};
 
 use crate::class::Class;
-use crate::nowhere::is_nowhere;
 use crate::values::{joined_rows, merged_row};
 use std::alloc::{AllocError, Global};
 use tv_model::PredId;
-use tv_struct::{Structure, Tuple};
+use tv_struct::{Structure, Tuple, is_nowhere};
 
 /// The structure with one individual for each class, in their order, and joined values.
 pub fn merged(alloc: Global, s: &Structure, classes: &[Class]) -> Result<Structure, AllocError>

@@ -4,6 +4,7 @@ pub mod HalfLaws
 pub mod HeldLaws
 pub mod LayoutLaws
 pub mod ListLaws
+pub mod NowhereLaws
 pub mod OrderLaws
 pub mod OriginLaws
 pub mod PlaneDraws

@@ -7,6 +7,7 @@ mod drawn;
 mod flags;
 mod laws;
 mod layout;
+mod nowhere;
 mod origins;
 mod planes;
 mod structure;
@@ -17,5 +18,6 @@ pub use laws::{
     drawn_structures_read, entries_are_separate, entries_determine_structures, halves_are_counted,
     lists_embed, lowering_goes_below, new_structures_are_no, origins_are_told,
 };
+pub use nowhere::is_nowhere;
 pub use structure::{Structure, Structures};
 pub use table::{Table, Tuple};

@@ -1,12 +1,14 @@
 -- The lines of predicates whose values are read off by rows.
-use Rattle.std.proofs.Common.{ℕ, ◌≡◌, List, ap, ◌∙◌, sym}
+use Rattle.std.proofs.Common.{ℕ, ◌≡◌, ◌<◌, List, [], ◌∷◌, ap, ◌∙◌, sym, arith}
 use Rattle.std.specs.Prelude.{codes}
+use Rattle.std.proofs.lemmas.List.FromFn.{length-map-range_with_len, get_or-map-range_with_len}
 use Rattle.tv_kleene.specs.declared.K3.{K3}
+use Rattle.tv_kleene.specs.declared.K3.TheVariants.{No}
 use Rattle.tv_struct.specs.StructureForm.{StructureForm, value_at}
 use Rattle.tv_struct.specs.StructureRows.{unary_row, summary_row}
 use Rattle.tv_tvs.specs.Canonical.{content_of, if_some, line_text, summaries_text, summary_value}
 use Rattle.tv_tvs.specs.Rows.{single_items}
-use Rattle.tv_tvs.proofs.RowTexts.{single_items_of}
+use Rattle.tv_tvs.proofs.RowTexts.{no_singles, single_items_of}
 
 -- the line of a unary predicate
 pub unary_line : (s : StructureForm) (p arity : ℕ) (text name : List ℕ) (row : List K3) → text ≡ name → arity ≡ 1
@@ -16,6 +18,16 @@ unary_line s p arity text name row named is same =
     (λ i. line_text (named i) (if_some (single_items (same i))))
     ∙ ap (λ items. line_text name (if_some items)) (single_items_of (value_at s p) s.size)
     ∙ ap (λ n. line_text name (content_of s.size n (value_at s p))) (sym is)
+
+-- one that holds nowhere has no line
+pub no_line : (s : StructureForm) (p : ℕ) (name : List ℕ)
+    → ((u : ℕ) → u < s.size → value_at s p (u ∷ []) ≡ No)
+    → line_text name (if_some (single_items (unary_row s p))) ≡ []
+no_line s p name none =
+    ap (λ items. line_text name (if_some items)) (no_singles (unary_row s p) (λ u lt.
+    let here : ℕ → K3 = λ w. value_at s p (w ∷ [])
+    in let within : u < s.size = omega (arith, lt, length-map-range_with_len here 0 s.size)
+    in get_or-map-range_with_len here 0 s.size u u No within (omega arith) ∙ none u within))
 
 -- the line of the summaries
 pub summaries_line : (s : StructureForm) (row : List K3) → row ≡ summary_row s

@@ -100,6 +100,19 @@ pub pair_items_of : (value : List ℕ → K3) (size u : ℕ)
 pair_items_of value size u =
     read_back (λ w k. written_one u (Some w) k) (λ w. value (u ∷ w ∷ [])) size ∙ row_written value size u
 
+-- ---- rows in which nothing is possible
+
+none_of : (g : ℕ → K3 → List ItemTree) → ((u : ℕ) → g u No ≡ []) → (values : List K3)
+    → ((u : ℕ) → u < length values → slice_index_or values u No ≡ No)
+    → flat_map (λ u. g u (slice_index_or values u No)) (range_with_len 0 (length values)) ≡ []
+none_of g empty values none =
+    sym (none_until (λ u. g u (slice_index_or values u No)) 0 (length values) [] (omega arith)
+    (λ c low less. ap (g c) (none c less) ∙ empty c) refl)
+
+pub no_singles : (values : List K3) → ((u : ℕ) → u < length values → slice_index_or values u No ≡ No)
+    → single_items values ≡ []
+no_singles values none = none_of (λ u k. written_one u None k) (λ u. refl) values none
+
 -- the names of individuals, as a row that is Yes everywhere
 pub names_text : (size : ℕ) → row_text comma (replicate size Yes) ≡ more_texts (individuals size)
 names_text size =

@@ -1,8 +1,9 @@
 //! Structures to their canonical texts.
 
 ghost use Rattle.std.specs.Prelude.{◌≡◌, ◌++◌, ◌+◌, ◌<◌, ◌≤◌, ◌||◌, [], All, IfOk, OnOk, map, codes};
-ghost use Rattle.std.specs.Prelude.{length, slice_get, drop, if◌then◌else◌};
+ghost use Rattle.std.specs.Prelude.{Some, length, slice_get, drop, if◌then◌else◌};
 ghost use Rattle.tv_struct.specs.StructureForm.{IsOver, arities_of, value_at};
+ghost use Rattle.tv_struct.specs.StructureRows.{unary_row};
 ghost use Rattle.tv_tvs.specs.Canonical.{canonical_text, comma_text, more_texts, individual, individuals};
 ghost use Rattle.tv_tvs.specs.Canonical.{tuples, item_text, written_items, value_content, if_some, line_text};
 ghost use Rattle.tv_tvs.specs.Canonical.{pred_text, preds_text, summaries_text};
@@ -17,7 +18,7 @@ use std::marker::Model;
 use tv_kleene::K3;
 use tv_model::{Pred, PredId, Vocab};
 use tv_row::Row;
-use tv_struct::{Structure, Tuple};
+use tv_struct::{Structure, Tuple, is_nowhere};
 
 /// The name of an individual.
 fn name_of(line: &mut Line, u: u32) -> ShortText
@@ -217,6 +218,25 @@ impl StructureWriter {
         end_line(out, begun)
     }
 
+    /// Appends the line of a unary predicate; none where it holds nowhere, as most do in a program of many
+    /// variables.
+    fn write_unary(
+        &mut self,
+        out: &mut Vec<u8>,
+        name: &[u8],
+        s: &Structure,
+        p: PredId,
+    ) -> Result<(), AllocError>
+        requires { slice_get (arities_of s.now) p.0 ≡ Some 1 }
+        ensures { OnOk result (out.new.items
+            ≡ out.old.items ++ line_text name.now (if_some (single_items (unary_row s.now p.0)))) }
+    {
+        if is_nowhere(s, p) {
+            return Ok(());
+        }
+        self.write_singles(out, name, &s.unary_row(p))
+    }
+
     /// Appends the pairs that begin with `u` to the line of a binary predicate with these values there.
     /// Answers whether the line is begun.
     fn write_row(
@@ -272,7 +292,7 @@ impl StructureWriter {
         let name = pred.name.as_slice();
         match pred.arity {
             0 => write_value(out, name, s.get(p, Tuple::Zero)),
-            1 => self.write_singles(out, name, &s.unary_row(p)),
+            1 => self.write_unary(out, name, s, p),
             _ => self.write_pairs(out, name, s, p),
         }
     }

@@ -1,8 +1,8 @@
 use Rattle.std.proofs.Common.{◌≡◌, ◌∙◌, true, false, ⊎_elim, sym}
 use Rattle.tv_kleene.specs.declared.K3.TheVariants.{No}
 use Rattle.tv_kleene.proofs.Lattice.{different-told, value-decided}
-use Rattle.tv_blur.proofs.RowLaws.{none_more}
-use Rattle.tv_blur.proofs.nowhere.is_nowhere.Goals as goal
+use Rattle.tv_struct.proofs.NowhereLaws.{none_more}
+use Rattle.tv_struct.proofs.nowhere.is_nowhere.Goals as goal
 
 pub loop-chunk-preserved : goal.loop-chunk-preserved
 loop-chunk-preserved c =

@@ -5,9 +5,9 @@ ghost use Rattle.tv_kleene.specs.declared.K3.TheVariants.{No};
 ghost use Rattle.tv_struct.specs.StructureForm.{value_at};
 ghost use Rattle.tv_struct.specs.StructureRows.{HasArity};
 
+use crate::structure::Structure;
 use tv_kleene::K3;
 use tv_model::PredId;
-use tv_struct::Structure;
 
 /// True only where the unary predicate is `No` at each individual, as most are in a program of many
 /// variables.
